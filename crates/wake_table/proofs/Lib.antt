@@ -1,0 +1,2 @@
+-- Lemmas of the wake table.
+pub mod Firsts

@@ -1,0 +1,10 @@
+//! The wake categories, and the table of separations between leader and follower.
+#![tactic(auto)]
+
+mod category;
+mod table;
+#[cfg(test)]
+mod tests;
+
+pub use category::{CATEGORIES, Category};
+pub use table::{PairTable, TableFault};
