@@ -1,0 +1,5 @@
+pub mod Text
+pub mod Number
+pub mod Padded
+pub mod Tally
+pub mod Counted
