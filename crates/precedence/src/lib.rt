@@ -1,0 +1,9 @@
+//! Which flights must land before which: pairs of ranks, kept in place.
+#![tactic(auto)]
+
+mod pairs;
+
+pub use pairs::Pairs;
+
+#[cfg(test)]
+mod tests;
