@@ -1,0 +1,131 @@
+-- Laws of the windows of lists of landings.
+use Rattle.std.proofs.Common.{◌≡◌, ℕ, ◌+◌, ◌-◌, ◌/◌, ◌*◌, ◌<◌, ◌≤◌, List, [], ◌∷◌, ◌++◌, length, get_or, refl, arith, length-append, length-drop, replicate, ◌∙◌, ap, inl, inr, zero, suc}
+use Rattle.std.specs.Prelude.{ℤ, pos, negsuc, ◌-ℤ◌, ◌⊎◌}
+use Rattle.std.proofs.lemmas.Int.{ints}
+use Rattle.std.proofs.lemmas.List.{get_or_append_left, get_or-append_right, get_or-drop, get_or-replicate, length-replicate}
+use Rattle.std.proofs.lemmas.Bool.Decides.{nat_tests}
+use Rattle.cps_nodes.specs.Windows.{offset_at, IsPlaced}
+use Rattle.cps_nodes.specs.Ranks.{KeepsShift, offsets_from, window_of, HasLanded}
+
+pub length-offsets_from : (place : ℕ) (ranks : List ℕ) → length (offsets_from place ranks) ≡ length ranks
+length-offsets_from place [] = refl
+length-offsets_from place (r ∷ ranks) = omega (arith, length-offsets_from (place + 1) ranks)
+
+pub get_or-offsets_from : (place : ℕ) (ranks : List ℕ) (i : ℕ) → i < length ranks
+    → get_or (offsets_from place ranks) i (pos 0) ≡ pos (get_or ranks i 0) -ℤ pos (place + i)
+get_or-offsets_from place [] i h = absurd (omega arith)
+get_or-offsets_from place (r ∷ ranks) zero h = omega (arith, ints)
+get_or-offsets_from place (r ∷ ranks) (suc i) h =
+    get_or-offsets_from (place + 1) ranks i (omega arith) ∙ ap (λ (q : ℕ). pos (get_or ranks i 0) -ℤ pos q) (omega arith)
+
+pub length-window_of : (w : ℕ) (ranks : List ℕ) → length (window_of w ranks) ≡ w
+length-window_of w ranks = omega (
+  arith,
+  length-drop (length ranks) (replicate w (pos 0) ++ offsets_from 1 ranks),
+  length-append (replicate w (pos 0)) (offsets_from 1 ranks),
+  length-replicate w (pos 0),
+  length-offsets_from 1 ranks,
+)
+
+-- before the first landing stands 0
+pub offset_at-window_of_early : (w : ℕ) (ranks : List ℕ) (i : ℕ) → length ranks + i < w → offset_at (window_of w ranks) i ≡ pos 0
+offset_at-window_of_early w ranks i h =
+    let lt : length ranks + i < length (replicate w (pos 0)) = omega (arith, length-replicate w (pos 0)) in
+    get_or-drop (length ranks) (replicate w (pos 0) ++ offsets_from 1 ranks) i (pos 0)
+    ∙ get_or_append_left (replicate w (pos 0)) (offsets_from 1 ranks) (pos 0) (length ranks + i) lt
+    ∙ get_or-replicate w (length ranks + i) (pos 0) (pos 0) h
+
+-- and from there on each landing's rank minus its place; j counts landings from 0
+pub offset_at-window_of : (w : ℕ) (ranks : List ℕ) (i j : ℕ) → length ranks + i ≡ j + w → j < length ranks
+    → offset_at (window_of w ranks) i ≡ pos (get_or ranks j 0) -ℤ pos (1 + j)
+offset_at-window_of w ranks i j e lt =
+    let at : length ranks + i - w ≡ j = omega arith in
+    get_or-drop (length ranks) (replicate w (pos 0) ++ offsets_from 1 ranks) i (pos 0)
+    ∙ get_or-append_right (replicate w (pos 0)) (offsets_from 1 ranks) w (length ranks + i) (pos 0) (length-replicate w (pos 0)) (omega arith)
+    ∙ ap (λ (q : ℕ). get_or (offsets_from 1 ranks) q (pos 0)) at
+    ∙ get_or-offsets_from 1 ranks j lt
+
+-- a read at another default
+pub get_or-default : (xs : List ℕ) (i d e : ℕ) → i < length xs → get_or xs i d ≡ get_or xs i e
+get_or-default [] i d e h = absurd (omega arith)
+get_or-default (x ∷ xs) zero d e h = refl
+get_or-default (x ∷ xs) (suc i) d e h = get_or-default xs i d e (omega arith)
+
+-- of two numbers one is below the other, or not
+pub below_or_not : (a b : ℕ) → (a < b) ⊎ (b ≤ a)
+below_or_not a b = grind (arith, nat_tests)
+
+-- an integer is a natural number, or below 0
+is_natural : (z : ℤ) → ((n : ℕ) × (z ≡ pos n)) ⊎ ((n : ℕ) × (z ≡ negsuc n))
+is_natural (pos n) = inl (n, refl)
+is_natural (negsuc n) = inr (n, refl)
+
+-- what the window places has landed
+pub HasLanded-from_IsPlaced : (most w : ℕ) (ranks : List ℕ) (rank : ℤ) → w ≡ 2 * most + 1 → KeepsShift most ranks
+    → IsPlaced (window_of w ranks) (pos (length ranks)) rank → HasLanded ranks rank
+HasLanded-from_IsPlaced most w ranks rank odd is placed =
+    let half : length (window_of w ranks) / 2 ≡ most = omega (arith, length-window_of w ranks) in
+    let len : length (window_of w ranks) ≡ w = length-window_of w ranks in
+    elim placed [
+      | inl due ↦
+          elim (is_natural rank) [
+            | inl natural ↦ elim (below_or_not 0 natural.0) [
+              | inl some ↦ inr (natural.0, natural.1, is.due natural.0 some (omega (arith, ints, natural.1)))
+              | inr none ↦ inl (omega (arith, ints, natural.1))
+            ]
+            | inr below ↦ inl (omega (arith, ints, below.1))
+          ]
+      | inr holds ↦
+          let i : ℕ = holds.0 in
+          elim (below_or_not (length ranks + holds.0) w) [
+            | inl early ↦
+                let zero_at : offset_at (window_of w ranks) holds.0 ≡ pos 0 = offset_at-window_of_early w ranks holds.0 early in
+                inl (omega (arith, ints, holds.2))
+            | inr late ↦
+                let j : ℕ = length ranks + holds.0 - w in
+                let lt : length ranks + holds.0 - w < length ranks = omega (arith, holds.1) in
+                let at : offset_at (window_of w ranks) holds.0 ≡ pos (get_or ranks (length ranks + holds.0 - w) 0) -ℤ pos (1 + (length ranks + holds.0 - w)) =
+                offset_at-window_of w ranks holds.0 (length ranks + holds.0 - w) (omega arith) lt in
+                inr (
+                  get_or ranks (length ranks + holds.0 - w) 0,
+                  omega (arith, ints, holds.2),
+                  (length ranks + holds.0 - w, lt, get_or-default ranks (length ranks + holds.0 - w) _ 0 lt),
+                )
+          ]
+    ]
+
+-- what has landed is placed by the window
+pub IsPlaced-from_HasLanded : (most w : ℕ) (ranks : List ℕ) (rank : ℤ) → w ≡ 2 * most + 1 → KeepsShift most ranks
+    → HasLanded ranks rank → IsPlaced (window_of w ranks) (pos (length ranks)) rank
+IsPlaced-from_HasLanded most w ranks rank odd is landed =
+    let half : length (window_of w ranks) / 2 ≡ most = omega (arith, length-window_of w ranks) in
+    let len : length (window_of w ranks) ≡ w = length-window_of w ranks in
+    elim landed [
+      | inl below ↦
+          elim (is_natural rank) [
+            | inl natural ↦ elim (below_or_not (length ranks) most) [
+              | inl early ↦
+                  let at : offset_at (window_of w ranks) (w - 1 - length ranks) ≡ pos 0 = offset_at-window_of_early w ranks (w - 1 - length ranks) (omega arith) in
+                  inr (w - 1 - length ranks, omega arith, omega (arith, ints, natural.1))
+              | inr late ↦ inl (omega (arith, ints, natural.1))
+            ]
+            | inr negative ↦ elim (below_or_not (length ranks + suc negative.0) most) [
+              | inl early ↦
+                  let at : offset_at (window_of w ranks) (w - 1 - length ranks - suc negative.0) ≡ pos 0 =
+                  offset_at-window_of_early w ranks (w - 1 - length ranks - suc negative.0) (omega arith) in
+                  inr (w - 1 - length ranks - suc negative.0, omega arith, omega (arith, ints, negative.1))
+              | inr late ↦ inl (omega (arith, ints, negative.1))
+            ]
+          ]
+      | inr stands ↦
+          let j : ℕ = stands.2.0 in
+          let is_rank : get_or ranks stands.2.0 0 ≡ stands.0 = get_or-default ranks stands.2.0 0 _ stands.2.1 ∙ stands.2.2 in
+          let near : get_or ranks stands.2.0 0 ≤ stands.2.0 + 1 + most = is.early stands.2.0 stands.2.1 in
+          elim (below_or_not (stands.2.0 + w) (length ranks)) [
+            | inl early ↦ inl (omega (arith, ints, stands.1))
+            | inr late ↦
+                let at : offset_at (window_of w ranks) (stands.2.0 + w - length ranks) ≡ pos (get_or ranks stands.2.0 0) -ℤ pos (1 + stands.2.0) =
+                offset_at-window_of w ranks (stands.2.0 + w - length ranks) stands.2.0 (omega arith) stands.2.1 in
+                inr (stands.2.0 + w - length ranks, omega (arith, stands.2.1), omega (arith, ints, stands.1))
+          ]
+    ]

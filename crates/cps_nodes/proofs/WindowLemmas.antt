@@ -1,0 +1,115 @@
+-- Laws of windows as lists of offsets.
+use Rattle.std.proofs.Common.{◌≡◌, ℕ, ◌+◌, ◌-◌, ◌/◌, ◌<◌, List, [], ◌∷◌, ◌++◌, length, drop, get_or, arith, length-append, length-drop, replicate, ◌∙◌, sym, ap, inl, inr, subst}
+use Rattle.std.specs.Prelude.{Bool, true, false, IsTrue, ◌↔◌, ℤ, pos, ◌+ℤ◌, ◌≤ℤ◌, ◌⊎◌}
+use Rattle.std.proofs.lemmas.Int.{ints}
+use Rattle.std.proofs.Math.ListN.{set}
+use Rattle.std.proofs.Common.{take}
+use Rattle.std.proofs.Math.Seq.{set-append_seam}
+use Rattle.std.proofs.lemmas.List.{get_or_append_left, get_or-append_right, get_or-drop, get_or-replicate, length-replicate}
+use Rattle.std.proofs.lemmas.Bool.Decides.{nat_tests}
+use Rattle.cps_nodes.specs.Windows.{IsWidth, IsWindow, HoldsRank, offset_at, shifted}
+
+-- a window of no landing
+pub IsWindow-source : (w : ℕ) → IsWidth w → IsWindow w (replicate w (pos 0))
+IsWindow-source w h = record {
+  is_width = h;
+  len = length-replicate w (pos 0);
+  low = λ i lt. rw get_or-replicate (omega (arith, ints));
+  high = λ i lt. rw get_or-replicate (omega (arith, ints));
+  differ = λ i j lt lw e.
+      let li : i < w = omega arith in
+      let a : get_or (replicate w (pos 0)) i (pos 0) ≡ pos 0 = get_or-replicate w i (pos 0) (pos 0) li in
+      let b : get_or (replicate w (pos 0)) j (pos 0) ≡ pos 0 = get_or-replicate w j (pos 0) (pos 0) lw in
+      omega (arith, ints);
+  due =
+      let lt : w / 2 < w = omega arith in
+      let a : get_or (replicate w (pos 0)) (w / 2) (pos 0) ≡ pos 0 = get_or-replicate w (w / 2) (pos 0) (pos 0) lt in
+      (w / 2, (rw length-replicate lt), omega (arith, ints));
+}
+
+-- one landing more: the offset at a place is the old one a place later
+pub offset_at-shifted_below : (xs : List ℤ) (o : ℤ) (i : ℕ) → i + 1 < length xs → offset_at (shifted xs o) i ≡ offset_at xs (i + 1)
+offset_at-shifted_below xs o i h =
+    let n : i < length (drop 1 xs) = omega (arith, length-drop 1 xs) in
+    get_or_append_left (drop 1 xs) (o ∷ []) (pos 0) i n ∙ get_or-drop 1 xs i (pos 0) ∙ ap (λ (j : ℕ). get_or xs j (pos 0)) (omega arith)
+
+-- and the last one is the new one
+pub offset_at-shifted_last : (xs : List ℤ) (o : ℤ) (i : ℕ) → i + 1 ≡ length xs → offset_at (shifted xs o) i ≡ o
+offset_at-shifted_last xs o i h =
+    let e : length (drop 1 xs) ≡ i = omega (arith, length-drop 1 xs) in
+    let z : i - i ≡ 0 = omega arith in
+    get_or-append_right (drop 1 xs) (o ∷ []) i i (pos 0) e (omega arith) ∙ ap (λ (j : ℕ). get_or (o ∷ []) j (pos 0)) z
+
+pub length-shifted : (xs : List ℤ) (o : ℤ) → 0 < length xs → length (shifted xs o) ≡ length xs
+length-shifted xs o h = omega (arith, length-append (drop 1 xs) (o ∷ []), length-drop 1 xs)
+
+-- the place is the last one, or comes before it
+last_or_before : (i w : ℕ) → i < w → (i + 1 ≡ w) ⊎ (i + 1 < w)
+last_or_before i w h = grind (arith, nat_tests)
+
+-- a window after one more landing, which repeats no flight and leaves none behind
+pub IsWindow-shifted : (w : ℕ) (xs : List ℤ) (o : ℤ) → IsWindow w xs → pos 0 ≤ℤ (o +ℤ pos (w / 2)) → o ≤ℤ pos (w / 2)
+    → (HoldsRank xs (pos w +ℤ o) → ⊥) → HoldsRank (shifted xs o) (pos (w / 2)) → IsWindow w (shifted xs o)
+IsWindow-shifted w xs o is low high fresh due =
+    let some : 0 < length xs = omega (arith, is.len, is.is_width) in
+    record {
+      is_width = is.is_width;
+      len = length-shifted xs o some ∙ is.len;
+      low = λ i lt. elim (last_or_before i w lt) [
+        | inl e ↦ rw (offset_at-shifted_last xs o i (e ∙ sym is.len)) low
+        | inr n ↦ rw (offset_at-shifted_below xs o i (omega (arith, is.len))) (is.low (i + 1) n)
+      ];
+      high = λ i lt. elim (last_or_before i w lt) [
+        | inl e ↦ rw (offset_at-shifted_last xs o i (e ∙ sym is.len)) high
+        | inr n ↦ rw (offset_at-shifted_below xs o i (omega (arith, is.len))) (is.high (i + 1) n)
+      ];
+      differ = λ i j lt lw same.
+          let a : offset_at (shifted xs o) i ≡ offset_at xs (i + 1) = offset_at-shifted_below xs o i (omega (arith, is.len)) in
+          elim (last_or_before j w lw) [
+            | inl e ↦
+                let b : offset_at (shifted xs o) j ≡ o = offset_at-shifted_last xs o j (e ∙ sym is.len) in
+                fresh (i + 1, omega (arith, is.len), omega (arith, ints))
+            | inr n ↦
+                let b : offset_at (shifted xs o) j ≡ offset_at xs (j + 1) = offset_at-shifted_below xs o j (omega (arith, is.len)) in
+                is.differ (i + 1) (j + 1) (omega arith) n (omega (arith, ints))
+          ];
+      due = due;
+    }
+
+-- to turn a list by one place and to write the last offset is to shift it
+pub set-turned : (xs ys : List ℤ) (n : ℕ) (o : ℤ) → 0 < length xs → ys ≡ drop 1 xs ++ take 1 xs → n + 1 ≡ length ys → set ys n o ≡ shifted xs o
+set-turned [] ys n o h e m = absurd (omega arith)
+set-turned (x ∷ xs) ys n o h e m =
+    let at : n ≡ length xs = omega (arith, ap length e, length-append xs (x ∷ [])) in
+    rw (e, at) (set-append_seam xs x [] o)
+
+-- a window's bounds, wide
+pub low_of : (w : ℕ) (xs : List ℤ) (o : ℤ) → IsWindow w xs → pos 0 ≤ℤ (o +ℤ pos (w / 2)) → (i : ℕ) → i < length (shifted xs o) → pos 0 ≤ℤ (offset_at (shifted xs o) i +ℤ pos 7)
+low_of w xs o is low i lt =
+    let some : 0 < length xs = omega (arith, is.len, is.is_width) in
+    elim (last_or_before i w (omega (arith, length-shifted xs o some, is.len))) [
+      | inl e ↦ rw (offset_at-shifted_last xs o i (e ∙ sym is.len)) (omega (arith, ints, is.is_width))
+      | inr n ↦ rw (offset_at-shifted_below xs o i (omega (arith, is.len))) (omega (arith, ints, is.low (i + 1) n, is.is_width))
+    ]
+
+pub high_of : (w : ℕ) (xs : List ℤ) (o : ℤ) → IsWindow w xs → o ≤ℤ pos (w / 2) → (i : ℕ) → i < length (shifted xs o) → offset_at (shifted xs o) i ≤ℤ pos 7
+high_of w xs o is high i lt =
+    let some : 0 < length xs = omega (arith, is.len, is.is_width) in
+    elim (last_or_before i w (omega (arith, length-shifted xs o some, is.len))) [
+      | inl e ↦ rw (offset_at-shifted_last xs o i (e ∙ sym is.len)) (omega (arith, ints, is.is_width))
+      | inr n ↦ rw (offset_at-shifted_below xs o i (omega (arith, is.len))) (omega (arith, ints, is.high (i + 1) n, is.is_width))
+    ]
+
+-- what a test for a rank says, at either answer
+pub held : (b : Bool) (xs : List ℤ) (r s : ℤ) → (IsTrue b ↔ HoldsRank xs r) → b ≡ true → r ≡ s → HoldsRank xs s
+held b xs r s h t e = let P : ℤ → Type 0 = λ v. HoldsRank xs v in subst P e (h.0 t)
+
+pub not_held : (b : Bool) (xs : List ℤ) (r s : ℤ) → (IsTrue b ↔ HoldsRank xs r) → b ≡ false → r ≡ s → HoldsRank xs s → ⊥
+not_held b xs r s h f e has =
+    let P : ℤ → Type 0 = λ v. HoldsRank xs v in
+    let t : b ≡ true = h.1 (subst P (sym e) has) in
+    cc
+
+-- the same test, for a rank that is written otherwise
+pub tested : (b : Bool) (xs : List ℤ) (r s : ℤ) → (IsTrue b ↔ HoldsRank xs r) → r ≡ s → IsTrue b ↔ HoldsRank xs s
+tested b xs r s h e = let P : ℤ → Type 0 = λ v. IsTrue b ↔ HoldsRank xs v in subst P e h

@@ -1,0 +1,6 @@
+-- The definitions of this crate.
+pub mod Windows
+pub mod WindowOrder
+pub mod Ranks
+pub mod Leads
+pub mod Laws
