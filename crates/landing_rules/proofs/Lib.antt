@@ -1,0 +1,5 @@
+pub mod Costs
+pub mod Testing
+pub mod OfTwo
+pub mod Lines
+pub mod BlockLaw
