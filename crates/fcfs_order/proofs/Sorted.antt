@@ -1,0 +1,215 @@
+-- Ascending arrivals: what a binary search finds in them, and what one more and one less leave.
+use Rattle.std.proofs.Common.{◌≡◌, ℕ, zero, suc, ◌+◌, ◌<◌, ◌≤◌, ◌⊎◌, inl, inr, Bool, true, false, cond, List, [], ◌∷◌, length, get_or, refl, sym, ap, ap₂, subst, ◌∙◌, arith}
+use Rattle.std.specs.Prelude.{Contains, count_by}
+use Rattle.std.specs.declared.cmp.Ordering.{Ordering}
+use Rattle.std.specs.declared.cmp.Ordering.TheVariants.{Less, Equal, Greater}
+use Rattle.std.specs.Ordering.{nat_cmp, is_lt, is_eq, ordering_then, ordering_reverse, ordering_index}
+use Rattle.std.specs.Cmp.{IsTotalOrder}
+use Rattle.std.specs.Cmp.Lexicographic.{slice_cmp}
+use Rattle.std.specs.List.{AllByRecursion, insert, remove, AllWithin}
+use Rattle.std.specs.List.Sorted.{IsStrictlySortedBy, IsNonDecreasingBy}
+use Rattle.std.proofs.lemmas.Bool.{cases_order, lt-ltb}
+use Rattle.std.proofs.lemmas.Cmp.{then_total, on_total, nat_cmp_total, nat_list_cmp_total, tied_itself}
+use Rattle.std.proofs.lemmas.Map.Text.{is_eq-slice_cmp}
+use Rattle.std.proofs.lemmas.Slice.Eq.{bytes_eq-Decides}
+use Rattle.std.proofs.lemmas.List.Sums.{sum_by-cons}
+use Rattle.landing_rules.specs.Rules.{first_come_cmp}
+use Rattle.landing_rules.specs.shared.Counting.{cases}
+use Rattle.fcfs_order.specs.Order.{with_arrival, without}
+
+abbrev Arrival : Type 0
+Arrival = ℕ × List ℕ
+
+pub total : IsTotalOrder first_come_cmp
+total = then_total (on_total (λ (a : Arrival). a.0) nat_cmp_total) (on_total (λ (a : Arrival). a.1) nat_list_cmp_total)
+
+first_equal : (r s : Ordering) → ordering_then r s ≡ Equal → r ≡ Equal
+first_equal Less s e = cc
+first_equal Equal s e = refl
+first_equal Greater s e = cc
+
+second_equal : (r s : Ordering) → ordering_then r s ≡ Equal → s ≡ Equal
+second_equal Less s e = cc
+second_equal Equal s e = e
+second_equal Greater s e = cc
+
+nat_equal : (a b : ℕ) → nat_cmp a b ≡ Equal → a ≡ b
+nat_equal a b e = elim (cases_order a b) [
+  | inl s ↦ s
+  | inr (inl lt) ↦ absurd (let q : nat_cmp a b ≡ Less = rw (lt-ltb a b lt) in cc)
+  | inr (inr lt) ↦ absurd (let o = nat_cmp_total.antisymm a b in let q : nat_cmp b a ≡ Less = rw (lt-ltb b a lt) in cc)
+]
+
+-- two arrivals that are level are one
+pub level : (a b : Arrival) → first_come_cmp a b ≡ Equal → a ≡ b
+level a b e =
+    let eta : a.0 ≡ b.0 = nat_equal a.0 b.0 (first_equal _ _ e) in
+    let same : slice_cmp nat_cmp a.1 b.1 ≡ Equal = second_equal _ _ e in
+    let name : a.1 ≡ b.1 = (bytes_eq-Decides a.1 b.1).0 (sym (is_eq-slice_cmp a.1 b.1) ∙ ap is_eq same) in
+    ap₂ (λ (x : ℕ) (y : List ℕ). (x, y)) eta name
+
+pub itself : (a : Arrival) → first_come_cmp a a ≡ Equal
+itself a = tied_itself total a
+
+flipped : (a b : Arrival) → first_come_cmp a b ≡ Greater → first_come_cmp b a ≡ Less
+flipped a b g = total.antisymm b a ∙ ap ordering_reverse g
+
+all_at : (a : Arrival) (xs : List Arrival) (k : ℕ) (d : Arrival) → AllByRecursion (λ y. first_come_cmp a y ≡ Less) xs → k < length xs → first_come_cmp a (get_or xs k d) ≡ Less
+all_at a [] k d h lt = absurd (omega arith)
+all_at a (x ∷ xs) zero d h lt = h.0
+all_at a (x ∷ xs) (suc k) d h lt = all_at a xs k d h.1 (omega arith)
+
+-- an earlier one comes before a later one
+pub sorted_at : (xs : List Arrival) (i j : ℕ) (d : Arrival) → IsStrictlySortedBy first_come_cmp xs → i < j → j < length xs → first_come_cmp (get_or xs i d) (get_or xs j d) ≡ Less
+unfolding IsStrictlySortedBy
+sorted_at [] i j d s lt within = absurd (omega arith)
+sorted_at (x ∷ xs) zero zero d s lt within = absurd (omega arith)
+sorted_at (x ∷ xs) zero (suc j) d s lt within = all_at x xs j d s.0 (omega arith)
+sorted_at (x ∷ xs) (suc i) zero d s lt within = absurd (omega arith)
+sorted_at (x ∷ xs) (suc i) (suc j) d s lt within = sorted_at xs i j d s.1 (omega arith) (omega arith)
+
+index_rises : (a b p : Arrival) → first_come_cmp a b ≡ Less → ordering_index (first_come_cmp a p) ≤ ordering_index (first_come_cmp b p)
+index_rises a b p l = go (cases (first_come_cmp b p))
+  where
+    low : first_come_cmp a p ≡ Less → ordering_index (first_come_cmp a p) ≤ ordering_index (first_come_cmp b p)
+    low e = let z = ap ordering_index e in omega arith
+
+    highest : (r : Ordering) → ordering_index r ≤ 2
+    highest Less = omega arith
+    highest Equal = omega arith
+    highest Greater = omega arith
+
+    go : (first_come_cmp b p ≡ Less) ⊎ ((first_come_cmp b p ≡ Equal) ⊎ (first_come_cmp b p ≡ Greater)) → ordering_index (first_come_cmp a p) ≤ ordering_index (first_come_cmp b p)
+    go (inl e) = low (total.trans a b p l e)
+    go (inr (inl e)) = low (subst (λ (x : Arrival). first_come_cmp a x ≡ Less) (level b p e) l)
+    go (inr (inr e)) = let z = ap ordering_index e in let y = highest (first_come_cmp a p) in omega arith
+
+-- what a binary search asks
+pub searchable : (xs : List Arrival) (p : Arrival) → IsStrictlySortedBy first_come_cmp xs → IsNonDecreasingBy (λ y. ordering_index (first_come_cmp y p)) xs
+searchable xs p s i j d le within = elim (cases_order i j) [
+  | inl e ↦ (let q = ap (λ k. ordering_index (first_come_cmp (get_or xs k d) p)) e in omega arith)
+  | inr (inl lt) ↦ index_rises (get_or xs i d) (get_or xs j d) p (sorted_at xs i j d s lt within)
+  | inr (inr gt) ↦ absurd (omega arith)
+]
+
+-- ---- one more
+
+pub with_at : (p : Arrival) (xs : List Arrival) (i : ℕ) → i ≤ length xs → AllWithin (λ y. first_come_cmp y p ≡ Less) xs 0 i → AllWithin (λ y. first_come_cmp y p ≡ Greater) xs i (length xs) → with_arrival p xs ≡ insert xs i p
+with_at p [] zero le low high = refl
+with_at p [] (suc i) le low high = absurd (omega arith)
+with_at p (x ∷ xs) zero le low high = ap (λ b. cond b (x ∷ with_arrival p xs) (p ∷ x ∷ xs)) (ap is_lt (high 0 p (omega arith) (omega arith)))
+with_at p (x ∷ xs) (suc i) le low high =
+    ap (λ b. cond b (x ∷ with_arrival p xs) (p ∷ x ∷ xs)) (ap is_lt (low 0 p (omega arith) (omega arith)))
+    ∙ ap (λ l. x ∷ l) (with_at p xs i (omega arith) (λ k d a b. low (suc k) d (omega arith) (omega arith)) (λ k d a b. high (suc k) d (omega arith) (omega arith)))
+
+all_with : (a p : Arrival) (xs : List Arrival) → first_come_cmp a p ≡ Less → AllByRecursion (λ y. first_come_cmp a y ≡ Less) xs → AllByRecursion (λ y. first_come_cmp a y ≡ Less) (with_arrival p xs)
+all_with a p [] l h = (l, tt)
+all_with a p (x ∷ xs) l h = go (is_lt (first_come_cmp x p)) (all_with a p xs l h.1)
+  where
+    go : (b : Bool) → AllByRecursion (λ y. first_come_cmp a y ≡ Less) (with_arrival p xs) → AllByRecursion (λ y. first_come_cmp a y ≡ Less) (cond b (x ∷ with_arrival p xs) (p ∷ x ∷ xs))
+    go true ih = (h.0, ih)
+    go false ih = (l, h)
+
+all_behind : (p x : Arrival) (xs : List Arrival) → first_come_cmp p x ≡ Less → AllByRecursion (λ y. first_come_cmp x y ≡ Less) xs → AllByRecursion (λ y. first_come_cmp p y ≡ Less) xs
+all_behind p x [] l h = tt
+all_behind p x (y ∷ ys) l h = (total.trans p x y l h.0, all_behind p x ys l h.1)
+
+pub ascending_with : (p : Arrival) (xs : List Arrival) → (Contains xs p → ⊥) → IsStrictlySortedBy first_come_cmp xs → IsStrictlySortedBy first_come_cmp (with_arrival p xs)
+unfolding IsStrictlySortedBy
+ascending_with p [] absent s = (tt, tt)
+ascending_with p (x ∷ xs) absent s = go (first_come_cmp x p) refl (ascending_with p xs (λ c. absent (suc c.0, (let l = c.1 in omega arith), c.2)) s.1)
+  where
+    go : (r : Ordering) → first_come_cmp x p ≡ r → IsStrictlySortedBy first_come_cmp (with_arrival p xs) → IsStrictlySortedBy first_come_cmp (cond (is_lt r) (x ∷ with_arrival p xs) (p ∷ x ∷ xs))
+    go Less e ih = (all_with x p xs e s.0, ih)
+    go Equal e ih = absurd (absent (0, omega arith, level x p e))
+    go Greater e ih = let l = flipped x p e in ((l, all_behind p x xs l s.0), s)
+
+-- ---- one less
+
+pub without_at : (p : Arrival) (xs : List Arrival) (i : ℕ) → IsStrictlySortedBy first_come_cmp xs → i < length xs → get_or xs i p ≡ p → without p xs ≡ remove xs i
+unfolding IsStrictlySortedBy
+without_at p [] i s lt e = absurd (omega arith)
+without_at p (x ∷ xs) zero s lt e = ap (λ b. cond b xs (x ∷ without p xs)) (ap is_eq (subst (λ (y : Arrival). first_come_cmp x y ≡ Equal) e (itself x)))
+without_at p (x ∷ xs) (suc i) s lt e =
+    let l : first_come_cmp x p ≡ Less = subst (λ (y : Arrival). first_come_cmp x y ≡ Less) e (all_at x xs i p s.0 (omega arith)) in
+    ap (λ b. cond b xs (x ∷ without p xs)) (ap is_eq l) ∙ ap (λ l. x ∷ l) (without_at p xs i s.1 (omega arith) e)
+
+pub without_none : (p : Arrival) (xs : List Arrival) → (Contains xs p → ⊥) → without p xs ≡ xs
+without_none p [] absent = refl
+without_none p (x ∷ xs) absent = go (first_come_cmp x p) refl (without_none p xs (λ c. absent (suc c.0, (let l = c.1 in omega arith), c.2)))
+  where
+    go : (r : Ordering) → first_come_cmp x p ≡ r → without p xs ≡ xs → cond (is_eq r) xs (x ∷ without p xs) ≡ x ∷ xs
+    go Less e ih = ap (λ l. x ∷ l) ih
+    go Equal e ih = absurd (absent (0, omega arith, level x p e))
+    go Greater e ih = ap (λ l. x ∷ l) ih
+
+all_without : (a p : Arrival) (xs : List Arrival) → AllByRecursion (λ y. first_come_cmp a y ≡ Less) xs → AllByRecursion (λ y. first_come_cmp a y ≡ Less) (without p xs)
+all_without a p [] h = tt
+all_without a p (x ∷ xs) h = go (is_eq (first_come_cmp x p)) (all_without a p xs h.1)
+  where
+    go : (b : Bool) → AllByRecursion (λ y. first_come_cmp a y ≡ Less) (without p xs) → AllByRecursion (λ y. first_come_cmp a y ≡ Less) (cond b xs (x ∷ without p xs))
+    go true ih = h.1
+    go false ih = (h.0, ih)
+
+pub ascending_without : (p : Arrival) (xs : List Arrival) → IsStrictlySortedBy first_come_cmp xs → IsStrictlySortedBy first_come_cmp (without p xs)
+unfolding IsStrictlySortedBy
+ascending_without p [] s = tt
+ascending_without p (x ∷ xs) s = go (is_eq (first_come_cmp x p)) (ascending_without p xs s.1)
+  where
+    go : (b : Bool) → IsStrictlySortedBy first_come_cmp (without p xs) → IsStrictlySortedBy first_come_cmp (cond b xs (x ∷ without p xs))
+    go true ih = s.1
+    go false ih = (all_without x p xs s.0, ih)
+
+pub short_without : (p : Arrival) (xs : List Arrival) → length (without p xs) ≤ length xs
+short_without p [] = omega arith
+short_without p (x ∷ xs) = go (is_eq (first_come_cmp x p)) (short_without p xs)
+  where
+    go : (b : Bool) → length (without p xs) ≤ length xs → length (cond b xs (x ∷ without p xs)) ≤ length (x ∷ xs)
+    go true ih = omega arith
+    go false ih = omega arith
+
+pub long_with : (p : Arrival) (xs : List Arrival) → length (with_arrival p xs) ≡ length xs + 1
+long_with p [] = refl
+long_with p (x ∷ xs) = go (is_lt (first_come_cmp x p)) (long_with p xs)
+  where
+    go : (b : Bool) → length (with_arrival p xs) ≡ length xs + 1 → length (cond b (x ∷ with_arrival p xs) (p ∷ x ∷ xs)) ≡ length (x ∷ xs) + 1
+    go true ih = omega arith
+    go false ih = omega arith
+
+-- ---- ranks
+
+count_less : (p x : Arrival) (xs : List Arrival) → first_come_cmp x p ≡ Less → count_by (λ a. is_lt (first_come_cmp a p)) (x ∷ xs) ≡ suc (count_by (λ a. is_lt (first_come_cmp a p)) xs)
+count_less p x xs e = sum_by-cons (λ (a : Arrival). cond (is_lt (first_come_cmp a p)) 1 0) x xs ∙ ap (λ (r : Ordering). cond (is_lt r) 1 0 + count_by (λ a. is_lt (first_come_cmp a p)) xs) e ∙ omega arith
+
+count_other : (p x : Arrival) (xs : List Arrival) (r : Ordering) → is_lt r ≡ false → first_come_cmp x p ≡ r → count_by (λ a. is_lt (first_come_cmp a p)) (x ∷ xs) ≡ count_by (λ a. is_lt (first_come_cmp a p)) xs
+count_other p x xs r f e = sum_by-cons (λ (a : Arrival). cond (is_lt (first_come_cmp a p)) 1 0) x xs ∙ ap (λ (b : Bool). cond b 1 0 + count_by (λ a. is_lt (first_come_cmp a p)) xs) (ap is_lt e ∙ f) ∙ omega arith
+
+-- none of those behind one comes before it
+none_before : (p : Arrival) (xs : List Arrival) → AllByRecursion (λ y. first_come_cmp p y ≡ Less) xs → count_by (λ a. is_lt (first_come_cmp a p)) xs ≡ 0
+none_before p [] h = refl
+none_before p (x ∷ xs) h = count_other p x xs Greater refl (total.antisymm x p ∙ ap ordering_reverse h.0) ∙ none_before p xs h.1
+
+-- as many come before one as stand before it
+pub counted_at : (p : Arrival) (xs : List Arrival) (i : ℕ) → IsStrictlySortedBy first_come_cmp xs → i < length xs → get_or xs i p ≡ p → count_by (λ a. is_lt (first_come_cmp a p)) xs ≡ i
+unfolding IsStrictlySortedBy
+counted_at p [] i s lt e = absurd (omega arith)
+counted_at p (x ∷ xs) zero s lt e =
+    count_other p x xs Equal refl (subst (λ (y : Arrival). first_come_cmp x y ≡ Equal) e (itself x))
+    ∙ none_before p xs (subst (λ (y : Arrival). AllByRecursion (λ z. first_come_cmp y z ≡ Less) xs) e s.0)
+counted_at p (x ∷ xs) (suc i) s lt e =
+    count_less p x xs (subst (λ (y : Arrival). first_come_cmp x y ≡ Less) e (all_at x xs i p s.0 (omega arith))) ∙ ap suc (counted_at p xs i s.1 (omega arith) e)
+
+-- ---- what a search says
+
+pub found : (p : Arrival) (xs : List Arrival) (i : ℕ) → i < length xs → first_come_cmp (get_or xs i p) p ≡ Equal → get_or xs i p ≡ p
+found p xs i lt e = level (get_or xs i p) p e
+
+pub parted : (p : Arrival) (xs : List Arrival) (i : ℕ) → AllWithin (λ y. first_come_cmp y p ≡ Less) xs 0 i → AllWithin (λ y. first_come_cmp y p ≡ Greater) xs i (length xs) → Contains xs p → ⊥
+parted p xs i low high c = elim (cases_order c.0 i) [
+  | inl e ↦ (let l = c.1 in no Greater (λ q. cc) (high c.0 p (omega arith) l))
+  | inr (inl lt) ↦ no Less (λ q. cc) (low c.0 p (omega arith) lt)
+  | inr (inr gt) ↦ (let l = c.1 in no Greater (λ q. cc) (high c.0 p (omega arith) l))
+]
+  where
+    no : (r : Ordering) → (Equal ≡ r → ⊥) → first_come_cmp (get_or xs c.0 p) p ≡ r → ⊥
+    no r differ e = differ (sym (itself p) ∙ subst (λ (x : Arrival). first_come_cmp x p ≡ r) c.2 e)

@@ -1,0 +1,9 @@
+//! First come, first served: the ranks of flights by estimate and callsign.
+#![tactic(auto)]
+
+mod order;
+
+pub use order::Order;
+
+#[cfg(test)]
+mod tests;
