@@ -1,0 +1,1 @@
+-- No definition stands here: an entry is an answer of the function that the caller gives.

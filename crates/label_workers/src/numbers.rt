@@ -1,0 +1,42 @@
+ghost use Rattle.std.specs.Prelude.{ℕ, ◌+◌, ◌^◌, ◌<◌, length, slice_index};
+
+use cps_outside::Gate;
+use std::thread;
+use std::thread::Threads;
+
+/// How many entries a piece of a column has. The last piece may be shorter.
+pub const PIECE: usize = 1024;
+
+/// Writes into each entry of the column an answer of `f` for its place, by pieces that may run at once. The piece that
+/// begins at entry i passes the gate as number i / PIECE first. The column has at most 4,294,967,295 entries, and `f`
+/// may be called on each of their places.
+pub fn fill_numbers<R: Threads + Sync, G: Gate + Sync, F: Fn(usize) -> u32 + Sync>(
+    rt: &R,
+    column: &mut [u32],
+    gate: &G,
+    f: &F,
+)
+    requires few { length column.old < 2 ^ 32 }
+    requires callable { (i : ℕ) → i < length column.old → F.pre f.now i }
+    ensures { (i : ℕ) → i < length column.old → F.post f.now i (slice_index column.new i) }
+{
+    let piece = move |start: usize, part: &mut [u32]|
+        requires { (start + length part.now < 2 ^ 32) × ((k : ℕ) → k < length part.now → F.pre f.now (start + k)) }
+        ensures { (k : ℕ) → k < length part.entry.now → F.post f.entry.now (start + k) (slice_index part.exit.now k) }
+    {
+        gate.pass((start / PIECE) as u32);
+        fill_piece(part, start, f);
+    };
+    thread::for_each_chunk_mut(rt, column, PIECE, &piece);
+}
+
+// The part of a column that begins at entry `start`.
+fn fill_piece<F: Fn(usize) -> u32>(part: &mut [u32], start: usize, f: &F)
+    requires few { start + length part.old < 2 ^ 32 }
+    requires callable { (k : ℕ) → k < length part.old → F.pre f.now (start + k) }
+    ensures { (k : ℕ) → k < length part.old → F.post f.now (start + k) (slice_index part.new k) }
+{
+    for k in 0..part.len() {
+        part[k] = f(start + k);
+    }
+}
