@@ -1,0 +1,156 @@
+-- Examples of landings: lists of ranks, separation, retiming, landing trails and pairs.
+use Rattle.std.proofs.Common.{◌≡◌, ℕ, zero, suc, ◌+◌, ◌-◌, ◌≤◌, inl, inr, List, [], ◌∷◌, true, false, Option, Some, None, cond, ltb, max, refl, sym, ap, subst, arith}
+use Rattle.cps_theory.specs.RankLists.{Distinct, In, IsRank, Ordered, Shifts, above, below, has_pair, numbers_from, of_rank, upto}
+use Rattle.cps_theory.specs.Separation.{Landing, NeighboursSeparated, Separated, last_of}
+use Rattle.cps_theory.specs.Retiming.{IsFirstOpen, LandsAt, NeverEarlier, StopsAt, ready_after, retimed}
+use Rattle.cps_theory.specs.LandingTrail.{Landed, last_rank, latest_landing, pair_of, ranks}
+use Rattle.cps_theory.specs.Labels.{InPairs, NeverCheaper, NoWorse, Pair, next_pair, no_worse}
+use Rattle.cps_theory.specs.UndominatedPairs.{Covers, InPairOrder, Staircase, add_pair, sweep}
+use Rattle.cps_theory.specs.laws.UndominatedPairs.{add_covers}
+
+upto_three : upto 3 ≡ 3 ∷ 2 ∷ 1 ∷ []
+upto_three = refl
+
+numbers_three : numbers_from 4 3 ≡ 4 ∷ 5 ∷ 6 ∷ []
+numbers_three = refl
+
+abbrev by_rank : List ℕ
+by_rank = 70 ∷ 80 ∷ []
+
+-- the first stands at rank 1
+second_rank : of_rank 0 by_rank 2 ≡ 80
+second_rank = refl
+
+no_rank : of_rank 0 by_rank 0 ≡ 0
+no_rank = refl
+
+holds_seven : In 7 (9 ∷ 7 ∷ [])
+holds_seven = inr (inl refl)
+
+different : Distinct (9 ∷ 7 ∷ [])
+different = ((λ i. elim i [ inl e ↦ absurd (omega arith) | inr j ↦ j ]), ((λ i. i), tt))
+
+greater_ranks : above 2 (3 ∷ 1 ∷ 4 ∷ []) ≡ 2
+greater_ranks = refl
+
+smaller_ranks : below 2 (3 ∷ 1 ∷ 4 ∷ []) ≡ 1
+smaller_ranks = refl
+
+a_rank : IsRank 3 2
+a_rank = (omega arith, omega arith)
+
+rising : Ordered ltb (1 ∷ 2 ∷ [])
+rising = ((λ y i. elim i [ inl e ↦ subst (λ z. ltb 1 z ≡ true) (sym e) refl | inr j ↦ absurd j ]), ((λ y i. absurd i), tt))
+
+-- ranks 2 and 1, at places 2 and 1
+on_their_places : Shifts 0 (λ r. 0) (λ r. r) (2 ∷ 1 ∷ [])
+on_their_places = (omega arith, omega arith, (omega arith, omega arith, tt))
+
+leader_with_follower : has_pair ((1, 3) ∷ (2, 3) ∷ []) 2 3 ≡ true
+leader_with_follower = refl
+
+follower_with_leader : has_pair ((1, 3) ∷ (2, 3) ∷ []) 3 2 ≡ false
+follower_with_leader = refl
+
+-- ---- separation of 60 seconds
+
+late_enough : Separated (λ l f. 60) (1, 1000) (2, 1060)
+late_enough = omega arith
+
+one_after_another : NeighboursSeparated (λ l f. 60) (1, 1000) ((2, 1060) ∷ (3, 1200) ∷ [])
+one_after_another = (omega arith, (omega arith, tt))
+
+last_behind : last_of (1, 1000) ((2, 1060) ∷ (3, 1200) ∷ []) ≡ (3, 1200)
+last_behind = refl
+
+-- without the triangle inequality neighbours may keep the separation while the first and the third do not
+abbrev far_follower : ℕ → ℕ → ℕ
+far_follower (suc zero) (suc (suc (suc zero))) = 500
+far_follower l f = 60
+
+neighbours_alone : NeighboursSeparated far_follower (1, 1000) ((2, 1060) ∷ (3, 1120) ∷ [])
+neighbours_alone = (omega arith, (omega arith, tt))
+
+first_and_third : Separated far_follower (1, 1000) (3, 1120) → ⊥
+first_and_third h = absurd (omega arith)
+
+-- ---- retiming; each flight is open from 1000 on, and follows 100 seconds after the one before
+
+abbrev open_from_1000 : ℕ → ℕ → Option ℕ
+open_from_1000 r t = Some (max t 1000)
+
+first_open : IsFirstOpen (λ r t. 1000 ≤ t) open_from_1000
+first_open = record {
+  found = λ r t u e. let same : max t 1000 ≡ u = cc in (omega arith, omega arith);
+  least = λ r t v o le. (max t 1000, refl, omega arith);
+}
+
+hundred_later : NeverEarlier (λ l t r. t + 100)
+hundred_later = record { mono = λ l t u r le. omega arith }
+
+retimed_two : retimed open_from_1000 (λ l t r. t + 100) (λ r. 0) (2 ∷ 1 ∷ []) ≡ Some (1000 ∷ 1100 ∷ [])
+retimed_two = refl
+
+lands_two : LandsAt (λ r t. 1000 ≤ t) (λ l t r. t + 100) (λ r. 0) (2 ∷ 1 ∷ []) (1000 ∷ 1150 ∷ [])
+lands_two = (omega arith, omega arith, (omega arith, omega arith, tt))
+
+after_two : ready_after (λ l t r. t + 100) (λ r. 0) (2 ∷ 1 ∷ []) (1000 ∷ 1100 ∷ []) 3 ≡ 1200
+after_two = refl
+
+-- the second flight has no open second
+stops : StopsAt (λ r t. cond (ltb r 2) (Some t) None) (λ l t r. t + 100) (λ r. 0) (1 ∷ 2 ∷ [])
+stops = record { front = 1 ∷ []; flight = 2; back = []; seconds = 0 ∷ []; order = refl; before = refl; none = refl }
+
+-- ---- a landing trail, the latest first
+
+abbrev trail : List Landing
+trail = (1, 1100) ∷ (2, 1000) ∷ []
+
+trail_latest : latest_landing trail ≡ (1, 1100)
+trail_latest = refl
+
+trail_ranks : ranks trail ≡ 1 ∷ 2 ∷ []
+trail_ranks = refl
+
+trail_landed : Landed (λ r t. 1000 ≤ t) (λ l t r. t + 100) trail
+trail_landed = (omega arith, omega arith, (omega arith, omega arith, tt))
+
+trail_pair : pair_of (λ r t. t - 1000) trail ≡ (1100, 100)
+trail_pair = refl
+
+last_rank_none : last_rank [] ≡ 0
+last_rank_none = refl
+
+-- ---- pairs of a second and a cost
+
+later_is_worse : NoWorse (1000, 5) (1010, 5)
+later_is_worse = (omega arith, omega arith)
+
+test_no_worse : no_worse (1000, 5) (1010, 4) ≡ false
+test_no_worse = refl
+
+successor : next_pair open_from_1000 (λ l t r. t + 100) (λ r t. t - 1000) 2 (1000, 0) 1 ≡ Some (1100, 100)
+successor = refl
+
+delay_never_cheaper : NeverCheaper (λ r t. t - 1000)
+delay_never_cheaper = record { mono = λ r t u le. omega arith }
+
+listed : InPairs (1010, 3) ((1000, 5) ∷ (1010, 3) ∷ [])
+listed = inr (inl refl)
+
+-- ---- lists of undominated pairs
+
+added : add_pair (1005, 4) ((1010, 4) ∷ (1000, 5) ∷ []) ≡ (1005, 4) ∷ (1000, 5) ∷ []
+added = refl
+
+swept : sweep 100 ((1000, 5) ∷ (1005, 7) ∷ (1010, 3) ∷ []) ≡ (1000, 5) ∷ (1010, 3) ∷ []
+swept = refl
+
+staircase : Staircase ((1000, 5) ∷ (1010, 3) ∷ [])
+staircase = ((λ q i. elim i [ inl e ↦ (let a = ap (λ (z : Pair). z.0) e in let b = ap (λ (z : Pair). z.1) e in (omega arith, omega arith)) | inr j ↦ absurd j ]), ((λ q i. absurd i), tt))
+
+in_pair_order : InPairOrder ((1000, 5) ∷ (1000, 7) ∷ [])
+in_pair_order = ((λ q i. elim i [ inl e ↦ inr (let a = ap (λ (z : Pair). z.0) e in omega arith, let b = ap (λ (z : Pair). z.1) e in omega arith) | inr j ↦ absurd j ]), ((λ q i. absurd i), tt))
+
+covers_all : Covers ((1005, 4) ∷ (1010, 4) ∷ []) (add_pair (1005, 4) ((1010, 4) ∷ []))
+covers_all = add_covers (1005, 4) ((1010, 4) ∷ [])

@@ -1,0 +1,8 @@
+mod LandingExamples
+mod NodeExamples
+mod ScheduleExamples
+mod DifferenceExamples
+mod SituationExamples
+mod CertificateExamples
+mod NetworkExamples
+mod RefutedNeighbours

@@ -1,0 +1,186 @@
+-- Examples of networks: what the nodes of two flights attain, and what the start keeps and completes where nobody waits.
+use Rattle.std.proofs.Common.{max, None, Bool, subst, ◌≤◌, ◌≡◌, ℕ, ◌-◌, inl, inr, List, [], ◌∷◌, true, false, Option, Some, leb, zero-le, refl, sym, ap, arith, ap₂}
+use Rattle.std.proofs.lemmas.Bool.{false≢true, leb-true}
+use Rattle.cps_theory.specs.RankLists.{IsRank}
+use Rattle.cps_theory.specs.Separation.{Landing}
+use Rattle.cps_theory.specs.LandingTrail.{pair_of, ranks}
+use Rattle.cps_theory.specs.Labels.{InPairs, Pair}
+use Rattle.cps_theory.specs.LegalPrefix.{Legal}
+use Rattle.cps_theory.specs.Network.{Attained, KeptFact, Undominated}
+use Rattle.cps_theory.specs.Windows.{WindowNode, WindowPermits, window_newest, window_node, window_push}
+use Rattle.cps_theory.specs.StageLabels.{IsLeastLabel, ListedBeside, NextStage, StageKept, no_cost}
+use Rattle.cps_theory.specs.Patterns.{PatternNode, PatternPermits, pattern_newest, pattern_node, pattern_push}
+use Rattle.cps_theory.specs.ClosedSets.{ClosedPairs}
+use Rattle.cps_theory.specs.Feasible.{Feasible, LandsAllRanks, RankedProblem, next_from}
+use Rattle.cps_theory.specs.ProblemNetwork.{AttainedIn, FindsFirstOpen, IsClosedCertificate, IsLabelFrom, IsObjective, KeptIn, LabelIn, LandedIn}
+use Rattle.cps_theory.specs.CompletingPairs.{Choice, KeptCompleting, LeastChoices, NoEarlierNoDearer, NoGreaterOrder, OrderWithinBudget, onto}
+use Rattle.cps_theory.specs.FirstBest.{Ascends, BuiltByNodes, CompletesNode, FirstBest, InLandingOrder, ListsCompleting, ReachedIn}
+use Rattle.cps_theory.specs.laws.LeastLabels.{least_from_kept}
+use Rattle.cps_theory.specs.laws.StoredFacts.{kept_fact}
+use Rattle.cps_theory.proofs.NodeExamples.{two}
+use Rattle.cps_theory.proofs.ScheduleExamples.{pair_of_flights, in_rank_order}
+
+in_order_legal : Legal two (2 ∷ 1 ∷ [])
+in_order_legal = (
+  record {
+    fits = record { from_one = omega arith; to_count = omega arith; is_new = λ i. elim i [ inl e ↦ absurd (omega arith) | inr j ↦ j ]; not_early = omega arith; not_late = omega arith; after = λ a b. absurd (false≢true b) };
+    due = λ x one e. inr (inl (omega arith));
+  },
+  (
+    record {
+      fits = record { from_one = omega arith; to_count = omega arith; is_new = λ i. i; not_early = omega arith; not_late = omega arith; after = λ a b. absurd (false≢true b) };
+      due = λ x one e. absurd (omega arith);
+    },
+    tt,
+  ),
+)
+
+-- the window of both attains 1060, and with a delay of 60
+window_attains : AttainedIn pair_of_flights (λ r t. t - 1000) (window_node two (2 ∷ 1 ∷ [])) (1060, 60)
+window_attains = record { landings = (2, 1060) ∷ (1, 1000) ∷ []; legal = in_order_legal; landed = (refl, omega arith, (refl, omega arith, tt)); at = refl; is = refl }
+
+pattern_reached : ReachedIn pair_of_flights (pattern_node two (2 ∷ 1 ∷ [])) 1200
+pattern_reached = record { landings = (2, 1060) ∷ (1, 1000) ∷ []; legal = in_order_legal; landed = (refl, omega arith, (refl, omega arith, tt)); at = refl; by = omega arith }
+
+-- ---- the start keeps (0, 0), since it is the node of no other prefix
+
+start_attains : (q : Pair) → AttainedIn pair_of_flights (λ r t. 0) (window_node two []) q → (0, 0) ≡ q
+start_attains q a = go a.landings a.at a.is
+  where
+    go : (xs : List Landing) → window_node two (ranks xs) ≡ window_node two [] → pair_of (λ r t. 0) xs ≡ q → (0, 0) ≡ q
+    go [] at is = is
+    go (x ∷ xs) at is = absurd (let e = ap (λ (w : WindowNode). w.0) at in omega arith)
+
+start_keeps : KeptIn pair_of_flights (λ r t. 0) (window_node two []) ((0, 0) ∷ [])
+start_keeps = record {
+  attained = λ q i. elim i [ inl e ↦ record { landings = []; legal = tt; landed = tt; at = refl; is = sym e } | inr j ↦ absurd j ];
+  covers = λ q a. let e = start_attains q a in ((0, 0), inl refl, (let b = ap (λ (z : Pair). z.0) e in omega arith, let b = ap (λ (z : Pair). z.1) e in omega arith));
+}
+
+-- ---- nobody waits
+
+abbrev nobody : RankedProblem
+nobody = record { rules = record { count = 0; most = 1; back = λ r. 1; before = λ a r. false }; is_open = λ r u. true; start = λ r. 0; apart = λ q r. 60 }
+
+abbrev at_once : ℕ → ℕ → Option ℕ
+at_once r t = Some t
+
+no_rank : (r : ℕ) → IsRank 0 r → ⊥
+no_rank r i = absurd (let a = i.0 in let b = i.1 in omega arith)
+
+finds_open : FindsFirstOpen nobody at_once
+finds_open = record { found = λ r t u e. (refl, let s : t ≡ u = cc in omega arith); least = λ r t v o le. (t, refl, le) }
+
+closed_certificate : IsClosedCertificate nobody at_once (λ r t. 0) (λ w. (0, 0) ∷ [])
+closed_certificate = record { start = inl refl; step = λ w r p q l m e. absurd (let a = m.from_one in let b = m.to_count in omega arith) }
+
+closed_pairs : ClosedPairs at_once (next_from nobody) (λ r t. 0) (Legal nobody.rules) (λ rs q. InPairs q ((0, 0) ∷ []))
+closed_pairs = record { start = inl refl; step = λ r rs l p q i e. absurd (let a = l.0.fits.from_one in let b = l.0.fits.to_count in omega arith) }
+
+last_second_is_objective : IsObjective (λ q. q.0)
+last_second_is_objective = λ a b le. le.0
+
+start_completes : CompletesNode nobody (λ r t. 0) (λ t. true) (pattern_node nobody.rules []) (0, 0)
+start_completes = record { opened = refl; reached = record { landings = []; legal = tt; landed = tt; at = refl; by = zero-le }; low = refl; rest = []; follows = refl; cost_is = refl }
+
+lists_completing : ListsCompleting nobody (λ r t. 0) (λ t. true) (λ w. [])
+lists_completing = λ rs r l. absurd (let a = l.0.fits.from_one in let b = l.0.fits.to_count in omega arith)
+
+built_of_none : BuiltByNodes nobody at_once (λ r t. 0) (λ w. []) 0 []
+built_of_none = tt
+
+feasible_none : (t : ℕ → ℕ) → Feasible nobody t
+feasible_none t = record { opened = λ r i. absurd (no_rank r i); started = λ r i. absurd (no_rank r i); separated = λ f g i. absurd (no_rank f i); in_order = λ f g i. absurd (no_rank f i); not_early = λ r i. absurd (no_rank r i); not_late = λ r i. absurd (no_rank r i) }
+
+first_best_none : (t : ℕ → ℕ) → FirstBest nobody (λ u. 0) t
+first_best_none t = record {
+  best = record { feasible = feasible_none t; least = λ u f. zero-le };
+  tight = record { feasible = feasible_none t; least = λ u f s r i. absurd (no_rank r i) };
+  least = λ u b tight qs os q o. none qs os q;
+}
+  where
+    none : (qs os : List ℕ) → InLandingOrder 0 t qs → NoGreaterOrder qs os
+    none [] os q = tt
+    none (x ∷ qs) os q = absurd (no_rank x (q.ranked x (inl refl)))
+
+-- ---- orders, earliest first
+
+behind_each_other : onto {A = ℕ} (3 ∷ 1 ∷ []) (2 ∷ []) ≡ 1 ∷ 3 ∷ 2 ∷ []
+behind_each_other = refl
+
+smaller_at_second : NoGreaterOrder (1 ∷ 2 ∷ []) (1 ∷ 3 ∷ [])
+smaller_at_second = inr (refl, inl (omega arith))
+
+later_and_cheaper : NoEarlierNoDearer (1010, 3) (1000, 5)
+later_and_cheaper = (omega arith, omega arith)
+
+-- ---- more of the two flights
+
+lands_all : LandsAllRanks pair_of_flights in_rank_order (2 ∷ 1 ∷ [])
+lands_all = record { legal = in_order_legal; whole = refl; landed = (refl, omega arith, (refl, omega arith, tt)) }
+
+landed_in : LandedIn pair_of_flights ((2, 1060) ∷ (1, 1000) ∷ [])
+landed_in = (refl, omega arith, (refl, omega arith, tt))
+
+ascends : Ascends in_rank_order (1 ∷ 2 ∷ [])
+ascends = ((λ y i. elim i [ inl e ↦ (let s = ap in_rank_order e in omega arith) | inr j ↦ absurd j ]), ((λ y i. absurd i), tt))
+
+start_label : LabelIn pair_of_flights (window_node two []) (Some 0)
+start_label = record {
+  attained = λ q at. record { landings = []; legal = tt; landed = tt; at = refl; is = (let z : 0 ≡ q.0 = (let e = at.0 in cc) in ap₂ (λ (a b : ℕ). (a, b)) z (sym at.1)) };
+  covers = λ q a. let e = start_attains q a in ((0, 0), (refl, refl), (let b = ap (λ (z : Pair). z.0) e in omega arith, let b = ap (λ (z : Pair). z.1) e in omega arith));
+}
+
+start_is_least : IsLeastLabel (AttainedIn pair_of_flights no_cost (window_node two [])) (Some 0)
+start_is_least = least_from_kept (Attained (λ r u. leb 1000 u ≡ true) (next_from pair_of_flights) no_cost (Legal two) (window_node two) (window_node two [])) (Some 0) start_label
+
+start_undominated : Undominated (AttainedIn pair_of_flights (λ r t. 0) (window_node two [])) (0, 0)
+start_undominated = record { attained = start_keeps.attained (0, 0) (inl refl); best = λ q a le. sym (start_attains q a) }
+
+start_fact : KeptFact (AttainedIn pair_of_flights (λ r t. 0) (window_node two [])) (λ q. InPairs q ((0, 0) ∷ []))
+start_fact = kept_fact (Attained (λ r u. leb 1000 u ≡ true) (next_from pair_of_flights) (λ r t. 0) (Legal two) (window_node two) (window_node two [])) (λ q. InPairs q ((0, 0) ∷ [])) start_keeps
+
+abbrev first : ℕ → ℕ → Option ℕ
+first r t = Some (max t 1000)
+
+-- rank 1 may be chosen first, where a kept pair lets the rest land by 1000
+choose_one : Choice PatternNode first (next_from pair_of_flights) (λ r t. 0) (PatternPermits two) (pattern_push two) pattern_newest (λ w q. InPairs q ((1000, 0) ∷ [])) 0 (pattern_node two []) (0, 0) 1 1000
+choose_one = record {
+  permitted = record { from_one = omega arith; to_count = omega arith; is_new = λ h. elim h [ inl le ↦ absurd (omega arith) | inr e ↦ absurd (false≢true e) ]; not_early = omega arith; not_late = omega arith; after = λ a one b. absurd (false≢true b); due = λ x one e. absurd (omega arith) };
+  found = refl;
+  can_end = ((1000, 0), inl refl, omega arith, omega arith);
+}
+
+-- ---- more of nobody
+
+no_label : IsLabelFrom nobody at_once (λ w. None) (1, []) None
+no_label = record { made = λ t e. absurd (cc); least = λ w r b u m. absurd (let a = m.from_one in let b = m.to_count in omega arith) }
+
+beside : ListedBeside {W = ℕ} (7 ∷ 8 ∷ []) ([] ∷ ((1000, 0) ∷ []) ∷ []) 8 (1000, 0)
+beside = record { place = 1; within = omega arith; is = refl; has = inl refl }
+
+no_next : NextStage at_once (next_from nobody) (λ r t. 0) (WindowPermits nobody.rules) (window_push nobody.rules) (window_newest nobody.rules) (λ w. w.0) 0 [] [] [] []
+no_next = record { made = λ w q at b. absurd (let l = b.within in omega arith); enough = λ w r p q m b. absurd (let l = b.within in omega arith) }
+
+stage_kept : StageKept (λ r u. ◌≡◌ {A = Bool} true true) (next_from nobody) (λ r t. 0) (Legal nobody.rules) (window_node nobody.rules) (λ w. w.0) 1 [] []
+stage_kept w at = record { attained = λ q b. absurd (let l = b.within in omega arith); covers = λ q a. absurd (go a.landings a.legal a.at) }
+  where
+    go : (xs : List Landing) → Legal nobody.rules (ranks xs) → window_node nobody.rules (ranks xs) ≡ w → ⊥
+    go [] l e = absurd (let s = ap (λ (v : WindowNode). v.0) e in omega arith)
+    go (x ∷ xs) l e = absurd (let a = l.0.fits.from_one in let b = l.0.fits.to_count in omega arith)
+
+-- where no second after 0 is allowed, the start keeps one completing pair
+completing_kept : KeptCompleting (CompletesNode nobody (λ r t. 0) (λ t. leb t 0) (pattern_node nobody.rules [])) (λ q. InPairs q ((0, 0) ∷ []))
+completing_kept = record {
+  completes = λ q i. elim i [
+    | inl e ↦ subst (λ (z : Pair). CompletesNode nobody (λ r t. 0) (λ t. leb t 0) (pattern_node nobody.rules []) z) (sym e) (record { opened = refl; reached = record { landings = []; legal = tt; landed = tt; at = refl; by = zero-le }; low = refl; rest = []; follows = refl; cost_is = refl })
+    | inr j ↦ absurd j
+  ];
+  covers = λ q c. ((0, 0), inl refl, (leb-true q.0 0 c.low, zero-le));
+}
+
+no_choices : LeastChoices PatternNode at_once (next_from nobody) (λ r t. 0) (PatternPermits nobody.rules) (pattern_push nobody.rules) pattern_newest (λ w. w.0 ≡ 0) (λ w q. InPairs q []) 0 (pattern_node nobody.rules []) (0, 0) []
+no_choices = refl
+
+order_of_none : OrderWithinBudget at_once (next_from nobody) (λ r t. 0) (Legal nobody.rules) (pattern_node nobody.rules) (λ w. w.0 ≡ 0) (λ t. t ≤ 0) 0 []
+order_of_none = record { legal = tt; final = refl; landings = []; earliest_is = refl; low = tt; cheap = omega arith }

@@ -1,0 +1,58 @@
+-- Neighbours of the laws that are false, each refuted at small values: where a premise is left out or a bound is one too low.
+use Rattle.std.proofs.Common.{◌≡◌, ℕ, ◌+◌, ◌^◌, ◌≤◌, inl, inr, List, [], ◌∷◌, length, false, refl, arith}
+use Rattle.std.proofs.lemmas.Bool.{false≢true}
+use Rattle.cps_theory.specs.RankLists.{In, above}
+use Rattle.cps_theory.specs.Labels.{NoWorse}
+use Rattle.cps_theory.specs.LegalPrefix.{Legal, OrderRules}
+use Rattle.cps_theory.specs.Windows.{IsPlacedByWindow, window}
+use Rattle.cps_theory.specs.UndominatedPairs.{sweep}
+use Rattle.cps_theory.specs.Agreement.{AgreeBelow}
+use Rattle.cps_theory.proofs.NodeExamples.{two, swapped_legal}
+
+-- ---- the last k places do not tell what is placed: rank 2 at place 1 is, and the last of two places shows rank 1 alone
+
+two_is_placed : In 2 (1 ∷ 2 ∷ [])
+two_is_placed = inr (inl refl)
+
+last_place_tells_not : IsPlacedByWindow 1 2 (window 1 1 (1 ∷ 2 ∷ [])) 2 → ⊥
+last_place_tells_not h = elim h [ inl le ↦ absurd (omega arith) | inr i ↦ elim i [ inl e ↦ absurd (omega arith) | inr j ↦ j ] ]
+
+-- ---- a prefix of fewer than d places need not stay legal: rank 2 may land first in one problem, and there is no rank 2 in the other
+
+abbrev one : OrderRules
+one = record { count = 1; most = 1; back = λ r. 1; before = λ a r. false }
+
+agree_below_two : AgreeBelow 2 two one
+agree_below_two = record { same_most = refl; there = omega arith; same_back = λ r lt. refl; same_before = λ a r la lr b. absurd (false≢true b); same_above = λ a r da lr b. absurd (false≢true b) }
+
+second_first : Legal two (2 ∷ [])
+second_first = swapped_legal.1
+
+no_second : Legal one (2 ∷ []) → ⊥
+no_second l = absurd (let a = l.0.fits.to_count in omega arith)
+
+-- ---- a list with windows that stand twice can be longer than the number of windows
+
+abbrev twice : List (List ℕ)
+twice = [] ∷ [] ∷ []
+
+stand_twice : length twice ≤ 1 ^ 0 → ⊥
+stand_twice le = absurd (let e : 1 ^ 0 ≡ 1 = refl in omega arith)
+
+-- ---- what a lesser limit refuses: rank 2 first, with k = 0
+
+not_without_shift : Legal (record two { most = 0 }) (2 ∷ []) → ⊥
+not_without_shift l = absurd (let a = l.0.fits.not_early in omega arith)
+
+-- ---- among the ranks of a legal prefix more than max(r, p) - r may be above r
+
+above_one_of_two : above 1 (2 ∷ []) + 1 ≤ 1 → ⊥
+above_one_of_two le = absurd (let e : above 1 (2 ∷ []) ≡ 1 = refl in omega arith)
+
+-- ---- a sweep of a list that is not sorted loses a pair that none is no worse than
+
+unsorted_sweep : sweep 100 ((1010, 3) ∷ (1000, 5) ∷ []) ≡ (1010, 3) ∷ []
+unsorted_sweep = refl
+
+lost_pair : NoWorse (1010, 3) (1000, 5) → ⊥
+lost_pair n = absurd (let a = n.0 in omega arith)

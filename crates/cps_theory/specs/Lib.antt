@@ -1,0 +1,26 @@
+-- The definitions, from lists of ranks up to the first best schedule, and the laws over them.
+pub mod RankLists
+pub mod Separation
+pub mod Retiming
+pub mod LandingTrail
+pub mod Labels
+pub mod LegalPrefix
+pub mod Network
+pub mod Windows
+pub mod WindowLists
+pub mod StageLabels
+pub mod UndominatedPairs
+pub mod Patterns
+pub mod ClosedSets
+pub mod FirstFound
+pub mod CertificateClosure
+pub mod Agreement
+pub mod Feasible
+pub mod ProblemNetwork
+pub mod Freeze
+pub mod NumberedSituation
+pub mod Objectives
+pub mod FirstDifference
+pub mod CompletingPairs
+pub mod FirstBest
+pub mod laws

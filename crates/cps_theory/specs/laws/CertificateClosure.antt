@@ -1,0 +1,101 @@
+-- Listed states of which no successor pair is missed are closed under successor pairs.
+-- Cited by cert_check.
+use Rattle.std.proofs.lemmas.List.{drop_all}
+use Rattle.std.specs.Option.{option_or}
+use Rattle.std.proofs.Common.{◌≤◌, length, get_or, drop, ◌<◌, ◌≡◌, ℕ, ◌+◌, inl, inr, Bool, true, false, not, ◌&&◌, leb, List, [], ◌∷◌, Option, Some, None, refl, sym, ap, subst, ◌∙◌, arith}
+use Rattle.std.specs.List.{list_any}
+use Rattle.std.specs.Ordering.{is_eq}
+use Rattle.std.proofs.lemmas.Bool.{leb-true, or_cases, or_parts, and_parts}
+use Rattle.cps_theory.specs.Labels.{InPairs, NoWorse, Pair, next_pair, no_worse}
+use Rattle.cps_theory.specs.LegalPrefix.{OrderRules}
+use Rattle.cps_theory.specs.Patterns.{PatternNode, PatternPermits, pattern_newest, pattern_node, pattern_push}
+use Rattle.cps_theory.specs.ClosedSets.{ClosedNodes}
+use Rattle.cps_theory.specs.FirstFound.{with_number}
+use Rattle.cps_theory.specs.CertificateClosure.{IsListed, IsListedOrStart, covers, covers_at, first_missed, is_missed, is_not_covered, missed_from, misses, node_cmp, permits_next}
+use Rattle.cps_theory.specs.laws.FirstFound.{cut_at, from_none, or_none, with_number_none}
+use Rattle.cps_theory.specs.laws.NodeOrder.{node_tie, eq_of}
+use Rattle.cps_theory.specs.laws.PatternTests.{permits_is}
+
+and_false : (a b : Bool) → a && b ≡ false → a ≡ true → b ≡ false
+and_false true b e p = e
+and_false false b e p = absurd (cc)
+
+not_false : (a : Bool) → not a ≡ false → a ≡ true
+not_false true e = refl
+not_false false e = absurd (cc)
+
+some_no_worse : (q : Pair) (ps : List Pair) → list_any (λ o. no_worse o q) ps ≡ true → (o : Pair) × InPairs o ps × NoWorse o q
+some_no_worse q [] e = absurd (cc)
+some_no_worse q (o ∷ ps) e = elim (or_cases (no_worse o q) (list_any (λ o. no_worse o q) ps) e) [
+  | inl h ↦ let t = and_parts (leb o.0 q.0) (leb o.1 q.1) h in (o, inl refl, (leb-true o.0 q.0 t.0, leb-true o.1 q.1 t.1))
+  | inr h ↦ let m = some_no_worse q ps h in (m.0, inr m.1, m.2)
+]
+
+any_false : (p : Pair → Bool) (b : Pair) (ps : List Pair) → list_any p ps ≡ false → InPairs b ps → p b ≡ false
+any_false p b [] e i = absurd i
+any_false p b (o ∷ ps) e (inl s) = ap p s ∙ (or_parts (p o) (list_any p ps) e).0
+any_false p b (o ∷ ps) e (inr i) = any_false p b ps (or_parts (p o) (list_any p ps) e).1 i
+
+module _ {S : Type 0} (node_of : S → PatternNode) (pairs_of : S → List Pair) where
+  pub covers_listed : (w : PatternNode) (q : Pair) (ss : List S) → covers node_of pairs_of ss w q ≡ true → (o : Pair) × IsListed node_of pairs_of ss w o × NoWorse o q
+  unfolding covers
+  covers_listed w q [] e = absurd (cc)
+  covers_listed w q (s ∷ ss) e = elim (or_cases (covers_at node_of pairs_of w q s) (covers node_of pairs_of ss w q) e) [
+    | inl h ↦
+        let t = and_parts (is_eq (node_cmp (node_of s) w)) (list_any (λ o. no_worse o q) (pairs_of s)) h in
+        let m = some_no_worse q (pairs_of s) t.1 in
+        (m.0, inl (node_tie (node_of s) w (eq_of _ t.0), m.1), m.2)
+    | inr h ↦ let m = covers_listed w q ss h in (m.0, inr m.1, m.2)
+  ]
+
+  module _ (g : OrderRules) (first : ℕ → ℕ → Option ℕ) (after : ℕ → ℕ → ℕ → ℕ) (cost : ℕ → ℕ → ℕ) (all : List S) where
+    -- a node of which nothing is missed: each permitted successor of its pairs is covered
+    none_missed : (w : PatternNode) (pairs : List Pair) → first_missed node_of pairs_of g first after cost all w pairs ≡ None → (r : ℕ) (b q : Pair) → PatternPermits g w r → InPairs b pairs → next_pair first after cost w.2 b r ≡ Some q → covers node_of pairs_of all (pattern_push g w r) q ≡ true
+    unfolding first_missed
+    none_missed w pairs e r b q m i n =
+        let out : misses node_of pairs_of g first after cost all w pairs r ≡ false = from_none (misses node_of pairs_of g first after cost all w pairs) 1 g.count e r m.from_one (let t = m.to_count in omega arith) in
+        let quiet = and_false (permits_next g w r) (list_any (is_missed node_of pairs_of g first after cost all w r) pairs) out (permits_is g w r m) in
+        let kept = any_false (is_missed node_of pairs_of g first after cost all w r) b pairs quiet i in
+        let left : is_not_covered node_of pairs_of all (pattern_push g w r) (Some q) ≡ false = ap (is_not_covered node_of pairs_of all (pattern_push g w r)) (sym n) ∙ kept in
+        not_false (covers node_of pairs_of all (pattern_push g w r) q) left
+
+    listed_missed : (i : ℕ) (ss : List S) → missed_from node_of pairs_of g first after cost all i ss ≡ None → (w : PatternNode) (b : Pair) → IsListed node_of pairs_of ss w b → (s : S) × (node_of s ≡ w) × InPairs b (pairs_of s) × (first_missed node_of pairs_of g first after cost all (node_of s) (pairs_of s) ≡ None)
+    unfolding missed_from
+    listed_missed i [] e w b l = absurd l
+    listed_missed i (s ∷ ss) e w b (inl h) = (s, h.0, h.1, with_number_none i _ (or_none _ _ e).0)
+    listed_missed i (s ∷ ss) e w b (inr l) = listed_missed (i + 1) ss (or_none _ _ e).1 w b l
+
+    -- where nothing is missed, what is listed is closed under successor pairs
+    pub closure_closed : first_missed node_of pairs_of g first after cost all (pattern_node g []) ((0, 0) ∷ []) ≡ None → missed_from node_of pairs_of g first after cost all 1 all ≡ None → ClosedNodes first after cost (PatternPermits g) (pattern_push g) pattern_newest (pattern_node g []) (IsListedOrStart node_of pairs_of g all)
+    closure_closed from_start from_states = record {
+      start = inl (refl, refl);
+      step = λ w r p q l m e. elim l [
+        | inl s ↦
+            let m' = subst (λ (z : PatternNode). PatternPermits g z r) s.0 m in
+            let e' = subst (λ (z : PatternNode). next_pair first after cost z.2 (0, 0) r ≡ Some q) s.0 (subst (λ (z : Pair). next_pair first after cost w.2 z r ≡ Some q) s.1 e) in
+            let c = none_missed (pattern_node g []) ((0, 0) ∷ []) from_start r (0, 0) q m' (inl refl) e' in
+            let o = covers_listed (pattern_push g (pattern_node g []) r) q all c in
+            (o.0, inr (subst (λ (z : PatternNode). IsListed node_of pairs_of all (pattern_push g z r) o.0) (sym s.0) o.1), o.2)
+        | inr b ↦
+            let k = listed_missed 1 all from_states w p b in
+            let m' = subst (λ (z : PatternNode). PatternPermits g z r) (sym k.1) m in
+            let e' = subst (λ (z : PatternNode). next_pair first after cost z.2 p r ≡ Some q) (sym k.1) e in
+            let c = none_missed (node_of k.0) (pairs_of k.0) k.3 r p q m' k.2 e' in
+            let o = covers_listed (pattern_push g (node_of k.0) r) q all c in
+            (o.0, inr (subst (λ (z : PatternNode). IsListed node_of pairs_of all (pattern_push g z r) o.0) k.1 o.1), o.2)
+      ];
+    }
+
+  -- ---- a loop over the states
+  module _ (g : OrderRules) (first : ℕ → ℕ → Option ℕ) (after : ℕ → ℕ → ℕ → ℕ) (cost : ℕ → ℕ → ℕ) (all : List S) where
+    pub missed_here : (n : ℕ) (ss : List S) (i : ℕ) (d : S) (r : ℕ) → i < length ss → first_missed node_of pairs_of g first after cost all (node_of (get_or ss i d)) (pairs_of (get_or ss i d)) ≡ Some r → missed_from node_of pairs_of g first after cost all n (drop i ss) ≡ Some (n, r)
+    unfolding missed_from
+    missed_here n ss i d r lt e = ap (missed_from node_of pairs_of g first after cost all n) (cut_at ss i d lt) ∙ ap (λ (o : Option ℕ). option_or (with_number n o) (missed_from node_of pairs_of g first after cost all (n + 1) (drop (i + 1) ss))) e
+
+    pub missed_later : (n : ℕ) (ss : List S) (i : ℕ) (d : S) → i < length ss → first_missed node_of pairs_of g first after cost all (node_of (get_or ss i d)) (pairs_of (get_or ss i d)) ≡ None → missed_from node_of pairs_of g first after cost all n (drop i ss) ≡ missed_from node_of pairs_of g first after cost all (n + 1) (drop (i + 1) ss)
+    unfolding missed_from
+    missed_later n ss i d lt e = ap (missed_from node_of pairs_of g first after cost all n) (cut_at ss i d lt) ∙ ap (λ (o : Option ℕ). option_or (with_number n o) (missed_from node_of pairs_of g first after cost all (n + 1) (drop (i + 1) ss))) e
+
+    pub missed_end : (n : ℕ) (ss : List S) (i : ℕ) → length ss ≤ i → missed_from node_of pairs_of g first after cost all n (drop i ss) ≡ None
+    unfolding missed_from
+    missed_end n ss i le = ap (missed_from node_of pairs_of g first after cost all n) (drop_all i ss le)

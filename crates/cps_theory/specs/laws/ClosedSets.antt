@@ -1,0 +1,55 @@
+-- Closed sets of pairs have one no later and no dearer for every landing of every legal prefix.
+-- Cited by CertificateSoundness and cert_check.
+use Rattle.std.proofs.Common.{true, ◌≡◌, ℕ, ◌≤◌, List, [], length, Option, Some, ◌⊎◌, inl, inr, refl, sym, subst, le_trans}
+use Rattle.cps_theory.specs.Separation.{Landing}
+use Rattle.cps_theory.specs.Retiming.{IsFirstOpen, NeverEarlier}
+use Rattle.cps_theory.specs.LandingTrail.{Landed, pair_of, ranks}
+use Rattle.cps_theory.specs.Labels.{NeverCheaper, NoWorse, Pair, next_pair}
+use Rattle.cps_theory.specs.LegalPrefix.{Legal, OrderRules}
+use Rattle.cps_theory.specs.Network.{Network}
+use Rattle.cps_theory.specs.StageLabels.{ListedBeside}
+use Rattle.cps_theory.specs.Patterns.{PatternNode, PatternPermits, pattern_newest, pattern_node, pattern_push}
+use Rattle.cps_theory.specs.ClosedSets.{ClosedNodes}
+use Rattle.cps_theory.specs.laws.LabelDominance.{closed_covers}
+use Rattle.cps_theory.specs.laws.PatternNetwork.{pattern_network}
+
+module _ (Open : ℕ → ℕ → Type 0) (first : ℕ → ℕ → Option ℕ) (after : ℕ → ℕ → ℕ → ℕ) (cost : ℕ → ℕ → ℕ) (opens : IsFirstOpen Open first) (later : NeverEarlier after) (dearer : NeverCheaper cost) where
+  -- over any nodes, what is closed under successors covers every landed legal prefix
+  pub closed_nodes_cover : (W : Type 0) (Legal : List ℕ → Type 0) (node : List ℕ → W) (Permitted : W → ℕ → Type 0) (push : W → ℕ → W) (newest : W → ℕ) → Network W Legal node Permitted push newest → (Lists : W → Pair → Type 0) → ClosedNodes first after cost Permitted push newest (node []) Lists → (xs : List Landing) → Legal (ranks xs) → Landed Open after xs → (p : Pair) × Lists (node (ranks xs)) p × NoWorse p (pair_of cost xs)
+  closed_nodes_cover W Legal node Permitted push newest net Lists c =
+      closed_covers Open first after cost opens later dearer Legal (λ r rs l. (net.shrinks r rs l).0) (λ rs p. Lists (node rs) p)
+      (record {
+        start = c.start;
+        step = λ r rs legal p q listed e.
+            let s = net.shrinks r rs legal in
+            let e' = subst (λ k. next_pair first after cost k p r ≡ Some q) (sym (net.newest_is rs s.0)) e in
+            let o = c.step (node rs) r p q listed s.1 e' in
+            (o.0, subst (λ w. Lists w o.0) (sym (net.pushes r rs s.0)) o.1, o.2);
+      })
+
+  module _ (g : OrderRules) (ones : (a r : ℕ) → g.before a r ≡ true → 1 ≤ a) (Lists : PatternNode → Pair → Type 0) (c : ClosedNodes first after cost (PatternPermits g) (pattern_push g) pattern_newest (pattern_node g []) Lists) where
+    -- no whole landing is below the claim, if no listed pair of the last stage is
+    pub closed_landings_optimal : (value : Pair → ℕ) → ((p q : Pair) → NoWorse p q → value p ≤ value q) → (v : ℕ) → ((w : PatternNode) (p : Pair) → w.0 ≡ g.count → Lists w p → v ≤ value p) → (xs : List Landing) → Legal g (ranks xs) → Landed Open after xs → length (ranks xs) ≡ g.count → v ≤ value (pair_of cost xs)
+    closed_landings_optimal value mono v final xs legal landed whole =
+        let k = closed_nodes_cover PatternNode (Legal g) (pattern_node g) (PatternPermits g) (pattern_push g) pattern_newest (pattern_network g ones) Lists c xs legal landed in
+        le_trans (final (pattern_node g (ranks xs)) k.0 whole k.1) (mono k.0 (pair_of cost xs) k.2)
+
+    -- nothing lands at all, if the last stage has no state
+    pub closed_landings_infeasible : ((w : PatternNode) (p : Pair) → w.0 ≡ g.count → Lists w p → ⊥) → (xs : List Landing) → Legal g (ranks xs) → Landed Open after xs → length (ranks xs) ≡ g.count → ⊥
+    closed_landings_infeasible none xs legal landed whole =
+        let k = closed_nodes_cover PatternNode (Legal g) (pattern_node g) (PatternPermits g) (pattern_push g) pattern_newest (pattern_network g ones) Lists c xs legal landed in
+        none (pattern_node g (ranks xs)) k.0 whole k.1
+
+-- the same closedness, over a list of states by place: `places` tells each listed state, and 0 is the start
+pub closed_nodes_by_places : (W : Type 0) (first : ℕ → ℕ → Option ℕ) (after : ℕ → ℕ → ℕ → ℕ) (cost : ℕ → ℕ → ℕ) (Permitted : W → ℕ → Type 0) (push : W → ℕ → W) (newest : W → ℕ) (at_start : W) (states : List W) (pairs : List (List Pair)) → ((r : ℕ) (q : Pair) → Permitted at_start r → next_pair first after cost (newest at_start) (0, 0) r ≡ Some q → (o : Pair) × ListedBeside states pairs (push at_start r) o × NoWorse o q) → ((w : W) (r : ℕ) (p q : Pair) → ListedBeside states pairs w p → Permitted w r → next_pair first after cost (newest w) p r ≡ Some q → (o : Pair) × ListedBeside states pairs (push w r) o × NoWorse o q) → ClosedNodes first after cost Permitted push newest at_start (λ w p. ((w ≡ at_start) × (p ≡ (0, 0))) ⊎ ListedBeside states pairs w p)
+closed_nodes_by_places W first after cost Permitted push newest at_start states pairs from_start from_state = record {
+  start = inl (refl, refl);
+  step = λ w r p q l permitted e. elim l [
+    | inl s ↦
+        let pm = subst (λ z. Permitted z r) s.0 permitted in
+        let e' = subst (λ z. next_pair first after cost (newest z) (0, 0) r ≡ Some q) s.0 (subst (λ z. next_pair first after cost (newest w) z r ≡ Some q) s.1 e) in
+        let o = from_start r q pm e' in
+        (o.0, inr (subst (λ z. ListedBeside states pairs (push z r) o.0) (sym s.0) o.1), o.2)
+    | inr b ↦ let o = from_state w r p q b permitted e in (o.0, inr o.1, o.2)
+  ];
+}

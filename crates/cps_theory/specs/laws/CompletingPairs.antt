@@ -1,0 +1,129 @@
+-- The completing pairs of a node from those of its successors; undominated ones lose nothing; a node is reached by a second exactly where its least label is no later.
+-- Cited by first_best.
+use Rattle.std.proofs.Common.{◌≡◌, ℕ, ◌+◌, ◌≤◌, List, [], ◌∷◌, Option, Some, arith, refl, sym, ap, ap₂, subst, ◌∙◌, le_refl, le_trans, le_antisymm}
+use Rattle.cps_theory.specs.Separation.{Landing}
+use Rattle.cps_theory.specs.Retiming.{IsFirstOpen, NeverEarlier}
+use Rattle.cps_theory.specs.LandingTrail.{Landed, cost_of, latest_landing, pair_of, ranks}
+use Rattle.cps_theory.specs.Labels.{NeverCheaper, Pair}
+use Rattle.cps_theory.specs.Network.{Attained, Network}
+use Rattle.cps_theory.specs.CompletingPairs.{AllLow, Completes, Follows, KeptCompleting, NoEarlierNoDearer, Reached, UndominatedCompleting, onto}
+use Rattle.cps_theory.specs.laws.LabelDominance.{last_ranks}
+
+pub no_earlier_no_dearer_trans : (p q r : Pair) → NoEarlierNoDearer p q → NoEarlierNoDearer q r → NoEarlierNoDearer p r
+no_earlier_no_dearer_trans p q r h k = (le_trans k.0 h.0, le_trans h.1 k.1)
+
+-- where no kept pair is worse than another, the kept pairs are the undominated ones
+pub completing_undominated : (Completing Keeps : Pair → Type 0) → KeptCompleting Completing Keeps → ((p q : Pair) → Keeps p → Keeps q → NoEarlierNoDearer p q → p ≡ q) → (p : Pair) → Keeps p → UndominatedCompleting Completing p
+completing_undominated Completing Keeps k anti p kept = record {
+  completes = k.completes p kept;
+  best = λ q a le.
+      let c = k.covers q a in
+      let e = anti c.0 p c.1 kept (no_earlier_no_dearer_trans c.0 q p c.2 le) in
+      let first : q.0 ≤ p.0 = subst (λ (x : Pair). q.0 ≤ x.0) e c.2.0 in
+      let second : p.1 ≤ q.1 = subst (λ (x : Pair). x.1 ≤ q.1) e c.2.1 in
+      ap₂ (λ x y. (x, y)) (le_antisymm first le.0) (le_antisymm le.1 second);
+}
+
+pub undominated_completing : (Completing Keeps : Pair → Type 0) → KeptCompleting Completing Keeps → (p : Pair) → UndominatedCompleting Completing p → Keeps p
+undominated_completing Completing Keeps k p u = let c = k.covers p u.completes in subst Keeps (u.best c.0 (k.completes c.0 c.1) c.2) c.1
+
+module _ (W : Type 0) (Open : ℕ → ℕ → Type 0) (first : ℕ → ℕ → Option ℕ) (after : ℕ → ℕ → ℕ → ℕ) (cost : ℕ → ℕ → ℕ) (Legal : List ℕ → Type 0) (node : List ℕ → W) (Permitted : W → ℕ → Type 0) (push : W → ℕ → W) (newest : W → ℕ) (opens : IsFirstOpen Open first) (later : NeverEarlier after) (dearer : NeverCheaper cost) (net : Network W Legal node Permitted push newest) (Final : W → Type 0) (closed : (rs : List ℕ) (r : ℕ) → Legal rs → Final (node rs) → Permitted (node rs) r → ⊥) (Low : ℕ → Type 0) (lower : (t u : ℕ) → t ≤ u → Low u → Low t) where
+  abbrev Follow : W → ℕ → List Landing → Type 0
+  Follow w b ys = Follows W Open after Permitted push newest Final Low w b ys
+
+  abbrev Complete : W → Pair → Type 0
+  Complete w q = Completes W Open after cost Legal node Permitted push newest Final Low w q
+
+  -- what follows a later second follows an earlier one
+  pub follows_mono : (w : W) (a b : ℕ) (ys : List Landing) → a ≤ b → Follow w b ys → Follow w a ys
+  follows_mono w a b [] le f = f
+  follows_mono w a b (y ∷ ys) le f = (f.0, f.1, le_trans (later.mono (newest w) a b y.0 le) f.2, f.3, f.4)
+
+  pub newest_last : (xs : List Landing) → Legal (ranks xs) → newest (node (ranks xs)) ≡ (latest_landing xs).0
+  newest_last xs l = net.newest_is (ranks xs) l ∙ last_ranks xs
+
+  newest_push : (w : W) (b r : ℕ) → Reached Open after Legal node w b → Permitted w r → newest (push w r) ≡ r
+  newest_push w b r x p =
+      let rs = ranks x.landings in
+      let p' = subst (λ v. Permitted v r) (sym x.at) p in
+      sym (ap newest (net.pushes r rs x.legal ∙ ap (λ v. push v r) x.at)) ∙ net.newest_is (r ∷ rs) (net.grows r rs x.legal p')
+
+  reached_push : (w : W) (b r t : ℕ) → Reached Open after Legal node w b → Permitted w r → Open r t → after (newest w) b r ≤ t → Reached Open after Legal node (push w r) t
+  reached_push w b r t x p o le =
+      let rs = ranks x.landings in
+      let p' = subst (λ v. Permitted v r) (sym x.at) p in
+      let l : newest w ≡ (latest_landing x.landings).0 = ap newest (sym x.at) ∙ newest_last x.landings x.legal in
+      record {
+        landings = (r, t) ∷ x.landings;
+        legal = net.grows r rs x.legal p';
+        landed = (o, le_trans (later.mono (latest_landing x.landings).0 (latest_landing x.landings).1 b r x.by) (subst (λ k. after k b r ≤ t) l le), x.landed);
+        at = net.pushes r rs x.legal ∙ ap (λ v. push v r) x.at;
+        by = le_refl t;
+      }
+
+  -- a final node is completed with nothing, at any of its seconds
+  pub completing_final : (w : W) → Final w → (New : Pair → Type 0) → ((q : Pair) → New q → Open (newest w) q.0 × Reached Open after Legal node w q.0 × Low q.0 × (q.1 ≡ 0)) → ((b : ℕ) → Open (newest w) b → Reached Open after Legal node w b → Low b → (q : Pair) × New q × (b ≤ q.0)) → KeptCompleting (Complete w) New
+  completing_final w f New made enough = record {
+    completes = λ q n. let m = made q n in record { opened = m.0; reached = m.1; low = m.2; rest = []; follows = f; cost_is = sym m.3 };
+    covers = λ q c. let e = enough q.0 c.opened c.reached c.low in let z = (made e.0 e.1).3 in (e.0, e.1, (e.2, omega arith));
+  }
+
+  -- another node's, from the kept pairs of its successors: at each second b, with each rank at its first second after b, and a kept pair that this second is not too late for
+  pub completing_next : (Keeps : W → Pair → Type 0) (w : W) (New : Pair → Type 0) → (Final w → ⊥) → ((r : ℕ) → Permitted w r → KeptCompleting (Complete (push w r)) (Keeps (push w r))) → ((q : Pair) → New q → Open (newest w) q.0 × Reached Open after Legal node w q.0 × Low q.0 × ((r : ℕ) × (x : ℕ) × (o : Pair) × Permitted w r × (first r (after (newest w) q.0 r) ≡ Some x) × Keeps (push w r) o × (x ≤ o.0) × (cost r x + o.1 ≡ q.1))) → ((b r x : ℕ) (o : Pair) → Open (newest w) b → Reached Open after Legal node w b → Low b → Permitted w r → first r (after (newest w) b r) ≡ Some x → Keeps (push w r) o → x ≤ o.0 → (q : Pair) × New q × NoEarlierNoDearer q (b, cost r x + o.1)) → KeptCompleting (Complete w) New
+  completing_next Keeps w New not_final nexts made enough = record {
+    completes = λ q n.
+        let m = made q n in
+        let s = m.3 in
+        let c = (nexts s.0 s.3).completes s.2 s.5 in
+        let o = opens.found s.0 (after (newest w) q.0 s.0) s.1 s.4 in
+        record {
+          opened = m.0;
+          reached = m.1;
+          low = m.2;
+          rest = (s.0, s.1) ∷ c.rest;
+          follows = (s.3, o.0, o.1, lower s.1 s.2.0 s.6 c.low, follows_mono (push w s.0) s.1 s.2.0 c.rest s.6 c.follows);
+          cost_is = let a = c.cost_is in let b = s.7 in omega arith;
+        };
+    covers = λ q c. by q c c.rest c.follows c.cost_is;
+  }
+    where
+      by : (q : Pair) → Complete w q → (ys : List Landing) → Follow w q.0 ys → cost_of cost ys ≡ q.1 → (p : Pair) × New p × NoEarlierNoDearer p q
+      by q c [] f e = absurd (not_final f)
+      by q c (y ∷ ys) f e =
+          let x = opens.least y.0 (after (newest w) q.0 y.0) y.1 f.1 f.2 in
+          let done : Complete (push w y.0) (y.1, cost_of cost ys) = record {
+            opened = subst (λ k. Open k y.1) (sym (newest_push w q.0 y.0 c.reached f.0)) f.1;
+            reached = reached_push w q.0 y.0 y.1 c.reached f.0 f.1 f.2;
+            low = f.3;
+            rest = ys;
+            follows = f.4;
+            cost_is = refl;
+          } in
+          let o = (nexts y.0 f.0).covers (y.1, cost_of cost ys) done in
+          let n = enough q.0 y.0 x.0 o.0 c.opened c.reached c.low f.0 x.1 o.1 (le_trans x.2 o.2.0) in
+          let d = dearer.mono y.0 x.0 y.1 x.2 in
+          (n.0, n.1, (n.2.0, let a = n.2.1 in let b = o.2.1 in omega arith))
+
+  -- what follows a landing trail makes it whole
+  pub continued_whole : (xs ys : List Landing) → Legal (ranks xs) → Landed Open after xs → AllLow Low xs → Follow (node (ranks xs)) (latest_landing xs).1 ys → Legal (ranks (onto ys xs)) × Landed Open after (onto ys xs) × Final (node (ranks (onto ys xs))) × AllLow Low (onto ys xs) × (cost_of cost (onto ys xs) ≡ cost_of cost xs + cost_of cost ys)
+  continued_whole xs [] l d a f = (l, d, f, a, let z = cost_of cost xs in omega arith)
+  continued_whole xs (y ∷ ys) l d a f =
+      let d' : Landed Open after (y ∷ xs) = (f.1, subst (λ k. after k (latest_landing xs).1 y.0 ≤ y.1) (newest_last xs l) f.2, d) in
+      let r = continued_whole (y ∷ xs) ys (net.grows y.0 (ranks xs) l f.0) d' (f.3, a) (subst (λ w. Follow w y.1 ys) (sym (net.pushes y.0 (ranks xs) l)) f.4) in
+      (r.0, r.1, r.2, r.3, let e = r.4 in omega arith)
+
+  -- and of a whole landing trail the rest follows its front
+  pub whole_continued : (xs ys : List Landing) → Legal (ranks (onto ys xs)) → Landed Open after (onto ys xs) → Final (node (ranks (onto ys xs))) → AllLow Low (onto ys xs) → Legal (ranks xs) × Landed Open after xs × AllLow Low xs × Follow (node (ranks xs)) (latest_landing xs).1 ys
+  whole_continued xs [] l d f a = (l, d, a, f)
+  whole_continued xs (y ∷ ys) l d f a =
+      let r = whole_continued (y ∷ xs) ys l d f a in
+      let s = net.shrinks y.0 (ranks xs) r.0 in
+      (s.0, r.1.2, r.2.1, (s.1, r.1.0, subst (λ k. after k (latest_landing xs).1 y.0 ≤ y.1) (sym (newest_last xs s.0)) r.1.1, r.2.0, subst (λ w. Follow w y.1 ys) (net.pushes y.0 (ranks xs) s.0) r.3))
+
+-- a node is reached by b exactly where its least label is at most b
+module _ {W : Type 0} (Open : ℕ → ℕ → Type 0) (after : ℕ → ℕ → ℕ → ℕ) (cost : ℕ → ℕ → ℕ) (Legal : List ℕ → Type 0) (node : List ℕ → W) (w : W) (label : Pair) (attained : Attained Open after cost Legal node w label) (least : (q : Pair) → Attained Open after cost Legal node w q → label.0 ≤ q.0) where
+  pub label_reached : (b : ℕ) → label.0 ≤ b → Reached Open after Legal node w b
+  label_reached b le = record { landings = attained.landings; legal = attained.legal; landed = attained.landed; at = attained.at; by = let e = ap (λ (x : Pair). x.0) attained.is in omega arith }
+
+  pub reached_label : (b : ℕ) → Reached Open after Legal node w b → label.0 ≤ b
+  reached_label b r = le_trans (least (pair_of cost r.landings) (record { landings = r.landings; legal = r.legal; landed = r.landed; at = r.at; is = refl })) r.by

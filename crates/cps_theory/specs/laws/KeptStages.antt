@@ -1,0 +1,83 @@
+-- Early prefixes stay legal, and attain the same pairs, where two problems agree on the low ranks.
+-- Cited by replan, by FirstDifference.
+use Rattle.std.proofs.Common.{◌≡◌, ℕ, ◌+◌, ◌<◌, ◌≤◌, inl, inr, List, [], ◌∷◌, length, arith, refl, sym, ap, ap₂, subst, ◌∙◌}
+use Rattle.std.specs.List.{AllByRecursion}
+use Rattle.std.proofs.lemmas.Bool.{cases_lt}
+use Rattle.cps_theory.specs.RankLists.{In}
+use Rattle.cps_theory.specs.Separation.{Landing}
+use Rattle.cps_theory.specs.LandingTrail.{Landed, latest_landing, pair_of, ranks}
+use Rattle.cps_theory.specs.Labels.{Pair}
+use Rattle.cps_theory.specs.LegalPrefix.{EachFits, Legal, OrderRules}
+use Rattle.cps_theory.specs.Network.{Attained}
+use Rattle.cps_theory.specs.Agreement.{AgreeBelow, SameLandings}
+use Rattle.cps_theory.specs.laws.LegalPrefix.{legal_each_fits}
+
+-- a prefix of p places holds no rank above p + k
+pub low_ranks : (g : OrderRules) (d : ℕ) (rs : List ℕ) → EachFits g rs → length rs + g.most < d → AllByRecursion (λ r. r < d) rs
+low_ranks g d [] p lt = tt
+low_ranks g d (r ∷ rs) p lt = (let a = p.0.not_early in omega arith, low_ranks g d rs p.1 (omega arith))
+
+in_low : (d x : ℕ) (rs : List ℕ) → AllByRecursion (λ r. r < d) rs → In x rs → x < d
+in_low d x [] a i = absurd i
+in_low d x (r ∷ rs) a (inl e) = let b = a.0 in omega arith
+in_low d x (r ∷ rs) a (inr i) = in_low d x rs a.1 i
+
+-- agreement up to d carries the legal prefixes of fewer than d - k places over
+pub agree_legal : (d : ℕ) (g g' : OrderRules) → AgreeBelow d g g' → (rs : List ℕ) → Legal g rs → length rs + g.most < d → Legal g' rs
+agree_legal d g g' agree [] l lt = tt
+agree_legal d g g' agree (r ∷ rs) l lt =
+    let f = l.0.fits in
+    let low : r < d = let a = f.not_early in omega arith in
+    let before = low_ranks g d rs (legal_each_fits g rs l.1) (omega arith) in
+    let most = agree.same_most in
+    let back = agree.same_back r low in (
+      record {
+        fits = record {
+          from_one = f.from_one;
+          to_count = let a = agree.there in omega arith;
+          is_new = f.is_new;
+          not_early = let a = f.not_early in omega arith;
+          not_late = let a = f.not_late in omega arith;
+          after = λ a b. elim (cases_lt a d) [
+            | inl a_low ↦ f.after a (agree.same_before a r a_low low b)
+            | inr high ↦ let h = agree.same_above a r high low b in absurd (let i = in_low d h.0 rs before (f.after h.0 h.2) in let j = h.1 in omega arith)
+          ];
+        };
+        due = λ x one e. l.0.due x one (omega arith);
+      },
+      agree_legal d g g' agree rs l.1 (omega arith),
+    )
+
+-- and what lands there, with its second and its cost
+pub agree_landed : (d : ℕ) (Open Open' : ℕ → ℕ → Type 0) (after after' : ℕ → ℕ → ℕ → ℕ) (cost cost' : ℕ → ℕ → ℕ) → SameLandings d Open Open' after after' cost cost' → 0 < d → (xs : List Landing) → AllByRecursion (λ r. r < d) (ranks xs) → Landed Open after xs → Landed Open' after' xs × (pair_of cost xs ≡ pair_of cost' xs)
+agree_landed d Open Open' after after' cost cost' same pos [] low l = (tt, refl)
+agree_landed d Open Open' after after' cost cost' same pos (x ∷ xs) low l =
+    let rest = agree_landed d Open Open' after after' cost cost' same pos xs low.1 l.2 in
+    let e = same.same_after (latest_landing xs).0 (latest_landing xs).1 x.0 (last_low xs low.1) low.0 in
+    ((same.same_open x.0 x.1 low.0 l.0, subst (λ t. t ≤ x.1) e l.1, rest.0), ap (λ c. (x.1, c)) (ap₂ ◌+◌ (ap (λ p. p.1) rest.1) (same.same_cost x.0 x.1 low.0)))
+  where
+    last_low : (ys : List Landing) → AllByRecursion (λ r. r < d) (ranks ys) → (latest_landing ys).0 < d
+    last_low [] a = pos
+    last_low (y ∷ ys) a = a.0
+
+-- so a node of a stage below d - k attains the same pairs in both
+pub agree_attained : (W : Type 0) (d : ℕ) (g g' : OrderRules) (Open Open' : ℕ → ℕ → Type 0) (after after' : ℕ → ℕ → ℕ → ℕ) (cost cost' : ℕ → ℕ → ℕ) (node : List ℕ → W) → AgreeBelow d g g' → SameLandings d Open Open' after after' cost cost' → 0 < d → (w : W) (p : Pair) (a : Attained Open after cost (Legal g) node w p) → length (ranks a.landings) + g.most < d → Attained Open' after' cost' (Legal g') node w p
+agree_attained W d g g' Open Open' after after' cost cost' node agree same pos w p a lt =
+    let l = agree_landed d Open Open' after after' cost cost' same pos a.landings (low_ranks g d (ranks a.landings) (legal_each_fits g (ranks a.landings) a.legal) lt) a.landed in
+    record {
+      landings = a.landings;
+      legal = agree_legal d g g' agree (ranks a.landings) a.legal lt;
+      landed = l.0;
+      at = a.at;
+      is = sym l.1 ∙ a.is;
+    }
+
+-- agreement up to d is agreement up to less
+pub agree_lower : (d e : ℕ) (g g' : OrderRules) → e ≤ d → AgreeBelow d g g' → AgreeBelow e g g'
+agree_lower d e g g' le a = record {
+  same_most = a.same_most;
+  there = let b = a.there in omega arith;
+  same_back = λ r lt. a.same_back r (omega arith);
+  same_before = λ x r lx lr. a.same_before x r (omega arith) (omega arith);
+  same_above = λ x r hx lr b. elim (cases_lt x d) [ inl lt ↦ (x, hx, a.same_before x r lt (omega arith) b) | inr ge ↦ let h = a.same_above x r ge (omega arith) b in (h.0, let c = h.1 in omega arith, h.2) ];
+}

@@ -1,0 +1,147 @@
+-- The order of nodes is total, so a binary search in states in that order finds the one of a node, and what it lists is all that is listed there.
+-- Cited by cert_check.
+use Rattle.std.proofs.Common.{◌≡◌, ℕ, zero, suc, ◌+◌, ◌<◌, ◌≤◌, inl, inr, Bool, true, false, ◌||◌, List, [], ◌∷◌, length, get_or, refl, sym, ap, ap₂, subst, ◌∙◌, arith}
+use Rattle.std.specs.List.{list_any}
+use Rattle.std.specs.Ordering.{nat_cmp, bool_cmp, ordering_then, ordering_reverse, ordering_index, is_eq, is_lt}
+use Rattle.std.specs.declared.cmp.Ordering.{Ordering}
+use Rattle.std.specs.declared.cmp.Ordering.TheVariants.{Less, Equal, Greater}
+use Rattle.std.specs.Cmp.{nat_cmp_is, IsTotalOrder, bool_cmp_total}
+use Rattle.std.specs.Cmp.Lexicographic.{slice_cmp}
+use Rattle.std.specs.List.Sorted.{IsNonDecreasingBy}
+use Rattle.std.proofs.lemmas.Cmp.{then_total, on_total, nat_cmp_total, lists_total}
+use Rattle.std.proofs.lemmas.List.Sorted.{IsNonDecreasingBy-from_all_adjacent}
+use Rattle.std.proofs.lemmas.Bool.{cases_lt, cases_eq}
+use Rattle.cps_theory.specs.Labels.{Pair, no_worse}
+use Rattle.cps_theory.specs.Patterns.{PatternNode}
+use Rattle.cps_theory.specs.CertificateClosure.{InNodeOrder, covers, covers_at, node_cmp}
+
+nat_tie : (m n : ℕ) → nat_cmp m n ≡ Equal → m ≡ n
+nat_tie m n e = elim (cases_lt m n) [
+  | inl lt ↦ let h = nat_cmp_is m n Less lt in absurd (cc)
+  | inr le ↦ elim (cases_eq m n) [ inl same ↦ same | inr ne ↦ let h = nat_cmp_is m n Greater (omega arith) in absurd (cc) ]
+]
+
+then_tie : (a b : Ordering) → ordering_then a b ≡ Equal → (a ≡ Equal) × (b ≡ Equal)
+then_tie Less b e = absurd (cc)
+then_tie Equal b e = (refl, e)
+then_tie Greater b e = absurd (cc)
+
+bool_tie : (a b : Bool) → bool_cmp a b ≡ Equal → a ≡ b
+bool_tie true true e = refl
+bool_tie false false e = refl
+bool_tie true false e = absurd (cc)
+bool_tie false true e = absurd (cc)
+
+list_tie : (xs ys : List Bool) → slice_cmp bool_cmp xs ys ≡ Equal → xs ≡ ys
+list_tie [] [] e = refl
+list_tie [] (y ∷ ys) e = absurd (cc)
+list_tie (x ∷ xs) [] e = absurd (cc)
+list_tie (x ∷ xs) (y ∷ ys) e = let t = then_tie (bool_cmp x y) (slice_cmp bool_cmp xs ys) e in ap₂ ◌∷◌ (bool_tie x y t.0) (list_tie xs ys t.1)
+
+pub eq_of : (o : Ordering) → is_eq o ≡ true → o ≡ Equal
+eq_of Less e = absurd (cc)
+eq_of Equal e = refl
+eq_of Greater e = absurd (cc)
+
+abbrev pack : ℕ → List Bool → ℕ → PatternNode
+pack i xs m = (i, xs, m)
+
+pub node_tie : (a b : PatternNode) → node_cmp a b ≡ Equal → a ≡ b
+node_tie a b e =
+    let s = then_tie (nat_cmp a.0 b.0) _ e in
+    let t = then_tie (slice_cmp bool_cmp a.1 b.1) (nat_cmp a.2 b.2) s.1 in
+    let x = nat_tie a.0 b.0 s.0 in
+    let y = list_tie a.1 b.1 t.0 in
+    let z = nat_tie a.2 b.2 t.1 in
+    whole a.0 b.0 a.1 b.1 a.2 b.2 x y z
+  where
+    whole : (i j : ℕ) (xs ys : List Bool) (m n : ℕ) → i ≡ j → xs ≡ ys → m ≡ n → pack i xs m ≡ pack j ys n
+    whole i j xs ys m n e f h = rw (e, f, h) refl
+
+pub node_total : IsTotalOrder node_cmp
+node_total = then_total (on_total (λ (w : PatternNode). w.0) nat_cmp_total) (then_total (on_total (λ (w : PatternNode). w.1) (lists_total bool_cmp_total)) (on_total (λ (w : PatternNode). w.2) nat_cmp_total))
+
+less_of : (o : Ordering) → is_lt o ≡ true → o ≡ Less
+less_of Less e = refl
+less_of Equal e = absurd cc
+less_of Greater e = absurd cc
+
+module _ {S : Type 0} (node_of : S → PatternNode) (pairs_of : S → List Pair) where
+  -- the order of a state and a node
+  abbrev pub to_node : PatternNode → S → Ordering
+  to_node w s = node_cmp (node_of s) w
+
+  -- a state before one that is at the place, or before it, is before it
+  before_equal : (s t : S) (w : PatternNode) → node_cmp (node_of s) (node_of t) ≡ Less → to_node w t ≡ Equal → to_node w s ≡ Less
+  before_equal s t w lt eq =
+      let o = node_total in
+      let back : node_cmp (node_of t) (node_of s) ≡ Greater = o.antisymm (node_of t) (node_of s) ∙ ap ordering_reverse lt in
+      let same : node_cmp (node_of t) (node_of s) ≡ node_cmp w (node_of s) = o.congr (node_of t) w (node_of s) eq in
+      o.antisymm (node_of s) w ∙ ap ordering_reverse (sym same ∙ back)
+
+  -- a state after one that is at the place is after it
+  after_equal : (s t : S) (w : PatternNode) → node_cmp (node_of s) (node_of t) ≡ Less → to_node w s ≡ Equal → to_node w t ≡ Greater
+  after_equal s t w lt eq =
+      let o = node_total in
+      let same : node_cmp (node_of s) (node_of t) ≡ node_cmp w (node_of t) = o.congr (node_of s) w (node_of t) eq in
+      o.antisymm (node_of t) w ∙ ap ordering_reverse (sym same ∙ lt)
+
+  rising : (s t : S) (w : PatternNode) → node_cmp (node_of s) (node_of t) ≡ Less → ordering_index (to_node w s) ≤ ordering_index (to_node w t)
+  rising s t w lt = go (to_node w t) refl
+    where
+      top : (o : Ordering) → ordering_index o ≤ 2
+      top Less = omega arith
+      top Equal = omega arith
+      top Greater = omega arith
+
+      go : (o : Ordering) → to_node w t ≡ o → ordering_index (to_node w s) ≤ ordering_index (to_node w t)
+      go Less e = let l : to_node w s ≡ Less = node_total.trans (node_of s) (node_of t) w lt e in let a = ap ordering_index l in omega arith
+      go Equal e = let l = before_equal s t w lt e in let a = ap ordering_index l in omega arith
+      go Greater e = let a = ap ordering_index e in let b = top (to_node w s) in omega arith
+
+  adjacent : (w : PatternNode) (ss : List S) → InNodeOrder node_of pairs_of ss → (k : ℕ) (d : S) → k + 1 < length ss → ordering_index (to_node w (get_or ss k d)) ≤ ordering_index (to_node w (get_or ss (k + 1) d))
+  adjacent w [] h k d lt = absurd (omega arith)
+  adjacent w (a ∷ []) h k d lt = absurd (omega arith)
+  adjacent w (a ∷ b ∷ rest) h zero d lt = rising a b w (less_of (node_cmp (node_of a) (node_of b)) h.0)
+  adjacent w (a ∷ b ∷ rest) h (suc k) d lt =
+      let e : suc k + 1 ≡ suc (k + 1) = omega arith in
+      let more = adjacent w (b ∷ rest) h.1 k d (omega arith) in
+      subst (λ (j : ℕ). ordering_index (to_node w (get_or (b ∷ rest) k d)) ≤ ordering_index (to_node w (get_or (a ∷ b ∷ rest) j d))) (sym e) more
+
+  pub non_decreasing : (w : PatternNode) (ss : List S) → InNodeOrder node_of pairs_of ss → IsNonDecreasingBy (λ s. ordering_index (to_node w s)) ss
+  non_decreasing w ss h = IsNonDecreasingBy-from_all_adjacent (λ s. ordering_index (to_node w s)) ss (λ k d lt. adjacent w ss h k d lt)
+
+  -- the first of an ascending list comes before each other
+  head_below : (a : S) (rest : List S) → InNodeOrder node_of pairs_of (a ∷ rest) → (k : ℕ) (d : S) → k < length rest → node_cmp (node_of a) (node_of (get_or rest k d)) ≡ Less
+  head_below a [] h k d lt = absurd (omega arith)
+  head_below a (b ∷ rest) h zero d lt = less_of (node_cmp (node_of a) (node_of b)) h.0
+  head_below a (b ∷ rest) h (suc k) d lt = node_total.trans (node_of a) (node_of b) (node_of (get_or rest k d)) (less_of (node_cmp (node_of a) (node_of b)) h.0) (head_below b rest h.1 k d (omega arith))
+
+  -- ---- what is listed at a place
+
+  not_at : (w : PatternNode) (q : Pair) (s : S) → is_eq (to_node w s) ≡ false → covers_at node_of pairs_of w q s ≡ false
+  not_at w q s e = rw e refl
+
+  pub none_covers : (w : PatternNode) (q : Pair) (ss : List S) → ((k : ℕ) (d : S) → k < length ss → is_eq (to_node w (get_or ss k d)) ≡ false) → covers node_of pairs_of ss w q ≡ false
+  unfolding covers
+  none_covers w q [] h = refl
+  none_covers w q (s ∷ ss) h = rw (not_at w q s (h zero s (omega arith))) (none_covers w q ss (λ k d lt. h (suc k) d (omega arith)))
+
+  tail_ascending : (a : S) (rest : List S) → InNodeOrder node_of pairs_of (a ∷ rest) → InNodeOrder node_of pairs_of rest
+  tail_ascending a [] h = tt
+  tail_ascending a (b ∷ rest) h = h.1
+
+  pub found_covers : (w : PatternNode) (q : Pair) (ss : List S) → InNodeOrder node_of pairs_of ss → (i : ℕ) (d : S) → i < length ss → to_node w (get_or ss i d) ≡ Equal → covers node_of pairs_of ss w q ≡ list_any (λ o. no_worse o q) (pairs_of (get_or ss i d))
+  unfolding covers
+  found_covers w q [] h i d lt e = absurd (omega arith)
+  found_covers w q (s ∷ ss) h zero d lt e =
+      let rest : covers node_of pairs_of ss w q ≡ false = none_covers w q ss (λ k f l. ap is_eq (after_equal s (get_or ss k f) w (head_below s ss h k f l) e)) in
+      let here : covers_at node_of pairs_of w q s ≡ list_any (λ o. no_worse o q) (pairs_of s) = rw (ap is_eq e) refl in
+      rw (rest, here) (or_false (list_any (λ o. no_worse o q) (pairs_of s)))
+    where
+      or_false : (b : Bool) → b || false ≡ b
+      or_false true = refl
+      or_false false = refl
+  found_covers w q (s ∷ ss) h (suc i) d lt e =
+      let out = not_at w q s (ap is_eq (before_equal s (get_or ss i d) w (head_below s ss h i d (omega arith)) e)) in
+      rw out (found_covers w q ss (tail_ascending s ss h) i d (omega arith) e)

@@ -1,0 +1,41 @@
+-- The ranks below x, as a loop goes up through them: one more rank, one more greatest second.
+-- Cited by cert_check and LeastObjective.
+use Rattle.std.proofs.Common.{◌≡◌, ℕ, zero, suc, ◌+◌, ◌-◌, ◌≤◌, ◌∷◌, max, arith, sym, ap, ◌∙◌, inl, inr, length, cond, refl, ltb}
+use Rattle.std.proofs.lemmas.Bool.{cases_eq, lt-ltb, le-ltb}
+use Rattle.cps_theory.specs.RankLists.{In, IsRank, upto}
+use Rattle.cps_theory.specs.Feasible.{greatest}
+use Rattle.cps_theory.specs.laws.RankCounts.{count_length, count}
+
+pub upto_more : (x : ℕ) → 1 ≤ x → upto (x + 1 - 1) ≡ x ∷ upto (x - 1)
+upto_more zero one = absurd (omega arith)
+upto_more (suc x) one = let a : suc x + 1 - 1 ≡ suc x = omega arith in let b : suc x - 1 ≡ x = omega arith in ap upto a ∙ ap (λ (y : ℕ). suc x ∷ upto y) (sym b)
+
+pub greatest_more : (t : ℕ → ℕ) (x : ℕ) → 1 ≤ x → greatest t (x + 1 - 1) ≡ max (t x) (greatest t (x - 1))
+greatest_more t zero one = absurd (omega arith)
+greatest_more t (suc x) one = let a : suc x + 1 - 1 ≡ suc x = omega arith in let b : suc x - 1 ≡ x = omega arith in ap (greatest t) a ∙ ap (λ (y : ℕ). max (t (suc x)) (greatest t y)) (sym b)
+
+pub greatest_least : (t : ℕ → ℕ) (n m : ℕ) → ((r : ℕ) → IsRank n r → t r ≤ m) → greatest t n ≤ m
+greatest_least t zero m h = omega arith
+greatest_least t (suc n) m h = let a = greatest_least t n m (λ r q. h r (q.0, omega arith)) in let b = h (suc n) (omega arith, omega arith) in omega arith
+
+pub at_most_greatest : (t : ℕ → ℕ) (n r : ℕ) → IsRank n r → t r ≤ greatest t n
+at_most_greatest t zero r q = absurd (omega arith)
+at_most_greatest t (suc n) r q = elim (cases_eq r (suc n)) [ inl e ↦ let s = ap t e in omega arith | inr ne ↦ let a = at_most_greatest t n r (q.0, omega arith) in omega arith ]
+
+pub in_upto : (n x : ℕ) → In x (upto n) → IsRank n x
+in_upto zero x i = absurd i
+in_upto (suc n) x (inl e) = (omega arith, omega arith)
+in_upto (suc n) x (inr i) = let a = in_upto n x i in (a.0, omega arith)
+
+pub length-upto : (n : ℕ) → length (upto n) ≡ n
+length-upto zero = refl
+length-upto (suc n) = ap suc (length-upto n)
+
+pub count_below : (n r : ℕ) → 1 ≤ r → r ≤ suc n → suc (count (λ q. ltb q r) (upto n)) ≡ r
+count_below zero r one le = omega arith
+count_below (suc n) r one le =
+    let ih = count_below n r one in
+    elim (cases_eq r (suc (suc n))) [
+      | inl e ↦ let a = count_length (λ q. ltb q r) (suc n ∷ upto n) (λ x i. let b = in_upto (suc n) x i in lt-ltb x r (omega arith)) in let c = length-upto n in omega arith
+      | inr ne ↦ let a = ap (λ b. cond {A = ℕ} b 1 0) (le-ltb (suc n) r (omega arith)) in let b = ih (omega arith) in omega arith
+    ]
