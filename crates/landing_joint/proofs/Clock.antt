@@ -1,0 +1,363 @@
+-- A clock event keeps the plan feasible.
+use Rattle.std.proofs.Common.{◌≡◌, ℕ, zero, suc, ◌+◌, ◌-◌, ◌*◌, ◌<◌, ◌≤◌, ◌⊎◌, inl, inr, min, List, [], ◌∷◌, length, get_or, map, filter, cond, Bool, true, false, not, ◌&&◌, nat_le, nat_lt, count_by, sum_by, unwrap_or, zero-le, arith, refl, sym, ap, ap₂, subst, ◌∙◌}
+use Rattle.std.specs.Prelude.{All, IsTrue, Option, Some, None, is_none, if◌then◌else◌}
+use Rattle.std.proofs.lemmas.Bool.{cases_lt, cases_Bool, and_parts, lt-ltb, ltb-true, ltb-false, false≢true, false_from_ne_true}
+use Rattle.std.specs.Ordering.{is_lt, ordering_then, nat_cmp}
+use Rattle.std.proofs.lemmas.List.Sums.{sum_by-cons}
+use Rattle.wake_table.specs.Table.{separation}
+use Rattle.landing_rules.specs.declared.objective.Objective.{Objective}
+use Rattle.landing_rules.specs.declared.objective.Objective.TheVariants.{Makespan, Delay}
+use Rattle.landing_rules.specs.Flights.{Flight, Active, Situation, Schedule, Landing, landing, landings, is_waiting, waiting, horizon, horizon_after}
+use Rattle.landing_rules.specs.Rules.{last_second, is_open, lists, arrival_cmp, ArePairSeparated, IsPairInPrecedence, greatest, delay, cost, objective, IsFeasible}
+use Rattle.landing_rules.specs.Events.{State, IsAcceptedStep, Clock, frozen_landings, freezes, after_clock, clock_back, refusal, Refusal, ClockBack, situation_after, IsPlanShown}
+use Rattle.landing_rules.specs.Sound.{IsGoodFlight, ListsNone, IsSound, IsSoundState}
+use Rattle.cps_theory.specs.RankLists.{In}
+use Rattle.cps_theory.specs.Freeze.{rank_in, place_in, staying_of, overtook}
+use Rattle.cps_theory.specs.NumberedSituation as numbers
+use Rattle.cps_theory.specs.laws.Members.{in_filter}
+use Rattle.cps_theory.specs.laws.ShiftAfterFreeze.{stays_shifted}
+use Rattle.landing_joint.specs.Numbered.{nobody, numbered, second_of, numbers_of, waits_at, comes_before, numbered_situation}
+use Rattle.landing_joint.specs.ClockLaws.{ClockKeepsPlanLaw, ClockShowsPlanLaw, ClockKeepsSoundLaw}
+use Rattle.landing_joint.proofs.Numbered.{landing_at, landings_are}
+use Rattle.landing_joint.proofs.Joint.{comes_is, among, all_among, feasible_numbered, numbered_feasible, sound_numbered, first_come, some_of, active_are, list_frozen, callsigns_differ, passed_low}
+use Rattle.cps_theory.specs.RankLists.{numbers_from}
+use Rattle.cps_theory.specs.laws.Members.{filter_in}
+use Rattle.cps_theory.specs.laws.NumberedLists.{count_by_map, count_by_agree, map_map, filter_map_is, at_all, in_numbers, numbers_in}
+
+-- ---- lists
+
+numbered_map : (f : ℕ → Active) (b n i : ℕ) → i < n → get_or (map f (numbers_from b n)) i nobody ≡ f (b + i)
+numbered_map f b zero i lt = absurd (omega arith)
+numbered_map f b (suc n) zero lt = ap f (omega arith)
+numbered_map f b (suc n) (suc i) lt = numbered_map f (suc b) n i (omega arith) ∙ ap f (omega arith)
+
+get_or_any : {X : Type 0} (xs : List X) (i : ℕ) (d e : X) → i < length xs → get_or xs i d ≡ get_or xs i e
+get_or_any [] i d e lt = absurd (omega arith)
+get_or_any (x ∷ xs) zero d e lt = refl
+get_or_any (x ∷ xs) (suc i) d e lt = get_or_any xs i d e (omega arith)
+
+length_map : {X Y : Type 0} (f : X → Y) (xs : List X) → length (map f xs) ≡ length xs
+length_map f [] = refl
+length_map f (x ∷ xs) = ap suc (length_map f xs)
+
+length_numbers : (b n : ℕ) → length (numbers_from b n) ≡ n
+length_numbers b zero = refl
+length_numbers b (suc n) = ap suc (length_numbers (suc b) n)
+
+filter_agree : (p q : ℕ → Bool) (xs : List ℕ) → ((x : ℕ) → In x xs → p x ≡ q x) → filter p xs ≡ filter q xs
+filter_agree p q [] h = refl
+filter_agree p q (x ∷ xs) h = ap₂ (λ b l. cond b (x ∷ l) l) (h x (inl refl)) (filter_agree p q xs (λ y i. h y (inr i)))
+
+filter_twice : (p q : ℕ → Bool) (xs : List ℕ) → filter p (filter q xs) ≡ filter (λ x. q x && p x) xs
+filter_twice p q [] = refl
+filter_twice p q (x ∷ xs) = go (q x) (filter_twice p q xs)
+  where
+    go : (b : Bool) → filter p (filter q xs) ≡ filter (λ y. q y && p y) xs → filter p (cond b (x ∷ filter q xs) (filter q xs)) ≡ cond (b && p x) (x ∷ filter (λ y. q y && p y) xs) (filter (λ y. q y && p y) xs)
+    go true e = ap (λ l. cond (p x) (x ∷ l) l) e
+    go false e = e
+
+map_agree : {Y : Type 0} (f g : ℕ → Y) (xs : List ℕ) → ((x : ℕ) → In x xs → f x ≡ g x) → map f xs ≡ map g xs
+map_agree f g [] h = refl
+map_agree f g (x ∷ xs) h = ap₂ (λ y l. y ∷ l) (h x (inl refl)) (map_agree f g xs (λ y i. h y (inr i)))
+
+-- what the clock makes of a landing: of its flight, its second, how many passed it before and after, whether it is before the horizon, and whether counts are carried
+pub record Froze (fl : Flight) (fr : Option ℕ) (pa sec m : ℕ) (d c : Bool) (a : Active) : Type 0 where
+  pub flight : a.flight ≡ fl
+  pub waits : is_none a.frozen ≡ (is_none fr && not d)
+  pub second : is_none a.frozen ≡ false → is_none fr ≡ true → a.frozen ≡ Some sec
+  pub was : is_none fr ≡ false → a.frozen ≡ fr
+  pub passed : (a.passed ≡ pa) ⊎ ((a.passed ≡ 0) ⊎ ((c ≡ true) × (a.passed ≡ m)))
+
+froze : (fl : Flight) (fr : Option ℕ) (pa sec m : ℕ) (d c : Bool) → Froze fl fr pa sec m d c (cond (is_none fr && d) (record { flight = fl; frozen = Some sec; passed = 0 }) (cond (is_none fr) (record { flight = fl; frozen = None; passed = cond c m pa }) (record { flight = fl; frozen = fr; passed = pa })))
+froze fl (Some v) pa sec m d c = record { flight = refl; waits = refl; second = λ e x. absurd (false≢true x); was = λ e. refl; passed = inl refl }
+froze fl None pa sec m true c = record { flight = refl; waits = refl; second = λ e x. refl; was = λ e. absurd (false≢true (sym e)); passed = inr (inl refl) }
+froze fl None pa sec m false true = record { flight = refl; waits = refl; second = λ e x. absurd (false≢true (sym e)); was = λ e. refl; passed = inr (inr (refl, refl)) }
+froze fl None pa sec m false false = record { flight = refl; waits = refl; second = λ e x. absurd (false≢true (sym e)); was = λ e. refl; passed = inl refl }
+
+module _ (s : Situation) (sound : IsSound s) (t : Schedule) (f : IsFeasible s t) (now : ℕ) (forth : horizon s ≤ now + s.aerodrome.freeze) where
+  abbrev h : ℕ
+  h = now + s.aerodrome.freeze
+
+  abbrev all : List Landing
+  all = landings s.active t
+
+  abbrev after : List Active
+  after = map (after_clock s.aerodrome h all) all
+
+  abbrev changed : Situation
+  changed = situation_after s (Some t) (Clock now)
+
+  T : ℕ → ℕ
+  T = second_of t
+
+  abbrev ns : numbers.NumberedSituation
+  ns = numbered_situation s
+
+  after_is : after ≡ map (λ i. after_clock s.aerodrome h all (landing_at s.active t i)) (numbers_of s.active)
+  after_is = ap (map (after_clock s.aerodrome h all)) (landings_are s.active t f.0) ∙ map_map (after_clock s.aerodrome h all) (landing_at s.active t) (numbers_of s.active)
+
+  pub length_after : length after ≡ length s.active
+  length_after = ap length after_is ∙ length_map (λ i. after_clock s.aerodrome h all (landing_at s.active t i)) (numbers_of s.active) ∙ length_numbers 0 (length s.active)
+
+  -- so the numbers stay
+  numbers_after : numbers_of after ≡ numbers_of s.active
+  numbers_after = ap (numbers_from 0) length_after
+
+  abbrev count_passing : ℕ → ℕ
+  count_passing i = count_by (λ (g : Landing). is_lt (arrival_cmp (numbered s.active i).flight g.flight)) (filter (freezes h) all)
+
+  pub at_after : (i : ℕ) → In i (numbers_of s.active) → Froze (numbered s.active i).flight (numbered s.active i).frozen (numbered s.active i).passed (second_of t i) (min s.aerodrome.k ((numbered s.active i).passed + count_passing i)) (nat_lt (second_of t i) h) s.aerodrome.carry (numbered after i)
+  at_after i m =
+      let b = in_numbers 0 (length s.active) i m in
+      let e : numbered after i ≡ after_clock s.aerodrome h all (landing_at s.active t i) =
+      ap (λ l. numbered l i) after_is ∙ numbered_map (λ j. after_clock s.aerodrome h all (landing_at s.active t j)) 0 (length s.active) i (omega (arith, b.1)) ∙ ap (λ j. after_clock s.aerodrome h all (landing_at s.active t j)) (omega arith) in
+      subst (λ a. Froze (numbered s.active i).flight (numbered s.active i).frozen (numbered s.active i).passed (second_of t i) (min s.aerodrome.k ((numbered s.active i).passed + count_passing i)) (nat_lt (second_of t i) h) s.aerodrome.carry a) (sym e)
+      (froze (numbered s.active i).flight (numbered s.active i).frozen (numbered s.active i).passed (second_of t i) (min s.aerodrome.k ((numbered s.active i).passed + count_passing i)) (nat_lt (second_of t i) h) s.aerodrome.carry)
+
+  -- those that wait after it are those that stay
+  waits_after : (i : ℕ) → In i (numbers_of s.active) → waits_at after i ≡ (waits_at s.active i && not (nat_lt (second_of t i) h))
+  waits_after i m = (at_after i m).waits
+
+  waiting_after : (numbered_situation changed).waiting ≡ staying_of (second_of t) h ns.waiting
+  waiting_after =
+      ap (filter (waits_at after)) numbers_after ∙ filter_agree (waits_at after) (λ i. waits_at s.active i && not (nat_lt (second_of t i) h)) (numbers_of s.active) waits_after
+      ∙ sym (filter_twice (λ i. not (nat_lt (second_of t i) h)) (waits_at s.active) (numbers_of s.active))
+
+  -- as many pass a flight as overtake it by number
+  passing_is : (i : ℕ) → In i (numbers_of s.active) → count_passing i ≡ overtook (comes_before s.active) (second_of t) h ns.waiting i
+  passing_is i m =
+      let fl = (numbered s.active i).flight in
+      let L = landing_at s.active t in
+      let N = numbers_of s.active in
+      let front = filter (λ j. waits_at s.active j && nat_lt (second_of t j) h) N in
+      let a : filter (freezes h) all ≡ map L front = ap (filter (freezes h)) (landings_are s.active t f.0) ∙ filter_map_is (freezes h) L N in
+      ap (count_by (λ (g : Landing). is_lt (arrival_cmp fl g.flight))) a ∙ count_by_map (λ (g : Landing). is_lt (arrival_cmp fl g.flight)) L front
+      ∙ count_by_agree (λ j. is_lt (arrival_cmp fl (numbered s.active j).flight)) (λ j. comes_before s.active i j) front (λ j k. sym (comes_is s sound i j m (in_filter (λ x. waits_at s.active x && nat_lt (second_of t x) h) j N k).0))
+      ∙ ap (count_by (λ j. comes_before s.active i j)) (sym (filter_twice (λ j. nat_lt (second_of t j) h) (waits_at s.active) N))
+
+  -- ---- the situation stays sound
+
+  fn : numbers.FeasibleIn (numbered_situation s) (second_of t)
+  fn = feasible_numbered s sound t f.0 f
+
+  same_flight : (i : ℕ) → In i (numbers_of s.active) → (numbered after i).flight ≡ (numbered s.active i).flight
+  same_flight i m = (at_after i m).flight
+
+  in_after : (i : ℕ) → i < length after → In i (numbers_of s.active)
+  in_after i lt = let e = length_after in numbers_in 0 (length s.active) i zero-le (omega arith)
+
+  -- what is frozen after it is frozen at its second of the plan, before the horizon
+  frozen_after : (i : ℕ) → In i (numbers_of s.active) → (u : ℕ) → (numbered after i).frozen ≡ Some u → (u ≡ second_of t i) × (second_of t i < h)
+  frozen_after i m u e = elim (cases_Bool (is_none (numbered s.active i).frozen)) [
+    | inl w ↦
+        (let gone : is_none (numbered after i).frozen ≡ false = ap is_none e in
+        let lt : nat_lt (second_of t i) h ≡ true = early (is_none (numbered s.active i).frozen) (nat_lt (second_of t i) h) w (sym gone ∙ (at_after i m).waits) in
+        (some_same u (second_of t i) (sym e ∙ (at_after i m).second gone w), ltb-true (second_of t i) h lt))
+    | inr w ↦
+        (let o : (numbered s.active i).frozen ≡ Some u = sym ((at_after i m).was w) ∙ e in
+        let j : In i ns.frozen = filter_in (λ x. not (waits_at s.active x)) i (numbers_of s.active) m (ap not w) in
+        let k : second_of t i ≡ unwrap_or (numbered s.active i).frozen 0 = fn.kept i j in
+        let k' : second_of t i ≡ u = k ∙ ap (λ x. unwrap_or x 0) o in
+        let b = (sound_numbered s sound).frozen_before i j in
+        (sym k', omega arith))
+  ]
+    where
+      some_same : (a b : ℕ) → Some a ≡ Some b → a ≡ b
+      some_same a b e = cc
+
+      early : (a b : Bool) → a ≡ true → false ≡ (a && not b) → b ≡ true
+      early true true p q = refl
+      early true false p q = q
+      early false b p q = absurd (false≢true p)
+
+  late_after : (i : ℕ) → In i (numbered_situation changed).waiting → In i (numbers_of s.active) × (waits_at s.active i ≡ true) × (h ≤ second_of t i)
+  late_after i m =
+      let w = in_filter (λ x. not (nat_lt (second_of t x) h)) i ns.waiting (subst (In i) waiting_after m) in
+      let v = in_filter (waits_at s.active) i (numbers_of s.active) w.0 in
+      (v.0, v.1, elim (cases_lt (second_of t i) h) [ inl lt ↦ absurd (false≢true (sym (ap not (lt-ltb (second_of t i) h lt)) ∙ w.1)) | inr le ↦ le ])
+
+  waiting_changed : waiting changed ≡ map (numbered after) (numbered_situation changed).waiting
+  waiting_changed = ap (filter is_waiting) (active_are after) ∙ filter_map_is is_waiting (numbered after) (numbers_of after)
+
+  waiting_before : waiting s ≡ map (numbered s.active) ns.waiting
+  waiting_before = ap (filter is_waiting) (active_are s.active) ∙ filter_map_is is_waiting (numbered s.active) (numbers_of s.active)
+
+  pub few_after : length (waiting changed) ≤ length (waiting s)
+  few_after =
+      let a = ap length waiting_changed ∙ length_map (numbered after) (numbered_situation changed).waiting ∙ ap length waiting_after in
+      let b = ap length waiting_before ∙ length_map (numbered s.active) ns.waiting in
+      let c = few_filter (λ x. not (nat_lt (second_of t x) h)) ns.waiting in
+      omega arith
+    where
+      few_filter : (p : ℕ → Bool) (xs : List ℕ) → length (filter p xs) ≤ length xs
+      few_filter p [] = omega arith
+      few_filter p (x ∷ xs) = go (p x) (few_filter p xs)
+        where
+          go : (b : Bool) → length (filter p xs) ≤ length xs → length (cond b (x ∷ filter p xs) (filter p xs)) ≤ suc (length xs)
+          go true e = omega arith
+          go false e = omega arith
+
+  each_after : (P : Active → Type 0) → ((i : ℕ) → In i (numbers_of s.active) → P (numbered after i)) → All P after
+  each_after P q i d lt = subst P (get_or_any after i nobody d lt) (q i (in_after i lt))
+
+  each_frozen_after : (P : Landing → Type 0) → ((i : ℕ) → In i (numbers_of s.active) → second_of t i < h → P (landing (numbered after i) (second_of t i))) → All P (frozen_landings changed)
+  each_frozen_after P q = list_frozen P after (λ i lt u e. let m = in_after i lt in let x = frozen_after i m u e in subst (λ v. P (landing (numbered after i) v)) (sym x.0) (q i m x.1))
+
+  pub sound_after : IsSound changed
+  sound_after = record {
+    table = sound.table;
+    callsigns = λ i j d lt ltj e.
+        let mi = in_after i (omega arith) in
+        let mj = in_after j ltj in
+        let ei = get_or_any after i d nobody (omega arith) in
+        let ej = get_or_any after j d nobody ltj in
+        callsigns_differ s sound i j mi mj (λ x. omega arith)
+        (ap (λ (x : Flight). x.callsign) (sym (same_flight i mi)) ∙ ap (λ (a : Active). a.flight.callsign) (sym ei) ∙ e ∙ ap (λ (a : Active). a.flight.callsign) ej ∙ ap (λ (x : Flight). x.callsign) (same_flight j mj));
+    few_active = let a = sound.few_active in let b = length_after in omega arith;
+    few_waiting = let a = sound.few_waiting in let b = few_after in omega arith;
+    few_closures = sound.few_closures;
+    flights = each_after (λ a. IsGoodFlight a.flight) (λ i m. let b = in_numbers 0 (length s.active) i m in subst IsGoodFlight (sym (same_flight i m)) (sound.flights i nobody (omega (arith, b.1))));
+    passed = each_after (λ a. a.passed ≤ s.aerodrome.k) (λ i m. let o = passed_low s sound t f.0 i m in elim (at_after i m).passed [ inl e ↦ omega arith | inr x ↦ elim x [ inl e ↦ omega arith | inr y ↦ (let e = y.1 in omega arith) ] ]);
+    no_carry = λ c. each_after (λ a. a.passed ≡ 0) (λ i m.
+        let b = in_numbers 0 (length s.active) i m in
+        let o : (numbered s.active i).passed ≡ 0 = sound.no_carry c i nobody (omega (arith, b.1)) in
+        elim (at_after i m).passed [ inl e ↦ e ∙ o | inr x ↦ elim x [ inl e ↦ e | inr y ↦ absurd (false≢true (sym c ∙ y.0)) ] ]);
+    frozen_open = each_frozen_after (λ g. IsTrue (is_open g.flight.windows s.closures g.second)) (λ i m lt.
+        subst (λ (x : Flight). is_open x.windows s.closures (second_of t i) ≡ true) (sym (same_flight i m)) (and_parts (nat_le (second_of t i) last_second) (is_open (numbered s.active i).flight.windows s.closures (second_of t i)) (fn.opened i (all_among s sound i m))).1);
+    frozen_separated = each_frozen_after (λ g. All (ArePairSeparated s.aerodrome.table g) (frozen_landings changed)) (λ i m lt. each_frozen_after (ArePairSeparated s.aerodrome.table (landing (numbered after i) (second_of t i))) (λ j k lt'. λ ne le.
+        subst (λ (y : Flight). second_of t i + separation s.aerodrome.table (numbered after i).flight.category y.category ≤ second_of t j) (sym (same_flight j k))
+        (subst (λ (x : Flight). second_of t i + separation s.aerodrome.table x.category (numbered s.active j).flight.category ≤ second_of t j) (sym (same_flight i m))
+        (fn.separated i j (all_among s sound i m) (all_among s sound j k) (λ e. ne (ap (λ x. (numbered after x).flight.callsign) e)) le))));
+    frozen_in_precedence = each_frozen_after (λ g. All (IsPairInPrecedence g) (frozen_landings changed)) (λ i m lt. each_frozen_after (IsPairInPrecedence (landing (numbered after i) (second_of t i))) (λ j k lt'. λ l.
+        fn.in_order i j (all_among s sound i m) (all_among s sound j k) (ap₂ (λ (y : Flight) (x : Flight). lists y x.callsign) (sym (same_flight j k)) (sym (same_flight i m)) ∙ l)));
+    frozen_before = each_frozen_after (λ g. g.second < h) (λ i m lt. lt);
+    frozen_alone = each_frozen_after (ListsNone (waiting changed)) (λ i m lt.
+        subst (All (λ a. lists (numbered after i).flight a.flight.callsign ≡ false)) (sym waiting_changed) (at_all (λ a. lists (numbered after i).flight a.flight.callsign ≡ false) (numbered after) (numbered_situation changed).waiting (λ j k.
+        let w = late_after j k in
+        false_from_ne_true (lists (numbered after i).flight (numbered after j).flight.callsign) (λ l.
+        let o = fn.in_order j i (all_among s sound j w.0) (all_among s sound i m) (ap₂ (λ (y : Flight) (x : Flight). lists y x.callsign) (sym (same_flight i m)) (sym (same_flight j w.0)) ∙ l) in
+        let le = w.2 in
+        omega arith))));
+  }
+
+  -- ---- the plan stays feasible
+
+  after_among : (i : ℕ) → In i (numbers.active (numbered_situation changed)) → In i (numbers_of s.active)
+  after_among i m = subst (In i) numbers_after (among changed sound_after i m)
+
+  less_back : (i : ℕ) → In i (numbers_of s.active) → ns.back i - overtook (comes_before s.active) (second_of t) h ns.waiting i ≤ s.aerodrome.k - (numbered after i).passed
+  less_back i m =
+      let p = passing_is i m in
+      let o = passed_low s sound t f.0 i m in
+      elim (at_after i m).passed [ inl e ↦ omega arith | inr x ↦ elim x [ inl e ↦ omega arith | inr y ↦ (let e = y.1 in omega arith) ] ]
+
+  comes_after : (i j : ℕ) → In i (numbers_of s.active) → In j (numbers_of s.active) → comes_before after i j ≡ comes_before s.active i j
+  comes_after i j mi mj = ap₂ (λ (x : Flight) (y : Flight). is_lt (ordering_then (arrival_cmp x y) (nat_cmp i j))) (same_flight i mi) (same_flight j mj)
+
+  rank_after : (i : ℕ) → In i (numbers_of s.active) → rank_in (comes_before after) (numbered_situation changed).waiting i ≡ rank_in (comes_before s.active) (staying_of (second_of t) h ns.waiting) i
+  rank_after i m = ap suc (count_by_agree (λ g. comes_before after g i) (λ g. comes_before s.active g i) (numbered_situation changed).waiting (λ g k. comes_after g i (late_after g k).0 m) ∙ ap (count_by (λ g. comes_before s.active g i)) waiting_after)
+
+  place_after : (i : ℕ) → place_in (second_of t) (numbered_situation changed).waiting i ≡ place_in (second_of t) (staying_of (second_of t) h ns.waiting) i
+  place_after i = ap (λ l. place_in (second_of t) l i) waiting_after
+
+  after_numbered : numbers.FeasibleIn (numbered_situation changed) (second_of t)
+  after_numbered = record {
+    kept = λ i m.
+        let w = in_filter (λ x. not (waits_at after x)) i (numbers_of after) m in
+        sym (frozen_after i (subst (In i) numbers_after w.0) (unwrap_or (numbered after i).frozen 0) (some_of (numbered after i).frozen w.1)).0;
+    behind = λ i m. (late_after i m).2;
+    opened = λ i m. let a = after_among i m in subst (λ (x : Flight). (nat_le (second_of t i) last_second && is_open x.windows s.closures (second_of t i)) ≡ true) (sym (same_flight i a)) (fn.opened i (all_among s sound i a));
+    separated = λ i j mi mj ne le.
+        let a = after_among i mi in
+        let b = after_among j mj in
+        subst (λ (y : Flight). second_of t i + separation s.aerodrome.table (numbered after i).flight.category y.category ≤ second_of t j) (sym (same_flight j b))
+        (subst (λ (x : Flight). second_of t i + separation s.aerodrome.table x.category (numbered s.active j).flight.category ≤ second_of t j) (sym (same_flight i a))
+        (fn.separated i j (all_among s sound i a) (all_among s sound j b) ne le));
+    in_order = λ i j mi mj l.
+        let a = after_among i mi in
+        let b = after_among j mj in
+        fn.in_order i j (all_among s sound i a) (all_among s sound j b) (ap₂ (λ (y : Flight) (x : Flight). lists y x.callsign) (sym (same_flight j b)) (sym (same_flight i a)) ∙ l);
+    shifted = λ i m.
+        let w = late_after i m in
+        let v : In i ns.waiting = filter_in (waits_at s.active) i (numbers_of s.active) w.0 w.1 in
+        let k = stays_shifted (comes_before s.active) (first_come s.active) (second_of t) ns.waiting s.aerodrome.k h ns.back (sound_numbered s sound).differ fn.shifted i v w.2 in
+        let r = rank_after i w.0 in
+        let p = place_after i in
+        let b = less_back i w.0 in
+        (omega (arith, k.0), omega (arith, k.1));
+  }
+
+  pub feasible_after : IsFeasible changed t
+  feasible_after = numbered_feasible changed sound_after t (f.0 ∙ sym length_after) after_numbered
+
+  sum_map_agree : (g : Landing → ℕ) (x y : ℕ → Landing) (xs : List ℕ) → ((i : ℕ) → In i xs → g (x i) ≡ g (y i)) → sum_by g (map x xs) ≡ sum_by g (map y xs)
+  sum_map_agree g x y [] e = refl
+  sum_map_agree g x y (i ∷ xs) e = let a = sum_by-cons g (x i) (map x xs) in let b = sum_by-cons g (y i) (map y xs) in let c = sum_map_agree g x y xs (λ j m. e j (inr m)) in let d = e i (inl refl) in omega arith
+
+  pub objective_after : objective changed t ≡ objective s t
+  objective_after = ap (cost s.aerodrome.objective) (landings_are after t (f.0 ∙ sym length_after) ∙ ap (map (landing_at after t)) numbers_after) ∙ go s.aerodrome.objective ∙ ap (cost s.aerodrome.objective) (sym (landings_are s.active t f.0))
+    where
+      go : (o : Objective) → cost o (map (landing_at after t) (numbers_of s.active)) ≡ cost o (map (landing_at s.active t) (numbers_of s.active))
+      go Makespan = ap greatest (map_map (λ (g : Landing). g.second) (landing_at after t) (numbers_of s.active) ∙ sym (map_map (λ (g : Landing). g.second) (landing_at s.active t) (numbers_of s.active)))
+      go Delay = sum_map_agree delay (landing_at after t) (landing_at s.active t) (numbers_of s.active) (λ i m. ap (λ (x : Flight). x.weight * (second_of t i - x.eta)) (same_flight i m))
+
+-- ---- the laws
+
+forth_of : (clock : Option ℕ) (now freeze : ℕ) → clock_back clock now ≡ None → horizon_after clock freeze ≤ now + freeze
+forth_of None now freeze e = zero-le
+forth_of (Some last) now freeze e = go (nat_lt now last) refl e
+  where
+    go : (b : Bool) → nat_lt now last ≡ b → (if b then Some (ClockBack last) else None) ≡ None → last + freeze ≤ now + freeze
+    go true q e = absurd (some_none (ClockBack last) e)
+      where
+        some_none : (r : Refusal) → Some r ≡ None → ⊥
+        some_none r e = cc
+    go false q e = let a = ltb-false now last q in omega arith
+
+pub clock_keeps_plan : ClockKeepsPlanLaw
+clock_keeps_plan s t now sound f e =
+    let forth = forth_of s.clock now s.aerodrome.freeze e in
+    record { feasible = feasible_after s sound t f now forth; objective = objective_after s sound t f now forth }
+
+pub clock_shows_plan : ClockShowsPlanLaw
+clock_shows_plan old new now t sound shown e step =
+    let s = old.situation in
+    let before : IsPlanShown s (Some t) = subst (IsPlanShown s) shown sound.shown in
+    let kept = clock_keeps_plan s t now sound.situation before.0.feasible e in
+    let is : new.situation ≡ situation_after s (Some t) (Clock now) = step.changed ∙ ap (λ p. situation_after s p (Clock now)) shown in
+    let there : IsFeasible new.situation t = subst (λ x. IsFeasible x t) (sym is) kept.feasible in
+    let same : objective new.situation t ≡ objective s t = ap (λ x. objective x t) is ∙ kept.objective in
+    go new.plan refl step.shown there same
+  where
+    go : (p : Option Schedule) → new.plan ≡ p → IsPlanShown new.situation p → IsFeasible new.situation t → objective new.situation t ≡ objective old.situation t → (u : Schedule) × (new.plan ≡ Some u) × (objective new.situation u ≤ objective old.situation t)
+    go None q x there same = absurd (x t there)
+    go (Some u) q x there same = (u, q, let a = x.0.least t there in omega arith)
+
+-- with no plan shown the situation stays as it is, but for its horizon
+sound_alone : (s : Situation) (now : ℕ) → IsSound s → horizon s ≤ now + s.aerodrome.freeze → IsSound (situation_after s None (Clock now))
+sound_alone s now sound forth = record {
+  table = sound.table;
+  callsigns = sound.callsigns;
+  few_active = sound.few_active;
+  few_waiting = sound.few_waiting;
+  few_closures = sound.few_closures;
+  flights = sound.flights;
+  passed = sound.passed;
+  no_carry = sound.no_carry;
+  frozen_open = sound.frozen_open;
+  frozen_separated = sound.frozen_separated;
+  frozen_in_precedence = sound.frozen_in_precedence;
+  frozen_before = λ k d lt. let a = sound.frozen_before k d lt in omega arith;
+  frozen_alone = sound.frozen_alone;
+}
+
+pub clock_keeps_sound : ClockKeepsSoundLaw
+clock_keeps_sound s None now sound f e = sound_alone s now sound (forth_of s.clock now s.aerodrome.freeze e)
+clock_keeps_sound s (Some t) now sound f e = sound_after s sound t (f t refl) now (forth_of s.clock now s.aerodrome.freeze e)
+
+-- so a clock event leads from a sound state to a sound state
+pub clock_step_sound : (old new : State) (now : ℕ) → IsSoundState old → refusal old.situation (Clock now) ≡ None → IsAcceptedStep old (Clock now) new → IsSoundState new
+clock_step_sound old new now sound e step = record {
+  situation = subst IsSound (sym step.changed) (clock_keeps_sound old.situation old.plan now sound.situation (λ t q. (subst (IsPlanShown old.situation) q sound.shown).0.feasible) e);
+  shown = step.shown;
+}

@@ -1,0 +1,111 @@
+-- The schedule that joins the frozen landings with a list of seconds by rank, in the rules' words and over
+-- numbers; and that a tight list gives a tight schedule.
+use Rattle.std.proofs.Common.{◌≡◌, ℕ, zero, suc, ◌-◌, ◌<◌, ◌≤◌, inl, inr, List, [], ◌∷◌, length, map, filter, cond, count_by, get_or, arith, refl, sym, ap, ap₂, subst, ◌∙◌, zero-le}
+use Rattle.std.specs.Prelude.{Option, Some, None, unwrap_or, is_none}
+use Rattle.std.specs.List.{AllZip}
+use Rattle.std.specs.Ordering.{is_lt}
+use Rattle.landing_rules.specs.Flights.{Active, Situation, Schedule, is_waiting, waiting}
+use Rattle.landing_rules.specs.Rules.{arrival_cmp, rank, IsTight, HaveSameOrder}
+use Rattle.landing_rules.specs.Problem as lists'
+use Rattle.landing_rules.specs.Sound.{IsSound}
+use Rattle.cps_theory.specs.RankLists.{In, IsRank}
+use Rattle.cps_theory.specs.Freeze.{rank_in}
+use Rattle.cps_theory.specs.laws.Members.{in_filter}
+use Rattle.landing_joint.specs.Numbered.{numbered, second_of, numbers_of, waits_at, comes_before, numbered_situation}
+use Rattle.cps_theory.specs.RankLists.{of_rank}
+use Rattle.landing_joint.specs.ByNumber.{number_at, joined}
+use Rattle.landing_joint.proofs.Joint.{active_are, comes_is}
+use Rattle.landing_joint.proofs.Problem.{joined_frozen, joined_rank, joined_long, each_number, list_gives_schedule, schedule_gives_list, among}
+use Rattle.cps_theory.specs.laws.NumberedLists.{count_by_map, count_by_agree, map_map, filter_map_is, in_numbers, numbers_in}
+
+map_agree : {X : Type 0} (f g : ℕ → X) (xs : List ℕ) → ((i : ℕ) → In i xs → f i ≡ g i) → map f xs ≡ map g xs
+map_agree f g [] h = refl
+map_agree f g (x ∷ xs) h = ap₂ (λ y l. y ∷ l) (h x (inl refl)) (map_agree f g xs (λ i m. h i (inr m)))
+
+module _ (s : Situation) (sound : IsSound s) where
+  waiting_are : map (λ (b : Active). b.flight) (waiting s) ≡ map (λ i. (numbered s.active i).flight) (numbered_situation s).waiting
+  waiting_are =
+      ap (λ l. map (λ (b : Active). b.flight) l) (ap (filter is_waiting) (active_are s.active) ∙ filter_map_is is_waiting (numbered s.active) (numbers_of s.active))
+      ∙ map_map (λ (b : Active). b.flight) (numbered s.active) (numbered_situation s).waiting
+
+  -- the rank of a flight among the waiting flights
+  rank_is : (i : ℕ) → In i (numbers_of s.active) → rank (map (λ (b : Active). b.flight) (waiting s)) (numbered s.active i).flight ≡ rank_in (comes_before s.active) (numbered_situation s).waiting i
+  rank_is i m =
+      let w = (numbered_situation s).waiting in
+      let f = (numbered s.active i).flight in
+      let e : count_by (λ g. is_lt (arrival_cmp g f)) (map (λ (b : Active). b.flight) (waiting s)) ≡ count_by (λ j. comes_before s.active j i) w =
+      ap (count_by (λ g. is_lt (arrival_cmp g f))) waiting_are ∙ count_by_map (λ g. is_lt (arrival_cmp g f)) (λ j. (numbered s.active j).flight) w
+      ∙ count_by_agree (λ j. is_lt (arrival_cmp (numbered s.active j).flight f)) (λ j. comes_before s.active j i) w (λ j k. sym (comes_is s sound j i (in_filter (waits_at s.active) j (numbers_of s.active) k).0 m)) in
+      omega arith
+
+  second_by : (v : Schedule) (r n : ℕ) → r ≡ suc n → get_or v (r - 1) 0 ≡ of_rank 0 v (suc n)
+  second_by v r n e = ap (λ k. get_or v k 0) (omega arith)
+
+  second_is : (v : Schedule) (i : ℕ) → In i (numbers_of s.active) → lists'.joined_second s v (numbered s.active i) ≡
+      cond (waits_at s.active i) (of_rank 0 v (rank_in (comes_before s.active) (numbered_situation s).waiting i)) ((numbered_situation s).frozen_at i)
+  second_is v i m = go (numbered s.active i).frozen
+      (second_by v (rank (map (λ (b : Active). b.flight) (waiting s)) (numbered s.active i).flight) (count_by (λ g. comes_before s.active g i) (numbered_situation s).waiting) (rank_is i m))
+    where
+      go : (o : Option ℕ) {x y : ℕ} → x ≡ y → unwrap_or o x ≡ cond (is_none o) y (unwrap_or o 0)
+      go None e = e
+      go (Some u) e = refl
+
+  -- both say one schedule
+  pub joined_in_words : (v : Schedule) → lists'.joined s v ≡ joined s v
+  joined_in_words v =
+      ap (map (lists'.joined_second s v)) (active_are s.active)
+      ∙ map_map (lists'.joined_second s v) (numbered s.active) (numbers_of s.active)
+      ∙ map_agree (λ i. lists'.joined_second s v (numbered s.active i)) (λ i. cond (waits_at s.active i) (of_rank 0 v (rank_in (comes_before s.active) (numbered_situation s).waiting i)) ((numbered_situation s).frozen_at i)) (numbers_of s.active) (second_is v)
+
+zip_of : (xs ys : List ℕ) → length xs ≡ length ys → ((i : ℕ) → i < length xs → get_or xs i 0 ≤ get_or ys i 0) → AllZip (λ a b. a ≤ b) xs ys
+zip_of [] [] e h = tt
+zip_of [] (y ∷ ys) e h = absurd (omega arith)
+zip_of (x ∷ xs) [] e h = absurd (omega arith)
+zip_of (x ∷ xs) (y ∷ ys) e h = (h 0 (omega arith), zip_of xs ys (omega arith) (λ i lt. h (suc i) (omega arith)))
+
+zip_get : (xs ys : List ℕ) → AllZip (λ a b. a ≤ b) xs ys → (i : ℕ) → i < length xs → get_or xs i 0 ≤ get_or ys i 0
+zip_get [] ys a i lt = absurd (omega arith)
+zip_get (x ∷ xs) [] a i lt = absurd a
+zip_get (x ∷ xs) (y ∷ ys) a zero lt = a.0
+zip_get (x ∷ xs) (y ∷ ys) a (suc i) lt = zip_get xs ys a.1 i (omega arith)
+
+module _ (s : Situation) (sound : IsSound s) (p : lists'.Problem) (of : lists'.IsProblemOf s p) where
+  -- the seconds of two ranks, in a list and in the schedule that it gives
+  order_kept : (v w : Schedule) → length v ≡ length p.flights → HaveSameOrder (joined s v) (joined s w) → HaveSameOrder v w
+  order_kept v w long same i j li lj =
+      let qi : IsRank (length p.flights) (suc i) = (omega arith, omega arith) in
+      let qj : IsRank (length p.flights) (suc j) = (omega arith, omega arith) in
+      let bi = in_numbers 0 (length s.active) (number_at s (suc i)) (among s sound p of (suc i) qi) in
+      let bj = in_numbers 0 (length s.active) (number_at s (suc j)) (among s sound p of (suc j) qj) in
+      let n = joined_long s sound p of v in
+      let o = same (number_at s (suc i)) (number_at s (suc j)) (omega (arith, bi.1, n)) (omega (arith, bj.1, n)) in
+      let vi : second_of (joined s v) (number_at s (suc i)) ≡ get_or v i 0 = joined_rank s sound p of v (suc i) qi in
+      let vj : second_of (joined s v) (number_at s (suc j)) ≡ get_or v j 0 = joined_rank s sound p of v (suc j) qj in
+      let wi : second_of (joined s w) (number_at s (suc i)) ≡ get_or w i 0 = joined_rank s sound p of w (suc i) qi in
+      let wj : second_of (joined s w) (number_at s (suc j)) ≡ get_or w j 0 = joined_rank s sound p of w (suc j) qj in
+      (λ lt. let a = o.0 (omega (arith, vi, vj, lt)) in omega (arith, wi, wj, a), λ lt. let a = o.1 (omega (arith, wi, wj, lt)) in omega (arith, vi, vj, a))
+
+  earlier_kept : (v w : Schedule) → length v ≡ length p.flights → AllZip (λ a b. a ≤ b) v w → AllZip (λ a b. a ≤ b) (joined s v) (joined s w)
+  earlier_kept v w long le =
+      let nv = joined_long s sound p of v in
+      let nw = joined_long s sound p of w in
+      let each = each_number s sound p of (λ i. second_of (joined s v) i ≤ second_of (joined s w) i) (waits v w long le) (λ i m. let a = joined_frozen s sound p of v i m in let b = joined_frozen s sound p of w i m in omega arith) in
+      zip_of (joined s v) (joined s w) (omega arith) (λ i lt. each i (numbers_in 0 (length s.active) i zero-le (omega arith)))
+    where
+      waits : (v w : Schedule) → length v ≡ length p.flights → AllZip (λ a b. a ≤ b) v w → (r : ℕ) → IsRank (length p.flights) r → second_of (joined s v) (number_at s r) ≤ second_of (joined s w) (number_at s r)
+      waits v w long le zero q = absurd (let a = q.0 in omega arith)
+      waits v w long le (suc i) q =
+          let a : second_of (joined s v) (number_at s (suc i)) ≡ get_or v i 0 = joined_rank s sound p of v (suc i) q in
+          let b : second_of (joined s w) (number_at s (suc i)) ≡ get_or w i 0 = joined_rank s sound p of w (suc i) q in
+          let c = zip_get v w le i (let z = q.1 in omega arith) in
+          omega arith
+
+  -- a tight list gives a tight schedule
+  pub tight_list_schedule : (v : Schedule) → lists'.IsTightList p v → IsTight s (joined s v)
+  tight_list_schedule v t = record {
+    feasible = list_gives_schedule s sound p of v t.feasible;
+    earliest = λ u f o.
+        let w = schedule_gives_list s sound p of u f in
+        let same : HaveSameOrder (joined s v) (joined s w.0) = subst (λ x. HaveSameOrder (joined s v) x) w.2 o in
+        subst (λ x. AllZip (λ a b. a ≤ b) (joined s v) x) (sym w.2) (earlier_kept v w.0 t.feasible.one_each (t.earliest w.0 w.1 (order_kept v w.0 t.feasible.one_each same)));
+  }

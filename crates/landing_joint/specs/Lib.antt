@@ -1,0 +1,7 @@
+pub mod Numbered
+pub mod RankedProblem
+pub mod ByNumber
+pub mod ClockLaws
+pub mod ProblemLaws
+pub mod Shift
+pub mod shared

@@ -1,0 +1,4 @@
+-- Lemmas that crates above cite too: lists by rank as maps, what is feasible, best and tight there, and first open seconds.
+pub mod FirstOpen
+pub mod RankedLists
+pub mod BestLists

@@ -1,0 +1,31 @@
+//! What holds of every situation, problem and clock event.
+
+ghost use Rattle.landing_joint.specs.ProblemLaws.{ListGivesScheduleLaw, ScheduleGivesListLaw, SameObjectiveLaw, BestListLaw, TightListLaw, NoListLaw};
+ghost use Rattle.landing_joint.specs.ClockLaws.{ClockKeepsPlanLaw, ClockShowsPlanLaw, ClockKeepsSoundLaw};
+ghost use Rattle.landing_joint.specs.Shift.{MoreShiftLaw, MoreShiftIsNoWorseLaw, LessShiftIsInfeasibleLaw};
+
+/// The feasible schedules of a sound situation are its frozen landings joined with a feasible list of its problem, with
+/// equal objectives, and best and tight ones are best and tight.
+pub fn problem_stands_for_situation()
+    ensures feasible { ListGivesScheduleLaw }
+    ensures every { ScheduleGivesListLaw }
+    ensures objectives { SameObjectiveLaw }
+    ensures best { BestListLaw }
+    ensures tight { TightListLaw }
+    ensures none { NoListLaw }
+{}
+
+/// An accepted clock event that finds a plan shown keeps it feasible with an equal objective, shows a plan again that is
+/// no dearer, and keeps the situation sound; passed-over counts included.
+pub fn clock_keeps_plans()
+    ensures keeps { ClockKeepsPlanLaw }
+    ensures shows { ClockShowsPlanLaw }
+    ensures sound { ClockKeepsSoundLaw }
+{}
+
+/// With a greater limit of shift each feasible schedule stays feasible, and the least objective is no greater.
+pub fn more_shift_is_never_worse()
+    ensures feasible { MoreShiftLaw }
+    ensures no_worse { MoreShiftIsNoWorseLaw }
+    ensures infeasible { LessShiftIsInfeasibleLaw }
+{}
