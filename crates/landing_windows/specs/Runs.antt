@@ -1,0 +1,263 @@
+-- What spans in order and closures hold.
+use Rattle.std.proofs.Common.{Option, Some, None, IfSome, ◌≡◌, ℕ, suc, zero, ◌+◌, ◌-◌, ◌<◌, ◌≤◌, max, List, [], ◌∷◌, ◌++◌, length, slice_index_or, All, Bool, true, false, arith, add-one, ap, refl, sym, ◌∙◌, inl, inr}
+use Rattle.std.specs.Prelude.{◌||◌, ◌&&◌, nat_le, nat_lt}
+use Rattle.std.proofs.lemmas.Bool.{cases_Bool}
+use Rattle.std.proofs.lemmas.Grind.{common_steps}
+use Rattle.std.proofs.lemmas.List.Folds.{list_any-append}
+use Rattle.std.proofs.lemmas.List.Elements.{All-nil, All-cons, All-weaker}
+use Rattle.landing_rules.specs.Flights.{Span}
+use Rattle.landing_rules.specs.Rules.{last_second, is_within, is_open}
+use Rattle.landing_rules.specs.Problem.{AreOpenSpans}
+use Rattle.landing_windows.specs.Spans.{FirstFrom, opens, AreSpansFrom, AreInOrder, AreMaximal, NoneFrom, IsLeastFrom, IsStopFrom}
+
+pub within : (u : ℕ) (w : Span) → w.0 ≤ u → u ≤ w.1 → is_within u w ≡ true
+within u w a b = grind (arith, common_steps)
+
+pub not_before : (u : ℕ) (w : Span) → u < w.0 → is_within u w ≡ false
+not_before u w a = grind (arith, common_steps)
+
+pub not_after : (u : ℕ) (w : Span) → w.1 < u → is_within u w ≡ false
+not_after u w a = elim (cases_Bool (nat_le w.0 u)) [ inl y ↦ grind (arith, common_steps) | inr n ↦ grind (arith, common_steps) ]
+
+pub is_within_last : (u : ℕ) (w : Span) → is_within u w ≡ true → u ≤ w.1
+is_within_last u w e = grind (arith, common_steps)
+
+or_false : (a b : Bool) → a ≡ false → b ≡ false → (a || b) ≡ false
+or_false a b x y = rw (x, y) refl
+
+-- spans that begin at `least` or later hold no second before
+pub none_before : (gap least : ℕ) (ws : List Span) (u : ℕ) → AreSpansFrom gap least ws → u < least → opens ws u ≡ false
+none_before gap least [] u a b = refl
+none_before gap least (w ∷ ws) u a b =
+    or_false (is_within u w) (opens ws u) (not_before u w (omega arith)) (none_before gap (w.1 + gap) ws u a.3 (omega arith))
+
+-- spans in order hold no second before the first of them
+pub none_before_first : (gap : ℕ) (w : Span) (ws : List Span) (u : ℕ) → AreSpansFrom gap 0 (w ∷ ws) → u < w.0 → opens (w ∷ ws) u ≡ false
+none_before_first gap w ws u a b = none_before gap w.0 (w ∷ ws) u (omega arith, a.1, a.2, a.3) b
+
+pub from_lower : (gap m n : ℕ) (ws : List Span) → AreSpansFrom gap m ws → n ≤ m → AreSpansFrom gap n ws
+from_lower gap m n [] a b = tt
+from_lower gap m n (w ∷ ws) a b = (omega arith, a.1, a.2, a.3)
+
+pub closer : (gap least : ℕ) (ws : List Span) → AreSpansFrom (gap + 1) least ws → AreSpansFrom gap least ws
+closer gap least [] a = tt
+closer gap least (w ∷ ws) a = (a.0, a.1, a.2, from_lower gap (w.1 + (gap + 1)) (w.1 + gap) ws (closer gap (w.1 + (gap + 1)) ws a.3) (omega arith))
+
+pub maximal_in_order : (ws : List Span) → AreMaximal ws → AreInOrder ws
+maximal_in_order ws a = closer 1 0 ws a
+
+-- no span holds a second past the two days
+pub opens_in_days : (gap least : ℕ) (ws : List Span) (u : ℕ) → AreSpansFrom gap least ws → opens ws u ≡ true → u ≤ last_second
+opens_in_days gap least [] u a e = absurd (cc e)
+opens_in_days gap least (w ∷ ws) u a e = elim (cases_Bool (is_within u w)) [
+  | inl here ↦ let below : u ≤ w.1 = is_within_last u w here in omega arith
+  | inr not_here ↦ let there : opens ws u ≡ true = rw not_here at e in opens_in_days gap (w.1 + gap) ws u a.3 there
+]
+
+-- spans that end two seconds before `end` or earlier
+abbrev pub EndBefore : ℕ → List Span → Type 0
+EndBefore end [] = Unit {0}
+EndBefore end (w ∷ ws) = (w.1 + 2 ≤ end) × EndBefore end ws
+
+pub none_after : (end : ℕ) (ws : List Span) (u : ℕ) → EndBefore end ws → end ≤ u → opens ws u ≡ false
+none_after end [] u a b = refl
+none_after end (w ∷ ws) u a b = or_false (is_within u w) (opens ws u) (not_after u w (omega arith)) (none_after end ws u a.1 b)
+
+pub end_later : (end later : ℕ) (ws : List Span) → EndBefore end ws → end ≤ later → EndBefore later ws
+end_later end later [] a b = tt
+end_later end later (w ∷ ws) a b = (omega arith, end_later end later ws a.1 b)
+
+pub end_one_more : (end : ℕ) (ws : List Span) (w : Span) → EndBefore end ws → w.1 + 2 ≤ end → EndBefore end (ws ++ w ∷ [])
+end_one_more end [] w a b = (b, tt)
+end_one_more end (v ∷ ws) w a b = (a.0, end_one_more end ws w a.1 b)
+
+pub maximal_one_more : (least end : ℕ) (ws : List Span) (w : Span) → AreSpansFrom 2 least ws → EndBefore end ws →
+    least ≤ w.0 → end ≤ w.0 → w.0 ≤ w.1 → w.1 ≤ last_second → AreSpansFrom 2 least (ws ++ w ∷ [])
+maximal_one_more least end [] w a b p q r s = (p, r, s, tt)
+maximal_one_more least end (v ∷ ws) w a b p q r s = (a.0, a.1, a.2, maximal_one_more (v.1 + 2) end ws w a.3 b.1 (omega arith) q r s)
+
+-- where the least span that ends at t or later begins, or t itself, is the least second held
+pub least_within : (spans rest : List Span) (d : Span) (t s : ℕ) → ((u : ℕ) → t ≤ u → opens rest u ≡ opens spans u) → AreInOrder rest → 1 ≤ length rest →
+    t ≤ (slice_index_or rest 0 d).1 → s ≡ max t (slice_index_or rest 0 d).0 → IsLeastFrom (opens spans) t s
+least_within spans [] d t s same a n b e = absurd (omega arith)
+least_within spans (w ∷ ws) d t s same a n b e =
+    let after : t ≤ s = omega arith in
+    let here : is_within s w ≡ true = within s w (omega arith) (omega arith) in
+    let held : opens (w ∷ ws) s ≡ true = rw here refl in
+    record {
+      after = after;
+      passes = sym (same s after) ∙ held;
+      least = λ u from before. sym (same u from) ∙ none_before_first 1 w ws u a (omega arith);
+    }
+
+pub stops_before : (spans rest : List Span) (d : Span) (stop : ℕ) → opens rest stop ≡ opens spans stop → AreInOrder rest → 1 ≤ length rest →
+    stop < (slice_index_or rest 0 d).0 → opens spans stop ≡ false
+stops_before spans [] d stop same a n b = absurd (omega arith)
+stops_before spans (w ∷ ws) d stop same a n b = sym same ∙ none_before_first 1 w ws stop a b
+
+-- ---- open seconds
+
+and_left : (a b : Bool) → (a && b) ≡ true → a ≡ true
+and_left true b e = refl
+and_left false b e = absurd (cc e)
+
+pub open_in_days : (windows closures : List Span) (u : ℕ) → AreInOrder windows → is_open windows closures u ≡ true → u ≤ last_second
+open_in_days windows closures u a e = opens_in_days 1 0 windows u a (and_left (opens windows u) _ e)
+
+true_not_false : (b : Bool) → b ≡ true → b ≡ false → ⊥
+true_not_false b x y = let z : true ≡ false = sym x ∙ y in cc z
+
+-- a run of open seconds holds its first second, and ends within the two days
+pub run_bounds : (windows closures : List Span) (first stop : ℕ) → AreInOrder windows → is_open windows closures first ≡ true →
+    IsStopFrom (is_open windows closures) first stop → (first < stop) × (stop ≤ last_second + 1)
+run_bounds windows closures first stop a e s = elim (cases_Bool (nat_lt first stop)) [
+  | inl less ↦
+      let below : first < stop = grind (arith, common_steps) in
+      let last_open : is_open windows closures (stop - 1) ≡ true = s.passes (stop - 1) (omega arith) (omega arith) in
+      let in_days : stop - 1 ≤ last_second = open_in_days windows closures (stop - 1) a last_open in
+      (below, omega arith)
+  | inr not_less ↦
+      let above : stop ≤ first = grind (arith, common_steps) in
+      let at : stop ≡ first = let after = s.after in omega arith in
+      let shut : is_open windows closures first ≡ false = rw at at s.ends in
+      absurd (true_not_false _ e shut)
+]
+
+or_none : (b : Bool) → (b || (false || false)) ≡ b
+or_none true = refl
+or_none false = refl
+
+-- one more run keeps that the spans so far hold exactly the open seconds so far
+pub one_more_run : (windows closures spans : List Span) (from first stop : ℕ) →
+    ((u : ℕ) → u < from → opens spans u ≡ is_open windows closures u) → EndBefore from spans →
+    IsLeastFrom (is_open windows closures) from first → IsStopFrom (is_open windows closures) first stop → first < stop →
+    (u : ℕ) → u < stop + 1 → opens (spans ++ (first, stop - 1) ∷ []) u ≡ is_open windows closures u
+one_more_run windows closures spans from first stop same before least run nonempty u below =
+    rw (list_any-append (is_within u) spans ((first, stop - 1) ∷ [])) (
+    elim (cases_Bool (nat_lt u from)) [
+      | inl early ↦
+          let under : u < from = grind (arith, common_steps) in
+          let after = least.after in
+          rw (not_before u (first, stop - 1) (omega arith), same u under) (or_none (is_open windows closures u))
+      | inr late ↦
+          let over : from ≤ u = grind (arith, common_steps) in
+          rw (none_after from spans u before over) (
+          elim (cases_Bool (nat_lt u first)) [
+            | inl waits ↦
+                let under : u < first = grind (arith, common_steps) in
+                rw (not_before u (first, stop - 1) under, least.least u over under) refl
+            | inr reached ↦
+                let at : first ≤ u = grind (arith, common_steps) in
+                elim (cases_Bool (nat_lt u stop)) [
+                  | inl inside ↦
+                      let under : u < stop = grind (arith, common_steps) in
+                      rw (within u (first, stop - 1) at (omega arith), run.passes u at under) refl
+                  | inr ended ↦
+                      let over_stop : stop ≤ u = grind (arith, common_steps) in
+                      let is : u ≡ stop = omega arith in
+                      let shut : is_open windows closures u ≡ false = rw is run.ends in
+                      rw (not_after u (first, stop - 1) (omega arith), shut) refl
+                ]
+          ])
+    ])
+
+-- where nothing is open from a second on, and the spans end before, the spans hold exactly the open seconds
+pub all_runs : (windows closures spans : List Span) (from : ℕ) →
+    ((u : ℕ) → u < from → opens spans u ≡ is_open windows closures u) → EndBefore from spans → NoneFrom (is_open windows closures) from →
+    (u : ℕ) → opens spans u ≡ is_open windows closures u
+all_runs windows closures spans from same before none u = elim (cases_Bool (nat_lt u from)) [
+  | inl early ↦ same u (grind (arith, common_steps))
+  | inr late ↦ let over : from ≤ u = grind (arith, common_steps) in none_after from spans u before over ∙ sym (none u over)
+]
+
+-- ---- what the rules ask of spans
+
+pub all_forward : (gap least : ℕ) (ws : List Span) → AreSpansFrom gap least ws → All (λ w. (w.0 ≤ w.1) × (w.1 ≤ last_second)) ws
+all_forward gap least [] a = All-nil (λ w. (w.0 ≤ w.1) × (w.1 ≤ last_second))
+all_forward gap least (w ∷ ws) a = All-cons (λ w. (w.0 ≤ w.1) × (w.1 ≤ last_second)) w ws (a.1, a.2) (all_forward gap (w.1 + gap) ws a.3)
+
+adjacent : (gap least : ℕ) (ws : List Span) → AreSpansFrom gap least ws → (k : ℕ) (d : Span) → suc k < length ws →
+    (slice_index_or ws k d).1 + gap ≤ (slice_index_or ws (suc k) d).0
+adjacent gap least [] a k d h = absurd (omega arith)
+adjacent gap least (v ∷ []) a k d h = absurd (omega arith)
+adjacent gap least (v ∷ w ∷ ws) a zero d h = a.3.0
+adjacent gap least (v ∷ w ∷ ws) a (suc k) d h = adjacent gap (v.1 + gap) (w ∷ ws) a.3 k d (omega arith)
+
+pub next_apart : (gap least : ℕ) (ws : List Span) → AreSpansFrom gap least ws → (k : ℕ) (d : Span) → k + 1 < length ws →
+    (slice_index_or ws k d).1 + gap ≤ (slice_index_or ws (k + 1) d).0
+next_apart gap least ws a k d h = rw (add-one k) (adjacent gap least ws a k d (omega arith))
+
+pub are_open_spans : (windows closures spans : List Span) → AreMaximal spans → ((t : ℕ) → opens spans t ≡ is_open windows closures t) →
+    AreOpenSpans windows closures spans
+are_open_spans windows closures spans a same = record {
+  nonempty = All-weaker (λ w. (w.0 ≤ w.1) × (w.1 ≤ last_second)) (λ w. w.0 ≤ w.1) (λ w p. p.0) spans (all_forward 2 0 spans a);
+  apart = λ k d h. let far = next_apart 2 0 spans a k d h in omega arith;
+  same = same;
+}
+
+-- ---- equal open seconds, equal lists
+
+pair_eq : (v w : Span) → v.0 ≡ w.0 → v.1 ≡ w.1 → v ≡ w
+pair_eq v w a b = ap (λ x. (x, v.1)) a ∙ ap (λ y. (w.0, y)) b
+
+holds_first : (w : Span) (ws : List Span) (u : ℕ) → w.0 ≤ u → u ≤ w.1 → opens (w ∷ ws) u ≡ true
+holds_first w ws u a b = rw (within u w a b) refl
+
+differ : (xs ys : List Span) (u : ℕ) → opens xs u ≡ opens ys u → opens xs u ≡ true → opens ys u ≡ false → ⊥
+differ xs ys u same x y = true_not_false (opens xs u) x (same ∙ y)
+
+same_start : (least : ℕ) (v w : Span) (vs ws : List Span) → AreSpansFrom 2 least (v ∷ vs) → AreSpansFrom 2 least (w ∷ ws) →
+    ((t : ℕ) → least ≤ t → opens (v ∷ vs) t ≡ opens (w ∷ ws) t) → v.0 ≡ w.0
+same_start least v w vs ws a b same = elim (cases_Bool (nat_lt v.0 w.0)) [
+  | inl less ↦
+      let below : v.0 < w.0 = grind (arith, common_steps) in
+      absurd (differ (v ∷ vs) (w ∷ ws) v.0 (same v.0 a.0) (holds_first v vs v.0 (omega arith) a.1)
+      (none_before 2 w.0 (w ∷ ws) v.0 (omega arith, b.1, b.2, b.3) below))
+  | inr not_less ↦ elim (cases_Bool (nat_lt w.0 v.0)) [
+    | inl more ↦
+        let above : w.0 < v.0 = grind (arith, common_steps) in
+        absurd (differ (w ∷ ws) (v ∷ vs) w.0 (sym (same w.0 b.0)) (holds_first w ws w.0 (omega arith) b.1)
+        (none_before 2 v.0 (v ∷ vs) w.0 (omega arith, a.1, a.2, a.3) above))
+    | inr not_more ↦ grind (arith, common_steps)
+  ]
+]
+
+-- just after its first span a list of maximal spans holds no second
+gap_after : (least : ℕ) (v : Span) (vs : List Span) → AreSpansFrom 2 least (v ∷ vs) → opens (v ∷ vs) (v.1 + 1) ≡ false
+gap_after least v vs a = or_false _ _ (not_after (v.1 + 1) v (omega arith)) (none_before 2 (v.1 + 2) vs (v.1 + 1) a.3 (omega arith))
+
+same_end : (least : ℕ) (v w : Span) (vs ws : List Span) → AreSpansFrom 2 least (v ∷ vs) → AreSpansFrom 2 least (w ∷ ws) →
+    ((t : ℕ) → least ≤ t → opens (v ∷ vs) t ≡ opens (w ∷ ws) t) → v.0 ≡ w.0 → v.1 ≡ w.1
+same_end least v w vs ws a b same starts = elim (cases_Bool (nat_lt v.1 w.1)) [
+  | inl less ↦
+      let below : v.1 < w.1 = grind (arith, common_steps) in
+      absurd (differ (w ∷ ws) (v ∷ vs) (v.1 + 1) (sym (same (v.1 + 1) (omega arith))) (holds_first w ws (v.1 + 1) (omega arith) (omega arith))
+      (gap_after least v vs a))
+  | inr not_less ↦ elim (cases_Bool (nat_lt w.1 v.1)) [
+    | inl more ↦
+        let above : w.1 < v.1 = grind (arith, common_steps) in
+        absurd (differ (v ∷ vs) (w ∷ ws) (w.1 + 1) (same (w.1 + 1) (omega arith)) (holds_first v vs (w.1 + 1) (omega arith) (omega arith))
+        (gap_after least w ws b))
+    | inr not_more ↦ grind (arith, common_steps)
+  ]
+]
+
+after_first : (v w : Span) (vs ws : List Span) (t : ℕ) → opens (v ∷ vs) t ≡ opens (w ∷ ws) t → v.1 + 2 ≤ t → v.1 ≡ w.1 → opens vs t ≡ opens ws t
+after_first v w vs ws t same h ends =
+    let past_v : is_within t v ≡ false = not_after t v (omega arith) in
+    let past_w : is_within t w ≡ false = not_after t w (omega arith) in
+    let rest : opens vs t ≡ opens ws t = rw (past_v, past_w) at same in rest
+
+pub one_list : (least : ℕ) (xs ys : List Span) → AreSpansFrom 2 least xs → AreSpansFrom 2 least ys → ((t : ℕ) → least ≤ t → opens xs t ≡ opens ys t) → xs ≡ ys
+one_list least [] [] a b same = refl
+one_list least [] (w ∷ ws) a b same = absurd (differ (w ∷ ws) [] w.0 (sym (same w.0 b.0)) (holds_first w ws w.0 (omega arith) b.1) refl)
+one_list least (v ∷ vs) [] a b same = absurd (differ (v ∷ vs) [] v.0 (same v.0 a.0) (holds_first v vs v.0 (omega arith) a.1) refl)
+one_list least (v ∷ vs) (w ∷ ws) a b same =
+    let starts : v.0 ≡ w.0 = same_start least v w vs ws a b same in
+    let ends : v.1 ≡ w.1 = same_end least v w vs ws a b same starts in
+    let rest : vs ≡ ws = one_list (v.1 + 2) vs ws a.3 (rw ends b.3) (λ t h. after_first v w vs ws t (same t (omega arith)) h ends) in
+    rw (pair_eq v w starts ends, rest) refl
+
+pub first_in_days : (spans : List Span) (t : ℕ) (answer : Option ℕ) → AreInOrder spans → FirstFrom (opens spans) t answer → IfSome answer (λ second. second ≤ last_second)
+first_in_days spans t None a e = tt
+first_in_days spans t (Some second) a e = opens_in_days 1 0 spans second a e.passes

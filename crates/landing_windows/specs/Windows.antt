@@ -1,0 +1,37 @@
+-- What the windows of a flight are, and the first fault of spans that are none.
+use Rattle.std.specs.Prelude.{ℕ, List, [], ◌∷◌, Bool, false, ◌==◌, ◌+◌, ◌-◌, ◌&&◌, nat_le, nat_lt, length, sum_by, Option, Some, None, Result, Ok, Err, if◌then◌else◌}
+use Rattle.landing_rules.specs.Flights.{Span}
+use Rattle.landing_rules.specs.Rules.{last_second}
+use Rattle.landing_windows.specs.declared.windows.WindowFault.{WindowFault}
+use Rattle.landing_windows.specs.declared.windows.WindowFault.TheVariants.{Empty, TooMany, Backward, Overlap, TooLong}
+
+-- both ends of a span are seconds of the two days
+abbrev pub is_in_days : Span → Bool
+is_in_days w = nat_le w.0 last_second && nat_le w.1 last_second
+
+abbrev pub overlaps : Option ℕ → ℕ → Bool
+overlaps None first = false
+overlaps (Some last) first = nat_le first last
+
+-- the first span, counted from i, that runs backward or does not start after the second where the span before it ended
+unfoldable pub bad_span : ℕ → Option ℕ → List Span → Option WindowFault
+bad_span i before [] = None
+bad_span i before (s ∷ ss) =
+    if nat_lt s.1 s.0 then Some (Backward i)
+    else if overlaps before s.0 then Some (Overlap i)
+    else bad_span (i + 1) (Some s.1) ss
+
+-- the seconds of spans that run forward
+unfoldable pub seconds_in : List Span → ℕ
+seconds_in spans = sum_by (λ w. w.1 + 1 - w.0) spans
+
+abbrev pub fault_or : Option WindowFault → Result (List Span) WindowFault → Result (List Span) WindowFault
+fault_or (Some e) r = Err e
+fault_or None r = r
+
+-- the windows that spans are, or the first fault in the order of these tests
+unfoldable pub windows_of : List Span → Result (List Span) WindowFault
+windows_of spans =
+    if length spans == 0 then Err Empty
+    else if nat_lt 4 (length spans) then Err TooMany
+    else fault_or (bad_span 1 None spans) (if nat_lt 7200 (seconds_in spans) then Err TooLong else Ok spans)

@@ -1,0 +1,125 @@
+ghost use Rattle.std.specs.Prelude.{◌≡◌, ◌≤◌, ◌<◌, ◌+◌, ◌*◌, length, IsTrue, None, Ok};
+ghost use Rattle.std.specs.List.{list_all};
+ghost use Rattle.landing_rules.specs.Sound.{AreGoodWindows};
+ghost use Rattle.landing_windows.specs.Spans.{AreInOrder};
+ghost use Rattle.landing_windows.specs.Windows.{is_in_days, bad_span, seconds_in, windows_of};
+
+use std::marker::Model;
+
+/// The last second of the two days that a schedule may use. Seconds count from 0.
+pub const LAST_SECOND: u32 = 172_799;
+
+/// Why spans are not the windows of a flight: the first test that fails. Spans are numbered from 1.
+#[derive(Clone, Copy, Debug, PartialEq, Eq)]
+pub enum WindowFault {
+    /// No span.
+    Empty,
+    /// More than four spans.
+    TooMany,
+    /// The last second of this span is before its first.
+    Backward(u8),
+    /// This span does not start after the span before it ended.
+    Overlap(u8),
+    /// The spans hold more than 7,200 seconds together.
+    TooLong,
+}
+
+/// The windows of a flight: one to four spans of seconds in order, each with both of its ends, of at most 7,200 seconds
+/// together. Contracts see the list of spans.
+#[derive(Clone, Copy)]
+pub struct WindowSet {
+    spans: [(u32, u32); 4],
+    len: usize,
+}
+
+impl Model for WindowSet {
+    ghost use Rattle.std.specs.Prelude.{◌≡◌, List, ℕ, take, length, Ok, IsTrue};
+    ghost use Rattle.std.specs.List.{list_all};
+    ghost use Rattle.std.proofs.Common.{sym};
+    ghost use Rattle.landing_windows.specs.Kept.{padded};
+    ghost use Rattle.landing_windows.specs.Windows.{is_in_days, windows_of};
+
+    ghost Value = { List (ℕ × ℕ) };
+
+    ghost view = { λ w. take w.len w.spans };
+
+    ghost invariant = { λ w. (w.spans ≡ padded 4 (take w.len w.spans)) × (length (take w.len w.spans) ≡ w.len) × (windows_of (take w.len w.spans) ≡ Ok (take w.len w.spans)) × IsTrue (list_all is_in_days (take w.len w.spans)) };
+
+    ghost inverse = { λ spans. record { spans = padded 4 spans; len = length spans } };
+
+    ghost inverse_ok = { λ w h i. record { spans = sym h.0 i; len = h.1 i } };
+}
+
+#[tactic(auto, unfolding(crate::specs::Windows::bad_span))]
+fn bad_span(spans: &[(u32, u32)]) -> Option<WindowFault>
+    requires { length spans.now ≤ 4 }
+    ensures { result ≡ bad_span 1 None spans.now }
+{
+    let mut number: u8 = 1;
+    let mut before: Option<u32> = None;
+    let mut rest = spans;
+    while let [(first, last), after @ ..] = rest {
+        if *last < *first {
+            return Some(WindowFault::Backward(number));
+        }
+        if let Some(end) = before {
+            if *first <= end {
+                return Some(WindowFault::Overlap(number));
+            }
+        }
+        number += 1;
+        before = Some(*last);
+        rest = after;
+    }
+    None
+}
+
+#[tactic(auto, unfolding(crate::specs::Windows::seconds_in))]
+fn seconds_in(spans: &[(u32, u32)]) -> u64
+    requires { length spans.now ≤ 4 }
+    ensures { result ≡ seconds_in spans.now }
+{
+    let mut seconds = 0;
+    let mut rest = spans;
+    while let [(first, last), after @ ..] = rest {
+        seconds += (u64::from(*last) + 1).saturating_sub(u64::from(*first));
+        rest = after;
+    }
+    seconds
+}
+
+impl WindowSet {
+    /// The windows that spans are. Each of the numbers is at most `LAST_SECOND`.
+    #[tactic(auto, unfolding(crate::specs::Windows::windows_of))]
+    pub fn new(spans: &[(u32, u32)]) -> Result<WindowSet, WindowFault>
+        requires { IsTrue (list_all is_in_days spans.now) }
+        ensures { result ≡ windows_of spans.now }
+    {
+        if spans.is_empty() {
+            return Err(WindowFault::Empty);
+        }
+        if spans.len() > 4 {
+            return Err(WindowFault::TooMany);
+        }
+        if let Some(fault) = bad_span(spans) {
+            return Err(fault);
+        }
+        if seconds_in(spans) > 7200 {
+            return Err(WindowFault::TooLong);
+        }
+        let len = spans.len();
+        let mut kept = [(0, 0); 4];
+        kept[..len].copy_from_slice(spans);
+        Ok(WindowSet { spans: kept, len })
+    }
+
+    /// The spans, in order.
+    pub fn spans(&self) -> &[(u32, u32)]
+        ensures value { result.now ≡ self.now }
+        ensures windows { windows_of self.now ≡ Ok self.now }
+        ensures good { AreGoodWindows self.now }
+        ensures in_order { AreInOrder self.now }
+    {
+        &self.spans[..self.len]
+    }
+}
