@@ -1,0 +1,100 @@
+-- Each record takes a byte or more, so that enough turns give all records of a text.
+use Rattle.std.proofs.Common.{◌≡◌, ℕ, zero, suc, ◌+◌, ◌<◌, ◌≤◌, List, [], ◌∷◌, ◌++◌, true, false, length, Option, Some, None, refl, ap, ◌∙◌, add-one, arith, inl, inr}
+use Rattle.std.proofs.lemmas.Bool.{cases_Bool}
+use Rattle.std.proofs.lemmas.Option.{same_Some}
+use Rattle.std.proofs.lemmas.Grind.{common_steps}
+use Rattle.csv.specs.Machine.{step, Read, next_record, is_end, ends_at_end, fields_after}
+use Rattle.csv.specs.Reading.{default_config, records_from, records_next, ReadsNext, NextIs}
+use Rattle.csv.specs.declared.parser.State.{State}
+use Rattle.csv.specs.declared.parser.State.TheVariants as st
+use Rattle.csv.specs.declared.parser.Action.{Action}
+use Rattle.csv_records.specs.Rows.{Fields}
+use Rattle.csv_records.specs.Left.{records_left}
+
+-- between two records no record stands open
+abbrev pub Between : State → Type 0
+Between s = ends_at_end s ≡ false
+
+Ends : State × Action → Type 0
+Ends p = is_end p.1 ≡ true → Between p.0
+
+end_between : (s : State) (c : ℕ) → Ends (step default_config s c)
+unfolding Ends
+end_between st.StartRecord c = grind (arith, common_steps)
+end_between st.StartField c = grind (arith, common_steps)
+end_between st.InField c = grind (arith, common_steps)
+end_between st.InQuoted c = grind (arith, common_steps)
+end_between st.InEscape c = grind (arith, common_steps)
+end_between st.AfterQuote c = grind (arith, common_steps)
+end_between st.InComment c = grind (arith, common_steps)
+end_between st.AfterCr c = grind (arith, common_steps)
+
+-- a record leaves the text between two records, and takes a byte of a text that has one
+takes : (s : State) (fields : Fields) (f xs : List ℕ) (q : Read) → next_record default_config s fields f xs ≡ Some q → Between q.1 × (length q.2 ≤ length xs) × (0 < length xs → length q.2 < length xs)
+unfolding next_record Ends
+takes s fields f [] q e =
+    elim (cases_Bool (ends_at_end s)) [
+      | inl ended ↦
+          let same = same_Some (fields ++ (f ∷ []), st.StartRecord, []) q (rw ended at e) in
+          rw (← same) (refl, omega arith, λ h. h)
+      | inr between ↦ let none : None ≡ Some q = rw between at e in absurd (cc none)
+    ]
+takes s fields f (c ∷ xs) q e =
+    elim (cases_Bool (is_end (step default_config s c).1)) [
+      | inl end ↦
+          let same = same_Some (fields_after (step default_config s c).1 fields f, (step default_config s c).0, xs) q (rw end at e) in
+          rw (← same) (end_between s c end, omega arith, λ h. omega arith)
+      | inr on ↦
+          let more = takes (step default_config s c).0 _ _ xs q (rw on at e) in
+          (more.0, omega (arith, more.1), λ h. omega (arith, more.1))
+    ]
+
+-- between two records only a text with a byte has a record
+shorter : (s : State) (xs : List ℕ) (q : Read) → Between s → next_record default_config s [] [] xs ≡ Some q → length q.2 < length xs
+unfolding next_record
+shorter s [] q between e = let none : None ≡ Some q = rw between at e in absurd (cc none)
+shorter s (c ∷ xs) q between e = (takes s [] [] (c ∷ xs) q e).2 (omega arith)
+
+-- any two counts of turns that are above the length give the same records
+enough : (n m : ℕ) (s : State) (xs : List ℕ) → Between s → length xs < n → length xs < m → records_from default_config n s xs ≡ records_from default_config m s xs
+unfolding records_from
+enough zero m s xs between a b = absurd (omega arith)
+enough (suc n) zero s xs between a b = absurd (omega arith)
+enough (suc n) (suc m) s xs between a b = by (next_record default_config s [] [] xs) refl (λ q. enough n m q.1 q.2)
+  where
+    by : (o : Option Read) → next_record default_config s [] [] xs ≡ o
+        → ((q : Read) → Between q.1 → length q.2 < n → length q.2 < m → records_from default_config n q.1 q.2 ≡ records_from default_config m q.1 q.2)
+        → records_next (records_from default_config n) o ≡ records_next (records_from default_config m) o
+    by None e same = refl
+    by (Some q) e same =
+        let less = shorter s xs q between e in
+        ap (λ (t : List Fields). q.0 ∷ t) (same q (takes s [] [] xs q e).0 (omega (arith, less)) (omega (arith, less)))
+
+-- one turn, and then the others
+turn : (n : ℕ) (s : State) (xs : List ℕ) → records_from default_config (n + 1) s xs ≡ records_next (records_from default_config n) (next_record default_config s [] [] xs)
+unfolding records_from
+turn n s xs = rw add-one refl
+
+-- a read that gave a record gave the first of those that were left, and leaves the others
+pub one_read : (s : State) (xs : List ℕ) (after : Option (List ℕ)) (fields : Fields) (s2 : State) → Between s → ReadsNext default_config s (Some xs) after true fields s2
+    → (records_left s (Some xs) ≡ fields ∷ records_left s2 after) × Between s2 × (ys : List ℕ) × (after ≡ Some ys)
+one_read s xs None fields s2 between read = absurd read
+one_read s xs (Some ys) fields s2 between read = by (next_record default_config s [] [] xs) refl read
+  where
+    by : (o : Option Read) → next_record default_config s [] [] xs ≡ o → NextIs o true fields s2 ys
+        → (records_left s (Some xs) ≡ fields ∷ records_left s2 (Some ys)) × Between s2 × (zs : List ℕ) × (Some ys ≡ Some zs)
+    by None e is = absurd (cc is)
+    by (Some q) e is =
+        let less = shorter s xs q between e in
+        let ends = (takes s [] [] xs q e).0 in
+        let same = enough (length xs) (length q.2 + 1) q.1 q.2 ends less (omega arith) in
+        rw (is.1, is.2, is.3) (turn (length xs) s xs ∙ rw e (ap (λ (t : List Fields). q.0 ∷ t) same), ends, q.2, refl)
+
+-- a read that gave none left none
+pub none_read : (s : State) (xs : List ℕ) (after : Option (List ℕ)) (fields : Fields) (s2 : State) → ReadsNext default_config s (Some xs) after false fields s2 → records_left s (Some xs) ≡ []
+none_read s xs None fields s2 read = absurd read
+none_read s xs (Some ys) fields s2 read = by (next_record default_config s [] [] xs) refl read
+  where
+    by : (o : Option Read) → next_record default_config s [] [] xs ≡ o → NextIs o false fields s2 ys → records_left s (Some xs) ≡ []
+    by None e is = turn (length xs) s xs ∙ rw e refl
+    by (Some q) e is = absurd (cc is.0)

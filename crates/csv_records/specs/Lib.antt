@@ -1,0 +1,6 @@
+pub mod Rows
+pub mod Left
+pub mod Cutting
+pub mod Plain
+pub mod PlainLaw
+pub mod JoinLaw

@@ -1,0 +1,31 @@
+use crate::{Records, field, first_part, has_many_parts};
+use csv::ByteRecord;
+use std::test::Fail;
+
+// Rows after RFC 4180: quoted commas and line breaks, doubled quotes, and either end of a line.
+#[test]
+fn records_are_read_whatever_their_length(rt: HostRuntime) -> Result<(), Fail> {
+    let text = b"a,b,c\r\n\n\"x,y\",\"line\none\",\"say \"\"hi\"\"\"\nlast";
+    let mut records = Records::new(rt.alloc(), text.as_slice());
+    let mut row = ByteRecord::new(rt.alloc());
+    let want: [(usize, &str, &str); 3] = [(3, "a", "c"), (3, "x,y", "say \"hi\""), (1, "last", "")];
+    for (len, first, third) in want {
+        assert!(rt; records.read_next(&mut row)?);
+        assert!(rt; row.len() == len, "{first}");
+        assert!(rt; field(&row, 0) == first.as_bytes(), "{first}");
+        assert!(rt; field(&row, 2) == third.as_bytes(), "{first}");
+    }
+    assert!(rt; !records.read_next(&mut row)?);
+    assert!(rt; !records.read_next(&mut row)?);
+    Ok(())
+}
+
+#[test]
+fn a_field_is_cut_at_its_first_mark(rt: HostRuntime) {
+    let (first, rest) = first_part(b"1000-2000;3000-4000", b';');
+    assert!(rt; first == b"1000-2000".as_slice());
+    assert!(rt; rest.is_some_and(|r| r == b"3000-4000".as_slice()));
+    assert!(rt; first_part(b"F1", b';').1.is_none());
+    assert!(rt; !has_many_parts(b"a;b;c;d", b';'));
+    assert!(rt; has_many_parts(b"a;b;c;d;e", b';'));
+}
