@@ -1,0 +1,27 @@
+-- What a problem is asked to be: numbers in their ranges, flights in first-come order with callsigns apart, and
+-- pairs of their ranks.
+use Rattle.std.specs.Prelude.{◌≡◌, ◌≢◌, ◌+◌, ◌*◌, ◌<◌, ◌≤◌, length, All, AllPairs, MatchOption, IsTrue, ⊤}
+use Rattle.std.specs.List.{AllAdjacentBelow}
+use Rattle.std.specs.Ordering.{nat_cmp, ordering_then, is_lt}
+use Rattle.std.specs.Cmp.Lexicographic.{slice_cmp}
+use Rattle.wake_table.specs.Table.{IsWakeTable}
+use Rattle.landing_rules.specs.Rules.{last_second}
+use Rattle.landing_rules.specs.Problem.{Problem, Waiting, AreBetweenRanks}
+
+-- first come, first served: by the estimate, and then by the bytes of the callsign
+abbrev pub ComesBefore : Waiting → Waiting → Type 0
+ComesBefore f g = IsTrue (is_lt (ordering_then (nat_cmp f.eta g.eta) (slice_cmp nat_cmp f.callsign g.callsign)))
+
+pub record IsWellFormed (p : Problem) : Type 0 where
+  pub table : IsWakeTable p.table
+  pub few_places : p.k ≤ 3
+  pub few_flights : length p.flights ≤ 60
+  pub in_order : AllAdjacentBelow ComesBefore p.flights (length p.flights)
+  pub callsigns : AllPairs (λ f g. f.callsign ≢ g.callsign) p.flights
+  pub between_ranks : AreBetweenRanks (length p.flights) p.pairs
+  pub last_before : MatchOption p.last ⊤ (λ l. l.0 < p.horizon)
+  pub near_horizon : p.horizon ≤ 179999
+  pub estimates : All (λ f. f.eta ≤ last_second) p.flights
+  pub weights : All (λ f. (1 ≤ f.weight) × (f.weight ≤ 100)) p.flights
+  pub none_passed : All (λ f. f.passed ≡ 0) p.flights
+  pub base : p.base + 17279900 * length p.flights ≤ 8639950000

@@ -1,0 +1,88 @@
+ghost use Rattle.std.specs.Prelude.{◌≡◌, ◌≤◌, ◌*◌, length, IfSome};
+ghost use Rattle.landing_rules.specs.Rules.{last_second};
+ghost use Rattle.cps_theory.specs.Feasible.{next_from};
+ghost use Rattle.landing_joint.specs.RankedProblem.{ranked, landing_after, cost_at, apart_at, start_at, first_at};
+ghost use Rattle.cps_problem.specs.WellFormed.{IsWellFormed};
+
+use crate::Problem;
+use landing_rules::Objective;
+
+impl Problem {
+    /// The least seconds from the landing of a rank to that of another behind it.
+    pub fn separation(&self, leader: u8, follower: u8) -> u32
+        requires leader { (1 ≤ leader) × (leader ≤ length self.now.flights) }
+        requires follower { (1 ≤ follower) × (follower ≤ length self.now.flights) }
+        ensures value { result ≡ apart_at self.now leader follower }
+        ensures range { (1 ≤ result) × (result ≤ 600) }
+    {
+        self.head().table.sep(self.flight(leader).category, self.flight(follower).category)
+    }
+
+    /// From when on a rank may land as the first: from the horizon on, and behind the last frozen landing.
+    pub fn start(&self, rank: u8) -> u32
+        requires { (1 ≤ rank) × (rank ≤ length self.now.flights) }
+        ensures value { result ≡ start_at self.now rank }
+        ensures small { result ≤ 180599 }
+    {
+        let head = self.head();
+        match head.last {
+            None => head.horizon,
+            Some((second, category)) => head.horizon.max(
+                second + head.table.sep(category, self.flight(rank).category),
+            ),
+        }
+    }
+
+    /// From when on a rank may land behind another that landed at a second; behind rank 0 as the first.
+    pub fn ready(&self, last: u8, second: u32, rank: u8) -> u32
+        requires last { last ≤ length self.now.flights }
+        requires second { second ≤ last_second }
+        requires rank { (1 ≤ rank) × (rank ≤ length self.now.flights) }
+        ensures value { result ≡ next_from (ranked self.now) last second rank }
+        ensures small { result ≤ 180599 }
+    {
+        let start = self.start(rank);
+        if last == 0 {
+            return start;
+        }
+        start.max(second + self.separation(last, rank))
+    }
+
+    /// The first open second of a rank from a second on.
+    pub fn first_open(&self, rank: u8, from: u32) -> Option<u32>
+        requires { (1 ≤ rank) × (rank ≤ length self.now.flights) }
+        ensures value { result ≡ first_at self.now rank from }
+        ensures in_days { IfSome result (λ t. t ≤ last_second) }
+    {
+        self.flight(rank).times.first_from(from)
+    }
+
+    /// Where a rank lands behind another that landed at a second, or as the first behind rank 0: its first open second
+    /// from when it may land on. `None` exactly where there is none.
+    pub fn landing_after(&self, last: u8, second: u32, rank: u8) -> Option<u32>
+        requires last { last ≤ length self.now.flights }
+        requires second { second ≤ last_second }
+        requires rank { (1 ≤ rank) × (rank ≤ length self.now.flights) }
+        ensures value { result ≡ landing_after self.now last second rank }
+        ensures in_days { IfSome result (λ t. t ≤ last_second) }
+    {
+        self.first_open(rank, self.ready(last, second, rank))
+    }
+
+    /// What the landing of a rank at a second adds to the delay: its weight times the seconds after its estimate. For the
+    /// makespan nothing.
+    pub fn cost(&self, rank: u8, second: u32) -> u32
+        requires rank { (1 ≤ rank) × (rank ≤ length self.now.flights) }
+        requires second { second ≤ last_second }
+        ensures value { result ≡ cost_at self.now rank second }
+        ensures small { result ≤ 100 * second }
+    {
+        match self.head().objective {
+            Objective::Makespan => 0,
+            Objective::Delay => {
+                let flight = self.flight(rank);
+                flight.weight * second.saturating_sub(flight.eta)
+            }
+        }
+    }
+}

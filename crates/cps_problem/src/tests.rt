@@ -1,0 +1,51 @@
+use crate::{Head, Objective, Problem, Schedule, Waiting};
+use cps_base::Callsign;
+use landing_windows::{Closures, OpenTimes, WindowSet};
+use precedence::Pairs;
+use std::test::Fail;
+use wake_table::{Category, PairTable};
+
+fn shared_by_pieces<T: Send + Sync>(_: &T) {}
+
+#[test]
+fn a_problem_and_its_copy_land_a_flight(rt: HostRuntime) -> Result<(), Fail> {
+    let alloc = rt.alloc();
+    let table = PairTable::new([[90; 6]; 6])?;
+    let _ = table.sep(Category::A, Category::B);
+    let windows = WindowSet::new(&[(1000, 1200)])?;
+    let times = OpenTimes::of(alloc, &windows, &Closures::new())?;
+    let mut waiting = Vec::new(alloc);
+    waiting.push(Waiting {
+        callsign: Callsign::read(b"AB1").ok_or("not a callsign")?,
+        category: Category::B,
+        eta: 1000,
+        weight: 3,
+        times,
+    })?;
+    let head = Head {
+        table,
+        k: 0,
+        objective: Objective::Delay,
+        horizon: 1010,
+        last: Some((1000, Category::A)),
+        base: 0,
+    };
+    let problem = Problem::build(head, waiting, Pairs::new());
+    shared_by_pieces(&problem);
+    let copied = problem.copy()?;
+    assert_eq!(rt; copied.len(), 1);
+    assert_eq!(rt; copied.landing_after(0, 0, 1), Some(1090));
+    assert_eq!(rt; copied.cost(1, 1090), 270);
+    Ok(())
+}
+
+#[test]
+fn a_second_is_set(rt: HostRuntime) -> Result<(), Fail> {
+    let mut schedule = Schedule::of(vec![in rt.alloc(); 0; 3]?);
+    schedule.set(2, 70);
+    assert_eq!(rt;
+        (schedule.second(1), schedule.second(2), schedule.len()),
+        (0, 70, 3)
+    );
+    Ok(())
+}
