@@ -1,0 +1,101 @@
+-- Lists of windows that are one, and the windows of the next stage.
+use Rattle.std.proofs.Common.{◌≡◌, ℕ, ◌+◌, ◌-◌, ◌*◌, ◌<◌, ◌≤◌, List, [], ◌∷◌, length, get_or, refl, arith, ◌∙◌, sym, ap, ap₂, inl, inr, subst, zero, suc}
+use Rattle.std.specs.Prelude.{ℤ, ◌↔◌, Contains}
+use Rattle.std.proofs.lemmas.Int.{ints}
+use Rattle.cps_nodes.specs.Windows.{IsWindow, Accepts, shifted}
+use Rattle.cps_nodes.specs.WindowOrder.{window_cmp}
+use Rattle.std.specs.declared.cmp.Ordering.TheVariants.{Equal}
+use Rattle.cps_nodes.specs.Laws.{LeadOn, offset_after}
+use Rattle.cps_nodes.specs.Leads.{Extends, TailMeetsHead}
+use Rattle.landing_rules.specs.Problem.{Problem}
+use Rattle.cps_network.specs.Lists.{node_at, AreWindows}
+use Rattle.cps_network.specs.Landable.{HoldsCandidates}
+use Rattle.cps_network.specs.Permits.{IsPermitted, IsSuccessor, IsNextOf, NoneWaits, Repeats}
+use Rattle.cps_network.proofs.MergeLemmas.{same_from_tie, node_at-default, last_or_before, Contains-node_at}
+
+pub lists_same : (xs ys : List (List ℤ)) → length xs ≡ length ys → ((m : ℕ) → m < length xs → node_at xs m ≡ node_at ys m) → xs ≡ ys
+lists_same [] [] e h = refl
+lists_same [] (y ∷ ys) e h = absurd (omega arith)
+lists_same (x ∷ xs) [] e h = absurd (omega arith)
+lists_same (x ∷ xs) (y ∷ ys) e h = ap₂ (λ (z : List ℤ) (zs : List (List ℤ)). z ∷ zs) (h 0 (omega arith)) (lists_same xs ys (omega arith) (λ m lt. h (suc m) (omega arith)))
+
+-- the lists are one up to i
+abbrev pub AreSameUpto : List (List ℤ) → List (List ℤ) → ℕ → Type 0
+AreSameUpto left right i = (m : ℕ) → m < i → node_at left m ≡ node_at right m
+
+pub same_more : (left right : List (List ℤ)) (i : ℕ) (a b : List ℤ) → AreSameUpto left right i → i < length left → i < length right
+    → a ≡ get_or left i a → b ≡ get_or right i b → window_cmp a b ≡ Equal → AreSameUpto left right (i + 1)
+same_more left right i a b is lt lt' a_is b_is tie m lm =
+    let at_a : a ≡ node_at left i = a_is ∙ node_at-default left i a [] lt in
+    let at_b : b ≡ node_at right i = b_is ∙ node_at-default right i b [] lt' in
+    elim (last_or_before m i lm) [
+      | inl same ↦ subst (λ (q : ℕ). node_at left q ≡ node_at right q) (sym same) (sym at_a ∙ same_from_tie a b tie ∙ at_b)
+      | inr less ↦ is m less
+    ]
+
+pub same_all : (left right : List (List ℤ)) (i : ℕ) → AreSameUpto left right i → length left ≤ i → length left ≡ length right → left ≡ right
+same_all left right i is end len = lists_same left right len (λ m lt. is m (omega arith))
+
+pub window_at : (width : ℕ) (ws : List (List ℤ)) (x : List ℤ) → AreWindows width ws → Contains ws x → IsWindow width x
+window_at width ws x valid (i, lt, at) = subst (λ (z : List ℤ). IsWindow width z) (node_at-default ws i [] x lt ∙ at) (valid i lt)
+
+-- a successor at one stage is one at another where no rank in reach is out of range or waits for another
+successor_moves : (p : Problem) (a b : ℕ) (xs x : List ℤ) → length xs ≡ 2 * p.k + 1 → p.k ≤ b → b + 1 + p.k ≤ length p.flights → NoneWaits p b
+    → IsSuccessor p a xs x → IsSuccessor p b xs x
+successor_moves p a b xs x len low high ready (rank, is, e) =
+    let other : ℕ = rank + b - a in
+    let same : offset_after a rank ≡ offset_after b (rank + b - a) = omega (arith, ints, is.late) in (
+      rank + b - a,
+      record {
+        from_one = omega (arith, is.late);
+        to_count = omega (arith, is.early);
+        early = omega (arith, is.early);
+        late = omega (arith, is.late);
+        accepted = subst (λ (o : ℤ). Accepts xs o) same is.accepted;
+        after = λ first must. inl (omega (arith, ints, len, ready (rank + b - a) (omega (arith, is.late)) (omega (arith, is.early)) (omega (arith, is.early)) (omega (arith, is.late)) first must));
+      },
+      e ∙ ap (shifted xs) same,
+    )
+
+pub next_repeats : (p : Problem) (q stage width : ℕ) (before earlier after : List (List ℤ)) → width ≡ 2 * p.k + 1 → AreWindows width before → before ≡ earlier
+    → q < stage → Repeats p q stage → IsNextOf p q earlier after → IsNextOf p stage before after
+next_repeats p q stage width before earlier after odd valid same less again next x =
+    let next' : Contains after x ↔ ((window : List ℤ) × Contains before window × IsSuccessor p q window x) =
+    subst (λ (ws : List (List ℤ)). Contains after x ↔ ((window : List ℤ) × Contains ws window × IsSuccessor p q window x)) (sym same) (next x) in (
+      λ has. let s : (window : List ℤ) × Contains before window × IsSuccessor p q window x = next'.0 has in
+          (s.0, s.1, successor_moves p q stage s.0 x ((window_at width before s.0 valid s.1).len ∙ odd) (omega (arith, again.from_one)) again.to_count again.ready s.2),
+      λ s. next'.1 (s.0, s.1, successor_moves p stage q s.0 x ((window_at width before s.0 valid s.1).len ∙ odd) again.from_one (omega (arith, again.to_count)) again.earlier_ready s.2),
+    )
+
+-- the windows of the next stage are windows
+pub next_valid : (p : Problem) (stage width : ℕ) (before after : List (List ℤ)) → width ≡ 2 * p.k + 1 → LeadOn width → AreWindows width before
+    → IsNextOf p stage before after → AreWindows width after
+next_valid p stage width before after odd law valid next i lt =
+    let s : (window : List ℤ) × Contains before window × IsSuccessor p stage window (node_at after i) = (next (node_at after i)).0 (Contains-node_at after i lt) in
+    let is : IsPermitted p stage s.0 s.2.0 = s.2.1 in
+    subst (λ (z : List ℤ). IsWindow width z) (sym s.2.2) (law.stays s.0 (offset_after stage s.2.0) (window_at width before s.0 valid s.1)
+    (record { low = omega (arith, ints, is.late, odd); high = omega (arith, ints, is.early, odd) }) is.accepted)
+
+pub one_window : (width : ℕ) (x : List ℤ) → IsWindow width x → AreWindows width (x ∷ [])
+one_window width x is zero lt = is
+one_window width x is (suc i) lt = absurd (omega arith)
+
+-- the same, for numbers and windows that are written otherwise
+pub next_at : (p : Problem) (a b : ℕ) (xs ys us vs : List (List ℤ)) → IsNextOf p a xs us → a ≡ b → xs ≡ ys → us ≡ vs → IsNextOf p b ys vs
+next_at p a b xs ys us vs next e f h = subst (λ (q : ℕ). IsNextOf p q ys vs) e (subst (λ (zs : List (List ℤ)). IsNextOf p a zs vs) f (subst (λ (zs : List (List ℤ)). IsNextOf p a xs zs) h next))
+
+-- a range of the windows whose tail is the head of a window is that of those that lead to it
+pub extends_exact : (w : ℕ) (before : List (List ℤ)) (node : List ℤ) (from to : ℕ) → LeadOn w → AreWindows w before → IsWindow w node
+    → ((i : ℕ) → i < length before → TailMeetsHead (node_at before i) node ↔ ((from ≤ i) × (i < to)))
+    → (i : ℕ) → i < length before → Extends (node_at before i) node ↔ ((from ≤ i) × (i < to))
+extends_exact w before node from to law valid is exact i lt = (
+  λ extends. (exact i lt).0 ((law.meets (node_at before i) node (valid i lt) is).0 extends),
+  λ range. (law.meets (node_at before i) node (valid i lt) is).1 ((exact i lt).1 range),
+)
+
+-- where the stage before holds the landable windows, the next holds the candidates
+pub candidates : (p : Problem) (before after : ℕ × List (List ℤ)) → IsNextOf p before.0 before.1 after.1 → HoldsCandidates p before after
+candidates p before after next holds x = (
+  λ has. let s : (window : List ℤ) × Contains before.1 window × IsSuccessor p before.0 window x = (next x).0 has in (s.0, (holds s.0).0 s.1, s.2),
+  λ (xs, landable, is). (next x).1 (xs, (holds xs).1 landable, is),
+)

@@ -1,0 +1,131 @@
+-- The windows that lead to one window stand side by side.
+use Rattle.std.proofs.Common.{◌≡◌, ℕ, ◌+◌, ◌-◌, ◌<◌, ◌≤◌, List, length, drop, take, refl, arith, ◌∙◌, sym, ap, inl, inr, subst}
+use Rattle.std.specs.Prelude.{ℤ, ◌⊎◌, ◌↔◌}
+use Rattle.std.proofs.lemmas.Bool.Decides.{nat_tests}
+use Rattle.std.proofs.lemmas.Cmp.{lists_total, int_cmp_total, tied_itself}
+use Rattle.std.specs.declared.cmp.Ordering.{Ordering}
+use Rattle.std.specs.declared.cmp.Ordering.TheVariants.{Less, Equal, Greater}
+use Rattle.std.specs.Ordering.{int_cmp, int_eq, is_eq, ordering_then}
+use Rattle.std.specs.Cmp.{IsTotalOrder}
+use Rattle.std.specs.Cmp.Lexicographic.{slice_cmp, pointwise, lists_ties}
+use Rattle.cps_nodes.specs.WindowOrder.{window_cmp}
+use Rattle.cps_nodes.specs.Leads.{IsBelow, TailMeetsHead}
+use Rattle.std.proofs.lemmas.Slice.Eq.{slice_eq-Decides}
+use Rattle.std.proofs.lemmas.Bool.Decides.{Decides-int_eq}
+use Rattle.cps_network.specs.Lists.{node_at, IsAscending}
+use Rattle.cps_network.specs.Begins.{BeginAt}
+use Rattle.cps_network.proofs.MergeLemmas.{last_or_before}
+
+total : IsTotalOrder (slice_cmp int_cmp)
+total = lists_total int_cmp_total
+
+tie_is_same : (xs ys : List ℤ) → slice_cmp int_cmp xs ys ≡ Equal → xs ≡ ys
+tie_is_same xs ys e = (slice_eq-Decides Decides-int_eq xs ys (pointwise int_eq xs ys) refl).0 (lists_ties int_cmp (λ a b. refl) xs ys ∙ ap is_eq e)
+
+-- the tails of ascending windows do not fall
+tails_rise : (x y : List ℤ) → window_cmp x y ≡ Less → (slice_cmp int_cmp (drop 1 x) (drop 1 y) ≡ Less) ⊎ (drop 1 x ≡ drop 1 y)
+tails_rise x y h = go (slice_cmp int_cmp (drop 1 x) (drop 1 y)) refl h
+  where
+    go : (o : Ordering) → slice_cmp int_cmp (drop 1 x) (drop 1 y) ≡ o → ordering_then o (slice_cmp int_cmp (take 1 x) (take 1 y)) ≡ Less
+        → (slice_cmp int_cmp (drop 1 x) (drop 1 y) ≡ Less) ⊎ (drop 1 x ≡ drop 1 y)
+    go Less e h = inl e
+    go Equal e h = inr (tie_is_same (drop 1 x) (drop 1 y) e)
+    go Greater e h = cc
+
+-- what stands before a window that is below, is below
+pub IsBelow-earlier : (x y z : List ℤ) → window_cmp x y ≡ Less → IsBelow y z → IsBelow x z
+IsBelow-earlier x y z up below = elim (tails_rise x y up) [
+  | inl less ↦ total.trans (drop 1 x) (drop 1 y) (take (length z - 1) z) less below
+  | inr same ↦ subst (λ (t : List ℤ). slice_cmp int_cmp t (take (length z - 1) z) ≡ Less) (sym same) below
+]
+
+-- a window that leads to another is not below it
+pub not_below : (x z : List ℤ) → TailMeetsHead x z → IsBelow x z → ⊥
+not_below x z leads below =
+    let tie : slice_cmp int_cmp (drop 1 x) (take (length z - 1) z) ≡ Equal =
+    subst (λ (t : List ℤ). slice_cmp int_cmp t (take (length z - 1) z) ≡ Equal) (sym leads) (tied_itself total (take (length z - 1) z)) in
+    cc
+
+-- nothing after a window that is past those that lead to another leads to it
+pub none_after : (x y z : List ℤ) → window_cmp x y ≡ Less → (IsBelow x z → ⊥) → (TailMeetsHead x z → ⊥) → TailMeetsHead y z → ⊥
+none_after x y z up not_under not_leads leads = elim (tails_rise x y up) [
+  | inl less ↦ not_under (subst (λ (t : List ℤ). slice_cmp int_cmp (drop 1 x) t ≡ Less) leads less)
+  | inr same ↦ not_leads (same ∙ leads)
+]
+
+-- the search so far: all before low are below, and none from high on is
+pub record IsSearch (before : List (List ℤ)) (node : List ℤ) (low high : ℕ) : Type 0 where
+  pub ordered : low ≤ high
+  pub within : high ≤ length before
+  pub below : (i : ℕ) → i < low → IsBelow (node_at before i) node
+  pub above : (i : ℕ) → high ≤ i → i < length before → IsBelow (node_at before i) node → ⊥
+
+same_or_before : (i j : ℕ) → i ≤ j → (i ≡ j) ⊎ (i < j)
+same_or_before i j h = grind (arith, nat_tests)
+
+pub search_right : (before : List (List ℤ)) (node : List ℤ) (low high middle : ℕ) → IsAscending before → IsSearch before node low high → low ≤ middle → middle < high
+    → IsBelow (node_at before middle) node → IsSearch before node (middle + 1) high
+search_right before node low high middle up is lm mh below = record {
+  ordered = omega arith;
+  within = is.within;
+  below = λ i lt. elim (last_or_before i middle lt) [
+    | inl same ↦ subst (λ (q : ℕ). IsBelow (node_at before q) node) (sym same) below
+    | inr less ↦ IsBelow-earlier (node_at before i) (node_at before middle) node (up i middle less (omega (arith, is.within))) below
+  ];
+  above = is.above;
+}
+
+pub search_left : (before : List (List ℤ)) (node : List ℤ) (low high middle : ℕ) → IsAscending before → IsSearch before node low high → low ≤ middle → middle < high
+    → (IsBelow (node_at before middle) node → ⊥) → IsSearch before node low middle
+search_left before node low high middle up is lm mh not = record {
+  ordered = lm;
+  within = omega (arith, is.within);
+  below = is.below;
+  above = λ i from within below. elim (same_or_before middle i from) [
+    | inl same ↦ not (subst (λ (q : ℕ). IsBelow (node_at before q) node) (sym same) below)
+    | inr less ↦ not (IsBelow-earlier (node_at before middle) (node_at before i) node (up middle i less within) below)
+  ];
+}
+
+-- the range is that of the windows that lead to the node
+pub exact : (before : List (List ℤ)) (node : List ℤ) (from to : ℕ) → IsAscending before
+    → ((i : ℕ) → i < from → IsBelow (node_at before i) node)
+    → ((i : ℕ) → from ≤ i → i < length before → IsBelow (node_at before i) node → ⊥)
+    → from ≤ to
+    → ((i : ℕ) → from ≤ i → i < to → TailMeetsHead (node_at before i) node)
+    → (to < length before → TailMeetsHead (node_at before to) node → ⊥)
+    → (i : ℕ) → i < length before → TailMeetsHead (node_at before i) node ↔ ((from ≤ i) × (i < to))
+exact before node from to up below above ordered leads stop i within =
+    (λ here. (start here (split i from), end here (split i to)), λ range. leads i range.0 range.1)
+  where
+    split : (a b : ℕ) → (a < b) ⊎ (b ≤ a)
+    split a b = grind (arith, nat_tests)
+
+    start : TailMeetsHead (node_at before i) node → (i < from) ⊎ (from ≤ i) → from ≤ i
+    start here (inl lt) = absurd (not_below (node_at before i) node here (below i lt))
+    start here (inr le) = le
+
+    end : TailMeetsHead (node_at before i) node → (i < to) ⊎ (to ≤ i) → i < to
+    end here (inl lt) = lt
+    end here (inr le) = elim (same_or_before to i le) [
+      | inl same ↦ absurd (stop (omega arith) (subst (λ (q : ℕ). TailMeetsHead (node_at before q) node) (sym same) here))
+      | inr less ↦ absurd (none_after (node_at before to) (node_at before i) node (up to i less within) (above to ordered (omega arith)) (stop (omega arith)) here)
+    ]
+
+-- where the windows that lead to a node begin at a place, all before are below and none from there on is
+pub below_before : (before : List (List ℤ)) (node : List ℤ) (place : ℕ) → IsAscending before → BeginAt before node place → (i : ℕ) → i < place → IsBelow (node_at before i) node
+below_before before node place up is i lt =
+    let last : IsBelow (node_at before (place - 1)) node = elim (tails_rise (node_at before (place - 1)) (node_at before place) (up (place - 1) place (omega (arith, lt)) is.within)) [
+      | inl less ↦ subst (λ (t : List ℤ). slice_cmp int_cmp (drop 1 (node_at before (place - 1))) t ≡ Less) is.leads less
+      | inr same ↦ absurd (is.first (omega (arith, lt)) (same ∙ is.leads))
+    ] in
+    elim (same_or_before i (place - 1) (omega (arith, lt))) [
+      | inl e ↦ subst (λ (q : ℕ). IsBelow (node_at before q) node) (sym e) last
+      | inr less ↦ IsBelow-earlier (node_at before i) (node_at before (place - 1)) node (up i (place - 1) less (omega (arith, is.within))) last
+    ]
+
+pub none_from : (before : List (List ℤ)) (node : List ℤ) (place : ℕ) → IsAscending before → BeginAt before node place → (i : ℕ) → place ≤ i → i < length before → IsBelow (node_at before i) node → ⊥
+none_from before node place up is i le within below = elim (same_or_before place i le) [
+  | inl e ↦ not_below (node_at before place) node is.leads (subst (λ (q : ℕ). IsBelow (node_at before q) node) (sym e) below)
+  | inr less ↦ not_below (node_at before place) node is.leads (IsBelow-earlier (node_at before place) (node_at before i) node (up place i less within) below)
+]

@@ -1,0 +1,8 @@
+-- The definitions of this crate.
+pub mod Lists
+pub mod Firsts
+pub mod Permits
+pub mod Begins
+pub mod Compacted
+pub mod Nodes
+pub mod Landable

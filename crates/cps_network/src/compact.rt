@@ -1,0 +1,45 @@
+//! To keep some places of a list, in order and in place.
+
+ghost use Rattle.std.specs.Prelude.{◌≡◌, ℕ, Bool, ◌<◌, ◌≤◌, List, length, vec_len};
+ghost use Rattle.std.specs.Fn.{FnReturnsAt};
+ghost use Rattle.std.specs.List.{AllZip, swap};
+ghost use Rattle.cps_nodes.specs.Windows.{IsWidth};
+ghost use Rattle.cps_network.specs.Compacted.{kept_where};
+
+use cps_nodes::Window;
+
+// Brings a hint to the front, where there is one.
+fn bring_hint(hints: &mut Vec<u32>, kept: usize, i: usize)
+    requires { kept ≤ i }
+{
+    if i < hints.len() {
+        hints.swap(kept, i);
+    }
+}
+
+// Keeps the windows and the labels at the places whose label `keep` accepts, in order, and the hints where there are any.
+pub(crate) fn compact_all<const W: usize, T: Drop, F: Fn(&T) -> bool>(
+    windows: &mut Vec<Window<W>>,
+    hints: &mut Vec<u32>,
+    labels: &mut Vec<T>,
+    keep: &F,
+)
+    requires width { IsWidth W }
+    requires one_each { vec_len labels.old ≡ vec_len windows.old }
+    requires callable { F.IsAlwaysCallable keep.now }
+    ensures { (answers : List Bool) × AllZip (FnReturnsAt F.Fn keep.now) labels.old.items answers × (windows.new.items ≡ kept_where answers windows.old.items) × (labels.new.items ≡ kept_where answers labels.old.items) }
+{
+    let mut kept = 0;
+    for i in 0..labels.len() {
+        if !keep(&labels[i]) {
+            continue;
+        }
+        labels.swap(kept, i);
+        windows.swap(kept, i);
+        bring_hint(hints, kept, i);
+        kept += 1;
+    }
+    labels.truncate(kept);
+    windows.truncate(kept);
+    hints.truncate(kept);
+}

@@ -1,0 +1,22 @@
+//! Stages of the position network: the windows in which a legal prefix of a length may end, in ascending order.
+//!
+//! The network follows Balakrishnan and Chandran (2010) in outline; its exact form is this project's own.
+#![tactic(auto)]
+
+mod compact;
+mod laws;
+mod merge;
+mod next;
+mod permit;
+mod runs;
+mod source_range;
+mod stage;
+
+pub use laws::prefix_laws;
+pub use next::{next_stage, next_stage_like};
+pub use permit::is_permitted;
+pub use source_range::sources;
+pub use stage::Stage;
+
+#[cfg(test)]
+mod tests;

@@ -1,0 +1,217 @@
+//! The stage after a stage.
+
+ghost use Rattle.std.specs.Prelude.{◌≡◌, ℕ, ◌+◌, ◌-◌, ◌*◌, ◌/◌, ◌<◌, ◌≤◌, ◌⊎◌, ◌↔◌, length, IsTrue, IfOk, OnOk, Contains};
+ghost use Rattle.precedence.specs.Pairs.{HasBit};
+ghost use Rattle.cps_nodes.specs.Laws.{LeadOn, offset_after};
+ghost use Rattle.cps_nodes.specs.Windows.{IsWidth, shifted};
+ghost use Rattle.cps_network.specs.Landable.{HoldsCandidates};
+ghost use Rattle.cps_network.specs.Lists.{IsAscending, AreWindows, node_at};
+ghost use Rattle.cps_network.specs.Permits.{IsPermitted, IsSuccessor, IsNextOf, Repeats};
+
+use crate::permit::{due_set, most_shift, none_waits, successor};
+use crate::runs::Runs;
+use crate::stage::Stage;
+use cps_nodes::{Window, window_laws};
+use cps_problem::Problem;
+use std::alloc::{AllocError, Global};
+use std::cmp::Ordering;
+
+// Adds the window after a landing of a rank, where it is permitted.
+fn add_permitted<const W: usize>(
+    alloc: Global,
+    problem: &Problem,
+    window: &Window<W>,
+    stage: u8,
+    rank: u8,
+    due: u64,
+    runs: &mut Runs<W>,
+) -> Result<(), AllocError>
+    requires width { W ≡ 2 * problem.now.k + 1 }
+    requires stage { stage < length problem.now.flights }
+    requires due { (rank : ℕ) → HasBit due rank ↔ (rank + W / 2 ≤ stage) }
+    requires rank { (1 ≤ rank) × (rank ≤ length problem.now.flights) }
+    requires reach { (rank ≤ stage + 1 + problem.now.k) × (stage + 1 ≤ rank + problem.now.k) }
+    ensures { OnOk result ((x : _) → Contains runs.new x ↔ (Contains runs.old x ⊎ (IsPermitted problem.now stage window.now rank × (x ≡ shifted window.now (offset_after stage rank))))) }
+{
+    match successor(problem, window, stage, rank, due) {
+        None => Ok(()),
+        Some(next) => {
+            runs.add(alloc, next)?;
+            Ok(())
+        }
+    }
+}
+
+// Adds each window that extends this one by a permitted rank.
+fn add_successors<const W: usize>(
+    alloc: Global,
+    problem: &Problem,
+    window: &Window<W>,
+    stage: u8,
+    due: u64,
+    runs: &mut Runs<W>,
+) -> Result<(), AllocError>
+    requires width { W ≡ 2 * problem.now.k + 1 }
+    requires stage { stage < length problem.now.flights }
+    requires due { (rank : ℕ) → HasBit due rank ↔ (rank + W / 2 ≤ stage) }
+    ensures { OnOk result ((x : _) → Contains runs.new x ↔ (Contains runs.old x ⊎ IsSuccessor problem.now stage window.now x)) }
+{
+    let k = most_shift(problem);
+    let n = problem.len();
+    let first = (stage + 1).saturating_sub(k).max(1);
+    let end = (stage + 1 + k).min(n) + 1;
+    for rank in first..end {
+        add_permitted(alloc, problem, window, stage, rank, due, runs)?;
+    }
+    Ok(())
+}
+
+// The same for the window at a place, where those of the place before are added.
+fn add_at<const W: usize>(
+    alloc: Global,
+    problem: &Problem,
+    before: &[Window<W>],
+    i: usize,
+    stage: u8,
+    due: u64,
+    runs: &mut Runs<W>,
+) -> Result<(), AllocError>
+    requires width { W ≡ 2 * problem.now.k + 1 }
+    requires stage { stage < length problem.now.flights }
+    requires due { (rank : ℕ) → HasBit due rank ↔ (rank + W / 2 ≤ stage) }
+    requires within { i < length before.now }
+    requires last { 0 < i → (x : _) → IsSuccessor problem.now stage (node_at before.now (i - 1)) x → Contains runs.old x }
+    ensures { OnOk result ((x : _) → Contains runs.new x ↔ (Contains runs.old x ⊎ IsSuccessor problem.now stage (node_at before.now i) x)) }
+{
+    if i > 0 && before[i - 1].shares_tail(&before[i]) {
+        return Ok(());
+    }
+    add_successors(alloc, problem, &before[i], stage, due, runs)?;
+    Ok(())
+}
+
+// The windows that extend those of a stage by a permitted rank, in ascending order.
+fn next_windows<const W: usize>(
+    alloc: Global,
+    problem: &Problem,
+    stage: u8,
+    before: &[Window<W>],
+) -> Result<Vec<Window<W>>, AllocError>
+    requires width { W ≡ 2 * problem.now.k + 1 }
+    requires stage { stage < length problem.now.flights }
+    requires valid { AreWindows W before.now }
+    ensures ascending { IfOk result (λ after. IsAscending after.items) }
+    ensures exact { IfOk result (λ after. IsNextOf problem.now stage before.now after.items) }
+    ensures valid { IfOk result (λ after. AreWindows W after.items) }
+{
+    let k = most_shift(problem);
+    let _few = problem.len();
+    window_laws::<W>();
+    let due = due_set(stage, k);
+    let mut runs = Runs::new(alloc);
+    for i in 0..before.len() {
+        add_at(alloc, problem, before, i, stage, due, &mut runs)?;
+    }
+    let after = runs.into_list(alloc)?;
+    Ok(after)
+}
+
+// Where the windows that lead to each are likely to begin, for all at once: one cursor for each first offset.
+fn begins<const W: usize>(
+    alloc: Global,
+    before: &[Window<W>],
+    after: &[Window<W>],
+) -> Result<Vec<u32>, AllocError>
+    requires { IsWidth W }
+{
+    let mut cursors = [0usize; 8];
+    let mut begins = Vec::with_capacity(alloc, after.len())?;
+    for node in after {
+        let run = node.offset(0).rem_euclid(8) as usize;
+        let mut place = cursors[run];
+        while place < before.len() && before[place].is_below(node) {
+            place += 1;
+        }
+        cursors[run] = place;
+        begins.push(place.min(u32::MAX as usize) as u32)?;
+    }
+    Ok(begins)
+}
+
+/// The stage after a stage of a problem: exactly the windows that extend one of it by a permitted rank.
+pub fn next_stage<const W: usize>(
+    alloc: Global,
+    before: &Stage<W>,
+    problem: &Problem,
+) -> Result<Stage<W>, AllocError>
+    requires width { W ≡ 2 * problem.now.k + 1 }
+    requires stage { before.now.0 < length problem.now.flights }
+    ensures number { IfOk result (λ s. s.0 ≡ before.now.0 + 1) }
+    ensures ascending { IfOk result (λ s. IsAscending s.1) }
+    ensures exact { IfOk result (λ s. IsNextOf problem.now before.now.0 before.now.1 s.1) }
+    ensures candidates { IfOk result (λ s. HoldsCandidates problem.now before.now s) }
+{
+    let _few = problem.len();
+    let _near = problem.head();
+    let windows = next_windows(alloc, problem, before.number(), before.windows())?;
+    let hints = begins(alloc, before.windows(), &windows)?;
+    Ok(Stage::made(before.number() + 1, windows, hints))
+}
+
+// Whether two lists of windows are one.
+fn are_same<const W: usize>(left: &[Window<W>], right: &[Window<W>]) -> bool
+    ensures { IsTrue result → left.now ≡ right.now }
+{
+    if left.len() != right.len() {
+        return false;
+    }
+    for i in 0..left.len() {
+        match left[i].cmp(&right[i]) {
+            Ordering::Equal => {}
+            _ => return false,
+        }
+    }
+    true
+}
+
+// Whether the same ranks, counted from the next place, may land after two stages that have the same windows.
+fn repeats(problem: &Problem, earlier: u8, stage: u8) -> bool
+    requires stage { stage < length problem.now.flights }
+    requires before { earlier < stage }
+    ensures { IsTrue result → Repeats problem.now earlier stage }
+{
+    let k = most_shift(problem);
+    let n = problem.len();
+    earlier >= k && stage + 1 + k <= n && none_waits(problem, earlier) && none_waits(problem, stage)
+}
+
+/// The same as `next_stage`, where an earlier stage and the stage after that are at hand: in the middle of a list the next
+/// stage is often a copy of that one.
+pub fn next_stage_like<const W: usize>(
+    alloc: Global,
+    before: &Stage<W>,
+    problem: &Problem,
+    earlier: &Stage<W>,
+    after: &Stage<W>,
+) -> Result<Stage<W>, AllocError>
+    requires width { W ≡ 2 * problem.now.k + 1 }
+    requires stage { before.now.0 < length problem.now.flights }
+    requires earlier { earlier.now.0 < before.now.0 }
+    requires after { IsNextOf problem.now earlier.now.0 earlier.now.1 after.now.1 }
+    ensures number { IfOk result (λ s. s.0 ≡ before.now.0 + 1) }
+    ensures ascending { IfOk result (λ s. IsAscending s.1) }
+    ensures exact { IfOk result (λ s. IsNextOf problem.now before.now.0 before.now.1 s.1) }
+    ensures candidates { IfOk result (λ s. HoldsCandidates problem.now before.now s) }
+{
+    let _few = problem.len();
+    let _near = problem.head();
+    let _ascending = after.windows();
+    if repeats(problem, earlier.number(), before.number())
+        && are_same(before.windows(), earlier.windows())
+    {
+        let next = after.copy_as(before.number() + 1)?;
+        return Ok(next);
+    }
+    let next = next_stage(alloc, before, problem)?;
+    Ok(next)
+}

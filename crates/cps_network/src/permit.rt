@@ -1,0 +1,178 @@
+//! Whether a rank may land next, and the window that then follows.
+
+ghost use Rattle.std.specs.Prelude.{◌≡◌, ℕ, ℤ, pos, ◌+◌, ◌*◌, ◌/◌, ◌<◌, ◌-◌, ◌≤◌, ◌↔◌, ◌+ℤ◌, ◌-ℤ◌, ◌≤ℤ◌, List, ◌∷◌, length, reverse, IsTrue, IfSome, SomeIff};
+ghost use Rattle.precedence.specs.Pairs.{HasBit, MustPrecede};
+ghost use Rattle.cps_nodes.specs.Windows.{IsWindow, IsPlaced, shifted};
+ghost use Rattle.cps_nodes.specs.Ranks.{window_of};
+ghost use Rattle.cps_nodes.specs.Laws.{offset_after};
+ghost use Rattle.cps_network.specs.Permits.{IsPermitted, NoneWaits};
+ghost use Rattle.cps_theory.specs.LegalPrefix.{IsLegalPrefix};
+ghost use Rattle.landing_joint.specs.RankedProblem.{ranked};
+
+use crate::laws::prefix_laws;
+use cps_nodes::Window;
+use cps_problem::Problem;
+
+// The most places by which a flight may leave its first-come place.
+pub fn most_shift(problem: &Problem) -> u8
+    ensures k { result ≡ problem.now.k }
+    ensures near { result ≤ 3 }
+    ensures few { length problem.now.flights ≤ 60 }
+{
+    problem.head().k
+}
+
+// The ranks that are due by a stage, as bits: those at most stage - k.
+pub fn due_set(stage: u8, k: u8) -> u64
+    requires stage { stage ≤ 60 }
+    requires near { k ≤ 3 }
+    ensures { (rank : ℕ) → HasBit result rank ↔ (rank + k ≤ stage) }
+{
+    if stage < k {
+        return 0;
+    }
+    (1 << (stage - k + 1)) - 1
+}
+
+// The place at which a window of so many places holds entry i.
+fn place_at(stage: u8, i: usize, places: usize) -> i32
+    requires stage { stage ≤ 60 }
+    requires within { i < places }
+    requires few { places < 8 }
+    ensures { result ≡ pos stage -ℤ pos (places - 1 - i) }
+{
+    stage as i32 - (places - 1 - i) as i32
+}
+
+// The rank at an offset from a place, and 0 for a rank below 1.
+fn rank_from(place: i32, offset: i8) -> u8
+    requires low { pos 0 ≤ℤ (place +ℤ pos 7) }
+    requires high { place ≤ℤ pos 60 }
+    requires offset_low { pos 0 ≤ℤ (offset +ℤ pos 3) }
+    requires offset_high { offset ≤ℤ pos 3 }
+    ensures few { result < 64 }
+    ensures rank { (rank : ℕ) → 1 ≤ rank → (rank ≡ result) ↔ (place +ℤ offset ≡ pos rank) }
+{
+    let rank = place + offset as i32;
+    if rank < 0 { 0 } else { rank as u8 }
+}
+
+// The ranks that a window of a stage places, as bits.
+fn placed_set<const W: usize>(window: &Window<W>, stage: u8, due: u64) -> u64
+    requires stage { stage ≤ 60 }
+    requires valid { IsWindow W window.now }
+    requires due { (rank : ℕ) → HasBit due rank ↔ (rank + W / 2 ≤ stage) }
+    ensures { (rank : ℕ) → 1 ≤ rank → HasBit result rank ↔ IsPlaced window.now (pos stage) (pos rank) }
+{
+    let mut placed = due;
+    for i in 0..W {
+        let rank = rank_from(place_at(stage, i, W), window.offset(i));
+        placed |= 1 << rank;
+    }
+    placed
+}
+
+// Whether each predecessor of a rank is placed by a window of a stage.
+fn follows_its_predecessors<const W: usize>(
+    problem: &Problem,
+    window: &Window<W>,
+    stage: u8,
+    rank: u8,
+    due: u64,
+) -> bool
+    requires stage { stage ≤ 60 }
+    requires valid { IsWindow W window.now }
+    requires due { (rank : ℕ) → HasBit due rank ↔ (rank + W / 2 ≤ stage) }
+    requires rank { (1 ≤ rank) × (rank ≤ 60) }
+    ensures { IsTrue result ↔ ((first : ℕ) → MustPrecede problem.now.pairs first rank → IsPlaced window.now (pos stage) (pos first)) }
+{
+    let pairs = problem.pairs();
+    pairs.all_before(rank, due) || pairs.all_before(rank, placed_set(window, stage, due))
+}
+
+// The offset of a rank that lands after so many.
+fn offset_of(landed: u8, rank: u8) -> i8
+    requires landed { landed ≤ 60 }
+    requires rank { rank ≤ 60 }
+    ensures { result ≡ offset_after landed rank }
+{
+    rank as i8 - (landed + 1) as i8
+}
+
+// The window after a landing of a rank that is at most k from the next place, where it is permitted.
+pub fn successor<const W: usize>(
+    problem: &Problem,
+    window: &Window<W>,
+    stage: u8,
+    rank: u8,
+    due: u64,
+) -> Option<Window<W>>
+    requires width { W ≡ 2 * problem.now.k + 1 }
+    requires stage { stage < length problem.now.flights }
+    requires due { (rank : ℕ) → HasBit due rank ↔ (rank + W / 2 ≤ stage) }
+    requires rank { (1 ≤ rank) × (rank ≤ length problem.now.flights) }
+    requires reach { (rank ≤ stage + 1 + problem.now.k) × (stage + 1 ≤ rank + problem.now.k) }
+    ensures valid { IsWindow W window.now }
+    ensures next { SomeIff result (IsPermitted problem.now stage window.now rank) (shifted window.now (offset_after stage rank)) }
+{
+    let _few = problem.len();
+    let _near = problem.head();
+    let next = window.extend(offset_of(stage, rank));
+    if !follows_its_predecessors(problem, window, stage, rank, due) {
+        return None;
+    }
+    next
+}
+
+// Whether a rank is permitted after a window of a stage.
+fn permits<const W: usize>(problem: &Problem, window: &Window<W>, stage: u8, rank: u8) -> bool
+    requires width { W ≡ 2 * problem.now.k + 1 }
+    requires stage { stage < length problem.now.flights }
+    ensures { IsTrue result ↔ IsPermitted problem.now stage window.now rank }
+{
+    let k = most_shift(problem);
+    let n = problem.len();
+    if rank < 1 || rank > n {
+        return false;
+    }
+    if rank > stage + 1 + k || stage + 1 > rank + k {
+        return false;
+    }
+    successor(problem, window, stage, rank, due_set(stage, k)).is_some()
+}
+
+/// Whether a rank is permitted after a window of a stage. To be permitted step by step is to be legal as a whole: for every
+/// legal prefix that ends in the window, the prefix with the rank is legal exactly where the rank is permitted.
+pub fn is_permitted<const W: usize>(
+    problem: &Problem,
+    window: &Window<W>,
+    stage: u8,
+    rank: u8,
+) -> bool
+    requires width { W ≡ 2 * problem.now.k + 1 }
+    requires stage { stage < length problem.now.flights }
+    ensures step { IsTrue result ↔ IsPermitted problem.now stage window.now rank }
+
+    // A prefix is a list of ranks, the latest first.
+    ensures whole { (ranks : List ℕ) → IsLegalPrefix (ranked problem.now).rules ranks → window.now ≡ window_of W (reverse ranks) → stage ≡ length ranks → (IsTrue result ↔ IsLegalPrefix (ranked problem.now).rules (rank ∷ ranks)) }
+{
+    prefix_laws::<W>(problem);
+    permits(problem, window, stage, rank)
+}
+
+// Whether each predecessor of each rank in reach of a stage is due by then, so that no window need be looked at.
+pub fn none_waits(problem: &Problem, stage: u8) -> bool
+    requires { stage < length problem.now.flights }
+    ensures { IsTrue result → NoneWaits problem.now stage }
+{
+    let k = most_shift(problem);
+    let n = problem.len();
+    let due = due_set(stage, k);
+    for rank in 1..n + 1 {
+        let in_reach = rank <= stage + 1 + k && stage + 1 <= rank + k;
+        if in_reach && !problem.pairs().all_before(rank, due) {
+            return false;
+        }
+    }
+    true
+}

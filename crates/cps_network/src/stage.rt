@@ -1,0 +1,149 @@
+//! A stage: its number, and its windows in ascending order.
+
+ghost use Rattle.std.specs.Prelude.{◌≡◌, ℕ, ℤ, pos, ◌+◌, ◌<◌, ◌≤◌, ◌↔◌, List, [], ◌∷◌, Bool, length, replicate, IsTrue, IfOk, vec_len, slice_index_or};
+ghost use Rattle.std.specs.Fn.{FnReturnsAt};
+ghost use Rattle.std.specs.List.{AllZip};
+ghost use Rattle.cps_nodes.specs.Windows.{IsWidth, IsWindow};
+ghost use Rattle.cps_nodes.specs.Leads.{Extends, TailMeetsHead};
+ghost use Rattle.cps_network.specs.Compacted.{kept_where};
+ghost use Rattle.cps_network.specs.Lists.{IsAscending, AreWindows, node_at};
+
+use crate::compact::compact_all;
+use crate::source_range::sources_near;
+use cps_nodes::{Window, window_laws};
+use std::alloc::{AllocError, Global};
+use std::marker::Model;
+
+/// The windows of a stage, in ascending order, none twice. The stage's number is that of the flights that have landed.
+#[derive(Drop)]
+pub struct Stage<const W: usize> {
+    number: u8,
+    windows: Vec<Window<W>>,
+    // Where the windows that lead to each are likely to begin in the stage before. Only speed rests on it.
+    hints: Vec<u32>,
+}
+
+impl<const W: usize> Model for Stage<W> {
+    ghost use Rattle.std.specs.Prelude.{ℕ, ℤ, List};
+    ghost use Rattle.cps_network.specs.Lists.{IsAscending, AreWindows};
+
+    ghost Value = { ℕ × List (List ℤ) };
+
+    ghost view = { λ s. (s.number, s.windows.items) };
+
+    ghost invariant = { λ s. IsAscending s.windows.items × AreWindows W s.windows.items };
+}
+
+impl<const W: usize> Stage<W> {
+    /// Stage 0, which has the window before the first landing alone.
+    pub fn start(alloc: Global) -> Result<Stage<W>, AllocError>
+        requires { IsWidth W }
+        ensures { IfOk result (λ s. s ≡ (0, replicate W (pos 0) ∷ [])) }
+    {
+        window_laws::<W>();
+        let mut windows = Vec::new(alloc);
+        windows.push(Window::source())?;
+        Ok(Stage {
+            number: 0,
+            windows,
+            hints: Vec::new(alloc),
+        })
+    }
+
+    // The stage of these windows.
+    pub(crate) fn made(number: u8, windows: Vec<Window<W>>, hints: Vec<u32>) -> Stage<W>
+        requires ascending { IsAscending windows.items }
+        requires valid { AreWindows W windows.items }
+        ensures { result ≡ (number, windows.entry.items) }
+    {
+        Stage {
+            number,
+            windows,
+            hints,
+        }
+    }
+
+    /// How many flights have landed by this stage.
+    pub fn number(&self) -> u8
+        ensures { result ≡ self.now.0 }
+    {
+        self.number
+    }
+
+    /// How many windows the stage has.
+    pub fn len(&self) -> usize
+        ensures { result ≡ length self.now.1 }
+    {
+        self.windows.len()
+    }
+
+    /// Whether the stage has no window.
+    pub fn is_empty(&self) -> bool
+        ensures { IsTrue result ↔ (self.now.1 ≡ []) }
+    {
+        self.windows.is_empty()
+    }
+
+    /// The window at place i of the stage, counted from 0.
+    pub fn node(&self, i: usize) -> Window<W>
+        requires { i < length self.now.1 }
+        ensures valid { IsWindow W result }
+        ensures value { result ≡ node_at self.now.1 i }
+    {
+        self.windows[i]
+    }
+
+    /// Keeps the windows and the labels at the places whose label `keep` accepts, in order.
+    pub fn compact<T: Drop, F: Fn(&T) -> bool>(&mut self, labels: &mut Vec<T>, keep: F)
+        requires width { IsWidth W }
+        requires one_each { vec_len labels.old ≡ length self.old.1 }
+        requires callable { F.IsAlwaysCallable keep }
+        ensures number { self.new.0 ≡ self.old.0 }
+        ensures kept { (answers : List Bool) × AllZip (FnReturnsAt F.Fn keep) labels.old.items answers × (self.new.1 ≡ kept_where answers self.old.1) × (labels.new.items ≡ kept_where answers labels.old.items) }
+    {
+        compact_all(&mut self.windows, &mut self.hints, labels, &keep);
+    }
+
+    // The windows, in ascending order.
+    pub(crate) fn windows(&self) -> &[Window<W>]
+        ensures windows { result.now ≡ self.now.1 }
+        ensures ascending { IsAscending self.now.1 }
+        ensures valid { AreWindows W self.now.1 }
+    {
+        &self.windows
+    }
+
+    // The same windows under another number.
+    pub(crate) fn copy_as(&self, number: u8) -> Result<Stage<W>, AllocError>
+        ensures { IfOk result (λ s. s ≡ (number, self.now.1)) }
+    {
+        let windows = self.windows.clone()?;
+        let hints = self.hints.clone()?;
+        Ok(Stage {
+            number,
+            windows,
+            hints,
+        })
+    }
+
+    // A place at which to look first for the windows that lead to the one at place i.
+    fn hint(&self, i: usize) -> usize {
+        if i < self.hints.len() {
+            self.hints[i] as usize
+        } else {
+            0
+        }
+    }
+
+    /// The half-open range of the windows of the stage before that lead to the window at place i. It is found without a
+    /// search where this stage was made from that one.
+    pub fn sources(&self, before: &Stage<W>, i: usize) -> (usize, usize)
+        requires width { IsWidth W }
+        requires within { i < length self.now.1 }
+        ensures range { (result.0 ≤ result.1) × (result.1 ≤ length before.now.1) }
+        ensures exact { (j : ℕ) → j < length before.now.1 → Extends (node_at before.now.1 j) (node_at self.now.1 i) ↔ ((result.0 ≤ j) × (j < result.1)) }
+    {
+        window_laws::<W>();
+        sources_near(before.windows(), &self.windows[i], self.hint(i))
+    }
+}
