@@ -1,0 +1,6 @@
+use Rattle.makespan_labels.specs.Columns.{IsEntry}
+use Rattle.makespan_labels.specs.Laws.{IsLeastOf}
+use Rattle.makespan_labels.proofs.label.least_of.Given as goal
+
+abbrev pub invariant-loop-i : goal.invariant-loop-i
+invariant-loop-i l = IsLeastOf l.labels l.from l.i l.least × IsEntry l.least

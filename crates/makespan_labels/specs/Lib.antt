@@ -1,0 +1,5 @@
+-- The definitions of this crate.
+pub mod Labels
+pub mod Laws
+pub mod Columns
+pub mod shared

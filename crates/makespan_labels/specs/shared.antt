@@ -1,0 +1,2 @@
+-- Lemmas that crates above cite too: landings one more and one back.
+pub mod NetworkSteps

@@ -1,0 +1,105 @@
+//! A column of labels.
+
+ghost use Rattle.std.specs.Prelude.{◌≡◌, ℕ, ◌<◌, List, [], ◌∷◌, All, length, replicate, slice_index, set, IfOk, OnOk, OnErr};
+ghost use Rattle.cps_nodes.specs.Windows.{IsWidth};
+ghost use Rattle.landing_rules.specs.Problem.{Problem};
+ghost use Rattle.makespan_labels.specs.Columns.{IsEntry, is_known, known_of};
+ghost use Rattle.makespan_labels.specs.Labels.{no_label, AreLabels, HasEachLandable, HoldsLabels};
+
+use cps_network::Stage;
+use std::alloc::{AllocError, Global};
+use std::marker::Model;
+
+/// The label of a window that is not landable.
+pub const NO_LABEL: u32 = u32::MAX;
+
+/// The labels of the windows of a stage, in the order of its windows: seconds from 0 to 172,799, and `NO_LABEL`.
+#[derive(Drop)]
+pub struct Column {
+    labels: Vec<u32>,
+}
+
+impl Model for Column {
+    ghost use Rattle.std.specs.Prelude.{ℕ, List, All};
+    ghost use Rattle.makespan_labels.specs.Columns.{IsEntry};
+
+    ghost Value = { List ℕ };
+
+    ghost view = { λ column. column.labels.items };
+
+    ghost invariant = { λ column. All IsEntry column.labels.items };
+}
+
+impl Column {
+    /// The column with no entry.
+    pub fn new(alloc: Global) -> Column
+        ensures { result ≡ [] }
+    {
+        Column {
+            labels: Vec::new(alloc),
+        }
+    }
+
+    /// The column of stage 0: the one entry 0, which no rule reads as a landing.
+    pub fn start(alloc: Global) -> Result<Column, AllocError>
+        ensures { IfOk result (λ column. column ≡ 0 ∷ []) }
+    {
+        let labels = vec![in alloc; 0u32; 1]?;
+        Ok(Column { labels })
+    }
+
+    /// Makes it n entries of `NO_LABEL`. After want of memory it is as it was.
+    pub fn reserve(&mut self, n: usize) -> Result<(), AllocError>
+        ensures made { OnOk result (self.new ≡ replicate n no_label) }
+        ensures kept { OnErr result (self.new ≡ self.old) }
+    {
+        let alloc = *self.labels.allocator();
+        let labels = vec![in alloc; NO_LABEL; n]?;
+        self.labels = labels;
+        Ok(())
+    }
+
+    /// How many entries it has.
+    pub fn len(&self) -> usize
+        ensures { result ≡ length self.now }
+    {
+        self.labels.len()
+    }
+
+    /// The entry at place i, counted from 0.
+    pub fn label(&self, i: usize) -> u32
+        requires { i < length self.now }
+        ensures value { result ≡ slice_index self.now i }
+        ensures range { IsEntry result }
+    {
+        self.labels[i]
+    }
+
+    // Writes the entry at place i.
+    pub(crate) fn set(&mut self, i: usize, label: u32)
+        requires within { i < length self.old }
+        requires range { IsEntry label }
+        ensures { self.new ≡ set self.old i label }
+    {
+        self.labels[i] = label;
+    }
+
+    /// Keeps the windows and the labels at the places whose label is not `NO_LABEL`, in order.
+    pub fn keep_landable<const W: usize>(&mut self, stage: &mut Stage<W>)
+        requires width { IsWidth W }
+        requires one_each { length self.old ≡ length stage.old.1 }
+        ensures number { stage.new.0 ≡ stage.old.0 }
+        ensures windows { stage.new.1 ≡ known_of self.old stage.old.1 }
+        ensures labels { self.new ≡ known_of self.old self.old }
+
+        // What is left are the landable windows, where none was missing.
+        ensures landable { (p : Problem) → HasEachLandable p stage.old → AreLabels p stage.old self.old → HoldsLabels p stage.new self.new }
+    {
+        stage.compact(
+            &mut self.labels,
+            |label: &u32|
+                ensures { result ≡ is_known label.now }
+            { *label != NO_LABEL },
+        );
+    }
+}

@@ -1,0 +1,102 @@
+//! The labels of a stage, from those of the stage before.
+
+ghost use Rattle.std.specs.Prelude.{◌≡◌, ℕ, ℤ, pos, ◌+◌, ◌-◌, ◌*◌, ◌<◌, ◌≤◌, ◌+ℤ◌, ◌≤ℤ◌, length, slice_index};
+ghost use Rattle.cps_base.specs.Tally.{raised_by};
+ghost use Rattle.cps_nodes.specs.Windows.{offset_at};
+ghost use Rattle.cps_network.specs.Lists.{node_at};
+ghost use Rattle.cps_network.specs.Permits.{IsNextOf};
+ghost use Rattle.makespan_labels.specs.Columns.{IsEntry};
+ghost use Rattle.makespan_labels.specs.Labels.{IsLabel, AreLabels, HasEachLandable, HoldsLabels};
+ghost use Rattle.makespan_labels.specs.Laws.{WindowLaws, IsLeastOf};
+
+use crate::column::{Column, NO_LABEL};
+use cps_base::{Ledger, Steps};
+use cps_network::{Stage, prefix_laws};
+use cps_nodes::{Window, window_laws};
+use cps_outside::Gate;
+use cps_problem::Problem;
+use std::thread::Threads;
+
+/// The rank that landed last in a window of a stage: its last offset is that rank minus the stage's number. Rank 0 stands for
+/// no landing.
+pub fn last_rank<const W: usize>(window: &Window<W>, stage: u8) -> u8
+    requires low { pos 0 ≤ℤ (pos stage +ℤ offset_at window.now (W - 1)) }
+    requires high { (pos stage +ℤ offset_at window.now (W - 1)) ≤ℤ pos 60 }
+    ensures { pos result ≡ pos stage +ℤ offset_at window.now (W - 1) }
+{
+    (stage as i32 + window.last() as i32) as u8
+}
+
+// The least label at the places of a range that is not empty.
+fn least_of(labels: &Column, from: usize, to: usize) -> u32
+    requires range { (from < to) × (to ≤ length labels.now) }
+    ensures least { IsLeastOf labels.now from to result }
+    ensures range { IsEntry result }
+{
+    let mut least = labels.label(from);
+    for i in from + 1..to {
+        least = least.min(labels.label(i));
+    }
+    least
+}
+
+// The label of the window at place i of a stage, from the labels of those that lead to it: one landing behind the least.
+fn label_of<const W: usize>(
+    problem: &Problem,
+    before: &Stage<W>,
+    labels: &Column,
+    stage: &Stage<W>,
+    i: usize,
+) -> u32
+    requires width { W ≡ 2 * problem.now.k + 1 }
+    requires laws { WindowLaws problem.now W }
+    requires before { HoldsLabels problem.now before.now labels.now }
+    requires number { stage.now.0 ≡ before.now.0 + 1 }
+    requires next { IsNextOf problem.now before.now.0 before.now.1 stage.now.1 }
+    requires within { i < length stage.now.1 }
+    ensures label { IsLabel problem.now stage.now.0 (node_at stage.now.1 i) result }
+    ensures range { IsEntry result }
+{
+    let _few = problem.len();
+    let (from, to) = stage.sources(before, i);
+    let leader = last_rank(&before.node(from), before.number());
+    let rank = last_rank(&stage.node(i), stage.number());
+    match problem.landing_after(leader, least_of(labels, from, to), rank) {
+        None => NO_LABEL,
+        Some(second) => second,
+    }
+}
+
+/// Writes the labels of a stage: for each window the least second at which a legal prefix that ends in it can land its last
+/// flight, or `NO_LABEL` exactly where there is none. It ticks once a window.
+///
+/// The stage before holds the landable windows with their labels, and this stage the windows that extend one of them by a
+/// permitted rank.
+pub fn fill<const W: usize, R: Threads, G: Gate, L: Ledger>(
+    _rt: &R,
+    problem: &Problem,
+    before: &Stage<W>,
+    labels: &Column,
+    stage: &Stage<W>,
+    into: &mut Column,
+    gate: &G,
+    steps: &mut Steps<L>,
+)
+    requires width { W ≡ 2 * problem.now.k + 1 }
+    requires before { HoldsLabels problem.now before.now labels.now }
+    requires number { stage.now.0 ≡ before.now.0 + 1 }
+    requires next { IsNextOf problem.now before.now.0 before.now.1 stage.now.1 }
+    requires one_each { length into.old ≡ length stage.now.1 }
+    ensures labels { AreLabels problem.now stage.now into.new }
+    ensures landable { HasEachLandable problem.now stage.now }
+    ensures steps { L.count steps.new ≡ raised_by (length stage.now.1) (L.count steps.old) }
+{
+    let _near = problem.head();
+    prefix_laws::<W>(problem);
+    window_laws::<W>();
+    gate.pass(0);
+    for i in 0..stage.len() {
+        into.set(i, label_of(problem, before, labels, stage, i));
+    }
+    steps.tick(stage.len() as u64);
+}
