@@ -1,0 +1,36 @@
+-- One rank more of a sum, and the objective of a schedule by its greatest second or its sum.
+use Rattle.std.proofs.Common.{◌≡◌, ℕ, zero, suc, ◌+◌, ◌-◌, ◌≤◌, false, List, [], ◌∷◌, length, refl, sym, ap, ◌∙◌, arith}
+use Rattle.std.specs.Prelude.{slice_index, nat_eq}
+use Rattle.std.proofs.lemmas.Bool.{true≢false}
+use Rattle.landing_rules.specs.declared.objective.Objective.{Objective}
+use Rattle.landing_rules.specs.declared.objective.Objective.TheVariants.{Makespan, Delay}
+use Rattle.landing_rules.specs.Flights.{Schedule}
+use Rattle.landing_rules.specs.Problem.{Problem, Waiting, list_objective}
+use Rattle.cps_theory.specs.RankLists.{of_rank, upto}
+use Rattle.cps_theory.specs.Feasible.{greatest, total}
+use Rattle.cps_theory.specs.laws.RanksBelow.{upto_more}
+use Rattle.landing_joint.specs.RankedProblem.{cost_at, value_by, makespan_by}
+use Rattle.landing_joint.specs.shared.BestLists.{list_value}
+
+pub at_rank : (s : Schedule) (r : ℕ) → 1 ≤ r → of_rank 0 s r ≡ slice_index s (r - 1)
+at_rank s zero one = absurd (omega arith)
+at_rank s (suc i) one = let e : i ≡ suc i - 1 = omega arith in ap (slice_index s) e
+
+pub one_more : (f : ℕ → ℕ) (r costs cost : ℕ) → 1 ≤ r → costs ≡ total f (upto (r - 1)) → cost ≡ f r → costs + cost ≡ total f (upto (r + 1 - 1))
+one_more f r costs cost one a b = let e = ap (total f) (upto_more r one) in omega arith
+
+some_waiting : (fs : List Waiting) (p : Problem) (t : ℕ) → nat_eq (length fs) 0 ≡ false → makespan_by fs p t ≡ t
+some_waiting [] p t e = absurd (true≢false e)
+some_waiting (f ∷ fs) p t e = refl
+
+pub makespan_value : (p : Problem) (s : Schedule) → p.objective ≡ Makespan → length s ≡ length p.flights → nat_eq (length p.flights) 0 ≡ false → greatest (of_rank 0 s) (length s) ≡ list_objective p s
+makespan_value p s o long some =
+    ap (greatest (of_rank 0 s)) long ∙ sym (some_waiting p.flights p (greatest (of_rank 0 s) (length p.flights)) some)
+    ∙ sym (ap (λ (x : Objective). value_by x p (greatest (of_rank 0 s) (length p.flights), total (λ r. cost_at p r (of_rank 0 s r)) (upto (length p.flights)))) o)
+    ∙ sym (list_value p s long)
+
+pub delay_value : (p : Problem) (s : Schedule) (costs : ℕ) → p.objective ≡ Delay → length s ≡ length p.flights → costs ≡ total (λ r. cost_at p r (of_rank 0 s r)) (upto (length p.flights)) → p.base + costs ≡ list_objective p s
+delay_value p s costs o long e =
+    ap (λ n. p.base + n) e
+    ∙ sym (ap (λ (x : Objective). value_by x p (greatest (of_rank 0 s) (length p.flights), total (λ r. cost_at p r (of_rank 0 s r)) (upto (length p.flights)))) o)
+    ∙ sym (list_value p s long)

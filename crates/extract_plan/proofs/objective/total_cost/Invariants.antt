@@ -1,0 +1,11 @@
+use Rattle.std.proofs.Common.{◌≡◌, ◌-◌, ◌*◌, ◌≤◌}
+use Rattle.cps_theory.specs.RankLists.{of_rank, upto}
+use Rattle.cps_theory.specs.Feasible.{total}
+use Rattle.landing_joint.specs.RankedProblem.{cost_at}
+use Rattle.extract_plan.proofs.objective.total_cost.Given as goal
+
+abbrev pub invariant-loop-rank : goal.invariant-loop-rank
+invariant-loop-rank l = record {
+  value : l.costs ≡ total (λ r. cost_at l.problem r (of_rank 0 l.schedule r)) (upto (l.rank - 1));
+  small : l.costs ≤ 17279900 * (l.rank - 1);
+}

@@ -1,0 +1,11 @@
+//! The schedule of a landing order: each flight as early as the order allows, and what it costs.
+#![tactic(auto)]
+
+mod objective;
+mod retiming;
+
+pub use objective::value_of;
+pub use retiming::{blank, retime};
+
+#[cfg(test)]
+mod tests;

@@ -1,0 +1,55 @@
+ghost use Rattle.std.specs.Prelude.{◌≡◌, ◌≤◌, ◌*◌, length, All};
+ghost use Rattle.landing_rules.specs.Rules.{last_second};
+ghost use Rattle.landing_rules.specs.Problem.{list_objective, last_frozen};
+ghost use Rattle.cps_theory.specs.RankLists.{of_rank, upto};
+ghost use Rattle.cps_theory.specs.Feasible.{greatest, total};
+ghost use Rattle.landing_joint.specs.RankedProblem.{cost_at};
+
+use cps_problem::{Objective, Problem, Schedule};
+
+/// The objective of a schedule: its greatest second, or the last frozen one where no flight waits; or the delay of the
+/// frozen flights and of all waiting ones.
+pub fn value_of(problem: &Problem, schedule: &Schedule) -> u64
+    requires room { length schedule.now ≡ length problem.now.flights }
+    requires seconds { All (λ t. t ≤ last_second) schedule.now }
+    ensures { result ≡ list_objective problem.now schedule.now }
+{
+    match problem.head().objective {
+        Objective::Makespan if problem.is_empty() => last_frozen(problem),
+        Objective::Makespan => u64::from(greatest_second(schedule)),
+        Objective::Delay => problem.head().base + total_cost(problem, schedule),
+    }
+}
+
+// The second of the last frozen landing, or 0 with none.
+fn last_frozen(problem: &Problem) -> u64
+    ensures { result ≡ last_frozen problem.now.last }
+{
+    match problem.head().last {
+        None => 0,
+        Some((second, _)) => u64::from(second),
+    }
+}
+
+fn greatest_second(schedule: &Schedule) -> u32
+    ensures { result ≡ greatest (of_rank 0 schedule.now) (length schedule.now) }
+{
+    let mut latest = 0;
+    for rank in 1..schedule.len() as u8 + 1 {
+        latest = schedule.second(rank).max(latest);
+    }
+    latest
+}
+
+fn total_cost(problem: &Problem, schedule: &Schedule) -> u64
+    requires room { length schedule.now ≡ length problem.now.flights }
+    requires seconds { All (λ t. t ≤ last_second) schedule.now }
+    ensures value { result ≡ total (λ r. cost_at problem.now r (of_rank 0 schedule.now r)) (upto (length problem.now.flights)) }
+    ensures small { result ≤ 17279900 * length problem.now.flights }
+{
+    let mut costs = 0;
+    for rank in 1..problem.len() + 1 {
+        costs += u64::from(problem.cost(rank, schedule.second(rank)));
+    }
+    costs
+}
