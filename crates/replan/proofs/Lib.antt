@@ -1,0 +1,4 @@
+pub mod StageLemmas
+pub mod TraceLemmas
+pub mod PlanLemmas
+pub mod DueLemmas
