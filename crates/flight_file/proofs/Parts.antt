@@ -1,0 +1,60 @@
+-- What the parts of a field are, one after the other.
+use Rattle.std.proofs.Common.{◌≡◌, ℕ, ◌+◌, ◌<◌, List, [], ◌∷◌, length, Ok, Err, Result, ◌++◌, append_assoc, arith, ap, sym, refl}
+use Rattle.std.proofs.lemmas.List.{append-nil}
+use Rattle.flight_file.specs.Windows.{window_by, window_in, windows_from}
+use Rattle.flight_file.specs.Answers.{◌>>=◌}
+use Rattle.std.specs.Prelude.{◌==◌, ◌&&◌, IsTrue, Bool, true, false}
+use Rattle.std.specs.List.{list_all}
+use Rattle.landing_windows.specs.Windows.{is_in_days}
+use Rattle.std.proofs.lemmas.List.Splits.{length-slice_split}
+use Rattle.csv_records.specs.Cutting.{parts}
+use Rattle.flight_file.specs.declared.fault.WindowsCause.{WindowsCause}
+use Rattle.flight_file.specs.declared.fault.WindowsCause.TheVariants.{Shape}
+
+-- a text has a part
+pub has_part : (mark : ℕ) (text : List ℕ) → 0 < length (parts mark text)
+has_part mark text = omega (arith, length-slice_split (λ b. b == mark) text)
+
+-- what was read before, and then the rest
+abbrev pub with_front : {X E : Type 0} → List X → Result (List X) E → Result (List X) E
+with_front front (Ok rest) = Ok (front ++ rest)
+with_front front (Err e) = Err e
+
+-- three parts or more are no window
+pub too_many : (i : ℕ) (a b : List ℕ) (ps : List (List ℕ)) → 0 < length ps → window_by i (a ∷ b ∷ ps) ≡ Err (Shape i)
+too_many i a b [] h = absurd (omega (arith, h))
+too_many i a b (p ∷ ps) h = refl
+
+-- one more window, a part that is none, and the end
+front_more : {X E : Type 0} (front : List X) (x : X) (r : Result (List X) E) → with_front front (r >>= (λ xs. Ok (x ∷ xs))) ≡ with_front (front ++ x ∷ []) r
+front_more front x (Ok xs) = ap Ok (sym (append_assoc front (x ∷ []) xs))
+front_more front x (Err e) = refl
+
+pub window_more : (i : ℕ) (front : List (ℕ × ℕ)) (p : List ℕ) (ps : List (List ℕ)) (w : ℕ × ℕ) → window_in i p ≡ Ok w → with_front front (windows_from i (p ∷ ps)) ≡ with_front (front ++ w ∷ []) (windows_from (i + 1) ps)
+unfolding windows_from
+window_more i front p ps w e = rw e (front_more front w (windows_from (i + 1) ps))
+
+pub window_stop : (i : ℕ) (front : List (ℕ × ℕ)) (p : List ℕ) (ps : List (List ℕ)) (e : WindowsCause) → window_in i p ≡ Err e → with_front front (windows_from i (p ∷ ps)) ≡ Err e
+unfolding windows_from
+window_stop i front p ps e h = rw h refl
+
+pub window_end : (i : ℕ) (front : List (ℕ × ℕ)) → with_front front (windows_from i []) ≡ Ok front
+unfolding windows_from
+window_end i front = ap Ok (append-nil front)
+
+-- both tests pass
+pub left_of : (a b : Bool) → (a && b) ≡ true → a ≡ true
+left_of true b e = refl
+left_of false b e = absurd (cc e)
+
+pub right_of : (a b : Bool) → (a && b) ≡ true → b ≡ true
+right_of true b e = e
+right_of false b e = absurd (cc e)
+
+-- one window more of the two days
+pub days_more : (front : List (ℕ × ℕ)) (w : ℕ × ℕ) → IsTrue (list_all is_in_days front) → IsTrue (is_in_days w) → IsTrue (list_all is_in_days (front ++ w ∷ []))
+days_more [] w h here = rw here refl
+days_more (v ∷ front) w h here =
+    let first = left_of (is_in_days v) (list_all is_in_days front) h in
+    let more = days_more front w (right_of (is_in_days v) (list_all is_in_days front) h) here in
+    rw (first, more) refl

@@ -1,0 +1,224 @@
+-- Each printed field reads as what was printed.
+use Rattle.std.proofs.Common.{◌≡◌, ℕ, zero, suc, ◌+◌, ◌<◌, ◌≤◌, List, [], ◌∷◌, ◌++◌, true, false, length, get_or, Ok, Err, Some, refl, sym, ap, ◌∙◌, arith, rules, append_assoc, length-append, inl, inr}
+use Rattle.std.specs.Prelude.{◌==◌, ◌^◌, map, decimal, nat_lt}
+use Rattle.std.specs.List.{join_with_byte, list_all}
+use Rattle.std.specs.Char.{is_ascii_digit}
+use Rattle.std.specs.Str.Parse.{digits_value}
+use Rattle.std.proofs.lemmas.Bool.{ne_eqb, cases_Bool}
+use Rattle.std.proofs.lemmas.Bool.Decides.{nat_tests}
+use Rattle.std.proofs.lemmas.Grind.{common_steps}
+use Rattle.std.proofs.lemmas.List.{append-nil}
+use Rattle.std.proofs.lemmas.Fmt.{digits_decimal, digits_value-decimal, decimal_nonempty, first_decimal, decimal_digit}
+use Rattle.std.proofs.lemmas.Str.Parse.{IsNumeralModel, numerals_by_value}
+use Rattle.cps_base.specs.Text.{is_callsign, is_callsign_byte}
+use Rattle.cps_base.specs.Number.{is_number, number_within}
+use Rattle.wake_table.specs.declared.category.Category.{Category}
+use Rattle.wake_table.specs.declared.category.Category.TheVariants.{A, B, C, D, E, F}
+use Rattle.wake_table.specs.Letters.{letter, category_of}
+use Rattle.landing_windows.specs.Windows.{windows_of}
+use Rattle.landing_windows.specs.declared.windows.WindowFault.TheVariants.{TooMany}
+use Rattle.csv_records.specs.Cutting.{parts}
+use Rattle.csv_records.specs.JoinLaw.{IsWithout, AreWithout, IsWithout-append, parts-before, parts-one, parts-join}
+use Rattle.csv_records.specs.PlainLaw.{AreHigh, AreHigh-append}
+use Rattle.flight_file.specs.Windows.{second_in, window_in, windows_from, windows_in}
+use Rattle.flight_file.specs.After.{names_from, names_in}
+use Rattle.flight_file.specs.Printed.{window_text, windows_text, names_text}
+use Rattle.flight_file.proofs.Printable.{AreInDays, AreNewNames}
+use Rattle.flight_file.proofs.Parts.{left_of, right_of}
+use Rattle.flight_file.proofs.PrintedParts.{windows_join, names_join, windows_joined, names_joined}
+
+abbrev pub AreDigits : List ℕ → Type 0
+AreDigits ds = list_all is_ascii_digit ds ≡ true
+
+own : IsNumeralModel AreDigits (digits_value 10)
+own = numerals_by_value AreDigits (search rules)
+
+pub decimal_digits : (n : ℕ) → n < 2 ^ 64 → AreDigits (decimal n)
+decimal_digits n h = digits_decimal own n h
+
+digit_low : (b : ℕ) → is_ascii_digit b ≡ true → 48 ≤ b
+digit_low b e = grind (arith, nat_tests, common_steps)
+
+digit_top : (b : ℕ) → is_ascii_digit b ≡ true → b ≤ 57
+digit_top b e = grind (arith, nat_tests, common_steps)
+
+pub high_digits : (ds : List ℕ) → AreDigits ds → AreHigh ds
+high_digits [] h = tt
+high_digits (d ∷ ds) h =
+    let low = digit_low d (left_of _ _ h) in
+    (omega (arith, low), high_digits ds (right_of _ _ h))
+
+pub digits_without : (mark : ℕ) (ds : List ℕ) → (mark < 48) → AreDigits ds → IsWithout mark ds
+digits_without mark [] m h = tt
+digits_without mark (d ∷ ds) m h =
+    let low = digit_low d (left_of _ _ h) in
+    (ne_eqb d mark (λ e. omega (arith, low, e, m)), digits_without mark ds m (right_of _ _ h))
+
+pub digits_without_top : (mark : ℕ) (ds : List ℕ) → (57 < mark) → AreDigits ds → IsWithout mark ds
+digits_without_top mark [] m h = tt
+digits_without_top mark (d ∷ ds) m h =
+    let top = digit_top d (left_of _ _ h) in
+    (ne_eqb d mark (λ e. omega (arith, top, e, m)), digits_without_top mark ds m (right_of _ _ h))
+
+-- a number is spelled as one
+spelled : (n : ℕ) → n < 2 ^ 64 → is_number (decimal n) ≡ true
+spelled zero h = rw (decimal_digit 0 (omega arith)) refl
+spelled (suc n) h =
+    let some : 0 < length (decimal (suc n)) = decimal_nonempty (suc n) h in
+    let first : 48 < get_or (decimal (suc n)) 0 0 = first_decimal (suc n) (omega arith) h in
+    let digits : AreDigits (decimal (suc n)) = decimal_digits (suc n) h in
+    rw digits (grind (arith, nat_tests, common_steps))
+
+pub number_read : (n least most : ℕ) → n < 2 ^ 64 → least ≤ n → n ≤ most → number_within (decimal n) least most ≡ Ok n
+unfolding number_within
+number_read n least most h low top =
+    let e : digits_value 10 (decimal n) ≡ n = digits_value-decimal own n h in
+    rw (spelled n h, e) (grind (arith, nat_tests, common_steps))
+
+pub category_read : (c : Category) → category_of (letter c ∷ []) ≡ Some c
+category_read A = refl
+category_read B = refl
+category_read C = refl
+category_read D = refl
+category_read E = refl
+category_read F = refl
+
+pub high_letter : (c : Category) → 45 ≤ letter c
+high_letter A = omega arith
+high_letter B = omega arith
+high_letter C = omega arith
+high_letter D = omega arith
+high_letter E = omega arith
+high_letter F = omega arith
+
+-- ---- windows
+
+second_read : (i n : ℕ) → n ≤ 172799 → second_in i (decimal n) ≡ Ok n
+second_read i n h = rw (number_read n 0 172799 (omega arith) (omega arith) h) refl
+
+window_read : (i : ℕ) (w : ℕ × ℕ) → w.0 ≤ 172799 → w.1 ≤ 172799 → window_in i (window_text w) ≡ Ok w
+unfolding window_in
+window_read i w a b =
+    let first : AreDigits (decimal w.0) = decimal_digits w.0 (omega arith) in
+    let last : AreDigits (decimal w.1) = decimal_digits w.1 (omega arith) in
+    let cut : parts 45 (window_text w) ≡ decimal w.0 ∷ decimal w.1 ∷ [] =
+    parts-before 45 (decimal w.0) (decimal w.1) (digits_without 45 (decimal w.0) (omega arith) first) refl
+    ∙ ap (λ (t : List (List ℕ)). decimal w.0 ∷ t) (parts-one 45 (decimal w.1) (digits_without 45 (decimal w.1) (omega arith) last)) in
+    rw (cut, second_read i w.0 a, second_read i w.1 b) refl
+
+windows_read : (i : ℕ) (ws : List (ℕ × ℕ)) → AreInDays ws → windows_from i (map window_text ws) ≡ Ok ws
+unfolding windows_from
+windows_read i [] h = refl
+windows_read i (w ∷ ws) h = rw (window_read i w h.0.0 h.0.1, windows_read (i + 1) ws h.1) refl
+
+windows_without : (ws : List (ℕ × ℕ)) → AreInDays ws → AreWithout 59 (map window_text ws)
+windows_without [] h = tt
+windows_without (w ∷ ws) h =
+    let first : AreDigits (decimal w.0) = decimal_digits w.0 (omega arith) in
+    let last : AreDigits (decimal w.1) = decimal_digits w.1 (omega arith) in
+    (IsWithout-append 59 (decimal w.0) (45 ∷ decimal w.1) (digits_without_top 59 (decimal w.0) (omega arith) first) (refl, digits_without_top 59 (decimal w.1) (omega arith) last), windows_without ws h.1)
+
+pub high_join : (p : List ℕ) (ps : List (List ℕ)) → AreHigh p → AreHigh (join_with_byte 59 ps) → AreHigh (join_with_byte 59 (p ∷ ps))
+high_join p [] h more = h
+high_join p (q ∷ ps) h more = AreHigh-append p (59 ∷ join_with_byte 59 (q ∷ ps)) h (omega arith, more)
+
+pub high_windows : (ws : List (ℕ × ℕ)) → AreInDays ws → AreHigh (windows_join ws)
+high_windows [] h = tt
+high_windows (w ∷ ws) h =
+    let first : AreDigits (decimal w.0) = decimal_digits w.0 (omega arith) in
+    let last : AreDigits (decimal w.1) = decimal_digits w.1 (omega arith) in
+    high_join (window_text w) (map window_text ws) (AreHigh-append (decimal w.0) (45 ∷ decimal w.1) (high_digits _ first) (omega arith, high_digits _ last)) (high_windows ws h.1)
+
+-- a text that has a part with a byte has one
+join_some : (p : List ℕ) (ps : List (List ℕ)) → 0 < length p → 0 < length (join_with_byte 59 (p ∷ ps))
+join_some p [] h = h
+join_some p (q ∷ ps) h = omega (arith, h, length-append p (59 ∷ join_with_byte 59 (q ∷ ps)))
+
+windows_some : (w : ℕ × ℕ) → 0 < length (window_text w)
+windows_some w = omega (arith, length-append (decimal w.0) (45 ∷ decimal w.1))
+
+few_windows : (ws : List (ℕ × ℕ)) → windows_of ws ≡ Ok ws → nat_lt 4 (length ws) ≡ false
+unfolding windows_of
+few_windows [] e = refl
+few_windows (w ∷ ws) e = elim (cases_Bool (nat_lt 4 (length (w ∷ ws)))) [
+  | inl many ↦
+      let some : (length (w ∷ ws) == 0) ≡ false = ne_eqb (length (w ∷ ws)) 0 (λ z. omega (arith, z)) in
+      let none : Err TooMany ≡ Ok (w ∷ ws) = rw (some, many) at e in absurd (cc none)
+  | inr few ↦ few
+]
+
+length_windows : (ws : List (ℕ × ℕ)) → length (map window_text ws) ≡ length ws
+length_windows [] = refl
+length_windows (w ∷ ws) = ap suc (length_windows ws)
+
+not_empty : (text : List ℕ) → 0 < length text → (length text == 0) ≡ false
+not_empty text h = ne_eqb (length text) 0 (λ e. omega (arith, h, e))
+
+pub windows_in_read : (ws : List (ℕ × ℕ)) → windows_of ws ≡ Ok ws → AreInDays ws → windows_in (windows_join ws) ≡ Ok ws
+unfolding windows_in windows_of
+windows_in_read [] e h = absurd (cc e)
+windows_in_read (w ∷ ws) e h =
+    let some = not_empty (windows_join (w ∷ ws)) (join_some (window_text w) (map window_text ws) (windows_some w)) in
+    let cut : parts 59 (windows_join (w ∷ ws)) ≡ map window_text (w ∷ ws) = parts-join 59 (window_text w) (map window_text ws) (windows_without (w ∷ ws) h) refl in
+    let few : nat_lt 4 (length (map window_text (w ∷ ws))) ≡ false = rw (length_windows (w ∷ ws)) (few_windows (w ∷ ws) e) in
+    rw (some, cut, few, windows_read 1 (w ∷ ws) h, e) refl
+
+-- ---- names
+
+name_high : (b : ℕ) → is_callsign_byte b ≡ true → 45 ≤ b
+name_high b e = grind (arith, nat_tests, common_steps)
+
+name_mark : (b : ℕ) → is_callsign_byte b ≡ true → (b == 59) ≡ false
+name_mark b e = ne_eqb b 59 (λ same. absurd (cc (rw same at e)))
+
+high_letters : (text : List ℕ) → list_all is_callsign_byte text ≡ true → AreHigh text
+high_letters [] h = tt
+high_letters (b ∷ rest) h = (name_high b (left_of _ _ h), high_letters rest (right_of _ _ h))
+
+letters_without : (text : List ℕ) → list_all is_callsign_byte text ≡ true → IsWithout 59 text
+letters_without [] h = tt
+letters_without (b ∷ rest) h = (name_mark b (left_of _ _ h), letters_without rest (right_of _ _ h))
+
+pub high_callsign : (text : List ℕ) → is_callsign text ≡ true → AreHigh text
+high_callsign text h = high_letters text (right_of _ _ h)
+
+callsign_some : (text : List ℕ) → is_callsign text ≡ true → 0 < length text
+callsign_some [] h = absurd (cc h)
+callsign_some (b ∷ text) h = omega arith
+
+names_without : (me : List ℕ) (before names : List (List ℕ)) → AreNewNames me before names → AreWithout 59 names
+names_without me before [] h = tt
+names_without me before (n ∷ names) h = (letters_without n (right_of _ _ h.0.0), names_without me (before ++ n ∷ []) names h.1)
+
+pub high_names : (me : List ℕ) (before names : List (List ℕ)) → AreNewNames me before names → AreHigh (names_join names)
+high_names me before [] h = tt
+high_names me before (n ∷ names) h = high_join n names (high_callsign n h.0.0) (high_names me (before ++ n ∷ []) names h.1)
+
+names_read : (me : List ℕ) (i : ℕ) (before names : List (List ℕ)) → AreNewNames me before names → names_from me i before names ≡ Ok (before ++ names)
+unfolding names_from
+names_read me i before [] h = ap Ok (sym (append-nil before))
+names_read me i before (n ∷ names) h =
+    rw (h.0.0, h.0.1, h.0.2) (names_read me (i + 1) (before ++ n ∷ []) names h.1 ∙ ap Ok (append_assoc before (n ∷ []) names))
+
+pub names_in_read : (me : List ℕ) (names : List (List ℕ)) → AreNewNames me [] names → length names ≤ 4 → names_in me (names_join names) ≡ Ok names
+unfolding names_in
+names_in_read me [] h few = refl
+names_in_read me (n ∷ names) h few =
+    let some = not_empty (names_join (n ∷ names)) (join_some n names (callsign_some n h.0.0)) in
+    let cut : parts 59 (names_join (n ∷ names)) ≡ n ∷ names = parts-join 59 n names (names_without me [] (n ∷ names) h) refl in
+    let count : nat_lt 4 (length (n ∷ names)) ≡ false = grind (arith, nat_tests, common_steps) in
+    rw (some, cut, count) (names_read me 1 [] (n ∷ names) h)
+
+-- ---- as they are printed
+
+pub windows_text_read : (ws : List (ℕ × ℕ)) → windows_of ws ≡ Ok ws → AreInDays ws → windows_in (windows_text ws) ≡ Ok ws
+windows_text_read ws e h = rw (windows_joined ws) (windows_in_read ws e h)
+
+pub high_windows_text : (ws : List (ℕ × ℕ)) → AreInDays ws → AreHigh (windows_text ws)
+high_windows_text ws h = rw (windows_joined ws) (high_windows ws h)
+
+pub names_text_read : (me : List ℕ) (names : List (List ℕ)) → AreNewNames me [] names → length names ≤ 4 → names_in me (names_text names) ≡ Ok names
+names_text_read me names h few = rw (names_joined names) (names_in_read me names h few)
+
+pub high_names_text : (me : List ℕ) (names : List (List ℕ)) → AreNewNames me [] names → AreHigh (names_text names)
+high_names_text me names h = rw (names_joined names) (high_names me [] names h)

@@ -1,0 +1,136 @@
+ghost use Rattle.std.specs.Prelude.{◌≡◌, false, [], ◌∷◌, ◌≤◌, ◌<◌, length, OnOk, IfOk, vec_len};
+ghost use Rattle.csv.specs.Records.{fields_of};
+ghost use Rattle.flight_file.specs.Answers.{Gives};
+ghost use Rattle.flight_file.specs.OfFile.{IsOfFile, CanBeRead};
+ghost use Rattle.flight_file.specs.Reading.{is_header, has_callsign, flight_in, flight_by, header_fault, added, flights_in, flights_by, flights_of};
+
+use crate::after::read_after;
+use crate::fault::{FlightCause, FlightFault};
+use crate::flight::Flight;
+use crate::windows::read_windows;
+use cps_base::{Callsign, read_number};
+use csv::ByteRecord;
+use csv_records::{Records, field};
+use landing_windows::LAST_SECOND;
+use std::alloc::Global;
+use wake_table::Category;
+
+// Whether a record is the header of the file.
+#[tactic(auto, unfolding(crate::specs::Reading::is_header))]
+fn is_header(row: &ByteRecord) -> bool
+    ensures { result ≡ is_header (fields_of row.now) }
+{
+    row.len() == 6
+        && field(row, 0) == b"callsign".as_slice()
+        && field(row, 1) == b"category".as_slice()
+        && field(row, 2) == b"eta".as_slice()
+        && field(row, 3) == b"weight".as_slice()
+        && field(row, 4) == b"windows".as_slice()
+        && field(row, 5) == b"after".as_slice()
+}
+
+// Whether one of the flights has this callsign.
+fn has_callsign(flights: &[Flight], name: Callsign) -> bool
+    ensures { result ≡ has_callsign flights.now name }
+{
+    flights.iter().any(|f| f.callsign == name)
+}
+
+// The flight that a record is, behind the flights before it.
+#[tactic(auto, unfolding(crate::specs::Reading::flight_in, crate::specs::Reading::flight_by))]
+fn flight_in(flights: &[Flight], row: &ByteRecord) -> Result<Flight, FlightCause>
+    ensures value { result ≡ flight_in flights.now (fields_of row.now) }
+    ensures of_file { IfOk result IsOfFile }
+    ensures new { IfOk result (λ f. has_callsign flights.now f.callsign ≡ false) }
+    ensures room { IfOk result (λ _. length flights.now < 500) }
+{
+    if row.len() != 6 {
+        return Err(FlightCause::FieldCount);
+    }
+    let Some(callsign) = Callsign::read(field(row, 0)) else {
+        return Err(FlightCause::Callsign);
+    };
+    let Some(category) = Category::read(field(row, 1)) else {
+        return Err(FlightCause::Category);
+    };
+    let eta = match read_number(field(row, 2), 0, u64::from(LAST_SECOND)) {
+        Ok(eta) => eta as u32,
+        Err(fault) => return Err(FlightCause::Eta(fault)),
+    };
+    let weight = match read_number(field(row, 3), 1, 100) {
+        Ok(weight) => weight as u32,
+        Err(fault) => return Err(FlightCause::Weight(fault)),
+    };
+    let windows = match read_windows(field(row, 4)) {
+        Ok(windows) => windows,
+        Err(fault) => return Err(FlightCause::Windows(fault)),
+    };
+    let after = match read_after(field(row, 5), callsign) {
+        Ok(after) => after,
+        Err(fault) => return Err(FlightCause::After(fault)),
+    };
+    if has_callsign(flights, callsign) {
+        return Err(FlightCause::Duplicate);
+    }
+    if flights.len() >= 500 {
+        return Err(FlightCause::TooMany);
+    }
+    Ok(Flight {
+        callsign,
+        category,
+        eta,
+        weight,
+        windows,
+        after,
+    })
+}
+
+// One more flight, behind those of the records before.
+fn add_flight(flights: &mut Vec<Flight>, row: &ByteRecord) -> Result<(), FlightFault>
+    requires { CanBeRead flights.old.items }
+    ensures value { Gives (λ _. flights.new.items) result (added flights.old.items (flight_in flights.old.items (fields_of row.now))) }
+    ensures of_file { OnOk result (CanBeRead flights.new.items) }
+{
+    match flight_in(flights.as_slice(), row) {
+        Ok(flight) => {
+            flights.push(flight)?;
+            Ok(())
+        }
+        Err(cause) => Err(FlightFault {
+            number: flights.len() as u32 + 2,
+            cause,
+        }),
+    }
+}
+
+// The flights of the records that are left.
+#[tactic(auto, unfolding(crate::specs::Reading::flights_in))]
+fn flights_in(
+    alloc: Global,
+    records: &mut Records,
+    row: &mut ByteRecord,
+) -> Result<Vec<Flight>, FlightFault>
+    ensures value { Gives (λ v. v.items) result (flights_in [] records.old) }
+    ensures of_file { IfOk result (λ v. CanBeRead v.items) }
+{
+    let mut flights = Vec::new(alloc);
+    while records.read_next(row)? {
+        add_flight(&mut flights, row)?;
+    }
+    Ok(flights)
+}
+
+/// The flights of a file, or the first fault of its first record that has one. It stops at that record, and holds
+/// one record at a time.
+#[tactic(auto, unfolding(crate::specs::Reading::flights_by))]
+pub fn read_flights(alloc: Global, bytes: &[u8]) -> Result<Vec<Flight>, FlightFault>
+    ensures value { Gives (λ v. v.items) result (flights_of bytes.now) }
+    ensures of_file { IfOk result (λ v. CanBeRead v.items) }
+{
+    let mut records = Records::new(alloc, bytes);
+    let mut row = ByteRecord::new(alloc);
+    if !records.read_next(&mut row)? || !is_header(&row) {
+        return Err(FlightFault::header());
+    }
+    flights_in(alloc, &mut records, &mut row)
+}

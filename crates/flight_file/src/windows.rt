@@ -1,0 +1,81 @@
+ghost use Rattle.std.specs.Prelude.{◌≡◌, ◌≤◌, IsTrue, length, take, IfOk};
+ghost use Rattle.std.specs.List.{list_all};
+ghost use Rattle.csv_records.specs.Cutting.{parts};
+ghost use Rattle.landing_windows.specs.Windows.{is_in_days};
+ghost use Rattle.flight_file.specs.Answers.{ok_map};
+ghost use Rattle.flight_file.specs.Windows.{second_in, window_in, windows_from, windows_in};
+
+use crate::fault::WindowsCause;
+use cps_base::read_number;
+use csv_records::{first_part, has_many_parts};
+use landing_windows::{LAST_SECOND, WindowFault, WindowSet};
+
+// The second that a text in part `number` is.
+fn second_in(number: u8, text: &[u8]) -> Result<u32, WindowsCause>
+    ensures value { result ≡ second_in number text.now }
+    ensures range { IfOk result (λ second. second ≤ 172799) }
+{
+    match read_number(text, 0, u64::from(LAST_SECOND)) {
+        Ok(second) => Ok(second as u32),
+        Err(fault) => Err(WindowsCause::Number(number, fault)),
+    }
+}
+
+// The window that a part is.
+#[tactic(auto, unfolding(crate::specs::Windows::window_in))]
+fn window_in(number: u8, text: &[u8]) -> Result<(u32, u32), WindowsCause>
+    ensures value { result ≡ window_in number text.now }
+    ensures range { IfOk result (λ w. IsTrue (is_in_days w)) }
+{
+    let (first, rest) = first_part(text, b'-');
+    let Some(rest) = rest else {
+        return Err(WindowsCause::Shape(number));
+    };
+    let (last, more) = first_part(rest, b'-');
+    if let Some(_) = more {
+        return Err(WindowsCause::Shape(number));
+    }
+    let first = second_in(number, first)?;
+    let last = second_in(number, last)?;
+    Ok((first, last))
+}
+
+// The windows that a text holds, whose parts are at most four.
+#[tactic(auto, unfolding(crate::specs::Windows::windows_from))]
+fn spans_in(text: &[u8]) -> Result<([(u32, u32); 4], usize), WindowsCause>
+    requires { length (parts 59 text.now) ≤ 4 }
+    ensures count { IfOk result (λ r. (r.1 ≤ 4) × (length r.0 ≡ 4)) }
+    ensures range { IfOk result (λ r. IsTrue (list_all is_in_days (take r.1 r.0))) }
+    ensures value { windows_from 1 (parts 59 text.now) ≡ ok_map (λ r. take r.1 r.0) result }
+{
+    let mut spans = [(0, 0); 4];
+    let mut count = 0;
+    let mut rest = Some(text);
+    while let Some(text) = rest {
+        let (part, after) = first_part(text, b';');
+        spans[count] = window_in(count as u8 + 1, part)?;
+        count += 1;
+        rest = after;
+    }
+    Ok((spans, count))
+}
+
+/// The windows of a text: `first-last` joined by `;`, each a second from 0 to 172,799. An empty text is
+/// `Set(Empty)`, more than four parts are `Set(TooMany)`. Then each part from the first is tested whole, `Shape` and
+/// then its two numbers, and last the windows together. It takes no memory.
+#[tactic(auto, unfolding(crate::specs::Windows::windows_in))]
+pub fn read_windows(text: &[u8]) -> Result<WindowSet, WindowsCause>
+    ensures { result ≡ windows_in text.now }
+{
+    if text.is_empty() {
+        return Err(WindowsCause::Set(WindowFault::Empty));
+    }
+    if has_many_parts(text, b';') {
+        return Err(WindowsCause::Set(WindowFault::TooMany));
+    }
+    let (spans, count) = spans_in(text)?;
+    match WindowSet::new(&spans[..count]) {
+        Ok(windows) => Ok(windows),
+        Err(fault) => Err(WindowsCause::Set(fault)),
+    }
+}
