@@ -1,0 +1,61 @@
+-- The aerodrome that a text is, or its first fault, over the table that `toml` reads.
+use Rattle.std.specs.Prelude.{◌≡◌, ◌≤◌, ℕ, List, Bool, true, false, ◌==◌, ◌&&◌, nat_lt, length, codes, bytes_eq, Option, Some, None, Result, Ok, Err, if◌then◌else◌}
+use Rattle.std.specs.Str.Lossy.{utf8_valid_len}
+use Rattle.toml.specs.Data.{Data, string, Members, get_member}
+use Rattle.toml.specs.Parse.{parse_document}
+use Rattle.landing_rules.specs.declared.objective.Objective.{Objective}
+use Rattle.landing_rules.specs.declared.objective.Objective.TheVariants.{Makespan, Delay}
+use Rattle.aerodrome_file.specs.declared.aerodrome.Aerodrome.{Aerodrome}
+use Rattle.aerodrome_file.specs.declared.fault.AeroFault.{AeroFault}
+use Rattle.aerodrome_file.specs.declared.fault.AeroFault.TheVariants as fault
+use Rattle.aerodrome_file.specs.declared.fault.Key.TheVariants as key
+use Rattle.aerodrome_file.specs.declared.fault.Part.TheVariants as part
+use Rattle.aerodrome_file.specs.Answers.{◌>>=◌}
+use Rattle.aerodrome_file.specs.Keys.{only}
+use Rattle.aerodrome_file.specs.Values.{number_in}
+use Rattle.aerodrome_file.specs.Separations.{table_in}
+use Rattle.aerodrome_file.specs.Closures.{closures_in}
+
+-- the table that a text of UTF-8 is
+unfoldable pub document : List ℕ → Option Members
+document bytes = if utf8_valid_len bytes == length bytes then parse_document bytes else None
+
+-- what a plan is to make least
+abbrev pub objective_in : Option Data → Result Objective AeroFault
+objective_in None = Err (fault.MissingKey key.Objective)
+objective_in (Some (string text)) =
+    if bytes_eq text (codes "makespan") then Ok Makespan
+    else if bytes_eq text (codes "delay") then Ok Delay
+    else Err (fault.OutOfRange key.Objective)
+objective_in (Some d) = Err (fault.WrongKind key.Objective)
+
+abbrev pub is_delay : Objective → Bool
+is_delay Makespan = false
+is_delay Delay = true
+
+-- the aerodrome that a table is
+unfoldable pub aerodrome_in : Members → Result Aerodrome AeroFault
+aerodrome_in ms = do
+  _ ← only part.Top ms
+  _ ← number_in key.Version 1 1 (get_member (codes "version") ms)
+  k ← number_in key.K 0 3 (get_member (codes "k") ms)
+  freeze ← number_in key.Freeze 0 7200 (get_member (codes "freeze") ms)
+  objective ← objective_in (get_member (codes "objective") ms)
+  rows ← table_in (get_member (codes "table") ms)
+  closures ← closures_in (get_member (codes "closures") ms)
+  if is_delay objective && nat_lt 1 k then Err (fault.DelayShift k)
+      else Ok (record { k = k; freeze = freeze; objective = objective; table = rows; closures = closures })
+
+abbrev pub aerodrome_or : Option Members → Result Aerodrome AeroFault
+aerodrome_or None = Err fault.NotToml
+aerodrome_or (Some ms) = aerodrome_in ms
+
+-- the aerodrome that a text is
+unfoldable pub aerodrome_of : List ℕ → Result Aerodrome AeroFault
+aerodrome_of bytes = aerodrome_or (document bytes)
+
+-- numbers in their ranges, and a shift that the objective takes
+pub record IsInRange (a : Aerodrome) : Type 0 where
+  pub k : a.k ≤ 3
+  pub freeze : a.freeze ≤ 7200
+  pub shift : is_delay a.objective ≡ true → a.k ≤ 1

@@ -1,0 +1,28 @@
+-- The values at the keys of the file.
+use Rattle.std.specs.Prelude.{ℕ, ℤ, pos, negsuc, ◌&&◌, nat_le, Option, Some, None, Result, Ok, Err, if◌then◌else◌}
+use Rattle.toml.specs.Data.{Data, integer}
+use Rattle.aerodrome_file.specs.declared.fault.AeroFault.{AeroFault}
+use Rattle.aerodrome_file.specs.declared.fault.AeroFault.TheVariants as fault
+use Rattle.aerodrome_file.specs.declared.fault.Key.{Key}
+
+-- the value, where there is one
+abbrev pub present : Key → Option Data → Result Data AeroFault
+present k (Some d) = Ok d
+present k None = Err (fault.MissingKey k)
+
+-- the integer that a value is
+abbrev pub integer_of : Key → Data → Result ℤ AeroFault
+integer_of k (integer z) = Ok z
+integer_of k d = Err (fault.WrongKind k)
+
+-- the number from 0 to most that an integer is
+abbrev pub at_most : Key → ℕ → ℤ → Result ℕ AeroFault
+at_most k most (pos n) = if nat_le n most then Ok n else Err (fault.OutOfRange k)
+at_most k most (negsuc n) = Err (fault.OutOfRange k)
+
+-- the integer of a key, from least to most
+abbrev pub number_in : Key → ℕ → ℕ → Option Data → Result ℕ AeroFault
+number_in k least most None = Err (fault.MissingKey k)
+number_in k least most (Some (integer (pos n))) = if nat_le least n && nat_le n most then Ok n else Err (fault.OutOfRange k)
+number_in k least most (Some (integer (negsuc n))) = Err (fault.OutOfRange k)
+number_in k least most (Some d) = Err (fault.WrongKind k)

@@ -1,0 +1,98 @@
+// The whole file.
+ghost use Rattle.std.specs.Prelude.{◌≡◌, IfOk, option_map};
+ghost use Rattle.toml.specs.Errors.{IsMemory};
+ghost use Rattle.toml.specs.View.{view, table_view};
+ghost use Rattle.aerodrome_file.specs.Answers.{Gives, GivesTable};
+ghost use Rattle.aerodrome_file.specs.Reading.{document, objective_in, aerodrome_in, aerodrome_of, IsInRange};
+
+use crate::aerodrome::Aerodrome;
+use crate::closures::closures_in;
+use crate::fault::{AeroFault, Key, Part};
+use crate::keys::only;
+use crate::separations::table_in;
+use crate::values::{get, number_in};
+use landing_rules::Objective;
+use std::alloc::Global;
+use toml::de::Error;
+use toml::{Table, Value};
+
+// Why toml gives no table: want of memory, or a text that is not TOML.
+fn fault_of(error: &Error) -> AeroFault
+    ensures memory { IsMemory error.now → result ≡ AeroFault.Memory }
+    ensures other { ¬ IsMemory error.now → result ≡ AeroFault.NotToml }
+{
+    if error.is_memory() {
+        AeroFault::Memory
+    } else {
+        AeroFault::NotToml
+    }
+}
+
+// The table that a text is.
+#[tactic(auto, unfolding(crate::specs::Reading::document))]
+fn document(alloc: Global, bytes: &[u8]) -> Result<Table, AeroFault>
+    ensures { GivesTable result (document bytes.now) }
+{
+    let Ok(text) = str::from_utf8(bytes) else {
+        return Err(AeroFault::NotToml);
+    };
+    match toml::table_from_str(alloc, text) {
+        Ok(table) => Ok(table),
+        Err(error) => Err(fault_of(&error)),
+    }
+}
+
+// What a plan is to make least.
+fn objective_in(value: Option<&Value>) -> Result<Objective, AeroFault>
+    ensures { result ≡ objective_in (option_map (λ v. view v.now) value.entry) }
+{
+    let Some(value) = value else {
+        return Err(AeroFault::MissingKey(Key::Objective));
+    };
+    match value.as_str() {
+        None => Err(AeroFault::WrongKind(Key::Objective)),
+        Some("makespan") => Ok(Objective::Makespan),
+        Some("delay") => Ok(Objective::Delay),
+        Some(_) => Err(AeroFault::OutOfRange(Key::Objective)),
+    }
+}
+
+// The aerodrome that a table is.
+#[tactic(auto, unfolding(crate::specs::Reading::aerodrome_in))]
+fn aerodrome_in(table: &Table) -> Result<Aerodrome, AeroFault>
+    ensures value { result ≡ aerodrome_in (table_view table.now) }
+    ensures range { IfOk result IsInRange }
+{
+    only(Part::Top, table)?;
+    number_in(Key::Version, 1, 1, get(table, "version"))?;
+    let k = number_in(Key::K, 0, 3, get(table, "k"))?;
+    let freeze = number_in(Key::Freeze, 0, 7200, get(table, "freeze"))?;
+    let objective = objective_in(get(table, "objective"))?;
+    let separations = table_in(get(table, "table"))?;
+    let closures = closures_in(get(table, "closures"))?;
+    let k = k as u8;
+    if objective == Objective::Delay && k > 1 {
+        return Err(AeroFault::DelayShift(k));
+    }
+    Ok(Aerodrome {
+        k,
+        freeze,
+        objective,
+        table: separations,
+        closures,
+    })
+}
+
+/// The aerodrome that a file is, or its first fault.
+///
+/// The faults are looked for in this order: the text as TOML; the keys of the document, in byte order; `version`, `k`,
+/// `freeze`, `objective` and `table`, each for its presence, its kind and its range; `closures`, one after the other;
+/// and last the shift that delay does not take.
+#[tactic(auto, unfolding(crate::specs::Reading::aerodrome_of))]
+pub fn read_aerodrome(alloc: Global, bytes: &[u8]) -> Result<Aerodrome, AeroFault>
+    ensures value { Gives result (aerodrome_of bytes.now) }
+    ensures range { IfOk result IsInRange }
+{
+    let table = document(alloc, bytes)?;
+    aerodrome_in(&table)
+}

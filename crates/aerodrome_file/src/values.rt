@@ -1,0 +1,71 @@
+// The values at the keys of the file.
+ghost use Rattle.std.specs.Prelude.{◌≡◌, ◌≤◌, IfOk, option_map};
+ghost use Rattle.toml.specs.Data.{get_member};
+ghost use Rattle.toml.specs.View.{view, table_view};
+ghost use Rattle.aerodrome_file.specs.Answers.{Shows};
+ghost use Rattle.aerodrome_file.specs.Values.{present, integer_of, at_most, number_in};
+
+use crate::fault::{AeroFault, Key};
+use toml::{Table, Value};
+
+// The value at a key.
+pub(crate) fn get<'a>(table: &'a Table, key: &str) -> Option<&'a Value>
+    ensures { option_map (λ v. view v.now) result ≡ get_member key.now (table_view table.now) }
+{
+    table.get(key)
+}
+
+// The value, where there is one.
+pub(crate) fn present<'a>(key: Key, value: Option<&'a Value>) -> Result<&'a Value, AeroFault>
+    ensures { Shows result (present key (option_map (λ v. view v.now) value.entry)) }
+{
+    match value {
+        Some(value) => Ok(value),
+        None => Err(AeroFault::MissingKey(key)),
+    }
+}
+
+// The integer that a value is.
+pub(crate) fn integer_of(key: Key, value: &Value) -> Result<i64, AeroFault>
+    ensures { result ≡ integer_of key (view value.now) }
+{
+    match value.as_integer() {
+        Some(number) => Ok(number),
+        None => Err(AeroFault::WrongKind(key)),
+    }
+}
+
+// The number from 0 to `most` that an integer is.
+pub(crate) fn at_most(key: Key, most: u32, number: i64) -> Result<u32, AeroFault>
+    ensures value { result ≡ at_most key most number }
+    ensures range { IfOk result (λ n. n ≤ most) }
+{
+    if number >= 0 && number <= i64::from(most) {
+        Ok(number as u32)
+    } else {
+        Err(AeroFault::OutOfRange(key))
+    }
+}
+
+// The integer of a key, from `least` to `most`.
+pub(crate) fn number_in(
+    key: Key,
+    least: u32,
+    most: u32,
+    value: Option<&Value>,
+) -> Result<u32, AeroFault>
+    ensures value { result ≡ number_in key least most (option_map (λ v. view v.now) value.entry) }
+    ensures range { IfOk result (λ n. n ≤ most) }
+{
+    let Some(value) = value else {
+        return Err(AeroFault::MissingKey(key));
+    };
+    let Some(number) = value.as_integer() else {
+        return Err(AeroFault::WrongKind(key));
+    };
+    if number >= i64::from(least) && number <= i64::from(most) {
+        Ok(number as u32)
+    } else {
+        Err(AeroFault::OutOfRange(key))
+    }
+}
