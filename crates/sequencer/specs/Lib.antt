@@ -1,0 +1,4 @@
+-- What files open, the flights by rank, and what a plan shows.
+pub mod Opened
+pub mod Predecessors
+pub mod Shown
