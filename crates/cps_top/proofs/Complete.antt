@@ -1,0 +1,114 @@
+-- Over good files and with no fault the text is written whole.
+use Rattle.std.proofs.Common.{◌≡◌, inl, inr, ℕ, ◌-◌, ◌≤◌, List, [], ◌∷◌, ◌++◌, length, take, drop, map, Some, None, Option, IsTrue, ap, sym, ◌∙◌, subst, arith, take-append-drop}
+use Rattle.std.specs.List.{AllByRecursion}
+use Rattle.cps_outside.specs.FolderState.{FolderState}
+use Rattle.cps_top.specs.declared.commands.Command.{Command}
+use Rattle.cps_top.specs.declared.endings.Ending.{Ending}
+use Rattle.cps_top.specs.declared.endings.Ending.TheVariants.{Answered, Misused, Refused, NotLoaded, NotWritten, TooLong, NoMemory}
+use Rattle.cps_top.specs.Commands.{command_of, files_of}
+use Rattle.cps_top.specs.Loads.{limit, Loads, IsTooLongAt}
+use Rattle.cps_top.specs.Lines.{status_of}
+use Rattle.cps_top.specs.Outcome.{Outside, Ends, Serves, Follows}
+use Rattle.cps_top.specs.Statuses.{AreThere, Completes}
+
+some_same : (x y : List ℕ) → Some x ≡ Some y → x ≡ y
+some_same x y e = cc
+
+pub command_same : (x y : Command) → Some x ≡ Some y → x ≡ y
+command_same x y e = cc
+
+head_same : (x y : Option (List ℕ)) (xs ys : List (Option (List ℕ))) → x ∷ xs ≡ y ∷ ys → x ≡ y
+head_same x y xs ys e = cc
+
+tail_same : (x y : Option (List ℕ)) (xs ys : List (Option (List ℕ))) → x ∷ xs ≡ y ∷ ys → xs ≡ ys
+tail_same x y xs ys e = cc
+
+contents_same : (xs ys : List (List ℕ)) → map Some xs ≡ map Some ys → xs ≡ ys
+contents_same [] [] e = cc
+contents_same [] (y ∷ ys) e = cc
+contents_same (x ∷ xs) [] e = cc
+contents_same (x ∷ xs) (y ∷ ys) e =
+    let first = some_same x y (head_same (Some x) (Some y) (map Some xs) (map Some ys) e) in
+    let rest = contents_same xs ys (tail_same (Some x) (Some y) (map Some xs) (map Some ys) e) in
+    cc
+
+-- the command ran over the files that are there
+pub serves_at : (words : List (List ℕ)) (old new : Outside) (ending : Ending) (command : Command) (contents : List (List ℕ)) →
+    command_of words ≡ Some command → IsTrue old.folder.tells → map old.folder.content (files_of words) ≡ map Some contents →
+    Serves words old new ending → Follows command contents old.out new.out ending
+serves_at words old new ending command contents named tells told s =
+    let same : s.command ≡ command = command_same s.command command (sym s.named ∙ named) in
+    let loads = subst (λ q. Loads old.folder new.folder (files_of words) s.contents) same s.loads in
+    let held : s.contents ≡ contents = contents_same s.contents contents (sym (loads.told tells) ∙ told) in
+    let follows = subst (λ q. Follows q s.contents old.out new.out ending) same s.follows in
+    subst (λ q. Follows command q old.out new.out ending) held follows
+
+serves_good : (words : List (List ℕ)) (old new : Outside) (ending : Ending) (command : Command) (contents : List (List ℕ)) →
+    Serves words old new ending → AreThere words old command contents → Follows command contents old.out new.out ending
+serves_good words old new ending command contents s good =
+    serves_at words old new ending command contents good.named good.tells good.told s
+
+-- a content that is there and at most the limit
+pub Within : Option (List ℕ) → Type 0
+Within (Some bytes) = length bytes ≤ limit
+Within None = ⊥
+
+pub all_within : (cs : List (List ℕ)) → AllByRecursion (λ b. length b ≤ limit) cs → AllByRecursion Within (map Some cs)
+unfolding Within
+all_within [] all = tt
+all_within (c ∷ cs) all = (all.0, all_within cs all.1)
+
+pub all_named : (f : List ℕ → Option (List ℕ)) (ns : List (List ℕ)) → AllByRecursion Within (map f ns) → AllByRecursion (λ n. Within (f n)) ns
+all_named f [] all = tt
+all_named f (n ∷ ns) all = (all.0, all_named f ns all.1)
+
+pub all_at : (P : List ℕ → Type 0) (before : List (List ℕ)) (name : List ℕ) (after : List (List ℕ)) →
+    AllByRecursion P ((before ++ name ∷ []) ++ after) → P name
+all_at P [] name after all = all.0
+all_at P (n ∷ before) name after all = all_at P before name after all.1
+
+pub within_fits : (bytes : List ℕ) (content : Option (List ℕ)) → content ≡ Some bytes → Within content → length bytes ≤ limit
+unfolding Within
+within_fits bytes content e within = subst Within e within
+
+-- no file is too long
+pub none_too_long : (old new : FolderState) (ns cs : List (List ℕ)) (place : ℕ) → IsTrue old.tells → map old.content ns ≡ map Some cs →
+    AllByRecursion (λ b. length b ≤ limit) cs → IsTooLongAt old new ns place → ⊥
+none_too_long old new ns cs place tells told bounded long =
+    let t = long.told tells in
+    let all = all_named old.content ns (subst (AllByRecursion Within) (sym told) (all_within cs bounded)) in
+    let split : (take (place - 1) ns ++ t.0 ∷ []) ++ drop place ns ≡ ns = ap (λ q. q ++ drop place ns) (sym t.2) ∙ take-append-drop place ns in
+    let at = all_at (λ n. Within (old.content n)) (take (place - 1) ns) t.0 (drop place ns) (subst (AllByRecursion (λ n. Within (old.content n))) (sym split) all) in
+    let fits = within_fits t.1 (old.content t.0) t.3 at in
+    let longer = t.4 in
+    omega (arith, fits, longer)
+
+pub completes : (words : List (List ℕ)) (old new : Outside) (status : ℕ) (ending : Ending) →
+    status ≡ status_of ending → Ends words old new ending → Completes words old new status
+completes words old new status (Answered answer) is ends = record {
+  complete = λ command contents good taken calm_folder calm_out.
+      inr (answer, is, serves_good words old new (Answered answer) command contents ends good);
+}
+completes words old new status Misused is ends = record {
+  complete = λ command contents good taken calm_folder calm_out.
+      let named = good.named in let unnamed = ends.0 in cc;
+}
+completes words old new status (Refused refusal) is ends = record {
+  complete = λ command contents good taken calm_folder calm_out.
+      absurd (taken refusal (serves_good words old new (Refused refusal) command contents ends good).0);
+}
+completes words old new status (NotLoaded place) is ends = record {
+  complete = λ command contents good taken calm_folder calm_out.
+      absurd (calm_folder ends.loads.cause);
+}
+completes words old new status NotWritten is ends = record {
+  complete = λ command contents good taken calm_folder calm_out.
+      absurd (calm_out (serves_good words old new NotWritten command contents ends good).1);
+}
+completes words old new status (TooLong place) is ends = record {
+  complete = λ command contents good taken calm_folder calm_out.
+      let same = command_same ends.command command (sym ends.named ∙ good.named) in
+      let long = subst (λ q. IsTooLongAt old.folder new.folder (files_of words) place) same ends.loads in
+      absurd (none_too_long old.folder new.folder (files_of words) contents place good.tells good.told good.bounded long);
+}
+completes words old new status NoMemory is ends = record { complete = λ command contents good taken calm_folder calm_out. inl is }

@@ -1,0 +1,180 @@
+-- The statuses, and the lines on the standard error. A line is its pieces, one after another.
+use Rattle.std.specs.Prelude.{ℕ, List, [], ◌∷◌, ◌++◌, codes, decimal}
+use Rattle.wake_table.specs.Letters.{letter}
+use Rattle.wake_table.specs.declared.category.Category.{Category}
+use Rattle.wake_table.specs.declared.table.TableFault.{TableFault}
+use Rattle.wake_table.specs.declared.table.TableFault.TheVariants as table
+use Rattle.cps_base.specs.declared.number.NumberFault.{NumberFault}
+use Rattle.cps_base.specs.declared.number.NumberFault.TheVariants as number
+use Rattle.landing_windows.specs.declared.windows.WindowFault.TheVariants as windows
+use Rattle.landing_windows.specs.declared.closures.ClosureFault.{ClosureFault}
+use Rattle.landing_windows.specs.declared.closures.ClosureFault.TheVariants as closure
+use Rattle.flight_file.specs.declared.fault.WindowsCause.{WindowsCause}
+use Rattle.flight_file.specs.declared.fault.WindowsCause.TheVariants.{Shape, Number, Set}
+use Rattle.flight_file.specs.declared.fault.AfterCause.{AfterCause}
+use Rattle.flight_file.specs.declared.fault.AfterCause.TheVariants as after
+use Rattle.flight_file.specs.declared.fault.FlightCause.{FlightCause}
+use Rattle.flight_file.specs.declared.fault.FlightCause.TheVariants as flight
+use Rattle.flight_file.specs.declared.fault.FlightFault.{FlightFault}
+use Rattle.aerodrome_file.specs.declared.fault.Key.{Key}
+use Rattle.aerodrome_file.specs.declared.fault.Key.TheVariants as key
+use Rattle.aerodrome_file.specs.declared.fault.Part.{Part}
+use Rattle.aerodrome_file.specs.declared.fault.Part.TheVariants as part
+use Rattle.aerodrome_file.specs.declared.fault.AeroFault.{AeroFault}
+use Rattle.aerodrome_file.specs.declared.fault.AeroFault.TheVariants as aerodrome
+use Rattle.cps_top.specs.declared.endings.Answer.{Answer}
+use Rattle.cps_top.specs.declared.endings.Answer.TheVariants.{Scheduled, Infeasible}
+use Rattle.cps_top.specs.declared.endings.Refusal.{Refusal}
+use Rattle.cps_top.specs.declared.endings.Refusal.TheVariants.{Aerodrome, Flights, TooManyWaiting, Unbuilt}
+use Rattle.cps_top.specs.declared.endings.Ending.{Ending}
+use Rattle.cps_top.specs.declared.endings.Ending.TheVariants.{Answered, Misused, Refused, NotLoaded, NotWritten, TooLong, NoMemory}
+
+abbrev pub answer_status : Answer → ℕ
+answer_status Scheduled = 0
+answer_status Infeasible = 1
+
+abbrev pub status_of : Ending → ℕ
+status_of (Answered answer) = answer_status answer
+status_of Misused = 2
+status_of (Refused refusal) = 3
+status_of (NotLoaded place) = 4
+status_of NotWritten = 5
+status_of (TooLong place) = 6
+status_of NoMemory = 8
+
+-- the pieces, one after another
+abbrev pub text_of : List (List ℕ) → List ℕ
+text_of [] = []
+text_of (piece ∷ rest) = piece ++ text_of rest
+
+-- ---- the aerodrome file
+
+abbrev pub letter_text : Category → List ℕ
+letter_text c = letter c ∷ []
+
+-- the key's name, and then its letter or its closure's number
+abbrev pub key_name : Key → List ℕ
+key_name key.Version = codes "version"
+key_name key.K = codes "k"
+key_name key.Freeze = codes "freeze"
+key_name key.Objective = codes "objective"
+key_name key.Table = codes "table"
+key_name (key.Row leader) = codes "row "
+key_name key.Closures = codes "closures"
+key_name (key.From i) = codes "from "
+key_name (key.To i) = codes "to "
+
+abbrev pub key_index : Key → List ℕ
+key_index (key.Row leader) = letter_text leader
+key_index (key.From i) = decimal i
+key_index (key.To i) = decimal i
+key_index k = []
+
+abbrev pub key_line : List ℕ → Key → List ℕ
+key_line word k = text_of (codes "cps: aerodrome: " ∷ word ∷ key_name k ∷ key_index k ∷ codes "\n" ∷ [])
+
+abbrev pub unknown_line : Part → List ℕ → List ℕ
+unknown_line part.Top text = text_of (codes "cps: aerodrome: unknown key " ∷ text ∷ codes "\n" ∷ [])
+unknown_line part.Table text = text_of (codes "cps: aerodrome: unknown key table " ∷ text ∷ codes "\n" ∷ [])
+unknown_line (part.Closure i) text = text_of (codes "cps: aerodrome: unknown key closure " ∷ decimal i ∷ codes " " ∷ text ∷ codes "\n" ∷ [])
+
+abbrev pub table_line : TableFault → List ℕ
+table_line (table.OutOfRange leader follower) =
+    text_of (codes "cps: aerodrome: table range " ∷ letter_text leader ∷ codes " " ∷ letter_text follower ∷ codes "\n" ∷ [])
+table_line (table.Triangle a b c) =
+    text_of (codes "cps: aerodrome: table triangle " ∷ letter_text a ∷ codes " " ∷ letter_text b ∷ codes " " ∷ letter_text c ∷ codes "\n" ∷ [])
+
+abbrev pub closure_line : ℕ → ClosureFault → List ℕ
+closure_line i closure.Empty = text_of (codes "cps: aerodrome: closure " ∷ decimal i ∷ codes " empty\n" ∷ [])
+closure_line i closure.TooMany = text_of (codes "cps: aerodrome: closure " ∷ decimal i ∷ codes " too-many\n" ∷ [])
+
+abbrev pub aerodrome_line : AeroFault → List ℕ
+aerodrome_line aerodrome.NotToml = text_of (codes "cps: aerodrome: not toml\n" ∷ [])
+aerodrome_line (aerodrome.MissingKey k) = key_line (codes "missing ") k
+aerodrome_line (aerodrome.UnknownKey part text) = unknown_line part text
+aerodrome_line (aerodrome.WrongKind k) = key_line (codes "kind ") k
+aerodrome_line (aerodrome.OutOfRange k) = key_line (codes "range ") k
+aerodrome_line (aerodrome.Table fault) = table_line fault
+aerodrome_line (aerodrome.Closure i fault) = closure_line i fault
+aerodrome_line (aerodrome.DelayShift k) = text_of (codes "cps: aerodrome: delay shift " ∷ decimal k ∷ codes "\n" ∷ [])
+aerodrome_line aerodrome.Memory = text_of (codes "cps: no memory\n" ∷ [])
+
+-- ---- the flight file
+
+abbrev pub number_word : NumberFault → List ℕ
+number_word number.NotNumber = codes "not-number"
+number_word number.Below = codes "below"
+number_word number.Above = codes "above"
+
+-- the words, the number of the part and why it is no number, where there are such
+abbrev pub windows_word : WindowsCause → List ℕ
+windows_word (Shape i) = codes "shape "
+windows_word (Number i fault) = codes "number "
+windows_word (Set windows.Empty) = codes "none"
+windows_word (Set windows.TooMany) = codes "too-many"
+windows_word (Set (windows.Backward i)) = codes "backward "
+windows_word (Set (windows.Overlap i)) = codes "overlap "
+windows_word (Set windows.TooLong) = codes "too-long"
+
+abbrev pub windows_part : WindowsCause → List ℕ
+windows_part (Shape i) = decimal i
+windows_part (Number i fault) = decimal i
+windows_part (Set (windows.Backward i)) = decimal i
+windows_part (Set (windows.Overlap i)) = decimal i
+windows_part (Set fault) = []
+
+abbrev pub windows_why : WindowsCause → List ℕ
+windows_why (Number i number.NotNumber) = codes " not-number"
+windows_why (Number i number.Below) = codes " below"
+windows_why (Number i number.Above) = codes " above"
+windows_why cause = []
+
+abbrev pub after_word : AfterCause → List ℕ
+after_word after.TooMany = codes "too-many"
+after_word (after.Callsign i) = codes "callsign "
+after_word (after.Itself i) = codes "itself "
+after_word (after.Repeat i) = codes "repeat "
+
+abbrev pub after_part : AfterCause → List ℕ
+after_part after.TooMany = []
+after_part (after.Callsign i) = decimal i
+after_part (after.Itself i) = decimal i
+after_part (after.Repeat i) = decimal i
+
+-- what follows the number of the record
+abbrev pub cause_pieces : FlightCause → List (List ℕ)
+cause_pieces flight.Header = codes ": header\n" ∷ []
+cause_pieces flight.FieldCount = codes ": fields\n" ∷ []
+cause_pieces flight.Callsign = codes ": callsign\n" ∷ []
+cause_pieces flight.Category = codes ": category\n" ∷ []
+cause_pieces (flight.Eta fault) = codes ": eta " ∷ number_word fault ∷ codes "\n" ∷ []
+cause_pieces (flight.Weight fault) = codes ": weight " ∷ number_word fault ∷ codes "\n" ∷ []
+cause_pieces (flight.Windows cause) = codes ": windows " ∷ windows_word cause ∷ windows_part cause ∷ windows_why cause ∷ codes "\n" ∷ []
+cause_pieces (flight.After cause) = codes ": after " ∷ after_word cause ∷ after_part cause ∷ codes "\n" ∷ []
+cause_pieces flight.Duplicate = codes ": duplicate\n" ∷ []
+cause_pieces flight.TooMany = codes ": too-many\n" ∷ []
+cause_pieces flight.Memory = codes ": memory\n" ∷ []
+
+abbrev pub cause_line : List ℕ → FlightCause → List ℕ
+cause_line number cause = text_of (codes "cps: flights: record " ∷ number ∷ cause_pieces cause)
+
+abbrev pub flights_line : FlightFault → List ℕ
+flights_line fault = cause_line (decimal fault.number) fault.cause
+
+-- ---- all endings
+
+abbrev pub refusal_line : Refusal → List ℕ
+refusal_line (Aerodrome fault) = aerodrome_line fault
+refusal_line (Flights fault) = flights_line fault
+refusal_line (TooManyWaiting n) = text_of (codes "cps: too many waiting " ∷ decimal n ∷ codes "\n" ∷ [])
+refusal_line Unbuilt = text_of (codes "cps: unbuilt\n" ∷ [])
+
+-- the line on the standard error, or nothing
+abbrev pub line_of : Ending → List ℕ
+line_of (Answered answer) = text_of []
+line_of Misused = text_of (codes "cps: usage\n" ∷ [])
+line_of (Refused refusal) = refusal_line refusal
+line_of (NotLoaded place) = text_of (codes "cps: file " ∷ decimal place ∷ codes ": failed\n" ∷ [])
+line_of NotWritten = text_of (codes "cps: write failed\n" ∷ [])
+line_of (TooLong place) = text_of (codes "cps: file " ∷ decimal place ∷ codes ": too long\n" ∷ [])
+line_of NoMemory = text_of (codes "cps: no memory\n" ∷ [])

@@ -1,0 +1,79 @@
+-- What a run of the program does: its ending, the cause of it, and what it wrote.
+use Rattle.std.specs.Prelude.{◌≡◌, ◌⊎◌, ℕ, List, Some, None}
+use Rattle.cps_outside.specs.Causes.{Rose}
+use Rattle.cps_outside.specs.FolderState.{FolderState}
+use Rattle.cps_outside.specs.SinkState.{SinkState, Grows, GrowsByPart}
+use Rattle.cps_top.specs.declared.commands.Command.{Command}
+use Rattle.cps_top.specs.declared.endings.Ending.{Ending}
+use Rattle.cps_top.specs.declared.endings.Ending.TheVariants.{Answered, Misused, Refused, NotLoaded, NotWritten, TooLong, NoMemory}
+use Rattle.cps_top.specs.Commands.{command_of, files_of, Admits, Begins, Refuses}
+use Rattle.cps_top.specs.Loads.{Loads, FailsAt, IsTooLongAt, AsksForSome}
+use Rattle.cps_top.specs.Lines.{status_of, line_of}
+
+-- the outside but for the standard error
+pub record Outside : Type 0 where
+  pub folder : FolderState
+  pub out : SinkState
+
+-- A text that P admits was written whole.
+pub record Prints (P : List ℕ → Type 0) (old new : SinkState) : Type 0 where
+  pub text : List ℕ
+  pub admitted : P text
+  pub grew : Grows old new text
+
+-- A part of a text that P admits was written.
+pub record PrintsPart (P : List ℕ → Type 0) (old new : SinkState) : Type 0 where
+  pub text : List ℕ
+  pub admitted : P text
+  pub grew : GrowsByPart old new text
+
+-- what a command does over the contents of its files, with this ending
+abbrev pub Follows : Command → List (List ℕ) → SinkState → SinkState → Ending → Type 0
+Follows command contents old new (Answered answer) = Prints (λ text. Admits command contents text answer) old new
+Follows command contents old new (Refused refusal) = Refuses command contents refusal × (new ≡ old)
+Follows command contents old new NotWritten = PrintsPart (Begins command contents) old new × Rose old.faults new.faults
+Follows command contents old new NoMemory = (new ≡ old) ⊎ PrintsPart (Begins command contents) old new
+Follows command contents old new ending = ⊥
+
+-- The words name a command, whose files were loaded and which then ran.
+pub record Serves (words : List (List ℕ)) (old new : Outside) (ending : Ending) : Type 0 where
+  pub command : Command
+  pub named : command_of words ≡ Some command
+  pub contents : List (List ℕ)
+  pub loads : Loads old.folder new.folder (files_of words) contents
+  pub follows : Follows command contents old.out new.out ending
+
+-- The words name a command, the loads of whose files end so, and `out` is as it was.
+pub record StopsLoading (words : List (List ℕ)) (old new : Outside) (P : FolderState → FolderState → List (List ℕ) → Type 0) : Type 0 where
+  pub command : Command
+  pub named : command_of words ≡ Some command
+  pub loads : P old.folder new.folder (files_of words)
+  pub out : new.out ≡ old.out
+
+-- a run over these words ends so
+abbrev pub Ends : List (List ℕ) → Outside → Outside → Ending → Type 0
+Ends words old new Misused = (command_of words ≡ None) × (new ≡ old)
+Ends words old new (NotLoaded place) = StopsLoading words old new (λ a b names. FailsAt a b names place)
+Ends words old new (TooLong place) = StopsLoading words old new (λ a b names. IsTooLongAt a b names place)
+Ends words old new NoMemory = StopsLoading words old new AsksForSome ⊎ Serves words old new NoMemory
+Ends words old new ending = Serves words old new ending
+
+-- The line was written, whole unless a fault was counted.
+pub record Says (old new : SinkState) (line : List ℕ) : Type 0 where
+  pub tells : new.tells ≡ old.tells
+  pub part : GrowsByPart old new line
+  pub whole : Grows old new line ⊎ Rose old.faults new.faults
+
+-- A run over these words answers this status: it ended so, for this cause, and said so.
+pub record RunsTo (words : List (List ℕ)) (old new : Outside) (old_err new_err : SinkState) (status : ℕ) : Type 0 where
+  pub ending : Ending
+  pub status_is : status ≡ status_of ending
+  pub ends : Ends words old new ending
+  pub says : Says old_err new_err (line_of ending)
+
+-- how the loads of these files may end early
+abbrev pub LoadsEnd : FolderState → FolderState → List (List ℕ) → Ending → Type 0
+LoadsEnd old new names (NotLoaded place) = FailsAt old new names place
+LoadsEnd old new names (TooLong place) = IsTooLongAt old new names place
+LoadsEnd old new names NoMemory = AsksForSome old new names
+LoadsEnd old new names ending = ⊥

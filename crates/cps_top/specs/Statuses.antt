@@ -1,0 +1,64 @@
+-- What each status of the program says.
+use Rattle.std.specs.Prelude.{[], ◌∷◌, ◌++◌, ◌<◌, ◌≡◌, ◌⊎◌, ◌↔◌, ℕ, ◌+◌, ◌≢◌, ◌≤◌, List, length, map, Some, None, IsTrue}
+use Rattle.std.specs.List.{AllByRecursion}
+use Rattle.cps_outside.specs.Causes.{RoseBy, Rose}
+use Rattle.cps_top.specs.declared.commands.Command.{Command}
+use Rattle.cps_top.specs.declared.endings.Answer.{Answer}
+use Rattle.cps_top.specs.declared.endings.Refusal.{Refusal}
+use Rattle.cps_top.specs.Commands.{command_of, files_of, Admits, Refuses}
+use Rattle.cps_outside.specs.FolderState.{FolderState}
+use Rattle.cps_top.specs.Loads.{limit, FailsAt, IsTooLongAt, AsksForSome}
+use Rattle.cps_top.specs.Lines.{answer_status}
+use Rattle.cps_top.specs.Outcome.{Outside, Prints}
+
+-- when each status comes
+pub record Causes (words : List (List ℕ)) (old new : Outside) (status : ℕ) : Type 0 where
+  pub known : status ≤ 8
+  pub usage : (status ≡ 2) ↔ (command_of words ≡ None)
+  pub failed : status ≡ 4 → Rose old.folder.faults new.folder.faults
+  pub unwritten : status ≡ 5 → Rose old.out.faults new.out.faults
+  pub too_long : status ≡ 6 → RoseBy (limit + 1) old.folder.taken new.folder.taken
+  -- `out` is as it was
+  pub nothing_written : (status ≡ 2) ⊎ (status ≡ 3) ⊎ (status ≡ 4) ⊎ (status ≡ 6) → new.out ≡ old.out
+
+-- which files were asked for, where the folder tells
+pub record Asks (words : List (List ℕ)) (old new : Outside) (status : ℕ) : Type 0 where
+  -- none where the words fit no command
+  pub none : status ≡ 2 → new.folder ≡ old.folder
+  -- the first of them first
+  pub some : command_of words ≢ None → AsksForSome old.folder new.folder (files_of words)
+  pub all : (status ≡ 0) ⊎ (status ≡ 1) ⊎ (status ≡ 3) ⊎ (status ≡ 5) → IsTrue old.folder.tells →
+      new.folder.asked ≡ old.folder.asked ++ files_of words
+  -- the last of them is the one whose load failed, or that is too long
+  pub failed : status ≡ 4 → (place : ℕ) × FailsAt old.folder new.folder (files_of words) place
+  pub too_long : status ≡ 6 → (place : ℕ) × IsTooLongAt old.folder new.folder (files_of words) place
+
+-- a command's files are there, with these contents, and none is too long
+pub record AreThere (words : List (List ℕ)) (old : Outside) (command : Command) (contents : List (List ℕ)) : Type 0 where
+  pub named : command_of words ≡ Some command
+  pub tells : IsTrue old.folder.tells
+  pub told : map old.folder.content (files_of words) ≡ map Some contents
+  pub bounded : AllByRecursion (λ bytes. length bytes ≤ limit) contents
+
+-- Over files that are taken, and with no fault, the text is written whole, or memory was short.
+pub record Completes (words : List (List ℕ)) (old new : Outside) (status : ℕ) : Type 0 where
+  pub complete : (command : Command) (contents : List (List ℕ)) → AreThere words old command contents →
+      ((refusal : Refusal) → Refuses command contents refusal → ⊥) →
+      (Rose old.folder.faults new.folder.faults → ⊥) → (Rose old.out.faults new.out.faults → ⊥) →
+      (status ≡ 8) ⊎ ((answer : Answer) × (status ≡ answer_status answer)
+      × Prints (λ text. Admits command contents text answer) old.out new.out)
+
+-- a load failed, and no later file than these was asked for
+pub record FailsWithin (old new : FolderState) (names : List (List ℕ)) : Type 0 where
+  pub cause : Rose old.faults new.faults
+  pub asked : AsksForSome old new names
+
+-- Files that are refused give status 3, unless a load failed, and one that is too long gives 6, unless its load or an
+-- earlier one failed; or memory was short.
+pub record IsExact (words : List (List ℕ)) (old new : Outside) (status : ℕ) : Type 0 where
+  pub refused : (command : Command) (contents : List (List ℕ)) (refusal : Refusal) → AreThere words old command contents →
+      Refuses command contents refusal → (status ≡ 3) ⊎ (status ≡ 8) ⊎ ((status ≡ 4) × Rose old.folder.faults new.folder.faults)
+  pub too_long : (command : Command) (before after : List (List ℕ)) (name bytes : List ℕ) → command_of words ≡ Some command →
+      IsTrue old.folder.tells → files_of words ≡ (before ++ name ∷ []) ++ after →
+      old.folder.content name ≡ Some bytes → limit < length bytes →
+      (status ≡ 6) ⊎ (status ≡ 8) ⊎ ((status ≡ 4) × FailsWithin old.folder new.folder (before ++ name ∷ []))

@@ -1,0 +1,43 @@
+use aerodrome_file::AeroFault;
+use flight_file::FlightFault;
+
+/// What a command answers once its text is written.
+#[derive(Clone, Copy, Debug, PartialEq, Eq)]
+pub enum Answer {
+    /// The last plan is a schedule.
+    Scheduled,
+    /// The last plan is none.
+    Infeasible,
+}
+
+/// Why the files are not taken.
+#[derive(Clone, Copy, Debug, PartialEq, Eq)]
+pub enum Refusal {
+    /// The aerodrome file is none.
+    Aerodrome(AeroFault),
+    /// The flight file is none.
+    Flights(FlightFault),
+    /// More than 60 flights wait: how many.
+    TooManyWaiting(u32),
+    /// The aerodrome file asks for the delay, which is still to be built.
+    Unbuilt,
+}
+
+/// How a run ends.
+#[derive(Clone, Copy, Debug, PartialEq, Eq)]
+pub enum Ending {
+    /// The text was written whole.
+    Answered(Answer),
+    /// The words fit no command.
+    Misused,
+    /// All files were loaded, and they are not taken.
+    Refused(Refusal),
+    /// The load of this number, from 1, failed.
+    NotLoaded(u32),
+    /// A put failed.
+    NotWritten,
+    /// The file of this number, from 1, is too long.
+    TooLong(u32),
+    /// Memory ran out.
+    NoMemory,
+}

@@ -1,0 +1,73 @@
+// The statuses and the lines on the standard error. A line is written piece by piece and takes no memory.
+ghost use Rattle.std.specs.Prelude.{◌≡◌, ◌<◌, map, decimal, codes};
+ghost use Rattle.cps_outside.specs.SinkState.{Writes};
+ghost use Rattle.cps_top.specs.Lines.{status_of, line_of, text_of, refusal_line};
+
+use crate::aerodrome_lines::say_aerodrome;
+use crate::flight_lines::say_flights;
+use crate::{Answer, Ending, Refusal};
+use cps_outside::{Sink, WriteFailed};
+use itoa::Buffer;
+
+// The status of an ending.
+pub(crate) fn status(ending: &Ending) -> u8
+    ensures { result ≡ status_of ending.now }
+{
+    match ending {
+        Ending::Answered(Answer::Scheduled) => 0,
+        Ending::Answered(Answer::Infeasible) => 1,
+        Ending::Misused => 2,
+        Ending::Refused(_) => 3,
+        Ending::NotLoaded(_) => 4,
+        Ending::NotWritten => 5,
+        Ending::TooLong(_) => 6,
+        Ending::NoMemory => 8,
+    }
+}
+
+// Puts the pieces in their order. The first put that fails is the last.
+pub(crate) fn put_all<E: Sink>(err: &mut E, pieces: &[&[u8]]) -> Result<(), WriteFailed>
+    ensures { Writes (E.state err.old) (E.state err.new) (text_of (map (λ piece. piece.now) pieces.now)) result }
+{
+    for piece in pieces {
+        err.put(piece)?;
+    }
+    Ok(())
+}
+
+fn say_refusal<E: Sink>(err: &mut E, refusal: &Refusal) -> Result<(), WriteFailed>
+    ensures { Writes (E.state err.old) (E.state err.new) (refusal_line refusal.now) result }
+{
+    let mut buffer = Buffer::new();
+    match refusal {
+        Refusal::Aerodrome(fault) => say_aerodrome(err, fault),
+        Refusal::Flights(fault) => say_flights(err, fault),
+        Refusal::TooManyWaiting(n) => {
+            let n = buffer.format(*n).as_bytes();
+            put_all(err, &[b"cps: too many waiting ", n, b"\n"])
+        }
+        Refusal::Unbuilt => put_all(err, &[b"cps: unbuilt\n"]),
+    }
+}
+
+// Writes the line of an ending.
+pub(crate) fn say<E: Sink>(err: &mut E, ending: &Ending) -> Result<(), WriteFailed>
+    ensures { Writes (E.state err.old) (E.state err.new) (line_of ending.now) result }
+{
+    let mut buffer = Buffer::new();
+    match ending {
+        Ending::Answered(_) => Ok(()),
+        Ending::Misused => put_all(err, &[b"cps: usage\n"]),
+        Ending::Refused(refusal) => say_refusal(err, refusal),
+        Ending::NotLoaded(place) => {
+            let place = buffer.format(*place).as_bytes();
+            put_all(err, &[b"cps: file ", place, b": failed\n"])
+        }
+        Ending::NotWritten => put_all(err, &[b"cps: write failed\n"]),
+        Ending::TooLong(place) => {
+            let place = buffer.format(*place).as_bytes();
+            put_all(err, &[b"cps: file ", place, b": too long\n"])
+        }
+        Ending::NoMemory => put_all(err, &[b"cps: no memory\n"]),
+    }
+}
