@@ -1,5 +1,4 @@
 -- What two problems share on their ranks below d: the rules of their order, and open seconds, separation and cost.
--- Cited by replan.
 use Rattle.std.specs.Prelude.{◌≡◌, ℕ, suc, ◌<◌, ◌≤◌, true}
 use Rattle.cps_theory.specs.LegalPrefix.{OrderRules}
 

@@ -1,5 +1,4 @@
 -- The listed states of a certificate, as tests: what they cover, and which successor pair they miss first.
--- Cited by cert_check and cert_writer.
 use Rattle.std.specs.Prelude.{◌≡◌, ℕ, suc, ◌+◌, ◌-◌, ◌⊎◌, ◌&&◌, ◌||◌, ◌==◌, not, List, [], ◌∷◌, get_or, Bool, true, false, nat_le, nat_lt, Option, Some, None, is_none}
 use Rattle.std.specs.Option.{option_or}
 use Rattle.std.specs.List.{list_any}

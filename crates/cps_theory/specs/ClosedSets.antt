@@ -1,5 +1,4 @@
 -- Sets of pairs that are closed under successor pairs, listed for prefixes or for nodes.
--- Cited by cert_check and cert_writer.
 use Rattle.std.specs.Prelude.{◌≡◌, ℕ, Option, Some, List, [], ◌∷◌}
 use Rattle.cps_theory.specs.LandingTrail.{last_rank}
 use Rattle.cps_theory.specs.Labels.{NoWorse, Pair, next_pair}

@@ -1,5 +1,4 @@
 -- What may still follow a node: the pairs that complete it, and orders of least choices.
--- Cited by first_best.
 use Rattle.std.specs.Prelude.{◌≡◌, ℕ, ◌+◌, ◌<◌, ◌≤◌, ◌⊎◌, List, [], ◌∷◌, Option, Some}
 use Rattle.cps_theory.specs.Separation.{Landing}
 use Rattle.cps_theory.specs.LandingTrail.{Landed, cost_of, latest_landing, ranks}

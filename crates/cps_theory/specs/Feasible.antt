@@ -1,5 +1,4 @@
 -- A problem by rank, and its feasible, tight and best schedules, said pair by pair over whole maps from ranks to seconds.
--- Cited by cps_problem, extract_plan, cert_check and landing_joint.
 use Rattle.std.specs.Prelude.{◌≡◌, ◌≢◌, ℕ, zero, suc, ◌+◌, ◌<◌, ◌≤◌, List, [], ◌∷◌, length, count_by, nat_lt, Bool, true, max, Option, Some, option_and_then, option_map}
 use Rattle.std.proofs.Common.{cond, eqb}
 use Rattle.cps_theory.specs.RankLists.{IsRank, upto}

@@ -1,5 +1,4 @@
 -- The first best schedule, and the landing trail that a loop of least choices builds.
--- Cited by first_best.
 use Rattle.std.specs.Prelude.{◌≡◌, ℕ, Bool, true, ◌<◌, ◌≤◌, List, [], ◌∷◌, Option}
 use Rattle.cps_theory.specs.RankLists.{In, IsRank}
 use Rattle.cps_theory.specs.Separation.{Landing}

@@ -1,5 +1,4 @@
 -- Where two problems first differ, which stages are filled again, and the work that is due.
--- Cited by cps_problem and replan.
 use Rattle.std.specs.Prelude.{◌≡◌, ℕ, zero, suc, ◌+◌, ◌-◌, ◌<◌, ◌≤◌, ◌↔◌, min, Bool, true, false, cond, ◌&&◌, ◌||◌, leb, ltb, not, List, length}
 use Rattle.cps_theory.specs.RankLists.{of_rank}
 use Rattle.cps_theory.specs.Feasible.{RankedProblem}

@@ -1,5 +1,4 @@
 -- What a search from the front finds first: a number, a pair of numbers, an element by its number.
--- Cited by cert_check.
 use Rattle.std.specs.Prelude.{ℕ, zero, suc, ◌+◌, List, [], ◌∷◌, Bool, Option, Some, None, if◌then◌else◌}
 use Rattle.std.specs.Option.{option_or}
 

@@ -1,5 +1,4 @@
 -- The shift rule over the waiting flights, and a freeze of those that land before a second.
--- Cited by landing_joint.
 use Rattle.std.specs.Prelude.{◌≡◌, ◌≢◌, ℕ, suc, ◌+◌, ◌≤◌, List, count_by, filter, nat_lt, not, Bool, true, false}
 
 -- one more than how many of the waiting come before it

@@ -1,5 +1,4 @@
 -- Pairs of a second and a cost, which is no worse than which, and the successor of a pair.
--- Cited by the label crates, certificate and cert_check.
 use Rattle.std.specs.Prelude.{Bool, ◌&&◌, nat_le, ◌≡◌, ℕ, ◌+◌, ◌≤◌, ◌⊎◌, List, [], ◌∷◌, Option, option_map}
 
 -- a second and a cost

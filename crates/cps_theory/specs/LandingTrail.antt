@@ -1,5 +1,4 @@
 -- A landing trail: the landings of a prefix, the latest first, with their ranks, their cost and their last second.
--- Cited by cps_network, the label crates and extract_plan.
 use Rattle.std.specs.Prelude.{ℕ, ◌+◌, ◌≤◌, List, [], ◌∷◌}
 use Rattle.cps_theory.specs.Separation.{Landing}
 use Rattle.cps_theory.specs.Labels.{Pair}

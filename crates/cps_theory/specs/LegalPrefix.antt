@@ -1,5 +1,4 @@
 -- Legal prefixes of landing orders, latest rank first: as a whole, step by step, and by places.
--- Cited by cps_nodes, cps_network and cert_check.
 use Rattle.std.specs.Prelude.{◌≡◌, ℕ, suc, ◌+◌, ◌≤◌, ◌⊎◌, List, [], ◌∷◌, length, Bool, true, ◌≢◌, ◌<◌}
 use Rattle.std.proofs.Common.{get_or}
 use Rattle.cps_theory.specs.RankLists.{In}

@@ -1,5 +1,4 @@
 -- A position network over any kind of node: what may come next, what a node attains, and what of it is kept.
--- Cited by cps_network, the label crates and cert_writer.
 use Rattle.std.specs.Prelude.{◌≡◌, ℕ, List, [], ◌∷◌}
 use Rattle.cps_theory.specs.Separation.{Landing}
 use Rattle.cps_theory.specs.LandingTrail.{Landed, last_rank, pair_of, ranks}

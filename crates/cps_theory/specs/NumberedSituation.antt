@@ -1,5 +1,4 @@
 -- A situation whose flights are numbers: its feasible schedules over whole maps, a freeze of it, and its problem by rank.
--- Cited by landing_joint.
 use Rattle.std.specs.Prelude.{◌≡◌, ◌≢◌, ℕ, ◌+◌, ◌<◌, ◌≤◌, List, ◌++◌, Bool, true, map, IsPermutation}
 use Rattle.cps_theory.specs.RankLists.{Distinct, In, IsRank, upto}
 use Rattle.cps_theory.specs.Feasible.{RankedProblem}

@@ -1,5 +1,4 @@
 -- The objective of a whole situation, with its frozen part.
--- Cited by landing_joint.
 use Rattle.std.specs.Prelude.{◌≡◌, ℕ, ◌≤◌, ◌+◌, max, List, [], ◌∷◌, sum_by}
 use Rattle.cps_theory.specs.RankLists.{upto}
 use Rattle.cps_theory.specs.Feasible.{RankedProblem, greatest, total}

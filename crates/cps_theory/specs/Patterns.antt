@@ -1,5 +1,4 @@
 -- A prefix by the pattern of the placed ranks round its stage and its latest rank: a certificate's node.
--- Cited by cert_check, cert_writer and first_best.
 use Rattle.std.specs.Prelude.{◌<◌, count_by, ◌≡◌, ℕ, zero, suc, ◌+◌, ◌-◌, ◌*◌, ◌≤◌, ◌⊎◌, List, [], ◌∷◌, length, Bool, true, false, ◌||◌}
 use Rattle.std.proofs.Common.{leb, eqb, get_or}
 use Rattle.cps_theory.specs.LandingTrail.{last_rank}

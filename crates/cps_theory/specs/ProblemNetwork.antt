@@ -1,5 +1,4 @@
 -- The network of a ranked problem: what its nodes attain and keep, by window and by pattern, and a closed certificate of it.
--- Cited by cps_network, the label crates, cert_check and cert_writer.
 use Rattle.std.specs.Prelude.{◌≡◌, ℕ, ◌≤◌, List, [], Option, true}
 use Rattle.cps_theory.specs.Separation.{Landing}
 use Rattle.cps_theory.specs.Retiming.{IsFirstOpen}

@@ -1,5 +1,4 @@
 -- Lists of ranks and of numbers of flights: what is in them, whether they differ, and reading them by rank.
--- Cited by every module here, cps_problem and landing_joint.
 use Rattle.std.specs.List.{list_any}
 use Rattle.std.specs.Prelude.{Bool, true, get_or, nat_eq, ◌&&◌, ℕ, suc, ◌+◌, ◌≤◌, List, [], ◌∷◌, length, count_by, nat_lt, ◌≡◌, zero, ◌⊎◌}
 

@@ -1,5 +1,4 @@
 -- Landing a fixed order, each flight at its first open second that the landing before it allows.
--- Cited by extract_plan.
 use Rattle.std.specs.Prelude.{◌≡◌, ℕ, ◌≤◌, List, [], ◌∷◌, ◌++◌, Option, Some, None, option_and_then, option_map}
 
 -- `first r t` is the least second at or after `t` that is open for `r`, if there is one

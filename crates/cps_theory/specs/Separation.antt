@@ -1,5 +1,4 @@
 -- Landings and their separation: of neighbours in landing order, and of any two.
--- Cited by extract_plan, landing_joint and the checker of certificates.
 use Rattle.std.specs.Prelude.{ℕ, ◌+◌, ◌≤◌, List, [], ◌∷◌}
 
 -- a flight, and the second at which it lands

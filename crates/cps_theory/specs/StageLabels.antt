@@ -1,5 +1,4 @@
 -- The labels of a stage: least seconds for the makespan, lists of pairs beside the nodes for the delay.
--- Cited by makespan_labels and delay_labels.
 use Rattle.std.specs.Prelude.{◌≡◌, ℕ, suc, ◌<◌, ◌≤◌, List, [], length, get_or, Option, Some, MatchOption}
 use Rattle.cps_theory.specs.Labels.{InPairs, NoWorse, Pair, next_pair}
 use Rattle.cps_theory.specs.LegalPrefix.{Legal}

@@ -1,5 +1,4 @@
 -- Lists of different windows, each of n numbers below m.
--- Cited by cps_network and replan.
 use Rattle.std.specs.Prelude.{◌≡◌, ℕ, ◌<◌, ◌⊎◌, List, [], ◌∷◌, length}
 use Rattle.std.specs.List.{AllByRecursion}
 

@@ -1,5 +1,4 @@
 -- A prefix by its window: the offsets of its last 2k + 1 places, with its stage a node of the network.
--- Cited by cps_nodes and cps_network.
 use Rattle.std.specs.Prelude.{ℕ, zero, suc, ◌+◌, ◌-◌, ◌*◌, ◌≤◌, ◌⊎◌, List, [], ◌∷◌, length, take, ℤ, pos, ◌-ℤ◌}
 use Rattle.cps_theory.specs.RankLists.{In}
 use Rattle.cps_theory.specs.LegalPrefix.{MayCome, OrderRules}

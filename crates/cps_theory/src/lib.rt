@@ -1,5 +1,5 @@
 //! The mathematics of arrival sequencing under constrained position shifting, over plain lists and abstract functions.
-//! No code: definitions, and the laws that every layer above cites, each stated once.
+//! No code: definitions, and laws for the layers above, each stated once.
 //!
 //! A crate above cites a law in one of two ways:
 //! - in its own definitions and proofs, by the lemma's name below `Rattle.cps_theory.specs.laws`, as

@@ -1,5 +1,4 @@
 -- Flights by rank, the first of rank 1: a list read by rank is the list again, and keeps its order.
--- Cited by landing_joint and cps_problem.
 use Rattle.std.proofs.Common.{◌≡◌, ℕ, zero, suc, ◌<◌, ◌≤◌, inl, inr, Bool, true, ◌&&◌, ◌||◌, List, [], ◌∷◌, ◌++◌, length, map, get_or, refl, sym, ap, ap₂, subst, ◌∙◌, arith}
 use Rattle.std.specs.Prelude.{Contains, IsPermutation, nat_eq}
 use Rattle.std.specs.List.{AllZip}

@@ -1,5 +1,4 @@
 -- Listed states of which no successor pair is missed are closed under successor pairs.
--- Cited by cert_check.
 use Rattle.std.proofs.lemmas.List.{drop_all}
 use Rattle.std.specs.Option.{option_or}
 use Rattle.std.proofs.Common.{◌≤◌, length, get_or, drop, ◌<◌, ◌≡◌, ℕ, ◌+◌, inl, inr, Bool, true, false, not, ◌&&◌, leb, List, [], ◌∷◌, Option, Some, None, refl, sym, ap, subst, ◌∙◌, arith}

@@ -1,5 +1,4 @@
 -- Closed sets of pairs have one no later and no dearer for every landing of every legal prefix.
--- Cited by CertificateSoundness and cert_check.
 use Rattle.std.proofs.Common.{true, ◌≡◌, ℕ, ◌≤◌, List, [], length, Option, Some, ◌⊎◌, inl, inr, refl, sym, subst, le_trans}
 use Rattle.cps_theory.specs.Separation.{Landing}
 use Rattle.cps_theory.specs.Retiming.{IsFirstOpen, NeverEarlier}

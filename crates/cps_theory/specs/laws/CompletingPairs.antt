@@ -1,5 +1,4 @@
 -- The completing pairs of a node from those of its successors; undominated ones lose nothing; a node is reached by a second exactly where its least label is no later.
--- Cited by first_best.
 use Rattle.std.proofs.Common.{◌≡◌, ℕ, ◌+◌, ◌≤◌, List, [], ◌∷◌, Option, Some, arith, refl, sym, ap, ap₂, subst, ◌∙◌, le_refl, le_trans, le_antisymm}
 use Rattle.cps_theory.specs.Separation.{Landing}
 use Rattle.cps_theory.specs.Retiming.{IsFirstOpen, NeverEarlier}

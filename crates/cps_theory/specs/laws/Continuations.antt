@@ -1,5 +1,4 @@
 -- A landing trail continued by flights listed earliest first: its ranks, its cost, its order and its earliest landings.
--- Cited by LeastChoices and FirstBest.
 use Rattle.std.proofs.Common.{◌≡◌, ℕ, ◌+◌, ◌≤◌, inl, inr, List, [], ◌∷◌, Option, Some, arith, refl, sym, ap, ap₂, subst, ◌∙◌, le_refl, option_map, ◌<◌, ◌⊎◌}
 use Rattle.cps_theory.specs.RankLists.{In}
 use Rattle.cps_theory.specs.Separation.{Landing}

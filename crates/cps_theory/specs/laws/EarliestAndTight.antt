@@ -1,5 +1,4 @@
 -- A schedule is tight exactly where each flight lands at its earliest second in the order of the schedule.
--- Cited by first_best and extract_plan.
 use Rattle.std.proofs.Common.{◌≡◌, ℕ, inl, inr, List, [], ◌∷◌, length, Option, Some, true, arith, sym, ap, subst, ◌∙◌, le_antisymm}
 use Rattle.cps_theory.specs.RankLists.{In, IsRank}
 use Rattle.cps_theory.specs.Separation.{Landing}

@@ -1,5 +1,4 @@
 -- Of all landings of one order the earliest are least at every place.
--- Cited by extract_plan and TightMaps.
 use Rattle.std.proofs.Common.{◌≡◌, ℕ, ◌≤◌, List, [], ◌∷◌, Option, Some, option_and_then, option_map, refl, sym, ap, subst, ◌∙◌, le_refl, le_trans}
 use Rattle.cps_theory.specs.Separation.{Landing}
 use Rattle.cps_theory.specs.Retiming.{IsFirstOpen, NeverEarlier}

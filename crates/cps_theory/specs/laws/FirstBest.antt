@@ -1,5 +1,4 @@
 -- There is at most one first best schedule, and least choices build it, whatever the objective.
--- Cited by first_best.
 use Rattle.std.proofs.Common.{◌≡◌, ◌≢◌, ℕ, ◌+◌, ◌≤◌, List, [], ◌∷◌, length, Option, Some, true, arith, refl, sym, ap, subst, ◌∙◌, le_trans}
 use Rattle.cps_theory.specs.RankLists.{IsRank}
 use Rattle.cps_theory.specs.Separation.{Landing}

@@ -1,5 +1,4 @@
 -- Least choices build the first best schedule for the makespan, and for the delay.
--- Cited by first_best.
 use Rattle.std.proofs.Common.{◌≡◌, ℕ, zero, suc, zero-le, Bool, nat_le, ◌+◌, ◌≤◌, List, [], ◌∷◌, length, Option, Some, true, arith, refl, le_trans}
 use Rattle.std.proofs.lemmas.Bool.{leb-true, le-leb}
 use Rattle.cps_theory.specs.Separation.{Landing}

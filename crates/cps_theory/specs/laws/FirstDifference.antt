@@ -1,5 +1,4 @@
 -- The computed first difference is the greatest number up to which two problems agree; the stages below it attain the same pairs; what is due is at most what all stages are.
--- Cited by cps_problem and replan.
 use Rattle.std.proofs.Common.{◌≡◌, ℕ, zero, suc, ◌+◌, ◌-◌, ◌*◌, ◌<◌, ◌≤◌, ◌⊎◌, ◌↔◌, inl, inr, min, List, length, Bool, true, false, cond, ◌&&◌, leb, ltb, max, arith, refl, sym, ap, ap₂, subst, ◌∙◌, zero-le, le_refl, suc-mul}
 use Rattle.std.proofs.lemmas.Bool.{cases_lt, cases_eq, and_parts, and_from, or_cases, or_left, or_right, or_parts, leb-true, le-leb, leb-false, ltb-false, lt-ltb, false≢true}
 use Rattle.cps_theory.specs.RankLists.{of_rank}

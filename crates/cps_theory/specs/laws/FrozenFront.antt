@@ -1,5 +1,4 @@
 -- When the front of a legal order freezes, the flights behind it keep the shift rule, counted by rank.
--- Cited by ShiftAfterFreeze.
 use Rattle.std.proofs.Common.{◌≡◌, ℕ, suc, ◌+◌, ◌-◌, ◌≤◌, inl, inr, List, [], ◌∷◌, ◌++◌, length, cond, ltb, leb, max, nat_lt, ◌&&◌, false, arith, refl, ap₂, ◌∙◌, length-append}
 use Rattle.std.proofs.lemmas.Bool.{lt-ltb, le-ltb, cases_order, and_from, le-leb, false≢true}
 use Rattle.std.proofs.lemmas.List.Sums.{sum_by-append}

@@ -1,5 +1,4 @@
 -- All flights keep the separation exactly where the frozen ones do, the waiting ones do, and each waiting one does after the last frozen one.
--- Cited by ProblemOfSituation and landing_joint.
 use Rattle.std.proofs.Common.{ℕ, ◌+◌, ◌<◌, ◌≤◌, ◌⊎◌, inl, inr, List, ◌++◌, arith, sym, ap, subst}
 use Rattle.std.proofs.lemmas.Bool.{cases_eq}
 use Rattle.cps_theory.specs.RankLists.{In}

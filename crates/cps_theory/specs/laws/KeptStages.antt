@@ -1,5 +1,4 @@
 -- Early prefixes stay legal, and attain the same pairs, where two problems agree on the low ranks.
--- Cited by replan, by FirstDifference.
 use Rattle.std.proofs.Common.{◌≡◌, ℕ, ◌+◌, ◌<◌, ◌≤◌, inl, inr, List, [], ◌∷◌, length, arith, refl, sym, ap, ap₂, subst, ◌∙◌}
 use Rattle.std.specs.List.{AllByRecursion}
 use Rattle.std.proofs.lemmas.Bool.{cases_lt}

@@ -1,5 +1,4 @@
 -- Of all orders within the budget, the one that always takes the least rank that can still be completed is the first.
--- Cited by FirstBest.
 use Rattle.std.proofs.Common.{◌≡◌, ℕ, ◌+◌, ◌≤◌, inl, inr, List, [], ◌∷◌, Option, Some, arith, refl, sym, ap, subst, ◌∙◌, le_refl}
 use Rattle.std.proofs.lemmas.Bool.{cases_lt}
 use Rattle.cps_theory.specs.Separation.{Landing}

@@ -1,5 +1,4 @@
 -- For the makespan the least second of each node is enough, and it comes from those of the sources.
--- Cited by makespan_labels.
 use Rattle.std.proofs.Common.{◌≡◌, ℕ, ◌+◌, List, [], Option, Some, None, option_map, arith, refl, sym, ap, ap₂, subst, ◌∙◌, le_refl}
 use Rattle.cps_theory.specs.Retiming.{IsFirstOpen, NeverEarlier}
 use Rattle.cps_theory.specs.Labels.{NeverCheaper, NoWorse, Pair}

@@ -1,5 +1,4 @@
 -- The least value kept at the last stage is the least of all feasible schedules; a closed certificate bounds them all.
--- Cited by the label crates, replan and cert_check.
 use Rattle.std.proofs.Common.{◌≡◌, ℕ, zero, suc, ◌≤◌, inl, List, [], ◌∷◌, length, Option, true, cond, arith, refl, sym, ap, ap₂, subst, ◌∙◌, le_refl, le_trans, le_antisymm}
 use Rattle.std.proofs.lemmas.Bool.{eq-eqb, ne_eqb}
 use Rattle.cps_theory.specs.RankLists.{Distinct, In}

@@ -1,5 +1,4 @@
 -- A window and its stage tell what is placed, and a prefix is legal as a whole exactly where it is step by step.
--- Cited by cps_nodes and cps_network.
 use Rattle.std.proofs.Common.{◌≡◌, ℕ, zero, suc, ◌+◌, ◌-◌, ◌*◌, ◌≤◌, ◌⊎◌, ◌↔◌, inl, inr, List, [], ◌∷◌, length, take, arith, refl, ap₂}
 use Rattle.std.proofs.lemmas.Bool.{cases_lt, cases_eq}
 use Rattle.cps_theory.specs.RankLists.{In}

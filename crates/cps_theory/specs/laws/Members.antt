@@ -1,5 +1,4 @@
 -- What is in a list: behind an append, after a filter, in the middle.
--- Cited by landing_joint.
 use Rattle.std.proofs.Common.{ℕ, ◌⊎◌, inl, inr, List, [], ◌∷◌, ◌++◌, sym, ap, ◌≡◌, filter, cond, Bool, true, false, refl, ◌∙◌}
 use Rattle.std.proofs.lemmas.Bool.{cases_eq, false≢true}
 use Rattle.cps_theory.specs.RankLists.{Distinct, In}

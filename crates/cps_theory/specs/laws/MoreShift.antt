@@ -1,5 +1,4 @@
 -- With a greater shift limit each feasible schedule stays feasible, so the least objective is no greater; where nothing is feasible with the greater limit, nothing is with the lesser.
--- Cited by landing_joint.
 use Rattle.std.proofs.Common.{ℕ, ◌≤◌, arith}
 use Rattle.cps_theory.specs.Feasible.{Feasible, IsBest, RankedProblem, with_shift}
 

@@ -1,5 +1,4 @@
 -- The pairs of a node from those kept of its sources: a successor of an attained pair is attained, and each attained pair has a source.
--- Cited by the label crates.
 use Rattle.std.proofs.Common.{◌≡◌, ℕ, ◌+◌, ◌≤◌, List, [], ◌∷◌, Option, Some, arith, refl, sym, ap, subst, ◌∙◌, le_trans, le_antisymm, ap₂, ◌⊎◌, inl, inr}
 use Rattle.cps_theory.specs.Separation.{Landing}
 use Rattle.cps_theory.specs.Retiming.{IsFirstOpen, NeverEarlier}

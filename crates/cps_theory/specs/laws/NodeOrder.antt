@@ -1,5 +1,4 @@
 -- The order of nodes is total, so a binary search in states in that order finds the one of a node, and what it lists is all that is listed there.
--- Cited by cert_check.
 use Rattle.std.proofs.Common.{◌≡◌, ℕ, zero, suc, ◌+◌, ◌<◌, ◌≤◌, inl, inr, Bool, true, false, ◌||◌, List, [], ◌∷◌, length, get_or, refl, sym, ap, ap₂, subst, ◌∙◌, arith}
 use Rattle.std.specs.List.{list_any}
 use Rattle.std.specs.Ordering.{nat_cmp, bool_cmp, ordering_then, ordering_reverse, ordering_index, is_eq, is_lt}

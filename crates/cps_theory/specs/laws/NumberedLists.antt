@@ -1,5 +1,4 @@
 -- Lists made from the numbers from i on: what holds in them, counts in them, and is filtered from them.
--- Cited by landing_joint.
 use Rattle.std.proofs.Common.{◌≡◌, ℕ, zero, suc, ◌+◌, ◌<◌, ◌≤◌, inl, inr, Bool, true, false, cond, List, [], ◌∷◌, map, filter, count_by, refl, sym, ap, subst, ◌∙◌, arith}
 use Rattle.std.specs.Prelude.{All}
 use Rattle.std.proofs.lemmas.Bool.{cases_eq}

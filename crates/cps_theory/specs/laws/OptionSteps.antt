@@ -1,5 +1,4 @@
 -- What a chain of optional steps gives, if it gives anything.
--- Cited by Retiming, EarliestLandings and LabelDominance.
 use Rattle.std.proofs.Common.{◌≡◌, Option, Some, None, option_and_then, option_map, refl}
 
 pub bound : {A B : Type 0} (f : A → Option B) (o : Option A) (b : B) → option_and_then f o ≡ Some b → (a : A) × (o ≡ Some a) × (f a ≡ Some b)

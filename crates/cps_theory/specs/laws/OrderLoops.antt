@@ -1,5 +1,4 @@
 -- A loop over a landing order: the front so far, reversed, is a landing trail, and one more flight lands behind it or nowhere.
--- Cited by extract_plan.
 use Rattle.std.proofs.Common.{◌≡◌, ◌≢◌, ℕ, ◌+◌, ◌-◌, ◌<◌, ◌≤◌, inl, inr, List, [], ◌∷◌, ◌++◌, length, take, drop, reverse, get_or, set, Option, Some, None, option_and_then, option_map, All, arith, refl, sym, ap, ap₂, subst, ◌∙◌}
 use Rattle.std.proofs.lemmas.List.{take_more, reverse-append, take-append-drop, get_or-set_other, get_or-set_same}
 use Rattle.std.proofs.lemmas.List.Elements.{recursion_from_All, All-take}

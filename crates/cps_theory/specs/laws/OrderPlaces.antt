@@ -1,5 +1,4 @@
 -- A front of an order that keeps the rules place by place, reversed, is a list whose ranks each fit behind those before them.
--- Cited by cps_nodes and extract_plan.
 use Rattle.std.proofs.Common.{◌≡◌, ℕ, zero, suc, ◌+◌, ◌<◌, ◌≤◌, inl, inr, List, length, take, reverse, get_or, arith, sym, ap, subst, ◌∙◌, length-take}
 use Rattle.std.proofs.lemmas.Bool.{cases_eq}
 use Rattle.std.proofs.lemmas.List.{length-reverse, take_all}

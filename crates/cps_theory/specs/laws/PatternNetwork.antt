@@ -1,5 +1,4 @@
 -- The pattern of the placed ranks round a stage, with the latest rank, is a node of a network.
--- Cited by cert_check, cert_writer and first_best.
 use Rattle.std.proofs.Common.{◌≡◌, ℕ, zero, suc, ◌+◌, ◌-◌, ◌*◌, ◌<◌, ◌≤◌, ◌⊎◌, ◌↔◌, inl, inr, List, [], ◌∷◌, length, get_or, arith, refl, sym, ap, ap₂, ◌∙◌, Bool, true, false, ◌||◌, eqb, leb}
 use Rattle.std.proofs.lemmas.Bool.{cases_lt, cases_Bool, cases_eq, eqb-true, eq-eqb, ne_eqb, le-leb, lt-leb, or_cases, or_left, or_right, false≢true}
 use Rattle.cps_theory.specs.RankLists.{In, above, below}

@@ -1,5 +1,4 @@
 -- A window tells its pattern, and what is kept of every window makes a closed certificate.
--- Cited by cert_writer.
 use Rattle.std.proofs.Common.{◌≡◌, ℕ, suc, ◌-◌, ◌*◌, ◌≤◌, ◌⊎◌, inl, inr, List, [], length, take, Option, true, false, ◌||◌, leb, arith, refl, sym, ap, ap₂, ◌∙◌}
 use Rattle.std.proofs.lemmas.Bool.{cases_lt, cases_Bool, le-leb}
 use Rattle.cps_theory.specs.RankLists.{In, above, below}

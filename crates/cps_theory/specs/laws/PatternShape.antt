@@ -1,5 +1,4 @@
 -- The pattern of a legal prefix has the shape of a state: 2k digits of which k are set, none below rank 1 left out, none above the count set, and the latest rank near its place and placed.
--- Cited by cert_writer.
 use Rattle.std.proofs.Common.{◌≡◌, ℕ, zero, suc, ◌+◌, ◌-◌, ◌*◌, ◌<◌, ◌≤◌, inl, inr, List, [], ◌∷◌, length, Bool, true, false, cond, ◌||◌, leb, count_by, refl, sym, ap, ap₂, ◌∙◌, arith}
 use Rattle.std.proofs.lemmas.Bool.{cases_lt, cases_eq, le-leb, lt-leb, ne_eqb}
 use Rattle.std.proofs.lemmas.List.Sums.{sum_by-cons}

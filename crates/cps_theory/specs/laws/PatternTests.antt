@@ -1,5 +1,4 @@
 -- What may come next at a node passes the test of the checker.
--- Cited by CertificateClosure.
 use Rattle.std.proofs.Common.{◌≡◌, ℕ, suc, ◌+◌, ◌-◌, ◌≤◌, inl, inr, Bool, true, false, not, ◌&&◌, ◌||◌, leb, eqb, get_or, refl, ap, arith}
 use Rattle.std.specs.Prelude.{is_none}
 use Rattle.std.proofs.lemmas.Bool.{cases_lt, le-leb, leb-true, eq-eqb, or_cases, or_left, or_right, and_from}

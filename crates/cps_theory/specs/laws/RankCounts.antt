@@ -1,5 +1,4 @@
 -- Counting in a list of ranks: by tests that cover, split or follow one another, behind a filter or a map.
--- Cited by ShiftAfterFreeze, LandingOrder and landing_joint.
 use Rattle.std.proofs.Common.{◌≡◌, ℕ, zero, suc, ◌+◌, ◌≤◌, ◌⊎◌, inl, inr, List, [], ◌∷◌, cond, Bool, true, false, ◌&&◌, ltb, leb, eqb, max, count_by, arith, refl, sym, ap, ap₂, subst, ◌∙◌, zero-le, ◌<◌, length, map, filter, not, ◌++◌}
 use Rattle.std.proofs.lemmas.Bool.{cases_lt, cases_eq, cases_Bool, ltb-true, leb-true, eqb-true, le-leb, eq-eqb, and_parts, and_from, false≢true}
 use Rattle.std.proofs.lemmas.List.Sums.{sum_by-cons}

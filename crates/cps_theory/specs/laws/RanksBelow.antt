@@ -1,5 +1,4 @@
 -- The ranks below x, as a loop goes up through them: one more rank, one more greatest second.
--- Cited by cert_check and LeastObjective.
 use Rattle.std.proofs.Common.{◌≡◌, ℕ, zero, suc, ◌+◌, ◌-◌, ◌≤◌, ◌∷◌, max, arith, sym, ap, ◌∙◌, inl, inr, length, cond, refl, ltb}
 use Rattle.std.proofs.lemmas.Bool.{cases_eq, lt-ltb, le-ltb}
 use Rattle.cps_theory.specs.RankLists.{In, IsRank, upto}

@@ -1,5 +1,4 @@
 -- A list of different ranks from 1 to n has no more than n, all of them where it has n, and then the sums of the ranks up to n.
--- Cited by LandingOrder, NumberOfWindows and FirstBest.
 use Rattle.std.proofs.Common.{◌≡◌, ℕ, zero, suc, ◌+◌, ◌≤◌, ◌⊎◌, inl, inr, List, [], ◌∷◌, length, cond, Bool, true, false, ◌&&◌, ltb, leb, eqb, arith, refl, sym, ap, subst, ◌∙◌}
 use Rattle.std.proofs.lemmas.Bool.{cases_eq, eqb-true, eqb-false, lt-ltb, le-leb, and_from}
 use Rattle.cps_theory.specs.RankLists.{Distinct, In, IsRank, upto}

@@ -1,5 +1,4 @@
 -- Earliest landings in a fixed order land it, and are least at every place; where there are none, a flight has no open second left.
--- Cited by extract_plan.
 use Rattle.std.proofs.Common.{◌≡◌, ℕ, ◌≤◌, List, [], ◌∷◌, ◌++◌, length, Option, Some, None, option_and_then, option_map, arith, refl, sym, ap, subst, ◌∙◌, le_trans, le_refl}
 use Rattle.std.specs.List.{AllZip}
 use Rattle.cps_theory.specs.Retiming.{IsFirstOpen, LandsAt, NeverEarlier, StopsAt, ready_after, retimed}

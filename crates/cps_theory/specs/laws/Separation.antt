@@ -1,5 +1,4 @@
 -- Separation of neighbours carries to all pairs, by the triangle inequality, and back.
--- Cited by FeasibleOrder, extract_plan and cert_check.
 use Rattle.std.proofs.Common.{ℕ, zero, suc, ◌+◌, ◌<◌, ◌≤◌, ◌≢◌, List, [], ◌∷◌, ◌++◌, length, get_or, AllPairs, arith, inl, inr}
 use Rattle.std.specs.List.{AllByRecursion}
 use Rattle.std.proofs.lemmas.List.Elements.{All-from_recursion}

@@ -1,5 +1,4 @@
 -- The flights that stay keep the shift rule when the front of a plan freezes, also with less leave to go back.
--- Cited by SituationAfterFreeze.
 use Rattle.std.proofs.Common.{◌≡◌, ◌≢◌, ℕ, suc, ◌+◌, ◌-◌, ◌<◌, ◌≤◌, inl, inr, List, [], ◌∷◌, map, Bool, true, false, ◌&&◌, ltb, leb, max, nat_lt, arith, refl, ap}
 use Rattle.std.proofs.lemmas.Bool.{cases_Bool, ltb-true, lt-ltb, le-ltb, le-leb, and_from}
 use Rattle.cps_theory.specs.RankLists.{Distinct, In}

@@ -1,5 +1,4 @@
 -- A freeze keeps the plan feasible and the situation sound, so that the next plan is no dearer.
--- Cited by landing_joint.
 use Rattle.std.proofs.Common.{◌≡◌, ℕ, ◌-◌, ◌<◌, ◌≤◌, inl, inr, ◌++◌, true, not, nat_lt, arith, refl, sym, ap, ◌∙◌}
 use Rattle.std.proofs.lemmas.Bool.{cases_lt, lt-ltb, ltb-true, false≢true}
 use Rattle.cps_theory.specs.RankLists.{In}

@@ -1,5 +1,4 @@
 -- A stage as two lists, its nodes and their pairs, and the next stage from it.
--- Cited by delay_labels.
 use Rattle.std.proofs.Common.{◌≡◌, ℕ, suc, List, [], Option, arith, ap, subst}
 use Rattle.cps_theory.specs.Retiming.{IsFirstOpen, NeverEarlier}
 use Rattle.cps_theory.specs.Labels.{NeverCheaper, NoWorse, Pair}

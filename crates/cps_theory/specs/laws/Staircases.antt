@@ -1,5 +1,4 @@
 -- Pairs that rise in second and fall in cost: told by their pairs, and swept from a sorted list.
--- Cited by delay_labels.
 use Rattle.std.proofs.Common.{◌≡◌, ℕ, ◌<◌, ◌≤◌, ◌⊎◌, inl, inr, List, [], ◌∷◌, Bool, true, false, cond, ltb, arith, refl, sym, ap, ap₂, subst, ◌∙◌, le_refl}
 use Rattle.std.proofs.lemmas.Bool.{ltb-true, ltb-false}
 use Rattle.cps_theory.specs.Labels.{InPairs, NoWorse, Pair}

@@ -1,5 +1,4 @@
 -- Facts that a ghost field or an invariant can keep have at most one proof, and what follows from kept ones.
--- Cited by the label crates, replan and sequencer.
 use Rattle.std.proofs.Common.{◌≡◌, ℕ, ◌≤◌, List, [], length, Option, Some, true, refl, subst, ◌∙◌, le_trans, arith, inl, inr}
 use Rattle.std.proofs.Props.{props}
 use Rattle.std.specs.Coded.{le_prop}

@@ -1,5 +1,4 @@
 -- Dropping pairs that another is no worse than leaves one no later and no dearer for each.
--- Cited by delay_labels.
 use Rattle.std.proofs.Common.{◌≡◌, ◌⊎◌, inl, inr, List, [], ◌∷◌, Bool, true, false, cond, leb, refl, sym, subst, le_refl}
 use Rattle.std.proofs.lemmas.Bool.{and_parts, leb-true, false≢true}
 use Rattle.cps_theory.specs.Labels.{InPairs, NoWorse, Pair, no_worse}

@@ -1,5 +1,4 @@
 -- The objective of a whole situation is that of its problem, with the part of the frozen flights.
--- Cited by landing_joint.
 use Rattle.std.proofs.Common.{◌≡◌, ℕ, ◌+◌, ◌≤◌, inl, inr, List, [], ◌∷◌, ◌++◌, sum_by, arith, refl, ap, ap₂, ◌∙◌, le_antisymm, zero-le}
 use Rattle.std.proofs.lemmas.List.Sums.{sum_by-cons}
 use Rattle.cps_theory.specs.RankLists.{In, IsRank}

@@ -1,5 +1,4 @@
 -- Windows are the nodes of the position network: they tell what may come next and which rank came last.
--- Cited by cps_nodes and cps_network.
 use Rattle.std.proofs.Common.{true, ◌≡◌, ℕ, zero, suc, ◌+◌, ◌-◌, ◌*◌, ◌≤◌, ◌↔◌, inl, inr, List, [], ◌∷◌, length, take, arith, refl, sym, ap}
 use Rattle.cps_theory.specs.RankLists.{In}
 use Rattle.cps_theory.specs.LandingTrail.{last_rank}

@@ -1,5 +1,4 @@
 -- Signed offsets, oldest first, as an array holds them, are the window raised by k, latest first.
--- Cited by cps_nodes.
 use Rattle.std.proofs.Common.{◌≡◌, ℕ, zero, suc, ◌+◌, ◌-◌, ◌≤◌, List, [], ◌∷◌, ◌++◌, length, take, drop, map, reverse, ℤ, pos, ◌+ℤ◌, ◌-ℤ◌, nat_abs, arith, refl, sym, ap, ap₂, ◌∙◌, length-drop}
 use Rattle.std.proofs.lemmas.Int.{ints}
 use Rattle.std.proofs.lemmas.List.{reverse-append, take-append-drop}

@@ -1,5 +1,4 @@
 -- The two tests of an extension, over the places of a window: is the rank there already, and is the one that is due there.
--- Cited by cps_nodes.
 use Rattle.std.proofs.Common.{◌≡◌, ◌↔◌, ℕ, zero, suc, ◌+◌, ◌-◌, ◌*◌, ◌<◌, ◌≤◌, inl, inr, List, [], ◌∷◌, length, get_or, take, arith, refl, sym}
 use Rattle.std.proofs.lemmas.Bool.{cases_lt}
 use Rattle.cps_theory.specs.RankLists.{In}
