@@ -2,6 +2,7 @@
 
 ghost use Rattle.landing_joint.specs.ProblemLaws.{ListGivesScheduleLaw, ScheduleGivesListLaw, SameObjectiveLaw, BestListLaw, TightListLaw, NoListLaw};
 ghost use Rattle.landing_joint.specs.ClockLaws.{ClockKeepsPlanLaw, ClockShowsPlanLaw, ClockKeepsSoundLaw};
+ghost use Rattle.landing_joint.specs.StepLaws.{EventKeepsSoundLaw, StepKeepsSoundLaw, RunKeepsSoundLaw};
 ghost use Rattle.landing_joint.specs.Shift.{MoreShiftLaw, MoreShiftIsNoWorseLaw, LessShiftIsInfeasibleLaw};
 
 /// The feasible schedules of a sound situation are its frozen landings joined with a feasible list of its problem, with
@@ -21,6 +22,15 @@ pub fn clock_keeps_plans()
     ensures keeps { ClockKeepsPlanLaw }
     ensures shows { ClockShowsPlanLaw }
     ensures sound { ClockKeepsSoundLaw }
+{}
+
+/// Every kind of event keeps a situation sound: an event that is not refused leads from a sound situation to a sound one,
+/// a step from a sound state to a sound state, and each state of a run from a sound state is sound. The events are
+/// asked to have their numbers in range.
+pub fn every_step_keeps_soundness()
+    ensures situation { EventKeepsSoundLaw }
+    ensures step { StepKeepsSoundLaw }
+    ensures run { RunKeepsSoundLaw }
 {}
 
 /// With a greater limit of shift each feasible schedule stays feasible, and the least objective is no greater.

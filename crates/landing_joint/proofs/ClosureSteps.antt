@@ -1,0 +1,102 @@
+-- The events of a closure keep a situation sound: it is closed or reopened.
+use Rattle.std.proofs.Common.{◌≡◌, ℕ, suc, ◌<◌, ◌≤◌, ◌⊎◌, inl, inr, Bool, true, false, cond, not, ◌&&◌, ◌||◌, List, [], ◌∷◌, ◌++◌, length, filter, Option, Some, None, refl, sym, ap, subst, ◌∙◌, arith}
+use Rattle.std.specs.Prelude.{option_map, filter_map, find, is_some, nat_le, nat_lt, if◌then◌else◌}
+use Rattle.std.specs.List.{list_any}
+use Rattle.std.proofs.lemmas.Bool.{false≢true, leb-false}
+use Rattle.landing_rules.specs.Flights.{Aerodrome, Landing, Situation, Schedule, Span, landing, is_waiting, horizon, horizon_after}
+use Rattle.landing_rules.specs.Rules.{is_open, is_within, is_shut, ArePairSeparated}
+use Rattle.landing_rules.specs.Events.{Close, Reopen, frozen_landings, in_landing_order, insert_landing, refusal, without_first, same_span, situation_after, CoversFrozen, TooManyClosures}
+use Rattle.landing_rules.specs.Sound.{IsSound}
+use Rattle.landing_joint.proofs.Members.{Member, Differ, callsigns, differ_of, none_found, length_push}
+use Rattle.landing_joint.proofs.SoundAgain.{kept, sound_again, each_of}
+
+-- ---- reopen
+
+fewer_shut : (span : Span) (cs : List Span) (t : ℕ) → list_any (is_shut t) cs ≡ false → list_any (is_shut t) (without_first (same_span span) cs) ≡ false
+fewer_shut span [] t e = e
+fewer_shut span (c ∷ cs) t e = go (same_span span c) (is_shut t c) refl e (fewer_shut span cs t)
+  where
+    go : (b d : Bool) → is_shut t c ≡ d → (d || list_any (is_shut t) cs) ≡ false → (list_any (is_shut t) cs ≡ false → list_any (is_shut t) (without_first (same_span span) cs) ≡ false) → list_any (is_shut t) (cond b cs (c ∷ without_first (same_span span) cs)) ≡ false
+    go b true q e ih = absurd (false≢true (sym e))
+    go true false q e ih = e
+    go false false q e ih = ap (λ d. d || list_any (is_shut t) (without_first (same_span span) cs)) q ∙ ih e
+
+fewer_closed : (span : Span) (cs : List Span) → length (without_first (same_span span) cs) ≤ length cs
+fewer_closed span [] = omega arith
+fewer_closed span (c ∷ cs) = go (same_span span c) (fewer_closed span cs)
+  where
+    go : (b : Bool) → length (without_first (same_span span) cs) ≤ length cs → length (cond b cs (c ∷ without_first (same_span span) cs)) ≤ suc (length cs)
+    go true h = omega arith
+    go false h = omega arith
+
+open_where : (windows cs ds : List Span) (t : ℕ) → (list_any (is_shut t) cs ≡ false → list_any (is_shut t) ds ≡ false) → is_open windows cs t ≡ true → is_open windows ds t ≡ true
+open_where windows cs ds t h e = go (list_any (is_within t) windows) (list_any (is_shut t) cs) (list_any (is_shut t) ds) h e
+  where
+    go : (w c d : Bool) → (c ≡ false → d ≡ false) → (w && not c) ≡ true → (w && not d) ≡ true
+    go false c d h e = e
+    go true true d h e = absurd (false≢true e)
+    go true false true h e = absurd (false≢true (sym (h refl)))
+    go true false false h e = refl
+
+other_closures : (s new : Situation) → IsSound s → new.aerodrome ≡ s.aerodrome → new.active ≡ s.active → new.clock ≡ s.clock → length new.closures ≤ 32 →
+    ((f : Landing) → Member f (frozen_landings s) → is_open f.flight.windows new.closures f.second ≡ true) → IsSound new
+other_closures s new h same actives clocks few opened =
+    let k = kept s h in
+    let back : (f : Landing) → Member f (frozen_landings new) → Member f (frozen_landings s) = λ f m. subst (λ l. Member f (filter_map (λ a. option_map (landing a) a.frozen) l)) actives m in
+    sound_again s new h same
+    (subst (λ l. Differ (callsigns l)) (sym actives) (differ_of s.active h.callsigns))
+    (let l = ap length actives in omega (arith, h.few_active)) (let l = ap (λ l. length (filter is_waiting l)) actives in omega (arith, h.few_waiting)) few
+    (λ a m. each_of s h a (subst (Member a) actives m))
+    (record {
+      opened = λ f m. opened f (back f m);
+      separated = λ f g m n. subst (λ (x : Aerodrome). ArePairSeparated x.table f g) (sym same) (k.separated f g (back f m) (back g n));
+      in_precedence = λ f g m n. k.in_precedence f g (back f m) (back g n);
+      before = λ f m. let b = k.before f (back f m) in let e : horizon new ≡ horizon s = λ i. horizon_after (clocks i) ((same i).freeze) in omega arith;
+      alone = λ f a m n. k.alone f a (back f m) (subst (λ l. Member a (filter is_waiting l)) actives n);
+    })
+
+pub reopened : (s : Situation) (plan : Option Schedule) (span : Span) → IsSound s → IsSound (situation_after s plan (Reopen span))
+reopened s plan span h =
+    other_closures s (situation_after s plan (Reopen span)) h refl refl refl (let l = fewer_closed span s.closures in omega (arith, h.few_closures))
+    (λ f m. open_where f.flight.windows s.closures (without_first (same_span span) s.closures) f.second (fewer_shut span s.closures f.second) ((kept s h).opened f m))
+
+-- ---- close
+
+in_order : (f : Landing) (all : List Landing) (x : Landing) → Member x (f ∷ all) → Member x (insert_landing f all)
+in_order f [] x m = m
+in_order f (g ∷ rest) x m = go (nat_lt g.second f.second) m (in_order f rest x)
+  where
+    go : (b : Bool) → (x ≡ f) ⊎ ((x ≡ g) ⊎ Member x rest) → ((x ≡ f) ⊎ Member x rest → Member x (insert_landing f rest)) → Member x (cond b (g ∷ insert_landing f rest) (f ∷ g ∷ rest))
+    go true (inl e) ih = inr (ih (inl e))
+    go true (inr (inl e)) ih = inl e
+    go true (inr (inr k)) ih = inr (ih (inr k))
+    go false k ih = k
+
+ordered : (all : List Landing) (x : Landing) → Member x all → Member x (in_landing_order all)
+ordered [] x m = m
+ordered (f ∷ rest) x (inl e) = in_order f (in_landing_order rest) x (inl e)
+ordered (f ∷ rest) x (inr m) = in_order f (in_landing_order rest) x (inr (ordered rest x m))
+
+any_push : (p : Span → Bool) (cs : List Span) (c : Span) → list_any p cs ≡ false → p c ≡ false → list_any p (cs ++ c ∷ []) ≡ false
+any_push p [] c e n = ap (λ b. b || false) n
+any_push p (d ∷ cs) c e n = go (p d) e (λ k. any_push p cs c k n)
+  where
+    go : (b : Bool) → (b || list_any p cs) ≡ false → (list_any p cs ≡ false → list_any p (cs ++ c ∷ []) ≡ false) → (b || list_any p (cs ++ c ∷ [])) ≡ false
+    go true e ih = absurd (false≢true (sym e))
+    go false e ih = ih e
+
+close_parts : (found : Option Landing) (n : ℕ) → (if is_some found then option_map (λ (g : Landing). CoversFrozen g.flight.callsign g.second) found else (if nat_le 32 n then Some TooManyClosures else None)) ≡ None → (found ≡ None) × (n < 32)
+close_parts (Some g) n e = let w : Some (CoversFrozen g.flight.callsign g.second) ≡ None = e in absurd (cc)
+close_parts None n e = (refl, go (nat_le 32 n) refl e)
+  where
+    go : (b : Bool) → nat_le 32 n ≡ b → cond b (Some TooManyClosures) None ≡ None → n < 32
+    go true q e = let w : Some TooManyClosures ≡ None = e in absurd (cc)
+    go false q e = let l = leb-false 32 n q in omega arith
+
+pub closed : (s : Situation) (plan : Option Schedule) (span : Span) → IsSound s → refusal s (Close span) ≡ None → IsSound (situation_after s plan (Close span))
+closed s plan span h ok =
+    let p = close_parts (find (λ g. is_shut g.second span) (in_landing_order (frozen_landings s))) (length s.closures) ok in
+    other_closures s (situation_after s plan (Close span)) h refl refl refl (let l = length_push s.closures span in omega (arith, p.1))
+    (λ f m. open_where f.flight.windows s.closures (s.closures ++ span ∷ []) f.second
+    (λ e. any_push (is_shut f.second) s.closures span e (none_found (λ g. is_shut g.second span) (in_landing_order (frozen_landings s)) f p.0 (ordered (frozen_landings s) f m)))
+    ((kept s h).opened f m))

@@ -1,0 +1,163 @@
+-- The events of one flight keep a situation sound: it is cancelled, estimated again or added.
+use Rattle.std.proofs.Common.{◌≡◌, ℕ, suc, ◌<◌, ◌≤◌, inl, inr, Bool, true, false, cond, not, List, [], ◌∷◌, ◌++◌, length, map, filter, Option, Some, None, refl, sym, ap, subst, ◌∙◌, arith}
+use Rattle.std.specs.Prelude.{◌≢◌, option_map, find, is_none, nat_le, if◌then◌else◌}
+use Rattle.std.specs.List.{list_any}
+use Rattle.std.proofs.lemmas.Bool.{false≢true, leb-false}
+use Rattle.std.proofs.lemmas.Slice.Eq.{bytes_eq-Decides}
+use Rattle.std.proofs.lemmas.List.Kept.{AllPairs-filter}
+use Rattle.landing_rules.specs.Flights.{Active, Flight, Landing, Situation, Schedule, Callsign, Span, landing, is_waiting, waiting}
+use Rattle.landing_rules.specs.Rules.{lists}
+use Rattle.landing_rules.specs.Events.{Estimate, Cancel, Add, named, frozen_landings, unknown_or_frozen, refusal, estimated, newcomer, situation_after, Frozen, Duplicate, TooManyFlights, TooManyWaiting, PredecessorOfFrozen}
+use Rattle.landing_rules.specs.Sound.{IsSound, IsGoodFlight, IsGoodEvent}
+use Rattle.landing_joint.proofs.Members.{map_in, Member, Differ, callsigns, in_filter, filter_in, in_map, in_push, in_frozen, frozen_in, differ_of, one_of_name, found_in, none_found, none_any, fewer_filtered, fewer_twice, fewer_kept, length_map, length_push}
+use Rattle.landing_joint.proofs.SoundAgain.{kept, sound_again, each_of, fewer_frozen}
+
+-- ---- cancel
+
+pub cancelled : (s : Situation) (plan : Option Schedule) (c : Callsign) → IsSound s → IsSound (situation_after s plan (Cancel c))
+cancelled s plan c h =
+    let new : Situation = situation_after s plan (Cancel c) in
+    let test : Active → Bool = λ a. not (named c a) in
+    sound_again s new h refl
+    (differ_of new.active (AllPairs-filter (λ (a b : Active). a.flight.callsign ≢ b.flight.callsign) test s.active h.callsigns))
+    (let l = fewer_kept test s.active in omega (arith, h.few_active)) (let l = fewer_twice is_waiting test s.active in omega (arith, h.few_waiting)) h.few_closures
+    (λ a m. each_of s h a (in_filter test s.active a m).0)
+    (fewer_frozen s new h refl refl (omega arith)
+    (λ f m. let r = in_frozen new.active f m in subst (λ z. Member z (frozen_landings s)) (sym r.4) (frozen_in s.active r.0 r.1 (in_filter test s.active r.0 r.2).0 r.3))
+    (λ a m. let r = in_filter is_waiting new.active a m in (a, filter_in is_waiting s.active a (in_filter test s.active a r.0).0 r.1, refl)))
+
+-- ---- estimate
+
+named_is : (c : Callsign) (a : Active) → named c a ≡ true → a.flight.callsign ≡ c
+named_is c a e = (bytes_eq-Decides a.flight.callsign c).0 e
+
+-- where the event is accepted, each flight of that name waits
+named_waits : (s : Situation) (c : Callsign) → IsSound s → unknown_or_frozen c (find (named c) s.active) ≡ None → (a : Active) → Member a s.active → named c a ≡ true → a.frozen ≡ None
+named_waits s c h ok a m e = go (find (named c) s.active) refl ok
+  where
+    go : (o : Option Active) → find (named c) s.active ≡ o → unknown_or_frozen c o ≡ None → a.frozen ≡ None
+    go None q ok = absurd (false≢true (sym (none_found (named c) s.active a q m) ∙ e))
+    go (Some b) q ok =
+        let r = found_in (named c) s.active b q in
+        let one = one_of_name s.active a b (differ_of s.active h.callsigns) m r.0 (named_is c a e ∙ sym (named_is c b r.1)) in
+        ap (λ (z : Active). z.frozen) one ∙ two b.frozen ok
+      where
+        two : (o : Option ℕ) → option_map Frozen o ≡ None → o ≡ None
+        two None ok = refl
+        two (Some t) ok = let w : Some (Frozen t) ≡ None = ok in absurd (cc)
+
+estimate_callsign : (c : Callsign) (eta : ℕ) (windows : List Span) (a : Active) → (estimated c eta windows a).flight.callsign ≡ a.flight.callsign
+estimate_callsign c eta windows a = go (named c a)
+  where
+    go : (b : Bool) → (cond b (record a { flight = record a.flight { eta = eta; windows = windows } }) a).flight.callsign ≡ a.flight.callsign
+    go true = refl
+    go false = refl
+
+estimate_frozen : (c : Callsign) (eta : ℕ) (windows : List Span) (a : Active) → (estimated c eta windows a).frozen ≡ a.frozen
+estimate_frozen c eta windows a = go (named c a)
+  where
+    go : (b : Bool) → (cond b (record a { flight = record a.flight { eta = eta; windows = windows } }) a).frozen ≡ a.frozen
+    go true = refl
+    go false = refl
+
+callsigns_mapped : (f : Active → Active) → ((a : Active) → (f a).flight.callsign ≡ a.flight.callsign) → (xs : List Active) → callsigns (map f xs) ≡ callsigns xs
+callsigns_mapped f h [] = refl
+callsigns_mapped f h (x ∷ xs) = ap (λ c. c ∷ callsigns (map f xs)) (h x) ∙ ap (λ l. x.flight.callsign ∷ l) (callsigns_mapped f h xs)
+
+pub re_estimated : (s : Situation) (plan : Option Schedule) (c : Callsign) (eta : ℕ) (windows : List Span) → IsSound s → IsGoodEvent (Estimate c eta windows) → refusal s (Estimate c eta windows) ≡ None → IsSound (situation_after s plan (Estimate c eta windows))
+re_estimated s plan c eta windows h good ok =
+    let new : Situation = situation_after s plan (Estimate c eta windows) in
+    let f : Active → Active = estimated c eta windows in
+    let wait : (a : Active) → is_waiting (f a) ≡ true → is_waiting a ≡ true = λ a e. ap is_none (sym (estimate_frozen c eta windows a)) ∙ e in
+    sound_again s new h refl
+    (subst Differ (sym (callsigns_mapped f (estimate_callsign c eta windows) s.active)) (differ_of s.active h.callsigns))
+    (let l = length_map f s.active in omega (arith, h.few_active)) (let l = fewer_filtered is_waiting is_waiting f s.active wait in omega (arith, h.few_waiting)) h.few_closures
+    (λ a m. let r = in_map f s.active a m in subst (λ (z : Active). IsGoodFlight z.flight × (z.passed ≤ s.aerodrome.k) × (s.aerodrome.carry ≡ false → z.passed ≡ 0)) (sym r.2) (well r.0 (each_of s h r.0 r.1)))
+    (fewer_frozen s new h refl refl (omega arith)
+    (λ g m. let r = in_frozen new.active g m in let q = in_map f s.active r.0 r.2 in
+    let was : q.0.frozen ≡ Some r.1 = sym (estimate_frozen c eta windows q.0) ∙ ap (λ (z : Active). z.frozen) (sym q.2) ∙ r.3 in
+    let same : r.0 ≡ q.0 = q.2 ∙ still q.0 q.1 r.1 was in
+    subst (λ z. Member z (frozen_landings s)) (ap (λ z. landing z r.1) (sym same) ∙ sym r.4) (frozen_in s.active q.0 r.1 q.1 was))
+    (λ a m. let r = in_filter is_waiting new.active a m in let q = in_map f s.active a r.0 in
+    (q.0, filter_in is_waiting s.active q.0 q.1 (wait q.0 (ap is_waiting (sym q.2) ∙ r.1)), ap (λ (z : Active). z.flight.callsign) q.2 ∙ estimate_callsign c eta windows q.0)))
+  where
+    well : (a : Active) → IsGoodFlight a.flight × (a.passed ≤ s.aerodrome.k) × (s.aerodrome.carry ≡ false → a.passed ≡ 0) → IsGoodFlight (estimated c eta windows a).flight × ((estimated c eta windows a).passed ≤ s.aerodrome.k) × (s.aerodrome.carry ≡ false → (estimated c eta windows a).passed ≡ 0)
+    well a w = go (named c a)
+      where
+        go : (b : Bool) → IsGoodFlight (cond b (record a { flight = record a.flight { eta = eta; windows = windows } }) a).flight × ((cond b (record a { flight = record a.flight { eta = eta; windows = windows } }) a).passed ≤ s.aerodrome.k) × (s.aerodrome.carry ≡ false → (cond b (record a { flight = record a.flight { eta = eta; windows = windows } }) a).passed ≡ 0)
+        go true = (record { callsign = w.0.callsign; eta = good.0; weight = w.0.weight; windows = good.1; after = w.0.after }, w.1, w.2)
+        go false = w
+
+    still : (a : Active) → Member a s.active → (t : ℕ) → a.frozen ≡ Some t → estimated c eta windows a ≡ a
+    still a m t e = go (named c a) refl
+      where
+        go : (b : Bool) → named c a ≡ b → cond b (record a { flight = record a.flight { eta = eta; windows = windows } }) a ≡ a
+        go true q = let w : None ≡ Some t = sym (named_waits s c h ok a m q) ∙ e in absurd (cc)
+        go false q = refl
+
+-- ---- add
+
+add_parts : (there : Bool) (flights wait : ℕ) (found : Option Landing) (c : Callsign) →
+    (if there then Some (Duplicate c) else (if nat_le 500 flights then Some TooManyFlights else (if nat_le 60 wait then Some TooManyWaiting else option_map (λ (g : Landing). PredecessorOfFrozen g.flight.callsign) found))) ≡ None →
+    (there ≡ false) × (flights < 500) × (wait < 60) × (found ≡ None)
+add_parts true flights wait found c e = let w : Some (Duplicate c) ≡ None = e in absurd (cc)
+add_parts false flights wait found c e = one (nat_le 500 flights) refl e
+  where
+    three : (o : Option Landing) → option_map (λ (g : Landing). PredecessorOfFrozen g.flight.callsign) o ≡ None → o ≡ None
+    three None e = refl
+    three (Some g) e = let w : Some (PredecessorOfFrozen g.flight.callsign) ≡ None = e in absurd (cc)
+
+    two : (b : Bool) → nat_le 60 wait ≡ b → flights < 500 → cond b (Some TooManyWaiting) (option_map (λ (g : Landing). PredecessorOfFrozen g.flight.callsign) found) ≡ None → (false ≡ false) × (flights < 500) × (wait < 60) × (found ≡ None)
+    two true q f e = let w : Some TooManyWaiting ≡ None = e in absurd (cc)
+    two false q f e = let l = leb-false 60 wait q in (refl, f, omega arith, three found e)
+
+    one : (b : Bool) → nat_le 500 flights ≡ b → cond b (Some TooManyFlights) (cond (nat_le 60 wait) (Some TooManyWaiting) (option_map (λ (g : Landing). PredecessorOfFrozen g.flight.callsign) found)) ≡ None → (false ≡ false) × (flights < 500) × (wait < 60) × (found ≡ None)
+    one true q e = let w : Some TooManyFlights ≡ None = e in absurd (cc)
+    one false q e = let l = leb-false 500 flights q in two (nat_le 60 wait) refl (omega arith) e
+
+pub waiting_push : (xs : List Active) (f : Flight) → length (filter is_waiting (xs ++ newcomer f ∷ [])) ≡ suc (length (filter is_waiting xs))
+waiting_push [] f = refl
+waiting_push (x ∷ xs) f = go (is_waiting x) (waiting_push xs f)
+  where
+    go : (b : Bool) → length (filter is_waiting (xs ++ newcomer f ∷ [])) ≡ suc (length (filter is_waiting xs)) → length (cond b (x ∷ filter is_waiting (xs ++ newcomer f ∷ [])) (filter is_waiting (xs ++ newcomer f ∷ []))) ≡ suc (length (cond b (x ∷ filter is_waiting xs) (filter is_waiting xs)))
+    go true h = omega arith
+    go false h = h
+
+differ_push : (xs : List Active) (a : Active) → Differ (callsigns xs) → ((x : Active) → Member x xs → x.flight.callsign ≢ a.flight.callsign) → Differ (callsigns (xs ++ a ∷ []))
+differ_push [] a d h = (λ c m. absurd m, tt)
+differ_push (x ∷ xs) a d h = (
+  λ c m. let r = in_map (λ (a : Active). a.flight.callsign) (xs ++ a ∷ []) c m in λ e. elim (in_push xs a r.0 r.1) [
+    | inl k ↦ d.0 r.0.flight.callsign (map_in (λ (a : Active). a.flight.callsign) xs r.0 k) (e ∙ r.2)
+    | inr q ↦ h x (inl refl) (e ∙ r.2 ∙ ap (λ (z : Active). z.flight.callsign) q)
+  ],
+  differ_push xs a d.1 (λ y m. h y (inr m)),
+)
+
+pub added : (s : Situation) (plan : Option Schedule) (f : Flight) → IsSound s → IsGoodEvent (Add f) → refusal s (Add f) ≡ None → IsSound (situation_after s plan (Add f))
+added s plan f h good ok =
+    let new : Situation = situation_after s plan (Add f) in
+    let p = add_parts (list_any (named f.callsign) s.active) (length s.active) (length (waiting s)) (find (λ g. lists g.flight f.callsign) (frozen_landings s)) f.callsign ok in
+    let k = kept s h in
+    let was : (g : Landing) → Member g (frozen_landings new) → Member g (frozen_landings s) = λ g m.
+    let r = in_frozen new.active g m in
+    elim (in_push s.active (newcomer f) r.0 r.2) [
+      | inl q ↦ subst (λ z. Member z (frozen_landings s)) (sym r.4) (frozen_in s.active r.0 r.1 q r.3)
+      | inr e ↦ let w : None ≡ Some r.1 = ap (λ (z : Active). z.frozen) (sym e) ∙ r.3 in absurd (cc)
+    ] in
+    sound_again s new h refl
+    (differ_push s.active (newcomer f) (differ_of s.active h.callsigns) (λ x m e. let n = none_any (named f.callsign) s.active x p.0 m in let y = (bytes_eq-Decides x.flight.callsign f.callsign).1 e in false≢true (sym n ∙ y)))
+    (let l = length_push s.active (newcomer f) in omega (arith, p.1)) (let l = waiting_push s.active f in omega (arith, p.2)) h.few_closures
+    (λ a m. elim (in_push s.active (newcomer f) a m) [
+      | inl q ↦ each_of s h a q
+      | inr e ↦ subst (λ (z : Active). IsGoodFlight z.flight × (z.passed ≤ s.aerodrome.k) × (s.aerodrome.carry ≡ false → z.passed ≡ 0)) (sym e) (good, omega arith, λ q. refl)
+    ])
+    (record {
+      opened = λ g m. k.opened g (was g m);
+      separated = λ g i m n. k.separated g i (was g m) (was i n);
+      in_precedence = λ g i m n. k.in_precedence g i (was g m) (was i n);
+      before = λ g m. k.before g (was g m);
+      alone = λ g a m n. let r = in_filter is_waiting new.active a n in elim (in_push s.active (newcomer f) a r.0) [
+        | inl q ↦ k.alone g a (was g m) (filter_in is_waiting s.active a q r.1)
+        | inr e ↦ ap (λ (z : Active). lists g.flight z.flight.callsign) e ∙ none_found (λ g. lists g.flight f.callsign) (frozen_landings s) g p.3 (was g m)
+      ];
+    })

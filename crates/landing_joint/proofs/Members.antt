@@ -1,0 +1,182 @@
+-- What is in a list after a filter, a map or a push, and where callsigns differ.
+use Rattle.std.proofs.Common.{◌≡◌, ℕ, suc, ◌≤◌, ◌⊎◌, inl, inr, Bool, true, false, cond, ◌||◌, List, [], ◌∷◌, ◌++◌, length, map, filter, Option, Some, None, refl, sym, ap, subst, ◌∙◌, arith}
+use Rattle.std.specs.Prelude.{All, AllPairs, ◌≢◌, option_map, filter_map, find}
+use Rattle.std.specs.List.{cons_option, list_any}
+use Rattle.std.proofs.lemmas.Bool.{false≢true}
+use Rattle.std.proofs.lemmas.List.Elements.{All-cons, All-head, All-tail}
+use Rattle.std.proofs.lemmas.List.Kept.{AllPairs-cons}
+use Rattle.landing_rules.specs.Flights.{Active, Landing, Callsign, landing}
+
+abbrev pub Member : {X : Type 0} → X → List X → Type 0
+Member x [] = ⊥
+Member x (y ∷ ys) = (x ≡ y) ⊎ Member x ys
+
+pub all_at : {X : Type 0} (P : X → Type 0) (xs : List X) (x : X) → All P xs → Member x xs → P x
+all_at P [] x h m = absurd m
+all_at P (y ∷ ys) x h (inl e) = subst P (sym e) (All-head P y ys h)
+all_at P (y ∷ ys) x h (inr m) = all_at P ys x (All-tail P y ys h) m
+
+pub all_from : {X : Type 0} (P : X → Type 0) (xs : List X) → ((x : X) → Member x xs → P x) → All P xs
+all_from P [] h = λ k d l. absurd (omega arith)
+all_from P (y ∷ ys) h = All-cons P y ys (h y (inl refl)) (all_from P ys (λ x m. h x (inr m)))
+
+pub in_filter : {X : Type 0} (p : X → Bool) (xs : List X) (x : X) → Member x (filter p xs) → Member x xs × (p x ≡ true)
+in_filter p [] x m = absurd m
+in_filter p (y ∷ ys) x m = go (p y) refl m (in_filter p ys x)
+  where
+    go : (b : Bool) → p y ≡ b → Member x (cond b (y ∷ filter p ys) (filter p ys)) → (Member x (filter p ys) → Member x ys × (p x ≡ true)) → ((x ≡ y) ⊎ Member x ys) × (p x ≡ true)
+    go true e (inl s) ih = (inl s, ap p s ∙ e)
+    go true e (inr m) ih = let r = ih m in (inr r.0, r.1)
+    go false e m ih = let r = ih m in (inr r.0, r.1)
+
+pub filter_in : {X : Type 0} (p : X → Bool) (xs : List X) (x : X) → Member x xs → p x ≡ true → Member x (filter p xs)
+filter_in p [] x m e = m
+filter_in p (y ∷ ys) x m e = go (p y) refl m (λ k. filter_in p ys x k e)
+  where
+    go : (b : Bool) → p y ≡ b → (x ≡ y) ⊎ Member x ys → (Member x ys → Member x (filter p ys)) → Member x (cond b (y ∷ filter p ys) (filter p ys))
+    go true q (inl s) ih = inl s
+    go true q (inr m) ih = inr (ih m)
+    go false q (inl s) ih = absurd (false≢true (sym q ∙ ap p (sym s) ∙ e))
+    go false q (inr m) ih = ih m
+
+pub in_map : {X Y : Type 0} (f : X → Y) (xs : List X) (y : Y) → Member y (map f xs) → (x : X) × Member x xs × (y ≡ f x)
+in_map f [] y m = absurd m
+in_map f (x ∷ xs) y (inl e) = (x, inl refl, e)
+in_map f (x ∷ xs) y (inr m) = let r = in_map f xs y m in (r.0, inr r.1, r.2)
+
+pub in_push : {X : Type 0} (xs : List X) (y x : X) → Member x (xs ++ y ∷ []) → Member x xs ⊎ (x ≡ y)
+in_push [] y x (inl e) = inr e
+in_push [] y x (inr m) = absurd m
+in_push (z ∷ xs) y x (inl e) = inl (inl e)
+in_push (z ∷ xs) y x (inr m) = elim (in_push xs y x m) [ inl k ↦ inl (inr k) | inr e ↦ inr e ]
+
+pub in_frozen : (xs : List Active) (f : Landing) → Member f (filter_map (λ a. option_map (landing a) a.frozen) xs) → (a : Active) × (t : ℕ) × Member a xs × (a.frozen ≡ Some t) × (f ≡ landing a t)
+in_frozen [] f m = absurd m
+in_frozen (a ∷ xs) f m = go a.frozen refl m (in_frozen xs f)
+  where
+    go : (o : Option ℕ) → a.frozen ≡ o → Member f (cons_option (option_map (landing a) o) (filter_map (λ a. option_map (landing a) a.frozen) xs)) →
+        (Member f (filter_map (λ a. option_map (landing a) a.frozen) xs) → (a : Active) × (t : ℕ) × Member a xs × (a.frozen ≡ Some t) × (f ≡ landing a t)) →
+        (b : Active) × (t : ℕ) × ((b ≡ a) ⊎ Member b xs) × (b.frozen ≡ Some t) × (f ≡ landing b t)
+    go None e m ih = let r = ih m in (r.0, r.1, inr r.2, r.3, r.4)
+    go (Some t) e (inl s) ih = (a, t, inl refl, e, s)
+    go (Some t) e (inr m) ih = let r = ih m in (r.0, r.1, inr r.2, r.3, r.4)
+
+pub frozen_in : (xs : List Active) (a : Active) (t : ℕ) → Member a xs → a.frozen ≡ Some t → Member (landing a t) (filter_map (λ a. option_map (landing a) a.frozen) xs)
+frozen_in [] a t m e = absurd m
+frozen_in (x ∷ xs) a t m e = go x.frozen refl m (λ k. frozen_in xs a t k e)
+  where
+    go : (o : Option ℕ) → x.frozen ≡ o → (a ≡ x) ⊎ Member a xs → (Member a xs → Member (landing a t) (filter_map (λ a. option_map (landing a) a.frozen) xs)) →
+        Member (landing a t) (cons_option (option_map (landing x) o) (filter_map (λ a. option_map (landing a) a.frozen) xs))
+    go None q (inl s) ih = let w : None ≡ Some t = sym q ∙ ap (λ (z : Active). z.frozen) (sym s) ∙ e in absurd (cc)
+    go None q (inr k) ih = ih k
+    go (Some u) q (inl s) ih =
+        let w : Some u ≡ Some t = sym q ∙ ap (λ (z : Active). z.frozen) (sym s) ∙ e in
+        let v : u ≡ t = cc in
+        inl (ap (λ (z : Active). landing z t) s ∙ ap (landing x) (sym v))
+    go (Some u) q (inr k) ih = inr (ih k)
+
+-- ---- callsigns differ
+
+abbrev pub Differ : List Callsign → Type 0
+Differ [] = Unit {0}
+Differ (c ∷ cs) = ((d : Callsign) → Member d cs → c ≢ d) × Differ cs
+
+abbrev pub callsigns : List Active → List Callsign
+callsigns xs = map (λ a. a.flight.callsign) xs
+
+pairs_tail : {X : Type 0} (R : X → X → Type 0) (x : X) (xs : List X) → AllPairs R (x ∷ xs) → AllPairs R xs
+pairs_tail R x xs h = λ i j d lt le. h (suc i) (suc j) d (omega arith) (omega arith)
+
+pairs_head : {X : Type 0} (R : X → X → Type 0) (x : X) (xs : List X) → AllPairs R (x ∷ xs) → All (R x) xs
+pairs_head R x xs h = λ k d l. h 0 (suc k) d (omega arith) (omega arith)
+
+pub differ_of : (xs : List Active) → AllPairs (λ a b. a.flight.callsign ≢ b.flight.callsign) xs → Differ (callsigns xs)
+differ_of [] h = tt
+differ_of (x ∷ xs) h =
+    let R : Active → Active → Type 0 = λ a b. a.flight.callsign ≢ b.flight.callsign in
+    (λ d m. let r = in_map (λ (a : Active). a.flight.callsign) xs d m in λ e. all_at (R x) xs r.0 (pairs_head R x xs h) r.1 (e ∙ r.2), differ_of xs (pairs_tail R x xs h))
+
+pub map_in : {X Y : Type 0} (f : X → Y) (xs : List X) (x : X) → Member x xs → Member (f x) (map f xs)
+map_in f [] x m = m
+map_in f (y ∷ ys) x (inl e) = inl (ap f e)
+map_in f (y ∷ ys) x (inr m) = inr (map_in f ys x m)
+
+pub differ_pairs : (xs : List Active) → Differ (callsigns xs) → AllPairs (λ a b. a.flight.callsign ≢ b.flight.callsign) xs
+differ_pairs [] h = λ i j d lt le. absurd (omega arith)
+differ_pairs (x ∷ xs) h =
+    let R : Active → Active → Type 0 = λ a b. a.flight.callsign ≢ b.flight.callsign in
+    AllPairs-cons R x xs (all_from (R x) xs (λ y m. h.0 y.flight.callsign (map_in (λ (a : Active). a.flight.callsign) xs y m))) (differ_pairs xs h.1)
+
+-- of one name there is one flight
+pub one_of_name : (xs : List Active) (a b : Active) → Differ (callsigns xs) → Member a xs → Member b xs → a.flight.callsign ≡ b.flight.callsign → a ≡ b
+one_of_name [] a b d m n e = absurd m
+one_of_name (x ∷ xs) a b d (inl p) (inl q) e = p ∙ sym q
+one_of_name (x ∷ xs) a b d (inl p) (inr n) e = absurd (d.0 b.flight.callsign (map_in (λ (a : Active). a.flight.callsign) xs b n) (ap (λ (z : Active). z.flight.callsign) (sym p) ∙ e))
+one_of_name (x ∷ xs) a b d (inr m) (inl q) e = absurd (d.0 a.flight.callsign (map_in (λ (a : Active). a.flight.callsign) xs a m) (ap (λ (z : Active). z.flight.callsign) (sym q) ∙ sym e))
+one_of_name (x ∷ xs) a b d (inr m) (inr n) e = one_of_name xs a b d.1 m n e
+
+-- ---- what a search finds
+
+pub found_in : {X : Type 0} (p : X → Bool) (xs : List X) (x : X) → find p xs ≡ Some x → Member x xs × (p x ≡ true)
+found_in p [] x e = let w : None ≡ Some x = e in absurd (cc)
+found_in p (y ∷ ys) x e = go (p y) refl e (found_in p ys x)
+  where
+    go : (b : Bool) → p y ≡ b → cond b (Some y) (find p ys) ≡ Some x → (find p ys ≡ Some x → Member x ys × (p x ≡ true)) → ((x ≡ y) ⊎ Member x ys) × (p x ≡ true)
+    go true q e ih = let w : y ≡ x = cc in (inl (sym w), ap p (sym w) ∙ q)
+    go false q e ih = let r = ih e in (inr r.0, r.1)
+
+pub none_found : {X : Type 0} (p : X → Bool) (xs : List X) (x : X) → find p xs ≡ None → Member x xs → p x ≡ false
+none_found p [] x e m = absurd m
+none_found p (y ∷ ys) x e m = go (p y) refl e m (none_found p ys x)
+  where
+    go : (b : Bool) → p y ≡ b → cond b (Some y) (find p ys) ≡ None → (x ≡ y) ⊎ Member x ys → (find p ys ≡ None → Member x ys → p x ≡ false) → p x ≡ false
+    go true q e m ih = let w : Some y ≡ None = e in absurd (cc)
+    go false q e (inl s) ih = ap p s ∙ q
+    go false q e (inr m) ih = ih e m
+
+pub none_any : {X : Type 0} (p : X → Bool) (xs : List X) (x : X) → list_any p xs ≡ false → Member x xs → p x ≡ false
+none_any p [] x e m = absurd m
+none_any p (y ∷ ys) x e m = go (p y) refl e m (none_any p ys x)
+  where
+    go : (b : Bool) → p y ≡ b → (b || list_any p ys) ≡ false → (x ≡ y) ⊎ Member x ys → (list_any p ys ≡ false → Member x ys → p x ≡ false) → p x ≡ false
+    go true q e m ih = absurd (false≢true (sym e))
+    go false q e (inl s) ih = ap p s ∙ q
+    go false q e (inr m) ih = ih e m
+
+-- ---- lengths
+
+pub fewer_filtered : {X Y : Type 0} (p : Y → Bool) (q : X → Bool) (f : X → Y) (xs : List X) → ((x : X) → p (f x) ≡ true → q x ≡ true) → length (filter p (map f xs)) ≤ length (filter q xs)
+fewer_filtered p q f [] h = omega arith
+fewer_filtered p q f (x ∷ xs) h = go (p (f x)) (q x) (h x) (fewer_filtered p q f xs h)
+  where
+    go : (b c : Bool) → (b ≡ true → c ≡ true) → length (filter p (map f xs)) ≤ length (filter q xs) → length (cond b (f x ∷ filter p (map f xs)) (filter p (map f xs))) ≤ length (cond c (x ∷ filter q xs) (filter q xs))
+    go true true h ih = omega arith
+    go true false h ih = absurd (false≢true (h refl))
+    go false true h ih = omega arith
+    go false false h ih = ih
+
+pub fewer_twice : {X : Type 0} (p q : X → Bool) (xs : List X) → length (filter p (filter q xs)) ≤ length (filter p xs)
+fewer_twice p q [] = omega arith
+fewer_twice p q (x ∷ xs) = go (q x) (p x) refl (fewer_twice p q xs)
+  where
+    go : (b c : Bool) → p x ≡ c → length (filter p (filter q xs)) ≤ length (filter p xs) → length (filter p (cond b (x ∷ filter q xs) (filter q xs))) ≤ length (cond c (x ∷ filter p xs) (filter p xs))
+    go true true e ih = let z = ap (λ d. length (cond d (x ∷ filter p (filter q xs)) (filter p (filter q xs)))) e in omega arith
+    go true false e ih = let z = ap (λ d. length (cond d (x ∷ filter p (filter q xs)) (filter p (filter q xs)))) e in omega arith
+    go false true e ih = omega arith
+    go false false e ih = ih
+
+pub fewer_kept : {X : Type 0} (q : X → Bool) (xs : List X) → length (filter q xs) ≤ length xs
+fewer_kept q [] = omega arith
+fewer_kept q (x ∷ xs) = go (q x) (fewer_kept q xs)
+  where
+    go : (b : Bool) → length (filter q xs) ≤ length xs → length (cond b (x ∷ filter q xs) (filter q xs)) ≤ suc (length xs)
+    go true h = omega arith
+    go false h = omega arith
+
+pub length_map : {X Y : Type 0} (f : X → Y) (xs : List X) → length (map f xs) ≡ length xs
+length_map f [] = refl
+length_map f (x ∷ xs) = ap suc (length_map f xs)
+
+pub length_push : {X : Type 0} (xs : List X) (x : X) → length (xs ++ x ∷ []) ≡ suc (length xs)
+length_push [] x = refl
+length_push (y ∷ xs) x = ap suc (length_push xs x)

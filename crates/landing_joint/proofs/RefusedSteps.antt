@@ -1,0 +1,58 @@
+-- What the refusals are for: after an event that each of them turns away, the situation is not sound, whatever it was before.
+use Rattle.std.proofs.Common.{◌≡◌, ℕ, ◌+◌, ◌≤◌, inl, inr, Bool, true, false, not, ◌||◌, List, [], ◌∷◌, ◌++◌, length, Option, None, refl, sym, ap, subst, ◌∙◌, arith}
+use Rattle.std.specs.List.{list_any}
+use Rattle.std.proofs.lemmas.Bool.{false≢true, and_parts}
+use Rattle.landing_rules.specs.Flights.{Flight, Landing, Situation, Schedule, Span, is_waiting, waiting}
+use Rattle.landing_rules.specs.Rules.{is_within, is_shut, lists}
+use Rattle.landing_rules.specs.Events.{Add, Close, Clock, frozen_landings, newcomer, situation_after}
+use Rattle.landing_rules.specs.Sound.{IsSound}
+use Rattle.landing_joint.proofs.Members.{Member, filter_in, in_frozen, frozen_in, length_push}
+use Rattle.landing_joint.proofs.SoundAgain.{kept}
+use Rattle.landing_joint.proofs.FlightSteps.{waiting_push}
+
+push_in : {X : Type 0} (xs : List X) (y x : X) → Member x xs → Member x (xs ++ y ∷ [])
+push_in [] y x m = absurd m
+push_in (z ∷ xs) y x (inl e) = inl e
+push_in (z ∷ xs) y x (inr m) = inr (push_in xs y x m)
+
+pushed : {X : Type 0} (xs : List X) (y : X) → Member y (xs ++ y ∷ [])
+pushed [] y = inl refl
+pushed (z ∷ xs) y = inr (pushed xs y)
+
+any_last : (p : Span → Bool) (cs : List Span) (c : Span) → p c ≡ true → list_any p (cs ++ c ∷ []) ≡ true
+any_last p [] c e = ap (λ b. b || false) e
+any_last p (d ∷ cs) c e = go (p d) (any_last p cs c e)
+  where
+    go : (b : Bool) → list_any p (cs ++ c ∷ []) ≡ true → (b || list_any p (cs ++ c ∷ [])) ≡ true
+    go true e = refl
+    go false e = e
+
+-- the 501st flight, the 61st that waits, the 33rd closure
+flight_501 : (s : Situation) (plan : Option Schedule) (f : Flight) → 500 ≤ length s.active → IsSound (situation_after s plan (Add f)) → ⊥
+flight_501 s plan f many h = absurd (let l = length_push s.active (newcomer f) in let few = h.few_active in omega arith)
+
+waiting_61 : (s : Situation) (plan : Option Schedule) (f : Flight) → 60 ≤ length (waiting s) → IsSound (situation_after s plan (Add f)) → ⊥
+waiting_61 s plan f many h = absurd (let l = waiting_push s.active f in let few = h.few_waiting in omega arith)
+
+closure_33 : (s : Situation) (plan : Option Schedule) (span : Span) → 32 ≤ length s.closures → IsSound (situation_after s plan (Close span)) → ⊥
+closure_33 s plan span many h = absurd (let l = length_push s.closures span in let few = h.few_closures in omega arith)
+
+-- a closure over the second of a frozen flight
+covered_landing : (s : Situation) (plan : Option Schedule) (span : Span) (g : Landing) → Member g (frozen_landings s) → is_shut g.second span ≡ true → IsSound (situation_after s plan (Close span)) → ⊥
+covered_landing s plan span g m shut h =
+    let new : Situation = situation_after s plan (Close span) in
+    let free = (and_parts (list_any (is_within g.second) g.flight.windows) (not (list_any (is_shut g.second) new.closures)) ((kept new h).opened g m)).1 in
+    false≢true (sym (ap not (any_last (is_shut g.second) s.closures span shut)) ∙ free)
+
+-- a flight that a frozen one lists
+predecessor_of_frozen : (s : Situation) (plan : Option Schedule) (f : Flight) (g : Landing) → Member g (frozen_landings s) → lists g.flight f.callsign ≡ true → IsSound (situation_after s plan (Add f)) → ⊥
+predecessor_of_frozen s plan f g m listed h =
+    let new : Situation = situation_after s plan (Add f) in
+    let r = in_frozen s.active g m in
+    let there : Member g (frozen_landings new) = subst (λ z. Member z (frozen_landings new)) (sym r.4) (frozen_in new.active r.0 r.1 (push_in s.active (newcomer f) r.0 r.2) r.3) in
+    let waits : Member (newcomer f) (waiting new) = filter_in is_waiting new.active (newcomer f) (pushed s.active (newcomer f)) refl in
+    false≢true (sym ((kept new h).alone g (newcomer f) there waits) ∙ listed)
+
+-- a clock so far back that a frozen flight would land at its horizon or later
+clock_far_back : (s : Situation) (now : ℕ) (g : Landing) → Member g (frozen_landings s) → now + s.aerodrome.freeze ≤ g.second → IsSound (situation_after s None (Clock now)) → ⊥
+clock_far_back s now g m le h = absurd (let b = (kept (situation_after s None (Clock now)) h).before g m in omega arith)
