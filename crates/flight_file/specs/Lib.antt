@@ -5,3 +5,4 @@ pub mod Reading
 pub mod OfFile
 pub mod Kept
 pub mod Printed
+pub mod Seen
