@@ -5,7 +5,7 @@ use Rattle.landing_rules.specs.declared.objective.Objective.TheVariants.{Makespa
 use Rattle.landing_rules.specs.Flights.{Schedule}
 use Rattle.landing_rules.specs.Problem.{Problem, IsFeasibleList, IsBestList, IsTightList}
 
--- the delay objective is planned for at most one place of shift
+-- a planner is asked for the makespan with any k, and for the delay with at most one place of shift
 abbrev pub IsWithinShift : Objective → ℕ → Type 0
 IsWithinShift Makespan k = ⊤
 IsWithinShift Delay k = k ≤ 1
