@@ -1,0 +1,283 @@
+-- The pairs of a window of the next stage, from those of the windows that lead to it, and how much they cost at most.
+use Rattle.std.proofs.Common.{◌≡◌, ℕ, zero, suc, ◌+◌, ◌-◌, ◌*◌, ◌<◌, ◌≤◌, inl, inr, List, [], ◌∷◌, ◌++◌, length, get_or, Some, true, refl, sym, ap, subst, ◌∙◌, arith, le_trans}
+use Rattle.std.specs.Prelude.{ℤ, pos, ◌+ℤ◌, Contains, All}
+use Rattle.std.specs.List.Sorted.{IsPermutation, IsSorted}
+use Rattle.std.specs.Ordering.{nat_cmp, ordering_then}
+use Rattle.std.proofs.lemmas.List.Sorted.{All-permutation}
+use Rattle.std.proofs.Math.Nat.{mul-le-mul_right}
+use Rattle.std.proofs.lemmas.Bool.{cases_lt}
+use Rattle.std.proofs.lemmas.List.{get_or_default, get_or_past}
+use Rattle.std.proofs.lemmas.List.Elements.{Contains-get_or}
+use Rattle.cps_nodes.specs.Windows.{offset_at, shifted}
+use Rattle.cps_nodes.specs.Laws.{offset_after}
+use Rattle.cps_theory.specs.Separation.{Landing}
+use Rattle.cps_theory.specs.LandingTrail.{cost_of, latest_landing, ranks}
+use Rattle.cps_theory.specs.Labels.{InPairs, NoWorse, Pair}
+use Rattle.cps_theory.specs.LegalPrefix.{Legal}
+use Rattle.cps_theory.specs.Feasible.{next_from}
+use Rattle.cps_theory.specs.Network.{Attained, Kept}
+use Rattle.cps_theory.specs.ProblemNetwork.{LandedIn}
+use Rattle.cps_theory.specs.RankLists.{of_rank}
+use Rattle.cps_theory.specs.UndominatedPairs.{Staircase, InPairOrder, sweep}
+use Rattle.cps_theory.specs.laws.LeastObjective.{next_later}
+use Rattle.cps_theory.specs.laws.NetworkLabels.{kept_next, kept_undominated, undominated_kept}
+use Rattle.cps_theory.specs.laws.Staircases.{staircase_apart, sweep_covers, sweep_staircase, sweep_subset}
+use Rattle.landing_joint.specs.RankedProblem.{no_waiting, ranked, first_at, cost_at, cost_by}
+use Rattle.landing_joint.specs.shared.FirstOpen.{is_first_open}
+use Rattle.landing_rules.specs.declared.objective.Objective.{Objective}
+use Rattle.landing_rules.specs.declared.objective.Objective.TheVariants.{Makespan, Delay}
+use Rattle.landing_rules.specs.Problem.{Problem, Waiting}
+use Rattle.landing_rules.specs.Rules.{last_second}
+use Rattle.cps_problem.specs.WellFormed.{IsWellFormed}
+use Rattle.cps_network.specs.Landable.{IsLandable, HoldsLandable}
+use Rattle.cps_network.specs.Lists.{node_at}
+use Rattle.cps_network.specs.Nodes.{Node, node_of, permits, land, latest, IsWindowNetwork}
+use Rattle.cps_network.specs.Permits.{IsSuccessor, IsNextOf}
+use Rattle.delay_labels.specs.Pairs.{Attains, ArePairsOf, AreCosts, HasEachLandable, GivesPair, list_at, pair_at, successor}
+use Rattle.delay_labels.specs.Parts.{IsInDays}
+use Rattle.delay_labels.specs.Lists.{IsGivenIn, successors_in}
+use Rattle.delay_labels.specs.shared.PairSteps.{attains_landable, landable_attains, dearer, next_attained, source_of_attained}
+use Rattle.delay_labels.proofs.ListLemmas.{in_at, at_in, all_in, given_in_range, range_gives, in_permuted, permuted_in, sorted_in_order}
+use Rattle.delay_labels.proofs.SourceLemmas.{Sources, successor_at, place_at, rank_of, leader_at, landable_at}
+
+-- ---- costs
+
+cost_small_by : (o : Objective) (f : Waiting) (t : ℕ) → f.weight ≤ 100 → t ≤ last_second → cost_by o f t ≤ 17279900
+cost_small_by Makespan f t light low = omega arith
+cost_small_by Delay f t light low =
+    let a : f.weight * (t - f.eta) ≤ 100 * (t - f.eta) = mul-le-mul_right (t - f.eta) light in
+    omega (arith, a, low)
+
+light_at : (p : Problem) → IsWellFormed p → (r : ℕ) → (of_rank no_waiting p.flights r).weight ≤ 100
+light_at p wf zero = omega arith
+light_at p wf (suc i) = elim (cases_lt i (length p.flights)) [
+  | inl lt ↦ (wf.weights i no_waiting lt).1
+  | inr ge ↦ (let e : (get_or p.flights i no_waiting).weight ≡ 0 = ap (λ (f : Waiting). f.weight) (get_or_past p.flights i no_waiting ge) in omega arith)
+]
+
+module _ (p : Problem) (wf : IsWellFormed p) where
+  cost_small : (r t : ℕ) → t ≤ last_second → cost_at p r t ≤ 17279900
+  cost_small r t low = cost_small_by p.objective (of_rank no_waiting p.flights r) t (light_at p wf r) low
+
+  -- the landing before is earlier
+  before_low : (xs : List Landing) (r t : ℕ) → Legal (ranked p).rules (ranks xs) → next_from (ranked p) (latest_landing xs).0 (latest_landing xs).1 r ≤ t → (latest_landing xs).1 ≤ t
+  before_low [] r t legal le = omega arith
+  before_low ((zero, u) ∷ xs) r t legal le = absurd (let a = legal.0.fits.from_one in omega arith)
+  before_low ((suc l, u) ∷ xs) r t legal le = omega (arith, le)
+
+  trail_small : (xs : List Landing) → Legal (ranked p).rules (ranks xs) → LandedIn (ranked p) xs → (latest_landing xs).1 ≤ last_second → cost_of (cost_at p) xs ≤ 17279900 * length (ranks xs)
+  trail_small [] legal landed low = omega arith
+  trail_small (x ∷ xs) legal landed low =
+      let a = before_low xs x.0 x.1 legal.1 landed.1 in
+      let b = trail_small xs legal.1 landed.2 (le_trans a low) in
+      let c = cost_small x.0 x.1 low in
+      omega (arith, b, c)
+
+  -- an attained pair costs at most so much a flight
+  pub attained_small : (stage : ℕ) (xs : List ℤ) (q : Pair) → Attains p stage xs q → q.0 ≤ last_second → q.1 ≤ 17279900 * stage
+  attained_small stage xs q a low =
+      let long : length (ranks a.landings) ≡ stage = ap (λ (n : Node). n.0) a.at in
+      let second : (latest_landing a.landings).1 ≡ q.0 = ap (λ (z : Pair). z.0) a.is in
+      let cost : cost_of (cost_at p) a.landings ≡ q.1 = ap (λ (z : Pair). z.1) a.is in
+      let s = trail_small a.landings a.legal a.landed (omega (arith, second, low)) in
+      subst (λ (n : ℕ). q.1 ≤ 17279900 * n) long (subst (λ (c : ℕ). c ≤ 17279900 * length (ranks a.landings)) cost s)
+
+-- ---- each landable window of the next stage extends one of this
+
+module _ (p : Problem) (net : IsWindowNetwork p) where
+  has_next : (stage : ℕ) (before after : List (List ℤ)) → HoldsLandable p (stage, before) → IsNextOf p stage before after → HasEachLandable p (suc stage, after)
+  has_next stage before after holds next xs l =
+      let a = landable_attains p (suc stage) xs l in
+      let s = source_of_attained p net stage xs a.0 a.1 in
+      (next xs).1 (s.0, (holds s.0).1 s.1, s.2)
+
+  pub has_next_at : (before after : ℕ × List (List ℤ)) → after.0 ≡ before.0 + 1 → HoldsLandable p before → IsNextOf p before.0 before.1 after.1 → HasEachLandable p after
+  has_next_at before after e holds next xs l =
+      let f : after.0 ≡ suc before.0 = omega arith in
+      has_next before.0 before.1 after.1 holds next xs (subst (λ (q : ℕ). IsLandable p q xs) f l)
+
+-- ---- the pairs of a window of the next stage
+
+module _ (p : Problem) (wf : IsWellFormed p) (w stage : ℕ) (before : List (List ℤ)) (v : List ℤ) (from to : ℕ) (range : Sources p w stage before v from to) (lists : List (List Pair)) (are : AreCosts p (stage, before) lists) (days : (i : ℕ) → All IsInDays (list_at lists i)) (l r : ℕ) (leader_is : pos l ≡ pos stage +ℤ offset_at (node_at before from) (w - 1)) (rank_is : pos r ≡ pos (suc stage) +ℤ offset_at v (w - 1)) where
+  -- few flights have landed
+  pub few : suc stage ≤ 63
+  few =
+      let may = range.node.2.1 in
+      let a = may.late in
+      let b = may.to_count in
+      let c = wf.few_places in
+      let d = wf.few_flights in
+      omega (arith, a, b, c, d)
+
+  listed_attained : (j : ℕ) → j < length before → (o : Pair) → InPairs o (list_at lists j) → Attains p stage (node_at before j) o
+  listed_attained j lt o i = (((are.pairs j lt).undominated o).0 i).attained
+
+  -- what a listed pair costs leaves room for one landing more
+  pub listed_small : (j : ℕ) → j < length before → All (λ (q : Pair). q.1 ≤ 4277687395) (list_at lists j)
+  listed_small j lt i d within =
+      let o : Pair = get_or (list_at lists j) i d in
+      let has : InPairs (get_or (list_at lists j) i d) (list_at lists j) = at_in (list_at lists j) i (get_or (list_at lists j) i d) within (get_or_default (list_at lists j) i (0, 0) d within) in
+      let s = attained_small p wf stage (node_at before j) (get_or (list_at lists j) i d) (listed_attained j lt (get_or (list_at lists j) i d) has) (days j i d within) in
+      omega (arith, s, few)
+
+  -- the successors of the listed pairs of the range are those of the network
+  gives : (j : ℕ) → from ≤ j → j < to → (o q : Pair) → InPairs o (list_at lists j) → successor p l o r ≡ Some q
+      → (x : IsSuccessor p stage (node_at before j) v) × (successor p (latest (stage, node_at before j)) o x.0 ≡ Some q)
+  gives j lo hi o q i e =
+      let lt : j < length before = omega (arith, hi, range.within) in
+      let s = successor_at p w stage before v from to range j lo hi in
+      let same : s.0 ≡ r = rank_of p w stage before v from to range r rank_is (node_at before j) (landable_at p w stage before v from to range j lt) s in
+      let lead : latest (stage, node_at before j) ≡ l = leader_at p w stage before v from to range l leader_is j lo hi in
+      (s, ap (λ (y : ℕ). successor p y o s.0) lead ∙ ap (λ (y : ℕ). successor p l o y) same ∙ e)
+
+  -- a successor of a listed pair is attained
+  given_attained : (q : Pair) → IsGivenIn p l r lists from to q → Attains p (suc stage) v q
+  given_attained q (j, lo, hi, o, i, e) =
+      let lt : j < length before = omega (arith, hi, range.within) in
+      let g = gives j lo hi o q i e in
+      subst (λ (y : List ℤ). Attains p (suc stage) y q) (sym g.0.2)
+      (next_attained p range.laws.network (stage, node_at before j) o g.0.0 q (listed_attained j lt o i) g.0.1 g.1)
+
+  given_small : (q : Pair) → q.0 ≤ last_second → IsGivenIn p l r lists from to q → q.1 < 4294967295
+  given_small q low g = let s = attained_small p wf (suc stage) v q (given_attained q g) low in omega (arith, s, few)
+
+  -- which pair of which place gives a successor
+  pub given_pair : (q : Pair) → IsGivenIn p l r lists from to q → (place : ℕ) × (index : ℕ) × GivesPair p (stage, before) lists v q place index
+  given_pair q (j, lo, hi, o, i, e) =
+      let at = in_at o (list_at lists j) i in
+      let g = gives j lo hi o q i e in (
+        j,
+        at.0,
+        record {
+          within = omega (arith, hi, range.within);
+          listed = at.1;
+          rank = g.0.0;
+          permitted = g.0.1;
+          next = g.0.2;
+          lands = ap (λ (z : Pair). successor p (latest (stage, node_at before j)) z g.0.0) at.2 ∙ g.1;
+        },
+      )
+
+  -- which places and indices give a pair
+  pub gives_at : (q : Pair) (j index : ℕ) → from ≤ j → j < to → index < length (list_at lists j) → successor p l (pair_at (list_at lists j) index) r ≡ Some q → GivesPair p (stage, before) lists v q j index
+  gives_at q j index lo hi lt e =
+      let g = gives j lo hi (pair_at (list_at lists j) index) q (at_in (list_at lists j) index (pair_at (list_at lists j) index) lt refl) e in
+      record { within = omega (arith, hi, range.within); listed = lt; rank = g.0.0; permitted = g.0.1; next = g.0.2; lands = g.1 }
+
+  pub given_at : (q : Pair) (j index : ℕ) → GivesPair p (stage, before) lists v q j index → (from ≤ j) × (j < to) × (index < length (list_at lists j)) × (successor p l (pair_at (list_at lists j) index) r ≡ Some q)
+  given_at q j index g =
+      let x : IsSuccessor p stage (node_at before j) v = (g.rank, g.permitted, g.next) in
+      let found = place_at p w stage before v from to range j g.within x in
+      let same : g.rank ≡ r = rank_of p w stage before v from to range r rank_is (node_at before j) (landable_at p w stage before v from to range j g.within) x in
+      let lead : latest (stage, node_at before j) ≡ l = leader_at p w stage before v from to range l leader_is j found.0 found.1 in (
+        found.0,
+        found.1,
+        g.listed,
+        sym (ap (λ (y : ℕ). successor p y (pair_at (list_at lists j) index) g.rank) lead ∙ ap (λ (y : ℕ). successor p l (pair_at (list_at lists j) index) y) same) ∙ g.lands,
+      )
+
+  abbrev Lists : Node → Pair → Type 0
+  Lists n q = (j : ℕ) × (j < length before) × (n ≡ (stage, node_at before j)) × InPairs q (list_at lists j)
+
+  abbrev Here : Node → Pair → Type 0
+  Here n q = Attained (λ s u. (ranked p).is_open s u ≡ true) (next_from (ranked p)) (cost_at p) (Legal (ranked p).rules) (node_of p.k) n q
+
+  source_kept : (n : Node) → n.0 ≡ stage → Kept (Here n) (Lists n)
+  source_kept n at = record {
+    attained = λ q k. subst (λ (m : Node). Here m q) (sym k.2) (listed_attained k.0 k.1 q k.3);
+    covers = λ q a.
+        let same : n ≡ (stage, n.1) = ap (λ (s : ℕ). (s, n.1)) at in
+        let a' : Attains p stage n.1 q = subst (λ (m : Node). Here m q) same a in
+        let has = (range.holds n.1).1 (attains_landable p stage n.1 q a') in
+        let it : node_at before has.0 ≡ n.1 = get_or_default before has.0 [] n.1 has.1 ∙ has.2 in
+        let c = (are.pairs has.0 has.1).covers q (subst (λ (y : List ℤ). Attains p stage y q) (sym it) a') in
+        (c.0, (has.0, has.1, same ∙ ap (λ (y : List ℤ). (stage, y)) (sym it), c.1), c.2);
+  }
+
+  -- lists of which each pair is a successor, and each successor has one no later and no dearer
+  node_kept : (pairs : List Pair) → ((q : Pair) → InPairs q pairs → IsGivenIn p l r lists from to q) → ((q : Pair) → IsGivenIn p l r lists from to q → (o : Pair) × InPairs o pairs × NoWorse o q)
+      → Kept (Attains p (suc stage) v) (λ q. InPairs q pairs)
+  node_kept pairs made enough =
+      kept_next Node (λ s u. (ranked p).is_open s u ≡ true) (first_at p) (next_from (ranked p)) (cost_at p) (Legal (ranked p).rules) (node_of p.k) (permits p) land latest (is_first_open p) (next_later (ranked p)) (dearer p) range.laws.network
+      Lists (suc stage, v) (λ q. InPairs q pairs)
+      (λ e. never (ap (λ (n : Node). n.0) e))
+      (λ n s may at. source_kept n (less (ap (λ (m : Node). m.0) at)))
+      (λ q i.
+      let g = made q i in
+      let lt : g.0 < length before = let h = g.2 in omega (arith, h, range.within) in
+      let x = gives g.0 g.1 g.2 g.3 q g.4 g.5 in
+      ((stage, node_at before g.0), x.0.0, g.3, x.0.1, ap (λ (y : List ℤ). (suc stage, y)) (sym x.0.2), (g.0, lt, refl, g.4), x.1))
+      (λ n s o q may at k e. enough q (given_of n s o q may at k e))
+    where
+      never : 0 ≡ suc stage → ⊥
+      never e = omega arith
+
+      less : {a b : ℕ} → suc a ≡ suc b → a ≡ b
+      less {a} {b} e = omega arith
+
+      given_of : (n : Node) (s : ℕ) (o q : Pair) → permits p n s → land n s ≡ (suc stage, v) → Lists n o → successor p (latest n) o s ≡ Some q → IsGivenIn p l r lists from to q
+      given_of n s o q may at (j, lt, is, i) e =
+          let may' : permits p (stage, node_at before j) s = subst (λ (m : Node). permits p m s) is may in
+          let next : v ≡ shifted (node_at before j) (offset_after stage s) = sym (ap (λ (m : Node). m.1) at) ∙ ap (λ (m : Node). (land m s).1) is in
+          let x : IsSuccessor p stage (node_at before j) v = (s, may', next) in
+          let found = place_at p w stage before v from to range j lt x in
+          let same : s ≡ r = rank_of p w stage before v from to range r rank_is (node_at before j) (landable_at p w stage before v from to range j lt) x in
+          let lead : latest n ≡ l = ap latest is ∙ leader_at p w stage before v from to range l leader_is j found.0 found.1 in
+          (j, found.0, found.1, o, i, sym (ap (λ (y : ℕ). successor p y o s) lead ∙ ap (λ (y : ℕ). successor p l o y) same) ∙ e)
+
+  kept_pairs : (pairs : List Pair) → Kept (Attains p (suc stage) v) (λ q. InPairs q pairs) → Staircase pairs → ArePairsOf p (suc stage) v pairs
+  kept_pairs pairs kept falling = record {
+    undominated = λ q. (kept_undominated (Attains p (suc stage) v) (λ (z : Pair). InPairs z pairs) kept (staircase_apart pairs falling) q, undominated_kept (Attains p (suc stage) v) (λ (z : Pair). InPairs z pairs) kept q);
+    covers = kept.covers;
+    falling = falling;
+  }
+
+  -- of the successors in order, those that are cheaper than all before them
+  pub swept_pairs : (sorted : List Pair) → InPairOrder sorted → All IsInDays sorted → ((q : Pair) → InPairs q sorted → IsGivenIn p l r lists from to q) → ((q : Pair) → IsGivenIn p l r lists from to q → InPairs q sorted)
+      → ArePairsOf p (suc stage) v (sweep 4294967295 sorted)
+  swept_pairs sorted up in_days made all =
+      kept_pairs (sweep 4294967295 sorted)
+      (node_kept (sweep 4294967295 sorted) (λ q i. made q (sweep_subset 4294967295 sorted q i)) (λ q g.
+      let i = all q g in
+      elim (sweep_covers 4294967295 sorted up q i) [
+        | inl c ↦ c
+        | inr high ↦ absurd (let s = given_small q (all_in IsInDays sorted in_days q i) g in omega (arith, s, high))
+      ]))
+      (sweep_staircase 4294967295 sorted up)
+
+-- ---- as the call has it
+
+pub pairs_here : (p : Problem) → IsWellFormed p → (w : ℕ) (before after : ℕ × List (List ℤ)) (v : List ℤ) (from to : ℕ) → Sources p w before.0 before.1 v from to → (lists costs more : List (List Pair)) → AreCosts p before lists
+    → ((i : ℕ) → All IsInDays (list_at lists i)) → (l r : ℕ) → pos l ≡ pos before.0 +ℤ offset_at (node_at before.1 from) (w - 1) → pos r ≡ pos (suc before.0) +ℤ offset_at v (w - 1) → after.0 ≡ before.0 + 1 → to ≤ length lists
+    → (found sorted : List Pair) → found ≡ successors_in p l r lists from to → IsPermutation found sorted → IsSorted (λ (x y : Pair). ordering_then (nat_cmp x.0 y.0) (nat_cmp x.1 y.1)) sorted → All IsInDays found → more ≡ costs ++ sweep 4294967295 sorted ∷ []
+    → (pairs : List Pair) × (more ≡ costs ++ pairs ∷ []) × ArePairsOf p after.0 v pairs × ((q : Pair) → InPairs q pairs → (place : ℕ) × (index : ℕ) × GivesPair p before lists v q place index)
+pairs_here p wf w before after v from to range lists costs more are days l r leader_is rank_is number within found sorted is moved up in_days e =
+    let f : suc before.0 ≡ after.0 = omega (arith, number) in
+    let made : (q : Pair) → InPairs q sorted → IsGivenIn p l r lists from to q = λ q i. given_in_range p l r lists from to q (subst (InPairs q) is (permuted_in found sorted moved q i)) in
+    let all : (q : Pair) → IsGivenIn p l r lists from to q → InPairs q sorted = λ q g. in_permuted found sorted moved q (subst (InPairs q) (sym is) (range_gives p l r lists from to q within g)) in (
+      sweep 4294967295 sorted,
+      e,
+      subst (λ (s : ℕ). ArePairsOf p s v (sweep 4294967295 sorted)) f
+          (swept_pairs p wf w before.0 before.1 v from to range lists are days l r leader_is rank_is sorted (sorted_in_order sorted up) (All-permutation IsInDays found sorted moved in_days) made all),
+      λ q i. given_pair p wf w before.0 before.1 v from to range lists are days l r leader_is rank_is q (made q (sweep_subset 4294967295 sorted q i)),
+    )
+
+-- the window that a pair comes from
+pub given_source : (p : Problem) (before : ℕ × List (List ℤ)) (lists : List (List Pair)) (v : List ℤ) (q : Pair) (j index : ℕ) → GivesPair p before lists v q j index
+    → (x : List ℤ) × Contains before.1 x × IsSuccessor p before.0 x v
+given_source p before lists v q j index g = (node_at before.1 j, Contains-get_or before.1 j [] g.within, (g.rank, g.permitted, g.next))
+
+pub given_few : (p : Problem) → IsWellFormed p → (before : ℕ × List (List ℤ)) (lists : List (List Pair)) (v : List ℤ) (q : Pair) (j index : ℕ) → GivesPair p before lists v q j index → suc before.0 ≤ 63
+given_few p wf before lists v q j index g =
+    let a = g.permitted.late in
+    let b = g.permitted.to_count in
+    let c = wf.few_places in
+    let d = wf.few_flights in
+    omega (arith, a, b, c, d)
+
+-- a list without the pair at an index, read otherwise
+pub none_at : (p : Problem) (l r : ℕ) (q : Pair) (lists : List (List Pair)) (xs : List Pair) (i m : ℕ) → xs ≡ list_at lists i → ((k : ℕ) → k < length xs → successor p l (pair_at xs k) r ≡ Some q → ⊥)
+    → m ≡ i → (index : ℕ) → index < length (list_at lists m) → successor p l (pair_at (list_at lists m) index) r ≡ Some q → ⊥
+none_at p l r q lists xs i m e none same index lt gives =
+    let f : xs ≡ list_at lists m = e ∙ ap (list_at lists) (sym same) in
+    none index (subst (λ (ys : List Pair). index < length ys) (sym f) lt) (subst (λ (ys : List Pair). successor p l (pair_at ys index) r ≡ Some q) (sym f) gives)

@@ -1,0 +1,2 @@
+-- Lemmas that crates above cite too: pairs of landings one more and one back.
+pub mod PairSteps
