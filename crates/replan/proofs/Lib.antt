@@ -1,4 +1,6 @@
 pub mod StageLemmas
 pub mod TraceLemmas
 pub mod PlanLemmas
-pub mod DueLemmas
+pub mod DelayStageLemmas
+pub mod DelayTraceLemmas
+pub mod DelayPlanLemmas

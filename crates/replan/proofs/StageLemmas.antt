@@ -1,18 +1,21 @@
 -- Stage 0 with its label, and one stage more.
 use Rattle.std.proofs.Common.{◌≡◌, ℕ, zero, suc, ◌+◌, ◌*◌, ◌<◌, List, [], ◌∷◌, ◌++◌, length, get_or, replicate, length-append, refl, sym, ap, subst, ◌∙◌, arith, inl, inr, Option, Some, None}
-use Rattle.std.specs.Prelude.{ℤ, pos, Contains, slice_index}
+use Rattle.std.specs.Prelude.{ℤ, pos, Contains, slice_index, Bool, true, false, IsTrue, ◌-◌, ◌≤◌, map}
 use Rattle.std.proofs.lemmas.Bool.{cases_eq}
-use Rattle.std.proofs.lemmas.List.{append-nil, get_or_append_left, get_or_push, get_or_default}
+use Rattle.std.proofs.lemmas.List.{length-map, append-nil, get_or_append_left, get_or_push, get_or_default}
 use Rattle.cps_base.specs.Tally.{raised_by}
 use Rattle.cps_nodes.specs.Ranks.{window_of}
 use Rattle.cps_theory.specs.Separation.{Landing}
 use Rattle.cps_theory.specs.LandingTrail.{ranks}
 use Rattle.landing_rules.specs.Problem.{Problem}
+use Rattle.cps_network.specs.Compacted.{kept_where}
 use Rattle.cps_network.specs.Landable.{IsLandable, HoldsCandidates}
 use Rattle.cps_network.specs.Lists.{IsAscending, node_at}
 use Rattle.cps_network.specs.Nodes.{Node, node_of}
+use Rattle.cps_network.specs.Permits.{IsNextOf}
+use Rattle.makespan_labels.specs.Columns.{is_known, known_of}
 use Rattle.makespan_labels.specs.Labels.{CanLandAt, IsLabel, HoldsLabels}
-use Rattle.replan.specs.Stages.{stage_at, labels_at, HoldsStages, HasCandidates, HasCandidatesUpto}
+use Rattle.replan.specs.Stages.{stage_at, labels_at, HoldsStages, HasCandidates, HasCandidatesUpto, IsWholeWhere}
 
 -- ---- stage 0
 
@@ -120,3 +123,73 @@ read_stage stages i x e lt = e ∙ get_or_default stages i x (0, []) lt
 
 pub read_labels : (columns : List (List ℕ)) (i : ℕ) (y : List ℕ) → y ≡ get_or columns i y → i < length columns → y ≡ labels_at columns i
 read_labels columns i y e lt = e ∙ get_or_default columns i y [] lt
+
+-- ---- the stage after the last
+
+-- the last two stages, where the last one is whole
+pub whole_at : (p : Problem) (stages : List (ℕ × List (List ℤ))) (said : Bool) (i : ℕ) (earlier before : ℕ × List (List ℤ)) → IsWholeWhere p stages said → IsTrue said
+    → i + 2 ≡ length stages → earlier ≡ stage_at stages i → earlier.0 ≡ i → before ≡ stage_at stages (i + 1) → IsNextOf p earlier.0 earlier.1 before.1
+whole_at p stages said i earlier before is whole n e number f =
+    let a : length stages - 2 ≡ i = omega (arith, n) in
+    let b : length stages - 1 ≡ i + 1 = omega (arith, n) in
+    let one : IsNextOf p i (stage_at stages i).1 (stage_at stages (i + 1)).1 =
+    subst (λ (q : ℕ). IsNextOf p i (stage_at stages i).1 (stage_at stages q).1) b (subst (λ (q : ℕ). IsNextOf p q (stage_at stages q).1 (stage_at stages (length stages - 1)).1) a (is whole (omega (arith, n)))) in
+    let two : IsNextOf p i earlier.1 (stage_at stages (i + 1)).1 = subst (λ (x : ℕ × List (List ℤ)). IsNextOf p i x.1 (stage_at stages (i + 1)).1) (sym e) one in
+    let three : IsNextOf p i earlier.1 before.1 = subst (λ (x : ℕ × List (List ℤ)). IsNextOf p i earlier.1 x.1) (sym f) two in
+    subst (λ (q : ℕ). IsNextOf p q earlier.1 before.1) (sym number) three
+
+-- what follows a stage that was read follows that of its place
+pub exact_at : (p : Problem) (stages : List (ℕ × List (List ℤ))) (i j : ℕ) (before after : ℕ × List (List ℤ)) → before ≡ stage_at stages i → before.0 ≡ i → i ≡ j
+    → IsNextOf p before.0 before.1 after.1 → IsNextOf p j (stage_at stages j).1 after.1
+exact_at p stages i j before after e number same is =
+    let one : IsNextOf p i before.1 after.1 = subst (λ (q : ℕ). IsNextOf p q before.1 after.1) number is in
+    let two : IsNextOf p i (stage_at stages i).1 after.1 = subst (λ (x : ℕ × List (List ℤ)). IsNextOf p i x.1 after.1) e one in
+    subst (λ (q : ℕ). IsNextOf p q (stage_at stages q).1 after.1) same two
+
+pub candidates_at : (p : Problem) (stages : List (ℕ × List (List ℤ))) (i j : ℕ) (before after : ℕ × List (List ℤ)) → before ≡ stage_at stages i → i ≡ j
+    → HoldsCandidates p before after → HoldsCandidates p (stage_at stages j) after
+candidates_at p stages i j before after e same is =
+    subst (λ (q : ℕ). HoldsCandidates p (stage_at stages q) after) same (subst (λ (x : ℕ × List (List ℤ)). HoldsCandidates p x after) e is)
+
+pub exact_back : (p : Problem) (stages : List (ℕ × List (List ℤ))) (i j : ℕ) (before after : ℕ × List (List ℤ)) → before ≡ stage_at stages i → before.0 ≡ i → i ≡ j
+    → IsNextOf p j (stage_at stages j).1 after.1 → IsNextOf p before.0 before.1 after.1
+exact_back p stages i j before after e number same is =
+    let one : IsNextOf p i (stage_at stages i).1 after.1 = subst (λ (q : ℕ). IsNextOf p q (stage_at stages q).1 after.1) (sym same) is in
+    let two : IsNextOf p i before.1 after.1 = subst (λ (x : ℕ × List (List ℤ)). IsNextOf p i x.1 after.1) (sym e) one in
+    subst (λ (q : ℕ). IsNextOf p q before.1 after.1) (sym number) two
+
+-- ---- where no window was dropped
+
+kept_short : {B : Type 0} (bs : List Bool) (ys : List B) → length (kept_where bs ys) ≤ length ys
+kept_short [] ys = omega arith
+kept_short (b ∷ bs) [] = omega arith
+kept_short (true ∷ bs) (y ∷ ys) = let h = kept_short bs ys in omega (arith, h)
+kept_short (false ∷ bs) (y ∷ ys) = let h = kept_short bs ys in omega (arith, h)
+
+kept_all : {A B : Type 0} (bs : List Bool) (ys : List B) (xs : List A) → length bs ≡ length xs → length ys ≡ length xs → length (kept_where bs ys) ≡ length ys → kept_where bs xs ≡ xs
+kept_all [] ys [] e f k = refl
+kept_all [] ys (x ∷ xs) e f k = absurd (omega (arith, e))
+kept_all (b ∷ bs) ys [] e f k = absurd (omega (arith, e))
+kept_all (b ∷ bs) [] (x ∷ xs) e f k = absurd (omega (arith, f))
+kept_all (true ∷ bs) (y ∷ ys) (x ∷ xs) e f k = ap (λ (l : List _). x ∷ l) (kept_all bs ys xs (omega (arith, e)) (omega (arith, f)) (omega (arith, k)))
+kept_all (false ∷ bs) (y ∷ ys) (x ∷ xs) e f k = let h = kept_short bs ys in absurd (omega (arith, k, h))
+
+-- where each label is known, each window stays
+pub all_known : (labels : List ℕ) (xs : List (List ℤ)) → length labels ≡ length xs → length (known_of labels labels) ≡ length xs → known_of labels xs ≡ xs
+all_known labels xs e f = kept_all (map is_known labels) labels xs (length-map labels is_known ∙ e) e (f ∙ sym e)
+
+-- the stages are whole where the last one was kept whole
+pub whole_more : (p : Problem) (stages after : List (ℕ × List (List ℤ))) (was stage : ℕ × List (List ℤ)) (said : Bool) → after ≡ stages ++ stage ∷ [] → 0 < length stages
+    → (IsTrue said → stage.1 ≡ was.1) → IsNextOf p (length stages - 1) (stage_at stages (length stages - 1)).1 was.1 → IsWholeWhere p after said
+whole_more p stages after was stage said e some kept is whole more =
+    let a : length after - 2 ≡ length stages - 1 = omega (arith, ap length e, length-append stages (stage ∷ [])) in
+    let b : length after - 1 ≡ length stages = omega (arith, ap length e, length-append stages (stage ∷ [])) in
+    let last : stage_at after (length after - 1) ≡ stage = ap (λ (l : List (ℕ × List (List ℤ))). stage_at l (length after - 1)) e ∙ get_or_push stages stage (0, []) (length after - 1) (sym b) in
+    let front : stage_at after (length after - 2) ≡ stage_at stages (length stages - 1) =
+    ap (stage_at after) a ∙ ap (λ (l : List (ℕ × List (List ℤ))). stage_at l (length stages - 1)) e ∙ get_or_append_left stages (stage ∷ []) (0, []) (length stages - 1) (omega (arith, some)) in
+    let one : IsNextOf p (length stages - 1) (stage_at stages (length stages - 1)).1 stage.1 = subst (λ (ws : List (List ℤ)). IsNextOf p (length stages - 1) (stage_at stages (length stages - 1)).1 ws) (sym (kept whole)) is in
+    let two : IsNextOf p (length stages - 1) (stage_at stages (length stages - 1)).1 (stage_at after (length after - 1)).1 =
+    subst (λ (x : ℕ × List (List ℤ)). IsNextOf p (length stages - 1) (stage_at stages (length stages - 1)).1 x.1) (sym last) one in
+    let three : IsNextOf p (length stages - 1) (stage_at after (length after - 2)).1 (stage_at after (length after - 1)).1 =
+    subst (λ (x : ℕ × List (List ℤ)). IsNextOf p (length stages - 1) x.1 (stage_at after (length after - 1)).1) (sym front) two in
+    subst (λ (q : ℕ). IsNextOf p q (stage_at after (length after - 2)).1 (stage_at after (length after - 1)).1) (sym a) three

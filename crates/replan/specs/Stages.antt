@@ -1,5 +1,5 @@
 -- The stages of a problem with their labels, the number of its candidates, and orders that land.
-use Rattle.std.specs.Prelude.{◌≡◌, ℕ, ℤ, zero, suc, ◌+◌, ◌<◌, ◌↔◌, List, [], length, reverse, slice_index_or, Contains}
+use Rattle.std.specs.Prelude.{◌≡◌, ℕ, ℤ, zero, suc, ◌+◌, ◌-◌, ◌<◌, ◌↔◌, Bool, IsTrue, List, [], length, reverse, slice_index_or, Contains}
 use Rattle.cps_theory.specs.Separation.{Landing}
 use Rattle.cps_theory.specs.LandingTrail.{latest_landing, ranks}
 use Rattle.cps_theory.specs.LegalPrefix.{Legal}
@@ -8,6 +8,7 @@ use Rattle.landing_joint.specs.RankedProblem.{ranked}
 use Rattle.landing_rules.specs.Problem.{Problem}
 use Rattle.cps_network.specs.Landable.{IsCandidate}
 use Rattle.cps_network.specs.Lists.{IsAscending}
+use Rattle.cps_network.specs.Permits.{IsNextOf}
 use Rattle.makespan_labels.specs.Labels.{HoldsLabels}
 
 abbrev pub stage_at : List (ℕ × List (List ℤ)) → ℕ → ℕ × List (List ℤ)
@@ -21,6 +22,11 @@ pub record HoldsStages (p : Problem) (stages : List (ℕ × List (List ℤ))) (c
   pub one_each : length columns ≡ length stages
   pub number : (i : ℕ) → i < length stages → (stage_at stages i).0 ≡ i
   pub held : (i : ℕ) → i < length stages → HoldsLabels p (stage_at stages i) (labels_at columns i)
+
+-- where it is said so, each candidate of the last stage is among its windows: they are all that extend the stage before
+abbrev pub IsWholeWhere : Problem → List (ℕ × List (List ℤ)) → Bool → Type 0
+IsWholeWhere p stages said = IsTrue said → 1 < length stages
+    → IsNextOf p (length stages - 2) (stage_at stages (length stages - 2)).1 (stage_at stages (length stages - 1)).1
 
 -- the stage after one has so many candidates
 pub record HasCandidates (p : Problem) (stage count : ℕ) : Type 0 where

@@ -3,7 +3,7 @@
 ghost use Rattle.std.specs.Prelude.{◌≡◌, ℕ, ◌+◌, ◌*◌, ◌<◌, ◌≤◌, length, vec_len, slice_index, MatchOption};
 ghost use Rattle.replan.specs.Stages.{stage_at, labels_at, HoldsStages, LandsLastAt};
 
-use crate::kept::Kept;
+use crate::stages::LabelledStages;
 use cps_network::prefix_laws;
 use cps_nodes::window_laws;
 use cps_problem::Problem;
@@ -28,7 +28,7 @@ pub(crate) fn least_place(labels: &Column) -> Option<usize>
 // Writes the order of a legal prefix that ends in this window of the last stage, and whose last flight lands at its label.
 pub(crate) fn trace<const W: usize>(
     problem: &Problem,
-    kept: &Kept<W>,
+    kept: &LabelledStages<W>,
     place: usize,
     order: &mut [u8],
 )

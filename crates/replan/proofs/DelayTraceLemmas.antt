@@ -1,0 +1,163 @@
+-- Going back from a pair, source by source, makes a legal order that lands with that pair.
+use Rattle.std.proofs.Common.{◌≡◌, ℕ, zero, suc, ◌+◌, ◌-◌, ◌*◌, ◌≤◌, ◌<◌, Some, List, [], ◌∷◌, ◌++◌, length, reverse, drop, set, append_assoc, refl, sym, ap, subst, ◌∙◌, arith, inl, inr}
+use Rattle.std.specs.Prelude.{ℤ, pos, ◌+ℤ◌, true}
+use Rattle.std.proofs.lemmas.List.Elements.{Contains-get_or}
+use Rattle.std.proofs.lemmas.List.{append-nil, drop_all}
+use Rattle.cps_theory.specs.Separation.{Landing}
+use Rattle.cps_theory.specs.LandingTrail.{last_rank, pair_of, ranks}
+use Rattle.cps_theory.specs.Labels.{InPairs, Pair, next_pair}
+use Rattle.cps_theory.specs.LegalPrefix.{Legal}
+use Rattle.cps_theory.specs.ProblemNetwork.{LandedIn}
+use Rattle.cps_theory.specs.Feasible.{next_from}
+use Rattle.cps_theory.specs.Network.{Undominated}
+use Rattle.cps_theory.specs.laws.LabelDominance.{next_lands}
+use Rattle.cps_theory.specs.laws.LeastObjective.{next_later}
+use Rattle.landing_joint.specs.RankedProblem.{ranked, first_at, cost_at}
+use Rattle.landing_joint.specs.shared.FirstOpen.{is_first_open}
+use Rattle.landing_rules.specs.Problem.{Problem}
+use Rattle.cps_network.specs.Landable.{IsLandable}
+use Rattle.cps_network.specs.Lists.{node_at}
+use Rattle.cps_network.specs.Nodes.{Node, node_of, permits, land, latest, IsWindowNetwork}
+use Rattle.cps_nodes.specs.Windows.{offset_at}
+use Rattle.makespan_labels.specs.Laws.{WindowLaws}
+use Rattle.makespan_labels.specs.shared.NetworkSteps.{next_last}
+use Rattle.delay_labels.specs.Pairs.{Attains, HoldsCosts, GivesPair, list_at, pair_at, successor}
+use Rattle.delay_labels.specs.shared.PairSteps.{dearer, listed_given}
+use Rattle.replan.specs.Stages.{stage_at}
+use Rattle.replan.specs.DelayStages.{lists_at, last_pair, HoldsDelayStages, LandsWithPair}
+use Rattle.replan.proofs.StageLemmas.{start_only}
+use Rattle.replan.proofs.DelayStageLemmas.{start_pair}
+use Rattle.replan.proofs.TraceLemmas.{written}
+
+-- landings of a legal prefix that ends in this window with this pair
+pub record EndsWith (p : Problem) (stage : ℕ) (window : List ℤ) (q : Pair) (xs : List Landing) : Type 0 where
+  pub legal : Legal (ranked p).rules (ranks xs)
+  pub landed : LandedIn (ranked p) xs
+  pub at : node_of p.k (ranks xs) ≡ (stage, window)
+  pub pair : pair_of (cost_at p) xs ≡ q
+
+-- behind any landings that end in this window with this pair, these ranks, the latest first, complete an order that lands
+-- with the pair `end`
+abbrev pub CompletesWith : Problem → ℕ → List ℤ → Pair → List ℕ → Pair → Type 0
+CompletesWith p stage window q order end = (xs : List Landing) → EndsWith p stage window q xs
+    → (ys : List Landing) × (ranks ys ≡ order ++ ranks xs) × Legal (ranked p).rules (ranks ys) × LandedIn (ranked p) ys × (pair_of (cost_at p) ys ≡ end)
+
+completes_pair_start : (p : Problem) (stage : ℕ) (window : List ℤ) (q : Pair) → CompletesWith p stage window q [] q
+completes_pair_start p stage window q xs is = (xs, refl, is.legal, is.landed, is.pair)
+
+-- one source back
+completes_pair_more : (p : Problem) → IsWindowNetwork p → (before : ℕ × List (List ℤ)) (lists : List (List Pair)) (v : List ℤ) (q : Pair) (j index : ℕ) (end : Pair) (order : List ℕ)
+    → (source : GivesPair p before lists v q j index) → CompletesWith p (suc before.0) v q order end
+    → CompletesWith p before.0 (node_at before.1 j) (pair_at (list_at lists j) index) (order ++ source.rank ∷ []) end
+completes_pair_more p net before lists v q j index end order source rest xs is =
+    let may : permits p (node_of p.k (ranks xs)) source.rank = subst (λ (n : Node). permits p n source.rank) (sym is.at) source.permitted in
+    let leader : latest (before.0, node_at before.1 j) ≡ last_rank (ranks xs) = ap latest (sym is.at) ∙ net.newest_is (ranks xs) is.legal in
+    let e : next_pair (first_at p) (next_from (ranked p)) (cost_at p) (last_rank (ranks xs)) (pair_of (cost_at p) xs) source.rank ≡ Some q =
+    ap (λ (l : ℕ). successor p l (pair_of (cost_at p) xs) source.rank) (sym leader) ∙ ap (λ (o : Pair). successor p (latest (before.0, node_at before.1 j)) o source.rank) is.pair ∙ source.lands in
+    let lands = next_lands (λ s t. (ranked p).is_open s t ≡ true) (first_at p) (next_from (ranked p)) (cost_at p) (is_first_open p) (next_later (ranked p)) (dearer p) xs source.rank q is.landed e in
+    let more : EndsWith p (suc before.0) v q ((source.rank, q.0) ∷ xs) = record {
+      legal = net.grows source.rank (ranks xs) is.legal may;
+      landed = lands.0;
+      at = net.pushes source.rank (ranks xs) is.legal ∙ ap (λ (n : Node). land n source.rank) is.at ∙ ap (λ (z : List ℤ). (suc before.0, z)) (sym source.next);
+      pair = lands.1;
+    } in
+    let whole = rest ((source.rank, q.0) ∷ xs) more in
+    (whole.0, whole.1 ∙ sym (append_assoc order (source.rank ∷ []) (ranks xs)), whole.2, whole.3, whole.4)
+
+-- at the start the order itself lands
+completes_pair_all : (p : Problem) (window : List ℤ) (order : List ℕ) (q end : Pair) → node_of p.k [] ≡ (0, window) → (0, 0) ≡ q → CompletesWith p 0 window q (reverse order) end → LandsWithPair p order end
+completes_pair_all p window order q end at none is =
+    let whole = is [] (record { legal = tt; landed = tt; at = at; pair = none }) in
+    (whole.0, whole.1 ∙ append-nil (reverse order), whole.2, whole.3, whole.4)
+
+-- ---- what is read of a stage
+
+abbrev pub pair_in : List (List (List Pair)) → ℕ → ℕ → ℕ → Pair
+pair_in costs stage place index = pair_at (list_at (lists_at costs stage) place) index
+
+abbrev pub Traced : Problem → List (ℕ × List (List ℤ)) → List (List (List Pair)) → ℕ → ℕ → ℕ → List ℕ → Pair → Type 0
+Traced p stages costs stage place index order end =
+    CompletesWith p stage (node_at (stage_at stages stage).1 place) (pair_in costs stage place index) (reverse (drop stage order)) end
+
+-- ---- one step of the way back
+
+pub back_pair : (p : Problem) → IsWindowNetwork p → (stages : List (ℕ × List (List ℤ))) (costs : List (List (List Pair))) (stage s place index j k r : ℕ) (end : Pair) (order : List ℕ)
+    (before : ℕ × List (List ℤ)) (lists : List (List Pair)) (v : List ℤ) (q : Pair) → before ≡ stage_at stages s → lists ≡ lists_at costs s → before.0 ≡ s → stage ≡ suc s
+    → v ≡ node_at (stage_at stages stage).1 place → q ≡ pair_in costs stage place index
+    → (source : GivesPair p before lists v q j k) → source.rank ≡ r → s < length order
+    → Traced p stages costs stage place index order end → Traced p stages costs s j k (set order s r) end
+back_pair p net stages costs stage s place index j k r end order before lists v q eb el number next ev eq source rank_is lt rest =
+    let es : stage ≡ suc before.0 = next ∙ ap suc (sym number) in
+    let a : CompletesWith p (suc before.0) v q (reverse (drop (suc s) order)) end =
+    subst (λ (n : ℕ). CompletesWith p n v q (reverse (drop (suc s) order)) end) es
+    (subst (λ (z : List ℤ). CompletesWith p stage z q (reverse (drop (suc s) order)) end) (sym ev)
+    (subst (λ (o : Pair). CompletesWith p stage (node_at (stage_at stages stage).1 place) o (reverse (drop (suc s) order)) end) (sym eq)
+    (subst (λ (n : ℕ). CompletesWith p stage (node_at (stage_at stages stage).1 place) (pair_in costs stage place index) (reverse (drop n order)) end) next rest))) in
+    let b : CompletesWith p before.0 (node_at before.1 j) (pair_at (list_at lists j) k) (reverse (drop (suc s) order) ++ source.rank ∷ []) end =
+    completes_pair_more p net before lists v q j k end (reverse (drop (suc s) order)) source a in
+    let c : CompletesWith p before.0 (node_at before.1 j) (pair_at (list_at lists j) k) (reverse (drop s (set order s r))) end =
+    subst (λ (l : List ℕ). CompletesWith p before.0 (node_at before.1 j) (pair_at (list_at lists j) k) l end)
+    (ap (λ (x : ℕ). reverse (drop (suc s) order) ++ x ∷ []) rank_is ∙ written order s r lt) b in
+    let d : CompletesWith p s (node_at before.1 j) (pair_at (list_at lists j) k) (reverse (drop s (set order s r))) end =
+    subst (λ (n : ℕ). CompletesWith p n (node_at before.1 j) (pair_at (list_at lists j) k) (reverse (drop s (set order s r))) end) number c in
+    subst (λ (ls : List (List Pair)). CompletesWith p s (node_at (stage_at stages s).1 j) (pair_at (list_at ls j) k) (reverse (drop s (set order s r))) end) el
+    (subst (λ (z : ℕ × List (List ℤ)). CompletesWith p s (node_at z.1 j) (pair_at (list_at lists j) k) (reverse (drop s (set order s r))) end) eb d)
+
+-- the pairs of the stage before that give a listed one
+pub pair_given : (p : Problem) → IsWindowNetwork p → (before after : ℕ × List (List ℤ)) (lists more : List (List Pair)) (v : List ℤ) (q : Pair) (place index : ℕ) → HoldsCosts p before lists → HoldsCosts p after more
+    → after.0 ≡ suc before.0 → place < length after.1 → v ≡ node_at after.1 place → index < length (list_at more place) → q ≡ pair_at (list_at more place) index
+    → (j : ℕ) × (k : ℕ) × GivesPair p before lists v q j k
+pair_given p net before after lists more v q place index held above number lt at listed is =
+    let has : InPairs q (list_at more place) = at_in (list_at more place) index q listed (sym is) in
+    let u : Undominated (Attains p after.0 (node_at after.1 place)) q = ((above.costs.pairs place lt).undominated q).0 has in
+    let u' : Undominated (Attains p after.0 v) q = subst (λ (z : List ℤ). Undominated (Attains p after.0 z) q) (sym at) u in
+    listed_given p net before lists held v q (subst (λ (n : ℕ). Undominated (Attains p n v) q) number u')
+  where
+    at_in : (xs : List Pair) (i : ℕ) (o : Pair) → i < length xs → pair_at xs i ≡ o → InPairs o xs
+    at_in [] i o lt e = absurd (omega arith)
+    at_in (x ∷ xs) zero o lt e = inl (sym e)
+    at_in (x ∷ xs) (suc i) o lt e = inr (at_in xs i o (omega arith) e)
+
+pub last_given_pair : (p : Problem) (w : ℕ) → w ≡ 2 * p.k + 1 → WindowLaws p w → (before : ℕ × List (List ℤ)) (lists : List (List Pair)) (v : List ℤ) (q : Pair) (j k : ℕ) → HoldsCosts p before lists
+    → (source : GivesPair p before lists v q j k) → (pos (suc before.0) +ℤ offset_at v (w - 1) ≡ pos source.rank) × (source.rank ≤ length p.flights)
+last_given_pair p w odd laws before lists v q j k held source =
+    let l : IsLandable p before.0 (node_at before.1 j) = (held.landable (node_at before.1 j)).0 (Contains-get_or before.1 j [] source.within) in (
+      ap (λ (z : List ℤ). pos (suc before.0) +ℤ offset_at z (w - 1)) source.next ∙ next_last p w odd laws before.0 (node_at before.1 j) source.rank l source.permitted,
+      source.permitted.to_count,
+    )
+
+pub trace_pairs_end : (p : Problem) (stages : List (ℕ × List (List ℤ))) (costs : List (List (List Pair))) → HoldsDelayStages p stages costs → (stage place index : ℕ) (end : Pair) (order : List ℕ) → stage ≡ 0 → 0 < length stages
+    → place < length (stage_at stages stage).1 → index < length (list_at (lists_at costs stage) place)
+    → Traced p stages costs stage place index order end → LandsWithPair p order end
+trace_pairs_end p stages costs held stage place index end order none some lt listed rest =
+    let lt' : place < length (stage_at stages 0).1 = subst (λ (n : ℕ). place < length (stage_at stages n).1) none lt in
+    let listed' : index < length (list_at (lists_at costs 0) place) = subst (λ (n : ℕ). index < length (list_at (lists_at costs n) place)) none listed in
+    let rest' : CompletesWith p 0 (node_at (stage_at stages 0).1 place) (pair_in costs 0 place index) (reverse order) end = subst (λ (n : ℕ). Traced p stages costs n place index order end) none rest in
+    let h = held.held 0 some in
+    let number : (stage_at stages 0).0 ≡ 0 = held.number 0 some in
+    let l : IsLandable p 0 (node_at (stage_at stages 0).1 place) =
+    subst (λ (n : ℕ). IsLandable p n (node_at (stage_at stages 0).1 place)) number ((h.landable (node_at (stage_at stages 0).1 place)).0 (Contains-get_or (stage_at stages 0).1 place [] lt')) in
+    let at = start_only p (node_at (stage_at stages 0).1 place) l in
+    let u = ((h.costs.pairs place lt').undominated (pair_in costs 0 place index)).0 (at_in (list_at (lists_at costs 0) place) index listed') in
+    let a : Attains p 0 (node_at (stage_at stages 0).1 place) (pair_in costs 0 place index) = subst (λ (n : ℕ). Attains p n (node_at (stage_at stages 0).1 place) (pair_in costs 0 place index)) number u.attained in
+    completes_pair_all p (node_at (stage_at stages 0).1 place) order (pair_in costs 0 place index) end at (start_pair p (node_at (stage_at stages 0).1 place) (pair_in costs 0 place index) a) rest'
+  where
+    at_in : (xs : List Pair) (i : ℕ) → i < length xs → InPairs (pair_at xs i) xs
+    at_in [] i lt = absurd (omega arith)
+    at_in (x ∷ xs) zero lt = inl refl
+    at_in (x ∷ xs) (suc i) lt = inr (at_in xs i (omega arith))
+
+-- before the first step back
+pub trace_begins : (p : Problem) (stages : List (ℕ × List (List ℤ))) (costs : List (List (List Pair))) (n stage place index : ℕ) (order : List ℕ) → stage ≡ n → n ≤ length p.flights → length order ≡ n
+    → place < length (stage_at stages n).1 → index < length (list_at (lists_at costs n) place) → index ≡ length (list_at (lists_at costs n) place) - 1
+    → (stage ≤ length p.flights) × (length order ≡ n) × (place < length (stage_at stages stage).1) × (index < length (list_at (lists_at costs stage) place))
+    × Traced p stages costs stage place index order (last_pair (list_at (lists_at costs n) place))
+trace_begins p stages costs n stage place index order same few room within listed last =
+    let none : drop n order ≡ [] = drop_all n order (omega (arith, room)) in
+    let start : CompletesWith p n (node_at (stage_at stages n).1 place) (pair_in costs n place index) (reverse (drop n order)) (pair_in costs n place index) =
+    subst (λ (l : List ℕ). CompletesWith p n (node_at (stage_at stages n).1 place) (pair_in costs n place index) (reverse l) (pair_in costs n place index)) (sym none)
+    (completes_pair_start p n (node_at (stage_at stages n).1 place) (pair_in costs n place index)) in
+    let end : Traced p stages costs n place index order (last_pair (list_at (lists_at costs n) place)) =
+    subst (λ (i : ℕ). CompletesWith p n (node_at (stage_at stages n).1 place) (pair_in costs n place index) (reverse (drop n order)) (pair_in costs n place i)) last start in
+    subst (λ (s : ℕ). (s ≤ length p.flights) × (length order ≡ n) × (place < length (stage_at stages s).1) × (index < length (list_at (lists_at costs s) place)) × Traced p stages costs s place index order (last_pair (list_at (lists_at costs n) place)))
+    (sym same) (few, room, within, listed, end)

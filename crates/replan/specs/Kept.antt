@@ -1,0 +1,18 @@
+-- What a planner for any k holds.
+use Rattle.std.specs.Prelude.{ℕ, Option}
+use Rattle.landing_rules.specs.Problem.{Problem}
+use Rattle.replan.specs.declared.any_kept.AnyKept.{AnyKept}
+use Rattle.replan.specs.declared.any_kept.AnyKept.TheVariants.{One, Three, Five, Seven}
+
+abbrev pub k_of : AnyKept → ℕ
+k_of (One kept) = 0
+k_of (Three kept) = 1
+k_of (Five kept) = 2
+k_of (Seven kept) = 3
+
+-- the problem that was planned last
+abbrev pub problem_held : AnyKept → Option Problem
+problem_held (One kept) = kept
+problem_held (Three kept) = kept
+problem_held (Five kept) = kept
+problem_held (Seven kept) = kept

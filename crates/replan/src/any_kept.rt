@@ -1,0 +1,69 @@
+//! The planner that is kept from event to event.
+
+ghost use Rattle.std.specs.Prelude.{◌≡◌, ◌≤◌, length, None, Some};
+ghost use Rattle.replan.specs.Kept.{k_of, problem_held};
+ghost use Rattle.replan.specs.Stages.{HasCandidatesUpto};
+ghost use Rattle.replan.specs.shared.OneDue.{one_due};
+
+use crate::Kept;
+use cps_base::{Ledger, Steps};
+use cps_outside::Gate;
+use cps_problem::{Planner, Problem, Schedule};
+use std::alloc::{AllocError, Global};
+use std::thread::Threads;
+
+/// The planner for each k from 0 to 3, by windows of 1, 3, 5 or 7 places.
+#[derive(Drop)]
+pub enum AnyKept {
+    /// k = 0.
+    One(Kept<1>),
+    /// k = 1.
+    Three(Kept<3>),
+    /// k = 2.
+    Five(Kept<5>),
+    /// k = 3.
+    Seven(Kept<7>),
+}
+
+impl AnyKept {
+    /// The planner for this k, which holds no problem yet. It takes no memory.
+    pub fn fresh(k: u8) -> AnyKept
+        requires { k ≤ 3 }
+        ensures k { k_of result ≡ k }
+        ensures none { problem_held result ≡ None }
+    {
+        match k {
+            0 => AnyKept::One(Kept::fresh()),
+            1 => AnyKept::Three(Kept::fresh()),
+            2 => AnyKept::Five(Kept::fresh()),
+            _ => AnyKept::Seven(Kept::fresh()),
+        }
+    }
+}
+
+impl Planner for AnyKept {
+    ghost k = { k_of };
+
+    // Every stage is filled at each call: one step for each candidate.
+    ghost due = { λ _ p n. HasCandidatesUpto p (length p.flights) n };
+
+    ghost due_is_one = { λ _ p a b x y. one_due p (length p.flights) a b x y };
+
+    ghost holds = { λ planner p. problem_held planner ≡ Some p };
+
+    fn replan<R: Threads + Sync, G: Gate + Sync, L: Ledger>(
+        &mut self,
+        rt: &R,
+        alloc: Global,
+        problem: &Problem,
+        gate: &G,
+        steps: &mut Steps<L>,
+    ) -> Result<Option<Schedule>, AllocError> {
+        match self {
+            AnyKept::One(kept) => kept.replan(rt, alloc, problem, gate, steps),
+            AnyKept::Three(kept) => kept.replan(rt, alloc, problem, gate, steps),
+            AnyKept::Five(kept) => kept.replan(rt, alloc, problem, gate, steps),
+            AnyKept::Seven(kept) => kept.replan(rt, alloc, problem, gate, steps),
+        }
+    }
+}

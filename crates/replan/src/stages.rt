@@ -1,0 +1,160 @@
+//! The stages of a problem.
+
+ghost use Rattle.std.specs.Prelude.{◌≡◌, ℕ, ◌+◌, ◌-◌, ◌*◌, ◌<◌, ◌≤◌, length, vec_len, IfOk, OnOk, IsTrue};
+ghost use Rattle.cps_base.specs.Tally.{raised_by};
+ghost use Rattle.makespan_labels.specs.Labels.{HoldsLabels};
+ghost use Rattle.cps_network.specs.Landable.{HoldsCandidates};
+ghost use Rattle.cps_network.specs.Lists.{IsAscending};
+ghost use Rattle.cps_network.specs.Permits.{IsNextOf};
+ghost use Rattle.replan.specs.Stages.{stage_at, HoldsStages, HasCandidates, HasCandidatesUpto, IsWholeWhere};
+
+use cps_base::{Ledger, Steps};
+use cps_network::{Stage, next_stage, next_stage_like};
+use cps_outside::Gate;
+use cps_problem::Problem;
+use makespan_labels::{Column, fill};
+use std::alloc::{AllocError, Global};
+use std::thread::Threads;
+
+/// Stages of a problem, from stage 0 on: their landable windows, and the label of each.
+#[derive(Drop)]
+pub(crate) struct LabelledStages<const W: usize> {
+    pub(crate) stages: Vec<Stage<W>>,
+    pub(crate) columns: Vec<Column>,
+    // Whether each candidate of the last stage is landable: then the stage after it may be a copy of it.
+    last_is_whole: bool,
+}
+
+// Stage 0.
+fn first_stage<const W: usize>(
+    alloc: Global,
+    problem: &Problem,
+) -> Result<LabelledStages<W>, AllocError>
+    requires width { W ≡ 2 * problem.now.k + 1 }
+    ensures held { IfOk result (λ kept. HoldsStages problem.now kept.stages.items kept.columns.items) }
+    ensures whole { IfOk result (λ kept. IsWholeWhere problem.now kept.stages.items kept.last_is_whole) }
+    ensures one { IfOk result (λ kept. vec_len kept.stages ≡ 1) }
+{
+    let _near = problem.head();
+    let stage = Stage::start(alloc)?;
+    let column = Column::start(alloc)?;
+    let mut stages = Vec::new(alloc);
+    let mut columns = Vec::new(alloc);
+    stages.push(stage)?;
+    columns.push(column)?;
+    Ok(LabelledStages {
+        stages,
+        columns,
+        last_is_whole: false,
+    })
+}
+
+// The stage after the last one. In the middle of a list it often has the windows of the last one again.
+fn next_of_last<const W: usize>(
+    alloc: Global,
+    problem: &Problem,
+    kept: &LabelledStages<W>,
+) -> Result<Stage<W>, AllocError>
+    requires width { W ≡ 2 * problem.now.k + 1 }
+    requires held { HoldsStages problem.now kept.now.stages.items kept.now.columns.items }
+    requires whole { IsWholeWhere problem.now kept.now.stages.items kept.now.last_is_whole }
+    requires some { 0 < vec_len kept.now.stages }
+    requires number { vec_len kept.now.stages ≤ length problem.now.flights }
+    ensures number { IfOk result (λ s. s.0 ≡ vec_len kept.now.stages) }
+    ensures ascending { IfOk result (λ s. IsAscending s.1) }
+    ensures exact { IfOk result (λ s. IsNextOf problem.now (vec_len kept.now.stages - 1) (stage_at kept.now.stages.items (vec_len kept.now.stages - 1)).1 s.1) }
+    ensures candidates { IfOk result (λ s. HoldsCandidates problem.now (stage_at kept.now.stages.items (vec_len kept.now.stages - 1)) s) }
+{
+    let last = kept.stages.len() - 1;
+    let before = &kept.stages[last];
+    if kept.last_is_whole && last > 0 {
+        let earlier = &kept.stages[last - 1];
+        let stage = next_stage_like(alloc, before, problem, earlier, before)?;
+        return Ok(stage);
+    }
+    let stage = next_stage(alloc, before, problem)?;
+    Ok(stage)
+}
+
+// Fills the labels of a stage from those of the stage before, and keeps its landable windows. Also whether these are all.
+fn label_stage<const W: usize, R: Threads, G: Gate, L: Ledger>(
+    rt: &R,
+    alloc: Global,
+    problem: &Problem,
+    before: &Stage<W>,
+    labels: &Column,
+    stage: &mut Stage<W>,
+    gate: &G,
+    steps: &mut Steps<L>,
+) -> Result<(Column, bool), AllocError>
+    requires width { W ≡ 2 * problem.now.k + 1 }
+    requires before { HoldsLabels problem.now before.now labels.now }
+    requires number { stage.old.0 ≡ before.now.0 + 1 }
+    requires exact { IsNextOf problem.now before.now.0 before.now.1 stage.old.1 }
+    ensures held { IfOk result (λ labelled. HoldsLabels problem.now stage.new labelled.0) }
+    ensures number { OnOk result (stage.new.0 ≡ stage.old.0) }
+    ensures all { IfOk result (λ labelled. IsTrue labelled.1 → stage.new.1 ≡ stage.old.1) }
+    ensures steps { OnOk result (L.count steps.new ≡ raised_by (length stage.old.1) (L.count steps.old)) }
+{
+    let _near = problem.head();
+    let candidates = stage.len();
+    let mut column = Column::new(alloc);
+    column.reserve(candidates)?;
+    fill(rt, problem, before, labels, stage, &mut column, gate, steps);
+    column.keep_landable(stage);
+    let is_whole = column.len() == candidates;
+    Ok((column, is_whole))
+}
+
+// One stage more.
+fn add_stage<const W: usize, R: Threads, G: Gate, L: Ledger>(
+    rt: &R,
+    alloc: Global,
+    problem: &Problem,
+    kept: &mut LabelledStages<W>,
+    gate: &G,
+    steps: &mut Steps<L>,
+) -> Result<(), AllocError>
+    requires width { W ≡ 2 * problem.now.k + 1 }
+    requires held { HoldsStages problem.now kept.old.stages.items kept.old.columns.items }
+    requires whole { IsWholeWhere problem.now kept.old.stages.items kept.old.last_is_whole }
+    requires some { 0 < vec_len kept.old.stages }
+    requires number { vec_len kept.old.stages ≤ length problem.now.flights }
+    ensures held { OnOk result (HoldsStages problem.now kept.new.stages.items kept.new.columns.items) }
+    ensures whole { OnOk result (IsWholeWhere problem.now kept.new.stages.items kept.new.last_is_whole) }
+    ensures one { OnOk result (vec_len kept.new.stages ≡ vec_len kept.old.stages + 1) }
+    ensures steps { OnOk result ((count : ℕ) × HasCandidates problem.now (vec_len kept.old.stages - 1) count × (L.count steps.new ≡ raised_by count (L.count steps.old))) }
+{
+    let mut stage = next_of_last(alloc, problem, kept)?;
+    let last = kept.stages.len() - 1;
+    let before = &kept.stages[last];
+    let labels = &kept.columns[last];
+    let (column, is_whole) = label_stage(
+        rt, alloc, problem, before, labels, &mut stage, gate, steps,
+    )?;
+    kept.stages.push(stage)?;
+    kept.columns.push(column)?;
+    kept.last_is_whole = is_whole;
+    Ok(())
+}
+
+// All stages of a problem.
+pub(crate) fn fill_stages<const W: usize, R: Threads, G: Gate, L: Ledger>(
+    rt: &R,
+    alloc: Global,
+    problem: &Problem,
+    gate: &G,
+    steps: &mut Steps<L>,
+) -> Result<LabelledStages<W>, AllocError>
+    requires width { W ≡ 2 * problem.now.k + 1 }
+    ensures held { IfOk result (λ kept. HoldsStages problem.now kept.stages.items kept.columns.items) }
+    ensures whole { IfOk result (λ kept. vec_len kept.stages ≡ length problem.now.flights + 1) }
+    ensures steps { OnOk result ((due : ℕ) × HasCandidatesUpto problem.now (length problem.now.flights) due × (L.count steps.new ≡ raised_by due (L.count steps.old))) }
+{
+    let mut kept = first_stage(alloc, problem)?;
+    steps.tick(0);
+    for _stage in 0..problem.len() {
+        add_stage(rt, alloc, problem, &mut kept, gate, steps)?;
+    }
+    Ok(kept)
+}
