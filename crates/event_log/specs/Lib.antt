@@ -1,0 +1,6 @@
+pub mod Answers
+pub mod Seen
+pub mod Spans
+pub mod Columns
+pub mod Kinds
+pub mod Reading

@@ -1,0 +1,18 @@
+-- An event of the log, as the rules see it.
+use Rattle.landing_rules.specs.Events as rules
+use Rattle.landing_rules.specs.Sound.{IsGoodEvent}
+use Rattle.flight_file.specs.Seen.{flight_of}
+use Rattle.event_log.specs.declared.event.Event.{Event}
+use Rattle.event_log.specs.declared.event.Event.TheVariants.{Estimate, Cancel, Add, Close, Reopen, Clock}
+
+abbrev pub event_of : Event → rules.Event
+event_of (Estimate callsign eta windows) = rules.Estimate callsign eta windows
+event_of (Cancel callsign) = rules.Cancel callsign
+event_of (Add flight) = rules.Add (flight_of flight)
+event_of (Close from to) = rules.Close (from, to)
+event_of (Reopen from to) = rules.Reopen (from, to)
+event_of (Clock now) = rules.Clock now
+
+-- each number of the event is in its range
+abbrev pub IsGood : Event → Type 0
+IsGood e = IsGoodEvent (event_of e)

@@ -1,0 +1,20 @@
+use cps_base::Callsign;
+use flight_file::Flight;
+use landing_windows::WindowSet;
+
+/// An event of the log. Seconds run from 0 to 172,799.
+#[derive(Drop)]
+pub enum Event {
+    /// The flight of this callsign has a new estimated second and new windows.
+    Estimate(Callsign, u32, WindowSet),
+    /// The flight of this callsign is gone.
+    Cancel(Callsign),
+    /// A new flight.
+    Add(Flight),
+    /// The runway is closed from the first second on, until before the second one, which is at most 172,800.
+    Close(u32, u32),
+    /// The closure with these two seconds is lifted.
+    Reopen(u32, u32),
+    /// The clock stands at this second.
+    Clock(u32),
+}

@@ -1,0 +1,17 @@
+//! The event log: its events, and the first fault of a file that is none.
+#![tactic(auto)]
+
+mod columns;
+mod event;
+mod fault;
+mod kinds;
+mod reading;
+mod span;
+
+pub use event::Event;
+pub use fault::{Col, FieldCause, LogCause, LogFault};
+pub use reading::read_events;
+pub use span::read_span;
+
+#[cfg(test)]
+mod tests;

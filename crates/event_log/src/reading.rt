@@ -1,0 +1,98 @@
+ghost use Rattle.std.specs.Prelude.{◌≡◌, [], ◌∷◌, ◌≤◌, ◌<◌, All, length, OnOk, IfOk, vec_len};
+ghost use Rattle.csv.specs.Records.{fields_of};
+ghost use Rattle.event_log.specs.Answers.{Gives};
+ghost use Rattle.event_log.specs.Seen.{IsGood};
+ghost use Rattle.event_log.specs.Reading.{is_header, event_in, header_fault, added, events_in, events_by, events_of};
+
+use crate::event::Event;
+use crate::fault::{LogCause, LogFault};
+use crate::kinds::event_by;
+use csv::ByteRecord;
+use csv_records::{Records, field};
+use std::alloc::Global;
+
+// Whether a record is the header of the file.
+#[tactic(auto, unfolding(crate::specs::Reading::is_header))]
+fn is_header(row: &ByteRecord) -> bool
+    ensures { result ≡ is_header (fields_of row.now) }
+{
+    row.len() == 7
+        && field(row, 0) == b"kind".as_slice()
+        && field(row, 1) == b"callsign".as_slice()
+        && field(row, 2) == b"category".as_slice()
+        && field(row, 3) == b"eta".as_slice()
+        && field(row, 4) == b"weight".as_slice()
+        && field(row, 5) == b"windows".as_slice()
+        && field(row, 6) == b"after".as_slice()
+}
+
+// The event that a record is, behind this many events.
+#[tactic(auto, unfolding(crate::specs::Reading::event_in))]
+fn event_in(before: usize, row: &ByteRecord) -> Result<Event, LogCause>
+    ensures value { result ≡ event_in before (fields_of row.now) }
+    ensures good { IfOk result IsGood }
+    ensures room { IfOk result (λ _. before < 2000) }
+{
+    if row.len() != 7 {
+        return Err(LogCause::FieldCount);
+    }
+    let event = event_by(field(row, 0), row)?;
+    if before >= 2000 {
+        return Err(LogCause::TooMany);
+    }
+    Ok(event)
+}
+
+// One more event, behind those of the records before.
+fn add_event(events: &mut Vec<Event>, row: &ByteRecord) -> Result<(), LogFault>
+    requires few { vec_len events.old ≤ 2000 }
+    requires good { All IsGood events.old.items }
+    ensures value { Gives (λ _. events.new.items) result (added events.old.items (event_in (length events.old.items) (fields_of row.now))) }
+    ensures few { OnOk result (vec_len events.new ≤ 2000) }
+    ensures good { OnOk result (All IsGood events.new.items) }
+{
+    match event_in(events.len(), row) {
+        Ok(event) => {
+            events.push(event)?;
+            Ok(())
+        }
+        Err(cause) => Err(LogFault {
+            number: events.len() as u32 + 2,
+            cause,
+        }),
+    }
+}
+
+// The events of the records that are left.
+#[tactic(auto, unfolding(crate::specs::Reading::events_in))]
+fn events_in(
+    alloc: Global,
+    records: &mut Records,
+    row: &mut ByteRecord,
+) -> Result<Vec<Event>, LogFault>
+    ensures value { Gives (λ v. v.items) result (events_in [] records.old) }
+    ensures few { IfOk result (λ v. vec_len v ≤ 2000) }
+    ensures good { IfOk result (λ v. All IsGood v.items) }
+{
+    let mut events = Vec::new(alloc);
+    while records.read_next(row)? {
+        add_event(&mut events, row)?;
+    }
+    Ok(events)
+}
+
+/// The events of a log, or the first fault of its first record that has one. It stops at that record, and holds one
+/// record at a time. There are at most 2,000 events, and all of their numbers are in their ranges.
+#[tactic(auto, unfolding(crate::specs::Reading::events_by))]
+pub fn read_events(alloc: Global, bytes: &[u8]) -> Result<Vec<Event>, LogFault>
+    ensures value { Gives (λ v. v.items) result (events_of bytes.now) }
+    ensures few { IfOk result (λ v. vec_len v ≤ 2000) }
+    ensures good { IfOk result (λ v. All IsGood v.items) }
+{
+    let mut records = Records::new(alloc, bytes);
+    let mut row = ByteRecord::new(alloc);
+    if !records.read_next(&mut row)? || !is_header(&row) {
+        return Err(LogFault::header());
+    }
+    events_in(alloc, &mut records, &mut row)
+}
