@@ -1,0 +1,60 @@
+-- The opening situation of an aerodrome and its flights, and what is asked of them.
+use Rattle.std.specs.Prelude.{◌≡◌, ◌≢◌, ◌≤◌, false, List, [], length, map, None, All, AllPairs, IsTrue}
+use Rattle.std.proofs.lemmas.List.Elements.{All-map}
+use Rattle.std.proofs.Common.{refl}
+use Rattle.cps_base.specs.Text.{is_callsign}
+use Rattle.landing_rules.specs.Flights.{Aerodrome, Flight, Active, Situation}
+use Rattle.landing_rules.specs.Rules.{last_second}
+use Rattle.landing_rules.specs.Sound.{AreGoodWindows}
+use Rattle.landing_rules.specs.Events.{Opening, newcomer, opening_situation}
+use Rattle.aerodrome_file.specs.declared.aerodrome.Aerodrome as aerodromes
+use Rattle.aerodrome_file.specs.Reading.{IsInRange}
+use Rattle.flight_file.specs.declared.flight.Flight as files
+use Rattle.flight_file.specs.OfFile.{CanBeRead}
+use Rattle.flight_file.specs.Seen.{flight_of}
+
+-- an aerodrome of the files, as the rules see it
+abbrev pub aerodrome_of : aerodromes.Aerodrome → Aerodrome
+aerodrome_of a = record { k = a.k; freeze = a.freeze; objective = a.objective; table = a.table; carry = false }
+
+-- at the start no clock second was given, and no flight is frozen or was passed
+abbrev pub opening_of : aerodromes.Aerodrome → Opening
+opening_of a = record { aerodrome = aerodrome_of a; closures = a.closures; clock = None; frozen = []; passed = [] }
+
+-- the opening situation: the flights in the order of their file
+abbrev pub opened : aerodromes.Aerodrome → List files.Flight → Situation
+opened a fs = opening_situation (opening_of a) (map flight_of fs)
+
+-- the flights in the system, each waiting
+abbrev pub waiting_flights : List files.Flight → List Active
+waiting_flights fs = map newcomer (map flight_of fs)
+
+-- what the types of a flight's fields keep
+pub record IsKept (f : Flight) : Type 0 where
+  pub callsign : IsTrue (is_callsign f.callsign)
+  pub windows : AreGoodWindows f.windows
+  pub after : length f.after ≤ 4
+
+pub record HasRanges (f : files.Flight) : Type 0 where
+  pub eta : f.eta ≤ last_second
+  pub weight : (1 ≤ f.weight) × (f.weight ≤ 100)
+
+-- at most 500 flights, with callsigns apart, and all numbers in their ranges
+pub record CanOpen (a : aerodromes.Aerodrome) (fs : List files.Flight) : Type 0 where
+  pub aerodrome : IsInRange a
+  pub few : length fs ≤ 500
+  pub flights : All HasRanges fs
+  pub callsigns : AllPairs (λ f later. f.callsign ≢ later.callsign) fs
+
+-- what the readers of the files give
+pub files_can_open : (a : aerodromes.Aerodrome) (fs : List files.Flight) → IsInRange a → CanBeRead fs → CanOpen a fs
+files_can_open a fs range read = record {
+  aerodrome = range;
+  few = read.few;
+  flights = λ k d lt. let f = read.flights k d lt in record { eta = f.eta; weight = f.weight };
+  callsigns = read.callsigns;
+}
+
+-- each flight of the opening situation waits
+pub opened_waits : (a : aerodromes.Aerodrome) (fs : List files.Flight) → All (λ (x : Active). x.frozen ≡ None) (opened a fs).active
+opened_waits a fs = All-map (λ (x : Active). x.frozen ≡ None) newcomer (map flight_of fs) (λ k d lt. refl)

@@ -1,0 +1,63 @@
+ghost use Rattle.std.specs.Prelude.{◌≡◌};
+ghost use Rattle.landing_rules.specs.Rules.{lists};
+ghost use Rattle.flight_file.specs.Seen.{flight_of};
+
+use cps_base::Callsign;
+use flight_file::Flight;
+use std::alloc::AllocError;
+use std::marker::Model;
+
+/// A flight in the system. Contracts see the rules' own (`landing_rules`, `Active`).
+#[derive(Drop)]
+pub struct Active {
+    /// The flight, as its file or an event gave it; an estimate changes its second and its windows.
+    pub flight: Flight,
+    /// The second at which it is frozen, if it is.
+    pub frozen: Option<u32>,
+    /// How many flights behind it in first-come order were frozen ahead of it.
+    pub passed: u8,
+}
+
+impl Model for Active {
+    ghost use Rattle.landing_rules.specs.Flights as rules;
+    ghost use Rattle.flight_file.specs.Seen.{flight_of};
+
+    ghost Value = { rules.Active };
+
+    ghost view = { λ a. record { flight = flight_of a.flight; frozen = a.frozen; passed = a.passed } };
+}
+
+impl Clone for Active {
+    ghost use Rattle.std.specs.Prelude.{◌≡◌};
+
+    ghost is_clone = { λ a b. b ≡ a };
+
+    fn clone(&self) -> Result<Active, AllocError> {
+        Ok(Active {
+            flight: self.flight.copy(),
+            frozen: self.frozen,
+            passed: self.passed,
+        })
+    }
+}
+
+// Whether the flight names the callsign among its predecessors.
+fn lists(flight: &Flight, callsign: Callsign) -> bool
+    ensures { result ≡ lists (flight_of flight.now) callsign }
+{
+    for i in 0..flight.after.len() {
+        if flight.after.at(i) == callsign {
+            return true;
+        }
+    }
+    false
+}
+
+impl Active {
+    /// Whether the flight is to land behind that of the callsign.
+    pub fn lists(&self, callsign: Callsign) -> bool
+        ensures { result ≡ lists self.now.flight callsign }
+    {
+        lists(&self.flight, callsign)
+    }
+}

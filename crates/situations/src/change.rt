@@ -1,0 +1,147 @@
+// What an accepted event changes.
+ghost use Rattle.std.specs.Prelude.{◌≡◌, ◌+◌, ◌<◌, ◌≤◌, ◌++◌, [], ◌∷◌, false, not, None, length, filter, map, option_map, IfSome, IfOk, OnOk};
+ghost use Rattle.std.specs.List.{list_any};
+ghost use Rattle.std.specs.Str.{bytes_eq};
+ghost use Rattle.landing_rules.specs.Events.{named, estimated, newcomer, without_first, same_span, refusal, situation_after};
+ghost use Rattle.landing_rules.specs.Sound.{IsGoodEvent};
+ghost use Rattle.event_log.specs.Seen.{event_of};
+ghost use Rattle.landing_rules.specs.Rules.{last_second};
+ghost use Rattle.flight_file.specs.Seen.{flight_of};
+
+use crate::{Active, Situation};
+use cps_base::Callsign;
+use event_log::Event;
+use flight_file::Flight;
+use landing_windows::WindowSet;
+use std::alloc::AllocError;
+
+// The flight with another estimate and other windows.
+fn estimated(active: &Active, eta: u32, windows: &WindowSet) -> Active
+    ensures { result ≡ record active.now { flight = record active.now.flight { eta = eta; windows = windows.now } } }
+{
+    let mut flight = active.flight.copy();
+    flight.eta = eta;
+    flight.windows = *windows;
+    Active {
+        flight,
+        frozen: active.frozen,
+        passed: active.passed,
+    }
+}
+
+impl Situation {
+    // The flight is no longer active.
+    pub(crate) fn cancel(&mut self, callsign: Callsign)
+        ensures { self.new ≡ record self.old { active = filter (λ a. not (named callsign a)) self.old.active } }
+    {
+        self.active.retain(
+            |c: &Callsign, a: &mut Active| -> bool
+                ensures { (result ≡ not (bytes_eq c.now callsign)) × (a.new ≡ a.old) }
+            { *c != callsign },
+        );
+    }
+
+    // The flight has this estimate and these windows.
+    pub(crate) fn estimate(
+        &mut self,
+        callsign: Callsign,
+        eta: u32,
+        windows: &WindowSet,
+    ) -> Result<(), AllocError>
+        ensures { OnOk result (self.new ≡ record self.old { active = map (estimated callsign eta windows.now) self.old.active }) }
+    {
+        let changed = match self.active.get(&callsign) {
+            None => return Ok(()),
+            Some(active) => estimated(active, eta, windows),
+        };
+        self.active.insert(callsign, changed)?;
+        Ok(())
+    }
+
+    // The flight is the last to arrive, and waits.
+    pub(crate) fn add(&mut self, flight: &Flight) -> Result<(), AllocError>
+        requires { list_any (named flight.now.callsign) self.old.active ≡ false }
+        ensures { OnOk result (self.new ≡ record self.old { active = self.old.active ++ newcomer (flight_of flight.now) ∷ [] }) }
+    {
+        let newcomer = Active {
+            flight: flight.copy(),
+            frozen: None,
+            passed: 0,
+        };
+        self.active.insert(flight.callsign, newcomer)?;
+        Ok(())
+    }
+
+    // The closure stands.
+    pub(crate) fn close(&mut self, from: u32, to: u32)
+        requires good { (from < to) × (to ≤ last_second + 1) }
+        requires room { length self.old.closures < 32 }
+        ensures { self.new ≡ record self.old { closures = self.old.closures ++ (from, to) ∷ [] } }
+    {
+        let _ = self.closures.add(from, to);
+    }
+
+    // The first equal closure stands no more.
+    pub(crate) fn reopen(&mut self, from: u32, to: u32)
+        ensures { self.new ≡ record self.old { closures = without_first (same_span (from, to)) self.old.closures } }
+    {
+        self.closures.remove(from, to);
+    }
+}
+
+impl Situation {
+    // The same situation.
+    fn copy(&self) -> Result<Situation, AllocError>
+        ensures { IfOk result (λ copied. copied ≡ self.now) }
+    {
+        let active = self.active.clone()?;
+        Ok(Situation {
+            fixed: self.fixed,
+            active,
+            closures: self.closures,
+            clock: self.clock,
+        })
+    }
+
+    // What an accepted event changes. After want of memory some of it may be done.
+    fn change(&mut self, plan: Option<&[u32]>, event: &Event) -> Result<(), AllocError>
+        requires whole { IfSome plan (λ p. length p.now ≡ length self.old.active) }
+        requires good { IsGoodEvent (event_of event.now) }
+        requires accepted { refusal self.old (event_of event.now) ≡ None }
+        ensures { OnOk result (self.new ≡ situation_after self.old (option_map (λ p. p.now) plan.entry) (event_of event.now)) }
+    {
+        match event {
+            Event::Estimate(callsign, eta, windows) => self.estimate(*callsign, *eta, windows),
+            Event::Cancel(callsign) => {
+                self.cancel(*callsign);
+                Ok(())
+            }
+            Event::Add(flight) => self.add(flight),
+            Event::Close(from, to) => {
+                self.close(*from, *to);
+                Ok(())
+            }
+            Event::Reopen(from, to) => {
+                self.reopen(*from, *to);
+                Ok(())
+            }
+            Event::Clock(now) => {
+                self.pass(*now, plan);
+                Ok(())
+            }
+        }
+    }
+
+    /// The situation after an accepted event, made beside this one. The plan shown, if one is, lands each flight at a
+    /// second, in order of arrival; a clock event freezes by it.
+    pub fn after(&self, plan: Option<&[u32]>, event: &Event) -> Result<Situation, AllocError>
+        requires whole { IfSome plan (λ p. length p.now ≡ length self.now.active) }
+        requires good { IsGoodEvent (event_of event.now) }
+        requires accepted { refusal self.now (event_of event.now) ≡ None }
+        ensures { IfOk result (λ next. next ≡ situation_after self.now (option_map (λ p. p.now) plan.entry) (event_of event.now)) }
+    {
+        let mut next = self.copy()?;
+        next.change(plan, event)?;
+        Ok(next)
+    }
+}

@@ -1,0 +1,16 @@
+//! The situation on the approach: the flights in the system, what an event answers there, and what it makes of it.
+#![tactic(auto)]
+
+mod active;
+mod change;
+mod freeze;
+mod refusal;
+mod refuse;
+mod situation;
+
+pub use active::Active;
+pub use refusal::Refusal;
+pub use situation::{Fixed, Situation};
+
+#[cfg(test)]
+mod tests;

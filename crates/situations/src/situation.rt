@@ -1,0 +1,152 @@
+ghost use Rattle.std.specs.Prelude.{◌≡◌, ◌≤◌, [], IfOk, length, map};
+ghost use Rattle.wake_table.specs.Table.{IsWakeTable};
+ghost use Rattle.landing_rules.specs.Flights.{horizon};
+ghost use Rattle.landing_rules.specs.Sound.{IsSound};
+ghost use Rattle.flight_file.specs.Seen.{flight_of};
+ghost use Rattle.aerodrome_file.specs.Reading.{IsInRange};
+ghost use Rattle.situations.specs.Opened.{CanOpen, IsKept, opened};
+ghost use Rattle.situations.specs.Seen.{fixed_of};
+
+use crate::Active;
+use aerodrome_file::Aerodrome;
+use cps_base::Callsign;
+use flight_file::Flight;
+use indexmap::IndexMap;
+use landing_rules::Objective;
+use landing_windows::Closures;
+use std::alloc::{AllocError, Global};
+use std::marker::Model;
+use wake_table::{Category, PairTable};
+
+/// What the aerodrome fixes, as its file says it.
+#[derive(Clone, Copy)]
+pub struct Fixed {
+    /// The most places by which a flight may leave its first-come place: 0 to 3.
+    pub k: u8,
+    /// How many seconds ahead of the clock landings are frozen: 0 to 7,200.
+    pub freeze: u32,
+    /// What a plan makes least.
+    pub objective: Objective,
+    /// The separations between leaders and followers.
+    pub table: PairTable,
+}
+
+/// The flights in the system by callsign, in order of arrival, the closures that stand, and the last accepted second of
+/// the clock. Contracts see the rules' own (`landing_rules`, `Situation`).
+#[derive(Drop)]
+pub struct Situation {
+    pub(crate) fixed: Fixed,
+    pub(crate) active: IndexMap<Callsign, Active>,
+    pub(crate) closures: Closures,
+    pub(crate) clock: Option<u32>,
+}
+
+impl Model for Situation {
+    ghost use Rattle.landing_rules.specs.Flights as rules;
+    ghost use Rattle.situations.specs.Seen.{seen, IsInStep};
+
+    ghost Value = { rules.Situation };
+
+    ghost view = { seen };
+
+    ghost invariant = { IsInStep };
+}
+
+impl Situation {
+    // With no flight.
+    fn empty(alloc: Global, aerodrome: &Aerodrome) -> Situation
+        requires { IsInRange aerodrome.now }
+        ensures value { result ≡ opened aerodrome.now [] }
+        ensures table { IsWakeTable aerodrome.now.table }
+        ensures closures { length aerodrome.now.closures ≤ 32 }
+    {
+        prove!(aerodrome.table.sep(Category::A, Category::A) >= 1);
+        prove!(aerodrome.closures.len() <= 32);
+        Situation {
+            fixed: Fixed {
+                k: aerodrome.k,
+                freeze: aerodrome.freeze,
+                objective: aerodrome.objective,
+                table: aerodrome.table,
+            },
+            active: IndexMap::new(alloc),
+            closures: aerodrome.closures,
+            clock: None,
+        }
+    }
+
+    /// The situation that an aerodrome and its flights open: each flight waits, in the order of their file, and no clock
+    /// second was given. It is asked that there are at most 500 flights, with callsigns apart, and that all numbers are in
+    /// their ranges. With at most 60 flights it is a sound one.
+    pub fn opening(
+        alloc: Global,
+        aerodrome: &Aerodrome,
+        flights: &[Flight],
+    ) -> Result<Situation, AllocError>
+        requires { CanOpen aerodrome.now flights.now }
+        ensures value { IfOk result (λ situation. situation ≡ opened aerodrome.now flights.now) }
+        ensures sound { length flights.now ≤ 60 → IfOk result IsSound }
+    {
+        let mut situation = Situation::empty(alloc, aerodrome);
+        for i in 0..flights.len() {
+            let flight = &flights[i];
+            known(flight);
+            situation.add(flight)?;
+        }
+        Ok(situation)
+    }
+
+    /// What the aerodrome fixes.
+    pub fn fixed(&self) -> &Fixed
+        ensures value { self.now.aerodrome ≡ fixed_of result.now }
+        ensures few_places { result.now.k ≤ 3 }
+        ensures short_freeze { result.now.freeze ≤ 7200 }
+    {
+        &self.fixed
+    }
+
+    /// The closures that stand.
+    pub fn closures(&self) -> &Closures
+        ensures { result.now ≡ self.now.closures }
+    {
+        &self.closures
+    }
+
+    /// How many flights are active.
+    pub fn len(&self) -> usize
+        ensures { result ≡ length self.now.active }
+    {
+        self.active.len()
+    }
+
+    /// The flights in order of arrival.
+    pub fn flights(&self, alloc: Global) -> Result<Vec<&Active>, AllocError>
+        ensures { IfOk result (λ all. map (λ a. a.now) all.items ≡ self.now.active) }
+    {
+        let mut all = Vec::with_capacity(alloc, self.active.len())?;
+        for i in 0..self.active.len() {
+            all.push(&self.active[i])?;
+        }
+        Ok(all)
+    }
+
+    /// The second before which no waiting flight may land: 0 without a clock second, and else at most 179,999.
+    pub fn horizon(&self) -> u32
+        ensures value { result ≡ horizon self.now }
+        ensures near { result ≤ 179999 }
+    {
+        match self.clock {
+            None => 0,
+            Some(now) => now + self.fixed.freeze,
+        }
+    }
+}
+
+// What the types of a flight's fields keep.
+fn known(flight: &Flight)
+    ensures { IsKept (flight_of flight.now) }
+{
+    prove!(flight.callsign.bytes().len() >= 2);
+    prove!(flight.windows.spans().len() <= 4);
+    prove!(flight.after.len() <= 4);
+}
