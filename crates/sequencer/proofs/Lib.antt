@@ -1,5 +1,10 @@
 pub mod Ranks
 pub mod Listed
-pub mod OpeningSituation
 pub mod Rising
+pub mod Landings
 pub mod LandingOrder
+pub mod FrozenLeft
+pub mod ProblemOf
+pub mod Joined
+pub mod ShownOrder
+pub mod Kept

@@ -1,4 +1,7 @@
--- What files open, the flights by rank, and what a plan shows.
-pub mod Opened
+-- The flights by rank, what the frozen ones leave them, what a plan shows, and what is true of every sequencer.
+pub use Rattle.situations.specs.Opened
+pub mod Frozen
 pub mod Predecessors
+pub mod Ranked
 pub mod Shown
+pub mod Standing

@@ -9,7 +9,7 @@ use Rattle.landing_rules.specs.Text.{ShownLanding}
 use Rattle.aerodrome_file.specs.declared.aerodrome.Aerodrome.{Aerodrome}
 use Rattle.flight_file.specs.declared.flight.Flight.{Flight}
 use Rattle.sequencer.specs.declared.plan.Landing.{Landing}
-use Rattle.sequencer.specs.Opened.{opened, opened_waits}
+use Rattle.situations.specs.Opened.{opened, opened_waits}
 
 abbrev pub shown_of : Landing → ShownLanding
 shown_of l = record { callsign = l.callsign; second = l.second; frozen = l.frozen }

@@ -1,14 +1,21 @@
 //! The sequencer: the flights in the system, the problem that they pose, and the plan that is shown.
 #![tactic(auto)]
 
+mod frozen;
 mod opening;
 mod order;
 mod plan;
 mod predecessors;
+mod problem;
+mod seconds;
+mod sequencer;
 mod waiting;
 
 pub use opening::{BeginFault, opening_problem};
 pub use plan::{Landing, Plan, opening_plan};
+pub use problem::problem_of;
+pub use sequencer::Sequencer;
+pub use situations::Refusal;
 
 #[cfg(test)]
 mod tests;

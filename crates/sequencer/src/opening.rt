@@ -1,17 +1,14 @@
-ghost use Rattle.std.specs.Prelude.{◌≡◌, ◌<◌, ◌≤◌, IfOk, IfErr, Err, None, length};
-ghost use Rattle.wake_table.specs.Table.{IsWakeTable};
+ghost use Rattle.std.specs.Prelude.{◌≡◌, ◌<◌, ◌≤◌, IfOk, IfErr, Err, length};
 ghost use Rattle.landing_rules.specs.Problem.{IsProblemOf};
 ghost use Rattle.landing_rules.specs.Sound.{IsSound};
-ghost use Rattle.sequencer.specs.Opened.{CanOpen, opened};
+ghost use Rattle.situations.specs.Opened.{CanOpen, opened};
 
-use crate::order::by_rank;
-use crate::predecessors::pairs_of;
-use crate::waiting::all_waiting;
+use crate::problem::problem_of;
 use aerodrome_file::Aerodrome;
-use cps_problem::{Head, Problem};
+use cps_problem::Problem;
 use flight_file::Flight;
+use situations::Situation;
 use std::alloc::{AllocError, Global};
-use wake_table::Category;
 
 /// Why nothing begins.
 #[derive(Clone, Copy, Debug, PartialEq, Eq)]
@@ -33,42 +30,6 @@ impl From<AllocError> for BeginFault {
     }
 }
 
-// What the flights share before any clock second: no horizon, and no frozen flight.
-fn head(aerodrome: &Aerodrome) -> Head
-    ensures value { result ≡ record { table = aerodrome.now.table; k = aerodrome.now.k; objective = aerodrome.now.objective; horizon = 0; last = None; base = 0 } }
-    ensures table { IsWakeTable aerodrome.now.table }
-    ensures closures { length aerodrome.now.closures ≤ 32 }
-{
-    prove!(aerodrome.table.sep(Category::A, Category::A) >= 1);
-    prove!(aerodrome.closures.len() <= 32);
-    Head {
-        table: aerodrome.table,
-        k: aerodrome.k,
-        objective: aerodrome.objective,
-        horizon: 0,
-        last: None,
-        base: 0,
-    }
-}
-
-// The problem of at most 60 flights.
-fn problem_of(
-    alloc: Global,
-    aerodrome: &Aerodrome,
-    flights: &[Flight],
-) -> Result<Problem, AllocError>
-    requires can { CanOpen aerodrome.now flights.now }
-    requires few { length flights.now ≤ 60 }
-    ensures problem { IfOk result (IsProblemOf (opened aerodrome.now flights.now)) }
-    ensures sound { IfOk result (λ _. IsSound (opened aerodrome.now flights.now)) }
-{
-    let ranked = by_rank(alloc, flights)?;
-    let waiting = all_waiting(alloc, &ranked, &aerodrome.closures)?;
-    let pairs = pairs_of(&ranked);
-    let head = head(aerodrome);
-    Ok(Problem::build(head, waiting, pairs))
-}
-
 /// The problem of the opening situation, in which each flight waits and no clock second was given.
 ///
 /// It is asked that there are at most 500 flights, with callsigns apart, and that all numbers are in their ranges. It
@@ -88,6 +49,7 @@ pub fn opening_problem(
     if count > 60 {
         return Err(BeginFault::TooManyWaiting(count as u32));
     }
-    let problem = problem_of(alloc, aerodrome, flights)?;
+    let situation = Situation::opening(alloc, aerodrome, flights)?;
+    let problem = problem_of(alloc, &situation)?;
     Ok(problem)
 }

@@ -1,24 +1,20 @@
-// The flights of a file as those of a problem.
+// The waiting flights as those of a problem.
 ghost use Rattle.std.specs.Prelude.{◌≡◌, IfOk, All, map};
 ghost use Rattle.std.specs.List.{AllZip};
-ghost use Rattle.landing_rules.specs.Events.{newcomer};
 ghost use Rattle.landing_rules.specs.Problem.{IsWaitingOf};
 ghost use Rattle.cps_problem.specs.Seen.{waiting_of};
-ghost use Rattle.sequencer.specs.Opened.{IsKept, flight_of};
 
 use cps_problem::Waiting;
-use flight_file::Flight;
 use landing_windows::{Closures, OpenTimes};
+use situations::Active;
 use std::alloc::{AllocError, Global};
 
 // The flight with its open seconds.
-fn waiting_of(alloc: Global, flight: &Flight, closures: &Closures) -> Result<Waiting, AllocError>
-    ensures waiting { IfOk result (λ w. IsWaitingOf closures.now (newcomer (flight_of flight.now)) (waiting_of w)) }
-    ensures kept { IsKept (flight_of flight.now) }
+fn waiting_of(alloc: Global, active: &Active, closures: &Closures) -> Result<Waiting, AllocError>
+    requires { active.now.passed ≡ 0 }
+    ensures { IfOk result (λ w. IsWaitingOf closures.now active.now (waiting_of w)) }
 {
-    prove!(flight.callsign.bytes().len() >= 2);
-    prove!(flight.windows.spans().len() <= 4);
-    prove!(flight.after.len() <= 4);
+    let flight = &active.flight;
     let times = OpenTimes::of(alloc, &flight.windows, closures)?;
     Ok(Waiting {
         callsign: flight.callsign,
@@ -29,18 +25,18 @@ fn waiting_of(alloc: Global, flight: &Flight, closures: &Closures) -> Result<Wai
     })
 }
 
-/// The flights with their open seconds, in the same order.
+/// The flights with their open seconds, in the same order. None was passed over.
 pub(crate) fn all_waiting(
     alloc: Global,
-    ranked: &Vec<&Flight>,
+    ranked: &Vec<&Active>,
     closures: &Closures,
 ) -> Result<Vec<Waiting>, AllocError>
-    ensures waiting { IfOk result (λ all. AllZip (IsWaitingOf closures.now) (map (λ f. newcomer (flight_of f.now)) ranked.now.items) (map waiting_of all.items)) }
-    ensures kept { IfOk result (λ _. All (λ f. IsKept (flight_of f.now)) ranked.now.items) }
+    requires { All (λ a. a.passed ≡ 0) (map (λ a. a.now) ranked.now.items) }
+    ensures { IfOk result (λ all. AllZip (IsWaitingOf closures.now) (map (λ a. a.now) ranked.now.items) (map waiting_of all.items)) }
 {
     let mut all = Vec::with_capacity(alloc, ranked.len())?;
-    for flight in ranked {
-        let waiting = waiting_of(alloc, flight, closures)?;
+    for i in 0..ranked.len() {
+        let waiting = waiting_of(alloc, ranked[i], closures)?;
         all.push(waiting)?;
     }
     Ok(all)

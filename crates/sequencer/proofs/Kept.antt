@@ -1,0 +1,41 @@
+-- What an event leaves is in step again.
+use Rattle.std.proofs.Common.{◌≡◌, ℕ, Option, None, Some, refl, sym, ap, subst, ◌∙◌}
+use Rattle.std.proofs.lemmas.Option.{same_Some}
+use Rattle.landing_rules.specs.Flights.{Situation, Schedule}
+use Rattle.landing_rules.specs.Rules.{IsFeasible}
+use Rattle.landing_rules.specs.Events.{Event, Estimate, Cancel, Add, Close, Reopen, Clock, State, IsPlanShown, refusal, situation_after}
+use Rattle.landing_rules.specs.Problem.{Problem, IsProblemOf}
+use Rattle.landing_rules.specs.Sound.{IsSound, IsSoundState, IsGoodEvent}
+use Rattle.landing_rules.specs.Text.{ShownPlan, plan_shown}
+use Rattle.landing_joint.specs.StepLaws.{EventKeepsSoundLaw}
+use Rattle.sequencer.specs.Standing.{IsInStep}
+
+-- the aerodrome stays
+aerodrome_stays : (s : Situation) (plan : Option Schedule) (e : Event) → (situation_after s plan e).aerodrome ≡ s.aerodrome
+aerodrome_stays s plan (Estimate c eta windows) = refl
+aerodrome_stays s plan (Cancel c) = refl
+aerodrome_stays s plan (Add f) = refl
+aerodrome_stays s plan (Close span) = refl
+aerodrome_stays s plan (Reopen span) = refl
+aerodrome_stays s plan (Clock now) = refl
+
+feasible_shown : (s : Situation) (plan : Option Schedule) → IsPlanShown s plan → (t : Schedule) → plan ≡ Some t → IsFeasible s t
+feasible_shown s None h t e = let w : None ≡ Some t = e in absurd (cc)
+feasible_shown s (Some u) h t e = subst (IsFeasible s) (same_Some u t e) h.0.feasible
+
+pub next_sound : EventKeepsSoundLaw → (old : State) (e : Event) (next : Situation) → IsSoundState old → IsGoodEvent e → refusal old.situation e ≡ None → next ≡ situation_after old.situation old.plan e → IsSound next
+next_sound law old e next sound good accepted is =
+    subst IsSound (sym is) (law old.situation old.plan e sound.situation good (feasible_shown old.situation old.plan sound.shown) accepted)
+
+pub next_in_step : EventKeepsSoundLaw → (old : State) (plan : Option ShownPlan) (p : Problem) (k : ℕ) (e : Event) (next : Situation) (schedule : Option Schedule) (shown : Option ShownPlan) (q : Problem) (j : ℕ) →
+    IsInStep old plan p k → IsGoodEvent e → refusal old.situation e ≡ None → next ≡ situation_after old.situation old.plan e →
+    IsProblemOf next q → IsPlanShown next schedule → shown ≡ plan_shown (record { situation = next; plan = schedule }) → j ≡ k → IsInStep (record { situation = next; plan = schedule }) shown q j
+next_in_step law old plan p k e next schedule shown q j h good accepted is of best seen same =
+    let a : next.aerodrome ≡ old.situation.aerodrome = ap (λ (s : Situation). s.aerodrome) is ∙ aerodrome_stays old.situation old.plan e in
+    record {
+      sound = record { situation = next_sound law old e next h.sound good accepted is; shown = best };
+      shown = seen;
+      problem_of = of;
+      same_k = rw a (h.same_k ∙ sym same);
+      plannable = rw a h.plannable;
+    }

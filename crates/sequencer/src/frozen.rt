@@ -1,0 +1,64 @@
+// What the frozen flights leave to the waiting ones.
+ghost use Rattle.std.specs.Prelude.{◌≡◌, ℕ, ◌≤◌, All, ⊤, MatchOption, Option, length, map, sum_by};
+ghost use Rattle.wake_table.specs.declared.category.Category.{Category};
+ghost use Rattle.landing_rules.specs.Rules.{last_second};
+ghost use Rattle.sequencer.specs.Frozen.{latest, later_of, delay_of, HasSmallDelay};
+
+use situations::Active;
+use wake_table::Category;
+
+// The later of the flight, where it is frozen, and the one found behind it.
+fn later(active: &Active, found: Option<(u32, Category)>) -> Option<(u32, Category)>
+    ensures { result ≡ later_of active.now found }
+{
+    match (active.frozen, found) {
+        (None, _) => found,
+        (Some(second), None) => Some((second, active.flight.category)),
+        (Some(second), Some((next, _))) => {
+            if next < second {
+                Some((second, active.flight.category))
+            } else {
+                found
+            }
+        }
+    }
+}
+
+/// The frozen flight that lands last, by its second and category.
+pub(crate) fn last_frozen(flights: &Vec<&Active>) -> Option<(u32, Category)>
+    ensures { result ≡ latest (map (λ a. a.now) flights.now.items) }
+{
+    let mut found: Option<(u32, Category)> = None;
+    for i in (0..flights.len()).rev() {
+        found = later(flights[i], found);
+    }
+    found
+}
+
+// What the flight's frozen landing costs, and 0 where it waits.
+fn delay(active: &Active) -> u64
+    requires { HasSmallDelay active.now }
+    ensures value { result ≡ delay_of active.now }
+    ensures small { result ≤ 17279900 }
+{
+    match active.frozen {
+        None => 0,
+        Some(second) => {
+            let late = second.saturating_sub(active.flight.eta);
+            u64::from(active.flight.weight) * u64::from(late)
+        }
+    }
+}
+
+/// What the frozen landings cost together.
+pub(crate) fn frozen_delay(flights: &Vec<&Active>) -> u64
+    requires few { length flights.now.items ≤ 500 }
+    requires small { All HasSmallDelay (map (λ a. a.now) flights.now.items) }
+    ensures { result ≡ sum_by delay_of (map (λ a. a.now) flights.now.items) }
+{
+    let mut total: u64 = 0;
+    for i in 0..flights.len() {
+        total += delay(flights[i]);
+    }
+    total
+}

@@ -1,0 +1,64 @@
+// The problem of a situation.
+ghost use Rattle.std.specs.Prelude.{◌≡◌, ◌≤◌, false, IfOk, map};
+ghost use Rattle.landing_rules.specs.Flights.{horizon};
+ghost use Rattle.landing_rules.specs.Events.{frozen_landings, in_landing_order};
+ghost use Rattle.landing_rules.specs.Problem.{IsProblemOf, last_of, frozen_cost};
+ghost use Rattle.landing_rules.specs.Sound.{IsSound};
+
+use crate::frozen::{frozen_delay, last_frozen};
+use crate::order::{by_rank, order_of, waiting_of};
+use crate::predecessors::pairs_of;
+use crate::waiting::all_waiting;
+use cps_problem::{Head, Objective, Problem};
+use situations::{Active, Situation};
+use std::alloc::{AllocError, Global};
+
+// What the frozen landings cost, and 0 for the makespan.
+fn base(situation: &Situation, flights: &Vec<&Active>) -> u64
+    requires flights { map (λ a. a.now) flights.now.items ≡ situation.now.active }
+    requires sound { IsSound situation.now }
+    ensures { result ≡ frozen_cost situation.now.aerodrome.objective (frozen_landings situation.now) }
+{
+    match situation.fixed().objective {
+        Objective::Makespan => 0,
+        Objective::Delay => frozen_delay(flights),
+    }
+}
+
+// What the waiting flights share.
+fn head(situation: &Situation, flights: &Vec<&Active>) -> Head
+    requires flights { map (λ a. a.now) flights.now.items ≡ situation.now.active }
+    requires sound { IsSound situation.now }
+    ensures fixed { situation.now.aerodrome ≡ record situation.now.aerodrome { table = result.table; k = result.k; objective = result.objective } }
+    ensures horizon { result.horizon ≡ horizon situation.now }
+    ensures last { result.last ≡ last_of (in_landing_order (frozen_landings situation.now)) }
+    ensures base { result.base ≡ frozen_cost situation.now.aerodrome.objective (frozen_landings situation.now) }
+    ensures no_carry { situation.now.aerodrome.carry ≡ false }
+    ensures few_places { result.k ≤ 3 }
+    ensures near { result.horizon ≤ 179999 }
+{
+    let fixed = situation.fixed();
+    Head {
+        table: fixed.table,
+        k: fixed.k,
+        objective: fixed.objective,
+        horizon: situation.horizon(),
+        last: last_frozen(flights),
+        base: base(situation, flights),
+    }
+}
+
+/// The problem of a sound situation: its waiting flights by rank, and what the frozen ones leave them.
+pub fn problem_of(alloc: Global, situation: &Situation) -> Result<Problem, AllocError>
+    requires { IsSound situation.now }
+    ensures { IfOk result (IsProblemOf situation.now) }
+{
+    let flights = situation.flights(alloc)?;
+    let waiting = waiting_of(alloc, &flights)?;
+    let order = order_of(alloc, &waiting)?;
+    let ranked = by_rank(alloc, &waiting, &order)?;
+    let pairs = pairs_of(&ranked);
+    let head = head(situation, &flights);
+    let with_times = all_waiting(alloc, &ranked, situation.closures())?;
+    Ok(Problem::build(head, with_times, pairs))
+}

@@ -1,0 +1,279 @@
+ghost use Rattle.std.specs.Prelude.{◌≡◌, ℕ, ◌<◌, ◌≤◌, Option, Some, None, Err, IfOk, IfErr, OnOk, OnErr, MatchOption, length, map, option_map, ⊤};
+ghost use Rattle.cps_base.specs.Tally.{raised_by};
+ghost use Rattle.landing_rules.specs.Rules.{IsFeasible};
+ghost use Rattle.landing_rules.specs.Events.{refusal, IsPlanShown, IsAcceptedStep, IsOpeningState, Step};
+ghost use Rattle.landing_rules.specs.Problem.{IsProblemOf};
+ghost use Rattle.landing_rules.specs.Sound.{IsSound, IsSoundState, IsGoodEvent};
+ghost use Rattle.landing_rules.specs.Text.{shown_plan, plan_shown};
+ghost use Rattle.event_log.specs.Seen.{event_of};
+ghost use Rattle.flight_file.specs.Seen.{flight_of};
+ghost use Rattle.cps_problem.specs.Plans.{IsAnswerOf};
+ghost use Rattle.situations.specs.Answers.{refusal_of};
+ghost use Rattle.situations.specs.Opened.{CanOpen, opened, opening_of};
+
+use crate::opening::BeginFault;
+use crate::plan::{Plan, plan_of};
+use crate::problem::problem_of;
+use crate::seconds::joined_seconds;
+use aerodrome_file::Aerodrome;
+use cps_base::{Ledger, Steps};
+use cps_outside::Gate;
+use cps_problem::{Objective, Planner, Problem, Schedule};
+use event_log::Event;
+use extract_plan::value_of;
+use flight_file::Flight;
+use landing_joint::laws::{every_step_keeps_soundness, problem_stands_for_situation};
+use situations::{Refusal, Situation};
+use std::alloc::{AllocError, Global};
+use std::marker::Model;
+use std::thread::Threads;
+
+// The plan that is shown, and its seconds in order of arrival.
+#[derive(Drop)]
+struct Shown {
+    seconds: Vec<u32>,
+    plan: Plan,
+}
+
+/// The situation on the approach, the plan that is shown, the problem of the situation, and the planner.
+///
+/// Contracts see the rules' state (`landing_rules`, `State`), the problem and the planner. The state is always sound: the
+/// plan shown is best and tight, and there is none exactly where no schedule is feasible.
+#[derive(Drop)]
+pub struct Sequencer<P: Planner> {
+    situation: Situation,
+    shown: Option<Shown>,
+    problem: Problem,
+    planner: P,
+}
+
+impl<P: Planner> Model for Sequencer<P> {
+    ghost use Rattle.std.specs.Prelude.{option_map};
+    ghost use Rattle.sequencer.specs.Standing.{Standing, IsInStep};
+
+    ghost Value = { Standing P };
+
+    ghost view = { λ s. record { state = record { situation = s.situation; plan = option_map (λ p. p.seconds.items) s.shown }; problem = s.problem; planner = s.planner } };
+
+    ghost invariant = { λ s. IsInStep (record { situation = s.situation; plan = option_map (λ p. p.seconds.items) s.shown }) (option_map (λ p. p.plan) s.shown) s.problem (P.k s.planner) };
+}
+
+// The seconds of what is shown.
+fn seconds_of(shown: &Option<Shown>) -> Option<&[u32]>
+    ensures { option_map (λ p. p.now) result ≡ option_map (λ p. p.seconds.items) shown.now }
+{
+    match shown {
+        None => None,
+        Some(shown) => Some(&shown.seconds),
+    }
+}
+
+// What is shown for a best and tight schedule by rank.
+fn shown_schedule(
+    alloc: Global,
+    situation: &Situation,
+    problem: &Problem,
+    schedule: &Schedule,
+) -> Result<Shown, AllocError>
+    requires sound { IsSound situation.now }
+    requires problem { IsProblemOf situation.now problem.now }
+    requires answer { IsAnswerOf problem.now (Some schedule.now) }
+    ensures shown { IfOk result (λ shown. IsPlanShown situation.now (Some shown.seconds.items)) }
+    ensures plan { IfOk result (λ shown. shown.plan ≡ shown_plan situation.now shown.seconds.items) }
+{
+    problem_stands_for_situation();
+    let seconds = joined_seconds(alloc, situation, schedule)?;
+    let value = value_of(problem, schedule);
+    let plan = plan_of(alloc, situation, &seconds, value)?;
+    Ok(Shown { seconds, plan })
+}
+
+// What is shown for the planner's answer.
+fn shown_answer(
+    alloc: Global,
+    situation: &Situation,
+    problem: &Problem,
+    answer: &Option<Schedule>,
+) -> Result<Option<Shown>, AllocError>
+    requires sound { IsSound situation.now }
+    requires problem { IsProblemOf situation.now problem.now }
+    requires answer { IsAnswerOf problem.now answer.now }
+    ensures shown { IfOk result (λ shown. IsPlanShown situation.now (option_map (λ p. p.seconds.items) shown)) }
+    ensures plan { IfOk result (λ shown. option_map (λ p. p.plan) shown ≡ plan_shown (record { situation = situation.now; plan = option_map (λ p. p.seconds.items) shown })) }
+{
+    problem_stands_for_situation();
+    match answer {
+        None => Ok(None),
+        Some(schedule) => {
+            let shown = shown_schedule(alloc, situation, problem, schedule)?;
+            Ok(Some(shown))
+        }
+    }
+}
+
+impl<P: Planner> Sequencer<P> {
+    /// The plan that is shown. `None` exactly where no schedule is feasible in the situation.
+    pub fn plan(&self) -> Option<&Plan>
+        ensures plan { option_map (λ p. p.now) result ≡ plan_shown self.now.state }
+        ensures shown { IsPlanShown self.now.state.situation self.now.state.plan }
+    {
+        match &self.shown {
+            None => None,
+            Some(shown) => Some(&shown.plan),
+        }
+    }
+
+    /// The problem of the situation.
+    pub fn problem(&self) -> &Problem
+        ensures value { result.now ≡ self.now.problem }
+        ensures problem { IsProblemOf self.now.state.situation self.now.problem }
+        ensures sound { IsSoundState self.now.state }
+    {
+        &self.problem
+    }
+
+    /// The planner. After `begin` and after each accepted event it holds the problem.
+    pub fn planner(&self) -> &P
+        ensures { result.now ≡ self.now.planner }
+    {
+        &self.planner
+    }
+
+    /// What a plan makes least.
+    pub fn objective(&self) -> Objective
+        ensures { result ≡ self.now.state.situation.aerodrome.objective }
+    {
+        self.situation.fixed().objective
+    }
+
+    // Goes on by an accepted event: all is made beside what stands, and takes its place last.
+    fn advance<R: Threads + Sync, G: Gate + Sync, L: Ledger>(
+        &mut self,
+        rt: &R,
+        alloc: Global,
+        event: &Event,
+        gate: &G,
+        steps: &mut Steps<L>,
+    ) -> Result<(), AllocError>
+        requires good { IsGoodEvent (event_of event.now) }
+        requires accepted { refusal self.old.state.situation (event_of event.now) ≡ None }
+        ensures step { OnOk result (IsAcceptedStep self.old.state (event_of event.now) self.new.state) }
+        ensures holds { OnOk result (P.holds self.new.planner self.new.problem) }
+        ensures steps { OnOk result ((n : ℕ) × P.due self.old.planner self.new.problem n × (L.count steps.new ≡ raised_by n (L.count steps.old))) }
+        ensures unchanged { OnErr result (self.new.state ≡ self.old.state) }
+        ensures same_problem { OnErr result (self.new.problem ≡ self.old.problem) }
+    {
+        every_step_keeps_soundness();
+        let next = self.situation.after(seconds_of(&self.shown), event)?;
+        let problem = problem_of(alloc, &next)?;
+        let answer = self.planner.replan(rt, alloc, &problem, gate, steps)?;
+        let shown = shown_answer(alloc, &next, &problem, &answer)?;
+        self.situation = next;
+        self.shown = shown;
+        self.problem = problem;
+        Ok(())
+    }
+
+    /// Answers an event, and where it is accepted makes one step by it: the situation changes as the rules say, and a
+    /// plan that is best and tight there is shown, or none where there is none.
+    ///
+    /// It asks that the event's numbers are in their ranges. A refusal is the first whose condition holds, with its value.
+    /// After any refusal the situation, the plan and the problem are as they were; after one other than want of memory the
+    /// planner and the steps are too. Where the event is accepted, the steps rose by what was due.
+    pub fn apply<R: Threads + Sync, G: Gate + Sync, L: Ledger>(
+        &mut self,
+        rt: &R,
+        alloc: Global,
+        event: &Event,
+        gate: &G,
+        steps: &mut Steps<L>,
+    ) -> Result<(), Refusal>
+        requires { IsGoodEvent (event_of event.now) }
+        ensures accepted { OnOk result (Step self.old.state (event_of event.now) None self.new.state) }
+        ensures holds { OnOk result (P.holds self.new.planner self.new.problem) }
+        ensures steps { OnOk result ((n : ℕ) × P.due self.old.planner self.new.problem n × (L.count steps.new ≡ raised_by n (L.count steps.old))) }
+        ensures refused { IfErr result (λ fault. MatchOption (refusal_of fault) ⊤ (λ answer. Step self.old.state (event_of event.now) (Some answer) self.new.state)) }
+        ensures kept { IfErr result (λ fault. MatchOption (refusal_of fault) ⊤ (λ answer. (self.new ≡ self.old) × (steps.new ≡ steps.old))) }
+        ensures unchanged { OnErr result (self.new.state ≡ self.old.state) }
+        ensures same_problem { OnErr result (self.new.problem ≡ self.old.problem) }
+    {
+        if let Some(refusal) = self.situation.refusal(event) {
+            return Err(refusal);
+        }
+        match self.advance(rt, alloc, event, gate, steps) {
+            Ok(()) => Ok(()),
+            Err(_) => Err(Refusal::Memory),
+        }
+    }
+
+    // Begins with at most 60 flights.
+    fn open<R: Threads + Sync, G: Gate + Sync, L: Ledger>(
+        rt: &R,
+        alloc: Global,
+        aerodrome: &Aerodrome,
+        flights: &[Flight],
+        mut planner: P,
+        gate: &G,
+        steps: &mut Steps<L>,
+    ) -> Result<Sequencer<P>, AllocError>
+        requires can { CanOpen aerodrome.now flights.now }
+        requires few { length flights.now ≤ 60 }
+        requires same_k { aerodrome.now.k ≡ P.k planner }
+        ensures opening { IfOk result (λ s. s.state.situation ≡ opened aerodrome.now flights.now) }
+        ensures shown { IfOk result (λ s. IsPlanShown s.state.situation s.state.plan) }
+        ensures holds { IfOk result (λ s. P.holds s.planner s.problem) }
+        ensures steps { IfOk result (λ s. (n : ℕ) × P.due planner s.problem n × (L.count steps.new ≡ raised_by n (L.count steps.old))) }
+    {
+        let situation = Situation::opening(alloc, aerodrome, flights)?;
+        let problem = problem_of(alloc, &situation)?;
+        let answer = planner.replan(rt, alloc, &problem, gate, steps)?;
+        let shown = shown_answer(alloc, &situation, &problem, &answer)?;
+        Ok(Sequencer {
+            situation,
+            shown,
+            problem,
+            planner,
+        })
+    }
+
+    /// Begins with the situation that an aerodrome and its flights open, in which each flight waits, and with a plan that
+    /// is best and tight there, or none where there is none.
+    ///
+    /// It asks that there are at most 500 flights, with callsigns apart, that all numbers are in their ranges, and
+    /// that the planner's k is the aerodrome's. It refuses more than 60 flights, which it counts, and then the steps are as
+    /// they were; else there is no refusal but want of memory. The steps rose by what was due.
+    pub fn begin<R: Threads + Sync, G: Gate + Sync, L: Ledger>(
+        rt: &R,
+        alloc: Global,
+        aerodrome: Aerodrome,
+        flights: Vec<Flight>,
+        planner: P,
+        gate: &G,
+        steps: &mut Steps<L>,
+    ) -> Result<Sequencer<P>, BeginFault>
+        requires can { CanOpen aerodrome flights.items }
+        requires same_k { aerodrome.k ≡ P.k planner }
+        ensures opening { IfOk result (λ s. IsOpeningState (opening_of aerodrome) (map flight_of flights.items) s.state) }
+        ensures holds { IfOk result (λ s. P.holds s.planner s.problem) }
+        ensures steps { IfOk result (λ s. (n : ℕ) × P.due planner s.problem n × (L.count steps.new ≡ raised_by n (L.count steps.old))) }
+        ensures too_many { 60 < length flights.items → (result ≡ Err (BeginFault.TooManyWaiting (length flights.items))) × (steps.new ≡ steps.old) }
+        ensures fits { length flights.items ≤ 60 → IfErr result (λ fault. fault ≡ BeginFault.Memory) }
+    {
+        let count = flights.len();
+        if count > 60 {
+            return Err(BeginFault::TooManyWaiting(count as u32));
+        }
+        match Sequencer::open(
+            rt,
+            alloc,
+            &aerodrome,
+            flights.as_slice(),
+            planner,
+            gate,
+            steps,
+        ) {
+            Ok(sequencer) => Ok(sequencer),
+            Err(_) => Err(BeginFault::Memory),
+        }
+    }
+}
