@@ -1,0 +1,141 @@
+-- A replay goes on by one event, or stops there.
+use Rattle.std.proofs.Common.{◌≡◌, ℕ, zero, suc, ◌+◌, ◌<◌, ◌≤◌, List, [], ◌∷◌, ◌++◌, length, map, drop, get_or, drop-cons, add-one, Err, inl, inr, refl, sym, ap, subst, ◌∙◌, arith, append_assoc}
+use Rattle.std.proofs.lemmas.List.{append-nil, length-append}
+use Rattle.cps_outside.specs.SinkState.{SinkState}
+use Rattle.landing_rules.specs.Events.{State, Event, Step, Answered, Run}
+use Rattle.landing_rules.specs.Text.{Bytes, answer_text, answers_text, replay_text, begun_text}
+use Rattle.replays.proofs.Runs.{Run-push, answers_text-push, last_state-push}
+use Rattle.replays.specs.declared.stops.Stop.{Stop}
+use Rattle.replays.specs.declared.stops.Stop.TheVariants as stop
+use Rattle.replays.specs.Runs.{last_state, Wrote, WrotePart, Answers, StepWrites, Opens, RunTells, PartTells, EventsWrite, ReplayEnds}
+
+pub wrote_nothing : (old : SinkState) → Wrote old old []
+wrote_nothing old = record { tells = refl; faults = omega arith; grew = λ told. sym (append-nil old.written) }
+
+pub wrote_after : (old mid new : SinkState) (x y : Bytes) → Wrote old mid x → Wrote mid new y → Wrote old new (x ++ y)
+wrote_after old mid new x y a b = record {
+  tells = b.tells ∙ a.tells;
+  faults = omega (arith, a.faults, b.faults);
+  grew = λ told. b.grew (a.tells ∙ told) ∙ ap (λ (w : Bytes). w ++ y) (a.grew told) ∙ append_assoc old.written x y;
+}
+
+pub part_after : (old mid new : SinkState) (x y : Bytes) → Wrote old mid x → WrotePart mid new y → WrotePart old new (x ++ y)
+part_after old mid new x y a b = record {
+  tells = b.tells ∙ a.tells;
+  part = λ told. let p = b.part (a.tells ∙ told) in (
+    x ++ p.0,
+    p.1,
+    append_assoc x p.0 p.1 ∙ ap (λ (l : Bytes). x ++ l) p.2,
+    p.3 ∙ ap (λ (w : Bytes). w ++ p.0) (a.grew told) ∙ append_assoc old.written x p.0,
+  );
+  failed = omega (arith, a.faults, b.failed);
+}
+
+-- what was done of the events, and what is left
+pub record Done (old : State) (events : List Event) (from : SinkState) (i : ℕ) (state : State) (rest : List Event) (to : SinkState) : Type 0 where
+  pub done : List Event
+  pub split : done ++ rest ≡ events
+  pub answers : List Answered
+  pub run : Run old done answers
+  pub last : state ≡ last_state old answers
+  pub number : i ≡ 1 + length answers
+  pub written : Wrote from to (answers_text 1 answers)
+
+pub begins : (old : State) (events : List Event) (from : SinkState) → Done old events from 1 old events from
+begins old events from = record { done = []; split = refl; answers = []; run = tt; last = refl; number = omega arith; written = wrote_nothing from }
+
+-- the run with one more event
+longer : (old state new : State) (events : List Event) (from to : SinkState) (i : ℕ) (e : Event) (rest : List Event) (P : Bytes → Type 0) (d : Done old events from i state (e ∷ rest) to) (a : Answers state new i e P) →
+    Run old (d.done ++ e ∷ []) (d.answers ++ record { answer = a.answer; state = new } ∷ [])
+longer old state new events from to i e rest P d a =
+    let step : Step (last_state old d.answers) e a.answer new = subst (λ (s : State). Step s e a.answer new) d.last a.step in
+    Run-push old d.done d.answers e (record { answer = a.answer; state = new }) d.run step
+
+text_longer : (i : ℕ) (answers : List Answered) (a : Answered) → i ≡ 1 + length answers → answers_text 1 answers ++ answer_text i a.answer a.state ≡ answers_text 1 (answers ++ a ∷ [])
+text_longer i answers a e = ap (λ (n : ℕ). answers_text 1 answers ++ answer_text n a.answer a.state) e ∙ sym (answers_text-push 1 answers a)
+
+pub goes_on : (old state new : State) (events : List Event) (from to to2 : SinkState) (i : ℕ) (e : Event) (rest : List Event) →
+    Done old events from i state (e ∷ rest) to → Answers state new i e (Wrote to to2) → Done old events from (i + 1) new rest to2
+goes_on old state new events from to to2 i e rest d a =
+    let one : Answered = record { answer = a.answer; state = new } in
+    record {
+      done = d.done ++ e ∷ [];
+      split = append_assoc d.done (e ∷ []) rest ∙ d.split;
+      answers = d.answers ++ one ∷ [];
+      run = longer old state new events from to i e rest (Wrote to to2) d a;
+      last = sym (last_state-push old d.answers one);
+      number = omega (arith, d.number, length-append d.answers (one ∷ []));
+      written = subst (λ (t : Bytes). Wrote from to2 t) (text_longer i d.answers one d.number) (wrote_after from to to2 (answers_text 1 d.answers) (answer_text i a.answer new) d.written a.written);
+    }
+
+pub stops_unwritten : (old state new : State) (events : List Event) (from to to2 : SinkState) (i : ℕ) (e : Event) (rest : List Event) →
+    Done old events from i state (e ∷ rest) to → Answers state new i e (WrotePart to to2) → PartTells old events (λ answers. WrotePart from to2 (answers_text 1 answers))
+stops_unwritten old state new events from to to2 i e rest d a =
+    let one : Answered = record { answer = a.answer; state = new } in
+    record {
+      done = d.done ++ e ∷ [];
+      rest = rest;
+      split = append_assoc d.done (e ∷ []) rest ∙ d.split;
+      answers = d.answers ++ one ∷ [];
+      run = longer old state new events from to i e rest (WrotePart to to2) d a;
+      written = subst (λ (t : Bytes). WrotePart from to2 t) (text_longer i d.answers one d.number) (part_after from to to2 (answers_text 1 d.answers) (answer_text i a.answer new) d.written a.written);
+    }
+
+pub stops_short : (old state : State) (events : List Event) (from to : SinkState) (i : ℕ) (rest : List Event) →
+    Done old events from i state rest to → PartTells old events (λ answers. Wrote from to (answers_text 1 answers))
+stops_short old state events from to i rest d = record { done = d.done; rest = rest; split = d.split; answers = d.answers; run = d.run; written = d.written }
+
+pub ends : (old state : State) (events : List Event) (from to : SinkState) (i : ℕ) →
+    Done old events from i state [] to → RunTells old events state (λ answers. Wrote from to (answers_text 1 answers))
+ends old state events from to i d = record {
+  answers = d.answers;
+  run = subst (λ (es : List Event). Run old es d.answers) (sym (append-nil d.done) ∙ d.split) d.run;
+  last = d.last;
+  written = d.written;
+}
+
+pub stops : (s : Stop) (old state new : State) (events : List Event) (from to to2 : SinkState) (i : ℕ) (e : Event) (rest : List Event) →
+    Done old events from i state (e ∷ rest) to → StepWrites state new i e to to2 (Err s) → EventsWrite old new events from to2 (Err s)
+stops stop.NotWritten old state new events from to to2 i e rest d a = stops_unwritten old state new events from to to2 i e rest d a
+stops stop.NoMemory old state new events from to to2 i e rest d a =
+    subst (λ (x : SinkState). PartTells old events (λ answers. Wrote from x (answers_text 1 answers))) (sym a) (stops_short old state events from to i (e ∷ rest) d)
+
+-- ---- with the opening's text before
+
+pub whole_after : (old new : State) (events : List Event) (from mid to : SinkState) → Wrote from mid (begun_text old) →
+    RunTells old events new (λ answers. Wrote mid to (answers_text 1 answers)) → RunTells old events new (λ answers. Wrote from to (replay_text old answers))
+whole_after old new events from mid to a r = record { answers = r.answers; run = r.run; last = r.last; written = wrote_after from mid to (begun_text old) (answers_text 1 r.answers) a r.written }
+
+pub unwritten_after : (old : State) (events : List Event) (from mid to : SinkState) → Wrote from mid (begun_text old) →
+    PartTells old events (λ answers. WrotePart mid to (answers_text 1 answers)) → PartTells old events (λ answers. WrotePart from to (replay_text old answers))
+unwritten_after old events from mid to a r = record { done = r.done; rest = r.rest; split = r.split; answers = r.answers; run = r.run; written = part_after from mid to (begun_text old) (answers_text 1 r.answers) a r.written }
+
+pub short_after : (old : State) (events : List Event) (from mid to : SinkState) → Wrote from mid (begun_text old) →
+    PartTells old events (λ answers. Wrote mid to (answers_text 1 answers)) → PartTells old events (λ answers. Wrote from to (replay_text old answers))
+short_after old events from mid to a r = record { done = r.done; rest = r.rest; split = r.split; answers = r.answers; run = r.run; written = wrote_after from mid to (begun_text old) (answers_text 1 r.answers) a r.written }
+
+-- the opening's text was not written whole
+pub unwritten_at_once : (old : State) (events : List Event) (from to : SinkState) → WrotePart from to (begun_text old) → PartTells old events (λ answers. WrotePart from to (replay_text old answers))
+unwritten_at_once old events from to a = record { done = []; rest = events; split = refl; answers = []; run = tt; written = subst (λ (t : Bytes). WrotePart from to t) (sym (append-nil (begun_text old))) a }
+
+-- the opening plan was not written
+pub stops_at_once : (s : Stop) (old new : State) (events : List Event) (from to : SinkState) → Opens old from to (Err s) → ReplayEnds old new events from to (Err s)
+stops_at_once stop.NotWritten old new events from to a = unwritten_at_once old events from to a
+stops_at_once stop.NoMemory old new events from to a = inl a
+
+-- it was, and an event's answer was not
+pub stops_after : (s : Stop) (old new : State) (events : List Event) (from mid to : SinkState) → Wrote from mid (begun_text old) →
+    EventsWrite old new events mid to (Err s) → ReplayEnds old new events from to (Err s)
+stops_after stop.NotWritten old new events from mid to a r = unwritten_after old events from mid to a r
+stops_after stop.NoMemory old new events from mid to a r = inr (short_after old events from mid to a r)
+
+-- ---- events by their place
+
+pub event_at : {X : Type 0} (f : X → Event) (xs : List X) (i : ℕ) (x : X) → i < length xs → x ≡ get_or xs i x → map f (drop i xs) ≡ f x ∷ map f (drop (i + 1) xs)
+event_at f xs i x h e = rw (add-one, drop-cons xs i x) (ap (λ (y : _). f y ∷ map f (drop (suc i) xs)) (sym e))
+
+pub none_left : {X : Type 0} (f : X → Event) (xs : List X) (i : ℕ) → length xs ≤ i → map f (drop i xs) ≡ []
+none_left f [] zero h = refl
+none_left f [] (suc i) h = refl
+none_left f (x ∷ xs) zero h = absurd (omega arith)
+none_left f (x ∷ xs) (suc i) h = none_left f xs i (omega arith)

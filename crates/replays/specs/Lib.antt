@@ -1,0 +1,2 @@
+-- What a replay writes.
+pub mod Runs

@@ -1,0 +1,9 @@
+//! The replay of an event log: one step of the rules and one put for each event.
+#![tactic(auto)]
+
+mod over_events;
+mod stops;
+mod texts;
+
+pub use over_events::replay;
+pub use stops::Stop;
