@@ -1,0 +1,225 @@
+-- What is printed reads back.
+use Rattle.std.proofs.Common.{◌≡◌, ℕ, zero, suc, ◌<◌, ◌≤◌, ◌^◌, Bool, true, false, cond, ltb, leb, eqb, not, ◌&&◌, ◌||◌, ◌⊎◌, List, [], ◌∷◌, ◌++◌, length, get_or, map, Some, None, Ok, Err, refl, ap, subst, ◌∙◌, arith, inl, inr}
+use Rattle.std.specs.Prelude.{◌==◌, All, codes, decimal}
+use Rattle.std.specs.List.{list_all}
+use Rattle.std.specs.Char.{is_ascii_digit}
+use Rattle.std.specs.Str.Parse.{digits_value}
+use Rattle.std.specs.Str.Parse.{AllDigits}
+use Rattle.std.proofs.lemmas.Str.Parse.{digit_at}
+use Rattle.std.proofs.lemmas.Grind.{get_or_default_zero}
+use Rattle.std.proofs.lemmas.Bool.{le-leb, leb-true, le-ltb, lt-ltb, ne_eqb, or_right}
+use Rattle.cps_base.specs.declared.number.NumberFault.TheVariants.{NotNumber, Below, Above}
+use Rattle.std.proofs.lemmas.Fmt.{decimal_is_IsNumeral, decimal_digit, first_decimal}
+use Rattle.std.proofs.lemmas.List.Splits.{slice_split_at, slice_split_none}
+use Rattle.cps_base.specs.Number.{number_within, is_number}
+use Rattle.std.proofs.lemmas.List.Elements.{All-append, All-cons}
+use Rattle.std.proofs.lemmas.List.{length-map, append-nil}
+use Rattle.cps_base.specs.Text.{is_callsign, is_callsign_byte}
+use Rattle.certificate.specs.declared.certificate.Claim.{Claim}
+use Rattle.certificate.specs.declared.certificate.Claim.TheVariants.{Optimal, Infeasible}
+use Rattle.certificate.specs.Reading.{IsClaim}
+use Rattle.certificate.specs.Patterns.{is_pattern_length}
+use Rattle.certificate.specs.States.{Pair, State, IsState, is_pair}
+use Rattle.certificate.specs.Lines.{number_in, ok_of, is_digit, is_mark, are_marks, pattern_in, pair_in, pair_by, pairs_in, state_in, state_by, state_from, landing_in, landing_by, claim_in, claim_by, parts}
+use Rattle.certificate.specs.Spelling.{digit_text, pattern_text, pair_text, pairs_text, state_text, landing_text, claim_text}
+
+-- a text without the mark
+abbrev pub Lacks : ℕ → List ℕ → Type 0
+Lacks mark text = All (λ b. (b == mark) ≡ false) text
+
+pub cut : (mark : ℕ) (a b : List ℕ) → Lacks mark a → (mark == mark) ≡ true → parts mark (a ++ mark ∷ b) ≡ a ∷ parts mark b
+cut mark a b h e = slice_split_at (λ x. x == mark) a mark b h e
+
+pub uncut : (mark : ℕ) (a : List ℕ) → Lacks mark a → parts mark a ≡ a ∷ []
+uncut mark a h = slice_split_none (λ x. x == mark) a h
+
+pub and_true : (a b : Bool) → a && b ≡ true → (a ≡ true) × (b ≡ true)
+and_true true b e = (refl, e)
+and_true false b e = absurd (cc)
+
+and_is : (a b : Bool) → a ≡ true → b ≡ true → a && b ≡ true
+and_is a b p q = rw (p, q) refl
+
+-- ---- numbers
+
+all_digits : (ds : List ℕ) → AllDigits 10 ds → list_all is_ascii_digit ds ≡ true
+all_digits [] h = refl
+all_digits (d ∷ ds) h =
+    let r = digit_at (d ∷ ds) 0 h (omega arith) in
+    let here : is_ascii_digit d ≡ true = rw (le-leb 48 d r.0, le-leb d 57 r.1) refl in
+    rw here (all_digits ds h.1)
+
+is_numeral : (n : ℕ) → n < 2 ^ 64 → is_number (decimal n) ≡ true
+is_numeral n fits =
+    let d = decimal_is_IsNumeral n fits in
+    let some = lt-ltb 0 (length (decimal n)) d.0.0 in
+    let all = all_digits (decimal n) d.0.1 in
+    let one : eqb (length (decimal n)) 1 || not (eqb (get_or (decimal n) 0 0) 48) ≡ true = go n fits in
+    and_is _ _ (and_is _ _ some one) all
+  where
+    go : (n : ℕ) → n < 2 ^ 64 → eqb (length (decimal n)) 1 || not (eqb (get_or (decimal n) 0 0) 48) ≡ true
+    go zero fits = ap (λ (ds : List ℕ). eqb (length ds) 1 || not (eqb (get_or ds 0 0) 48)) (decimal_digit 0 (omega arith))
+    go (suc n) fits =
+        let f = first_decimal (suc n) (omega arith) fits in
+        or_right (eqb (length (decimal (suc n))) 1) (not (eqb (get_or (decimal (suc n)) 0 0) 48)) (ap not (ne_eqb (get_or (decimal (suc n)) 0 0) 48 (λ e. omega arith)))
+
+pub decimal_reads : (n least most : ℕ) → n < 2 ^ 64 → least ≤ n → n ≤ most → number_in (decimal n) least most ≡ Some n
+unfolding number_in number_within
+decimal_reads n least most fits low high =
+    let same = (decimal_is_IsNumeral n fits).1 in
+    go (is_number (decimal n)) (digits_value 10 (decimal n)) (is_numeral n fits) same
+  where
+    go : (a : Bool) (v : ℕ) → a ≡ true → v ≡ n → ok_of (cond (not a) (Err NotNumber) (cond (ltb v least) (Err Below) (cond (ltb most v) (Err Above) (Ok v)))) ≡ Some n
+    go a v p q = rw (p, q, le-ltb n least low, le-ltb most n high) refl
+
+pub decimal_lacks : (n mark : ℕ) → n < 2 ^ 64 → (mark < 48) ⊎ (57 < mark) → Lacks mark (decimal n)
+decimal_lacks n mark fits out =
+    let d = decimal_is_IsNumeral n fits in
+    λ k x lt. let r = digit_at (decimal n) k d.0.1 lt in let e = get_or_default (decimal n) k x lt in ne_eqb (get_or (decimal n) k x) mark (λ same. elim out [ inl a ↦ omega (arith, r.0, r.1) | inr a ↦ omega (arith, r.0, r.1) ])
+  where
+    get_or_default : (xs : List ℕ) (k x : ℕ) → k < length xs → get_or xs k x ≡ get_or xs k 0
+    get_or_default xs k x lt = get_or_default_zero xs k x lt
+
+-- ---- pairs
+
+pub pair_reads : (p : Pair) → p.0 ≤ 172799 → p.1 ≤ 4294967295 → pair_in (pair_text p) ≡ Some p
+unfolding pair_in
+pair_reads p a b =
+    let fits0 : p.0 < 2 ^ 64 = omega arith in
+    let fits1 : p.1 < 2 ^ 64 = omega arith in
+    let first = cut 58 (decimal p.0) (decimal p.1) (decimal_lacks p.0 58 fits0 (inr (omega arith))) refl in
+    let second = uncut 58 (decimal p.1) (decimal_lacks p.1 58 fits1 (inr (omega arith))) in
+    let fields : parts 58 (pair_text p) ≡ decimal p.0 ∷ decimal p.1 ∷ [] = first ∙ ap (λ (ps : List (List ℕ)). decimal p.0 ∷ ps) second in
+    ap pair_by fields ∙ rw (decimal_reads p.0 0 172799 fits0 (omega arith) a, decimal_reads p.1 0 4294967295 fits1 (omega arith) b) refl
+
+-- ---- a line of fields
+
+pub pair_lacks : (p : Pair) → p.0 ≤ 172799 → p.1 ≤ 4294967295 → Lacks 32 (pair_text p)
+pair_lacks p a b =
+    let fits0 : p.0 < 2 ^ 64 = omega arith in
+    let fits1 : p.1 < 2 ^ 64 = omega arith in
+    let test : ℕ → Type 0 = λ b. (b == 32) ≡ false in
+    All-append test (decimal p.0) (58 ∷ decimal p.1) (decimal_lacks p.0 32 fits0 (inl (omega arith))) (All-cons test 58 (decimal p.1) refl (decimal_lacks p.1 32 fits1 (inl (omega arith))))
+
+-- by a test that computes
+pub lacks_by : (mark : ℕ) (a : List ℕ) → list_all (λ b. not (b == mark)) a ≡ true → Lacks mark a
+lacks_by mark [] e = λ k d lt. absurd (omega arith)
+lacks_by mark (x ∷ a) e =
+    let h = and_true (not (x == mark)) (list_all (λ b. not (b == mark)) a) e in
+    All-cons (λ b. (b == mark) ≡ false) x a (flip (x == mark) h.0) (lacks_by mark a h.1)
+  where
+    flip : (b : Bool) → not b ≡ true → b ≡ false
+    flip true e = absurd (cc)
+    flip false e = refl
+
+abbrev pub ArePairs : List Pair → Type 0
+ArePairs [] = Unit {0}
+ArePairs (p ∷ ps) = (p.0 ≤ 172799) × (p.1 ≤ 4294967295) × ArePairs ps
+
+pub fields_of : (a : List ℕ) (ps : List Pair) → Lacks 32 a → ArePairs ps → parts 32 (a ++ pairs_text ps) ≡ a ∷ map pair_text ps
+fields_of a [] h k = ap (parts 32) (append-nil a) ∙ uncut 32 a h
+fields_of a (p ∷ ps) h k = cut 32 a (pair_text p ++ pairs_text ps) h refl ∙ ap (λ (xs : List (List ℕ)). a ∷ xs) (fields_of (pair_text p) ps (pair_lacks p k.0 k.1) k.2)
+
+pub pairs_read : (ps : List Pair) → ArePairs ps → pairs_in (map pair_text ps) ≡ Some ps
+unfolding pairs_in
+pairs_read [] k = refl
+pairs_read (p ∷ ps) k = rw (pair_reads p k.0 k.1, pairs_read ps k.2) refl
+
+-- ---- patterns
+
+digit_back : (ds : List Bool) → map is_digit (map digit_text ds) ≡ ds
+digit_back [] = refl
+digit_back (true ∷ ds) = ap (λ (xs : List Bool). true ∷ xs) (digit_back ds)
+digit_back (false ∷ ds) = ap (λ (xs : List Bool). false ∷ xs) (digit_back ds)
+
+all_marks : (ds : List Bool) → list_all is_mark (map digit_text ds) ≡ true
+all_marks [] = refl
+all_marks (true ∷ ds) = all_marks ds
+all_marks (false ∷ ds) = all_marks ds
+
+no_blank : (ds : List Bool) → list_all (λ b. not (b == 32)) (map digit_text ds) ≡ true
+no_blank [] = refl
+no_blank (true ∷ ds) = no_blank ds
+no_blank (false ∷ ds) = no_blank ds
+
+marks_are : (d : Bool) (ds : List Bool) → is_pattern_length (length (d ∷ ds)) ≡ true → are_marks (map digit_text (d ∷ ds)) ≡ true
+marks_are d ds size =
+    let len = length-map (d ∷ ds) digit_text in
+    and_is _ _ (and_is _ _ (lt-ltb 0 (length (map digit_text (d ∷ ds))) (omega (arith, len))) (ap is_pattern_length len ∙ size)) (all_marks (d ∷ ds))
+
+pub pattern_reads : (ds : List Bool) → is_pattern_length (length ds) ≡ true → pattern_in (pattern_text ds) ≡ Some ds
+unfolding pattern_in
+pattern_reads [] size = refl
+pattern_reads (true ∷ ds) size = let m = marks_are true ds size in rw (m, digit_back ds) refl
+pattern_reads (false ∷ ds) size = let m = marks_are false ds size in rw (m, digit_back ds) refl
+
+pattern_lacks : (ds : List Bool) → Lacks 32 (pattern_text ds)
+pattern_lacks [] = lacks_by 32 (codes "-") refl
+pattern_lacks (d ∷ ds) = lacks_by 32 (map digit_text (d ∷ ds)) (no_blank (d ∷ ds))
+
+-- ---- states
+
+pub in_ranges : (ps : List Pair) → list_all is_pair ps ≡ true → ArePairs ps
+in_ranges [] e = tt
+in_ranges (p ∷ ps) e =
+    let h = and_true (is_pair p) (list_all is_pair ps) e in
+    let r = and_true (leb p.0 172799) (leb p.1 4294967295) h.0 in
+    (leb-true p.0 172799 r.0, leb-true p.1 4294967295 r.1, in_ranges ps h.1)
+
+state_fields : (s : State) → IsState s → parts 32 (state_text s) ≡ codes "state" ∷ decimal s.stage ∷ pattern_text s.pattern ∷ decimal s.last ∷ map pair_text s.pairs
+state_fields s h =
+    let stage_fits : s.stage < 2 ^ 64 = let x = h.stage.1 in omega arith in
+    let last_fits : s.last < 2 ^ 64 = let x = h.last.1 in omega arith in
+    let word = cut 32 (codes "state") (decimal s.stage ++ 32 ∷ (pattern_text s.pattern ++ 32 ∷ (decimal s.last ++ pairs_text s.pairs))) (lacks_by 32 (codes "state") refl) refl in
+    let stage = cut 32 (decimal s.stage) (pattern_text s.pattern ++ 32 ∷ (decimal s.last ++ pairs_text s.pairs)) (decimal_lacks s.stage 32 stage_fits (inl (omega arith))) refl in
+    let pattern = cut 32 (pattern_text s.pattern) (decimal s.last ++ pairs_text s.pairs) (pattern_lacks s.pattern) refl in
+    let last = fields_of (decimal s.last) s.pairs (decimal_lacks s.last 32 last_fits (inl (omega arith))) (in_ranges s.pairs h.pairs) in
+    let behind : List ℕ → List (List ℕ) → List (List ℕ) = λ x xs. x ∷ xs in
+    word ∙ ap (behind (codes "state")) (stage ∙ ap (behind (decimal s.stage)) (pattern ∙ ap (behind (pattern_text s.pattern)) last))
+
+-- a state that is printed reads back
+pub state_reads : (s : State) → IsState s → state_in (state_text s) ≡ Some s
+unfolding state_in state_by state_from
+state_reads s h =
+    let stage_fits : s.stage < 2 ^ 64 = let x = h.stage.1 in omega arith in
+    let last_fits : s.last < 2 ^ 64 = let x = h.last.1 in omega arith in
+    let some = lt-ltb 0 (length s.pairs) (let x = h.some_pairs in omega arith) in
+    let good = and_is _ _ some h.rising in
+    ap state_by (state_fields s h) ∙ rw (decimal_reads s.stage 1 60 stage_fits h.stage.0 h.stage.1, pattern_reads s.pattern h.pattern, decimal_reads s.last 1 60 last_fits h.last.0 h.last.1, pairs_read s.pairs (in_ranges s.pairs h.pairs)) (rw good refl)
+
+-- ---- landings and claims
+
+callsign_lacks : (text : List ℕ) → is_callsign text ≡ true → Lacks 32 text
+callsign_lacks text e = go text (and_true _ (list_all is_callsign_byte text) e).1
+  where
+    go : (text : List ℕ) → list_all is_callsign_byte text ≡ true → Lacks 32 text
+    go [] e = λ k d lt. absurd (omega arith)
+    go (b ∷ text) e =
+        let h = and_true (is_callsign_byte b) (list_all is_callsign_byte text) e in
+        All-cons (λ x. (x == 32) ≡ false) b text (ne_eqb b 32 (λ same. let x : is_callsign_byte 32 ≡ true = subst (λ (y : ℕ). is_callsign_byte y ≡ true) same h.0 in cc)) (go text h.1)
+
+landing_fields : (l : List ℕ × ℕ) → is_callsign l.0 ≡ true → l.1 ≤ 172799 → parts 32 (landing_text l) ≡ codes "land" ∷ l.0 ∷ decimal l.1 ∷ []
+landing_fields l c t =
+    let fits : l.1 < 2 ^ 64 = omega arith in
+    let behind : List ℕ → List (List ℕ) → List (List ℕ) = λ x xs. x ∷ xs in
+    cut 32 (codes "land") (l.0 ++ 32 ∷ decimal l.1) (lacks_by 32 (codes "land") refl) refl ∙ ap (behind (codes "land")) (cut 32 l.0 (decimal l.1) (callsign_lacks l.0 c) refl ∙ ap (behind l.0) (uncut 32 (decimal l.1) (decimal_lacks l.1 32 fits (inl (omega arith)))))
+
+-- a landing that is printed reads back, and is no state
+pub landing_reads : (l : List ℕ × ℕ) → is_callsign l.0 ≡ true → l.1 ≤ 172799 → landing_in (landing_text l) ≡ Some l
+unfolding landing_in landing_by
+landing_reads l c t =
+    let fits : l.1 < 2 ^ 64 = omega arith in
+    ap landing_by (landing_fields l c t) ∙ rw (c, decimal_reads l.1 0 172799 fits (omega arith) t) refl
+
+pub landing_no_state : (l : List ℕ × ℕ) → is_callsign l.0 ≡ true → l.1 ≤ 172799 → state_in (landing_text l) ≡ None
+unfolding state_in state_by
+landing_no_state l c t = ap state_by (landing_fields l c t)
+
+pub claim_reads : (c : Claim) → IsClaim c → claim_in (claim_text c) ≡ Some c
+unfolding claim_in claim_by
+claim_reads Infeasible h = ap claim_by (cut 32 (codes "claim") (codes "infeasible") (lacks_by 32 (codes "claim") refl) refl ∙ ap (λ (xs : List (List ℕ)). codes "claim" ∷ xs) (uncut 32 (codes "infeasible") (lacks_by 32 (codes "infeasible") refl)))
+claim_reads (Optimal v) h =
+    let fits : v < 2 ^ 64 = omega arith in
+    let behind : List ℕ → List (List ℕ) → List (List ℕ) = λ x xs. x ∷ xs in
+    ap claim_by (cut 32 (codes "claim") (codes "optimal" ++ 32 ∷ decimal v) (lacks_by 32 (codes "claim") refl) refl ∙ ap (behind (codes "claim")) (cut 32 (codes "optimal") (decimal v) (lacks_by 32 (codes "optimal") refl) refl ∙ ap (behind (codes "optimal")) (uncut 32 (decimal v) (decimal_lacks v 32 fits (inl (omega arith))))))
+    ∙ rw (decimal_reads v 0 8639950000 fits (omega arith) h) refl

@@ -1,0 +1,10 @@
+pub mod Again
+pub mod AsRead
+pub mod Fronts
+pub mod Many
+pub mod Parts
+pub mod Steps
+pub mod Text
+pub mod Valid
+pub mod Whole
+pub mod WholeAsRead

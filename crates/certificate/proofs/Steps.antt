@@ -1,0 +1,28 @@
+-- One more line of the text, and a line at which it fails.
+use Rattle.std.proofs.Common.{◌≡◌, ℕ, ◌+◌, ◌<◌, length, arith, List, [], ◌∷◌, Result, Ok, Err, refl}
+use Rattle.certificate.specs.declared.certificate.Claim.{Claim}
+use Rattle.certificate.specs.declared.fault.CertFault.{CertFault}
+use Rattle.certificate.specs.declared.fault.CertFault.TheVariants as fault
+use Rattle.certificate.specs.Reading.{Cert, Body, line_in, lines_in, Fails}
+
+pub line_more : (n : ℕ) (c : Claim) (b b' : Body) (line next : List ℕ) (rest : List (List ℕ)) → line_in n b line ≡ Ok b' → lines_in n c b line (next ∷ rest) ≡ lines_in (n + 1) c b' next rest
+unfolding lines_in
+line_more n c b b' line next rest e = rw e refl
+
+pub line_stop : (n : ℕ) (c : Claim) (b : Body) (line : List ℕ) (e : CertFault) (rest : List (List ℕ)) (next : List ℕ) → line_in n b line ≡ Err e → lines_in n c b line (next ∷ rest) ≡ Err e
+unfolding lines_in
+line_stop n c b line e rest next h = rw h refl
+
+pub line_stop_all : (n : ℕ) (c : Claim) (b : Body) (line : List ℕ) (e : CertFault) (rest : List (List ℕ)) → 0 < length rest → line_in n b line ≡ Err e → lines_in n c b line rest ≡ Err e
+line_stop_all n c b line e [] some h = absurd (omega (arith, some))
+line_stop_all n c b line e (next ∷ rest) some h = line_stop n c b line e rest next h
+
+pub line_end : (n : ℕ) (c : Claim) (b : Body) (line : List ℕ) → length line ≡ 0 → lines_in n c b line [] ≡ Ok (record { claim = c; landings = b.0; states = b.1 })
+unfolding lines_in
+line_end n c b line e = rw e refl
+
+-- a line that fails, fails the whole
+pub fails_too : (e : CertFault) (line : Result Body CertFault) (whole : Result Cert CertFault) → Fails e line → (line ≡ Err e → whole ≡ Err e) → Fails e whole
+fails_too fault.Memory line whole f h = tt
+fails_too (fault.Line n) line whole f h = h f
+fails_too (fault.Order n) line whole f h = h f

@@ -1,0 +1,91 @@
+-- The text of a certificate is cut into its lines, and reads back.
+use Rattle.std.proofs.Common.{◌≡◌, ℕ, ◌<◌, ◌≤◌, ◌^◌, Bool, true, false, not, List, [], ◌∷◌, ◌++◌, map, Option, Ok, refl, ap, subst, ◌∙◌, arith, inl, append_assoc}
+use Rattle.std.specs.Prelude.{◌==◌, codes, decimal}
+use Rattle.std.specs.List.{list_all}
+use Rattle.std.proofs.lemmas.Bool.{ne_eqb}
+use Rattle.std.proofs.lemmas.List.Elements.{All-append, All-cons}
+use Rattle.cps_base.specs.Text.{is_callsign, is_callsign_byte}
+use Rattle.certificate.specs.declared.certificate.Claim.{Claim}
+use Rattle.certificate.specs.declared.certificate.Claim.TheVariants.{Optimal, Infeasible}
+use Rattle.certificate.specs.States.{Pair, State, IsState, AreStates}
+use Rattle.certificate.specs.Lines.{parts}
+use Rattle.certificate.specs.Reading.{Cert, IsClaim, AreLandings, IsCertificate, claim_behind, body_behind, body_lines, certificate_by, certificate_of}
+use Rattle.certificate.specs.Spelling.{digit_text, pattern_text, pair_text, pairs_text, state_text, landing_text, claim_text, landing_lines, state_lines, text_of}
+use Rattle.certificate.proofs.Again.{Lacks, cut, lacks_by, and_true, in_ranges, ArePairs, decimal_lacks, claim_reads}
+use Rattle.certificate.proofs.Whole.{lines_all, body_back}
+
+abbrev test : ℕ → Type 0
+test b = (b == 10) ≡ false
+
+number : (n : ℕ) → n < 2 ^ 64 → Lacks 10 (decimal n)
+number n h = decimal_lacks n 10 h (inl (omega arith))
+
+-- two texts round another byte
+join : (m : ℕ) (a b : List ℕ) → test m → Lacks 10 a → Lacks 10 b → Lacks 10 (a ++ m ∷ b)
+join m a b e h k = All-append test a (m ∷ b) h (All-cons test m b e k)
+
+pair : (p : Pair) → p.0 ≤ 172799 → p.1 ≤ 4294967295 → Lacks 10 (pair_text p)
+pair p a b = join 58 (decimal p.0) (decimal p.1) refl (number p.0 (omega arith)) (number p.1 (omega arith))
+
+pairs : (ps : List Pair) → ArePairs ps → Lacks 10 (pairs_text ps)
+pairs [] k = λ i d lt. absurd (omega arith)
+pairs (p ∷ ps) k = All-cons test 32 (pair_text p ++ pairs_text ps) refl (All-append test (pair_text p) (pairs_text ps) (pair p k.0 k.1) (pairs ps k.2))
+
+no_end : (ds : List Bool) → list_all (λ b. not (b == 10)) (map digit_text ds) ≡ true
+no_end [] = refl
+no_end (true ∷ ds) = no_end ds
+no_end (false ∷ ds) = no_end ds
+
+pattern_line : (ds : List Bool) → Lacks 10 (pattern_text ds)
+pattern_line [] = lacks_by 10 (codes "-") refl
+pattern_line (d ∷ ds) = lacks_by 10 (map digit_text (d ∷ ds)) (no_end (d ∷ ds))
+
+state_lacks : (s : State) → IsState s → Lacks 10 (state_text s)
+state_lacks s h =
+    let a : s.stage < 2 ^ 64 = let x = h.stage.1 in omega arith in
+    let b : s.last < 2 ^ 64 = let x = h.last.1 in omega arith in
+    join 32 (codes "state") (decimal s.stage ++ 32 ∷ (pattern_text s.pattern ++ 32 ∷ (decimal s.last ++ pairs_text s.pairs))) refl (lacks_by 10 (codes "state") refl)
+    (join 32 (decimal s.stage) (pattern_text s.pattern ++ 32 ∷ (decimal s.last ++ pairs_text s.pairs)) refl (number s.stage a)
+    (join 32 (pattern_text s.pattern) (decimal s.last ++ pairs_text s.pairs) refl (pattern_line s.pattern)
+    (All-append test (decimal s.last) (pairs_text s.pairs) (number s.last b) (pairs s.pairs (in_ranges s.pairs h.pairs)))))
+
+callsign : (text : List ℕ) → list_all is_callsign_byte text ≡ true → Lacks 10 text
+callsign [] e = λ k d lt. absurd (omega arith)
+callsign (b ∷ text) e =
+    let h = and_true (is_callsign_byte b) (list_all is_callsign_byte text) e in
+    All-cons test b text (ne_eqb b 10 (λ same. let x : is_callsign_byte 10 ≡ true = subst (λ (y : ℕ). is_callsign_byte y ≡ true) same h.0 in cc)) (callsign text h.1)
+
+landing_lacks : (l : List ℕ × ℕ) → is_callsign l.0 ≡ true → l.1 ≤ 172799 → Lacks 10 (landing_text l)
+landing_lacks l c t = join 32 (codes "land") (l.0 ++ 32 ∷ decimal l.1) refl (lacks_by 10 (codes "land") refl) (join 32 l.0 (decimal l.1) refl (callsign l.0 (and_true _ (list_all is_callsign_byte l.0) c).1) (number l.1 (omega arith)))
+
+claim_lacks : (c : Claim) → IsClaim c → Lacks 10 (claim_text c)
+claim_lacks Infeasible h = lacks_by 10 (codes "claim infeasible") refl
+claim_lacks (Optimal v) h = join 32 (codes "claim") (codes "optimal" ++ 32 ∷ decimal v) refl (lacks_by 10 (codes "claim") refl) (join 32 (codes "optimal") (decimal v) refl (lacks_by 10 (codes "optimal") refl) (number v (omega arith)))
+
+state_parts : (ss : List State) → AreStates ss → parts 10 (state_lines ss) ≡ map state_text ss ++ [] ∷ []
+state_parts [] h = refl
+state_parts (s ∷ ss) h = cut 10 (state_text s) (state_lines ss) (state_lacks s h.0) refl ∙ ap (λ (xs : List (List ℕ)). state_text s ∷ xs) (state_parts ss h.1)
+
+body_parts : (ls : List (List ℕ × ℕ)) (ss : List State) → AreLandings ls → AreStates ss → parts 10 (landing_lines ls ++ state_lines ss) ≡ map landing_text ls ++ (map state_text ss ++ [] ∷ [])
+body_parts [] ss hl h = state_parts ss h
+body_parts (l ∷ ls) ss hl h =
+    ap (parts 10) (append_assoc (landing_text l) (10 ∷ landing_lines ls) (state_lines ss))
+    ∙ cut 10 (landing_text l) (landing_lines ls ++ state_lines ss) (landing_lacks l hl.0 hl.1) refl
+    ∙ ap (λ (xs : List (List ℕ)). landing_text l ∷ xs) (body_parts ls ss hl.2 h)
+
+as_lines : (c : Claim) (ls : List (List ℕ × ℕ)) (ss : List State) (x : Cert) → lines_all 3 c ([], []) (map landing_text ls ++ (map state_text ss ++ [] ∷ [])) ≡ Ok x → body_lines c (map landing_text ls ++ (map state_text ss ++ [] ∷ [])) ≡ Ok x
+as_lines c [] [] x e = e
+as_lines c [] (s ∷ ss) x e = e
+as_lines c (l ∷ ls) ss x e = e
+
+-- reading what is printed gives the certificate again
+pub reads_back : (c : Cert) → IsCertificate c → certificate_of (text_of c) ≡ Ok c
+unfolding certificate_of certificate_by
+reads_back c h =
+    let body = landing_lines c.landings ++ state_lines c.states in
+    let lines = map landing_text c.landings ++ (map state_text c.states ++ [] ∷ []) in
+    let head = cut 10 (codes "certificate 1") (claim_text c.claim ++ 10 ∷ body) (lacks_by 10 (codes "certificate 1") refl) refl in
+    let second = cut 10 (claim_text c.claim) body (claim_lacks c.claim h.claim) refl in
+    let rest = body_parts c.landings c.states h.landings h.states in
+    let last : body_lines c.claim lines ≡ Ok c = as_lines c.claim c.landings c.states c (body_back 3 c.claim [] c.landings c.states h.landings h.states h.ascending) in
+    ap certificate_by head ∙ ap claim_behind (second ∙ ap (λ (xs : List (List ℕ)). claim_text c.claim ∷ xs) rest) ∙ ap (λ (o : Option Claim). body_behind o lines) (claim_reads c.claim h.claim) ∙ last

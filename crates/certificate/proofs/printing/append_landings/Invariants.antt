@@ -1,0 +1,10 @@
+-- What stands so far and what is to come are the text.
+use Rattle.std.proofs.Common.{◌≡◌, ◌++◌, length}
+use Rattle.certificate.specs.Spelling.{landing_lines}
+use Rattle.certificate.proofs.printing.append_landings.Given as goal
+
+abbrev pub invariant-loop-rest : goal.invariant-loop-rest
+invariant-loop-rest l = l.into.items ++ landing_lines l.rest ≡ l.fn.into.items ++ landing_lines l.fn.landings
+
+abbrev pub decreases-loop-rest : goal.decreases-loop-rest
+decreases-loop-rest l = length l.rest

@@ -1,0 +1,6 @@
+pub mod Patterns
+pub mod PatternOrder
+pub mod States
+pub mod Lines
+pub mod Reading
+pub mod Spelling

@@ -1,0 +1,93 @@
+-- What one line of a certificate is.
+use Rattle.std.specs.Prelude.{ℕ, List, [], ◌∷◌, ◌&&◌, ◌||◌, ◌==◌, nat_lt, map, Bool, length, codes, bytes_eq, Option, Some, None, option_and_then, option_map, Result, Ok, Err, if◌then◌else◌}
+use Rattle.std.specs.List.{slice_split, list_all}
+use Rattle.cps_base.specs.Text.{is_callsign}
+use Rattle.cps_base.specs.Number.{number_within}
+use Rattle.cps_base.specs.declared.number.NumberFault.{NumberFault}
+use Rattle.certificate.specs.declared.certificate.Claim.{Claim}
+use Rattle.certificate.specs.declared.certificate.Claim.TheVariants.{Optimal, Infeasible}
+use Rattle.certificate.specs.Patterns.{is_pattern_length}
+use Rattle.certificate.specs.States.{Pair, State, rises}
+
+-- the parts of a text round a byte
+abbrev pub parts : ℕ → List ℕ → List (List ℕ)
+parts mark text = slice_split (λ b. b == mark) text
+
+abbrev pub parts_left : ℕ → Option (List ℕ) → List (List ℕ)
+parts_left mark None = []
+parts_left mark (Some text) = parts mark text
+
+abbrev pub ok_of : Result ℕ NumberFault → Option ℕ
+ok_of (Ok n) = Some n
+ok_of (Err e) = None
+
+unfoldable pub number_in : List ℕ → ℕ → ℕ → Option ℕ
+number_in text least most = ok_of (number_within text least most)
+
+-- ---- reading
+
+abbrev pub is_digit : ℕ → Bool
+is_digit b = b == 49
+
+abbrev pub is_mark : ℕ → Bool
+is_mark b = b == 48 || b == 49
+
+abbrev pub are_marks : List ℕ → Bool
+are_marks text = (nat_lt 0 (length text) && is_pattern_length (length text)) && list_all is_mark text
+
+unfoldable pub pattern_in : List ℕ → Option (List Bool)
+pattern_in text =
+    if bytes_eq text (codes "-") then Some []
+    else if are_marks text then Some (map is_digit text)
+    else None
+
+abbrev pub pair_by : List (List ℕ) → Option Pair
+pair_by (second ∷ cost ∷ []) = option_and_then (λ t. option_map (λ c. (t, c)) (number_in cost 0 4294967295)) (number_in second 0 172799)
+pair_by fields = None
+
+unfoldable pub pair_in : List ℕ → Option Pair
+pair_in text = pair_by (parts 58 text)
+
+unfoldable pub pairs_in : List (List ℕ) → Option (List Pair)
+pairs_in [] = Some []
+pairs_in (p ∷ ps) = option_and_then (λ x. option_map (λ xs. x ∷ xs) (pairs_in ps)) (pair_in p)
+
+abbrev pub state_with : ℕ → List Bool → ℕ → List Pair → Option State
+state_with stage pattern last pairs =
+    if nat_lt 0 (length pairs) && rises pairs then Some (record { stage = stage; pattern = pattern; last = last; pairs = pairs }) else None
+
+unfoldable pub state_from : List ℕ → List ℕ → List ℕ → List (List ℕ) → Option State
+state_from stage pattern last pairs =
+    option_and_then (λ a. option_and_then (λ p. option_and_then (λ l. option_and_then (state_with a p l) (pairs_in pairs)) (number_in last 1 60)) (pattern_in pattern)) (number_in stage 1 60)
+
+unfoldable pub state_by : List (List ℕ) → Option State
+state_by (word ∷ stage ∷ pattern ∷ last ∷ pairs) = if bytes_eq word (codes "state") then state_from stage pattern last pairs else None
+state_by fields = None
+
+-- the state that a line says
+unfoldable pub state_in : List ℕ → Option State
+state_in line = state_by (parts 32 line)
+
+abbrev pub callsign_in : List ℕ → Option (List ℕ)
+callsign_in text = if is_callsign text then Some text else None
+
+unfoldable pub landing_by : List (List ℕ) → Option (List ℕ × ℕ)
+landing_by (word ∷ callsign ∷ second ∷ []) =
+    if bytes_eq word (codes "land") then option_and_then (λ c. option_map (λ t. (c, t)) (number_in second 0 172799)) (callsign_in callsign) else None
+landing_by fields = None
+
+-- the landing that a line says
+unfoldable pub landing_in : List ℕ → Option (List ℕ × ℕ)
+landing_in line = landing_by (parts 32 line)
+
+abbrev pub claim_with : List ℕ → Option Claim
+claim_with value = option_map Optimal (number_in value 0 8639950000)
+
+unfoldable pub claim_by : List (List ℕ) → Option Claim
+claim_by (word ∷ kind ∷ []) = if bytes_eq word (codes "claim") && bytes_eq kind (codes "infeasible") then Some Infeasible else None
+claim_by (word ∷ kind ∷ value ∷ []) = if bytes_eq word (codes "claim") && bytes_eq kind (codes "optimal") then claim_with value else None
+claim_by fields = None
+
+-- the claim that a line says
+unfoldable pub claim_in : List ℕ → Option Claim
+claim_in line = claim_by (parts 32 line)
