@@ -1,0 +1,9 @@
+pub mod Accepted
+pub mod Bounds
+pub mod Bytes
+pub mod Digits
+pub mod Order
+pub mod Pairs
+pub mod Ranks
+pub mod Shapes
+pub mod Sound

@@ -1,0 +1,5 @@
+pub mod Landings
+pub mod States
+pub mod Verdict
+pub mod Meaning
+pub mod Seen

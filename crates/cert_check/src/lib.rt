@@ -1,0 +1,19 @@
+//! The judge of certificates: whether one shows that a problem has this optimum or none, or what it fails to show first.
+//! It stands on the problem, the certificate and the mathematics alone, and on nothing of a planner.
+#![tactic(auto)]
+
+mod closure;
+mod judging;
+mod landed;
+mod node;
+mod objective;
+mod permitted;
+mod seconds;
+mod shape;
+mod verdict;
+
+pub use judging::judge;
+pub use verdict::{Reason, Verdict};
+
+#[cfg(test)]
+mod tests;

@@ -1,0 +1,70 @@
+// Which rank may land next at a node.
+ghost use Rattle.std.specs.Prelude.{◌≡◌, ◌≤◌, ◌+◌, ◌&&◌, suc, nat_le};
+ghost use Rattle.cps_theory.specs.FirstFound.{first_from};
+ghost use Rattle.cps_theory.specs.CertificateClosure.{is_missing_predecessor, leaves_none_due, permits_next};
+ghost use Rattle.cert_check.specs.Landings.{count};
+ghost use Rattle.cert_check.specs.States.{rules_of};
+ghost use Rattle.cert_check.specs.Seen.{seen};
+
+use crate::node::{Node, is_placed};
+use cps_problem::Problem;
+
+// The flight of rank `other` must land before that of `rank`, and is not placed.
+fn is_missing_predecessor(problem: &Problem, node: &Node, rank: u8, other: u8) -> bool
+    requires stage { node.now.stage ≤ 60 }
+    requires rank { (1 ≤ rank) × (rank ≤ count problem.now) }
+    requires other { (1 ≤ other) × (other ≤ count problem.now) }
+    ensures { result ≡ is_missing_predecessor (rules_of problem.now) (seen node.now) rank other }
+{
+    let head = problem.head();
+    problem.pairs().must_precede(other, rank) && !is_placed(head.k, node, other)
+}
+
+fn missing_predecessor(problem: &Problem, node: &Node, rank: u8) -> Option<u8>
+    requires stage { node.now.stage ≤ 60 }
+    requires rank { (1 ≤ rank) × (rank ≤ count problem.now) }
+    ensures { result ≡ first_from (is_missing_predecessor (rules_of problem.now) (seen node.now) rank) 1 (count problem.now) }
+{
+    let end = problem.len() + 1;
+    for other in 1..end {
+        if is_missing_predecessor(problem, node, rank, other) {
+            return Some(other);
+        }
+    }
+    None
+}
+
+// After this rank, the rank that no later place could take is placed.
+#[tactic(auto, unfolding(cps_theory::specs::CertificateClosure::leaves_none_due))]
+fn leaves_none_due(problem: &Problem, node: &Node, rank: u8) -> bool
+    requires { node.now.stage ≤ 60 }
+    ensures { result ≡ leaves_none_due (rules_of problem.now) (seen node.now) rank }
+{
+    let k = problem.head().k;
+    let next = node.stage + 1;
+    next <= k || next - k == rank || is_placed(k, node, next - k)
+}
+
+// The next place is within the shift of the rank.
+fn is_near(problem: &Problem, stage: u8, rank: u8) -> bool
+    requires stage { stage ≤ 60 }
+    requires rank { (1 ≤ rank) × (rank ≤ count problem.now) }
+    ensures { result ≡ (nat_le rank (suc stage + problem.now.k) && nat_le (suc stage) (rank + (rules_of problem.now).back rank)) }
+{
+    let k = problem.head().k;
+    let next = stage + 1;
+    rank <= next + k && next <= rank + k
+}
+
+#[tactic(auto, unfolding(cps_theory::specs::CertificateClosure::permits_next))]
+pub(crate) fn is_permitted(problem: &Problem, node: &Node, rank: u8) -> bool
+    requires stage { node.now.stage ≤ 60 }
+    requires rank { (1 ≤ rank) × (rank ≤ count problem.now) }
+    ensures { result ≡ permits_next (rules_of problem.now) (seen node.now) rank }
+{
+    let k = problem.head().k;
+    is_near(problem, node.stage, rank)
+        && !is_placed(k, node, rank)
+        && leaves_none_due(problem, node, rank)
+        && missing_predecessor(problem, node, rank).is_none()
+}
