@@ -4,19 +4,24 @@ use Rattle.std.proofs.lemmas.Bool.{cases_lt}
 use Rattle.std.proofs.lemmas.List.{take-append-le}
 use Rattle.std.specs.List.{AllByRecursion}
 use Rattle.cps_top.specs.declared.commands.Command.{Command}
-use Rattle.cps_top.specs.declared.commands.Command.TheVariants.{Plan}
+use Rattle.cps_top.specs.declared.commands.Command.TheVariants.{Plan, Replay, Check}
 use Rattle.cps_top.specs.declared.endings.Answer.{Answer}
 use Rattle.cps_top.specs.declared.endings.Refusal.{Refusal}
 use Rattle.cps_top.specs.declared.endings.Ending.{Ending}
 use Rattle.cps_top.specs.declared.endings.Ending.TheVariants.{Answered, Misused, Refused, NotLoaded, NotWritten, TooLong, NoMemory}
-use Rattle.cps_top.specs.Commands.{command_of, files_of, Admits, Refuses}
+use Rattle.cps_top.specs.Commands.{command_of, files_of, Admits, Begins, Refuses}
 use Rattle.cps_outside.specs.FolderState.{FolderState}
 use Rattle.cps_top.specs.Plan.{refused_by}
 use Rattle.cps_top.specs.Loads.{limit, FailsAt}
 use Rattle.cps_top.specs.Lines.{status_of}
 use Rattle.cps_top.specs.Outcome.{Outside, Ends, Serves}
 use Rattle.cps_top.specs.Statuses.{IsExact, FailsWithin}
+use Rattle.cps_top.proofs.Judged.{not_unchecked}
+use Rattle.cps_top.proofs.Replayed.{not_refused}
 use Rattle.cps_top.proofs.Complete.{command_same, serves_at, none_too_long, Within, all_within, all_named, all_at, within_fits}
+
+none_some : {refusal : Refusal} → None ≡ Some refusal → ⊥
+none_some e = cc
 
 -- no files are both taken and refused
 excludes : (command : Command) (contents : List (List ℕ)) (text : List ℕ) (answer : Answer) (refusal : Refusal) →
@@ -26,9 +31,30 @@ excludes Plan (a ∷ []) text answer refusal admits refuses = absurd admits
 excludes Plan (a ∷ f ∷ c ∷ rest) text answer refusal admits refuses = absurd admits
 excludes Plan (a ∷ f ∷ []) text answer refusal admits refuses =
     none_some (sym admits.taken ∙ ap₂ refused_by (sym admits.aerodrome_read) (sym admits.flights_read) ∙ refuses)
-  where
-    none_some : {refusal : Refusal} → None ≡ Some refusal → ⊥
-    none_some e = cc
+excludes Replay [] text answer refusal admits refuses = absurd admits
+excludes Replay (a ∷ []) text answer refusal admits refuses = absurd admits
+excludes Replay (a ∷ f ∷ []) text answer refusal admits refuses = absurd admits
+excludes Replay (a ∷ f ∷ e ∷ c ∷ rest) text answer refusal admits refuses = absurd admits
+excludes Replay (a ∷ f ∷ e ∷ []) text answer refusal admits refuses =
+    none_some (sym (not_refused a f e admits.state admits.events admits.begun) ∙ refuses)
+excludes Check [] text answer refusal admits refuses = absurd admits
+excludes Check (a ∷ []) text answer refusal admits refuses = absurd admits
+excludes Check (a ∷ f ∷ []) text answer refusal admits refuses = absurd admits
+excludes Check (a ∷ f ∷ e ∷ c ∷ rest) text answer refusal admits refuses = absurd admits
+excludes Check (a ∷ f ∷ c ∷ []) text answer refusal admits refuses =
+    none_some (sym (not_unchecked a f c admits.verdict admits.judges) ∙ refuses)
+
+-- nor are they refused where a text was begun
+excludes_begun : (command : Command) (contents : List (List ℕ)) (text : List ℕ) (refusal : Refusal) →
+    Begins command contents text → Refuses command contents refusal → ⊥
+excludes_begun Plan contents text refusal begins refuses = excludes Plan contents text begins.0 refusal begins.1 refuses
+excludes_begun Check contents text refusal begins refuses = excludes Check contents text begins.0 refusal begins.1 refuses
+excludes_begun Replay [] text refusal begins refuses = absurd refuses
+excludes_begun Replay (a ∷ []) text refusal begins refuses = absurd refuses
+excludes_begun Replay (a ∷ f ∷ []) text refusal begins refuses = absurd refuses
+excludes_begun Replay (a ∷ f ∷ e ∷ c ∷ rest) text refusal begins refuses = absurd refuses
+excludes_begun Replay (a ∷ f ∷ e ∷ []) text refusal begins refuses =
+    none_some (sym (not_refused a f e begins.state begins.events begins.begun) ∙ refuses)
 
 -- a command whose files were loaded has none that is too long
 none_longer : (words : List (List ℕ)) (old new : Outside) (ending : Ending) (command : Command) (before after : List (List ℕ)) (name bytes : List ℕ) →
@@ -103,7 +129,7 @@ exact words old new status (NotLoaded place) is ends = record {
 exact words old new status NotWritten is ends = record {
   refused = λ command contents refusal there refuses.
       let prints = (serves_at words old new NotWritten command contents there.named there.tells there.told ends).0 in
-      absurd (excludes command contents prints.text prints.admitted.0 refusal prints.admitted.1 refuses);
+      absurd (excludes_begun command contents prints.text refusal prints.admitted refuses);
   too_long = λ command before after name bytes named tells split content longer.
       absurd (none_longer words old new NotWritten command before after name bytes named tells split content longer ends);
 }

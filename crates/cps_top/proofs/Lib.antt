@@ -1,7 +1,8 @@
 pub mod Complete
 pub mod Exact
-pub mod FirstComeOrder
+pub mod Judged
 pub mod Loading
+pub mod Replayed
 pub mod Showing
 pub mod Statuses
 pub mod Writing

@@ -1,6 +1,6 @@
 -- Each status by its ending.
 use Rattle.std.proofs.Common.{◌≡◌, inl, inr, ℕ, List, [], ap, append-nil, take, drop, take-append-drop, arith}
-use Rattle.cps_top.specs.declared.endings.Answer.TheVariants.{Scheduled, Infeasible}
+use Rattle.cps_top.specs.declared.endings.Answer.TheVariants.{Scheduled, Infeasible, Accepted, Rejected}
 use Rattle.cps_top.specs.declared.endings.Ending.{Ending}
 use Rattle.cps_top.specs.declared.endings.Ending.TheVariants.{Answered, Misused, Refused, NotLoaded, NotWritten, TooLong, NoMemory}
 use Rattle.cps_top.specs.Lines.{status_of}
@@ -14,6 +14,8 @@ pub causes : (words : List (List ℕ)) (old new : Outside) (status : ℕ) (endin
     status ≡ status_of ending → Ends words old new ending → Causes words old new status
 causes words old new status (Answered Scheduled) is ends = grind arith
 causes words old new status (Answered Infeasible) is ends = grind arith
+causes words old new status (Answered Accepted) is ends = grind arith
+causes words old new status (Answered Rejected) is ends = grind arith
 causes words old new status Misused is ends = grind arith
 causes words old new status (Refused refusal) is ends = grind arith
 causes words old new status (NotLoaded place) is ends = grind arith
@@ -44,10 +46,24 @@ asks words old new status (Answered Infeasible) is ends = record {
   failed = λ e. absurd (omega arith);
   too_long = λ e. absurd (omega arith);
 }
+asks words old new status (Answered Accepted) is ends = record {
+  none = λ e. absurd (omega arith);
+  some = λ named. loads_all old.folder new.folder (files_of words) ends.contents ends.loads;
+  all = λ e told. ends.loads.asked told;
+  failed = λ e. absurd (omega arith);
+  too_long = λ e. absurd (omega arith);
+}
+asks words old new status (Answered Rejected) is ends = record {
+  none = λ e. absurd (omega arith);
+  some = λ named. loads_all old.folder new.folder (files_of words) ends.contents ends.loads;
+  all = λ e told. ends.loads.asked told;
+  failed = λ e. absurd (omega arith);
+  too_long = λ e. absurd (omega arith);
+}
 asks words old new status Misused is ends = record {
   none = λ e. ap (λ o. o.folder) ends.1;
   some = λ named. absurd (named ends.0);
-  all = λ e told. absurd (elim e [ inl a ↦ omega arith | inr (inl a) ↦ omega arith | inr (inr (inl a)) ↦ omega arith | inr (inr (inr a)) ↦ omega arith ]);
+  all = λ e told. absurd (elim e [ inl a ↦ omega arith | inr (inl a) ↦ omega arith | inr (inr (inl a)) ↦ omega arith | inr (inr (inr (inl a))) ↦ omega arith | inr (inr (inr (inr a))) ↦ omega arith ]);
   failed = λ e. absurd (omega arith);
   too_long = λ e. absurd (omega arith);
 }
@@ -61,7 +77,7 @@ asks words old new status (Refused refusal) is ends = record {
 asks words old new status (NotLoaded place) is ends = record {
   none = λ e. absurd (omega arith);
   some = λ named. stops_some old.folder new.folder (files_of words) place ends.loads.stops;
-  all = λ e told. absurd (elim e [ inl a ↦ omega arith | inr (inl a) ↦ omega arith | inr (inr (inl a)) ↦ omega arith | inr (inr (inr a)) ↦ omega arith ]);
+  all = λ e told. absurd (elim e [ inl a ↦ omega arith | inr (inl a) ↦ omega arith | inr (inr (inl a)) ↦ omega arith | inr (inr (inr (inl a))) ↦ omega arith | inr (inr (inr (inr a))) ↦ omega arith ]);
   failed = λ e. (place, ends.loads);
   too_long = λ e. absurd (omega arith);
 }
@@ -75,14 +91,14 @@ asks words old new status NotWritten is ends = record {
 asks words old new status (TooLong place) is ends = record {
   none = λ e. absurd (omega arith);
   some = λ named. stops_some old.folder new.folder (files_of words) place ends.loads.stops;
-  all = λ e told. absurd (elim e [ inl a ↦ omega arith | inr (inl a) ↦ omega arith | inr (inr (inl a)) ↦ omega arith | inr (inr (inr a)) ↦ omega arith ]);
+  all = λ e told. absurd (elim e [ inl a ↦ omega arith | inr (inl a) ↦ omega arith | inr (inr (inl a)) ↦ omega arith | inr (inr (inr (inl a))) ↦ omega arith | inr (inr (inr (inr a))) ↦ omega arith ]);
   failed = λ e. absurd (omega arith);
   too_long = λ e. (place, ends.loads);
 }
 asks words old new status NoMemory is (inl ends) = record {
   none = λ e. absurd (omega arith);
   some = λ named. ends.loads;
-  all = λ e told. absurd (elim e [ inl a ↦ omega arith | inr (inl a) ↦ omega arith | inr (inr (inl a)) ↦ omega arith | inr (inr (inr a)) ↦ omega arith ]);
+  all = λ e told. absurd (elim e [ inl a ↦ omega arith | inr (inl a) ↦ omega arith | inr (inr (inl a)) ↦ omega arith | inr (inr (inr (inl a))) ↦ omega arith | inr (inr (inr (inr a))) ↦ omega arith ]);
   failed = λ e. absurd (omega arith);
   too_long = λ e. absurd (omega arith);
 }

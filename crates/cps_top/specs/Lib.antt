@@ -1,8 +1,10 @@
 -- The program: its commands, statuses and lines, and what it writes.
+pub mod Check
 pub mod Commands
-pub mod FirstCome
 pub mod Lines
 pub mod Loads
 pub mod Outcome
 pub mod Plan
+pub mod Replay
 pub mod Statuses
+pub mod Verdicts

@@ -16,22 +16,33 @@ use Rattle.flight_file.specs.declared.fault.AfterCause.TheVariants as after
 use Rattle.flight_file.specs.declared.fault.FlightCause.{FlightCause}
 use Rattle.flight_file.specs.declared.fault.FlightCause.TheVariants as flight
 use Rattle.flight_file.specs.declared.fault.FlightFault.{FlightFault}
+use Rattle.event_log.specs.declared.fault.Col.{Col}
+use Rattle.event_log.specs.declared.fault.Col.TheVariants as column
+use Rattle.event_log.specs.declared.fault.FieldCause.{FieldCause}
+use Rattle.event_log.specs.declared.fault.FieldCause.TheVariants as field
+use Rattle.event_log.specs.declared.fault.LogCause.{LogCause}
+use Rattle.event_log.specs.declared.fault.LogCause.TheVariants as log
+use Rattle.event_log.specs.declared.fault.LogFault.{LogFault}
 use Rattle.aerodrome_file.specs.declared.fault.Key.{Key}
 use Rattle.aerodrome_file.specs.declared.fault.Key.TheVariants as key
 use Rattle.aerodrome_file.specs.declared.fault.Part.{Part}
 use Rattle.aerodrome_file.specs.declared.fault.Part.TheVariants as part
 use Rattle.aerodrome_file.specs.declared.fault.AeroFault.{AeroFault}
 use Rattle.aerodrome_file.specs.declared.fault.AeroFault.TheVariants as aerodrome
+use Rattle.certificate.specs.declared.fault.CertFault.{CertFault}
+use Rattle.certificate.specs.declared.fault.CertFault.TheVariants as certificate
 use Rattle.cps_top.specs.declared.endings.Answer.{Answer}
-use Rattle.cps_top.specs.declared.endings.Answer.TheVariants.{Scheduled, Infeasible}
+use Rattle.cps_top.specs.declared.endings.Answer.TheVariants.{Scheduled, Infeasible, Accepted, Rejected}
 use Rattle.cps_top.specs.declared.endings.Refusal.{Refusal}
-use Rattle.cps_top.specs.declared.endings.Refusal.TheVariants.{Aerodrome, Flights, TooManyWaiting, Unbuilt}
+use Rattle.cps_top.specs.declared.endings.Refusal.TheVariants.{Aerodrome, Flights, Events, Certificate, TooManyWaiting}
 use Rattle.cps_top.specs.declared.endings.Ending.{Ending}
 use Rattle.cps_top.specs.declared.endings.Ending.TheVariants.{Answered, Misused, Refused, NotLoaded, NotWritten, TooLong, NoMemory}
 
 abbrev pub answer_status : Answer → ℕ
 answer_status Scheduled = 0
 answer_status Infeasible = 1
+answer_status Accepted = 0
+answer_status Rejected = 7
 
 abbrev pub status_of : Ending → ℕ
 status_of (Answered answer) = answer_status answer
@@ -161,13 +172,68 @@ cause_line number cause = text_of (codes "cps: flights: record " ∷ number ∷ 
 abbrev pub flights_line : FlightFault → List ℕ
 flights_line fault = cause_line (decimal fault.number) fault.cause
 
+-- ---- the event log
+
+-- the header's word of a column
+abbrev pub column_word : Col → List ℕ
+column_word column.Callsign = codes "callsign"
+column_word column.Category = codes "category"
+column_word column.Eta = codes "eta"
+column_word column.Weight = codes "weight"
+column_word column.Windows = codes "windows"
+column_word column.After = codes "after"
+
+-- what is wrong with a column: the words, the number of the part and why it is no number, where there are such
+abbrev pub field_word : FieldCause → List ℕ
+field_word field.NotEmpty = codes "not-empty"
+field_word field.Bad = codes "bad"
+field_word (field.Number fault) = number_word fault
+field_word (field.Windows cause) = windows_word cause
+field_word (field.After cause) = after_word cause
+field_word field.EmptySpan = codes "empty"
+
+abbrev pub field_part : FieldCause → List ℕ
+field_part (field.Windows cause) = windows_part cause
+field_part (field.After cause) = after_part cause
+field_part cause = []
+
+abbrev pub field_why : FieldCause → List ℕ
+field_why (field.Windows cause) = windows_why cause
+field_why cause = []
+
+-- what follows the number of the record
+abbrev pub field_pieces : Col → FieldCause → List (List ℕ)
+field_pieces c cause = codes ": " ∷ column_word c ∷ codes " " ∷ field_word cause ∷ field_part cause ∷ field_why cause ∷ codes "\n" ∷ []
+
+abbrev pub event_pieces : LogCause → List (List ℕ)
+event_pieces log.Header = codes ": header\n" ∷ []
+event_pieces log.FieldCount = codes ": fields\n" ∷ []
+event_pieces log.Kind = codes ": kind\n" ∷ []
+event_pieces (log.Field c cause) = field_pieces c cause
+event_pieces log.TooMany = codes ": too-many\n" ∷ []
+event_pieces log.Memory = codes ": memory\n" ∷ []
+
+abbrev pub event_line : List ℕ → LogCause → List ℕ
+event_line number cause = text_of (codes "cps: events: record " ∷ number ∷ event_pieces cause)
+
+abbrev pub events_line : LogFault → List ℕ
+events_line fault = event_line (decimal fault.number) fault.cause
+
+-- ---- the certificate
+
+abbrev pub certificate_line : CertFault → List ℕ
+certificate_line (certificate.Line n) = text_of (codes "cps: certificate: line " ∷ decimal n ∷ codes "\n" ∷ [])
+certificate_line (certificate.Order n) = text_of (codes "cps: certificate: order " ∷ decimal n ∷ codes "\n" ∷ [])
+certificate_line certificate.Memory = text_of (codes "cps: no memory\n" ∷ [])
+
 -- ---- all endings
 
 abbrev pub refusal_line : Refusal → List ℕ
 refusal_line (Aerodrome fault) = aerodrome_line fault
 refusal_line (Flights fault) = flights_line fault
+refusal_line (Events fault) = events_line fault
+refusal_line (Certificate fault) = certificate_line fault
 refusal_line (TooManyWaiting n) = text_of (codes "cps: too many waiting " ∷ decimal n ∷ codes "\n" ∷ [])
-refusal_line Unbuilt = text_of (codes "cps: unbuilt\n" ∷ [])
 
 -- the line on the standard error, or nothing
 abbrev pub line_of : Ending → List ℕ

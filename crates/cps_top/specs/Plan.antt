@@ -1,15 +1,16 @@
 -- What `plan` prints over the contents of its two files, and which it refuses.
-use Rattle.std.specs.Prelude.{◌≡◌, ⊤, ℕ, nat_lt, List, length, map, Option, Some, None, Result, Ok, Err, if◌then◌else◌}
-use Rattle.landing_rules.specs.Flights.{Schedule, Situation}
-use Rattle.landing_rules.specs.Events.{State, IsOpeningState, IsPlanShown}
+use Rattle.std.specs.Prelude.{◌≡◌, ⊤, ℕ, nat_lt, Bool, List, length, map, is_some, Option, Some, None, Result, Ok, Err, if◌then◌else◌}
+use Rattle.landing_rules.specs.Flights.{Schedule}
+use Rattle.landing_rules.specs.Events.{State, IsOpeningState}
 use Rattle.landing_rules.specs.Text.{lines_text, plan_lines}
 use Rattle.aerodrome_file.specs.declared.aerodrome.Aerodrome.{Aerodrome}
 use Rattle.aerodrome_file.specs.declared.fault.AeroFault.{AeroFault}
-use Rattle.aerodrome_file.specs.Reading.{aerodrome_of, is_delay}
+use Rattle.aerodrome_file.specs.Reading.{aerodrome_of}
 use Rattle.flight_file.specs.declared.flight.Flight.{Flight}
 use Rattle.flight_file.specs.declared.fault.FlightFault.{FlightFault}
 use Rattle.flight_file.specs.Reading.{flights_of}
-use Rattle.sequencer.specs.Opened.{opening_of, flight_of}
+use Rattle.flight_file.specs.Seen.{flight_of}
+use Rattle.sequencer.specs.Opened.{opening_of}
 use Rattle.cps_top.specs.declared.endings.Answer as answers
 use Rattle.cps_top.specs.declared.endings.Answer.TheVariants.{Scheduled, Infeasible}
 use Rattle.cps_top.specs.declared.endings.Ending.{Ending}
@@ -17,33 +18,37 @@ use Rattle.cps_top.specs.declared.endings.Ending.TheVariants.{Refused, NoMemory}
 use Rattle.cps_top.specs.declared.endings.Refusal as refusals
 use Rattle.cps_top.specs.declared.endings.Refusal.TheVariants as refusal
 
--- Why files that read are not taken: more than 60 flights wait, or they ask for the delay, which is still to be built.
-abbrev pub refusal_of : Aerodrome → List Flight → Option refusals.Refusal
-refusal_of aerodrome flights =
-    if nat_lt 60 (length flights) then Some (refusal.TooManyWaiting (length flights))
-    else if is_delay aerodrome.objective then Some refusal.Unbuilt
-    else None
+-- why files that read are not taken: more than 60 flights wait
+abbrev pub refusal_of : List Flight → Option refusals.Refusal
+refusal_of flights = if nat_lt 60 (length flights) then Some (refusal.TooManyWaiting (length flights)) else None
 
 -- the first cause, in the order of the files
 abbrev pub refused_by : Result Aerodrome AeroFault → Result (List Flight) FlightFault → Option refusals.Refusal
 refused_by (Err fault) flights = Some (refusal.Aerodrome fault)
 refused_by (Ok aerodrome) (Err fault) = Some (refusal.Flights fault)
-refused_by (Ok aerodrome) (Ok flights) = refusal_of aerodrome flights
+refused_by (Ok aerodrome) (Ok flights) = refusal_of flights
 
 abbrev pub RefusesPlan : List ℕ → List ℕ → refusals.Refusal → Type 0
 RefusesPlan aerodrome flights cause = refused_by (aerodrome_of aerodrome) (flights_of flights) ≡ Some cause
 
-abbrev pub answer_of : Option Schedule → answers.Answer
-answer_of (Some schedule) = Scheduled
-answer_of None = Infeasible
+-- what is answered where a plan is shown last, or none
+abbrev pub answer_by : Bool → answers.Answer
+answer_by planned = if planned then Scheduled else Infeasible
 
--- The text is the block of a plan that is shown for the situation: a best and tight schedule, or none exactly where no
--- schedule is feasible.
-pub record Shows (s : Situation) (text : List ℕ) (answer : answers.Answer) : Type 0 where
-  pub plan : Option Schedule
-  pub shown : IsPlanShown s plan
-  pub prints : text ≡ lines_text (plan_lines (record { situation = s; plan = plan }))
-  pub answers : answer ≡ answer_of plan
+abbrev pub answer_of : Option Schedule → answers.Answer
+answer_of plan = answer_by (is_some plan)
+
+-- The files are taken, and this is an opening state of them.
+pub record IsOpened (aerodrome : Aerodrome) (flights : List Flight) (state : State) : Type 0 where
+  pub taken : refusal_of flights ≡ None
+  pub opens : IsOpeningState (opening_of aerodrome) (map flight_of flights) state
+
+-- The text is the block of an opening state of files that are taken.
+pub record Shows (aerodrome : Aerodrome) (flights : List Flight) (text : List ℕ) (answer : answers.Answer) : Type 0 where
+  pub state : State
+  pub opened : IsOpened aerodrome flights state
+  pub prints : text ≡ lines_text (plan_lines state)
+  pub answers : answer ≡ answer_of state.plan
 
 -- The files read as an aerodrome and flights that are taken, and the text is the block of an opening state of them.
 pub record AdmitsPlan (aerodrome_bytes flight_bytes text : List ℕ) (answer : answers.Answer) : Type 0 where
@@ -51,7 +56,7 @@ pub record AdmitsPlan (aerodrome_bytes flight_bytes text : List ℕ) (answer : a
   pub flights : List Flight
   pub aerodrome_read : aerodrome_of aerodrome_bytes ≡ Ok aerodrome
   pub flights_read : flights_of flight_bytes ≡ Ok flights
-  pub taken : refusal_of aerodrome flights ≡ None
+  pub taken : refusal_of flights ≡ None
   pub state : State
   pub opens : IsOpeningState (opening_of aerodrome) (map flight_of flights) state
   pub prints : text ≡ lines_text (plan_lines state)
@@ -64,7 +69,7 @@ StopsPlan aerodrome flights NoMemory = ⊤
 StopsPlan aerodrome flights ending = ⊥
 
 -- the same over files that are read
-abbrev pub StopsOpened : Aerodrome → List Flight → Ending → Type 0
-StopsOpened aerodrome flights (Refused cause) = refusal_of aerodrome flights ≡ Some cause
-StopsOpened aerodrome flights NoMemory = ⊤
-StopsOpened aerodrome flights ending = ⊥
+abbrev pub StopsOpened : List Flight → Ending → Type 0
+StopsOpened flights (Refused cause) = refusal_of flights ≡ Some cause
+StopsOpened flights NoMemory = ⊤
+StopsOpened flights ending = ⊥

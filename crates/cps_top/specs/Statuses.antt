@@ -27,7 +27,7 @@ pub record Asks (words : List (List ℕ)) (old new : Outside) (status : ℕ) : T
   pub none : status ≡ 2 → new.folder ≡ old.folder
   -- the first of them first
   pub some : command_of words ≢ None → AsksForSome old.folder new.folder (files_of words)
-  pub all : (status ≡ 0) ⊎ (status ≡ 1) ⊎ (status ≡ 3) ⊎ (status ≡ 5) → IsTrue old.folder.tells →
+  pub all : (status ≡ 0) ⊎ (status ≡ 1) ⊎ (status ≡ 3) ⊎ (status ≡ 5) ⊎ (status ≡ 7) → IsTrue old.folder.tells →
       new.folder.asked ≡ old.folder.asked ++ files_of words
   -- the last of them is the one whose load failed, or that is too long
   pub failed : status ≡ 4 → (place : ℕ) × FailsAt old.folder new.folder (files_of words) place

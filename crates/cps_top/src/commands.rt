@@ -6,6 +6,10 @@ ghost use Rattle.cps_top.specs.Commands.{command_of, files_of};
 pub enum Command {
     /// `plan AERODROME FLIGHTS`.
     Plan,
+    /// `replay AERODROME FLIGHTS EVENTS`.
+    Replay,
+    /// `check AERODROME FLIGHTS CERTIFICATE`.
+    Check,
 }
 
 // The command that these words fit.
@@ -17,6 +21,12 @@ pub(crate) fn read_command(words: &[String]) -> Option<Command>
     };
     if word.as_str() == "plan" && rest.len() == 2 {
         return Some(Command::Plan);
+    }
+    if word.as_str() == "replay" && rest.len() == 3 {
+        return Some(Command::Replay);
+    }
+    if word.as_str() == "check" && rest.len() == 3 {
+        return Some(Command::Check);
     }
     None
 }

@@ -1,4 +1,6 @@
 use aerodrome_file::AeroFault;
+use certificate::CertFault;
+use event_log::LogFault;
 use flight_file::FlightFault;
 
 /// What a command answers once its text is written.
@@ -8,6 +10,10 @@ pub enum Answer {
     Scheduled,
     /// The last plan is none.
     Infeasible,
+    /// The certificate holds.
+    Accepted,
+    /// The certificate was judged and does not hold.
+    Rejected,
 }
 
 /// Why the files are not taken.
@@ -17,10 +23,12 @@ pub enum Refusal {
     Aerodrome(AeroFault),
     /// The flight file is none.
     Flights(FlightFault),
+    /// The event log is none.
+    Events(LogFault),
+    /// The certificate is none.
+    Certificate(CertFault),
     /// More than 60 flights wait: how many.
     TooManyWaiting(u32),
-    /// The aerodrome file asks for the delay, which is still to be built.
-    Unbuilt,
 }
 
 /// How a run ends.

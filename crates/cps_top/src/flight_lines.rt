@@ -10,7 +10,7 @@ use flight_file::{AfterCause, FlightCause, FlightFault, WindowsCause};
 use itoa::Buffer;
 use landing_windows::WindowFault;
 
-fn number_word(fault: &NumberFault) -> &'static [u8]
+pub(crate) fn number_word(fault: &NumberFault) -> &'static [u8]
     ensures { result.now ≡ number_word fault.now }
 {
     match fault {
@@ -20,7 +20,7 @@ fn number_word(fault: &NumberFault) -> &'static [u8]
     }
 }
 
-fn windows_word(cause: &WindowsCause) -> &'static [u8]
+pub(crate) fn windows_word(cause: &WindowsCause) -> &'static [u8]
     ensures { result.now ≡ windows_word cause.now }
 {
     match cause {
@@ -34,7 +34,7 @@ fn windows_word(cause: &WindowsCause) -> &'static [u8]
     }
 }
 
-fn windows_part<'a>(cause: &WindowsCause, buffer: &'a mut Buffer) -> &'a [u8]
+pub(crate) fn windows_part<'a>(cause: &WindowsCause, buffer: &'a mut Buffer) -> &'a [u8]
     ensures { result.now ≡ windows_part cause.now }
 {
     match cause {
@@ -46,7 +46,7 @@ fn windows_part<'a>(cause: &WindowsCause, buffer: &'a mut Buffer) -> &'a [u8]
     }
 }
 
-fn windows_why(cause: &WindowsCause) -> &'static [u8]
+pub(crate) fn windows_why(cause: &WindowsCause) -> &'static [u8]
     ensures { result.now ≡ windows_why cause.now }
 {
     match cause {
@@ -57,7 +57,7 @@ fn windows_why(cause: &WindowsCause) -> &'static [u8]
     }
 }
 
-fn after_word(cause: &AfterCause) -> &'static [u8]
+pub(crate) fn after_word(cause: &AfterCause) -> &'static [u8]
     ensures { result.now ≡ after_word cause.now }
 {
     match cause {
@@ -68,7 +68,7 @@ fn after_word(cause: &AfterCause) -> &'static [u8]
     }
 }
 
-fn after_part<'a>(cause: &AfterCause, buffer: &'a mut Buffer) -> &'a [u8]
+pub(crate) fn after_part<'a>(cause: &AfterCause, buffer: &'a mut Buffer) -> &'a [u8]
     ensures { result.now ≡ after_part cause.now }
 {
     match cause {

@@ -2,21 +2,29 @@
 #![tactic(auto)]
 
 mod aerodrome_lines;
+mod certificate_lines;
+mod check;
 mod commands;
 mod endings;
-mod first_come;
+mod event_lines;
 mod flight_lines;
 mod lines;
 mod loads;
+mod opening;
 mod plan;
+mod replay;
 mod top;
+mod verdict_lines;
 
 pub use commands::Command;
 pub use endings::{Answer, Ending, Refusal};
-pub use first_come::FirstCome;
 pub use loads::LIMIT;
 pub use top::run;
 
+#[cfg(test)]
+mod check_tests;
+#[cfg(test)]
+mod replay_tests;
 #[cfg(test)]
 mod stage_tests;
 #[cfg(test)]

@@ -4,6 +4,8 @@ ghost use Rattle.cps_outside.specs.SinkState.{Writes};
 ghost use Rattle.cps_top.specs.Lines.{status_of, line_of, text_of, refusal_line};
 
 use crate::aerodrome_lines::say_aerodrome;
+use crate::certificate_lines::say_certificate;
+use crate::event_lines::say_events;
 use crate::flight_lines::say_flights;
 use crate::{Answer, Ending, Refusal};
 use cps_outside::{Sink, WriteFailed};
@@ -14,8 +16,9 @@ pub(crate) fn status(ending: &Ending) -> u8
     ensures { result ≡ status_of ending.now }
 {
     match ending {
-        Ending::Answered(Answer::Scheduled) => 0,
+        Ending::Answered(Answer::Scheduled | Answer::Accepted) => 0,
         Ending::Answered(Answer::Infeasible) => 1,
+        Ending::Answered(Answer::Rejected) => 7,
         Ending::Misused => 2,
         Ending::Refused(_) => 3,
         Ending::NotLoaded(_) => 4,
@@ -42,11 +45,12 @@ fn say_refusal<E: Sink>(err: &mut E, refusal: &Refusal) -> Result<(), WriteFaile
     match refusal {
         Refusal::Aerodrome(fault) => say_aerodrome(err, fault),
         Refusal::Flights(fault) => say_flights(err, fault),
+        Refusal::Events(fault) => say_events(err, fault),
+        Refusal::Certificate(fault) => say_certificate(err, fault),
         Refusal::TooManyWaiting(n) => {
             let n = buffer.format(*n).as_bytes();
             put_all(err, &[b"cps: too many waiting ", n, b"\n"])
         }
-        Refusal::Unbuilt => put_all(err, &[b"cps: unbuilt\n"]),
     }
 }
 

@@ -1,104 +1,66 @@
 // The command `plan`.
-ghost use Rattle.std.specs.Prelude.{◌≡◌, ℕ, List, [], ◌∷◌, ⊤, IfOk, MatchResult, IsTrue, ◌↔◌, not, nat_lt, ◌||◌};
-ghost use Rattle.landing_rules.specs.declared.objective.Objective.TheVariants as objectives;
-ghost use Rattle.landing_rules.specs.Flights.{Situation};
-ghost use Rattle.aerodrome_file.specs.Reading.{IsInRange, is_delay};
+ghost use Rattle.std.specs.Prelude.{◌≡◌, [], ◌∷◌, OnOk, IfOk, MatchResult};
+ghost use Rattle.landing_rules.specs.Text.{lines_text, plan_lines};
+ghost use Rattle.aerodrome_file.specs.Reading.{IsInRange};
 ghost use Rattle.flight_file.specs.OfFile.{CanBeRead};
-ghost use Rattle.cps_problem.specs.Plans.{IsAnswerOf};
-ghost use Rattle.sequencer.specs.Opened.{opened};
-ghost use Rattle.sequencer.specs.Shown.{StandsForWaiting};
 ghost use Rattle.cps_top.specs.declared.commands.Command.TheVariants as commands;
-ghost use Rattle.cps_top.specs.Plan.{Shows, AdmitsPlan, StopsPlan, StopsOpened, refusal_of};
+ghost use Rattle.cps_top.specs.Plan.{answer_of, answer_by, Shows, AdmitsPlan, StopsPlan, StopsOpened};
 ghost use Rattle.cps_top.specs.Outcome.{Follows};
 
+use crate::opening::begin;
 use crate::{Answer, Ending, Refusal};
 use aerodrome_file::{AeroFault, Aerodrome, read_aerodrome};
-use cps_base::{Silent, Steps};
 use cps_outside::{Gate, Sink};
-use cps_problem::{Objective, Problem, Schedule};
+use cps_problem::Planner;
 use flight_file::{Flight, FlightCause, read_flights};
-use landing_joint::laws::problem_stands_for_situation;
 use plan_text::plan_block;
-use replan::plan_makespan;
-use sequencer::{BeginFault, opening_plan, opening_problem};
+use sequencer::Sequencer;
 use std::alloc::{AllocError, Global};
 use std::thread::Threads;
 
-// Whether the objective that the aerodrome file asks for is built.
-fn is_built(objective: Objective) -> bool
-    ensures built { IsTrue result → objective ≡ objectives.Makespan }
-    ensures unbuilt { result ≡ not (is_delay objective) }
+// What is answered where a plan is shown last, or none.
+pub(crate) fn answer(planned: bool) -> Answer
+    ensures { result ≡ answer_by planned }
 {
-    match objective {
-        Objective::Makespan => true,
-        Objective::Delay => false,
+    if planned {
+        Answer::Scheduled
+    } else {
+        Answer::Infeasible
     }
 }
 
-// The answer of the planner.
-fn planned<R: Threads + Sync, G: Gate + Sync>(
-    rt: &R,
-    alloc: Global,
-    problem: &Problem,
-    gate: &G,
-) -> Result<Option<Schedule>, AllocError>
-    requires { problem.now.objective ≡ objectives.Makespan }
-    ensures { IfOk result (IsAnswerOf problem.now) }
-{
-    let mut steps = Steps::new(Silent);
-    plan_makespan(rt, alloc, problem, gate, &mut steps)
-}
-
-// Writes the block of the plan into an empty text.
-fn write_plan<R: Threads + Sync, G: Gate + Sync>(
-    rt: &R,
-    alloc: Global,
-    problem: &Problem,
-    gate: &G,
+// Writes the block of the plan that is shown into an empty text.
+fn write_plan<P: Planner>(
+    sequencer: &Sequencer<P>,
     text: &mut Vec<u8>,
 ) -> Result<Answer, AllocError>
-    requires objective { problem.now.objective ≡ objectives.Makespan }
-    requires situation { (s : Situation) × StandsForWaiting problem.now s }
     requires empty { text.old.items ≡ [] }
-    ensures { IfOk result (λ answer. (s : Situation) → StandsForWaiting problem.now s → Shows s text.new.items answer) }
+    ensures prints { OnOk result (text.new.items ≡ lines_text (plan_lines sequencer.now.state)) }
+    ensures answers { IfOk result (λ answer. answer ≡ answer_of sequencer.now.state.plan) }
 {
-    problem_stands_for_situation();
-    let objective = problem.head().objective;
-    let Some(schedule) = planned(rt, alloc, problem, gate)? else {
-        plan_block(objective, None, text)?;
-        return Ok(Answer::Infeasible);
-    };
-    let plan = opening_plan(alloc, problem, &schedule)?;
-    plan_block(objective, Some(&plan), text)?;
-    Ok(Answer::Scheduled)
+    plan_block(sequencer.objective(), sequencer.plan(), text)?;
+    Ok(answer(sequencer.plan().is_some()))
 }
 
 // The same for what the files say.
 fn write_opened<R: Threads + Sync, G: Gate + Sync>(
     rt: &R,
     alloc: Global,
-    aerodrome: &Aerodrome,
-    flights: &[Flight],
+    aerodrome: Aerodrome,
+    flights: Vec<Flight>,
     gate: &G,
     text: &mut Vec<u8>,
 ) -> Result<Answer, Ending>
-    requires range { IsInRange aerodrome.now }
-    requires read { CanBeRead flights.now }
+    requires range { IsInRange aerodrome }
+    requires read { CanBeRead flights.items }
     requires empty { text.old.items ≡ [] }
-    ensures shows { MatchResult result (λ answer. Shows (opened aerodrome.now flights.now) text.new.items answer) (StopsOpened aerodrome.now flights.now) }
-    ensures taken { IfOk result (λ _. refusal_of aerodrome.now flights.now ≡ None) }
+    ensures { MatchResult result (λ answer. Shows aerodrome flights.items text.new.items answer) (StopsOpened flights.items) }
 {
-    let problem = match opening_problem(alloc, aerodrome, flights) {
-        Ok(problem) => problem,
-        Err(BeginFault::TooManyWaiting(n)) => {
-            return Err(Ending::Refused(Refusal::TooManyWaiting(n)));
-        }
-        Err(BeginFault::Memory) => return Err(Ending::NoMemory),
+    let sequencer = match begin(rt, alloc, aerodrome, flights, gate) {
+        Ok(sequencer) => sequencer,
+        Err(ending) => return Err(ending),
     };
-    if !is_built(aerodrome.objective) {
-        return Err(Ending::Refused(Refusal::Unbuilt));
-    }
-    match write_plan(rt, alloc, &problem, gate, text) {
+    match write_plan(&sequencer, text) {
         Ok(answer) => Ok(answer),
         Err(_) => Err(Ending::NoMemory),
     }
@@ -126,7 +88,7 @@ fn write_files<R: Threads + Sync, G: Gate + Sync>(
         Err(fault) if fault.cause == FlightCause::Memory => return Err(Ending::NoMemory),
         Err(fault) => return Err(Ending::Refused(Refusal::Flights(fault))),
     };
-    write_opened(rt, alloc, &aerodrome, flights.as_slice(), gate, text)
+    write_opened(rt, alloc, aerodrome, flights, gate, text)
 }
 
 // Prints the opening plan of the files.

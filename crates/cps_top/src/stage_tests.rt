@@ -8,11 +8,11 @@ use aerodrome_file::Aerodrome;
 use cps_base::{Counted, Steps};
 use cps_network::{Stage, next_stage};
 use cps_outside::FreeGate;
-use cps_problem::{Objective, Problem};
+use cps_problem::{Objective, Planner, Problem};
 use flight_file::{Flight, read_flights};
 use itoa::Buffer;
 use landing_windows::Closures;
-use replan::plan_makespan;
+use replan::AnyKept;
 use sequencer::opening_problem;
 use std::alloc::{AllocError, Global};
 use std::test::Fail;
@@ -89,8 +89,9 @@ fn a_planning_ticks_once_a_candidate(rt: HostRuntime) -> Result<(), Fail> {
         let aerodrome = aerodrome(k)?;
         let problem = opening_problem(alloc, &aerodrome, flights.as_slice());
         let problem = problem.ok().ok_or("no problem")?;
+        let mut planner = AnyKept::fresh(k);
         let mut steps = Steps::new(Counted::new());
-        let plan = plan_makespan(&rt, alloc, &problem, &FreeGate, &mut steps)?;
+        let plan = planner.replan(&rt, alloc, &problem, &FreeGate, &mut steps)?;
         assert!(rt; plan.is_some());
         assert_eq!(rt; steps.ledger().value(), candidates);
     }

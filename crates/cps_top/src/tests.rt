@@ -3,16 +3,16 @@ use cps_outside::{FreeGate, MemoryFolder, MemorySink};
 use std::alloc::{AllocError, Global};
 use std::test::Fail;
 
-const TABLE: &str =
+pub(crate) const TABLE: &str =
     "[table]\nA = [90, 110, 120, 130, 140, 180]\nB = [60, 90, 100, 110, 120, 160]\nC = [60, 60, 60, 60, 100, 140]\nD = [60, 60, 60, 60, 60, 120]\nE = [60, 60, 60, 60, 60, 100]\nF = [60, 60, 60, 60, 60, 60]\n";
 
-const NO_SHIFT: &str = "version = 1\nk = 0\nfreeze = 150\nobjective = \"makespan\"\n";
+pub(crate) const NO_SHIFT: &str = "version = 1\nk = 0\nfreeze = 150\nobjective = \"makespan\"\n";
 
-const ONE_PLACE: &str = "version = 1\nk = 1\nfreeze = 150\nobjective = \"makespan\"\n";
+pub(crate) const ONE_PLACE: &str = "version = 1\nk = 1\nfreeze = 150\nobjective = \"makespan\"\n";
 
-const LEAST_DELAY: &str = "version = 1\nk = 0\nfreeze = 150\nobjective = \"delay\"\n";
+const LEAST_DELAY: &str = "version = 1\nk = 1\nfreeze = 150\nobjective = \"delay\"\n";
 
-const HEADER: &str = "callsign,category,eta,weight,windows,after\n";
+pub(crate) const HEADER: &str = "callsign,category,eta,weight,windows,after\n";
 
 const PLAN: &str = "makespan 1180\nland A1 1000 waiting\nland F1 1180 waiting\n";
 
@@ -28,7 +28,7 @@ struct Run {
     err: &'static str,
 }
 
-fn text(alloc: Global, parts: [&str; 2]) -> Result<Vec<u8>, AllocError> {
+pub(crate) fn text(alloc: Global, parts: [&str; 2]) -> Result<Vec<u8>, AllocError> {
     let mut text = Vec::new(alloc);
     for part in parts {
         text.extend_from_slice(part.as_bytes())?;
@@ -121,12 +121,12 @@ const RUNS: [Run; 9] = [
     Run {
         words: ["plan", "aerodrome", "flights"],
         head: LEAST_DELAY,
-        flights: "",
+        flights: "A1,A,1000,1,1000-2000,\nF1,F,1010,1,1010-2000,\n",
         failing_load: 0,
         failing_put: 0,
-        status: 3,
-        out: "",
-        err: "cps: unbuilt\n",
+        status: 0,
+        out: "delay 70\nland F1 1010 waiting\nland A1 1070 waiting\n",
+        err: "",
     },
     Run {
         words: ["plan", "aerodrome", "flights"],

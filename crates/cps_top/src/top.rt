@@ -1,12 +1,16 @@
-ghost use Rattle.std.specs.Prelude.{◌≡◌, map, length, string_bytes, vec_items};
+ghost use Rattle.std.specs.Prelude.{◌≡◌, ◌≤◌, map, length, string_bytes, vec_items};
+ghost use Rattle.std.specs.List.{AllByRecursion};
 ghost use Rattle.cps_top.specs.Commands.{file_count};
+ghost use Rattle.cps_top.specs.Loads.{limit};
 ghost use Rattle.cps_top.specs.Outcome.{Follows, Ends, RunsTo};
 ghost use Rattle.cps_top.specs.Statuses.{Causes, Asks, Completes, IsExact};
 
+use crate::check::check;
 use crate::commands::{files, read_command};
 use crate::lines::{say, status};
 use crate::loads::load_all;
 use crate::plan::plan;
+use crate::replay::replay;
 use crate::{Command, Ending};
 use cps_outside::{Folder, Gate, Sink};
 use std::alloc::Global;
@@ -22,6 +26,7 @@ fn perform<R: Threads + Sync, S: Sink, G: Gate + Sync>(
     gate: &G,
 ) -> Ending
     requires count { length contents.now ≡ file_count command }
+    requires bounded { AllByRecursion (λ bytes. length bytes ≤ limit) (map vec_items contents.now) }
     ensures { Follows command (map vec_items contents.now) (S.state out.old) (S.state out.new) result }
 {
     match command {
@@ -32,6 +37,22 @@ fn perform<R: Threads + Sync, S: Sink, G: Gate + Sync>(
             contents[1].as_slice(),
             out,
             gate,
+        ),
+        Command::Replay => replay(
+            rt,
+            alloc,
+            contents[0].as_slice(),
+            contents[1].as_slice(),
+            contents[2].as_slice(),
+            out,
+            gate,
+        ),
+        Command::Check => check(
+            alloc,
+            contents[0].as_slice(),
+            contents[1].as_slice(),
+            contents[2].as_slice(),
+            out,
         ),
     }
 }
@@ -60,21 +81,23 @@ fn work<R: Threads + Sync, F: Folder, S: Sink, G: Gate + Sync>(
 /// Runs the command of these words, and answers its status, 0 to 8.
 ///
 /// The work goes in this order: the words; the loads, in the order of the words; the reading of each file, in the same
-/// order; the limit of 60 waiting flights; whether the objective is built; the plan. The first thing that goes wrong
-/// decides the status.
+/// order; the limit of 60 waiting flights; the plan, and of `replay` the events, or of `check` the verdict on the
+/// certificate. The first thing that goes wrong decides the status. That the text of a replay fixes its run, its answers
+/// and plans, is the law `replay_law::text_fixes_the_run`.
 ///
 /// | status | comes |
 /// |---|---|
-/// | 0 | the text was written, and the plan is a best and tight schedule |
-/// | 1 | the text was written, and no schedule is feasible |
+/// | 0 | the text was written, and the last plan is a best and tight schedule, or the certificate holds |
+/// | 1 | the text was written, and at its end no schedule is feasible |
 /// | 2 | the words fit no command |
 /// | 3 | the files are not taken |
 /// | 4 | a load failed |
 /// | 5 | a put to `out` failed |
 /// | 6 | a file is longer than 16,777,216 bytes |
+/// | 7 | the text was written: the certificate was judged and does not hold |
 /// | 8 | memory ran out |
 ///
-/// With the statuses 2 to 8 a line on `err` says so. A failed put to `err` changes no status.
+/// With the statuses 2 to 6 and 8 a line on `err` says so. A failed put to `err` changes no status.
 pub fn run<R: Threads + Sync, F: Folder, S: Sink, E: Sink, G: Gate + Sync>(
     rt: &R,
     alloc: Global,

@@ -8,6 +8,3 @@ pub returns-in-TooManyWaiting : goal.returns-in-TooManyWaiting
 returns-in-TooManyWaiting g c =
     let n : c.as_bytes-n.result.now ≡ decimal c.in-TooManyWaiting.n = c.as_bytes-n.ensures.value ∙ c.format.ensures.text in
     says _ _ _ _ _ (ap (λ t. text_of (codes "cps: too many waiting " ∷ t ∷ codes "\n" ∷ [])) n ∙ ap refusal_line (sym c.in-TooManyWaiting.is)) c.put_all.ensures
-
-pub returns-in-Unbuilt : goal.returns-in-Unbuilt
-returns-in-Unbuilt g c = says _ _ _ _ _ (ap refusal_line (sym c.in-Unbuilt.is)) c.put_all-in-Unbuilt.ensures

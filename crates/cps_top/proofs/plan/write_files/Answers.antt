@@ -1,8 +1,5 @@
-use Rattle.std.proofs.Common.{Ok, ap, sym, ◌∙◌}
 use Rattle.cps_top.proofs.Showing.{of_bytes}
 use Rattle.cps_top.proofs.plan.write_files.Goals as goal
 
 pub returns : goal.returns
-returns g c =
-    of_bytes c.write_opened.result _ _ _ c.in-Ok.aerodrome _ c.in-Ok.ensures.value (c.in-Ok-read_flights.ensures.value ∙ ap Ok (sym c.as_slice.ensures.value))
-    c.write_opened.ensures.shows c.write_opened.ensures.taken
+returns g c = of_bytes c.write_opened.result _ _ _ c.in-Ok.aerodrome _ c.in-Ok.ensures.value c.in-Ok-read_flights.ensures.value c.write_opened.ensures

@@ -1,0 +1,92 @@
+-- From what a replay did to what the command says of its files.
+use Rattle.std.proofs.Common.{◌≡◌, ℕ, List, [], ◌∷◌, Bool, Ok, Err, Result, map, refl, ap, ◌∙◌, inl, inr, append-nil}
+use Rattle.std.specs.Prelude.{is_some, None}
+use Rattle.cps_outside.specs.SinkState.{SinkState, Grows, GrowsByPart}
+use Rattle.landing_rules.specs.Events as rules
+use Rattle.landing_rules.specs.Events.{State}
+use Rattle.landing_rules.specs.Text.{replay_text}
+use Rattle.aerodrome_file.specs.declared.aerodrome.Aerodrome.{Aerodrome}
+use Rattle.aerodrome_file.specs.Reading.{aerodrome_of}
+use Rattle.flight_file.specs.declared.flight.Flight.{Flight}
+use Rattle.flight_file.specs.Reading.{flights_of}
+use Rattle.event_log.specs.declared.event.Event.{Event}
+use Rattle.event_log.specs.Reading.{events_of}
+use Rattle.event_log.specs.Seen.{event_of}
+use Rattle.replays.specs.Runs.{ReplayEnds}
+use Rattle.replays.specs.declared.stops.Stop.{Stop}
+use Rattle.replays.specs.declared.stops.Stop.TheVariants as stop
+use Rattle.cps_top.specs.declared.commands.Command.TheVariants.{Replay}
+use Rattle.cps_top.specs.declared.endings.Ending.{Ending}
+use Rattle.cps_top.specs.declared.endings.Ending.TheVariants.{Answered, Misused, Refused, NotLoaded, NotWritten, TooLong, NoMemory}
+use Rattle.cps_top.specs.Outcome.{Follows}
+use Rattle.cps_top.specs.Plan.{answer_by, IsOpened, StopsOpened}
+use Rattle.cps_top.specs.Replay.{IsBegun, StopsReplay, refused_with, ending_of}
+
+whole_part : (old new : SinkState) (text : List ℕ) → Grows old new text → GrowsByPart old new text
+whole_part old new text grew = λ told. (text, [], append-nil text, grew told)
+
+-- the end of a replay from what the files read as
+pub replayed : (a f e : List ℕ) (state last : State) (events : List rules.Event) (old new : SinkState) (r : Result Bool Stop) → IsBegun a f e state events →
+    ReplayEnds state last events old new r → Follows Replay (a ∷ f ∷ e ∷ []) old new (ending_of r)
+replayed a f e state last events old new (Ok planned) begun ends = record {
+  text = replay_text state ends.1.answers;
+  admitted = record {
+    state = state;
+    events = events;
+    begun = begun;
+    answers = ends.1.answers;
+    run = ends.1.run;
+    prints = refl;
+    answered = ap answer_by (ends.0 ∙ ap (λ (s : State). is_some s.plan) ends.1.last);
+  };
+  grew = ends.1.written.grew;
+}
+replayed a f e state last events old new (Err stop.NotWritten) begun ends = (
+  record {
+    text = replay_text state ends.answers;
+    admitted = record { state = state; events = events; begun = begun; done = ends.done; rest = ends.rest; split = ends.split; answers = ends.answers; run = ends.run; prints = refl };
+    grew = ends.written.part;
+  },
+  ends.written.failed,
+)
+replayed a f e state last events old new (Err stop.NoMemory) begun (inl same) = inl same
+replayed a f e state last events old new (Err stop.NoMemory) begun (inr ends) = inr (record {
+  text = replay_text state ends.answers;
+  admitted = record { state = state; events = events; begun = begun; done = ends.done; rest = ends.rest; split = ends.split; answers = ends.answers; run = ends.run; prints = refl };
+  grew = whole_part old new (replay_text state ends.answers) ends.written.grew;
+})
+
+-- files that are not taken are refused by their bytes
+pub stops_replay : (a f e : List ℕ) (aerodrome : Aerodrome) (flights : List Flight) (log : List Event) (ending : Ending) →
+    aerodrome_of a ≡ Ok aerodrome → flights_of f ≡ Ok flights → events_of e ≡ Ok log → StopsOpened flights ending → StopsReplay a f e ending
+stops_replay a f e aerodrome flights log (Refused cause) a_read f_read e_read stops =
+    ap (λ r. refused_with r (flights_of f) (events_of e)) a_read ∙ ap (λ r. refused_with (Ok aerodrome) r (events_of e)) f_read
+    ∙ ap (λ r. refused_with (Ok aerodrome) (Ok flights) r) e_read ∙ stops
+stops_replay a f e aerodrome flights log NoMemory a_read f_read e_read stops = tt
+stops_replay a f e aerodrome flights log (Answered answer) a_read f_read e_read stops = absurd stops
+stops_replay a f e aerodrome flights log Misused a_read f_read e_read stops = absurd stops
+stops_replay a f e aerodrome flights log (NotLoaded place) a_read f_read e_read stops = absurd stops
+stops_replay a f e aerodrome flights log NotWritten a_read f_read e_read stops = absurd stops
+stops_replay a f e aerodrome flights log (TooLong place) a_read f_read e_read stops = absurd stops
+
+-- files that began are not refused
+pub not_refused : (a f e : List ℕ) (state : State) (events : List rules.Event) → IsBegun a f e state events →
+    refused_with (aerodrome_of a) (flights_of f) (events_of e) ≡ None
+not_refused a f e state events begun =
+    ap (λ r. refused_with r (flights_of f) (events_of e)) begun.aerodrome_read ∙ ap (λ r. refused_with (Ok begun.aerodrome) r (events_of e)) begun.flights_read
+    ∙ ap (λ r. refused_with (Ok begun.aerodrome) (Ok begun.flights) r) begun.events_read ∙ begun.taken
+
+-- what was made of read files, of their bytes
+pub begun : (a f e : List ℕ) (aerodrome : Aerodrome) (flights : List Flight) (log : List Event) (state : State) →
+    aerodrome_of a ≡ Ok aerodrome → flights_of f ≡ Ok flights → events_of e ≡ Ok log → IsOpened aerodrome flights state → IsBegun a f e state (map event_of log)
+begun a f e aerodrome flights log state a_read f_read e_read opened = record {
+  aerodrome = aerodrome;
+  flights = flights;
+  log = log;
+  aerodrome_read = a_read;
+  flights_read = f_read;
+  events_read = e_read;
+  taken = opened.taken;
+  opens = opened.opens;
+  events_are = refl;
+}

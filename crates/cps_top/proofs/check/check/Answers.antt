@@ -1,0 +1,21 @@
+use Rattle.std.proofs.Common.{refl, ◌∙◌}
+use Rattle.cps_top.specs.Verdicts.{answer_of_verdict}
+use Rattle.cps_top.proofs.check.check.Goals as goal
+
+pub returns : goal.returns
+returns g c = (
+  record {
+    text = c.as_slice.result.now;
+    admitted = (
+      answer_of_verdict c.in-Ok.verdict,
+      record {
+        verdict = c.in-Ok.verdict;
+        judges = c.in-Ok.ensures;
+        prints = c.as_slice.ensures.value ∙ c.in-Ok-verdict_line.ensures;
+        answers = refl;
+      },
+    );
+    grew = c.in-Err-put.ensures.writes.part;
+  },
+  c.in-Err-put.ensures.writes.failed,
+)

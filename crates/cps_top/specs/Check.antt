@@ -1,0 +1,63 @@
+-- What `check` prints over the contents of its three files, and which it refuses.
+use Rattle.std.specs.Prelude.{◌≡◌, ⊤, ℕ, List, Option, Some, None, Result, Ok, Err}
+use Rattle.landing_rules.specs.Problem.{Problem, IsProblemOf}
+use Rattle.aerodrome_file.specs.declared.aerodrome.Aerodrome.{Aerodrome}
+use Rattle.aerodrome_file.specs.declared.fault.AeroFault.{AeroFault}
+use Rattle.aerodrome_file.specs.Reading.{aerodrome_of}
+use Rattle.flight_file.specs.declared.flight.Flight.{Flight}
+use Rattle.flight_file.specs.declared.fault.FlightFault.{FlightFault}
+use Rattle.flight_file.specs.Reading.{flights_of}
+use Rattle.certificate.specs.declared.fault.CertFault.{CertFault}
+use Rattle.certificate.specs.Reading.{Cert, certificate_of}
+use Rattle.cert_check.specs.Verdict.{verdict_of}
+use Rattle.cert_check.specs.declared.verdict.Verdict.{Verdict}
+use Rattle.sequencer.specs.Opened.{opened}
+use Rattle.cps_top.specs.declared.endings.Answer.{Answer}
+use Rattle.cps_top.specs.declared.endings.Ending.{Ending}
+use Rattle.cps_top.specs.declared.endings.Ending.TheVariants as endings
+use Rattle.cps_top.specs.declared.endings.Refusal.{Refusal}
+use Rattle.cps_top.specs.declared.endings.Refusal.TheVariants as refusal
+use Rattle.cps_top.specs.Plan.{refusal_of}
+use Rattle.cps_top.specs.Verdicts.{verdict_text, answer_of_verdict, IsTrueOf}
+
+-- the first cause, in the order of the files
+abbrev pub unchecked_by : Result Aerodrome AeroFault → Result (List Flight) FlightFault → Result Cert CertFault → Option Refusal
+unchecked_by (Err fault) flights certificate = Some (refusal.Aerodrome fault)
+unchecked_by (Ok aerodrome) (Err fault) certificate = Some (refusal.Flights fault)
+unchecked_by (Ok aerodrome) (Ok flights) (Err fault) = Some (refusal.Certificate fault)
+unchecked_by (Ok aerodrome) (Ok flights) (Ok certificate) = refusal_of flights
+
+abbrev pub RefusesCheck : List ℕ → List ℕ → List ℕ → Refusal → Type 0
+RefusesCheck aerodrome flights certificate cause = unchecked_by (aerodrome_of aerodrome) (flights_of flights) (certificate_of certificate) ≡ Some cause
+
+-- The files are taken. This is the verdict on the certificate for the problem of their opening situation, and what it says
+-- of that situation is true.
+pub record IsJudged (aerodrome : Aerodrome) (flights : List Flight) (certificate : Cert) (verdict : Verdict) : Type 0 where
+  pub taken : refusal_of flights ≡ None
+  pub problem : Problem
+  pub problem_of : IsProblemOf (opened aerodrome flights) problem
+  pub verdict_is : verdict ≡ verdict_of problem certificate
+  pub true_of : IsTrueOf (opened aerodrome flights) problem certificate.landings verdict
+
+-- The files read as an aerodrome, flights and a certificate, with this verdict.
+pub record Judges (aerodrome_bytes flight_bytes certificate_bytes : List ℕ) (verdict : Verdict) : Type 0 where
+  pub aerodrome : Aerodrome
+  pub flights : List Flight
+  pub certificate : Cert
+  pub aerodrome_read : aerodrome_of aerodrome_bytes ≡ Ok aerodrome
+  pub flights_read : flights_of flight_bytes ≡ Ok flights
+  pub certificate_read : certificate_of certificate_bytes ≡ Ok certificate
+  pub judged : IsJudged aerodrome flights certificate verdict
+
+-- The text is the line of that verdict.
+pub record AdmitsCheck (aerodrome flights certificate text : List ℕ) (answer : Answer) : Type 0 where
+  pub verdict : Verdict
+  pub judges : Judges aerodrome flights certificate verdict
+  pub prints : text ≡ verdict_text verdict
+  pub answers : answer ≡ answer_of_verdict verdict
+
+-- how `check` may stop before it writes
+abbrev pub StopsCheck : List ℕ → List ℕ → List ℕ → Ending → Type 0
+StopsCheck aerodrome flights certificate (endings.Refused cause) = RefusesCheck aerodrome flights certificate cause
+StopsCheck aerodrome flights certificate endings.NoMemory = ⊤
+StopsCheck aerodrome flights certificate ending = ⊥

@@ -1,0 +1,90 @@
+// The command `check`.
+ghost use Rattle.std.specs.Prelude.{◌<◌, [], ◌∷◌, length, MatchResult};
+ghost use Rattle.aerodrome_file.specs.Reading.{IsInRange};
+ghost use Rattle.flight_file.specs.OfFile.{CanBeRead};
+ghost use Rattle.cps_top.specs.declared.commands.Command.TheVariants as commands;
+ghost use Rattle.cps_top.specs.Check.{IsJudged, Judges, StopsCheck};
+ghost use Rattle.cps_top.specs.Outcome.{Follows};
+ghost use Rattle.cps_top.specs.Plan.{StopsOpened};
+
+use crate::verdict_lines::{answer, verdict_line};
+use crate::{Ending, Refusal};
+use aerodrome_file::{AeroFault, Aerodrome, read_aerodrome};
+use cert_check::{Verdict, judge};
+use certificate::{CertFault, Certificate, read_certificate};
+use cps_outside::Sink;
+use flight_file::{Flight, FlightCause, read_flights};
+use landing_joint::laws::problem_stands_for_situation;
+use sequencer::{BeginFault, opening_problem};
+use std::alloc::Global;
+
+// The verdict on a certificate for the opening situation of the files.
+fn judge_opened(
+    alloc: Global,
+    aerodrome: &Aerodrome,
+    flights: &[Flight],
+    certificate: &Certificate,
+) -> Result<Verdict, Ending>
+    requires range { IsInRange aerodrome.now }
+    requires read { CanBeRead flights.now }
+    ensures { MatchResult result (IsJudged aerodrome.now flights.now certificate.now) (StopsOpened flights.now) }
+{
+    problem_stands_for_situation();
+    match opening_problem(alloc, aerodrome, flights) {
+        Ok(problem) => Ok(judge(&problem, certificate)),
+        Err(BeginFault::TooManyWaiting(n)) => Err(Ending::Refused(Refusal::TooManyWaiting(n))),
+        Err(BeginFault::Memory) => Err(Ending::NoMemory),
+    }
+}
+
+// The same for the bytes of the files.
+fn judge_files(
+    alloc: Global,
+    aerodrome: &[u8],
+    flights: &[u8],
+    certificate: &[u8],
+) -> Result<Verdict, Ending>
+    requires { length certificate.now < 4294967295 }
+    ensures { MatchResult result (Judges aerodrome.now flights.now certificate.now) (StopsCheck aerodrome.now flights.now certificate.now) }
+{
+    let aerodrome = match read_aerodrome(alloc, aerodrome) {
+        Ok(aerodrome) => aerodrome,
+        Err(AeroFault::Memory) => return Err(Ending::NoMemory),
+        Err(fault) => return Err(Ending::Refused(Refusal::Aerodrome(fault))),
+    };
+    let flights = match read_flights(alloc, flights) {
+        Ok(flights) => flights,
+        Err(fault) if fault.cause == FlightCause::Memory => return Err(Ending::NoMemory),
+        Err(fault) => return Err(Ending::Refused(Refusal::Flights(fault))),
+    };
+    let certificate = match read_certificate(alloc, certificate) {
+        Ok(certificate) => certificate,
+        Err(CertFault::Memory) => return Err(Ending::NoMemory),
+        Err(fault) => return Err(Ending::Refused(Refusal::Certificate(fault))),
+    };
+    judge_opened(alloc, &aerodrome, flights.as_slice(), &certificate)
+}
+
+// Prints the verdict on the certificate of the files.
+pub(crate) fn check<S: Sink>(
+    alloc: Global,
+    aerodrome: &[u8],
+    flights: &[u8],
+    certificate: &[u8],
+    out: &mut S,
+) -> Ending
+    requires { length certificate.now < 4294967295 }
+    ensures { Follows commands.Check (aerodrome.now ∷ flights.now ∷ certificate.now ∷ []) (S.state out.old) (S.state out.new) result }
+{
+    let verdict = match judge_files(alloc, aerodrome, flights, certificate) {
+        Ok(verdict) => verdict,
+        Err(ending) => return ending,
+    };
+    match verdict_line(alloc, &verdict) {
+        Err(_) => Ending::NoMemory,
+        Ok(text) => match out.put(text.as_slice()) {
+            Ok(()) => Ending::Answered(answer(&verdict)),
+            Err(_) => Ending::NotWritten,
+        },
+    }
+}

@@ -1,0 +1,94 @@
+// The command `replay`.
+ghost use Rattle.std.specs.Prelude.{◌≡◌, ◌≤◌, [], ◌∷◌, All, map, vec_len, MatchResult};
+ghost use Rattle.event_log.specs.Seen.{event_of, IsGood};
+ghost use Rattle.cps_top.specs.declared.commands.Command.TheVariants as commands;
+ghost use Rattle.cps_top.specs.Replay.{ending_of, IsBegun, StopsReplay};
+ghost use Rattle.cps_top.specs.Outcome.{Follows};
+
+use crate::opening::begin;
+use crate::plan::answer;
+use crate::{Ending, Refusal};
+use aerodrome_file::{AeroFault, read_aerodrome};
+use cps_base::{Silent, Steps};
+use cps_outside::{Gate, Sink};
+use event_log::{Event, LogCause, read_events};
+use flight_file::{FlightCause, read_flights};
+use replan::AnyKept;
+use replays::Stop;
+use sequencer::Sequencer;
+use std::alloc::Global;
+use std::thread::Threads;
+
+// The sequencer that the files begin, and the events of the log; or why the files are not taken.
+fn begin_files<R: Threads + Sync, G: Gate + Sync>(
+    rt: &R,
+    alloc: Global,
+    aerodrome: &[u8],
+    flights: &[u8],
+    events: &[u8],
+    gate: &G,
+) -> Result<(Sequencer<AnyKept>, Vec<Event>), Ending>
+    ensures { MatchResult result
+        (λ begun. IsBegun aerodrome.now flights.now events.now begun.0.state (map event_of begun.1.items) × (All IsGood begun.1.items) × (vec_len begun.1 ≤ 2000))
+        (StopsReplay aerodrome.now flights.now events.now) }
+{
+    let aerodrome = match read_aerodrome(alloc, aerodrome) {
+        Ok(aerodrome) => aerodrome,
+        Err(AeroFault::Memory) => return Err(Ending::NoMemory),
+        Err(fault) => return Err(Ending::Refused(Refusal::Aerodrome(fault))),
+    };
+    let flights = match read_flights(alloc, flights) {
+        Ok(flights) => flights,
+        Err(fault) if fault.cause == FlightCause::Memory => return Err(Ending::NoMemory),
+        Err(fault) => return Err(Ending::Refused(Refusal::Flights(fault))),
+    };
+    let events = match read_events(alloc, events) {
+        Ok(events) => events,
+        Err(fault) if fault.cause == LogCause::Memory => return Err(Ending::NoMemory),
+        Err(fault) => return Err(Ending::Refused(Refusal::Events(fault))),
+    };
+    match begin(rt, alloc, aerodrome, flights, gate) {
+        Ok(sequencer) => Ok((sequencer, events)),
+        Err(ending) => Err(ending),
+    }
+}
+
+// How the program ends where its replay ended so.
+fn ending_of(replayed: Result<bool, Stop>) -> Ending
+    ensures { result ≡ ending_of replayed }
+{
+    match replayed {
+        Ok(planned) => Ending::Answered(answer(planned)),
+        Err(Stop::NotWritten) => Ending::NotWritten,
+        Err(Stop::NoMemory) => Ending::NoMemory,
+    }
+}
+
+// Prints the opening plan of the files, and an answer for each event of the log.
+pub(crate) fn replay<R: Threads + Sync, S: Sink, G: Gate + Sync>(
+    rt: &R,
+    alloc: Global,
+    aerodrome: &[u8],
+    flights: &[u8],
+    events: &[u8],
+    out: &mut S,
+    gate: &G,
+) -> Ending
+    ensures { Follows commands.Replay (aerodrome.now ∷ flights.now ∷ events.now ∷ []) (S.state out.old) (S.state out.new) result }
+{
+    let (mut sequencer, events) = match begin_files(rt, alloc, aerodrome, flights, events, gate) {
+        Ok(begun) => begun,
+        Err(ending) => return ending,
+    };
+    let mut steps = Steps::new(Silent);
+    let replayed = replays::replay(
+        rt,
+        alloc,
+        &mut sequencer,
+        events.as_slice(),
+        out,
+        gate,
+        &mut steps,
+    );
+    ending_of(replayed)
+}
