@@ -2,7 +2,7 @@
 use Rattle.std.proofs.Common.{◌≡◌, ℕ, zero, suc, ◌+◌, ◌-◌, ◌*◌, ◌<◌, ◌≤◌, List, [], ◌∷◌, ◌++◌, length, reverse, get_or, refl, arith, length-append, ◌∙◌, sym, ap, inl, inr, subst, Bool}
 use Rattle.std.specs.Prelude.{ℤ, pos, nat_abs, ◌+ℤ◌, ◌↔◌, Contains, IsTrue, All}
 use Rattle.std.proofs.lemmas.Int.{ints}
-use Rattle.std.proofs.lemmas.List.{reverse-append, length-reverse}
+use Rattle.std.proofs.lemmas.List.{length-reverse}
 use Rattle.std.proofs.lemmas.List.Elements.{Contains-append_left, Contains-append_right, Contains-append_cases}
 use Rattle.std.proofs.lemmas.Bool.{cases_lt}
 use Rattle.precedence.specs.Pairs.{MustPrecede, must_precede_decides, AreInRange}
@@ -18,11 +18,9 @@ use Rattle.landing_rules.specs.Problem.{Problem}
 use Rattle.cps_network.specs.Permits.{IsPermitted}
 use Rattle.cps_network.proofs.LegalLists.{IsLegal, FollowPrefixes}
 use Rattle.cps_network.specs.Nodes.{node_of, permits, land, latest, IsWindowNetwork, StepsAreWhole}
+use Rattle.cps_network.specs.shared.LegalWindows.{reverse_more}
 use Rattle.cps_network.proofs.MergeLemmas.{last_or_before}
 use Rattle.cps_network.proofs.LegalLemmas.{read_old, read_last, read_at}
-
-pub reverse_more : (r : ℕ) (rs : List ℕ) → reverse (r ∷ rs) ≡ reverse rs ++ r ∷ []
-reverse_more r rs = reverse-append (r ∷ []) rs
 
 only_one : (r x : ℕ) → Contains (r ∷ []) x → x ≡ r
 only_one r x (zero, lt, at) = sym at

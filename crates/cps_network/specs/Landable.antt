@@ -18,6 +18,10 @@ IsLandable p stage xs = (landings : List Landing) × Legal (ranked p).rules (ran
 abbrev pub HoldsLandable : Problem → ℕ × List (List ℤ) → Type 0
 HoldsLandable p stage = (xs : List ℤ) → Contains stage.1 xs ↔ IsLandable p stage.0 xs
 
+-- each landable window of a stage is among its windows
+abbrev pub HasEachLandable : Problem → ℕ × List (List ℤ) → Type 0
+HasEachLandable p stage = (xs : List ℤ) → IsLandable p stage.0 xs → Contains stage.1 xs
+
 -- a candidate of the stage after one: a window that extends a landable window of that by a permitted rank
 abbrev pub IsCandidate : Problem → ℕ → List ℤ → Type 0
 IsCandidate p stage next = (xs : List ℤ) × IsLandable p stage xs × IsSuccessor p stage xs next

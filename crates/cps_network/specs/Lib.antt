@@ -6,3 +6,5 @@ pub mod Begins
 pub mod Compacted
 pub mod Nodes
 pub mod Landable
+pub mod WindowLaws
+pub mod shared

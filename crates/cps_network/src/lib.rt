@@ -4,6 +4,7 @@
 #![tactic(auto)]
 
 mod compact;
+mod last;
 mod laws;
 mod merge;
 mod next;
@@ -12,6 +13,7 @@ mod runs;
 mod source_range;
 mod stage;
 
+pub use last::last_rank;
 pub use laws::prefix_laws;
 pub use next::{next_stage, next_stage_like};
 pub use permit::is_permitted;

@@ -1,4 +1,4 @@
-use crate::{Stage, sources};
+use crate::{Stage, last_rank, sources};
 use std::test::Fail;
 
 fn shared_by_pieces<T: Send + Sync>(_: &T) {}
@@ -11,6 +11,7 @@ fn the_first_stage_has_the_source_alone(rt: HostRuntime) -> Result<(), Fail> {
         (stage.number(), stage.len(), stage.is_empty()),
         (0, 1, false)
     );
+    assert_eq!(rt; last_rank(&stage.node(0), stage.number()), 0);
     if let Some(next) = stage.node(0).extend(1) {
         assert_eq!(rt; sources(&stage, &next), (0, 1));
     }
