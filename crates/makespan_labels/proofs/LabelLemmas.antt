@@ -1,170 +1,57 @@
 -- The label of a window of the next stage, from the least label of the windows that lead to it.
-use Rattle.std.proofs.Common.{◌≡◌, ℕ, suc, ◌+◌, ◌-◌, ◌*◌, ◌<◌, ◌≤◌, List, [], ◌∷◌, length, drop, Option, Some, None, refl, sym, ap, subst, ◌∙◌, arith, le_trans, inl, inr, true}
-use Rattle.std.specs.Prelude.{ℤ, pos, ◌+ℤ◌, ◌≤ℤ◌, ◌↔◌, Contains, slice_index}
-use Rattle.std.proofs.lemmas.Int.{ints}
-use Rattle.std.proofs.lemmas.List.{get_or_default}
-use Rattle.std.proofs.lemmas.List.Elements.{Contains-get_or}
-use Rattle.std.proofs.lemmas.Bool.{cases_eq}
-use Rattle.cps_nodes.specs.Windows.{IsWindow, offset_at, shifted}
-use Rattle.cps_nodes.specs.Leads.{Extends, TailMeetsHead}
-use Rattle.cps_nodes.specs.Laws.{offset_after}
+use Rattle.std.proofs.Common.{◌≡◌, ℕ, suc, ◌+◌, ◌-◌, ◌<◌, ◌≤◌, List, length, Option, Some, None, sym, ap, subst, ◌∙◌, arith, le_trans, true}
+use Rattle.std.specs.Prelude.{ℤ, pos, ◌+ℤ◌, slice_index}
+use Rattle.cps_nodes.specs.Windows.{offset_at}
 use Rattle.cps_theory.specs.Feasible.{next_from}
 use Rattle.cps_theory.specs.laws.LeastObjective.{next_later}
 use Rattle.landing_joint.specs.RankedProblem.{ranked, landing_after}
 use Rattle.landing_joint.specs.shared.FirstOpen.{is_first_open}
 use Rattle.landing_rules.specs.Problem.{Problem}
 use Rattle.landing_rules.specs.Rules.{last_second}
-use Rattle.cps_network.specs.Landable.{IsLandable}
 use Rattle.cps_network.specs.Lists.{node_at}
 use Rattle.cps_network.specs.Nodes.{latest}
-use Rattle.cps_network.specs.Permits.{IsSuccessor, IsNextOf}
-use Rattle.makespan_labels.specs.Labels.{no_label, CanLandAt, IsLabel, HoldsLabels, GivesLabel}
-use Rattle.makespan_labels.specs.Laws.{WindowLaws, IsLeastOf}
-use Rattle.makespan_labels.specs.shared.NetworkSteps.{can_land, is_landable, ComesFrom, comes_from, lands_next, valid_after, landable_valid, landable_last, next_last}
+use Rattle.cps_network.specs.Permits.{IsSuccessor}
+use Rattle.cps_network.specs.shared.LeadingWindows.{Sources, landable_at, successor_at, place_of, place_at, rank_of, leader_at}
+use Rattle.makespan_labels.specs.Columns.{IsLeastOf}
+use Rattle.makespan_labels.specs.Labels.{no_label, CanLandAt, IsLabel, AreLabels, GivesLabel}
+use Rattle.makespan_labels.specs.shared.NetworkSteps.{can_land, is_landable, ComesFrom, comes_from, lands_next}
 
-offset_tail : (xs : List ℤ) (i : ℕ) → offset_at xs (suc i) ≡ offset_at (drop 1 xs) i
-offset_tail [] i = refl
-offset_tail (x ∷ xs) i = refl
-
--- windows with the same offsets from the second on end alike
-same_last : (w : ℕ) (x y : List ℤ) → IsWindow w x → IsWindow w y → drop 1 x ≡ drop 1 y → offset_at x (w - 1) ≡ offset_at y (w - 1)
-same_last w x y a b e = elim (cases_eq w 1) [
-  | inl one ↦
-      let p : offset_at x (w - 1) ≡ pos 0 = omega (arith, ints, a.low (w - 1) (omega arith), a.high (w - 1) (omega arith)) in
-      let q : offset_at y (w - 1) ≡ pos 0 = omega (arith, ints, b.low (w - 1) (omega arith), b.high (w - 1) (omega arith)) in
-      p ∙ sym q
-  | inr more ↦
-      let n : w - 1 ≡ suc (w - 2) = omega (arith, a.is_width) in
-      ap (offset_at x) n ∙ offset_tail x (w - 2) ∙ ap (λ (l : List ℤ). offset_at l (w - 2)) e ∙ sym (offset_tail y (w - 2)) ∙ ap (offset_at y) (sym n)
-]
-
--- the range of the windows that lead to a window of the next stage
-pub record Sources (p : Problem) (w stage : ℕ) (before : List (List ℤ)) (labels : List ℕ) (v : List ℤ) (from to : ℕ) : Type 0 where
-  pub odd : w ≡ 2 * p.k + 1
-  pub laws : WindowLaws p w
-  pub holds : HoldsLabels p (stage, before) labels
-  pub node : (x : List ℤ) × Contains before x × IsSuccessor p stage x v
-  pub within : to ≤ length before
-  pub exact : (j : ℕ) → j < length before → Extends (node_at before j) v ↔ ((from ≤ j) × (j < to))
-
-module _ (p : Problem) (w stage : ℕ) (before : List (List ℤ)) (labels : List ℕ) (v : List ℤ) (from to : ℕ) (range : Sources p w stage before labels v from to) where
-  odd : w ≡ 2 * p.k + 1
-  odd = range.odd
-
-  laws : WindowLaws p w
-  laws = range.laws
-
-  holds : HoldsLabels p (stage, before) labels
-  holds = range.holds
-
-  node : (x : List ℤ) × Contains before x × IsSuccessor p stage x v
-  node = range.node
-
-  within : to ≤ length before
-  within = range.within
-
-  exact : (j : ℕ) → j < length before → Extends (node_at before j) v ↔ ((from ≤ j) × (j < to))
-  exact = range.exact
-
-  landable_at : (j : ℕ) → j < length before → IsLandable p stage (node_at before j)
-  landable_at j lt = (holds.landable (node_at before j)).0 (Contains-get_or before j [] lt)
-
-  landable_of : (x : List ℤ) → Contains before x → IsLandable p stage x
-  landable_of x has = (holds.landable x).0 has
-
-  extends_of : (x : List ℤ) → IsLandable p stage x → IsSuccessor p stage x v → Extends x v
-  extends_of x l s =
-      let wide = (landable_valid p w odd laws stage x l).len in
-      (offset_after stage s.0, record { low = omega (arith, ints, s.1.late, odd, wide); high = omega (arith, ints, s.1.early, odd, wide) }, s.1.accepted, s.2)
-
-  node_valid : IsWindow w v
-  node_valid =
-      let l = landable_of node.0 node.1 in
-      subst (IsWindow w) (sym node.2.2) (valid_after p w odd laws node.0 stage node.2.0 (landable_valid p w odd laws stage node.0 l) node.2.1)
-
-  meets_at : (j : ℕ) → from ≤ j → j < to → TailMeetsHead (node_at before j) v
-  meets_at j lo hi =
-      let lt : j < length before = omega (arith, hi, within) in
-      (laws.leads.meets (node_at before j) v (landable_valid p w odd laws stage (node_at before j) (landable_at j lt)) node_valid).0 ((exact j lt).1 (lo, hi))
-
-  successor_at : (j : ℕ) → from ≤ j → j < to → IsSuccessor p stage (node_at before j) v
-  successor_at j lo hi =
-      let lt : j < length before = omega (arith, hi, within) in
-      laws.alike stage node.0 (node_at before j) v (landable_valid p w odd laws stage node.0 (landable_of node.0 node.1))
-      (landable_valid p w odd laws stage (node_at before j) (landable_at j lt)) (meets_at j lo hi) node.2
-
-  -- each window that leads to it is in the range
-  place_of : (x : List ℤ) → Contains before x → IsSuccessor p stage x v → (j : ℕ) × (from ≤ j) × (j < to) × (node_at before j ≡ x)
-  place_of x (i, lt, at) s =
-      let it : node_at before i ≡ x = get_or_default before i [] x lt ∙ at in
-      let found = (exact i lt).0 (subst (λ (y : List ℤ). Extends y v) (sym it) (extends_of x (landable_of x (i, lt, at)) s)) in
-      (i, found.0, found.1, it)
-
-  pub some_range : from < to
-  some_range = let j = place_of node.0 node.1 node.2 in omega (arith, j.1, j.2)
-
-  -- the rank that lands last in it
-  pub rank_of : (r : ℕ) → pos r ≡ pos (suc stage) +ℤ offset_at v (w - 1) → (x : List ℤ) → IsLandable p stage x → (s : IsSuccessor p stage x v) → s.0 ≡ r
-  rank_of r is x l s =
-      let a : pos (suc stage) +ℤ offset_at (shifted x (offset_after stage s.0)) (w - 1) ≡ pos s.0 = next_last p w odd laws stage x s.0 l s.1 in
-      let b : offset_at v (w - 1) ≡ offset_at (shifted x (offset_after stage s.0)) (w - 1) = ap (λ (y : List ℤ). offset_at y (w - 1)) s.2 in
-      omega (arith, ints, a, b, is)
-
-  pub rank_range : (pos 1 ≤ℤ (pos (suc stage) +ℤ offset_at v (w - 1))) × ((pos (suc stage) +ℤ offset_at v (w - 1)) ≤ℤ pos (length p.flights))
-  rank_range =
-      let l = landable_of node.0 node.1 in
-      let a : pos (suc stage) +ℤ offset_at (shifted node.0 (offset_after stage node.2.0)) (w - 1) ≡ pos node.2.0 = next_last p w odd laws stage node.0 node.2.0 l node.2.1 in
-      let b : offset_at v (w - 1) ≡ offset_at (shifted node.0 (offset_after stage node.2.0)) (w - 1) = ap (λ (y : List ℤ). offset_at y (w - 1)) node.2.2 in
-      let lo = node.2.1.from_one in
-      let hi = node.2.1.to_count in
-      (omega (arith, ints, a, b, lo), omega (arith, ints, a, b, hi))
-
-  -- the rank that landed last before it is the same in each window of the range
-  pub leader_range : (pos stage +ℤ offset_at (node_at before from) (w - 1) ≡ pos (latest (stage, node_at before from))) × (latest (stage, node_at before from) ≤ length p.flights)
-  leader_range = let s = some_range in landable_last p w odd laws stage (node_at before from) (landable_at from (omega (arith, s, within)))
-
-  pub leader_at : (l : ℕ) → pos l ≡ pos stage +ℤ offset_at (node_at before from) (w - 1) → (j : ℕ) → from ≤ j → j < to → latest (stage, node_at before j) ≡ l
-  leader_at l is j lo hi =
-      let s = some_range in
-      let lt : j < length before = omega (arith, hi, within) in
-      let first : from < length before = omega (arith, s, within) in
-      let a = (landable_last p w odd laws stage (node_at before j) (landable_at j lt)).0 in
-      let e : offset_at (node_at before j) (w - 1) ≡ offset_at (node_at before from) (w - 1) =
-      same_last w (node_at before j) (node_at before from) (landable_valid p w odd laws stage (node_at before j) (landable_at j lt)) (landable_valid p w odd laws stage (node_at before from) (landable_at from first))
-      (meets_at j lo hi ∙ sym (meets_at from (omega arith) s)) in
-      omega (arith, ints, a, e, is)
-
+module _ (p : Problem) (w stage : ℕ) (before : List (List ℤ)) (v : List ℤ) (from to : ℕ) (range : Sources p w stage before v from to) (labels : List ℕ) (are : AreLabels p (stage, before) labels) where
   -- each label of the range is known
   pub known_at : (j : ℕ) → from ≤ j → j < to → slice_index labels j < no_label
   known_at j lo hi =
-      let lt : j < length before = omega (arith, hi, within) in
-      let l = landable_at j lt in
-      ((holds.labelled.label j lt).least _ (can_land p stage (node_at before j) l)).0
+      let lt : j < length before = omega (arith, hi, range.within) in
+      ((are.label j lt).least _ (can_land p stage (node_at before j) (landable_at p w stage before v from to range j lt))).0
 
   module _ (l r : ℕ) (leader_is : pos l ≡ pos stage +ℤ offset_at (node_at before from) (w - 1)) (rank_is : pos r ≡ pos (suc stage) +ℤ offset_at v (w - 1)) where
-    -- a landing behind the label of a window of the range
+    -- a landing behind a label of the range is one by the rank that leads on from its window
+    behind_label : (j : ℕ) → from ≤ j → j < to
+        → (x : IsSuccessor p stage (node_at before j) v) × (landing_after p (latest (stage, node_at before j)) (slice_index labels j) x.0 ≡ landing_after p l (slice_index labels j) r)
+    behind_label j lo hi =
+        let lt : j < length before = omega (arith, hi, range.within) in
+        let s = successor_at p w stage before v from to range j lo hi in
+        let same : s.0 ≡ r = rank_of p w stage before v from to range r rank_is (node_at before j) (landable_at p w stage before v from to range j lt) s in
+        let lead : latest (stage, node_at before j) ≡ l = leader_at p w stage before v from to range l leader_is j lo hi in
+        (s, ap (λ (x : ℕ). landing_after p x (slice_index labels j) s.0) lead ∙ ap (λ (x : ℕ). landing_after p l (slice_index labels j) x) same)
+
     pub lands_at : (j t : ℕ) → from ≤ j → j < to → landing_after p l (slice_index labels j) r ≡ Some t → CanLandAt p (suc stage) v t
     lands_at j t lo hi e =
-        let lt : j < length before = omega (arith, hi, within) in
-        let s = successor_at j lo hi in
-        let same : s.0 ≡ r = rank_of r rank_is (node_at before j) (landable_at j lt) s in
-        let lead : latest (stage, node_at before j) ≡ l = leader_at l leader_is j lo hi in
-        let e' : landing_after p (latest (stage, node_at before j)) (slice_index labels j) s.0 ≡ Some t =
-        ap (λ (x : ℕ). landing_after p x (slice_index labels j) s.0) lead ∙ ap (λ (x : ℕ). landing_after p l (slice_index labels j) x) same ∙ e in
-        subst (λ (y : List ℤ). CanLandAt p (suc stage) y t) (sym s.2)
-        (lands_next p laws.network stage (node_at before j) (slice_index labels j) s.0 t ((holds.labelled.label j lt).attained (known_at j lo hi)) s.1 e')
+        let lt : j < length before = omega (arith, hi, range.within) in
+        let b = behind_label j lo hi in
+        subst (λ (y : List ℤ). CanLandAt p (suc stage) y t) (sym b.0.2)
+        (lands_next p range.laws.network stage (node_at before j) (slice_index labels j) b.0.0 t ((are.label j lt).attained (known_at j lo hi)) b.0.1 (b.1 ∙ e))
 
     -- whatever it lands at, a landing behind some label of the range is no later
     pub landing_behind : (t : ℕ) → CanLandAt p (suc stage) v t → (j : ℕ) × (from ≤ j) × (j < to) × ((b : ℕ) → b ≤ slice_index labels j → (u : ℕ) × (landing_after p l b r ≡ Some u) × (u ≤ t))
     landing_behind t a =
-        let c : ComesFrom p stage v t = comes_from p laws.network stage v t a in
+        let c : ComesFrom p stage v t = comes_from p range.laws.network stage v t a in
         let here = is_landable p stage c.source c.second c.before in
         let s : IsSuccessor p stage c.source v = (c.rank, c.permitted, c.next) in
-        let j = place_of c.source ((holds.landable c.source).1 here) s in
-        let same : c.rank ≡ r = rank_of r rank_is c.source here s in
-        let lead : latest (stage, c.source) ≡ l = ap (λ (y : List ℤ). latest (stage, y)) (sym j.3) ∙ leader_at l leader_is j.0 j.1 j.2 in
+        let j = place_of p w stage before v from to range c.source ((range.holds c.source).1 here) s in
+        let same : c.rank ≡ r = rank_of p w stage before v from to range r rank_is c.source here s in
+        let lead : latest (stage, c.source) ≡ l = ap (λ (y : List ℤ). latest (stage, y)) (sym j.3) ∙ leader_at p w stage before v from to range l leader_is j.0 j.1 j.2 in
         let label : slice_index labels j.0 ≤ c.second =
-        ((holds.labelled.label j.0 (omega (arith, j.2, within))).least c.second (subst (λ (y : List ℤ). CanLandAt p stage y c.second) (sym j.3) c.before)).1 in
+        ((are.label j.0 (omega (arith, j.2, range.within))).least c.second (subst (λ (y : List ℤ). CanLandAt p stage y c.second) (sym j.3) c.before)).1 in
         let apart : next_from (ranked p) l c.second r ≤ t =
         subst (λ (x : ℕ). next_from (ranked p) x c.second r ≤ t) lead (subst (λ (x : ℕ). next_from (ranked p) (latest (stage, c.source)) c.second x ≤ t) same c.apart) in (
           j.0,
@@ -202,30 +89,19 @@ module _ (p : Problem) (w stage : ℕ) (before : List (List ℤ)) (labels : List
           some_same : (a b : ℕ) → ◌≡◌ {A = Option ℕ} (Some a) (Some b) → a ≡ b
           some_same a b e = cc
 
-  -- ---- the window that gives a label
+    -- ---- the window that gives a label
 
-  module _ (l r : ℕ) (leader_is : pos l ≡ pos stage +ℤ offset_at (node_at before from) (w - 1)) (rank_is : pos r ≡ pos (suc stage) +ℤ offset_at v (w - 1)) where
     pub gives_label : (j t : ℕ) → from ≤ j → j < to → landing_after p l (slice_index labels j) r ≡ Some t → GivesLabel p (stage, before) labels v t j
     gives_label j t lo hi e =
-        let lt : j < length before = omega (arith, hi, within) in
-        let s = successor_at j lo hi in
-        let same : s.0 ≡ r = rank_of r rank_is (node_at before j) (landable_at j lt) s in
-        let lead : latest (stage, node_at before j) ≡ l = leader_at l leader_is j lo hi in
-        record {
-          within = lt;
-          rank = s.0;
-          permitted = s.1;
-          next = s.2;
-          lands = ap (λ (x : ℕ). landing_after p x (slice_index labels j) s.0) lead ∙ ap (λ (x : ℕ). landing_after p l (slice_index labels j) x) same ∙ e;
-        }
+        let b = behind_label j lo hi in
+        record { within = omega (arith, hi, range.within); rank = b.0.0; permitted = b.0.1; next = b.0.2; lands = b.1 ∙ e }
 
     pub given_in_range : (j t : ℕ) → GivesLabel p (stage, before) labels v t j → (from ≤ j) × (j < to) × (landing_after p l (slice_index labels j) r ≡ Some t)
     given_in_range j t g =
-        let lt : j < length before = g.within in
         let s : IsSuccessor p stage (node_at before j) v = (g.rank, g.permitted, g.next) in
-        let found = (exact j lt).0 (extends_of (node_at before j) (landable_at j lt) s) in
-        let same : g.rank ≡ r = rank_of r rank_is (node_at before j) (landable_at j lt) s in
-        let lead : latest (stage, node_at before j) ≡ l = leader_at l leader_is j found.0 found.1 in (
+        let found = place_at p w stage before v from to range j g.within s in
+        let same : g.rank ≡ r = rank_of p w stage before v from to range r rank_is (node_at before j) (landable_at p w stage before v from to range j g.within) s in
+        let lead : latest (stage, node_at before j) ≡ l = leader_at p w stage before v from to range l leader_is j found.0 found.1 in (
           found.0,
           found.1,
           sym (ap (λ (x : ℕ). landing_after p x (slice_index labels j) g.rank) lead ∙ ap (λ (x : ℕ). landing_after p l (slice_index labels j) x) same) ∙ g.lands,
@@ -233,30 +109,14 @@ module _ (p : Problem) (w stage : ℕ) (before : List (List ℤ)) (labels : List
 
     pub some_gives : (label : ℕ) → label < no_label → IsLabel p (suc stage) v label → (j : ℕ) × (from ≤ j) × (j < to) × (landing_after p l (slice_index labels j) r ≡ Some label)
     some_gives label known is =
-        let j = landing_behind l r leader_is rank_is label (is.attained known) in
+        let j = landing_behind label (is.attained known) in
         let u = j.3 (slice_index labels j.0) (omega arith) in
-        let low = (is.least u.0 (lands_at l r leader_is rank_is j.0 u.0 j.1 j.2 u.1)).1 in
+        let low = (is.least u.0 (lands_at j.0 u.0 j.1 j.2 u.1)).1 in
         let le = u.2 in
         let same : u.0 ≡ label = omega (arith, low, le) in
         (j.0, j.1, j.2, u.1 ∙ ap Some same)
 
 -- ---- as the calls have it
-
-pub sources_from : (p : Problem) (w : ℕ) (before after : ℕ × List (List ℤ)) (labels : List ℕ) (i from to : ℕ) → w ≡ 2 * p.k + 1 → WindowLaws p w → HoldsLabels p before labels
-    → IsNextOf p before.0 before.1 after.1 → i < length after.1 → to ≤ length before.1
-    → ((j : ℕ) → j < length before.1 → Extends (node_at before.1 j) (node_at after.1 i) ↔ ((from ≤ j) × (j < to))) → Sources p w before.0 before.1 labels (node_at after.1 i) from to
-sources_from p w before after labels i from to odd laws holds next lt within exact =
-    record { odd = odd; laws = laws; holds = holds; node = (next (node_at after.1 i)).0 (Contains-get_or after.1 i [] lt); within = within; exact = exact }
-
--- the last rank of a window that is written otherwise
-pub same_rank : (x y : List ℤ) (n m l j : ℕ) → x ≡ y → n ≡ m → pos l ≡ pos n +ℤ offset_at x j → pos l ≡ pos m +ℤ offset_at y j
-same_rank x y n m l j e f is = is ∙ ap (λ (k : ℕ). pos k +ℤ offset_at x j) f ∙ ap (λ (z : List ℤ). pos m +ℤ offset_at z j) e
-
-pub in_bytes : (x y : List ℤ) (n m j c : ℕ) → x ≡ y → n ≡ m → c ≤ 60 → (pos 0 ≤ℤ (pos m +ℤ offset_at y j)) → ((pos m +ℤ offset_at y j) ≤ℤ pos c)
-    → (pos 0 ≤ℤ (pos n +ℤ offset_at x j)) × ((pos n +ℤ offset_at x j) ≤ℤ pos 60)
-in_bytes x y n m j c e f few low high =
-    let o : offset_at x j ≡ offset_at y j = ap (λ (z : List ℤ). offset_at z j) e in
-    (omega (arith, ints, o, f, low), omega (arith, ints, o, f, high, few))
 
 pub label_here : (p : Problem) (a b : ℕ) (v : List ℤ) (label : ℕ) → b ≡ a + 1 → IsLabel p (suc a) v label → IsLabel p b v label
 label_here p a b v label e is = let f : suc a ≡ b = omega arith in subst (λ (q : ℕ). IsLabel p q v label) f is

@@ -1,5 +1,5 @@
--- Columns of labels, and what is left of a list where the places without a label are left out.
-use Rattle.std.specs.Prelude.{◌≡◌, ℕ, ◌≤◌, ◌⊎◌, List, Bool, not, nat_eq, map}
+-- Columns of labels: their entries, the least of a range, and what is left where the places without a label are left out.
+use Rattle.std.specs.Prelude.{◌≡◌, ℕ, ◌<◌, ◌≤◌, ◌⊎◌, List, Bool, not, nat_eq, map, slice_index}
 use Rattle.landing_rules.specs.Rules.{last_second}
 use Rattle.cps_network.specs.Compacted.{kept_where}
 use Rattle.makespan_labels.specs.Labels.{no_label}
@@ -7,6 +7,14 @@ use Rattle.makespan_labels.specs.Labels.{no_label}
 -- an entry is a second of the two days, or no label
 abbrev pub IsEntry : ℕ → Type 0
 IsEntry label = (label ≤ last_second) ⊎ (label ≡ no_label)
+
+-- the least number at the places of a range
+pub record IsLeastOf (labels : List ℕ) (from to least : ℕ) : Type 0 where
+  pub place : ℕ
+  pub from_here : from ≤ place
+  pub to_there : place < to
+  pub is : slice_index labels place ≡ least
+  pub low : (i : ℕ) → from ≤ i → i < to → least ≤ slice_index labels i
 
 -- whether this is a label
 abbrev pub is_known : ℕ → Bool

@@ -1,5 +1,5 @@
 -- Labels of windows: the least second at which a legal prefix that ends in a window can land its last flight.
-use Rattle.std.specs.Prelude.{◌≡◌, ℕ, ℤ, ◌<◌, ◌≤◌, List, length, slice_index, Contains, Some}
+use Rattle.std.specs.Prelude.{◌≡◌, ℕ, ℤ, ◌<◌, ◌≤◌, List, length, slice_index, Some}
 use Rattle.cps_nodes.specs.Windows.{shifted}
 use Rattle.cps_nodes.specs.Laws.{offset_after}
 use Rattle.cps_theory.specs.Separation.{Landing}
@@ -8,7 +8,7 @@ use Rattle.cps_theory.specs.LegalPrefix.{Legal}
 use Rattle.cps_theory.specs.ProblemNetwork.{LandedIn}
 use Rattle.landing_joint.specs.RankedProblem.{ranked, landing_after}
 use Rattle.landing_rules.specs.Problem.{Problem}
-use Rattle.cps_network.specs.Landable.{IsLandable, HoldsLandable}
+use Rattle.cps_network.specs.Landable.{HoldsLandable}
 use Rattle.cps_network.specs.Lists.{node_at}
 use Rattle.cps_network.specs.Nodes.{node_of, latest}
 use Rattle.cps_network.specs.Permits.{IsPermitted}
@@ -36,10 +36,6 @@ IsLabel p stage xs label = IsLeastOr (CanLandAt p stage xs) label
 pub record AreLabels (p : Problem) (stage : ℕ × List (List ℤ)) (labels : List ℕ) : Type 0 where
   pub one_each : length labels ≡ length stage.1
   pub label : (i : ℕ) → i < length stage.1 → IsLabel p stage.0 (node_at stage.1 i) (slice_index labels i)
-
--- each landable window of a stage is among its windows
-abbrev pub HasEachLandable : Problem → ℕ × List (List ℤ) → Type 0
-HasEachLandable p stage = (xs : List ℤ) → IsLandable p stage.0 xs → Contains stage.1 xs
 
 -- these are the landable windows of a stage, with their labels
 pub record HoldsLabels (p : Problem) (stage : ℕ × List (List ℤ)) (labels : List ℕ) : Type 0 where

@@ -3,8 +3,9 @@
 ghost use Rattle.std.specs.Prelude.{◌≡◌, ℕ, ◌<◌, List, [], ◌∷◌, All, length, replicate, slice_index, set, IfOk, OnOk, OnErr};
 ghost use Rattle.cps_nodes.specs.Windows.{IsWidth};
 ghost use Rattle.landing_rules.specs.Problem.{Problem};
+ghost use Rattle.cps_network.specs.Landable.{HasEachLandable};
 ghost use Rattle.makespan_labels.specs.Columns.{IsEntry, is_known, known_of};
-ghost use Rattle.makespan_labels.specs.Labels.{no_label, AreLabels, HasEachLandable, HoldsLabels};
+ghost use Rattle.makespan_labels.specs.Labels.{no_label, AreLabels, HoldsLabels};
 
 use cps_network::Stage;
 use std::alloc::{AllocError, Global};

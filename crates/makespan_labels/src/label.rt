@@ -1,31 +1,21 @@
 //! The labels of a stage, from those of the stage before.
 
-ghost use Rattle.std.specs.Prelude.{◌≡◌, ℕ, ℤ, pos, ◌+◌, ◌-◌, ◌*◌, ◌<◌, ◌≤◌, ◌+ℤ◌, ◌≤ℤ◌, length, slice_index};
+ghost use Rattle.std.specs.Prelude.{◌≡◌, ◌+◌, ◌*◌, ◌<◌, ◌≤◌, length};
 ghost use Rattle.cps_base.specs.Tally.{raised_by};
-ghost use Rattle.cps_nodes.specs.Windows.{offset_at};
+ghost use Rattle.cps_network.specs.Landable.{HasEachLandable};
 ghost use Rattle.cps_network.specs.Lists.{node_at};
 ghost use Rattle.cps_network.specs.Permits.{IsNextOf};
-ghost use Rattle.makespan_labels.specs.Columns.{IsEntry};
-ghost use Rattle.makespan_labels.specs.Labels.{IsLabel, AreLabels, HasEachLandable, HoldsLabels};
-ghost use Rattle.makespan_labels.specs.Laws.{WindowLaws, IsLeastOf};
+ghost use Rattle.cps_network.specs.WindowLaws.{WindowLaws};
+ghost use Rattle.makespan_labels.specs.Columns.{IsEntry, IsLeastOf};
+ghost use Rattle.makespan_labels.specs.Labels.{IsLabel, AreLabels, HoldsLabels};
 
 use crate::column::{Column, NO_LABEL};
 use cps_base::{Ledger, Steps};
-use cps_network::{Stage, prefix_laws};
-use cps_nodes::{Window, window_laws};
+use cps_network::{Stage, last_rank, prefix_laws};
+use cps_nodes::window_laws;
 use cps_outside::Gate;
 use cps_problem::Problem;
 use std::thread::Threads;
-
-/// The rank that landed last in a window of a stage: its last offset is that rank minus the stage's number. Rank 0 stands for
-/// no landing.
-pub fn last_rank<const W: usize>(window: &Window<W>, stage: u8) -> u8
-    requires low { pos 0 ≤ℤ (pos stage +ℤ offset_at window.now (W - 1)) }
-    requires high { (pos stage +ℤ offset_at window.now (W - 1)) ≤ℤ pos 60 }
-    ensures { pos result ≡ pos stage +ℤ offset_at window.now (W - 1) }
-{
-    (stage as i32 + window.last() as i32) as u8
-}
 
 // The least label at the places of a range that is not empty.
 fn least_of(labels: &Column, from: usize, to: usize) -> u32

@@ -5,8 +5,7 @@ ghost use Rattle.cps_network.specs.Permits.{IsSuccessor};
 ghost use Rattle.makespan_labels.specs.Labels.{no_label, IsLabel, HoldsLabels, GivesLabel};
 
 use crate::column::Column;
-use crate::label::last_rank;
-use cps_network::{Stage, prefix_laws, sources};
+use cps_network::{Stage, last_rank, prefix_laws, sources};
 use cps_nodes::{Window, window_laws};
 use cps_problem::Problem;
 

@@ -1,4 +1,4 @@
-use crate::{Column, NO_LABEL, last_rank};
+use crate::{Column, NO_LABEL};
 use cps_network::Stage;
 use std::test::Fail;
 
@@ -7,7 +7,6 @@ fn shared_by_pieces<T: Send + Sync>(_: &T) {}
 #[test]
 fn windows_without_a_label_are_left_out(rt: HostRuntime) -> Result<(), Fail> {
     let mut stage: Stage<3> = Stage::start(rt.alloc())?;
-    assert_eq!(rt; last_rank(&stage.node(0), stage.number()), 0);
     let mut column = Column::start(rt.alloc())?;
     shared_by_pieces(&column);
     assert_eq!(rt; (column.len(), column.label(0)), (1, 0));

@@ -1,13 +1,10 @@
--- One landing more and one landing back in the network of windows, and what the windows of legal prefixes are.
-use Rattle.std.proofs.Common.{◌≡◌, ℕ, suc, ◌+◌, ◌-◌, ◌*◌, ◌≤◌, List, [], ◌∷◌, ◌++◌, length, reverse, replicate, Some, refl, sym, ap, subst, ◌∙◌, arith}
-use Rattle.std.specs.Prelude.{ℤ, pos, ◌+ℤ◌, true}
-use Rattle.std.proofs.lemmas.Int.{ints}
-use Rattle.std.proofs.lemmas.List.{reverse-append, length-reverse, append-nil, get_or-replicate}
-use Rattle.cps_nodes.specs.Windows.{IsWindow, offset_at, shifted}
+-- One landing more and one landing back in the network of windows.
+use Rattle.std.proofs.Common.{◌≡◌, ℕ, suc, ◌+◌, ◌*◌, ◌≤◌, List, [], ◌∷◌, length, reverse, Some, refl, sym, ap, subst, ◌∙◌, arith}
+use Rattle.std.specs.Prelude.{ℤ, true}
+use Rattle.cps_nodes.specs.Windows.{shifted}
 use Rattle.cps_nodes.specs.Ranks.{window_of}
 use Rattle.cps_nodes.specs.Laws.{offset_after}
-use Rattle.cps_theory.specs.LandingTrail.{latest_landing, last_rank, ranks}
-use Rattle.cps_theory.specs.LegalPrefix.{Legal}
+use Rattle.cps_theory.specs.LandingTrail.{latest_landing, ranks}
 use Rattle.cps_theory.specs.Feasible.{next_from}
 use Rattle.cps_theory.specs.laws.LabelDominance.{last_ranks}
 use Rattle.landing_joint.specs.RankedProblem.{ranked, landing_after}
@@ -17,10 +14,6 @@ use Rattle.cps_network.specs.Landable.{IsLandable}
 use Rattle.cps_network.specs.Nodes.{Node, node_of, permits, land, latest, IsWindowNetwork}
 use Rattle.cps_network.specs.Permits.{IsPermitted}
 use Rattle.makespan_labels.specs.Labels.{CanLandAt}
-use Rattle.makespan_labels.specs.Laws.{WindowLaws}
-
-reverse_more : (r : ℕ) (rs : List ℕ) → reverse (r ∷ rs) ≡ reverse rs ++ r ∷ []
-reverse_more r rs = reverse-append (r ∷ []) rs
 
 pub can_land : (p : Problem) (stage : ℕ) (xs : List ℤ) → (l : IsLandable p stage xs) → CanLandAt p stage xs (latest_landing l.0).1
 can_land p stage xs l = (l.0, l.1, l.2, l.3, refl)
@@ -81,52 +74,3 @@ module _ (p : Problem) (net : IsWindowNetwork p) where
     where
       less : {a b : ℕ} → suc a ≡ suc b → a ≡ b
       less {a} {b} e = omega arith
-
-module _ (p : Problem) (w : ℕ) (odd : w ≡ 2 * p.k + 1) (laws : WindowLaws p w) where
-  -- the window of a legal prefix is a window, and its last rank is the last of the prefix
-  pub valid_after : (x : List ℤ) (stage r : ℕ) → IsWindow w x → IsPermitted p stage x r → IsWindow w (shifted x (offset_after stage r))
-  valid_after x stage r valid may =
-      laws.leads.stays x (offset_after stage r) valid (record { low = omega (arith, ints, may.late, odd); high = omega (arith, ints, may.early, odd) }) may.accepted
-
-  source_is : window_of (2 * p.k + 1) [] ≡ replicate (2 * p.k + 1) (pos 0)
-  source_is = append-nil (replicate (2 * p.k + 1) (pos 0))
-
-  prefix_valid : (rs : List ℕ) → Legal (ranked p).rules rs → IsWindow w (node_of p.k rs).1
-  prefix_valid [] legal = subst (IsWindow w) (ap (λ (m : ℕ). replicate m (pos 0)) odd ∙ sym source_is) laws.leads.source
-  prefix_valid (r ∷ rs) legal =
-      let s = laws.network.shrinks r rs legal in
-      subst (IsWindow w) (sym (ap (λ (n : Node). n.1) (laws.network.pushes r rs s.0))) (valid_after (node_of p.k rs).1 (length rs) r (prefix_valid rs s.0) s.1)
-
-  prefix_last : (rs : List ℕ) → pos (length rs) +ℤ offset_at (node_of p.k rs).1 (w - 1) ≡ pos (last_rank rs)
-  prefix_last [] =
-      let z : offset_at (node_of p.k []).1 (w - 1) ≡ pos 0 = ap (λ (l : List ℤ). offset_at l (w - 1)) source_is ∙ get_or-replicate (2 * p.k + 1) (w - 1) (pos 0) (pos 0) (omega (arith, odd)) in
-      omega (arith, ints, z)
-  prefix_last (r ∷ rs) =
-      let last : pos (length (reverse rs) + 1) +ℤ offset_at (window_of w (reverse rs ++ r ∷ [])) (w - 1) ≡ pos r = laws.ranks.last (reverse rs) r in
-      let here : offset_at (node_of p.k (r ∷ rs)).1 (w - 1) ≡ offset_at (window_of w (reverse rs ++ r ∷ [])) (w - 1) =
-      ap (λ (l : List ℕ). offset_at (window_of (2 * p.k + 1) l) (w - 1)) (reverse_more r rs) ∙ ap (λ (m : ℕ). offset_at (window_of m (reverse rs ++ r ∷ [])) (w - 1)) (sym odd) in
-      omega (arith, ints, last, here, length-reverse rs)
-
-  rank_in : (rs : List ℕ) → Legal (ranked p).rules rs → last_rank rs ≤ length p.flights
-  rank_in [] legal = omega arith
-  rank_in (r ∷ rs) legal = legal.0.fits.to_count
-
-  pub landable_valid : (stage : ℕ) (x : List ℤ) → IsLandable p stage x → IsWindow w x
-  landable_valid stage x l = subst (λ (n : Node). IsWindow w n.1) l.3 (prefix_valid (ranks l.0) l.1)
-
-  -- the rank that landed last in a landable window
-  pub landable_last : (stage : ℕ) (x : List ℤ) → IsLandable p stage x → (pos stage +ℤ offset_at x (w - 1) ≡ pos (latest (stage, x))) × (latest (stage, x) ≤ length p.flights)
-  landable_last stage x l =
-      let is : latest (stage, x) ≡ last_rank (ranks l.0) = ap latest (sym l.3) ∙ laws.network.newest_is (ranks l.0) l.1 in
-      let last : pos stage +ℤ offset_at x (w - 1) ≡ pos (last_rank (ranks l.0)) =
-      subst (λ (n : Node). pos n.0 +ℤ offset_at n.1 (w - 1) ≡ pos (last_rank (ranks l.0))) l.3 (prefix_last (ranks l.0)) in
-      let low = rank_in (ranks l.0) l.1 in
-      (last ∙ ap pos (sym is), omega (arith, is, low))
-
-  -- and the rank that lands next is the last of the window after it
-  pub next_last : (stage : ℕ) (x : List ℤ) (r : ℕ) → IsLandable p stage x → IsPermitted p stage x r → pos (suc stage) +ℤ offset_at (shifted x (offset_after stage r)) (w - 1) ≡ pos r
-  next_last stage x r l may =
-      let rs = ranks l.0 in
-      let here : permits p (node_of p.k (ranks l.0)) r = subst (λ (n : Node). permits p n r) (sym l.3) may in
-      let at : node_of p.k (r ∷ ranks l.0) ≡ (suc stage, shifted x (offset_after stage r)) = laws.network.pushes r (ranks l.0) l.1 ∙ ap (λ (n : Node). land n r) l.3 in
-      subst (λ (n : Node). pos n.0 +ℤ offset_at n.1 (w - 1) ≡ pos r) at (prefix_last (r ∷ ranks l.0))

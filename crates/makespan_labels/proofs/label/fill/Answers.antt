@@ -1,7 +1,8 @@
 use Rattle.std.proofs.Common.{ℕ, length, arith}
 use Rattle.cps_network.specs.Lists.{node_at}
+use Rattle.cps_network.specs.shared.LandableSteps.{has_next}
 use Rattle.makespan_labels.specs.Labels.{IsLabel}
-use Rattle.makespan_labels.proofs.ColumnLemmas.{set_more, has_next_at}
+use Rattle.makespan_labels.proofs.ColumnLemmas.{set_more}
 use Rattle.makespan_labels.proofs.label.fill.Goals as goal
 
 pub loop-i-preserved : goal.loop-i-preserved
@@ -11,4 +12,4 @@ loop-i-preserved g c =
 
 pub returns-clause-landable : goal.returns-clause-landable
 returns-clause-landable g c =
-    has_next_at c.args.problem.now c.prefix_laws.ensures.network c.args.before.now c.args.stage.now c.requires.number c.requires.before.landable c.requires.next
+    has_next c.args.problem.now c.prefix_laws.ensures.network c.args.before.now c.args.stage.now c.requires.number c.requires.before.landable c.requires.next

@@ -1,7 +1,6 @@
 use Rattle.std.proofs.Common.{◌≡◌, ◌+◌, min, arith, ap, sym, subst, ◌∙◌}
 use Rattle.std.specs.Prelude.{slice_index}
-use Rattle.makespan_labels.specs.Columns.{IsEntry}
-use Rattle.makespan_labels.specs.Laws.{IsLeastOf}
+use Rattle.makespan_labels.specs.Columns.{IsEntry, IsLeastOf}
 use Rattle.makespan_labels.proofs.ColumnLemmas.{least_more, entry_least}
 use Rattle.makespan_labels.proofs.label.least_of.Goals as goal
 

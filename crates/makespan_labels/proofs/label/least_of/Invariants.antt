@@ -1,5 +1,4 @@
-use Rattle.makespan_labels.specs.Columns.{IsEntry}
-use Rattle.makespan_labels.specs.Laws.{IsLeastOf}
+use Rattle.makespan_labels.specs.Columns.{IsEntry, IsLeastOf}
 use Rattle.makespan_labels.proofs.label.least_of.Given as goal
 
 abbrev pub invariant-loop-i : goal.invariant-loop-i
