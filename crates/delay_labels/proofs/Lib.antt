@@ -1,5 +1,5 @@
 pub mod ListLemmas
-pub mod WindowLemmas
-pub mod SourceLemmas
+pub mod PartLemmas
+pub mod CostLemmas
 pub mod PairLemmas
 pub mod CompactLemmas

@@ -1,102 +1,36 @@
--- The pairs of a window of the next stage, from those of the windows that lead to it, and how much they cost at most.
-use Rattle.std.proofs.Common.{◌≡◌, ℕ, zero, suc, ◌+◌, ◌-◌, ◌*◌, ◌<◌, ◌≤◌, inl, inr, List, [], ◌∷◌, ◌++◌, length, get_or, Some, true, refl, sym, ap, subst, ◌∙◌, arith, le_trans}
+-- The pairs of a window of the next stage, from those of the windows that lead to it.
+use Rattle.std.proofs.Common.{◌≡◌, ℕ, suc, ◌+◌, ◌-◌, ◌<◌, ◌≤◌, inl, inr, List, [], ◌∷◌, ◌++◌, length, get_or, Some, true, refl, sym, ap, subst, ◌∙◌, arith}
 use Rattle.std.specs.Prelude.{ℤ, pos, ◌+ℤ◌, Contains, All}
 use Rattle.std.specs.List.Sorted.{IsPermutation, IsSorted}
 use Rattle.std.specs.Ordering.{nat_cmp, ordering_then}
 use Rattle.std.proofs.lemmas.List.Sorted.{All-permutation}
-use Rattle.std.proofs.Math.Nat.{mul-le-mul_right}
-use Rattle.std.proofs.lemmas.Bool.{cases_lt}
-use Rattle.std.proofs.lemmas.List.{get_or_default, get_or_past}
+use Rattle.std.proofs.lemmas.List.{get_or_default}
 use Rattle.std.proofs.lemmas.List.Elements.{Contains-get_or}
 use Rattle.cps_nodes.specs.Windows.{offset_at, shifted}
 use Rattle.cps_nodes.specs.Laws.{offset_after}
-use Rattle.cps_theory.specs.Separation.{Landing}
-use Rattle.cps_theory.specs.LandingTrail.{cost_of, latest_landing, ranks}
 use Rattle.cps_theory.specs.Labels.{InPairs, NoWorse, Pair}
 use Rattle.cps_theory.specs.LegalPrefix.{Legal}
 use Rattle.cps_theory.specs.Feasible.{next_from}
 use Rattle.cps_theory.specs.Network.{Attained, Kept}
-use Rattle.cps_theory.specs.ProblemNetwork.{LandedIn}
-use Rattle.cps_theory.specs.RankLists.{of_rank}
 use Rattle.cps_theory.specs.UndominatedPairs.{Staircase, InPairOrder, sweep}
 use Rattle.cps_theory.specs.laws.LeastObjective.{next_later}
 use Rattle.cps_theory.specs.laws.NetworkLabels.{kept_next, kept_undominated, undominated_kept}
 use Rattle.cps_theory.specs.laws.Staircases.{staircase_apart, sweep_covers, sweep_staircase, sweep_subset}
-use Rattle.landing_joint.specs.RankedProblem.{no_waiting, ranked, first_at, cost_at, cost_by}
+use Rattle.landing_joint.specs.RankedProblem.{ranked, first_at, cost_at}
 use Rattle.landing_joint.specs.shared.FirstOpen.{is_first_open}
-use Rattle.landing_rules.specs.declared.objective.Objective.{Objective}
-use Rattle.landing_rules.specs.declared.objective.Objective.TheVariants.{Makespan, Delay}
-use Rattle.landing_rules.specs.Problem.{Problem, Waiting}
+use Rattle.landing_rules.specs.Problem.{Problem}
 use Rattle.landing_rules.specs.Rules.{last_second}
 use Rattle.cps_problem.specs.WellFormed.{IsWellFormed}
-use Rattle.cps_network.specs.Landable.{IsLandable, HoldsLandable}
 use Rattle.cps_network.specs.Lists.{node_at}
-use Rattle.cps_network.specs.Nodes.{Node, node_of, permits, land, latest, IsWindowNetwork}
-use Rattle.cps_network.specs.Permits.{IsSuccessor, IsNextOf}
-use Rattle.delay_labels.specs.Pairs.{Attains, ArePairsOf, AreCosts, HasEachLandable, GivesPair, list_at, pair_at, successor}
+use Rattle.cps_network.specs.Nodes.{Node, node_of, permits, land, latest}
+use Rattle.cps_network.specs.Permits.{IsSuccessor}
+use Rattle.cps_network.specs.shared.LeadingWindows.{Sources, successor_at, place_at, rank_of, leader_at, landable_at}
+use Rattle.delay_labels.specs.Pairs.{Attains, ArePairsOf, AreCosts, GivesPair, list_at, pair_at, successor}
 use Rattle.delay_labels.specs.Parts.{IsInDays}
 use Rattle.delay_labels.specs.Lists.{IsGivenIn, successors_in}
-use Rattle.delay_labels.specs.shared.PairSteps.{attains_landable, landable_attains, dearer, next_attained, source_of_attained}
-use Rattle.delay_labels.proofs.ListLemmas.{in_at, at_in, all_in, given_in_range, range_gives, in_permuted, permuted_in, sorted_in_order}
-use Rattle.delay_labels.proofs.SourceLemmas.{Sources, successor_at, place_at, rank_of, leader_at, landable_at}
-
--- ---- costs
-
-cost_small_by : (o : Objective) (f : Waiting) (t : ℕ) → f.weight ≤ 100 → t ≤ last_second → cost_by o f t ≤ 17279900
-cost_small_by Makespan f t light low = omega arith
-cost_small_by Delay f t light low =
-    let a : f.weight * (t - f.eta) ≤ 100 * (t - f.eta) = mul-le-mul_right (t - f.eta) light in
-    omega (arith, a, low)
-
-light_at : (p : Problem) → IsWellFormed p → (r : ℕ) → (of_rank no_waiting p.flights r).weight ≤ 100
-light_at p wf zero = omega arith
-light_at p wf (suc i) = elim (cases_lt i (length p.flights)) [
-  | inl lt ↦ (wf.weights i no_waiting lt).1
-  | inr ge ↦ (let e : (get_or p.flights i no_waiting).weight ≡ 0 = ap (λ (f : Waiting). f.weight) (get_or_past p.flights i no_waiting ge) in omega arith)
-]
-
-module _ (p : Problem) (wf : IsWellFormed p) where
-  cost_small : (r t : ℕ) → t ≤ last_second → cost_at p r t ≤ 17279900
-  cost_small r t low = cost_small_by p.objective (of_rank no_waiting p.flights r) t (light_at p wf r) low
-
-  -- the landing before is earlier
-  before_low : (xs : List Landing) (r t : ℕ) → Legal (ranked p).rules (ranks xs) → next_from (ranked p) (latest_landing xs).0 (latest_landing xs).1 r ≤ t → (latest_landing xs).1 ≤ t
-  before_low [] r t legal le = omega arith
-  before_low ((zero, u) ∷ xs) r t legal le = absurd (let a = legal.0.fits.from_one in omega arith)
-  before_low ((suc l, u) ∷ xs) r t legal le = omega (arith, le)
-
-  trail_small : (xs : List Landing) → Legal (ranked p).rules (ranks xs) → LandedIn (ranked p) xs → (latest_landing xs).1 ≤ last_second → cost_of (cost_at p) xs ≤ 17279900 * length (ranks xs)
-  trail_small [] legal landed low = omega arith
-  trail_small (x ∷ xs) legal landed low =
-      let a = before_low xs x.0 x.1 legal.1 landed.1 in
-      let b = trail_small xs legal.1 landed.2 (le_trans a low) in
-      let c = cost_small x.0 x.1 low in
-      omega (arith, b, c)
-
-  -- an attained pair costs at most so much a flight
-  pub attained_small : (stage : ℕ) (xs : List ℤ) (q : Pair) → Attains p stage xs q → q.0 ≤ last_second → q.1 ≤ 17279900 * stage
-  attained_small stage xs q a low =
-      let long : length (ranks a.landings) ≡ stage = ap (λ (n : Node). n.0) a.at in
-      let second : (latest_landing a.landings).1 ≡ q.0 = ap (λ (z : Pair). z.0) a.is in
-      let cost : cost_of (cost_at p) a.landings ≡ q.1 = ap (λ (z : Pair). z.1) a.is in
-      let s = trail_small a.landings a.legal a.landed (omega (arith, second, low)) in
-      subst (λ (n : ℕ). q.1 ≤ 17279900 * n) long (subst (λ (c : ℕ). c ≤ 17279900 * length (ranks a.landings)) cost s)
-
--- ---- each landable window of the next stage extends one of this
-
-module _ (p : Problem) (net : IsWindowNetwork p) where
-  has_next : (stage : ℕ) (before after : List (List ℤ)) → HoldsLandable p (stage, before) → IsNextOf p stage before after → HasEachLandable p (suc stage, after)
-  has_next stage before after holds next xs l =
-      let a = landable_attains p (suc stage) xs l in
-      let s = source_of_attained p net stage xs a.0 a.1 in
-      (next xs).1 (s.0, (holds s.0).1 s.1, s.2)
-
-  pub has_next_at : (before after : ℕ × List (List ℤ)) → after.0 ≡ before.0 + 1 → HoldsLandable p before → IsNextOf p before.0 before.1 after.1 → HasEachLandable p after
-  has_next_at before after e holds next xs l =
-      let f : after.0 ≡ suc before.0 = omega arith in
-      has_next before.0 before.1 after.1 holds next xs (subst (λ (q : ℕ). IsLandable p q xs) f l)
-
--- ---- the pairs of a window of the next stage
+use Rattle.delay_labels.specs.shared.PairSteps.{attains_landable, dearer, in_at, at_in, next_attained}
+use Rattle.delay_labels.proofs.ListLemmas.{all_in, given_in_range, range_gives, in_permuted, permuted_in, sorted_in_order}
+use Rattle.delay_labels.proofs.CostLemmas.{attained_small}
 
 module _ (p : Problem) (wf : IsWellFormed p) (w stage : ℕ) (before : List (List ℤ)) (v : List ℤ) (from to : ℕ) (range : Sources p w stage before v from to) (lists : List (List Pair)) (are : AreCosts p (stage, before) lists) (days : (i : ℕ) → All IsInDays (list_at lists i)) (l r : ℕ) (leader_is : pos l ≡ pos stage +ℤ offset_at (node_at before from) (w - 1)) (rank_is : pos r ≡ pos (suc stage) +ℤ offset_at v (w - 1)) where
   -- few flights have landed

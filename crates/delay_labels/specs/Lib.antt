@@ -1,6 +1,5 @@
 -- The definitions of this crate.
 pub mod Pairs
-pub mod Laws
 pub mod Parts
 pub mod Lists
 pub mod shared

@@ -1,5 +1,5 @@
 -- The pairs of second and cost of windows: for each window exactly the undominated ones.
-use Rattle.std.specs.Prelude.{◌≡◌, ℕ, ℤ, ◌<◌, ◌↔◌, List, [], length, slice_index_or, Contains, Option, Some, true}
+use Rattle.std.specs.Prelude.{◌≡◌, ℕ, ℤ, ◌<◌, ◌↔◌, List, [], length, slice_index_or, Option, Some, true}
 use Rattle.cps_nodes.specs.Windows.{shifted}
 use Rattle.cps_nodes.specs.Laws.{offset_after}
 use Rattle.cps_theory.specs.Feasible.{next_from}
@@ -9,7 +9,7 @@ use Rattle.cps_theory.specs.Network.{Attained, Undominated}
 use Rattle.cps_theory.specs.UndominatedPairs.{Staircase}
 use Rattle.landing_joint.specs.RankedProblem.{ranked, first_at, cost_at}
 use Rattle.landing_rules.specs.Problem.{Problem}
-use Rattle.cps_network.specs.Landable.{IsLandable, HoldsLandable}
+use Rattle.cps_network.specs.Landable.{HoldsLandable}
 use Rattle.cps_network.specs.Lists.{node_at}
 use Rattle.cps_network.specs.Nodes.{node_of, latest}
 use Rattle.cps_network.specs.Permits.{IsPermitted}
@@ -37,10 +37,6 @@ pair_at pairs i = slice_index_or pairs i (0, 0)
 pub record AreCosts (p : Problem) (stage : ℕ × List (List ℤ)) (lists : List (List Pair)) : Type 0 where
   pub one_each : length lists ≡ length stage.1
   pub pairs : (i : ℕ) → i < length stage.1 → ArePairsOf p stage.0 (node_at stage.1 i) (list_at lists i)
-
--- each landable window of a stage is among its windows
-abbrev pub HasEachLandable : Problem → ℕ × List (List ℤ) → Type 0
-HasEachLandable p stage = (xs : List ℤ) → IsLandable p stage.0 xs → Contains stage.1 xs
 
 -- these are the landable windows of a stage, with their pairs
 pub record HoldsCosts (p : Problem) (stage : ℕ × List (List ℤ)) (lists : List (List Pair)) : Type 0 where

@@ -3,16 +3,16 @@
 ghost use Rattle.std.specs.Prelude.{◌≡◌, ℕ, List, [], ◌∷◌, ◌++◌, ◌+◌, ◌*◌, ◌<◌, length, IfOk, OnOk};
 ghost use Rattle.cps_base.specs.Tally.{raised_by};
 ghost use Rattle.cps_theory.specs.Labels.{InPairs, Pair};
+ghost use Rattle.cps_network.specs.Landable.{HasEachLandable};
 ghost use Rattle.cps_network.specs.Lists.{node_at};
 ghost use Rattle.cps_network.specs.Permits.{IsNextOf};
-ghost use Rattle.delay_labels.specs.Pairs.{list_at, ArePairsOf, AreCosts, HasEachLandable, HoldsCosts, GivesPair};
-ghost use Rattle.delay_labels.specs.Laws.{WindowLaws};
+ghost use Rattle.cps_network.specs.WindowLaws.{WindowLaws};
+ghost use Rattle.delay_labels.specs.Pairs.{list_at, ArePairsOf, AreCosts, HoldsCosts, GivesPair};
 
 use crate::costs::Costs;
-use crate::last::last_rank;
 use crate::merge::collect_successors;
 use cps_base::{Ledger, Steps};
-use cps_network::{Stage, prefix_laws};
+use cps_network::{Stage, last_rank, prefix_laws};
 use cps_nodes::window_laws;
 use cps_outside::Gate;
 use cps_problem::Problem;

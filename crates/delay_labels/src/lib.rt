@@ -6,7 +6,6 @@
 
 mod costs;
 mod fill;
-mod last;
 mod merge;
 mod source;
 

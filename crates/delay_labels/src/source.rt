@@ -5,8 +5,7 @@ ghost use Rattle.delay_labels.specs.Pairs.{pair_at, successor, HoldsCosts, Gives
 ghost use Rattle.delay_labels.specs.Parts.{IsInDays};
 
 use crate::costs::Costs;
-use crate::last::last_rank;
-use cps_network::{Stage, prefix_laws, sources};
+use cps_network::{Stage, last_rank, prefix_laws, sources};
 use cps_nodes::{Window, window_laws};
 use cps_problem::Problem;
 

@@ -1,5 +1,5 @@
 -- One landing more and one landing back, with the pairs that windows attain.
-use Rattle.std.proofs.Common.{◌≡◌, ℕ, suc, ◌<◌, ◌≤◌, inl, inr, List, [], ◌∷◌, length, Some, true, refl, sym, ap, subst, ◌∙◌, arith}
+use Rattle.std.proofs.Common.{◌≡◌, ℕ, zero, suc, ◌<◌, ◌≤◌, inl, inr, List, [], ◌∷◌, length, Some, true, refl, sym, ap, subst, ◌∙◌, arith}
 use Rattle.std.specs.Prelude.{ℤ}
 use Rattle.std.proofs.Math.Nat.{mul-le-mul_left}
 use Rattle.std.proofs.lemmas.List.{get_or_default}
@@ -22,7 +22,6 @@ use Rattle.landing_rules.specs.Problem.{Problem, Waiting}
 use Rattle.cps_network.specs.Landable.{IsLandable}
 use Rattle.cps_network.specs.Lists.{node_at}
 use Rattle.cps_network.specs.Nodes.{Node, node_of, permits, land, latest, IsWindowNetwork}
-use Rattle.cps_network.specs.Permits.{IsSuccessor}
 use Rattle.delay_labels.specs.Pairs.{Attains, HoldsCosts, GivesPair, list_at, pair_at, successor}
 
 -- ---- what is attained is landable
@@ -43,7 +42,7 @@ cost_rises Delay f t u le = mul-le-mul_left f.weight (omega arith)
 pub dearer : (p : Problem) → NeverCheaper (cost_at p)
 dearer p = record { mono = λ r t u le. cost_rises p.objective (of_rank no_waiting p.flights r) t u le }
 
--- ---- each landable window of the next stage extends one of this
+-- ---- the pair behind a pair
 
 module _ (p : Problem) (net : IsWindowNetwork p) where
   pub next_attained : (w : Node) (a : Pair) (r : ℕ) (b : Pair) → Attains p w.0 w.1 a → permits p w r → successor p (latest w) a r ≡ Some b → Attains p (suc w.0) (shifted w.1 (offset_after w.0 r)) b
@@ -51,31 +50,17 @@ module _ (p : Problem) (net : IsWindowNetwork p) where
       attained_next Node (λ s u. (ranked p).is_open s u ≡ true) (first_at p) (next_from (ranked p)) (cost_at p) (Legal (ranked p).rules) (node_of p.k) (permits p) land latest (is_first_open p) (next_later (ranked p)) (dearer p) net
       w a r b at may e
 
-  -- a window that is attained has a source that is
-  pub source_of_attained : (stage : ℕ) (v : List ℤ) (q : Pair) → Attains p (suc stage) v q → (x : List ℤ) × IsLandable p stage x × IsSuccessor p stage x v
-  source_of_attained stage v q a = elim (attained_source Node (λ s u. (ranked p).is_open s u ≡ true) (first_at p) (next_from (ranked p)) (cost_at p) (Legal (ranked p).rules) (node_of p.k) (permits p) land latest (is_first_open p) (next_later (ranked p)) (dearer p) net (suc stage, v) q a) [
-    | inl z ↦ absurd (never (ap (λ (n : Node). n.0) z.0))
-    | inr z ↦ (
-        let same : z.0.0 ≡ stage = less (ap (λ (n : Node). n.0) z.5) in
-        let at : z.0 ≡ (stage, z.0.1) = ap (λ (s : ℕ). (s, z.0.1)) same in
-        let may : permits p (stage, z.0.1) z.1 = subst (λ (n : Node). permits p n z.1) at z.4 in
-        let next : v ≡ shifted z.0.1 (offset_after stage z.1) = sym (ap (λ (n : Node). n.1) z.5) ∙ ap (λ (s : ℕ). shifted z.0.1 (offset_after s z.1)) same in
-        (z.0.1, attains_landable p stage z.0.1 z.2 (subst (λ (s : ℕ). Attains p s z.0.1 z.2) same z.3), (z.1, may, next))
-        )
-  ]
-    where
-      never : 0 ≡ suc stage → ⊥
-      never e = omega arith
-
-      less : {a b : ℕ} → suc a ≡ suc b → a ≡ b
-      less {a} {b} e = omega arith
-
 -- ---- the pair before a pair
 
-in_at : (q : Pair) (xs : List Pair) → InPairs q xs → (i : ℕ) × (i < length xs) × (pair_at xs i ≡ q)
+pub in_at : (q : Pair) (xs : List Pair) → InPairs q xs → (i : ℕ) × (i < length xs) × (pair_at xs i ≡ q)
 in_at q [] i = absurd i
 in_at q (x ∷ xs) (inl e) = (0, omega arith, sym e)
 in_at q (x ∷ xs) (inr i) = let a = in_at q xs i in (suc a.0, (let b = a.1 in omega arith), a.2)
+
+pub at_in : (xs : List Pair) (i : ℕ) (q : Pair) → i < length xs → pair_at xs i ≡ q → InPairs q xs
+at_in [] i q lt e = absurd (omega arith)
+at_in (x ∷ xs) zero q lt e = inl (sym e)
+at_in (x ∷ xs) (suc i) q lt e = inr (at_in xs i q (omega arith) e)
 
 module _ (p : Problem) (net : IsWindowNetwork p) (before : ℕ × List (List ℤ)) (lists : List (List Pair)) (held : HoldsCosts p before lists) where
   -- an undominated pair of a window of the next stage is the successor of a listed pair

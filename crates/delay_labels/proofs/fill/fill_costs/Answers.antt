@@ -1,9 +1,9 @@
 use Rattle.std.proofs.Common.{ℕ, List, arith}
 use Rattle.cps_theory.specs.Labels.{InPairs, Pair}
 use Rattle.cps_network.specs.Lists.{node_at}
+use Rattle.cps_network.specs.shared.LandableSteps.{has_next}
 use Rattle.delay_labels.specs.Pairs.{ArePairsOf, GivesPair}
 use Rattle.delay_labels.proofs.ListLemmas.{each_more}
-use Rattle.delay_labels.proofs.PairLemmas.{has_next_at}
 use Rattle.delay_labels.proofs.fill.fill_costs.Goals as goal
 
 pub loop-i-preserved : goal.loop-i-preserved
@@ -18,11 +18,11 @@ loop-i-preserved g c =
 
 pub returns-in_err-costs-clause-landable : goal.returns-in_err-costs-clause-landable
 returns-in_err-costs-clause-landable g c =
-    has_next_at c.args.problem.now c.prefix_laws.ensures.network c.args.before.now c.args.stage.now c.requires.number c.requires.before.landable c.requires.next
+    has_next c.args.problem.now c.prefix_laws.ensures.network c.args.before.now c.args.stage.now c.requires.number c.requires.before.landable c.requires.next
 
 pub returns-clause-landable : goal.returns-clause-landable
 returns-clause-landable g c =
-    has_next_at c.args.problem.now c.prefix_laws.ensures.network c.args.before.now c.args.stage.now c.requires.number c.requires.before.landable c.requires.next
+    has_next c.args.problem.now c.prefix_laws.ensures.network c.args.before.now c.args.stage.now c.requires.number c.requires.before.landable c.requires.next
 
 pub returns-clause-sources : goal.returns-clause-sources
 returns-clause-sources g c = λ i lt. c.loop-i.invariant.2 i (omega (arith, lt, c.loop-i-test.false, c.len-i-end.ensures))

@@ -5,8 +5,8 @@ use Rattle.std.proofs.lemmas.List.Sorted.{All-permutation}
 use Rattle.cps_theory.specs.Labels.{Pair}
 use Rattle.cps_theory.specs.UndominatedPairs.{sweep}
 use Rattle.cps_network.specs.Lists.{node_at}
+use Rattle.cps_network.specs.shared.LeadingWindows.{sources_from, same_rank, in_bytes, some_range, leader_range, rank_range}
 use Rattle.delay_labels.specs.Parts.{IsInDays}
-use Rattle.delay_labels.proofs.SourceLemmas.{sources_from, same_rank, in_bytes, some_range, leader_range, rank_range}
 use Rattle.delay_labels.proofs.PairLemmas.{listed_small, pairs_here}
 use Rattle.delay_labels.proofs.fill.with_pairs.Goals as goal
 

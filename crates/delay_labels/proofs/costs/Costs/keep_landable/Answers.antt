@@ -2,9 +2,11 @@ use Rattle.std.proofs.Common.{◌≡◌, ℕ, List, Bool, map, ap, sym, subst, �
 use Rattle.std.specs.Prelude.{All, nat_lt}
 use Rattle.cps_theory.specs.Labels.{Pair}
 use Rattle.cps_network.specs.Compacted.{kept_where}
+use Rattle.cps_network.specs.shared.KeptPlaces.{answers_are, all_kept, holds_as}
+use Rattle.delay_labels.specs.Pairs.{HoldsCosts}
 use Rattle.delay_labels.specs.Parts.{IsPart, lists_of}
 use Rattle.delay_labels.specs.Lists.{has_some, known_of}
-use Rattle.delay_labels.proofs.CompactLemmas.{answers_known, all_kept, lists_kept, holds_at}
+use Rattle.delay_labels.proofs.CompactLemmas.{parts_have, lists_kept, kept_costs}
 use Rattle.delay_labels.proofs.costs.Costs.keep_landable.Goals as goal
 
 pub invariant_of-self : goal.invariant_of-self
@@ -16,16 +18,17 @@ pub returns-clause-windows : goal.returns-clause-windows
 returns-clause-windows g c =
     let k = c.compact.ensures.kept in
     let are : k.0 ≡ map has_some (lists_of c.self.inside.pairs.items c.self.inside.parts.items) =
-    answers_known _ (λ x b r. r.says.met ∙ ap (λ (y : ℕ × ℕ). nat_lt y.0 y.1) r.shows) c.self.inside.pairs.items _ k.0 c.self.invariant.1 k.1 in
+    answers_are (λ (y : ℕ × ℕ). nat_lt y.0 y.1) _ (λ x b r. r.says.met ∙ ap (λ (y : ℕ × ℕ). nat_lt y.0 y.1) r.shows) _ k.0 k.1 ∙ parts_have c.self.inside.pairs.items c.self.inside.parts.items c.self.invariant.1 in
     k.2 ∙ ap (λ (bs : List Bool). kept_where bs c.args.stage.now.1) are ∙ ap (λ (ls : List (List Pair)). known_of ls c.args.stage.now.1) c.self.view_is
 
 pub returns-clause-lists : goal.returns-clause-lists
 returns-clause-lists g c =
     let k = c.compact.ensures.kept in
     let are : k.0 ≡ map has_some (lists_of c.self.inside.pairs.items c.self.inside.parts.items) =
-    answers_known _ (λ x b r. r.says.met ∙ ap (λ (y : ℕ × ℕ). nat_lt y.0 y.1) r.shows) c.self.inside.pairs.items _ k.0 c.self.invariant.1 k.1 in
+    answers_are (λ (y : ℕ × ℕ). nat_lt y.0 y.1) _ (λ x b r. r.says.met ∙ ap (λ (y : ℕ × ℕ). nat_lt y.0 y.1) r.shows) _ k.0 k.1 ∙ parts_have c.self.inside.pairs.items c.self.inside.parts.items c.self.invariant.1 in
     lists_kept c.self.inside.pairs.items c.self.inside.parts.items k.0 c.compact.new.labels.items c.args.self.now k.3 are c.self.view_is
 
 pub returns-clause-landable : goal.returns-clause-landable
 returns-clause-landable g c = λ p each are.
-    holds_at p c.args.stage.now.0 c.compact.new.self c.args.stage.now.1 c.args.self.now _ c.compact.ensures.number (returns-clause-windows g c) (returns-clause-lists g c) each are
+    holds_as (HoldsCosts p) c.args.stage.now.0 c.compact.new.self (known_of c.args.self.now c.args.stage.now.1) (known_of c.args.self.now c.args.self.now) _ c.compact.ensures.number (returns-clause-windows g c) (returns-clause-lists g c)
+    (kept_costs p c.args.stage.now.0 c.args.stage.now.1 c.args.self.now each are)

@@ -1,5 +1,5 @@
 use Rattle.std.proofs.Common.{rules, ◌≡◌, length}
-use Rattle.delay_labels.proofs.ListLemmas.{stored_more, stored_within}
+use Rattle.delay_labels.proofs.PartLemmas.{stored_more, stored_within}
 use Rattle.delay_labels.proofs.costs.Costs.with_list.Goals as goal
 
 pub invariant_of-result : goal.invariant_of-result
