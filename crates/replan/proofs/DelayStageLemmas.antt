@@ -2,9 +2,8 @@
 use Rattle.std.proofs.Common.{◌≡◌, ℕ, zero, suc, ◌+◌, ◌*◌, ◌<◌, List, [], ◌∷◌, ◌++◌, length, get_or, replicate, length-append, refl, sym, ap, subst, ◌∙◌, arith, inl, inr, zero-le}
 use Rattle.std.specs.Prelude.{ℤ, pos, Contains}
 use Rattle.std.proofs.lemmas.Bool.{cases_eq}
-use Rattle.std.proofs.lemmas.List.{append-nil, get_or_append_left, get_or_push, get_or_default}
+use Rattle.std.proofs.lemmas.List.{get_or_append_left, get_or_push, get_or_default}
 use Rattle.std.proofs.lemmas.List.Elements.{Contains-get_or}
-use Rattle.cps_nodes.specs.Ranks.{window_of}
 use Rattle.cps_theory.specs.Separation.{Landing}
 use Rattle.cps_theory.specs.LandingTrail.{pair_of}
 use Rattle.cps_theory.specs.Labels.{InPairs, Pair}
@@ -14,6 +13,7 @@ use Rattle.landing_rules.specs.Problem.{Problem}
 use Rattle.cps_network.specs.Landable.{IsLandable, HoldsCandidates}
 use Rattle.cps_network.specs.Lists.{IsAscending, node_at}
 use Rattle.cps_network.specs.Nodes.{Node}
+use Rattle.cps_network.specs.shared.LegalWindows.{source_is}
 use Rattle.delay_labels.specs.Pairs.{Attains, ArePairsOf, HoldsCosts, list_at}
 use Rattle.delay_labels.specs.shared.PairSteps.{landable_attains}
 use Rattle.replan.specs.Stages.{stage_at, HasCandidates}
@@ -21,9 +21,6 @@ use Rattle.replan.specs.DelayStages.{lists_at, HoldsDelayStages}
 use Rattle.replan.proofs.StageLemmas.{start_only, no_landing}
 
 -- ---- stage 0
-
-source_is : (p : Problem) → window_of (2 * p.k + 1) [] ≡ replicate (2 * p.k + 1) (pos 0)
-source_is p = append-nil (replicate (2 * p.k + 1) (pos 0))
 
 start_attains : (p : Problem) → Attains p 0 (replicate (2 * p.k + 1) (pos 0)) (0, 0)
 start_attains p = record { landings = []; legal = tt; landed = tt; at = ap (λ (w : List ℤ). (0, w)) (source_is p); is = refl }

@@ -18,11 +18,11 @@ use Rattle.landing_rules.specs.Problem.{Problem}
 use Rattle.cps_network.specs.Landable.{IsLandable}
 use Rattle.cps_network.specs.Lists.{node_at}
 use Rattle.cps_network.specs.Nodes.{Node, node_of, permits, land, latest, IsWindowNetwork}
+use Rattle.cps_network.specs.WindowLaws.{WindowLaws}
+use Rattle.cps_network.specs.shared.LegalWindows.{next_last}
 use Rattle.cps_nodes.specs.Windows.{offset_at}
-use Rattle.makespan_labels.specs.Laws.{WindowLaws}
-use Rattle.makespan_labels.specs.shared.NetworkSteps.{next_last}
 use Rattle.delay_labels.specs.Pairs.{Attains, HoldsCosts, GivesPair, list_at, pair_at, successor}
-use Rattle.delay_labels.specs.shared.PairSteps.{dearer, listed_given}
+use Rattle.delay_labels.specs.shared.PairSteps.{dearer, at_in, listed_given}
 use Rattle.replan.specs.Stages.{stage_at}
 use Rattle.replan.specs.DelayStages.{lists_at, last_pair, HoldsDelayStages, LandsWithPair}
 use Rattle.replan.proofs.StageLemmas.{start_only}
@@ -112,11 +112,6 @@ pair_given p net before after lists more v q place index held above number lt at
     let u : Undominated (Attains p after.0 (node_at after.1 place)) q = ((above.costs.pairs place lt).undominated q).0 has in
     let u' : Undominated (Attains p after.0 v) q = subst (λ (z : List ℤ). Undominated (Attains p after.0 z) q) (sym at) u in
     listed_given p net before lists held v q (subst (λ (n : ℕ). Undominated (Attains p n v) q) number u')
-  where
-    at_in : (xs : List Pair) (i : ℕ) (o : Pair) → i < length xs → pair_at xs i ≡ o → InPairs o xs
-    at_in [] i o lt e = absurd (omega arith)
-    at_in (x ∷ xs) zero o lt e = inl (sym e)
-    at_in (x ∷ xs) (suc i) o lt e = inr (at_in xs i o (omega arith) e)
 
 pub last_given_pair : (p : Problem) (w : ℕ) → w ≡ 2 * p.k + 1 → WindowLaws p w → (before : ℕ × List (List ℤ)) (lists : List (List Pair)) (v : List ℤ) (q : Pair) (j k : ℕ) → HoldsCosts p before lists
     → (source : GivesPair p before lists v q j k) → (pos (suc before.0) +ℤ offset_at v (w - 1) ≡ pos source.rank) × (source.rank ≤ length p.flights)

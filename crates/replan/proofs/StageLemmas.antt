@@ -2,9 +2,8 @@
 use Rattle.std.proofs.Common.{◌≡◌, ℕ, zero, suc, ◌+◌, ◌*◌, ◌<◌, List, [], ◌∷◌, ◌++◌, length, get_or, replicate, length-append, refl, sym, ap, subst, ◌∙◌, arith, inl, inr, Option, Some, None}
 use Rattle.std.specs.Prelude.{ℤ, pos, Contains, slice_index, Bool, true, false, IsTrue, ◌-◌, ◌≤◌, map}
 use Rattle.std.proofs.lemmas.Bool.{cases_eq}
-use Rattle.std.proofs.lemmas.List.{length-map, append-nil, get_or_append_left, get_or_push, get_or_default}
+use Rattle.std.proofs.lemmas.List.{length-map, get_or_append_left, get_or_push, get_or_default}
 use Rattle.cps_base.specs.Tally.{raised_by}
-use Rattle.cps_nodes.specs.Ranks.{window_of}
 use Rattle.cps_theory.specs.Separation.{Landing}
 use Rattle.cps_theory.specs.LandingTrail.{ranks}
 use Rattle.landing_rules.specs.Problem.{Problem}
@@ -13,6 +12,7 @@ use Rattle.cps_network.specs.Landable.{IsLandable, HoldsCandidates}
 use Rattle.cps_network.specs.Lists.{IsAscending, node_at}
 use Rattle.cps_network.specs.Nodes.{Node, node_of}
 use Rattle.cps_network.specs.Permits.{IsNextOf}
+use Rattle.cps_network.specs.shared.LegalWindows.{source_is}
 use Rattle.makespan_labels.specs.Columns.{is_known, known_of}
 use Rattle.makespan_labels.specs.Labels.{CanLandAt, IsLabel, HoldsLabels}
 use Rattle.replan.specs.Stages.{stage_at, labels_at, HoldsStages, HasCandidates, HasCandidatesUpto, IsWholeWhere}
@@ -21,9 +21,6 @@ use Rattle.replan.specs.Stages.{stage_at, labels_at, HoldsStages, HasCandidates,
 
 zeros : Problem → List ℤ
 zeros p = replicate (2 * p.k + 1) (pos 0)
-
-source_is : (p : Problem) → window_of (2 * p.k + 1) [] ≡ replicate (2 * p.k + 1) (pos 0)
-source_is p = append-nil (replicate (2 * p.k + 1) (pos 0))
 
 start_lands : (p : Problem) → CanLandAt p 0 (replicate (2 * p.k + 1) (pos 0)) 0
 start_lands p = ([], tt, tt, ap (λ (w : List ℤ). (0, w)) (source_is p), refl)

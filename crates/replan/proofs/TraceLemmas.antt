@@ -16,10 +16,12 @@ use Rattle.cps_network.specs.Lists.{node_at}
 use Rattle.cps_network.specs.Nodes.{Node, node_of, permits, land, latest, IsWindowNetwork}
 use Rattle.cps_network.specs.Landable.{IsLandable}
 use Rattle.cps_network.specs.Permits.{IsSuccessor}
+use Rattle.cps_network.specs.WindowLaws.{WindowLaws}
+use Rattle.cps_network.specs.shared.LandableSteps.{landable_source}
+use Rattle.cps_network.specs.shared.LegalWindows.{next_last}
 use Rattle.cps_nodes.specs.Windows.{offset_at}
 use Rattle.makespan_labels.specs.Labels.{no_label, GivesLabel, IsLabel, HoldsLabels}
-use Rattle.makespan_labels.specs.Laws.{WindowLaws}
-use Rattle.makespan_labels.specs.shared.NetworkSteps.{ComesFrom, can_land, is_landable, comes_from, next_last}
+use Rattle.makespan_labels.specs.shared.NetworkSteps.{can_land}
 use Rattle.replan.specs.Stages.{stage_at, labels_at, HoldsStages, LandsLastAt}
 use Rattle.replan.proofs.StageLemmas.{start_only}
 
@@ -107,8 +109,8 @@ pub node_source : (p : Problem) → IsWindowNetwork p → (before after : ℕ ×
 node_source p net before after labels more v place held above number lt at =
     let l : IsLandable p after.0 v = (above.landable v).0 (subst (Contains after.1) (sym at) (Contains-get_or after.1 place [] lt)) in
     let m : IsLandable p (suc before.0) v = subst (λ (q : ℕ). IsLandable p q v) number l in
-    let c : ComesFrom p before.0 v _ = comes_from p net before.0 v _ (can_land p (suc before.0) v m) in
-    (c.source, (held.landable c.source).1 (is_landable p before.0 c.source c.second c.before), (c.rank, c.permitted, c.next))
+    let s = landable_source p net before.0 v m in
+    (s.0, (held.landable s.0).1 s.1, s.2)
 
 pub last_given : (p : Problem) (w : ℕ) → w ≡ 2 * p.k + 1 → WindowLaws p w → (before : ℕ × List (List ℤ)) (labels : List ℕ) (v : List ℤ) (label j : ℕ) → HoldsLabels p before labels
     → (source : GivesLabel p before labels v label j) → (pos (suc before.0) +ℤ offset_at v (w - 1) ≡ pos source.rank) × (source.rank ≤ length p.flights)

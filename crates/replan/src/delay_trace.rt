@@ -6,11 +6,10 @@ ghost use Rattle.replan.specs.Stages.{stage_at};
 ghost use Rattle.replan.specs.DelayStages.{lists_at, last_pair, HoldsDelayStages, LandsWithPair};
 
 use crate::delay_stages::CostStages;
-use cps_network::prefix_laws;
+use cps_network::{last_rank, prefix_laws};
 use cps_nodes::window_laws;
 use cps_problem::Problem;
 use delay_labels::{Costs, source_pair};
-use makespan_labels::last_rank;
 
 // The last pair of the list at a place.
 pub(crate) fn last_of(costs: &Costs, place: usize) -> (u32, u32)

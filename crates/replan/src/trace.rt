@@ -4,10 +4,10 @@ ghost use Rattle.std.specs.Prelude.{◌≡◌, ℕ, ◌+◌, ◌*◌, ◌<◌, �
 ghost use Rattle.replan.specs.Stages.{stage_at, labels_at, HoldsStages, LandsLastAt};
 
 use crate::stages::LabelledStages;
-use cps_network::prefix_laws;
+use cps_network::{last_rank, prefix_laws};
 use cps_nodes::window_laws;
 use cps_problem::Problem;
-use makespan_labels::{Column, last_rank, source_of};
+use makespan_labels::{Column, source_of};
 
 // The first place of the least label, where there is one.
 pub(crate) fn least_place(labels: &Column) -> Option<usize>

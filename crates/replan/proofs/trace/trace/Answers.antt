@@ -3,7 +3,7 @@ use Rattle.std.specs.Prelude.{ℤ, slice_index}
 use Rattle.std.proofs.lemmas.Int.{ints}
 use Rattle.std.proofs.lemmas.List.{length-set, drop_all}
 use Rattle.cps_network.specs.Lists.{node_at}
-use Rattle.makespan_labels.specs.Laws.{WindowLaws}
+use Rattle.cps_network.specs.WindowLaws.{WindowLaws}
 use Rattle.replan.specs.Stages.{stage_at, labels_at}
 use Rattle.replan.proofs.StageLemmas.{held_at, read_stage, read_labels}
 use Rattle.replan.proofs.TraceLemmas.{Completes, completes_start, back_step, node_source, last_given, label_held, trace_end}
