@@ -1,7 +1,5 @@
 -- The opening situation of an aerodrome and its flights, and what is asked of them.
 use Rattle.std.specs.Prelude.{◌≡◌, ◌≢◌, ◌≤◌, false, List, [], length, map, None, All, AllPairs, IsTrue}
-use Rattle.std.proofs.lemmas.List.Elements.{All-map}
-use Rattle.std.proofs.Common.{refl}
 use Rattle.cps_base.specs.Text.{is_callsign}
 use Rattle.landing_rules.specs.Flights.{Aerodrome, Flight, Active, Situation}
 use Rattle.landing_rules.specs.Rules.{last_second}
@@ -54,7 +52,3 @@ files_can_open a fs range read = record {
   flights = λ k d lt. let f = read.flights k d lt in record { eta = f.eta; weight = f.weight };
   callsigns = read.callsigns;
 }
-
--- each flight of the opening situation waits
-pub opened_waits : (a : aerodromes.Aerodrome) (fs : List files.Flight) → All (λ (x : Active). x.frozen ≡ None) (opened a fs).active
-opened_waits a fs = All-map (λ (x : Active). x.frozen ≡ None) newcomer (map flight_of fs) (λ k d lt. refl)
