@@ -12,7 +12,7 @@ mod sequencer;
 mod waiting;
 
 pub use opening::{BeginFault, opening_problem};
-pub use plan::{Landing, Plan, opening_plan};
+pub use plan::{Landing, Plan};
 pub use problem::problem_of;
 pub use sequencer::Sequencer;
 pub use situations::Refusal;

@@ -200,10 +200,8 @@ impl<P: Planner> Sequencer<P> {
         if let Some(refusal) = self.situation.refusal(event) {
             return Err(refusal);
         }
-        match self.advance(rt, alloc, event, gate, steps) {
-            Ok(()) => Ok(()),
-            Err(_) => Err(Refusal::Memory),
-        }
+        self.advance(rt, alloc, event, gate, steps)?;
+        Ok(())
     }
 
     // Begins with at most 60 flights.
@@ -263,7 +261,7 @@ impl<P: Planner> Sequencer<P> {
         if count > 60 {
             return Err(BeginFault::TooManyWaiting(count as u32));
         }
-        match Sequencer::open(
+        let sequencer = Sequencer::open(
             rt,
             alloc,
             &aerodrome,
@@ -271,9 +269,7 @@ impl<P: Planner> Sequencer<P> {
             planner,
             gate,
             steps,
-        ) {
-            Ok(sequencer) => Ok(sequencer),
-            Err(_) => Err(BeginFault::Memory),
-        }
+        )?;
+        Ok(sequencer)
     }
 }

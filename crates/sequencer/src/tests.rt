@@ -1,9 +1,9 @@
 ghost use Rattle.std.specs.Prelude.{IfOk};
 ghost use Rattle.aerodrome_file.specs.Reading.{IsInRange};
 
-use crate::{opening_plan, opening_problem};
+use crate::opening_problem;
 use aerodrome_file::Aerodrome;
-use cps_problem::{Objective, Schedule};
+use cps_problem::Objective;
 use flight_file::read_flights;
 use landing_windows::Closures;
 use std::test::Fail;
@@ -45,16 +45,5 @@ A1,A,1000,1,1000-2000,
     assert!(rt; problem.flight(2).callsign.bytes() == b"F1".as_slice());
     assert!(rt; problem.pairs().must_precede(1, 2));
     assert!(rt; !problem.pairs().must_precede(2, 1));
-    Ok(())
-}
-
-#[test]
-fn without_flights_the_plan_lands_none(rt: HostRuntime) -> Result<(), Fail> {
-    let aerodrome = sample()?;
-    let problem = opening_problem(rt.alloc(), &aerodrome, &[]);
-    let problem = problem.ok().ok_or("no problem")?;
-    let schedule = Schedule::of(Vec::new(rt.alloc()));
-    let plan = opening_plan(rt.alloc(), &problem, &schedule)?;
-    assert!(rt; plan.value() == 0 && plan.len() == 0);
     Ok(())
 }
