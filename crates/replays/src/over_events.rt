@@ -39,15 +39,15 @@ fn step<P: Planner, R: Threads + Sync, S: Sink, G: Gate + Sync, L: Ledger>(
     ensures { StepWrites sequencer.old.state sequencer.new.state number (event_of event.now) (S.state out.old) (S.state out.new) result }
 {
     match sequencer.apply(rt, alloc, event, gate, steps) {
-        Ok(()) => match accepted(alloc, &*sequencer, number) {
-            Ok(text) => put(out, text.as_slice()),
-            Err(_) => Err(Stop::NoMemory),
-        },
+        Ok(()) => {
+            let text = accepted(alloc, &*sequencer, number)?;
+            put(out, text.as_slice())
+        }
         Err(Refusal::Memory) => Err(Stop::NoMemory),
-        Err(refusal) => match refused(alloc, number, &refusal) {
-            Ok(text) => put(out, text.as_slice()),
-            Err(_) => Err(Stop::NoMemory),
-        },
+        Err(refusal) => {
+            let text = refused(alloc, number, &refusal)?;
+            put(out, text.as_slice())
+        }
     }
 }
 
@@ -67,10 +67,7 @@ fn replay_events<P: Planner, R: Threads + Sync, S: Sink, G: Gate + Sync, L: Ledg
 {
     for i in 0..events.len() {
         let number = i as u32 + 1;
-        match step(rt, alloc, sequencer, number, &events[i], out, gate, steps) {
-            Ok(()) => (),
-            Err(stop) => return Err(stop),
-        }
+        step(rt, alloc, sequencer, number, &events[i], out, gate, steps)?;
     }
     Ok(())
 }
@@ -83,10 +80,8 @@ fn open<P: Planner, S: Sink>(
 ) -> Result<(), Stop>
     ensures { Opens sequencer.now.state (S.state out.old) (S.state out.new) result }
 {
-    match begun(alloc, sequencer) {
-        Ok(text) => put(out, text.as_slice()),
-        Err(_) => Err(Stop::NoMemory),
-    }
+    let text = begun(alloc, sequencer)?;
+    put(out, text.as_slice())
 }
 
 /// Replays the events from the state of the sequencer: prints its plan, then for each event its answer, and the plan
@@ -106,14 +101,9 @@ pub fn replay<P: Planner, R: Threads + Sync, S: Sink, G: Gate + Sync, L: Ledger>
 ) -> Result<bool, Stop>
     requires good { All IsGood events.now }
     requires few { length events.now < 2 ^ 31 }
-    ensures { ReplayEnds sequencer.old.state sequencer.new.state (map event_of events.now) (S.state out.old) (S.state out.new) result }
+    ensures outcome { ReplayEnds sequencer.old.state sequencer.new.state (map event_of events.now) (S.state out.old) (S.state out.new) result }
 {
-    match open(alloc, &*sequencer, out) {
-        Ok(()) => (),
-        Err(stop) => return Err(stop),
-    }
-    match replay_events(rt, alloc, sequencer, events, out, gate, steps) {
-        Ok(()) => Ok(sequencer.plan().is_some()),
-        Err(stop) => Err(stop),
-    }
+    open(alloc, &*sequencer, out)?;
+    replay_events(rt, alloc, sequencer, events, out, gate, steps)?;
+    Ok(sequencer.plan().is_some())
 }

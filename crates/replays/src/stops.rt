@@ -1,3 +1,5 @@
+use std::alloc::AllocError;
+
 /// Why a replay stops before its end.
 #[derive(Clone, Copy, Debug, PartialEq, Eq)]
 pub enum Stop {
@@ -5,4 +7,15 @@ pub enum Stop {
     NotWritten,
     /// There was no memory.
     NoMemory,
+}
+
+impl From<AllocError> for Stop {
+    ghost use Rattle.std.specs.Prelude.{◌≡◌};
+    ghost use Rattle.replays.specs.declared.stops.Stop.TheVariants.{NoMemory};
+
+    ghost from_gives = { λ _ stop. stop ≡ NoMemory };
+
+    fn from(_: AllocError) -> Self {
+        Stop::NoMemory
+    }
 }
