@@ -1,5 +1,5 @@
 -- What `check` prints over the contents of its three files, and which it refuses.
-use Rattle.std.specs.Prelude.{◌≡◌, ⊤, ℕ, List, Option, Some, None, Result, Ok, Err}
+use Rattle.std.specs.Prelude.{◌≡◌, ℕ, List, Option, Some, None, Result, Ok, Err}
 use Rattle.landing_rules.specs.Problem.{Problem, IsProblemOf}
 use Rattle.aerodrome_file.specs.declared.aerodrome.Aerodrome.{Aerodrome}
 use Rattle.aerodrome_file.specs.declared.fault.AeroFault.{AeroFault}
@@ -14,10 +14,9 @@ use Rattle.cert_check.specs.declared.verdict.Verdict.{Verdict}
 use Rattle.sequencer.specs.Opened.{opened}
 use Rattle.cps_top.specs.declared.endings.Answer.{Answer}
 use Rattle.cps_top.specs.declared.endings.Ending.{Ending}
-use Rattle.cps_top.specs.declared.endings.Ending.TheVariants as endings
 use Rattle.cps_top.specs.declared.endings.Refusal.{Refusal}
 use Rattle.cps_top.specs.declared.endings.Refusal.TheVariants as refusal
-use Rattle.cps_top.specs.Plan.{refusal_of}
+use Rattle.cps_top.specs.Plan.{refusal_of, Stops}
 use Rattle.cps_top.specs.Verdicts.{verdict_text, answer_of_verdict, IsTrueOf}
 
 -- the first cause, in the order of the files
@@ -58,6 +57,4 @@ pub record AdmitsCheck (aerodrome flights certificate text : List ℕ) (answer :
 
 -- how `check` may stop before it writes
 abbrev pub StopsCheck : List ℕ → List ℕ → List ℕ → Ending → Type 0
-StopsCheck aerodrome flights certificate (endings.Refused cause) = RefusesCheck aerodrome flights certificate cause
-StopsCheck aerodrome flights certificate endings.NoMemory = ⊤
-StopsCheck aerodrome flights certificate ending = ⊥
+StopsCheck aerodrome flights certificate = Stops (RefusesCheck aerodrome flights certificate)

@@ -62,14 +62,16 @@ pub record AdmitsPlan (aerodrome_bytes flight_bytes text : List ℕ) (answer : a
   pub prints : text ≡ lines_text (plan_lines state)
   pub answers : answer ≡ answer_of state.plan
 
+-- how a command that refuses for these causes may stop before it writes
+abbrev pub Stops : (refusals.Refusal → Type 0) → Ending → Type 0
+Stops Refuses (Refused cause) = Refuses cause
+Stops Refuses NoMemory = ⊤
+Stops Refuses ending = ⊥
+
 -- how `plan` may stop before it writes
 abbrev pub StopsPlan : List ℕ → List ℕ → Ending → Type 0
-StopsPlan aerodrome flights (Refused cause) = RefusesPlan aerodrome flights cause
-StopsPlan aerodrome flights NoMemory = ⊤
-StopsPlan aerodrome flights ending = ⊥
+StopsPlan aerodrome flights = Stops (RefusesPlan aerodrome flights)
 
 -- the same over files that are read
 abbrev pub StopsOpened : List Flight → Ending → Type 0
-StopsOpened flights (Refused cause) = refusal_of flights ≡ Some cause
-StopsOpened flights NoMemory = ⊤
-StopsOpened flights ending = ⊥
+StopsOpened flights = Stops (λ cause. refusal_of flights ≡ Some cause)

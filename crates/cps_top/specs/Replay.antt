@@ -1,5 +1,5 @@
 -- What `replay` prints over the contents of its three files, and which it refuses.
-use Rattle.std.specs.Prelude.{◌≡◌, ⊤, ℕ, Bool, List, ◌++◌, map, Option, Some, None, Result, Ok, Err}
+use Rattle.std.specs.Prelude.{◌≡◌, ℕ, Bool, List, ◌++◌, map, Option, Some, None, Result, Ok, Err}
 use Rattle.landing_rules.specs.Events as rules
 use Rattle.landing_rules.specs.Events.{State, Answered, Run, IsOpeningState}
 use Rattle.landing_rules.specs.Text.{replay_text}
@@ -23,7 +23,7 @@ use Rattle.cps_top.specs.declared.endings.Ending.{Ending}
 use Rattle.cps_top.specs.declared.endings.Ending.TheVariants as endings
 use Rattle.cps_top.specs.declared.endings.Refusal.{Refusal}
 use Rattle.cps_top.specs.declared.endings.Refusal.TheVariants as refusal
-use Rattle.cps_top.specs.Plan.{refusal_of, answer_by, answer_of}
+use Rattle.cps_top.specs.Plan.{refusal_of, answer_by, answer_of, Stops}
 
 -- the first cause, in the order of the files
 abbrev pub refused_with : Result Aerodrome AeroFault → Result (List Flight) FlightFault → Result (List Event) LogFault → Option Refusal
@@ -71,9 +71,7 @@ pub record BeginsReplay (aerodrome flights log text : List ℕ) : Type 0 where
 
 -- how `replay` may stop before it writes
 abbrev pub StopsReplay : List ℕ → List ℕ → List ℕ → Ending → Type 0
-StopsReplay aerodrome flights events (endings.Refused cause) = RefusesReplay aerodrome flights events cause
-StopsReplay aerodrome flights events endings.NoMemory = ⊤
-StopsReplay aerodrome flights events ending = ⊥
+StopsReplay aerodrome flights events = Stops (RefusesReplay aerodrome flights events)
 
 -- how the program ends where its replay ended so
 abbrev pub ending_of : Result Bool Stop → Ending

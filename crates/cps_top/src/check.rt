@@ -7,15 +7,15 @@ ghost use Rattle.cps_top.specs.Check.{IsJudged, Judges, StopsCheck};
 ghost use Rattle.cps_top.specs.Outcome.{Follows};
 ghost use Rattle.cps_top.specs.Plan.{StopsOpened};
 
+use crate::Ending;
 use crate::verdict_lines::{answer, verdict_line};
-use crate::{Ending, Refusal};
-use aerodrome_file::{AeroFault, Aerodrome, read_aerodrome};
+use aerodrome_file::{Aerodrome, read_aerodrome};
 use cert_check::{Verdict, judge};
-use certificate::{CertFault, Certificate, read_certificate};
+use certificate::{Certificate, read_certificate};
 use cps_outside::Sink;
-use flight_file::{Flight, FlightCause, read_flights};
+use flight_file::{Flight, read_flights};
 use landing_joint::laws::problem_stands_for_situation;
-use sequencer::{BeginFault, opening_problem};
+use sequencer::opening_problem;
 use std::alloc::Global;
 
 // The verdict on a certificate for the opening situation of the files.
@@ -30,11 +30,8 @@ fn judge_opened(
     ensures { MatchResult result (IsJudged aerodrome.now flights.now certificate.now) (StopsOpened flights.now) }
 {
     problem_stands_for_situation();
-    match opening_problem(alloc, aerodrome, flights) {
-        Ok(problem) => Ok(judge(&problem, certificate)),
-        Err(BeginFault::TooManyWaiting(n)) => Err(Ending::Refused(Refusal::TooManyWaiting(n))),
-        Err(BeginFault::Memory) => Err(Ending::NoMemory),
-    }
+    let problem = opening_problem(alloc, aerodrome, flights)?;
+    Ok(judge(&problem, certificate))
 }
 
 // The same for the bytes of the files.
@@ -47,21 +44,9 @@ fn judge_files(
     requires { length certificate.now < 4294967295 }
     ensures { MatchResult result (Judges aerodrome.now flights.now certificate.now) (StopsCheck aerodrome.now flights.now certificate.now) }
 {
-    let aerodrome = match read_aerodrome(alloc, aerodrome) {
-        Ok(aerodrome) => aerodrome,
-        Err(AeroFault::Memory) => return Err(Ending::NoMemory),
-        Err(fault) => return Err(Ending::Refused(Refusal::Aerodrome(fault))),
-    };
-    let flights = match read_flights(alloc, flights) {
-        Ok(flights) => flights,
-        Err(fault) if fault.cause == FlightCause::Memory => return Err(Ending::NoMemory),
-        Err(fault) => return Err(Ending::Refused(Refusal::Flights(fault))),
-    };
-    let certificate = match read_certificate(alloc, certificate) {
-        Ok(certificate) => certificate,
-        Err(CertFault::Memory) => return Err(Ending::NoMemory),
-        Err(fault) => return Err(Ending::Refused(Refusal::Certificate(fault))),
-    };
+    let aerodrome = read_aerodrome(alloc, aerodrome)?;
+    let flights = read_flights(alloc, flights)?;
+    let certificate = read_certificate(alloc, certificate)?;
     judge_opened(alloc, &aerodrome, flights.as_slice(), &certificate)
 }
 

@@ -1,7 +1,4 @@
-use crate::run;
-use crate::tests::{HEADER, NO_SHIFT, ONE_PLACE, TABLE, text};
-use cps_outside::{FreeGate, MemoryFolder, MemorySink};
-use std::alloc::{AllocError, Global};
+use crate::test_runs::{NO_SHIFT, ONE_PLACE, folder, run_words};
 use std::test::Fail;
 
 const TWO: &str = "A1,A,1000,1,1000-2000,\nF1,F,1010,1,1010-2000,\n";
@@ -118,47 +115,17 @@ const CHECKS: [Check; 7] = [
     },
 ];
 
-fn folder(alloc: Global, check: &Check) -> Result<MemoryFolder, AllocError> {
-    let mut certificate = Vec::new(alloc);
-    for part in check.certificate {
-        certificate.extend_from_slice(part.as_bytes())?;
-    }
-    let mut files = Vec::new(alloc);
-    files.push((
-        String::from_str(alloc, "aerodrome")?,
-        text(alloc, [check.head, TABLE])?,
-    ))?;
-    files.push((
-        String::from_str(alloc, "flights")?,
-        text(alloc, [HEADER, check.flights])?,
-    ))?;
-    files.push((String::from_str(alloc, "certificate")?, certificate))?;
-    Ok(MemoryFolder::new(alloc, files, Vec::new(alloc)))
-}
-
 #[test]
 fn certificates_are_judged_for_the_opening_situation(rt: HostRuntime) -> Result<(), Fail> {
     let alloc = rt.alloc();
-    let mut words = Vec::new(alloc);
-    for word in ["check", "aerodrome", "flights", "certificate"] {
-        words.push(String::from_str(alloc, word)?)?;
-    }
+    let words = ["check", "aerodrome", "flights", "certificate"];
     for expected in &CHECKS {
-        let mut folder = folder(alloc, expected)?;
-        let mut out = MemorySink::new(alloc, 100, Vec::new(alloc))?;
-        let mut err = MemorySink::new(alloc, 100, Vec::new(alloc))?;
-        let status = run(
-            &rt,
-            alloc,
-            words.as_slice(),
-            &mut folder,
-            &mut out,
-            &mut err,
-            &FreeGate,
-        );
-        assert_eq!(rt; status, expected.status);
-        assert_eq!(rt; out.written(), expected.out.as_bytes());
-        assert_eq!(rt; err.written(), expected.err.as_bytes());
+        let certificate = ("certificate", expected.certificate.as_slice());
+        let folder = folder(alloc, expected.head, expected.flights, certificate, 0)?;
+        let outcome = run_words(&rt, alloc, &words, folder, 0)?;
+        assert_eq!(rt; outcome.status, expected.status);
+        assert_eq!(rt; outcome.out.written(), expected.out.as_bytes());
+        assert_eq!(rt; outcome.err.written(), expected.err.as_bytes());
     }
     Ok(())
 }

@@ -7,6 +7,7 @@ mod check;
 mod commands;
 mod endings;
 mod event_lines;
+mod faults;
 mod flight_lines;
 mod lines;
 mod loads;
@@ -27,5 +28,7 @@ mod check_tests;
 mod replay_tests;
 #[cfg(test)]
 mod stage_tests;
+#[cfg(test)]
+mod test_runs;
 #[cfg(test)]
 mod tests;

@@ -8,11 +8,11 @@ ghost use Rattle.cps_top.specs.Plan.{answer_of, answer_by, Shows, AdmitsPlan, St
 ghost use Rattle.cps_top.specs.Outcome.{Follows};
 
 use crate::opening::begin;
-use crate::{Answer, Ending, Refusal};
-use aerodrome_file::{AeroFault, Aerodrome, read_aerodrome};
+use crate::{Answer, Ending};
+use aerodrome_file::{Aerodrome, read_aerodrome};
 use cps_outside::{Gate, Sink};
 use cps_problem::Planner;
-use flight_file::{Flight, FlightCause, read_flights};
+use flight_file::{Flight, read_flights};
 use plan_text::plan_block;
 use sequencer::Sequencer;
 use std::alloc::{AllocError, Global};
@@ -56,14 +56,9 @@ fn write_opened<R: Threads + Sync, G: Gate + Sync>(
     requires empty { text.old.items ≡ [] }
     ensures { MatchResult result (λ answer. Shows aerodrome flights.items text.new.items answer) (StopsOpened flights.items) }
 {
-    let sequencer = match begin(rt, alloc, aerodrome, flights, gate) {
-        Ok(sequencer) => sequencer,
-        Err(ending) => return Err(ending),
-    };
-    match write_plan(&sequencer, text) {
-        Ok(answer) => Ok(answer),
-        Err(_) => Err(Ending::NoMemory),
-    }
+    let sequencer = begin(rt, alloc, aerodrome, flights, gate)?;
+    let answer = write_plan(&sequencer, text)?;
+    Ok(answer)
 }
 
 // The same for the bytes of the files.
@@ -78,16 +73,8 @@ fn write_files<R: Threads + Sync, G: Gate + Sync>(
     requires empty { text.old.items ≡ [] }
     ensures { MatchResult result (λ answer. AdmitsPlan aerodrome.now flights.now text.new.items answer) (StopsPlan aerodrome.now flights.now) }
 {
-    let aerodrome = match read_aerodrome(alloc, aerodrome) {
-        Ok(aerodrome) => aerodrome,
-        Err(AeroFault::Memory) => return Err(Ending::NoMemory),
-        Err(fault) => return Err(Ending::Refused(Refusal::Aerodrome(fault))),
-    };
-    let flights = match read_flights(alloc, flights) {
-        Ok(flights) => flights,
-        Err(fault) if fault.cause == FlightCause::Memory => return Err(Ending::NoMemory),
-        Err(fault) => return Err(Ending::Refused(Refusal::Flights(fault))),
-    };
+    let aerodrome = read_aerodrome(alloc, aerodrome)?;
+    let flights = read_flights(alloc, flights)?;
     write_opened(rt, alloc, aerodrome, flights, gate, text)
 }
 

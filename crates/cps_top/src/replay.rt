@@ -5,14 +5,14 @@ ghost use Rattle.cps_top.specs.declared.commands.Command.TheVariants as commands
 ghost use Rattle.cps_top.specs.Replay.{ending_of, IsBegun, StopsReplay};
 ghost use Rattle.cps_top.specs.Outcome.{Follows};
 
+use crate::Ending;
 use crate::opening::begin;
 use crate::plan::answer;
-use crate::{Ending, Refusal};
-use aerodrome_file::{AeroFault, read_aerodrome};
+use aerodrome_file::read_aerodrome;
 use cps_base::{Silent, Steps};
 use cps_outside::{Gate, Sink};
-use event_log::{Event, LogCause, read_events};
-use flight_file::{FlightCause, read_flights};
+use event_log::{Event, read_events};
+use flight_file::read_flights;
 use replan::AnyKept;
 use replays::Stop;
 use sequencer::Sequencer;
@@ -32,25 +32,11 @@ fn begin_files<R: Threads + Sync, G: Gate + Sync>(
         (λ begun. IsBegun aerodrome.now flights.now events.now begun.0.state (map event_of begun.1.items) × (All IsGood begun.1.items) × (vec_len begun.1 ≤ 2000))
         (StopsReplay aerodrome.now flights.now events.now) }
 {
-    let aerodrome = match read_aerodrome(alloc, aerodrome) {
-        Ok(aerodrome) => aerodrome,
-        Err(AeroFault::Memory) => return Err(Ending::NoMemory),
-        Err(fault) => return Err(Ending::Refused(Refusal::Aerodrome(fault))),
-    };
-    let flights = match read_flights(alloc, flights) {
-        Ok(flights) => flights,
-        Err(fault) if fault.cause == FlightCause::Memory => return Err(Ending::NoMemory),
-        Err(fault) => return Err(Ending::Refused(Refusal::Flights(fault))),
-    };
-    let events = match read_events(alloc, events) {
-        Ok(events) => events,
-        Err(fault) if fault.cause == LogCause::Memory => return Err(Ending::NoMemory),
-        Err(fault) => return Err(Ending::Refused(Refusal::Events(fault))),
-    };
-    match begin(rt, alloc, aerodrome, flights, gate) {
-        Ok(sequencer) => Ok((sequencer, events)),
-        Err(ending) => Err(ending),
-    }
+    let aerodrome = read_aerodrome(alloc, aerodrome)?;
+    let flights = read_flights(alloc, flights)?;
+    let events = read_events(alloc, events)?;
+    let sequencer = begin(rt, alloc, aerodrome, flights, gate)?;
+    Ok((sequencer, events))
 }
 
 // How the program ends where its replay ended so.

@@ -1,8 +1,7 @@
-use crate::run;
-use crate::tests::{HEADER, NO_SHIFT, ONE_PLACE, TABLE, text};
-use cps_outside::{FreeGate, MemoryFolder, MemorySink};
-use std::alloc::{AllocError, Global};
+use crate::test_runs::{NO_SHIFT, ONE_PLACE, folder, run_words};
 use std::test::Fail;
+
+const WORDS: [&str; 4] = ["replay", "aerodrome", "flights", "events"];
 
 const LOG_HEADER: &str = "kind,callsign,category,eta,weight,windows,after\n";
 
@@ -123,59 +122,24 @@ const REPLAYS: [Replay; 8] = [
     },
 ];
 
-fn folder(
-    alloc: Global,
-    head: &str,
-    flights: &str,
-    events: &str,
-) -> Result<MemoryFolder, AllocError> {
-    let mut files = Vec::new(alloc);
-    files.push((
-        String::from_str(alloc, "aerodrome")?,
-        text(alloc, [head, TABLE])?,
-    ))?;
-    files.push((
-        String::from_str(alloc, "flights")?,
-        text(alloc, [HEADER, flights])?,
-    ))?;
-    files.push((
-        String::from_str(alloc, "events")?,
-        text(alloc, [LOG_HEADER, events])?,
-    ))?;
-    Ok(MemoryFolder::new(alloc, files, Vec::new(alloc)))
-}
-
-fn words(alloc: Global) -> Result<Vec<String>, AllocError> {
-    let mut words = Vec::new(alloc);
-    for word in ["replay", "aerodrome", "flights", "events"] {
-        words.push(String::from_str(alloc, word)?)?;
-    }
-    Ok(words)
-}
-
 #[test]
 fn replays_print_an_answer_for_each_event(rt: HostRuntime) -> Result<(), Fail> {
     let alloc = rt.alloc();
-    let words = words(alloc)?;
     for expected in &REPLAYS {
-        let mut folder = folder(alloc, expected.head, expected.flights, expected.events)?;
-        let failing = vec![in alloc; (expected.failing_put, 5u32)]?;
-        let mut out = MemorySink::new(alloc, 2000, failing)?;
-        let mut err = MemorySink::new(alloc, 100, Vec::new(alloc))?;
-        let status = run(
-            &rt,
+        let events = [LOG_HEADER, expected.events];
+        let folder = folder(
             alloc,
-            words.as_slice(),
-            &mut folder,
-            &mut out,
-            &mut err,
-            &FreeGate,
-        );
+            expected.head,
+            expected.flights,
+            ("events", &events),
+            0,
+        )?;
+        let outcome = run_words(&rt, alloc, &WORDS, folder, expected.failing_put)?;
         let [first, second, third] = expected.out;
         let want = format!(in alloc; "{first}{second}{third}")?;
-        assert_eq!(rt; status, expected.status);
-        assert_eq!(rt; out.written(), want.as_bytes());
-        assert_eq!(rt; err.written(), expected.err.as_bytes());
+        assert_eq!(rt; outcome.status, expected.status);
+        assert_eq!(rt; outcome.out.written(), want.as_bytes());
+        assert_eq!(rt; outcome.err.written(), expected.err.as_bytes());
     }
     Ok(())
 }
@@ -199,7 +163,6 @@ const FAULTS: [(&str, &str); 9] = [
 #[test]
 fn the_first_fault_of_a_log_is_told(rt: HostRuntime) -> Result<(), Fail> {
     let alloc = rt.alloc();
-    let words = words(alloc)?;
     let mut many = String::new(alloc);
     for _ in 0..2001 {
         many.push_str("clock,,,0,,,\n")?;
@@ -210,22 +173,13 @@ fn the_first_fault_of_a_log_is_told(rt: HostRuntime) -> Result<(), Fail> {
         } else {
             (many.as_str(), "record 2002: too-many")
         };
-        let mut folder = folder(alloc, ONE_PLACE, TWO, events)?;
-        let mut out = MemorySink::new(alloc, 100, Vec::new(alloc))?;
-        let mut err = MemorySink::new(alloc, 100, Vec::new(alloc))?;
-        let status = run(
-            &rt,
-            alloc,
-            words.as_slice(),
-            &mut folder,
-            &mut out,
-            &mut err,
-            &FreeGate,
-        );
+        let events = [LOG_HEADER, events];
+        let folder = folder(alloc, ONE_PLACE, TWO, ("events", &events), 0)?;
+        let outcome = run_words(&rt, alloc, &WORDS, folder, 0)?;
         let want = format!(in alloc; "cps: events: {cause}\n")?;
-        assert_eq!(rt; status, 3);
-        assert!(rt; out.written().is_empty());
-        assert_eq!(rt; err.written(), want.as_bytes());
+        assert_eq!(rt; outcome.status, 3);
+        assert!(rt; outcome.out.written().is_empty());
+        assert_eq!(rt; outcome.err.written(), want.as_bytes());
     }
     Ok(())
 }

@@ -1,20 +1,15 @@
-use crate::run;
-use cps_outside::{FreeGate, MemoryFolder, MemorySink};
-use std::alloc::{AllocError, Global};
+use crate::test_runs::{LEAST_DELAY, NO_SHIFT, ONE_PLACE, folder, run_words};
+use cps_outside::MemoryFolder;
 use std::test::Fail;
 
-pub(crate) const TABLE: &str =
-    "[table]\nA = [90, 110, 120, 130, 140, 180]\nB = [60, 90, 100, 110, 120, 160]\nC = [60, 60, 60, 60, 100, 140]\nD = [60, 60, 60, 60, 60, 120]\nE = [60, 60, 60, 60, 60, 100]\nF = [60, 60, 60, 60, 60, 60]\n";
-
-pub(crate) const NO_SHIFT: &str = "version = 1\nk = 0\nfreeze = 150\nobjective = \"makespan\"\n";
-
-pub(crate) const ONE_PLACE: &str = "version = 1\nk = 1\nfreeze = 150\nobjective = \"makespan\"\n";
-
-const LEAST_DELAY: &str = "version = 1\nk = 1\nfreeze = 150\nobjective = \"delay\"\n";
-
-pub(crate) const HEADER: &str = "callsign,category,eta,weight,windows,after\n";
-
 const PLAN: &str = "makespan 1180\nland A1 1000 waiting\nland F1 1180 waiting\n";
+
+// With F1 first the last flight lands a minute sooner, at 1350, but the delay is 1430.
+const FIVE: &str =
+    "A1,A,1000,10,1000-2000,\nF1,F,1010,1,1010-2000,\nB1,B,1020,1,1020-2000,F1\nD1,D,1030,1,1030-2000,B1\nE1,E,1040,1,1040-2000,D1\n";
+
+const LATER_AND_CHEAPER: &str =
+    "delay 1080\nland A1 1000 waiting\nland F1 1180 waiting\nland B1 1240 waiting\nland D1 1350 waiting\nland E1 1410 waiting\n";
 
 // A run over two files in memory, and what comes of it. A number 0 lets no load and no put fail.
 struct Run {
@@ -28,36 +23,7 @@ struct Run {
     err: &'static str,
 }
 
-pub(crate) fn text(alloc: Global, parts: [&str; 2]) -> Result<Vec<u8>, AllocError> {
-    let mut text = Vec::new(alloc);
-    for part in parts {
-        text.extend_from_slice(part.as_bytes())?;
-    }
-    Ok(text)
-}
-
-fn folder(alloc: Global, run: &Run) -> Result<MemoryFolder, AllocError> {
-    let mut files = Vec::new(alloc);
-    files.push((
-        String::from_str(alloc, "aerodrome")?,
-        text(alloc, [run.head, TABLE])?,
-    ))?;
-    files.push((
-        String::from_str(alloc, "flights")?,
-        text(alloc, [HEADER, run.flights])?,
-    ))?;
-    Ok(MemoryFolder::new(alloc, files, vec![in alloc; run.failing_load]?))
-}
-
-fn words(alloc: Global, run: &Run) -> Result<Vec<String>, AllocError> {
-    let mut words = Vec::new(alloc);
-    for word in run.words {
-        words.push(String::from_str(alloc, word)?)?;
-    }
-    Ok(words)
-}
-
-const RUNS: [Run; 9] = [
+const RUNS: [Run; 10] = [
     Run {
         words: ["plan", "aerodrome", "flights"],
         head: NO_SHIFT,
@@ -130,6 +96,16 @@ const RUNS: [Run; 9] = [
     },
     Run {
         words: ["plan", "aerodrome", "flights"],
+        head: LEAST_DELAY,
+        flights: FIVE,
+        failing_load: 0,
+        failing_put: 0,
+        status: 0,
+        out: LATER_AND_CHEAPER,
+        err: "",
+    },
+    Run {
+        words: ["plan", "aerodrome", "flights"],
         head: NO_SHIFT,
         flights: "",
         failing_load: 2,
@@ -154,22 +130,39 @@ const RUNS: [Run; 9] = [
 fn runs_end_as_their_words_and_files_say(rt: HostRuntime) -> Result<(), Fail> {
     let alloc = rt.alloc();
     for expected in &RUNS {
-        let words = words(alloc, expected)?;
-        let mut folder = folder(alloc, expected)?;
-        let mut out = MemorySink::new(alloc, 1000, vec![in alloc; (expected.failing_put, 5u32)]?)?;
-        let mut err = MemorySink::new(alloc, 1000, Vec::new(alloc))?;
-        let status = run(
-            &rt,
+        let folder = folder(
             alloc,
-            words.as_slice(),
-            &mut folder,
-            &mut out,
-            &mut err,
-            &FreeGate,
-        );
-        assert_eq!(rt; status, expected.status);
-        assert_eq!(rt; out.written(), expected.out.as_bytes());
-        assert_eq!(rt; err.written(), expected.err.as_bytes());
+            expected.head,
+            expected.flights,
+            ("none", &[]),
+            expected.failing_load,
+        )?;
+        let outcome = run_words(&rt, alloc, &expected.words, folder, expected.failing_put)?;
+        assert_eq!(rt; outcome.status, expected.status);
+        assert_eq!(rt; outcome.out.written(), expected.out.as_bytes());
+        assert_eq!(rt; outcome.err.written(), expected.err.as_bytes());
+    }
+    Ok(())
+}
+
+#[test]
+fn a_file_of_one_byte_too_many_is_too_long(rt: HostRuntime) -> Result<(), Fail> {
+    let alloc = rt.alloc();
+    for (length, status, cause) in [
+        (16777216usize, 3u8, "cps: aerodrome: not toml\n"),
+        (16777217, 6, "cps: file 1: too long\n"),
+    ] {
+        let mut files = Vec::new(alloc);
+        files.push((
+            String::from_str(alloc, "aerodrome")?,
+            vec![in alloc; b'='; length]?,
+        ))?;
+        files.push((String::from_str(alloc, "flights")?, Vec::new(alloc)))?;
+        let folder = MemoryFolder::new(alloc, files, Vec::new(alloc));
+        let outcome = run_words(&rt, alloc, &["plan", "aerodrome", "flights"], folder, 0)?;
+        assert_eq!(rt; outcome.status, status);
+        assert!(rt; outcome.out.written().is_empty());
+        assert_eq!(rt; outcome.err.written(), cause.as_bytes());
     }
     Ok(())
 }

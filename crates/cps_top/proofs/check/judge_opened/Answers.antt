@@ -2,13 +2,13 @@ use Rattle.sequencer.specs.Opened.{opened}
 use Rattle.cps_top.proofs.Judged.{opened_taken, true_of}
 use Rattle.cps_top.proofs.check.judge_opened.Goals as goal
 
-pub returns-in-Ok : goal.returns-in-Ok
-returns-in-Ok c = record {
-  taken = opened_taken c.args.flights.now c.opening_problem.result c.in-Ok.problem c.in-Ok.is c.opening_problem.ensures.too_many;
-  problem = c.in-Ok.problem;
-  problem_of = c.in-Ok.ensures.problem;
+pub returns : goal.returns
+returns c = record {
+  taken = opened_taken c.args.flights.now c.opening_problem.result c.in_ok-problem.problem c.in_ok-problem.was c.opening_problem.ensures.too_many;
+  problem = c.in_ok-problem.problem;
+  problem_of = c.in_ok-problem.ensures.problem;
   verdict_is = c.judge.ensures.exact;
-  true_of = true_of (opened c.args.aerodrome.now c.args.flights.now) c.in-Ok.problem c.args.certificate.now.landings c.judge.result
+  true_of = true_of (opened c.args.aerodrome.now c.args.flights.now) c.in_ok-problem.problem c.args.certificate.now.landings c.judge.result
       c.problem_stands_for_situation.ensures.best c.problem_stands_for_situation.ensures.objectives c.problem_stands_for_situation.ensures.none
-      c.in-Ok.ensures.sound c.in-Ok.ensures.problem c.judge.ensures.optimal c.judge.ensures.infeasible;
+      c.in_ok-problem.ensures.sound c.in_ok-problem.ensures.problem c.judge.ensures.optimal c.judge.ensures.infeasible;
 }

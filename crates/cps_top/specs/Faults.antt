@@ -1,0 +1,42 @@
+-- How the program ends where a file is none, or memory runs out.
+use Rattle.aerodrome_file.specs.declared.fault.AeroFault.{AeroFault}
+use Rattle.aerodrome_file.specs.declared.fault.AeroFault.TheVariants as aerodrome
+use Rattle.certificate.specs.declared.fault.CertFault.{CertFault}
+use Rattle.certificate.specs.declared.fault.CertFault.TheVariants as certificate
+use Rattle.event_log.specs.declared.fault.LogCause.{LogCause}
+use Rattle.event_log.specs.declared.fault.LogCause.TheVariants as log
+use Rattle.event_log.specs.declared.fault.LogFault.{LogFault}
+use Rattle.flight_file.specs.declared.fault.FlightCause.{FlightCause}
+use Rattle.flight_file.specs.declared.fault.FlightCause.TheVariants as flight
+use Rattle.flight_file.specs.declared.fault.FlightFault.{FlightFault}
+use Rattle.sequencer.specs.declared.opening.BeginFault.{BeginFault}
+use Rattle.sequencer.specs.declared.opening.BeginFault.TheVariants as begin
+use Rattle.cps_top.specs.declared.endings.Ending.{Ending}
+use Rattle.cps_top.specs.declared.endings.Ending.TheVariants.{Refused, NoMemory}
+use Rattle.cps_top.specs.declared.endings.Refusal.TheVariants.{Aerodrome, Flights, Events, Certificate, TooManyWaiting}
+
+abbrev pub aerodrome_ending : AeroFault → Ending
+aerodrome_ending aerodrome.Memory = NoMemory
+aerodrome_ending fault = Refused (Aerodrome fault)
+
+abbrev pub by_flight_cause : FlightCause → FlightFault → Ending
+by_flight_cause flight.Memory fault = NoMemory
+by_flight_cause cause fault = Refused (Flights fault)
+
+abbrev pub flights_ending : FlightFault → Ending
+flights_ending fault = by_flight_cause fault.cause fault
+
+abbrev pub by_log_cause : LogCause → LogFault → Ending
+by_log_cause log.Memory fault = NoMemory
+by_log_cause cause fault = Refused (Events fault)
+
+abbrev pub events_ending : LogFault → Ending
+events_ending fault = by_log_cause fault.cause fault
+
+abbrev pub certificate_ending : CertFault → Ending
+certificate_ending certificate.Memory = NoMemory
+certificate_ending fault = Refused (Certificate fault)
+
+abbrev pub begin_ending : BeginFault → Ending
+begin_ending (begin.TooManyWaiting n) = Refused (TooManyWaiting n)
+begin_ending begin.Memory = NoMemory

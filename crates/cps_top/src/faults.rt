@@ -1,0 +1,90 @@
+// How the program ends where a file is none, or memory runs out: each fault by itself, so that `?` passes it on.
+
+use crate::{Ending, Refusal};
+use aerodrome_file::AeroFault;
+use certificate::CertFault;
+use event_log::{LogCause, LogFault};
+use flight_file::{FlightCause, FlightFault};
+use sequencer::BeginFault;
+use std::alloc::AllocError;
+
+impl From<AllocError> for Ending {
+    ghost use Rattle.std.specs.Prelude.{◌≡◌};
+    ghost use Rattle.cps_top.specs.declared.endings.Ending.TheVariants.{NoMemory};
+
+    ghost from_gives = { λ _ ending. ending ≡ NoMemory };
+
+    fn from(_: AllocError) -> Self {
+        Ending::NoMemory
+    }
+}
+
+impl From<AeroFault> for Ending {
+    ghost use Rattle.std.specs.Prelude.{◌≡◌};
+    ghost use Rattle.cps_top.specs.Faults.{aerodrome_ending};
+
+    ghost from_gives = { λ fault ending. ending ≡ aerodrome_ending fault };
+
+    fn from(fault: AeroFault) -> Self {
+        match fault {
+            AeroFault::Memory => Ending::NoMemory,
+            fault => Ending::Refused(Refusal::Aerodrome(fault)),
+        }
+    }
+}
+
+impl From<FlightFault> for Ending {
+    ghost use Rattle.std.specs.Prelude.{◌≡◌};
+    ghost use Rattle.cps_top.specs.Faults.{flights_ending};
+
+    ghost from_gives = { λ fault ending. ending ≡ flights_ending fault };
+
+    fn from(fault: FlightFault) -> Self {
+        match fault.cause {
+            FlightCause::Memory => Ending::NoMemory,
+            _ => Ending::Refused(Refusal::Flights(fault)),
+        }
+    }
+}
+
+impl From<LogFault> for Ending {
+    ghost use Rattle.std.specs.Prelude.{◌≡◌};
+    ghost use Rattle.cps_top.specs.Faults.{events_ending};
+
+    ghost from_gives = { λ fault ending. ending ≡ events_ending fault };
+
+    fn from(fault: LogFault) -> Self {
+        match fault.cause {
+            LogCause::Memory => Ending::NoMemory,
+            _ => Ending::Refused(Refusal::Events(fault)),
+        }
+    }
+}
+
+impl From<CertFault> for Ending {
+    ghost use Rattle.std.specs.Prelude.{◌≡◌};
+    ghost use Rattle.cps_top.specs.Faults.{certificate_ending};
+
+    ghost from_gives = { λ fault ending. ending ≡ certificate_ending fault };
+
+    fn from(fault: CertFault) -> Self {
+        match fault {
+            CertFault::Memory => Ending::NoMemory,
+            fault => Ending::Refused(Refusal::Certificate(fault)),
+        }
+    }
+}
+
+impl From<BeginFault> for Ending {
+    ghost use Rattle.std.specs.Prelude.{◌≡◌};
+    ghost use Rattle.cps_top.specs.Faults.{begin_ending};
+
+    ghost from_gives = { λ fault ending. ending ≡ begin_ending fault };
+
+    fn from(fault: BeginFault) -> Self {
+        match fault {
+            BeginFault::TooManyWaiting(n) => Ending::Refused(Refusal::TooManyWaiting(n)),
+            BeginFault::Memory => Ending::NoMemory,
+        }
+    }
+}
