@@ -30,34 +30,29 @@ fn first_source<const W: usize>(before: &[Window<W>], node: &Window<W>) -> usize
     low
 }
 
-// Whether the windows that lead to a node begin at this place.
-fn begin_at<const W: usize>(before: &[Window<W>], node: &Window<W>, place: usize) -> bool
-    ensures { IsTrue result → BeginAt before.now node.now place }
+// Whether the windows that lead to a node may begin at this place: the one before it does not lead there.
+fn may_begin_at<const W: usize>(before: &[Window<W>], node: &Window<W>, place: usize) -> bool
+    ensures within { IsTrue result → place ≤ length before.now }
+    ensures first { IsTrue result → 0 < place → TailMeetsHead (node_at before.now (place - 1)) node.now → ⊥ }
 {
-    if place >= before.len() {
+    if place > before.len() {
         return false;
     }
-    if !before[place].leads_to(node) {
-        return false;
-    }
-    if place == 0 {
-        return true;
-    }
-    !before[place - 1].leads_to(node)
+    place == 0 || !before[place - 1].leads_to(node)
 }
 
-// The first place whose window's tail is not below the node's head, tried first at a place that is likely.
-fn first_near<const W: usize>(before: &[Window<W>], node: &Window<W>, hint: usize) -> usize
-    requires width { IsWidth W }
-    requires ascending { IsAscending before.now }
-    ensures within { result ≤ length before.now }
-    ensures below { (i : ℕ) → i < result → IsBelow (node_at before.now i) node.now }
-    ensures above { (i : ℕ) → result ≤ i → i < length before.now → IsBelow (node_at before.now i) node.now → ⊥ }
+// The first place, from this one on, whose window does not lead to a node.
+fn end_from<const W: usize>(before: &[Window<W>], node: &Window<W>, from: usize) -> usize
+    requires { from ≤ length before.now }
+    ensures range { (from ≤ result) × (result ≤ length before.now) }
+    ensures leads { (i : ℕ) → from ≤ i → i < result → TailMeetsHead (node_at before.now i) node.now }
+    ensures ends { result < length before.now → TailMeetsHead (node_at before.now result) node.now → ⊥ }
 {
-    if begin_at(before, node, hint) {
-        return hint;
+    let mut to = from;
+    while to < before.len() && before[to].leads_to(node) {
+        to += 1;
     }
-    first_source(before, node)
+    to
 }
 
 // The half-open range of the windows that lead to a window. It is fastest where the hint is its first place.
@@ -71,12 +66,14 @@ pub(crate) fn sources_near<const W: usize>(
     ensures range { (result.0 ≤ result.1) × (result.1 ≤ length before.now) }
     ensures exact { (i : ℕ) → i < length before.now → TailMeetsHead (node_at before.now i) node.now ↔ ((result.0 ≤ i) × (i < result.1)) }
 {
-    let from = first_near(before, node, hint);
-    let mut to = from;
-    while to < before.len() && before[to].leads_to(node) {
-        to += 1;
+    if may_begin_at(before, node, hint) {
+        let to = end_from(before, node, hint);
+        if to > hint {
+            return (hint, to);
+        }
     }
-    (from, to)
+    let from = first_source(before, node);
+    (from, end_from(before, node, from))
 }
 
 /// The half-open range of the windows of a stage that lead to a window: of which some offset extends to it.

@@ -1,20 +1,22 @@
-use Rattle.std.proofs.Common.{◌≡◌, ◌∙◌, arith, subst, sym, List, []}
-use Rattle.std.specs.Prelude.{ℤ, true}
-use Rattle.cps_nodes.specs.Leads.{TailMeetsHead}
-use Rattle.cps_network.specs.Lists.{node_at}
-use Rattle.cps_network.proofs.MergeLemmas.{node_at-default}
-use Rattle.cps_network.proofs.SourceLemmas.{exact}
+use Rattle.std.proofs.Common.{◌<◌, arith}
+use Rattle.cps_network.specs.Begins.{BeginAt}
+use Rattle.cps_network.proofs.SourceLemmas.{below_before, none_from, exact}
 use Rattle.cps_network.proofs.source_range.sources_near.Goals as goal
 
-pub returns-else-leads_to-clause-exact : goal.returns-else-leads_to-clause-exact
-returns-else-leads_to-clause-exact g c =
-    let at : c.index-before-to.result ≡ node_at c.args.before.now c.loop-to.to =
-    c.index-before-to.is ∙ node_at-default c.args.before.now c.loop-to.to c.index-before-to.result [] (omega arith) in
-    exact c.args.before.now c.args.node.now c.first_near-from.result c.loop-to.to c.requires.ascending c.first_near-from.ensures.below c.first_near-from.ensures.above
-    c.loop-to.invariant.ordered c.loop-to.invariant.leads
-    (λ _ here. let t : c.leads_to.result ≡ true = c.leads_to.ensures.lists.1 (subst (λ (x : List ℤ). TailMeetsHead x c.args.node.now) (sym at) here) in cc)
+pub returns-then-to-hint-clause-exact : goal.returns-then-to-hint-clause-exact
+returns-then-to-hint-clause-exact g c =
+    let some : c.args.hint < c.end_from-to.result = c.if-to-hint.true in
+    let begins : BeginAt c.args.before.now c.args.node.now c.args.hint = record {
+      within = omega (arith, some, c.end_from-to.ensures.range.1);
+      leads = c.end_from-to.ensures.leads c.args.hint (omega arith) some;
+      first = c.may_begin_at.ensures.first c.if-may_begin_at.true;
+    } in
+    exact c.args.before.now c.args.node.now c.args.hint c.end_from-to.result c.requires.ascending
+    (below_before _ _ _ c.requires.ascending begins) (none_from _ _ _ c.requires.ascending begins)
+    c.end_from-to.ensures.range.0 c.end_from-to.ensures.leads c.end_from-to.ensures.ends
 
-pub returns-after-loop-to-clause-exact : goal.returns-after-loop-to-clause-exact
-returns-after-loop-to-clause-exact g c =
-    exact c.args.before.now c.args.node.now c.first_near-from.result c.loop-to.to c.requires.ascending c.first_near-from.ensures.below c.first_near-from.ensures.above
-    c.loop-to.invariant.ordered c.loop-to.invariant.leads (λ lt _. omega arith)
+pub returns-clause-exact : goal.returns-clause-exact
+returns-clause-exact g c =
+    exact c.args.before.now c.args.node.now c.first_source-from.result c.end_from.result c.requires.ascending
+    c.first_source-from.ensures.below c.first_source-from.ensures.above
+    c.end_from.ensures.range.0 c.end_from.ensures.leads c.end_from.ensures.ends

@@ -1,7 +1,7 @@
 use Rattle.std.proofs.Common.{ℕ, ◌≤◌, ◌<◌, ◌-◌, length}
 use Rattle.cps_nodes.specs.Leads.{TailMeetsHead}
 use Rattle.cps_network.specs.Lists.{node_at}
-use Rattle.cps_network.proofs.source_range.sources_near.Given as goal
+use Rattle.cps_network.proofs.source_range.end_from.Given as goal
 
 abbrev pub invariant-loop-to : goal.invariant-loop-to
 invariant-loop-to g l = record {
