@@ -13,6 +13,9 @@ fn add_predecessors(pairs: &mut Pairs, ranked: &Vec<&Active>, next: u8)
     ensures { (i j : ℕ) → MustPrecede pairs.new i j ↔ (MustPrecede pairs.old i j ⊎ ((j ≡ next) × IsListed (map (λ a. a.now) ranked.now.items) i j)) }
 {
     let follower = ranked[next as usize - 1];
+    if follower.flight.after.len() == 0 {
+        return;
+    }
     for first in 1..ranked.len() as u8 + 1 {
         let leader = ranked[first as usize - 1];
         if follower.lists(leader.flight.callsign) {
