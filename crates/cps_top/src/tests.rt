@@ -6,10 +6,10 @@ const PLAN: &str = "makespan 1180\nland A1 1000 waiting\nland F1 1180 waiting\n"
 
 // With F1 first the last flight lands a minute sooner, at 1350, but the delay is 1430.
 const FIVE: &str =
-    "A1,A,1000,10,1000-2000,\nF1,F,1010,1,1010-2000,\nB1,B,1020,1,1020-2000,F1\nD1,D,1030,1,1030-2000,B1\nE1,E,1040,1,1040-2000,D1\n";
+    "A1,A,1000,10,1000-2000,\nF1,F,1010,1,1010-2000,\nB1,B,1020,1,1020-2000,F1\nDL1,D,1030,1,1030-2000,B1\nE1,E,1040,1,1040-2000,DL1\n";
 
 const LATER_AND_CHEAPER: &str =
-    "delay 1080\nland A1 1000 waiting\nland F1 1180 waiting\nland B1 1240 waiting\nland D1 1350 waiting\nland E1 1410 waiting\n";
+    "delay 1080\nland A1 1000 waiting\nland F1 1180 waiting\nland B1 1240 waiting\nland DL1 1350 waiting\nland E1 1410 waiting\n";
 
 // A run over two files in memory, and what comes of it. A number 0 lets no load and no put fail.
 struct Run {
