@@ -36,14 +36,13 @@ impl Model for Costs {
 }
 
 impl Costs {
-    // No list.
-    pub(crate) fn new(alloc: Global) -> Costs
-        ensures { result ≡ [] }
+    // No list, with room for so many lists of one pair.
+    pub(crate) fn with_room(alloc: Global, lists: usize) -> Result<Costs, AllocError>
+        ensures { IfOk result (λ costs. costs ≡ []) }
     {
-        Costs {
-            pairs: Vec::new(alloc),
-            parts: Vec::new(alloc),
-        }
+        let pairs = Vec::with_capacity(alloc, lists)?;
+        let parts = Vec::with_capacity(alloc, lists)?;
+        Ok(Costs { pairs, parts })
     }
 
     /// The lists of stage 0: one list with the one pair (0, 0), whose second no rule reads as a landing.

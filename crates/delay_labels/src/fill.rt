@@ -79,8 +79,8 @@ pub fn fill_costs<const W: usize, R: Threads, G: Gate, L: Ledger>(
     prefix_laws::<W>(problem);
     window_laws::<W>();
     gate.pass(0);
-    let mut costs = Costs::new(alloc);
-    let mut found = Vec::new(alloc);
+    let mut costs = Costs::with_room(alloc, stage.len())?;
+    let mut found = Vec::with_capacity(alloc, 16)?;
     for i in 0..stage.len() {
         costs = with_pairs(problem, before, labels, stage, i, costs, &mut found)?;
     }
