@@ -1,8 +1,8 @@
 -- Stage 0 with its pair, and one stage more.
 use Rattle.std.proofs.Common.{◌≡◌, ℕ, zero, suc, ◌+◌, ◌*◌, ◌<◌, List, [], ◌∷◌, ◌++◌, length, get_or, replicate, length-append, refl, sym, ap, subst, ◌∙◌, arith, inl, inr, zero-le}
-use Rattle.std.specs.Prelude.{ℤ, pos, Contains}
+use Rattle.std.specs.Prelude.{ℤ, pos, Contains, map}
 use Rattle.std.proofs.lemmas.Bool.{cases_eq}
-use Rattle.std.proofs.lemmas.List.{get_or_append_left, get_or_push, get_or_default}
+use Rattle.std.proofs.lemmas.List.{length-map, get_or_append_left, get_or_push, get_or_default}
 use Rattle.std.proofs.lemmas.List.Elements.{Contains-get_or}
 use Rattle.cps_theory.specs.Separation.{Landing}
 use Rattle.cps_theory.specs.LandingTrail.{pair_of}
@@ -10,15 +10,16 @@ use Rattle.cps_theory.specs.Labels.{InPairs, Pair}
 use Rattle.cps_theory.specs.Network.{Undominated}
 use Rattle.landing_joint.specs.RankedProblem.{cost_at}
 use Rattle.landing_rules.specs.Problem.{Problem}
-use Rattle.cps_network.specs.Landable.{IsLandable, HoldsCandidates}
-use Rattle.cps_network.specs.Lists.{IsAscending, node_at}
+use Rattle.cps_network.specs.Landable.{IsLandable}
+use Rattle.cps_network.specs.Lists.{node_at}
 use Rattle.cps_network.specs.Nodes.{Node}
 use Rattle.cps_network.specs.shared.LegalWindows.{source_is}
+use Rattle.delay_labels.specs.Lists.{has_some, known_of}
 use Rattle.delay_labels.specs.Pairs.{Attains, ArePairsOf, HoldsCosts, list_at}
 use Rattle.delay_labels.specs.shared.PairSteps.{landable_attains}
-use Rattle.replan.specs.Stages.{stage_at, HasCandidates}
+use Rattle.replan.specs.Stages.{stage_at}
 use Rattle.replan.specs.DelayStages.{lists_at, HoldsDelayStages}
-use Rattle.replan.proofs.StageLemmas.{start_only, no_landing}
+use Rattle.replan.proofs.StageLemmas.{start_only, no_landing, kept_all}
 
 -- ---- stage 0
 
@@ -95,8 +96,9 @@ more_costs_held p stages after costs more stage lists is e f number held =
       ];
     }))
 
-pub has_next_candidates : (p : Problem) (before after : ℕ × List (List ℤ)) (lists : List (List Pair)) → HoldsCosts p before lists → HoldsCandidates p before after → IsAscending after.1 → HasCandidates p before.0 (length after.1)
-has_next_candidates p before after lists h each up = record { candidates = after.1; ascending = up; each = each h.landable; counted = refl }
+-- where each list has a pair, each window stays
+pub all_paired : (lists : List (List Pair)) (xs : List (List ℤ)) → length lists ≡ length xs → length (known_of lists lists) ≡ length xs → known_of lists xs ≡ xs
+all_paired lists xs e f = kept_all (map has_some lists) lists xs (length-map lists has_some ∙ e) e (f ∙ sym e)
 
 -- ---- what is read of the stages
 

@@ -8,7 +8,7 @@ use Rattle.cps_theory.specs.Separation.{Landing}
 use Rattle.cps_theory.specs.LandingTrail.{ranks}
 use Rattle.landing_rules.specs.Problem.{Problem}
 use Rattle.cps_network.specs.Compacted.{kept_where}
-use Rattle.cps_network.specs.Landable.{IsLandable, HoldsCandidates}
+use Rattle.cps_network.specs.Landable.{IsLandable, HoldsLandable, HoldsCandidates}
 use Rattle.cps_network.specs.Lists.{IsAscending, node_at}
 use Rattle.cps_network.specs.Nodes.{Node, node_of}
 use Rattle.cps_network.specs.Permits.{IsNextOf}
@@ -90,9 +90,8 @@ more_held p stages after columns more stage labels is e f number held =
       ];
     }))
 
-pub has_candidates : (p : Problem) (before after : ℕ × List (List ℤ)) (labels : List ℕ) (m : ℕ) → before.0 ≡ m → HoldsLabels p before labels → HoldsCandidates p before after → IsAscending after.1 → HasCandidates p m (length after.1)
-has_candidates p before after labels m e h each up =
-    subst (λ (q : ℕ). HasCandidates p q (length after.1)) e (record { candidates = after.1; ascending = up; each = each h.landable; counted = refl })
+pub has_candidates : (p : Problem) (before after : ℕ × List (List ℤ)) (m : ℕ) → before.0 ≡ m → HoldsLandable p before → HoldsCandidates p before after → IsAscending after.1 → HasCandidates p m (length after.1)
+has_candidates p before after m e h each up = subst (λ (q : ℕ). HasCandidates p q (length after.1)) e (record { candidates = after.1; ascending = up; each = each h; counted = refl })
 
 -- ---- steps
 
@@ -163,7 +162,8 @@ kept_short (b ∷ bs) [] = omega arith
 kept_short (true ∷ bs) (y ∷ ys) = let h = kept_short bs ys in omega (arith, h)
 kept_short (false ∷ bs) (y ∷ ys) = let h = kept_short bs ys in omega (arith, h)
 
-kept_all : {A B : Type 0} (bs : List Bool) (ys : List B) (xs : List A) → length bs ≡ length xs → length ys ≡ length xs → length (kept_where bs ys) ≡ length ys → kept_where bs xs ≡ xs
+-- where as many are kept as there are, each is kept
+pub kept_all : {A B : Type 0} (bs : List Bool) (ys : List B) (xs : List A) → length bs ≡ length xs → length ys ≡ length xs → length (kept_where bs ys) ≡ length ys → kept_where bs xs ≡ xs
 kept_all [] ys [] e f k = refl
 kept_all [] ys (x ∷ xs) e f k = absurd (omega (arith, e))
 kept_all (b ∷ bs) ys [] e f k = absurd (omega (arith, e))

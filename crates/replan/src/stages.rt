@@ -38,8 +38,9 @@ fn first_stage<const W: usize>(
     let _near = problem.head();
     let stage = Stage::start(alloc)?;
     let column = Column::start(alloc)?;
-    let mut stages = Vec::new(alloc);
-    let mut columns = Vec::new(alloc);
+    let room = problem.len() as usize + 1;
+    let mut stages = Vec::with_capacity(alloc, room)?;
+    let mut columns = Vec::with_capacity(alloc, room)?;
     stages.push(stage)?;
     columns.push(column)?;
     Ok(LabelledStages {
@@ -50,25 +51,26 @@ fn first_stage<const W: usize>(
 }
 
 // The stage after the last one. In the middle of a list it often has the windows of the last one again.
-fn next_of_last<const W: usize>(
+pub(crate) fn next_of_last<const W: usize>(
     alloc: Global,
     problem: &Problem,
-    kept: &LabelledStages<W>,
+    stages: &Vec<Stage<W>>,
+    last_is_whole: bool,
 ) -> Result<Stage<W>, AllocError>
     requires width { W ≡ 2 * problem.now.k + 1 }
-    requires held { HoldsStages problem.now kept.now.stages.items kept.now.columns.items }
-    requires whole { IsWholeWhere problem.now kept.now.stages.items kept.now.last_is_whole }
-    requires some { 0 < vec_len kept.now.stages }
-    requires number { vec_len kept.now.stages ≤ length problem.now.flights }
-    ensures number { IfOk result (λ s. s.0 ≡ vec_len kept.now.stages) }
+    requires numbers { (i : ℕ) → i < length stages.now.items → (stage_at stages.now.items i).0 ≡ i }
+    requires whole { IsWholeWhere problem.now stages.now.items last_is_whole }
+    requires some { 0 < vec_len stages.now }
+    requires number { vec_len stages.now ≤ length problem.now.flights }
+    ensures number { IfOk result (λ s. s.0 ≡ vec_len stages.now) }
     ensures ascending { IfOk result (λ s. IsAscending s.1) }
-    ensures exact { IfOk result (λ s. IsNextOf problem.now (vec_len kept.now.stages - 1) (stage_at kept.now.stages.items (vec_len kept.now.stages - 1)).1 s.1) }
-    ensures candidates { IfOk result (λ s. HoldsCandidates problem.now (stage_at kept.now.stages.items (vec_len kept.now.stages - 1)) s) }
+    ensures exact { IfOk result (λ s. IsNextOf problem.now (vec_len stages.now - 1) (stage_at stages.now.items (vec_len stages.now - 1)).1 s.1) }
+    ensures candidates { IfOk result (λ s. HoldsCandidates problem.now (stage_at stages.now.items (vec_len stages.now - 1)) s) }
 {
-    let last = kept.stages.len() - 1;
-    let before = &kept.stages[last];
-    if kept.last_is_whole && last > 0 {
-        let earlier = &kept.stages[last - 1];
+    let last = stages.len() - 1;
+    let before = &stages[last];
+    if last_is_whole && last > 0 {
+        let earlier = &stages[last - 1];
         let stage = next_stage_like(alloc, before, problem, earlier, before)?;
         return Ok(stage);
     }
@@ -125,7 +127,7 @@ fn add_stage<const W: usize, R: Threads, G: Gate, L: Ledger>(
     ensures one { OnOk result (vec_len kept.new.stages ≡ vec_len kept.old.stages + 1) }
     ensures steps { OnOk result ((count : ℕ) × HasCandidates problem.now (vec_len kept.old.stages - 1) count × (L.count steps.new ≡ raised_by count (L.count steps.old))) }
 {
-    let mut stage = next_of_last(alloc, problem, kept)?;
+    let mut stage = next_of_last(alloc, problem, &kept.stages, kept.last_is_whole)?;
     let last = kept.stages.len() - 1;
     let before = &kept.stages[last];
     let labels = &kept.columns[last];

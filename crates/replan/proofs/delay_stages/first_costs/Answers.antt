@@ -7,5 +7,5 @@ use Rattle.replan.proofs.delay_stages.first_costs.Goals as goal
 pub returns-clause-held : goal.returns-clause-held
 returns-clause-held g c =
     start_costs_held c.args.problem.now g.row.W c.push.new.self.items c.push-2.new.self.items c.requires.width
-    (c.in_ok-push.ensures.items ∙ ap₂ (λ (l : List (ℕ × List (List ℤ))) (s : ℕ × List (List ℤ)). l ++ s ∷ []) c.new-stages.ensures.items c.in_ok-stage.ensures)
-    (c.in_ok-push-2.ensures.items ∙ ap₂ (λ (l : List (List (List Pair))) (s : List (List Pair)). l ++ s ∷ []) c.new-costs.ensures.items c.in_ok-lists.ensures)
+    (c.in_ok-push.ensures.items ∙ ap₂ (λ (l : List (ℕ × List (List ℤ))) (s : ℕ × List (List ℤ)). l ++ s ∷ []) c.in_ok-stages.ensures.items c.in_ok-stage.ensures)
+    (c.in_ok-push-2.ensures.items ∙ ap₂ (λ (l : List (List (List Pair))) (s : List (List Pair)). l ++ s ∷ []) c.in_ok-costs.ensures.items c.in_ok-lists.ensures)

@@ -1,7 +1,7 @@
 use Rattle.std.proofs.Common.{◌≡◌, ℕ, ◌-◌, ◌<◌, length, rules, arith, subst}
 use Rattle.std.specs.Prelude.{vec_len}
 use Rattle.cps_network.specs.Permits.{IsNextOf}
-use Rattle.replan.specs.Stages.{stage_at, labels_at}
+use Rattle.replan.specs.Stages.{stage_at}
 use Rattle.replan.proofs.StageLemmas.{held_at, read_stage, read_labels, exact_back, more_held, whole_more, has_candidates}
 use Rattle.replan.proofs.stages.add_stage.Goals as goal
 
@@ -40,7 +40,7 @@ pub returns-clause-steps : goal.returns-clause-steps
 returns-clause-steps g c =
     let lt : vec_len c.args.kept.now.stages - 1 < length c.args.kept.now.stages.items = omega (arith, c.requires.some) in (
       length c.in_ok-stage.stage.1,
-      has_candidates c.args.problem.now (stage_at c.args.kept.now.stages.items (vec_len c.args.kept.now.stages - 1)) c.in_ok-stage.stage (labels_at c.args.kept.now.columns.items (vec_len c.args.kept.now.stages - 1)) (vec_len c.args.kept.now.stages - 1)
-          (c.requires.held.number (vec_len c.args.kept.now.stages - 1) lt) (c.requires.held.held (vec_len c.args.kept.now.stages - 1) lt) c.in_ok-stage.ensures.candidates c.in_ok-stage.ensures.ascending,
+      has_candidates c.args.problem.now (stage_at c.args.kept.now.stages.items (vec_len c.args.kept.now.stages - 1)) c.in_ok-stage.stage (vec_len c.args.kept.now.stages - 1)
+          (c.requires.held.number (vec_len c.args.kept.now.stages - 1) lt) (c.requires.held.held (vec_len c.args.kept.now.stages - 1) lt).landable c.in_ok-stage.ensures.candidates c.in_ok-stage.ensures.ascending,
       c.in_ok-column.ensures.steps,
     )
