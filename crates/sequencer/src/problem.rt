@@ -1,15 +1,17 @@
 // The problem of a situation.
 ghost use Rattle.std.specs.Prelude.{◌≡◌, ◌≤◌, false, IfOk, map};
-ghost use Rattle.landing_rules.specs.Flights.{horizon};
+ghost use Rattle.landing_rules.specs.Flights.{horizon, waiting};
 ghost use Rattle.landing_rules.specs.Events.{frozen_landings, in_landing_order};
 ghost use Rattle.landing_rules.specs.Problem.{IsProblemOf, last_of, frozen_cost};
 ghost use Rattle.landing_rules.specs.Sound.{IsSound};
+ghost use Rattle.sequencer.specs.Ranked.{arrivals};
 
 use crate::frozen::{frozen_delay, last_frozen};
 use crate::order::{by_rank, order_of, waiting_of};
 use crate::predecessors::pairs_of;
 use crate::waiting::all_waiting;
 use cps_problem::{Head, Objective, Problem};
+use fcfs_order::Order;
 use situations::{Active, Situation};
 use std::alloc::{AllocError, Global};
 
@@ -48,10 +50,11 @@ fn head(situation: &Situation, flights: &Vec<&Active>) -> Head
     }
 }
 
-/// The problem of a sound situation: its waiting flights by rank, and what the frozen ones leave them.
-pub fn problem_of(alloc: Global, situation: &Situation) -> Result<Problem, AllocError>
+// The problem of a sound situation, with the first-come order of its waiting flights.
+pub(crate) fn posed(alloc: Global, situation: &Situation) -> Result<(Problem, Order), AllocError>
     requires { IsSound situation.now }
-    ensures { IfOk result (IsProblemOf situation.now) }
+    ensures problem { IfOk result (λ posed. IsProblemOf situation.now posed.0) }
+    ensures order { IfOk result (λ posed. posed.1 ≡ arrivals (waiting situation.now)) }
 {
     let flights = situation.flights(alloc)?;
     let waiting = waiting_of(alloc, &flights)?;
@@ -60,5 +63,14 @@ pub fn problem_of(alloc: Global, situation: &Situation) -> Result<Problem, Alloc
     let pairs = pairs_of(&ranked);
     let head = head(situation, &flights);
     let with_times = all_waiting(alloc, &ranked, situation.closures())?;
-    Ok(Problem::build(head, with_times, pairs))
+    Ok((Problem::build(head, with_times, pairs), order))
+}
+
+/// The problem of a sound situation: its waiting flights by rank, and what the frozen ones leave them.
+pub fn problem_of(alloc: Global, situation: &Situation) -> Result<Problem, AllocError>
+    requires { IsSound situation.now }
+    ensures { IfOk result (IsProblemOf situation.now) }
+{
+    let (problem, _) = posed(alloc, situation)?;
+    Ok(problem)
 }

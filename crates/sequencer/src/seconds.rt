@@ -3,9 +3,8 @@ ghost use Rattle.std.specs.Prelude.{◌≡◌, ℕ, IfOk, None, All, length, map
 ghost use Rattle.landing_rules.specs.Flights.{waiting};
 ghost use Rattle.landing_rules.specs.Problem.{joined};
 ghost use Rattle.landing_rules.specs.Sound.{IsSound};
-ghost use Rattle.sequencer.specs.Ranked.{arrival_of, second_in, IsThere};
+ghost use Rattle.sequencer.specs.Ranked.{arrival_of, arrivals, second_in, IsThere};
 
-use crate::order::{order_of, waiting_of};
 use cps_problem::Schedule;
 use fcfs_order::Order;
 use situations::{Active, Situation};
@@ -58,15 +57,15 @@ fn seconds_of(
 pub(crate) fn joined_seconds(
     alloc: Global,
     situation: &Situation,
+    order: &Order,
     schedule: &Schedule,
 ) -> Result<Vec<u32>, AllocError>
     requires sound { IsSound situation.now }
+    requires order { order.now ≡ arrivals (waiting situation.now) }
     requires long { length schedule.now ≡ length (waiting situation.now) }
     ensures { IfOk result (λ seconds. seconds.items ≡ joined situation.now schedule.now) }
 {
     let flights = situation.flights(alloc)?;
-    let waiting = waiting_of(alloc, &flights)?;
-    let order = order_of(alloc, &waiting)?;
-    let seconds = seconds_of(alloc, &flights, &order, schedule)?;
+    let seconds = seconds_of(alloc, &flights, order, schedule)?;
     Ok(seconds)
 }

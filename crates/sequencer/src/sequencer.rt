@@ -1,5 +1,6 @@
 ghost use Rattle.std.specs.Prelude.{◌≡◌, ℕ, ◌<◌, ◌≤◌, Option, Some, None, Err, IfOk, IfErr, OnOk, OnErr, MatchOption, length, map, option_map, ⊤};
 ghost use Rattle.cps_base.specs.Tally.{raised_by};
+ghost use Rattle.landing_rules.specs.Flights.{waiting};
 ghost use Rattle.landing_rules.specs.Rules.{IsFeasible};
 ghost use Rattle.landing_rules.specs.Events.{refusal, IsPlanShown, IsAcceptedStep, IsOpeningState, Step};
 ghost use Rattle.landing_rules.specs.Problem.{IsProblemOf};
@@ -8,12 +9,13 @@ ghost use Rattle.landing_rules.specs.Text.{shown_plan, plan_shown};
 ghost use Rattle.event_log.specs.Seen.{event_of};
 ghost use Rattle.flight_file.specs.Seen.{flight_of};
 ghost use Rattle.cps_problem.specs.Plans.{IsAnswerOf};
+ghost use Rattle.sequencer.specs.Ranked.{arrivals};
 ghost use Rattle.situations.specs.Answers.{refusal_of};
 ghost use Rattle.situations.specs.Opened.{CanOpen, opened, opening_of};
 
 use crate::opening::BeginFault;
 use crate::plan::{Plan, plan_of};
-use crate::problem::problem_of;
+use crate::problem::posed;
 use crate::seconds::joined_seconds;
 use aerodrome_file::Aerodrome;
 use cps_base::{Ledger, Steps};
@@ -21,6 +23,7 @@ use cps_outside::Gate;
 use cps_problem::{Objective, Planner, Problem, Schedule};
 use event_log::Event;
 use extract_plan::value_of;
+use fcfs_order::Order;
 use flight_file::Flight;
 use landing_joint::laws::{every_step_keeps_soundness, problem_stands_for_situation};
 use situations::{Refusal, Situation};
@@ -73,16 +76,18 @@ fn shown_schedule(
     alloc: Global,
     situation: &Situation,
     problem: &Problem,
+    order: &Order,
     schedule: &Schedule,
 ) -> Result<Shown, AllocError>
     requires sound { IsSound situation.now }
+    requires order { order.now ≡ arrivals (waiting situation.now) }
     requires problem { IsProblemOf situation.now problem.now }
     requires answer { IsAnswerOf problem.now (Some schedule.now) }
     ensures shown { IfOk result (λ shown. IsPlanShown situation.now (Some shown.seconds.items)) }
     ensures plan { IfOk result (λ shown. shown.plan ≡ shown_plan situation.now shown.seconds.items) }
 {
     problem_stands_for_situation();
-    let seconds = joined_seconds(alloc, situation, schedule)?;
+    let seconds = joined_seconds(alloc, situation, order, schedule)?;
     let value = value_of(problem, schedule);
     let plan = plan_of(alloc, situation, &seconds, value)?;
     Ok(Shown { seconds, plan })
@@ -93,9 +98,11 @@ fn shown_answer(
     alloc: Global,
     situation: &Situation,
     problem: &Problem,
+    order: &Order,
     answer: &Option<Schedule>,
 ) -> Result<Option<Shown>, AllocError>
     requires sound { IsSound situation.now }
+    requires order { order.now ≡ arrivals (waiting situation.now) }
     requires problem { IsProblemOf situation.now problem.now }
     requires answer { IsAnswerOf problem.now answer.now }
     ensures shown { IfOk result (λ shown. IsPlanShown situation.now (option_map (λ p. p.seconds.items) shown)) }
@@ -105,7 +112,7 @@ fn shown_answer(
     match answer {
         None => Ok(None),
         Some(schedule) => {
-            let shown = shown_schedule(alloc, situation, problem, schedule)?;
+            let shown = shown_schedule(alloc, situation, problem, order, schedule)?;
             Ok(Some(shown))
         }
     }
@@ -165,9 +172,9 @@ impl<P: Planner> Sequencer<P> {
     {
         every_step_keeps_soundness();
         let next = self.situation.after(seconds_of(&self.shown), event)?;
-        let problem = problem_of(alloc, &next)?;
+        let (problem, order) = posed(alloc, &next)?;
         let answer = self.planner.replan(rt, alloc, &problem, gate, steps)?;
-        let shown = shown_answer(alloc, &next, &problem, &answer)?;
+        let shown = shown_answer(alloc, &next, &problem, &order, &answer)?;
         self.situation = next;
         self.shown = shown;
         self.problem = problem;
@@ -223,9 +230,9 @@ impl<P: Planner> Sequencer<P> {
         ensures steps { IfOk result (λ s. (n : ℕ) × P.due planner s.problem n × (L.count steps.new ≡ raised_by n (L.count steps.old))) }
     {
         let situation = Situation::opening(alloc, aerodrome, flights)?;
-        let problem = problem_of(alloc, &situation)?;
+        let (problem, order) = posed(alloc, &situation)?;
         let answer = planner.replan(rt, alloc, &problem, gate, steps)?;
-        let shown = shown_answer(alloc, &situation, &problem, &answer)?;
+        let shown = shown_answer(alloc, &situation, &problem, &order, &answer)?;
         Ok(Sequencer {
             situation,
             shown,

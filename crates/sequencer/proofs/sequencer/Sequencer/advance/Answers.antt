@@ -4,8 +4,8 @@ use Rattle.event_log.specs.Seen.{event_of}
 use Rattle.sequencer.proofs.Kept.{next_sound, next_in_step}
 use Rattle.sequencer.proofs.sequencer.Sequencer.advance.Goals as goal
 
-pub problem_of-requires : goal.problem_of-requires
-problem_of-requires g c =
+pub posed-requires : goal.posed-requires
+posed-requires g c =
     let e = event_of c.args.event.now in
     next_sound c.every_step_keeps_soundness.ensures.situation _ e c.in_ok-next.next c.self.invariant.sound c.requires.good
     (ap (λ v. refusal v.state.situation e) c.self.view_is ∙ c.requires.accepted)
@@ -24,7 +24,7 @@ invariant_of-self-2 g c =
     next_in_step c.every_step_keeps_soundness.ensures.situation _ _ c.self.inside.problem _ e c.in_ok-next.next _ _ c.in_ok-problem.problem _ c.self.invariant c.requires.good
     (ap (λ v. refusal v.state.situation e) c.self.view_is ∙ c.requires.accepted)
     (c.in_ok-next.ensures ∙ ap (λ p. situation_after c.self.inside.situation p e) c.seconds_of.ensures)
-    c.in_ok-problem.ensures c.in_ok-shown.ensures.shown c.in_ok-shown.ensures.plan c.replan.ensures.k
+    c.in_ok-problem.ensures.problem c.in_ok-shown.ensures.shown c.in_ok-shown.ensures.plan c.replan.ensures.k
 
 pub returns-clause-step : goal.returns-clause-step
 returns-clause-step g c =

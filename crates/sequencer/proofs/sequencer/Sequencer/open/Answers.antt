@@ -22,7 +22,7 @@ posed a s p range e of = rw (of.objective, of.k) (plannable a s range e)
 
 pub replan-requires-clause-plannable : goal.replan-requires-clause-plannable
 replan-requires-clause-plannable g c =
-    posed c.args.aerodrome.now c.in_ok-situation.situation c.in_ok-problem.problem c.requires.can.aerodrome (ap (λ (s : Situation). s.aerodrome) c.in_ok-situation.ensures.value) c.in_ok-problem.ensures
+    posed c.args.aerodrome.now c.in_ok-situation.situation c.in_ok-problem.problem c.requires.can.aerodrome (ap (λ (s : Situation). s.aerodrome) c.in_ok-situation.ensures.value) c.in_ok-problem.ensures.problem
 
 pub invariant_of-result : goal.invariant_of-result
 invariant_of-result g c =
@@ -30,7 +30,7 @@ invariant_of-result g c =
     record {
       sound = record { situation = c.in_ok-situation.ensures.sound c.requires.few; shown = c.in_ok-shown.ensures.shown };
       shown = c.in_ok-shown.ensures.plan;
-      problem_of = c.in_ok-problem.ensures;
+      problem_of = c.in_ok-problem.ensures.problem;
       same_k = rw e (c.requires.same_k ∙ sym c.replan.ensures.k);
       plannable = plannable c.args.aerodrome.now c.in_ok-situation.situation c.requires.can.aerodrome e;
     }

@@ -15,8 +15,8 @@ use Rattle.sequencer.specs.Ranked.{arrivals}
 use Rattle.sequencer.specs.Predecessors.{IsListed}
 use Rattle.sequencer.proofs.Ranks.{rank_permutes, rank_length}
 use Rattle.sequencer.proofs.ProblemOf.{IsHeadOf, posed, well_formed}
-use Rattle.sequencer.proofs.problem.problem_of.Goals as goal
-use Rattle.sequencer.proofs.problem.problem_of.Goals.{In_ok-with_times}
+use Rattle.sequencer.proofs.problem.posed.Goals as goal
+use Rattle.sequencer.proofs.problem.posed.Goals.{In_ok-with_times}
 
 abbrev Apart : Active → Active → Type 0
 Apart a b = a.flight.callsign ≢ b.flight.callsign
@@ -72,8 +72,11 @@ build-requires c =
     c.head-head.ensures.few_places c.head-head.ensures.near
     (subst (λ l. IsStrictlySortedBy first_come_cmp (arrivals l)) (c.in_ok-waiting.ensures ∙ ap (filter is_waiting) c.in_ok-flights.ensures) c.in_ok-ranked.ensures.ascending)
 
-pub returns : goal.returns
-returns c =
-    let d = (goal.at.returns c).In_ok-with_times in
+pub returns-clause-problem : goal.returns-clause-problem
+returns-clause-problem c =
+    let d = (goal.at.returns-clause-problem c).In_ok-with_times in
     subst (IsProblemOf c.args.situation.now) (sym c.build.ensures)
     (posed c.args.situation.now c.head-head.result c.in_ok-with_times.with_times.items c.pairs_of-pairs.result c.requires (heads d) (zip d) (listed d))
+
+pub returns-clause-order : goal.returns-clause-order
+returns-clause-order c = c.in_ok-order.ensures ∙ ap arrivals (c.in_ok-waiting.ensures ∙ ap (filter is_waiting) c.in_ok-flights.ensures)
