@@ -69,7 +69,9 @@ pub fn plan_block(
     let Some(plan) = plan else {
         return into.extend_from_slice(b"infeasible\n");
     };
-    let mut text = Vec::new(*into.allocator());
+    // A line has at most 29 bytes.
+    let room = plan.len().saturating_add(1).saturating_mul(32);
+    let mut text = Vec::with_capacity(*into.allocator(), room)?;
     append_plan(objective, plan, &mut text)?;
     into.extend_from_slice(text.as_slice())
 }
