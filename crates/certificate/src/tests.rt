@@ -36,7 +36,7 @@ claim optimal 1080
 land A1 1000
 land F1 1180
 land B1 1240
-land D1 1350
+land DL1 1350
 land E1 1410
 state 1 01 2 1010:0
 state 1 10 1 1000:0
