@@ -67,12 +67,13 @@ pub record Froze (fl : Flight) (fr : Option ℕ) (pa sec m : ℕ) (d c : Bool) (
   pub second : is_none a.frozen ≡ false → is_none fr ≡ true → a.frozen ≡ Some sec
   pub was : is_none fr ≡ false → a.frozen ≡ fr
   pub passed : (a.passed ≡ pa) ⊎ ((a.passed ≡ 0) ⊎ ((c ≡ true) × (a.passed ≡ m)))
+  pub counted : c ≡ true → is_none fr ≡ true → d ≡ false → a.passed ≡ m
 
 froze : (fl : Flight) (fr : Option ℕ) (pa sec m : ℕ) (d c : Bool) → Froze fl fr pa sec m d c (cond (is_none fr && d) (record { flight = fl; frozen = Some sec; passed = 0 }) (cond (is_none fr) (record { flight = fl; frozen = None; passed = cond c m pa }) (record { flight = fl; frozen = fr; passed = pa })))
-froze fl (Some v) pa sec m d c = record { flight = refl; waits = refl; second = λ e x. absurd (false≢true x); was = λ e. refl; passed = inl refl }
-froze fl None pa sec m true c = record { flight = refl; waits = refl; second = λ e x. refl; was = λ e. absurd (false≢true (sym e)); passed = inr (inl refl) }
-froze fl None pa sec m false true = record { flight = refl; waits = refl; second = λ e x. absurd (false≢true (sym e)); was = λ e. refl; passed = inr (inr (refl, refl)) }
-froze fl None pa sec m false false = record { flight = refl; waits = refl; second = λ e x. absurd (false≢true (sym e)); was = λ e. refl; passed = inl refl }
+froze fl (Some v) pa sec m d c = record { flight = refl; waits = refl; second = λ e x. absurd (false≢true x); was = λ e. refl; passed = inl refl; counted = λ q x e. absurd (false≢true x) }
+froze fl None pa sec m true c = record { flight = refl; waits = refl; second = λ e x. refl; was = λ e. absurd (false≢true (sym e)); passed = inr (inl refl); counted = λ q x e. absurd (false≢true (sym e)) }
+froze fl None pa sec m false true = record { flight = refl; waits = refl; second = λ e x. absurd (false≢true (sym e)); was = λ e. refl; passed = inr (inr (refl, refl)); counted = λ q x e. refl }
+froze fl None pa sec m false false = record { flight = refl; waits = refl; second = λ e x. absurd (false≢true (sym e)); was = λ e. refl; passed = inl refl; counted = λ q x e. absurd (false≢true q) }
 
 module _ (s : Situation) (sound : IsSound s) (t : Schedule) (f : IsFeasible s t) (now : ℕ) (forth : horizon s ≤ now + s.aerodrome.freeze) where
   abbrev h : ℕ
@@ -100,7 +101,7 @@ module _ (s : Situation) (sound : IsSound s) (t : Schedule) (f : IsFeasible s t)
   length_after = ap length after_is ∙ length_map (λ i. after_clock s.aerodrome h all (landing_at s.active t i)) (numbers_of s.active) ∙ length_numbers 0 (length s.active)
 
   -- so the numbers stay
-  numbers_after : numbers_of after ≡ numbers_of s.active
+  pub numbers_after : numbers_of after ≡ numbers_of s.active
   numbers_after = ap (numbers_from 0) length_after
 
   abbrev count_passing : ℕ → ℕ
@@ -118,13 +119,13 @@ module _ (s : Situation) (sound : IsSound s) (t : Schedule) (f : IsFeasible s t)
   waits_after : (i : ℕ) → In i (numbers_of s.active) → waits_at after i ≡ (waits_at s.active i && not (nat_lt (second_of t i) h))
   waits_after i m = (at_after i m).waits
 
-  waiting_after : (numbered_situation changed).waiting ≡ staying_of (second_of t) h ns.waiting
+  pub waiting_after : (numbered_situation changed).waiting ≡ staying_of (second_of t) h ns.waiting
   waiting_after =
       ap (filter (waits_at after)) numbers_after ∙ filter_agree (waits_at after) (λ i. waits_at s.active i && not (nat_lt (second_of t i) h)) (numbers_of s.active) waits_after
       ∙ sym (filter_twice (λ i. not (nat_lt (second_of t i) h)) (waits_at s.active) (numbers_of s.active))
 
   -- as many pass a flight as overtake it by number
-  passing_is : (i : ℕ) → In i (numbers_of s.active) → count_passing i ≡ overtook (comes_before s.active) (second_of t) h ns.waiting i
+  pub passing_is : (i : ℕ) → In i (numbers_of s.active) → count_passing i ≡ overtook (comes_before s.active) (second_of t) h ns.waiting i
   passing_is i m =
       let fl = (numbered s.active i).flight in
       let L = landing_at s.active t in
@@ -140,7 +141,7 @@ module _ (s : Situation) (sound : IsSound s) (t : Schedule) (f : IsFeasible s t)
   fn : numbers.FeasibleIn (numbered_situation s) (second_of t)
   fn = feasible_numbered s sound t f.0 f
 
-  same_flight : (i : ℕ) → In i (numbers_of s.active) → (numbered after i).flight ≡ (numbered s.active i).flight
+  pub same_flight : (i : ℕ) → In i (numbers_of s.active) → (numbered after i).flight ≡ (numbered s.active i).flight
   same_flight i m = (at_after i m).flight
 
   in_after : (i : ℕ) → i < length after → In i (numbers_of s.active)
@@ -170,16 +171,16 @@ module _ (s : Situation) (sound : IsSound s) (t : Schedule) (f : IsFeasible s t)
       early true false p q = q
       early false b p q = absurd (false≢true p)
 
-  late_after : (i : ℕ) → In i (numbered_situation changed).waiting → In i (numbers_of s.active) × (waits_at s.active i ≡ true) × (h ≤ second_of t i)
+  pub late_after : (i : ℕ) → In i (numbered_situation changed).waiting → In i (numbers_of s.active) × (waits_at s.active i ≡ true) × (h ≤ second_of t i)
   late_after i m =
       let w = in_filter (λ x. not (nat_lt (second_of t x) h)) i ns.waiting (subst (In i) waiting_after m) in
       let v = in_filter (waits_at s.active) i (numbers_of s.active) w.0 in
       (v.0, v.1, elim (cases_lt (second_of t i) h) [ inl lt ↦ absurd (false≢true (sym (ap not (lt-ltb (second_of t i) h lt)) ∙ w.1)) | inr le ↦ le ])
 
-  waiting_changed : waiting changed ≡ map (numbered after) (numbered_situation changed).waiting
+  pub waiting_changed : waiting changed ≡ map (numbered after) (numbered_situation changed).waiting
   waiting_changed = ap (filter is_waiting) (active_are after) ∙ filter_map_is is_waiting (numbered after) (numbers_of after)
 
-  waiting_before : waiting s ≡ map (numbered s.active) ns.waiting
+  pub waiting_before : waiting s ≡ map (numbered s.active) ns.waiting
   waiting_before = ap (filter is_waiting) (active_are s.active) ∙ filter_map_is is_waiting (numbered s.active) (numbers_of s.active)
 
   pub few_after : length (waiting changed) ≤ length (waiting s)
@@ -251,7 +252,7 @@ module _ (s : Situation) (sound : IsSound s) (t : Schedule) (f : IsFeasible s t)
       let o = passed_low s sound t f.0 i m in
       elim (at_after i m).passed [ inl e ↦ omega arith | inr x ↦ elim x [ inl e ↦ omega arith | inr y ↦ (let e = y.1 in omega arith) ] ]
 
-  comes_after : (i j : ℕ) → In i (numbers_of s.active) → In j (numbers_of s.active) → comes_before after i j ≡ comes_before s.active i j
+  pub comes_after : (i j : ℕ) → In i (numbers_of s.active) → In j (numbers_of s.active) → comes_before after i j ≡ comes_before s.active i j
   comes_after i j mi mj = ap₂ (λ (x : Flight) (y : Flight). is_lt (ordering_then (arrival_cmp x y) (nat_cmp i j))) (same_flight i mi) (same_flight j mj)
 
   rank_after : (i : ℕ) → In i (numbers_of s.active) → rank_in (comes_before after) (numbered_situation changed).waiting i ≡ rank_in (comes_before s.active) (staying_of (second_of t) h ns.waiting) i
@@ -303,7 +304,7 @@ module _ (s : Situation) (sound : IsSound s) (t : Schedule) (f : IsFeasible s t)
 
 -- ---- the laws
 
-forth_of : (clock : Option ℕ) (now freeze : ℕ) → clock_back clock now ≡ None → horizon_after clock freeze ≤ now + freeze
+pub forth_of : (clock : Option ℕ) (now freeze : ℕ) → clock_back clock now ≡ None → horizon_after clock freeze ≤ now + freeze
 forth_of None now freeze e = zero-le
 forth_of (Some last) now freeze e = go (nat_lt now last) refl e
   where

@@ -28,7 +28,7 @@ cancelled s plan c h =
 
 -- ---- estimate
 
-named_is : (c : Callsign) (a : Active) → named c a ≡ true → a.flight.callsign ≡ c
+pub named_is : (c : Callsign) (a : Active) → named c a ≡ true → a.flight.callsign ≡ c
 named_is c a e = (bytes_eq-Decides a.flight.callsign c).0 e
 
 -- where the event is accepted, each flight of that name waits

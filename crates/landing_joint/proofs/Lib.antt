@@ -1,6 +1,8 @@
 pub mod Numbered
 pub mod Joint
 pub mod Clock
+pub mod FirstStays
+pub mod PassedOver
 pub mod ByNumber
 pub mod Problem
 pub mod Shift

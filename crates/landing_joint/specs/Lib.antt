@@ -5,4 +5,5 @@ pub mod ClockLaws
 pub mod StepLaws
 pub mod ProblemLaws
 pub mod Shift
+pub mod PassedOver
 pub mod shared

@@ -1,0 +1,94 @@
+-- Of the flights that stay when the front of a plan freezes, the first in first-come order: whoever comes before it
+-- freezes, so its own leave to go back bounds how many behind it freeze, and so behind each that stays.
+use Rattle.std.proofs.Common.{◌≡◌, ℕ, suc, ◌+◌, ◌<◌, ◌≤◌, inl, inr, List, [], ◌∷◌, Bool, true, false, not, nat_lt, filter, arith, refl, sym, ap, subst, ◌∙◌}
+use Rattle.std.proofs.lemmas.Bool.{cases_Bool, cases_eq, cases_lt, ltb-true, lt-ltb, le-ltb, false≢true}
+use Rattle.cps_theory.specs.RankLists.{In}
+use Rattle.cps_theory.specs.Freeze.{FirstCome, KeepsShift, frozen_of, overtook, staying_of}
+use Rattle.cps_theory.specs.laws.Members.{in_filter, filter_in}
+use Rattle.cps_theory.specs.laws.RankCounts.{count, count_is, count_length, count_none, count_parts, count_split, count_weaker}
+
+module _ (comes_before : ℕ → ℕ → Bool) (order : FirstCome comes_before) where
+  not_before_itself : (f : ℕ) → comes_before f f ≡ false
+  not_before_itself f = elim (cases_Bool (comes_before f f)) [ inl e ↦ order.one_way f f e | inr e ↦ e ]
+
+  -- if f does not come before x, whoever comes after f comes after x
+  behind_both : (f x y : ℕ) → comes_before f x ≡ false → comes_before f y ≡ true → comes_before x y ≡ true
+  behind_both f x y ahead after = elim (cases_eq f x) [
+    | inl e ↦ subst (λ z. comes_before z y ≡ true) e after
+    | inr ne ↦ order.chain x f y (order.total f x ne ahead) after
+  ]
+
+  -- one of the list before which no other of it comes
+  abbrev First : List ℕ → Type 0
+  First xs = (m : ℕ) × In m xs × ((y : ℕ) → In y xs → comes_before y m ≡ false)
+
+  earlier_first : (x : ℕ) (xs : List ℕ) → First xs → First (x ∷ xs)
+  earlier_first x xs r = elim (cases_Bool (comes_before x r.0)) [
+    | inl b ↦ (x, inl refl, λ y i. elim i [
+      | inl e ↦ subst (λ z. comes_before z x ≡ false) (sym e) (not_before_itself x)
+      | inr j ↦ elim (cases_Bool (comes_before y x)) [
+        | inl q ↦ absurd (false≢true (sym (r.2 y j) ∙ order.chain y x r.0 q b))
+        | inr q ↦ q
+      ]
+    ])
+    | inr b ↦ (r.0, inr r.1, λ y i. elim i [
+      | inl e ↦ subst (λ z. comes_before z r.0 ≡ false) (sym e) b
+      | inr j ↦ r.2 y j
+    ])
+  ]
+
+  first_of : (x : ℕ) (xs : List ℕ) → First (x ∷ xs)
+  first_of x [] = (x, inl refl, λ y i. elim i [ inl e ↦ subst (λ z. comes_before z x ≡ false) (sym e) (not_before_itself x) | inr j ↦ absurd j ])
+  first_of x (z ∷ zs) = earlier_first x (z ∷ zs) (first_of z zs)
+
+  first_in : (x : ℕ) (xs : List ℕ) → In x xs → First xs
+  first_in x [] i = absurd i
+  first_in x (z ∷ zs) i = first_of z zs
+
+  module _ (t : ℕ → ℕ) (waiting : List ℕ) (k h : ℕ) (back : ℕ → ℕ) (shift : (f : ℕ) → In f waiting → KeepsShift k back comes_before t waiting f) where
+    stays : (f : ℕ) → In f (staying_of t h waiting) → In f waiting × (h ≤ t f)
+    stays f i =
+        let w = in_filter (λ x. not (nat_lt (t x) h)) f waiting i in
+        (w.0, elim (cases_lt (t f) h) [ inl lt ↦ absurd (false≢true (sym (ap not (lt-ltb (t f) h lt)) ∙ w.1)) | inr le ↦ le ])
+
+    -- as many freeze behind f as behind one that stands no further back, or fewer
+    pub fewer_overtook : (f x : ℕ) → comes_before f x ≡ false → overtook comes_before t h waiting f ≤ overtook comes_before t h waiting x
+    fewer_overtook f x ahead =
+        let froze = frozen_of t h waiting in
+        let a = count_is (λ g. comes_before f g) froze in
+        let b = count_is (λ g. comes_before x g) froze in
+        let w = count_weaker (λ g. comes_before f g) (λ g. comes_before x g) froze (λ y i e. behind_both f x y ahead e) in
+        omega arith
+
+    -- those behind the first that stays are no more than it may go back
+    few_overtook_first : (m : ℕ) → In m (staying_of t h waiting) → ((y : ℕ) → In y (staying_of t h waiting) → comes_before y m ≡ false) → overtook comes_before t h waiting m ≤ back m
+    few_overtook_first m i first =
+        let early = λ (g : ℕ). nat_lt (t g) h in
+        let froze = frozen_of t h waiting in
+        let stay = staying_of t h waiting in
+        let at = stays m i in
+        let s = shift m at.0 in
+        let a = count_is (λ g. comes_before g m) waiting in
+        let b = count_is (λ g. nat_lt (t g) (t m)) waiting in
+        let c = count_is (λ g. comes_before m g) froze in
+        let ranks = count_parts (λ g. comes_before g m) early waiting in
+        let places = count_parts (λ g. nat_lt (t g) (t m)) early waiting in
+        let none = count_none (λ g. comes_before g m) stay (λ g j e. false≢true (sym (first g j) ∙ e)) in
+        let split = count_split (λ g. comes_before g m) (λ g. comes_before m g) (λ g. nat_lt (t g) (t m)) froze (λ g j.
+        let w = in_filter early g waiting j in
+        let lt = ltb-true (t g) h w.1 in
+        let yes' = lt-ltb (t g) (t m) (let le = at.1 in omega arith) in
+        elim (cases_Bool (comes_before m g)) [
+          | inl q ↦ inr (inl (yes', order.one_way m g q, q))
+          | inr q ↦ inl (yes', order.total m g (λ e. let z = ap t e in let le = at.1 in omega arith) q, q)
+        ]) in
+        omega (arith, s.1)
+
+    -- so for each that stays there is one that stands no further back and bounds those that freeze behind it
+    pub bound_overtook : (f : ℕ) → In f (staying_of t h waiting) → (m : ℕ) × In m (staying_of t h waiting) × (comes_before f m ≡ false) × (overtook comes_before t h waiting f ≤ back m)
+    bound_overtook f i =
+        let r = first_in f (staying_of t h waiting) i in
+        let ahead = r.2 f i in
+        let a = fewer_overtook f r.0 ahead in
+        let b = few_overtook_first r.0 r.1 r.2 in
+        (r.0, r.1, ahead, omega arith)

@@ -1,0 +1,183 @@
+-- With the carry a flight is passed by at most k flights, as long as nobody new comes to stand ahead of it.
+use Rattle.std.proofs.Common.{◌≡◌, ℕ, ◌+◌, ◌-◌, ◌≤◌, inl, inr, min, Bool, true, false, List, [], ◌∷◌, map, filter, Option, Some, None, refl, sym, ap, ap₂, subst, ◌∙◌, arith}
+use Rattle.std.specs.Prelude.{◌≢◌, is_some, find}
+use Rattle.std.specs.Ordering.{is_lt}
+use Rattle.std.proofs.lemmas.Bool.{false≢true, le-ltb}
+use Rattle.std.proofs.lemmas.List.Kept.{AllPairs-filter}
+use Rattle.std.proofs.lemmas.Slice.Eq.{bytes_eq-Decides}
+use Rattle.landing_rules.specs.Flights.{Active, Callsign, Flight, Landing, Schedule, Situation, horizon, is_waiting, landings, waiting}
+use Rattle.landing_rules.specs.Rules.{arrival_cmp, IsFeasible}
+use Rattle.landing_rules.specs.Events.{Clock, named, situation_after}
+use Rattle.landing_rules.specs.Sound.{IsSound}
+use Rattle.cps_theory.specs.RankLists.{In}
+use Rattle.cps_theory.specs.Freeze.{KeepsShift, overtook, staying_of}
+use Rattle.cps_theory.specs.NumberedSituation as numbers
+use Rattle.cps_theory.specs.laws.Members.{filter_in, in_filter}
+use Rattle.landing_joint.specs.Numbered.{numbered, second_of, numbers_of, waits_at, comes_before, numbered_situation}
+use Rattle.landing_joint.specs.PassedOver.{waiting_flight, waits_in, count_passing, ArePassedAtLeast, ClockCounts, ClockCountsLaw}
+use Rattle.landing_joint.proofs.Members.{Member, Differ, callsigns, all_at, all_from, differ_of, found_in, none_found, one_of_name}
+use Rattle.landing_joint.proofs.FlightSteps.{named_is}
+use Rattle.landing_joint.proofs.FirstStays.{bound_overtook, fewer_overtook}
+use Rattle.landing_joint.proofs.Joint.{comes_is, feasible_numbered, first_come, passed_low}
+use Rattle.landing_joint.proofs.Clock.{at_after, forth_of, late_after, passing_is, same_flight, waiting_after, waiting_before, waiting_changed}
+
+-- ---- the flight of a name
+
+pub found : (s : Situation) (c : Callsign) (f : Active) → waiting_flight s c ≡ Some f → Member f (waiting s) × (f.flight.callsign ≡ c)
+found s c f e = let r = found_in (named c) (waiting s) f e in (r.0, named_is c f r.1)
+
+pub names_waiting : (s : Situation) → IsSound s → Differ (callsigns (waiting s))
+names_waiting s sound = differ_of (waiting s) (AllPairs-filter (λ (a b : Active). a.flight.callsign ≢ b.flight.callsign) is_waiting s.active sound.callsigns)
+
+pub is_found : (s : Situation) → IsSound s → (c : Callsign) (f : Active) → Member f (waiting s) → f.flight.callsign ≡ c → waiting_flight s c ≡ Some f
+is_found s sound c f m e = go (waiting_flight s c) refl
+  where
+    go : (o : Option Active) → waiting_flight s c ≡ o → o ≡ Some f
+    go None q = absurd (false≢true (sym (none_found (named c) (waiting s) f q m) ∙ (bytes_eq-Decides f.flight.callsign c).1 e))
+    go (Some g) q = let r = found s c g q in ap Some (one_of_name (waiting s) g f (names_waiting s sound) r.0 m (r.1 ∙ sym e))
+
+pub some_flight : (s : Situation) (c : Callsign) → waits_in s c ≡ true → (f : Active) × (waiting_flight s c ≡ Some f)
+some_flight s c e = go (waiting_flight s c) e
+  where
+    go : (o : Option Active) → is_some o ≡ true → (f : Active) × (o ≡ Some f)
+    go None e = absurd (false≢true e)
+    go (Some f) e = (f, refl)
+
+same_some : (a b : Active) → Some a ≡ Some b → a ≡ b
+same_some a b e = cc
+
+in_map_numbers : (f : ℕ → Active) (xs : List ℕ) (y : Active) → Member y (map f xs) → (i : ℕ) × In i xs × (y ≡ f i)
+in_map_numbers f [] y m = absurd m
+in_map_numbers f (x ∷ xs) y (inl e) = (x, inl refl, e)
+in_map_numbers f (x ∷ xs) y (inr m) = let r = in_map_numbers f xs y m in (r.0, inr r.1, r.2)
+
+map_numbers_in : (f : ℕ → Active) (xs : List ℕ) (i : ℕ) → In i xs → Member (f i) (map f xs)
+map_numbers_in f [] i m = m
+map_numbers_in f (x ∷ xs) i (inl e) = inl (ap f e)
+map_numbers_in f (x ∷ xs) i (inr m) = inr (map_numbers_in f xs i m)
+
+-- ---- a clock event, by any feasible plan
+
+module _ (s : Situation) (sound : IsSound s) (t : Schedule) (ok : IsFeasible s t) (now : ℕ) (forth : horizon s ≤ now + s.aerodrome.freeze) (carry : s.aerodrome.carry ≡ true) where
+  abbrev h : ℕ
+  h = now + s.aerodrome.freeze
+
+  abbrev changed : Situation
+  changed = situation_after s (Some t) (Clock now)
+
+  abbrev ns : numbers.NumberedSituation
+  ns = numbered_situation s
+
+  abbrev stay : List ℕ
+  stay = staying_of (second_of t) h ns.waiting
+
+  abbrev over : ℕ → ℕ
+  over i = overtook (comes_before s.active) (second_of t) h ns.waiting i
+
+  shifted : (i : ℕ) → In i ns.waiting → KeepsShift s.aerodrome.k ns.back (comes_before s.active) (second_of t) ns.waiting i
+  shifted = (feasible_numbered s sound t ok.0 ok).shifted
+
+  stays : (i : ℕ) → In i stay → In i (numbers_of s.active) × (waits_at s.active i ≡ true) × (h ≤ second_of t i)
+  stays i m = late_after s sound t ok now forth i (subst (In i) (sym (waiting_after s sound t ok now forth)) m)
+
+  waited : (i : ℕ) → In i stay → In i ns.waiting
+  waited i m = let w = stays i m in filter_in (waits_at s.active) i (numbers_of s.active) w.0 w.1
+
+  -- whoever stays counts those that overtook it
+  counted_after : (i : ℕ) → In i stay → (numbered changed.active i).passed ≡ min s.aerodrome.k ((numbered s.active i).passed + over i)
+  counted_after i m =
+      let w = stays i m in
+      (at_after s sound t ok now forth i w.0).counted carry w.1 (le-ltb (second_of t i) h w.2)
+      ∙ ap (λ n. min s.aerodrome.k ((numbered s.active i).passed + n)) (passing_is s sound t ok now forth i w.0)
+
+  -- by number, where each that does not stand behind i was passed g times
+  module _ (g : ℕ) (i : ℕ) (m : In i stay) (least : (x : ℕ) → In x ns.waiting → comes_before s.active i x ≡ false → g ≤ (numbered s.active x).passed) where
+    few_numbers : g + over i ≤ s.aerodrome.k
+    few_numbers =
+        let r = bound_overtook (comes_before s.active) (first_come s.active) (second_of t) ns.waiting s.aerodrome.k h ns.back shifted i m in
+        let p = passed_low s sound t ok.0 r.0 (stays r.0 r.1).0 in
+        let l = least r.0 (waited r.0 r.1) r.2 in
+        let b = r.3 in
+        omega arith
+
+    counted_numbers : (x : ℕ) → In x stay → comes_before s.active i x ≡ false → g + over i ≤ (numbered changed.active x).passed
+    counted_numbers x n ahead =
+        let few = few_numbers in
+        let l = least x (waited x n) ahead in
+        let o = fewer_overtook (comes_before s.active) (first_come s.active) (second_of t) ns.waiting s.aerodrome.k h ns.back shifted i x ahead in
+        let e = counted_after x n in
+        omega arith
+
+  at_number : (y : Active) → Member y (waiting changed) → (i : ℕ) × In i stay × (y ≡ numbered changed.active i)
+  at_number y m =
+      let r = in_map_numbers (numbered changed.active) (numbered_situation changed).waiting y (subst (Member y) (waiting_changed s sound t ok now forth) m) in
+      (r.0, subst (In r.0) (waiting_after s sound t ok now forth) r.1, r.2)
+
+  was_waiting : (i : ℕ) → In i ns.waiting → Member (numbered s.active i) (waiting s)
+  was_waiting i m = subst (Member (numbered s.active i)) (sym (waiting_before s sound t ok now forth)) (map_numbers_in (numbered s.active) ns.waiting i m)
+
+  flight_at : (y : Active) (i : ℕ) → In i stay → y ≡ numbered changed.active i → y.flight ≡ (numbered s.active i).flight
+  flight_at y i m e = ap (λ (a : Active). a.flight) e ∙ same_flight s sound t ok now forth i (stays i m).0
+
+  -- f is one that stays, and its number counts the same
+  module _ (c : Callsign) (f : Active) (g : ℕ) (here : waiting_flight s c ≡ Some f) (later : waits_in changed c ≡ true) (least : ArePassedAtLeast g s c) where
+    abbrev passing : ℕ
+    passing = count_passing h (landings s.active t) f.flight
+
+    pub record Named (i : ℕ) : Type 0 where
+      pub stays : In i stay
+      pub was : f ≡ numbered s.active i
+      pub is : waiting_flight changed c ≡ Some (numbered changed.active i)
+
+    named_number : (i : ℕ) × Named i
+    named_number =
+        let b = some_flight changed c later in
+        let mb = found changed c b.0 b.1 in
+        let n = at_number b.0 mb.0 in
+        let was = found s c f here in
+        let same = ap (λ (x : Flight). x.callsign) (sym (flight_at b.0 n.0 n.1 n.2)) ∙ mb.1 in (
+          n.0,
+          record {
+            stays = n.1;
+            was = one_of_name (waiting s) f (numbered s.active n.0) (names_waiting s sound) was.0 (was_waiting n.0 (waited n.0 n.1)) (was.1 ∙ sym same);
+            is = b.1 ∙ ap Some n.2;
+          },
+        )
+
+    module _ (i : ℕ) (n : Named i) where
+      passing_are : passing ≡ over i
+      passing_are = ap (λ (a : Active). count_passing h (landings s.active t) a.flight) n.was ∙ passing_is s sound t ok now forth i (stays i n.stays).0
+
+      -- who does not stand behind by number does not by arrival
+      behind_are : (x : ℕ) → In x ns.waiting → comes_before s.active i x ≡ is_lt (arrival_cmp f.flight (numbered s.active x).flight)
+      behind_are x m =
+          comes_is s sound i x (stays i n.stays).0 (in_filter (waits_at s.active) x (numbers_of s.active) m).0
+          ∙ ap (λ (a : Active). is_lt (arrival_cmp a.flight (numbered s.active x).flight)) (sym n.was)
+
+      least_numbers : (x : ℕ) → In x ns.waiting → comes_before s.active i x ≡ false → g ≤ (numbered s.active x).passed
+      least_numbers x m ahead = all_at (λ (x : Active). is_lt (arrival_cmp f.flight x.flight) ≡ false → g ≤ x.passed) (waiting s) (numbered s.active x) (least f here) (was_waiting x m) (sym (behind_are x m) ∙ ahead)
+
+      counted_each : (y : Active) → Member y (waiting changed) → is_lt (arrival_cmp (numbered changed.active i).flight y.flight) ≡ false → g + passing ≤ y.passed
+      counted_each y m ahead =
+          let x = at_number y m in
+          let a = flight_at (numbered changed.active i) i n.stays refl ∙ ap (λ (b : Active). b.flight) (sym n.was) in
+          let b = flight_at y x.0 x.1 x.2 in
+          let not_behind = behind_are x.0 (waited x.0 x.1) ∙ ap₂ (λ p q. is_lt (arrival_cmp p q)) (sym a) (sym b) ∙ ahead in
+          let few = counted_numbers g i n.stays least_numbers x.0 x.1 not_behind in
+          let p = passing_are in
+          let e = ap (λ (z : Active). z.passed) x.2 in
+          omega arith
+
+      counts : ClockCounts s t now c f g
+      counts = record {
+        few = (let a = few_numbers g i n.stays least_numbers in let p = passing_are in omega arith);
+        counted = λ b e. all_from (λ (y : Active). is_lt (arrival_cmp b.flight y.flight) ≡ false → g + passing ≤ y.passed) (waiting changed) (λ y m ahead.
+            let same = same_some b (numbered changed.active i) (sym e ∙ n.is) in
+            counted_each y m (ap (λ (a : Active). is_lt (arrival_cmp a.flight y.flight)) (sym same) ∙ ahead));
+      }
+
+    pub clock_counts_at : ClockCounts s t now c f g
+    clock_counts_at = let n = named_number in counts n.0 n.1
+
+pub clock_counts : ClockCountsLaw
+clock_counts s t now c f g sound carry ok e here later least = clock_counts_at s sound t ok now (forth_of s.clock now s.aerodrome.freeze e) carry c f g here later least
