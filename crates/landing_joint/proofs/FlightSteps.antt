@@ -46,14 +46,14 @@ named_waits s c h ok a m e = go (find (named c) s.active) refl ok
         two None ok = refl
         two (Some t) ok = let w : Some (Frozen t) ≡ None = ok in absurd (cc)
 
-estimate_callsign : (c : Callsign) (eta : ℕ) (windows : List Span) (a : Active) → (estimated c eta windows a).flight.callsign ≡ a.flight.callsign
+pub estimate_callsign : (c : Callsign) (eta : ℕ) (windows : List Span) (a : Active) → (estimated c eta windows a).flight.callsign ≡ a.flight.callsign
 estimate_callsign c eta windows a = go (named c a)
   where
     go : (b : Bool) → (cond b (record a { flight = record a.flight { eta = eta; windows = windows } }) a).flight.callsign ≡ a.flight.callsign
     go true = refl
     go false = refl
 
-estimate_frozen : (c : Callsign) (eta : ℕ) (windows : List Span) (a : Active) → (estimated c eta windows a).frozen ≡ a.frozen
+pub estimate_frozen : (c : Callsign) (eta : ℕ) (windows : List Span) (a : Active) → (estimated c eta windows a).frozen ≡ a.frozen
 estimate_frozen c eta windows a = go (named c a)
   where
     go : (b : Bool) → (cond b (record a { flight = record a.flight { eta = eta; windows = windows } }) a).frozen ≡ a.frozen
@@ -97,7 +97,7 @@ re_estimated s plan c eta windows h good ok =
 
 -- ---- add
 
-add_parts : (there : Bool) (flights wait : ℕ) (found : Option Landing) (c : Callsign) →
+pub add_parts : (there : Bool) (flights wait : ℕ) (found : Option Landing) (c : Callsign) →
     (if there then Some (Duplicate c) else (if nat_le 500 flights then Some TooManyFlights else (if nat_le 60 wait then Some TooManyWaiting else option_map (λ (g : Landing). PredecessorOfFrozen g.flight.callsign) found))) ≡ None →
     (there ≡ false) × (flights < 500) × (wait < 60) × (found ≡ None)
 add_parts true flights wait found c e = let w : Some (Duplicate c) ≡ None = e in absurd (cc)

@@ -12,4 +12,5 @@ pub mod SoundAgain
 pub mod FlightSteps
 pub mod ClosureSteps
 pub mod StepLaws
+pub mod InLine
 pub mod RefusedSteps

@@ -43,7 +43,7 @@ some_flight s c e = go (waiting_flight s c) e
     go None e = absurd (false≢true e)
     go (Some f) e = (f, refl)
 
-same_some : (a b : Active) → Some a ≡ Some b → a ≡ b
+pub same_some : (a b : Active) → Some a ≡ Some b → a ≡ b
 same_some a b e = cc
 
 in_map_numbers : (f : ℕ → Active) (xs : List ℕ) (y : Active) → Member y (map f xs) → (i : ℕ) × In i xs × (y ≡ f i)

@@ -1,0 +1,227 @@
+-- A flight that stays in line through a run is passed by at most k flights: each kind of event keeps the counts.
+use Rattle.std.proofs.Common.{◌≡◌, ℕ, ◌+◌, ◌≤◌, ◌⊎◌, inl, inr, Bool, true, false, not, cond, length, filter, List, [], ◌∷◌, ◌++◌, Option, Some, None, refl, sym, ap, ap₂, subst, ◌∙◌, arith}
+use Rattle.std.specs.Prelude.{All, is_none, find}
+use Rattle.std.specs.List.{list_any}
+use Rattle.std.specs.declared.cmp.Ordering.{Ordering}
+use Rattle.std.specs.declared.cmp.Ordering.TheVariants.{Less, Equal, Greater}
+use Rattle.std.specs.Ordering.{is_lt, ordering_reverse}
+use Rattle.std.proofs.lemmas.Bool.{cases_Bool, false≢true}
+use Rattle.std.proofs.lemmas.Cmp.{tied_itself}
+use Rattle.std.proofs.lemmas.List.Elements.{All-head, All-tail}
+use Rattle.std.proofs.lemmas.Slice.Eq.{bytes_eq-Decides}
+use Rattle.landing_rules.specs.Flights.{Active, Aerodrome, Callsign, Flight, Schedule, Situation, Span, is_waiting, landings, waiting}
+use Rattle.landing_rules.specs.Rules.{arrival_cmp, lists, IsFeasible}
+use Rattle.landing_rules.specs.Events.{Event, Estimate, Cancel, Add, Close, Reopen, Clock, Refusal, State, Step, IsAcceptedStep, Answered, Run, IsPlanShown, estimated, frozen_landings, named, newcomer, refusal, situation_after}
+use Rattle.landing_rules.specs.Sound.{IsSound, IsSoundState, IsGoodEvent}
+use Rattle.landing_rules.specs.shared.Counting.{cases}
+use Rattle.landing_rules.specs.shared.Ranks.{arrival_total}
+use Rattle.landing_joint.specs.PassedOver.{waiting_flight, waits_in, is_ahead, stands_ahead, StaysInLine, StaysInLineThrough, ArePassedAtLeast, passing_by_event, passing_flight, passing_in_step, passing_in_run, FewPassLaw, IsFirstInLine, FewPassFirstLaw}
+use Rattle.landing_joint.proofs.Members.{Member, all_at, all_from, differ_of, in_filter, filter_in, in_map, in_push, none_any, one_of_name}
+use Rattle.landing_joint.proofs.Joint.{level-callsign}
+use Rattle.landing_joint.proofs.FlightSteps.{add_parts, estimate_callsign, estimate_frozen, named_is}
+use Rattle.landing_joint.proofs.StepLaws.{event_keeps_sound, step_keeps_sound}
+use Rattle.landing_joint.proofs.PassedOver.{found, is_found, some_flight, same_some, clock_counts}
+
+-- ---- first-come order
+
+not_lt_itself : (f : Flight) → is_lt (arrival_cmp f f) ≡ false
+not_lt_itself f = ap is_lt (tied_itself arrival_total f)
+
+one_way : (f g : Flight) → is_lt (arrival_cmp f g) ≡ true → is_lt (arrival_cmp g f) ≡ false
+one_way f g e = ap is_lt (arrival_total.antisymm g f) ∙ go (arrival_cmp f g) e
+  where
+    go : (o : Ordering) → is_lt o ≡ true → is_lt (ordering_reverse o) ≡ false
+    go Less e = refl
+    go Equal e = absurd (false≢true e)
+    go Greater e = absurd (false≢true e)
+
+-- who has another name and does not stand behind stands ahead
+ahead_of : (f g : Flight) → (f.callsign ≡ g.callsign → ⊥) → is_lt (arrival_cmp f g) ≡ false → is_lt (arrival_cmp g f) ≡ true
+ahead_of f g ne e = elim (cases (arrival_cmp f g)) [
+  | inl l ↦ absurd (false≢true (sym e ∙ ap is_lt l))
+  | inr (inl q) ↦ absurd (ne (level-callsign f g q))
+  | inr (inr q) ↦ ap is_lt (arrival_total.antisymm g f ∙ ap ordering_reverse q)
+]
+
+ahead_parts : (o p : Option Active) → is_ahead o p ≡ true → (g : Active) × (f : Active) × (o ≡ Some g) × (p ≡ Some f) × (is_lt (arrival_cmp g.flight f.flight) ≡ true)
+ahead_parts None p e = absurd (false≢true e)
+ahead_parts (Some g) None e = absurd (false≢true e)
+ahead_parts (Some g) (Some f) e = (g, f, refl, refl, e)
+
+-- ---- events that freeze nobody
+
+-- who waits afterwards under a name that waited before has the same count
+abbrev SameCounts : Situation → Situation → Type 0
+SameCounts old new = (x a : Active) → Member x (waiting new) → Member a (waiting old) → a.flight.callsign ≡ x.flight.callsign → x.passed ≡ a.passed
+
+module _ (old new : Situation) (sound : IsSound new) (c : Callsign) (g : ℕ) (same : SameCounts old new) (here : waits_in old c ≡ true) (line : StaysInLine c old new) (least : ArePassedAtLeast g old c) where
+  at_old : (f x : Active) → waiting_flight old c ≡ Some f → Member x (waiting old) → is_lt (arrival_cmp f.flight x.flight) ≡ false → g ≤ x.passed
+  at_old f x e m q = all_at (λ (x : Active). is_lt (arrival_cmp f.flight x.flight) ≡ false → g ≤ x.passed) (waiting old) x (least f e) m q
+
+  least_itself : (x : Active) → Member x (waiting new) → x.flight.callsign ≡ c → g ≤ x.passed
+  least_itself x m e =
+      let b = some_flight old c here in
+      let mb = found old c b.0 b.1 in
+      let l = at_old b.0 b.0 b.1 mb.0 (not_lt_itself b.0.flight) in
+      let p = same x b.0 m mb.0 (mb.1 ∙ sym e) in
+      omega arith
+
+  least_ahead : (f x : Active) → waiting_flight new c ≡ Some f → Member x (waiting new) → is_lt (arrival_cmp x.flight f.flight) ≡ true → g ≤ x.passed
+  least_ahead f x e m q =
+      let d = x.flight.callsign in
+      let now : stands_ahead new d c ≡ true = ap₂ is_ahead (is_found new sound d x m refl) e ∙ q in
+      let was = ahead_parts (waiting_flight old d) (waiting_flight old c) (line.nobody_new d now) in
+      let a = was.0 in
+      let ma = found old d a was.2 in
+      let l = at_old was.1 a was.3 ma.0 (one_way a.flight was.1.flight was.4) in
+      let p = same x a m ma.0 ma.1 in
+      omega arith
+
+  quiet : ArePassedAtLeast g new c
+  quiet f e = all_from (λ (x : Active). is_lt (arrival_cmp f.flight x.flight) ≡ false → g ≤ x.passed) (waiting new) (λ x m q. elim (cases_Bool (named c x)) [
+    | inl b ↦ least_itself x m (named_is c x b)
+    | inr b ↦ least_ahead f x e m (ahead_of f.flight x.flight (λ s.
+      let mf = found new c f e in
+      false≢true (sym b ∙ (bytes_eq-Decides x.flight.callsign c).1 (sym s ∙ mf.1))) q)
+  ])
+
+-- of one name one waits
+one_waits : (s : Situation) → IsSound s → (a b : Active) → Member a (waiting s) → Member b (waiting s) → a.flight.callsign ≡ b.flight.callsign → a ≡ b
+one_waits s sound a b m n e = one_of_name s.active a b (differ_of s.active sound.callsigns) (in_filter is_waiting s.active a m).0 (in_filter is_waiting s.active b n).0 e
+
+same_active : (old new : Situation) → IsSound old → new.active ≡ old.active → SameCounts old new
+same_active old new sound e x a m n s =
+    ap (λ (z : Active). z.passed) (one_waits old sound x a (subst (λ l. Member x (filter is_waiting l)) e m) n (sym s))
+
+same_cancelled : (s : Situation) (plan : Option Schedule) (c : Callsign) → IsSound s → SameCounts s (situation_after s plan (Cancel c))
+same_cancelled s plan c sound x a m n e =
+    let w = in_filter is_waiting (situation_after s plan (Cancel c)).active x m in
+    let v = in_filter (λ a. not (named c a)) s.active x w.0 in
+    ap (λ (z : Active). z.passed) (one_waits s sound x a (filter_in is_waiting s.active x v.0 w.1) n (sym e))
+
+estimate_passed : (c : Callsign) (eta : ℕ) (windows : List Span) (a : Active) → (estimated c eta windows a).passed ≡ a.passed
+estimate_passed c eta windows a = go (named c a)
+  where
+    go : (b : Bool) → (cond b (record a { flight = record a.flight { eta = eta; windows = windows } }) a).passed ≡ a.passed
+    go true = refl
+    go false = refl
+
+same_estimated : (s : Situation) (plan : Option Schedule) (c : Callsign) (eta : ℕ) (windows : List Span) → IsSound s → SameCounts s (situation_after s plan (Estimate c eta windows))
+same_estimated s plan c eta windows sound x a m n e =
+    let f : Active → Active = estimated c eta windows in
+    let w = in_filter is_waiting (situation_after s plan (Estimate c eta windows)).active x m in
+    let r = in_map f s.active x w.0 in
+    let waits : is_waiting r.0 ≡ true = ap is_none (sym (estimate_frozen c eta windows r.0)) ∙ ap is_waiting (sym r.2) ∙ w.1 in
+    let name = sym (estimate_callsign c eta windows r.0) ∙ ap (λ (z : Active). z.flight.callsign) (sym r.2) ∙ sym e in
+    ap (λ (z : Active). z.passed) r.2 ∙ estimate_passed c eta windows r.0
+    ∙ ap (λ (z : Active). z.passed) (one_waits s sound r.0 a (filter_in is_waiting s.active r.0 r.1 waits) n name)
+
+same_added : (s : Situation) (plan : Option Schedule) (f : Flight) → IsSound s → refusal s (Add f) ≡ None → SameCounts s (situation_after s plan (Add f))
+same_added s plan f sound ok x a m n e =
+    let p = add_parts (list_any (named f.callsign) s.active) (length s.active) (length (waiting s)) (find (λ g. lists g.flight f.callsign) (frozen_landings s)) f.callsign ok in
+    let w = in_filter is_waiting (situation_after s plan (Add f)).active x m in
+    elim (in_push s.active (newcomer f) x w.0) [
+      | inl q ↦ ap (λ (z : Active). z.passed) (one_waits s sound x a (filter_in is_waiting s.active x q w.1) n (sym e))
+      | inr q ↦
+          let absent = none_any (named f.callsign) s.active a p.0 (in_filter is_waiting s.active a n).0 in
+          absurd (false≢true (sym absent ∙ (bytes_eq-Decides a.flight.callsign f.callsign).1 (e ∙ ap (λ (z : Active). z.flight.callsign) q)))
+    ]
+
+-- ---- an accepted event
+
+-- so many passed the flight named c so far, at most k, and each that does not stand behind it counts them
+abbrev Counted : ℕ → Callsign → Situation → ℕ → Type 0
+Counted k c s g = (g ≤ k) × ArePassedAtLeast g s c
+
+-- where nobody passes
+none_more : (k : ℕ) (c : Callsign) (s : Situation) (g n : ℕ) → n ≡ 0 → Counted k c s g → Counted k c s (g + n)
+none_more k c s g n e h = subst (Counted k c s) (let z : g ≡ g + n = omega arith in z) h
+
+none_pass : (old : State) (e : Event) → ((f : Flight) → passing_by_event old e f ≡ 0) → (o : Option Active) → passing_flight old e o ≡ 0
+none_pass old e h None = refl
+none_pass old e h (Some a) = h a.flight
+
+abbrev state_of : Situation → Option Schedule → State
+state_of s plan = record { situation = s; plan = plan }
+
+module _ (s : Situation) (plan : Option Schedule) (c : Callsign) (g : ℕ) (sound : IsSound s) (feasible : (t : Schedule) → plan ≡ Some t → IsFeasible s t) (carry : s.aerodrome.carry ≡ true) (here : waits_in s c ≡ true) (so_far : Counted s.aerodrome.k c s g) where
+  abbrev Goal : Event → Type 0
+  Goal e = IsGoodEvent e → refusal s e ≡ None → StaysInLine c s (situation_after s plan e) → Counted s.aerodrome.k c (situation_after s plan e) (g + passing_in_step (state_of s plan) e None c)
+
+  by_counts : (e : Event) → SameCounts s (situation_after s plan e) → ((f : Flight) → passing_by_event (state_of s plan) e f ≡ 0) → Goal e
+  by_counts e same none good ok line =
+      let new : Situation = situation_after s plan e in
+      none_more s.aerodrome.k c new g (passing_in_step (state_of s plan) e None c) (none_pass (state_of s plan) e none (waiting_flight s c))
+      (so_far.0, quiet s new (event_keeps_sound s plan e sound good feasible ok) c g same here line so_far.1)
+
+clock_counted : (s : Situation) (plan : Option Schedule) (c : Callsign) (g : ℕ) (now : ℕ) → IsSound s → ((t : Schedule) → plan ≡ Some t → IsFeasible s t) → s.aerodrome.carry ≡ true → waits_in s c ≡ true → Counted s.aerodrome.k c s g →
+    IsGoodEvent (Clock now) → refusal s (Clock now) ≡ None → StaysInLine c s (situation_after s plan (Clock now)) → Counted s.aerodrome.k c (situation_after s plan (Clock now)) (g + passing_in_step (state_of s plan) (Clock now) None c)
+clock_counted s None c g now sound feasible carry here so_far good ok line =
+    by_counts s None c g sound feasible carry here so_far (Clock now) (same_active s (situation_after s None (Clock now)) sound refl) (λ f. refl) good ok line
+clock_counted s (Some t) c g now sound feasible carry here so_far good ok line =
+    let f = some_flight s c here in
+    let r = clock_counts s t now c f.0 g sound carry (feasible t refl) ok f.1 line.waits so_far.1 in
+    subst (λ o. Counted s.aerodrome.k c (situation_after s (Some t) (Clock now)) (g + passing_flight (state_of s (Some t)) (Clock now) o)) (sym f.1) (r.few, r.counted)
+
+event_counted : (s : Situation) (plan : Option Schedule) (c : Callsign) (g : ℕ) (e : Event) → IsSound s → ((t : Schedule) → plan ≡ Some t → IsFeasible s t) → s.aerodrome.carry ≡ true → waits_in s c ≡ true → Counted s.aerodrome.k c s g →
+    IsGoodEvent e → refusal s e ≡ None → StaysInLine c s (situation_after s plan e) → Counted s.aerodrome.k c (situation_after s plan e) (g + passing_in_step (state_of s plan) e None c)
+event_counted s plan c g (Estimate d eta windows) sound feasible carry here so_far = by_counts s plan c g sound feasible carry here so_far (Estimate d eta windows) (same_estimated s plan d eta windows sound) (λ f. refl)
+event_counted s plan c g (Cancel d) sound feasible carry here so_far = by_counts s plan c g sound feasible carry here so_far (Cancel d) (same_cancelled s plan d sound) (λ f. refl)
+event_counted s plan c g (Add x) sound feasible carry here so_far = λ good ok. by_counts s plan c g sound feasible carry here so_far (Add x) (same_added s plan x sound ok) (λ f. refl) good ok
+event_counted s plan c g (Close span) sound feasible carry here so_far = by_counts s plan c g sound feasible carry here so_far (Close span) (same_active s (situation_after s plan (Close span)) sound refl) (λ f. refl)
+event_counted s plan c g (Reopen span) sound feasible carry here so_far = by_counts s plan c g sound feasible carry here so_far (Reopen span) (same_active s (situation_after s plan (Reopen span)) sound refl) (λ f. refl)
+event_counted s plan c g (Clock now) sound feasible carry here so_far = clock_counted s plan c g now sound feasible carry here so_far
+
+-- ---- a step, and a run
+
+same_aerodrome : (s : Situation) (plan : Option Schedule) (e : Event) → (situation_after s plan e).aerodrome ≡ s.aerodrome
+same_aerodrome s plan (Estimate c eta windows) = refl
+same_aerodrome s plan (Cancel c) = refl
+same_aerodrome s plan (Add f) = refl
+same_aerodrome s plan (Close span) = refl
+same_aerodrome s plan (Reopen span) = refl
+same_aerodrome s plan (Clock now) = refl
+
+step_aerodrome : (old new : State) (e : Event) (answer : Option Refusal) → Step old e answer new → new.situation.aerodrome ≡ old.situation.aerodrome
+step_aerodrome old new e None step = ap (λ (s : Situation). s.aerodrome) step.effect.changed ∙ same_aerodrome old.situation old.plan e
+step_aerodrome old new e (Some r) step = ap (λ (s : State). s.situation.aerodrome) step.effect
+
+step_counted : (old new : State) (e : Event) (answer : Option Refusal) (c : Callsign) (g : ℕ) → IsSoundState old → IsGoodEvent e → Step old e answer new → old.situation.aerodrome.carry ≡ true → waits_in old.situation c ≡ true → StaysInLine c old.situation new.situation →
+    Counted old.situation.aerodrome.k c old.situation g → Counted old.situation.aerodrome.k c new.situation (g + passing_in_step old e answer c)
+step_counted old new e (Some r) c g sound good step carry here line so_far =
+    none_more old.situation.aerodrome.k c new.situation g 0 refl (subst (λ (s : State). Counted old.situation.aerodrome.k c s.situation g) (sym step.effect) so_far)
+step_counted old new e None c g sound good step carry here line so_far =
+    let is = step.effect.changed in
+    subst (λ s. Counted old.situation.aerodrome.k c s (g + passing_in_step old e None c)) (sym is)
+    (event_counted old.situation old.plan c g e sound.situation (λ t q. (subst (IsPlanShown old.situation) q sound.shown).0.feasible) carry here so_far good (sym step.answered) (subst (StaysInLine c old.situation) is line))
+
+run_counted : (old : State) (events : List Event) (answers : List Answered) (c : Callsign) (g : ℕ) → IsSoundState old → old.situation.aerodrome.carry ≡ true → All IsGoodEvent events → Run old events answers → waits_in old.situation c ≡ true → StaysInLineThrough c old answers →
+    Counted old.situation.aerodrome.k c old.situation g → g + passing_in_run old events answers c ≤ old.situation.aerodrome.k
+run_counted old [] answers c g sound carry good run here line so_far = let a = so_far.0 in omega arith
+run_counted old (e ∷ events) [] c g sound carry good run here line so_far = absurd run
+run_counted old (e ∷ events) (a ∷ answers) c g sound carry good run here line so_far =
+    let next = step_keeps_sound old a.state e a.answer sound (All-head IsGoodEvent e events good) run.0 in
+    let same = step_aerodrome old a.state e a.answer run.0 in
+    let d = passing_in_step old e a.answer c in
+    let now = step_counted old a.state e a.answer c g sound (All-head IsGoodEvent e events good) run.0 carry here line.0 so_far in
+    let now' = subst (λ (x : Aerodrome). Counted x.k c a.state.situation (g + d)) (sym same) now in
+    let rest = run_counted a.state events answers c (g + d) next (ap (λ (x : Aerodrome). x.carry) same ∙ carry) (All-tail IsGoodEvent e events good) run.1 line.0.waits line.1 now' in
+    let k = ap (λ (x : Aerodrome). x.k) same in
+    omega arith
+
+pub few_pass : FewPassLaw
+few_pass old events answers c sound carry good run here line =
+    let none : ArePassedAtLeast 0 old.situation c = λ f e. all_from (λ (x : Active). is_lt (arrival_cmp f.flight x.flight) ≡ false → 0 ≤ x.passed) (waiting old.situation) (λ x m q. omega arith) in
+    let few = run_counted old events answers c 0 sound carry good run here line (omega arith, none) in
+    omega arith
+
+first_in_line : (c : Callsign) (old : State) (answers : List Answered) → All (λ a. IsFirstInLine c a.state.situation) answers → StaysInLineThrough c old answers
+first_in_line c old [] h = tt
+first_in_line c old (a ∷ answers) h =
+    let first = All-head (λ (a : Answered). IsFirstInLine c a.state.situation) a answers h in (
+      record { waits = first.waits; nobody_new = λ d e. absurd (false≢true (sym (first.nobody d) ∙ e)) },
+      first_in_line c a.state answers (All-tail (λ (a : Answered). IsFirstInLine c a.state.situation) a answers h),
+    )
+
+pub few_pass_first : FewPassFirstLaw
+few_pass_first old events answers c sound carry good run here first = few_pass old events answers c sound carry good run here (first_in_line c old answers first)
