@@ -15,7 +15,7 @@ use Rattle.landing_rules.specs.Events.{Event, Estimate, Cancel, Add, Close, Reop
 use Rattle.landing_rules.specs.Sound.{IsSound, IsSoundState, IsGoodEvent}
 use Rattle.landing_rules.specs.shared.Counting.{cases}
 use Rattle.landing_rules.specs.shared.Ranks.{arrival_total}
-use Rattle.landing_joint.specs.PassedOver.{waiting_flight, waits_in, is_ahead, stands_ahead, StaysInLine, StaysInLineThrough, ArePassedAtLeast, passing_by_event, passing_flight, passing_in_step, passing_in_run, FewPassLaw, IsFirstInLine, FewPassFirstLaw}
+use Rattle.landing_joint.specs.PassedOver.{waiting_flight, waits_in, is_ahead, stands_ahead, StaysInLine, StaysInLineThrough, ArePassedAtLeast, passing_by_event, passing_flight, passing_in_step, passing_in_run, FewPassLaw, FewPassLaterLaw, IsFirstInLine, FewPassFirstLaw}
 use Rattle.landing_joint.proofs.Members.{Member, all_at, all_from, differ_of, in_filter, filter_in, in_map, in_push, none_any, one_of_name}
 use Rattle.landing_joint.proofs.Joint.{level-callsign}
 use Rattle.landing_joint.proofs.FlightSteps.{add_parts, estimate_callsign, estimate_frozen, named_is}
@@ -209,19 +209,50 @@ run_counted old (e ∷ events) (a ∷ answers) c g sound carry good run here lin
     let k = ap (λ (x : Aerodrome). x.k) same in
     omega arith
 
+-- a count that each has is no more than k
+pub few_pass_later : FewPassLaterLaw
+few_pass_later old events answers c g sound carry good run here line least =
+    let s = old.situation in
+    let f = some_flight s c here in
+    let m = found s c f.0 f.1 in
+    let own = all_at (λ (x : Active). is_lt (arrival_cmp f.0.flight x.flight) ≡ false → g ≤ x.passed) (waiting s) f.0 (least f.0 f.1) m.0 (not_lt_itself f.0.flight) in
+    let most = all_at (λ (x : Active). x.passed ≤ s.aerodrome.k) s.active f.0 sound.situation.passed (in_filter is_waiting s.active f.0 m.0).0 in
+    run_counted old events answers c g sound carry good run here line (omega arith, least)
+
 pub few_pass : FewPassLaw
 few_pass old events answers c sound carry good run here line =
     let none : ArePassedAtLeast 0 old.situation c = λ f e. all_from (λ (x : Active). is_lt (arrival_cmp f.flight x.flight) ≡ false → 0 ≤ x.passed) (waiting old.situation) (λ x m q. omega arith) in
-    let few = run_counted old events answers c 0 sound carry good run here line (omega arith, none) in
+    let few = few_pass_later old events answers c 0 sound carry good run here line none in
     omega arith
 
-first_in_line : (c : Callsign) (old : State) (answers : List Answered) → All (λ a. IsFirstInLine c a.state.situation) answers → StaysInLineThrough c old answers
-first_in_line c old [] h = tt
-first_in_line c old (a ∷ answers) h =
+-- ---- the first in line
+
+stays_in_line : (c : Callsign) (old : State) (answers : List Answered) → All (λ a. IsFirstInLine c a.state.situation) answers → StaysInLineThrough c old answers
+stays_in_line c old [] h = tt
+stays_in_line c old (a ∷ answers) h =
     let first = All-head (λ (a : Answered). IsFirstInLine c a.state.situation) a answers h in (
       record { waits = first.waits; nobody_new = λ d e. absurd (false≢true (sym (first.nobody d) ∙ e)) },
-      first_in_line c a.state answers (All-tail (λ (a : Answered). IsFirstInLine c a.state.situation) a answers h),
+      stays_in_line c a.state answers (All-tail (λ (a : Answered). IsFirstInLine c a.state.situation) a answers h),
     )
 
+-- nobody else does not stand behind it
+alone_ahead : (s : Situation) → IsSound s → (c : Callsign) (f x : Active) → waiting_flight s c ≡ Some f → IsFirstInLine c s → Member x (waiting s) → is_lt (arrival_cmp f.flight x.flight) ≡ false → f ≡ x
+alone_ahead s sound c f x e first m q = elim (cases_Bool (named c x)) [
+  | inl b ↦ one_waits s sound f x mf.0 m (mf.1 ∙ sym (named_is c x b))
+  | inr b ↦
+      let d = x.flight.callsign in
+      let other = λ (z : f.flight.callsign ≡ d). false≢true (sym b ∙ (bytes_eq-Decides d c).1 (sym z ∙ mf.1)) in
+      let ahead : stands_ahead s d c ≡ true = ap₂ is_ahead (is_found s sound d x m refl) e ∙ ahead_of f.flight x.flight other q in
+      absurd (false≢true (sym (first.nobody d) ∙ ahead))
+]
+  where
+    mf : Member f (waiting s) × (f.flight.callsign ≡ c)
+    mf = found s c f e
+
 pub few_pass_first : FewPassFirstLaw
-few_pass_first old events answers c sound carry good run here first = few_pass old events answers c sound carry good run here (first_in_line c old answers first)
+few_pass_first old events answers c f sound carry good run here first rest =
+    let s = old.situation in
+    let least : ArePassedAtLeast f.passed s c = λ b e. all_from (λ (x : Active). is_lt (arrival_cmp b.flight x.flight) ≡ false → f.passed ≤ x.passed) (waiting s) (λ x m q.
+    let same = ap (λ (z : Active). z.passed) (same_some f b (sym here ∙ e) ∙ alone_ahead s sound.situation c b x e first m q) in
+    omega arith) in
+    few_pass_later old events answers c f.passed sound carry good run first.waits (stays_in_line c old answers rest) least

@@ -88,12 +88,18 @@ abbrev pub FewPassLaw : Type 0
 FewPassLaw = (old : State) (events : List Event) (answers : List Answered) (c : Callsign) → IsSoundState old → old.situation.aerodrome.carry ≡ true → All IsGoodEvent events → Run old events answers →
     IsTrue (waits_in old.situation c) → StaysInLineThrough c old answers → passing_in_run old events answers c ≤ old.situation.aerodrome.k
 
+-- and by fewer, where each that does not stand behind it was passed by g already
+abbrev pub FewPassLaterLaw : Type 0
+FewPassLaterLaw = (old : State) (events : List Event) (answers : List Answered) (c : Callsign) (g : ℕ) → IsSoundState old → old.situation.aerodrome.carry ≡ true → All IsGoodEvent events → Run old events answers →
+    IsTrue (waits_in old.situation c) → StaysInLineThrough c old answers → ArePassedAtLeast g old.situation c → g + passing_in_run old events answers c ≤ old.situation.aerodrome.k
+
 -- the flight waits, and nobody stands ahead of it
 pub record IsFirstInLine (c : Callsign) (s : Situation) : Type 0 where
   pub waits : IsTrue (waits_in s c)
   pub nobody : (d : Callsign) → stands_ahead s d c ≡ false
 
--- so is a flight that is first in first-come order after each step
+-- so of a flight that is first in first-come order and stays so, whoever is added: those that passed it before and
+-- those of the run are at most k together
 abbrev pub FewPassFirstLaw : Type 0
-FewPassFirstLaw = (old : State) (events : List Event) (answers : List Answered) (c : Callsign) → IsSoundState old → old.situation.aerodrome.carry ≡ true → All IsGoodEvent events → Run old events answers →
-    IsTrue (waits_in old.situation c) → All (λ a. IsFirstInLine c a.state.situation) answers → passing_in_run old events answers c ≤ old.situation.aerodrome.k
+FewPassFirstLaw = (old : State) (events : List Event) (answers : List Answered) (c : Callsign) (f : Active) → IsSoundState old → old.situation.aerodrome.carry ≡ true → All IsGoodEvent events → Run old events answers →
+    waiting_flight old.situation c ≡ Some f → IsFirstInLine c old.situation → All (λ a. IsFirstInLine c a.state.situation) answers → f.passed + passing_in_run old events answers c ≤ old.situation.aerodrome.k
