@@ -1,11 +1,11 @@
 -- Of the flights that stay when the front of a plan freezes, the first in first-come order: whoever comes before it
 -- freezes, so its own leave to go back bounds how many behind it freeze, and so behind each that stays.
-use Rattle.std.proofs.Common.{◌≡◌, ℕ, suc, ◌+◌, ◌<◌, ◌≤◌, inl, inr, List, [], ◌∷◌, Bool, true, false, not, nat_lt, filter, arith, refl, sym, ap, subst, ◌∙◌}
-use Rattle.std.proofs.lemmas.Bool.{cases_Bool, cases_eq, cases_lt, ltb-true, lt-ltb, le-ltb, false≢true}
+use Rattle.std.proofs.Common.{◌≡◌, ℕ, ◌≤◌, inl, inr, List, [], ◌∷◌, Bool, true, false, not, nat_lt, arith, refl, sym, ap, subst, ◌∙◌}
+use Rattle.std.proofs.lemmas.Bool.{cases_Bool, cases_eq, cases_lt, ltb-true, lt-ltb, false≢true}
 use Rattle.cps_theory.specs.RankLists.{In}
 use Rattle.cps_theory.specs.Freeze.{FirstCome, KeepsShift, frozen_of, overtook, staying_of}
-use Rattle.cps_theory.specs.laws.Members.{in_filter, filter_in}
-use Rattle.cps_theory.specs.laws.RankCounts.{count, count_is, count_length, count_none, count_parts, count_split, count_weaker}
+use Rattle.cps_theory.specs.laws.Members.{in_filter}
+use Rattle.cps_theory.specs.laws.RankCounts.{count_is, count_none, count_parts, count_split, count_weaker}
 
 module _ (comes_before : ℕ → ℕ → Bool) (order : FirstCome comes_before) where
   not_before_itself : (f : ℕ) → comes_before f f ≡ false
@@ -24,17 +24,25 @@ module _ (comes_before : ℕ → ℕ → Bool) (order : FirstCome comes_before) 
 
   earlier_first : (x : ℕ) (xs : List ℕ) → First xs → First (x ∷ xs)
   earlier_first x xs r = elim (cases_Bool (comes_before x r.0)) [
-    | inl b ↦ (x, inl refl, λ y i. elim i [
-      | inl e ↦ subst (λ z. comes_before z x ≡ false) (sym e) (not_before_itself x)
-      | inr j ↦ elim (cases_Bool (comes_before y x)) [
-        | inl q ↦ absurd (false≢true (sym (r.2 y j) ∙ order.chain y x r.0 q b))
-        | inr q ↦ q
-      ]
-    ])
-    | inr b ↦ (r.0, inr r.1, λ y i. elim i [
-      | inl e ↦ subst (λ z. comes_before z r.0 ≡ false) (sym e) b
-      | inr j ↦ r.2 y j
-    ])
+    | inl b ↦ (
+      x,
+      inl refl,
+      λ y i. elim i [
+        | inl e ↦ subst (λ z. comes_before z x ≡ false) (sym e) (not_before_itself x)
+        | inr j ↦ elim (cases_Bool (comes_before y x)) [
+          | inl q ↦ absurd (false≢true (sym (r.2 y j) ∙ order.chain y x r.0 q b))
+          | inr q ↦ q
+        ]
+      ],
+    )
+    | inr b ↦ (
+      r.0,
+      inr r.1,
+      λ y i. elim i [
+        | inl e ↦ subst (λ z. comes_before z r.0 ≡ false) (sym e) b
+        | inr j ↦ r.2 y j
+      ],
+    )
   ]
 
   first_of : (x : ℕ) (xs : List ℕ) → First (x ∷ xs)

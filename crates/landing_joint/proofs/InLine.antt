@@ -1,5 +1,5 @@
 -- A flight that stays in line through a run is passed by at most k flights: each kind of event keeps the counts.
-use Rattle.std.proofs.Common.{◌≡◌, ℕ, ◌+◌, ◌≤◌, ◌⊎◌, inl, inr, Bool, true, false, not, cond, length, filter, List, [], ◌∷◌, ◌++◌, Option, Some, None, refl, sym, ap, ap₂, subst, ◌∙◌, arith}
+use Rattle.std.proofs.Common.{◌≡◌, ℕ, ◌+◌, ◌≤◌, inl, inr, Bool, true, false, not, cond, length, filter, List, [], ◌∷◌, Option, Some, None, refl, sym, ap, ap₂, subst, ◌∙◌, arith}
 use Rattle.std.specs.Prelude.{All, is_none, find}
 use Rattle.std.specs.List.{list_any}
 use Rattle.std.specs.declared.cmp.Ordering.{Ordering}
@@ -9,9 +9,9 @@ use Rattle.std.proofs.lemmas.Bool.{cases_Bool, false≢true}
 use Rattle.std.proofs.lemmas.Cmp.{tied_itself}
 use Rattle.std.proofs.lemmas.List.Elements.{All-head, All-tail}
 use Rattle.std.proofs.lemmas.Slice.Eq.{bytes_eq-Decides}
-use Rattle.landing_rules.specs.Flights.{Active, Aerodrome, Callsign, Flight, Schedule, Situation, Span, is_waiting, landings, waiting}
+use Rattle.landing_rules.specs.Flights.{Active, Aerodrome, Callsign, Flight, Schedule, Situation, Span, is_waiting, waiting}
 use Rattle.landing_rules.specs.Rules.{arrival_cmp, lists, IsFeasible}
-use Rattle.landing_rules.specs.Events.{Event, Estimate, Cancel, Add, Close, Reopen, Clock, Refusal, State, Step, IsAcceptedStep, Answered, Run, IsPlanShown, estimated, frozen_landings, named, newcomer, refusal, situation_after}
+use Rattle.landing_rules.specs.Events.{Event, Estimate, Cancel, Add, Close, Reopen, Clock, Refusal, State, Step, Answered, Run, IsPlanShown, estimated, frozen_landings, named, newcomer, refusal, situation_after}
 use Rattle.landing_rules.specs.Sound.{IsSound, IsSoundState, IsGoodEvent}
 use Rattle.landing_rules.specs.shared.Counting.{cases}
 use Rattle.landing_rules.specs.shared.Ranks.{arrival_total}
@@ -81,8 +81,8 @@ module _ (old new : Situation) (sound : IsSound new) (c : Callsign) (g : ℕ) (s
   quiet f e = all_from (λ (x : Active). is_lt (arrival_cmp f.flight x.flight) ≡ false → g ≤ x.passed) (waiting new) (λ x m q. elim (cases_Bool (named c x)) [
     | inl b ↦ least_itself x m (named_is c x b)
     | inr b ↦ least_ahead f x e m (ahead_of f.flight x.flight (λ s.
-      let mf = found new c f e in
-      false≢true (sym b ∙ (bytes_eq-Decides x.flight.callsign c).1 (sym s ∙ mf.1))) q)
+        let mf = found new c f e in
+        false≢true (sym b ∙ (bytes_eq-Decides x.flight.callsign c).1 (sym s ∙ mf.1))) q)
   ])
 
 -- of one name one waits

@@ -1,11 +1,11 @@
 -- With the carry a flight is passed by at most k flights, as long as nobody new comes to stand ahead of it.
-use Rattle.std.proofs.Common.{◌≡◌, ℕ, ◌+◌, ◌-◌, ◌≤◌, inl, inr, min, Bool, true, false, List, [], ◌∷◌, map, filter, Option, Some, None, refl, sym, ap, ap₂, subst, ◌∙◌, arith}
-use Rattle.std.specs.Prelude.{◌≢◌, is_some, find}
+use Rattle.std.proofs.Common.{◌≡◌, ℕ, ◌+◌, ◌≤◌, inl, inr, min, true, false, List, [], ◌∷◌, map, Option, Some, None, refl, sym, ap, ap₂, subst, ◌∙◌, arith}
+use Rattle.std.specs.Prelude.{◌≢◌, is_some}
 use Rattle.std.specs.Ordering.{is_lt}
 use Rattle.std.proofs.lemmas.Bool.{false≢true, le-ltb}
 use Rattle.std.proofs.lemmas.List.Kept.{AllPairs-filter}
 use Rattle.std.proofs.lemmas.Slice.Eq.{bytes_eq-Decides}
-use Rattle.landing_rules.specs.Flights.{Active, Callsign, Flight, Landing, Schedule, Situation, horizon, is_waiting, landings, waiting}
+use Rattle.landing_rules.specs.Flights.{Active, Callsign, Flight, Schedule, Situation, horizon, is_waiting, landings, waiting}
 use Rattle.landing_rules.specs.Rules.{arrival_cmp, IsFeasible}
 use Rattle.landing_rules.specs.Events.{Clock, named, situation_after}
 use Rattle.landing_rules.specs.Sound.{IsSound}
