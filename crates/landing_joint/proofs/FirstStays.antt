@@ -1,11 +1,11 @@
 -- Of the flights that stay when the front of a plan freezes, the first in first-come order: whoever comes before it
 -- freezes, so its own leave to go back bounds how many behind it freeze, and so behind each that stays.
-use Rattle.std.proofs.Common.{◌≡◌, ℕ, ◌≤◌, inl, inr, List, [], ◌∷◌, Bool, true, false, not, nat_lt, arith, refl, sym, ap, subst, ◌∙◌}
-use Rattle.std.proofs.lemmas.Bool.{cases_Bool, cases_eq, cases_lt, ltb-true, lt-ltb, false≢true}
+use Rattle.std.proofs.Common.{◌≡◌, ◌≢◌, ℕ, ◌<◌, ◌≤◌, ◌&&◌, ◌∙◌, inl, inr, List, [], ◌∷◌, Bool, true, false, not, nat_lt, arith, refl, sym, ap, subst}
+use Rattle.std.proofs.lemmas.Bool.{cases_Bool, cases_eq, cases_lt, ltb-true, lt-ltb, le-ltb, and_parts, and_from, false≢true}
 use Rattle.cps_theory.specs.RankLists.{In}
 use Rattle.cps_theory.specs.Freeze.{FirstCome, KeepsShift, frozen_of, overtook, staying_of}
-use Rattle.cps_theory.specs.laws.Members.{in_filter}
-use Rattle.cps_theory.specs.laws.RankCounts.{count_is, count_none, count_parts, count_split, count_weaker}
+use Rattle.cps_theory.specs.laws.Members.{filter_in, in_filter}
+use Rattle.cps_theory.specs.laws.RankCounts.{count, count_filter, count_stricter, count_is, count_none, count_parts, count_split, count_weaker}
 
 module _ (comes_before : ℕ → ℕ → Bool) (order : FirstCome comes_before) where
   not_before_itself : (f : ℕ) → comes_before f f ≡ false
@@ -100,3 +100,52 @@ module _ (comes_before : ℕ → ℕ → Bool) (order : FirstCome comes_before) 
         let a = fewer_overtook f r.0 ahead in
         let b = few_overtook_first r.0 r.1 r.2 in
         (r.0, r.1, ahead, omega arith)
+
+  -- ---- where none may go back by more than one place
+
+  module _ (t : ℕ → ℕ) (waiting : List ℕ) (k : ℕ) (back : ℕ → ℕ) (shift : (f : ℕ) → In f waiting → KeepsShift k back comes_before t waiting f) (one : (f : ℕ) → In f waiting → back f ≤ 1) (apart : (f g : ℕ) → In f waiting → In g waiting → f ≢ g → t f ≢ t g) where
+    staying : (h f : ℕ) → In f waiting → h ≤ t f → In f (staying_of t h waiting)
+    staying h f i le = filter_in (λ x. not (nat_lt (t x) h)) f waiting i (ap not (le-ltb (t f) h le))
+
+    overtook_is : (h f : ℕ) → overtook comes_before t h waiting f ≡ count (λ g. nat_lt (t g) h && comes_before f g) waiting
+    overtook_is h f = count_is (λ g. comes_before f g) (frozen_of t h waiting) ∙ count_filter (λ g. comes_before f g) (λ g. nat_lt (t g) h) waiting
+
+    -- those behind f that land before h land before m too, behind m; and so does f, if it is another
+    module _ (h f m : ℕ) (i : In f waiting) (j : In m waiting) (stays_f : h ≤ t f) (later : t f ≤ t m) (ahead : comes_before f m ≡ false) where
+      among : (g : ℕ) → (nat_lt (t g) h && comes_before f g) ≡ true → (nat_lt (t g) (t m) && comes_before m g) ≡ true
+      among g e =
+          let p = and_parts (nat_lt (t g) h) (comes_before f g) e in
+          let lt = ltb-true (t g) h p.0 in
+          and_from (nat_lt (t g) (t m)) (comes_before m g) (lt-ltb (t g) (t m) (omega arith)) (behind_both f m g ahead p.1)
+
+      as_many : overtook comes_before t h waiting f ≤ overtook comes_before t (t m) waiting m
+      as_many =
+          let w = count_weaker (λ g. nat_lt (t g) h && comes_before f g) (λ g. nat_lt (t g) (t m) && comes_before m g) waiting (λ g n e. among g e) in
+          let a = overtook_is h f in
+          let b = overtook_is (t m) m in
+          omega arith
+
+      more : f ≢ m → overtook comes_before t h waiting f < overtook comes_before t (t m) waiting m
+      more ne =
+          let apart' = apart f m i j ne in
+          let out : (nat_lt (t f) h && comes_before f f) ≡ false = ap (λ b. b && comes_before f f) (le-ltb (t f) h stays_f) in
+          let within = and_from (nat_lt (t f) (t m)) (comes_before m f) (lt-ltb (t f) (t m) (omega arith)) (order.total f m ne ahead) in
+          let w = count_stricter (λ g. nat_lt (t g) h && comes_before f g) (λ g. nat_lt (t g) (t m) && comes_before m g) f waiting i out within (λ g n e. among g e) in
+          let a = overtook_is h f in
+          let b = overtook_is (t m) m in
+          omega arith
+
+    -- each that stays bounds by itself those that freeze behind it
+    pub few_overtook_itself : (h f : ℕ) → In f waiting → h ≤ t f → overtook comes_before t h waiting f ≤ back f
+    few_overtook_itself h f i le =
+        let f_in = staying (t f) f i (omega arith) in
+        let r = first_in f (staying_of t (t f) waiting) f_in in
+        let m = r.0 in
+        let at = stays t waiting k (t f) back shift m r.1 in
+        let later = at.1 in
+        let few = few_overtook_first t waiting k (t m) back shift m (staying (t m) m at.0 (omega arith)) (λ y n. r.2 y (let w = stays t waiting k (t m) back shift y n in let x = w.1 in staying (t f) y w.0 (omega arith))) in
+        let low = one m at.0 in
+        elim (cases_eq f m) [
+          | inl e ↦ (let a = as_many h f m i at.0 le later (r.2 f f_in) in let b = ap back e in omega arith)
+          | inr ne ↦ (let a = more h f m i at.0 le later (r.2 f f_in) ne in omega arith)
+        ]
