@@ -15,12 +15,12 @@ use Rattle.landing_rules.specs.Events.{Event, Estimate, Cancel, Add, Close, Reop
 use Rattle.landing_rules.specs.Sound.{IsSound, IsSoundState, IsGoodEvent}
 use Rattle.landing_rules.specs.shared.Counting.{cases}
 use Rattle.landing_rules.specs.shared.Ranks.{arrival_total}
-use Rattle.landing_joint.specs.PassedOver.{waiting_flight, waits_in, is_ahead, stands_ahead, StaysInLine, StaysInLineThrough, ArePassedAtLeast, passing_by_event, passing_flight, passing_in_step, passing_in_run, FewPassLaw, FewPassLaterLaw, IsFirstInLine, FewPassFirstLaw}
+use Rattle.landing_joint.specs.PassedOver.{waiting_flight, waits_in, is_ahead, stands_ahead, StaysInLine, StaysInLineThrough, ArePassedAtLeast, passing_by_event, passing_flight, passing_in_step, passing_in_run, FewPassLaw, FewPassLaterLaw, IsFirstInLine, FewPassFirstLaw, FewPassAnyoneLaw}
 use Rattle.landing_joint.proofs.Members.{Member, all_at, all_from, differ_of, in_filter, filter_in, in_map, in_push, none_any, one_of_name}
 use Rattle.landing_joint.proofs.Joint.{level-callsign}
 use Rattle.landing_joint.proofs.FlightSteps.{add_parts, estimate_callsign, estimate_frozen, named_is}
 use Rattle.landing_joint.proofs.StepLaws.{event_keeps_sound, step_keeps_sound}
-use Rattle.landing_joint.proofs.PassedOver.{found, is_found, some_flight, same_some, clock_counts}
+use Rattle.landing_joint.proofs.PassedOver.{found, is_found, some_flight, same_some, clock_counts, clock_counts_exactly}
 
 -- ---- first-come order
 
@@ -256,3 +256,55 @@ few_pass_first old events answers c f sound carry good run here first rest =
     let same = ap (λ (z : Active). z.passed) (same_some f b (sym here ∙ e) ∙ alone_ahead s sound.situation c b x e first m q) in
     omega arith) in
     few_pass_later old events answers c f.passed sound carry good run first.waits (stays_in_line c old answers rest) least
+
+-- ---- where k is at most 1
+
+-- the count of a flight that waits before and after tells those that pass it
+abbrev CountsExactly : State → Event → Option Refusal → State → Callsign → Type 0
+CountsExactly old e answer new c = (f g : Active) → waiting_flight old.situation c ≡ Some f → waiting_flight new.situation c ≡ Some g → g.passed ≡ f.passed + passing_in_step old e answer c
+
+by_same_counts : (s new : Situation) (plan : Option Schedule) (e : Event) (c : Callsign) → SameCounts s new → ((f : Flight) → passing_by_event (state_of s plan) e f ≡ 0) → CountsExactly (state_of s plan) e None (state_of new plan) c
+by_same_counts s new plan e c same none f g here later =
+    let mf = found s c f here in
+    let mg = found new c g later in
+    let p = same g f mg.0 mf.0 (mf.1 ∙ sym mg.1) in
+    let z = none_pass (state_of s plan) e none (waiting_flight s c) in
+    omega arith
+
+clock_exactly : (s : Situation) (plan : Option Schedule) (now : ℕ) (c : Callsign) → IsSound s → ((t : Schedule) → plan ≡ Some t → IsFeasible s t) → s.aerodrome.carry ≡ true → s.aerodrome.k ≤ 1 → refusal s (Clock now) ≡ None →
+    CountsExactly (state_of s plan) (Clock now) None (state_of (situation_after s plan (Clock now)) plan) c
+clock_exactly s None now c sound feasible carry low ok f g here later = by_same_counts s (situation_after s None (Clock now)) None (Clock now) c (same_active s (situation_after s None (Clock now)) sound refl) (λ f. refl) f g here later
+clock_exactly s (Some t) now c sound feasible carry low ok f g here later =
+    clock_counts_exactly s t now c f g sound carry low (feasible t refl) ok here later ∙ ap (λ o. f.passed + passing_flight (state_of s (Some t)) (Clock now) o) (sym here)
+
+event_exactly : (s : Situation) (plan : Option Schedule) (e : Event) (c : Callsign) → IsSound s → ((t : Schedule) → plan ≡ Some t → IsFeasible s t) → s.aerodrome.carry ≡ true → s.aerodrome.k ≤ 1 → refusal s e ≡ None →
+    CountsExactly (state_of s plan) e None (state_of (situation_after s plan e) plan) c
+event_exactly s plan (Estimate d eta windows) c sound feasible carry low ok = by_same_counts s (situation_after s plan (Estimate d eta windows)) plan (Estimate d eta windows) c (same_estimated s plan d eta windows sound) (λ f. refl)
+event_exactly s plan (Cancel d) c sound feasible carry low ok = by_same_counts s (situation_after s plan (Cancel d)) plan (Cancel d) c (same_cancelled s plan d sound) (λ f. refl)
+event_exactly s plan (Add x) c sound feasible carry low ok = by_same_counts s (situation_after s plan (Add x)) plan (Add x) c (same_added s plan x sound ok) (λ f. refl)
+event_exactly s plan (Close span) c sound feasible carry low ok = by_same_counts s (situation_after s plan (Close span)) plan (Close span) c (same_active s (situation_after s plan (Close span)) sound refl) (λ f. refl)
+event_exactly s plan (Reopen span) c sound feasible carry low ok = by_same_counts s (situation_after s plan (Reopen span)) plan (Reopen span) c (same_active s (situation_after s plan (Reopen span)) sound refl) (λ f. refl)
+event_exactly s plan (Clock now) c sound feasible carry low ok = clock_exactly s plan now c sound feasible carry low ok
+
+step_exactly : (old new : State) (e : Event) (answer : Option Refusal) (c : Callsign) → IsSoundState old → Step old e answer new → old.situation.aerodrome.carry ≡ true → old.situation.aerodrome.k ≤ 1 → CountsExactly old e answer new c
+step_exactly old new e (Some r) c sound step carry low f g here later =
+    let same = ap (λ (z : Active). z.passed) (same_some f g (sym here ∙ ap (λ (s : State). waiting_flight s.situation c) (sym step.effect) ∙ later)) in
+    omega arith
+step_exactly old new e None c sound step carry low f g here later =
+    event_exactly old.situation old.plan e c sound.situation (λ t q. (subst (IsPlanShown old.situation) q sound.shown).0.feasible) carry low (sym step.answered) f g here (ap (λ s. waiting_flight s c) (sym step.effect.changed) ∙ later)
+
+pub few_pass_anyone : FewPassAnyoneLaw
+few_pass_anyone old [] answers c f sound carry low good run here waited =
+    let s = old.situation in
+    let most = all_at (λ (x : Active). x.passed ≤ s.aerodrome.k) s.active f sound.situation.passed (in_filter is_waiting s.active f (found s c f here).0).0 in
+    omega arith
+few_pass_anyone old (e ∷ events) [] c f sound carry low good run here waited = absurd run
+few_pass_anyone old (e ∷ events) (a ∷ answers) c f sound carry low good run here waited =
+    let next = step_keeps_sound old a.state e a.answer sound (All-head IsGoodEvent e events good) run.0 in
+    let same = step_aerodrome old a.state e a.answer run.0 in
+    let waits = λ (a : Answered). waits_in a.state.situation c ≡ true in
+    let g = some_flight a.state.situation c (All-head waits a answers waited) in
+    let now = step_exactly old a.state e a.answer c sound run.0 carry low f g.0 here g.1 in
+    let k = ap (λ (x : Aerodrome). x.k) same in
+    let rest = few_pass_anyone a.state events answers c g.0 next (ap (λ (x : Aerodrome). x.carry) same ∙ carry) (omega arith) (All-tail IsGoodEvent e events good) run.1 g.1 (All-tail waits a answers waited) in
+    omega arith

@@ -14,11 +14,11 @@ use Rattle.cps_theory.specs.Freeze.{KeepsShift, overtook, staying_of}
 use Rattle.cps_theory.specs.NumberedSituation as numbers
 use Rattle.cps_theory.specs.laws.Members.{filter_in, in_filter}
 use Rattle.landing_joint.specs.Numbered.{numbered, second_of, numbers_of, waits_at, comes_before, numbered_situation}
-use Rattle.landing_joint.specs.PassedOver.{waiting_flight, waits_in, count_passing, ArePassedAtLeast, ClockCounts, ClockCountsLaw}
+use Rattle.landing_joint.specs.PassedOver.{waiting_flight, waits_in, count_passing, ArePassedAtLeast, ClockCounts, ClockCountsLaw, ClockCountsExactlyLaw}
 use Rattle.landing_joint.proofs.Members.{Member, Differ, callsigns, all_at, all_from, differ_of, found_in, none_found, one_of_name}
 use Rattle.landing_joint.proofs.FlightSteps.{named_is}
-use Rattle.landing_joint.proofs.FirstStays.{bound_overtook, fewer_overtook}
-use Rattle.landing_joint.proofs.Joint.{comes_is, feasible_numbered, first_come, passed_low}
+use Rattle.landing_joint.proofs.FirstStays.{bound_overtook, few_overtook_itself, fewer_overtook}
+use Rattle.landing_joint.proofs.Joint.{all_among, comes_is, feasible_numbered, first_come, passed_low}
 use Rattle.landing_joint.proofs.Clock.{at_after, forth_of, late_after, passing_is, same_flight, waiting_after, waiting_before, waiting_changed}
 
 -- ---- the flight of a name
@@ -119,8 +119,17 @@ module _ (s : Situation) (sound : IsSound s) (t : Schedule) (ok : IsFeasible s t
   flight_at : (y : Active) (i : ℕ) → In i stay → y ≡ numbered changed.active i → y.flight ≡ (numbered s.active i).flight
   flight_at y i m e = ap (λ (a : Active). a.flight) e ∙ same_flight s sound t ok now forth i (stays i m).0
 
+  -- no two of those that wait land at one second
+  seconds_differ : (i j : ℕ) → In i ns.waiting → In j ns.waiting → i ≢ j → second_of t i ≢ second_of t j
+  seconds_differ i j m n ne e =
+      let a = all_among s sound i (in_filter (waits_at s.active) i (numbers_of s.active) m).0 in
+      let b = all_among s sound j (in_filter (waits_at s.active) j (numbers_of s.active) n).0 in
+      let gap = (feasible_numbered s sound t ok.0 ok).separated i j a b ne (omega arith) in
+      let least = (sound.table.entries (numbered s.active i).flight.category (numbered s.active j).flight.category).0 in
+      omega arith
+
   -- f is one that stays, and its number counts the same
-  module _ (c : Callsign) (f : Active) (g : ℕ) (here : waiting_flight s c ≡ Some f) (later : waits_in changed c ≡ true) (least : ArePassedAtLeast g s c) where
+  module _ (c : Callsign) (f : Active) (here : waiting_flight s c ≡ Some f) (later : waits_in changed c ≡ true) where
     abbrev passing : ℕ
     passing = count_passing h (landings s.active t) f.flight
 
@@ -144,10 +153,10 @@ module _ (s : Situation) (sound : IsSound s) (t : Schedule) (ok : IsFeasible s t
           },
         )
 
-    module _ (i : ℕ) (n : Named i) where
-      passing_are : passing ≡ over i
-      passing_are = ap (λ (a : Active). count_passing h (landings s.active t) a.flight) n.was ∙ passing_is s sound t ok now forth i (stays i n.stays).0
+    passing_are : (i : ℕ) → Named i → passing ≡ over i
+    passing_are i n = ap (λ (a : Active). count_passing h (landings s.active t) a.flight) n.was ∙ passing_is s sound t ok now forth i (stays i n.stays).0
 
+    module _ (g : ℕ) (least : ArePassedAtLeast g s c) (i : ℕ) (n : Named i) where
       -- who does not stand behind by number does not by arrival
       behind_are : (x : ℕ) → In x ns.waiting → comes_before s.active i x ≡ is_lt (arrival_cmp f.flight (numbered s.active x).flight)
       behind_are x m =
@@ -164,20 +173,38 @@ module _ (s : Situation) (sound : IsSound s) (t : Schedule) (ok : IsFeasible s t
           let b = flight_at y x.0 x.1 x.2 in
           let not_behind = behind_are x.0 (waited x.0 x.1) ∙ ap₂ (λ p q. is_lt (arrival_cmp p q)) (sym a) (sym b) ∙ ahead in
           let few = counted_numbers g i n.stays least_numbers x.0 x.1 not_behind in
-          let p = passing_are in
+          let p = passing_are i n in
           let e = ap (λ (z : Active). z.passed) x.2 in
           omega arith
 
       counts : ClockCounts s t now c f g
       counts = record {
-        few = (let a = few_numbers g i n.stays least_numbers in let p = passing_are in omega arith);
+        few = (let a = few_numbers g i n.stays least_numbers in let p = passing_are i n in omega arith);
         counted = λ b e. all_from (λ (y : Active). is_lt (arrival_cmp b.flight y.flight) ≡ false → g + passing ≤ y.passed) (waiting changed) (λ y m ahead.
             let same = same_some b (numbered changed.active i) (sym e ∙ n.is) in
             counted_each y m (ap (λ (a : Active). is_lt (arrival_cmp a.flight y.flight)) (sym same) ∙ ahead));
       }
 
-    pub clock_counts_at : ClockCounts s t now c f g
-    clock_counts_at = let n = named_number in counts n.0 n.1
+    pub clock_counts_at : (g : ℕ) → ArePassedAtLeast g s c → ClockCounts s t now c f g
+    clock_counts_at g least = let n = named_number in counts g least n.0 n.1
+
+    -- where k is at most 1, its own leave to go back bounds those that pass it, so that its count tells them
+    pub counts_exactly : s.aerodrome.k ≤ 1 → (b : Active) → waiting_flight changed c ≡ Some b → b.passed ≡ f.passed + passing
+    counts_exactly low b e =
+        let n = named_number in
+        let i = n.0 in
+        let w = stays i n.1.stays in
+        let few = few_overtook_itself (comes_before s.active) (first_come s.active) (second_of t) ns.waiting s.aerodrome.k ns.back shifted (λ x m. omega arith) seconds_differ h i (waited i n.1.stays) w.2 in
+        let p = passed_low s sound t ok.0 i w.0 in
+        let a = counted_after i n.1.stays in
+        let same = ap (λ (z : Active). z.passed) (same_some b (numbered changed.active i) (sym e ∙ n.1.is)) in
+        let was = ap (λ (z : Active). z.passed) n.1.was in
+        let over_is = passing_are i n.1 in
+        omega arith
 
 pub clock_counts : ClockCountsLaw
-clock_counts s t now c f g sound carry ok e here later least = clock_counts_at s sound t ok now (forth_of s.clock now s.aerodrome.freeze e) carry c f g here later least
+clock_counts s t now c f g sound carry ok e here later least = clock_counts_at s sound t ok now (forth_of s.clock now s.aerodrome.freeze e) carry c f here later g least
+
+pub clock_counts_exactly : ClockCountsExactlyLaw
+clock_counts_exactly s t now c f g sound carry low ok e here later =
+    counts_exactly s sound t ok now (forth_of s.clock now s.aerodrome.freeze e) carry c f here (ap is_some later) low g later

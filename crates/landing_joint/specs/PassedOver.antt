@@ -103,3 +103,15 @@ pub record IsFirstInLine (c : Callsign) (s : Situation) : Type 0 where
 abbrev pub FewPassFirstLaw : Type 0
 FewPassFirstLaw = (old : State) (events : List Event) (answers : List Answered) (c : Callsign) (f : Active) → IsSoundState old → old.situation.aerodrome.carry ≡ true → All IsGoodEvent events → Run old events answers →
     waiting_flight old.situation c ≡ Some f → IsFirstInLine c old.situation → All (λ a. IsFirstInLine c a.state.situation) answers → f.passed + passing_in_run old events answers c ≤ old.situation.aerodrome.k
+
+-- ---- where k is at most 1
+
+-- by any feasible plan a clock event raises the count of a flight that waits on by those that pass it
+abbrev pub ClockCountsExactlyLaw : Type 0
+ClockCountsExactlyLaw = (s : Situation) (t : Schedule) (now : ℕ) (c : Callsign) (f g : Active) → IsSound s → s.aerodrome.carry ≡ true → s.aerodrome.k ≤ 1 → IsFeasible s t → refusal s (Clock now) ≡ None →
+    waiting_flight s c ≡ Some f → waiting_flight (situation_after s (Some t) (Clock now)) c ≡ Some g → g.passed ≡ f.passed + count_passing (now + s.aerodrome.freeze) (landings s.active t) f.flight
+
+-- so a flight that stays waiting through a run is passed by at most k flights, whoever comes to stand ahead of it
+abbrev pub FewPassAnyoneLaw : Type 0
+FewPassAnyoneLaw = (old : State) (events : List Event) (answers : List Answered) (c : Callsign) (f : Active) → IsSoundState old → old.situation.aerodrome.carry ≡ true → old.situation.aerodrome.k ≤ 1 → All IsGoodEvent events → Run old events answers →
+    waiting_flight old.situation c ≡ Some f → All (λ a. IsTrue (waits_in a.state.situation c)) answers → f.passed + passing_in_run old events answers c ≤ old.situation.aerodrome.k
