@@ -6,4 +6,5 @@ pub mod StepLaws
 pub mod ProblemLaws
 pub mod Shift
 pub mod PassedOver
+pub mod PassedExamples
 pub mod shared

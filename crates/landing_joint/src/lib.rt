@@ -3,4 +3,5 @@
 //! function without a body.
 #![tactic(auto)]
 
+pub mod examples;
 pub mod laws;
