@@ -15,7 +15,7 @@ use Rattle.landing_rules.specs.Events.{Event, Estimate, Cancel, Add, Close, Reop
 use Rattle.landing_rules.specs.Sound.{IsSound, IsSoundState, IsGoodEvent}
 use Rattle.landing_rules.specs.shared.Counting.{cases}
 use Rattle.landing_rules.specs.shared.Ranks.{arrival_total}
-use Rattle.landing_joint.specs.PassedOver.{waiting_flight, waits_in, is_ahead, stands_ahead, StaysInLine, StaysInLineThrough, ArePassedAtLeast, passing_by_event, passing_flight, passing_in_step, passing_in_run, FewPassLaw, FewPassLaterLaw, IsFirstInLine, FewPassFirstLaw, FewPassAnyoneLaw}
+use Rattle.landing_joint.specs.PassedOver.{waiting_flight, waits_in, is_ahead, stands_ahead, StaysInLine, StaysInLineThrough, ArePassedAtLeast, passing_by_event, passing_flight, passing_in_step, passing_in_run, StepCountsLaw, FewPassLaw, FewPassLaterLaw, IsFirstInLine, FewPassFirstLaw, FewPassAnyoneLaw}
 use Rattle.landing_joint.proofs.Members.{Member, all_at, all_from, differ_of, in_filter, filter_in, in_map, in_push, none_any, one_of_name}
 use Rattle.landing_joint.proofs.Joint.{level-callsign}
 use Rattle.landing_joint.proofs.FlightSteps.{add_parts, estimate_callsign, estimate_frozen, named_is}
@@ -210,14 +210,22 @@ run_counted old (e ∷ events) (a ∷ answers) c g sound carry good run here lin
     omega arith
 
 -- a count that each has is no more than k
-pub few_pass_later : FewPassLaterLaw
-few_pass_later old events answers c g sound carry good run here line least =
-    let s = old.situation in
+least_low : (s : Situation) → IsSound s → (c : Callsign) (g : ℕ) → waits_in s c ≡ true → ArePassedAtLeast g s c → g ≤ s.aerodrome.k
+least_low s sound c g here least =
     let f = some_flight s c here in
     let m = found s c f.0 f.1 in
     let own = all_at (λ (x : Active). is_lt (arrival_cmp f.0.flight x.flight) ≡ false → g ≤ x.passed) (waiting s) f.0 (least f.0 f.1) m.0 (not_lt_itself f.0.flight) in
-    let most = all_at (λ (x : Active). x.passed ≤ s.aerodrome.k) s.active f.0 sound.situation.passed (in_filter is_waiting s.active f.0 m.0).0 in
-    run_counted old events answers c g sound carry good run here line (omega arith, least)
+    let most = all_at (λ (x : Active). x.passed ≤ s.aerodrome.k) s.active f.0 sound.passed (in_filter is_waiting s.active f.0 m.0).0 in
+    omega arith
+
+pub step_counts : StepCountsLaw
+step_counts old new e answer c g sound carry good step here line least =
+    let r = step_counted old new e answer c g sound good step carry here line (least_low old.situation sound.situation c g here least, least) in
+    record { few = r.0; counted = r.1 }
+
+pub few_pass_later : FewPassLaterLaw
+few_pass_later old events answers c g sound carry good run here line least =
+    run_counted old events answers c g sound carry good run here line (least_low old.situation sound.situation c g here least, least)
 
 pub few_pass : FewPassLaw
 few_pass old events answers c sound carry good run here line =

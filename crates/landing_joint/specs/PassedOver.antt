@@ -4,7 +4,7 @@ use Rattle.std.specs.Prelude.{◌≡◌, ℕ, ◌+◌, ◌≤◌, ⊤, Bool, tru
 use Rattle.std.specs.Ordering.{is_lt}
 use Rattle.landing_rules.specs.Flights.{Callsign, Flight, Active, Situation, Schedule, Landing, landings, waiting}
 use Rattle.landing_rules.specs.Rules.{arrival_cmp, IsFeasible}
-use Rattle.landing_rules.specs.Events.{Event, Clock, Refusal, named, freezes, State, Answered, Run, refusal, situation_after}
+use Rattle.landing_rules.specs.Events.{Event, Clock, Refusal, named, freezes, State, Step, Answered, Run, refusal, situation_after}
 use Rattle.landing_rules.specs.Sound.{IsSound, IsSoundState, IsGoodEvent}
 
 -- ---- who waits, and who stands ahead
@@ -83,6 +83,15 @@ abbrev pub ClockCountsLaw : Type 0
 ClockCountsLaw = (s : Situation) (t : Schedule) (now : ℕ) (c : Callsign) (f : Active) (g : ℕ) → IsSound s → s.aerodrome.carry ≡ true → IsFeasible s t → refusal s (Clock now) ≡ None →
     waiting_flight s c ≡ Some f → IsTrue (waits_in (situation_after s (Some t) (Clock now)) c) → ArePassedAtLeast g s c → ClockCounts s t now c f g
 
+-- so through any step, whatever the event and its answer
+pub record StepCounts (old : State) (e : Event) (answer : Option Refusal) (new : State) (c : Callsign) (g : ℕ) : Type 0 where
+  pub few : g + passing_in_step old e answer c ≤ old.situation.aerodrome.k
+  pub counted : ArePassedAtLeast (g + passing_in_step old e answer c) new.situation c
+
+abbrev pub StepCountsLaw : Type 0
+StepCountsLaw = (old new : State) (e : Event) (answer : Option Refusal) (c : Callsign) (g : ℕ) → IsSoundState old → old.situation.aerodrome.carry ≡ true → IsGoodEvent e → Step old e answer new →
+    IsTrue (waits_in old.situation c) → StaysInLine c old.situation new.situation → ArePassedAtLeast g old.situation c → StepCounts old e answer new c g
+
 -- with the carry, a flight that stays in line through a run is passed by at most k flights
 abbrev pub FewPassLaw : Type 0
 FewPassLaw = (old : State) (events : List Event) (answers : List Answered) (c : Callsign) → IsSoundState old → old.situation.aerodrome.carry ≡ true → All IsGoodEvent events → Run old events answers →
@@ -98,8 +107,8 @@ pub record IsFirstInLine (c : Callsign) (s : Situation) : Type 0 where
   pub waits : IsTrue (waits_in s c)
   pub nobody : (d : Callsign) → stands_ahead s d c ≡ false
 
--- so of a flight that is first in first-come order and stays so, whoever is added: those that passed it before and
--- those of the run are at most k together
+-- so of a flight that is first in first-come order before and after each step: those that passed it before and those
+-- of the run are at most k together
 abbrev pub FewPassFirstLaw : Type 0
 FewPassFirstLaw = (old : State) (events : List Event) (answers : List Answered) (c : Callsign) (f : Active) → IsSoundState old → old.situation.aerodrome.carry ≡ true → All IsGoodEvent events → Run old events answers →
     waiting_flight old.situation c ≡ Some f → IsFirstInLine c old.situation → All (λ a. IsFirstInLine c a.state.situation) answers → f.passed + passing_in_run old events answers c ≤ old.situation.aerodrome.k

@@ -3,7 +3,7 @@
 ghost use Rattle.landing_joint.specs.ProblemLaws.{ListGivesScheduleLaw, ScheduleGivesListLaw, SameObjectiveLaw, BestListLaw, TightListLaw, NoListLaw};
 ghost use Rattle.landing_joint.specs.ClockLaws.{ClockKeepsPlanLaw, ClockShowsPlanLaw, ClockKeepsSoundLaw};
 ghost use Rattle.landing_joint.specs.StepLaws.{EventKeepsSoundLaw, StepKeepsSoundLaw, RunKeepsSoundLaw};
-ghost use Rattle.landing_joint.specs.PassedOver.{ClockCountsLaw, FewPassLaw, FewPassLaterLaw, FewPassFirstLaw, ClockCountsExactlyLaw, FewPassAnyoneLaw};
+ghost use Rattle.landing_joint.specs.PassedOver.{ClockCountsLaw, StepCountsLaw, FewPassLaw, FewPassLaterLaw, FewPassFirstLaw, ClockCountsExactlyLaw, FewPassAnyoneLaw};
 ghost use Rattle.landing_joint.specs.Shift.{MoreShiftLaw, MoreShiftIsNoWorseLaw, LessShiftIsInfeasibleLaw};
 
 /// The feasible schedules of a sound situation are its frozen landings joined with a feasible list of its problem, with
@@ -42,11 +42,13 @@ pub fn more_shift_is_never_worse()
 {}
 
 /// With the carry, a flight that stays waiting through some steps of a run, in which nobody comes to stand ahead of it
-/// who did not before, is passed by at most k flights in all of them together: so many behind it freeze ahead of it. One
-/// clock event keeps this by any feasible plan. Of a flight that is first in line and stays so, those that passed it
-/// before count too. Where k is at most 1, nothing is asked of who comes to stand ahead.
+/// who did not before, is passed by at most k flights in all of them together: these stand behind it and freeze while it
+/// waits on. One clock event keeps this by any feasible plan, and each step by the plan shown. Of a flight that is first
+/// in line and stays so, those that passed it before count too. Where k is at most 1, nothing is asked of who comes to
+/// stand ahead.
 pub fn few_pass_a_waiting_flight()
     ensures clock { ClockCountsLaw }
+    ensures step { StepCountsLaw }
     ensures run { FewPassLaw }
     ensures later { FewPassLaterLaw }
     ensures first { FewPassFirstLaw }
