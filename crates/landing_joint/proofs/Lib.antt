@@ -11,3 +11,4 @@ pub mod FlightSteps
 pub mod ClosureSteps
 pub mod StepLaws
 pub mod RefusedSteps
+pub mod FirstBest

@@ -4,5 +4,6 @@ pub mod ByNumber
 pub mod ClockLaws
 pub mod StepLaws
 pub mod ProblemLaws
+pub mod FirstBestLaws
 pub mod Shift
 pub mod shared

@@ -2,3 +2,5 @@
 pub mod FirstOpen
 pub mod RankedLists
 pub mod BestLists
+pub mod SortedBySeconds
+pub mod FirstBestLists

@@ -1,6 +1,7 @@
 //! What holds of every situation, problem and clock event.
 
 ghost use Rattle.landing_joint.specs.ProblemLaws.{ListGivesScheduleLaw, ScheduleGivesListLaw, SameObjectiveLaw, BestListLaw, TightListLaw, NoListLaw};
+ghost use Rattle.landing_joint.specs.FirstBestLaws.{FirstBestListLaw, FirstBestIsOneLaw, FirstBestObjectiveLaw};
 ghost use Rattle.landing_joint.specs.ClockLaws.{ClockKeepsPlanLaw, ClockShowsPlanLaw, ClockKeepsSoundLaw};
 ghost use Rattle.landing_joint.specs.StepLaws.{EventKeepsSoundLaw, StepKeepsSoundLaw, RunKeepsSoundLaw};
 ghost use Rattle.landing_joint.specs.Shift.{MoreShiftLaw, MoreShiftIsNoWorseLaw, LessShiftIsInfeasibleLaw};
@@ -14,6 +15,14 @@ pub fn problem_stands_for_situation()
     ensures best { BestListLaw }
     ensures tight { TightListLaw }
     ensures none { NoListLaw }
+{}
+
+/// The first best schedule of a sound situation is its frozen landings joined with a first best list of its problem. It is
+/// one, so its plan block is one text, and it costs what every best schedule costs.
+pub fn first_best_schedule_is_one()
+    ensures list { FirstBestListLaw }
+    ensures one { FirstBestIsOneLaw }
+    ensures objective { FirstBestObjectiveLaw }
 {}
 
 /// An accepted clock event that finds a plan shown keeps it feasible with an equal objective, shows a plan again that is
