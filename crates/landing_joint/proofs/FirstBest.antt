@@ -21,11 +21,12 @@ use Rattle.cps_theory.specs.laws.ProblemOfSituation as theory
 use Rattle.cps_theory.specs.laws.RankCounts.{count_is, count_stricter}
 use Rattle.landing_joint.specs.Numbered.{numbered, second_of, numbers_of, waits_at, comes_before, numbered_situation}
 use Rattle.landing_joint.specs.ByNumber.{number_at, joined}
-use Rattle.landing_joint.specs.RankedProblem.{ranked}
+use Rattle.landing_joint.specs.RankedProblem.{no_waiting, ranked}
+use Rattle.landing_joint.specs.SoundProblem.{IsSoundProblem}
 use Rattle.landing_joint.specs.shared.RankedLists.{each_at, list_feasible, sound_ranked}
 use Rattle.landing_joint.specs.shared.BestLists.{zip_of}
 use Rattle.landing_joint.specs.shared.SortedBySeconds.{in_sorted_by, sorted_by_in, sorted_by_ascends, filter_ascends, in_map, map_in, map_ascends, map_one, ascends_same}
-use Rattle.landing_joint.specs.shared.FirstBestLists.{zip_get, no_later_antisym, list_in_landing_order, one_landing_order}
+use Rattle.landing_joint.specs.shared.FirstBestLists.{zip_get, zip_same, first_best_list_exists, first_best_list_is_one, no_later_antisym, list_in_landing_order, one_landing_order}
 use Rattle.landing_joint.proofs.Numbered.{landing_at, landings_are}
 use Rattle.landing_joint.proofs.Joint.{all_among, among, feasible_numbered, first_come, sound_numbered}
 use Rattle.landing_joint.proofs.JoinedSchedule.{map_agree, rank_is, tight_list_schedule}
@@ -44,12 +45,6 @@ order_insert all t i (j ∷ js) = go (nat_lt (second_of t j) (second_of t i)) (o
 order_numbers : (all : List Active) (t : Schedule) (js : List ℕ) → in_landing_order (map (landing_at all t) js) ≡ map (landing_at all t) (sorted_by (second_of t) js)
 order_numbers all t [] = refl
 order_numbers all t (j ∷ js) = ap (insert_landing (landing_at all t j)) (order_numbers all t js) ∙ order_insert all t j (sorted_by (second_of t) js)
-
-zip_same : (xs ys : List ℕ) → AllZip (λ a b. a ≤ b) xs ys → AllZip (λ a b. a ≤ b) ys xs → xs ≡ ys
-zip_same [] [] a b = refl
-zip_same [] (y ∷ ys) a b = absurd a
-zip_same (x ∷ xs) [] a b = absurd a
-zip_same (x ∷ xs) (y ∷ ys) a b = ap₂ (λ z l. z ∷ l) (le_antisymm a.0 b.0) (zip_same xs ys a.1 b.1)
 
 module _ (s : Situation) (sound : IsSound s) where
   abbrev ns : numbers.NumberedSituation
@@ -283,3 +278,45 @@ module _ (s : Situation) (sound : IsSound s) (p : lists'.Problem) (of : lists'.I
         subst (λ o. ComesNoLater (order_of s (joined s v)) o) (sym (ap (order_of s) w.2 ∙ joined_order w.0 w.1))
         (subst (λ o. ComesNoLater o (order_of_list w.0)) (sym (joined_order v b.best.feasible)) (b.first w.0 bw tw));
   }
+
+  passed_low : (r : ℕ) → IsRank (length p.flights) r → (of_rank no_waiting p.flights r).passed ≤ p.k
+  passed_low r q = joint.passed_low' s sound p of r q
+
+  -- where a schedule is feasible there is a first best one
+  pub first_best_schedule_exists : (t : Schedule) → IsFeasible s t → (v : Schedule) × IsFirstBestList p v × IsFirstBest s (joined s v)
+  first_best_schedule_exists t f =
+      let w = joint.schedule_gives_list s sound p of t f in
+      let v = first_best_list_exists p problem_sound passed_low w.0 w.1 in
+      (v.0, v.1, first_best_schedule v.0 v.1)
+
+  rank_at : (i : ℕ) (f : lists'.Waiting) → i < length p.flights → f ≡ get_or p.flights i no_waiting → f.passed ≤ p.k
+  rank_at i f lt e = let a = passed_low (suc i) (omega arith, omega arith) in let b = ap (λ (w : lists'.Waiting). w.passed) e in omega arith
+
+  same_at : {X : Type 0} (xs : List X) (i : ℕ) (d e : X) → i < length xs → get_or xs i d ≡ get_or xs i e
+  same_at [] i d e lt = absurd (omega arith)
+  same_at (x ∷ xs) zero d e lt = refl
+  same_at (x ∷ xs) (suc i) d e lt = same_at xs i d e (omega arith)
+
+  -- the problem of a sound situation is sound
+  pub sound_problem : IsSoundProblem p
+  sound_problem = record {
+    table = subst (λ t. IsWakeTable t) (sym of.table) sound.table;
+    between_ranks = of.between_ranks;
+    passed = λ i d lt. rank_at i (get_or p.flights i d) lt (same_at p.flights i d no_waiting lt);
+  }
+
+-- ---- of lists alone
+
+module _ (p : lists'.Problem) (is : IsSoundProblem p) where
+  ranked_sound : SoundProblem (ranked p)
+  ranked_sound = sound_ranked p is.table (λ q r e. let b = is.between_ranks q r e in (b.0, b.1))
+
+  passed_at : (r : ℕ) → IsRank (length p.flights) r → (of_rank no_waiting p.flights r).passed ≤ p.k
+  passed_at zero q = absurd (let a = q.0 in omega arith)
+  passed_at (suc i) q = is.passed i no_waiting (let a = q.1 in omega arith)
+
+  pub one_first_best_list : (v w : Schedule) → IsFirstBestList p v → IsFirstBestList p w → v ≡ w
+  one_first_best_list = first_best_list_is_one p ranked_sound passed_at
+
+  pub some_first_best_list : (v : Schedule) → lists'.IsFeasibleList p v → (w : Schedule) × IsFirstBestList p w
+  some_first_best_list = first_best_list_exists p ranked_sound passed_at

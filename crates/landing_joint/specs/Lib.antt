@@ -3,6 +3,7 @@ pub mod RankedProblem
 pub mod ByNumber
 pub mod ClockLaws
 pub mod StepLaws
+pub mod SoundProblem
 pub mod ProblemLaws
 pub mod FirstBestLaws
 pub mod Shift

@@ -1,7 +1,7 @@
 //! What holds of every situation, problem and clock event.
 
 ghost use Rattle.landing_joint.specs.ProblemLaws.{ListGivesScheduleLaw, ScheduleGivesListLaw, SameObjectiveLaw, BestListLaw, TightListLaw, NoListLaw};
-ghost use Rattle.landing_joint.specs.FirstBestLaws.{FirstBestListLaw, FirstBestIsOneLaw, FirstBestObjectiveLaw};
+ghost use Rattle.landing_joint.specs.FirstBestLaws.{FirstBestListLaw, FirstBestIsOneLaw, FirstBestObjectiveLaw, FirstBestExistsLaw, SoundProblemLaw, FirstBestListIsOneLaw, FirstBestListExistsLaw};
 ghost use Rattle.landing_joint.specs.ClockLaws.{ClockKeepsPlanLaw, ClockShowsPlanLaw, ClockKeepsSoundLaw};
 ghost use Rattle.landing_joint.specs.StepLaws.{EventKeepsSoundLaw, StepKeepsSoundLaw, RunKeepsSoundLaw};
 ghost use Rattle.landing_joint.specs.Shift.{MoreShiftLaw, MoreShiftIsNoWorseLaw, LessShiftIsInfeasibleLaw};
@@ -17,12 +17,22 @@ pub fn problem_stands_for_situation()
     ensures none { NoListLaw }
 {}
 
-/// The first best schedule of a sound situation is its frozen landings joined with a first best list of its problem. It is
-/// one, so its plan block is one text, and it costs what every best schedule costs.
+/// The first best schedule of a sound situation is its frozen landings joined with a first best list of its problem. There
+/// is one where a schedule is feasible. It is one, so its plan block is one text, and it costs what every best schedule
+/// costs.
 pub fn first_best_schedule_is_one()
     ensures list { FirstBestListLaw }
+    ensures exists { FirstBestExistsLaw }
     ensures one { FirstBestIsOneLaw }
     ensures objective { FirstBestObjectiveLaw }
+{}
+
+/// Where a list of seconds by rank is feasible for a sound problem there is a first best list, and it is one. The problem
+/// of a sound situation is sound.
+pub fn first_best_list_is_one()
+    ensures sound { SoundProblemLaw }
+    ensures exists { FirstBestListExistsLaw }
+    ensures one { FirstBestListIsOneLaw }
 {}
 
 /// An accepted clock event that finds a plan shown keeps it feasible with an equal objective, shows a plan again that is
