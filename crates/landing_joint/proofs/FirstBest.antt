@@ -308,10 +308,10 @@ module _ (s : Situation) (sound : IsSound s) (p : lists'.Problem) (of : lists'.I
 -- ---- of lists alone
 
 module _ (p : lists'.Problem) (is : IsSoundProblem p) where
-  ranked_sound : SoundProblem (ranked p)
+  pub ranked_sound : SoundProblem (ranked p)
   ranked_sound = sound_ranked p is.table (λ q r e. let b = is.between_ranks q r e in (b.0, b.1))
 
-  passed_at : (r : ℕ) → IsRank (length p.flights) r → (of_rank no_waiting p.flights r).passed ≤ p.k
+  pub passed_at : (r : ℕ) → IsRank (length p.flights) r → (of_rank no_waiting p.flights r).passed ≤ p.k
   passed_at zero q = absurd (let a = q.0 in omega arith)
   passed_at (suc i) q = is.passed i no_waiting (let a = q.1 in omega arith)
 

@@ -4,6 +4,8 @@ pub mod ByNumber
 pub mod ClockLaws
 pub mod StepLaws
 pub mod SoundProblem
+pub mod CompletingPairs
+pub mod LeastChoiceLaws
 pub mod ProblemLaws
 pub mod FirstBestLaws
 pub mod Shift

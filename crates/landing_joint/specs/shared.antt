@@ -4,3 +4,6 @@ pub mod RankedLists
 pub mod BestLists
 pub mod SortedBySeconds
 pub mod FirstBestLists
+pub mod NodePairs
+pub mod LeastChoices
+pub mod SuccessorPairs

@@ -109,7 +109,7 @@ module _ (p : lists'.Problem) (sound : SoundProblem (ranked p)) where
 
 -- ---- a map as a list
 
-pub list_of : ℕ → (ℕ → ℕ) → Schedule
+abbrev pub list_of : ℕ → (ℕ → ℕ) → Schedule
 list_of n t = map t (numbers_from 1 n)
 
 numbers_long : (t : ℕ → ℕ) (b n : ℕ) → length (map t (numbers_from b n)) ≡ n
@@ -122,11 +122,9 @@ numbers_get t b (suc n) zero lt = ap t (omega arith)
 numbers_get t b (suc n) (suc i) lt = numbers_get t (suc b) n i (omega arith) ∙ ap t (omega arith)
 
 pub list_of_long : (n : ℕ) (t : ℕ → ℕ) → length (list_of n t) ≡ n
-unfolding list_of
 list_of_long n t = numbers_long t 1 n
 
 pub list_of_at : (n : ℕ) (t : ℕ → ℕ) (r : ℕ) → IsRank n r → of_rank 0 (list_of n t) r ≡ t r
-unfolding list_of
 list_of_at n t zero q = absurd (let a = q.0 in omega arith)
 list_of_at n t (suc i) q = let a = q.1 in numbers_get t 1 n i (omega arith) ∙ ap t (omega arith)
 
