@@ -77,10 +77,10 @@ module _ (p : Problem) (sound : SoundProblem (ranked p)) (v : ℕ) (rs : List �
             (a.opened, reached, a.low, (a.rank, a.second, a.pair, permitted, a.lands, record { rank = a.rank; more = a.legal; at = at; by = a.second; reached = by; keeps = a.kept }, a.in_time, a.cost_is))
 
         enough : (b r x : ℕ) (o : Pair) → (ranked p).is_open (last_rank rs) b ≡ true → ReachedIn (ranked p) (pattern_node (ranked p).rules rs) b → is_low p v b ≡ true → PatternPermits (ranked p).rules (pattern_node (ranked p).rules rs) r → landing_after p (last_rank rs) b r ≡ Some x → KeepsBehind (pattern_push (ranked p).rules (pattern_node (ranked p).rules rs) r) o → x ≤ o.0 → (q : Pair) × New q × NoEarlierNoDearer q (b, cost_at p r x + o.1)
-        enough b r x o open reached low permitted lands k le =
+        enough b r x o opened reached low permitted lands k le =
             let same : k.rank ≡ r = ap (λ (w : PatternNode). w.2) k.at in
             c.cover (b, cost_at p r x + o.1) (record {
-              opened = open;
+              opened = opened;
               reached = by_reached p sound rs b legal reached;
               low = low;
               rank = r;
