@@ -1,8 +1,6 @@
 -- The first best list of a problem gives the first best schedule of its situation, and there is at most one.
-use Rattle.std.proofs.Common.{◌≡◌, ◌≢◌, ℕ, zero, suc, ◌+◌, ◌<◌, ◌≤◌, inl, inr, List, [], ◌∷◌, length, get_or, map, filter, cond, Bool, true, false, not, nat_lt, count_by, zero-le, le_antisymm, arith, refl, sym, ap, ap₂, subst, ◌∙◌}
-use Rattle.std.specs.List.{AllZip}
-use Rattle.std.specs.Prelude.{Option}
-use Rattle.std.proofs.lemmas.Bool.{cases_eq, cases_Bool, false≢true}
+use Rattle.std.proofs.Common.{◌≡◌, ◌≢◌, ℕ, zero, suc, ◌<◌, ◌≤◌, inl, inr, List, [], ◌∷◌, length, get_or, map, filter, cond, Bool, true, false, not, nat_lt, zero-le, le_antisymm, arith, refl, sym, ap, subst, ◌∙◌}
+use Rattle.std.proofs.lemmas.Bool.{cases_eq, cases_Bool}
 use Rattle.wake_table.specs.Table.{IsWakeTable}
 use Rattle.landing_rules.specs.Flights.{Active, Situation, Schedule, Landing, landings, waiting}
 use Rattle.landing_rules.specs.Rules.{IsFeasible, IsBest, IsTight, HaveSameOrder, objective, rank, waits}
@@ -23,12 +21,12 @@ use Rattle.landing_joint.specs.Numbered.{numbered, second_of, numbers_of, waits_
 use Rattle.landing_joint.specs.ByNumber.{number_at, joined}
 use Rattle.landing_joint.specs.RankedProblem.{no_waiting, ranked}
 use Rattle.landing_joint.specs.SoundProblem.{IsSoundProblem}
-use Rattle.landing_joint.specs.shared.RankedLists.{each_at, list_feasible, sound_ranked}
+use Rattle.landing_joint.specs.shared.RankedLists.{list_feasible, sound_ranked}
 use Rattle.landing_joint.specs.shared.BestLists.{zip_of}
 use Rattle.landing_joint.specs.shared.SortedBySeconds.{in_sorted_by, sorted_by_in, sorted_by_ascends, filter_ascends, in_map, map_in, map_ascends, map_one, ascends_same}
 use Rattle.landing_joint.specs.shared.FirstBestLists.{zip_get, zip_same, first_best_list_exists, first_best_list_is_one, no_later_antisym, list_in_landing_order, one_landing_order}
 use Rattle.landing_joint.proofs.Numbered.{landing_at, landings_are}
-use Rattle.landing_joint.proofs.Joint.{all_among, among, feasible_numbered, first_come, sound_numbered}
+use Rattle.landing_joint.proofs.Joint.{all_among, feasible_numbered, first_come, sound_numbered}
 use Rattle.landing_joint.proofs.JoinedSchedule.{map_agree, rank_is, tight_list_schedule}
 use Rattle.landing_joint.proofs.Problem as joint
 

@@ -1,14 +1,10 @@
 -- Orders of least choices by completing pairs, and the completing pairs of a node from those of its successors.
-use Rattle.std.specs.Prelude.{◌≡◌, ℕ, suc, ◌+◌, ◌<◌, ◌≤◌, true, List, [], ◌∷◌, length, Some}
+use Rattle.std.specs.Prelude.{◌≡◌, ℕ, ◌<◌, List, ◌∷◌, length}
 use Rattle.landing_rules.specs.Problem.{Problem}
 use Rattle.landing_rules.specs.FirstBest.{IsFirstBestList}
-use Rattle.cps_theory.specs.RankLists.{numbers_from}
 use Rattle.cps_theory.specs.Separation.{Landing}
-use Rattle.cps_theory.specs.LandingTrail.{last_rank}
 use Rattle.cps_theory.specs.Labels.{InPairs, Pair}
-use Rattle.cps_theory.specs.Feasible.{second_in}
-use Rattle.cps_theory.specs.CompletingPairs.{KeptCompleting, NoEarlierNoDearer}
-use Rattle.landing_joint.specs.RankedProblem.{ranked, cost_at, landing_after}
+use Rattle.cps_theory.specs.CompletingPairs.{KeptCompleting}
 use Rattle.landing_joint.specs.SoundProblem.{IsSoundProblem}
 use Rattle.landing_joint.specs.CompletingPairs.{AreCompletingPairs, AreLeastChoices, AreOneNode, CanChoose, CanLandBy, Cover, IsCompletingPair, IsLastPair, IsLeastObjective, IsLegal, IsSuccessorPair, seconds_by_rank}
 

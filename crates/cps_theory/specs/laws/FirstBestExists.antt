@@ -1,13 +1,12 @@
 -- Where a schedule is feasible there is a first best one: the earliest landings of the first of the cheapest legal orders.
-use Rattle.std.proofs.Common.{◌≡◌, ℕ, zero, suc, ◌+◌, ◌<◌, ◌≤◌, ◌⊎◌, inl, inr, List, [], ◌∷◌, length, Option, Some, None, true, arith, refl, sym, ap, subst, ◌∙◌, le_trans}
+use Rattle.std.proofs.Common.{◌≡◌, ℕ, ◌<◌, ◌≤◌, ◌⊎◌, inl, inr, List, [], ◌∷◌, length, Option, Some, None, true, arith, refl, sym, ap, subst, ◌∙◌}
 use Rattle.std.proofs.lemmas.Bool.{cases_order}
-use Rattle.cps_theory.specs.RankLists.{IsRank}
 use Rattle.cps_theory.specs.Separation.{Landing}
 use Rattle.cps_theory.specs.Retiming.{IsFirstOpen}
-use Rattle.cps_theory.specs.LandingTrail.{Landed, cost_of, latest_landing, pair_of, ranks}
+use Rattle.cps_theory.specs.LandingTrail.{latest_landing, pair_of, ranks}
 use Rattle.cps_theory.specs.Labels.{NeverCheaper, NoWorse, Pair}
 use Rattle.cps_theory.specs.LegalPrefix.{Legal}
-use Rattle.cps_theory.specs.Feasible.{Feasible, IsBest, RankedProblem, SoundProblem, Tight, at_seconds, earliest, next_from, pair_at, second_in}
+use Rattle.cps_theory.specs.Feasible.{Feasible, RankedProblem, SoundProblem, Tight, at_seconds, earliest, next_from, pair_at, second_in}
 use Rattle.cps_theory.specs.CompletingPairs.{NoGreaterOrder, onto}
 use Rattle.cps_theory.specs.FirstBest.{FirstBest}
 use Rattle.cps_theory.specs.laws.Continuations.{no_later_cost, onto_twice}

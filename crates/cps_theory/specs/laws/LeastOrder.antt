@@ -70,25 +70,25 @@ module _ (n : ℕ) (P : List ℕ → Type 0) (decide : (xs : List ℕ) → Decid
   })
   one_more m j build lt (inl a) (inl b) = elim (total (build (a.head ∷ a.tail)) (build (suc j ∷ b.end))) [
     | inl before ↦ inl (record {
-        head = a.head;
-        tail = a.tail;
-        ranks = a.ranks;
-        holds = a.holds;
-        least = λ y ys le r h. elim (head_cases j y le) [
-          | inl low ↦ a.least y ys low r h
-          | inr e ↦ subst (λ z. Before (build (a.head ∷ a.tail)) (build (z ∷ ys))) (sym e) (chain (build (a.head ∷ a.tail)) (build (suc j ∷ b.end)) (build (suc j ∷ ys)) before (b.least ys (tail_ranks m y ys r) (subst (λ z. P (build (z ∷ ys))) e h)))
-        ];
-      })
+      head = a.head;
+      tail = a.tail;
+      ranks = a.ranks;
+      holds = a.holds;
+      least = λ y ys le r h. elim (head_cases j y le) [
+        | inl low ↦ a.least y ys low r h
+        | inr e ↦ subst (λ z. Before (build (a.head ∷ a.tail)) (build (z ∷ ys))) (sym e) (chain (build (a.head ∷ a.tail)) (build (suc j ∷ b.end)) (build (suc j ∷ ys)) before (b.least ys (tail_ranks m y ys r) (subst (λ z. P (build (z ∷ ys))) e h)))
+      ];
+    })
     | inr after ↦ inl (record {
-        head = suc j;
-        tail = b.end;
-        ranks = more_ranks m (suc j) b.end (omega arith, omega arith) b.ranks;
-        holds = b.holds;
-        least = λ y ys le r h. elim (head_cases j y le) [
-          | inl low ↦ chain (build (suc j ∷ b.end)) (build (a.head ∷ a.tail)) (build (y ∷ ys)) after (a.least y ys low r h)
-          | inr e ↦ subst (λ z. Before (build (suc j ∷ b.end)) (build (z ∷ ys))) (sym e) (b.least ys (tail_ranks m y ys r) (subst (λ z. P (build (z ∷ ys))) e h))
-        ];
-      })
+      head = suc j;
+      tail = b.end;
+      ranks = more_ranks m (suc j) b.end (omega arith, omega arith) b.ranks;
+      holds = b.holds;
+      least = λ y ys le r h. elim (head_cases j y le) [
+        | inl low ↦ chain (build (suc j ∷ b.end)) (build (a.head ∷ a.tail)) (build (y ∷ ys)) after (a.least y ys low r h)
+        | inr e ↦ subst (λ z. Before (build (suc j ∷ b.end)) (build (z ∷ ys))) (sym e) (b.least ys (tail_ranks m y ys r) (subst (λ z. P (build (z ∷ ys))) e h))
+      ];
+    })
   ]
 
   heads : (m j : ℕ) (build : List ℕ → List ℕ) → j ≤ n → ((i : ℕ) → LeastEnd m (λ xs. build (suc i ∷ xs)) ⊎ NoEnd m (λ xs. build (suc i ∷ xs))) → LeastUpTo m j build ⊎ NoneUpTo m j build

@@ -1,14 +1,13 @@
 -- A list of seconds by rank lands its ranks in the order of its map, and is the first best one where its map is. There is a
 -- first best list where one is feasible, and it is one.
-use Rattle.std.proofs.Common.{◌≡◌, ◌≢◌, ℕ, zero, suc, ◌+◌, ◌-◌, ◌<◌, ◌≤◌, ◌⊎◌, inl, inr, List, [], ◌∷◌, length, get_or, map, max, true, false, zero-le, add-one, arith, refl, sym, ap, ap₂, subst, ◌∙◌, le_antisymm}
+use Rattle.std.proofs.Common.{◌≡◌, ◌≢◌, ℕ, zero, suc, ◌+◌, ◌-◌, ◌<◌, ◌≤◌, inl, inr, List, [], ◌∷◌, length, get_or, map, max, true, add-one, arith, refl, sym, ap, ap₂, subst, ◌∙◌, le_antisymm}
 use Rattle.std.proofs.Math.Nat.{mul-le-mul_left}
-use Rattle.std.specs.Prelude.{IsTrue}
 use Rattle.std.specs.List.{AllZip}
 use Rattle.std.specs.declared.cmp.Ordering.{Ordering}
 use Rattle.std.specs.declared.cmp.Ordering.TheVariants.{Less, Equal, Greater}
 use Rattle.std.specs.Ordering.{nat_cmp, ordering_then, ordering_reverse, is_le, is_eq}
 use Rattle.std.specs.Cmp.Lexicographic.{slice_cmp}
-use Rattle.std.proofs.lemmas.Bool.{cases_lt, lt-ltb, le-ltb, eq-eqb, false≢true}
+use Rattle.std.proofs.lemmas.Bool.{lt-ltb, le-ltb, eq-eqb, false≢true}
 use Rattle.std.proofs.lemmas.Cmp.{nat_list_cmp_total}
 use Rattle.std.proofs.lemmas.Map.Text.{is_eq-slice_cmp}
 use Rattle.std.proofs.lemmas.Slice.Eq.{bytes_eq-Decides}
@@ -17,9 +16,9 @@ use Rattle.landing_rules.specs.Rules as rules
 use Rattle.landing_rules.specs.declared.objective.Objective.{Objective}
 use Rattle.landing_rules.specs.declared.objective.Objective.TheVariants.{Makespan, Delay}
 use Rattle.landing_rules.specs.Problem as lists'
-use Rattle.landing_rules.specs.FirstBest.{ComesNoLater, IsFirstBestList, order_of_list, ranks_from, second_at, sorted_by}
+use Rattle.landing_rules.specs.FirstBest.{ComesNoLater, IsFirstBestList, order_of_list, ranks_from, second_at}
 use Rattle.cps_theory.specs.RankLists.{In, Distinct, IsRank, of_rank, numbers_from, upto}
-use Rattle.cps_theory.specs.Feasible.{Feasible, IsBest, RankedProblem, SameOrder, SoundProblem, Tight, greatest, total}
+use Rattle.cps_theory.specs.Feasible.{Feasible, IsBest, SameOrder, SoundProblem, Tight, greatest, total}
 use Rattle.cps_theory.specs.CompletingPairs.{NoGreaterOrder, onto}
 use Rattle.cps_theory.specs.FirstBest.{Ascends, FirstBest, InLandingOrder}
 use Rattle.cps_theory.specs.laws.Continuations.{onto_twice}

@@ -1,5 +1,5 @@
 -- Taking at each place the least rank that can still be completed at the value lands the first best list.
-use Rattle.std.proofs.Common.{◌≡◌, ◌≢◌, ℕ, zero, suc, ◌+◌, ◌-◌, ◌<◌, ◌≤◌, inl, inr, true, nat_le, zero-le, List, [], ◌∷◌, length, Option, Some, arith, refl, sym, ap, subst, ◌∙◌, le_refl, le_trans}
+use Rattle.std.proofs.Common.{◌≡◌, ℕ, suc, ◌<◌, ◌≤◌, true, zero-le, List, [], ◌∷◌, length, Some, arith, refl, sym, ap, subst, ◌∙◌, le_trans}
 use Rattle.std.proofs.lemmas.Bool.{leb-true, le-leb}
 use Rattle.landing_rules.specs.declared.objective.Objective.{Objective}
 use Rattle.landing_rules.specs.declared.objective.Objective.TheVariants.{Makespan, Delay}
@@ -7,9 +7,8 @@ use Rattle.landing_rules.specs.Problem as lists'
 use Rattle.landing_rules.specs.FirstBest.{IsFirstBestList}
 use Rattle.cps_theory.specs.RankLists.{IsRank, of_rank}
 use Rattle.cps_theory.specs.Separation.{Landing}
-use Rattle.cps_theory.specs.LandingTrail.{cost_of, last_rank, latest_landing, pair_of, ranks}
+use Rattle.cps_theory.specs.LandingTrail.{cost_of, latest_landing, pair_of, ranks}
 use Rattle.cps_theory.specs.Labels.{Pair}
-use Rattle.cps_theory.specs.LegalPrefix.{Legal}
 use Rattle.cps_theory.specs.Patterns.{PatternNode, PatternPermits, pattern_newest, pattern_node, pattern_push}
 use Rattle.cps_theory.specs.Feasible.{Feasible, SoundProblem, at_seconds, next_from, pair_at, second_in}
 use Rattle.cps_theory.specs.ProblemNetwork.{LandedIn}
@@ -22,7 +21,7 @@ use Rattle.cps_theory.specs.laws.LabelDominance.{last_ranks}
 use Rattle.cps_theory.specs.laws.LandingOrder.{sorted}
 use Rattle.cps_theory.specs.laws.LeastObjective.{pair_all}
 use Rattle.landing_joint.specs.RankedProblem.{no_waiting, ranked, cost_at, cost_by, first_at, landing_after, makespan_by, value_at, value_by, value_of_map}
-use Rattle.landing_joint.specs.CompletingPairs.{AreCompletingPairs, AreLeastChoices, AreOneNode, CanChoose, IsCompletingPair, IsLeastObjective, IsLegal, budget_by, budget_of, is_low, low_by, seconds_by_rank}
+use Rattle.landing_joint.specs.CompletingPairs.{AreCompletingPairs, AreLeastChoices, CanChoose, IsLeastObjective, IsLegal, budget_by, budget_of, is_low, low_by, seconds_by_rank}
 use Rattle.landing_joint.specs.shared.RankedLists.{list_feasible, feasible_list, feasible_agree}
 use Rattle.landing_joint.specs.shared.BestLists.{list_value}
 use Rattle.landing_joint.specs.shared.FirstOpen.{is_first_open}

@@ -1,10 +1,10 @@
 -- The completing pairs of a prefix are those of its node, told by its pattern.
-use Rattle.std.proofs.Common.{◌≡◌, ℕ, zero, suc, ◌+◌, ◌-◌, ◌*◌, ◌≤◌, ◌↔◌, inl, inr, Bool, true, false, ◌||◌, leb, List, [], ◌∷◌, length, Option, Some, arith, refl, sym, ap, ap₂, subst, ◌∙◌, le_refl}
-use Rattle.std.proofs.lemmas.Bool.{cases_Bool, false≢true}
+use Rattle.std.proofs.Common.{◌≡◌, ℕ, suc, ◌-◌, ◌*◌, ◌≤◌, ◌↔◌, Bool, true, false, ◌||◌, leb, List, [], ◌∷◌, length, refl, sym, ap, subst, ◌∙◌}
+use Rattle.std.proofs.lemmas.Bool.{false≢true}
 use Rattle.landing_rules.specs.Problem.{Problem}
-use Rattle.cps_theory.specs.RankLists.{In, IsRank}
+use Rattle.cps_theory.specs.RankLists.{In}
 use Rattle.cps_theory.specs.Separation.{Landing}
-use Rattle.cps_theory.specs.LandingTrail.{cost_of, last_rank, latest_landing, ranks}
+use Rattle.cps_theory.specs.LandingTrail.{last_rank, ranks}
 use Rattle.cps_theory.specs.Labels.{Pair}
 use Rattle.cps_theory.specs.LegalPrefix.{Legal}
 use Rattle.cps_theory.specs.Network.{Network}

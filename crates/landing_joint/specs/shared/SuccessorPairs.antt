@@ -1,5 +1,5 @@
 -- The completing pairs of a node of the last stage, and of another one from those of the nodes behind it.
-use Rattle.std.proofs.Common.{◌≡◌, ℕ, ◌+◌, ◌<◌, ◌≤◌, true, List, [], ◌∷◌, length, Option, Some, arith, refl, sym, ap, subst, ◌∙◌}
+use Rattle.std.proofs.Common.{◌≡◌, ℕ, ◌+◌, ◌<◌, ◌≤◌, true, List, ◌∷◌, length, Some, arith, refl, sym, ap, subst}
 use Rattle.landing_rules.specs.Problem.{Problem}
 use Rattle.cps_theory.specs.LandingTrail.{last_rank}
 use Rattle.cps_theory.specs.Labels.{Pair}
