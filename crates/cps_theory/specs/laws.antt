@@ -5,10 +5,12 @@ pub mod CertificateSoundness
 pub mod ClosedSets
 pub mod CompletingPairs
 pub mod Continuations
+pub mod DecideLegal
 pub mod EarliestAndTight
 pub mod EarliestLandings
 pub mod FeasibleOrder
 pub mod FirstBest
+pub mod FirstBestExists
 pub mod FirstBestObjectives
 pub mod FirstDifference
 pub mod FirstFound
@@ -20,6 +22,7 @@ pub mod LandingOrder
 pub mod LeastChoices
 pub mod LeastLabels
 pub mod LeastObjective
+pub mod LeastOrder
 pub mod LegalPrefix
 pub mod Members
 pub mod MoreShift

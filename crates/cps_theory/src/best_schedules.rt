@@ -68,6 +68,14 @@ pub fn completing_pairs_from_successors()
         KeptCompleting (CompletesNode p cost low w) (λ q. InPairs q fresh) }
 {}
 
+/// Where a schedule is feasible there is a first best one.
+pub fn feasible_has_first_best()
+    ensures { (p : RankedProblem) → SoundProblem p → (first : ℕ → ℕ → Option ℕ) → FindsFirstOpen p first →
+        (cost : ℕ → ℕ → ℕ) → NeverCheaper cost → (value : Pair → ℕ) → IsObjective value →
+        (t : ℕ → ℕ) → Feasible p t →
+        (u : ℕ → ℕ) × FirstBest p (λ v. value (pair_at cost p.rules.count v)) u }
+{}
+
 /// Taking at each place the least rank that can still be completed builds the first best schedule, and there
 /// is at most one.
 pub fn least_choices_are_first_best()

@@ -18,7 +18,7 @@ use Rattle.landing_joint.proofs.Joint.{active_are, comes_is}
 use Rattle.landing_joint.proofs.Problem.{joined_frozen, joined_rank, joined_long, each_number, list_gives_schedule, schedule_gives_list, among}
 use Rattle.cps_theory.specs.laws.NumberedLists.{count_by_map, count_by_agree, map_map, filter_map_is, in_numbers, numbers_in}
 
-map_agree : {X : Type 0} (f g : ℕ → X) (xs : List ℕ) → ((i : ℕ) → In i xs → f i ≡ g i) → map f xs ≡ map g xs
+pub map_agree : {X : Type 0} (f g : ℕ → X) (xs : List ℕ) → ((i : ℕ) → In i xs → f i ≡ g i) → map f xs ≡ map g xs
 map_agree f g [] h = refl
 map_agree f g (x ∷ xs) h = ap₂ (λ y l. y ∷ l) (h x (inl refl)) (map_agree f g xs (λ i m. h i (inr m)))
 
@@ -29,7 +29,7 @@ module _ (s : Situation) (sound : IsSound s) where
       ∙ map_map (λ (b : Active). b.flight) (numbered s.active) (numbered_situation s).waiting
 
   -- the rank of a flight among the waiting flights
-  rank_is : (i : ℕ) → In i (numbers_of s.active) → rank (map (λ (b : Active). b.flight) (waiting s)) (numbered s.active i).flight ≡ rank_in (comes_before s.active) (numbered_situation s).waiting i
+  pub rank_is : (i : ℕ) → In i (numbers_of s.active) → rank (map (λ (b : Active). b.flight) (waiting s)) (numbered s.active i).flight ≡ rank_in (comes_before s.active) (numbered_situation s).waiting i
   rank_is i m =
       let w = (numbered_situation s).waiting in
       let f = (numbered s.active i).flight in

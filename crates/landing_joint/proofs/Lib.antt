@@ -14,3 +14,4 @@ pub mod ClosureSteps
 pub mod StepLaws
 pub mod InLine
 pub mod RefusedSteps
+pub mod FirstBest

@@ -197,7 +197,7 @@ module _ (s : Situation) (sound : IsSound s) (p : lists'.Problem) (of : lists'.I
     permuted = subst (λ n. IsPermutation (map (number_at s) (upto n)) ns.waiting) long_is (IsPermutation-trans (map (number_at s) (upto (length R))) R ns.waiting (ranks_permute (length s.active) R) (sorted_permutes s.active ns.waiting));
   }
 
-  passed_low' : (r : ℕ) → IsRank (length p.flights) r → (fl r).passed ≤ p.k
+  pub passed_low' : (r : ℕ) → IsRank (length p.flights) r → (fl r).passed ≤ p.k
   passed_low' r q =
       let b = in_numbers 0 (length s.active) (at r) (among r q) in
       let a = sound.passed (at r) nobody (omega (arith, b.1)) in

@@ -3,7 +3,11 @@ pub mod RankedProblem
 pub mod ByNumber
 pub mod ClockLaws
 pub mod StepLaws
+pub mod SoundProblem
+pub mod CompletingPairs
+pub mod LeastChoiceLaws
 pub mod ProblemLaws
+pub mod FirstBestLaws
 pub mod Shift
 pub mod PassedOver
 pub mod PassedExamples

@@ -2,3 +2,8 @@
 pub mod FirstOpen
 pub mod RankedLists
 pub mod BestLists
+pub mod SortedBySeconds
+pub mod FirstBestLists
+pub mod NodePairs
+pub mod LeastChoices
+pub mod SuccessorPairs

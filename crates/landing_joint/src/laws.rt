@@ -1,6 +1,8 @@
 //! What holds of every situation, problem and clock event.
 
 ghost use Rattle.landing_joint.specs.ProblemLaws.{ListGivesScheduleLaw, ScheduleGivesListLaw, SameObjectiveLaw, BestListLaw, TightListLaw, NoListLaw};
+ghost use Rattle.landing_joint.specs.FirstBestLaws.{FirstBestListLaw, FirstBestIsOneLaw, FirstBestObjectiveLaw, FirstBestExistsLaw, SoundProblemLaw, FirstBestListIsOneLaw, FirstBestListExistsLaw};
+ghost use Rattle.landing_joint.specs.LeastChoiceLaws.{LeastChoicesLaw, ChoiceLaw, LastPairsLaw, SuccessorPairsLaw, OneNodeLaw};
 ghost use Rattle.landing_joint.specs.ClockLaws.{ClockKeepsPlanLaw, ClockShowsPlanLaw, ClockKeepsSoundLaw};
 ghost use Rattle.landing_joint.specs.StepLaws.{EventKeepsSoundLaw, StepKeepsSoundLaw, RunKeepsSoundLaw};
 ghost use Rattle.landing_joint.specs.PassedOver.{ClockCountsLaw, StepCountsLaw, FewPassLaw, FewPassLaterLaw, FewPassFirstLaw, ClockCountsExactlyLaw, FewPassAnyoneLaw};
@@ -15,6 +17,39 @@ pub fn problem_stands_for_situation()
     ensures best { BestListLaw }
     ensures tight { TightListLaw }
     ensures none { NoListLaw }
+{}
+
+/// The first best schedule of a sound situation is its frozen landings joined with a first best list of its problem. There
+/// is one where a schedule is feasible. It is one, so its plan block is one text, and it costs what every best schedule
+/// costs.
+pub fn first_best_schedule_is_one()
+    ensures list { FirstBestListLaw }
+    ensures exists { FirstBestExistsLaw }
+    ensures one { FirstBestIsOneLaw }
+    ensures objective { FirstBestObjectiveLaw }
+{}
+
+/// Where a list of seconds by rank is feasible for a sound problem there is a first best list, and it is one. The problem
+/// of a sound situation is sound.
+pub fn first_best_list_is_one()
+    ensures sound { SoundProblemLaw }
+    ensures exists { FirstBestListExistsLaw }
+    ensures one { FirstBestListIsOneLaw }
+{}
+
+/// Where a list of pairs for each prefix that can land are the completing pairs of its node, taking at each place the least
+/// rank that can be chosen by them lands the first best list; and some rank can be chosen until all have landed.
+pub fn least_choices_are_first_best()
+    ensures whole { LeastChoicesLaw }
+    ensures next { ChoiceLaw }
+{}
+
+/// The completing pairs of a node of the last stage are those of the open seconds by which it can land; those of another
+/// node come from those of the nodes behind it. Prefixes of one node have the same.
+pub fn completing_pairs_from_successors()
+    ensures last { LastPairsLaw }
+    ensures before { SuccessorPairsLaw }
+    ensures node { OneNodeLaw }
 {}
 
 /// An accepted clock event that finds a plan shown keeps it feasible with an equal objective, shows a plan again that is

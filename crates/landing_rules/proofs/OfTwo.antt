@@ -7,7 +7,7 @@ use Rattle.landing_rules.specs.Testing.{is_feasible}
 use Rattle.landing_rules.proofs.Testing.{is_feasible-Decides}
 
 -- what holds of each list of two holds of each list that is as long as the flights are
-of_two : (P : Schedule → Type 0) → ((a b : ℕ) → P (a ∷ b ∷ [])) → (u : Schedule) → length u ≡ 2 → P u
+pub of_two : (P : Schedule → Type 0) → ((a b : ℕ) → P (a ∷ b ∷ [])) → (u : Schedule) → length u ≡ 2 → P u
 of_two P h [] e = absurd (omega arith)
 of_two P h (a ∷ []) e = absurd (omega arith)
 of_two P h (a ∷ b ∷ []) e = h a b

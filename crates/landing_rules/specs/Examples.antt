@@ -42,6 +42,10 @@ pair k = opened k (a1 (1000, 2000) ∷ f1 (1010, 2000) ∷ [])
 abbrev pub tight_pair : Situation
 tight_pair = opened 1 (a1 (1000, 1050) ∷ f1 (1010, 1170) ∷ [])
 
+-- the pair at k = 1, with a closure that makes both orders end at 1200
+abbrev pub closed_pair : Situation
+closed_pair = record (pair 1) { closures = (1011, 1200) ∷ [] }
+
 -- three flights
 abbrev pub three : ℕ → Situation
 three k = opened k (a1 (1000, 2000) ∷ a2 ∷ f1 (1010, 2000) ∷ [])

@@ -93,3 +93,24 @@ pub fn known_runs_are_runs()
         (record { answer = None; state = record { situation = pair_at_900; plan = Some (1070 ∷ 1010 ∷ []) } } ∷ []) }
     ensures none { IsPlanShown tight_pair None }
 {}
+
+ghost use Rattle.std.specs.Ordering.{nat_cmp, is_le};
+ghost use Rattle.std.specs.Cmp.Lexicographic.{slice_cmp};
+ghost use Rattle.landing_rules.specs.Examples.{closed_pair};
+ghost use Rattle.landing_rules.specs.FirstBest.{order_of, order_of_list, IsFirstBest};
+
+/// The ranks of waiting flights in landing order, and which order comes first.
+pub fn known_orders_of_ranks()
+    ensures three { order_of (three 2) (1070 ∷ 1160 ∷ 1010 ∷ []) ≡ 3 ∷ 1 ∷ 2 ∷ [] }
+    ensures list { order_of_list (1070 ∷ 1160 ∷ 1010 ∷ []) ≡ 3 ∷ 1 ∷ 2 ∷ [] }
+    ensures waiting { order_of pair_at_900 (1070 ∷ 1010 ∷ []) ≡ 1 ∷ [] }
+    ensures before { IsTrue (is_le (slice_cmp nat_cmp (1 ∷ 3 ∷ 2 ∷ []) (2 ∷ 1 ∷ 3 ∷ []))) }
+    ensures after { IsFalse (is_le (slice_cmp nat_cmp (1 ∷ 3 ∷ 2 ∷ []) (1 ∷ 2 ∷ 3 ∷ []))) }
+{}
+
+/// Of two best schedules with one makespan the first is the one that lands rank 1 first.
+pub fn first_best_of_two_orders()
+    ensures first { IsFirstBest closed_pair (1000 ∷ 1200 ∷ []) }
+    ensures best { IsBest closed_pair (1200 ∷ 1010 ∷ []) }
+    ensures not_first { IsFirstBest closed_pair (1200 ∷ 1010 ∷ []) → ⊥ }
+{}

@@ -47,7 +47,7 @@ module _ (W : Type 0) (Open : ℕ → ℕ → Type 0) (first : ℕ → ℕ → O
       let p' = subst (λ v. Permitted v r) (sym x.at) p in
       sym (ap newest (net.pushes r rs x.legal ∙ ap (λ v. push v r) x.at)) ∙ net.newest_is (r ∷ rs) (net.grows r rs x.legal p')
 
-  reached_push : (w : W) (b r t : ℕ) → Reached Open after Legal node w b → Permitted w r → Open r t → after (newest w) b r ≤ t → Reached Open after Legal node (push w r) t
+  pub reached_push : (w : W) (b r t : ℕ) → Reached Open after Legal node w b → Permitted w r → Open r t → after (newest w) b r ≤ t → Reached Open after Legal node (push w r) t
   reached_push w b r t x p o le =
       let rs = ranks x.landings in
       let p' = subst (λ v. Permitted v r) (sym x.at) p in

@@ -13,25 +13,25 @@ use Rattle.cps_theory.specs.FirstBest.{BuiltByLeastChoices, FirstBest}
 use Rattle.cps_theory.specs.laws.FirstBest.{built_first}
 
 module _ (p : RankedProblem) (sound : SoundProblem p) (first : ℕ → ℕ → Option ℕ) (opens : IsFirstOpen (λ r u. p.is_open r u ≡ true) first) where
-  low_true : (v : ℕ) (xs : List Landing) → AllLow (λ t. t ≤ v) xs → AllLow (λ t. nat_le t v ≡ true) xs
+  pub low_true : (v : ℕ) (xs : List Landing) → AllLow (λ t. t ≤ v) xs → AllLow (λ t. nat_le t v ≡ true) xs
   low_true v [] a = tt
   low_true v (x ∷ xs) a = (le-leb x.1 v a.0, low_true v xs a.1)
 
-  landed_low : (v : ℕ) (xs : List Landing) → Legal p.rules (ranks xs) → Landed (λ r u. p.is_open r u ≡ true) (next_from p) xs → (latest_landing xs).1 ≤ v → AllLow (λ t. t ≤ v) xs
+  pub landed_low : (v : ℕ) (xs : List Landing) → Legal p.rules (ranks xs) → Landed (λ r u. p.is_open r u ≡ true) (next_from p) xs → (latest_landing xs).1 ≤ v → AllLow (λ t. t ≤ v) xs
   landed_low v [] l d le = tt
   landed_low v (x ∷ []) l d le = (le, tt)
   landed_low v (x ∷ (zero, u) ∷ xs) l d le = absurd (let a = l.1.0.fits.from_one in omega arith)
   landed_low v (x ∷ (suc q, u) ∷ xs) l d le = (le, landed_low v ((suc q, u) ∷ xs) l.1 d.2 (let a = d.1 in omega arith))
 
-  low_last : (v : ℕ) (xs : List Landing) → AllLow (λ t. nat_le t v ≡ true) xs → (latest_landing xs).1 ≤ v
+  pub low_last : (v : ℕ) (xs : List Landing) → AllLow (λ t. nat_le t v ≡ true) xs → (latest_landing xs).1 ≤ v
   low_last v [] a = zero-le
   low_last v (x ∷ xs) a = leb-true x.1 v a.0
 
-  no_cost : (xs : List Landing) → cost_of (λ r t. 0) xs ≡ 0
+  pub no_cost : (xs : List Landing) → cost_of (λ r t. 0) xs ≡ 0
   no_cost [] = refl
   no_cost (x ∷ xs) = let a = no_cost xs in omega arith
 
-  all_low : (xs : List Landing) → AllLow (λ t. ◌≡◌ {A = Bool} true true) xs
+  pub all_low : (xs : List Landing) → AllLow (λ t. ◌≡◌ {A = Bool} true true) xs
   all_low [] = tt
   all_low (x ∷ xs) = (refl, all_low xs)
 

@@ -43,7 +43,7 @@ pub digit_member : (k x : ℕ) (rs : List ℕ) → 1 ≤ x → pattern_digit k r
 digit_member k x rs one = let e : x + k - k ≡ x = omega arith in ap₂ ◌||◌ (lt-leb (x + k) k (omega arith)) (ap (λ y. is_member y rs) e)
 
 module _ (g : OrderRules) (ones : (a r : ℕ) → g.before a r ≡ true → 1 ≤ a) where
-  same : (rs : List ℕ) → Legal g rs → (x : ℕ) → 1 ≤ x → In x rs ↔ IsPlacedByPattern g (pattern_node g rs) x
+  pub same : (rs : List ℕ) → Legal g rs → (x : ℕ) → 1 ≤ x → In x rs ↔ IsPlacedByPattern g (pattern_node g rs) x
   same rs l x one =
       let k = g.most in let p = length rs in let i = x + k - suc p in
       let below = in_below g x rs (legal_each_fits g rs l) in

@@ -1,0 +1,106 @@
+-- Numbers sorted by their seconds: the same numbers, each landing before those behind it.
+use Rattle.std.proofs.Common.{◌≡◌, ◌≢◌, ℕ, ◌<◌, ◌⊎◌, inl, inr, List, [], ◌∷◌, map, filter, cond, Bool, true, false, nat_lt, arith, refl, sym, ap, ap₂, subst}
+use Rattle.std.proofs.lemmas.Bool.{ltb-true, ltb-false}
+use Rattle.landing_rules.specs.FirstBest.{insert_by, sorted_by}
+use Rattle.cps_theory.specs.RankLists.{In, Distinct}
+use Rattle.cps_theory.specs.FirstBest.{Ascends}
+
+pub in_inserted : (t : ℕ → ℕ) (r x : ℕ) (rs : List ℕ) → In x (insert_by t r rs) → (x ≡ r) ⊎ In x rs
+in_inserted t r x [] m = m
+in_inserted t r x (q ∷ rs) m = go (nat_lt (t q) (t r)) m (in_inserted t r x rs)
+  where
+    go : (b : Bool) → In x (cond b (q ∷ insert_by t r rs) (r ∷ q ∷ rs)) → (In x (insert_by t r rs) → (x ≡ r) ⊎ In x rs) → (x ≡ r) ⊎ ((x ≡ q) ⊎ In x rs)
+    go true (inl e) ih = inr (inl e)
+    go true (inr k) ih = elim (ih k) [ inl e ↦ inl e | inr l ↦ inr (inr l) ]
+    go false m ih = m
+
+pub inserted_in : (t : ℕ → ℕ) (r x : ℕ) (rs : List ℕ) → (x ≡ r) ⊎ In x rs → In x (insert_by t r rs)
+inserted_in t r x [] m = m
+inserted_in t r x (q ∷ rs) m = go (nat_lt (t q) (t r)) m (inserted_in t r x rs)
+  where
+    go : (b : Bool) → (x ≡ r) ⊎ ((x ≡ q) ⊎ In x rs) → ((x ≡ r) ⊎ In x rs → In x (insert_by t r rs)) → In x (cond b (q ∷ insert_by t r rs) (r ∷ q ∷ rs))
+    go true (inl e) ih = inr (ih (inl e))
+    go true (inr (inl e)) ih = inl e
+    go true (inr (inr k)) ih = inr (ih (inr k))
+    go false m ih = m
+
+-- sorting keeps the members
+pub in_sorted_by : (t : ℕ → ℕ) (x : ℕ) (rs : List ℕ) → In x (sorted_by t rs) → In x rs
+in_sorted_by t x [] m = m
+in_sorted_by t x (r ∷ rs) m = elim (in_inserted t r x (sorted_by t rs) m) [ inl e ↦ inl e | inr k ↦ inr (in_sorted_by t x rs k) ]
+
+pub sorted_by_in : (t : ℕ → ℕ) (x : ℕ) (rs : List ℕ) → In x rs → In x (sorted_by t rs)
+sorted_by_in t x [] m = m
+sorted_by_in t x (r ∷ rs) (inl e) = inserted_in t r x (sorted_by t rs) (inl e)
+sorted_by_in t x (r ∷ rs) (inr k) = inserted_in t r x (sorted_by t rs) (inr (sorted_by_in t x rs k))
+
+ascends_inserted : (t : ℕ → ℕ) (r : ℕ) (rs : List ℕ) → Ascends t rs → ((q : ℕ) → In q rs → t q ≢ t r) → Ascends t (insert_by t r rs)
+ascends_inserted t r [] a ne = (λ y i. absurd i, tt)
+ascends_inserted t r (q ∷ rs) a ne = go (nat_lt (t q) (t r)) refl (ascends_inserted t r rs a.1 (λ x i. ne x (inr i)))
+  where
+    go : (b : Bool) → nat_lt (t q) (t r) ≡ b → Ascends t (insert_by t r rs) → Ascends t (cond b (q ∷ insert_by t r rs) (r ∷ q ∷ rs))
+    go true e ih = (λ y i. elim (in_inserted t r y rs i) [ inl s ↦ subst (λ z. t q < t z) (sym s) (ltb-true (t q) (t r) e) | inr k ↦ a.0 y k ], ih)
+    go false e ih =
+        let lt : t r < t q = let x = ltb-false (t q) (t r) e in let n = ne q (inl refl) in omega arith in
+        (λ y i. elim i [ inl s ↦ subst (λ z. t r < t z) (sym s) lt | inr k ↦ (let x = a.0 y k in omega arith) ], a)
+
+-- where no two land at one second, each lands before those behind it
+pub sorted_by_ascends : (t : ℕ → ℕ) (rs : List ℕ) → Distinct rs → ((q r : ℕ) → In q rs → In r rs → q ≢ r → t q ≢ t r) → Ascends t (sorted_by t rs)
+sorted_by_ascends t [] d ne = tt
+sorted_by_ascends t (r ∷ rs) d ne =
+    ascends_inserted t r (sorted_by t rs) (sorted_by_ascends t rs d.1 (λ q x i j. ne q x (inr i) (inr j)))
+    (λ q i. let k = in_sorted_by t q rs i in ne q r (inr k) (inl refl) (λ e. d.0 (subst (λ z. In z rs) e k)))
+
+-- some of an ascending list ascend
+pub filter_ascends : (t : ℕ → ℕ) (p : ℕ → Bool) (rs : List ℕ) → Ascends t rs → Ascends t (filter p rs)
+filter_ascends t p [] a = tt
+filter_ascends t p (r ∷ rs) a = go (p r) (filter_ascends t p rs a.1)
+  where
+    kept : (y : ℕ) (xs : List ℕ) → In y (filter p xs) → In y xs
+    kept y [] i = i
+    kept y (x ∷ xs) i = by (p x) i (kept y xs)
+      where
+        by : (b : Bool) → In y (cond b (x ∷ filter p xs) (filter p xs)) → (In y (filter p xs) → In y xs) → (y ≡ x) ⊎ In y xs
+        by true (inl e) ih = inl e
+        by true (inr k) ih = inr (ih k)
+        by false k ih = inr (ih k)
+
+    go : (b : Bool) → Ascends t (filter p rs) → Ascends t (cond b (r ∷ filter p rs) (filter p rs))
+    go true ih = (λ y i. a.0 y (kept y rs i), ih)
+    go false ih = ih
+
+pub in_map : (f : ℕ → ℕ) (y : ℕ) (rs : List ℕ) → In y (map f rs) → (x : ℕ) × In x rs × (f x ≡ y)
+in_map f y [] m = absurd m
+in_map f y (r ∷ rs) (inl e) = (r, inl refl, sym e)
+in_map f y (r ∷ rs) (inr k) = let w = in_map f y rs k in (w.0, inr w.1, w.2)
+
+pub map_in : (f : ℕ → ℕ) (x : ℕ) (rs : List ℕ) → In x rs → In (f x) (map f rs)
+map_in f x [] m = absurd m
+map_in f x (r ∷ rs) (inl e) = inl (ap f e)
+map_in f x (r ∷ rs) (inr k) = inr (map_in f x rs k)
+
+-- other names with the same seconds ascend too
+pub map_ascends : (t u : ℕ → ℕ) (f : ℕ → ℕ) (rs : List ℕ) → ((x : ℕ) → In x rs → u (f x) ≡ t x) → Ascends t rs → Ascends u (map f rs)
+map_ascends t u f [] h a = tt
+map_ascends t u f (r ∷ rs) h a = (
+  λ y i. let w = in_map f y rs i in let x = a.0 w.0 w.1 in let e = h r (inl refl) in let g = h w.0 (inr w.1) in subst (λ z. u (f r) < u z) w.2 (omega arith),
+  map_ascends t u f rs (λ x i. h x (inr i)) a.1,
+)
+
+-- two maps that ascend along one list land its members in the same order
+pub ascends_same : (t u : ℕ → ℕ) (rs : List ℕ) → Ascends t rs → Ascends u rs → (f g : ℕ) → In f rs → In g rs → t f < t g → u f < u g
+ascends_same t u [] d e f g i j lt = absurd i
+ascends_same t u (x ∷ rs) d e f g (inl s) (inl s') lt = absurd (let a = ap t s in let b = ap t s' in omega arith)
+ascends_same t u (x ∷ rs) d e f g (inl s) (inr j) lt = let a = ap u s in let b = e.0 g j in omega arith
+ascends_same t u (x ∷ rs) d e f g (inr i) (inl s) lt = absurd (let a = ap t s in let b = d.0 f i in omega arith)
+ascends_same t u (x ∷ rs) d e f g (inr i) (inr j) lt = ascends_same t u rs d.1 e.1 f g i j lt
+
+-- a list is told by its image where no two of it have one image
+pub map_one : (f : ℕ → ℕ) (xs ys : List ℕ) → ((x y : ℕ) → In x xs → In y ys → f x ≡ f y → x ≡ y) → map f xs ≡ map f ys → xs ≡ ys
+map_one f [] [] h e = refl
+map_one f [] (y ∷ ys) h e = cc
+map_one f (x ∷ xs) [] h e = cc
+map_one f (x ∷ xs) (y ∷ ys) h e =
+    let head : f x ≡ f y = cc in
+    let rest : map f xs ≡ map f ys = cc in
+    ap₂ (λ z l. z ∷ l) (h x y (inl refl) (inl refl) head) (map_one f xs ys (λ a b i j. h a b (inr i) (inr j)) rest)
