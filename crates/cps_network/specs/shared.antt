@@ -3,3 +3,5 @@ pub mod KeptPlaces
 pub mod LegalWindows
 pub mod LeadingWindows
 pub mod LandableSteps
+pub mod FewWindows
+pub mod KeptStages

@@ -1,8 +1,9 @@
-//! That windows follow the legal prefixes of a problem, as laws.
+//! That windows follow the legal prefixes of a problem, and that problems which agree have stages in common, as laws.
 
 ghost use Rattle.std.specs.Prelude.{◌≡◌, ◌+◌, ◌*◌};
 ghost use Rattle.cps_network.specs.Nodes.{IsWindowNetwork, StepsAreWhole};
 ghost use Rattle.cps_network.specs.Permits.{LeadAlike};
+ghost use Rattle.cps_network.specs.KeptStages.{EarlyStagesAreKept};
 
 use cps_nodes::window_laws;
 use cps_problem::Problem;
@@ -19,4 +20,14 @@ pub fn prefix_laws<const W: usize>(problem: &Problem)
     let _near = problem.head();
     let _in_range = problem.pairs().all_before(1, 0);
     window_laws::<W>();
+}
+
+/// The law of kept stages: problems that agree up to a rank have in common each stage from which even the greatest shift does
+/// not reach that rank. Its landable windows are the same, and in each the same prefixes land, with equal last seconds and
+/// costs. The call does nothing: it tells its caller the law.
+pub fn kept_stages(held: &Problem, next: &Problem)
+    ensures { EarlyStagesAreKept held.now next.now }
+{
+    let _held_ranks = held.head();
+    let _next_ranks = next.head();
 }

@@ -27,14 +27,11 @@ module _ (p q : Problem) (r : ℕ) (is : IsLoweredTo p q r) where
         ];
   }
 
-  -- where predecessors are the same, or nothing is below, that is the first difference
+  -- where predecessors are the same, that is the first difference
   pub lowest : HaveSamePredecessors p q r → IsFirstDifference p q r
   lowest same = record {
+    from_one = is.from_one;
     within = is.within;
-    agree = λ h. record { head = h; flights = is.flights; predecessors = same };
+    agree = λ more. record { head = is.head; flights = is.flights; predecessors = same };
     greatest = λ s w a. is.greatest s w a.flights a.predecessors;
-    apart = λ differ. absurd (differ is.head);
   }
-
-  pub lowest_one : r ≤ 1 → IsFirstDifference p q r
-  lowest_one le = lowest (λ j one lt. absurd (omega arith))

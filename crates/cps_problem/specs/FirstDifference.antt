@@ -42,9 +42,10 @@ pub record AgreeUpTo (p q : Problem) (r : ℕ) : Type 0 where
 abbrev pub IsWithinBoth : Problem → Problem → ℕ → Type 0
 IsWithinBoth p q r = (r ≤ length p.flights + 1) × (r ≤ length q.flights + 1)
 
--- the greatest of these numbers up to which two problems agree, and 1 where their heads differ
+-- the greatest of these numbers, from 1 on, up to which two problems agree. Where their heads differ they agree up to none,
+-- and it is 1
 pub record IsFirstDifference (p q : Problem) (r : ℕ) : Type 0 where
+  pub from_one : 1 ≤ r
   pub within : IsWithinBoth p q r
-  pub agree : HaveSameHead p q → AgreeUpTo p q r
+  pub agree : 1 < r → AgreeUpTo p q r
   pub greatest : (s : ℕ) → IsWithinBoth p q s → AgreeUpTo p q s → s ≤ r
-  pub apart : (HaveSameHead p q → ⊥) → r ≡ 1

@@ -5,3 +5,4 @@ pub mod Inside
 pub mod WellFormed
 pub mod Plans
 pub mod FirstDifference
+pub mod shared
