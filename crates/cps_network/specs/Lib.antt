@@ -7,5 +7,6 @@ pub mod Compacted
 pub mod Nodes
 pub mod Landable
 pub mod KeptStages
+pub mod Due
 pub mod WindowLaws
 pub mod shared

@@ -5,3 +5,5 @@ pub mod LeadingWindows
 pub mod LandableSteps
 pub mod FewWindows
 pub mod KeptStages
+pub mod OneDue
+pub mod DueSteps

@@ -1,8 +1,9 @@
 //! That windows follow the legal prefixes of a problem, and that problems which agree have stages in common, as laws.
 
-ghost use Rattle.std.specs.Prelude.{◌≡◌, ◌+◌, ◌*◌};
+ghost use Rattle.std.specs.Prelude.{◌≡◌, ◌+◌, ◌*◌, ◌^◌};
 ghost use Rattle.cps_network.specs.Nodes.{IsWindowNetwork, StepsAreWhole};
 ghost use Rattle.cps_network.specs.Permits.{LeadAlike};
+ghost use Rattle.cps_network.specs.Due.{DueIsBounded};
 ghost use Rattle.cps_network.specs.KeptStages.{EarlyStagesAreKept};
 
 use cps_nodes::window_laws;
@@ -30,4 +31,15 @@ pub fn kept_stages(held: &Problem, next: &Problem)
 {
     let _held_ranks = held.head();
     let _next_ranks = next.head();
+}
+
+/// What is due for a problem is at most the number of its flights times W to the power of W, whatever is held. The call does
+/// nothing: it tells its caller the law.
+pub fn due_is_bounded<const W: usize>(problem: &Problem)
+    requires { W ≡ 2 * problem.now.k + 1 }
+    ensures { DueIsBounded problem.now (W ^ W) }
+{
+    let _near = problem.head();
+    prefix_laws::<W>(problem);
+    window_laws::<W>();
 }
