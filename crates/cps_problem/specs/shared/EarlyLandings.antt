@@ -35,9 +35,9 @@ module _ (p q : Problem) (d : ℕ) (within : IsWithinBoth p q d) (agree : AgreeU
 
   same_start : (r : ℕ) → r < d → start_at p r ≡ start_at q r
   same_start r lt = ap₂ max agree.head.horizon (
-    ap (λ (w : Waiting). after_last p.table p.last w.category) (same_flight r lt)
-    ∙ ap₂ (λ (t : List (List ℕ)) (l : Option (ℕ × Category)). after_last t l (of_rank no_waiting q.flights r).category) agree.head.table agree.head.last
-  )
+      ap (λ (w : Waiting). after_last p.table p.last w.category) (same_flight r lt)
+      ∙ ap₂ (λ (t : List (List ℕ)) (l : Option (ℕ × Category)). after_last t l (of_rank no_waiting q.flights r).category) agree.head.table agree.head.last
+      )
 
   same_apart : (l r : ℕ) → l < d → r < d → apart_at p l r ≡ apart_at q l r
   same_apart l r a b =
