@@ -1,12 +1,13 @@
 -- Stages that two problems have in common.
-use Rattle.std.specs.Prelude.{◌≡◌, ℕ, ℤ, ◌+◌, ◌<◌, ◌↔◌, List}
+use Rattle.std.specs.Prelude.{◌≡◌, ℕ, ℤ, ◌+◌, ◌<◌, ◌≤◌, ◌↔◌, List, false}
 use Rattle.cps_theory.specs.Separation.{Landing}
 use Rattle.cps_theory.specs.LandingTrail.{pair_of, ranks}
 use Rattle.cps_theory.specs.LegalPrefix.{Legal}
 use Rattle.cps_theory.specs.ProblemNetwork.{LandedIn}
+use Rattle.cps_theory.specs.FirstDifference.{counts}
 use Rattle.landing_joint.specs.RankedProblem.{ranked, cost_at}
 use Rattle.landing_rules.specs.Problem.{Problem}
-use Rattle.cps_problem.specs.FirstDifference.{AgreeUpTo, IsWithinBoth}
+use Rattle.cps_problem.specs.FirstDifference.{AgreeUpTo, IsFirstDifference, IsWithinBoth}
 use Rattle.cps_network.specs.Landable.{IsLandable}
 use Rattle.cps_network.specs.Nodes.{node_of}
 
@@ -29,3 +30,7 @@ pub record HaveStageInCommon (p q : Problem) (stage : ℕ) : Type 0 where
 -- problems that agree up to a rank have the stages in common from which even the greatest shift does not reach that rank
 abbrev pub EarlyStagesAreKept : Problem → Problem → Type 0
 EarlyStagesAreKept p q = (d : ℕ) → IsWithinBoth p q d → AgreeUpTo p q d → (stage : ℕ) → stage + p.k < d → HaveStageInCommon p q stage
+
+-- so they have in common each stage from 1 on that does not count for what is due
+abbrev pub UncountedStagesAreKept : Problem → Problem → Type 0
+UncountedStagesAreKept p q = (d : ℕ) → IsFirstDifference p q d → (last stage : ℕ) → 1 ≤ stage → counts d q.k last stage ≡ false → HaveStageInCommon p q stage

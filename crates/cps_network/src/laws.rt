@@ -4,7 +4,7 @@ ghost use Rattle.std.specs.Prelude.{◌≡◌, ◌+◌, ◌*◌, ◌^◌};
 ghost use Rattle.cps_network.specs.Nodes.{IsWindowNetwork, StepsAreWhole};
 ghost use Rattle.cps_network.specs.Permits.{LeadAlike};
 ghost use Rattle.cps_network.specs.Due.{DueIsBounded};
-ghost use Rattle.cps_network.specs.KeptStages.{EarlyStagesAreKept};
+ghost use Rattle.cps_network.specs.KeptStages.{EarlyStagesAreKept, UncountedStagesAreKept};
 
 use cps_nodes::window_laws;
 use cps_problem::Problem;
@@ -27,7 +27,8 @@ pub fn prefix_laws<const W: usize>(problem: &Problem)
 /// not reach that rank. Its landable windows are the same, and in each the same prefixes land, with equal last seconds and
 /// costs. The call does nothing: it tells its caller the law.
 pub fn kept_stages(held: &Problem, next: &Problem)
-    ensures { EarlyStagesAreKept held.now next.now }
+    ensures early { EarlyStagesAreKept held.now next.now }
+    ensures uncounted { UncountedStagesAreKept held.now next.now }
 {
     let _held_ranks = held.head();
     let _next_ranks = next.head();

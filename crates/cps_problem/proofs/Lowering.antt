@@ -1,8 +1,8 @@
 -- A number that is lowered from the first differing flight, as long as predecessors differ.
-use Rattle.std.proofs.Common.{◌≡◌, ℕ, ◌+◌, ◌-◌, ◌<◌, ◌≤◌, inl, inr, subst, arith}
-use Rattle.std.proofs.lemmas.Bool.{cases_lt, cases_eq}
+use Rattle.std.proofs.Common.{ℕ, ◌-◌, ◌<◌, ◌≤◌, inl, inr, subst, arith}
+use Rattle.std.proofs.lemmas.Bool.{cases_eq}
 use Rattle.landing_rules.specs.Problem.{Problem}
-use Rattle.cps_problem.specs.FirstDifference.{HaveSameHead, HaveSameFlights, HaveSamePredecessors, AgreeUpTo, IsWithinBoth, IsFirstDifference}
+use Rattle.cps_problem.specs.FirstDifference.{HaveSameHead, HaveSameFlights, HaveSamePredecessors, IsWithinBoth, IsFirstDifference}
 
 -- the flights below it are the same, and no greater number is agreed up to
 pub record IsLoweredTo (p q : Problem) (r : ℕ) : Type 0 where

@@ -1,5 +1,5 @@
 -- A stage has few windows: at most w ^ w different ones of w offsets each.
-use Rattle.std.proofs.Common.{◌≡◌, ℕ, suc, ◌+◌, ◌-◌, ◌/◌, ◌%◌, ◌^◌, ◌<◌, ◌≤◌, inl, inr, List, [], ◌∷◌, length, map, refl, sym, ap, ap₂, subst, ◌∙◌, arith, zero-le}
+use Rattle.std.proofs.Common.{◌≡◌, ℕ, suc, ◌/◌, ◌%◌, ◌^◌, ◌<◌, ◌≤◌, inl, inr, List, [], ◌∷◌, length, map, refl, sym, ap, ap₂, subst, ◌∙◌, arith}
 use Rattle.std.specs.Prelude.{ℤ, pos, ◌+ℤ◌, ◌-ℤ◌, ◌≤ℤ◌}
 use Rattle.std.specs.List.{AllByRecursion}
 use Rattle.std.proofs.lemmas.Int.{ints}
@@ -72,11 +72,11 @@ place_in w x (y ∷ ys) v vs (inr i) = let a = place_in w x ys v (λ j lt. vs (s
 different : (w : ℕ) (xs : List (List ℤ)) → IsAscending xs → AreWindows w xs → DistinctLists (map (map (raised (w / 2))) xs)
 different w [] up vs = tt
 different w (x ∷ xs) up vs = (
-    λ i.
-    let a = place_in w x xs (vs 0 (omega arith)) (λ j lt. vs (suc j) (omega arith)) i in
-    not_below_itself x (subst (λ (y : List ℤ). window_cmp x y ≡ Less) a.2 (up 0 (suc a.0) (omega arith) (let b = a.1 in omega arith))),
-    different w xs (λ i j lt within. up (suc i) (suc j) (omega arith) (omega arith)) (λ j lt. vs (suc j) (omega arith)),
-  )
+  λ i.
+      let a = place_in w x xs (vs 0 (omega arith)) (λ j lt. vs (suc j) (omega arith)) i in
+      not_below_itself x (subst (λ (y : List ℤ). window_cmp x y ≡ Less) a.2 (up 0 (suc a.0) (omega arith) (let b = a.1 in omega arith))),
+  different w xs (λ i j lt within. up (suc i) (suc j) (omega arith) (omega arith)) (λ j lt. vs (suc j) (omega arith)),
+)
 
 all_sized : (w : ℕ) (xs : List (List ℤ)) → AreWindows w xs → AllByRecursion (Sized w w) (map (map (raised (w / 2))) xs)
 all_sized w [] vs = tt

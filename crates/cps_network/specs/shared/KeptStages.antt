@@ -1,9 +1,9 @@
 -- The stages below the first difference of two problems, less the greatest shift, are the same in both.
 use Rattle.std.proofs.Common.{◌≡◌, ℕ, ◌+◌, ◌<◌, List, length, sym, ap, ◌∙◌, arith}
 use Rattle.std.specs.Prelude.{ℤ, true}
-use Rattle.cps_theory.specs.Separation.{Landing}
 use Rattle.cps_theory.specs.LandingTrail.{ranks}
 use Rattle.cps_theory.specs.Feasible.{next_from}
+use Rattle.cps_theory.specs.laws.FirstDifference.{uncounted}
 use Rattle.cps_theory.specs.laws.KeptStages.{agree_landed, agree_legal, low_ranks}
 use Rattle.cps_theory.specs.laws.LegalPrefix.{legal_each_fits}
 use Rattle.landing_joint.specs.RankedProblem.{ranked, cost_at}
@@ -11,7 +11,7 @@ use Rattle.landing_rules.specs.Problem.{Problem, AreBetweenRanks}
 use Rattle.cps_problem.specs.FirstDifference.{AgreeUpTo, IsWithinBoth}
 use Rattle.cps_problem.specs.shared.OneDifference.{agree_back}
 use Rattle.cps_problem.specs.shared.EarlyLandings.{agree_below, same_landings}
-use Rattle.cps_network.specs.KeptStages.{LandIn, LandAlike, HaveStageInCommon, EarlyStagesAreKept}
+use Rattle.cps_network.specs.KeptStages.{LandAlike, EarlyStagesAreKept, UncountedStagesAreKept}
 use Rattle.cps_network.specs.Landable.{IsLandable}
 use Rattle.cps_network.specs.Nodes.{Node, node_of}
 
@@ -32,3 +32,10 @@ early_stages_are_kept p q bp bq d within agree stage early =
     let same = agree.head.k in
     let back = land_alike q p d (within.1, within.0) (agree_back p q d agree) bp stage (omega (arith, early, same)) in
     record { landable = λ xs. (landable_alike p q stage there xs, landable_alike q p stage back xs); there = there; back = back }
+
+pub uncounted_stages_are_kept : (p q : Problem) → AreBetweenRanks (length p.flights) p.pairs → AreBetweenRanks (length q.flights) q.pairs → UncountedStagesAreKept p q
+uncounted_stages_are_kept p q bp bq d is last stage one out =
+    let far = (uncounted d q.k last stage out).0 in
+    let agree = is.agree (omega (arith, far, one)) in
+    let same = agree.head.k in
+    early_stages_are_kept p q bp bq d is.within agree stage (omega (arith, far, same))

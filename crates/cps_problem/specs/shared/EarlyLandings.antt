@@ -1,11 +1,10 @@
 -- Where two problems agree up to a rank, they agree on the rules of an order, open seconds, separations and costs below it.
-use Rattle.std.proofs.Common.{◌≡◌, ℕ, zero, suc, ◌+◌, ◌-◌, ◌<◌, ◌≤◌, max, List, length, get_or, inl, inr, true, refl, sym, ap, ap₂, subst, ◌∙◌, arith}
-use Rattle.std.specs.Prelude.{Option, Some, None, slice_get}
+use Rattle.std.proofs.Common.{◌≡◌, ℕ, zero, suc, ◌+◌, ◌-◌, ◌<◌, max, List, length, get_or, true, refl, sym, ap, ap₂, ◌∙◌, arith}
+use Rattle.std.specs.Prelude.{Option, Some, slice_get}
 use Rattle.std.specs.List.{list_any}
 use Rattle.std.proofs.lemmas.Option.{slice_get-get_or, get_or_from_slice_get}
 use Rattle.wake_table.specs.declared.category.Category.{Category}
 use Rattle.wake_table.specs.Table.{separation}
-use Rattle.precedence.specs.Pairs.{must_precede}
 use Rattle.landing_rules.specs.declared.objective.Objective.{Objective}
 use Rattle.landing_rules.specs.Rules.{is_within}
 use Rattle.landing_rules.specs.Problem.{Problem, Waiting, AreBetweenRanks}

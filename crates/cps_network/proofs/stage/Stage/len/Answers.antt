@@ -1,4 +1,4 @@
-use Rattle.std.proofs.Common.{ℕ, ◌^◌, ◌≤◌, length, List, ap, subst}
+use Rattle.std.proofs.Common.{ℕ, ◌^◌, ◌≤◌, length, List, subst}
 use Rattle.std.specs.Prelude.{ℤ}
 use Rattle.cps_network.specs.shared.FewWindows.{few_windows, number_low}
 use Rattle.cps_network.proofs.stage.Stage.len.Goals as goal

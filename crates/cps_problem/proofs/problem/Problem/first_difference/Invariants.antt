@@ -1,5 +1,4 @@
-use Rattle.std.proofs.Common.{ℕ, ◌-◌, ◌≤◌}
-use Rattle.cps_problem.specs.FirstDifference.{HaveSameHead, HaveSameFlights, HaveSamePredecessors, IsWithinBoth}
+use Rattle.std.proofs.Common.{◌-◌}
 use Rattle.cps_problem.proofs.Lowering.{IsLoweredTo}
 use Rattle.cps_problem.proofs.problem.Problem.first_difference.Given as goal
 
