@@ -6,5 +6,7 @@ pub mod Begins
 pub mod Compacted
 pub mod Nodes
 pub mod Landable
+pub mod KeptStages
+pub mod Due
 pub mod WindowLaws
 pub mod shared

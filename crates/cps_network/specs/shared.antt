@@ -1,5 +1,11 @@
--- Lemmas that crates above cite too: places that are kept, windows of legal prefixes, and those that lead to a window.
+-- Lemmas that crates above cite too: places that are kept, windows of legal prefixes, those that lead to a window, how few a
+-- stage has, stages that two problems have in common, and what is due.
 pub mod KeptPlaces
 pub mod LegalWindows
 pub mod LeadingWindows
 pub mod LandableSteps
+pub mod FewWindows
+pub mod KeptStages
+pub mod OneDue
+pub mod DueSteps
+pub mod KeptCandidates

@@ -1,8 +1,10 @@
-//! That windows follow the legal prefixes of a problem, as laws.
+//! That windows follow the legal prefixes of a problem, and that problems which agree have stages in common, as laws.
 
-ghost use Rattle.std.specs.Prelude.{◌≡◌, ◌+◌, ◌*◌};
+ghost use Rattle.std.specs.Prelude.{◌≡◌, ◌+◌, ◌*◌, ◌^◌};
 ghost use Rattle.cps_network.specs.Nodes.{IsWindowNetwork, StepsAreWhole};
 ghost use Rattle.cps_network.specs.Permits.{LeadAlike};
+ghost use Rattle.cps_network.specs.Due.{DueIsBounded};
+ghost use Rattle.cps_network.specs.KeptStages.{EarlyStagesAreKept, UncountedStagesAreKept};
 
 use cps_nodes::window_laws;
 use cps_problem::Problem;
@@ -18,5 +20,27 @@ pub fn prefix_laws<const W: usize>(problem: &Problem)
 {
     let _near = problem.head();
     let _in_range = problem.pairs().all_before(1, 0);
+    window_laws::<W>();
+}
+
+/// The law of kept stages: problems that agree up to a rank have in common each stage from which even the greatest shift does
+/// not reach that rank. Its landable windows are the same, and in each the same prefixes land, with equal last seconds and
+/// costs. The call does nothing: it tells its caller the law.
+pub fn kept_stages(held: &Problem, next: &Problem)
+    ensures early { EarlyStagesAreKept held.now next.now }
+    ensures uncounted { UncountedStagesAreKept held.now next.now }
+{
+    let _held_ranks = held.head();
+    let _next_ranks = next.head();
+}
+
+/// What is due for a problem is at most the number of its flights times W to the power of W, whatever is held. The call does
+/// nothing: it tells its caller the law.
+pub fn due_is_bounded<const W: usize>(problem: &Problem)
+    requires { W ≡ 2 * problem.now.k + 1 }
+    ensures { DueIsBounded problem.now (W ^ W) }
+{
+    let _near = problem.head();
+    prefix_laws::<W>(problem);
     window_laws::<W>();
 }

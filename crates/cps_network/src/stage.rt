@@ -1,6 +1,6 @@
 //! A stage: its number, and its windows in ascending order.
 
-ghost use Rattle.std.specs.Prelude.{◌≡◌, ℕ, ℤ, pos, ◌+◌, ◌<◌, ◌≤◌, ◌↔◌, List, [], ◌∷◌, Bool, length, replicate, IsTrue, IfOk, vec_len, slice_index_or};
+ghost use Rattle.std.specs.Prelude.{◌≡◌, ℕ, ℤ, pos, ◌+◌, ◌^◌, ◌<◌, ◌≤◌, ◌↔◌, List, [], ◌∷◌, Bool, length, replicate, IsTrue, IfOk, vec_len, slice_index_or};
 ghost use Rattle.std.specs.Fn.{FnReturnsAt};
 ghost use Rattle.std.specs.List.{AllZip};
 ghost use Rattle.cps_nodes.specs.Windows.{IsWidth, IsWindow};
@@ -70,9 +70,11 @@ impl<const W: usize> Stage<W> {
         self.number
     }
 
-    /// How many windows the stage has.
+    /// How many windows the stage has: at most W to the power of W, which is 823,543 for the widest.
     pub fn len(&self) -> usize
-        ensures { result ≡ length self.now.1 }
+        ensures value { result ≡ length self.now.1 }
+        ensures few { length self.now.1 ≤ W ^ W }
+        ensures below { length self.now.1 ≤ 823543 }
     {
         self.windows.len()
     }

@@ -1,1 +1,2 @@
 pub mod AtRank
+mod Lowering

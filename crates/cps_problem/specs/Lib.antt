@@ -4,3 +4,5 @@ pub mod Seen
 pub mod Inside
 pub mod WellFormed
 pub mod Plans
+pub mod FirstDifference
+pub mod shared

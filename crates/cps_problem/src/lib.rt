@@ -2,6 +2,7 @@
 //! schedules of it, and what a planner is.
 #![tactic(auto)]
 
+mod difference;
 mod landings;
 mod planner;
 mod problem;

@@ -33,4 +33,4 @@ returns-clause-landable g c =
     has_next c.args.problem.now c.prefix_laws.ensures.network c.args.before.now c.args.stage.now c.requires.number c.requires.before.landable c.requires.next
 
 pub returns-clause-sources : goal.returns-clause-sources
-returns-clause-sources g c = λ i lt. c.loop-i.invariant.2 i (omega (arith, lt, c.loop-i-test.false, c.len-i-end.ensures))
+returns-clause-sources g c = λ i lt. c.loop-i.invariant.2 i (omega (arith, lt, c.loop-i-test.false, c.len-i-end.ensures.value))

@@ -9,4 +9,4 @@ pub returns-clause-all : goal.returns-clause-all
 returns-clause-all g c = λ same.
     let e : c.len.result ≡ c.len-candidates.result = search (rules, same) in
     c.keep_landable.ensures.windows ∙ all_paired c.in_ok-costs.costs c.args.stage.now.1 c.in_ok-costs.ensures.pairs.one_each
-    (sym (ap length c.keep_landable.ensures.lists) ∙ sym c.len.ensures.value ∙ e ∙ c.len-candidates.ensures)
+    (sym (ap length c.keep_landable.ensures.lists) ∙ sym c.len.ensures.value ∙ e ∙ c.len-candidates.ensures.value)

@@ -1,0 +1,94 @@
+-- Where two problems agree, the stages that even the greatest shift keeps below that rank are led to alike.
+use Rattle.std.proofs.Common.{◌≡◌, ℕ, suc, ◌+◌, ◌*◌, ◌<◌, inl, inr, List, [], length, true, subst, ◌∙◌, arith}
+use Rattle.std.specs.Prelude.{ℤ, pos, Contains}
+use Rattle.std.proofs.lemmas.Int.{ints}
+use Rattle.std.proofs.lemmas.Bool.{cases_lt}
+use Rattle.std.proofs.lemmas.List.{get_or_default}
+use Rattle.precedence.specs.Pairs.{must_precede, must_precede_decides}
+use Rattle.cps_nodes.specs.Windows.{IsWindow, IsPlaced}
+use Rattle.landing_rules.specs.Problem.{Problem, AreBetweenRanks}
+use Rattle.cps_problem.specs.FirstDifference.{AgreeUpTo, IsWithinBoth}
+use Rattle.cps_problem.specs.shared.OneDifference.{agree_back}
+use Rattle.cps_network.specs.Due.{HasCandidates}
+use Rattle.cps_network.specs.KeptStages.{HaveStageInCommon}
+use Rattle.cps_network.specs.Landable.{IsCandidate}
+use Rattle.cps_network.specs.Lists.{AreWindows}
+use Rattle.cps_network.specs.Permits.{IsPermitted, IsSuccessor, IsNextOf}
+use Rattle.cps_network.specs.WindowLaws.{WindowLaws}
+use Rattle.cps_network.specs.shared.LegalWindows.{landable_valid}
+
+-- no window of a stage places a rank that even the greatest shift does not reach
+none_above : (w k : ℕ) (xs : List ℤ) (stage rank : ℕ) → w ≡ 2 * k + 1 → IsWindow w xs → stage + k < rank → IsPlaced xs (pos stage) (pos rank) → ⊥
+none_above w k xs stage rank odd valid far (inl due) = omega (arith, ints, due, far)
+none_above w k xs stage rank odd valid far (inr (i, lt, is)) =
+    let long = valid.len in
+    let high = valid.high i (omega (arith, lt, long)) in
+    omega (arith, ints, lt, is, long, high, odd, far)
+
+module _ (p q : Problem) (d : ℕ) (within : IsWithinBoth p q d) (agree : AgreeUpTo p q d) (between : AreBetweenRanks (length q.flights) q.pairs) (w : ℕ) (odd : w ≡ 2 * p.k + 1) where
+  pub permitted_alike : (stage : ℕ) → suc stage + p.k < d → (xs : List ℤ) → IsWindow w xs → (rank : ℕ) → IsPermitted p stage xs rank → IsPermitted q stage xs rank
+  permitted_alike stage early xs valid rank may =
+      let same = agree.head.k in
+      let low : rank < d = let a = may.early in omega (arith, a, early) in
+      let here = agree.predecessors rank may.from_one low in
+      record {
+        from_one = may.from_one;
+        to_count = (let a = within.1 in omega (arith, a, low));
+        early = (let a = may.early in omega (arith, a, same));
+        late = (let a = may.late in omega (arith, a, same));
+        accepted = may.accepted;
+        after = λ first must.
+            let test : must_precede q.pairs first rank ≡ true = (must_precede_decides q.pairs first rank).1 must in
+            let one = (between first rank test).0 in
+            elim (cases_lt first d) [
+              | inl below ↦ may.after first ((must_precede_decides p.pairs first rank).0 (here.below first one below ∙ test))
+              | inr above ↦ (
+                  let other = here.from.1 (first, above, test) in
+                  absurd (none_above w p.k xs stage other.0 odd valid (let a = other.1 in omega (arith, a, early)) (may.after other.0 ((must_precede_decides p.pairs other.0 rank).0 other.2)))
+                  )
+            ];
+      }
+
+  pub successor_alike : (stage : ℕ) → suc stage + p.k < d → (xs next : List ℤ) → IsWindow w xs → IsSuccessor p stage xs next → IsSuccessor q stage xs next
+  successor_alike stage early xs next valid (rank, may, e) = (rank, permitted_alike stage early xs valid rank may, e)
+
+-- in both directions
+module _ (p q : Problem) (d : ℕ) (within : IsWithinBoth p q d) (agree : AgreeUpTo p q d) (bp : AreBetweenRanks (length p.flights) p.pairs) (bq : AreBetweenRanks (length q.flights) q.pairs) (w : ℕ) (odd : w ≡ 2 * p.k + 1) where
+  odd_there : w ≡ 2 * q.k + 1
+  odd_there = let same = agree.head.k in omega (arith, odd, same)
+
+  there : (stage : ℕ) → suc stage + p.k < d → (xs next : List ℤ) → IsWindow w xs → IsSuccessor p stage xs next → IsSuccessor q stage xs next
+  there = successor_alike p q d within agree bq w odd
+
+  back : (stage : ℕ) → suc stage + p.k < d → (xs next : List ℤ) → IsWindow w xs → IsSuccessor q stage xs next → IsSuccessor p stage xs next
+  back stage early xs next valid s =
+      let same = agree.head.k in
+      successor_alike q p d (within.1, within.0) (agree_back p q d agree) bp w odd_there stage (omega (arith, early, same)) xs next valid s
+
+  -- the windows that extend those of an early stage
+  pub kept_next : (stage : ℕ) (before after : List (List ℤ)) → suc stage + p.k < d → AreWindows w before → IsNextOf p stage before after → IsNextOf q stage before after
+  kept_next stage before after early valid next = λ x. (
+    λ has. let a = (next x).0 has in (a.0, a.1, there stage early a.0 x (valid_in a.0 a.1) a.2),
+    λ a. (next x).1 (a.0, a.1, back stage early a.0 x (valid_in a.0 a.1) a.2),
+  )
+    where
+      valid_in : (window : List ℤ) → Contains before window → IsWindow w window
+      valid_in window (i, lt, at) = subst (IsWindow w) (get_or_default before i [] window lt ∙ at) (valid i lt)
+
+  -- and so the candidates of an early stage
+  module _ (laws : WindowLaws p w) (stage : ℕ) (early : suc stage + p.k < d) (common : HaveStageInCommon p q stage) where
+    candidate_there : (next : List ℤ) → IsCandidate p stage next → IsCandidate q stage next
+    candidate_there next (xs, can, s) = (xs, (common.landable xs).0 can, there stage early xs next (landable_valid p w odd laws stage xs can) s)
+
+    candidate_back : (next : List ℤ) → IsCandidate q stage next → IsCandidate p stage next
+    candidate_back next (xs, can, s) =
+        let here = (common.landable xs).1 can in
+        (xs, here, back stage early xs next (landable_valid p w odd laws stage xs here) s)
+
+    pub kept_candidates : (count : ℕ) → HasCandidates p stage count → HasCandidates q stage count
+    kept_candidates count has = record {
+      candidates = has.candidates;
+      ascending = has.ascending;
+      each = λ next. (λ h. candidate_there next ((has.each next).0 h), λ c. (has.each next).1 (candidate_back next c));
+      counted = has.counted;
+    }

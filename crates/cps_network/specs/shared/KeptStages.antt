@@ -1,0 +1,41 @@
+-- The stages below the first difference of two problems, less the greatest shift, are the same in both.
+use Rattle.std.proofs.Common.{◌≡◌, ℕ, ◌+◌, ◌<◌, List, length, sym, ap, ◌∙◌, arith}
+use Rattle.std.specs.Prelude.{ℤ, true}
+use Rattle.cps_theory.specs.LandingTrail.{ranks}
+use Rattle.cps_theory.specs.Feasible.{next_from}
+use Rattle.cps_theory.specs.laws.FirstDifference.{uncounted}
+use Rattle.cps_theory.specs.laws.KeptStages.{agree_landed, agree_legal, low_ranks}
+use Rattle.cps_theory.specs.laws.LegalPrefix.{legal_each_fits}
+use Rattle.landing_joint.specs.RankedProblem.{ranked, cost_at}
+use Rattle.landing_rules.specs.Problem.{Problem, AreBetweenRanks}
+use Rattle.cps_problem.specs.FirstDifference.{AgreeUpTo, IsWithinBoth}
+use Rattle.cps_problem.specs.shared.OneDifference.{agree_back}
+use Rattle.cps_problem.specs.shared.EarlyLandings.{agree_below, same_landings}
+use Rattle.cps_network.specs.KeptStages.{LandAlike, EarlyStagesAreKept, UncountedStagesAreKept}
+use Rattle.cps_network.specs.Landable.{IsLandable}
+use Rattle.cps_network.specs.Nodes.{Node, node_of}
+
+land_alike : (p q : Problem) (d : ℕ) → IsWithinBoth p q d → AgreeUpTo p q d → AreBetweenRanks (length q.flights) q.pairs → (stage : ℕ) → stage + p.k < d → LandAlike p q stage
+land_alike p q d within agree between stage early xs landings (legal, landed, at) =
+    let long : length (ranks landings) ≡ stage = ap (λ (n : Node). n.0) at in
+    let short : length (ranks landings) + p.k < d = omega (arith, early, long) in
+    let low = low_ranks (ranked p).rules d (ranks landings) (legal_each_fits (ranked p).rules (ranks landings) legal) short in
+    let lands = agree_landed d (λ r t. (ranked p).is_open r t ≡ true) (λ r t. (ranked q).is_open r t ≡ true) (next_from (ranked p)) (next_from (ranked q)) (cost_at p) (cost_at q) (same_landings p q d within agree) (omega (arith, early)) landings low landed in
+    ((agree_legal d (ranked p).rules (ranked q).rules (agree_below p q d within agree between) (ranks landings) legal short, lands.0, ap (λ (k : ℕ). node_of k (ranks landings)) (sym agree.head.k) ∙ at), lands.1)
+
+landable_alike : (p q : Problem) (stage : ℕ) → LandAlike p q stage → (xs : List ℤ) → IsLandable p stage xs → IsLandable q stage xs
+landable_alike p q stage alike xs (landings, legal, landed, at) = let a = alike xs landings (legal, landed, at) in (landings, a.0.0, a.0.1, a.0.2)
+
+pub early_stages_are_kept : (p q : Problem) → AreBetweenRanks (length p.flights) p.pairs → AreBetweenRanks (length q.flights) q.pairs → EarlyStagesAreKept p q
+early_stages_are_kept p q bp bq d within agree stage early =
+    let there = land_alike p q d within agree bq stage early in
+    let same = agree.head.k in
+    let back = land_alike q p d (within.1, within.0) (agree_back p q d agree) bp stage (omega (arith, early, same)) in
+    record { landable = λ xs. (landable_alike p q stage there xs, landable_alike q p stage back xs); there = there; back = back }
+
+pub uncounted_stages_are_kept : (p q : Problem) → AreBetweenRanks (length p.flights) p.pairs → AreBetweenRanks (length q.flights) q.pairs → UncountedStagesAreKept p q
+uncounted_stages_are_kept p q bp bq d is last stage one out =
+    let far = (uncounted d q.k last stage out).0 in
+    let agree = is.agree (omega (arith, far, one)) in
+    let same = agree.head.k in
+    early_stages_are_kept p q bp bq d is.within agree stage (omega (arith, far, same))
