@@ -6,5 +6,6 @@ pub mod Begins
 pub mod Compacted
 pub mod Nodes
 pub mod Landable
+pub mod Pairs
 pub mod WindowLaws
 pub mod shared

@@ -3,3 +3,4 @@ pub mod KeptPlaces
 pub mod LegalWindows
 pub mod LeadingWindows
 pub mod LandableSteps
+pub mod PairSteps

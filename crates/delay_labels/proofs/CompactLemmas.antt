@@ -8,10 +8,10 @@ use Rattle.cps_network.specs.Compacted.{kept_where}
 use Rattle.cps_network.specs.Landable.{IsLandable, HasEachLandable}
 use Rattle.cps_network.specs.Lists.{node_at}
 use Rattle.cps_network.specs.shared.KeptPlaces.{one_each_left, each_left, landable_left}
-use Rattle.delay_labels.specs.Pairs.{ArePairsOf, AreCosts, HoldsCosts, list_at}
+use Rattle.cps_network.specs.Pairs.{ArePairsOf, AreCosts, HoldsCosts, list_at}
 use Rattle.delay_labels.specs.Parts.{IsPart, lists_of}
 use Rattle.delay_labels.specs.Lists.{has_some, known_of}
-use Rattle.delay_labels.specs.shared.PairSteps.{attains_landable, landable_attains}
+use Rattle.cps_network.specs.shared.PairSteps.{attains_landable, landable_attains}
 use Rattle.delay_labels.proofs.PartLemmas.{part_has_some}
 
 -- ---- as the lists are stored

@@ -25,10 +25,10 @@ use Rattle.cps_network.specs.Lists.{node_at}
 use Rattle.cps_network.specs.Nodes.{Node, node_of, permits, land, latest}
 use Rattle.cps_network.specs.Permits.{IsSuccessor}
 use Rattle.cps_network.specs.shared.LeadingWindows.{Sources, successor_at, place_at, rank_of, leader_at, landable_at}
-use Rattle.delay_labels.specs.Pairs.{Attains, ArePairsOf, AreCosts, GivesPair, list_at, pair_at, successor}
+use Rattle.cps_network.specs.Pairs.{Attains, ArePairsOf, AreCosts, GivesPair, list_at, pair_at, successor}
 use Rattle.delay_labels.specs.Parts.{IsInDays}
 use Rattle.delay_labels.specs.Lists.{IsGivenIn, successors_in}
-use Rattle.delay_labels.specs.shared.PairSteps.{attains_landable, dearer, in_at, at_in, next_attained}
+use Rattle.cps_network.specs.shared.PairSteps.{attains_landable, dearer, in_at, at_in, next_attained}
 use Rattle.delay_labels.proofs.ListLemmas.{all_in, given_in_range, range_gives, in_permuted, permuted_in, sorted_in_order}
 use Rattle.delay_labels.proofs.CostLemmas.{attained_small}
 

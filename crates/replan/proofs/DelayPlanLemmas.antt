@@ -28,7 +28,7 @@ use Rattle.extract_plan.specs.shared.LandingOrder.{in_order, trail_lands}
 use Rattle.extract_plan.specs.shared.PlannedOrder.{IsPlannedFor, order_best, order_tight}
 use Rattle.cps_network.specs.Lists.{node_at}
 use Rattle.cps_network.specs.Nodes.{node_of}
-use Rattle.delay_labels.specs.Pairs.{Attains, HoldsCosts, list_at, pair_at}
+use Rattle.cps_network.specs.Pairs.{Attains, HoldsCosts, list_at, pair_at}
 use Rattle.replan.specs.DelayStages.{last_pair, LandsWithPair}
 
 -- ---- no feasible list is cheaper than the cheapest pair

@@ -15,8 +15,8 @@ use Rattle.cps_network.specs.Lists.{node_at}
 use Rattle.cps_network.specs.Nodes.{Node}
 use Rattle.cps_network.specs.shared.LegalWindows.{source_is}
 use Rattle.delay_labels.specs.Lists.{has_some, known_of}
-use Rattle.delay_labels.specs.Pairs.{Attains, ArePairsOf, HoldsCosts, list_at}
-use Rattle.delay_labels.specs.shared.PairSteps.{landable_attains}
+use Rattle.cps_network.specs.Pairs.{Attains, ArePairsOf, HoldsCosts, list_at}
+use Rattle.cps_network.specs.shared.PairSteps.{landable_attains}
 use Rattle.replan.specs.Stages.{stage_at}
 use Rattle.replan.specs.DelayStages.{lists_at, HoldsDelayStages}
 use Rattle.replan.proofs.StageLemmas.{start_only, no_landing, kept_all}

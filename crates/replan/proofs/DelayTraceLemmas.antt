@@ -21,8 +21,8 @@ use Rattle.cps_network.specs.Nodes.{Node, node_of, permits, land, latest, IsWind
 use Rattle.cps_network.specs.WindowLaws.{WindowLaws}
 use Rattle.cps_network.specs.shared.LegalWindows.{next_last}
 use Rattle.cps_nodes.specs.Windows.{offset_at}
-use Rattle.delay_labels.specs.Pairs.{Attains, HoldsCosts, GivesPair, list_at, pair_at, successor}
-use Rattle.delay_labels.specs.shared.PairSteps.{dearer, at_in, listed_given}
+use Rattle.cps_network.specs.Pairs.{Attains, HoldsCosts, GivesPair, list_at, pair_at, successor}
+use Rattle.cps_network.specs.shared.PairSteps.{dearer, at_in, listed_given}
 use Rattle.replan.specs.Stages.{stage_at}
 use Rattle.replan.specs.DelayStages.{lists_at, last_pair, HoldsDelayStages, LandsWithPair}
 use Rattle.replan.proofs.StageLemmas.{start_only}

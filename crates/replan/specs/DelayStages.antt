@@ -7,7 +7,7 @@ use Rattle.cps_theory.specs.LegalPrefix.{Legal}
 use Rattle.cps_theory.specs.ProblemNetwork.{LandedIn}
 use Rattle.landing_joint.specs.RankedProblem.{ranked, cost_at}
 use Rattle.landing_rules.specs.Problem.{Problem}
-use Rattle.delay_labels.specs.Pairs.{HoldsCosts, pair_at}
+use Rattle.cps_network.specs.Pairs.{HoldsCosts, pair_at}
 use Rattle.replan.specs.Stages.{stage_at}
 
 abbrev pub lists_at : List (List (List Pair)) → ℕ → List (List Pair)

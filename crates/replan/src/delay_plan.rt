@@ -3,7 +3,7 @@
 ghost use Rattle.std.specs.Prelude.{◌≡◌, ℕ, ◌+◌, ◌*◌, ◌<◌, length, vec_len, IfOk};
 ghost use Rattle.landing_rules.specs.declared.objective.Objective.TheVariants.{Delay};
 ghost use Rattle.cps_problem.specs.Plans.{IsAnswerOf};
-ghost use Rattle.delay_labels.specs.Pairs.{list_at};
+ghost use Rattle.cps_network.specs.Pairs.{list_at};
 ghost use Rattle.replan.specs.Stages.{stage_at};
 ghost use Rattle.replan.specs.DelayStages.{lists_at, last_pair, HoldsDelayStages, LandsWithPair};
 

@@ -3,7 +3,7 @@
 ghost use Rattle.std.specs.Prelude.{◌≡◌, ℕ, ◌+◌, ◌-◌, ◌*◌, ◌<◌, ◌≤◌, length, vec_len, IfOk, OnOk, IsTrue};
 ghost use Rattle.cps_base.specs.Tally.{raised_by};
 ghost use Rattle.cps_network.specs.Permits.{IsNextOf};
-ghost use Rattle.delay_labels.specs.Pairs.{HoldsCosts};
+ghost use Rattle.cps_network.specs.Pairs.{HoldsCosts};
 ghost use Rattle.replan.specs.Stages.{HasCandidates, HasCandidatesUpto, IsWholeWhere};
 ghost use Rattle.replan.specs.DelayStages.{HoldsDelayStages};
 

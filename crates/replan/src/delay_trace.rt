@@ -1,7 +1,7 @@
 //! Back from the cheapest pair of the last stage to an order.
 
 ghost use Rattle.std.specs.Prelude.{◌≡◌, ℕ, ◌+◌, ◌*◌, ◌<◌, ◌≤◌, length, vec_len, MatchOption};
-ghost use Rattle.delay_labels.specs.Pairs.{list_at};
+ghost use Rattle.cps_network.specs.Pairs.{list_at};
 ghost use Rattle.replan.specs.Stages.{stage_at};
 ghost use Rattle.replan.specs.DelayStages.{lists_at, last_pair, HoldsDelayStages, LandsWithPair};
 

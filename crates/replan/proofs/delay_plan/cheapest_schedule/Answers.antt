@@ -3,7 +3,7 @@ use Rattle.std.proofs.lemmas.List.{length-replicate}
 use Rattle.cps_theory.specs.Labels.{Pair}
 use Rattle.extract_plan.specs.Orders.{IsWholeOrder, LandsInOrder, EarliestInOrder}
 use Rattle.extract_plan.specs.shared.PlannedOrder.{well_formed_planned}
-use Rattle.delay_labels.specs.Pairs.{list_at}
+use Rattle.cps_network.specs.Pairs.{list_at}
 use Rattle.replan.specs.Stages.{stage_at}
 use Rattle.replan.specs.DelayStages.{lists_at, last_pair}
 use Rattle.replan.proofs.DelayStageLemmas.{read_lists, list_some}

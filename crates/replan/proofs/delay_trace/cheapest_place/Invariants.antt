@@ -1,5 +1,5 @@
 use Rattle.std.proofs.Common.{ℕ, ◌<◌, ◌≤◌, length}
-use Rattle.delay_labels.specs.Pairs.{list_at}
+use Rattle.cps_network.specs.Pairs.{list_at}
 use Rattle.replan.specs.DelayStages.{last_pair}
 use Rattle.replan.proofs.delay_trace.cheapest_place.Given as goal
 

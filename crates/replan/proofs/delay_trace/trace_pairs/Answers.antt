@@ -5,7 +5,7 @@ use Rattle.std.proofs.lemmas.List.{length-set}
 use Rattle.cps_theory.specs.Labels.{Pair}
 use Rattle.cps_network.specs.Lists.{node_at}
 use Rattle.cps_network.specs.WindowLaws.{WindowLaws}
-use Rattle.delay_labels.specs.Pairs.{GivesPair, list_at, pair_at}
+use Rattle.cps_network.specs.Pairs.{GivesPair, list_at, pair_at}
 use Rattle.replan.specs.Stages.{stage_at}
 use Rattle.replan.specs.DelayStages.{lists_at, last_pair}
 use Rattle.replan.proofs.StageLemmas.{read_stage}

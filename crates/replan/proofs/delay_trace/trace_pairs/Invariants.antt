@@ -1,5 +1,5 @@
 use Rattle.std.proofs.Common.{◌≡◌, ◌<◌, ◌≤◌, length}
-use Rattle.delay_labels.specs.Pairs.{list_at}
+use Rattle.cps_network.specs.Pairs.{list_at}
 use Rattle.replan.specs.Stages.{stage_at}
 use Rattle.replan.specs.DelayStages.{lists_at, last_pair}
 use Rattle.replan.proofs.DelayTraceLemmas.{Traced}

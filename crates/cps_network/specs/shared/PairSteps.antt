@@ -22,7 +22,7 @@ use Rattle.landing_rules.specs.Problem.{Problem, Waiting}
 use Rattle.cps_network.specs.Landable.{IsLandable}
 use Rattle.cps_network.specs.Lists.{node_at}
 use Rattle.cps_network.specs.Nodes.{Node, node_of, permits, land, latest, IsWindowNetwork}
-use Rattle.delay_labels.specs.Pairs.{Attains, HoldsCosts, GivesPair, list_at, pair_at, successor}
+use Rattle.cps_network.specs.Pairs.{Attains, HoldsCosts, GivesPair, list_at, pair_at, successor}
 
 -- ---- what is attained is landable
 
