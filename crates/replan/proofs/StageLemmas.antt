@@ -155,6 +155,26 @@ list_some p stage lists h i lt =
     some [] q i = absurd i
     some (x ∷ pairs) q i = omega arith
 
+-- the last stage as it is read: all of its labels, which have a pair each
+pub record LastRead (p : Problem) (stages : List (ℕ × List (List ℤ))) (labels : List StagePairs) (last : StagePairs) : Type 0 where
+  pub is : last ≡ labels_at labels (length p.flights)
+  pub number : (stage_at stages (length p.flights)).0 ≡ length p.flights
+  pub held : HoldsPairs p (stage_at stages (length p.flights)) last
+  pub some : (i : ℕ) → i < length last.lists → 0 < length (list_at last.lists i)
+
+pub last_read : (p : Problem) (stages : List (ℕ × List (List ℤ))) (labels : List StagePairs) → HoldsStages p stages labels → length stages ≡ length p.flights + 1
+    → (n : ℕ) (last : StagePairs) → n ≡ length p.flights → last ≡ get_or labels n last → LastRead p stages labels last
+last_read p stages labels holds whole n last same e =
+    let lt : length p.flights < length stages = omega (arith, whole) in
+    let is : last ≡ labels_at labels (length p.flights) = read_labels labels n last e (omega (arith, lt, same, holds.one_each)) ∙ ap (labels_at labels) same in
+    let held = subst (HoldsPairs p (stage_at stages (length p.flights))) (sym is) (holds.held (length p.flights) lt) in
+    record {
+      is = is;
+      number = holds.number (length p.flights) lt;
+      held = held;
+      some = λ i inside. list_some p (stage_at stages (length p.flights)) last.lists held.held i (omega (arith, inside, held.held.costs.one_each));
+    }
+
 -- ---- the stage after the last
 
 -- the last two stages, where the last one is whole

@@ -1,5 +1,5 @@
 -- Going back from a pair, source by source, makes a legal order that lands with that pair.
-use Rattle.std.proofs.Common.{◌≡◌, ℕ, zero, suc, ◌+◌, ◌-◌, ◌*◌, ◌≤◌, ◌<◌, Some, List, [], ◌∷◌, ◌++◌, length, reverse, drop, set, append_assoc, refl, sym, ap, subst, ◌∙◌, arith, inl, inr}
+use Rattle.std.proofs.Common.{◌≡◌, ℕ, zero, suc, ◌+◌, ◌-◌, ◌*◌, ◌≤◌, ◌<◌, Some, List, [], ◌∷◌, ◌++◌, length, get_or, reverse, drop, set, append_assoc, refl, sym, ap, subst, ◌∙◌, arith, inl, inr}
 use Rattle.std.specs.Prelude.{ℤ, pos, ◌+ℤ◌, true}
 use Rattle.std.proofs.lemmas.List.Elements.{Contains-get_or}
 use Rattle.std.proofs.lemmas.List.{append-nil, reverse-append, drop_all}
@@ -22,10 +22,10 @@ use Rattle.cps_network.specs.WindowLaws.{WindowLaws}
 use Rattle.cps_network.specs.shared.LegalWindows.{next_last}
 use Rattle.cps_nodes.specs.Windows.{offset_at}
 use Rattle.cps_network.specs.Pairs.{Attains, HoldsCosts, GivesPair, list_at, pair_at, successor}
-use Rattle.cps_network.specs.shared.PairSteps.{dearer, at_in, listed_given}
+use Rattle.cps_network.specs.shared.PairSteps.{dearer, at_in}
 use Rattle.replan.specs.Stages.{stage_at, labels_at, lists_at, HoldsStages, LandsWithPair}
 use Rattle.replan.specs.Labels.{StagePairs, HoldsPairs, last_pair}
-use Rattle.replan.proofs.StageLemmas.{start_only, start_pair}
+use Rattle.replan.proofs.StageLemmas.{start_only, start_pair, read_stage, read_labels, held_at}
 
 -- landings of a legal prefix that ends in this window with this pair
 pub record EndsWith (p : Problem) (stage : ℕ) (window : List ℤ) (q : Pair) (xs : List Landing) : Type 0 where
@@ -111,19 +111,68 @@ back_pair p net stages labels stage s place index j k r end order before lists v
     subst (λ (ls : List (List Pair)). CompletesWith p s (node_at (stage_at stages s).1 j) (pair_at (list_at ls j) k) (reverse (drop s (set order s r))) end) el
     (subst (λ (z : ℕ × List (List ℤ)). CompletesWith p s (node_at z.1 j) (pair_at (list_at lists j) k) (reverse (drop s (set order s r))) end) eb d)
 
--- the pairs of the stage before that give a listed one
-pub pair_given : (p : Problem) → IsWindowNetwork p → (before after : ℕ × List (List ℤ)) (lists more : List (List Pair)) (v : List ℤ) (q : Pair) (place index : ℕ) → HoldsCosts p before lists → HoldsCosts p after more
+-- ---- what one step back reads
+
+-- the stage before with its labels, and the window and the pair of this stage
+pub record StepReads (p : Problem) (stages : List (ℕ × List (List ℤ))) (labels : List StagePairs) (stage place index : ℕ) (before : ℕ × List (List ℤ)) (from : StagePairs) (after : ℕ × List (List ℤ)) (more : StagePairs) : Type 0 where
+  pub before_is : before ≡ stage_at stages (stage - 1)
+  pub from_is : from.lists ≡ lists_at labels (stage - 1)
+  pub after_is : after ≡ stage_at stages stage
+  pub more_is : more.lists ≡ lists_at labels stage
+  pub held : HoldsPairs p before from
+  pub above : HoldsPairs p after more
+  pub number : before.0 ≡ stage - 1
+  pub next : after.0 ≡ suc before.0
+  pub one_back : stage ≡ suc (stage - 1)
+  pub within : place < length after.1
+  pub place_listed : place < length more.lists
+  pub listed : index < length (list_at more.lists place)
+
+pub step_reads : (p : Problem) (stages : List (ℕ × List (List ℤ))) (labels : List StagePairs) → HoldsStages p stages labels → length stages ≡ length p.flights + 1
+    → (stage place index : ℕ) (before : ℕ × List (List ℤ)) (from : StagePairs) (after : ℕ × List (List ℤ)) (more : StagePairs) → 0 < stage → stage ≤ length p.flights
+    → before ≡ get_or stages (stage - 1) before → from ≡ get_or labels (stage - 1) from → after ≡ get_or stages stage after → more ≡ get_or labels stage more
+    → place < length (stage_at stages stage).1 → index < length (list_at (lists_at labels stage) place) → StepReads p stages labels stage place index before from after more
+step_reads p stages labels holds whole stage place index before from after more some low eb ef ea em lt listed =
+    let here : stage < length stages = omega (arith, low, whole) in
+    let back : stage - 1 < length stages = omega (arith, here) in
+    let before_is = read_stage stages (stage - 1) before eb back in
+    let after_is = read_stage stages stage after ea here in
+    let from_is = read_labels labels (stage - 1) from ef (omega (arith, back, holds.one_each)) in
+    let more_is = read_labels labels stage more em (omega (arith, here, holds.one_each)) in
+    let held = held_at p stages labels holds (stage - 1) before from before_is from_is back in
+    let above = held_at p stages labels holds stage after more after_is more_is here in
+    let number = held.1 in
+    let number' = above.1 in
+    let one_back : stage ≡ suc (stage - 1) = omega (arith, some) in
+    let within : place < length after.1 = subst (λ (s : ℕ × List (List ℤ)). place < length s.1) (sym after_is) lt in
+    record {
+      before_is = before_is;
+      from_is = ap (λ (x : StagePairs). x.lists) from_is;
+      after_is = after_is;
+      more_is = ap (λ (x : StagePairs). x.lists) more_is;
+      held = held.0;
+      above = above.0;
+      number = number;
+      next = omega (arith, number, number', one_back);
+      one_back = one_back;
+      within = within;
+      place_listed = omega (arith, within, above.0.held.costs.one_each);
+      listed = subst (λ (x : StagePairs). index < length (list_at x.lists place)) (sym more_is) listed;
+    }
+
+-- a listed pair is undominated
+pub listed_undominated : (p : Problem) (before after : ℕ × List (List ℤ)) (more : List (List Pair)) (v : List ℤ) (q : Pair) (place index : ℕ) → HoldsCosts p after more
     → after.0 ≡ suc before.0 → place < length after.1 → v ≡ node_at after.1 place → index < length (list_at more place) → q ≡ pair_at (list_at more place) index
-    → (j : ℕ) × (k : ℕ) × GivesPair p before lists v q j k
-pair_given p net before after lists more v q place index held above number lt at listed is =
+    → Undominated (Attains p (before.0 + 1) v) q
+listed_undominated p before after more v q place index above number lt at listed is =
     let has : InPairs q (list_at more place) = at_in (list_at more place) index q listed (sym is) in
     let u : Undominated (Attains p after.0 (node_at after.1 place)) q = ((above.costs.pairs place lt).undominated q).0 has in
-    let u' : Undominated (Attains p after.0 v) q = subst (λ (z : List ℤ). Undominated (Attains p after.0 z) q) (sym at) u in
-    listed_given p net before lists held v q (subst (λ (n : ℕ). Undominated (Attains p n v) q) number u')
+    let n : after.0 ≡ before.0 + 1 = omega (arith, number) in
+    subst (λ (m : ℕ). Undominated (Attains p m v) q) n (subst (λ (z : List ℤ). Undominated (Attains p after.0 z) q) (sym at) u)
 
-pub last_given_pair : (p : Problem) (w : ℕ) → w ≡ 2 * p.k + 1 → WindowLaws p w → (before : ℕ × List (List ℤ)) (lists : List (List Pair)) (v : List ℤ) (q : Pair) (j k : ℕ) → HoldsCosts p before lists
+pub last_given : (p : Problem) (w : ℕ) → w ≡ 2 * p.k + 1 → WindowLaws p w → (before : ℕ × List (List ℤ)) (lists : List (List Pair)) (v : List ℤ) (q : Pair) (j k : ℕ) → HoldsCosts p before lists
     → (source : GivesPair p before lists v q j k) → (pos (suc before.0) +ℤ offset_at v (w - 1) ≡ pos source.rank) × (source.rank ≤ length p.flights)
-last_given_pair p w odd laws before lists v q j k held source =
+last_given p w odd laws before lists v q j k held source =
     let l : IsLandable p before.0 (node_at before.1 j) = (held.landable (node_at before.1 j)).0 (Contains-get_or before.1 j [] source.within) in (
       ap (λ (z : List ℤ). pos (suc before.0) +ℤ offset_at z (w - 1)) source.next ∙ next_last p w odd laws before.0 (node_at before.1 j) source.rank l source.permitted,
       source.permitted.to_count,
@@ -141,14 +190,9 @@ trace_end p stages labels held stage place index end order none some lt listed r
     let l : IsLandable p 0 (node_at (stage_at stages 0).1 place) =
     subst (λ (n : ℕ). IsLandable p n (node_at (stage_at stages 0).1 place)) number ((h.landable (node_at (stage_at stages 0).1 place)).0 (Contains-get_or (stage_at stages 0).1 place [] lt')) in
     let at = start_only p (node_at (stage_at stages 0).1 place) l in
-    let u = ((h.costs.pairs place lt').undominated (pair_in labels 0 place index)).0 (at_in (list_at (lists_at labels 0) place) index listed') in
+    let u = ((h.costs.pairs place lt').undominated (pair_in labels 0 place index)).0 (at_in (list_at (lists_at labels 0) place) index (pair_in labels 0 place index) listed' refl) in
     let a : Attains p 0 (node_at (stage_at stages 0).1 place) (pair_in labels 0 place index) = subst (λ (n : ℕ). Attains p n (node_at (stage_at stages 0).1 place) (pair_in labels 0 place index)) number u.attained in
     completes_pair_all p (node_at (stage_at stages 0).1 place) order (pair_in labels 0 place index) end at (start_pair p (node_at (stage_at stages 0).1 place) (pair_in labels 0 place index) a) rest'
-  where
-    at_in : (xs : List Pair) (i : ℕ) → i < length xs → InPairs (pair_at xs i) xs
-    at_in [] i lt = absurd (omega arith)
-    at_in (x ∷ xs) zero lt = inl refl
-    at_in (x ∷ xs) (suc i) lt = inr (at_in xs i (omega arith))
 
 -- before the first step back
 pub trace_begins : (p : Problem) (stages : List (ℕ × List (List ℤ))) (labels : List StagePairs) (n stage place index : ℕ) (order : List ℕ) → stage ≡ n → n ≤ length p.flights → length order ≡ n

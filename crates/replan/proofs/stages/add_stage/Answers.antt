@@ -41,6 +41,6 @@ returns-clause-steps g c =
     let lt : vec_len c.args.kept.now.stages - 1 < length c.args.kept.now.stages.items = omega (arith, c.requires.some) in (
       length c.in_ok-stage.stage.1,
       has_candidates c.args.problem.now (stage_at c.args.kept.now.stages.items (vec_len c.args.kept.now.stages - 1)) c.in_ok-stage.stage (vec_len c.args.kept.now.stages - 1)
-          (c.requires.held.number (vec_len c.args.kept.now.stages - 1) lt) (c.requires.held.held (vec_len c.args.kept.now.stages - 1) lt).landable c.in_ok-stage.ensures.candidates c.in_ok-stage.ensures.ascending,
+          (c.requires.held.number (vec_len c.args.kept.now.stages - 1) lt) (c.requires.held.held (vec_len c.args.kept.now.stages - 1) lt).held.landable c.in_ok-stage.ensures.candidates c.in_ok-stage.ensures.ascending,
       c.in_ok-found.ensures.steps,
     )
