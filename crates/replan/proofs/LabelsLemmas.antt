@@ -1,5 +1,5 @@
 -- For each kind of labels: what is held of it as pairs, and where no window was dropped, each is still there.
-use Rattle.std.proofs.Common.{◌≡◌, ℕ, zero, suc, ◌+◌, ◌<◌, List, [], ◌∷◌, length, refl, sym, ap, subst, ◌∙◌, arith}
+use Rattle.std.proofs.Common.{◌≡◌, ℕ, suc, ◌+◌, List, [], ◌∷◌, length, refl, sym, ap, subst, ◌∙◌, arith}
 use Rattle.std.specs.Prelude.{ℤ, Bool, true, false, ◌≤◌, map, Contains}
 use Rattle.std.proofs.lemmas.List.{length-map}
 use Rattle.std.proofs.lemmas.List.Elements.{Contains-get_or}
@@ -16,8 +16,8 @@ use Rattle.cps_network.specs.Permits.{IsSuccessor}
 use Rattle.cps_network.specs.shared.PairSteps.{listed_given}
 use Rattle.makespan_labels.specs.Columns as columns
 use Rattle.makespan_labels.specs.LabelPairs.{column_pairs, label_pairs}
-use Rattle.makespan_labels.specs.Labels.{no_label, IsLabel, AreLabels, HoldsLabels, GivesLabel}
-use Rattle.makespan_labels.specs.shared.LabelPairs.{holds_costs, holds_labels, costs_of_labels, labels_of_costs, label_of_undominated, attains_free, gives_pair}
+use Rattle.makespan_labels.specs.Labels.{AreLabels, HoldsLabels, GivesLabel}
+use Rattle.makespan_labels.specs.shared.LabelPairs.{holds_costs, holds_labels, costs_of_labels, labels_of_costs, attains_free, gives_pair}
 use Rattle.delay_labels.specs.Lists as lists
 use Rattle.replan.specs.Labels.{StagePairs, ArePairs, HoldsPairs}
 

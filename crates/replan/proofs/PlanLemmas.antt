@@ -8,7 +8,7 @@ use Rattle.landing_rules.specs.declared.objective.Objective.TheVariants.{Makespa
 use Rattle.landing_rules.specs.Flights.{Schedule}
 use Rattle.landing_rules.specs.Problem.{Problem, Waiting, IsFeasibleList, IsBestList, IsTightList}
 use Rattle.cps_theory.specs.RankLists.{In, of_rank, Distinct, IsRank, numbers_from, upto}
-use Rattle.cps_theory.specs.LandingTrail.{latest_landing, ranks}
+use Rattle.cps_theory.specs.LandingTrail.{ranks}
 use Rattle.cps_theory.specs.Labels.{InPairs, NoWorse, Pair}
 use Rattle.cps_theory.specs.LegalPrefix.{Legal}
 use Rattle.cps_theory.specs.ProblemNetwork.{LandedIn}

@@ -1,5 +1,5 @@
 -- Going back from a pair, source by source, makes a legal order that lands with that pair.
-use Rattle.std.proofs.Common.{◌≡◌, ℕ, zero, suc, ◌+◌, ◌-◌, ◌*◌, ◌≤◌, ◌<◌, Some, List, [], ◌∷◌, ◌++◌, length, get_or, reverse, drop, set, append_assoc, refl, sym, ap, subst, ◌∙◌, arith, inl, inr}
+use Rattle.std.proofs.Common.{◌≡◌, ℕ, zero, suc, ◌+◌, ◌-◌, ◌*◌, ◌≤◌, ◌<◌, Some, List, [], ◌∷◌, ◌++◌, length, get_or, reverse, drop, set, append_assoc, refl, sym, ap, subst, ◌∙◌, arith}
 use Rattle.std.specs.Prelude.{ℤ, pos, ◌+ℤ◌, true}
 use Rattle.std.proofs.lemmas.List.Elements.{Contains-get_or}
 use Rattle.std.proofs.lemmas.List.{append-nil, reverse-append, drop_all}
@@ -23,7 +23,7 @@ use Rattle.cps_network.specs.shared.LegalWindows.{next_last}
 use Rattle.cps_nodes.specs.Windows.{offset_at}
 use Rattle.cps_network.specs.Pairs.{Attains, HoldsCosts, GivesPair, list_at, pair_at, successor}
 use Rattle.cps_network.specs.shared.PairSteps.{dearer, at_in}
-use Rattle.replan.specs.Stages.{stage_at, labels_at, lists_at, HoldsStages, LandsWithPair}
+use Rattle.replan.specs.Stages.{stage_at, lists_at, HoldsStages, LandsWithPair}
 use Rattle.replan.specs.Labels.{StagePairs, HoldsPairs, last_pair}
 use Rattle.replan.proofs.StageLemmas.{start_only, start_pair, read_stage, read_labels, held_at}
 

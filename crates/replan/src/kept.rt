@@ -27,9 +27,9 @@ pub struct Kept<const W: usize> {
 
 impl<const W: usize> Model for Kept<W> {
     ghost use Rattle.std.specs.Prelude.{Option};
-    ghost use Rattle.replan.specs.Held as held;
+    ghost use Rattle.replan.specs.Held.{HeldProblem};
 
-    ghost Value = { Option held.HeldProblem };
+    ghost Value = { Option HeldProblem };
 
     ghost view = { λ k. k.held };
 }

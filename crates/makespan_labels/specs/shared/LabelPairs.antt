@@ -1,15 +1,15 @@
 -- Labels for the makespan and pairs say the same: the label of a window is its one undominated pair, whose cost is 0.
-use Rattle.std.proofs.Common.{◌≡◌, ℕ, zero, suc, ◌+◌, ◌<◌, ◌≤◌, List, [], ◌∷◌, length, Option, Some, option_map, Bool, true, false, inl, inr, refl, sym, ap, ap₂, subst, ◌∙◌, arith}
+use Rattle.std.proofs.Common.{◌≡◌, ℕ, zero, suc, ◌+◌, ◌<◌, ◌≤◌, List, [], ◌∷◌, length, Some, option_map, Bool, inl, inr, refl, sym, ap, ap₂, subst, ◌∙◌, arith}
 use Rattle.std.specs.Prelude.{ℤ, slice_index}
 use Rattle.std.proofs.lemmas.Bool.{cases_lt, lt-ltb, le-ltb}
 use Rattle.std.proofs.lemmas.List.{length-map}
 use Rattle.std.proofs.lemmas.List.Elements.{Contains-get_or}
 use Rattle.landing_rules.specs.declared.objective.Objective.{Objective}
 use Rattle.landing_rules.specs.declared.objective.Objective.TheVariants.{Makespan}
-use Rattle.landing_rules.specs.Problem.{Problem, Waiting}
+use Rattle.landing_rules.specs.Problem.{Problem}
 use Rattle.cps_theory.specs.RankLists.{of_rank}
 use Rattle.cps_theory.specs.Separation.{Landing}
-use Rattle.cps_theory.specs.LandingTrail.{latest_landing, pair_of, cost_of}
+use Rattle.cps_theory.specs.LandingTrail.{cost_of}
 use Rattle.cps_theory.specs.Labels.{InPairs, NoWorse, Pair}
 use Rattle.cps_theory.specs.Network.{Undominated}
 use Rattle.landing_joint.specs.RankedProblem.{no_waiting, cost_at, cost_by, landing_after}

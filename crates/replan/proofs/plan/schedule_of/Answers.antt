@@ -1,4 +1,4 @@
-use Rattle.std.proofs.Common.{◌≡◌, ℕ, ◌<◌, ◌≤◌, List, length, rules, arith, ap, ◌∙◌, sym, subst, refl}
+use Rattle.std.proofs.Common.{◌≡◌, ℕ, ◌≤◌, List, length, rules, arith, ap, ◌∙◌, sym, subst, refl}
 use Rattle.std.proofs.lemmas.List.{length-replicate}
 use Rattle.cps_theory.specs.Labels.{Pair}
 use Rattle.landing_rules.specs.declared.objective.Objective.{Objective}
@@ -6,7 +6,7 @@ use Rattle.cps_network.specs.Pairs.{list_at}
 use Rattle.extract_plan.specs.Orders.{IsWholeOrder, LandsInOrder, EarliestInOrder}
 use Rattle.extract_plan.specs.shared.PlannedOrder.{well_formed_planned}
 use Rattle.replan.specs.Labels.{StagePairs, last_pair, worth}
-use Rattle.replan.specs.Stages.{stage_at, labels_at, lists_at}
+use Rattle.replan.specs.Stages.{stage_at, lists_at}
 use Rattle.replan.proofs.StageLemmas.{last_read}
 use Rattle.replan.proofs.PlanLemmas.{bounds, order_is_whole, seconds, order_lands, plan_best}
 use Rattle.replan.proofs.plan.schedule_of.Goals as goal

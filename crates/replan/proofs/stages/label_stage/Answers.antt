@@ -1,4 +1,4 @@
-use Rattle.std.proofs.Common.{◌≡◌, length, ap, sym, ◌∙◌, rules}
+use Rattle.std.proofs.Common.{◌≡◌, sym, ◌∙◌, rules}
 use Rattle.replan.proofs.stages.label_stage.Goals as goal
 
 pub returns-clause-held : goal.returns-clause-held

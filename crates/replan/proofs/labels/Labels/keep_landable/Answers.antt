@@ -1,8 +1,6 @@
-use Rattle.std.proofs.Common.{◌≡◌, ℕ, List, length, rules, ap, sym, subst, ◌∙◌}
+use Rattle.std.proofs.Common.{◌≡◌, ℕ, List, ap, sym, subst, ◌∙◌}
 use Rattle.std.specs.Prelude.{ℤ}
-use Rattle.landing_rules.specs.Problem.{Problem}
-use Rattle.cps_network.specs.Landable.{HasEachLandable}
-use Rattle.replan.specs.Labels.{StagePairs, ArePairs, HoldsPairs}
+use Rattle.replan.specs.Labels.{HoldsPairs}
 use Rattle.replan.specs.LabelsOf.{pairs_of}
 use Rattle.replan.proofs.LabelsLemmas.{of_column, of_costs, column_all, column_left, costs_all, costs_left}
 use Rattle.replan.proofs.labels.Labels.keep_landable.Goals as goal

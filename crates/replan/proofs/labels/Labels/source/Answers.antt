@@ -1,5 +1,4 @@
-use Rattle.std.proofs.Common.{◌≡◌, ℕ, ◌+◌, length, rules, ap, sym, subst, ◌∙◌}
-use Rattle.std.specs.Prelude.{ℤ}
+use Rattle.std.proofs.Common.{◌≡◌, ◌+◌, rules, ap, sym, subst, ◌∙◌}
 use Rattle.cps_network.specs.Pairs.{HoldsCosts}
 use Rattle.makespan_labels.specs.shared.LabelPairs.{label_of_undominated}
 use Rattle.replan.specs.Labels.{HoldsPairs}
