@@ -1,5 +1,5 @@
 -- The order of the last stage's pair that is worth least: its earliest seconds are a best and tight schedule.
-use Rattle.std.proofs.Common.{◌≡◌, ℕ, zero, suc, ◌+◌, ◌-◌, ◌<◌, ◌≤◌, List, [], ◌∷◌, length, get_or, map, reverse, drop, take, ◌++◌, inl, inr, refl, sym, ap, ap₂, subst, ◌∙◌, arith, le_trans}
+use Rattle.std.proofs.Common.{◌≡◌, ℕ, zero, suc, ◌+◌, ◌-◌, ◌<◌, ◌≤◌, List, [], ◌∷◌, length, get_or, map, reverse, drop, take, ◌++◌, inl, inr, refl, sym, ap, subst, ◌∙◌, arith, le_trans}
 use Rattle.std.specs.Prelude.{ℤ}
 use Rattle.std.specs.List.{AllZip}
 use Rattle.std.proofs.lemmas.List.{length-reverse, get_or_default}
@@ -7,25 +7,24 @@ use Rattle.landing_rules.specs.declared.objective.Objective.{Objective}
 use Rattle.landing_rules.specs.declared.objective.Objective.TheVariants.{Makespan, Delay}
 use Rattle.landing_rules.specs.Flights.{Schedule}
 use Rattle.landing_rules.specs.Problem.{Problem, Waiting, IsFeasibleList, IsBestList, IsTightList}
-use Rattle.cps_theory.specs.RankLists.{In, of_rank, Distinct, IsRank, numbers_from, upto}
+use Rattle.cps_theory.specs.RankLists.{In, of_rank, Distinct, IsRank, numbers_from}
 use Rattle.cps_theory.specs.LandingTrail.{ranks}
 use Rattle.cps_theory.specs.Labels.{InPairs, NoWorse, Pair}
 use Rattle.cps_theory.specs.LegalPrefix.{Legal}
 use Rattle.cps_theory.specs.ProblemNetwork.{LandedIn}
-use Rattle.cps_theory.specs.Feasible.{at_seconds, greatest, second_in, pair_at as map_pair, total}
+use Rattle.cps_theory.specs.Feasible.{at_seconds, second_in, pair_at as map_pair}
 use Rattle.cps_theory.specs.UndominatedPairs.{Staircase}
 use Rattle.cps_theory.specs.laws.FeasibleOrder.{at_seconds_agree}
 use Rattle.cps_theory.specs.laws.FrozenFront.{each_fits_distinct}
 use Rattle.cps_theory.specs.laws.LegalPrefix.{legal_each_fits, in_from_one}
 use Rattle.cps_theory.specs.laws.LeastObjective.{at_second_in, feasible_landing_trail, landing_trail_feasible}
 use Rattle.cps_theory.specs.laws.OrderLoops.{front_whole}
-use Rattle.cps_theory.specs.laws.RanksBelow.{greatest_least, at_most_greatest, in_upto}
 use Rattle.landing_joint.specs.RankedProblem.{ranked, cost_at, value_by, makespan_by}
 use Rattle.landing_joint.specs.shared.RankedLists.{list_feasible, sound_ranked}
 use Rattle.landing_joint.specs.shared.BestLists.{list_value}
 use Rattle.extract_plan.specs.Orders.{IsWholeOrder, LandsInOrder, EarliestInOrder}
 use Rattle.extract_plan.specs.shared.LandingOrder.{in_order, trail_lands}
-use Rattle.extract_plan.specs.shared.PlannedOrder.{IsPlannedFor, order_best, order_tight}
+use Rattle.extract_plan.specs.shared.PlannedOrder.{IsPlannedFor, map_value_rises, order_best, order_tight}
 use Rattle.cps_network.specs.Lists.{node_at}
 use Rattle.cps_network.specs.Nodes.{node_of}
 use Rattle.cps_network.specs.Pairs.{Attains, list_at, pair_at}
@@ -103,10 +102,6 @@ rank_mapped : (f : ℕ → ℕ) (n r : ℕ) → IsRank n r → of_rank 0 (map f 
 rank_mapped f n zero q = absurd (let a = q.0 in omega arith)
 rank_mapped f n (suc i) q = get_mapped f 1 n i (let a = q.1 in omega arith) ∙ ap f (let e : 1 + i ≡ suc i = omega arith in e)
 
-total_same : (f g : ℕ → ℕ) (rs : List ℕ) → ((r : ℕ) → In r rs → f r ≡ g r) → total f rs ≡ total g rs
-total_same f g [] h = refl
-total_same f g (r ∷ rs) h = ap₂ ◌+◌ (h r (inl refl)) (total_same f g rs (λ x i. h x (inr i)))
-
 in_reverse : (order : List ℕ) (k d : ℕ) → k < length order → In (get_or order k d) (reverse order)
 in_reverse order k d lt =
     subst (In (get_or order k d)) (sym (front_whole order k d lt)) (in_behind (reverse (drop (k + 1) order)) (get_or order k d) (reverse (take k order)))
@@ -124,10 +119,6 @@ makespan_rises (f ∷ fs) p a b le = le
 value_rises : (p : Problem) (o : Objective) (a b : Pair) → worth o a ≤ worth o b → value_by o p a ≤ value_by o p b
 value_rises p Makespan a b le = makespan_rises p.flights p a.0 b.0 le
 value_rises p Delay a b le = omega (arith, le)
-
-worth_low : (o : Objective) (a b : Pair) → a.0 ≤ b.0 → a.1 ≤ b.1 → worth o a ≤ worth o b
-worth_low Makespan a b x y = x
-worth_low Delay a b x y = y
 
 module _ (p : Problem) (is : IsPlannedFor p) (order : List ℕ) (end : Pair) (whole : length order ≡ length p.flights) (lands : LandsWithPair p order end) where
   legal : Legal (ranked p).rules (reverse order)
@@ -163,25 +154,6 @@ module _ (p : Problem) (is : IsPlannedFor p) (order : List ℕ) (end : Pair) (wh
       let f = landing_trail_feasible (ranked p) (cost_at p) (sound_ranked p is.table is.between) lands.0 lands.2 lands.3 (ap length lands.1 ∙ length-reverse order ∙ whole) in
       sym f.1 ∙ lands.4
 
-  greatest_is : greatest (of_rank 0 seconds) (length p.flights) ≤ end.0
-  greatest_is =
-      let at : greatest (second_in lands.0) (length p.flights) ≡ end.0 = ap (λ (q : Pair). q.0) pair_is in
-      greatest_least (of_rank 0 seconds) (length p.flights) end.0 (λ r q.
-      let e = rank_mapped (second_in lands.0) (length p.flights) r q in
-      let m = at_most_greatest (second_in lands.0) (length p.flights) r q in
-      omega (arith, e, m, at))
-
-  cost_is : (map_pair (cost_at p) (length p.flights) (of_rank 0 seconds)).1 ≡ end.1
-  cost_is =
-      total_same (λ r. cost_at p r (of_rank 0 seconds r)) (λ r. cost_at p r (second_in lands.0 r)) (upto (length p.flights))
-      (λ r i. ap (cost_at p r) (rank_mapped (second_in lands.0) (length p.flights) r (in_upto (length p.flights) r i)))
-      ∙ ap (λ (q : Pair). q.1) pair_is
-
-  worth_is : worth p.objective (map_pair (cost_at p) (length p.flights) (of_rank 0 seconds)) ≤ worth p.objective end
-  worth_is =
-      let c = cost_is in
-      worth_low p.objective (map_pair (cost_at p) (length p.flights) (of_rank 0 seconds)) end greatest_is (omega (arith, c))
-
   pub plan_best : (v : Schedule) → length v ≡ length p.flights → EarliestInOrder p order v → ((x : Schedule) → LandsInOrder p order x → AllZip (λ a b. a ≤ b) v x)
       → ((u : Schedule) → IsFeasibleList p u → worth p.objective end ≤ worth p.objective (map_pair (cost_at p) (length p.flights) (of_rank 0 u))) → IsBestList p v × IsTightList p v
   plan_best v room earliest least low = (
@@ -190,8 +162,10 @@ module _ (p : Problem) (is : IsPlannedFor p) (order : List ℕ) (end : Pair) (wh
       order_lands,
       (let here = list_value p seconds long in
           let there = list_value p u f.one_each in
-          let a = value_rises p p.objective (map_pair (cost_at p) (length p.flights) (of_rank 0 seconds)) (map_pair (cost_at p) (length p.flights) (of_rank 0 u)) (le_trans worth_is (low u f)) in
-          omega (arith, here, there, a)),
+          let a = map_value_rises p (of_rank 0 seconds) (second_in lands.0) (λ r q. let e = rank_mapped (second_in lands.0) (length p.flights) r q in omega (arith, e)) in
+          let b = subst (λ (e : Pair). value_by p.objective p e ≤ value_by p.objective p (map_pair (cost_at p) (length p.flights) (of_rank 0 u))) (sym pair_is)
+          (value_rises p p.objective end (map_pair (cost_at p) (length p.flights) (of_rank 0 u)) (low u f)) in
+          omega (arith, here, there, a, b)),
     )),
     order_tight p is order order_is_whole legal v room earliest,
   )

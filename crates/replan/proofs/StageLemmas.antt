@@ -178,49 +178,31 @@ last_read p stages labels holds whole n last same e =
 -- ---- the stage after the last
 
 -- the last two stages, where the last one is whole
-pub whole_at : (p : Problem) (stages : List (ℕ × List (List ℤ))) (said : Bool) (i : ℕ) (earlier before : ℕ × List (List ℤ)) → IsWholeWhere p stages said → IsTrue said
-    → i + 2 ≡ length stages → earlier ≡ stage_at stages i → earlier.0 ≡ i → before ≡ stage_at stages (i + 1) → IsNextOf p earlier.0 earlier.1 before.1
-whole_at p stages said i earlier before is whole n e number f =
-    let a : length stages - 2 ≡ i = omega (arith, n) in
-    let b : length stages - 1 ≡ i + 1 = omega (arith, n) in
-    let one : IsNextOf p i (stage_at stages i).1 (stage_at stages (i + 1)).1 =
-    subst (λ (q : ℕ). IsNextOf p i (stage_at stages i).1 (stage_at stages q).1) b (subst (λ (q : ℕ). IsNextOf p q (stage_at stages q).1 (stage_at stages (length stages - 1)).1) a (is whole (omega (arith, n)))) in
-    let two : IsNextOf p i earlier.1 (stage_at stages (i + 1)).1 = subst (λ (x : ℕ × List (List ℤ)). IsNextOf p i x.1 (stage_at stages (i + 1)).1) (sym e) one in
-    let three : IsNextOf p i earlier.1 before.1 = subst (λ (x : ℕ × List (List ℤ)). IsNextOf p i earlier.1 x.1) (sym f) two in
-    subst (λ (q : ℕ). IsNextOf p q earlier.1 before.1) (sym number) three
-
--- what follows a stage that was read follows that of its place
-pub exact_at : (p : Problem) (stages : List (ℕ × List (List ℤ))) (i j : ℕ) (before after : ℕ × List (List ℤ)) → before ≡ stage_at stages i → before.0 ≡ i → i ≡ j
-    → IsNextOf p before.0 before.1 after.1 → IsNextOf p j (stage_at stages j).1 after.1
-exact_at p stages i j before after e number same is =
-    let one : IsNextOf p i before.1 after.1 = subst (λ (q : ℕ). IsNextOf p q before.1 after.1) number is in
-    let two : IsNextOf p i (stage_at stages i).1 after.1 = subst (λ (x : ℕ × List (List ℤ)). IsNextOf p i x.1 after.1) e one in
-    subst (λ (q : ℕ). IsNextOf p q (stage_at stages q).1 after.1) same two
-
-pub candidates_at : (p : Problem) (stages : List (ℕ × List (List ℤ))) (i j : ℕ) (before after : ℕ × List (List ℤ)) → before ≡ stage_at stages i → i ≡ j
-    → HoldsCandidates p before after → HoldsCandidates p (stage_at stages j) after
-candidates_at p stages i j before after e same is =
-    subst (λ (q : ℕ). HoldsCandidates p (stage_at stages q) after) same (subst (λ (x : ℕ × List (List ℤ)). HoldsCandidates p x after) e is)
-
-pub exact_back : (p : Problem) (stages : List (ℕ × List (List ℤ))) (i j : ℕ) (before after : ℕ × List (List ℤ)) → before ≡ stage_at stages i → before.0 ≡ i → i ≡ j
-    → IsNextOf p j (stage_at stages j).1 after.1 → IsNextOf p before.0 before.1 after.1
-exact_back p stages i j before after e number same is =
-    let one : IsNextOf p i (stage_at stages i).1 after.1 = subst (λ (q : ℕ). IsNextOf p q (stage_at stages q).1 after.1) (sym same) is in
-    let two : IsNextOf p i before.1 after.1 = subst (λ (x : ℕ × List (List ℤ)). IsNextOf p i x.1 after.1) (sym e) one in
-    subst (λ (q : ℕ). IsNextOf p q before.1 after.1) (sym number) two
+pub whole_at : (p : Problem) (stages : List (ℕ × List (List ℤ))) (said : Bool) (i last : ℕ) (earlier before : ℕ × List (List ℤ)) → IsWholeWhere p stages said → ((j : ℕ) → j < length stages → (stage_at stages j).0 ≡ j)
+    → last + 1 ≡ length stages → i ≡ last - 1 → earlier ≡ stage_at stages i → before ≡ stage_at stages last → IsTrue said → earlier.0 < before.0 → IsNextOf p earlier.0 earlier.1 before.1
+whole_at p stages said i last earlier before is numbers n back e f whole lt =
+    let here : before.0 ≡ last = ap (λ (s : ℕ × List (List ℤ)). s.0) f ∙ numbers last (omega (arith, n)) in
+    let there : earlier.0 ≡ i = ap (λ (s : ℕ × List (List ℤ)). s.0) e ∙ numbers i (omega (arith, n, back)) in
+    let a : length stages - 2 ≡ i = omega (arith, n, back, lt, here, there) in
+    let b : length stages - 1 ≡ last = omega (arith, n) in
+    let one : IsNextOf p i (stage_at stages i).1 (stage_at stages last).1 =
+    subst (λ (q : ℕ). IsNextOf p i (stage_at stages i).1 (stage_at stages q).1) b (subst (λ (q : ℕ). IsNextOf p q (stage_at stages q).1 (stage_at stages (length stages - 1)).1) a (is whole (omega (arith, n, lt, here, there, back)))) in
+    let two : IsNextOf p i earlier.1 before.1 =
+    subst (λ (x : ℕ × List (List ℤ)). IsNextOf p i earlier.1 x.1) (sym f) (subst (λ (x : ℕ × List (List ℤ)). IsNextOf p i x.1 (stage_at stages last).1) (sym e) one) in
+    subst (λ (q : ℕ). IsNextOf p q earlier.1 before.1) (sym there) two
 
 -- the stages are whole where the last one was kept whole
-pub whole_more : (p : Problem) (stages after : List (ℕ × List (List ℤ))) (was stage : ℕ × List (List ℤ)) (said : Bool) → after ≡ stages ++ stage ∷ [] → 0 < length stages
-    → (IsTrue said → stage.1 ≡ was.1) → IsNextOf p (length stages - 1) (stage_at stages (length stages - 1)).1 was.1 → IsWholeWhere p after said
-whole_more p stages after was stage said e some kept is whole more =
-    let a : length after - 2 ≡ length stages - 1 = omega (arith, ap length e, length-append stages (stage ∷ [])) in
+pub whole_more : (p : Problem) (stages after : List (ℕ × List (List ℤ))) (before was stage : ℕ × List (List ℤ)) (said : Bool) → ((j : ℕ) → j < length stages → (stage_at stages j).0 ≡ j)
+    → after ≡ stages ++ stage ∷ [] → (last : ℕ) → last + 1 ≡ length stages → before ≡ stage_at stages last → (IsTrue said → stage.1 ≡ was.1) → IsNextOf p before.0 before.1 was.1 → IsWholeWhere p after said
+whole_more p stages after before was stage said numbers e last n at kept is whole more =
+    let lt : last < length stages = omega (arith, n) in
+    let a : length after - 2 ≡ last = omega (arith, ap length e, length-append stages (stage ∷ []), n) in
     let b : length after - 1 ≡ length stages = omega (arith, ap length e, length-append stages (stage ∷ [])) in
-    let last : stage_at after (length after - 1) ≡ stage = ap (λ (l : List (ℕ × List (List ℤ))). stage_at l (length after - 1)) e ∙ get_or_push stages stage (0, []) (length after - 1) (sym b) in
-    let front : stage_at after (length after - 2) ≡ stage_at stages (length stages - 1) =
-    ap (stage_at after) a ∙ ap (λ (l : List (ℕ × List (List ℤ))). stage_at l (length stages - 1)) e ∙ get_or_append_left stages (stage ∷ []) (0, []) (length stages - 1) (omega (arith, some)) in
-    let one : IsNextOf p (length stages - 1) (stage_at stages (length stages - 1)).1 stage.1 = subst (λ (ws : List (List ℤ)). IsNextOf p (length stages - 1) (stage_at stages (length stages - 1)).1 ws) (sym (kept whole)) is in
-    let two : IsNextOf p (length stages - 1) (stage_at stages (length stages - 1)).1 (stage_at after (length after - 1)).1 =
-    subst (λ (x : ℕ × List (List ℤ)). IsNextOf p (length stages - 1) (stage_at stages (length stages - 1)).1 x.1) (sym last) one in
-    let three : IsNextOf p (length stages - 1) (stage_at after (length after - 2)).1 (stage_at after (length after - 1)).1 =
-    subst (λ (x : ℕ × List (List ℤ)). IsNextOf p (length stages - 1) x.1 (stage_at after (length after - 1)).1) (sym front) two in
-    subst (λ (q : ℕ). IsNextOf p q (stage_at after (length after - 2)).1 (stage_at after (length after - 1)).1) (sym a) three
+    let end : stage_at after (length after - 1) ≡ stage = ap (λ (l : List (ℕ × List (List ℤ))). stage_at l (length after - 1)) e ∙ get_or_push stages stage (0, []) (length after - 1) (sym b) in
+    let front : stage_at after (length after - 2) ≡ before =
+    ap (stage_at after) a ∙ ap (λ (l : List (ℕ × List (List ℤ))). stage_at l last) e ∙ get_or_append_left stages (stage ∷ []) (0, []) last lt ∙ sym at in
+    let number : before.0 ≡ length after - 2 = ap (λ (s : ℕ × List (List ℤ)). s.0) at ∙ numbers last lt ∙ sym a in
+    let one : IsNextOf p (length after - 2) before.1 stage.1 =
+    subst (λ (q : ℕ). IsNextOf p q before.1 stage.1) number (subst (λ (ws : List (List ℤ)). IsNextOf p before.0 before.1 ws) (sym (kept whole)) is) in
+    subst (λ (x : ℕ × List (List ℤ)). IsNextOf p (length after - 2) (stage_at after (length after - 2)).1 x.1) (sym end)
+    (subst (λ (x : ℕ × List (List ℤ)). IsNextOf p (length after - 2) x.1 stage.1) (sym front) one)

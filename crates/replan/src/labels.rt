@@ -137,9 +137,7 @@ impl Labels {
             ByObjective::OfColumn(labels) => {
                 let mut column = Column::new(alloc);
                 column.reserve(stage.len())?;
-                fill(
-                    rt, problem, before, labels, stage, &mut column, gate, steps,
-                );
+                fill(rt, problem, before, labels, stage, &mut column, gate, steps);
                 Ok(Labels {
                     kept: ByObjective::OfColumn(column),
                 })

@@ -26,10 +26,7 @@ pub(crate) struct Stages<const W: usize> {
 }
 
 // Stage 0.
-fn first_stage<const W: usize>(
-    alloc: Global,
-    problem: &Problem,
-) -> Result<Stages<W>, AllocError>
+fn first_stage<const W: usize>(alloc: Global, problem: &Problem) -> Result<Stages<W>, AllocError>
     requires width { W ≡ 2 * problem.now.k + 1 }
     ensures held { IfOk result (λ kept. HoldsStages problem.now kept.stages.items kept.labels.items) }
     ensures whole { IfOk result (λ kept. IsWholeWhere problem.now kept.stages.items kept.last_is_whole) }
@@ -50,27 +47,23 @@ fn first_stage<const W: usize>(
     })
 }
 
-// The stage after the last one. In the middle of a list it often has the windows of the last one again.
-fn next_of_last<const W: usize>(
+// The stage after one. Where that has each window that extends the one before it, it is often a copy of it.
+fn stage_after<const W: usize>(
     alloc: Global,
     problem: &Problem,
-    stages: &Vec<Stage<W>>,
-    last_is_whole: bool,
+    earlier: &Stage<W>,
+    before: &Stage<W>,
+    is_whole: bool,
 ) -> Result<Stage<W>, AllocError>
     requires width { W ≡ 2 * problem.now.k + 1 }
-    requires numbers { (i : ℕ) → i < length stages.now.items → (stage_at stages.now.items i).0 ≡ i }
-    requires whole { IsWholeWhere problem.now stages.now.items last_is_whole }
-    requires some { 0 < vec_len stages.now }
-    requires number { vec_len stages.now ≤ length problem.now.flights }
-    ensures number { IfOk result (λ s. s.0 ≡ vec_len stages.now) }
+    requires stage { before.now.0 < length problem.now.flights }
+    requires whole { IsTrue is_whole → earlier.now.0 < before.now.0 → IsNextOf problem.now earlier.now.0 earlier.now.1 before.now.1 }
+    ensures number { IfOk result (λ s. s.0 ≡ before.now.0 + 1) }
     ensures ascending { IfOk result (λ s. IsAscending s.1) }
-    ensures exact { IfOk result (λ s. IsNextOf problem.now (vec_len stages.now - 1) (stage_at stages.now.items (vec_len stages.now - 1)).1 s.1) }
-    ensures candidates { IfOk result (λ s. HoldsCandidates problem.now (stage_at stages.now.items (vec_len stages.now - 1)) s) }
+    ensures exact { IfOk result (λ s. IsNextOf problem.now before.now.0 before.now.1 s.1) }
+    ensures candidates { IfOk result (λ s. HoldsCandidates problem.now before.now s) }
 {
-    let last = stages.len() - 1;
-    let before = &stages[last];
-    if last_is_whole && last > 0 {
-        let earlier = &stages[last - 1];
+    if is_whole && earlier.number() < before.number() {
         let stage = next_stage_like(alloc, before, problem, earlier, before)?;
         return Ok(stage);
     }
@@ -125,9 +118,10 @@ fn add_stage<const W: usize, R: Threads, G: Gate, L: Ledger>(
     ensures one { OnOk result (vec_len kept.new.stages ≡ vec_len kept.old.stages + 1) }
     ensures steps { OnOk result ((count : ℕ) × HasCandidates problem.now (vec_len kept.old.stages - 1) count × (L.count steps.new ≡ raised_by count (L.count steps.old))) }
 {
-    let mut stage = next_of_last(alloc, problem, &kept.stages, kept.last_is_whole)?;
     let last = kept.stages.len() - 1;
+    let earlier = &kept.stages[last.saturating_sub(1)];
     let before = &kept.stages[last];
+    let mut stage = stage_after(alloc, problem, earlier, before, kept.last_is_whole)?;
     let labels = &kept.labels[last];
     let (found, is_whole) = label_stage(
         rt, alloc, problem, before, labels, &mut stage, gate, steps,

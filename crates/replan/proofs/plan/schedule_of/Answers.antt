@@ -68,4 +68,3 @@ returns-else-not-retime g c =
     subst (λ (o : Objective). worth o (last_pair (list_at (lists_at c.args.kept.now.labels.items (length c.args.problem.now.flights)) c.in-Some.place)) ≤ worth o (last_pair (list_at c.index.result.now.lists b.0))) l.held.objective
     (subst (λ (ls : StagePairs). worth c.index.result.now.objective (last_pair (list_at ls.lists c.in-Some.place)) ≤ worth c.index.result.now.objective (last_pair (list_at c.index.result.now.lists b.0))) l.is (c.in-Some.ensures.1 b.0 b.1)) in
     omega (arith, le, least))
-
