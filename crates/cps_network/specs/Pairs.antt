@@ -1,23 +1,17 @@
 -- The pairs of second and cost of windows: for each window exactly the undominated ones.
-use Rattle.std.specs.Prelude.{◌≡◌, ℕ, ℤ, ◌<◌, ◌↔◌, List, [], length, slice_index_or, Option, Some, true}
+use Rattle.std.specs.Prelude.{◌≡◌, ℕ, ℤ, ◌<◌, ◌↔◌, List, [], length, slice_index_or, Option, Some}
 use Rattle.cps_nodes.specs.Windows.{shifted}
 use Rattle.cps_nodes.specs.Laws.{offset_after}
 use Rattle.cps_theory.specs.Feasible.{next_from}
 use Rattle.cps_theory.specs.Labels.{InPairs, NoWorse, Pair, next_pair}
-use Rattle.cps_theory.specs.LegalPrefix.{Legal}
-use Rattle.cps_theory.specs.Network.{Attained, Undominated}
+use Rattle.cps_theory.specs.Network.{Undominated}
 use Rattle.cps_theory.specs.UndominatedPairs.{Staircase}
 use Rattle.landing_joint.specs.RankedProblem.{ranked, first_at, cost_at}
 use Rattle.landing_rules.specs.Problem.{Problem}
-use Rattle.cps_network.specs.Landable.{HoldsLandable}
+use Rattle.cps_network.specs.Landable.{Attains, HoldsLandable}
 use Rattle.cps_network.specs.Lists.{node_at}
-use Rattle.cps_network.specs.Nodes.{node_of, latest}
+use Rattle.cps_network.specs.Nodes.{latest}
 use Rattle.cps_network.specs.Permits.{IsPermitted}
-
--- a window of a stage attains a pair of a second and a cost: a legal prefix ends in it whose flights can land at seconds that
--- are open and late enough one after another, the last of them this second, and what these landings cost adds up to this cost
-abbrev pub Attains : Problem → ℕ → List ℤ → Pair → Type 0
-Attains p stage xs q = Attained (λ r u. (ranked p).is_open r u ≡ true) (next_from (ranked p)) (cost_at p) (Legal (ranked p).rules) (node_of p.k) (stage, xs) q
 
 -- the pairs of a window of a stage: exactly the undominated ones that it attains, of which each that it attains has one that is
 -- no later and no dearer; they ascend in second and fall in cost

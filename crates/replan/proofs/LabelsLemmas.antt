@@ -8,10 +8,10 @@ use Rattle.landing_rules.specs.Problem.{Problem}
 use Rattle.cps_theory.specs.Labels.{Pair}
 use Rattle.cps_theory.specs.Network.{Undominated}
 use Rattle.cps_network.specs.Compacted.{kept_where}
-use Rattle.cps_network.specs.Landable.{HasEachLandable}
+use Rattle.cps_network.specs.Landable.{Attains, HasEachLandable}
 use Rattle.cps_network.specs.Lists.{node_at}
 use Rattle.cps_network.specs.Nodes.{IsWindowNetwork}
-use Rattle.cps_network.specs.Pairs.{Attains, AreCosts, HoldsCosts, GivesPair}
+use Rattle.cps_network.specs.Pairs.{AreCosts, HoldsCosts, GivesPair}
 use Rattle.cps_network.specs.Permits.{IsSuccessor}
 use Rattle.cps_network.specs.shared.PairSteps.{listed_given}
 use Rattle.makespan_labels.specs.Columns as columns

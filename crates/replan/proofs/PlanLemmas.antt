@@ -27,7 +27,8 @@ use Rattle.extract_plan.specs.shared.LandingOrder.{in_order, trail_lands}
 use Rattle.extract_plan.specs.shared.PlannedOrder.{IsPlannedFor, map_value_rises, order_best, order_tight}
 use Rattle.cps_network.specs.Lists.{node_at}
 use Rattle.cps_network.specs.Nodes.{node_of}
-use Rattle.cps_network.specs.Pairs.{Attains, list_at, pair_at}
+use Rattle.cps_network.specs.Landable.{Attains}
+use Rattle.cps_network.specs.Pairs.{list_at, pair_at}
 use Rattle.makespan_labels.specs.shared.LabelPairs.{attains_free}
 use Rattle.replan.specs.Labels.{StagePairs, HoldsPairs, last_pair, worth}
 use Rattle.replan.specs.Stages.{LandsWithPair}
@@ -77,9 +78,9 @@ module _ (p : Problem) (is : IsPlannedFor p) (stage : ℕ × List (List ℤ)) (l
       let held = holds.held in
       let x = feasible_landing_trail (ranked p) (cost_at p) (sound_ranked p is.table is.between) (of_rank 0 u) (list_feasible p u f) in
       let at : node_of p.k (ranks x.0) ≡ (stage.0, (node_of p.k (ranks x.0)).1) = ap (λ (q : ℕ). (q, (node_of p.k (ranks x.0)).1)) (x.3 ∙ sym last) in
-      let has = (held.landable (node_of p.k (ranks x.0)).1).1 (x.0, x.1, x.2, at) in
-      let it : node_at stage.1 has.0 ≡ (node_of p.k (ranks x.0)).1 = get_or_default stage.1 has.0 [] (node_of p.k (ranks x.0)).1 has.1 ∙ has.2 in
       let a : Attains p stage.0 (node_of p.k (ranks x.0)).1 (map_pair (cost_at p) (length p.flights) (of_rank 0 u)) = record { landings = x.0; legal = x.1; landed = x.2; at = at; is = x.4 } in
+      let has = (held.landable (node_of p.k (ranks x.0)).1).1 (map_pair (cost_at p) (length p.flights) (of_rank 0 u), a) in
+      let it : node_at stage.1 has.0 ≡ (node_of p.k (ranks x.0)).1 = get_or_default stage.1 has.0 [] (node_of p.k (ranks x.0)).1 has.1 ∙ has.2 in
       let are = held.costs.pairs has.0 has.1 in
       let o = are.covers (map_pair (cost_at p) (length p.flights) (of_rank 0 u)) (subst (λ (y : List ℤ). Attains p stage.0 y (map_pair (cost_at p) (length p.flights) (of_rank 0 u))) (sym it) a) in
       let low = least_worth p.objective (list_at labels.lists has.0) are.falling

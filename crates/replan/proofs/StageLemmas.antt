@@ -12,13 +12,12 @@ use Rattle.cps_theory.specs.Network.{Undominated}
 use Rattle.landing_joint.specs.RankedProblem.{cost_at}
 use Rattle.landing_rules.specs.declared.objective.Objective.TheVariants.{Makespan}
 use Rattle.landing_rules.specs.Problem.{Problem}
-use Rattle.cps_network.specs.Landable.{IsLandable, HoldsLandable, HoldsCandidates}
+use Rattle.cps_network.specs.Landable.{Attains, IsLandable, HoldsLandable, HoldsCandidates}
 use Rattle.cps_network.specs.Lists.{IsAscending, node_at}
 use Rattle.cps_network.specs.Nodes.{Node, node_of}
-use Rattle.cps_network.specs.Pairs.{Attains, ArePairsOf, HoldsCosts, list_at}
+use Rattle.cps_network.specs.Pairs.{ArePairsOf, HoldsCosts, list_at}
 use Rattle.cps_network.specs.Permits.{IsNextOf}
 use Rattle.cps_network.specs.shared.LegalWindows.{source_is}
-use Rattle.cps_network.specs.shared.PairSteps.{landable_attains}
 use Rattle.replan.specs.Labels.{StagePairs, HoldsPairs}
 use Rattle.replan.specs.Stages.{stage_at, labels_at, HoldsStages, HasCandidates, HasCandidatesUpto, IsWholeWhere}
 
@@ -33,8 +32,8 @@ no_landing (x ∷ xs) e = absurd (omega arith)
 
 pub start_only : (p : Problem) (v : List ℤ) → IsLandable p 0 v → node_of p.k [] ≡ (0, v)
 start_only p v l =
-    let none : l.0 ≡ [] = no_landing l.0 (ap (λ (n : Node). n.0) l.3) in
-    subst (λ (xs : List Landing). node_of p.k (ranks xs) ≡ (0, v)) none l.3
+    let none : l.1.landings ≡ [] = no_landing l.1.landings (ap (λ (n : Node). n.0) l.1.at) in
+    subst (λ (xs : List Landing). node_of p.k (ranks xs) ≡ (0, v)) none l.1.at
 
 start_attains : (p : Problem) → Attains p 0 (replicate (2 * p.k + 1) (pos 0)) (0, 0)
 start_attains p = record { landings = []; legal = tt; landed = tt; at = ap (λ (w : List ℤ). (0, w)) (source_is p); is = refl }
@@ -52,7 +51,7 @@ start_costs p = record {
 }
   where
     in_start : (v : List ℤ) → Contains (replicate (2 * p.k + 1) (pos 0) ∷ []) v → IsLandable p 0 v
-    in_start v (zero, lt, at) = subst (IsLandable p 0) at (let s = start_attains p in (s.landings, s.legal, s.landed, s.at))
+    in_start v (zero, lt, at) = subst (IsLandable p 0) at ((0, 0), start_attains p)
     in_start v (suc i, lt, at) = absurd (omega arith)
 
     only : (q : Pair) → InPairs q ((0, 0) ∷ []) → Undominated (Attains p 0 (replicate (2 * p.k + 1) (pos 0))) q
@@ -147,8 +146,7 @@ read_labels labels i y e lt = e ∙ get_or_default labels i y no_pairs lt
 pub list_some : (p : Problem) (stage : ℕ × List (List ℤ)) (lists : List (List Pair)) → HoldsCosts p stage lists → (i : ℕ) → i < length stage.1 → 0 < length (list_at lists i)
 list_some p stage lists h i lt =
     let l = (h.landable (node_at stage.1 i)).0 (Contains-get_or stage.1 i [] lt) in
-    let a = landable_attains p stage.0 (node_at stage.1 i) l in
-    let o = (h.costs.pairs i lt).covers a.0 a.1 in
+    let o = (h.costs.pairs i lt).covers l.0 l.1 in
     some (list_at lists i) o.0 o.1
   where
     some : (pairs : List Pair) (q : Pair) → InPairs q pairs → 0 < length pairs

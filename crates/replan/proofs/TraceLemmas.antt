@@ -15,13 +15,13 @@ use Rattle.cps_theory.specs.laws.LeastObjective.{next_later}
 use Rattle.landing_joint.specs.RankedProblem.{ranked, first_at, cost_at}
 use Rattle.landing_joint.specs.shared.FirstOpen.{is_first_open}
 use Rattle.landing_rules.specs.Problem.{Problem}
-use Rattle.cps_network.specs.Landable.{IsLandable}
+use Rattle.cps_network.specs.Landable.{Attains, IsLandable}
 use Rattle.cps_network.specs.Lists.{node_at}
 use Rattle.cps_network.specs.Nodes.{Node, node_of, permits, land, latest, IsWindowNetwork}
 use Rattle.cps_network.specs.WindowLaws.{WindowLaws}
 use Rattle.cps_network.specs.shared.LegalWindows.{next_last}
 use Rattle.cps_nodes.specs.Windows.{offset_at}
-use Rattle.cps_network.specs.Pairs.{Attains, HoldsCosts, GivesPair, list_at, pair_at, successor}
+use Rattle.cps_network.specs.Pairs.{HoldsCosts, GivesPair, list_at, pair_at, successor}
 use Rattle.cps_network.specs.shared.PairSteps.{dearer, at_in}
 use Rattle.replan.specs.Stages.{stage_at, lists_at, HoldsStages, LandsWithPair}
 use Rattle.replan.specs.Labels.{StagePairs, HoldsPairs, last_pair}

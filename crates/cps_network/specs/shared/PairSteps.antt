@@ -1,11 +1,10 @@
 -- One landing more and one landing back, with the pairs that windows attain.
-use Rattle.std.proofs.Common.{◌≡◌, ℕ, zero, suc, ◌<◌, ◌≤◌, inl, inr, List, [], ◌∷◌, length, Some, true, refl, sym, ap, subst, ◌∙◌, arith}
+use Rattle.std.proofs.Common.{◌≡◌, ℕ, zero, suc, ◌<◌, ◌≤◌, inl, inr, List, [], ◌∷◌, length, Some, true, sym, ap, subst, ◌∙◌, arith}
 use Rattle.std.specs.Prelude.{ℤ}
 use Rattle.std.proofs.Math.Nat.{mul-le-mul_left}
 use Rattle.std.proofs.lemmas.List.{get_or_default}
 use Rattle.cps_nodes.specs.Windows.{shifted}
 use Rattle.cps_nodes.specs.Laws.{offset_after}
-use Rattle.cps_theory.specs.LandingTrail.{pair_of}
 use Rattle.cps_theory.specs.Labels.{InPairs, NeverCheaper, NoWorse, Pair}
 use Rattle.cps_theory.specs.LegalPrefix.{Legal}
 use Rattle.cps_theory.specs.Feasible.{next_from}
@@ -19,18 +18,10 @@ use Rattle.landing_joint.specs.shared.FirstOpen.{is_first_open}
 use Rattle.landing_rules.specs.declared.objective.Objective.{Objective}
 use Rattle.landing_rules.specs.declared.objective.Objective.TheVariants.{Makespan, Delay}
 use Rattle.landing_rules.specs.Problem.{Problem, Waiting}
-use Rattle.cps_network.specs.Landable.{IsLandable}
+use Rattle.cps_network.specs.Landable.{Attains, IsLandable}
 use Rattle.cps_network.specs.Lists.{node_at}
 use Rattle.cps_network.specs.Nodes.{Node, node_of, permits, land, latest, IsWindowNetwork}
-use Rattle.cps_network.specs.Pairs.{Attains, HoldsCosts, GivesPair, list_at, pair_at, successor}
-
--- ---- what is attained is landable
-
-pub attains_landable : (p : Problem) (stage : ℕ) (xs : List ℤ) (q : Pair) → Attains p stage xs q → IsLandable p stage xs
-attains_landable p stage xs q a = (a.landings, a.legal, a.landed, a.at)
-
-pub landable_attains : (p : Problem) (stage : ℕ) (xs : List ℤ) → IsLandable p stage xs → (q : Pair) × Attains p stage xs q
-landable_attains p stage xs l = (pair_of (cost_at p) l.0, record { landings = l.0; legal = l.1; landed = l.2; at = l.3; is = refl })
+use Rattle.cps_network.specs.Pairs.{HoldsCosts, GivesPair, list_at, pair_at, successor}
 
 -- ---- costs
 
@@ -69,7 +60,7 @@ module _ (p : Problem) (net : IsWindowNetwork p) (before : ℕ × List (List ℤ
     | inl z ↦ absurd (never (ap (λ (n : Node). n.0) z.0))
     | inr z ↦ (
         let same : z.0.0 ≡ before.0 = less (ap (λ (n : Node). n.0) z.5) in
-        let l : IsLandable p before.0 z.0.1 = attains_landable p before.0 z.0.1 z.2 (subst (λ (s : ℕ). Attains p s z.0.1 z.2) same z.3) in
+        let l : IsLandable p before.0 z.0.1 = (z.2, subst (λ (s : ℕ). Attains p s z.0.1 z.2) same z.3) in
         let has = (held.landable z.0.1).1 l in
         let it : node_at before.1 has.0 ≡ z.0.1 = get_or_default before.1 has.0 [] z.0.1 has.1 ∙ has.2 in
         let at : z.0 ≡ (before.0, node_at before.1 has.0) = ap (λ (s : ℕ). (s, z.0.1)) same ∙ ap (λ (y : List ℤ). (before.0, y)) (sym it) in

@@ -15,7 +15,8 @@ use Rattle.cps_theory.specs.Network.{Undominated}
 use Rattle.landing_joint.specs.RankedProblem.{no_waiting, cost_at, cost_by, landing_after}
 use Rattle.cps_network.specs.Lists.{node_at}
 use Rattle.cps_network.specs.Nodes.{latest}
-use Rattle.cps_network.specs.Pairs.{Attains, ArePairsOf, AreCosts, HoldsCosts, GivesPair, list_at, pair_at, successor}
+use Rattle.cps_network.specs.Landable.{Attains}
+use Rattle.cps_network.specs.Pairs.{ArePairsOf, AreCosts, HoldsCosts, GivesPair, list_at, pair_at, successor}
 use Rattle.makespan_labels.specs.Labels.{no_label, CanLandAt, IsLabel, AreLabels, HoldsLabels, GivesLabel}
 use Rattle.makespan_labels.specs.LabelPairs.{label_pairs, column_pairs, pair_if}
 use Rattle.makespan_labels.specs.shared.NetworkSteps.{can_land}
@@ -44,21 +45,15 @@ module _ (p : Problem) (makespan : p.objective ≡ Makespan) where
   all_free [] = refl
   all_free (x ∷ xs) = let a = all_free xs in let b = free x.0 x.1 in omega (arith, a, b)
 
-  -- a pair is attained exactly where a landing at its second can be last, and its cost is 0
-  pub can_attain : (stage : ℕ) (xs : List ℤ) (t : ℕ) → CanLandAt p stage xs t → Attains p stage xs (t, 0)
-  can_attain stage xs t l = record {
-    landings = l.0;
-    legal = l.1;
-    landed = l.2;
-    at = l.3;
-    is = ap₂ (λ (a b : ℕ). (a, b)) l.4 (all_free l.0);
-  }
-
-  pub attains_can : (stage : ℕ) (xs : List ℤ) (q : Pair) → Attains p stage xs q → CanLandAt p stage xs q.0
-  attains_can stage xs q a = (a.landings, a.legal, a.landed, a.at, ap (λ (x : Pair). x.0) a.is)
-
   pub attains_free : (stage : ℕ) (xs : List ℤ) (q : Pair) → Attains p stage xs q → q.1 ≡ 0
   attains_free stage xs q a = sym (ap (λ (x : Pair). x.1) a.is) ∙ all_free a.landings
+
+  -- a pair is attained exactly where a landing at its second can be last, and its cost is 0
+  can_attain : (stage : ℕ) (xs : List ℤ) (t : ℕ) → CanLandAt p stage xs t → Attains p stage xs (t, 0)
+  can_attain stage xs t (cost, a) = subst (λ (c : ℕ). Attains p stage xs (t, c)) (attains_free stage xs (t, cost) a) a
+
+  attains_can : (stage : ℕ) (xs : List ℤ) (q : Pair) → Attains p stage xs q → CanLandAt p stage xs q.0
+  attains_can stage xs q a = (q.1, a)
 
   pair_is : (stage : ℕ) (xs : List ℤ) (q : Pair) (t : ℕ) → Attains p stage xs q → q.0 ≡ t → q ≡ (t, 0)
   pair_is stage xs q t a e = ap₂ (λ (x y : ℕ). (x, y)) e (attains_free stage xs q a)
