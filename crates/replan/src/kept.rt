@@ -26,12 +26,14 @@ pub struct Kept<const W: usize> {
 }
 
 impl<const W: usize> Model for Kept<W> {
-    ghost use Rattle.std.specs.Prelude.{Option};
-    ghost use Rattle.replan.specs.Held.{HeldProblem};
+    ghost use Rattle.std.specs.Prelude.{Option, MatchOption, ⊤};
+    ghost use Rattle.replan.specs.Held.{HeldProblem, IsHeld};
 
     ghost Value = { Option HeldProblem };
 
     ghost view = { λ k. k.held };
+
+    ghost invariant = { λ k. MatchOption k.held ⊤ (IsHeld W) };
 }
 
 impl<const W: usize> Kept<W> {
