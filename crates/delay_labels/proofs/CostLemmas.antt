@@ -20,7 +20,6 @@ use Rattle.landing_rules.specs.Rules.{last_second}
 use Rattle.cps_problem.specs.WellFormed.{IsWellFormed}
 use Rattle.cps_network.specs.Nodes.{Node}
 
-
 cost_small_by : (o : Objective) (f : Waiting) (t : ℕ) → f.weight ≤ 100 → t ≤ last_second → cost_by o f t ≤ 17279900
 cost_small_by Makespan f t light low = omega arith
 cost_small_by Delay f t light low =

@@ -1,6 +1,5 @@
-use Rattle.std.proofs.Common.{◌≡◌, ℕ, ◌+◌, ◌-◌, ◌<◌, length, rules, arith, ap, ◌∙◌, List}
+use Rattle.std.proofs.Common.{◌≡◌, ℕ, ◌-◌, ◌<◌, length, rules, arith, ap, ◌∙◌, List}
 use Rattle.std.specs.Prelude.{ℤ, vec_len}
-use Rattle.replan.specs.Stages.{stage_at, labels_at}
 use Rattle.replan.proofs.StageLemmas.{held_at, read_stage, read_labels, whole_at, more_held, whole_more, has_candidates}
 use Rattle.replan.proofs.stages.add_stage.Goals as goal
 
