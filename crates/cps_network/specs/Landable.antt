@@ -1,18 +1,22 @@
 -- Landable windows, and the candidates of the next stage.
-use Rattle.std.specs.Prelude.{◌≡◌, ℕ, ℤ, ◌↔◌, List, Contains}
-use Rattle.cps_theory.specs.Separation.{Landing}
-use Rattle.cps_theory.specs.LandingTrail.{ranks}
+use Rattle.std.specs.Prelude.{◌≡◌, ℕ, ℤ, ◌↔◌, List, Contains, true}
+use Rattle.cps_theory.specs.Feasible.{next_from}
+use Rattle.cps_theory.specs.Labels.{Pair}
 use Rattle.cps_theory.specs.LegalPrefix.{Legal}
-use Rattle.cps_theory.specs.ProblemNetwork.{LandedIn}
-use Rattle.landing_joint.specs.RankedProblem.{ranked}
+use Rattle.cps_theory.specs.Network.{Attained}
+use Rattle.landing_joint.specs.RankedProblem.{ranked, cost_at}
 use Rattle.landing_rules.specs.Problem.{Problem}
 use Rattle.cps_network.specs.Nodes.{node_of}
 use Rattle.cps_network.specs.Permits.{IsSuccessor}
 
--- a window of a stage is landable: some legal prefix ends in it whose flights can be given seconds that are open and late
--- enough one after another
+-- a window of a stage attains a pair of a second and a cost: a legal prefix ends in it whose flights can land at seconds that
+-- are open and late enough one after another, the last of them this second, and what these landings cost adds up to this cost
+abbrev pub Attains : Problem → ℕ → List ℤ → Pair → Type 0
+Attains p stage xs q = Attained (λ r u. (ranked p).is_open r u ≡ true) (next_from (ranked p)) (cost_at p) (Legal (ranked p).rules) (node_of p.k) (stage, xs) q
+
+-- a window of a stage is landable: it attains some pair
 abbrev pub IsLandable : Problem → ℕ → List ℤ → Type 0
-IsLandable p stage xs = (landings : List Landing) × Legal (ranked p).rules (ranks landings) × LandedIn (ranked p) landings × (node_of p.k (ranks landings) ≡ (stage, xs))
+IsLandable p stage xs = (q : Pair) × Attains p stage xs q
 
 -- these are the landable windows of a stage
 abbrev pub HoldsLandable : Problem → ℕ × List (List ℤ) → Type 0

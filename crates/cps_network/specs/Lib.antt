@@ -6,6 +6,7 @@ pub mod Begins
 pub mod Compacted
 pub mod Nodes
 pub mod Landable
+pub mod Pairs
 pub mod KeptStages
 pub mod Due
 pub mod WindowLaws

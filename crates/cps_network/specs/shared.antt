@@ -9,3 +9,5 @@ pub mod KeptStages
 pub mod OneDue
 pub mod DueSteps
 pub mod KeptCandidates
+pub mod KeptCosts
+pub mod PairSteps

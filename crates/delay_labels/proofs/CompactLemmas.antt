@@ -8,10 +8,9 @@ use Rattle.cps_network.specs.Compacted.{kept_where}
 use Rattle.cps_network.specs.Landable.{IsLandable, HasEachLandable}
 use Rattle.cps_network.specs.Lists.{node_at}
 use Rattle.cps_network.specs.shared.KeptPlaces.{one_each_left, each_left, landable_left}
-use Rattle.delay_labels.specs.Pairs.{ArePairsOf, AreCosts, HoldsCosts, list_at}
+use Rattle.cps_network.specs.Pairs.{ArePairsOf, AreCosts, HoldsCosts, list_at}
 use Rattle.delay_labels.specs.Parts.{IsPart, lists_of}
 use Rattle.delay_labels.specs.Lists.{has_some, known_of}
-use Rattle.delay_labels.specs.shared.PairSteps.{attains_landable, landable_attains}
 use Rattle.delay_labels.proofs.PartLemmas.{part_has_some}
 
 -- ---- as the lists are stored
@@ -49,8 +48,8 @@ pair_some (x ∷ qs) q i = refl
 module _ (p : Problem) (stage : ℕ) (windows : List (List ℤ)) (lists : List (List Pair)) (each : HasEachLandable p (stage, windows)) (are : AreCosts p (stage, windows) lists) where
   some_landable : (i : ℕ) → i < length windows → (has_some (list_at lists i) ≡ true) ↔ IsLandable p stage (node_at windows i)
   some_landable i lt = (
-    λ has. let q = some_pair (list_at lists i) has in attains_landable p stage (node_at windows i) q.0 (((are.pairs i lt).undominated q.0).0 q.1).attained,
-    λ l. let a = landable_attains p stage (node_at windows i) l in let o = (are.pairs i lt).covers a.0 a.1 in pair_some (list_at lists i) o.0 o.1,
+    λ has. let q = some_pair (list_at lists i) has in (q.0, (((are.pairs i lt).undominated q.0).0 q.1).attained),
+    λ l. let o = (are.pairs i lt).covers l.0 l.1 in pair_some (list_at lists i) o.0 o.1,
   )
 
   pub kept_costs : HoldsCosts p (stage, known_of lists windows) (known_of lists lists)

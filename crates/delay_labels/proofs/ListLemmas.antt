@@ -12,9 +12,9 @@ use Rattle.std.proofs.lemmas.List.Sorted.{Contains-permutation, IsPermutation-sy
 use Rattle.landing_rules.specs.Problem.{Problem}
 use Rattle.cps_theory.specs.Labels.{InPairs, Pair}
 use Rattle.cps_theory.specs.UndominatedPairs.{InPairOrder}
-use Rattle.delay_labels.specs.Pairs.{list_at, pair_at, successor}
+use Rattle.cps_network.specs.Pairs.{list_at, pair_at, successor}
 use Rattle.delay_labels.specs.Lists.{some_before, successors, successors_in, IsGivenIn}
-use Rattle.delay_labels.specs.shared.PairSteps.{in_at, at_in}
+use Rattle.cps_network.specs.shared.PairSteps.{in_at, at_in}
 
 -- ---- pairs of lists
 

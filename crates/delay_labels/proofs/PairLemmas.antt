@@ -25,10 +25,11 @@ use Rattle.cps_network.specs.Lists.{node_at}
 use Rattle.cps_network.specs.Nodes.{Node, node_of, permits, land, latest}
 use Rattle.cps_network.specs.Permits.{IsSuccessor}
 use Rattle.cps_network.specs.shared.LeadingWindows.{Sources, successor_at, place_at, rank_of, leader_at, landable_at}
-use Rattle.delay_labels.specs.Pairs.{Attains, ArePairsOf, AreCosts, GivesPair, list_at, pair_at, successor}
+use Rattle.cps_network.specs.Landable.{Attains}
+use Rattle.cps_network.specs.Pairs.{ArePairsOf, AreCosts, GivesPair, list_at, pair_at, successor}
 use Rattle.delay_labels.specs.Parts.{IsInDays}
 use Rattle.delay_labels.specs.Lists.{IsGivenIn, successors_in}
-use Rattle.delay_labels.specs.shared.PairSteps.{attains_landable, dearer, in_at, at_in, next_attained}
+use Rattle.cps_network.specs.shared.PairSteps.{dearer, in_at, at_in, next_attained}
 use Rattle.delay_labels.proofs.ListLemmas.{all_in, given_in_range, range_gives, in_permuted, permuted_in, sorted_in_order}
 use Rattle.delay_labels.proofs.CostLemmas.{attained_small}
 
@@ -122,7 +123,7 @@ module _ (p : Problem) (wf : IsWellFormed p) (w stage : ℕ) (before : List (Lis
     covers = λ q a.
         let same : n ≡ (stage, n.1) = ap (λ (s : ℕ). (s, n.1)) at in
         let a' : Attains p stage n.1 q = subst (λ (m : Node). Here m q) same a in
-        let has = (range.holds n.1).1 (attains_landable p stage n.1 q a') in
+        let has = (range.holds n.1).1 (q, a') in
         let it : node_at before has.0 ≡ n.1 = get_or_default before has.0 [] n.1 has.1 ∙ has.2 in
         let c = (are.pairs has.0 has.1).covers q (subst (λ (y : List ℤ). Attains p stage y q) (sym it) a') in
         (c.0, (has.0, has.1, same ∙ ap (λ (y : List ℤ). (stage, y)) (sym it), c.1), c.2);

@@ -7,7 +7,7 @@ use Rattle.std.proofs.lemmas.List.Elements.{All-take, All-drop, All-head, All-ta
 use Rattle.cps_theory.specs.Labels.{Pair}
 use Rattle.cps_theory.specs.UndominatedPairs.{sweep}
 use Rattle.cps_theory.specs.laws.Staircases.{sweep_subset}
-use Rattle.delay_labels.specs.Pairs.{list_at}
+use Rattle.cps_network.specs.Pairs.{list_at}
 use Rattle.delay_labels.specs.Parts.{IsInDays, IsPart, lists_of}
 use Rattle.delay_labels.specs.Lists.{has_some}
 use Rattle.delay_labels.proofs.ListLemmas.{all_in, in_all}

@@ -4,7 +4,7 @@ use Rattle.std.specs.List.{flat_map}
 use Rattle.cps_theory.specs.Labels.{InPairs, Pair}
 use Rattle.landing_rules.specs.Problem.{Problem}
 use Rattle.cps_network.specs.Compacted.{kept_where}
-use Rattle.delay_labels.specs.Pairs.{list_at, successor}
+use Rattle.cps_network.specs.Pairs.{list_at, successor}
 
 -- whether a list has a pair
 abbrev pub has_some : List Pair → Bool

@@ -5,7 +5,7 @@ ghost use Rattle.cps_nodes.specs.Windows.{IsWidth};
 ghost use Rattle.cps_theory.specs.UndominatedPairs.{sweep};
 ghost use Rattle.landing_rules.specs.Problem.{Problem};
 ghost use Rattle.cps_network.specs.Landable.{HasEachLandable};
-ghost use Rattle.delay_labels.specs.Pairs.{list_at, pair_at, AreCosts, HoldsCosts};
+ghost use Rattle.cps_network.specs.Pairs.{list_at, pair_at, AreCosts, HoldsCosts};
 ghost use Rattle.delay_labels.specs.Parts.{IsInDays};
 ghost use Rattle.delay_labels.specs.Lists.{known_of};
 

@@ -7,7 +7,7 @@ ghost use Rattle.cps_network.specs.Landable.{HasEachLandable};
 ghost use Rattle.cps_network.specs.Lists.{node_at};
 ghost use Rattle.cps_network.specs.Permits.{IsNextOf};
 ghost use Rattle.cps_network.specs.WindowLaws.{WindowLaws};
-ghost use Rattle.delay_labels.specs.Pairs.{list_at, ArePairsOf, AreCosts, HoldsCosts, GivesPair};
+ghost use Rattle.cps_network.specs.Pairs.{list_at, ArePairsOf, AreCosts, HoldsCosts, GivesPair};
 
 use crate::costs::Costs;
 use crate::merge::collect_successors;

@@ -2,7 +2,7 @@
 
 ghost use Rattle.std.specs.Prelude.{◌≡◌, ℕ, ◌<◌, ◌≤◌, ◌++◌, All, length, OnOk};
 ghost use Rattle.cps_theory.specs.UndominatedPairs.{sweep};
-ghost use Rattle.delay_labels.specs.Pairs.{list_at};
+ghost use Rattle.cps_network.specs.Pairs.{list_at};
 ghost use Rattle.delay_labels.specs.Parts.{IsInDays};
 ghost use Rattle.delay_labels.specs.Lists.{successors, successors_in};
 

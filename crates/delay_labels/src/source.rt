@@ -1,7 +1,7 @@
 //! Back from a pair to a pair of the stage before from which it comes.
 
 ghost use Rattle.std.specs.Prelude.{◌≡◌, ℕ, ◌+◌, ◌*◌, ◌<◌, ◌≤◌, ◌⊎◌, All, length, Some, MatchOption, IsTrue, ◌↔◌};
-ghost use Rattle.delay_labels.specs.Pairs.{pair_at, successor, HoldsCosts, GivesPair};
+ghost use Rattle.cps_network.specs.Pairs.{pair_at, successor, HoldsCosts, GivesPair};
 ghost use Rattle.delay_labels.specs.Parts.{IsInDays};
 
 use crate::costs::Costs;

@@ -2,26 +2,21 @@
 use Rattle.std.specs.Prelude.{◌≡◌, ℕ, ℤ, ◌<◌, ◌≤◌, List, length, slice_index, Some}
 use Rattle.cps_nodes.specs.Windows.{shifted}
 use Rattle.cps_nodes.specs.Laws.{offset_after}
-use Rattle.cps_theory.specs.Separation.{Landing}
-use Rattle.cps_theory.specs.LandingTrail.{latest_landing, ranks}
-use Rattle.cps_theory.specs.LegalPrefix.{Legal}
-use Rattle.cps_theory.specs.ProblemNetwork.{LandedIn}
-use Rattle.landing_joint.specs.RankedProblem.{ranked, landing_after}
+use Rattle.landing_joint.specs.RankedProblem.{landing_after}
 use Rattle.landing_rules.specs.Problem.{Problem}
-use Rattle.cps_network.specs.Landable.{HoldsLandable}
+use Rattle.cps_network.specs.Landable.{Attains, HoldsLandable}
 use Rattle.cps_network.specs.Lists.{node_at}
-use Rattle.cps_network.specs.Nodes.{node_of, latest}
+use Rattle.cps_network.specs.Nodes.{latest}
 use Rattle.cps_network.specs.Permits.{IsPermitted}
 
 -- the label of a window that is not landable
 abbrev pub no_label : ℕ
 no_label = 4294967295
 
--- some legal prefix of a stage ends in this window, and its flights can be given seconds that are open and late enough one
--- after another, the last of them t
+-- a window of a stage attains this second with some cost: a legal prefix ends in it whose flights can be given seconds that are
+-- open and late enough one after another, the last of them t
 abbrev pub CanLandAt : Problem → ℕ → List ℤ → ℕ → Type 0
-CanLandAt p stage xs t = (landings : List Landing) × Legal (ranked p).rules (ranks landings) × LandedIn (ranked p) landings
-    × (node_of p.k (ranks landings) ≡ (stage, xs)) × ((latest_landing landings).1 ≡ t)
+CanLandAt p stage xs t = (cost : ℕ) × Attains p stage xs (t, cost)
 
 -- the least of these seconds, or `no_label` exactly where there is none
 pub record IsLeastOr (IsSecond : ℕ → Type 0) (label : ℕ) : Type 0 where

@@ -1,4 +1,5 @@
 -- The definitions of this crate.
 pub mod Labels
 pub mod Columns
+pub mod LabelPairs
 pub mod shared

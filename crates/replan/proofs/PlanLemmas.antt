@@ -1,48 +1,92 @@
--- The order of the least label of the last stage: its earliest seconds are a best and tight schedule for the makespan.
-use Rattle.std.proofs.Common.{◌≡◌, ℕ, zero, suc, ◌+◌, ◌<◌, ◌≤◌, List, [], ◌∷◌, length, get_or, map, reverse, drop, take, ◌++◌, inl, inr, refl, sym, ap, subst, ◌∙◌, arith, le_trans}
-use Rattle.std.specs.Prelude.{ℤ, slice_index}
+-- The order of the last stage's pair that is worth least: its earliest seconds are a best and tight schedule.
+use Rattle.std.proofs.Common.{◌≡◌, ℕ, zero, suc, ◌+◌, ◌-◌, ◌<◌, ◌≤◌, List, [], ◌∷◌, length, get_or, map, reverse, drop, take, ◌++◌, inl, inr, refl, sym, ap, subst, ◌∙◌, arith, le_trans}
+use Rattle.std.specs.Prelude.{ℤ}
 use Rattle.std.specs.List.{AllZip}
 use Rattle.std.proofs.lemmas.List.{length-reverse, get_or_default}
 use Rattle.landing_rules.specs.declared.objective.Objective.{Objective}
-use Rattle.landing_rules.specs.declared.objective.Objective.TheVariants.{Makespan}
+use Rattle.landing_rules.specs.declared.objective.Objective.TheVariants.{Makespan, Delay}
 use Rattle.landing_rules.specs.Flights.{Schedule}
 use Rattle.landing_rules.specs.Problem.{Problem, Waiting, IsFeasibleList, IsBestList, IsTightList}
 use Rattle.cps_theory.specs.RankLists.{In, of_rank, Distinct, IsRank, numbers_from}
-use Rattle.cps_theory.specs.LandingTrail.{latest_landing, ranks}
+use Rattle.cps_theory.specs.LandingTrail.{ranks}
+use Rattle.cps_theory.specs.Labels.{InPairs, NoWorse, Pair}
 use Rattle.cps_theory.specs.LegalPrefix.{Legal}
 use Rattle.cps_theory.specs.ProblemNetwork.{LandedIn}
-use Rattle.cps_theory.specs.Feasible.{at_seconds, greatest, second_in, pair_at}
+use Rattle.cps_theory.specs.Feasible.{at_seconds, second_in, pair_at as map_pair}
+use Rattle.cps_theory.specs.UndominatedPairs.{Staircase}
 use Rattle.cps_theory.specs.laws.FeasibleOrder.{at_seconds_agree}
 use Rattle.cps_theory.specs.laws.FrozenFront.{each_fits_distinct}
 use Rattle.cps_theory.specs.laws.LegalPrefix.{legal_each_fits, in_from_one}
 use Rattle.cps_theory.specs.laws.LeastObjective.{at_second_in, feasible_landing_trail, landing_trail_feasible}
 use Rattle.cps_theory.specs.laws.OrderLoops.{front_whole}
-use Rattle.cps_theory.specs.laws.RanksBelow.{greatest_least, at_most_greatest}
 use Rattle.landing_joint.specs.RankedProblem.{ranked, cost_at, value_by, makespan_by}
 use Rattle.landing_joint.specs.shared.RankedLists.{list_feasible, sound_ranked}
 use Rattle.landing_joint.specs.shared.BestLists.{list_value}
 use Rattle.extract_plan.specs.Orders.{IsWholeOrder, LandsInOrder, EarliestInOrder}
 use Rattle.extract_plan.specs.shared.LandingOrder.{in_order, trail_lands}
-use Rattle.extract_plan.specs.shared.PlannedOrder.{IsPlannedFor, order_best, order_tight}
+use Rattle.extract_plan.specs.shared.PlannedOrder.{IsPlannedFor, map_value_rises, order_best, order_tight}
 use Rattle.cps_network.specs.Lists.{node_at}
 use Rattle.cps_network.specs.Nodes.{node_of}
-use Rattle.makespan_labels.specs.Labels.{CanLandAt, HoldsLabels}
-use Rattle.replan.specs.Stages.{LandsLastAt}
+use Rattle.cps_network.specs.Landable.{Attains}
+use Rattle.cps_network.specs.Pairs.{list_at, pair_at}
+use Rattle.makespan_labels.specs.shared.LabelPairs.{attains_free}
+use Rattle.replan.specs.Labels.{StagePairs, HoldsPairs, last_pair, worth}
+use Rattle.replan.specs.Stages.{LandsWithPair}
 
--- ---- no feasible list is better than the least label
+-- ---- no feasible list is worth less than the least last pair
 
-module _ (p : Problem) (is : IsPlannedFor p) (stage : ℕ × List (List ℤ)) (labels : List ℕ) (last : stage.0 ≡ length p.flights) (held : HoldsLabels p stage labels) where
-  -- a feasible list lands in some window of the last stage, no earlier than its label
-  pub bounds : (u : Schedule) → IsFeasibleList p u → (i : ℕ) × (i < length labels) × (slice_index labels i ≤ greatest (of_rank 0 u) (length p.flights))
+-- the last pair of a list that falls in cost is its cheapest
+last_cheapest : (pairs : List Pair) → Staircase pairs → (q : Pair) → InPairs q pairs → (last_pair pairs).1 ≤ q.1
+last_cheapest [] s q i = absurd i
+last_cheapest (x ∷ []) s q (inl e) = let f = ap (λ (z : Pair). z.1) e in omega arith
+last_cheapest (x ∷ []) s q (inr i) = absurd i
+last_cheapest (x ∷ (y ∷ pairs)) s q i =
+    let n : length (x ∷ (y ∷ pairs)) - 1 ≡ suc (length (y ∷ pairs) - 1) = omega arith in
+    subst (λ (m : ℕ). (pair_at (x ∷ (y ∷ pairs)) m).1 ≤ q.1) (sym n) (go (λ o j. last_cheapest (y ∷ pairs) s.1 o j) i)
+  where
+    go : ((o : Pair) → InPairs o (y ∷ pairs) → (pair_at (y ∷ pairs) (length (y ∷ pairs) - 1)).1 ≤ o.1) → InPairs q (x ∷ (y ∷ pairs)) → (pair_at (y ∷ pairs) (length (y ∷ pairs) - 1)).1 ≤ q.1
+    go rest (inl e) =
+        let a = rest y (inl refl) in
+        let b = (s.0 y (inl refl)).1 in
+        let f = ap (λ (z : Pair). z.1) e in
+        omega (arith, a, b, f)
+    go rest (inr j) = rest q j
+
+-- where no pair costs anything there is one alone
+only_pair : (pairs : List Pair) → Staircase pairs → ((q : Pair) → InPairs q pairs → q.1 ≡ 0) → (q : Pair) → InPairs q pairs → last_pair pairs ≡ q
+only_pair [] s free q i = absurd i
+only_pair (x ∷ []) s free q (inl e) = sym e
+only_pair (x ∷ []) s free q (inr i) = absurd i
+only_pair (x ∷ (y ∷ pairs)) s free q i =
+    let a = (s.0 y (inl refl)).1 in
+    let b = free x (inl refl) in
+    absurd (omega (arith, a, b))
+
+least_worth : (o : Objective) (pairs : List Pair) → Staircase pairs → (o ≡ Makespan → (q : Pair) → InPairs q pairs → q.1 ≡ 0) → (a q : Pair) → InPairs a pairs → NoWorse a q
+    → worth o (last_pair pairs) ≤ worth o q
+least_worth Makespan pairs s free a q i le =
+    let e = ap (λ (z : Pair). z.0) (only_pair pairs s (free refl) a i) in
+    let l = le.0 in
+    omega (arith, e, l)
+least_worth Delay pairs s free a q i le = le_trans (last_cheapest pairs s a i) le.1
+
+module _ (p : Problem) (is : IsPlannedFor p) (stage : ℕ × List (List ℤ)) (labels : StagePairs) (last : stage.0 ≡ length p.flights) (holds : HoldsPairs p stage labels) where
+  -- a feasible list lands in some window of the last stage, worth no less than its last pair
+  pub bounds : (u : Schedule) → IsFeasibleList p u
+      → (i : ℕ) × (i < length labels.lists) × (worth p.objective (last_pair (list_at labels.lists i)) ≤ worth p.objective (map_pair (cost_at p) (length p.flights) (of_rank 0 u)))
   bounds u f =
-      let x = feasible_landing_trail (ranked p) (λ _ _. 0) (sound_ranked p is.table is.between) (of_rank 0 u) (list_feasible p u f) in
-      let w : List ℤ = (node_of p.k (ranks x.0)).1 in
+      let held = holds.held in
+      let x = feasible_landing_trail (ranked p) (cost_at p) (sound_ranked p is.table is.between) (of_rank 0 u) (list_feasible p u f) in
       let at : node_of p.k (ranks x.0) ≡ (stage.0, (node_of p.k (ranks x.0)).1) = ap (λ (q : ℕ). (q, (node_of p.k (ranks x.0)).1)) (x.3 ∙ sym last) in
-      let has = (held.landable (node_of p.k (ranks x.0)).1).1 (x.0, x.1, x.2, at) in
+      let a : Attains p stage.0 (node_of p.k (ranks x.0)).1 (map_pair (cost_at p) (length p.flights) (of_rank 0 u)) = record { landings = x.0; legal = x.1; landed = x.2; at = at; is = x.4 } in
+      let has = (held.landable (node_of p.k (ranks x.0)).1).1 (map_pair (cost_at p) (length p.flights) (of_rank 0 u), a) in
       let it : node_at stage.1 has.0 ≡ (node_of p.k (ranks x.0)).1 = get_or_default stage.1 has.0 [] (node_of p.k (ranks x.0)).1 has.1 ∙ has.2 in
-      let low = ((held.labelled.label has.0 has.1).least (latest_landing x.0).1 (subst (λ (y : List ℤ). CanLandAt p stage.0 y (latest_landing x.0).1) (sym it) (x.0, x.1, x.2, at, refl))).1 in
-      let end : (latest_landing x.0).1 ≡ greatest (of_rank 0 u) (length p.flights) = ap (λ (q : ℕ × ℕ). q.0) x.4 in
-      (has.0, (let a = has.1 in omega (arith, held.labelled.one_each)), omega (arith, low, end))
+      let are = held.costs.pairs has.0 has.1 in
+      let o = are.covers (map_pair (cost_at p) (length p.flights) (of_rank 0 u)) (subst (λ (y : List ℤ). Attains p stage.0 y (map_pair (cost_at p) (length p.flights) (of_rank 0 u))) (sym it) a) in
+      let low = least_worth p.objective (list_at labels.lists has.0) are.falling
+      (λ makespan q i. attains_free p makespan stage.0 (node_at stage.1 has.0) q ((are.undominated q).0 i).attained)
+      o.0 (map_pair (cost_at p) (length p.flights) (of_rank 0 u)) o.1 o.2 in
+      (has.0, (let b = has.1 in omega (arith, held.costs.one_each)), low)
 
 -- ---- a list of seconds from landings
 
@@ -59,13 +103,6 @@ rank_mapped : (f : ℕ → ℕ) (n r : ℕ) → IsRank n r → of_rank 0 (map f 
 rank_mapped f n zero q = absurd (let a = q.0 in omega arith)
 rank_mapped f n (suc i) q = get_mapped f 1 n i (let a = q.1 in omega arith) ∙ ap f (let e : 1 + i ≡ suc i = omega arith in e)
 
-makespan_rises : (fs : List Waiting) (p : Problem) (a b : ℕ) → a ≤ b → makespan_by fs p a ≤ makespan_by fs p b
-makespan_rises [] p a b le = omega arith
-makespan_rises (f ∷ fs) p a b le = le
-
-value_rises : (p : Problem) (o : Objective) (a b : ℕ × ℕ) → o ≡ Makespan → a.0 ≤ b.0 → value_by o p a ≤ value_by o p b
-value_rises p o a b e le = subst (λ (q : Objective). value_by q p a ≤ value_by q p b) (sym e) (makespan_rises p.flights p a.0 b.0 le)
-
 in_reverse : (order : List ℕ) (k d : ℕ) → k < length order → In (get_or order k d) (reverse order)
 in_reverse order k d lt =
     subst (In (get_or order k d)) (sym (front_whole order k d lt)) (in_behind (reverse (drop (k + 1) order)) (get_or order k d) (reverse (take k order)))
@@ -74,8 +111,18 @@ in_reverse order k d lt =
     in_behind [] x ys = inl refl
     in_behind (z ∷ xs) x ys = inr (in_behind xs x ys)
 
-module _ (p : Problem) (is : IsPlannedFor p) (makespan : p.objective ≡ Makespan) (order : List ℕ) (end : ℕ) (whole : length order ≡ length p.flights) (lands : LandsLastAt p order end) where
-  pub legal : Legal (ranked p).rules (reverse order)
+-- ---- what is worth no more has no greater value
+
+makespan_rises : (fs : List Waiting) (p : Problem) (a b : ℕ) → a ≤ b → makespan_by fs p a ≤ makespan_by fs p b
+makespan_rises [] p a b le = omega arith
+makespan_rises (f ∷ fs) p a b le = le
+
+value_rises : (p : Problem) (o : Objective) (a b : Pair) → worth o a ≤ worth o b → value_by o p a ≤ value_by o p b
+value_rises p Makespan a b le = makespan_rises p.flights p a.0 b.0 le
+value_rises p Delay a b le = omega (arith, le)
+
+module _ (p : Problem) (is : IsPlannedFor p) (order : List ℕ) (end : Pair) (whole : length order ≡ length p.flights) (lands : LandsWithPair p order end) where
+  legal : Legal (ranked p).rules (reverse order)
   legal = subst (Legal (ranked p).rules) lands.1 lands.2
 
   pub order_is_whole : IsWholeOrder (length p.flights) order
@@ -95,7 +142,6 @@ module _ (p : Problem) (is : IsPlannedFor p) (makespan : p.objective ≡ Makespa
   -- the landings, as seconds by rank, land in the order
   pub order_lands : LandsInOrder p order seconds
   order_lands =
-      let rs = reverse order in
       let distinct = order_is_whole.distinct in
       let same : at_seconds (of_rank 0 seconds) (reverse order) ≡ at_seconds (second_in lands.0) (reverse order) =
       at_seconds_agree (of_rank 0 seconds) (second_in lands.0) (reverse order) (λ r i. rank_mapped (second_in lands.0) (length p.flights) r (in_order p order order_is_whole r i)) in
@@ -103,28 +149,24 @@ module _ (p : Problem) (is : IsPlannedFor p) (makespan : p.objective ≡ Makespa
       ap (at_seconds (second_in lands.0)) (sym lands.1) ∙ at_second_in lands.0 (subst Distinct (sym lands.1) distinct) in
       trail_lands p is.table order seconds order_is_whole long (subst (LandedIn (ranked p)) (sym (same ∙ back)) lands.3)
 
-  greatest_is : greatest (of_rank 0 seconds) (length p.flights) ≤ end
-  greatest_is =
-      let n = length p.flights in
-      let f = landing_trail_feasible (ranked p) (λ _ _. 0) (sound_ranked p is.table is.between) lands.0 lands.2 lands.3 (ap length lands.1 ∙ length-reverse order ∙ whole) in
-      let at : (latest_landing lands.0).1 ≡ greatest (second_in lands.0) (length p.flights) = ap (λ (q : ℕ × ℕ). q.0) f.1 in
-      greatest_least (of_rank 0 seconds) (length p.flights) end (λ r q.
-      let e = rank_mapped (second_in lands.0) (length p.flights) r q in
-      let m = at_most_greatest (second_in lands.0) (length p.flights) r q in
-      let l = lands.4 in
-      omega (arith, e, m, l, at))
+  -- they land last at the pair's second, and cost what it says
+  pair_is : map_pair (cost_at p) (length p.flights) (second_in lands.0) ≡ end
+  pair_is =
+      let f = landing_trail_feasible (ranked p) (cost_at p) (sound_ranked p is.table is.between) lands.0 lands.2 lands.3 (ap length lands.1 ∙ length-reverse order ∙ whole) in
+      sym f.1 ∙ lands.4
 
   pub plan_best : (v : Schedule) → length v ≡ length p.flights → EarliestInOrder p order v → ((x : Schedule) → LandsInOrder p order x → AllZip (λ a b. a ≤ b) v x)
-      → ((u : Schedule) → IsFeasibleList p u → end ≤ greatest (of_rank 0 u) (length p.flights)) → IsBestList p v × IsTightList p v
+      → ((u : Schedule) → IsFeasibleList p u → worth p.objective end ≤ worth p.objective (map_pair (cost_at p) (length p.flights) (of_rank 0 u))) → IsBestList p v × IsTightList p v
   plan_best v room earliest least low = (
     order_best p is order order_is_whole legal v room earliest least (λ u f. (
       seconds,
       order_lands,
       (let here = list_value p seconds long in
           let there = list_value p u f.one_each in
-          let g = greatest_is in
-          let a = value_rises p p.objective (pair_at (cost_at p) (length p.flights) (of_rank 0 seconds)) (pair_at (cost_at p) (length p.flights) (of_rank 0 u)) makespan (le_trans g (low u f)) in
-          omega (arith, here, there, a)),
+          let a = map_value_rises p (of_rank 0 seconds) (second_in lands.0) (λ r q. let e = rank_mapped (second_in lands.0) (length p.flights) r q in omega (arith, e)) in
+          let b = subst (λ (e : Pair). value_by p.objective p e ≤ value_by p.objective p (map_pair (cost_at p) (length p.flights) (of_rank 0 u))) (sym pair_is)
+          (value_rises p p.objective end (map_pair (cost_at p) (length p.flights) (of_rank 0 u)) (low u f)) in
+          omega (arith, here, there, a, b)),
     )),
     order_tight p is order order_is_whole legal v room earliest,
   )

@@ -1,29 +1,30 @@
--- Stage 0 with its label, and one stage more.
-use Rattle.std.proofs.Common.{◌≡◌, ℕ, zero, suc, ◌+◌, ◌*◌, ◌<◌, List, [], ◌∷◌, ◌++◌, length, get_or, replicate, length-append, refl, sym, ap, subst, ◌∙◌, arith, inl, inr, Option, Some, None}
-use Rattle.std.specs.Prelude.{ℤ, pos, Contains, slice_index, Bool, true, false, IsTrue, ◌-◌, ◌≤◌, map}
+-- Stage 0 with its pair, and one stage more.
+use Rattle.std.proofs.Common.{◌≡◌, ℕ, zero, suc, ◌+◌, ◌*◌, ◌<◌, List, [], ◌∷◌, ◌++◌, length, get_or, replicate, length-append, refl, sym, ap, subst, ◌∙◌, arith, inl, inr, zero-le, Option, Some, None}
+use Rattle.std.specs.Prelude.{ℤ, pos, Contains, Bool, IsTrue, ◌-◌}
 use Rattle.std.proofs.lemmas.Bool.{cases_eq}
-use Rattle.std.proofs.lemmas.List.{length-map, get_or_append_left, get_or_push, get_or_default}
+use Rattle.std.proofs.lemmas.List.{get_or_append_left, get_or_push, get_or_default}
+use Rattle.std.proofs.lemmas.List.Elements.{Contains-get_or}
 use Rattle.cps_base.specs.Tally.{raised_by}
 use Rattle.cps_theory.specs.Separation.{Landing}
-use Rattle.cps_theory.specs.LandingTrail.{ranks}
+use Rattle.cps_theory.specs.LandingTrail.{pair_of, ranks}
+use Rattle.cps_theory.specs.Labels.{InPairs, Pair}
+use Rattle.cps_theory.specs.Network.{Undominated}
+use Rattle.landing_joint.specs.RankedProblem.{cost_at}
+use Rattle.landing_rules.specs.declared.objective.Objective.TheVariants.{Makespan}
 use Rattle.landing_rules.specs.Problem.{Problem}
-use Rattle.cps_network.specs.Compacted.{kept_where}
-use Rattle.cps_network.specs.Landable.{IsLandable, HoldsLandable, HoldsCandidates}
+use Rattle.cps_network.specs.Landable.{Attains, IsLandable, HoldsLandable, HoldsCandidates}
 use Rattle.cps_network.specs.Lists.{IsAscending, node_at}
 use Rattle.cps_network.specs.Nodes.{Node, node_of}
+use Rattle.cps_network.specs.Pairs.{ArePairsOf, HoldsCosts, list_at}
 use Rattle.cps_network.specs.Permits.{IsNextOf}
 use Rattle.cps_network.specs.shared.LegalWindows.{source_is}
-use Rattle.makespan_labels.specs.Columns.{is_known, known_of}
-use Rattle.makespan_labels.specs.Labels.{CanLandAt, IsLabel, HoldsLabels}
+use Rattle.replan.specs.Labels.{StagePairs, HoldsPairs}
 use Rattle.replan.specs.Stages.{stage_at, labels_at, HoldsStages, HasCandidates, HasCandidatesUpto, IsWholeWhere}
 
 -- ---- stage 0
 
-zeros : Problem → List ℤ
-zeros p = replicate (2 * p.k + 1) (pos 0)
-
-start_lands : (p : Problem) → CanLandAt p 0 (replicate (2 * p.k + 1) (pos 0)) 0
-start_lands p = ([], tt, tt, ap (λ (w : List ℤ). (0, w)) (source_is p), refl)
+abbrev no_pairs : StagePairs
+no_pairs = record { objective = Makespan; lists = [] }
 
 pub no_landing : (xs : List Landing) → length (ranks xs) ≡ 0 → xs ≡ []
 no_landing [] e = refl
@@ -31,62 +32,83 @@ no_landing (x ∷ xs) e = absurd (omega arith)
 
 pub start_only : (p : Problem) (v : List ℤ) → IsLandable p 0 v → node_of p.k [] ≡ (0, v)
 start_only p v l =
-    let none : l.0 ≡ [] = no_landing l.0 (ap (λ (n : Node). n.0) l.3) in
-    subst (λ (xs : List Landing). node_of p.k (ranks xs) ≡ (0, v)) none l.3
+    let none : l.1.landings ≡ [] = no_landing l.1.landings (ap (λ (n : Node). n.0) l.1.at) in
+    subst (λ (xs : List Landing). node_of p.k (ranks xs) ≡ (0, v)) none l.1.at
 
-start_labels : (p : Problem) → HoldsLabels p (0, replicate (2 * p.k + 1) (pos 0) ∷ []) (0 ∷ [])
-start_labels p = record {
-  landable = λ v. (
-    in_start v,
-    λ l. (0, omega arith, sym (source_is p) ∙ ap (λ (n : Node). n.1) (start_only p v l)),
-  );
-  labelled = record { one_each = refl; label = label };
+start_attains : (p : Problem) → Attains p 0 (replicate (2 * p.k + 1) (pos 0)) (0, 0)
+start_attains p = record { landings = []; legal = tt; landed = tt; at = ap (λ (w : List ℤ). (0, w)) (source_is p); is = refl }
+
+-- nothing but (0, 0) is attained there
+pub start_pair : (p : Problem) (v : List ℤ) (q : Pair) → Attains p 0 v q → (0, 0) ≡ q
+start_pair p v q a =
+    let none : a.landings ≡ [] = no_landing a.landings (ap (λ (n : Node). n.0) a.at) in
+    subst (λ (xs : List Landing). pair_of (cost_at p) xs ≡ q) none a.is
+
+pub start_costs : (p : Problem) → HoldsCosts p (0, replicate (2 * p.k + 1) (pos 0) ∷ []) (((0, 0) ∷ []) ∷ [])
+start_costs p = record {
+  landable = λ v. (in_start v, λ l. (0, omega arith, sym (source_is p) ∙ ap (λ (n : Node). n.1) (start_only p v l)));
+  costs = record { one_each = refl; pairs = pairs };
 }
   where
     in_start : (v : List ℤ) → Contains (replicate (2 * p.k + 1) (pos 0) ∷ []) v → IsLandable p 0 v
-    in_start v (zero, lt, at) = subst (IsLandable p 0) at (let s = start_lands p in (s.0, s.1, s.2, s.3))
+    in_start v (zero, lt, at) = subst (IsLandable p 0) at ((0, 0), start_attains p)
     in_start v (suc i, lt, at) = absurd (omega arith)
 
-    label : (i : ℕ) → i < 1 → IsLabel p 0 (node_at (replicate (2 * p.k + 1) (pos 0) ∷ []) i) (slice_index (0 ∷ []) i)
-    label zero lt = record { attained = λ _. start_lands p; least = λ t a. (omega arith, omega arith) }
-    label (suc i) lt = absurd (omega arith)
+    only : (q : Pair) → InPairs q ((0, 0) ∷ []) → Undominated (Attains p 0 (replicate (2 * p.k + 1) (pos 0))) q
+    only q (inl e) = record {
+      attained = subst (Attains p 0 (replicate (2 * p.k + 1) (pos 0))) (sym e) (start_attains p);
+      best = λ o a le. sym (start_pair p (replicate (2 * p.k + 1) (pos 0)) o a) ∙ sym e;
+    }
+    only q (inr i) = absurd i
 
-pub start_held : (p : Problem) (w : ℕ) (stages : List (ℕ × List (List ℤ))) (columns : List (List ℕ)) → w ≡ 2 * p.k + 1
-    → stages ≡ (0, replicate w (pos 0) ∷ []) ∷ [] → columns ≡ (0 ∷ []) ∷ [] → HoldsStages p stages columns
-start_held p w stages columns odd e f =
-    let one : HoldsStages p ((0, replicate (2 * p.k + 1) (pos 0) ∷ []) ∷ []) ((0 ∷ []) ∷ []) = record { one_each = refl; number = number; held = held } in
-    subst (λ (cs : List (List ℕ)). HoldsStages p stages cs) (sym f)
-    (subst (λ (ss : List (ℕ × List (List ℤ))). HoldsStages p ss ((0 ∷ []) ∷ [])) (sym (e ∙ ap (λ (m : ℕ). (0, replicate m (pos 0) ∷ []) ∷ []) odd)) one)
+    pairs : (i : ℕ) → i < 1 → ArePairsOf p 0 (node_at (replicate (2 * p.k + 1) (pos 0) ∷ []) i) (list_at (((0, 0) ∷ []) ∷ []) i)
+    pairs zero lt = record {
+      undominated = λ q. (only q, λ u. inl (sym (start_pair p (replicate (2 * p.k + 1) (pos 0)) q u.attained)));
+      covers = λ q a. ((0, 0), inl refl, (zero-le, zero-le));
+      falling = (λ q i. absurd i, tt);
+    }
+    pairs (suc i) lt = absurd (omega arith)
+
+-- the labels of stage 0
+abbrev pub start_pairs : Problem → StagePairs
+start_pairs p = record { objective = p.objective; lists = ((0, 0) ∷ []) ∷ [] }
+
+pub start_held : (p : Problem) (w : ℕ) (stages : List (ℕ × List (List ℤ))) (labels : List StagePairs) → w ≡ 2 * p.k + 1
+    → stages ≡ (0, replicate w (pos 0) ∷ []) ∷ [] → labels ≡ start_pairs p ∷ [] → HoldsStages p stages labels
+start_held p w stages labels odd e f =
+    let one : HoldsStages p ((0, replicate (2 * p.k + 1) (pos 0) ∷ []) ∷ []) (start_pairs p ∷ []) = record { one_each = refl; number = number; held = held } in
+    subst (λ (ls : List StagePairs). HoldsStages p stages ls) (sym f)
+    (subst (λ (ss : List (ℕ × List (List ℤ))). HoldsStages p ss (start_pairs p ∷ [])) (sym (e ∙ ap (λ (m : ℕ). (0, replicate m (pos 0) ∷ []) ∷ []) odd)) one)
   where
     number : (i : ℕ) → i < 1 → (stage_at ((0, replicate (2 * p.k + 1) (pos 0) ∷ []) ∷ []) i).0 ≡ i
     number zero lt = refl
     number (suc i) lt = absurd (omega arith)
 
-    held : (i : ℕ) → i < 1 → HoldsLabels p (stage_at ((0, replicate (2 * p.k + 1) (pos 0) ∷ []) ∷ []) i) (labels_at ((0 ∷ []) ∷ []) i)
-    held zero lt = start_labels p
+    held : (i : ℕ) → i < 1 → HoldsPairs p (stage_at ((0, replicate (2 * p.k + 1) (pos 0) ∷ []) ∷ []) i) (labels_at (start_pairs p ∷ []) i)
+    held zero lt = record { objective = refl; held = start_costs p }
     held (suc i) lt = absurd (omega arith)
 
 -- ---- one stage more
 
-pub more_held : (p : Problem) (stages after : List (ℕ × List (List ℤ))) (columns more : List (List ℕ)) (stage : ℕ × List (List ℤ)) (labels : List ℕ)
-    → HoldsStages p stages columns → after ≡ stages ++ stage ∷ [] → more ≡ columns ++ labels ∷ [] → stage.0 ≡ length stages → HoldsLabels p stage labels → HoldsStages p after more
-more_held p stages after columns more stage labels is e f number held =
-    subst (λ (cs : List (List ℕ)). HoldsStages p after cs) (sym f) (subst (λ (ss : List (ℕ × List (List ℤ))). HoldsStages p ss (columns ++ labels ∷ [])) (sym e) (record {
-      one_each = omega (arith, length-append stages (stage ∷ []), length-append columns (labels ∷ []), is.one_each);
+pub more_held : (p : Problem) (stages after : List (ℕ × List (List ℤ))) (labels more : List StagePairs) (stage : ℕ × List (List ℤ)) (last : StagePairs)
+    → HoldsStages p stages labels → after ≡ stages ++ stage ∷ [] → more ≡ labels ++ last ∷ [] → stage.0 ≡ length stages → HoldsPairs p stage last → HoldsStages p after more
+more_held p stages after labels more stage last is e f number held =
+    subst (λ (ls : List StagePairs). HoldsStages p after ls) (sym f) (subst (λ (ss : List (ℕ × List (List ℤ))). HoldsStages p ss (labels ++ last ∷ [])) (sym e) (record {
+      one_each = omega (arith, length-append stages (stage ∷ []), length-append labels (last ∷ []), is.one_each);
       number = λ i lt. elim (cases_eq i (length stages)) [
-        | inl last ↦ ap (λ (s : ℕ × List (List ℤ)). s.0) (get_or_push stages stage (0, []) i (sym last)) ∙ number ∙ sym last
+        | inl same ↦ ap (λ (s : ℕ × List (List ℤ)). s.0) (get_or_push stages stage (0, []) i (sym same)) ∙ number ∙ sym same
         | inr old ↦
             let below : i < length stages = omega (arith, old, lt, length-append stages (stage ∷ [])) in
             ap (λ (s : ℕ × List (List ℤ)). s.0) (get_or_append_left stages (stage ∷ []) (0, []) i below) ∙ is.number i below
       ];
       held = λ i lt. elim (cases_eq i (length stages)) [
-        | inl last ↦
-            subst (λ (s : ℕ × List (List ℤ)). HoldsLabels p s (labels_at (columns ++ labels ∷ []) i)) (sym (get_or_push stages stage (0, []) i (sym last)))
-            (subst (λ (ls : List ℕ). HoldsLabels p stage ls) (sym (get_or_push columns labels [] i (is.one_each ∙ sym last))) held)
+        | inl same ↦
+            subst (λ (s : ℕ × List (List ℤ)). HoldsPairs p s (labels_at (labels ++ last ∷ []) i)) (sym (get_or_push stages stage (0, []) i (sym same)))
+            (subst (λ (ls : StagePairs). HoldsPairs p stage ls) (sym (get_or_push labels last no_pairs i (is.one_each ∙ sym same))) held)
         | inr old ↦
             let below : i < length stages = omega (arith, old, lt, length-append stages (stage ∷ [])) in
-            subst (λ (s : ℕ × List (List ℤ)). HoldsLabels p s (labels_at (columns ++ labels ∷ []) i)) (sym (get_or_append_left stages (stage ∷ []) (0, []) i below))
-            (subst (λ (ls : List ℕ). HoldsLabels p (stage_at stages i) ls) (sym (get_or_append_left columns (labels ∷ []) [] i (omega (arith, below, is.one_each)))) (is.held i below))
+            subst (λ (s : ℕ × List (List ℤ)). HoldsPairs p s (labels_at (labels ++ last ∷ []) i)) (sym (get_or_append_left stages (stage ∷ []) (0, []) i below))
+            (subst (λ (ls : StagePairs). HoldsPairs p (stage_at stages i) ls) (sym (get_or_append_left labels (last ∷ []) no_pairs i (omega (arith, below, is.one_each)))) (is.held i below))
       ];
     }))
 
@@ -107,86 +129,78 @@ due_more p i o r s (due, upto, e) (count, has, f) =
 
 -- ---- what is read of the stages
 
-pub held_at : (p : Problem) (stages : List (ℕ × List (List ℤ))) (columns : List (List ℕ)) → HoldsStages p stages columns → (i : ℕ) (x : ℕ × List (List ℤ)) (y : List ℕ)
-    → x ≡ stage_at stages i → y ≡ labels_at columns i → i < length stages → HoldsLabels p x y × (x.0 ≡ i)
-held_at p stages columns is i x y e f lt = (
-  subst (λ (s : ℕ × List (List ℤ)). HoldsLabels p s y) (sym e) (subst (λ (ls : List ℕ). HoldsLabels p (stage_at stages i) ls) (sym f) (is.held i lt)),
+pub held_at : (p : Problem) (stages : List (ℕ × List (List ℤ))) (labels : List StagePairs) → HoldsStages p stages labels → (i : ℕ) (x : ℕ × List (List ℤ)) (y : StagePairs)
+    → x ≡ stage_at stages i → y ≡ labels_at labels i → i < length stages → HoldsPairs p x y × (x.0 ≡ i)
+held_at p stages labels is i x y e f lt = (
+  subst (λ (s : ℕ × List (List ℤ)). HoldsPairs p s y) (sym e) (subst (λ (ls : StagePairs). HoldsPairs p (stage_at stages i) ls) (sym f) (is.held i lt)),
   ap (λ (s : ℕ × List (List ℤ)). s.0) e ∙ is.number i lt,
 )
 
 pub read_stage : (stages : List (ℕ × List (List ℤ))) (i : ℕ) (x : ℕ × List (List ℤ)) → x ≡ get_or stages i x → i < length stages → x ≡ stage_at stages i
 read_stage stages i x e lt = e ∙ get_or_default stages i x (0, []) lt
 
-pub read_labels : (columns : List (List ℕ)) (i : ℕ) (y : List ℕ) → y ≡ get_or columns i y → i < length columns → y ≡ labels_at columns i
-read_labels columns i y e lt = e ∙ get_or_default columns i y [] lt
+pub read_labels : (labels : List StagePairs) (i : ℕ) (y : StagePairs) → y ≡ get_or labels i y → i < length labels → y ≡ labels_at labels i
+read_labels labels i y e lt = e ∙ get_or_default labels i y no_pairs lt
+
+-- each kept list has a pair
+pub list_some : (p : Problem) (stage : ℕ × List (List ℤ)) (lists : List (List Pair)) → HoldsCosts p stage lists → (i : ℕ) → i < length stage.1 → 0 < length (list_at lists i)
+list_some p stage lists h i lt =
+    let l = (h.landable (node_at stage.1 i)).0 (Contains-get_or stage.1 i [] lt) in
+    let o = (h.costs.pairs i lt).covers l.0 l.1 in
+    some (list_at lists i) o.0 o.1
+  where
+    some : (pairs : List Pair) (q : Pair) → InPairs q pairs → 0 < length pairs
+    some [] q i = absurd i
+    some (x ∷ pairs) q i = omega arith
+
+-- the last stage as it is read: all of its labels, which have a pair each
+pub record LastRead (p : Problem) (stages : List (ℕ × List (List ℤ))) (labels : List StagePairs) (last : StagePairs) : Type 0 where
+  pub is : last ≡ labels_at labels (length p.flights)
+  pub number : (stage_at stages (length p.flights)).0 ≡ length p.flights
+  pub held : HoldsPairs p (stage_at stages (length p.flights)) last
+  pub some : (i : ℕ) → i < length last.lists → 0 < length (list_at last.lists i)
+
+pub last_read : (p : Problem) (stages : List (ℕ × List (List ℤ))) (labels : List StagePairs) → HoldsStages p stages labels → length stages ≡ length p.flights + 1
+    → (n : ℕ) (last : StagePairs) → n ≡ length p.flights → last ≡ get_or labels n last → LastRead p stages labels last
+last_read p stages labels holds whole n last same e =
+    let lt : length p.flights < length stages = omega (arith, whole) in
+    let is : last ≡ labels_at labels (length p.flights) = read_labels labels n last e (omega (arith, lt, same, holds.one_each)) ∙ ap (labels_at labels) same in
+    let held = subst (HoldsPairs p (stage_at stages (length p.flights))) (sym is) (holds.held (length p.flights) lt) in
+    record {
+      is = is;
+      number = holds.number (length p.flights) lt;
+      held = held;
+      some = λ i inside. list_some p (stage_at stages (length p.flights)) last.lists held.held i (omega (arith, inside, held.held.costs.one_each));
+    }
 
 -- ---- the stage after the last
 
 -- the last two stages, where the last one is whole
-pub whole_at : (p : Problem) (stages : List (ℕ × List (List ℤ))) (said : Bool) (i : ℕ) (earlier before : ℕ × List (List ℤ)) → IsWholeWhere p stages said → IsTrue said
-    → i + 2 ≡ length stages → earlier ≡ stage_at stages i → earlier.0 ≡ i → before ≡ stage_at stages (i + 1) → IsNextOf p earlier.0 earlier.1 before.1
-whole_at p stages said i earlier before is whole n e number f =
-    let a : length stages - 2 ≡ i = omega (arith, n) in
-    let b : length stages - 1 ≡ i + 1 = omega (arith, n) in
-    let one : IsNextOf p i (stage_at stages i).1 (stage_at stages (i + 1)).1 =
-    subst (λ (q : ℕ). IsNextOf p i (stage_at stages i).1 (stage_at stages q).1) b (subst (λ (q : ℕ). IsNextOf p q (stage_at stages q).1 (stage_at stages (length stages - 1)).1) a (is whole (omega (arith, n)))) in
-    let two : IsNextOf p i earlier.1 (stage_at stages (i + 1)).1 = subst (λ (x : ℕ × List (List ℤ)). IsNextOf p i x.1 (stage_at stages (i + 1)).1) (sym e) one in
-    let three : IsNextOf p i earlier.1 before.1 = subst (λ (x : ℕ × List (List ℤ)). IsNextOf p i earlier.1 x.1) (sym f) two in
-    subst (λ (q : ℕ). IsNextOf p q earlier.1 before.1) (sym number) three
-
--- what follows a stage that was read follows that of its place
-pub exact_at : (p : Problem) (stages : List (ℕ × List (List ℤ))) (i j : ℕ) (before after : ℕ × List (List ℤ)) → before ≡ stage_at stages i → before.0 ≡ i → i ≡ j
-    → IsNextOf p before.0 before.1 after.1 → IsNextOf p j (stage_at stages j).1 after.1
-exact_at p stages i j before after e number same is =
-    let one : IsNextOf p i before.1 after.1 = subst (λ (q : ℕ). IsNextOf p q before.1 after.1) number is in
-    let two : IsNextOf p i (stage_at stages i).1 after.1 = subst (λ (x : ℕ × List (List ℤ)). IsNextOf p i x.1 after.1) e one in
-    subst (λ (q : ℕ). IsNextOf p q (stage_at stages q).1 after.1) same two
-
-pub candidates_at : (p : Problem) (stages : List (ℕ × List (List ℤ))) (i j : ℕ) (before after : ℕ × List (List ℤ)) → before ≡ stage_at stages i → i ≡ j
-    → HoldsCandidates p before after → HoldsCandidates p (stage_at stages j) after
-candidates_at p stages i j before after e same is =
-    subst (λ (q : ℕ). HoldsCandidates p (stage_at stages q) after) same (subst (λ (x : ℕ × List (List ℤ)). HoldsCandidates p x after) e is)
-
-pub exact_back : (p : Problem) (stages : List (ℕ × List (List ℤ))) (i j : ℕ) (before after : ℕ × List (List ℤ)) → before ≡ stage_at stages i → before.0 ≡ i → i ≡ j
-    → IsNextOf p j (stage_at stages j).1 after.1 → IsNextOf p before.0 before.1 after.1
-exact_back p stages i j before after e number same is =
-    let one : IsNextOf p i (stage_at stages i).1 after.1 = subst (λ (q : ℕ). IsNextOf p q (stage_at stages q).1 after.1) (sym same) is in
-    let two : IsNextOf p i before.1 after.1 = subst (λ (x : ℕ × List (List ℤ)). IsNextOf p i x.1 after.1) (sym e) one in
-    subst (λ (q : ℕ). IsNextOf p q before.1 after.1) (sym number) two
-
--- ---- where no window was dropped
-
-kept_short : {B : Type 0} (bs : List Bool) (ys : List B) → length (kept_where bs ys) ≤ length ys
-kept_short [] ys = omega arith
-kept_short (b ∷ bs) [] = omega arith
-kept_short (true ∷ bs) (y ∷ ys) = let h = kept_short bs ys in omega (arith, h)
-kept_short (false ∷ bs) (y ∷ ys) = let h = kept_short bs ys in omega (arith, h)
-
--- where as many are kept as there are, each is kept
-pub kept_all : {A B : Type 0} (bs : List Bool) (ys : List B) (xs : List A) → length bs ≡ length xs → length ys ≡ length xs → length (kept_where bs ys) ≡ length ys → kept_where bs xs ≡ xs
-kept_all [] ys [] e f k = refl
-kept_all [] ys (x ∷ xs) e f k = absurd (omega (arith, e))
-kept_all (b ∷ bs) ys [] e f k = absurd (omega (arith, e))
-kept_all (b ∷ bs) [] (x ∷ xs) e f k = absurd (omega (arith, f))
-kept_all (true ∷ bs) (y ∷ ys) (x ∷ xs) e f k = ap (λ (l : List _). x ∷ l) (kept_all bs ys xs (omega (arith, e)) (omega (arith, f)) (omega (arith, k)))
-kept_all (false ∷ bs) (y ∷ ys) (x ∷ xs) e f k = let h = kept_short bs ys in absurd (omega (arith, k, h))
-
--- where each label is known, each window stays
-pub all_known : (labels : List ℕ) (xs : List (List ℤ)) → length labels ≡ length xs → length (known_of labels labels) ≡ length xs → known_of labels xs ≡ xs
-all_known labels xs e f = kept_all (map is_known labels) labels xs (length-map labels is_known ∙ e) e (f ∙ sym e)
+pub whole_at : (p : Problem) (stages : List (ℕ × List (List ℤ))) (said : Bool) (i last : ℕ) (earlier before : ℕ × List (List ℤ)) → IsWholeWhere p stages said → ((j : ℕ) → j < length stages → (stage_at stages j).0 ≡ j)
+    → last + 1 ≡ length stages → i ≡ last - 1 → earlier ≡ stage_at stages i → before ≡ stage_at stages last → IsTrue said → earlier.0 < before.0 → IsNextOf p earlier.0 earlier.1 before.1
+whole_at p stages said i last earlier before is numbers n back e f whole lt =
+    let here : before.0 ≡ last = ap (λ (s : ℕ × List (List ℤ)). s.0) f ∙ numbers last (omega (arith, n)) in
+    let there : earlier.0 ≡ i = ap (λ (s : ℕ × List (List ℤ)). s.0) e ∙ numbers i (omega (arith, n, back)) in
+    let a : length stages - 2 ≡ i = omega (arith, n, back, lt, here, there) in
+    let b : length stages - 1 ≡ last = omega (arith, n) in
+    let one : IsNextOf p i (stage_at stages i).1 (stage_at stages last).1 =
+    subst (λ (q : ℕ). IsNextOf p i (stage_at stages i).1 (stage_at stages q).1) b (subst (λ (q : ℕ). IsNextOf p q (stage_at stages q).1 (stage_at stages (length stages - 1)).1) a (is whole (omega (arith, n, lt, here, there, back)))) in
+    let two : IsNextOf p i earlier.1 before.1 =
+    subst (λ (x : ℕ × List (List ℤ)). IsNextOf p i earlier.1 x.1) (sym f) (subst (λ (x : ℕ × List (List ℤ)). IsNextOf p i x.1 (stage_at stages last).1) (sym e) one) in
+    subst (λ (q : ℕ). IsNextOf p q earlier.1 before.1) (sym there) two
 
 -- the stages are whole where the last one was kept whole
-pub whole_more : (p : Problem) (stages after : List (ℕ × List (List ℤ))) (was stage : ℕ × List (List ℤ)) (said : Bool) → after ≡ stages ++ stage ∷ [] → 0 < length stages
-    → (IsTrue said → stage.1 ≡ was.1) → IsNextOf p (length stages - 1) (stage_at stages (length stages - 1)).1 was.1 → IsWholeWhere p after said
-whole_more p stages after was stage said e some kept is whole more =
-    let a : length after - 2 ≡ length stages - 1 = omega (arith, ap length e, length-append stages (stage ∷ [])) in
+pub whole_more : (p : Problem) (stages after : List (ℕ × List (List ℤ))) (before was stage : ℕ × List (List ℤ)) (said : Bool) → ((j : ℕ) → j < length stages → (stage_at stages j).0 ≡ j)
+    → after ≡ stages ++ stage ∷ [] → (last : ℕ) → last + 1 ≡ length stages → before ≡ stage_at stages last → (IsTrue said → stage.1 ≡ was.1) → IsNextOf p before.0 before.1 was.1 → IsWholeWhere p after said
+whole_more p stages after before was stage said numbers e last n at kept is whole more =
+    let lt : last < length stages = omega (arith, n) in
+    let a : length after - 2 ≡ last = omega (arith, ap length e, length-append stages (stage ∷ []), n) in
     let b : length after - 1 ≡ length stages = omega (arith, ap length e, length-append stages (stage ∷ [])) in
-    let last : stage_at after (length after - 1) ≡ stage = ap (λ (l : List (ℕ × List (List ℤ))). stage_at l (length after - 1)) e ∙ get_or_push stages stage (0, []) (length after - 1) (sym b) in
-    let front : stage_at after (length after - 2) ≡ stage_at stages (length stages - 1) =
-    ap (stage_at after) a ∙ ap (λ (l : List (ℕ × List (List ℤ))). stage_at l (length stages - 1)) e ∙ get_or_append_left stages (stage ∷ []) (0, []) (length stages - 1) (omega (arith, some)) in
-    let one : IsNextOf p (length stages - 1) (stage_at stages (length stages - 1)).1 stage.1 = subst (λ (ws : List (List ℤ)). IsNextOf p (length stages - 1) (stage_at stages (length stages - 1)).1 ws) (sym (kept whole)) is in
-    let two : IsNextOf p (length stages - 1) (stage_at stages (length stages - 1)).1 (stage_at after (length after - 1)).1 =
-    subst (λ (x : ℕ × List (List ℤ)). IsNextOf p (length stages - 1) (stage_at stages (length stages - 1)).1 x.1) (sym last) one in
-    let three : IsNextOf p (length stages - 1) (stage_at after (length after - 2)).1 (stage_at after (length after - 1)).1 =
-    subst (λ (x : ℕ × List (List ℤ)). IsNextOf p (length stages - 1) x.1 (stage_at after (length after - 1)).1) (sym front) two in
-    subst (λ (q : ℕ). IsNextOf p q (stage_at after (length after - 2)).1 (stage_at after (length after - 1)).1) (sym a) three
+    let end : stage_at after (length after - 1) ≡ stage = ap (λ (l : List (ℕ × List (List ℤ))). stage_at l (length after - 1)) e ∙ get_or_push stages stage (0, []) (length after - 1) (sym b) in
+    let front : stage_at after (length after - 2) ≡ before =
+    ap (stage_at after) a ∙ ap (λ (l : List (ℕ × List (List ℤ))). stage_at l last) e ∙ get_or_append_left stages (stage ∷ []) (0, []) last lt ∙ sym at in
+    let number : before.0 ≡ length after - 2 = ap (λ (s : ℕ × List (List ℤ)). s.0) at ∙ numbers last lt ∙ sym a in
+    let one : IsNextOf p (length after - 2) before.1 stage.1 =
+    subst (λ (q : ℕ). IsNextOf p q before.1 stage.1) number (subst (λ (ws : List (List ℤ)). IsNextOf p before.0 before.1 ws) (sym (kept whole)) is) in
+    subst (λ (x : ℕ × List (List ℤ)). IsNextOf p (length after - 2) (stage_at after (length after - 2)).1 x.1) (sym end)
+    (subst (λ (x : ℕ × List (List ℤ)). IsNextOf p (length after - 2) x.1 stage.1) (sym front) one)

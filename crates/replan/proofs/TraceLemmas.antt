@@ -1,71 +1,71 @@
--- Going back from a label, source by source, makes a legal order that lands with that label last.
-use Rattle.std.proofs.Common.{◌≡◌, ℕ, zero, suc, ◌+◌, ◌-◌, ◌*◌, ◌≤◌, ◌<◌, List, [], ◌∷◌, ◌++◌, length, reverse, drop, set, append_assoc, refl, sym, ap, subst, ◌∙◌, arith}
-use Rattle.std.specs.Prelude.{ℤ, pos, ◌+ℤ◌, slice_index, Contains}
+-- Going back from a pair, source by source, makes a legal order that lands with that pair.
+use Rattle.std.proofs.Common.{◌≡◌, ℕ, zero, suc, ◌+◌, ◌-◌, ◌*◌, ◌≤◌, ◌<◌, Some, List, [], ◌∷◌, ◌++◌, length, get_or, reverse, drop, set, append_assoc, refl, sym, ap, subst, ◌∙◌, arith}
+use Rattle.std.specs.Prelude.{ℤ, pos, ◌+ℤ◌, true}
 use Rattle.std.proofs.lemmas.List.Elements.{Contains-get_or}
-use Rattle.std.proofs.lemmas.List.{append-nil, reverse-append}
+use Rattle.std.proofs.lemmas.List.{append-nil, reverse-append, drop_all}
 use Rattle.cps_theory.specs.Separation.{Landing}
-use Rattle.cps_theory.specs.LandingTrail.{latest_landing, ranks}
+use Rattle.cps_theory.specs.LandingTrail.{last_rank, pair_of, ranks}
+use Rattle.cps_theory.specs.Labels.{InPairs, Pair, next_pair}
 use Rattle.cps_theory.specs.LegalPrefix.{Legal}
 use Rattle.cps_theory.specs.ProblemNetwork.{LandedIn}
 use Rattle.cps_theory.specs.Feasible.{next_from}
-use Rattle.cps_theory.specs.laws.LabelDominance.{last_ranks}
-use Rattle.landing_joint.specs.RankedProblem.{ranked}
+use Rattle.cps_theory.specs.Network.{Undominated}
+use Rattle.cps_theory.specs.laws.LabelDominance.{next_lands}
+use Rattle.cps_theory.specs.laws.LeastObjective.{next_later}
+use Rattle.landing_joint.specs.RankedProblem.{ranked, first_at, cost_at}
 use Rattle.landing_joint.specs.shared.FirstOpen.{is_first_open}
 use Rattle.landing_rules.specs.Problem.{Problem}
+use Rattle.cps_network.specs.Landable.{Attains, IsLandable}
 use Rattle.cps_network.specs.Lists.{node_at}
 use Rattle.cps_network.specs.Nodes.{Node, node_of, permits, land, latest, IsWindowNetwork}
-use Rattle.cps_network.specs.Landable.{IsLandable}
-use Rattle.cps_network.specs.Permits.{IsSuccessor}
 use Rattle.cps_network.specs.WindowLaws.{WindowLaws}
-use Rattle.cps_network.specs.shared.LandableSteps.{landable_source}
 use Rattle.cps_network.specs.shared.LegalWindows.{next_last}
 use Rattle.cps_nodes.specs.Windows.{offset_at}
-use Rattle.makespan_labels.specs.Labels.{no_label, GivesLabel, IsLabel, HoldsLabels}
-use Rattle.makespan_labels.specs.shared.NetworkSteps.{can_land}
-use Rattle.replan.specs.Stages.{stage_at, labels_at, HoldsStages, LandsLastAt}
-use Rattle.replan.proofs.StageLemmas.{start_only}
+use Rattle.cps_network.specs.Pairs.{HoldsCosts, GivesPair, list_at, pair_at, successor}
+use Rattle.cps_network.specs.shared.PairSteps.{dearer, at_in}
+use Rattle.replan.specs.Stages.{stage_at, lists_at, HoldsStages, LandsWithPair}
+use Rattle.replan.specs.Labels.{StagePairs, HoldsPairs, last_pair}
+use Rattle.replan.proofs.StageLemmas.{start_only, start_pair, read_stage, read_labels, held_at}
 
--- landings of a legal prefix that ends in this window at this second
-pub record EndsAt (p : Problem) (stage : ℕ) (window : List ℤ) (t : ℕ) (xs : List Landing) : Type 0 where
+-- landings of a legal prefix that ends in this window with this pair
+pub record EndsWith (p : Problem) (stage : ℕ) (window : List ℤ) (q : Pair) (xs : List Landing) : Type 0 where
   pub legal : Legal (ranked p).rules (ranks xs)
   pub landed : LandedIn (ranked p) xs
   pub at : node_of p.k (ranks xs) ≡ (stage, window)
-  pub second : (latest_landing xs).1 ≡ t
+  pub pair : pair_of (cost_at p) xs ≡ q
 
--- behind any landings that end in this window at this second, these ranks, the latest first, complete an order that lands
--- last at `end`
-abbrev pub Completes : Problem → ℕ → List ℤ → ℕ → List ℕ → ℕ → Type 0
-Completes p stage window t order end = (xs : List Landing) → EndsAt p stage window t xs
-    → (ys : List Landing) × (ranks ys ≡ order ++ ranks xs) × Legal (ranked p).rules (ranks ys) × LandedIn (ranked p) ys × ((latest_landing ys).1 ≡ end)
+-- behind any landings that end in this window with this pair, these ranks, the latest first, complete an order that lands
+-- with the pair `end`
+abbrev pub CompletesWith : Problem → ℕ → List ℤ → Pair → List ℕ → Pair → Type 0
+CompletesWith p stage window q order end = (xs : List Landing) → EndsWith p stage window q xs
+    → (ys : List Landing) × (ranks ys ≡ order ++ ranks xs) × Legal (ranked p).rules (ranks ys) × LandedIn (ranked p) ys × (pair_of (cost_at p) ys ≡ end)
 
-pub completes_start : (p : Problem) (stage : ℕ) (window : List ℤ) (t : ℕ) → Completes p stage window t [] t
-completes_start p stage window t xs is = (xs, refl, is.legal, is.landed, is.second)
+completes_pair_start : (p : Problem) (stage : ℕ) (window : List ℤ) (q : Pair) → CompletesWith p stage window q [] q
+completes_pair_start p stage window q xs is = (xs, refl, is.legal, is.landed, is.pair)
 
 -- one source back
-pub completes_more : (p : Problem) → IsWindowNetwork p → (before : ℕ × List (List ℤ)) (labels : List ℕ) (v : List ℤ) (label j end : ℕ) (order : List ℕ)
-    → (source : GivesLabel p before labels v label j) → Completes p (suc before.0) v label order end
-    → Completes p before.0 (node_at before.1 j) (slice_index labels j) (order ++ source.rank ∷ []) end
-completes_more p net before labels v label j end order source rest xs is =
-    let r : ℕ = source.rank in
+completes_pair_more : (p : Problem) → IsWindowNetwork p → (before : ℕ × List (List ℤ)) (lists : List (List Pair)) (v : List ℤ) (q : Pair) (j index : ℕ) (end : Pair) (order : List ℕ)
+    → (source : GivesPair p before lists v q j index) → CompletesWith p (suc before.0) v q order end
+    → CompletesWith p before.0 (node_at before.1 j) (pair_at (list_at lists j) index) (order ++ source.rank ∷ []) end
+completes_pair_more p net before lists v q j index end order source rest xs is =
     let may : permits p (node_of p.k (ranks xs)) source.rank = subst (λ (n : Node). permits p n source.rank) (sym is.at) source.permitted in
-    let leader : latest (before.0, node_at before.1 j) ≡ (latest_landing xs).0 = ap latest (sym is.at) ∙ net.newest_is (ranks xs) is.legal ∙ last_ranks xs in
-    let found = (is_first_open p).found source.rank (next_from (ranked p) (latest (before.0, node_at before.1 j)) (slice_index labels j) source.rank) label source.lands in
-    let allowed : next_from (ranked p) (latest_landing xs).0 (latest_landing xs).1 source.rank ≤ label =
-    subst (λ (l : ℕ). next_from (ranked p) l (latest_landing xs).1 source.rank ≤ label) leader
-    (subst (λ (s : ℕ). next_from (ranked p) (latest (before.0, node_at before.1 j)) s source.rank ≤ label) (sym is.second) found.1) in
-    let more : EndsAt p (suc before.0) v label ((source.rank, label) ∷ xs) = record {
+    let leader : latest (before.0, node_at before.1 j) ≡ last_rank (ranks xs) = ap latest (sym is.at) ∙ net.newest_is (ranks xs) is.legal in
+    let e : next_pair (first_at p) (next_from (ranked p)) (cost_at p) (last_rank (ranks xs)) (pair_of (cost_at p) xs) source.rank ≡ Some q =
+    ap (λ (l : ℕ). successor p l (pair_of (cost_at p) xs) source.rank) (sym leader) ∙ ap (λ (o : Pair). successor p (latest (before.0, node_at before.1 j)) o source.rank) is.pair ∙ source.lands in
+    let lands = next_lands (λ s t. (ranked p).is_open s t ≡ true) (first_at p) (next_from (ranked p)) (cost_at p) (is_first_open p) (next_later (ranked p)) (dearer p) xs source.rank q is.landed e in
+    let more : EndsWith p (suc before.0) v q ((source.rank, q.0) ∷ xs) = record {
       legal = net.grows source.rank (ranks xs) is.legal may;
-      landed = (found.0, allowed, is.landed);
+      landed = lands.0;
       at = net.pushes source.rank (ranks xs) is.legal ∙ ap (λ (n : Node). land n source.rank) is.at ∙ ap (λ (z : List ℤ). (suc before.0, z)) (sym source.next);
-      second = refl;
+      pair = lands.1;
     } in
-    let whole = rest ((source.rank, label) ∷ xs) more in
+    let whole = rest ((source.rank, q.0) ∷ xs) more in
     (whole.0, whole.1 ∙ sym (append_assoc order (source.rank ∷ []) (ranks xs)), whole.2, whole.3, whole.4)
 
 -- at the start the order itself lands
-pub completes_all : (p : Problem) (window : List ℤ) (order : List ℕ) (label end : ℕ) → node_of p.k [] ≡ (0, window) → label ≡ 0 → Completes p 0 window label (reverse order) end → LandsLastAt p order end
-completes_all p window order label end at none is =
-    let whole = is [] (record { legal = tt; landed = tt; at = at; second = sym none }) in
+completes_pair_all : (p : Problem) (window : List ℤ) (order : List ℕ) (q end : Pair) → node_of p.k [] ≡ (0, window) → (0, 0) ≡ q → CompletesWith p 0 window q (reverse order) end → LandsWithPair p order end
+completes_pair_all p window order q end at none is =
+    let whole = is [] (record { legal = tt; landed = tt; at = at; pair = none }) in
     (whole.0, whole.1 ∙ append-nil (reverse order), whole.2, whole.3, whole.4)
 
 -- ---- the order as it is written from its end
@@ -75,74 +75,136 @@ drop_set [] i y lt = absurd (omega arith)
 drop_set (x ∷ xs) zero y lt = refl
 drop_set (x ∷ xs) (suc i) y lt = drop_set xs i y (omega arith)
 
-pub written : (xs : List ℕ) (i y : ℕ) → i < length xs → reverse (drop (suc i) xs) ++ y ∷ [] ≡ reverse (drop i (set xs i y))
+written : (xs : List ℕ) (i y : ℕ) → i < length xs → reverse (drop (suc i) xs) ++ y ∷ [] ≡ reverse (drop i (set xs i y))
 written xs i y lt = sym (ap reverse (drop_set xs i y lt) ∙ reverse-append (y ∷ []) (drop (suc i) xs))
+
+-- ---- what is read of a stage
+
+abbrev pub pair_in : List StagePairs → ℕ → ℕ → ℕ → Pair
+pair_in labels stage place index = pair_at (list_at (lists_at labels stage) place) index
+
+abbrev pub Traced : Problem → List (ℕ × List (List ℤ)) → List StagePairs → ℕ → ℕ → ℕ → List ℕ → Pair → Type 0
+Traced p stages labels stage place index order end =
+    CompletesWith p stage (node_at (stage_at stages stage).1 place) (pair_in labels stage place index) (reverse (drop stage order)) end
 
 -- ---- one step of the way back
 
-pub back_step : (p : Problem) → IsWindowNetwork p → (stages : List (ℕ × List (List ℤ))) (columns : List (List ℕ)) (stage s place j label r end : ℕ) (order : List ℕ)
-    (before : ℕ × List (List ℤ)) (labels : List ℕ) (v : List ℤ) → before ≡ stage_at stages s → labels ≡ labels_at columns s → before.0 ≡ s → stage ≡ suc s
-    → v ≡ node_at (stage_at stages stage).1 place → label ≡ slice_index (labels_at columns stage) place
-    → (source : GivesLabel p before labels v label j) → source.rank ≡ r → s < length order
-    → Completes p stage (node_at (stage_at stages stage).1 place) (slice_index (labels_at columns stage) place) (reverse (drop stage order)) end
-    → Completes p s (node_at (stage_at stages s).1 j) (slice_index (labels_at columns s) j) (reverse (drop s (set order s r))) end
-back_step p net stages columns stage s place j label r end order before labels v eb el number next ev ek source rank_is lt rest =
+pub back_pair : (p : Problem) → IsWindowNetwork p → (stages : List (ℕ × List (List ℤ))) (labels : List StagePairs) (stage s place index j k r : ℕ) (end : Pair) (order : List ℕ)
+    (before : ℕ × List (List ℤ)) (lists : List (List Pair)) (v : List ℤ) (q : Pair) → before ≡ stage_at stages s → lists ≡ lists_at labels s → before.0 ≡ s → stage ≡ suc s
+    → v ≡ node_at (stage_at stages stage).1 place → q ≡ pair_in labels stage place index
+    → (source : GivesPair p before lists v q j k) → source.rank ≡ r → s < length order
+    → Traced p stages labels stage place index order end → Traced p stages labels s j k (set order s r) end
+back_pair p net stages labels stage s place index j k r end order before lists v q eb el number next ev eq source rank_is lt rest =
     let es : stage ≡ suc before.0 = next ∙ ap suc (sym number) in
-    let a : Completes p (suc before.0) v label (reverse (drop (suc s) order)) end =
-    subst (λ (q : ℕ). Completes p q v label (reverse (drop (suc s) order)) end) es
-    (subst (λ (z : List ℤ). Completes p stage z label (reverse (drop (suc s) order)) end) (sym ev)
-    (subst (λ (k : ℕ). Completes p stage (node_at (stage_at stages stage).1 place) k (reverse (drop (suc s) order)) end) (sym ek)
-    (subst (λ (q : ℕ). Completes p stage (node_at (stage_at stages stage).1 place) (slice_index (labels_at columns stage) place) (reverse (drop q order)) end) next rest))) in
-    let b : Completes p before.0 (node_at before.1 j) (slice_index labels j) (reverse (drop (suc s) order) ++ source.rank ∷ []) end =
-    completes_more p net before labels v label j end (reverse (drop (suc s) order)) source a in
-    let c : Completes p before.0 (node_at before.1 j) (slice_index labels j) (reverse (drop s (set order s r))) end =
-    subst (λ (l : List ℕ). Completes p before.0 (node_at before.1 j) (slice_index labels j) l end)
+    let a : CompletesWith p (suc before.0) v q (reverse (drop (suc s) order)) end =
+    subst (λ (n : ℕ). CompletesWith p n v q (reverse (drop (suc s) order)) end) es
+    (subst (λ (z : List ℤ). CompletesWith p stage z q (reverse (drop (suc s) order)) end) (sym ev)
+    (subst (λ (o : Pair). CompletesWith p stage (node_at (stage_at stages stage).1 place) o (reverse (drop (suc s) order)) end) (sym eq)
+    (subst (λ (n : ℕ). CompletesWith p stage (node_at (stage_at stages stage).1 place) (pair_in labels stage place index) (reverse (drop n order)) end) next rest))) in
+    let b : CompletesWith p before.0 (node_at before.1 j) (pair_at (list_at lists j) k) (reverse (drop (suc s) order) ++ source.rank ∷ []) end =
+    completes_pair_more p net before lists v q j k end (reverse (drop (suc s) order)) source a in
+    let c : CompletesWith p before.0 (node_at before.1 j) (pair_at (list_at lists j) k) (reverse (drop s (set order s r))) end =
+    subst (λ (l : List ℕ). CompletesWith p before.0 (node_at before.1 j) (pair_at (list_at lists j) k) l end)
     (ap (λ (x : ℕ). reverse (drop (suc s) order) ++ x ∷ []) rank_is ∙ written order s r lt) b in
-    let d : Completes p s (node_at before.1 j) (slice_index labels j) (reverse (drop s (set order s r))) end =
-    subst (λ (q : ℕ). Completes p q (node_at before.1 j) (slice_index labels j) (reverse (drop s (set order s r))) end) number c in
-    subst (λ (ls : List ℕ). Completes p s (node_at (stage_at stages s).1 j) (slice_index ls j) (reverse (drop s (set order s r))) end) el
-    (subst (λ (z : ℕ × List (List ℤ)). Completes p s (node_at z.1 j) (slice_index labels j) (reverse (drop s (set order s r))) end) eb d)
+    let d : CompletesWith p s (node_at before.1 j) (pair_at (list_at lists j) k) (reverse (drop s (set order s r))) end =
+    subst (λ (n : ℕ). CompletesWith p n (node_at before.1 j) (pair_at (list_at lists j) k) (reverse (drop s (set order s r))) end) number c in
+    subst (λ (ls : List (List Pair)). CompletesWith p s (node_at (stage_at stages s).1 j) (pair_at (list_at ls j) k) (reverse (drop s (set order s r))) end) el
+    (subst (λ (z : ℕ × List (List ℤ)). CompletesWith p s (node_at z.1 j) (pair_at (list_at lists j) k) (reverse (drop s (set order s r))) end) eb d)
 
--- the windows of the stage before that lead to a landable one
-pub node_source : (p : Problem) → IsWindowNetwork p → (before after : ℕ × List (List ℤ)) (labels more : List ℕ) (v : List ℤ) (place : ℕ) → HoldsLabels p before labels → HoldsLabels p after more
-    → after.0 ≡ suc before.0 → place < length after.1 → v ≡ node_at after.1 place → (x : List ℤ) × Contains before.1 x × IsSuccessor p before.0 x v
-node_source p net before after labels more v place held above number lt at =
-    let l : IsLandable p after.0 v = (above.landable v).0 (subst (Contains after.1) (sym at) (Contains-get_or after.1 place [] lt)) in
-    let m : IsLandable p (suc before.0) v = subst (λ (q : ℕ). IsLandable p q v) number l in
-    let s = landable_source p net before.0 v m in
-    (s.0, (held.landable s.0).1 s.1, s.2)
+-- ---- what one step back reads
 
-pub last_given : (p : Problem) (w : ℕ) → w ≡ 2 * p.k + 1 → WindowLaws p w → (before : ℕ × List (List ℤ)) (labels : List ℕ) (v : List ℤ) (label j : ℕ) → HoldsLabels p before labels
-    → (source : GivesLabel p before labels v label j) → (pos (suc before.0) +ℤ offset_at v (w - 1) ≡ pos source.rank) × (source.rank ≤ length p.flights)
-last_given p w odd laws before labels v label j held source =
+-- the stage before with its labels, and the window and the pair of this stage
+pub record StepReads (p : Problem) (stages : List (ℕ × List (List ℤ))) (labels : List StagePairs) (stage place index : ℕ) (before : ℕ × List (List ℤ)) (from : StagePairs) (after : ℕ × List (List ℤ)) (more : StagePairs) : Type 0 where
+  pub before_is : before ≡ stage_at stages (stage - 1)
+  pub from_is : from.lists ≡ lists_at labels (stage - 1)
+  pub after_is : after ≡ stage_at stages stage
+  pub more_is : more.lists ≡ lists_at labels stage
+  pub held : HoldsPairs p before from
+  pub above : HoldsPairs p after more
+  pub number : before.0 ≡ stage - 1
+  pub next : after.0 ≡ suc before.0
+  pub one_back : stage ≡ suc (stage - 1)
+  pub within : place < length after.1
+  pub place_listed : place < length more.lists
+  pub listed : index < length (list_at more.lists place)
+
+pub step_reads : (p : Problem) (stages : List (ℕ × List (List ℤ))) (labels : List StagePairs) → HoldsStages p stages labels → length stages ≡ length p.flights + 1
+    → (stage place index : ℕ) (before : ℕ × List (List ℤ)) (from : StagePairs) (after : ℕ × List (List ℤ)) (more : StagePairs) → 0 < stage → stage ≤ length p.flights
+    → before ≡ get_or stages (stage - 1) before → from ≡ get_or labels (stage - 1) from → after ≡ get_or stages stage after → more ≡ get_or labels stage more
+    → place < length (stage_at stages stage).1 → index < length (list_at (lists_at labels stage) place) → StepReads p stages labels stage place index before from after more
+step_reads p stages labels holds whole stage place index before from after more some low eb ef ea em lt listed =
+    let here : stage < length stages = omega (arith, low, whole) in
+    let back : stage - 1 < length stages = omega (arith, here) in
+    let before_is = read_stage stages (stage - 1) before eb back in
+    let after_is = read_stage stages stage after ea here in
+    let from_is = read_labels labels (stage - 1) from ef (omega (arith, back, holds.one_each)) in
+    let more_is = read_labels labels stage more em (omega (arith, here, holds.one_each)) in
+    let held = held_at p stages labels holds (stage - 1) before from before_is from_is back in
+    let above = held_at p stages labels holds stage after more after_is more_is here in
+    let number = held.1 in
+    let number' = above.1 in
+    let one_back : stage ≡ suc (stage - 1) = omega (arith, some) in
+    let within : place < length after.1 = subst (λ (s : ℕ × List (List ℤ)). place < length s.1) (sym after_is) lt in
+    record {
+      before_is = before_is;
+      from_is = ap (λ (x : StagePairs). x.lists) from_is;
+      after_is = after_is;
+      more_is = ap (λ (x : StagePairs). x.lists) more_is;
+      held = held.0;
+      above = above.0;
+      number = number;
+      next = omega (arith, number, number', one_back);
+      one_back = one_back;
+      within = within;
+      place_listed = omega (arith, within, above.0.held.costs.one_each);
+      listed = subst (λ (x : StagePairs). index < length (list_at x.lists place)) (sym more_is) listed;
+    }
+
+-- a listed pair is undominated
+pub listed_undominated : (p : Problem) (before after : ℕ × List (List ℤ)) (more : List (List Pair)) (v : List ℤ) (q : Pair) (place index : ℕ) → HoldsCosts p after more
+    → after.0 ≡ suc before.0 → place < length after.1 → v ≡ node_at after.1 place → index < length (list_at more place) → q ≡ pair_at (list_at more place) index
+    → Undominated (Attains p (before.0 + 1) v) q
+listed_undominated p before after more v q place index above number lt at listed is =
+    let has : InPairs q (list_at more place) = at_in (list_at more place) index q listed (sym is) in
+    let u : Undominated (Attains p after.0 (node_at after.1 place)) q = ((above.costs.pairs place lt).undominated q).0 has in
+    let n : after.0 ≡ before.0 + 1 = omega (arith, number) in
+    subst (λ (m : ℕ). Undominated (Attains p m v) q) n (subst (λ (z : List ℤ). Undominated (Attains p after.0 z) q) (sym at) u)
+
+pub last_given : (p : Problem) (w : ℕ) → w ≡ 2 * p.k + 1 → WindowLaws p w → (before : ℕ × List (List ℤ)) (lists : List (List Pair)) (v : List ℤ) (q : Pair) (j k : ℕ) → HoldsCosts p before lists
+    → (source : GivesPair p before lists v q j k) → (pos (suc before.0) +ℤ offset_at v (w - 1) ≡ pos source.rank) × (source.rank ≤ length p.flights)
+last_given p w odd laws before lists v q j k held source =
     let l : IsLandable p before.0 (node_at before.1 j) = (held.landable (node_at before.1 j)).0 (Contains-get_or before.1 j [] source.within) in (
       ap (λ (z : List ℤ). pos (suc before.0) +ℤ offset_at z (w - 1)) source.next ∙ next_last p w odd laws before.0 (node_at before.1 j) source.rank l source.permitted,
       source.permitted.to_count,
     )
 
--- the label of a window of a stage, as the window and the label are read
-pub label_held : (p : Problem) (before after : ℕ × List (List ℤ)) (more : List ℕ) (v : List ℤ) (place label : ℕ) → HoldsLabels p after more
-    → after.0 ≡ suc before.0 → place < length after.1 → v ≡ node_at after.1 place → label ≡ slice_index more place → IsLabel p (before.0 + 1) v label × (label < no_label)
-label_held p before after more v place label above number lt at is =
-    let e : after.0 ≡ before.0 + 1 = omega arith in
-    let one : IsLabel p after.0 v label =
-    subst (λ (z : List ℤ). IsLabel p after.0 z label) (sym at) (subst (λ (k : ℕ). IsLabel p after.0 (node_at after.1 place) k) (sym is) (above.labelled.label place lt)) in
-    let l : IsLandable p after.0 v = (above.landable v).0 (subst (Contains after.1) (sym at) (Contains-get_or after.1 place [] lt)) in
-    (subst (λ (q : ℕ). IsLabel p q v label) e one, (one.least _ (can_land p after.0 v l)).0)
-
-pub trace_end : (p : Problem) (stages : List (ℕ × List (List ℤ))) (columns : List (List ℕ)) → HoldsStages p stages columns → (stage place end : ℕ) (order : List ℕ) → stage ≡ 0 → 0 < length stages
-    → place < length (stage_at stages stage).1
-    → Completes p stage (node_at (stage_at stages stage).1 place) (slice_index (labels_at columns stage) place) (reverse (drop stage order)) end → LandsLastAt p order end
-trace_end p stages columns held stage place end order none some lt rest =
-    let lt' : place < length (stage_at stages 0).1 = subst (λ (q : ℕ). place < length (stage_at stages q).1) none lt in
-    let rest' : Completes p 0 (node_at (stage_at stages 0).1 place) (slice_index (labels_at columns 0) place) (reverse order) end =
-    subst (λ (q : ℕ). Completes p q (node_at (stage_at stages q).1 place) (slice_index (labels_at columns q) place) (reverse (drop q order)) end) none rest in
-    let h = held.held 0 some in
+pub trace_end : (p : Problem) (stages : List (ℕ × List (List ℤ))) (labels : List StagePairs) → HoldsStages p stages labels → (stage place index : ℕ) (end : Pair) (order : List ℕ) → stage ≡ 0 → 0 < length stages
+    → place < length (stage_at stages stage).1 → index < length (list_at (lists_at labels stage) place)
+    → Traced p stages labels stage place index order end → LandsWithPair p order end
+trace_end p stages labels held stage place index end order none some lt listed rest =
+    let lt' : place < length (stage_at stages 0).1 = subst (λ (n : ℕ). place < length (stage_at stages n).1) none lt in
+    let listed' : index < length (list_at (lists_at labels 0) place) = subst (λ (n : ℕ). index < length (list_at (lists_at labels n) place)) none listed in
+    let rest' : CompletesWith p 0 (node_at (stage_at stages 0).1 place) (pair_in labels 0 place index) (reverse order) end = subst (λ (n : ℕ). Traced p stages labels n place index order end) none rest in
+    let h = (held.held 0 some).held in
     let number : (stage_at stages 0).0 ≡ 0 = held.number 0 some in
     let l : IsLandable p 0 (node_at (stage_at stages 0).1 place) =
-    subst (λ (q : ℕ). IsLandable p q (node_at (stage_at stages 0).1 place)) number ((h.landable (node_at (stage_at stages 0).1 place)).0 (Contains-get_or (stage_at stages 0).1 place [] lt')) in
+    subst (λ (n : ℕ). IsLandable p n (node_at (stage_at stages 0).1 place)) number ((h.landable (node_at (stage_at stages 0).1 place)).0 (Contains-get_or (stage_at stages 0).1 place [] lt')) in
     let at = start_only p (node_at (stage_at stages 0).1 place) l in
-    let label : IsLabel p 0 (node_at (stage_at stages 0).1 place) (slice_index (labels_at columns 0) place) =
-    subst (λ (q : ℕ). IsLabel p q (node_at (stage_at stages 0).1 place) (slice_index (labels_at columns 0) place)) number (h.labelled.label place lt') in
-    let low = (label.least 0 ([], tt, tt, at, refl)).1 in
-    completes_all p (node_at (stage_at stages 0).1 place) order (slice_index (labels_at columns 0) place) end at (omega (arith, low)) rest'
+    let u = ((h.costs.pairs place lt').undominated (pair_in labels 0 place index)).0 (at_in (list_at (lists_at labels 0) place) index (pair_in labels 0 place index) listed' refl) in
+    let a : Attains p 0 (node_at (stage_at stages 0).1 place) (pair_in labels 0 place index) = subst (λ (n : ℕ). Attains p n (node_at (stage_at stages 0).1 place) (pair_in labels 0 place index)) number u.attained in
+    completes_pair_all p (node_at (stage_at stages 0).1 place) order (pair_in labels 0 place index) end at (start_pair p (node_at (stage_at stages 0).1 place) (pair_in labels 0 place index) a) rest'
+
+-- before the first step back
+pub trace_begins : (p : Problem) (stages : List (ℕ × List (List ℤ))) (labels : List StagePairs) (n stage place index : ℕ) (order : List ℕ) → stage ≡ n → n ≤ length p.flights → length order ≡ n
+    → place < length (stage_at stages n).1 → index < length (list_at (lists_at labels n) place) → index ≡ length (list_at (lists_at labels n) place) - 1
+    → (stage ≤ length p.flights) × (length order ≡ n) × (place < length (stage_at stages stage).1) × (index < length (list_at (lists_at labels stage) place))
+    × Traced p stages labels stage place index order (last_pair (list_at (lists_at labels n) place))
+trace_begins p stages labels n stage place index order same few room within listed last =
+    let none : drop n order ≡ [] = drop_all n order (omega (arith, room)) in
+    let start : CompletesWith p n (node_at (stage_at stages n).1 place) (pair_in labels n place index) (reverse (drop n order)) (pair_in labels n place index) =
+    subst (λ (l : List ℕ). CompletesWith p n (node_at (stage_at stages n).1 place) (pair_in labels n place index) (reverse l) (pair_in labels n place index)) (sym none)
+    (completes_pair_start p n (node_at (stage_at stages n).1 place) (pair_in labels n place index)) in
+    let end : Traced p stages labels n place index order (last_pair (list_at (lists_at labels n) place)) =
+    subst (λ (i : ℕ). CompletesWith p n (node_at (stage_at stages n).1 place) (pair_in labels n place index) (reverse (drop n order)) (pair_in labels n place i)) last start in
+    subst (λ (s : ℕ). (s ≤ length p.flights) × (length order ≡ n) × (place < length (stage_at stages s).1) × (index < length (list_at (lists_at labels s) place)) × Traced p stages labels s place index order (last_pair (list_at (lists_at labels n) place)))
+    (sym same) (few, room, within, listed, end)

@@ -1,28 +1,22 @@
 -- What is held of a problem.
-use Rattle.std.specs.Prelude.{◌≡◌, ℕ, ℤ, ◌+◌, List, length}
+use Rattle.std.specs.Prelude.{◌≡◌, ℕ, ℤ, ◌+◌, ◌*◌, List, length, Option, option_map}
 use Rattle.landing_rules.specs.Problem.{Problem}
-use Rattle.cps_theory.specs.Labels.{Pair}
+use Rattle.replan.specs.Labels.{StagePairs}
 use Rattle.replan.specs.Stages.{HoldsStages}
-use Rattle.replan.specs.DelayStages.{HoldsDelayStages}
-
--- a problem with stages of it: windows, and the label of each
-pub record LabelledProblem : Type 0 where
-  pub problem : Problem
-  pub stages : List (ℕ × List (List ℤ))
-  pub columns : List (List ℕ)
-
--- these are all of its stages, from 0 to the number of its flights, with the landable windows and their labels
-pub record IsLabelled (h : LabelledProblem) : Type 0 where
-  pub held : HoldsStages h.problem h.stages h.columns
-  pub whole : length h.stages ≡ length h.problem.flights + 1
 
 -- a problem with stages of it: windows, and the pairs of each
-pub record PairedProblem : Type 0 where
+pub record HeldProblem : Type 0 where
   pub problem : Problem
   pub stages : List (ℕ × List (List ℤ))
-  pub costs : List (List (List Pair))
+  pub labels : List StagePairs
 
--- these are all of its stages, with the landable windows and their pairs
-pub record IsPaired (h : PairedProblem) : Type 0 where
-  pub held : HoldsDelayStages h.problem h.stages h.costs
+-- these are all of its stages, from 0 to the number of its flights: exactly the landable windows of each, of the width that its
+-- k asks, with exactly their undominated pairs for its objective
+pub record IsHeld (width : ℕ) (h : HeldProblem) : Type 0 where
+  pub width_is : width ≡ 2 * h.problem.k + 1
+  pub held : HoldsStages h.problem h.stages h.labels
   pub whole : length h.stages ≡ length h.problem.flights + 1
+
+-- the problem that is held, where there is one
+abbrev pub problem_of : Option HeldProblem → Option Problem
+problem_of held = option_map (λ (h : HeldProblem). h.problem) held

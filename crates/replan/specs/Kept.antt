@@ -1,6 +1,7 @@
 -- What a planner for any k holds.
 use Rattle.std.specs.Prelude.{ℕ, Option}
 use Rattle.landing_rules.specs.Problem.{Problem}
+use Rattle.replan.specs.Held.{HeldProblem, problem_of}
 use Rattle.replan.specs.declared.any_kept.AnyKept.{AnyKept}
 use Rattle.replan.specs.declared.any_kept.AnyKept.TheVariants.{One, Three, Five, Seven}
 
@@ -10,9 +11,13 @@ k_of (Three kept) = 1
 k_of (Five kept) = 2
 k_of (Seven kept) = 3
 
+-- the problem that was planned last, with its stages
+abbrev pub held_of : AnyKept → Option HeldProblem
+held_of (One kept) = kept
+held_of (Three kept) = kept
+held_of (Five kept) = kept
+held_of (Seven kept) = kept
+
 -- the problem that was planned last
 abbrev pub problem_held : AnyKept → Option Problem
-problem_held (One kept) = kept
-problem_held (Three kept) = kept
-problem_held (Five kept) = kept
-problem_held (Seven kept) = kept
+problem_held planner = problem_of (held_of planner)

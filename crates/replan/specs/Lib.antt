@@ -1,7 +1,7 @@
 -- The definitions of this crate.
+pub mod Labels
+pub mod LabelsOf
 pub mod Stages
-pub mod DelayStages
 pub mod Held
-pub mod HeldProblem
 pub mod Kept
 pub mod shared

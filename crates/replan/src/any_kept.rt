@@ -1,7 +1,9 @@
 //! The planner that is kept from event to event.
 
-ghost use Rattle.std.specs.Prelude.{◌≡◌, ◌≤◌, length, None, Some};
-ghost use Rattle.replan.specs.Kept.{k_of, problem_held};
+ghost use Rattle.std.specs.Prelude.{◌≡◌, ℕ, ◌≤◌, length, IfOk, OnOk, OnErr, None, Some};
+ghost use Rattle.cps_base.specs.Tally.{raised_by};
+ghost use Rattle.cps_problem.specs.Plans.{IsPlannable, IsAnswerOf};
+ghost use Rattle.replan.specs.Kept.{k_of, held_of, problem_held};
 ghost use Rattle.replan.specs.Stages.{HasCandidatesUpto};
 ghost use Rattle.replan.specs.shared.OneDue.{one_due};
 
@@ -58,7 +60,17 @@ impl Planner for AnyKept {
         problem: &Problem,
         gate: &G,
         steps: &mut Steps<L>,
-    ) -> Result<Option<Schedule>, AllocError> {
+    ) -> Result<Option<Schedule>, AllocError>
+        requires same_k { problem.now.k ≡ k_of self.old }
+        requires plannable { IsPlannable problem.now }
+        ensures k { k_of self.new ≡ k_of self.old }
+        ensures answer { IfOk result (λ answer. IsAnswerOf problem.now answer) }
+        ensures holds { OnOk result (problem_held self.new ≡ Some problem.now) }
+
+        // After want of memory it holds no problem.
+        ensures lost { OnErr result (held_of self.new ≡ None) }
+        ensures steps { OnOk result ((n : ℕ) × HasCandidatesUpto problem.now (length problem.now.flights) n × (L.count steps.new ≡ raised_by n (L.count steps.old))) }
+    {
         match self {
             AnyKept::One(kept) => kept.replan(rt, alloc, problem, gate, steps),
             AnyKept::Three(kept) => kept.replan(rt, alloc, problem, gate, steps),

@@ -1,53 +1,23 @@
 //! A problem that is held with all of its stages.
 
-use crate::delay_stages::CostStages;
-use crate::stages::LabelledStages;
+use crate::stages::Stages;
 use cps_problem::Problem;
 use std::marker::Model;
 
-/// A problem for the makespan with all of its stages.
+/// A problem with all of its stages.
 #[derive(Drop)]
-pub(crate) struct LabelledProblem<const W: usize> {
+pub(crate) struct HeldProblem<const W: usize> {
     pub(crate) problem: Problem,
-    pub(crate) stages: LabelledStages<W>,
+    pub(crate) stages: Stages<W>,
 }
 
-impl<const W: usize> Model for LabelledProblem<W> {
+impl<const W: usize> Model for HeldProblem<W> {
     ghost use Rattle.replan.specs.Held as held;
-    ghost use Rattle.replan.specs.Held.{IsLabelled};
+    ghost use Rattle.replan.specs.Held.{IsHeld};
 
-    ghost Value = { held.LabelledProblem };
+    ghost Value = { held.HeldProblem };
 
-    ghost view = { λ h. record { problem = h.problem; stages = h.stages.stages.items; columns = h.stages.columns.items } };
+    ghost view = { λ h. record { problem = h.problem; stages = h.stages.stages.items; labels = h.stages.labels.items } };
 
-    ghost invariant = { λ h. IsLabelled (record { problem = h.problem; stages = h.stages.stages.items; columns = h.stages.columns.items }) };
-}
-
-/// A problem for the weighted delay with all of its stages.
-#[derive(Drop)]
-pub(crate) struct PairedProblem<const W: usize> {
-    pub(crate) problem: Problem,
-    pub(crate) stages: CostStages<W>,
-}
-
-impl<const W: usize> Model for PairedProblem<W> {
-    ghost use Rattle.replan.specs.Held as held;
-    ghost use Rattle.replan.specs.Held.{IsPaired};
-
-    ghost Value = { held.PairedProblem };
-
-    ghost view = { λ h. record { problem = h.problem; stages = h.stages.stages.items; costs = h.stages.costs.items } };
-
-    ghost invariant = { λ h. IsPaired (record { problem = h.problem; stages = h.stages.stages.items; costs = h.stages.costs.items }) };
-}
-
-/// Nothing, or a problem with its stages, by its objective.
-#[derive(Drop)]
-pub(crate) enum Held<const W: usize> {
-    /// No problem.
-    Nothing,
-    /// A problem for the makespan.
-    Labelled(LabelledProblem<W>),
-    /// A problem for the weighted delay.
-    Paired(PairedProblem<W>),
+    ghost invariant = { λ h. IsHeld W (record { problem = h.problem; stages = h.stages.stages.items; labels = h.stages.labels.items }) };
 }

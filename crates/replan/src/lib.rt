@@ -6,11 +6,9 @@
 #![tactic(auto)]
 
 mod any_kept;
-mod delay_plan;
-mod delay_stages;
-mod delay_trace;
 mod held;
 mod kept;
+mod labels;
 mod plan;
 mod stages;
 mod trace;

@@ -2,75 +2,68 @@
 
 ghost use Rattle.std.specs.Prelude.{◌≡◌, ℕ, ◌+◌, ◌-◌, ◌*◌, ◌<◌, ◌≤◌, length, vec_len, IfOk, OnOk, IsTrue};
 ghost use Rattle.cps_base.specs.Tally.{raised_by};
-ghost use Rattle.makespan_labels.specs.Labels.{HoldsLabels};
 ghost use Rattle.cps_network.specs.Landable.{HoldsCandidates};
 ghost use Rattle.cps_network.specs.Lists.{IsAscending};
 ghost use Rattle.cps_network.specs.Permits.{IsNextOf};
+ghost use Rattle.replan.specs.Labels.{HoldsPairs};
 ghost use Rattle.replan.specs.Stages.{stage_at, HoldsStages, HasCandidates, HasCandidatesUpto, IsWholeWhere};
 
+use crate::labels::Labels;
 use cps_base::{Ledger, Steps};
 use cps_network::{Stage, next_stage, next_stage_like};
 use cps_outside::Gate;
 use cps_problem::Problem;
-use makespan_labels::{Column, fill};
 use std::alloc::{AllocError, Global};
 use std::thread::Threads;
 
-/// Stages of a problem, from stage 0 on: their landable windows, and the label of each.
+/// Stages of a problem, from stage 0 on: their landable windows, and the pairs of each.
 #[derive(Drop)]
-pub(crate) struct LabelledStages<const W: usize> {
+pub(crate) struct Stages<const W: usize> {
     pub(crate) stages: Vec<Stage<W>>,
-    pub(crate) columns: Vec<Column>,
+    pub(crate) labels: Vec<Labels>,
     // Whether each candidate of the last stage is landable: then the stage after it may be a copy of it.
     last_is_whole: bool,
 }
 
 // Stage 0.
-fn first_stage<const W: usize>(
-    alloc: Global,
-    problem: &Problem,
-) -> Result<LabelledStages<W>, AllocError>
+fn first_stage<const W: usize>(alloc: Global, problem: &Problem) -> Result<Stages<W>, AllocError>
     requires width { W ≡ 2 * problem.now.k + 1 }
-    ensures held { IfOk result (λ kept. HoldsStages problem.now kept.stages.items kept.columns.items) }
+    ensures held { IfOk result (λ kept. HoldsStages problem.now kept.stages.items kept.labels.items) }
     ensures whole { IfOk result (λ kept. IsWholeWhere problem.now kept.stages.items kept.last_is_whole) }
     ensures one { IfOk result (λ kept. vec_len kept.stages ≡ 1) }
 {
-    let _near = problem.head();
+    let objective = problem.head().objective;
     let stage = Stage::start(alloc)?;
-    let column = Column::start(alloc)?;
+    let start = Labels::start(alloc, objective)?;
     let room = problem.len() as usize + 1;
     let mut stages = Vec::with_capacity(alloc, room)?;
-    let mut columns = Vec::with_capacity(alloc, room)?;
+    let mut labels = Vec::with_capacity(alloc, room)?;
     stages.push(stage)?;
-    columns.push(column)?;
-    Ok(LabelledStages {
+    labels.push(start)?;
+    Ok(Stages {
         stages,
-        columns,
+        labels,
         last_is_whole: false,
     })
 }
 
-// The stage after the last one. In the middle of a list it often has the windows of the last one again.
-pub(crate) fn next_of_last<const W: usize>(
+// The stage after one. Where that has each window that extends the one before it, it is often a copy of it.
+fn stage_after<const W: usize>(
     alloc: Global,
     problem: &Problem,
-    stages: &Vec<Stage<W>>,
-    last_is_whole: bool,
+    earlier: &Stage<W>,
+    before: &Stage<W>,
+    is_whole: bool,
 ) -> Result<Stage<W>, AllocError>
     requires width { W ≡ 2 * problem.now.k + 1 }
-    requires numbers { (i : ℕ) → i < length stages.now.items → (stage_at stages.now.items i).0 ≡ i }
-    requires whole { IsWholeWhere problem.now stages.now.items last_is_whole }
-    requires some { 0 < vec_len stages.now }
-    requires number { vec_len stages.now ≤ length problem.now.flights }
-    ensures number { IfOk result (λ s. s.0 ≡ vec_len stages.now) }
+    requires stage { before.now.0 < length problem.now.flights }
+    requires whole { IsTrue is_whole → earlier.now.0 < before.now.0 → IsNextOf problem.now earlier.now.0 earlier.now.1 before.now.1 }
+    ensures number { IfOk result (λ s. s.0 ≡ before.now.0 + 1) }
     ensures ascending { IfOk result (λ s. IsAscending s.1) }
-    ensures exact { IfOk result (λ s. IsNextOf problem.now (vec_len stages.now - 1) (stage_at stages.now.items (vec_len stages.now - 1)).1 s.1) }
-    ensures candidates { IfOk result (λ s. HoldsCandidates problem.now (stage_at stages.now.items (vec_len stages.now - 1)) s) }
+    ensures exact { IfOk result (λ s. IsNextOf problem.now before.now.0 before.now.1 s.1) }
+    ensures candidates { IfOk result (λ s. HoldsCandidates problem.now before.now s) }
 {
-    let last = stages.len() - 1;
-    let before = &stages[last];
-    if last_is_whole && last > 0 {
-        let earlier = &stages[last - 1];
+    if is_whole && earlier.number() < before.number() {
         let stage = next_stage_like(alloc, before, problem, earlier, before)?;
         return Ok(stage);
     }
@@ -84,28 +77,26 @@ fn label_stage<const W: usize, R: Threads, G: Gate, L: Ledger>(
     alloc: Global,
     problem: &Problem,
     before: &Stage<W>,
-    labels: &Column,
+    labels: &Labels,
     stage: &mut Stage<W>,
     gate: &G,
     steps: &mut Steps<L>,
-) -> Result<(Column, bool), AllocError>
+) -> Result<(Labels, bool), AllocError>
     requires width { W ≡ 2 * problem.now.k + 1 }
-    requires before { HoldsLabels problem.now before.now labels.now }
+    requires before { HoldsPairs problem.now before.now labels.now }
     requires number { stage.old.0 ≡ before.now.0 + 1 }
     requires exact { IsNextOf problem.now before.now.0 before.now.1 stage.old.1 }
-    ensures held { IfOk result (λ labelled. HoldsLabels problem.now stage.new labelled.0) }
+    ensures held { IfOk result (λ labelled. HoldsPairs problem.now stage.new labelled.0) }
     ensures number { OnOk result (stage.new.0 ≡ stage.old.0) }
     ensures all { IfOk result (λ labelled. IsTrue labelled.1 → stage.new.1 ≡ stage.old.1) }
     ensures steps { OnOk result (L.count steps.new ≡ raised_by (length stage.old.1) (L.count steps.old)) }
 {
     let _near = problem.head();
     let candidates = stage.len();
-    let mut column = Column::new(alloc);
-    column.reserve(candidates)?;
-    fill(rt, problem, before, labels, stage, &mut column, gate, steps);
-    column.keep_landable(stage);
-    let is_whole = column.len() == candidates;
-    Ok((column, is_whole))
+    let mut found = labels.next(rt, alloc, problem, before, stage, gate, steps)?;
+    found.keep_landable(stage);
+    let is_whole = found.len() == candidates;
+    Ok((found, is_whole))
 }
 
 // One stage more.
@@ -113,29 +104,30 @@ fn add_stage<const W: usize, R: Threads, G: Gate, L: Ledger>(
     rt: &R,
     alloc: Global,
     problem: &Problem,
-    kept: &mut LabelledStages<W>,
+    kept: &mut Stages<W>,
     gate: &G,
     steps: &mut Steps<L>,
 ) -> Result<(), AllocError>
     requires width { W ≡ 2 * problem.now.k + 1 }
-    requires held { HoldsStages problem.now kept.old.stages.items kept.old.columns.items }
+    requires held { HoldsStages problem.now kept.old.stages.items kept.old.labels.items }
     requires whole { IsWholeWhere problem.now kept.old.stages.items kept.old.last_is_whole }
     requires some { 0 < vec_len kept.old.stages }
     requires number { vec_len kept.old.stages ≤ length problem.now.flights }
-    ensures held { OnOk result (HoldsStages problem.now kept.new.stages.items kept.new.columns.items) }
+    ensures held { OnOk result (HoldsStages problem.now kept.new.stages.items kept.new.labels.items) }
     ensures whole { OnOk result (IsWholeWhere problem.now kept.new.stages.items kept.new.last_is_whole) }
     ensures one { OnOk result (vec_len kept.new.stages ≡ vec_len kept.old.stages + 1) }
     ensures steps { OnOk result ((count : ℕ) × HasCandidates problem.now (vec_len kept.old.stages - 1) count × (L.count steps.new ≡ raised_by count (L.count steps.old))) }
 {
-    let mut stage = next_of_last(alloc, problem, &kept.stages, kept.last_is_whole)?;
     let last = kept.stages.len() - 1;
+    let earlier = &kept.stages[last.saturating_sub(1)];
     let before = &kept.stages[last];
-    let labels = &kept.columns[last];
-    let (column, is_whole) = label_stage(
+    let mut stage = stage_after(alloc, problem, earlier, before, kept.last_is_whole)?;
+    let labels = &kept.labels[last];
+    let (found, is_whole) = label_stage(
         rt, alloc, problem, before, labels, &mut stage, gate, steps,
     )?;
     kept.stages.push(stage)?;
-    kept.columns.push(column)?;
+    kept.labels.push(found)?;
     kept.last_is_whole = is_whole;
     Ok(())
 }
@@ -147,9 +139,9 @@ pub(crate) fn fill_stages<const W: usize, R: Threads, G: Gate, L: Ledger>(
     problem: &Problem,
     gate: &G,
     steps: &mut Steps<L>,
-) -> Result<LabelledStages<W>, AllocError>
+) -> Result<Stages<W>, AllocError>
     requires width { W ≡ 2 * problem.now.k + 1 }
-    ensures held { IfOk result (λ kept. HoldsStages problem.now kept.stages.items kept.columns.items) }
+    ensures held { IfOk result (λ kept. HoldsStages problem.now kept.stages.items kept.labels.items) }
     ensures whole { IfOk result (λ kept. vec_len kept.stages ≡ length problem.now.flights + 1) }
     ensures steps { OnOk result ((due : ℕ) × HasCandidatesUpto problem.now (length problem.now.flights) due × (L.count steps.new ≡ raised_by due (L.count steps.old))) }
 {

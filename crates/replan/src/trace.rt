@@ -1,56 +1,63 @@
-//! Back from the least label of the last stage to an order.
+//! Back from a best pair of the last stage to an order.
 
-ghost use Rattle.std.specs.Prelude.{◌≡◌, ℕ, ◌+◌, ◌*◌, ◌<◌, ◌≤◌, length, vec_len, slice_index, MatchOption};
-ghost use Rattle.replan.specs.Stages.{stage_at, labels_at, HoldsStages, LandsLastAt};
+ghost use Rattle.std.specs.Prelude.{◌≡◌, ℕ, ◌+◌, ◌*◌, ◌<◌, ◌≤◌, length, vec_len, MatchOption};
+ghost use Rattle.cps_network.specs.Pairs.{list_at};
+ghost use Rattle.replan.specs.Labels.{last_pair, worth};
+ghost use Rattle.replan.specs.Stages.{stage_at, lists_at, HoldsStages, LandsWithPair};
 
-use crate::stages::LabelledStages;
+use crate::labels::Labels;
+use crate::stages::Stages;
 use cps_network::{last_rank, prefix_laws};
 use cps_nodes::window_laws;
 use cps_problem::Problem;
-use makespan_labels::{Column, source_of};
 
-// The first place of the least label, where there is one.
-pub(crate) fn least_place(labels: &Column) -> Option<usize>
-    ensures { MatchOption result (length labels.now ≡ 0) (λ place. (place < length labels.now) × ((i : ℕ) → i < length labels.now → slice_index labels.now place ≤ slice_index labels.now i)) }
+// The first place whose last pair is worth least, where there is a list.
+pub(crate) fn least_place(labels: &Labels) -> Option<usize>
+    requires { (i : ℕ) → i < length labels.now.lists → 0 < length (list_at labels.now.lists i) }
+    ensures { MatchOption result (length labels.now.lists ≡ 0) (λ place. (place < length labels.now.lists)
+        × ((i : ℕ) → i < length labels.now.lists → worth labels.now.objective (last_pair (list_at labels.now.lists place)) ≤ worth labels.now.objective (last_pair (list_at labels.now.lists i)))) }
 {
     if labels.len() == 0 {
         return None;
     }
     let mut place = 0;
     for i in 1..labels.len() {
-        if labels.label(i) < labels.label(place) {
+        if labels.value(i) < labels.value(place) {
             place = i;
         }
     }
     Some(place)
 }
 
-// Writes the order of a legal prefix that ends in this window of the last stage, and whose last flight lands at its label.
+// Writes the order of a legal prefix that ends in this window of the last stage and lands with the last pair of its list.
 pub(crate) fn trace<const W: usize>(
     problem: &Problem,
-    kept: &LabelledStages<W>,
+    kept: &Stages<W>,
     place: usize,
     order: &mut [u8],
 )
     requires width { W ≡ 2 * problem.now.k + 1 }
-    requires held { HoldsStages problem.now kept.now.stages.items kept.now.columns.items }
+    requires held { HoldsStages problem.now kept.now.stages.items kept.now.labels.items }
     requires whole { vec_len kept.now.stages ≡ length problem.now.flights + 1 }
     requires within { place < length (stage_at kept.now.stages.items (length problem.now.flights)).1 }
     requires room { length order.old ≡ length problem.now.flights }
     ensures room { length order.new ≡ length order.old }
-    ensures lands { LandsLastAt problem.now order.new (slice_index (labels_at kept.now.columns.items (length problem.now.flights)) place) }
+    ensures lands { LandsWithPair problem.now order.new (last_pair (list_at (lists_at kept.now.labels.items (length problem.now.flights)) place)) }
 {
     let mut stage = problem.len() as usize;
     prefix_laws::<W>(problem);
     window_laws::<W>();
     let mut place = place;
+    let mut index = kept.labels[stage].count(place) - 1;
     while stage > 0 {
         let before = &kept.stages[stage - 1];
-        let labels = &kept.columns[stage - 1];
+        let labels = &kept.labels[stage - 1];
         let node = kept.stages[stage].node(place);
-        let label = kept.columns[stage].label(place);
-        place = source_of(problem, before, labels, &node, label);
+        let pair = kept.labels[stage].pair(place, index);
+        let source = labels.source(problem, before, &node, pair);
         order[stage - 1] = last_rank(&node, stage as u8);
+        place = source.0;
+        index = source.1;
         stage -= 1;
     }
 }

@@ -1,25 +1,30 @@
 -- One landing back: a landable window of the next stage extends one of this.
-use Rattle.std.proofs.Common.{◌≡◌, ℕ, suc, ◌+◌, ◌*◌, List, [], ◌∷◌, length, reverse, sym, ap, subst, ◌∙◌, arith}
+use Rattle.std.proofs.Common.{◌≡◌, ℕ, suc, ◌+◌, ◌*◌, List, [], ◌∷◌, length, reverse, refl, sym, ap, subst, ◌∙◌, arith}
 use Rattle.std.specs.Prelude.{ℤ}
 use Rattle.cps_nodes.specs.Ranks.{window_of}
-use Rattle.cps_theory.specs.LandingTrail.{ranks}
+use Rattle.cps_theory.specs.Separation.{Landing}
+use Rattle.cps_theory.specs.LandingTrail.{pair_of, ranks}
+use Rattle.cps_theory.specs.LegalPrefix.{Legal}
+use Rattle.cps_theory.specs.ProblemNetwork.{LandedIn}
+use Rattle.landing_joint.specs.RankedProblem.{ranked, cost_at}
 use Rattle.landing_rules.specs.Problem.{Problem}
 use Rattle.cps_network.specs.Landable.{IsLandable, HoldsLandable, HasEachLandable}
 use Rattle.cps_network.specs.Nodes.{Node, node_of, permits, land, IsWindowNetwork}
 use Rattle.cps_network.specs.Permits.{IsSuccessor, IsNextOf}
 
 module _ (p : Problem) (net : IsWindowNetwork p) where
-  pub landable_source : (stage : ℕ) (v : List ℤ) → IsLandable p (suc stage) v → (x : List ℤ) × IsLandable p stage x × IsSuccessor p stage x v
-  landable_source stage v ([], legal, landed, at) = absurd (never (ap (λ (n : Node). n.0) at))
+  landing_back : (stage : ℕ) (v : List ℤ) (xs : List Landing) → Legal (ranked p).rules (ranks xs) → LandedIn (ranked p) xs → node_of p.k (ranks xs) ≡ (suc stage, v)
+      → (x : List ℤ) × IsLandable p stage x × IsSuccessor p stage x v
+  landing_back stage v [] legal landed at = absurd (never (ap (λ (n : Node). n.0) at))
     where
       never : 0 ≡ suc stage → ⊥
       never e = omega arith
-  landable_source stage v (y ∷ xs, legal, landed, at) =
+  landing_back stage v (y ∷ xs) legal landed at =
       let s = net.shrinks y.0 (ranks xs) legal in
       let long : length (ranks xs) ≡ stage = less (ap (λ (n : Node). n.0) at) in
       let here : node_of p.k (ranks xs) ≡ (stage, window_of (2 * p.k + 1) (reverse (ranks xs))) = ap (λ (q : ℕ). (q, window_of (2 * p.k + 1) (reverse (ranks xs)))) long in (
         window_of (2 * p.k + 1) (reverse (ranks xs)),
-        (xs, s.0, landed.2, here),
+        (pair_of (cost_at p) xs, record { landings = xs; legal = s.0; landed = landed.2; at = here; is = refl }),
         (
           y.0,
           subst (λ (n : Node). permits p n y.0) here s.1,
@@ -29,6 +34,9 @@ module _ (p : Problem) (net : IsWindowNetwork p) where
     where
       less : {a b : ℕ} → suc a ≡ suc b → a ≡ b
       less {a} {b} e = omega arith
+
+  pub landable_source : (stage : ℕ) (v : List ℤ) → IsLandable p (suc stage) v → (x : List ℤ) × IsLandable p stage x × IsSuccessor p stage x v
+  landable_source stage v l = landing_back stage v l.1.landings l.1.legal l.1.landed l.1.at
 
   -- where the stage before has the landable windows, each landable window of the next stage is there
   pub has_next : (before after : ℕ × List (List ℤ)) → after.0 ≡ before.0 + 1 → HoldsLandable p before → IsNextOf p before.0 before.1 after.1 → HasEachLandable p after

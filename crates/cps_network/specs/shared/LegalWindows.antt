@@ -49,21 +49,21 @@ module _ (p : Problem) (w : ℕ) (odd : w ≡ 2 * p.k + 1) (laws : WindowLaws p 
   rank_in (r ∷ rs) legal = legal.0.fits.to_count
 
   pub landable_valid : (stage : ℕ) (x : List ℤ) → IsLandable p stage x → IsWindow w x
-  landable_valid stage x l = subst (λ (n : Node). IsWindow w n.1) l.3 (prefix_valid (ranks l.0) l.1)
+  landable_valid stage x l = subst (λ (n : Node). IsWindow w n.1) l.1.at (prefix_valid (ranks l.1.landings) l.1.legal)
 
   -- the rank that landed last in a landable window
   pub landable_last : (stage : ℕ) (x : List ℤ) → IsLandable p stage x → (pos stage +ℤ offset_at x (w - 1) ≡ pos (latest (stage, x))) × (latest (stage, x) ≤ length p.flights)
   landable_last stage x l =
-      let is : latest (stage, x) ≡ last_rank (ranks l.0) = ap latest (sym l.3) ∙ laws.network.newest_is (ranks l.0) l.1 in
-      let last : pos stage +ℤ offset_at x (w - 1) ≡ pos (last_rank (ranks l.0)) =
-      subst (λ (n : Node). pos n.0 +ℤ offset_at n.1 (w - 1) ≡ pos (last_rank (ranks l.0))) l.3 (prefix_last (ranks l.0)) in
-      let low = rank_in (ranks l.0) l.1 in
+      let is : latest (stage, x) ≡ last_rank (ranks l.1.landings) = ap latest (sym l.1.at) ∙ laws.network.newest_is (ranks l.1.landings) l.1.legal in
+      let last : pos stage +ℤ offset_at x (w - 1) ≡ pos (last_rank (ranks l.1.landings)) =
+      subst (λ (n : Node). pos n.0 +ℤ offset_at n.1 (w - 1) ≡ pos (last_rank (ranks l.1.landings))) l.1.at (prefix_last (ranks l.1.landings)) in
+      let low = rank_in (ranks l.1.landings) l.1.legal in
       (last ∙ ap pos (sym is), omega (arith, is, low))
 
   -- and the rank that lands next is the last of the window after it
   pub next_last : (stage : ℕ) (x : List ℤ) (r : ℕ) → IsLandable p stage x → IsPermitted p stage x r → pos (suc stage) +ℤ offset_at (shifted x (offset_after stage r)) (w - 1) ≡ pos r
   next_last stage x r l may =
-      let rs = ranks l.0 in
-      let here : permits p (node_of p.k (ranks l.0)) r = subst (λ (n : Node). permits p n r) (sym l.3) may in
-      let at : node_of p.k (r ∷ ranks l.0) ≡ (suc stage, shifted x (offset_after stage r)) = laws.network.pushes r (ranks l.0) l.1 ∙ ap (λ (n : Node). land n r) l.3 in
-      subst (λ (n : Node). pos n.0 +ℤ offset_at n.1 (w - 1) ≡ pos r) at (prefix_last (r ∷ ranks l.0))
+      let rs = ranks l.1.landings in
+      let here : permits p (node_of p.k (ranks l.1.landings)) r = subst (λ (n : Node). permits p n r) (sym l.1.at) may in
+      let at : node_of p.k (r ∷ ranks l.1.landings) ≡ (suc stage, shifted x (offset_after stage r)) = laws.network.pushes r (ranks l.1.landings) l.1.legal ∙ ap (λ (n : Node). land n r) l.1.at in
+      subst (λ (n : Node). pos n.0 +ℤ offset_at n.1 (w - 1) ≡ pos r) at (prefix_last (r ∷ ranks l.1.landings))

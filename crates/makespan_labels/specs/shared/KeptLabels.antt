@@ -4,10 +4,11 @@ use Rattle.std.specs.Prelude.{ℤ, slice_index}
 use Rattle.landing_rules.specs.Problem.{Problem}
 use Rattle.cps_network.specs.KeptStages.{LandAlike, HaveStageInCommon}
 use Rattle.cps_network.specs.Lists.{node_at}
+use Rattle.cps_network.specs.shared.KeptStages.{attains_there}
 use Rattle.makespan_labels.specs.Labels.{CanLandAt, IsLabel, HoldsLabels}
 
 land_there : (p q : Problem) (stage : ℕ) → LandAlike p q stage → (xs : List ℤ) (t : ℕ) → CanLandAt p stage xs t → CanLandAt q stage xs t
-land_there p q stage alike xs t (landings, legal, landed, at, is) = let a = alike xs landings (legal, landed, at) in (landings, a.0.0, a.0.1, a.0.2, is)
+land_there p q stage alike xs t (cost, a) = (cost, attains_there p q stage alike xs (t, cost) a)
 
 same_label : (p q : Problem) (stage : ℕ) → HaveStageInCommon p q stage → (xs : List ℤ) (label : ℕ) → IsLabel p stage xs label → IsLabel q stage xs label
 same_label p q stage common xs label is = record {

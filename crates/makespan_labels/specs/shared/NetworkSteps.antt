@@ -4,10 +4,14 @@ use Rattle.std.specs.Prelude.{ℤ, true}
 use Rattle.cps_nodes.specs.Windows.{shifted}
 use Rattle.cps_nodes.specs.Ranks.{window_of}
 use Rattle.cps_nodes.specs.Laws.{offset_after}
-use Rattle.cps_theory.specs.LandingTrail.{latest_landing, ranks}
+use Rattle.cps_theory.specs.Separation.{Landing}
+use Rattle.cps_theory.specs.LandingTrail.{cost_of, latest_landing, ranks}
+use Rattle.cps_theory.specs.Labels.{Pair}
+use Rattle.cps_theory.specs.LegalPrefix.{Legal}
+use Rattle.cps_theory.specs.ProblemNetwork.{LandedIn}
 use Rattle.cps_theory.specs.Feasible.{next_from}
 use Rattle.cps_theory.specs.laws.LabelDominance.{last_ranks}
-use Rattle.landing_joint.specs.RankedProblem.{ranked, landing_after}
+use Rattle.landing_joint.specs.RankedProblem.{ranked, cost_at, landing_after}
 use Rattle.landing_joint.specs.shared.FirstOpen.{is_first_open}
 use Rattle.landing_rules.specs.Problem.{Problem}
 use Rattle.cps_network.specs.Landable.{IsLandable}
@@ -15,11 +19,11 @@ use Rattle.cps_network.specs.Nodes.{Node, node_of, permits, land, latest, IsWind
 use Rattle.cps_network.specs.Permits.{IsPermitted}
 use Rattle.makespan_labels.specs.Labels.{CanLandAt}
 
-pub can_land : (p : Problem) (stage : ℕ) (xs : List ℤ) → (l : IsLandable p stage xs) → CanLandAt p stage xs (latest_landing l.0).1
-can_land p stage xs l = (l.0, l.1, l.2, l.3, refl)
+pub can_land : (p : Problem) (stage : ℕ) (xs : List ℤ) → (l : IsLandable p stage xs) → CanLandAt p stage xs l.0.0
+can_land p stage xs l = (l.0.1, l.1)
 
 pub is_landable : (p : Problem) (stage : ℕ) (xs : List ℤ) (t : ℕ) → CanLandAt p stage xs t → IsLandable p stage xs
-is_landable p stage xs t l = (l.0, l.1, l.2, l.3)
+is_landable p stage xs t l = ((t, l.0), l.1)
 
 -- a flight lands behind a prefix of this window
 pub record ComesFrom (p : Problem) (stage : ℕ) (v : List ℤ) (t : ℕ) : Type 0 where
@@ -35,26 +39,31 @@ pub record ComesFrom (p : Problem) (stage : ℕ) (v : List ℤ) (t : ℕ) : Type
 module _ (p : Problem) (net : IsWindowNetwork p) where
   pub lands_next : (stage : ℕ) (x : List ℤ) (b r t : ℕ) → CanLandAt p stage x b → IsPermitted p stage x r
       → landing_after p (latest (stage, x)) b r ≡ Some t → CanLandAt p (suc stage) (shifted x (offset_after stage r)) t
-  lands_next stage x b r t (xs, legal, landed, at, is) may e =
-      let here : permits p (node_of p.k (ranks xs)) r = subst (λ (n : Node). permits p n r) (sym at) may in
-      let lead : latest (stage, x) ≡ (latest_landing xs).0 = ap latest (sym at) ∙ net.newest_is (ranks xs) legal ∙ last_ranks xs in
+  lands_next stage x b r t (cost, a) may e =
+      let here : permits p (node_of p.k (ranks a.landings)) r = subst (λ (n : Node). permits p n r) (sym a.at) may in
+      let is : (latest_landing a.landings).1 ≡ b = ap (λ (q : Pair). q.0) a.is in
+      let lead : latest (stage, x) ≡ (latest_landing a.landings).0 = ap latest (sym a.at) ∙ net.newest_is (ranks a.landings) a.legal ∙ last_ranks a.landings in
       let found = (is_first_open p).found r (next_from (ranked p) (latest (stage, x)) b r) t e in
-      let allowed : next_from (ranked p) (latest_landing xs).0 (latest_landing xs).1 r ≤ t =
-      subst (λ (l : ℕ). next_from (ranked p) l (latest_landing xs).1 r ≤ t) lead
+      let allowed : next_from (ranked p) (latest_landing a.landings).0 (latest_landing a.landings).1 r ≤ t =
+      subst (λ (l : ℕ). next_from (ranked p) l (latest_landing a.landings).1 r ≤ t) lead
       (subst (λ (s : ℕ). next_from (ranked p) (latest (stage, x)) s r ≤ t) (sym is) found.1) in (
-        (r, t) ∷ xs,
-        net.grows r (ranks xs) legal here,
-        (found.0, allowed, landed),
-        net.pushes r (ranks xs) legal ∙ ap (λ (n : Node). land n r) at,
-        refl,
+        cost_of (cost_at p) ((r, t) ∷ a.landings),
+        record {
+          landings = (r, t) ∷ a.landings;
+          legal = net.grows r (ranks a.landings) a.legal here;
+          landed = (found.0, allowed, a.landed);
+          at = net.pushes r (ranks a.landings) a.legal ∙ ap (λ (n : Node). land n r) a.at;
+          is = refl;
+        },
       )
 
-  pub comes_from : (stage : ℕ) (v : List ℤ) (t : ℕ) → CanLandAt p (suc stage) v t → ComesFrom p stage v t
-  comes_from stage v t ([], legal, landed, at, is) = absurd (never (ap (λ (n : Node). n.0) at))
+  landing_back : (stage : ℕ) (v : List ℤ) (t : ℕ) (xs : List Landing) → Legal (ranked p).rules (ranks xs) → LandedIn (ranked p) xs → node_of p.k (ranks xs) ≡ (suc stage, v) → (latest_landing xs).1 ≡ t
+      → ComesFrom p stage v t
+  landing_back stage v t [] legal landed at is = absurd (never (ap (λ (n : Node). n.0) at))
     where
       never : 0 ≡ suc stage → ⊥
       never e = omega arith
-  comes_from stage v t (y ∷ xs, legal, landed, at, is) =
+  landing_back stage v t (y ∷ xs) legal landed at is =
       let s = net.shrinks y.0 (ranks xs) legal in
       let long : length (ranks xs) ≡ stage = less (ap (λ (n : Node). n.0) at) in
       let x : List ℤ = window_of (2 * p.k + 1) (reverse (ranks xs)) in
@@ -64,7 +73,7 @@ module _ (p : Problem) (net : IsWindowNetwork p) where
         source = window_of (2 * p.k + 1) (reverse (ranks xs));
         rank = y.0;
         second = (latest_landing xs).1;
-        before = (xs, s.0, landed.2, here, refl);
+        before = (cost_of (cost_at p) xs, record { landings = xs; legal = s.0; landed = landed.2; at = here; is = refl });
         permitted = subst (λ (n : Node). permits p n y.0) here s.1;
         next = ap (λ (n : Node). n.1) (sym at ∙ net.pushes y.0 (ranks xs) s.0 ∙ ap (λ (n : Node). land n y.0) here);
         is_open = subst (λ (u : ℕ). (ranked p).is_open y.0 u ≡ true) is landed.0;
@@ -74,3 +83,6 @@ module _ (p : Problem) (net : IsWindowNetwork p) where
     where
       less : {a b : ℕ} → suc a ≡ suc b → a ≡ b
       less {a} {b} e = omega arith
+
+  pub comes_from : (stage : ℕ) (v : List ℤ) (t : ℕ) → CanLandAt p (suc stage) v t → ComesFrom p stage v t
+  comes_from stage v t (cost, a) = landing_back stage v t a.landings a.legal a.landed a.at (ap (λ (q : Pair). q.0) a.is)

@@ -2,7 +2,7 @@ use Rattle.std.proofs.Common.{ℕ, List, arith}
 use Rattle.cps_theory.specs.Labels.{InPairs, Pair}
 use Rattle.cps_network.specs.Lists.{node_at}
 use Rattle.cps_network.specs.shared.LandableSteps.{has_next}
-use Rattle.delay_labels.specs.Pairs.{ArePairsOf, GivesPair}
+use Rattle.cps_network.specs.Pairs.{ArePairsOf, GivesPair}
 use Rattle.delay_labels.proofs.ListLemmas.{each_more}
 use Rattle.delay_labels.proofs.fill.fill_costs.Goals as goal
 

@@ -1,7 +1,7 @@
 use Rattle.std.proofs.Common.{◌≡◌, ℕ, ◌<◌, length}
 use Rattle.cps_theory.specs.Labels.{InPairs, Pair}
 use Rattle.cps_network.specs.Lists.{node_at}
-use Rattle.delay_labels.specs.Pairs.{list_at, ArePairsOf, GivesPair}
+use Rattle.cps_network.specs.Pairs.{list_at, ArePairsOf, GivesPair}
 use Rattle.delay_labels.proofs.fill.fill_costs.Given as goal
 
 abbrev pub invariant-loop-i : goal.invariant-loop-i

@@ -1,5 +1,5 @@
 use Rattle.std.proofs.Common.{◌≡◌, ℕ, ◌<◌, Some}
-use Rattle.delay_labels.specs.Pairs.{pair_at, successor}
+use Rattle.cps_network.specs.Pairs.{pair_at, successor}
 use Rattle.delay_labels.proofs.source.first_giving.Given as goal
 
 abbrev pub invariant-loop-i : goal.invariant-loop-i

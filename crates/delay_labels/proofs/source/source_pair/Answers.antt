@@ -5,7 +5,7 @@ use Rattle.std.proofs.lemmas.Bool.{cases_eq}
 use Rattle.cps_theory.specs.Labels.{Pair}
 use Rattle.cps_network.specs.Lists.{node_at}
 use Rattle.cps_network.specs.shared.LeadingWindows.{Sources, same_rank, in_bytes, some_range, leader_range, rank_range}
-use Rattle.delay_labels.specs.Pairs.{list_at, pair_at, successor}
+use Rattle.cps_network.specs.Pairs.{list_at, pair_at, successor}
 use Rattle.delay_labels.proofs.PairLemmas.{listed_small, gives_at, given_at, given_source, none_at}
 use Rattle.delay_labels.proofs.source.source_pair.Goals as goal
 

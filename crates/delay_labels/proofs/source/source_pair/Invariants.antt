@@ -1,5 +1,5 @@
 use Rattle.std.proofs.Common.{◌≡◌, ℕ, ◌<◌, ◌≤◌, length, Some}
-use Rattle.delay_labels.specs.Pairs.{list_at, pair_at, successor}
+use Rattle.cps_network.specs.Pairs.{list_at, pair_at, successor}
 use Rattle.delay_labels.proofs.source.source_pair.Given as goal
 
 abbrev pub invariant-loop-i : goal.invariant-loop-i

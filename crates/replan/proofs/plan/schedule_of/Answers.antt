@@ -1,110 +1,70 @@
-use Rattle.std.proofs.Common.{◌≡◌, ℕ, ◌<◌, ◌≤◌, List, length, rules, arith, ap, ◌∙◌, sym, subst, refl}
-use Rattle.std.specs.Prelude.{slice_index}
+use Rattle.std.proofs.Common.{◌≡◌, ℕ, ◌≤◌, List, length, rules, arith, ap, ◌∙◌, sym, subst, refl}
 use Rattle.std.proofs.lemmas.List.{length-replicate}
+use Rattle.cps_theory.specs.Labels.{Pair}
+use Rattle.landing_rules.specs.declared.objective.Objective.{Objective}
+use Rattle.cps_network.specs.Pairs.{list_at}
 use Rattle.extract_plan.specs.Orders.{IsWholeOrder, LandsInOrder, EarliestInOrder}
 use Rattle.extract_plan.specs.shared.PlannedOrder.{well_formed_planned}
-use Rattle.replan.specs.Stages.{stage_at, labels_at}
-use Rattle.replan.proofs.StageLemmas.{read_labels}
+use Rattle.replan.specs.Labels.{StagePairs, last_pair, worth}
+use Rattle.replan.specs.Stages.{stage_at, lists_at}
+use Rattle.replan.proofs.StageLemmas.{last_read}
 use Rattle.replan.proofs.PlanLemmas.{bounds, order_is_whole, seconds, order_lands, plan_best}
 use Rattle.replan.proofs.plan.schedule_of.Goals as goal
 
+pub least_place-requires : goal.least_place-requires
+least_place-requires g c =
+    let l = last_read c.args.problem.now c.args.kept.now.stages.items c.args.kept.now.labels.items c.requires.held (omega (arith, c.requires.whole)) c.len-n.result c.index.result.now c.len-n.ensures.value c.index.ensures in
+    l.some
+
 pub returns-in-None : goal.returns-in-None
 returns-in-None g c =
-    let p = c.args.problem.now in
-    let n = length c.args.problem.now.flights in
-    let stages = c.args.kept.now.stages.items in
-    let columns = c.args.kept.now.columns.items in
-    let planned = well_formed_planned p c.len-n.ensures.well_formed in
-    let held = c.requires.held in
-    let lt : length c.args.problem.now.flights < length c.args.kept.now.stages.items = omega (arith, c.requires.whole) in
-    let lt' : c.len-n.result < length c.args.kept.now.columns.items = omega (arith, lt, c.len-n.ensures.value, c.requires.held.one_each) in
-    let el : c.index.result.now ≡ labels_at c.args.kept.now.columns.items (length c.args.problem.now.flights) =
-    read_labels c.args.kept.now.columns.items c.len-n.result c.index.result.now c.index.ensures lt' ∙ ap (labels_at c.args.kept.now.columns.items) c.len-n.ensures.value in
+    let planned = well_formed_planned c.args.problem.now c.len-n.ensures.well_formed in
+    let l = last_read c.args.problem.now c.args.kept.now.stages.items c.args.kept.now.labels.items c.requires.held (omega (arith, c.requires.whole)) c.len-n.result c.index.result.now c.len-n.ensures.value c.index.ensures in
     λ t f.
-    let b = bounds p planned (stage_at c.args.kept.now.stages.items (length c.args.problem.now.flights)) (labels_at c.args.kept.now.columns.items (length c.args.problem.now.flights)) (held.number (length c.args.problem.now.flights) lt) (held.held (length c.args.problem.now.flights) lt) t f in
+    let b = bounds c.args.problem.now planned (stage_at c.args.kept.now.stages.items (length c.args.problem.now.flights)) c.index.result.now l.number l.held t f in
     let inside = b.1 in
-    let long : length c.index.result.now ≡ length (labels_at c.args.kept.now.columns.items (length c.args.problem.now.flights)) = ap length el in
-    absurd (omega (arith, inside, long, c.in-None.ensures))
+    absurd (omega (arith, inside, c.in-None.ensures))
 
 pub order_of-requires : goal.order_of-requires
 order_of-requires g c =
-    let p = c.args.problem.now in
-    let n = length c.args.problem.now.flights in
-    let stages = c.args.kept.now.stages.items in
-    let columns = c.args.kept.now.columns.items in
-    let planned = well_formed_planned p c.len-n.ensures.well_formed in
-    let held = c.requires.held in
-    let lt : length c.args.problem.now.flights < length c.args.kept.now.stages.items = omega (arith, c.requires.whole) in
-    let lt' : c.len-n.result < length c.args.kept.now.columns.items = omega (arith, lt, c.len-n.ensures.value, c.requires.held.one_each) in
-    let el : c.index.result.now ≡ labels_at c.args.kept.now.columns.items (length c.args.problem.now.flights) =
-    read_labels c.args.kept.now.columns.items c.len-n.result c.index.result.now c.index.ensures lt' ∙ ap (labels_at c.args.kept.now.columns.items) c.len-n.ensures.value in
-    let some : (c.in-Some.place < length (labels_at c.args.kept.now.columns.items (length c.args.problem.now.flights)))
-    × ((i : ℕ) → i < length (labels_at c.args.kept.now.columns.items (length c.args.problem.now.flights)) → slice_index (labels_at c.args.kept.now.columns.items (length c.args.problem.now.flights)) c.in-Some.place ≤ slice_index (labels_at c.args.kept.now.columns.items (length c.args.problem.now.flights)) i) =
-    subst (λ (ls : List ℕ). (c.in-Some.place < length ls) × ((i : ℕ) → i < length ls → slice_index ls c.in-Some.place ≤ slice_index ls i)) el c.in-Some.ensures in
-    let one = (held.held (length c.args.problem.now.flights) lt).labelled.one_each in
-    let inside = some.0 in
-    (search rules, (search rules, (held, (c.requires.whole, omega (arith, inside, one)))))
+    let l = last_read c.args.problem.now c.args.kept.now.stages.items c.args.kept.now.labels.items c.requires.held (omega (arith, c.requires.whole)) c.len-n.result c.index.result.now c.len-n.ensures.value c.index.ensures in
+    let inside = c.in-Some.ensures.0 in
+    (search rules, (search rules, (c.requires.held, (c.requires.whole, omega (arith, inside, l.held.held.costs.one_each)))))
 
 pub retime-requires-clause-order : goal.retime-requires-clause-order
 retime-requires-clause-order g c =
-    let p = c.args.problem.now in
-    let n = length c.args.problem.now.flights in
-    let stages = c.args.kept.now.stages.items in
-    let columns = c.args.kept.now.columns.items in
-    let planned = well_formed_planned p c.len-n.ensures.well_formed in
-    let held = c.requires.held in
-    let lt : length c.args.problem.now.flights < length c.args.kept.now.stages.items = omega (arith, c.requires.whole) in
-    let lt' : c.len-n.result < length c.args.kept.now.columns.items = omega (arith, lt, c.len-n.ensures.value, c.requires.held.one_each) in
-    let el : c.index.result.now ≡ labels_at c.args.kept.now.columns.items (length c.args.problem.now.flights) =
-    read_labels c.args.kept.now.columns.items c.len-n.result c.index.result.now c.index.ensures lt' ∙ ap (labels_at c.args.kept.now.columns.items) c.len-n.ensures.value in
-    let end : ℕ = slice_index (labels_at c.args.kept.now.columns.items (length c.args.problem.now.flights)) c.in-Some.place in
+    let planned = well_formed_planned c.args.problem.now c.len-n.ensures.well_formed in
+    let end : Pair = last_pair (list_at (lists_at c.args.kept.now.labels.items (length c.args.problem.now.flights)) c.in-Some.place) in
     let lands = c.in_ok-order-in-Some.ensures.lands in
     let is : c.as_slice.result.now ≡ c.in_ok-order-in-Some.order.items = c.as_slice.ensures.value in
-    subst (IsWholeOrder (length c.args.problem.now.flights)) (sym is) (order_is_whole p planned c.requires.objective c.in_ok-order-in-Some.order.items end c.in_ok-order-in-Some.ensures.room lands)
+    subst (IsWholeOrder (length c.args.problem.now.flights)) (sym is) (order_is_whole c.args.problem.now planned c.in_ok-order-in-Some.order.items end c.in_ok-order-in-Some.ensures.room lands)
 
 pub returns-then-not-retime : goal.returns-then-not-retime
 returns-then-not-retime g c =
-    let p = c.args.problem.now in
-    let n = length c.args.problem.now.flights in
-    let stages = c.args.kept.now.stages.items in
-    let columns = c.args.kept.now.columns.items in
-    let planned = well_formed_planned p c.len-n.ensures.well_formed in
-    let held = c.requires.held in
-    let lt : length c.args.problem.now.flights < length c.args.kept.now.stages.items = omega (arith, c.requires.whole) in
-    let lt' : c.len-n.result < length c.args.kept.now.columns.items = omega (arith, lt, c.len-n.ensures.value, c.requires.held.one_each) in
-    let el : c.index.result.now ≡ labels_at c.args.kept.now.columns.items (length c.args.problem.now.flights) =
-    read_labels c.args.kept.now.columns.items c.len-n.result c.index.result.now c.index.ensures lt' ∙ ap (labels_at c.args.kept.now.columns.items) c.len-n.ensures.value in
-    let end : ℕ = slice_index (labels_at c.args.kept.now.columns.items (length c.args.problem.now.flights)) c.in-Some.place in
+    let planned = well_formed_planned c.args.problem.now c.len-n.ensures.well_formed in
+    let l = last_read c.args.problem.now c.args.kept.now.stages.items c.args.kept.now.labels.items c.requires.held (omega (arith, c.requires.whole)) c.len-n.result c.index.result.now c.len-n.ensures.value c.index.ensures in
+    let end : Pair = last_pair (list_at (lists_at c.args.kept.now.labels.items (length c.args.problem.now.flights)) c.in-Some.place) in
     let lands = c.in_ok-order-in-Some.ensures.lands in
     let is : c.as_slice.result.now ≡ c.in_ok-order-in-Some.order.items = c.as_slice.ensures.value in
     λ t f.
-    c.if-not-retime.ensures.none refl (seconds p planned c.requires.objective c.in_ok-order-in-Some.order.items end c.in_ok-order-in-Some.ensures.room lands)
-    (subst (λ (l : List ℕ). LandsInOrder p l (seconds p planned c.requires.objective c.in_ok-order-in-Some.order.items end c.in_ok-order-in-Some.ensures.room lands)) (sym is) (order_lands p planned c.requires.objective c.in_ok-order-in-Some.order.items end c.in_ok-order-in-Some.ensures.room lands))
+    c.if-not-retime.ensures.none refl (seconds c.args.problem.now planned c.in_ok-order-in-Some.order.items end c.in_ok-order-in-Some.ensures.room lands)
+    (subst (λ (l : List ℕ). LandsInOrder c.args.problem.now l (seconds c.args.problem.now planned c.in_ok-order-in-Some.order.items end c.in_ok-order-in-Some.ensures.room lands)) (sym is) (order_lands c.args.problem.now planned c.in_ok-order-in-Some.order.items end c.in_ok-order-in-Some.ensures.room lands))
 
 pub returns-else-not-retime : goal.returns-else-not-retime
 returns-else-not-retime g c =
-    let p = c.args.problem.now in
-    let n = length c.args.problem.now.flights in
-    let stages = c.args.kept.now.stages.items in
-    let columns = c.args.kept.now.columns.items in
-    let planned = well_formed_planned p c.len-n.ensures.well_formed in
-    let held = c.requires.held in
-    let lt : length c.args.problem.now.flights < length c.args.kept.now.stages.items = omega (arith, c.requires.whole) in
-    let lt' : c.len-n.result < length c.args.kept.now.columns.items = omega (arith, lt, c.len-n.ensures.value, c.requires.held.one_each) in
-    let el : c.index.result.now ≡ labels_at c.args.kept.now.columns.items (length c.args.problem.now.flights) =
-    read_labels c.args.kept.now.columns.items c.len-n.result c.index.result.now c.index.ensures lt' ∙ ap (labels_at c.args.kept.now.columns.items) c.len-n.ensures.value in
-    let some : (c.in-Some.place < length (labels_at c.args.kept.now.columns.items (length c.args.problem.now.flights)))
-    × ((i : ℕ) → i < length (labels_at c.args.kept.now.columns.items (length c.args.problem.now.flights)) → slice_index (labels_at c.args.kept.now.columns.items (length c.args.problem.now.flights)) c.in-Some.place ≤ slice_index (labels_at c.args.kept.now.columns.items (length c.args.problem.now.flights)) i) =
-    subst (λ (ls : List ℕ). (c.in-Some.place < length ls) × ((i : ℕ) → i < length ls → slice_index ls c.in-Some.place ≤ slice_index ls i)) el c.in-Some.ensures in
-    let end : ℕ = slice_index (labels_at c.args.kept.now.columns.items (length c.args.problem.now.flights)) c.in-Some.place in
+    let planned = well_formed_planned c.args.problem.now c.len-n.ensures.well_formed in
+    let l = last_read c.args.problem.now c.args.kept.now.stages.items c.args.kept.now.labels.items c.requires.held (omega (arith, c.requires.whole)) c.len-n.result c.index.result.now c.len-n.ensures.value c.index.ensures in
+    let end : Pair = last_pair (list_at (lists_at c.args.kept.now.labels.items (length c.args.problem.now.flights)) c.in-Some.place) in
     let lands = c.in_ok-order-in-Some.ensures.lands in
     let is : c.as_slice.result.now ≡ c.in_ok-order-in-Some.order.items = c.as_slice.ensures.value in
     let long : length c.retime.new.into ≡ length c.args.problem.now.flights = c.if-not-retime.ensures.room ∙ ap length c.in_ok-schedule.ensures ∙ length-replicate c.len-n.result 0 ∙ c.len-n.ensures.value in
-    plan_best p planned c.requires.objective c.in_ok-order-in-Some.order.items end c.in_ok-order-in-Some.ensures.room lands c.retime.new.into long
-    (subst (λ (l : List ℕ). EarliestInOrder p l c.retime.new.into) is (c.if-not-retime.ensures.earliest refl))
-    (λ x l. c.if-not-retime.ensures.least refl x (subst (λ (q : List ℕ). LandsInOrder p q x) (sym is) l))
+    plan_best c.args.problem.now planned c.in_ok-order-in-Some.order.items end c.in_ok-order-in-Some.ensures.room lands c.retime.new.into long
+    (subst (λ (o : List ℕ). EarliestInOrder c.args.problem.now o c.retime.new.into) is (c.if-not-retime.ensures.earliest refl))
+    (λ x lands. c.if-not-retime.ensures.least refl x (subst (λ (o : List ℕ). LandsInOrder c.args.problem.now o x) (sym is) lands))
     (λ u f.
-    let b = bounds p planned (stage_at c.args.kept.now.stages.items (length c.args.problem.now.flights)) (labels_at c.args.kept.now.columns.items (length c.args.problem.now.flights)) (held.number (length c.args.problem.now.flights) lt) (held.held (length c.args.problem.now.flights) lt) u f in
+    let b = bounds c.args.problem.now planned (stage_at c.args.kept.now.stages.items (length c.args.problem.now.flights)) c.index.result.now l.number l.held u f in
     let le = b.2 in
-    let least = some.1 b.0 b.1 in
+    let least : worth c.args.problem.now.objective (last_pair (list_at (lists_at c.args.kept.now.labels.items (length c.args.problem.now.flights)) c.in-Some.place)) ≤ worth c.args.problem.now.objective (last_pair (list_at c.index.result.now.lists b.0)) =
+    subst (λ (o : Objective). worth o (last_pair (list_at (lists_at c.args.kept.now.labels.items (length c.args.problem.now.flights)) c.in-Some.place)) ≤ worth o (last_pair (list_at c.index.result.now.lists b.0))) l.held.objective
+    (subst (λ (ls : StagePairs). worth c.index.result.now.objective (last_pair (list_at ls.lists c.in-Some.place)) ≤ worth c.index.result.now.objective (last_pair (list_at c.index.result.now.lists b.0))) l.is (c.in-Some.ensures.1 b.0 b.1)) in
     omega (arith, le, least))

@@ -5,5 +5,5 @@ use Rattle.replan.specs.Stages.{HoldsStages, HasCandidatesUpto, IsWholeWhere}
 use Rattle.replan.proofs.stages.fill_stages.Given as goal
 
 abbrev pub invariant-loop-stage : goal.invariant-loop-stage
-invariant-loop-stage g l = HoldsStages l.problem l.kept.stages.items l.kept.columns.items × IsWholeWhere l.problem l.kept.stages.items l.kept.last_is_whole × (vec_len l.kept.stages ≡ l._stage + 1)
+invariant-loop-stage g l = HoldsStages l.problem l.kept.stages.items l.kept.labels.items × IsWholeWhere l.problem l.kept.stages.items l.kept.last_is_whole × (vec_len l.kept.stages ≡ l._stage + 1)
     × ((due : ℕ) × HasCandidatesUpto l.problem l._stage due × (g.L.Ledger.count l.steps ≡ raised_by due (g.L.Ledger.count l.fn.steps)))

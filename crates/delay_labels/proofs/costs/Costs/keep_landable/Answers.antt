@@ -3,7 +3,7 @@ use Rattle.std.specs.Prelude.{All, nat_lt}
 use Rattle.cps_theory.specs.Labels.{Pair}
 use Rattle.cps_network.specs.Compacted.{kept_where}
 use Rattle.cps_network.specs.shared.KeptPlaces.{answers_are, all_kept, holds_as}
-use Rattle.delay_labels.specs.Pairs.{HoldsCosts}
+use Rattle.cps_network.specs.Pairs.{HoldsCosts}
 use Rattle.delay_labels.specs.Parts.{IsPart, lists_of}
 use Rattle.delay_labels.specs.Lists.{has_some, known_of}
 use Rattle.delay_labels.proofs.CompactLemmas.{parts_have, lists_kept, kept_costs}

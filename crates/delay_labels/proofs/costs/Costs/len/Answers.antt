@@ -1,7 +1,7 @@
 use Rattle.std.proofs.Common.{subst}
 use Rattle.std.specs.Prelude.{List, All}
 use Rattle.cps_theory.specs.Labels.{Pair}
-use Rattle.delay_labels.specs.Pairs.{list_at}
+use Rattle.cps_network.specs.Pairs.{list_at}
 use Rattle.delay_labels.specs.Parts.{IsInDays}
 use Rattle.delay_labels.proofs.PartLemmas.{lists_in_days}
 use Rattle.delay_labels.proofs.costs.Costs.len.Goals as goal

@@ -1,0 +1,31 @@
+-- The labels of a stage, for either objective: for each window the list of its undominated pairs of a second and a cost.
+use Rattle.std.specs.Prelude.{◌≡◌, ℕ, ℤ, ◌-◌, List, length}
+use Rattle.landing_rules.specs.declared.objective.Objective.{Objective}
+use Rattle.landing_rules.specs.declared.objective.Objective.TheVariants.{Makespan, Delay}
+use Rattle.landing_rules.specs.Problem.{Problem}
+use Rattle.cps_theory.specs.Labels.{Pair}
+use Rattle.cps_network.specs.Pairs.{AreCosts, HoldsCosts, pair_at}
+
+-- lists of pairs, and the objective that they are for
+pub record StagePairs : Type 0 where
+  pub objective : Objective
+  pub lists : List (List Pair)
+
+-- the pairs of the windows of a stage, a list each
+pub record ArePairs (p : Problem) (stage : ℕ × List (List ℤ)) (labels : StagePairs) : Type 0 where
+  pub objective : labels.objective ≡ p.objective
+  pub costs : AreCosts p stage labels.lists
+
+-- these are the landable windows of a stage, with their pairs
+pub record HoldsPairs (p : Problem) (stage : ℕ × List (List ℤ)) (labels : StagePairs) : Type 0 where
+  pub objective : labels.objective ≡ p.objective
+  pub held : HoldsCosts p stage labels.lists
+
+-- the last pair of a list, which is its cheapest where the list falls in cost
+abbrev pub last_pair : List Pair → Pair
+last_pair pairs = pair_at pairs (length pairs - 1)
+
+-- what a pair is worth: its second for the makespan, and its cost for the weighted delay
+abbrev pub worth : Objective → Pair → ℕ
+worth Makespan q = q.0
+worth Delay q = q.1

@@ -1,0 +1,197 @@
+//! The labels of a stage, for either objective.
+
+ghost use Rattle.std.specs.Prelude.{◌≡◌, ℕ, ◌+◌, ◌*◌, ◌<◌, List, [], ◌∷◌, length, IfOk, OnOk};
+ghost use Rattle.cps_base.specs.Tally.{raised_by};
+ghost use Rattle.cps_nodes.specs.Windows.{IsWidth};
+ghost use Rattle.cps_theory.specs.Network.{Undominated};
+ghost use Rattle.landing_rules.specs.Problem.{Problem};
+ghost use Rattle.cps_network.specs.Landable.{Attains, HasEachLandable};
+ghost use Rattle.cps_network.specs.Pairs.{GivesPair, list_at, pair_at};
+ghost use Rattle.cps_network.specs.Permits.{IsNextOf};
+ghost use Rattle.makespan_labels.specs.Labels.{no_label};
+ghost use Rattle.replan.specs.Labels.{ArePairs, HoldsPairs, last_pair, worth};
+
+use cps_base::{Ledger, Steps};
+use cps_network::{Stage, prefix_laws};
+use cps_nodes::Window;
+use cps_outside::Gate;
+use cps_problem::{Objective, Problem};
+use delay_labels::{Costs, fill_costs, source_pair};
+use makespan_labels::{Column, NO_LABEL, fill, source_of};
+use std::alloc::{AllocError, Global};
+use std::marker::Model;
+use std::thread::Threads;
+
+/// The labels of a stage, by the objective.
+#[derive(Drop)]
+pub(crate) enum ByObjective {
+    /// For the makespan: the least second of each window.
+    OfColumn(Column),
+    /// For the weighted delay: the pairs of each window.
+    OfCosts(Costs),
+}
+
+/// The labels of the windows of a stage, in their order. For either objective contracts see a list of pairs for each window:
+/// for the makespan its label with the cost 0, and no pair where it has no label.
+#[derive(Drop)]
+pub(crate) struct Labels {
+    kept: ByObjective,
+}
+
+impl Model for Labels {
+    ghost use Rattle.replan.specs.Labels.{StagePairs};
+    ghost use Rattle.replan.specs.LabelsOf.{pairs_of};
+
+    ghost Value = { StagePairs };
+
+    ghost view = { λ labels. pairs_of labels.kept };
+}
+
+impl Labels {
+    // The labels of stage 0: one list with the one pair (0, 0), whose second no rule reads as a landing.
+    pub(crate) fn start(alloc: Global, objective: Objective) -> Result<Labels, AllocError>
+        ensures { IfOk result (λ labels. labels ≡ record { objective = objective; lists = ((0, 0) ∷ []) ∷ [] }) }
+    {
+        match objective {
+            Objective::Makespan => {
+                let column = Column::start(alloc)?;
+                Ok(Labels {
+                    kept: ByObjective::OfColumn(column),
+                })
+            }
+            Objective::Delay => {
+                let costs = Costs::start(alloc)?;
+                Ok(Labels {
+                    kept: ByObjective::OfCosts(costs),
+                })
+            }
+        }
+    }
+
+    // How many lists there are.
+    pub(crate) fn len(&self) -> usize
+        ensures { result ≡ length self.now.lists }
+    {
+        match &self.kept {
+            ByObjective::OfColumn(column) => column.len(),
+            ByObjective::OfCosts(costs) => costs.len(),
+        }
+    }
+
+    // How many pairs the list at place i has.
+    pub(crate) fn count(&self, i: usize) -> usize
+        requires { i < length self.now.lists }
+        ensures { result ≡ length (list_at self.now.lists i) }
+    {
+        match &self.kept {
+            ByObjective::OfColumn(column) => (column.label(i) < NO_LABEL) as usize,
+            ByObjective::OfCosts(costs) => costs.count(i),
+        }
+    }
+
+    // The pair at index j of the list at place i.
+    pub(crate) fn pair(&self, i: usize, j: usize) -> (u32, u32)
+        requires place { i < length self.now.lists }
+        requires index { j < length (list_at self.now.lists i) }
+        ensures value { result ≡ pair_at (list_at self.now.lists i) j }
+        ensures known { result.0 < no_label }
+    {
+        match &self.kept {
+            ByObjective::OfColumn(column) => (column.label(i), 0),
+            ByObjective::OfCosts(costs) => costs.pair(i, j),
+        }
+    }
+
+    // What the last pair of the list at place i is worth: the least second or the least cost of the window there.
+    pub(crate) fn value(&self, i: usize) -> u32
+        requires place { i < length self.now.lists }
+        requires some { 0 < length (list_at self.now.lists i) }
+        ensures { result ≡ worth self.now.objective (last_pair (list_at self.now.lists i)) }
+    {
+        match &self.kept {
+            ByObjective::OfColumn(column) => column.label(i),
+            ByObjective::OfCosts(costs) => costs.pair(i, costs.count(i) - 1).1,
+        }
+    }
+
+    // The labels of the stage that follows, from those of this one. It ticks once a window.
+    pub(crate) fn next<const W: usize, R: Threads, G: Gate, L: Ledger>(
+        &self,
+        rt: &R,
+        alloc: Global,
+        problem: &Problem,
+        before: &Stage<W>,
+        stage: &Stage<W>,
+        gate: &G,
+        steps: &mut Steps<L>,
+    ) -> Result<Labels, AllocError>
+        requires width { W ≡ 2 * problem.now.k + 1 }
+        requires before { HoldsPairs problem.now before.now self.now }
+        requires number { stage.now.0 ≡ before.now.0 + 1 }
+        requires next { IsNextOf problem.now before.now.0 before.now.1 stage.now.1 }
+        ensures pairs { IfOk result (λ labels. ArePairs problem.now stage.now labels) }
+        ensures landable { OnOk result (HasEachLandable problem.now stage.now) }
+        ensures steps { OnOk result (L.count steps.new ≡ raised_by (length stage.now.1) (L.count steps.old)) }
+    {
+        match &self.kept {
+            ByObjective::OfColumn(labels) => {
+                let mut column = Column::new(alloc);
+                column.reserve(stage.len())?;
+                fill(rt, problem, before, labels, stage, &mut column, gate, steps);
+                Ok(Labels {
+                    kept: ByObjective::OfColumn(column),
+                })
+            }
+            ByObjective::OfCosts(labels) => {
+                let costs = fill_costs(rt, alloc, problem, before, labels, stage, gate, steps)?;
+                Ok(Labels {
+                    kept: ByObjective::OfCosts(costs),
+                })
+            }
+        }
+    }
+
+    // Keeps the windows and the lists at the places whose list is not empty, in order.
+    pub(crate) fn keep_landable<const W: usize>(&mut self, stage: &mut Stage<W>)
+        requires width { IsWidth W }
+        requires one_each { length self.old.lists ≡ length stage.old.1 }
+        ensures number { stage.new.0 ≡ stage.old.0 }
+
+        // Where none was left out, each window is still there.
+        ensures all { length self.new.lists ≡ length stage.old.1 → stage.new.1 ≡ stage.old.1 }
+
+        // What is left are the landable windows, where none was missing.
+        ensures landable { (p : Problem) → HasEachLandable p stage.old → ArePairs p stage.old self.old → HoldsPairs p stage.new self.new }
+    {
+        match &mut self.kept {
+            ByObjective::OfColumn(column) => column.keep_landable(stage),
+            ByObjective::OfCosts(costs) => costs.keep_landable(stage),
+        }
+    }
+
+    // The place of a window of this stage, and the index of a pair of it, that give this pair to a window of the next stage.
+    pub(crate) fn source<const W: usize>(
+        &self,
+        problem: &Problem,
+        before: &Stage<W>,
+        node: &Window<W>,
+        pair: (u32, u32),
+    ) -> (usize, usize)
+        requires width { W ≡ 2 * problem.now.k + 1 }
+        requires before { HoldsPairs problem.now before.now self.now }
+        requires number { before.now.0 < length problem.now.flights }
+        requires undominated { Undominated (Attains problem.now (before.now.0 + 1) node.now) pair }
+        requires known { pair.0 < no_label }
+        ensures { GivesPair problem.now before.now self.now.lists node.now pair result.0 result.1 }
+    {
+        prefix_laws::<W>(problem);
+        match &self.kept {
+            ByObjective::OfColumn(column) => {
+                (source_of(problem, before, column, node, pair.0), 0)
+            }
+            ByObjective::OfCosts(costs) => {
+                source_pair(problem, before, costs, node, pair.0, pair.1)
+            }
+        }
+    }
+}
