@@ -1,10 +1,12 @@
 -- What is due stage by stage, and that it is at most the widest stage for each flight.
-use Rattle.std.proofs.Common.{◌≡◌, ℕ, zero, suc, ◌+◌, ◌*◌, ◌^◌, ◌≤◌, List, [], length, Bool, true, false, Some, None, refl, sym, subst, arith, suc-mul}
+use Rattle.std.proofs.Common.{◌≡◌, ℕ, zero, suc, ◌+◌, ◌-◌, ◌*◌, ◌^◌, ◌<◌, ◌≤◌, ◌||◌, leb, ltb, List, [], length, Bool, true, false, Some, None, refl, sym, subst, arith, suc-mul}
 use Rattle.std.specs.Prelude.{ℤ}
+use Rattle.std.proofs.lemmas.Bool.{leb-true, le-leb, ltb-true, or_left}
 use Rattle.std.proofs.lemmas.List.Elements.{Contains-get_or}
 use Rattle.landing_rules.specs.Problem.{Problem}
 use Rattle.cps_nodes.specs.Windows.{IsWindow}
 use Rattle.cps_theory.specs.FirstDifference.{counts}
+use Rattle.cps_problem.specs.FirstDifference.{IsFirstDifference}
 use Rattle.cps_network.specs.Due.{HasCandidates, HasCandidatesIf, HasCandidatesWhere, DueIsBounded}
 use Rattle.cps_network.specs.Landable.{IsCandidate}
 use Rattle.cps_network.specs.Lists.{AreWindows, node_at}
@@ -20,6 +22,25 @@ none_due test p (suc n) none = (0, 0, subst (λ (b : Bool). HasCandidatesIf b p 
 -- one stage more that counts
 pub more_due : (test : ℕ → Bool) (p : Problem) (n before count : ℕ) → test (suc n) ≡ true → HasCandidatesWhere test p n before → HasCandidates p n count → HasCandidatesWhere test p (suc n) (before + count)
 more_due test p n before count passes due has = (count, before, subst (λ (b : Bool). HasCandidatesIf b p n count) (sym passes) has, due, refl)
+
+-- ---- which stages count
+
+-- from d - k on each stage counts
+pub counts_from : (d k last stage : ℕ) → d ≤ stage + k → counts d k last stage ≡ true
+counts_from d k last stage far = or_left (leb (d - k) stage) (ltb last stage) (le-leb (d - k) stage (omega arith))
+
+-- and below that none that is held
+pub counts_not : (d k last stage : ℕ) → stage + k < d → stage ≤ last → counts d k last stage ≡ false
+counts_not d k last stage near held = neither (leb (d - k) stage) (ltb last stage) (λ e. let a = leb-true (d - k) stage e in omega arith) (λ e. let a = ltb-true last stage e in omega arith)
+  where
+    neither : (a b : Bool) → (a ≡ true → ⊥) → (b ≡ true → ⊥) → (a || b) ≡ false
+    neither true b x y = absurd (x refl)
+    neither false true x y = absurd (y refl)
+    neither false false x y = refl
+
+-- with all stages of a problem held, what is due is that of the stages from d - k on
+pub counts_held : (held p : Problem) (d stage : ℕ) → IsFirstDifference held p d → stage + p.k < d → counts d p.k (length held.flights) stage ≡ false
+counts_held held p d stage is near = counts_not d p.k (length held.flights) stage near (let a = is.within.0 in omega arith)
 
 -- ---- the bound
 
