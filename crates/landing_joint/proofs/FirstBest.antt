@@ -1,12 +1,13 @@
 -- The first best list of a problem gives the first best schedule of its situation, and there is at most one.
 use Rattle.std.proofs.Common.{◌≡◌, ◌≢◌, ℕ, zero, suc, ◌<◌, ◌≤◌, inl, inr, List, [], ◌∷◌, length, get_or, map, filter, cond, Bool, true, false, not, nat_lt, zero-le, le_antisymm, arith, refl, sym, ap, subst, ◌∙◌}
+use Rattle.std.specs.Prelude.{Option, Some, None, option_map}
 use Rattle.std.proofs.lemmas.Bool.{cases_eq, cases_Bool}
 use Rattle.wake_table.specs.Table.{IsWakeTable}
 use Rattle.landing_rules.specs.Flights.{Active, Situation, Schedule, Landing, landings, waiting}
 use Rattle.landing_rules.specs.Rules.{IsFeasible, IsBest, IsTight, HaveSameOrder, objective, rank, waits}
-use Rattle.landing_rules.specs.Events.{insert_landing, in_landing_order}
+use Rattle.landing_rules.specs.Events.{insert_landing, in_landing_order, IsPlanShown}
 use Rattle.landing_rules.specs.Problem as lists'
-use Rattle.landing_rules.specs.FirstBest.{ComesNoLater, IsFirstBest, IsFirstBestList, order_of, order_of_list, insert_by, sorted_by}
+use Rattle.landing_rules.specs.FirstBest.{ComesNoLater, IsFirstBest, IsFirstPlan, IsFirstBestList, IsFirstList, order_of, order_of_list, insert_by, sorted_by}
 use Rattle.landing_rules.specs.Sound.{IsSound}
 use Rattle.cps_theory.specs.RankLists.{In, IsRank, of_rank}
 use Rattle.cps_theory.specs.Freeze.{rank_in}
@@ -27,7 +28,7 @@ use Rattle.landing_joint.specs.shared.SortedBySeconds.{in_sorted_by, sorted_by_i
 use Rattle.landing_joint.specs.shared.FirstBestLists.{zip_get, zip_same, first_best_list_exists, first_best_list_is_one, no_later_antisym, list_in_landing_order, one_landing_order}
 use Rattle.landing_joint.proofs.Numbered.{landing_at, landings_are}
 use Rattle.landing_joint.proofs.Joint.{all_among, feasible_numbered, first_come, sound_numbered}
-use Rattle.landing_joint.proofs.JoinedSchedule.{map_agree, rank_is, tight_list_schedule}
+use Rattle.landing_joint.proofs.JoinedSchedule.{joined_in_words, map_agree, rank_is, tight_list_schedule}
 use Rattle.landing_joint.proofs.Problem as joint
 
 -- landings in order are those of the numbers in order
@@ -318,3 +319,19 @@ module _ (p : lists'.Problem) (is : IsSoundProblem p) where
 
   pub some_first_best_list : (v : Schedule) → lists'.IsFeasibleList p v → (w : Schedule) × IsFirstBestList p w
   some_first_best_list = first_best_list_exists p ranked_sound passed_at
+
+-- ---- plans
+
+pub first_plan_is_one : (s : Situation) (plan other : Option Schedule) → IsSound s → IsFirstPlan s plan → IsFirstPlan s other → plan ≡ other
+first_plan_is_one s None None sound a b = refl
+first_plan_is_one s None (Some u) sound a b = absurd (a u b.best.feasible)
+first_plan_is_one s (Some t) None sound a b = absurd (b t a.best.feasible)
+first_plan_is_one s (Some t) (Some u) sound a b = ap Some (first_best_is_one s sound t u a b)
+
+pub first_plan_is_shown : (s : Situation) (plan : Option Schedule) → IsFirstPlan s plan → IsPlanShown s plan
+first_plan_is_shown s None a = a
+first_plan_is_shown s (Some t) a = (a.best, a.tight)
+
+pub first_list_gives_plan : (s : Situation) (p : lists'.Problem) (list : Option Schedule) → IsSound s → lists'.IsProblemOf s p → IsFirstList p list → IsFirstPlan s (option_map (lists'.joined s) list)
+first_list_gives_plan s p None sound of a = λ t f. let w = joint.schedule_gives_list s sound p of t f in a w.0 w.1
+first_list_gives_plan s p (Some v) sound of a = subst (IsFirstBest s) (sym (joined_in_words s sound v)) (first_best_schedule s sound p of v a)

@@ -1,10 +1,13 @@
 -- Orders of least choices by completing pairs, and the completing pairs of a node from those of its successors.
-use Rattle.std.specs.Prelude.{◌≡◌, ℕ, ◌<◌, List, ◌∷◌, length}
+use Rattle.std.specs.Prelude.{◌≡◌, ℕ, ◌<◌, ◌≤◌, List, ◌∷◌, length, ◌↔◌}
 use Rattle.landing_rules.specs.Problem.{Problem}
 use Rattle.landing_rules.specs.FirstBest.{IsFirstBestList}
 use Rattle.cps_theory.specs.Separation.{Landing}
+use Rattle.cps_theory.specs.LandingTrail.{latest_landing, ranks}
+use Rattle.cps_theory.specs.ProblemNetwork.{LandedIn}
 use Rattle.cps_theory.specs.Labels.{InPairs, Pair}
-use Rattle.cps_theory.specs.CompletingPairs.{KeptCompleting}
+use Rattle.cps_theory.specs.CompletingPairs.{KeptCompleting, NoEarlierNoDearer, UndominatedCompleting}
+use Rattle.landing_joint.specs.RankedProblem.{ranked}
 use Rattle.landing_joint.specs.SoundProblem.{IsSoundProblem}
 use Rattle.landing_joint.specs.CompletingPairs.{AreCompletingPairs, AreLeastChoices, AreOneNode, CanChoose, CanLandBy, Cover, IsCompletingPair, IsLastPair, IsLeastObjective, IsLegal, IsSuccessorPair, seconds_by_rank}
 
@@ -31,3 +34,11 @@ SuccessorPairsLaw = (p : Problem) (v : ℕ) (lists : List ℕ → List Pair) (rs
 -- prefixes of one node have the same completing pairs
 abbrev pub OneNodeLaw : Type 0
 OneNodeLaw = (p : Problem) (v : ℕ) (rs os : List ℕ) (q : Pair) → IsSoundProblem p → IsLegal p rs → IsLegal p os → AreOneNode rs os → IsCompletingPair p v rs q → IsCompletingPair p v os q
+
+-- where a second is the earliest by which a node can land, it can land by that one and by each later one alone
+abbrev pub EarliestOfNodeLaw : Type 0
+EarliestOfNodeLaw = (p : Problem) (rs : List ℕ) (e b : ℕ) → CanLandBy p rs e → ((xs : List Landing) → IsLegal p (ranks xs) → LandedIn (ranked p) xs → AreOneNode (ranks xs) rs → e ≤ (latest_landing xs).1) → CanLandBy p rs b ↔ (e ≤ b)
+
+-- completing pairs of which none is at least as late and at most as dear as another are the undominated ones
+abbrev pub UndominatedPairsLaw : Type 0
+UndominatedPairsLaw = (p : Problem) (v : ℕ) (rs : List ℕ) (pairs : List Pair) → KeptCompleting (IsCompletingPair p v rs) (λ q. InPairs q pairs) → ((q o : Pair) → InPairs q pairs → InPairs o pairs → NoEarlierNoDearer q o → q ≡ o) → (q : Pair) → InPairs q pairs ↔ UndominatedCompleting (IsCompletingPair p v rs) q

@@ -1,8 +1,8 @@
 //! What holds of every situation, problem and clock event.
 
 ghost use Rattle.landing_joint.specs.ProblemLaws.{ListGivesScheduleLaw, ScheduleGivesListLaw, SameObjectiveLaw, BestListLaw, TightListLaw, NoListLaw};
-ghost use Rattle.landing_joint.specs.FirstBestLaws.{FirstBestListLaw, FirstBestIsOneLaw, FirstBestObjectiveLaw, FirstBestExistsLaw, SoundProblemLaw, FirstBestListIsOneLaw, FirstBestListExistsLaw};
-ghost use Rattle.landing_joint.specs.LeastChoiceLaws.{LeastChoicesLaw, ChoiceLaw, LastPairsLaw, SuccessorPairsLaw, OneNodeLaw};
+ghost use Rattle.landing_joint.specs.FirstBestLaws.{FirstBestListLaw, FirstBestIsOneLaw, FirstBestObjectiveLaw, FirstBestExistsLaw, FirstPlanIsOneLaw, FirstPlanIsShownLaw, FirstListGivesPlanLaw, SoundProblemLaw, FirstBestListIsOneLaw, FirstBestListExistsLaw};
+ghost use Rattle.landing_joint.specs.LeastChoiceLaws.{LeastChoicesLaw, ChoiceLaw, LastPairsLaw, SuccessorPairsLaw, OneNodeLaw, EarliestOfNodeLaw, UndominatedPairsLaw};
 ghost use Rattle.landing_joint.specs.ClockLaws.{ClockKeepsPlanLaw, ClockShowsPlanLaw, ClockKeepsSoundLaw};
 ghost use Rattle.landing_joint.specs.StepLaws.{EventKeepsSoundLaw, StepKeepsSoundLaw, RunKeepsSoundLaw};
 ghost use Rattle.landing_joint.specs.PassedOver.{ClockCountsLaw, StepCountsLaw, FewPassLaw, FewPassLaterLaw, FewPassFirstLaw, ClockCountsExactlyLaw, FewPassAnyoneLaw};
@@ -29,6 +29,14 @@ pub fn first_best_schedule_is_one()
     ensures objective { FirstBestObjectiveLaw }
 {}
 
+/// The first plan of a sound situation is a first best schedule, or none where none is feasible. It is one, it is a plan
+/// that may be shown, and it is the first list of the problem, if there is one, joined with the frozen landings.
+pub fn first_plan_is_one()
+    ensures one { FirstPlanIsOneLaw }
+    ensures shown { FirstPlanIsShownLaw }
+    ensures list { FirstListGivesPlanLaw }
+{}
+
 /// Where a list of seconds by rank is feasible for a sound problem there is a first best list, and it is one. The problem
 /// of a sound situation is sound.
 pub fn first_best_list_is_one()
@@ -45,11 +53,14 @@ pub fn least_choices_are_first_best()
 {}
 
 /// The completing pairs of a node of the last stage are those of the open seconds by which it can land; those of another
-/// node come from those of the nodes behind it. Prefixes of one node have the same.
+/// node come from those of the nodes behind it. Prefixes of one node have the same, a node can land from its earliest
+/// second on, and the undominated pairs are those that are kept where none of them is the worse.
 pub fn completing_pairs_from_successors()
     ensures last { LastPairsLaw }
     ensures before { SuccessorPairsLaw }
     ensures node { OneNodeLaw }
+    ensures earliest { EarliestOfNodeLaw }
+    ensures undominated { UndominatedPairsLaw }
 {}
 
 /// An accepted clock event that finds a plan shown keeps it feasible with an equal objective, shows a plan again that is

@@ -1,12 +1,12 @@
 -- The first best schedule: of the best and tight ones, the one whose waiting flights land in the least order of ranks.
 -- The same for lists of seconds by rank. This project's own.
-use Rattle.std.specs.Prelude.{ℕ, ◌+◌, ◌-◌, List, [], ◌∷◌, slice_index, nat_lt, IsTrue, filter, map, if◌then◌else◌}
+use Rattle.std.specs.Prelude.{ℕ, ◌+◌, ◌-◌, List, [], ◌∷◌, slice_index, nat_lt, Option, IsTrue, MatchOption, filter, map, if◌then◌else◌}
 use Rattle.std.specs.Ordering.{nat_cmp, is_le}
 use Rattle.std.specs.Cmp.Lexicographic.{slice_cmp}
 use Rattle.landing_rules.specs.Flights.{Situation, Schedule, landings, waiting}
-use Rattle.landing_rules.specs.Rules.{rank, waits, IsBest, IsTight}
+use Rattle.landing_rules.specs.Rules.{rank, waits, IsFeasible, IsBest, IsTight}
 use Rattle.landing_rules.specs.Events.{in_landing_order}
-use Rattle.landing_rules.specs.Problem.{Problem, IsBestList, IsTightList}
+use Rattle.landing_rules.specs.Problem.{Problem, IsFeasibleList, IsBestList, IsTightList}
 
 -- the first place at which the orders differ has the lesser rank in a, if there is one
 abbrev pub ComesNoLater : List ℕ → List ℕ → Type 0
@@ -23,6 +23,10 @@ pub record IsFirstBest (s : Situation) (t : Schedule) : Type 0 where
   pub best : IsBest s t
   pub tight : IsTight s t
   pub first : (u : Schedule) → IsBest s u → IsTight s u → ComesNoLater (order_of s t) (order_of s u)
+
+-- the first plan is the first best schedule, and is none exactly where no schedule is feasible
+abbrev pub IsFirstPlan : Situation → Option Schedule → Type 0
+IsFirstPlan s plan = MatchOption plan ((t : Schedule) → IsFeasible s t → ⊥) (λ t. IsFirstBest s t)
 
 -- ---- lists of seconds by rank
 
@@ -52,3 +56,7 @@ pub record IsFirstBestList (p : Problem) (t : Schedule) : Type 0 where
   pub best : IsBestList p t
   pub tight : IsTightList p t
   pub first : (u : Schedule) → IsBestList p u → IsTightList p u → ComesNoLater (order_of_list t) (order_of_list u)
+
+-- the same of lists
+abbrev pub IsFirstList : Problem → Option Schedule → Type 0
+IsFirstList p list = MatchOption list ((t : Schedule) → IsFeasibleList p t → ⊥) (λ t. IsFirstBestList p t)
