@@ -7,3 +7,8 @@ pub mod Pairs
 pub mod Ranks
 pub mod Shapes
 pub mod Sound
+pub mod PermitTests
+pub mod WholeStates
+pub mod WholeFinal
+pub mod WholeLandings
+pub mod WholeVerdict

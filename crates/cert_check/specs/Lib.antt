@@ -3,3 +3,4 @@ pub mod States
 pub mod Verdict
 pub mod Meaning
 pub mod Seen
+pub mod Whole

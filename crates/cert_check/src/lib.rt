@@ -5,6 +5,7 @@
 mod closure;
 mod judging;
 mod landed;
+mod laws;
 mod node;
 mod objective;
 mod permitted;
@@ -13,6 +14,7 @@ mod shape;
 mod verdict;
 
 pub use judging::judge;
+pub use laws::whole_certificates_are_accepted;
 pub use verdict::{Reason, Verdict};
 
 #[cfg(test)]
