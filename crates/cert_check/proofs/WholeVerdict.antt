@@ -12,7 +12,8 @@ use Rattle.cert_check.specs.declared.verdict.Reason.{Reason}
 use Rattle.cert_check.specs.Landings.{Landings}
 use Rattle.cert_check.specs.States.{successor_failure, final_failure}
 use Rattle.cert_check.specs.Verdict.{flights_reason, claim_reason, state_reason, failure, verdict_by, verdict_of}
-use Rattle.cert_check.specs.Whole.{AreWholeStates, IsAnswered, IsWhole, claimed}
+use Rattle.cert_check.specs.Whole.{AreWholeStates, IsAnswered, IsWhole}
+use Rattle.cert_check.specs.WholeLaws.{claimed}
 use Rattle.cert_check.proofs.WholeStates.{none_misshapen, start_misses_none, states_miss_none}
 use Rattle.cert_check.proofs.WholeFinal.{optimal_final, infeasible_final}
 use Rattle.cert_check.proofs.WholeLandings.{no_reason}

@@ -4,3 +4,4 @@ pub mod Verdict
 pub mod Meaning
 pub mod Seen
 pub mod Whole
+pub mod WholeLaws

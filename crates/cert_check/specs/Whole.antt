@@ -1,5 +1,5 @@
--- A certificate that leaves nothing out: of each node where some landing can end exactly the undominated pairs, and the landings of a best
--- list, or none where nothing is feasible. The judge accepts it.
+-- A certificate that leaves nothing out: the states are those where some prefix lands, each with exactly the undominated pairs,
+-- and the landings are a best list, or there is none where nothing is feasible.
 use Rattle.std.specs.Prelude.{◌≡◌, ◌≤◌, ◌↔◌, List, [], true, All, Contains}
 use Rattle.landing_rules.specs.Problem.{Problem}
 use Rattle.cps_theory.specs.Feasible.{next_from}
@@ -8,17 +8,13 @@ use Rattle.cps_theory.specs.LegalPrefix.{Legal}
 use Rattle.cps_theory.specs.Network.{Attained, Undominated}
 use Rattle.cps_theory.specs.Patterns.{PatternNode, pattern_node}
 use Rattle.landing_joint.specs.RankedProblem.{ranked, cost_at}
-use Rattle.cps_problem.specs.WellFormed.{IsWellFormed}
 use Rattle.certificate.specs.declared.certificate.Claim.{Claim}
 use Rattle.certificate.specs.declared.certificate.Claim.TheVariants as claim
 use Rattle.certificate.specs.States.{State, AreAscending, rises}
 use Rattle.certificate.specs.Reading.{Cert}
-use Rattle.cert_check.specs.declared.verdict.Verdict.{Verdict}
-use Rattle.cert_check.specs.declared.verdict.Verdict.TheVariants as verdict
 use Rattle.cert_check.specs.Landings.{Landings}
 use Rattle.cert_check.specs.Meaning.{IsShownOptimal, NothingIsFeasible}
 use Rattle.cert_check.specs.States.{node_of, rules_of}
-use Rattle.cert_check.specs.Verdict.{verdict_of}
 
 -- a legal prefix of this stage, placed set and last rank can land at open seconds that are late enough one after another, the
 -- last of them at this second and all of them at this cost
@@ -53,12 +49,3 @@ IsAnswered p claim.Infeasible ls = (ls ≡ []) × NothingIsFeasible p
 pub record IsWhole (p : Problem) (c : Cert) : Type 0 where
   pub answer : IsAnswered p c.claim c.landings
   pub states : AreWholeStates p c.states
-
--- what is claimed, as a verdict
-abbrev pub claimed : Claim → Verdict
-claimed (claim.Optimal v) = verdict.Optimal v
-claimed claim.Infeasible = verdict.Infeasible
-
--- a whole certificate is accepted
-abbrev pub WholeIsAcceptedLaw : Type 0
-WholeIsAcceptedLaw = (p : Problem) (c : Cert) → IsWellFormed p → IsWhole p c → verdict_of p c ≡ claimed c.claim

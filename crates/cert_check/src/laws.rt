@@ -1,10 +1,18 @@
-//! What holds of every certificate.
+//! What holds of certificates that leave nothing out.
 
-ghost use Rattle.cert_check.specs.Whole.{WholeIsAcceptedLaw};
+ghost use Rattle.cert_check.specs.WholeLaws.{WholeIsAcceptedLaw, KeptIsWholeLaw, WholeIsUniqueLaw, WholeIsInFormLaw};
 
 /// A certificate that leaves nothing out is accepted with what it claims: its states are exactly those where some legal prefix
 /// lands, each with exactly the undominated pairs, and its landings are a best list, or there is none where nothing is
 /// feasible.
 pub fn whole_certificates_are_accepted()
     ensures { WholeIsAcceptedLaw }
+{}
+
+/// Pairs kept of a state, of which none is worse than another, are exactly its undominated ones; the states that leave nothing
+/// out are fixed by the problem, and keep the form of a certificate's.
+pub fn whole_states_are_fixed()
+    ensures kept { KeptIsWholeLaw }
+    ensures unique { WholeIsUniqueLaw }
+    ensures in_form { WholeIsInFormLaw }
 {}
