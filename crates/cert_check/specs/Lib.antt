@@ -5,3 +5,4 @@ pub mod Meaning
 pub mod Seen
 pub mod Whole
 pub mod WholeLaws
+pub mod PlacedBits

@@ -1,5 +1,6 @@
 //! What holds of certificates that leave nothing out.
 
+ghost use Rattle.cert_check.specs.PlacedBits.{PatternOfBitsLaw, DigitsAreBitsLaw};
 ghost use Rattle.cert_check.specs.WholeLaws.{WholeIsAcceptedLaw, KeptIsWholeLaw, WholeIsUniqueLaw, WholeIsInFormLaw};
 
 /// A certificate that leaves nothing out is accepted with what it claims: its states are exactly those where some legal prefix
@@ -15,4 +16,10 @@ pub fn whole_states_are_fixed()
     ensures kept { KeptIsWholeLaw }
     ensures unique { WholeIsUniqueLaw }
     ensures in_form { WholeIsInFormLaw }
+{}
+
+/// The node of a prefix by the set of its ranks: its digits are bits of that set.
+pub fn patterns_are_bits()
+    ensures pattern { PatternOfBitsLaw }
+    ensures digits { DigitsAreBitsLaw }
 {}

@@ -1,7 +1,7 @@
 //! That windows follow the legal prefixes of a problem, as laws.
 
 ghost use Rattle.std.specs.Prelude.{◌≡◌, ◌+◌, ◌*◌};
-ghost use Rattle.cps_network.specs.Nodes.{IsWindowNetwork, StepsAreWhole};
+ghost use Rattle.cps_network.specs.Nodes.{IsWindowNetwork, StepsAreWhole, TellTheirRanks};
 ghost use Rattle.cps_network.specs.Permits.{LeadAlike};
 
 use cps_nodes::window_laws;
@@ -15,6 +15,16 @@ pub fn prefix_laws<const W: usize>(problem: &Problem)
     ensures network { IsWindowNetwork problem.now }
     ensures whole { StepsAreWhole problem.now }
     ensures sources { LeadAlike problem.now W }
+{
+    let _near = problem.head();
+    let _in_range = problem.pairs().all_before(1, 0);
+    window_laws::<W>();
+}
+
+/// The windows of a problem tell the ranks of their prefixes. The call does nothing: it tells its caller the law.
+pub fn windows_tell_their_ranks<const W: usize>(problem: &Problem)
+    requires { W ≡ 2 * problem.now.k + 1 }
+    ensures { TellTheirRanks problem.now }
 {
     let _near = problem.head();
     let _in_range = problem.pairs().all_before(1, 0);
