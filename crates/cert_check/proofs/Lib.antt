@@ -12,7 +12,6 @@ pub mod WholeStates
 pub mod WholeFinal
 pub mod WholeLandings
 pub mod WholeVerdict
-pub mod OneList
 pub mod WholeUnique
 pub mod WholeForm
 pub mod PlacedBits

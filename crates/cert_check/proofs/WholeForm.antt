@@ -23,7 +23,7 @@ use Rattle.certificate.specs.States.{State, IsState, AreStates, is_pair}
 use Rattle.cert_check.specs.Landings.{count}
 use Rattle.cert_check.specs.States.{node_of, rules_of}
 use Rattle.cert_check.specs.Whole.{IsWholeState, AreWholeStates}
-use Rattle.cert_check.proofs.OneList.{AscendBy, Among, all_among}
+use Rattle.cert_check.specs.shared.OneList.{AscendBy, Among, all_among}
 use Rattle.cert_check.proofs.Sound.{sound_problem}
 use Rattle.cert_check.proofs.WholeUnique.{ascending}
 

@@ -1,70 +1,20 @@
--- What is kept of a state are its undominated pairs, and a problem has one list of states that leaves nothing out.
-use Rattle.std.proofs.Common.{◌≡◌, ◌<◌, ◌≤◌, inl, inr, true, List, [], ◌∷◌, length, refl, sym, ap, subst, ◌∙◌, arith}
+-- A problem has one list of states that leaves nothing out.
+use Rattle.std.proofs.Common.{◌≡◌, inl, inr, true, List, [], ◌∷◌, refl, sym, ap, subst, ◌∙◌}
 use Rattle.std.specs.Ordering.{is_lt}
 use Rattle.std.specs.declared.cmp.Ordering.{Ordering}
 use Rattle.std.specs.declared.cmp.Ordering.TheVariants.{Less, Equal, Greater}
-use Rattle.std.proofs.lemmas.Bool.{and_parts, ltb-true}
 use Rattle.std.proofs.lemmas.Cmp.{tied_itself}
 use Rattle.landing_rules.specs.Problem.{Problem}
-use Rattle.cps_theory.specs.Labels.{InPairs, NoWorse, Pair}
-use Rattle.cps_theory.specs.Network.{Kept, Undominated}
+use Rattle.cps_theory.specs.Labels.{InPairs, Pair}
+use Rattle.cps_theory.specs.Network.{Undominated}
 use Rattle.cps_theory.specs.Patterns.{PatternNode}
 use Rattle.cps_theory.specs.CertificateClosure.{node_cmp}
-use Rattle.cps_theory.specs.laws.NetworkLabels.{kept_undominated, undominated_kept}
 use Rattle.cps_theory.specs.laws.NodeOrder.{node_total}
-use Rattle.certificate.specs.States.{State, AreAscending, rises}
+use Rattle.certificate.specs.States.{State, AreAscending}
 use Rattle.cert_check.specs.States.{node_of}
 use Rattle.cert_check.specs.Whole.{Attains, IsWholeState, AreWholeStates}
-use Rattle.cert_check.proofs.OneList.{Among, AscendBy, all_among, contained_among, one_list}
-
--- ---- pairs
-
--- later and cheaper
-abbrev Behind : Pair → Pair → Type 0
-Behind a b = (a.0 < b.0) × (b.1 < a.1)
-
-falling : (ps : List Pair) → rises ps ≡ true → AscendBy Behind ps
-falling [] h = tt
-falling (a ∷ []) h = (λ b i. absurd i, tt)
-falling (a ∷ b ∷ ps) h =
-    let t = and_parts _ _ h in
-    let s = and_parts _ _ t.0 in
-    let x = ltb-true a.0 b.0 s.0 in
-    let y = ltb-true b.1 a.1 s.1 in
-    let rest = falling (b ∷ ps) t.1 in
-    (λ c i. elim i [ inl e ↦ subst (Behind a) (sym e) (x, y) | inr j ↦ (let m = rest.0 c j in let u = m.0 in let v = m.1 in (omega arith, omega arith)) ], rest)
-
-never_behind : (a : Pair) → Behind a a → ⊥
-never_behind a h = let x = h.0 in absurd (omega arith)
-
-behind_trans : (a b c : Pair) → Behind a b → Behind b c → Behind a c
-behind_trans a b c h k = let x = h.0 in let y = k.0 in let u = h.1 in let v = k.1 in (omega arith, omega arith)
-
-none_worse : (ps : List Pair) → AscendBy Behind ps → (a b : Pair) → InPairs a ps → InPairs b ps → NoWorse a b → a ≡ b
-none_worse [] f a b i j le = absurd i
-none_worse (x ∷ ps) f a b (inl e) (inl g) le = e ∙ sym g
-none_worse (x ∷ ps) f a b (inl e) (inr j) le = absurd (let m = (f.0 b j).1 in let s = ap (λ (z : Pair). z.1) e in let l = le.1 in omega arith)
-none_worse (x ∷ ps) f a b (inr i) (inl g) le = absurd (let m = (f.0 a i).0 in let s = ap (λ (z : Pair). z.0) g in let l = le.0 in omega arith)
-none_worse (x ∷ ps) f a b (inr i) (inr j) le = none_worse ps f.1 a b i j le
-
-first_pair : (ps : List Pair) → 1 ≤ length ps → (q : Pair) × InPairs q ps
-first_pair [] h = absurd (omega arith)
-first_pair (q ∷ ps) h = (q, inl refl)
-
--- kept pairs of which none is worse than another are the undominated ones
-pub kept_is_whole : (p : Problem) (s : State) → 1 ≤ s.stage → 1 ≤ length s.pairs → Kept (Attains p (node_of s)) (λ q. InPairs q s.pairs) → rises s.pairs ≡ true → IsWholeState p s
-kept_is_whole p s begun some kept rising =
-    let q = first_pair s.pairs some in
-    let anti = none_worse s.pairs (falling s.pairs rising) in
-    record {
-      begun = begun;
-      landable = (q.0, kept.attained q.0 q.1);
-      undominated = λ x. (kept_undominated (Attains p (node_of s)) (λ q. InPairs q s.pairs) kept anti x, undominated_kept (Attains p (node_of s)) (λ q. InPairs q s.pairs) kept x);
-      covers = kept.covers;
-      rising = rising;
-    }
-
--- ---- states
+use Rattle.cert_check.specs.shared.OneList.{Among, AscendBy, all_among, contained_among, one_list}
+use Rattle.cert_check.specs.shared.KeptPairs.{Behind, falling, never_behind, behind_trans}
 
 -- its node comes before the other's
 abbrev Before : State → State → Type 0

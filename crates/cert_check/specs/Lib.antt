@@ -6,3 +6,4 @@ pub mod Seen
 pub mod Whole
 pub mod WholeLaws
 pub mod PlacedBits
+pub mod shared

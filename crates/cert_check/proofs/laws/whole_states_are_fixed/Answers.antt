@@ -1,5 +1,6 @@
 -- States that leave nothing out.
-use Rattle.cert_check.proofs.WholeUnique.{kept_is_whole, whole_is_unique}
+use Rattle.cert_check.specs.shared.KeptPairs.{kept_is_whole}
+use Rattle.cert_check.proofs.WholeUnique.{whole_is_unique}
 use Rattle.cert_check.proofs.WholeForm.{whole_in_form}
 use Rattle.cert_check.proofs.laws.whole_states_are_fixed.Goals as goal
 
