@@ -1,6 +1,6 @@
 -- The entries of a stage keep the pairs of its nodes.
-use Rattle.std.proofs.Common.{◌≡◌, ℕ, true, ◌+◌, ◌<◌, ◌≤◌, List, [], ◌∷◌, length, refl, sym, ap, ap₂, subst, ◌∙◌, arith}
-use Rattle.std.specs.Prelude.{ℤ, pos, ◌↔◌, Contains, slice_index}
+use Rattle.std.proofs.Common.{◌≡◌, ℕ, true, ◌<◌, ◌≤◌, List, [], ◌∷◌, length, refl, sym, ap, ap₂, subst, ◌∙◌, arith}
+use Rattle.std.specs.Prelude.{ℤ, pos, ◌↔◌, slice_index}
 use Rattle.std.proofs.lemmas.List.{get_or_default}
 use Rattle.precedence.specs.Pairs.{HasBit}
 use Rattle.landing_rules.specs.declared.objective.Objective.{Objective}
@@ -9,7 +9,7 @@ use Rattle.landing_rules.specs.Problem.{Problem, Waiting}
 use Rattle.cps_theory.specs.RankLists.{In, of_rank}
 use Rattle.cps_theory.specs.Separation.{Landing}
 use Rattle.cps_theory.specs.Feasible.{next_from}
-use Rattle.cps_theory.specs.LandingTrail.{cost_of, last_rank, latest_landing, pair_of, ranks}
+use Rattle.cps_theory.specs.LandingTrail.{cost_of, last_rank, latest_landing, ranks}
 use Rattle.cps_theory.specs.Labels.{NoWorse, Pair}
 use Rattle.cps_theory.specs.LegalPrefix.{Legal}
 use Rattle.cps_theory.specs.Network.{Attained, Kept}
@@ -22,8 +22,7 @@ use Rattle.cps_nodes.specs.Windows.{IsPlaced}
 use Rattle.cps_network.specs.Landable.{IsLandable, HoldsLandable}
 use Rattle.cps_network.specs.Lists.{node_at}
 use Rattle.cps_network.specs.Nodes.{Node, node_of, latest, IsWindowNetwork, TellTheirRanks}
-use Rattle.makespan_labels.specs.Labels.{HoldsLabels, IsLabel, CanLandAt}
-use Rattle.delay_labels.specs.Pairs.{HoldsCosts}
+use Rattle.makespan_labels.specs.Labels.{IsLabel, CanLandAt}
 use Rattle.cert_check.specs.PlacedBits.{digits_of, PatternOfBitsLaw}
 use Rattle.cert_check.specs.Whole.{Attains}
 use Rattle.whole_states.specs.StageEntries.{node_by, TellPlaced, IsEntry, InList, HasLabel, DelayEntries, MakespanEntries, EndWithFlights}

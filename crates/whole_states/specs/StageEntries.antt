@@ -13,7 +13,9 @@ use Rattle.cps_network.specs.Nodes.{latest}
 use Rattle.makespan_labels.specs.Labels.{HoldsLabels}
 use Rattle.delay_labels.specs.Pairs.{HoldsCosts, list_at}
 use Rattle.cert_check.specs.PlacedBits.{digits_of}
-use Rattle.cert_check.specs.Whole.{Attains}
+use Rattle.certificate.specs.States.{State}
+use Rattle.cert_check.specs.Whole.{Attains, AreWholeStates}
+use Rattle.cert_check.specs.shared.KeptPairs.{HoldAllEntries}
 
 -- the node of a window of a stage, by the bits of its placed ranks
 abbrev pub node_by : Problem → ℕ → ℕ → List ℤ → PatternNode
@@ -50,3 +52,24 @@ MakespanEntries p = p.objective ≡ Makespan → (stage : ℕ × List (List ℤ)
 -- no node is behind the last flight
 abbrev pub EndWithFlights : Problem → Type 0
 EndWithFlights p = (d : PatternNode) (q : Pair) → Attains p d q → d.0 ≤ length p.flights
+
+-- ---- all stages
+
+-- an entry of the stage of its node
+abbrev pub IsEntryOf : Problem → (ℕ → ℕ × List (List ℤ)) → (ℕ → ℕ → ℕ) → (ℕ → ℕ → Pair → Type 0) → PatternNode → Pair → Type 0
+IsEntryOf p stages sets Has d q = (d.0 ≤ length p.flights) × IsEntry p (stages d.0) (sets d.0) (Has d.0) d q
+
+-- each stage behind the start has its number, and sets that tell what its windows place
+abbrev pub AreStagesWith : Problem → (ℕ → ℕ × List (List ℤ)) → (ℕ → ℕ → ℕ) → Type 0
+AreStagesWith p stages sets = (i : ℕ) → 1 ≤ i → i ≤ length p.flights → ((stages i).0 ≡ i) × TellPlaced (stages i) (sets i)
+
+-- states that hold all entries of the stages leave nothing out
+abbrev pub DelayStates : Problem → Type 0
+DelayStates p = (stages : ℕ → ℕ × List (List ℤ)) (lists : ℕ → List (List Pair)) (sets : ℕ → ℕ → ℕ) (ss : List State) → AreStagesWith p stages sets
+    → ((i : ℕ) → 1 ≤ i → i ≤ length p.flights → HoldsCosts p (stages i) (lists i))
+    → HoldAllEntries (IsEntryOf p stages sets (λ i. InList (lists i))) ss → AreWholeStates p ss
+
+abbrev pub MakespanStates : Problem → Type 0
+MakespanStates p = (stages : ℕ → ℕ × List (List ℤ)) (labels : ℕ → List ℕ) (sets : ℕ → ℕ → ℕ) (ss : List State) → p.objective ≡ Makespan → AreStagesWith p stages sets
+    → ((i : ℕ) → 1 ≤ i → i ≤ length p.flights → HoldsLabels p (stages i) (labels i))
+    → HoldAllEntries (IsEntryOf p stages sets (λ i. HasLabel (labels i))) ss → AreWholeStates p ss

@@ -3,4 +3,4 @@
 
 mod laws;
 
-pub use laws::stages_keep_their_patterns;
+pub use laws::{stages_keep_their_patterns, stages_make_whole_states};
