@@ -15,3 +15,4 @@ pub mod WholeVerdict
 pub mod WholeUnique
 pub mod WholeForm
 pub mod PlacedBits
+pub mod ShownOrder

@@ -1,7 +1,7 @@
 //! What holds of certificates that leave nothing out.
 
 ghost use Rattle.cert_check.specs.PlacedBits.{PatternOfBitsLaw, DigitsAreBitsLaw};
-ghost use Rattle.cert_check.specs.WholeLaws.{WholeIsAcceptedLaw, KeptIsWholeLaw, WholeIsUniqueLaw, WholeIsInFormLaw};
+ghost use Rattle.cert_check.specs.WholeLaws.{WholeIsAcceptedLaw, KeptIsWholeLaw, WholeIsUniqueLaw, WholeIsInFormLaw, BestOrderIsShownLaw};
 
 /// A certificate that leaves nothing out is accepted with what it claims: its states are exactly those where some legal prefix
 /// lands, each with exactly the undominated pairs, and its landings are a best list, or there is none where nothing is
@@ -22,4 +22,9 @@ pub fn whole_states_are_fixed()
 pub fn patterns_are_bits()
     ensures pattern { PatternOfBitsLaw }
     ensures digits { DigitsAreBitsLaw }
+{}
+
+/// The landings of a best list are shown optimal, in whatever order they stand.
+pub fn best_lists_are_shown()
+    ensures { BestOrderIsShownLaw }
 {}

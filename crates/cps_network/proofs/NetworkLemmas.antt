@@ -17,7 +17,8 @@ use Rattle.landing_joint.specs.RankedProblem.{ranked, no_waiting}
 use Rattle.landing_rules.specs.Problem.{Problem}
 use Rattle.cps_network.specs.Permits.{IsPermitted}
 use Rattle.cps_network.proofs.LegalLists.{IsLegal, FollowPrefixes}
-use Rattle.cps_network.specs.Nodes.{node_of, permits, land, latest, IsWindowNetwork, StepsAreWhole, TellTheirRanks}
+use Rattle.cps_network.specs.Nodes.{node_of, permits, land, latest, IsWindowNetwork, StepsAreWhole}
+use Rattle.cps_network.specs.WindowRanks.{TellTheirRanks}
 use Rattle.cps_network.specs.shared.LegalWindows.{reverse_more}
 use Rattle.cps_network.proofs.MergeLemmas.{last_or_before}
 use Rattle.cps_network.proofs.LegalLemmas.{read_old, read_last, read_at}
@@ -177,12 +178,12 @@ window_network p range near ranks law = record {
 -- the window of a legal prefix places its ranks alone
 pub tells_ranks : (p : Problem) → FollowRanks (2 * p.k + 1) → FollowPrefixes p (2 * p.k + 1) → TellTheirRanks p
 tells_ranks p follow law rs rank legal one = (
-      λ placed. elim ((here legal).0 placed) [
-        | inl low ↦ absurd (omega (arith, ints, low))
-        | inr landed ↦ contains_in rs rank (let e : landed.0 ≡ rank = omega (arith, ints, landed.1) in subst (λ (q : ℕ). Contains (reverse rs) q) e landed.2)
-      ],
-      λ i. (here legal).1 (inr (rank, refl, in_contains rs rank i)),
-    )
+  λ placed. elim ((here legal).0 placed) [
+    | inl low ↦ absurd (omega (arith, ints, low))
+    | inr landed ↦ contains_in rs rank (let e : landed.0 ≡ rank = omega (arith, ints, landed.1) in subst (λ (q : ℕ). Contains (reverse rs) q) e landed.2)
+  ],
+  λ i. (here legal).1 (inr (rank, refl, in_contains rs rank i)),
+)
   where
     half : (2 * p.k + 1) / 2 ≡ p.k
     half = omega arith

@@ -7,4 +7,5 @@ pub mod Compacted
 pub mod Nodes
 pub mod Landable
 pub mod WindowLaws
+pub mod WindowRanks
 pub mod shared

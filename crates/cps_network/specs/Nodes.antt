@@ -1,9 +1,8 @@
 -- Windows with their stage as the nodes of a position network.
-use Rattle.std.specs.Prelude.{ℕ, ℤ, suc, pos, nat_abs, ◌≤◌, ◌+◌, ◌-◌, ◌*◌, ◌+ℤ◌, ◌↔◌, List, length, reverse}
-use Rattle.cps_nodes.specs.Windows.{IsPlaced, offset_at, shifted}
+use Rattle.std.specs.Prelude.{ℕ, ℤ, suc, pos, nat_abs, ◌+◌, ◌-◌, ◌*◌, ◌+ℤ◌, ◌↔◌, List, length, reverse}
+use Rattle.cps_nodes.specs.Windows.{offset_at, shifted}
 use Rattle.cps_nodes.specs.Ranks.{window_of}
 use Rattle.cps_nodes.specs.Laws.{offset_after}
-use Rattle.cps_theory.specs.RankLists.{In}
 use Rattle.cps_theory.specs.LegalPrefix.{IsLegalPrefix, Legal}
 use Rattle.cps_theory.specs.Network.{Network}
 use Rattle.landing_joint.specs.RankedProblem.{ranked}
@@ -37,8 +36,3 @@ IsWindowNetwork p = Network Node (Legal (ranked p).rules) (node_of p.k) (permits
 -- to be legal step by step is to be legal as a whole
 abbrev pub StepsAreWhole : Problem → Type 0
 StepsAreWhole p = (ranks : List ℕ) → Legal (ranked p).rules ranks ↔ IsLegalPrefix (ranked p).rules ranks
-
--- the window of a legal prefix places exactly its ranks, and those below 1
-abbrev pub TellTheirRanks : Problem → Type 0
-TellTheirRanks p = (ranks : List ℕ) (rank : ℕ) → Legal (ranked p).rules ranks → 1 ≤ rank
-    → IsPlaced (node_of p.k ranks).1 (pos (length ranks)) (pos rank) ↔ In rank ranks

@@ -1,7 +1,8 @@
 //! That windows follow the legal prefixes of a problem, as laws.
 
 ghost use Rattle.std.specs.Prelude.{◌≡◌, ◌+◌, ◌*◌};
-ghost use Rattle.cps_network.specs.Nodes.{IsWindowNetwork, StepsAreWhole, TellTheirRanks};
+ghost use Rattle.cps_network.specs.Nodes.{IsWindowNetwork, StepsAreWhole};
+ghost use Rattle.cps_network.specs.WindowRanks.{TellTheirRanks};
 ghost use Rattle.cps_network.specs.Permits.{LeadAlike};
 
 use cps_nodes::window_laws;

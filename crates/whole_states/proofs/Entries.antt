@@ -21,7 +21,8 @@ use Rattle.landing_joint.specs.RankedProblem.{no_waiting, ranked, cost_at, cost_
 use Rattle.cps_nodes.specs.Windows.{IsPlaced}
 use Rattle.cps_network.specs.Landable.{IsLandable, HoldsLandable}
 use Rattle.cps_network.specs.Lists.{node_at}
-use Rattle.cps_network.specs.Nodes.{Node, node_of, latest, IsWindowNetwork, TellTheirRanks}
+use Rattle.cps_network.specs.Nodes.{Node, node_of, latest, IsWindowNetwork}
+use Rattle.cps_network.specs.WindowRanks.{TellTheirRanks}
 use Rattle.makespan_labels.specs.Labels.{IsLabel, CanLandAt}
 use Rattle.cert_check.specs.PlacedBits.{digits_of, PatternOfBitsLaw}
 use Rattle.cert_check.specs.Whole.{Attains}
