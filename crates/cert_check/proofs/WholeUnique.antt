@@ -10,11 +10,12 @@ use Rattle.cps_theory.specs.Network.{Undominated}
 use Rattle.cps_theory.specs.Patterns.{PatternNode}
 use Rattle.cps_theory.specs.CertificateClosure.{node_cmp}
 use Rattle.cps_theory.specs.laws.NodeOrder.{node_total}
+use Rattle.cps_theory.specs.laws.Staircases.{staircase_same}
 use Rattle.certificate.specs.States.{State, AreAscending}
 use Rattle.cert_check.specs.States.{node_of}
 use Rattle.cert_check.specs.Whole.{Attains, IsWholeState, AreWholeStates}
 use Rattle.cert_check.specs.shared.OneList.{Among, AscendBy, all_among, contained_among, one_list}
-use Rattle.cert_check.specs.shared.KeptPairs.{Behind, falling, never_behind, behind_trans}
+use Rattle.cert_check.specs.shared.KeptPairs.{rising_staircase}
 
 -- its node comes before the other's
 abbrev Before : State → State → Type 0
@@ -49,7 +50,7 @@ module _ (p : Problem) where
 
   one_state : (s t : State) → IsWholeState p s → IsWholeState p t → node_of s ≡ node_of t → s ≡ t
   one_state s t h k e =
-      let pairs = one_list Behind never_behind behind_trans s.pairs t.pairs (falling s.pairs h.rising) (falling t.pairs k.rising) (moved s t h k e) (moved t s k h (sym e)) in
+      let pairs = staircase_same s.pairs t.pairs (rising_staircase s.pairs h.rising) (rising_staircase t.pairs k.rising) (moved s t h k e) (moved t s k h (sym e)) in
       ap (λ (w : PatternNode). state_at w s.pairs) e ∙ ap (state_at (node_of t)) pairs
 
   found : (ss ts : List State) → AreWholeStates p ss → AreWholeStates p ts → (s : State) → Among s ss → Among s ts

@@ -1,45 +1,41 @@
 -- What keeps the pairs of each node, as the entries of windows do, makes the states that leave nothing out.
-use Rattle.std.proofs.Common.{◌≡◌, ◌<◌, ◌≤◌, inl, inr, true, List, [], ◌∷◌, length, get_or, refl, sym, ap, subst, ◌∙◌, arith}
+use Rattle.std.proofs.Common.{◌≡◌, ℕ, ◌<◌, ◌≤◌, inl, inr, true, ltb, ◌&&◌, List, [], ◌∷◌, length, get_or, refl, sym, subst, arith}
 use Rattle.std.specs.Prelude.{All}
-use Rattle.std.proofs.lemmas.Bool.{and_parts, ltb-true}
+use Rattle.std.proofs.lemmas.Bool.{and_from, and_parts, lt-ltb, ltb-true}
 use Rattle.landing_rules.specs.Problem.{Problem}
 use Rattle.cps_theory.specs.Labels.{InPairs, NoWorse, Pair}
 use Rattle.cps_theory.specs.Network.{Kept}
 use Rattle.cps_theory.specs.Patterns.{PatternNode}
+use Rattle.cps_theory.specs.UndominatedPairs.{InPairOrder, Staircase, sweep}
 use Rattle.cps_theory.specs.laws.LabelDominance.{no_worse_trans}
 use Rattle.cps_theory.specs.laws.NetworkLabels.{kept_undominated, undominated_kept}
+use Rattle.cps_theory.specs.laws.Staircases.{staircase_apart, sweep_covers, sweep_staircase, sweep_subset}
 use Rattle.certificate.specs.States.{State, AreAscending, rises}
 use Rattle.cert_check.specs.States.{node_of}
 use Rattle.cert_check.specs.Whole.{Attains, HasNode, IsWholeState, AreWholeStates}
-use Rattle.cert_check.specs.shared.OneList.{AscendBy}
 
--- later and cheaper
-abbrev pub Behind : Pair → Pair → Type 0
-Behind a b = (a.0 < b.0) × (b.1 < a.1)
-
-pub falling : (ps : List Pair) → rises ps ≡ true → AscendBy Behind ps
-falling [] h = tt
-falling (a ∷ []) h = (λ b i. absurd i, tt)
-falling (a ∷ b ∷ ps) h =
+-- seconds that rise and costs that fall are a staircase
+pub rising_staircase : (ps : List Pair) → rises ps ≡ true → Staircase ps
+rising_staircase [] h = tt
+rising_staircase (a ∷ []) h = (λ b i. absurd i, tt)
+rising_staircase (a ∷ b ∷ ps) h =
     let t = and_parts _ _ h in
     let s = and_parts _ _ t.0 in
     let x = ltb-true a.0 b.0 s.0 in
     let y = ltb-true b.1 a.1 s.1 in
-    let rest = falling (b ∷ ps) t.1 in
-    (λ c i. elim i [ inl e ↦ subst (Behind a) (sym e) (x, y) | inr j ↦ (let m = rest.0 c j in let u = m.0 in let v = m.1 in (omega arith, omega arith)) ], rest)
+    let rest = rising_staircase (b ∷ ps) t.1 in
+    (λ c i. elim i [ inl e ↦ subst (λ (z : Pair). (a.0 < z.0) × (z.1 < a.1)) (sym e) (x, y) | inr j ↦ (let m = rest.0 c j in let u = m.0 in let v = m.1 in (omega arith, omega arith)) ], rest)
 
-pub never_behind : (a : Pair) → Behind a a → ⊥
-never_behind a h = let x = h.0 in absurd (omega arith)
+pub staircase_rises : (ps : List Pair) → Staircase ps → rises ps ≡ true
+staircase_rises [] h = refl
+staircase_rises (a ∷ []) h = refl
+staircase_rises (a ∷ b ∷ ps) h =
+    let m = h.0 b (inl refl) in
+    and_from (ltb a.0 b.0 && ltb b.1 a.1) (rises (b ∷ ps)) (and_from (ltb a.0 b.0) (ltb b.1 a.1) (lt-ltb a.0 b.0 m.0) (lt-ltb b.1 a.1 m.1)) (staircase_rises (b ∷ ps) h.1)
 
-pub behind_trans : (a b c : Pair) → Behind a b → Behind b c → Behind a c
-behind_trans a b c h k = let x = h.0 in let y = k.0 in let u = h.1 in let v = k.1 in (omega arith, omega arith)
-
-none_worse : (ps : List Pair) → AscendBy Behind ps → (a b : Pair) → InPairs a ps → InPairs b ps → NoWorse a b → a ≡ b
-none_worse [] f a b i j le = absurd i
-none_worse (x ∷ ps) f a b (inl e) (inl g) le = e ∙ sym g
-none_worse (x ∷ ps) f a b (inl e) (inr j) le = absurd (let m = (f.0 b j).1 in let s = ap (λ (z : Pair). z.1) e in let l = le.1 in omega arith)
-none_worse (x ∷ ps) f a b (inr i) (inl g) le = absurd (let m = (f.0 a i).0 in let s = ap (λ (z : Pair). z.0) g in let l = le.0 in omega arith)
-none_worse (x ∷ ps) f a b (inr i) (inr j) le = none_worse ps f.1 a b i j le
+some_pair : (q : Pair) (ps : List Pair) → InPairs q ps → 1 ≤ length ps
+some_pair q [] i = absurd i
+some_pair q (x ∷ ps) i = omega arith
 
 first_pair : (ps : List Pair) → 1 ≤ length ps → (q : Pair) × InPairs q ps
 first_pair [] h = absurd (omega arith)
@@ -49,7 +45,7 @@ first_pair (q ∷ ps) h = (q, inl refl)
 pub kept_is_whole : (p : Problem) (s : State) → 1 ≤ s.stage → 1 ≤ length s.pairs → Kept (Attains p (node_of s)) (λ q. InPairs q s.pairs) → rises s.pairs ≡ true → IsWholeState p s
 kept_is_whole p s begun some kept rising =
     let q = first_pair s.pairs some in
-    let anti = none_worse s.pairs (falling s.pairs rising) in
+    let anti = staircase_apart s.pairs (rising_staircase s.pairs rising) in
     record {
       begun = begun;
       landable = (q.0, kept.attained q.0 q.1);
@@ -73,6 +69,24 @@ pub record HoldAllEntries (Entry : PatternNode → Pair → Type 0) (ss : List S
   pub each : All (HoldsEntries Entry) ss
   pub every : (d : PatternNode) (q : Pair) → 1 ≤ d.0 → Entry d q → HasNode ss d
   pub ascending : AreAscending ss
+
+-- the entries of a node, in order and without what another is no worse than, make its state
+pub swept_holds : (Entry : PatternNode → Pair → Type 0) (d : PatternNode) (c : ℕ) (ps : List Pair) → 1 ≤ d.0 → 1 ≤ length ps → InPairOrder ps
+    → ((q : Pair) → InPairs q ps → q.1 < c) → ((q : Pair) → InPairs q ps → Entry d q) → ((q : Pair) → Entry d q → InPairs q ps)
+    → HoldsEntries Entry (record { stage = d.0; pattern = d.1; last = d.2; pairs = sweep c ps })
+swept_holds Entry d c ps begun some order low are all =
+    let first = first_pair ps some in
+    let o = found first.0 first.1 in
+    record {
+      begun = begun;
+      some = some_pair o.0 (sweep c ps) o.1;
+      found = λ q i. are q (sweep_subset c ps q i);
+      covers = λ q e. found q (all q e);
+      rising = staircase_rises (sweep c ps) (sweep_staircase c ps order);
+    }
+  where
+    found : (q : Pair) → InPairs q ps → (o : Pair) × InPairs o (sweep c ps) × NoWorse o q
+    found q i = elim (sweep_covers c ps order q i) [ inl h ↦ h | inr le ↦ absurd (let a = low q i in omega arith) ]
 
 module _ (p : Problem) (Entry : PatternNode → Pair → Type 0) (keeps : (d : PatternNode) → 1 ≤ d.0 → Kept (Attains p d) (Entry d)) where
   holds_whole : (s : State) → HoldsEntries Entry s → IsWholeState p s
