@@ -16,16 +16,11 @@ use Rattle.cps_problem.specs.WellFormed.{IsWellFormed}
 use Rattle.cert_check.specs.Landings.{Landings, count, flight, second_of, seconds}
 use Rattle.cert_check.specs.Meaning.{IsShownOptimal}
 use Rattle.cert_check.specs.WholeLaws.{landings_in}
-use Rattle.cert_check.specs.shared.OneList.{all_among, contained_among}
-
-in_contains : (xs : List ℕ) (x : ℕ) → In x xs → (k : ℕ) × (k < length xs) × (get_or xs k x ≡ x)
-in_contains [] x i = absurd i
-in_contains (y ∷ ys) x (inl e) = (0, omega arith, sym e)
-in_contains (y ∷ ys) x (inr i) = let c = in_contains ys x i in (suc c.0, (let l = c.1 in omega arith), c.2)
+use Rattle.cert_check.specs.shared.OneList.{all_among, among_contained, contained_among}
 
 in_reverse : (xs : List ℕ) (x : ℕ) → In x xs → In x (reverse xs)
 in_reverse xs x i =
-    let c = Contains-permutation xs (reverse xs) x (IsPermutation-reverse xs) (in_contains xs x i) in
+    let c = Contains-permutation xs (reverse xs) x (IsPermutation-reverse xs) (among_contained xs x i) in
     contained_among (reverse xs) x c.0 c.1 c.2
 
 same_lists : (xs ys : List ℕ) → length xs ≡ length ys → ((i : ℕ) → i < length xs → get_or xs i 0 ≡ get_or ys i 0) → xs ≡ ys
