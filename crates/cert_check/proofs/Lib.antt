@@ -7,3 +7,12 @@ pub mod Pairs
 pub mod Ranks
 pub mod Shapes
 pub mod Sound
+pub mod PermitTests
+pub mod WholeStates
+pub mod WholeFinal
+pub mod WholeLandings
+pub mod WholeVerdict
+pub mod WholeUnique
+pub mod WholeForm
+pub mod PlacedBits
+pub mod ShownOrder

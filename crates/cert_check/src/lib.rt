@@ -5,6 +5,7 @@
 mod closure;
 mod judging;
 mod landed;
+mod laws;
 mod node;
 mod objective;
 mod permitted;
@@ -13,6 +14,10 @@ mod shape;
 mod verdict;
 
 pub use judging::judge;
+pub use laws::{
+    best_lists_are_shown, patterns_are_bits, whole_certificates_are_accepted,
+    whole_states_are_fixed,
+};
 pub use verdict::{Reason, Verdict};
 
 #[cfg(test)]

@@ -1,13 +1,13 @@
 -- Legal prefixes, latest rank first, are legal lists of ranks, and their windows are the nodes of a network.
 use Rattle.std.proofs.Common.{◌≡◌, ℕ, zero, suc, ◌+◌, ◌-◌, ◌*◌, ◌<◌, ◌≤◌, List, [], ◌∷◌, ◌++◌, length, reverse, get_or, refl, arith, length-append, ◌∙◌, sym, ap, inl, inr, subst, Bool}
-use Rattle.std.specs.Prelude.{ℤ, pos, nat_abs, ◌+ℤ◌, ◌↔◌, Contains, IsTrue, All}
+use Rattle.std.specs.Prelude.{ℤ, pos, nat_abs, ◌/◌, ◌+ℤ◌, ◌↔◌, Contains, IsTrue, All}
 use Rattle.std.proofs.lemmas.Int.{ints}
 use Rattle.std.proofs.lemmas.List.{length-reverse}
 use Rattle.std.proofs.lemmas.List.Elements.{Contains-append_left, Contains-append_right, Contains-append_cases}
 use Rattle.std.proofs.lemmas.Bool.{cases_lt}
 use Rattle.precedence.specs.Pairs.{MustPrecede, must_precede_decides, AreInRange}
-use Rattle.cps_nodes.specs.Windows.{offset_at, shifted}
-use Rattle.cps_nodes.specs.Ranks.{KeepsShift, window_of}
+use Rattle.cps_nodes.specs.Windows.{IsPlaced, offset_at, shifted}
+use Rattle.cps_nodes.specs.Ranks.{HasLanded, KeepsShift, window_of}
 use Rattle.cps_nodes.specs.Laws.{FollowRanks, offset_after}
 use Rattle.cps_theory.specs.RankLists.{In}
 use Rattle.cps_theory.specs.LandingTrail.{last_rank}
@@ -18,6 +18,7 @@ use Rattle.landing_rules.specs.Problem.{Problem}
 use Rattle.cps_network.specs.Permits.{IsPermitted}
 use Rattle.cps_network.proofs.LegalLists.{IsLegal, FollowPrefixes}
 use Rattle.cps_network.specs.Nodes.{node_of, permits, land, latest, IsWindowNetwork, StepsAreWhole}
+use Rattle.cps_network.specs.WindowRanks.{TellTheirRanks}
 use Rattle.cps_network.specs.shared.LegalWindows.{reverse_more}
 use Rattle.cps_network.proofs.MergeLemmas.{last_or_before}
 use Rattle.cps_network.proofs.LegalLemmas.{read_old, read_last, read_at}
@@ -173,6 +174,24 @@ window_network p range near ranks law = record {
   pushes = λ r rs legal. pushed p rs r law;
   newest_is = λ rs legal. latest_rank p rs ranks;
 }
+
+-- the window of a legal prefix places its ranks alone
+pub tells_ranks : (p : Problem) → FollowRanks (2 * p.k + 1) → FollowPrefixes p (2 * p.k + 1) → TellTheirRanks p
+tells_ranks p follow law rs rank legal one = (
+  λ placed. elim ((here legal).0 placed) [
+    | inl low ↦ absurd (omega (arith, ints, low))
+    | inr landed ↦ contains_in rs rank (let e : landed.0 ≡ rank = omega (arith, ints, landed.1) in subst (λ (q : ℕ). Contains (reverse rs) q) e landed.2)
+  ],
+  λ i. (here legal).1 (inr (rank, refl, in_contains rs rank i)),
+)
+  where
+    half : (2 * p.k + 1) / 2 ≡ p.k
+    half = omega arith
+
+    here : Legal (ranked p).rules rs → IsPlaced (node_of p.k rs).1 (pos (length rs)) (pos rank) ↔ HasLanded (reverse rs) (pos rank)
+    here l =
+        subst (λ (n : ℕ). IsPlaced (window_of (2 * p.k + 1) (reverse rs)) (pos n) (pos rank) ↔ HasLanded (reverse rs) (pos rank)) (length-reverse rs)
+        (follow.places (reverse rs) (pos rank) (subst (λ (k : ℕ). KeepsShift k (reverse rs)) (sym half) (whole_from p (2 * p.k + 1) rs law l).shift))
 
 past_end : {X : Type 0} (xs : List X) (i : ℕ) (d : X) → length xs ≤ i → get_or xs i d ≡ d
 past_end [] i d h = refl

@@ -10,4 +10,5 @@ pub mod Pairs
 pub mod KeptStages
 pub mod Due
 pub mod WindowLaws
+pub mod WindowRanks
 pub mod shared

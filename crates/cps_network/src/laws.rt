@@ -1,7 +1,9 @@
-//! That windows follow the legal prefixes of a problem, and that problems which agree have stages in common, as laws.
+//! That windows follow the legal prefixes of a problem and tell their ranks, and that problems which agree have stages in
+//! common, as laws.
 
 ghost use Rattle.std.specs.Prelude.{◌≡◌, ◌+◌, ◌*◌, ◌^◌};
 ghost use Rattle.cps_network.specs.Nodes.{IsWindowNetwork, StepsAreWhole};
+ghost use Rattle.cps_network.specs.WindowRanks.{TellTheirRanks};
 ghost use Rattle.cps_network.specs.Permits.{LeadAlike};
 ghost use Rattle.cps_network.specs.Due.{DueIsBounded};
 ghost use Rattle.cps_network.specs.KeptStages.{EarlyStagesAreKept, UncountedStagesAreKept};
@@ -42,5 +44,15 @@ pub fn due_is_bounded<const W: usize>(problem: &Problem)
 {
     let _near = problem.head();
     prefix_laws::<W>(problem);
+    window_laws::<W>();
+}
+
+/// The windows of a problem tell the ranks of their prefixes. The call does nothing: it tells its caller the law.
+pub fn windows_tell_their_ranks<const W: usize>(problem: &Problem)
+    requires { W ≡ 2 * problem.now.k + 1 }
+    ensures { TellTheirRanks problem.now }
+{
+    let _near = problem.head();
+    let _in_range = problem.pairs().all_before(1, 0);
     window_laws::<W>();
 }

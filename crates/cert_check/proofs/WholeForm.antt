@@ -1,0 +1,189 @@
+-- States that leave nothing out keep the form of a certificate's, and are few.
+use Rattle.std.proofs.Common.{◌≡◌, ℕ, zero, suc, ◌+◌, ◌*◌, ◌<◌, ◌≤◌, ◌^◌, ◌⊎◌, inl, inr, Bool, true, false, cond, List, [], ◌∷◌, length, refl, sym, ap, subst, ◌∙◌, arith}
+use Rattle.std.specs.Prelude.{All}
+use Rattle.std.specs.List.{list_all}
+use Rattle.std.specs.Ordering.{nat_cmp, bool_cmp, ordering_then}
+use Rattle.std.specs.Cmp.{nat_cmp_is}
+use Rattle.std.specs.Cmp.Lexicographic.{slice_cmp}
+use Rattle.std.specs.declared.cmp.Ordering.{Ordering}
+use Rattle.std.specs.declared.cmp.Ordering.TheVariants.{Less, Equal, Greater}
+use Rattle.std.proofs.Math.Nat.{pow-succ', pow-le-pow_right}
+use Rattle.std.proofs.lemmas.Bool.{cases_lt, cases_eq}
+use Rattle.landing_rules.specs.Problem.{Problem}
+use Rattle.cps_theory.specs.Separation.{Landing}
+use Rattle.cps_theory.specs.LandingTrail.{ranks}
+use Rattle.cps_theory.specs.Labels.{InPairs, Pair}
+use Rattle.cps_theory.specs.LegalPrefix.{Legal}
+use Rattle.cps_theory.specs.Patterns.{IsShaped, PatternNode, pattern_node}
+use Rattle.cps_theory.specs.CertificateClosure.{node_cmp}
+use Rattle.cps_theory.specs.laws.PatternShape.{legal_is_shaped}
+use Rattle.cps_problem.specs.WellFormed.{IsWellFormed}
+use Rattle.certificate.specs.Patterns.{is_pattern_length}
+use Rattle.certificate.specs.States.{State, IsState, AreStates, is_pair}
+use Rattle.cert_check.specs.Landings.{count}
+use Rattle.cert_check.specs.States.{node_of, rules_of}
+use Rattle.cert_check.specs.Whole.{IsWholeState, AreWholeStates}
+use Rattle.cert_check.specs.shared.OneList.{AscendBy, Among, all_among}
+use Rattle.cert_check.proofs.Sound.{sound_problem}
+use Rattle.cert_check.proofs.WholeUnique.{ascending}
+
+-- ---- each state
+
+even_length : (k : ℕ) → k ≤ 3 → is_pattern_length (2 * k) ≡ true
+even_length zero h = refl
+even_length (suc zero) h = refl
+even_length (suc (suc zero)) h = refl
+even_length (suc (suc (suc zero))) h = refl
+even_length (suc (suc (suc (suc k)))) h = absurd (omega arith)
+
+some_pair : (q : Pair) (ps : List Pair) → InPairs q ps → 1 ≤ length ps
+some_pair q [] i = absurd i
+some_pair q (x ∷ ps) i = omega arith
+
+module _ (p : Problem) (well : IsWellFormed p) where
+  shape_of : (s : State) (xs : List Landing) → 1 ≤ s.stage → Legal (rules_of p) (ranks xs) → pattern_node (rules_of p) (ranks xs) ≡ node_of s → IsShaped p.k (count p) (node_of s) × (1 ≤ s.last)
+  shape_of s [] begun legal at = absurd (let e = ap (λ (z : PatternNode). z.0) at in omega arith)
+  shape_of s (x ∷ xs) begun legal at =
+      let h = legal_is_shaped (rules_of p) (λ r. (sound_problem p well).low r) x.0 (ranks xs) legal in
+      let last = ap (λ (z : PatternNode). z.2) at in
+      let one = legal.0.fits.from_one in
+      (subst (IsShaped p.k (count p)) at h, omega arith)
+
+  shape : (s : State) → IsWholeState p s → IsShaped p.k (count p) (node_of s) × (1 ≤ s.last)
+  shape s h = let a = h.landable.1 in shape_of s a.landings h.begun a.legal a.at
+
+  in_form : (s : State) → IsWholeState p s → list_all is_pair s.pairs ≡ true → IsState s
+  in_form s h pairs =
+      let k = shape s h in
+      let w = k.0 in
+      let few = well.few_flights in
+      let o = h.covers h.landable.0 h.landable.1 in
+      let stage = w.stage in
+      let latest = w.latest in
+      record {
+        stage = (h.begun, omega arith);
+        pattern = ap is_pattern_length w.digits ∙ even_length p.k well.few_places;
+        last = (k.1, omega arith);
+        some_pairs = some_pair o.0 s.pairs o.1;
+        pairs = pairs;
+        rising = h.rising;
+      }
+
+  states_in_form : (ss : List State) → All (IsWholeState p) ss → All (λ s. list_all is_pair s.pairs ≡ true) ss → AreStates ss
+  states_in_form [] h k = tt
+  states_in_form (s ∷ ss) h k = (in_form s (h 0 s (omega arith)) (k 0 s (omega arith)), states_in_form ss (λ i d lt. h (suc i) d (omega arith)) (λ i d lt. k (suc i) d (omega arith)))
+
+-- ---- how many
+
+-- a pattern as a number, its first digit the highest
+number : List Bool → ℕ
+number [] = 0
+number (d ∷ ds) = cond d (2 ^ length ds) 0 + number ds
+
+number_low : (ds : List Bool) → number ds < 2 ^ length ds
+unfolding number
+number_low [] = omega arith
+number_low (true ∷ ds) = let a = number_low ds in let b = pow-succ' 2 (length ds) in omega arith
+number_low (false ∷ ds) = let a = number_low ds in let b = pow-succ' 2 (length ds) in omega arith
+
+nat_less : (m n : ℕ) → nat_cmp m n ≡ Less → m < n
+nat_less m n e = elim (cases_lt m n) [
+  | inl lt ↦ lt
+  | inr le ↦ elim (cases_eq m n) [
+    | inl same ↦ absurd (let h = nat_cmp_is m n Equal same in cc)
+    | inr ne ↦ absurd (let h = nat_cmp_is m n Greater (omega arith) in cc)
+  ]
+]
+
+nat_equal : (m n : ℕ) → nat_cmp m n ≡ Equal → m ≡ n
+nat_equal m n e = elim (cases_lt m n) [
+  | inl lt ↦ absurd (let h = nat_cmp_is m n Less lt in cc)
+  | inr le ↦ elim (cases_eq m n) [ inl same ↦ same | inr ne ↦ absurd (let h = nat_cmp_is m n Greater (omega arith) in cc) ]
+]
+
+number_rises : (xs ys : List Bool) → length xs ≡ length ys → slice_cmp bool_cmp xs ys ≡ Less → number xs < number ys
+unfolding number
+number_rises [] [] same e = absurd (cc)
+number_rises [] (y ∷ ys) same e = absurd (omega arith)
+number_rises (x ∷ xs) [] same e = absurd (omega arith)
+number_rises (true ∷ xs) (true ∷ ys) same e = let more = number_rises xs ys (omega arith) e in let l : length xs ≡ length ys = omega arith in let b = ap (λ i. 2 ^ i) l in omega arith
+number_rises (false ∷ xs) (false ∷ ys) same e = let more = number_rises xs ys (omega arith) e in omega arith
+number_rises (true ∷ xs) (false ∷ ys) same e = absurd (cc)
+number_rises (false ∷ xs) (true ∷ ys) same e = let a = number_low xs in let l : length xs ≡ length ys = omega arith in let b = ap (λ i. 2 ^ i) l in omega arith
+
+number_same : (xs ys : List Bool) → length xs ≡ length ys → slice_cmp bool_cmp xs ys ≡ Equal → number xs ≡ number ys
+unfolding number
+number_same [] [] same e = refl
+number_same [] (y ∷ ys) same e = absurd (omega arith)
+number_same (x ∷ xs) [] same e = absurd (omega arith)
+number_same (true ∷ xs) (true ∷ ys) same e = let more = number_same xs ys (omega arith) e in let l : length xs ≡ length ys = omega arith in let b = ap (λ i. 2 ^ i) l in omega arith
+number_same (false ∷ xs) (false ∷ ys) same e = let more = number_same xs ys (omega arith) e in omega arith
+number_same (true ∷ xs) (false ∷ ys) same e = absurd (cc)
+number_same (false ∷ xs) (true ∷ ys) same e = absurd (cc)
+
+number_small : (ds : List Bool) → length ds ≤ 6 → number ds < 64
+number_small ds few = let a = number_low ds in let b = power_few (length ds) few in omega arith
+  where
+    power_few : (i : ℕ) → i ≤ 6 → 2 ^ i ≤ 64
+    power_few i le = let a : 2 ^ i ≤ 2 ^ 6 = pow-le-pow_right (omega arith) le in omega arith
+
+-- a state's stage, pattern and last rank as one number
+code : State → ℕ
+code s = (s.stage * 64 + number s.pattern) * 64 + s.last
+
+then_less : (a b : Ordering) → ordering_then a b ≡ Less → (a ≡ Less) ⊎ ((a ≡ Equal) × (b ≡ Less))
+then_less Less b e = inl refl
+then_less Equal b e = inr (refl, e)
+then_less Greater b e = absurd (cc)
+
+-- what is asked of a state that has such a number
+record IsCoded (width : ℕ) (s : State) : Type 0 where
+  stage : s.stage ≤ 60
+  digits : length s.pattern ≡ width
+  last : s.last ≤ 60
+
+module _ (width : ℕ) (narrow : width ≤ 6) where
+  code_low : (s : State) → IsCoded width s → code s < 249856
+  unfolding code
+  code_low s h = let a = h.stage in let b = number_small s.pattern (let d = h.digits in omega arith) in let c = h.last in omega arith
+
+  code_rises : (s t : State) → IsCoded width s → IsCoded width t → node_cmp (node_of s) (node_of t) ≡ Less → code s < code t
+  unfolding code
+  code_rises s t h k e =
+      let same : length s.pattern ≡ length t.pattern = h.digits ∙ sym k.digits in
+      let a = number_small s.pattern (let d = h.digits in omega arith) in
+      let b = number_small t.pattern (let d = k.digits in omega arith) in
+      let x = h.last in
+      let y = k.last in
+      elim (then_less (nat_cmp s.stage t.stage) _ e) [
+        | inl lt ↦ (let u = nat_less s.stage t.stage lt in omega arith)
+        | inr r ↦ (let u = nat_equal s.stage t.stage r.0 in elim (then_less (slice_cmp bool_cmp s.pattern t.pattern) (nat_cmp s.last t.last) r.1) [
+          | inl lt ↦ (let v = number_rises s.pattern t.pattern same lt in omega arith)
+          | inr q ↦ (let v = number_same s.pattern t.pattern same q.0 in let z = nat_less s.last t.last q.1 in omega arith)
+        ])
+      ]
+
+  -- so many numbers are free from one on
+  few_from : (ss : List State) (least : ℕ) → AscendBy (λ s t. node_cmp (node_of s) (node_of t) ≡ Less) ss → ((s : State) → Among s ss → IsCoded width s × (least ≤ code s)) → least ≤ 249856 → least + length ss ≤ 249856
+  few_from [] least up h le = omega arith
+  few_from (s ∷ ss) least up h le =
+      let here = h s (inl refl) in
+      let low = code_low s here.0 in
+      let more = few_from ss (suc (code s)) up.1 (λ t i. ((h t (inr i)).0, code_rises s t here.0 (h t (inr i)).0 (up.0 t i))) (omega arith) in
+      let at = here.1 in
+      omega arith
+
+module _ (p : Problem) (well : IsWellFormed p) where
+  coded : (s : State) → IsWholeState p s → IsCoded (2 * p.k) s
+  coded s h =
+      let w = (shape p well s h).0 in
+      let few = well.few_flights in
+      let stage = w.stage in
+      let latest = w.latest in
+      record { stage = omega arith; digits = w.digits; last = omega arith }
+
+  pub whole_in_form : (ss : List State) → AreWholeStates p ss → All (λ s. list_all is_pair s.pairs ≡ true) ss → AreStates ss × (length ss < 4294967295)
+  whole_in_form ss h pairs =
+      let narrow = well.few_places in
+      let few = few_from (2 * p.k) (omega arith) ss 0 (ascending ss h.ascending) (λ s i. (coded s (all_among (IsWholeState p) ss h.each s i), omega arith)) (omega arith) in
+      (states_in_form p well ss h.each pairs, omega arith)

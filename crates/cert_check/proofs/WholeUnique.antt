@@ -1,0 +1,66 @@
+-- A problem has one list of states that leaves nothing out.
+use Rattle.std.proofs.Common.{◌≡◌, inl, inr, true, List, [], ◌∷◌, refl, sym, ap, subst, ◌∙◌}
+use Rattle.std.specs.Ordering.{is_lt}
+use Rattle.std.specs.declared.cmp.Ordering.{Ordering}
+use Rattle.std.specs.declared.cmp.Ordering.TheVariants.{Less, Equal, Greater}
+use Rattle.std.proofs.lemmas.Cmp.{tied_itself}
+use Rattle.landing_rules.specs.Problem.{Problem}
+use Rattle.cps_theory.specs.Labels.{InPairs, Pair}
+use Rattle.cps_theory.specs.Network.{Undominated}
+use Rattle.cps_theory.specs.Patterns.{PatternNode}
+use Rattle.cps_theory.specs.CertificateClosure.{node_cmp}
+use Rattle.cps_theory.specs.laws.NodeOrder.{node_total}
+use Rattle.cps_theory.specs.laws.Staircases.{staircase_same}
+use Rattle.certificate.specs.States.{State, AreAscending}
+use Rattle.cert_check.specs.States.{node_of}
+use Rattle.cert_check.specs.Whole.{Attains, IsWholeState, AreWholeStates}
+use Rattle.cert_check.specs.shared.OneList.{Among, AscendBy, all_among, contained_among, one_list}
+use Rattle.cert_check.specs.shared.KeptPairs.{rising_staircase}
+
+-- its node comes before the other's
+abbrev Before : State → State → Type 0
+Before s t = node_cmp (node_of s) (node_of t) ≡ Less
+
+less_of : (o : Ordering) → is_lt o ≡ true → o ≡ Less
+less_of Less e = refl
+less_of Equal e = absurd cc
+less_of Greater e = absurd cc
+
+before_trans : (a b c : State) → Before a b → Before b c → Before a c
+before_trans a b c h k = node_total.trans (node_of a) (node_of b) (node_of c) h k
+
+never_before : (s : State) → Before s s → ⊥
+never_before s e = let same = tied_itself node_total (node_of s) in absurd (cc)
+
+pub ascending : (ss : List State) → AreAscending ss → AscendBy (λ s t. node_cmp (node_of s) (node_of t) ≡ Less) ss
+ascending [] h = tt
+ascending (a ∷ []) h = (λ b i. absurd i, tt)
+ascending (a ∷ b ∷ rest) h =
+    let lt : Before a b = less_of (node_cmp (node_of a) (node_of b)) h.0 in
+    let more = ascending (b ∷ rest) h.1 in
+    (λ c i. elim i [ inl e ↦ subst (Before a) (sym e) lt | inr j ↦ before_trans a b c lt (more.0 c j) ], more)
+
+-- a node and its pairs as a state
+abbrev state_at : PatternNode → List Pair → State
+state_at w ps = record { stage = w.0; pattern = w.1; last = w.2; pairs = ps }
+
+module _ (p : Problem) where
+  moved : (s t : State) → IsWholeState p s → IsWholeState p t → node_of s ≡ node_of t → (q : Pair) → InPairs q s.pairs → InPairs q t.pairs
+  moved s t h k e q i = (k.undominated q).1 (subst (λ (w : PatternNode). Undominated (Attains p w) q) e ((h.undominated q).0 i))
+
+  one_state : (s t : State) → IsWholeState p s → IsWholeState p t → node_of s ≡ node_of t → s ≡ t
+  one_state s t h k e =
+      let pairs = staircase_same s.pairs t.pairs (rising_staircase s.pairs h.rising) (rising_staircase t.pairs k.rising) (moved s t h k e) (moved t s k h (sym e)) in
+      ap (λ (w : PatternNode). state_at w s.pairs) e ∙ ap (state_at (node_of t)) pairs
+
+  found : (ss ts : List State) → AreWholeStates p ss → AreWholeStates p ts → (s : State) → Among s ss → Among s ts
+  found ss ts h k s i =
+      let here = all_among (IsWholeState p) ss h.each s i in
+      let t = k.every (node_of s) here.landable.0 here.begun here.landable.1 in
+      let place = t.1 in
+      let among = contained_among ts t.0 place.0 place.1 place.2 in
+      let there = all_among (IsWholeState p) ts k.each t.0 among in
+      subst (λ (x : State). Among x ts) (one_state t.0 s there here t.2) among
+
+  pub whole_is_unique : (ss ts : List State) → AreWholeStates p ss → AreWholeStates p ts → ss ≡ ts
+  whole_is_unique ss ts h k = one_list Before never_before before_trans ss ts (ascending ss h.ascending) (ascending ts k.ascending) (found ss ts h k) (found ts ss k h)
