@@ -1,15 +1,13 @@
 -- The entries of a stage keep the pairs of its nodes.
-use Rattle.std.proofs.Common.{◌≡◌, ℕ, true, ◌<◌, ◌≤◌, List, [], ◌∷◌, length, refl, sym, ap, ap₂, subst, ◌∙◌, arith}
+use Rattle.std.proofs.Common.{◌≡◌, ℕ, true, ◌<◌, ◌≤◌, List, [], length, refl, sym, ap, ap₂, subst, ◌∙◌, arith}
 use Rattle.std.specs.Prelude.{ℤ, pos, ◌↔◌, slice_index}
 use Rattle.std.proofs.lemmas.List.{get_or_default}
 use Rattle.precedence.specs.Pairs.{HasBit}
-use Rattle.landing_rules.specs.declared.objective.Objective.{Objective}
-use Rattle.landing_rules.specs.declared.objective.Objective.TheVariants.{Makespan, Delay}
-use Rattle.landing_rules.specs.Problem.{Problem, Waiting}
-use Rattle.cps_theory.specs.RankLists.{In, of_rank}
-use Rattle.cps_theory.specs.Separation.{Landing}
+use Rattle.landing_rules.specs.declared.objective.Objective.TheVariants.{Makespan}
+use Rattle.landing_rules.specs.Problem.{Problem}
+use Rattle.cps_theory.specs.RankLists.{In}
 use Rattle.cps_theory.specs.Feasible.{next_from}
-use Rattle.cps_theory.specs.LandingTrail.{cost_of, last_rank, latest_landing, ranks}
+use Rattle.cps_theory.specs.LandingTrail.{last_rank, ranks}
 use Rattle.cps_theory.specs.Labels.{NoWorse, Pair}
 use Rattle.cps_theory.specs.LegalPrefix.{Legal}
 use Rattle.cps_theory.specs.Network.{Attained, Kept}
@@ -17,13 +15,14 @@ use Rattle.cps_theory.specs.Patterns.{PatternNode, pattern_node}
 use Rattle.cps_theory.specs.laws.FrozenFront.{each_fits_distinct}
 use Rattle.cps_theory.specs.laws.LegalPrefix.{in_from_one, legal_each_fits}
 use Rattle.cps_theory.specs.laws.RanksOfList.{few_ranks}
-use Rattle.landing_joint.specs.RankedProblem.{no_waiting, ranked, cost_at, cost_by}
+use Rattle.landing_joint.specs.RankedProblem.{ranked, cost_at}
 use Rattle.cps_nodes.specs.Windows.{IsPlaced}
 use Rattle.cps_network.specs.Landable.{IsLandable, HoldsLandable}
 use Rattle.cps_network.specs.Lists.{node_at}
 use Rattle.cps_network.specs.Nodes.{Node, node_of, latest, IsWindowNetwork}
 use Rattle.cps_network.specs.WindowRanks.{TellTheirRanks}
 use Rattle.makespan_labels.specs.Labels.{IsLabel, CanLandAt}
+use Rattle.makespan_labels.specs.shared.LabelPairs.{attains_free}
 use Rattle.cert_check.specs.PlacedBits.{digits_of, PatternOfBitsLaw}
 use Rattle.cert_check.specs.Whole.{Attains}
 use Rattle.whole_states.specs.StageEntries.{node_by, TellPlaced, IsEntry, InList, HasLabel, DelayEntries, MakespanEntries, EndWithFlights}
@@ -70,7 +69,7 @@ module _ (p : Problem) (bits : PatternOfBitsLaw) (net : IsWindowNetwork p) (tell
         let xs = (node_of p.k rs).1 in
         let long : length rs ≡ stage.0 = ap (λ (w : PatternNode). w.0) a.at ∙ at in
         let window : node_of p.k rs ≡ (stage.0, xs) = ap (λ (n : ℕ). (n, xs)) long in
-        let place = (landable xs).1 (a.landings, a.legal, a.landed, window) in
+        let place = (landable xs).1 (q, record { landings = a.landings; legal = a.legal; landed = a.landed; at = window; is = a.is }) in
         let i = place.0 in
         let same : xs ≡ node_at stage.1 i = sym (get_or_default stage.1 i [] xs place.1 ∙ place.2) in
         let there : node_of p.k rs ≡ (stage.0, node_at stage.1 i) = window ∙ ap (λ (ys : List ℤ). (stage.0, ys)) same in
@@ -91,29 +90,18 @@ module _ (p : Problem) (bits : PatternOfBitsLaw) (net : IsWindowNetwork p) (tell
 
   -- ---- for the makespan: the label of a window
 
-  free : (f : Waiting) (o : Objective) (t : ℕ) → o ≡ Makespan → cost_by o f t ≡ 0
-  free f Makespan t e = refl
-  free f Delay t e = absurd (cc)
-
-  costs_nothing : p.objective ≡ Makespan → (xs : List Landing) → cost_of (cost_at p) xs ≡ 0
-  costs_nothing e [] = refl
-  costs_nothing e (x ∷ xs) = let a = costs_nothing e xs in let b : cost_at p x.0 x.1 ≡ 0 = free (of_rank no_waiting p.flights x.0) p.objective x.1 e in omega arith
-
-  module _ (free' : p.objective ≡ Makespan) (stage : ℕ) (xs : List ℤ) (label : ℕ) (l : IsLabel p stage xs label) where
+  module _ (makespan : p.objective ≡ Makespan) (stage : ℕ) (xs : List ℤ) (label : ℕ) (l : IsLabel p stage xs label) where
     -- a landable window has a label
     labelled : IsLandable p stage xs → CanLandAt p stage xs label
-    labelled a = l.attained (l.least (latest_landing a.0).1 (a.0, a.1, a.2, a.3, refl)).0
+    labelled (q, a) = l.attained (l.least q.0 (q.1, a)).0
 
     label_attained : IsLandable p stage xs → (q : Pair) → (label ≡ q.0) × (q.1 ≡ 0) → At stage xs q
     label_attained a q h =
         let c = labelled a in
-        record { landings = c.0; legal = c.1; landed = c.2; at = c.3; is = ap₂ (λ (t v : ℕ). (t, v)) (c.4 ∙ h.0) (costs_nothing free' c.0 ∙ sym h.1) }
+        subst (At stage xs) (ap₂ (λ (t v : ℕ). (t, v)) h.0 (attains_free p makespan stage xs (label, c.0) c.1 ∙ sym h.1)) c.1
 
     label_covers : (q : Pair) → At stage xs q → (o : Pair) × ((label ≡ o.0) × (o.1 ≡ 0)) × NoWorse o q
-    label_covers q a =
-        let low = (l.least (latest_landing a.landings).1 (a.landings, a.legal, a.landed, a.at, refl)).1 in
-        let t = ap (λ (o : Pair). o.0) a.is in
-        ((label, 0), (refl, refl), (omega arith, omega arith))
+    label_covers q a = ((label, 0), (refl, refl), ((l.least q.0 (q.1, a)).1, omega arith))
 
   pub makespan_entries : MakespanEntries p
   makespan_entries e stage labels sets h told d at =

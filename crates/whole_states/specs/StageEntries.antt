@@ -10,8 +10,8 @@ use Rattle.cps_theory.specs.Patterns.{PatternNode}
 use Rattle.cps_nodes.specs.Windows.{IsPlaced}
 use Rattle.cps_network.specs.Lists.{node_at}
 use Rattle.cps_network.specs.Nodes.{latest}
+use Rattle.cps_network.specs.Pairs.{HoldsCosts, list_at}
 use Rattle.makespan_labels.specs.Labels.{HoldsLabels}
-use Rattle.delay_labels.specs.Pairs.{HoldsCosts, list_at}
 use Rattle.cert_check.specs.PlacedBits.{digits_of}
 use Rattle.certificate.specs.States.{State}
 use Rattle.cert_check.specs.Whole.{Attains, AreWholeStates}
