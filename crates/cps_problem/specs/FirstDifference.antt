@@ -11,7 +11,7 @@ pub record HaveSameHead (p q : Problem) : Type 0 where
   pub horizon : p.horizon ≡ q.horizon
   pub last : p.last ≡ q.last
 
--- the flights of the ranks below r are equal
+-- the flights of the ranks below r are equal; at place i stands rank i + 1
 abbrev pub HaveSameFlights : Problem → Problem → ℕ → Type 0
 HaveSameFlights p q r = (i : ℕ) → i + 1 < r → slice_get p.flights i ≡ slice_get q.flights i
 
@@ -23,7 +23,7 @@ HaveSameBelow p q r j = (i : ℕ) → 1 ≤ i → i < r → must_precede p.pairs
 abbrev pub HasPredecessorFrom : Problem → ℕ → ℕ → Type 0
 HasPredecessorFrom p r j = (i : ℕ) × (r ≤ i) × IsTrue (must_precede p.pairs i j)
 
--- and has one of rank r or above in both or in neither
+-- and so it is, and it has one of rank r or above in both or in neither
 pub record HaveSameAt (p q : Problem) (r j : ℕ) : Type 0 where
   pub below : HaveSameBelow p q r j
   pub from : HasPredecessorFrom p r j ↔ HasPredecessorFrom q r j

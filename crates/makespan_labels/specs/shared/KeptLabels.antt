@@ -1,5 +1,5 @@
 -- A stage that two problems have in common has the same labels in both.
-use Rattle.std.proofs.Common.{◌≡◌, ℕ, ◌<◌, List, length}
+use Rattle.std.proofs.Common.{ℕ, List}
 use Rattle.std.specs.Prelude.{ℤ, slice_index}
 use Rattle.landing_rules.specs.Problem.{Problem}
 use Rattle.cps_network.specs.KeptStages.{LandAlike, HaveStageInCommon}
