@@ -29,11 +29,11 @@ only_one r x (suc i, lt, at) = absurd (omega arith)
 in_more : (ranks rs : List ℕ) (r x : ℕ) → (Contains ranks x → In x rs) → Contains (ranks ++ r ∷ []) x → In x (r ∷ rs)
 in_more ranks rs r x old has = elim (Contains-append_cases ranks (r ∷ []) x has) [ inl o ↦ inr (old o) | inr n ↦ inl (only_one r x n) ]
 
-contains_in : (rs : List ℕ) (x : ℕ) → Contains (reverse rs) x → In x rs
+pub contains_in : (rs : List ℕ) (x : ℕ) → Contains (reverse rs) x → In x rs
 contains_in [] x has = absurd (omega (arith, has.1))
 contains_in (r ∷ rs) x has = in_more (reverse rs) rs r x (contains_in rs x) (subst (λ (l : List ℕ). Contains l x) (reverse_more r rs) has)
 
-in_contains : (rs : List ℕ) (x : ℕ) → In x rs → Contains (reverse rs) x
+pub in_contains : (rs : List ℕ) (x : ℕ) → In x rs → Contains (reverse rs) x
 in_contains [] x i = absurd i
 in_contains (r ∷ rs) x (inl e) =
     subst (λ (l : List ℕ). Contains l x) (sym (reverse_more r rs)) (Contains-append_right (reverse rs) (r ∷ []) x (0, omega arith, sym e))
@@ -53,7 +53,7 @@ zero_at (suc w) zero = refl
 zero_at (suc w) (suc i) = zero_at w i
 
 -- the shift rule with one rank more
-keeps_more : (p : Problem) (rs : List ℕ) (r : ℕ) → KeepsShift p.k (reverse rs) → MayFollow (ranked p).rules rs r → KeepsShift p.k (reverse rs ++ r ∷ [])
+pub keeps_more : (p : Problem) (rs : List ℕ) (r : ℕ) → KeepsShift p.k (reverse rs) → MayFollow (ranked p).rules rs r → KeepsShift p.k (reverse rs ++ r ∷ [])
 keeps_more p rs r is next =
     let len : length (reverse rs) ≡ length rs = length-reverse rs in
     let longer : length (reverse rs ++ r ∷ []) ≡ length (reverse rs) + 1 = length-append (reverse rs) (r ∷ []) in
@@ -142,7 +142,7 @@ pushed p rs r law = ap (λ (w : List ℤ). (suc (length rs), w)) (
     ap (window_of (2 * p.k + 1)) (reverse_more r rs) ∙ law.shifts (reverse rs) r
     ∙ ap (λ (q : ℕ). shifted (window_of (2 * p.k + 1) (reverse rs)) (offset_after q r)) (length-reverse rs))
 
-latest_rank : (p : Problem) (rs : List ℕ) → FollowRanks (2 * p.k + 1) → latest (node_of p.k rs) ≡ last_rank rs
+pub latest_rank : (p : Problem) (rs : List ℕ) → FollowRanks (2 * p.k + 1) → latest (node_of p.k rs) ≡ last_rank rs
 latest_rank p [] law =
     let z : offset_at (window_of (2 * p.k + 1) []) (length (window_of (2 * p.k + 1) []) - 1) ≡ pos 0 = zero_at (2 * p.k + 1) (length (window_of (2 * p.k + 1) []) - 1) in
     ap (λ (o : ℤ). nat_abs (pos 0 +ℤ o)) z

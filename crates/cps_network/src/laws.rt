@@ -1,7 +1,7 @@
 //! That windows follow the legal prefixes of a problem, as laws.
 
 ghost use Rattle.std.specs.Prelude.{◌≡◌, ◌+◌, ◌*◌};
-ghost use Rattle.cps_network.specs.Nodes.{IsWindowNetwork, StepsAreWhole};
+ghost use Rattle.cps_network.specs.Nodes.{IsWindowNetwork, StepsAreWhole, WindowsTellNodes};
 ghost use Rattle.cps_network.specs.Permits.{LeadAlike};
 
 use cps_nodes::window_laws;
@@ -18,5 +18,15 @@ pub fn prefix_laws<const W: usize>(problem: &Problem)
 {
     let _near = problem.head();
     let _in_range = problem.pairs().all_before(1, 0);
+    window_laws::<W>();
+}
+
+/// The stage and window of a legal prefix tell which ranks it has placed, and which one last. The call does nothing: it
+/// tells its caller the law.
+pub fn node_laws<const W: usize>(problem: &Problem)
+    requires { W ≡ 2 * problem.now.k + 1 }
+    ensures { WindowsTellNodes problem.now }
+{
+    let _near = problem.head();
     window_laws::<W>();
 }

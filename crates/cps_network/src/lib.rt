@@ -14,7 +14,7 @@ mod source_range;
 mod stage;
 
 pub use last::last_rank;
-pub use laws::prefix_laws;
+pub use laws::{node_laws, prefix_laws};
 pub use next::{next_stage, next_stage_like};
 pub use permit::is_permitted;
 pub use source_range::sources;
