@@ -9,3 +9,4 @@ pub mod LegalLemmas
 pub mod CompactLemmas
 pub mod KeptLemmas
 pub mod NetworkLemmas
+pub mod WindowNodes

@@ -1,10 +1,11 @@
 -- Windows with their stage as the nodes of a position network.
-use Rattle.std.specs.Prelude.{ℕ, ℤ, suc, pos, nat_abs, ◌+◌, ◌-◌, ◌*◌, ◌+ℤ◌, ◌↔◌, List, length, reverse}
+use Rattle.std.specs.Prelude.{◌≡◌, ℕ, ℤ, suc, pos, nat_abs, ◌+◌, ◌-◌, ◌*◌, ◌+ℤ◌, ◌↔◌, List, length, reverse}
 use Rattle.cps_nodes.specs.Windows.{offset_at, shifted}
 use Rattle.cps_nodes.specs.Ranks.{window_of}
 use Rattle.cps_nodes.specs.Laws.{offset_after}
 use Rattle.cps_theory.specs.LegalPrefix.{IsLegalPrefix, Legal}
 use Rattle.cps_theory.specs.Network.{Network}
+use Rattle.landing_joint.specs.CompletingPairs.{AreOneNode}
 use Rattle.landing_joint.specs.RankedProblem.{ranked}
 use Rattle.landing_rules.specs.Problem.{Problem}
 use Rattle.cps_network.specs.Permits.{IsPermitted}
@@ -36,3 +37,7 @@ IsWindowNetwork p = Network Node (Legal (ranked p).rules) (node_of p.k) (permits
 -- to be legal step by step is to be legal as a whole
 abbrev pub StepsAreWhole : Problem → Type 0
 StepsAreWhole p = (ranks : List ℕ) → Legal (ranked p).rules ranks ↔ IsLegalPrefix (ranked p).rules ranks
+
+-- legal prefixes of one stage and window are of one node: they place the same ranks, and the same one last
+abbrev pub WindowsTellNodes : Problem → Type 0
+WindowsTellNodes p = (rs os : List ℕ) → Legal (ranked p).rules rs → Legal (ranked p).rules os → node_of p.k rs ≡ node_of p.k os → AreOneNode rs os

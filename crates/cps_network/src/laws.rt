@@ -2,7 +2,7 @@
 //! common, as laws.
 
 ghost use Rattle.std.specs.Prelude.{◌≡◌, ◌+◌, ◌*◌, ◌^◌};
-ghost use Rattle.cps_network.specs.Nodes.{IsWindowNetwork, StepsAreWhole};
+ghost use Rattle.cps_network.specs.Nodes.{IsWindowNetwork, StepsAreWhole, WindowsTellNodes};
 ghost use Rattle.cps_network.specs.WindowRanks.{TellTheirRanks};
 ghost use Rattle.cps_network.specs.Permits.{LeadAlike};
 ghost use Rattle.cps_network.specs.Due.{DueIsBounded};
@@ -55,4 +55,14 @@ pub fn windows_tell_their_ranks<const W: usize>(problem: &Problem)
     let _near = problem.head();
     let _in_range = problem.pairs().all_before(1, 0);
     window_laws::<W>();
+}
+
+/// The stage and window of a legal prefix tell which ranks it has placed, and which one last. The call does nothing: it
+/// tells its caller the law.
+pub fn node_laws<const W: usize>(problem: &Problem)
+    requires { W ≡ 2 * problem.now.k + 1 }
+    ensures { WindowsTellNodes problem.now }
+{
+    prefix_laws::<W>(problem);
+    windows_tell_their_ranks::<W>(problem);
 }
