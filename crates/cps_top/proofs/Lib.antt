@@ -5,4 +5,5 @@ pub mod Loading
 pub mod Replayed
 pub mod Showing
 pub mod Statuses
+pub mod Summed
 pub mod Writing

@@ -9,3 +9,4 @@ pub mod Plan
 pub mod Replay
 pub mod Statuses
 pub mod Verdicts
+pub mod Trial

@@ -15,12 +15,14 @@ mod opening;
 mod plan;
 mod replay;
 mod top;
+mod trial;
 mod verdict_lines;
 
 pub use commands::Command;
 pub use endings::{Answer, Ending, Refusal};
 pub use loads::LIMIT;
 pub use top::run;
+pub use trial::write_trial;
 
 #[cfg(test)]
 mod check_tests;
@@ -32,3 +34,5 @@ mod stage_tests;
 mod test_runs;
 #[cfg(test)]
 mod tests;
+#[cfg(test)]
+mod trial_tests;

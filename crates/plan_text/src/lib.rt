@@ -3,9 +3,11 @@
 
 mod block;
 mod refusal;
+mod trial;
 
 pub use block::plan_block;
 pub use refusal::refusal_line;
+pub use trial::trial_summary;
 
 #[cfg(test)]
 mod tests;

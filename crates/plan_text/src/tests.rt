@@ -1,4 +1,4 @@
-use crate::{plan_block, refusal_line};
+use crate::{plan_block, refusal_line, trial_summary};
 use cps_base::Callsign;
 use cps_problem::Objective;
 use situations::Refusal;
@@ -9,6 +9,15 @@ fn where_nothing_is_feasible_the_block_is_one_line(rt: HostRuntime) -> Result<()
     let mut text = Vec::new(rt.alloc());
     plan_block(Objective::Delay, None, &mut text)?;
     assert!(rt; text.as_slice() == b"infeasible\n".as_slice());
+    Ok(())
+}
+
+#[test]
+fn a_trial_where_nothing_is_feasible(rt: HostRuntime) -> Result<(), Fail> {
+    let mut text = Vec::new(rt.alloc());
+    trial_summary(60, 1, 463, Objective::Makespan, None, &mut text)?;
+    let expected = b"flights 60\nk 1\nnodes 463\ninfeasible\n";
+    assert!(rt; text.as_slice() == expected.as_slice());
     Ok(())
 }
 

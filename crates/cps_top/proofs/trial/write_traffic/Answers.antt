@@ -1,0 +1,15 @@
+use Rattle.std.proofs.Common.{◌≡◌, Some}
+use Rattle.cps_base.specs.Tally.{raised_by}
+use Rattle.cps_top.proofs.Summed.{sums}
+use Rattle.cps_top.proofs.trial.write_traffic.Goals as goal
+
+pub returns : goal.returns
+returns g c =
+    let begun = c.in_ok-sequencer.ensures in
+    let steps = begun.steps in
+    let rose = steps.2 in
+    let raised : Some c.value-nodes.result ≡ raised_by steps.0 (Some 0) = cc in
+    sums c.args.traffic c.args.n c.args.k steps.0 c.value-nodes.result c.into_parts-aerodrome.result.0 c.into_parts-aerodrome.result.1.items
+    c.in_ok-sequencer.sequencer.state c.in_ok-sequencer.sequencer.problem c.write_summary.new.text.items c.in_ok-answer.answer
+    c.into_parts-aerodrome.ensures.aerodrome c.into_parts-aerodrome.ensures.flights begun.opening
+    c.in_ok-answer.ensures.problem steps.1 raised c.in_ok-answer.ensures.prints c.in_ok-answer.ensures.answers

@@ -1,0 +1,86 @@
+// The command `trial`.
+ghost use Rattle.std.specs.Prelude.{◌≡◌, ◌≤◌, [], length, MatchResult, IfOk, OnOk};
+ghost use Rattle.landing_rules.specs.Problem.{IsProblemOf};
+ghost use Rattle.landing_rules.specs.Text.{plan_shown};
+ghost use Rattle.aerodrome_file.specs.Reading.{IsInRange};
+ghost use Rattle.flight_file.specs.OfFile.{CanBeRead};
+ghost use Rattle.cps_top.specs.declared.endings.Ending.TheVariants.{NoMemory};
+ghost use Rattle.plan_text.specs.Trial.{trial_text};
+ghost use Rattle.cps_top.specs.Plan.{answer_of};
+ghost use Rattle.cps_top.specs.Trial.{Sums, AdmitsTrial};
+
+use crate::plan::answer;
+use crate::{Answer, Ending};
+use cps_base::{Counted, Steps};
+use cps_outside::Gate;
+use cps_problem::Planner;
+use plan_text::trial_summary;
+use replan::AnyKept;
+use sequencer::Sequencer;
+use std::alloc::{AllocError, Global};
+use std::thread::Threads;
+use traffic_gen::{Traffic, generate};
+
+// Writes the summary of the plan that is shown, over so many candidates, into an empty text.
+fn write_summary<P: Planner>(
+    sequencer: &Sequencer<P>,
+    n: u8,
+    k: u8,
+    nodes: u64,
+    text: &mut Vec<u8>,
+) -> Result<Answer, AllocError>
+    requires empty { text.old.items ≡ [] }
+    ensures prints { OnOk result (text.new.items ≡ trial_text n k nodes sequencer.now.state.situation.aerodrome.objective (plan_shown sequencer.now.state)) }
+    ensures answers { IfOk result (λ answer. answer ≡ answer_of sequencer.now.state.plan) }
+    ensures problem { IsProblemOf sequencer.now.state.situation sequencer.now.problem }
+{
+    let _problem = sequencer.problem();
+    let plan = sequencer.plan();
+    trial_summary(n, k, nodes, sequencer.objective(), plan, text)?;
+    Ok(answer(plan.is_some()))
+}
+
+// The same for traffic of n flights under the bound k on shifts.
+fn write_traffic<R: Threads + Sync, G: Gate + Sync>(
+    rt: &R,
+    alloc: Global,
+    traffic: Traffic,
+    n: u8,
+    k: u8,
+    gate: &G,
+    text: &mut Vec<u8>,
+) -> Result<Answer, Ending>
+    requires range { IsInRange traffic.aerodrome }
+    requires same_k { traffic.aerodrome.k ≡ k }
+    requires read { CanBeRead traffic.flights }
+    requires few { length traffic.flights ≤ 60 }
+    requires empty { text.old.items ≡ [] }
+    ensures { MatchResult result (λ answer. Sums traffic n k text.new.items answer) (λ ending. ending ≡ NoMemory) }
+{
+    let (aerodrome, flights) = traffic.into_parts();
+    let planner = AnyKept::fresh(k);
+    let mut steps = Steps::new(Counted::new());
+    let sequencer = Sequencer::begin(rt, alloc, aerodrome, flights, planner, gate, &mut steps)?;
+    let nodes = steps.ledger().value();
+    let answer = write_summary(&sequencer, n, k, nodes, text)?;
+    Ok(answer)
+}
+
+/// Writes the summary of the traffic of a seed into an empty text, and says whether it has a plan.
+pub fn write_trial<R: Threads + Sync, G: Gate + Sync>(
+    rt: &R,
+    alloc: Global,
+    seed: u64,
+    n: u8,
+    k: u8,
+    gate: &G,
+    text: &mut Vec<u8>,
+) -> Result<Answer, Ending>
+    requires count { (1 ≤ n) × (n ≤ 60) }
+    requires shifts { k ≤ 3 }
+    requires empty { text.old.items ≡ [] }
+    ensures { MatchResult result (λ answer. AdmitsTrial seed n k text.new.items answer) (λ ending. ending ≡ NoMemory) }
+{
+    let traffic = generate(alloc, seed, n, k)?;
+    write_traffic(rt, alloc, traffic, n, k, gate, text)
+}

@@ -1,0 +1,4 @@
+pub mod Draws
+pub mod Sample
+pub mod Flights
+pub mod Made

@@ -1,0 +1,43 @@
+// The aerodrome of a trial.
+ghost use Rattle.std.specs.Prelude.{◌≡◌, ◌≤◌};
+ghost use Rattle.aerodrome_file.specs.Reading.{IsInRange};
+ghost use Rattle.traffic_gen.specs.Sample.{sample_table, aerodrome_with};
+
+use aerodrome_file::Aerodrome;
+use landing_rules::Objective;
+use landing_windows::Closures;
+use wake_table::PairTable;
+
+// The sample table of separations.
+#[tactic(auto, unfolding(wake_table::specs::Table::first_fault, wake_table::specs::Table::separation))]
+fn sample_table() -> PairTable
+    ensures { result ≡ sample_table }
+{
+    let table = PairTable::new([
+        [90, 110, 120, 130, 140, 180],
+        [60, 90, 100, 110, 120, 160],
+        [60, 60, 60, 60, 100, 140],
+        [60, 60, 60, 60, 60, 120],
+        [60, 60, 60, 60, 60, 100],
+        [60, 60, 60, 60, 60, 60],
+    ]);
+    match table {
+        Ok(table) => table,
+        Err(_) => unreachable!(),
+    }
+}
+
+// The aerodrome with this bound on shifts.
+pub(crate) fn aerodrome_with(k: u8) -> Aerodrome
+    requires { k ≤ 3 }
+    ensures value { result ≡ aerodrome_with k }
+    ensures range { IsInRange result }
+{
+    Aerodrome {
+        k,
+        freeze: 0,
+        objective: Objective::Makespan,
+        table: sample_table(),
+        closures: Closures::new(),
+    }
+}
