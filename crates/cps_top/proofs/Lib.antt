@@ -3,6 +3,7 @@ pub mod Exact
 pub mod Judged
 pub mod Loading
 pub mod Replayed
+pub mod ReplayLaws
 pub mod Showing
 pub mod Statuses
 pub mod Summed

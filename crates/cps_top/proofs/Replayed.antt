@@ -1,9 +1,11 @@
 -- From what a replay did to what the command says of its files.
 use Rattle.std.proofs.Common.{◌≡◌, ℕ, List, [], ◌∷◌, Bool, Ok, Err, Result, map, refl, ap, ◌∙◌, inl, inr, append-nil}
-use Rattle.std.specs.Prelude.{is_some, None}
+use Rattle.std.specs.Prelude.{is_some, None, All}
+use Rattle.std.proofs.lemmas.List.Elements.{All-map}
 use Rattle.cps_outside.specs.SinkState.{SinkState, Grows, GrowsByPart}
 use Rattle.landing_rules.specs.Events as rules
 use Rattle.landing_rules.specs.Events.{State}
+use Rattle.landing_rules.specs.Sound.{IsGoodEvent}
 use Rattle.landing_rules.specs.Text.{replay_text}
 use Rattle.aerodrome_file.specs.declared.aerodrome.Aerodrome.{Aerodrome}
 use Rattle.aerodrome_file.specs.Reading.{aerodrome_of}
@@ -11,7 +13,7 @@ use Rattle.flight_file.specs.declared.flight.Flight.{Flight}
 use Rattle.flight_file.specs.Reading.{flights_of}
 use Rattle.event_log.specs.declared.event.Event.{Event}
 use Rattle.event_log.specs.Reading.{events_of}
-use Rattle.event_log.specs.Seen.{event_of}
+use Rattle.event_log.specs.Seen.{event_of, IsGood}
 use Rattle.replays.specs.Runs.{ReplayEnds}
 use Rattle.replays.specs.declared.stops.Stop.{Stop}
 use Rattle.replays.specs.declared.stops.Stop.TheVariants as stop
@@ -76,17 +78,6 @@ not_refused a f e state events begun =
     ap (λ r. refused_with r (flights_of f) (events_of e)) begun.aerodrome_read ∙ ap (λ r. refused_with (Ok begun.aerodrome) r (events_of e)) begun.flights_read
     ∙ ap (λ r. refused_with (Ok begun.aerodrome) (Ok begun.flights) r) begun.events_read ∙ begun.taken
 
--- what was made of read files, of their bytes
-pub begun : (a f e : List ℕ) (aerodrome : Aerodrome) (flights : List Flight) (log : List Event) (state : State) →
-    aerodrome_of a ≡ Ok aerodrome → flights_of f ≡ Ok flights → events_of e ≡ Ok log → IsOpened aerodrome flights state → IsBegun a f e state (map event_of log)
-begun a f e aerodrome flights log state a_read f_read e_read opened = record {
-  aerodrome = aerodrome;
-  flights = flights;
-  log = log;
-  aerodrome_read = a_read;
-  flights_read = f_read;
-  events_read = e_read;
-  taken = opened.taken;
-  opens = opened.opens;
-  events_are = refl;
-}
+-- the events of a log with their numbers in range, as the rules see them
+pub events_in_range : (log : List Event) → All IsGood log → All IsGoodEvent (map event_of log)
+events_in_range log good = All-map IsGoodEvent event_of log good

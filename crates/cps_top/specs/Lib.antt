@@ -7,6 +7,7 @@ pub mod Loads
 pub mod Outcome
 pub mod Plan
 pub mod Replay
+pub mod ReplayLaws
 pub mod Statuses
 pub mod Verdicts
 pub mod Trial

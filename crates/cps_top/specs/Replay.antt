@@ -1,7 +1,8 @@
 -- What `replay` prints over the contents of its three files, and which it refuses.
-use Rattle.std.specs.Prelude.{◌≡◌, ℕ, Bool, List, ◌++◌, map, Option, Some, None, Result, Ok, Err}
+use Rattle.std.specs.Prelude.{◌≡◌, ℕ, Bool, List, ◌++◌, map, All, Option, Some, None, Result, Ok, Err}
 use Rattle.landing_rules.specs.Events as rules
 use Rattle.landing_rules.specs.Events.{State, Answered, Run, IsOpeningState}
+use Rattle.landing_rules.specs.Sound.{IsSoundState, IsGoodEvent}
 use Rattle.landing_rules.specs.Text.{replay_text}
 use Rattle.aerodrome_file.specs.declared.aerodrome.Aerodrome.{Aerodrome}
 use Rattle.aerodrome_file.specs.declared.fault.AeroFault.{AeroFault}
@@ -35,7 +36,8 @@ refused_with (Ok aerodrome) (Ok flights) (Ok events) = refusal_of flights
 abbrev pub RefusesReplay : List ℕ → List ℕ → List ℕ → Refusal → Type 0
 RefusesReplay aerodrome flights events cause = refused_with (aerodrome_of aerodrome) (flights_of flights) (events_of events) ≡ Some cause
 
--- The files read as an aerodrome, flights and a log, and are taken. They have these events, and this opening state.
+-- The files read as an aerodrome, flights and a log, and are taken. They have these events, with their numbers in range, and
+-- this opening state, which is sound.
 pub record IsBegun (aerodrome_bytes flight_bytes event_bytes : List ℕ) (state : State) (events : List rules.Event) : Type 0 where
   pub aerodrome : Aerodrome
   pub flights : List Flight
@@ -45,7 +47,9 @@ pub record IsBegun (aerodrome_bytes flight_bytes event_bytes : List ℕ) (state 
   pub events_read : events_of event_bytes ≡ Ok log
   pub taken : refusal_of flights ≡ None
   pub opens : IsOpeningState (opening_of aerodrome) (map flight_of flights) state
+  pub sound : IsSoundState state
   pub events_are : events ≡ map event_of log
+  pub in_range : All IsGoodEvent events
 
 -- The text is that of a run of the rules over all events of the log, from an opening state of the files.
 pub record AdmitsReplay (aerodrome flights log text : List ℕ) (answer : Answer) : Type 0 where

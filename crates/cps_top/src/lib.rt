@@ -14,6 +14,7 @@ mod loads;
 mod opening;
 mod plan;
 mod replay;
+mod replay_laws;
 mod top;
 mod trial;
 mod verdict_lines;
@@ -21,6 +22,9 @@ mod verdict_lines;
 pub use commands::Command;
 pub use endings::{Answer, Ending, Refusal};
 pub use loads::LIMIT;
+pub use replay_laws::{
+    clock_shows_no_dearer_plan, printed_states_are_sound, text_fixes_the_replay,
+};
 pub use top::run;
 pub use trial::write_trial;
 

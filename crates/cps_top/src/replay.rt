@@ -20,6 +20,7 @@ use std::alloc::Global;
 use std::thread::Threads;
 
 // The sequencer that the files begin, and the events of the log; or why the files are not taken.
+#[tactic(auto, using(crate::proofs::Replayed::events_in_range))]
 fn begin_files<R: Threads + Sync, G: Gate + Sync>(
     rt: &R,
     alloc: Global,
@@ -36,6 +37,7 @@ fn begin_files<R: Threads + Sync, G: Gate + Sync>(
     let flights = read_flights(alloc, flights)?;
     let events = read_events(alloc, events)?;
     let sequencer = begin(rt, alloc, aerodrome, flights, gate)?;
+    let _sound = sequencer.problem();
     Ok((sequencer, events))
 }
 
