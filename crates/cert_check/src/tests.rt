@@ -1,5 +1,4 @@
 ghost use Rattle.std.specs.Prelude.{◌≡◌, ◌≤◌, IfOk, None};
-ghost use Rattle.wake_table.specs.Table.{IsWakeTable};
 
 use crate::{Reason, Verdict, judge};
 use certificate::read_certificate;
@@ -46,10 +45,9 @@ fn flight(
 fn head(horizon: u32, k: u8, objective: Objective) -> Result<Head, Fail>
     requires k { k ≤ 3 }
     requires horizon { horizon ≤ 179999 }
-    ensures { IfOk result (λ h. (IsWakeTable h.table) × (h.k ≡ k) × (h.horizon ≡ horizon) × (h.last ≡ None) × (h.base ≡ 0)) }
+    ensures { IfOk result (λ h. (h.k ≡ k) × (h.horizon ≡ horizon) × (h.last ≡ None) × (h.base ≡ 0)) }
 {
     let table = PairTable::new(SEPARATIONS)?;
-    let _ = table.sep(Category::A, Category::B);
     Ok(Head {
         table,
         k,
@@ -62,7 +60,6 @@ fn head(horizon: u32, k: u8, objective: Objective) -> Result<Head, Fail>
 
 // A heavy flight that is estimated ten seconds before a light one.
 fn of_two(alloc: Global, head: Head, heavy_last: u32, light_last: u32) -> Result<Problem, Fail>
-    requires table { IsWakeTable head.table }
     requires k { head.k ≤ 3 }
     requires horizon { head.horizon ≤ 179999 }
     requires last { head.last ≡ None }
@@ -78,7 +75,6 @@ fn of_two(alloc: Global, head: Head, heavy_last: u32, light_last: u32) -> Result
 
 // Two heavy flights and a light one.
 fn of_three(alloc: Global, head: Head) -> Result<Problem, Fail>
-    requires table { IsWakeTable head.table }
     requires k { head.k ≤ 3 }
     requires horizon { head.horizon ≤ 179999 }
     requires last { head.last ≡ None }

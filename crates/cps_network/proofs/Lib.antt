@@ -10,3 +10,4 @@ pub mod CompactLemmas
 pub mod KeptLemmas
 pub mod NetworkLemmas
 pub mod WindowNodes
+pub mod PrefixLandingLemmas

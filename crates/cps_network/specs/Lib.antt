@@ -11,4 +11,5 @@ pub mod KeptStages
 pub mod Due
 pub mod WindowLaws
 pub mod WindowRanks
+pub mod PrefixLandings
 pub mod shared

@@ -7,6 +7,7 @@ ghost use Rattle.cps_network.specs.WindowRanks.{TellTheirRanks};
 ghost use Rattle.cps_network.specs.Permits.{LeadAlike};
 ghost use Rattle.cps_network.specs.Due.{DueIsBounded};
 ghost use Rattle.cps_network.specs.KeptStages.{EarlyStagesAreKept, UncountedStagesAreKept};
+ghost use Rattle.cps_network.specs.PrefixLandings.{NeighboursSuffice, AttainsByPrefixes};
 
 use cps_nodes::window_laws;
 use cps_problem::Problem;
@@ -65,4 +66,14 @@ pub fn node_laws<const W: usize>(problem: &Problem)
 {
     prefix_laws::<W>(problem);
     windows_tell_their_ranks::<W>(problem);
+}
+
+/// A legal prefix lands with seconds of which each is late enough behind the landing before it exactly where each is open, at
+/// or after the horizon, and keeps the separation after the last frozen landing and after every earlier landing of the
+/// prefix. So the pairs that a window attains are those of such prefixes. The call does nothing: it tells its caller the law.
+pub fn prefixes_keep_the_separation(problem: &Problem)
+    ensures neighbours { NeighboursSuffice problem.now }
+    ensures attained { AttainsByPrefixes problem.now }
+{
+    let _sound = problem.head();
 }

@@ -14,7 +14,10 @@ mod source_range;
 mod stage;
 
 pub use last::last_rank;
-pub use laws::{due_is_bounded, kept_stages, node_laws, prefix_laws, windows_tell_their_ranks};
+pub use laws::{
+    due_is_bounded, kept_stages, node_laws, prefix_laws, prefixes_keep_the_separation,
+    windows_tell_their_ranks,
+};
 pub use next::{next_stage, next_stage_like};
 pub use permit::is_permitted;
 pub use source_range::sources;

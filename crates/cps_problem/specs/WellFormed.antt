@@ -25,3 +25,7 @@ pub record IsWellFormed (p : Problem) : Type 0 where
   pub weights : All (λ f. (1 ≤ f.weight) × (f.weight ≤ 100)) p.flights
   pub none_passed : All (λ f. f.passed ≡ 0) p.flights
   pub base : p.base + 17279900 * length p.flights ≤ 8639950000
+
+-- what is asked of the parts of a problem: all of this, but that its table is one, which the table's type keeps
+abbrev pub CanBuild : Problem → Type 0
+CanBuild p = IsWakeTable p.table → IsWellFormed p

@@ -1,6 +1,6 @@
 ghost use Rattle.std.specs.Prelude.{◌≡◌, ℕ, ◌+◌, ◌-◌, ◌≤◌, IfOk, Some, length, nat_eq, slice_get};
 ghost use Rattle.cps_problem.specs.Seen.{waiting_of, problem_of};
-ghost use Rattle.cps_problem.specs.WellFormed.{IsWellFormed};
+ghost use Rattle.cps_problem.specs.WellFormed.{CanBuild, IsWellFormed};
 
 use cps_base::Callsign;
 use landing_rules::Objective;
@@ -62,11 +62,14 @@ impl Model for Problem {
 
 impl Problem {
     /// The problem of these flights by rank. At most 60 flights, ascending by estimate and callsign, no callsign
-    /// twice; the pairs are over their ranks; the last frozen landing is before the horizon.
+    /// twice, each estimate at most 172,799 and each weight 1 to 100; the pairs are over their ranks; k is at most 3;
+    /// the last frozen landing is before the horizon, which is at most 179,999; the base plus 17,279,900 for each flight
+    /// is at most 8,639,950,000.
     pub fn build(head: Head, waiting: Vec<Waiting>, pairs: Pairs) -> Problem
-        requires { IsWellFormed (problem_of head waiting.items pairs) }
+        requires { CanBuild (problem_of head waiting.items pairs) }
         ensures { result ≡ problem_of head waiting.items pairs }
     {
+        let _is_table = head.table.sep(Category::A, Category::A);
         Problem {
             head,
             waiting,

@@ -11,7 +11,6 @@ fn shared_by_pieces<T: Send + Sync>(_: &T) {}
 fn a_problem_and_its_copy_land_a_flight(rt: HostRuntime) -> Result<(), Fail> {
     let alloc = rt.alloc();
     let table = PairTable::new([[90; 6]; 6])?;
-    let _ = table.sep(Category::A, Category::B);
     let windows = WindowSet::new(&[(1000, 1200)])?;
     let times = OpenTimes::of(alloc, &windows, &Closures::new())?;
     let mut waiting = Vec::new(alloc);

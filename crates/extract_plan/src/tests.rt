@@ -10,7 +10,6 @@ use wake_table::{Category, PairTable};
 fn an_order_lands_as_early_as_it_can(rt: HostRuntime) -> Result<(), Fail> {
     let alloc = rt.alloc();
     let table = PairTable::new([[90; 6]; 6])?;
-    let _ = table.sep(Category::A, Category::B);
     let mut waiting = Vec::new(alloc);
     waiting.push(Waiting {
         callsign: Callsign::read(b"AB1").ok_or("not a callsign")?,

@@ -23,7 +23,6 @@ pub fn source_of<const W: usize>(
     requires width { W ≡ 2 * problem.now.k + 1 }
     requires before { HoldsLabels problem.now before.now labels.now }
     requires node { (xs : List ℤ) × Contains before.now.1 xs × IsSuccessor problem.now before.now.0 xs node.now }
-    requires number { before.now.0 < length problem.now.flights }
     requires label { IsLabel problem.now (before.now.0 + 1) node.now label }
     requires known { label < no_label }
     ensures gives { GivesLabel problem.now before.now labels.now node.now label result }

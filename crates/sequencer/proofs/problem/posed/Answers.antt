@@ -68,7 +68,7 @@ heads c = record { fixed = c.head-head.ensures.fixed; horizon = c.head-head.ensu
 
 pub build-requires : goal.build-requires
 build-requires c =
-    well_formed c.args.situation.now c.head-head.result c.in_ok-with_times.with_times.items c.pairs_of-pairs.result c.requires (heads c) (zip c) (listed c)
+    λ table. well_formed c.args.situation.now c.head-head.result c.in_ok-with_times.with_times.items c.pairs_of-pairs.result c.requires (heads c) (zip c) (listed c)
     c.head-head.ensures.few_places c.head-head.ensures.near
     (subst (λ l. IsStrictlySortedBy first_come_cmp (arrivals l)) (c.in_ok-waiting.ensures ∙ ap (filter is_waiting) c.in_ok-flights.ensures) c.in_ok-ranked.ensures.ascending)
 

@@ -19,7 +19,7 @@ source_of-requires g c =
             column_held c.args.problem.now c.args.before.now c.args.self.now c.in-OfColumn.column is c.requires.before,
             (
               node_given c.args.problem.now c.prefix_laws.ensures.network c.args.before.now c.args.node.now c.args.pair c.requires.undominated c.args.self.now.lists c.requires.before.held,
-              (c.requires.number, (label_of_undominated c.args.problem.now makespan (c.args.before.now.0 + 1) c.args.node.now c.args.pair c.requires.known c.requires.undominated, c.requires.known)),
+              (label_of_undominated c.args.problem.now makespan (c.args.before.now.0 + 1) c.args.node.now c.args.pair c.requires.known c.requires.undominated, c.requires.known),
             ),
           ),
         ),
