@@ -22,7 +22,6 @@ pub use commands::Command;
 pub use endings::{Answer, Ending, Refusal};
 pub use loads::LIMIT;
 pub use top::run;
-pub use trial::write_trial;
 
 #[cfg(test)]
 mod check_tests;
