@@ -9,7 +9,7 @@ use Rattle.aerodrome_file.specs.declared.aerodrome.Aerodrome.{Aerodrome}
 use Rattle.flight_file.specs.declared.flight.Flight.{Flight}
 use Rattle.flight_file.specs.Seen.{flight_of}
 use Rattle.sequencer.specs.Opened.{opening_of}
-use Rattle.replan.specs.Stages.{HasCandidatesUpto}
+use Rattle.cps_network.specs.Due.{HasCandidatesUpto}
 use Rattle.traffic_gen.specs.Made.{Made}
 use Rattle.plan_text.specs.Trial.{trial_text}
 use Rattle.cps_top.specs.declared.endings.Answer.{Answer}

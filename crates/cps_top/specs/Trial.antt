@@ -5,7 +5,7 @@ use Rattle.landing_rules.specs.Problem.{Problem, IsProblemOf}
 use Rattle.landing_rules.specs.Text.{plan_shown}
 use Rattle.flight_file.specs.Seen.{flight_of}
 use Rattle.sequencer.specs.Opened.{opening_of}
-use Rattle.replan.specs.Stages.{HasCandidatesUpto}
+use Rattle.cps_network.specs.Due.{HasCandidatesUpto}
 use Rattle.traffic_gen.specs.Made.{Made, traffic}
 use Rattle.plan_text.specs.Trial.{trial_text}
 use Rattle.cps_top.specs.declared.endings.Answer.{Answer}

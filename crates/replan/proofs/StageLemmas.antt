@@ -1,5 +1,5 @@
 -- Stage 0 with its pair, and one stage more.
-use Rattle.std.proofs.Common.{◌≡◌, ℕ, zero, suc, ◌+◌, ◌*◌, ◌<◌, List, [], ◌∷◌, ◌++◌, length, get_or, replicate, length-append, refl, sym, ap, subst, ◌∙◌, arith, inl, inr, zero-le, Option, Some, None}
+use Rattle.std.proofs.Common.{◌≡◌, ℕ, zero, suc, ◌+◌, ◌*◌, ◌<◌, ◌≤◌, List, [], ◌∷◌, ◌++◌, length, get_or, replicate, length-append, refl, sym, ap, subst, ◌∙◌, arith, inl, inr, zero-le, Option, Some, None}
 use Rattle.std.specs.Prelude.{ℤ, pos, Contains, Bool, IsTrue, ◌-◌}
 use Rattle.std.proofs.lemmas.Bool.{cases_eq}
 use Rattle.std.proofs.lemmas.List.{get_or_append_left, get_or_push, get_or_default}
@@ -12,18 +12,20 @@ use Rattle.cps_theory.specs.Network.{Undominated}
 use Rattle.landing_joint.specs.RankedProblem.{cost_at}
 use Rattle.landing_rules.specs.declared.objective.Objective.TheVariants.{Makespan}
 use Rattle.landing_rules.specs.Problem.{Problem}
+use Rattle.cps_network.specs.Due.{HasCandidates, HasCandidatesFrom}
 use Rattle.cps_network.specs.Landable.{Attains, IsLandable, HoldsLandable, HoldsCandidates}
 use Rattle.cps_network.specs.Lists.{IsAscending, node_at}
 use Rattle.cps_network.specs.Nodes.{Node, node_of}
 use Rattle.cps_network.specs.Pairs.{ArePairsOf, HoldsCosts, list_at}
 use Rattle.cps_network.specs.Permits.{IsNextOf}
+use Rattle.cps_network.specs.shared.DueSteps.{more_from}
 use Rattle.cps_network.specs.shared.LegalWindows.{source_is}
 use Rattle.replan.specs.Labels.{StagePairs, HoldsPairs}
-use Rattle.replan.specs.Stages.{stage_at, labels_at, HoldsStages, HasCandidates, HasCandidatesUpto, IsWholeWhere}
+use Rattle.replan.specs.Stages.{stage_at, labels_at, HoldsStages, IsWholeWhere}
 
 -- ---- stage 0
 
-abbrev no_pairs : StagePairs
+abbrev pub no_pairs : StagePairs
 no_pairs = record { objective = Makespan; lists = [] }
 
 pub no_landing : (xs : List Landing) → length (ranks xs) ≡ 0 → xs ≡ []
@@ -121,11 +123,15 @@ pub raised_more : (o : Option ℕ) (a b : ℕ) → raised_by b (raised_by a o) �
 raised_more None a b = refl
 raised_more (Some n) a b = ap Some (omega arith)
 
-pub due_more : (p : Problem) (i : ℕ) (o r s : Option ℕ) → (due : ℕ) × HasCandidatesUpto p i due × (r ≡ raised_by due o) → (count : ℕ) × HasCandidates p i count × (s ≡ raised_by count r)
-    → (due : ℕ) × HasCandidatesUpto p (i + 1) due × (s ≡ raised_by due o)
-due_more p i o r s (due, upto, e) (count, has, f) =
-    let n : suc i ≡ i + 1 = omega arith in
-    (due + count, subst (λ (m : ℕ). HasCandidatesUpto p m (due + count)) n (count, due, has, upto, refl), f ∙ ap (raised_by count) e ∙ raised_more o due count)
+-- one stage more, from a number on
+pub due_more : (first : ℕ) (p : Problem) (i : ℕ) (o r s : Option ℕ) → first ≤ i → 0 < i → (due : ℕ) × HasCandidatesFrom first p (i - 1) due × (r ≡ raised_by due o) → (count : ℕ) × HasCandidates p (i - 1) count × (s ≡ raised_by count r)
+    → (due : ℕ) × HasCandidatesFrom first p (i + 1 - 1) due × (s ≡ raised_by due o)
+due_more first p i o r s le some (due, from, e) (count, has, f) =
+    let n : suc (i - 1) ≡ i + 1 - 1 = omega arith in (
+      due + count,
+      subst (λ (m : ℕ). HasCandidatesFrom first p m (due + count)) n (more_from first p (i - 1) due count (omega arith) from has),
+      f ∙ ap (raised_by count) e ∙ raised_more o due count,
+    )
 
 -- ---- what is read of the stages
 

@@ -1,6 +1,7 @@
 -- What is held of a problem.
-use Rattle.std.specs.Prelude.{◌≡◌, ℕ, ℤ, ◌+◌, ◌*◌, List, length, Option, option_map}
+use Rattle.std.specs.Prelude.{◌≡◌, ℕ, ℤ, ◌+◌, ◌-◌, ◌*◌, List, length, Option, option_map}
 use Rattle.landing_rules.specs.Problem.{Problem}
+use Rattle.cps_problem.specs.FirstDifference.{IsFirstDifference}
 use Rattle.replan.specs.Labels.{StagePairs}
 use Rattle.replan.specs.Stages.{HoldsStages}
 
@@ -16,6 +17,11 @@ pub record IsHeld (width : ℕ) (h : HeldProblem) : Type 0 where
   pub width_is : width ≡ 2 * h.problem.k + 1
   pub held : HoldsStages h.problem h.stages h.labels
   pub whole : length h.stages ≡ length h.problem.flights + 1
+
+-- so many stages, from stage 0 on, a problem has in common with one that is held: those from which even the greatest shift
+-- does not reach their first difference
+abbrev pub AreInCommon : Problem → Problem → ℕ → Type 0
+AreInCommon held p count = (d : ℕ) × IsFirstDifference held p d × (count ≡ d - p.k)
 
 -- the problem that is held, where there is one
 abbrev pub problem_of : Option HeldProblem → Option Problem

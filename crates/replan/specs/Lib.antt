@@ -4,4 +4,3 @@ pub mod LabelsOf
 pub mod Stages
 pub mod Held
 pub mod Kept
-pub mod shared

@@ -1,5 +1,5 @@
--- The stages of a problem with their pairs, the number of its candidates, and orders that land.
-use Rattle.std.specs.Prelude.{◌≡◌, ℕ, ℤ, zero, suc, ◌+◌, ◌-◌, ◌<◌, ◌↔◌, Bool, IsTrue, List, [], length, reverse, slice_index_or, Contains}
+-- The stages of a problem with their pairs, and orders that land.
+use Rattle.std.specs.Prelude.{◌≡◌, ℕ, ℤ, ◌-◌, ◌<◌, Bool, IsTrue, List, [], length, reverse, slice_index_or}
 use Rattle.landing_rules.specs.declared.objective.Objective.TheVariants.{Makespan}
 use Rattle.landing_rules.specs.Problem.{Problem}
 use Rattle.cps_theory.specs.Separation.{Landing}
@@ -8,8 +8,6 @@ use Rattle.cps_theory.specs.Labels.{Pair}
 use Rattle.cps_theory.specs.LegalPrefix.{Legal}
 use Rattle.cps_theory.specs.ProblemNetwork.{LandedIn}
 use Rattle.landing_joint.specs.RankedProblem.{ranked, cost_at}
-use Rattle.cps_network.specs.Landable.{IsCandidate}
-use Rattle.cps_network.specs.Lists.{IsAscending}
 use Rattle.cps_network.specs.Permits.{IsNextOf}
 use Rattle.replan.specs.Labels.{StagePairs, HoldsPairs}
 
@@ -33,18 +31,6 @@ pub record HoldsStages (p : Problem) (stages : List (ℕ × List (List ℤ))) (l
 abbrev pub IsWholeWhere : Problem → List (ℕ × List (List ℤ)) → Bool → Type 0
 IsWholeWhere p stages said = IsTrue said → 1 < length stages
     → IsNextOf p (length stages - 2) (stage_at stages (length stages - 2)).1 (stage_at stages (length stages - 1)).1
-
--- the stage after one has so many candidates
-pub record HasCandidates (p : Problem) (stage count : ℕ) : Type 0 where
-  pub candidates : List (List ℤ)
-  pub ascending : IsAscending candidates
-  pub each : (xs : List ℤ) → Contains candidates xs ↔ IsCandidate p stage xs
-  pub counted : length candidates ≡ count
-
--- the stages 1 to n have so many candidates together
-abbrev pub HasCandidatesUpto : Problem → ℕ → ℕ → Type 0
-HasCandidatesUpto p zero total = total ≡ 0
-HasCandidatesUpto p (suc n) total = (count : ℕ) × (before : ℕ) × HasCandidates p n count × HasCandidatesUpto p n before × (total ≡ before + count)
 
 -- the order is legal, and its flights can be given seconds that are open and late enough one after another, the last of them
 -- and what they cost together this pair

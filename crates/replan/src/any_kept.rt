@@ -1,11 +1,11 @@
 //! The planner that is kept from event to event.
 
-ghost use Rattle.std.specs.Prelude.{◌≡◌, ℕ, ◌≤◌, length, IfOk, OnOk, OnErr, None, Some};
+ghost use Rattle.std.specs.Prelude.{◌≡◌, ℕ, ◌≤◌, IfOk, OnOk, OnErr, None, Some};
 ghost use Rattle.cps_base.specs.Tally.{raised_by};
+ghost use Rattle.cps_network.specs.Due.{IsDue};
+ghost use Rattle.cps_network.specs.shared.OneDue.{one_due};
 ghost use Rattle.cps_problem.specs.Plans.{IsPlannable, IsAnswerOf};
 ghost use Rattle.replan.specs.Kept.{k_of, held_of, problem_held};
-ghost use Rattle.replan.specs.Stages.{HasCandidatesUpto};
-ghost use Rattle.replan.specs.shared.OneDue.{one_due};
 
 use crate::Kept;
 use cps_base::{Ledger, Steps};
@@ -46,10 +46,10 @@ impl AnyKept {
 impl Planner for AnyKept {
     ghost k = { k_of };
 
-    // Every stage is filled at each call: one step for each candidate.
-    ghost due = { λ _ p n. HasCandidatesUpto p (length p.flights) n };
+    // One step for each candidate of the stages that the problem does not have in common with the one that is held.
+    ghost due = { λ planner p n. IsDue (problem_held planner) p n };
 
-    ghost due_is_one = { λ _ p a b x y. one_due p (length p.flights) a b x y };
+    ghost due_is_one = { λ planner p a b x y. one_due (problem_held planner) p a b x y };
 
     ghost holds = { λ planner p. problem_held planner ≡ Some p };
 
@@ -69,7 +69,7 @@ impl Planner for AnyKept {
 
         // After want of memory it holds no problem.
         ensures lost { OnErr result (held_of self.new ≡ None) }
-        ensures steps { OnOk result ((n : ℕ) × HasCandidatesUpto problem.now (length problem.now.flights) n × (L.count steps.new ≡ raised_by n (L.count steps.old))) }
+        ensures steps { OnOk result ((n : ℕ) × IsDue (problem_held self.old) problem.now n × (L.count steps.new ≡ raised_by n (L.count steps.old))) }
     {
         match self {
             AnyKept::One(kept) => kept.replan(rt, alloc, problem, gate, steps),

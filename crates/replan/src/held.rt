@@ -1,7 +1,14 @@
-//! A problem that is held with all of its stages.
+//! A problem that is held with all of its stages, and what another problem has in common with it.
 
-use crate::stages::Stages;
+ghost use Rattle.std.specs.Prelude.{◌≡◌, ℕ, ◌+◌, ◌-◌, ◌*◌, ◌<◌, ◌≤◌, length, vec_len, IfOk};
+ghost use Rattle.cps_network.specs.Due.{IsDueFrom};
+ghost use Rattle.replan.specs.Held.{AreInCommon, problem_of};
+ghost use Rattle.replan.specs.Stages.{HoldsStages, IsWholeWhere};
+
+use crate::stages::{Stages, first_stage};
+use cps_network::kept_stages;
 use cps_problem::Problem;
+use std::alloc::{AllocError, Global};
 use std::marker::Model;
 
 /// A problem with all of its stages.
@@ -20,4 +27,60 @@ impl<const W: usize> Model for HeldProblem<W> {
     ghost view = { λ h. record { problem = h.problem; stages = h.stages.stages.items; labels = h.stages.labels.items } };
 
     ghost invariant = { λ h. IsHeld W (record { problem = h.problem; stages = h.stages.stages.items; labels = h.stages.labels.items }) };
+}
+
+// How many stages of a problem, from stage 0 on, another has in common with it: those from which even the greatest shift does
+// not reach the first rank at which they differ.
+fn common(held: &Problem, problem: &Problem) -> usize
+    ensures { AreInCommon held.now problem.now result }
+{
+    let d = held.first_difference(problem);
+    d.saturating_sub(problem.head().k) as usize
+}
+
+impl<const W: usize> HeldProblem<W> {
+    // The stages that another problem has in common with this one, where these are more than stage 0. The others are given
+    // back.
+    fn into_common(self, problem: &Problem, count: usize) -> Stages<W>
+        requires more { 1 < count }
+        requires common { AreInCommon self.problem problem.now count }
+        ensures held { HoldsStages problem.now result.stages.items result.labels.items }
+        ensures whole { IsWholeWhere problem.now result.stages.items result.last_is_whole }
+        ensures count { vec_len result.stages ≡ count }
+    {
+        kept_stages(&self.problem, problem);
+        let mut stages = self.stages;
+        stages.truncate(count);
+        stages
+    }
+}
+
+/// The stages from which on a problem is to be filled: those that it has in common with the one that is held, or stage 0.
+pub(crate) fn begin_stages<const W: usize>(
+    alloc: Global,
+    problem: &Problem,
+    held: Option<HeldProblem<W>>,
+) -> Result<Stages<W>, AllocError>
+    requires width { W ≡ 2 * problem.now.k + 1 }
+    ensures held { IfOk result (λ kept. HoldsStages problem.now kept.stages.items kept.labels.items) }
+    ensures whole { IfOk result (λ kept. IsWholeWhere problem.now kept.stages.items kept.last_is_whole) }
+    ensures some { IfOk result (λ kept. 0 < vec_len kept.stages) }
+    ensures few { IfOk result (λ kept. vec_len kept.stages ≤ length problem.now.flights + 1) }
+    ensures due { IfOk result (λ kept. IsDueFrom (problem_of held.entry) problem.now (vec_len kept.stages)) }
+{
+    match held {
+        None => {
+            let stages = first_stage(alloc, problem)?;
+            Ok(stages)
+        }
+        Some(held) => {
+            let count = common(&held.problem, problem);
+            if count > 1 {
+                return Ok(held.into_common(problem, count));
+            }
+            drop(held);
+            let stages = first_stage(alloc, problem)?;
+            Ok(stages)
+        }
+    }
 }

@@ -1,12 +1,12 @@
 //! The problem that was planned last, with its stages.
 
-ghost use Rattle.std.specs.Prelude.{◌≡◌, ℕ, ◌+◌, ◌*◌, length, IfOk, OnOk, OnErr, None, Some};
+ghost use Rattle.std.specs.Prelude.{◌≡◌, ℕ, ◌+◌, ◌*◌, IfOk, OnOk, OnErr, None, Some};
 ghost use Rattle.cps_base.specs.Tally.{raised_by};
+ghost use Rattle.cps_network.specs.Due.{IsDue};
 ghost use Rattle.cps_problem.specs.Plans.{IsAnswerOf};
 ghost use Rattle.replan.specs.Held.{problem_of};
-ghost use Rattle.replan.specs.Stages.{HasCandidatesUpto};
 
-use crate::held::HeldProblem;
+use crate::held::{HeldProblem, begin_stages};
 use crate::plan::schedule_of;
 use crate::stages::fill_stages;
 use cps_base::{Ledger, Steps};
@@ -44,7 +44,8 @@ impl<const W: usize> Kept<W> {
         Kept { held: None }
     }
 
-    // Plans a problem, and holds it. The stages held before are given back first, so that after want of memory none is held.
+    // Plans a problem, and holds it. The stages that it has in common with the problem held before are kept, and the others
+    // are given back before new ones are filled. After want of memory no problem is held.
     pub(crate) fn replan<R: Threads, G: Gate, L: Ledger>(
         &mut self,
         rt: &R,
@@ -57,11 +58,12 @@ impl<const W: usize> Kept<W> {
         ensures answer { IfOk result (IsAnswerOf problem.now) }
         ensures holds { OnOk result (problem_of self.new ≡ Some problem.now) }
         ensures lost { OnErr result (self.new ≡ None) }
-        ensures steps { OnOk result ((due : ℕ) × HasCandidatesUpto problem.now (length problem.now.flights) due × (L.count steps.new ≡ raised_by due (L.count steps.old))) }
+        ensures steps { OnOk result ((due : ℕ) × IsDue (problem_of self.old) problem.now due × (L.count steps.new ≡ raised_by due (L.count steps.old))) }
     {
-        self.held = None;
+        let held = self.held.take();
         let copied = problem.copy()?;
-        let stages = fill_stages(rt, alloc, problem, gate, steps)?;
+        let mut stages = begin_stages(alloc, problem, held)?;
+        fill_stages(rt, alloc, problem, &mut stages, gate, steps)?;
         let answer = schedule_of(alloc, problem, &stages)?;
         self.held = Some(HeldProblem {
             problem: copied,

@@ -1,12 +1,13 @@
 //! The stages of a problem.
 
-ghost use Rattle.std.specs.Prelude.{◌≡◌, ℕ, ◌+◌, ◌-◌, ◌*◌, ◌<◌, ◌≤◌, length, vec_len, IfOk, OnOk, IsTrue};
+ghost use Rattle.std.specs.Prelude.{◌≡◌, ℕ, ◌+◌, ◌-◌, ◌*◌, ◌<◌, ◌≤◌, length, vec_len, take, IfOk, OnOk, IsTrue, false};
 ghost use Rattle.cps_base.specs.Tally.{raised_by};
+ghost use Rattle.cps_network.specs.Due.{HasCandidates, HasCandidatesFrom};
 ghost use Rattle.cps_network.specs.Landable.{HoldsCandidates};
 ghost use Rattle.cps_network.specs.Lists.{IsAscending};
 ghost use Rattle.cps_network.specs.Permits.{IsNextOf};
 ghost use Rattle.replan.specs.Labels.{HoldsPairs};
-ghost use Rattle.replan.specs.Stages.{stage_at, HoldsStages, HasCandidates, HasCandidatesUpto, IsWholeWhere};
+ghost use Rattle.replan.specs.Stages.{HoldsStages, IsWholeWhere};
 
 use crate::labels::Labels;
 use cps_base::{Ledger, Steps};
@@ -25,8 +26,24 @@ pub(crate) struct Stages<const W: usize> {
     last_is_whole: bool,
 }
 
+impl<const W: usize> Stages<W> {
+    // Keeps so many of the stages, from stage 0 on. What was said of the last one is not said of the one that is last then.
+    pub(crate) fn truncate(&mut self, count: usize)
+        ensures stages { self.new.stages.items ≡ take count self.old.stages.items }
+        ensures labels { self.new.labels.items ≡ take count self.old.labels.items }
+        ensures whole { self.new.last_is_whole ≡ false }
+    {
+        self.stages.truncate(count);
+        self.labels.truncate(count);
+        self.last_is_whole = false;
+    }
+}
+
 // Stage 0.
-fn first_stage<const W: usize>(alloc: Global, problem: &Problem) -> Result<Stages<W>, AllocError>
+pub(crate) fn first_stage<const W: usize>(
+    alloc: Global,
+    problem: &Problem,
+) -> Result<Stages<W>, AllocError>
     requires width { W ≡ 2 * problem.now.k + 1 }
     ensures held { IfOk result (λ kept. HoldsStages problem.now kept.stages.items kept.labels.items) }
     ensures whole { IfOk result (λ kept. IsWholeWhere problem.now kept.stages.items kept.last_is_whole) }
@@ -132,23 +149,28 @@ fn add_stage<const W: usize, R: Threads, G: Gate, L: Ledger>(
     Ok(())
 }
 
-// All stages of a problem.
+// The stages that follow those that are kept, up to the last.
 pub(crate) fn fill_stages<const W: usize, R: Threads, G: Gate, L: Ledger>(
     rt: &R,
     alloc: Global,
     problem: &Problem,
+    kept: &mut Stages<W>,
     gate: &G,
     steps: &mut Steps<L>,
-) -> Result<Stages<W>, AllocError>
+) -> Result<(), AllocError>
     requires width { W ≡ 2 * problem.now.k + 1 }
-    ensures held { IfOk result (λ kept. HoldsStages problem.now kept.stages.items kept.labels.items) }
-    ensures whole { IfOk result (λ kept. vec_len kept.stages ≡ length problem.now.flights + 1) }
-    ensures steps { OnOk result ((due : ℕ) × HasCandidatesUpto problem.now (length problem.now.flights) due × (L.count steps.new ≡ raised_by due (L.count steps.old))) }
+    requires held { HoldsStages problem.now kept.old.stages.items kept.old.labels.items }
+    requires whole { IsWholeWhere problem.now kept.old.stages.items kept.old.last_is_whole }
+    requires some { 0 < vec_len kept.old.stages }
+    requires few { vec_len kept.old.stages ≤ length problem.now.flights + 1 }
+    ensures held { OnOk result (HoldsStages problem.now kept.new.stages.items kept.new.labels.items) }
+    ensures all { OnOk result (vec_len kept.new.stages ≡ length problem.now.flights + 1) }
+    ensures steps { OnOk result ((due : ℕ) × HasCandidatesFrom (vec_len kept.old.stages) problem.now (length problem.now.flights) due × (L.count steps.new ≡ raised_by due (L.count steps.old))) }
 {
-    let mut kept = first_stage(alloc, problem)?;
     steps.tick(0);
-    for _stage in 0..problem.len() {
-        add_stage(rt, alloc, problem, &mut kept, gate, steps)?;
+    let first = kept.stages.len();
+    for _stage in first..problem.len() as usize + 1 {
+        add_stage(rt, alloc, problem, kept, gate, steps)?;
     }
-    Ok(kept)
+    Ok(())
 }

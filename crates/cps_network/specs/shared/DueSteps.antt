@@ -1,13 +1,13 @@
--- What is due stage by stage, and that it is at most the widest stage for each flight.
-use Rattle.std.proofs.Common.{◌≡◌, ℕ, zero, suc, ◌+◌, ◌-◌, ◌*◌, ◌^◌, ◌<◌, ◌≤◌, ◌||◌, leb, ltb, List, [], length, Bool, true, false, Some, None, refl, sym, subst, arith, suc-mul}
+-- What is due stage by stage, from which stage on, and that it is at most the widest stage for each flight.
+use Rattle.std.proofs.Common.{◌≡◌, ℕ, zero, suc, ◌+◌, ◌-◌, ◌*◌, ◌^◌, ◌<◌, ◌≤◌, ◌||◌, leb, ltb, List, [], length, Bool, true, false, Option, Some, None, inl, inr, refl, sym, subst, ◌∙◌, arith, suc-mul}
 use Rattle.std.specs.Prelude.{ℤ}
-use Rattle.std.proofs.lemmas.Bool.{leb-true, le-leb, ltb-true, or_left}
+use Rattle.std.proofs.lemmas.Bool.{cases_lt, leb-true, le-leb, lt-leb, ltb-true, or_left}
 use Rattle.std.proofs.lemmas.List.Elements.{Contains-get_or}
 use Rattle.landing_rules.specs.Problem.{Problem}
 use Rattle.cps_nodes.specs.Windows.{IsWindow}
 use Rattle.cps_theory.specs.FirstDifference.{counts}
 use Rattle.cps_problem.specs.FirstDifference.{IsFirstDifference}
-use Rattle.cps_network.specs.Due.{HasCandidates, HasCandidatesIf, HasCandidatesWhere, DueIsBounded}
+use Rattle.cps_network.specs.Due.{HasCandidates, HasCandidatesIf, HasCandidatesWhere, HasCandidatesUpto, HasCandidatesFrom, IsDue, IsDueFrom, DueIsBounded}
 use Rattle.cps_network.specs.Landable.{IsCandidate}
 use Rattle.cps_network.specs.Lists.{AreWindows, node_at}
 use Rattle.cps_network.specs.WindowLaws.{WindowLaws}
@@ -41,6 +41,42 @@ counts_not d k last stage near held = neither (leb (d - k) stage) (ltb last stag
 -- with all stages of a problem held, what is due is that of the stages from d - k on
 pub counts_held : (held p : Problem) (d stage : ℕ) → IsFirstDifference held p d → stage + p.k < d → counts d p.k (length held.flights) stage ≡ false
 counts_held held p d stage is near = counts_not d p.k (length held.flights) stage near (let a = is.within.0 in omega arith)
+
+-- ---- the same stages
+
+same_if : (a b : Bool) (p : Problem) (n count : ℕ) → a ≡ b → HasCandidatesIf a p n count → HasCandidatesIf b p n count
+same_if a b p n count e has = subst (λ (c : Bool). HasCandidatesIf c p n count) e has
+
+-- tests that the same stages pass count the same
+pub same_where : (f g : ℕ → Bool) (p : Problem) (n total : ℕ) → ((s : ℕ) → 1 ≤ s → s ≤ n → f s ≡ g s) → HasCandidatesWhere f p n total → HasCandidatesWhere g p n total
+same_where f g p zero total same has = has
+same_where f g p (suc n) total same (count, before, here, rest, e) =
+    (count, before, same_if (f (suc n)) (g (suc n)) p n count (same (suc n) (omega arith) (omega arith)) here, same_where f g p n before (λ s one le. same s one (omega arith)) rest, e)
+
+-- before the first of them nothing is due
+pub none_from : (first : ℕ) (p : Problem) (n : ℕ) → n < first → HasCandidatesFrom first p n 0
+none_from first p n below = none_due (leb first) p n (λ s one le. lt-leb first s (omega arith))
+
+-- and from there on each stage
+pub more_from : (first : ℕ) (p : Problem) (n before count : ℕ) → first ≤ suc n → HasCandidatesFrom first p n before → HasCandidates p n count → HasCandidatesFrom first p (suc n) (before + count)
+more_from first p n before count le due has = more_due (leb first) p n before count (le-leb first (suc n) le) due has
+
+-- where nothing is held all stages are due
+pub all_due : (p : Problem) (total : ℕ) → IsDue None p total → HasCandidatesUpto p (length p.flights) total
+all_due p total due = same_where (counts 1 p.k 0) (λ _. true) p (length p.flights) total (λ s one le. counts_from 1 p.k 0 s (omega arith)) due
+
+pub due_with_none : (p : Problem) → IsDueFrom None p 1
+due_with_none p total has = same_where (leb 1) (counts 1 p.k 0) p (length p.flights) total (λ s one le. le-leb 1 s one ∙ sym (counts_from 1 p.k 0 s (omega arith))) has
+
+-- where all stages of a problem are held, it is those from d - k on, or all of them
+pub due_with_held : (held p : Problem) (d first : ℕ) → IsFirstDifference held p d → d ≤ first + p.k → (1 < first → first + p.k ≤ d) → IsDueFrom (Some held) p first
+due_with_held held p d first is low high total has = (d, is, same_where (leb first) (counts d p.k (length held.flights)) p (length p.flights) total each has)
+  where
+    each : (s : ℕ) → 1 ≤ s → s ≤ length p.flights → leb first s ≡ counts d p.k (length held.flights) s
+    each s one le = elim (cases_lt s first) [
+      | inl below ↦ lt-leb first s below ∙ sym (counts_held held p d s is (let e = high (omega arith) in omega arith))
+      | inr from ↦ le-leb first s from ∙ sym (counts_from d p.k (length held.flights) s (omega arith))
+    ]
 
 -- ---- the bound
 

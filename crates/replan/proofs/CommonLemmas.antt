@@ -1,0 +1,55 @@
+-- What is kept of the stages of a problem for another.
+use Rattle.std.proofs.Common.{◌≡◌, ℕ, ◌+◌, ◌<◌, ◌≤◌, List, [], length, take, Some, sym, ap, subst, ◌∙◌, arith}
+use Rattle.std.specs.Prelude.{ℤ}
+use Rattle.std.proofs.lemmas.List.{get_or-take, length-take-le}
+use Rattle.landing_rules.specs.Problem.{Problem}
+use Rattle.cps_problem.specs.FirstDifference.{HaveSameHead}
+use Rattle.cps_network.specs.Due.{IsDueFrom}
+use Rattle.cps_network.specs.KeptStages.{HaveStageInCommon, EarlyStagesAreKept}
+use Rattle.cps_network.specs.shared.DueSteps.{due_with_held}
+use Rattle.cps_network.specs.shared.KeptCosts.{kept_costs}
+use Rattle.replan.specs.Held.{AreInCommon}
+use Rattle.replan.specs.Labels.{StagePairs, HoldsPairs}
+use Rattle.replan.specs.Stages.{stage_at, labels_at, HoldsStages}
+use Rattle.replan.proofs.StageLemmas.{no_pairs}
+
+same_pairs : (p q : Problem) (stage : ℕ × List (List ℤ)) (labels : StagePairs) → HaveSameHead p q → HaveStageInCommon p q stage.0 → HoldsPairs p stage labels → HoldsPairs q stage labels
+same_pairs p q stage labels head common is = record { objective = is.objective ∙ head.objective; held = kept_costs p q stage labels.lists common is.held }
+
+module _ (p q : Problem) (stages : List (ℕ × List (List ℤ))) (labels : List StagePairs) (count : ℕ) (holds : HoldsStages p stages labels) (early : EarlyStagesAreKept p q) (common : AreInCommon p q count) (more : 1 < count) (within : count ≤ length stages) where
+  stage_left : (i : ℕ) → i < count → stage_at (take count stages) i ≡ stage_at stages i
+  stage_left i lt = get_or-take count stages i (0, []) lt
+
+  held_left : (i : ℕ) → i < count → HoldsPairs q (stage_at (take count stages) i) (labels_at (take count labels) i)
+  held_left i lt =
+      let is = common.1 in
+      let e = common.2 in
+      let agree = is.agree (omega (arith, e, more)) in
+      let same = agree.head.k in
+      let here : i < length stages = omega (arith, lt, within) in
+      let kept = early common.0 is.within agree (stage_at stages i).0 (let n = holds.number i here in omega (arith, n, e, lt, same)) in
+      subst (λ (s : ℕ × List (List ℤ)). HoldsPairs q s (labels_at (take count labels) i)) (sym (stage_left i lt))
+      (subst (λ (ls : StagePairs). HoldsPairs q (stage_at stages i) ls) (sym (get_or-take count labels i no_pairs lt))
+      (same_pairs p q (stage_at stages i) (labels_at labels i) agree.head kept (holds.held i here)))
+
+  long : length (take count stages) ≡ count
+  long = length-take-le count stages within
+
+  pub held_in_common : HoldsStages q (take count stages) (take count labels)
+  held_in_common = record {
+    one_each = length-take-le count labels (let a = holds.one_each in omega (arith, a, within)) ∙ sym long;
+    number = λ i lt. let here : i < count = omega (arith, lt, long) in ap (λ (s : ℕ × List (List ℤ)). s.0) (stage_left i here) ∙ holds.number i (omega (arith, here, within));
+    held = λ i lt. held_left i (omega (arith, lt, long));
+  }
+
+-- they are no more than are held
+pub few_in_common : (p q : Problem) (count : ℕ) (stages : List (ℕ × List (List ℤ))) → AreInCommon p q count → length stages ≡ length p.flights + 1 → count ≤ length stages
+few_in_common p q count stages (d, is, e) whole = let a = is.within.0 in omega (arith, a, e, whole)
+
+-- nor more than the other problem has
+pub fits_in_common : (p q : Problem) (count : ℕ) → AreInCommon p q count → count ≤ length q.flights + 1
+fits_in_common p q count (d, is, e) = let a = is.within.1 in omega (arith, a, e)
+
+-- what is due are the stages that follow
+pub due_after_common : (p q : Problem) (count first : ℕ) → AreInCommon p q count → count ≤ first → (1 < first → first ≤ count) → IsDueFrom (Some p) q first
+due_after_common p q count first (d, is, e) low high = due_with_held p q d first is (omega arith) (λ more. let a = high more in omega arith)
