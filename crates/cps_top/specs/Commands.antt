@@ -1,12 +1,28 @@
 -- The commands: how their words read, and what each admits over the contents of its files.
-use Rattle.std.specs.Prelude.{ℕ, ◌&&◌, ◌==◌, List, [], ◌∷◌, length, drop, codes, bytes_eq, Option, Some, None, if◌then◌else◌}
+use Rattle.std.specs.Prelude.{ℕ, ◌&&◌, ◌==◌, ◌≤◌, ⊤, List, [], ◌∷◌, length, drop, codes, bytes_eq, Option, Some, None, option_map, unwrap_or, if◌then◌else◌}
+use Rattle.std.specs.Result.{result_ok}
+use Rattle.cps_base.specs.Number.{number_within}
 use Rattle.cps_top.specs.declared.commands.Command.{Command}
-use Rattle.cps_top.specs.declared.commands.Command.TheVariants.{Plan, Replay, Check}
+use Rattle.cps_top.specs.declared.commands.Command.TheVariants.{Plan, Replay, Check, Trial}
 use Rattle.cps_top.specs.declared.endings.Answer.{Answer}
 use Rattle.cps_top.specs.declared.endings.Refusal.{Refusal}
 use Rattle.cps_top.specs.Check.{AdmitsCheck, RefusesCheck}
 use Rattle.cps_top.specs.Plan.{AdmitsPlan, RefusesPlan}
 use Rattle.cps_top.specs.Replay.{AdmitsReplay, BeginsReplay, RefusesReplay}
+use Rattle.cps_top.specs.Trial.{AdmitsTrial}
+
+-- the number that a word is, of those from least to most
+abbrev pub number_of : List ℕ → ℕ → ℕ → Option ℕ
+number_of word least most = result_ok (number_within word least most)
+
+abbrev pub trial_by : Option ℕ → Option ℕ → Option ℕ → Option Command
+trial_by (Some seed) (Some n) (Some k) = Some (Trial seed n k)
+trial_by seed n k = None
+
+-- a seed, a number of flights and a bound on shifts
+abbrev pub trial_of : List (List ℕ) → Option Command
+trial_of (seed ∷ n ∷ k ∷ []) = trial_by (number_of seed 0 4294967295) (number_of n 1 60) (number_of k 0 3)
+trial_of words = None
 
 -- the command that these words fit
 abbrev pub command_of : List (List ℕ) → Option Command
@@ -15,23 +31,36 @@ command_of (word ∷ rest) =
     if bytes_eq word (codes "plan") && (length rest == 2) then Some Plan
     else if bytes_eq word (codes "replay") && (length rest == 3) then Some Replay
     else if bytes_eq word (codes "check") && (length rest == 3) then Some Check
+    else if bytes_eq word (codes "trial") then trial_of rest
     else None
 
 -- the words that name its files, in their order
+abbrev pub names_of : Command → List (List ℕ) → List (List ℕ)
+names_of (Trial seed n k) words = []
+names_of command words = drop 1 words
+
+-- the same of words, where they fit a command
 abbrev pub files_of : List (List ℕ) → List (List ℕ)
-files_of words = drop 1 words
+files_of words = unwrap_or (option_map (λ command. names_of command words) (command_of words)) []
+
+-- what is asked of its numbers
+abbrev pub IsInRange : Command → Type 0
+IsInRange (Trial seed n k) = (1 ≤ n) × (n ≤ 60) × (k ≤ 3)
+IsInRange command = ⊤
 
 -- how many files it has
 abbrev pub file_count : Command → ℕ
 file_count Plan = 2
 file_count Replay = 3
 file_count Check = 3
+file_count (Trial seed n k) = 0
 
 -- Over these contents of its files a command may print this text, whole, and answer so.
 abbrev pub Admits : Command → List (List ℕ) → List ℕ → Answer → Type 0
 Admits Plan (aerodrome ∷ flights ∷ []) text answer = AdmitsPlan aerodrome flights text answer
 Admits Replay (aerodrome ∷ flights ∷ events ∷ []) text answer = AdmitsReplay aerodrome flights events text answer
 Admits Check (aerodrome ∷ flights ∷ certificate ∷ []) text answer = AdmitsCheck aerodrome flights certificate text answer
+Admits (Trial seed n k) [] text answer = AdmitsTrial seed n k text answer
 Admits command contents text answer = ⊥
 
 -- A text that a command may have begun to print when it stops early.

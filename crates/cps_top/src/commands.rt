@@ -1,5 +1,7 @@
-ghost use Rattle.std.specs.Prelude.{◌≡◌, ◌<◌, length, map, string_bytes};
-ghost use Rattle.cps_top.specs.Commands.{command_of, files_of};
+ghost use Rattle.std.specs.Prelude.{◌≡◌, Some, IfSome, ◌≤◌, map, string_bytes};
+ghost use Rattle.cps_top.specs.Commands.{IsInRange, command_of, files_of, number_of, trial_of};
+
+use cps_base::read_number;
 
 /// The commands, each with its first word.
 #[derive(Clone, Copy, Debug, PartialEq, Eq)]
@@ -10,11 +12,37 @@ pub enum Command {
     Replay,
     /// `check AERODROME FLIGHTS CERTIFICATE`.
     Check,
+    /// `trial SEED N K`: a seed from 0 to 4,294,967,295, 1 to 60 flights, and a bound on shifts from 0 to 3. It has no
+    /// files.
+    Trial { seed: u64, n: u8, k: u8 },
+}
+
+// The number that a word is, of those from `least` to `most`.
+fn number(word: &str, least: u64, most: u64) -> Option<u64>
+    ensures value { result ≡ number_of word.now least most }
+    ensures range { IfSome result (λ n. (least ≤ n) × (n ≤ most)) }
+{
+    read_number(word.as_bytes(), least, most).ok()
+}
+
+// The trial of these numbers.
+fn read_trial(words: &[String]) -> Option<Command>
+    ensures value { result ≡ trial_of (map string_bytes words.now) }
+    ensures range { IfSome result IsInRange }
+{
+    let [seed, n, k] = words else {
+        return None;
+    };
+    let seed = number(seed.as_str(), 0, 4_294_967_295)?;
+    let n = number(n.as_str(), 1, 60)? as u8;
+    let k = number(k.as_str(), 0, 3)? as u8;
+    Some(Command::Trial { seed, n, k })
 }
 
 // The command that these words fit.
 pub(crate) fn read_command(words: &[String]) -> Option<Command>
-    ensures { result ≡ command_of (map string_bytes words.now) }
+    ensures value { result ≡ command_of (map string_bytes words.now) }
+    ensures range { IfSome result IsInRange }
 {
     let [word, rest @ ..] = words else {
         return None;
@@ -28,13 +56,19 @@ pub(crate) fn read_command(words: &[String]) -> Option<Command>
     if word.as_str() == "check" && rest.len() == 3 {
         return Some(Command::Check);
     }
+    if word.as_str() == "trial" {
+        return read_trial(rest);
+    }
     None
 }
 
-// The words that name the files.
-pub(crate) fn files(words: &[String]) -> &[String]
-    requires { 0 < length words.now }
+// The words that name the files of the command that they fit.
+pub(crate) fn files(command: Command, words: &[String]) -> &[String]
+    requires { command_of (map string_bytes words.now) ≡ Some command }
     ensures { map string_bytes result.now ≡ files_of (map string_bytes words.now) }
 {
-    &words[1..]
+    match command {
+        Command::Trial { .. } => &[],
+        _ => &words[1..],
+    }
 }

@@ -26,7 +26,6 @@ pub use replay_laws::{
     clock_shows_no_dearer_plan, printed_states_are_sound, text_fixes_the_replay,
 };
 pub use top::run;
-pub use trial::write_trial;
 
 #[cfg(test)]
 mod check_tests;

@@ -1,6 +1,6 @@
 ghost use Rattle.std.specs.Prelude.{◌≡◌, ◌≤◌, map, length, string_bytes, vec_items};
 ghost use Rattle.std.specs.List.{AllByRecursion};
-ghost use Rattle.cps_top.specs.Commands.{file_count};
+ghost use Rattle.cps_top.specs.Commands.{IsInRange, file_count};
 ghost use Rattle.cps_top.specs.Loads.{limit};
 ghost use Rattle.cps_top.specs.Outcome.{Follows, Ends, RunsTo};
 ghost use Rattle.cps_top.specs.Statuses.{Causes, Asks, Completes, IsExact};
@@ -11,6 +11,7 @@ use crate::lines::{say, status};
 use crate::loads::load_all;
 use crate::plan::plan;
 use crate::replay::replay;
+use crate::trial::trial;
 use crate::{Command, Ending};
 use cps_outside::{Folder, Gate, Sink};
 use std::alloc::Global;
@@ -25,6 +26,7 @@ fn perform<R: Threads + Sync, S: Sink, G: Gate + Sync>(
     out: &mut S,
     gate: &G,
 ) -> Ending
+    requires numbers { IsInRange command }
     requires count { length contents.now ≡ file_count command }
     requires bounded { AllByRecursion (λ bytes. length bytes ≤ limit) (map vec_items contents.now) }
     ensures { Follows command (map vec_items contents.now) (S.state out.old) (S.state out.new) result }
@@ -54,6 +56,7 @@ fn perform<R: Threads + Sync, S: Sink, G: Gate + Sync>(
             contents[2].as_slice(),
             out,
         ),
+        Command::Trial { seed, n, k } => trial(rt, alloc, seed, n, k, out, gate),
     }
 }
 
@@ -72,7 +75,7 @@ fn work<R: Threads + Sync, F: Folder, S: Sink, G: Gate + Sync>(
     let Some(command) = read_command(words) else {
         return Ending::Misused;
     };
-    match load_all(alloc, folder, files(words)) {
+    match load_all(alloc, folder, files(command, words)) {
         Err(ending) => ending,
         Ok(contents) => perform(rt, alloc, command, contents.as_slice(), out, gate),
     }
@@ -80,9 +83,9 @@ fn work<R: Threads + Sync, F: Folder, S: Sink, G: Gate + Sync>(
 
 /// Runs the command of these words, and answers its status, 0 to 8.
 ///
-/// The work goes in this order: the words; the loads, in the order of the words; the reading of each file, in the same
-/// order; the limit of 60 waiting flights; the plan, and of `replay` the events, or of `check` the verdict on the
-/// certificate. The first thing that goes wrong decides the status. That the text of a replay fixes its run, its answers
+/// The work goes in this order: the words; the loads, in the order of the words, and none for `trial`; the reading of
+/// each file, in the same order; the limit of 60 waiting flights; the plan, and of `replay` the events, or of `check` the
+/// verdict on the certificate. The first thing that goes wrong decides the status. That the text of a replay fixes its run, its answers
 /// and plans, is the law `replay_law::text_fixes_the_run`.
 ///
 /// | status | comes |

@@ -4,7 +4,9 @@ ghost use Rattle.landing_rules.specs.Problem.{IsProblemOf};
 ghost use Rattle.landing_rules.specs.Text.{plan_shown};
 ghost use Rattle.aerodrome_file.specs.Reading.{IsInRange};
 ghost use Rattle.flight_file.specs.OfFile.{CanBeRead};
+ghost use Rattle.cps_top.specs.declared.commands.Command.TheVariants as commands;
 ghost use Rattle.cps_top.specs.declared.endings.Ending.TheVariants.{NoMemory};
+ghost use Rattle.cps_top.specs.Outcome.{Follows};
 ghost use Rattle.plan_text.specs.Trial.{trial_text};
 ghost use Rattle.cps_top.specs.Plan.{answer_of};
 ghost use Rattle.cps_top.specs.Trial.{Sums, AdmitsTrial};
@@ -12,7 +14,7 @@ ghost use Rattle.cps_top.specs.Trial.{Sums, AdmitsTrial};
 use crate::plan::answer;
 use crate::{Answer, Ending};
 use cps_base::{Counted, Steps};
-use cps_outside::Gate;
+use cps_outside::{Gate, Sink};
 use cps_problem::Planner;
 use plan_text::trial_summary;
 use replan::AnyKept;
@@ -66,8 +68,8 @@ fn write_traffic<R: Threads + Sync, G: Gate + Sync>(
     Ok(answer)
 }
 
-/// Writes the summary of the traffic of a seed into an empty text, and says whether it has a plan.
-pub fn write_trial<R: Threads + Sync, G: Gate + Sync>(
+// Writes the summary of the traffic of a seed into an empty text, and says whether it has a plan.
+fn write_trial<R: Threads + Sync, G: Gate + Sync>(
     rt: &R,
     alloc: Global,
     seed: u64,
@@ -83,4 +85,28 @@ pub fn write_trial<R: Threads + Sync, G: Gate + Sync>(
 {
     let traffic = generate(alloc, seed, n, k)?;
     write_traffic(rt, alloc, traffic, n, k, gate, text)
+}
+
+// Prints the summary of the traffic of a seed.
+pub(crate) fn trial<R: Threads + Sync, S: Sink, G: Gate + Sync>(
+    rt: &R,
+    alloc: Global,
+    seed: u64,
+    n: u8,
+    k: u8,
+    out: &mut S,
+    gate: &G,
+) -> Ending
+    requires count { (1 ≤ n) × (n ≤ 60) }
+    requires shifts { k ≤ 3 }
+    ensures { Follows (commands.Trial seed n k) [] (S.state out.old) (S.state out.new) result }
+{
+    let mut text = Vec::new(alloc);
+    match write_trial(rt, alloc, seed, n, k, gate, &mut text) {
+        Err(ending) => ending,
+        Ok(answer) => match out.put(text.as_slice()) {
+            Ok(()) => Ending::Answered(answer),
+            Err(_) => Ending::NotWritten,
+        },
+    }
 }

@@ -4,32 +4,11 @@ use Rattle.std.proofs.lemmas.List.{append-nil, length-append}
 use Rattle.cps_outside.specs.SinkState.{SinkState}
 use Rattle.landing_rules.specs.Events.{State, Event, Step, Answered, Run}
 use Rattle.landing_rules.specs.Text.{Bytes, answer_text, answers_text, replay_text, begun_text}
-use Rattle.replays.proofs.Runs.{Run-push, answers_text-push, last_state-push}
+use Rattle.replays.specs.shared.LongerRuns.{Run-push, answers_text-push, last_state-push}
+use Rattle.replays.specs.shared.Written.{wrote_nothing, wrote_after, part_after}
 use Rattle.replays.specs.declared.stops.Stop.{Stop}
 use Rattle.replays.specs.declared.stops.Stop.TheVariants as stop
 use Rattle.replays.specs.Runs.{last_state, Wrote, WrotePart, Answers, StepWrites, Opens, RunTells, PartTells, EventsWrite, ReplayEnds}
-
-pub wrote_nothing : (old : SinkState) → Wrote old old []
-wrote_nothing old = record { tells = refl; faults = omega arith; grew = λ told. sym (append-nil old.written) }
-
-pub wrote_after : (old mid new : SinkState) (x y : Bytes) → Wrote old mid x → Wrote mid new y → Wrote old new (x ++ y)
-wrote_after old mid new x y a b = record {
-  tells = b.tells ∙ a.tells;
-  faults = omega (arith, a.faults, b.faults);
-  grew = λ told. b.grew (a.tells ∙ told) ∙ ap (λ (w : Bytes). w ++ y) (a.grew told) ∙ append_assoc old.written x y;
-}
-
-pub part_after : (old mid new : SinkState) (x y : Bytes) → Wrote old mid x → WrotePart mid new y → WrotePart old new (x ++ y)
-part_after old mid new x y a b = record {
-  tells = b.tells ∙ a.tells;
-  part = λ told. let p = b.part (a.tells ∙ told) in (
-    x ++ p.0,
-    p.1,
-    append_assoc x p.0 p.1 ∙ ap (λ (l : Bytes). x ++ l) p.2,
-    p.3 ∙ ap (λ (w : Bytes). w ++ p.0) (a.grew told) ∙ append_assoc old.written x p.0,
-  );
-  failed = omega (arith, a.faults, b.failed);
-}
 
 -- what was done of the events, and what is left
 pub record Done (old : State) (events : List Event) (from : SinkState) (i : ℕ) (state : State) (rest : List Event) (to : SinkState) : Type 0 where
@@ -128,14 +107,3 @@ pub stops_after : (s : Stop) (old new : State) (events : List Event) (from mid t
     EventsWrite old new events mid to (Err s) → ReplayEnds old new events from to (Err s)
 stops_after stop.NotWritten old new events from mid to a r = unwritten_after old events from mid to a r
 stops_after stop.NoMemory old new events from mid to a r = inr (short_after old events from mid to a r)
-
--- ---- events by their place
-
-pub event_at : {X : Type 0} (f : X → Event) (xs : List X) (i : ℕ) (x : X) → i < length xs → x ≡ get_or xs i x → map f (drop i xs) ≡ f x ∷ map f (drop (i + 1) xs)
-event_at f xs i x h e = rw (add-one, drop-cons xs i x) (ap (λ (y : _). f y ∷ map f (drop (suc i) xs)) (sym e))
-
-pub none_left : {X : Type 0} (f : X → Event) (xs : List X) (i : ℕ) → length xs ≤ i → map f (drop i xs) ≡ []
-none_left f [] zero h = refl
-none_left f [] (suc i) h = refl
-none_left f (x ∷ xs) zero h = absurd (omega arith)
-none_left f (x ∷ xs) (suc i) h = none_left f xs i (omega arith)

@@ -1,2 +1,3 @@
 -- What a replay writes.
 pub mod Runs
+pub mod shared

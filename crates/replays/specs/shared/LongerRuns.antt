@@ -1,5 +1,5 @@
 -- A run goes on by one step, and so does its text.
-use Rattle.std.proofs.Common.{◌≡◌, ℕ, ◌+◌, List, [], ◌∷◌, ◌++◌, length, refl, sym, ap, ◌∙◌, arith, append_assoc, append-nil}
+use Rattle.std.proofs.Common.{◌≡◌, ℕ, zero, suc, ◌+◌, ◌<◌, ◌≤◌, List, [], ◌∷◌, ◌++◌, length, map, drop, get_or, drop-cons, add-one, refl, sym, ap, ◌∙◌, arith, append_assoc, append-nil}
 use Rattle.landing_rules.specs.Events.{Event, State, Step, Answered, Run}
 use Rattle.replays.specs.Runs.{last_state}
 use Rattle.landing_rules.specs.Text.{answer_text, answers_text}
@@ -22,3 +22,14 @@ answers_text-push i (b ∷ rest) a =
 pub last_state-push : (s : State) (answers : List Answered) (a : Answered) → last_state s (answers ++ a ∷ []) ≡ a.state
 last_state-push s [] a = refl
 last_state-push s (b ∷ rest) a = last_state-push b.state rest a
+
+-- ---- events by their place
+
+pub event_at : {X : Type 0} (f : X → Event) (xs : List X) (i : ℕ) (x : X) → i < length xs → x ≡ get_or xs i x → map f (drop i xs) ≡ f x ∷ map f (drop (i + 1) xs)
+event_at f xs i x h e = rw (add-one, drop-cons xs i x) (ap (λ (y : _). f y ∷ map f (drop (suc i) xs)) (sym e))
+
+pub none_left : {X : Type 0} (f : X → Event) (xs : List X) (i : ℕ) → length xs ≤ i → map f (drop i xs) ≡ []
+none_left f [] zero h = refl
+none_left f [] (suc i) h = refl
+none_left f (x ∷ xs) zero h = absurd (omega arith)
+none_left f (x ∷ xs) (suc i) h = none_left f xs i (omega arith)

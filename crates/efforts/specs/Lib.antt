@@ -1,0 +1,4 @@
+-- The steps of the plannings of a run, their text, and what writing it leaves.
+pub mod Bound
+pub mod Efforts
+pub mod Ends

@@ -1,0 +1,3 @@
+-- Lemmas that crates above cite too.
+pub mod LongerRuns
+pub mod Written
