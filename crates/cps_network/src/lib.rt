@@ -8,6 +8,7 @@ mod last;
 mod laws;
 mod merge;
 mod next;
+mod node;
 mod permit;
 mod runs;
 mod source_range;
@@ -19,6 +20,7 @@ pub use laws::{
     windows_tell_their_ranks,
 };
 pub use next::{next_stage, next_stage_like};
+pub use node::{Node, placed_node};
 pub use permit::is_permitted;
 pub use source_range::sources;
 pub use stage::Stage;

@@ -4,3 +4,5 @@ pub mod LabelsOf
 pub mod Stages
 pub mod Held
 pub mod Kept
+pub mod Readers
+pub mod shared
