@@ -5,4 +5,3 @@ pub mod Stages
 pub mod Held
 pub mod Kept
 pub mod Readers
-pub mod shared
