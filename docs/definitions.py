@@ -1,0 +1,92 @@
+"""Counts the definitions that somebody has to believe who wants to trust a command: definitions.py [NAME ..].
+
+From a definition in crates/*/specs, such as cps_top's AdmitsPlan, it follows every name to the definitions of this repository,
+and prints by file how many there are and how many lines they take, without comments. Without a name it counts for each
+command. Types that a Rust file declares (specs/declared) are counted by name alone."""
+import re
+import sys
+from pathlib import Path
+
+CRATES = Path(__file__).resolve().parent.parent / 'crates'
+HEAD = re.compile(r'^(?:abbrev )?(?:pub )?(?:record |data )?([A-Za-z_][\w\'-]*)[ :]')
+WORD = re.compile(r'[A-Za-z_][\w\'-]*(?:\.[A-Za-z_][\w\'-]*)*')
+COMMANDS = {'plan': 'AdmitsPlan', 'replay': 'AdmitsReplay', 'certify': 'AdmitsCertify', 'check': 'AdmitsCheck',
+            'effort': 'AdmitsEffort', 'trial': 'AdmitsTrial', 'a plan shown': 'IsPlanShown', 'a run': 'Run',
+            'a replay and its text': 'replay_text'}
+
+
+def module(path):
+    crate, _, *rest = path.relative_to(CRATES).with_suffix('').parts
+    return '.'.join(['Rattle', crate, 'specs', *rest])
+
+
+def read(path):
+    """The names that a file imports, and its definitions with their lines."""
+    imports, names, current = {}, {}, None
+    for line in path.read_text().split('\n'):
+        use = re.match(r'use (\S+?)(?:\.\{(.*)\})?(?: as (\w+))?$', line)
+        if use:
+            for item in (use[2] or '').split(','):
+                if item.strip():
+                    imports[item.split(' as ')[-1].strip()] = (use[1], item.split(' as ')[0].strip())
+            if use[3]:
+                imports[use[3]] = (use[1], None)
+        elif line.strip() == '' or line.lstrip().startswith('--'):
+            continue
+        elif line[0].isspace() and current:
+            names[current].append(line)
+        else:
+            head = HEAD.match(line)
+            if head and head[1] not in ('use', 'pub', 'mod'):
+                current = head[1]
+                names.setdefault(current, []).append(line)
+    return imports, names
+
+
+FILES = {module(path): read(path) for path in CRATES.glob('*/specs/**/*.antt')}
+
+
+def find(where, word):
+    """The module and name that a word stands for there, if it is of this repository."""
+    imports, names = FILES[where]
+    first, _, rest = word.partition('.')
+    if first in names:
+        return where, first
+    if first in imports:
+        target, name = imports[first]
+        if name is None:
+            name = rest.split('.')[0]
+        return (target, name) if target in FILES and name in FILES[target][1] else None
+    return None
+
+
+def reach(start):
+    seen, todo = set(), [start]
+    while todo:
+        where, name = todo.pop()
+        if (where, name) in seen:
+            continue
+        seen.add((where, name))
+        for line in FILES[where][1][name]:
+            todo += filter(None, (find(where, word) for word in WORD.findall(line)))
+    return seen
+
+
+def starts(name):
+    return [(where, name) for where, (_, names) in FILES.items() if name in names]
+
+
+def report(title, name):
+    for start in starts(name):
+        by_file = {}
+        for where, definition in reach(start):
+            by_file.setdefault(where, []).append(len(FILES[where][1][definition]))
+        lines = sum(map(sum, by_file.values()))
+        print(f'{title} ({name}): {sum(map(len, by_file.values()))} definitions, {lines} lines, {len(by_file)} files')
+        for where, counts in sorted(by_file.items(), key=lambda item: -sum(item[1])):
+            print(f'    {where.removeprefix("Rattle.").replace(".", "/")}: {len(counts)} definitions, {sum(counts)} lines')
+
+
+if __name__ == '__main__':
+    for title, name in [(name, name) for name in sys.argv[1:]] or COMMANDS.items():
+        report(title, name)
