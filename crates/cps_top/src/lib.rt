@@ -32,8 +32,6 @@ mod check_tests;
 #[cfg(test)]
 mod replay_tests;
 #[cfg(test)]
-mod stage_tests;
-#[cfg(test)]
 mod test_runs;
 #[cfg(test)]
 mod tests;

@@ -3,3 +3,4 @@ pub mod StageLemmas
 pub mod CommonLemmas
 pub mod TraceLemmas
 pub mod PlanLemmas
+pub mod BankLemmas

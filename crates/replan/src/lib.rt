@@ -16,3 +16,6 @@ mod trace;
 
 pub use any_kept::AnyKept;
 pub use kept::Kept;
+
+#[cfg(test)]
+mod tests;
