@@ -8,7 +8,10 @@ usage() {
     cat >&2 <<'END'
   plan AERODROME FLIGHTS               the best plan of the files
   replay AERODROME FLIGHTS EVENTS      the plan, and after each event of the log its answer and the new plan
-  check AERODROME FLIGHTS CERTIFICATE  whether a certificate shows that a plan is best, or that there is none
+  certify AERODROME FLIGHTS            a certificate of the plan, or that there is none
+  check AERODROME FLIGHTS CERTIFICATE  whether a certificate, whoever wrote it, holds
+  effort AERODROME FLIGHTS EVENTS      how many steps the planning after each event took
+  trial SEED N K                       the plan's value for made-up traffic of N flights
 END
 }
 
