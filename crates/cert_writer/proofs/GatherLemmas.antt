@@ -1,5 +1,5 @@
 -- One window more is gathered.
-use Rattle.std.proofs.Common.{◌≡◌, ℕ, zero, suc, ◌+◌, ◌-◌, ◌*◌, ◌<◌, ◌≤◌, ◌^◌, ◌⊎◌, inl, inr, List, [], ◌∷◌, length, set, replicate, Bool, refl, sym, ap, ap₂, subst, ◌∙◌, arith}
+use Rattle.std.proofs.Common.{◌≡◌, ℕ, zero, suc, ◌+◌, ◌*◌, ◌<◌, ◌≤◌, ◌^◌, ◌⊎◌, inl, inr, List, [], ◌∷◌, length, set, replicate, Bool, refl, sym, ap, ap₂, subst, ◌∙◌, arith}
 use Rattle.std.specs.Prelude.{ℤ, All}
 use Rattle.std.proofs.lemmas.Bool.{cases_eq}
 use Rattle.std.proofs.lemmas.List.{get_or_default}
@@ -13,11 +13,11 @@ use Rattle.cps_theory.specs.laws.PatternShape.{legal_is_shaped}
 use Rattle.landing_joint.specs.RankedProblem.{ranked}
 use Rattle.cps_network.specs.Landable.{IsLandable}
 use Rattle.cps_network.specs.Lists.{node_at}
-use Rattle.cps_network.specs.Nodes.{Node, node_of, latest}
+use Rattle.cps_network.specs.Nodes.{Node, latest}
 use Rattle.cps_network.specs.Pairs.{HoldsCosts, list_at}
 use Rattle.cps_network.specs.WindowRanks.{TellsPlaced}
 use Rattle.cert_check.specs.PlacedBits.{digits_of}
-use Rattle.whole_states.specs.StageEntries.{IsEntry, IsWindowOf, PlacedTellNodes}
+use Rattle.whole_states.specs.StageEntries.{IsWindowOf, PlacedTellNodes}
 use Rattle.cert_writer.specs.Gathered.{AreGathered, IsEntryBefore, IsInRange}
 use Rattle.cert_writer.specs.Slots.{HasSlot}
 use Rattle.cert_writer.proofs.SlotLemmas.{one_slot, slot_node}

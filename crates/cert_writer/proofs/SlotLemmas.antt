@@ -6,12 +6,10 @@ use Rattle.std.proofs.lemmas.Nat.{one_shl, shl_whole}
 use Rattle.std.proofs.lemmas.Nat.Bits.{bit_at_or, bit_at_ones, bit_at_ones_above, bit_at-lt, bit_at-suc}
 use Rattle.precedence.specs.Pairs.{HasBit}
 use Rattle.std.specs.Ordering.{bool_cmp, nat_cmp, ordering_then}
-use Rattle.std.specs.declared.cmp.Ordering.{Ordering}
 use Rattle.std.specs.declared.cmp.Ordering.TheVariants.{Less, Equal, Greater}
 use Rattle.std.specs.Cmp.Lexicographic.{slice_cmp}
 use Rattle.std.proofs.Math.Nat.{pow-suc, div-add-mod'}
-use Rattle.std.proofs.lemmas.Bool.{cases_lt, cases_eq, lt-ltb, le-ltb, eq-eqb}
-use Rattle.std.proofs.lemmas.Cmp.{tied_itself}
+use Rattle.std.proofs.lemmas.Bool.{cases_lt, lt-ltb, le-ltb, eq-eqb}
 use Rattle.cps_theory.specs.Patterns.{PatternNode}
 use Rattle.cps_theory.specs.CertificateClosure.{node_cmp}
 use Rattle.certificate.specs.Patterns.{bits}

@@ -1,18 +1,15 @@
 -- States written node by node.
-use Rattle.std.proofs.Common.{◌≡◌, ℕ, zero, suc, ◌+◌, ◌<◌, ◌≤◌, ◌⊎◌, inl, inr, List, [], ◌∷◌, ◌++◌, length, true, refl, sym, ap, subst, ◌∙◌, arith}
+use Rattle.std.proofs.Common.{◌≡◌, ℕ, ◌+◌, ◌<◌, ◌≤◌, ◌⊎◌, inl, inr, List, [], ◌∷◌, ◌++◌, true, sym, subst, ◌∙◌, arith}
 use Rattle.std.specs.Prelude.{All}
 use Rattle.std.specs.List.{list_all}
-use Rattle.std.specs.declared.cmp.Ordering.TheVariants.{Less}
 use Rattle.std.proofs.lemmas.Bool.{cases_eq}
 use Rattle.std.proofs.lemmas.List.Elements.{All-push, All-weaker}
 use Rattle.cps_theory.specs.Labels.{Pair}
 use Rattle.cps_theory.specs.Patterns.{PatternNode}
-use Rattle.cps_theory.specs.CertificateClosure.{node_cmp}
 use Rattle.certificate.specs.States.{State, is_pair}
 use Rattle.cert_check.specs.States.{node_of}
-use Rattle.cert_check.specs.Whole.{HasNode}
 use Rattle.cert_check.specs.shared.KeptPairs.{HoldsEntries, HoldAllEntries}
-use Rattle.cert_check.specs.shared.OneList.{Among, all_among}
+use Rattle.cert_check.specs.shared.OneList.{all_among}
 use Rattle.cert_check.specs.shared.StateEnds.{IsBefore, ascending_end, node_left, node_end}
 use Rattle.cert_writer.specs.Slots.{HasNumber}
 use Rattle.cert_writer.specs.Written.{ComesBelow, AreWrittenBelow}

@@ -7,7 +7,6 @@ use Rattle.cps_theory.specs.laws.LandingOrder.{Descends}
 use Rattle.extract_plan.specs.Orders.{IsWholeOrder}
 use Rattle.certificate.specs.declared.certificate.Claim.{Claim}
 use Rattle.certificate.specs.declared.certificate.Claim.TheVariants.{Optimal, Infeasible}
-use Rattle.certificate.specs.Reading.{Cert}
 use Rattle.cert_check.specs.Landings.{Landings}
 use Rattle.cert_check.specs.WholeLaws.{landings_in}
 

@@ -12,3 +12,6 @@ mod states;
 mod writer;
 
 pub use writer::certify;
+
+#[cfg(test)]
+mod tests;

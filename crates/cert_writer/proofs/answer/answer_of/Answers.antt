@@ -1,5 +1,5 @@
-use Rattle.std.proofs.Common.{◌≡◌, ◌≤◌, ℕ, rules, sym, subst, ap₂}
-use Rattle.landing_rules.specs.Problem.{IsBestList, list_objective}
+use Rattle.std.proofs.Common.{◌≤◌, ℕ, rules, sym, subst}
+use Rattle.landing_rules.specs.Problem.{IsBestList}
 use Rattle.cert_check.specs.Landings.{Landings}
 use Rattle.cert_check.specs.Meaning.{IsShownOptimal}
 use Rattle.cert_check.specs.WholeLaws.{landings_in}

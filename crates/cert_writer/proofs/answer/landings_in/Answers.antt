@@ -1,4 +1,4 @@
-use Rattle.std.proofs.Common.{◌≡◌, ℕ, ◌-◌, ◌<◌, ◌≤◌, get_or, length, arith, sym, subst, refl}
+use Rattle.std.proofs.Common.{◌-◌, get_or, arith, sym, subst, refl}
 use Rattle.cps_problem.specs.Seen.{waiting_of}
 use Rattle.certificate.specs.Reading.{AreLandings}
 use Rattle.cert_writer.proofs.AnswerLemmas.{landings_more, listed_more}

@@ -1,9 +1,8 @@
 use Rattle.std.specs.Prelude.{All}
 use Rattle.std.proofs.lemmas.List.{get_or_default}
-use Rattle.std.proofs.Common.{◌≡◌, ℕ, ◌<◌, ◌+◌, ◌⊎◌, List, [], length, set, arith, rules, sym, subst, ap, ◌∙◌}
+use Rattle.std.proofs.Common.{◌≡◌, ℕ, ◌<◌, ◌⊎◌, List, [], length, arith, sym, subst, ◌∙◌}
 use Rattle.cps_theory.specs.Labels.{InPairs, NoWorse, Pair}
 use Rattle.cps_theory.specs.Patterns.{PatternNode}
-use Rattle.cps_network.specs.Lists.{node_at}
 use Rattle.cps_network.specs.Pairs.{list_at}
 use Rattle.cert_check.specs.PlacedBits.{digits_of}
 use Rattle.replan.specs.Kept.{held_of}

@@ -1,8 +1,7 @@
-use Rattle.std.proofs.Common.{◌≡◌, ℕ, ◌+◌, ◌-◌, ◌*◌, ◌%◌, ◌^◌, ◌<◌, ◌/◌, arith, ap, subst, sym, refl}
+use Rattle.std.proofs.Common.{◌≡◌, ℕ, ◌+◌, ◌-◌, ◌*◌, ◌%◌, ◌^◌, ◌<◌, ◌/◌, arith, ap, subst, sym}
 use Rattle.std.proofs.Math.Nat.{mod-lt}
 use Rattle.std.proofs.lemmas.Nat.{one_shl, pow_pos}
 use Rattle.cert_check.specs.PlacedBits.{digits_of}
-use Rattle.cert_writer.specs.Slots.{HasSlot}
 use Rattle.cert_writer.proofs.SlotLemmas.{slot_from}
 use Rattle.cert_writer.proofs.slot.slot_of.Goals as goal
 

@@ -1,6 +1,4 @@
-use Rattle.std.proofs.Common.{◌≡◌, ℕ, ◌+◌, length, arith, subst, sym}
-use Rattle.cps_theory.specs.Labels.{Pair}
-use Rattle.cps_theory.specs.Patterns.{PatternNode}
+use Rattle.std.proofs.Common.{◌≡◌, ℕ, ◌+◌, length, arith, subst}
 use Rattle.whole_states.specs.StageEntries.{IsEntryOf}
 use Rattle.replan.specs.Kept.{held_of}
 use Rattle.replan.specs.Readers.{stage_in, lists_in}

@@ -1,4 +1,3 @@
-use Rattle.std.proofs.Common.{◌≡◌, ◌<◌, length}
 use Rattle.cert_writer.proofs.writer.certify.Goals as goal
 
 pub new-requires : goal.new-requires

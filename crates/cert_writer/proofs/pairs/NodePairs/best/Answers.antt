@@ -1,7 +1,6 @@
-use Rattle.std.proofs.Common.{◌≡◌, ◌++◌, List, sym, subst, ap, ap₂, ◌∙◌}
-use Rattle.std.specs.Prelude.{All}
+use Rattle.std.proofs.Common.{◌≡◌, ◌++◌, List, subst, ap, ap₂, ◌∙◌}
 use Rattle.std.specs.List.Sorted.{IsPermutation}
-use Rattle.cps_theory.specs.Labels.{InPairs, Pair}
+use Rattle.cps_theory.specs.Labels.{Pair}
 use Rattle.cps_theory.specs.UndominatedPairs.{sweep}
 use Rattle.cert_writer.proofs.PairLemmas.{best_found, best_covers, best_rises, best_ranged}
 use Rattle.cert_writer.proofs.pairs.NodePairs.best.Goals as goal

@@ -1,4 +1,4 @@
-use Rattle.std.proofs.Common.{◌≡◌, ℕ, ◌<◌, ◌+◌, ◌⊎◌, inl, inr, length, arith, sym, subst, refl}
+use Rattle.std.proofs.Common.{ℕ, ◌<◌, inl, inr, length, arith, sym, subst, refl}
 use Rattle.std.proofs.lemmas.Bool.{cases_eq}
 use Rattle.cps_theory.specs.Labels.{InPairs, NoWorse, Pair}
 use Rattle.cps_theory.specs.laws.LabelDominance.{no_worse_trans}

@@ -1,4 +1,4 @@
-use Rattle.std.proofs.Common.{◌≡◌, ℕ, ◌<◌, ◌⊎◌}
+use Rattle.std.proofs.Common.{ℕ, ◌<◌, ◌⊎◌}
 use Rattle.std.specs.Prelude.{All}
 use Rattle.cps_theory.specs.Labels.{InPairs, NoWorse, Pair}
 use Rattle.cps_network.specs.Pairs.{list_at, pair_at}

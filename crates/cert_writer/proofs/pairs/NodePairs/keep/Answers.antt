@@ -1,5 +1,5 @@
-use Rattle.std.proofs.Common.{◌≡◌, ◌-◌, ◌<◌, List, [], ◌∷◌, length, arith, inl, inr, sym, ap, subst, ◌∙◌}
-use Rattle.cps_theory.specs.Labels.{InPairs, NoWorse, Pair}
+use Rattle.std.proofs.Common.{◌≡◌, ◌-◌, ◌<◌, [], ◌∷◌, length, arith, inl, inr, sym, subst, ◌∙◌}
+use Rattle.cps_theory.specs.Labels.{InPairs, NoWorse}
 use Rattle.cps_network.specs.shared.PairLists.{in_append, in_left, in_right}
 use Rattle.cert_writer.proofs.PairLemmas.{itself, in_replaced, replaced_in, new_in, read_in, read_same}
 use Rattle.cert_writer.proofs.pairs.NodePairs.keep.Goals as goal
