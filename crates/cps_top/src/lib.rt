@@ -31,6 +31,8 @@ pub use trial::write_trial;
 #[cfg(test)]
 mod check_tests;
 #[cfg(test)]
+mod limit_tests;
+#[cfg(test)]
 mod replay_tests;
 #[cfg(test)]
 mod stage_tests;
@@ -40,3 +42,9 @@ mod test_runs;
 mod tests;
 #[cfg(test)]
 mod trial_tests;
+#[cfg(test)]
+mod worked_cases;
+#[cfg(test)]
+mod worked_plans;
+#[cfg(test)]
+mod worked_refusals;
