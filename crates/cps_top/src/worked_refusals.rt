@@ -3,7 +3,7 @@ use crate::test_runs::{HEADER, LEAST_DELAY, NO_SHIFT, ONE_PLACE, TABLE};
 use crate::worked_cases::{Case, LOG_HEADER, first_wrong};
 use std::test::Fail;
 
-const REFUSALS: [Case; 25] = [
+const AERODROMES: [Case; 9] = [
     Case {
         shows: "a triangle of three categories",
         words: "plan aerodrome flights",
@@ -34,6 +34,106 @@ const REFUSALS: [Case; 25] = [
         or: "",
         err: "cps: aerodrome: table triangle E D E\n",
     },
+    Case {
+        shows: "no toml",
+        words: "plan aerodrome flights",
+        aerodrome: ["k = ", "", ""],
+        flights: [HEADER, "A1,A,1000,1,1000-2000,\nF1,F,1010,1,1010-2000,\n"],
+        events: ["", ""],
+        status: 3,
+        out: "",
+        or: "",
+        err: "cps: aerodrome: not toml\n",
+    },
+    Case {
+        shows: "no shift",
+        words: "plan aerodrome flights",
+        aerodrome: [
+            "version = 1\nfreeze = 150\nobjective = \"makespan\"\n",
+            TABLE,
+            "",
+        ],
+        flights: [HEADER, "A1,A,1000,1,1000-2000,\nF1,F,1010,1,1010-2000,\n"],
+        events: ["", ""],
+        status: 3,
+        out: "",
+        or: "",
+        err: "cps: aerodrome: missing k\n",
+    },
+    Case {
+        shows: "an unknown key",
+        words: "plan aerodrome flights",
+        aerodrome: [
+            "version = 1\nk = 1\nfreeze = 150\nobjective = \"makespan\"\nwind = 3\n",
+            TABLE,
+            "",
+        ],
+        flights: [HEADER, "A1,A,1000,1,1000-2000,\nF1,F,1010,1,1010-2000,\n"],
+        events: ["", ""],
+        status: 3,
+        out: "",
+        or: "",
+        err: "cps: aerodrome: unknown key wind\n",
+    },
+    Case {
+        shows: "a shift in quotes",
+        words: "plan aerodrome flights",
+        aerodrome: [
+            "version = 1\nk = \"1\"\nfreeze = 150\nobjective = \"makespan\"\n",
+            TABLE,
+            "",
+        ],
+        flights: [HEADER, "A1,A,1000,1,1000-2000,\nF1,F,1010,1,1010-2000,\n"],
+        events: ["", ""],
+        status: 3,
+        out: "",
+        or: "",
+        err: "cps: aerodrome: kind k\n",
+    },
+    Case {
+        shows: "a shift of four places",
+        words: "plan aerodrome flights",
+        aerodrome: [
+            "version = 1\nk = 4\nfreeze = 150\nobjective = \"makespan\"\n",
+            TABLE,
+            "",
+        ],
+        flights: [HEADER, "A1,A,1000,1,1000-2000,\nF1,F,1010,1,1010-2000,\n"],
+        events: ["", ""],
+        status: 3,
+        out: "",
+        or: "",
+        err: "cps: aerodrome: range k\n",
+    },
+    Case {
+        shows: "the delay with two places",
+        words: "plan aerodrome flights",
+        aerodrome: [
+            "version = 1\nk = 2\nfreeze = 150\nobjective = \"delay\"\n",
+            TABLE,
+            "",
+        ],
+        flights: [HEADER, "A1,A,1000,1,1000-2000,\nF1,F,1010,1,1010-2000,\n"],
+        events: ["", ""],
+        status: 3,
+        out: "",
+        or: "",
+        err: "cps: aerodrome: delay shift 2\n",
+    },
+    Case {
+        shows: "an empty closure",
+        words: "plan aerodrome flights",
+        aerodrome: [ONE_PLACE, TABLE, "\n[[closures]]\nfrom = 10\nto = 10\n"],
+        flights: [HEADER, "A1,A,1000,1,1000-2000,\nF1,F,1010,1,1010-2000,\n"],
+        events: ["", ""],
+        status: 3,
+        out: "",
+        or: "",
+        err: "cps: aerodrome: closure 1 empty\n",
+    },
+];
+
+const FLIGHT_FILES: [Case; 12] = [
     Case {
         shows: "a header of two columns",
         words: "plan aerodrome flights",
@@ -169,103 +269,9 @@ const REFUSALS: [Case; 25] = [
         or: "",
         err: "cps: flights: record 3: duplicate\n",
     },
-    Case {
-        shows: "no toml",
-        words: "plan aerodrome flights",
-        aerodrome: ["k = ", "", ""],
-        flights: [HEADER, "A1,A,1000,1,1000-2000,\nF1,F,1010,1,1010-2000,\n"],
-        events: ["", ""],
-        status: 3,
-        out: "",
-        or: "",
-        err: "cps: aerodrome: not toml\n",
-    },
-    Case {
-        shows: "no shift",
-        words: "plan aerodrome flights",
-        aerodrome: [
-            "version = 1\nfreeze = 150\nobjective = \"makespan\"\n",
-            TABLE,
-            "",
-        ],
-        flights: [HEADER, "A1,A,1000,1,1000-2000,\nF1,F,1010,1,1010-2000,\n"],
-        events: ["", ""],
-        status: 3,
-        out: "",
-        or: "",
-        err: "cps: aerodrome: missing k\n",
-    },
-    Case {
-        shows: "an unknown key",
-        words: "plan aerodrome flights",
-        aerodrome: [
-            "version = 1\nk = 1\nfreeze = 150\nobjective = \"makespan\"\nwind = 3\n",
-            TABLE,
-            "",
-        ],
-        flights: [HEADER, "A1,A,1000,1,1000-2000,\nF1,F,1010,1,1010-2000,\n"],
-        events: ["", ""],
-        status: 3,
-        out: "",
-        or: "",
-        err: "cps: aerodrome: unknown key wind\n",
-    },
-    Case {
-        shows: "a shift in quotes",
-        words: "plan aerodrome flights",
-        aerodrome: [
-            "version = 1\nk = \"1\"\nfreeze = 150\nobjective = \"makespan\"\n",
-            TABLE,
-            "",
-        ],
-        flights: [HEADER, "A1,A,1000,1,1000-2000,\nF1,F,1010,1,1010-2000,\n"],
-        events: ["", ""],
-        status: 3,
-        out: "",
-        or: "",
-        err: "cps: aerodrome: kind k\n",
-    },
-    Case {
-        shows: "a shift of four places",
-        words: "plan aerodrome flights",
-        aerodrome: [
-            "version = 1\nk = 4\nfreeze = 150\nobjective = \"makespan\"\n",
-            TABLE,
-            "",
-        ],
-        flights: [HEADER, "A1,A,1000,1,1000-2000,\nF1,F,1010,1,1010-2000,\n"],
-        events: ["", ""],
-        status: 3,
-        out: "",
-        or: "",
-        err: "cps: aerodrome: range k\n",
-    },
-    Case {
-        shows: "the delay with two places",
-        words: "plan aerodrome flights",
-        aerodrome: [
-            "version = 1\nk = 2\nfreeze = 150\nobjective = \"delay\"\n",
-            TABLE,
-            "",
-        ],
-        flights: [HEADER, "A1,A,1000,1,1000-2000,\nF1,F,1010,1,1010-2000,\n"],
-        events: ["", ""],
-        status: 3,
-        out: "",
-        or: "",
-        err: "cps: aerodrome: delay shift 2\n",
-    },
-    Case {
-        shows: "an empty closure",
-        words: "plan aerodrome flights",
-        aerodrome: [ONE_PLACE, TABLE, "\n[[closures]]\nfrom = 10\nto = 10\n"],
-        flights: [HEADER, "A1,A,1000,1,1000-2000,\nF1,F,1010,1,1010-2000,\n"],
-        events: ["", ""],
-        status: 3,
-        out: "",
-        or: "",
-        err: "cps: aerodrome: closure 1 empty\n",
-    },
+];
+
+const LOGS: [Case; 4] = [
     Case {
         shows: "a seventh kind of event",
         words: "replay aerodrome flights events",
@@ -313,8 +319,22 @@ const REFUSALS: [Case; 25] = [
 ];
 
 #[test]
-fn refused_files_are_told_with_their_first_cause(rt: HostRuntime) -> Result<(), Fail> {
-    let wrong = first_wrong(&rt, rt.alloc(), &REFUSALS)?;
+fn aerodrome_files_are_refused_for_their_first_cause(rt: HostRuntime) -> Result<(), Fail> {
+    let wrong = first_wrong(&rt, rt.alloc(), &AERODROMES)?;
+    assert_eq!(rt; wrong, None);
+    Ok(())
+}
+
+#[test]
+fn flight_files_are_refused_for_their_first_cause(rt: HostRuntime) -> Result<(), Fail> {
+    let wrong = first_wrong(&rt, rt.alloc(), &FLIGHT_FILES)?;
+    assert_eq!(rt; wrong, None);
+    Ok(())
+}
+
+#[test]
+fn event_logs_are_refused_for_their_first_cause(rt: HostRuntime) -> Result<(), Fail> {
+    let wrong = first_wrong(&rt, rt.alloc(), &LOGS)?;
     assert_eq!(rt; wrong, None);
     Ok(())
 }
