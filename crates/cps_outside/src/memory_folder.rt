@@ -82,6 +82,10 @@ impl Folder for MemoryFolder {
         // With no load listed, a load of a name that is there doesn't fail.
         ensures present { failing_loads_of self.old ≡ [] → IsSome ((folder_state self.old).content name.now) →
             IsErrOf result LoadFault.Failed → ⊥ }
+
+        // No other answer than that it failed counts a fault.
+        ensures faultless { (IsErrOf result LoadFault.Failed → ⊥) →
+            (folder_state self.new).faults ≡ (folder_state self.old).faults }
         ensures failing { failing_loads_of self.new ≡ failing_loads_of self.old }
         ensures loads { loads_of self.new ≡ number_of_load self.old }
     {

@@ -95,6 +95,9 @@ impl Sink for MemorySink {
 
         // With no put listed and room enough, none fails.
         ensures enough { failing_puts_of self.old ≡ [] → length bytes.now ≤ room_of self.old → IsOk result }
+
+        // A put that does not fail counts no fault.
+        ensures faultless { IsOk result → (sink_state self.new).faults ≡ (sink_state self.old).faults }
         ensures failing { failing_puts_of self.new ≡ failing_puts_of self.old }
         ensures puts { puts_of self.new ≡ number_of_put self.old }
     {

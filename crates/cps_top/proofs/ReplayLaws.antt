@@ -51,9 +51,11 @@ steps_no_dearer : ClockShowsPlanLaw → StepKeepsSoundLaw → (old : State) (eve
 steps_no_dearer law keeps old [] [] sound good run = tt
 steps_no_dearer law keeps old (e ∷ events) [] sound good run = absurd run
 steps_no_dearer law keeps old [] (a ∷ answers) sound good run = absurd run
-steps_no_dearer law keeps old (e ∷ events) (a ∷ answers) sound good run =
-    (no_dearer law old e a sound run.0, steps_no_dearer law keeps a.state events answers (keeps old a.state e a.answer sound (All-head IsGoodEvent e events good) run.0)
-        (All-tail IsGoodEvent e events good) run.1)
+steps_no_dearer law keeps old (e ∷ events) (a ∷ answers) sound good run = (
+  no_dearer law old e a sound run.0,
+  steps_no_dearer law keeps a.state events answers (keeps old a.state e a.answer sound (All-head IsGoodEvent e events good) run.0)
+      (All-tail IsGoodEvent e events good) run.1,
+)
 
 pub printed_no_dearer : ClockShowsPlanLaw → StepKeepsSoundLaw → ClockIsNoDearerLaw
 printed_no_dearer law keeps a f l text x p = steps_no_dearer law keeps p.state p.events p.answers p.begun.sound p.begun.in_range p.run

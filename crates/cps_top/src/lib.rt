@@ -30,6 +30,8 @@ pub use top::run;
 #[cfg(test)]
 mod check_tests;
 #[cfg(test)]
+mod limit_tests;
+#[cfg(test)]
 mod replay_tests;
 #[cfg(test)]
 mod test_runs;
@@ -37,3 +39,9 @@ mod test_runs;
 mod tests;
 #[cfg(test)]
 mod trial_tests;
+#[cfg(test)]
+mod worked_cases;
+#[cfg(test)]
+mod worked_plans;
+#[cfg(test)]
+mod worked_refusals;

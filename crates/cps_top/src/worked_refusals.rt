@@ -1,0 +1,340 @@
+// Files that are refused, each with its line.
+use crate::test_runs::{HEADER, LEAST_DELAY, NO_SHIFT, ONE_PLACE, TABLE};
+use crate::worked_cases::{Case, LOG_HEADER, first_wrong};
+use std::test::Fail;
+
+const AERODROMES: [Case; 9] = [
+    Case {
+        shows: "a triangle of three categories",
+        words: "plan aerodrome flights",
+        aerodrome: [
+            "version = 1\nk = 0\nfreeze = 150\nobjective = \"makespan\"\n\n[table]\nA = [90, 110, 70, 130, 140, 180]\nB = [60, 90, 100, 110, 120, 160]\nC = [60, 60, 60, 60, 100, 60]\nD = [60, 60, 60, 60, 60, 120]\nE = [60, 60, 60, 60, 60, 100]\nF = [60, 60, 60, 60, 60, 60]\n",
+            "",
+            "",
+        ],
+        flights: [HEADER, "A1,A,1000,1,1000-2000,\nF1,F,1010,1,1010-2000,\n"],
+        events: ["", ""],
+        status: 3,
+        out: "",
+        or: "",
+        err: "cps: aerodrome: table triangle A C F\n",
+    },
+    Case {
+        shows: "a triangle of two categories",
+        words: "plan aerodrome flights",
+        aerodrome: [
+            "version = 1\nk = 0\nfreeze = 150\nobjective = \"makespan\"\n\n[table]\nA = [90, 110, 120, 130, 140, 180]\nB = [60, 90, 100, 110, 120, 160]\nC = [60, 60, 60, 60, 100, 140]\nD = [60, 60, 60, 60, 60, 120]\nE = [60, 60, 60, 60, 130, 100]\nF = [60, 60, 60, 60, 60, 60]\n",
+            "",
+            "",
+        ],
+        flights: [HEADER, "A1,A,1000,1,1000-2000,\nF1,F,1010,1,1010-2000,\n"],
+        events: ["", ""],
+        status: 3,
+        out: "",
+        or: "",
+        err: "cps: aerodrome: table triangle E D E\n",
+    },
+    Case {
+        shows: "no toml",
+        words: "plan aerodrome flights",
+        aerodrome: ["k = ", "", ""],
+        flights: [HEADER, "A1,A,1000,1,1000-2000,\nF1,F,1010,1,1010-2000,\n"],
+        events: ["", ""],
+        status: 3,
+        out: "",
+        or: "",
+        err: "cps: aerodrome: not toml\n",
+    },
+    Case {
+        shows: "no shift",
+        words: "plan aerodrome flights",
+        aerodrome: [
+            "version = 1\nfreeze = 150\nobjective = \"makespan\"\n",
+            TABLE,
+            "",
+        ],
+        flights: [HEADER, "A1,A,1000,1,1000-2000,\nF1,F,1010,1,1010-2000,\n"],
+        events: ["", ""],
+        status: 3,
+        out: "",
+        or: "",
+        err: "cps: aerodrome: missing k\n",
+    },
+    Case {
+        shows: "an unknown key",
+        words: "plan aerodrome flights",
+        aerodrome: [
+            "version = 1\nk = 1\nfreeze = 150\nobjective = \"makespan\"\nwind = 3\n",
+            TABLE,
+            "",
+        ],
+        flights: [HEADER, "A1,A,1000,1,1000-2000,\nF1,F,1010,1,1010-2000,\n"],
+        events: ["", ""],
+        status: 3,
+        out: "",
+        or: "",
+        err: "cps: aerodrome: unknown key wind\n",
+    },
+    Case {
+        shows: "a shift in quotes",
+        words: "plan aerodrome flights",
+        aerodrome: [
+            "version = 1\nk = \"1\"\nfreeze = 150\nobjective = \"makespan\"\n",
+            TABLE,
+            "",
+        ],
+        flights: [HEADER, "A1,A,1000,1,1000-2000,\nF1,F,1010,1,1010-2000,\n"],
+        events: ["", ""],
+        status: 3,
+        out: "",
+        or: "",
+        err: "cps: aerodrome: kind k\n",
+    },
+    Case {
+        shows: "a shift of four places",
+        words: "plan aerodrome flights",
+        aerodrome: [
+            "version = 1\nk = 4\nfreeze = 150\nobjective = \"makespan\"\n",
+            TABLE,
+            "",
+        ],
+        flights: [HEADER, "A1,A,1000,1,1000-2000,\nF1,F,1010,1,1010-2000,\n"],
+        events: ["", ""],
+        status: 3,
+        out: "",
+        or: "",
+        err: "cps: aerodrome: range k\n",
+    },
+    Case {
+        shows: "the delay with two places",
+        words: "plan aerodrome flights",
+        aerodrome: [
+            "version = 1\nk = 2\nfreeze = 150\nobjective = \"delay\"\n",
+            TABLE,
+            "",
+        ],
+        flights: [HEADER, "A1,A,1000,1,1000-2000,\nF1,F,1010,1,1010-2000,\n"],
+        events: ["", ""],
+        status: 3,
+        out: "",
+        or: "",
+        err: "cps: aerodrome: delay shift 2\n",
+    },
+    Case {
+        shows: "an empty closure",
+        words: "plan aerodrome flights",
+        aerodrome: [ONE_PLACE, TABLE, "\n[[closures]]\nfrom = 10\nto = 10\n"],
+        flights: [HEADER, "A1,A,1000,1,1000-2000,\nF1,F,1010,1,1010-2000,\n"],
+        events: ["", ""],
+        status: 3,
+        out: "",
+        or: "",
+        err: "cps: aerodrome: closure 1 empty\n",
+    },
+];
+
+const FLIGHT_FILES: [Case; 12] = [
+    Case {
+        shows: "a header of two columns",
+        words: "plan aerodrome flights",
+        aerodrome: [LEAST_DELAY, TABLE, ""],
+        flights: ["", "callsign,category\n"],
+        events: ["", ""],
+        status: 3,
+        out: "",
+        or: "",
+        err: "cps: flights: record 1: header\n",
+    },
+    Case {
+        shows: "no byte",
+        words: "plan aerodrome flights",
+        aerodrome: [LEAST_DELAY, TABLE, ""],
+        flights: ["", ""],
+        events: ["", ""],
+        status: 3,
+        out: "",
+        or: "",
+        err: "cps: flights: record 1: header\n",
+    },
+    Case {
+        shows: "a record cut short",
+        words: "plan aerodrome flights",
+        aerodrome: [LEAST_DELAY, TABLE, ""],
+        flights: [HEADER, "A1,A,1000,1,1000-2000,\nF1,F,10\n"],
+        events: ["", ""],
+        status: 3,
+        out: "",
+        or: "",
+        err: "cps: flights: record 3: fields\n",
+    },
+    Case {
+        shows: "a callsign in small letters",
+        words: "plan aerodrome flights",
+        aerodrome: [LEAST_DELAY, TABLE, ""],
+        flights: [HEADER, "a1,A,1000,1,1000-2000,\nF1,F,1010,1,1010-2000,\n"],
+        events: ["", ""],
+        status: 3,
+        out: "",
+        or: "",
+        err: "cps: flights: record 2: callsign\n",
+    },
+    Case {
+        shows: "a seventh category",
+        words: "plan aerodrome flights",
+        aerodrome: [LEAST_DELAY, TABLE, ""],
+        flights: [HEADER, "A1,G,1000,1,1000-2000,\nF1,F,1010,1,1010-2000,\n"],
+        events: ["", ""],
+        status: 3,
+        out: "",
+        or: "",
+        err: "cps: flights: record 2: category\n",
+    },
+    Case {
+        shows: "an estimate behind the last second",
+        words: "plan aerodrome flights",
+        aerodrome: [LEAST_DELAY, TABLE, ""],
+        flights: [HEADER, "A1,A,172800,1,1000-2000,\nF1,F,1010,1,1010-2000,\n"],
+        events: ["", ""],
+        status: 3,
+        out: "",
+        or: "",
+        err: "cps: flights: record 2: eta above\n",
+    },
+    Case {
+        shows: "an estimate with a leading zero",
+        words: "plan aerodrome flights",
+        aerodrome: [LEAST_DELAY, TABLE, ""],
+        flights: [HEADER, "A1,A,01000,1,1000-2000,\nF1,F,1010,1,1010-2000,\n"],
+        events: ["", ""],
+        status: 3,
+        out: "",
+        or: "",
+        err: "cps: flights: record 2: eta not-number\n",
+    },
+    Case {
+        shows: "a weight of nothing",
+        words: "plan aerodrome flights",
+        aerodrome: [LEAST_DELAY, TABLE, ""],
+        flights: [HEADER, "A1,A,1000,0,1000-2000,\nF1,F,1010,1,1010-2000,\n"],
+        events: ["", ""],
+        status: 3,
+        out: "",
+        or: "",
+        err: "cps: flights: record 2: weight below\n",
+    },
+    Case {
+        shows: "a window that is too long",
+        words: "plan aerodrome flights",
+        aerodrome: [LEAST_DELAY, TABLE, ""],
+        flights: [HEADER, "A1,A,1000,1,0-7200,\nF1,F,1010,1,1010-2000,\n"],
+        events: ["", ""],
+        status: 3,
+        out: "",
+        or: "",
+        err: "cps: flights: record 2: windows too-long\n",
+    },
+    Case {
+        shows: "windows that overlap",
+        words: "plan aerodrome flights",
+        aerodrome: [LEAST_DELAY, TABLE, ""],
+        flights: [
+            HEADER,
+            "A1,A,1000,1,1000-1100;1100-1200,\nF1,F,1010,1,1010-2000,\n",
+        ],
+        events: ["", ""],
+        status: 3,
+        out: "",
+        or: "",
+        err: "cps: flights: record 2: windows overlap 2\n",
+    },
+    Case {
+        shows: "a flight that lists itself",
+        words: "plan aerodrome flights",
+        aerodrome: [LEAST_DELAY, TABLE, ""],
+        flights: [HEADER, "A1,A,1000,1,1000-2000,A1\nF1,F,1010,1,1010-2000,\n"],
+        events: ["", ""],
+        status: 3,
+        out: "",
+        or: "",
+        err: "cps: flights: record 2: after itself 1\n",
+    },
+    Case {
+        shows: "a callsign that stands twice",
+        words: "plan aerodrome flights",
+        aerodrome: [LEAST_DELAY, TABLE, ""],
+        flights: [HEADER, "A1,A,1000,1,1000-2000,\nA1,A,1000,1,1000-2000,\n"],
+        events: ["", ""],
+        status: 3,
+        out: "",
+        or: "",
+        err: "cps: flights: record 3: duplicate\n",
+    },
+];
+
+const LOGS: [Case; 4] = [
+    Case {
+        shows: "a seventh kind of event",
+        words: "replay aerodrome flights events",
+        aerodrome: [ONE_PLACE, TABLE, ""],
+        flights: [HEADER, "A1,A,1000,1,1000-2000,\nF1,F,1010,1,1010-2000,\n"],
+        events: [LOG_HEADER, "move,F1,,,,,\n"],
+        status: 3,
+        out: "",
+        or: "",
+        err: "cps: events: record 2: kind\n",
+    },
+    Case {
+        shows: "a category of a cancellation",
+        words: "replay aerodrome flights events",
+        aerodrome: [ONE_PLACE, TABLE, ""],
+        flights: [HEADER, "A1,A,1000,1,1000-2000,\nF1,F,1010,1,1010-2000,\n"],
+        events: [LOG_HEADER, "cancel,F1,F,,,,\n"],
+        status: 3,
+        out: "",
+        or: "",
+        err: "cps: events: record 2: category not-empty\n",
+    },
+    Case {
+        shows: "a clock behind the last second",
+        words: "replay aerodrome flights events",
+        aerodrome: [ONE_PLACE, TABLE, ""],
+        flights: [HEADER, "A1,A,1000,1,1000-2000,\nF1,F,1010,1,1010-2000,\n"],
+        events: [LOG_HEADER, "clock,,,172800,,,\n"],
+        status: 3,
+        out: "",
+        or: "",
+        err: "cps: events: record 2: eta above\n",
+    },
+    Case {
+        shows: "a closure of no second",
+        words: "replay aerodrome flights events",
+        aerodrome: [ONE_PLACE, TABLE, ""],
+        flights: [HEADER, "A1,A,1000,1,1000-2000,\nF1,F,1010,1,1010-2000,\n"],
+        events: [LOG_HEADER, "close,,,,,5-5,\n"],
+        status: 3,
+        out: "",
+        or: "",
+        err: "cps: events: record 2: windows empty\n",
+    },
+];
+
+#[test]
+fn aerodrome_files_are_refused_for_their_first_cause(rt: HostRuntime) -> Result<(), Fail> {
+    let wrong = first_wrong(&rt, rt.alloc(), &AERODROMES)?;
+    assert_eq!(rt; wrong, None);
+    Ok(())
+}
+
+#[test]
+fn flight_files_are_refused_for_their_first_cause(rt: HostRuntime) -> Result<(), Fail> {
+    let wrong = first_wrong(&rt, rt.alloc(), &FLIGHT_FILES)?;
+    assert_eq!(rt; wrong, None);
+    Ok(())
+}
+
+#[test]
+fn event_logs_are_refused_for_their_first_cause(rt: HostRuntime) -> Result<(), Fail> {
+    let wrong = first_wrong(&rt, rt.alloc(), &LOGS)?;
+    assert_eq!(rt; wrong, None);
+    Ok(())
+}
