@@ -5,6 +5,7 @@ mod aerodrome_lines;
 mod certificate_lines;
 mod check;
 mod commands;
+mod effort;
 mod endings;
 mod event_lines;
 mod faults;
@@ -25,6 +26,8 @@ pub use top::run;
 
 #[cfg(test)]
 mod check_tests;
+#[cfg(test)]
+mod effort_tests;
 #[cfg(test)]
 mod replay_tests;
 #[cfg(test)]
