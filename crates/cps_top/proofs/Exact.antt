@@ -4,7 +4,7 @@ use Rattle.std.proofs.lemmas.Bool.{cases_lt}
 use Rattle.std.proofs.lemmas.List.{take-append-le}
 use Rattle.std.specs.List.{AllByRecursion}
 use Rattle.cps_top.specs.declared.commands.Command.{Command}
-use Rattle.cps_top.specs.declared.commands.Command.TheVariants.{Plan, Replay, Check, Trial}
+use Rattle.cps_top.specs.declared.commands.Command.TheVariants.{Plan, Replay, Check, Effort, Trial}
 use Rattle.cps_top.specs.declared.endings.Answer.{Answer}
 use Rattle.cps_top.specs.declared.endings.Refusal.{Refusal}
 use Rattle.cps_top.specs.declared.endings.Ending.{Ending}
@@ -43,6 +43,12 @@ excludes Check (a ∷ f ∷ []) text answer refusal admits refuses = absurd admi
 excludes Check (a ∷ f ∷ e ∷ c ∷ rest) text answer refusal admits refuses = absurd admits
 excludes Check (a ∷ f ∷ c ∷ []) text answer refusal admits refuses =
     none_some (sym (not_unchecked a f c admits.verdict admits.judges) ∙ refuses)
+excludes Effort [] text answer refusal admits refuses = absurd admits
+excludes Effort (a ∷ []) text answer refusal admits refuses = absurd admits
+excludes Effort (a ∷ f ∷ []) text answer refusal admits refuses = absurd admits
+excludes Effort (a ∷ f ∷ e ∷ c ∷ rest) text answer refusal admits refuses = absurd admits
+excludes Effort (a ∷ f ∷ e ∷ []) text answer refusal admits refuses =
+    none_some (sym (not_refused a f e admits.state admits.events admits.begun) ∙ refuses)
 excludes (Trial seed n k) contents text answer refusal admits refuses = absurd refuses
 
 -- nor are they refused where a text was begun
@@ -51,6 +57,12 @@ excludes_begun : (command : Command) (contents : List (List ℕ)) (text : List �
 excludes_begun Plan contents text refusal begins refuses = excludes Plan contents text begins.0 refusal begins.1 refuses
 excludes_begun Check contents text refusal begins refuses = excludes Check contents text begins.0 refusal begins.1 refuses
 excludes_begun (Trial seed n k) contents text refusal begins refuses = absurd refuses
+excludes_begun Effort [] text refusal begins refuses = absurd refuses
+excludes_begun Effort (a ∷ []) text refusal begins refuses = absurd refuses
+excludes_begun Effort (a ∷ f ∷ []) text refusal begins refuses = absurd refuses
+excludes_begun Effort (a ∷ f ∷ e ∷ c ∷ rest) text refusal begins refuses = absurd refuses
+excludes_begun Effort (a ∷ f ∷ e ∷ []) text refusal begins refuses =
+    none_some (sym (not_refused a f e begins.state begins.events begins.begun) ∙ refuses)
 excludes_begun Replay [] text refusal begins refuses = absurd refuses
 excludes_begun Replay (a ∷ []) text refusal begins refuses = absurd refuses
 excludes_begun Replay (a ∷ f ∷ []) text refusal begins refuses = absurd refuses

@@ -1,4 +1,6 @@
 pub mod Complete
+pub mod Counted
+pub mod Counts
 pub mod Exact
 pub mod Judged
 pub mod Loading

@@ -1,37 +1,46 @@
 -- From what was begun and written to what is said of traffic.
-use Rattle.std.proofs.Common.{◌≡◌, ℕ, ◌+◌, ◌-◌, ◌^◌, List, length, Some, arith}
-use Rattle.std.specs.Prelude.{min, map}
-use Rattle.cps_base.specs.Tally.{raised_by}
-use Rattle.landing_rules.specs.Events.{State, IsOpeningState}
-use Rattle.landing_rules.specs.Problem.{Problem, IsProblemOf}
+use Rattle.std.proofs.Common.{◌≡◌, ℕ, ◌≤◌, List, length, None, Some, refl, sym, ◌∙◌, arith}
 use Rattle.landing_rules.specs.Text.{plan_shown}
+use Rattle.cps_network.specs.shared.DueSteps.{all_due}
+use Rattle.replan.specs.declared.any_kept.AnyKept.{AnyKept}
+use Rattle.sequencer.specs.Standing.{Standing}
 use Rattle.aerodrome_file.specs.declared.aerodrome.Aerodrome.{Aerodrome}
 use Rattle.flight_file.specs.declared.flight.Flight.{Flight}
-use Rattle.flight_file.specs.Seen.{flight_of}
-use Rattle.sequencer.specs.Opened.{opening_of}
-use Rattle.cps_network.specs.Due.{HasCandidatesUpto}
 use Rattle.traffic_gen.specs.Made.{Made}
 use Rattle.plan_text.specs.Trial.{trial_text}
 use Rattle.cps_top.specs.declared.endings.Answer.{Answer}
-use Rattle.cps_top.specs.Plan.{answer_of}
+use Rattle.cps_top.specs.declared.endings.Refusal.{Refusal}
+use Rattle.cps_top.specs.declared.endings.Ending.{Ending}
+use Rattle.cps_top.specs.declared.endings.Ending.TheVariants.{Answered, Misused, Refused, NotLoaded, NotWritten, TooLong, NoMemory}
+use Rattle.cps_top.specs.Plan.{answer_of, refusal_of, IsOpened, IsPlannedAnew, StopsOpened}
 use Rattle.cps_top.specs.Trial.{Sums}
 
--- a count from 0 is the number of the steps
-counted : (nodes value : ℕ) → Some value ≡ raised_by nodes (Some 0) → value ≡ min nodes (2 ^ 64 - 1)
-counted nodes value raised = let same : value ≡ min (0 + nodes) (2 ^ 64 - 1) = cc in
-    let all : 0 + nodes ≡ nodes = omega arith in rw all at same
-
-pub sums : (made : Made) (n k nodes value : ℕ) (aerodrome : Aerodrome) (flights : List Flight) (state : State) (problem : Problem) (text : List ℕ) (answer : Answer) →
-    aerodrome ≡ made.aerodrome → flights ≡ made.flights → IsOpeningState (opening_of aerodrome) (map flight_of flights) state →
-    IsProblemOf state.situation problem → HasCandidatesUpto problem (length problem.flights) nodes → Some value ≡ raised_by nodes (Some 0) →
-    text ≡ trial_text n k value state.situation.aerodrome.objective (plan_shown state) → answer ≡ answer_of state.plan → Sums made n k text answer
-sums made n k nodes value aerodrome flights state problem text answer a_is f_is opens problem_of candidates raised prints answers = record {
-  state = state;
-  opens = rw (← a_is, ← f_is) opens;
-  problem = problem;
-  problem_of = problem_of;
+pub sums : (made : Made) (n k nodes : ℕ) (aerodrome : Aerodrome) (flights : List Flight) (s : Standing AnyKept) (text : List ℕ) (answer : Answer) →
+    aerodrome ≡ made.aerodrome → flights ≡ made.flights → IsOpened aerodrome flights s.state → IsPlannedAnew s nodes →
+    text ≡ trial_text n k nodes s.state.situation.aerodrome.objective (plan_shown s.state) → answer ≡ answer_of s.state.plan → Sums made n k text answer
+sums made n k nodes aerodrome flights s text answer a_is f_is opened planned prints answers = record {
+  state = s.state;
+  opens = rw (← a_is, ← f_is) opened.opens;
+  problem = s.problem;
+  problem_of = planned.problem_of;
   nodes = nodes;
-  candidates = candidates;
-  prints = rw (← counted nodes value raised) prints;
+  candidates = all_due s.problem nodes planned.due;
+  prints = prints;
   answers = answers;
 }
+
+-- where at most 60 flights wait only memory stops
+pub stops_short : (flights : List Flight) (ending : Ending) → length flights ≤ 60 → StopsOpened flights ending → ending ≡ NoMemory
+stops_short flights (Refused cause) few stops = absurd (none_some (sym (taken few) ∙ stops))
+  where
+    taken : length flights ≤ 60 → refusal_of flights ≡ None
+    taken few = grind (arith, few)
+
+    none_some : {cause : Refusal} → None ≡ Some cause → ⊥
+    none_some e = cc
+stops_short flights NoMemory few stops = refl
+stops_short flights (Answered answer) few stops = absurd stops
+stops_short flights Misused few stops = absurd stops
+stops_short flights (NotLoaded place) few stops = absurd stops
+stops_short flights NotWritten few stops = absurd stops
+stops_short flights (TooLong place) few stops = absurd stops

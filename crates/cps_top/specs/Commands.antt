@@ -3,10 +3,11 @@ use Rattle.std.specs.Prelude.{ℕ, ◌&&◌, ◌==◌, ◌≤◌, ⊤, List, [],
 use Rattle.std.specs.Result.{result_ok}
 use Rattle.cps_base.specs.Number.{number_within}
 use Rattle.cps_top.specs.declared.commands.Command.{Command}
-use Rattle.cps_top.specs.declared.commands.Command.TheVariants.{Plan, Replay, Check, Trial}
+use Rattle.cps_top.specs.declared.commands.Command.TheVariants.{Plan, Replay, Check, Effort, Trial}
 use Rattle.cps_top.specs.declared.endings.Answer.{Answer}
 use Rattle.cps_top.specs.declared.endings.Refusal.{Refusal}
 use Rattle.cps_top.specs.Check.{AdmitsCheck, RefusesCheck}
+use Rattle.cps_top.specs.Effort.{AdmitsEffort, BeginsEffort}
 use Rattle.cps_top.specs.Plan.{AdmitsPlan, RefusesPlan}
 use Rattle.cps_top.specs.Replay.{AdmitsReplay, BeginsReplay, RefusesReplay}
 use Rattle.cps_top.specs.Trial.{AdmitsTrial}
@@ -31,6 +32,7 @@ command_of (word ∷ rest) =
     if bytes_eq word (codes "plan") && (length rest == 2) then Some Plan
     else if bytes_eq word (codes "replay") && (length rest == 3) then Some Replay
     else if bytes_eq word (codes "check") && (length rest == 3) then Some Check
+    else if bytes_eq word (codes "effort") && (length rest == 3) then Some Effort
     else if bytes_eq word (codes "trial") then trial_of rest
     else None
 
@@ -53,6 +55,7 @@ abbrev pub file_count : Command → ℕ
 file_count Plan = 2
 file_count Replay = 3
 file_count Check = 3
+file_count Effort = 3
 file_count (Trial seed n k) = 0
 
 -- Over these contents of its files a command may print this text, whole, and answer so.
@@ -60,12 +63,14 @@ abbrev pub Admits : Command → List (List ℕ) → List ℕ → Answer → Type
 Admits Plan (aerodrome ∷ flights ∷ []) text answer = AdmitsPlan aerodrome flights text answer
 Admits Replay (aerodrome ∷ flights ∷ events ∷ []) text answer = AdmitsReplay aerodrome flights events text answer
 Admits Check (aerodrome ∷ flights ∷ certificate ∷ []) text answer = AdmitsCheck aerodrome flights certificate text answer
+Admits Effort (aerodrome ∷ flights ∷ events ∷ []) text answer = AdmitsEffort aerodrome flights events text answer
 Admits (Trial seed n k) [] text answer = AdmitsTrial seed n k text answer
 Admits command contents text answer = ⊥
 
 -- A text that a command may have begun to print when it stops early.
 abbrev pub Begins : Command → List (List ℕ) → List ℕ → Type 0
 Begins Replay (aerodrome ∷ flights ∷ events ∷ []) text = BeginsReplay aerodrome flights events text
+Begins Effort (aerodrome ∷ flights ∷ events ∷ []) text = BeginsEffort aerodrome flights events text
 Begins command contents text = (answer : Answer) × Admits command contents text answer
 
 -- Over these contents of its files a command is refused, for this cause.
@@ -73,4 +78,5 @@ abbrev pub Refuses : Command → List (List ℕ) → Refusal → Type 0
 Refuses Plan (aerodrome ∷ flights ∷ []) refusal = RefusesPlan aerodrome flights refusal
 Refuses Replay (aerodrome ∷ flights ∷ events ∷ []) refusal = RefusesReplay aerodrome flights events refusal
 Refuses Check (aerodrome ∷ flights ∷ certificate ∷ []) refusal = RefusesCheck aerodrome flights certificate refusal
+Refuses Effort (aerodrome ∷ flights ∷ events ∷ []) refusal = RefusesReplay aerodrome flights events refusal
 Refuses command contents refusal = ⊥

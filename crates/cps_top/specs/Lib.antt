@@ -1,6 +1,7 @@
 -- The program: its commands, statuses and lines, and what it writes.
 pub mod Check
 pub mod Commands
+pub mod Effort
 pub mod Faults
 pub mod Lines
 pub mod Loads

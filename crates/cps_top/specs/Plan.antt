@@ -2,7 +2,12 @@
 use Rattle.std.specs.Prelude.{◌≡◌, ⊤, ℕ, nat_lt, Bool, List, length, map, is_some, Option, Some, None, Result, Ok, Err, if◌then◌else◌}
 use Rattle.landing_rules.specs.Flights.{Schedule}
 use Rattle.landing_rules.specs.Events.{State, IsOpeningState}
+use Rattle.landing_rules.specs.Problem.{IsProblemOf}
 use Rattle.landing_rules.specs.Text.{lines_text, plan_lines}
+use Rattle.cps_network.specs.Due.{IsDue}
+use Rattle.efforts.specs.Ends.{IsHeld}
+use Rattle.replan.specs.declared.any_kept.AnyKept.{AnyKept}
+use Rattle.sequencer.specs.Standing.{Standing}
 use Rattle.aerodrome_file.specs.declared.aerodrome.Aerodrome.{Aerodrome}
 use Rattle.aerodrome_file.specs.declared.fault.AeroFault.{AeroFault}
 use Rattle.aerodrome_file.specs.Reading.{aerodrome_of}
@@ -42,6 +47,12 @@ answer_of plan = answer_by (is_some plan)
 pub record IsOpened (aerodrome : Aerodrome) (flights : List Flight) (state : State) : Type 0 where
   pub taken : refusal_of flights ≡ None
   pub opens : IsOpeningState (opening_of aerodrome) (map flight_of flights) state
+
+-- The planner holds the problem, which was planned in so many steps with nothing held.
+pub record IsPlannedAnew (s : Standing AnyKept) (steps : ℕ) : Type 0 where
+  pub problem_of : IsProblemOf s.state.situation s.problem
+  pub held : IsHeld s
+  pub due : IsDue None s.problem steps
 
 -- The text is the block of an opening state of files that are taken.
 pub record Shows (aerodrome : Aerodrome) (flights : List Flight) (text : List ℕ) (answer : answers.Answer) : Type 0 where

@@ -1,5 +1,5 @@
 -- What `trial` prints of the traffic of a seed.
-use Rattle.std.specs.Prelude.{◌≡◌, ℕ, ◌-◌, ◌^◌, min, List, length, map}
+use Rattle.std.specs.Prelude.{◌≡◌, ℕ, List, length, map}
 use Rattle.landing_rules.specs.Events.{State, IsOpeningState}
 use Rattle.landing_rules.specs.Problem.{Problem, IsProblemOf}
 use Rattle.landing_rules.specs.Text.{plan_shown}
@@ -12,7 +12,7 @@ use Rattle.cps_top.specs.declared.endings.Answer.{Answer}
 use Rattle.cps_top.specs.Plan.{answer_of}
 
 -- The text is the summary of an opening state of this traffic, with the number of the candidates of all stages of its
--- problem, up to the last value of a u64.
+-- problem.
 pub record Sums (made : Made) (n k : ℕ) (text : List ℕ) (answer : Answer) : Type 0 where
   pub state : State
   pub opens : IsOpeningState (opening_of made.aerodrome) (map flight_of made.flights) state
@@ -20,7 +20,7 @@ pub record Sums (made : Made) (n k : ℕ) (text : List ℕ) (answer : Answer) : 
   pub problem_of : IsProblemOf state.situation problem
   pub nodes : ℕ
   pub candidates : HasCandidatesUpto problem (length problem.flights) nodes
-  pub prints : text ≡ trial_text n k (min nodes (2 ^ 64 - 1)) state.situation.aerodrome.objective (plan_shown state)
+  pub prints : text ≡ trial_text n k nodes state.situation.aerodrome.objective (plan_shown state)
   pub answers : answer ≡ answer_of state.plan
 
 -- The text is the summary of the traffic of a seed.

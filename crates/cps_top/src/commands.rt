@@ -1,5 +1,5 @@
-ghost use Rattle.std.specs.Prelude.{◌≡◌, Some, IfSome, ◌≤◌, map, string_bytes};
-ghost use Rattle.cps_top.specs.Commands.{IsInRange, command_of, files_of, number_of, trial_of};
+ghost use Rattle.std.specs.Prelude.{◌≡◌, Some, IfSome, ◌≤◌, length, map, string_bytes};
+ghost use Rattle.cps_top.specs.Commands.{IsInRange, command_of, file_count, files_of, number_of, trial_of};
 
 use cps_base::read_number;
 
@@ -12,6 +12,8 @@ pub enum Command {
     Replay,
     /// `check AERODROME FLIGHTS CERTIFICATE`.
     Check,
+    /// `effort AERODROME FLIGHTS EVENTS`.
+    Effort,
     /// `trial SEED N K`: a seed from 0 to 4,294,967,295, 1 to 60 flights, and a bound on shifts from 0 to 3. It has no
     /// files.
     Trial { seed: u64, n: u8, k: u8 },
@@ -56,6 +58,9 @@ pub(crate) fn read_command(words: &[String]) -> Option<Command>
     if word.as_str() == "check" && rest.len() == 3 {
         return Some(Command::Check);
     }
+    if word.as_str() == "effort" && rest.len() == 3 {
+        return Some(Command::Effort);
+    }
     if word.as_str() == "trial" {
         return read_trial(rest);
     }
@@ -65,7 +70,8 @@ pub(crate) fn read_command(words: &[String]) -> Option<Command>
 // The words that name the files of the command that they fit.
 pub(crate) fn files(command: Command, words: &[String]) -> &[String]
     requires { command_of (map string_bytes words.now) ≡ Some command }
-    ensures { map string_bytes result.now ≡ files_of (map string_bytes words.now) }
+    ensures names { map string_bytes result.now ≡ files_of (map string_bytes words.now) }
+    ensures count { length result.now ≡ file_count command }
 {
     match command {
         Command::Trial { .. } => &[],

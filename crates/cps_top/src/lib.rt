@@ -5,6 +5,7 @@ mod aerodrome_lines;
 mod certificate_lines;
 mod check;
 mod commands;
+mod effort;
 mod endings;
 mod event_lines;
 mod faults;
@@ -29,6 +30,8 @@ pub use top::run;
 
 #[cfg(test)]
 mod check_tests;
+#[cfg(test)]
+mod effort_tests;
 #[cfg(test)]
 mod limit_tests;
 #[cfg(test)]

@@ -1,33 +1,36 @@
 // What the aerodrome file and the flight file open.
-ghost use Rattle.std.specs.Prelude.{MatchResult};
+ghost use Rattle.std.specs.Prelude.{IfOk, MatchResult};
 ghost use Rattle.aerodrome_file.specs.Reading.{IsInRange};
 ghost use Rattle.flight_file.specs.OfFile.{CanBeRead};
-ghost use Rattle.cps_top.specs.Plan.{IsOpened, StopsOpened};
+ghost use Rattle.cps_top.specs.Plan.{IsOpened, IsPlannedAnew, StopsOpened};
 
 use crate::Ending;
 use aerodrome_file::Aerodrome;
-use cps_base::{Silent, Steps};
+use cps_base::{Counted, Steps};
 use cps_outside::Gate;
+use efforts::due_is_small;
 use flight_file::Flight;
 use replan::AnyKept;
 use sequencer::Sequencer;
 use std::alloc::Global;
 use std::thread::Threads;
 
-// The sequencer that the files begin, with a planner that keeps its stages.
+// The sequencer that the files begin, with a planner that keeps its stages, and the steps of its planning.
 pub(crate) fn begin<R: Threads + Sync, G: Gate + Sync>(
     rt: &R,
     alloc: Global,
     aerodrome: Aerodrome,
     flights: Vec<Flight>,
     gate: &G,
-) -> Result<Sequencer<AnyKept>, Ending>
+) -> Result<(Sequencer<AnyKept>, u64), Ending>
     requires range { IsInRange aerodrome }
     requires read { CanBeRead flights.items }
-    ensures { MatchResult result (λ s. IsOpened aerodrome flights.items s.state) (StopsOpened flights.items) }
+    ensures opened { MatchResult result (λ begun. IsOpened aerodrome flights.items begun.0.state) (StopsOpened flights.items) }
+    ensures planned { IfOk result (λ begun. IsPlannedAnew begun.0 begun.1) }
 {
     let planner = AnyKept::fresh(aerodrome.k);
-    let mut steps = Steps::new(Silent);
+    let mut steps = Steps::new(Counted::new());
     let sequencer = Sequencer::begin(rt, alloc, aerodrome, flights, planner, gate, &mut steps)?;
-    Ok(sequencer)
+    due_is_small(sequencer.problem());
+    Ok((sequencer, steps.ledger().value()))
 }

@@ -56,7 +56,7 @@ fn write_opened<R: Threads + Sync, G: Gate + Sync>(
     requires empty { text.old.items ≡ [] }
     ensures { MatchResult result (λ answer. Shows aerodrome flights.items text.new.items answer) (StopsOpened flights.items) }
 {
-    let sequencer = begin(rt, alloc, aerodrome, flights, gate)?;
+    let (sequencer, _) = begin(rt, alloc, aerodrome, flights, gate)?;
     let answer = write_plan(&sequencer, text)?;
     Ok(answer)
 }

@@ -1,7 +1,8 @@
 // The command `replay`.
-ghost use Rattle.std.specs.Prelude.{◌≡◌, ◌≤◌, [], ◌∷◌, All, map, vec_len, MatchResult};
+ghost use Rattle.std.specs.Prelude.{◌≡◌, ◌≤◌, [], ◌∷◌, All, map, vec_len, IfOk, MatchResult};
 ghost use Rattle.event_log.specs.Seen.{event_of, IsGood};
 ghost use Rattle.cps_top.specs.declared.commands.Command.TheVariants as commands;
+ghost use Rattle.cps_top.specs.Plan.{IsPlannedAnew};
 ghost use Rattle.cps_top.specs.Replay.{ending_of, IsBegun, StopsReplay};
 ghost use Rattle.cps_top.specs.Outcome.{Follows};
 
@@ -19,30 +20,32 @@ use sequencer::Sequencer;
 use std::alloc::Global;
 use std::thread::Threads;
 
-// The sequencer that the files begin, and the events of the log; or why the files are not taken.
+// The sequencer that the files begin, the events of the log, and the steps of the opening plan; or why the files are not
+// taken.
 #[tactic(auto, using(crate::proofs::Replayed::events_in_range))]
-fn begin_files<R: Threads + Sync, G: Gate + Sync>(
+pub(crate) fn begin_files<R: Threads + Sync, G: Gate + Sync>(
     rt: &R,
     alloc: Global,
     aerodrome: &[u8],
     flights: &[u8],
     events: &[u8],
     gate: &G,
-) -> Result<(Sequencer<AnyKept>, Vec<Event>), Ending>
-    ensures { MatchResult result
+) -> Result<(Sequencer<AnyKept>, Vec<Event>, u64), Ending>
+    ensures begun { MatchResult result
         (λ begun. IsBegun aerodrome.now flights.now events.now begun.0.state (map event_of begun.1.items) × (All IsGood begun.1.items) × (vec_len begun.1 ≤ 2000))
         (StopsReplay aerodrome.now flights.now events.now) }
+    ensures planned { IfOk result (λ begun. IsPlannedAnew begun.0 begun.2) }
 {
     let aerodrome = read_aerodrome(alloc, aerodrome)?;
     let flights = read_flights(alloc, flights)?;
     let events = read_events(alloc, events)?;
-    let sequencer = begin(rt, alloc, aerodrome, flights, gate)?;
+    let (sequencer, steps) = begin(rt, alloc, aerodrome, flights, gate)?;
     let _sound = sequencer.problem();
-    Ok((sequencer, events))
+    Ok((sequencer, events, steps))
 }
 
 // How the program ends where its replay ended so.
-fn ending_of(replayed: Result<bool, Stop>) -> Ending
+pub(crate) fn ending_of(replayed: Result<bool, Stop>) -> Ending
     ensures { result ≡ ending_of replayed }
 {
     match replayed {
@@ -64,7 +67,9 @@ pub(crate) fn replay<R: Threads + Sync, S: Sink, G: Gate + Sync>(
 ) -> Ending
     ensures { Follows commands.Replay (aerodrome.now ∷ flights.now ∷ events.now ∷ []) (S.state out.old) (S.state out.new) result }
 {
-    let (mut sequencer, events) = match begin_files(rt, alloc, aerodrome, flights, events, gate) {
+    let (mut sequencer, events, _) = match begin_files(
+        rt, alloc, aerodrome, flights, events, gate,
+    ) {
         Ok(begun) => begun,
         Err(ending) => return ending,
     };

@@ -7,6 +7,7 @@ ghost use Rattle.cps_top.specs.Statuses.{Causes, Asks, Completes, IsExact};
 
 use crate::check::check;
 use crate::commands::{files, read_command};
+use crate::effort::effort;
 use crate::lines::{say, status};
 use crate::loads::load_all;
 use crate::plan::plan;
@@ -55,6 +56,15 @@ fn perform<R: Threads + Sync, S: Sink, G: Gate + Sync>(
             contents[1].as_slice(),
             contents[2].as_slice(),
             out,
+        ),
+        Command::Effort => effort(
+            rt,
+            alloc,
+            contents[0].as_slice(),
+            contents[1].as_slice(),
+            contents[2].as_slice(),
+            out,
+            gate,
         ),
         Command::Trial { seed, n, k } => trial(rt, alloc, seed, n, k, out, gate),
     }

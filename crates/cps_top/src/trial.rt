@@ -1,6 +1,5 @@
 // The command `trial`.
 ghost use Rattle.std.specs.Prelude.{◌≡◌, ◌≤◌, [], length, MatchResult, IfOk, OnOk};
-ghost use Rattle.landing_rules.specs.Problem.{IsProblemOf};
 ghost use Rattle.landing_rules.specs.Text.{plan_shown};
 ghost use Rattle.aerodrome_file.specs.Reading.{IsInRange};
 ghost use Rattle.flight_file.specs.OfFile.{CanBeRead};
@@ -11,13 +10,12 @@ ghost use Rattle.plan_text.specs.Trial.{trial_text};
 ghost use Rattle.cps_top.specs.Plan.{answer_of};
 ghost use Rattle.cps_top.specs.Trial.{Sums, AdmitsTrial};
 
+use crate::opening::begin;
 use crate::plan::answer;
 use crate::{Answer, Ending};
-use cps_base::{Counted, Steps};
 use cps_outside::{Gate, Sink};
 use cps_problem::Planner;
 use plan_text::trial_summary;
-use replan::AnyKept;
 use sequencer::Sequencer;
 use std::alloc::{AllocError, Global};
 use std::thread::Threads;
@@ -34,9 +32,7 @@ fn write_summary<P: Planner>(
     requires empty { text.old.items ≡ [] }
     ensures prints { OnOk result (text.new.items ≡ trial_text n k nodes sequencer.now.state.situation.aerodrome.objective (plan_shown sequencer.now.state)) }
     ensures answers { IfOk result (λ answer. answer ≡ answer_of sequencer.now.state.plan) }
-    ensures problem { IsProblemOf sequencer.now.state.situation sequencer.now.problem }
 {
-    let _problem = sequencer.problem();
     let plan = sequencer.plan();
     trial_summary(n, k, nodes, sequencer.objective(), plan, text)?;
     Ok(answer(plan.is_some()))
@@ -53,17 +49,13 @@ fn write_traffic<R: Threads + Sync, G: Gate + Sync>(
     text: &mut Vec<u8>,
 ) -> Result<Answer, Ending>
     requires range { IsInRange traffic.aerodrome }
-    requires same_k { traffic.aerodrome.k ≡ k }
     requires read { CanBeRead traffic.flights }
     requires few { length traffic.flights ≤ 60 }
     requires empty { text.old.items ≡ [] }
     ensures { MatchResult result (λ answer. Sums traffic n k text.new.items answer) (λ ending. ending ≡ NoMemory) }
 {
     let (aerodrome, flights) = traffic.into_parts();
-    let planner = AnyKept::fresh(k);
-    let mut steps = Steps::new(Counted::new());
-    let sequencer = Sequencer::begin(rt, alloc, aerodrome, flights, planner, gate, &mut steps)?;
-    let nodes = steps.ledger().value();
+    let (sequencer, nodes) = begin(rt, alloc, aerodrome, flights, gate)?;
     let answer = write_summary(&sequencer, n, k, nodes, text)?;
     Ok(answer)
 }

@@ -3,5 +3,5 @@ use Rattle.cps_top.proofs.replay.replay.Goals as goal
 
 pub returns : goal.returns
 returns g c =
-    rw c.ending_of.ensures (replayed c.args.aerodrome.now c.args.flights.now c.args.events.now _ c.replay-replayed.new.sequencer.state _ _ _ _ c.in-Ok.ensures.0
+    rw c.ending_of.ensures (replayed c.args.aerodrome.now c.args.flights.now c.args.events.now _ c.replay-replayed.new.sequencer.state _ _ _ _ c.in-Ok.ensures.begun.0
     (rw c.as_slice.ensures.value at c.replay-replayed.ensures.outcome))

@@ -1,0 +1,30 @@
+-- What `effort` prints over the contents of its three files. It refuses those that `replay` refuses.
+use Rattle.std.specs.Prelude.{◌≡◌, ℕ, List, ◌++◌}
+use Rattle.landing_rules.specs.Events as rules
+use Rattle.landing_rules.specs.Events.{State}
+use Rattle.efforts.specs.Efforts.{Effort, answers_of, effort_text}
+use Rattle.replays.specs.Runs.{last_state}
+use Rattle.cps_top.specs.declared.endings.Answer.{Answer}
+use Rattle.cps_top.specs.Plan.{answer_of}
+use Rattle.cps_top.specs.Replay.{IsBegun}
+
+-- The text tells the steps of the plannings of a run of the rules over all events of the log, from an opening state of the
+-- files.
+pub record AdmitsEffort (aerodrome flights log text : List ℕ) (answer : Answer) : Type 0 where
+  pub state : State
+  pub events : List rules.Event
+  pub begun : IsBegun aerodrome flights log state events
+  pub effort : Effort state events
+  pub prints : text ≡ effort_text effort
+  pub answered : answer ≡ answer_of (last_state state (answers_of effort.plannings.planned)).plan
+
+-- The text tells those of a run over the first events of the log.
+pub record BeginsEffort (aerodrome flights log text : List ℕ) : Type 0 where
+  pub state : State
+  pub events : List rules.Event
+  pub begun : IsBegun aerodrome flights log state events
+  pub done : List rules.Event
+  pub rest : List rules.Event
+  pub split : done ++ rest ≡ events
+  pub effort : Effort state done
+  pub prints : text ≡ effort_text effort

@@ -1,0 +1,40 @@
+// The command `effort`.
+ghost use Rattle.std.specs.Prelude.{[], ◌∷◌};
+ghost use Rattle.cps_top.specs.declared.commands.Command.TheVariants as commands;
+ghost use Rattle.cps_top.specs.Outcome.{Follows};
+
+use crate::Ending;
+use crate::replay::{begin_files, ending_of};
+use cps_outside::{Gate, Sink};
+use std::alloc::Global;
+use std::thread::Threads;
+
+// Prints how many steps each planning of a replay of the files takes.
+pub(crate) fn effort<R: Threads + Sync, S: Sink, G: Gate + Sync>(
+    rt: &R,
+    alloc: Global,
+    aerodrome: &[u8],
+    flights: &[u8],
+    events: &[u8],
+    out: &mut S,
+    gate: &G,
+) -> Ending
+    ensures { Follows commands.Effort (aerodrome.now ∷ flights.now ∷ events.now ∷ []) (S.state out.old) (S.state out.new) result }
+{
+    let (mut sequencer, events, opening) = match begin_files(
+        rt, alloc, aerodrome, flights, events, gate,
+    ) {
+        Ok(begun) => begun,
+        Err(ending) => return ending,
+    };
+    let ended = efforts::effort(
+        rt,
+        alloc,
+        &mut sequencer,
+        opening,
+        events.as_slice(),
+        out,
+        gate,
+    );
+    ending_of(ended)
+}
