@@ -1,16 +1,22 @@
 -- What is kept of the stages of a problem for another.
-use Rattle.std.proofs.Common.{◌≡◌, ℕ, ◌+◌, ◌<◌, ◌≤◌, List, [], length, take, Some, sym, ap, subst, ◌∙◌, arith}
-use Rattle.std.specs.Prelude.{ℤ}
+use Rattle.std.proofs.Common.{◌≡◌, ℕ, ◌+◌, ◌-◌, ◌*◌, ◌<◌, ◌≤◌, List, [], length, get_or, take, Bool, false, Some, sym, ap, subst, ◌∙◌, arith}
+use Rattle.std.specs.Prelude.{ℤ, IsTrue}
 use Rattle.std.proofs.lemmas.List.{get_or-take, length-take-le}
-use Rattle.landing_rules.specs.Problem.{Problem}
+use Rattle.std.proofs.lemmas.List.Elements.{Contains-get_or}
+use Rattle.landing_rules.specs.Problem.{Problem, AreBetweenRanks}
 use Rattle.cps_problem.specs.FirstDifference.{HaveSameHead}
 use Rattle.cps_network.specs.Due.{IsDueFrom}
 use Rattle.cps_network.specs.KeptStages.{HaveStageInCommon, EarlyStagesAreKept}
 use Rattle.cps_network.specs.shared.DueSteps.{due_with_held}
+use Rattle.cps_network.specs.Lists.{AreWindows, node_at}
+use Rattle.cps_network.specs.Permits.{IsNextOf}
+use Rattle.cps_network.specs.WindowLaws.{WindowLaws}
+use Rattle.cps_network.specs.shared.KeptCandidates.{kept_next}
 use Rattle.cps_network.specs.shared.KeptCosts.{kept_costs}
+use Rattle.cps_network.specs.shared.LegalWindows.{landable_valid}
 use Rattle.replan.specs.Held.{AreInCommon}
 use Rattle.replan.specs.Labels.{StagePairs, HoldsPairs}
-use Rattle.replan.specs.Stages.{stage_at, labels_at, HoldsStages}
+use Rattle.replan.specs.Stages.{stage_at, labels_at, HoldsStages, AreWholeWhere}
 use Rattle.replan.proofs.StageLemmas.{no_pairs}
 
 same_pairs : (p q : Problem) (stage : ℕ × List (List ℤ)) (labels : StagePairs) → HaveSameHead p q → HaveStageInCommon p q stage.0 → HoldsPairs p stage labels → HoldsPairs q stage labels
@@ -40,6 +46,30 @@ module _ (p q : Problem) (stages : List (ℕ × List (List ℤ))) (labels : List
     one_each = length-take-le count labels (let a = holds.one_each in omega (arith, a, within)) ∙ sym long;
     number = λ i lt. let here : i < count = omega (arith, lt, long) in ap (λ (s : ℕ × List (List ℤ)). s.0) (stage_left i here) ∙ holds.number i (omega (arith, here, within));
     held = λ i lt. held_left i (omega (arith, lt, long));
+  }
+
+-- and what is said of them still holds
+module _ (p q : Problem) (w : ℕ) (odd : w ≡ 2 * p.k + 1) (laws : WindowLaws p w) (bp : AreBetweenRanks (length p.flights) p.pairs) (bq : AreBetweenRanks (length q.flights) q.pairs) (stages : List (ℕ × List (List ℤ))) (labels : List StagePairs) (said : List Bool) (count : ℕ) (holds : HoldsStages p stages labels) (whole : AreWholeWhere p stages said) (common : AreInCommon p q count) (more : 1 < count) (within : count ≤ length stages) where
+  valid : (i : ℕ) → i < length stages → AreWindows w (stage_at stages i).1
+  valid i lt j inside = landable_valid p w odd laws (stage_at stages i).0 (node_at (stage_at stages i).1 j) (((holds.held i lt).held.landable (node_at (stage_at stages i).1 j)).0 (Contains-get_or (stage_at stages i).1 j [] inside))
+
+  next_left : (i : ℕ) → 0 < i → i < count → IsTrue (get_or said i false) → IsNextOf q (i - 1) (stage_at stages (i - 1)).1 (stage_at stages i).1
+  next_left i some lt true_there =
+      let is = common.1 in
+      let e = common.2 in
+      let agree = is.agree (omega (arith, e, more)) in
+      let same = agree.head.k in
+      kept_next p q common.0 is.within agree bp bq w odd (i - 1) (stage_at stages (i - 1)).1 (stage_at stages i).1 (omega (arith, e, lt, some, same)) (valid (i - 1) (omega (arith, lt, within)))
+      (whole.each i some (omega (arith, lt, within)) true_there)
+
+  pub whole_in_common : AreWholeWhere q (take count stages) (take count said)
+  whole_in_common = record {
+    one_each = length-take-le count said (let a = whole.one_each in omega (arith, a, within)) ∙ sym (length-take-le count stages within);
+    each = λ i some lt true_there.
+        let here : i < count = omega (arith, lt, length-take-le count stages within) in
+        subst (λ (s : ℕ × List (List ℤ)). IsNextOf q (i - 1) (stage_at (take count stages) (i - 1)).1 s.1) (sym (get_or-take count stages i (0, []) here))
+        (subst (λ (s : ℕ × List (List ℤ)). IsNextOf q (i - 1) s.1 (stage_at stages i).1) (sym (get_or-take count stages (i - 1) (0, []) (omega (arith, here))))
+        (next_left i some here (subst IsTrue (get_or-take count said i false here) true_there)));
   }
 
 -- they are no more than are held

@@ -1,6 +1,6 @@
 -- Stage 0 with its pair, and one stage more.
 use Rattle.std.proofs.Common.{◌≡◌, ℕ, zero, suc, ◌+◌, ◌*◌, ◌<◌, ◌≤◌, List, [], ◌∷◌, ◌++◌, length, get_or, replicate, length-append, refl, sym, ap, subst, ◌∙◌, arith, inl, inr, zero-le, Option, Some, None}
-use Rattle.std.specs.Prelude.{ℤ, pos, Contains, Bool, IsTrue, ◌-◌}
+use Rattle.std.specs.Prelude.{ℤ, pos, Contains, Bool, false, IsTrue, ◌-◌}
 use Rattle.std.proofs.lemmas.Bool.{cases_eq}
 use Rattle.std.proofs.lemmas.List.{get_or_append_left, get_or_push, get_or_default}
 use Rattle.std.proofs.lemmas.List.Elements.{Contains-get_or}
@@ -21,7 +21,7 @@ use Rattle.cps_network.specs.Permits.{IsNextOf}
 use Rattle.cps_network.specs.shared.DueSteps.{more_from}
 use Rattle.cps_network.specs.shared.LegalWindows.{source_is}
 use Rattle.replan.specs.Labels.{StagePairs, HoldsPairs}
-use Rattle.replan.specs.Stages.{stage_at, labels_at, HoldsStages, IsWholeWhere}
+use Rattle.replan.specs.Stages.{stage_at, labels_at, HoldsStages, AreWholeWhere}
 
 -- ---- stage 0
 
@@ -182,31 +182,43 @@ last_read p stages labels holds whole n last same e =
 -- ---- the stage after the last
 
 -- the last two stages, where the last one is whole
-pub whole_at : (p : Problem) (stages : List (ℕ × List (List ℤ))) (said : Bool) (i last : ℕ) (earlier before : ℕ × List (List ℤ)) → IsWholeWhere p stages said → ((j : ℕ) → j < length stages → (stage_at stages j).0 ≡ j)
-    → last + 1 ≡ length stages → i ≡ last - 1 → earlier ≡ stage_at stages i → before ≡ stage_at stages last → IsTrue said → earlier.0 < before.0 → IsNextOf p earlier.0 earlier.1 before.1
+pub whole_at : (p : Problem) (stages : List (ℕ × List (List ℤ))) (said : List Bool) (i last : ℕ) (earlier before : ℕ × List (List ℤ)) → AreWholeWhere p stages said → ((j : ℕ) → j < length stages → (stage_at stages j).0 ≡ j)
+    → last < length stages → i ≡ last - 1 → earlier ≡ stage_at stages i → before ≡ stage_at stages last → IsTrue (get_or said last false) → earlier.0 < before.0 → IsNextOf p earlier.0 earlier.1 before.1
 whole_at p stages said i last earlier before is numbers n back e f whole lt =
-    let here : before.0 ≡ last = ap (λ (s : ℕ × List (List ℤ)). s.0) f ∙ numbers last (omega (arith, n)) in
+    let here : before.0 ≡ last = ap (λ (s : ℕ × List (List ℤ)). s.0) f ∙ numbers last n in
     let there : earlier.0 ≡ i = ap (λ (s : ℕ × List (List ℤ)). s.0) e ∙ numbers i (omega (arith, n, back)) in
-    let a : length stages - 2 ≡ i = omega (arith, n, back, lt, here, there) in
-    let b : length stages - 1 ≡ last = omega (arith, n) in
     let one : IsNextOf p i (stage_at stages i).1 (stage_at stages last).1 =
-    subst (λ (q : ℕ). IsNextOf p i (stage_at stages i).1 (stage_at stages q).1) b (subst (λ (q : ℕ). IsNextOf p q (stage_at stages q).1 (stage_at stages (length stages - 1)).1) a (is whole (omega (arith, n, lt, here, there, back)))) in
+    subst (λ (q : ℕ). IsNextOf p q (stage_at stages q).1 (stage_at stages last).1) (sym back) (is.each last (omega (arith, lt, here)) n whole) in
     let two : IsNextOf p i earlier.1 before.1 =
     subst (λ (x : ℕ × List (List ℤ)). IsNextOf p i earlier.1 x.1) (sym f) (subst (λ (x : ℕ × List (List ℤ)). IsNextOf p i x.1 (stage_at stages last).1) (sym e) one) in
     subst (λ (q : ℕ). IsNextOf p q earlier.1 before.1) (sym there) two
 
--- the stages are whole where the last one was kept whole
-pub whole_more : (p : Problem) (stages after : List (ℕ × List (List ℤ))) (before was stage : ℕ × List (List ℤ)) (said : Bool) → ((j : ℕ) → j < length stages → (stage_at stages j).0 ≡ j)
-    → after ≡ stages ++ stage ∷ [] → (last : ℕ) → last + 1 ≡ length stages → before ≡ stage_at stages last → (IsTrue said → stage.1 ≡ was.1) → IsNextOf p before.0 before.1 was.1 → IsWholeWhere p after said
-whole_more p stages after before was stage said numbers e last n at kept is whole more =
-    let lt : last < length stages = omega (arith, n) in
-    let a : length after - 2 ≡ last = omega (arith, ap length e, length-append stages (stage ∷ []), n) in
-    let b : length after - 1 ≡ length stages = omega (arith, ap length e, length-append stages (stage ∷ [])) in
-    let end : stage_at after (length after - 1) ≡ stage = ap (λ (l : List (ℕ × List (List ℤ))). stage_at l (length after - 1)) e ∙ get_or_push stages stage (0, []) (length after - 1) (sym b) in
-    let front : stage_at after (length after - 2) ≡ before =
-    ap (stage_at after) a ∙ ap (λ (l : List (ℕ × List (List ℤ))). stage_at l last) e ∙ get_or_append_left stages (stage ∷ []) (0, []) last lt ∙ sym at in
-    let number : before.0 ≡ length after - 2 = ap (λ (s : ℕ × List (List ℤ)). s.0) at ∙ numbers last lt ∙ sym a in
-    let one : IsNextOf p (length after - 2) before.1 stage.1 =
-    subst (λ (q : ℕ). IsNextOf p q before.1 stage.1) number (subst (λ (ws : List (List ℤ)). IsNextOf p before.0 before.1 ws) (sym (kept whole)) is) in
-    subst (λ (x : ℕ × List (List ℤ)). IsNextOf p (length after - 2) (stage_at after (length after - 2)).1 x.1) (sym end)
-    (subst (λ (x : ℕ × List (List ℤ)). IsNextOf p (length after - 2) x.1 stage.1) (sym front) one)
+-- one stage more, and what is said of it
+pub whole_more : (p : Problem) (stages after : List (ℕ × List (List ℤ))) (whole more : List Bool) (before was stage : ℕ × List (List ℤ)) (said : Bool) → AreWholeWhere p stages whole → ((j : ℕ) → j < length stages → (stage_at stages j).0 ≡ j)
+    → after ≡ stages ++ stage ∷ [] → more ≡ whole ++ said ∷ [] → (last : ℕ) → last + 1 ≡ length stages → before ≡ stage_at stages last → (IsTrue said → stage.1 ≡ was.1) → IsNextOf p before.0 before.1 was.1 → AreWholeWhere p after more
+whole_more p stages after whole more before was stage said holds numbers e f last n at kept is =
+    subst (λ (bs : List Bool). AreWholeWhere p after bs) (sym f) (subst (λ (ss : List (ℕ × List (List ℤ))). AreWholeWhere p ss (whole ++ said ∷ [])) (sym e) (record {
+      one_each = omega (arith, length-append stages (stage ∷ []), length-append whole (said ∷ []), holds.one_each);
+      each = λ i some lt true_there. elim (cases_eq i (length stages)) [
+        | inl same ↦ new i same (subst IsTrue (get_or_push whole said false i (holds.one_each ∙ sym same)) true_there)
+        | inr old ↦ earlier i some (omega (arith, old, lt, length-append stages (stage ∷ []))) true_there
+      ];
+    }))
+  where
+    new : (i : ℕ) → i ≡ length stages → IsTrue said → IsNextOf p (i - 1) (stage_at (stages ++ stage ∷ []) (i - 1)).1 (stage_at (stages ++ stage ∷ []) i).1
+    new i same whole_there =
+        let back : i - 1 ≡ last = omega (arith, same, n) in
+        let below : i - 1 < length stages = omega (arith, back, n) in
+        let front : stage_at (stages ++ stage ∷ []) (i - 1) ≡ before = get_or_append_left stages (stage ∷ []) (0, []) (i - 1) below ∙ ap (stage_at stages) back ∙ sym at in
+        let end : stage_at (stages ++ stage ∷ []) i ≡ stage = get_or_push stages stage (0, []) i (sym same) in
+        let number : before.0 ≡ i - 1 = ap (λ (s : ℕ × List (List ℤ)). s.0) at ∙ numbers last (omega (arith, n)) ∙ sym back in
+        let one : IsNextOf p (i - 1) before.1 stage.1 =
+        subst (λ (q : ℕ). IsNextOf p q before.1 stage.1) number (subst (λ (ws : List (List ℤ)). IsNextOf p before.0 before.1 ws) (sym (kept whole_there)) is) in
+        subst (λ (x : ℕ × List (List ℤ)). IsNextOf p (i - 1) (stage_at (stages ++ stage ∷ []) (i - 1)).1 x.1) (sym end)
+        (subst (λ (x : ℕ × List (List ℤ)). IsNextOf p (i - 1) x.1 stage.1) (sym front) one)
+
+    earlier : (i : ℕ) → 0 < i → i < length stages → IsTrue (get_or (whole ++ said ∷ []) i false) → IsNextOf p (i - 1) (stage_at (stages ++ stage ∷ []) (i - 1)).1 (stage_at (stages ++ stage ∷ []) i).1
+    earlier i some lt true_there =
+        let old : IsTrue (get_or whole i false) = subst IsTrue (get_or_append_left whole (said ∷ []) false i (omega (arith, lt, holds.one_each))) true_there in
+        subst (λ (x : ℕ × List (List ℤ)). IsNextOf p (i - 1) (stage_at (stages ++ stage ∷ []) (i - 1)).1 x.1) (sym (get_or_append_left stages (stage ∷ []) (0, []) i lt))
+        (subst (λ (x : ℕ × List (List ℤ)). IsNextOf p (i - 1) x.1 (stage_at stages i).1) (sym (get_or_append_left stages (stage ∷ []) (0, []) (i - 1) (omega (arith, lt)))) (holds.each i some lt old))

@@ -1,5 +1,5 @@
 -- The stages of a problem with their pairs, and orders that land.
-use Rattle.std.specs.Prelude.{◌≡◌, ℕ, ℤ, ◌-◌, ◌<◌, Bool, IsTrue, List, [], length, reverse, slice_index_or}
+use Rattle.std.specs.Prelude.{◌≡◌, ℕ, ℤ, ◌-◌, ◌<◌, Bool, false, IsTrue, List, [], length, reverse, slice_index_or}
 use Rattle.landing_rules.specs.declared.objective.Objective.TheVariants.{Makespan}
 use Rattle.landing_rules.specs.Problem.{Problem}
 use Rattle.cps_theory.specs.Separation.{Landing}
@@ -27,10 +27,10 @@ pub record HoldsStages (p : Problem) (stages : List (ℕ × List (List ℤ))) (l
   pub number : (i : ℕ) → i < length stages → (stage_at stages i).0 ≡ i
   pub held : (i : ℕ) → i < length stages → HoldsPairs p (stage_at stages i) (labels_at labels i)
 
--- where it is said so, each candidate of the last stage is among its windows: they are all that extend the stage before
-abbrev pub IsWholeWhere : Problem → List (ℕ × List (List ℤ)) → Bool → Type 0
-IsWholeWhere p stages said = IsTrue said → 1 < length stages
-    → IsNextOf p (length stages - 2) (stage_at stages (length stages - 2)).1 (stage_at stages (length stages - 1)).1
+-- where it is said so, each candidate of a stage is among its windows: they are all that extend the stage before
+pub record AreWholeWhere (p : Problem) (stages : List (ℕ × List (List ℤ))) (said : List Bool) : Type 0 where
+  pub one_each : length said ≡ length stages
+  pub each : (i : ℕ) → 0 < i → i < length stages → IsTrue (slice_index_or said i false) → IsNextOf p (i - 1) (stage_at stages (i - 1)).1 (stage_at stages i).1
 
 -- the order is legal, and its flights can be given seconds that are open and late enough one after another, the last of them
 -- and what they cost together this pair

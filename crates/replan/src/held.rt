@@ -3,10 +3,11 @@
 ghost use Rattle.std.specs.Prelude.{◌≡◌, ℕ, ◌+◌, ◌-◌, ◌*◌, ◌<◌, ◌≤◌, length, vec_len, IfOk};
 ghost use Rattle.cps_network.specs.Due.{IsDueFrom};
 ghost use Rattle.replan.specs.Held.{AreInCommon, problem_of};
-ghost use Rattle.replan.specs.Stages.{HoldsStages, IsWholeWhere};
+ghost use Rattle.replan.specs.Stages.{HoldsStages, AreWholeWhere};
 
 use crate::stages::{Stages, first_stage};
-use cps_network::kept_stages;
+use cps_network::{kept_stages, prefix_laws};
+use cps_nodes::window_laws;
 use cps_problem::Problem;
 use std::alloc::{AllocError, Global};
 use std::marker::Model;
@@ -21,12 +22,13 @@ pub(crate) struct HeldProblem<const W: usize> {
 impl<const W: usize> Model for HeldProblem<W> {
     ghost use Rattle.replan.specs.Held as held;
     ghost use Rattle.replan.specs.Held.{IsHeld};
+    ghost use Rattle.replan.specs.Stages.{AreWholeWhere};
 
     ghost Value = { held.HeldProblem };
 
     ghost view = { λ h. record { problem = h.problem; stages = h.stages.stages.items; labels = h.stages.labels.items } };
 
-    ghost invariant = { λ h. IsHeld W (record { problem = h.problem; stages = h.stages.stages.items; labels = h.stages.labels.items }) };
+    ghost invariant = { λ h. IsHeld W (record { problem = h.problem; stages = h.stages.stages.items; labels = h.stages.labels.items }) × AreWholeWhere h.problem h.stages.stages.items h.stages.whole.items };
 }
 
 // How many stages of a problem, from stage 0 on, another has in common with it: those from which even the greatest shift does
@@ -45,10 +47,14 @@ impl<const W: usize> HeldProblem<W> {
         requires more { 1 < count }
         requires common { AreInCommon self.problem problem.now count }
         ensures held { HoldsStages problem.now result.stages.items result.labels.items }
-        ensures whole { IsWholeWhere problem.now result.stages.items result.last_is_whole }
+        ensures whole { AreWholeWhere problem.now result.stages.items result.whole.items }
         ensures count { vec_len result.stages ≡ count }
     {
+        let _held_ranks = self.problem.head();
+        let _ranks = problem.head();
         kept_stages(&self.problem, problem);
+        prefix_laws::<W>(&self.problem);
+        window_laws::<W>();
         let mut stages = self.stages;
         stages.truncate(count);
         stages
@@ -63,7 +69,7 @@ pub(crate) fn begin_stages<const W: usize>(
 ) -> Result<Stages<W>, AllocError>
     requires width { W ≡ 2 * problem.now.k + 1 }
     ensures held { IfOk result (λ kept. HoldsStages problem.now kept.stages.items kept.labels.items) }
-    ensures whole { IfOk result (λ kept. IsWholeWhere problem.now kept.stages.items kept.last_is_whole) }
+    ensures whole { IfOk result (λ kept. AreWholeWhere problem.now kept.stages.items kept.whole.items) }
     ensures some { IfOk result (λ kept. 0 < vec_len kept.stages) }
     ensures few { IfOk result (λ kept. vec_len kept.stages ≤ length problem.now.flights + 1) }
     ensures due { IfOk result (λ kept. IsDueFrom (problem_of held.entry) problem.now (vec_len kept.stages)) }

@@ -1,13 +1,13 @@
 //! The stages of a problem.
 
-ghost use Rattle.std.specs.Prelude.{◌≡◌, ℕ, ◌+◌, ◌-◌, ◌*◌, ◌<◌, ◌≤◌, length, vec_len, take, IfOk, OnOk, IsTrue, false};
+ghost use Rattle.std.specs.Prelude.{◌≡◌, ℕ, ◌+◌, ◌-◌, ◌*◌, ◌<◌, ◌≤◌, length, vec_len, take, IfOk, OnOk, IsTrue};
 ghost use Rattle.cps_base.specs.Tally.{raised_by};
 ghost use Rattle.cps_network.specs.Due.{HasCandidates, HasCandidatesFrom};
 ghost use Rattle.cps_network.specs.Landable.{HoldsCandidates};
 ghost use Rattle.cps_network.specs.Lists.{IsAscending};
 ghost use Rattle.cps_network.specs.Permits.{IsNextOf};
 ghost use Rattle.replan.specs.Labels.{HoldsPairs};
-ghost use Rattle.replan.specs.Stages.{HoldsStages, IsWholeWhere};
+ghost use Rattle.replan.specs.Stages.{HoldsStages, AreWholeWhere};
 
 use crate::labels::Labels;
 use cps_base::{Ledger, Steps};
@@ -22,20 +22,20 @@ use std::thread::Threads;
 pub(crate) struct Stages<const W: usize> {
     pub(crate) stages: Vec<Stage<W>>,
     pub(crate) labels: Vec<Labels>,
-    // Whether each candidate of the last stage is landable: then the stage after it may be a copy of it.
-    last_is_whole: bool,
+    // Whether each candidate of a stage is landable: then the stage after it may be a copy of it. Of stage 0 it is not said.
+    pub(crate) whole: Vec<bool>,
 }
 
 impl<const W: usize> Stages<W> {
-    // Keeps so many of the stages, from stage 0 on. What was said of the last one is not said of the one that is last then.
+    // Keeps so many of the stages, from stage 0 on.
     pub(crate) fn truncate(&mut self, count: usize)
         ensures stages { self.new.stages.items ≡ take count self.old.stages.items }
         ensures labels { self.new.labels.items ≡ take count self.old.labels.items }
-        ensures whole { self.new.last_is_whole ≡ false }
+        ensures whole { self.new.whole.items ≡ take count self.old.whole.items }
     {
         self.stages.truncate(count);
         self.labels.truncate(count);
-        self.last_is_whole = false;
+        self.whole.truncate(count);
     }
 }
 
@@ -46,7 +46,7 @@ pub(crate) fn first_stage<const W: usize>(
 ) -> Result<Stages<W>, AllocError>
     requires width { W ≡ 2 * problem.now.k + 1 }
     ensures held { IfOk result (λ kept. HoldsStages problem.now kept.stages.items kept.labels.items) }
-    ensures whole { IfOk result (λ kept. IsWholeWhere problem.now kept.stages.items kept.last_is_whole) }
+    ensures whole { IfOk result (λ kept. AreWholeWhere problem.now kept.stages.items kept.whole.items) }
     ensures one { IfOk result (λ kept. vec_len kept.stages ≡ 1) }
 {
     let objective = problem.head().objective;
@@ -55,12 +55,14 @@ pub(crate) fn first_stage<const W: usize>(
     let room = problem.len() as usize + 1;
     let mut stages = Vec::with_capacity(alloc, room)?;
     let mut labels = Vec::with_capacity(alloc, room)?;
+    let mut whole = Vec::with_capacity(alloc, room)?;
     stages.push(stage)?;
     labels.push(start)?;
+    whole.push(false)?;
     Ok(Stages {
         stages,
         labels,
-        last_is_whole: false,
+        whole,
     })
 }
 
@@ -127,25 +129,25 @@ fn add_stage<const W: usize, R: Threads, G: Gate, L: Ledger>(
 ) -> Result<(), AllocError>
     requires width { W ≡ 2 * problem.now.k + 1 }
     requires held { HoldsStages problem.now kept.old.stages.items kept.old.labels.items }
-    requires whole { IsWholeWhere problem.now kept.old.stages.items kept.old.last_is_whole }
+    requires whole { AreWholeWhere problem.now kept.old.stages.items kept.old.whole.items }
     requires some { 0 < vec_len kept.old.stages }
     requires number { vec_len kept.old.stages ≤ length problem.now.flights }
     ensures held { OnOk result (HoldsStages problem.now kept.new.stages.items kept.new.labels.items) }
-    ensures whole { OnOk result (IsWholeWhere problem.now kept.new.stages.items kept.new.last_is_whole) }
+    ensures whole { OnOk result (AreWholeWhere problem.now kept.new.stages.items kept.new.whole.items) }
     ensures one { OnOk result (vec_len kept.new.stages ≡ vec_len kept.old.stages + 1) }
     ensures steps { OnOk result ((count : ℕ) × HasCandidates problem.now (vec_len kept.old.stages - 1) count × (L.count steps.new ≡ raised_by count (L.count steps.old))) }
 {
     let last = kept.stages.len() - 1;
     let earlier = &kept.stages[last.saturating_sub(1)];
     let before = &kept.stages[last];
-    let mut stage = stage_after(alloc, problem, earlier, before, kept.last_is_whole)?;
+    let mut stage = stage_after(alloc, problem, earlier, before, kept.whole[last])?;
     let labels = &kept.labels[last];
     let (found, is_whole) = label_stage(
         rt, alloc, problem, before, labels, &mut stage, gate, steps,
     )?;
     kept.stages.push(stage)?;
     kept.labels.push(found)?;
-    kept.last_is_whole = is_whole;
+    kept.whole.push(is_whole)?;
     Ok(())
 }
 
@@ -160,10 +162,11 @@ pub(crate) fn fill_stages<const W: usize, R: Threads, G: Gate, L: Ledger>(
 ) -> Result<(), AllocError>
     requires width { W ≡ 2 * problem.now.k + 1 }
     requires held { HoldsStages problem.now kept.old.stages.items kept.old.labels.items }
-    requires whole { IsWholeWhere problem.now kept.old.stages.items kept.old.last_is_whole }
+    requires whole { AreWholeWhere problem.now kept.old.stages.items kept.old.whole.items }
     requires some { 0 < vec_len kept.old.stages }
     requires few { vec_len kept.old.stages ≤ length problem.now.flights + 1 }
     ensures held { OnOk result (HoldsStages problem.now kept.new.stages.items kept.new.labels.items) }
+    ensures whole { OnOk result (AreWholeWhere problem.now kept.new.stages.items kept.new.whole.items) }
     ensures all { OnOk result (vec_len kept.new.stages ≡ length problem.now.flights + 1) }
     ensures steps { OnOk result ((due : ℕ) × HasCandidatesFrom (vec_len kept.old.stages) problem.now (length problem.now.flights) due × (L.count steps.new ≡ raised_by due (L.count steps.old))) }
 {

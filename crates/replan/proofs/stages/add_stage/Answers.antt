@@ -1,5 +1,6 @@
-use Rattle.std.proofs.Common.{◌≡◌, ℕ, ◌-◌, ◌<◌, length, rules, arith, ap, ◌∙◌, List}
-use Rattle.std.specs.Prelude.{ℤ, vec_len}
+use Rattle.std.proofs.Common.{◌≡◌, ℕ, ◌-◌, ◌<◌, length, rules, arith, ap, ◌∙◌, List, subst}
+use Rattle.std.specs.Prelude.{ℤ, vec_len, IsTrue, false}
+use Rattle.std.proofs.lemmas.List.{get_or_default}
 use Rattle.replan.proofs.StageLemmas.{held_at, read_stage, read_labels, whole_at, more_held, whole_more, has_candidates}
 use Rattle.replan.proofs.stages.add_stage.Goals as goal
 
@@ -14,8 +15,9 @@ stage_after-requires g c =
         c.requires.width,
         (
           omega (arith, number, c.len-last.ensures, c.requires.number, c.requires.some),
-          whole_at c.args.problem.now c.args.kept.now.stages.items c.args.kept.now.last_is_whole c.saturating_sub.result (c.len-last.result - 1) c.index-earlier.result.now c.index-before.result.now c.requires.whole c.requires.held.number
-              (omega (arith, c.len-last.ensures, c.requires.some)) c.saturating_sub.ensures f e,
+          λ whole less. whole_at c.args.problem.now c.args.kept.now.stages.items c.args.kept.now.whole.items c.saturating_sub.result (c.len-last.result - 1) c.index-earlier.result.now c.index-before.result.now c.requires.whole c.requires.held.number lt
+              c.saturating_sub.ensures f e
+              (subst IsTrue (c.index.ensures ∙ get_or_default c.args.kept.now.whole.items (c.len-last.result - 1) c.index.result.now false (omega (arith, lt, c.requires.whole.one_each))) whole) less,
         ),
       ),
     )
@@ -40,8 +42,8 @@ pub returns-clause-whole : goal.returns-clause-whole
 returns-clause-whole g c =
     let lt : c.len-last.result - 1 < length c.args.kept.now.stages.items = omega (arith, c.len-last.ensures, c.requires.some) in
     let e = read_stage c.args.kept.now.stages.items (c.len-last.result - 1) c.index-before.result.now c.index-before.ensures lt in
-    whole_more c.args.problem.now c.args.kept.now.stages.items c.push.new.self.items c.index-before.result.now c.in_ok-stage.stage c.label_stage.new.stage c.in_ok-found.is_whole c.requires.held.number c.in_ok-push.ensures.items (c.len-last.result - 1)
-    (omega (arith, c.len-last.ensures, c.requires.some)) e c.in_ok-found.ensures.all c.in_ok-stage.ensures.exact
+    whole_more c.args.problem.now c.args.kept.now.stages.items c.push.new.self.items c.args.kept.now.whole.items c.push-3.new.self.items c.index-before.result.now c.in_ok-stage.stage c.label_stage.new.stage c.in_ok-found.is_whole
+    c.requires.whole c.requires.held.number c.in_ok-push.ensures.items c.in_ok-push-3.ensures.items (c.len-last.result - 1) (omega (arith, c.len-last.ensures, c.requires.some)) e c.in_ok-found.ensures.all c.in_ok-stage.ensures.exact
 
 pub returns-clause-steps : goal.returns-clause-steps
 returns-clause-steps g c =
