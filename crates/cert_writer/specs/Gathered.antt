@@ -1,5 +1,5 @@
 -- The pairs of the windows of a stage, put together by the slot of their node.
-use Rattle.std.specs.Prelude.{◌≡◌, ℕ, ℤ, ◌*◌, ◌^◌, ◌<◌, ◌≤◌, List, length, All}
+use Rattle.std.specs.Prelude.{◌≡◌, ℕ, ℤ, ◌*◌, ◌^◌, ◌<◌, ◌≤◌, ◌⊎◌, List, length, All}
 use Rattle.landing_rules.specs.Problem.{Problem}
 use Rattle.cps_theory.specs.Labels.{InPairs, NoWorse, Pair}
 use Rattle.cps_theory.specs.Patterns.{PatternNode}
@@ -10,6 +10,17 @@ use Rattle.cert_writer.specs.Slots.{HasSlot}
 -- a pair's second is one of the two days, and its cost a number of a certificate
 abbrev pub IsInRange : Pair → Type 0
 IsInRange q = (q.0 ≤ 172799) × (q.1 ≤ 4294967295)
+
+-- a list has such pairs alone; and of each such pair one that is no later and no dearer
+abbrev pub HasOnly : List Pair → (Pair → Type 0) → Type 0
+HasOnly list P = (q : Pair) → InPairs q list → P q
+
+abbrev pub HasBetter : List Pair → (Pair → Type 0) → Type 0
+HasBetter list P = (q : Pair) → P q → (o : Pair) × InPairs o list × NoWorse o q
+
+-- a pair of either list
+abbrev pub IsOfEither : List Pair → List Pair → Pair → Type 0
+IsOfEither left right q = InPairs q left ⊎ InPairs q right
 
 -- one of the first windows of the stage belongs to this node, and its list has this pair
 abbrev pub IsEntryBefore : Problem → ℕ × List (List ℤ) → List (List Pair) → ℕ → PatternNode → Pair → Type 0

@@ -2,9 +2,7 @@
 
 ghost use Rattle.std.specs.Prelude.{◌≡◌, ◌≤◌, ◌*◌, ◌^◌, [], IfOk, Some, length, replicate};
 ghost use Rattle.replan.specs.Kept.{held_of, problem_held};
-ghost use Rattle.replan.specs.Readers.{stage_in, lists_in};
-ghost use Rattle.cert_writer.specs.Gathered.{AreGathered};
-ghost use Rattle.cert_writer.specs.Written.{StageLaws};
+ghost use Rattle.cert_writer.specs.Written.{IsGathered, StageLaws};
 
 use crate::laws::most_shift;
 use crate::pairs::NodePairs;
@@ -36,7 +34,7 @@ pub(crate) fn gather(
     requires held { problem_held kept.now ≡ Some problem.now }
     requires laws { StageLaws problem.now }
     requires stage { (1 ≤ stage) × (stage ≤ length problem.now.flights) }
-    ensures { IfOk result (λ slots. AreGathered problem.now (stage_in (held_of kept.now) stage) (lists_in (held_of kept.now) stage) (length (stage_in (held_of kept.now) stage).1) slots.items) }
+    ensures { IfOk result (λ slots. IsGathered problem.now (held_of kept.now) stage slots.items) }
 {
     let k = most_shift(problem);
     let _held = kept.stages();

@@ -1,14 +1,13 @@
 //! The pairs of a node.
 
-ghost use Rattle.std.specs.Prelude.{◌≡◌, ◌≤◌, ◌<◌, ◌⊎◌, [], All, IfOk, OnOk, length, true};
-ghost use Rattle.cps_theory.specs.Labels.{InPairs, NoWorse, Pair};
+ghost use Rattle.std.specs.Prelude.{◌≡◌, ◌≤◌, ◌⊎◌, [], All, IfOk, OnOk, true};
+ghost use Rattle.cps_theory.specs.Labels.{InPairs};
 ghost use Rattle.cps_theory.specs.UndominatedPairs.{sweep};
-ghost use Rattle.cps_network.specs.Pairs.{list_at};
 ghost use Rattle.replan.specs.Kept.{held_of};
-ghost use Rattle.replan.specs.Readers.{stages_in, stage_in, lists_in};
+ghost use Rattle.replan.specs.Readers.{pairs_in, IsReadable, HasPlace};
 ghost use Rattle.std.specs.List.{list_all};
 ghost use Rattle.certificate.specs.States.{is_pair, rises};
-ghost use Rattle.cert_writer.specs.Gathered.{IsInRange};
+ghost use Rattle.cert_writer.specs.Gathered.{HasBetter, HasOnly, IsInRange, IsOfEither};
 
 use replan::AnyKept;
 use std::alloc::{AllocError, Global};
@@ -42,8 +41,8 @@ impl NodePairs {
     // makespan, which cost nothing, take the room of one.
     fn keep(&mut self, pair: (u32, u32)) -> Result<(), AllocError>
         requires { pair.0 ≤ 172799 }
-        ensures found { OnOk result ((q : Pair) → InPairs q self.new → InPairs q self.old ⊎ (q ≡ pair)) }
-        ensures covers { OnOk result ((q : Pair) → InPairs q self.old ⊎ (q ≡ pair) → (o : Pair) × InPairs o self.new × NoWorse o q) }
+        ensures found { OnOk result (HasOnly self.new (λ q. InPairs q self.old ⊎ (q ≡ pair))) }
+        ensures covers { OnOk result (HasBetter self.new (λ q. InPairs q self.old ⊎ (q ≡ pair))) }
         ensures in_range { OnOk result (All IsInRange self.old → All IsInRange self.new) }
     {
         let len = self.pairs.len();
@@ -63,10 +62,10 @@ impl NodePairs {
 
     // The pairs of the window at place i of a stage more.
     pub(crate) fn join(&mut self, kept: &AnyKept, stage: u8, i: usize) -> Result<(), AllocError>
-        requires stage { (1 ≤ stage) × (stage ≤ stages_in (held_of kept.now)) }
-        requires place { i < length (stage_in (held_of kept.now) stage).1 }
-        ensures found { OnOk result ((q : Pair) → InPairs q self.new → InPairs q self.old ⊎ InPairs q (list_at (lists_in (held_of kept.now) stage) i)) }
-        ensures covers { OnOk result ((q : Pair) → InPairs q self.old ⊎ InPairs q (list_at (lists_in (held_of kept.now) stage) i) → (o : Pair) × InPairs o self.new × NoWorse o q) }
+        requires stage { IsReadable (held_of kept.now) stage }
+        requires place { HasPlace (held_of kept.now) stage i }
+        ensures found { OnOk result (HasOnly self.new (IsOfEither self.old (pairs_in (held_of kept.now) stage i))) }
+        ensures covers { OnOk result (HasBetter self.new (IsOfEither self.old (pairs_in (held_of kept.now) stage i))) }
         ensures in_range { OnOk result (All IsInRange self.old → All IsInRange self.new) }
     {
         for j in 0..kept.label_count(stage, i) {
@@ -78,8 +77,8 @@ impl NodePairs {
     // Those that no other is better than, ascending in second and falling in cost.
     pub(crate) fn best(&self, alloc: Global) -> Result<Vec<(u32, u32)>, AllocError>
         requires { All IsInRange self.now }
-        ensures found { IfOk result (λ best. (q : Pair) → InPairs q best.items → InPairs q self.now) }
-        ensures covers { IfOk result (λ best. (q : Pair) → InPairs q self.now → (o : Pair) × InPairs o best.items × NoWorse o q) }
+        ensures found { IfOk result (λ best. HasOnly best.items (λ q. InPairs q self.now)) }
+        ensures covers { IfOk result (λ best. HasBetter best.items (λ q. InPairs q self.now)) }
         ensures rising { IfOk result (λ best. rises best.items ≡ true) }
         ensures in_range { IfOk result (λ best. list_all is_pair best.items ≡ true) }
     {

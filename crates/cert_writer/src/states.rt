@@ -1,14 +1,9 @@
 //! The states of all stages.
 
 ghost use Rattle.std.specs.Prelude.{◌≡◌, ◌+◌, ◌*◌, ◌^◌, ◌≤◌, ◌<◌, IfOk, OnOk, Some, All, length, true};
-ghost use Rattle.std.specs.List.{list_all};
-ghost use Rattle.certificate.specs.States.{is_pair};
 ghost use Rattle.cert_check.specs.Whole.{AreWholeStates};
-ghost use Rattle.whole_states.specs.StageEntries.{IsEntryOf};
 ghost use Rattle.replan.specs.Kept.{held_of, problem_held};
-ghost use Rattle.replan.specs.Readers.{stage_in, lists_in};
-ghost use Rattle.cert_writer.specs.Gathered.{AreGathered};
-ghost use Rattle.cert_writer.specs.Written.{AreWrittenBelow, StageLaws};
+ghost use Rattle.cert_writer.specs.Written.{HavePairsInRange, IsGathered, IsWritten, StageLaws};
 
 use crate::gather::gather;
 use crate::laws::{most_shift, stage_laws};
@@ -33,9 +28,9 @@ fn add_state(
     requires laws { StageLaws problem.now }
     requires stage { (1 ≤ stage) × (stage ≤ length problem.now.flights) }
     requires number { number < 8 * 2 ^ (2 * problem.now.k) }
-    requires gathered { AreGathered problem.now (stage_in (held_of kept.now) stage) (lists_in (held_of kept.now) stage) (length (stage_in (held_of kept.now) stage).1) slots.now.items }
-    requires written { AreWrittenBelow problem.now.k (IsEntryOf problem.now (stage_in (held_of kept.now)) (lists_in (held_of kept.now))) stage number states.old.items }
-    ensures { OnOk result (AreWrittenBelow problem.now.k (IsEntryOf problem.now (stage_in (held_of kept.now)) (lists_in (held_of kept.now))) stage (number + 1) states.new.items) }
+    requires gathered { IsGathered problem.now (held_of kept.now) stage slots.now.items }
+    requires written { IsWritten problem.now (held_of kept.now) stage number states.old.items }
+    ensures { OnOk result (IsWritten problem.now (held_of kept.now) stage (number + 1) states.new.items) }
 {
     let k = most_shift(problem);
     let _held = kept.stages();
@@ -61,8 +56,8 @@ fn add_states(
     requires held { problem_held kept.now ≡ Some problem.now }
     requires laws { StageLaws problem.now }
     requires stage { (1 ≤ stage) × (stage ≤ length problem.now.flights) }
-    requires written { AreWrittenBelow problem.now.k (IsEntryOf problem.now (stage_in (held_of kept.now)) (lists_in (held_of kept.now))) stage 0 states.old.items }
-    ensures { OnOk result (AreWrittenBelow problem.now.k (IsEntryOf problem.now (stage_in (held_of kept.now)) (lists_in (held_of kept.now))) (stage + 1) 0 states.new.items) }
+    requires written { IsWritten problem.now (held_of kept.now) stage 0 states.old.items }
+    ensures { OnOk result (IsWritten problem.now (held_of kept.now) (stage + 1) 0 states.new.items) }
 {
     let k = most_shift(problem);
     let _held = kept.stages();
@@ -81,7 +76,7 @@ pub(crate) fn states_of(
 ) -> Result<Vec<CertState>, AllocError>
     requires { problem_held kept.now ≡ Some problem.now }
     ensures whole { IfOk result (λ states. AreWholeStates problem.now states.items) }
-    ensures in_range { IfOk result (λ states. All (λ s. list_all is_pair s.pairs ≡ true) states.items) }
+    ensures in_range { IfOk result (λ states. HavePairsInRange states.items) }
 {
     let _near = most_shift(problem);
     stage_laws(problem);

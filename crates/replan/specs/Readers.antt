@@ -1,8 +1,9 @@
 -- What is read of the stages that are held.
-use Rattle.std.specs.Prelude.{◌≡◌, ℕ, ℤ, ◌-◌, ◌≤◌, List, [], length, Option, Some, None}
+use Rattle.std.specs.Prelude.{◌≡◌, ℕ, ℤ, ◌-◌, ◌<◌, ◌≤◌, List, [], length, Option, Some, None}
 use Rattle.cps_theory.specs.Labels.{Pair}
 use Rattle.landing_rules.specs.Problem.{Problem}
-use Rattle.cps_network.specs.Pairs.{HoldsCosts}
+use Rattle.cps_network.specs.Lists.{node_at}
+use Rattle.cps_network.specs.Pairs.{HoldsCosts, list_at}
 use Rattle.replan.specs.Held.{HeldProblem}
 use Rattle.replan.specs.Stages.{stage_at, lists_at}
 
@@ -19,6 +20,20 @@ stage_in (Some h) i = stage_at h.stages i
 abbrev pub lists_in : Option HeldProblem → ℕ → List (List Pair)
 lists_in None i = []
 lists_in (Some h) i = lists_at h.labels i
+
+-- the window at a place of a stage, and its pairs
+abbrev pub window_in : Option HeldProblem → ℕ → ℕ → List ℤ
+window_in held stage i = node_at (stage_in held stage).1 i
+
+abbrev pub pairs_in : Option HeldProblem → ℕ → ℕ → List Pair
+pairs_in held stage i = list_at (lists_in held stage) i
+
+-- a stage that may be read, and a place of it
+abbrev pub IsReadable : Option HeldProblem → ℕ → Type 0
+IsReadable held stage = (1 ≤ stage) × (stage ≤ stages_in held)
+
+abbrev pub HasPlace : Option HeldProblem → ℕ → ℕ → Type 0
+HasPlace held stage i = i < length (stage_in held stage).1
 
 -- the stages of a problem are held, each under its number: the landable windows, with exactly the undominated pairs of each
 pub record AreStagesOf (p : Problem) (held : Option HeldProblem) : Type 0 where

@@ -3,13 +3,12 @@
 ghost use Rattle.std.specs.Prelude.{◌≡◌, ◌<◌, ◌≤◌, length, MatchOption, Some, ⊤};
 ghost use Rattle.landing_rules.specs.Problem.{Problem};
 ghost use Rattle.landing_rules.specs.Rules.{last_second};
-ghost use Rattle.cps_network.specs.Lists.{node_at};
 ghost use Rattle.cps_network.specs.Nodes.{latest};
-ghost use Rattle.cps_network.specs.Pairs.{list_at, pair_at};
+ghost use Rattle.cps_network.specs.Pairs.{pair_at};
 ghost use Rattle.cps_network.specs.WindowRanks.{TellsPlaced};
 ghost use Rattle.replan.specs.Held.{IsHeld};
 ghost use Rattle.replan.specs.Kept.{k_of, held_of, problem_held};
-ghost use Rattle.replan.specs.Readers.{stages_in, stage_in, lists_in, AreStagesOf};
+ghost use Rattle.replan.specs.Readers.{stages_in, stage_in, window_in, pairs_in, IsReadable, HasPlace, AreStagesOf};
 
 use crate::{AnyKept, Kept};
 use cps_network::{Node, placed_node};
@@ -29,7 +28,7 @@ impl<const W: usize> Kept<W> {
 
     // How many windows a stage has.
     fn windows(&self, stage: u8) -> usize
-        requires { (1 ≤ stage) × (stage ≤ stages_in self.now) }
+        requires { IsReadable self.now stage }
         ensures { result ≡ length (stage_in self.now stage).1 }
     {
         match &self.held {
@@ -40,10 +39,10 @@ impl<const W: usize> Kept<W> {
 
     // The ranks that the window at place i of a stage places, and the last of them.
     fn placed(&self, stage: u8, i: usize) -> Node
-        requires stage { (1 ≤ stage) × (stage ≤ stages_in self.now) }
-        requires place { i < length (stage_in self.now stage).1 }
-        ensures placed { TellsPlaced (node_at (stage_in self.now stage).1 i) stage result.placed }
-        ensures last { result.last ≡ latest (stage, node_at (stage_in self.now stage).1 i) }
+        requires stage { IsReadable self.now stage }
+        requires place { HasPlace self.now stage i }
+        ensures placed { TellsPlaced (window_in self.now stage i) stage result.placed }
+        ensures last { result.last ≡ latest (stage, window_in self.now stage i) }
     {
         match &self.held {
             None => Node { placed: 0, last: 0 },
@@ -57,9 +56,9 @@ impl<const W: usize> Kept<W> {
 
     // How many pairs the window at place i of a stage has.
     fn pair_count(&self, stage: u8, i: usize) -> usize
-        requires stage { (1 ≤ stage) × (stage ≤ stages_in self.now) }
-        requires place { i < length (stage_in self.now stage).1 }
-        ensures { result ≡ length (list_at (lists_in self.now stage) i) }
+        requires stage { IsReadable self.now stage }
+        requires place { HasPlace self.now stage i }
+        ensures { result ≡ length (pairs_in self.now stage i) }
     {
         match &self.held {
             None => 0,
@@ -69,10 +68,10 @@ impl<const W: usize> Kept<W> {
 
     // The pair at index j of the window at place i of a stage.
     fn pair(&self, stage: u8, i: usize, j: usize) -> (u32, u32)
-        requires stage { (1 ≤ stage) × (stage ≤ stages_in self.now) }
-        requires place { i < length (stage_in self.now stage).1 }
-        requires index { j < length (list_at (lists_in self.now stage) i) }
-        ensures value { result ≡ pair_at (list_at (lists_in self.now stage) i) j }
+        requires stage { IsReadable self.now stage }
+        requires place { HasPlace self.now stage i }
+        requires index { j < length (pairs_in self.now stage i) }
+        ensures value { result ≡ pair_at (pairs_in self.now stage i) j }
         ensures in_days { result.0 ≤ last_second }
     {
         match &self.held {
@@ -103,7 +102,7 @@ impl AnyKept {
 
     /// How many landable windows a stage has.
     pub fn size(&self, stage: u8) -> usize
-        requires { (1 ≤ stage) × (stage ≤ stages_in (held_of self.now)) }
+        requires { IsReadable (held_of self.now) stage }
         ensures { result ≡ length (stage_in (held_of self.now) stage).1 }
     {
         match self {
@@ -116,10 +115,10 @@ impl AnyKept {
 
     /// The ranks that the window at place i of a stage, counted from 0, places, and the last of them.
     pub fn node(&self, stage: u8, i: usize) -> Node
-        requires stage { (1 ≤ stage) × (stage ≤ stages_in (held_of self.now)) }
-        requires place { i < length (stage_in (held_of self.now) stage).1 }
-        ensures placed { TellsPlaced (node_at (stage_in (held_of self.now) stage).1 i) stage result.placed }
-        ensures last { result.last ≡ latest (stage, node_at (stage_in (held_of self.now) stage).1 i) }
+        requires stage { IsReadable (held_of self.now) stage }
+        requires place { HasPlace (held_of self.now) stage i }
+        ensures placed { TellsPlaced (window_in (held_of self.now) stage i) stage result.placed }
+        ensures last { result.last ≡ latest (stage, window_in (held_of self.now) stage i) }
     {
         match self {
             AnyKept::One(kept) => kept.placed(stage, i),
@@ -131,9 +130,9 @@ impl AnyKept {
 
     /// How many pairs of a second and a cost the window at place i of a stage has: one or more, and for the makespan one.
     pub fn label_count(&self, stage: u8, i: usize) -> usize
-        requires stage { (1 ≤ stage) × (stage ≤ stages_in (held_of self.now)) }
-        requires place { i < length (stage_in (held_of self.now) stage).1 }
-        ensures { result ≡ length (list_at (lists_in (held_of self.now) stage) i) }
+        requires stage { IsReadable (held_of self.now) stage }
+        requires place { HasPlace (held_of self.now) stage i }
+        ensures { result ≡ length (pairs_in (held_of self.now) stage i) }
     {
         match self {
             AnyKept::One(kept) => kept.pair_count(stage, i),
@@ -146,10 +145,10 @@ impl AnyKept {
     /// The pair at index j of the window at place i of a stage: a second, at most 172,799, and a cost, which for the makespan
     /// is 0.
     pub fn label(&self, stage: u8, i: usize, j: usize) -> (u32, u32)
-        requires stage { (1 ≤ stage) × (stage ≤ stages_in (held_of self.now)) }
-        requires place { i < length (stage_in (held_of self.now) stage).1 }
-        requires index { j < length (list_at (lists_in (held_of self.now) stage) i) }
-        ensures value { result ≡ pair_at (list_at (lists_in (held_of self.now) stage) i) j }
+        requires stage { IsReadable (held_of self.now) stage }
+        requires place { HasPlace (held_of self.now) stage i }
+        requires index { j < length (pairs_in (held_of self.now) stage i) }
+        ensures value { result ≡ pair_at (pairs_in (held_of self.now) stage i) j }
         ensures in_days { result.0 ≤ last_second }
     {
         match self {
