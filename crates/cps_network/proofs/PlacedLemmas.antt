@@ -1,12 +1,12 @@
 -- Sets of placed ranks, as bits.
-use Rattle.std.proofs.Common.{◌≡◌, ℕ, ◌+◌, ◌-◌, ◌*◌, ◌/◌, ◌%◌, ◌^◌, ◌<◌, ◌≤◌, List, arith, ◌∙◌, sym, ap, inl, inr, subst}
+use Rattle.std.proofs.Common.{◌≡◌, ℕ, zero, suc, ◌+◌, ◌-◌, ◌*◌, ◌/◌, ◌%◌, ◌^◌, ◌<◌, ◌≤◌, List, arith, ◌∙◌, sym, ap, inl, inr, subst}
 use Rattle.std.specs.Prelude.{ℤ, pos, ◌+ℤ◌, ◌-ℤ◌, ◌↔◌, ◌⊎◌, bit_or}
 use Rattle.std.specs.Int.{bit_at, w64}
 use Rattle.std.proofs.lemmas.Bool.{cases_eq}
 use Rattle.std.proofs.lemmas.Bool.Decides.{nat_tests}
 use Rattle.std.proofs.lemmas.Int.{ints}
 use Rattle.std.proofs.lemmas.Nat.{one_shl}
-use Rattle.std.proofs.lemmas.Nat.Bits.{bit_at_set_same, bit_at_set_other, bit_at_ones, bit_at_ones_above, bit_at-zero}
+use Rattle.std.proofs.lemmas.Nat.Bits.{bit_at_set_same, bit_at_set_other, bit_at_ones, bit_at_ones_above, bit_at-zero, bit_at_lowest, bit_at-suc}
 use Rattle.precedence.specs.Pairs.{HasBit}
 use Rattle.cps_nodes.specs.Windows.{IsWindow, IsPlaced, offset_at}
 
@@ -73,3 +73,14 @@ placed_all w xs stage rank is = (
 
 pub both_ways : {P Q R : Type 0} → P ↔ Q → Q ↔ R → P ↔ R
 both_ways f g = (λ p. g.0 (f.0 p), λ r. f.1 (g.1 r))
+
+-- the same bits without bit 0
+pub halved_twice : (n rank : ℕ) → HasBit (n / 2 * 2) rank ↔ ((1 ≤ rank) × HasBit n rank)
+halved_twice n zero = (
+  λ has. absurd (let e : bit_at (n / 2 * 2) 0 ≡ n / 2 * 2 % 2 = bit_at_lowest (n / 2 * 2) in omega (arith, has, e)),
+  λ h. absurd (let one = h.0 in omega arith),
+)
+halved_twice n (suc i) =
+    let half : n / 2 * 2 / 2 ≡ n / 2 = omega arith in
+    let same : bit_at (n / 2 * 2) (suc i) ≡ bit_at n (suc i) = bit_at-suc (n / 2 * 2) i ∙ ap (λ (m : ℕ). bit_at m i) half ∙ sym (bit_at-suc n i) in
+    (λ has. (omega arith, sym same ∙ has), λ h. same ∙ h.1)

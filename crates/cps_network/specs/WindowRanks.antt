@@ -1,5 +1,6 @@
 -- The ranks that the window of a prefix tells.
-use Rattle.std.specs.Prelude.{ℕ, pos, ◌≤◌, ◌↔◌, List, length}
+use Rattle.std.specs.Prelude.{ℕ, ℤ, pos, ◌≤◌, ◌↔◌, List, length}
+use Rattle.precedence.specs.Pairs.{HasBit}
 use Rattle.cps_nodes.specs.Windows.{IsPlaced}
 use Rattle.cps_theory.specs.RankLists.{In}
 use Rattle.cps_theory.specs.LegalPrefix.{Legal}
@@ -11,3 +12,7 @@ use Rattle.cps_network.specs.Nodes.{node_of}
 abbrev pub TellTheirRanks : Problem → Type 0
 TellTheirRanks p = (ranks : List ℕ) (rank : ℕ) → Legal (ranked p).rules ranks → 1 ≤ rank
     → IsPlaced (node_of p.k ranks).1 (pos (length ranks)) (pos rank) ↔ In rank ranks
+
+-- the bits of a set are the ranks, from 1 on, that a window of a stage places
+abbrev pub TellsPlaced : List ℤ → ℕ → ℕ → Type 0
+TellsPlaced xs stage placed = (rank : ℕ) → HasBit placed rank ↔ ((1 ≤ rank) × IsPlaced xs (pos stage) (pos rank))

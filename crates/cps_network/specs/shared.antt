@@ -1,5 +1,5 @@
 -- Lemmas that crates above cite too: places that are kept, windows of legal prefixes, those that lead to a window, how few a
--- stage has, stages that two problems have in common, and what is due.
+-- stage has, stages that two problems have in common, what is due, and lists of pairs.
 pub mod KeptPlaces
 pub mod LegalWindows
 pub mod LeadingWindows
@@ -11,3 +11,4 @@ pub mod DueSteps
 pub mod KeptCandidates
 pub mod KeptCosts
 pub mod PairSteps
+pub mod PairLists

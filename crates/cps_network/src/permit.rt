@@ -58,7 +58,7 @@ fn rank_from(place: i32, offset: i8) -> u8
 }
 
 // The ranks that a window of a stage places, as bits.
-fn placed_set<const W: usize>(window: &Window<W>, stage: u8, due: u64) -> u64
+pub fn placed_set<const W: usize>(window: &Window<W>, stage: u8, due: u64) -> u64
     requires stage { stage ≤ 60 }
     requires valid { IsWindow W window.now }
     requires due { (rank : ℕ) → HasBit due rank ↔ (rank + W / 2 ≤ stage) }

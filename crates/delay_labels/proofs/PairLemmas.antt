@@ -30,7 +30,8 @@ use Rattle.cps_network.specs.Pairs.{ArePairsOf, AreCosts, GivesPair, list_at, pa
 use Rattle.delay_labels.specs.Parts.{IsInDays}
 use Rattle.delay_labels.specs.Lists.{IsGivenIn, successors_in}
 use Rattle.cps_network.specs.shared.PairSteps.{dearer, in_at, at_in, next_attained}
-use Rattle.delay_labels.proofs.ListLemmas.{all_in, given_in_range, range_gives, in_permuted, permuted_in, sorted_in_order}
+use Rattle.cps_network.specs.shared.PairLists.{all_in, in_permuted, permuted_in, sorted_in_order}
+use Rattle.delay_labels.proofs.ListLemmas.{given_in_range, range_gives}
 use Rattle.delay_labels.proofs.CostLemmas.{attained_small}
 
 module _ (p : Problem) (wf : IsWellFormed p) (w stage : ℕ) (before : List (List ℤ)) (v : List ℤ) (from to : ℕ) (range : Sources p w stage before v from to) (lists : List (List Pair)) (are : AreCosts p (stage, before) lists) (days : (i : ℕ) → All IsInDays (list_at lists i)) (l r : ℕ) (leader_is : pos l ≡ pos stage +ℤ offset_at (node_at before from) (w - 1)) (rank_is : pos r ≡ pos (suc stage) +ℤ offset_at v (w - 1)) where

@@ -10,7 +10,7 @@ use Rattle.cps_theory.specs.laws.Staircases.{sweep_subset}
 use Rattle.cps_network.specs.Pairs.{list_at}
 use Rattle.delay_labels.specs.Parts.{IsInDays, IsPart, lists_of}
 use Rattle.delay_labels.specs.Lists.{has_some}
-use Rattle.delay_labels.proofs.ListLemmas.{all_in, in_all}
+use Rattle.cps_network.specs.shared.PairLists.{all_in, in_all}
 
 -- ---- as they are stored
 

@@ -4,3 +4,4 @@ pub mod LabelsOf
 pub mod Stages
 pub mod Held
 pub mod Kept
+pub mod Readers

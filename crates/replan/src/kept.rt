@@ -22,7 +22,7 @@ use std::thread::Threads;
 /// Contracts see the problem, its stages and their pairs.
 #[derive(Drop)]
 pub struct Kept<const W: usize> {
-    held: Option<HeldProblem<W>>,
+    pub(crate) held: Option<HeldProblem<W>>,
 }
 
 impl<const W: usize> Model for Kept<W> {

@@ -1,10 +1,11 @@
 //! The labels of a stage, for either objective.
 
-ghost use Rattle.std.specs.Prelude.{◌≡◌, ℕ, ◌+◌, ◌*◌, ◌<◌, List, [], ◌∷◌, length, IfOk, OnOk};
+ghost use Rattle.std.specs.Prelude.{◌≡◌, ℕ, ◌+◌, ◌*◌, ◌<◌, ◌≤◌, List, [], ◌∷◌, length, IfOk, OnOk};
 ghost use Rattle.cps_base.specs.Tally.{raised_by};
 ghost use Rattle.cps_nodes.specs.Windows.{IsWidth};
 ghost use Rattle.cps_theory.specs.Network.{Undominated};
 ghost use Rattle.landing_rules.specs.Problem.{Problem};
+ghost use Rattle.landing_rules.specs.Rules.{last_second};
 ghost use Rattle.cps_network.specs.Landable.{Attains, HasEachLandable};
 ghost use Rattle.cps_network.specs.Pairs.{GivesPair, list_at, pair_at};
 ghost use Rattle.cps_network.specs.Permits.{IsNextOf};
@@ -95,6 +96,7 @@ impl Labels {
         requires index { j < length (list_at self.now.lists i) }
         ensures value { result ≡ pair_at (list_at self.now.lists i) j }
         ensures known { result.0 < no_label }
+        ensures in_days { result.0 ≤ last_second }
     {
         match &self.kept {
             ByObjective::OfColumn(column) => (column.label(i), 0),

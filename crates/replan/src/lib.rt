@@ -10,6 +10,7 @@ mod held;
 mod kept;
 mod labels;
 mod plan;
+mod readers;
 mod stages;
 mod trace;
 

@@ -6,10 +6,10 @@ use Rattle.landing_rules.specs.Problem.{Problem}
 use Rattle.cps_theory.specs.Labels.{InPairs, NoWorse, Pair}
 use Rattle.cps_theory.specs.Network.{Kept}
 use Rattle.cps_theory.specs.Patterns.{PatternNode}
-use Rattle.cps_theory.specs.UndominatedPairs.{InPairOrder, Staircase, sweep}
+use Rattle.cps_theory.specs.UndominatedPairs.{Staircase}
 use Rattle.cps_theory.specs.laws.LabelDominance.{no_worse_trans}
 use Rattle.cps_theory.specs.laws.NetworkLabels.{kept_undominated, undominated_kept}
-use Rattle.cps_theory.specs.laws.Staircases.{staircase_apart, sweep_covers, sweep_staircase, sweep_subset}
+use Rattle.cps_theory.specs.laws.Staircases.{staircase_apart}
 use Rattle.certificate.specs.States.{State, AreAscending, rises}
 use Rattle.cert_check.specs.States.{node_of}
 use Rattle.cert_check.specs.Whole.{Attains, HasNode, IsWholeState, AreWholeStates}
@@ -32,10 +32,6 @@ staircase_rises (a ∷ []) h = refl
 staircase_rises (a ∷ b ∷ ps) h =
     let m = h.0 b (inl refl) in
     and_from (ltb a.0 b.0 && ltb b.1 a.1) (rises (b ∷ ps)) (and_from (ltb a.0 b.0) (ltb b.1 a.1) (lt-ltb a.0 b.0 m.0) (lt-ltb b.1 a.1 m.1)) (staircase_rises (b ∷ ps) h.1)
-
-some_pair : (q : Pair) (ps : List Pair) → InPairs q ps → 1 ≤ length ps
-some_pair q [] i = absurd i
-some_pair q (x ∷ ps) i = omega arith
 
 first_pair : (ps : List Pair) → 1 ≤ length ps → (q : Pair) × InPairs q ps
 first_pair [] h = absurd (omega arith)
@@ -69,24 +65,6 @@ pub record HoldAllEntries (Entry : PatternNode → Pair → Type 0) (ss : List S
   pub each : All (HoldsEntries Entry) ss
   pub every : (d : PatternNode) (q : Pair) → 1 ≤ d.0 → Entry d q → HasNode ss d
   pub ascending : AreAscending ss
-
--- the entries of a node, in order and without what another is no worse than, make its state
-pub swept_holds : (Entry : PatternNode → Pair → Type 0) (d : PatternNode) (c : ℕ) (ps : List Pair) → 1 ≤ d.0 → 1 ≤ length ps → InPairOrder ps
-    → ((q : Pair) → InPairs q ps → q.1 < c) → ((q : Pair) → InPairs q ps → Entry d q) → ((q : Pair) → Entry d q → InPairs q ps)
-    → HoldsEntries Entry (record { stage = d.0; pattern = d.1; last = d.2; pairs = sweep c ps })
-swept_holds Entry d c ps begun some order low are all =
-    let first = first_pair ps some in
-    let o = found first.0 first.1 in
-    record {
-      begun = begun;
-      some = some_pair o.0 (sweep c ps) o.1;
-      found = λ q i. are q (sweep_subset c ps q i);
-      covers = λ q e. found q (all q e);
-      rising = staircase_rises (sweep c ps) (sweep_staircase c ps order);
-    }
-  where
-    found : (q : Pair) → InPairs q ps → (o : Pair) × InPairs o (sweep c ps) × NoWorse o q
-    found q i = elim (sweep_covers c ps order q i) [ inl h ↦ h | inr le ↦ absurd (let a = low q i in omega arith) ]
 
 module _ (p : Problem) (Entry : PatternNode → Pair → Type 0) (keeps : (d : PatternNode) → 1 ≤ d.0 → Kept (Attains p d) (Entry d)) where
   holds_whole : (s : State) → HoldsEntries Entry s → IsWholeState p s

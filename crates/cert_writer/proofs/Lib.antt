@@ -1,0 +1,7 @@
+-- The lemmas of this crate.
+pub mod SlotLemmas
+pub mod PairLemmas
+pub mod GatherLemmas
+pub mod StateLemmas
+pub mod AnswerLemmas
+pub mod WriteLemmas

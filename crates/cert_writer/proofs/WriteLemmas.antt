@@ -1,0 +1,159 @@
+-- The state of a slot.
+use Rattle.std.proofs.Common.{◌≡◌, ℕ, zero, suc, ◌+◌, ◌-◌, ◌*◌, ◌/◌, ◌%◌, ◌<◌, ◌≤◌, ◌^◌, inl, inr, List, [], ◌∷◌, ◌++◌, length, get_or, Bool, true, refl, sym, ap, ap₂, subst, ◌∙◌, arith}
+use Rattle.std.specs.Prelude.{ℤ, All}
+use Rattle.std.specs.List.{list_all}
+use Rattle.std.proofs.lemmas.List.{get_or_default}
+use Rattle.landing_rules.specs.Problem.{Problem}
+use Rattle.cps_theory.specs.LandingTrail.{ranks}
+use Rattle.cps_theory.specs.Labels.{InPairs, NoWorse, Pair}
+use Rattle.cps_theory.specs.Patterns.{IsShaped, PatternNode}
+use Rattle.cps_theory.specs.laws.LabelDominance.{no_worse_trans}
+use Rattle.cps_problem.specs.WellFormed.{IsWellFormed}
+use Rattle.cps_network.specs.Lists.{node_at}
+use Rattle.cps_network.specs.Pairs.{HoldsCosts, list_at}
+use Rattle.certificate.specs.Patterns.{bits, is_pattern_length}
+use Rattle.certificate.specs.States.{State, IsState, is_pair, rises}
+use Rattle.cert_check.specs.States.{node_of}
+use Rattle.cert_check.specs.shared.KeptPairs.{HoldsEntries}
+use Rattle.whole_states.specs.StageEntries.{IsEntry, IsEntryOf}
+use Rattle.cert_writer.specs.Gathered.{AreGathered}
+use Rattle.cert_writer.specs.Slots.{number_of, HasNumber, HasSlot}
+use Rattle.cert_writer.specs.Written.{AreWrittenBelow}
+use Rattle.cert_writer.proofs.SlotLemmas.{number_near, number_slot, slot_node, length_bits}
+use Rattle.cert_writer.proofs.GatherLemmas.{window_shape, place_landable}
+use Rattle.cert_writer.proofs.StateLemmas.{no_state, one_state, whole_stage}
+
+even_length : (k : ℕ) → k ≤ 3 → is_pattern_length (2 * k) ≡ true
+even_length zero h = refl
+even_length (suc zero) h = refl
+even_length (suc (suc zero)) h = refl
+even_length (suc (suc (suc zero))) h = refl
+even_length (suc (suc (suc (suc k)))) h = absurd (omega (arith, h))
+
+no_pair : (xs : List Pair) (q : Pair) → length xs ≡ 0 → InPairs q xs → ⊥
+no_pair [] q none i = i
+no_pair (x ∷ xs) q none i = omega (arith, none)
+
+-- ---- the list that is read at a slot
+
+pub slot_within : (k number ones room : ℕ) → ones < 2 ^ (2 * k) → room ≡ 8 * 2 ^ (2 * k) → ones * 8 + number % 8 < room
+slot_within k number ones room low all = let few : number % 8 < 8 = omega arith in omega (arith, low, all, few)
+
+module _ (slots : List (List Pair)) (slot : ℕ) (within : slot < length slots) (now : List Pair) (is : now ≡ get_or slots slot now) where
+  pub slot_is : now ≡ list_at slots slot
+  slot_is = is ∙ get_or_default slots slot now [] within
+
+  pub found_in : (best : List Pair) → ((q : Pair) → InPairs q best → InPairs q now) → (q : Pair) → InPairs q best → InPairs q (list_at slots slot)
+  found_in best h q i = subst (InPairs q) slot_is (h q i)
+
+  pub covers_in : (best : List Pair) → ((q : Pair) → InPairs q now → (o : Pair) × InPairs o best × NoWorse o q) → (q : Pair) → InPairs q (list_at slots slot) → (o : Pair) × InPairs o best × NoWorse o q
+  covers_in best h q i = h q (subst (InPairs q) (sym slot_is) i)
+
+-- ---- the stage
+
+module _ (p : Problem) (wf : IsWellFormed p) (stages : ℕ → ℕ × List (List ℤ)) (lists : ℕ → List (List Pair)) (stage : ℕ) (one : 1 ≤ stage) (most : stage ≤ length p.flights) (number_is : (stages stage).0 ≡ stage) (h : HoldsCosts p (stages stage) (lists stage)) where
+  abbrev pub Entry : PatternNode → Pair → Type 0
+  Entry = IsEntryOf p stages lists
+
+  entry_here : (d : PatternNode) (q : Pair) → d.0 ≡ stage → Entry d q → IsEntry p (stages stage) (lists stage) d q
+  entry_here d q at e = subst (λ i. IsEntry p (stages i) (lists i) d q) at e.1
+
+  here_entry : (d : PatternNode) (q : Pair) → d.0 ≡ stage → IsEntry p (stages stage) (lists stage) d q → Entry d q
+  here_entry d q at e = (omega (arith, at, most), subst (λ i. IsEntry p (stages i) (lists i) d q) (sym at) e)
+
+  shape_here : (d : PatternNode) (q : Pair) → IsEntry p (stages stage) (lists stage) d q → IsShaped p.k (length p.flights) d × (1 ≤ d.2)
+  shape_here d q e = window_shape p (stages stage).0 (node_at (stages stage).1 e.place) d (omega (arith, number_is, one)) (place_landable p (stages stage) (lists stage) h e.place e.within) e.node
+
+  -- all nodes of the stage with entries have a number
+  pub entry_number : (d : PatternNode) (q : Pair) → d.0 ≡ stage → Entry d q → (n : ℕ) × (n < 8 * 2 ^ (2 * p.k)) × HasNumber p.k d n
+  entry_number d q at e = let s = (shape_here d q (entry_here d q at e)).0 in number_near p.k d wf.few_places s.digits s.near.0 s.near.1
+
+  module _ (number ones : ℕ) (turned : number_of (bits (2 * p.k) ones) ≡ number / 8) (low : ones < 2 ^ (2 * p.k)) (slots : List (List Pair)) (g : AreGathered p (stages stage) (lists stage) (length (stages stage).1) slots) (best : List Pair) (found : (q : Pair) → InPairs q best → InPairs q (list_at slots (ones * 8 + number % 8))) (covers : (q : Pair) → InPairs q (list_at slots (ones * 8 + number % 8)) → (o : Pair) × InPairs o best × NoWorse o q) where
+    abbrev slot : ℕ
+    slot = ones * 8 + number % 8
+
+    -- each entry of the number's node has one of these that is no worse
+    best_covers : (d : PatternNode) (q : Pair) → d.0 ≡ stage → HasNumber p.k d number → Entry d q → (o : Pair) × InPairs o best × NoWorse o q
+    best_covers d q at has e =
+        let here = entry_here d q at e in
+        let c = g.covers slot d q (at ∙ sym number_is) (number_slot p.k d number ones has turned low) (here, here.within) in
+        let o = covers c.0 c.1 in
+        (o.0, o.1, no_worse_trans o.0 c.0 q o.2 c.2)
+
+    pub none_best : (ss : List State) → AreWrittenBelow p.k Entry stage number ss → length best ≡ 0 → AreWrittenBelow p.k Entry stage (number + 1) ss
+    none_best ss w none = no_state p.k Entry stage number ss w (λ d q at has e. let c = best_covers d q at has e in no_pair best c.0 none c.1)
+
+    -- each of them is an entry of one node of the slot
+    node_of_best : (q : Pair) → InPairs q best → (d : PatternNode) × (d.0 ≡ stage) × HasSlot p.k d slot × Entry d q
+    node_of_best q i =
+        let f = g.found slot q (found q i) in
+        (f.0, f.1 ∙ number_is, f.2, here_entry f.0 q (f.1 ∙ number_is) f.3.0)
+
+    first : 1 ≤ length best → (q : Pair) × InPairs q best
+    first some = go best some
+      where
+        go : (xs : List Pair) → 1 ≤ length xs → (q : Pair) × InPairs q xs
+        go [] some = absurd (omega (arith, some))
+        go (x ∷ xs) some = (x, inl refl)
+
+    module _ (some : 1 ≤ length best) where
+      abbrev node : PatternNode
+      node = (node_of_best (first some).0 (first some).1).0
+
+      pub last_known : p.k ≤ stage + number % 8
+      last_known =
+          let n = node_of_best (first some).0 (first some).1 in
+          let l = n.2.last in
+          let at = n.1 in
+          let e : (ones * 8 + number % 8) % 8 ≡ number % 8 = omega arith in
+          omega (arith, l, at, e)
+
+      -- the state that is written
+      abbrev pub written : State
+      written = record { stage = stage; pattern = bits (2 * p.k) ones; last = stage + number % 8 - p.k; pairs = best }
+
+      written_slot : HasSlot p.k (node_of written) slot
+      written_slot =
+          let n = node_of_best (first some).0 (first some).1 in
+          let high : (ones * 8 + number % 8) / 8 ≡ ones = omega arith in
+          let rest : (ones * 8 + number % 8) % 8 ≡ number % 8 = omega arith in
+          let known = last_known in
+          record { pattern = ap (bits (2 * p.k)) (sym high); last = omega (arith, rest, known); within = n.2.within }
+
+      written_number : HasNumber p.k (node_of written) number
+      written_number = let known = last_known in record { digits = length_bits (2 * p.k) ones; pattern = turned; last = omega (arith, known) }
+
+      best_entry : (q : Pair) → InPairs q best → Entry (node_of written) q
+      best_entry q i =
+          let n = node_of_best q i in
+          subst (λ d. Entry d q) (slot_node p.k n.0 (node_of written) slot n.1 n.2 written_slot) n.3
+
+      pub written_holds : rises best ≡ true → HoldsEntries Entry written
+      written_holds up = record {
+        begun = one;
+        some = some;
+        found = best_entry;
+        covers = λ q e. best_covers (node_of written) q refl written_number e;
+        rising = up;
+      }
+
+      pub written_more : (ss : List State) → AreWrittenBelow p.k Entry stage number ss → rises best ≡ true → list_all is_pair best ≡ true → AreWrittenBelow p.k Entry stage (number + 1) (ss ++ written ∷ [])
+      written_more ss w up ranged = one_state p.k Entry stage number ss w written refl written_number (written_holds up) ranged
+
+      pub written_in_form : rises best ≡ true → list_all is_pair best ≡ true → IsState written
+      written_in_form up ranged =
+          let s = shape_here (node_of written) (first some).0 (entry_here (node_of written) (first some).0 refl (best_entry (first some).0 (first some).1)) in
+          let few = wf.few_flights in
+          let latest = s.0.latest in
+          record {
+            stage = (one, omega (arith, few, most));
+            pattern = ap is_pattern_length (length_bits (2 * p.k) ones) ∙ even_length p.k wf.few_places;
+            last = (s.1, omega (arith, few, latest));
+            some_pairs = some;
+            pairs = ranged;
+            rising = up;
+          }
+
+  -- the stage with all numbers
+  pub stage_written : (ss : List State) → AreWrittenBelow p.k Entry stage (8 * 2 ^ (2 * p.k)) ss → AreWrittenBelow p.k Entry (stage + 1) 0 ss
+  stage_written ss w = whole_stage p.k Entry stage (8 * 2 ^ (2 * p.k)) ss w entry_number

@@ -1,0 +1,26 @@
+-- The pairs of the windows of a stage, put together by the slot of their node.
+use Rattle.std.specs.Prelude.{◌≡◌, ℕ, ℤ, ◌*◌, ◌^◌, ◌<◌, ◌≤◌, List, length, All}
+use Rattle.landing_rules.specs.Problem.{Problem}
+use Rattle.cps_theory.specs.Labels.{InPairs, NoWorse, Pair}
+use Rattle.cps_theory.specs.Patterns.{PatternNode}
+use Rattle.cps_network.specs.Pairs.{list_at}
+use Rattle.whole_states.specs.StageEntries.{IsEntry}
+use Rattle.cert_writer.specs.Slots.{HasSlot}
+
+-- a pair's second is one of the two days, and its cost a number of a certificate
+abbrev pub IsInRange : Pair → Type 0
+IsInRange q = (q.0 ≤ 172799) × (q.1 ≤ 4294967295)
+
+-- one of the first windows of the stage belongs to this node, and its list has this pair
+abbrev pub IsEntryBefore : Problem → ℕ × List (List ℤ) → List (List Pair) → ℕ → PatternNode → Pair → Type 0
+IsEntryBefore p stage lists count d q = (e : IsEntry p stage lists d q) × (e.place < count)
+
+-- the slots have pairs of the first windows alone, each those of its node; and of each such pair one that is no later and no
+-- dearer
+pub record AreGathered (p : Problem) (stage : ℕ × List (List ℤ)) (lists : List (List Pair)) (count : ℕ) (slots : List (List Pair)) : Type 0 where
+  pub room : length slots ≡ 8 * 2 ^ (2 * p.k)
+  pub found : (slot : ℕ) (q : Pair) → InPairs q (list_at slots slot)
+      → (d : PatternNode) × (d.0 ≡ stage.0) × HasSlot p.k d slot × IsEntryBefore p stage lists count d q
+  pub covers : (slot : ℕ) (d : PatternNode) (q : Pair) → d.0 ≡ stage.0 → HasSlot p.k d slot → IsEntryBefore p stage lists count d q
+      → (o : Pair) × InPairs o (list_at slots slot) × NoWorse o q
+  pub in_range : (slot : ℕ) → All IsInRange (list_at slots slot)

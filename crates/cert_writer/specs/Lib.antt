@@ -1,0 +1,5 @@
+-- The definitions of this crate.
+pub mod Answer
+pub mod Slots
+pub mod Gathered
+pub mod Written

@@ -1,0 +1,46 @@
+//! Slots: where the pairs of a node of a stage are put together, and in which order the nodes of a stage stand.
+
+ghost use Rattle.std.specs.Prelude.{◌≡◌, ℕ, ◌+◌, ◌-◌, ◌*◌, ◌/◌, ◌^◌, ◌<◌, ◌≤◌, ◌⊎◌, ◌↔◌};
+ghost use Rattle.precedence.specs.Pairs.{HasBit};
+ghost use Rattle.cert_check.specs.PlacedBits.{digits_of};
+ghost use Rattle.certificate.specs.Patterns.{bits};
+ghost use Rattle.cert_writer.specs.Slots.{number_of, HasSlot};
+
+use cert_check::patterns_are_bits;
+use cps_network::Node;
+
+// The ranks that are placed, those below 1 among them, as bits: bit y is that of rank y - k.
+fn marks_of(k: u8, placed: u64) -> u128
+    requires { k ≤ 3 }
+    ensures { (y : ℕ) → HasBit result y ↔ ((y ≤ k) ⊎ ((k < y) × HasBit placed (y - k))) }
+{
+    ((placed as u128) << k) | ((1 << (k + 1)) - 1)
+}
+
+// The slot of a node of a stage.
+pub(crate) fn slot_of(k: u8, stage: u8, node: Node) -> usize
+    requires near { k ≤ 3 }
+    requires stage { stage ≤ 60 }
+    requires last { (stage ≤ node.last + k) × (node.last ≤ stage + k) }
+    ensures { HasSlot k (stage, digits_of k stage node.placed, node.last) result }
+{
+    patterns_are_bits();
+    let ones = (marks_of(k, node.placed) >> (stage + 1)) % (1 << (2 * k));
+    ones as usize * 8 + (node.last + k - stage) as usize
+}
+
+// The digits, digit 1 the lowest, that are this number with digit 1 as the highest.
+pub(crate) fn turned(k: u8, number: u8) -> u8
+    requires near { k ≤ 3 }
+    requires below { number < 2 ^ (2 * k) }
+    ensures digits { number_of (bits (2 * k) result) ≡ number }
+    ensures below { result < 2 ^ (2 * k) }
+{
+    let mut rest = number;
+    let mut ones = 0;
+    for _digit in 0..2 * k {
+        ones = ones * 2 + rest % 2;
+        rest /= 2;
+    }
+    ones
+}

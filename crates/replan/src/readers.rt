@@ -1,0 +1,162 @@
+//! What is read of the stages that are held.
+
+ghost use Rattle.std.specs.Prelude.{◌≡◌, ◌<◌, ◌≤◌, length, MatchOption, Some, ⊤};
+ghost use Rattle.landing_rules.specs.Problem.{Problem};
+ghost use Rattle.landing_rules.specs.Rules.{last_second};
+ghost use Rattle.cps_network.specs.Lists.{node_at};
+ghost use Rattle.cps_network.specs.Nodes.{latest};
+ghost use Rattle.cps_network.specs.Pairs.{list_at, pair_at};
+ghost use Rattle.cps_network.specs.WindowRanks.{TellsPlaced};
+ghost use Rattle.replan.specs.Held.{IsHeld};
+ghost use Rattle.replan.specs.Kept.{k_of, held_of, problem_held};
+ghost use Rattle.replan.specs.Readers.{stages_in, stage_in, lists_in, AreStagesOf};
+
+use crate::{AnyKept, Kept};
+use cps_network::{Node, placed_node};
+
+impl<const W: usize> Kept<W> {
+    // The number of the last stage.
+    fn last_stage(&self) -> u8
+        ensures value { result ≡ stages_in self.now }
+        ensures few { result ≤ 60 }
+        ensures held { MatchOption self.now ⊤ (IsHeld W) }
+    {
+        match &self.held {
+            None => 0,
+            Some(held) => held.problem.len(),
+        }
+    }
+
+    // How many windows a stage has.
+    fn windows(&self, stage: u8) -> usize
+        requires { (1 ≤ stage) × (stage ≤ stages_in self.now) }
+        ensures { result ≡ length (stage_in self.now stage).1 }
+    {
+        match &self.held {
+            None => 0,
+            Some(held) => held.stages.stages[stage as usize].len(),
+        }
+    }
+
+    // The ranks that the window at place i of a stage places, and the last of them.
+    fn placed(&self, stage: u8, i: usize) -> Node
+        requires stage { (1 ≤ stage) × (stage ≤ stages_in self.now) }
+        requires place { i < length (stage_in self.now stage).1 }
+        ensures placed { TellsPlaced (node_at (stage_in self.now stage).1 i) stage result.placed }
+        ensures last { result.last ≡ latest (stage, node_at (stage_in self.now stage).1 i) }
+    {
+        match &self.held {
+            None => Node { placed: 0, last: 0 },
+            Some(held) => {
+                let _few = held.problem.len();
+                let window = held.stages.stages[stage as usize].node(i);
+                placed_node(&window, stage)
+            }
+        }
+    }
+
+    // How many pairs the window at place i of a stage has.
+    fn pair_count(&self, stage: u8, i: usize) -> usize
+        requires stage { (1 ≤ stage) × (stage ≤ stages_in self.now) }
+        requires place { i < length (stage_in self.now stage).1 }
+        ensures { result ≡ length (list_at (lists_in self.now stage) i) }
+    {
+        match &self.held {
+            None => 0,
+            Some(held) => held.stages.labels[stage as usize].count(i),
+        }
+    }
+
+    // The pair at index j of the window at place i of a stage.
+    fn pair(&self, stage: u8, i: usize, j: usize) -> (u32, u32)
+        requires stage { (1 ≤ stage) × (stage ≤ stages_in self.now) }
+        requires place { i < length (stage_in self.now stage).1 }
+        requires index { j < length (list_at (lists_in self.now stage) i) }
+        ensures value { result ≡ pair_at (list_at (lists_in self.now stage) i) j }
+        ensures in_days { result.0 ≤ last_second }
+    {
+        match &self.held {
+            None => (0, 0),
+            Some(held) => held.stages.labels[stage as usize].pair(i, j),
+        }
+    }
+}
+
+impl AnyKept {
+    /// How many stages it holds behind stage 0: as many as the problem that it holds has flights, and none with no problem
+    /// held. The stages that may be read are 1 to this number.
+    pub fn stages(&self) -> u8
+        ensures value { result ≡ stages_in (held_of self.now) }
+        ensures few { result ≤ 60 }
+
+        // Of the problem that it holds these are the landable windows with their undominated pairs.
+        ensures held { (p : Problem) → problem_held self.now ≡ Some p → AreStagesOf p (held_of self.now) }
+        ensures k { (p : Problem) → problem_held self.now ≡ Some p → p.k ≡ k_of self.now }
+    {
+        match self {
+            AnyKept::One(kept) => kept.last_stage(),
+            AnyKept::Three(kept) => kept.last_stage(),
+            AnyKept::Five(kept) => kept.last_stage(),
+            AnyKept::Seven(kept) => kept.last_stage(),
+        }
+    }
+
+    /// How many landable windows a stage has.
+    pub fn size(&self, stage: u8) -> usize
+        requires { (1 ≤ stage) × (stage ≤ stages_in (held_of self.now)) }
+        ensures { result ≡ length (stage_in (held_of self.now) stage).1 }
+    {
+        match self {
+            AnyKept::One(kept) => kept.windows(stage),
+            AnyKept::Three(kept) => kept.windows(stage),
+            AnyKept::Five(kept) => kept.windows(stage),
+            AnyKept::Seven(kept) => kept.windows(stage),
+        }
+    }
+
+    /// The ranks that the window at place i of a stage, counted from 0, places, and the last of them.
+    pub fn node(&self, stage: u8, i: usize) -> Node
+        requires stage { (1 ≤ stage) × (stage ≤ stages_in (held_of self.now)) }
+        requires place { i < length (stage_in (held_of self.now) stage).1 }
+        ensures placed { TellsPlaced (node_at (stage_in (held_of self.now) stage).1 i) stage result.placed }
+        ensures last { result.last ≡ latest (stage, node_at (stage_in (held_of self.now) stage).1 i) }
+    {
+        match self {
+            AnyKept::One(kept) => kept.placed(stage, i),
+            AnyKept::Three(kept) => kept.placed(stage, i),
+            AnyKept::Five(kept) => kept.placed(stage, i),
+            AnyKept::Seven(kept) => kept.placed(stage, i),
+        }
+    }
+
+    /// How many pairs of a second and a cost the window at place i of a stage has: one or more, and for the makespan one.
+    pub fn label_count(&self, stage: u8, i: usize) -> usize
+        requires stage { (1 ≤ stage) × (stage ≤ stages_in (held_of self.now)) }
+        requires place { i < length (stage_in (held_of self.now) stage).1 }
+        ensures { result ≡ length (list_at (lists_in (held_of self.now) stage) i) }
+    {
+        match self {
+            AnyKept::One(kept) => kept.pair_count(stage, i),
+            AnyKept::Three(kept) => kept.pair_count(stage, i),
+            AnyKept::Five(kept) => kept.pair_count(stage, i),
+            AnyKept::Seven(kept) => kept.pair_count(stage, i),
+        }
+    }
+
+    /// The pair at index j of the window at place i of a stage: a second, at most 172,799, and a cost, which for the makespan
+    /// is 0.
+    pub fn label(&self, stage: u8, i: usize, j: usize) -> (u32, u32)
+        requires stage { (1 ≤ stage) × (stage ≤ stages_in (held_of self.now)) }
+        requires place { i < length (stage_in (held_of self.now) stage).1 }
+        requires index { j < length (list_at (lists_in (held_of self.now) stage) i) }
+        ensures value { result ≡ pair_at (list_at (lists_in (held_of self.now) stage) i) j }
+        ensures in_days { result.0 ≤ last_second }
+    {
+        match self {
+            AnyKept::One(kept) => kept.pair(stage, i, j),
+            AnyKept::Three(kept) => kept.pair(stage, i, j),
+            AnyKept::Five(kept) => kept.pair(stage, i, j),
+            AnyKept::Seven(kept) => kept.pair(stage, i, j),
+        }
+    }
+}
