@@ -4,7 +4,7 @@ use Rattle.std.proofs.lemmas.Bool.{cases_lt}
 use Rattle.std.proofs.lemmas.List.{take-append-le}
 use Rattle.std.specs.List.{AllByRecursion}
 use Rattle.cps_top.specs.declared.commands.Command.{Command}
-use Rattle.cps_top.specs.declared.commands.Command.TheVariants.{Plan, Replay, Check, Effort, Trial}
+use Rattle.cps_top.specs.declared.commands.Command.TheVariants.{Plan, Replay, Certify, Check, Effort, Trial}
 use Rattle.cps_top.specs.declared.endings.Answer.{Answer}
 use Rattle.cps_top.specs.declared.endings.Refusal.{Refusal}
 use Rattle.cps_top.specs.declared.endings.Ending.{Ending}
@@ -31,6 +31,11 @@ excludes Plan (a ∷ []) text answer refusal admits refuses = absurd admits
 excludes Plan (a ∷ f ∷ c ∷ rest) text answer refusal admits refuses = absurd admits
 excludes Plan (a ∷ f ∷ []) text answer refusal admits refuses =
     none_some (sym admits.taken ∙ ap₂ refused_by (sym admits.aerodrome_read) (sym admits.flights_read) ∙ refuses)
+excludes Certify [] text answer refusal admits refuses = absurd admits
+excludes Certify (a ∷ []) text answer refusal admits refuses = absurd admits
+excludes Certify (a ∷ f ∷ c ∷ rest) text answer refusal admits refuses = absurd admits
+excludes Certify (a ∷ f ∷ []) text answer refusal admits refuses =
+    none_some (sym admits.certifies.certified.judged.taken ∙ ap₂ refused_by (sym admits.aerodrome_read) (sym admits.flights_read) ∙ refuses)
 excludes Replay [] text answer refusal admits refuses = absurd admits
 excludes Replay (a ∷ []) text answer refusal admits refuses = absurd admits
 excludes Replay (a ∷ f ∷ []) text answer refusal admits refuses = absurd admits
@@ -55,6 +60,7 @@ excludes (Trial seed n k) contents text answer refusal admits refuses = absurd r
 excludes_begun : (command : Command) (contents : List (List ℕ)) (text : List ℕ) (refusal : Refusal) →
     Begins command contents text → Refuses command contents refusal → ⊥
 excludes_begun Plan contents text refusal begins refuses = excludes Plan contents text begins.0 refusal begins.1 refuses
+excludes_begun Certify contents text refusal begins refuses = excludes Certify contents text begins.0 refusal begins.1 refuses
 excludes_begun Check contents text refusal begins refuses = excludes Check contents text begins.0 refusal begins.1 refuses
 excludes_begun (Trial seed n k) contents text refusal begins refuses = absurd refuses
 excludes_begun Effort [] text refusal begins refuses = absurd refuses

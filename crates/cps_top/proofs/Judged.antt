@@ -13,11 +13,17 @@ use Rattle.sequencer.specs.declared.opening.BeginFault.{BeginFault}
 use Rattle.sequencer.specs.declared.opening.BeginFault.TheVariants.{TooManyWaiting}
 use Rattle.cert_check.specs.Landings.{Landings, seconds}
 use Rattle.cert_check.specs.Meaning.{IsShownOptimal, NothingIsFeasible}
+use Rattle.certificate.specs.declared.certificate.Claim.{Claim}
+use Rattle.certificate.specs.declared.certificate.Claim.TheVariants as claim
+use Rattle.cert_check.specs.Whole.{IsAnswered}
+use Rattle.cert_check.specs.WholeLaws.{claimed}
 use Rattle.cert_check.specs.declared.verdict.Verdict.{Verdict}
 use Rattle.cert_check.specs.declared.verdict.Verdict.TheVariants as verdict
 use Rattle.cps_top.specs.Check.{Judges, unchecked_by}
 use Rattle.cps_top.specs.Plan.{refusal_of}
-use Rattle.cps_top.specs.Verdicts.{IsTrueOf}
+use Rattle.cps_top.specs.declared.endings.Answer.TheVariants.{Accepted}
+use Rattle.cps_top.specs.Certify.{PrintedIsAcceptedLaw}
+use Rattle.cps_top.specs.Verdicts.{IsTrueOf, answer_of_verdict}
 
 -- flights that open a problem are taken
 pub opened_taken : {T : Type 0} (flights : List Flight) (r : Result T BeginFault) (problem : T) → r ≡ Ok problem →
@@ -49,3 +55,33 @@ pub not_unchecked : (a f c : List ℕ) (v : Verdict) → Judges a f c v →
 not_unchecked a f c v j =
     ap (λ r. unchecked_by r (flights_of f) (certificate_of c)) j.aerodrome_read ∙ ap (λ r. unchecked_by (Ok j.aerodrome) r (certificate_of c)) j.flights_read
     ∙ ap (λ r. unchecked_by (Ok j.aerodrome) (Ok j.flights) r) j.certificate_read ∙ j.judged.taken
+
+-- a claim with its answer is true of the situation
+pub claim_true : (s : Situation) (p : Problem) (ls : Landings) (c : Claim) → BestListLaw → SameObjectiveLaw → NoListLaw → IsSound s → IsProblemOf s p →
+    IsAnswered p c ls → IsTrueOf s p ls (claimed c)
+claim_true s p ls (claim.Optimal v) best same none sound of shown = record {
+  best = best s p (seconds p ls) sound of shown.best;
+  objective = same s p (seconds p ls) sound of shown.best.feasible ∙ shown.value;
+}
+claim_true s p ls claim.Infeasible best same none sound of answer = none s p sound of answer.1
+
+accepted_answer : (c : Claim) → Accepted ≡ answer_of_verdict (claimed c)
+accepted_answer (claim.Optimal v) = refl
+accepted_answer claim.Infeasible = refl
+
+-- what `certify` printed `check` accepts
+pub printed_accepted : PrintedIsAcceptedLaw
+printed_accepted a f text answer printed = record {
+  verdict = claimed printed.certifies.certificate.claim;
+  judges = record {
+    aerodrome = printed.aerodrome;
+    flights = printed.flights;
+    certificate = printed.certifies.certificate;
+    aerodrome_read = printed.aerodrome_read;
+    flights_read = printed.flights_read;
+    certificate_read = printed.certifies.reads;
+    judged = printed.certifies.certified.judged;
+  };
+  prints = refl;
+  answers = accepted_answer printed.certifies.certificate.claim;
+}

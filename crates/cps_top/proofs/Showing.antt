@@ -7,6 +7,7 @@ use Rattle.flight_file.specs.Reading.{flights_of}
 use Rattle.cps_top.specs.declared.endings.Answer.{Answer}
 use Rattle.cps_top.specs.declared.endings.Ending.{Ending}
 use Rattle.cps_top.specs.declared.endings.Ending.TheVariants.{Answered, Misused, Refused, NotLoaded, NotWritten, TooLong, NoMemory}
+use Rattle.cps_top.specs.Certify.{AdmitsCertify, Certifies}
 use Rattle.cps_top.specs.Plan.{Shows, AdmitsPlan, StopsPlan, StopsOpened, refused_by}
 
 -- what holds of the files that were read holds of their bytes
@@ -32,3 +33,23 @@ of_bytes (Err Misused) a f text aerodrome flights a_read f_read stops = absurd s
 of_bytes (Err (NotLoaded place)) a f text aerodrome flights a_read f_read stops = absurd stops
 of_bytes (Err NotWritten) a f text aerodrome flights a_read f_read stops = absurd stops
 of_bytes (Err (TooLong place)) a f text aerodrome flights a_read f_read stops = absurd stops
+
+-- the same of a certificate
+pub certified_of_bytes : (r : Result Answer Ending) (a f text : List ℕ) (aerodrome : Aerodrome) (flights : List Flight) →
+    aerodrome_of a ≡ Ok aerodrome → flights_of f ≡ Ok flights →
+    MatchResult r (λ answer. Certifies aerodrome flights text answer) (StopsOpened flights) →
+    MatchResult r (λ answer. AdmitsCertify a f text answer) (StopsPlan a f)
+certified_of_bytes (Ok answer) a f text aerodrome flights a_read f_read certifies = record {
+  aerodrome = aerodrome;
+  flights = flights;
+  aerodrome_read = a_read;
+  flights_read = f_read;
+  certifies = certifies;
+}
+certified_of_bytes (Err (Refused cause)) a f text aerodrome flights a_read f_read stops = ap₂ refused_by a_read f_read ∙ stops
+certified_of_bytes (Err NoMemory) a f text aerodrome flights a_read f_read stops = tt
+certified_of_bytes (Err (Answered answer)) a f text aerodrome flights a_read f_read stops = absurd stops
+certified_of_bytes (Err Misused) a f text aerodrome flights a_read f_read stops = absurd stops
+certified_of_bytes (Err (NotLoaded place)) a f text aerodrome flights a_read f_read stops = absurd stops
+certified_of_bytes (Err NotWritten) a f text aerodrome flights a_read f_read stops = absurd stops
+certified_of_bytes (Err (TooLong place)) a f text aerodrome flights a_read f_read stops = absurd stops

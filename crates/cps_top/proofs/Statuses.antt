@@ -1,6 +1,6 @@
 -- Each status by its ending.
 use Rattle.std.proofs.Common.{◌≡◌, inl, inr, ℕ, List, [], ap, append-nil, take, drop, take-append-drop, arith}
-use Rattle.cps_top.specs.declared.endings.Answer.TheVariants.{Scheduled, Infeasible, Accepted, Rejected}
+use Rattle.cps_top.specs.declared.endings.Answer.TheVariants.{Scheduled, Infeasible, Certified, Accepted, Rejected}
 use Rattle.cps_top.specs.declared.endings.Ending.{Ending}
 use Rattle.cps_top.specs.declared.endings.Ending.TheVariants.{Answered, Misused, Refused, NotLoaded, NotWritten, TooLong, NoMemory}
 use Rattle.cps_top.specs.Lines.{status_of}
@@ -14,6 +14,7 @@ pub causes : (words : List (List ℕ)) (old new : Outside) (status : ℕ) (endin
     status ≡ status_of ending → Ends words old new ending → Causes words old new status
 causes words old new status (Answered Scheduled) is ends = grind arith
 causes words old new status (Answered Infeasible) is ends = grind arith
+causes words old new status (Answered Certified) is ends = grind arith
 causes words old new status (Answered Accepted) is ends = grind arith
 causes words old new status (Answered Rejected) is ends = grind arith
 causes words old new status Misused is ends = grind arith
@@ -40,6 +41,13 @@ asks words old new status (Answered Scheduled) is ends = record {
   too_long = λ e. absurd (omega arith);
 }
 asks words old new status (Answered Infeasible) is ends = record {
+  none = λ e. absurd (omega arith);
+  some = λ named. loads_all old.folder new.folder (files_of words) ends.contents ends.loads;
+  all = λ e told. ends.loads.asked told;
+  failed = λ e. absurd (omega arith);
+  too_long = λ e. absurd (omega arith);
+}
+asks words old new status (Answered Certified) is ends = record {
   none = λ e. absurd (omega arith);
   some = λ named. loads_all old.folder new.folder (files_of words) ends.contents ends.loads;
   all = λ e told. ends.loads.asked told;

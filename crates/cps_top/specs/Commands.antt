@@ -3,9 +3,10 @@ use Rattle.std.specs.Prelude.{ℕ, ◌&&◌, ◌==◌, ◌≤◌, ⊤, List, [],
 use Rattle.std.specs.Result.{result_ok}
 use Rattle.cps_base.specs.Number.{number_within}
 use Rattle.cps_top.specs.declared.commands.Command.{Command}
-use Rattle.cps_top.specs.declared.commands.Command.TheVariants.{Plan, Replay, Check, Effort, Trial}
+use Rattle.cps_top.specs.declared.commands.Command.TheVariants.{Plan, Replay, Certify, Check, Effort, Trial}
 use Rattle.cps_top.specs.declared.endings.Answer.{Answer}
 use Rattle.cps_top.specs.declared.endings.Refusal.{Refusal}
+use Rattle.cps_top.specs.Certify.{AdmitsCertify}
 use Rattle.cps_top.specs.Check.{AdmitsCheck, RefusesCheck}
 use Rattle.cps_top.specs.Effort.{AdmitsEffort, BeginsEffort}
 use Rattle.cps_top.specs.Plan.{AdmitsPlan, RefusesPlan}
@@ -31,6 +32,7 @@ command_of [] = None
 command_of (word ∷ rest) =
     if bytes_eq word (codes "plan") && (length rest == 2) then Some Plan
     else if bytes_eq word (codes "replay") && (length rest == 3) then Some Replay
+    else if bytes_eq word (codes "certify") && (length rest == 2) then Some Certify
     else if bytes_eq word (codes "check") && (length rest == 3) then Some Check
     else if bytes_eq word (codes "effort") && (length rest == 3) then Some Effort
     else if bytes_eq word (codes "trial") then trial_of rest
@@ -54,6 +56,7 @@ IsInRange command = ⊤
 abbrev pub file_count : Command → ℕ
 file_count Plan = 2
 file_count Replay = 3
+file_count Certify = 2
 file_count Check = 3
 file_count Effort = 3
 file_count (Trial seed n k) = 0
@@ -62,6 +65,7 @@ file_count (Trial seed n k) = 0
 abbrev pub Admits : Command → List (List ℕ) → List ℕ → Answer → Type 0
 Admits Plan (aerodrome ∷ flights ∷ []) text answer = AdmitsPlan aerodrome flights text answer
 Admits Replay (aerodrome ∷ flights ∷ events ∷ []) text answer = AdmitsReplay aerodrome flights events text answer
+Admits Certify (aerodrome ∷ flights ∷ []) text answer = AdmitsCertify aerodrome flights text answer
 Admits Check (aerodrome ∷ flights ∷ certificate ∷ []) text answer = AdmitsCheck aerodrome flights certificate text answer
 Admits Effort (aerodrome ∷ flights ∷ events ∷ []) text answer = AdmitsEffort aerodrome flights events text answer
 Admits (Trial seed n k) [] text answer = AdmitsTrial seed n k text answer
@@ -77,6 +81,7 @@ Begins command contents text = (answer : Answer) × Admits command contents text
 abbrev pub Refuses : Command → List (List ℕ) → Refusal → Type 0
 Refuses Plan (aerodrome ∷ flights ∷ []) refusal = RefusesPlan aerodrome flights refusal
 Refuses Replay (aerodrome ∷ flights ∷ events ∷ []) refusal = RefusesReplay aerodrome flights events refusal
+Refuses Certify (aerodrome ∷ flights ∷ []) refusal = RefusesPlan aerodrome flights refusal
 Refuses Check (aerodrome ∷ flights ∷ certificate ∷ []) refusal = RefusesCheck aerodrome flights certificate refusal
 Refuses Effort (aerodrome ∷ flights ∷ events ∷ []) refusal = RefusesReplay aerodrome flights events refusal
 Refuses command contents refusal = ⊥

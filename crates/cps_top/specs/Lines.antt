@@ -32,7 +32,7 @@ use Rattle.aerodrome_file.specs.declared.fault.AeroFault.TheVariants as aerodrom
 use Rattle.certificate.specs.declared.fault.CertFault.{CertFault}
 use Rattle.certificate.specs.declared.fault.CertFault.TheVariants as certificate
 use Rattle.cps_top.specs.declared.endings.Answer.{Answer}
-use Rattle.cps_top.specs.declared.endings.Answer.TheVariants.{Scheduled, Infeasible, Accepted, Rejected}
+use Rattle.cps_top.specs.declared.endings.Answer.TheVariants.{Scheduled, Infeasible, Certified, Accepted, Rejected}
 use Rattle.cps_top.specs.declared.endings.Refusal.{Refusal}
 use Rattle.cps_top.specs.declared.endings.Refusal.TheVariants.{Aerodrome, Flights, Events, Certificate, TooManyWaiting}
 use Rattle.cps_top.specs.declared.endings.Ending.{Ending}
@@ -41,6 +41,7 @@ use Rattle.cps_top.specs.declared.endings.Ending.TheVariants.{Answered, Misused,
 abbrev pub answer_status : Answer → ℕ
 answer_status Scheduled = 0
 answer_status Infeasible = 1
+answer_status Certified = 0
 answer_status Accepted = 0
 answer_status Rejected = 7
 

@@ -10,6 +10,8 @@ pub enum Command {
     Plan,
     /// `replay AERODROME FLIGHTS EVENTS`.
     Replay,
+    /// `certify AERODROME FLIGHTS`.
+    Certify,
     /// `check AERODROME FLIGHTS CERTIFICATE`.
     Check,
     /// `effort AERODROME FLIGHTS EVENTS`.
@@ -54,6 +56,9 @@ pub(crate) fn read_command(words: &[String]) -> Option<Command>
     }
     if word.as_str() == "replay" && rest.len() == 3 {
         return Some(Command::Replay);
+    }
+    if word.as_str() == "certify" && rest.len() == 2 {
+        return Some(Command::Certify);
     }
     if word.as_str() == "check" && rest.len() == 3 {
         return Some(Command::Check);

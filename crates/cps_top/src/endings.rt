@@ -10,6 +10,8 @@ pub enum Answer {
     Scheduled,
     /// The last plan is none.
     Infeasible,
+    /// The certificate was printed.
+    Certified,
     /// The certificate holds.
     Accepted,
     /// The certificate was judged and does not hold.

@@ -3,6 +3,7 @@
 
 mod aerodrome_lines;
 mod certificate_lines;
+mod certify;
 mod check;
 mod commands;
 mod effort;
@@ -10,6 +11,7 @@ mod endings;
 mod event_lines;
 mod faults;
 mod flight_lines;
+mod laws;
 mod lines;
 mod loads;
 mod opening;
@@ -22,12 +24,15 @@ mod verdict_lines;
 
 pub use commands::Command;
 pub use endings::{Answer, Ending, Refusal};
+pub use laws::printed_certificates_are_accepted;
 pub use loads::LIMIT;
 pub use replay_laws::{
     clock_shows_no_dearer_plan, printed_states_are_sound, text_fixes_the_replay,
 };
 pub use top::run;
 
+#[cfg(test)]
+mod certify_tests;
 #[cfg(test)]
 mod check_tests;
 #[cfg(test)]

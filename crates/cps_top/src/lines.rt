@@ -16,7 +16,7 @@ pub(crate) fn status(ending: &Ending) -> u8
     ensures { result ≡ status_of ending.now }
 {
     match ending {
-        Ending::Answered(Answer::Scheduled | Answer::Accepted) => 0,
+        Ending::Answered(Answer::Scheduled | Answer::Certified | Answer::Accepted) => 0,
         Ending::Answered(Answer::Infeasible) => 1,
         Ending::Answered(Answer::Rejected) => 7,
         Ending::Misused => 2,

@@ -5,6 +5,7 @@ ghost use Rattle.cps_top.specs.Loads.{limit};
 ghost use Rattle.cps_top.specs.Outcome.{Follows, Ends, RunsTo};
 ghost use Rattle.cps_top.specs.Statuses.{Causes, Asks, Completes, IsExact};
 
+use crate::certify::certify;
 use crate::check::check;
 use crate::commands::{files, read_command};
 use crate::effort::effort;
@@ -47,6 +48,14 @@ fn perform<R: Threads + Sync, S: Sink, G: Gate + Sync>(
             contents[0].as_slice(),
             contents[1].as_slice(),
             contents[2].as_slice(),
+            out,
+            gate,
+        ),
+        Command::Certify => certify(
+            rt,
+            alloc,
+            contents[0].as_slice(),
+            contents[1].as_slice(),
             out,
             gate,
         ),
@@ -94,13 +103,13 @@ fn work<R: Threads + Sync, F: Folder, S: Sink, G: Gate + Sync>(
 /// Runs the command of these words, and answers its status, 0 to 8.
 ///
 /// The work goes in this order: the words; the loads, in the order of the words, and none for `trial`; the reading of
-/// each file, in the same order; the limit of 60 waiting flights; the plan, and of `replay` the events, or of `check` the
-/// verdict on the certificate. The first thing that goes wrong decides the status. That the text of a replay fixes its run, its answers
-/// and plans, is the law `replay_law::text_fixes_the_run`.
+/// each file, in the same order; the limit of 60 waiting flights; the plan, and of `replay` and `effort` the events, of
+/// `certify` the certificate, or of `check` the verdict on one. The first thing that goes wrong decides the status. That
+/// the text of a replay fixes its run, its answers and plans, is the law `replay_law::text_fixes_the_run`.
 ///
 /// | status | comes |
 /// |---|---|
-/// | 0 | the text was written, and the last plan is a best and tight schedule, or the certificate holds |
+/// | 0 | the text was written, and the last plan is a best and tight schedule, or it is a certificate, or one that holds |
 /// | 1 | the text was written, and at its end no schedule is feasible |
 /// | 2 | the words fit no command |
 /// | 3 | the files are not taken |
