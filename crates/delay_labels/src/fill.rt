@@ -55,14 +55,14 @@ fn with_pairs<const W: usize>(
 ///
 /// The stage before holds the landable windows with their pairs, and this stage the windows that extend one of them by a
 /// permitted rank.
-pub fn fill_costs<const W: usize, R: Threads, G: Gate, L: Ledger>(
+pub fn fill_costs<const W: usize, R: Threads + Sync, G: Gate + Sync, L: Ledger>(
     _rt: &R,
     alloc: Global,
     problem: &Problem,
     before: &Stage<W>,
     labels: &Costs,
     stage: &Stage<W>,
-    gate: &G,
+    _gate: &G,
     steps: &mut Steps<L>,
 ) -> Result<Costs, AllocError>
     requires width { W ≡ 2 * problem.now.k + 1 }
@@ -78,7 +78,6 @@ pub fn fill_costs<const W: usize, R: Threads, G: Gate, L: Ledger>(
     let _near = problem.head();
     prefix_laws::<W>(problem);
     window_laws::<W>();
-    gate.pass(0);
     let mut costs = Costs::with_room(alloc, stage.len())?;
     let mut found = Vec::with_capacity(alloc, 16)?;
     for i in 0..stage.len() {

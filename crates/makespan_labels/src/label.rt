@@ -62,14 +62,14 @@ fn label_of<const W: usize>(
 ///
 /// The stage before holds the landable windows with their labels, and this stage the windows that extend one of them by a
 /// permitted rank.
-pub fn fill<const W: usize, R: Threads, G: Gate, L: Ledger>(
+pub fn fill<const W: usize, R: Threads + Sync, G: Gate + Sync, L: Ledger>(
     _rt: &R,
     problem: &Problem,
     before: &Stage<W>,
     labels: &Column,
     stage: &Stage<W>,
     into: &mut Column,
-    gate: &G,
+    _gate: &G,
     steps: &mut Steps<L>,
 )
     requires width { W ≡ 2 * problem.now.k + 1 }
@@ -84,7 +84,6 @@ pub fn fill<const W: usize, R: Threads, G: Gate, L: Ledger>(
     let _near = problem.head();
     prefix_laws::<W>(problem);
     window_laws::<W>();
-    gate.pass(0);
     for i in 0..stage.len() {
         into.set(i, label_of(problem, before, labels, stage, i));
     }
