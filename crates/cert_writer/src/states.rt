@@ -1,6 +1,6 @@
 //! The states of all stages.
 
-ghost use Rattle.std.specs.Prelude.{◌≡◌, ◌+◌, ◌*◌, ◌^◌, ◌≤◌, ◌<◌, IfOk, OnOk, Some, All, length, true};
+ghost use Rattle.std.specs.Prelude.{◌≡◌, ◌+◌, ◌*◌, ◌^◌, ◌≤◌, ◌<◌, IfOk, OnOk, Some, length};
 ghost use Rattle.cert_check.specs.Whole.{AreWholeStates};
 ghost use Rattle.replan.specs.Kept.{held_of, problem_held};
 ghost use Rattle.cert_writer.specs.Written.{HavePairsInRange, IsGathered, IsWritten, StageLaws};
