@@ -55,7 +55,7 @@ fn with_pairs<const W: usize>(
 ///
 /// The stage before holds the landable windows with their pairs, and this stage the windows that extend one of them by a
 /// permitted rank.
-pub fn fill_costs<const W: usize, R: Threads + Sync, G: Gate + Sync, L: Ledger>(
+pub fn fill_costs<const W: usize, R: Threads, G: Gate, L: Ledger>(
     _rt: &R,
     alloc: Global,
     problem: &Problem,

@@ -62,7 +62,7 @@ fn label_of<const W: usize>(
 ///
 /// The stage before holds the landable windows with their labels, and this stage the windows that extend one of them by a
 /// permitted rank.
-pub fn fill<const W: usize, R: Threads + Sync, G: Gate + Sync, L: Ledger>(
+pub fn fill<const W: usize, R: Threads, G: Gate, L: Ledger>(
     _rt: &R,
     problem: &Problem,
     before: &Stage<W>,

@@ -46,7 +46,7 @@ impl<const W: usize> Kept<W> {
 
     // Plans a problem, and holds it. The stages that it has in common with the problem held before are kept, and the others
     // are given back before new ones are filled. After want of memory no problem is held.
-    pub(crate) fn replan<R: Threads + Sync, G: Gate + Sync, L: Ledger>(
+    pub(crate) fn replan<R: Threads, G: Gate, L: Ledger>(
         &mut self,
         rt: &R,
         alloc: Global,

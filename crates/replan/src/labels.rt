@@ -117,7 +117,7 @@ impl Labels {
     }
 
     // The labels of the stage that follows, from those of this one. It ticks once a window.
-    pub(crate) fn next<const W: usize, R: Threads + Sync, G: Gate + Sync, L: Ledger>(
+    pub(crate) fn next<const W: usize, R: Threads, G: Gate, L: Ledger>(
         &self,
         rt: &R,
         alloc: Global,

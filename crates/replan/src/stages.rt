@@ -91,7 +91,7 @@ fn stage_after<const W: usize>(
 }
 
 // Fills the labels of a stage from those of the stage before, and keeps its landable windows. Also whether these are all.
-fn label_stage<const W: usize, R: Threads + Sync, G: Gate + Sync, L: Ledger>(
+fn label_stage<const W: usize, R: Threads, G: Gate, L: Ledger>(
     rt: &R,
     alloc: Global,
     problem: &Problem,
@@ -119,7 +119,7 @@ fn label_stage<const W: usize, R: Threads + Sync, G: Gate + Sync, L: Ledger>(
 }
 
 // One stage more.
-fn add_stage<const W: usize, R: Threads + Sync, G: Gate + Sync, L: Ledger>(
+fn add_stage<const W: usize, R: Threads, G: Gate, L: Ledger>(
     rt: &R,
     alloc: Global,
     problem: &Problem,
@@ -152,7 +152,7 @@ fn add_stage<const W: usize, R: Threads + Sync, G: Gate + Sync, L: Ledger>(
 }
 
 // The stages that follow those that are kept, up to the last.
-pub(crate) fn fill_stages<const W: usize, R: Threads + Sync, G: Gate + Sync, L: Ledger>(
+pub(crate) fn fill_stages<const W: usize, R: Threads, G: Gate, L: Ledger>(
     rt: &R,
     alloc: Global,
     problem: &Problem,
