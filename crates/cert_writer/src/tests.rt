@@ -118,7 +118,7 @@ fn of_five(alloc: Global) -> Result<Problem, Fail>
     waiting.push(flight(alloc, b"A1", Category::A, 1000, 10, 2000)?)?;
     waiting.push(flight(alloc, b"F1", Category::F, 1010, 1, 2000)?)?;
     waiting.push(flight(alloc, b"B1", Category::B, 1020, 1, 2000)?)?;
-    waiting.push(flight(alloc, b"D1", Category::D, 1030, 1, 2000)?)?;
+    waiting.push(flight(alloc, b"DL1", Category::D, 1030, 1, 2000)?)?;
     waiting.push(flight(alloc, b"E1", Category::E, 1040, 1, 2000)?)?;
     Ok(Problem::build(head(1, Objective::Delay)?, waiting, chain()))
 }
@@ -217,7 +217,7 @@ claim optimal 1080
 land A1 1000
 land F1 1180
 land B1 1240
-land D1 1350
+land DL1 1350
 land E1 1410
 state 1 01 2 1010:0
 state 1 10 1 1000:0

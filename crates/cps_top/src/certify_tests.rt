@@ -6,7 +6,7 @@ const TWO: &str = "A1,A,1000,1,1000-2000,\nF1,F,1010,1,1010-2000,\n";
 const THREE: &str = "A1,A,1000,1,1000-2000,\nA2,A,1001,1,1001-2000,\nF1,F,1010,1,1010-2000,\n";
 
 const FIVE: &str =
-    "A1,A,1000,10,1000-2000,\nF1,F,1010,1,1010-2000,\nB1,B,1020,1,1020-2000,F1\nD1,D,1030,1,1030-2000,B1\nE1,E,1040,1,1040-2000,D1\n";
+    "A1,A,1000,10,1000-2000,\nF1,F,1010,1,1010-2000,\nB1,B,1020,1,1020-2000,F1\nDL1,D,1030,1,1030-2000,B1\nE1,E,1040,1,1040-2000,DL1\n";
 
 // The files of a problem, their certificate in two parts, and what `check` prints of it.
 struct Certified {
@@ -49,7 +49,7 @@ const CERTIFIED: [Certified; 5] = [
     Certified {
         head: LEAST_DELAY,
         flights: FIVE,
-        claim: "certificate 1\nclaim optimal 1080\nland A1 1000\nland F1 1180\nland B1 1240\nland D1 1350\nland E1 1410\n",
+        claim: "certificate 1\nclaim optimal 1080\nland A1 1000\nland F1 1180\nland B1 1240\nland DL1 1350\nland E1 1410\n",
         states: "state 1 01 2 1010:0\nstate 1 10 1 1000:0\nstate 2 10 1 1070:700\nstate 2 10 2 1180:170\nstate 3 10 3 1180:860 1240:390\nstate 4 10 4 1290:1120 1350:710\nstate 5 10 5 1350:1430 1410:1080\n",
         verdict: "optimal 1080\n",
     },
