@@ -1,1 +1,2 @@
--- Lemmas of the workers: none are needed.
+-- The lemmas of this crate.
+pub mod LaneLemmas

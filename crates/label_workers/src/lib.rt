@@ -7,5 +7,5 @@ mod numbers;
 #[cfg(test)]
 mod tests;
 
-pub use lists::fill_lists;
+pub use lists::{fill_lists, fill_long_lists};
 pub use numbers::{PIECE, fill_numbers};

@@ -7,6 +7,9 @@ use std::thread::Threads;
 /// How many entries a piece of a column has. The last piece may be shorter.
 pub const PIECE: usize = 1024;
 
+// The most lanes that fill a column at once. A lane is what one thread runs: whole pieces, one after another.
+const LANES: usize = 8;
+
 /// Writes into each entry of the column an answer of `f` for its place, by pieces that may run at once. The piece that
 /// begins at entry i passes the gate as number i / PIECE first. The column has at most 4,294,967,295 entries, and `f`
 /// may be called on each of their places.
@@ -20,23 +23,33 @@ pub fn fill_numbers<R: Threads + Sync, G: Gate + Sync, F: Fn(usize) -> u32 + Syn
     requires callable { (i : ℕ) → i < length column.old → F.pre f.now i }
     ensures { (i : ℕ) → i < length column.old → F.post f.now i (slice_index column.new i) }
 {
-    let piece = move |start: usize, part: &mut [u32]|
+    let lane = move |start: usize, part: &mut [u32]|
         requires { (start + length part.now < 2 ^ 32) × ((k : ℕ) → k < length part.now → F.pre f.now (start + k)) }
         ensures { (k : ℕ) → k < length part.entry.now → F.post f.entry.now (start + k) (slice_index part.exit.now k) }
-    {
-        gate.pass((start / PIECE) as u32);
-        fill_piece(part, start, f);
-    };
-    thread::for_each_chunk_mut(rt, column, PIECE, &piece);
+    { fill_lane(part, start, gate, f) };
+    let size = lane_of(column.len());
+    thread::for_each_chunk_mut(rt, column, size, &lane);
 }
 
-// The part of a column that begins at entry `start`.
-fn fill_piece<F: Fn(usize) -> u32>(part: &mut [u32], start: usize, f: &F)
+// How many entries a lane has: whole pieces, and so many that at most LANES lanes cover the column.
+fn lane_of(len: usize) -> usize
+    requires { len < 2 ^ 32 }
+    ensures { 0 < result }
+{
+    len.div_ceil(PIECE * LANES).max(1) * PIECE
+}
+
+// The part of a column that begins at entry `start`, piece by piece.
+fn fill_lane<G: Gate, F: Fn(usize) -> u32>(part: &mut [u32], start: usize, gate: &G, f: &F)
     requires few { start + length part.old < 2 ^ 32 }
     requires callable { (k : ℕ) → k < length part.old → F.pre f.now (start + k) }
     ensures { (k : ℕ) → k < length part.old → F.post f.now (start + k) (slice_index part.new k) }
 {
     for k in 0..part.len() {
-        part[k] = f(start + k);
+        let i = start + k;
+        if i % PIECE == 0 {
+            gate.pass((i / PIECE) as u32);
+        }
+        part[k] = f(i);
     }
 }

@@ -1,4 +1,4 @@
-use crate::{fill_lists, fill_numbers};
+use crate::{PIECE, fill_lists, fill_long_lists, fill_numbers};
 use cps_outside::{FreeGate, Gate};
 use std::alloc::AllocError;
 use std::sync::atomic::{AtomicU64, Ordering};
@@ -29,6 +29,13 @@ impl Gate for Holding {
     }
 }
 
+fn holds_piece_0() -> Holding {
+    Holding {
+        passed: AtomicU64::new(0),
+        seen: AtomicU64::new(0),
+    }
+}
+
 // Counts the pieces.
 #[derive(Drop)]
 struct Counting {
@@ -41,12 +48,15 @@ impl Gate for Counting {
     }
 }
 
+fn counts_pieces() -> Counting {
+    Counting {
+        passes: AtomicU64::new(0),
+    }
+}
+
 #[test]
 fn two_pieces_of_a_column_run_beside_each_other(rt: HostRuntime) -> Result<(), Fail> {
-    let gate = Holding {
-        passed: AtomicU64::new(0),
-        seen: AtomicU64::new(0),
-    };
+    let gate = holds_piece_0();
     let mut column = vec![in rt.alloc(); 0u32; 2048]?;
     fill_numbers(&rt, column.as_mut_slice(), &gate, &|i| (i % 1000) as u32);
     assert_eq!(rt; gate.seen.load(Ordering::SeqCst), 1);
@@ -57,34 +67,48 @@ fn two_pieces_of_a_column_run_beside_each_other(rt: HostRuntime) -> Result<(), F
 }
 
 #[test]
-fn a_shorter_last_piece_is_filled(rt: HostRuntime) -> Result<(), Fail> {
-    let mut column = vec![in rt.alloc(); 7u32; 1030]?;
-    fill_numbers(
-        &rt,
-        column.as_mut_slice(),
-        &FreeGate,
-        &|i| (i % 1000) as u32,
-    );
-    assert_eq!(rt; column.as_slice()[1029], 29);
+fn each_piece_passes_the_gate_once_and_the_last_may_be_shorter(
+    rt: HostRuntime,
+) -> Result<(), Fail> {
+    let gate = counts_pieces();
+    let mut column = vec![in rt.alloc(); 7u32; 9 * PIECE + 6]?;
+    fill_numbers(&rt, column.as_mut_slice(), &gate, &|i| (i % 1000) as u32);
+    assert_eq!(rt; gate.passes.load(Ordering::SeqCst), 10);
+    for (i, x) in column.iter().enumerate() {
+        assert_eq!(rt; *x, (i % 1000) as u32);
+    }
+    let mut empty = vec![in rt.alloc(); 7u32; 0]?;
+    fill_numbers(&rt, empty.as_mut_slice(), &gate, &|_| 0);
+    assert_eq!(rt; gate.passes.load(Ordering::SeqCst), 10);
     Ok(())
 }
 
 #[test]
 fn each_item_is_a_piece(rt: HostRuntime) -> Result<(), Fail> {
     let alloc = rt.alloc();
-    let gate = Counting {
-        passes: AtomicU64::new(0),
-    };
-    let squares = fill_lists(&rt, alloc, 8, &gate, &|i| Ok((i % 8) * (i % 8)))?;
-    assert_eq!(rt; squares.as_slice(), [0, 1, 4, 9, 16, 25, 36, 49].as_slice());
-    assert_eq!(rt; gate.passes.load(Ordering::SeqCst), 8);
-    let refused = fill_lists(
-        &rt,
-        alloc,
-        8,
-        &FreeGate,
-        &|i| { if i == 5 { Err(AllocError) } else { Ok(i) } },
-    );
-    assert!(rt; refused.is_err());
+    for least in 1..10 {
+        let gate = counts_pieces();
+        let squares = fill_long_lists(&rt, alloc, 8, least, &gate, &|i| Ok((i % 8) * (i % 8)))?;
+        assert_eq!(rt; squares.as_slice(), [0, 1, 4, 9, 16, 25, 36, 49].as_slice());
+        assert_eq!(rt; gate.passes.load(Ordering::SeqCst), 8);
+        let refused = fill_long_lists(
+            &rt,
+            alloc,
+            8,
+            least,
+            &FreeGate,
+            &|i| { if i == 5 { Err(AllocError) } else { Ok(i) } },
+        );
+        assert!(rt; refused.is_err());
+    }
+    Ok(())
+}
+
+#[test]
+fn two_items_run_beside_each_other(rt: HostRuntime) -> Result<(), Fail> {
+    let gate = holds_piece_0();
+    let items = fill_lists(&rt, rt.alloc(), 2, &gate, &|i| Ok(i))?;
+    assert_eq!(rt; gate.seen.load(Ordering::SeqCst), 1);
+    assert_eq!(rt; items.as_slice(), [0, 1].as_slice());
     Ok(())
 }
