@@ -23,7 +23,11 @@ fn frozen_word(frozen: bool) -> &'static [u8]
     if frozen { b" frozen" } else { b" waiting" }
 }
 
-pub(crate) fn append_head(objective: Objective, value: u64, into: &mut Vec<u8>) -> Result<(), AllocError>
+pub(crate) fn append_head(
+    objective: Objective,
+    value: u64,
+    into: &mut Vec<u8>,
+) -> Result<(), AllocError>
     ensures { OnOk result (into.new.items ≡ into.old.items ++ line (head_words objective value)) }
 {
     let mut number = Buffer::new();

@@ -36,12 +36,14 @@ pub returns-in_err-close : goal.returns-in_err-close
 returns-in_err-close g c =
     let p = err_from_is_err_and c.from_residual-in_err-close.result c.from_residual-in_err-close.ensures.1 in
     let last = subst (λ n. WritesSteps (g.S.Sink.state c.plan_events.new.out) (g.S.Sink.state c.close.new.out) (total_line (n + c.in_ok-steps.steps)) (n + c.in_ok-steps.steps) (Err c.in_err-close.field-0.0))
-        c.in_ok-opened.ensures.0 c.in_err-close.ensures in
+    c.in_ok-opened.ensures.0 c.in_err-close.ensures in
     rw (p.1, p.2) (stops_last c.args.sequencer.now _ c.args.opening c.problem.ensures.problem c.requires.opened c.in_err-close.field-0.0 c.plan_events.new.sequencer c.in_ok-steps.steps _ _ _ _
     c.in_ok-opened.ensures.1 c.in_ok-steps.ensures last)
 
 pub returns : goal.returns
 returns g c =
-    let told = subst (λ n. Wrote (g.S.Sink.state c.plan_events.new.out) (g.S.Sink.state c.close.new.out) (total_line (n + c.in_ok-steps.steps))) c.in_ok-opened.ensures.0 c.in_ok-close.ensures.1 in
-    (c.is_planned.ensures, ends_whole c.args.sequencer.now _ c.args.opening c.problem.ensures.problem c.requires.opened c.plan_events.new.sequencer c.in_ok-steps.steps _ _ _ _
-    c.in_ok-opened.ensures.1 c.in_ok-steps.ensures told)
+    let told = subst (λ n. Wrote (g.S.Sink.state c.plan_events.new.out) (g.S.Sink.state c.close.new.out) (total_line (n + c.in_ok-steps.steps))) c.in_ok-opened.ensures.0 c.in_ok-close.ensures.1 in (
+      c.is_planned.ensures,
+      ends_whole c.args.sequencer.now _ c.args.opening c.problem.ensures.problem c.requires.opened c.plan_events.new.sequencer c.in_ok-steps.steps _ _ _ _
+          c.in_ok-opened.ensures.1 c.in_ok-steps.ensures told,
+    )
