@@ -89,7 +89,6 @@ impl Bank {
         ensures objective { IfOk result (λ problem. problem.objective ≡ objective) }
     {
         let table = PairTable::new([[60; 6]; 6])?;
-        let _ = table.sep(Category::A, Category::B);
         let head = Head {
             table,
             k,
