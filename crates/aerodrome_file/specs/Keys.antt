@@ -1,5 +1,5 @@
 -- The keys that each part of the file has.
-use Rattle.std.specs.Prelude.{List, ℕ, Bool, ◌||◌, is_some, codes, bytes_eq, Result, Ok, Err, if◌then◌else◌}
+use Rattle.std.specs.Prelude.{List, ℕ, Bool, ◌&&◌, ◌||◌, nat_le, is_some, codes, bytes_eq, Result, Ok, Err, if◌then◌else◌}
 use Rattle.toml.specs.Data.{Members, no_members, member}
 use Rattle.wake_table.specs.Letters.{category_of}
 use Rattle.aerodrome_file.specs.declared.fault.AeroFault.{AeroFault}
@@ -8,23 +8,31 @@ use Rattle.aerodrome_file.specs.declared.fault.Part.{Part}
 use Rattle.aerodrome_file.specs.declared.fault.Part.TheVariants as part
 use Rattle.aerodrome_file.specs.KeyText.{key_text}
 
--- of the document
-abbrev pub is_top_key : List ℕ → Bool
-is_top_key k =
+-- of the document in each version
+abbrev pub is_first_key : List ℕ → Bool
+is_first_key k =
     ((((bytes_eq k (codes "version") || bytes_eq k (codes "k")) || bytes_eq k (codes "freeze")) || bytes_eq k (codes "objective"))
     || bytes_eq k (codes "table")) || bytes_eq k (codes "closures")
+
+-- of the document in a version
+abbrev pub is_top_key : ℕ → List ℕ → Bool
+is_top_key version k =
+    (is_first_key k || (nat_le 2 version && (bytes_eq k (codes "clock") || bytes_eq k (codes "frozen"))))
+    || (nat_le 3 version && bytes_eq k (codes "passed"))
 
 -- of the table of separations
 abbrev pub is_letter : List ℕ → Bool
 is_letter k = is_some (category_of k)
 
 -- of any part
-abbrev pub is_known : Part → List ℕ → Bool
-is_known part.Top k = is_top_key k
-is_known part.Table k = is_letter k
-is_known (part.Closure i) k = bytes_eq k (codes "from") || bytes_eq k (codes "to")
+abbrev pub is_known : ℕ → Part → List ℕ → Bool
+is_known v part.Top k = is_top_key v k
+is_known v part.Table k = is_letter k
+is_known v (part.Closure i) k = bytes_eq k (codes "from") || bytes_eq k (codes "to")
+is_known v (part.Frozen i) k = bytes_eq k (codes "callsign") || bytes_eq k (codes "second")
+is_known v (part.Passed i) k = bytes_eq k (codes "callsign") || bytes_eq k (codes "count")
 
 -- nothing, where the part has each key; the first other key, in byte order, is a fault
-unfoldable pub only : Part → Members → Result (Unit {0}) AeroFault
-only p no_members = Ok (tt {0})
-only p (member k d ms) = if is_known p k then only p ms else Err (fault.UnknownKey p (key_text k))
+unfoldable pub only : ℕ → Part → Members → Result (Unit {0}) AeroFault
+only v p no_members = Ok (tt {0})
+only v p (member k d ms) = if is_known v p k then only v p ms else Err (fault.UnknownKey p (key_text k))

@@ -2,6 +2,9 @@ pub mod Answers
 pub mod KeyText
 pub mod Keys
 pub mod Values
+pub mod Version
 pub mod Separations
 pub mod Closures
+pub mod Frozen
+pub mod Passed
 pub mod Reading

@@ -1,5 +1,5 @@
 -- The aerodrome that a text is, or its first fault, over the table that `toml` reads.
-use Rattle.std.specs.Prelude.{◌≡◌, ◌≤◌, ℕ, List, Bool, true, false, ◌==◌, ◌&&◌, nat_lt, length, codes, bytes_eq, Option, Some, None, Result, Ok, Err, if◌then◌else◌}
+use Rattle.std.specs.Prelude.{◌≡◌, ◌≤◌, ◌<◌, ℕ, List, [], Bool, true, false, ◌==◌, ◌&&◌, nat_lt, length, codes, bytes_eq, Option, Some, None, Result, Ok, Err, if◌then◌else◌}
 use Rattle.std.specs.Str.Lossy.{utf8_valid_len}
 use Rattle.toml.specs.Data.{Data, string, Members, get_member}
 use Rattle.toml.specs.Parse.{parse_document}
@@ -9,12 +9,13 @@ use Rattle.aerodrome_file.specs.declared.aerodrome.Aerodrome.{Aerodrome}
 use Rattle.aerodrome_file.specs.declared.fault.AeroFault.{AeroFault}
 use Rattle.aerodrome_file.specs.declared.fault.AeroFault.TheVariants as fault
 use Rattle.aerodrome_file.specs.declared.fault.Key.TheVariants as key
-use Rattle.aerodrome_file.specs.declared.fault.Part.TheVariants as part
 use Rattle.aerodrome_file.specs.Answers.{◌>>=◌}
-use Rattle.aerodrome_file.specs.Keys.{only}
+use Rattle.aerodrome_file.specs.Version.{version_in, IsVersion}
 use Rattle.aerodrome_file.specs.Values.{number_in}
 use Rattle.aerodrome_file.specs.Separations.{table_in}
 use Rattle.aerodrome_file.specs.Closures.{closures_in}
+use Rattle.aerodrome_file.specs.Frozen.{clock_in, frozen_in, IsClock, AreFrozenBy}
+use Rattle.aerodrome_file.specs.Passed.{passed_in, ArePassed}
 
 -- the table that a text of UTF-8 is
 unfoldable pub document : List ℕ → Option Members
@@ -33,18 +34,39 @@ abbrev pub is_delay : Objective → Bool
 is_delay Makespan = false
 is_delay Delay = true
 
+-- the greatest shift that delay takes in a version
+abbrev pub most_shift : ℕ → ℕ
+most_shift version = if version == 1 then 1 else 2
+
+-- the objective does not take this shift in the version
+abbrev pub is_beyond : ℕ → ℕ → Objective → Bool
+is_beyond version k objective = is_delay objective && nat_lt (most_shift version) k
+
 -- the aerodrome that a table is
 unfoldable pub aerodrome_in : Members → Result Aerodrome AeroFault
 aerodrome_in ms = do
-  _ ← only part.Top ms
-  _ ← number_in key.Version 1 1 (get_member (codes "version") ms)
+  version ← version_in ms
   k ← number_in key.K 0 3 (get_member (codes "k") ms)
   freeze ← number_in key.Freeze 0 7200 (get_member (codes "freeze") ms)
   objective ← objective_in (get_member (codes "objective") ms)
   rows ← table_in (get_member (codes "table") ms)
   closures ← closures_in (get_member (codes "closures") ms)
-  if is_delay objective && nat_lt 1 k then Err (fault.DelayShift k)
-      else Ok (record { k = k; freeze = freeze; objective = objective; table = rows; closures = closures })
+  clock ← clock_in (get_member (codes "clock") ms)
+  frozen ← frozen_in clock freeze (get_member (codes "frozen") ms)
+  passed ← passed_in k (get_member (codes "passed") ms)
+  if is_beyond version k objective then Err (fault.DelayShift k)
+      else Ok (record {
+        version = version;
+        k = k;
+        freeze = freeze;
+        objective = objective;
+        table = rows;
+        closures = closures;
+        clock = clock;
+        frozen = frozen;
+        carry = version == 3;
+        passed = passed;
+      })
 
 abbrev pub aerodrome_or : Option Members → Result Aerodrome AeroFault
 aerodrome_or None = Err fault.NotToml
@@ -54,8 +76,16 @@ aerodrome_or (Some ms) = aerodrome_in ms
 unfoldable pub aerodrome_of : List ℕ → Result Aerodrome AeroFault
 aerodrome_of bytes = aerodrome_or (document bytes)
 
--- numbers in their ranges, and a shift that the objective takes
+-- numbers in their ranges, a shift that the objective takes, and nothing that the version does not have
 pub record IsInRange (a : Aerodrome) : Type 0 where
+  pub version : IsVersion a.version
   pub k : a.k ≤ 3
   pub freeze : a.freeze ≤ 7200
-  pub shift : is_delay a.objective ≡ true → a.k ≤ 1
+  pub shift : is_delay a.objective ≡ true → a.k ≤ most_shift a.version
+  pub clock : IsClock a.clock
+  pub frozen : AreFrozenBy a.clock a.freeze a.frozen
+  pub carry : a.carry ≡ (a.version == 3)
+  pub passed : ArePassed a.k a.passed
+  pub no_clock : a.version < 2 → a.clock ≡ None
+  pub none_frozen : a.version < 2 → a.frozen ≡ []
+  pub none_passed : a.carry ≡ false → a.passed ≡ []

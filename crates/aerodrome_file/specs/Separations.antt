@@ -46,7 +46,7 @@ table_or (Err e) = Err (fault.Table e)
 -- the table of separations
 unfoldable pub rows_in : Members → Result (List (List ℕ)) AeroFault
 rows_in ms = do
-  _ ← only part.Table ms
+  _ ← only 1 part.Table ms
   a ← row_of A (get_member (codes "A") ms)
   b ← row_of B (get_member (codes "B") ms)
   c ← row_of C (get_member (codes "C") ms)

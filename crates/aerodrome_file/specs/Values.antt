@@ -1,6 +1,7 @@
 -- The values at the keys of the file.
-use Rattle.std.specs.Prelude.{ℕ, ℤ, pos, negsuc, ◌&&◌, nat_le, Option, Some, None, Result, Ok, Err, if◌then◌else◌}
-use Rattle.toml.specs.Data.{Data, integer}
+use Rattle.std.specs.Prelude.{ℕ, List, ℤ, pos, negsuc, ◌&&◌, nat_le, Option, Some, None, Result, Ok, Err, if◌then◌else◌}
+use Rattle.toml.specs.Data.{Data, string, integer}
+use Rattle.cps_base.specs.Text.{is_callsign}
 use Rattle.aerodrome_file.specs.declared.fault.AeroFault.{AeroFault}
 use Rattle.aerodrome_file.specs.declared.fault.AeroFault.TheVariants as fault
 use Rattle.aerodrome_file.specs.declared.fault.Key.{Key}
@@ -19,6 +20,20 @@ integer_of k d = Err (fault.WrongKind k)
 abbrev pub at_most : Key → ℕ → ℤ → Result ℕ AeroFault
 at_most k most (pos n) = if nat_le n most then Ok n else Err (fault.OutOfRange k)
 at_most k most (negsuc n) = Err (fault.OutOfRange k)
+
+-- the number from least to most that an integer is
+abbrev pub within : Key → ℕ → ℕ → ℤ → Result ℕ AeroFault
+within k least most (pos n) = if nat_le least n && nat_le n most then Ok n else Err (fault.OutOfRange k)
+within k least most (negsuc n) = Err (fault.OutOfRange k)
+
+-- the text that a value is
+abbrev pub string_of : Key → Data → Result (List ℕ) AeroFault
+string_of k (string text) = Ok text
+string_of k d = Err (fault.WrongKind k)
+
+-- the callsign that a text is
+abbrev pub callsign_at : Key → List ℕ → Result (List ℕ) AeroFault
+callsign_at k text = if is_callsign text then Ok text else Err (fault.OutOfRange k)
 
 -- the integer of a key, from least to most
 abbrev pub number_in : Key → ℕ → ℕ → Option Data → Result ℕ AeroFault

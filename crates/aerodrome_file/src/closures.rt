@@ -10,7 +10,7 @@ use landing_windows::{ClosureFault, Closures};
 use toml::{Table, Value};
 
 // Whether all values of an array are tables.
-fn are_tables(values: &[Value]) -> bool
+pub(crate) fn are_tables(values: &[Value]) -> bool
     ensures { result ≡ are_tables (items_view values.now) }
 {
     let mut rest = values;
@@ -29,7 +29,7 @@ fn closure_in(number: u8, table: &Table) -> Result<(u32, u32), AeroFault>
     ensures value { result ≡ closure_in number (table_view table.now) }
     ensures range { IfOk result (λ c. (c.0 ≤ 172799) × (c.1 ≤ 172800)) }
 {
-    only(Part::Closure(number), table)?;
+    only(1, Part::Closure(number), table)?;
     let from = present(Key::From(number), get(table, "from"))?;
     let to = present(Key::To(number), get(table, "to"))?;
     let first = integer_of(Key::From(number), from)?;

@@ -1,15 +1,16 @@
 // The keys that each part of the file has.
 ghost use Rattle.std.specs.Prelude.{◌≡◌};
 ghost use Rattle.toml.specs.View.{table_view};
-ghost use Rattle.aerodrome_file.specs.Keys.{is_top_key, is_letter, is_known, only};
+ghost use Rattle.aerodrome_file.specs.Keys.{is_first_key, is_top_key, is_letter, is_known, only};
 
 use crate::fault::{AeroFault, Part};
 use crate::key_text::KeyText;
 use toml::Table;
 use wake_table::Category;
 
-fn is_top_key(key: &str) -> bool
-    ensures { result ≡ is_top_key key.now }
+// The keys of the document in each version.
+fn is_first_key(key: &str) -> bool
+    ensures { result ≡ is_first_key key.now }
 {
     key == "version"
         || key == "k"
@@ -19,29 +20,39 @@ fn is_top_key(key: &str) -> bool
         || key == "closures"
 }
 
+fn is_top_key(version: u8, key: &str) -> bool
+    ensures { result ≡ is_top_key version key.now }
+{
+    is_first_key(key)
+        || (version >= 2 && (key == "clock" || key == "frozen"))
+        || (version >= 3 && key == "passed")
+}
+
 fn is_letter(key: &str) -> bool
     ensures { result ≡ is_letter key.now }
 {
     Category::read(key.as_bytes()).is_some()
 }
 
-fn is_known(part: Part, key: &str) -> bool
-    ensures { result ≡ is_known part key.now }
+fn is_known(version: u8, part: Part, key: &str) -> bool
+    ensures { result ≡ is_known version part key.now }
 {
     match part {
-        Part::Top => is_top_key(key),
+        Part::Top => is_top_key(version, key),
         Part::Table => is_letter(key),
         Part::Closure(_) => key == "from" || key == "to",
+        Part::Frozen(_) => key == "callsign" || key == "second",
+        Part::Passed(_) => key == "callsign" || key == "count",
     }
 }
 
-// The first key, in byte order, that the part does not have.
+// The first key, in byte order, that the part does not have in this version.
 #[tactic(auto, unfolding(crate::specs::Keys::only))]
-pub(crate) fn only(part: Part, table: &Table) -> Result<(), AeroFault>
-    ensures { result ≡ only part (table_view table.now) }
+pub(crate) fn only(version: u8, part: Part, table: &Table) -> Result<(), AeroFault>
+    ensures { result ≡ only version part (table_view table.now) }
 {
     for (key, _) in table.iter() {
-        if !is_known(part, key.as_str()) {
+        if !is_known(version, part, key.as_str()) {
             return Err(AeroFault::UnknownKey(part, KeyText::of(key.as_bytes())));
         }
     }

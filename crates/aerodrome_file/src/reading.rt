@@ -3,14 +3,16 @@ ghost use Rattle.std.specs.Prelude.{◌≡◌, IfOk, option_map};
 ghost use Rattle.toml.specs.Errors.{IsMemory};
 ghost use Rattle.toml.specs.View.{view, table_view};
 ghost use Rattle.aerodrome_file.specs.Answers.{Gives, GivesTable};
-ghost use Rattle.aerodrome_file.specs.Reading.{document, objective_in, aerodrome_in, aerodrome_of, IsInRange};
+ghost use Rattle.aerodrome_file.specs.Reading.{document, objective_in, most_shift, is_beyond, aerodrome_in, aerodrome_of, IsInRange};
 
 use crate::aerodrome::Aerodrome;
 use crate::closures::closures_in;
-use crate::fault::{AeroFault, Key, Part};
-use crate::keys::only;
+use crate::fault::{AeroFault, Key};
+use crate::frozen::{clock_in, frozen_in};
+use crate::passed::passed_in;
 use crate::separations::table_in;
 use crate::values::{get, number_in};
+use crate::version::version_in;
 use landing_rules::Objective;
 use std::alloc::Global;
 use toml::de::Error;
@@ -57,29 +59,50 @@ fn objective_in(value: Option<&Value>) -> Result<Objective, AeroFault>
     }
 }
 
+// The greatest shift that delay takes in a version.
+fn most_shift(version: u8) -> u8
+    ensures { result ≡ most_shift version }
+{
+    if version == 1 { 1 } else { 2 }
+}
+
+// Whether the objective does not take this shift in a version.
+fn is_beyond(version: u8, k: u8, objective: Objective) -> bool
+    ensures { result ≡ is_beyond version k objective }
+{
+    objective == Objective::Delay && k > most_shift(version)
+}
+
 // The aerodrome that a table is.
 #[tactic(auto, unfolding(crate::specs::Reading::aerodrome_in))]
-fn aerodrome_in(table: &Table) -> Result<Aerodrome, AeroFault>
-    ensures value { result ≡ aerodrome_in (table_view table.now) }
+fn aerodrome_in(alloc: Global, table: &Table) -> Result<Aerodrome, AeroFault>
+    ensures value { Gives result (aerodrome_in (table_view table.now)) }
     ensures range { IfOk result IsInRange }
 {
-    only(Part::Top, table)?;
-    number_in(Key::Version, 1, 1, get(table, "version"))?;
+    let version = version_in(table)?;
     let k = number_in(Key::K, 0, 3, get(table, "k"))?;
     let freeze = number_in(Key::Freeze, 0, 7200, get(table, "freeze"))?;
     let objective = objective_in(get(table, "objective"))?;
     let separations = table_in(get(table, "table"))?;
     let closures = closures_in(get(table, "closures"))?;
+    let clock = clock_in(get(table, "clock"))?;
+    let frozen = frozen_in(alloc, clock, freeze, get(table, "frozen"))?;
     let k = k as u8;
-    if objective == Objective::Delay && k > 1 {
+    let passed = passed_in(alloc, k, get(table, "passed"))?;
+    if is_beyond(version, k, objective) {
         return Err(AeroFault::DelayShift(k));
     }
     Ok(Aerodrome {
+        version,
         k,
         freeze,
         objective,
         table: separations,
         closures,
+        clock,
+        frozen,
+        carry: version == 3,
+        passed,
     })
 }
 
@@ -87,12 +110,12 @@ fn aerodrome_in(table: &Table) -> Result<Aerodrome, AeroFault>
 ///
 /// The faults are looked for in this order: the text as TOML; the keys of the document, in byte order; `version`, `k`,
 /// `freeze`, `objective` and `table`, each for its presence, its kind and its range; `closures`, one after the other;
-/// and last the shift that delay does not take.
+/// `clock`; `frozen` and `passed`, entry by entry; and last the shift that delay does not take.
 #[tactic(auto, unfolding(crate::specs::Reading::aerodrome_of))]
 pub fn read_aerodrome(alloc: Global, bytes: &[u8]) -> Result<Aerodrome, AeroFault>
     ensures value { Gives result (aerodrome_of bytes.now) }
     ensures range { IfOk result IsInRange }
 {
     let table = document(alloc, bytes)?;
-    aerodrome_in(&table)
+    aerodrome_in(alloc, &table)
 }

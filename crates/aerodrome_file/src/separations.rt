@@ -62,7 +62,7 @@ fn row_of(leader: Category, value: Option<&Value>) -> Result<[u32; 6], AeroFault
 fn rows_in(rows: &Table) -> Result<PairTable, AeroFault>
     ensures { result ≡ rows_in (table_view rows.now) }
 {
-    only(Part::Table, rows)?;
+    only(1, Part::Table, rows)?;
     let a = row_of(Category::A, get(rows, "A"))?;
     let b = row_of(Category::B, get(rows, "B"))?;
     let c = row_of(Category::C, get(rows, "C"))?;

@@ -61,7 +61,7 @@ fn the_first_fault_is_named(rt: HostRuntime) -> Result<(), Fail> {
         ("k = 1", "k = \"1\"", WrongKind(Key::K)),
         ("k = 1", "k = 4", OutOfRange(Key::K)),
         ("k = 1", "k = 4\nwind = 3", wind),
-        ("version = 1", "version = 2", OutOfRange(Key::Version)),
+        ("version = 1", "version = 4", OutOfRange(Key::Version)),
         (
             head,
             "k = 2\nfreeze = 150\nobjective = \"delay\"",

@@ -2,10 +2,11 @@
 ghost use Rattle.std.specs.Prelude.{◌≡◌, ◌≤◌, IfOk, option_map};
 ghost use Rattle.toml.specs.Data.{get_member};
 ghost use Rattle.toml.specs.View.{view, table_view};
-ghost use Rattle.aerodrome_file.specs.Answers.{Shows};
-ghost use Rattle.aerodrome_file.specs.Values.{present, integer_of, at_most, number_in};
+ghost use Rattle.aerodrome_file.specs.Answers.{Shows, ShowsText};
+ghost use Rattle.aerodrome_file.specs.Values.{present, integer_of, string_of, callsign_at, at_most, within, number_in};
 
 use crate::fault::{AeroFault, Key};
+use cps_base::Callsign;
 use toml::{Table, Value};
 
 // The value at a key.
@@ -47,6 +48,38 @@ pub(crate) fn at_most(key: Key, most: u32, number: i64) -> Result<u32, AeroFault
     }
 }
 
+// The number from `least` to `most` that an integer is.
+pub(crate) fn within(key: Key, least: u32, most: u32, number: i64) -> Result<u32, AeroFault>
+    ensures value { result ≡ within key least most number }
+    ensures range { IfOk result (λ n. (least ≤ n) × (n ≤ most)) }
+{
+    if number >= i64::from(least) && number <= i64::from(most) {
+        Ok(number as u32)
+    } else {
+        Err(AeroFault::OutOfRange(key))
+    }
+}
+
+// The text that a value is.
+pub(crate) fn string_of<'a>(key: Key, value: &'a Value) -> Result<&'a str, AeroFault>
+    ensures { ShowsText result (string_of key (view value.now)) }
+{
+    match value.as_str() {
+        Some(text) => Ok(text),
+        None => Err(AeroFault::WrongKind(key)),
+    }
+}
+
+// The callsign that a text is.
+pub(crate) fn callsign_at(key: Key, text: &[u8]) -> Result<Callsign, AeroFault>
+    ensures { result ≡ callsign_at key text.now }
+{
+    match Callsign::read(text) {
+        Some(callsign) => Ok(callsign),
+        None => Err(AeroFault::OutOfRange(key)),
+    }
+}
+
 // The integer of a key, from `least` to `most`.
 pub(crate) fn number_in(
     key: Key,
@@ -55,7 +88,7 @@ pub(crate) fn number_in(
     value: Option<&Value>,
 ) -> Result<u32, AeroFault>
     ensures value { result ≡ number_in key least most (option_map (λ v. view v.now) value.entry) }
-    ensures range { IfOk result (λ n. n ≤ most) }
+    ensures range { IfOk result (λ n. (least ≤ n) × (n ≤ most)) }
 {
     let Some(value) = value else {
         return Err(AeroFault::MissingKey(key));

@@ -64,7 +64,7 @@ text_of (piece ∷ rest) = piece ++ text_of rest
 abbrev pub letter_text : Category → List ℕ
 letter_text c = letter c ∷ []
 
--- the key's name, and then its letter or its closure's number
+-- the key's name, and then its letter or the number of its closure or entry
 abbrev pub key_name : Key → List ℕ
 key_name key.Version = codes "version"
 key_name key.K = codes "k"
@@ -75,11 +75,22 @@ key_name (key.Row leader) = codes "row "
 key_name key.Closures = codes "closures"
 key_name (key.From i) = codes "from "
 key_name (key.To i) = codes "to "
+key_name key.Clock = codes "clock"
+key_name key.Frozen = codes "frozen"
+key_name (key.FrozenCallsign i) = codes "callsign "
+key_name (key.FrozenSecond i) = codes "second "
+key_name key.Passed = codes "passed"
+key_name (key.PassedCallsign i) = codes "callsign "
+key_name (key.PassedCount i) = codes "count "
 
 abbrev pub key_index : Key → List ℕ
 key_index (key.Row leader) = letter_text leader
 key_index (key.From i) = decimal i
 key_index (key.To i) = decimal i
+key_index (key.FrozenCallsign i) = decimal i
+key_index (key.FrozenSecond i) = decimal i
+key_index (key.PassedCallsign i) = decimal i
+key_index (key.PassedCount i) = decimal i
 key_index k = []
 
 abbrev pub key_line : List ℕ → Key → List ℕ
@@ -89,6 +100,8 @@ abbrev pub unknown_line : Part → List ℕ → List ℕ
 unknown_line part.Top text = text_of (codes "cps: aerodrome: unknown key " ∷ text ∷ codes "\n" ∷ [])
 unknown_line part.Table text = text_of (codes "cps: aerodrome: unknown key table " ∷ text ∷ codes "\n" ∷ [])
 unknown_line (part.Closure i) text = text_of (codes "cps: aerodrome: unknown key closure " ∷ decimal i ∷ codes " " ∷ text ∷ codes "\n" ∷ [])
+unknown_line (part.Frozen i) text = text_of (codes "cps: aerodrome: unknown key frozen " ∷ decimal i ∷ codes " " ∷ text ∷ codes "\n" ∷ [])
+unknown_line (part.Passed i) text = text_of (codes "cps: aerodrome: unknown key passed " ∷ decimal i ∷ codes " " ∷ text ∷ codes "\n" ∷ [])
 
 abbrev pub table_line : TableFault → List ℕ
 table_line (table.OutOfRange leader follower) =
@@ -100,6 +113,10 @@ abbrev pub closure_line : ℕ → ClosureFault → List ℕ
 closure_line i closure.Empty = text_of (codes "cps: aerodrome: closure " ∷ decimal i ∷ codes " empty\n" ∷ [])
 closure_line i closure.TooMany = text_of (codes "cps: aerodrome: closure " ∷ decimal i ∷ codes " too-many\n" ∷ [])
 
+-- what is wrong with an entry of a list, and its number
+abbrev pub entry_line : List ℕ → ℕ → List ℕ
+entry_line words i = text_of (codes "cps: aerodrome: " ∷ words ∷ decimal i ∷ codes "\n" ∷ [])
+
 abbrev pub aerodrome_line : AeroFault → List ℕ
 aerodrome_line aerodrome.NotToml = text_of (codes "cps: aerodrome: not toml\n" ∷ [])
 aerodrome_line (aerodrome.MissingKey k) = key_line (codes "missing ") k
@@ -108,6 +125,12 @@ aerodrome_line (aerodrome.WrongKind k) = key_line (codes "kind ") k
 aerodrome_line (aerodrome.OutOfRange k) = key_line (codes "range ") k
 aerodrome_line (aerodrome.Table fault) = table_line fault
 aerodrome_line (aerodrome.Closure i fault) = closure_line i fault
+aerodrome_line aerodrome.FrozenTooMany = text_of (codes "cps: aerodrome: frozen too-many\n" ∷ [])
+aerodrome_line aerodrome.FrozenNoClock = text_of (codes "cps: aerodrome: frozen no-clock\n" ∷ [])
+aerodrome_line (aerodrome.FrozenRepeat i) = entry_line (codes "frozen repeat ") i
+aerodrome_line (aerodrome.FrozenLate i) = entry_line (codes "frozen late ") i
+aerodrome_line aerodrome.PassedTooMany = text_of (codes "cps: aerodrome: passed too-many\n" ∷ [])
+aerodrome_line (aerodrome.PassedRepeat i) = entry_line (codes "passed repeat ") i
 aerodrome_line (aerodrome.DelayShift k) = text_of (codes "cps: aerodrome: delay shift " ∷ decimal k ∷ codes "\n" ∷ [])
 aerodrome_line aerodrome.Memory = text_of (codes "cps: no memory\n" ∷ [])
 

@@ -1,7 +1,7 @@
 // The lines for an aerodrome file that is none.
 ghost use Rattle.std.specs.Prelude.{◌≡◌};
 ghost use Rattle.cps_outside.specs.SinkState.{Writes};
-ghost use Rattle.cps_top.specs.Lines.{letter_text, key_name, key_index, key_line, unknown_line, table_line, closure_line, aerodrome_line};
+ghost use Rattle.cps_top.specs.Lines.{letter_text, key_name, key_index, key_line, unknown_line, table_line, closure_line, entry_line, aerodrome_line};
 
 use crate::lines::put_all;
 use aerodrome_file::{AeroFault, Key, KeyText, Part};
@@ -36,10 +36,17 @@ fn name(key: &Key) -> &'static [u8]
         Key::Closures => b"closures",
         Key::From(_) => b"from ",
         Key::To(_) => b"to ",
+        Key::Clock => b"clock",
+        Key::Frozen => b"frozen",
+        Key::FrozenCallsign(_) => b"callsign ",
+        Key::FrozenSecond(_) => b"second ",
+        Key::Passed => b"passed",
+        Key::PassedCallsign(_) => b"callsign ",
+        Key::PassedCount(_) => b"count ",
     }
 }
 
-// The letter of a row, or the number of a closure.
+// The letter of a row, or the number of a closure or an entry.
 fn index<'a>(key: &Key, buffer: &'a mut Buffer) -> &'a [u8]
     ensures { result.now ≡ key_index key.now }
 {
@@ -47,6 +54,10 @@ fn index<'a>(key: &Key, buffer: &'a mut Buffer) -> &'a [u8]
         Key::Row(leader) => letter(*leader),
         Key::From(i) => buffer.format(*i).as_bytes(),
         Key::To(i) => buffer.format(*i).as_bytes(),
+        Key::FrozenCallsign(i) => buffer.format(*i).as_bytes(),
+        Key::FrozenSecond(i) => buffer.format(*i).as_bytes(),
+        Key::PassedCallsign(i) => buffer.format(*i).as_bytes(),
+        Key::PassedCount(i) => buffer.format(*i).as_bytes(),
         _ => b"",
     }
 }
@@ -72,6 +83,20 @@ fn say_unknown<E: Sink>(err: &mut E, part: &Part, key: &KeyText) -> Result<(), W
             put_all(
                 err,
                 &[b"cps: aerodrome: unknown key closure ", i, b" ", key, b"\n"],
+            )
+        }
+        Part::Frozen(i) => {
+            let i = buffer.format(*i).as_bytes();
+            put_all(
+                err,
+                &[b"cps: aerodrome: unknown key frozen ", i, b" ", key, b"\n"],
+            )
+        }
+        Part::Passed(i) => {
+            let i = buffer.format(*i).as_bytes();
+            put_all(
+                err,
+                &[b"cps: aerodrome: unknown key passed ", i, b" ", key, b"\n"],
             )
         }
     }
@@ -117,6 +142,15 @@ fn say_closure<E: Sink>(err: &mut E, i: u8, fault: &ClosureFault) -> Result<(), 
     }
 }
 
+// The line of an entry: its list and what is wrong with it, around its number.
+fn say_entry<E: Sink>(err: &mut E, words: &'static [u8], i: u16) -> Result<(), WriteFailed>
+    ensures { Writes (E.state err.old) (E.state err.new) (entry_line words.now i) result }
+{
+    let mut buffer = Buffer::new();
+    let i = buffer.format(i).as_bytes();
+    put_all(err, &[b"cps: aerodrome: ", words, i, b"\n"])
+}
+
 // Writes the line of a fault.
 pub(crate) fn say_aerodrome<E: Sink>(err: &mut E, fault: &AeroFault) -> Result<(), WriteFailed>
     ensures { Writes (E.state err.old) (E.state err.new) (aerodrome_line fault.now) result }
@@ -130,6 +164,12 @@ pub(crate) fn say_aerodrome<E: Sink>(err: &mut E, fault: &AeroFault) -> Result<(
         AeroFault::OutOfRange(key) => say_key(err, b"range ", key),
         AeroFault::Table(fault) => say_table(err, fault),
         AeroFault::Closure(i, fault) => say_closure(err, *i, fault),
+        AeroFault::FrozenTooMany => put_all(err, &[b"cps: aerodrome: frozen too-many\n"]),
+        AeroFault::FrozenNoClock => put_all(err, &[b"cps: aerodrome: frozen no-clock\n"]),
+        AeroFault::FrozenRepeat(i) => say_entry(err, b"frozen repeat ", *i),
+        AeroFault::FrozenLate(i) => say_entry(err, b"frozen late ", *i),
+        AeroFault::PassedTooMany => put_all(err, &[b"cps: aerodrome: passed too-many\n"]),
+        AeroFault::PassedRepeat(i) => say_entry(err, b"passed repeat ", u16::from(*i)),
         AeroFault::DelayShift(k) => {
             let k = buffer.format(*k).as_bytes();
             put_all(err, &[b"cps: aerodrome: delay shift ", k, b"\n"])

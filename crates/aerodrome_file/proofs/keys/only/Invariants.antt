@@ -7,4 +7,4 @@ use Rattle.aerodrome_file.proofs.keys.only.Given as goal
 abbrev pub invariant-loop-key : goal.invariant-loop-key
 invariant-loop-key l =
     (goal.iterator-loop-key).can_next l.key-iterator × (goal.iterator-loop-key).is_finite l.key-iterator
-    × (only l.part (members_view l.key-iterator) ≡ only l.part (members_view l.table.entries))
+    × (only l.fn.version l.part (members_view l.key-iterator) ≡ only l.fn.version l.part (members_view l.table.entries))

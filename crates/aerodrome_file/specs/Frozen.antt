@@ -1,0 +1,91 @@
+-- The clock second and the frozen landings in the file.
+use Rattle.std.specs.Prelude.{◌≡◌, ◌≢◌, ◌≤◌, ◌<◌, ℕ, List, [], ◌∷◌, ◌++◌, Bool, not, ◌+◌, ◌==◌, nat_le, nat_lt, length, codes, bytes_eq, Option, Some, None, Result, Ok, Err, All, AllPairs, if◌then◌else◌}
+use Rattle.std.specs.List.{list_any}
+use Rattle.toml.specs.Data.{Data, array, table, Items, no_items, item, Members, get_member}
+use Rattle.aerodrome_file.specs.declared.frozen_list.FrozenLanding.{FrozenLanding}
+use Rattle.aerodrome_file.specs.declared.fault.AeroFault.{AeroFault}
+use Rattle.aerodrome_file.specs.declared.fault.AeroFault.TheVariants as fault
+use Rattle.aerodrome_file.specs.declared.fault.Key.TheVariants as key
+use Rattle.aerodrome_file.specs.declared.fault.Part.TheVariants as part
+use Rattle.aerodrome_file.specs.Answers.{◌>>=◌}
+use Rattle.aerodrome_file.specs.Keys.{only}
+use Rattle.aerodrome_file.specs.Values.{present, integer_of, string_of, callsign_at, at_most}
+use Rattle.aerodrome_file.specs.Closures.{are_tables, items_length}
+
+-- the clock second, none where the key is absent
+unfoldable pub clock_in : Option Data → Result (Option ℕ) AeroFault
+clock_in None = Ok None
+clock_in (Some d) = do
+  number ← integer_of key.Clock d
+  now ← at_most key.Clock 172799 number
+  Ok (Some now)
+
+-- a landing before has this callsign
+abbrev pub has_frozen : List FrozenLanding → List ℕ → Bool
+has_frozen before name = list_any (λ f. bytes_eq f.callsign name) before
+
+-- at the clock second plus freeze, or later
+abbrev pub is_late : ℕ → ℕ → ℕ → Bool
+is_late clock freeze second = nat_le (clock + freeze) second
+
+-- frozen landing i, behind those before it
+unfoldable pub frozen_entry : ℕ → ℕ → ℕ → List FrozenLanding → Members → Result FrozenLanding AeroFault
+frozen_entry i clock freeze before ms = do
+  _ ← only 1 (part.Frozen i) ms
+  callsign ← present (key.FrozenCallsign i) (get_member (codes "callsign") ms)
+  second ← present (key.FrozenSecond i) (get_member (codes "second") ms)
+  text ← string_of (key.FrozenCallsign i) callsign
+  number ← integer_of (key.FrozenSecond i) second
+  name ← callsign_at (key.FrozenCallsign i) text
+  at ← at_most (key.FrozenSecond i) 172799 number
+  if has_frozen before name then Err (fault.FrozenRepeat i)
+      else if is_late clock freeze at then Err (fault.FrozenLate i)
+      else Ok (record { callsign = name; second = at })
+
+-- the frozen landing that a value is
+unfoldable pub frozen_of : ℕ → ℕ → ℕ → List FrozenLanding → Data → Result FrozenLanding AeroFault
+frozen_of i clock freeze before (table ms) = frozen_entry i clock freeze before ms
+frozen_of i clock freeze before d = Err (fault.WrongKind key.Frozen)
+
+-- those before and those that tables are, from frozen landing i on
+unfoldable pub frozen_from : ℕ → ℕ → ℕ → List FrozenLanding → Items → Result (List FrozenLanding) AeroFault
+frozen_from i clock freeze before no_items = Ok before
+frozen_from i clock freeze before (item d ds) = do
+  f ← frozen_of i clock freeze before d
+  frozen_from (i + 1) clock freeze (before ++ f ∷ []) ds
+
+-- the frozen landings of an array that has some
+abbrev pub frozen_after : Option ℕ → ℕ → Items → Result (List FrozenLanding) AeroFault
+frozen_after None freeze ds = Err fault.FrozenNoClock
+frozen_after (Some now) freeze ds = frozen_from 1 now freeze [] ds
+
+-- the frozen landings of the file, none where the key is absent
+unfoldable pub frozen_in : Option ℕ → ℕ → Option Data → Result (List FrozenLanding) AeroFault
+frozen_in clock freeze None = Ok []
+frozen_in clock freeze (Some (array ds)) =
+    if not (are_tables ds) then Err (fault.WrongKind key.Frozen)
+    else if nat_lt 500 (items_length ds) then Err fault.FrozenTooMany
+    else if items_length ds == 0 then Ok []
+    else frozen_after clock freeze ds
+frozen_in clock freeze (Some d) = Err (fault.WrongKind key.Frozen)
+
+-- a second of the two days, before the clock second plus freeze
+pub record IsFrozen (clock freeze : ℕ) (f : FrozenLanding) : Type 0 where
+  pub range : f.second ≤ 172799
+  pub early : f.second < clock + freeze
+
+-- at most 500 of these, with different callsigns
+pub record AreFrozen (clock freeze : ℕ) (fs : List FrozenLanding) : Type 0 where
+  pub few : length fs ≤ 500
+  pub seconds : All (IsFrozen clock freeze) fs
+  pub callsigns : AllPairs (λ f later. f.callsign ≢ later.callsign) fs
+
+-- none without a clock second
+abbrev pub AreFrozenBy : Option ℕ → ℕ → List FrozenLanding → Type 0
+AreFrozenBy None freeze fs = fs ≡ []
+AreFrozenBy (Some now) freeze fs = AreFrozen now freeze fs
+
+-- a second of the two days, or none
+abbrev pub IsClock : Option ℕ → Type 0
+IsClock None = Unit {0}
+IsClock (Some now) = now ≤ 172799

@@ -1,0 +1,149 @@
+// The clock second and the frozen landings in the file.
+ghost use Rattle.std.specs.Prelude.{◌≡◌, ◌≤◌, false, length, option_map, [], IfOk};
+ghost use Rattle.toml.specs.View.{view, items_view, table_view};
+ghost use Rattle.aerodrome_file.specs.Answers.{Gives};
+ghost use Rattle.aerodrome_file.specs.Frozen.{clock_in, has_frozen, is_late, frozen_entry, frozen_of, frozen_from, frozen_in, IsClock, IsFrozen, AreFrozen, AreFrozenBy};
+
+use crate::closures::are_tables;
+use crate::fault::{AeroFault, Key, Part};
+use crate::frozen_list::{FrozenLanding, FrozenList};
+use crate::keys::only;
+use crate::values::{at_most, callsign_at, get, integer_of, present, string_of};
+use cps_base::Callsign;
+use std::alloc::Global;
+use toml::{Table, Value};
+
+// The clock second, none where the key is absent.
+#[tactic(auto, unfolding(crate::specs::Frozen::clock_in))]
+pub(crate) fn clock_in(value: Option<&Value>) -> Result<Option<u32>, AeroFault>
+    ensures value { result ≡ clock_in (option_map (λ v. view v.now) value.entry) }
+    ensures range { IfOk result IsClock }
+{
+    let Some(value) = value else {
+        return Ok(None);
+    };
+    let number = integer_of(Key::Clock, value)?;
+    let now = at_most(Key::Clock, 172_799, number)?;
+    Ok(Some(now))
+}
+
+// Whether a landing before has this callsign.
+fn has_frozen(before: &[FrozenLanding], name: Callsign) -> bool
+    ensures { result ≡ has_frozen before.now name }
+{
+    before.iter().any(|f| f.callsign == name)
+}
+
+// Whether a second is at the clock second plus `freeze`, or later.
+fn is_late(clock: u32, freeze: u32, second: u32) -> bool
+    ensures { result ≡ is_late clock freeze second }
+{
+    u64::from(second) >= u64::from(clock) + u64::from(freeze)
+}
+
+// A frozen landing, behind those before it.
+#[tactic(auto, unfolding(crate::specs::Frozen::frozen_entry))]
+fn frozen_entry(
+    number: u16,
+    clock: u32,
+    freeze: u32,
+    before: &[FrozenLanding],
+    table: &Table,
+) -> Result<FrozenLanding, AeroFault>
+    ensures value { result ≡ frozen_entry number clock freeze before.now (table_view table.now) }
+    ensures range { IfOk result (IsFrozen clock freeze) }
+    ensures new { IfOk result (λ f. has_frozen before.now f.callsign ≡ false) }
+{
+    only(1, Part::Frozen(number), table)?;
+    let callsign = present(Key::FrozenCallsign(number), get(table, "callsign"))?;
+    let second = present(Key::FrozenSecond(number), get(table, "second"))?;
+    let text = string_of(Key::FrozenCallsign(number), callsign)?;
+    let second = integer_of(Key::FrozenSecond(number), second)?;
+    let callsign = callsign_at(Key::FrozenCallsign(number), text.as_bytes())?;
+    let second = at_most(Key::FrozenSecond(number), 172_799, second)?;
+    if has_frozen(before, callsign) {
+        return Err(AeroFault::FrozenRepeat(number));
+    }
+    if is_late(clock, freeze, second) {
+        return Err(AeroFault::FrozenLate(number));
+    }
+    Ok(FrozenLanding { callsign, second })
+}
+
+// The frozen landing that a value is.
+#[tactic(auto, unfolding(crate::specs::Frozen::frozen_of))]
+fn frozen_of(
+    number: u16,
+    clock: u32,
+    freeze: u32,
+    before: &[FrozenLanding],
+    value: &Value,
+) -> Result<FrozenLanding, AeroFault>
+    ensures value { result ≡ frozen_of number clock freeze before.now (view value.now) }
+    ensures range { IfOk result (IsFrozen clock freeze) }
+    ensures new { IfOk result (λ f. has_frozen before.now f.callsign ≡ false) }
+{
+    let Some(table) = value.as_table() else {
+        return Err(AeroFault::WrongKind(Key::Frozen));
+    };
+    frozen_entry(number, clock, freeze, before, table)
+}
+
+// The frozen landings that tables are.
+#[tactic(auto, unfolding(crate::specs::Frozen::frozen_from))]
+fn frozen_from(
+    alloc: Global,
+    clock: u32,
+    freeze: u32,
+    values: &[Value],
+) -> Result<FrozenList, AeroFault>
+    requires { length values.now ≤ 500 }
+    ensures value { Gives result (frozen_from 1 clock freeze [] (items_view values.now)) }
+    ensures range { IfOk result (AreFrozen clock freeze) }
+{
+    let mut entries = Vec::new(alloc);
+    let mut number: u16 = 1;
+    let mut rest = values;
+    while let [first, after @ ..] = rest {
+        let entry = frozen_of(number, clock, freeze, entries.as_slice(), first)?;
+        let Ok(()) = entries.push(entry) else {
+            return Err(AeroFault::Memory);
+        };
+        number += 1;
+        rest = after;
+    }
+    Ok(FrozenList::new(entries))
+}
+
+// The frozen landings of the file, none where the key is absent.
+#[tactic(auto, using(crate::proofs::Items::items_length_view), unfolding(crate::specs::Frozen::frozen_in))]
+pub(crate) fn frozen_in(
+    alloc: Global,
+    clock: Option<u32>,
+    freeze: u32,
+    value: Option<&Value>,
+) -> Result<FrozenList, AeroFault>
+    ensures value { Gives result (frozen_in clock freeze (option_map (λ v. view v.now) value.entry)) }
+    ensures range { IfOk result (AreFrozenBy clock freeze) }
+{
+    let Some(value) = value else {
+        return Ok(FrozenList::new(Vec::new(alloc)));
+    };
+    let Some(values) = value.as_array() else {
+        return Err(AeroFault::WrongKind(Key::Frozen));
+    };
+    let values = values.as_slice();
+    if !are_tables(values) {
+        return Err(AeroFault::WrongKind(Key::Frozen));
+    }
+    if values.len() > 500 {
+        return Err(AeroFault::FrozenTooMany);
+    }
+    if values.is_empty() {
+        return Ok(FrozenList::new(Vec::new(alloc)));
+    }
+    match clock {
+        None => Err(AeroFault::FrozenNoClock),
+        Some(clock) => frozen_from(alloc, clock, freeze, values),
+    }
+}

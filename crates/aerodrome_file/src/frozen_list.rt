@@ -1,0 +1,52 @@
+ghost use Rattle.std.specs.Prelude.{◌≡◌, ◌<◌, length, slice_get, Some};
+
+use cps_base::Callsign;
+use std::marker::Model;
+
+/// A landing that was frozen before.
+#[derive(Clone, Copy, Debug, PartialEq, Eq)]
+pub struct FrozenLanding {
+    /// The callsign of the flight.
+    pub callsign: Callsign,
+    /// The second at which it is frozen, 0 to 172,799.
+    pub second: u32,
+}
+
+/// The landings that were frozen before. Contracts see them as a list.
+#[derive(Drop)]
+pub struct FrozenList {
+    entries: Vec<FrozenLanding>,
+}
+
+impl Model for FrozenList {
+    ghost use Rattle.std.specs.Prelude.{List};
+    ghost use Rattle.aerodrome_file.specs.declared.frozen_list.FrozenLanding.{FrozenLanding};
+
+    ghost Value = { List FrozenLanding };
+
+    ghost view = { λ l. l.entries.items };
+}
+
+impl FrozenList {
+    /// The list of these entries.
+    pub fn new(entries: Vec<FrozenLanding>) -> FrozenList
+        ensures { result ≡ entries.items }
+    {
+        FrozenList { entries }
+    }
+
+    /// How many entries there are.
+    pub fn len(&self) -> usize
+        ensures { result ≡ length self.now }
+    {
+        self.entries.len()
+    }
+
+    /// The i-th entry, counted from 0.
+    pub fn at(&self, i: usize) -> FrozenLanding
+        requires { i < length self.now }
+        ensures { slice_get self.now i ≡ Some result }
+    {
+        self.entries[i]
+    }
+}

@@ -1,0 +1,114 @@
+// The counts of passed flights in the file.
+ghost use Rattle.std.specs.Prelude.{◌≡◌, ◌≤◌, false, length, option_map, [], IfOk};
+ghost use Rattle.toml.specs.View.{view, items_view, table_view};
+ghost use Rattle.aerodrome_file.specs.Answers.{Gives};
+ghost use Rattle.aerodrome_file.specs.Passed.{has_passed, passed_entry, passed_of, passed_from, passed_in, ArePassed};
+
+use crate::closures::are_tables;
+use crate::fault::{AeroFault, Key, Part};
+use crate::keys::only;
+use crate::passed_list::{PassedCount, PassedList};
+use crate::values::{callsign_at, get, integer_of, present, string_of, within};
+use cps_base::Callsign;
+use std::alloc::Global;
+use toml::{Table, Value};
+
+// Whether an entry before has this callsign.
+fn has_passed(before: &[PassedCount], name: Callsign) -> bool
+    ensures { result ≡ has_passed before.now name }
+{
+    before.iter().any(|p| p.callsign == name)
+}
+
+// An entry, behind those before it.
+#[tactic(auto, unfolding(crate::specs::Passed::passed_entry))]
+fn passed_entry(
+    number: u8,
+    k: u8,
+    before: &[PassedCount],
+    table: &Table,
+) -> Result<PassedCount, AeroFault>
+    ensures value { result ≡ passed_entry number k before.now (table_view table.now) }
+    ensures range { IfOk result (λ p. (1 ≤ p.count) × (p.count ≤ k)) }
+    ensures new { IfOk result (λ p. has_passed before.now p.callsign ≡ false) }
+{
+    only(1, Part::Passed(number), table)?;
+    let callsign = present(Key::PassedCallsign(number), get(table, "callsign"))?;
+    let count = present(Key::PassedCount(number), get(table, "count"))?;
+    let text = string_of(Key::PassedCallsign(number), callsign)?;
+    let count = integer_of(Key::PassedCount(number), count)?;
+    let callsign = callsign_at(Key::PassedCallsign(number), text.as_bytes())?;
+    let count = within(Key::PassedCount(number), 1, u32::from(k), count)?;
+    if has_passed(before, callsign) {
+        return Err(AeroFault::PassedRepeat(number));
+    }
+    Ok(PassedCount {
+        callsign,
+        count: count as u8,
+    })
+}
+
+// The entry that a value is.
+#[tactic(auto, unfolding(crate::specs::Passed::passed_of))]
+fn passed_of(
+    number: u8,
+    k: u8,
+    before: &[PassedCount],
+    value: &Value,
+) -> Result<PassedCount, AeroFault>
+    ensures value { result ≡ passed_of number k before.now (view value.now) }
+    ensures range { IfOk result (λ p. (1 ≤ p.count) × (p.count ≤ k)) }
+    ensures new { IfOk result (λ p. has_passed before.now p.callsign ≡ false) }
+{
+    let Some(table) = value.as_table() else {
+        return Err(AeroFault::WrongKind(Key::Passed));
+    };
+    passed_entry(number, k, before, table)
+}
+
+// The entries that tables are.
+#[tactic(auto, unfolding(crate::specs::Passed::passed_from))]
+fn passed_from(alloc: Global, k: u8, values: &[Value]) -> Result<PassedList, AeroFault>
+    requires { length values.now ≤ 60 }
+    ensures value { Gives result (passed_from 1 k [] (items_view values.now)) }
+    ensures range { IfOk result (ArePassed k) }
+{
+    let mut entries = Vec::new(alloc);
+    let mut number: u8 = 1;
+    let mut rest = values;
+    while let [first, after @ ..] = rest {
+        let entry = passed_of(number, k, entries.as_slice(), first)?;
+        let Ok(()) = entries.push(entry) else {
+            return Err(AeroFault::Memory);
+        };
+        number += 1;
+        rest = after;
+    }
+    Ok(PassedList::new(entries))
+}
+
+// The entries of the file, none where the key is absent.
+#[tactic(auto, using(crate::proofs::Items::items_length_view), unfolding(crate::specs::Passed::passed_in))]
+pub(crate) fn passed_in(
+    alloc: Global,
+    k: u8,
+    value: Option<&Value>,
+) -> Result<PassedList, AeroFault>
+    ensures value { Gives result (passed_in k (option_map (λ v. view v.now) value.entry)) }
+    ensures range { IfOk result (ArePassed k) }
+{
+    let Some(value) = value else {
+        return Ok(PassedList::new(Vec::new(alloc)));
+    };
+    let Some(values) = value.as_array() else {
+        return Err(AeroFault::WrongKind(Key::Passed));
+    };
+    let values = values.as_slice();
+    if !are_tables(values) {
+        return Err(AeroFault::WrongKind(Key::Passed));
+    }
+    if values.len() > 60 {
+        return Err(AeroFault::PassedTooMany);
+    }
+    passed_from(alloc, k, values)
+}

@@ -1,0 +1,52 @@
+ghost use Rattle.std.specs.Prelude.{◌≡◌, ◌<◌, length, slice_get, Some};
+
+use cps_base::Callsign;
+use std::marker::Model;
+
+/// By how many flights a waiting flight was passed before.
+#[derive(Clone, Copy, Debug, PartialEq, Eq)]
+pub struct PassedCount {
+    /// The callsign of the flight.
+    pub callsign: Callsign,
+    /// By how many flights it was passed, 1 to `k`.
+    pub count: u8,
+}
+
+/// The counts of flights that were passed before. Contracts see them as a list.
+#[derive(Drop)]
+pub struct PassedList {
+    entries: Vec<PassedCount>,
+}
+
+impl Model for PassedList {
+    ghost use Rattle.std.specs.Prelude.{List};
+    ghost use Rattle.aerodrome_file.specs.declared.passed_list.PassedCount.{PassedCount};
+
+    ghost Value = { List PassedCount };
+
+    ghost view = { λ l. l.entries.items };
+}
+
+impl PassedList {
+    /// The list of these entries.
+    pub fn new(entries: Vec<PassedCount>) -> PassedList
+        ensures { result ≡ entries.items }
+    {
+        PassedList { entries }
+    }
+
+    /// How many entries there are.
+    pub fn len(&self) -> usize
+        ensures { result ≡ length self.now }
+    {
+        self.entries.len()
+    }
+
+    /// The i-th entry, counted from 0.
+    pub fn at(&self, i: usize) -> PassedCount
+        requires { i < length self.now }
+        ensures { slice_get self.now i ≡ Some result }
+    {
+        self.entries[i]
+    }
+}
