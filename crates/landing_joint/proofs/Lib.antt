@@ -15,3 +15,8 @@ pub mod StepLaws
 pub mod InLine
 pub mod RefusedSteps
 pub mod FirstBest
+pub mod AuditLists
+pub mod LandingOrder
+pub mod AuditRules
+pub mod AuditLines
+pub mod Audit

@@ -6,6 +6,7 @@ pub mod StepLaws
 pub mod SoundProblem
 pub mod CompletingPairs
 pub mod LeastChoiceLaws
+pub mod AuditLaws
 pub mod ProblemLaws
 pub mod FirstBestLaws
 pub mod Shift

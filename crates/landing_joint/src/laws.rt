@@ -6,6 +6,7 @@ ghost use Rattle.landing_joint.specs.LeastChoiceLaws.{LeastChoicesLaw, ChoiceLaw
 ghost use Rattle.landing_joint.specs.ClockLaws.{ClockKeepsPlanLaw, ClockShowsPlanLaw, ClockKeepsSoundLaw};
 ghost use Rattle.landing_joint.specs.StepLaws.{EventKeepsSoundLaw, StepKeepsSoundLaw, RunKeepsSoundLaw};
 ghost use Rattle.landing_joint.specs.PassedOver.{ClockCountsLaw, StepCountsLaw, FewPassLaw, FewPassLaterLaw, FewPassFirstLaw, ClockCountsExactlyLaw, FewPassAnyoneLaw};
+ghost use Rattle.landing_joint.specs.AuditLaws.{AuditLaw, ShownPlanIsCleanLaw};
 ghost use Rattle.landing_joint.specs.Shift.{MoreShiftLaw, MoreShiftIsNoWorseLaw, LessShiftIsInfeasibleLaw};
 
 /// The feasible schedules of a sound situation are its frozen landings joined with a feasible list of its problem, with
@@ -100,4 +101,11 @@ pub fn few_pass_a_waiting_flight()
     ensures first { FewPassFirstLaw }
     ensures exactly { ClockCountsExactlyLaw }
     ensures anyone { FewPassAnyoneLaw }
+{}
+
+/// In a sound situation nothing is found in a plan block exactly where it is that of a feasible schedule, and so nothing
+/// in the block of the plan that a sound state shows.
+pub fn findings_are_whole()
+    ensures clean { AuditLaw }
+    ensures shown { ShownPlanIsCleanLaw }
 {}

@@ -4,7 +4,7 @@ use Rattle.landing_rules.specs.Flights.{Situation, Schedule}
 use Rattle.std.specs.List.{AllZip}
 use Rattle.landing_rules.specs.Rules.{IsFeasible, IsBest, IsTight, HaveSameOrder, objective}
 use Rattle.landing_rules.specs.Testing.{is_feasible}
-use Rattle.landing_rules.proofs.Testing.{is_feasible-Decides}
+use Rattle.landing_rules.specs.shared.Tests.{is_feasible-Decides}
 
 -- what holds of each list of two holds of each list that is as long as the flights are
 pub of_two : (P : Schedule → Type 0) → ((a b : ℕ) → P (a ∷ b ∷ [])) → (u : Schedule) → length u ≡ 2 → P u

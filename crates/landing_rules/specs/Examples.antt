@@ -6,6 +6,8 @@ use Rattle.landing_rules.specs.declared.objective.Objective.{Objective}
 use Rattle.landing_rules.specs.declared.objective.Objective.TheVariants.{Makespan, Delay}
 use Rattle.landing_rules.specs.Flights.{Span, Flight, Aerodrome, Situation}
 use Rattle.landing_rules.specs.Events.{newcomer, situation_after, Clock, opening_situation}
+use Rattle.landing_rules.specs.Text.{ShownLanding}
+use Rattle.landing_rules.specs.Audit.{Block}
 
 abbrev pub sample_table : List (List ℕ)
 sample_table =
@@ -84,4 +86,30 @@ five = record {
       weighted (codes "E1") E 1040 1 (codes "D1" ∷ []) ∷ []);
   closures = [];
   clock = None;
+}
+
+-- ---- plan blocks
+
+abbrev pub waiting_line : List ℕ → ℕ → ShownLanding
+waiting_line callsign second = record { callsign = callsign; second = second; frozen = false }
+
+abbrev pub frozen_line : List ℕ → ℕ → ShownLanding
+frozen_line callsign second = record { callsign = callsign; second = second; frozen = true }
+
+abbrev pub makespan_block : ℕ → List ShownLanding → Block
+makespan_block value lines = record { objective = Makespan; plan = record { value = value; landings = lines } }
+
+-- F1 and then A1, with this value and these seconds
+abbrev pub block_of_pair : ℕ → ℕ → ℕ → Block
+block_of_pair value f a = makespan_block value (waiting_line (codes "F1") f ∷ waiting_line (codes "A1") a ∷ [])
+
+-- the five by delay, with this value, where A1, F1 and B1 are followed by these two
+abbrev pub delay_block_of_five : ℕ → ShownLanding → ShownLanding → Block
+delay_block_of_five value fourth fifth = record {
+  objective = Delay;
+  plan = record {
+    value = value;
+    landings =
+        waiting_line (codes "A1") 1000 ∷ waiting_line (codes "F1") 1180 ∷ waiting_line (codes "B1") 1240 ∷ fourth ∷ fifth ∷ [];
+  };
 }

@@ -1,3 +1,5 @@
--- Lemmas that crates above cite too: how many elements come before one in a total order, and the ranks of flights.
+-- Lemmas that crates above cite too: how many elements come before one in a total order, the ranks of flights, and that
+-- the tests decide the rules.
 pub mod Counting
 pub mod Ranks
+pub mod Tests

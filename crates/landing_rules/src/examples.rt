@@ -114,3 +114,36 @@ pub fn first_best_of_two_orders()
     ensures best { IsBest closed_pair (1200 ∷ 1010 ∷ []) }
     ensures not_first { IsFirstBest closed_pair (1200 ∷ 1010 ∷ []) → ⊥ }
 {}
+
+ghost use Rattle.landing_rules.specs.Audit.{findings, Missing, Unknown, Twice, Order, Mark, Closed, Separation, Precedence, Moved, Early, Shift, OtherObjective, Value};
+ghost use Rattle.landing_rules.specs.declared.objective.Objective.TheVariants.{Delay};
+ghost use Rattle.landing_rules.specs.Examples.{waiting_line, frozen_line, makespan_block, block_of_pair, delay_block_of_five};
+
+/// What is found in blocks whose names are wrong, whatever else is.
+pub fn blocks_are_audited_by_name()
+    ensures missing { findings (pair 1) (makespan_block 1000 (waiting_line (codes "A1") 1000 ∷ [])) ≡ Missing (codes "F1") ∷ [] }
+    ensures twice { findings (pair 1) (makespan_block 0 (waiting_line (codes "ZZ9") 1000 ∷ waiting_line (codes "ZZ9") 1000 ∷ [])) ≡
+        Missing (codes "A1") ∷ Missing (codes "F1") ∷ Unknown (codes "ZZ9") ∷ Unknown (codes "ZZ9") ∷ Twice (codes "ZZ9") ∷ [] }
+{}
+
+/// What is found in blocks of the pair whose names are right.
+pub fn blocks_are_audited_by_rule()
+    ensures clean { findings (pair 1) (block_of_pair 1070 1010 1070) ≡ [] }
+    ensures separation { findings (pair 1) (block_of_pair 1069 1010 1069) ≡ Separation (codes "F1") (codes "A1") ∷ [] }
+    ensures shift { findings (pair 0) (block_of_pair 1070 1010 1070) ≡ Shift (codes "F1") 1 2 ∷ Shift (codes "A1") 2 1 ∷ [] }
+    ensures level { findings (pair 1) (makespan_block 1000 (frozen_line (codes "A1") 1000 ∷ waiting_line (codes "F1") 1000 ∷ [])) ≡
+        Order 2 ∷ Mark (codes "A1") ∷ Closed (codes "F1") 1000 ∷ Separation (codes "A1") (codes "F1") ∷ [] }
+    ensures frozen { findings pair_at_900 (makespan_block 1180 (waiting_line (codes "A1") 1000 ∷ frozen_line (codes "F1") 1180 ∷ [])) ≡
+        Moved (codes "F1") 1010 ∷ Early (codes "A1") ∷ [] }
+    ensures every_pair { findings (three 1) (makespan_block 1010 (waiting_line (codes "A1") 1000 ∷ waiting_line (codes "A2") 1001 ∷ waiting_line (codes "F1") 1010 ∷ [])) ≡
+        Separation (codes "A1") (codes "A2") ∷ Separation (codes "A1") (codes "F1") ∷ Separation (codes "A2") (codes "F1") ∷ [] }
+{}
+
+/// What is found in blocks of five flights by delay.
+pub fn blocks_are_audited_by_delay()
+    ensures clean { findings five (delay_block_of_five 1080 (waiting_line (codes "D1") 1350) (waiting_line (codes "E1") 1410)) ≡ [] }
+    ensures value { findings five (delay_block_of_five 1079 (waiting_line (codes "D1") 1350) (waiting_line (codes "E1") 1410)) ≡ Value 1080 ∷ [] }
+    ensures precedence { findings five (delay_block_of_five 1100 (waiting_line (codes "E1") 1360) (waiting_line (codes "D1") 1420)) ≡
+        Precedence (codes "D1") (codes "E1") ∷ [] }
+    ensures objective { findings (pair 1) (record { objective = Delay; plan = record { value = 1070; landings = (block_of_pair 0 1010 1070).plan.landings } }) ≡ OtherObjective ∷ [] }
+{}

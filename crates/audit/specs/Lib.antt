@@ -1,0 +1,2 @@
+-- The findings of the rules in those of the code.
+pub mod Findings

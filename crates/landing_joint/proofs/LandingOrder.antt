@@ -1,0 +1,135 @@
+-- Landings in the order of their seconds, and what does not hang on their order.
+use Rattle.std.proofs.Common.{◌≡◌, ◌≢◌, ℕ, ◌+◌, ◌<◌, ◌≤◌, inl, inr, List, [], ◌∷◌, get_or, map, filter, cond, Bool, true, false, nat_lt, count_by, arith, refl, sym, ap, ap₂}
+use Rattle.std.specs.Prelude.{All, IsTrue, IsPermutation}
+use Rattle.std.specs.Ordering.{is_lt}
+use Rattle.std.proofs.lemmas.Bool.{ltb-true, ltb-false}
+use Rattle.std.proofs.lemmas.List.Sorted.{IsPermutation-refl, IsPermutation-cons, IsPermutation-trans, IsPermutation-swap, IsPermutation-map, All-permutation, sum_by-IsPermutation}
+use Rattle.landing_rules.specs.declared.objective.Objective.{Objective}
+use Rattle.landing_rules.specs.declared.objective.Objective.TheVariants.{Makespan, Delay}
+use Rattle.landing_rules.specs.Flights.{Flight, Situation, Landing, horizon}
+use Rattle.landing_rules.specs.Rules.{last_second, is_open, waits, arrival_cmp, rank_among, place, greatest, delay, cost, ArePairSeparated, IsPairInPrecedence, IsShiftKept, IsFrozenKept, KeepsShift, KeepsRules}
+use Rattle.landing_rules.specs.Events.{insert_landing, in_landing_order}
+use Rattle.landing_rules.specs.shared.Counting.{Member}
+use Rattle.landing_joint.proofs.ByNumber.{member_insert, order_member}
+use Rattle.landing_joint.proofs.AuditLists.{Each}
+
+-- ---- lists strictly rising by second
+
+abbrev pub Strict : List Landing → Type 0
+Strict fs = Each (λ f g. f.second < g.second) fs
+
+pub strict_equal : (xs ys : List Landing) → Strict xs → Strict ys → ((z : Landing) → Member z xs → Member z ys) → ((z : Landing) → Member z ys → Member z xs) → xs ≡ ys
+strict_equal [] [] d e f g = refl
+strict_equal [] (y ∷ ys) d e f g = absurd (g y (inl refl))
+strict_equal (x ∷ xs) [] d e f g = absurd (f x (inl refl))
+strict_equal (x ∷ xs) (y ∷ ys) d e f g = ap₂ (λ (z : Landing) (zs : List Landing). z ∷ zs) same (strict_equal xs ys d.1 e.1 forth back)
+  where
+    same : x ≡ y
+    same = elim (f x (inl refl)) [
+      | inl s ↦ s
+      | inr i ↦ elim (g y (inl refl)) [ inl s ↦ sym s | inr j ↦ absurd (let a = e.0 x i in let b = d.0 y j in omega arith) ]
+    ]
+
+    forth : (z : Landing) → Member z xs → Member z ys
+    forth z i = elim (f z (inr i)) [ inl s ↦ absurd (let a = d.0 z i in let b = ap (λ (w : Landing). w.second) s in let c = ap (λ (w : Landing). w.second) same in omega arith) | inr j ↦ j ]
+
+    back : (z : Landing) → Member z ys → Member z xs
+    back z i = elim (g z (inr i)) [ inl s ↦ absurd (let a = e.0 z i in let b = ap (λ (w : Landing). w.second) s in let c = ap (λ (w : Landing). w.second) same in omega arith) | inr j ↦ j ]
+
+-- ---- by landing order
+
+pub insert-moves : (f : Landing) (all : List Landing) → IsPermutation (f ∷ all) (insert_landing f all)
+insert-moves f [] = IsPermutation-refl (f ∷ [])
+insert-moves f (g ∷ rest) = by (nat_lt g.second f.second) (insert-moves f rest)
+  where
+    by : (b : Bool) → IsPermutation (f ∷ rest) (insert_landing f rest) → IsPermutation (f ∷ g ∷ rest) (cond b (g ∷ insert_landing f rest) (f ∷ g ∷ rest))
+    by true h = IsPermutation-trans (f ∷ g ∷ rest) (g ∷ f ∷ rest) (g ∷ insert_landing f rest)
+        (IsPermutation-swap (f ∷ g ∷ rest) (g ∷ f ∷ rest) 0 1 (omega arith) (omega arith) refl) (IsPermutation-cons g (f ∷ rest) (insert_landing f rest) h)
+    by false h = IsPermutation-refl (f ∷ g ∷ rest)
+
+pub order-moves : (all : List Landing) → IsPermutation all (in_landing_order all)
+order-moves [] = IsPermutation-refl []
+order-moves (f ∷ rest) = IsPermutation-trans (f ∷ rest) (f ∷ in_landing_order rest) (insert_landing f (in_landing_order rest)) (IsPermutation-cons f rest (in_landing_order rest) (order-moves rest)) (insert-moves f (in_landing_order rest))
+
+-- landings of different seconds are strictly rising in their order
+pub strict_insert : (f : Landing) (fs : List Landing) → Strict fs → ((g : Landing) → Member g fs → g.second ≢ f.second) → Strict (insert_landing f fs)
+strict_insert f [] e ne = (λ y m. absurd m, tt)
+strict_insert f (x ∷ fs) e ne = go (nat_lt x.second f.second) refl (strict_insert f fs e.1 (λ g m. ne g (inr m)))
+  where
+    go : (b : Bool) → nat_lt x.second f.second ≡ b → Strict (insert_landing f fs) → Strict (cond b (x ∷ insert_landing f fs) (f ∷ x ∷ fs))
+    go true q ih = (λ y m. elim (member_insert f y fs m) [ inl s ↦ (let a = ltb-true x.second f.second q in let b = ap (λ (w : Landing). w.second) s in omega arith) | inr k ↦ e.0 y k ], ih)
+    go false q ih = (λ y m. elim m [ inl s ↦ (let a = ltb-false x.second f.second q in let b = ap (λ (w : Landing). w.second) s in let c = ne x (inl refl) in omega arith) | inr k ↦ (let a = ltb-false x.second f.second q in let b = e.0 y k in let c = ne x (inl refl) in omega arith) ], e)
+
+pub strict_order : (fs : List Landing) → Each (λ f g. f.second ≢ g.second) fs → Strict (in_landing_order fs)
+strict_order [] e = tt
+strict_order (f ∷ fs) e = strict_insert f (in_landing_order fs) (strict_order fs e.1) (λ g m q. e.0 g (order_member g fs m) (sym q))
+
+-- ---- the rules and the objective do not hang on the order of landings
+
+pub filter_insert : (f : Landing) (fs : List Landing) → IsPermutation (filter waits (f ∷ fs)) (filter waits (insert_landing f fs))
+filter_insert f [] = IsPermutation-refl (filter waits (f ∷ []))
+filter_insert f (g ∷ fs) = go (nat_lt g.second f.second) (filter_insert f fs)
+  where
+    by : (c d : Bool) → IsPermutation (cond c (f ∷ filter waits fs) (filter waits fs)) (filter waits (insert_landing f fs)) → IsPermutation (cond c (f ∷ cond d (g ∷ filter waits fs) (filter waits fs)) (cond d (g ∷ filter waits fs) (filter waits fs))) (cond d (g ∷ filter waits (insert_landing f fs)) (filter waits (insert_landing f fs)))
+    by true true h = IsPermutation-trans (f ∷ g ∷ filter waits fs) (g ∷ f ∷ filter waits fs) (g ∷ filter waits (insert_landing f fs)) (IsPermutation-swap (f ∷ g ∷ filter waits fs) (g ∷ f ∷ filter waits fs) 0 1 (omega arith) (omega arith) refl) (IsPermutation-cons g (f ∷ filter waits fs) (filter waits (insert_landing f fs)) h)
+    by true false h = h
+    by false true h = IsPermutation-cons g (filter waits fs) (filter waits (insert_landing f fs)) h
+    by false false h = h
+
+    go : (b : Bool) → IsPermutation (filter waits (f ∷ fs)) (filter waits (insert_landing f fs)) → IsPermutation (filter waits (f ∷ g ∷ fs)) (filter waits (cond b (g ∷ insert_landing f fs) (f ∷ g ∷ fs)))
+    go true h = by (waits f) (waits g) h
+    go false h = IsPermutation-refl (filter waits (f ∷ g ∷ fs))
+
+pub filter_order : (fs : List Landing) → IsPermutation (filter waits fs) (filter waits (in_landing_order fs))
+filter_order [] = IsPermutation-refl []
+filter_order (f ∷ fs) = IsPermutation-trans (filter waits (f ∷ fs)) (filter waits (f ∷ in_landing_order fs)) (filter waits (insert_landing f (in_landing_order fs))) (by (waits f) (filter_order fs)) (filter_insert f (in_landing_order fs))
+  where
+    by : (b : Bool) → IsPermutation (filter waits fs) (filter waits (in_landing_order fs)) → IsPermutation (cond b (f ∷ filter waits fs) (filter waits fs)) (cond b (f ∷ filter waits (in_landing_order fs)) (filter waits (in_landing_order fs)))
+    by true h = IsPermutation-cons f (filter waits fs) (filter waits (in_landing_order fs)) h
+    by false h = h
+
+-- how many pass a test doesn't hang on the order
+pub count-moved : {X : Type 0} (p : X → Bool) (xs ys : List X) → IsPermutation xs ys → count_by p xs ≡ count_by p ys
+count-moved p xs ys h = sym (sum_by-IsPermutation (λ x. cond (p x) 1 0) xs ys h)
+
+pub place-moved : (xs ys : List Landing) → IsPermutation xs ys → (f : Landing) → place xs f ≡ place ys f
+place-moved xs ys h f = ap (λ n. 1 + n) (count-moved (λ g. nat_lt g.second f.second) xs ys h)
+
+pub rank-moved : (xs ys : List Landing) → IsPermutation xs ys → (f : Landing) → rank_among xs f ≡ rank_among ys f
+rank-moved xs ys h f =
+    let flight : Landing → Flight = λ g. g.flight in
+    ap (λ n. 1 + n) (count-moved (λ g. is_lt (arrival_cmp g f.flight)) (map flight xs) (map flight ys) (IsPermutation-map flight xs ys h))
+
+pub shift-moved : (k : ℕ) (xs ys : List Landing) → IsPermutation xs ys → KeepsShift k xs → KeepsShift k ys
+shift-moved k xs ys h a = All-permutation (IsShiftKept k ys) xs ys h (λ i d lt.
+    let f = get_or xs i d in
+    let kept = a i d lt in
+    let p = place-moved xs ys h f in
+    let r = rank-moved xs ys h f in
+    (omega (arith, kept.0, p, r), omega (arith, kept.1, p, r)))
+
+pub pairs-moved : (R : Landing → Landing → Type 0) (xs ys : List Landing) → IsPermutation xs ys → All (λ f. All (R f) xs) xs → All (λ f. All (R f) ys) ys
+pairs-moved R xs ys h a = All-permutation (λ f. All (R f) ys) xs ys h (λ k d lt. All-permutation (R (get_or xs k d)) xs ys h (a k d lt))
+
+pub rules-moved : (s : Situation) (xs ys : List Landing) → IsPermutation xs ys → IsPermutation (filter waits xs) (filter waits ys) → KeepsRules s xs → KeepsRules s ys
+rules-moved s xs ys h w r = record {
+  in_days = All-permutation (λ f. f.second ≤ last_second) xs ys h r.in_days;
+  open_seconds = All-permutation (λ f. IsTrue (is_open f.flight.windows s.closures f.second)) xs ys h r.open_seconds;
+  separated = pairs-moved (ArePairSeparated s.aerodrome.table) xs ys h r.separated;
+  in_precedence = pairs-moved IsPairInPrecedence xs ys h r.in_precedence;
+  shift = shift-moved s.aerodrome.k (filter waits xs) (filter waits ys) w r.shift;
+  frozen_kept = All-permutation (IsFrozenKept (horizon s)) xs ys h r.frozen_kept;
+}
+
+pub greatest_insert : (f : Landing) (fs : List Landing) → greatest (map (λ (g : Landing). g.second) (insert_landing f fs)) ≡ greatest (map (λ (g : Landing). g.second) (f ∷ fs))
+greatest_insert f [] = refl
+greatest_insert f (x ∷ fs) = go (nat_lt x.second f.second) (greatest_insert f fs)
+  where
+    go : (b : Bool) → greatest (map (λ (g : Landing). g.second) (insert_landing f fs)) ≡ greatest (map (λ (g : Landing). g.second) (f ∷ fs)) → greatest (map (λ (g : Landing). g.second) (cond b (x ∷ insert_landing f fs) (f ∷ x ∷ fs))) ≡ greatest (map (λ (g : Landing). g.second) (f ∷ x ∷ fs))
+    go true e = omega arith
+    go false e = refl
+
+pub cost_order : (o : Objective) (fs : List Landing) → cost o (in_landing_order fs) ≡ cost o fs
+cost_order Makespan [] = refl
+cost_order Makespan (f ∷ fs) = let a = greatest_insert f (in_landing_order fs) in let b = cost_order Makespan fs in omega arith
+cost_order Delay fs = sum_by-IsPermutation delay fs (in_landing_order fs) (order-moves fs)
