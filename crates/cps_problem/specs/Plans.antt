@@ -5,10 +5,10 @@ use Rattle.landing_rules.specs.declared.objective.Objective.TheVariants.{Makespa
 use Rattle.landing_rules.specs.Flights.{Schedule}
 use Rattle.landing_rules.specs.Problem.{Problem, IsFeasibleList, IsBestList, IsTightList}
 
--- a planner is asked for the makespan with any k, and for the delay with at most one place of shift
+-- a planner is asked for the makespan with any k, and for the delay with at most two places of shift
 abbrev pub IsWithinShift : Objective → ℕ → Type 0
 IsWithinShift Makespan k = ⊤
-IsWithinShift Delay k = k ≤ 1
+IsWithinShift Delay k = k ≤ 2
 
 abbrev pub IsPlannable : Problem → Type 0
 IsPlannable p = IsWithinShift p.objective p.k

@@ -2,15 +2,16 @@ ghost use Rattle.std.specs.Prelude.{IfOk};
 ghost use Rattle.aerodrome_file.specs.Reading.{IsInRange};
 
 use crate::opening_problem;
-use aerodrome_file::Aerodrome;
+use aerodrome_file::{Aerodrome, FrozenList, PassedList};
 use cps_problem::Objective;
 use flight_file::read_flights;
 use landing_windows::Closures;
+use std::alloc::Global;
 use std::test::Fail;
 use wake_table::PairTable;
 
 // The sample aerodrome, with no closure.
-fn sample() -> Result<Aerodrome, Fail>
+fn sample(alloc: Global) -> Result<Aerodrome, Fail>
     ensures { IfOk result IsInRange }
 {
     let table = PairTable::new([
@@ -22,17 +23,22 @@ fn sample() -> Result<Aerodrome, Fail>
         [60, 60, 60, 60, 60, 60],
     ]);
     Ok(Aerodrome {
+        version: 1,
         k: 1,
         freeze: 150,
         objective: Objective::Makespan,
         table: table.ok().ok_or("no table")?,
         closures: Closures::new(),
+        clock: None,
+        frozen: FrozenList::new(Vec::new(alloc)),
+        carry: false,
+        passed: PassedList::new(Vec::new(alloc)),
     })
 }
 
 #[test]
 fn flights_stand_by_rank_with_their_predecessors(rt: HostRuntime) -> Result<(), Fail> {
-    let aerodrome = sample()?;
+    let aerodrome = sample(rt.alloc())?;
     let text = b"callsign,category,eta,weight,windows,after
 F1,F,1010,1,1010-2000,A1
 A1,A,1000,1,1000-2000,

@@ -2,7 +2,7 @@ ghost use Rattle.std.specs.Prelude.{IfOk, ◌≤◌};
 ghost use Rattle.aerodrome_file.specs.Reading.{IsInRange};
 
 use crate::{Refusal, Situation};
-use aerodrome_file::Aerodrome;
+use aerodrome_file::{Aerodrome, FrozenList, PassedList};
 use event_log::{Event, read_events};
 use flight_file::read_flights;
 use landing_rules::Objective;
@@ -12,7 +12,7 @@ use std::test::Fail;
 use wake_table::PairTable;
 
 // The sample aerodrome, with no closure.
-fn sample() -> Result<Aerodrome, Fail>
+fn sample(alloc: Global) -> Result<Aerodrome, Fail>
     ensures { IfOk result IsInRange }
 {
     let table = PairTable::new([
@@ -24,11 +24,16 @@ fn sample() -> Result<Aerodrome, Fail>
         [60, 60, 60, 60, 60, 60],
     ]);
     Ok(Aerodrome {
+        version: 1,
         k: 1,
         freeze: 150,
         objective: Objective::Makespan,
         table: table.ok().ok_or("no table")?,
         closures: Closures::new(),
+        clock: None,
+        frozen: FrozenList::new(Vec::new(alloc)),
+        carry: false,
+        passed: PassedList::new(Vec::new(alloc)),
     })
 }
 
@@ -44,7 +49,7 @@ fn events(alloc: Global, rows: &str) -> Result<Vec<Event>, Fail> {
 fn opened(alloc: Global, text: &[u8]) -> Result<Situation, Fail> {
     let read = read_flights(alloc, text);
     let flights = read.ok().ok_or("no flights")?;
-    let aerodrome = sample()?;
+    let aerodrome = sample(rt.alloc())?;
     let situation = Situation::opening(alloc, &aerodrome, flights.as_slice())?;
     Ok(situation)
 }

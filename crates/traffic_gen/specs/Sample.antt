@@ -1,5 +1,5 @@
 -- The sample table of separations, and the aerodrome of a trial.
-use Rattle.std.specs.Prelude.{ℕ, List, [], ◌∷◌}
+use Rattle.std.specs.Prelude.{ℕ, List, [], ◌∷◌, None, false}
 use Rattle.landing_rules.specs.declared.objective.Objective.TheVariants.{Makespan}
 use Rattle.aerodrome_file.specs.declared.aerodrome.Aerodrome.{Aerodrome}
 
@@ -14,6 +14,17 @@ sample_table =
     ∷ (60 ∷ 60 ∷ 60 ∷ 60 ∷ 60 ∷ 60 ∷ [])
     ∷ []
 
--- nothing is frozen ahead of the clock, the last landing is made least, and the runway has no closure
+-- nothing is frozen ahead of the clock, the last landing is made least, the runway has no closure, and the day begins with it
 abbrev pub aerodrome_with : ℕ → Aerodrome
-aerodrome_with k = record { k = k; freeze = 0; objective = Makespan; table = sample_table; closures = [] }
+aerodrome_with k = record {
+  version = 1;
+  k = k;
+  freeze = 0;
+  objective = Makespan;
+  table = sample_table;
+  closures = [];
+  clock = None;
+  frozen = [];
+  carry = false;
+  passed = [];
+}

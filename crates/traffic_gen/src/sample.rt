@@ -3,9 +3,10 @@ ghost use Rattle.std.specs.Prelude.{◌≡◌, ◌≤◌};
 ghost use Rattle.aerodrome_file.specs.Reading.{IsInRange};
 ghost use Rattle.traffic_gen.specs.Sample.{sample_table, aerodrome_with};
 
-use aerodrome_file::Aerodrome;
+use aerodrome_file::{Aerodrome, FrozenList, PassedList};
 use landing_rules::Objective;
 use landing_windows::Closures;
+use std::alloc::Global;
 use wake_table::PairTable;
 
 // The sample table of separations.
@@ -28,16 +29,21 @@ fn sample_table() -> PairTable
 }
 
 // The aerodrome with this bound on shifts.
-pub(crate) fn aerodrome_with(k: u8) -> Aerodrome
+pub(crate) fn aerodrome_with(alloc: Global, k: u8) -> Aerodrome
     requires { k ≤ 3 }
     ensures value { result ≡ aerodrome_with k }
     ensures range { IsInRange result }
 {
     Aerodrome {
+        version: 1,
         k,
         freeze: 0,
         objective: Objective::Makespan,
         table: sample_table(),
         closures: Closures::new(),
+        clock: None,
+        frozen: FrozenList::new(Vec::new(alloc)),
+        carry: false,
+        passed: PassedList::new(Vec::new(alloc)),
     }
 }

@@ -48,7 +48,7 @@ pub fn generate(alloc: Global, seed: u64, n: u8, k: u8) -> Result<Traffic, Alloc
 {
     let flights = flights(alloc, seed, n)?;
     Ok(Traffic {
-        aerodrome: aerodrome_with(k),
+        aerodrome: aerodrome_with(alloc, k),
         flights,
     })
 }

@@ -1,21 +1,26 @@
-use Rattle.std.proofs.Common.{◌≡◌, ℕ, ◌≤◌, true, refl, sym, ap, ◌∙◌}
+use Rattle.std.proofs.Common.{◌≡◌, ℕ, ◌≤◌, true, inl, inr, refl, sym, ap, arith, ◌∙◌}
+use Rattle.std.specs.Prelude.{◌==◌}
+use Rattle.std.proofs.lemmas.Bool.{cases_Bool}
 use Rattle.landing_rules.specs.declared.objective.Objective.{Objective}
 use Rattle.landing_rules.specs.declared.objective.Objective.TheVariants.{Makespan, Delay}
 use Rattle.landing_rules.specs.Flights.{Situation}
 use Rattle.landing_rules.specs.Problem.{Problem, IsProblemOf}
 use Rattle.aerodrome_file.specs.declared.aerodrome.Aerodrome.{Aerodrome}
-use Rattle.aerodrome_file.specs.Reading.{IsInRange, is_delay}
+use Rattle.aerodrome_file.specs.Reading.{IsInRange, is_delay, most_shift}
 use Rattle.cps_problem.specs.Plans.{IsWithinShift}
 use Rattle.situations.specs.Opened.{aerodrome_of}
 use Rattle.sequencer.proofs.sequencer.Sequencer.open.Goals as goal
 
 -- the shift of an aerodrome's file is one that a planner is asked for
-within : (o : Objective) (k : ℕ) → (is_delay o ≡ true → k ≤ 1) → IsWithinShift o k
-within Makespan k h = tt
-within Delay k h = h refl
+most_two : (v : ℕ) → most_shift v ≤ 2
+most_two v = elim (cases_Bool (v == 1)) [ inl first ↦ rw first (omega arith) | inr other ↦ rw other (omega arith) ]
+
+within : (o : Objective) (v k : ℕ) → (is_delay o ≡ true → k ≤ most_shift v) → IsWithinShift o k
+within Makespan v k h = tt
+within Delay v k h = let few = h refl in let most = most_two v in omega (arith, few, most)
 
 plannable : (a : Aerodrome) (s : Situation) → IsInRange a → s.aerodrome ≡ aerodrome_of a → IsWithinShift s.aerodrome.objective s.aerodrome.k
-plannable a s range e = rw e (within a.objective a.k range.shift)
+plannable a s range e = rw e (within a.objective a.version a.k range.shift)
 
 posed : (a : Aerodrome) (s : Situation) (p : Problem) → IsInRange a → s.aerodrome ≡ aerodrome_of a → IsProblemOf s p → IsWithinShift p.objective p.k
 posed a s p range e of = rw (of.objective, of.k) (plannable a s range e)
