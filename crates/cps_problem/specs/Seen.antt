@@ -4,9 +4,8 @@ use Rattle.landing_rules.specs.Problem as rules
 use Rattle.cps_problem.specs.declared.problem.Waiting.{Waiting}
 use Rattle.cps_problem.specs.declared.problem.Head.{Head}
 
--- no flight was passed over
 abbrev pub waiting_of : Waiting → rules.Waiting
-waiting_of w = record { callsign = w.callsign; category = w.category; eta = w.eta; weight = w.weight; passed = 0; open_spans = w.times }
+waiting_of w = record { callsign = w.callsign; category = w.category; eta = w.eta; weight = w.weight; passed = w.passed; open_spans = w.times }
 
 abbrev pub problem_of : Head → List Waiting → List ℕ → rules.Problem
 problem_of head waiting pairs = record {
