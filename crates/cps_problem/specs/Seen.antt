@@ -1,6 +1,8 @@
 -- What contracts see of waiting flights, and of the parts of a problem: the rules' own.
 use Rattle.std.specs.Prelude.{ℕ, List, map}
 use Rattle.landing_rules.specs.Problem as rules
+use Rattle.cps_theory.specs.RankLists.{of_rank}
+use Rattle.landing_joint.specs.RankedProblem.{no_waiting}
 use Rattle.cps_problem.specs.declared.problem.Waiting.{Waiting}
 use Rattle.cps_problem.specs.declared.problem.Head.{Head}
 
@@ -18,3 +20,7 @@ problem_of head waiting pairs = record {
   flights = map waiting_of waiting;
   pairs = pairs;
 }
+
+-- how many flights passed that of a rank
+abbrev pub passed_at : rules.Problem → ℕ → ℕ
+passed_at p rank = (of_rank no_waiting p.flights rank).passed
