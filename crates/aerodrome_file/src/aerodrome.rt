@@ -1,7 +1,10 @@
+ghost use Rattle.std.specs.Prelude.{◌≡◌, IfOk};
+
 use crate::frozen_list::FrozenList;
 use crate::passed_list::PassedList;
 use landing_rules::Objective;
 use landing_windows::Closures;
+use std::alloc::AllocError;
 use wake_table::PairTable;
 
 /// What an aerodrome file says.
@@ -28,4 +31,26 @@ pub struct Aerodrome {
     pub carry: bool,
     /// These counts, at most 60; none where `carry` is false.
     pub passed: PassedList,
+}
+
+impl Aerodrome {
+    /// The same aerodrome.
+    pub fn copy(&self) -> Result<Aerodrome, AllocError>
+        ensures { IfOk result (λ copied. copied ≡ self.now) }
+    {
+        let frozen = self.frozen.copy()?;
+        let passed = self.passed.copy()?;
+        Ok(Aerodrome {
+            version: self.version,
+            k: self.k,
+            freeze: self.freeze,
+            objective: self.objective,
+            table: self.table,
+            closures: self.closures,
+            clock: self.clock,
+            frozen,
+            carry: self.carry,
+            passed,
+        })
+    }
 }

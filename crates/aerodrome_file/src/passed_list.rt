@@ -1,6 +1,7 @@
-ghost use Rattle.std.specs.Prelude.{◌≡◌, ◌<◌, length, slice_get, Some};
+ghost use Rattle.std.specs.Prelude.{◌≡◌, ◌<◌, length, slice_get, IfOk, Some};
 
 use cps_base::Callsign;
+use std::alloc::AllocError;
 use std::marker::Model;
 
 /// By how many flights a waiting flight was passed before.
@@ -48,5 +49,13 @@ impl PassedList {
         ensures { slice_get self.now i ≡ Some result }
     {
         self.entries[i]
+    }
+    // The same list.
+    pub(crate) fn copy(&self) -> Result<PassedList, AllocError>
+        ensures { IfOk result (λ copied. copied ≡ self.now) }
+    {
+        let mut entries = Vec::with_capacity(*self.entries.allocator(), self.entries.len())?;
+        entries.extend_from_slice(self.entries.as_slice())?;
+        Ok(PassedList { entries })
     }
 }

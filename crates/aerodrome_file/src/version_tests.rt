@@ -34,6 +34,7 @@ count = 1";
     };
     assert!(rt; aerodrome.version == 3 && aerodrome.carry);
     assert!(rt; aerodrome.clock == Some(900));
+    let aerodrome = aerodrome.copy()?;
     assert!(rt; aerodrome.frozen.len() == 2 && aerodrome.passed.len() == 1);
     if aerodrome.frozen.len() == 2 {
         assert!(rt; aerodrome.frozen.at(0).callsign.bytes() == b"F1".as_slice());

@@ -51,10 +51,38 @@ fn with_pairs<const W: usize>(
 }
 
 /// The pairs of a stage: for each window the undominated pairs of the second at which a legal prefix that ends in it lands its
-/// last flight and of what its flights cost together, ascending in second and falling in cost. It ticks once a window.
+/// last flight and of what its flights cost together, ascending in second and falling in cost.
 ///
 /// The stage before holds the landable windows with their pairs, and this stage the windows that extend one of them by a
 /// permitted rank.
+pub fn fill_costs_alone<const W: usize>(
+    alloc: Global,
+    problem: &Problem,
+    before: &Stage<W>,
+    labels: &Costs,
+    stage: &Stage<W>,
+) -> Result<Costs, AllocError>
+    requires width { W ≡ 2 * problem.now.k + 1 }
+    requires before { HoldsCosts problem.now before.now labels.now }
+    requires number { stage.now.0 ≡ before.now.0 + 1 }
+    requires next { IsNextOf problem.now before.now.0 before.now.1 stage.now.1 }
+    ensures pairs { IfOk result (λ costs. AreCosts problem.now stage.now costs) }
+    ensures sources { IfOk result (λ costs. (i : ℕ) → i < length stage.now.1 → (q : Pair) → InPairs q (list_at costs i)
+        → (place : ℕ) × (index : ℕ) × GivesPair problem.now before.now labels.now (node_at stage.now.1 i) q place index) }
+    ensures landable { HasEachLandable problem.now stage.now }
+{
+    let _near = problem.head();
+    prefix_laws::<W>(problem);
+    window_laws::<W>();
+    let mut costs = Costs::with_room(alloc, stage.len())?;
+    let mut found = Vec::with_capacity(alloc, 16)?;
+    for i in 0..stage.len() {
+        costs = with_pairs(problem, before, labels, stage, i, costs, &mut found)?;
+    }
+    Ok(costs)
+}
+
+/// The same as `fill_costs_alone`, and it ticks once a window.
 pub fn fill_costs<const W: usize, R: Threads, G: Gate, L: Ledger>(
     _rt: &R,
     alloc: Global,
@@ -75,14 +103,7 @@ pub fn fill_costs<const W: usize, R: Threads, G: Gate, L: Ledger>(
     ensures landable { HasEachLandable problem.now stage.now }
     ensures steps { OnOk result (L.count steps.new ≡ raised_by (length stage.now.1) (L.count steps.old)) }
 {
-    let _near = problem.head();
-    prefix_laws::<W>(problem);
-    window_laws::<W>();
-    let mut costs = Costs::with_room(alloc, stage.len())?;
-    let mut found = Vec::with_capacity(alloc, 16)?;
-    for i in 0..stage.len() {
-        costs = with_pairs(problem, before, labels, stage, i, costs, &mut found)?;
-    }
+    let costs = fill_costs_alone(alloc, problem, before, labels, stage)?;
     steps.tick(stage.len() as u64);
     Ok(costs)
 }

@@ -10,7 +10,7 @@ mod merge;
 mod source;
 
 pub use costs::Costs;
-pub use fill::fill_costs;
+pub use fill::{fill_costs, fill_costs_alone};
 pub use source::source_pair;
 
 #[cfg(test)]

@@ -2,9 +2,11 @@
 #![tactic(auto)]
 
 mod objective;
+mod pair_value;
 mod retiming;
 
 pub use objective::value_of;
+pub use pair_value::value_of_pair;
 pub use retiming::{blank, retime};
 
 #[cfg(test)]

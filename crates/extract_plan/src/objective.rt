@@ -22,7 +22,7 @@ pub fn value_of(problem: &Problem, schedule: &Schedule) -> u64
 }
 
 // The second of the last frozen landing, or 0 with none.
-fn last_frozen(problem: &Problem) -> u64
+pub(crate) fn last_frozen(problem: &Problem) -> u64
     ensures { result ≡ last_frozen problem.now.last }
 {
     match problem.head().last {

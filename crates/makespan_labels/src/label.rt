@@ -58,10 +58,34 @@ fn label_of<const W: usize>(
 }
 
 /// Writes the labels of a stage: for each window the least second at which a legal prefix that ends in it can land its last
-/// flight, or `NO_LABEL` exactly where there is none. It ticks once a window.
+/// flight, or `NO_LABEL` exactly where there is none.
 ///
 /// The stage before holds the landable windows with their labels, and this stage the windows that extend one of them by a
 /// permitted rank.
+pub fn fill_alone<const W: usize>(
+    problem: &Problem,
+    before: &Stage<W>,
+    labels: &Column,
+    stage: &Stage<W>,
+    into: &mut Column,
+)
+    requires width { W ≡ 2 * problem.now.k + 1 }
+    requires before { HoldsLabels problem.now before.now labels.now }
+    requires number { stage.now.0 ≡ before.now.0 + 1 }
+    requires next { IsNextOf problem.now before.now.0 before.now.1 stage.now.1 }
+    requires one_each { length into.old ≡ length stage.now.1 }
+    ensures labels { AreLabels problem.now stage.now into.new }
+    ensures landable { HasEachLandable problem.now stage.now }
+{
+    let _near = problem.head();
+    prefix_laws::<W>(problem);
+    window_laws::<W>();
+    for i in 0..stage.len() {
+        into.set(i, label_of(problem, before, labels, stage, i));
+    }
+}
+
+/// The same as `fill_alone`, and it ticks once a window.
 pub fn fill<const W: usize, R: Threads, G: Gate, L: Ledger>(
     _rt: &R,
     problem: &Problem,
@@ -81,11 +105,6 @@ pub fn fill<const W: usize, R: Threads, G: Gate, L: Ledger>(
     ensures landable { HasEachLandable problem.now stage.now }
     ensures steps { L.count steps.new ≡ raised_by (length stage.now.1) (L.count steps.old) }
 {
-    let _near = problem.head();
-    prefix_laws::<W>(problem);
-    window_laws::<W>();
-    for i in 0..stage.len() {
-        into.set(i, label_of(problem, before, labels, stage, i));
-    }
+    fill_alone(problem, before, labels, stage, into);
     steps.tick(stage.len() as u64);
 }

@@ -10,7 +10,7 @@ mod label;
 mod source;
 
 pub use column::{Column, NO_LABEL};
-pub use label::fill;
+pub use label::{fill, fill_alone};
 pub use source::source_of;
 
 #[cfg(test)]

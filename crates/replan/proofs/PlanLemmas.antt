@@ -30,78 +30,10 @@ use Rattle.cps_network.specs.Nodes.{node_of}
 use Rattle.cps_network.specs.Landable.{Attains}
 use Rattle.cps_network.specs.Pairs.{list_at, pair_at}
 use Rattle.makespan_labels.specs.shared.LabelPairs.{attains_free}
-use Rattle.replan.specs.Labels.{StagePairs, HoldsPairs, last_pair, worth}
+use Rattle.replan.specs.Labels.{worth}
+use Rattle.replan.specs.LeastValue.{IsWorthNoMore}
+use Rattle.replan.specs.shared.LastStage.{length_mapped, rank_mapped, value_rises}
 use Rattle.replan.specs.Stages.{LandsWithPair}
-
--- ---- no feasible list is worth less than the least last pair
-
--- the last pair of a list that falls in cost is its cheapest
-last_cheapest : (pairs : List Pair) → Staircase pairs → (q : Pair) → InPairs q pairs → (last_pair pairs).1 ≤ q.1
-last_cheapest [] s q i = absurd i
-last_cheapest (x ∷ []) s q (inl e) = let f = ap (λ (z : Pair). z.1) e in omega arith
-last_cheapest (x ∷ []) s q (inr i) = absurd i
-last_cheapest (x ∷ (y ∷ pairs)) s q i =
-    let n : length (x ∷ (y ∷ pairs)) - 1 ≡ suc (length (y ∷ pairs) - 1) = omega arith in
-    subst (λ (m : ℕ). (pair_at (x ∷ (y ∷ pairs)) m).1 ≤ q.1) (sym n) (go (λ o j. last_cheapest (y ∷ pairs) s.1 o j) i)
-  where
-    go : ((o : Pair) → InPairs o (y ∷ pairs) → (pair_at (y ∷ pairs) (length (y ∷ pairs) - 1)).1 ≤ o.1) → InPairs q (x ∷ (y ∷ pairs)) → (pair_at (y ∷ pairs) (length (y ∷ pairs) - 1)).1 ≤ q.1
-    go rest (inl e) =
-        let a = rest y (inl refl) in
-        let b = (s.0 y (inl refl)).1 in
-        let f = ap (λ (z : Pair). z.1) e in
-        omega (arith, a, b, f)
-    go rest (inr j) = rest q j
-
--- where no pair costs anything there is one alone
-only_pair : (pairs : List Pair) → Staircase pairs → ((q : Pair) → InPairs q pairs → q.1 ≡ 0) → (q : Pair) → InPairs q pairs → last_pair pairs ≡ q
-only_pair [] s free q i = absurd i
-only_pair (x ∷ []) s free q (inl e) = sym e
-only_pair (x ∷ []) s free q (inr i) = absurd i
-only_pair (x ∷ (y ∷ pairs)) s free q i =
-    let a = (s.0 y (inl refl)).1 in
-    let b = free x (inl refl) in
-    absurd (omega (arith, a, b))
-
-least_worth : (o : Objective) (pairs : List Pair) → Staircase pairs → (o ≡ Makespan → (q : Pair) → InPairs q pairs → q.1 ≡ 0) → (a q : Pair) → InPairs a pairs → NoWorse a q
-    → worth o (last_pair pairs) ≤ worth o q
-least_worth Makespan pairs s free a q i le =
-    let e = ap (λ (z : Pair). z.0) (only_pair pairs s (free refl) a i) in
-    let l = le.0 in
-    omega (arith, e, l)
-least_worth Delay pairs s free a q i le = le_trans (last_cheapest pairs s a i) le.1
-
-module _ (p : Problem) (is : IsPlannedFor p) (stage : ℕ × List (List ℤ)) (labels : StagePairs) (last : stage.0 ≡ length p.flights) (holds : HoldsPairs p stage labels) where
-  -- a feasible list lands in some window of the last stage, worth no less than its last pair
-  pub bounds : (u : Schedule) → IsFeasibleList p u
-      → (i : ℕ) × (i < length labels.lists) × (worth p.objective (last_pair (list_at labels.lists i)) ≤ worth p.objective (map_pair (cost_at p) (length p.flights) (of_rank 0 u)))
-  bounds u f =
-      let held = holds.held in
-      let x = feasible_landing_trail (ranked p) (cost_at p) (sound_ranked p is.table is.between) (of_rank 0 u) (list_feasible p u f) in
-      let at : node_of p.k (ranks x.0) ≡ (stage.0, (node_of p.k (ranks x.0)).1) = ap (λ (q : ℕ). (q, (node_of p.k (ranks x.0)).1)) (x.3 ∙ sym last) in
-      let a : Attains p stage.0 (node_of p.k (ranks x.0)).1 (map_pair (cost_at p) (length p.flights) (of_rank 0 u)) = record { landings = x.0; legal = x.1; landed = x.2; at = at; is = x.4 } in
-      let has = (held.landable (node_of p.k (ranks x.0)).1).1 (map_pair (cost_at p) (length p.flights) (of_rank 0 u), a) in
-      let it : node_at stage.1 has.0 ≡ (node_of p.k (ranks x.0)).1 = get_or_default stage.1 has.0 [] (node_of p.k (ranks x.0)).1 has.1 ∙ has.2 in
-      let are = held.costs.pairs has.0 has.1 in
-      let o = are.covers (map_pair (cost_at p) (length p.flights) (of_rank 0 u)) (subst (λ (y : List ℤ). Attains p stage.0 y (map_pair (cost_at p) (length p.flights) (of_rank 0 u))) (sym it) a) in
-      let low = least_worth p.objective (list_at labels.lists has.0) are.falling
-      (λ makespan q i. attains_free p makespan stage.0 (node_at stage.1 has.0) q ((are.undominated q).0 i).attained)
-      o.0 (map_pair (cost_at p) (length p.flights) (of_rank 0 u)) o.1 o.2 in
-      (has.0, (let b = has.1 in omega (arith, held.costs.one_each)), low)
-
--- ---- a list of seconds from landings
-
-get_mapped : (f : ℕ → ℕ) (i n k : ℕ) → k < n → get_or (map f (numbers_from i n)) k 0 ≡ f (i + k)
-get_mapped f i zero k lt = absurd (omega arith)
-get_mapped f i (suc n) zero lt = ap f (let e : i ≡ i + 0 = omega arith in e)
-get_mapped f i (suc n) (suc k) lt = get_mapped f (suc i) n k (omega arith) ∙ ap f (let e : suc i + k ≡ i + suc k = omega arith in e)
-
-length_mapped : (f : ℕ → ℕ) (i n : ℕ) → length (map f (numbers_from i n)) ≡ n
-length_mapped f i zero = refl
-length_mapped f i (suc n) = ap suc (length_mapped f (suc i) n)
-
-rank_mapped : (f : ℕ → ℕ) (n r : ℕ) → IsRank n r → of_rank 0 (map f (numbers_from 1 n)) r ≡ f r
-rank_mapped f n zero q = absurd (let a = q.0 in omega arith)
-rank_mapped f n (suc i) q = get_mapped f 1 n i (let a = q.1 in omega arith) ∙ ap f (let e : 1 + i ≡ suc i = omega arith in e)
 
 in_reverse : (order : List ℕ) (k d : ℕ) → k < length order → In (get_or order k d) (reverse order)
 in_reverse order k d lt =
@@ -110,16 +42,6 @@ in_reverse order k d lt =
     in_behind : (xs : List ℕ) (x : ℕ) (ys : List ℕ) → In x (xs ++ x ∷ ys)
     in_behind [] x ys = inl refl
     in_behind (z ∷ xs) x ys = inr (in_behind xs x ys)
-
--- ---- what is worth no more has no greater value
-
-makespan_rises : (fs : List Waiting) (p : Problem) (a b : ℕ) → a ≤ b → makespan_by fs p a ≤ makespan_by fs p b
-makespan_rises [] p a b le = omega arith
-makespan_rises (f ∷ fs) p a b le = le
-
-value_rises : (p : Problem) (o : Objective) (a b : Pair) → worth o a ≤ worth o b → value_by o p a ≤ value_by o p b
-value_rises p Makespan a b le = makespan_rises p.flights p a.0 b.0 le
-value_rises p Delay a b le = omega (arith, le)
 
 module _ (p : Problem) (is : IsPlannedFor p) (order : List ℕ) (end : Pair) (whole : length order ≡ length p.flights) (lands : LandsWithPair p order end) where
   legal : Legal (ranked p).rules (reverse order)
@@ -156,7 +78,7 @@ module _ (p : Problem) (is : IsPlannedFor p) (order : List ℕ) (end : Pair) (wh
       sym f.1 ∙ lands.4
 
   pub plan_best : (v : Schedule) → length v ≡ length p.flights → EarliestInOrder p order v → ((x : Schedule) → LandsInOrder p order x → AllZip (λ a b. a ≤ b) v x)
-      → ((u : Schedule) → IsFeasibleList p u → worth p.objective end ≤ worth p.objective (map_pair (cost_at p) (length p.flights) (of_rank 0 u))) → IsBestList p v × IsTightList p v
+      → IsWorthNoMore p end → IsBestList p v × IsTightList p v
   plan_best v room earliest least low = (
     order_best p is order order_is_whole legal v room earliest least (λ u f. (
       seconds,

@@ -5,3 +5,5 @@ pub mod Stages
 pub mod Held
 pub mod Kept
 pub mod Readers
+pub mod LeastValue
+pub mod shared

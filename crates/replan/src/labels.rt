@@ -17,8 +17,8 @@ use cps_network::{Stage, prefix_laws};
 use cps_nodes::Window;
 use cps_outside::Gate;
 use cps_problem::{Objective, Problem};
-use delay_labels::{Costs, fill_costs, source_pair};
-use makespan_labels::{Column, NO_LABEL, fill, source_of};
+use delay_labels::{Costs, fill_costs, fill_costs_alone, source_pair};
+use makespan_labels::{Column, NO_LABEL, fill, fill_alone, source_of};
 use std::alloc::{AllocError, Global};
 use std::marker::Model;
 use std::thread::Threads;
@@ -146,6 +146,39 @@ impl Labels {
             }
             ByObjective::OfCosts(labels) => {
                 let costs = fill_costs(rt, alloc, problem, before, labels, stage, gate, steps)?;
+                Ok(Labels {
+                    kept: ByObjective::OfCosts(costs),
+                })
+            }
+        }
+    }
+
+    // The same as `next` on the caller's thread, and it ticks nothing.
+    pub(crate) fn next_alone<const W: usize>(
+        &self,
+        alloc: Global,
+        problem: &Problem,
+        before: &Stage<W>,
+        stage: &Stage<W>,
+    ) -> Result<Labels, AllocError>
+        requires width { W ≡ 2 * problem.now.k + 1 }
+        requires before { HoldsPairs problem.now before.now self.now }
+        requires number { stage.now.0 ≡ before.now.0 + 1 }
+        requires next { IsNextOf problem.now before.now.0 before.now.1 stage.now.1 }
+        ensures pairs { IfOk result (λ labels. ArePairs problem.now stage.now labels) }
+        ensures landable { OnOk result (HasEachLandable problem.now stage.now) }
+    {
+        match &self.kept {
+            ByObjective::OfColumn(labels) => {
+                let mut column = Column::new(alloc);
+                column.reserve(stage.len())?;
+                fill_alone(problem, before, labels, stage, &mut column);
+                Ok(Labels {
+                    kept: ByObjective::OfColumn(column),
+                })
+            }
+            ByObjective::OfCosts(labels) => {
+                let costs = fill_costs_alone(alloc, problem, before, labels, stage)?;
                 Ok(Labels {
                     kept: ByObjective::OfCosts(costs),
                 })

@@ -9,6 +9,7 @@ mod any_kept;
 mod held;
 mod kept;
 mod labels;
+mod least;
 mod plan;
 mod readers;
 mod stages;
@@ -16,6 +17,7 @@ mod trace;
 
 pub use any_kept::AnyKept;
 pub use kept::Kept;
+pub use least::least_value;
 
 #[cfg(test)]
 mod tests;

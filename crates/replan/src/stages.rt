@@ -67,7 +67,7 @@ pub(crate) fn first_stage<const W: usize>(
 }
 
 // The stage after one. Where that has each window that extends the one before it, it is often a copy of it.
-fn stage_after<const W: usize>(
+pub(crate) fn stage_after<const W: usize>(
     alloc: Global,
     problem: &Problem,
     earlier: &Stage<W>,

@@ -2,7 +2,8 @@
 
 ghost use Rattle.std.specs.Prelude.{◌≡◌, ℕ, ◌+◌, ◌*◌, ◌<◌, ◌≤◌, length, vec_len, MatchOption};
 ghost use Rattle.cps_network.specs.Pairs.{list_at};
-ghost use Rattle.replan.specs.Labels.{last_pair, worth};
+ghost use Rattle.replan.specs.Labels.{last_pair};
+ghost use Rattle.replan.specs.LeastValue.{IsLeastPlace};
 ghost use Rattle.replan.specs.Stages.{stage_at, lists_at, HoldsStages, LandsWithPair};
 
 use crate::labels::Labels;
@@ -14,8 +15,7 @@ use cps_problem::Problem;
 // The first place whose last pair is worth least, where there is a list.
 pub(crate) fn least_place(labels: &Labels) -> Option<usize>
     requires { (i : ℕ) → i < length labels.now.lists → 0 < length (list_at labels.now.lists i) }
-    ensures { MatchOption result (length labels.now.lists ≡ 0) (λ place. (place < length labels.now.lists)
-        × ((i : ℕ) → i < length labels.now.lists → worth labels.now.objective (last_pair (list_at labels.now.lists place)) ≤ worth labels.now.objective (last_pair (list_at labels.now.lists i)))) }
+    ensures { MatchOption result (length labels.now.lists ≡ 0) (IsLeastPlace labels.now) }
 {
     if labels.len() == 0 {
         return None;

@@ -1,14 +1,15 @@
 use Rattle.std.proofs.Common.{◌≡◌, ℕ, ◌≤◌, List, length, rules, arith, ap, ◌∙◌, sym, subst, refl}
 use Rattle.std.proofs.lemmas.List.{length-replicate}
 use Rattle.cps_theory.specs.Labels.{Pair}
-use Rattle.landing_rules.specs.declared.objective.Objective.{Objective}
 use Rattle.cps_network.specs.Pairs.{list_at}
 use Rattle.extract_plan.specs.Orders.{IsWholeOrder, LandsInOrder, EarliestInOrder}
 use Rattle.extract_plan.specs.shared.PlannedOrder.{well_formed_planned}
-use Rattle.replan.specs.Labels.{StagePairs, last_pair, worth}
+use Rattle.replan.specs.Labels.{StagePairs, last_pair}
+use Rattle.replan.specs.LeastValue.{IsWorthNoMore}
 use Rattle.replan.specs.Stages.{stage_at, lists_at}
+use Rattle.replan.specs.shared.LastStage.{none_feasible, no_more}
 use Rattle.replan.proofs.StageLemmas.{last_read}
-use Rattle.replan.proofs.PlanLemmas.{bounds, order_is_whole, seconds, order_lands, plan_best}
+use Rattle.replan.proofs.PlanLemmas.{order_is_whole, seconds, order_lands, plan_best}
 use Rattle.replan.proofs.plan.schedule_of.Goals as goal
 
 pub least_place-requires : goal.least_place-requires
@@ -20,10 +21,7 @@ pub returns-in-None : goal.returns-in-None
 returns-in-None g c =
     let planned = well_formed_planned c.args.problem.now c.len-n.ensures.well_formed in
     let l = last_read c.args.problem.now c.args.kept.now.stages.items c.args.kept.now.labels.items c.requires.held (omega (arith, c.requires.whole)) c.len-n.result c.index.result.now c.len-n.ensures.value c.index.ensures in
-    λ t f.
-    let b = bounds c.args.problem.now planned (stage_at c.args.kept.now.stages.items (length c.args.problem.now.flights)) c.index.result.now l.number l.held t f in
-    let inside = b.1 in
-    absurd (omega (arith, inside, c.in-None.ensures))
+    none_feasible c.args.problem.now planned (stage_at c.args.kept.now.stages.items (length c.args.problem.now.flights)) c.index.result.now l.number l.held c.in-None.ensures
 
 pub order_of-requires : goal.order_of-requires
 order_of-requires g c =
@@ -61,10 +59,5 @@ returns-else-not-retime g c =
     plan_best c.args.problem.now planned c.in_ok-order-in-Some.order.items end c.in_ok-order-in-Some.ensures.room lands c.retime.new.into long
     (subst (λ (o : List ℕ). EarliestInOrder c.args.problem.now o c.retime.new.into) is (c.if-not-retime.ensures.earliest refl))
     (λ x lands. c.if-not-retime.ensures.least refl x (subst (λ (o : List ℕ). LandsInOrder c.args.problem.now o x) (sym is) lands))
-    (λ u f.
-    let b = bounds c.args.problem.now planned (stage_at c.args.kept.now.stages.items (length c.args.problem.now.flights)) c.index.result.now l.number l.held u f in
-    let le = b.2 in
-    let least : worth c.args.problem.now.objective (last_pair (list_at (lists_at c.args.kept.now.labels.items (length c.args.problem.now.flights)) c.in-Some.place)) ≤ worth c.args.problem.now.objective (last_pair (list_at c.index.result.now.lists b.0)) =
-    subst (λ (o : Objective). worth o (last_pair (list_at (lists_at c.args.kept.now.labels.items (length c.args.problem.now.flights)) c.in-Some.place)) ≤ worth o (last_pair (list_at c.index.result.now.lists b.0))) l.held.objective
-    (subst (λ (ls : StagePairs). worth c.index.result.now.objective (last_pair (list_at ls.lists c.in-Some.place)) ≤ worth c.index.result.now.objective (last_pair (list_at c.index.result.now.lists b.0))) l.is (c.in-Some.ensures.1 b.0 b.1)) in
-    omega (arith, le, least))
+    (subst (λ (ls : StagePairs). IsWorthNoMore c.args.problem.now (last_pair (list_at ls.lists c.in-Some.place))) l.is
+    (no_more c.args.problem.now planned (stage_at c.args.kept.now.stages.items (length c.args.problem.now.flights)) c.index.result.now l.number l.held c.in-Some.place c.in-Some.ensures))

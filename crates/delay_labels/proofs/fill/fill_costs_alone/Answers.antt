@@ -4,7 +4,7 @@ use Rattle.cps_network.specs.Lists.{node_at}
 use Rattle.cps_network.specs.shared.LandableSteps.{has_next}
 use Rattle.cps_network.specs.Pairs.{ArePairsOf, GivesPair}
 use Rattle.delay_labels.proofs.ListLemmas.{each_more}
-use Rattle.delay_labels.proofs.fill.fill_costs.Goals as goal
+use Rattle.delay_labels.proofs.fill.fill_costs_alone.Goals as goal
 
 pub loop-i-preserved : goal.loop-i-preserved
 loop-i-preserved g c =

@@ -3,7 +3,7 @@ use Rattle.cps_network.specs.Lists.{node_at}
 use Rattle.cps_network.specs.shared.LandableSteps.{has_next}
 use Rattle.makespan_labels.specs.Labels.{IsLabel}
 use Rattle.makespan_labels.proofs.ColumnLemmas.{set_more}
-use Rattle.makespan_labels.proofs.label.fill.Goals as goal
+use Rattle.makespan_labels.proofs.label.fill_alone.Goals as goal
 
 pub loop-i-preserved : goal.loop-i-preserved
 loop-i-preserved g c =

@@ -2,7 +2,7 @@ use Rattle.std.proofs.Common.{◌≡◌, ℕ, ◌<◌, length}
 use Rattle.cps_theory.specs.Labels.{InPairs, Pair}
 use Rattle.cps_network.specs.Lists.{node_at}
 use Rattle.cps_network.specs.Pairs.{list_at, ArePairsOf, GivesPair}
-use Rattle.delay_labels.proofs.fill.fill_costs.Given as goal
+use Rattle.delay_labels.proofs.fill.fill_costs_alone.Given as goal
 
 abbrev pub invariant-loop-i : goal.invariant-loop-i
 invariant-loop-i g l = (length l.costs ≡ l.i) × ((m : ℕ) → m < l.i → ArePairsOf l.problem l.stage.0 (node_at l.stage.1 m) (list_at l.costs m))

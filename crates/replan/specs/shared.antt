@@ -1,0 +1,2 @@
+-- Lemmas that crates above cite too: what the last stage of a problem tells.
+pub mod LastStage
