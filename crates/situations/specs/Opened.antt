@@ -1,5 +1,5 @@
 -- The opening situation of an aerodrome and its flights, and what is asked of them.
-use Rattle.std.specs.Prelude.{◌≡◌, ◌≢◌, ◌≤◌, false, List, [], length, map, None, All, AllPairs, IsTrue}
+use Rattle.std.specs.Prelude.{◌≡◌, ◌≢◌, ◌≤◌, List, length, map, All, AllPairs, IsTrue}
 use Rattle.cps_base.specs.Text.{is_callsign}
 use Rattle.landing_rules.specs.Flights.{Aerodrome, Flight, Active, Situation}
 use Rattle.landing_rules.specs.Rules.{last_second}
@@ -13,11 +13,17 @@ use Rattle.flight_file.specs.Seen.{flight_of}
 
 -- an aerodrome of the files, as the rules see it
 abbrev pub aerodrome_of : aerodromes.Aerodrome → Aerodrome
-aerodrome_of a = record { k = a.k; freeze = a.freeze; objective = a.objective; table = a.table; carry = false }
+aerodrome_of a = record { k = a.k; freeze = a.freeze; objective = a.objective; table = a.table; carry = a.carry }
 
--- at the start no clock second was given, and no flight is frozen or was passed
+-- what the file says of the day so far: the clock, the frozen landings, and how many flights passed each
 abbrev pub opening_of : aerodromes.Aerodrome → Opening
-opening_of a = record { aerodrome = aerodrome_of a; closures = a.closures; clock = None; frozen = []; passed = [] }
+opening_of a = record {
+  aerodrome = aerodrome_of a;
+  closures = a.closures;
+  clock = a.clock;
+  frozen = map (λ f. (f.callsign, f.second)) a.frozen;
+  passed = map (λ p. (p.callsign, p.count)) a.passed;
+}
 
 -- the opening situation: the flights in the order of their file
 abbrev pub opened : aerodromes.Aerodrome → List files.Flight → Situation
