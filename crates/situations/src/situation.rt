@@ -1,4 +1,4 @@
-ghost use Rattle.std.specs.Prelude.{◌≡◌, ◌≤◌, [], IfOk, length, map};
+ghost use Rattle.std.specs.Prelude.{◌≡◌, ◌<◌, ◌≤◌, [], IfOk, Some, length, map, option_map, slice_get};
 ghost use Rattle.wake_table.specs.Table.{IsWakeTable};
 ghost use Rattle.landing_rules.specs.Flights.{horizon};
 ghost use Rattle.landing_rules.specs.Sound.{IsSound};
@@ -128,6 +128,30 @@ impl Situation {
             all.push(&self.active[i])?;
         }
         Ok(all)
+    }
+
+    /// The i-th flight in order of arrival, counted from 0.
+    pub fn flight(&self, i: usize) -> &Flight
+        requires { i < length self.now.active }
+        ensures { option_map (λ a. a.flight) (slice_get self.now.active i) ≡ Some (flight_of result.now) }
+    {
+        &self.active[i].flight
+    }
+
+    /// The second at which the i-th flight is frozen, if it is.
+    pub fn frozen(&self, i: usize) -> Option<u32>
+        requires { i < length self.now.active }
+        ensures { option_map (λ a. a.frozen) (slice_get self.now.active i) ≡ Some result }
+    {
+        self.active[i].frozen
+    }
+
+    /// How many flights behind the i-th in first-come order were frozen ahead of it: 0 to k where it waits.
+    pub fn passed(&self, i: usize) -> u8
+        requires { i < length self.now.active }
+        ensures { option_map (λ a. a.passed) (slice_get self.now.active i) ≡ Some result }
+    {
+        self.active[i].passed
     }
 
     /// The second before which no waiting flight may land: 0 without a clock second, and else at most 179,999.
