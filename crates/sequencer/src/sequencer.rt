@@ -13,7 +13,7 @@ ghost use Rattle.sequencer.specs.Ranked.{arrivals};
 ghost use Rattle.situations.specs.Answers.{refusal_of};
 ghost use Rattle.situations.specs.Opened.{CanOpen, opened, opening_of};
 
-use crate::opening::BeginFault;
+use crate::begin::BeginFault;
 use crate::plan::{Plan, plan_of};
 use crate::problem::posed;
 use crate::seconds::joined_seconds;
@@ -128,6 +128,14 @@ impl<P: Planner> Sequencer<P> {
             None => None,
             Some(shown) => Some(&shown.plan),
         }
+    }
+
+    /// The situation on the approach.
+    pub fn situation(&self) -> &Situation
+        ensures value { result.now ≡ self.now.state.situation }
+        ensures sound { IsSoundState self.now.state }
+    {
+        &self.situation
     }
 
     /// The problem of the situation.
