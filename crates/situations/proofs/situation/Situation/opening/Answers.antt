@@ -9,6 +9,8 @@ use Rattle.landing_rules.specs.Sound.{IsSound}
 use Rattle.flight_file.specs.declared.flight.Flight.{Flight}
 use Rattle.flight_file.specs.Seen.{flight_of}
 use Rattle.situations.specs.Opened.{opened, opening_of, entering, IsKept}
+use Rattle.situations.specs.Refused.{AreKept}
+use Rattle.situations.proofs.OpeningSound.{opening_sound}
 use Rattle.situations.proofs.OpeningSituation.{opened_flights, none_before, one_more}
 use Rattle.situations.proofs.situation.Situation.opening.Goals as goal
 
@@ -36,3 +38,11 @@ loop-i-preserved c =
           (ap (λ (g : Flight). opened_flights a (take c.loop-i.i fs) ++ opening_flight (opening_of a) (flight_of g) ∷ []) c.index-flights-i.is ∙ sym (one_more a fs c.loop-i.i f c.loop-i-test.true));
       kept = All-more (λ f. IsKept (flight_of f)) fs c.loop-i.i f c.loop-i-test.true c.loop-i.invariant.kept (subst (λ g. IsKept (flight_of g)) c.index-flights-i.is c.known.ensures);
     }
+
+pub returns-clause-sound : goal.returns-clause-sound
+returns-clause-sound c none =
+    let a = c.args.aerodrome.now in
+    let fs = c.args.flights.now in
+    let all : take c.loop-i.i fs ≡ fs = take_all c.loop-i.i fs c.loop-i-test.false in
+    let kept : AreKept a fs = record { table = c.empty-situation.ensures.table; closures = c.empty-situation.ensures.closures; flights = subst (All (λ f. IsKept (flight_of f))) all c.loop-i.invariant.kept } in
+    subst IsSound (sym c.loop-i.invariant.value) (subst (λ l. IsSound (opened a l)) (sym all) (opening_sound a fs kept (c.requires, none)))
