@@ -3,3 +3,4 @@ pub mod Finds
 pub mod Firsts
 pub mod Freezing
 pub mod OpeningSituation
+pub mod OpeningSound

@@ -1,5 +1,5 @@
 -- The opening situation of an aerodrome and its flights, and what is asked of them.
-use Rattle.std.specs.Prelude.{◌≡◌, ◌≢◌, ◌≤◌, ℕ, List, Option, length, map, All, AllPairs, IsTrue}
+use Rattle.std.specs.Prelude.{◌≢◌, ◌≤◌, ℕ, List, Option, length, map, All, AllPairs, IsTrue}
 use Rattle.cps_base.specs.Text.{is_callsign}
 use Rattle.landing_rules.specs.Flights.{Aerodrome, Flight, Active, Situation}
 use Rattle.landing_rules.specs.Rules.{last_second}

@@ -1,5 +1,5 @@
 -- Why an aerodrome file and its flights open no situation: the first test that fails, and where.
-use Rattle.std.specs.Prelude.{◌≡◌, ℕ, ◌+◌, ◌≤◌, Bool, true, ◌&&◌, List, [], ◌∷◌, Option, Some, None, All, length, nat_lt, nat_le, filter, filter_map, find, option_map, if◌then◌else◌}
+use Rattle.std.specs.Prelude.{◌≡◌, ℕ, ◌+◌, ◌≤◌, Bool, true, ◌&&◌, List, [], ◌∷◌, Option, Some, None, All, length, nat_le, filter, filter_map, find, option_map, if◌then◌else◌}
 use Rattle.std.specs.Option.{option_or}
 use Rattle.std.specs.List.{list_any}
 use Rattle.wake_table.specs.Table.{IsWakeTable}

@@ -5,6 +5,7 @@ mod active;
 mod change;
 mod freeze;
 mod given;
+pub mod laws;
 mod opening_refusal;
 mod refusal;
 mod refuse;

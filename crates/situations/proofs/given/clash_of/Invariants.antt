@@ -1,4 +1,4 @@
-use Rattle.std.proofs.Common.{◌≡◌, ◌+◌, drop, map}
+use Rattle.std.proofs.Common.{◌≡◌, ◌+◌, drop}
 use Rattle.situations.specs.Refused.{first_from, clash_at}
 use Rattle.situations.proofs.given.clash_of.Given as goal
 

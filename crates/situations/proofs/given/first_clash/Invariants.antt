@@ -1,4 +1,4 @@
-use Rattle.std.proofs.Common.{◌≡◌, ◌+◌, drop, map}
+use Rattle.std.proofs.Common.{◌≡◌, ◌+◌, drop}
 use Rattle.situations.specs.Refused.{clash_from}
 use Rattle.situations.proofs.given.first_clash.Given as goal
 

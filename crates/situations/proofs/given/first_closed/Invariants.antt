@@ -1,4 +1,4 @@
-use Rattle.std.proofs.Common.{◌≡◌, ◌+◌, drop, map}
+use Rattle.std.proofs.Common.{◌≡◌, ◌+◌, drop}
 use Rattle.situations.specs.Refused.{first_from, closed_at}
 use Rattle.situations.proofs.given.first_closed.Given as goal
 

@@ -1,4 +1,4 @@
-use Rattle.std.proofs.Common.{◌≡◌, ◌+◌, ◌++◌, ◌≤◌, length, length-append, drop, sym, ap, ◌∙◌, arith, Vec, Global}
+use Rattle.std.proofs.Common.{◌+◌, ◌++◌, length, length-append, drop, sym, ap, ◌∙◌, arith, Vec, Global}
 use Rattle.situations.specs.declared.given.Given.{Given}
 use Rattle.situations.specs.Refused.{given_landing, given}
 use Rattle.situations.proofs.Firsts.{from_get, given_more, given_none, few_given}

@@ -1,4 +1,4 @@
-use Rattle.std.proofs.Common.{◌≡◌, ◌+◌, drop, map}
+use Rattle.std.proofs.Common.{◌≡◌, drop, map}
 use Rattle.landing_rules.specs.Events.{look_up}
 use Rattle.situations.proofs.opening_refusal.passed_count.Given as goal
 

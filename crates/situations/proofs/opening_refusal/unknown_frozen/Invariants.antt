@@ -1,4 +1,4 @@
-use Rattle.std.proofs.Common.{◌≡◌, ◌+◌, drop, map}
+use Rattle.std.proofs.Common.{◌≡◌, ◌+◌, drop}
 use Rattle.situations.specs.Refused.{first_from, unknown_frozen_at}
 use Rattle.situations.proofs.opening_refusal.unknown_frozen.Given as goal
 
