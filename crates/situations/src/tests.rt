@@ -42,7 +42,9 @@ fn events(alloc: Global, rows: &str) -> Result<Vec<Event>, Fail> {
 }
 
 // The situation that these flights open.
-fn opened(alloc: Global, aerodrome: &Aerodrome, rows: &str) -> Result<Situation, Fail> {
+fn opened(alloc: Global, aerodrome: &Aerodrome, rows: &str) -> Result<Situation, Fail>
+    requires { IsInRange aerodrome.now }
+{
     let text = format!(in alloc; "callsign,category,eta,weight,windows,after\n{rows}")?;
     let read = read_flights(alloc, text.as_bytes());
     let flights = read.ok().ok_or("no flights")?;
