@@ -1,0 +1,6 @@
+-- The definitions of this crate.
+pub mod Nodes
+pub mod Gathered
+pub mod Completing
+pub mod Stages
+pub mod Ranges
