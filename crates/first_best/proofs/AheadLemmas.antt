@@ -1,12 +1,10 @@
 -- Stages made from the last backward.
-use Rattle.std.proofs.Common.{◌≡◌, ℕ, ◌+◌, ◌-◌, ◌<◌, ◌≤◌, ◌⊎◌, inl, inr, List, [], ◌∷◌, ◌++◌, length, Some, refl, sym, ap, subst, ◌∙◌, arith, length-append}
-use Rattle.std.specs.Prelude.{ℤ, slice_index_or, Option}
+use Rattle.std.proofs.Common.{◌≡◌, ℕ, ◌+◌, ◌-◌, ◌<◌, ◌≤◌, inl, inr, List, [], ◌∷◌, ◌++◌, length, refl, sym, ap, subst, ◌∙◌, arith, length-append}
+use Rattle.std.specs.Prelude.{slice_index_or, Option}
 use Rattle.std.proofs.lemmas.Bool.{cases_eq}
 use Rattle.std.proofs.lemmas.List.{get_or_append_left, get_or_push}
 use Rattle.landing_rules.specs.Problem.{Problem}
-use Rattle.cps_theory.specs.Labels.{Pair}
 use Rattle.cps_theory.specs.LandingTrail.{ranks}
-use Rattle.cps_theory.specs.Separation.{Landing}
 use Rattle.landing_joint.specs.CompletingPairs.{IsCompletingPair}
 use Rattle.cps_network.specs.Nodes as network
 use Rattle.cps_network.specs.Pairs.{list_at}
@@ -14,9 +12,9 @@ use Rattle.cps_network.specs.WindowRanks.{TellTheirRanks}
 use Rattle.replan.specs.Held.{HeldProblem}
 use Rattle.replan.specs.Readers.{AreStagesOf, lists_in, stage_in, window_in}
 use Rattle.first_best.specs.declared.node.EarlyNode.{EarlyNode}
-use Rattle.first_best.specs.Nodes.{node_at, AreNodesOf, IsLandedPrefix}
+use Rattle.first_best.specs.Nodes.{node_at, AreNodesOf}
 use Rattle.first_best.specs.Gathered.{IsGathered, place_at}
-use Rattle.first_best.specs.Stages.{no_stage, stage_of, AreCompleted, HasEachList, HasList, IsAheadOf, IsBehind, IsExact, ListsAllCompleting, StageAhead}
+use Rattle.first_best.specs.Stages.{no_stage, stage_of, AreCompleted, HasEachList, IsAheadOf, IsBehind, ListsAllCompleting, StageAhead}
 use Rattle.first_best.proofs.GatherLemmas.{gathered_nodes, window_prefix}
 use Rattle.first_best.proofs.PairLemmas.{rises_undominated}
 

@@ -1,20 +1,20 @@
 -- The pairs of the nodes of a stage complete them, where those of the next stage do.
-use Rattle.std.proofs.Common.{◌≡◌, ℕ, suc, ◌+◌, ◌-◌, ◌<◌, ◌≤◌, ◌⊎◌, inl, inr, List, [], ◌∷◌, length, Some, true, refl, sym, ap, subst, ◌∙◌, arith}
+use Rattle.std.proofs.Common.{◌≡◌, ℕ, suc, ◌+◌, ◌-◌, ◌<◌, inl, inr, List, [], ◌∷◌, length, true, refl, sym, ap, subst, ◌∙◌, arith}
 use Rattle.std.proofs.lemmas.Bool.{cases_lt}
 use Rattle.std.proofs.lemmas.List.{get_or_past}
 use Rattle.landing_rules.specs.Problem.{Problem}
 use Rattle.cps_theory.specs.Feasible.{SoundProblem}
 use Rattle.cps_theory.specs.Labels.{InPairs, Pair}
 use Rattle.cps_theory.specs.LandingTrail.{last_rank, ranks}
-use Rattle.cps_theory.specs.CompletingPairs.{KeptCompleting, NoEarlierNoDearer}
+use Rattle.cps_theory.specs.CompletingPairs.{KeptCompleting}
 use Rattle.landing_joint.specs.RankedProblem.{ranked, cost_at, landing_after}
-use Rattle.landing_joint.specs.CompletingPairs.{CanLandBy, Cover, IsCompletingPair, IsLastPair, IsLegal, IsSuccessorPair, is_low}
+use Rattle.landing_joint.specs.CompletingPairs.{CanLandBy, IsCompletingPair, IsLegal, IsSuccessorPair}
 use Rattle.landing_joint.specs.shared.RankedLists.{sound_ranked}
 use Rattle.landing_joint.specs.shared.SuccessorPairs.{last_pairs, successor_pairs}
 use Rattle.cps_problem.specs.WellFormed.{IsWellFormed}
 use Rattle.cps_network.specs.Pairs.{list_at}
 use Rattle.first_best.specs.declared.node.EarlyNode.{EarlyNode}
-use Rattle.first_best.specs.Nodes.{node_at, AreNodesOf, IsPrefixOf, IsReached, LeadsTo}
+use Rattle.first_best.specs.Nodes.{node_at, AreNodesOf, IsPrefixOf, IsReached}
 use Rattle.first_best.specs.Completing.{AreInReach, ArePairsOf, AreListsOf, IsEnd, IsPairOf, Rises}
 use Rattle.first_best.specs.Stages.{AreCompleted, IsBehind, StageAhead}
 use Rattle.first_best.specs.Ranges.{IsNextIn}
@@ -96,19 +96,22 @@ module _ (p : Problem) (wf : IsWellFormed p) (v stage : ℕ) (these : List Early
           opened = last_opened q.0 s.opened;
           reached = by_lands p stage these are j lt rs long of q.0 s.reached;
           low = s.low;
-          end = inr (short, record {
-            place = k.place;
-            within = k.within;
-            leads = on_leads p rs s.rank (node_at these j) (node_at nodes k.place) s.legal of k.of_node;
-            way = record {
-              lands_at = s.second;
-              lands = ap (λ (r : ℕ). landing_after p (node_at these j).last q.0 r) (sym same) ∙ ap (λ (r : ℕ). landing_after p r q.0 s.rank) (sym of.last) ∙ s.lands;
-              pair = s.pair;
-              listed = k.listed;
-              in_time = s.in_time;
-              cost_is = ap (λ (r : ℕ). cost_at p r s.second + s.pair.1) (sym same) ∙ s.cost_is;
-            };
-          });
+          end = inr (
+            short,
+            record {
+              place = k.place;
+              within = k.within;
+              leads = on_leads p rs s.rank (node_at these j) (node_at nodes k.place) s.legal of k.of_node;
+              way = record {
+                lands_at = s.second;
+                lands = ap (λ (r : ℕ). landing_after p (node_at these j).last q.0 r) (sym same) ∙ ap (λ (r : ℕ). landing_after p r q.0 s.rank) (sym of.last) ∙ s.lands;
+                pair = s.pair;
+                listed = k.listed;
+                in_time = s.in_time;
+                cost_is = ap (λ (r : ℕ). cost_at p r s.second + s.pair.1) (sym same) ∙ s.cost_is;
+              };
+            },
+          );
         }
 
     -- and before it

@@ -1,13 +1,12 @@
 -- The windows of a stage, put together by node.
-use Rattle.std.proofs.Common.{◌≡◌, ℕ, ◌+◌, ◌<◌, ◌≤◌, ◌⊎◌, inl, inr, List, [], ◌∷◌, ◌++◌, length, set, refl, sym, ap, subst, ◌∙◌, arith, length-append}
+use Rattle.std.proofs.Common.{◌≡◌, ℕ, ◌+◌, ◌<◌, ◌≤◌, inl, inr, List, [], ◌∷◌, ◌++◌, length, refl, sym, ap, subst, ◌∙◌, arith, length-append}
 use Rattle.std.specs.Prelude.{ℤ, pos, ◌↔◌}
 use Rattle.std.proofs.lemmas.Bool.{cases_eq, cases_lt}
 use Rattle.std.proofs.lemmas.List.{get_or_default, get_or_append_left, get_or_push}
 use Rattle.precedence.specs.Pairs.{HasBit}
 use Rattle.landing_rules.specs.Problem.{Problem}
-use Rattle.cps_theory.specs.RankLists.{In}
 use Rattle.cps_theory.specs.Separation.{Landing}
-use Rattle.cps_theory.specs.LandingTrail.{last_rank, latest_landing, pair_of, ranks}
+use Rattle.cps_theory.specs.LandingTrail.{latest_landing, pair_of, ranks}
 use Rattle.cps_theory.specs.Labels.{InPairs, Pair}
 use Rattle.cps_theory.specs.LegalPrefix.{Legal}
 use Rattle.cps_theory.specs.UndominatedPairs.{Staircase}
@@ -19,7 +18,7 @@ use Rattle.cps_network.specs.Lists as windows
 use Rattle.cps_network.specs.Nodes as network
 use Rattle.cps_network.specs.Pairs.{HoldsCosts, list_at, pair_at}
 use Rattle.cps_network.specs.WindowRanks.{TellTheirRanks, TellsPlaced}
-use Rattle.cps_network.specs.shared.PairSteps.{at_in, in_at}
+use Rattle.cps_network.specs.shared.PairSteps.{at_in}
 use Rattle.cps_network.specs.declared.node.Node.{Node}
 use Rattle.first_best.specs.declared.node.EarlyNode.{EarlyNode}
 use Rattle.first_best.specs.Nodes.{node_at, AreNodesOf, IsLandedPrefix, IsPrefixOf, IsReached}

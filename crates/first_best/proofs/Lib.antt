@@ -6,3 +6,4 @@ pub mod WayLemmas
 pub mod ScanLemmas
 pub mod CompletingLemmas
 pub mod AheadLemmas
+pub mod ChoiceLemmas

@@ -1,5 +1,5 @@
 -- Nodes and their prefixes.
-use Rattle.std.proofs.Common.{◌≡◌, ℕ, suc, ◌+◌, ◌*◌, ◌%◌, ◌^◌, ◌<◌, ◌≤◌, ◌⊎◌, inl, inr, List, [], ◌∷◌, length, true, refl, sym, ap, subst, ◌∙◌, arith}
+use Rattle.std.proofs.Common.{◌≡◌, ℕ, suc, ◌*◌, ◌%◌, ◌^◌, ◌<◌, ◌≤◌, ◌⊎◌, inl, inr, List, [], ◌∷◌, length, refl, sym, subst, ◌∙◌, arith}
 use Rattle.std.specs.Prelude.{◌↔◌, bit_or}
 use Rattle.std.specs.Int.{bit_at, w64}
 use Rattle.std.proofs.lemmas.Bool.{cases_eq}
@@ -8,12 +8,10 @@ use Rattle.precedence.specs.Pairs.{HasBit}
 use Rattle.landing_rules.specs.Problem.{Problem}
 use Rattle.cps_theory.specs.RankLists.{In}
 use Rattle.cps_theory.specs.Separation.{Landing}
-use Rattle.cps_theory.specs.LandingTrail.{last_rank, latest_landing, ranks}
-use Rattle.cps_theory.specs.ProblemNetwork.{LandedIn}
-use Rattle.landing_joint.specs.RankedProblem.{ranked}
+use Rattle.cps_theory.specs.LandingTrail.{ranks}
 use Rattle.landing_joint.specs.CompletingPairs.{AreOneNode, CanLandBy, IsLegal}
 use Rattle.first_best.specs.declared.node.EarlyNode.{EarlyNode}
-use Rattle.first_best.specs.Nodes.{node_at, AreNodesOf, IsLandedPrefix, IsPrefixOf, IsReached, LeadsTo}
+use Rattle.first_best.specs.Nodes.{node_at, AreNodesOf, IsPrefixOf, IsReached, LeadsTo}
 
 -- ---- bits
 

@@ -1,5 +1,5 @@
 -- The pairs of a node, found from the latest second on.
-use Rattle.std.proofs.Common.{◌≡◌, ℕ, ◌+◌, ◌-◌, ◌*◌, ◌<◌, ◌≤◌, ◌⊎◌, inl, inr, List, [], ◌∷◌, ◌++◌, length, reverse, Option, Some, None, refl, sym, ap, subst, ◌∙◌, le_refl, arith}
+use Rattle.std.proofs.Common.{◌≡◌, ℕ, ◌+◌, ◌-◌, ◌*◌, ◌<◌, ◌≤◌, ◌⊎◌, inl, inr, List, [], ◌∷◌, ◌++◌, length, reverse, Option, Some, None, refl, sym, ap, subst, le_refl, arith}
 use Rattle.std.proofs.lemmas.Bool.{cases_eq}
 use Rattle.landing_rules.specs.Rules.{last_second}
 use Rattle.landing_rules.specs.Problem.{Problem}
@@ -7,7 +7,7 @@ use Rattle.cps_theory.specs.Labels.{InPairs, Pair}
 use Rattle.cps_theory.specs.CompletingPairs.{NoEarlierNoDearer}
 use Rattle.cps_network.specs.shared.PairLists.{in_append, in_left, in_right}
 use Rattle.first_best.specs.declared.node.EarlyNode.{EarlyNode}
-use Rattle.first_best.specs.Completing.{AreFalling, AreInReach, ArePairsOf, IsLeastOf, IsPairOf}
+use Rattle.first_best.specs.Completing.{AreFalling, ArePairsOf, IsLeastOf, IsPairOf}
 use Rattle.first_best.proofs.PairLemmas.{falls_more, falls_rises, in_reversed, reversed_in}
 
 module _ (p : Problem) (v stage : ℕ) (node : EarlyNode) (nodes : List EarlyNode) (lists : List (List Pair)) where

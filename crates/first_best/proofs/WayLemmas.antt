@@ -1,6 +1,6 @@
 -- Ways from a node to others, and the least cost by them.
-use Rattle.std.proofs.Common.{◌≡◌, ℕ, zero, suc, ◌+◌, ◌-◌, ◌*◌, ◌<◌, ◌≤◌, ◌⊎◌, inl, inr, List, [], ◌∷◌, ◌++◌, length, max, Option, Some, None, true, false, ◌&&◌, refl, sym, ap, subst, ◌∙◌, arith}
-use Rattle.std.specs.Prelude.{◌↔◌, slice_index_or}
+use Rattle.std.proofs.Common.{◌≡◌, ℕ, zero, suc, ◌+◌, ◌<◌, ◌≤◌, inl, inr, List, [], ◌∷◌, ◌++◌, length, Option, Some, None, true, false, ◌&&◌, refl, sym, ap, subst, ◌∙◌, arith}
+use Rattle.std.specs.Prelude.{slice_index_or}
 use Rattle.std.proofs.lemmas.Bool.{and_from, cases_eq, cases_lt, false≢true}
 use Rattle.std.proofs.lemmas.List.{get_or_append_left, get_or_push}
 use Rattle.std.proofs.Common.{length-append}
@@ -13,7 +13,7 @@ use Rattle.landing_joint.specs.shared.FirstOpen.{is_first_open}
 use Rattle.cps_network.specs.Pairs.{list_at}
 use Rattle.first_best.specs.declared.node.EarlyNode.{EarlyNode}
 use Rattle.first_best.specs.Nodes.{node_at, LeadsTo}
-use Rattle.first_best.specs.Completing.{AreWaysOf, IsCostFrom, IsEnd, IsLeastOf, IsPairOf, IsWay, IsWayTo}
+use Rattle.first_best.specs.Completing.{AreWaysOf, IsCostFrom, IsEnd, IsLeastOf, IsPairOf, IsWayTo}
 use Rattle.first_best.proofs.PairLemmas.{least_same}
 
 -- ---- the places of the nodes that a node leads to

@@ -1,6 +1,5 @@
 -- The windows of a stage, put together by node.
 use Rattle.std.specs.Prelude.{◌≡◌, ℕ, ℤ, ◌<◌, ◌≤◌, ◌⊎◌, List, length, slice_index_or, Option}
-use Rattle.landing_rules.specs.Problem.{Problem}
 use Rattle.cps_theory.specs.Labels.{Pair}
 use Rattle.cps_network.specs.Lists as windows
 use Rattle.cps_network.specs.Nodes.{latest}

@@ -4,3 +4,4 @@ pub mod Gathered
 pub mod Completing
 pub mod Stages
 pub mod Ranges
+pub mod Choices

@@ -1,6 +1,7 @@
 -- What is asked of nodes and their pairs where numbers are added up.
 use Rattle.std.specs.Prelude.{ℕ, ◌≡◌, ◌+◌, ◌<◌, ◌≤◌, length}
 use Rattle.landing_rules.specs.Problem.{Problem}
+use Rattle.landing_rules.specs.Rules.{last_second}
 use Rattle.cps_network.specs.Pairs.{list_at}
 use Rattle.first_best.specs.declared.node.EarlyNode.{EarlyNode}
 use Rattle.first_best.specs.Nodes.{node_at}
@@ -17,3 +18,7 @@ pub record IsNextIn (p : Problem) (stage : ℕ) (next : StageAhead) : Type 0 whe
   pub ranks : (j : ℕ) → j < length next.nodes → HasRank p (node_at next.nodes j)
   pub rising : (j : ℕ) → Rises (list_at next.lists j)
   pub in_reach : (j left : ℕ) → stage + left + 1 ≡ length p.flights → AreInReach left (list_at next.lists j)
+
+-- the last of a prefix is a rank, or there is none, and it landed in the two days
+abbrev pub IsPlacedIn : Problem → EarlyNode → Type 0
+IsPlacedIn p before = (before.last ≤ length p.flights) × (before.earliest ≤ last_second)

@@ -3,6 +3,7 @@
 #![tactic(auto)]
 
 mod ahead;
+mod choice;
 mod complete;
 mod gather;
 mod laws;
@@ -12,3 +13,4 @@ mod stage;
 mod ways;
 
 pub use ahead::Ahead;
+pub use choice::first_schedule;

@@ -92,7 +92,14 @@ pub(crate) fn least_cost(
     }
     let mut least = None;
     for way in ways {
-        let cost = cost_by(problem, node, next.node(*way), next.list(*way), second, left - 1);
+        let cost = cost_by(
+            problem,
+            node,
+            next.node(*way),
+            next.list(*way),
+            second,
+            left - 1,
+        );
         least = lesser(least, cost);
     }
     least

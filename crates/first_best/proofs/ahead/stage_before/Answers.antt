@@ -1,4 +1,4 @@
-use Rattle.std.proofs.Common.{◌≡◌, ℕ, ◌<◌, ◌≤◌, List, length, sym, subst, arith}
+use Rattle.std.proofs.Common.{ℕ, ◌<◌, List, length, sym, subst}
 use Rattle.replan.specs.Kept.{held_of}
 use Rattle.first_best.specs.declared.node.EarlyNode.{EarlyNode}
 use Rattle.first_best.specs.Nodes.{node_at}

@@ -1,7 +1,7 @@
-use Rattle.std.proofs.Common.{◌≡◌, ℕ, ◌+◌, ◌<◌, ◌≤◌, List, inl, inr, sym, ap, subst, ◌∙◌, arith}
+use Rattle.std.proofs.Common.{ℕ, inl, inr, sym, subst, arith}
 use Rattle.std.specs.Prelude.{slice_index_or}
 use Rattle.std.proofs.lemmas.Bool.{cases_eq}
-use Rattle.cps_theory.specs.Labels.{InPairs, Pair}
+use Rattle.cps_theory.specs.Labels.{InPairs}
 use Rattle.cps_network.specs.Pairs.{list_at}
 use Rattle.first_best.proofs.WayLemmas.{pairs_late}
 use Rattle.first_best.proofs.complete.latest.Goals as goal

@@ -1,4 +1,4 @@
-use Rattle.std.proofs.Common.{◌≡◌, ℕ, ◌+◌, ◌-◌, ◌*◌, ◌<◌, ◌≤◌, ◌++◌, List, [], ◌∷◌, length, Option, Some, sym, ap, subst, ◌∙◌, arith}
+use Rattle.std.proofs.Common.{◌≡◌, ℕ, ◌+◌, ◌-◌, ◌*◌, ◌<◌, ◌≤◌, List, length, Option, sym, subst, ◌∙◌, arith}
 use Rattle.std.specs.Prelude.{IfSome}
 use Rattle.cps_theory.specs.Labels.{Pair}
 use Rattle.first_best.specs.Completing.{IsLeastOf, IsPairOf}
@@ -30,26 +30,26 @@ loop-i-preserved c =
     let before : c.latest-end.result + 1 - c.loop-i.i ≡ second + 1 = omega (arith, c.loop-i-test.true, c.saturating_sub-i-end.ensures) in
     let s : Scanned p v stage node nodes lists (second + 1) least pairs = subst (λ (n : ℕ). Scanned p v stage node nodes lists n least pairs) before c.loop-i.invariant in
     subst (λ (n : ℕ). Scanned p v stage node nodes lists n c.match-cost_of.least c.match-cost_of.pairs.items) same (
-      elim c.match-cost_of.branch [
-        | in-Some+then-from-least+in_ok-push-in-Some w ↦
-            let l = subst (λ (o : Option ℕ). IsLeastOf (λ d. IsPairOf p v stage node nodes lists (second, d)) o) w.in-Some.is found in
-            let low = subst (λ (o : Option ℕ). IfSome o (λ d. d ≤ most)) w.in-Some.is small in
-            let cost = w.in-Some.cost in
-            let less : cost < least = omega (arith, w.if-from-least.true, w.from.ensures) in
-            let made = cheaper p v stage node nodes lists second least pairs s cost l less (omega (arith, c.latest-end.ensures.in_days)) low in
-            subst (λ (n : ℕ). Scanned p v stage node nodes lists second n c.match-cost_of.pairs.items) (sym (w.least-is ∙ w.from-least.ensures))
-            (subst (λ x. Scanned p v stage node nodes lists second cost x.items) (sym w.pairs-is) (subst (λ (x : List Pair). Scanned p v stage node nodes lists second cost x) (sym w.in_ok-push-in-Some.ensures.items) made))
-        | in-Some+else-from-least w ↦
-            let l = subst (λ (o : Option ℕ). IsLeastOf (λ d. IsPairOf p v stage node nodes lists (second, d)) o) w.in-Some.is found in
-            let low = subst (λ (o : Option ℕ). IfSome o (λ d. d ≤ most)) w.in-Some.is small in
-            let cost = w.in-Some.cost in
-            let made = no_cheaper p v stage node nodes lists second least pairs s cost l (omega (arith, w.if-from-least.false, w.from.ensures)) (omega (arith, low, few)) in
-            subst (λ (n : ℕ). Scanned p v stage node nodes lists second n c.match-cost_of.pairs.items) (sym w.least-is) (subst (λ x. Scanned p v stage node nodes lists second least x.items) (sym w.pairs-is) made)
-        | in-None w ↦
-            let l = subst (λ (o : Option ℕ). IsLeastOf (λ d. IsPairOf p v stage node nodes lists (second, d)) o) w.in-None.is found in
-            let made = nothing_here p v stage node nodes lists second least pairs s l in
-            subst (λ (n : ℕ). Scanned p v stage node nodes lists second n c.match-cost_of.pairs.items) (sym w.least-is) (subst (λ x. Scanned p v stage node nodes lists second least x.items) (sym w.pairs-is) made)
-      ]
+    elim c.match-cost_of.branch [
+      | in-Some+then-from-least+in_ok-push-in-Some w ↦
+          let l = subst (λ (o : Option ℕ). IsLeastOf (λ d. IsPairOf p v stage node nodes lists (second, d)) o) w.in-Some.is found in
+          let low = subst (λ (o : Option ℕ). IfSome o (λ d. d ≤ most)) w.in-Some.is small in
+          let cost = w.in-Some.cost in
+          let less : cost < least = omega (arith, w.if-from-least.true, w.from.ensures) in
+          let made = cheaper p v stage node nodes lists second least pairs s cost l less (omega (arith, c.latest-end.ensures.in_days)) low in
+          subst (λ (n : ℕ). Scanned p v stage node nodes lists second n c.match-cost_of.pairs.items) (sym (w.least-is ∙ w.from-least.ensures))
+          (subst (λ x. Scanned p v stage node nodes lists second cost x.items) (sym w.pairs-is) (subst (λ (x : List Pair). Scanned p v stage node nodes lists second cost x) (sym w.in_ok-push-in-Some.ensures.items) made))
+      | in-Some+else-from-least w ↦
+          let l = subst (λ (o : Option ℕ). IsLeastOf (λ d. IsPairOf p v stage node nodes lists (second, d)) o) w.in-Some.is found in
+          let low = subst (λ (o : Option ℕ). IfSome o (λ d. d ≤ most)) w.in-Some.is small in
+          let cost = w.in-Some.cost in
+          let made = no_cheaper p v stage node nodes lists second least pairs s cost l (omega (arith, w.if-from-least.false, w.from.ensures)) (omega (arith, low, few)) in
+          subst (λ (n : ℕ). Scanned p v stage node nodes lists second n c.match-cost_of.pairs.items) (sym w.least-is) (subst (λ x. Scanned p v stage node nodes lists second least x.items) (sym w.pairs-is) made)
+      | in-None w ↦
+          let l = subst (λ (o : Option ℕ). IsLeastOf (λ d. IsPairOf p v stage node nodes lists (second, d)) o) w.in-None.is found in
+          let made = nothing_here p v stage node nodes lists second least pairs s l in
+          subst (λ (n : ℕ). Scanned p v stage node nodes lists second n c.match-cost_of.pairs.items) (sym w.least-is) (subst (λ x. Scanned p v stage node nodes lists second least x.items) (sym w.pairs-is) made)
+    ]
     )
 
 pub returns : goal.returns

@@ -1,4 +1,4 @@
-use Rattle.std.proofs.Common.{◌≡◌, List, sym, subst, ◌∙◌}
+use Rattle.std.proofs.Common.{List, sym, subst, ◌∙◌}
 use Rattle.cps_theory.specs.Labels.{Pair}
 use Rattle.first_best.specs.Completing.{ArePairsOf}
 use Rattle.first_best.proofs.ScanLemmas.{turned}

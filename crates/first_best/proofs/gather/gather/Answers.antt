@@ -1,8 +1,7 @@
-use Rattle.std.proofs.Common.{◌≡◌, ℕ, ◌+◌, ◌<◌, List, [], ◌∷◌, ◌++◌, length, sym, ap, subst, ◌∙◌, arith}
+use Rattle.std.proofs.Common.{◌≡◌, ℕ, ◌+◌, List, length, sym, ap, subst, arith}
 use Rattle.cps_theory.specs.Labels.{Pair}
 use Rattle.replan.specs.Kept.{held_of}
 use Rattle.replan.specs.Readers.{stage_in, lists_in}
-use Rattle.first_best.specs.declared.node.EarlyNode.{EarlyNode}
 use Rattle.first_best.specs.Nodes.{node_at}
 use Rattle.first_best.specs.Gathered.{AreGathered}
 use Rattle.first_best.proofs.GatherLemmas.{has_first, more_gathered, told_by}

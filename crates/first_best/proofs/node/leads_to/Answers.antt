@@ -1,4 +1,4 @@
-use Rattle.std.proofs.Common.{◌≡◌, ◌*◌, ◌%◌, ◌^◌, arith, ◌∙◌}
+use Rattle.std.proofs.Common.{◌*◌, ◌%◌, ◌^◌, arith, ◌∙◌}
 use Rattle.std.specs.Prelude.{bit_or}
 use Rattle.std.proofs.lemmas.Bool.Decides.{Decides-eqb}
 use Rattle.std.proofs.lemmas.Nat.Bits.{shr_and_one}

@@ -1,4 +1,4 @@
-use Rattle.std.proofs.Common.{◌≡◌, ℕ, ◌+◌, Some, sym, subst, ◌∙◌, arith}
+use Rattle.std.proofs.Common.{ℕ, ◌+◌, Some, sym, subst, ◌∙◌}
 use Rattle.first_best.specs.Completing.{IsLeastOf, IsWayTo}
 use Rattle.first_best.proofs.WayLemmas.{too_late, way_cost}
 use Rattle.first_best.proofs.ways.cost_by.Goals as goal

@@ -1,5 +1,4 @@
-use Rattle.std.proofs.Common.{◌≡◌, ℕ, ◌+◌, List, true, sym, ap, subst, ◌∙◌, arith}
-use Rattle.first_best.specs.declared.node.EarlyNode.{EarlyNode}
+use Rattle.std.proofs.Common.{◌≡◌, ℕ, ◌+◌, List, true, sym, subst, arith}
 use Rattle.first_best.specs.Nodes.{node_at, LeadsTo}
 use Rattle.first_best.proofs.WayLemmas.{WaysUpto, one_way, no_way, all_ways}
 use Rattle.first_best.proofs.ways.ways_of.Goals.{then-leads_to+in_ok-push, else-leads_to}

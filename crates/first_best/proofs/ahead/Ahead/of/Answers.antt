@@ -1,8 +1,7 @@
-use Rattle.std.proofs.Common.{◌≡◌, ℕ, ◌+◌, ◌-◌, List, length, sym, subst, ◌∙◌, arith}
-use Rattle.std.proofs.lemmas.List.{get_or_default}
+use Rattle.std.proofs.Common.{◌+◌, ◌-◌, List, sym, subst, arith}
 use Rattle.replan.specs.Kept.{held_of}
-use Rattle.first_best.specs.Stages.{no_stage, IsAheadOf, IsBehind, StageAhead}
-use Rattle.first_best.proofs.AheadLemmas.{all_exact, each_listed, all_stages, at, behind_from, one_stage, IsAheadFrom}
+use Rattle.first_best.specs.Stages.{IsAheadOf, StageAhead}
+use Rattle.first_best.proofs.AheadLemmas.{all_exact, each_listed, all_stages, one_stage, IsAheadFrom}
 use Rattle.first_best.proofs.ahead.Ahead.of.Goals as goal
 
 pub loop-done-preserved : goal.loop-done-preserved

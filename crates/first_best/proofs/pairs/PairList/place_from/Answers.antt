@@ -1,4 +1,4 @@
-use Rattle.std.proofs.Common.{◌≡◌, ℕ, ◌+◌, ◌-◌, ◌/◌, ◌<◌, sym, subst, arith}
+use Rattle.std.proofs.Common.{ℕ, ◌+◌, ◌-◌, ◌/◌, ◌<◌, subst, arith}
 use Rattle.cps_theory.specs.Labels.{Pair}
 use Rattle.first_best.proofs.PairLemmas.{below_middle}
 use Rattle.first_best.proofs.pairs.PairList.place_from.Goals as goal
