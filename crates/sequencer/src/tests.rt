@@ -60,3 +60,58 @@ fn flights_stand_by_rank_with_their_predecessors(rt: HostRuntime) -> Result<(), 
     assert!(rt; !problem.pairs().must_precede(2, 1));
     Ok(())
 }
+
+#[test]
+fn frozen_flights_leave_the_others_to_plan(rt: HostRuntime) -> Result<(), Fail> {
+    let entries = "[[frozen]]\ncallsign = \"F1\"\nsecond = 1010
+[[passed]]\ncallsign = \"A1\"\ncount = 1";
+    let aerodrome = sample(rt.alloc(), "clock = 900", entries)?;
+    let rows = "A1,A,1000,1,1000-2000,\nF1,F,1010,1,1010-2000,\n";
+    let problem = posed(rt.alloc(), &aerodrome, rows)?;
+    let problem = problem.ok().ok_or("no problem")?;
+    assert!(rt; problem.len() == 1);
+    assert!(rt; problem.flight(1).callsign.bytes() == b"A1".as_slice());
+    assert!(rt; problem.flight(1).passed == 1);
+    let entries = "[[frozen]]\ncallsign = \"F1\"\nsecond = 1010
+[[frozen]]\ncallsign = \"A1\"\nsecond = 1070";
+    let aerodrome = sample(rt.alloc(), "clock = 1000", entries)?;
+    let problem = posed(rt.alloc(), &aerodrome, rows)?;
+    let problem = problem.ok().ok_or("no problem")?;
+    assert!(rt; problem.len() == 0);
+    Ok(())
+}
+
+#[test]
+fn openings_are_refused_by_the_first_refusal(rt: HostRuntime) -> Result<(), Fail> {
+    let rows = "A1,A,1000,1,1000-2000,\nF1,F,1010,1,1010-2000,A1\n";
+    let cases: [(&str, &str); 5] = [
+        (
+            "[[frozen]]\ncallsign = \"ZZ9\"\nsecond = 1010",
+            "Some(UnknownFrozen(1))",
+        ),
+        (
+            "[[passed]]\ncallsign = \"ZZ9\"\ncount = 1",
+            "Some(UnknownPassed(1))",
+        ),
+        (
+            "[[frozen]]\ncallsign = \"F1\"\nsecond = 1009",
+            "Some(FrozenClosed(1))",
+        ),
+        (
+            "[[frozen]]\ncallsign = \"A1\"\nsecond = 1000
+[[frozen]]\ncallsign = \"F1\"\nsecond = 1010",
+            "Some(FrozenSeparation(1, 2))",
+        ),
+        (
+            "[[frozen]]\ncallsign = \"F1\"\nsecond = 1010",
+            "Some(FrozenPrecedence(1, A1))",
+        ),
+    ];
+    for (entries, refusal) in cases {
+        let aerodrome = sample(rt.alloc(), "clock = 900", entries)?;
+        let fault = posed(rt.alloc(), &aerodrome, rows)?.err();
+        let text = format!(in rt.alloc(); "{fault:?}")?;
+        assert!(rt; text.as_str() == refusal);
+    }
+    Ok(())
+}
