@@ -62,7 +62,7 @@ fn clocked(situation: &Situation, seconds: &[u32], now: u32) -> Result<Situation
     if situation.len() != seconds.len() || situation.refusal(&event).is_some() {
         return Err(Fail::from("refused"));
     }
-    let next = situation.after(Some(seconds), &event)?;
+    let next = situation.after(rt.alloc(), Some(seconds), &event)?;
     Ok(next)
 }
 

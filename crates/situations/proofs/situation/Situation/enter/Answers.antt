@@ -11,7 +11,7 @@ use Rattle.landing_rules.specs.Events.{named}
 use Rattle.situations.specs.Seen.{AreKeyed}
 use Rattle.situations.specs.Seen.{flights_of, fixed_of}
 use Rattle.situations.proofs.Entries.{Entry, not_there, flights-push}
-use Rattle.situations.proofs.situation.Situation.add.Goals as goal
+use Rattle.situations.proofs.situation.Situation.enter.Goals as goal
 
 absent : (s : Situation) (c : List ℕ) (es : List Entry) → AreKeyed es → flights_of es ≡ s.active → list_any (named c) s.active ≡ false → lookup (bytes_eq c) es ≡ None
 absent s c es keyed same n = not_there c es keyed (ap (list_any (named c)) same ∙ n)
