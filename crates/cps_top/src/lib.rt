@@ -15,6 +15,7 @@ mod laws;
 mod lines;
 mod loads;
 mod opening;
+mod opening_lines;
 mod plan;
 mod replay;
 mod replay_laws;
