@@ -86,7 +86,8 @@ fn first_taken<R: Threads + Sync>(
             or: "",
             err: refused.cause,
         };
-        let wrong = first_wrong(rt, alloc, &[case])?;
+        let cases = [case];
+        let wrong = first_wrong(rt, alloc, &cases)?;
         if wrong.is_some() {
             return Ok(wrong);
         }
