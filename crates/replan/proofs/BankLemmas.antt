@@ -1,6 +1,6 @@
 -- Flights that come one behind another make a problem.
-use Rattle.std.proofs.Common.{◌≡◌, ℕ, zero, suc, ◌+◌, ◌<◌, ◌≤◌, List, [], ◌∷◌, length, get_or, Option, None, refl, sym, ap, subst, arith}
-use Rattle.std.specs.Prelude.{All, AllPairs, MatchOption, ⊤, ◌≢◌, map}
+use Rattle.std.proofs.Common.{◌≡◌, ℕ, ◌+◌, ◌<◌, ◌≤◌, length, get_or, Option, None, sym, ap, subst, arith}
+use Rattle.std.specs.Prelude.{All, AllPairs, MatchOption, ⊤, ◌≢◌}
 use Rattle.std.specs.declared.cmp.Ordering.{Ordering}
 use Rattle.std.specs.declared.cmp.Ordering.TheVariants.{Less}
 use Rattle.std.specs.Ordering.{nat_cmp, ordering_then, is_lt}
@@ -10,9 +10,7 @@ use Rattle.precedence.specs.Pairs.{MustPrecede, must_precede_decides}
 use Rattle.wake_table.specs.Table.{IsWakeTable}
 use Rattle.wake_table.specs.declared.category.Category.{Category}
 use Rattle.landing_rules.specs.Problem as rules
-use Rattle.cps_problem.specs.Seen.{waiting_of}
 use Rattle.cps_problem.specs.WellFormed.{ComesBefore, IsWellFormed}
-use Rattle.cps_problem.specs.declared.problem.Waiting.{Waiting}
 
 comes_before : (f g : rules.Waiting) → f.eta < g.eta → ComesBefore f g
 comes_before f g lt =

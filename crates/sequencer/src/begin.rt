@@ -1,6 +1,7 @@
 ghost use Rattle.std.specs.Prelude.{◌≡◌, IfOk, IfErr, None};
 ghost use Rattle.landing_rules.specs.Problem.{IsProblemOf};
 ghost use Rattle.landing_rules.specs.Sound.{IsSound};
+ghost use Rattle.cps_problem.specs.Plans.{IsWithinShift};
 ghost use Rattle.situations.specs.Opened.{CanOpen, opened};
 ghost use Rattle.situations.specs.Refused.{opening_fault};
 ghost use Rattle.sequencer.specs.Begun.{IsRefusedBy};
@@ -72,6 +73,7 @@ pub(crate) fn open(
     requires { CanOpen aerodrome.now flights.now }
     ensures value { IfOk result (λ situation. situation ≡ opened aerodrome.now flights.now) }
     ensures sound { IfOk result IsSound }
+    ensures plannable { IfOk result (λ situation. IsWithinShift situation.aerodrome.objective situation.aerodrome.k) }
     ensures openable { IfOk result (λ _. opening_fault aerodrome.now flights.now ≡ None) }
     ensures refused { IfErr result (IsRefusedBy (opening_fault aerodrome.now flights.now)) }
 {

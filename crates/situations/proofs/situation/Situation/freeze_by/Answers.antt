@@ -16,5 +16,5 @@ pub returns : goal.returns
 returns c =
     let es = c.self.inside.active.entries in
     let e = ap flights_of c.freeze_each.ensures.entries
-        ∙ frozen_flights (fixed_of c.self.inside.fixed) c.args.h (flights_of es) c.args.seconds.now c.in_ok-freeze.freeze c.in_ok-freeze.ensures es c.args.seconds.now in
+    ∙ frozen_flights (fixed_of c.self.inside.fixed) c.args.h (flights_of es) c.args.seconds.now c.in_ok-freeze.freeze c.in_ok-freeze.ensures es c.args.seconds.now in
     rw (← c.self.view_is) (ap (λ l. record { aerodrome = fixed_of c.self.inside.fixed; active = l; closures = c.self.inside.closures; clock = c.self.inside.clock }) e)

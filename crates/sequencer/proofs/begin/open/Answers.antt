@@ -8,7 +8,7 @@ use Rattle.aerodrome_file.specs.declared.aerodrome.Aerodrome.{Aerodrome}
 use Rattle.aerodrome_file.specs.Reading.{IsInRange, is_delay, most_shift}
 use Rattle.cps_problem.specs.Plans.{IsWithinShift}
 use Rattle.situations.specs.Opened.{aerodrome_of}
-use Rattle.sequencer.proofs.sequencer.Sequencer.begin.Goals as goal
+use Rattle.sequencer.proofs.begin.open.Goals as goal
 
 -- the shift of an aerodrome's file is one that a planner is asked for
 most_two : (v : ℕ) → most_shift v ≤ 2
@@ -21,5 +21,5 @@ within Delay v k h = let few = h refl in let most = most_two v in omega (arith, 
 plannable : (a : Aerodrome) (s : Situation) → IsInRange a → s.aerodrome ≡ aerodrome_of a → IsWithinShift s.aerodrome.objective s.aerodrome.k
 plannable a s range e = rw e (within a.objective a.version a.k range.shift)
 
-pub start-sequencer-requires-clause-plannable : goal.start-sequencer-requires-clause-plannable
-start-sequencer-requires-clause-plannable g c = plannable c.args.aerodrome c.in_ok-situation.situation c.requires.can.aerodrome (ap (λ (s : Situation). s.aerodrome) c.in_ok-situation.ensures.value)
+pub returns-clause-plannable : goal.returns-clause-plannable
+returns-clause-plannable c = plannable c.args.aerodrome.now c.in_ok-situation.situation c.requires.aerodrome (ap (λ (s : Situation). s.aerodrome) c.in_ok-situation.ensures.value)
