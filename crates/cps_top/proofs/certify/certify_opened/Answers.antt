@@ -2,6 +2,8 @@ use Rattle.std.proofs.Common.{sym, subst₂}
 use Rattle.cps_problem.specs.Plans.{IsWithinShift}
 use Rattle.sequencer.specs.Opened.{opened}
 use Rattle.cps_top.proofs.Judged.{opened_taken, claim_true}
+use Rattle.std.proofs.lemmas.Result.{err_from_is_err_and}
+use Rattle.cps_top.proofs.Judged.{stops_opened}
 use Rattle.cps_top.proofs.certify.certify_opened.Goals as goal
 
 pub returns : goal.returns
@@ -17,3 +19,8 @@ returns g c = record {
   };
   whole = c.in_ok-certificate.ensures.whole;
 }
+
+pub returns-in_err-problem : goal.returns-in_err-problem
+returns-in_err-problem g c =
+    let p = err_from_is_err_and c.from_residual.result c.from_residual.ensures.1 in
+    rw p.1 (stops_opened c.args.aerodrome.now c.args.flights.now c.in_err-problem.field-0.0 p.0 c.in_err-problem.ensures.refused p.2)
