@@ -26,7 +26,10 @@ fn say_pair<E: Sink>(err: &mut E, i: u16, j: u16) -> Result<(), WriteFailed>
     let mut second = Buffer::new();
     let i = first.format(i).as_bytes();
     let j = second.format(j).as_bytes();
-    put_all(err, &[b"cps: opening: frozen-separation ", i, b" ", j, b"\n"])
+    put_all(
+        err,
+        &[b"cps: opening: frozen-separation ", i, b" ", j, b"\n"],
+    )
 }
 
 // Writes the line of a frozen landing that is not behind a flight of its list.
@@ -36,7 +39,16 @@ fn say_precedence<E: Sink>(err: &mut E, i: u16, callsign: &Callsign) -> Result<(
     let mut buffer = Buffer::new();
     let i = buffer.format(i).as_bytes();
     let callsign = callsign.bytes();
-    put_all(err, &[b"cps: opening: frozen-precedence ", i, b" ", callsign, b"\n"])
+    put_all(
+        err,
+        &[
+            b"cps: opening: frozen-precedence ",
+            i,
+            b" ",
+            callsign,
+            b"\n",
+        ],
+    )
 }
 
 // Writes the line of a fault.

@@ -52,7 +52,10 @@ const OPENINGS: [Case; 15] = [
         words: "check aerodrome flights events",
         aerodrome: [CLOCK, TABLE, F1_FROZEN],
         flights: [HEADER, TWO],
-        events: ["", "certificate 1\nclaim optimal 1070\nland A1 1070\nstate 1 10 1 1070:0\n"],
+        events: [
+            "",
+            "certificate 1\nclaim optimal 1070\nland A1 1070\nstate 1 10 1 1070:0\n",
+        ],
         status: 0,
         out: "optimal 1070\n",
         or: "",
@@ -116,8 +119,15 @@ const OPENINGS: [Case; 15] = [
     Case {
         shows: "the least delay with two places",
         words: "plan aerodrome flights",
-        aerodrome: ["version = 2\nk = 2\nfreeze = 150\nobjective = \"delay\"\n", TABLE, ""],
-        flights: [HEADER, "A1,A,1000,1,1000-2000,\nA2,A,1001,1,1001-2000,\nF1,F,1010,1,1010-2000,\n"],
+        aerodrome: [
+            "version = 2\nk = 2\nfreeze = 150\nobjective = \"delay\"\n",
+            TABLE,
+            "",
+        ],
+        flights: [
+            HEADER,
+            "A1,A,1000,1,1000-2000,\nA2,A,1001,1,1001-2000,\nF1,F,1010,1,1010-2000,\n",
+        ],
         events: ["", ""],
         status: 0,
         out: "delay 229\nland F1 1010 waiting\nland A1 1070 waiting\nland A2 1160 waiting\n",
@@ -162,7 +172,10 @@ const OPENINGS: [Case; 15] = [
         words: "check aerodrome flights events",
         aerodrome: [CARRY, TABLE, A1_PASSED],
         flights: [HEADER, TWO],
-        events: ["", "certificate 1\nclaim optimal 1180\nland A1 1000\nland F1 1180\nstate 1 01 2 1010:0\nstate 1 10 1 1000:0\nstate 2 10 2 1180:0\n"],
+        events: [
+            "",
+            "certificate 1\nclaim optimal 1180\nland A1 1000\nland F1 1180\nstate 1 01 2 1010:0\nstate 1 10 1 1000:0\nstate 2 10 2 1180:0\n",
+        ],
         status: 0,
         out: "optimal 1180\n",
         or: "",
@@ -173,7 +186,10 @@ const OPENINGS: [Case; 15] = [
         words: "check aerodrome flights events",
         aerodrome: [ONE_PLACE, TABLE, ""],
         flights: [HEADER, TWO],
-        events: ["", "certificate 1\nclaim optimal 1180\nland A1 1000\nland F1 1180\nstate 1 01 2 1010:0\nstate 1 10 1 1000:0\nstate 2 10 2 1180:0\n"],
+        events: [
+            "",
+            "certificate 1\nclaim optimal 1180\nland A1 1000\nland F1 1180\nstate 1 01 2 1010:0\nstate 1 10 1 1000:0\nstate 2 10 2 1180:0\n",
+        ],
         status: 7,
         out: "rejected successor 1 1\n",
         or: "",

@@ -385,5 +385,5 @@ plain_opening a fs no_frozen no_passed few =
     let wait : length (filter is_waiting active) ≤ 60 = omega (arith, few_pass is_waiting active) in
     let enough : too_many_waiting active ≡ None = ap (λ b. unless b (fault.TooManyWaiting (length (filter is_waiting active)))) (le-leb (length (filter is_waiting active)) 60 wait) in
     let names : name_fault a active ≡ None =
-        ap₂ (λ f p. option_or (first_from (unknown_frozen_at active) 1 f) (option_or (first_from (unknown_passed_at active) 1 p) (too_many_waiting active))) no_frozen no_passed ∙ enough in
+    ap₂ (λ f p. option_or (first_from (unknown_frozen_at active) 1 f) (option_or (first_from (unknown_passed_at active) 1 p) (too_many_waiting active))) no_frozen no_passed ∙ enough in
     ap₂ option_or names (ap (λ f. rule_fault a active (given active f)) no_frozen)
