@@ -15,6 +15,7 @@ mod laws;
 mod lines;
 mod loads;
 mod opening;
+mod opening_lines;
 mod plan;
 mod replay;
 mod replay_laws;
@@ -42,6 +43,8 @@ mod hostile_tests;
 #[cfg(test)]
 mod limit_tests;
 #[cfg(test)]
+mod refused_openings;
+#[cfg(test)]
 mod replay_tests;
 #[cfg(test)]
 mod test_runs;
@@ -51,6 +54,8 @@ mod tests;
 mod trial_tests;
 #[cfg(test)]
 mod worked_cases;
+#[cfg(test)]
+mod worked_openings;
 #[cfg(test)]
 mod worked_plans;
 #[cfg(test)]

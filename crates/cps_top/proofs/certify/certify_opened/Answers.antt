@@ -2,12 +2,14 @@ use Rattle.std.proofs.Common.{sym, subst₂}
 use Rattle.cps_problem.specs.Plans.{IsWithinShift}
 use Rattle.sequencer.specs.Opened.{opened}
 use Rattle.cps_top.proofs.Judged.{opened_taken, claim_true}
+use Rattle.std.proofs.lemmas.Result.{err_from_is_err_and}
+use Rattle.cps_top.proofs.Judged.{stops_opened}
 use Rattle.cps_top.proofs.certify.certify_opened.Goals as goal
 
 pub returns : goal.returns
 returns g c = record {
   judged = record {
-    taken = opened_taken c.args.flights.now c.opening_problem.result c.in_ok-problem.problem c.in_ok-problem.was c.opening_problem.ensures.too_many;
+    taken = opened_taken c.args.aerodrome.now c.args.flights.now c.in_ok-problem.ensures.openable;
     problem = c.in_ok-problem.problem;
     problem_of = c.in_ok-problem.ensures.problem;
     verdict_is = sym c.in_ok-certificate.ensures.accepted;
@@ -17,3 +19,8 @@ returns g c = record {
   };
   whole = c.in_ok-certificate.ensures.whole;
 }
+
+pub returns-in_err-problem : goal.returns-in_err-problem
+returns-in_err-problem g c =
+    let p = err_from_is_err_and c.from_residual.result c.from_residual.ensures.1 in
+    rw p.1 (stops_opened c.args.aerodrome.now c.args.flights.now c.in_err-problem.field-0.0 p.0 c.in_err-problem.ensures.refused p.2)

@@ -4,6 +4,8 @@ use Rattle.cps_base.specs.Tally.{raised_by}
 use Rattle.landing_rules.specs.Problem.{Problem}
 use Rattle.cps_network.specs.Due.{IsDue}
 use Rattle.efforts.specs.Bound.{most_steps}
+use Rattle.std.proofs.lemmas.Result.{err_from_is_err_and}
+use Rattle.cps_top.proofs.Judged.{stops_opened}
 use Rattle.cps_top.proofs.opening.begin.Goals as goal
 
 pub returns-clause-planned : goal.returns-clause-planned
@@ -21,3 +23,8 @@ returns-clause-planned g c =
       held = c.in_ok-sequencer.ensures.holds;
       due = subst (λ (n : ℕ). IsDue None problem n) (sym same) due;
     }
+
+pub returns-in_err-sequencer-clause-opened : goal.returns-in_err-sequencer-clause-opened
+returns-in_err-sequencer-clause-opened g c =
+    let p = err_from_is_err_and c.from_residual.result c.from_residual.ensures.1 in
+    rw p.1 (stops_opened c.args.aerodrome c.args.flights.items c.in_err-sequencer.field-0.0 p.0 c.in_err-sequencer.ensures.refused p.2)
