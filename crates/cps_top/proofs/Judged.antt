@@ -1,6 +1,7 @@
 -- From the verdict on a read certificate to what `check` says of the bytes.
-use Rattle.std.proofs.Common.{◌≡◌, refl, inl, inr, ℕ, ◌<◌, List, length, None, Ok, Err, Result, ap, sym, ◌∙◌, arith}
-use Rattle.std.proofs.lemmas.Bool.{cases_lt}
+use Rattle.std.proofs.Common.{◌≡◌, refl, ℕ, List, Option, None, Some, Ok, ap, subst, sym, ◌∙◌}
+use Rattle.std.specs.Prelude.{option_map, MatchOption, ⊤}
+use Rattle.aerodrome_file.specs.declared.aerodrome.Aerodrome.{Aerodrome}
 use Rattle.landing_rules.specs.Flights.{Situation}
 use Rattle.landing_rules.specs.Problem.{Problem, IsProblemOf}
 use Rattle.landing_rules.specs.Sound.{IsSound}
@@ -9,8 +10,10 @@ use Rattle.aerodrome_file.specs.Reading.{aerodrome_of}
 use Rattle.flight_file.specs.declared.flight.Flight.{Flight}
 use Rattle.flight_file.specs.Reading.{flights_of}
 use Rattle.certificate.specs.Reading.{certificate_of}
-use Rattle.sequencer.specs.declared.opening.BeginFault.{BeginFault}
-use Rattle.sequencer.specs.declared.opening.BeginFault.TheVariants.{TooManyWaiting}
+use Rattle.situations.specs.declared.opening_refusal.OpeningFault.{OpeningFault}
+use Rattle.situations.specs.Refused.{opening_fault}
+use Rattle.sequencer.specs.declared.begin.BeginFault.{BeginFault}
+use Rattle.sequencer.specs.Begun.{IsRefusedBy, opening_fault_of}
 use Rattle.cert_check.specs.Landings.{Landings, seconds}
 use Rattle.cert_check.specs.Meaning.{IsShownOptimal, NothingIsFeasible}
 use Rattle.certificate.specs.declared.certificate.Claim.{Claim}
@@ -20,21 +23,26 @@ use Rattle.cert_check.specs.WholeLaws.{claimed}
 use Rattle.cert_check.specs.declared.verdict.Verdict.{Verdict}
 use Rattle.cert_check.specs.declared.verdict.Verdict.TheVariants as verdict
 use Rattle.cps_top.specs.Check.{Judges, unchecked_by}
-use Rattle.cps_top.specs.Plan.{refusal_of}
+use Rattle.cps_top.specs.Plan.{refusal_of, StopsOpened}
+use Rattle.cps_top.specs.Faults.{begin_ending, opening_ending}
+use Rattle.cps_top.specs.declared.endings.Ending.{Ending}
+use Rattle.cps_top.specs.declared.endings.Refusal.TheVariants.{Opening}
 use Rattle.cps_top.specs.declared.endings.Answer.TheVariants.{Accepted}
 use Rattle.cps_top.specs.Certify.{PrintedIsAcceptedLaw}
 use Rattle.cps_top.specs.Verdicts.{IsTrueOf, answer_of_verdict}
 
--- flights that open a problem are taken
-pub opened_taken : {T : Type 0} (flights : List Flight) (r : Result T BeginFault) (problem : T) → r ≡ Ok problem →
-    (60 < length flights → r ≡ Err (TooManyWaiting (length flights))) → refusal_of flights ≡ None
-opened_taken flights r problem is too_many = elim (cases_lt 60 (length flights)) [
-  | inl more ↦ absurd (ok_err problem (TooManyWaiting (length flights)) (sym is ∙ too_many more))
-  | inr few ↦ grind (arith, few)
-]
+-- files that open a situation are taken
+pub opened_taken : (aerodrome : Aerodrome) (flights : List Flight) → opening_fault aerodrome flights ≡ None → refusal_of aerodrome flights ≡ None
+opened_taken aerodrome flights none = ap (option_map Opening) none
+
+-- files that open none are refused for that cause, or memory is short
+pub stops_opened : (aerodrome : Aerodrome) (flights : List Flight) (fault : BeginFault) (ending : Ending) →
+    IsRefusedBy (opening_fault aerodrome flights) fault → ending ≡ begin_ending fault → StopsOpened aerodrome flights ending
+stops_opened aerodrome flights fault ending refused is = subst (StopsOpened aerodrome flights) (sym is) (go (opening_fault_of fault) refused)
   where
-    ok_err : {T E : Type 0} (x : T) (e : E) → Ok x ≡ Err e → ⊥
-    ok_err x e same = cc
+    go : (found : Option OpeningFault) → MatchOption found ⊤ (λ f. opening_fault aerodrome flights ≡ Some f) → StopsOpened aerodrome flights (opening_ending found)
+    go None h = tt
+    go (Some f) h = ap (option_map Opening) h
 
 -- a verdict on the problem of a sound situation is true of the situation
 pub true_of : (s : Situation) (p : Problem) (ls : Landings) (v : Verdict) → BestListLaw → SameObjectiveLaw → NoListLaw →

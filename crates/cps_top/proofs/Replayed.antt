@@ -60,7 +60,7 @@ replayed a f e state last events old new (Err stop.NoMemory) begun (inr ends) = 
 
 -- files that are not taken are refused by their bytes
 pub stops_replay : (a f e : List ℕ) (aerodrome : Aerodrome) (flights : List Flight) (log : List Event) (ending : Ending) →
-    aerodrome_of a ≡ Ok aerodrome → flights_of f ≡ Ok flights → events_of e ≡ Ok log → StopsOpened flights ending → StopsReplay a f e ending
+    aerodrome_of a ≡ Ok aerodrome → flights_of f ≡ Ok flights → events_of e ≡ Ok log → StopsOpened aerodrome flights ending → StopsReplay a f e ending
 stops_replay a f e aerodrome flights log (Refused cause) a_read f_read e_read stops =
     ap (λ r. refused_with r (flights_of f) (events_of e)) a_read ∙ ap (λ r. refused_with (Ok aerodrome) r (events_of e)) f_read
     ∙ ap (λ r. refused_with (Ok aerodrome) (Ok flights) r) e_read ∙ stops

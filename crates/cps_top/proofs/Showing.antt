@@ -13,7 +13,7 @@ use Rattle.cps_top.specs.Plan.{Shows, AdmitsPlan, StopsPlan, StopsOpened, refuse
 -- what holds of the files that were read holds of their bytes
 pub of_bytes : (r : Result Answer Ending) (a f text : List ℕ) (aerodrome : Aerodrome) (flights : List Flight) →
     aerodrome_of a ≡ Ok aerodrome → flights_of f ≡ Ok flights →
-    MatchResult r (λ answer. Shows aerodrome flights text answer) (StopsOpened flights) →
+    MatchResult r (λ answer. Shows aerodrome flights text answer) (StopsOpened aerodrome flights) →
     MatchResult r (λ answer. AdmitsPlan a f text answer) (StopsPlan a f)
 of_bytes (Ok answer) a f text aerodrome flights a_read f_read shows = record {
   aerodrome = aerodrome;
@@ -37,7 +37,7 @@ of_bytes (Err (TooLong place)) a f text aerodrome flights a_read f_read stops = 
 -- the same of a certificate
 pub certified_of_bytes : (r : Result Answer Ending) (a f text : List ℕ) (aerodrome : Aerodrome) (flights : List Flight) →
     aerodrome_of a ≡ Ok aerodrome → flights_of f ≡ Ok flights →
-    MatchResult r (λ answer. Certifies aerodrome flights text answer) (StopsOpened flights) →
+    MatchResult r (λ answer. Certifies aerodrome flights text answer) (StopsOpened aerodrome flights) →
     MatchResult r (λ answer. AdmitsCertify a f text answer) (StopsPlan a f)
 certified_of_bytes (Ok answer) a f text aerodrome flights a_read f_read certifies = record {
   aerodrome = aerodrome;

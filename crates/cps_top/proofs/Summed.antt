@@ -1,5 +1,6 @@
 -- From what was begun and written to what is said of traffic.
-use Rattle.std.proofs.Common.{◌≡◌, ℕ, ◌≤◌, List, length, None, Some, refl, sym, ◌∙◌, arith}
+use Rattle.std.proofs.Common.{◌≡◌, ℕ, ◌≤◌, List, length, None, Some, refl, sym, ap, ◌∙◌}
+use Rattle.std.specs.Prelude.{option_map}
 use Rattle.landing_rules.specs.Text.{plan_shown}
 use Rattle.cps_network.specs.shared.DueSteps.{all_due}
 use Rattle.replan.specs.declared.any_kept.AnyKept.{AnyKept}
@@ -12,7 +13,9 @@ use Rattle.cps_top.specs.declared.endings.Answer.{Answer}
 use Rattle.cps_top.specs.declared.endings.Refusal.{Refusal}
 use Rattle.cps_top.specs.declared.endings.Ending.{Ending}
 use Rattle.cps_top.specs.declared.endings.Ending.TheVariants.{Answered, Misused, Refused, NotLoaded, NotWritten, TooLong, NoMemory}
-use Rattle.cps_top.specs.Plan.{answer_of, refusal_of, IsOpened, IsPlannedAnew, StopsOpened}
+use Rattle.cps_top.specs.Plan.{answer_of, IsOpened, IsPlannedAnew, StopsOpened}
+use Rattle.cps_top.specs.declared.endings.Refusal.TheVariants.{Opening}
+use Rattle.situations.specs.Refused.{opening_fault}
 use Rattle.cps_top.specs.Trial.{Sums}
 
 pub sums : (made : Made) (n k nodes : ℕ) (aerodrome : Aerodrome) (flights : List Flight) (s : Standing AnyKept) (text : List ℕ) (answer : Answer) →
@@ -29,18 +32,15 @@ sums made n k nodes aerodrome flights s text answer a_is f_is opened planned pri
   answers = answers;
 }
 
--- where at most 60 flights wait only memory stops
-pub stops_short : (flights : List Flight) (ending : Ending) → length flights ≤ 60 → StopsOpened flights ending → ending ≡ NoMemory
-stops_short flights (Refused cause) few stops = absurd (none_some (sym (taken few) ∙ stops))
+-- files that open are stopped by memory alone
+pub stops_short : (aerodrome : Aerodrome) (flights : List Flight) (ending : Ending) → opening_fault aerodrome flights ≡ None → StopsOpened aerodrome flights ending → ending ≡ NoMemory
+stops_short aerodrome flights (Refused cause) opens stops = absurd (none_some (sym (ap (option_map Opening) opens) ∙ stops))
   where
-    taken : length flights ≤ 60 → refusal_of flights ≡ None
-    taken few = grind (arith, few)
-
     none_some : {cause : Refusal} → None ≡ Some cause → ⊥
     none_some e = cc
-stops_short flights NoMemory few stops = refl
-stops_short flights (Answered answer) few stops = absurd stops
-stops_short flights Misused few stops = absurd stops
-stops_short flights (NotLoaded place) few stops = absurd stops
-stops_short flights NotWritten few stops = absurd stops
-stops_short flights (TooLong place) few stops = absurd stops
+stops_short aerodrome flights NoMemory opens stops = refl
+stops_short aerodrome flights (Answered answer) opens stops = absurd stops
+stops_short aerodrome flights Misused opens stops = absurd stops
+stops_short aerodrome flights (NotLoaded place) opens stops = absurd stops
+stops_short aerodrome flights NotWritten opens stops = absurd stops
+stops_short aerodrome flights (TooLong place) opens stops = absurd stops

@@ -24,7 +24,7 @@ abbrev pub unchecked_by : Result Aerodrome AeroFault → Result (List Flight) Fl
 unchecked_by (Err fault) flights certificate = Some (refusal.Aerodrome fault)
 unchecked_by (Ok aerodrome) (Err fault) certificate = Some (refusal.Flights fault)
 unchecked_by (Ok aerodrome) (Ok flights) (Err fault) = Some (refusal.Certificate fault)
-unchecked_by (Ok aerodrome) (Ok flights) (Ok certificate) = refusal_of flights
+unchecked_by (Ok aerodrome) (Ok flights) (Ok certificate) = refusal_of aerodrome flights
 
 abbrev pub RefusesCheck : List ℕ → List ℕ → List ℕ → Refusal → Type 0
 RefusesCheck aerodrome flights certificate cause = unchecked_by (aerodrome_of aerodrome) (flights_of flights) (certificate_of certificate) ≡ Some cause
@@ -32,7 +32,7 @@ RefusesCheck aerodrome flights certificate cause = unchecked_by (aerodrome_of ae
 -- The files are taken. This is the verdict on the certificate for the problem of their opening situation, and what it says
 -- of that situation is true.
 pub record IsJudged (aerodrome : Aerodrome) (flights : List Flight) (certificate : Cert) (verdict : Verdict) : Type 0 where
-  pub taken : refusal_of flights ≡ None
+  pub taken : refusal_of aerodrome flights ≡ None
   pub problem : Problem
   pub problem_of : IsProblemOf (opened aerodrome flights) problem
   pub verdict_is : verdict ≡ verdict_of problem certificate

@@ -1,4 +1,5 @@
 -- How the program ends where a file is none, or memory runs out.
+use Rattle.std.specs.Prelude.{Option, Some, None}
 use Rattle.aerodrome_file.specs.declared.fault.AeroFault.{AeroFault}
 use Rattle.aerodrome_file.specs.declared.fault.AeroFault.TheVariants as aerodrome
 use Rattle.certificate.specs.declared.fault.CertFault.{CertFault}
@@ -9,11 +10,12 @@ use Rattle.event_log.specs.declared.fault.LogFault.{LogFault}
 use Rattle.flight_file.specs.declared.fault.FlightCause.{FlightCause}
 use Rattle.flight_file.specs.declared.fault.FlightCause.TheVariants as flight
 use Rattle.flight_file.specs.declared.fault.FlightFault.{FlightFault}
-use Rattle.sequencer.specs.declared.opening.BeginFault.{BeginFault}
-use Rattle.sequencer.specs.declared.opening.BeginFault.TheVariants as begin
+use Rattle.situations.specs.declared.opening_refusal.OpeningFault.{OpeningFault}
+use Rattle.sequencer.specs.declared.begin.BeginFault.{BeginFault}
+use Rattle.sequencer.specs.Begun.{opening_fault_of}
 use Rattle.cps_top.specs.declared.endings.Ending.{Ending}
 use Rattle.cps_top.specs.declared.endings.Ending.TheVariants.{Refused, NoMemory}
-use Rattle.cps_top.specs.declared.endings.Refusal.TheVariants.{Aerodrome, Flights, Events, Certificate, TooManyWaiting}
+use Rattle.cps_top.specs.declared.endings.Refusal.TheVariants.{Aerodrome, Flights, Events, Certificate, Opening}
 
 abbrev pub aerodrome_ending : AeroFault → Ending
 aerodrome_ending aerodrome.Memory = NoMemory
@@ -37,6 +39,10 @@ abbrev pub certificate_ending : CertFault → Ending
 certificate_ending certificate.Memory = NoMemory
 certificate_ending fault = Refused (Certificate fault)
 
+-- an opening refusal, or want of memory
+abbrev pub opening_ending : Option OpeningFault → Ending
+opening_ending None = NoMemory
+opening_ending (Some fault) = Refused (Opening fault)
+
 abbrev pub begin_ending : BeginFault → Ending
-begin_ending (begin.TooManyWaiting n) = Refused (TooManyWaiting n)
-begin_ending begin.Memory = NoMemory
+begin_ending fault = opening_ending (opening_fault_of fault)

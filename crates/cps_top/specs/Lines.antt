@@ -31,10 +31,12 @@ use Rattle.aerodrome_file.specs.declared.fault.AeroFault.{AeroFault}
 use Rattle.aerodrome_file.specs.declared.fault.AeroFault.TheVariants as aerodrome
 use Rattle.certificate.specs.declared.fault.CertFault.{CertFault}
 use Rattle.certificate.specs.declared.fault.CertFault.TheVariants as certificate
+use Rattle.situations.specs.declared.opening_refusal.OpeningFault.{OpeningFault}
+use Rattle.situations.specs.declared.opening_refusal.OpeningFault.TheVariants as opening
 use Rattle.cps_top.specs.declared.endings.Answer.{Answer}
 use Rattle.cps_top.specs.declared.endings.Answer.TheVariants.{Scheduled, Infeasible, Certified, Accepted, Rejected}
 use Rattle.cps_top.specs.declared.endings.Refusal.{Refusal}
-use Rattle.cps_top.specs.declared.endings.Refusal.TheVariants.{Aerodrome, Flights, Events, Certificate, TooManyWaiting}
+use Rattle.cps_top.specs.declared.endings.Refusal.TheVariants.{Aerodrome, Flights, Events, Certificate, Opening}
 use Rattle.cps_top.specs.declared.endings.Ending.{Ending}
 use Rattle.cps_top.specs.declared.endings.Ending.TheVariants.{Answered, Misused, Refused, NotLoaded, NotWritten, TooLong, NoMemory}
 
@@ -250,6 +252,25 @@ certificate_line (certificate.Line n) = text_of (codes "cps: certificate: line "
 certificate_line (certificate.Order n) = text_of (codes "cps: certificate: order " ∷ decimal n ∷ codes "\n" ∷ [])
 certificate_line certificate.Memory = text_of (codes "cps: no memory\n" ∷ [])
 
+-- ---- the opening
+
+abbrev pub numbered_line : List ℕ → ℕ → List ℕ
+numbered_line words n = text_of (words ∷ decimal n ∷ codes "\n" ∷ [])
+
+abbrev pub pair_line : ℕ → ℕ → List ℕ
+pair_line i j = text_of (codes "cps: opening: frozen-separation " ∷ decimal i ∷ codes " " ∷ decimal j ∷ codes "\n" ∷ [])
+
+abbrev pub precedence_line : ℕ → List ℕ → List ℕ
+precedence_line i callsign = text_of (codes "cps: opening: frozen-precedence " ∷ decimal i ∷ codes " " ∷ callsign ∷ codes "\n" ∷ [])
+
+abbrev pub opening_line : OpeningFault → List ℕ
+opening_line (opening.UnknownFrozen i) = numbered_line (codes "cps: opening: unknown-frozen ") i
+opening_line (opening.UnknownPassed i) = numbered_line (codes "cps: opening: unknown-passed ") i
+opening_line (opening.TooManyWaiting n) = numbered_line (codes "cps: too many waiting ") n
+opening_line (opening.FrozenClosed i) = numbered_line (codes "cps: opening: frozen-closed ") i
+opening_line (opening.FrozenSeparation i j) = pair_line i j
+opening_line (opening.FrozenPrecedence i callsign) = precedence_line i callsign
+
 -- ---- all endings
 
 abbrev pub refusal_line : Refusal → List ℕ
@@ -257,7 +278,7 @@ refusal_line (Aerodrome fault) = aerodrome_line fault
 refusal_line (Flights fault) = flights_line fault
 refusal_line (Events fault) = events_line fault
 refusal_line (Certificate fault) = certificate_line fault
-refusal_line (TooManyWaiting n) = text_of (codes "cps: too many waiting " ∷ decimal n ∷ codes "\n" ∷ [])
+refusal_line (Opening fault) = opening_line fault
 
 -- the line on the standard error, or nothing
 abbrev pub line_of : Ending → List ℕ

@@ -1,5 +1,5 @@
 -- What `plan` prints over the contents of its two files, and which it refuses.
-use Rattle.std.specs.Prelude.{◌≡◌, ⊤, ℕ, nat_lt, Bool, List, length, map, is_some, Option, Some, None, Result, Ok, Err, if◌then◌else◌}
+use Rattle.std.specs.Prelude.{◌≡◌, ⊤, ℕ, Bool, List, map, is_some, option_map, Option, Some, None, Result, Ok, Err, if◌then◌else◌}
 use Rattle.landing_rules.specs.Flights.{Schedule}
 use Rattle.landing_rules.specs.Events.{State, IsOpeningState}
 use Rattle.landing_rules.specs.Problem.{IsProblemOf}
@@ -15,6 +15,7 @@ use Rattle.flight_file.specs.declared.flight.Flight.{Flight}
 use Rattle.flight_file.specs.declared.fault.FlightFault.{FlightFault}
 use Rattle.flight_file.specs.Reading.{flights_of}
 use Rattle.flight_file.specs.Seen.{flight_of}
+use Rattle.situations.specs.Refused.{opening_fault}
 use Rattle.sequencer.specs.Opened.{opening_of}
 use Rattle.cps_top.specs.declared.endings.Answer as answers
 use Rattle.cps_top.specs.declared.endings.Answer.TheVariants.{Scheduled, Infeasible}
@@ -23,15 +24,15 @@ use Rattle.cps_top.specs.declared.endings.Ending.TheVariants.{Refused, NoMemory}
 use Rattle.cps_top.specs.declared.endings.Refusal as refusals
 use Rattle.cps_top.specs.declared.endings.Refusal.TheVariants as refusal
 
--- why files that read are not taken: more than 60 flights wait
-abbrev pub refusal_of : List Flight → Option refusals.Refusal
-refusal_of flights = if nat_lt 60 (length flights) then Some (refusal.TooManyWaiting (length flights)) else None
+-- why files that read are not taken: they open no situation
+abbrev pub refusal_of : Aerodrome → List Flight → Option refusals.Refusal
+refusal_of aerodrome flights = option_map refusal.Opening (opening_fault aerodrome flights)
 
 -- the first cause, in the order of the files
 abbrev pub refused_by : Result Aerodrome AeroFault → Result (List Flight) FlightFault → Option refusals.Refusal
 refused_by (Err fault) flights = Some (refusal.Aerodrome fault)
 refused_by (Ok aerodrome) (Err fault) = Some (refusal.Flights fault)
-refused_by (Ok aerodrome) (Ok flights) = refusal_of flights
+refused_by (Ok aerodrome) (Ok flights) = refusal_of aerodrome flights
 
 abbrev pub RefusesPlan : List ℕ → List ℕ → refusals.Refusal → Type 0
 RefusesPlan aerodrome flights cause = refused_by (aerodrome_of aerodrome) (flights_of flights) ≡ Some cause
@@ -45,7 +46,7 @@ answer_of plan = answer_by (is_some plan)
 
 -- The files are taken, and this is an opening state of them.
 pub record IsOpened (aerodrome : Aerodrome) (flights : List Flight) (state : State) : Type 0 where
-  pub taken : refusal_of flights ≡ None
+  pub taken : refusal_of aerodrome flights ≡ None
   pub opens : IsOpeningState (opening_of aerodrome) (map flight_of flights) state
 
 -- The planner holds the problem, which was planned in so many steps with nothing held.
@@ -67,7 +68,7 @@ pub record AdmitsPlan (aerodrome_bytes flight_bytes text : List ℕ) (answer : a
   pub flights : List Flight
   pub aerodrome_read : aerodrome_of aerodrome_bytes ≡ Ok aerodrome
   pub flights_read : flights_of flight_bytes ≡ Ok flights
-  pub taken : refusal_of flights ≡ None
+  pub taken : refusal_of aerodrome flights ≡ None
   pub state : State
   pub opens : IsOpeningState (opening_of aerodrome) (map flight_of flights) state
   pub prints : text ≡ lines_text (plan_lines state)
@@ -84,5 +85,5 @@ abbrev pub StopsPlan : List ℕ → List ℕ → Ending → Type 0
 StopsPlan aerodrome flights = Stops (RefusesPlan aerodrome flights)
 
 -- the same over files that are read
-abbrev pub StopsOpened : List Flight → Ending → Type 0
-StopsOpened flights = Stops (λ cause. refusal_of flights ≡ Some cause)
+abbrev pub StopsOpened : Aerodrome → List Flight → Ending → Type 0
+StopsOpened aerodrome flights = Stops (λ cause. refusal_of aerodrome flights ≡ Some cause)

@@ -31,7 +31,7 @@ abbrev pub refused_with : Result Aerodrome AeroFault → Result (List Flight) Fl
 refused_with (Err fault) flights events = Some (refusal.Aerodrome fault)
 refused_with (Ok aerodrome) (Err fault) events = Some (refusal.Flights fault)
 refused_with (Ok aerodrome) (Ok flights) (Err fault) = Some (refusal.Events fault)
-refused_with (Ok aerodrome) (Ok flights) (Ok events) = refusal_of flights
+refused_with (Ok aerodrome) (Ok flights) (Ok events) = refusal_of aerodrome flights
 
 abbrev pub RefusesReplay : List ℕ → List ℕ → List ℕ → Refusal → Type 0
 RefusesReplay aerodrome flights events cause = refused_with (aerodrome_of aerodrome) (flights_of flights) (events_of events) ≡ Some cause
@@ -45,7 +45,7 @@ pub record IsBegun (aerodrome_bytes flight_bytes event_bytes : List ℕ) (state 
   pub aerodrome_read : aerodrome_of aerodrome_bytes ≡ Ok aerodrome
   pub flights_read : flights_of flight_bytes ≡ Ok flights
   pub events_read : events_of event_bytes ≡ Ok log
-  pub taken : refusal_of flights ≡ None
+  pub taken : refusal_of aerodrome flights ≡ None
   pub opens : IsOpeningState (opening_of aerodrome) (map flight_of flights) state
   pub sound : IsSoundState state
   pub events_are : events ≡ map event_of log

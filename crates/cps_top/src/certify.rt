@@ -30,7 +30,7 @@ fn certify_opened<R: Threads + Sync, G: Gate + Sync>(
 ) -> Result<Certificate, Ending>
     requires range { IsInRange aerodrome.now }
     requires read { CanBeRead flights.now }
-    ensures { MatchResult result (IsCertified aerodrome.now flights.now) (StopsOpened flights.now) }
+    ensures { MatchResult result (IsCertified aerodrome.now flights.now) (StopsOpened aerodrome.now flights.now) }
 {
     problem_stands_for_situation();
     let problem = opening_problem(alloc, aerodrome, flights)?;
@@ -53,7 +53,7 @@ fn write_opened<R: Threads + Sync, G: Gate + Sync>(
     requires range { IsInRange aerodrome.now }
     requires read { CanBeRead flights.now }
     requires empty { text.old.items ≡ [] }
-    ensures { MatchResult result (λ answer. Certifies aerodrome.now flights.now text.new.items answer) (StopsOpened flights.now) }
+    ensures { MatchResult result (λ answer. Certifies aerodrome.now flights.now text.new.items answer) (StopsOpened aerodrome.now flights.now) }
 {
     let certificate = certify_opened(rt, alloc, aerodrome, flights, gate)?;
     print_certificate(&certificate, text)?;

@@ -27,7 +27,7 @@ fn judge_opened(
 ) -> Result<Verdict, Ending>
     requires range { IsInRange aerodrome.now }
     requires read { CanBeRead flights.now }
-    ensures { MatchResult result (IsJudged aerodrome.now flights.now certificate.now) (StopsOpened flights.now) }
+    ensures { MatchResult result (IsJudged aerodrome.now flights.now certificate.now) (StopsOpened aerodrome.now flights.now) }
 {
     problem_stands_for_situation();
     let problem = opening_problem(alloc, aerodrome, flights)?;

@@ -2,6 +2,7 @@ use aerodrome_file::AeroFault;
 use certificate::CertFault;
 use event_log::LogFault;
 use flight_file::FlightFault;
+use situations::OpeningFault;
 
 /// What a command answers once its text is written.
 #[derive(Clone, Copy, Debug, PartialEq, Eq)]
@@ -29,8 +30,8 @@ pub enum Refusal {
     Events(LogFault),
     /// The certificate is none.
     Certificate(CertFault),
-    /// More than 60 flights wait: how many.
-    TooManyWaiting(u32),
+    /// They open no situation.
+    Opening(OpeningFault),
 }
 
 /// How a run ends.

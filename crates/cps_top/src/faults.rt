@@ -1,4 +1,5 @@
 // How the program ends where a file is none, or memory runs out: each fault by itself, so that `?` passes it on.
+ghost use Rattle.std.specs.Prelude.{◌≡◌};
 
 use crate::{Ending, Refusal};
 use aerodrome_file::AeroFault;
@@ -6,6 +7,7 @@ use certificate::CertFault;
 use event_log::{LogCause, LogFault};
 use flight_file::{FlightCause, FlightFault};
 use sequencer::BeginFault;
+use situations::OpeningFault;
 use std::alloc::AllocError;
 
 impl From<AllocError> for Ending {
@@ -83,8 +85,22 @@ impl From<BeginFault> for Ending {
 
     fn from(fault: BeginFault) -> Self {
         match fault {
-            BeginFault::TooManyWaiting(n) => Ending::Refused(Refusal::TooManyWaiting(n)),
+            BeginFault::UnknownFrozen(i) => refused(OpeningFault::UnknownFrozen(i)),
+            BeginFault::UnknownPassed(i) => refused(OpeningFault::UnknownPassed(i)),
+            BeginFault::TooManyWaiting(n) => refused(OpeningFault::TooManyWaiting(n)),
+            BeginFault::FrozenClosed(i) => refused(OpeningFault::FrozenClosed(i)),
+            BeginFault::FrozenSeparation(i, j) => refused(OpeningFault::FrozenSeparation(i, j)),
+            BeginFault::FrozenPrecedence(i, callsign) => {
+                refused(OpeningFault::FrozenPrecedence(i, callsign))
+            }
             BeginFault::Memory => Ending::NoMemory,
         }
     }
+}
+
+// The ending of an opening that is refused.
+fn refused(fault: OpeningFault) -> Ending
+    ensures { result ≡ Ending.Refused (Refusal.Opening fault) }
+{
+    Ending::Refused(Refusal::Opening(fault))
 }

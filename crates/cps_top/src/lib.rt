@@ -15,6 +15,7 @@ mod laws;
 mod lines;
 mod loads;
 mod opening;
+mod opening_lines;
 mod plan;
 mod replay;
 mod replay_laws;
@@ -40,6 +41,8 @@ mod effort_tests;
 #[cfg(test)]
 mod limit_tests;
 #[cfg(test)]
+mod refused_openings;
+#[cfg(test)]
 mod replay_tests;
 #[cfg(test)]
 mod test_runs;
@@ -49,6 +52,8 @@ mod tests;
 mod trial_tests;
 #[cfg(test)]
 mod worked_cases;
+#[cfg(test)]
+mod worked_openings;
 #[cfg(test)]
 mod worked_plans;
 #[cfg(test)]

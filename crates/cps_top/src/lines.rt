@@ -7,6 +7,7 @@ use crate::aerodrome_lines::say_aerodrome;
 use crate::certificate_lines::say_certificate;
 use crate::event_lines::say_events;
 use crate::flight_lines::say_flights;
+use crate::opening_lines::say_opening;
 use crate::{Answer, Ending, Refusal};
 use cps_outside::{Sink, WriteFailed};
 use itoa::Buffer;
@@ -41,16 +42,12 @@ pub(crate) fn put_all<E: Sink>(err: &mut E, pieces: &[&[u8]]) -> Result<(), Writ
 fn say_refusal<E: Sink>(err: &mut E, refusal: &Refusal) -> Result<(), WriteFailed>
     ensures { Writes (E.state err.old) (E.state err.new) (refusal_line refusal.now) result }
 {
-    let mut buffer = Buffer::new();
     match refusal {
         Refusal::Aerodrome(fault) => say_aerodrome(err, fault),
         Refusal::Flights(fault) => say_flights(err, fault),
         Refusal::Events(fault) => say_events(err, fault),
         Refusal::Certificate(fault) => say_certificate(err, fault),
-        Refusal::TooManyWaiting(n) => {
-            let n = buffer.format(*n).as_bytes();
-            put_all(err, &[b"cps: too many waiting ", n, b"\n"])
-        }
+        Refusal::Opening(fault) => say_opening(err, fault),
     }
 }
 

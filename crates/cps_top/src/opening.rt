@@ -25,7 +25,7 @@ pub(crate) fn begin<R: Threads + Sync, G: Gate + Sync>(
 ) -> Result<(Sequencer<AnyKept>, u64), Ending>
     requires range { IsInRange aerodrome }
     requires read { CanBeRead flights.items }
-    ensures opened { MatchResult result (λ begun. IsOpened aerodrome flights.items begun.0.state) (StopsOpened flights.items) }
+    ensures opened { MatchResult result (λ begun. IsOpened aerodrome flights.items begun.0.state) (StopsOpened aerodrome flights.items) }
     ensures planned { IfOk result (λ begun. IsPlannedAnew begun.0 begun.1) }
 {
     let planner = AnyKept::fresh(aerodrome.k);

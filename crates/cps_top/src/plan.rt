@@ -54,7 +54,7 @@ fn write_opened<R: Threads + Sync, G: Gate + Sync>(
     requires range { IsInRange aerodrome }
     requires read { CanBeRead flights.items }
     requires empty { text.old.items ≡ [] }
-    ensures { MatchResult result (λ answer. Shows aerodrome flights.items text.new.items answer) (StopsOpened flights.items) }
+    ensures { MatchResult result (λ answer. Shows aerodrome flights.items text.new.items answer) (StopsOpened aerodrome flights.items) }
 {
     let (sequencer, _) = begin(rt, alloc, aerodrome, flights, gate)?;
     let answer = write_plan(&sequencer, text)?;

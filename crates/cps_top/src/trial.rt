@@ -17,6 +17,7 @@ use cps_outside::{Gate, Sink};
 use cps_problem::Planner;
 use plan_text::trial_summary;
 use sequencer::Sequencer;
+use situations::laws::plain_files_open;
 use std::alloc::{AllocError, Global};
 use std::thread::Threads;
 use traffic_gen::{Traffic, generate};
@@ -51,9 +52,12 @@ fn write_traffic<R: Threads + Sync, G: Gate + Sync>(
     requires range { IsInRange traffic.aerodrome }
     requires read { CanBeRead traffic.flights }
     requires few { length traffic.flights ≤ 60 }
+    requires none_frozen { traffic.aerodrome.frozen ≡ [] }
+    requires none_passed { traffic.aerodrome.passed ≡ [] }
     requires empty { text.old.items ≡ [] }
     ensures { MatchResult result (λ answer. Sums traffic n k text.new.items answer) (λ ending. ending ≡ NoMemory) }
 {
+    plain_files_open();
     let (aerodrome, flights) = traffic.into_parts();
     let (sequencer, nodes) = begin(rt, alloc, aerodrome, flights, gate)?;
     let answer = write_summary(&sequencer, n, k, nodes, text)?;

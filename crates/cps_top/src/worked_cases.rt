@@ -8,6 +8,7 @@ use std::thread::Threads;
 pub(crate) const LOG_HEADER: &str = "kind,callsign,category,eta,weight,windows,after\n";
 
 // A run, by its words, with its files as parts of their texts. Where two plans are best, either may be printed.
+#[derive(Drop)]
 pub(crate) struct Case {
     pub(crate) shows: &'static str,
     pub(crate) words: &'static str,

@@ -7,7 +7,7 @@ use Rattle.cps_top.proofs.certify.certify_opened.Goals as goal
 pub returns : goal.returns
 returns g c = record {
   judged = record {
-    taken = opened_taken c.args.flights.now c.opening_problem.result c.in_ok-problem.problem c.in_ok-problem.was c.opening_problem.ensures.too_many;
+    taken = opened_taken c.args.aerodrome.now c.args.flights.now c.in_ok-problem.ensures.openable;
     problem = c.in_ok-problem.problem;
     problem_of = c.in_ok-problem.ensures.problem;
     verdict_is = sym c.in_ok-certificate.ensures.accepted;

@@ -4,7 +4,7 @@ use Rattle.cps_top.proofs.check.judge_opened.Goals as goal
 
 pub returns : goal.returns
 returns c = record {
-  taken = opened_taken c.args.flights.now c.opening_problem.result c.in_ok-problem.problem c.in_ok-problem.was c.opening_problem.ensures.too_many;
+  taken = opened_taken c.args.aerodrome.now c.args.flights.now c.in_ok-problem.ensures.openable;
   problem = c.in_ok-problem.problem;
   problem_of = c.in_ok-problem.ensures.problem;
   verdict_is = c.judge.ensures.exact;
