@@ -1,3 +1,4 @@
+pub mod Audited
 pub mod Complete
 pub mod Counted
 pub mod Counts

@@ -4,6 +4,8 @@ use Rattle.aerodrome_file.specs.declared.fault.AeroFault.{AeroFault}
 use Rattle.aerodrome_file.specs.declared.fault.AeroFault.TheVariants as aerodrome
 use Rattle.certificate.specs.declared.fault.CertFault.{CertFault}
 use Rattle.certificate.specs.declared.fault.CertFault.TheVariants as certificate
+use Rattle.audit.specs.declared.plan.PlanFault.{PlanFault}
+use Rattle.audit.specs.declared.plan.PlanFault.TheVariants as plan
 use Rattle.event_log.specs.declared.fault.LogCause.{LogCause}
 use Rattle.event_log.specs.declared.fault.LogCause.TheVariants as log
 use Rattle.event_log.specs.declared.fault.LogFault.{LogFault}
@@ -15,7 +17,7 @@ use Rattle.sequencer.specs.declared.begin.BeginFault.{BeginFault}
 use Rattle.sequencer.specs.Begun.{opening_fault_of}
 use Rattle.cps_top.specs.declared.endings.Ending.{Ending}
 use Rattle.cps_top.specs.declared.endings.Ending.TheVariants.{Refused, NoMemory}
-use Rattle.cps_top.specs.declared.endings.Refusal.TheVariants.{Aerodrome, Flights, Events, Certificate, Opening}
+use Rattle.cps_top.specs.declared.endings.Refusal.TheVariants.{Aerodrome, Flights, Events, Certificate, Plan, Opening}
 
 abbrev pub aerodrome_ending : AeroFault → Ending
 aerodrome_ending aerodrome.Memory = NoMemory
@@ -43,6 +45,10 @@ certificate_ending fault = Refused (Certificate fault)
 abbrev pub opening_ending : Option OpeningFault → Ending
 opening_ending None = NoMemory
 opening_ending (Some fault) = Refused (Opening fault)
+
+abbrev pub plan_ending : PlanFault → Ending
+plan_ending plan.Memory = NoMemory
+plan_ending fault = Refused (Plan fault)
 
 abbrev pub begin_ending : BeginFault → Ending
 begin_ending fault = opening_ending (opening_fault_of fault)

@@ -33,10 +33,12 @@ use Rattle.certificate.specs.declared.fault.CertFault.{CertFault}
 use Rattle.certificate.specs.declared.fault.CertFault.TheVariants as certificate
 use Rattle.situations.specs.declared.opening_refusal.OpeningFault.{OpeningFault}
 use Rattle.situations.specs.declared.opening_refusal.OpeningFault.TheVariants as opening
+use Rattle.audit.specs.declared.plan.PlanFault.{PlanFault}
+use Rattle.audit.specs.declared.plan.PlanFault.TheVariants as plan
 use Rattle.cps_top.specs.declared.endings.Answer.{Answer}
-use Rattle.cps_top.specs.declared.endings.Answer.TheVariants.{Scheduled, Infeasible, Certified, Accepted, Rejected}
+use Rattle.cps_top.specs.declared.endings.Answer.TheVariants.{Scheduled, Infeasible, Certified, Accepted, Rejected, Clean, Broken, Claimed}
 use Rattle.cps_top.specs.declared.endings.Refusal.{Refusal}
-use Rattle.cps_top.specs.declared.endings.Refusal.TheVariants.{Aerodrome, Flights, Events, Certificate, Opening}
+use Rattle.cps_top.specs.declared.endings.Refusal.TheVariants.{Aerodrome, Flights, Events, Certificate, Plan, Opening}
 use Rattle.cps_top.specs.declared.endings.Ending.{Ending}
 use Rattle.cps_top.specs.declared.endings.Ending.TheVariants.{Answered, Misused, Refused, NotLoaded, NotWritten, TooLong, NoMemory}
 
@@ -46,6 +48,9 @@ answer_status Infeasible = 1
 answer_status Certified = 0
 answer_status Accepted = 0
 answer_status Rejected = 7
+answer_status Clean = 0
+answer_status Broken = 7
+answer_status Claimed = 1
 
 abbrev pub status_of : Ending → ℕ
 status_of (Answered answer) = answer_status answer
@@ -271,6 +276,12 @@ opening_line (opening.FrozenClosed i) = numbered_line (codes "cps: opening: froz
 opening_line (opening.FrozenSeparation i j) = pair_line i j
 opening_line (opening.FrozenPrecedence i callsign) = precedence_line i callsign
 
+-- ---- the plan file
+
+abbrev pub plan_line : PlanFault → List ℕ
+plan_line (plan.Line n) = text_of (codes "cps: plan: line " ∷ decimal n ∷ codes "\n" ∷ [])
+plan_line plan.Memory = text_of (codes "cps: no memory\n" ∷ [])
+
 -- ---- all endings
 
 abbrev pub refusal_line : Refusal → List ℕ
@@ -279,6 +290,7 @@ refusal_line (Flights fault) = flights_line fault
 refusal_line (Events fault) = events_line fault
 refusal_line (Certificate fault) = certificate_line fault
 refusal_line (Opening fault) = opening_line fault
+refusal_line (Plan fault) = plan_line fault
 
 -- the line on the standard error, or nothing
 abbrev pub line_of : Ending → List ℕ

@@ -16,6 +16,8 @@ pub enum Command {
     Check,
     /// `effort AERODROME FLIGHTS EVENTS`.
     Effort,
+    /// `audit AERODROME FLIGHTS PLAN`.
+    Audit,
     /// `trial SEED N K`: a seed from 0 to 4,294,967,295, 1 to 60 flights, and a bound on shifts from 0 to 3. It has no
     /// files.
     Trial { seed: u64, n: u8, k: u8 },
@@ -65,6 +67,9 @@ pub(crate) fn read_command(words: &[String]) -> Option<Command>
     }
     if word.as_str() == "effort" && rest.len() == 3 {
         return Some(Command::Effort);
+    }
+    if word.as_str() == "audit" && rest.len() == 3 {
+        return Some(Command::Audit);
     }
     if word.as_str() == "trial" {
         return read_trial(rest);

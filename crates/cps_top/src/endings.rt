@@ -1,4 +1,5 @@
 use aerodrome_file::AeroFault;
+use audit::PlanFault;
 use certificate::CertFault;
 use event_log::LogFault;
 use flight_file::FlightFault;
@@ -17,6 +18,12 @@ pub enum Answer {
     Accepted,
     /// The certificate was judged and does not hold.
     Rejected,
+    /// Nothing was found in the plan.
+    Clean,
+    /// The plan breaks rules.
+    Broken,
+    /// The plan file says that there is no plan.
+    Claimed,
 }
 
 /// Why the files are not taken.
@@ -30,6 +37,8 @@ pub enum Refusal {
     Events(LogFault),
     /// The certificate is none.
     Certificate(CertFault),
+    /// The plan file is none.
+    Plan(PlanFault),
     /// They open no situation.
     Opening(OpeningFault),
 }

@@ -3,6 +3,7 @@ ghost use Rattle.std.specs.Prelude.{◌≡◌};
 
 use crate::{Ending, Refusal};
 use aerodrome_file::AeroFault;
+use audit::PlanFault;
 use certificate::CertFault;
 use event_log::{LogCause, LogFault};
 use flight_file::{FlightCause, FlightFault};
@@ -73,6 +74,20 @@ impl From<CertFault> for Ending {
         match fault {
             CertFault::Memory => Ending::NoMemory,
             fault => Ending::Refused(Refusal::Certificate(fault)),
+        }
+    }
+}
+
+impl From<PlanFault> for Ending {
+    ghost use Rattle.std.specs.Prelude.{◌≡◌};
+    ghost use Rattle.cps_top.specs.Faults.{plan_ending};
+
+    ghost from_gives = { λ fault ending. ending ≡ plan_ending fault };
+
+    fn from(fault: PlanFault) -> Self {
+        match fault {
+            PlanFault::Memory => Ending::NoMemory,
+            fault => Ending::Refused(Refusal::Plan(fault)),
         }
     }
 }

@@ -2,6 +2,7 @@
 #![tactic(auto)]
 
 mod aerodrome_lines;
+mod audits;
 mod certificate_lines;
 mod certify;
 mod check;
@@ -17,6 +18,7 @@ mod loads;
 mod opening;
 mod opening_lines;
 mod plan;
+mod plan_lines;
 mod replay;
 mod replay_laws;
 mod top;
@@ -32,6 +34,8 @@ pub use replay_laws::{
 };
 pub use top::run;
 
+#[cfg(test)]
+mod audit_tests;
 #[cfg(test)]
 mod certify_tests;
 #[cfg(test)]

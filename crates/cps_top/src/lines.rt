@@ -8,6 +8,7 @@ use crate::certificate_lines::say_certificate;
 use crate::event_lines::say_events;
 use crate::flight_lines::say_flights;
 use crate::opening_lines::say_opening;
+use crate::plan_lines::say_plan;
 use crate::{Answer, Ending, Refusal};
 use cps_outside::{Sink, WriteFailed};
 use itoa::Buffer;
@@ -18,8 +19,9 @@ pub(crate) fn status(ending: &Ending) -> u8
 {
     match ending {
         Ending::Answered(Answer::Scheduled | Answer::Certified | Answer::Accepted) => 0,
-        Ending::Answered(Answer::Infeasible) => 1,
-        Ending::Answered(Answer::Rejected) => 7,
+        Ending::Answered(Answer::Clean) => 0,
+        Ending::Answered(Answer::Infeasible | Answer::Claimed) => 1,
+        Ending::Answered(Answer::Rejected | Answer::Broken) => 7,
         Ending::Misused => 2,
         Ending::Refused(_) => 3,
         Ending::NotLoaded(_) => 4,
@@ -48,6 +50,7 @@ fn say_refusal<E: Sink>(err: &mut E, refusal: &Refusal) -> Result<(), WriteFaile
         Refusal::Events(fault) => say_events(err, fault),
         Refusal::Certificate(fault) => say_certificate(err, fault),
         Refusal::Opening(fault) => say_opening(err, fault),
+        Refusal::Plan(fault) => say_plan(err, fault),
     }
 }
 

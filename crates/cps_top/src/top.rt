@@ -5,6 +5,7 @@ ghost use Rattle.cps_top.specs.Loads.{limit};
 ghost use Rattle.cps_top.specs.Outcome.{Follows, Ends, RunsTo};
 ghost use Rattle.cps_top.specs.Statuses.{Causes, Asks, Completes, IsExact};
 
+use crate::audits::audit_files;
 use crate::certify::certify;
 use crate::check::check;
 use crate::commands::{files, read_command};
@@ -75,6 +76,13 @@ fn perform<R: Threads + Sync, S: Sink, G: Gate + Sync>(
             out,
             gate,
         ),
+        Command::Audit => audit_files(
+            alloc,
+            contents[0].as_slice(),
+            contents[1].as_slice(),
+            contents[2].as_slice(),
+            out,
+        ),
         Command::Trial { seed, n, k } => trial(rt, alloc, seed, n, k, out, gate),
     }
 }
@@ -104,19 +112,19 @@ fn work<R: Threads + Sync, F: Folder, S: Sink, G: Gate + Sync>(
 ///
 /// The work goes in this order: the words; the loads, in the order of the words, and none for `trial`; the reading of
 /// each file, in the same order; the limit of 60 waiting flights; the plan, and of `replay` and `effort` the events, of
-/// `certify` the certificate, or of `check` the verdict on one. The first thing that goes wrong decides the status. That
+/// `certify` the certificate, of `check` the verdict on one, or of `audit` the findings. The first thing that goes wrong decides the status. That
 /// the text of a replay fixes its run, its answers and plans, is the law `replay_law::text_fixes_the_run`.
 ///
 /// | status | comes |
 /// |---|---|
-/// | 0 | the text was written, and the last plan is a best and tight schedule, or it is a certificate, or one that holds |
-/// | 1 | the text was written, and at its end no schedule is feasible |
+/// | 0 | the text was written: the last plan is best and tight, or a certificate was printed or holds, or a plan is clean |
+/// | 1 | the text was written, and at its end no schedule is feasible, or the plan file says that there is no plan |
 /// | 2 | the words fit no command |
 /// | 3 | the files are not taken |
 /// | 4 | a load failed |
 /// | 5 | a put to `out` failed |
 /// | 6 | a file is longer than 16,777,216 bytes |
-/// | 7 | the text was written: the certificate was judged and does not hold |
+/// | 7 | the text was written: the certificate was judged and does not hold, or the plan breaks rules |
 /// | 8 | memory ran out |
 ///
 /// With the statuses 2 to 6 and 8 a line on `err` says so. A failed put to `err` changes no status.
