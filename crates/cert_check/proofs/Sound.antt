@@ -64,10 +64,6 @@ module _ (p : Problem) (ls : Landings) where
             eqb-true (count_by (λ l. bytes_eq l.0 (flight p r).callsign) ls) 1 (not_false (count_by (λ l. bytes_eq l.0 (flight p r).callsign) ls == 1) out);
       }
 
-  passed_none : IsWellFormed p → (r : ℕ) → IsRank (count p) r → (flight p r).passed ≡ 0
-  passed_none h zero q = absurd (let a = q.0 in omega arith)
-  passed_none h (suc i) q = let b = q.1 in h.none_passed i no_waiting (omega arith)
-
   not_close : (f g : ℕ) → second p ls f ≤ second p ls g → is_close_behind p ls f g ≡ false → second p ls f + (ranked p).apart f g ≤ second p ls g
   not_close f g le e = ltb-false (second p ls g) (second p ls f + (ranked p).apart f g) (and_false (leb (second p ls f) (second p ls g)) (ltb (second p ls g) (second p ls f + (ranked p).apart f g)) e (le-leb (second p ls f) (second p ls g) le))
 
@@ -96,7 +92,6 @@ module _ (p : Problem) (ls : Landings) where
         let o = or_parts (ltb (place p ls r + p.k) r) (ltb (r + p.k) (place p ls r + (flight p r).passed)) (at_rank (is_shifted p ls) shifted r q) in
         let a = ltb-false (r + p.k) (place p ls r + (flight p r).passed) o.1 in
         let is = place_is p (seconds p ls) (length-map p.flights (λ f. second_of ls f.callsign)) r in
-        let none = passed_none h r q in
         omega arith;
   }
 
@@ -105,7 +100,7 @@ module _ (p : Problem) (ls : Landings) where
 module _ (p : Problem) where
   pub passed_low : IsWellFormed p → (r : ℕ) → IsRank (count p) r → (flight p r).passed ≤ p.k
   passed_low h zero q = absurd (let a = q.0 in omega arith)
-  passed_low h (suc i) q = let b = q.1 in let none = h.none_passed i no_waiting (omega arith) in omega arith
+  passed_low h (suc i) q = let b = q.1 in h.passed i no_waiting (omega arith)
 
   pub sound_problem : IsWellFormed p → SoundProblem (ranked p)
   sound_problem h = sound_ranked p h.table (λ q r e. let b = h.between_ranks q r e in (b.0, b.1))

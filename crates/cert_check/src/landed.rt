@@ -77,7 +77,8 @@ fn are_out_of_order(problem: &Problem, landings: &[(Callsign, u32)], rank: u8, o
         && !(second(problem, landings, rank) < second(problem, landings, other))
 }
 
-// The rank and its place are further apart than the shift allows.
+// The flight lands further ahead of its rank than the shift allows, or further behind it than the shift less the flights that
+// passed it.
 fn is_shifted(problem: &Problem, landings: &[(Callsign, u32)], rank: u8) -> bool
     requires landings { AreLandings landings.now }
     requires rank { (1 ≤ rank) × (rank ≤ count problem.now) }
@@ -85,7 +86,7 @@ fn is_shifted(problem: &Problem, landings: &[(Callsign, u32)], rank: u8) -> bool
 {
     let k = problem.head().k;
     let place = place(problem, landings, rank);
-    place + k < rank || rank + k < place
+    place + k < rank || rank + k < place + problem.passed(rank)
 }
 
 // The landings are not each waiting flight once; or are some, though nothing is claimed to land.

@@ -45,7 +45,7 @@ fn leaves_none_due(problem: &Problem, node: &Node, rank: u8) -> bool
     next <= k || next - k == rank || is_placed(k, node, next - k)
 }
 
-// The next place is within the shift of the rank.
+// The next place is within the shift of the rank: the flights that passed it leave it fewer places behind.
 fn is_near(problem: &Problem, stage: u8, rank: u8) -> bool
     requires stage { stage ≤ 60 }
     requires rank { (1 ≤ rank) × (rank ≤ count problem.now) }
@@ -53,7 +53,7 @@ fn is_near(problem: &Problem, stage: u8, rank: u8) -> bool
 {
     let k = problem.head().k;
     let next = stage + 1;
-    rank <= next + k && next <= rank + k
+    rank <= next + k && next + problem.passed(rank) <= rank + k
 }
 
 #[tactic(auto, unfolding(cps_theory::specs::CertificateClosure::permits_next))]

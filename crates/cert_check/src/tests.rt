@@ -26,10 +26,11 @@ fn flight(
     category: Category,
     eta: u32,
     window: (u32, u32),
+    passed: u8,
 ) -> Result<Waiting, Fail>
     requires first { window.0 ≤ 172799 }
     requires last { window.1 ≤ 172799 }
-    ensures { IfOk result (λ w. (w.callsign ≡ name.now) × (w.eta ≡ eta) × (w.weight ≡ 1)) }
+    ensures { IfOk result (λ w. (w.callsign ≡ name.now) × (w.eta ≡ eta) × (w.weight ≡ 1) × (w.passed ≡ passed)) }
 {
     let callsign = Callsign::read(name).ok_or("not a callsign")?;
     let times = OpenTimes::of(alloc, &WindowSet::new(&[window])?, &Closures::new())?;
@@ -38,6 +39,7 @@ fn flight(
         category,
         eta,
         weight: 1,
+        passed,
         times,
     })
 }
@@ -58,9 +60,15 @@ fn head(horizon: u32, k: u8, objective: Objective) -> Result<Head, Fail>
     })
 }
 
-// A heavy flight that is estimated ten seconds before a light one.
-fn of_two(alloc: Global, head: Head, heavy_last: u32, light_last: u32) -> Result<Problem, Fail>
-    requires k { head.k ≤ 3 }
+// A heavy flight that is estimated ten seconds before a light one, and that so many flights passed.
+fn of_two(
+    alloc: Global,
+    head: Head,
+    passed: u8,
+    heavy_last: u32,
+    light_last: u32,
+) -> Result<Problem, Fail>
+    requires k { (passed ≤ head.k) × (head.k ≤ 3) }
     requires horizon { head.horizon ≤ 179999 }
     requires last { head.last ≡ None }
     requires base { head.base ≡ 0 }
@@ -68,8 +76,8 @@ fn of_two(alloc: Global, head: Head, heavy_last: u32, light_last: u32) -> Result
     requires light { light_last ≤ 172799 }
 {
     let mut waiting = Vec::new(alloc);
-    waiting.push(flight(alloc, b"A1", Category::A, 1000, (1000, heavy_last))?)?;
-    waiting.push(flight(alloc, b"F1", Category::F, 1010, (1010, light_last))?)?;
+    waiting.push(flight(alloc, b"A1", Category::A, 1000, (1000, heavy_last), passed)?)?;
+    waiting.push(flight(alloc, b"F1", Category::F, 1010, (1010, light_last), 0)?)?;
     Ok(Problem::build(head, waiting, Pairs::new()))
 }
 
@@ -81,9 +89,9 @@ fn of_three(alloc: Global, head: Head) -> Result<Problem, Fail>
     requires base { head.base ≡ 0 }
 {
     let mut waiting = Vec::new(alloc);
-    waiting.push(flight(alloc, b"A1", Category::A, 1000, (1000, 2000))?)?;
-    waiting.push(flight(alloc, b"A2", Category::A, 1001, (1001, 2000))?)?;
-    waiting.push(flight(alloc, b"F1", Category::F, 1010, (1010, 2000))?)?;
+    waiting.push(flight(alloc, b"A1", Category::A, 1000, (1000, 2000), 0)?)?;
+    waiting.push(flight(alloc, b"A2", Category::A, 1001, (1001, 2000), 0)?)?;
+    waiting.push(flight(alloc, b"F1", Category::F, 1010, (1010, 2000), 0)?)?;
     Ok(Problem::build(head, waiting, Pairs::new()))
 }
 
@@ -210,26 +218,26 @@ fn what_is_infeasible_and_what_is_least_are_shown(rt: HostRuntime) -> Result<(),
     let alloc = rt.alloc();
     let none = "claim infeasible\n";
     let short = "state 1 01 2 1010:0\nstate 1 10 1 1000:0\n";
-    let narrow = of_two(alloc, head(0, 1, Objective::Makespan)?, 1050, 1170)?;
+    let narrow = of_two(alloc, head(0, 1, Objective::Makespan)?, 0, 1050, 1170)?;
     assert_eq!(rt;
         judged(alloc, &narrow, none, "", short)?,
         Verdict::Infeasible
     );
-    let wider = of_two(alloc, head(0, 1, Objective::Makespan)?, 1050, 1180)?;
+    let wider = of_two(alloc, head(0, 1, Objective::Makespan)?, 0, 1050, 1180)?;
     let missed = Verdict::Rejected(Reason::Successor(2, 2));
     assert_eq!(rt; judged(alloc, &wider, none, "", short)?, missed);
-    let unshifted = of_two(alloc, head(0, 0, Objective::Makespan)?, 2000, 2000)?;
+    let unshifted = of_two(alloc, head(0, 0, Objective::Makespan)?, 0, 2000, 2000)?;
     let landings = "land A1 1000\nland F1 1180\n";
     let states = "state 1 - 1 1000:0\nstate 2 - 2 1180:0\n";
     let verdict = judged(alloc, &unshifted, "claim optimal 1180\n", landings, states)?;
     assert_eq!(rt; verdict, Verdict::Optimal(1180));
-    let delayed = of_two(alloc, head(0, 1, Objective::Delay)?, 2000, 2000)?;
+    let delayed = of_two(alloc, head(0, 1, Objective::Delay)?, 0, 2000, 2000)?;
     let landings = "land F1 1010\nland A1 1070\n";
     let states =
         "state 1 01 2 1010:0\nstate 1 10 1 1000:0\nstate 2 10 1 1070:70\nstate 2 10 2 1180:170\n";
     let verdict = judged(alloc, &delayed, "claim optimal 70\n", landings, states)?;
     assert_eq!(rt; verdict, Verdict::Optimal(70));
-    let frozen = of_two(alloc, head(1005, 0, Objective::Makespan)?, 2000, 2000)?;
+    let frozen = of_two(alloc, head(1005, 0, Objective::Makespan)?, 0, 2000, 2000)?;
     let verdict = judged(
         alloc,
         &frozen,
@@ -238,6 +246,36 @@ fn what_is_infeasible_and_what_is_least_are_shown(rt: HostRuntime) -> Result<(),
         "",
     )?;
     assert_eq!(rt; verdict, Verdict::Rejected(Reason::Early(1)));
+    Ok(())
+}
+
+#[test]
+fn a_flight_that_was_passed_is_not_passed_again(rt: HostRuntime) -> Result<(), Fail> {
+    let alloc = rt.alloc();
+    let free = of_two(alloc, head(0, 1, Objective::Makespan)?, 0, 2000, 2000)?;
+    let passed = of_two(alloc, head(0, 1, Objective::Makespan)?, 1, 2000, 2000)?;
+    let landings = "land F1 1010\nland A1 1070\n";
+    let states =
+        "state 1 01 2 1010:0\nstate 1 10 1 1000:0\nstate 2 10 1 1070:0\nstate 2 10 2 1180:0\n";
+    let ahead = [Verdict::Optimal(1070), Verdict::Rejected(Reason::Shift(1))];
+    for (problem, verdict) in [&free, &passed].into_iter().zip(ahead) {
+        assert_eq!(rt;
+            judged(alloc, problem, "claim optimal 1070\n", landings, states)?,
+            verdict
+        );
+    }
+    let landings = "land A1 1000\nland F1 1180\n";
+    let states = "state 1 01 2 1010:0\nstate 1 10 1 1000:0\nstate 2 10 2 1180:0\n";
+    let missed = Verdict::Rejected(Reason::Successor(1, 1));
+    for (problem, verdict) in [&free, &passed]
+        .into_iter()
+        .zip([missed, Verdict::Optimal(1180)])
+    {
+        assert_eq!(rt;
+            judged(alloc, problem, "claim optimal 1180\n", landings, states)?,
+            verdict
+        );
+    }
     Ok(())
 }
 

@@ -1,5 +1,5 @@
 -- Legal prefixes and permitted ranks: to be permitted step by step is to be legal as a whole.
-use Rattle.std.proofs.Common.{◌≡◌, ℕ, ◌+◌, ◌-◌, ◌*◌, ◌/◌, ◌<◌, List, [], ◌∷◌, ◌++◌, length, get_or, refl, arith, length-append, ◌∙◌, sym, ap, inl, inr, subst, zero, suc}
+use Rattle.std.proofs.Common.{◌≡◌, ℕ, ◌+◌, ◌-◌, ◌*◌, ◌/◌, ◌<◌, ◌≤◌, List, [], ◌∷◌, ◌++◌, length, get_or, refl, arith, length-append, ◌∙◌, sym, ap, inl, inr, subst, zero, suc}
 use Rattle.std.specs.Prelude.{ℤ, pos}
 use Rattle.std.proofs.lemmas.Int.{ints}
 use Rattle.std.proofs.lemmas.List.{get_or_append_left, get_or-append_right}
@@ -9,6 +9,7 @@ use Rattle.cps_nodes.specs.Ranks.{KeepsShift, window_of}
 use Rattle.cps_nodes.specs.Laws.{FollowRanks, LeadOn, MayFollow, offset_after}
 use Rattle.cps_nodes.specs.Leads.{IsWithin, TailMeetsHead}
 use Rattle.landing_rules.specs.Problem.{Problem}
+use Rattle.cps_problem.specs.Seen.{passed_at}
 use Rattle.cps_network.specs.Permits.{IsPermitted}
 use Rattle.cps_network.specs.Permits.{LeadAlike}
 use Rattle.cps_network.proofs.LegalLists.{IsLegal, FollowPrefixes}
@@ -40,6 +41,7 @@ none_legal : (p : Problem) (w : ℕ) → w ≡ 2 * p.k + 1 → FollowRanks w →
 none_legal p w odd law = record {
   shift = at_k p w [] odd law.none;
   to_count = λ i lt. absurd (omega arith);
+  late = λ i lt. absurd (omega arith);
   after = λ j first lt must. absurd (omega (arith, lt));
 }
 
@@ -50,6 +52,7 @@ front_legal p w ranks rank odd law is =
     record {
       shift = at_k p w ranks odd ((law.goes_on ranks rank).0 (at_half p w (ranks ++ rank ∷ []) odd is.shift)).0;
       to_count = λ i lt. rw (read_old ranks rank i lt) at (is.to_count i (omega arith));
+      late = λ i lt. rw (read_old ranks rank i lt) at (is.late i (omega arith));
       after = λ j first lt must.
           let before : (i : ℕ) × (i < j) × (get_or (ranks ++ rank ∷ []) i 0 ≡ first) =
           is.after j first (omega arith) (subst (λ (r : ℕ). MustPrecede p.pairs first r) (sym (read_old ranks rank j lt)) must) in
@@ -68,7 +71,7 @@ last_permitted p w ranks rank odd law is =
       from_one = omega (arith, is.shift.positive (length ranks) (omega arith));
       to_count = omega (arith, is.to_count (length ranks) (omega arith));
       early = omega (arith, step.1.early);
-      late = omega (arith, step.1.late);
+      late = subst (λ (r : ℕ). length ranks + 1 + passed_at p r ≤ r + p.k) last (is.late (length ranks) (omega arith));
       accepted = step.1.accepted;
       after = λ first must.
           let before : (i : ℕ) × (i < length ranks) × (get_or (ranks ++ rank ∷ []) i 0 ≡ first) =
@@ -96,6 +99,10 @@ longer_legal p w ranks rank odd range law is may =
       to_count = λ i lt. elim (last_or_before i (length ranks) (omega arith)) [
         | inl e ↦ rw (read_last ranks rank i e) may.to_count
         | inr old ↦ rw (read_old ranks rank i old) (is.to_count i old)
+      ];
+      late = λ i lt. elim (last_or_before i (length ranks) (omega arith)) [
+        | inl e ↦ rw (read_last ranks rank i e) (omega (arith, may.late, e))
+        | inr old ↦ rw (read_old ranks rank i old) (is.late i old)
       ];
       after = λ j first lt must. elim (last_or_before j (length ranks) (omega arith)) [
         | inl e ↦

@@ -15,6 +15,7 @@ use Rattle.cps_theory.specs.LegalPrefix.{IsLegalPrefix, MayFollow, Legal}
 use Rattle.cps_theory.specs.laws.LegalPrefix.{legal_is_prefix}
 use Rattle.landing_joint.specs.RankedProblem.{ranked, no_waiting}
 use Rattle.landing_rules.specs.Problem.{Problem}
+use Rattle.cps_problem.specs.Seen.{passed_at}
 use Rattle.cps_network.specs.Permits.{IsPermitted}
 use Rattle.cps_network.proofs.LegalLists.{IsLegal, FollowPrefixes}
 use Rattle.cps_network.specs.Nodes.{node_of, permits, land, latest, IsWindowNetwork, StepsAreWhole}
@@ -87,14 +88,18 @@ keeps_more p rs r is next =
     }
 
 -- a rank that may follow makes a longer legal list
-longer_from : (p : Problem) (rs : List ℕ) (r : ℕ) → IsLegal p (reverse rs) → MayFollow (ranked p).rules rs r → IsLegal p (reverse rs ++ r ∷ [])
-longer_from p rs r is next =
+longer_from : (p : Problem) (rs : List ℕ) (r : ℕ) → ((q : ℕ) → passed_at p q ≤ p.k) → IsLegal p (reverse rs) → MayFollow (ranked p).rules rs r → IsLegal p (reverse rs ++ r ∷ [])
+longer_from p rs r low is next =
     let longer : length (reverse rs ++ r ∷ []) ≡ length (reverse rs) + 1 = length-append (reverse rs) (r ∷ []) in
     record {
       shift = keeps_more p rs r is.shift next;
       to_count = λ i lt. elim (last_or_before i (length (reverse rs)) (omega arith)) [
         | inl e ↦ rw (read_last (reverse rs) r i e) next.fits.to_count
         | inr old ↦ rw (read_old (reverse rs) r i old) (is.to_count i old)
+      ];
+      late = λ i lt. elim (last_or_before i (length (reverse rs)) (omega arith)) [
+        | inl e ↦ rw (read_last (reverse rs) r i e) (omega (arith, next.fits.not_late, low r, e, length-reverse rs))
+        | inr old ↦ rw (read_old (reverse rs) r i old) (is.late i old)
       ];
       after = λ j first lt must. elim (last_or_before j (length (reverse rs)) (omega arith)) [
         | inl e ↦
@@ -110,11 +115,13 @@ longer_from p rs r is next =
     }
 
 -- the last rank of a legal list may follow the others
-follows_from : (p : Problem) (rs : List ℕ) (r : ℕ) → ((q : ℕ) → (ranked p).rules.back q ≡ p.k) → IsLegal p (reverse rs ++ r ∷ []) → MayFollow (ranked p).rules rs r
-follows_from p rs r near is =
+follows_from : (p : Problem) (rs : List ℕ) (r : ℕ) → IsLegal p (reverse rs ++ r ∷ []) → MayFollow (ranked p).rules rs r
+follows_from p rs r is =
     let len : length (reverse rs) ≡ length rs = length-reverse rs in
     let longer : length (reverse rs ++ r ∷ []) ≡ length (reverse rs) + 1 = length-append (reverse rs) (r ∷ []) in
     let at : get_or (reverse rs ++ r ∷ []) (length (reverse rs)) 0 ≡ r = read_last (reverse rs) r (length (reverse rs)) refl in
+    let late : length (reverse rs) + 1 + passed_at p r ≤ r + p.k =
+    subst (λ (q : ℕ). length (reverse rs) + 1 + passed_at p q ≤ q + p.k) at (is.late (length (reverse rs)) (omega arith)) in
     record {
       fits = record {
         from_one = omega (arith, is.shift.positive (length (reverse rs)) (omega arith), at);
@@ -123,7 +130,7 @@ follows_from p rs r near is =
             let j : (j : ℕ) × (j < length (reverse rs)) × (get_or (reverse rs) j 0 ≡ r) = has_read (reverse rs) r (in_contains rs r i) in
             is.shift.differ j.0 (length (reverse rs)) j.1 (omega arith) (read_old (reverse rs) r j.0 j.1 ∙ j.2 ∙ sym at);
         not_early = omega (arith, is.shift.early (length (reverse rs)) (omega arith), at);
-        not_late = omega (arith, is.shift.late (length (reverse rs)) (omega arith), at, near r);
+        not_late = omega (arith, late);
         after = λ a b.
             let before : (i : ℕ) × (i < length (reverse rs)) × (get_or (reverse rs ++ r ∷ []) i 0 ≡ a) =
             is.after (length (reverse rs)) a (omega arith) (subst (λ (q : ℕ). MustPrecede p.pairs a q) (sym at) ((must_precede_decides p.pairs a r).0 b)) in
@@ -133,10 +140,10 @@ follows_from p rs r near is =
     }
 
 -- a legal prefix, latest rank first, is a legal list of ranks
-whole_from : (p : Problem) (w : ℕ) (rs : List ℕ) → FollowPrefixes p w → Legal (ranked p).rules rs → IsLegal p (reverse rs)
-whole_from p w [] law legal = law.none
-whole_from p w (r ∷ rs) law legal =
-    subst (λ (l : List ℕ). IsLegal p l) (sym (reverse_more r rs)) (longer_from p rs r (whole_from p w rs law legal.1) legal.0)
+whole_from : (p : Problem) (w : ℕ) (rs : List ℕ) → ((q : ℕ) → passed_at p q ≤ p.k) → FollowPrefixes p w → Legal (ranked p).rules rs → IsLegal p (reverse rs)
+whole_from p w [] low law legal = law.none
+whole_from p w (r ∷ rs) low law legal =
+    subst (λ (l : List ℕ). IsLegal p l) (sym (reverse_more r rs)) (longer_from p rs r low (whole_from p w rs low law legal.1) legal.0)
 
 pushed : (p : Problem) (rs : List ℕ) (r : ℕ) → FollowPrefixes p (2 * p.k + 1) → node_of p.k (r ∷ rs) ≡ land (node_of p.k rs) r
 pushed p rs r law = ap (λ (w : List ℤ). (suc (length rs), w)) (
@@ -156,12 +163,12 @@ latest_rank p (r ∷ rs) law =
     ∙ ap (λ (l : List ℕ). offset_at (window_of (2 * p.k + 1) l) (2 * p.k + 1 - 1)) (reverse_more r rs) in
     omega (arith, ints, here, last, length-reverse rs)
 
-pub window_network : (p : Problem) → AreInRange p.pairs → ((q : ℕ) → (ranked p).rules.back q ≡ p.k) → FollowRanks (2 * p.k + 1) → FollowPrefixes p (2 * p.k + 1) → IsWindowNetwork p
-window_network p range near ranks law = record {
+pub window_network : (p : Problem) → AreInRange p.pairs → ((q : ℕ) → passed_at p q ≤ p.k) → FollowRanks (2 * p.k + 1) → FollowPrefixes p (2 * p.k + 1) → IsWindowNetwork p
+window_network p range low ranks law = record {
   empty = tt;
   grows = λ r rs legal may. (
-    follows_from p rs r near ((law.goes_on (reverse rs) r).1 (
-      whole_from p (2 * p.k + 1) rs law legal,
+    follows_from p rs r ((law.goes_on (reverse rs) r).1 (
+      whole_from p (2 * p.k + 1) rs low law legal,
       subst (λ (q : ℕ). IsPermitted p q (window_of (2 * p.k + 1) (reverse rs)) r) (sym (length-reverse rs)) may,
     )),
     legal,
@@ -169,17 +176,17 @@ window_network p range near ranks law = record {
   shrinks = λ r rs legal. (
     legal.1,
     subst (λ (q : ℕ). IsPermitted p q (window_of (2 * p.k + 1) (reverse rs)) r) (length-reverse rs)
-        ((law.goes_on (reverse rs) r).0 (longer_from p rs r (whole_from p (2 * p.k + 1) rs law legal.1) legal.0)).1,
+        ((law.goes_on (reverse rs) r).0 (longer_from p rs r low (whole_from p (2 * p.k + 1) rs low law legal.1) legal.0)).1,
   );
   pushes = λ r rs legal. pushed p rs r law;
   newest_is = λ rs legal. latest_rank p rs ranks;
 }
 
 -- the window of a legal prefix places its ranks alone
-pub tells_ranks : (p : Problem) → FollowRanks (2 * p.k + 1) → FollowPrefixes p (2 * p.k + 1) → TellTheirRanks p
-tells_ranks p follow law rs rank legal one = (
+pub tells_ranks : (p : Problem) → ((q : ℕ) → passed_at p q ≤ p.k) → FollowRanks (2 * p.k + 1) → FollowPrefixes p (2 * p.k + 1) → TellTheirRanks p
+tells_ranks p low follow law rs rank legal one = (
   λ placed. elim ((here legal).0 placed) [
-    | inl low ↦ absurd (omega (arith, ints, low))
+    | inl below ↦ absurd (omega (arith, ints, below))
     | inr landed ↦ contains_in rs rank (let e : landed.0 ≡ rank = omega (arith, ints, landed.1) in subst (λ (q : ℕ). Contains (reverse rs) q) e landed.2)
   ],
   λ i. (here legal).1 (inr (rank, refl, in_contains rs rank i)),
@@ -191,18 +198,18 @@ tells_ranks p follow law rs rank legal one = (
     here : Legal (ranked p).rules rs → IsPlaced (node_of p.k rs).1 (pos (length rs)) (pos rank) ↔ HasLanded (reverse rs) (pos rank)
     here l =
         subst (λ (n : ℕ). IsPlaced (window_of (2 * p.k + 1) (reverse rs)) (pos n) (pos rank) ↔ HasLanded (reverse rs) (pos rank)) (length-reverse rs)
-        (follow.places (reverse rs) (pos rank) (subst (λ (k : ℕ). KeepsShift k (reverse rs)) (sym half) (whole_from p (2 * p.k + 1) rs law l).shift))
+        (follow.places (reverse rs) (pos rank) (subst (λ (k : ℕ). KeepsShift k (reverse rs)) (sym half) (whole_from p (2 * p.k + 1) rs low law l).shift))
 
 past_end : {X : Type 0} (xs : List X) (i : ℕ) (d : X) → length xs ≤ i → get_or xs i d ≡ d
 past_end [] i d h = refl
 past_end (x ∷ xs) zero d h = absurd (omega arith)
 past_end (x ∷ xs) (suc i) d h = past_end xs i d (omega arith)
 
--- where no flight was passed over, each may land as far behind its place as ahead of it
-pub none_passed : (p : Problem) → All (λ f. f.passed ≡ 0) p.flights → (q : ℕ) → (ranked p).rules.back q ≡ p.k
-none_passed p all zero = omega arith
-none_passed p all (suc i) = elim (cases_lt i (length p.flights)) [
-  | inl lt ↦ let none : (get_or p.flights i no_waiting).passed ≡ 0 = all i no_waiting lt in omega (arith, none)
+-- at most k flights passed that of each rank, and none one that is of no flight
+pub passed_low : (p : Problem) → All (λ f. f.passed ≤ p.k) p.flights → (q : ℕ) → passed_at p q ≤ p.k
+passed_low p all zero = omega arith
+passed_low p all (suc i) = elim (cases_lt i (length p.flights)) [
+  | inl lt ↦ all i no_waiting lt
   | inr le ↦ let none : get_or p.flights i no_waiting ≡ no_waiting = past_end p.flights i no_waiting le in omega (arith, ap (λ f. f.passed) none)
 ]
 

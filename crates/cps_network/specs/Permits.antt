@@ -6,14 +6,15 @@ use Rattle.cps_nodes.specs.Laws.{offset_after}
 use Rattle.cps_nodes.specs.Windows.{IsWindow}
 use Rattle.cps_nodes.specs.Leads.{TailMeetsHead}
 use Rattle.landing_rules.specs.Problem.{Problem}
+use Rattle.cps_problem.specs.Seen.{passed_at}
 
--- a rank is permitted after a window of a stage: it is 1 to n and at most k from the next place, the window accepts its
--- offset, and each of its predecessors is placed
+-- a rank is permitted after a window of a stage: it is 1 to n, it lands at most k places before its own, and at most k less the
+-- flights that passed it behind it; the window accepts its offset, and each of its predecessors is placed
 pub record IsPermitted (p : Problem) (stage : ℕ) (xs : List ℤ) (rank : ℕ) : Type 0 where
   pub from_one : 1 ≤ rank
   pub to_count : rank ≤ length p.flights
   pub early : rank ≤ stage + 1 + p.k
-  pub late : stage + 1 ≤ rank + p.k
+  pub late : stage + 1 + passed_at p rank ≤ rank + p.k
   pub accepted : Accepts xs (offset_after stage rank)
   pub after : (first : ℕ) → MustPrecede p.pairs first rank → IsPlaced xs (pos stage) (pos first)
 
@@ -30,12 +31,18 @@ abbrev pub NoneWaits : Problem → ℕ → Type 0
 NoneWaits p stage = (rank : ℕ) → 1 ≤ rank → rank ≤ length p.flights → rank ≤ stage + 1 + p.k → stage + 1 ≤ rank + p.k
     → (first : ℕ) → MustPrecede p.pairs first rank → first + p.k ≤ stage
 
--- at both stages each rank in reach is one of the problem's, and waits for none that is not due
+-- no rank that may land next after a stage was passed
+abbrev pub NonePassed : Problem → ℕ → Type 0
+NonePassed p stage = (rank : ℕ) → 1 ≤ rank → rank ≤ length p.flights → rank ≤ stage + 1 + p.k → stage + 1 ≤ rank + p.k → passed_at p rank ≡ 0
+
+-- at both stages each rank in reach is one of the problem's, waits for none that is not due, and was not passed
 pub record Repeats (p : Problem) (earlier stage : ℕ) : Type 0 where
   pub from_one : p.k ≤ earlier
   pub to_count : stage + 1 + p.k ≤ length p.flights
   pub earlier_ready : NoneWaits p earlier
   pub ready : NoneWaits p stage
+  pub earlier_free : NonePassed p earlier
+  pub free : NonePassed p stage
 
 -- where one window of a stage extends to another by a permitted rank, so does each window that leads to it
 abbrev pub LeadAlike : Problem → ℕ → Type 0

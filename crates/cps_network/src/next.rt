@@ -8,7 +8,7 @@ ghost use Rattle.cps_network.specs.Landable.{HoldsCandidates};
 ghost use Rattle.cps_network.specs.Lists.{IsAscending, AreWindows, node_at};
 ghost use Rattle.cps_network.specs.Permits.{IsPermitted, IsSuccessor, IsNextOf, Repeats};
 
-use crate::permit::{due_set, most_shift, none_waits, successor};
+use crate::permit::{due_set, most_shift, none_passed, none_waits, successor};
 use crate::runs::Runs;
 use crate::stage::Stage;
 use cps_nodes::{Window, window_laws};
@@ -174,7 +174,8 @@ fn are_same<const W: usize>(left: &[Window<W>], right: &[Window<W>]) -> bool
     true
 }
 
-// Whether the same ranks, counted from the next place, may land after two stages that have the same windows.
+// Whether the same ranks, counted from the next place, may land after two stages that have the same windows: none in reach
+// of either waits for another or was passed.
 fn repeats(problem: &Problem, earlier: u8, stage: u8) -> bool
     requires stage { stage < length problem.now.flights }
     requires before { earlier < stage }
@@ -182,6 +183,9 @@ fn repeats(problem: &Problem, earlier: u8, stage: u8) -> bool
 {
     let k = most_shift(problem);
     let n = problem.len();
+    if !none_passed(problem, earlier) || !none_passed(problem, stage) {
+        return false;
+    }
     earlier >= k && stage + 1 + k <= n && none_waits(problem, earlier) && none_waits(problem, stage)
 }
 

@@ -5,7 +5,8 @@ ghost use Rattle.precedence.specs.Pairs.{HasBit, MustPrecede};
 ghost use Rattle.cps_nodes.specs.Windows.{IsWindow, IsPlaced, shifted};
 ghost use Rattle.cps_nodes.specs.Ranks.{window_of};
 ghost use Rattle.cps_nodes.specs.Laws.{offset_after};
-ghost use Rattle.cps_network.specs.Permits.{IsPermitted, NoneWaits};
+ghost use Rattle.cps_problem.specs.Seen.{passed_at};
+ghost use Rattle.cps_network.specs.Permits.{IsPermitted, NoneWaits, NonePassed};
 ghost use Rattle.cps_theory.specs.LegalPrefix.{IsLegalPrefix};
 ghost use Rattle.landing_joint.specs.RankedProblem.{ranked};
 
@@ -99,6 +100,16 @@ fn offset_of(landed: u8, rank: u8) -> i8
     rank as i8 - (landed + 1) as i8
 }
 
+// Whether a rank that lands after so many is no further behind its place than the flights that passed it leave.
+fn is_in_time(problem: &Problem, landed: u8, rank: u8) -> bool
+    requires landed { landed < length problem.now.flights }
+    requires rank { (1 ≤ rank) × (rank ≤ length problem.now.flights) }
+    ensures { IsTrue result ↔ (landed + 1 + passed_at problem.now rank ≤ rank + problem.now.k) }
+{
+    let k = most_shift(problem);
+    landed + 1 + problem.passed(rank) <= rank + k
+}
+
 // The window after a landing of a rank that is at most k from the next place, where it is permitted.
 pub fn successor<const W: usize>(
     problem: &Problem,
@@ -118,6 +129,9 @@ pub fn successor<const W: usize>(
     let _few = problem.len();
     let _near = problem.head();
     let next = window.extend(offset_of(stage, rank));
+    if !is_in_time(problem, stage, rank) {
+        return None;
+    }
     if !follows_its_predecessors(problem, window, stage, rank, due) {
         return None;
     }
@@ -171,6 +185,23 @@ pub fn none_waits(problem: &Problem, stage: u8) -> bool
     for rank in 1..n + 1 {
         let in_reach = rank <= stage + 1 + k && stage + 1 <= rank + k;
         if in_reach && !problem.pairs().all_before(rank, due) {
+            return false;
+        }
+    }
+    true
+}
+
+// Whether no rank in reach of a stage was passed.
+pub fn none_passed(problem: &Problem, stage: u8) -> bool
+    requires { stage < length problem.now.flights }
+    ensures { IsTrue result → NonePassed problem.now stage }
+{
+    let k = most_shift(problem);
+    let n = problem.len();
+    let first = (stage + 1).saturating_sub(k).max(1);
+    let end = (stage + 1 + k).min(n) + 1;
+    for rank in first..end {
+        if problem.passed(rank) > 0 {
             return false;
         }
     }

@@ -1,12 +1,13 @@
 -- What contracts see of waiting flights, and of the parts of a problem: the rules' own.
 use Rattle.std.specs.Prelude.{ℕ, List, map}
 use Rattle.landing_rules.specs.Problem as rules
+use Rattle.cps_theory.specs.RankLists.{of_rank}
+use Rattle.landing_joint.specs.RankedProblem.{no_waiting}
 use Rattle.cps_problem.specs.declared.problem.Waiting.{Waiting}
 use Rattle.cps_problem.specs.declared.problem.Head.{Head}
 
--- no flight was passed over
 abbrev pub waiting_of : Waiting → rules.Waiting
-waiting_of w = record { callsign = w.callsign; category = w.category; eta = w.eta; weight = w.weight; passed = 0; open_spans = w.times }
+waiting_of w = record { callsign = w.callsign; category = w.category; eta = w.eta; weight = w.weight; passed = w.passed; open_spans = w.times }
 
 abbrev pub problem_of : Head → List Waiting → List ℕ → rules.Problem
 problem_of head waiting pairs = record {
@@ -19,3 +20,7 @@ problem_of head waiting pairs = record {
   flights = map waiting_of waiting;
   pairs = pairs;
 }
+
+-- how many flights passed that of a rank
+abbrev pub passed_at : rules.Problem → ℕ → ℕ
+passed_at p rank = (of_rank no_waiting p.flights rank).passed

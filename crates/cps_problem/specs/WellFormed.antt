@@ -1,6 +1,6 @@
 -- What a problem is asked to be: numbers in their ranges, flights in first-come order with callsigns apart, and
 -- pairs of their ranks.
-use Rattle.std.specs.Prelude.{◌≡◌, ◌≢◌, ◌+◌, ◌*◌, ◌<◌, ◌≤◌, length, All, AllPairs, MatchOption, IsTrue, ⊤}
+use Rattle.std.specs.Prelude.{◌≢◌, ◌+◌, ◌*◌, ◌<◌, ◌≤◌, length, All, AllPairs, MatchOption, IsTrue, ⊤}
 use Rattle.std.specs.List.{AllAdjacentBelow}
 use Rattle.std.specs.Ordering.{nat_cmp, ordering_then, is_lt}
 use Rattle.std.specs.Cmp.Lexicographic.{slice_cmp}
@@ -23,7 +23,7 @@ pub record IsWellFormed (p : Problem) : Type 0 where
   pub near_horizon : p.horizon ≤ 179999
   pub estimates : All (λ f. f.eta ≤ last_second) p.flights
   pub weights : All (λ f. (1 ≤ f.weight) × (f.weight ≤ 100)) p.flights
-  pub none_passed : All (λ f. f.passed ≡ 0) p.flights
+  pub passed : All (λ f. f.passed ≤ p.k) p.flights
   pub base : p.base + 17279900 * length p.flights ≤ 8639950000
 
 -- what is asked of the parts of a problem: all of this, but that its table is one, which the table's type keeps

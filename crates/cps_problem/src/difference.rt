@@ -36,7 +36,7 @@ fn is_same_flight(a: &Waiting, b: &Waiting) -> bool
     if !is_same_callsign(&a.callsign, &b.callsign) || !is_same_category(a.category, b.category) {
         return false;
     }
-    if a.eta != b.eta || a.weight != b.weight {
+    if a.eta != b.eta || a.weight != b.weight || a.passed != b.passed {
         return false;
     }
     are_same_times(&a.times, &b.times)

@@ -2,6 +2,7 @@ ghost use Rattle.std.specs.Prelude.{◌≡◌, ◌≤◌, ◌*◌, length, IfSom
 ghost use Rattle.landing_rules.specs.Rules.{last_second};
 ghost use Rattle.cps_theory.specs.Feasible.{next_from};
 ghost use Rattle.landing_joint.specs.RankedProblem.{ranked, landing_after, cost_at, apart_at, start_at, first_at};
+ghost use Rattle.cps_problem.specs.Seen.{passed_at};
 ghost use Rattle.cps_problem.specs.WellFormed.{IsWellFormed};
 
 use crate::Problem;
@@ -16,6 +17,16 @@ impl Problem {
         ensures range { (1 ≤ result) × (result ≤ 600) }
     {
         self.head().table.sep(self.flight(leader).category, self.flight(follower).category)
+    }
+
+    /// How many flights behind that of a rank froze ahead of it.
+    pub fn passed(&self, rank: u8) -> u8
+        requires { (1 ≤ rank) × (rank ≤ length self.now.flights) }
+        ensures value { result ≡ passed_at self.now rank }
+        ensures at_most { result ≤ self.now.k }
+    {
+        let _counts = self.head();
+        self.flight(rank).passed
     }
 
     /// From when on a rank may land as the first: from the horizon on, and behind the last frozen landing.

@@ -10,14 +10,16 @@ use std::alloc::AllocError;
 use std::marker::Model;
 use wake_table::{Category, PairTable};
 
-/// A waiting flight: its callsign and wake category, its estimated second, its weight from 1 to 100, and its
-/// open seconds.
+/// A waiting flight: its callsign and wake category, its estimated second, its weight from 1 to 100, how many flights
+/// passed it, and its open seconds.
 #[derive(Drop)]
 pub struct Waiting {
     pub callsign: Callsign,
     pub category: Category,
     pub eta: u32,
     pub weight: u32,
+    /// How many flights behind it in first-come order froze ahead of it, at most k.
+    pub passed: u8,
     pub times: OpenTimes,
 }
 
@@ -62,8 +64,8 @@ impl Model for Problem {
 
 impl Problem {
     /// The problem of these flights by rank. At most 60 flights, ascending by estimate and callsign, no callsign
-    /// twice, each estimate at most 172,799 and each weight 1 to 100; the pairs are over their ranks; k is at most 3;
-    /// the last frozen landing is before the horizon, which is at most 179,999; the base plus 17,279,900 for each flight
+    /// twice, each estimate at most 172,799 and each weight 1 to 100; the pairs are over their ranks; k is at most 3, and
+    /// at most k flights passed each; the last frozen landing is before the horizon, which is at most 179,999; the base plus 17,279,900 for each flight
     /// is at most 8,639,950,000.
     pub fn build(head: Head, waiting: Vec<Waiting>, pairs: Pairs) -> Problem
         requires { CanBuild (problem_of head waiting.items pairs) }
@@ -139,6 +141,7 @@ fn copy_all(waiting: &Vec<Waiting>) -> Result<Vec<Waiting>, AllocError>
             category: flight.category,
             eta: flight.eta,
             weight: flight.weight,
+            passed: flight.passed,
             times,
         })?;
     }

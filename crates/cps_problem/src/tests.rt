@@ -19,6 +19,7 @@ fn a_problem_and_its_copy_land_a_flight(rt: HostRuntime) -> Result<(), Fail> {
         category: Category::B,
         eta: 1000,
         weight: 3,
+        passed: 0,
         times,
     })?;
     let head = Head {

@@ -16,6 +16,7 @@ fn an_order_lands_as_early_as_it_can(rt: HostRuntime) -> Result<(), Fail> {
         category: Category::B,
         eta: 1000,
         weight: 3,
+        passed: 0,
         times: OpenTimes::of(alloc, &WindowSet::new(&[(1000, 1200)])?, &Closures::new())?,
     })?;
     let head = Head {

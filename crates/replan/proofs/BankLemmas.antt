@@ -1,6 +1,6 @@
 -- Flights that come one behind another make a problem.
-use Rattle.std.proofs.Common.{◌≡◌, ℕ, zero, suc, ◌+◌, ◌<◌, ◌≤◌, List, [], ◌∷◌, length, get_or, Option, None, refl, sym, ap, subst, arith}
-use Rattle.std.specs.Prelude.{All, AllPairs, MatchOption, ⊤, ◌≢◌, map}
+use Rattle.std.proofs.Common.{◌≡◌, ℕ, ◌+◌, ◌<◌, ◌≤◌, length, get_or, Option, None, sym, ap, subst, arith}
+use Rattle.std.specs.Prelude.{All, AllPairs, MatchOption, ⊤, ◌≢◌}
 use Rattle.std.specs.declared.cmp.Ordering.{Ordering}
 use Rattle.std.specs.declared.cmp.Ordering.TheVariants.{Less}
 use Rattle.std.specs.Ordering.{nat_cmp, ordering_then, is_lt}
@@ -10,24 +10,17 @@ use Rattle.precedence.specs.Pairs.{MustPrecede, must_precede_decides}
 use Rattle.wake_table.specs.Table.{IsWakeTable}
 use Rattle.wake_table.specs.declared.category.Category.{Category}
 use Rattle.landing_rules.specs.Problem as rules
-use Rattle.cps_problem.specs.Seen.{waiting_of}
 use Rattle.cps_problem.specs.WellFormed.{ComesBefore, IsWellFormed}
-use Rattle.cps_problem.specs.declared.problem.Waiting.{Waiting}
 
 comes_before : (f g : rules.Waiting) → f.eta < g.eta → ComesBefore f g
 comes_before f g lt =
     let less : Less ≡ nat_cmp f.eta g.eta = nat_cmp_is f.eta g.eta Less lt in
     ap (λ (o : Ordering). is_lt (ordering_then o (slice_cmp nat_cmp f.callsign g.callsign))) (sym less)
 
-pub none_passed : (waiting : List Waiting) → All (λ (f : rules.Waiting). f.passed ≡ 0) (map waiting_of waiting)
-none_passed [] i d lt = absurd (omega arith)
-none_passed (w ∷ waiting) zero d lt = refl
-none_passed (w ∷ waiting) (suc i) d lt = none_passed waiting i d (omega arith)
-
 pub well_formed : (p : rules.Problem) → IsWakeTable p.table → p.k ≤ 3 → p.horizon ≡ 0 → p.last ≡ None → p.base ≡ 0 → ((first next : ℕ) → MustPrecede p.pairs first next → ⊥)
-    → length p.flights ≤ 60 → AllPairs (λ (f g : rules.Waiting). (f.eta < g.eta) × (f.callsign ≢ g.callsign)) p.flights → All (λ (f : rules.Waiting). (f.eta ≤ 172799) × (f.weight ≡ 1)) p.flights
-    → All (λ (f : rules.Waiting). f.passed ≡ 0) p.flights → IsWellFormed p
-well_formed p table few horizon last base free count ordered ranges none = record {
+    → length p.flights ≤ 60 → AllPairs (λ (f g : rules.Waiting). (f.eta < g.eta) × (f.callsign ≢ g.callsign)) p.flights → All (λ (f : rules.Waiting). (f.eta ≤ 172799) × (f.weight ≡ 1) × (f.passed ≡ 0)) p.flights
+    → IsWellFormed p
+well_formed p table few horizon last base free count ordered ranges = record {
   table = table;
   few_places = few;
   few_flights = count;
@@ -38,6 +31,6 @@ well_formed p table few horizon last base free count ordered ranges none = recor
   near_horizon = omega (arith, horizon);
   estimates = λ i d lt. (ranges i d lt).0;
   weights = λ i d lt. let e = (ranges i d lt).1 in (omega (arith, e), omega (arith, e));
-  none_passed = none;
+  passed = λ i d lt. let e = (ranges i d lt).2 in omega (arith, e);
   base = omega (arith, base, count);
 }

@@ -22,7 +22,7 @@ struct Bank {
     waiting: Vec<Waiting>,
     ghost few: { vec_len waiting ≤ 60 },
     ghost in_order: { AllPairs (λ f g. (f.eta < g.eta) × (f.callsign ≢ g.callsign)) (map waiting_of waiting.items) },
-    ghost in_range: { All (λ f. (f.eta ≤ 172799) × (f.weight ≡ 1)) (map waiting_of waiting.items) },
+    ghost in_range: { All (λ f. (f.eta ≤ 172799) × (f.weight ≡ 1) × (f.passed ≡ 0)) (map waiting_of waiting.items) },
 }
 
 // Whether a flight comes behind another, under another callsign.
@@ -53,7 +53,7 @@ impl Bank {
 
     // Adds a flight behind the others.
     fn push(&mut self, flight: Waiting) -> Result<(), Fail>
-        requires { (flight.eta ≤ 172799) × (flight.weight ≡ 1) }
+        requires { (flight.eta ≤ 172799) × (flight.weight ≡ 1) × (flight.passed ≡ 0) }
     {
         let is_last = self.waiting.len() < 60 && comes_last(&self.waiting, &flight);
         if !is_last {
@@ -77,6 +77,7 @@ impl Bank {
             category,
             eta,
             weight: 1,
+            passed: 0,
             times,
         })?;
         Ok(())

@@ -8,7 +8,7 @@ use Rattle.std.specs.Ordering.{is_lt}
 use Rattle.std.specs.Cmp.{IsTotalOrder}
 use Rattle.std.proofs.lemmas.Cmp.{then_total, on_total, nat_cmp_total, nat_list_cmp_total, tied_itself}
 use Rattle.std.proofs.lemmas.Option.{slice_get-map, slice_get-get_or}
-use Rattle.std.proofs.lemmas.List.Elements.{All-map, All-filter}
+use Rattle.std.proofs.lemmas.List.Elements.{All-filter}
 use Rattle.std.proofs.lemmas.List.Kept.{AllPairs-filter}
 use Rattle.std.proofs.lemmas.List.Sorted.{All-permutation}
 use Rattle.std.proofs.lemmas.Slice.Zip.{AllZip-long}
@@ -105,6 +105,9 @@ module _ (s : Situation) (h : Head) (ws : List waits.Waiting) (pairs : List ℕ)
   good : All (λ (a : Active). IsGoodFlight a.flight) (by_rank (waiting s))
   good = All-permutation (λ (a : Active). IsGoodFlight a.flight) (waiting s) (by_rank (waiting s)) (rank_permutes (waiting s)) (All-filter is_waiting (λ (a : Active). IsGoodFlight a.flight) s.active sound.flights)
 
+  passed_low : All (λ (a : Active). a.passed ≤ s.aerodrome.k) (by_rank (waiting s))
+  passed_low = All-permutation (λ (a : Active). a.passed ≤ s.aerodrome.k) (waiting s) (by_rank (waiting s)) (rank_permutes (waiting s)) (All-filter is_waiting (λ (a : Active). a.passed ≤ s.aerodrome.k) s.active sound.passed)
+
   keys : map key_of (map waiting_of ws) ≡ arrivals (waiting s)
   keys = zip_keys s.closures (by_rank (waiting s)) (map waiting_of ws) zip
 
@@ -123,7 +126,7 @@ module _ (s : Situation) (h : Head) (ws : List waits.Waiting) (pairs : List ℕ)
     near_horizon = near;
     estimates = zip_all s.closures (λ x. IsGoodFlight x.flight) (λ w. w.eta ≤ last_second) (λ x w z g. rw z.eta g.eta) (by_rank (waiting s)) (map waiting_of ws) zip good;
     weights = zip_all s.closures (λ x. IsGoodFlight x.flight) (λ w. (1 ≤ w.weight) × (w.weight ≤ 100)) (λ x w z g. rw z.weight g.weight) (by_rank (waiting s)) (map waiting_of ws) zip good;
-    none_passed = All-map (λ (w : problems.Waiting). w.passed ≡ 0) waiting_of ws (λ k d lt. refl);
+    passed = zip_all s.closures (λ x. x.passed ≤ s.aerodrome.k) (λ w. w.passed ≤ h.k) (λ x w z low. let k = posed.k in let e = z.passed in omega (arith, low, k, e)) (by_rank (waiting s)) (map waiting_of ws) zip passed_low;
     base =
         let b = base_low s sound in
         let e = of.base in

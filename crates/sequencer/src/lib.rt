@@ -1,8 +1,8 @@
 //! The sequencer: the flights in the system, the problem that they pose, and the plan that is shown.
 #![tactic(auto)]
 
+mod begin;
 mod frozen;
-mod opening;
 mod order;
 mod plan;
 mod predecessors;
@@ -11,7 +11,7 @@ mod seconds;
 mod sequencer;
 mod waiting;
 
-pub use opening::{BeginFault, opening_problem};
+pub use begin::{BeginFault, opening, opening_problem};
 pub use plan::{Landing, Plan};
 pub use problem::problem_of;
 pub use sequencer::Sequencer;

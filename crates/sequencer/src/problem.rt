@@ -1,5 +1,5 @@
 // The problem of a situation.
-ghost use Rattle.std.specs.Prelude.{◌≡◌, ◌≤◌, false, IfOk, map};
+ghost use Rattle.std.specs.Prelude.{◌≡◌, ◌≤◌, IfOk, map};
 ghost use Rattle.landing_rules.specs.Flights.{horizon, waiting};
 ghost use Rattle.landing_rules.specs.Events.{frozen_landings, in_landing_order};
 ghost use Rattle.landing_rules.specs.Problem.{IsProblemOf, last_of, frozen_cost};
@@ -35,7 +35,6 @@ fn head(situation: &Situation, flights: &Vec<&Active>) -> Head
     ensures horizon { result.horizon ≡ horizon situation.now }
     ensures last { result.last ≡ last_of (in_landing_order (frozen_landings situation.now)) }
     ensures base { result.base ≡ frozen_cost situation.now.aerodrome.objective (frozen_landings situation.now) }
-    ensures no_carry { situation.now.aerodrome.carry ≡ false }
     ensures few_places { result.k ≤ 3 }
     ensures near { result.horizon ≤ 179999 }
 {

@@ -1,4 +1,4 @@
-ghost use Rattle.std.specs.Prelude.{◌≡◌, ℕ, ◌<◌, ◌≤◌, Option, Some, None, Err, IfOk, IfErr, OnOk, OnErr, MatchOption, length, map, option_map, ⊤};
+ghost use Rattle.std.specs.Prelude.{◌≡◌, ℕ, Option, Some, None, IfOk, IfErr, OnOk, OnErr, MatchOption, map, option_map, ⊤};
 ghost use Rattle.cps_base.specs.Tally.{raised_by};
 ghost use Rattle.landing_rules.specs.Flights.{waiting};
 ghost use Rattle.landing_rules.specs.Rules.{IsFeasible};
@@ -8,12 +8,14 @@ ghost use Rattle.landing_rules.specs.Sound.{IsSound, IsSoundState, IsGoodEvent};
 ghost use Rattle.landing_rules.specs.Text.{shown_plan, plan_shown};
 ghost use Rattle.event_log.specs.Seen.{event_of};
 ghost use Rattle.flight_file.specs.Seen.{flight_of};
-ghost use Rattle.cps_problem.specs.Plans.{IsAnswerOf};
+ghost use Rattle.cps_problem.specs.Plans.{IsAnswerOf, IsWithinShift};
 ghost use Rattle.sequencer.specs.Ranked.{arrivals};
 ghost use Rattle.situations.specs.Answers.{refusal_of};
-ghost use Rattle.situations.specs.Opened.{CanOpen, opened, opening_of};
+ghost use Rattle.situations.specs.Opened.{CanOpen, opening_of};
+ghost use Rattle.situations.specs.Refused.{opening_fault};
+ghost use Rattle.sequencer.specs.Begun.{IsRefusedBy, opening_fault_of};
 
-use crate::opening::BeginFault;
+use crate::begin::{BeginFault, open};
 use crate::plan::{Plan, plan_of};
 use crate::problem::posed;
 use crate::seconds::joined_seconds;
@@ -130,6 +132,14 @@ impl<P: Planner> Sequencer<P> {
         }
     }
 
+    /// The situation on the approach.
+    pub fn situation(&self) -> &Situation
+        ensures value { result.now ≡ self.now.state.situation }
+        ensures sound { IsSoundState self.now.state }
+    {
+        &self.situation
+    }
+
     /// The problem of the situation.
     pub fn problem(&self) -> &Problem
         ensures value { result.now ≡ self.now.problem }
@@ -171,7 +181,7 @@ impl<P: Planner> Sequencer<P> {
         ensures same_problem { OnErr result (self.new.problem ≡ self.old.problem) }
     {
         every_step_keeps_soundness();
-        let next = self.situation.after(seconds_of(&self.shown), event)?;
+        let next = self.situation.after(alloc, seconds_of(&self.shown), event)?;
         let (problem, order) = posed(alloc, &next)?;
         let answer = self.planner.replan(rt, alloc, &problem, gate, steps)?;
         let shown = shown_answer(alloc, &next, &problem, &order, &answer)?;
@@ -211,25 +221,23 @@ impl<P: Planner> Sequencer<P> {
         Ok(())
     }
 
-    // Begins with at most 60 flights.
-    fn open<R: Threads + Sync, G: Gate + Sync, L: Ledger>(
+    // Begins in a sound situation.
+    fn start<R: Threads + Sync, G: Gate + Sync, L: Ledger>(
         rt: &R,
         alloc: Global,
-        aerodrome: &Aerodrome,
-        flights: &[Flight],
+        situation: Situation,
         mut planner: P,
         gate: &G,
         steps: &mut Steps<L>,
     ) -> Result<Sequencer<P>, AllocError>
-        requires can { CanOpen aerodrome.now flights.now }
-        requires few { length flights.now ≤ 60 }
-        requires same_k { aerodrome.now.k ≡ P.k planner }
-        ensures opening { IfOk result (λ s. s.state.situation ≡ opened aerodrome.now flights.now) }
+        requires sound { IsSound situation }
+        requires same_k { situation.aerodrome.k ≡ P.k planner }
+        requires plannable { IsWithinShift situation.aerodrome.objective situation.aerodrome.k }
+        ensures opening { IfOk result (λ s. s.state.situation ≡ situation) }
         ensures shown { IfOk result (λ s. IsPlanShown s.state.situation s.state.plan) }
         ensures holds { IfOk result (λ s. P.holds s.planner s.problem) }
         ensures steps { IfOk result (λ s. (n : ℕ) × P.due planner s.problem n × (L.count steps.new ≡ raised_by n (L.count steps.old))) }
     {
-        let situation = Situation::opening(alloc, aerodrome, flights)?;
         let (problem, order) = posed(alloc, &situation)?;
         let answer = planner.replan(rt, alloc, &problem, gate, steps)?;
         let shown = shown_answer(alloc, &situation, &problem, &order, &answer)?;
@@ -241,12 +249,12 @@ impl<P: Planner> Sequencer<P> {
         })
     }
 
-    /// Begins with the situation that an aerodrome and its flights open, in which each flight waits, and with a plan that
-    /// is best and tight there, or none where there is none.
+    /// Begins with the situation that an aerodrome and its flights open, and with a plan that is best and tight there, or
+    /// none where there is none.
     ///
     /// It asks that there are at most 500 flights, with callsigns apart, that all numbers are in their ranges, and
-    /// that the planner's k is the aerodrome's. It refuses more than 60 flights, which it counts, and then the steps are as
-    /// they were; else there is no refusal but want of memory. The steps rose by what was due.
+    /// that the planner's k is the aerodrome's. A refusal is the first opening refusal that holds, with its value, and then
+    /// the steps are as they were; or it is want of memory. The steps rose by what was due.
     pub fn begin<R: Threads + Sync, G: Gate + Sync, L: Ledger>(
         rt: &R,
         alloc: Global,
@@ -261,22 +269,12 @@ impl<P: Planner> Sequencer<P> {
         ensures opening { IfOk result (λ s. IsOpeningState (opening_of aerodrome) (map flight_of flights.items) s.state) }
         ensures holds { IfOk result (λ s. P.holds s.planner s.problem) }
         ensures steps { IfOk result (λ s. (n : ℕ) × P.due planner s.problem n × (L.count steps.new ≡ raised_by n (L.count steps.old))) }
-        ensures too_many { 60 < length flights.items → (result ≡ Err (BeginFault.TooManyWaiting (length flights.items))) × (steps.new ≡ steps.old) }
-        ensures fits { length flights.items ≤ 60 → IfErr result (λ fault. fault ≡ BeginFault.Memory) }
+        ensures openable { IfOk result (λ _. opening_fault aerodrome flights.items ≡ None) }
+        ensures refused { IfErr result (IsRefusedBy (opening_fault aerodrome flights.items)) }
+        ensures kept { IfErr result (λ fault. MatchOption (opening_fault_of fault) ⊤ (λ _. steps.new ≡ steps.old)) }
     {
-        let count = flights.len();
-        if count > 60 {
-            return Err(BeginFault::TooManyWaiting(count as u32));
-        }
-        let sequencer = Sequencer::open(
-            rt,
-            alloc,
-            &aerodrome,
-            flights.as_slice(),
-            planner,
-            gate,
-            steps,
-        )?;
+        let situation = open(alloc, &aerodrome, flights.as_slice())?;
+        let sequencer = Sequencer::start(rt, alloc, situation, planner, gate, steps)?;
         Ok(sequencer)
     }
 }

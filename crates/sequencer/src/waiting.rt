@@ -1,5 +1,5 @@
 // The waiting flights as those of a problem.
-ghost use Rattle.std.specs.Prelude.{◌≡◌, IfOk, All, map};
+ghost use Rattle.std.specs.Prelude.{IfOk, map};
 ghost use Rattle.std.specs.List.{AllZip};
 ghost use Rattle.landing_rules.specs.Problem.{IsWaitingOf};
 ghost use Rattle.cps_problem.specs.Seen.{waiting_of};
@@ -11,7 +11,6 @@ use std::alloc::{AllocError, Global};
 
 // The flight with its open seconds.
 fn waiting_of(alloc: Global, active: &Active, closures: &Closures) -> Result<Waiting, AllocError>
-    requires { active.now.passed ≡ 0 }
     ensures { IfOk result (λ w. IsWaitingOf closures.now active.now (waiting_of w)) }
 {
     let flight = &active.flight;
@@ -21,17 +20,17 @@ fn waiting_of(alloc: Global, active: &Active, closures: &Closures) -> Result<Wai
         category: flight.category,
         eta: flight.eta,
         weight: flight.weight,
+        passed: active.passed,
         times,
     })
 }
 
-/// The flights with their open seconds, in the same order. None was passed over.
+/// The flights with their open seconds, in the same order.
 pub(crate) fn all_waiting(
     alloc: Global,
     ranked: &Vec<&Active>,
     closures: &Closures,
 ) -> Result<Vec<Waiting>, AllocError>
-    requires { All (λ a. a.passed ≡ 0) (map (λ a. a.now) ranked.now.items) }
     ensures { IfOk result (λ all. AllZip (IsWaitingOf closures.now) (map (λ a. a.now) ranked.now.items) (map waiting_of all.items)) }
 {
     let mut all = Vec::with_capacity(alloc, ranked.len())?;

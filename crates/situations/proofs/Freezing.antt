@@ -1,58 +1,93 @@
 -- Freezing one entry after another freezes each.
-use Rattle.std.proofs.Common.{◌≡◌, ℕ, zero, suc, ◌+◌, ◌<◌, Bool, true, false, cond, ◌&&◌, List, [], ◌∷◌, length, map, Option, Some, None, get_or, refl, sym, ap, ◌∙◌, arith}
+use Rattle.std.proofs.Common.{◌≡◌, ℕ, zero, suc, ◌+◌, ◌<◌, Bool, true, false, cond, ◌&&◌, List, [], ◌∷◌, ◌++◌, length, map, take, Option, Some, None, get_or, refl, sym, ap, ◌∙◌, arith}
 use Rattle.std.specs.Prelude.{nat_lt, zip}
+use Rattle.std.proofs.lemmas.Option.{get_or_from_slice_get}
+use Rattle.std.proofs.lemmas.List.Sums.{length-filter}
 use Rattle.std.proofs.lemmas.List.Elements.{All-cons, All-head, All-tail}
 use Rattle.indexmap.specs.IndexMap.{set_value_at}
 use Rattle.std.specs.List.{slice_get}
 use Rattle.std.specs.Prelude.{is_none, min, count_by, filter}
 use Rattle.std.specs.Ordering.{is_lt}
-use Rattle.landing_rules.specs.Rules.{arrival_cmp}
+use Rattle.landing_rules.specs.Rules.{arrival_cmp, first_come_cmp}
 use Rattle.landing_rules.specs.Flights.{Flight, Active, Aerodrome, Landing, landing, landings, is_waiting}
-use Rattle.landing_rules.specs.Events.{after_clock, freezes}
-use Rattle.situations.specs.Freezes.{frozen_one, frozen_entry}
+use Rattle.landing_rules.specs.Events.{after_clock, passed_after, freezes}
+use Rattle.situations.specs.Freezes.{arrival, arrival_if, freezing, behind, count_after, frozen_one, frozen_entry, IsFreezeOf}
+use Rattle.situations.specs.declared.freeze.Freeze.{Freeze}
 use Rattle.situations.specs.Seen.{AreKeyed}
 use Rattle.situations.specs.Seen.{flights_of}
 
 abbrev pub Entry : Type 0
 Entry = List ℕ × Active
 
-abbrev pub freeze_prefix : ℕ → ℕ → List Entry → List ℕ → List Entry
-freeze_prefix h zero es ts = es
-freeze_prefix h (suc i) [] ts = []
-freeze_prefix h (suc i) (e ∷ es) [] = e ∷ es
-freeze_prefix h (suc i) (e ∷ es) (t ∷ ts) = frozen_entry h e t ∷ freeze_prefix h i es ts
+abbrev pub freeze_prefix : Freeze → ℕ → List Entry → List ℕ → List Entry
+freeze_prefix z zero es ts = es
+freeze_prefix z (suc i) [] ts = []
+freeze_prefix z (suc i) (e ∷ es) [] = e ∷ es
+freeze_prefix z (suc i) (e ∷ es) (t ∷ ts) = frozen_entry z e t ∷ freeze_prefix z i es ts
 
-pub length-freeze_prefix : (h i : ℕ) (es : List Entry) (ts : List ℕ) → length (freeze_prefix h i es ts) ≡ length es
-length-freeze_prefix h zero es ts = refl
-length-freeze_prefix h (suc i) [] ts = refl
-length-freeze_prefix h (suc i) (e ∷ es) [] = refl
-length-freeze_prefix h (suc i) (e ∷ es) (t ∷ ts) = ap suc (length-freeze_prefix h i es ts)
+pub length-freeze_prefix : (z : Freeze) (i : ℕ) (es : List Entry) (ts : List ℕ) → length (freeze_prefix z i es ts) ≡ length es
+length-freeze_prefix z zero es ts = refl
+length-freeze_prefix z (suc i) [] ts = refl
+length-freeze_prefix z (suc i) (e ∷ es) [] = refl
+length-freeze_prefix z (suc i) (e ∷ es) (t ∷ ts) = ap suc (length-freeze_prefix z i es ts)
 
-pub freeze_prefix-step : (h i : ℕ) (es : List Entry) (ts : List ℕ) (d : Entry) → length es ≡ length ts → i < length es →
-    set_value_at (freeze_prefix h i es ts) i (frozen_one h (get_or (freeze_prefix h i es ts) i d).1 (get_or ts i 0)) ≡ freeze_prefix h (suc i) es ts
-freeze_prefix-step h i [] ts d n l = absurd (omega arith)
-freeze_prefix-step h i (e ∷ es) [] d n l = absurd (omega arith)
-freeze_prefix-step h zero (e ∷ es) (t ∷ ts) d n l = refl
-freeze_prefix-step h (suc i) (e ∷ es) (t ∷ ts) d n l = ap (λ r. frozen_entry h e t ∷ r) (freeze_prefix-step h i es ts d (omega arith) (omega arith))
+pub freeze_prefix-step : (z : Freeze) (i : ℕ) (es : List Entry) (ts : List ℕ) (d : Entry) → length es ≡ length ts → i < length es →
+    set_value_at (freeze_prefix z i es ts) i (frozen_one z (get_or (freeze_prefix z i es ts) i d).1 (get_or ts i 0)) ≡ freeze_prefix z (suc i) es ts
+freeze_prefix-step z i [] ts d n l = absurd (omega arith)
+freeze_prefix-step z i (e ∷ es) [] d n l = absurd (omega arith)
+freeze_prefix-step z zero (e ∷ es) (t ∷ ts) d n l = refl
+freeze_prefix-step z (suc i) (e ∷ es) (t ∷ ts) d n l = ap (λ r. frozen_entry z e t ∷ r) (freeze_prefix-step z i es ts d (omega arith) (omega arith))
 
-pub freeze_prefix-all : (h i : ℕ) (es : List Entry) (ts : List ℕ) → length es ≡ length ts → i ≡ length ts → freeze_prefix h i es ts ≡ map (λ p. frozen_entry h p.0 p.1) (zip es ts)
-freeze_prefix-all h i [] [] n l = ap (λ j. freeze_prefix h j [] []) l
-freeze_prefix-all h i [] (t ∷ ts) n l = absurd (omega arith)
-freeze_prefix-all h i (e ∷ es) [] n l = absurd (omega arith)
-freeze_prefix-all h zero (e ∷ es) (t ∷ ts) n l = absurd (omega arith)
-freeze_prefix-all h (suc i) (e ∷ es) (t ∷ ts) n l = ap (λ r. frozen_entry h e t ∷ r) (freeze_prefix-all h i es ts (omega arith) (omega arith))
+pub freeze_prefix-all : (z : Freeze) (i : ℕ) (es : List Entry) (ts : List ℕ) → length es ≡ length ts → i ≡ length ts → freeze_prefix z i es ts ≡ map (λ p. frozen_entry z p.0 p.1) (zip es ts)
+freeze_prefix-all z i [] [] n l = ap (λ j. freeze_prefix z j [] []) l
+freeze_prefix-all z i [] (t ∷ ts) n l = absurd (omega arith)
+freeze_prefix-all z i (e ∷ es) [] n l = absurd (omega arith)
+freeze_prefix-all z zero (e ∷ es) (t ∷ ts) n l = absurd (omega arith)
+freeze_prefix-all z (suc i) (e ∷ es) (t ∷ ts) n l = ap (λ r. frozen_entry z e t ∷ r) (freeze_prefix-all z i es ts (omega arith) (omega arith))
 
-pub frozen_keyed : (h : ℕ) (es : List Entry) (ts : List ℕ) → AreKeyed es → AreKeyed (map (λ p. frozen_entry h p.0 p.1) (zip es ts))
-frozen_keyed h [] ts k = λ i d l. absurd (omega arith)
-frozen_keyed h (e ∷ es) [] k = λ i d l. absurd (omega arith)
-frozen_keyed h (e ∷ es) (t ∷ ts) k =
-    All-cons (λ (e : Entry). e.0 ≡ e.1.flight.callsign) (frozen_entry h e t) (map (λ p. frozen_entry h p.0 p.1) (zip es ts))
-    (All-head (λ (e : Entry). e.0 ≡ e.1.flight.callsign) e es k ∙ same (is_waiting e.1 && nat_lt t h))
-    (frozen_keyed h es ts (All-tail (λ (e : Entry). e.0 ≡ e.1.flight.callsign) e es k))
+pub frozen_keyed : (z : Freeze) (es : List Entry) (ts : List ℕ) → AreKeyed es → AreKeyed (map (λ p. frozen_entry z p.0 p.1) (zip es ts))
+frozen_keyed z [] ts k = λ i d l. absurd (omega arith)
+frozen_keyed z (e ∷ es) [] k = λ i d l. absurd (omega arith)
+frozen_keyed z (e ∷ es) (t ∷ ts) k =
+    All-cons (λ (e : Entry). e.0 ≡ e.1.flight.callsign) (frozen_entry z e t) (map (λ p. frozen_entry z p.0 p.1) (zip es ts))
+    (All-head (λ (e : Entry). e.0 ≡ e.1.flight.callsign) e es k ∙ same (is_waiting e.1 && nat_lt t z.h) (is_waiting e.1))
+    (frozen_keyed z es ts (All-tail (λ (e : Entry). e.0 ≡ e.1.flight.callsign) e es k))
   where
-    same : (b : Bool) → e.1.flight.callsign ≡ (cond b (record e.1 { frozen = Some t; passed = 0 }) e.1).flight.callsign
-    same true = refl
-    same false = refl
+    same : (b w : Bool) → e.1.flight.callsign ≡ (cond b (record e.1 { frozen = Some t; passed = 0 }) (cond w (record e.1 { passed = count_after z e.1 }) e.1)).flight.callsign
+    same true w = refl
+    same false true = refl
+    same false false = refl
+
+-- ---- what freezes
+
+-- one more flight
+pub freezing-more : (h i : ℕ) (active : List Active) (ts : List ℕ) (d : Active) → length active ≡ length ts → i < length ts →
+    freezing h (take i active) (take i ts) ++ arrival_if h (landing (get_or active i d) (get_or ts i 0)) ≡ freezing h (take (suc i) active) (take (suc i) ts)
+freezing-more h i [] ts d n l = absurd (omega arith)
+freezing-more h i (a ∷ active) [] d n l = absurd (omega arith)
+freezing-more h zero (a ∷ active) (t ∷ ts) d n l = go (freezes h (landing a t))
+  where
+    go : (b : Bool) → cond b (arrival a.flight ∷ []) [] ≡ map (λ (g : Landing). arrival g.flight) (cond b (landing a t ∷ []) [])
+    go true = refl
+    go false = refl
+freezing-more h (suc i) (a ∷ active) (t ∷ ts) d n l = go (freezes h (landing a t)) (freezing-more h i active ts d (omega arith) (omega arith))
+  where
+    go : (b : Bool) → freezing h (take i active) (take i ts) ++ arrival_if h (landing (get_or active i d) (get_or ts i 0)) ≡ freezing h (take (suc i) active) (take (suc i) ts) →
+        map (λ (g : Landing). arrival g.flight) (cond b (landing a t ∷ filter (freezes h) (landings (take i active) (take i ts))) (filter (freezes h) (landings (take i active) (take i ts)))) ++ arrival_if h (landing (get_or active i d) (get_or ts i 0))
+        ≡ map (λ (g : Landing). arrival g.flight) (cond b (landing a t ∷ filter (freezes h) (landings (take (suc i) active) (take (suc i) ts))) (filter (freezes h) (landings (take (suc i) active) (take (suc i) ts))))
+    go true ih = ap (λ l. arrival a.flight ∷ l) ih
+    go false ih = ih
+
+pub freezing-step : (h i : ℕ) (active : List Active) (ts : List ℕ) (a : Active) (now new : List (ℕ × List ℕ)) → length active ≡ length ts → i < length ts → slice_get active i ≡ Some a →
+    now ≡ freezing h (take i active) (take i ts) → new ≡ now ++ arrival_if h (landing a (get_or ts i 0)) → new ≡ freezing h (take (i + 1) active) (take (i + 1) ts)
+freezing-step h i active ts a now new n l at e set =
+    let m : i + 1 ≡ suc i = omega arith in
+    let here : get_or active i a ≡ a = get_or_from_slice_get active i a a at in
+    set ∙ ap (λ l. l ++ arrival_if h (landing a (get_or ts i 0))) e
+    ∙ ap (λ (x : Active). freezing h (take i active) (take i ts) ++ arrival_if h (landing x (get_or ts i 0))) (sym here)
+    ∙ freezing-more h i active ts a n l ∙ ap (λ j. freezing h (take j active) (take j ts)) (sym m)
+
+-- ---- and what a clock event makes of a flight
 
 abbrev froze : ℕ → Flight → Active
 froze t f = record { flight = f; frozen = Some t; passed = 0 }
@@ -60,15 +95,46 @@ froze t f = record { flight = f; frozen = Some t; passed = 0 }
 abbrev stays : Flight → Option ℕ → ℕ → Active
 stays f o p = record { flight = f; frozen = o; passed = p }
 
-parts : (a : Aerodrome) (more t : ℕ) → a.carry ≡ false → (f : Flight) (o : Option ℕ) (p : ℕ) (b : Bool) →
-    cond (is_none o && b) (froze t f) (stays f o p) ≡ cond (is_none o && b) (froze t f) (cond (is_none o) (stays f None (cond a.carry more p)) (stays f o p))
-parts a more t e f (Some s) p b = refl
-parts a more t e f None p true = refl
-parts a more t e f None p false = ap (λ c. stays f None (cond c more p)) (sym e)
+parts : (t n m : ℕ) → n ≡ m → (f : Flight) (o : Option ℕ) (p : ℕ) (b : Bool) →
+    cond (is_none o && b) (froze t f) (cond (is_none o) (stays f o n) (stays f o p)) ≡ cond (is_none o && b) (froze t f) (cond (is_none o) (stays f None m) (stays f o p))
+parts t n m e f (Some s) p b = refl
+parts t n m e f None p true = refl
+parts t n m e f None p false = ap (stays f None) e
 
--- without a carry, what a clock event makes of a flight
-one_after : (a : Aerodrome) (h : ℕ) (all : List Landing) (x : Active) (t : ℕ) → a.carry ≡ false → frozen_one h x t ≡ after_clock a h all (landing x t)
-one_after a h all x t e = parts a (min a.k (x.passed + count_by (λ g. is_lt (arrival_cmp x.flight g.flight)) (filter (freezes h) all))) t e x.flight x.frozen x.passed (nat_lt t h)
+kept-map : (test : ℕ × List ℕ → Bool) (all : List Landing) → length (filter test (map (λ (g : Landing). arrival g.flight) all)) ≡ length (filter (λ (g : Landing). test (arrival g.flight)) all)
+kept-map test [] = refl
+kept-map test (g ∷ all) = go (test (arrival g.flight)) (kept-map test all)
+  where
+    go : (b : Bool) → length (filter test (map (λ (g : Landing). arrival g.flight) all)) ≡ length (filter (λ (g : Landing). test (arrival g.flight)) all) →
+        length (cond b (arrival g.flight ∷ filter test (map (λ (g : Landing). arrival g.flight) all)) (filter test (map (λ (g : Landing). arrival g.flight) all)))
+        ≡ length (cond b (g ∷ filter (λ (g : Landing). test (arrival g.flight)) all) (filter (λ (g : Landing). test (arrival g.flight)) all))
+    go true ih = ap suc ih
+    go false ih = ih
+
+count-map : (test : ℕ × List ℕ → Bool) (all : List Landing) → count_by test (map (λ (g : Landing). arrival g.flight) all) ≡ count_by (λ (g : Landing). test (arrival g.flight)) all
+count-map test all =
+    sym (length-filter test (map (λ (g : Landing). arrival g.flight) all)) ∙ kept-map test all ∙ length-filter (λ (g : Landing). test (arrival g.flight)) all
+
+-- the count that the rules give
+count_is : (a : Aerodrome) (h : ℕ) (active : List Active) (ts : List ℕ) (z : Freeze) → IsFreezeOf a h active ts z → (x : Active) (t : ℕ) → count_after z x ≡ passed_after a h (landings active ts) (landing x t)
+count_is a h active ts z of x t = go a.carry refl
+  where
+    others : List Landing
+    others = filter (freezes h) (landings active ts)
+
+    go : (b : Bool) → a.carry ≡ b →
+        count_after z x ≡ cond a.carry (min a.k (x.passed + count_by (λ (g : Landing). is_lt (arrival_cmp x.flight g.flight)) others)) x.passed
+    go false e = rw (of.carry, e) refl
+    go true e =
+        let same : z.freezing.items ≡ map (λ (g : Landing). arrival g.flight) others = of.freezing (of.carry ∙ e) in
+        let n : behind z.freezing.items x ≡ count_by (λ (g : Landing). is_lt (arrival_cmp x.flight g.flight)) others = ap (λ l. behind l x) same ∙ count-map (λ g. is_lt (first_come_cmp (arrival x.flight) g)) others in
+        rw (of.carry, e) (ap (λ m. min z.k (x.passed + m)) n ∙ ap (λ k. min k (x.passed + count_by (λ (g : Landing). is_lt (arrival_cmp x.flight g.flight)) others)) of.most)
+
+-- what a clock event makes of a flight
+one_after : (a : Aerodrome) (h : ℕ) (active : List Active) (ts : List ℕ) (z : Freeze) → IsFreezeOf a h active ts z → (x : Active) (t : ℕ) → frozen_one z x t ≡ after_clock a h (landings active ts) (landing x t)
+one_after a h active ts z of x t =
+    parts t (count_after z x) (passed_after a h (landings active ts) (landing x t)) (count_is a h active ts z of x t) x.flight x.frozen x.passed (nat_lt t z.h)
+    ∙ ap (λ n. cond (is_none x.frozen && nat_lt t n) (froze t x.flight) (cond (is_none x.frozen) (stays x.flight None (passed_after a h (landings active ts) (landing x t))) (stays x.flight x.frozen x.passed))) of.horizon
 
 -- the flight of an entry
 pub flight_at : (es : List Entry) (i : ℕ) (v : Active) (d : Entry) → slice_get (flights_of es) i ≡ Some v → (get_or es i d).1 ≡ v
@@ -76,8 +142,9 @@ flight_at [] i v d h = let w : None ≡ Some v = h in absurd (cc)
 flight_at (e ∷ es) zero v d h = cc
 flight_at (e ∷ es) (suc i) v d h = flight_at es i v d h
 
-pub frozen_flights : (a : Aerodrome) (h : ℕ) (all : List Landing) (es : List Entry) (ts : List ℕ) → a.carry ≡ false →
-    flights_of (map (λ p. frozen_entry h p.0 p.1) (zip es ts)) ≡ map (after_clock a h all) (landings (flights_of es) ts)
-frozen_flights a h all [] ts c = refl
-frozen_flights a h all (e ∷ es) [] c = refl
-frozen_flights a h all (e ∷ es) (t ∷ ts) c = ap (λ l. frozen_one h e.1 t ∷ l) (frozen_flights a h all es ts c) ∙ ap (λ v. v ∷ map (after_clock a h all) (landings (flights_of es) ts)) (one_after a h all e.1 t c)
+pub frozen_flights : (a : Aerodrome) (h : ℕ) (active : List Active) (all : List ℕ) (z : Freeze) → IsFreezeOf a h active all z → (es : List Entry) (ts : List ℕ) →
+    flights_of (map (λ p. frozen_entry z p.0 p.1) (zip es ts)) ≡ map (after_clock a h (landings active all)) (landings (flights_of es) ts)
+frozen_flights a h active all z of [] ts = refl
+frozen_flights a h active all z of (e ∷ es) [] = refl
+frozen_flights a h active all z of (e ∷ es) (t ∷ ts) =
+    ap (λ l. frozen_one z e.1 t ∷ l) (frozen_flights a h active all z of es ts) ∙ ap (λ v. v ∷ map (after_clock a h (landings active all)) (landings (flights_of es) ts)) (one_after a h active all z of e.1 t)

@@ -1,4 +1,6 @@
 pub mod Entries
 pub mod Finds
+pub mod Firsts
 pub mod Freezing
 pub mod OpeningSituation
+pub mod OpeningSound

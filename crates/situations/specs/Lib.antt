@@ -3,4 +3,5 @@ pub mod Answers
 pub mod Finds
 pub mod Freezes
 pub mod Opened
+pub mod Refused
 pub mod Seen

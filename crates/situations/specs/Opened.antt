@@ -1,10 +1,10 @@
 -- The opening situation of an aerodrome and its flights, and what is asked of them.
-use Rattle.std.specs.Prelude.{◌≡◌, ◌≢◌, ◌≤◌, false, List, [], length, map, None, All, AllPairs, IsTrue}
+use Rattle.std.specs.Prelude.{◌≢◌, ◌≤◌, ℕ, List, Option, length, map, All, AllPairs, IsTrue}
 use Rattle.cps_base.specs.Text.{is_callsign}
 use Rattle.landing_rules.specs.Flights.{Aerodrome, Flight, Active, Situation}
 use Rattle.landing_rules.specs.Rules.{last_second}
 use Rattle.landing_rules.specs.Sound.{AreGoodWindows}
-use Rattle.landing_rules.specs.Events.{Opening, newcomer, opening_situation}
+use Rattle.landing_rules.specs.Events.{Opening, opening_situation}
 use Rattle.aerodrome_file.specs.declared.aerodrome.Aerodrome as aerodromes
 use Rattle.aerodrome_file.specs.Reading.{IsInRange}
 use Rattle.flight_file.specs.declared.flight.Flight as files
@@ -13,19 +13,25 @@ use Rattle.flight_file.specs.Seen.{flight_of}
 
 -- an aerodrome of the files, as the rules see it
 abbrev pub aerodrome_of : aerodromes.Aerodrome → Aerodrome
-aerodrome_of a = record { k = a.k; freeze = a.freeze; objective = a.objective; table = a.table; carry = false }
+aerodrome_of a = record { k = a.k; freeze = a.freeze; objective = a.objective; table = a.table; carry = a.carry }
 
--- at the start no clock second was given, and no flight is frozen or was passed
+-- what the file says of the day so far: the clock, the frozen landings, and how many flights passed each
 abbrev pub opening_of : aerodromes.Aerodrome → Opening
-opening_of a = record { aerodrome = aerodrome_of a; closures = a.closures; clock = None; frozen = []; passed = [] }
+opening_of a = record {
+  aerodrome = aerodrome_of a;
+  closures = a.closures;
+  clock = a.clock;
+  frozen = map (λ f. (f.callsign, f.second)) a.frozen;
+  passed = map (λ p. (p.callsign, p.count)) a.passed;
+}
 
 -- the opening situation: the flights in the order of their file
 abbrev pub opened : aerodromes.Aerodrome → List files.Flight → Situation
 opened a fs = opening_situation (opening_of a) (map flight_of fs)
 
--- the flights in the system, each waiting
-abbrev pub waiting_flights : List files.Flight → List Active
-waiting_flights fs = map newcomer (map flight_of fs)
+-- a flight that enters the system
+abbrev pub entering : Flight → Option ℕ → ℕ → Active
+entering f frozen passed = record { flight = f; frozen = frozen; passed = passed }
 
 -- what the types of a flight's fields keep
 pub record IsKept (f : Flight) : Type 0 where

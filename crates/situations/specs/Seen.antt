@@ -1,5 +1,5 @@
 -- What the rules see of a situation, and what is true of each.
-use Rattle.std.specs.Prelude.{◌≡◌, ◌≤◌, ℕ, List, All, map, false, ⊤, MatchOption}
+use Rattle.std.specs.Prelude.{◌≡◌, ◌≤◌, ℕ, List, All, map, ⊤, MatchOption}
 use Rattle.std.specs.Str.{bytes_eq}
 use Rattle.indexmap.specs.IndexMap.{IsUnique}
 use Rattle.landing_rules.specs.Flights as rules
@@ -8,7 +8,7 @@ use Rattle.situations.specs.declared.situation.Fixed.{Fixed}
 use Rattle.situations.specs.declared.situation.Situation.TheInside.{Inside}
 
 abbrev pub fixed_of : Fixed → rules.Aerodrome
-fixed_of f = record { k = f.k; freeze = f.freeze; objective = f.objective; table = f.table; carry = false }
+fixed_of f = record { k = f.k; freeze = f.freeze; objective = f.objective; table = f.table; carry = f.carry }
 
 -- the flights in order of arrival
 abbrev pub flights_of : List (List ℕ × rules.Active) → List rules.Active

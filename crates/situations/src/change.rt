@@ -7,13 +7,14 @@ ghost use Rattle.landing_rules.specs.Sound.{IsGoodEvent};
 ghost use Rattle.event_log.specs.Seen.{event_of};
 ghost use Rattle.landing_rules.specs.Rules.{last_second};
 ghost use Rattle.flight_file.specs.Seen.{flight_of};
+ghost use Rattle.situations.specs.Opened.{entering};
 
 use crate::{Active, Situation};
 use cps_base::Callsign;
 use event_log::Event;
 use flight_file::Flight;
 use landing_windows::WindowSet;
-use std::alloc::AllocError;
+use std::alloc::{AllocError, Global};
 
 // The flight with another estimate and other windows.
 fn estimated(active: &Active, eta: u32, windows: &WindowSet) -> Active
@@ -58,18 +59,31 @@ impl Situation {
         Ok(())
     }
 
-    // The flight is the last to arrive, and waits.
-    pub(crate) fn add(&mut self, flight: &Flight) -> Result<(), AllocError>
+    // The flight is the last to arrive.
+    pub(crate) fn enter(
+        &mut self,
+        flight: &Flight,
+        frozen: Option<u32>,
+        passed: u8,
+    ) -> Result<(), AllocError>
+        requires { list_any (named flight.now.callsign) self.old.active ≡ false }
+        ensures { OnOk result (self.new ≡ record self.old { active = self.old.active ++ entering (flight_of flight.now) frozen passed ∷ [] }) }
+    {
+        let active = Active {
+            flight: flight.copy(),
+            frozen,
+            passed,
+        };
+        self.active.insert(flight.callsign, active)?;
+        Ok(())
+    }
+
+    // The flight is the last to arrive, and waits. None has passed it.
+    fn add(&mut self, flight: &Flight) -> Result<(), AllocError>
         requires { list_any (named flight.now.callsign) self.old.active ≡ false }
         ensures { OnOk result (self.new ≡ record self.old { active = self.old.active ++ newcomer (flight_of flight.now) ∷ [] }) }
     {
-        let newcomer = Active {
-            flight: flight.copy(),
-            frozen: None,
-            passed: 0,
-        };
-        self.active.insert(flight.callsign, newcomer)?;
-        Ok(())
+        self.enter(flight, None, 0)
     }
 
     // The closure stands.
@@ -104,7 +118,12 @@ impl Situation {
     }
 
     // What an accepted event changes. After want of memory some of it may be done.
-    fn change(&mut self, plan: Option<&[u32]>, event: &Event) -> Result<(), AllocError>
+    fn change(
+        &mut self,
+        alloc: Global,
+        plan: Option<&[u32]>,
+        event: &Event,
+    ) -> Result<(), AllocError>
         requires whole { IfSome plan (λ p. length p.now ≡ length self.old.active) }
         requires good { IsGoodEvent (event_of event.now) }
         requires accepted { refusal self.old (event_of event.now) ≡ None }
@@ -125,23 +144,25 @@ impl Situation {
                 self.reopen(*from, *to);
                 Ok(())
             }
-            Event::Clock(now) => {
-                self.pass(*now, plan);
-                Ok(())
-            }
+            Event::Clock(now) => self.pass(alloc, *now, plan),
         }
     }
 
     /// The situation after an accepted event, made beside this one. The plan shown, if one is, lands each flight at a
     /// second, in order of arrival; a clock event freezes by it.
-    pub fn after(&self, plan: Option<&[u32]>, event: &Event) -> Result<Situation, AllocError>
+    pub fn after(
+        &self,
+        alloc: Global,
+        plan: Option<&[u32]>,
+        event: &Event,
+    ) -> Result<Situation, AllocError>
         requires whole { IfSome plan (λ p. length p.now ≡ length self.now.active) }
         requires good { IsGoodEvent (event_of event.now) }
         requires accepted { refusal self.now (event_of event.now) ≡ None }
         ensures { IfOk result (λ next. next ≡ situation_after self.now (option_map (λ p. p.now) plan.entry) (event_of event.now)) }
     {
         let mut next = self.copy()?;
-        next.change(plan, event)?;
+        next.change(alloc, plan, event)?;
         Ok(next)
     }
 }

@@ -1,68 +1,210 @@
 // What a clock event changes.
-ghost use Rattle.std.specs.Prelude.{◌≡◌, ℕ, ◌+◌, ◌<◌, ◌≤◌, List, Some, IfSome, length, map, zip, option_map, slice_index_or};
+ghost use Rattle.std.specs.Prelude.{◌≡◌, ℕ, ◌+◌, ◌<◌, ◌≤◌, ◌++◌, true, List, Some, IfOk, OnOk, IfSome, length, map, zip, option_map, slice_index_or};
 ghost use Rattle.std.specs.Str.{bytes_eq};
+ghost use Rattle.std.specs.Ordering.{is_lt};
 ghost use Rattle.indexmap.specs.IndexMap.{index_map_len, IsUnique, set_value_at};
 ghost use Rattle.landing_rules.specs.Flights as rules;
-ghost use Rattle.landing_rules.specs.Rules.{last_second};
+ghost use Rattle.landing_rules.specs.Flights.{landing};
+ghost use Rattle.landing_rules.specs.Rules.{last_second, first_come_cmp};
 ghost use Rattle.landing_rules.specs.Events.{frozen_before};
-ghost use Rattle.situations.specs.Freezes.{frozen_one, frozen_entry, frozen_entries};
+ghost use Rattle.situations.specs.Freezes.{arrival_if, freezing, behind, count_after, frozen_one, frozen_entry, IsFreezeOf};
+ghost use Rattle.situations.specs.Seen.{fixed_of, flights_of};
 
-use crate::{Active, Situation};
+use crate::{Active, Fixed, Situation};
 use cps_base::Callsign;
 use indexmap::IndexMap;
+use std::alloc::{AllocError, Global};
 
-// Freezes the flight where it waits and lands before h.
-fn freeze_one(active: &mut Active, at: u32, h: u32)
-    ensures { active.new ≡ frozen_one h active.old at }
+// What a clock event brings: the horizon, and where flights keep a count of those that passed them the greatest count and
+// the flights that freeze, as first-come order compares them.
+#[derive(Drop)]
+struct Freeze {
+    h: u32,
+    k: u8,
+    carry: bool,
+    freezing: Vec<(u32, Callsign)>,
+}
+
+// Whether the first comes before the other in first-come order.
+fn comes_before(first: &(u32, Callsign), other: &(u32, Callsign)) -> bool
+    ensures { result ≡ is_lt (first_come_cmp first.now other.now) }
+{
+    first.cmp(other).is_lt()
+}
+
+// How many of these come behind the flight in first-come order.
+fn count_behind(freezing: &[(u32, Callsign)], active: &Active) -> usize
+    ensures { result ≡ behind freezing.now active.now }
+{
+    let arrival = (active.flight.eta, active.flight.callsign);
+    freezing
+        .iter()
+        .filter(|other| comes_before(&arrival, other))
+        .count()
+}
+
+// How many flights have passed the flight where it stays waiting.
+fn count_after(freeze: &Freeze, active: &Active) -> u8
+    ensures { result ≡ count_after freeze.now active.now }
+{
+    if !freeze.carry {
+        return active.passed;
+    }
+    let passed = active.passed as usize + count_behind(&freeze.freezing, active);
+    (freeze.k as usize).min(passed) as u8
+}
+
+// Notes the flight where it waits and lands before h.
+fn note_freezing(
+    found: &mut Vec<(u32, Callsign)>,
+    active: &Active,
+    at: u32,
+    h: u32,
+) -> Result<(), AllocError>
+    ensures { OnOk result (found.new.items ≡ found.old.items ++ arrival_if h (landing active.now at)) }
 {
     if active.frozen.is_none() && at < h {
+        found.push((active.flight.eta, active.flight.callsign))?;
+    }
+    Ok(())
+}
+
+// The flights that wait and land before h.
+fn freezing(
+    alloc: Global,
+    active: &IndexMap<Callsign, Active>,
+    seconds: &[u32],
+    h: u32,
+) -> Result<Vec<(u32, Callsign)>, AllocError>
+    requires { index_map_len active.now ≡ length seconds.now }
+    ensures { IfOk result (λ found. found.items ≡ freezing h (flights_of active.now.entries) seconds.now) }
+{
+    let mut found = Vec::new(alloc);
+    for i in 0..seconds.len() {
+        note_freezing(&mut found, &active[i], seconds[i], h)?;
+    }
+    Ok(found)
+}
+
+// The flights that freeze, which are looked for only where they count.
+fn counted(
+    alloc: Global,
+    carry: bool,
+    active: &IndexMap<Callsign, Active>,
+    seconds: &[u32],
+    h: u32,
+) -> Result<Vec<(u32, Callsign)>, AllocError>
+    requires { index_map_len active.now ≡ length seconds.now }
+    ensures { IfOk result (λ found. carry ≡ true → found.items ≡ freezing h (flights_of active.now.entries) seconds.now) }
+{
+    if !carry {
+        return Ok(Vec::new(alloc));
+    }
+    let found = freezing(alloc, active, seconds, h)?;
+    Ok(found)
+}
+
+// What the clock event brings.
+fn freeze_of(
+    alloc: Global,
+    fixed: &Fixed,
+    active: &IndexMap<Callsign, Active>,
+    seconds: &[u32],
+    h: u32,
+) -> Result<Freeze, AllocError>
+    requires { index_map_len active.now ≡ length seconds.now }
+    ensures { IfOk result (IsFreezeOf (fixed_of fixed.now) h (flights_of active.now.entries) seconds.now) }
+{
+    let freezing = counted(alloc, fixed.carry, active, seconds, h)?;
+    Ok(Freeze {
+        h,
+        k: fixed.k,
+        carry: fixed.carry,
+        freezing,
+    })
+}
+
+// Freezes the flight where it waits and lands before the horizon, and else counts those that pass it where it waits.
+fn freeze_one(active: &mut Active, at: u32, freeze: &Freeze)
+    ensures { active.new ≡ frozen_one freeze.now active.old at }
+{
+    if active.frozen.is_some() {
+        return;
+    }
+    if at < freeze.h {
         active.frozen = Some(at);
         active.passed = 0;
+    } else {
+        active.passed = count_after(freeze, active);
     }
 }
 
-// Freezes the flight at a place.
-fn freeze_at(active: &mut IndexMap<Callsign, Active>, i: usize, at: u32, h: u32)
+// The flight at a place after the clock event.
+fn freeze_at(active: &mut IndexMap<Callsign, Active>, i: usize, at: u32, freeze: &Freeze)
     requires { i < index_map_len active.old }
-    ensures entries { (d : List ℕ × rules.Active) → active.new.entries ≡ set_value_at active.old.entries i (frozen_one h (slice_index_or active.old.entries i d).1 at) }
+    ensures entries { (d : List ℕ × rules.Active) → active.new.entries ≡ set_value_at active.old.entries i (frozen_one freeze.now (slice_index_or active.old.entries i d).1 at) }
     ensures len { index_map_len active.new ≡ index_map_len active.old }
     ensures unique { IsUnique bytes_eq active.old → IsUnique bytes_eq active.new }
 {
     let flight = &mut active[i];
-    freeze_one(flight, at, h);
+    freeze_one(flight, at, freeze);
 }
 
-// Freezes each waiting flight that lands before h.
-fn freeze_each(active: &mut IndexMap<Callsign, Active>, seconds: &[u32], h: u32)
+// Each flight after the clock event.
+fn freeze_each(active: &mut IndexMap<Callsign, Active>, seconds: &[u32], freeze: &Freeze)
     requires { index_map_len active.old ≡ length seconds.now }
-    ensures entries { active.new.entries ≡ map (λ p. frozen_entry h p.0 p.1) (zip active.old.entries seconds.now) }
+    ensures entries { active.new.entries ≡ map (λ p. frozen_entry freeze.now p.0 p.1) (zip active.old.entries seconds.now) }
     ensures unique { IsUnique bytes_eq active.old → IsUnique bytes_eq active.new }
 {
     for i in 0..seconds.len() {
-        freeze_at(active, i, seconds[i], h);
-    }
-}
-
-// Freezes each waiting flight that the plan lands before h, and none with no plan.
-fn freeze_by(active: &mut IndexMap<Callsign, Active>, plan: Option<&[u32]>, h: u32)
-    requires { IfSome plan (λ p. index_map_len active.old ≡ length p.now) }
-    ensures entries { active.new.entries ≡ frozen_entries h active.old.entries (option_map (λ p. p.now) plan.entry) }
-    ensures unique { IsUnique bytes_eq active.old → IsUnique bytes_eq active.new }
-{
-    if let Some(seconds) = plan {
-        freeze_each(active, seconds, h);
+        freeze_at(active, i, seconds[i], freeze);
     }
 }
 
 impl Situation {
-    // The clock stands at now, and each waiting flight that the plan lands before the horizon is frozen.
-    pub(crate) fn pass(&mut self, now: u32, plan: Option<&[u32]>)
+    // Each flight after a clock event with these seconds shown.
+    fn freeze_by(&mut self, alloc: Global, seconds: &[u32], h: u32) -> Result<(), AllocError>
+        requires { length seconds.now ≡ length self.old.active }
+        ensures { OnOk result (self.new ≡ record self.old { active = frozen_before self.old.aerodrome h self.old.active (Some seconds.now) }) }
+    {
+        let freeze = freeze_of(alloc, &self.fixed, &self.active, seconds, h)?;
+        freeze_each(&mut self.active, seconds, &freeze);
+        Ok(())
+    }
+
+    // The clock stands at now.
+    fn set_clock(&mut self, now: u32)
+        requires { now ≤ last_second }
+        ensures { self.new ≡ record self.old { clock = Some now } }
+    {
+        self.clock = Some(now);
+    }
+
+    // The second before which a waiting flight freezes at a clock event.
+    fn horizon_at(&self, now: u32) -> u32
+        requires { now ≤ last_second }
+        ensures { result ≡ now + self.now.aerodrome.freeze }
+    {
+        now + self.fixed.freeze
+    }
+
+    // The clock stands at now, each waiting flight that the plan lands before the horizon is frozen, and the others keep
+    // count of those that passed them.
+    pub(crate) fn pass(
+        &mut self,
+        alloc: Global,
+        now: u32,
+        plan: Option<&[u32]>,
+    ) -> Result<(), AllocError>
         requires whole { IfSome plan (λ p. length p.now ≡ length self.old.active) }
         requires second { now ≤ last_second }
-        ensures { self.new ≡ record self.old { clock = Some now; active = frozen_before self.old.aerodrome (now + self.old.aerodrome.freeze) self.old.active (option_map (λ p. p.now) plan.entry) } }
+        ensures { OnOk result (self.new ≡ record self.old { clock = Some now; active = frozen_before self.old.aerodrome (now + self.old.aerodrome.freeze) self.old.active (option_map (λ p. p.now) plan.entry) }) }
     {
-        let h = now + self.fixed.freeze;
-        freeze_by(&mut self.active, plan, h);
-        self.clock = Some(now);
+        if let Some(seconds) = plan {
+            let h = self.horizon_at(now);
+            self.freeze_by(alloc, seconds, h)?;
+        }
+        self.set_clock(now);
+        Ok(())
     }
 }

@@ -4,11 +4,15 @@
 mod active;
 mod change;
 mod freeze;
+mod given;
+pub mod laws;
+mod opening_refusal;
 mod refusal;
 mod refuse;
 mod situation;
 
 pub use active::Active;
+pub use opening_refusal::{OpeningFault, opening_fault};
 pub use refusal::Refusal;
 pub use situation::{Fixed, Situation};
 

@@ -1,13 +1,15 @@
-ghost use Rattle.std.specs.Prelude.{◌≡◌, ◌≤◌, [], IfOk, length, map};
+ghost use Rattle.std.specs.Prelude.{◌≡◌, ◌<◌, ◌≤◌, [], IfOk, None, Some, length, map, option_map, slice_get};
 ghost use Rattle.wake_table.specs.Table.{IsWakeTable};
 ghost use Rattle.landing_rules.specs.Flights.{horizon};
 ghost use Rattle.landing_rules.specs.Sound.{IsSound};
 ghost use Rattle.flight_file.specs.Seen.{flight_of};
 ghost use Rattle.aerodrome_file.specs.Reading.{IsInRange};
 ghost use Rattle.situations.specs.Opened.{CanOpen, IsKept, opened};
+ghost use Rattle.situations.specs.Refused.{opening_fault};
 ghost use Rattle.situations.specs.Seen.{fixed_of};
 
 use crate::Active;
+use crate::opening_refusal::{frozen_second, passed_count};
 use aerodrome_file::Aerodrome;
 use cps_base::Callsign;
 use flight_file::Flight;
@@ -29,6 +31,8 @@ pub struct Fixed {
     pub objective: Objective,
     /// The separations between leaders and followers.
     pub table: PairTable,
+    /// Whether flights keep a count of those that passed them.
+    pub carry: bool,
 }
 
 /// The flights in the system by callsign, in order of arrival, the closures that stand, and the last accepted second of
@@ -68,16 +72,18 @@ impl Situation {
                 freeze: aerodrome.freeze,
                 objective: aerodrome.objective,
                 table: aerodrome.table,
+                carry: aerodrome.carry,
             },
             active: IndexMap::new(alloc),
             closures: aerodrome.closures,
-            clock: None,
+            clock: aerodrome.clock,
         }
     }
 
-    /// The situation that an aerodrome and its flights open: each flight waits, in the order of their file, and no clock
-    /// second was given. It is asked that there are at most 500 flights, with callsigns apart, and that all numbers are in
-    /// their ranges. With at most 60 flights it is a sound one.
+    /// The situation that an aerodrome and its flights open: the flights in the order of their file, each frozen where the
+    /// aerodrome's file has it frozen and with the count that it gives, and the clock second of the file. It is asked that
+    /// there are at most 500 flights, with callsigns apart, and that all numbers are in their ranges. Where no opening
+    /// refusal holds it is a sound one.
     pub fn opening(
         alloc: Global,
         aerodrome: &Aerodrome,
@@ -85,13 +91,15 @@ impl Situation {
     ) -> Result<Situation, AllocError>
         requires { CanOpen aerodrome.now flights.now }
         ensures value { IfOk result (λ situation. situation ≡ opened aerodrome.now flights.now) }
-        ensures sound { length flights.now ≤ 60 → IfOk result IsSound }
+        ensures sound { opening_fault aerodrome.now flights.now ≡ None → IfOk result IsSound }
     {
         let mut situation = Situation::empty(alloc, aerodrome);
         for i in 0..flights.len() {
             let flight = &flights[i];
             known(flight);
-            situation.add(flight)?;
+            let frozen = frozen_second(&aerodrome.frozen, flight.callsign);
+            let passed = passed_count(&aerodrome.passed, flight.callsign);
+            situation.enter(flight, frozen, passed)?;
         }
         Ok(situation)
     }
@@ -128,6 +136,30 @@ impl Situation {
             all.push(&self.active[i])?;
         }
         Ok(all)
+    }
+
+    /// The i-th flight in order of arrival, counted from 0.
+    pub fn flight(&self, i: usize) -> &Flight
+        requires { i < length self.now.active }
+        ensures { option_map (λ a. a.flight) (slice_get self.now.active i) ≡ Some (flight_of result.now) }
+    {
+        &self.active[i].flight
+    }
+
+    /// The second at which the i-th flight is frozen, if it is.
+    pub fn frozen(&self, i: usize) -> Option<u32>
+        requires { i < length self.now.active }
+        ensures { option_map (λ a. a.frozen) (slice_get self.now.active i) ≡ Some result }
+    {
+        self.active[i].frozen
+    }
+
+    /// How many flights behind the i-th in first-come order were frozen ahead of it: 0 to k where it waits.
+    pub fn passed(&self, i: usize) -> u8
+        requires { i < length self.now.active }
+        ensures { option_map (λ a. a.passed) (slice_get self.now.active i) ≡ Some result }
+    {
+        self.active[i].passed
     }
 
     /// The second before which no waiting flight may land: 0 without a clock second, and else at most 179,999.

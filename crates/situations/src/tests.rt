@@ -1,40 +1,36 @@
 ghost use Rattle.std.specs.Prelude.{IfOk, ◌≤◌};
 ghost use Rattle.aerodrome_file.specs.Reading.{IsInRange};
 
-use crate::{Refusal, Situation};
-use aerodrome_file::{Aerodrome, FrozenList, PassedList};
+use crate::{Refusal, Situation, opening_fault};
+use aerodrome_file::{Aerodrome, read_aerodrome};
 use event_log::{Event, read_events};
 use flight_file::read_flights;
-use landing_rules::Objective;
-use landing_windows::Closures;
 use std::alloc::Global;
 use std::test::Fail;
-use wake_table::PairTable;
 
-// The sample aerodrome, with no closure.
-fn sample(alloc: Global) -> Result<Aerodrome, Fail>
+// The aerodrome with the sample table and k = 2, of this version, with these lines before and behind the table.
+fn sample(alloc: Global, version: u8, clock: &str, entries: &str) -> Result<Aerodrome, Fail>
     ensures { IfOk result IsInRange }
 {
-    let table = PairTable::new([
-        [90, 110, 120, 130, 140, 180],
-        [60, 90, 100, 110, 120, 160],
-        [60, 60, 60, 60, 100, 140],
-        [60, 60, 60, 60, 60, 120],
-        [60, 60, 60, 60, 60, 100],
-        [60, 60, 60, 60, 60, 60],
-    ]);
-    Ok(Aerodrome {
-        version: 1,
-        k: 1,
-        freeze: 150,
-        objective: Objective::Makespan,
-        table: table.ok().ok_or("no table")?,
-        closures: Closures::new(),
-        clock: None,
-        frozen: FrozenList::new(Vec::new(alloc)),
-        carry: false,
-        passed: PassedList::new(Vec::new(alloc)),
-    })
+    let text = format!(in alloc;
+        "version = {version}
+k = 2
+freeze = 150
+objective = \"makespan\"
+{clock}
+[table]
+A = [90, 110, 120, 130, 140, 180]
+B = [60, 90, 100, 110, 120, 160]
+C = [60, 60, 60, 60, 100, 140]
+D = [60, 60, 60, 60, 60, 120]
+E = [60, 60, 60, 60, 60, 100]
+F = [60, 60, 60, 60, 60, 60]
+{entries}
+"
+    )?;
+    let read = read_aerodrome(alloc, text.as_bytes());
+    let aerodrome = read.ok().ok_or("no aerodrome")?;
+    Ok(aerodrome)
 }
 
 // The events of these rows of a log.
@@ -46,36 +42,53 @@ fn events(alloc: Global, rows: &str) -> Result<Vec<Event>, Fail> {
 }
 
 // The situation that these flights open.
-fn opened(alloc: Global, text: &[u8]) -> Result<Situation, Fail> {
-    let read = read_flights(alloc, text);
+fn opened(alloc: Global, aerodrome: &Aerodrome, rows: &str) -> Result<Situation, Fail>
+    requires { IsInRange aerodrome.now }
+{
+    let text = format!(in alloc; "callsign,category,eta,weight,windows,after\n{rows}")?;
+    let read = read_flights(alloc, text.as_bytes());
     let flights = read.ok().ok_or("no flights")?;
-    let aerodrome = sample(rt.alloc())?;
-    let situation = Situation::opening(alloc, &aerodrome, flights.as_slice())?;
+    if opening_fault(alloc, aerodrome, flights.as_slice())?.is_some() {
+        return Err(Fail::from("refused"));
+    }
+    let situation = Situation::opening(alloc, aerodrome, flights.as_slice())?;
     Ok(situation)
 }
 
 // The situation after a clock second, with these seconds shown.
-fn clocked(situation: &Situation, seconds: &[u32], now: u32) -> Result<Situation, Fail>
+fn clocked(
+    alloc: Global,
+    situation: &Situation,
+    seconds: &[u32],
+    now: u32,
+) -> Result<Situation, Fail>
     requires { now ≤ 172799 }
 {
     let event = Event::Clock(now);
     if situation.len() != seconds.len() || situation.refusal(&event).is_some() {
         return Err(Fail::from("refused"));
     }
-    let next = situation.after(Some(seconds), &event)?;
+    let next = situation.after(alloc, Some(seconds), &event)?;
     Ok(next)
 }
 
 // The situation of two flights, of which the second is frozen at 1010 by a clock second of 900.
-fn frozen(alloc: Global) -> Result<Situation, Fail> {
-    let text = b"callsign,category,eta,weight,windows,after
-A1,A,1000,1,1000-2000,
-F1,F,1010,1,1010-2000,Z9
-";
-    let situation = opened(alloc, text)?;
+fn frozen(alloc: Global, version: u8) -> Result<Situation, Fail> {
+    let aerodrome = sample(alloc, version, "", "")?;
+    let rows = "A1,A,1000,1,1000-2000,\nF1,F,1010,1,1010-2000,Z9\n";
+    let situation = opened(alloc, &aerodrome, rows)?;
     let seconds: [u32; 2] = [1070, 1010];
-    let next = clocked(&situation, &seconds, 900)?;
+    let next = clocked(alloc, &situation, &seconds, 900)?;
     Ok(next)
+}
+
+// Each flight's frozen second and count.
+fn states(alloc: Global, situation: &Situation) -> Result<Vec<(Option<u32>, u8)>, Fail> {
+    let mut all = Vec::new(alloc);
+    for i in 0..situation.len() {
+        all.push((situation.frozen(i), situation.passed(i)))?;
+    }
+    Ok(all)
 }
 
 // What the event of one row answers.
@@ -89,7 +102,7 @@ fn answer(alloc: Global, situation: &Situation, row: &str) -> Result<Option<Refu
 
 #[test]
 fn each_refusal_has_its_value(rt: HostRuntime) -> Result<(), Fail> {
-    let situation = frozen(rt.alloc())?;
+    let situation = frozen(rt.alloc(), 1)?;
     let cases: [(&str, &str); 16] = [
         ("estimate,B2,,1200,,1200-2000,\n", "Some(UnknownFlight(B2))"),
         ("cancel,B2,,,,,\n", "Some(UnknownFlight(B2))"),
@@ -116,5 +129,65 @@ fn each_refusal_has_its_value(rt: HostRuntime) -> Result<(), Fail> {
         let text = format!(in rt.alloc(); "{found:?}")?;
         assert!(rt; text.as_str() == refusal);
     }
+    Ok(())
+}
+
+#[test]
+fn opening_takes_the_clock_the_landings_and_the_counts(rt: HostRuntime) -> Result<(), Fail> {
+    let entries = "[[frozen]]\ncallsign = \"F1\"\nsecond = 1010
+[[passed]]\ncallsign = \"A1\"\ncount = 1";
+    let aerodrome = sample(rt.alloc(), 3, "clock = 900", entries)?;
+    let rows = "A1,A,1000,1,1000-2000,\nF1,F,1010,1,1010-2000,\n";
+    let situation = opened(rt.alloc(), &aerodrome, rows)?;
+    assert!(rt; situation.horizon() == 1050);
+    assert!(rt;
+        states(rt.alloc(), &situation)?.as_slice() == [(None, 1), (Some(1010), 0)].as_slice()
+    );
+    let back = answer(rt.alloc(), &situation, "clock,,,800,,,\n")?;
+    assert!(rt; back == Some(Refusal::ClockBack(900)));
+    let entries = "[[frozen]]\ncallsign = \"F1\"\nsecond = 1010
+[[frozen]]\ncallsign = \"A1\"\nsecond = 1070";
+    let aerodrome = sample(rt.alloc(), 2, "clock = 1000", entries)?;
+    let situation = opened(rt.alloc(), &aerodrome, rows)?;
+    assert!(rt;
+        states(rt.alloc(), &situation)?.as_slice() == [(Some(1070), 0), (Some(1010), 0)].as_slice()
+    );
+    Ok(())
+}
+
+#[test]
+fn counts_rise_by_the_flights_behind_and_stop_at_k(rt: HostRuntime) -> Result<(), Fail> {
+    let plain = states(rt.alloc(), &frozen(rt.alloc(), 2)?)?;
+    assert!(rt; plain.as_slice() == [(None, 0), (Some(1010), 0)].as_slice());
+    let aerodrome = sample(rt.alloc(), 3, "", "")?;
+    let rows = "A1,A,1005,1,1000-2000,
+F1,F,1010,1,1010-2000,
+F2,F,1000,1,1000-2000,
+F3,F,1100,1,1100-2000,
+F4,F,1100,1,1100-2000,
+";
+    let situation = opened(rt.alloc(), &aerodrome, rows)?;
+    let seconds: [u32; 5] = [1400, 1010, 1130, 1190, 1250];
+    let first = clocked(rt.alloc(), &situation, &seconds, 900)?;
+    let all = states(rt.alloc(), &first)?;
+    assert!(rt;
+        all.as_slice() == [(None, 1), (Some(1010), 0), (None, 1), (None, 0), (None, 0)].as_slice()
+    );
+    let second = clocked(rt.alloc(), &first, &seconds, 1000)?;
+    let all = states(rt.alloc(), &second)?;
+    assert!(rt;
+        all.as_slice()
+            == [
+                (None, 1),
+                (Some(1010), 0),
+                (Some(1130), 0),
+                (None, 0),
+                (None, 0)
+            ]
+            .as_slice()
+    );
+    let third = clocked(rt.alloc(), &second, &seconds, 1110)?;
+    let all = states(rt.alloc(), &third)?;
+    assert!(rt; all.len() == 5 && all[0] == (None, 2) && all[4] == (Some(1250), 0));
     Ok(())
 }

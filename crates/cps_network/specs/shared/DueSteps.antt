@@ -1,5 +1,5 @@
 -- What is due stage by stage, from which stage on, and that it is at most the widest stage for each flight.
-use Rattle.std.proofs.Common.{◌≡◌, ℕ, zero, suc, ◌+◌, ◌-◌, ◌*◌, ◌^◌, ◌<◌, ◌≤◌, ◌||◌, leb, ltb, List, [], length, Bool, true, false, Option, Some, None, inl, inr, refl, sym, subst, ◌∙◌, arith, suc-mul}
+use Rattle.std.proofs.Common.{◌≡◌, ℕ, zero, suc, ◌+◌, ◌-◌, ◌*◌, ◌^◌, ◌<◌, ◌≤◌, ◌||◌, leb, ltb, List, [], length, Bool, true, false, Some, None, inl, inr, refl, sym, subst, ◌∙◌, arith, suc-mul}
 use Rattle.std.specs.Prelude.{ℤ}
 use Rattle.std.proofs.lemmas.Bool.{cases_lt, leb-true, le-leb, lt-leb, ltb-true, or_left}
 use Rattle.std.proofs.lemmas.List.Elements.{Contains-get_or}

@@ -1,13 +1,14 @@
 -- Where two problems agree, the stages that even the greatest shift keeps below that rank are led to alike.
-use Rattle.std.proofs.Common.{◌≡◌, ℕ, suc, ◌+◌, ◌*◌, ◌<◌, inl, inr, List, [], length, true, subst, ◌∙◌, arith}
+use Rattle.std.proofs.Common.{◌≡◌, ℕ, suc, ◌+◌, ◌*◌, ◌<◌, inl, inr, List, [], length, true, ap, subst, ◌∙◌, arith}
 use Rattle.std.specs.Prelude.{ℤ, pos, Contains}
 use Rattle.std.proofs.lemmas.Int.{ints}
 use Rattle.std.proofs.lemmas.Bool.{cases_lt}
 use Rattle.std.proofs.lemmas.List.{get_or_default}
 use Rattle.precedence.specs.Pairs.{must_precede, must_precede_decides}
 use Rattle.cps_nodes.specs.Windows.{IsWindow, IsPlaced}
-use Rattle.landing_rules.specs.Problem.{Problem, AreBetweenRanks}
+use Rattle.landing_rules.specs.Problem.{Problem, Waiting, AreBetweenRanks}
 use Rattle.cps_problem.specs.FirstDifference.{AgreeUpTo, IsWithinBoth}
+use Rattle.cps_problem.specs.shared.EarlyLandings.{same_flight}
 use Rattle.cps_problem.specs.shared.OneDifference.{agree_back}
 use Rattle.cps_network.specs.Due.{HasCandidates}
 use Rattle.cps_network.specs.KeptStages.{HaveStageInCommon}
@@ -35,7 +36,7 @@ module _ (p q : Problem) (d : ℕ) (within : IsWithinBoth p q d) (agree : AgreeU
         from_one = may.from_one;
         to_count = (let a = within.1 in omega (arith, a, low));
         early = (let a = may.early in omega (arith, a, same));
-        late = (let a = may.late in omega (arith, a, same));
+        late = (let a = may.late in omega (arith, a, same, ap (λ (f : Waiting). f.passed) (same_flight p q d within agree rank low)));
         accepted = may.accepted;
         after = λ first must.
             let test : must_precede q.pairs first rank ≡ true = (must_precede_decides q.pairs first rank).1 must in

@@ -42,7 +42,7 @@ well_formed_planned p wf = record {
   where
     low : (r : ℕ) → IsRank (length p.flights) r → (of_rank no_waiting p.flights r).passed ≤ p.k
     low zero q = absurd (let a = q.0 in omega arith)
-    low (suc i) q = let e : (get_or p.flights i no_waiting).passed ≡ 0 = wf.none_passed i no_waiting (let a = q.1 in omega arith) in omega arith
+    low (suc i) q = wf.passed i no_waiting (let a = q.1 in omega arith)
 
 -- ---- costs rise with the seconds
 

@@ -1,6 +1,6 @@
 use Rattle.std.proofs.Common.{◌≡◌, ◌+◌, ◌*◌, refl, subst}
 use Rattle.cps_nodes.specs.Laws.{FollowRanks}
-use Rattle.cps_network.proofs.NetworkLemmas.{window_network, none_passed, steps_are_whole}
+use Rattle.cps_network.proofs.NetworkLemmas.{window_network, passed_low, steps_are_whole}
 use Rattle.precedence.specs.Pairs.{AreInRange}
 use Rattle.cps_network.proofs.LegalLemmas.{follow_prefixes, lead_alike}
 use Rattle.cps_network.proofs.laws.prefix_laws.Goals as goal
@@ -13,7 +13,7 @@ returns-clause-network g c =
     let odd : g.row.W ≡ 2 * c.args.problem.now.k + 1 = c.requires in
     let range : AreInRange c.args.problem.now.pairs = subst AreInRange c.pairs.ensures c.all_before-in_range.ensures.in_range in
     let ranks : FollowRanks (2 * c.args.problem.now.k + 1) = subst FollowRanks odd c.window_laws.ensures.ranks in
-    window_network c.args.problem.now range (none_passed c.args.problem.now c.head-near.ensures.well_formed.none_passed) ranks
+    window_network c.args.problem.now range (passed_low c.args.problem.now c.head-near.ensures.well_formed.passed) ranks
     (follow_prefixes c.args.problem.now (2 * c.args.problem.now.k + 1) refl range ranks)
 
 pub returns-clause-whole : goal.returns-clause-whole

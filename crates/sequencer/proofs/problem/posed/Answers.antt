@@ -45,13 +45,6 @@ pairs_of-pairs-requires c =
     let few = c.requires.few_waiting in
     omega arith
 
-pub all_waiting-requires : goal.all_waiting-requires
-all_waiting-requires c =
-    let s = c.args.situation.now in
-    let P = λ (a : Active). a.passed ≡ 0 in
-    let e = c.in_ok-ranked.ensures.flights ∙ ap by_rank (c.in_ok-waiting.ensures ∙ ap (filter is_waiting) c.in_ok-flights.ensures) in
-    subst (All P) (sym e) (All-permutation P (waiting s) (by_rank (waiting s)) (rank_permutes (waiting s)) (All-filter is_waiting P s.active (c.requires.no_carry c.head-head.ensures.no_carry)))
-
 ranks : (c : In_ok-with_times) → map (λ a. a.now) c.in_ok-ranked.ranked.items ≡ by_rank (waiting c.args.situation.now)
 ranks c = c.in_ok-ranked.ensures.flights ∙ ap by_rank (c.in_ok-waiting.ensures ∙ ap (filter is_waiting) c.in_ok-flights.ensures)
 

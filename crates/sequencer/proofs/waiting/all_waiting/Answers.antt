@@ -7,13 +7,6 @@ use Rattle.cps_problem.specs.Seen.{waiting_of}
 use Rattle.sequencer.proofs.Ranks.{seen_at}
 use Rattle.sequencer.proofs.waiting.all_waiting.Goals as goal
 
-pub waiting_of-requires : goal.waiting_of-requires
-waiting_of-requires c =
-    let items = c.args.ranked.now.items in
-    let n = length-map items (λ a. a.now) in
-    let within : c.loop-i.i < length items = let b = c.loop-i-test.true in let l = c.len-i-end.ensures in let v = c.args.ranked.now.ok.0 in omega arith in
-    subst (λ (a : Active). a.passed ≡ 0) (sym (seen_at (λ a. a.now) items c.loop-i.i c.index.result.now within c.index.ensures)) (c.requires c.loop-i.i c.index.result.now.now (omega arith))
-
 pub loop-i-preserved : goal.loop-i-preserved
 loop-i-preserved c =
     let items = c.args.ranked.now.items in

@@ -7,6 +7,6 @@ use Rattle.situations.proofs.freeze.freeze_each.Given as goal
 -- those below i are frozen as they should be, and the others are as they were
 abbrev pub invariant-loop-i : goal.invariant-loop-i
 invariant-loop-i l = record {
-  entries : l.active.entries ≡ freeze_prefix l.h l.i l.fn.active.entries l.seconds;
+  entries : l.active.entries ≡ freeze_prefix l.freeze l.i l.fn.active.entries l.seconds;
   unique : IsUnique bytes_eq l.fn.active → IsUnique bytes_eq l.active;
 }

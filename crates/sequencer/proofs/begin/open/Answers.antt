@@ -1,0 +1,25 @@
+use Rattle.std.proofs.Common.{◌≡◌, ℕ, ◌≤◌, true, inl, inr, refl, ap, arith, ◌∙◌}
+use Rattle.std.specs.Prelude.{◌==◌}
+use Rattle.std.proofs.lemmas.Bool.{cases_Bool}
+use Rattle.landing_rules.specs.declared.objective.Objective.{Objective}
+use Rattle.landing_rules.specs.declared.objective.Objective.TheVariants.{Makespan, Delay}
+use Rattle.landing_rules.specs.Flights.{Situation}
+use Rattle.aerodrome_file.specs.declared.aerodrome.Aerodrome.{Aerodrome}
+use Rattle.aerodrome_file.specs.Reading.{IsInRange, is_delay, most_shift}
+use Rattle.cps_problem.specs.Plans.{IsWithinShift}
+use Rattle.situations.specs.Opened.{aerodrome_of}
+use Rattle.sequencer.proofs.begin.open.Goals as goal
+
+-- the shift of an aerodrome's file is one that a planner is asked for
+most_two : (v : ℕ) → most_shift v ≤ 2
+most_two v = elim (cases_Bool (v == 1)) [ inl first ↦ rw first (omega arith) | inr other ↦ rw other (omega arith) ]
+
+within : (o : Objective) (v k : ℕ) → (is_delay o ≡ true → k ≤ most_shift v) → IsWithinShift o k
+within Makespan v k h = tt
+within Delay v k h = let few = h refl in let most = most_two v in omega (arith, few, most)
+
+plannable : (a : Aerodrome) (s : Situation) → IsInRange a → s.aerodrome ≡ aerodrome_of a → IsWithinShift s.aerodrome.objective s.aerodrome.k
+plannable a s range e = rw e (within a.objective a.version a.k range.shift)
+
+pub returns-clause-plannable : goal.returns-clause-plannable
+returns-clause-plannable c = plannable c.args.aerodrome.now c.in_ok-situation.situation c.requires.aerodrome (ap (λ (s : Situation). s.aerodrome) c.in_ok-situation.ensures.value)

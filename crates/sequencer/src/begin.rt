@@ -1,0 +1,125 @@
+ghost use Rattle.std.specs.Prelude.{◌≡◌, IfOk, IfErr, None};
+ghost use Rattle.landing_rules.specs.Problem.{IsProblemOf};
+ghost use Rattle.landing_rules.specs.Sound.{IsSound};
+ghost use Rattle.cps_problem.specs.Plans.{IsWithinShift};
+ghost use Rattle.situations.specs.Opened.{CanOpen, opened};
+ghost use Rattle.situations.specs.Refused.{opening_fault};
+ghost use Rattle.sequencer.specs.Begun.{IsRefusedBy};
+
+use crate::problem::problem_of;
+use aerodrome_file::Aerodrome;
+use cps_base::Callsign;
+use cps_problem::Problem;
+use flight_file::Flight;
+use situations::{OpeningFault, Situation, opening_fault};
+use std::alloc::{AllocError, Global};
+
+/// Why nothing begins. Entries count from 1.
+#[derive(Clone, Copy, Debug, PartialEq, Eq)]
+pub enum BeginFault {
+    /// This entry of `frozen` names no flight of the file.
+    UnknownFrozen(u16),
+    /// This entry of `passed` names no waiting flight of the file.
+    UnknownPassed(u8),
+    /// So many flights are not frozen, which is more than 60.
+    TooManyWaiting(u32),
+    /// The second of this entry of `frozen` is not open for its flight.
+    FrozenClosed(u16),
+    /// These two entries of `frozen`, the first before the second, are not the table's time apart.
+    FrozenSeparation(u16, u16),
+    /// The flight of this entry of `frozen` lists an active one that does not land before it.
+    FrozenPrecedence(u16, Callsign),
+    /// There was no memory.
+    Memory,
+}
+
+impl From<AllocError> for BeginFault {
+    ghost use Rattle.std.specs.Prelude.{◌≡◌};
+    ghost use Rattle.sequencer.specs.declared.begin.BeginFault.TheVariants.{Memory};
+
+    ghost from_gives = { λ _ fault. fault ≡ Memory };
+
+    fn from(_: AllocError) -> Self {
+        BeginFault::Memory
+    }
+}
+
+impl From<OpeningFault> for BeginFault {
+    ghost use Rattle.std.specs.Prelude.{◌≡◌, Some};
+    ghost use Rattle.sequencer.specs.Begun.{opening_fault_of};
+
+    ghost from_gives = { λ found fault. opening_fault_of fault ≡ Some found };
+
+    fn from(found: OpeningFault) -> Self {
+        match found {
+            OpeningFault::UnknownFrozen(i) => BeginFault::UnknownFrozen(i),
+            OpeningFault::UnknownPassed(i) => BeginFault::UnknownPassed(i),
+            OpeningFault::TooManyWaiting(n) => BeginFault::TooManyWaiting(n),
+            OpeningFault::FrozenClosed(i) => BeginFault::FrozenClosed(i),
+            OpeningFault::FrozenSeparation(i, j) => BeginFault::FrozenSeparation(i, j),
+            OpeningFault::FrozenPrecedence(i, callsign) => {
+                BeginFault::FrozenPrecedence(i, callsign)
+            }
+        }
+    }
+}
+
+/// The situation that an aerodrome and its flights open, where no opening refusal holds.
+pub(crate) fn open(
+    alloc: Global,
+    aerodrome: &Aerodrome,
+    flights: &[Flight],
+) -> Result<Situation, BeginFault>
+    requires { CanOpen aerodrome.now flights.now }
+    ensures value { IfOk result (λ situation. situation ≡ opened aerodrome.now flights.now) }
+    ensures sound { IfOk result IsSound }
+    ensures plannable { IfOk result (λ situation. IsWithinShift situation.aerodrome.objective situation.aerodrome.k) }
+    ensures openable { IfOk result (λ _. opening_fault aerodrome.now flights.now ≡ None) }
+    ensures refused { IfErr result (IsRefusedBy (opening_fault aerodrome.now flights.now)) }
+{
+    if let Some(found) = opening_fault(alloc, aerodrome, flights)? {
+        return Err(BeginFault::from(found));
+    }
+    let situation = Situation::opening(alloc, aerodrome, flights)?;
+    Ok(situation)
+}
+
+/// The situation that an aerodrome and its flights open: the flights in the order of their file, and the clock second, the
+/// frozen landings and the counts of the aerodrome's file.
+///
+/// It is asked that there are at most 500 flights, with callsigns apart, and that all numbers are in their ranges. A
+/// refusal is the first opening refusal that holds, with its value, or want of memory.
+pub fn opening(
+    alloc: Global,
+    aerodrome: Aerodrome,
+    flights: Vec<Flight>,
+) -> Result<Situation, BeginFault>
+    requires { CanOpen aerodrome flights.items }
+    ensures value { IfOk result (λ situation. situation ≡ opened aerodrome flights.items) }
+    ensures sound { IfOk result IsSound }
+    ensures openable { IfOk result (λ _. opening_fault aerodrome flights.items ≡ None) }
+    ensures refused { IfErr result (IsRefusedBy (opening_fault aerodrome flights.items)) }
+{
+    let situation = open(alloc, &aerodrome, flights.as_slice())?;
+    Ok(situation)
+}
+
+/// The problem of the opening situation: its waiting flights by rank, and what the frozen ones leave them.
+///
+/// It is asked that there are at most 500 flights, with callsigns apart, and that all numbers are in their ranges. A
+/// refusal is the first opening refusal that holds, with its value, or want of memory.
+pub fn opening_problem(
+    alloc: Global,
+    aerodrome: &Aerodrome,
+    flights: &[Flight],
+) -> Result<Problem, BeginFault>
+    requires { CanOpen aerodrome.now flights.now }
+    ensures problem { IfOk result (IsProblemOf (opened aerodrome.now flights.now)) }
+    ensures sound { IfOk result (λ _. IsSound (opened aerodrome.now flights.now)) }
+    ensures openable { IfOk result (λ _. opening_fault aerodrome.now flights.now ≡ None) }
+    ensures refused { IfErr result (IsRefusedBy (opening_fault aerodrome.now flights.now)) }
+{
+    let situation = open(alloc, aerodrome, flights)?;
+    let problem = problem_of(alloc, &situation)?;
+    Ok(problem)
+}

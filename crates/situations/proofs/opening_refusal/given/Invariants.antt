@@ -1,0 +1,7 @@
+use Rattle.std.proofs.Common.{◌≡◌, ◌++◌, drop}
+use Rattle.situations.specs.Refused.{given}
+use Rattle.situations.proofs.opening_refusal.given.Given as goal
+
+-- those so far, and those that are left
+abbrev pub invariant-loop-i : goal.invariant-loop-i
+invariant-loop-i l = l.all.items ++ given l.active (drop l.i l.frozen) ≡ given l.active l.frozen

@@ -1,0 +1,214 @@
+// The frozen landings that an aerodrome file gives, and the rules over them.
+ghost use Rattle.std.specs.Prelude.{◌≡◌, ◌+◌, ◌<◌, ◌≤◌, ◌&&◌, Some, length, find, slice_get};
+ghost use Rattle.std.specs.List.{list_any};
+ghost use Rattle.landing_rules.specs.Rules.{is_open, is_shut, is_within};
+ghost use Rattle.landing_rules.specs.Events.{named};
+ghost use Rattle.landing_rules.specs.Testing.{is_pair_separated};
+ghost use Rattle.landing_rules.specs.Audit.{are_apart};
+ghost use Rattle.situations.specs.Refused.{first_from, closed_at, clash_at, clash_from, is_not_before, lands_late, late_at, rule_fault};
+
+use crate::{Active, OpeningFault};
+use aerodrome_file::Aerodrome;
+use cps_base::Callsign;
+use landing_windows::Closures;
+use std::marker::Model;
+use wake_table::PairTable;
+
+// A frozen landing of the file with its flight. Contracts see the rules' own (`landing_rules`, `Landing`).
+#[derive(Drop)]
+pub(crate) struct Given {
+    pub(crate) active: Active,
+    pub(crate) second: u32,
+}
+
+impl Model for Given {
+    ghost use Rattle.landing_rules.specs.Flights as rules;
+
+    ghost Value = { rules.Landing };
+
+    ghost view = { λ g. rules.landing g.active g.second };
+}
+
+// Whether the closure holds the second.
+fn holds(closure: (u32, u32), second: u32) -> bool
+    ensures { result ≡ is_shut second closure }
+{
+    closure.0 <= second && second < closure.1
+}
+
+// Whether a closure holds the second.
+fn is_shut(closures: &Closures, second: u32) -> bool
+    ensures { result ≡ list_any (is_shut second) closures.now }
+{
+    for i in 0..closures.len() {
+        if holds(closures.pair(i), second) {
+            return true;
+        }
+    }
+    false
+}
+
+// Whether the window holds the second.
+fn is_within(window: (u32, u32), second: u32) -> bool
+    ensures { result ≡ is_within second window }
+{
+    window.0 <= second && second <= window.1
+}
+
+// Whether a window holds the second.
+fn has_window(windows: &[(u32, u32)], second: u32) -> bool
+    ensures { result ≡ list_any (is_within second) windows.now }
+{
+    windows.iter().any(|w| is_within(*w, second))
+}
+
+// Whether the landing's second is open for its flight.
+fn is_open(closures: &Closures, given: &Given) -> bool
+    ensures { result ≡ is_open given.now.flight.windows closures.now given.now.second }
+{
+    has_window(given.active.flight.windows.spans(), given.second)
+        && !is_shut(closures, given.second)
+}
+
+// The first landing whose second is not open.
+fn first_closed(closures: &Closures, all: &[Given]) -> Option<OpeningFault>
+    requires { length all.now ≤ 500 }
+    ensures { result ≡ first_from (closed_at closures.now) 1 all.now }
+{
+    for i in 0..all.len() {
+        if !is_open(closures, &all[i]) {
+            return Some(OpeningFault::FrozenClosed((i + 1) as u16));
+        }
+    }
+    None
+}
+
+// Whether the second landing is at least the table's time after the first, where it is not before it.
+fn is_pair_separated(table: &PairTable, f: &Given, g: &Given) -> bool
+    ensures { result ≡ is_pair_separated table.now f.now g.now }
+{
+    let leader = &f.active.flight;
+    let follower = &g.active.flight;
+    let apart = u64::from(table.sep(leader.category, follower.category));
+    leader.callsign == follower.callsign
+        || g.second < f.second
+        || u64::from(f.second) + apart <= u64::from(g.second)
+}
+
+// Whether two landings are the table's time apart, whichever is the earlier.
+fn are_apart(table: &PairTable, f: &Given, g: &Given) -> bool
+    ensures { result ≡ are_apart table.now f.now g.now }
+{
+    is_pair_separated(table, f, g) && is_pair_separated(table, g, f)
+}
+
+// The first of the others, which stand behind the landing at place i, that is not the table's time from it.
+fn clash_of(table: &PairTable, i: usize, first: &Given, others: &[Given]) -> Option<OpeningFault>
+    requires { i + length others.now ≤ 500 }
+    ensures { result ≡ first_from (clash_at table.now i first.now) (i + 1) others.now }
+{
+    for j in 0..others.len() {
+        if !are_apart(table, first, &others[j]) {
+            return Some(OpeningFault::FrozenSeparation(i as u16, (i + 1 + j) as u16));
+        }
+    }
+    None
+}
+
+// The first two landings, neighbours or not, that are not the table's time apart.
+fn first_clash(table: &PairTable, all: &[Given]) -> Option<OpeningFault>
+    requires { length all.now ≤ 500 }
+    ensures { result ≡ clash_from table.now 1 all.now }
+{
+    for i in 0..all.len() {
+        if let Some(fault) = clash_of(table, i + 1, &all[i], &all[i + 1..]) {
+            return Some(fault);
+        }
+    }
+    None
+}
+
+// Whether the flight has the callsign, and waits or is frozen at the second or later.
+fn is_late(active: &Active, callsign: Callsign, second: u32) -> bool
+    ensures { result ≡ (named callsign active.now && is_not_before second active.now.frozen) }
+{
+    active.flight.callsign == callsign
+        && match active.frozen {
+            None => true,
+            Some(at) => second <= at,
+        }
+}
+
+// Whether there is such a flight.
+fn lands_late(active: &[Active], second: u32, callsign: Callsign) -> bool
+    ensures { result ≡ lands_late active.now second callsign }
+{
+    active.iter().any(|a| is_late(a, callsign, second))
+}
+
+// The second at which it lands.
+fn second_of(given: &Given) -> u32
+    ensures { result ≡ given.now.second }
+{
+    given.second
+}
+
+// How many flights it lists.
+fn count_listed(given: &Given) -> usize
+    ensures { result ≡ length given.now.flight.after }
+{
+    given.active.flight.after.len()
+}
+
+// The one at this place of its list, from 0.
+fn listed(given: &Given, i: usize) -> Callsign
+    requires { i < length given.now.flight.after }
+    ensures { slice_get given.now.flight.after i ≡ Some result }
+{
+    given.active.flight.after.at(i)
+}
+
+// The first of its list that does not land before it.
+fn late_listed(active: &[Active], given: &Given) -> Option<Callsign>
+    ensures { result ≡ find (lands_late active.now given.now.second) given.now.flight.after }
+{
+    let second = second_of(given);
+    for i in 0..count_listed(given) {
+        let callsign = listed(given, i);
+        if lands_late(active, second, callsign) {
+            return Some(callsign);
+        }
+    }
+    None
+}
+
+// The first landing that is not behind each active flight of its list.
+fn first_late(active: &[Active], all: &[Given]) -> Option<OpeningFault>
+    requires { length all.now ≤ 500 }
+    ensures { result ≡ first_from (late_at active.now) 1 all.now }
+{
+    for i in 0..all.len() {
+        if let Some(callsign) = late_listed(active, &all[i]) {
+            return Some(OpeningFault::FrozenPrecedence((i + 1) as u16, callsign));
+        }
+    }
+    None
+}
+
+// What is wrong with the frozen landings.
+pub(crate) fn rule_fault(
+    aerodrome: &Aerodrome,
+    active: &[Active],
+    all: &[Given],
+) -> Option<OpeningFault>
+    requires { length all.now ≤ 500 }
+    ensures { result ≡ rule_fault aerodrome.now active.now all.now }
+{
+    if let Some(fault) = first_closed(&aerodrome.closures, all) {
+        return Some(fault);
+    }
+    if let Some(fault) = first_clash(&aerodrome.table, all) {
+        return Some(fault);
+    }
+    first_late(active, all)
+}

@@ -1,0 +1,8 @@
+//! Laws of the definitions, each pinned by the contract of a function without a body.
+
+ghost use Rattle.situations.specs.Refused.{OpeningLaw};
+
+/// The situation that an aerodrome and its flights open, where no opening fault is found, is a sound one.
+pub fn opening_is_sound()
+    ensures { OpeningLaw }
+{}
