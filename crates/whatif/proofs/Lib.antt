@@ -1,0 +1,5 @@
+pub mod OutcomeLemmas
+pub mod ClosureLemmas
+pub mod AboveLemmas
+pub mod LeastLemmas
+pub mod ShiftLemmas

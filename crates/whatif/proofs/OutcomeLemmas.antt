@@ -1,0 +1,74 @@
+-- The outcomes of trials, from those at each place; closures as events; and when an outcome is no worse.
+use Rattle.std.proofs.Common.{◌≡◌, ℕ, zero, suc, ◌+◌, ◌<◌, ◌≤◌, List, [], ◌∷◌, length, get_or, Option, Some, None, Bool, true, false, refl, sym, ap, subst, ◌∙◌, arith}
+use Rattle.std.specs.Prelude.{is_some, option_map, nat_le, find, if◌then◌else◌}
+use Rattle.std.specs.List.{AllZip}
+use Rattle.landing_rules.specs.Flights.{Situation, Schedule, Span, Landing}
+use Rattle.landing_rules.specs.Rules.{IsFeasible, IsBest, objective, is_shut}
+use Rattle.landing_rules.specs.Events as rules
+use Rattle.aerodrome_file.specs.declared.aerodrome.Aerodrome as aerodromes
+use Rattle.flight_file.specs.declared.flight.Flight as files
+use Rattle.situations.specs.Answers.{IsAnswer}
+use Rattle.situations.specs.declared.refusal.Refusal as code
+use Rattle.situations.specs.declared.refusal.Refusal.TheVariants as code_is
+use Rattle.whatif.specs.declared.trial.Trial.{Trial}
+use Rattle.whatif.specs.declared.outcome.Outcome.{Outcome}
+use Rattle.whatif.specs.declared.outcome.Outcome.TheVariants.{Value, Infeasible, Refused}
+use Rattle.whatif.specs.Laws.{IsNoWorse}
+use Rattle.whatif.specs.Outcomes.{HasLeast, IsOutcomeOf, IsOutcomeAt, AreOutcomes, closure_refusal, found_refusal}
+
+-- ---- place by place
+
+all_zip : {A B : Type 0} (P : A → B → Type 0) (xs : List A) (ys : List B) → length ys ≡ length xs → ((i : ℕ) (x : A) (y : B) → i < length xs → P (get_or xs i x) (get_or ys i y)) → AllZip P xs ys
+all_zip P [] [] e h = tt
+all_zip P [] (y ∷ ys) e h = absurd (omega (arith, e))
+all_zip P (x ∷ xs) [] e h = absurd (omega (arith, e))
+all_zip P (x ∷ xs) (y ∷ ys) e h = (h 0 x y (omega arith), all_zip P xs ys (omega (arith, e)) (λ i a b lt. h (suc i) a b (omega (arith, lt))))
+
+pub outcomes_are : (a : aerodromes.Aerodrome) (fs : List files.Flight) (trials : List Trial) (outcomes : List Outcome) → length outcomes ≡ length trials + 1
+    → ((i : ℕ) (d : Outcome) → i < length trials + 1 → IsOutcomeAt a fs trials i (get_or outcomes i d)) → AreOutcomes a fs trials outcomes
+outcomes_are a fs trials [] e h = absurd (omega (arith, e))
+outcomes_are a fs trials (base ∷ rest) e h =
+    (h 0 base (omega arith), all_zip (IsOutcomeOf a fs) trials rest (omega (arith, e)) (λ i t o lt. h (suc i) o (omega (arith, lt)) t))
+
+-- ---- a closure as an event
+
+pub event_accepted : (s : Situation) (span : Span) → closure_refusal (rules.refusal s (rules.Close span)) ≡ None → rules.refusal s (rules.Close span) ≡ None
+event_accepted s span e = go (find (λ g. is_shut g.second span) (rules.in_landing_order (rules.frozen_landings s))) (nat_le 32 (length s.closures)) e
+  where
+    go : (covered : Option Landing) (full : Bool)
+        → closure_refusal (if is_some covered then option_map (λ g. rules.CoversFrozen g.flight.callsign g.second) covered else (if full then Some rules.TooManyClosures else None)) ≡ None
+        → (if is_some covered then option_map (λ g. rules.CoversFrozen g.flight.callsign g.second) covered else (if full then Some rules.TooManyClosures else None)) ≡ None
+    go (Some g) full e = absurd (cc e)
+    go None true e = absurd (cc e)
+    go None false e = refl
+
+same_refusal : (r q : rules.Refusal) → r ≡ q → closure_refusal (Some r) ≡ closure_refusal (Some q)
+same_refusal r q e = ap (λ (z : rules.Refusal). closure_refusal (Some z)) e
+
+-- what the situation answers, as the refusal of a trial
+pub answered : (found : Option code.Refusal) (answer : Option rules.Refusal) → IsAnswer found answer → found_refusal found ≡ closure_refusal answer
+answered None None e = refl
+answered None (Some q) e = absurd (cc e)
+answered (Some r) None e = absurd (cc e)
+answered (Some (code_is.UnknownFlight c)) (Some q) e = same_refusal (rules.UnknownFlight c) q (cc e)
+answered (Some (code_is.Frozen second)) (Some q) e = same_refusal (rules.Frozen second) q (cc e)
+answered (Some (code_is.Duplicate c)) (Some q) e = same_refusal (rules.Duplicate c) q (cc e)
+answered (Some code_is.TooManyFlights) (Some q) e = same_refusal rules.TooManyFlights q (cc e)
+answered (Some code_is.TooManyWaiting) (Some q) e = same_refusal rules.TooManyWaiting q (cc e)
+answered (Some (code_is.PredecessorOfFrozen c)) (Some q) e = same_refusal (rules.PredecessorOfFrozen c) q (cc e)
+answered (Some (code_is.CoversFrozen c second)) (Some q) e = same_refusal (rules.CoversFrozen c second) q (cc e)
+answered (Some code_is.TooManyClosures) (Some q) e = same_refusal rules.TooManyClosures q (cc e)
+answered (Some code_is.UnknownClosure) (Some q) e = same_refusal rules.UnknownClosure q (cc e)
+answered (Some (code_is.ClockBack second)) (Some q) e = same_refusal (rules.ClockBack second) q (cc e)
+answered (Some code_is.Memory) (Some q) e = absurd (cc e)
+
+-- ---- two situations
+
+-- where the best of the second is no dearer, and the second is not infeasible alone
+pub no_worse_by : (s t : Situation) → ((a b : Schedule) → IsBest s a → IsBest t b → objective t b ≤ objective s a)
+    → (((u : Schedule) → IsFeasible t u → ⊥) → (a : Schedule) → IsFeasible s a → ⊥) → (x y : Outcome) → HasLeast s x → HasLeast t y → IsNoWorse x y
+no_worse_by s t le none (Value v) (Value u) (a, best, e) (b, other, f) = let h = le a b best other in omega (arith, h, e, f)
+no_worse_by s t le none (Value v) Infeasible (a, best, e) rest = absurd (none rest a best.feasible)
+no_worse_by s t le none (Value v) (Refused r) x y = absurd y
+no_worse_by s t le none Infeasible y hx hy = tt
+no_worse_by s t le none (Refused r) y hx hy = tt

@@ -1,0 +1,6 @@
+-- What a trial file is, and what comes of its trials.
+pub mod Answers
+pub mod Trials
+pub mod Reading
+pub mod Outcomes
+pub mod Laws

@@ -1,0 +1,19 @@
+//! What holds of the outcomes of trials.
+
+ghost use Rattle.whatif.specs.Laws.{MoreShiftOutcomeLaw, NoClosureOutcomeLaw, InnerClosureOutcomeLaw};
+
+use landing_joint::laws::more_shift_is_never_worse;
+
+/// With a greater limit of shift, where neither is refused, the outcome is no worse: its value is no greater, and it has one
+/// where the other has.
+pub fn more_shift_gives_no_worse_outcome()
+    ensures { MoreShiftOutcomeLaw }
+{
+    more_shift_is_never_worse();
+}
+
+/// A closure gives no better outcome than none, and than one that lies inside it.
+pub fn closure_gives_no_better_outcome()
+    ensures none { NoClosureOutcomeLaw }
+    ensures inner { InnerClosureOutcomeLaw }
+{}

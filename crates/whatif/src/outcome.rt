@@ -1,0 +1,25 @@
+use cps_base::Callsign;
+
+/// Why a trial is not planned.
+#[derive(Clone, Copy, Debug, PartialEq, Eq)]
+pub enum TrialRefusal {
+    /// The objective delay does not take this limit of shift in the version of the aerodrome file.
+    DelayShift(u8),
+    /// The first passed-over count of the aerodrome file that is above the limit, counted from 1.
+    PassedAbove(u8),
+    /// The closure holds a frozen landing: the flight of the earliest such landing, and its second.
+    CoversFrozen(Callsign, u32),
+    /// 32 closures stand.
+    TooManyClosures,
+}
+
+/// What comes of a trial.
+#[derive(Clone, Copy, Debug, PartialEq, Eq)]
+pub enum Outcome {
+    /// The least objective of a feasible schedule: a second, or weighted seconds of delay.
+    Value(u64),
+    /// No schedule is feasible.
+    Infeasible,
+    /// The trial is not planned, for this reason.
+    Refused(TrialRefusal),
+}

@@ -1,0 +1,75 @@
+// Why a trial is not planned.
+ghost use Rattle.std.specs.Prelude.{◌≡◌, ◌≤◌, Some, length, nat_lt};
+ghost use Rattle.landing_rules.specs.Events as rules;
+ghost use Rattle.aerodrome_file.specs.Reading.{is_beyond};
+ghost use Rattle.whatif.specs.Outcomes.{first_above, shift_refusal, closure_refusal, found_refusal};
+
+use crate::outcome::TrialRefusal;
+use aerodrome_file::{Aerodrome, PassedList};
+use event_log::Event;
+use landing_rules::Objective;
+use situations::{Refusal, Situation};
+
+// Whether the objective does not take this limit of shift.
+fn is_beyond(aerodrome: &Aerodrome, k: u8) -> bool
+    ensures { result ≡ is_beyond aerodrome.now.version k aerodrome.now.objective }
+{
+    let most = if aerodrome.version == 1 { 1 } else { 2 };
+    aerodrome.objective == Objective::Delay && k > most
+}
+
+fn is_above(count: u8, k: u8) -> bool
+    ensures { result ≡ nat_lt k count }
+{
+    count > k
+}
+
+// The first passed-over count above the limit of shift, counted from 1.
+fn first_above(passed: &PassedList, k: u8) -> Option<u8>
+    requires { length passed.now ≤ 60 }
+    ensures { result ≡ first_above k 1 passed.now }
+{
+    for i in 0..passed.len() {
+        if is_above(passed.at(i).count, k) {
+            return Some(i as u8 + 1);
+        }
+    }
+    None
+}
+
+// Why the limit of shift is refused.
+pub(crate) fn shift_refusal(aerodrome: &Aerodrome, k: u8) -> Option<TrialRefusal>
+    requires { length aerodrome.now.passed ≤ 60 }
+    ensures { result ≡ shift_refusal aerodrome.now k }
+{
+    if is_beyond(aerodrome, k) {
+        return Some(TrialRefusal::DelayShift(k));
+    }
+    match first_above(&aerodrome.passed, k) {
+        None => None,
+        Some(i) => Some(TrialRefusal::PassedAbove(i)),
+    }
+}
+
+// The refusal of a closure, from that of its event.
+fn of_event(found: &Refusal) -> Option<TrialRefusal>
+    ensures { result ≡ found_refusal (Some found.now) }
+{
+    match found {
+        Refusal::CoversFrozen(callsign, second) => {
+            Some(TrialRefusal::CoversFrozen(*callsign, *second))
+        }
+        Refusal::TooManyClosures => Some(TrialRefusal::TooManyClosures),
+        _ => None,
+    }
+}
+
+// Why the closure is refused.
+pub(crate) fn closure_refusal(situation: &Situation, from: u32, to: u32) -> Option<TrialRefusal>
+    ensures { result ≡ closure_refusal (rules.refusal situation.now (rules.Close (from, to))) }
+{
+    match situation.refusal(&Event::Close(from, to)) {
+        None => None,
+        Some(refusal) => of_event(&refusal),
+    }
+}
