@@ -49,12 +49,12 @@ or_left false false c h k e = absurd (cc e)
 
 pub none_shuts_no_more : (cs : List Span) (span : Span) → ShutsNoMore cs (cs ++ span ∷ [])
 none_shuts_no_more [] span t e = absurd (cc e)
-none_shuts_no_more (c ∷ cs) span t e = or_left (is_shut t c) (list_any (is_shut t) cs) (is_shut t c || list_any (is_shut t) (cs ++ span ∷ [])) (λ here. grind here) (λ rest. grind (none_shuts_no_more cs span t rest)) e
+none_shuts_no_more (c ∷ cs) span t e = or_left (is_shut t c) (list_any (is_shut t) cs) (is_shut t c || list_any (is_shut t) (cs ++ span ∷ [])) (λ here. grind (arith, here)) (λ rest. grind (arith, none_shuts_no_more cs span t rest)) e
 
 inner_shuts : (first end from to t : ℕ) → from ≤ first → end ≤ to → is_shut t (first, end) ≡ true → is_shut t (from, to) ≡ true
 inner_shuts first end from to t low high e = grind (arith, low, high, e)
 
 pub inner_shuts_no_more : (cs : List Span) (first end from to : ℕ) → from ≤ first → end ≤ to → ShutsNoMore (cs ++ (first, end) ∷ []) (cs ++ (from, to) ∷ [])
-inner_shuts_no_more [] first end from to low high t e = or_left (is_shut t (first, end)) false (is_shut t (from, to) || false) (λ here. grind (inner_shuts first end from to t low high here)) (λ no. absurd (cc no)) e
+inner_shuts_no_more [] first end from to low high t e = or_left (is_shut t (first, end)) false (is_shut t (from, to) || false) (λ here. grind (arith, inner_shuts first end from to t low high here)) (λ no. absurd (cc no)) e
 inner_shuts_no_more (c ∷ cs) first end from to low high t e = or_left (is_shut t c) (list_any (is_shut t) (cs ++ (first, end) ∷ [])) (is_shut t c || list_any (is_shut t) (cs ++ (from, to) ∷ []))
-    (λ here. grind here) (λ rest. grind (inner_shuts_no_more cs first end from to low high t rest)) e
+    (λ here. grind (arith, here)) (λ rest. grind (arith, inner_shuts_no_more cs first end from to low high t rest)) e

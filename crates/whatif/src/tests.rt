@@ -5,7 +5,9 @@ use cps_outside::FreeGate;
 use event_log::FieldCause;
 use flight_file::read_flights;
 use situations::opening_fault;
+use std::alloc::Global;
 use std::test::Fail;
+use std::thread::Threads;
 
 const ROWS: &str = "A = [90, 110, 120, 130, 140, 180]
 B = [60, 90, 100, 110, 120, 160]
@@ -15,13 +17,13 @@ E = [60, 60, 60, 60, 60, 100]
 F = [60, 60, 60, 60, 60, 60]";
 
 // What comes of these trials, one a line, with these files.
-fn outcomes(
-    rt: &HostRuntime,
+fn outcomes<R: Threads + Sync>(
+    rt: &R,
+    alloc: Global,
     head: &str,
     flights: &str,
     trials: &str,
 ) -> Result<Vec<Outcome>, Fail> {
-    let alloc = rt.alloc();
     let text = format!(in alloc; "{head}\n[table]\n{ROWS}\n")?;
     let Ok(aerodrome) = read_aerodrome(alloc, text.as_bytes()) else {
         return Err(Fail::new("not an aerodrome file"));
@@ -54,7 +56,7 @@ const THREE: &str = "A1,A,1000,1,1000-2000,\nA2,A,1001,1,1001-2000,\nF1,F,1010,1
 fn each_trial_stands_alone(rt: HostRuntime) -> Result<(), Fail> {
     let head = "version = 1\nk = 1\nfreeze = 150\nobjective = \"makespan\"";
     let trials = "k,2\nk,0\nclose,1000-1240\nclose,0-172800\n";
-    let found = outcomes(&rt, head, THREE, trials)?;
+    let found = outcomes(&rt, rt.alloc(), head, THREE, trials)?;
     let expected = [
         Outcome::Value(1240),
         Outcome::Value(1160),
@@ -69,7 +71,7 @@ fn each_trial_stands_alone(rt: HostRuntime) -> Result<(), Fail> {
 #[test]
 fn delay_does_not_take_each_limit(rt: HostRuntime) -> Result<(), Fail> {
     let head = "version = 1\nk = 1\nfreeze = 150\nobjective = \"delay\"";
-    let found = outcomes(&rt, head, TWO, "k,2\n")?;
+    let found = outcomes(&rt, rt.alloc(), head, TWO, "k,2\n")?;
     let expected = [
         Outcome::Value(70),
         Outcome::Refused(TrialRefusal::DelayShift(2)),
@@ -81,7 +83,7 @@ fn delay_does_not_take_each_limit(rt: HostRuntime) -> Result<(), Fail> {
 #[test]
 fn a_frozen_landing_is_not_covered(rt: HostRuntime) -> Result<(), Fail> {
     let head = "version = 2\nk = 1\nfreeze = 150\nobjective = \"makespan\"\nclock = 900\nfrozen = [{ callsign = \"F1\", second = 1010 }]";
-    let found = outcomes(&rt, head, TWO, "close,1000-1020\nclose,1011-1070\n")?;
+    let found = outcomes(&rt, rt.alloc(), head, TWO, "close,1000-1020\nclose,1011-1070\n")?;
     let first = Callsign::read(b"F1").ok_or("not a callsign")?;
     let covers = Outcome::Refused(TrialRefusal::CoversFrozen(first, 1010));
     let expected = [Outcome::Value(1070), covers, Outcome::Value(1070)];

@@ -1,7 +1,5 @@
-use Rattle.std.proofs.Common.{Option, Some, subst, sym, ap, ◌∙◌}
+use Rattle.std.proofs.Common.{sym, ap, ◌∙◌}
 use Rattle.landing_rules.specs.Events.{Close, refusal}
-use Rattle.situations.specs.Answers.{IsAnswer}
-use Rattle.situations.specs.declared.refusal.Refusal as code
 use Rattle.whatif.specs.Outcomes.{found_refusal}
 use Rattle.whatif.proofs.OutcomeLemmas.{answered}
 use Rattle.whatif.proofs.refusal.closure_refusal.Goals as goal

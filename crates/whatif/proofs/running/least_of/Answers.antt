@@ -1,4 +1,4 @@
-use Rattle.std.proofs.Common.{Option, ℕ, subst}
+use Rattle.std.proofs.Common.{subst}
 use Rattle.replan.specs.LeastValue.{IsLeastValue}
 use Rattle.whatif.proofs.LeastLemmas.{plannable, least_some}
 use Rattle.whatif.proofs.running.least_of.Goals as goal

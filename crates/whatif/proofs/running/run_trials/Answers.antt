@@ -1,4 +1,4 @@
-use Rattle.std.proofs.Common.{◌∙◌, length, arith}
+use Rattle.std.proofs.Common.{arith}
 use Rattle.whatif.proofs.OutcomeLemmas.{outcomes_are}
 use Rattle.whatif.proofs.running.run_trials.Goals as goal
 
