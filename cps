@@ -12,6 +12,9 @@ usage() {
   check AERODROME FLIGHTS CERTIFICATE  whether a certificate, whoever wrote it, holds
   effort AERODROME FLIGHTS EVENTS      how many steps the planning after each event took
   trial SEED N K                       the plan's value for made-up traffic of N flights
+  first AERODROME FLIGHTS              the one best plan whose landing order is least
+  whatif AERODROME FLIGHTS TRIALS      the plan's value as it is, and with one change for each trial
+  audit AERODROME FLIGHTS PLAN         every rule that a printed plan breaks, or ok
 END
 }
 

@@ -2,13 +2,17 @@
 
 Each printed plan must be feasible, tight, of the least objective and of the printed value, or `infeasible` exactly where no
 order of the flights is feasible; each event must have its answer; the statuses must be 0 or 1 by the last plan. A certificate
-must be judged to hold with the same value. A replay is followed by the program's own plans."""
+must be judged to hold with the same value. A replay is followed by the program's own plans. `first` must print the best plan
+whose order of ranks is least, `whatif` each outcome, and `audit` each finding. An opening is refused with its first cause."""
 import subprocess
 import sys
 import tempfile
 from pathlib import Path
 
-from draw import aerodrome_text, draw_case, events_text, flights_text
+from audit import findings
+from draw import aerodrome_text, block_text, draw_block, draw_case, events_text, flights_text, trials_text
+
+FILES = 'aerodrome.toml', 'flights.csv'
 
 
 class Wrong(Exception):
@@ -47,20 +51,20 @@ def read_plan(lines, situation):
     return plan
 
 
-def run(program, folder, *words):
+def run(program, folder, *words, error=''):
     done = subprocess.run([program, *words], cwd=folder, capture_output=True, text=True, timeout=60)
-    need(done.stderr == '', f'standard error: {done.stderr}')
+    need(done.stderr == error, f'standard error: {done.stderr}')
     return done.stdout, done.stdout.splitlines(), done.returncode
 
 
 def check_plan(program, folder, situation):
-    _, lines, status = run(program, folder, 'plan', 'aerodrome.toml', 'flights.csv')
+    _, lines, status = run(program, folder, 'plan', *FILES)
     plan = read_plan(lines, situation)
     need(lines == [] and status == (plan is None), 'the end of a plan')
 
 
 def check_replay(program, folder, situation, events):
-    _, lines, status = run(program, folder, 'replay', 'aerodrome.toml', 'flights.csv', 'events.csv')
+    _, lines, status = run(program, folder, 'replay', *FILES, 'events.csv')
     need(lines.pop(0) == 'event 0 begun', 'the opening line')
     plan = read_plan(lines, situation)
     for number, event in enumerate(events, 1):
@@ -74,22 +78,53 @@ def check_replay(program, folder, situation, events):
 
 
 def check_certificate(program, folder, situation):
-    text, _, status = run(program, folder, 'certify', 'aerodrome.toml', 'flights.csv')
+    text, _, status = run(program, folder, 'certify', *FILES)
     need(status == 0, 'a certificate is printed')
     (folder / 'certificate.txt').write_text(text)
-    verdict, _, status = run(program, folder, 'check', 'aerodrome.toml', 'flights.csv', 'certificate.txt')
+    verdict, _, status = run(program, folder, 'check', *FILES, 'certificate.txt')
     least = situation.least()
     need(verdict == ('infeasible\n' if least is None else f'optimal {least}\n') and status == 0, 'the certificate is accepted')
 
 
+def check_first(program, folder, situation):
+    _, lines, status = run(program, folder, 'first', *FILES)
+    plan = read_block(lines, situation)
+    need(plan == situation.first() and lines == [] and status == (plan is None), 'the first best plan')
+
+
+def check_trials(program, folder, situation, trials):
+    (folder / 'trials.csv').write_text(trials_text(trials))
+    least = situation.least()
+    wanted = ['base infeasible' if least is None else f'base {least}']
+    wanted += [f'trial {i} {situation.trial(*trial)}' for i, trial in enumerate(trials, 1)]
+    _, lines, status = run(program, folder, 'whatif', *FILES, 'trials.csv')
+    need(lines == wanted and status == 0, f'the trials are {wanted}')
+
+
+def check_audit(program, folder, situation, block):
+    (folder / 'plan.txt').write_text(block_text(*block))
+    wanted = findings(situation, *block)
+    _, lines, status = run(program, folder, 'audit', *FILES, 'plan.txt')
+    need(lines == (wanted or ['ok']) and status == (7 if wanted else 0), f'the findings are {wanted}')
+
+
 def check_case(program, folder, seed):
-    situation, events = draw_case(seed)
+    situation, events, trials, draw = draw_case(seed)
     (folder / 'aerodrome.toml').write_text(aerodrome_text(situation))
     (folder / 'flights.csv').write_text(flights_text(situation))
     (folder / 'events.csv').write_text(events_text(events))
+    fault = situation.opening_fault()
+    if fault is not None:
+        for words in ('plan', *FILES), ('replay', *FILES, 'events.csv'), ('certify', *FILES):
+            text, _, status = run(program, folder, *words, error=f'cps: {fault}\n')
+            need(text == '' and status == 3, 'a refused opening')
+        return
     check_plan(program, folder, situation)
     check_replay(program, folder, situation, events)
     check_certificate(program, folder, situation)
+    check_first(program, folder, situation)
+    check_trials(program, folder, situation, trials)
+    check_audit(program, folder, situation, draw_block(draw, situation))
 
 
 def main(program, first=0, count=500):

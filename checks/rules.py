@@ -26,6 +26,8 @@ class Situation:
     closures: list
     clock: int = None
     frozen: dict = field(default_factory=dict)
+    version: int = 1
+    passed: dict = field(default_factory=dict)
 
     @property
     def horizon(self):
@@ -80,10 +82,15 @@ class Situation:
                     return f'{g.callsign} lands before {f.callsign}'
         waiting = self.waiting()
         for rank, f in enumerate(waiting, 1):
-            place = 1 + sum(seconds[g.callsign] < seconds[f.callsign] for g in waiting)
-            if abs(rank - place) > self.k:
-                return f'{f.callsign} is shifted by more than {self.k}'
+            if not self.keeps_shift(f, rank, self.place(f, seconds)):
+                return f'{f.callsign} is shifted too far'
         return None
+
+    def place(self, flight, seconds):
+        return 1 + sum(seconds[g.callsign] < seconds[flight.callsign] for g in self.waiting())
+
+    def keeps_shift(self, flight, rank, place):
+        return rank - place <= self.k and place - rank <= self.k - self.passed.get(flight.callsign, 0)
 
     def earliest(self, order):
         """Each waiting flight of this order at its earliest second beside the frozen ones, or None."""
@@ -96,16 +103,23 @@ class Situation:
             seconds[f.callsign] = second
         return seconds
 
+    def plans(self):
+        """Each lawful order of ranks with its schedule at the earliest seconds, in rising order."""
+        waiting = self.waiting()
+        for order in permutations(range(1, len(waiting) + 1)):
+            if all(self.keeps_shift(waiting[rank - 1], rank, place) for place, rank in enumerate(order, 1)):
+                seconds = self.earliest([waiting[rank - 1] for rank in order])
+                if seconds is not None and self.broken(seconds) is None:
+                    yield order, seconds
+
     def least(self):
         """The least objective of a feasible schedule, or None where there is none."""
-        values = []
-        waiting = self.waiting()
-        for order in permutations(range(len(waiting))):
-            if all(abs(rank - place) <= self.k for place, rank in enumerate(order)):
-                seconds = self.earliest([waiting[rank] for rank in order])
-                if seconds is not None and self.broken(seconds) is None:
-                    values.append(self.value(seconds))
-        return min(values, default=None)
+        return min((self.value(seconds) for _, seconds in self.plans()), default=None)
+
+    def first(self):
+        """The best schedule whose order of ranks is least, or None."""
+        least = self.least()
+        return next((seconds for _, seconds in self.plans() if self.value(seconds) == least), None)
 
     def is_tight(self, seconds):
         """Whether no flight lands earlier in the same order: it is the order at its earliest seconds."""
@@ -146,7 +160,7 @@ class Situation:
         """The situation after an accepted event, with the plan that is shown before it."""
         kind = event['kind']
         flights, closures = list(self.flights), list(self.closures)
-        clock, frozen = self.clock, dict(self.frozen)
+        clock, frozen, passed = self.clock, dict(self.frozen), dict(self.passed)
         if kind == 'estimate':
             flights = [Flight(f.callsign, f.category, event['estimate'], f.weight, event['windows'], f.after)
                        if f.callsign == event['callsign'] else f for f in flights]
@@ -161,4 +175,57 @@ class Situation:
         else:
             clock = event['now']
             frozen.update({c: t for c, t in (plan or {}).items() if t < clock + self.freeze and c not in frozen})
-        return Situation(self.table, self.k, self.freeze, self.objective, flights, closures, clock, frozen)
+            passed = self.passed_after(frozen)
+        return Situation(self.table, self.k, self.freeze, self.objective, flights, closures, clock, frozen, self.version, passed)
+
+    def passed_after(self, frozen):
+        """The counts when these are frozen: with the carry each flight that stays was passed by those behind it that froze."""
+        if self.version < 3:
+            return {}
+        order = [f.callsign for f in self.waiting()]
+        return {c: min(self.k, self.passed.get(c, 0) + sum(d in frozen for d in order[rank:]))
+                for rank, c in enumerate(order, 1) if c not in frozen}
+
+    def opening_fault(self):
+        """The first refusal of an opening, with its values, or None. Frozen landings and counts stand in the order of the file."""
+        entries = list(self.frozen.items())
+        for number, (callsign, _) in enumerate(entries, 1):
+            if self.active(callsign) is None:
+                return f'opening: unknown-frozen {number}'
+        for number, callsign in enumerate(self.passed, 1):
+            if self.active(callsign) is None or callsign in self.frozen:
+                return f'opening: unknown-passed {number}'
+        if len(self.waiting()) > MOST_WAITING:
+            return f'too many waiting {len(self.waiting())}'
+        landed = [(self.active(callsign), second) for callsign, second in entries]
+        for number, (flight, second) in enumerate(landed, 1):
+            if not self.is_open(flight, second):
+                return f'opening: frozen-closed {number}'
+        for i, first in enumerate(landed, 1):
+            for j, other in enumerate(landed[i:], i + 1):
+                (f, t), (g, u) = sorted((first, other), key=lambda landing: landing[1])
+                if u - t < self.apart(f, g):
+                    return f'opening: frozen-separation {i} {j}'
+        for number, (flight, second) in enumerate(landed, 1):
+            for callsign in flight.after:
+                if self.active(callsign) is not None and self.frozen.get(callsign, LAST_SECOND + 1) >= second:
+                    return f'opening: frozen-precedence {number} {callsign}'
+        return None
+
+    def trial(self, kind, value):
+        """What a trial comes to: its refusal, the least objective with this one change, or infeasible."""
+        changed = Situation(**vars(self))
+        if kind == 'k':
+            if self.objective == 'delay' and value > (1 if self.version == 1 else 2):
+                return f'refused delay-shift {value}'
+            above = next((i for i, count in enumerate(self.passed.values(), 1) if count > value), None)
+            if above is not None:
+                return f'refused passed-above {above}'
+            changed.k = value
+        else:
+            refusal = self.refusal({'kind': 'close', 'from': value[0], 'to': value[1]})
+            if refusal:
+                return f'refused {refusal}'
+            changed.closures = self.closures + [value]
+        least = changed.least()
+        return 'infeasible' if least is None else str(least)

@@ -1,3 +1,13 @@
-pub mod Failing
-pub mod Looks
+pub mod BodyLines
+pub mod Broken
+pub mod CleanBlocks
 pub mod EachPair
+pub mod Failing
+pub mod FoundLines
+pub mod LongLines
+pub mod Looks
+pub mod Ordering
+pub mod Readable
+pub mod ReadsBack
+pub mod SeenNames
+pub mod Shifting

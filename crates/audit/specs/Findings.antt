@@ -1,4 +1,10 @@
 -- A finding as the rules name it.
+use Rattle.std.specs.Prelude.{ℕ, ◌≤◌, Bool, List, [], ◌∷◌, Option, find, nat_lt, option_map, if◌then◌else◌}
+use Rattle.landing_rules.specs.Events.{named}
+use Rattle.landing_rules.specs.Flights.{Active, Landing}
+use Rattle.landing_rules.specs.Rules.{place, rank_among}
+use Rattle.landing_rules.specs.Testing.{is_shift_kept}
+use Rattle.landing_rules.specs.Text.{ShownLanding}
 use Rattle.audit.specs.declared.finding.Finding.{Finding}
 use Rattle.audit.specs.declared.finding.Finding.TheVariants as code
 use Rattle.landing_rules.specs.Audit as rules
@@ -17,3 +23,23 @@ finding_of (code.Early c) = rules.Early c
 finding_of (code.Shift c p r) = rules.Shift c p r
 finding_of code.OtherObjective = rules.OtherObjective
 finding_of (code.Value v) = rules.Value v
+
+-- what is found of a line whose callsign was seen above, or was not
+abbrev pub repeated : Bool → List ℕ → List rules.Finding
+repeated was_seen c = if was_seen then rules.Twice c ∷ [] else []
+
+-- what is found of line i at second t, below a line at that before
+abbrev pub out_of_order : ℕ → ℕ → ℕ → List rules.Finding
+out_of_order i before t = if nat_lt before t then [] else rules.Order i ∷ []
+
+-- what is found of a waiting flight, by its place and its rank
+abbrev pub too_far : ℕ → List Landing → Landing → List rules.Finding
+too_far k waiting f = if is_shift_kept k waiting f then [] else rules.Shift f.flight.callsign (place waiting f) (rank_among waiting f) ∷ []
+
+-- so that the costs of 500 lines have a sum of 64 bits
+abbrev pub HasSmallWeight : ShownLanding × Active → Type 0
+HasSmallWeight x = x.1.flight.weight ≤ 100
+
+-- a line with its flight, where it names one that is active
+abbrev pub one_found : List Active → ShownLanding → Option (ShownLanding × Active)
+one_found active l = option_map (λ a. (l, a)) (find (named l.callsign) active)

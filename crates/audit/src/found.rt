@@ -1,10 +1,12 @@
 // The lines of a block with their flights.
-ghost use Rattle.std.specs.Prelude.{◌≡◌, IfOk, map};
+ghost use Rattle.std.specs.Prelude.{◌≡◌, ◌++◌, [], IfOk, OnOk, map};
+ghost use Rattle.std.specs.List.{cons_option};
 ghost use Rattle.landing_rules.specs.Audit.{lines_found, is_marked, mismarked};
 ghost use Rattle.sequencer.specs.Shown.{shown_of};
-ghost use Rattle.audit.specs.Findings.{finding_of};
+ghost use Rattle.audit.specs.Findings.{finding_of, one_found};
 
 use crate::Finding;
+use cps_base::Callsign;
 use sequencer::Landing;
 use situations::Active;
 use std::alloc::{AllocError, Global};
@@ -25,6 +27,56 @@ impl Model for Found {
     ghost Value = { ShownLanding × rules.Active };
 
     ghost view = { λ f. (shown_of f.line, f.active) };
+}
+
+// The flight's callsign.
+fn name_of(active: &Active) -> Callsign
+    ensures { result ≡ active.now.flight.callsign }
+{
+    active.flight.callsign
+}
+
+// The line with its flight, where it names one that is active.
+fn found_of(active: &Vec<&Active>, line: &Landing) -> Result<Option<Found>, AllocError>
+    ensures { IfOk result (λ found. found ≡ one_found (map (λ a. a.now) active.now.items) (shown_of line.now)) }
+{
+    match active.iter().find(|a| name_of(a) == line.callsign) {
+        None => Ok(None),
+        Some(named) => {
+            let flight: &Active = named;
+            let active = flight.clone()?;
+            Ok(Some(Found {
+                line: *line,
+                active,
+            }))
+        }
+    }
+}
+
+// Takes in what was found.
+fn take_found(all: &mut Vec<Found>, found: Option<Found>) -> Result<(), AllocError>
+    ensures { OnOk result (all.new.items ≡ all.old.items ++ cons_option found []) }
+{
+    if let Some(found) = found {
+        all.push(found)?;
+    }
+    Ok(())
+}
+
+// The lines that name active flights, with them.
+pub(crate) fn lines_found(
+    alloc: Global,
+    active: &Vec<&Active>,
+    lines: &[Landing],
+) -> Result<Vec<Found>, AllocError>
+    ensures { IfOk result (λ all. all.items ≡ lines_found (map (λ a. a.now) active.now.items) (map shown_of lines.now)) }
+{
+    let mut all = Vec::with_capacity(alloc, lines.len())?;
+    for i in 0..lines.len() {
+        let found = found_of(active, &lines[i])?;
+        take_found(&mut all, found)?;
+    }
+    Ok(all)
 }
 
 // Whether the last word of the line is the flight's state.

@@ -38,7 +38,7 @@ fn flight(
 ) -> Result<Waiting, Fail>
     requires first { eta ≤ 172799 }
     requires last { last ≤ 172799 }
-    ensures { IfOk result (λ w. (w.callsign ≡ name.now) × (w.eta ≡ eta) × (w.weight ≡ weight)) }
+    ensures { IfOk result (λ w. (w.callsign ≡ name.now) × (w.eta ≡ eta) × (w.weight ≡ weight) × (w.passed ≡ 0)) }
 {
     let callsign = Callsign::read(name).ok_or("not a callsign")?;
     let times = OpenTimes::of(alloc, &WindowSet::new(&[(eta, last)])?, &Closures::new())?;
@@ -47,6 +47,7 @@ fn flight(
         category,
         eta,
         weight,
+        passed: 0,
         times,
     })
 }

@@ -1,4 +1,4 @@
-use crate::test_runs::{NO_SHIFT, ONE_PLACE, folder, run_words};
+use crate::test_runs::{LEAST_DELAY, NO_SHIFT, ONE_PLACE, folder, run_words};
 use std::test::Fail;
 
 const TWO: &str = "A1,A,1000,1,1000-2000,\nF1,F,1010,1,1010-2000,\n";
@@ -26,7 +26,35 @@ struct Check {
     err: &'static str,
 }
 
-const CHECKS: [Check; 7] = [
+const CHECKS: [Check; 9] = [
+    Check {
+        head: LEAST_DELAY,
+        flights: TWO,
+        certificate: [
+            "certificate 1\nclaim optimal 70\n",
+            "land F1 1010\nland A1 1070\n",
+            "state 1 01 2 1010:0\nstate 1 10 1 1000:4294967295\n",
+            "state 2 10 1 1070:70\nstate 2 10 2 1180:170\n",
+            "",
+        ],
+        status: 7,
+        out: "rejected successor 0 1\n",
+        err: "",
+    },
+    Check {
+        head: ONE_PLACE,
+        flights: THREE,
+        certificate: [
+            "certificate 1\nclaim optimal 1240\n",
+            LANDINGS,
+            FIRST_STATES,
+            "state 2 01 3 1180:0\nstate 2 10 1 1091:0\nstate 2 10 2 1090:0\n",
+            "state 3 10 2 1240:0\nstate 4 10 3 1270:0\n",
+        ],
+        status: 7,
+        out: "rejected shape 7\n",
+        err: "",
+    },
     Check {
         head: ONE_PLACE,
         flights: THREE,

@@ -38,6 +38,8 @@ mod check_tests;
 #[cfg(test)]
 mod effort_tests;
 #[cfg(test)]
+mod hostile_tests;
+#[cfg(test)]
 mod limit_tests;
 #[cfg(test)]
 mod replay_tests;

@@ -5,6 +5,7 @@ mod begin;
 mod frozen;
 mod order;
 mod plan;
+mod plan_of;
 mod predecessors;
 mod problem;
 mod seconds;

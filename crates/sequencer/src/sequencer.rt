@@ -46,7 +46,7 @@ struct Shown {
 /// plan shown is best and tight, and there is none exactly where no schedule is feasible.
 #[derive(Drop)]
 pub struct Sequencer<P: Planner> {
-    situation: Situation,
+    pub(crate) situation: Situation,
     shown: Option<Shown>,
     problem: Problem,
     planner: P,

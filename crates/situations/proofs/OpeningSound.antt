@@ -1,10 +1,10 @@
 -- What opens is a sound situation.
-use Rattle.std.proofs.Common.{◌≡◌, ◌≢◌, ℕ, ◌+◌, ◌<◌, ◌≤◌, inl, inr, Bool, true, false, cond, ◌&&◌, ◌||◌, List, [], ◌∷◌, length, map, filter, get_or, Option, Some, None, zero, suc, refl, sym, ap, subst, ◌∙◌, arith, leb}
+use Rattle.std.proofs.Common.{◌≡◌, ◌≢◌, ℕ, ◌+◌, ◌<◌, ◌≤◌, inl, inr, Bool, true, false, cond, ◌&&◌, ◌||◌, List, [], ◌∷◌, length, map, filter, get_or, Option, Some, None, zero, suc, refl, sym, ap, ap₂, subst, ◌∙◌, arith, leb}
 use Rattle.std.specs.Prelude.{All, AllPairs, IsTrue, filter_map, find, option_map, unwrap_or, is_none}
 use Rattle.std.specs.List.{list_any, cons_option}
 use Rattle.std.specs.Option.{option_or}
 use Rattle.std.specs.Str.{bytes_eq}
-use Rattle.std.proofs.lemmas.Bool.{leb-true, leb-false, and_parts, or_parts, false≢true, true≢false}
+use Rattle.std.proofs.lemmas.Bool.{leb-true, leb-false, le-leb, and_parts, or_parts, false≢true, true≢false}
 use Rattle.std.proofs.lemmas.List.{length-map, get_or-map}
 use Rattle.std.proofs.lemmas.List.Elements.{All-nil, All-cons, All-head, All-tail}
 use Rattle.landing_rules.specs.shared.Counting.{Member}
@@ -24,7 +24,7 @@ use Rattle.flight_file.specs.Seen.{flight_of}
 use Rattle.situations.specs.declared.opening_refusal.OpeningFault.{OpeningFault}
 use Rattle.situations.specs.declared.opening_refusal.OpeningFault.TheVariants as fault
 use Rattle.situations.specs.Opened.{opened, opening_of, CanOpen, HasRanges, IsKept}
-use Rattle.situations.specs.Refused.{unless, first_from, unknown_frozen_at, unknown_passed_at, too_many_waiting, opening_fault, name_fault, given_landing, given, closed_at, clash_at, clash_from, is_not_before, lands_late, late_at, rule_fault, AreKept, OpeningLaw}
+use Rattle.situations.specs.Refused.{unless, first_from, unknown_frozen_at, unknown_passed_at, too_many_waiting, opening_fault, name_fault, given_landing, given, closed_at, clash_at, clash_from, is_not_before, lands_late, late_at, rule_fault, AreKept, OpeningLaw, PlainLaw}
 use Rattle.situations.proofs.Entries.{bytes_eq-true, bytes_eq-refl}
 
 -- ---- members
@@ -367,3 +367,23 @@ module _ (a : Aerodrome) (fs : List files.Flight) (kept : AreKept a fs) (can : C
 
 pub opening_sound : OpeningLaw
 opening_sound a fs kept openable = sound a fs kept openable.0 openable.1
+
+-- ---- files without entries
+
+few_pass : {X : Type 0} (p : X → Bool) (xs : List X) → length (filter p xs) ≤ length xs
+few_pass p [] = omega arith
+few_pass p (x ∷ xs) = go (p x) (few_pass p xs)
+  where
+    go : (b : Bool) → length (filter p xs) ≤ length xs → length (cond b (x ∷ filter p xs) (filter p xs)) ≤ suc (length xs)
+    go true le = omega arith
+    go false le = omega arith
+
+pub plain_opening : PlainLaw
+plain_opening a fs no_frozen no_passed few =
+    let active = (opened a fs).active in
+    let n : length active ≡ length fs = length-map (map flight_of fs) (opening_flight (opening_of a)) ∙ length-map fs flight_of in
+    let wait : length (filter is_waiting active) ≤ 60 = omega (arith, few_pass is_waiting active) in
+    let enough : too_many_waiting active ≡ None = ap (λ b. unless b (fault.TooManyWaiting (length (filter is_waiting active)))) (le-leb (length (filter is_waiting active)) 60 wait) in
+    let names : name_fault a active ≡ None =
+    ap₂ (λ f p. option_or (first_from (unknown_frozen_at active) 1 f) (option_or (first_from (unknown_passed_at active) 1 p) (too_many_waiting active))) no_frozen no_passed ∙ enough in
+    ap₂ option_or names (ap (λ f. rule_fault a active (given active f)) no_frozen)

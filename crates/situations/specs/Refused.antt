@@ -104,6 +104,10 @@ opening_fault a fs = fault_of a (opened a fs).active
 abbrev pub IsOpenable : aerodromes.Aerodrome → List files.Flight → Type 0
 IsOpenable a fs = CanOpen a fs × (opening_fault a fs ≡ None)
 
+-- files without entries open where at most 60 flights are there
+abbrev pub PlainLaw : Type 0
+PlainLaw = (a : aerodromes.Aerodrome) (fs : List files.Flight) → a.frozen ≡ [] → a.passed ≡ [] → length fs ≤ 60 → opening_fault a fs ≡ None
+
 -- what the types of the table, the closures and the flights keep
 pub record AreKept (a : aerodromes.Aerodrome) (fs : List files.Flight) : Type 0 where
   pub table : IsWakeTable a.table

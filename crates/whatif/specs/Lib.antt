@@ -4,4 +4,3 @@ pub mod Trials
 pub mod Reading
 pub mod Outcomes
 pub mod Laws
-pub mod Text

@@ -1,29 +1,25 @@
-use Rattle.std.proofs.Common.{Bor, rules, tests, ◌≡◌, map, not, sym, refl, ap, ◌∙◌}
+use Rattle.std.proofs.Common.{Bor, rules, tests, ◌≡◌, map, not, refl, ap, ◌∙◌}
 use Rattle.std.specs.Prelude.{IfOk, filter}
-use Rattle.std.specs.List.{list_any}
-use Rattle.std.specs.Str.{bytes_eq}
 use Rattle.std.proofs.lemmas.Iterator.{items_from_collect, YieldsList-from_map, YieldsList-from_slice}
 use Rattle.std.proofs.lemmas.Iterator.Consumers.{YieldsList-from_filter, YieldsList-at}
 use Rattle.std.proofs.lemmas.Result.{IfOk-weaker}
 use Rattle.landing_rules.specs.Flights.{Active}
-use Rattle.landing_rules.specs.Text.{ShownLanding}
 use Rattle.landing_rules.specs.Audit.{has_line, Missing}
 use Rattle.situations.specs.declared.active.Active.{Active as Held}
 use Rattle.sequencer.specs.Shown.{shown_of}
-use Rattle.sequencer.specs.declared.plan.Landing.{Landing}
+use Rattle.audit.specs.Seen.{has_name}
 use Rattle.audit.specs.declared.finding.Finding.TheVariants as code
 use Rattle.audit.specs.Findings.{finding_of}
 use Rattle.audit.proofs.Failing.{each_failing}
-use Rattle.audit.proofs.Looks.{any_map}
 use Rattle.audit.proofs.names.missing.Goals as goal
 
 pub returns : goal.returns
 returns c =
     let active = c.args.active.now.items in
     let lines = c.args.lines.now in
-    let fails = λ (a : Bor Held). not (list_any (λ (l : Landing). bytes_eq l.callsign a.now.flight.callsign) lines) in
+    let fails = λ (a : Bor Held). not (has_name c.args.seen.now a.now.flight.callsign) in
     let made = λ (a : Bor Held). code.Missing a.now.flight.callsign in
     let chain : IfOk c.collect.result (λ all. all.items ≡ map made (filter fails active)) = items_from_collect _ c.collect.ensures.ran
     (YieldsList-from_map _ made (YieldsList-at c.map.ensures.source (YieldsList-from_filter _ fails (YieldsList-from_slice active (cc)) c.filter.ensures.closure (λ x b q k. search (rules, tests)))) c.map.ensures.closure (λ x r q k. search (rules, tests))) in
     IfOk-weaker c.collect.result _ _ (λ all h. ap (map finding_of) h ∙ each_failing (λ (a : Bor Held). a.now) fails made (λ a. has_line (map shown_of lines) a.flight.callsign) (λ (a : Active). Missing a.flight.callsign)
-    (λ a. ap not (sym (any_map shown_of (λ (l : ShownLanding). bytes_eq l.callsign a.now.flight.callsign) lines))) (λ t. refl) active) chain
+    (λ a. ap not (c.requires a.now.flight.callsign)) (λ t. refl) active) chain

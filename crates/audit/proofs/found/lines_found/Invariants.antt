@@ -1,0 +1,8 @@
+use Rattle.std.proofs.Common.{◌≡◌, ◌++◌, map, drop}
+use Rattle.landing_rules.specs.Audit.{lines_found}
+use Rattle.sequencer.specs.Shown.{shown_of}
+use Rattle.audit.proofs.found.lines_found.Given as goal
+
+-- the lines found so far, and those left
+abbrev pub invariant-loop-i : goal.invariant-loop-i
+invariant-loop-i l = l.all.items ++ lines_found (map (λ a. a.now) l.active.items) (map shown_of (drop l.i l.lines)) ≡ lines_found (map (λ a. a.now) l.active.items) (map shown_of l.lines)

@@ -1,0 +1,11 @@
+use Rattle.std.proofs.Common.{◌≡◌, ◌++◌, map, drop}
+use Rattle.landing_rules.specs.Audit.{landing_of, shifted}
+use Rattle.audit.specs.Findings.{finding_of}
+use Rattle.audit.proofs.Shifting.{too_far_from}
+use Rattle.audit.proofs.shift.shifted.Given as goal
+
+-- what is found so far, and what is left to find
+abbrev pub invariant-loop-i : goal.invariant-loop-i
+invariant-loop-i l =
+    map finding_of l.all.items ++ too_far_from l.k (map (λ g. landing_of g.now) l.waiting.items) (drop l.i (map (λ g. landing_of g.now) l.waiting.items))
+    ≡ shifted l.k (map (λ g. landing_of g.now) l.waiting.items)

@@ -1,0 +1,118 @@
+// What the first line of a block says.
+ghost use Rattle.std.specs.Prelude.{◌≡◌, ◌≤◌, ◌*◌, ◌++◌, All, IfOk, length, map, sum_by};
+ghost use Rattle.landing_rules.specs.Audit.{is_objective, landing_of, other_objective, other_value};
+ghost use Rattle.landing_rules.specs.Rules.{cost, delay, greatest};
+ghost use Rattle.audit.specs.Findings.{finding_of, HasSmallWeight};
+
+use crate::Finding;
+use crate::found::Found;
+use crate::joining::joined;
+use landing_rules::Objective;
+use std::alloc::{AllocError, Global};
+
+// Whether two objectives are the same.
+fn is_objective(said: Objective, meant: Objective) -> bool
+    ensures { result ≡ is_objective said meant }
+{
+    match (said, meant) {
+        (Objective::Makespan, Objective::Makespan) | (Objective::Delay, Objective::Delay) => true,
+        _ => false,
+    }
+}
+
+// Where the block's word is not the aerodrome's.
+fn other_objective(
+    alloc: Global,
+    said: Objective,
+    meant: Objective,
+) -> Result<Vec<Finding>, AllocError>
+    ensures { IfOk result (λ all. map finding_of all.items ≡ other_objective said meant) }
+{
+    let mut all = Vec::new(alloc);
+    if !is_objective(said, meant) {
+        all.push(Finding::OtherObjective)?;
+    }
+    Ok(all)
+}
+
+// The second that the line says.
+fn second_of(found: &Found) -> u32
+    ensures { result ≡ (landing_of found.now).second }
+{
+    found.line.second
+}
+
+// The greatest second, and 0 with no line.
+fn greatest_second(found: &[Found]) -> u32
+    ensures { result ≡ greatest (map (λ f. f.second) (map landing_of found.now)) }
+{
+    let mut latest = 0;
+    for i in (0..found.len()).rev() {
+        latest = second_of(&found[i]).max(latest);
+    }
+    latest
+}
+
+// What the landing costs: its delay after the estimate, by weight.
+fn delay_of(found: &Found) -> u64
+    requires { HasSmallWeight found.now }
+    ensures value { result ≡ delay (landing_of found.now) }
+    ensures small { result ≤ 429496729500 }
+{
+    let flight = &found.active.flight;
+    u64::from(flight.weight) * u64::from(found.line.second.saturating_sub(flight.eta))
+}
+
+// What the landings cost together.
+fn total_delay(found: &[Found]) -> u64
+    requires few { length found.now ≤ 500 }
+    requires small { All HasSmallWeight found.now }
+    ensures { result ≡ sum_by delay (map landing_of found.now) }
+{
+    let mut total: u64 = 0;
+    for i in 0..found.len() {
+        total += delay_of(&found[i]);
+    }
+    total
+}
+
+// The objective of the seconds.
+fn value_of(objective: Objective, found: &[Found]) -> u64
+    requires few { length found.now ≤ 500 }
+    requires small { All HasSmallWeight found.now }
+    ensures { result ≡ cost objective (map landing_of found.now) }
+{
+    match objective {
+        Objective::Makespan => u64::from(greatest_second(found)),
+        Objective::Delay => total_delay(found),
+    }
+}
+
+// Where the block's number is not the value.
+fn other_value(alloc: Global, said: u64, value: u64) -> Result<Vec<Finding>, AllocError>
+    ensures { IfOk result (λ all. map finding_of all.items ≡ other_value said value) }
+{
+    let mut all = Vec::new(alloc);
+    if value != said {
+        all.push(Finding::Value(value))?;
+    }
+    Ok(all)
+}
+
+// What is wrong with the first line, by the aerodrome's objective.
+pub(crate) fn by_head(
+    alloc: Global,
+    meant: Objective,
+    said: Objective,
+    number: u64,
+    found: &[Found],
+) -> Result<Vec<Finding>, AllocError>
+    requires few { length found.now ≤ 500 }
+    requires small { All HasSmallWeight found.now }
+    ensures { IfOk result (λ all. map finding_of all.items ≡ other_objective said meant ++ other_value number (cost meant (map landing_of found.now))) }
+{
+    let words = other_objective(alloc, said, meant)?;
+    let value = value_of(meant, found);
+    let numbers = other_value(alloc, number, value)?;
+    joined(words, numbers)
+}

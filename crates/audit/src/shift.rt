@@ -1,0 +1,104 @@
+// How far the waiting flights are from their ranks.
+ghost use Rattle.std.specs.Prelude.{◌≡◌, ◌≤◌, ◌+◌, ◌++◌, IfOk, OnOk, filter, length, map, nat_lt};
+ghost use Rattle.std.specs.Ordering.{is_lt};
+ghost use Rattle.landing_rules.specs.Flights.{Landing};
+ghost use Rattle.landing_rules.specs.Rules.{arrival_cmp, place, rank_among, waits};
+ghost use Rattle.landing_rules.specs.Testing.{is_shift_kept};
+ghost use Rattle.landing_rules.specs.Audit.{landing_of, shifted};
+ghost use Rattle.audit.specs.declared.finding.Finding.TheVariants as code;
+ghost use Rattle.audit.specs.Findings.{finding_of, too_far};
+
+use crate::Finding;
+use crate::found::Found;
+use std::alloc::{AllocError, Global};
+
+// The lines whose flights wait.
+fn waiting<'a>(alloc: Global, found: &'a [Found]) -> Result<Vec<&'a Found>, AllocError>
+    ensures value { IfOk result (λ all. map (λ f. landing_of f.now) all.items ≡ filter waits (map landing_of found.now)) }
+    ensures few { IfOk result (λ all. length all.items ≤ length found.now) }
+{
+    found
+        .iter()
+        .filter(|f| f.active.frozen.is_none())
+        .collect(alloc)
+}
+
+// Whether g lands before f.
+fn lands_before(g: &Found, f: &Found) -> bool
+    ensures { result ≡ nat_lt (landing_of g.now).second (landing_of f.now).second }
+{
+    g.line.second < f.line.second
+}
+
+// 1 plus the number of those that land before f.
+fn place_of(waiting: &Vec<&Found>, f: &Found) -> u32
+    requires { length waiting.now.items ≤ 500 }
+    ensures value { result ≡ place (map (λ g. landing_of g.now) waiting.now.items) (landing_of f.now) }
+    ensures few { result ≤ 501 }
+{
+    1 + waiting.iter().filter(|g| lands_before(g, f)).count() as u32
+}
+
+// Whether g comes before f, first come, first served.
+fn comes_before(g: &Found, f: &Found) -> bool
+    ensures { result ≡ is_lt (arrival_cmp g.now.1.flight f.now.1.flight) }
+{
+    let first = &g.active.flight;
+    let second = &f.active.flight;
+    (first.eta, first.callsign) < (second.eta, second.callsign)
+}
+
+// 1 plus the number of those that come before f.
+fn rank_of(waiting: &Vec<&Found>, f: &Found) -> u32
+    requires { length waiting.now.items ≤ 500 }
+    ensures value { result ≡ rank_among (map (λ g. landing_of g.now) waiting.now.items) (landing_of f.now) }
+    ensures few { result ≤ 501 }
+{
+    1 + waiting.iter().filter(|g| comes_before(g, f)).count() as u32
+}
+
+// Whether it lands within k places of its rank, less the flights that passed it before.
+fn is_shift_kept(k: u8, waiting: &Vec<&Found>, f: &Found) -> bool
+    requires { length waiting.now.items ≤ 500 }
+    ensures { result ≡ is_shift_kept k (map (λ g. landing_of g.now) waiting.now.items) (landing_of f.now) }
+{
+    let place = place_of(waiting, f);
+    let rank = rank_of(waiting, f);
+    rank <= place + u32::from(k) && place + u32::from(f.active.passed) <= rank + u32::from(k)
+}
+
+// Its place and its rank.
+fn shift(waiting: &Vec<&Found>, f: &Found) -> Finding
+    requires { length waiting.now.items ≤ 500 }
+    ensures { result ≡ code.Shift f.now.1.flight.callsign (place (map (λ g. landing_of g.now) waiting.now.items) (landing_of f.now)) (rank_among (map (λ g. landing_of g.now) waiting.now.items) (landing_of f.now)) }
+{
+    Finding::Shift(
+        f.active.flight.callsign,
+        place_of(waiting, f),
+        rank_of(waiting, f),
+    )
+}
+
+// Notes a waiting flight too far from its rank.
+fn note(all: &mut Vec<Finding>, k: u8, waiting: &Vec<&Found>, f: &Found) -> Result<(), AllocError>
+    requires { length waiting.now.items ≤ 500 }
+    ensures { OnOk result (map finding_of all.new.items ≡ map finding_of all.old.items ++ too_far k (map (λ g. landing_of g.now) waiting.now.items) (landing_of f.now)) }
+{
+    if !is_shift_kept(k, waiting, f) {
+        all.push(shift(waiting, f))?;
+    }
+    Ok(())
+}
+
+// Each waiting flight too far from its rank.
+pub(crate) fn shifted(alloc: Global, k: u8, found: &[Found]) -> Result<Vec<Finding>, AllocError>
+    requires { length found.now ≤ 500 }
+    ensures { IfOk result (λ all. map finding_of all.items ≡ shifted k (filter waits (map landing_of found.now))) }
+{
+    let waiting = waiting(alloc, found)?;
+    let mut all = Vec::new(alloc);
+    for i in 0..waiting.len() {
+        note(&mut all, k, &waiting, waiting[i])?;
+    }
+    Ok(all)
+}

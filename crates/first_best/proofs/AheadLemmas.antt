@@ -1,0 +1,113 @@
+-- Stages made from the last backward.
+use Rattle.std.proofs.Common.{◌≡◌, ℕ, ◌+◌, ◌-◌, ◌<◌, ◌≤◌, inl, inr, List, [], ◌∷◌, ◌++◌, length, refl, sym, ap, subst, ◌∙◌, arith, length-append}
+use Rattle.std.specs.Prelude.{slice_index_or, Option}
+use Rattle.std.proofs.lemmas.Bool.{cases_eq}
+use Rattle.std.proofs.lemmas.List.{get_or_append_left, get_or_push}
+use Rattle.landing_rules.specs.Problem.{Problem}
+use Rattle.cps_theory.specs.LandingTrail.{ranks}
+use Rattle.landing_joint.specs.CompletingPairs.{IsCompletingPair}
+use Rattle.cps_network.specs.Nodes as network
+use Rattle.cps_network.specs.Pairs.{list_at}
+use Rattle.cps_network.specs.WindowRanks.{TellTheirRanks}
+use Rattle.replan.specs.Held.{HeldProblem}
+use Rattle.replan.specs.Readers.{AreStagesOf, lists_in, stage_in, window_in}
+use Rattle.first_best.specs.declared.node.EarlyNode.{EarlyNode}
+use Rattle.first_best.specs.Nodes.{node_at, AreNodesOf}
+use Rattle.first_best.specs.Gathered.{IsGathered, place_at}
+use Rattle.first_best.specs.Stages.{no_stage, stage_of, AreCompleted, HasEachList, IsAheadOf, IsBehind, ListsAllCompleting, StageAhead}
+use Rattle.first_best.proofs.GatherLemmas.{gathered_nodes, window_prefix}
+use Rattle.first_best.proofs.PairLemmas.{rises_undominated}
+
+abbrev pub at : List StageAhead → ℕ → StageAhead
+at stages i = slice_index_or stages i no_stage
+
+-- so many stages are made, from the last on, behind one without a node
+pub record IsAheadFrom (p : Problem) (v : ℕ) (held : Option HeldProblem) (done : ℕ) (stages : List StageAhead) : Type 0 where
+  pub long : length stages ≡ done + 1
+  pub first : at stages 0 ≡ no_stage
+  pub completed : (i : ℕ) → 1 ≤ i → i ≤ done → AreCompleted p v (length p.flights + 1 - i) (at stages i).nodes (at stages i).lists
+  pub gathered : (i : ℕ) → 1 ≤ i → i ≤ done → IsGathered held (length p.flights + 1 - i) (at stages i).nodes (at stages i).places
+
+module _ (p : Problem) (v : ℕ) (held : Option HeldProblem) (done : ℕ) (stages : List StageAhead) (a : IsAheadFrom p v held done stages) where
+  pub behind_from : (stage : ℕ) → stage ≡ length p.flights - done → done < length p.flights → IsBehind p v stage (at stages done)
+  behind_from stage is lt = elim (cases_eq done 0) [
+    | inl e ↦ inl (omega (arith, is, e), ap (at stages) e ∙ a.first)
+    | inr ne ↦ inr (omega (arith, is, lt, ne), subst (λ (n : ℕ). AreCompleted p v n (at stages done).nodes (at stages done).lists) (let e : length p.flights + 1 - done ≡ stage + 1 = omega (arith, is, lt) in e) (a.completed done (omega (arith, ne)) (omega arith)))
+  ]
+
+  module _ (stage : ℕ) (is : stage ≡ length p.flights - done) (lt : done < length p.flights) (s : StageAhead) (completed : AreCompleted p v stage s.nodes s.lists) (gathered : IsGathered held stage s.nodes s.places) where
+    old : (i : ℕ) → i ≤ done → at (stages ++ s ∷ []) i ≡ at stages i
+    old i le = get_or_append_left stages (s ∷ []) no_stage i (let l = a.long in omega (arith, le, l))
+
+    new : at (stages ++ s ∷ []) (done + 1) ≡ s
+    new = get_or_push stages s no_stage (done + 1) a.long
+
+    each : (P : ℕ → StageAhead → Type 0) → ((i : ℕ) → 1 ≤ i → i ≤ done → P (length p.flights + 1 - i) (at stages i)) → P stage s → (i : ℕ) → 1 ≤ i → i ≤ done + 1 → P (length p.flights + 1 - i) (at (stages ++ s ∷ []) i)
+    each P before now i one le = elim (cases_eq i (done + 1)) [
+      | inl e ↦ subst (λ (j : ℕ). P (length p.flights + 1 - j) (at (stages ++ s ∷ []) j)) (sym e)
+          (subst (λ (n : ℕ). P n (at (stages ++ s ∷ []) (done + 1))) (let f : stage ≡ length p.flights + 1 - (done + 1) = omega (arith, is) in f) (subst (P stage) (sym new) now))
+      | inr ne ↦ (let l : i ≤ done = omega (arith, le, ne) in subst (P (length p.flights + 1 - i)) (sym (old i l)) (before i one l))
+    ]
+
+    pub one_stage : IsAheadFrom p v held (done + 1) (stages ++ s ∷ [])
+    one_stage = record {
+      long = length-append stages (s ∷ []) ∙ ap (λ (n : ℕ). n + 1) a.long;
+      first = old 0 (omega arith) ∙ a.first;
+      completed = each (λ n t. AreCompleted p v n t.nodes t.lists) a.completed completed;
+      gathered = each (λ n t. IsGathered held n t.nodes t.places) a.gathered gathered;
+    }
+
+  pub all_stages : done ≡ length p.flights → IsAheadOf p v held stages
+  all_stages e = record {
+    whole = a.long ∙ ap (λ (n : ℕ). n + 1) e;
+    completed = λ s one le. subst (λ (n : ℕ). AreCompleted p v n (stage_of stages s).nodes (stage_of stages s).lists) (back s le) (a.completed (length stages - s) (low s le) (high s one));
+    gathered = λ s one le. subst (λ (n : ℕ). IsGathered held n (stage_of stages s).nodes (stage_of stages s).places) (back s le) (a.gathered (length stages - s) (low s le) (high s one));
+  }
+    where
+      back : (s : ℕ) → s ≤ length p.flights → length p.flights + 1 - (length stages - s) ≡ s
+      back s le = (let l = a.long in omega (arith, le, l, e))
+
+      low : (s : ℕ) → s ≤ length p.flights → 1 ≤ length stages - s
+      low s le = (let l = a.long in omega (arith, le, l, e))
+
+      high : (s : ℕ) → 1 ≤ s → length stages - s ≤ done
+      high s one = (let l = a.long in omega (arith, one, l, e))
+
+-- before the first
+pub none_ahead : (p : Problem) (v : ℕ) (held : Option HeldProblem) → IsAheadFrom p v held 0 (no_stage ∷ [])
+none_ahead p v held = record {
+  long = refl;
+  first = refl;
+  completed = λ i one le. absurd (omega (arith, one, le));
+  gathered = λ i one le. absurd (omega (arith, one, le));
+}
+
+-- the nodes of a stage that is held
+pub held_nodes : (p : Problem) (held : Option HeldProblem) → network.IsWindowNetwork p → TellTheirRanks p → AreStagesOf p held → (stage : ℕ) → stage ≤ length p.flights → (nodes : List EarlyNode) (places : List ℕ) → IsGathered held stage nodes places → AreNodesOf p stage nodes
+held_nodes p held net tell are stage le nodes places g =
+    subst (λ (s : ℕ). AreNodesOf p s nodes) (are.number stage le) (gathered_nodes p net tell (stage_in held stage) (lists_in held stage) (are.pairs stage le) nodes places g)
+
+module _ (p : Problem) (v : ℕ) (held : Option HeldProblem) (stages : List StageAhead) (a : IsAheadOf p v held stages) where
+  pub each_listed : HasEachList p held stages
+  each_listed s i one le lt =
+      let g = a.gathered s one le in
+      let c = a.completed s one le in
+      record {
+        from_one = one;
+        to_last = (let w = a.whole in omega (arith, le, w));
+        place = (let l = g.long in omega (arith, l, lt));
+        list = (let w = g.within i lt in let e = c.one_each in omega (arith, w, e));
+      }
+
+  pub all_exact : network.IsWindowNetwork p → TellTheirRanks p → AreStagesOf p held → ListsAllCompleting p v held stages
+  all_exact net tell are s i xs one le lt l at =
+      let g = a.gathered s one le in
+      let c = a.completed s one le in
+      let m = place_at (stage_of stages s).places i in
+      let ends : network.node_of p.k (ranks xs) ≡ ((stage_in held s).0, window_in held s i) = at ∙ ap (λ (n : ℕ). (n, window_in held s i)) (sym (are.number s le)) in
+      let of = window_prefix p net tell (stage_in held s) (lists_in held s) (are.pairs s le) (ranks xs) (window_in held s i) (node_at (stage_of stages s).nodes m) l.legal ends (g.window i lt) in
+      let kept = c.kept m (ranks xs) (g.within i lt) l.legal l.long of in
+      record {
+        undominated = rises_undominated (IsCompletingPair p v (ranks xs)) (list_at (stage_of stages s).lists m) (c.rising m) kept;
+        rising = c.rising m;
+      }

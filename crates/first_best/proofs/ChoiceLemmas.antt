@@ -1,0 +1,283 @@
+-- Orders of least choices, by the pairs of the nodes.
+use Rattle.std.proofs.Common.{◌≡◌, ℕ, zero, suc, ◌+◌, ◌-◌, ◌*◌, ◌<◌, ◌≤◌, ◌⊎◌, inl, inr, List, [], ◌∷◌, length, set, get_or, cond, Bool, Option, Some, None, refl, sym, ap, ap₂, subst, ◌∙◌, arith}
+use Rattle.std.specs.Prelude.{◌↔◌, slice_set, replicate, IfSome}
+use Rattle.std.proofs.lemmas.Bool.{cases_eq, cases_lt, eq-eqb, lt-ltb, le-ltb, ne_eqb}
+use Rattle.std.proofs.lemmas.List.{ext_get_or, get_or-set_same, get_or-set_other, get_or-replicate}
+use Rattle.std.proofs.Math.ListN.{length-set}
+use Rattle.std.proofs.lemmas.Nat.Bits.{bit_at-zero}
+use Rattle.std.specs.Int.{bit_at}
+use Rattle.precedence.specs.Pairs.{HasBit}
+use Rattle.landing_rules.specs.Rules.{last_second}
+use Rattle.landing_rules.specs.Problem.{Problem}
+use Rattle.landing_rules.specs.FirstBest.{IsFirstBestList}
+use Rattle.landing_rules.specs.Flights.{Schedule}
+use Rattle.cps_theory.specs.RankLists.{IsRank, of_rank}
+use Rattle.cps_theory.specs.Separation.{Landing}
+use Rattle.cps_theory.specs.Feasible.{second_in}
+use Rattle.cps_theory.specs.Labels.{Pair}
+use Rattle.cps_theory.specs.LandingTrail.{cost_of, latest_landing, ranks}
+use Rattle.cps_theory.specs.laws.FrozenFront.{each_fits_distinct}
+use Rattle.cps_theory.specs.laws.LegalPrefix.{in_from_one, legal_each_fits}
+use Rattle.cps_theory.specs.laws.RanksOfList.{few_ranks}
+use Rattle.landing_joint.specs.RankedProblem.{no_waiting, ranked, cost_at, landing_after}
+use Rattle.landing_joint.specs.CompletingPairs.{AreCompletingPairs, AreLeastChoices, CanChoose, CanLandBy, IsLeastObjective, IsLegal, budget_of, seconds_by_rank}
+use Rattle.landing_joint.specs.shared.FirstBestLists.{list_of_at, list_of_long}
+use Rattle.landing_joint.specs.shared.LeastChoices.{choice_found, choices_first_best}
+use Rattle.cps_problem.specs.WellFormed.{IsWellFormed}
+use Rattle.cps_network.specs.Pairs.{list_at}
+use Rattle.replan.specs.Held.{HeldProblem}
+use Rattle.first_best.specs.declared.node.EarlyNode.{EarlyNode}
+use Rattle.first_best.specs.Nodes.{node_at, IsPrefixOf, IsReached, LeadsTo}
+use Rattle.first_best.specs.Completing.{IsCostFrom, IsLeastOf}
+use Rattle.first_best.specs.Choices.{lesser_choice, FindsAffordable, FindsWay, IsAffordable, IsChoice, IsLeastChoice}
+use Rattle.first_best.specs.Stages.{stage_of, AreCompleted, IsAheadOf, StageAhead}
+use Rattle.first_best.proofs.CompletingLemmas.{sound_of, listed_complete, IsListed}
+use Rattle.first_best.proofs.NodeLemmas.{leads_on, on_leads}
+
+-- ---- the least of the choices by the first nodes
+
+module _ (p : Problem) (budget : ℕ) (before : EarlyNode) (cost : ℕ) (nodes : List EarlyNode) (lists : List (List Pair)) where
+  -- the least choice of the first nodes, or what comes after every rank
+  pub record LeastUpto (j : ℕ) (least : Pair) : Type 0 where
+    pub known : (least ≡ (61, 0)) ⊎ IsChoice p budget before cost nodes lists least.0 least.1
+    pub low : (i t : ℕ) → i < j → LeadsTo before (node_at nodes i) → IsAffordable p budget before cost (node_at nodes i) (list_at lists i) t → least.0 ≤ (node_at nodes i).last
+
+  pub none_upto : LeastUpto 0 (61, 0)
+  none_upto = record { known = inl refl; low = λ i t lt. absurd (omega (arith, lt)) }
+
+  pub one_upto : (j : ℕ) (least : Pair) (found : Option ℕ) → j < length nodes → LeastUpto j least → FindsWay p budget before cost (node_at nodes j) (list_at lists j) found → LeastUpto (j + 1) (lesser_choice least (node_at nodes j).last found)
+  one_upto j least None lt u f = record {
+    known = u.known;
+    low = λ i t l leads a. elim (cases_eq i j) [
+      | inl e ↦ absurd (f t (subst (λ (n : ℕ). LeadsTo before (node_at nodes n)) e leads) (subst (λ (n : ℕ). IsAffordable p budget before cost (node_at nodes n) (list_at lists n) t) e a))
+      | inr ne ↦ u.low i t (omega (arith, l, ne)) leads a
+    ];
+  }
+  one_upto j least (Some s) lt u f = elim (cases_lt (node_at nodes j).last least.0) [
+    | inl less ↦ subst (LeastUpto (j + 1)) (sym (ap (λ (b : Bool). cond b ((node_at nodes j).last, s) least) (lt-ltb (node_at nodes j).last least.0 less))) (record {
+      known = inr (record { place = j; within = lt; last = refl; leads = f.0; affordable = f.1 });
+      low = λ i t l leads a. elim (cases_eq i j) [
+        | inl e ↦ (let same : (node_at nodes i).last ≡ (node_at nodes j).last = ap (λ (n : ℕ). (node_at nodes n).last) e in omega (arith, same))
+        | inr ne ↦ (let b = u.low i t (omega (arith, l, ne)) leads a in omega (arith, b, less))
+      ];
+    })
+    | inr more ↦ subst (LeastUpto (j + 1)) (sym (ap (λ (b : Bool). cond b ((node_at nodes j).last, s) least) (le-ltb (node_at nodes j).last least.0 more))) (record {
+      known = u.known;
+      low = λ i t l leads a. elim (cases_eq i j) [
+        | inl e ↦ (let same : (node_at nodes i).last ≡ (node_at nodes j).last = ap (λ (n : ℕ). (node_at nodes n).last) e in omega (arith, same, more))
+        | inr ne ↦ u.low i t (omega (arith, l, ne)) leads a
+      ];
+    })
+  ]
+
+  pub least_upto : (j : ℕ) (least : Pair) → j ≡ length nodes → ((i : ℕ) → i < length nodes → (node_at nodes i).last ≤ 60) → LeastUpto j least → IsLeastChoice p budget before cost nodes lists least
+  least_upto j least e few u r t c =
+      let low = u.low c.place t (let w = c.within in omega (arith, w, e)) c.leads c.affordable in
+      let last = c.last in
+      let most = few c.place c.within in
+      (elim u.known [ inl none ↦ absurd (let z : least.0 ≡ 61 = ap (λ (q : Pair). q.0) none in omega (arith, z, low, most)) | inr known ↦ known ], omega (arith, low, last))
+
+-- ---- the pairs that the nodes list
+
+abbrev pub Keeps : List StageAhead → List ℕ → Pair → Type 0
+Keeps stages rs q = IsListed (stage_of stages (length rs)).nodes (stage_of stages (length rs)).lists rs q
+
+-- the order so far
+pub record IsOrder (p : Problem) (v : ℕ) (stages : List StageAhead) (done : ℕ) (before : EarlyNode) (cost : ℕ) (schedule : Schedule) : Type 0 where
+  pub landings : List Landing
+  pub choices : AreLeastChoices p v (Keeps stages) landings
+  pub long : length landings ≡ done
+  pub of_node : IsPrefixOf (ranks landings) before
+  pub latest : latest_landing landings ≡ (before.last, before.earliest)
+  pub cost_is : cost_of (cost_at p) landings ≡ cost
+  pub seconds : (r : ℕ) → IsRank (length p.flights) r → of_rank 0 schedule r ≡ second_in landings r
+  pub room : length schedule ≡ length p.flights
+  pub last : before.last ≤ length p.flights
+  pub early : before.earliest ≤ last_second
+  pub small : cost ≤ 17279900 * done
+
+module _ (p : Problem) (wf : IsWellFormed p) (v : ℕ) (held : Option HeldProblem) (stages : List StageAhead) (a : IsAheadOf p v held stages) where
+  pub all_complete : AreCompletingPairs p v (Keeps stages)
+  all_complete x xs legal landed =
+      let rs = ranks (x ∷ xs) in
+      let placed = legal_each_fits (ranked p).rules rs legal in
+      let few : length rs ≤ length p.flights = few_ranks (length p.flights) rs (each_fits_distinct (ranked p).rules rs placed) (λ y i. in_from_one (ranked p).rules y rs placed i) in
+      let can : CanLandBy p rs x.1 = record { landings = x ∷ xs; legal = legal; landed = landed; one_node = record { stage = refl; placed = λ y. (λ i. i, λ i. i); latest = refl }; by = omega arith } in
+      listed_complete p v (length rs) (stage_of stages (length rs)).nodes (stage_of stages (length rs)).lists (a.completed (length rs) (omega arith) few) rs x.1 legal refl can
+
+  length_ranks : (xs : List Landing) → length (ranks xs) ≡ length xs
+  length_ranks [] = refl
+  length_ranks (x ∷ xs) = ap suc (length_ranks xs)
+
+  pub choices_legal : (xs : List Landing) → AreLeastChoices p v (Keeps stages) xs → IsLegal p (ranks xs)
+  choices_legal [] c = tt
+  choices_legal (x ∷ xs) c = c.0.legal
+
+  -- ---- a choice by the nodes of the next stage is one by what they list
+
+  module _ (xs : List Landing) (legal : IsLegal p (ranks xs)) (done : ℕ) (long : length xs ≡ done) (short : done < length p.flights) (before : EarlyNode) (of : IsPrefixOf (ranks xs) before) (latest : latest_landing xs ≡ (before.last, before.earliest)) (cost : ℕ) (cost_is : cost_of (cost_at p) xs ≡ cost) where
+    next : StageAhead
+    next = stage_of stages (done + 1)
+
+    one_more : (r : ℕ) → length (r ∷ ranks xs) ≡ done + 1
+    one_more r = (let e = length_ranks xs in omega (arith, e, long))
+
+    completed : AreCompleted p v (done + 1) (stage_of stages (done + 1)).nodes (stage_of stages (done + 1)).lists
+    completed = a.completed (done + 1) (omega arith) (omega (arith, short))
+
+    abbrev IsNext : ℕ → ℕ → Type 0
+    IsNext r t = IsChoice p (budget_of p v) before cost (stage_of stages (done + 1)).nodes (stage_of stages (done + 1)).lists r t
+
+    pub to_choose : (r t : ℕ) → IsNext r t → CanChoose p v (Keeps stages) xs r t
+    to_choose r t c =
+        let nodes = (stage_of stages (done + 1)).nodes in
+        let after = node_at nodes c.place in
+        let f = c.affordable in
+        let on = leads_on p (ranks xs) legal before after of c.leads (subst (λ (s : ℕ). IsReached p s after) (let e = length_ranks xs in let g : done + 1 ≡ suc (length (ranks xs)) = omega (arith, e, long) in g) (completed.are_nodes.reached c.place c.within)) in
+        subst (λ (n : ℕ). CanChoose p v (Keeps stages) xs n t) c.last (record {
+          legal = on.0;
+          lands = ap (λ (l : Landing). landing_after p l.0 l.1 after.last) latest ∙ f.lands;
+          pair = f.pair;
+          kept = subst (λ (s : ℕ). IsListed (stage_of stages s).nodes (stage_of stages s).lists (after.last ∷ ranks xs) f.pair) (sym (one_more after.last)) (record { place = c.place; within = c.within; of_node = on.1; listed = f.listed });
+          in_time = f.in_time;
+          cheap = (let h = f.cheap in omega (arith, h, cost_is));
+        })
+
+    pub from_choose : (r t : ℕ) → CanChoose p v (Keeps stages) xs r t → IsNext r t
+    from_choose r t c =
+        let k : IsListed (stage_of stages (done + 1)).nodes (stage_of stages (done + 1)).lists (r ∷ ranks xs) c.pair = subst (λ (s : ℕ). IsListed (stage_of stages s).nodes (stage_of stages s).lists (r ∷ ranks xs) c.pair) (one_more r) c.kept in
+        let after = node_at (stage_of stages (done + 1)).nodes k.place in
+        let same : r ≡ after.last = k.of_node.last in
+        let price : cost_at p r t ≡ cost_at p after.last t = ap (λ (n : ℕ). cost_at p n t) same in
+        record {
+          place = k.place;
+          within = k.within;
+          last = sym same;
+          leads = on_leads p (ranks xs) r before after c.legal of k.of_node;
+          affordable = record {
+            lands = ap (λ (l : Landing). landing_after p l.0 l.1 after.last) (sym latest) ∙ ap (λ (n : ℕ). landing_after p (latest_landing xs).0 (latest_landing xs).1 n) (sym same) ∙ c.lands;
+            pair = c.pair;
+            listed = k.listed;
+            in_time = c.in_time;
+            cheap = (let h = c.cheap in omega (arith, h, cost_is, price));
+          };
+        }
+
+  pub no_order : (schedule : Schedule) → schedule ≡ replicate (length p.flights) 0 → length schedule ≡ length p.flights → IsOrder p v stages 0 (record { placed = 0; last = 0; earliest = 0 }) 0 schedule
+  no_order schedule blank room = record {
+    landings = [];
+    choices = tt;
+    long = refl;
+    of_node = record { placed = λ x. (λ h. absurd (let z : bit_at 0 x ≡ 0 = bit_at-zero x in omega (arith, h, z)), λ i. absurd i); last = refl };
+    latest = refl;
+    cost_is = refl;
+    seconds = zeros;
+    room = room;
+    last = omega arith;
+    early = omega arith;
+    small = omega arith;
+  }
+    where
+      zeros : (r : ℕ) → IsRank (length p.flights) r → of_rank 0 schedule r ≡ 0
+      zeros zero q = absurd (let b = q.0 in omega (arith, b))
+      zeros (suc i) q = ap (λ (t : Schedule). get_or t i 0) blank ∙ get_or-replicate (length p.flights) i 0 0 (let b = q.1 in omega (arith, b))
+
+  passed_at : (r : ℕ) → IsRank (length p.flights) r → (of_rank no_waiting p.flights r).passed ≤ p.k
+  passed_at zero q = absurd (let b = q.0 in omega (arith, b))
+  passed_at (suc i) q = (let e : (of_rank no_waiting p.flights (suc i)).passed ≡ 0 = wf.none_passed i no_waiting (let b = q.1 in omega (arith, b)) in omega (arith, e))
+
+  module _ (value_is : IsLeastObjective p v) (done : ℕ) (before : EarlyNode) (cost : ℕ) (schedule : Schedule) (o : IsOrder p v stages done before cost schedule) where
+    -- the least choice of the nodes of the next stage is one, and none is less
+    pub next_choice : done < length p.flights → (least : Pair) → IsLeastChoice p (budget_of p v) before cost (stage_of stages (done + 1)).nodes (stage_of stages (done + 1)).lists least
+        → CanChoose p v (Keeps stages) o.landings least.0 least.1 × ((r t : ℕ) → CanChoose p v (Keeps stages) o.landings r t → least.0 ≤ r)
+    next_choice short least is =
+        let xs = o.landings in
+        let legal = choices_legal xs o.choices in
+        let into = from_choose xs legal done o.long short before o.of_node o.latest cost o.cost_is in
+        let c = choice_found p (sound_of p wf) passed_at v value_is (Keeps stages) all_complete xs o.choices (let l = o.long in omega (arith, short, l)) in (
+          to_choose xs legal done o.long short before o.of_node o.latest cost o.cost_is least.0 least.1 (is c.0 c.1 (into c.0 c.1 c.2)).0,
+          λ r t d. (is r t (into r t d)).1,
+        )
+
+    -- the same as the code finds it
+    pub chosen_by : done < length p.flights → (least : Pair) (budget : ℕ) → budget ≡ budget_of p v → (stage : StageAhead) → stage ≡ stage_of stages (done + 1) → IsLeastChoice p budget before cost stage.nodes stage.lists least
+        → CanChoose p v (Keeps stages) o.landings least.0 least.1 × ((r t : ℕ) → CanChoose p v (Keeps stages) o.landings r t → least.0 ≤ r)
+    chosen_by short least budget b stage s is =
+        next_choice short least (subst (λ (t : StageAhead). IsLeastChoice p (budget_of p v) before cost t.nodes t.lists least) s (subst (λ (n : ℕ). IsLeastChoice p n before cost stage.nodes stage.lists least) b is))
+
+    pub one_landing : (r t : ℕ) → CanChoose p v (Keeps stages) o.landings r t → ((q u : ℕ) → CanChoose p v (Keeps stages) o.landings q u → r ≤ q) → t ≤ last_second → (after : EarlyNode) → ((x : ℕ) → HasBit after.placed x ↔ (HasBit before.placed x ⊎ (x ≡ r))) → after.last ≡ r → after.earliest ≡ t
+        → (price : ℕ) → price ≡ cost_at p r t → price ≤ 17279900 → IsOrder p v stages (done + 1) after (cost + price) (slice_set schedule (r - 1) t)
+    one_landing r t can least days after placed last earliest price is few = record {
+      landings = (r, t) ∷ o.landings;
+      choices = (can, least, o.choices);
+      long = (let l = o.long in omega (arith, l));
+      of_node = record {
+        placed = λ x. (
+          λ h. elim ((placed x).0 h) [ inl b ↦ inr ((o.of_node.placed x).0 b) | inr e ↦ inl e ],
+          λ i. (placed x).1 (elim i [ inl e ↦ inr e | inr j ↦ inl ((o.of_node.placed x).1 j) ]),
+        );
+        last = sym last;
+      };
+      latest = ap₂ (λ (m n : ℕ). (m, n)) (sym last) (sym earliest);
+      cost_is = ap₂ (λ (m n : ℕ). m + n) o.cost_is (sym is);
+      seconds = seconds;
+      room = length-set schedule (r - 1) t ∙ o.room;
+      last = (let b = can.legal.0.fits.to_count in omega (arith, b, last));
+      early = omega (arith, days, earliest);
+      small = (let b = o.small in omega (arith, b, few));
+    }
+      where
+        seconds : (q : ℕ) → IsRank (length p.flights) q → of_rank 0 (slice_set schedule (r - 1) t) q ≡ second_in ((r, t) ∷ o.landings) q
+        seconds zero q = absurd (let b = q.0 in omega (arith, b))
+        seconds (suc i) q = elim (cases_eq (suc i) r) [
+          | inl e ↦
+              let at : r - 1 ≡ i = omega (arith, e) in
+              let within = q.1 in
+              let room = o.room in
+              ap (λ (n : ℕ). get_or (set schedule n t) i 0) at ∙ get_or-set_same schedule i t 0 (omega (arith, within, room)) ∙ sym (ap (λ (b : Bool). cond b t (second_in o.landings (suc i))) (eq-eqb (suc i) r e))
+          | inr ne ↦ get_or-set_other schedule (r - 1) i t 0 (λ e. ne (let one = can.legal.0.fits.from_one in omega (arith, e, one))) ∙ o.seconds (suc i) q ∙ sym (ap (λ (b : Bool). cond b t (second_in o.landings (suc i))) (ne_eqb (suc i) r ne))
+        ]
+
+    -- with all landings it is the first best list
+    pub whole_order : done ≡ length p.flights → IsFirstBestList p schedule
+    whole_order e = subst (IsFirstBestList p) (sym same) (choices_first_best p (sound_of p wf) passed_at v value_is (Keeps stages) all_complete o.landings o.choices (o.long ∙ e))
+      where
+        at : (i : ℕ) → i < length schedule → get_or schedule i 0 ≡ get_or (seconds_by_rank p o.landings) i 0
+        at i lt =
+            let q : IsRank (length p.flights) (suc i) = (omega arith, let room = o.room in omega (arith, lt, room)) in
+            o.seconds (suc i) q ∙ sym (list_of_at (length p.flights) (second_in o.landings) (suc i) q)
+
+        same : schedule ≡ seconds_by_rank p o.landings
+        same = ext_get_or 0 schedule (seconds_by_rank p o.landings) (o.room ∙ sym (list_of_long (length p.flights) (second_in o.landings))) at
+
+-- ---- one node
+
+module _ (p : Problem) (budget : ℕ) (before : EarlyNode) (cost : ℕ) (after : EarlyNode) (pairs : List Pair) (second : ℕ) (lands : landing_after p before.last before.earliest after.last ≡ Some second) where
+  same_second : (t : ℕ) → IsAffordable p budget before cost after pairs t → t ≡ second
+  same_second t a = (let e = sym a.lands ∙ lands in one e)
+    where
+      one : {x y : ℕ} → ◌≡◌ {A = Option ℕ} (Some x) (Some y) → x ≡ y
+      one e = cc
+
+  pub never_in_time : IsLeastOf (IsCostFrom pairs second) None → (t : ℕ) → IsAffordable p budget before cost after pairs t → ⊥
+  never_in_time none t a = none a.pair.1 (a.pair, a.listed, (let e = same_second t a in let l = a.in_time in omega (arith, e, l)), refl)
+
+  pub too_dear : (rest : ℕ) → IsLeastOf (IsCostFrom pairs second) (Some rest) → budget < cost + cost_at p after.last second + rest → (t : ℕ) → IsAffordable p budget before cost after pairs t → ⊥
+  too_dear rest least over t a =
+      let e = same_second t a in
+      let l = a.in_time in
+      let b = least.1 a.pair.1 (a.pair, a.listed, omega (arith, e, l), refl) in
+      let price : cost_at p after.last t ≡ cost_at p after.last second = ap (cost_at p after.last) e in
+      let cheap = a.cheap in
+      omega (arith, b, price, cheap, over)
+
+pub with_way : (p : Problem) (budget : ℕ) (before : EarlyNode) (cost : ℕ) (after : EarlyNode) (pairs : List Pair) → LeadsTo before after → (found : Option ℕ) → FindsAffordable p budget before cost after pairs found → FindsWay p budget before cost after pairs found
+with_way p budget before cost after pairs leads None f = λ t l a. f t a
+with_way p budget before cost after pairs leads (Some t) f = (leads, f)
+
+pub lesser_days : (most : ℕ) (least : Pair) (rank : ℕ) (found : Option ℕ) → least.1 ≤ most → IfSome found (λ t. t ≤ most) → (lesser_choice least rank found).1 ≤ most
+lesser_days most least rank None l f = l
+lesser_days most least rank (Some t) l f = elim (cases_lt rank least.0) [
+  | inl less ↦ subst (λ (q : Pair). q.1 ≤ most) (sym (ap (λ (b : Bool). cond b (rank, t) least) (lt-ltb rank least.0 less))) f
+  | inr more ↦ subst (λ (q : Pair). q.1 ≤ most) (sym (ap (λ (b : Bool). cond b (rank, t) least) (le-ltb rank least.0 more))) l
+]

@@ -1,0 +1,157 @@
+-- The pairs of the nodes of a stage complete them, where those of the next stage do.
+use Rattle.std.proofs.Common.{◌≡◌, ℕ, suc, ◌+◌, ◌-◌, ◌<◌, inl, inr, List, [], ◌∷◌, length, true, refl, sym, ap, subst, ◌∙◌, arith}
+use Rattle.std.proofs.lemmas.Bool.{cases_lt}
+use Rattle.std.proofs.lemmas.List.{get_or_past}
+use Rattle.landing_rules.specs.Problem.{Problem}
+use Rattle.cps_theory.specs.Feasible.{SoundProblem}
+use Rattle.cps_theory.specs.Labels.{InPairs, Pair}
+use Rattle.cps_theory.specs.LandingTrail.{last_rank, ranks}
+use Rattle.cps_theory.specs.CompletingPairs.{KeptCompleting}
+use Rattle.landing_joint.specs.RankedProblem.{ranked, cost_at, landing_after}
+use Rattle.landing_joint.specs.CompletingPairs.{CanLandBy, IsCompletingPair, IsLegal, IsSuccessorPair}
+use Rattle.landing_joint.specs.shared.RankedLists.{sound_ranked}
+use Rattle.landing_joint.specs.shared.SuccessorPairs.{last_pairs, successor_pairs}
+use Rattle.cps_problem.specs.WellFormed.{IsWellFormed}
+use Rattle.cps_network.specs.Pairs.{list_at}
+use Rattle.first_best.specs.declared.node.EarlyNode.{EarlyNode}
+use Rattle.first_best.specs.Nodes.{node_at, AreNodesOf, IsPrefixOf, IsReached}
+use Rattle.first_best.specs.Completing.{AreInReach, ArePairsOf, AreListsOf, IsEnd, IsPairOf, Rises}
+use Rattle.first_best.specs.Stages.{AreCompleted, IsBehind, StageAhead}
+use Rattle.first_best.specs.Ranges.{IsNextIn}
+use Rattle.first_best.proofs.NodeLemmas.{by_lands, lands_by, leads_on, node_one, on_leads, rank_of}
+
+pub sound_of : (p : Problem) → IsWellFormed p → SoundProblem (ranked p)
+sound_of p wf = sound_ranked p wf.table (λ q r b. let a = wf.between_ranks q r b in (a.0, a.1))
+
+-- some node of the stage lists the pair for a prefix of it
+pub record IsListed (nodes : List EarlyNode) (lists : List (List Pair)) (rs : List ℕ) (q : Pair) : Type 0 where
+  pub place : ℕ
+  pub within : place < length nodes
+  pub of_node : IsPrefixOf rs (node_at nodes place)
+  pub listed : InPairs q (list_at lists place)
+
+-- the listed pairs complete each prefix that can land
+pub listed_complete : (p : Problem) (v stage : ℕ) (nodes : List EarlyNode) (lists : List (List Pair)) → AreCompleted p v stage nodes lists → (rs : List ℕ) (b : ℕ) → IsLegal p rs → length rs ≡ stage → CanLandBy p rs b → KeptCompleting (IsCompletingPair p v rs) (IsListed nodes lists rs)
+listed_complete p v stage nodes lists c rs b legal long can =
+    let e = c.are_nodes.every can.landings (record { legal = can.legal; landed = can.landed; long = can.one_node.stage ∙ long }) in
+    let of : IsPrefixOf rs (node_at nodes e.0) = node_one (ranks can.landings) rs (node_at nodes e.0) (record { stage = sym can.one_node.stage; placed = λ x. let a = can.one_node.placed x in (a.1, a.0); latest = sym can.one_node.latest }) e.2 in
+    record {
+      completes = λ q k. (c.kept k.place rs k.within legal long k.of_node).completes q k.listed;
+      covers = λ q h. (let a = (c.kept e.0 rs e.1 legal long of).covers q h in (a.0, record { place = e.0; within = e.1; of_node = of; listed = a.1 }, a.2));
+    }
+
+module _ (p : Problem) (wf : IsWellFormed p) (v stage : ℕ) (these : List EarlyNode) (are : AreNodesOf p stage these) (j : ℕ) (lt : j < length these) (rs : List ℕ) (legal : IsLegal p rs) (long : length rs ≡ stage) (of : IsPrefixOf rs (node_at these j)) (nodes : List EarlyNode) (lists : List (List Pair)) (pairs : List Pair) (made : ArePairsOf p v stage (node_at these j) nodes lists pairs) where
+  opened_last : (b : ℕ) → (ranked p).is_open (node_at these j).last b ≡ true → (ranked p).is_open (last_rank rs) b ≡ true
+  opened_last b o = subst (λ (r : ℕ). (ranked p).is_open r b ≡ true) (sym of.last) o
+
+  last_opened : (b : ℕ) → (ranked p).is_open (last_rank rs) b ≡ true → (ranked p).is_open (node_at these j).last b ≡ true
+  last_opened b o = subst (λ (r : ℕ). (ranked p).is_open r b ≡ true) of.last o
+
+  -- at the last stage
+  pub last_complete : stage ≡ length p.flights → KeptCompleting (IsCompletingPair p v rs) (λ q. InPairs q pairs)
+  last_complete whole = last_pairs p (sound_of p wf) v rs legal (λ q. InPairs q pairs) (long ∙ whole) (record {
+    are = λ q i.
+        let h = made.are q i in
+        record { opened = opened_last q.0 h.opened; reached = lands_by p stage these are j lt rs long of q.0 h.reached; low = h.low; cost_is = free q.0 q.1 h.end };
+    cover = λ q l. made.cover q (record { opened = last_opened q.0 l.opened; reached = by_lands p stage these are j lt rs long of q.0 l.reached; low = l.low; end = inl (whole, l.cost_is) });
+  })
+    where
+      free : (b c : ℕ) → IsEnd p stage (node_at these j) nodes lists b c → c ≡ 0
+      free b c (inl e) = e.1
+      free b c (inr e) = absurd (let a = e.0 in omega (arith, a, whole))
+
+  module _ (short : stage < length p.flights) (next : AreCompleted p v (stage + 1) nodes lists) where
+    one_more : (r : ℕ) → length (r ∷ rs) ≡ stage + 1
+    one_more r = omega (arith, long)
+
+    reached_next : (m : ℕ) → m < length nodes → IsReached p (suc (length rs)) (node_at nodes m)
+    reached_next m l = subst (λ (s : ℕ). IsReached p s (node_at nodes m)) (let e : stage + 1 ≡ suc (length rs) = omega (arith, long) in e) (next.are_nodes.reached m l)
+
+    of_pair : (q : Pair) → IsPairOf p v stage (node_at these j) nodes lists q → IsSuccessorPair p v (IsListed nodes lists) rs q
+    of_pair q h = go h.end
+      where
+        go : IsEnd p stage (node_at these j) nodes lists q.0 q.1 → IsSuccessorPair p v (IsListed nodes lists) rs q
+        go (inl e) = absurd (let a = e.0 in omega (arith, a, short))
+        go (inr (_, w)) =
+            let on = leads_on p rs legal (node_at these j) (node_at nodes w.place) of w.leads (reached_next w.place w.within) in
+            record {
+              opened = opened_last q.0 h.opened;
+              reached = lands_by p stage these are j lt rs long of q.0 h.reached;
+              low = h.low;
+              rank = (node_at nodes w.place).last;
+              second = w.way.lands_at;
+              pair = w.way.pair;
+              legal = on.0;
+              lands = ap (λ (r : ℕ). landing_after p r q.0 (node_at nodes w.place).last) of.last ∙ w.way.lands;
+              kept = record { place = w.place; within = w.within; of_node = on.1; listed = w.way.listed };
+              in_time = w.way.in_time;
+              cost_is = w.way.cost_is;
+            }
+
+    to_pair : (q : Pair) → IsSuccessorPair p v (IsListed nodes lists) rs q → IsPairOf p v stage (node_at these j) nodes lists q
+    to_pair q s =
+        let k = s.kept in
+        let same : s.rank ≡ (node_at nodes k.place).last = k.of_node.last in
+        record {
+          opened = last_opened q.0 s.opened;
+          reached = by_lands p stage these are j lt rs long of q.0 s.reached;
+          low = s.low;
+          end = inr (
+            short,
+            record {
+              place = k.place;
+              within = k.within;
+              leads = on_leads p rs s.rank (node_at these j) (node_at nodes k.place) s.legal of k.of_node;
+              way = record {
+                lands_at = s.second;
+                lands = ap (λ (r : ℕ). landing_after p (node_at these j).last q.0 r) (sym same) ∙ ap (λ (r : ℕ). landing_after p r q.0 s.rank) (sym of.last) ∙ s.lands;
+                pair = s.pair;
+                listed = k.listed;
+                in_time = s.in_time;
+                cost_is = ap (λ (r : ℕ). cost_at p r s.second + s.pair.1) (sym same) ∙ s.cost_is;
+              };
+            },
+          );
+        }
+
+    -- and before it
+    pub before_complete : KeptCompleting (IsCompletingPair p v rs) (λ q. InPairs q pairs)
+    before_complete =
+        successor_pairs p (sound_of p wf) v rs legal (λ q. InPairs q pairs) (IsListed nodes lists) (omega (arith, long, short))
+        (λ r b l can. listed_complete p v (stage + 1) nodes lists next (r ∷ rs) b l (one_more r) can)
+        (record { are = λ q i. of_pair q (made.are q i); cover = λ q s. made.cover q (to_pair q s) })
+
+-- the lists that are made of those of the next stage complete the nodes of a stage
+pub lists_complete : (p : Problem) → IsWellFormed p → (v stage : ℕ) (these : List EarlyNode) (made : List (List Pair)) (next : StageAhead) → AreNodesOf p stage these → IsBehind p v stage next → AreListsOf p v stage these next.nodes next.lists made → AreCompleted p v stage these made
+lists_complete p wf v stage these made next are behind lists = record {
+  are_nodes = are;
+  one_each = lists.one_each;
+  kept = λ j rs lt legal long of. kept j rs lt legal long of behind;
+  rising = rising;
+  in_reach = in_reach;
+}
+  where
+    kept : (j : ℕ) (rs : List ℕ) → j < length these → IsLegal p rs → length rs ≡ stage → IsPrefixOf rs (node_at these j) → IsBehind p v stage next → KeptCompleting (IsCompletingPair p v rs) (λ q. InPairs q (list_at made j))
+    kept j rs lt legal long of (inl last) = last_complete p wf v stage these are j lt rs legal long of next.nodes next.lists (list_at made j) (lists.pairs j lt) last.0
+    kept j rs lt legal long of (inr more) = before_complete p wf v stage these are j lt rs legal long of next.nodes next.lists (list_at made j) (lists.pairs j lt) more.0 more.1
+
+    rising : (j : ℕ) → Rises (list_at made j)
+    rising j = elim (cases_lt j (length these)) [ inl lt ↦ (lists.pairs j lt).rising | inr ge ↦ subst Rises (sym (get_or_past made j [] (let e = lists.one_each in omega (arith, ge, e)))) tt ]
+
+    in_reach : (j : ℕ) → AreInReach (length p.flights - stage) (list_at made j)
+    in_reach j = elim (cases_lt j (length these)) [ inl lt ↦ (lists.pairs j lt).in_reach | inr ge ↦ subst (AreInReach (length p.flights - stage)) (sym (get_or_past made j [] (let e = lists.one_each in omega (arith, ge, e)))) (λ q i. absurd i) ]
+
+-- what stands behind a stage has numbers in range
+pub behind_ranges : (p : Problem) (v stage : ℕ) (next : StageAhead) → IsBehind p v stage next → IsNextIn p stage next
+behind_ranges p v stage next (inl last) = subst (IsNextIn p stage) (sym last.1) (record {
+  one_each = refl;
+  ranks = λ j lt. absurd (omega (arith, lt));
+  rising = λ j. tt;
+  in_reach = λ j left e q i. absurd i;
+})
+behind_ranges p v stage next (inr more) = record {
+  one_each = more.1.one_each;
+  ranks = λ j lt. rank_of p (stage + 1) (node_at next.nodes j) (omega arith) (more.1.are_nodes.reached j lt);
+  rising = more.1.rising;
+  in_reach = λ j left e. subst (λ (n : ℕ). AreInReach n (list_at next.lists j)) (let d : length p.flights - (stage + 1) ≡ left = omega (arith, e) in d) (more.1.in_reach j);
+}

@@ -1,0 +1,167 @@
+-- Lists of pairs that rise or fall, and least costs.
+use Rattle.std.proofs.Common.{◌≡◌, ℕ, suc, ◌+◌, ◌-◌, ◌<◌, ◌≤◌, ◌⊎◌, inl, inr, zero, List, [], ◌∷◌, ◌++◌, length, reverse, refl, sym, ap, subst, ◌∙◌, arith}
+use Rattle.std.specs.Prelude.{◌↔◌, Option, Some, None, IfSome, min}
+use Rattle.std.proofs.lemmas.Bool.{cases_eq, cases_lt}
+use Rattle.std.proofs.lemmas.List.{reverse-append}
+use Rattle.cps_theory.specs.Labels.{InPairs, Pair}
+use Rattle.cps_theory.specs.CompletingPairs.{KeptCompleting, NoEarlierNoDearer, UndominatedCompleting}
+use Rattle.cps_theory.specs.laws.CompletingPairs.{completing_undominated, undominated_completing}
+use Rattle.landing_joint.specs.RankedProblem.{earlier_of}
+use Rattle.cps_network.specs.Pairs.{pair_at}
+use Rattle.cps_network.specs.shared.PairLists.{in_append, in_left, in_right}
+use Rattle.cps_network.specs.shared.PairSteps.{at_in, in_at}
+use Rattle.first_best.specs.Completing.{Falls, IsCostFrom, IsLeastOf, Rises}
+
+-- of pairs that rise none is at least as late and at most as dear as another
+pub rises_apart : (xs : List Pair) → Rises xs → (q o : Pair) → InPairs q xs → InPairs o xs → NoEarlierNoDearer q o → q ≡ o
+rises_apart [] r q o i j n = absurd i
+rises_apart (x ∷ xs) r q o (inl e) (inl f) n = e ∙ sym f
+rises_apart (x ∷ xs) r q o (inl e) (inr j) n =
+    let a = (r.0 o j).0 in
+    let b = n.0 in
+    let c : q.0 ≡ x.0 = ap (λ (z : Pair). z.0) e in
+    absurd (omega (arith, a, b, c))
+rises_apart (x ∷ xs) r q o (inr i) (inl f) n =
+    let a = (r.0 q i).1 in
+    let b = n.1 in
+    let c : o.1 ≡ x.1 = ap (λ (z : Pair). z.1) f in
+    absurd (omega (arith, a, b, c))
+rises_apart (x ∷ xs) r q o (inr i) (inr j) n = rises_apart xs r.1 q o i j n
+
+-- completing pairs that rise are the undominated ones
+pub rises_undominated : (C : Pair → Type 0) (xs : List Pair) → Rises xs → KeptCompleting C (λ q. InPairs q xs) → (q : Pair) → InPairs q xs ↔ UndominatedCompleting C q
+rises_undominated C xs r k q = (
+  λ i. completing_undominated C (λ o. InPairs o xs) k (rises_apart xs r) q i,
+  λ u. undominated_completing C (λ o. InPairs o xs) k q u,
+)
+
+-- ---- one more, and the other way round
+
+pub falls_more : (xs : List Pair) (q : Pair) → Falls xs → ((o : Pair) → InPairs o xs → (q.0 < o.0) × (q.1 < o.1)) → Falls (xs ++ q ∷ [])
+falls_more [] q f h = (λ o i. absurd i, tt)
+falls_more (x ∷ xs) q f h = (
+  λ o i. elim (in_append o xs (q ∷ []) i) [
+    | inl a ↦ f.0 o a
+    | inr b ↦ elim b [ inl e ↦ subst (λ (z : Pair). (z.0 < x.0) × (z.1 < x.1)) (sym e) (h x (inl refl)) | inr none ↦ absurd none ]
+  ],
+  falls_more xs q f.1 (λ o i. h o (inr i)),
+)
+
+pub rises_more : (xs : List Pair) (q : Pair) → Rises xs → ((o : Pair) → InPairs o xs → (o.0 < q.0) × (o.1 < q.1)) → Rises (xs ++ q ∷ [])
+rises_more [] q f h = (λ o i. absurd i, tt)
+rises_more (x ∷ xs) q f h = (
+  λ o i. elim (in_append o xs (q ∷ []) i) [
+    | inl a ↦ f.0 o a
+    | inr b ↦ elim b [ inl e ↦ subst (λ (z : Pair). (x.0 < z.0) × (x.1 < z.1)) (sym e) (h x (inl refl)) | inr none ↦ absurd none ]
+  ],
+  rises_more xs q f.1 (λ o i. h o (inr i)),
+)
+
+reverse_front : (x : Pair) (xs : List Pair) → reverse (x ∷ xs) ≡ reverse xs ++ x ∷ []
+reverse_front x xs = reverse-append (x ∷ []) xs
+
+pub in_reversed : (xs : List Pair) (q : Pair) → InPairs q (reverse xs) → InPairs q xs
+in_reversed [] q i = i
+in_reversed (x ∷ xs) q i = elim (in_append q (reverse xs) (x ∷ []) (subst (InPairs q) (reverse_front x xs) i)) [
+  | inl a ↦ inr (in_reversed xs q a)
+  | inr b ↦ elim b [ inl e ↦ inl e | inr none ↦ absurd none ]
+]
+
+pub reversed_in : (xs : List Pair) (q : Pair) → InPairs q xs → InPairs q (reverse xs)
+reversed_in [] q i = i
+reversed_in (x ∷ xs) q (inl e) = subst (InPairs q) (sym (reverse_front x xs)) (in_right q (reverse xs) (x ∷ []) (inl e))
+reversed_in (x ∷ xs) q (inr i) = subst (InPairs q) (sym (reverse_front x xs)) (in_left q (reverse xs) (x ∷ []) (reversed_in xs q i))
+
+pub falls_rises : (xs : List Pair) → Falls xs → Rises (reverse xs)
+falls_rises [] f = tt
+falls_rises (x ∷ xs) f = subst Rises (sym (reverse_front x xs)) (rises_more (reverse xs) x (falls_rises xs f.1) (λ o i. f.0 o (in_reversed xs o i)))
+
+-- ---- least costs
+
+pub least_same : (P Q : ℕ → Type 0) (o : Option ℕ) → ((c : ℕ) → P c ↔ Q c) → IsLeastOf P o → IsLeastOf Q o
+least_same P Q None h l = λ c q. l c ((h c).1 q)
+least_same P Q (Some x) h l = ((h x).0 l.0, λ d q. l.1 d ((h d).1 q))
+
+pub least_either : (P Q : ℕ → Type 0) (a b : Option ℕ) → IsLeastOf P a → IsLeastOf Q b → IsLeastOf (λ c. P c ⊎ Q c) (earlier_of a b)
+least_either P Q None None l m = λ c h. elim h [ inl x ↦ l c x | inr y ↦ m c y ]
+least_either P Q None (Some y) l m = (inr m.0, λ d h. elim h [ inl x ↦ absurd (l d x) | inr z ↦ m.1 d z ])
+least_either P Q (Some x) None l m = (inl l.0, λ d h. elim h [ inl z ↦ l.1 d z | inr z ↦ absurd (m d z) ])
+least_either P Q (Some x) (Some y) l m = (
+  elim (cases_lt x y) [
+    | inl lt ↦ inl (subst P (let e : x ≡ min x y = omega (arith, lt) in e) l.0)
+    | inr le ↦ inr (subst Q (let e : y ≡ min x y = omega (arith, le) in e) m.0)
+  ],
+  λ d h. elim h [ inl z ↦ (let a = l.1 d z in omega (arith, a)) | inr z ↦ (let a = m.1 d z in omega (arith, a)) ],
+)
+
+pub small_either : (most : ℕ) (a b : Option ℕ) → IfSome a (λ c. c ≤ most) → IfSome b (λ c. c ≤ most) → IfSome (earlier_of a b) (λ c. c ≤ most)
+small_either most None b l m = m
+small_either most (Some x) None l m = l
+small_either most (Some x) (Some y) l m = omega (arith, l, m)
+
+-- ---- by places
+
+pub rises_at : (xs : List Pair) → Rises xs → (i j : ℕ) → i < j → j < length xs → ((pair_at xs i).0 < (pair_at xs j).0) × ((pair_at xs i).1 < (pair_at xs j).1)
+rises_at [] r i j lt l = absurd (omega (arith, l))
+rises_at (x ∷ xs) r i zero lt l = absurd (omega (arith, lt))
+rises_at (x ∷ xs) r zero (suc j) lt l = r.0 (pair_at xs j) (at_in xs j (pair_at xs j) (omega (arith, l)) refl)
+rises_at (x ∷ xs) r (suc i) (suc j) lt l = rises_at xs r.1 i j (omega (arith, lt)) (omega (arith, l))
+
+pub last_most : (xs : List Pair) → Rises xs → (q : Pair) → InPairs q xs → q.0 ≤ (pair_at xs (length xs - 1)).0
+last_most xs r q i =
+    let a = in_at q xs i in
+    let at : (pair_at xs a.0).0 ≡ q.0 = ap (λ (z : Pair). z.0) a.2 in
+    let within = a.1 in
+    elim (cases_eq a.0 (length xs - 1)) [
+      | inl e ↦ (let same : (pair_at xs a.0).0 ≡ (pair_at xs (length xs - 1)).0 = ap (λ (n : ℕ). (pair_at xs n).0) e in omega (arith, at, same))
+      | inr ne ↦ (let less = (rises_at xs r a.0 (length xs - 1) (omega (arith, within, ne)) (omega (arith, within))).0 in omega (arith, at, less))
+    ]
+
+-- the first pair at or after a second is the cheapest of those
+pub cost_found : (xs : List Pair) → Rises xs → (second j : ℕ) → j < length xs → second ≤ (pair_at xs j).0 → ((i : ℕ) → i < j → (pair_at xs i).0 < second) → IsLeastOf (IsCostFrom xs second) (Some (pair_at xs j).1)
+cost_found xs r second j lt late below = (
+  (pair_at xs j, at_in xs j (pair_at xs j) lt refl, late, refl),
+  λ d h.
+      let a = in_at h.0 xs h.1 in
+      let at : (pair_at xs a.0).0 ≡ h.0.0 = ap (λ (z : Pair). z.0) a.2 in
+      let is : (pair_at xs a.0).1 ≡ h.0.1 = ap (λ (z : Pair). z.1) a.2 in
+      let le = h.2 in
+      let cost = h.3 in
+      elim (cases_lt a.0 j) [
+        | inl less ↦ (let b = below a.0 less in absurd (omega (arith, b, at, le)))
+        | inr more ↦ elim (cases_eq a.0 j) [
+          | inl e ↦ (let same : (pair_at xs a.0).1 ≡ (pair_at xs j).1 = ap (λ (n : ℕ). (pair_at xs n).1) e in omega (arith, same, is, cost))
+          | inr ne ↦ (let b = (rises_at xs r j a.0 (omega (arith, more, ne)) a.1).1 in omega (arith, b, is, cost))
+        ]
+      ],
+)
+
+pub none_found : (xs : List Pair) (second j : ℕ) → length xs ≤ j → ((i : ℕ) → i < j → (pair_at xs i).0 < second) → IsLeastOf (IsCostFrom xs second) None
+none_found xs second j le below = λ c h.
+    let a = in_at h.0 xs h.1 in
+    let at : (pair_at xs a.0).0 ≡ h.0.0 = ap (λ (z : Pair). z.0) a.2 in
+    let within = a.1 in
+    let b = below a.0 (omega (arith, within, le)) in
+    let late = h.2 in
+    absurd (omega (arith, at, b, late))
+
+-- what is below at a place is below before it
+pub below_middle : (xs : List Pair) → Rises xs → (m second : ℕ) → m < length xs → (pair_at xs m).0 < second → (i : ℕ) → i < m + 1 → (pair_at xs i).0 < second
+below_middle xs r m second lt below i le = elim (cases_eq i m) [
+  | inl e ↦ (let same : (pair_at xs i).0 ≡ (pair_at xs m).0 = ap (λ (n : ℕ). (pair_at xs n).0) e in omega (arith, same, below))
+  | inr ne ↦ (let less = (rises_at xs r i m (omega (arith, le, ne)) lt).0 in omega (arith, less, below))
+]
+
+-- the least of one family more
+pub upto_more : (W : ℕ → ℕ → Type 0) (n : ℕ) (a b : Option ℕ) → IsLeastOf (λ c. (i : ℕ) × (i < n) × W i c) a → IsLeastOf (W n) b → IsLeastOf (λ c. (i : ℕ) × (i < n + 1) × W i c) (earlier_of a b)
+upto_more W n a b l m = least_same (λ c. ((i : ℕ) × (i < n) × W i c) ⊎ W n c) (λ c. (i : ℕ) × (i < n + 1) × W i c) (earlier_of a b) (λ c. (to c, from c)) (least_either (λ c. (i : ℕ) × (i < n) × W i c) (W n) a b l m)
+  where
+    to : (c : ℕ) → ((i : ℕ) × (i < n) × W i c) ⊎ W n c → (i : ℕ) × (i < n + 1) × W i c
+    to c (inl (i, lt, w)) = (i, omega (arith, lt), w)
+    to c (inr w) = (n, omega arith, w)
+
+    from : (c : ℕ) → (i : ℕ) × (i < n + 1) × W i c → ((i : ℕ) × (i < n) × W i c) ⊎ W n c
+    from c (i, lt, w) = elim (cases_eq i n) [
+      | inl e ↦ inr (subst (λ (j : ℕ). W j c) e w)
+      | inr ne ↦ inl (i, omega (arith, lt, ne), w)
+    ]

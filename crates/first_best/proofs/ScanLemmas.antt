@@ -1,0 +1,133 @@
+-- The pairs of a node, found from the latest second on.
+use Rattle.std.proofs.Common.{◌≡◌, ℕ, ◌+◌, ◌-◌, ◌*◌, ◌<◌, ◌≤◌, ◌⊎◌, inl, inr, List, [], ◌∷◌, ◌++◌, length, reverse, Option, Some, None, refl, sym, ap, subst, le_refl, arith}
+use Rattle.std.proofs.lemmas.Bool.{cases_eq}
+use Rattle.landing_rules.specs.Rules.{last_second}
+use Rattle.landing_rules.specs.Problem.{Problem}
+use Rattle.cps_theory.specs.Labels.{InPairs, Pair}
+use Rattle.cps_theory.specs.CompletingPairs.{NoEarlierNoDearer}
+use Rattle.cps_network.specs.shared.PairLists.{in_append, in_left, in_right}
+use Rattle.first_best.specs.declared.node.EarlyNode.{EarlyNode}
+use Rattle.first_best.specs.Completing.{AreFalling, ArePairsOf, IsLeastOf, IsPairOf}
+use Rattle.first_best.proofs.PairLemmas.{falls_more, falls_rises, in_reversed, reversed_in}
+
+module _ (p : Problem) (v stage : ℕ) (node : EarlyNode) (nodes : List EarlyNode) (lists : List (List Pair)) where
+  abbrev Is : Pair → Type 0
+  Is q = IsPairOf p v stage node nodes lists q
+
+  -- the pairs from a second on are found, and the least cost of them is this
+  pub record Scanned (from least : ℕ) (pairs : List Pair) : Type 0 where
+    pub found : AreFalling p v stage node nodes lists from pairs
+    pub least_of : (q : Pair) → InPairs q pairs → least ≤ q.1
+    pub dear : (c : ℕ) → least ≤ c → c < 4294967296 → (o : Pair) × InPairs o pairs × (o.1 ≤ c)
+
+  pub none_scanned : (from : ℕ) → ((q : Pair) → Is q → q.0 < from) → Scanned from 4294967296 []
+  none_scanned from late = record {
+    found = record {
+      are = λ q i. absurd i;
+      cover = λ q h le. absurd (let a = late q h in omega (arith, a, le));
+      falling = tt;
+      in_reach = λ q i. absurd i;
+    };
+    least_of = λ q i. absurd i;
+    dear = λ c le lt. absurd (omega (arith, le, lt));
+  }
+
+  module _ (second least : ℕ) (pairs : List Pair) (s : Scanned (second + 1) least pairs) where
+    -- what is found one second earlier
+    earlier_are : (q : Pair) → InPairs q pairs → Is q × (second ≤ q.0)
+    earlier_are q i = (let a = s.found.are q i in (a.0, (let b = a.1 in omega (arith, b))))
+
+    split : (q : Pair) → second ≤ q.0 → (q.0 ≡ second) ⊎ (second + 1 ≤ q.0)
+    split q le = elim (cases_eq q.0 second) [ inl e ↦ inl e | inr ne ↦ inr (omega (arith, le, ne)) ]
+
+    at_second : (q : Pair) → q.0 ≡ second → Is q → Is (second, q.1)
+    at_second q e h = subst (λ (n : ℕ). Is (n, q.1)) e h
+
+    kept : (c : Option ℕ) → IsLeastOf (λ d. Is (second, d)) c → ((q : Pair) → Is q → q.0 ≡ second → (o : Pair) × InPairs o pairs × NoEarlierNoDearer o q) → Scanned second least pairs
+    kept c l here = record {
+      found = record {
+        are = earlier_are;
+        cover = λ q h le. elim (split q le) [ inl e ↦ here q h e | inr more ↦ s.found.cover q h more ];
+        falling = s.found.falling;
+        in_reach = s.found.in_reach;
+      };
+      least_of = s.least_of;
+      dear = s.dear;
+    }
+
+    pub nothing_here : IsLeastOf (λ d. Is (second, d)) None → Scanned second least pairs
+    nothing_here none = kept None none (λ q h e. absurd (none q.1 (at_second q e h)))
+
+    pub no_cheaper : (cost : ℕ) → IsLeastOf (λ d. Is (second, d)) (Some cost) → least ≤ cost → cost < 4294967296 → Scanned second least pairs
+    no_cheaper cost l le fits = kept (Some cost) l (λ q h e.
+        let a = l.1 q.1 (at_second q e h) in
+        let d = s.dear cost le fits in
+        let b = (s.found.are d.0 d.1).1 in
+        let f = d.2 in
+        (d.0, d.1, (omega (arith, b, e), omega (arith, a, f))))
+
+    pub cheaper : (cost : ℕ) → IsLeastOf (λ d. Is (second, d)) (Some cost) → cost < least → second ≤ last_second → cost ≤ 17279900 * (length p.flights - stage) → Scanned second cost (pairs ++ (second, cost) ∷ [])
+    cheaper cost l lt in_days small =
+        let here = in_right (second, cost) pairs ((second, cost) ∷ []) (inl refl) in
+        record {
+          found = record {
+            are = λ q i. elim (in_append q pairs ((second, cost) ∷ []) i) [
+              | inl a ↦ earlier_are q a
+              | inr b ↦ elim b [ inl e ↦ subst (λ (o : Pair). Is o × (second ≤ o.0)) (sym e) (l.0, le_refl second) | inr none ↦ absurd none ]
+            ];
+            cover = λ q h le. elim (split q le) [
+              | inl e ↦ (let a = l.1 q.1 (at_second q e h) in ((second, cost), here, (omega (arith, e), a)))
+              | inr more ↦ (let a = s.found.cover q h more in (a.0, in_left a.0 pairs ((second, cost) ∷ []) a.1, a.2))
+            ];
+            falling = falls_more pairs (second, cost) s.found.falling (λ o i.
+                let a = (s.found.are o i).1 in
+                let b = s.least_of o i in
+                (omega (arith, a), omega (arith, b, lt)));
+            in_reach = λ q i. elim (in_append q pairs ((second, cost) ∷ []) i) [
+              | inl a ↦ s.found.in_reach q a
+              | inr b ↦ elim b [ inl e ↦ subst (λ (o : Pair). (o.0 ≤ last_second) × (o.1 ≤ 17279900 * (length p.flights - stage))) (sym e) (in_days, small) | inr none ↦ absurd none ]
+            ];
+          };
+          least_of = λ q i. elim (in_append q pairs ((second, cost) ∷ []) i) [
+            | inl a ↦ (let b = s.least_of q a in omega (arith, b, lt))
+            | inr b ↦ elim b [ inl e ↦ (let f : q.1 ≡ cost = ap (λ (z : Pair). z.1) e in omega (arith, f)) | inr none ↦ absurd none ]
+          ];
+          dear = λ c le fits. ((second, cost), here, le);
+        }
+
+  -- where nothing is cheaper, or no second is left, all are found
+  pub scanned_free : (from least : ℕ) (pairs : List Pair) → least ≡ 0 → Scanned from least pairs → AreFalling p v stage node nodes lists node.earliest pairs
+  scanned_free from least pairs free s = record {
+    are = λ q i. (let a = s.found.are q i in (a.0, a.0.reached));
+    cover = λ q h le.
+        let d = s.dear 0 (omega (arith, free)) (omega arith) in
+        elim (by q h d) [ inl r ↦ r | inr r ↦ r ];
+    falling = s.found.falling;
+    in_reach = s.found.in_reach;
+  }
+    where
+      later : (a b : ℕ) → (a ≤ b) ⊎ (b ≤ a)
+      later a b = elim (cases_eq (a - b) 0) [ inl e ↦ inl (omega (arith, e)) | inr ne ↦ inr (omega (arith, ne)) ]
+
+      by : (q : Pair) → Is q → (d : (o : Pair) × InPairs o pairs × (o.1 ≤ 0)) → ((o : Pair) × InPairs o pairs × NoEarlierNoDearer o q) ⊎ ((o : Pair) × InPairs o pairs × NoEarlierNoDearer o q)
+      by q h d = elim (later from q.0) [
+        | inl le ↦ inl (s.found.cover q h le)
+        | inr le ↦ inr (let a = (s.found.are d.0 d.1).1 in let b = d.2 in (d.0, d.1, (omega (arith, a, le), omega (arith, b))))
+      ]
+
+  pub scanned_all : (from least : ℕ) (pairs : List Pair) → from ≤ node.earliest → Scanned from least pairs → AreFalling p v stage node nodes lists node.earliest pairs
+  scanned_all from least pairs le s = record {
+    are = λ q i. (let a = s.found.are q i in (a.0, a.0.reached));
+    cover = λ q h l. s.found.cover q h (omega (arith, le, l));
+    falling = s.found.falling;
+    in_reach = s.found.in_reach;
+  }
+
+  -- the other way round
+  pub turned : (pairs : List Pair) → AreFalling p v stage node nodes lists node.earliest pairs → ArePairsOf p v stage node nodes lists (reverse pairs)
+  turned pairs f = record {
+    are = λ q i. (f.are q (in_reversed pairs q i)).0;
+    cover = λ q h. (let a = f.cover q h h.reached in (a.0, reversed_in pairs a.0 a.1, a.2));
+    rising = falls_rises pairs f.falling;
+    in_reach = λ q i. f.in_reach q (in_reversed pairs q i);
+  }

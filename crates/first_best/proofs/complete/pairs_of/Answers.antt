@@ -1,0 +1,10 @@
+use Rattle.std.proofs.Common.{List, sym, subst, ◌∙◌}
+use Rattle.cps_theory.specs.Labels.{Pair}
+use Rattle.first_best.specs.Completing.{ArePairsOf}
+use Rattle.first_best.proofs.ScanLemmas.{turned}
+use Rattle.first_best.proofs.complete.pairs_of.Goals as goal
+
+pub returns : goal.returns
+returns c =
+    subst (λ (l : List Pair). ArePairsOf c.args.problem.now c.args.value c.args.stage c.args.node c.args.next.now.nodes c.args.next.now.lists l) (sym (c.of.ensures ∙ c.reverse.ensures.items))
+    (turned c.args.problem.now c.args.value c.args.stage c.args.node c.args.next.now.nodes c.args.next.now.lists c.in_ok-pairs.pairs.items c.in_ok-pairs.ensures)

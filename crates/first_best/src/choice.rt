@@ -1,0 +1,180 @@
+//! The order of least ranks, chosen place by place.
+
+ghost use Rattle.std.specs.Prelude.{◌≡◌, ℕ, ◌*◌, ◌<◌, ◌≤◌, ◌⊎◌, ◌↔◌, IfOk, IfSome, Some, length};
+ghost use Rattle.precedence.specs.Pairs.{HasBit};
+ghost use Rattle.cps_network.specs.Pairs.{list_at};
+ghost use Rattle.landing_rules.specs.Rules.{last_second};
+ghost use Rattle.landing_rules.specs.FirstBest.{IsFirstBestList};
+ghost use Rattle.landing_joint.specs.CompletingPairs.{budget_of, IsLeastObjective};
+ghost use Rattle.replan.specs.Kept.{held_of, problem_held};
+ghost use Rattle.first_best.specs.Choices.{lesser_choice, FindsAffordable, FindsWay, IsLeastChoice};
+ghost use Rattle.first_best.specs.Completing.{Rises};
+ghost use Rattle.first_best.specs.Nodes.{node_at};
+ghost use Rattle.first_best.specs.Ranges.{HasRank, IsPlacedIn};
+ghost use Rattle.first_best.specs.Stages.{IsAheadOf};
+
+use crate::ahead::Ahead;
+use crate::laws::window_laws;
+use crate::node::{EarlyNode, leads_to};
+use crate::pairs::PairList;
+use crate::stage::AheadStage;
+use cps_problem::{Objective, Problem, Schedule};
+use extract_plan::blank;
+use replan::AnyKept;
+use std::alloc::{AllocError, Global};
+
+// What the value leaves to the delays of the waiting flights.
+fn budget_of(problem: &Problem, value: u64) -> u64
+    ensures { result ≡ budget_of problem.now value }
+{
+    match problem.head().objective {
+        Objective::Makespan => 0,
+        Objective::Delay => value.saturating_sub(problem.head().base),
+    }
+}
+
+// Where the last flight of a node lands behind a prefix, if the order can then be ended within the budget.
+fn affordable(
+    problem: &Problem,
+    budget: u64,
+    before: EarlyNode,
+    cost: u64,
+    after: EarlyNode,
+    pairs: &PairList,
+) -> Option<u32>
+    requires before { IsPlacedIn problem.now before }
+    requires after { HasRank problem.now after }
+    requires rising { Rises pairs.now }
+    requires cost { cost ≤ 17279900 * 60 }
+    ensures found { FindsAffordable problem.now budget before cost after pairs.now result }
+    ensures in_days { IfSome result (λ t. t ≤ last_second) }
+{
+    match problem.landing_after(before.last, before.earliest, after.last) {
+        None => None,
+        Some(second) => match pairs.cost_from(second) {
+            None => None,
+            Some(rest) => {
+                if cost + u64::from(problem.cost(after.last, second)) + u64::from(rest) <= budget {
+                    Some(second)
+                } else {
+                    None
+                }
+            }
+        },
+    }
+}
+
+// A choice, or that of a rank found in its place where that is less.
+fn lesser(least: (u8, u32), rank: u8, found: Option<u32>) -> (u8, u32)
+    ensures { result ≡ lesser_choice least rank found }
+{
+    match found {
+        None => least,
+        Some(second) => {
+            if rank < least.0 {
+                (rank, second)
+            } else {
+                least
+            }
+        }
+    }
+}
+
+// What is found by way of a node, where the prefix leads to it.
+fn found_by(
+    problem: &Problem,
+    budget: u64,
+    before: EarlyNode,
+    cost: u64,
+    after: EarlyNode,
+    pairs: &PairList,
+) -> Option<u32>
+    requires before { IsPlacedIn problem.now before }
+    requires after { HasRank problem.now after }
+    requires rising { Rises pairs.now }
+    requires cost { cost ≤ 17279900 * 60 }
+    ensures found { FindsWay problem.now budget before cost after pairs.now result }
+    ensures in_days { IfSome result (λ t. t ≤ last_second) }
+{
+    let _few = problem.len();
+    if leads_to(before, after) {
+        affordable(problem, budget, before, cost, after, pairs)
+    } else {
+        None
+    }
+}
+
+// The least rank that can come next, where one can, and its second.
+fn least_choice(
+    problem: &Problem,
+    budget: u64,
+    before: EarlyNode,
+    cost: u64,
+    stage: &AheadStage,
+) -> (u8, u32)
+    requires before { IsPlacedIn problem.now before }
+    requires one_each { length stage.now.lists ≡ length stage.now.nodes }
+    requires ranks { (j : ℕ) → j < length stage.now.nodes → HasRank problem.now (node_at stage.now.nodes j) }
+    requires rising { (j : ℕ) → Rises (list_at stage.now.lists j) }
+    requires cost { cost ≤ 17279900 * 60 }
+    ensures least { IsLeastChoice problem.now budget before cost stage.now.nodes stage.now.lists result }
+    ensures in_days { result.1 ≤ last_second }
+{
+    let _few = problem.len();
+    let mut least = (61, 0);
+    for j in 0..stage.len() {
+        let after = stage.node(j);
+        let found = found_by(problem, budget, before, cost, after, stage.list(j));
+        least = lesser(least, after.last, found);
+    }
+    least
+}
+
+// The node behind another, by a rank that lands at a second.
+fn with_rank(before: EarlyNode, rank: u8, second: u32) -> EarlyNode
+    requires { rank ≤ 60 }
+    ensures placed { (x : ℕ) → HasBit result.placed x ↔ (HasBit before.placed x ⊎ (x ≡ rank)) }
+    ensures last { result.last ≡ rank }
+    ensures earliest { result.earliest ≡ second }
+{
+    EarlyNode {
+        placed: before.placed | (1u64 << rank),
+        last: rank,
+        earliest: second,
+    }
+}
+
+/// The first best schedule of a problem that the planner holds: of the best and tight ones the one whose order of ranks is
+/// lexicographically least.
+///
+/// `ahead` is what `Ahead::of` made of this problem at this value, and the value is the least objective of a feasible list of
+/// seconds. The least rank that still can be completed at the value comes next, each as early as it can.
+pub fn first_schedule(
+    alloc: Global,
+    problem: &Problem,
+    kept: &AnyKept,
+    ahead: &Ahead,
+    value: u64,
+) -> Result<Schedule, AllocError>
+    requires held { problem_held kept.now ≡ Some problem.now }
+    requires ahead { IsAheadOf problem.now value (held_of kept.now) ahead.now }
+    requires value { IsLeastObjective problem.now value }
+    ensures { IfOk result (IsFirstBestList problem.now) }
+{
+    window_laws(problem);
+    let budget = budget_of(problem, value);
+    let mut schedule = blank(alloc, problem.len())?;
+    let mut before = EarlyNode {
+        placed: 0,
+        last: 0,
+        earliest: 0,
+    };
+    let mut cost = 0u64;
+    for done in 0..kept.stages() {
+        let (rank, second) = least_choice(problem, budget, before, cost, ahead.stage(done + 1));
+        schedule.set(rank, second);
+        cost += u64::from(problem.cost(rank, second));
+        before = with_rank(before, rank, second);
+    }
+    Ok(schedule)
+}

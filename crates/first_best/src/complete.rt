@@ -1,0 +1,176 @@
+//! The pairs that complete the nodes of a stage, from those of the next.
+
+ghost use Rattle.std.specs.Prelude.{◌≡◌, ℕ, ◌&&◌, ◌-◌, ◌*◌, ◌<◌, ◌≤◌, IfOk, IfSome, length, true};
+ghost use Rattle.landing_rules.specs.Rules.{last_second};
+ghost use Rattle.cps_theory.specs.Labels.{Pair};
+ghost use Rattle.landing_joint.specs.RankedProblem.{ranked};
+ghost use Rattle.landing_joint.specs.CompletingPairs.{is_low};
+ghost use Rattle.first_best.specs.Nodes.{node_at};
+ghost use Rattle.first_best.specs.Completing.{AreFalling, AreListsOf, ArePairsOf, AreWaysOf, IsLeastOf, IsPairOf};
+ghost use Rattle.first_best.specs.Ranges.{HasRank, IsNextIn};
+
+use crate::node::EarlyNode;
+use crate::pairs::PairList;
+use crate::stage::AheadStage;
+use crate::ways::{least_cost, ways_of};
+use cps_problem::{Objective, Problem};
+use std::alloc::{AllocError, Global};
+
+// Whether the value allows a landing at a second.
+fn is_low(problem: &Problem, value: u64, second: u32) -> bool
+    ensures { result ≡ is_low problem.now value second }
+{
+    match problem.head().objective {
+        Objective::Makespan => u64::from(second) <= value,
+        Objective::Delay => true,
+    }
+}
+
+// Whether a second is open for a rank.
+fn is_open(problem: &Problem, rank: u8, second: u32) -> bool
+    requires { (1 ≤ rank) × (rank ≤ length problem.now.flights) }
+    ensures { result ≡ (ranked problem.now).is_open rank second }
+{
+    problem.flight(rank).times.is_open(second)
+}
+
+// Whether a rank may land at a second.
+fn is_allowed(problem: &Problem, value: u64, rank: u8, second: u32) -> bool
+    requires { (1 ≤ rank) × (rank ≤ length problem.now.flights) }
+    ensures { result ≡ (is_low problem.now value second && (ranked problem.now).is_open rank second) }
+{
+    is_low(problem, value, second) && is_open(problem, rank, second)
+}
+
+// No second behind the two days is open. The call tells this, and does nothing else.
+fn opens_in_days(problem: &Problem, rank: u8)
+    requires { (1 ≤ rank) × (rank ≤ length problem.now.flights) }
+    ensures { (t : ℕ) → (ranked problem.now).is_open rank t ≡ true → t ≤ last_second }
+{
+    let _none = problem.first_open(rank, 172800);
+}
+
+// The cost of a node's pair at a second.
+fn cost_of(
+    problem: &Problem,
+    value: u64,
+    stage: u8,
+    node: EarlyNode,
+    next: &AheadStage,
+    ways: &[usize],
+    second: u32,
+) -> Option<u32>
+    requires stage { (1 ≤ stage) × (stage ≤ length problem.now.flights) }
+    requires node { HasRank problem.now node }
+    requires next { IsNextIn problem.now stage next.now }
+    requires ways { AreWaysOf node next.now.nodes ways.now }
+    requires second { (node.earliest ≤ second) × (second ≤ last_second) }
+    ensures least { IsLeastOf (λ c. IsPairOf problem.now value stage node next.now.nodes next.now.lists (second, c)) result }
+    ensures small { IfSome result (λ c. c ≤ 17279900 * (length problem.now.flights - stage)) }
+{
+    if is_allowed(problem, value, node.last, second) {
+        least_cost(problem, stage, node, next, ways, second)
+    } else {
+        None
+    }
+}
+
+// A second behind which no pair of a node is.
+fn latest(problem: &Problem, stage: u8, node: EarlyNode, next: &AheadStage, ways: &[usize]) -> u32
+    requires stage { (1 ≤ stage) × (stage ≤ length problem.now.flights) }
+    requires node { HasRank problem.now node }
+    requires next { IsNextIn problem.now stage next.now }
+    requires ways { AreWaysOf node next.now.nodes ways.now }
+    ensures last { (v : ℕ) → (q : Pair) → IsPairOf problem.now v stage node next.now.nodes next.now.lists q → q.0 ≤ result }
+    ensures in_days { result ≤ last_second }
+{
+    opens_in_days(problem, node.last);
+    if stage == problem.len() {
+        return 172799;
+    }
+    let mut latest = 0;
+    for way in ways {
+        latest = next.list(*way).latest().max(latest);
+    }
+    latest.min(172799)
+}
+
+// The pairs of a node, the latest first.
+fn latest_pairs(
+    alloc: Global,
+    problem: &Problem,
+    value: u64,
+    stage: u8,
+    node: EarlyNode,
+    next: &AheadStage,
+    ways: &[usize],
+) -> Result<Vec<(u32, u32)>, AllocError>
+    requires stage { (1 ≤ stage) × (stage ≤ length problem.now.flights) }
+    requires node { HasRank problem.now node }
+    requires next { IsNextIn problem.now stage next.now }
+    requires ways { AreWaysOf node next.now.nodes ways.now }
+    ensures { IfOk result (λ pairs. AreFalling problem.now value stage node next.now.nodes next.now.lists node.earliest pairs.items) }
+{
+    let _few = problem.len();
+    let end = latest(problem, stage, node, next, ways) + 1;
+    let mut least = 1u64 << 32;
+    let mut pairs = Vec::new(alloc);
+    for i in 0..end.saturating_sub(node.earliest) {
+        let second = end - 1 - i;
+        if least == 0 {
+            return Ok(pairs);
+        }
+        match cost_of(problem, value, stage, node, next, ways, second) {
+            None => {}
+            Some(cost) => {
+                if u64::from(cost) < least {
+                    pairs.push((second, cost))?;
+                    least = u64::from(cost);
+                }
+            }
+        }
+    }
+    Ok(pairs)
+}
+
+// The pairs of a node, ascending.
+fn pairs_of(
+    alloc: Global,
+    problem: &Problem,
+    value: u64,
+    stage: u8,
+    node: EarlyNode,
+    next: &AheadStage,
+) -> Result<PairList, AllocError>
+    requires stage { (1 ≤ stage) × (stage ≤ length problem.now.flights) }
+    requires node { HasRank problem.now node }
+    requires next { IsNextIn problem.now stage next.now }
+    ensures { IfOk result (λ pairs. ArePairsOf problem.now value stage node next.now.nodes next.now.lists pairs) }
+{
+    let _few = problem.len();
+    let ways = ways_of(alloc, node, next)?;
+    let mut pairs = latest_pairs(alloc, problem, value, stage, node, next, ways.as_slice())?;
+    pairs.reverse();
+    Ok(PairList::of(pairs))
+}
+
+/// The pairs of the nodes of a stage, from those of the next; behind the last stage stands one without a node.
+pub(crate) fn complete(
+    alloc: Global,
+    problem: &Problem,
+    value: u64,
+    stage: u8,
+    nodes: &[EarlyNode],
+    next: &AheadStage,
+) -> Result<Vec<PairList>, AllocError>
+    requires stage { (1 ≤ stage) × (stage ≤ length problem.now.flights) }
+    requires nodes { (j : ℕ) → j < length nodes.now → HasRank problem.now (node_at nodes.now j) }
+    requires next { IsNextIn problem.now stage next.now }
+    ensures { IfOk result (λ lists. AreListsOf problem.now value stage nodes.now next.now.nodes next.now.lists lists.items) }
+{
+    let mut lists = Vec::with_capacity(alloc, nodes.len())?;
+    for node in nodes {
+        lists.push(pairs_of(alloc, problem, value, stage, *node, next)?)?;
+    }
+    Ok(lists)
+}

@@ -1,0 +1,63 @@
+//! A stage with the pairs that complete its nodes.
+
+ghost use Rattle.std.specs.Prelude.{◌≡◌, ◌<◌, length};
+ghost use Rattle.cps_network.specs.Pairs.{list_at};
+ghost use Rattle.first_best.specs.Nodes.{node_at};
+ghost use Rattle.first_best.specs.Stages.{no_stage};
+
+use crate::node::EarlyNode;
+use crate::pairs::PairList;
+use std::alloc::Global;
+use std::marker::Model;
+
+/// The nodes of a stage, the pairs that complete each, and the place of the node of each window.
+#[derive(Drop)]
+pub(crate) struct AheadStage {
+    pub(crate) nodes: Vec<EarlyNode>,
+    pub(crate) lists: Vec<PairList>,
+    pub(crate) places: Vec<usize>,
+}
+
+impl Model for AheadStage {
+    ghost use Rattle.first_best.specs.Stages.{StageAhead};
+
+    ghost Value = { StageAhead };
+
+    ghost view = { λ s. record { nodes = s.nodes.items; lists = s.lists.items; places = s.places.items } };
+}
+
+impl AheadStage {
+    // The stage without a node.
+    pub(crate) fn empty(alloc: Global) -> AheadStage
+        ensures { result ≡ no_stage }
+    {
+        AheadStage {
+            nodes: Vec::new(alloc),
+            lists: Vec::new(alloc),
+            places: Vec::new(alloc),
+        }
+    }
+
+    // How many nodes it has.
+    pub(crate) fn len(&self) -> usize
+        ensures { result ≡ length self.now.nodes }
+    {
+        self.nodes.len()
+    }
+
+    // The node at place j.
+    pub(crate) fn node(&self, j: usize) -> EarlyNode
+        requires { j < length self.now.nodes }
+        ensures { result ≡ node_at self.now.nodes j }
+    {
+        self.nodes[j]
+    }
+
+    // The pairs of the node at place j.
+    pub(crate) fn list(&self, j: usize) -> &PairList
+        requires { j < length self.now.lists }
+        ensures { result.now ≡ list_at self.now.lists j }
+    {
+        &self.lists[j]
+    }
+}

@@ -1,0 +1,8 @@
+//! Texts cut at a mark, and the numbers that their parts are.
+#![tactic(auto)]
+
+mod cuts;
+mod numbers;
+
+pub use cuts::first_part;
+pub use numbers::number_in;
