@@ -4,3 +4,4 @@ pub mod Trials
 pub mod Reading
 pub mod Outcomes
 pub mod Laws
+pub mod Text

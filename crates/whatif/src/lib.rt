@@ -7,6 +7,7 @@ mod outcome;
 mod reading;
 mod refusal;
 mod running;
+mod text;
 mod trial;
 
 pub use fault::{TrialCause, TrialFault};
@@ -14,6 +15,7 @@ pub use laws::{closure_gives_no_better_outcome, more_shift_gives_no_worse_outcom
 pub use outcome::{Outcome, TrialRefusal};
 pub use reading::read_trials;
 pub use running::run_trials;
+pub use text::append_outcomes;
 pub use trial::Trial;
 
 #[cfg(test)]
