@@ -9,7 +9,8 @@ use Rattle.aerodrome_file.specs.Reading.{IsInRange, is_delay, is_beyond, most_sh
 use Rattle.flight_file.specs.declared.flight.Flight as files
 use Rattle.situations.specs.Opened.{CanOpen}
 use Rattle.whatif.specs.declared.outcome.TrialRefusal.TheVariants.{DelayShift, PassedAbove}
-use Rattle.whatif.specs.Outcomes.{first_above, shift_refusal, CanBeTried}
+use Rattle.whatif.specs.Outcomes.{first_above, shift_refusal}
+use Rattle.situations.specs.Refused.{IsOpenable}
 
 neither : (k : ℕ) (b : Bool) (o : Option ℕ) → (if b then Some (DelayShift k) else option_map PassedAbove o) ≡ None → (b ≡ false) × (o ≡ None)
 neither k true o e = absurd (cc e)
@@ -54,7 +55,7 @@ module _ (a : aerodromes.Aerodrome) (fs : List files.Flight) (k : ℕ) (few : k 
         none_passed = r.none_passed;
       }
 
-  pub shifted_opens : (other : aerodromes.Aerodrome) → other ≡ a → CanBeTried a fs → CanBeTried (record other { k = k }) fs
+  pub shifted_opens : (other : aerodromes.Aerodrome) → other ≡ a → IsOpenable a fs → IsOpenable (record other { k = k }) fs
   shifted_opens other e opens =
       let may : CanOpen (record a { k = k }) fs = record { aerodrome = in_range opens.0.aerodrome; few = opens.0.few; flights = opens.0.flights; callsigns = opens.0.callsigns } in
-      subst (λ (z : aerodromes.Aerodrome). CanBeTried (record z { k = k }) fs) (sym e) (may, opens.1)
+      subst (λ (z : aerodromes.Aerodrome). IsOpenable (record z { k = k }) fs) (sym e) (may, opens.1)

@@ -1,5 +1,5 @@
 -- What comes of a trial: its first refusal, or else the least objective of the opening situation with the change.
-use Rattle.std.specs.Prelude.{◌≡◌, ℕ, zero, suc, ◌+◌, ◌≤◌, List, [], ◌∷◌, Option, Some, None, nat_lt, option_map, get_or, length, All, if◌then◌else◌}
+use Rattle.std.specs.Prelude.{◌≡◌, ℕ, zero, suc, ◌+◌, List, [], ◌∷◌, Option, Some, None, nat_lt, option_map, get_or, if◌then◌else◌}
 use Rattle.std.specs.List.{AllZip}
 use Rattle.landing_rules.specs.Flights.{Situation, Schedule}
 use Rattle.landing_rules.specs.Rules.{IsFeasible, IsBest, objective}
@@ -9,7 +9,7 @@ use Rattle.aerodrome_file.specs.declared.aerodrome.Aerodrome as aerodromes
 use Rattle.aerodrome_file.specs.declared.passed_list.PassedCount.{PassedCount}
 use Rattle.aerodrome_file.specs.Reading.{is_beyond}
 use Rattle.flight_file.specs.declared.flight.Flight as files
-use Rattle.situations.specs.Opened.{opened, CanOpen}
+use Rattle.situations.specs.Opened.{opened}
 use Rattle.situations.specs.declared.refusal.Refusal as code
 use Rattle.situations.specs.declared.refusal.Refusal.TheVariants as found
 use Rattle.whatif.specs.declared.trial.Trial.{Trial}
@@ -76,7 +76,3 @@ AreOutcomes a fs trials (base ∷ rest) = HasLeast (opened a fs) base × AllZip 
 abbrev pub IsOutcomeAt : aerodromes.Aerodrome → List files.Flight → List Trial → ℕ → Outcome → Type 0
 IsOutcomeAt a fs trials zero outcome = HasLeast (opened a fs) outcome
 IsOutcomeAt a fs trials (suc i) outcome = (trial : Trial) → IsOutcomeOf a fs (get_or trials i trial) outcome
-
--- what opens: numbers in their ranges, and no more waiting flights than may wait
-abbrev pub CanBeTried : aerodromes.Aerodrome → List files.Flight → Type 0
-CanBeTried a fs = CanOpen a fs × (length fs ≤ 60)

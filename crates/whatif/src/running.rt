@@ -5,7 +5,8 @@ ghost use Rattle.cps_problem.specs.Plans.{IsWithinShift};
 ghost use Rattle.landing_rules.specs.Sound.{IsSound};
 ghost use Rattle.whatif.specs.declared.trial.Trial.TheVariants.{Shift, Close};
 ghost use Rattle.whatif.specs.Trials.{IsGood};
-ghost use Rattle.whatif.specs.Outcomes.{CanBeTried, HasLeast, IsOutcomeOf, IsOutcomeAt, AreOutcomes};
+ghost use Rattle.situations.specs.Refused.{IsOpenable};
+ghost use Rattle.whatif.specs.Outcomes.{HasLeast, IsOutcomeOf, IsOutcomeAt, AreOutcomes};
 ghost use Rattle.situations.specs.Opened.{opened};
 
 use crate::outcome::Outcome;
@@ -43,7 +44,7 @@ fn unchanged(
     aerodrome: &Aerodrome,
     flights: &[Flight],
 ) -> Result<Outcome, AllocError>
-    requires { CanBeTried aerodrome.now flights.now }
+    requires { IsOpenable aerodrome.now flights.now }
     ensures { IfOk result (HasLeast (opened aerodrome.now flights.now)) }
 {
     let situation = Situation::opening(alloc, aerodrome, flights)?;
@@ -57,7 +58,7 @@ fn with_shift(
     flights: &[Flight],
     k: u8,
 ) -> Result<Outcome, AllocError>
-    requires opens { CanBeTried aerodrome.now flights.now }
+    requires opens { IsOpenable aerodrome.now flights.now }
     requires few { k ≤ 3 }
     ensures { IfOk result (IsOutcomeOf aerodrome.now flights.now (Shift k)) }
 {
@@ -77,7 +78,7 @@ fn with_closure(
     from: u32,
     to: u32,
 ) -> Result<Outcome, AllocError>
-    requires opens { CanBeTried aerodrome.now flights.now }
+    requires opens { IsOpenable aerodrome.now flights.now }
     requires span { (from < to) × (to ≤ 172800) }
     ensures { IfOk result (IsOutcomeOf aerodrome.now flights.now (Close from to)) }
 {
@@ -86,7 +87,7 @@ fn with_closure(
     if let Some(refusal) = closure_refusal(&situation, from, to) {
         return Ok(Outcome::Refused(refusal));
     }
-    let other = situation.after(None, &Event::Close(from, to))?;
+    let other = situation.after(alloc, None, &Event::Close(from, to))?;
     least_of(alloc, &other)
 }
 
@@ -97,7 +98,7 @@ fn outcome_of(
     flights: &[Flight],
     trial: Trial,
 ) -> Result<Outcome, AllocError>
-    requires opens { CanBeTried aerodrome.now flights.now }
+    requires opens { IsOpenable aerodrome.now flights.now }
     requires good { IsGood trial }
     ensures { IfOk result (IsOutcomeOf aerodrome.now flights.now trial) }
 {
@@ -115,7 +116,7 @@ fn outcome_at(
     trials: &[Trial],
     i: usize,
 ) -> Result<Outcome, AllocError>
-    requires opens { CanBeTried aerodrome.now flights.now }
+    requires opens { IsOpenable aerodrome.now flights.now }
     requires good { All IsGood trials.now }
     requires within { i ≤ length trials.now }
     ensures { IfOk result (IsOutcomeAt aerodrome.now flights.now trials.now i) }
@@ -139,13 +140,13 @@ pub fn run_trials<R: Threads + Sync, G: Gate + Sync>(
     trials: &[Trial],
     gate: &G,
 ) -> Result<Vec<Outcome>, AllocError>
-    requires opens { CanBeTried aerodrome.now flights.now }
+    requires opens { IsOpenable aerodrome.now flights.now }
     requires good { All IsGood trials.now }
     requires few { length trials.now ≤ 16 }
     ensures { IfOk result (λ outcomes. AreOutcomes aerodrome.now flights.now trials.now outcomes.items) }
 {
     let outcome = move |i: usize| -> Result<Outcome, AllocError>
-        requires { CanBeTried aerodrome.now flights.now × All IsGood trials.now × (i ≤ length trials.now) }
+        requires { IsOpenable aerodrome.now flights.now × All IsGood trials.now × (i ≤ length trials.now) }
         ensures { IfOk result (IsOutcomeAt aerodrome.entry.now flights.entry.now trials.entry.now i) }
     { outcome_at(alloc, aerodrome, flights, trials, i) };
     let outcomes = fill_lists(rt, alloc, trials.len() + 1, gate, &outcome)?;

@@ -1,9 +1,10 @@
 use crate::{Outcome, Trial, TrialCause, TrialFault, TrialRefusal, read_trials, run_trials};
 use aerodrome_file::read_aerodrome;
-use cps_base::NumberFault;
+use cps_base::{Callsign, NumberFault};
 use cps_outside::FreeGate;
 use event_log::FieldCause;
 use flight_file::read_flights;
+use situations::opening_fault;
 use std::alloc::Global;
 use std::test::Fail;
 use std::thread::Threads;
@@ -35,8 +36,8 @@ fn outcomes<R: Threads + Sync>(
     let Ok(trials) = read_trials(alloc, text.as_bytes()) else {
         return Err(Fail::new("not a trial file"));
     };
-    if flights.len() > 60 {
-        return Err(Fail::new("too many wait"));
+    if opening_fault(alloc, &aerodrome, flights.as_slice())?.is_some() {
+        return Err(Fail::new("refused"));
     }
     let outcomes = run_trials(
         rt,
@@ -75,6 +76,17 @@ fn delay_does_not_take_each_limit(rt: HostRuntime) -> Result<(), Fail> {
         Outcome::Value(70),
         Outcome::Refused(TrialRefusal::DelayShift(2)),
     ];
+    assert!(rt; found.as_slice() == expected.as_slice());
+    Ok(())
+}
+
+#[test]
+fn a_frozen_landing_is_not_covered(rt: HostRuntime) -> Result<(), Fail> {
+    let head = "version = 2\nk = 1\nfreeze = 150\nobjective = \"makespan\"\nclock = 900\nfrozen = [{ callsign = \"F1\", second = 1010 }]";
+    let found = outcomes(&rt, rt.alloc(), head, TWO, "close,1000-1020\nclose,1011-1070\n")?;
+    let first = Callsign::read(b"F1").ok_or("not a callsign")?;
+    let covers = Outcome::Refused(TrialRefusal::CoversFrozen(first, 1010));
+    let expected = [Outcome::Value(1070), covers, Outcome::Value(1070)];
     assert!(rt; found.as_slice() == expected.as_slice());
     Ok(())
 }
