@@ -5,7 +5,7 @@ use Rattle.std.proofs.lemmas.List.{take_rest}
 use Rattle.std.specs.Global.{Global}
 use Rattle.std.specs.Prelude.{◌-◌, String, string_bytes, take, drop, ◌&&◌, ◌==◌, codes, bytes_eq, option_map, unwrap_or, if◌then◌else◌}
 use Rattle.cps_top.specs.declared.commands.Command.{Command}
-use Rattle.cps_top.specs.declared.commands.Command.TheVariants.{Plan, Replay, Certify, Check, Effort, Trial, Audit}
+use Rattle.cps_top.specs.declared.commands.Command.TheVariants.{Plan, Replay, Certify, Check, Effort, Trial, First, WhatIf, Audit}
 use Rattle.cps_top.specs.Commands.{command_of, trial_of, trial_by, number_of, names_of, files_of, file_count}
 
 named : (b : Bool) (x : Command) (rest : Option Command) (c : Command) (Q : Type 0) → (if b then Some x else rest) ≡ Some c → (b ≡ true → x ≡ c → Q) → (rest ≡ Some c → Q) → Q
@@ -67,9 +67,13 @@ fits (word ∷ rest) c e =
     (λ t s. subst (λ (x : Command). length (names_of x (word ∷ rest)) ≡ file_count x) s (as_many (bytes_eq word (codes "check")) (length rest) 3 t)) (λ e.
     named (bytes_eq word (codes "effort") && (length rest == 3)) Effort _ c (Fits c (word ∷ rest)) e
     (λ t s. subst (λ (x : Command). length (names_of x (word ∷ rest)) ≡ file_count x) s (as_many (bytes_eq word (codes "effort")) (length rest) 3 t)) (λ e.
+    named (bytes_eq word (codes "first") && (length rest == 2)) First _ c (Fits c (word ∷ rest)) e
+    (λ t s. subst (λ (x : Command). length (names_of x (word ∷ rest)) ≡ file_count x) s (as_many (bytes_eq word (codes "first")) (length rest) 2 t)) (λ e.
+    named (bytes_eq word (codes "whatif") && (length rest == 3)) WhatIf _ c (Fits c (word ∷ rest)) e
+    (λ t s. subst (λ (x : Command). length (names_of x (word ∷ rest)) ≡ file_count x) s (as_many (bytes_eq word (codes "whatif")) (length rest) 3 t)) (λ e.
     named (bytes_eq word (codes "audit") && (length rest == 3)) Audit _ c (Fits c (word ∷ rest)) e
     (λ t s. subst (λ (x : Command). length (names_of x (word ∷ rest)) ≡ file_count x) s (as_many (bytes_eq word (codes "audit")) (length rest) 3 t)) (λ e.
-    other (bytes_eq word (codes "trial")) (trial_of rest) c (Fits c (word ∷ rest)) e (λ e. trial_fits rest c (word ∷ rest) e)))))))
+    other (bytes_eq word (codes "trial")) (trial_of rest) c (Fits c (word ∷ rest)) e (λ e. trial_fits rest c (word ∷ rest) e)))))))))
 
 names_by : (words : List (List ℕ)) (c : Command) (o : Option Command) → o ≡ Some c → unwrap_or (option_map (λ x. names_of x words) o) [] ≡ names_of c words
 names_by words c o e = ap (λ (p : Option Command). unwrap_or (option_map (λ x. names_of x words) p) []) e
@@ -81,6 +85,8 @@ behind_first Replay words other = refl
 behind_first Certify words other = refl
 behind_first Check words other = refl
 behind_first Effort words other = refl
+behind_first First words other = refl
+behind_first WhatIf words other = refl
 behind_first Audit words other = refl
 behind_first (Trial s n k) words other = absurd (other s n k refl)
 

@@ -4,7 +4,7 @@ use Rattle.std.proofs.lemmas.Bool.{cases_lt}
 use Rattle.std.proofs.lemmas.List.{take-append-le}
 use Rattle.std.specs.List.{AllByRecursion}
 use Rattle.cps_top.specs.declared.commands.Command.{Command}
-use Rattle.cps_top.specs.declared.commands.Command.TheVariants.{Plan, Replay, Certify, Check, Effort, Trial, Audit}
+use Rattle.cps_top.specs.declared.commands.Command.TheVariants.{Plan, Replay, Certify, Check, Effort, Trial, First, WhatIf, Audit}
 use Rattle.cps_top.specs.declared.endings.Answer.{Answer}
 use Rattle.cps_top.specs.declared.endings.Refusal.{Refusal}
 use Rattle.cps_top.specs.declared.endings.Ending.{Ending}
@@ -18,6 +18,7 @@ use Rattle.cps_top.specs.Outcome.{Outside, Ends, Serves}
 use Rattle.cps_top.specs.Statuses.{IsExact, FailsWithin}
 use Rattle.cps_top.proofs.Audited.{not_unaudited}
 use Rattle.cps_top.proofs.Judged.{not_unchecked}
+use Rattle.cps_top.proofs.Tried.{not_untried}
 use Rattle.cps_top.proofs.Replayed.{not_refused}
 use Rattle.cps_top.proofs.Complete.{command_same, serves_at, none_too_long, Within, all_within, all_named, all_at, within_fits}
 
@@ -61,6 +62,17 @@ excludes Audit (a ∷ f ∷ []) text answer refusal admits refuses = absurd admi
 excludes Audit (a ∷ f ∷ e ∷ c ∷ rest) text answer refusal admits refuses = absurd admits
 excludes Audit (a ∷ f ∷ p ∷ []) text answer refusal admits refuses =
     none_some (sym (not_unaudited a f p text answer admits) ∙ refuses)
+excludes First [] text answer refusal admits refuses = absurd admits
+excludes First (a ∷ []) text answer refusal admits refuses = absurd admits
+excludes First (a ∷ f ∷ c ∷ rest) text answer refusal admits refuses = absurd admits
+excludes First (a ∷ f ∷ []) text answer refusal admits refuses =
+    none_some (sym admits.shows.opened.taken ∙ ap₂ refused_by (sym admits.aerodrome_read) (sym admits.flights_read) ∙ refuses)
+excludes WhatIf [] text answer refusal admits refuses = absurd admits
+excludes WhatIf (a ∷ []) text answer refusal admits refuses = absurd admits
+excludes WhatIf (a ∷ f ∷ []) text answer refusal admits refuses = absurd admits
+excludes WhatIf (a ∷ f ∷ e ∷ c ∷ rest) text answer refusal admits refuses = absurd admits
+excludes WhatIf (a ∷ f ∷ t ∷ []) text answer refusal admits refuses =
+    none_some (sym (not_untried a f t text answer admits) ∙ refuses)
 excludes (Trial seed n k) contents text answer refusal admits refuses = absurd refuses
 
 -- nor are they refused where a text was begun
@@ -69,6 +81,8 @@ excludes_begun : (command : Command) (contents : List (List ℕ)) (text : List �
 excludes_begun Plan contents text refusal begins refuses = excludes Plan contents text begins.0 refusal begins.1 refuses
 excludes_begun Certify contents text refusal begins refuses = excludes Certify contents text begins.0 refusal begins.1 refuses
 excludes_begun Check contents text refusal begins refuses = excludes Check contents text begins.0 refusal begins.1 refuses
+excludes_begun First contents text refusal begins refuses = excludes First contents text begins.0 refusal begins.1 refuses
+excludes_begun WhatIf contents text refusal begins refuses = excludes WhatIf contents text begins.0 refusal begins.1 refuses
 excludes_begun Audit contents text refusal begins refuses = excludes Audit contents text begins.0 refusal begins.1 refuses
 excludes_begun (Trial seed n k) contents text refusal begins refuses = absurd refuses
 excludes_begun Effort [] text refusal begins refuses = absurd refuses

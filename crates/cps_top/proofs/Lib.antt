@@ -10,4 +10,5 @@ pub mod ReplayLaws
 pub mod Showing
 pub mod Statuses
 pub mod Summed
+pub mod Tried
 pub mod Writing

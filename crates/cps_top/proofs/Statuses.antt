@@ -1,6 +1,6 @@
 -- Each status by its ending.
 use Rattle.std.proofs.Common.{◌≡◌, inl, inr, ℕ, List, [], ap, append-nil, take, drop, take-append-drop, arith}
-use Rattle.cps_top.specs.declared.endings.Answer.TheVariants.{Scheduled, Infeasible, Certified, Accepted, Rejected, Clean, Broken, Claimed}
+use Rattle.cps_top.specs.declared.endings.Answer.TheVariants.{Scheduled, Infeasible, Certified, Accepted, Rejected, Tried, Clean, Broken, Claimed}
 use Rattle.cps_top.specs.declared.endings.Ending.{Ending}
 use Rattle.cps_top.specs.declared.endings.Ending.TheVariants.{Answered, Misused, Refused, NotLoaded, NotWritten, TooLong, NoMemory}
 use Rattle.cps_top.specs.Lines.{status_of}
@@ -17,6 +17,7 @@ causes words old new status (Answered Infeasible) is ends = grind arith
 causes words old new status (Answered Certified) is ends = grind arith
 causes words old new status (Answered Accepted) is ends = grind arith
 causes words old new status (Answered Rejected) is ends = grind arith
+causes words old new status (Answered Tried) is ends = grind arith
 causes words old new status (Answered Clean) is ends = grind arith
 causes words old new status (Answered Broken) is ends = grind arith
 causes words old new status (Answered Claimed) is ends = grind arith
@@ -65,6 +66,13 @@ asks words old new status (Answered Accepted) is ends = record {
   too_long = λ e. absurd (omega arith);
 }
 asks words old new status (Answered Rejected) is ends = record {
+  none = λ e. absurd (omega arith);
+  some = λ named. loads_all old.folder new.folder (files_of words) ends.contents ends.loads;
+  all = λ e told. ends.loads.asked told;
+  failed = λ e. absurd (omega arith);
+  too_long = λ e. absurd (omega arith);
+}
+asks words old new status (Answered Tried) is ends = record {
   none = λ e. absurd (omega arith);
   some = λ named. loads_all old.folder new.folder (files_of words) ends.contents ends.loads;
   all = λ e told. ends.loads.asked told;

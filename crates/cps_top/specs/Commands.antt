@@ -3,16 +3,18 @@ use Rattle.std.specs.Prelude.{ℕ, ◌&&◌, ◌==◌, ◌≤◌, ⊤, List, [],
 use Rattle.std.specs.Result.{result_ok}
 use Rattle.cps_base.specs.Number.{number_within}
 use Rattle.cps_top.specs.declared.commands.Command.{Command}
-use Rattle.cps_top.specs.declared.commands.Command.TheVariants.{Plan, Replay, Certify, Check, Effort, Trial, Audit}
+use Rattle.cps_top.specs.declared.commands.Command.TheVariants.{Plan, Replay, Certify, Check, Effort, Trial, First, WhatIf, Audit}
 use Rattle.cps_top.specs.declared.endings.Answer.{Answer}
 use Rattle.cps_top.specs.declared.endings.Refusal.{Refusal}
 use Rattle.cps_top.specs.Audit.{AdmitsAudit, RefusesAudit}
 use Rattle.cps_top.specs.Certify.{AdmitsCertify}
 use Rattle.cps_top.specs.Check.{AdmitsCheck, RefusesCheck}
 use Rattle.cps_top.specs.Effort.{AdmitsEffort, BeginsEffort}
+use Rattle.cps_top.specs.First.{AdmitsFirst}
 use Rattle.cps_top.specs.Plan.{AdmitsPlan, RefusesPlan}
 use Rattle.cps_top.specs.Replay.{AdmitsReplay, BeginsReplay, RefusesReplay}
 use Rattle.cps_top.specs.Trial.{AdmitsTrial}
+use Rattle.cps_top.specs.WhatIf.{AdmitsWhatIf, RefusesWhatIf}
 
 -- the number that a word is, of those from least to most
 abbrev pub number_of : List ℕ → ℕ → ℕ → Option ℕ
@@ -36,6 +38,8 @@ command_of (word ∷ rest) =
     else if bytes_eq word (codes "certify") && (length rest == 2) then Some Certify
     else if bytes_eq word (codes "check") && (length rest == 3) then Some Check
     else if bytes_eq word (codes "effort") && (length rest == 3) then Some Effort
+    else if bytes_eq word (codes "first") && (length rest == 2) then Some First
+    else if bytes_eq word (codes "whatif") && (length rest == 3) then Some WhatIf
     else if bytes_eq word (codes "audit") && (length rest == 3) then Some Audit
     else if bytes_eq word (codes "trial") then trial_of rest
     else None
@@ -62,6 +66,8 @@ file_count Certify = 2
 file_count Check = 3
 file_count Effort = 3
 file_count (Trial seed n k) = 0
+file_count First = 2
+file_count WhatIf = 3
 file_count Audit = 3
 
 -- Over these contents of its files a command may print this text, whole, and answer so.
@@ -71,6 +77,8 @@ Admits Replay (aerodrome ∷ flights ∷ events ∷ []) text answer = AdmitsRepl
 Admits Certify (aerodrome ∷ flights ∷ []) text answer = AdmitsCertify aerodrome flights text answer
 Admits Check (aerodrome ∷ flights ∷ certificate ∷ []) text answer = AdmitsCheck aerodrome flights certificate text answer
 Admits Effort (aerodrome ∷ flights ∷ events ∷ []) text answer = AdmitsEffort aerodrome flights events text answer
+Admits First (aerodrome ∷ flights ∷ []) text answer = AdmitsFirst aerodrome flights text answer
+Admits WhatIf (aerodrome ∷ flights ∷ trials ∷ []) text answer = AdmitsWhatIf aerodrome flights trials text answer
 Admits Audit (aerodrome ∷ flights ∷ plan ∷ []) text answer = AdmitsAudit aerodrome flights plan text answer
 Admits (Trial seed n k) [] text answer = AdmitsTrial seed n k text answer
 Admits command contents text answer = ⊥
@@ -88,5 +96,7 @@ Refuses Replay (aerodrome ∷ flights ∷ events ∷ []) refusal = RefusesReplay
 Refuses Certify (aerodrome ∷ flights ∷ []) refusal = RefusesPlan aerodrome flights refusal
 Refuses Check (aerodrome ∷ flights ∷ certificate ∷ []) refusal = RefusesCheck aerodrome flights certificate refusal
 Refuses Effort (aerodrome ∷ flights ∷ events ∷ []) refusal = RefusesReplay aerodrome flights events refusal
+Refuses First (aerodrome ∷ flights ∷ []) refusal = RefusesPlan aerodrome flights refusal
+Refuses WhatIf (aerodrome ∷ flights ∷ trials ∷ []) refusal = RefusesWhatIf aerodrome flights trials refusal
 Refuses Audit (aerodrome ∷ flights ∷ plan ∷ []) refusal = RefusesAudit aerodrome flights plan refusal
 Refuses command contents refusal = ⊥

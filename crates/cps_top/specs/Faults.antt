@@ -15,9 +15,12 @@ use Rattle.flight_file.specs.declared.fault.FlightFault.{FlightFault}
 use Rattle.situations.specs.declared.opening_refusal.OpeningFault.{OpeningFault}
 use Rattle.sequencer.specs.declared.begin.BeginFault.{BeginFault}
 use Rattle.sequencer.specs.Begun.{opening_fault_of}
+use Rattle.whatif.specs.declared.fault.TrialCause.{TrialCause}
+use Rattle.whatif.specs.declared.fault.TrialCause.TheVariants as trial
+use Rattle.whatif.specs.declared.fault.TrialFault.{TrialFault}
 use Rattle.cps_top.specs.declared.endings.Ending.{Ending}
 use Rattle.cps_top.specs.declared.endings.Ending.TheVariants.{Refused, NoMemory}
-use Rattle.cps_top.specs.declared.endings.Refusal.TheVariants.{Aerodrome, Flights, Events, Certificate, Plan, Opening}
+use Rattle.cps_top.specs.declared.endings.Refusal.TheVariants.{Aerodrome, Flights, Events, Certificate, Trials, Plan, Opening}
 
 abbrev pub aerodrome_ending : AeroFault → Ending
 aerodrome_ending aerodrome.Memory = NoMemory
@@ -45,6 +48,13 @@ certificate_ending fault = Refused (Certificate fault)
 abbrev pub opening_ending : Option OpeningFault → Ending
 opening_ending None = NoMemory
 opening_ending (Some fault) = Refused (Opening fault)
+
+abbrev pub by_trial_cause : TrialCause → TrialFault → Ending
+by_trial_cause trial.Memory fault = NoMemory
+by_trial_cause cause fault = Refused (Trials fault)
+
+abbrev pub trials_ending : TrialFault → Ending
+trials_ending fault = by_trial_cause fault.cause fault
 
 abbrev pub plan_ending : PlanFault → Ending
 plan_ending plan.Memory = NoMemory

@@ -4,6 +4,7 @@ pub mod Certify
 pub mod Check
 pub mod Commands
 pub mod Effort
+pub mod First
 pub mod Faults
 pub mod Lines
 pub mod Loads
@@ -13,4 +14,5 @@ pub mod Replay
 pub mod ReplayLaws
 pub mod Statuses
 pub mod Verdicts
+pub mod WhatIf
 pub mod Trial

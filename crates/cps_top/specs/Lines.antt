@@ -33,12 +33,15 @@ use Rattle.certificate.specs.declared.fault.CertFault.{CertFault}
 use Rattle.certificate.specs.declared.fault.CertFault.TheVariants as certificate
 use Rattle.situations.specs.declared.opening_refusal.OpeningFault.{OpeningFault}
 use Rattle.situations.specs.declared.opening_refusal.OpeningFault.TheVariants as opening
+use Rattle.whatif.specs.declared.fault.TrialCause.{TrialCause}
+use Rattle.whatif.specs.declared.fault.TrialCause.TheVariants as trial
+use Rattle.whatif.specs.declared.fault.TrialFault.{TrialFault}
 use Rattle.audit.specs.declared.plan.PlanFault.{PlanFault}
 use Rattle.audit.specs.declared.plan.PlanFault.TheVariants as plan
 use Rattle.cps_top.specs.declared.endings.Answer.{Answer}
-use Rattle.cps_top.specs.declared.endings.Answer.TheVariants.{Scheduled, Infeasible, Certified, Accepted, Rejected, Clean, Broken, Claimed}
+use Rattle.cps_top.specs.declared.endings.Answer.TheVariants.{Scheduled, Infeasible, Certified, Accepted, Rejected, Tried, Clean, Broken, Claimed}
 use Rattle.cps_top.specs.declared.endings.Refusal.{Refusal}
-use Rattle.cps_top.specs.declared.endings.Refusal.TheVariants.{Aerodrome, Flights, Events, Certificate, Plan, Opening}
+use Rattle.cps_top.specs.declared.endings.Refusal.TheVariants.{Aerodrome, Flights, Events, Certificate, Trials, Plan, Opening}
 use Rattle.cps_top.specs.declared.endings.Ending.{Ending}
 use Rattle.cps_top.specs.declared.endings.Ending.TheVariants.{Answered, Misused, Refused, NotLoaded, NotWritten, TooLong, NoMemory}
 
@@ -48,6 +51,7 @@ answer_status Infeasible = 1
 answer_status Certified = 0
 answer_status Accepted = 0
 answer_status Rejected = 7
+answer_status Tried = 0
 answer_status Clean = 0
 answer_status Broken = 7
 answer_status Claimed = 1
@@ -276,6 +280,23 @@ opening_line (opening.FrozenClosed i) = numbered_line (codes "cps: opening: froz
 opening_line (opening.FrozenSeparation i j) = pair_line i j
 opening_line (opening.FrozenPrecedence i callsign) = precedence_line i callsign
 
+-- ---- the trial file
+
+-- what follows the number of the record
+abbrev pub trial_pieces : TrialCause → List (List ℕ)
+trial_pieces trial.Header = codes ": header\n" ∷ []
+trial_pieces trial.FieldCount = codes ": fields\n" ∷ []
+trial_pieces trial.Kind = codes ": kind\n" ∷ []
+trial_pieces (trial.Value cause) = codes ": value " ∷ field_word cause ∷ field_part cause ∷ field_why cause ∷ codes "\n" ∷ []
+trial_pieces trial.TooMany = codes ": too-many\n" ∷ []
+trial_pieces trial.Memory = codes ": memory\n" ∷ []
+
+abbrev pub trial_line : List ℕ → TrialCause → List ℕ
+trial_line number cause = text_of (codes "cps: trials: record " ∷ number ∷ trial_pieces cause)
+
+abbrev pub trials_line : TrialFault → List ℕ
+trials_line fault = trial_line (decimal fault.number) fault.cause
+
 -- ---- the plan file
 
 abbrev pub plan_line : PlanFault → List ℕ
@@ -290,6 +311,7 @@ refusal_line (Flights fault) = flights_line fault
 refusal_line (Events fault) = events_line fault
 refusal_line (Certificate fault) = certificate_line fault
 refusal_line (Opening fault) = opening_line fault
+refusal_line (Trials fault) = trials_line fault
 refusal_line (Plan fault) = plan_line fault
 
 -- the line on the standard error, or nothing

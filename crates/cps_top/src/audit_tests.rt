@@ -5,9 +5,11 @@ const TWO: &str = "A1,A,1000,1,1000-2000,\nF1,F,1010,1,1010-2000,\n";
 
 const SHUT_TWO: &str = "A1,A,1000,1,1000-1050,\nF1,F,1010,1,1010-1170,\n";
 
-const SHUT: &str = "version = 1\nk = 1\nfreeze = 150\nobjective = \"makespan\"\nclosures = [{ from = 1300, to = 1310 }]\n";
+const SHUT: &str =
+    "version = 1\nk = 1\nfreeze = 150\nobjective = \"makespan\"\nclosures = [{ from = 1300, to = 1310 }]\n";
 
-const FOUR: &str = "A1,A,1160,1,1150-2000,\nF1,F,1200,1,1150-2000,A1;ZZ9\nB1,B,1210,3,1150-2000,\nE1,E,1220,1,1150-2000,F1\n";
+const FOUR: &str =
+    "A1,A,1160,1,1150-2000,\nF1,F,1200,1,1150-2000,A1;ZZ9\nB1,B,1210,3,1150-2000,\nE1,E,1220,1,1150-2000,F1\n";
 
 const BEST: &str = "makespan 1070\nland F1 1010 waiting\nland A1 1070 waiting\n";
 

@@ -28,11 +28,7 @@ struct Report {
 }
 
 // What is found of a plan block: a line for each finding, or that there is none.
-fn report_block(
-    alloc: Global,
-    situation: &Situation,
-    block: &Block,
-) -> Result<Report, AllocError>
+fn report_block(alloc: Global, situation: &Situation, block: &Block) -> Result<Report, AllocError>
     requires sound { IsSound situation.now }
     requires few { length block.now.lines ≤ 500 }
     ensures text { IfOk result (λ r. r.text.items ≡ report (findings situation.now (seen_block block.now))) }

@@ -16,6 +16,10 @@ pub enum Command {
     Check,
     /// `effort AERODROME FLIGHTS EVENTS`.
     Effort,
+    /// `first AERODROME FLIGHTS`.
+    First,
+    /// `whatif AERODROME FLIGHTS TRIALS`.
+    WhatIf,
     /// `audit AERODROME FLIGHTS PLAN`.
     Audit,
     /// `trial SEED N K`: a seed from 0 to 4,294,967,295, 1 to 60 flights, and a bound on shifts from 0 to 3. It has no
@@ -67,6 +71,12 @@ pub(crate) fn read_command(words: &[String]) -> Option<Command>
     }
     if word.as_str() == "effort" && rest.len() == 3 {
         return Some(Command::Effort);
+    }
+    if word.as_str() == "first" && rest.len() == 2 {
+        return Some(Command::First);
+    }
+    if word.as_str() == "whatif" && rest.len() == 3 {
+        return Some(Command::WhatIf);
     }
     if word.as_str() == "audit" && rest.len() == 3 {
         return Some(Command::Audit);

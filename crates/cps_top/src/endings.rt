@@ -4,6 +4,7 @@ use certificate::CertFault;
 use event_log::LogFault;
 use flight_file::FlightFault;
 use situations::OpeningFault;
+use whatif::TrialFault;
 
 /// What a command answers once its text is written.
 #[derive(Clone, Copy, Debug, PartialEq, Eq)]
@@ -18,6 +19,8 @@ pub enum Answer {
     Accepted,
     /// The certificate was judged and does not hold.
     Rejected,
+    /// The outcomes of the trials were printed.
+    Tried,
     /// Nothing was found in the plan.
     Clean,
     /// The plan breaks rules.
@@ -37,6 +40,8 @@ pub enum Refusal {
     Events(LogFault),
     /// The certificate is none.
     Certificate(CertFault),
+    /// The trial file is none.
+    Trials(TrialFault),
     /// The plan file is none.
     Plan(PlanFault),
     /// They open no situation.

@@ -25,7 +25,7 @@ fn column_word(column: Col) -> &'static [u8]
     }
 }
 
-fn field_word(cause: &FieldCause) -> &'static [u8]
+pub(crate) fn field_word(cause: &FieldCause) -> &'static [u8]
     ensures { result.now ≡ field_word cause.now }
 {
     match cause {
@@ -38,7 +38,7 @@ fn field_word(cause: &FieldCause) -> &'static [u8]
     }
 }
 
-fn field_part<'a>(cause: &FieldCause, buffer: &'a mut Buffer) -> &'a [u8]
+pub(crate) fn field_part<'a>(cause: &FieldCause, buffer: &'a mut Buffer) -> &'a [u8]
     ensures { result.now ≡ field_part cause.now }
 {
     match cause {
@@ -48,7 +48,7 @@ fn field_part<'a>(cause: &FieldCause, buffer: &'a mut Buffer) -> &'a [u8]
     }
 }
 
-fn field_why(cause: &FieldCause) -> &'static [u8]
+pub(crate) fn field_why(cause: &FieldCause) -> &'static [u8]
     ensures { result.now ≡ field_why cause.now }
 {
     match cause {

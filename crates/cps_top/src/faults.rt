@@ -10,6 +10,7 @@ use flight_file::{FlightCause, FlightFault};
 use sequencer::BeginFault;
 use situations::OpeningFault;
 use std::alloc::AllocError;
+use whatif::{TrialCause, TrialFault};
 
 impl From<AllocError> for Ending {
     ghost use Rattle.std.specs.Prelude.{◌≡◌};
@@ -74,6 +75,20 @@ impl From<CertFault> for Ending {
         match fault {
             CertFault::Memory => Ending::NoMemory,
             fault => Ending::Refused(Refusal::Certificate(fault)),
+        }
+    }
+}
+
+impl From<TrialFault> for Ending {
+    ghost use Rattle.std.specs.Prelude.{◌≡◌};
+    ghost use Rattle.cps_top.specs.Faults.{trials_ending};
+
+    ghost from_gives = { λ fault ending. ending ≡ trials_ending fault };
+
+    fn from(fault: TrialFault) -> Self {
+        match fault.cause {
+            TrialCause::Memory => Ending::NoMemory,
+            _ => Ending::Refused(Refusal::Trials(fault)),
         }
     }
 }

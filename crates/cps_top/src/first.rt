@@ -48,7 +48,7 @@ fn write_opened<R: Threads + Sync, G: Gate + Sync>(
     requires range { IsInRange aerodrome }
     requires read { CanBeRead flights.items }
     requires empty { text.old.items ≡ [] }
-    ensures { MatchResult result (ShowsFirst aerodrome flights.items text.new.items) (StopsOpened flights.items) }
+    ensures { MatchResult result (ShowsFirst aerodrome flights.items text.new.items) (StopsOpened aerodrome flights.items) }
 {
     let (sequencer, _) = begin(rt, alloc, aerodrome, flights, gate)?;
     let answer = write_first(alloc, &sequencer, text)?;

@@ -11,6 +11,7 @@ mod effort;
 mod endings;
 mod event_lines;
 mod faults;
+mod first;
 mod flight_lines;
 mod laws;
 mod lines;
@@ -23,7 +24,9 @@ mod replay;
 mod replay_laws;
 mod top;
 mod trial;
+mod trial_lines;
 mod verdict_lines;
+mod what_ifs;
 
 pub use commands::Command;
 pub use endings::{Answer, Ending, Refusal};

@@ -9,6 +9,7 @@ use crate::event_lines::say_events;
 use crate::flight_lines::say_flights;
 use crate::opening_lines::say_opening;
 use crate::plan_lines::say_plan;
+use crate::trial_lines::say_trials;
 use crate::{Answer, Ending, Refusal};
 use cps_outside::{Sink, WriteFailed};
 use itoa::Buffer;
@@ -19,7 +20,7 @@ pub(crate) fn status(ending: &Ending) -> u8
 {
     match ending {
         Ending::Answered(Answer::Scheduled | Answer::Certified | Answer::Accepted) => 0,
-        Ending::Answered(Answer::Clean) => 0,
+        Ending::Answered(Answer::Tried | Answer::Clean) => 0,
         Ending::Answered(Answer::Infeasible | Answer::Claimed) => 1,
         Ending::Answered(Answer::Rejected | Answer::Broken) => 7,
         Ending::Misused => 2,
@@ -50,6 +51,7 @@ fn say_refusal<E: Sink>(err: &mut E, refusal: &Refusal) -> Result<(), WriteFaile
         Refusal::Events(fault) => say_events(err, fault),
         Refusal::Certificate(fault) => say_certificate(err, fault),
         Refusal::Opening(fault) => say_opening(err, fault),
+        Refusal::Trials(fault) => say_trials(err, fault),
         Refusal::Plan(fault) => say_plan(err, fault),
     }
 }

@@ -10,11 +10,13 @@ use crate::certify::certify;
 use crate::check::check;
 use crate::commands::{files, read_command};
 use crate::effort::effort;
+use crate::first::first;
 use crate::lines::{say, status};
 use crate::loads::load_all;
 use crate::plan::plan;
 use crate::replay::replay;
 use crate::trial::trial;
+use crate::what_ifs::what_if;
 use crate::{Command, Ending};
 use cps_outside::{Folder, Gate, Sink};
 use std::alloc::Global;
@@ -76,6 +78,23 @@ fn perform<R: Threads + Sync, S: Sink, G: Gate + Sync>(
             out,
             gate,
         ),
+        Command::First => first(
+            rt,
+            alloc,
+            contents[0].as_slice(),
+            contents[1].as_slice(),
+            out,
+            gate,
+        ),
+        Command::WhatIf => what_if(
+            rt,
+            alloc,
+            contents[0].as_slice(),
+            contents[1].as_slice(),
+            contents[2].as_slice(),
+            out,
+            gate,
+        ),
         Command::Audit => audit_files(
             alloc,
             contents[0].as_slice(),
@@ -111,13 +130,14 @@ fn work<R: Threads + Sync, F: Folder, S: Sink, G: Gate + Sync>(
 /// Runs the command of these words, and answers its status, 0 to 8.
 ///
 /// The work goes in this order: the words; the loads, in the order of the words, and none for `trial`; the reading of
-/// each file, in the same order; the limit of 60 waiting flights; the plan, and of `replay` and `effort` the events, of
-/// `certify` the certificate, of `check` the verdict on one, or of `audit` the findings. The first thing that goes wrong decides the status. That
-/// the text of a replay fixes its run, its answers and plans, is the law `replay_law::text_fixes_the_run`.
+/// each file, in the same order; the refusals of the opening; the plan, and of `replay` and `effort` the events, of `certify`
+/// the certificate, of `check` the verdict on one, of `whatif` the trials, or of `audit` the findings. The first thing that
+/// goes wrong decides the status. That the text of a replay fixes its run, its answers and plans, is the law
+/// `replay_law::text_fixes_the_run`.
 ///
 /// | status | comes |
 /// |---|---|
-/// | 0 | the text was written: the last plan is best and tight, or a certificate was printed or holds, or a plan is clean |
+/// | 0 | the text was written: the last plan is best and tight, or a certificate was printed or holds, or trials were printed, or a plan is clean |
 /// | 1 | the text was written, and at its end no schedule is feasible, or the plan file says that there is no plan |
 /// | 2 | the words fit no command |
 /// | 3 | the files are not taken |

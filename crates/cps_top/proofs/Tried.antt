@@ -1,0 +1,16 @@
+-- Files whose trials were tried are not refused, and the outcomes are few.
+use Rattle.std.proofs.Common.{◌≡◌, ℕ, zero, suc, List, [], ◌∷◌, length, None, Ok, refl, ap, ◌∙◌}
+use Rattle.std.specs.List.{AllZip}
+use Rattle.aerodrome_file.specs.declared.aerodrome.Aerodrome.{Aerodrome}
+use Rattle.aerodrome_file.specs.Reading.{aerodrome_of}
+use Rattle.flight_file.specs.declared.flight.Flight.{Flight}
+use Rattle.flight_file.specs.Reading.{flights_of}
+use Rattle.whatif.specs.Reading.{trials_of}
+use Rattle.cps_top.specs.declared.endings.Answer.{Answer}
+use Rattle.cps_top.specs.WhatIf.{AdmitsWhatIf, untried_by}
+
+pub not_untried : (a f t text : List ℕ) (answer : Answer) → AdmitsWhatIf a f t text answer →
+    untried_by (aerodrome_of a) (flights_of f) (trials_of t) ≡ None
+not_untried a f t text answer h =
+    ap (λ r. untried_by r (flights_of f) (trials_of t)) h.aerodrome_read ∙ ap (λ r. untried_by (Ok h.aerodrome) r (trials_of t)) h.flights_read
+    ∙ ap (λ r. untried_by (Ok h.aerodrome) (Ok h.flights) r) h.trials_read ∙ h.tried.taken
