@@ -51,7 +51,7 @@ fn report_block(alloc: Global, situation: &Situation, block: &Block) -> Result<R
 }
 
 // What is found of a plan. That there is none is a claim, which only a certificate shows.
-fn report(alloc: Global, situation: &Situation, plan: &PlanText) -> Result<Report, AllocError>
+fn report_plan(alloc: Global, situation: &Situation, plan: &PlanText) -> Result<Report, AllocError>
     requires sound { IsSound situation.now }
     requires few { HasFewLines plan.now }
     ensures text { IfOk result (λ r. r.text.items ≡ audit_text situation.now plan.now) }
@@ -79,7 +79,7 @@ fn report_opened(
     ensures { MatchResult result (λ r. IsAudited aerodrome flights.items plan.now r.text.items r.answer) (StopsOpened aerodrome flights.items) }
 {
     let situation = opening(alloc, aerodrome, flights)?;
-    let report = report(alloc, &situation, plan)?;
+    let report = report_plan(alloc, &situation, plan)?;
     Ok(report)
 }
 

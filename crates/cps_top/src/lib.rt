@@ -67,3 +67,5 @@ mod worked_openings;
 mod worked_plans;
 #[cfg(test)]
 mod worked_refusals;
+#[cfg(test)]
+mod worked_trials;
