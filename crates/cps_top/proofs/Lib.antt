@@ -3,6 +3,7 @@ pub mod Complete
 pub mod Counted
 pub mod Counts
 pub mod Exact
+pub mod FirstLaws
 pub mod Judged
 pub mod Loading
 pub mod Replayed

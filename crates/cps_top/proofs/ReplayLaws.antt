@@ -9,13 +9,14 @@ use Rattle.landing_rules.specs.Events.{State, Event, Refusal, Clock, Answered, O
 use Rattle.landing_rules.specs.Flights.{Flight}
 use Rattle.landing_rules.specs.Sound.{IsSound, IsSoundState, IsGoodEvent}
 use Rattle.landing_joint.specs.ClockLaws.{ClockShowsPlanLaw}
+use Rattle.landing_joint.specs.PassedOver.{FewPassLaw}
 use Rattle.landing_joint.specs.StepLaws.{StepKeepsSoundLaw, RunKeepsSoundLaw}
 use Rattle.replay_law.specs.Runs.{IsRunOf, TextLaw}
 use Rattle.flight_file.specs.Seen.{flight_of}
 use Rattle.event_log.specs.Seen.{event_of}
 use Rattle.sequencer.specs.Opened.{opening_of}
 use Rattle.cps_top.specs.Replay.{AdmitsReplay, IsBegun}
-use Rattle.cps_top.specs.ReplayLaws.{TextFixesReplayLaw, ReplayIsSoundLaw, ClockIsNoDearerLaw, EachStep, IsNoDearerAfterClock}
+use Rattle.cps_top.specs.ReplayLaws.{TextFixesReplayLaw, ReplayIsSoundLaw, ClockIsNoDearerLaw, FewPassReplayLaw, EachStep, IsNoDearerAfterClock}
 
 -- a whole run is one over as many events as there are
 whole_run : (o : Opening) (flights : List Flight) (events : List Event) (s : State) (xs : List Answered) → IsOpeningState o flights s → Run s events xs →
@@ -59,3 +60,7 @@ steps_no_dearer law keeps old (e ∷ events) (a ∷ answers) sound good run = (
 
 pub printed_no_dearer : ClockShowsPlanLaw → StepKeepsSoundLaw → ClockIsNoDearerLaw
 printed_no_dearer law keeps a f l text x p = steps_no_dearer law keeps p.state p.events p.answers p.begun.sound p.begun.in_range p.run
+
+pub printed_few_pass : FewPassLaw → FewPassReplayLaw
+printed_few_pass law a f l text x p c carry waits stays =
+    law p.state p.events p.answers c p.begun.sound carry p.begun.in_range p.run waits stays

@@ -1,9 +1,10 @@
 -- What the printed text of a replay fixes and promises, over the bytes of its files.
-use Rattle.std.specs.Prelude.{◌≡◌, ⊤, ℕ, ◌≤◌, List, [], ◌∷◌, All, Some, None}
-use Rattle.landing_rules.specs.Flights.{Schedule}
+use Rattle.std.specs.Prelude.{◌≡◌, ⊤, ℕ, ◌≤◌, true, IsTrue, List, [], ◌∷◌, All, Some, None}
+use Rattle.landing_rules.specs.Flights.{Callsign, Schedule}
 use Rattle.landing_rules.specs.Rules.{objective}
 use Rattle.landing_rules.specs.Events.{State, Event, Clock, Answered}
 use Rattle.landing_rules.specs.Sound.{IsSoundState}
+use Rattle.landing_joint.specs.PassedOver.{StaysInLineThrough, passing_in_run, waits_in}
 use Rattle.cps_top.specs.declared.endings.Answer.{Answer}
 use Rattle.cps_top.specs.Replay.{AdmitsReplay}
 
@@ -31,3 +32,10 @@ IsNoDearerAfterClock old e a = (now : ℕ) (t : Schedule) → e ≡ Clock now �
 abbrev pub ClockIsNoDearerLaw : Type 0
 ClockIsNoDearerLaw = (aerodrome flights log text : List ℕ) (x : Answer) (a : AdmitsReplay aerodrome flights log text x)
     → EachStep IsNoDearerAfterClock a.state a.events a.answers
+
+-- with the carry, a flight that waits through a printed replay while nobody new comes to stand ahead of it is passed by at most
+-- k flights: these stand behind it and freeze while it waits on
+abbrev pub FewPassReplayLaw : Type 0
+FewPassReplayLaw = (aerodrome flights log text : List ℕ) (x : Answer) (a : AdmitsReplay aerodrome flights log text x) (c : Callsign)
+    → a.state.situation.aerodrome.carry ≡ true → IsTrue (waits_in a.state.situation c) → StaysInLineThrough c a.state a.answers
+    → passing_in_run a.state a.events a.answers c ≤ a.state.situation.aerodrome.k

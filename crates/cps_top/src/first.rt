@@ -1,7 +1,8 @@
 // The command `first`.
-ghost use Rattle.std.specs.Prelude.{◌≡◌, [], ◌∷◌, IfOk, Some, MatchResult};
+ghost use Rattle.std.specs.Prelude.{◌≡◌, [], ◌∷◌, IfOk, OnOk, Some, MatchResult};
 ghost use Rattle.aerodrome_file.specs.Reading.{IsInRange};
 ghost use Rattle.flight_file.specs.OfFile.{CanBeRead};
+ghost use Rattle.landing_rules.specs.Sound.{IsSoundState};
 ghost use Rattle.replan.specs.Kept.{problem_held};
 ghost use Rattle.cps_top.specs.declared.commands.Command.TheVariants as commands;
 ghost use Rattle.cps_top.specs.First.{AdmitsFirst, ShowsFirst, ShowsFirstOf};
@@ -29,8 +30,10 @@ fn write_first(
 ) -> Result<Answer, AllocError>
     requires held { problem_held sequencer.now.planner ≡ Some sequencer.now.problem }
     requires empty { text.old.items ≡ [] }
-    ensures { IfOk result (ShowsFirstOf sequencer.now.state.situation text.new.items) }
+    ensures shows { IfOk result (ShowsFirstOf sequencer.now.state.situation text.new.items) }
+    ensures sound { OnOk result (IsSoundState sequencer.now.state) }
 {
+    let _sound = sequencer.problem();
     let plan = first_plan(alloc, sequencer)?;
     plan_block(sequencer.objective(), plan.as_ref(), text)?;
     Ok(answer(plan.is_some()))

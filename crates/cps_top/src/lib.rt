@@ -12,6 +12,7 @@ mod endings;
 mod event_lines;
 mod faults;
 mod first;
+mod first_laws;
 mod flight_lines;
 mod laws;
 mod lines;
@@ -30,10 +31,12 @@ mod what_ifs;
 
 pub use commands::Command;
 pub use endings::{Answer, Ending, Refusal};
+pub use first_laws::{first_costs_as_every_plan, first_text_is_one};
 pub use laws::printed_certificates_are_accepted;
 pub use loads::LIMIT;
 pub use replay_laws::{
-    clock_shows_no_dearer_plan, printed_states_are_sound, text_fixes_the_replay,
+    clock_shows_no_dearer_plan, few_pass_in_a_printed_replay, printed_states_are_sound,
+    text_fixes_the_replay,
 };
 pub use top::run;
 

@@ -1,8 +1,10 @@
 //! What the printed text of a replay fixes and promises, as laws over the bytes of its files.
 
-ghost use Rattle.cps_top.specs.ReplayLaws.{TextFixesReplayLaw, ReplayIsSoundLaw, ClockIsNoDearerLaw};
+ghost use Rattle.cps_top.specs.ReplayLaws.{TextFixesReplayLaw, ReplayIsSoundLaw, ClockIsNoDearerLaw, FewPassReplayLaw};
 
-use landing_joint::laws::{clock_keeps_plans, every_step_keeps_soundness};
+use landing_joint::laws::{
+    clock_keeps_plans, every_step_keeps_soundness, few_pass_a_waiting_flight,
+};
 use replay_law::text_fixes_the_run;
 
 /// Two replays of the same files that print the same text have the same opening plan, and the same answers and plans after it.
@@ -28,4 +30,12 @@ pub fn clock_shows_no_dearer_plan()
 {
     every_step_keeps_soundness();
     clock_keeps_plans();
+}
+
+/// With the carry, a flight that waits through a printed replay, while nobody comes to stand ahead of it in first-come order who
+/// did not before, is passed by at most k flights in all of it. The call does nothing: it tells its caller the law.
+pub fn few_pass_in_a_printed_replay()
+    ensures { FewPassReplayLaw }
+{
+    few_pass_a_waiting_flight();
 }
