@@ -19,17 +19,17 @@ use Rattle.cps_top.specs.First.{AdmitsFirst, FirstTextIsOneLaw, FirstCostsAsPlan
 
 opened_same : (a b : Aerodrome) (f g : List Flight) (s t : Situation) → a ≡ b → f ≡ g →
     s ≡ opening_situation (opening_of a) (map flight_of f) → t ≡ opening_situation (opening_of b) (map flight_of g) → s ≡ t
-opened_same a b f g s t as fs one other = one ∙ ap₂ (λ x y. opening_situation (opening_of x) (map flight_of y)) as fs ∙ sym other
+opened_same a b f g s t a_is f_is one other = one ∙ ap₂ (λ x y. opening_situation (opening_of x) (map flight_of y)) a_is f_is ∙ sym other
 
 pub text_is_one : FirstPlanIsOneLaw → FirstTextIsOneLaw
 text_is_one law a f text other answer another p q =
     let aerodromes : p.aerodrome ≡ q.aerodrome = same_Some _ _ (ap result_ok (sym p.aerodrome_read ∙ q.aerodrome_read)) in
     let flights : p.flights ≡ q.flights = same_Some _ _ (ap result_ok (sym p.flights_read ∙ q.flights_read)) in
     let s : p.shows.state.situation ≡ q.shows.state.situation =
-        opened_same _ _ _ _ _ _ aerodromes flights p.shows.opened.opens.situation q.shows.opened.opens.situation in
+    opened_same _ _ _ _ _ _ aerodromes flights p.shows.opened.opens.situation q.shows.opened.opens.situation in
     let plan : p.shows.plan ≡ q.shows.plan =
-        law p.shows.state.situation p.shows.plan q.shows.plan p.shows.sound p.shows.first
-        (subst (λ (x : Situation). IsFirstPlan x q.shows.plan) (sym s) q.shows.first) in (
+    law p.shows.state.situation p.shows.plan q.shows.plan p.shows.sound p.shows.first
+    (subst (λ (x : Situation). IsFirstPlan x q.shows.plan) (sym s) q.shows.first) in (
       p.shows.prints ∙ ap₂ (λ (x : Situation) (y : Option Schedule). lines_text (plan_lines (record { situation = x; plan = y }))) s plan ∙ sym q.shows.prints,
       p.shows.answers ∙ ap answer_of plan ∙ sym q.shows.answers,
     )
@@ -47,6 +47,6 @@ costs_as_plan law a f text other answer another p q =
     let aerodromes : p.aerodrome ≡ q.aerodrome = same_Some _ _ (ap result_ok (sym p.aerodrome_read ∙ q.aerodrome_read)) in
     let flights : p.flights ≡ q.flights = same_Some _ _ (ap result_ok (sym p.flights_read ∙ q.flights_read)) in
     let s : q.state.situation ≡ p.shows.state.situation =
-        opened_same _ _ _ _ _ _ (sym aerodromes) (sym flights) q.opens.situation p.shows.opened.opens.situation in
+    opened_same _ _ _ _ _ _ (sym aerodromes) (sym flights) q.opens.situation p.shows.opened.opens.situation in
     costs law p.shows.state.situation p.shows.plan q.state.plan p.shows.first (subst (λ (x : Situation). IsPlanShown x q.state.plan) s q.opens.shown)
     ∙ ap (λ (x : Situation). option_map (objective x) q.state.plan) (sym s)
