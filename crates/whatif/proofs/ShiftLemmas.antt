@@ -1,16 +1,20 @@
 -- An aerodrome with another limit of shift that is not refused opens too.
 use Rattle.std.proofs.Common.{◌≡◌, ℕ, zero, suc, ◌+◌, ◌<◌, ◌≤◌, List, [], ◌∷◌, length, get_or, Option, Some, None, Bool, true, false, refl, sym, subst, arith}
-use Rattle.std.specs.Prelude.{All, ◌&&◌, nat_lt, option_map, if◌then◌else◌}
+use Rattle.std.specs.Prelude.{All, ◌&&◌, nat_lt, option_map, if◌then◌else◌, Result, Ok, Err, IfOk}
 use Rattle.landing_rules.specs.declared.objective.Objective.{Objective}
 use Rattle.landing_rules.specs.declared.objective.Objective.TheVariants.{Makespan, Delay}
 use Rattle.aerodrome_file.specs.declared.aerodrome.Aerodrome as aerodromes
 use Rattle.aerodrome_file.specs.declared.passed_list.PassedCount.{PassedCount}
 use Rattle.aerodrome_file.specs.Reading.{IsInRange, is_delay, is_beyond, most_shift}
 use Rattle.flight_file.specs.declared.flight.Flight as files
-use Rattle.situations.specs.Opened.{CanOpen}
-use Rattle.whatif.specs.declared.outcome.TrialRefusal.TheVariants.{DelayShift, PassedAbove}
-use Rattle.whatif.specs.Outcomes.{first_above, shift_refusal}
+use Rattle.landing_joint.specs.Shift.{with_shift}
+use Rattle.situations.specs.Opened.{CanOpen, opened}
 use Rattle.situations.specs.Refused.{IsOpenable}
+use Rattle.whatif.specs.declared.trial.Trial.TheVariants.{Shift}
+use Rattle.whatif.specs.declared.outcome.Outcome.{Outcome}
+use Rattle.whatif.specs.declared.outcome.TrialRefusal.{TrialRefusal}
+use Rattle.whatif.specs.declared.outcome.TrialRefusal.TheVariants.{DelayShift, PassedAbove}
+use Rattle.whatif.specs.Outcomes.{first_above, shift_refusal, HasLeast, IsOutcomeBy, IsOutcomeOf}
 
 neither : (k : ℕ) (b : Bool) (o : Option ℕ) → (if b then Some (DelayShift k) else option_map PassedAbove o) ≡ None → (b ≡ false) × (o ≡ None)
 neither k true o e = absurd (cc e)
@@ -59,3 +63,10 @@ module _ (a : aerodromes.Aerodrome) (fs : List files.Flight) (k : ℕ) (few : k 
   shifted_opens other e opens =
       let may : CanOpen (record a { k = k }) fs = record { aerodrome = in_range opens.0.aerodrome; few = opens.0.few; flights = opens.0.flights; callsigns = opens.0.callsigns } in
       subst (λ (z : aerodromes.Aerodrome). IsOpenable (record z { k = k }) fs) (sym e) (may, opens.1)
+
+  -- what comes of it is the outcome of the trial
+  pub shifted_outcome : {E : Type 0} (other : aerodromes.Aerodrome) → other ≡ a → (r : Result Outcome E) → IfOk r (HasLeast (opened (record other { k = k }) fs)) → IfOk r (IsOutcomeOf a fs (Shift k))
+  shifted_outcome other e (Err z) h = tt
+  shifted_outcome other e (Ok o) h =
+      subst (λ (r : Option TrialRefusal). IsOutcomeBy (with_shift k (opened a fs)) r o) (sym accepted)
+          (subst (λ (z : aerodromes.Aerodrome). HasLeast (opened (record z { k = k }) fs) o) e h)

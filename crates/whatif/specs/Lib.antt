@@ -5,3 +5,4 @@ pub mod Reading
 pub mod Outcomes
 pub mod Laws
 pub mod Text
+pub mod shared

@@ -143,7 +143,8 @@ pub fn run_trials<R: Threads + Sync, G: Gate + Sync>(
     requires opens { IsOpenable aerodrome.now flights.now }
     requires good { All IsGood trials.now }
     requires few { length trials.now ≤ 16 }
-    ensures { IfOk result (λ outcomes. AreOutcomes aerodrome.now flights.now trials.now outcomes.items) }
+    ensures value { IfOk result (λ outcomes. AreOutcomes aerodrome.now flights.now trials.now outcomes.items) }
+    ensures few { IfOk result (λ outcomes. length outcomes.items ≤ 17) }
 {
     let outcome = move |i: usize| -> Result<Outcome, AllocError>
         requires { IsOpenable aerodrome.now flights.now × All IsGood trials.now × (i ≤ length trials.now) }

@@ -1,0 +1,2 @@
+-- Lemmas that crates above cite too: how many outcomes there are.
+pub mod Few
