@@ -8,19 +8,13 @@ ghost use Rattle.audit.specs.Findings.{finding_of, repeated};
 ghost use Rattle.audit.specs.Seen.{has_name};
 
 use crate::Finding;
+use crate::found::name_of;
 use crate::joining::joined;
 use crate::seen::Seen;
 use cps_base::Callsign;
 use sequencer::Landing;
 use situations::Active;
 use std::alloc::{AllocError, Global};
-
-// The flight's callsign.
-fn name_of(active: &Active) -> Callsign
-    ensures { result ≡ active.now.flight.callsign }
-{
-    active.flight.callsign
-}
 
 // Each active flight without a line, in order of arrival.
 fn missing(
@@ -30,7 +24,10 @@ fn missing(
     seen: &Seen,
 ) -> Result<Vec<Finding>, AllocError>
     requires { (c : List ℕ) → has_name seen.now c ≡ has_line (map shown_of lines.now) c }
-    ensures { IfOk result (λ all. map finding_of all.items ≡ missing (map (λ a. a.now) active.now.items) (map shown_of lines.now)) }
+    ensures {
+        IfOk result (λ all. map finding_of all.items
+            ≡ missing (map (λ a. a.now) active.now.items) (map shown_of lines.now))
+    }
 {
     active
         .iter()
@@ -52,7 +49,10 @@ fn unknown(
     active: &Vec<&Active>,
     lines: &[Landing],
 ) -> Result<Vec<Finding>, AllocError>
-    ensures { IfOk result (λ all. map finding_of all.items ≡ unknown (map (λ a. a.now) active.now.items) (map shown_of lines.now)) }
+    ensures {
+        IfOk result (λ all. map finding_of all.items
+            ≡ unknown (map (λ a. a.now) active.now.items) (map shown_of lines.now))
+    }
 {
     lines
         .iter()
@@ -68,8 +68,13 @@ fn unknown_unless(
     lines: &[Landing],
     found: usize,
 ) -> Result<Vec<Finding>, AllocError>
-    requires { found ≡ length (lines_found (map (λ a. a.now) active.now.items) (map shown_of lines.now)) }
-    ensures { IfOk result (λ all. map finding_of all.items ≡ unknown (map (λ a. a.now) active.now.items) (map shown_of lines.now)) }
+    requires {
+        found ≡ length (lines_found (map (λ a. a.now) active.now.items) (map shown_of lines.now))
+    }
+    ensures {
+        IfOk result (λ all. map finding_of all.items
+            ≡ unknown (map (λ a. a.now) active.now.items) (map shown_of lines.now))
+    }
 {
     if found == lines.len() {
         return Ok(Vec::new(alloc));
@@ -79,7 +84,10 @@ fn unknown_unless(
 
 // Notes a line whose callsign was seen.
 fn note(all: &mut Vec<Finding>, was_seen: bool, callsign: Callsign) -> Result<(), AllocError>
-    ensures { OnOk result (map finding_of all.new.items ≡ map finding_of all.old.items ++ repeated was_seen callsign) }
+    ensures {
+        OnOk result (map finding_of all.new.items ≡ map finding_of all.old.items
+            ++ repeated was_seen callsign)
+    }
 {
     if was_seen {
         all.push(Finding::Twice(callsign))?;
@@ -91,7 +99,9 @@ fn note(all: &mut Vec<Finding>, was_seen: bool, callsign: Callsign) -> Result<()
 fn twice(alloc: Global, lines: &[Landing], seen: &mut Seen) -> Result<Vec<Finding>, AllocError>
     requires { seen.old ≡ [] }
     ensures found { IfOk result (λ all. map finding_of all.items ≡ twice (map shown_of lines.now)) }
-    ensures seen { OnOk result ((c : List ℕ) → has_name seen.new c ≡ has_line (map shown_of lines.now) c) }
+    ensures seen {
+        OnOk result ((c : List ℕ) → has_name seen.new c ≡ has_line (map shown_of lines.now) c)
+    }
 {
     let mut all = Vec::new(alloc);
     for i in 0..lines.len() {
@@ -109,8 +119,13 @@ pub(crate) fn by_name(
     lines: &[Landing],
     found: usize,
 ) -> Result<Vec<Finding>, AllocError>
-    requires { found ≡ length (lines_found (map (λ a. a.now) active.now.items) (map shown_of lines.now)) }
-    ensures { IfOk result (λ all. map finding_of all.items ≡ by_name (map (λ a. a.now) active.now.items) (map shown_of lines.now)) }
+    requires {
+        found ≡ length (lines_found (map (λ a. a.now) active.now.items) (map shown_of lines.now))
+    }
+    ensures {
+        IfOk result (λ all. map finding_of all.items
+            ≡ by_name (map (λ a. a.now) active.now.items) (map shown_of lines.now))
+    }
 {
     let mut seen = Seen::new(alloc);
     let twice = twice(alloc, lines, &mut seen)?;

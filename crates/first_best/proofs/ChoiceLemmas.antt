@@ -184,7 +184,7 @@ module _ (p : Problem) (wf : IsWellFormed p) (v : ℕ) (held : Option HeldProble
 
   passed_at : (r : ℕ) → IsRank (length p.flights) r → (of_rank no_waiting p.flights r).passed ≤ p.k
   passed_at zero q = absurd (let b = q.0 in omega (arith, b))
-  passed_at (suc i) q = (let e : (of_rank no_waiting p.flights (suc i)).passed ≡ 0 = wf.none_passed i no_waiting (let b = q.1 in omega (arith, b)) in omega (arith, e))
+  passed_at (suc i) q = wf.passed i no_waiting (let b = q.1 in omega (arith, b))
 
   module _ (value_is : IsLeastObjective p v) (done : ℕ) (before : EarlyNode) (cost : ℕ) (schedule : Schedule) (o : IsOrder p v stages done before cost schedule) where
     -- the least choice of the nodes of the next stage is one, and none is less
