@@ -1,9 +1,6 @@
--- Files whose trials were tried are not refused, and the outcomes are few.
-use Rattle.std.proofs.Common.{◌≡◌, ℕ, zero, suc, List, [], ◌∷◌, length, None, Ok, refl, ap, ◌∙◌}
-use Rattle.std.specs.List.{AllZip}
-use Rattle.aerodrome_file.specs.declared.aerodrome.Aerodrome.{Aerodrome}
+-- Files whose trials were tried are not refused.
+use Rattle.std.proofs.Common.{◌≡◌, ℕ, List, None, Ok, ap, ◌∙◌}
 use Rattle.aerodrome_file.specs.Reading.{aerodrome_of}
-use Rattle.flight_file.specs.declared.flight.Flight.{Flight}
 use Rattle.flight_file.specs.Reading.{flights_of}
 use Rattle.whatif.specs.Reading.{trials_of}
 use Rattle.cps_top.specs.declared.endings.Answer.{Answer}
