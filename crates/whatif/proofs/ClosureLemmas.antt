@@ -1,9 +1,9 @@
 -- Where fewer seconds are shut, more schedules are feasible.
 use Rattle.std.proofs.Common.{◌≡◌, ℕ, ◌≤◌, List, [], ◌∷◌, ◌++◌, Bool, true, false, refl, arith}
-use Rattle.std.specs.Prelude.{◌&&◌, ◌||◌, not, nat_le, nat_lt}
+use Rattle.std.specs.Prelude.{◌&&◌, ◌||◌, not}
 use Rattle.std.specs.List.{list_any}
 use Rattle.landing_rules.specs.Flights.{Situation, Schedule, Span}
-use Rattle.landing_rules.specs.Rules.{IsFeasible, IsBest, objective, is_within, is_shut, is_open}
+use Rattle.landing_rules.specs.Rules.{IsFeasible, is_shut}
 use Rattle.whatif.specs.declared.outcome.Outcome.{Outcome}
 use Rattle.whatif.specs.Laws.{IsNoWorse}
 use Rattle.whatif.specs.Outcomes.{HasLeast}

@@ -1,15 +1,14 @@
 -- The least objective of a situation, from that of its problem.
-use Rattle.std.proofs.Common.{◌≡◌, ℕ, Option, Some, None, Bool, true, sym, ap, ap₂, subst, ◌∙◌, arith, refl}
+use Rattle.std.proofs.Common.{◌≡◌, ℕ, Some, None, true, sym, subst, ◌∙◌, arith, refl}
 use Rattle.std.specs.Prelude.{◌≤◌}
 use Rattle.landing_rules.specs.declared.objective.Objective.{Objective}
 use Rattle.landing_rules.specs.declared.objective.Objective.TheVariants.{Makespan, Delay}
-use Rattle.landing_rules.specs.Flights.{Situation, Schedule}
+use Rattle.landing_rules.specs.Flights.{Situation}
 use Rattle.landing_rules.specs.Problem.{Problem, IsProblemOf, joined}
 use Rattle.landing_rules.specs.Sound.{IsSound}
 use Rattle.landing_joint.specs.ProblemLaws.{BestListLaw, SameObjectiveLaw, NoListLaw}
 use Rattle.cps_problem.specs.Plans.{IsWithinShift, IsPlannable}
-use Rattle.aerodrome_file.specs.declared.aerodrome.Aerodrome as aerodromes
-use Rattle.aerodrome_file.specs.Reading.{IsInRange, is_delay, is_beyond, most_shift}
+use Rattle.aerodrome_file.specs.Reading.{is_delay, most_shift}
 use Rattle.replan.specs.LeastValue.{IsLeastValue}
 use Rattle.whatif.specs.declared.outcome.Outcome.TheVariants.{Value, Infeasible}
 use Rattle.whatif.specs.Outcomes.{HasLeast}

@@ -1,5 +1,5 @@
 -- The outcomes of trials, from those at each place; closures as events; and when an outcome is no worse.
-use Rattle.std.proofs.Common.{◌≡◌, ℕ, zero, suc, ◌+◌, ◌<◌, ◌≤◌, List, [], ◌∷◌, length, get_or, Option, Some, None, Bool, true, false, refl, sym, ap, subst, ◌∙◌, arith}
+use Rattle.std.proofs.Common.{◌≡◌, ℕ, suc, ◌+◌, ◌<◌, ◌≤◌, List, [], ◌∷◌, length, get_or, Option, Some, None, Bool, true, false, refl, ap, arith}
 use Rattle.std.specs.Prelude.{is_some, option_map, nat_le, find, if◌then◌else◌}
 use Rattle.std.specs.List.{AllZip}
 use Rattle.landing_rules.specs.Flights.{Situation, Schedule, Span, Landing}

@@ -1,5 +1,5 @@
 -- An aerodrome with another limit of shift that is not refused opens too.
-use Rattle.std.proofs.Common.{◌≡◌, ℕ, zero, suc, ◌+◌, ◌<◌, ◌≤◌, List, [], ◌∷◌, length, get_or, Option, Some, None, Bool, true, false, refl, sym, subst, arith}
+use Rattle.std.proofs.Common.{◌≡◌, ℕ, zero, suc, ◌+◌, ◌≤◌, List, [], ◌∷◌, Option, Some, None, Bool, true, false, refl, sym, subst, arith}
 use Rattle.std.specs.Prelude.{All, ◌&&◌, nat_lt, option_map, if◌then◌else◌, Result, Ok, Err, IfOk}
 use Rattle.landing_rules.specs.declared.objective.Objective.{Objective}
 use Rattle.landing_rules.specs.declared.objective.Objective.TheVariants.{Makespan, Delay}
@@ -69,4 +69,4 @@ module _ (a : aerodromes.Aerodrome) (fs : List files.Flight) (k : ℕ) (few : k 
   shifted_outcome other e (Err z) h = tt
   shifted_outcome other e (Ok o) h =
       subst (λ (r : Option TrialRefusal). IsOutcomeBy (with_shift k (opened a fs)) r o) (sym accepted)
-          (subst (λ (z : aerodromes.Aerodrome). HasLeast (opened (record z { k = k }) fs) o) e h)
+      (subst (λ (z : aerodromes.Aerodrome). HasLeast (opened (record z { k = k }) fs) o) e h)

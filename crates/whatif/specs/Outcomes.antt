@@ -1,5 +1,5 @@
 -- What comes of a trial: its first refusal, or else the least objective of the opening situation with the change.
-use Rattle.std.specs.Prelude.{◌≡◌, ℕ, zero, suc, ◌+◌, List, [], ◌∷◌, Option, Some, None, nat_lt, option_map, get_or, if◌then◌else◌}
+use Rattle.std.specs.Prelude.{◌≡◌, ℕ, zero, suc, ◌+◌, List, [], ◌∷◌, Option, Some, None, Result, IfOk, nat_lt, option_map, get_or, if◌then◌else◌}
 use Rattle.std.specs.List.{AllZip}
 use Rattle.landing_rules.specs.Flights.{Situation, Schedule}
 use Rattle.landing_rules.specs.Rules.{IsFeasible, IsBest, objective}
@@ -76,3 +76,7 @@ AreOutcomes a fs trials (base ∷ rest) = HasLeast (opened a fs) base × AllZip 
 abbrev pub IsOutcomeAt : aerodromes.Aerodrome → List files.Flight → List Trial → ℕ → Outcome → Type 0
 IsOutcomeAt a fs trials zero outcome = HasLeast (opened a fs) outcome
 IsOutcomeAt a fs trials (suc i) outcome = (trial : Trial) → IsOutcomeOf a fs (get_or trials i trial) outcome
+
+-- an answer for a place is the outcome there, unless memory ran out
+abbrev pub IsAnswerAt : {E : Type 0} → aerodromes.Aerodrome → List files.Flight → List Trial → ℕ → Result Outcome E → Type 0
+IsAnswerAt a fs trials i answer = IfOk answer (IsOutcomeAt a fs trials i)

@@ -45,10 +45,14 @@ abbrev pub added : List Trial → Result Trial TrialCause → Result (List Trial
 added before (Ok t) = Ok (before ++ t ∷ [])
 added before (Err c) = Err (record { number = length before + 2; cause = c })
 
+-- the trials before a record, and that of the record
+abbrev pub and_in : List Trial → Fields → Result (List Trial) TrialFault
+and_in before r = added before (trial_in (length before) r)
+
 -- the trials of the records behind the header, behind the trials before them
 unfoldable pub trials_in : List Trial → List Fields → Result (List Trial) TrialFault
 trials_in before [] = Ok before
-trials_in before (r ∷ rs) = added before (trial_in (length before) r) >>= (λ trials. trials_in trials rs)
+trials_in before (r ∷ rs) = and_in before r >>= (λ trials. trials_in trials rs)
 
 -- the trials of all records
 unfoldable pub trials_by : List Fields → Result (List Trial) TrialFault

@@ -5,10 +5,14 @@ use Rattle.whatif.specs.declared.outcome.TrialRefusal.TheVariants.{DelayShift, P
 use Rattle.whatif.specs.declared.outcome.Outcome.{Outcome}
 use Rattle.whatif.specs.declared.outcome.Outcome.TheVariants.{Value, Infeasible, Refused}
 
+-- the frozen landing that the closure would hold
+abbrev pub covered_words : List ℕ → ℕ → List ℕ
+covered_words c second = ((codes "covers-frozen " ++ c) ++ 32 ∷ []) ++ decimal second
+
 abbrev pub cause_words : TrialRefusal → List ℕ
 cause_words (DelayShift k) = codes "delay-shift " ++ decimal k
 cause_words (PassedAbove i) = codes "passed-above " ++ decimal i
-cause_words (CoversFrozen c second) = ((codes "covers-frozen " ++ c) ++ 32 ∷ []) ++ decimal second
+cause_words (CoversFrozen c second) = covered_words c second
 cause_words TooManyClosures = codes "too-many-closures"
 
 abbrev pub outcome_words : Outcome → List ℕ
@@ -16,10 +20,14 @@ outcome_words (Value v) = decimal v
 outcome_words Infeasible = codes "infeasible"
 outcome_words (Refused r) = codes "refused " ++ cause_words r
 
+-- the line of trial i
+abbrev pub trial_line : ℕ → Outcome → List ℕ
+trial_line i o = (((codes "trial " ++ decimal i) ++ 32 ∷ []) ++ outcome_words o) ++ 10 ∷ []
+
 -- the lines of the trials, where the first of them is number i
 abbrev pub trial_lines : ℕ → List Outcome → List ℕ
 trial_lines i [] = []
-trial_lines i (o ∷ rest) = ((((codes "trial " ++ decimal i) ++ 32 ∷ []) ++ outcome_words o) ++ 10 ∷ []) ++ trial_lines (i + 1) rest
+trial_lines i (o ∷ rest) = trial_line i o ++ trial_lines (i + 1) rest
 
 abbrev pub outcomes_text : List Outcome → List ℕ
 outcomes_text [] = []

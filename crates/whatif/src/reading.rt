@@ -2,7 +2,7 @@ ghost use Rattle.std.specs.Prelude.{◌≡◌, [], ◌≤◌, ◌<◌, All, leng
 ghost use Rattle.csv.specs.Records.{fields_of};
 ghost use Rattle.whatif.specs.Answers.{Gives};
 ghost use Rattle.whatif.specs.Trials.{IsGood};
-ghost use Rattle.whatif.specs.Reading.{is_header, shift_in, close_in, trial_by, trial_in, header_fault, added, trials_in, trials_by, trials_of};
+ghost use Rattle.whatif.specs.Reading.{is_header, shift_in, close_in, trial_by, trial_in, header_fault, and_in, trials_in, trials_by, trials_of};
 
 use crate::fault::{TrialCause, TrialFault};
 use crate::trial::Trial;
@@ -75,20 +75,20 @@ fn trial_in(before: usize, row: &ByteRecord) -> Result<Trial, TrialCause>
 }
 
 // One more trial, behind those of the records before.
-fn add_trial(trials: &mut Vec<Trial>, row: &ByteRecord) -> Result<(), TrialFault>
-    requires few { vec_len trials.old ≤ 16 }
-    requires good { All IsGood trials.old.items }
-    ensures value { Gives (λ _. trials.new.items) result (added trials.old.items (trial_in (length trials.old.items) (fields_of row.now))) }
-    ensures few { OnOk result (vec_len trials.new ≤ 16) }
-    ensures good { OnOk result (All IsGood trials.new.items) }
+fn add_trial(all: &mut Vec<Trial>, row: &ByteRecord) -> Result<(), TrialFault>
+    requires few { vec_len all.old ≤ 16 }
+    requires good { All IsGood all.old.items }
+    ensures value { Gives (λ _. all.new.items) result (and_in all.old.items (fields_of row.now)) }
+    ensures few { OnOk result (vec_len all.new ≤ 16) }
+    ensures good { OnOk result (All IsGood all.new.items) }
 {
-    match trial_in(trials.len(), row) {
+    match trial_in(all.len(), row) {
         Ok(trial) => {
-            trials.push(trial)?;
+            all.push(trial)?;
             Ok(())
         }
         Err(cause) => Err(TrialFault {
-            number: trials.len() as u32 + 2,
+            number: all.len() as u32 + 2,
             cause,
         }),
     }

@@ -6,7 +6,7 @@ ghost use Rattle.landing_rules.specs.Sound.{IsSound};
 ghost use Rattle.whatif.specs.declared.trial.Trial.TheVariants.{Shift, Close};
 ghost use Rattle.whatif.specs.Trials.{IsGood};
 ghost use Rattle.situations.specs.Refused.{IsOpenable};
-ghost use Rattle.whatif.specs.Outcomes.{HasLeast, IsOutcomeOf, IsOutcomeAt, AreOutcomes};
+ghost use Rattle.whatif.specs.Outcomes.{HasLeast, IsOutcomeOf, IsAnswerAt, AreOutcomes};
 ghost use Rattle.situations.specs.Opened.{opened};
 
 use crate::outcome::Outcome;
@@ -119,7 +119,7 @@ fn outcome_at(
     requires opens { IsOpenable aerodrome.now flights.now }
     requires good { All IsGood trials.now }
     requires within { i ≤ length trials.now }
-    ensures { IfOk result (IsOutcomeAt aerodrome.now flights.now trials.now i) }
+    ensures { IsAnswerAt aerodrome.now flights.now trials.now i result }
 {
     if i == 0 {
         return unchanged(alloc, aerodrome, flights);
@@ -143,12 +143,14 @@ pub fn run_trials<R: Threads + Sync, G: Gate + Sync>(
     requires opens { IsOpenable aerodrome.now flights.now }
     requires good { All IsGood trials.now }
     requires few { length trials.now ≤ 16 }
-    ensures value { IfOk result (λ outcomes. AreOutcomes aerodrome.now flights.now trials.now outcomes.items) }
-    ensures few { IfOk result (λ outcomes. length outcomes.items ≤ 17) }
+    ensures value { IfOk result (λ v. AreOutcomes aerodrome.now flights.now trials.now v.items) }
+    ensures few { IfOk result (λ v. length v.items ≤ 17) }
 {
     let outcome = move |i: usize| -> Result<Outcome, AllocError>
-        requires { IsOpenable aerodrome.now flights.now × All IsGood trials.now × (i ≤ length trials.now) }
-        ensures { IfOk result (IsOutcomeAt aerodrome.entry.now flights.entry.now trials.entry.now i) }
+        requires opens { IsOpenable aerodrome.now flights.now }
+        requires good { All IsGood trials.now }
+        requires within { i ≤ length trials.now }
+        ensures { IsAnswerAt aerodrome.entry.now flights.entry.now trials.entry.now i result }
     { outcome_at(alloc, aerodrome, flights, trials, i) };
     let outcomes = fill_lists(rt, alloc, trials.len() + 1, gate, &outcome)?;
     Ok(outcomes)

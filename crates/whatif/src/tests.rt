@@ -82,8 +82,15 @@ fn delay_does_not_take_each_limit(rt: HostRuntime) -> Result<(), Fail> {
 
 #[test]
 fn a_frozen_landing_is_not_covered(rt: HostRuntime) -> Result<(), Fail> {
-    let head = "version = 2\nk = 1\nfreeze = 150\nobjective = \"makespan\"\nclock = 900\nfrozen = [{ callsign = \"F1\", second = 1010 }]";
-    let found = outcomes(&rt, rt.alloc(), head, TWO, "close,1000-1020\nclose,1011-1070\n")?;
+    let head =
+        "version = 2\nk = 1\nfreeze = 150\nobjective = \"makespan\"\nclock = 900\nfrozen = [{ callsign = \"F1\", second = 1010 }]";
+    let found = outcomes(
+        &rt,
+        rt.alloc(),
+        head,
+        TWO,
+        "close,1000-1020\nclose,1011-1070\n",
+    )?;
     let first = Callsign::read(b"F1").ok_or("not a callsign")?;
     let covers = Outcome::Refused(TrialRefusal::CoversFrozen(first, 1010));
     let expected = [Outcome::Value(1070), covers, Outcome::Value(1070)];

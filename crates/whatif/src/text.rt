@@ -1,8 +1,7 @@
 //! What is printed of the outcomes of trials.
 
-ghost use Rattle.std.specs.Prelude.{◌≡◌, ◌++◌, ◌≤◌, [], ◌∷◌, length, codes, decimal, OnOk};
-ghost use Rattle.whatif.specs.declared.outcome.TrialRefusal.TheVariants.{CoversFrozen};
-ghost use Rattle.whatif.specs.Text.{cause_words, outcome_words, trial_lines, outcomes_text};
+ghost use Rattle.std.specs.Prelude.{◌≡◌, ◌++◌, ◌≤◌, length, decimal, OnOk};
+ghost use Rattle.whatif.specs.Text.{covered_words, cause_words, outcome_words, trial_line, trial_lines, outcomes_text};
 
 use crate::outcome::{Outcome, TrialRefusal};
 use cps_base::Callsign;
@@ -11,7 +10,7 @@ use std::alloc::AllocError;
 
 // The frozen landing that the closure would hold.
 fn append_covered(callsign: &Callsign, second: u32, into: &mut Vec<u8>) -> Result<(), AllocError>
-    ensures { OnOk result (into.new.items ≡ into.old.items ++ cause_words (CoversFrozen callsign.now second)) }
+    ensures { OnOk result (into.new.items ≡ into.old.items ++ covered_words callsign.now second) }
 {
     let mut number = Buffer::new();
     into.extend_from_slice(b"covers-frozen ")?;
@@ -60,7 +59,7 @@ fn append_outcome(outcome: &Outcome, into: &mut Vec<u8>) -> Result<(), AllocErro
 
 // The line of a trial.
 fn append_trial(number: u8, outcome: &Outcome, into: &mut Vec<u8>) -> Result<(), AllocError>
-    ensures { OnOk result (into.new.items ≡ into.old.items ++ ((((codes "trial " ++ decimal number) ++ 32 ∷ []) ++ outcome_words outcome.now) ++ 10 ∷ [])) }
+    ensures { OnOk result (into.new.items ≡ into.old.items ++ trial_line number outcome.now) }
 {
     append_number(b"trial ", number, into)?;
     into.push(b' ')?;

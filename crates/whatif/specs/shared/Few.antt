@@ -1,5 +1,5 @@
 -- There is one outcome more than there are trials, so at most 17.
-use Rattle.std.proofs.Common.{◌≡◌, ℕ, suc, ◌+◌, ◌≤◌, List, [], ◌∷◌, length, refl, ap, arith}
+use Rattle.std.proofs.Common.{◌≡◌, suc, ◌≤◌, List, [], ◌∷◌, length, refl, ap, arith}
 use Rattle.std.specs.List.{AllZip}
 use Rattle.aerodrome_file.specs.declared.aerodrome.Aerodrome as aerodromes
 use Rattle.flight_file.specs.declared.flight.Flight as files
