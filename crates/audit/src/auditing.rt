@@ -25,10 +25,8 @@ fn by_rules(
     found: &[Found],
 ) -> Result<Vec<Finding>, AllocError>
     requires { length found.now ≤ 500 }
-    ensures {
-        IfOk result (λ all. map finding_of all.items
-            ≡ by_rules situation.now (map landing_of found.now))
-    }
+    ensures { IfOk result (λ all. map finding_of all.items
+        ≡ by_rules situation.now (map landing_of found.now)) }
 {
     let fixed = situation.fixed();
     let shifted = shifted(alloc, fixed.k, found)?;
@@ -49,9 +47,8 @@ fn by_line(
     requires found { found.now ≡ lines_found situation.now.active block.now.lines }
     requires sound { IsSound situation.now }
     requires few { length block.now.lines ≤ 500 }
-    ensures {
-        IfOk result (λ all. map finding_of all.items ≡ by_line situation.now (seen_block block.now))
-    }
+    ensures { IfOk result (λ all. map finding_of all.items
+        ≡ by_line situation.now (seen_block block.now)) }
 {
     let meant = situation.fixed().objective;
     let head = by_head(alloc, meant, block.objective, block.value, found)?;
@@ -64,10 +61,8 @@ fn by_line(
 fn found_in(alloc: Global, situation: &Situation, block: &Block) -> Result<Vec<Finding>, AllocError>
     requires sound { IsSound situation.now }
     requires few { length block.now.lines ≤ 500 }
-    ensures {
-        IfOk result (λ all. map finding_of all.items
-            ≡ findings situation.now (seen_block block.now))
-    }
+    ensures { IfOk result (λ all. map finding_of all.items
+        ≡ findings situation.now (seen_block block.now)) }
 {
     let active = situation.flights(alloc)?;
     let lines = block.lines.all();
@@ -97,13 +92,10 @@ pub fn audit(
 ) -> Result<Vec<Finding>, AllocError>
     requires sound { IsSound situation.now }
     requires few { length block.now.lines ≤ 500 }
-    ensures found {
-        IfOk result (λ all. map finding_of all.items
-            ≡ findings situation.now (seen_block block.now))
-    }
-    ensures clean {
-        IfOk result (λ all. (all.items ≡ []) ↔ IsClean situation.now (seen_block block.now))
-    }
+    ensures found { IfOk result (λ all. map finding_of all.items
+        ≡ findings situation.now (seen_block block.now)) }
+    ensures clean { IfOk result (λ all. (all.items ≡ [])
+        ↔ IsClean situation.now (seen_block block.now)) }
 {
     findings_are_whole();
     found_in(alloc, situation, block)

@@ -38,10 +38,8 @@ pub(crate) fn name_of(active: &Active) -> Callsign
 
 // The line with its flight, where it names one that is active.
 fn found_of(active: &Vec<&Active>, line: &Landing) -> Result<Option<Found>, AllocError>
-    ensures {
-        IfOk result (λ found. found
-            ≡ one_found (map (λ a. a.now) active.now.items) (shown_of line.now))
-    }
+    ensures { IfOk result (λ found. found
+        ≡ one_found (map (λ a. a.now) active.now.items) (shown_of line.now)) }
 {
     match active.iter().find(|a| name_of(a) == line.callsign) {
         None => Ok(None),
@@ -72,10 +70,8 @@ pub(crate) fn lines_found(
     active: &Vec<&Active>,
     lines: &[Landing],
 ) -> Result<Vec<Found>, AllocError>
-    ensures {
-        IfOk result (λ all. all.items
-            ≡ lines_found (map (λ a. a.now) active.now.items) (map shown_of lines.now))
-    }
+    ensures { IfOk result (λ all. all.items
+        ≡ lines_found (map (λ a. a.now) active.now.items) (map shown_of lines.now)) }
 {
     let mut all = Vec::with_capacity(alloc, lines.len())?;
     for i in 0..lines.len() {

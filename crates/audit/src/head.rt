@@ -109,10 +109,8 @@ pub(crate) fn by_head(
 ) -> Result<Vec<Finding>, AllocError>
     requires few { length found.now ≤ 500 }
     requires small { All HasSmallWeight found.now }
-    ensures {
-        IfOk result (λ all. map finding_of all.items ≡ other_objective said meant
-            ++ other_value number (cost meant (map landing_of found.now)))
-    }
+    ensures { IfOk result (λ all. map finding_of all.items ≡ other_objective said meant
+        ++ other_value number (cost meant (map landing_of found.now))) }
 {
     let words = other_objective(alloc, said, meant)?;
     let value = value_of(meant, found);

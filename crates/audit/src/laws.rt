@@ -23,10 +23,8 @@ pub fn printed_plans_read_back()
 /// Nothing is found in the plan that a sequencer shows, in its situation and under its objective: after it began, and
 /// after any events.
 pub fn shown_plan_is_clean<P: Planner>(sequencer: &Sequencer<P>)
-    ensures {
-        (plan : ShownPlan) → plan_shown sequencer.now.state ≡ Some plan
-            → findings sequencer.now.state.situation (shown_block sequencer.now.state plan) ≡ []
-    }
+    ensures { (plan : ShownPlan) → plan_shown sequencer.now.state ≡ Some plan
+        → findings sequencer.now.state.situation (shown_block sequencer.now.state plan) ≡ [] }
 {
     findings_are_whole();
     let _ = sequencer.problem();

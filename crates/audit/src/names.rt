@@ -24,10 +24,8 @@ fn missing(
     seen: &Seen,
 ) -> Result<Vec<Finding>, AllocError>
     requires { (c : List ℕ) → has_name seen.now c ≡ has_line (map shown_of lines.now) c }
-    ensures {
-        IfOk result (λ all. map finding_of all.items
-            ≡ missing (map (λ a. a.now) active.now.items) (map shown_of lines.now))
-    }
+    ensures { IfOk result (λ all. map finding_of all.items
+        ≡ missing (map (λ a. a.now) active.now.items) (map shown_of lines.now)) }
 {
     active
         .iter()
@@ -49,10 +47,8 @@ fn unknown(
     active: &Vec<&Active>,
     lines: &[Landing],
 ) -> Result<Vec<Finding>, AllocError>
-    ensures {
-        IfOk result (λ all. map finding_of all.items
-            ≡ unknown (map (λ a. a.now) active.now.items) (map shown_of lines.now))
-    }
+    ensures { IfOk result (λ all. map finding_of all.items
+        ≡ unknown (map (λ a. a.now) active.now.items) (map shown_of lines.now)) }
 {
     lines
         .iter()
@@ -68,13 +64,10 @@ fn unknown_unless(
     lines: &[Landing],
     found: usize,
 ) -> Result<Vec<Finding>, AllocError>
-    requires {
-        found ≡ length (lines_found (map (λ a. a.now) active.now.items) (map shown_of lines.now))
-    }
-    ensures {
-        IfOk result (λ all. map finding_of all.items
-            ≡ unknown (map (λ a. a.now) active.now.items) (map shown_of lines.now))
-    }
+    requires { found
+        ≡ length (lines_found (map (λ a. a.now) active.now.items) (map shown_of lines.now)) }
+    ensures { IfOk result (λ all. map finding_of all.items
+        ≡ unknown (map (λ a. a.now) active.now.items) (map shown_of lines.now)) }
 {
     if found == lines.len() {
         return Ok(Vec::new(alloc));
@@ -84,10 +77,8 @@ fn unknown_unless(
 
 // Notes a line whose callsign was seen.
 fn note(all: &mut Vec<Finding>, was_seen: bool, callsign: Callsign) -> Result<(), AllocError>
-    ensures {
-        OnOk result (map finding_of all.new.items ≡ map finding_of all.old.items
-            ++ repeated was_seen callsign)
-    }
+    ensures { OnOk result (map finding_of all.new.items ≡ map finding_of all.old.items
+        ++ repeated was_seen callsign) }
 {
     if was_seen {
         all.push(Finding::Twice(callsign))?;
@@ -99,9 +90,8 @@ fn note(all: &mut Vec<Finding>, was_seen: bool, callsign: Callsign) -> Result<()
 fn twice(alloc: Global, lines: &[Landing], seen: &mut Seen) -> Result<Vec<Finding>, AllocError>
     requires { seen.old ≡ [] }
     ensures found { IfOk result (λ all. map finding_of all.items ≡ twice (map shown_of lines.now)) }
-    ensures seen {
-        OnOk result ((c : List ℕ) → has_name seen.new c ≡ has_line (map shown_of lines.now) c)
-    }
+    ensures seen { OnOk result ((c : List ℕ) → has_name seen.new c
+        ≡ has_line (map shown_of lines.now) c) }
 {
     let mut all = Vec::new(alloc);
     for i in 0..lines.len() {
@@ -119,13 +109,10 @@ pub(crate) fn by_name(
     lines: &[Landing],
     found: usize,
 ) -> Result<Vec<Finding>, AllocError>
-    requires {
-        found ≡ length (lines_found (map (λ a. a.now) active.now.items) (map shown_of lines.now))
-    }
-    ensures {
-        IfOk result (λ all. map finding_of all.items
-            ≡ by_name (map (λ a. a.now) active.now.items) (map shown_of lines.now))
-    }
+    requires { found
+        ≡ length (lines_found (map (λ a. a.now) active.now.items) (map shown_of lines.now)) }
+    ensures { IfOk result (λ all. map finding_of all.items
+        ≡ by_name (map (λ a. a.now) active.now.items) (map shown_of lines.now)) }
 {
     let mut seen = Seen::new(alloc);
     let twice = twice(alloc, lines, &mut seen)?;

@@ -10,10 +10,8 @@ use std::alloc::{AllocError, Global};
 
 // Notes line i where its second is not above that of the line before.
 fn note(all: &mut Vec<Finding>, i: u32, before: u32, second: u32) -> Result<(), AllocError>
-    ensures {
-        OnOk result (map finding_of all.new.items ≡ map finding_of all.old.items
-            ++ out_of_order i before second)
-    }
+    ensures { OnOk result (map finding_of all.new.items ≡ map finding_of all.old.items
+        ++ out_of_order i before second) }
 {
     if second <= before {
         all.push(Finding::Order(i))?;
@@ -28,10 +26,8 @@ fn disordered_behind(
     lines: &[Landing],
 ) -> Result<Vec<Finding>, AllocError>
     requires { length lines.now ≤ 500 }
-    ensures {
-        IfOk result (λ all. map finding_of all.items
-            ≡ disordered_from 2 first (map shown_of lines.now))
-    }
+    ensures { IfOk result (λ all. map finding_of all.items
+        ≡ disordered_from 2 first (map shown_of lines.now)) }
 {
     let mut all = Vec::new(alloc);
     let mut before = first;

@@ -14,9 +14,8 @@ use text_parts::first_part;
 // The lines from the second on.
 #[tactic(auto, unfolding(crate::specs::Reading::lines_in))]
 fn read_body(alloc: Global, text: &[u8]) -> Result<Vec<Landing>, PlanFault>
-    ensures value {
-        GivesAs (λ all. map shown_of all.items) result (body_lines (parts 10 text.now))
-    }
+    ensures value { GivesAs (λ all.
+        map shown_of all.items) result (body_lines (parts 10 text.now)) }
     ensures few { IfOk result (λ all. length all.items ≤ 500) }
 {
     let mut landings = Vec::new(alloc);

@@ -62,10 +62,8 @@ pub(crate) fn closed(
     situation: &Situation,
     found: &[Found],
 ) -> Result<Vec<Finding>, AllocError>
-    ensures {
-        IfOk result (λ all. map finding_of all.items
-            ≡ closed situation.now (map landing_of found.now))
-    }
+    ensures { IfOk result (λ all. map finding_of all.items
+        ≡ closed situation.now (map landing_of found.now)) }
 {
     let closures = situation.closures();
     found
@@ -101,12 +99,10 @@ fn unseparated_from(
     first: &Found,
     others: &[Found],
 ) -> Result<Vec<Finding>, AllocError>
-    ensures {
-        IfOk result (λ all. map finding_of all.items
-            ≡ for_failing (are_apart table.now (landing_of first.now))
-                (λ (g : Landing). Separation first.now.1.flight.callsign g.flight.callsign)
-                (map landing_of others.now))
-    }
+    ensures { IfOk result (λ all. map finding_of all.items
+        ≡ for_failing (are_apart table.now (landing_of first.now))
+        (λ (g : Landing). Separation first.now.1.flight.callsign g.flight.callsign)
+        (map landing_of others.now)) }
 {
     others
         .iter()
@@ -121,10 +117,8 @@ pub(crate) fn unseparated(
     table: &PairTable,
     found: &[Found],
 ) -> Result<Vec<Finding>, AllocError>
-    ensures {
-        IfOk result (λ all. map finding_of all.items
-            ≡ unseparated table.now (map landing_of found.now))
-    }
+    ensures { IfOk result (λ all. map finding_of all.items
+        ≡ unseparated table.now (map landing_of found.now)) }
 {
     let mut all = Vec::new(alloc);
     for i in 0..found.len() {
@@ -148,10 +142,8 @@ fn listed_late(
     d: &Found,
     callsign: Callsign,
 ) -> Result<Vec<Finding>, AllocError>
-    ensures {
-        IfOk result (λ all. map finding_of all.items
-            ≡ listed_late (map landing_of found.now) (landing_of d.now) callsign)
-    }
+    ensures { IfOk result (λ all. map finding_of all.items
+        ≡ listed_late (map landing_of found.now) (landing_of d.now) callsign) }
 {
     found
         .iter()
@@ -177,11 +169,9 @@ fn listed(d: &Found, i: usize) -> Callsign
 
 // Each active flight that d lists and that doesn't land before it, in the order of its list.
 fn late_for(alloc: Global, found: &[Found], d: &Found) -> Result<Vec<Finding>, AllocError>
-    ensures {
-        IfOk result (λ all. map finding_of all.items
-            ≡ flat_map (listed_late (map landing_of found.now) (landing_of d.now))
-                d.now.1.flight.after)
-    }
+    ensures { IfOk result (λ all. map finding_of all.items
+        ≡ flat_map (listed_late (map landing_of found.now) (landing_of d.now))
+        d.now.1.flight.after) }
 {
     let mut all = Vec::new(alloc);
     for i in 0..count_listed(d) {
@@ -237,9 +227,8 @@ pub(crate) fn early(
     horizon: u32,
     found: &[Found],
 ) -> Result<Vec<Finding>, AllocError>
-    ensures {
-        IfOk result (λ all. map finding_of all.items ≡ early horizon (map landing_of found.now))
-    }
+    ensures { IfOk result (λ all. map finding_of all.items
+        ≡ early horizon (map landing_of found.now)) }
 {
     found
         .iter()

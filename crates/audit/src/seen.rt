@@ -41,10 +41,8 @@ impl Seen {
     // Takes one in, and answers whether it was seen before.
     pub(crate) fn add(&mut self, callsign: Callsign) -> Result<bool, AllocError>
         ensures was { IfOk result (λ was. was ≡ has_name self.old callsign) }
-        ensures more {
-            OnOk result ((c : List ℕ) → has_name self.new c
-                ≡ (bytes_eq callsign c || has_name self.old c))
-        }
+        ensures more { OnOk result ((c : List ℕ) → has_name self.new c
+            ≡ (bytes_eq callsign c || has_name self.old c)) }
     {
         let was_seen = self.callsigns.contains(&callsign);
         self.callsigns.insert(callsign)?;

@@ -14,10 +14,8 @@ use std::alloc::{AllocError, Global};
 
 // The lines whose flights wait.
 fn waiting<'a>(alloc: Global, found: &'a [Found]) -> Result<Vec<&'a Found>, AllocError>
-    ensures value {
-        IfOk result (λ all. map (λ f. landing_of f.now) all.items
-            ≡ filter waits (map landing_of found.now))
-    }
+    ensures value { IfOk result (λ all. map (λ f. landing_of f.now) all.items
+        ≡ filter waits (map landing_of found.now)) }
     ensures few { IfOk result (λ all. length all.items ≤ length found.now) }
 {
     found
@@ -36,9 +34,8 @@ fn lands_before(g: &Found, f: &Found) -> bool
 // 1 plus the number of those that land before f.
 fn place_of(waiting: &Vec<&Found>, f: &Found) -> u32
     requires { length waiting.now.items ≤ 500 }
-    ensures value {
-        result ≡ place (map (λ g. landing_of g.now) waiting.now.items) (landing_of f.now)
-    }
+    ensures value { result
+        ≡ place (map (λ g. landing_of g.now) waiting.now.items) (landing_of f.now) }
     ensures few { result ≤ 501 }
 {
     1 + waiting.iter().filter(|g| lands_before(g, f)).count() as u32
@@ -56,9 +53,8 @@ fn comes_before(g: &Found, f: &Found) -> bool
 // 1 plus the number of those that come before f.
 fn rank_of(waiting: &Vec<&Found>, f: &Found) -> u32
     requires { length waiting.now.items ≤ 500 }
-    ensures value {
-        result ≡ rank_among (map (λ g. landing_of g.now) waiting.now.items) (landing_of f.now)
-    }
+    ensures value { result
+        ≡ rank_among (map (λ g. landing_of g.now) waiting.now.items) (landing_of f.now) }
     ensures few { result ≤ 501 }
 {
     1 + waiting.iter().filter(|g| comes_before(g, f)).count() as u32
@@ -67,9 +63,8 @@ fn rank_of(waiting: &Vec<&Found>, f: &Found) -> u32
 // Whether it lands within k places of its rank, less the flights that passed it before.
 fn is_shift_kept(k: u8, waiting: &Vec<&Found>, f: &Found) -> bool
     requires { length waiting.now.items ≤ 500 }
-    ensures {
-        result ≡ is_shift_kept k (map (λ g. landing_of g.now) waiting.now.items) (landing_of f.now)
-    }
+    ensures { result
+        ≡ is_shift_kept k (map (λ g. landing_of g.now) waiting.now.items) (landing_of f.now) }
 {
     let place = place_of(waiting, f);
     let rank = rank_of(waiting, f);
@@ -79,11 +74,9 @@ fn is_shift_kept(k: u8, waiting: &Vec<&Found>, f: &Found) -> bool
 // Its place and its rank.
 fn shift(waiting: &Vec<&Found>, f: &Found) -> Finding
     requires { length waiting.now.items ≤ 500 }
-    ensures {
-        result ≡ code.Shift f.now.1.flight.callsign
-            (place (map (λ g. landing_of g.now) waiting.now.items) (landing_of f.now))
-            (rank_among (map (λ g. landing_of g.now) waiting.now.items) (landing_of f.now))
-    }
+    ensures { result ≡ code.Shift f.now.1.flight.callsign
+        (place (map (λ g. landing_of g.now) waiting.now.items) (landing_of f.now))
+        (rank_among (map (λ g. landing_of g.now) waiting.now.items) (landing_of f.now)) }
 {
     Finding::Shift(
         f.active.flight.callsign,
@@ -95,10 +88,8 @@ fn shift(waiting: &Vec<&Found>, f: &Found) -> Finding
 // Notes a waiting flight too far from its rank.
 fn note(all: &mut Vec<Finding>, k: u8, waiting: &Vec<&Found>, f: &Found) -> Result<(), AllocError>
     requires { length waiting.now.items ≤ 500 }
-    ensures {
-        OnOk result (map finding_of all.new.items ≡ map finding_of all.old.items
-            ++ too_far k (map (λ g. landing_of g.now) waiting.now.items) (landing_of f.now))
-    }
+    ensures { OnOk result (map finding_of all.new.items ≡ map finding_of all.old.items
+        ++ too_far k (map (λ g. landing_of g.now) waiting.now.items) (landing_of f.now)) }
 {
     if !is_shift_kept(k, waiting, f) {
         all.push(shift(waiting, f))?;
@@ -109,10 +100,8 @@ fn note(all: &mut Vec<Finding>, k: u8, waiting: &Vec<&Found>, f: &Found) -> Resu
 // Each waiting flight too far from its rank.
 pub(crate) fn shifted(alloc: Global, k: u8, found: &[Found]) -> Result<Vec<Finding>, AllocError>
     requires { length found.now ≤ 500 }
-    ensures {
-        IfOk result (λ all. map finding_of all.items
-            ≡ shifted k (filter waits (map landing_of found.now)))
-    }
+    ensures { IfOk result (λ all. map finding_of all.items
+        ≡ shifted k (filter waits (map landing_of found.now))) }
 {
     let waiting = waiting(alloc, found)?;
     let mut all = Vec::new(alloc);

@@ -35,9 +35,8 @@ fn append_pair(
     second: &[u8],
     into: &mut Vec<u8>,
 ) -> Result<(), AllocError>
-    ensures {
-        OnOk result (into.new.items ≡ into.old.items ++ (word.now ++ spaced first.now second.now))
-    }
+    ensures { OnOk result (into.new.items ≡ into.old.items
+        ++ (word.now ++ spaced first.now second.now)) }
 {
     append_word(word, first, into)?;
     append_word(b" ", second, into)
@@ -50,10 +49,8 @@ fn append_second(
     second: u32,
     into: &mut Vec<u8>,
 ) -> Result<(), AllocError>
-    ensures {
-        OnOk result (into.new.items ≡ into.old.items
-            ++ (word.now ++ spaced callsign.now (decimal second)))
-    }
+    ensures { OnOk result (into.new.items ≡ into.old.items
+        ++ (word.now ++ spaced callsign.now (decimal second))) }
 {
     let mut digits = Buffer::new();
     append_pair(
@@ -71,19 +68,16 @@ fn append_shift(
     rank: u32,
     into: &mut Vec<u8>,
 ) -> Result<(), AllocError>
-    ensures {
-        OnOk result (into.new.items ≡ into.old.items
-            ++ finding_words (Shift callsign.now place rank))
-    }
+    ensures { OnOk result (into.new.items ≡ into.old.items
+        ++ finding_words (Shift callsign.now place rank)) }
 {
     append_second(b"shift ", callsign, place, into)?;
     append_number(b" ", u64::from(rank), into)
 }
 
 fn append_words(finding: &Finding, into: &mut Vec<u8>) -> Result<(), AllocError>
-    ensures {
-        OnOk result (into.new.items ≡ into.old.items ++ finding_words (finding_of finding.now))
-    }
+    ensures { OnOk result (into.new.items ≡ into.old.items
+        ++ finding_words (finding_of finding.now)) }
 {
     match finding {
         Finding::Missing(c) => append_word(b"missing ", c.bytes(), into),
@@ -103,10 +97,8 @@ fn append_words(finding: &Finding, into: &mut Vec<u8>) -> Result<(), AllocError>
 }
 
 fn append_line(finding: &Finding, into: &mut Vec<u8>) -> Result<(), AllocError>
-    ensures {
-        OnOk result (into.new.items ≡ into.old.items
-            ++ line (finding_words (finding_of finding.now)))
-    }
+    ensures { OnOk result (into.new.items ≡ into.old.items
+        ++ line (finding_words (finding_of finding.now))) }
 {
     append_words(finding, into)?;
     into.push(b'\n')?;
@@ -114,9 +106,8 @@ fn append_line(finding: &Finding, into: &mut Vec<u8>) -> Result<(), AllocError>
 }
 
 fn append_lines(findings: &[Finding], into: &mut Vec<u8>) -> Result<(), AllocError>
-    ensures {
-        OnOk result (into.new.items ≡ into.old.items ++ findings_text (map finding_of findings.now))
-    }
+    ensures { OnOk result (into.new.items ≡ into.old.items
+        ++ findings_text (map finding_of findings.now)) }
 {
     for finding in findings {
         append_line(finding, into)?;
@@ -127,9 +118,8 @@ fn append_lines(findings: &[Finding], into: &mut Vec<u8>) -> Result<(), AllocErr
 /// Appends a line for each finding, in their order: its word, and its callsigns and numbers behind it. After a refusal,
 /// which is want of memory, `into` is as before.
 pub fn append_findings(findings: &[Finding], into: &mut Vec<u8>) -> Result<(), AllocError>
-    ensures {
-        Appends into.old.items into.new.items (findings_text (map finding_of findings.now)) result
-    }
+    ensures { Appends into.old.items into.new.items
+        (findings_text (map finding_of findings.now)) result }
 {
     let mut text = Vec::new(*into.allocator());
     append_lines(findings, &mut text)?;

@@ -114,14 +114,12 @@ fn least_choice(
 ) -> (u8, u32)
     requires before { IsPlacedIn problem.now before }
     requires one_each { length stage.now.lists ≡ length stage.now.nodes }
-    requires ranks {
-        (j : ℕ) → j < length stage.now.nodes → HasRank problem.now (node_at stage.now.nodes j)
-    }
+    requires ranks { (j : ℕ) → j < length stage.now.nodes
+        → HasRank problem.now (node_at stage.now.nodes j) }
     requires rising { (j : ℕ) → Rises (list_at stage.now.lists j) }
     requires cost { cost ≤ 17279900 * 60 }
-    ensures least {
-        IsLeastChoice problem.now budget before cost stage.now.nodes stage.now.lists result
-    }
+    ensures least { IsLeastChoice problem.now budget before cost
+        stage.now.nodes stage.now.lists result }
     ensures in_days { result.1 ≤ last_second }
 {
     let _few = problem.len();

@@ -37,9 +37,8 @@ fn is_open(problem: &Problem, rank: u8, second: u32) -> bool
 // Whether a rank may land at a second.
 fn is_allowed(problem: &Problem, value: u64, rank: u8, second: u32) -> bool
     requires { (1 ≤ rank) × (rank ≤ length problem.now.flights) }
-    ensures {
-        result ≡ (is_low problem.now value second && (ranked problem.now).is_open rank second)
-    }
+    ensures { result
+        ≡ (is_low problem.now value second && (ranked problem.now).is_open rank second) }
 {
     is_low(problem, value, second) && is_open(problem, rank, second)
 }
@@ -67,10 +66,8 @@ fn cost_of(
     requires next { IsNextIn problem.now stage next.now }
     requires ways { AreWaysOf node next.now.nodes ways.now }
     requires second { (node.earliest ≤ second) × (second ≤ last_second) }
-    ensures least {
-        IsLeastOf (λ c.
-            IsPairOf problem.now value stage node next.now.nodes next.now.lists (second, c)) result
-    }
+    ensures least { IsLeastOf (λ c.
+        IsPairOf problem.now value stage node next.now.nodes next.now.lists (second, c)) result }
     ensures small { IfSome result (λ c. c ≤ 17279900 * (length problem.now.flights - stage)) }
 {
     if is_allowed(problem, value, node.last, second) {
@@ -86,10 +83,9 @@ fn latest(problem: &Problem, stage: u8, node: EarlyNode, next: &AheadStage, ways
     requires node { HasRank problem.now node }
     requires next { IsNextIn problem.now stage next.now }
     requires ways { AreWaysOf node next.now.nodes ways.now }
-    ensures last {
-        (v : ℕ) → (q : Pair) → IsPairOf problem.now v stage node next.now.nodes next.now.lists q
-            → q.0 ≤ result
-    }
+    ensures last { (v : ℕ) → (q : Pair)
+        → IsPairOf problem.now v stage node next.now.nodes next.now.lists q
+        → q.0 ≤ result }
     ensures in_days { result ≤ last_second }
 {
     opens_in_days(problem, node.last);
@@ -117,11 +113,9 @@ fn latest_pairs(
     requires node { HasRank problem.now node }
     requires next { IsNextIn problem.now stage next.now }
     requires ways { AreWaysOf node next.now.nodes ways.now }
-    ensures {
-        IfOk result (λ pairs.
-            AreFalling problem.now value stage node next.now.nodes next.now.lists node.earliest
-                pairs.items)
-    }
+    ensures { IfOk result (λ pairs.
+        AreFalling problem.now value stage node next.now.nodes next.now.lists node.earliest
+        pairs.items) }
 {
     let _few = problem.len();
     let end = latest(problem, stage, node, next, ways) + 1;
@@ -157,10 +151,8 @@ fn pairs_of(
     requires stage { (1 ≤ stage) × (stage ≤ length problem.now.flights) }
     requires node { HasRank problem.now node }
     requires next { IsNextIn problem.now stage next.now }
-    ensures {
-        IfOk result (λ pairs.
-            ArePairsOf problem.now value stage node next.now.nodes next.now.lists pairs)
-    }
+    ensures { IfOk result (λ pairs.
+        ArePairsOf problem.now value stage node next.now.nodes next.now.lists pairs) }
 {
     let _few = problem.len();
     let ways = ways_of(alloc, node, next)?;
@@ -181,10 +173,8 @@ pub(crate) fn complete(
     requires stage { (1 ≤ stage) × (stage ≤ length problem.now.flights) }
     requires nodes { (j : ℕ) → j < length nodes.now → HasRank problem.now (node_at nodes.now j) }
     requires next { IsNextIn problem.now stage next.now }
-    ensures {
-        IfOk result (λ lists.
-            AreListsOf problem.now value stage nodes.now next.now.nodes next.now.lists lists.items)
-    }
+    ensures { IfOk result (λ lists.
+        AreListsOf problem.now value stage nodes.now next.now.nodes next.now.lists lists.items) }
 {
     let mut lists = Vec::with_capacity(alloc, nodes.len())?;
     for node in nodes {

@@ -56,9 +56,8 @@ pub(crate) fn gather(
 ) -> Result<(Vec<EarlyNode>, Vec<usize>), AllocError>
     requires held { problem_held kept.now ≡ Some problem.now }
     requires stage { (1 ≤ stage) × (stage ≤ length problem.now.flights) }
-    ensures {
-        IfOk result (λ found. IsGathered (held_of kept.now) stage found.0.items found.1.items)
-    }
+    ensures { IfOk result (λ found.
+        IsGathered (held_of kept.now) stage found.0.items found.1.items) }
 {
     let _held = kept.stages();
     let mut nodes = Vec::new(alloc);

@@ -83,9 +83,8 @@ pub(crate) fn least_cost(
     requires next { IsNextIn problem.now stage next.now }
     requires ways { AreWaysOf node next.now.nodes ways.now }
     requires second { second ≤ last_second }
-    ensures least {
-        IsLeastOf (IsEnd problem.now stage node next.now.nodes next.now.lists second) result
-    }
+    ensures least { IsLeastOf
+        (IsEnd problem.now stage node next.now.nodes next.now.lists second) result }
     ensures small { IfSome result (λ c. c ≤ 17279900 * (length problem.now.flights - stage)) }
 {
     let left = problem.len() - stage;

@@ -4,3 +4,6 @@
 mod plan;
 
 pub use plan::first_plan;
+
+#[cfg(test)]
+mod tests;

@@ -20,9 +20,8 @@ pub fn first_plan(alloc: Global, sequencer: &Sequencer<AnyKept>) -> Result<Optio
     ensures first { IfOk result (IsFirstShown sequencer.now.state.situation) }
 
     // It costs what the plan that is shown costs.
-    ensures value {
-        IfOk result (λ plan. value_of plan ≡ value_of (plan_shown sequencer.now.state))
-    }
+    ensures value { IfOk result (λ plan. value_of plan
+        ≡ value_of (plan_shown sequencer.now.state)) }
 {
     problem_stands_for_situation();
     first_best_schedule_is_one();
