@@ -83,7 +83,7 @@ fn frozen(alloc: Global, version: u8) -> Result<Situation, Fail> {
 }
 
 // Each flight's frozen second and count.
-fn states(alloc: Global, situation: &Situation) -> Result<Vec<(Option<u32>, u8)>, Fail> {
+fn states(alloc: Global, situation: &Situation) -> Result<Vec<Shown>, Fail> {
     let mut all = Vec::new(alloc);
     for i in 0..situation.len() {
         all.push((situation.frozen(i), situation.passed(i)))?;
@@ -132,62 +132,76 @@ fn each_refusal_has_its_value(rt: HostRuntime) -> Result<(), Fail> {
     Ok(())
 }
 
+// What a flight shows: its frozen second, if it is frozen, and its count.
+type Shown = (Option<u32>, u8);
+
+// What the two flights show at the opening of an aerodrome of this version, with these lines.
+fn opening_states(
+    alloc: Global,
+    version: u8,
+    clock: &str,
+    entries: &str,
+) -> Result<Vec<Shown>, Fail> {
+    let aerodrome = sample(alloc, version, clock, entries)?;
+    let rows = "A1,A,1000,1,1000-2000,\nF1,F,1010,1,1010-2000,\n";
+    let situation = opened(alloc, &aerodrome, rows)?;
+    states(alloc, &situation)
+}
+
 #[test]
-fn opening_takes_the_clock_the_landings_and_the_counts(rt: HostRuntime) -> Result<(), Fail> {
+fn opening_takes_the_landings_and_the_counts(rt: HostRuntime) -> Result<(), Fail> {
     let entries = "[[frozen]]\ncallsign = \"F1\"\nsecond = 1010
 [[passed]]\ncallsign = \"A1\"\ncount = 1";
-    let aerodrome = sample(rt.alloc(), 3, "clock = 900", entries)?;
-    let rows = "A1,A,1000,1,1000-2000,\nF1,F,1010,1,1010-2000,\n";
-    let situation = opened(rt.alloc(), &aerodrome, rows)?;
-    assert!(rt; situation.horizon() == 1050);
-    assert!(rt;
-        states(rt.alloc(), &situation)?.as_slice() == [(None, 1), (Some(1010), 0)].as_slice()
-    );
-    let back = answer(rt.alloc(), &situation, "clock,,,800,,,\n")?;
-    assert!(rt; back == Some(Refusal::ClockBack(900)));
-    let entries = "[[frozen]]\ncallsign = \"F1\"\nsecond = 1010
-[[frozen]]\ncallsign = \"A1\"\nsecond = 1070";
-    let aerodrome = sample(rt.alloc(), 2, "clock = 1000", entries)?;
-    let situation = opened(rt.alloc(), &aerodrome, rows)?;
-    assert!(rt;
-        states(rt.alloc(), &situation)?.as_slice() == [(Some(1070), 0), (Some(1010), 0)].as_slice()
-    );
+    let counted = opening_states(rt.alloc(), 3, "clock = 900", entries)?;
+    assert!(rt; counted.as_slice() == [(None, 1), (Some(1010), 0)].as_slice());
     Ok(())
 }
 
 #[test]
-fn counts_rise_by_the_flights_behind_and_stop_at_k(rt: HostRuntime) -> Result<(), Fail> {
-    let plain = states(rt.alloc(), &frozen(rt.alloc(), 2)?)?;
-    assert!(rt; plain.as_slice() == [(None, 0), (Some(1010), 0)].as_slice());
-    let aerodrome = sample(rt.alloc(), 3, "", "")?;
+fn every_flight_may_be_frozen(rt: HostRuntime) -> Result<(), Fail> {
+    let entries = "[[frozen]]\ncallsign = \"F1\"\nsecond = 1010
+[[frozen]]\ncallsign = \"A1\"\nsecond = 1070";
+    let frozen = opening_states(rt.alloc(), 2, "clock = 1000", entries)?;
+    assert!(rt; frozen.as_slice() == [(Some(1070), 0), (Some(1010), 0)].as_slice());
+    Ok(())
+}
+
+// What five flights show under the carry after these clock seconds, with the same seconds shown all the time.
+fn states_after(alloc: Global, nows: &[u32]) -> Result<Vec<Shown>, Fail> {
+    let aerodrome = sample(alloc, 3, "", "")?;
     let rows = "A1,A,1005,1,1000-2000,
 F1,F,1010,1,1010-2000,
 F2,F,1000,1,1000-2000,
 F3,F,1100,1,1100-2000,
 F4,F,1100,1,1100-2000,
 ";
-    let situation = opened(rt.alloc(), &aerodrome, rows)?;
+    let mut situation = opened(alloc, &aerodrome, rows)?;
     let seconds: [u32; 5] = [1400, 1010, 1130, 1190, 1250];
-    let first = clocked(rt.alloc(), &situation, &seconds, 900)?;
-    let all = states(rt.alloc(), &first)?;
+    for now in nows {
+        situation = clocked(alloc, &situation, &seconds, (*now).min(172_799))?;
+    }
+    states(alloc, &situation)
+}
+
+#[test]
+fn counts_rise_by_the_flights_behind(rt: HostRuntime) -> Result<(), Fail> {
+    let all = states_after(rt.alloc(), &[900])?;
     assert!(rt;
         all.as_slice() == [(None, 1), (Some(1010), 0), (None, 1), (None, 0), (None, 0)].as_slice()
     );
-    let second = clocked(rt.alloc(), &first, &seconds, 1000)?;
-    let all = states(rt.alloc(), &second)?;
-    assert!(rt;
-        all.as_slice()
-            == [
-                (None, 1),
-                (Some(1010), 0),
-                (Some(1130), 0),
-                (None, 0),
-                (None, 0)
-            ]
-            .as_slice()
-    );
-    let third = clocked(rt.alloc(), &second, &seconds, 1110)?;
-    let all = states(rt.alloc(), &third)?;
+    Ok(())
+}
+
+#[test]
+fn flights_ahead_are_not_counted(rt: HostRuntime) -> Result<(), Fail> {
+    let all = states_after(rt.alloc(), &[900, 1000])?;
+    assert!(rt; all.len() == 5 && all[0] == (None, 1) && all[2] == (Some(1130), 0));
+    Ok(())
+}
+
+#[test]
+fn counts_stop_at_k(rt: HostRuntime) -> Result<(), Fail> {
+    let all = states_after(rt.alloc(), &[900, 1000, 1110])?;
     assert!(rt; all.len() == 5 && all[0] == (None, 2) && all[4] == (Some(1250), 0));
     Ok(())
 }
