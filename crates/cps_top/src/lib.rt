@@ -39,36 +39,3 @@ pub use replay_laws::{
     text_fixes_the_replay,
 };
 pub use top::run;
-
-#[cfg(test)]
-mod audit_tests;
-#[cfg(test)]
-mod certify_tests;
-#[cfg(test)]
-mod check_tests;
-#[cfg(test)]
-mod effort_tests;
-#[cfg(test)]
-mod hostile_tests;
-#[cfg(test)]
-mod limit_tests;
-#[cfg(test)]
-mod refused_openings;
-#[cfg(test)]
-mod replay_tests;
-#[cfg(test)]
-mod test_runs;
-#[cfg(test)]
-mod tests;
-#[cfg(test)]
-mod trial_tests;
-#[cfg(test)]
-mod worked_cases;
-#[cfg(test)]
-mod worked_openings;
-#[cfg(test)]
-mod worked_plans;
-#[cfg(test)]
-mod worked_refusals;
-#[cfg(test)]
-mod worked_trials;

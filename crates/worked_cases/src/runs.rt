@@ -1,0 +1,66 @@
+// The run of a case.
+use crate::cases::{Case, Texts};
+use crate::counting::CountingSink;
+use crate::files::folder_of;
+use anyhow::Result;
+use cps_outside::{FreeGate, MemorySink};
+use cps_top::run;
+use std::alloc::Global;
+use std::thread::Threads;
+
+// The most bytes that a case writes.
+const ROOM: usize = 8_000_000;
+
+fn sink(alloc: Global, failing: &[(u32, u32)]) -> Result<CountingSink> {
+    let sink = MemorySink::new(alloc, ROOM, failing.to_vec(alloc)?)?;
+    Ok(CountingSink { sink, puts: 0 })
+}
+
+fn words_of(alloc: Global, case: &Case) -> Result<Vec<String>> {
+    let mut words = Vec::new(alloc);
+    for word in case.words.as_str().split_whitespace() {
+        words.push(String::from_str(alloc, word)?)?;
+    }
+    Ok(words)
+}
+
+// Whether an output is the one of a case.
+fn is_output(case: &Case, written: &[u8]) -> bool {
+    if let Some(head) = &case.begins {
+        return written.starts_with(head.as_bytes());
+    }
+    if let Some(end) = &case.ends {
+        return written.ends_with(end.as_bytes());
+    }
+    let is_other = match &case.or {
+        Some(other) => written == other.as_bytes(),
+        None => false,
+    };
+    is_other || written == case.out.as_bytes()
+}
+
+/// Whether the run of a case ends as it should.
+pub(crate) fn is_as_shown<R: Threads + Sync>(
+    rt: &R,
+    alloc: Global,
+    texts: &Texts,
+    case: &Case,
+) -> Result<bool> {
+    let mut folder = folder_of(alloc, texts, case)?;
+    let mut out = sink(alloc, case.failing_puts.as_slice())?;
+    let mut err = sink(alloc, case.failing_lines.as_slice())?;
+    let words = words_of(alloc, case)?;
+    let status = run(
+        rt,
+        alloc,
+        words.as_slice(),
+        &mut folder,
+        &mut out,
+        &mut err,
+        &FreeGate,
+    );
+    Ok(status == case.status
+        && is_output(case, out.sink.written())
+        && case.puts.is_none_or(|puts| puts == out.puts)
+        && err.sink.written() == case.err.as_bytes())
+}
