@@ -21,8 +21,3 @@ pub use frozen_list::{FrozenLanding, FrozenList};
 pub use key_text::KeyText;
 pub use passed_list::{PassedCount, PassedList};
 pub use reading::read_aerodrome;
-
-#[cfg(test)]
-mod tests;
-#[cfg(test)]
-mod version_tests;

@@ -24,6 +24,3 @@ pub use finding::Finding;
 pub use plan::{PlanFault, PlanText};
 pub use reading::read_plan;
 pub use text::append_findings;
-
-#[cfg(test)]
-mod tests;

@@ -19,6 +19,3 @@ pub use laws::{
     whole_states_are_fixed,
 };
 pub use verdict::{Reason, Verdict};
-
-#[cfg(test)]
-mod tests;

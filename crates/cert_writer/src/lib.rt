@@ -12,6 +12,3 @@ mod states;
 mod writer;
 
 pub use writer::certify;
-
-#[cfg(test)]
-mod tests;

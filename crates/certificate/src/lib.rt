@@ -16,6 +16,3 @@ pub use pattern::Pattern;
 pub use printing::print_certificate;
 pub use reading::read_certificate;
 pub use state::CertState;
-
-#[cfg(test)]
-mod tests;

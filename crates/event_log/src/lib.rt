@@ -12,6 +12,3 @@ pub use event::Event;
 pub use fault::{Col, FieldCause, LogCause, LogFault};
 pub use reading::read_events;
 pub use span::read_span;
-
-#[cfg(test)]
-mod tests;

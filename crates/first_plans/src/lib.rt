@@ -4,6 +4,3 @@
 mod plan;
 
 pub use plan::first_plan;
-
-#[cfg(test)]
-mod tests;

@@ -17,6 +17,3 @@ pub use plan::{Landing, Plan};
 pub use problem::problem_of;
 pub use sequencer::Sequencer;
 pub use situations::Refusal;
-
-#[cfg(test)]
-mod tests;

@@ -15,6 +15,3 @@ pub use active::Active;
 pub use opening_refusal::{OpeningFault, opening_fault};
 pub use refusal::Refusal;
 pub use situation::{Fixed, Situation};
-
-#[cfg(test)]
-mod tests;

@@ -17,6 +17,3 @@ pub use reading::read_trials;
 pub use running::run_trials;
 pub use text::append_outcomes;
 pub use trial::Trial;
-
-#[cfg(test)]
-mod tests;
