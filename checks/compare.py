@@ -2,11 +2,12 @@
 
 Each printed plan must be feasible, tight, of the least objective and of the printed value, or `infeasible` exactly where no
 order of the flights is feasible; each event must have its answer; the statuses must be 0 or 1 by the last plan. A certificate
-must be judged to hold with the same value. A replay is followed by the program's own plans. `first` must print the best plan
+must be judged to hold with the same value, and not to hold without the counts of the carry where these cost something. A replay is followed by the program's own plans. `first` must print the best plan
 whose order of ranks is least, `whatif` each outcome, and `audit` each finding. An opening is refused with its first cause."""
 import subprocess
 import sys
 import tempfile
+from dataclasses import replace
 from pathlib import Path
 
 from audit import findings
@@ -84,6 +85,18 @@ def check_certificate(program, folder, situation):
     verdict, _, status = run(program, folder, 'check', *FILES, 'certificate.txt')
     least = situation.least()
     need(verdict == ('infeasible\n' if least is None else f'optimal {least}\n') and status == 0, 'the certificate is accepted')
+    check_without_counts(program, folder, situation)
+
+
+def check_without_counts(program, folder, situation):
+    """Where the counts of the carry make the plan dearer, the certificate does not hold for the same files without them."""
+    has_first = situation.clock is None and (situation.objective == 'makespan' or situation.k < 2)
+    free = replace(situation, passed={}, version=1 if has_first else 2)
+    if free.least() == situation.least():
+        return
+    (folder / 'free.toml').write_text(aerodrome_text(free))
+    verdict, _, status = run(program, folder, 'check', 'free.toml', 'flights.csv', 'certificate.txt')
+    need(verdict.startswith('rejected ') and status == 7, 'the certificate is rejected without the counts')
 
 
 def check_first(program, folder, situation):
