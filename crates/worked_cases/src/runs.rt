@@ -59,8 +59,10 @@ pub(crate) fn is_as_shown<R: Threads + Sync>(
         &mut err,
         &FreeGate,
     );
-    Ok(status == case.status
-        && is_output(case, out.sink.written())
-        && case.puts.is_none_or(|puts| puts == out.puts)
-        && err.sink.written() == case.err.as_bytes())
+    Ok(
+        status == case.status
+            && is_output(case, out.sink.written())
+            && case.puts.is_none_or(|puts| puts == out.puts)
+            && err.sink.written() == case.err.as_bytes(),
+    )
 }
