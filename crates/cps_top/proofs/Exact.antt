@@ -12,10 +12,10 @@ use Rattle.endings.specs.declared.ending.Ending.TheVariants.{Answered, Misused, 
 use Rattle.cps_top.specs.Commands.{command_of, files_of, Admits, Begins, Refuses}
 use Rattle.cps_outside.specs.FolderState.{FolderState}
 use Rattle.cps_top.specs.Plan.{refused_by}
-use Rattle.endings.specs.Loads.{limit, FailsAt}
+use Rattle.endings.specs.Loads.{limit, FailsAt, FailsWithin}
 use Rattle.endings.specs.Lines.{status_of}
 use Rattle.cps_top.specs.Outcome.{Outside, Ends, Serves}
-use Rattle.cps_top.specs.Statuses.{IsExact, FailsWithin}
+use Rattle.cps_top.specs.Statuses.{IsExact}
 use Rattle.cps_top.proofs.Audited.{not_unaudited}
 use Rattle.cps_top.proofs.Judged.{not_unchecked}
 use Rattle.cps_top.proofs.Tried.{not_untried}

@@ -1,4 +1,4 @@
-// How the program ends where a file is none, or memory runs out: each fault by itself, so that `?` passes it on.
+// How a run ends where a file is none, or memory runs out: each fault by itself, so that `?` passes it on.
 ghost use Rattle.std.specs.Prelude.{◌≡◌};
 
 use crate::{Ending, Refusal};

@@ -30,6 +30,6 @@ fn an_ending_has_its_status_and_its_line(rt: HostRuntime) -> Result<(), Fail> {
     assert_eq!(rt; ending, Ending::Refused(Refusal::Plan(PlanFault::Line(7))));
     assert_eq!(rt; status(&ending), 3);
     assert_eq!(rt; say(&mut err, &ending), Ok(()));
-    assert_eq!(rt; err.written(), b"cps: plan: line 7\n");
+    assert_eq!(rt; err.written(), "cps: plan: line 7\n".as_bytes());
     Ok(())
 }
