@@ -16,6 +16,3 @@ mod trial_lines;
 pub use ending::{Answer, Ending, Refusal};
 pub use lines::{say, status};
 pub use loads::{LIMIT, load_all};
-
-#[cfg(test)]
-mod tests;
