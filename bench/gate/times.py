@@ -1,0 +1,85 @@
+#!/usr/bin/env python3
+"""Runs `rt ci` and tells where its processor time went: times.py [WORD..], at the top of a checkout.
+
+It looks once a second at every prover of this machine and prints, behind what `rt ci` prints, a table with the processor seconds
+of each crate's proof, of its tests' proof and of its edits, and the longest chain of crates that stand on one another. What an
+earlier run kept costs nothing and is not in the table, so a whole one wants `rt ci --anew`, or a machine where nothing is kept.
+Nothing else should prove at the same time."""
+import os
+import subprocess
+import sys
+import time
+
+KINDS = 'proof', 'tests', 'edits'
+TICKS = os.sysconf('SC_CLK_TCK')
+
+
+def read(path):
+    with open(path, 'rb') as file:
+        return file.read().decode(errors='replace')
+
+
+def look(number):
+    """The crate, the kind of work and the processor seconds of a prover, or None for another process."""
+    words = read(f'/proc/{number}/cmdline').split('\0')
+    if not words[0].endswith('/rattle') or '--crate-name' not in words:
+        return None
+    fields = read(f'/proc/{number}/stat').rpartition(')')[2].split()
+    kind = 'tests' if '--test' in words else 'edits' if 'rt-edit' in os.readlink(f'/proc/{number}/cwd') else 'proof'
+    return words[words.index('--crate-name') + 1], kind, (int(fields[11]) + int(fields[12])) / TICKS, fields[19]
+
+
+def sample(seen):
+    for number in filter(str.isdigit, os.listdir('/proc')):
+        try:
+            found = look(number)
+        except OSError:
+            continue
+        if found:
+            crate, kind, seconds, begun = found
+            seen[number, begun] = crate, kind, seconds
+
+
+def stands_on():
+    lines = (line.split(':') for line in open('crates.txt') if not line.startswith('#'))
+    return {line[0].split()[0]: line[1].split() for line in lines if len(line) > 1}
+
+
+def longest_chain(below, seconds):
+    """The chain of crates whose proofs take longest one after another, and its seconds."""
+    chains = {}
+
+    def chain(crate):
+        if crate not in chains:
+            under = max((chain(it) for it in below.get(crate, ()) if it in below), default=(0, []))
+            chains[crate] = under[0] + seconds.get((crate, 'proof'), 0), under[1] + [crate]
+        return chains[crate]
+
+    return max(chain(crate) for crate in below)
+
+
+def main(words):
+    begun = time.time()
+    gate = subprocess.Popen(['rt', 'ci', *words])
+    seen = {}
+    while gate.poll() is None:
+        sample(seen)
+        time.sleep(1)
+    seconds = {}
+    for crate, kind, spent in seen.values():
+        seconds[crate, kind] = seconds.get((crate, kind), 0) + spent
+    below = stands_on()
+    print('\n| crate | proof | tests | edits |\n|---|---|---|---|')
+    for crate in below:
+        if any((crate, kind) in seconds for kind in KINDS):
+            print(f'| {crate} | ' + ' | '.join('%d' % seconds.get((crate, kind), 0) for kind in KINDS) + ' |')
+    sums = [sum(spent for (_, it), spent in seconds.items() if it == kind) for kind in KINDS]
+    print('| all | ' + ' | '.join('%d' % it for it in sums) + ' |')
+    length, chain = longest_chain(below, seconds)
+    print(f'\nLongest chain of proofs: {length:.0f} s, {" ".join(chain)}')
+    print(f'Processor time {sum(sums) / 60:.0f} min, wall time {(time.time() - begun) / 60:.0f} min')
+    return gate.returncode
+
+
+if __name__ == '__main__':
+    sys.exit(main(sys.argv[1:]))
