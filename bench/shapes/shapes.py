@@ -1,0 +1,64 @@
+#!/usr/bin/env python3
+"""Files of a size, for measuring: shapes.py KIND SIZE FOLDER writes aerodrome.toml and flights.csv (and more where KIND says so).
+
+  pairs SIZE    60 flights, delay, k = 2, windows of SIZE seconds: weights and separations that keep very many pairs a window
+  frozen SIZE   500 flights of which SIZE are frozen and the others wait, k = 1
+  trials SIZE   60 flights a few seconds apart, k = 3, makespan, and trials.csv with SIZE trials of k = 3
+"""
+import random
+import sys
+from pathlib import Path
+
+LETTERS = 'ABCDEF'
+TABLE = [[90, 110, 120, 130, 140, 180], [60, 90, 100, 110, 120, 160], [60, 60, 60, 60, 100, 140],
+         [60, 60, 60, 60, 60, 120], [60, 60, 60, 60, 60, 100], [60, 60, 60, 60, 60, 60]]
+HEADER = 'callsign,category,eta,weight,windows,after\n'
+
+
+def aerodrome(version, k, objective, table=TABLE, more=''):
+    rows = ''.join(f'{letter} = {row}\n' for letter, row in zip(LETTERS, table))
+    return f'version = {version}\nk = {k}\nfreeze = 150\nobjective = "{objective}"\n{more}\n[table]\n{rows}'
+
+
+def fine_table(draw):
+    """Separations of every second from 60 to 119: any such table keeps the triangle inequality."""
+    return [[draw.randint(60, 119) for _ in LETTERS] for _ in LETTERS]
+
+
+def pairs(size):
+    draw = random.Random(size)
+    rows = ''
+    for i in range(60):
+        eta = 3600 + 20 * i
+        rows += f'T{i:03},{draw.choice(LETTERS)},{eta},{draw.randint(1, 100)},{eta}-{eta + size - 1},\n'
+    return {'aerodrome.toml': aerodrome(2, 2, 'delay', fine_table(draw)), 'flights.csv': HEADER + rows}
+
+
+def frozen(size):
+    rows, entries = '', ''
+    for i in range(500):
+        second = 1000 + 60 * i
+        rows += f'T{i:03},F,{second},1,{second}-{second + 1800},\n'
+        if i < size:
+            entries += f'\n[[frozen]]\ncallsign = "T{i:03}"\nsecond = {second}\n'
+    clock = f'clock = {1000 + 60 * size - 150}\n'
+    return {'aerodrome.toml': aerodrome(2, 1, 'makespan', more=clock) + entries, 'flights.csv': HEADER + rows}
+
+
+def trials(size):
+    draw = random.Random(60)
+    rows = ''
+    for i in range(60):
+        eta = 3600 + 5 * i
+        rows += f'T{i:03},{draw.choice(LETTERS)},{eta},1,{eta}-{eta + 7199},\n'
+    return {'aerodrome.toml': aerodrome(1, 3, 'makespan'), 'flights.csv': HEADER + rows, 'trials.csv': 'kind,value\n' + 'k,3\n' * size}
+
+
+def main(kind, size, folder):
+    Path(folder).mkdir(parents=True, exist_ok=True)
+    for name, text in {'pairs': pairs, 'frozen': frozen, 'trials': trials}[kind](int(size)).items():
+        (Path(folder) / name).write_text(text)
+
+
+if __name__ == '__main__':
+    main(*sys.argv[1:])
