@@ -123,7 +123,8 @@ pub(crate) fn frozen_in(
     freeze: u32,
     value: Option<&Value>,
 ) -> Result<FrozenList, AeroFault>
-    ensures value { Gives result (frozen_in clock freeze (option_map (λ v. view v.now) value.entry)) }
+    ensures value { Gives result (frozen_in clock freeze
+        (option_map (λ v. view v.now) value.entry)) }
     ensures range { IfOk result (AreFrozenBy clock freeze) }
 {
     let Some(value) = value else {

@@ -20,7 +20,8 @@ impl Model for KeyText {
 
     ghost view = { λ t. take t.len t.bytes };
 
-    ghost invariant = { λ t. (t.bytes ≡ padded (take t.len t.bytes)) × (length (take t.len t.bytes) ≡ t.len) };
+    ghost invariant = { λ t. (t.bytes ≡ padded (take t.len t.bytes))
+        × (length (take t.len t.bytes) ≡ t.len) };
 
     ghost inverse = { λ text. record { bytes = padded text; len = length text } };
 

@@ -32,7 +32,8 @@ impl Model for Callsign {
 
     ghost view = { λ c. take c.len c.bytes };
 
-    ghost invariant = { λ c. (c.bytes ≡ padded (take c.len c.bytes)) × (length (take c.len c.bytes) ≡ c.len) × IsTrue (is_callsign (take c.len c.bytes)) };
+    ghost invariant = { λ c. (c.bytes ≡ padded (take c.len c.bytes))
+        × (length (take c.len c.bytes) ≡ c.len) × IsTrue (is_callsign (take c.len c.bytes)) };
 
     ghost inverse = { λ text. record { bytes = padded text; len = length text } };
 

@@ -27,7 +27,9 @@ pub(crate) fn compact_all<const W: usize, T: Drop, F: Fn(&T) -> bool>(
     requires width { IsWidth W }
     requires one_each { vec_len labels.old ≡ vec_len windows.old }
     requires callable { F.IsAlwaysCallable keep.now }
-    ensures { (answers : List Bool) × AllZip (FnReturnsAt F.Fn keep.now) labels.old.items answers × (windows.new.items ≡ kept_where answers windows.old.items) × (labels.new.items ≡ kept_where answers labels.old.items) }
+    ensures { (answers : List Bool) × AllZip (FnReturnsAt F.Fn keep.now) labels.old.items answers
+        × (windows.new.items ≡ kept_where answers windows.old.items)
+        × (labels.new.items ≡ kept_where answers labels.old.items) }
 {
     let mut kept = 0;
     for i in 0..labels.len() {

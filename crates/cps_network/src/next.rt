@@ -31,7 +31,9 @@ fn add_permitted<const W: usize>(
     requires due { (rank : ℕ) → HasBit due rank ↔ (rank + W / 2 ≤ stage) }
     requires rank { (1 ≤ rank) × (rank ≤ length problem.now.flights) }
     requires reach { (rank ≤ stage + 1 + problem.now.k) × (stage + 1 ≤ rank + problem.now.k) }
-    ensures { OnOk result ((x : _) → Contains runs.new x ↔ (Contains runs.old x ⊎ (IsPermitted problem.now stage window.now rank × (x ≡ shifted window.now (offset_after stage rank))))) }
+    ensures { OnOk result ((x : _) → Contains runs.new x ↔ (Contains runs.old x
+        ⊎ (IsPermitted problem.now stage window.now rank
+        × (x ≡ shifted window.now (offset_after stage rank))))) }
 {
     match successor(problem, window, stage, rank, due) {
         None => Ok(()),
@@ -54,7 +56,8 @@ fn add_successors<const W: usize>(
     requires width { W ≡ 2 * problem.now.k + 1 }
     requires stage { stage < length problem.now.flights }
     requires due { (rank : ℕ) → HasBit due rank ↔ (rank + W / 2 ≤ stage) }
-    ensures { OnOk result ((x : _) → Contains runs.new x ↔ (Contains runs.old x ⊎ IsSuccessor problem.now stage window.now x)) }
+    ensures { OnOk result ((x : _) → Contains runs.new x ↔ (Contains runs.old x ⊎ IsSuccessor
+        problem.now stage window.now x)) }
 {
     let k = most_shift(problem);
     let n = problem.len();
@@ -80,8 +83,10 @@ fn add_at<const W: usize>(
     requires stage { stage < length problem.now.flights }
     requires due { (rank : ℕ) → HasBit due rank ↔ (rank + W / 2 ≤ stage) }
     requires within { i < length before.now }
-    requires last { 0 < i → (x : _) → IsSuccessor problem.now stage (node_at before.now (i - 1)) x → Contains runs.old x }
-    ensures { OnOk result ((x : _) → Contains runs.new x ↔ (Contains runs.old x ⊎ IsSuccessor problem.now stage (node_at before.now i) x)) }
+    requires last { 0 < i → (x : _) → IsSuccessor problem.now stage (node_at before.now (i - 1))
+        x → Contains runs.old x }
+    ensures { OnOk result ((x : _) → Contains runs.new x ↔ (Contains runs.old x ⊎ IsSuccessor
+        problem.now stage (node_at before.now i) x)) }
 {
     if i > 0 && before[i - 1].shares_tail(&before[i]) {
         return Ok(());

@@ -63,7 +63,8 @@ pub fn placed_set<const W: usize>(window: &Window<W>, stage: u8, due: u64) -> u6
     requires stage { stage ≤ 60 }
     requires valid { IsWindow W window.now }
     requires due { (rank : ℕ) → HasBit due rank ↔ (rank + W / 2 ≤ stage) }
-    ensures { (rank : ℕ) → 1 ≤ rank → HasBit result rank ↔ IsPlaced window.now (pos stage) (pos rank) }
+    ensures { (rank : ℕ) → 1 ≤ rank → HasBit result rank ↔ IsPlaced window.now (pos stage) (pos
+        rank) }
 {
     let mut placed = due;
     for i in 0..W {
@@ -85,7 +86,8 @@ fn follows_its_predecessors<const W: usize>(
     requires valid { IsWindow W window.now }
     requires due { (rank : ℕ) → HasBit due rank ↔ (rank + W / 2 ≤ stage) }
     requires rank { (1 ≤ rank) × (rank ≤ 60) }
-    ensures { IsTrue result ↔ ((first : ℕ) → MustPrecede problem.now.pairs first rank → IsPlaced window.now (pos stage) (pos first)) }
+    ensures { IsTrue result ↔ ((first : ℕ) → MustPrecede problem.now.pairs first rank → IsPlaced
+        window.now (pos stage) (pos first)) }
 {
     let pairs = problem.pairs();
     pairs.all_before(rank, due) || pairs.all_before(rank, placed_set(window, stage, due))
@@ -124,7 +126,8 @@ pub fn successor<const W: usize>(
     requires rank { (1 ≤ rank) × (rank ≤ length problem.now.flights) }
     requires reach { (rank ≤ stage + 1 + problem.now.k) × (stage + 1 ≤ rank + problem.now.k) }
     ensures valid { IsWindow W window.now }
-    ensures next { SomeIff result (IsPermitted problem.now stage window.now rank) (shifted window.now (offset_after stage rank)) }
+    ensures next { SomeIff result (IsPermitted problem.now stage window.now rank)
+        (shifted window.now (offset_after stage rank)) }
 {
     let _few = problem.len();
     let _near = problem.head();
@@ -168,7 +171,9 @@ pub fn is_permitted<const W: usize>(
     ensures step { IsTrue result ↔ IsPermitted problem.now stage window.now rank }
 
     // A prefix is a list of ranks, the latest first.
-    ensures whole { (ranks : List ℕ) → IsLegalPrefix (ranked problem.now).rules ranks → window.now ≡ window_of W (reverse ranks) → stage ≡ length ranks → (IsTrue result ↔ IsLegalPrefix (ranked problem.now).rules (rank ∷ ranks)) }
+    ensures whole { (ranks : List ℕ) → IsLegalPrefix (ranked problem.now).rules ranks
+        → window.now ≡ window_of W (reverse ranks) → stage ≡ length ranks
+        → (IsTrue result ↔ IsLegalPrefix (ranked problem.now).rules (rank ∷ ranks)) }
 {
     prefix_laws::<W>(problem);
     permits(problem, window, stage, rank)

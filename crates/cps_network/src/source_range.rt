@@ -15,7 +15,8 @@ fn first_source<const W: usize>(before: &[Window<W>], node: &Window<W>) -> usize
     requires ascending { IsAscending before.now }
     ensures within { result ≤ length before.now }
     ensures below { (i : ℕ) → i < result → IsBelow (node_at before.now i) node.now }
-    ensures above { (i : ℕ) → result ≤ i → i < length before.now → IsBelow (node_at before.now i) node.now → ⊥ }
+    ensures above { (i : ℕ) → result ≤ i → i < length before.now
+        → IsBelow (node_at before.now i) node.now → ⊥ }
 {
     let mut low = 0;
     let mut high = before.len();
@@ -33,7 +34,8 @@ fn first_source<const W: usize>(before: &[Window<W>], node: &Window<W>) -> usize
 // Whether the windows that lead to a node may begin at this place: the one before it does not lead there.
 fn may_begin_at<const W: usize>(before: &[Window<W>], node: &Window<W>, place: usize) -> bool
     ensures within { IsTrue result → place ≤ length before.now }
-    ensures first { IsTrue result → 0 < place → TailMeetsHead (node_at before.now (place - 1)) node.now → ⊥ }
+    ensures first { IsTrue result → 0 < place
+        → TailMeetsHead (node_at before.now (place - 1)) node.now → ⊥ }
 {
     if place > before.len() {
         return false;
@@ -45,8 +47,10 @@ fn may_begin_at<const W: usize>(before: &[Window<W>], node: &Window<W>, place: u
 fn end_from<const W: usize>(before: &[Window<W>], node: &Window<W>, from: usize) -> usize
     requires { from ≤ length before.now }
     ensures range { (from ≤ result) × (result ≤ length before.now) }
-    ensures leads { (i : ℕ) → from ≤ i → i < result → TailMeetsHead (node_at before.now i) node.now }
-    ensures ends { result < length before.now → TailMeetsHead (node_at before.now result) node.now → ⊥ }
+    ensures leads { (i : ℕ) → from ≤ i → i < result
+        → TailMeetsHead (node_at before.now i) node.now }
+    ensures ends { result < length before.now
+        → TailMeetsHead (node_at before.now result) node.now → ⊥ }
 {
     let mut to = from;
     while to < before.len() && before[to].leads_to(node) {
@@ -64,7 +68,8 @@ pub(crate) fn sources_near<const W: usize>(
     requires width { IsWidth W }
     requires ascending { IsAscending before.now }
     ensures range { (result.0 ≤ result.1) × (result.1 ≤ length before.now) }
-    ensures exact { (i : ℕ) → i < length before.now → TailMeetsHead (node_at before.now i) node.now ↔ ((result.0 ≤ i) × (i < result.1)) }
+    ensures exact { (i : ℕ) → i < length before.now
+        → TailMeetsHead (node_at before.now i) node.now ↔ ((result.0 ≤ i) × (i < result.1)) }
 {
     if may_begin_at(before, node, hint) {
         let to = end_from(before, node, hint);
@@ -80,7 +85,8 @@ pub(crate) fn sources_near<const W: usize>(
 pub fn sources<const W: usize>(before: &Stage<W>, node: &Window<W>) -> (usize, usize)
     requires width { IsWidth W }
     ensures range { (result.0 ≤ result.1) × (result.1 ≤ length before.now.1) }
-    ensures exact { (i : ℕ) → i < length before.now.1 → Extends (node_at before.now.1 i) node.now ↔ ((result.0 ≤ i) × (i < result.1)) }
+    ensures exact { (i : ℕ) → i < length before.now.1
+        → Extends (node_at before.now.1 i) node.now ↔ ((result.0 ≤ i) × (i < result.1)) }
 {
     window_laws::<W>();
     let _valid = node.last();

@@ -101,7 +101,9 @@ impl<const W: usize> Stage<W> {
         requires one_each { vec_len labels.old ≡ length self.old.1 }
         requires callable { F.IsAlwaysCallable keep }
         ensures number { self.new.0 ≡ self.old.0 }
-        ensures kept { (answers : List Bool) × AllZip (FnReturnsAt F.Fn keep) labels.old.items answers × (self.new.1 ≡ kept_where answers self.old.1) × (labels.new.items ≡ kept_where answers labels.old.items) }
+        ensures kept { (answers : List Bool) × AllZip (FnReturnsAt F.Fn keep) labels.old.items
+            answers × (self.new.1 ≡ kept_where answers self.old.1)
+            × (labels.new.items ≡ kept_where answers labels.old.items) }
     {
         compact_all(&mut self.windows, &mut self.hints, labels, &keep);
     }
@@ -143,7 +145,9 @@ impl<const W: usize> Stage<W> {
         requires width { IsWidth W }
         requires within { i < length self.now.1 }
         ensures range { (result.0 ≤ result.1) × (result.1 ≤ length before.now.1) }
-        ensures exact { (j : ℕ) → j < length before.now.1 → Extends (node_at before.now.1 j) (node_at self.now.1 i) ↔ ((result.0 ≤ j) × (j < result.1)) }
+        ensures exact { (j : ℕ) → j < length before.now.1
+            → Extends (node_at before.now.1 j) (node_at self.now.1 i)
+            ↔ ((result.0 ≤ j) × (j < result.1)) }
     {
         window_laws::<W>();
         sources_near(before.windows(), &self.windows[i], self.hint(i))

@@ -26,7 +26,8 @@ impl<const W: usize> Ord for Window<W> {
 impl<const W: usize> PartialOrd for Window<W> {
     ghost partial_cmp = { as_partial_cmp window_cmp };
 
-    ghost laws = { partial_order_from_agreeing_total window_cmp window_cmp_total (λ x y. refl) window_ties };
+    ghost laws = { partial_order_from_agreeing_total window_cmp window_cmp_total (λ x y. refl)
+        window_ties };
 
     fn partial_cmp(&self, other: &Window<W>) -> Option<Ordering> {
         Some(self.compare(other))

@@ -104,7 +104,10 @@ impl<const W: usize> Window<W> {
         ensures next_valid { IfSome result (λ next. IsWindow W next) }
 
         // For every list of ranks with this window: it goes on by a rank exactly where the rank's offset is accepted.
-        ensures ranks { (ranks : List ℕ) → (rank : ℕ) → KeepsShift (W / 2) ranks → self.now ≡ window_of W ranks → offset ≡ pos rank -ℤ pos (length ranks + 1) → SomeIff result (KeepsShift (W / 2) (ranks ++ rank ∷ [])) (window_of W (ranks ++ rank ∷ [])) }
+        ensures ranks { (ranks : List ℕ) → (rank : ℕ) → KeepsShift (W / 2) ranks
+            → self.now ≡ window_of W ranks → offset ≡ pos rank -ℤ pos (length ranks + 1)
+            → SomeIff result (KeepsShift (W / 2) (ranks ++ rank ∷ []))
+            (window_of W (ranks ++ rank ∷ [])) }
     {
         let offsets = &self.offsets;
         if holds_rank(offsets, W as i8 + offset) {
@@ -147,7 +150,9 @@ impl<const W: usize> Window<W> {
         ensures offsets { IsTrue result ↔ IsPlaced self.now stage rank }
 
         // For every list of ranks with this window: exactly its ranks are placed, and those below 1.
-        ensures ranks { (ranks : List ℕ) → KeepsShift (W / 2) ranks → self.now ≡ window_of W ranks → stage ≡ pos (length ranks) → (IsTrue result ↔ HasLanded ranks rank) }
+        ensures ranks { (ranks : List ℕ) → KeepsShift (W / 2) ranks
+            → self.now ≡ window_of W ranks → stage ≡ pos (length ranks)
+            → (IsTrue result ↔ HasLanded ranks rank) }
     {
         let offsets = &self.offsets;
         if rank + (W / 2) as i32 <= stage {

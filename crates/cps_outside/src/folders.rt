@@ -49,7 +49,10 @@ pub trait Folder {
         ensures asked { IsTrue (state self.old).tells →
             ((state self.new).asked ≡ (state self.old).asked ++ name.now ∷ [])
             ⊎ (IsErrOf result LoadFault.Memory × ((state self.new).asked ≡ (state self.old).asked)) }
-        ensures ok { IfOk result (λ bytes. Gives (state self.old) (state self.new) name.now most bytes.items) }
-        ensures failed { IsErrOf result LoadFault.Failed → Rose (state self.old).faults (state self.new).faults }
-        ensures too_long { IsErrOf result LoadFault.TooLong → Exceeds (state self.old) (state self.new) name.now most };
+        ensures ok { IfOk result (λ bytes. Gives (state self.old) (state self.new) name.now most
+            bytes.items) }
+        ensures failed { IsErrOf result LoadFault.Failed
+            → Rose (state self.old).faults (state self.new).faults }
+        ensures too_long { IsErrOf result LoadFault.TooLong
+            → Exceeds (state self.old) (state self.new) name.now most };
 }

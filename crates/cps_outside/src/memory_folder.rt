@@ -66,21 +66,27 @@ impl Folder for MemoryFolder {
 
     fn load(&mut self, name: &str, most: usize) -> Result<Vec<u8>, LoadFault>
         ensures after { IsAfterLoad (folder_state self.old) (folder_state self.new) }
-        ensures fits { ((folder_state self.new).faults < 2 ^ 64) × ((folder_state self.new).taken < 2 ^ 64) }
+        ensures fits { ((folder_state self.new).faults < 2 ^ 64)
+            × ((folder_state self.new).taken < 2 ^ 64) }
         ensures asked { IsTrue (folder_state self.old).tells →
             ((folder_state self.new).asked ≡ (folder_state self.old).asked ++ name.now ∷ [])
             ⊎ (IsErrOf result LoadFault.Memory × ((folder_state self.new).asked ≡ (folder_state self.old).asked)) }
-        ensures ok { IfOk result (λ bytes. Gives (folder_state self.old) (folder_state self.new) name.now most bytes.items) }
-        ensures failed { IsErrOf result LoadFault.Failed → Rose (folder_state self.old).faults (folder_state self.new).faults }
-        ensures too_long { IsErrOf result LoadFault.TooLong → Exceeds (folder_state self.old) (folder_state self.new) name.now most }
+        ensures ok { IfOk result (λ bytes. Gives (folder_state self.old) (folder_state self.new)
+            name.now most bytes.items) }
+        ensures failed { IsErrOf result LoadFault.Failed
+            → Rose (folder_state self.old).faults (folder_state self.new).faults }
+        ensures too_long { IsErrOf result LoadFault.TooLong
+            → Exceeds (folder_state self.old) (folder_state self.new) name.now most }
 
         // But for want of memory, it fails exactly where its number is listed or the name is absent.
         ensures fails { IsTrue (is_to_fail self.old name.now) →
             IsErrOf result LoadFault.Failed ⊎ IsErrOf result LoadFault.Memory }
-        ensures succeeds { is_to_fail self.old name.now ≡ false → IsErrOf result LoadFault.Failed → ⊥ }
+        ensures succeeds { is_to_fail self.old name.now ≡ false → IsErrOf result LoadFault.Failed
+            → ⊥ }
 
         // With no load listed, a load of a name that is there doesn't fail.
-        ensures present { failing_loads_of self.old ≡ [] → IsSome ((folder_state self.old).content name.now) →
+        ensures present { failing_loads_of self.old ≡ []
+            → IsSome ((folder_state self.old).content name.now) →
             IsErrOf result LoadFault.Failed → ⊥ }
 
         // No other answer than that it failed counts a fault.

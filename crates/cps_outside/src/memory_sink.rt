@@ -91,13 +91,16 @@ impl Sink for MemorySink {
         ensures answer { is_ok result ≡ takes_all self.old (length bytes.now) }
         ensures taken { (sink_state self.new).written ≡
             (sink_state self.old).written ++ take (bytes_taken self.old (length bytes.now)) bytes.now }
-        ensures room { room_of self.new + bytes_taken self.old (length bytes.now) ≡ room_of self.old }
+        ensures room { room_of self.new + bytes_taken self.old (length bytes.now)
+            ≡ room_of self.old }
 
         // With no put listed and room enough, none fails.
-        ensures enough { failing_puts_of self.old ≡ [] → length bytes.now ≤ room_of self.old → IsOk result }
+        ensures enough { failing_puts_of self.old ≡ [] → length bytes.now ≤ room_of self.old
+            → IsOk result }
 
         // A put that does not fail counts no fault.
-        ensures faultless { IsOk result → (sink_state self.new).faults ≡ (sink_state self.old).faults }
+        ensures faultless { IsOk result → (sink_state self.new).faults ≡ (sink_state
+            self.old).faults }
         ensures failing { failing_puts_of self.new ≡ failing_puts_of self.old }
         ensures puts { puts_of self.new ≡ number_of_put self.old }
     {

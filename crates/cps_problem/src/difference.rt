@@ -86,7 +86,8 @@ impl Problem {
         ensures from_one { 1 ≤ result }
         ensures within { IsWithinBoth self.now other.now result }
         ensures same { HaveSameFlights self.now other.now result }
-        ensures greatest { (s : ℕ) → IsWithinBoth self.now other.now s → HaveSameFlights self.now other.now s → s ≤ result }
+        ensures greatest { (s : ℕ) → IsWithinBoth self.now other.now s
+            → HaveSameFlights self.now other.now s → s ≤ result }
     {
         let n = self.len().min(other.len());
         for rank in 1..n + 1 {

@@ -37,5 +37,6 @@ pub trait Planner: Drop {
         ensures k { k self.new ≡ k self.old }
         ensures answer { IfOk result (λ answer. IsAnswerOf problem.now answer) }
         ensures holds { OnOk result (holds self.new problem.now) }
-        ensures steps { OnOk result ((n : ℕ) × due self.old problem.now n × (L.count steps.new ≡ raised_by n (L.count steps.old))) };
+        ensures steps { OnOk result ((n : ℕ) × due self.old problem.now n
+            × (L.count steps.new ≡ raised_by n (L.count steps.old))) };
 }

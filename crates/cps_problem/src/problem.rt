@@ -81,7 +81,14 @@ impl Problem {
 
     /// What all waiting flights share.
     pub fn head(&self) -> &Head
-        ensures value { self.now ≡ record self.now { table = result.now.table; k = result.now.k; objective = result.now.objective; horizon = result.now.horizon; last = result.now.last; base = result.now.base } }
+        ensures value { self.now ≡ record self.now {
+          table = result.now.table;
+          k = result.now.k;
+          objective = result.now.objective;
+          horizon = result.now.horizon;
+          last = result.now.last;
+          base = result.now.base;
+        } }
         ensures well_formed { IsWellFormed self.now }
     {
         &self.head

@@ -17,7 +17,8 @@ ghost use Rattle.cps_theory.specs.laws.RankCounts.{count};
 /// The least value kept at the last stage bounds every feasible schedule, and each pair kept there is that of
 /// a feasible schedule.
 pub fn last_stage_bounds_all()
-    ensures least { (p : RankedProblem) (cost : ℕ → ℕ → ℕ) → SoundProblem p → (value : Pair → ℕ) → IsObjective value →
+    ensures least { (p : RankedProblem) (cost : ℕ → ℕ → ℕ) → SoundProblem p → (value : Pair → ℕ)
+        → IsObjective value →
         (lists : WindowNode → List Pair) → ((w : WindowNode) → w.0 ≡ p.rules.count → KeptIn p cost w (lists w)) →
         (v : ℕ) → ((w : WindowNode) (q : Pair) → w.0 ≡ p.rules.count → InPairs q (lists w) → v ≤ value q) →
         (t : ℕ → ℕ) → Feasible p t → v ≤ value (pair_at cost p.rules.count t) }
@@ -30,7 +31,8 @@ pub fn last_stage_bounds_all()
 /// The seconds of a feasible schedule land a legal order of all flights, and such landings are those of a
 /// feasible schedule.
 pub fn legal_landings_are_feasible()
-    ensures lands { (p : RankedProblem) (cost : ℕ → ℕ → ℕ) → SoundProblem p → (t : ℕ → ℕ) → Feasible p t →
+    ensures lands { (p : RankedProblem) (cost : ℕ → ℕ → ℕ) → SoundProblem p → (t : ℕ → ℕ)
+        → Feasible p t →
         (xs : List Landing) × Legal p.rules (ranks xs) × LandedIn p xs × (length (ranks xs) ≡ p.rules.count)
         × (pair_of cost xs ≡ pair_at cost p.rules.count t) }
     ensures feasible { (p : RankedProblem) (cost : ℕ → ℕ → ℕ) → SoundProblem p →
@@ -40,7 +42,8 @@ pub fn legal_landings_are_feasible()
 
 /// Of a feasible schedule of least value, the earliest landings in its order are best and tight.
 pub fn least_is_best_and_tight()
-    ensures { (p : RankedProblem) → SoundProblem p → (first : ℕ → ℕ → Option ℕ) → FindsFirstOpen p first →
+    ensures { (p : RankedProblem) → SoundProblem p → (first : ℕ → ℕ → Option ℕ)
+        → FindsFirstOpen p first →
         (cost : ℕ → ℕ → ℕ) → NeverCheaper cost → (value : Pair → ℕ) → IsObjective value →
         (t : ℕ → ℕ) → Feasible p t →
         ((u : ℕ → ℕ) → Feasible p u → value (pair_at cost p.rules.count t) ≤ value (pair_at cost p.rules.count u)) →
@@ -55,7 +58,8 @@ pub fn completing_pairs_from_successors()
         (low : ℕ → Bool) → ((t u : ℕ) → t ≤ u → low u ≡ true → low t ≡ true) →
         (lists : PatternNode → List Pair) (w : PatternNode) (fresh : List Pair) → (w.0 ≡ p.rules.count → ⊥) →
         ((r : ℕ) → PatternPermits p.rules w r →
-        KeptCompleting (CompletesNode p cost low (pattern_push p.rules w r)) (λ q. InPairs q (lists (pattern_push p.rules w r)))) →
+        KeptCompleting (CompletesNode p cost low (pattern_push p.rules w r))
+        (λ q. InPairs q (lists (pattern_push p.rules w r)))) →
         ((q : Pair) → InPairs q fresh →
         (p.is_open (pattern_newest w) q.0 ≡ true) × ReachedIn p w q.0 × (low q.0 ≡ true)
         × ((r : ℕ) × (x : ℕ) × (o : Pair) × PatternPermits p.rules w r
@@ -70,7 +74,8 @@ pub fn completing_pairs_from_successors()
 
 /// Where a schedule is feasible there is a first best one.
 pub fn feasible_has_first_best()
-    ensures { (p : RankedProblem) → SoundProblem p → (first : ℕ → ℕ → Option ℕ) → FindsFirstOpen p first →
+    ensures { (p : RankedProblem) → SoundProblem p → (first : ℕ → ℕ → Option ℕ)
+        → FindsFirstOpen p first →
         (cost : ℕ → ℕ → ℕ) → NeverCheaper cost → (value : Pair → ℕ) → IsObjective value →
         (t : ℕ → ℕ) → Feasible p t →
         (u : ℕ → ℕ) × FirstBest p (λ v. value (pair_at cost p.rules.count v)) u }
@@ -79,16 +84,20 @@ pub fn feasible_has_first_best()
 /// Taking at each place the least rank that can still be completed builds the first best schedule, and there
 /// is at most one.
 pub fn least_choices_are_first_best()
-    ensures makespan { (p : RankedProblem) → SoundProblem p → (first : ℕ → ℕ → Option ℕ) → FindsFirstOpen p first →
-        (v : ℕ) (lists : PatternNode → List Pair) → ListsCompleting p (λ x u. 0) (λ t. nat_le t v) lists →
+    ensures makespan { (p : RankedProblem) → SoundProblem p → (first : ℕ → ℕ → Option ℕ)
+        → FindsFirstOpen p first →
+        (v : ℕ) (lists : PatternNode → List Pair)
+        → ListsCompleting p (λ x u. 0) (λ t. nat_le t v) lists →
         ((u : ℕ → ℕ) → Feasible p u → v ≤ (pair_at (λ x t. 0) p.rules.count u).0) →
         (zs : List Landing) → Legal p.rules (ranks zs) → length (ranks zs) ≡ p.rules.count →
         BuiltByNodes p first (λ x t. 0) lists 0 zs →
         FirstBest p (λ u. (pair_at (λ x t. 0) p.rules.count u).0) (second_in zs)
         × (earliest first (next_from p) (ranks zs) ≡ Some zs) }
-    ensures delay { (p : RankedProblem) → SoundProblem p → (first : ℕ → ℕ → Option ℕ) → FindsFirstOpen p first →
+    ensures delay { (p : RankedProblem) → SoundProblem p → (first : ℕ → ℕ → Option ℕ)
+        → FindsFirstOpen p first →
         (cost : ℕ → ℕ → ℕ) → NeverCheaper cost →
-        (base budget : ℕ) (lists : PatternNode → List Pair) → ListsCompleting p cost (λ t. true) lists →
+        (base budget : ℕ) (lists : PatternNode → List Pair)
+        → ListsCompleting p cost (λ t. true) lists →
         ((u : ℕ → ℕ) → Feasible p u → base + budget ≤ base + (pair_at cost p.rules.count u).1) →
         (zs : List Landing) → Legal p.rules (ranks zs) → length (ranks zs) ≡ p.rules.count →
         BuiltByNodes p first cost lists budget zs →

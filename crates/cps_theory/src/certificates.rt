@@ -23,7 +23,8 @@ ghost use Rattle.cps_theory.specs.laws.RankCounts.{count};
 pub fn patterns_are_nodes()
     ensures network { (g : OrderRules) → ((a r : ℕ) → g.before a r ≡ true → 1 ≤ a) →
         Network PatternNode (Legal g) (pattern_node g) (PatternPermits g) (pattern_push g) pattern_newest }
-    ensures window { (g : OrderRules) → ((r : ℕ) → g.back r ≤ g.most) → ((a r : ℕ) → g.before a r ≡ true → 1 ≤ a) → (rs : List ℕ) → Legal g rs →
+    ensures window { (g : OrderRules) → ((r : ℕ) → g.back r ≤ g.most)
+        → ((a r : ℕ) → g.before a r ≡ true → 1 ≤ a) → (rs : List ℕ) → Legal g rs →
         pattern_of_window g (window_node g rs) ≡ pattern_node g rs }
 {}
 
@@ -54,7 +55,8 @@ pub fn closed_certificate_bounds()
         (value : Pair → ℕ) → IsObjective value →
         (v : ℕ) → ((w : PatternNode) (q : Pair) → w.0 ≡ p.rules.count → InPairs q (lists w) → v ≤ value q) →
         (t : ℕ → ℕ) → Feasible p t → v ≤ value (pair_at cost p.rules.count t) }
-    ensures infeasible { (p : RankedProblem) (cost : ℕ → ℕ → ℕ) → SoundProblem p → NeverCheaper cost →
+    ensures infeasible { (p : RankedProblem) (cost : ℕ → ℕ → ℕ) → SoundProblem p
+        → NeverCheaper cost →
         (first : ℕ → ℕ → Option ℕ) → FindsFirstOpen p first →
         (lists : PatternNode → List Pair) → IsClosedCertificate p first cost lists →
         ((w : PatternNode) (q : Pair) → w.0 ≡ p.rules.count → InPairs q (lists w) → ⊥) →
@@ -65,14 +67,16 @@ pub fn closed_certificate_bounds()
 /// of the last stage is below v, no feasible schedule is; and where there is no state of the last stage,
 /// nothing is feasible. What else the states list does not matter.
 pub fn accepted_certificate_bounds<S>()
-    ensures optimal { (node_of : S → PatternNode) (pairs_of : S → List Pair) (p : RankedProblem) (cost : ℕ → ℕ → ℕ) → SoundProblem p →
+    ensures optimal { (node_of : S → PatternNode) (pairs_of : S → List Pair) (p : RankedProblem)
+        (cost : ℕ → ℕ → ℕ) → SoundProblem p →
         (first : ℕ → ℕ → Option ℕ) → FindsFirstOpen p first → NeverCheaper cost → (states : List S) →
         first_missed node_of pairs_of p.rules first (next_from p) cost states (pattern_node p.rules []) ((0, 0) ∷ []) ≡ None →
         missed_from node_of pairs_of p.rules first (next_from p) cost states 1 states ≡ None →
         (value : Pair → ℕ) → IsObjective value → 1 ≤ p.rules.count → (v : ℕ) →
         element_from (is_final_below node_of pairs_of p.rules.count value v) 1 states ≡ None →
         (t : ℕ → ℕ) → Feasible p t → v ≤ value (pair_at cost p.rules.count t) }
-    ensures infeasible { (node_of : S → PatternNode) (pairs_of : S → List Pair) (p : RankedProblem) (cost : ℕ → ℕ → ℕ) → SoundProblem p →
+    ensures infeasible { (node_of : S → PatternNode) (pairs_of : S → List Pair)
+        (p : RankedProblem) (cost : ℕ → ℕ → ℕ) → SoundProblem p →
         (first : ℕ → ℕ → Option ℕ) → FindsFirstOpen p first → NeverCheaper cost → (states : List S) →
         first_missed node_of pairs_of p.rules first (next_from p) cost states (pattern_node p.rules []) ((0, 0) ∷ []) ≡ None →
         missed_from node_of pairs_of p.rules first (next_from p) cost states 1 states ≡ None →
@@ -86,12 +90,14 @@ pub fn kept_pairs_make_a_certificate()
     ensures patterns { (p : RankedProblem) (cost : ℕ → ℕ → ℕ) → SoundProblem p →
         (lists : WindowNode → List Pair) → ((w : WindowNode) → KeptIn p cost w (lists w)) →
         (d : PatternNode) →
-        Kept (Attained (λ r u. p.is_open r u ≡ true) (next_from p) cost (Legal p.rules) (pattern_node p.rules) d)
+        Kept (Attained (λ r u. p.is_open r u ≡ true) (next_from p) cost (Legal p.rules)
+        (pattern_node p.rules) d)
         (λ q. (w : WindowNode) × (pattern_of_window p.rules w ≡ d) × InPairs q (lists w)) }
     ensures closed { (p : RankedProblem) (cost : ℕ → ℕ → ℕ) → SoundProblem p → NeverCheaper cost →
         (first : ℕ → ℕ → Option ℕ) → FindsFirstOpen p first →
         (lists : PatternNode → List Pair) →
-        ((d : PatternNode) → Kept (Attained (λ r u. p.is_open r u ≡ true) (next_from p) cost (Legal p.rules) (pattern_node p.rules) d) (λ q. InPairs q (lists d))) →
+        ((d : PatternNode) → Kept (Attained (λ r u. p.is_open r u ≡ true) (next_from p) cost
+        (Legal p.rules) (pattern_node p.rules) d) (λ q. InPairs q (lists d))) →
         InPairs (0, 0) (lists (pattern_node p.rules [])) →
         IsClosedCertificate p first cost lists }
 {}
@@ -99,11 +105,14 @@ pub fn kept_pairs_make_a_certificate()
 /// Where the states stand in the order of their nodes, a binary search finds the state of a node, and what it
 /// lists is all that is listed there.
 pub fn states_in_order_are_found<S>()
-    ensures found { (node_of : S → PatternNode) (pairs_of : S → List Pair) (w : PatternNode) (q : Pair) (states : List S) →
+    ensures found { (node_of : S → PatternNode) (pairs_of : S → List Pair) (w : PatternNode)
+        (q : Pair) (states : List S) →
         InNodeOrder node_of pairs_of states → (i : ℕ) (d : S) → i < length states →
         node_cmp (node_of (get_or states i d)) w ≡ Equal →
-        covers node_of pairs_of states w q ≡ list_any (λ o. no_worse o q) (pairs_of (get_or states i d)) }
-    ensures rising { (node_of : S → PatternNode) (pairs_of : S → List Pair) (w : PatternNode) (states : List S) →
+        covers node_of pairs_of states w q ≡ list_any (λ o. no_worse o q) (pairs_of
+        (get_or states i d)) }
+    ensures rising { (node_of : S → PatternNode) (pairs_of : S → List Pair) (w : PatternNode)
+        (states : List S) →
         InNodeOrder node_of pairs_of states →
         IsNonDecreasingBy (λ s. ordering_index (node_cmp (node_of s) w)) states }
 {}

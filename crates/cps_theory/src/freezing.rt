@@ -13,13 +13,15 @@ pub fn staying_flights_keep_the_shift()
         (t : ℕ → ℕ) (waiting : List ℕ) (k h : ℕ) (back : ℕ → ℕ) → Distinct waiting →
         ((f : ℕ) → In f waiting → KeepsShift k back comes_before t waiting f) →
         (f : ℕ) → In f waiting → h ≤ t f →
-        KeepsShift k (λ g. back g - overtook comes_before t h waiting g) comes_before t (staying_of t h waiting) f }
+        KeepsShift k (λ g. back g - overtook comes_before t h waiting g) comes_before t
+        (staying_of t h waiting) f }
 {}
 
 /// Among the ranks of a legal prefix, those above r are at most max(r, p + k) - r, where p is its length: few
 /// flights overtake one.
 pub fn few_later_ranks_land_before()
-    ensures { (g : OrderRules) (rs : List ℕ) (r : ℕ) → EachFits g rs → above r rs + r ≤ max r (length rs + g.most) }
+    ensures { (g : OrderRules) (rs : List ℕ) (r : ℕ) → EachFits g rs
+        → above r rs + r ≤ max r (length rs + g.most) }
 {}
 
 /// When the horizon moves on and the front of a feasible plan freezes, the plan stays

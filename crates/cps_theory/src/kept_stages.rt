@@ -20,8 +20,10 @@ pub fn early_prefixes_stay_legal()
         (rs : List ℕ) → Legal g rs → length rs + g.most < d → Legal h rs }
     ensures low { (g : OrderRules) (d : ℕ) (rs : List ℕ) → EachFits g rs → length rs + g.most < d →
         AllByRecursion (λ r. r < d) rs }
-    ensures landed { (d : ℕ) (open_at open_at' : ℕ → ℕ → Bool) (after after' : ℕ → ℕ → ℕ → ℕ) (cost cost' : ℕ → ℕ → ℕ) →
-        SameLandings d (λ r t. open_at r t ≡ true) (λ r t. open_at' r t ≡ true) after after' cost cost' → 0 < d →
+    ensures landed { (d : ℕ) (open_at open_at' : ℕ → ℕ → Bool) (after after' : ℕ → ℕ → ℕ → ℕ)
+        (cost cost' : ℕ → ℕ → ℕ) →
+        SameLandings d (λ r t. open_at r t ≡ true) (λ r t. open_at' r t ≡ true) after after' cost
+        cost' → 0 < d →
         (xs : List Landing) → AllByRecursion (λ r. r < d) (ranks xs) →
         Landed (λ r t. open_at r t ≡ true) after xs →
         Landed (λ r t. open_at' r t ≡ true) after' xs × (pair_of cost xs ≡ pair_of cost' xs) }
@@ -30,9 +32,12 @@ pub fn early_prefixes_stay_legal()
 /// What a node attains by a prefix that ends k places before d, it attains in a problem that agrees below d;
 /// problems that agree below d agree below less.
 pub fn agreeing_stages_attain_the_same<W>()
-    ensures attained { (d : ℕ) (g h : OrderRules) (open_at open_at' : ℕ → ℕ → Bool) (after after' : ℕ → ℕ → ℕ → ℕ) (cost cost' : ℕ → ℕ → ℕ) (node : List ℕ → W) →
-        AgreeBelow d g h → SameLandings d (λ r t. open_at r t ≡ true) (λ r t. open_at' r t ≡ true) after after' cost cost' → 0 < d →
-        (w : W) (q : Pair) (a : Attained (λ r t. open_at r t ≡ true) after cost (Legal g) node w q) →
+    ensures attained { (d : ℕ) (g h : OrderRules) (open_at open_at' : ℕ → ℕ → Bool)
+        (after after' : ℕ → ℕ → ℕ → ℕ) (cost cost' : ℕ → ℕ → ℕ) (node : List ℕ → W) →
+        AgreeBelow d g h → SameLandings d (λ r t. open_at r t ≡ true)
+        (λ r t. open_at' r t ≡ true) after after' cost cost' → 0 < d →
+        (w : W) (q : Pair) (a : Attained (λ r t. open_at r t ≡ true) after cost (Legal g) node w
+        q) →
         length (ranks a.landings) + g.most < d →
         Attained (λ r t. open_at' r t ≡ true) after' cost' (Legal h) node w q }
     ensures lower { (d e : ℕ) (g h : OrderRules) → e ≤ d → AgreeBelow d g h → AgreeBelow e g h }
@@ -48,7 +53,8 @@ pub fn first_difference_is_greatest<X>()
 
 /// A stage that is not filled again has the same windows, with the same attained pairs, in both problems.
 pub fn kept_stage_attains_the_same<X>()
-    ensures { (d : X) (v : Reading X) (p q : RankedFlights X) (r : ℕ) → AgreeUpTo d p q r → RanksOnly p → RanksOnly q →
+    ensures { (d : X) (v : Reading X) (p q : RankedFlights X) (r : ℕ) → AgreeUpTo d p q r
+        → RanksOnly p → RanksOnly q →
         (m s : ℕ) → counts r v.most m s ≡ false →
         (w : WindowNode) → w.0 ≡ s → (a : Pair) →
         AttainedIn (problem_of v d p) (λ j t. v.cost (of_rank d p.flights j) t) w a

@@ -27,7 +27,8 @@ pub fn closed_pairs_cover()
 /// A window attains the successors of the pairs of its sources; each pair that it attains comes from one of a
 /// source; and what is kept of it can be made from what is kept of its sources.
 pub fn successor_pairs_attain()
-    ensures attained { (p : RankedProblem) (cost : ℕ → ℕ → ℕ) → SoundProblem p → NeverCheaper cost →
+    ensures attained { (p : RankedProblem) (cost : ℕ → ℕ → ℕ) → SoundProblem p
+        → NeverCheaper cost →
         (first : ℕ → ℕ → Option ℕ) → FindsFirstOpen p first →
         (w : WindowNode) (a : Pair) (r : ℕ) (b : Pair) →
         AttainedIn p cost w a → WindowPermits p.rules w r →
@@ -69,7 +70,8 @@ pub fn least_label_from_sources()
 
 /// Kept pairs of which none is worse than another are exactly the undominated ones.
 pub fn kept_pairs_are_undominated()
-    ensures undominated { (p : RankedProblem) (cost : ℕ → ℕ → ℕ) (w : WindowNode) (pairs : List Pair) →
+    ensures undominated { (p : RankedProblem) (cost : ℕ → ℕ → ℕ) (w : WindowNode)
+        (pairs : List Pair) →
         KeptIn p cost w pairs → ((a b : Pair) → InPairs a pairs → InPairs b pairs → NoWorse a b → a ≡ b) →
         (q : Pair) → InPairs q pairs → Undominated (AttainedIn p cost w) q }
     ensures all { (p : RankedProblem) (cost : ℕ → ℕ → ℕ) (w : WindowNode) (pairs : List Pair) →
@@ -78,7 +80,8 @@ pub fn kept_pairs_are_undominated()
 
 /// The least value of the kept pairs of a window is the least of all that it attains.
 pub fn least_kept_is_least()
-    ensures { (p : RankedProblem) (cost : ℕ → ℕ → ℕ) (w : WindowNode) (pairs : List Pair) → KeptIn p cost w pairs →
+    ensures { (p : RankedProblem) (cost : ℕ → ℕ → ℕ) (w : WindowNode) (pairs : List Pair)
+        → KeptIn p cost w pairs →
         (value : Pair → ℕ) → IsObjective value →
         (v : ℕ) → ((q : Pair) → InPairs q pairs → v ≤ value q) →
         (q : Pair) → AttainedIn p cost w q → v ≤ value q }

@@ -27,7 +27,8 @@ pub fn retimed_is_least()
         NeverEarlier after → (ready : ℕ → ℕ) (rs us : List ℕ) →
         retimed first after ready rs ≡ None →
         LandsAt (λ r t. open_at r t ≡ true) after ready rs us → ⊥ }
-    ensures stops { (first : ℕ → ℕ → Option ℕ) (after : ℕ → ℕ → ℕ → ℕ) (ready : ℕ → ℕ) (rs : List ℕ) →
+    ensures stops { (first : ℕ → ℕ → Option ℕ) (after : ℕ → ℕ → ℕ → ℕ) (ready : ℕ → ℕ)
+        (rs : List ℕ) →
         retimed first after ready rs ≡ None → StopsAt first after ready rs }
 {}
 
@@ -48,6 +49,7 @@ pub fn tight_in_its_order()
         (u : ℕ → ℕ) × Tight p u × SameOrder p.rules.count t u
         × ((r : ℕ) → IsRank p.rules.count r → u r ≤ t r)
         × (earliest first (next_from p) (sorted t p.rules.count) ≡ Some (at_seconds u (sorted t p.rules.count))) }
-    ensures unique { (p : RankedProblem) (t u : ℕ → ℕ) → Tight p t → Tight p u → SameOrder p.rules.count t u →
+    ensures unique { (p : RankedProblem) (t u : ℕ → ℕ) → Tight p t → Tight p u
+        → SameOrder p.rules.count t u →
         (r : ℕ) → IsRank p.rules.count r → t r ≡ u r }
 {}

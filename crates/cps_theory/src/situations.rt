@@ -9,17 +9,22 @@ ghost use Rattle.cps_theory.specs.Objectives.{SameObjectives};
 /// The feasible schedules of a situation are its frozen landings with feasible seconds of its problem, and
 /// its objective is that of its problem with the frozen part.
 pub fn problem_of_a_situation()
-    ensures feasible { (s : NumberedSituation) (p : RankedProblem) (at : ℕ → ℕ) → SoundSituation s → ProblemOf s p at →
+    ensures feasible { (s : NumberedSituation) (p : RankedProblem) (at : ℕ → ℕ)
+        → SoundSituation s → ProblemOf s p at →
         (t : ℕ → ℕ) →
-        FeasibleIn s t ↔ (((x : ℕ) → In x s.frozen → t x ≡ s.frozen_at x) × Feasible p (λ r. t (at r))) }
-    ensures objectives { (s : NumberedSituation) (p : RankedProblem) (at : ℕ → ℕ) → SoundSituation s → ProblemOf s p at →
+        FeasibleIn s t ↔ (((x : ℕ) → In x s.frozen → t x ≡ s.frozen_at x)
+        × Feasible p (λ r. t (at r))) }
+    ensures objectives { (s : NumberedSituation) (p : RankedProblem) (at : ℕ → ℕ)
+        → SoundSituation s → ProblemOf s p at →
         (t : ℕ → ℕ) → FeasibleIn s t → SameObjectives s p at t }
 {}
 
 /// With a greater shift limit each feasible schedule stays feasible, and the least objective is no greater.
 pub fn more_shift_allows_more()
-    ensures feasible { (p : RankedProblem) (k : ℕ) (back : ℕ → ℕ) → p.rules.most ≤ k → ((r : ℕ) → p.rules.back r ≤ back r) →
+    ensures feasible { (p : RankedProblem) (k : ℕ) (back : ℕ → ℕ) → p.rules.most ≤ k
+        → ((r : ℕ) → p.rules.back r ≤ back r) →
         (t : ℕ → ℕ) → Feasible p t → Feasible (with_shift k back p) t }
-    ensures no_worse { (p : RankedProblem) (k : ℕ) (back : ℕ → ℕ) → p.rules.most ≤ k → ((r : ℕ) → p.rules.back r ≤ back r) →
+    ensures no_worse { (p : RankedProblem) (k : ℕ) (back : ℕ → ℕ) → p.rules.most ≤ k
+        → ((r : ℕ) → p.rules.back r ≤ back r) →
         (value : (ℕ → ℕ) → ℕ) (t u : ℕ → ℕ) → IsBest p value t → IsBest (with_shift k back p) value u → value u ≤ value t }
 {}

@@ -32,7 +32,8 @@ fn perform<R: Threads + Sync, S: Sink, G: Gate + Sync>(
 ) -> Ending
     requires numbers { IsInRange command }
     requires count { length contents.now ≡ file_count command }
-    requires bounded { AllByRecursion (λ bytes. length bytes ≤ limit) (map vec_items contents.now) }
+    requires bounded { AllByRecursion (λ bytes. length bytes ≤ limit)
+        (map vec_items contents.now) }
     ensures { Follows command (map vec_items contents.now)
         (S.state out.old) (S.state out.new) result }
 {

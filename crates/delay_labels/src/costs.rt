@@ -32,7 +32,8 @@ impl Model for Costs {
 
     ghost view = { λ costs. lists_of costs.pairs.items costs.parts.items };
 
-    ghost invariant = { λ costs. All IsInDays costs.pairs.items × All (IsPart (length costs.pairs.items)) costs.parts.items };
+    ghost invariant = { λ costs. All IsInDays costs.pairs.items
+        × All (IsPart (length costs.pairs.items)) costs.parts.items };
 }
 
 impl Costs {
@@ -116,7 +117,8 @@ impl Costs {
         ensures lists { self.new ≡ known_of self.old self.old }
 
         // What is left are the landable windows, where none was missing.
-        ensures landable { (p : Problem) → HasEachLandable p stage.old → AreCosts p stage.old self.old → HoldsCosts p stage.new self.new }
+        ensures landable { (p : Problem) → HasEachLandable p stage.old
+            → AreCosts p stage.old self.old → HoldsCosts p stage.new self.new }
     {
         stage.compact(
             &mut self.parts,

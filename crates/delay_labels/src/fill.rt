@@ -67,7 +67,8 @@ pub fn fill_costs_alone<const W: usize>(
     requires number { stage.now.0 ≡ before.now.0 + 1 }
     requires next { IsNextOf problem.now before.now.0 before.now.1 stage.now.1 }
     ensures pairs { IfOk result (λ costs. AreCosts problem.now stage.now costs) }
-    ensures sources { IfOk result (λ costs. (i : ℕ) → i < length stage.now.1 → (q : Pair) → InPairs q (list_at costs i)
+    ensures sources { IfOk result (λ costs. (i : ℕ) → i < length stage.now.1 → (q : Pair)
+        → InPairs q (list_at costs i)
         → (place : ℕ) × (index : ℕ) × GivesPair problem.now before.now labels.now (node_at stage.now.1 i) q place index) }
     ensures landable { HasEachLandable problem.now stage.now }
 {
@@ -98,10 +99,12 @@ pub fn fill_costs<const W: usize, R: Threads, G: Gate, L: Ledger>(
     requires number { stage.now.0 ≡ before.now.0 + 1 }
     requires next { IsNextOf problem.now before.now.0 before.now.1 stage.now.1 }
     ensures pairs { IfOk result (λ costs. AreCosts problem.now stage.now costs) }
-    ensures sources { IfOk result (λ costs. (i : ℕ) → i < length stage.now.1 → (q : Pair) → InPairs q (list_at costs i)
+    ensures sources { IfOk result (λ costs. (i : ℕ) → i < length stage.now.1 → (q : Pair)
+        → InPairs q (list_at costs i)
         → (place : ℕ) × (index : ℕ) × GivesPair problem.now before.now labels.now (node_at stage.now.1 i) q place index) }
     ensures landable { HasEachLandable problem.now stage.now }
-    ensures steps { OnOk result (L.count steps.new ≡ raised_by (length stage.now.1) (L.count steps.old)) }
+    ensures steps { OnOk result (L.count steps.new ≡ raised_by (length stage.now.1)
+        (L.count steps.old)) }
 {
     let costs = fill_costs_alone(alloc, problem, before, labels, stage)?;
     steps.tick(stage.len() as u64);

@@ -39,7 +39,8 @@ fn add_successors(
     requires rank { (1 ≤ rank) × (rank ≤ length problem.now.flights) }
     requires in_days { All IsInDays pairs.now }
     requires costs { All (λ q. q.1 ≤ 4277687395) pairs.now }
-    ensures successors { OnOk result (into.new.items ≡ into.old.items ++ successors problem.now last rank pairs.now) }
+    ensures successors { OnOk result (into.new.items ≡ into.old.items ++ successors problem.now
+        last rank pairs.now) }
     ensures in_days { All IsInDays into.old.items → All IsInDays into.new.items }
 {
     for pair in pairs {
@@ -63,8 +64,10 @@ pub(crate) fn collect_successors(
     requires last { last ≤ length problem.now.flights }
     requires rank { (1 ≤ rank) × (rank ≤ length problem.now.flights) }
     requires range { (from ≤ to) × (to ≤ length labels.now) }
-    requires costs { (i : ℕ) → from ≤ i → i < to → All (λ q. q.1 ≤ 4277687395) (list_at labels.now i) }
-    ensures successors { OnOk result (into.new.items ≡ successors_in problem.now last rank labels.now from to) }
+    requires costs { (i : ℕ) → from ≤ i → i < to
+        → All (λ q. q.1 ≤ 4277687395) (list_at labels.now i) }
+    ensures successors { OnOk result (into.new.items ≡ successors_in problem.now last rank
+        labels.now from to) }
     ensures in_days { All IsInDays into.new.items }
 {
     into.clear();

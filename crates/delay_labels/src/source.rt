@@ -37,7 +37,8 @@ fn first_giving(
     requires costs { All (λ q. q.1 ≤ 4277687395) pairs.now }
     ensures { MatchOption result
         ((i : ℕ) → i < length pairs.now → successor problem.now last (pair_at pairs.now i) rank ≡ Some wanted → ⊥)
-        (λ index. (index < length pairs.now) × (successor problem.now last (pair_at pairs.now index) rank ≡ Some wanted)
+        (λ index. (index < length pairs.now) × (successor problem.now last
+        (pair_at pairs.now index) rank ≡ Some wanted)
         × ((i : ℕ) → i < index → successor problem.now last (pair_at pairs.now i) rank ≡ Some wanted → ⊥)) }
 {
     for i in 0..pairs.len() {
@@ -62,9 +63,13 @@ pub fn source_pair<const W: usize>(
 ) -> (usize, usize)
     requires width { W ≡ 2 * problem.now.k + 1 }
     requires before { HoldsCosts problem.now before.now labels.now }
-    requires given { (place : ℕ) × (index : ℕ) × GivesPair problem.now before.now labels.now node.now (second, cost) place index }
-    ensures gives { GivesPair problem.now before.now labels.now node.now (second, cost) result.0 result.1 }
-    ensures first { (place : ℕ) → (index : ℕ) → (place < result.0) ⊎ ((place ≡ result.0) × (index < result.1)) → GivesPair problem.now before.now labels.now node.now (second, cost) place index → ⊥ }
+    requires given { (place : ℕ) × (index : ℕ)
+        × GivesPair problem.now before.now labels.now node.now (second, cost) place index }
+    ensures gives { GivesPair problem.now before.now labels.now node.now (second, cost) result.0
+        result.1 }
+    ensures first { (place : ℕ) → (index : ℕ)
+        → (place < result.0) ⊎ ((place ≡ result.0) × (index < result.1))
+        → GivesPair problem.now before.now labels.now node.now (second, cost) place index → ⊥ }
 {
     let _few = problem.len();
     let _near = problem.head();

@@ -40,7 +40,8 @@ fn plan_event<R: Threads + Sync, G: Gate + Sync>(
     requires held { IsHeld sequencer.old }
     ensures { MatchResult result
         (λ steps. Plans sequencer.old sequencer.new (event_of event.now) None steps)
-        (λ fault. MatchOption (refusal_of fault) ⊤ (λ answer. Plans sequencer.old sequencer.new (event_of event.now) (Some answer) 0)) }
+        (λ fault. MatchOption (refusal_of fault) ⊤
+        (λ answer. Plans sequencer.old sequencer.new (event_of event.now) (Some answer) 0)) }
 {
     let _standing = sequencer.problem();
     let mut steps = Steps::new(Counted::new());
@@ -61,7 +62,8 @@ fn step<R: Threads + Sync, S: Sink, G: Gate + Sync>(
 ) -> Result<u64, Stop>
     requires good { IsGoodEvent (event_of event.now) }
     requires held { IsHeld sequencer.old }
-    ensures { StepPlans sequencer.old sequencer.new number (event_of event.now) (S.state out.old) (S.state out.new) result }
+    ensures { StepPlans sequencer.old sequencer.new number (event_of event.now) (S.state out.old)
+        (S.state out.new) result }
 {
     match plan_event(rt, alloc, sequencer, event, gate) {
         Ok(steps) => {
@@ -88,7 +90,8 @@ fn plan_events<R: Threads + Sync, S: Sink, G: Gate + Sync>(
     requires good { All IsGood events.now }
     requires few { length events.now ≤ 2000 }
     requires held { IsHeld sequencer.old }
-    ensures { EventsPlan sequencer.old sequencer.new (map event_of events.now) (S.state out.old) (S.state out.new) result }
+    ensures { EventsPlan sequencer.old sequencer.new (map event_of events.now) (S.state out.old)
+        (S.state out.new) result }
 {
     let mut total: u64 = 0;
     for i in 0..events.len() {
@@ -143,7 +146,8 @@ pub fn effort<R: Threads + Sync, S: Sink, G: Gate + Sync>(
     requires few { length events.now ≤ 2000 }
     requires held { IsHeld sequencer.old }
     requires opened { IsDue None sequencer.old.problem opening }
-    ensures { EffortEnds sequencer.old.state sequencer.new.state (map event_of events.now) (S.state out.old) (S.state out.new) result }
+    ensures { EffortEnds sequencer.old.state sequencer.new.state (map event_of events.now)
+        (S.state out.old) (S.state out.new) result }
 {
     due_is_small(sequencer.problem());
     let opened = open(alloc, opening, out)?;

@@ -44,7 +44,8 @@ fn greatest_second(schedule: &Schedule) -> u32
 fn total_cost(problem: &Problem, schedule: &Schedule) -> u64
     requires room { length schedule.now ≡ length problem.now.flights }
     requires seconds { All (λ t. t ≤ last_second) schedule.now }
-    ensures value { result ≡ total (λ r. cost_at problem.now r (of_rank 0 schedule.now r)) (upto (length problem.now.flights)) }
+    ensures value { result ≡ total (λ r. cost_at problem.now r (of_rank 0 schedule.now r))
+        (upto (length problem.now.flights)) }
     ensures small { result ≤ 17279900 * length problem.now.flights }
 {
     let mut costs = 0;

@@ -15,8 +15,10 @@ pub fn retime(problem: &Problem, order: &[u8], into: &mut Schedule) -> bool
     requires room { length into.old ≡ length problem.now.flights }
     ensures room { length into.new ≡ length into.old }
     ensures lands { IsTrue result → LandsInOrder problem.now order.now into.new }
-    ensures least { IsTrue result → (seconds : Seconds) → LandsInOrder problem.now order.now seconds → AllZip ◌≤◌ into.new seconds }
-    ensures none { IsFalse result → (seconds : Seconds) → LandsInOrder problem.now order.now seconds → ⊥ }
+    ensures least { IsTrue result → (seconds : Seconds)
+        → LandsInOrder problem.now order.now seconds → AllZip ◌≤◌ into.new seconds }
+    ensures none { IsFalse result → (seconds : Seconds)
+        → LandsInOrder problem.now order.now seconds → ⊥ }
     ensures earliest { IsTrue result → EarliestInOrder problem.now order.now into.new }
 {
     let flights = problem.len();

@@ -42,7 +42,8 @@ impl Order {
     pub fn insert(&mut self, eta: u32, callsign: Callsign) -> Result<(), AllocError>
         requires absent { Contains self.old (eta, callsign) → ⊥ }
         requires room { length self.old < 60 }
-        ensures { MatchResult result (λ _. self.new ≡ with_arrival (eta, callsign) self.old) (λ _. self.new ≡ self.old) }
+        ensures { MatchResult result (λ _. self.new ≡ with_arrival (eta, callsign) self.old)
+            (λ _. self.new ≡ self.old) }
     {
         match self.arrivals.binary_search(&(eta, callsign)) {
             Ok(_) => Ok(()),
@@ -69,8 +70,10 @@ impl Order {
 
     /// The rank of a flight, from 1: 1 plus the number of flights before it. `None` exactly where it isn't there.
     pub fn rank_of(&self, eta: u32, callsign: Callsign) -> Option<u8>
-        ensures found { IfSome result (λ r. (1 ≤ r) × (r ≤ length self.now) × (slice_get self.now (r - 1) ≡ Some (eta, callsign))) }
-        ensures counted { IfSome result (λ r. r ≡ 1 + count_by (λ a. is_lt (first_come_cmp a (eta, callsign))) self.now) }
+        ensures found { IfSome result (λ r. (1 ≤ r) × (r ≤ length self.now)
+            × (slice_get self.now (r - 1) ≡ Some (eta, callsign))) }
+        ensures counted { IfSome result (λ r. r ≡ 1 + count_by
+            (λ a. is_lt (first_come_cmp a (eta, callsign))) self.now) }
         ensures absent { IsNone result ↔ (Contains self.now (eta, callsign) → ⊥) }
     {
         match self.arrivals.binary_search(&(eta, callsign)) {

@@ -23,7 +23,11 @@ impl Model for AheadStage {
 
     ghost Value = { StageAhead };
 
-    ghost view = { λ s. record { nodes = s.nodes.items; lists = s.lists.items; places = s.places.items } };
+    ghost view = { λ s. record {
+      nodes = s.nodes.items;
+      lists = s.lists.items;
+      places = s.places.items;
+    } };
 }
 
 impl AheadStage {

@@ -23,7 +23,8 @@ pub fn fill_lists<
     requires few { n < 2 ^ 32 }
     requires callable { (i : ℕ) → i < n → F.pre f.now i }
     ensures len { IfOk result (λ items. vec_len items ≡ n) }
-    ensures each { IfOk result (λ items. (i : ℕ) (d : T) → i < n → F.post f.now i (Ok (slice_index_or items.items i d))) }
+    ensures each { IfOk result (λ items. (i : ℕ) (d : T) → i < n → F.post f.now i
+        (Ok (slice_index_or items.items i d))) }
 {
     fill_long_lists(rt, alloc, n, 1, gate, f)
 }
@@ -38,7 +39,8 @@ pub fn fill_long_lists<
     requires few { n < 2 ^ 32 }
     requires callable { (i : ℕ) → i < n → F.pre f.now i }
     ensures len { IfOk result (λ items. vec_len items ≡ n) }
-    ensures each { IfOk result (λ items. (i : ℕ) (d : T) → i < n → F.post f.now i (Ok (slice_index_or items.items i d))) }
+    ensures each { IfOk result (λ items. (i : ℕ) (d : T) → i < n → F.post f.now i
+        (Ok (slice_index_or items.items i d))) }
 {
     let size = n.div_ceil(LANES).max(least).max(1);
     if n <= size {
@@ -46,7 +48,9 @@ pub fn fill_long_lists<
     }
     let lane = move |j: usize| -> Result<Vec<T>, AllocError>
         requires { (j * size < n) × (n < 2 ^ 32) × ((i : ℕ) → i < n → F.pre f.now i) }
-        ensures { IfOk result (λ items. (length items.items ≡ min size (n - j * size)) × ((k : ℕ) (d : T) → k < length items.items → F.post f.entry.now (j * size + k) (Ok (slice_index_or items.items k d)))) }
+        ensures { IfOk result (λ items. (length items.items ≡ min size (n - j * size))
+            × ((k : ℕ) (d : T) → k < length items.items
+            → F.post f.entry.now (j * size + k) (Ok (slice_index_or items.items k d)))) }
     {
         let from = j * size;
         lane_from(alloc, from, size.min(n - from), gate, f)
@@ -76,7 +80,8 @@ fn lane_from<T: Drop, G: Gate, F: Fn(usize) -> Result<T, AllocError>>(
     requires few { from + count < 2 ^ 32 }
     requires callable { (k : ℕ) → k < count → F.pre f.now (from + k) }
     ensures len { IfOk result (λ items. length items.items ≡ count) }
-    ensures each { IfOk result (λ items. (k : ℕ) (d : T) → k < count → F.post f.now (from + k) (Ok (slice_index_or items.items k d))) }
+    ensures each { IfOk result (λ items. (k : ℕ) (d : T) → k < count → F.post f.now (from + k)
+        (Ok (slice_index_or items.items k d))) }
 {
     let mut items = Vec::with_capacity(alloc, count)?;
     for k in 0..count {

@@ -24,8 +24,10 @@ pub fn fill_numbers<R: Threads + Sync, G: Gate + Sync, F: Fn(usize) -> u32 + Syn
     ensures { (i : ℕ) → i < length column.old → F.post f.now i (slice_index column.new i) }
 {
     let lane = move |start: usize, part: &mut [u32]|
-        requires { (start + length part.now < 2 ^ 32) × ((k : ℕ) → k < length part.now → F.pre f.now (start + k)) }
-        ensures { (k : ℕ) → k < length part.entry.now → F.post f.entry.now (start + k) (slice_index part.exit.now k) }
+        requires { (start + length part.now < 2 ^ 32)
+            × ((k : ℕ) → k < length part.now → F.pre f.now (start + k)) }
+        ensures { (k : ℕ) → k < length part.entry.now
+            → F.post f.entry.now (start + k) (slice_index part.exit.now k) }
     { fill_lane(part, start, gate, f) };
     let size = lane_of(column.len());
     thread::for_each_chunk_mut(rt, column, size, &lane);

@@ -16,5 +16,6 @@ pub fn newcomers_ahead_let_more_pass()
     ensures no_third { IsFalse (is_feasible longer_line again_plan) }
     ensures ahead { IsTrue (stands_ahead newcomer_ahead (codes "Z1") (codes "X1")) }
     ensures third { IsTrue (is_feasible newcomer_ahead newcomer_plan) }
-    ensures passes { passing_in_step (shown newcomer_ahead newcomer_plan) (Clock 1080) None (codes "X1") ≡ 1 }
+    ensures passes { passing_in_step (shown newcomer_ahead newcomer_plan) (Clock 1080) None
+        (codes "X1") ≡ 1 }
 {}

@@ -23,14 +23,17 @@ ghost use Rattle.landing_rules.specs.Text.{lines_text, plan_lines};
 
 /// What is printed of known schedules.
 pub fn known_schedules_print()
-    ensures pair { lines_text (plan_lines (record { situation = pair 1; plan = Some (1070 ∷ 1010 ∷ []) })) ≡
+    ensures pair { lines_text (plan_lines
+        (record { situation = pair 1; plan = Some (1070 ∷ 1010 ∷ []) })) ≡
         codes "makespan 1070" ++ 10 ∷ [] ++ codes "land F1 1010 waiting" ++ 10 ∷ [] ++ codes "land A1 1070 waiting" ++ 10 ∷ [] }
-    ensures none { lines_text (plan_lines (record { situation = tight_pair; plan = None })) ≡ codes "infeasible" ++ 10 ∷ [] }
+    ensures none { lines_text (plan_lines (record { situation = tight_pair; plan = None }))
+        ≡ codes "infeasible" ++ 10 ∷ [] }
 {}
 
 /// No schedule of two flights at k = 0 ends before 1180.
 pub fn first_come_ends_at_1180()
-    ensures { (a b : ℕ) → IsTrue (is_feasible (pair 0) (a ∷ b ∷ [])) → 1180 ≤ objective (pair 0) (a ∷ b ∷ []) }
+    ensures { (a b : ℕ) → IsTrue (is_feasible (pair 0) (a ∷ b ∷ []))
+        → 1180 ≤ objective (pair 0) (a ∷ b ∷ []) }
 {}
 
 /// With windows that are too short there is no schedule.
@@ -46,7 +49,8 @@ pub fn known_schedules_are_best()
 
 /// No three flights end sooner.
 pub fn three_flights_end_at_1240()
-    ensures one { (a b c : ℕ) → IsTrue (is_feasible (three 1) (a ∷ b ∷ c ∷ [])) → 1240 ≤ objective (three 1) (a ∷ b ∷ c ∷ []) }
+    ensures one { (a b c : ℕ) → IsTrue (is_feasible (three 1) (a ∷ b ∷ c ∷ []))
+        → 1240 ≤ objective (three 1) (a ∷ b ∷ c ∷ []) }
 {}
 
 ghost use Rattle.std.specs.Prelude.{map};
@@ -56,19 +60,24 @@ ghost use Rattle.landing_rules.specs.Examples.{pair_at_900, carried_at_900, open
 /// What a clock event freezes, and what is refused then.
 pub fn known_events_answer()
     ensures freezes { map (λ a. a.frozen) pair_at_900.active ≡ None ∷ Some 1010 ∷ [] }
-    ensures covers { refusal pair_at_900 (Close (1000, 1020)) ≡ Some (CoversFrozen (codes "F1") 1010) }
+    ensures covers { refusal pair_at_900 (Close (1000, 1020))
+        ≡ Some (CoversFrozen (codes "F1") 1010) }
     ensures cancels { refusal pair_at_900 (Cancel (codes "F1")) ≡ Some (Frozen 1010) }
     ensures back { refusal pair_at_900 (Clock 800) ≡ Some (ClockBack 900) }
     ensures again { refusal pair_at_900 (Clock 900) ≡ None }
-    ensures unknown { refusal pair_at_900 (Cancel (codes "A2")) ≡ Some (UnknownFlight (codes "A2")) }
-    ensures added { IsTrue (is_feasible (situation_after pair_at_900 None (Add f2)) (1130 ∷ 1010 ∷ 1070 ∷ [])) }
+    ensures unknown { refusal pair_at_900 (Cancel (codes "A2"))
+        ≡ Some (UnknownFlight (codes "A2")) }
+    ensures added { IsTrue (is_feasible (situation_after pair_at_900 None (Add f2))
+        (1130 ∷ 1010 ∷ 1070 ∷ [])) }
 {}
 
 /// A flight that was passed is not passed again.
 pub fn passed_flights_are_not_passed_again()
     ensures count { map (λ a. a.passed) carried_at_900.active ≡ 1 ∷ 0 ∷ [] }
-    ensures first { IsTrue (is_feasible (situation_after carried_at_900 None (Add f2)) (1070 ∷ 1010 ∷ 1250 ∷ [])) }
-    ensures not_passed { IsFalse (is_feasible (situation_after carried_at_900 None (Add f2)) (1130 ∷ 1010 ∷ 1070 ∷ [])) }
+    ensures first { IsTrue (is_feasible (situation_after carried_at_900 None (Add f2))
+        (1070 ∷ 1010 ∷ 1250 ∷ [])) }
+    ensures not_passed { IsFalse (is_feasible (situation_after carried_at_900 None (Add f2))
+        (1130 ∷ 1010 ∷ 1070 ∷ [])) }
     ensures opened { opened_at_900 ≡ pair_at_900 }
 {}
 
@@ -89,7 +98,8 @@ ghost use Rattle.landing_rules.specs.Rules.{IsTight};
 /// A whole run of the pair with one clock event, and a pair without a plan.
 pub fn known_runs_are_runs()
     ensures opened { IsPlanShown (pair 1) (Some (1070 ∷ 1010 ∷ [])) }
-    ensures run { Run (record { situation = pair 1; plan = Some (1070 ∷ 1010 ∷ []) }) (Clock 900 ∷ [])
+    ensures run { Run (record { situation = pair 1; plan = Some (1070 ∷ 1010 ∷ []) })
+        (Clock 900 ∷ [])
         (record { answer = None; state = record { situation = pair_at_900; plan = Some (1070 ∷ 1010 ∷ []) } } ∷ []) }
     ensures none { IsPlanShown tight_pair None }
 {}
@@ -121,29 +131,46 @@ ghost use Rattle.landing_rules.specs.Examples.{waiting_line, frozen_line, makesp
 
 /// What is found in blocks whose names are wrong, whatever else is.
 pub fn blocks_are_audited_by_name()
-    ensures missing { findings (pair 1) (makespan_block 1000 (waiting_line (codes "A1") 1000 ∷ [])) ≡ Missing (codes "F1") ∷ [] }
-    ensures twice { findings (pair 1) (makespan_block 0 (waiting_line (codes "ZZ9") 1000 ∷ waiting_line (codes "ZZ9") 1000 ∷ [])) ≡
+    ensures missing { findings (pair 1) (makespan_block 1000
+        (waiting_line (codes "A1") 1000 ∷ [])) ≡ Missing (codes "F1") ∷ [] }
+    ensures twice { findings (pair 1) (makespan_block 0
+        (waiting_line (codes "ZZ9") 1000 ∷ waiting_line (codes "ZZ9") 1000 ∷ [])) ≡
         Missing (codes "A1") ∷ Missing (codes "F1") ∷ Unknown (codes "ZZ9") ∷ Unknown (codes "ZZ9") ∷ Twice (codes "ZZ9") ∷ [] }
 {}
 
 /// What is found in blocks of the pair whose names are right.
 pub fn blocks_are_audited_by_rule()
     ensures clean { findings (pair 1) (block_of_pair 1070 1010 1070) ≡ [] }
-    ensures separation { findings (pair 1) (block_of_pair 1069 1010 1069) ≡ Separation (codes "F1") (codes "A1") ∷ [] }
-    ensures shift { findings (pair 0) (block_of_pair 1070 1010 1070) ≡ Shift (codes "F1") 1 2 ∷ Shift (codes "A1") 2 1 ∷ [] }
-    ensures level { findings (pair 1) (makespan_block 1000 (frozen_line (codes "A1") 1000 ∷ waiting_line (codes "F1") 1000 ∷ [])) ≡
+    ensures separation { findings (pair 1) (block_of_pair 1069 1010 1069)
+        ≡ Separation (codes "F1") (codes "A1") ∷ [] }
+    ensures shift { findings (pair 0) (block_of_pair 1070 1010 1070)
+        ≡ Shift (codes "F1") 1 2 ∷ Shift (codes "A1") 2 1 ∷ [] }
+    ensures level { findings (pair 1) (makespan_block 1000
+        (frozen_line (codes "A1") 1000 ∷ waiting_line (codes "F1") 1000 ∷ [])) ≡
         Order 2 ∷ Mark (codes "A1") ∷ Closed (codes "F1") 1000 ∷ Separation (codes "A1") (codes "F1") ∷ [] }
-    ensures frozen { findings pair_at_900 (makespan_block 1180 (waiting_line (codes "A1") 1000 ∷ frozen_line (codes "F1") 1180 ∷ [])) ≡
+    ensures frozen { findings pair_at_900 (makespan_block 1180
+        (waiting_line (codes "A1") 1000 ∷ frozen_line (codes "F1") 1180 ∷ [])) ≡
         Moved (codes "F1") 1010 ∷ Early (codes "A1") ∷ [] }
-    ensures every_pair { findings (three 1) (makespan_block 1010 (waiting_line (codes "A1") 1000 ∷ waiting_line (codes "A2") 1001 ∷ waiting_line (codes "F1") 1010 ∷ [])) ≡
+    ensures every_pair { findings (three 1)
+        (makespan_block 1010 (waiting_line (codes "A1") 1000 ∷ waiting_line (codes "A2") 1001
+        ∷ waiting_line (codes "F1") 1010 ∷ [])) ≡
         Separation (codes "A1") (codes "A2") ∷ Separation (codes "A1") (codes "F1") ∷ Separation (codes "A2") (codes "F1") ∷ [] }
 {}
 
 /// What is found in blocks of five flights by delay.
 pub fn blocks_are_audited_by_delay()
-    ensures clean { findings five (delay_block_of_five 1080 (waiting_line (codes "D1") 1350) (waiting_line (codes "E1") 1410)) ≡ [] }
-    ensures value { findings five (delay_block_of_five 1079 (waiting_line (codes "D1") 1350) (waiting_line (codes "E1") 1410)) ≡ Value 1080 ∷ [] }
-    ensures precedence { findings five (delay_block_of_five 1100 (waiting_line (codes "E1") 1360) (waiting_line (codes "D1") 1420)) ≡
+    ensures clean { findings five (delay_block_of_five 1080 (waiting_line (codes "D1") 1350)
+        (waiting_line (codes "E1") 1410)) ≡ [] }
+    ensures value { findings five (delay_block_of_five 1079 (waiting_line (codes "D1") 1350)
+        (waiting_line (codes "E1") 1410)) ≡ Value 1080 ∷ [] }
+    ensures precedence { findings five (delay_block_of_five 1100 (waiting_line (codes "E1") 1360)
+        (waiting_line (codes "D1") 1420)) ≡
         Precedence (codes "D1") (codes "E1") ∷ [] }
-    ensures objective { findings (pair 1) (record { objective = Delay; plan = record { value = 1070; landings = (block_of_pair 0 1010 1070).plan.landings } }) ≡ OtherObjective ∷ [] }
+    ensures objective { findings (pair 1) (record {
+      objective = Delay;
+      plan = record {
+        value = 1070;
+        landings = (block_of_pair 0 1010 1070).plan.landings;
+      };
+    }) ≡ OtherObjective ∷ [] }
 {}

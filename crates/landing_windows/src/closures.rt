@@ -34,7 +34,9 @@ impl Model for Closures {
 
     ghost view = { λ c. take c.len c.pairs };
 
-    ghost invariant = { λ c. (c.pairs ≡ padded 32 (take c.len c.pairs)) × (length (take c.len c.pairs) ≡ c.len) × (c.len ≤ 32) × All IsClosure (take c.len c.pairs) };
+    ghost invariant = { λ c. (c.pairs ≡ padded 32 (take c.len c.pairs))
+        × (length (take c.len c.pairs) ≡ c.len) × (c.len ≤ 32)
+        × All IsClosure (take c.len c.pairs) };
 
     ghost inverse = { λ pairs. record { pairs = padded 32 pairs; len = length pairs } };
 

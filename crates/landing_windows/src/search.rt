@@ -40,7 +40,8 @@ fn first_outside(spans: &[(u32, u32)], t: u32) -> u32
 
 // The end of a closure that holds t.
 fn shut_until(closures: &[(u32, u32)], t: u32) -> Option<u32>
-    ensures { MatchOption result (shuts closures.now t ≡ false) (λ end. IsShutUntil closures.now t end) }
+    ensures { MatchOption result (shuts closures.now t ≡ false)
+        (λ end. IsShutUntil closures.now t end) }
 {
     let mut rest = closures;
     while let [(from, to), after @ ..] = rest {

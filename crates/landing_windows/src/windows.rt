@@ -43,7 +43,10 @@ impl Model for WindowSet {
 
     ghost view = { λ w. take w.len w.spans };
 
-    ghost invariant = { λ w. (w.spans ≡ padded 4 (take w.len w.spans)) × (length (take w.len w.spans) ≡ w.len) × (windows_of (take w.len w.spans) ≡ Ok (take w.len w.spans)) × IsTrue (list_all is_in_days (take w.len w.spans)) };
+    ghost invariant = { λ w. (w.spans ≡ padded 4 (take w.len w.spans))
+        × (length (take w.len w.spans) ≡ w.len)
+        × (windows_of (take w.len w.spans) ≡ Ok (take w.len w.spans))
+        × IsTrue (list_all is_in_days (take w.len w.spans)) };
 
     ghost inverse = { λ spans. record { spans = padded 4 spans; len = length spans } };
 

@@ -94,7 +94,8 @@ impl Column {
         ensures labels { self.new ≡ known_of self.old self.old }
 
         // What is left are the landable windows, where none was missing.
-        ensures landable { (p : Problem) → HasEachLandable p stage.old → AreLabels p stage.old self.old → HoldsLabels p stage.new self.new }
+        ensures landable { (p : Problem) → HasEachLandable p stage.old
+            → AreLabels p stage.old self.old → HoldsLabels p stage.new self.new }
     {
         stage.compact(
             &mut self.labels,

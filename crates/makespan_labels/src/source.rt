@@ -22,11 +22,13 @@ pub fn source_of<const W: usize>(
 ) -> usize
     requires width { W ≡ 2 * problem.now.k + 1 }
     requires before { HoldsLabels problem.now before.now labels.now }
-    requires node { (xs : List ℤ) × Contains before.now.1 xs × IsSuccessor problem.now before.now.0 xs node.now }
+    requires node { (xs : List ℤ) × Contains before.now.1 xs
+        × IsSuccessor problem.now before.now.0 xs node.now }
     requires label { IsLabel problem.now (before.now.0 + 1) node.now label }
     requires known { label < no_label }
     ensures gives { GivesLabel problem.now before.now labels.now node.now label result }
-    ensures first { (place : ℕ) → place < result → GivesLabel problem.now before.now labels.now node.now label place → ⊥ }
+    ensures first { (place : ℕ) → place < result
+        → GivesLabel problem.now before.now labels.now node.now label place → ⊥ }
 {
     let _few = problem.len();
     let _near = problem.head();

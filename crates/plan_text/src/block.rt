@@ -38,7 +38,8 @@ pub(crate) fn append_head(
 }
 
 fn append_landing(landing: &Landing, into: &mut Vec<u8>) -> Result<(), AllocError>
-    ensures { OnOk result (into.new.items ≡ into.old.items ++ line (landing_words (shown_of landing.now))) }
+    ensures { OnOk result (into.new.items ≡ into.old.items ++ line (landing_words
+        (shown_of landing.now))) }
 {
     let mut second = Buffer::new();
     into.extend_from_slice(b"land ")?;
@@ -51,7 +52,8 @@ fn append_landing(landing: &Landing, into: &mut Vec<u8>) -> Result<(), AllocErro
 }
 
 fn append_plan(objective: Objective, plan: &Plan, into: &mut Vec<u8>) -> Result<(), AllocError>
-    ensures { OnOk result (into.new.items ≡ into.old.items ++ block_text objective (Some plan.now)) }
+    ensures { OnOk result (into.new.items ≡ into.old.items ++ block_text objective (Some
+        plan.now)) }
 {
     append_head(objective, plan.value(), into)?;
     for i in 0..plan.len() {
@@ -68,7 +70,8 @@ pub fn plan_block(
     plan: Option<&Plan>,
     into: &mut Vec<u8>,
 ) -> Result<(), AllocError>
-    ensures { Appends into.old.items into.new.items (block_text objective (option_map (λ p. p.now) plan.entry)) result }
+    ensures { Appends into.old.items into.new.items
+        (block_text objective (option_map (λ p. p.now) plan.entry)) result }
 {
     let Some(plan) = plan else {
         return into.extend_from_slice(b"infeasible\n");

@@ -20,7 +20,8 @@ fn append_words(first: &[u8], second: &[u8], into: &mut Vec<u8>) -> Result<(), A
 
 // The frozen landing that a closure would hold.
 fn append_covered(callsign: &Callsign, second: u32, into: &mut Vec<u8>) -> Result<(), AllocError>
-    ensures { OnOk result (into.new.items ≡ into.old.items ++ cause_text (refusal_of (CoversFrozen callsign.now second))) }
+    ensures { OnOk result (into.new.items ≡ into.old.items ++ cause_text (refusal_of
+        (CoversFrozen callsign.now second))) }
 {
     let mut number = Buffer::new();
     into.extend_from_slice(b"covers-frozen ")?;
@@ -33,7 +34,8 @@ fn append_covered(callsign: &Callsign, second: u32, into: &mut Vec<u8>) -> Resul
 // Why the event is refused.
 fn append_cause(refusal: &Refusal, into: &mut Vec<u8>) -> Result<(), AllocError>
     requires { refusal.now ≢ Memory }
-    ensures { OnOk result (into.new.items ≡ into.old.items ++ cause_text (refusal_of refusal.now)) }
+    ensures { OnOk result (into.new.items ≡ into.old.items ++ cause_text (refusal_of
+        refusal.now)) }
 {
     let mut number = Buffer::new();
     match refusal {
@@ -62,7 +64,8 @@ fn append_cause(refusal: &Refusal, into: &mut Vec<u8>) -> Result<(), AllocError>
 // The line, as long as there is memory.
 fn append_refusal(number: u32, refusal: &Refusal, into: &mut Vec<u8>) -> Result<(), AllocError>
     requires { refusal.now ≢ Memory }
-    ensures { OnOk result (into.new.items ≡ into.old.items ++ refused_text number (refusal_of refusal.now)) }
+    ensures { OnOk result (into.new.items ≡ into.old.items ++ refused_text number (refusal_of
+        refusal.now)) }
 {
     let mut buffer = Buffer::new();
     append_words(b"event ", buffer.format(number).as_bytes(), into)?;
@@ -76,7 +79,8 @@ fn append_refusal(number: u32, refusal: &Refusal, into: &mut Vec<u8>) -> Result<
 /// never printed. After a refusal, which is want of memory, `into` is as before.
 pub fn refusal_line(number: u32, refusal: &Refusal, into: &mut Vec<u8>) -> Result<(), AllocError>
     requires { refusal.now ≢ Memory }
-    ensures { Appends into.old.items into.new.items (refused_text number (refusal_of refusal.now)) result }
+    ensures { Appends into.old.items into.new.items
+        (refused_text number (refusal_of refusal.now)) result }
 {
     let mut text = Vec::new(*into.allocator());
     append_refusal(number, refusal, &mut text)?;

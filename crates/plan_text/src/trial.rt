@@ -22,7 +22,8 @@ fn append_number(word: &[u8], number: u64, into: &mut Vec<u8>) -> Result<(), All
 
 // The first three lines.
 fn append_numbers(flights: u8, k: u8, nodes: u64, into: &mut Vec<u8>) -> Result<(), AllocError>
-    ensures { OnOk result (into.new.items ≡ into.old.items ++ lines_text (trial_head flights k nodes)) }
+    ensures { OnOk result (into.new.items ≡ into.old.items ++ lines_text (trial_head flights k
+        nodes)) }
 {
     append_number(b"flights ", u64::from(flights), into)?;
     append_number(b"k ", u64::from(k), into)?;
@@ -35,7 +36,8 @@ fn append_first(
     plan: Option<&Plan>,
     into: &mut Vec<u8>,
 ) -> Result<(), AllocError>
-    ensures { OnOk result (into.new.items ≡ into.old.items ++ lines_text (take 1 (block_lines objective (option_map (λ p. p.now) plan.entry)))) }
+    ensures { OnOk result (into.new.items ≡ into.old.items ++ lines_text (take 1
+        (block_lines objective (option_map (λ p. p.now) plan.entry)))) }
 {
     match plan {
         Some(plan) => append_head(objective, plan.value(), into),
@@ -53,7 +55,8 @@ pub fn trial_summary(
     plan: Option<&Plan>,
     into: &mut Vec<u8>,
 ) -> Result<(), AllocError>
-    ensures { Appends into.old.items into.new.items (trial_text flights k nodes objective (option_map (λ p. p.now) plan.entry)) result }
+    ensures { Appends into.old.items into.new.items
+        (trial_text flights k nodes objective (option_map (λ p. p.now) plan.entry)) result }
 {
     let mut text = Vec::new(*into.allocator());
     append_numbers(flights, k, nodes, &mut text)?;

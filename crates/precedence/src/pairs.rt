@@ -41,7 +41,8 @@ impl Pairs {
     pub fn add(&mut self, first: u8, next: u8)
         requires first { (1 ≤ first) × (first ≤ 60) }
         requires next { (1 ≤ next) × (next ≤ 60) }
-        ensures { (i : ℕ) → (j : ℕ) → MustPrecede self.new i j ↔ (MustPrecede self.old i j ⊎ ((i ≡ first) × (j ≡ next))) }
+        ensures { (i : ℕ) → (j : ℕ) → MustPrecede self.new i j
+            ↔ (MustPrecede self.old i j ⊎ ((i ≡ first) × (j ≡ next))) }
     {
         self.predecessors[next as usize] |= 1 << first;
     }
@@ -61,7 +62,8 @@ impl Pairs {
     pub fn all_before(&self, next: u8, placed: u64) -> bool
         requires { (1 ≤ next) × (next ≤ 60) }
         ensures in_range { AreInRange self.now }
-        ensures all { IsTrue result ↔ ((first : ℕ) → MustPrecede self.now first next → HasBit placed first) }
+        ensures all { IsTrue result ↔ ((first : ℕ) → MustPrecede self.now first next → HasBit
+            placed first) }
     {
         let wanted = self.predecessors[next as usize];
         wanted & placed == wanted

@@ -69,7 +69,8 @@ impl Planner for AnyKept {
 
         // After want of memory it holds no problem.
         ensures lost { OnErr result (held_of self.new ≡ None) }
-        ensures steps { OnOk result ((n : ℕ) × IsDue (problem_held self.old) problem.now n × (L.count steps.new ≡ raised_by n (L.count steps.old))) }
+        ensures steps { OnOk result ((n : ℕ) × IsDue (problem_held self.old) problem.now n
+            × (L.count steps.new ≡ raised_by n (L.count steps.old))) }
     {
         match self {
             AnyKept::One(kept) => kept.replan(rt, alloc, problem, gate, steps),

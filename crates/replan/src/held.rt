@@ -26,9 +26,15 @@ impl<const W: usize> Model for HeldProblem<W> {
 
     ghost Value = { held.HeldProblem };
 
-    ghost view = { λ h. record { problem = h.problem; stages = h.stages.stages.items; labels = h.stages.labels.items } };
+    ghost view = { λ h. record {
+      problem = h.problem;
+      stages = h.stages.stages.items;
+      labels = h.stages.labels.items;
+    } };
 
-    ghost invariant = { λ h. IsHeld W (record { problem = h.problem; stages = h.stages.stages.items; labels = h.stages.labels.items }) × AreWholeWhere h.problem h.stages.stages.items h.stages.whole.items };
+    ghost invariant = { λ h. IsHeld W (record
+        { problem = h.problem; stages = h.stages.stages.items; labels = h.stages.labels.items })
+        × AreWholeWhere h.problem h.stages.stages.items h.stages.whole.items };
 }
 
 // How many stages of a problem, from stage 0 on, another has in common with it: those from which even the greatest shift does
@@ -68,11 +74,14 @@ pub(crate) fn begin_stages<const W: usize>(
     held: Option<HeldProblem<W>>,
 ) -> Result<Stages<W>, AllocError>
     requires width { W ≡ 2 * problem.now.k + 1 }
-    ensures held { IfOk result (λ kept. HoldsStages problem.now kept.stages.items kept.labels.items) }
-    ensures whole { IfOk result (λ kept. AreWholeWhere problem.now kept.stages.items kept.whole.items) }
+    ensures held { IfOk result (λ kept. HoldsStages problem.now kept.stages.items
+        kept.labels.items) }
+    ensures whole { IfOk result (λ kept. AreWholeWhere problem.now kept.stages.items
+        kept.whole.items) }
     ensures some { IfOk result (λ kept. 0 < vec_len kept.stages) }
     ensures few { IfOk result (λ kept. vec_len kept.stages ≤ length problem.now.flights + 1) }
-    ensures due { IfOk result (λ kept. IsDueFrom (problem_of held.entry) problem.now (vec_len kept.stages)) }
+    ensures due { IfOk result (λ kept. IsDueFrom (problem_of held.entry) problem.now
+        (vec_len kept.stages)) }
 {
     match held {
         None => {

@@ -58,7 +58,8 @@ impl<const W: usize> Kept<W> {
         ensures answer { IfOk result (IsAnswerOf problem.now) }
         ensures holds { OnOk result (problem_of self.new ≡ Some problem.now) }
         ensures lost { OnErr result (self.new ≡ None) }
-        ensures steps { OnOk result ((due : ℕ) × IsDue (problem_of self.old) problem.now due × (L.count steps.new ≡ raised_by due (L.count steps.old))) }
+        ensures steps { OnOk result ((due : ℕ) × IsDue (problem_of self.old) problem.now due
+            × (L.count steps.new ≡ raised_by due (L.count steps.old))) }
     {
         let held = self.held.take();
         let copied = problem.copy()?;

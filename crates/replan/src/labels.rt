@@ -51,7 +51,8 @@ impl Model for Labels {
 impl Labels {
     // The labels of stage 0: one list with the one pair (0, 0), whose second no rule reads as a landing.
     pub(crate) fn start(alloc: Global, objective: Objective) -> Result<Labels, AllocError>
-        ensures { IfOk result (λ labels. labels ≡ record { objective = objective; lists = ((0, 0) ∷ []) ∷ [] }) }
+        ensures { IfOk result (λ labels. labels
+            ≡ record { objective = objective; lists = ((0, 0) ∷ []) ∷ [] }) }
     {
         match objective {
             Objective::Makespan => {
@@ -133,7 +134,8 @@ impl Labels {
         requires next { IsNextOf problem.now before.now.0 before.now.1 stage.now.1 }
         ensures pairs { IfOk result (λ labels. ArePairs problem.now stage.now labels) }
         ensures landable { OnOk result (HasEachLandable problem.now stage.now) }
-        ensures steps { OnOk result (L.count steps.new ≡ raised_by (length stage.now.1) (L.count steps.old)) }
+        ensures steps { OnOk result (L.count steps.new ≡ raised_by (length stage.now.1)
+            (L.count steps.old)) }
     {
         match &self.kept {
             ByObjective::OfColumn(labels) => {
@@ -196,7 +198,8 @@ impl Labels {
         ensures all { length self.new.lists ≡ length stage.old.1 → stage.new.1 ≡ stage.old.1 }
 
         // What is left are the landable windows, where none was missing.
-        ensures landable { (p : Problem) → HasEachLandable p stage.old → ArePairs p stage.old self.old → HoldsPairs p stage.new self.new }
+        ensures landable { (p : Problem) → HasEachLandable p stage.old
+            → ArePairs p stage.old self.old → HoldsPairs p stage.new self.new }
     {
         match &mut self.kept {
             ByObjective::OfColumn(column) => column.keep_landable(stage),

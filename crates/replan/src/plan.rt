@@ -22,9 +22,12 @@ fn order_of<const W: usize>(
     requires width { W ≡ 2 * problem.now.k + 1 }
     requires held { HoldsStages problem.now kept.now.stages.items kept.now.labels.items }
     requires whole { vec_len kept.now.stages ≡ length problem.now.flights + 1 }
-    requires within { place < length (stage_at kept.now.stages.items (length problem.now.flights)).1 }
+    requires within { place < length (stage_at kept.now.stages.items
+        (length problem.now.flights)).1 }
     ensures room { IfOk result (λ order. length order.items ≡ length problem.now.flights) }
-    ensures lands { IfOk result (λ order. LandsWithPair problem.now order.items (last_pair (list_at (lists_at kept.now.labels.items (length problem.now.flights)) place))) }
+    ensures lands { IfOk result (λ order. LandsWithPair problem.now order.items
+        (last_pair (list_at (lists_at kept.now.labels.items (length problem.now.flights))
+        place))) }
 {
     let mut order = vec![in alloc; 0u8; problem.len() as usize]?;
     trace(problem, kept, place, &mut order);

@@ -89,7 +89,8 @@ impl AnyKept {
         ensures few { result ≤ 60 }
 
         // Of the problem that it holds these are the landable windows with their undominated pairs.
-        ensures held { (p : Problem) → problem_held self.now ≡ Some p → AreStagesOf p (held_of self.now) }
+        ensures held { (p : Problem) → problem_held self.now ≡ Some p
+            → AreStagesOf p (held_of self.now) }
         ensures k { (p : Problem) → problem_held self.now ≡ Some p → p.k ≡ k_of self.now }
     {
         match self {

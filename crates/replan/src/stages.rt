@@ -45,8 +45,10 @@ pub(crate) fn first_stage<const W: usize>(
     problem: &Problem,
 ) -> Result<Stages<W>, AllocError>
     requires width { W ≡ 2 * problem.now.k + 1 }
-    ensures held { IfOk result (λ kept. HoldsStages problem.now kept.stages.items kept.labels.items) }
-    ensures whole { IfOk result (λ kept. AreWholeWhere problem.now kept.stages.items kept.whole.items) }
+    ensures held { IfOk result (λ kept. HoldsStages problem.now kept.stages.items
+        kept.labels.items) }
+    ensures whole { IfOk result (λ kept. AreWholeWhere problem.now kept.stages.items
+        kept.whole.items) }
     ensures one { IfOk result (λ kept. vec_len kept.stages ≡ 1) }
 {
     let objective = problem.head().objective;
@@ -76,7 +78,8 @@ pub(crate) fn stage_after<const W: usize>(
 ) -> Result<Stage<W>, AllocError>
     requires width { W ≡ 2 * problem.now.k + 1 }
     requires stage { before.now.0 < length problem.now.flights }
-    requires whole { IsTrue is_whole → earlier.now.0 < before.now.0 → IsNextOf problem.now earlier.now.0 earlier.now.1 before.now.1 }
+    requires whole { IsTrue is_whole → earlier.now.0 < before.now.0
+        → IsNextOf problem.now earlier.now.0 earlier.now.1 before.now.1 }
     ensures number { IfOk result (λ s. s.0 ≡ before.now.0 + 1) }
     ensures ascending { IfOk result (λ s. IsAscending s.1) }
     ensures exact { IfOk result (λ s. IsNextOf problem.now before.now.0 before.now.1 s.1) }
@@ -108,7 +111,8 @@ fn label_stage<const W: usize, R: Threads, G: Gate, L: Ledger>(
     ensures held { IfOk result (λ labelled. HoldsPairs problem.now stage.new labelled.0) }
     ensures number { OnOk result (stage.new.0 ≡ stage.old.0) }
     ensures all { IfOk result (λ labelled. IsTrue labelled.1 → stage.new.1 ≡ stage.old.1) }
-    ensures steps { OnOk result (L.count steps.new ≡ raised_by (length stage.old.1) (L.count steps.old)) }
+    ensures steps { OnOk result (L.count steps.new ≡ raised_by (length stage.old.1)
+        (L.count steps.old)) }
 {
     let _near = problem.head();
     let candidates = stage.len();
@@ -132,10 +136,14 @@ fn add_stage<const W: usize, R: Threads, G: Gate, L: Ledger>(
     requires whole { AreWholeWhere problem.now kept.old.stages.items kept.old.whole.items }
     requires some { 0 < vec_len kept.old.stages }
     requires number { vec_len kept.old.stages ≤ length problem.now.flights }
-    ensures held { OnOk result (HoldsStages problem.now kept.new.stages.items kept.new.labels.items) }
-    ensures whole { OnOk result (AreWholeWhere problem.now kept.new.stages.items kept.new.whole.items) }
+    ensures held { OnOk result (HoldsStages problem.now kept.new.stages.items
+        kept.new.labels.items) }
+    ensures whole { OnOk result (AreWholeWhere problem.now kept.new.stages.items
+        kept.new.whole.items) }
     ensures one { OnOk result (vec_len kept.new.stages ≡ vec_len kept.old.stages + 1) }
-    ensures steps { OnOk result ((count : ℕ) × HasCandidates problem.now (vec_len kept.old.stages - 1) count × (L.count steps.new ≡ raised_by count (L.count steps.old))) }
+    ensures steps { OnOk result ((count : ℕ) × HasCandidates problem.now
+        (vec_len kept.old.stages - 1) count × (L.count steps.new ≡ raised_by count
+        (L.count steps.old))) }
 {
     let last = kept.stages.len() - 1;
     let earlier = &kept.stages[last.saturating_sub(1)];
@@ -165,10 +173,14 @@ pub(crate) fn fill_stages<const W: usize, R: Threads, G: Gate, L: Ledger>(
     requires whole { AreWholeWhere problem.now kept.old.stages.items kept.old.whole.items }
     requires some { 0 < vec_len kept.old.stages }
     requires few { vec_len kept.old.stages ≤ length problem.now.flights + 1 }
-    ensures held { OnOk result (HoldsStages problem.now kept.new.stages.items kept.new.labels.items) }
-    ensures whole { OnOk result (AreWholeWhere problem.now kept.new.stages.items kept.new.whole.items) }
+    ensures held { OnOk result (HoldsStages problem.now kept.new.stages.items
+        kept.new.labels.items) }
+    ensures whole { OnOk result (AreWholeWhere problem.now kept.new.stages.items
+        kept.new.whole.items) }
     ensures all { OnOk result (vec_len kept.new.stages ≡ length problem.now.flights + 1) }
-    ensures steps { OnOk result ((due : ℕ) × HasCandidatesFrom (vec_len kept.old.stages) problem.now (length problem.now.flights) due × (L.count steps.new ≡ raised_by due (L.count steps.old))) }
+    ensures steps { OnOk result ((due : ℕ) × HasCandidatesFrom (vec_len kept.old.stages)
+        problem.now (length problem.now.flights) due
+        × (L.count steps.new ≡ raised_by due (L.count steps.old))) }
 {
     steps.tick(0);
     let first = kept.stages.len();

@@ -21,20 +21,24 @@ fn shared_by_threads<T: Send + Sync>(_: &T) {}
 struct Bank {
     waiting: Vec<Waiting>,
     ghost few: { vec_len waiting ≤ 60 },
-    ghost in_order: { AllPairs (λ f g. (f.eta < g.eta) × (f.callsign ≢ g.callsign)) (map waiting_of waiting.items) },
-    ghost in_range: { All (λ f. (f.eta ≤ 172799) × (f.weight ≡ 1) × (f.passed ≡ 0)) (map waiting_of waiting.items) },
+    ghost in_order: { AllPairs (λ f g. (f.eta < g.eta) × (f.callsign ≢ g.callsign))
+        (map waiting_of waiting.items) },
+    ghost in_range: { All (λ f. (f.eta ≤ 172799) × (f.weight ≡ 1) × (f.passed ≡ 0))
+        (map waiting_of waiting.items) },
 }
 
 // Whether a flight comes behind another, under another callsign.
 fn follows(earlier: &Waiting, flight: &Waiting) -> bool
-    ensures { IsTrue result → (earlier.now.eta < flight.now.eta) × (earlier.now.callsign ≢ flight.now.callsign) }
+    ensures { IsTrue result → (earlier.now.eta < flight.now.eta)
+        × (earlier.now.callsign ≢ flight.now.callsign) }
 {
     earlier.eta < flight.eta && earlier.callsign != flight.callsign
 }
 
 // Whether a flight comes behind all of these.
 fn comes_last(waiting: &Vec<Waiting>, flight: &Waiting) -> bool
-    ensures { IsTrue result → All (λ f. (f.eta < flight.now.eta) × (f.callsign ≢ flight.now.callsign)) (map waiting_of waiting.now.items) }
+    ensures { IsTrue result → All (λ f. (f.eta < flight.now.eta)
+        × (f.callsign ≢ flight.now.callsign)) (map waiting_of waiting.now.items) }
 {
     for earlier in waiting {
         if !follows(earlier, flight) {

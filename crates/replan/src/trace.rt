@@ -39,10 +39,13 @@ pub(crate) fn trace<const W: usize>(
     requires width { W ≡ 2 * problem.now.k + 1 }
     requires held { HoldsStages problem.now kept.now.stages.items kept.now.labels.items }
     requires whole { vec_len kept.now.stages ≡ length problem.now.flights + 1 }
-    requires within { place < length (stage_at kept.now.stages.items (length problem.now.flights)).1 }
+    requires within { place < length (stage_at kept.now.stages.items
+        (length problem.now.flights)).1 }
     requires room { length order.old ≡ length problem.now.flights }
     ensures room { length order.new ≡ length order.old }
-    ensures lands { LandsWithPair problem.now order.new (last_pair (list_at (lists_at kept.now.labels.items (length problem.now.flights)) place)) }
+    ensures lands { LandsWithPair problem.now order.new
+        (last_pair (list_at (lists_at kept.now.labels.items (length problem.now.flights))
+        place)) }
 {
     let mut stage = problem.len() as usize;
     prefix_laws::<W>(problem);

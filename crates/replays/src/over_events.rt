@@ -36,7 +36,8 @@ fn step<P: Planner, R: Threads + Sync, S: Sink, G: Gate + Sync, L: Ledger>(
     steps: &mut Steps<L>,
 ) -> Result<(), Stop>
     requires { IsGoodEvent (event_of event.now) }
-    ensures { StepWrites sequencer.old.state sequencer.new.state number (event_of event.now) (S.state out.old) (S.state out.new) result }
+    ensures { StepWrites sequencer.old.state sequencer.new.state number (event_of event.now)
+        (S.state out.old) (S.state out.new) result }
 {
     match sequencer.apply(rt, alloc, event, gate, steps) {
         Ok(()) => {
@@ -63,7 +64,8 @@ fn replay_events<P: Planner, R: Threads + Sync, S: Sink, G: Gate + Sync, L: Ledg
 ) -> Result<(), Stop>
     requires good { All IsGood events.now }
     requires few { length events.now < 2 ^ 31 }
-    ensures { EventsWrite sequencer.old.state sequencer.new.state (map event_of events.now) (S.state out.old) (S.state out.new) result }
+    ensures { EventsWrite sequencer.old.state sequencer.new.state (map event_of events.now)
+        (S.state out.old) (S.state out.new) result }
 {
     for i in 0..events.len() {
         let number = i as u32 + 1;
@@ -101,7 +103,8 @@ pub fn replay<P: Planner, R: Threads + Sync, S: Sink, G: Gate + Sync, L: Ledger>
 ) -> Result<bool, Stop>
     requires good { All IsGood events.now }
     requires few { length events.now < 2 ^ 31 }
-    ensures outcome { ReplayEnds sequencer.old.state sequencer.new.state (map event_of events.now) (S.state out.old) (S.state out.new) result }
+    ensures outcome { ReplayEnds sequencer.old.state sequencer.new.state
+        (map event_of events.now) (S.state out.old) (S.state out.new) result }
 {
     open(alloc, &*sequencer, out)?;
     replay_events(rt, alloc, sequencer, events, out, gate, steps)?;
