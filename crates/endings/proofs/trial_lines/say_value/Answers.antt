@@ -1,4 +1,4 @@
-use Rattle.std.proofs.Common.{◌≡◌, ℕ, List, [], ◌∷◌, ap, ap₂, ◌∙◌, decimal}
+use Rattle.std.proofs.Common.{◌≡◌, ℕ, List, [], ◌∷◌, ap₂, ◌∙◌, decimal}
 use Rattle.std.specs.Prelude.{codes}
 use Rattle.endings.specs.Lines.{text_of, field_word, field_part, field_why}
 use Rattle.endings.proofs.Writing.{says}
