@@ -5,5 +5,6 @@ pub mod Meaning
 pub mod Seen
 pub mod Whole
 pub mod WholeLaws
+pub mod Situations
 pub mod PlacedBits
 pub mod shared

@@ -1,6 +1,7 @@
 //! What holds of certificates that leave nothing out.
 
 ghost use Rattle.cert_check.specs.PlacedBits.{PatternOfBitsLaw, DigitsAreBitsLaw};
+ghost use Rattle.cert_check.specs.Situations.{OneVerdictLaw};
 ghost use Rattle.cert_check.specs.WholeLaws.{WholeIsAcceptedLaw, KeptIsWholeLaw, WholeIsUniqueLaw, WholeIsInFormLaw, BestOrderIsShownLaw};
 
 /// A certificate that leaves nothing out is accepted with what it claims: its states are exactly those where some legal prefix
@@ -27,4 +28,10 @@ pub fn patterns_are_bits()
 /// The landings of a best list are shown optimal, in whatever order they stand.
 pub fn best_lists_are_shown()
     ensures { BestOrderIsShownLaw }
+{}
+
+/// The verdict on a certificate is one for a situation: two problems of it, which may keep their pairs of ranks in lists of other
+/// lengths, are answered the same. The call does nothing: it tells its caller the law.
+pub fn situation_has_one_verdict()
+    ensures { OneVerdictLaw }
 {}

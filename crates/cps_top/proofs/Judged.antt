@@ -27,9 +27,7 @@ use Rattle.cps_top.specs.Plan.{refusal_of, StopsOpened}
 use Rattle.endings.specs.Faults.{begin_ending, opening_ending}
 use Rattle.endings.specs.declared.ending.Ending.{Ending}
 use Rattle.endings.specs.declared.ending.Refusal.TheVariants.{Opening}
-use Rattle.endings.specs.declared.ending.Answer.TheVariants.{Accepted}
-use Rattle.cps_top.specs.Certify.{PrintedIsAcceptedLaw}
-use Rattle.cps_top.specs.Verdicts.{IsTrueOf, answer_of_verdict}
+use Rattle.cps_top.specs.Verdicts.{IsTrueOf}
 
 -- files that open a situation are taken
 pub opened_taken : (aerodrome : Aerodrome) (flights : List Flight) → opening_fault aerodrome flights ≡ None → refusal_of aerodrome flights ≡ None
@@ -72,24 +70,3 @@ claim_true s p ls (claim.Optimal v) best same none sound of shown = record {
   objective = same s p (seconds p ls) sound of shown.best.feasible ∙ shown.value;
 }
 claim_true s p ls claim.Infeasible best same none sound of answer = none s p sound of answer.1
-
-accepted_answer : (c : Claim) → Accepted ≡ answer_of_verdict (claimed c)
-accepted_answer (claim.Optimal v) = refl
-accepted_answer claim.Infeasible = refl
-
--- what `certify` printed `check` accepts
-pub printed_accepted : PrintedIsAcceptedLaw
-printed_accepted a f text answer printed = record {
-  verdict = claimed printed.certifies.certificate.claim;
-  judges = record {
-    aerodrome = printed.aerodrome;
-    flights = printed.flights;
-    certificate = printed.certifies.certificate;
-    aerodrome_read = printed.aerodrome_read;
-    flights_read = printed.flights_read;
-    certificate_read = printed.certifies.reads;
-    judged = printed.certifies.certified.judged;
-  };
-  prints = refl;
-  answers = accepted_answer printed.certifies.certificate.claim;
-}

@@ -1,3 +1,4 @@
+pub mod Accepting
 pub mod Audited
 pub mod Complete
 pub mod Counted

@@ -1,16 +1,18 @@
 -- What `certify` prints over the contents of its two files. It refuses those that `plan` refuses.
-use Rattle.std.specs.Prelude.{◌≡◌, ℕ, List, Ok}
+use Rattle.std.specs.Prelude.{◌≡◌, ◌↔◌, ℕ, List, Ok}
 use Rattle.aerodrome_file.specs.declared.aerodrome.Aerodrome.{Aerodrome}
 use Rattle.aerodrome_file.specs.Reading.{aerodrome_of}
 use Rattle.flight_file.specs.declared.flight.Flight.{Flight}
 use Rattle.flight_file.specs.Reading.{flights_of}
+use Rattle.certificate.specs.declared.certificate.Claim.{Claim}
 use Rattle.certificate.specs.Reading.{Cert, certificate_of}
 use Rattle.certificate.specs.Spelling.{text_of}
 use Rattle.cert_check.specs.Whole.{IsWhole}
 use Rattle.cert_check.specs.WholeLaws.{claimed}
 use Rattle.endings.specs.declared.ending.Answer.{Answer}
 use Rattle.endings.specs.declared.ending.Answer.TheVariants.{Accepted, Certified}
-use Rattle.cps_top.specs.Check.{AdmitsCheck, IsJudged}
+use Rattle.endings.specs.declared.ending.Refusal.{Refusal}
+use Rattle.cps_top.specs.Check.{AdmitsCheck, IsJudged, RefusesCheck}
 use Rattle.cps_top.specs.Verdicts.{verdict_text}
 
 -- The files are taken. This certificate leaves nothing out of the problem of their opening situation, and its verdict is
@@ -35,7 +37,12 @@ pub record AdmitsCertify (aerodrome_bytes flight_bytes text : List ℕ) (answer 
   pub flights_read : flights_of flight_bytes ≡ Ok flights
   pub certifies : Certifies aerodrome flights text answer
 
--- `check` may answer a text that `certify` may print for two files by the line of what it claims, for the same files
+-- `check` takes this text as a certificate for the files, and answers it by the line of this claim and in no other way.
+pub record IsAccepted (aerodrome flights text : List ℕ) (claim : Claim) : Type 0 where
+  pub taken : (cause : Refusal) → RefusesCheck aerodrome flights text cause → ⊥
+  pub answered : (line : List ℕ) (told : Answer) → AdmitsCheck aerodrome flights text line told ↔ ((line ≡ verdict_text (claimed claim)) × (told ≡ Accepted))
+
+-- A text that `certify` may print for two files is accepted with what it claims, for the same files.
 abbrev pub PrintedIsAcceptedLaw : Type 0
 PrintedIsAcceptedLaw = (aerodrome flights text : List ℕ) (answer : Answer) (printed : AdmitsCertify aerodrome flights text answer) →
-    AdmitsCheck aerodrome flights text (verdict_text (claimed printed.certifies.certificate.claim)) Accepted
+    IsAccepted aerodrome flights text printed.certifies.certificate.claim

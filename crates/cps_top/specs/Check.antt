@@ -55,6 +55,11 @@ pub record AdmitsCheck (aerodrome flights certificate text : List ℕ) (answer :
   pub prints : text ≡ verdict_text verdict
   pub answers : answer ≡ answer_of_verdict verdict
 
+-- Two texts that `check` may print for the same files are one, with one answer.
+abbrev pub CheckTextIsOneLaw : Type 0
+CheckTextIsOneLaw = (aerodrome flights certificate text other : List ℕ) (answer another : Answer)
+    → AdmitsCheck aerodrome flights certificate text answer → AdmitsCheck aerodrome flights certificate other another → (text ≡ other) × (answer ≡ another)
+
 -- how `check` may stop before it writes
 abbrev pub StopsCheck : List ℕ → List ℕ → List ℕ → Ending → Type 0
 StopsCheck aerodrome flights certificate = Stops (RefusesCheck aerodrome flights certificate)

@@ -1,8 +1,16 @@
 // What holds of the texts of the commands.
 ghost use Rattle.cps_top.specs.Certify.{PrintedIsAcceptedLaw};
+ghost use Rattle.cps_top.specs.Check.{CheckTextIsOneLaw};
 
-/// A text that `certify` may print for two files is one that `check`, for the same files, may answer by the line of what the
-/// certificate claims. The call does nothing: it tells its caller the law.
+use cert_check::situation_has_one_verdict;
+
+/// A text that `certify` may print for two files `check` accepts, for the same files: it is not refused, and the line of what
+/// the certificate claims is the one text that `check` may print of it. The call does nothing: it tells its caller the law.
 pub fn printed_certificates_are_accepted()
-    ensures { PrintedIsAcceptedLaw }
-{}
+    ensures accepted { PrintedIsAcceptedLaw }
+
+    // What `check` prints is a function of its three files' bytes, whoever wrote them.
+    ensures one { CheckTextIsOneLaw }
+{
+    situation_has_one_verdict();
+}
