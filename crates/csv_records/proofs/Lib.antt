@@ -1,3 +1,5 @@
 pub mod Turns
 pub mod OneRead
 pub mod Parts
+pub mod Scans
+pub mod Marks

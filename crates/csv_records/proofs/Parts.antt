@@ -11,7 +11,8 @@ use Rattle.std.proofs.lemmas.List.Elements.{All-from_get_or}
 use Rattle.std.proofs.lemmas.List.Splits.{slice_split_first, slice_split_none}
 use Rattle.csv_records.specs.Cutting.{parts}
 
-rest_is : (k : ℕ) (text : List ℕ) → take (length text - k) (drop k text) ≡ drop k text
+-- a text from one of its bytes on, as a slice has it
+pub rest_is : (k : ℕ) (text : List ℕ) → take (length text - k) (drop k text) ≡ drop k text
 rest_is k text = rw (← length-drop k text) (take-length (drop k text))
 
 pub cut_at : (mark : ℕ) (text : List ℕ) (i : ℕ) → position (λ b. b == mark) text ≡ Some i → parts mark text ≡ take i text ∷ parts mark (take (length text - (i + 1)) (drop (i + 1) text))

@@ -1,5 +1,5 @@
 -- Each record takes a byte or more, so that enough turns give all records of a text.
-use Rattle.std.proofs.Common.{◌≡◌, ℕ, zero, suc, ◌+◌, ◌<◌, ◌≤◌, List, [], ◌∷◌, ◌++◌, true, false, length, Option, Some, None, refl, ap, ◌∙◌, add-one, arith, inl, inr}
+use Rattle.std.proofs.Common.{◌≡◌, ℕ, zero, suc, ◌+◌, ◌<◌, ◌≤◌, List, [], ◌∷◌, ◌++◌, true, false, length, Option, Some, None, refl, sym, ap, ◌∙◌, add-one, arith, inl, inr}
 use Rattle.std.proofs.lemmas.Bool.{cases_Bool}
 use Rattle.std.proofs.lemmas.Option.{same_Some}
 use Rattle.std.proofs.lemmas.Grind.{common_steps}
@@ -10,6 +10,7 @@ use Rattle.csv.specs.declared.parser.State.TheVariants as st
 use Rattle.csv.specs.declared.parser.Action.{Action}
 use Rattle.csv_records.specs.Rows.{Fields}
 use Rattle.csv_records.specs.Left.{records_left}
+use Rattle.csv_records.specs.Extent.{first_of}
 
 -- between two records no record stands open
 abbrev pub Between : State → Type 0
@@ -75,20 +76,38 @@ turn : (n : ℕ) (s : State) (xs : List ℕ) → records_from default_config (n 
 unfolding records_from
 turn n s xs = rw add-one refl
 
--- a read that gave a record gave the first of those that were left, and leaves the others
+-- between two records it is no matter how the last one ended
+start_same : (s : State) (xs : List ℕ) → Between s → next_record default_config s [] [] xs ≡ first_of xs
+unfolding next_record
+start_same st.StartRecord xs b = refl
+start_same st.AfterCr [] b = refl
+start_same st.AfterCr (c ∷ xs) b = grind (arith, common_steps)
+start_same st.StartField xs b = absurd (cc b)
+start_same st.InField xs b = absurd (cc b)
+start_same st.InQuoted xs b = absurd (cc b)
+start_same st.AfterQuote xs b = absurd (cc b)
+start_same st.InEscape xs b = absurd (cc b)
+start_same st.InComment xs b = absurd (cc b)
+
+-- the first record of a text is the first of those that are left
+pub first_left : (s : State) (xs : List ℕ) (q : Read) → Between s → first_of xs ≡ Some q → (more : List Fields) × (records_left s (Some xs) ≡ q.0 ∷ more)
+first_left s xs q between first = (records_from default_config (length xs) q.1 q.2, turn (length xs) s xs ∙ rw (start_same s xs between ∙ first) refl)
+
+-- a read that gave a record gave the first of the text and of those that were left, and leaves the others
 pub one_read : (s : State) (xs : List ℕ) (after : Option (List ℕ)) (fields : Fields) (s2 : State) → Between s → ReadsNext default_config s (Some xs) after true fields s2
-    → (records_left s (Some xs) ≡ fields ∷ records_left s2 after) × Between s2 × (ys : List ℕ) × (after ≡ Some ys)
+    → (records_left s (Some xs) ≡ fields ∷ records_left s2 after) × Between s2 × (ys : List ℕ) × (after ≡ Some ys) × (first_of xs ≡ Some (fields, s2, ys))
 one_read s xs None fields s2 between read = absurd read
 one_read s xs (Some ys) fields s2 between read = by (next_record default_config s [] [] xs) refl read
   where
     by : (o : Option Read) → next_record default_config s [] [] xs ≡ o → NextIs o true fields s2 ys
-        → (records_left s (Some xs) ≡ fields ∷ records_left s2 (Some ys)) × Between s2 × (zs : List ℕ) × (Some ys ≡ Some zs)
+        → (records_left s (Some xs) ≡ fields ∷ records_left s2 (Some ys)) × Between s2 × (zs : List ℕ) × (Some ys ≡ Some zs) × (first_of xs ≡ Some (fields, s2, zs))
     by None e is = absurd (cc is)
     by (Some q) e is =
         let less = shorter s xs q between e in
         let ends = (takes s [] [] xs q e).0 in
         let same = enough (length xs) (length q.2 + 1) q.1 q.2 ends less (omega arith) in
-        rw (is.1, is.2, is.3) (turn (length xs) s xs ∙ rw e (ap (λ (t : List Fields). q.0 ∷ t) same), ends, q.2, refl)
+        let first = sym (start_same s xs between) ∙ e in
+        rw (is.1, is.2, is.3) (turn (length xs) s xs ∙ rw e (ap (λ (t : List Fields). q.0 ∷ t) same), ends, q.2, refl, first)
 
 -- a read that gave none left none
 pub none_read : (s : State) (xs : List ℕ) (after : Option (List ℕ)) (fields : Fields) (s2 : State) → ReadsNext default_config s (Some xs) after false fields s2 → records_left s (Some xs) ≡ []

@@ -16,11 +16,11 @@ abbrev pub left_in : {R : Type 0} → (R → Option (List ℕ)) → Bool → Rea
 left_in rem true reader = []
 left_in rem false reader = records_left (reader_state reader) (source_of rem reader)
 
--- a reader that gives every record as it stands, between two records of known bytes
-pub record IsSet {R : Type 0} (rem : R → Option (List ℕ)) (reader : Reader R) : Type 0 where
+-- a reader that gives every record as it stands, between two records and before these bytes
+pub record IsSet {R : Type 0} (rem : R → Option (List ℕ)) (reader : Reader R) (bytes : List ℕ) : Type 0 where
   pub trim : reader_trim reader ≡ trim.None
   pub ready : Ready reader
   pub config : reader_config reader ≡ default_config
   pub flexible : is_flexible reader ≡ true
   pub between : ends_at_end (reader_state reader) ≡ false
-  pub known : (bytes : List ℕ) × (source_of rem reader ≡ Some bytes)
+  pub known : source_of rem reader ≡ Some bytes

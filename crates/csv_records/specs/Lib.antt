@@ -1,5 +1,6 @@
 pub mod Rows
 pub mod Left
+pub mod Extent
 pub mod Cutting
 pub mod Plain
 pub mod PlainLaw

@@ -16,7 +16,8 @@ fn count_marks(text: &[u8], mark: u8) -> usize
 
 /// The part before the first mark, and what stands behind the mark, if there is one.
 pub fn first_part(text: &[u8], mark: u8) -> (&[u8], Option<&[u8]>)
-    ensures { parts mark text.now ≡ result.0.now ∷ parts_left mark (option_map (λ t. t.now) result.1) }
+    ensures { parts mark text.now
+        ≡ result.0.now ∷ parts_left mark (option_map (λ t. t.now) result.1) }
 {
     match first_mark(text, mark) {
         Some(at) => (&text[..at], Some(&text[at + 1..])),

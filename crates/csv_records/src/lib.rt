@@ -3,6 +3,7 @@
 
 mod cutting;
 mod records;
+mod width;
 
 pub use cutting::{first_part, has_many_parts};
 pub use records::{Records, field};

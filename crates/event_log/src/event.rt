@@ -11,7 +11,8 @@ pub enum Event {
     Cancel(Callsign),
     /// A new flight.
     Add(Flight),
-    /// The runway is closed from the first second on, until before the second one, which is at most 172,800.
+    /// The runway is closed from the first second on, until before the second one, which is at most
+    /// 172,800.
     Close(u32, u32),
     /// The closure with these two seconds is lifted.
     Reopen(u32, u32),

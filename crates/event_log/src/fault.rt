@@ -37,8 +37,8 @@ pub enum FieldCause {
     EmptySpan,
 }
 
-/// Why a record is not an event. The first cause in this order is the one that is told; of columns, that of the first
-/// one that has a cause.
+/// Why a record is not an event. The first cause in this order is the one that is told; of columns,
+/// that of the first one that has a cause.
 #[derive(Clone, Copy, Debug, PartialEq, Eq, Error)]
 pub enum LogCause {
     /// The first record is not the header, or there is no record.

@@ -47,7 +47,8 @@ fn event_in(before: usize, row: &ByteRecord) -> Result<Event, LogCause>
 fn add_event(events: &mut Vec<Event>, row: &ByteRecord) -> Result<(), LogFault>
     requires few { vec_len events.old ≤ 2000 }
     requires good { All IsGood events.old.items }
-    ensures value { Gives (λ _. events.new.items) result (added events.old.items (event_in (length events.old.items) (fields_of row.now))) }
+    ensures value { Gives (λ _. events.new.items) result
+        (added events.old.items (event_in (length events.old.items) (fields_of row.now))) }
     ensures few { OnOk result (vec_len events.new ≤ 2000) }
     ensures good { OnOk result (All IsGood events.new.items) }
 {
@@ -81,18 +82,29 @@ fn events_in(
     Ok(events)
 }
 
-/// The events of a log, or the first fault of its first record that has one. It stops at that record, and holds one
-/// record at a time. There are at most 2,000 events, and all of their numbers are in their ranges.
+// The events of all records of a log.
 #[tactic(auto, unfolding(crate::specs::Reading::events_by))]
+fn events_by(alloc: Global, records: &mut Records) -> Result<Vec<Event>, LogFault>
+    ensures value { Gives (λ v. v.items) result (events_by records.old) }
+    ensures few { IfOk result (λ v. vec_len v ≤ 2000) }
+    ensures good { IfOk result (λ v. All IsGood v.items) }
+{
+    let mut row = ByteRecord::new(alloc);
+    if !records.read_next(&mut row)? || !is_header(&row) {
+        return Err(LogFault::header());
+    }
+    events_in(alloc, records, &mut row)
+}
+
+/// The events of a log, or the first fault of its first record that has one. It stops at that
+/// record, and holds one record at a time. There are at most 2,000 events, and all of their numbers
+/// are in their ranges.
+#[tactic(auto, using(crate::proofs::Wide::events_within))]
 pub fn read_events(alloc: Global, bytes: &[u8]) -> Result<Vec<Event>, LogFault>
     ensures value { Gives (λ v. v.items) result (events_of bytes.now) }
     ensures few { IfOk result (λ v. vec_len v ≤ 2000) }
     ensures good { IfOk result (λ v. All IsGood v.items) }
 {
-    let mut records = Records::new(alloc, bytes);
-    let mut row = ByteRecord::new(alloc);
-    if !records.read_next(&mut row)? || !is_header(&row) {
-        return Err(LogFault::header());
-    }
-    events_in(alloc, &mut records, &mut row)
+    let mut records = Records::new(alloc, bytes, 7);
+    events_by(alloc, &mut records)
 }

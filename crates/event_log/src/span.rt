@@ -19,10 +19,10 @@ fn second_in(text: &[u8], most: u64) -> Result<u32, FieldCause>
     }
 }
 
-/// The span of a closure, `from-to`: its first second, up to 172,799, and the first second behind it, up to 172,800. A
-/// text with no `-`, or with more than one, is `Windows(Shape(1))`; then `from` and after it `to` is
-/// `Windows(Number(1, fault))` where it is no such second; and a span that does not run forward is `EmptySpan`. It
-/// takes no memory.
+/// The span of a closure, `from-to`: its first second, up to 172,799, and the first second behind
+/// it, up to 172,800. A text with no `-`, or with more than one, is `Windows(Shape(1))`; then
+/// `from` and after it `to` is `Windows(Number(1, fault))` where it is no such second; and a span
+/// that does not run forward is `EmptySpan`. It takes no memory.
 #[tactic(auto, unfolding(crate::specs::Spans::span_in))]
 pub fn read_span(text: &[u8]) -> Result<(u32, u32), FieldCause>
     ensures value { result ≡ span_in text.now }

@@ -123,8 +123,9 @@ fn names_in_parts(text: &[u8], own: Callsign) -> Result<After, AfterCause>
     Ok(names)
 }
 
-/// The predecessors that a text names: callsigns joined by `;`, none of them the flight's own and none twice. An
-/// empty text names none; else each part from the first is tested. It takes no memory.
+/// The predecessors that a text names: callsigns joined by `;`, none of them the flight's own and
+/// none twice. An empty text names none; else each part from the first is tested. It takes no
+/// memory.
 #[tactic(auto, using(crate::proofs::Names::names_given), unfolding(crate::specs::After::names_in))]
 pub fn read_after(text: &[u8], own: Callsign) -> Result<After, AfterCause>
     ensures value { result ≡ names_in own text.now }

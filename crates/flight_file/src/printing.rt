@@ -78,7 +78,8 @@ fn append_head(flight: &Flight, into: &mut Vec<u8>) -> Result<(), AllocError>
 
 // The line of a flight.
 fn append_flight(flight: &Flight, into: &mut Vec<u8>) -> Result<(), AllocError>
-    ensures text { OnOk result (into.new.items ≡ into.old.items ++ plain_line (flight_fields flight.now)) }
+    ensures text { OnOk result (into.new.items
+        ≡ into.old.items ++ plain_line (flight_fields flight.now)) }
     ensures kept { OnOk result (IsKept flight.now) }
 {
     append_head(flight, into)?;
@@ -103,13 +104,14 @@ fn append_flights(flights: &[Flight], into: &mut Vec<u8>) -> Result<(), AllocErr
     Ok(())
 }
 
-/// Appends the file of these flights in its plain spelling: the header, and a line for each flight with its six
-/// fields, without quotes. After a refusal, for want of memory, `into` is as before. Reading the text gives the
-/// flights again, for all flights that a file can give.
+/// Appends the file of these flights in its plain spelling: the header, and a line for each flight
+/// with its six fields, without quotes. After a refusal, for want of memory, `into` is as before.
+/// Reading the text gives the flights again, for all flights that a file can give.
 #[tactic(auto, using(crate::proofs::Printed::read_printed))]
 pub fn print_flights(flights: &[Flight], into: &mut Vec<u8>) -> Result<(), AllocError>
     ensures appends { Appends into.old.items into.new.items (flights_text flights.now) result }
-    ensures reads { CanBeRead flights.now → OnOk result (flights_of (flights_text flights.now) ≡ Ok flights.now) }
+    ensures reads { CanBeRead flights.now
+        → OnOk result (flights_of (flights_text flights.now) ≡ Ok flights.now) }
 {
     let mut text = Vec::new(*into.allocator());
     append_flights(flights, &mut text)?;

@@ -88,7 +88,8 @@ fn flight_in(flights: &[Flight], row: &ByteRecord) -> Result<Flight, FlightCause
 // One more flight, behind those of the records before.
 fn add_flight(flights: &mut Vec<Flight>, row: &ByteRecord) -> Result<(), FlightFault>
     requires { CanBeRead flights.old.items }
-    ensures value { Gives (λ _. flights.new.items) result (added flights.old.items (flight_in flights.old.items (fields_of row.now))) }
+    ensures value { Gives (λ _. flights.new.items) result
+        (added flights.old.items (flight_in flights.old.items (fields_of row.now))) }
     ensures of_file { OnOk result (CanBeRead flights.new.items) }
 {
     match flight_in(flights.as_slice(), row) {
@@ -120,17 +121,26 @@ fn flights_in(
     Ok(flights)
 }
 
-/// The flights of a file, or the first fault of its first record that has one. It stops at that record, and holds
-/// one record at a time.
+// The flights of all records of a file.
 #[tactic(auto, unfolding(crate::specs::Reading::flights_by))]
-pub fn read_flights(alloc: Global, bytes: &[u8]) -> Result<Vec<Flight>, FlightFault>
-    ensures value { Gives (λ v. v.items) result (flights_of bytes.now) }
+fn flights_by(alloc: Global, records: &mut Records) -> Result<Vec<Flight>, FlightFault>
+    ensures value { Gives (λ v. v.items) result (flights_by records.old) }
     ensures of_file { IfOk result (λ v. CanBeRead v.items) }
 {
-    let mut records = Records::new(alloc, bytes);
     let mut row = ByteRecord::new(alloc);
     if !records.read_next(&mut row)? || !is_header(&row) {
         return Err(FlightFault::header());
     }
-    flights_in(alloc, &mut records, &mut row)
+    flights_in(alloc, records, &mut row)
+}
+
+/// The flights of a file, or the first fault of its first record that has one. It stops at that
+/// record, and holds one record at a time, and of one with more than six fields nothing.
+#[tactic(auto, using(crate::proofs::Wide::flights_within))]
+pub fn read_flights(alloc: Global, bytes: &[u8]) -> Result<Vec<Flight>, FlightFault>
+    ensures value { Gives (λ v. v.items) result (flights_of bytes.now) }
+    ensures of_file { IfOk result (λ v. CanBeRead v.items) }
+{
+    let mut records = Records::new(alloc, bytes, 6);
+    flights_by(alloc, &mut records)
 }

@@ -60,9 +60,10 @@ fn spans_in(text: &[u8]) -> Result<([(u32, u32); 4], usize), WindowsCause>
     Ok((spans, count))
 }
 
-/// The windows of a text: `first-last` joined by `;`, each a second from 0 to 172,799. An empty text is
-/// `Set(Empty)`, more than four parts are `Set(TooMany)`. Then each part from the first is tested whole, `Shape` and
-/// then its two numbers, and last the windows together. It takes no memory.
+/// The windows of a text: `first-last` joined by `;`, each a second from 0 to 172,799. An empty
+/// text is `Set(Empty)`, more than four parts are `Set(TooMany)`. Then each part from the first is
+/// tested whole, `Shape` and then its two numbers, and last the windows together. It takes no
+/// memory.
 #[tactic(auto, unfolding(crate::specs::Windows::windows_in))]
 pub fn read_windows(text: &[u8]) -> Result<WindowSet, WindowsCause>
     ensures { result ≡ windows_in text.now }

@@ -3,3 +3,4 @@ pub mod ClosureLemmas
 pub mod AboveLemmas
 pub mod LeastLemmas
 pub mod ShiftLemmas
+pub mod Wide

@@ -112,18 +112,28 @@ fn trials_in(
     Ok(trials)
 }
 
+// The trials of all records of a file.
+#[tactic(auto, unfolding(crate::specs::Reading::trials_by))]
+fn trials_by(alloc: Global, records: &mut Records) -> Result<Vec<Trial>, TrialFault>
+    ensures value { Gives (λ v. v.items) result (trials_by records.old) }
+    ensures few { IfOk result (λ v. vec_len v ≤ 16) }
+    ensures good { IfOk result (λ v. All IsGood v.items) }
+{
+    let mut row = ByteRecord::new(alloc);
+    if !records.read_next(&mut row)? || !is_header(&row) {
+        return Err(TrialFault::header());
+    }
+    trials_in(alloc, records, &mut row)
+}
+
 /// The trials of a file, or the first fault of its first record that has one. It stops at that record. There are at most 16
 /// trials, and their numbers are in their ranges.
-#[tactic(auto, unfolding(crate::specs::Reading::trials_by))]
+#[tactic(auto, using(crate::proofs::Wide::trials_within))]
 pub fn read_trials(alloc: Global, bytes: &[u8]) -> Result<Vec<Trial>, TrialFault>
     ensures value { Gives (λ v. v.items) result (trials_of bytes.now) }
     ensures few { IfOk result (λ v. vec_len v ≤ 16) }
     ensures good { IfOk result (λ v. All IsGood v.items) }
 {
-    let mut records = Records::new(alloc, bytes);
-    let mut row = ByteRecord::new(alloc);
-    if !records.read_next(&mut row)? || !is_header(&row) {
-        return Err(TrialFault::header());
-    }
-    trials_in(alloc, &mut records, &mut row)
+    let mut records = Records::new(alloc, bytes, 2);
+    trials_by(alloc, &mut records)
 }
