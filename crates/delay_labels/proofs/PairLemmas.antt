@@ -203,14 +203,6 @@ pub given_source : (p : Problem) (before : ℕ × List (List ℤ)) (lists : List
     → (x : List ℤ) × Contains before.1 x × IsSuccessor p before.0 x v
 given_source p before lists v q j index g = (node_at before.1 j, Contains-get_or before.1 j [] g.within, (g.rank, g.permitted, g.next))
 
-pub given_few : (p : Problem) → IsWellFormed p → (before : ℕ × List (List ℤ)) (lists : List (List Pair)) (v : List ℤ) (q : Pair) (j index : ℕ) → GivesPair p before lists v q j index → suc before.0 ≤ 63
-given_few p wf before lists v q j index g =
-    let a = g.permitted.late in
-    let b = g.permitted.to_count in
-    let c = wf.few_places in
-    let d = wf.few_flights in
-    omega (arith, a, b, c, d)
-
 -- a list without the pair at an index, read otherwise
 pub none_at : (p : Problem) (l r : ℕ) (q : Pair) (lists : List (List Pair)) (xs : List Pair) (i m : ℕ) → xs ≡ list_at lists i → ((k : ℕ) → k < length xs → successor p l (pair_at xs k) r ≡ Some q → ⊥)
     → m ≡ i → (index : ℕ) → index < length (list_at lists m) → successor p l (pair_at (list_at lists m) index) r ≡ Some q → ⊥
