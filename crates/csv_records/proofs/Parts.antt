@@ -1,35 +1,7 @@
--- A text is cut at its first mark.
-use Rattle.std.proofs.Common.{◌≡◌, ℕ, ◌+◌, ◌-◌, ◌<◌, ◌≤◌, List, [], ◌∷◌, false, length, take, drop, Some, None, arith, inl, inr, length-drop}
-use Rattle.std.specs.Prelude.{◌==◌, position, nat_lt}
-use Rattle.std.specs.List.{position_or_len}
+-- A text from one of its bytes on.
+use Rattle.std.proofs.Common.{◌≡◌, ℕ, ◌-◌, List, length, take, drop, length-drop}
 use Rattle.std.proofs.Math.Seq.{take-length}
-use Rattle.std.proofs.lemmas.Bool.{cases_Bool}
-use Rattle.std.proofs.lemmas.Grind.{common_steps}
-use Rattle.std.proofs.lemmas.Option.{same_Some}
-use Rattle.std.proofs.lemmas.List.Sums.{fails_before_first}
-use Rattle.std.proofs.lemmas.List.Elements.{All-from_get_or}
-use Rattle.std.proofs.lemmas.List.Splits.{slice_split_first, slice_split_none}
-use Rattle.csv_records.specs.Cutting.{parts}
 
 -- a text from one of its bytes on, as a slice has it
 pub rest_is : (k : ℕ) (text : List ℕ) → take (length text - k) (drop k text) ≡ drop k text
 rest_is k text = rw (← length-drop k text) (take-length (drop k text))
-
-pub cut_at : (mark : ℕ) (text : List ℕ) (i : ℕ) → position (λ b. b == mark) text ≡ Some i → parts mark text ≡ take i text ∷ parts mark (take (length text - (i + 1)) (drop (i + 1) text))
-cut_at mark text i found =
-    elim (cases_Bool (nat_lt (position_or_len (λ b. b == mark) text) (length text))) [
-      | inl within ↦
-          let at : position_or_len (λ b. b == mark) text ≡ i = same_Some _ _ (rw within at found) in
-          let below : position_or_len (λ b. b == mark) text < length text = grind (arith, common_steps) in
-          rw rest_is (rw at at (slice_split_first (λ b. b == mark) text 0 below))
-      | inr past ↦ let none : None ≡ Some i = rw past at found in absurd (cc none)
-    ]
-
-pub whole : (mark : ℕ) (text : List ℕ) → position (λ b. b == mark) text ≡ None → parts mark text ≡ text ∷ []
-whole mark text none =
-    elim (cases_Bool (nat_lt (position_or_len (λ b. b == mark) text) (length text))) [
-      | inl within ↦ let some : Some (position_or_len (λ b. b == mark) text) ≡ None = rw within at none in absurd (cc some)
-      | inr past ↦
-          let above : length text ≤ position_or_len (λ b. b == mark) text = grind (arith, common_steps) in
-          slice_split_none (λ b. b == mark) text (All-from_get_or (λ b. (b == mark) ≡ false) text 0 (λ k below. fails_before_first (λ b. b == mark) text k 0 (omega arith)))
-    ]

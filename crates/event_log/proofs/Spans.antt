@@ -2,7 +2,7 @@
 use Rattle.std.proofs.Common.{◌≡◌, ℕ, ◌<◌, List, [], ◌∷◌, length, Err, arith, refl}
 use Rattle.std.specs.Prelude.{◌==◌}
 use Rattle.std.proofs.lemmas.List.Splits.{length-slice_split}
-use Rattle.csv_records.specs.Cutting.{parts}
+use Rattle.text_parts.specs.Parts.{parts}
 use Rattle.flight_file.specs.declared.fault.WindowsCause.TheVariants.{Shape}
 use Rattle.event_log.specs.declared.fault.FieldCause.TheVariants.{Windows}
 use Rattle.event_log.specs.Spans.{span_by}

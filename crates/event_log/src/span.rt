@@ -3,9 +3,9 @@ ghost use Rattle.event_log.specs.Spans.{second_in, span_in};
 
 use crate::fault::FieldCause;
 use cps_base::read_number;
-use csv_records::first_part;
 use flight_file::WindowsCause;
 use landing_windows::LAST_SECOND;
+use text_parts::first_part;
 
 // A second of a span.
 fn second_in(text: &[u8], most: u64) -> Result<u32, FieldCause>

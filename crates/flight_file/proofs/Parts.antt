@@ -7,7 +7,7 @@ use Rattle.std.specs.Prelude.{◌==◌, ◌&&◌, IsTrue, Bool, true, false}
 use Rattle.std.specs.List.{list_all}
 use Rattle.landing_windows.specs.Windows.{is_in_days}
 use Rattle.std.proofs.lemmas.List.Splits.{length-slice_split}
-use Rattle.csv_records.specs.Cutting.{parts}
+use Rattle.text_parts.specs.Parts.{parts}
 use Rattle.flight_file.specs.declared.fault.WindowsCause.{WindowsCause}
 use Rattle.flight_file.specs.declared.fault.WindowsCause.TheVariants.{Shape}
 

@@ -1,7 +1,7 @@
 -- The predecessors that a field names, or its first fault.
 use Rattle.std.specs.Prelude.{◌≢◌, All, AllPairs, ℕ, List, [], ◌∷◌, ◌++◌, not, ◌==◌, ◌+◌, nat_lt, length, bytes_eq, Result, Ok, Err, if◌then◌else◌}
 use Rattle.std.specs.List.{list_any}
-use Rattle.csv_records.specs.Cutting.{parts}
+use Rattle.text_parts.specs.Parts.{parts}
 use Rattle.cps_base.specs.Text.{is_callsign}
 use Rattle.flight_file.specs.declared.fault.AfterCause.{AfterCause}
 use Rattle.flight_file.specs.declared.fault.AfterCause.TheVariants.{TooMany, Callsign, Itself, Repeat}

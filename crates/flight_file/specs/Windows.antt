@@ -1,6 +1,6 @@
 -- The windows that a field holds, or its first fault.
 use Rattle.std.specs.Prelude.{ℕ, List, [], ◌∷◌, ◌==◌, ◌+◌, nat_lt, length, Result, Ok, Err, if◌then◌else◌}
-use Rattle.csv_records.specs.Cutting.{parts}
+use Rattle.text_parts.specs.Parts.{parts}
 use Rattle.cps_base.specs.Number.{number_within}
 use Rattle.landing_windows.specs.Windows.{windows_of}
 use Rattle.landing_windows.specs.declared.windows.WindowFault.TheVariants as window

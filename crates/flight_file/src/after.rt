@@ -1,12 +1,12 @@
 ghost use Rattle.std.specs.Prelude.{◌≡◌, IfOk, ◌≤◌, ◌<◌, ◌++◌, ◌∷◌, [], length, bytes_eq, slice_get, Some};
 ghost use Rattle.std.specs.List.{list_any};
-ghost use Rattle.csv_records.specs.Cutting.{parts};
+ghost use Rattle.text_parts.specs.Parts.{parts};
 ghost use Rattle.flight_file.specs.After.{names_in, name_in, names_from, AreOthers};
 
 use crate::fault::AfterCause;
 use cps_base::Callsign;
-use csv_records::{first_part, has_many_parts};
 use std::marker::Model;
+use text_parts::{first_part, has_many_parts};
 
 /// The callsigns of at most four predecessors, kept in place. Contracts see their list.
 #[derive(Drop)]

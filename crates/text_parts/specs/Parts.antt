@@ -1,5 +1,5 @@
 -- The parts of a text round a mark, and the number or the callsign that a part is.
-use Rattle.std.specs.Prelude.{ℕ, List, [], ◌∷◌, ◌==◌, Option, Some, None, Result, Ok, Err, if◌then◌else◌}
+use Rattle.std.specs.Prelude.{ℕ, List, [], ◌==◌, Option, Some, None, Result, Ok, Err, if◌then◌else◌}
 use Rattle.std.specs.List.{slice_split}
 use Rattle.cps_base.specs.Text.{is_callsign}
 use Rattle.cps_base.specs.Number.{number_within}

@@ -4,5 +4,8 @@
 mod cuts;
 mod numbers;
 
-pub use cuts::first_part;
+pub use cuts::{first_part, has_many_parts};
 pub use numbers::number_in;
+
+#[cfg(test)]
+mod tests;

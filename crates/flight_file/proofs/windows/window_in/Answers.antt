@@ -7,6 +7,6 @@ use Rattle.flight_file.proofs.windows.window_in.Goals as goal
 pub returns-in-Some-more-clause-value : goal.returns-in-Some-more-clause-value
 unfolding window_in
 returns-in-Some-more-clause-value c =
-    let first = rw c.in-Some.is at c.first_part.ensures in
-    let second = rw c.in-Some-more.is at c.first_part-2.ensures in
+    let first = rw c.in-Some.is at c.first_part.ensures.value in
+    let second = rw c.in-Some-more.is at c.first_part-2.ensures.value in
     rw (first, second) (sym (too_many c.args.number c.first_part.result.0.now c.first_part-2.result.0.now _ (has_part 45 c.in-Some-more.field-0.now)))
