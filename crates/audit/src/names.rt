@@ -89,7 +89,8 @@ fn note(all: &mut Vec<Finding>, was_seen: bool, callsign: Callsign) -> Result<()
 // Each line whose callsign an earlier line has. Then those of all lines are seen.
 fn twice(alloc: Global, lines: &[Landing], seen: &mut Seen) -> Result<Vec<Finding>, AllocError>
     requires { seen.old ≡ [] }
-    ensures found { IfOk result (λ all. map finding_of all.items ≡ twice (map shown_of lines.now)) }
+    ensures found { IfOk result (λ all. map finding_of all.items ≡ twice
+        (map shown_of lines.now)) }
     ensures seen { OnOk result ((c : List ℕ) → has_name seen.new c
         ≡ has_line (map shown_of lines.now) c) }
 {

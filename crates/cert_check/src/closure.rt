@@ -46,7 +46,8 @@ fn successor(problem: &Problem, last: u8, pair: (u32, u32), rank: u8) -> Option<
 
 // Where the state of a node stands among states in their order.
 fn find(states: &[CertState], node: &Node) -> Result<usize, usize>
-    ensures found { IsBinarySearchResult (λ s. node_cmp (node_of s) (seen node.now)) states.now result }
+    ensures found { IsBinarySearchResult (λ s. node_cmp (node_of s) (seen node.now)) states.now
+        result }
     ensures bound { IsSearchInRange result (length states.now) }
 {
     states.binary_search_by(|state| compare(state, node))

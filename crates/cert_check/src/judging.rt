@@ -100,7 +100,8 @@ fn decide(problem: &Problem, certificate: &Certificate) -> Verdict
 /// one, is the answer that optimum; and only where no schedule is feasible, is it that there is none.
 pub fn judge(problem: &Problem, certificate: &Certificate) -> Verdict
     ensures exact { result ≡ verdict_of problem.now certificate.now }
-    ensures optimal { (v : ℕ) → result ≡ Verdict.Optimal v → IsShownOptimal problem.now certificate.now.landings v }
+    ensures optimal { (v : ℕ) → result ≡ Verdict.Optimal v
+        → IsShownOptimal problem.now certificate.now.landings v }
     ensures infeasible { result ≡ Verdict.Infeasible → NothingIsFeasible problem.now }
 {
     // Its head tells the proof what the problem keeps.

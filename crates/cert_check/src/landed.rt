@@ -173,7 +173,8 @@ fn first_too_close(problem: &Problem, landings: &[(Callsign, u32)], rank: u8) ->
 // The first two ranks, the lower one first, that land too close to one another.
 pub(crate) fn first_close_pair(problem: &Problem, landings: &[(Callsign, u32)]) -> Option<(u8, u8)>
     requires { AreLandings landings.now }
-    ensures { result ≡ first_pair_from (first_too_close problem.now landings.now) 1 (count problem.now) }
+    ensures { result ≡ first_pair_from (first_too_close problem.now landings.now) 1
+        (count problem.now) }
 {
     let end = problem.len() + 1;
     for rank in 1..end {
@@ -204,7 +205,8 @@ pub(crate) fn first_unordered_pair(
     landings: &[(Callsign, u32)],
 ) -> Option<(u8, u8)>
     requires { AreLandings landings.now }
-    ensures { result ≡ first_pair_from (first_out_of_order problem.now landings.now) 1 (count problem.now) }
+    ensures { result ≡ first_pair_from (first_out_of_order problem.now landings.now) 1
+        (count problem.now) }
 {
     let end = problem.len() + 1;
     for rank in 1..end {

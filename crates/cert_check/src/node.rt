@@ -77,7 +77,8 @@ fn pushed_ones(k: u8, node: &Node, rank: u8) -> u8
     requires k { k ≤ 3 }
     requires rank { rank ≤ 60 }
     requires stage { node.now.stage ≤ 60 }
-    ensures { bits (2 * k) result ≡ tests_from (pushed_digit k (seen node.now) rank) (suc (suc node.now.stage)) (2 * k) }
+    ensures { bits (2 * k) result ≡ tests_from (pushed_digit k (seen node.now) rank)
+        (suc (suc node.now.stage)) (2 * k) }
 {
     let digits = 2 * k;
     let mut ones = 0;

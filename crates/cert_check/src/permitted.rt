@@ -23,7 +23,8 @@ fn is_missing_predecessor(problem: &Problem, node: &Node, rank: u8, other: u8) -
 fn missing_predecessor(problem: &Problem, node: &Node, rank: u8) -> Option<u8>
     requires stage { node.now.stage ≤ 60 }
     requires rank { (1 ≤ rank) × (rank ≤ count problem.now) }
-    ensures { result ≡ first_from (is_missing_predecessor (rules_of problem.now) (seen node.now) rank) 1 (count problem.now) }
+    ensures { result ≡ first_from (is_missing_predecessor (rules_of problem.now) (seen node.now)
+        rank) 1 (count problem.now) }
 {
     let end = problem.len() + 1;
     for other in 1..end {
@@ -49,7 +50,8 @@ fn leaves_none_due(problem: &Problem, node: &Node, rank: u8) -> bool
 fn is_near(problem: &Problem, stage: u8, rank: u8) -> bool
     requires stage { stage ≤ 60 }
     requires rank { (1 ≤ rank) × (rank ≤ count problem.now) }
-    ensures { result ≡ (nat_le rank (suc stage + problem.now.k) && nat_le (suc stage) (rank + (rules_of problem.now).back rank)) }
+    ensures { result ≡ (nat_le rank (suc stage + problem.now.k) && nat_le (suc stage)
+        (rank + (rules_of problem.now).back rank)) }
 {
     let k = problem.head().k;
     let next = stage + 1;

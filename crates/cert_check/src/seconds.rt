@@ -75,7 +75,8 @@ fn greatest(problem: &Problem, landings: &[(Callsign, u32)]) -> u32
 
 fn total_cost(problem: &Problem, landings: &[(Callsign, u32)]) -> u64
     requires { AreLandings landings.now }
-    ensures value { result ≡ total (λ r. cost_at problem.now r (second problem.now landings.now r)) (upto (count problem.now)) }
+    ensures value { result ≡ total (λ r. cost_at problem.now r
+        (second problem.now landings.now r)) (upto (count problem.now)) }
     ensures small { result ≤ 17279900 * count problem.now }
 {
     let end = problem.len() + 1;

@@ -28,7 +28,8 @@ fn landings_in(
     requires room { length schedule.now ≡ length problem.now.flights }
     requires seconds { All (λ t. t ≤ last_second) schedule.now }
     requires ranks { All (λ r. (1 ≤ r) × (r ≤ length problem.now.flights)) order.now }
-    ensures listed { IfOk result (λ landings. landings.items ≡ landings_in problem.now schedule.now order.now) }
+    ensures listed { IfOk result (λ landings. landings.items ≡ landings_in problem.now
+        schedule.now order.now) }
     ensures in_form { IfOk result (λ landings. AreLandings landings.items) }
 {
     let mut landings = Vec::with_capacity(alloc, order.len())?;
@@ -48,7 +49,8 @@ fn landings_of(
 ) -> Result<Vec<(Callsign, u32)>, AllocError>
     requires best { IsBestList problem.now schedule.now }
     requires seconds { All (λ t. t ≤ last_second) schedule.now }
-    ensures listed { IfOk result (λ landings. AreLandingsOf problem.now schedule.now landings.items) }
+    ensures listed { IfOk result (λ landings. AreLandingsOf problem.now schedule.now
+        landings.items) }
     ensures in_form { IfOk result (λ landings. AreLandings landings.items) }
 {
     let _well_formed = problem.len();
@@ -65,7 +67,8 @@ pub(crate) fn answer_of(
     schedule: Option<&Schedule>,
 ) -> Result<(Claim, Vec<(Callsign, u32)>), AllocError>
     requires { IsAnswerOf problem.now (option_map (λ s. s.now) schedule) }
-    ensures shows { IfOk result (λ answer. ShowsAnswer problem.now (option_map (λ s. s.now) schedule.entry) answer.0 answer.1.items) }
+    ensures shows { IfOk result (λ answer. ShowsAnswer problem.now
+        (option_map (λ s. s.now) schedule.entry) answer.0 answer.1.items) }
     ensures answered { IfOk result (λ answer. IsAnswered problem.now answer.0 answer.1.items) }
     ensures claim { IfOk result (λ answer. IsClaim answer.0) }
     ensures landings { IfOk result (λ answer. AreLandings answer.1.items) }

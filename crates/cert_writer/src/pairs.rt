@@ -64,8 +64,10 @@ impl NodePairs {
     pub(crate) fn join(&mut self, kept: &AnyKept, stage: u8, i: usize) -> Result<(), AllocError>
         requires stage { IsReadable (held_of kept.now) stage }
         requires place { HasPlace (held_of kept.now) stage i }
-        ensures found { OnOk result (HasOnly self.new (IsOfEither self.old (pairs_in (held_of kept.now) stage i))) }
-        ensures covers { OnOk result (HasBetter self.new (IsOfEither self.old (pairs_in (held_of kept.now) stage i))) }
+        ensures found { OnOk result (HasOnly self.new
+            (IsOfEither self.old (pairs_in (held_of kept.now) stage i))) }
+        ensures covers { OnOk result (HasBetter self.new
+            (IsOfEither self.old (pairs_in (held_of kept.now) stage i))) }
         ensures in_range { OnOk result (All IsInRange self.old → All IsInRange self.new) }
     {
         for j in 0..kept.label_count(stage, i) {

@@ -30,7 +30,8 @@ fn add_state(
     requires number { number < 8 * 2 ^ (2 * problem.now.k) }
     requires gathered { IsGathered problem.now (held_of kept.now) stage slots.now.items }
     requires written { IsWritten problem.now (held_of kept.now) stage number states.old.items }
-    ensures { OnOk result (IsWritten problem.now (held_of kept.now) stage (number + 1) states.new.items) }
+    ensures { OnOk result (IsWritten problem.now (held_of kept.now) stage (number + 1)
+        states.new.items) }
 {
     let k = most_shift(problem);
     let _held = kept.stages();
@@ -57,7 +58,8 @@ fn add_states(
     requires laws { StageLaws problem.now }
     requires stage { (1 ≤ stage) × (stage ≤ length problem.now.flights) }
     requires written { IsWritten problem.now (held_of kept.now) stage 0 states.old.items }
-    ensures { OnOk result (IsWritten problem.now (held_of kept.now) (stage + 1) 0 states.new.items) }
+    ensures { OnOk result (IsWritten problem.now (held_of kept.now) (stage + 1) 0
+        states.new.items) }
 {
     let k = most_shift(problem);
     let _held = kept.stages();

@@ -35,7 +35,8 @@ pub fn certify(
     ensures accepted { IfOk result (λ c. verdict_of problem.now c ≡ claimed c.claim) }
 
     // The claim and the landings are those of the answer.
-    ensures shows { IfOk result (λ c. ShowsAnswer problem.now (option_map (λ s. s.now) schedule.entry) c.claim c.landings) }
+    ensures shows { IfOk result (λ c. ShowsAnswer problem.now
+        (option_map (λ s. s.now) schedule.entry) c.claim c.landings) }
 {
     let _well_formed = problem.head();
     whole_certificates_are_accepted();

@@ -30,16 +30,29 @@ impl Model for Certificate {
 
     ghost Value = { Cert };
 
-    ghost view = { λ c. record { claim = c.claim; landings = c.landings.items; states = c.states.items } };
+    ghost view = { λ c. record {
+      claim = c.claim;
+      landings = c.landings.items;
+      states = c.states.items;
+    } };
 
-    ghost invariant = { λ c. IsCertificate (record { claim = c.claim; landings = c.landings.items; states = c.states.items }) };
+    ghost invariant = { λ c. IsCertificate
+        (record { claim = c.claim; landings = c.landings.items; states = c.states.items }) };
 }
 
 impl Certificate {
     /// The certificate of these parts, which are in the ranges and in the order of the type.
     pub fn new(claim: Claim, landings: Vec<(Callsign, u32)>, states: Vec<CertState>) -> Certificate
-        requires { IsCertificate (record { claim = claim; landings = landings.items; states = states.items }) }
-        ensures { result ≡ record { claim = claim; landings = landings.items; states = states.items } }
+        requires { IsCertificate (record {
+          claim = claim;
+          landings = landings.items;
+          states = states.items;
+        }) }
+        ensures { result ≡ record {
+          claim = claim;
+          landings = landings.items;
+          states = states.items;
+        } }
     {
         Certificate {
             claim,

@@ -84,7 +84,8 @@ fn pair_of(text: &[u8]) -> Option<(u32, u32)>
 // The pairs that the parts of a text are.
 #[tactic(auto, unfolding(crate::specs::Lines::pairs_in))]
 fn pairs_of(alloc: Global, text: Option<&[u8]>) -> Result<Option<Vec<(u32, u32)>>, AllocError>
-    ensures value { IfOk result (λ o. option_map (λ v. v.items) o ≡ pairs_in (parts_left 32 (option_map (λ t. t.now) text.entry))) }
+    ensures value { IfOk result (λ o. option_map (λ v. v.items) o ≡ pairs_in
+        (parts_left 32 (option_map (λ t. t.now) text.entry))) }
     ensures range { IfOk result (λ o. IfSome o (λ v. list_all is_pair v.items ≡ true)) }
 {
     let mut pairs = Vec::new(alloc);
@@ -190,7 +191,8 @@ fn state_from(
     last: &[u8],
     pairs: Option<&[u8]>,
 ) -> Result<Option<CertState>, AllocError>
-    ensures { IfOk result (λ o. o ≡ state_from stage.now pattern.now last.now (parts_left 32 (option_map (λ t. t.now) pairs.entry))) }
+    ensures { IfOk result (λ o. o ≡ state_from stage.now pattern.now last.now
+        (parts_left 32 (option_map (λ t. t.now) pairs.entry))) }
 {
     let Some(stage) = number_in(stage, 1, 60) else {
         return Ok(None);

@@ -26,7 +26,9 @@ impl Model for Pattern {
 
     ghost view = { λ p. take p.len p.digits };
 
-    ghost invariant = { λ p. (p.digits ≡ padded (take p.len p.digits)) × (length (take p.len p.digits) ≡ p.len) × (is_pattern_length (length (take p.len p.digits)) ≡ true) };
+    ghost invariant = { λ p. (p.digits ≡ padded (take p.len p.digits))
+        × (length (take p.len p.digits) ≡ p.len)
+        × (is_pattern_length (length (take p.len p.digits)) ≡ true) };
 
     ghost inverse = { λ digits. record { digits = padded digits; len = length digits } };
 

@@ -111,7 +111,8 @@ fn append_claim(claim: Claim, into: &mut Vec<u8>) -> Result<(), AllocError>
 
 // The lines before those of the states.
 fn append_head(certificate: &Certificate, into: &mut Vec<u8>) -> Result<(), AllocError>
-    ensures { OnOk result (into.new.items ≡ into.old.items ++ (codes "certificate 1" ++ 10 ∷ (claim_text certificate.now.claim ++ 10 ∷ landing_lines certificate.now.landings))) }
+    ensures { OnOk result (into.new.items ≡ into.old.items ++ (codes "certificate 1" ++ 10
+        ∷ (claim_text certificate.now.claim ++ 10 ∷ landing_lines certificate.now.landings))) }
 {
     into.extend_from_slice(b"certificate 1\n")?;
     append_claim(certificate.claim(), into)?;

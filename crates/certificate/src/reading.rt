@@ -30,7 +30,8 @@ fn take_line(
     landings: &mut Vec<(Callsign, u32)>,
     states: &mut Vec<CertState>,
 ) -> Result<(), CertFault>
-    ensures { Takes result (landings.new.items, states.new.items) (line_in number (landings.old.items, states.old.items) line.now) }
+    ensures { Takes result (landings.new.items, states.new.items)
+        (line_in number (landings.old.items, states.old.items) line.now) }
 {
     if let Some(state) = state_of(alloc, line)? {
         if !follows(states.as_slice(), &state) {

@@ -24,16 +24,32 @@ impl Model for CertState {
 
     ghost Value = { State };
 
-    ghost view = { λ s. record { stage = s.stage; pattern = s.pattern; last = s.last; pairs = s.pairs.items } };
+    ghost view = { λ s. record {
+      stage = s.stage;
+      pattern = s.pattern;
+      last = s.last;
+      pairs = s.pairs.items;
+    } };
 
-    ghost invariant = { λ s. IsState (record { stage = s.stage; pattern = s.pattern; last = s.last; pairs = s.pairs.items }) };
+    ghost invariant = { λ s. IsState (record
+        { stage = s.stage; pattern = s.pattern; last = s.last; pairs = s.pairs.items }) };
 }
 
 impl CertState {
     /// The state of these parts, which are in the ranges and in the order of the type.
     pub fn new(stage: u8, pattern: Pattern, last: u8, pairs: Vec<(u32, u32)>) -> CertState
-        requires { IsState (record { stage = stage; pattern = pattern; last = last; pairs = pairs.items }) }
-        ensures { result ≡ record { stage = stage; pattern = pattern; last = last; pairs = pairs.items } }
+        requires { IsState (record {
+          stage = stage;
+          pattern = pattern;
+          last = last;
+          pairs = pairs.items;
+        }) }
+        ensures { result ≡ record {
+          stage = stage;
+          pattern = pattern;
+          last = last;
+          pairs = pairs.items;
+        } }
     {
         CertState {
             stage,

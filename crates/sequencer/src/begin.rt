@@ -73,7 +73,8 @@ pub(crate) fn open(
     requires { CanOpen aerodrome.now flights.now }
     ensures value { IfOk result (λ situation. situation ≡ opened aerodrome.now flights.now) }
     ensures sound { IfOk result IsSound }
-    ensures plannable { IfOk result (λ situation. IsWithinShift situation.aerodrome.objective situation.aerodrome.k) }
+    ensures plannable { IfOk result (λ situation. IsWithinShift situation.aerodrome.objective
+        situation.aerodrome.k) }
     ensures openable { IfOk result (λ _. opening_fault aerodrome.now flights.now ≡ None) }
     ensures refused { IfErr result (IsRefusedBy (opening_fault aerodrome.now flights.now)) }
 {

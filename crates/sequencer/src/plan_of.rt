@@ -24,7 +24,8 @@ fn joined_plan(
     requires sound { IsSound situation.now }
     requires problem { IsProblemOf situation.now problem.now }
     requires feasible { IsFeasibleList problem.now schedule.now }
-    ensures { IfOk result (λ plan. plan ≡ shown_plan situation.now (joined situation.now schedule.now)) }
+    ensures { IfOk result (λ plan. plan ≡ shown_plan situation.now (joined situation.now
+        schedule.now)) }
 {
     problem_stands_for_situation();
     let (_, order) = posed(alloc, situation)?;
@@ -39,7 +40,8 @@ impl<P: Planner> Sequencer<P> {
     /// with its objective.
     pub fn plan_of(&self, alloc: Global, schedule: &Schedule) -> Result<Plan, AllocError>
         requires { IsFeasibleList self.now.problem schedule.now }
-        ensures { IfOk result (λ plan. plan ≡ shown_plan self.now.state.situation (joined self.now.state.situation schedule.now)) }
+        ensures { IfOk result (λ plan. plan ≡ shown_plan self.now.state.situation (joined
+            self.now.state.situation schedule.now)) }
     {
         let problem = self.problem();
         let plan = joined_plan(alloc, &self.situation, problem, schedule)?;

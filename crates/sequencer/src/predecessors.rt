@@ -10,7 +10,9 @@ use situations::Active;
 fn add_predecessors(pairs: &mut Pairs, ranked: &Vec<&Active>, next: u8)
     requires few { length ranked.now.items ≤ 60 }
     requires next { (1 ≤ next) × (next ≤ length ranked.now.items) }
-    ensures { (i j : ℕ) → MustPrecede pairs.new i j ↔ (MustPrecede pairs.old i j ⊎ ((j ≡ next) × IsListed (map (λ a. a.now) ranked.now.items) i j)) }
+    ensures { (i j : ℕ) → MustPrecede pairs.new i j
+        ↔ (MustPrecede pairs.old i j ⊎ ((j ≡ next) × IsListed (map (λ a. a.now) ranked.now.items)
+        i j)) }
 {
     let follower = ranked[next as usize - 1];
     if follower.flight.after.len() == 0 {
@@ -27,7 +29,8 @@ fn add_predecessors(pairs: &mut Pairs, ranked: &Vec<&Active>, next: u8)
 /// The pairs of ranks of these flights: the first of a pair is a flight that the next lists.
 pub(crate) fn pairs_of(ranked: &Vec<&Active>) -> Pairs
     requires { length ranked.now.items ≤ 60 }
-    ensures { (i j : ℕ) → MustPrecede result i j ↔ IsListed (map (λ a. a.now) ranked.now.items) i j }
+    ensures { (i j : ℕ) → MustPrecede result i j
+        ↔ IsListed (map (λ a. a.now) ranked.now.items) i j }
 {
     let mut pairs = Pairs::new();
     for next in 1..ranked.len() as u8 + 1 {

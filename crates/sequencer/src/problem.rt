@@ -19,7 +19,8 @@ use std::alloc::{AllocError, Global};
 fn base(situation: &Situation, flights: &Vec<&Active>) -> u64
     requires flights { map (λ a. a.now) flights.now.items ≡ situation.now.active }
     requires sound { IsSound situation.now }
-    ensures { result ≡ frozen_cost situation.now.aerodrome.objective (frozen_landings situation.now) }
+    ensures { result ≡ frozen_cost situation.now.aerodrome.objective
+        (frozen_landings situation.now) }
 {
     match situation.fixed().objective {
         Objective::Makespan => 0,
@@ -31,10 +32,16 @@ fn base(situation: &Situation, flights: &Vec<&Active>) -> u64
 fn head(situation: &Situation, flights: &Vec<&Active>) -> Head
     requires flights { map (λ a. a.now) flights.now.items ≡ situation.now.active }
     requires sound { IsSound situation.now }
-    ensures fixed { situation.now.aerodrome ≡ record situation.now.aerodrome { table = result.table; k = result.k; objective = result.objective } }
+    ensures fixed { situation.now.aerodrome
+        ≡ record situation.now.aerodrome {
+          table = result.table;
+          k = result.k;
+          objective = result.objective;
+        } }
     ensures horizon { result.horizon ≡ horizon situation.now }
     ensures last { result.last ≡ last_of (in_landing_order (frozen_landings situation.now)) }
-    ensures base { result.base ≡ frozen_cost situation.now.aerodrome.objective (frozen_landings situation.now) }
+    ensures base { result.base ≡ frozen_cost situation.now.aerodrome.objective
+        (frozen_landings situation.now) }
     ensures few_places { result.k ≤ 3 }
     ensures near { result.horizon ≤ 179999 }
 {

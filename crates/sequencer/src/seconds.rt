@@ -44,7 +44,8 @@ fn seconds_of(
 ) -> Result<Vec<u32>, AllocError>
     requires there { All (IsThere order.now) (map (λ a. a.now) flights.now.items) }
     requires long { length order.now ≡ length schedule.now }
-    ensures { IfOk result (λ seconds. seconds.items ≡ map (second_in order.now schedule.now) (map (λ a. a.now) flights.now.items)) }
+    ensures { IfOk result (λ seconds. seconds.items
+        ≡ map (second_in order.now schedule.now) (map (λ a. a.now) flights.now.items)) }
 {
     let mut seconds = Vec::with_capacity(alloc, flights.len())?;
     for i in 0..flights.len() {

@@ -58,9 +58,16 @@ impl<P: Planner> Model for Sequencer<P> {
 
     ghost Value = { Standing P };
 
-    ghost view = { λ s. record { state = record { situation = s.situation; plan = option_map (λ p. p.seconds.items) s.shown }; problem = s.problem; planner = s.planner } };
+    ghost view = { λ s. record {
+      state = record
+          { situation = s.situation; plan = option_map (λ p. p.seconds.items) s.shown };
+      problem = s.problem;
+      planner = s.planner;
+    } };
 
-    ghost invariant = { λ s. IsInStep (record { situation = s.situation; plan = option_map (λ p. p.seconds.items) s.shown }) (option_map (λ p. p.plan) s.shown) s.problem (P.k s.planner) };
+    ghost invariant = { λ s. IsInStep (record
+        { situation = s.situation; plan = option_map (λ p. p.seconds.items) s.shown })
+        (option_map (λ p. p.plan) s.shown) s.problem (P.k s.planner) };
 }
 
 // The seconds of what is shown.
@@ -86,7 +93,8 @@ fn shown_schedule(
     requires problem { IsProblemOf situation.now problem.now }
     requires answer { IsAnswerOf problem.now (Some schedule.now) }
     ensures shown { IfOk result (λ shown. IsPlanShown situation.now (Some shown.seconds.items)) }
-    ensures plan { IfOk result (λ shown. shown.plan ≡ shown_plan situation.now shown.seconds.items) }
+    ensures plan { IfOk result (λ shown. shown.plan ≡ shown_plan situation.now
+        shown.seconds.items) }
 {
     problem_stands_for_situation();
     let seconds = joined_seconds(alloc, situation, order, schedule)?;
@@ -107,8 +115,10 @@ fn shown_answer(
     requires order { order.now ≡ arrivals (waiting situation.now) }
     requires problem { IsProblemOf situation.now problem.now }
     requires answer { IsAnswerOf problem.now answer.now }
-    ensures shown { IfOk result (λ shown. IsPlanShown situation.now (option_map (λ p. p.seconds.items) shown)) }
-    ensures plan { IfOk result (λ shown. option_map (λ p. p.plan) shown ≡ plan_shown (record { situation = situation.now; plan = option_map (λ p. p.seconds.items) shown })) }
+    ensures shown { IfOk result (λ shown. IsPlanShown situation.now
+        (option_map (λ p. p.seconds.items) shown)) }
+    ensures plan { IfOk result (λ shown. option_map (λ p. p.plan) shown ≡ plan_shown
+        (record { situation = situation.now; plan = option_map (λ p. p.seconds.items) shown })) }
 {
     problem_stands_for_situation();
     match answer {
@@ -174,9 +184,11 @@ impl<P: Planner> Sequencer<P> {
     ) -> Result<(), AllocError>
         requires good { IsGoodEvent (event_of event.now) }
         requires accepted { refusal self.old.state.situation (event_of event.now) ≡ None }
-        ensures step { OnOk result (IsAcceptedStep self.old.state (event_of event.now) self.new.state) }
+        ensures step { OnOk result (IsAcceptedStep self.old.state (event_of event.now)
+            self.new.state) }
         ensures holds { OnOk result (P.holds self.new.planner self.new.problem) }
-        ensures steps { OnOk result ((n : ℕ) × P.due self.old.planner self.new.problem n × (L.count steps.new ≡ raised_by n (L.count steps.old))) }
+        ensures steps { OnOk result ((n : ℕ) × P.due self.old.planner self.new.problem n
+            × (L.count steps.new ≡ raised_by n (L.count steps.old))) }
         ensures unchanged { OnErr result (self.new.state ≡ self.old.state) }
         ensures same_problem { OnErr result (self.new.problem ≡ self.old.problem) }
     {
@@ -206,11 +218,15 @@ impl<P: Planner> Sequencer<P> {
         steps: &mut Steps<L>,
     ) -> Result<(), Refusal>
         requires { IsGoodEvent (event_of event.now) }
-        ensures accepted { OnOk result (Step self.old.state (event_of event.now) None self.new.state) }
+        ensures accepted { OnOk result (Step self.old.state (event_of event.now) None
+            self.new.state) }
         ensures holds { OnOk result (P.holds self.new.planner self.new.problem) }
-        ensures steps { OnOk result ((n : ℕ) × P.due self.old.planner self.new.problem n × (L.count steps.new ≡ raised_by n (L.count steps.old))) }
-        ensures refused { IfErr result (λ fault. MatchOption (refusal_of fault) ⊤ (λ answer. Step self.old.state (event_of event.now) (Some answer) self.new.state)) }
-        ensures kept { IfErr result (λ fault. MatchOption (refusal_of fault) ⊤ (λ answer. (self.new ≡ self.old) × (steps.new ≡ steps.old))) }
+        ensures steps { OnOk result ((n : ℕ) × P.due self.old.planner self.new.problem n
+            × (L.count steps.new ≡ raised_by n (L.count steps.old))) }
+        ensures refused { IfErr result (λ fault. MatchOption (refusal_of fault) ⊤
+            (λ answer. Step self.old.state (event_of event.now) (Some answer) self.new.state)) }
+        ensures kept { IfErr result (λ fault. MatchOption (refusal_of fault) ⊤
+            (λ answer. (self.new ≡ self.old) × (steps.new ≡ steps.old))) }
         ensures unchanged { OnErr result (self.new.state ≡ self.old.state) }
         ensures same_problem { OnErr result (self.new.problem ≡ self.old.problem) }
     {
@@ -236,7 +252,8 @@ impl<P: Planner> Sequencer<P> {
         ensures opening { IfOk result (λ s. s.state.situation ≡ situation) }
         ensures shown { IfOk result (λ s. IsPlanShown s.state.situation s.state.plan) }
         ensures holds { IfOk result (λ s. P.holds s.planner s.problem) }
-        ensures steps { IfOk result (λ s. (n : ℕ) × P.due planner s.problem n × (L.count steps.new ≡ raised_by n (L.count steps.old))) }
+        ensures steps { IfOk result (λ s. (n : ℕ) × P.due planner s.problem n
+            × (L.count steps.new ≡ raised_by n (L.count steps.old))) }
     {
         let (problem, order) = posed(alloc, &situation)?;
         let answer = planner.replan(rt, alloc, &problem, gate, steps)?;
@@ -266,12 +283,15 @@ impl<P: Planner> Sequencer<P> {
     ) -> Result<Sequencer<P>, BeginFault>
         requires can { CanOpen aerodrome flights.items }
         requires same_k { aerodrome.k ≡ P.k planner }
-        ensures opening { IfOk result (λ s. IsOpeningState (opening_of aerodrome) (map flight_of flights.items) s.state) }
+        ensures opening { IfOk result (λ s. IsOpeningState (opening_of aerodrome)
+            (map flight_of flights.items) s.state) }
         ensures holds { IfOk result (λ s. P.holds s.planner s.problem) }
-        ensures steps { IfOk result (λ s. (n : ℕ) × P.due planner s.problem n × (L.count steps.new ≡ raised_by n (L.count steps.old))) }
+        ensures steps { IfOk result (λ s. (n : ℕ) × P.due planner s.problem n
+            × (L.count steps.new ≡ raised_by n (L.count steps.old))) }
         ensures openable { IfOk result (λ _. opening_fault aerodrome flights.items ≡ None) }
         ensures refused { IfErr result (IsRefusedBy (opening_fault aerodrome flights.items)) }
-        ensures kept { IfErr result (λ fault. MatchOption (opening_fault_of fault) ⊤ (λ _. steps.new ≡ steps.old)) }
+        ensures kept { IfErr result (λ fault. MatchOption (opening_fault_of fault) ⊤
+            (λ _. steps.new ≡ steps.old)) }
     {
         let situation = open(alloc, &aerodrome, flights.as_slice())?;
         let sequencer = Sequencer::start(rt, alloc, situation, planner, gate, steps)?;

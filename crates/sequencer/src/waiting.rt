@@ -31,7 +31,8 @@ pub(crate) fn all_waiting(
     ranked: &Vec<&Active>,
     closures: &Closures,
 ) -> Result<Vec<Waiting>, AllocError>
-    ensures { IfOk result (λ all. AllZip (IsWaitingOf closures.now) (map (λ a. a.now) ranked.now.items) (map waiting_of all.items)) }
+    ensures { IfOk result (λ all. AllZip (IsWaitingOf closures.now)
+        (map (λ a. a.now) ranked.now.items) (map waiting_of all.items)) }
 {
     let mut all = Vec::with_capacity(alloc, ranked.len())?;
     for i in 0..ranked.len() {

@@ -24,7 +24,11 @@ impl Model for Active {
 
     ghost Value = { rules.Active };
 
-    ghost view = { λ a. record { flight = flight_of a.flight; frozen = a.frozen; passed = a.passed } };
+    ghost view = { λ a. record {
+      flight = flight_of a.flight;
+      frozen = a.frozen;
+      passed = a.passed;
+    } };
 }
 
 impl Clone for Active {

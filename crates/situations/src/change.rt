@@ -18,7 +18,10 @@ use std::alloc::{AllocError, Global};
 
 // The flight with another estimate and other windows.
 fn estimated(active: &Active, eta: u32, windows: &WindowSet) -> Active
-    ensures { result ≡ record active.now { flight = record active.now.flight { eta = eta; windows = windows.now } } }
+    ensures { result ≡ record active.now {
+      flight = record active.now.flight
+          { eta = eta; windows = windows.now };
+    } }
 {
     let mut flight = active.flight.copy();
     flight.eta = eta;
@@ -33,7 +36,10 @@ fn estimated(active: &Active, eta: u32, windows: &WindowSet) -> Active
 impl Situation {
     // The flight is no longer active.
     pub(crate) fn cancel(&mut self, callsign: Callsign)
-        ensures { self.new ≡ record self.old { active = filter (λ a. not (named callsign a)) self.old.active } }
+        ensures { self.new ≡ record self.old {
+          active = filter (λ a. not (named callsign a))
+              self.old.active;
+        } }
     {
         self.active.retain(
             |c: &Callsign, a: &mut Active| -> bool
@@ -49,7 +55,10 @@ impl Situation {
         eta: u32,
         windows: &WindowSet,
     ) -> Result<(), AllocError>
-        ensures { OnOk result (self.new ≡ record self.old { active = map (estimated callsign eta windows.now) self.old.active }) }
+        ensures { OnOk result (self.new ≡ record self.old {
+          active = map
+              (estimated callsign eta windows.now) self.old.active;
+        }) }
     {
         let changed = match self.active.get(&callsign) {
             None => return Ok(()),
@@ -67,7 +76,10 @@ impl Situation {
         passed: u8,
     ) -> Result<(), AllocError>
         requires { list_any (named flight.now.callsign) self.old.active ≡ false }
-        ensures { OnOk result (self.new ≡ record self.old { active = self.old.active ++ entering (flight_of flight.now) frozen passed ∷ [] }) }
+        ensures { OnOk result (self.new ≡ record self.old {
+          active = self.old.active ++ entering
+              (flight_of flight.now) frozen passed ∷ [];
+        }) }
     {
         let active = Active {
             flight: flight.copy(),
@@ -81,7 +93,10 @@ impl Situation {
     // The flight is the last to arrive, and waits. None has passed it.
     fn add(&mut self, flight: &Flight) -> Result<(), AllocError>
         requires { list_any (named flight.now.callsign) self.old.active ≡ false }
-        ensures { OnOk result (self.new ≡ record self.old { active = self.old.active ++ newcomer (flight_of flight.now) ∷ [] }) }
+        ensures { OnOk result (self.new ≡ record self.old {
+          active = self.old.active ++ newcomer
+              (flight_of flight.now) ∷ [];
+        }) }
     {
         self.enter(flight, None, 0)
     }
@@ -97,7 +112,10 @@ impl Situation {
 
     // The first equal closure stands no more.
     pub(crate) fn reopen(&mut self, from: u32, to: u32)
-        ensures { self.new ≡ record self.old { closures = without_first (same_span (from, to)) self.old.closures } }
+        ensures { self.new ≡ record self.old {
+          closures = without_first (same_span (from, to))
+              self.old.closures;
+        } }
     {
         self.closures.remove(from, to);
     }
@@ -127,7 +145,8 @@ impl Situation {
         requires whole { IfSome plan (λ p. length p.now ≡ length self.old.active) }
         requires good { IsGoodEvent (event_of event.now) }
         requires accepted { refusal self.old (event_of event.now) ≡ None }
-        ensures { OnOk result (self.new ≡ situation_after self.old (option_map (λ p. p.now) plan.entry) (event_of event.now)) }
+        ensures { OnOk result (self.new ≡ situation_after self.old (option_map (λ p. p.now)
+            plan.entry) (event_of event.now)) }
     {
         match event {
             Event::Estimate(callsign, eta, windows) => self.estimate(*callsign, *eta, windows),
@@ -159,7 +178,8 @@ impl Situation {
         requires whole { IfSome plan (λ p. length p.now ≡ length self.now.active) }
         requires good { IsGoodEvent (event_of event.now) }
         requires accepted { refusal self.now (event_of event.now) ≡ None }
-        ensures { IfOk result (λ next. next ≡ situation_after self.now (option_map (λ p. p.now) plan.entry) (event_of event.now)) }
+        ensures { IfOk result (λ next. next ≡ situation_after self.now (option_map (λ p. p.now)
+            plan.entry) (event_of event.now)) }
     {
         let mut next = self.copy()?;
         next.change(alloc, plan, event)?;

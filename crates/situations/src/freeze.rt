@@ -61,7 +61,8 @@ fn note_freezing(
     at: u32,
     h: u32,
 ) -> Result<(), AllocError>
-    ensures { OnOk result (found.new.items ≡ found.old.items ++ arrival_if h (landing active.now at)) }
+    ensures { OnOk result (found.new.items
+        ≡ found.old.items ++ arrival_if h (landing active.now at)) }
 {
     if active.frozen.is_none() && at < h {
         found.push((active.flight.eta, active.flight.callsign))?;
@@ -77,7 +78,8 @@ fn freezing(
     h: u32,
 ) -> Result<Vec<(u32, Callsign)>, AllocError>
     requires { index_map_len active.now ≡ length seconds.now }
-    ensures { IfOk result (λ found. found.items ≡ freezing h (flights_of active.now.entries) seconds.now) }
+    ensures { IfOk result (λ found. found.items
+        ≡ freezing h (flights_of active.now.entries) seconds.now) }
 {
     let mut found = Vec::new(alloc);
     for i in 0..seconds.len() {
@@ -95,7 +97,8 @@ fn counted(
     h: u32,
 ) -> Result<Vec<(u32, Callsign)>, AllocError>
     requires { index_map_len active.now ≡ length seconds.now }
-    ensures { IfOk result (λ found. carry ≡ true → found.items ≡ freezing h (flights_of active.now.entries) seconds.now) }
+    ensures { IfOk result (λ found. carry ≡ true
+        → found.items ≡ freezing h (flights_of active.now.entries) seconds.now) }
 {
     if !carry {
         return Ok(Vec::new(alloc));
@@ -113,7 +116,8 @@ fn freeze_of(
     h: u32,
 ) -> Result<Freeze, AllocError>
     requires { index_map_len active.now ≡ length seconds.now }
-    ensures { IfOk result (IsFreezeOf (fixed_of fixed.now) h (flights_of active.now.entries) seconds.now) }
+    ensures { IfOk result (IsFreezeOf (fixed_of fixed.now) h (flights_of active.now.entries)
+        seconds.now) }
 {
     let freezing = counted(alloc, fixed.carry, active, seconds, h)?;
     Ok(Freeze {
@@ -142,7 +146,9 @@ fn freeze_one(active: &mut Active, at: u32, freeze: &Freeze)
 // The flight at a place after the clock event.
 fn freeze_at(active: &mut IndexMap<Callsign, Active>, i: usize, at: u32, freeze: &Freeze)
     requires { i < index_map_len active.old }
-    ensures entries { (d : List ℕ × rules.Active) → active.new.entries ≡ set_value_at active.old.entries i (frozen_one freeze.now (slice_index_or active.old.entries i d).1 at) }
+    ensures entries { (d : List ℕ × rules.Active)
+        → active.new.entries ≡ set_value_at active.old.entries i
+        (frozen_one freeze.now (slice_index_or active.old.entries i d).1 at) }
     ensures len { index_map_len active.new ≡ index_map_len active.old }
     ensures unique { IsUnique bytes_eq active.old → IsUnique bytes_eq active.new }
 {
@@ -153,7 +159,8 @@ fn freeze_at(active: &mut IndexMap<Callsign, Active>, i: usize, at: u32, freeze:
 // Each flight after the clock event.
 fn freeze_each(active: &mut IndexMap<Callsign, Active>, seconds: &[u32], freeze: &Freeze)
     requires { index_map_len active.old ≡ length seconds.now }
-    ensures entries { active.new.entries ≡ map (λ p. frozen_entry freeze.now p.0 p.1) (zip active.old.entries seconds.now) }
+    ensures entries { active.new.entries ≡ map (λ p. frozen_entry freeze.now p.0 p.1) (zip
+        active.old.entries seconds.now) }
     ensures unique { IsUnique bytes_eq active.old → IsUnique bytes_eq active.new }
 {
     for i in 0..seconds.len() {
@@ -165,7 +172,10 @@ impl Situation {
     // Each flight after a clock event with these seconds shown.
     fn freeze_by(&mut self, alloc: Global, seconds: &[u32], h: u32) -> Result<(), AllocError>
         requires { length seconds.now ≡ length self.old.active }
-        ensures { OnOk result (self.new ≡ record self.old { active = frozen_before self.old.aerodrome h self.old.active (Some seconds.now) }) }
+        ensures { OnOk result (self.new ≡ record self.old {
+          active = frozen_before
+              self.old.aerodrome h self.old.active (Some seconds.now);
+        }) }
     {
         let freeze = freeze_of(alloc, &self.fixed, &self.active, seconds, h)?;
         freeze_each(&mut self.active, seconds, &freeze);
@@ -198,7 +208,11 @@ impl Situation {
     ) -> Result<(), AllocError>
         requires whole { IfSome plan (λ p. length p.now ≡ length self.old.active) }
         requires second { now ≤ last_second }
-        ensures { OnOk result (self.new ≡ record self.old { clock = Some now; active = frozen_before self.old.aerodrome (now + self.old.aerodrome.freeze) self.old.active (option_map (λ p. p.now) plan.entry) }) }
+        ensures { OnOk result (self.new ≡ record self.old {
+          clock = Some now;
+          active = frozen_before self.old.aerodrome (now + self.old.aerodrome.freeze)
+              self.old.active (option_map (λ p. p.now) plan.entry);
+        }) }
     {
         if let Some(seconds) = plan {
             let h = self.horizon_at(now);

@@ -46,7 +46,8 @@ pub(crate) fn frozen_second(frozen: &FrozenList, callsign: Callsign) -> Option<u
 
 // How many flights passed that of the callsign.
 pub(crate) fn passed_count(passed: &PassedList, callsign: Callsign) -> u8
-    ensures { result ≡ unwrap_or (look_up callsign (map (λ p. (p.callsign, p.count)) passed.now)) 0 }
+    ensures { result ≡ unwrap_or (look_up callsign (map (λ p. (p.callsign, p.count)) passed.now))
+        0 }
 {
     for i in 0..passed.len() {
         let entry = passed.at(i);

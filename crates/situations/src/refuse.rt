@@ -53,7 +53,10 @@ fn add_answer(
     waiting: usize,
     listing: Option<Callsign>,
 ) -> Option<Refusal>
-    ensures { IsAnswer result (if is_there then Some (events.Duplicate callsign) else (if nat_le 500 flights then Some events.TooManyFlights else (if nat_le 60 waiting then Some events.TooManyWaiting else option_map events.PredecessorOfFrozen listing))) }
+    ensures { IsAnswer result (if is_there then Some (events.Duplicate callsign) else
+        (if nat_le 500 flights then Some events.TooManyFlights else
+        (if nat_le 60 waiting then Some events.TooManyWaiting else option_map
+        events.PredecessorOfFrozen listing))) }
 {
     if is_there {
         Some(Refusal::Duplicate(callsign))
@@ -68,7 +71,9 @@ fn add_answer(
 
 // Why a closure is refused, by what is there.
 fn closure_refusal(found: Option<(Callsign, u32)>, closures: usize) -> Option<Refusal>
-    ensures { IsAnswer result (if is_some found then option_map (λ g. events.CoversFrozen g.0 g.1) found else (if nat_le 32 closures then Some events.TooManyClosures else None)) }
+    ensures { IsAnswer result (if is_some found then option_map
+        (λ g. events.CoversFrozen g.0 g.1) found else
+        (if nat_le 32 closures then Some events.TooManyClosures else None)) }
 {
     match found {
         Some((callsign, second)) => Some(Refusal::CoversFrozen(callsign, second)),
@@ -120,7 +125,8 @@ fn earlier(
 impl Situation {
     // Why an event on the named flight is refused.
     fn named_refusal(&self, callsign: Callsign) -> Option<Refusal>
-        ensures { IsAnswer result (unknown_or_frozen callsign (find (named callsign) self.now.active)) }
+        ensures { IsAnswer result (unknown_or_frozen callsign
+            (find (named callsign) self.now.active)) }
     {
         match self.active.get(&callsign) {
             None => Some(Refusal::UnknownFlight(callsign)),
@@ -213,7 +219,8 @@ impl Situation {
 
     // Why the closure may not be lifted.
     fn reopen_refusal(&self, from: u32, to: u32) -> Option<Refusal>
-        ensures { IsAnswer result (if list_any (same_span (from, to)) self.now.closures then None else Some events.UnknownClosure) }
+        ensures { IsAnswer result (if list_any (same_span (from, to)) self.now.closures then None
+            else Some events.UnknownClosure) }
     {
         if self.stands(from, to) {
             None

@@ -141,7 +141,8 @@ impl Situation {
     /// The i-th flight in order of arrival, counted from 0.
     pub fn flight(&self, i: usize) -> &Flight
         requires { i < length self.now.active }
-        ensures { option_map (λ a. a.flight) (slice_get self.now.active i) ≡ Some (flight_of result.now) }
+        ensures { option_map (λ a. a.flight) (slice_get self.now.active i)
+            ≡ Some (flight_of result.now) }
     {
         &self.active[i].flight
     }

@@ -27,7 +27,8 @@ use std::thread::Threads;
 // The least objective of a situation.
 fn least_of(alloc: Global, situation: &Situation) -> Result<Outcome, AllocError>
     requires sound { IsSound situation.now }
-    requires plannable { IsWithinShift situation.now.aerodrome.objective situation.now.aerodrome.k }
+    requires plannable { IsWithinShift situation.now.aerodrome.objective
+        situation.now.aerodrome.k }
     ensures { IfOk result (HasLeast situation.now) }
 {
     problem_stands_for_situation();
