@@ -1,5 +1,5 @@
 -- From the one verdict of a situation to the one text of `check`, and to its answer on what `certify` prints.
-use Rattle.std.proofs.Common.{◌≡◌, refl, ℕ, List, Some, ap, subst, sym, ◌∙◌}
+use Rattle.std.proofs.Common.{◌≡◌, refl, ℕ, List, [], ◌∷◌, inl, inr, ap, subst, sym, ◌∙◌}
 use Rattle.std.specs.Result.{result_ok}
 use Rattle.std.proofs.lemmas.Option.{same_Some}
 use Rattle.aerodrome_file.specs.declared.aerodrome.Aerodrome.{Aerodrome}
@@ -11,10 +11,14 @@ use Rattle.cert_check.specs.Situations.{OneVerdictLaw}
 use Rattle.cert_check.specs.WholeLaws.{claimed}
 use Rattle.cert_check.specs.declared.verdict.Verdict.{Verdict}
 use Rattle.sequencer.specs.Opened.{opened}
+use Rattle.cps_outside.specs.SinkState.{Grows}
+use Rattle.cps_top.specs.declared.commands.Command.TheVariants.{Check}
 use Rattle.endings.specs.declared.ending.Answer.{Answer}
 use Rattle.endings.specs.declared.ending.Answer.TheVariants.{Accepted}
+use Rattle.cps_top.specs.AcceptedRuns.{PrintedRunsAcceptedLaw}
 use Rattle.cps_top.specs.Certify.{AdmitsCertify, PrintedIsAcceptedLaw}
 use Rattle.cps_top.specs.Check.{AdmitsCheck, CheckTextIsOneLaw, IsJudged, Judges}
+use Rattle.endings.specs.Lines.{answer_status}
 use Rattle.cps_top.specs.Verdicts.{answer_of_verdict, verdict_text}
 use Rattle.cps_top.proofs.Judged.{not_unchecked}
 
@@ -76,3 +80,15 @@ printed_accepted law a f text answer printed =
         λ same. subst (λ (x : List ℕ). AdmitsCheck a f text x told) (sym same.0) (subst (λ (x : Answer). AdmitsCheck a f text line x) (sym same.1) there),
       );
     }
+
+-- what a complete run of `check` does with it
+pub runs_accepted : OneVerdictLaw → PrintedRunsAcceptedLaw
+runs_accepted law words old new status a f text answer printed there done unfailed unhurt =
+    let accepted = printed_accepted law a f text answer printed in
+    elim (done.complete Check (a ∷ f ∷ text ∷ []) there accepted.taken unfailed unhurt) [
+      | inl short ↦ inl short
+      | inr ended ↦
+          let prints = ended.2 in
+          let same = (accepted.answered prints.text ended.0).0 prints.admitted in
+          inr (ended.1 ∙ ap answer_status same.1, subst (λ (line : List ℕ). Grows old.out new.out line) same.0 prints.grew)
+    ]

@@ -1,4 +1,5 @@
 -- The program: its commands, what each status says, and what it writes.
+pub mod AcceptedRuns
 pub mod Audit
 pub mod Certify
 pub mod Check

@@ -1,4 +1,5 @@
 // What holds of the texts of the commands.
+ghost use Rattle.cps_top.specs.AcceptedRuns.{PrintedRunsAcceptedLaw};
 ghost use Rattle.cps_top.specs.Certify.{PrintedIsAcceptedLaw};
 ghost use Rattle.cps_top.specs.Check.{CheckTextIsOneLaw};
 
@@ -8,6 +9,9 @@ use cert_check::situation_has_one_verdict;
 /// the certificate claims is the one text that `check` may print of it. The call does nothing: it tells its caller the law.
 pub fn printed_certificates_are_accepted()
     ensures accepted { PrintedIsAcceptedLaw }
+
+    // So a run of `check` over such files that is complete ends with status 0, or memory was short.
+    ensures runs { PrintedRunsAcceptedLaw }
 
     // What `check` prints is a function of its three files' bytes, whoever wrote them.
     ensures one { CheckTextIsOneLaw }
