@@ -134,8 +134,8 @@ def all_files():
     yield 'plan', 'digits', filled(b'makespan ', b'9', b'\n'), 3, 'cps: plan: line 1'
 
 
-# Documents that `toml` takes to their end. It holds every key and value, and has no limit but that of 80 levels. Which key
-# is named depends on all of them.
+# Documents that `toml` takes to their end. It holds every key and value, and has no limit but that of 80 levels.
+# Which key is named depends on all of them.
 HELD_WHOLE = ('a million keys', 'keys to the end', 'an array of numbers', 'tables of an array')
 
 COMMANDS = {
