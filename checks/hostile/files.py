@@ -117,12 +117,14 @@ def all_files():
     yield 'aerodrome', 'a million keys', million, 3, 'cps: aerodrome: unknown key k000000'
     yield 'aerodrome', 'keys to the end', numbered(b'', b'%d=1\n'), 3, 'cps: aerodrome: unknown key 0'
     yield 'aerodrome', 'an array of numbers', filled(b'a = [', b'1,', b']\n'), 3, 'cps: aerodrome: unknown key a'
-    yield 'aerodrome', 'tables of an array', filled(b'', b'[[a]]\n'), *not_toml
+    yield 'aerodrome', 'tables of an array', filled(b'\n' * 4, b'[[a]]\n'), 3, 'cps: aerodrome: unknown key a'
 
     yield 'certificate', 'ten million pairs', pairs(CERTIFICATE, 60, 167_000), 6, 'cps: file 3: too long'
     yield 'certificate', 'a million pairs', pairs(CERTIFICATE, 10, 100_000), 7, ''
     yield 'certificate', 'the same pair', filled(CERTIFICATE + b'state 1 - 1', b' 0:0'), 3, 'cps: certificate: line 3'
-    yield 'certificate', 'landings', filled(CERTIFICATE, b'land A1 1000\n'), 3, None
+    landing = b'land A1 1000\n'
+    cut = f'cps: certificate: line {(SIZE - len(CERTIFICATE)) // len(landing) + 3}'
+    yield 'certificate', 'landings', filled(CERTIFICATE, landing), 3, cut
     yield 'certificate', 'blank lines', filled(b'', b'\n'), 3, 'cps: certificate: line 1'
     yield 'certificate', 'one line of letters', filled(b'', b'a'), 3, 'cps: certificate: line 1'
 
@@ -131,6 +133,10 @@ def all_files():
     yield 'plan', 'one line of letters', filled(b'', b'a'), 3, 'cps: plan: line 1'
     yield 'plan', 'digits', filled(b'makespan ', b'9', b'\n'), 3, 'cps: plan: line 1'
 
+
+# Documents that `toml` takes to their end. It holds every key and value, and has no limit but that of 80 levels.
+# Which key is named depends on all of them.
+HELD_WHOLE = ('a million keys', 'keys to the end', 'an array of numbers', 'tables of an array')
 
 COMMANDS = {
     'aerodrome': ('plan', 'hostile', 'flights'),

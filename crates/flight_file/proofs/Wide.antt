@@ -1,5 +1,5 @@
 -- A record with too many fields is refused as one without fields is, and nothing behind it is read.
-use Rattle.std.proofs.Common.{◌≡◌, ℕ, ◌<◌, true, false, List, [], ◌∷◌, length, Result, Ok, Err, refl, arith, inl, inr}
+use Rattle.std.proofs.Common.{◌≡◌, true, false, List, [], ◌∷◌, length, Result, Ok, Err, refl, arith, inl, inr}
 use Rattle.std.specs.Prelude.{nat_lt}
 use Rattle.std.proofs.lemmas.Bool.{cases_Bool}
 use Rattle.std.proofs.lemmas.Grind.{common_steps}
@@ -8,7 +8,7 @@ use Rattle.flight_file.specs.Answers.{◌>>=◌}
 use Rattle.flight_file.specs.declared.fault.FlightCause.TheVariants as cause
 use Rattle.flight_file.specs.declared.fault.FlightFault.{FlightFault}
 use Rattle.flight_file.specs.declared.flight.Flight.{Flight}
-use Rattle.flight_file.specs.Reading.{is_header, flight_in, header_fault, added, flights_in, flights_by}
+use Rattle.flight_file.specs.Reading.{is_header, flight_in, added, flights_in, flights_by}
 
 wide_flight : (before : List Flight) (r : Fields) → nat_lt 6 (length r) ≡ true → flight_in before r ≡ Err cause.FieldCount
 unfolding flight_in

@@ -1,12 +1,12 @@
 // The frozen landings that an aerodrome file gives, and the rules over them.
 ghost use Rattle.std.specs.Prelude.{◌≡◌, ◌+◌, ◌<◌, ◌≤◌, ◌&&◌, Some, length, find, slice_get};
-ghost use Rattle.std.specs.List.{list_any};
-ghost use Rattle.landing_rules.specs.Rules.{is_open, is_shut, is_within};
+ghost use Rattle.landing_rules.specs.Rules.{is_open};
 ghost use Rattle.landing_rules.specs.Events.{named};
 ghost use Rattle.landing_rules.specs.Testing.{is_pair_separated};
 ghost use Rattle.landing_rules.specs.Audit.{are_apart};
 ghost use Rattle.situations.specs.Refused.{first_from, closed_at, clash_at, clash_from, is_not_before, lands_late, late_at, rule_fault};
 
+use crate::open_seconds::is_open;
 use crate::{Active, OpeningFault};
 use aerodrome_file::Aerodrome;
 use cps_base::Callsign;
@@ -29,45 +29,11 @@ impl Model for Given {
     ghost view = { λ g. rules.landing g.active g.second };
 }
 
-// Whether the closure holds the second.
-fn holds(closure: (u32, u32), second: u32) -> bool
-    ensures { result ≡ is_shut second closure }
-{
-    closure.0 <= second && second < closure.1
-}
-
-// Whether a closure holds the second.
-fn is_shut(closures: &Closures, second: u32) -> bool
-    ensures { result ≡ list_any (is_shut second) closures.now }
-{
-    for i in 0..closures.len() {
-        if holds(closures.pair(i), second) {
-            return true;
-        }
-    }
-    false
-}
-
-// Whether the window holds the second.
-fn is_within(window: (u32, u32), second: u32) -> bool
-    ensures { result ≡ is_within second window }
-{
-    window.0 <= second && second <= window.1
-}
-
-// Whether a window holds the second.
-fn has_window(windows: &[(u32, u32)], second: u32) -> bool
-    ensures { result ≡ list_any (is_within second) windows.now }
-{
-    windows.iter().any(|w| is_within(*w, second))
-}
-
 // Whether the landing's second is open for its flight.
-fn is_open(closures: &Closures, given: &Given) -> bool
+fn is_at_open_second(closures: &Closures, given: &Given) -> bool
     ensures { result ≡ is_open given.now.flight.windows closures.now given.now.second }
 {
-    has_window(given.active.flight.windows.spans(), given.second)
-        && !is_shut(closures, given.second)
+    is_open(&given.active.flight.windows, closures, given.second)
 }
 
 // The first landing whose second is not open.
@@ -76,7 +42,7 @@ fn first_closed(closures: &Closures, all: &[Given]) -> Option<OpeningFault>
     ensures { result ≡ first_from (closed_at closures.now) 1 all.now }
 {
     for i in 0..all.len() {
-        if !is_open(closures, &all[i]) {
+        if !is_at_open_second(closures, &all[i]) {
             return Some(OpeningFault::FrozenClosed((i + 1) as u16));
         }
     }

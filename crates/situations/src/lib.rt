@@ -6,12 +6,14 @@ mod change;
 mod freeze;
 mod given;
 pub mod laws;
+mod open_seconds;
 mod opening_refusal;
 mod refusal;
 mod refuse;
 mod situation;
 
 pub use active::Active;
+pub use open_seconds::is_open;
 pub use opening_refusal::{OpeningFault, opening_fault};
 pub use refusal::Refusal;
 pub use situation::{Fixed, Situation};

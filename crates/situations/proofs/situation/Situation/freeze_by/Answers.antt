@@ -1,4 +1,4 @@
-use Rattle.std.proofs.Common.{◌≡◌, sym, ap, ◌∙◌, subst}
+use Rattle.std.proofs.Common.{sym, ap, ◌∙◌, subst}
 use Rattle.situations.specs.Seen.{AreKeyed, flights_of, fixed_of}
 use Rattle.situations.proofs.Freezing.{frozen_keyed, frozen_flights}
 use Rattle.situations.proofs.situation.Situation.freeze_by.Goals as goal

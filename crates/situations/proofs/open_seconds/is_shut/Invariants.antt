@@ -1,7 +1,7 @@
 use Rattle.std.proofs.Common.{◌≡◌, false, take}
 use Rattle.std.specs.List.{list_any}
 use Rattle.landing_rules.specs.Rules.{is_shut}
-use Rattle.situations.proofs.given.is_shut.Given as goal
+use Rattle.situations.proofs.open_seconds.is_shut.Given as goal
 
 -- none of those so far holds it
 abbrev pub invariant-loop-i : goal.invariant-loop-i

@@ -5,7 +5,7 @@ use Rattle.std.proofs.lemmas.List.Folds.{list_any_at}
 use Rattle.std.proofs.lemmas.Option.{slice_get_within, get_or_from_slice_get}
 use Rattle.landing_rules.specs.Rules.{is_shut}
 use Rattle.situations.proofs.Firsts.{none_more}
-use Rattle.situations.proofs.given.is_shut.Goals as goal
+use Rattle.situations.proofs.open_seconds.is_shut.Goals as goal
 
 pub returns-then-holds : goal.returns-then-holds
 returns-then-holds c =
