@@ -1,7 +1,6 @@
 // The rules over the lines of a block, each with its flight.
 ghost use Rattle.std.specs.Prelude.{◌≡◌, ◌<◌, IfOk, Some, flat_map, length, map, slice_get};
-ghost use Rattle.std.specs.List.{list_any};
-ghost use Rattle.landing_rules.specs.Rules.{is_open, is_shut, is_within};
+ghost use Rattle.landing_rules.specs.Rules.{is_open};
 ghost use Rattle.landing_rules.specs.Testing.{is_pair_separated};
 ghost use Rattle.landing_rules.specs.Audit.{landing_of, closed, are_apart, unseparated, for_failing, Separation, is_before, late, listed_late, is_kept, moved, is_late_enough, early};
 ghost use Rattle.landing_rules.specs.Flights.{horizon, Landing};
@@ -11,49 +10,15 @@ use crate::Finding;
 use crate::found::Found;
 use cps_base::Callsign;
 use landing_windows::Closures;
-use situations::Situation;
+use situations::{Situation, is_open};
 use std::alloc::{AllocError, Global};
 use wake_table::PairTable;
 
-// Whether the closure holds the second.
-fn holds(closure: (u32, u32), second: u32) -> bool
-    ensures { result ≡ is_shut second closure }
-{
-    closure.0 <= second && second < closure.1
-}
-
-// Whether a closure holds the second.
-fn is_shut(closures: &Closures, second: u32) -> bool
-    ensures { result ≡ list_any (is_shut second) closures.now }
-{
-    for i in 0..closures.len() {
-        if holds(closures.pair(i), second) {
-            return true;
-        }
-    }
-    false
-}
-
-// Whether the window holds the second.
-fn is_within(window: (u32, u32), second: u32) -> bool
-    ensures { result ≡ is_within second window }
-{
-    window.0 <= second && second <= window.1
-}
-
-// Whether a window holds the second.
-fn has_window(windows: &[(u32, u32)], second: u32) -> bool
-    ensures { result ≡ list_any (is_within second) windows.now }
-{
-    windows.iter().any(|w| is_within(*w, second))
-}
-
 // Whether the line's second is open for its flight.
-fn is_open(closures: &Closures, found: &Found) -> bool
+fn is_at_open_second(closures: &Closures, found: &Found) -> bool
     ensures { result ≡ is_open found.now.1.flight.windows closures.now found.now.0.second }
 {
-    let second = found.line.second;
-    has_window(found.active.flight.windows.spans(), second) && !is_shut(closures, second)
+    is_open(&found.active.flight.windows, closures, found.line.second)
 }
 
 // Each landing at a second that is not open.
@@ -68,7 +33,7 @@ pub(crate) fn closed(
     let closures = situation.closures();
     found
         .iter()
-        .filter(|f| !is_open(closures, f))
+        .filter(|f| !is_at_open_second(closures, f))
         .map(|f| Finding::Closed(f.active.flight.callsign, f.line.second))
         .collect(alloc)
 }
