@@ -3,7 +3,7 @@ use Rattle.std.proofs.Common.{◌≡◌, ℕ, List, None, Ok, ap, ◌∙◌}
 use Rattle.aerodrome_file.specs.Reading.{aerodrome_of}
 use Rattle.flight_file.specs.Reading.{flights_of}
 use Rattle.audit.specs.Reading.{plan_of}
-use Rattle.cps_top.specs.declared.endings.Answer.{Answer}
+use Rattle.endings.specs.declared.ending.Answer.{Answer}
 use Rattle.cps_top.specs.Audit.{AdmitsAudit, unaudited_by}
 
 pub not_unaudited : (a f p text : List ℕ) (answer : Answer) → AdmitsAudit a f p text answer →

@@ -5,17 +5,17 @@ use Rattle.std.proofs.lemmas.List.{take-append-le}
 use Rattle.std.specs.List.{AllByRecursion}
 use Rattle.cps_top.specs.declared.commands.Command.{Command}
 use Rattle.cps_top.specs.declared.commands.Command.TheVariants.{Plan, Replay, Certify, Check, Effort, Trial, First, WhatIf, Audit}
-use Rattle.cps_top.specs.declared.endings.Answer.{Answer}
-use Rattle.cps_top.specs.declared.endings.Refusal.{Refusal}
-use Rattle.cps_top.specs.declared.endings.Ending.{Ending}
-use Rattle.cps_top.specs.declared.endings.Ending.TheVariants.{Answered, Misused, Refused, NotLoaded, NotWritten, TooLong, NoMemory}
+use Rattle.endings.specs.declared.ending.Answer.{Answer}
+use Rattle.endings.specs.declared.ending.Refusal.{Refusal}
+use Rattle.endings.specs.declared.ending.Ending.{Ending}
+use Rattle.endings.specs.declared.ending.Ending.TheVariants.{Answered, Misused, Refused, NotLoaded, NotWritten, TooLong, NoMemory}
 use Rattle.cps_top.specs.Commands.{command_of, files_of, Admits, Begins, Refuses}
 use Rattle.cps_outside.specs.FolderState.{FolderState}
 use Rattle.cps_top.specs.Plan.{refused_by}
-use Rattle.cps_top.specs.Loads.{limit, FailsAt}
-use Rattle.cps_top.specs.Lines.{status_of}
+use Rattle.endings.specs.Loads.{limit, FailsAt, FailsWithin}
+use Rattle.endings.specs.Lines.{status_of}
 use Rattle.cps_top.specs.Outcome.{Outside, Ends, Serves}
-use Rattle.cps_top.specs.Statuses.{IsExact, FailsWithin}
+use Rattle.cps_top.specs.Statuses.{IsExact}
 use Rattle.cps_top.proofs.Audited.{not_unaudited}
 use Rattle.cps_top.proofs.Judged.{not_unchecked}
 use Rattle.cps_top.proofs.Tried.{not_untried}

@@ -13,7 +13,7 @@ use Rattle.aerodrome_file.specs.declared.aerodrome.Aerodrome.{Aerodrome}
 use Rattle.flight_file.specs.declared.flight.Flight.{Flight}
 use Rattle.flight_file.specs.Seen.{flight_of}
 use Rattle.sequencer.specs.Opened.{opening_of}
-use Rattle.cps_top.specs.declared.endings.Answer.{Answer}
+use Rattle.endings.specs.declared.ending.Answer.{Answer}
 use Rattle.cps_top.specs.Plan.{answer_of}
 use Rattle.cps_top.specs.First.{AdmitsFirst, FirstTextIsOneLaw, FirstCostsAsPlanLaw}
 

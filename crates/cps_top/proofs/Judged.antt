@@ -24,10 +24,10 @@ use Rattle.cert_check.specs.declared.verdict.Verdict.{Verdict}
 use Rattle.cert_check.specs.declared.verdict.Verdict.TheVariants as verdict
 use Rattle.cps_top.specs.Check.{Judges, unchecked_by}
 use Rattle.cps_top.specs.Plan.{refusal_of, StopsOpened}
-use Rattle.cps_top.specs.Faults.{begin_ending, opening_ending}
-use Rattle.cps_top.specs.declared.endings.Ending.{Ending}
-use Rattle.cps_top.specs.declared.endings.Refusal.TheVariants.{Opening}
-use Rattle.cps_top.specs.declared.endings.Answer.TheVariants.{Accepted}
+use Rattle.endings.specs.Faults.{begin_ending, opening_ending}
+use Rattle.endings.specs.declared.ending.Ending.{Ending}
+use Rattle.endings.specs.declared.ending.Refusal.TheVariants.{Opening}
+use Rattle.endings.specs.declared.ending.Answer.TheVariants.{Accepted}
 use Rattle.cps_top.specs.Certify.{PrintedIsAcceptedLaw}
 use Rattle.cps_top.specs.Verdicts.{IsTrueOf, answer_of_verdict}
 

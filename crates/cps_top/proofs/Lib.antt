@@ -5,11 +5,9 @@ pub mod Counts
 pub mod Exact
 pub mod FirstLaws
 pub mod Judged
-pub mod Loading
 pub mod Replayed
 pub mod ReplayLaws
 pub mod Showing
 pub mod Statuses
 pub mod Summed
 pub mod Tried
-pub mod Writing

@@ -18,8 +18,8 @@ use Rattle.replays.specs.Runs.{ReplayEnds}
 use Rattle.replays.specs.declared.stops.Stop.{Stop}
 use Rattle.replays.specs.declared.stops.Stop.TheVariants as stop
 use Rattle.cps_top.specs.declared.commands.Command.TheVariants.{Replay}
-use Rattle.cps_top.specs.declared.endings.Ending.{Ending}
-use Rattle.cps_top.specs.declared.endings.Ending.TheVariants.{Answered, Misused, Refused, NotLoaded, NotWritten, TooLong, NoMemory}
+use Rattle.endings.specs.declared.ending.Ending.{Ending}
+use Rattle.endings.specs.declared.ending.Ending.TheVariants.{Answered, Misused, Refused, NotLoaded, NotWritten, TooLong, NoMemory}
 use Rattle.cps_top.specs.Outcome.{Follows}
 use Rattle.cps_top.specs.Plan.{answer_by, IsOpened, StopsOpened}
 use Rattle.cps_top.specs.Replay.{IsBegun, StopsReplay, refused_with, ending_of}

@@ -4,9 +4,9 @@ use Rattle.aerodrome_file.specs.declared.aerodrome.Aerodrome.{Aerodrome}
 use Rattle.aerodrome_file.specs.Reading.{aerodrome_of}
 use Rattle.flight_file.specs.declared.flight.Flight.{Flight}
 use Rattle.flight_file.specs.Reading.{flights_of}
-use Rattle.cps_top.specs.declared.endings.Answer.{Answer}
-use Rattle.cps_top.specs.declared.endings.Ending.{Ending}
-use Rattle.cps_top.specs.declared.endings.Ending.TheVariants.{Answered, Misused, Refused, NotLoaded, NotWritten, TooLong, NoMemory}
+use Rattle.endings.specs.declared.ending.Answer.{Answer}
+use Rattle.endings.specs.declared.ending.Ending.{Ending}
+use Rattle.endings.specs.declared.ending.Ending.TheVariants.{Answered, Misused, Refused, NotLoaded, NotWritten, TooLong, NoMemory}
 use Rattle.cps_top.specs.Certify.{AdmitsCertify, Certifies}
 use Rattle.cps_top.specs.First.{AdmitsFirst, ShowsFirst}
 use Rattle.cps_top.specs.Plan.{Shows, AdmitsPlan, StopsPlan, StopsOpened, refused_by}

@@ -1,12 +1,12 @@
 -- Each status by its ending.
 use Rattle.std.proofs.Common.{◌≡◌, inl, inr, ℕ, List, [], ap, append-nil, take, drop, take-append-drop, arith}
-use Rattle.cps_top.specs.declared.endings.Answer.TheVariants.{Scheduled, Infeasible, Certified, Accepted, Rejected, Tried, Clean, Broken, Claimed}
-use Rattle.cps_top.specs.declared.endings.Ending.{Ending}
-use Rattle.cps_top.specs.declared.endings.Ending.TheVariants.{Answered, Misused, Refused, NotLoaded, NotWritten, TooLong, NoMemory}
-use Rattle.cps_top.specs.Lines.{status_of}
+use Rattle.endings.specs.declared.ending.Answer.TheVariants.{Scheduled, Infeasible, Certified, Accepted, Rejected, Tried, Clean, Broken, Claimed}
+use Rattle.endings.specs.declared.ending.Ending.{Ending}
+use Rattle.endings.specs.declared.ending.Ending.TheVariants.{Answered, Misused, Refused, NotLoaded, NotWritten, TooLong, NoMemory}
+use Rattle.endings.specs.Lines.{status_of}
 use Rattle.cps_top.specs.Outcome.{Outside, Ends}
 use Rattle.cps_top.specs.Commands.{files_of}
-use Rattle.cps_top.specs.Loads.{AsksForSome, StopsAt, Loads}
+use Rattle.endings.specs.Loads.{AsksForSome, StopsAt, Loads}
 use Rattle.cps_outside.specs.FolderState.{FolderState}
 use Rattle.cps_top.specs.Statuses.{Causes, Asks}
 

@@ -9,12 +9,12 @@ use Rattle.aerodrome_file.specs.declared.aerodrome.Aerodrome.{Aerodrome}
 use Rattle.flight_file.specs.declared.flight.Flight.{Flight}
 use Rattle.traffic_gen.specs.Made.{Made}
 use Rattle.plan_text.specs.Trial.{trial_text}
-use Rattle.cps_top.specs.declared.endings.Answer.{Answer}
-use Rattle.cps_top.specs.declared.endings.Refusal.{Refusal}
-use Rattle.cps_top.specs.declared.endings.Ending.{Ending}
-use Rattle.cps_top.specs.declared.endings.Ending.TheVariants.{Answered, Misused, Refused, NotLoaded, NotWritten, TooLong, NoMemory}
+use Rattle.endings.specs.declared.ending.Answer.{Answer}
+use Rattle.endings.specs.declared.ending.Refusal.{Refusal}
+use Rattle.endings.specs.declared.ending.Ending.{Ending}
+use Rattle.endings.specs.declared.ending.Ending.TheVariants.{Answered, Misused, Refused, NotLoaded, NotWritten, TooLong, NoMemory}
 use Rattle.cps_top.specs.Plan.{answer_of, IsOpened, IsPlannedAnew, StopsOpened}
-use Rattle.cps_top.specs.declared.endings.Refusal.TheVariants.{Opening}
+use Rattle.endings.specs.declared.ending.Refusal.TheVariants.{Opening}
 use Rattle.situations.specs.Refused.{opening_fault}
 use Rattle.cps_top.specs.Trial.{Sums}
 

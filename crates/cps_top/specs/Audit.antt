@@ -16,11 +16,11 @@ use Rattle.audit.specs.Blocks.{seen_block}
 use Rattle.audit.specs.Reading.{plan_of}
 use Rattle.audit.specs.Texts.{findings_text}
 use Rattle.sequencer.specs.Opened.{opened}
-use Rattle.cps_top.specs.declared.endings.Answer.{Answer}
-use Rattle.cps_top.specs.declared.endings.Answer.TheVariants.{Clean, Broken, Claimed}
-use Rattle.cps_top.specs.declared.endings.Ending.{Ending}
-use Rattle.cps_top.specs.declared.endings.Refusal.{Refusal}
-use Rattle.cps_top.specs.declared.endings.Refusal.TheVariants as refusal
+use Rattle.endings.specs.declared.ending.Answer.{Answer}
+use Rattle.endings.specs.declared.ending.Answer.TheVariants.{Clean, Broken, Claimed}
+use Rattle.endings.specs.declared.ending.Ending.{Ending}
+use Rattle.endings.specs.declared.ending.Refusal.{Refusal}
+use Rattle.endings.specs.declared.ending.Refusal.TheVariants as refusal
 use Rattle.cps_top.specs.Plan.{refusal_of, Stops}
 
 -- the first cause, in the order of the files

@@ -8,8 +8,8 @@ use Rattle.certificate.specs.Reading.{Cert, certificate_of}
 use Rattle.certificate.specs.Spelling.{text_of}
 use Rattle.cert_check.specs.Whole.{IsWhole}
 use Rattle.cert_check.specs.WholeLaws.{claimed}
-use Rattle.cps_top.specs.declared.endings.Answer.{Answer}
-use Rattle.cps_top.specs.declared.endings.Answer.TheVariants.{Accepted, Certified}
+use Rattle.endings.specs.declared.ending.Answer.{Answer}
+use Rattle.endings.specs.declared.ending.Answer.TheVariants.{Accepted, Certified}
 use Rattle.cps_top.specs.Check.{AdmitsCheck, IsJudged}
 use Rattle.cps_top.specs.Verdicts.{verdict_text}
 

@@ -12,10 +12,10 @@ use Rattle.certificate.specs.Reading.{Cert, certificate_of}
 use Rattle.cert_check.specs.Verdict.{verdict_of}
 use Rattle.cert_check.specs.declared.verdict.Verdict.{Verdict}
 use Rattle.sequencer.specs.Opened.{opened}
-use Rattle.cps_top.specs.declared.endings.Answer.{Answer}
-use Rattle.cps_top.specs.declared.endings.Ending.{Ending}
-use Rattle.cps_top.specs.declared.endings.Refusal.{Refusal}
-use Rattle.cps_top.specs.declared.endings.Refusal.TheVariants as refusal
+use Rattle.endings.specs.declared.ending.Answer.{Answer}
+use Rattle.endings.specs.declared.ending.Ending.{Ending}
+use Rattle.endings.specs.declared.ending.Refusal.{Refusal}
+use Rattle.endings.specs.declared.ending.Refusal.TheVariants as refusal
 use Rattle.cps_top.specs.Plan.{refusal_of, Stops}
 use Rattle.cps_top.specs.Verdicts.{verdict_text, answer_of_verdict, IsTrueOf}
 

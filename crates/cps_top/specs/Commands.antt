@@ -4,8 +4,8 @@ use Rattle.std.specs.Result.{result_ok}
 use Rattle.cps_base.specs.Number.{number_within}
 use Rattle.cps_top.specs.declared.commands.Command.{Command}
 use Rattle.cps_top.specs.declared.commands.Command.TheVariants.{Plan, Replay, Certify, Check, Effort, Trial, First, WhatIf, Audit}
-use Rattle.cps_top.specs.declared.endings.Answer.{Answer}
-use Rattle.cps_top.specs.declared.endings.Refusal.{Refusal}
+use Rattle.endings.specs.declared.ending.Answer.{Answer}
+use Rattle.endings.specs.declared.ending.Refusal.{Refusal}
 use Rattle.cps_top.specs.Audit.{AdmitsAudit, RefusesAudit}
 use Rattle.cps_top.specs.Certify.{AdmitsCertify}
 use Rattle.cps_top.specs.Check.{AdmitsCheck, RefusesCheck}

@@ -4,7 +4,7 @@ use Rattle.landing_rules.specs.Events as rules
 use Rattle.landing_rules.specs.Events.{State}
 use Rattle.efforts.specs.Efforts.{Effort, answers_of, effort_text}
 use Rattle.replays.specs.Runs.{last_state}
-use Rattle.cps_top.specs.declared.endings.Answer.{Answer}
+use Rattle.endings.specs.declared.ending.Answer.{Answer}
 use Rattle.cps_top.specs.Plan.{answer_of}
 use Rattle.cps_top.specs.Replay.{IsBegun}
 

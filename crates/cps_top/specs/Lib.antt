@@ -1,13 +1,10 @@
--- The program: its commands, statuses and lines, and what it writes.
+-- The program: its commands, what each status says, and what it writes.
 pub mod Audit
 pub mod Certify
 pub mod Check
 pub mod Commands
 pub mod Effort
 pub mod First
-pub mod Faults
-pub mod Lines
-pub mod Loads
 pub mod Outcome
 pub mod Plan
 pub mod Replay

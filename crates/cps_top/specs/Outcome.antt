@@ -4,11 +4,11 @@ use Rattle.cps_outside.specs.Causes.{Rose}
 use Rattle.cps_outside.specs.FolderState.{FolderState}
 use Rattle.cps_outside.specs.SinkState.{SinkState, Grows, GrowsByPart}
 use Rattle.cps_top.specs.declared.commands.Command.{Command}
-use Rattle.cps_top.specs.declared.endings.Ending.{Ending}
-use Rattle.cps_top.specs.declared.endings.Ending.TheVariants.{Answered, Misused, Refused, NotLoaded, NotWritten, TooLong, NoMemory}
+use Rattle.endings.specs.Lines.{Says, status_of, line_of}
+use Rattle.endings.specs.Loads.{Loads, FailsAt, IsTooLongAt, AsksForSome}
+use Rattle.endings.specs.declared.ending.Ending.{Ending}
+use Rattle.endings.specs.declared.ending.Ending.TheVariants.{Answered, Misused, Refused, NotLoaded, NotWritten, TooLong, NoMemory}
 use Rattle.cps_top.specs.Commands.{command_of, files_of, Admits, Begins, Refuses}
-use Rattle.cps_top.specs.Loads.{Loads, FailsAt, IsTooLongAt, AsksForSome}
-use Rattle.cps_top.specs.Lines.{status_of, line_of}
 
 -- the outside but for the standard error
 pub record Outside : Type 0 where
@@ -58,22 +58,9 @@ Ends words old new (TooLong place) = StopsLoading words old new (λ a b names. I
 Ends words old new NoMemory = StopsLoading words old new AsksForSome ⊎ Serves words old new NoMemory
 Ends words old new ending = Serves words old new ending
 
--- The line was written, whole unless a fault was counted.
-pub record Says (old new : SinkState) (line : List ℕ) : Type 0 where
-  pub tells : new.tells ≡ old.tells
-  pub part : GrowsByPart old new line
-  pub whole : Grows old new line ⊎ Rose old.faults new.faults
-
 -- A run over these words answers this status: it ended so, for this cause, and said so.
 pub record RunsTo (words : List (List ℕ)) (old new : Outside) (old_err new_err : SinkState) (status : ℕ) : Type 0 where
   pub ending : Ending
   pub status_is : status ≡ status_of ending
   pub ends : Ends words old new ending
   pub says : Says old_err new_err (line_of ending)
-
--- how the loads of these files may end early
-abbrev pub LoadsEnd : FolderState → FolderState → List (List ℕ) → Ending → Type 0
-LoadsEnd old new names (NotLoaded place) = FailsAt old new names place
-LoadsEnd old new names (TooLong place) = IsTooLongAt old new names place
-LoadsEnd old new names NoMemory = AsksForSome old new names
-LoadsEnd old new names ending = ⊥

@@ -17,12 +17,12 @@ use Rattle.flight_file.specs.Reading.{flights_of}
 use Rattle.flight_file.specs.Seen.{flight_of}
 use Rattle.situations.specs.Refused.{opening_fault}
 use Rattle.sequencer.specs.Opened.{opening_of}
-use Rattle.cps_top.specs.declared.endings.Answer as answers
-use Rattle.cps_top.specs.declared.endings.Answer.TheVariants.{Scheduled, Infeasible}
-use Rattle.cps_top.specs.declared.endings.Ending.{Ending}
-use Rattle.cps_top.specs.declared.endings.Ending.TheVariants.{Refused, NoMemory}
-use Rattle.cps_top.specs.declared.endings.Refusal as refusals
-use Rattle.cps_top.specs.declared.endings.Refusal.TheVariants as refusal
+use Rattle.endings.specs.declared.ending.Answer as answers
+use Rattle.endings.specs.declared.ending.Answer.TheVariants.{Scheduled, Infeasible}
+use Rattle.endings.specs.declared.ending.Ending.{Ending}
+use Rattle.endings.specs.declared.ending.Ending.TheVariants.{Refused, NoMemory}
+use Rattle.endings.specs.declared.ending.Refusal as refusals
+use Rattle.endings.specs.declared.ending.Refusal.TheVariants as refusal
 
 -- why files that read are not taken: they open no situation
 abbrev pub refusal_of : Aerodrome → List Flight → Option refusals.Refusal

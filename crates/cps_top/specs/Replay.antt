@@ -19,11 +19,11 @@ use Rattle.sequencer.specs.Opened.{opening_of}
 use Rattle.replays.specs.Runs.{last_state}
 use Rattle.replays.specs.declared.stops.Stop.{Stop}
 use Rattle.replays.specs.declared.stops.Stop.TheVariants as stop
-use Rattle.cps_top.specs.declared.endings.Answer.{Answer}
-use Rattle.cps_top.specs.declared.endings.Ending.{Ending}
-use Rattle.cps_top.specs.declared.endings.Ending.TheVariants as endings
-use Rattle.cps_top.specs.declared.endings.Refusal.{Refusal}
-use Rattle.cps_top.specs.declared.endings.Refusal.TheVariants as refusal
+use Rattle.endings.specs.declared.ending.Answer.{Answer}
+use Rattle.endings.specs.declared.ending.Ending.{Ending}
+use Rattle.endings.specs.declared.ending.Ending.TheVariants as endings
+use Rattle.endings.specs.declared.ending.Refusal.{Refusal}
+use Rattle.endings.specs.declared.ending.Refusal.TheVariants as refusal
 use Rattle.cps_top.specs.Plan.{refusal_of, answer_by, answer_of, Stops}
 
 -- the first cause, in the order of the files

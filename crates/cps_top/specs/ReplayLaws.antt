@@ -5,7 +5,7 @@ use Rattle.landing_rules.specs.Rules.{objective}
 use Rattle.landing_rules.specs.Events.{State, Event, Clock, Answered}
 use Rattle.landing_rules.specs.Sound.{IsSoundState}
 use Rattle.landing_joint.specs.PassedOver.{StaysInLineThrough, passing_in_run, waits_in}
-use Rattle.cps_top.specs.declared.endings.Answer.{Answer}
+use Rattle.endings.specs.declared.ending.Answer.{Answer}
 use Rattle.cps_top.specs.Replay.{AdmitsReplay}
 
 -- two replays of the same files with the same text have the same opening state, and the same answers and states after it

@@ -3,12 +3,11 @@ use Rattle.std.specs.Prelude.{[], ◌∷◌, ◌++◌, ◌<◌, ◌≡◌, ◌�
 use Rattle.std.specs.List.{AllByRecursion}
 use Rattle.cps_outside.specs.Causes.{RoseBy, Rose}
 use Rattle.cps_top.specs.declared.commands.Command.{Command}
-use Rattle.cps_top.specs.declared.endings.Answer.{Answer}
-use Rattle.cps_top.specs.declared.endings.Refusal.{Refusal}
+use Rattle.endings.specs.declared.ending.Answer.{Answer}
+use Rattle.endings.specs.declared.ending.Refusal.{Refusal}
 use Rattle.cps_top.specs.Commands.{command_of, files_of, Admits, Refuses}
-use Rattle.cps_outside.specs.FolderState.{FolderState}
-use Rattle.cps_top.specs.Loads.{limit, FailsAt, IsTooLongAt, AsksForSome}
-use Rattle.cps_top.specs.Lines.{answer_status}
+use Rattle.endings.specs.Lines.{answer_status}
+use Rattle.endings.specs.Loads.{limit, FailsAt, IsTooLongAt, AsksForSome, FailsWithin}
 use Rattle.cps_top.specs.Outcome.{Outside, Prints}
 
 -- when each status comes
@@ -47,11 +46,6 @@ pub record Completes (words : List (List ℕ)) (old new : Outside) (status : ℕ
       (Rose old.folder.faults new.folder.faults → ⊥) → (Rose old.out.faults new.out.faults → ⊥) →
       (status ≡ 8) ⊎ ((answer : Answer) × (status ≡ answer_status answer)
       × Prints (λ text. Admits command contents text answer) old.out new.out)
-
--- a load failed, and no later file than these was asked for
-pub record FailsWithin (old new : FolderState) (names : List (List ℕ)) : Type 0 where
-  pub cause : Rose old.faults new.faults
-  pub asked : AsksForSome old new names
 
 -- Files that are refused give status 3, unless a load failed, and one that is too long gives 6, unless its load or an
 -- earlier one failed; or memory was short.

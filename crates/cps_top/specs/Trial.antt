@@ -8,7 +8,7 @@ use Rattle.sequencer.specs.Opened.{opening_of}
 use Rattle.cps_network.specs.Due.{HasCandidatesUpto}
 use Rattle.traffic_gen.specs.Made.{Made, traffic}
 use Rattle.plan_text.specs.Trial.{trial_text}
-use Rattle.cps_top.specs.declared.endings.Answer.{Answer}
+use Rattle.endings.specs.declared.ending.Answer.{Answer}
 use Rattle.cps_top.specs.Plan.{answer_of}
 
 -- The text is the summary of an opening state of this traffic, with the number of the candidates of all stages of its

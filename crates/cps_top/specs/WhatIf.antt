@@ -12,11 +12,11 @@ use Rattle.whatif.specs.declared.trial.Trial.{Trial}
 use Rattle.whatif.specs.Outcomes.{AreOutcomes}
 use Rattle.whatif.specs.Reading.{trials_of}
 use Rattle.whatif.specs.Text.{outcomes_text}
-use Rattle.cps_top.specs.declared.endings.Answer.{Answer}
-use Rattle.cps_top.specs.declared.endings.Answer.TheVariants.{Tried}
-use Rattle.cps_top.specs.declared.endings.Ending.{Ending}
-use Rattle.cps_top.specs.declared.endings.Refusal.{Refusal}
-use Rattle.cps_top.specs.declared.endings.Refusal.TheVariants as refusal
+use Rattle.endings.specs.declared.ending.Answer.{Answer}
+use Rattle.endings.specs.declared.ending.Answer.TheVariants.{Tried}
+use Rattle.endings.specs.declared.ending.Ending.{Ending}
+use Rattle.endings.specs.declared.ending.Refusal.{Refusal}
+use Rattle.endings.specs.declared.ending.Refusal.TheVariants as refusal
 use Rattle.cps_top.specs.Plan.{refusal_of, Stops}
 
 -- the first cause, in the order of the files

@@ -11,10 +11,10 @@ ghost use Rattle.cps_top.specs.Audit.{AdmitsAudit, IsAudited, StopsAudit, audit_
 ghost use Rattle.cps_top.specs.Outcome.{Follows};
 ghost use Rattle.cps_top.specs.Plan.{StopsOpened};
 
-use crate::{Answer, Ending};
 use aerodrome_file::{Aerodrome, read_aerodrome};
 use audit::{Block, PlanText, append_findings, audit, read_plan};
 use cps_outside::Sink;
+use endings::{Answer, Ending};
 use flight_file::{Flight, read_flights};
 use sequencer::opening;
 use situations::Situation;
@@ -31,8 +31,10 @@ struct Report {
 fn report_block(alloc: Global, situation: &Situation, block: &Block) -> Result<Report, AllocError>
     requires sound { IsSound situation.now }
     requires few { length block.now.lines ≤ 500 }
-    ensures text { IfOk result (λ r. r.text.items ≡ report (findings situation.now (seen_block block.now))) }
-    ensures answer { IfOk result (λ r. r.answer ≡ report_answer (findings situation.now (seen_block block.now))) }
+    ensures text { IfOk result (λ r. r.text.items ≡
+        report (findings situation.now (seen_block block.now))) }
+    ensures answer { IfOk result (λ r. r.answer ≡
+        report_answer (findings situation.now (seen_block block.now))) }
 {
     let found = audit(alloc, situation, block)?;
     let mut text = Vec::new(alloc);
@@ -76,7 +78,9 @@ fn report_opened(
     requires range { IsInRange aerodrome }
     requires read { CanBeRead flights.items }
     requires few { HasFewLines plan.now }
-    ensures { MatchResult result (λ r. IsAudited aerodrome flights.items plan.now r.text.items r.answer) (StopsOpened aerodrome flights.items) }
+    ensures { MatchResult result
+        (λ r. IsAudited aerodrome flights.items plan.now r.text.items r.answer)
+        (StopsOpened aerodrome flights.items) }
 {
     let situation = opening(alloc, aerodrome, flights)?;
     let report = report_plan(alloc, &situation, plan)?;
@@ -90,7 +94,9 @@ fn report_files(
     flights: &[u8],
     plan: &[u8],
 ) -> Result<Report, Ending>
-    ensures { MatchResult result (λ r. AdmitsAudit aerodrome.now flights.now plan.now r.text.items r.answer) (StopsAudit aerodrome.now flights.now plan.now) }
+    ensures { MatchResult result
+        (λ r. AdmitsAudit aerodrome.now flights.now plan.now r.text.items r.answer)
+        (StopsAudit aerodrome.now flights.now plan.now) }
 {
     let aerodrome = read_aerodrome(alloc, aerodrome)?;
     let flights = read_flights(alloc, flights)?;
@@ -106,7 +112,8 @@ pub(crate) fn audit_files<S: Sink>(
     plan: &[u8],
     out: &mut S,
 ) -> Ending
-    ensures { Follows commands.Audit (aerodrome.now ∷ flights.now ∷ plan.now ∷ []) (S.state out.old) (S.state out.new) result }
+    ensures { Follows commands.Audit (aerodrome.now ∷ flights.now ∷ plan.now ∷ [])
+        (S.state out.old) (S.state out.new) result }
 {
     let report = match report_files(alloc, aerodrome, flights, plan) {
         Ok(report) => report,

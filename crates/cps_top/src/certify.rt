@@ -7,12 +7,12 @@ ghost use Rattle.cps_top.specs.Certify.{AdmitsCertify, Certifies, IsCertified};
 ghost use Rattle.cps_top.specs.Outcome.{Follows};
 ghost use Rattle.cps_top.specs.Plan.{StopsOpened, StopsPlan};
 
-use crate::{Answer, Ending};
 use aerodrome_file::{Aerodrome, read_aerodrome};
 use certificate::{Certificate, print_certificate};
 use cps_base::{Silent, Steps};
 use cps_outside::{Gate, Sink};
 use cps_problem::Planner;
+use endings::{Answer, Ending};
 use flight_file::{Flight, read_flights};
 use landing_joint::laws::problem_stands_for_situation;
 use replan::AnyKept;
@@ -30,7 +30,9 @@ fn certify_opened<R: Threads + Sync, G: Gate + Sync>(
 ) -> Result<Certificate, Ending>
     requires range { IsInRange aerodrome.now }
     requires read { CanBeRead flights.now }
-    ensures { MatchResult result (IsCertified aerodrome.now flights.now) (StopsOpened aerodrome.now flights.now) }
+    ensures { MatchResult result
+        (IsCertified aerodrome.now flights.now)
+        (StopsOpened aerodrome.now flights.now) }
 {
     problem_stands_for_situation();
     let problem = opening_problem(alloc, aerodrome, flights)?;
@@ -53,7 +55,9 @@ fn write_opened<R: Threads + Sync, G: Gate + Sync>(
     requires range { IsInRange aerodrome.now }
     requires read { CanBeRead flights.now }
     requires empty { text.old.items ≡ [] }
-    ensures { MatchResult result (λ answer. Certifies aerodrome.now flights.now text.new.items answer) (StopsOpened aerodrome.now flights.now) }
+    ensures { MatchResult result
+        (λ answer. Certifies aerodrome.now flights.now text.new.items answer)
+        (StopsOpened aerodrome.now flights.now) }
 {
     let certificate = certify_opened(rt, alloc, aerodrome, flights, gate)?;
     print_certificate(&certificate, text)?;
@@ -70,7 +74,9 @@ fn write_files<R: Threads + Sync, G: Gate + Sync>(
     text: &mut Vec<u8>,
 ) -> Result<Answer, Ending>
     requires empty { text.old.items ≡ [] }
-    ensures { MatchResult result (λ answer. AdmitsCertify aerodrome.now flights.now text.new.items answer) (StopsPlan aerodrome.now flights.now) }
+    ensures { MatchResult result
+        (λ answer. AdmitsCertify aerodrome.now flights.now text.new.items answer)
+        (StopsPlan aerodrome.now flights.now) }
 {
     let aerodrome = read_aerodrome(alloc, aerodrome)?;
     let flights = read_flights(alloc, flights)?;
@@ -86,7 +92,8 @@ pub(crate) fn certify<R: Threads + Sync, S: Sink, G: Gate + Sync>(
     out: &mut S,
     gate: &G,
 ) -> Ending
-    ensures { Follows commands.Certify (aerodrome.now ∷ flights.now ∷ []) (S.state out.old) (S.state out.new) result }
+    ensures { Follows commands.Certify (aerodrome.now ∷ flights.now ∷ [])
+        (S.state out.old) (S.state out.new) result }
 {
     let mut text = Vec::new(alloc);
     match write_files(rt, alloc, aerodrome, flights, gate, &mut text) {

@@ -7,12 +7,12 @@ ghost use Rattle.cps_top.specs.Check.{IsJudged, Judges, StopsCheck};
 ghost use Rattle.cps_top.specs.Outcome.{Follows};
 ghost use Rattle.cps_top.specs.Plan.{StopsOpened};
 
-use crate::Ending;
 use crate::verdict_lines::{answer, verdict_line};
 use aerodrome_file::{Aerodrome, read_aerodrome};
 use cert_check::{Verdict, judge};
 use certificate::{Certificate, read_certificate};
 use cps_outside::Sink;
+use endings::Ending;
 use flight_file::{Flight, read_flights};
 use landing_joint::laws::problem_stands_for_situation;
 use sequencer::opening_problem;
@@ -27,7 +27,9 @@ fn judge_opened(
 ) -> Result<Verdict, Ending>
     requires range { IsInRange aerodrome.now }
     requires read { CanBeRead flights.now }
-    ensures { MatchResult result (IsJudged aerodrome.now flights.now certificate.now) (StopsOpened aerodrome.now flights.now) }
+    ensures { MatchResult result
+        (IsJudged aerodrome.now flights.now certificate.now)
+        (StopsOpened aerodrome.now flights.now) }
 {
     problem_stands_for_situation();
     let problem = opening_problem(alloc, aerodrome, flights)?;
@@ -42,7 +44,9 @@ fn judge_files(
     certificate: &[u8],
 ) -> Result<Verdict, Ending>
     requires { length certificate.now < 4294967295 }
-    ensures { MatchResult result (Judges aerodrome.now flights.now certificate.now) (StopsCheck aerodrome.now flights.now certificate.now) }
+    ensures { MatchResult result
+        (Judges aerodrome.now flights.now certificate.now)
+        (StopsCheck aerodrome.now flights.now certificate.now) }
 {
     let aerodrome = read_aerodrome(alloc, aerodrome)?;
     let flights = read_flights(alloc, flights)?;
@@ -59,7 +63,8 @@ pub(crate) fn check<S: Sink>(
     out: &mut S,
 ) -> Ending
     requires { length certificate.now < 4294967295 }
-    ensures { Follows commands.Check (aerodrome.now ∷ flights.now ∷ certificate.now ∷ []) (S.state out.old) (S.state out.new) result }
+    ensures { Follows commands.Check (aerodrome.now ∷ flights.now ∷ certificate.now ∷ [])
+        (S.state out.old) (S.state out.new) result }
 {
     let verdict = match judge_files(alloc, aerodrome, flights, certificate) {
         Ok(verdict) => verdict,

@@ -3,9 +3,9 @@ ghost use Rattle.std.specs.Prelude.{[], ◌∷◌};
 ghost use Rattle.cps_top.specs.declared.commands.Command.TheVariants as commands;
 ghost use Rattle.cps_top.specs.Outcome.{Follows};
 
-use crate::Ending;
 use crate::replay::{begin_files, ending_of};
 use cps_outside::{Gate, Sink};
+use endings::Ending;
 use std::alloc::Global;
 use std::thread::Threads;
 
@@ -19,7 +19,8 @@ pub(crate) fn effort<R: Threads + Sync, S: Sink, G: Gate + Sync>(
     out: &mut S,
     gate: &G,
 ) -> Ending
-    ensures { Follows commands.Effort (aerodrome.now ∷ flights.now ∷ events.now ∷ []) (S.state out.old) (S.state out.new) result }
+    ensures { Follows commands.Effort (aerodrome.now ∷ flights.now ∷ events.now ∷ [])
+        (S.state out.old) (S.state out.new) result }
 {
     let (mut sequencer, events, opening) = match begin_files(
         rt, alloc, aerodrome, flights, events, gate,

@@ -11,9 +11,9 @@ ghost use Rattle.cps_top.specs.Plan.{StopsOpened, StopsPlan};
 
 use crate::opening::begin;
 use crate::plan::answer;
-use crate::{Answer, Ending};
 use aerodrome_file::{Aerodrome, read_aerodrome};
 use cps_outside::{Gate, Sink};
+use endings::{Answer, Ending};
 use first_plans::first_plan;
 use flight_file::{Flight, read_flights};
 use plan_text::plan_block;
@@ -51,7 +51,9 @@ fn write_opened<R: Threads + Sync, G: Gate + Sync>(
     requires range { IsInRange aerodrome }
     requires read { CanBeRead flights.items }
     requires empty { text.old.items ≡ [] }
-    ensures { MatchResult result (ShowsFirst aerodrome flights.items text.new.items) (StopsOpened aerodrome flights.items) }
+    ensures { MatchResult result
+        (ShowsFirst aerodrome flights.items text.new.items)
+        (StopsOpened aerodrome flights.items) }
 {
     let (sequencer, _) = begin(rt, alloc, aerodrome, flights, gate)?;
     let answer = write_first(alloc, &sequencer, text)?;
@@ -68,7 +70,9 @@ fn write_files<R: Threads + Sync, G: Gate + Sync>(
     text: &mut Vec<u8>,
 ) -> Result<Answer, Ending>
     requires empty { text.old.items ≡ [] }
-    ensures { MatchResult result (AdmitsFirst aerodrome.now flights.now text.new.items) (StopsPlan aerodrome.now flights.now) }
+    ensures { MatchResult result
+        (AdmitsFirst aerodrome.now flights.now text.new.items)
+        (StopsPlan aerodrome.now flights.now) }
 {
     let aerodrome = read_aerodrome(alloc, aerodrome)?;
     let flights = read_flights(alloc, flights)?;
@@ -84,7 +88,8 @@ pub(crate) fn first<R: Threads + Sync, S: Sink, G: Gate + Sync>(
     out: &mut S,
     gate: &G,
 ) -> Ending
-    ensures { Follows commands.First (aerodrome.now ∷ flights.now ∷ []) (S.state out.old) (S.state out.new) result }
+    ensures { Follows commands.First (aerodrome.now ∷ flights.now ∷ [])
+        (S.state out.old) (S.state out.new) result }
 {
     let mut text = Vec::new(alloc);
     match write_files(rt, alloc, aerodrome, flights, gate, &mut text) {

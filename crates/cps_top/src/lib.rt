@@ -1,39 +1,26 @@
 //! The program over any folder, sinks and gate.
 #![tactic(auto)]
 
-mod aerodrome_lines;
 mod audits;
-mod certificate_lines;
 mod certify;
 mod check;
 mod commands;
 mod effort;
-mod endings;
-mod event_lines;
-mod faults;
 mod first;
 mod first_laws;
-mod flight_lines;
 mod laws;
-mod lines;
-mod loads;
 mod opening;
-mod opening_lines;
 mod plan;
-mod plan_lines;
 mod replay;
 mod replay_laws;
 mod top;
 mod trial;
-mod trial_lines;
 mod verdict_lines;
 mod what_ifs;
 
 pub use commands::Command;
-pub use endings::{Answer, Ending, Refusal};
 pub use first_laws::{first_costs_as_every_plan, first_text_is_one};
 pub use laws::printed_certificates_are_accepted;
-pub use loads::LIMIT;
 pub use replay_laws::{
     clock_shows_no_dearer_plan, few_pass_in_a_printed_replay, printed_states_are_sound,
     text_fixes_the_replay,

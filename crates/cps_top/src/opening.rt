@@ -4,11 +4,11 @@ ghost use Rattle.aerodrome_file.specs.Reading.{IsInRange};
 ghost use Rattle.flight_file.specs.OfFile.{CanBeRead};
 ghost use Rattle.cps_top.specs.Plan.{IsOpened, IsPlannedAnew, StopsOpened};
 
-use crate::Ending;
 use aerodrome_file::Aerodrome;
 use cps_base::{Counted, Steps};
 use cps_outside::Gate;
 use efforts::due_is_small;
+use endings::Ending;
 use flight_file::Flight;
 use replan::AnyKept;
 use sequencer::Sequencer;
@@ -25,7 +25,9 @@ pub(crate) fn begin<R: Threads + Sync, G: Gate + Sync>(
 ) -> Result<(Sequencer<AnyKept>, u64), Ending>
     requires range { IsInRange aerodrome }
     requires read { CanBeRead flights.items }
-    ensures opened { MatchResult result (λ begun. IsOpened aerodrome flights.items begun.0.state) (StopsOpened aerodrome flights.items) }
+    ensures opened { MatchResult result
+        (λ begun. IsOpened aerodrome flights.items begun.0.state)
+        (StopsOpened aerodrome flights.items) }
     ensures planned { IfOk result (λ begun. IsPlannedAnew begun.0 begun.1) }
 {
     let planner = AnyKept::fresh(aerodrome.k);

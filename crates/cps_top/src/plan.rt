@@ -8,10 +8,10 @@ ghost use Rattle.cps_top.specs.Plan.{answer_of, answer_by, Shows, AdmitsPlan, St
 ghost use Rattle.cps_top.specs.Outcome.{Follows};
 
 use crate::opening::begin;
-use crate::{Answer, Ending};
 use aerodrome_file::{Aerodrome, read_aerodrome};
 use cps_outside::{Gate, Sink};
 use cps_problem::Planner;
+use endings::{Answer, Ending};
 use flight_file::{Flight, read_flights};
 use plan_text::plan_block;
 use sequencer::Sequencer;
@@ -54,7 +54,9 @@ fn write_opened<R: Threads + Sync, G: Gate + Sync>(
     requires range { IsInRange aerodrome }
     requires read { CanBeRead flights.items }
     requires empty { text.old.items ≡ [] }
-    ensures { MatchResult result (λ answer. Shows aerodrome flights.items text.new.items answer) (StopsOpened aerodrome flights.items) }
+    ensures { MatchResult result
+        (λ answer. Shows aerodrome flights.items text.new.items answer)
+        (StopsOpened aerodrome flights.items) }
 {
     let (sequencer, _) = begin(rt, alloc, aerodrome, flights, gate)?;
     let answer = write_plan(&sequencer, text)?;
@@ -71,7 +73,9 @@ fn write_files<R: Threads + Sync, G: Gate + Sync>(
     text: &mut Vec<u8>,
 ) -> Result<Answer, Ending>
     requires empty { text.old.items ≡ [] }
-    ensures { MatchResult result (λ answer. AdmitsPlan aerodrome.now flights.now text.new.items answer) (StopsPlan aerodrome.now flights.now) }
+    ensures { MatchResult result
+        (λ answer. AdmitsPlan aerodrome.now flights.now text.new.items answer)
+        (StopsPlan aerodrome.now flights.now) }
 {
     let aerodrome = read_aerodrome(alloc, aerodrome)?;
     let flights = read_flights(alloc, flights)?;
@@ -87,7 +91,8 @@ pub(crate) fn plan<R: Threads + Sync, S: Sink, G: Gate + Sync>(
     out: &mut S,
     gate: &G,
 ) -> Ending
-    ensures { Follows commands.Plan (aerodrome.now ∷ flights.now ∷ []) (S.state out.old) (S.state out.new) result }
+    ensures { Follows commands.Plan (aerodrome.now ∷ flights.now ∷ [])
+        (S.state out.old) (S.state out.new) result }
 {
     let mut text = Vec::new(alloc);
     match write_files(rt, alloc, aerodrome, flights, gate, &mut text) {

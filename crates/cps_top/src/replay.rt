@@ -6,12 +6,12 @@ ghost use Rattle.cps_top.specs.Plan.{IsPlannedAnew};
 ghost use Rattle.cps_top.specs.Replay.{ending_of, IsBegun, StopsReplay};
 ghost use Rattle.cps_top.specs.Outcome.{Follows};
 
-use crate::Ending;
 use crate::opening::begin;
 use crate::plan::answer;
 use aerodrome_file::read_aerodrome;
 use cps_base::{Silent, Steps};
 use cps_outside::{Gate, Sink};
+use endings::Ending;
 use event_log::{Event, read_events};
 use flight_file::read_flights;
 use replan::AnyKept;
@@ -32,7 +32,9 @@ pub(crate) fn begin_files<R: Threads + Sync, G: Gate + Sync>(
     gate: &G,
 ) -> Result<(Sequencer<AnyKept>, Vec<Event>, u64), Ending>
     ensures begun { MatchResult result
-        (λ begun. IsBegun aerodrome.now flights.now events.now begun.0.state (map event_of begun.1.items) × (All IsGood begun.1.items) × (vec_len begun.1 ≤ 2000))
+        (λ begun. IsBegun aerodrome.now flights.now events.now
+        begun.0.state (map event_of begun.1.items)
+        × (All IsGood begun.1.items) × (vec_len begun.1 ≤ 2000))
         (StopsReplay aerodrome.now flights.now events.now) }
     ensures planned { IfOk result (λ begun. IsPlannedAnew begun.0 begun.2) }
 {
@@ -65,7 +67,8 @@ pub(crate) fn replay<R: Threads + Sync, S: Sink, G: Gate + Sync>(
     out: &mut S,
     gate: &G,
 ) -> Ending
-    ensures { Follows commands.Replay (aerodrome.now ∷ flights.now ∷ events.now ∷ []) (S.state out.old) (S.state out.new) result }
+    ensures { Follows commands.Replay (aerodrome.now ∷ flights.now ∷ events.now ∷ [])
+        (S.state out.old) (S.state out.new) result }
 {
     let (mut sequencer, events, _) = match begin_files(
         rt, alloc, aerodrome, flights, events, gate,

@@ -1,24 +1,23 @@
 ghost use Rattle.std.specs.Prelude.{◌≡◌, ◌≤◌, map, length, string_bytes, vec_items};
 ghost use Rattle.std.specs.List.{AllByRecursion};
 ghost use Rattle.cps_top.specs.Commands.{IsInRange, file_count};
-ghost use Rattle.cps_top.specs.Loads.{limit};
+ghost use Rattle.endings.specs.Loads.{limit};
 ghost use Rattle.cps_top.specs.Outcome.{Follows, Ends, RunsTo};
 ghost use Rattle.cps_top.specs.Statuses.{Causes, Asks, Completes, IsExact};
 
+use crate::Command;
 use crate::audits::audit_files;
 use crate::certify::certify;
 use crate::check::check;
 use crate::commands::{files, read_command};
 use crate::effort::effort;
 use crate::first::first;
-use crate::lines::{say, status};
-use crate::loads::load_all;
 use crate::plan::plan;
 use crate::replay::replay;
 use crate::trial::trial;
 use crate::what_ifs::what_if;
-use crate::{Command, Ending};
 use cps_outside::{Folder, Gate, Sink};
+use endings::{Ending, load_all, say, status};
 use std::alloc::Global;
 use std::thread::Threads;
 
@@ -34,7 +33,8 @@ fn perform<R: Threads + Sync, S: Sink, G: Gate + Sync>(
     requires numbers { IsInRange command }
     requires count { length contents.now ≡ file_count command }
     requires bounded { AllByRecursion (λ bytes. length bytes ≤ limit) (map vec_items contents.now) }
-    ensures { Follows command (map vec_items contents.now) (S.state out.old) (S.state out.new) result }
+    ensures { Follows command (map vec_items contents.now)
+        (S.state out.old) (S.state out.new) result }
 {
     match command {
         Command::Plan => plan(

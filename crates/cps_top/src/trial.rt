@@ -4,7 +4,7 @@ ghost use Rattle.landing_rules.specs.Text.{plan_shown};
 ghost use Rattle.aerodrome_file.specs.Reading.{IsInRange};
 ghost use Rattle.flight_file.specs.OfFile.{CanBeRead};
 ghost use Rattle.cps_top.specs.declared.commands.Command.TheVariants as commands;
-ghost use Rattle.cps_top.specs.declared.endings.Ending.TheVariants.{NoMemory};
+ghost use Rattle.endings.specs.declared.ending.Ending.TheVariants.{NoMemory};
 ghost use Rattle.cps_top.specs.Outcome.{Follows};
 ghost use Rattle.plan_text.specs.Trial.{trial_text};
 ghost use Rattle.cps_top.specs.Plan.{answer_of};
@@ -12,9 +12,9 @@ ghost use Rattle.cps_top.specs.Trial.{Sums, AdmitsTrial};
 
 use crate::opening::begin;
 use crate::plan::answer;
-use crate::{Answer, Ending};
 use cps_outside::{Gate, Sink};
 use cps_problem::Planner;
+use endings::{Answer, Ending};
 use plan_text::trial_summary;
 use sequencer::Sequencer;
 use situations::laws::plain_files_open;
@@ -31,7 +31,9 @@ fn write_summary<P: Planner>(
     text: &mut Vec<u8>,
 ) -> Result<Answer, AllocError>
     requires empty { text.old.items ≡ [] }
-    ensures prints { OnOk result (text.new.items ≡ trial_text n k nodes sequencer.now.state.situation.aerodrome.objective (plan_shown sequencer.now.state)) }
+    ensures prints { OnOk result (text.new.items ≡
+        trial_text n k nodes sequencer.now.state.situation.aerodrome.objective
+        (plan_shown sequencer.now.state)) }
     ensures answers { IfOk result (λ answer. answer ≡ answer_of sequencer.now.state.plan) }
 {
     let plan = sequencer.plan();
@@ -55,7 +57,9 @@ fn write_traffic<R: Threads + Sync, G: Gate + Sync>(
     requires none_frozen { traffic.aerodrome.frozen ≡ [] }
     requires none_passed { traffic.aerodrome.passed ≡ [] }
     requires empty { text.old.items ≡ [] }
-    ensures { MatchResult result (λ answer. Sums traffic n k text.new.items answer) (λ ending. ending ≡ NoMemory) }
+    ensures { MatchResult result
+        (λ answer. Sums traffic n k text.new.items answer)
+        (λ ending. ending ≡ NoMemory) }
 {
     plain_files_open();
     let (aerodrome, flights) = traffic.into_parts();
@@ -77,7 +81,9 @@ fn write_trial<R: Threads + Sync, G: Gate + Sync>(
     requires count { (1 ≤ n) × (n ≤ 60) }
     requires shifts { k ≤ 3 }
     requires empty { text.old.items ≡ [] }
-    ensures { MatchResult result (λ answer. AdmitsTrial seed n k text.new.items answer) (λ ending. ending ≡ NoMemory) }
+    ensures { MatchResult result
+        (λ answer. AdmitsTrial seed n k text.new.items answer)
+        (λ ending. ending ≡ NoMemory) }
 {
     let traffic = generate(alloc, seed, n, k)?;
     write_traffic(rt, alloc, traffic, n, k, gate, text)

@@ -2,8 +2,8 @@
 ghost use Rattle.std.specs.Prelude.{◌≡◌, ◌++◌, IfOk, OnOk};
 ghost use Rattle.cps_top.specs.Verdicts.{reason_word, reason_first, reason_second, verdict_word, first_number, second_number, number_text, verdict_text, answer_of_verdict};
 
-use crate::Answer;
 use cert_check::{Reason, Verdict};
+use endings::Answer;
 use itoa::Buffer;
 use std::alloc::{AllocError, Global};
 

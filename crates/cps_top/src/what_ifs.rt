@@ -8,9 +8,9 @@ ghost use Rattle.cps_top.specs.Outcome.{Follows};
 ghost use Rattle.cps_top.specs.Plan.{StopsOpened};
 ghost use Rattle.cps_top.specs.WhatIf.{AdmitsWhatIf, AreTried, StopsWhatIf};
 
-use crate::{Answer, Ending, Refusal};
 use aerodrome_file::{Aerodrome, read_aerodrome};
 use cps_outside::{Gate, Sink};
+use endings::{Answer, Ending, Refusal};
 use flight_file::{Flight, read_flights};
 use situations::opening_fault;
 use std::alloc::Global;
@@ -30,7 +30,9 @@ fn try_opened<R: Threads + Sync, G: Gate + Sync>(
     requires read { CanBeRead flights.now }
     requires few { length trials.now ≤ 16 }
     requires good { All IsGood trials.now }
-    ensures { MatchResult result (λ text. AreTried aerodrome.now flights.now trials.now text.items) (StopsOpened aerodrome.now flights.now) }
+    ensures { MatchResult result
+        (λ text. AreTried aerodrome.now flights.now trials.now text.items)
+        (StopsOpened aerodrome.now flights.now) }
 {
     if let Some(fault) = opening_fault(alloc, aerodrome, flights)? {
         return Err(Ending::Refused(Refusal::Opening(fault)));
@@ -50,7 +52,9 @@ fn try_files<R: Threads + Sync, G: Gate + Sync>(
     trials: &[u8],
     gate: &G,
 ) -> Result<Vec<u8>, Ending>
-    ensures { MatchResult result (λ text. AdmitsWhatIf aerodrome.now flights.now trials.now text.items Answer.Tried) (StopsWhatIf aerodrome.now flights.now trials.now) }
+    ensures { MatchResult result
+        (λ text. AdmitsWhatIf aerodrome.now flights.now trials.now text.items Answer.Tried)
+        (StopsWhatIf aerodrome.now flights.now trials.now) }
 {
     let aerodrome = read_aerodrome(alloc, aerodrome)?;
     let flights = read_flights(alloc, flights)?;
@@ -75,7 +79,8 @@ pub(crate) fn what_if<R: Threads + Sync, S: Sink, G: Gate + Sync>(
     out: &mut S,
     gate: &G,
 ) -> Ending
-    ensures { Follows commands.WhatIf (aerodrome.now ∷ flights.now ∷ trials.now ∷ []) (S.state out.old) (S.state out.new) result }
+    ensures { Follows commands.WhatIf (aerodrome.now ∷ flights.now ∷ trials.now ∷ [])
+        (S.state out.old) (S.state out.new) result }
 {
     match try_files(rt, alloc, aerodrome, flights, trials, gate) {
         Err(ending) => ending,

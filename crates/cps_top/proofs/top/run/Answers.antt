@@ -1,7 +1,6 @@
 use Rattle.cps_top.proofs.Complete.{completes}
 use Rattle.cps_top.proofs.Exact.{exact}
 use Rattle.cps_top.proofs.Statuses.{asks}
-use Rattle.cps_top.proofs.Writing.{said}
 use Rattle.cps_top.proofs.top.run.Goals as goal
 
 pub returns-clause-asks : goal.returns-clause-asks
@@ -18,5 +17,5 @@ returns-clause-outcome g c = record {
   ending = c.work-ending.result;
   status_is = c.status.ensures;
   ends = c.work-ending.ensures;
-  says = said _ _ _ _ c.say.ensures;
+  says = c.say.ensures.says;
 }

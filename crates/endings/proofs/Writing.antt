@@ -1,0 +1,83 @@
+-- Several puts in a row.
+use Rattle.std.proofs.Common.{◌≡◌, refl, ℕ, ◌+◌, ◌<◌, ◌≤◌, List, [], ◌∷◌, ◌++◌, Ok, Err, Result, IsErr, inl, inr, ap, sym, ◌∙◌, subst, arith, append_assoc, append-nil, take, drop, map, length, take-append-drop}
+use Rattle.std.specs.Prelude.{get_or}
+use Rattle.std.specs.Borrow.{Bor}
+use Rattle.std.proofs.lemmas.List.{take_more, get_or-map, length-map}
+use Rattle.std.proofs.lemmas.Result.{IfErr-at_err, IfOk-at_ok}
+use Rattle.cps_outside.specs.Causes.{Rose}
+use Rattle.cps_outside.specs.SinkState.{SinkState, Grows, GrowsByPart, Writes}
+use Rattle.endings.specs.Lines.{Says, text_of}
+
+-- this was written, with no failure
+pub record Written (old new : SinkState) (text : List ℕ) : Type 0 where
+  pub tells : new.tells ≡ old.tells
+  pub faults : old.faults ≤ new.faults
+  pub grew : Grows old new text
+
+text_append : (xs ys : List (List ℕ)) → text_of (xs ++ ys) ≡ text_of xs ++ text_of ys
+text_append [] ys = refl
+text_append (x ∷ xs) ys = ap (λ t. x ++ t) (text_append xs ys) ∙ sym (append_assoc x (text_of xs) (text_of ys))
+
+text_more : (xs : List (List ℕ)) (y : List ℕ) → text_of (xs ++ y ∷ []) ≡ text_of xs ++ y
+text_more xs y = text_append xs (y ∷ []) ∙ ap (λ t. text_of xs ++ t) (append-nil y)
+
+pub written_none : (s : SinkState) → Written s s []
+written_none s = record { tells = refl; faults = omega arith; grew = λ told. sym (append-nil s.written) }
+
+-- one put more
+pub written_more : {T E : Type 0} (old mid new : SinkState) (xs ys : List (List ℕ)) (y : List ℕ) (r : Result T E) (u : T) →
+    r ≡ Ok u → ys ≡ xs ++ y ∷ [] → Written old mid (text_of xs) → Writes mid new y r → Written old new (text_of ys)
+written_more old mid new xs ys y r u is step a b =
+    let grew : Grows mid new y = IfOk-at_ok (λ _. Grows mid new y) is b.ok in
+    record {
+      tells = b.tells ∙ a.tells;
+      faults = omega (arith, a.faults, b.faults);
+      grew = λ told. grew (a.tells ∙ told) ∙ ap (λ w. w ++ y) (a.grew told) ∙ append_assoc old.written (text_of xs) y
+          ∙ ap (λ t. old.written ++ t) (sym (ap text_of step ∙ text_more xs y));
+    }
+
+-- a put that failed ends it
+pub written_part : {T E V F : Type 0} (old mid new : SinkState) (xs all rest : List (List ℕ)) (y : List ℕ) (r : Result T E) (e : E) (s : Result V F) →
+    r ≡ Err e → IsErr s → all ≡ (xs ++ y ∷ []) ++ rest → Written old mid (text_of xs) → Writes mid new y r → Writes old new (text_of all) s
+written_part old mid new xs all rest y r e (Ok v) is wrong step a b = cc
+written_part old mid new xs all rest y r e (Err f) is wrong step a b =
+    let part : GrowsByPart mid new y = IfErr-at_err (λ _. GrowsByPart mid new y) is b.part in
+    let failed : Rose mid.faults new.faults = IfErr-at_err (λ _. Rose mid.faults new.faults) is b.failed in
+    let text : text_of all ≡ (text_of xs ++ y) ++ text_of rest = ap text_of step ∙ text_append (xs ++ y ∷ []) rest ∙ ap (λ t. t ++ text_of rest) (text_more xs y) in
+    record {
+      tells = b.tells ∙ a.tells;
+      faults = omega (arith, a.faults, b.faults);
+      ok = tt;
+      failed = omega (arith, a.faults, failed);
+      part = λ told. let p = part (a.tells ∙ told) in (
+        text_of xs ++ p.0,
+        p.1 ++ text_of rest,
+        append_assoc (text_of xs) p.0 (p.1 ++ text_of rest) ∙ ap (λ l. text_of xs ++ l) (sym (append_assoc p.0 p.1 (text_of rest)) ∙ ap (λ l. l ++ text_of rest) p.2)
+            ∙ sym (append_assoc (text_of xs) y (text_of rest)) ∙ sym text,
+        p.3 ∙ ap (λ w. w ++ p.0) (a.grew told) ∙ append_assoc old.written (text_of xs) p.0,
+      );
+    }
+
+-- ---- the pieces of a slice
+
+abbrev pub bytes_of : List (Bor (List ℕ)) → List (List ℕ)
+bytes_of pieces = map (λ piece. piece.now) pieces
+
+pub next_piece : (pieces : List (Bor (List ℕ))) (i : ℕ) (d : Bor (List ℕ)) → i < length pieces →
+    take (i + 1) (bytes_of pieces) ≡ take i (bytes_of pieces) ++ (get_or pieces i d).now ∷ []
+next_piece pieces i d lt =
+    let inside : i < length (bytes_of pieces) = grind (arith, length-map) in
+    take_more (bytes_of pieces) i [] inside ∙ ap (λ n. take i (bytes_of pieces) ++ n ∷ []) (get_or-map (λ (p : Bor (List ℕ)). p.now) pieces i d [] lt)
+
+pub all_pieces : (pieces : List (Bor (List ℕ))) (i : ℕ) (d : Bor (List ℕ)) → i < length pieces →
+    bytes_of pieces ≡ (take i (bytes_of pieces) ++ (get_or pieces i d).now ∷ []) ++ drop (i + 1) (bytes_of pieces)
+all_pieces pieces i d lt = sym (take-append-drop (i + 1) (bytes_of pieces)) ∙ ap (λ l. l ++ drop (i + 1) (bytes_of pieces)) (next_piece pieces i d lt)
+
+-- the same text under another name
+pub says : {T E : Type 0} (old new : SinkState) (x y : List ℕ) (r : Result T E) → x ≡ y → Writes old new x r → Writes old new y r
+says old new x y r is w = let P : List ℕ → Type 0 = λ l. Writes old new l r in subst P is w
+
+-- what the put of an ending's line says
+pub said : {T E : Type 0} (old new : SinkState) (x : List ℕ) (r : Result T E) → Writes old new x r → Says old new x
+said old new x (Ok u) w = record { tells = w.tells; part = λ told. (x, [], append-nil x, w.ok told); whole = inl w.ok }
+said old new x (Err e) w = record { tells = w.tells; part = w.part; whole = inr w.failed }

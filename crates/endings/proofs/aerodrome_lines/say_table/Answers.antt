@@ -1,0 +1,16 @@
+use Rattle.std.proofs.Common.{◌≡◌, ℕ, List, [], ◌∷◌, ap, ap₂, sym, ◌∙◌}
+use Rattle.std.specs.Prelude.{codes}
+use Rattle.endings.specs.Lines.{text_of, letter_text, table_line}
+use Rattle.endings.proofs.Writing.{says}
+use Rattle.endings.proofs.aerodrome_lines.say_table.Goals as goal
+
+abbrev triangle : List ℕ → List ℕ → List ℕ → List ℕ
+triangle a b c = text_of (codes "cps: aerodrome: table triangle " ∷ a ∷ codes " " ∷ b ∷ codes " " ∷ c ∷ codes "\n" ∷ [])
+
+pub returns-in-Triangle : goal.returns-in-Triangle
+returns-in-Triangle g c =
+    let a : c.letter-in-Triangle.result.now ≡ letter_text c.in-Triangle.a = c.letter-in-Triangle.ensures in
+    let b : c.letter-in-Triangle-2.result.now ≡ letter_text c.in-Triangle.b = c.letter-in-Triangle-2.ensures in
+    let d : c.letter-in-Triangle-3.result.now ≡ letter_text c.in-Triangle.c = c.letter-in-Triangle-3.ensures in
+    says _ _ _ _ _ (ap (λ x. triangle x c.letter-in-Triangle-2.result.now c.letter-in-Triangle-3.result.now) a
+    ∙ ap₂ (triangle (letter_text c.in-Triangle.a)) b d ∙ ap table_line (sym c.in-Triangle.is)) c.put_all-in-Triangle.ensures

@@ -1,0 +1,4 @@
+-- How a run ends: its status and its line, how faults come to it, and what the loads of files leave.
+pub mod Faults
+pub mod Lines
+pub mod Loads

@@ -1,0 +1,179 @@
+// The lines for an aerodrome file that is none.
+ghost use Rattle.std.specs.Prelude.{◌≡◌};
+ghost use Rattle.cps_outside.specs.SinkState.{Writes};
+ghost use Rattle.endings.specs.Lines.{letter_text, key_name, key_index, key_line, unknown_line, table_line, closure_line, entry_line, aerodrome_line};
+
+use crate::lines::put_all;
+use aerodrome_file::{AeroFault, Key, KeyText, Part};
+use cps_outside::{Sink, WriteFailed};
+use itoa::Buffer;
+use landing_windows::ClosureFault;
+use wake_table::{Category, TableFault};
+
+fn letter(category: Category) -> &'static [u8]
+    ensures { result.now ≡ letter_text category }
+{
+    match category {
+        Category::A => b"A",
+        Category::B => b"B",
+        Category::C => b"C",
+        Category::D => b"D",
+        Category::E => b"E",
+        Category::F => b"F",
+    }
+}
+
+fn name(key: &Key) -> &'static [u8]
+    ensures { result.now ≡ key_name key.now }
+{
+    match key {
+        Key::Version => b"version",
+        Key::K => b"k",
+        Key::Freeze => b"freeze",
+        Key::Objective => b"objective",
+        Key::Table => b"table",
+        Key::Row(_) => b"row ",
+        Key::Closures => b"closures",
+        Key::From(_) => b"from ",
+        Key::To(_) => b"to ",
+        Key::Clock => b"clock",
+        Key::Frozen => b"frozen",
+        Key::FrozenCallsign(_) => b"callsign ",
+        Key::FrozenSecond(_) => b"second ",
+        Key::Passed => b"passed",
+        Key::PassedCallsign(_) => b"callsign ",
+        Key::PassedCount(_) => b"count ",
+    }
+}
+
+// The letter of a row, or the number of a closure or an entry.
+fn index<'a>(key: &Key, buffer: &'a mut Buffer) -> &'a [u8]
+    ensures { result.now ≡ key_index key.now }
+{
+    match key {
+        Key::Row(leader) => letter(*leader),
+        Key::From(i) => buffer.format(*i).as_bytes(),
+        Key::To(i) => buffer.format(*i).as_bytes(),
+        Key::FrozenCallsign(i) => buffer.format(*i).as_bytes(),
+        Key::FrozenSecond(i) => buffer.format(*i).as_bytes(),
+        Key::PassedCallsign(i) => buffer.format(*i).as_bytes(),
+        Key::PassedCount(i) => buffer.format(*i).as_bytes(),
+        _ => b"",
+    }
+}
+
+fn say_key<E: Sink>(err: &mut E, word: &'static [u8], key: &Key) -> Result<(), WriteFailed>
+    ensures { Writes (E.state err.old) (E.state err.new) (key_line word.now key.now) result }
+{
+    let mut buffer = Buffer::new();
+    let index = index(key, &mut buffer);
+    put_all(err, &[b"cps: aerodrome: ", word, name(key), index, b"\n"])
+}
+
+fn say_unknown<E: Sink>(err: &mut E, part: &Part, key: &KeyText) -> Result<(), WriteFailed>
+    ensures { Writes (E.state err.old) (E.state err.new) (unknown_line part.now key.now) result }
+{
+    let mut buffer = Buffer::new();
+    let key = key.bytes();
+    match part {
+        Part::Top => put_all(err, &[b"cps: aerodrome: unknown key ", key, b"\n"]),
+        Part::Table => put_all(err, &[b"cps: aerodrome: unknown key table ", key, b"\n"]),
+        Part::Closure(i) => {
+            let i = buffer.format(*i).as_bytes();
+            put_all(
+                err,
+                &[b"cps: aerodrome: unknown key closure ", i, b" ", key, b"\n"],
+            )
+        }
+        Part::Frozen(i) => {
+            let i = buffer.format(*i).as_bytes();
+            put_all(
+                err,
+                &[b"cps: aerodrome: unknown key frozen ", i, b" ", key, b"\n"],
+            )
+        }
+        Part::Passed(i) => {
+            let i = buffer.format(*i).as_bytes();
+            put_all(
+                err,
+                &[b"cps: aerodrome: unknown key passed ", i, b" ", key, b"\n"],
+            )
+        }
+    }
+}
+
+fn say_table<E: Sink>(err: &mut E, fault: &TableFault) -> Result<(), WriteFailed>
+    ensures { Writes (E.state err.old) (E.state err.new) (table_line fault.now) result }
+{
+    match fault {
+        TableFault::OutOfRange(leader, follower) => put_all(
+            err,
+            &[
+                b"cps: aerodrome: table range ",
+                letter(*leader),
+                b" ",
+                letter(*follower),
+                b"\n",
+            ],
+        ),
+        TableFault::Triangle(a, b, c) => put_all(
+            err,
+            &[
+                b"cps: aerodrome: table triangle ",
+                letter(*a),
+                b" ",
+                letter(*b),
+                b" ",
+                letter(*c),
+                b"\n",
+            ],
+        ),
+    }
+}
+
+fn say_closure<E: Sink>(err: &mut E, i: u8, fault: &ClosureFault) -> Result<(), WriteFailed>
+    ensures { Writes (E.state err.old) (E.state err.new) (closure_line i fault.now) result }
+{
+    let mut buffer = Buffer::new();
+    let i = buffer.format(i).as_bytes();
+    match fault {
+        ClosureFault::Empty => put_all(err, &[b"cps: aerodrome: closure ", i, b" empty\n"]),
+        ClosureFault::TooMany => put_all(err, &[b"cps: aerodrome: closure ", i, b" too-many\n"]),
+    }
+}
+
+// The line of an entry: its list and what is wrong with it, around its number.
+fn say_entry<E: Sink>(err: &mut E, words: &'static [u8], i: u16) -> Result<(), WriteFailed>
+    ensures { Writes (E.state err.old) (E.state err.new) (entry_line words.now i) result }
+{
+    let mut buffer = Buffer::new();
+    let i = buffer.format(i).as_bytes();
+    put_all(err, &[b"cps: aerodrome: ", words, i, b"\n"])
+}
+
+// Writes the line of a fault.
+pub(crate) fn say_aerodrome<E: Sink>(err: &mut E, fault: &AeroFault) -> Result<(), WriteFailed>
+    ensures { Writes (E.state err.old) (E.state err.new) (aerodrome_line fault.now) result }
+{
+    let mut buffer = Buffer::new();
+    match fault {
+        AeroFault::NotToml => put_all(err, &[b"cps: aerodrome: not toml\n"]),
+        AeroFault::MissingKey(key) => say_key(err, b"missing ", key),
+        AeroFault::UnknownKey(part, key) => say_unknown(err, part, key),
+        AeroFault::WrongKind(key) => say_key(err, b"kind ", key),
+        AeroFault::OutOfRange(key) => say_key(err, b"range ", key),
+        AeroFault::Table(fault) => say_table(err, fault),
+        AeroFault::Closure(i, fault) => say_closure(err, *i, fault),
+        AeroFault::FrozenTooMany => put_all(err, &[b"cps: aerodrome: frozen too-many\n"]),
+        AeroFault::FrozenNoClock => put_all(err, &[b"cps: aerodrome: frozen no-clock\n"]),
+        AeroFault::FrozenRepeat(i) => say_entry(err, b"frozen repeat ", *i),
+        AeroFault::FrozenLate(i) => say_entry(err, b"frozen late ", *i),
+        AeroFault::PassedTooMany => put_all(err, &[b"cps: aerodrome: passed too-many\n"]),
+        AeroFault::PassedRepeat(i) => say_entry(err, b"passed repeat ", u16::from(*i)),
+        AeroFault::DelayShift(k) => {
+            let k = buffer.format(*k).as_bytes();
+            put_all(err, &[b"cps: aerodrome: delay shift ", k, b"\n"])
+        }
+        AeroFault::Memory => put_all(err, &[b"cps: no memory\n"]),
+    }
+}

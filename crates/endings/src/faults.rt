@@ -1,0 +1,136 @@
+// How a run ends where a file is none, or memory runs out: each fault by itself, so that `?` passes it on.
+ghost use Rattle.std.specs.Prelude.{◌≡◌};
+
+use crate::{Ending, Refusal};
+use aerodrome_file::AeroFault;
+use audit::PlanFault;
+use certificate::CertFault;
+use event_log::{LogCause, LogFault};
+use flight_file::{FlightCause, FlightFault};
+use sequencer::BeginFault;
+use situations::OpeningFault;
+use std::alloc::AllocError;
+use whatif::{TrialCause, TrialFault};
+
+impl From<AllocError> for Ending {
+    ghost use Rattle.std.specs.Prelude.{◌≡◌};
+    ghost use Rattle.endings.specs.declared.ending.Ending.TheVariants.{NoMemory};
+
+    ghost from_gives = { λ _ ending. ending ≡ NoMemory };
+
+    fn from(_: AllocError) -> Self {
+        Ending::NoMemory
+    }
+}
+
+impl From<AeroFault> for Ending {
+    ghost use Rattle.std.specs.Prelude.{◌≡◌};
+    ghost use Rattle.endings.specs.Faults.{aerodrome_ending};
+
+    ghost from_gives = { λ fault ending. ending ≡ aerodrome_ending fault };
+
+    fn from(fault: AeroFault) -> Self {
+        match fault {
+            AeroFault::Memory => Ending::NoMemory,
+            fault => Ending::Refused(Refusal::Aerodrome(fault)),
+        }
+    }
+}
+
+impl From<FlightFault> for Ending {
+    ghost use Rattle.std.specs.Prelude.{◌≡◌};
+    ghost use Rattle.endings.specs.Faults.{flights_ending};
+
+    ghost from_gives = { λ fault ending. ending ≡ flights_ending fault };
+
+    fn from(fault: FlightFault) -> Self {
+        match fault.cause {
+            FlightCause::Memory => Ending::NoMemory,
+            _ => Ending::Refused(Refusal::Flights(fault)),
+        }
+    }
+}
+
+impl From<LogFault> for Ending {
+    ghost use Rattle.std.specs.Prelude.{◌≡◌};
+    ghost use Rattle.endings.specs.Faults.{events_ending};
+
+    ghost from_gives = { λ fault ending. ending ≡ events_ending fault };
+
+    fn from(fault: LogFault) -> Self {
+        match fault.cause {
+            LogCause::Memory => Ending::NoMemory,
+            _ => Ending::Refused(Refusal::Events(fault)),
+        }
+    }
+}
+
+impl From<CertFault> for Ending {
+    ghost use Rattle.std.specs.Prelude.{◌≡◌};
+    ghost use Rattle.endings.specs.Faults.{certificate_ending};
+
+    ghost from_gives = { λ fault ending. ending ≡ certificate_ending fault };
+
+    fn from(fault: CertFault) -> Self {
+        match fault {
+            CertFault::Memory => Ending::NoMemory,
+            fault => Ending::Refused(Refusal::Certificate(fault)),
+        }
+    }
+}
+
+impl From<TrialFault> for Ending {
+    ghost use Rattle.std.specs.Prelude.{◌≡◌};
+    ghost use Rattle.endings.specs.Faults.{trials_ending};
+
+    ghost from_gives = { λ fault ending. ending ≡ trials_ending fault };
+
+    fn from(fault: TrialFault) -> Self {
+        match fault.cause {
+            TrialCause::Memory => Ending::NoMemory,
+            _ => Ending::Refused(Refusal::Trials(fault)),
+        }
+    }
+}
+
+impl From<PlanFault> for Ending {
+    ghost use Rattle.std.specs.Prelude.{◌≡◌};
+    ghost use Rattle.endings.specs.Faults.{plan_ending};
+
+    ghost from_gives = { λ fault ending. ending ≡ plan_ending fault };
+
+    fn from(fault: PlanFault) -> Self {
+        match fault {
+            PlanFault::Memory => Ending::NoMemory,
+            fault => Ending::Refused(Refusal::Plan(fault)),
+        }
+    }
+}
+
+impl From<BeginFault> for Ending {
+    ghost use Rattle.std.specs.Prelude.{◌≡◌};
+    ghost use Rattle.endings.specs.Faults.{begin_ending};
+
+    ghost from_gives = { λ fault ending. ending ≡ begin_ending fault };
+
+    fn from(fault: BeginFault) -> Self {
+        match fault {
+            BeginFault::UnknownFrozen(i) => refused(OpeningFault::UnknownFrozen(i)),
+            BeginFault::UnknownPassed(i) => refused(OpeningFault::UnknownPassed(i)),
+            BeginFault::TooManyWaiting(n) => refused(OpeningFault::TooManyWaiting(n)),
+            BeginFault::FrozenClosed(i) => refused(OpeningFault::FrozenClosed(i)),
+            BeginFault::FrozenSeparation(i, j) => refused(OpeningFault::FrozenSeparation(i, j)),
+            BeginFault::FrozenPrecedence(i, callsign) => {
+                refused(OpeningFault::FrozenPrecedence(i, callsign))
+            }
+            BeginFault::Memory => Ending::NoMemory,
+        }
+    }
+}
+
+// The ending of an opening that is refused.
+fn refused(fault: OpeningFault) -> Ending
+    ensures { result ≡ Ending.Refused (Refusal.Opening fault) }
+{
+    Ending::Refused(Refusal::Opening(fault))
+}

@@ -1,0 +1,84 @@
+// The statuses and the lines on the standard error. A line is written piece by piece and takes no memory.
+ghost use Rattle.std.specs.Prelude.{◌≡◌, ◌<◌, map, decimal, codes};
+ghost use Rattle.cps_outside.specs.SinkState.{Writes};
+ghost use Rattle.endings.specs.Lines.{Says, status_of, line_of, text_of, refusal_line};
+
+use crate::aerodrome_lines::say_aerodrome;
+use crate::certificate_lines::say_certificate;
+use crate::event_lines::say_events;
+use crate::flight_lines::say_flights;
+use crate::opening_lines::say_opening;
+use crate::plan_lines::say_plan;
+use crate::trial_lines::say_trials;
+use crate::{Answer, Ending, Refusal};
+use cps_outside::{Sink, WriteFailed};
+use itoa::Buffer;
+
+/// The status of an ending, 0 to 8.
+pub fn status(ending: &Ending) -> u8
+    ensures { result ≡ status_of ending.now }
+{
+    match ending {
+        Ending::Answered(Answer::Scheduled | Answer::Certified | Answer::Accepted) => 0,
+        Ending::Answered(Answer::Tried | Answer::Clean) => 0,
+        Ending::Answered(Answer::Infeasible | Answer::Claimed) => 1,
+        Ending::Answered(Answer::Rejected | Answer::Broken) => 7,
+        Ending::Misused => 2,
+        Ending::Refused(_) => 3,
+        Ending::NotLoaded(_) => 4,
+        Ending::NotWritten => 5,
+        Ending::TooLong(_) => 6,
+        Ending::NoMemory => 8,
+    }
+}
+
+// Puts the pieces in their order. The first put that fails is the last.
+pub(crate) fn put_all<E: Sink>(err: &mut E, pieces: &[&[u8]]) -> Result<(), WriteFailed>
+    ensures { Writes (E.state err.old) (E.state err.new)
+        (text_of (map (λ piece. piece.now) pieces.now)) result }
+{
+    for piece in pieces {
+        err.put(piece)?;
+    }
+    Ok(())
+}
+
+fn say_refusal<E: Sink>(err: &mut E, refusal: &Refusal) -> Result<(), WriteFailed>
+    ensures { Writes (E.state err.old) (E.state err.new) (refusal_line refusal.now) result }
+{
+    match refusal {
+        Refusal::Aerodrome(fault) => say_aerodrome(err, fault),
+        Refusal::Flights(fault) => say_flights(err, fault),
+        Refusal::Events(fault) => say_events(err, fault),
+        Refusal::Certificate(fault) => say_certificate(err, fault),
+        Refusal::Opening(fault) => say_opening(err, fault),
+        Refusal::Trials(fault) => say_trials(err, fault),
+        Refusal::Plan(fault) => say_plan(err, fault),
+    }
+}
+
+/// Writes the line of an ending; that of an answer is empty.
+#[tactic(auto, using(crate::proofs::Writing::said))]
+pub fn say<E: Sink>(err: &mut E, ending: &Ending) -> Result<(), WriteFailed>
+    ensures writes { Writes (E.state err.old) (E.state err.new) (line_of ending.now) result }
+
+    // What a caller knows that lets the result go.
+    ensures says { Says (E.state err.old) (E.state err.new) (line_of ending.now) }
+{
+    let mut buffer = Buffer::new();
+    match ending {
+        Ending::Answered(_) => Ok(()),
+        Ending::Misused => put_all(err, &[b"cps: usage\n"]),
+        Ending::Refused(refusal) => say_refusal(err, refusal),
+        Ending::NotLoaded(place) => {
+            let place = buffer.format(*place).as_bytes();
+            put_all(err, &[b"cps: file ", place, b": failed\n"])
+        }
+        Ending::NotWritten => put_all(err, &[b"cps: write failed\n"]),
+        Ending::TooLong(place) => {
+            let place = buffer.format(*place).as_bytes();
+            put_all(err, &[b"cps: file ", place, b": too long\n"])
+        }
+        Ending::NoMemory => put_all(err, &[b"cps: no memory\n"]),
+    }
+}
