@@ -1,0 +1,16 @@
+use Rattle.std.proofs.Common.{List, [], ◌∷◌, ◌-◌, length, map, take, drop, sym, ap}
+use Rattle.sequencer.specs.Shown.{shown_of}
+use Rattle.sequencer.specs.declared.plan.Landing.{Landing}
+use Rattle.chart.specs.Rows.{Row, landed_row}
+use Rattle.chart.proofs.Steps.{loop_step, tail_read}
+use Rattle.chart.proofs.rows.add_landed.Goals as goal
+
+pub loop-rest-preserved : goal.loop-rest-preserved
+loop-rest-preserved c =
+    let rest = c.loop-rest.rest.now in
+    let tail = take (length rest - 1) (drop 1 rest) in
+    let active = map (λ a. a.now) c.args.active.now in
+    let each : List Landing → List Row = λ ls. map (landed_row active) (map shown_of ls) in
+    loop_step each each rest tail c.line-item.result c.loop-rest.all.items (c.in_ok-row.row ∷ []) c.push.new.self.items _
+    (tail_read rest c.line-item.result c.in-len1-up.len_at_least c.line-item.is) c.in_ok-push.ensures.items
+    (ap (λ (r : Row). r ∷ each tail) (sym c.in_ok-row.ensures)) c.loop-rest.invariant

@@ -1,0 +1,109 @@
+// Which seconds a picture shows.
+ghost use Rattle.std.specs.Prelude.{◌≡◌, ◌≤◌, ◌<◌, ◌^◌, option_map};
+ghost use Rattle.landing_rules.specs.Text.{ShownLanding};
+ghost use Rattle.sequencer.specs.Shown.{shown_of};
+ghost use Rattle.chart.specs.Frames.{empty, first_of, frame_of, span_of, widened, with_active, with_horizon, with_landing, with_row, with_rows, with_windows};
+
+use crate::row::Row;
+use sequencer::Landing;
+use situations::Active;
+
+// From a first second to a last one.
+#[derive(Clone, Copy)]
+pub struct Frame {
+    pub first: u32,
+    pub last: u32,
+}
+
+// Widened, where need be, to hold the second.
+fn widened(frame: Frame, second: u32) -> Frame
+    ensures { result ≡ widened frame second }
+{
+    Frame {
+        first: frame.first.min(second),
+        last: frame.last.max(second),
+    }
+}
+
+fn with_landing(frame: Frame, landing: &Option<Landing>) -> Frame
+    ensures { result ≡ with_landing frame (option_map shown_of landing.now) }
+{
+    match landing {
+        None => frame,
+        Some(landing) => widened(frame, landing.second),
+    }
+}
+
+fn with_windows(narrow: Frame, windows: &[(u32, u32)]) -> Frame
+    ensures { result ≡ with_windows narrow windows.now }
+{
+    let mut frame = narrow;
+    let mut rest = windows;
+    while let [(first, last), after @ ..] = rest {
+        frame = widened(widened(frame, *first), *last);
+        rest = after;
+    }
+    frame
+}
+
+fn with_active(frame: Frame, active: &Option<Active>) -> Frame
+    ensures { result ≡ with_active frame active.now }
+{
+    match active {
+        None => frame,
+        Some(active) => with_windows(
+            widened(frame, active.flight.eta),
+            active.flight.windows.spans(),
+        ),
+    }
+}
+
+fn with_row(frame: Frame, row: &Row) -> Frame
+    ensures { result ≡ with_row frame row.now }
+{
+    with_active(with_landing(frame, &row.landing), &row.active)
+}
+
+fn with_rows(narrow: Frame, rows: &[Row]) -> Frame
+    ensures { result ≡ with_rows narrow rows.now }
+{
+    let mut frame = narrow;
+    let mut rest = rows;
+    while let [row, after @ ..] = rest {
+        frame = with_row(frame, row);
+        rest = after;
+    }
+    frame
+}
+
+// From the first to the last second of all rows and the horizon.
+pub(crate) fn frame_of(horizon: u32, rows: &[Row]) -> Frame
+    ensures { result ≡ frame_of horizon rows.now }
+{
+    let frame = with_rows(
+        Frame {
+            first: 172_800,
+            last: 0,
+        },
+        rows,
+    );
+    if horizon == 0 {
+        return frame;
+    }
+    widened(frame, horizon)
+}
+
+// The seconds from side to side, a minute at least.
+pub(crate) fn span_of(frame: Frame) -> u64
+    ensures value { result ≡ span_of frame }
+    ensures some { 1 ≤ result }
+{
+    u64::from(frame.last.saturating_sub(frame.first).max(60))
+}
+
+// The first second.
+pub(crate) fn first_of(frame: Frame) -> u32
+    ensures { result ≡ first_of frame }
+{
+    frame.first.min(frame.last)
+}

@@ -1,0 +1,43 @@
+-- The text of a picture of a plan is that of the plan.
+use Rattle.std.proofs.Common.{◌≡◌, ℕ, List, [], ◌∷◌, ◌++◌, sym, ap, subst, ◌∙◌}
+use Rattle.std.specs.Prelude.{Option, Result, Ok, Err, MatchResult}
+use Rattle.cps_outside.specs.declared.sinks.WriteFailed.{WriteFailed}
+use Rattle.cps_outside.specs.SinkState.{SinkState, Writes}
+use Rattle.aerodrome_file.specs.declared.aerodrome.Aerodrome.{Aerodrome}
+use Rattle.aerodrome_file.specs.Reading.{aerodrome_of}
+use Rattle.flight_file.specs.declared.flight.Flight.{Flight}
+use Rattle.flight_file.specs.Reading.{flights_of}
+use Rattle.audit.specs.Reading.{plan_of}
+use Rattle.endings.specs.declared.ending.Ending.{Ending}
+use Rattle.landing_rules.specs.Flights.{Situation}
+use Rattle.landing_rules.specs.Audit.{Finding}
+use Rattle.audit.specs.declared.plan.PlanText.{PlanText}
+use Rattle.chart.specs.declared.element.Element.{Element}
+use Rattle.chart.specs.Pictures.{elements_of, found_of}
+use Rattle.chart.specs.Texts.{picture_text}
+use Rattle.chart_main.specs.Drawings.{AreDrawn, IsDrawn, StopsBy, StopsFiles, StopsOpened, chart_text, undrawn_by, unopened_by}
+use Rattle.chart_main.specs.Outcomes.{Draws, Follows, done_by}
+
+pub text_of : (s seen : Situation) (plan : PlanText) (elements : List Element) (found : Option (List Finding)) (old text : List ℕ) →
+    old ≡ [] → text ≡ old ++ picture_text elements found → elements ≡ elements_of seen plan → found ≡ found_of seen plan → seen ≡ s → text ≡ chart_text s plan
+text_of s seen plan elements found old text none e a b same =
+    e ∙ ap (λ (o : List ℕ). o ++ picture_text elements found) none ∙ ap (λ (es : List Element). picture_text es found) a
+    ∙ ap (picture_text (elements_of seen plan)) b ∙ ap (λ (t : Situation). chart_text t plan) same
+
+-- what is drawn over files that read is drawn over their bytes
+pub files_drawn : {X : Type 0} (items : X → List ℕ) (a f p : List ℕ) (aerodrome : Aerodrome) (flights : List Flight) (plan : PlanText) →
+    aerodrome_of a ≡ Ok aerodrome → flights_of f ≡ Ok flights → plan_of p ≡ Ok plan → (r : Result X Ending) →
+    MatchResult r (λ text. IsDrawn aerodrome flights plan (items text)) (StopsOpened aerodrome flights) →
+    MatchResult r (λ text. AreDrawn a f p (items text)) (StopsFiles a f p)
+files_drawn items a f p aerodrome flights plan x y z (Ok text) h =
+    record { aerodrome = aerodrome; flights = flights; plan = plan; aerodrome_read = x; flights_read = y; plan_read = z; drawn = h }
+files_drawn items a f p aerodrome flights plan x y z (Err ending) h = subst (λ cause. StopsBy cause ending) (sym same) h
+  where
+    same : undrawn_by (aerodrome_of a) (flights_of f) (plan_of p) ≡ unopened_by aerodrome flights
+    same = ap (λ r. undrawn_by r (flights_of f) (plan_of p)) x ∙ ap (λ r. undrawn_by (Ok aerodrome) r (plan_of p)) y ∙ ap (λ r. undrawn_by (Ok aerodrome) (Ok flights) r) z
+
+-- a put of what is drawn
+pub put_follows : (a f p text : List ℕ) (old new : SinkState) (r : Result (Unit {0}) WriteFailed) → AreDrawn a f p text → Writes old new text r →
+    Follows (a ∷ f ∷ p ∷ []) old new (done_by r)
+put_follows a f p text old new (Ok done) d w = record { text = text; drawn = d; grew = w.ok }
+put_follows a f p text old new (Err fault) d w = record { text = text; drawn = d; grew = w.part; failed = w.failed }

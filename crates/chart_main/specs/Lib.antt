@@ -1,0 +1,3 @@
+-- What the program draws, and how it may end.
+pub mod Drawings
+pub mod Outcomes

@@ -1,0 +1,81 @@
+// The picture of three files.
+ghost use Rattle.std.specs.Prelude.{◌≡◌, ◌∷◌, [], MatchResult};
+ghost use Rattle.aerodrome_file.specs.Reading.{IsInRange};
+ghost use Rattle.flight_file.specs.OfFile.{CanBeRead};
+ghost use Rattle.audit.specs.Reading.{HasFewLines};
+ghost use Rattle.chart_main.specs.Drawings.{AreDrawn, IsDrawn, StopsFiles, StopsOpened};
+ghost use Rattle.chart_main.specs.Outcomes.{Follows, done_by};
+
+use aerodrome_file::{Aerodrome, read_aerodrome};
+use audit::{PlanText, read_plan};
+use chart::{append_picture, picture};
+use cps_outside::{Sink, WriteFailed};
+use endings::Ending;
+use flight_file::{Flight, read_flights};
+use sequencer::opening;
+use std::alloc::Global;
+
+// The picture of a plan in the opening situation of files that are read.
+fn draw_opened(
+    alloc: Global,
+    aerodrome: Aerodrome,
+    flights: Vec<Flight>,
+    plan: &PlanText,
+) -> Result<Vec<u8>, Ending>
+    requires range { IsInRange aerodrome }
+    requires read { CanBeRead flights.items }
+    requires few { HasFewLines plan.now }
+    ensures { MatchResult result (λ text. IsDrawn aerodrome flights.items plan.now text.items)
+        (StopsOpened aerodrome flights.items) }
+{
+    let situation = opening(alloc, aerodrome, flights)?;
+    let drawn = picture(alloc, &situation, plan)?;
+    let mut text = Vec::new(alloc);
+    append_picture(&drawn, &mut text)?;
+    Ok(text)
+}
+
+// The same for the bytes of the files.
+fn draw_files(
+    alloc: Global,
+    aerodrome: &[u8],
+    flights: &[u8],
+    plan: &[u8],
+) -> Result<Vec<u8>, Ending>
+    ensures { MatchResult result (λ text. AreDrawn aerodrome.now flights.now plan.now text.items)
+        (StopsFiles aerodrome.now flights.now plan.now) }
+{
+    let aerodrome = read_aerodrome(alloc, aerodrome)?;
+    let flights = read_flights(alloc, flights)?;
+    let plan = read_plan(alloc, plan)?;
+    draw_opened(alloc, aerodrome, flights, &plan)
+}
+
+// What comes of a put.
+fn written(outcome: Result<(), WriteFailed>) -> Result<(), Ending>
+    ensures { result ≡ done_by outcome }
+{
+    match outcome {
+        Ok(()) => Ok(()),
+        Err(_) => Err(Ending::NotWritten),
+    }
+}
+
+// Writes the picture of the files.
+pub(crate) fn put_picture<S: Sink>(
+    alloc: Global,
+    aerodrome: &[u8],
+    flights: &[u8],
+    plan: &[u8],
+    out: &mut S,
+) -> Result<(), Ending>
+    ensures { Follows (aerodrome.now ∷ flights.now ∷ plan.now ∷ [])
+        (S.state out.old) (S.state out.new) result }
+{
+    let text = match draw_files(alloc, aerodrome, flights, plan) {
+        Ok(text) => text,
+        Err(ending) => return Err(ending),
+    };
+    let outcome = out.put(text.as_slice());
+    written(outcome)
+}
