@@ -25,7 +25,8 @@ pub(crate) fn add_closures(
     closures: &Closures,
 ) -> Result<(), AllocError>
     requires { 1 ≤ span }
-    ensures { OnOk result (all.new.items ≡ all.old.items ++ closures_drawn span count closures.now) }
+    ensures { OnOk result (all.new.items ≡ all.old.items ++ closures_drawn span count
+        closures.now) }
 {
     for i in 0..closures.len() {
         let closure = closures.pair(i);

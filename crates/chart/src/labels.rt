@@ -86,7 +86,8 @@ pub(crate) fn add_labels(
     requires active { length active.now ≤ 500 }
     requires rows { length rows.now ≤ 1000 }
     ensures { OnOk result (all.new.items ≡ all.old.items
-        ++ labels_drawn (map (λ a. a.now) active.now) rows.now lines.now (map finding_of found.now) 0 rows.now) }
+        ++ labels_drawn (map (λ a. a.now) active.now) rows.now lines.now
+        (map finding_of found.now) 0 rows.now) }
 {
     let mut n: u32 = 0;
     let mut rest = rows;

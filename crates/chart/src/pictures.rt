@@ -144,7 +144,8 @@ fn picture_block(alloc: Global, situation: &Situation, block: &Block) -> Result<
 pub fn picture(alloc: Global, situation: &Situation, plan: &PlanText) -> Result<Picture, AllocError>
     requires sound { IsSound situation.now }
     requires few { HasFewLines plan.now }
-    ensures elements { IfOk result (λ picture. picture.elements.items ≡ elements_of situation.now plan.now) }
+    ensures elements { IfOk result (λ picture. picture.elements.items ≡ elements_of situation.now
+        plan.now) }
     ensures found { IfOk result (λ picture. found_in picture ≡ found_of situation.now plan.now) }
 {
     match plan {

@@ -21,5 +21,10 @@ impl Model for Row {
 
     ghost Value = { picture.Row };
 
-    ghost view = { λ r. record { callsign = r.callsign; active = r.active; landing = option_map shown_of r.landing } };
+    ghost view = { λ r. record {
+      callsign = r.callsign;
+      active = r.active;
+      landing = option_map
+          shown_of r.landing;
+    } };
 }

@@ -38,7 +38,8 @@ fn find_active(active: &[&Active], callsign: Callsign) -> Result<Option<Active>,
 
 // The row of a line.
 fn landed_row(active: &[&Active], line: &Landing) -> Result<Row, AllocError>
-    ensures { IfOk result (λ row. row ≡ landed_row (map (λ a. a.now) active.now) (shown_of line.now)) }
+    ensures { IfOk result (λ row. row ≡ landed_row (map (λ a. a.now) active.now) (shown_of
+        line.now)) }
 {
     let found = find_active(active, line.callsign)?;
     Ok(Row {

@@ -83,7 +83,8 @@ fn add_delay(
 
 // The seconds that a follower is owed behind a leader.
 fn apart(table: &PairTable, leader: &Active, follower: &Active) -> u64
-    ensures value { result ≡ separation table.now leader.now.flight.category follower.now.flight.category }
+    ensures value { result ≡ separation table.now leader.now.flight.category
+        follower.now.flight.category }
     ensures near { result ≤ 600 }
 {
     u64::from(table.sep(leader.flight.category, follower.flight.category))

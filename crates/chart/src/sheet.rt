@@ -108,7 +108,8 @@ pub(crate) fn append_title(
     value: u64,
     into: &mut Vec<u8>,
 ) -> Result<(), AllocError>
-    ensures { OnOk result (into.new.items ≡ into.old.items ++ titled (head_words objective value)) }
+    ensures { OnOk result (into.new.items ≡ into.old.items ++ titled (head_words objective
+        value)) }
 {
     let mut digits = Buffer::new();
     let mut words = Vec::from_slice(*into.allocator(), objective_word(objective))?;
@@ -157,7 +158,8 @@ pub(crate) fn append_below(rows: u32, into: &mut Vec<u8>) -> Result<(), AllocErr
 
 // A finding.
 pub(crate) fn append_listed(finding: &Finding, into: &mut Vec<u8>) -> Result<(), AllocError>
-    ensures { OnOk result (into.new.items ≡ into.old.items ++ listed_text (finding_of finding.now)) }
+    ensures { OnOk result (into.new.items ≡ into.old.items ++ listed_text (finding_of
+        finding.now)) }
 {
     into.extend_from_slice(b"<tspan class='x' x='8' dy='18'>")?;
     append_findings(&[*finding], into)?;

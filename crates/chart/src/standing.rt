@@ -15,7 +15,8 @@ use situations::Active;
 
 // Whether the flight waits and comes before another, first come, first served.
 fn waits_ahead(active: &Active, of: &Active) -> bool
-    ensures { result ≡ (is_waiting active.now && is_lt (arrival_cmp active.now.flight of.now.flight)) }
+    ensures { result ≡ (is_waiting active.now && is_lt
+        (arrival_cmp active.now.flight of.now.flight)) }
 {
     let first = &active.flight;
     let second = &of.flight;

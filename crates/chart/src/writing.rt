@@ -45,7 +45,8 @@ pub(crate) fn append_bottom(
     rows: u32,
     into: &mut Vec<u8>,
 ) -> Result<(), AllocError>
-    ensures { OnOk result (into.new.items ≡ into.old.items ++ (text.now ++ decimal (bottom_of rows))) }
+    ensures { OnOk result (into.new.items ≡ into.old.items ++ (text.now ++ decimal
+        (bottom_of rows))) }
 {
     append_numbered(text, bottom_of(rows), into)
 }
@@ -94,7 +95,8 @@ fn append_bar_head(
     callsign: &Callsign,
     into: &mut Vec<u8>,
 ) -> Result<(), AllocError>
-    ensures { OnOk result (into.new.items ≡ into.old.items ++ bar_head class.now y from to callsign.now) }
+    ensures { OnOk result (into.new.items ≡ into.old.items ++ bar_head class.now y from to
+        callsign.now) }
 {
     let mut left = Buffer::new();
     let mut middle = Buffer::new();
@@ -124,7 +126,8 @@ pub(crate) fn append_bar(
     to: &Spot,
     into: &mut Vec<u8>,
 ) -> Result<(), AllocError>
-    ensures { OnOk result (into.new.items ≡ into.old.items ++ bar_text class.now y callsign.now from.now to.now) }
+    ensures { OnOk result (into.new.items ≡ into.old.items ++ bar_text class.now y callsign.now
+        from.now to.now) }
 {
     append_bar_head(class, y, from.x, to.x, callsign, into)?;
     append_moment(from.second, into)?;
@@ -143,7 +146,8 @@ fn append_pin_head(
     callsign: &Callsign,
     into: &mut Vec<u8>,
 ) -> Result<(), AllocError>
-    ensures { OnOk result (into.new.items ≡ into.old.items ++ pin_head class.now form.now row x callsign.now) }
+    ensures { OnOk result (into.new.items ≡ into.old.items ++ pin_head class.now form.now row x
+        callsign.now) }
 {
     let mut left = Buffer::new();
     let mut middle = Buffer::new();
@@ -171,7 +175,8 @@ pub(crate) fn append_pin(
     at: &Spot,
     into: &mut Vec<u8>,
 ) -> Result<(), AllocError>
-    ensures { OnOk result (into.new.items ≡ into.old.items ++ pin_text class.now form.now row callsign.now at.now) }
+    ensures { OnOk result (into.new.items ≡ into.old.items ++ pin_text class.now form.now row
+        callsign.now at.now) }
 {
     append_pin_head(class, form, row, at.x, callsign, into)?;
     append_moment(at.second, into)?;
@@ -230,7 +235,8 @@ pub(crate) fn append_mark(
     look: &Look,
     into: &mut Vec<u8>,
 ) -> Result<(), AllocError>
-    ensures { OnOk result (into.new.items ≡ into.old.items ++ mark_text row callsign.now at.now look.now) }
+    ensures { OnOk result (into.new.items ≡ into.old.items ++ mark_text row callsign.now at.now
+        look.now) }
 {
     let class = mark_class(look.frozen);
     append_pin(class, mark_form(look.frozen), row, callsign, at, into)?;
