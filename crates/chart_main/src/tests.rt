@@ -59,7 +59,7 @@ const DRAWINGS: [Drawing; 8] = [
         pieces: &[
             "<title>delay 170</title>",
             "<text x='8' y='40'>horizon 1050 00:17:30</text>\n",
-            "<text y='76'><tspan x='8'>A1</tspan><tspan x='74'>A</tspan></text>",
+            "<text class='x' y='76'><tspan x='8'>A1</tspan><tspan x='74'>A</tspan></text>",
             "<text class='x' y='94'><tspan x='8'>F1</tspan><tspan x='74'>F</tspan><tspan x='99'>1</tspan><tspan x='131'>1</tspan>",
             "<path class='c' d='M1288 60H1379V102H1288z'><title>closed 1400 00:23:20 1499 00:24:59</title></path>\n",
             "<path class='h' d='M966 60V102'><title>horizon 1050 00:17:30</title></path>\n",
@@ -89,7 +89,7 @@ const DRAWINGS: [Drawing; 8] = [
         plan: "makespan 0\nland ZZ9 1000 waiting\nland A1 1000 waiting\n",
         status: 0,
         pieces: &[
-            "<text class='x' y='76'><tspan x='8'>A1</tspan>",
+            "<text y='76'><tspan x='8'>A1</tspan>",
             "<text class='x' y='94'><tspan x='8'>ZZ9</tspan></text>",
             "<text class='x' y='112'><tspan x='8'>F1</tspan><tspan x='74'>F</tspan><tspan x='99'>2</tspan></text>",
             "<path class='m' d='M920 90m-5 0a5 5 0 1 0 10 0a5 5 0 1 0-10 0z'><title>ZZ9 1000 00:16:40</title></path>\n<path class='x' d='M920 90m-8-8h16v16h-16z'/>\n",
