@@ -43,7 +43,7 @@ run_sources() {
         echo "cps: the sources gave no answer; ./build proves and builds the program" >&2
         exit 9
     fi
-    grep -v -e '^run=' -e '^checked: ' <<<"$lines" >&2
+    grep -v -e '^run=' -e '^checked: ' -e '^races: ' <<<"$lines" >&2
 }
 
 if is_built; then
