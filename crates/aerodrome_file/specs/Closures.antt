@@ -1,6 +1,8 @@
 -- The closures in the file.
 use Rattle.std.specs.Prelude.{ℕ, List, [], ◌∷◌, suc, Bool, true, false, not, ◌+◌, nat_le, nat_lt, codes, Option, Some, None, Result, Ok, Err, if◌then◌else◌}
 use Rattle.toml.specs.Data.{Data, array, table, Items, no_items, item, Members, get_member}
+use Rattle.landing_rules.specs.Limits.{most_closures}
+use Rattle.landing_rules.specs.Rules.{last_second}
 use Rattle.landing_windows.specs.declared.closures.ClosureFault.TheVariants as closure
 use Rattle.aerodrome_file.specs.declared.fault.AeroFault.{AeroFault}
 use Rattle.aerodrome_file.specs.declared.fault.AeroFault.TheVariants as fault
@@ -24,8 +26,8 @@ closure_in i ms = do
   to ← present (key.To i) (get_member (codes "to") ms)
   first ← integer_of (key.From i) from
   last ← integer_of (key.To i) to
-  first ← at_most (key.From i) 172799 first
-  last ← at_most (key.To i) 172800 last
+  first ← at_most (key.From i) last_second first
+  last ← at_most (key.To i) (last_second + 1) last
   Ok (first, last)
 
 -- the closure that a value is
@@ -52,6 +54,6 @@ unfoldable pub closures_in : Option Data → Result (List (ℕ × ℕ)) AeroFaul
 closures_in None = Ok []
 closures_in (Some (array ds)) =
     if not (are_tables ds) then Err (fault.WrongKind key.Closures)
-    else if nat_lt 32 (items_length ds) then Err (fault.Closure 33 closure.TooMany)
+    else if nat_lt most_closures (items_length ds) then Err (fault.Closure (most_closures + 1) closure.TooMany)
     else closures_from 1 ds
 closures_in (Some d) = Err (fault.WrongKind key.Closures)

@@ -2,6 +2,8 @@
 use Rattle.std.specs.Prelude.{◌≡◌, ◌≢◌, ◌≤◌, ◌<◌, ℕ, List, [], ◌∷◌, ◌++◌, Bool, not, ◌+◌, ◌==◌, nat_le, nat_lt, length, codes, bytes_eq, Option, Some, None, Result, Ok, Err, All, AllPairs, if◌then◌else◌}
 use Rattle.std.specs.List.{list_any}
 use Rattle.toml.specs.Data.{Data, array, table, Items, no_items, item, Members, get_member}
+use Rattle.landing_rules.specs.Limits.{most_flights}
+use Rattle.landing_rules.specs.Rules.{last_second}
 use Rattle.aerodrome_file.specs.declared.frozen_list.FrozenLanding.{FrozenLanding}
 use Rattle.aerodrome_file.specs.declared.fault.AeroFault.{AeroFault}
 use Rattle.aerodrome_file.specs.declared.fault.AeroFault.TheVariants as fault
@@ -17,7 +19,7 @@ unfoldable pub clock_in : Option Data → Result (Option ℕ) AeroFault
 clock_in None = Ok None
 clock_in (Some d) = do
   number ← integer_of key.Clock d
-  now ← at_most key.Clock 172799 number
+  now ← at_most key.Clock last_second number
   Ok (Some now)
 
 -- a landing before has this callsign
@@ -37,7 +39,7 @@ frozen_entry i clock freeze before ms = do
   text ← string_of (key.FrozenCallsign i) callsign
   number ← integer_of (key.FrozenSecond i) second
   name ← callsign_at (key.FrozenCallsign i) text
-  at ← at_most (key.FrozenSecond i) 172799 number
+  at ← at_most (key.FrozenSecond i) last_second number
   if has_frozen before name then Err (fault.FrozenRepeat i)
       else if is_late clock freeze at then Err (fault.FrozenLate i)
       else Ok (record { callsign = name; second = at })
@@ -64,19 +66,19 @@ unfoldable pub frozen_in : Option ℕ → ℕ → Option Data → Result (List F
 frozen_in clock freeze None = Ok []
 frozen_in clock freeze (Some (array ds)) =
     if not (are_tables ds) then Err (fault.WrongKind key.Frozen)
-    else if nat_lt 500 (items_length ds) then Err fault.FrozenTooMany
+    else if nat_lt most_flights (items_length ds) then Err fault.FrozenTooMany
     else if items_length ds == 0 then Ok []
     else frozen_after clock freeze ds
 frozen_in clock freeze (Some d) = Err (fault.WrongKind key.Frozen)
 
 -- a second of the two days, before the clock second plus freeze
 pub record IsFrozen (clock freeze : ℕ) (f : FrozenLanding) : Type 0 where
-  pub range : f.second ≤ 172799
+  pub range : f.second ≤ last_second
   pub early : f.second < clock + freeze
 
 -- at most 500 of these, with different callsigns
 pub record AreFrozen (clock freeze : ℕ) (fs : List FrozenLanding) : Type 0 where
-  pub few : length fs ≤ 500
+  pub few : length fs ≤ most_flights
   pub seconds : All (IsFrozen clock freeze) fs
   pub callsigns : AllPairs (λ f later. f.callsign ≢ later.callsign) fs
 
@@ -88,4 +90,4 @@ AreFrozenBy (Some now) freeze fs = AreFrozen now freeze fs
 -- a second of the two days, or none
 abbrev pub IsClock : Option ℕ → Type 0
 IsClock None = Unit {0}
-IsClock (Some now) = now ≤ 172799
+IsClock (Some now) = now ≤ last_second

@@ -2,6 +2,7 @@
 use Rattle.std.specs.Prelude.{◌≢◌, ◌≤◌, ℕ, List, [], ◌∷◌, ◌++◌, Bool, not, ◌+◌, nat_lt, length, codes, bytes_eq, Option, Some, None, Result, Ok, Err, All, AllPairs, if◌then◌else◌}
 use Rattle.std.specs.List.{list_any}
 use Rattle.toml.specs.Data.{Data, array, table, Items, no_items, item, Members, get_member}
+use Rattle.landing_rules.specs.Limits.{most_waiting}
 use Rattle.aerodrome_file.specs.declared.passed_list.PassedCount.{PassedCount}
 use Rattle.aerodrome_file.specs.declared.fault.AeroFault.{AeroFault}
 use Rattle.aerodrome_file.specs.declared.fault.AeroFault.TheVariants as fault
@@ -46,12 +47,12 @@ unfoldable pub passed_in : ℕ → Option Data → Result (List PassedCount) Aer
 passed_in k None = Ok []
 passed_in k (Some (array ds)) =
     if not (are_tables ds) then Err (fault.WrongKind key.Passed)
-    else if nat_lt 60 (items_length ds) then Err fault.PassedTooMany
+    else if nat_lt most_waiting (items_length ds) then Err fault.PassedTooMany
     else passed_from 1 k [] ds
 passed_in k (Some d) = Err (fault.WrongKind key.Passed)
 
 -- at most 60 counts from 1 to k, of different callsigns
 pub record ArePassed (k : ℕ) (ps : List PassedCount) : Type 0 where
-  pub few : length ps ≤ 60
+  pub few : length ps ≤ most_waiting
   pub counts : All (λ p. (1 ≤ p.count) × (p.count ≤ k)) ps
   pub callsigns : AllPairs (λ p later. p.callsign ≢ later.callsign) ps

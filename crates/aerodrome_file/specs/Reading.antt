@@ -3,6 +3,7 @@ use Rattle.std.specs.Prelude.{◌≡◌, ◌≤◌, ◌<◌, ℕ, List, [], Bool
 use Rattle.std.specs.Str.Lossy.{utf8_valid_len}
 use Rattle.toml.specs.Data.{Data, string, Members, get_member}
 use Rattle.toml.specs.Parse.{parse_document}
+use Rattle.landing_rules.specs.Limits.{longest_freeze}
 use Rattle.landing_rules.specs.declared.objective.Objective.{Objective}
 use Rattle.landing_rules.specs.declared.objective.Objective.TheVariants.{Makespan, Delay}
 use Rattle.aerodrome_file.specs.declared.aerodrome.Aerodrome.{Aerodrome}
@@ -47,7 +48,7 @@ unfoldable pub aerodrome_in : Members → Result Aerodrome AeroFault
 aerodrome_in ms = do
   version ← version_in ms
   k ← number_in key.K 0 3 (get_member (codes "k") ms)
-  freeze ← number_in key.Freeze 0 7200 (get_member (codes "freeze") ms)
+  freeze ← number_in key.Freeze 0 longest_freeze (get_member (codes "freeze") ms)
   objective ← objective_in (get_member (codes "objective") ms)
   rows ← table_in (get_member (codes "table") ms)
   closures ← closures_in (get_member (codes "closures") ms)
@@ -80,7 +81,7 @@ aerodrome_of bytes = aerodrome_or (document bytes)
 pub record IsInRange (a : Aerodrome) : Type 0 where
   pub version : IsVersion a.version
   pub k : a.k ≤ 3
-  pub freeze : a.freeze ≤ 7200
+  pub freeze : a.freeze ≤ longest_freeze
   pub shift : is_delay a.objective ≡ true → a.k ≤ most_shift a.version
   pub clock : IsClock a.clock
   pub frozen : AreFrozenBy a.clock a.freeze a.frozen

@@ -1,12 +1,15 @@
 // The closures in the file.
 ghost use Rattle.std.specs.Prelude.{◌≡◌, ◌≤◌, IfOk, length, option_map};
 ghost use Rattle.toml.specs.View.{view, items_view, table_view};
+ghost use Rattle.landing_rules.specs.Limits.{most_closures};
+ghost use Rattle.landing_rules.specs.Rules.{last_second};
 ghost use Rattle.aerodrome_file.specs.Closures.{are_tables, closure_in, closure_of, closures_from, closures_in};
 
 use crate::fault::{AeroFault, Key, Part};
 use crate::keys::only;
 use crate::values::{at_most, get, integer_of, present};
-use landing_windows::{ClosureFault, Closures};
+use landing_rules::MOST_CLOSURES;
+use landing_windows::{LAST_SECOND, ClosureFault, Closures};
 use toml::{Table, Value};
 
 // Whether all values of an array are tables.
@@ -27,15 +30,15 @@ pub(crate) fn are_tables(values: &[Value]) -> bool
 #[tactic(auto, unfolding(crate::specs::Closures::closure_in))]
 fn closure_in(number: u8, table: &Table) -> Result<(u32, u32), AeroFault>
     ensures value { result ≡ closure_in number (table_view table.now) }
-    ensures range { IfOk result (λ c. (c.0 ≤ 172799) × (c.1 ≤ 172800)) }
+    ensures range { IfOk result (λ c. (c.0 ≤ last_second) × (c.1 ≤ last_second + 1)) }
 {
     only(1, Part::Closure(number), table)?;
     let from = present(Key::From(number), get(table, "from"))?;
     let to = present(Key::To(number), get(table, "to"))?;
     let first = integer_of(Key::From(number), from)?;
     let last = integer_of(Key::To(number), to)?;
-    let first = at_most(Key::From(number), 172_799, first)?;
-    let last = at_most(Key::To(number), 172_800, last)?;
+    let first = at_most(Key::From(number), LAST_SECOND, first)?;
+    let last = at_most(Key::To(number), LAST_SECOND + 1, last)?;
     Ok((first, last))
 }
 
@@ -43,7 +46,7 @@ fn closure_in(number: u8, table: &Table) -> Result<(u32, u32), AeroFault>
 #[tactic(auto, unfolding(crate::specs::Closures::closure_of))]
 fn closure_of(number: u8, value: &Value) -> Result<(u32, u32), AeroFault>
     ensures value { result ≡ closure_of number (view value.now) }
-    ensures range { IfOk result (λ c. (c.0 ≤ 172799) × (c.1 ≤ 172800)) }
+    ensures range { IfOk result (λ c. (c.0 ≤ last_second) × (c.1 ≤ last_second + 1)) }
 {
     let Some(table) = value.as_table() else {
         return Err(AeroFault::WrongKind(Key::Closures));
@@ -54,7 +57,7 @@ fn closure_of(number: u8, value: &Value) -> Result<(u32, u32), AeroFault>
 // The closures that tables are.
 #[tactic(auto, unfolding(crate::specs::Closures::closures_from))]
 fn closures_from(values: &[Value]) -> Result<Closures, AeroFault>
-    requires { length values.now ≤ 32 }
+    requires { length values.now ≤ most_closures }
     ensures { result ≡ closures_from 1 (items_view values.now) }
 {
     let mut closures = Closures::new();
@@ -86,7 +89,7 @@ pub(crate) fn closures_in(value: Option<&Value>) -> Result<Closures, AeroFault>
     if !are_tables(values) {
         return Err(AeroFault::WrongKind(Key::Closures));
     }
-    if values.len() > 32 {
+    if values.len() > MOST_CLOSURES {
         return Err(AeroFault::Closure(33, ClosureFault::TooMany));
     }
     closures_from(values)

@@ -1,6 +1,7 @@
 // The clock second and the frozen landings in the file.
 ghost use Rattle.std.specs.Prelude.{◌≡◌, ◌≤◌, false, length, option_map, [], IfOk};
 ghost use Rattle.toml.specs.View.{view, items_view, table_view};
+ghost use Rattle.landing_rules.specs.Limits.{most_flights};
 ghost use Rattle.aerodrome_file.specs.Answers.{Gives};
 ghost use Rattle.aerodrome_file.specs.Frozen.{clock_in, has_frozen, is_late, frozen_entry, frozen_of, frozen_from, frozen_in, IsClock, IsFrozen, AreFrozen, AreFrozenBy};
 
@@ -10,6 +11,8 @@ use crate::frozen_list::{FrozenLanding, FrozenList};
 use crate::keys::only;
 use crate::values::{at_most, callsign_at, get, integer_of, present, string_of};
 use cps_base::Callsign;
+use landing_rules::MOST_FLIGHTS;
+use landing_windows::LAST_SECOND;
 use std::alloc::Global;
 use toml::{Table, Value};
 
@@ -23,7 +26,7 @@ pub(crate) fn clock_in(value: Option<&Value>) -> Result<Option<u32>, AeroFault>
         return Ok(None);
     };
     let number = integer_of(Key::Clock, value)?;
-    let now = at_most(Key::Clock, 172_799, number)?;
+    let now = at_most(Key::Clock, LAST_SECOND, number)?;
     Ok(Some(now))
 }
 
@@ -60,7 +63,7 @@ fn frozen_entry(
     let text = string_of(Key::FrozenCallsign(number), callsign)?;
     let second = integer_of(Key::FrozenSecond(number), second)?;
     let callsign = callsign_at(Key::FrozenCallsign(number), text.as_bytes())?;
-    let second = at_most(Key::FrozenSecond(number), 172_799, second)?;
+    let second = at_most(Key::FrozenSecond(number), LAST_SECOND, second)?;
     if has_frozen(before, callsign) {
         return Err(AeroFault::FrozenRepeat(number));
     }
@@ -97,7 +100,7 @@ fn frozen_from(
     freeze: u32,
     values: &[Value],
 ) -> Result<FrozenList, AeroFault>
-    requires { length values.now ≤ 500 }
+    requires { length values.now ≤ most_flights }
     ensures value { Gives result (frozen_from 1 clock freeze [] (items_view values.now)) }
     ensures range { IfOk result (AreFrozen clock freeze) }
 {
@@ -137,7 +140,7 @@ pub(crate) fn frozen_in(
     if !are_tables(values) {
         return Err(AeroFault::WrongKind(Key::Frozen));
     }
-    if values.len() > 500 {
+    if values.len() > MOST_FLIGHTS {
         return Err(AeroFault::FrozenTooMany);
     }
     if values.is_empty() {

@@ -1,6 +1,7 @@
 // The counts of passed flights in the file.
 ghost use Rattle.std.specs.Prelude.{◌≡◌, ◌≤◌, false, length, option_map, [], IfOk};
 ghost use Rattle.toml.specs.View.{view, items_view, table_view};
+ghost use Rattle.landing_rules.specs.Limits.{most_waiting};
 ghost use Rattle.aerodrome_file.specs.Answers.{Gives};
 ghost use Rattle.aerodrome_file.specs.Passed.{has_passed, passed_entry, passed_of, passed_from, passed_in, ArePassed};
 
@@ -10,6 +11,7 @@ use crate::keys::only;
 use crate::passed_list::{PassedCount, PassedList};
 use crate::values::{callsign_at, get, integer_of, present, string_of, within};
 use cps_base::Callsign;
+use landing_rules::MOST_WAITING;
 use std::alloc::Global;
 use toml::{Table, Value};
 
@@ -69,7 +71,7 @@ fn passed_of(
 // The entries that tables are.
 #[tactic(auto, unfolding(crate::specs::Passed::passed_from))]
 fn passed_from(alloc: Global, k: u8, values: &[Value]) -> Result<PassedList, AeroFault>
-    requires { length values.now ≤ 60 }
+    requires { length values.now ≤ most_waiting }
     ensures value { Gives result (passed_from 1 k [] (items_view values.now)) }
     ensures range { IfOk result (ArePassed k) }
 {
@@ -107,7 +109,7 @@ pub(crate) fn passed_in(
     if !are_tables(values) {
         return Err(AeroFault::WrongKind(Key::Passed));
     }
-    if values.len() > 60 {
+    if values.len() > usize::from(MOST_WAITING) {
         return Err(AeroFault::PassedTooMany);
     }
     passed_from(alloc, k, values)

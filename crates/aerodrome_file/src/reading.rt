@@ -13,7 +13,7 @@ use crate::passed::passed_in;
 use crate::separations::table_in;
 use crate::values::{get, number_in};
 use crate::version::version_in;
-use landing_rules::Objective;
+use landing_rules::{LONGEST_FREEZE, Objective};
 use std::alloc::Global;
 use toml::de::Error;
 use toml::{Table, Value};
@@ -81,7 +81,7 @@ fn aerodrome_in(alloc: Global, table: &Table) -> Result<Aerodrome, AeroFault>
 {
     let version = version_in(table)?;
     let k = number_in(Key::K, 0, 3, get(table, "k"))?;
-    let freeze = number_in(Key::Freeze, 0, 7200, get(table, "freeze"))?;
+    let freeze = number_in(Key::Freeze, 0, LONGEST_FREEZE, get(table, "freeze"))?;
     let objective = objective_in(get(table, "objective"))?;
     let separations = table_in(get(table, "table"))?;
     let closures = closures_in(get(table, "closures"))?;

@@ -2,6 +2,7 @@
 use Rattle.std.specs.Prelude.{ℕ, ◌≤◌, Bool, List, [], ◌∷◌, Option, find, nat_lt, option_map, if◌then◌else◌}
 use Rattle.landing_rules.specs.Events.{named}
 use Rattle.landing_rules.specs.Flights.{Active, Landing}
+use Rattle.landing_rules.specs.Limits.{greatest_weight}
 use Rattle.landing_rules.specs.Rules.{place, rank_among}
 use Rattle.landing_rules.specs.Testing.{is_shift_kept}
 use Rattle.landing_rules.specs.Text.{ShownLanding}
@@ -38,7 +39,7 @@ too_far k waiting f = if is_shift_kept k waiting f then [] else rules.Shift f.fl
 
 -- so that the costs of 500 lines have a sum of 64 bits
 abbrev pub HasSmallWeight : ShownLanding × Active → Type 0
-HasSmallWeight x = x.1.flight.weight ≤ 100
+HasSmallWeight x = x.1.flight.weight ≤ greatest_weight
 
 -- a line with its flight, where it names one that is active
 abbrev pub one_found : List Active → ShownLanding → Option (ShownLanding × Active)

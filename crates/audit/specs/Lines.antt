@@ -1,5 +1,6 @@
 -- What one line of a plan file is.
 use Rattle.std.specs.Prelude.{ℕ, List, [], ◌∷◌, Bool, true, false, codes, bytes_eq, Option, Some, None, option_and_then, option_map, if◌then◌else◌}
+use Rattle.landing_rules.specs.Rules.{last_second}
 use Rattle.landing_rules.specs.declared.objective.Objective.{Objective}
 use Rattle.landing_rules.specs.declared.objective.Objective.TheVariants.{Makespan, Delay}
 use Rattle.landing_rules.specs.Text.{ShownLanding}
@@ -32,7 +33,7 @@ landing_with c t f = record { callsign = c; second = t; frozen = f }
 
 unfoldable pub landing_from : List ℕ → List ℕ → List ℕ → Option ShownLanding
 landing_from callsign second mark =
-    option_and_then (λ c. option_and_then (λ t. option_map (landing_with c t) (mark_in mark)) (number_in second 0 172799)) (callsign_in callsign)
+    option_and_then (λ c. option_and_then (λ t. option_map (landing_with c t) (mark_in mark)) (number_in second 0 last_second)) (callsign_in callsign)
 
 unfoldable pub landing_by : List (List ℕ) → Option ShownLanding
 landing_by (word ∷ callsign ∷ second ∷ mark ∷ []) = if bytes_eq word (codes "land") then landing_from callsign second mark else None

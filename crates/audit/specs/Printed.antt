@@ -1,6 +1,8 @@
 -- What is printed of a plan reads back as the plan.
 use Rattle.std.specs.Prelude.{◌≡◌, ◌≤◌, List, [], ◌∷◌, true, length, Some, None, Ok}
 use Rattle.cps_base.specs.Text.{is_callsign}
+use Rattle.landing_rules.specs.Limits.{most_flights}
+use Rattle.landing_rules.specs.Rules.{last_second}
 use Rattle.landing_rules.specs.declared.objective.Objective.{Objective}
 use Rattle.landing_rules.specs.Events.{State}
 use Rattle.landing_rules.specs.Sound.{IsSoundState}
@@ -10,12 +12,12 @@ use Rattle.audit.specs.Reading.{plan_of, plan_with}
 
 abbrev pub AreReadable : List ShownLanding → Type 0
 AreReadable [] = Unit {0}
-AreReadable (f ∷ rest) = (is_callsign f.callsign ≡ true) × (f.second ≤ 172799) × AreReadable rest
+AreReadable (f ∷ rest) = (is_callsign f.callsign ≡ true) × (f.second ≤ last_second) × AreReadable rest
 
 -- at most 500 landings of callsigns, and all numbers in their ranges
 pub record IsReadable (p : ShownPlan) : Type 0 where
   pub value : p.value ≤ 8639950000
-  pub few : length p.landings ≤ 500
+  pub few : length p.landings ≤ most_flights
   pub landings : AreReadable p.landings
 
 -- the block of a plan reads back as its objective, its number and its landings

@@ -1,5 +1,6 @@
 -- The plan that a text is, or its first line that is not of its form.
 use Rattle.std.specs.Prelude.{◌≡◌, ℕ, ◌+◌, ◌≤◌, List, [], ◌∷◌, ◌++◌, ◌==◌, nat_lt, length, codes, bytes_eq, Option, Some, None, Result, Ok, Err, if◌then◌else◌}
+use Rattle.landing_rules.specs.Limits.{most_flights}
 use Rattle.landing_rules.specs.declared.objective.Objective.{Objective}
 use Rattle.landing_rules.specs.Text.{ShownLanding}
 use Rattle.sequencer.specs.declared.plan.Landing.{Landing}
@@ -22,7 +23,7 @@ or_fault n (Some x) = Ok x
 
 -- the landing of line n; the lines from 502 on, behind the head and 500 landings, are too many
 unfoldable pub line_in : ℕ → List ℕ → Result ShownLanding PlanFault
-line_in n line = if nat_lt 501 n then Err (fault.Line n) else or_fault n (landing_in line)
+line_in n line = if nat_lt (most_flights + 1) n then Err (fault.Line n) else or_fault n (landing_in line)
 
 -- the landings before and from line n on. Behind the last line feed nothing stands
 unfoldable pub lines_in : ℕ → List ShownLanding → List ℕ → List (List ℕ) → Result (List ShownLanding) PlanFault
@@ -77,4 +78,4 @@ GivesLanding (Err e) read = read ≡ Err e
 -- a plan of at most 500 landings
 abbrev pub HasFewLines : PlanText → Type 0
 HasFewLines said.Nothing = Unit {0}
-HasFewLines (said.Block b) = length b.lines ≤ 500
+HasFewLines (said.Block b) = length b.lines ≤ most_flights

@@ -1,5 +1,6 @@
 // All findings of a block.
 ghost use Rattle.std.specs.Prelude.{◌≡◌, ◌≤◌, ◌↔◌, [], IfOk, length, map};
+ghost use Rattle.landing_rules.specs.Limits.{most_flights};
 ghost use Rattle.landing_rules.specs.Sound.{IsSound};
 ghost use Rattle.landing_rules.specs.Audit.{IsClean, by_line, by_rules, findings, landing_of, lines_found};
 ghost use Rattle.audit.specs.Findings.{finding_of};
@@ -24,7 +25,7 @@ fn by_rules(
     situation: &Situation,
     found: &[Found],
 ) -> Result<Vec<Finding>, AllocError>
-    requires { length found.now ≤ 500 }
+    requires { length found.now ≤ most_flights }
     ensures { IfOk result (λ all. map finding_of all.items
         ≡ by_rules situation.now (map landing_of found.now)) }
 {
@@ -46,7 +47,7 @@ fn by_line(
 ) -> Result<Vec<Finding>, AllocError>
     requires found { found.now ≡ lines_found situation.now.active block.now.lines }
     requires sound { IsSound situation.now }
-    requires few { length block.now.lines ≤ 500 }
+    requires few { length block.now.lines ≤ most_flights }
     ensures { IfOk result (λ all. map finding_of all.items
         ≡ by_line situation.now (seen_block block.now)) }
 {
@@ -60,7 +61,7 @@ fn by_line(
 // The findings of a block: of the names, and where they are right of the rest.
 fn found_in(alloc: Global, situation: &Situation, block: &Block) -> Result<Vec<Finding>, AllocError>
     requires sound { IsSound situation.now }
-    requires few { length block.now.lines ≤ 500 }
+    requires few { length block.now.lines ≤ most_flights }
     ensures { IfOk result (λ all. map finding_of all.items
         ≡ findings situation.now (seen_block block.now)) }
 {
@@ -91,7 +92,7 @@ pub fn audit(
     block: &Block,
 ) -> Result<Vec<Finding>, AllocError>
     requires sound { IsSound situation.now }
-    requires few { length block.now.lines ≤ 500 }
+    requires few { length block.now.lines ≤ most_flights }
     ensures found { IfOk result (λ all. map finding_of all.items
         ≡ findings situation.now (seen_block block.now)) }
     ensures clean { IfOk result (λ all. (all.items ≡ [])

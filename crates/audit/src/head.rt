@@ -1,6 +1,7 @@
 // What the first line of a block says.
 ghost use Rattle.std.specs.Prelude.{◌≡◌, ◌≤◌, ◌*◌, ◌++◌, All, IfOk, length, map, sum_by};
 ghost use Rattle.landing_rules.specs.Audit.{is_objective, landing_of, other_objective, other_value};
+ghost use Rattle.landing_rules.specs.Limits.{most_flights};
 ghost use Rattle.landing_rules.specs.Rules.{cost, delay, greatest};
 ghost use Rattle.audit.specs.Findings.{finding_of, HasSmallWeight};
 
@@ -65,7 +66,7 @@ fn delay_of(found: &Found) -> u64
 
 // What the landings cost together.
 fn total_delay(found: &[Found]) -> u64
-    requires few { length found.now ≤ 500 }
+    requires few { length found.now ≤ most_flights }
     requires small { All HasSmallWeight found.now }
     ensures { result ≡ sum_by delay (map landing_of found.now) }
 {
@@ -78,7 +79,7 @@ fn total_delay(found: &[Found]) -> u64
 
 // The objective of the seconds.
 fn value_of(objective: Objective, found: &[Found]) -> u64
-    requires few { length found.now ≤ 500 }
+    requires few { length found.now ≤ most_flights }
     requires small { All HasSmallWeight found.now }
     ensures { result ≡ cost objective (map landing_of found.now) }
 {
@@ -107,7 +108,7 @@ pub(crate) fn by_head(
     number: u64,
     found: &[Found],
 ) -> Result<Vec<Finding>, AllocError>
-    requires few { length found.now ≤ 500 }
+    requires few { length found.now ≤ most_flights }
     requires small { All HasSmallWeight found.now }
     ensures { IfOk result (λ all. map finding_of all.items ≡ other_objective said meant
         ++ other_value number (cost meant (map landing_of found.now))) }

@@ -1,12 +1,14 @@
 // The lines of a plan file.
 ghost use Rattle.std.specs.Prelude.{◌≡◌, ◌≤◌, IfOk, option_map};
+ghost use Rattle.landing_rules.specs.Limits.{most_flights};
 ghost use Rattle.sequencer.specs.Shown.{shown_of};
 ghost use Rattle.audit.specs.Lines.{head_in, landing_from, landing_in, mark_in, objective_in};
 ghost use Rattle.audit.specs.Reading.{GivesLanding, line_in};
 
 use crate::plan::PlanFault;
 use cps_base::Callsign;
-use landing_rules::Objective;
+use landing_rules::{MOST_FLIGHTS, Objective};
+use landing_windows::LAST_SECOND;
 use sequencer::Landing;
 use text_parts::{first_part, number_in};
 
@@ -59,7 +61,7 @@ fn landing_from(callsign: &[u8], second: &[u8], mark: &[u8]) -> Option<Landing>
     ensures { option_map shown_of result ≡ landing_from callsign.now second.now mark.now }
 {
     let callsign = Callsign::read(callsign)?;
-    let second = number_in(second, 0, 172_799)?;
+    let second = number_in(second, 0, u64::from(LAST_SECOND))?;
     let frozen = mark_in(mark)?;
     Some(Landing {
         callsign,
@@ -99,9 +101,9 @@ fn landing_of(line: &[u8]) -> Option<Landing>
 #[tactic(auto, unfolding(crate::specs::Reading::line_in))]
 pub(crate) fn line_of(number: u32, line: &[u8]) -> Result<Landing, PlanFault>
     ensures value { GivesLanding result (line_in number line.now) }
-    ensures few { IfOk result (λ _. number ≤ 501) }
+    ensures few { IfOk result (λ _. number ≤ most_flights + 1) }
 {
-    if number > 501 {
+    if number > MOST_FLIGHTS as u32 + 1 {
         return Err(PlanFault::Line(number));
     }
     match landing_of(line) {

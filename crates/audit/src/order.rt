@@ -1,6 +1,7 @@
 // Whether the seconds of the lines rise.
 ghost use Rattle.std.specs.Prelude.{◌≡◌, ◌≤◌, ◌++◌, ◌+◌, IfOk, OnOk, length, map};
 ghost use Rattle.landing_rules.specs.Audit.{disordered, disordered_from};
+ghost use Rattle.landing_rules.specs.Limits.{most_flights};
 ghost use Rattle.sequencer.specs.Shown.{shown_of};
 ghost use Rattle.audit.specs.Findings.{finding_of, out_of_order};
 
@@ -25,7 +26,7 @@ fn disordered_behind(
     first: u32,
     lines: &[Landing],
 ) -> Result<Vec<Finding>, AllocError>
-    requires { length lines.now ≤ 500 }
+    requires { length lines.now ≤ most_flights }
     ensures { IfOk result (λ all. map finding_of all.items
         ≡ disordered_from 2 first (map shown_of lines.now)) }
 {
@@ -41,7 +42,7 @@ fn disordered_behind(
 
 // Each line from 2 whose second is not above that of the line before.
 pub(crate) fn disordered(alloc: Global, lines: &[Landing]) -> Result<Vec<Finding>, AllocError>
-    requires { length lines.now ≤ 500 }
+    requires { length lines.now ≤ most_flights }
     ensures { IfOk result (λ all. map finding_of all.items ≡ disordered (map shown_of lines.now)) }
 {
     match lines {

@@ -1,5 +1,6 @@
 // The plan that a text is.
 ghost use Rattle.std.specs.Prelude.{◌≡◌, ◌≤◌, IfOk, length, map};
+ghost use Rattle.landing_rules.specs.Limits.{most_flights};
 ghost use Rattle.sequencer.specs.Shown.{shown_of};
 ghost use Rattle.text_parts.specs.Parts.{parts};
 ghost use Rattle.audit.specs.Reading.{Gives, GivesAs, HasFewLines, body_lines, nothing_behind, plan_of};
@@ -16,7 +17,7 @@ use text_parts::first_part;
 fn read_body(alloc: Global, text: &[u8]) -> Result<Vec<Landing>, PlanFault>
     ensures value { GivesAs (λ all.
         map shown_of all.items) result (body_lines (parts 10 text.now)) }
-    ensures few { IfOk result (λ all. length all.items ≤ 500) }
+    ensures few { IfOk result (λ all. length all.items ≤ most_flights) }
 {
     let mut landings = Vec::new(alloc);
     let mut number: u32 = 2;

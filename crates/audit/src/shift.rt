@@ -2,6 +2,7 @@
 ghost use Rattle.std.specs.Prelude.{◌≡◌, ◌≤◌, ◌+◌, ◌++◌, IfOk, OnOk, filter, length, map, nat_lt};
 ghost use Rattle.std.specs.Ordering.{is_lt};
 ghost use Rattle.landing_rules.specs.Flights.{Landing};
+ghost use Rattle.landing_rules.specs.Limits.{most_flights};
 ghost use Rattle.landing_rules.specs.Rules.{arrival_cmp, place, rank_among, waits};
 ghost use Rattle.landing_rules.specs.Testing.{is_shift_kept};
 ghost use Rattle.landing_rules.specs.Audit.{landing_of, shifted};
@@ -33,10 +34,10 @@ fn lands_before(g: &Found, f: &Found) -> bool
 
 // 1 plus the number of those that land before f.
 fn place_of(waiting: &Vec<&Found>, f: &Found) -> u32
-    requires { length waiting.now.items ≤ 500 }
+    requires { length waiting.now.items ≤ most_flights }
     ensures value { result
         ≡ place (map (λ g. landing_of g.now) waiting.now.items) (landing_of f.now) }
-    ensures few { result ≤ 501 }
+    ensures few { result ≤ most_flights + 1 }
 {
     1 + waiting.iter().filter(|g| lands_before(g, f)).count() as u32
 }
@@ -52,17 +53,17 @@ fn comes_before(g: &Found, f: &Found) -> bool
 
 // 1 plus the number of those that come before f.
 fn rank_of(waiting: &Vec<&Found>, f: &Found) -> u32
-    requires { length waiting.now.items ≤ 500 }
+    requires { length waiting.now.items ≤ most_flights }
     ensures value { result
         ≡ rank_among (map (λ g. landing_of g.now) waiting.now.items) (landing_of f.now) }
-    ensures few { result ≤ 501 }
+    ensures few { result ≤ most_flights + 1 }
 {
     1 + waiting.iter().filter(|g| comes_before(g, f)).count() as u32
 }
 
 // Whether it lands within k places of its rank, less the flights that passed it before.
 fn is_shift_kept(k: u8, waiting: &Vec<&Found>, f: &Found) -> bool
-    requires { length waiting.now.items ≤ 500 }
+    requires { length waiting.now.items ≤ most_flights }
     ensures { result
         ≡ is_shift_kept k (map (λ g. landing_of g.now) waiting.now.items) (landing_of f.now) }
 {
@@ -73,7 +74,7 @@ fn is_shift_kept(k: u8, waiting: &Vec<&Found>, f: &Found) -> bool
 
 // Its place and its rank.
 fn shift(waiting: &Vec<&Found>, f: &Found) -> Finding
-    requires { length waiting.now.items ≤ 500 }
+    requires { length waiting.now.items ≤ most_flights }
     ensures { result ≡ code.Shift f.now.1.flight.callsign
         (place (map (λ g. landing_of g.now) waiting.now.items) (landing_of f.now))
         (rank_among (map (λ g. landing_of g.now) waiting.now.items) (landing_of f.now)) }
@@ -87,7 +88,7 @@ fn shift(waiting: &Vec<&Found>, f: &Found) -> Finding
 
 // Notes a waiting flight too far from its rank.
 fn note(all: &mut Vec<Finding>, k: u8, waiting: &Vec<&Found>, f: &Found) -> Result<(), AllocError>
-    requires { length waiting.now.items ≤ 500 }
+    requires { length waiting.now.items ≤ most_flights }
     ensures { OnOk result (map finding_of all.new.items ≡ map finding_of all.old.items
         ++ too_far k (map (λ g. landing_of g.now) waiting.now.items) (landing_of f.now)) }
 {
@@ -99,7 +100,7 @@ fn note(all: &mut Vec<Finding>, k: u8, waiting: &Vec<&Found>, f: &Found) -> Resu
 
 // Each waiting flight too far from its rank.
 pub(crate) fn shifted(alloc: Global, k: u8, found: &[Found]) -> Result<Vec<Finding>, AllocError>
-    requires { length found.now ≤ 500 }
+    requires { length found.now ≤ most_flights }
     ensures { IfOk result (λ all. map finding_of all.items
         ≡ shifted k (filter waits (map landing_of found.now))) }
 {

@@ -1,6 +1,7 @@
 -- The pairs of the windows of a stage, put together by the slot of their node.
 use Rattle.std.specs.Prelude.{◌≡◌, ℕ, ℤ, ◌*◌, ◌^◌, ◌<◌, ◌≤◌, ◌⊎◌, List, length, All}
 use Rattle.landing_rules.specs.Problem.{Problem}
+use Rattle.landing_rules.specs.Rules.{last_second}
 use Rattle.cps_theory.specs.Labels.{InPairs, NoWorse, Pair}
 use Rattle.cps_theory.specs.Patterns.{PatternNode}
 use Rattle.cps_network.specs.Pairs.{list_at}
@@ -9,7 +10,7 @@ use Rattle.cert_writer.specs.Slots.{HasSlot}
 
 -- a pair's second is one of the two days, and its cost a number of a certificate
 abbrev pub IsInRange : Pair → Type 0
-IsInRange q = (q.0 ≤ 172799) × (q.1 ≤ 4294967295)
+IsInRange q = (q.0 ≤ last_second) × (q.1 ≤ 4294967295)
 
 -- a list has such pairs alone; and of each such pair one that is no later and no dearer
 abbrev pub HasOnly : List Pair → (Pair → Type 0) → Type 0

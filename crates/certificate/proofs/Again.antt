@@ -1,84 +1,20 @@
 -- What is printed reads back.
-use Rattle.std.proofs.Common.{◌≡◌, ℕ, zero, suc, ◌<◌, ◌≤◌, ◌^◌, Bool, true, false, cond, ltb, leb, eqb, not, ◌&&◌, ◌||◌, ◌⊎◌, List, [], ◌∷◌, ◌++◌, length, get_or, map, Some, None, Ok, Err, refl, ap, subst, ◌∙◌, arith, inl, inr}
-use Rattle.std.specs.Prelude.{◌==◌, All, codes, decimal}
+use Rattle.std.proofs.Common.{◌≡◌, ℕ, ◌<◌, ◌≤◌, ◌^◌, Bool, true, false, leb, not, List, [], ◌∷◌, ◌++◌, length, map, Some, None, refl, ap, ◌∙◌, arith, inl, inr}
+use Rattle.std.specs.Prelude.{◌==◌, codes, decimal}
 use Rattle.std.specs.List.{list_all}
-use Rattle.std.specs.Char.{is_ascii_digit}
-use Rattle.std.specs.Str.Parse.{digits_value}
-use Rattle.std.specs.Str.Parse.{AllDigits}
-use Rattle.std.proofs.lemmas.Str.Parse.{digit_at}
-use Rattle.std.proofs.lemmas.Grind.{get_or_default_zero}
-use Rattle.std.proofs.lemmas.Bool.{le-leb, leb-true, le-ltb, lt-ltb, ne_eqb, or_right}
-use Rattle.cps_base.specs.declared.number.NumberFault.TheVariants.{NotNumber, Below, Above}
-use Rattle.std.proofs.lemmas.Fmt.{decimal_is_IsNumeral, decimal_digit, first_decimal}
-use Rattle.std.proofs.lemmas.List.Splits.{slice_split_at, slice_split_none}
-use Rattle.cps_base.specs.Number.{number_within, is_number}
+use Rattle.std.proofs.lemmas.Bool.{leb-true, lt-ltb}
 use Rattle.std.proofs.lemmas.List.Elements.{All-append, All-cons}
 use Rattle.std.proofs.lemmas.List.{length-map, append-nil}
-use Rattle.cps_base.specs.Text.{is_callsign, is_callsign_byte}
+use Rattle.cps_base.specs.Text.{is_callsign}
+use Rattle.text_parts.specs.Parts.{parts}
+use Rattle.text_parts.specs.shared.Printed.{Lacks, and_is, and_true, callsign_lacks, cut, decimal_lacks, decimal_reads, lacks_by, uncut}
 use Rattle.certificate.specs.declared.certificate.Claim.{Claim}
 use Rattle.certificate.specs.declared.certificate.Claim.TheVariants.{Optimal, Infeasible}
 use Rattle.certificate.specs.Reading.{IsClaim}
 use Rattle.certificate.specs.Patterns.{is_pattern_length}
 use Rattle.certificate.specs.States.{Pair, State, IsState, is_pair}
-use Rattle.certificate.specs.Lines.{number_in, ok_of, is_digit, is_mark, are_marks, pattern_in, pair_in, pair_by, pairs_in, state_in, state_by, state_from, landing_in, landing_by, claim_in, claim_by, parts}
+use Rattle.certificate.specs.Lines.{is_digit, is_mark, are_marks, pattern_in, pair_in, pair_by, pairs_in, state_in, state_by, state_from, landing_in, landing_by, claim_in, claim_by}
 use Rattle.certificate.specs.Spelling.{digit_text, pattern_text, pair_text, pairs_text, state_text, landing_text, claim_text}
-
--- a text without the mark
-abbrev pub Lacks : ℕ → List ℕ → Type 0
-Lacks mark text = All (λ b. (b == mark) ≡ false) text
-
-pub cut : (mark : ℕ) (a b : List ℕ) → Lacks mark a → (mark == mark) ≡ true → parts mark (a ++ mark ∷ b) ≡ a ∷ parts mark b
-cut mark a b h e = slice_split_at (λ x. x == mark) a mark b h e
-
-pub uncut : (mark : ℕ) (a : List ℕ) → Lacks mark a → parts mark a ≡ a ∷ []
-uncut mark a h = slice_split_none (λ x. x == mark) a h
-
-pub and_true : (a b : Bool) → a && b ≡ true → (a ≡ true) × (b ≡ true)
-and_true true b e = (refl, e)
-and_true false b e = absurd (cc)
-
-and_is : (a b : Bool) → a ≡ true → b ≡ true → a && b ≡ true
-and_is a b p q = rw (p, q) refl
-
--- ---- numbers
-
-all_digits : (ds : List ℕ) → AllDigits 10 ds → list_all is_ascii_digit ds ≡ true
-all_digits [] h = refl
-all_digits (d ∷ ds) h =
-    let r = digit_at (d ∷ ds) 0 h (omega arith) in
-    let here : is_ascii_digit d ≡ true = rw (le-leb 48 d r.0, le-leb d 57 r.1) refl in
-    rw here (all_digits ds h.1)
-
-is_numeral : (n : ℕ) → n < 2 ^ 64 → is_number (decimal n) ≡ true
-is_numeral n fits =
-    let d = decimal_is_IsNumeral n fits in
-    let some = lt-ltb 0 (length (decimal n)) d.0.0 in
-    let all = all_digits (decimal n) d.0.1 in
-    let one : eqb (length (decimal n)) 1 || not (eqb (get_or (decimal n) 0 0) 48) ≡ true = go n fits in
-    and_is _ _ (and_is _ _ some one) all
-  where
-    go : (n : ℕ) → n < 2 ^ 64 → eqb (length (decimal n)) 1 || not (eqb (get_or (decimal n) 0 0) 48) ≡ true
-    go zero fits = ap (λ (ds : List ℕ). eqb (length ds) 1 || not (eqb (get_or ds 0 0) 48)) (decimal_digit 0 (omega arith))
-    go (suc n) fits =
-        let f = first_decimal (suc n) (omega arith) fits in
-        or_right (eqb (length (decimal (suc n))) 1) (not (eqb (get_or (decimal (suc n)) 0 0) 48)) (ap not (ne_eqb (get_or (decimal (suc n)) 0 0) 48 (λ e. omega arith)))
-
-pub decimal_reads : (n least most : ℕ) → n < 2 ^ 64 → least ≤ n → n ≤ most → number_in (decimal n) least most ≡ Some n
-unfolding number_in number_within
-decimal_reads n least most fits low high =
-    let same = (decimal_is_IsNumeral n fits).1 in
-    go (is_number (decimal n)) (digits_value 10 (decimal n)) (is_numeral n fits) same
-  where
-    go : (a : Bool) (v : ℕ) → a ≡ true → v ≡ n → ok_of (cond (not a) (Err NotNumber) (cond (ltb v least) (Err Below) (cond (ltb most v) (Err Above) (Ok v)))) ≡ Some n
-    go a v p q = rw (p, q, le-ltb n least low, le-ltb most n high) refl
-
-pub decimal_lacks : (n mark : ℕ) → n < 2 ^ 64 → (mark < 48) ⊎ (57 < mark) → Lacks mark (decimal n)
-decimal_lacks n mark fits out =
-    let d = decimal_is_IsNumeral n fits in
-    λ k x lt. let r = digit_at (decimal n) k d.0.1 lt in let e = get_or_default (decimal n) k x lt in ne_eqb (get_or (decimal n) k x) mark (λ same. elim out [ inl a ↦ omega (arith, r.0, r.1) | inr a ↦ omega (arith, r.0, r.1) ])
-  where
-    get_or_default : (xs : List ℕ) (k x : ℕ) → k < length xs → get_or xs k x ≡ get_or xs k 0
-    get_or_default xs k x lt = get_or_default_zero xs k x lt
 
 -- ---- pairs
 
@@ -100,17 +36,6 @@ pair_lacks p a b =
     let fits1 : p.1 < 2 ^ 64 = omega arith in
     let test : ℕ → Type 0 = λ b. (b == 32) ≡ false in
     All-append test (decimal p.0) (58 ∷ decimal p.1) (decimal_lacks p.0 32 fits0 (inl (omega arith))) (All-cons test 58 (decimal p.1) refl (decimal_lacks p.1 32 fits1 (inl (omega arith))))
-
--- by a test that computes
-pub lacks_by : (mark : ℕ) (a : List ℕ) → list_all (λ b. not (b == mark)) a ≡ true → Lacks mark a
-lacks_by mark [] e = λ k d lt. absurd (omega arith)
-lacks_by mark (x ∷ a) e =
-    let h = and_true (not (x == mark)) (list_all (λ b. not (b == mark)) a) e in
-    All-cons (λ b. (b == mark) ≡ false) x a (flip (x == mark) h.0) (lacks_by mark a h.1)
-  where
-    flip : (b : Bool) → not b ≡ true → b ≡ false
-    flip true e = absurd (cc)
-    flip false e = refl
 
 abbrev pub ArePairs : List Pair → Type 0
 ArePairs [] = Unit {0}
@@ -189,20 +114,11 @@ state_reads s h =
 
 -- ---- landings and claims
 
-callsign_lacks : (text : List ℕ) → is_callsign text ≡ true → Lacks 32 text
-callsign_lacks text e = go text (and_true _ (list_all is_callsign_byte text) e).1
-  where
-    go : (text : List ℕ) → list_all is_callsign_byte text ≡ true → Lacks 32 text
-    go [] e = λ k d lt. absurd (omega arith)
-    go (b ∷ text) e =
-        let h = and_true (is_callsign_byte b) (list_all is_callsign_byte text) e in
-        All-cons (λ x. (x == 32) ≡ false) b text (ne_eqb b 32 (λ same. let x : is_callsign_byte 32 ≡ true = subst (λ (y : ℕ). is_callsign_byte y ≡ true) same h.0 in cc)) (go text h.1)
-
 landing_fields : (l : List ℕ × ℕ) → is_callsign l.0 ≡ true → l.1 ≤ 172799 → parts 32 (landing_text l) ≡ codes "land" ∷ l.0 ∷ decimal l.1 ∷ []
 landing_fields l c t =
     let fits : l.1 < 2 ^ 64 = omega arith in
     let behind : List ℕ → List (List ℕ) → List (List ℕ) = λ x xs. x ∷ xs in
-    cut 32 (codes "land") (l.0 ++ 32 ∷ decimal l.1) (lacks_by 32 (codes "land") refl) refl ∙ ap (behind (codes "land")) (cut 32 l.0 (decimal l.1) (callsign_lacks l.0 c) refl ∙ ap (behind l.0) (uncut 32 (decimal l.1) (decimal_lacks l.1 32 fits (inl (omega arith)))))
+    cut 32 (codes "land") (l.0 ++ 32 ∷ decimal l.1) (lacks_by 32 (codes "land") refl) refl ∙ ap (behind (codes "land")) (cut 32 l.0 (decimal l.1) (callsign_lacks 32 l.0 refl c) refl ∙ ap (behind l.0) (uncut 32 (decimal l.1) (decimal_lacks l.1 32 fits (inl (omega arith)))))
 
 -- a landing that is printed reads back, and is no state
 pub landing_reads : (l : List ℕ × ℕ) → is_callsign l.0 ≡ true → l.1 ≤ 172799 → landing_in (landing_text l) ≡ Some l

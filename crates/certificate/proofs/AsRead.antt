@@ -14,16 +14,14 @@ use Rattle.std.proofs.lemmas.List.Splits.{join_with_byte-slice_split}
 use Rattle.cps_base.specs.Number.{number_within, is_number}
 use Rattle.cps_base.specs.declared.number.NumberFault.TheVariants.{NotNumber, Below, Above}
 use Rattle.cps_base.specs.Text.{is_callsign}
+use Rattle.text_parts.specs.Parts.{callsign_in, number_in, ok_of, parts}
+use Rattle.text_parts.specs.shared.Printed.{and_true}
 use Rattle.certificate.specs.declared.certificate.Claim.{Claim}
 use Rattle.certificate.specs.declared.certificate.Claim.TheVariants.{Optimal, Infeasible}
 use Rattle.certificate.specs.States.{Pair, State}
-use Rattle.certificate.specs.Lines.{number_in, ok_of, is_digit, is_mark, are_marks, pattern_in, pair_in, pair_by, pairs_in, state_in, state_by, state_from, landing_in, landing_by, callsign_in, claim_in, claim_by, parts}
+use Rattle.certificate.specs.Lines.{is_digit, is_mark, are_marks, pattern_in, pair_in, pair_by, pairs_in, state_in, state_by, state_from, landing_in, landing_by, claim_in, claim_by}
 use Rattle.certificate.specs.Spelling.{digit_text, pattern_text, pair_text, pairs_text, state_text, landing_text, claim_text}
 use Rattle.certificate.proofs.Valid.{then_some, map_some, passed, passed_then}
-
-and_true : (a b : Bool) → a && b ≡ true → (a ≡ true) × (b ≡ true)
-and_true true b e = (refl, e)
-and_true false b e = absurd cc
 
 -- the parts of a text, joined, are the text
 pub joined : (mark : ℕ) (text : List ℕ) (fields : List (List ℕ)) → parts mark text ≡ fields → join_with_byte mark fields ≡ text

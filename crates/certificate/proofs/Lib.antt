@@ -2,7 +2,6 @@ pub mod Again
 pub mod AsRead
 pub mod Fronts
 pub mod Many
-pub mod Parts
 pub mod Steps
 pub mod Text
 pub mod Valid

@@ -2,16 +2,16 @@
 use Rattle.std.proofs.Common.{◌≡◌, ℕ, ◌<◌, ◌≤◌, ◌^◌, Bool, true, false, not, List, [], ◌∷◌, ◌++◌, map, Option, Ok, refl, ap, subst, ◌∙◌, arith, inl, append_assoc}
 use Rattle.std.specs.Prelude.{◌==◌, codes, decimal}
 use Rattle.std.specs.List.{list_all}
-use Rattle.std.proofs.lemmas.Bool.{ne_eqb}
 use Rattle.std.proofs.lemmas.List.Elements.{All-append, All-cons}
-use Rattle.cps_base.specs.Text.{is_callsign, is_callsign_byte}
+use Rattle.cps_base.specs.Text.{is_callsign}
+use Rattle.text_parts.specs.Parts.{parts}
+use Rattle.text_parts.specs.shared.Printed.{Lacks, callsign_lacks, cut, decimal_lacks, lacks_by}
 use Rattle.certificate.specs.declared.certificate.Claim.{Claim}
 use Rattle.certificate.specs.declared.certificate.Claim.TheVariants.{Optimal, Infeasible}
 use Rattle.certificate.specs.States.{Pair, State, IsState, AreStates}
-use Rattle.certificate.specs.Lines.{parts}
 use Rattle.certificate.specs.Reading.{Cert, IsClaim, AreLandings, IsCertificate, claim_behind, body_behind, body_lines, certificate_by, certificate_of}
 use Rattle.certificate.specs.Spelling.{digit_text, pattern_text, pair_text, pairs_text, state_text, landing_text, claim_text, landing_lines, state_lines, text_of}
-use Rattle.certificate.proofs.Again.{Lacks, cut, lacks_by, and_true, in_ranges, ArePairs, decimal_lacks, claim_reads}
+use Rattle.certificate.proofs.Again.{in_ranges, ArePairs, claim_reads}
 use Rattle.certificate.proofs.Whole.{lines_all, body_back}
 
 abbrev test : ℕ → Type 0
@@ -49,14 +49,8 @@ state_lacks s h =
     (join 32 (pattern_text s.pattern) (decimal s.last ++ pairs_text s.pairs) refl (pattern_line s.pattern)
     (All-append test (decimal s.last) (pairs_text s.pairs) (number s.last b) (pairs s.pairs (in_ranges s.pairs h.pairs)))))
 
-callsign : (text : List ℕ) → list_all is_callsign_byte text ≡ true → Lacks 10 text
-callsign [] e = λ k d lt. absurd (omega arith)
-callsign (b ∷ text) e =
-    let h = and_true (is_callsign_byte b) (list_all is_callsign_byte text) e in
-    All-cons test b text (ne_eqb b 10 (λ same. let x : is_callsign_byte 10 ≡ true = subst (λ (y : ℕ). is_callsign_byte y ≡ true) same h.0 in cc)) (callsign text h.1)
-
 landing_lacks : (l : List ℕ × ℕ) → is_callsign l.0 ≡ true → l.1 ≤ 172799 → Lacks 10 (landing_text l)
-landing_lacks l c t = join 32 (codes "land") (l.0 ++ 32 ∷ decimal l.1) refl (lacks_by 10 (codes "land") refl) (join 32 l.0 (decimal l.1) refl (callsign l.0 (and_true _ (list_all is_callsign_byte l.0) c).1) (number l.1 (omega arith)))
+landing_lacks l c t = join 32 (codes "land") (l.0 ++ 32 ∷ decimal l.1) refl (lacks_by 10 (codes "land") refl) (join 32 l.0 (decimal l.1) refl (callsign_lacks 10 l.0 refl c) (number l.1 (omega arith)))
 
 claim_lacks : (c : Claim) → IsClaim c → Lacks 10 (claim_text c)
 claim_lacks Infeasible h = lacks_by 10 (codes "claim infeasible") refl

@@ -9,12 +9,14 @@ use Rattle.std.proofs.lemmas.Grind.{common_steps}
 use Rattle.cps_base.specs.Number.{number_within, is_number}
 use Rattle.cps_base.specs.declared.number.NumberFault.TheVariants.{NotNumber, Below, Above}
 use Rattle.cps_base.specs.Text.{is_callsign}
+use Rattle.text_parts.specs.Parts.{callsign_in, number_in, ok_of, parts}
+use Rattle.text_parts.specs.shared.Printed.{and_is, and_true}
 use Rattle.certificate.specs.declared.certificate.Claim.{Claim}
 use Rattle.certificate.specs.declared.fault.CertFault.{CertFault}
 use Rattle.certificate.specs.declared.fault.CertFault.TheVariants as fault
 use Rattle.certificate.specs.Patterns.{is_pattern_length}
 use Rattle.certificate.specs.States.{Pair, State, IsState, is_pair, rises, comes_behind, follows, AreStates, AreAscending}
-use Rattle.certificate.specs.Lines.{number_in, ok_of, pattern_in, are_marks, is_digit, pair_by, pair_in, pairs_in, parts, state_from, state_by, state_in, landing_by, landing_in, callsign_in}
+use Rattle.certificate.specs.Lines.{pattern_in, are_marks, is_digit, pair_by, pair_in, pairs_in, state_from, state_by, state_in, landing_by, landing_in}
 use Rattle.certificate.specs.Reading.{Cert, IsClaim, AreLandings, IsCertificate, ◌>>=◌, Body, with_landing, with_state, line_in, lines_in, body_lines}
 
 pub then_some : {A B : Type 0} (o : Option A) (f : A → Option B) (y : B) → option_and_then f o ≡ Some y → (x : A) × (o ≡ Some x) × (f x ≡ Some y)
@@ -47,13 +49,6 @@ number_range text least most n e = go (not (is_number text)) (ltb (digits_value 
         let low = ltb-false (digits_value 10 text) least p in
         let high = ltb-false most (digits_value 10 text) q in
         (omega arith, omega arith)
-
-and_true : (a b : Bool) → a && b ≡ true → (a ≡ true) × (b ≡ true)
-and_true true b e = (refl, e)
-and_true false b e = absurd cc
-
-and_is : (a b : Bool) → a ≡ true → b ≡ true → a && b ≡ true
-and_is a b p q = rw (p, q) refl
 
 le_is : (m n : ℕ) → m ≤ n → leb m n ≡ true
 le_is m n h = grind (arith, common_steps)

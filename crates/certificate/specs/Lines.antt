@@ -1,30 +1,13 @@
 -- What one line of a certificate is.
-use Rattle.std.specs.Prelude.{ℕ, List, [], ◌∷◌, ◌&&◌, ◌||◌, ◌==◌, nat_lt, map, Bool, length, codes, bytes_eq, Option, Some, None, option_and_then, option_map, Result, Ok, Err, if◌then◌else◌}
-use Rattle.std.specs.List.{slice_split, list_all}
-use Rattle.cps_base.specs.Text.{is_callsign}
-use Rattle.cps_base.specs.Number.{number_within}
-use Rattle.cps_base.specs.declared.number.NumberFault.{NumberFault}
+use Rattle.std.specs.Prelude.{ℕ, List, [], ◌∷◌, ◌&&◌, ◌||◌, ◌==◌, nat_lt, map, Bool, length, codes, bytes_eq, Option, Some, None, option_and_then, option_map, if◌then◌else◌}
+use Rattle.std.specs.List.{list_all}
+use Rattle.landing_rules.specs.Limits.{most_waiting}
+use Rattle.landing_rules.specs.Rules.{last_second}
+use Rattle.text_parts.specs.Parts.{callsign_in, number_in, parts}
 use Rattle.certificate.specs.declared.certificate.Claim.{Claim}
 use Rattle.certificate.specs.declared.certificate.Claim.TheVariants.{Optimal, Infeasible}
 use Rattle.certificate.specs.Patterns.{is_pattern_length}
 use Rattle.certificate.specs.States.{Pair, State, rises}
-
--- the parts of a text round a byte
-abbrev pub parts : ℕ → List ℕ → List (List ℕ)
-parts mark text = slice_split (λ b. b == mark) text
-
-abbrev pub parts_left : ℕ → Option (List ℕ) → List (List ℕ)
-parts_left mark None = []
-parts_left mark (Some text) = parts mark text
-
-abbrev pub ok_of : Result ℕ NumberFault → Option ℕ
-ok_of (Ok n) = Some n
-ok_of (Err e) = None
-
-unfoldable pub number_in : List ℕ → ℕ → ℕ → Option ℕ
-number_in text least most = ok_of (number_within text least most)
-
--- ---- reading
 
 abbrev pub is_digit : ℕ → Bool
 is_digit b = b == 49
@@ -42,7 +25,7 @@ pattern_in text =
     else None
 
 abbrev pub pair_by : List (List ℕ) → Option Pair
-pair_by (second ∷ cost ∷ []) = option_and_then (λ t. option_map (λ c. (t, c)) (number_in cost 0 4294967295)) (number_in second 0 172799)
+pair_by (second ∷ cost ∷ []) = option_and_then (λ t. option_map (λ c. (t, c)) (number_in cost 0 4294967295)) (number_in second 0 last_second)
 pair_by fields = None
 
 unfoldable pub pair_in : List ℕ → Option Pair
@@ -58,7 +41,7 @@ state_with stage pattern last pairs =
 
 unfoldable pub state_from : List ℕ → List ℕ → List ℕ → List (List ℕ) → Option State
 state_from stage pattern last pairs =
-    option_and_then (λ a. option_and_then (λ p. option_and_then (λ l. option_and_then (state_with a p l) (pairs_in pairs)) (number_in last 1 60)) (pattern_in pattern)) (number_in stage 1 60)
+    option_and_then (λ a. option_and_then (λ p. option_and_then (λ l. option_and_then (state_with a p l) (pairs_in pairs)) (number_in last 1 most_waiting)) (pattern_in pattern)) (number_in stage 1 most_waiting)
 
 unfoldable pub state_by : List (List ℕ) → Option State
 state_by (word ∷ stage ∷ pattern ∷ last ∷ pairs) = if bytes_eq word (codes "state") then state_from stage pattern last pairs else None
@@ -68,12 +51,9 @@ state_by fields = None
 unfoldable pub state_in : List ℕ → Option State
 state_in line = state_by (parts 32 line)
 
-abbrev pub callsign_in : List ℕ → Option (List ℕ)
-callsign_in text = if is_callsign text then Some text else None
-
 unfoldable pub landing_by : List (List ℕ) → Option (List ℕ × ℕ)
 landing_by (word ∷ callsign ∷ second ∷ []) =
-    if bytes_eq word (codes "land") then option_and_then (λ c. option_map (λ t. (c, t)) (number_in second 0 172799)) (callsign_in callsign) else None
+    if bytes_eq word (codes "land") then option_and_then (λ c. option_map (λ t. (c, t)) (number_in second 0 last_second)) (callsign_in callsign) else None
 landing_by fields = None
 
 -- the landing that a line says

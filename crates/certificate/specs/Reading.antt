@@ -1,12 +1,14 @@
 -- The certificate that a text is, or the first fault of its first line that has one.
 use Rattle.std.specs.Prelude.{◌≡◌, ℕ, ◌+◌, ◌<◌, ◌≤◌, List, [], ◌∷◌, ◌++◌, true, ◌==◌, length, codes, bytes_eq, Option, Some, None, Result, Ok, Err, if◌then◌else◌}
 use Rattle.cps_base.specs.Text.{is_callsign}
+use Rattle.landing_rules.specs.Rules.{last_second}
 use Rattle.certificate.specs.declared.certificate.Claim.{Claim}
 use Rattle.certificate.specs.declared.certificate.Claim.TheVariants.{Optimal, Infeasible}
 use Rattle.certificate.specs.declared.fault.CertFault.{CertFault}
 use Rattle.certificate.specs.declared.fault.CertFault.TheVariants as fault
 use Rattle.certificate.specs.States.{State, follows, AreStates, AreAscending}
-use Rattle.certificate.specs.Lines.{parts, claim_in, landing_in, state_in}
+use Rattle.text_parts.specs.Parts.{parts}
+use Rattle.certificate.specs.Lines.{claim_in, landing_in, state_in}
 
 pub record Cert : Type 0 where
   pub claim : Claim
@@ -19,7 +21,7 @@ IsClaim Infeasible = Unit {0}
 
 abbrev pub AreLandings : List (List ℕ × ℕ) → Type 0
 AreLandings [] = Unit {0}
-AreLandings (l ∷ ls) = (is_callsign l.0 ≡ true) × (l.1 ≤ 172799) × AreLandings ls
+AreLandings (l ∷ ls) = (is_callsign l.0 ≡ true) × (l.1 ≤ last_second) × AreLandings ls
 
 pub record IsCertificate (c : Cert) : Type 0 where
   pub claim : IsClaim c.claim

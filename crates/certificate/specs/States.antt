@@ -4,6 +4,8 @@ use Rattle.std.specs.List.{list_all}
 use Rattle.std.specs.Ordering.{nat_cmp, bool_cmp, ordering_then, is_lt}
 use Rattle.std.specs.declared.cmp.Ordering.{Ordering}
 use Rattle.std.specs.Cmp.Lexicographic.{slice_cmp}
+use Rattle.landing_rules.specs.Limits.{most_waiting}
+use Rattle.landing_rules.specs.Rules.{last_second}
 use Rattle.certificate.specs.Patterns.{is_pattern_length}
 
 -- a second and a cost
@@ -18,7 +20,7 @@ pub record State : Type 0 where
   pub pairs : List Pair
 
 abbrev pub is_second : ℕ → Bool
-is_second t = nat_le t 172799
+is_second t = nat_le t last_second
 
 abbrev pub is_pair : Pair → Bool
 is_pair p = is_second p.0 && nat_le p.1 4294967295
@@ -30,9 +32,9 @@ rises (p ∷ []) = true
 rises (p ∷ q ∷ rest) = (nat_lt p.0 q.0 && nat_lt q.1 p.1) && rises (q ∷ rest)
 
 pub record IsState (s : State) : Type 0 where
-  pub stage : (1 ≤ s.stage) × (s.stage ≤ 60)
+  pub stage : (1 ≤ s.stage) × (s.stage ≤ most_waiting)
   pub pattern : is_pattern_length (length s.pattern) ≡ true
-  pub last : (1 ≤ s.last) × (s.last ≤ 60)
+  pub last : (1 ≤ s.last) × (s.last ≤ most_waiting)
   pub some_pairs : 1 ≤ length s.pairs
   pub pairs : list_all is_pair s.pairs ≡ true
   pub rising : rises s.pairs ≡ true

@@ -2,7 +2,6 @@
 #![tactic(auto)]
 
 mod certificate;
-mod cuts;
 mod fault;
 mod lines;
 mod pattern;

@@ -1,27 +1,20 @@
 ghost use Rattle.std.specs.Prelude.{◌≡◌, ◌≤◌, ◌<◌, true, length, take, option_map, IfOk, IfSome, map};
 ghost use Rattle.std.specs.List.{list_all};
+ghost use Rattle.landing_rules.specs.Limits.{most_waiting};
 ghost use Rattle.certificate.specs.Patterns.{is_pattern_length};
 ghost use Rattle.certificate.specs.States.{rises, is_pair};
 ghost use Rattle.certificate.specs.Reading.{IsClaim};
-ghost use Rattle.certificate.specs.Lines.{parts, parts_left, number_in, is_mark, are_marks, is_digit, pattern_in, pair_in, pairs_in, state_with, state_from, state_in, landing_in, claim_in};
+ghost use Rattle.text_parts.specs.Parts.{parts, parts_left, number_in};
+ghost use Rattle.certificate.specs.Lines.{is_mark, are_marks, is_digit, pattern_in, pair_in, pairs_in, state_with, state_from, state_in, landing_in, claim_in};
 
 use crate::certificate::Claim;
-use crate::cuts::first_part;
 use crate::pattern::Pattern;
 use crate::state::CertState;
-use cps_base::{Callsign, read_number};
+use cps_base::Callsign;
+use landing_rules::MOST_WAITING;
+use landing_windows::LAST_SECOND;
 use std::alloc::{AllocError, Global};
-
-#[tactic(auto, unfolding(crate::specs::Lines::number_in))]
-fn number_in(text: &[u8], least: u64, most: u64) -> Option<u64>
-    ensures value { result ≡ number_in text.now least most }
-    ensures range { IfSome result (λ n. (least ≤ n) × (n ≤ most)) }
-{
-    match read_number(text, least, most) {
-        Ok(n) => Some(n),
-        Err(_) => None,
-    }
-}
+use text_parts::{first_part, number_in};
 
 fn are_all_marks(text: &[u8]) -> bool
     ensures { result ≡ list_all is_mark text.now }
@@ -76,7 +69,7 @@ fn pair_of(text: &[u8]) -> Option<(u32, u32)>
     if let Some(_) = more {
         return None;
     }
-    let second = number_in(second, 0, 172_799)?;
+    let second = number_in(second, 0, u64::from(LAST_SECOND))?;
     let cost = number_in(cost, 0, 4_294_967_295)?;
     Some((second as u32, cost as u32))
 }
@@ -137,7 +130,7 @@ pub(crate) fn landing_of(line: &[u8]) -> Option<(Callsign, u32)>
         return None;
     }
     let callsign = Callsign::read(callsign)?;
-    let second = number_in(second, 0, 172_799)?;
+    let second = number_in(second, 0, u64::from(LAST_SECOND))?;
     Some((callsign, second as u32))
 }
 
@@ -170,8 +163,8 @@ pub(crate) fn claim_of(line: &[u8]) -> Option<Claim>
 }
 
 fn state_with(stage: u8, pattern: Pattern, last: u8, pairs: Vec<(u32, u32)>) -> Option<CertState>
-    requires stage { (1 ≤ stage) × (stage ≤ 60) }
-    requires last { (1 ≤ last) × (last ≤ 60) }
+    requires stage { (1 ≤ stage) × (stage ≤ most_waiting) }
+    requires last { (1 ≤ last) × (last ≤ most_waiting) }
     requires pattern { is_pattern_length (length pattern) ≡ true }
     requires pairs { list_all is_pair pairs.items ≡ true }
     ensures { result ≡ state_with stage pattern last pairs.items }
@@ -194,13 +187,13 @@ fn state_from(
     ensures { IfOk result (λ o. o ≡ state_from stage.now pattern.now last.now
         (parts_left 32 (option_map (λ t. t.now) pairs.entry))) }
 {
-    let Some(stage) = number_in(stage, 1, 60) else {
+    let Some(stage) = number_in(stage, 1, u64::from(MOST_WAITING)) else {
         return Ok(None);
     };
     let Some(pattern) = pattern_of(pattern) else {
         return Ok(None);
     };
-    let Some(last) = number_in(last, 1, 60) else {
+    let Some(last) = number_in(last, 1, u64::from(MOST_WAITING)) else {
         return Ok(None);
     };
     match pairs_of(alloc, pairs)? {

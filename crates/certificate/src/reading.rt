@@ -1,16 +1,16 @@
 ghost use Rattle.std.specs.Prelude.{◌≡◌, ◌<◌, length, IfOk};
 ghost use Rattle.certificate.specs.Reading.{Gives, Takes, IsClaim, body_lines, certificate_of, line_in};
-ghost use Rattle.certificate.specs.Lines.{parts};
+ghost use Rattle.text_parts.specs.Parts.{parts};
 ghost use Rattle.certificate.specs.States.{follows};
 ghost use Rattle.certificate.specs.Spelling.{text_of};
 
 use crate::certificate::{Certificate, Claim};
-use crate::cuts::first_part;
 use crate::fault::CertFault;
 use crate::lines::{claim_of, landing_of, state_of};
 use crate::state::{CertState, comes_before};
 use cps_base::Callsign;
 use std::alloc::Global;
+use text_parts::first_part;
 
 fn follows(states: &[CertState], state: &CertState) -> bool
     ensures { result ≡ follows states.now state.now }

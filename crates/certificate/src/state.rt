@@ -1,5 +1,6 @@
 ghost use Rattle.std.specs.Prelude.{◌≡◌, true, ◌≤◌, length, vec_len};
 ghost use Rattle.std.specs.List.{list_all};
+ghost use Rattle.landing_rules.specs.Limits.{most_waiting};
 ghost use Rattle.certificate.specs.States.{IsState, state_cmp, comes_before, is_pair, rises};
 
 use crate::pattern::Pattern;
@@ -62,7 +63,7 @@ impl CertState {
     /// How many ranks are placed: 1 to 60.
     pub fn stage(&self) -> u8
         ensures value { result ≡ self.now.stage }
-        ensures range { (1 ≤ result) × (result ≤ 60) }
+        ensures range { (1 ≤ result) × (result ≤ most_waiting) }
     {
         self.stage
     }
@@ -77,7 +78,7 @@ impl CertState {
     /// The rank that is placed last: 1 to 60.
     pub fn last(&self) -> u8
         ensures value { result ≡ self.now.last }
-        ensures range { (1 ≤ result) × (result ≤ 60) }
+        ensures range { (1 ≤ result) × (result ≤ most_waiting) }
     {
         self.last
     }

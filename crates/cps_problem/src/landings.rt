@@ -1,4 +1,5 @@
 ghost use Rattle.std.specs.Prelude.{◌≡◌, ◌≤◌, ◌*◌, length, IfSome};
+ghost use Rattle.wake_table.specs.Table.{greatest_separation};
 ghost use Rattle.landing_rules.specs.Rules.{last_second};
 ghost use Rattle.cps_theory.specs.Feasible.{next_from};
 ghost use Rattle.landing_joint.specs.RankedProblem.{ranked, landing_after, cost_at, apart_at, start_at, first_at};
@@ -14,7 +15,7 @@ impl Problem {
         requires leader { (1 ≤ leader) × (leader ≤ length self.now.flights) }
         requires follower { (1 ≤ follower) × (follower ≤ length self.now.flights) }
         ensures value { result ≡ apart_at self.now leader follower }
-        ensures range { (1 ≤ result) × (result ≤ 600) }
+        ensures range { (1 ≤ result) × (result ≤ greatest_separation) }
     {
         self.head().table.sep(self.flight(leader).category, self.flight(follower).category)
     }

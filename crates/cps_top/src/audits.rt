@@ -1,6 +1,7 @@
 // The command `audit`.
 ghost use Rattle.std.specs.Prelude.{◌≡◌, ◌≤◌, [], ◌∷◌, IfOk, MatchResult, length};
 ghost use Rattle.landing_rules.specs.Audit.{findings};
+ghost use Rattle.landing_rules.specs.Limits.{most_flights};
 ghost use Rattle.audit.specs.Blocks.{seen_block};
 ghost use Rattle.aerodrome_file.specs.Reading.{IsInRange};
 ghost use Rattle.flight_file.specs.OfFile.{CanBeRead};
@@ -30,7 +31,7 @@ struct Report {
 // What is found of a plan block: a line for each finding, or that there is none.
 fn report_block(alloc: Global, situation: &Situation, block: &Block) -> Result<Report, AllocError>
     requires sound { IsSound situation.now }
-    requires few { length block.now.lines ≤ 500 }
+    requires few { length block.now.lines ≤ most_flights }
     ensures text { IfOk result (λ r. r.text.items ≡
         report (findings situation.now (seen_block block.now))) }
     ensures answer { IfOk result (λ r. r.answer ≡

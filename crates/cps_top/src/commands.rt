@@ -2,6 +2,7 @@ ghost use Rattle.std.specs.Prelude.{◌≡◌, Some, IfSome, ◌≤◌, length, 
 ghost use Rattle.cps_top.specs.Commands.{IsInRange, command_of, file_count, files_of, number_of, trial_of};
 
 use cps_base::read_number;
+use landing_rules::MOST_WAITING;
 
 /// The commands, each with its first word.
 #[derive(Clone, Copy, Debug, PartialEq, Eq)]
@@ -44,7 +45,7 @@ fn read_trial(words: &[String]) -> Option<Command>
         return None;
     };
     let seed = number(seed.as_str(), 0, 4_294_967_295)?;
-    let n = number(n.as_str(), 1, 60)? as u8;
+    let n = number(n.as_str(), 1, u32::from(MOST_WAITING))? as u8;
     let k = number(k.as_str(), 0, 3)? as u8;
     Some(Command::Trial { seed, n, k })
 }

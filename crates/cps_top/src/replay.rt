@@ -1,5 +1,6 @@
 // The command `replay`.
 ghost use Rattle.std.specs.Prelude.{◌≡◌, ◌≤◌, [], ◌∷◌, All, map, vec_len, IfOk, MatchResult};
+ghost use Rattle.landing_rules.specs.Limits.{most_events};
 ghost use Rattle.event_log.specs.Seen.{event_of, IsGood};
 ghost use Rattle.cps_top.specs.declared.commands.Command.TheVariants as commands;
 ghost use Rattle.cps_top.specs.Plan.{IsPlannedAnew};
@@ -34,7 +35,7 @@ pub(crate) fn begin_files<R: Threads + Sync, G: Gate + Sync>(
     ensures begun { MatchResult result
         (λ begun. IsBegun aerodrome.now flights.now events.now
         begun.0.state (map event_of begun.1.items)
-        × (All IsGood begun.1.items) × (vec_len begun.1 ≤ 2000))
+        × (All IsGood begun.1.items) × (vec_len begun.1 ≤ most_events))
         (StopsReplay aerodrome.now flights.now events.now) }
     ensures planned { IfOk result (λ begun. IsPlannedAnew begun.0 begun.2) }
 {

@@ -1,5 +1,6 @@
 // The command `trial`.
 ghost use Rattle.std.specs.Prelude.{◌≡◌, ◌≤◌, [], length, MatchResult, IfOk, OnOk};
+ghost use Rattle.landing_rules.specs.Limits.{most_waiting};
 ghost use Rattle.landing_rules.specs.Text.{plan_shown};
 ghost use Rattle.aerodrome_file.specs.Reading.{IsInRange};
 ghost use Rattle.flight_file.specs.OfFile.{CanBeRead};
@@ -53,7 +54,7 @@ fn write_traffic<R: Threads + Sync, G: Gate + Sync>(
 ) -> Result<Answer, Ending>
     requires range { IsInRange traffic.aerodrome }
     requires read { CanBeRead traffic.flights }
-    requires few { length traffic.flights ≤ 60 }
+    requires few { length traffic.flights ≤ most_waiting }
     requires none_frozen { traffic.aerodrome.frozen ≡ [] }
     requires none_passed { traffic.aerodrome.passed ≡ [] }
     requires empty { text.old.items ≡ [] }
@@ -78,7 +79,7 @@ fn write_trial<R: Threads + Sync, G: Gate + Sync>(
     gate: &G,
     text: &mut Vec<u8>,
 ) -> Result<Answer, Ending>
-    requires count { (1 ≤ n) × (n ≤ 60) }
+    requires count { (1 ≤ n) × (n ≤ most_waiting) }
     requires shifts { k ≤ 3 }
     requires empty { text.old.items ≡ [] }
     ensures { MatchResult result
@@ -99,7 +100,7 @@ pub(crate) fn trial<R: Threads + Sync, S: Sink, G: Gate + Sync>(
     out: &mut S,
     gate: &G,
 ) -> Ending
-    requires count { (1 ≤ n) × (n ≤ 60) }
+    requires count { (1 ≤ n) × (n ≤ most_waiting) }
     requires shifts { k ≤ 3 }
     ensures { Follows (commands.Trial seed n k) [] (S.state out.old) (S.state out.new) result }
 {

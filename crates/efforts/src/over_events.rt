@@ -1,4 +1,5 @@
 ghost use Rattle.std.specs.Prelude.{◌≡◌, ◌≤◌, All, Some, None, MatchOption, MatchResult, is_some, length, map, ⊤};
+ghost use Rattle.landing_rules.specs.Limits.{most_events};
 ghost use Rattle.landing_rules.specs.Sound.{IsGoodEvent};
 ghost use Rattle.cps_network.specs.Due.{IsDue};
 ghost use Rattle.event_log.specs.Seen.{event_of, IsGood};
@@ -88,7 +89,7 @@ fn plan_events<R: Threads + Sync, S: Sink, G: Gate + Sync>(
     gate: &G,
 ) -> Result<u64, Stop>
     requires good { All IsGood events.now }
-    requires few { length events.now ≤ 2000 }
+    requires few { length events.now ≤ most_events }
     requires held { IsHeld sequencer.old }
     ensures { EventsPlan sequencer.old sequencer.new (map event_of events.now) (S.state out.old)
         (S.state out.new) result }
@@ -143,7 +144,7 @@ pub fn effort<R: Threads + Sync, S: Sink, G: Gate + Sync>(
     gate: &G,
 ) -> Result<bool, Stop>
     requires good { All IsGood events.now }
-    requires few { length events.now ≤ 2000 }
+    requires few { length events.now ≤ most_events }
     requires held { IsHeld sequencer.old }
     requires opened { IsDue None sequencer.old.problem opening }
     ensures { EffortEnds sequencer.old.state sequencer.new.state (map event_of events.now)

@@ -1,5 +1,7 @@
 -- What the columns of a record hold, or the fault of a column.
 use Rattle.std.specs.Prelude.{ℕ, List, ◌==◌, length, Option, Some, None, Result, Ok, Err, if◌then◌else◌}
+use Rattle.landing_rules.specs.Limits.{greatest_weight}
+use Rattle.landing_rules.specs.Rules.{last_second}
 use Rattle.csv_records.specs.Rows.{Fields, field}
 use Rattle.cps_base.specs.Text.{is_callsign}
 use Rattle.cps_base.specs.Number.{number_within}
@@ -40,10 +42,10 @@ category_in r = category_or (category_of (column Category r))
 
 -- a second of the two days, which of a clock's event is the clock's
 abbrev pub second_in : Fields → Result ℕ LogCause
-second_in r = fault_as (λ e. Field Eta (fault.Number e)) (number_within (column Eta r) 0 172799)
+second_in r = fault_as (λ e. Field Eta (fault.Number e)) (number_within (column Eta r) 0 last_second)
 
 abbrev pub weight_in : Fields → Result ℕ LogCause
-weight_in r = fault_as (λ e. Field Weight (fault.Number e)) (number_within (column Weight r) 1 100)
+weight_in r = fault_as (λ e. Field Weight (fault.Number e)) (number_within (column Weight r) 1 greatest_weight)
 
 abbrev pub windows_at : Fields → Result (List (ℕ × ℕ)) LogCause
 windows_at r = fault_as (λ e. Field Windows (fault.Windows e)) (windows_in (column Windows r))

@@ -1,5 +1,6 @@
 -- The events of a log, or the first fault of its first record that has one, over the records that `csv` reads.
 use Rattle.std.specs.Prelude.{ℕ, List, [], ◌∷◌, ◌++◌, Bool, not, ◌==◌, ◌&&◌, ◌+◌, nat_le, length, codes, bytes_eq, Result, Ok, Err, if◌then◌else◌}
+use Rattle.landing_rules.specs.Limits.{most_events}
 use Rattle.csv_records.specs.Rows.{Fields, field, records_of}
 use Rattle.flight_file.specs.Answers.{◌>>=◌}
 use Rattle.event_log.specs.declared.event.Event.{Event}
@@ -19,7 +20,7 @@ is_header r =
 unfoldable pub event_in : ℕ → Fields → Result Event LogCause
 event_in n r =
     if not (length r == 7) then Err cause.FieldCount
-    else (event_by (field r 0) r >>= (λ e. if nat_le 2000 n then Err cause.TooMany else Ok e))
+    else (event_by (field r 0) r >>= (λ e. if nat_le most_events n then Err cause.TooMany else Ok e))
 
 -- the first record is not the header
 abbrev pub header_fault : LogFault

@@ -1,5 +1,6 @@
 -- The span of a closure that a text is, or its first fault.
 use Rattle.std.specs.Prelude.{ℕ, List, [], ◌∷◌, nat_le, Result, Ok, Err, if◌then◌else◌}
+use Rattle.landing_rules.specs.Rules.{last_second}
 use Rattle.text_parts.specs.Parts.{parts}
 use Rattle.cps_base.specs.Number.{number_within}
 use Rattle.flight_file.specs.declared.fault.WindowsCause.TheVariants.{Shape, Number}
@@ -16,7 +17,7 @@ forward from to = if nat_le to from then Err EmptySpan else Ok (from, to)
 
 -- the text, cut at each `-`
 abbrev pub span_by : List (List ℕ) → Result (ℕ × ℕ) FieldCause
-span_by (first ∷ last ∷ []) = second_in first 172799 >>= (λ from. second_in last 172800 >>= (λ to. forward from to))
+span_by (first ∷ last ∷ []) = second_in first last_second >>= (λ from. second_in last (last_second + 1) >>= (λ to. forward from to))
 span_by ps = Err (Windows (Shape 1))
 
 -- the span that a text is, `from-to`: its first second, and the first second behind it

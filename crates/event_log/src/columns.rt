@@ -2,6 +2,8 @@
 ghost use Rattle.std.specs.Prelude.{◌≡◌, ◌≤◌, ◌<◌, IfOk, true, length};
 ghost use Rattle.csv.specs.Records.{fields_of};
 ghost use Rattle.cps_base.specs.Text.{is_callsign};
+ghost use Rattle.landing_rules.specs.Limits.{greatest_weight};
+ghost use Rattle.landing_rules.specs.Rules.{last_second};
 ghost use Rattle.landing_rules.specs.Sound.{AreGoodWindows};
 ghost use Rattle.event_log.specs.Columns.{column, empty_in, callsign_in, category_in, second_in, weight_in, windows_at, names_at, span_at};
 
@@ -11,6 +13,7 @@ use cps_base::{Callsign, read_number};
 use csv::ByteRecord;
 use csv_records::field;
 use flight_file::{After, read_after, read_windows};
+use landing_rules::GREATEST_WEIGHT;
 use landing_windows::{LAST_SECOND, WindowSet};
 use wake_table::Category;
 
@@ -63,7 +66,7 @@ pub(crate) fn category_in(row: &ByteRecord) -> Result<Category, LogCause>
 // The estimated second, or that of the clock.
 pub(crate) fn second_in(row: &ByteRecord) -> Result<u32, LogCause>
     ensures value { result ≡ second_in (fields_of row.now) }
-    ensures range { IfOk result (λ second. second ≤ 172799) }
+    ensures range { IfOk result (λ second. second ≤ last_second) }
 {
     match read_number(column(row, Col::Eta), 0, u64::from(LAST_SECOND)) {
         Ok(second) => Ok(second as u32),
@@ -74,9 +77,9 @@ pub(crate) fn second_in(row: &ByteRecord) -> Result<u32, LogCause>
 // The weight.
 pub(crate) fn weight_in(row: &ByteRecord) -> Result<u32, LogCause>
     ensures value { result ≡ weight_in (fields_of row.now) }
-    ensures range { IfOk result (λ weight. (1 ≤ weight) × (weight ≤ 100)) }
+    ensures range { IfOk result (λ weight. (1 ≤ weight) × (weight ≤ greatest_weight)) }
 {
-    match read_number(column(row, Col::Weight), 1, 100) {
+    match read_number(column(row, Col::Weight), 1, u64::from(GREATEST_WEIGHT)) {
         Ok(weight) => Ok(weight as u32),
         Err(fault) => Err(LogCause::Field(Col::Weight, FieldCause::Number(fault))),
     }
@@ -113,7 +116,7 @@ pub(crate) fn after_in(row: &ByteRecord, own: Callsign) -> Result<After, LogCaus
 // The span of a closure.
 pub(crate) fn span_in(row: &ByteRecord) -> Result<(u32, u32), LogCause>
     ensures value { result ≡ span_at (fields_of row.now) }
-    ensures forward { IfOk result (λ span. (span.0 < span.1) × (span.1 ≤ 172800)) }
+    ensures forward { IfOk result (λ span. (span.0 < span.1) × (span.1 ≤ last_second + 1)) }
 {
     match read_span(column(row, Col::Windows)) {
         Ok(span) => Ok(span),

@@ -1,5 +1,6 @@
 ghost use Rattle.std.specs.Prelude.{◌≡◌, [], ◌∷◌, ◌≤◌, ◌<◌, All, length, OnOk, IfOk, vec_len};
 ghost use Rattle.csv.specs.Records.{fields_of};
+ghost use Rattle.landing_rules.specs.Limits.{most_events};
 ghost use Rattle.event_log.specs.Answers.{Gives};
 ghost use Rattle.event_log.specs.Seen.{IsGood};
 ghost use Rattle.event_log.specs.Reading.{is_header, event_in, header_fault, added, events_in, events_by, events_of};
@@ -9,6 +10,7 @@ use crate::fault::{LogCause, LogFault};
 use crate::kinds::event_by;
 use csv::ByteRecord;
 use csv_records::{Records, field};
+use landing_rules::MOST_EVENTS;
 use std::alloc::Global;
 
 // Whether a record is the header of the file.
@@ -31,13 +33,13 @@ fn is_header(row: &ByteRecord) -> bool
 fn event_in(before: usize, row: &ByteRecord) -> Result<Event, LogCause>
     ensures value { result ≡ event_in before (fields_of row.now) }
     ensures good { IfOk result IsGood }
-    ensures room { IfOk result (λ _. before < 2000) }
+    ensures room { IfOk result (λ _. before < most_events) }
 {
     if row.len() != 7 {
         return Err(LogCause::FieldCount);
     }
     let event = event_by(field(row, 0), row)?;
-    if before >= 2000 {
+    if before >= MOST_EVENTS {
         return Err(LogCause::TooMany);
     }
     Ok(event)
@@ -45,11 +47,11 @@ fn event_in(before: usize, row: &ByteRecord) -> Result<Event, LogCause>
 
 // One more event, behind those of the records before.
 fn add_event(events: &mut Vec<Event>, row: &ByteRecord) -> Result<(), LogFault>
-    requires few { vec_len events.old ≤ 2000 }
+    requires few { vec_len events.old ≤ most_events }
     requires good { All IsGood events.old.items }
     ensures value { Gives (λ _. events.new.items) result
         (added events.old.items (event_in (length events.old.items) (fields_of row.now))) }
-    ensures few { OnOk result (vec_len events.new ≤ 2000) }
+    ensures few { OnOk result (vec_len events.new ≤ most_events) }
     ensures good { OnOk result (All IsGood events.new.items) }
 {
     match event_in(events.len(), row) {
@@ -72,7 +74,7 @@ fn events_in(
     row: &mut ByteRecord,
 ) -> Result<Vec<Event>, LogFault>
     ensures value { Gives (λ v. v.items) result (events_in [] records.old) }
-    ensures few { IfOk result (λ v. vec_len v ≤ 2000) }
+    ensures few { IfOk result (λ v. vec_len v ≤ most_events) }
     ensures good { IfOk result (λ v. All IsGood v.items) }
 {
     let mut events = Vec::new(alloc);
@@ -86,7 +88,7 @@ fn events_in(
 #[tactic(auto, unfolding(crate::specs::Reading::events_by))]
 fn events_by(alloc: Global, records: &mut Records) -> Result<Vec<Event>, LogFault>
     ensures value { Gives (λ v. v.items) result (events_by records.old) }
-    ensures few { IfOk result (λ v. vec_len v ≤ 2000) }
+    ensures few { IfOk result (λ v. vec_len v ≤ most_events) }
     ensures good { IfOk result (λ v. All IsGood v.items) }
 {
     let mut row = ByteRecord::new(alloc);
@@ -102,7 +104,7 @@ fn events_by(alloc: Global, records: &mut Records) -> Result<Vec<Event>, LogFaul
 #[tactic(auto, using(crate::proofs::Wide::events_within))]
 pub fn read_events(alloc: Global, bytes: &[u8]) -> Result<Vec<Event>, LogFault>
     ensures value { Gives (λ v. v.items) result (events_of bytes.now) }
-    ensures few { IfOk result (λ v. vec_len v ≤ 2000) }
+    ensures few { IfOk result (λ v. vec_len v ≤ most_events) }
     ensures good { IfOk result (λ v. All IsGood v.items) }
 {
     let mut records = Records::new(alloc, bytes, 7);

@@ -1,4 +1,5 @@
 ghost use Rattle.std.specs.Prelude.{◌≡◌, ◌≤◌, ◌<◌, IfOk};
+ghost use Rattle.landing_rules.specs.Rules.{last_second};
 ghost use Rattle.event_log.specs.Spans.{second_in, span_in};
 
 use crate::fault::FieldCause;
@@ -9,7 +10,7 @@ use text_parts::first_part;
 
 // A second of a span.
 fn second_in(text: &[u8], most: u64) -> Result<u32, FieldCause>
-    requires { most ≤ 172800 }
+    requires { most ≤ last_second + 1 }
     ensures value { result ≡ second_in text.now most }
     ensures range { IfOk result (λ second. second ≤ most) }
 {
@@ -26,7 +27,7 @@ fn second_in(text: &[u8], most: u64) -> Result<u32, FieldCause>
 #[tactic(auto, unfolding(crate::specs::Spans::span_in))]
 pub fn read_span(text: &[u8]) -> Result<(u32, u32), FieldCause>
     ensures value { result ≡ span_in text.now }
-    ensures forward { IfOk result (λ span. (span.0 < span.1) × (span.1 ≤ 172800)) }
+    ensures forward { IfOk result (λ span. (span.0 < span.1) × (span.1 ≤ last_second + 1)) }
 {
     let (from, rest) = first_part(text, b'-');
     let Some(rest) = rest else {

@@ -1,5 +1,6 @@
 ghost use Rattle.std.specs.Prelude.{◌≡◌, ℕ, ◌+◌, ◌-◌, ◌<◌, ◌≤◌, ◌↔◌, [], length, slice_get, count_by, Some, None, IfSome, IsNone, IsTrue, MatchResult, Contains, MatchOption};
 ghost use Rattle.std.specs.Ordering.{is_lt};
+ghost use Rattle.landing_rules.specs.Limits.{most_waiting};
 ghost use Rattle.landing_rules.specs.Rules.{first_come_cmp};
 ghost use Rattle.fcfs_order.specs.Order.{IsOrder, with_arrival, without};
 
@@ -41,7 +42,7 @@ impl Order {
     /// Takes a flight in, at its place. It is not there yet, and fewer than 60 flights are.
     pub fn insert(&mut self, eta: u32, callsign: Callsign) -> Result<(), AllocError>
         requires absent { Contains self.old (eta, callsign) → ⊥ }
-        requires room { length self.old < 60 }
+        requires room { length self.old < most_waiting }
         ensures { MatchResult result (λ _. self.new ≡ with_arrival (eta, callsign) self.old)
             (λ _. self.new ≡ self.old) }
     {

@@ -1,6 +1,8 @@
 -- The flights of a file, or the first fault of its first record that has one, over the records that `csv` reads.
 use Rattle.std.specs.Prelude.{ℕ, List, [], ◌∷◌, ◌++◌, Bool, not, ◌==◌, ◌&&◌, ◌+◌, nat_le, length, codes, bytes_eq, Option, Some, None, Result, Ok, Err, if◌then◌else◌}
 use Rattle.std.specs.List.{list_any}
+use Rattle.landing_rules.specs.Limits.{greatest_weight, most_flights}
+use Rattle.landing_rules.specs.Rules.{last_second}
 use Rattle.csv_records.specs.Rows.{Fields, field, records_of}
 use Rattle.cps_base.specs.Text.{is_callsign}
 use Rattle.cps_base.specs.Number.{number_within}
@@ -36,12 +38,12 @@ unfoldable pub flight_by : List Flight → List ℕ → List ℕ → List ℕ �
 flight_by before callsign category eta weight windows after = do
   name ← callsign_in callsign
   letter ← category_or (category_of category)
-  second ← fault_as cause.Eta (number_within eta 0 172799)
-  worth ← fault_as cause.Weight (number_within weight 1 100)
+  second ← fault_as cause.Eta (number_within eta 0 last_second)
+  worth ← fault_as cause.Weight (number_within weight 1 greatest_weight)
   spans ← fault_as cause.Windows (windows_in windows)
   names ← fault_as cause.After (names_in name after)
   if has_callsign before name then Err cause.Duplicate
-      else if nat_le 500 (length before) then Err cause.TooMany
+      else if nat_le most_flights (length before) then Err cause.TooMany
       else Ok (record { callsign = name; category = letter; eta = second; weight = worth; windows = spans; after = names })
 
 -- the flight that a record is, behind the flights before it

@@ -1,5 +1,6 @@
 -- The windows that a field holds, or its first fault.
 use Rattle.std.specs.Prelude.{ℕ, List, [], ◌∷◌, ◌==◌, ◌+◌, nat_lt, length, Result, Ok, Err, if◌then◌else◌}
+use Rattle.landing_rules.specs.Rules.{last_second}
 use Rattle.text_parts.specs.Parts.{parts}
 use Rattle.cps_base.specs.Number.{number_within}
 use Rattle.landing_windows.specs.Windows.{windows_of}
@@ -10,7 +11,7 @@ use Rattle.flight_file.specs.Answers.{◌>>=◌, fault_as}
 
 -- a second of part i
 abbrev pub second_in : ℕ → List ℕ → Result ℕ WindowsCause
-second_in i text = fault_as (λ e. Number i e) (number_within text 0 172799)
+second_in i text = fault_as (λ e. Number i e) (number_within text 0 last_second)
 
 -- part i, cut at each `-`
 abbrev pub window_by : ℕ → List (List ℕ) → Result (ℕ × ℕ) WindowsCause

@@ -1,5 +1,6 @@
 ghost use Rattle.std.specs.Prelude.{◌≡◌, false, [], ◌∷◌, ◌≤◌, ◌<◌, length, OnOk, IfOk, vec_len};
 ghost use Rattle.csv.specs.Records.{fields_of};
+ghost use Rattle.landing_rules.specs.Limits.{most_flights};
 ghost use Rattle.flight_file.specs.Answers.{Gives};
 ghost use Rattle.flight_file.specs.OfFile.{IsOfFile, CanBeRead};
 ghost use Rattle.flight_file.specs.Reading.{is_header, has_callsign, flight_in, flight_by, header_fault, added, flights_in, flights_by, flights_of};
@@ -11,6 +12,7 @@ use crate::windows::read_windows;
 use cps_base::{Callsign, read_number};
 use csv::ByteRecord;
 use csv_records::{Records, field};
+use landing_rules::{GREATEST_WEIGHT, MOST_FLIGHTS};
 use landing_windows::LAST_SECOND;
 use std::alloc::Global;
 use wake_table::Category;
@@ -42,7 +44,7 @@ fn flight_in(flights: &[Flight], row: &ByteRecord) -> Result<Flight, FlightCause
     ensures value { result ≡ flight_in flights.now (fields_of row.now) }
     ensures of_file { IfOk result IsOfFile }
     ensures new { IfOk result (λ f. has_callsign flights.now f.callsign ≡ false) }
-    ensures room { IfOk result (λ _. length flights.now < 500) }
+    ensures room { IfOk result (λ _. length flights.now < most_flights) }
 {
     if row.len() != 6 {
         return Err(FlightCause::FieldCount);
@@ -57,7 +59,7 @@ fn flight_in(flights: &[Flight], row: &ByteRecord) -> Result<Flight, FlightCause
         Ok(eta) => eta as u32,
         Err(fault) => return Err(FlightCause::Eta(fault)),
     };
-    let weight = match read_number(field(row, 3), 1, 100) {
+    let weight = match read_number(field(row, 3), 1, u64::from(GREATEST_WEIGHT)) {
         Ok(weight) => weight as u32,
         Err(fault) => return Err(FlightCause::Weight(fault)),
     };
@@ -72,7 +74,7 @@ fn flight_in(flights: &[Flight], row: &ByteRecord) -> Result<Flight, FlightCause
     if has_callsign(flights, callsign) {
         return Err(FlightCause::Duplicate);
     }
-    if flights.len() >= 500 {
+    if flights.len() >= MOST_FLIGHTS {
         return Err(FlightCause::TooMany);
     }
     Ok(Flight {

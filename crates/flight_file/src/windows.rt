@@ -1,5 +1,6 @@
 ghost use Rattle.std.specs.Prelude.{◌≡◌, ◌≤◌, IsTrue, length, take, IfOk};
 ghost use Rattle.std.specs.List.{list_all};
+ghost use Rattle.landing_rules.specs.Rules.{last_second};
 ghost use Rattle.text_parts.specs.Parts.{parts};
 ghost use Rattle.landing_windows.specs.Windows.{is_in_days};
 ghost use Rattle.flight_file.specs.Answers.{ok_map};
@@ -13,7 +14,7 @@ use text_parts::{first_part, has_many_parts};
 // The second that a text in part `number` is.
 fn second_in(number: u8, text: &[u8]) -> Result<u32, WindowsCause>
     ensures value { result ≡ second_in number text.now }
-    ensures range { IfOk result (λ second. second ≤ 172799) }
+    ensures range { IfOk result (λ second. second ≤ last_second) }
 {
     match read_number(text, 0, u64::from(LAST_SECOND)) {
         Ok(second) => Ok(second as u32),

@@ -6,6 +6,7 @@ use Rattle.std.specs.List.{AllAdjacentBelow}
 use Rattle.cps_base.specs.Text.{is_callsign}
 use Rattle.wake_table.specs.Table.{IsWakeTable}
 use Rattle.landing_rules.specs.Flights.{Span, Flight, Active, Situation, Landing, waiting, horizon}
+use Rattle.landing_rules.specs.Limits.{greatest_weight, most_closures, most_flights, most_open_seconds, most_waiting}
 use Rattle.landing_rules.specs.Rules.{last_second, is_open, lists, AreSeparated, AreInPrecedence}
 use Rattle.landing_rules.specs.Events.{Event, Estimate, Cancel, Add, Close, Reopen, Clock, State, IsPlanShown, frozen_landings}
 
@@ -14,12 +15,12 @@ pub record AreGoodWindows (windows : List Span) : Type 0 where
   pub count : (1 ≤ length windows) × (length windows ≤ 4)
   pub spans : All (λ w. (w.0 ≤ w.1) × (w.1 ≤ last_second)) windows
   pub apart : AllAdjacentBelow (λ v w. v.1 < w.0) windows (length windows)
-  pub seconds : sum_by (λ w. w.1 + 1 - w.0) windows ≤ 7200
+  pub seconds : sum_by (λ w. w.1 + 1 - w.0) windows ≤ most_open_seconds
 
 pub record IsGoodFlight (f : Flight) : Type 0 where
   pub callsign : IsTrue (is_callsign f.callsign)
   pub eta : f.eta ≤ last_second
-  pub weight : (1 ≤ f.weight) × (f.weight ≤ 100)
+  pub weight : (1 ≤ f.weight) × (f.weight ≤ greatest_weight)
   pub windows : AreGoodWindows f.windows
   pub after : length f.after ≤ 4
 
@@ -30,9 +31,9 @@ ListsNone others f = All (λ a. lists f.flight a.flight.callsign ≡ false) othe
 pub record IsSound (s : Situation) : Type 0 where
   pub table : IsWakeTable s.aerodrome.table
   pub callsigns : AllPairs (λ a b. a.flight.callsign ≢ b.flight.callsign) s.active
-  pub few_active : length s.active ≤ 500
-  pub few_waiting : length (waiting s) ≤ 60
-  pub few_closures : length s.closures ≤ 32
+  pub few_active : length s.active ≤ most_flights
+  pub few_waiting : length (waiting s) ≤ most_waiting
+  pub few_closures : length s.closures ≤ most_closures
   pub flights : All (λ a. IsGoodFlight a.flight) s.active
   pub passed : All (λ a. a.passed ≤ s.aerodrome.k) s.active
   pub no_carry : s.aerodrome.carry ≡ false → All (λ a. a.passed ≡ 0) s.active

@@ -1,6 +1,7 @@
 -- What the windows of a flight are, and the first fault of spans that are none.
 use Rattle.std.specs.Prelude.{ℕ, List, [], ◌∷◌, Bool, false, ◌==◌, ◌+◌, ◌-◌, ◌&&◌, nat_le, nat_lt, length, sum_by, Option, Some, None, Result, Ok, Err, if◌then◌else◌}
 use Rattle.landing_rules.specs.Flights.{Span}
+use Rattle.landing_rules.specs.Limits.{most_open_seconds}
 use Rattle.landing_rules.specs.Rules.{last_second}
 use Rattle.landing_windows.specs.declared.windows.WindowFault.{WindowFault}
 use Rattle.landing_windows.specs.declared.windows.WindowFault.TheVariants.{Empty, TooMany, Backward, Overlap, TooLong}
@@ -34,4 +35,4 @@ unfoldable pub windows_of : List Span → Result (List Span) WindowFault
 windows_of spans =
     if length spans == 0 then Err Empty
     else if nat_lt 4 (length spans) then Err TooMany
-    else fault_or (bad_span 1 None spans) (if nat_lt 7200 (seconds_in spans) then Err TooLong else Ok spans)
+    else fault_or (bad_span 1 None spans) (if nat_lt most_open_seconds (seconds_in spans) then Err TooLong else Ok spans)

@@ -2,9 +2,11 @@ ghost use Rattle.std.specs.Prelude.{◌≡◌, [], ◌∷◌, ◌++◌, ◌+◌,
 ghost use Rattle.std.specs.Bool.{OnFalse};
 ghost use Rattle.std.specs.List.{list_any};
 ghost use Rattle.landing_rules.specs.Events.{same_span, without_first};
+ghost use Rattle.landing_rules.specs.Limits.{most_closures};
 ghost use Rattle.landing_rules.specs.Rules.{last_second};
 ghost use Rattle.landing_windows.specs.Closed.{IsClosure, adding};
 
+use landing_rules::MOST_CLOSURES;
 use std::marker::Model;
 
 /// Why a closure is not added.
@@ -66,7 +68,7 @@ impl Closures {
         if to <= from {
             return Err(ClosureFault::Empty);
         }
-        if self.len >= 32 {
+        if self.len >= MOST_CLOSURES {
             return Err(ClosureFault::TooMany);
         }
         self.push((from, to));
@@ -75,7 +77,7 @@ impl Closures {
 
     // Adds a closure, for which there is a place.
     fn push(&mut self, pair: (u32, u32))
-        requires place { length self.old < 32 }
+        requires place { length self.old < most_closures }
         requires closure { IsClosure pair }
         ensures { self.new ≡ self.old ++ pair ∷ [] }
     {
@@ -97,7 +99,7 @@ impl Closures {
     /// How many closures there are, 0 to 32.
     pub fn len(&self) -> usize
         ensures value { result ≡ length self.now }
-        ensures bound { length self.now ≤ 32 }
+        ensures bound { length self.now ≤ most_closures }
     {
         self.len
     }
@@ -114,7 +116,7 @@ impl Closures {
     // The pairs, in order.
     pub(crate) fn pairs(&self) -> &[(u32, u32)]
         ensures value { result.now ≡ self.now }
-        ensures few { length self.now ≤ 32 }
+        ensures few { length self.now ≤ most_closures }
         ensures closures { All IsClosure self.now }
     {
         &self.pairs[..self.len]
@@ -135,7 +137,7 @@ fn contains(pairs: &[(u32, u32)], pair: (u32, u32)) -> bool
 
 // The closures without the first one that is equal to `pair`.
 fn without(pairs: &[(u32, u32)], pair: (u32, u32)) -> Closures
-    requires few { length pairs.now ≤ 32 }
+    requires few { length pairs.now ≤ most_closures }
     requires closures { All IsClosure pairs.now }
     ensures { result ≡ without_first (same_span pair) pairs.now }
 {

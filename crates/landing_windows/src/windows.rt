@@ -4,6 +4,7 @@ ghost use Rattle.landing_rules.specs.Sound.{AreGoodWindows};
 ghost use Rattle.landing_windows.specs.Spans.{AreInOrder};
 ghost use Rattle.landing_windows.specs.Windows.{is_in_days, bad_span, seconds_in, windows_of};
 
+use landing_rules::MOST_OPEN_SECONDS;
 use std::marker::Model;
 
 /// The last second of the two days that a schedule may use. Seconds count from 0.
@@ -107,7 +108,7 @@ impl WindowSet {
         if let Some(fault) = bad_span(spans) {
             return Err(fault);
         }
-        if seconds_in(spans) > 7200 {
+        if seconds_in(spans) > MOST_OPEN_SECONDS {
             return Err(WindowFault::TooLong);
         }
         let len = spans.len();

@@ -2,6 +2,7 @@
 use Rattle.std.specs.Prelude.{ℕ, ◌≤◌, List, [], ◌∷◌, Option, Some, None, MatchOption, ⊤, nat_lt, if◌then◌else◌}
 use Rattle.wake_table.specs.declared.category.Category.{Category}
 use Rattle.landing_rules.specs.Flights.{Active, landing}
+use Rattle.landing_rules.specs.Limits.{greatest_weight}
 use Rattle.landing_rules.specs.Rules.{delay, last_second}
 
 abbrev pub later_at : Category → Option ℕ → Option (ℕ × Category) → Option (ℕ × Category)
@@ -26,5 +27,5 @@ delay_of a = frozen_delay a a.frozen
 
 -- a weight of at most 100, and a landing within the two days
 pub record HasSmallDelay (a : Active) : Type 0 where
-  pub weight : a.flight.weight ≤ 100
+  pub weight : a.flight.weight ≤ greatest_weight
   pub second : MatchOption a.frozen ⊤ (λ t. t ≤ last_second)

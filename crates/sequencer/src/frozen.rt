@@ -1,6 +1,7 @@
 // What the frozen flights leave to the waiting ones.
 ghost use Rattle.std.specs.Prelude.{◌≡◌, ℕ, ◌≤◌, All, ⊤, MatchOption, Option, length, map, sum_by};
 ghost use Rattle.wake_table.specs.declared.category.Category.{Category};
+ghost use Rattle.landing_rules.specs.Limits.{most_flights};
 ghost use Rattle.landing_rules.specs.Rules.{last_second};
 ghost use Rattle.sequencer.specs.Frozen.{latest, later_of, delay_of, HasSmallDelay};
 
@@ -52,7 +53,7 @@ fn delay(active: &Active) -> u64
 
 /// What the frozen landings cost together.
 pub(crate) fn frozen_delay(flights: &Vec<&Active>) -> u64
-    requires few { length flights.now.items ≤ 500 }
+    requires few { length flights.now.items ≤ most_flights }
     requires small { All HasSmallDelay (map (λ a. a.now) flights.now.items) }
     ensures { result ≡ sum_by delay_of (map (λ a. a.now) flights.now.items) }
 {

@@ -1,6 +1,7 @@
 // Which ranks must land before which.
 ghost use Rattle.std.specs.Prelude.{◌≡◌, ℕ, ◌≤◌, ◌↔◌, ◌⊎◌, length, map};
 ghost use Rattle.precedence.specs.Pairs.{MustPrecede};
+ghost use Rattle.landing_rules.specs.Limits.{most_waiting};
 ghost use Rattle.sequencer.specs.Predecessors.{IsListed};
 
 use precedence::Pairs;
@@ -8,7 +9,7 @@ use situations::Active;
 
 // Adds each rank whose flight that of this rank lists.
 fn add_predecessors(pairs: &mut Pairs, ranked: &Vec<&Active>, next: u8)
-    requires few { length ranked.now.items ≤ 60 }
+    requires few { length ranked.now.items ≤ most_waiting }
     requires next { (1 ≤ next) × (next ≤ length ranked.now.items) }
     ensures { (i j : ℕ) → MustPrecede pairs.new i j
         ↔ (MustPrecede pairs.old i j ⊎ ((j ≡ next) × IsListed (map (λ a. a.now) ranked.now.items)
@@ -28,7 +29,7 @@ fn add_predecessors(pairs: &mut Pairs, ranked: &Vec<&Active>, next: u8)
 
 /// The pairs of ranks of these flights: the first of a pair is a flight that the next lists.
 pub(crate) fn pairs_of(ranked: &Vec<&Active>) -> Pairs
-    requires { length ranked.now.items ≤ 60 }
+    requires { length ranked.now.items ≤ most_waiting }
     ensures { (i j : ℕ) → MustPrecede result i j
         ↔ IsListed (map (λ a. a.now) ranked.now.items) i j }
 {

@@ -2,6 +2,7 @@
 use Rattle.std.specs.Prelude.{◌≢◌, ◌≤◌, ℕ, List, Option, length, map, All, AllPairs, IsTrue}
 use Rattle.cps_base.specs.Text.{is_callsign}
 use Rattle.landing_rules.specs.Flights.{Aerodrome, Flight, Active, Situation}
+use Rattle.landing_rules.specs.Limits.{greatest_weight, most_flights}
 use Rattle.landing_rules.specs.Rules.{last_second}
 use Rattle.landing_rules.specs.Sound.{AreGoodWindows}
 use Rattle.landing_rules.specs.Events.{Opening, opening_situation}
@@ -41,12 +42,12 @@ pub record IsKept (f : Flight) : Type 0 where
 
 pub record HasRanges (f : files.Flight) : Type 0 where
   pub eta : f.eta ≤ last_second
-  pub weight : (1 ≤ f.weight) × (f.weight ≤ 100)
+  pub weight : (1 ≤ f.weight) × (f.weight ≤ greatest_weight)
 
 -- at most 500 flights, with callsigns apart, and all numbers in their ranges
 pub record CanOpen (a : aerodromes.Aerodrome) (fs : List files.Flight) : Type 0 where
   pub aerodrome : IsInRange a
-  pub few : length fs ≤ 500
+  pub few : length fs ≤ most_flights
   pub flights : All HasRanges fs
   pub callsigns : AllPairs (λ f later. f.callsign ≢ later.callsign) fs
 

@@ -4,6 +4,7 @@ use Rattle.std.specs.Option.{option_or}
 use Rattle.std.specs.List.{list_any}
 use Rattle.wake_table.specs.Table.{IsWakeTable}
 use Rattle.landing_rules.specs.Flights.{Callsign, Span, Active, Landing, landing, is_waiting}
+use Rattle.landing_rules.specs.Limits.{most_closures, most_waiting}
 use Rattle.landing_rules.specs.Rules.{is_open}
 use Rattle.landing_rules.specs.Events.{named}
 use Rattle.landing_rules.specs.Audit.{are_apart}
@@ -44,7 +45,7 @@ unknown_passed_at active i entry = unless (is_waiting_there active entry.callsig
 -- at most 60 flights are not frozen
 abbrev pub too_many_waiting : List Active → Option OpeningFault
 too_many_waiting active =
-    unless (nat_le (length (filter is_waiting active)) 60) (fault.TooManyWaiting (length (filter is_waiting active)))
+    unless (nat_le (length (filter is_waiting active)) most_waiting) (fault.TooManyWaiting (length (filter is_waiting active)))
 
 abbrev pub name_fault : aerodromes.Aerodrome → List Active → Option OpeningFault
 name_fault a active =
@@ -106,12 +107,12 @@ IsOpenable a fs = CanOpen a fs × (opening_fault a fs ≡ None)
 
 -- files without entries open where at most 60 flights are there
 abbrev pub PlainLaw : Type 0
-PlainLaw = (a : aerodromes.Aerodrome) (fs : List files.Flight) → a.frozen ≡ [] → a.passed ≡ [] → length fs ≤ 60 → opening_fault a fs ≡ None
+PlainLaw = (a : aerodromes.Aerodrome) (fs : List files.Flight) → a.frozen ≡ [] → a.passed ≡ [] → length fs ≤ most_waiting → opening_fault a fs ≡ None
 
 -- what the types of the table, the closures and the flights keep
 pub record AreKept (a : aerodromes.Aerodrome) (fs : List files.Flight) : Type 0 where
   pub table : IsWakeTable a.table
-  pub closures : length a.closures ≤ 32
+  pub closures : length a.closures ≤ most_closures
   pub flights : All (λ f. IsKept (flight_of f)) fs
 
 -- what opens is a situation that a run can be in

@@ -3,6 +3,7 @@ use Rattle.std.specs.Prelude.{◌≡◌, ◌≤◌, ℕ, List, All, map, ⊤, Ma
 use Rattle.std.specs.Str.{bytes_eq}
 use Rattle.indexmap.specs.IndexMap.{IsUnique}
 use Rattle.landing_rules.specs.Flights as rules
+use Rattle.landing_rules.specs.Limits.{longest_freeze}
 use Rattle.landing_rules.specs.Rules.{last_second}
 use Rattle.situations.specs.declared.situation.Fixed.{Fixed}
 use Rattle.situations.specs.declared.situation.Situation.TheInside.{Inside}
@@ -26,5 +27,5 @@ pub record IsInStep (s : Inside) : Type 0 where
   pub keyed : AreKeyed s.active.entries
   pub unique : IsUnique bytes_eq s.active
   pub few_places : s.fixed.k ≤ 3
-  pub short_freeze : s.fixed.freeze ≤ 7200
+  pub short_freeze : s.fixed.freeze ≤ longest_freeze
   pub clock : MatchOption s.clock ⊤ (λ now. now ≤ last_second)

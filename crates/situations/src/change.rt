@@ -3,6 +3,7 @@ ghost use Rattle.std.specs.Prelude.{◌≡◌, ◌+◌, ◌<◌, ◌≤◌, ◌+
 ghost use Rattle.std.specs.List.{list_any};
 ghost use Rattle.std.specs.Str.{bytes_eq};
 ghost use Rattle.landing_rules.specs.Events.{named, estimated, newcomer, without_first, same_span, refusal, situation_after};
+ghost use Rattle.landing_rules.specs.Limits.{most_closures};
 ghost use Rattle.landing_rules.specs.Sound.{IsGoodEvent};
 ghost use Rattle.event_log.specs.Seen.{event_of};
 ghost use Rattle.landing_rules.specs.Rules.{last_second};
@@ -104,7 +105,7 @@ impl Situation {
     // The closure stands.
     pub(crate) fn close(&mut self, from: u32, to: u32)
         requires good { (from < to) × (to ≤ last_second + 1) }
-        requires room { length self.old.closures < 32 }
+        requires room { length self.old.closures < most_closures }
         ensures { self.new ≡ record self.old { closures = self.old.closures ++ (from, to) ∷ [] } }
     {
         let _ = self.closures.add(from, to);

@@ -1,5 +1,6 @@
 // The frozen landings that an aerodrome file gives, and the rules over them.
 ghost use Rattle.std.specs.Prelude.{◌≡◌, ◌+◌, ◌<◌, ◌≤◌, ◌&&◌, Some, length, find, slice_get};
+ghost use Rattle.landing_rules.specs.Limits.{most_flights};
 ghost use Rattle.landing_rules.specs.Rules.{is_open};
 ghost use Rattle.landing_rules.specs.Events.{named};
 ghost use Rattle.landing_rules.specs.Testing.{is_pair_separated};
@@ -38,7 +39,7 @@ fn is_at_open_second(closures: &Closures, given: &Given) -> bool
 
 // The first landing whose second is not open.
 fn first_closed(closures: &Closures, all: &[Given]) -> Option<OpeningFault>
-    requires { length all.now ≤ 500 }
+    requires { length all.now ≤ most_flights }
     ensures { result ≡ first_from (closed_at closures.now) 1 all.now }
 {
     for i in 0..all.len() {
@@ -70,7 +71,7 @@ fn are_apart(table: &PairTable, f: &Given, g: &Given) -> bool
 
 // The first of the others, which stand behind the landing at place i, that is not the table's time from it.
 fn clash_of(table: &PairTable, i: usize, first: &Given, others: &[Given]) -> Option<OpeningFault>
-    requires { i + length others.now ≤ 500 }
+    requires { i + length others.now ≤ most_flights }
     ensures { result ≡ first_from (clash_at table.now i first.now) (i + 1) others.now }
 {
     for j in 0..others.len() {
@@ -83,7 +84,7 @@ fn clash_of(table: &PairTable, i: usize, first: &Given, others: &[Given]) -> Opt
 
 // The first two landings, neighbours or not, that are not the table's time apart.
 fn first_clash(table: &PairTable, all: &[Given]) -> Option<OpeningFault>
-    requires { length all.now ≤ 500 }
+    requires { length all.now ≤ most_flights }
     ensures { result ≡ clash_from table.now 1 all.now }
 {
     for i in 0..all.len() {
@@ -150,7 +151,7 @@ fn late_listed(active: &[Active], given: &Given) -> Option<Callsign>
 
 // The first landing that is not behind each active flight of its list.
 fn first_late(active: &[Active], all: &[Given]) -> Option<OpeningFault>
-    requires { length all.now ≤ 500 }
+    requires { length all.now ≤ most_flights }
     ensures { result ≡ first_from (late_at active.now) 1 all.now }
 {
     for i in 0..all.len() {
@@ -167,7 +168,7 @@ pub(crate) fn rule_fault(
     active: &[Active],
     all: &[Given],
 ) -> Option<OpeningFault>
-    requires { length all.now ≤ 500 }
+    requires { length all.now ≤ most_flights }
     ensures { result ≡ rule_fault aerodrome.now active.now all.now }
 {
     if let Some(fault) = first_closed(&aerodrome.closures, all) {

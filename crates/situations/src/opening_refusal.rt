@@ -3,6 +3,7 @@ ghost use Rattle.std.specs.Prelude.{◌≡◌, ◌+◌, ◌≤◌, ◌&&◌, IfO
 ghost use Rattle.std.specs.List.{list_any};
 ghost use Rattle.landing_rules.specs.Flights.{is_waiting};
 ghost use Rattle.landing_rules.specs.Events.{named, look_up, opening_flight};
+ghost use Rattle.landing_rules.specs.Limits.{most_flights, most_waiting};
 ghost use Rattle.flight_file.specs.Seen.{flight_of};
 ghost use Rattle.situations.specs.Opened.{CanOpen, opened, opening_of};
 ghost use Rattle.situations.specs.Refused.{unknown_frozen_at, unknown_passed_at, is_waiting_there, too_many_waiting, name_fault, first_from, given_landing, given, rule_fault, opening_fault};
@@ -12,6 +13,7 @@ use crate::given::{Given, rule_fault};
 use aerodrome_file::{Aerodrome, FrozenLanding, FrozenList, PassedList};
 use cps_base::Callsign;
 use flight_file::Flight;
+use landing_rules::MOST_WAITING;
 use std::alloc::{AllocError, Global};
 
 /// Why an aerodrome file and its flights open no situation. Entries count from 1.
@@ -108,7 +110,7 @@ fn is_waiting_there(active: &[Active], callsign: Callsign) -> bool
 
 // The first entry of `frozen` that names no flight.
 fn unknown_frozen(active: &[Active], frozen: &FrozenList) -> Option<OpeningFault>
-    requires { length frozen.now ≤ 500 }
+    requires { length frozen.now ≤ most_flights }
     ensures { result ≡ first_from (unknown_frozen_at active.now) 1 frozen.now }
 {
     for i in 0..frozen.len() {
@@ -121,7 +123,7 @@ fn unknown_frozen(active: &[Active], frozen: &FrozenList) -> Option<OpeningFault
 
 // The first entry of `passed` that names no waiting flight.
 fn unknown_passed(active: &[Active], passed: &PassedList) -> Option<OpeningFault>
-    requires { length passed.now ≤ 60 }
+    requires { length passed.now ≤ most_waiting }
     ensures { result ≡ first_from (unknown_passed_at active.now) 1 passed.now }
 {
     for i in 0..passed.len() {
@@ -142,11 +144,11 @@ fn count_waiting(active: &[Active]) -> usize
 
 // How many flights wait, where these are too many.
 fn too_many_waiting(active: &[Active]) -> Option<OpeningFault>
-    requires { length active.now ≤ 500 }
+    requires { length active.now ≤ most_flights }
     ensures { result ≡ too_many_waiting active.now }
 {
     let waiting = count_waiting(active);
-    if waiting <= 60 {
+    if waiting <= usize::from(MOST_WAITING) {
         None
     } else {
         Some(OpeningFault::TooManyWaiting(waiting as u32))
@@ -155,9 +157,9 @@ fn too_many_waiting(active: &[Active]) -> Option<OpeningFault>
 
 // What is wrong with the names of the entries, or with how many wait.
 fn name_fault(aerodrome: &Aerodrome, active: &[Active]) -> Option<OpeningFault>
-    requires few { length active.now ≤ 500 }
-    requires few_frozen { length aerodrome.now.frozen ≤ 500 }
-    requires few_passed { length aerodrome.now.passed ≤ 60 }
+    requires few { length active.now ≤ most_flights }
+    requires few_frozen { length aerodrome.now.frozen ≤ most_flights }
+    requires few_passed { length aerodrome.now.passed ≤ most_waiting }
     ensures { result ≡ name_fault aerodrome.now active.now }
 {
     if let Some(fault) = unknown_frozen(active, &aerodrome.frozen) {

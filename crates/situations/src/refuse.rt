@@ -2,6 +2,7 @@
 ghost use Rattle.std.specs.Prelude.{◌≡◌, ◌&&◌, List, Option, Some, None, length, find, is_some, nat_le, option_map, if◌then◌else◌};
 ghost use Rattle.std.specs.List.{list_any};
 ghost use Rattle.landing_rules.specs.Flights.{waiting};
+ghost use Rattle.landing_rules.specs.Limits.{most_closures, most_flights, most_waiting};
 ghost use Rattle.landing_rules.specs.Rules.{lists};
 ghost use Rattle.landing_rules.specs.Events.{named, same_span, unknown_or_frozen, clock_back, refusal, Add, Close};
 ghost use Rattle.landing_rules.specs.Events as events;
@@ -14,6 +15,7 @@ use crate::{Active, Refusal, Situation};
 use cps_base::Callsign;
 use event_log::Event;
 use flight_file::Flight;
+use landing_rules::{MOST_CLOSURES, MOST_FLIGHTS, MOST_WAITING};
 
 // The refusal of a frozen flight.
 fn frozen_refusal(active: &Active) -> Option<Refusal>
@@ -54,15 +56,15 @@ fn add_answer(
     listing: Option<Callsign>,
 ) -> Option<Refusal>
     ensures { IsAnswer result (if is_there then Some (events.Duplicate callsign) else
-        (if nat_le 500 flights then Some events.TooManyFlights else
-        (if nat_le 60 waiting then Some events.TooManyWaiting else option_map
+        (if nat_le most_flights flights then Some events.TooManyFlights else
+        (if nat_le most_waiting waiting then Some events.TooManyWaiting else option_map
         events.PredecessorOfFrozen listing))) }
 {
     if is_there {
         Some(Refusal::Duplicate(callsign))
-    } else if flights >= 500 {
+    } else if flights >= MOST_FLIGHTS {
         Some(Refusal::TooManyFlights)
-    } else if waiting >= 60 {
+    } else if waiting >= usize::from(MOST_WAITING) {
         Some(Refusal::TooManyWaiting)
     } else {
         listing_refusal(listing)
@@ -73,12 +75,12 @@ fn add_answer(
 fn closure_refusal(found: Option<(Callsign, u32)>, closures: usize) -> Option<Refusal>
     ensures { IsAnswer result (if is_some found then option_map
         (λ g. events.CoversFrozen g.0 g.1) found else
-        (if nat_le 32 closures then Some events.TooManyClosures else None)) }
+        (if nat_le most_closures closures then Some events.TooManyClosures else None)) }
 {
     match found {
         Some((callsign, second)) => Some(Refusal::CoversFrozen(callsign, second)),
         None => {
-            if closures >= 32 {
+            if closures >= MOST_CLOSURES {
                 Some(Refusal::TooManyClosures)
             } else {
                 None

@@ -1,6 +1,7 @@
 ghost use Rattle.std.specs.Prelude.{◌≡◌, ◌<◌, ◌≤◌, [], IfOk, None, Some, length, map, option_map, slice_get};
 ghost use Rattle.wake_table.specs.Table.{IsWakeTable};
 ghost use Rattle.landing_rules.specs.Flights.{horizon};
+ghost use Rattle.landing_rules.specs.Limits.{longest_freeze, most_closures};
 ghost use Rattle.landing_rules.specs.Sound.{IsSound};
 ghost use Rattle.flight_file.specs.Seen.{flight_of};
 ghost use Rattle.aerodrome_file.specs.Reading.{IsInRange};
@@ -14,7 +15,7 @@ use aerodrome_file::Aerodrome;
 use cps_base::Callsign;
 use flight_file::Flight;
 use indexmap::IndexMap;
-use landing_rules::Objective;
+use landing_rules::{MOST_CLOSURES, Objective};
 use landing_windows::Closures;
 use std::alloc::{AllocError, Global};
 use std::marker::Model;
@@ -62,10 +63,10 @@ impl Situation {
         requires { IsInRange aerodrome.now }
         ensures value { result ≡ opened aerodrome.now [] }
         ensures table { IsWakeTable aerodrome.now.table }
-        ensures closures { length aerodrome.now.closures ≤ 32 }
+        ensures closures { length aerodrome.now.closures ≤ most_closures }
     {
         prove!(aerodrome.table.sep(Category::A, Category::A) >= 1);
-        prove!(aerodrome.closures.len() <= 32);
+        prove!(aerodrome.closures.len() <= MOST_CLOSURES);
         Situation {
             fixed: Fixed {
                 k: aerodrome.k,
@@ -108,7 +109,7 @@ impl Situation {
     pub fn fixed(&self) -> &Fixed
         ensures value { self.now.aerodrome ≡ fixed_of result.now }
         ensures few_places { result.now.k ≤ 3 }
-        ensures short_freeze { result.now.freeze ≤ 7200 }
+        ensures short_freeze { result.now.freeze ≤ longest_freeze }
     {
         &self.fixed
     }

@@ -1,5 +1,6 @@
 // The flights that a state makes.
 ghost use Rattle.std.specs.Prelude.{◌≡◌, ◌+◌, ◌<◌, ◌≤◌, [], IfOk};
+ghost use Rattle.landing_rules.specs.Limits.{most_waiting};
 ghost use Rattle.traffic_gen.specs.Draws.{next, drawn};
 ghost use Rattle.traffic_gen.specs.Flights.{callsign, category_at, window_from, flight, flights_from};
 
@@ -85,7 +86,7 @@ fn flight(number: u8, before: u32, state: u64) -> Flight
 // So many flights, the first behind second 3600.
 #[tactic(auto, unfolding(crate::specs::Flights::flights_from))]
 pub(crate) fn flights(alloc: Global, seed: u64, n: u8) -> Result<Vec<Flight>, AllocError>
-    requires { n ≤ 60 }
+    requires { n ≤ most_waiting }
     ensures { IfOk result (λ v. v.items ≡ flights_from n 1 3600 seed) }
 {
     let mut flights = Vec::new(alloc);

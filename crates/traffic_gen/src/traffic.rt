@@ -1,4 +1,5 @@
 ghost use Rattle.std.specs.Prelude.{◌≡◌, ◌≤◌, IfOk, length};
+ghost use Rattle.landing_rules.specs.Limits.{most_waiting};
 ghost use Rattle.aerodrome_file.specs.Reading.{IsInRange};
 ghost use Rattle.flight_file.specs.OfFile.{CanBeRead};
 ghost use Rattle.traffic_gen.specs.Made.{traffic};
@@ -39,7 +40,7 @@ impl Traffic {
 /// equal traffic. Its flights are ones that a flight file can give.
 #[tactic(auto, using(crate::proofs::Arrivals::can_be_read, crate::proofs::Arrivals::flights_length))]
 pub fn generate(alloc: Global, seed: u64, n: u8, k: u8) -> Result<Traffic, AllocError>
-    requires count { (1 ≤ n) × (n ≤ 60) }
+    requires count { (1 ≤ n) × (n ≤ most_waiting) }
     requires shifts { k ≤ 3 }
     ensures value { IfOk result (λ t. t ≡ traffic seed n k) }
     ensures range { IfOk result (λ t. IsInRange t.aerodrome) }

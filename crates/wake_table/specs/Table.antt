@@ -28,9 +28,13 @@ triples_from letters a = flat_map (triples_from_two letters a) letters
 abbrev pub triples : List Category → List (Category × Category × Category)
 triples letters = flat_map (triples_from letters) letters
 
+-- the greatest separation, in seconds
+abbrev pub greatest_separation : ℕ
+greatest_separation = 600
+
 -- the separation of the pair is outside 1 to 600 seconds
 abbrev pub is_out_of_range : List (List ℕ) → Category × Category → Bool
-is_out_of_range rows p = nat_lt (separation rows p.0 p.1) 1 || nat_lt 600 (separation rows p.0 p.1)
+is_out_of_range rows p = nat_lt (separation rows p.0 p.1) 1 || nat_lt greatest_separation (separation rows p.0 p.1)
 
 -- from the first to the last is more than from the first to the middle one and on to the last
 abbrev pub breaks_triangle : List (List ℕ) → Category × Category × Category → Bool
@@ -59,5 +63,5 @@ table_of rows = ok_without (first_fault rows) rows
 
 -- what each table is: entries of 1 to 600 seconds, and never more than by way of a third flight
 pub record IsWakeTable (rows : List (List ℕ)) : Type 0 where
-  pub entries : (a b : Category) → (1 ≤ separation rows a b) × (separation rows a b ≤ 600)
+  pub entries : (a b : Category) → (1 ≤ separation rows a b) × (separation rows a b ≤ greatest_separation)
   pub triangle : (a b c : Category) → separation rows a c ≤ separation rows a b + separation rows b c

@@ -1,9 +1,12 @@
 ghost use Rattle.std.specs.Prelude.{◌≡◌, ◌<◌, ◌≤◌, ◌+◌, find};
 ghost use Rattle.wake_table.specs.declared.category.Category.{Category};
-ghost use Rattle.wake_table.specs.Table.{separation, pairs_from, pairs, triples_from_two, triples_from, triples, is_out_of_range, breaks_triangle, table_of, IsWakeTable};
+ghost use Rattle.wake_table.specs.Table.{breaks_triangle, greatest_separation, is_out_of_range, pairs, pairs_from, separation, table_of, triples, triples_from, triples_from_two, IsWakeTable};
 
 use crate::category::{CATEGORIES, Category};
 use std::marker::Model;
+
+/// The greatest separation, in seconds.
+pub const GREATEST_SEPARATION: u32 = 600;
 
 /// Why rows of seconds are no table: the first fault, in letter order.
 #[derive(Clone, Copy, Debug, PartialEq, Eq)]
@@ -33,7 +36,7 @@ fn bad_follower(
 {
     for follower in letters {
         let seconds = entry(rows, leader, *follower);
-        if seconds < 1 || seconds > 600 {
+        if seconds < 1 || seconds > GREATEST_SEPARATION {
             return Some((leader, *follower));
         }
     }
@@ -137,7 +140,7 @@ impl PairTable {
     /// The least number of seconds at which a follower lands after a leader: 1 to 600.
     pub fn sep(&self, leader: Category, follower: Category) -> u32
         ensures value { result ≡ separation self.now leader follower }
-        ensures range { (1 ≤ result) × (result ≤ 600) }
+        ensures range { (1 ≤ result) × (result ≤ greatest_separation) }
         ensures triangle { (via : Category) →
             result ≤ separation self.now leader via + separation self.now via follower }
         ensures whole { IsWakeTable self.now }

@@ -1,6 +1,7 @@
 // Why a trial is not planned.
 ghost use Rattle.std.specs.Prelude.{◌≡◌, ◌≤◌, Some, length, nat_lt};
 ghost use Rattle.landing_rules.specs.Events as rules;
+ghost use Rattle.landing_rules.specs.Limits.{most_waiting};
 ghost use Rattle.aerodrome_file.specs.Reading.{is_beyond};
 ghost use Rattle.whatif.specs.Outcomes.{first_above, shift_refusal, closure_refusal, found_refusal};
 
@@ -26,7 +27,7 @@ fn is_above(count: u8, k: u8) -> bool
 
 // The first passed-over count above the limit of shift, counted from 1.
 fn first_above(passed: &PassedList, k: u8) -> Option<u8>
-    requires { length passed.now ≤ 60 }
+    requires { length passed.now ≤ most_waiting }
     ensures { result ≡ first_above k 1 passed.now }
 {
     for i in 0..passed.len() {
@@ -39,7 +40,7 @@ fn first_above(passed: &PassedList, k: u8) -> Option<u8>
 
 // Why the limit of shift is refused.
 pub(crate) fn shift_refusal(aerodrome: &Aerodrome, k: u8) -> Option<TrialRefusal>
-    requires { length aerodrome.now.passed ≤ 60 }
+    requires { length aerodrome.now.passed ≤ most_waiting }
     ensures { result ≡ shift_refusal aerodrome.now k }
 {
     if is_beyond(aerodrome, k) {

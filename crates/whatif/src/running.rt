@@ -1,6 +1,7 @@
 //! The outcomes of trials.
 
 ghost use Rattle.std.specs.Prelude.{◌≡◌, ◌≤◌, ◌<◌, All, IfOk, length};
+ghost use Rattle.landing_rules.specs.Rules.{last_second};
 ghost use Rattle.cps_problem.specs.Plans.{IsWithinShift};
 ghost use Rattle.landing_rules.specs.Sound.{IsSound};
 ghost use Rattle.whatif.specs.declared.trial.Trial.TheVariants.{Shift, Close};
@@ -80,7 +81,7 @@ fn with_closure(
     to: u32,
 ) -> Result<Outcome, AllocError>
     requires opens { IsOpenable aerodrome.now flights.now }
-    requires span { (from < to) × (to ≤ 172800) }
+    requires span { (from < to) × (to ≤ last_second + 1) }
     ensures { IfOk result (IsOutcomeOf aerodrome.now flights.now (Close from to)) }
 {
     every_step_keeps_soundness();

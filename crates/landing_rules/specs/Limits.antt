@@ -1,0 +1,30 @@
+-- How many of each thing there may be at most, and the greatest numbers. This project's own.
+use Rattle.std.specs.Prelude.{ℕ}
+
+-- flights that wait
+abbrev pub most_waiting : ℕ
+most_waiting = 60
+
+-- flights, waiting or frozen
+abbrev pub most_flights : ℕ
+most_flights = 500
+
+-- closures that stand
+abbrev pub most_closures : ℕ
+most_closures = 32
+
+-- events of a log
+abbrev pub most_events : ℕ
+most_events = 2000
+
+-- seconds that the windows of a flight hold together
+abbrev pub most_open_seconds : ℕ
+most_open_seconds = 7200
+
+-- seconds of a freeze
+abbrev pub longest_freeze : ℕ
+longest_freeze = 7200
+
+-- weight of a flight
+abbrev pub greatest_weight : ℕ
+greatest_weight = 100

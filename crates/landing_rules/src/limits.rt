@@ -1,0 +1,22 @@
+//! How many of each thing there may be at most, and the greatest numbers. This project's own.
+
+/// How many flights may wait.
+pub const MOST_WAITING: u8 = 60;
+
+/// How many flights there may be, waiting or frozen.
+pub const MOST_FLIGHTS: usize = 500;
+
+/// How many closures may stand.
+pub const MOST_CLOSURES: usize = 32;
+
+/// How many events a log may have.
+pub const MOST_EVENTS: usize = 2_000;
+
+/// How many seconds the windows of a flight may hold together.
+pub const MOST_OPEN_SECONDS: u32 = 7_200;
+
+/// The longest freeze, in seconds.
+pub const LONGEST_FREEZE: u32 = 7_200;
+
+/// The greatest weight of a flight.
+pub const GREATEST_WEIGHT: u32 = 100;
