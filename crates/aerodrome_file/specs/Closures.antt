@@ -1,6 +1,7 @@
 -- The closures in the file.
 use Rattle.std.specs.Prelude.{ℕ, List, [], ◌∷◌, suc, Bool, true, false, not, ◌+◌, nat_le, nat_lt, codes, Option, Some, None, Result, Ok, Err, if◌then◌else◌}
 use Rattle.toml.specs.Data.{Data, array, table, Items, no_items, item, Members, get_member}
+use Rattle.cps_base.specs.Answers.{◌>>=◌}
 use Rattle.landing_rules.specs.Limits.{most_closures}
 use Rattle.landing_rules.specs.Rules.{last_second}
 use Rattle.landing_windows.specs.declared.closures.ClosureFault.TheVariants as closure
@@ -8,7 +9,6 @@ use Rattle.aerodrome_file.specs.declared.fault.AeroFault.{AeroFault}
 use Rattle.aerodrome_file.specs.declared.fault.AeroFault.TheVariants as fault
 use Rattle.aerodrome_file.specs.declared.fault.Key.TheVariants as key
 use Rattle.aerodrome_file.specs.declared.fault.Part.TheVariants as part
-use Rattle.aerodrome_file.specs.Answers.{◌>>=◌}
 use Rattle.aerodrome_file.specs.Keys.{only}
 use Rattle.aerodrome_file.specs.Values.{present, integer_of, at_most}
 

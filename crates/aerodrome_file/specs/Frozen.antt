@@ -2,6 +2,7 @@
 use Rattle.std.specs.Prelude.{◌≡◌, ◌≢◌, ◌≤◌, ◌<◌, ℕ, List, [], ◌∷◌, ◌++◌, Bool, not, ◌+◌, ◌==◌, nat_le, nat_lt, length, codes, bytes_eq, Option, Some, None, Result, Ok, Err, All, AllPairs, if◌then◌else◌}
 use Rattle.std.specs.List.{list_any}
 use Rattle.toml.specs.Data.{Data, array, table, Items, no_items, item, Members, get_member}
+use Rattle.cps_base.specs.Answers.{◌>>=◌}
 use Rattle.landing_rules.specs.Limits.{most_flights}
 use Rattle.landing_rules.specs.Rules.{last_second}
 use Rattle.aerodrome_file.specs.declared.frozen_list.FrozenLanding.{FrozenLanding}
@@ -9,7 +10,6 @@ use Rattle.aerodrome_file.specs.declared.fault.AeroFault.{AeroFault}
 use Rattle.aerodrome_file.specs.declared.fault.AeroFault.TheVariants as fault
 use Rattle.aerodrome_file.specs.declared.fault.Key.TheVariants as key
 use Rattle.aerodrome_file.specs.declared.fault.Part.TheVariants as part
-use Rattle.aerodrome_file.specs.Answers.{◌>>=◌}
 use Rattle.aerodrome_file.specs.Keys.{only}
 use Rattle.aerodrome_file.specs.Values.{present, integer_of, string_of, callsign_at, at_most}
 use Rattle.aerodrome_file.specs.Closures.{are_tables, items_length}

@@ -2,13 +2,13 @@
 use Rattle.std.specs.Prelude.{◌≢◌, ◌≤◌, ℕ, List, [], ◌∷◌, ◌++◌, Bool, not, ◌+◌, nat_lt, length, codes, bytes_eq, Option, Some, None, Result, Ok, Err, All, AllPairs, if◌then◌else◌}
 use Rattle.std.specs.List.{list_any}
 use Rattle.toml.specs.Data.{Data, array, table, Items, no_items, item, Members, get_member}
+use Rattle.cps_base.specs.Answers.{◌>>=◌}
 use Rattle.landing_rules.specs.Limits.{most_waiting}
 use Rattle.aerodrome_file.specs.declared.passed_list.PassedCount.{PassedCount}
 use Rattle.aerodrome_file.specs.declared.fault.AeroFault.{AeroFault}
 use Rattle.aerodrome_file.specs.declared.fault.AeroFault.TheVariants as fault
 use Rattle.aerodrome_file.specs.declared.fault.Key.TheVariants as key
 use Rattle.aerodrome_file.specs.declared.fault.Part.TheVariants as part
-use Rattle.aerodrome_file.specs.Answers.{◌>>=◌}
 use Rattle.aerodrome_file.specs.Keys.{only}
 use Rattle.aerodrome_file.specs.Values.{present, integer_of, string_of, callsign_at, within}
 use Rattle.aerodrome_file.specs.Closures.{are_tables, items_length}

@@ -3,6 +3,7 @@ use Rattle.std.specs.Prelude.{◌≡◌, ◌≤◌, ◌<◌, ℕ, List, [], Bool
 use Rattle.std.specs.Str.Lossy.{utf8_valid_len}
 use Rattle.toml.specs.Data.{Data, string, Members, get_member}
 use Rattle.toml.specs.Parse.{parse_document}
+use Rattle.cps_base.specs.Answers.{◌>>=◌}
 use Rattle.landing_rules.specs.Limits.{longest_freeze}
 use Rattle.landing_rules.specs.declared.objective.Objective.{Objective}
 use Rattle.landing_rules.specs.declared.objective.Objective.TheVariants.{Makespan, Delay}
@@ -10,7 +11,6 @@ use Rattle.aerodrome_file.specs.declared.aerodrome.Aerodrome.{Aerodrome}
 use Rattle.aerodrome_file.specs.declared.fault.AeroFault.{AeroFault}
 use Rattle.aerodrome_file.specs.declared.fault.AeroFault.TheVariants as fault
 use Rattle.aerodrome_file.specs.declared.fault.Key.TheVariants as key
-use Rattle.aerodrome_file.specs.Answers.{◌>>=◌}
 use Rattle.aerodrome_file.specs.Version.{version_in, IsVersion}
 use Rattle.aerodrome_file.specs.Values.{number_in}
 use Rattle.aerodrome_file.specs.Separations.{table_in}

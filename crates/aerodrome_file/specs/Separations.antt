@@ -5,11 +5,11 @@ use Rattle.wake_table.specs.declared.category.Category.{Category}
 use Rattle.wake_table.specs.declared.category.Category.TheVariants.{A, B, C, D, E, F}
 use Rattle.wake_table.specs.Table.{table_of}
 use Rattle.wake_table.specs.declared.table.TableFault.{TableFault}
+use Rattle.cps_base.specs.Answers.{◌>>=◌}
 use Rattle.aerodrome_file.specs.declared.fault.AeroFault.{AeroFault}
 use Rattle.aerodrome_file.specs.declared.fault.AeroFault.TheVariants as fault
 use Rattle.aerodrome_file.specs.declared.fault.Key.TheVariants as key
 use Rattle.aerodrome_file.specs.declared.fault.Part.TheVariants as part
-use Rattle.aerodrome_file.specs.Answers.{◌>>=◌}
 use Rattle.aerodrome_file.specs.Keys.{only}
 
 -- an entry of the table, where 601 stands for all above 600, and 0 for all below 1

@@ -1,10 +1,10 @@
 -- The version of the file.
 use Rattle.std.specs.Prelude.{◌≡◌, ◌<◌, ◌≤◌, ℕ, pos, ◌==◌, codes, Option, Some, None, Result, if◌then◌else◌}
 use Rattle.toml.specs.Data.{Data, integer, Members, get_member}
+use Rattle.cps_base.specs.Answers.{◌>>=◌}
 use Rattle.aerodrome_file.specs.declared.fault.AeroFault.{AeroFault}
 use Rattle.aerodrome_file.specs.declared.fault.Key.TheVariants as key
 use Rattle.aerodrome_file.specs.declared.fault.Part.TheVariants as part
-use Rattle.aerodrome_file.specs.Answers.{◌>>=◌}
 use Rattle.aerodrome_file.specs.Keys.{only}
 use Rattle.aerodrome_file.specs.Values.{number_in}
 

@@ -1,8 +1,9 @@
 // The clock second and the frozen landings in the file.
 ghost use Rattle.std.specs.Prelude.{◌≡◌, ◌≤◌, false, length, option_map, [], IfOk};
 ghost use Rattle.toml.specs.View.{view, items_view, table_view};
+ghost use Rattle.cps_base.specs.Answers.{Gives};
 ghost use Rattle.landing_rules.specs.Limits.{most_flights};
-ghost use Rattle.aerodrome_file.specs.Answers.{Gives};
+ghost use Rattle.aerodrome_file.specs.Answers.{memory_fault};
 ghost use Rattle.aerodrome_file.specs.Frozen.{clock_in, has_frozen, is_late, frozen_entry, frozen_of, frozen_from, frozen_in, IsClock, IsFrozen, AreFrozen, AreFrozenBy};
 
 use crate::closures::are_tables;
@@ -101,7 +102,7 @@ fn frozen_from(
     values: &[Value],
 ) -> Result<FrozenList, AeroFault>
     requires { length values.now ≤ most_flights }
-    ensures value { Gives result (frozen_from 1 clock freeze [] (items_view values.now)) }
+    ensures value { Gives memory_fault result (frozen_from 1 clock freeze [] (items_view values.now)) }
     ensures range { IfOk result (AreFrozen clock freeze) }
 {
     let mut entries = Vec::new(alloc);
@@ -126,7 +127,7 @@ pub(crate) fn frozen_in(
     freeze: u32,
     value: Option<&Value>,
 ) -> Result<FrozenList, AeroFault>
-    ensures value { Gives result (frozen_in clock freeze
+    ensures value { Gives memory_fault result (frozen_in clock freeze
         (option_map (λ v. view v.now) value.entry)) }
     ensures range { IfOk result (AreFrozenBy clock freeze) }
 {

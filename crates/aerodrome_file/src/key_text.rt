@@ -14,16 +14,16 @@ pub struct KeyText {
 impl Model for KeyText {
     ghost use Rattle.std.specs.Prelude.{◌≡◌, ℕ, List, take, length};
     ghost use Rattle.std.proofs.Common.{sym};
-    ghost use Rattle.aerodrome_file.specs.KeyText.{padded};
+    ghost use Rattle.cps_base.specs.Padded.{padded};
 
     ghost Value = { List ℕ };
 
     ghost view = { λ t. take t.len t.bytes };
 
-    ghost invariant = { λ t. (t.bytes ≡ padded (take t.len t.bytes))
+    ghost invariant = { λ t. (t.bytes ≡ padded 0 32 (take t.len t.bytes))
         × (length (take t.len t.bytes) ≡ t.len) };
 
-    ghost inverse = { λ text. record { bytes = padded text; len = length text } };
+    ghost inverse = { λ text. record { bytes = padded 0 32 text; len = length text } };
 
     ghost inverse_ok = { λ t h i. record { bytes = sym h.0 i; len = h.1 i } };
 }

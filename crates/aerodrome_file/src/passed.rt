@@ -1,8 +1,9 @@
 // The counts of passed flights in the file.
 ghost use Rattle.std.specs.Prelude.{◌≡◌, ◌≤◌, false, length, option_map, [], IfOk};
 ghost use Rattle.toml.specs.View.{view, items_view, table_view};
+ghost use Rattle.cps_base.specs.Answers.{Gives};
 ghost use Rattle.landing_rules.specs.Limits.{most_waiting};
-ghost use Rattle.aerodrome_file.specs.Answers.{Gives};
+ghost use Rattle.aerodrome_file.specs.Answers.{memory_fault};
 ghost use Rattle.aerodrome_file.specs.Passed.{has_passed, passed_entry, passed_of, passed_from, passed_in, ArePassed};
 
 use crate::closures::are_tables;
@@ -72,7 +73,7 @@ fn passed_of(
 #[tactic(auto, unfolding(crate::specs::Passed::passed_from))]
 fn passed_from(alloc: Global, k: u8, values: &[Value]) -> Result<PassedList, AeroFault>
     requires { length values.now ≤ most_waiting }
-    ensures value { Gives result (passed_from 1 k [] (items_view values.now)) }
+    ensures value { Gives memory_fault result (passed_from 1 k [] (items_view values.now)) }
     ensures range { IfOk result (ArePassed k) }
 {
     let mut entries = Vec::new(alloc);
@@ -96,7 +97,7 @@ pub(crate) fn passed_in(
     k: u8,
     value: Option<&Value>,
 ) -> Result<PassedList, AeroFault>
-    ensures value { Gives result (passed_in k (option_map (λ v. view v.now) value.entry)) }
+    ensures value { Gives memory_fault result (passed_in k (option_map (λ v. view v.now) value.entry)) }
     ensures range { IfOk result (ArePassed k) }
 {
     let Some(value) = value else {

@@ -2,7 +2,8 @@
 ghost use Rattle.std.specs.Prelude.{◌≡◌, IfOk, option_map};
 ghost use Rattle.toml.specs.Errors.{IsMemory};
 ghost use Rattle.toml.specs.View.{view, table_view};
-ghost use Rattle.aerodrome_file.specs.Answers.{Gives, GivesTable};
+ghost use Rattle.cps_base.specs.Answers.{Gives};
+ghost use Rattle.aerodrome_file.specs.Answers.{memory_fault, GivesTable};
 ghost use Rattle.aerodrome_file.specs.Reading.{document, objective_in, most_shift, is_beyond, aerodrome_in, aerodrome_of, IsInRange};
 
 use crate::aerodrome::Aerodrome;
@@ -76,7 +77,7 @@ fn is_beyond(version: u8, k: u8, objective: Objective) -> bool
 // The aerodrome that a table is.
 #[tactic(auto, unfolding(crate::specs::Reading::aerodrome_in))]
 fn aerodrome_in(alloc: Global, table: &Table) -> Result<Aerodrome, AeroFault>
-    ensures value { Gives result (aerodrome_in (table_view table.now)) }
+    ensures value { Gives memory_fault result (aerodrome_in (table_view table.now)) }
     ensures range { IfOk result IsInRange }
 {
     let version = version_in(table)?;
@@ -113,7 +114,7 @@ fn aerodrome_in(alloc: Global, table: &Table) -> Result<Aerodrome, AeroFault>
 /// `clock`; `frozen` and `passed`, entry by entry; and last the shift that delay does not take.
 #[tactic(auto, unfolding(crate::specs::Reading::aerodrome_of))]
 pub fn read_aerodrome(alloc: Global, bytes: &[u8]) -> Result<Aerodrome, AeroFault>
-    ensures value { Gives result (aerodrome_of bytes.now) }
+    ensures value { Gives memory_fault result (aerodrome_of bytes.now) }
     ensures range { IfOk result IsInRange }
 {
     let table = document(alloc, bytes)?;

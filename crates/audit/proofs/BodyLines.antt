@@ -2,8 +2,7 @@
 use Rattle.std.proofs.Common.{◌≡◌, ℕ, ◌<◌, length, arith, List, [], ◌∷◌, Result, Err, refl}
 use Rattle.landing_rules.specs.Text.{ShownLanding}
 use Rattle.audit.specs.declared.plan.PlanFault.{PlanFault}
-use Rattle.audit.specs.declared.plan.PlanFault.TheVariants as fault
-use Rattle.audit.specs.Reading.{line_in, lines_in, Fails}
+use Rattle.audit.specs.Reading.{line_in, lines_in}
 
 line_stop : (n : ℕ) (before : List ShownLanding) (line : List ℕ) (e : PlanFault) (rest : List (List ℕ)) (next : List ℕ) → line_in n line ≡ Err e → lines_in n before line (next ∷ rest) ≡ Err e
 unfolding lines_in
@@ -12,8 +11,3 @@ line_stop n before line e rest next h = rw h refl
 pub line_stop_all : (n : ℕ) (before : List ShownLanding) (line : List ℕ) (e : PlanFault) (rest : List (List ℕ)) → 0 < length rest → line_in n line ≡ Err e → lines_in n before line rest ≡ Err e
 line_stop_all n before line e [] some h = absurd (omega (arith, some))
 line_stop_all n before line e (next ∷ rest) some h = line_stop n before line e rest next h
-
--- a text that fails so
-pub fails_so : {X : Type 0} (e : PlanFault) (read : Result X PlanFault) → read ≡ Err e → Fails e read
-fails_so fault.Memory read h = tt
-fails_so (fault.Line n) read h = h

@@ -3,6 +3,7 @@ use Rattle.std.proofs.Common.{◌≡◌, ℕ, ◌+◌, ◌<◌, ◌≤◌, Bool,
 use Rattle.std.specs.Prelude.{◌==◌, codes, decimal, option_map}
 use Rattle.std.proofs.lemmas.Bool.{le-ltb}
 use Rattle.std.proofs.lemmas.List.Elements.{All-append, All-cons}
+use Rattle.cps_base.specs.Answers.{◌>>=◌}
 use Rattle.cps_base.specs.Text.{is_callsign}
 use Rattle.landing_rules.specs.declared.objective.Objective.{Objective}
 use Rattle.landing_rules.specs.declared.objective.Objective.TheVariants.{Makespan, Delay}
@@ -13,7 +14,7 @@ use Rattle.audit.specs.declared.plan.PlanFault.{PlanFault}
 use Rattle.audit.specs.declared.plan.PlanFault.TheVariants as fault
 use Rattle.audit.specs.declared.plan.PlanText.TheVariants as said
 use Rattle.audit.specs.Lines.{head_in, head_by, landing_in, landing_by, landing_from, landing_with, mark_in}
-use Rattle.audit.specs.Reading.{◌>>=◌, line_in, lines_in, plan_behind, plan_by, plan_of, plan_with}
+use Rattle.audit.specs.Reading.{line_in, lines_in, plan_behind, plan_by, plan_of, plan_with}
 use Rattle.audit.specs.Printed.{AreReadable, IsReadable}
 
 abbrev Lines : Type 0

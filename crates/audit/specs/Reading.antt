@@ -1,5 +1,6 @@
 -- The plan that a text is, or its first line that is not of its form.
 use Rattle.std.specs.Prelude.{◌≡◌, ℕ, ◌+◌, ◌≤◌, List, [], ◌∷◌, ◌++◌, ◌==◌, nat_lt, length, codes, bytes_eq, Option, Some, None, Result, Ok, Err, if◌then◌else◌}
+use Rattle.cps_base.specs.Answers.{◌>>=◌}
 use Rattle.landing_rules.specs.Limits.{most_flights}
 use Rattle.landing_rules.specs.declared.objective.Objective.{Objective}
 use Rattle.landing_rules.specs.Text.{ShownLanding}
@@ -11,11 +12,6 @@ use Rattle.audit.specs.declared.plan.PlanText.{PlanText}
 use Rattle.audit.specs.declared.plan.PlanText.TheVariants as said
 use Rattle.text_parts.specs.Parts.{parts}
 use Rattle.audit.specs.Lines.{head_in, landing_in}
-
-infixl 10 ◌>>=◌
-abbrev pub ◌>>=◌ : {A B : Type 0} → Result A PlanFault → (A → Result B PlanFault) → Result B PlanFault
-(Ok x) >>= f = f x
-(Err e) >>= f = Err e
 
 abbrev pub or_fault : {A : Type 0} → ℕ → Option A → Result A PlanFault
 or_fault n None = Err (fault.Line n)
@@ -56,21 +52,11 @@ plan_by (line ∷ rest) = if bytes_eq line (codes "infeasible") then nothing_beh
 unfoldable pub plan_of : List ℕ → Result PlanText PlanFault
 plan_of bytes = plan_by (parts 10 bytes)
 
--- what a reader answers: what a definition gives, unless memory ran out
-abbrev pub Fails : {X : Type 0} → PlanFault → Result X PlanFault → Type 0
-Fails fault.Memory read = Unit {0}
-Fails (fault.Line n) read = read ≡ Err (fault.Line n)
+-- memory ran out
+abbrev pub memory_fault : PlanFault
+memory_fault = fault.Memory
 
-abbrev pub Gives : {X : Type 0} → Result X PlanFault → Result X PlanFault → Type 0
-Gives (Ok x) read = read ≡ Ok x
-Gives (Err e) read = Fails e read
-
--- the same of a value that shows another
-abbrev pub GivesAs : {A B : Type 0} → (A → B) → Result A PlanFault → Result B PlanFault → Type 0
-GivesAs seen (Ok x) read = read ≡ Ok (seen x)
-GivesAs seen (Err e) read = Fails e read
-
--- the same of the landing of a line, which takes no memory
+-- the landing of a line, which takes no memory
 abbrev pub GivesLanding : Result Landing PlanFault → Result ShownLanding PlanFault → Type 0
 GivesLanding (Ok l) read = read ≡ Ok (shown_of l)
 GivesLanding (Err e) read = read ≡ Err e

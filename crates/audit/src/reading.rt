@@ -1,9 +1,10 @@
 // The plan that a text is.
 ghost use Rattle.std.specs.Prelude.{◌≡◌, ◌≤◌, IfOk, length, map};
+ghost use Rattle.cps_base.specs.Answers.{Gives, GivesAs};
 ghost use Rattle.landing_rules.specs.Limits.{most_flights};
 ghost use Rattle.sequencer.specs.Shown.{shown_of};
 ghost use Rattle.text_parts.specs.Parts.{parts};
-ghost use Rattle.audit.specs.Reading.{Gives, GivesAs, HasFewLines, body_lines, nothing_behind, plan_of};
+ghost use Rattle.audit.specs.Reading.{body_lines, memory_fault, nothing_behind, plan_of, HasFewLines};
 
 use crate::block::{Block, BlockLines};
 use crate::lines::{head_of, line_of};
@@ -15,7 +16,7 @@ use text_parts::first_part;
 // The lines from the second on.
 #[tactic(auto, unfolding(crate::specs::Reading::lines_in))]
 fn read_body(alloc: Global, text: &[u8]) -> Result<Vec<Landing>, PlanFault>
-    ensures value { GivesAs (λ all.
+    ensures value { GivesAs memory_fault (λ all.
         map shown_of all.items) result (body_lines (parts 10 text.now)) }
     ensures few { IfOk result (λ all. length all.items ≤ most_flights) }
 {
@@ -36,7 +37,7 @@ fn read_body(alloc: Global, text: &[u8]) -> Result<Vec<Landing>, PlanFault>
 
 // Behind the line that there is no plan.
 fn read_nothing(text: &[u8]) -> Result<PlanText, PlanFault>
-    ensures { Gives result (nothing_behind (parts 10 text.now)) }
+    ensures { Gives memory_fault result (nothing_behind (parts 10 text.now)) }
 {
     if !text.is_empty() {
         return Err(PlanFault::Line(2));
@@ -50,7 +51,7 @@ fn read_nothing(text: &[u8]) -> Result<PlanText, PlanFault>
 /// printed of a plan reads back as the plan.
 #[tactic(auto, unfolding(crate::specs::Reading::plan_of, crate::specs::Reading::plan_by))]
 pub fn read_plan(alloc: Global, bytes: &[u8]) -> Result<PlanText, PlanFault>
-    ensures value { Gives result (plan_of bytes.now) }
+    ensures value { Gives memory_fault result (plan_of bytes.now) }
     ensures few { IfOk result HasFewLines }
 {
     let (head, rest) = first_part(bytes, b'\n');

@@ -1,9 +1,9 @@
 -- One more line of the text, and a line at which it fails.
-use Rattle.std.proofs.Common.{◌≡◌, ℕ, ◌+◌, ◌<◌, length, arith, List, [], ◌∷◌, Result, Ok, Err, refl}
+use Rattle.std.proofs.Common.{◌≡◌, ℕ, ◌+◌, ◌<◌, length, arith, List, [], ◌∷◌, Result, Ok, Err, inl, inr, refl}
+use Rattle.cps_base.specs.Answers.{Fails}
 use Rattle.certificate.specs.declared.certificate.Claim.{Claim}
 use Rattle.certificate.specs.declared.fault.CertFault.{CertFault}
-use Rattle.certificate.specs.declared.fault.CertFault.TheVariants as fault
-use Rattle.certificate.specs.Reading.{Cert, Body, line_in, lines_in, Fails}
+use Rattle.certificate.specs.Reading.{Cert, Body, line_in, lines_in, memory_fault}
 
 pub line_more : (n : ℕ) (c : Claim) (b b' : Body) (line next : List ℕ) (rest : List (List ℕ)) → line_in n b line ≡ Ok b' → lines_in n c b line (next ∷ rest) ≡ lines_in (n + 1) c b' next rest
 unfolding lines_in
@@ -22,7 +22,6 @@ unfolding lines_in
 line_end n c b line e = rw e refl
 
 -- a line that fails, fails the whole
-pub fails_too : (e : CertFault) (line : Result Body CertFault) (whole : Result Cert CertFault) → Fails e line → (line ≡ Err e → whole ≡ Err e) → Fails e whole
-fails_too fault.Memory line whole f h = tt
-fails_too (fault.Line n) line whole f h = h f
-fails_too (fault.Order n) line whole f h = h f
+pub fails_too : (e : CertFault) (line : Result Body CertFault) (whole : Result Cert CertFault) → Fails memory_fault e line → (line ≡ Err e → whole ≡ Err e) → Fails memory_fault e whole
+fails_too e line whole (inl memory) h = inl memory
+fails_too e line whole (inr f) h = inr (h f)

@@ -6,6 +6,7 @@ use Rattle.std.specs.List.{list_all}
 use Rattle.std.specs.Str.Parse.{digits_value}
 use Rattle.std.proofs.lemmas.Bool.{ltb-false}
 use Rattle.std.proofs.lemmas.Grind.{common_steps}
+use Rattle.cps_base.specs.Answers.{◌>>=◌}
 use Rattle.cps_base.specs.Number.{number_within, is_number}
 use Rattle.cps_base.specs.declared.number.NumberFault.TheVariants.{NotNumber, Below, Above}
 use Rattle.cps_base.specs.Text.{is_callsign}
@@ -17,7 +18,7 @@ use Rattle.certificate.specs.declared.fault.CertFault.TheVariants as fault
 use Rattle.certificate.specs.Patterns.{is_pattern_length}
 use Rattle.certificate.specs.States.{Pair, State, IsState, is_pair, rises, comes_behind, follows, AreStates, AreAscending}
 use Rattle.certificate.specs.Lines.{pattern_in, are_marks, is_digit, pair_by, pair_in, pairs_in, state_from, state_by, state_in, landing_by, landing_in}
-use Rattle.certificate.specs.Reading.{Cert, IsClaim, AreLandings, IsCertificate, ◌>>=◌, Body, with_landing, with_state, line_in, lines_in, body_lines}
+use Rattle.certificate.specs.Reading.{Cert, IsClaim, AreLandings, IsCertificate, Body, with_landing, with_state, line_in, lines_in, body_lines}
 
 pub then_some : {A B : Type 0} (o : Option A) (f : A → Option B) (y : B) → option_and_then f o ≡ Some y → (x : A) × (o ≡ Some x) × (f x ≡ Some y)
 then_some (Some x) f y e = (x, refl, e)

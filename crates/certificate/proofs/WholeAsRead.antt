@@ -3,13 +3,14 @@ use Rattle.std.proofs.Common.{◌≡◌, ℕ, ◌+◌, Bool, true, false, cond, 
 use Rattle.std.specs.Prelude.{◌==◌, codes, bytes_eq, IfOk}
 use Rattle.std.specs.List.{join_with_byte}
 use Rattle.std.proofs.lemmas.Bool.{eqb-true}
+use Rattle.cps_base.specs.Answers.{Gives}
 use Rattle.certificate.specs.declared.certificate.Claim.{Claim}
 use Rattle.certificate.specs.declared.fault.CertFault.{CertFault}
 use Rattle.certificate.specs.declared.fault.CertFault.TheVariants as fault
 use Rattle.certificate.specs.States.{State, follows}
 use Rattle.text_parts.specs.Parts.{parts}
 use Rattle.certificate.specs.Lines.{state_in, landing_in, claim_in}
-use Rattle.certificate.specs.Reading.{Cert, Body, with_landing, with_state, line_in, lines_in, body_lines, body_behind, claim_behind, certificate_by, certificate_of, Gives}
+use Rattle.certificate.specs.Reading.{Cert, Body, with_landing, with_state, line_in, lines_in, body_lines, body_behind, claim_behind, certificate_by, certificate_of, memory_fault}
 use Rattle.certificate.specs.Spelling.{state_text, landing_text, claim_text, landing_lines, state_lines, text_of}
 use Rattle.certificate.proofs.Valid.{bind_ok, done}
 use Rattle.certificate.proofs.AsRead.{joined, same_text, state_printed, landing_printed, claim_printed}
@@ -105,6 +106,6 @@ prints_back bytes c e = head (parts 10 bytes) refl e
         by false p e = absurd cc
         by true p e = claim first rest p f e
 
-pub prints_if_read : (bytes : List ℕ) (r : Result Cert CertFault) → Gives r (certificate_of bytes) → IfOk r (λ c. text_of c ≡ bytes)
+pub prints_if_read : (bytes : List ℕ) (r : Result Cert CertFault) → Gives memory_fault r (certificate_of bytes) → IfOk r (λ c. text_of c ≡ bytes)
 prints_if_read bytes (Ok c) g = prints_back bytes c g
 prints_if_read bytes (Err e) g = tt

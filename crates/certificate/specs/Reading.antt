@@ -1,5 +1,6 @@
 -- The certificate that a text is, or the first fault of its first line that has one.
 use Rattle.std.specs.Prelude.{◌≡◌, ℕ, ◌+◌, ◌<◌, ◌≤◌, List, [], ◌∷◌, ◌++◌, true, ◌==◌, length, codes, bytes_eq, Option, Some, None, Result, Ok, Err, if◌then◌else◌}
+use Rattle.cps_base.specs.Answers.{◌>>=◌, Fails}
 use Rattle.cps_base.specs.Text.{is_callsign}
 use Rattle.landing_rules.specs.Rules.{last_second}
 use Rattle.certificate.specs.declared.certificate.Claim.{Claim}
@@ -29,11 +30,6 @@ pub record IsCertificate (c : Cert) : Type 0 where
   pub states : AreStates c.states
   pub ascending : AreAscending c.states
   pub few : length c.states < 4294967295
-
-infixl 10 ◌>>=◌
-abbrev pub ◌>>=◌ : {A B : Type 0} → Result A CertFault → (A → Result B CertFault) → Result B CertFault
-(Ok x) >>= f = f x
-(Err e) >>= f = Err e
 
 -- the landings and the states so far
 abbrev pub Body : Type 0
@@ -75,17 +71,11 @@ certificate_by (line ∷ rest) = if bytes_eq line (codes "certificate 1") then c
 unfoldable pub certificate_of : List ℕ → Result Cert CertFault
 certificate_of bytes = certificate_by (parts 10 bytes)
 
--- what a reader answers: what a definition gives, unless memory ran out
-abbrev pub Fails : {X : Type 0} → CertFault → Result X CertFault → Type 0
-Fails fault.Memory read = Unit {0}
-Fails (fault.Line n) read = read ≡ Err (fault.Line n)
-Fails (fault.Order n) read = read ≡ Err (fault.Order n)
-
-abbrev pub Gives : {X : Type 0} → Result X CertFault → Result X CertFault → Type 0
-Gives (Ok x) read = read ≡ Ok x
-Gives (Err e) read = Fails e read
+-- memory ran out
+abbrev pub memory_fault : CertFault
+memory_fault = fault.Memory
 
 -- what one line leaves, unless memory ran out
 abbrev pub Takes : Result (Unit {0}) CertFault → Body → Result Body CertFault → Type 0
 Takes (Ok x) new read = read ≡ Ok new
-Takes (Err e) new read = Fails e read
+Takes (Err e) new read = Fails memory_fault e read

@@ -20,17 +20,18 @@ pub struct Pattern {
 impl Model for Pattern {
     ghost use Rattle.std.specs.Prelude.{◌≡◌, List, Bool, true, take, length};
     ghost use Rattle.std.proofs.Common.{sym};
-    ghost use Rattle.certificate.specs.Patterns.{padded, is_pattern_length};
+    ghost use Rattle.cps_base.specs.Padded.{padded};
+    ghost use Rattle.certificate.specs.Patterns.{is_pattern_length};
 
     ghost Value = { List Bool };
 
     ghost view = { λ p. take p.len p.digits };
 
-    ghost invariant = { λ p. (p.digits ≡ padded (take p.len p.digits))
+    ghost invariant = { λ p. (p.digits ≡ padded false 6 (take p.len p.digits))
         × (length (take p.len p.digits) ≡ p.len)
         × (is_pattern_length (length (take p.len p.digits)) ≡ true) };
 
-    ghost inverse = { λ digits. record { digits = padded digits; len = length digits } };
+    ghost inverse = { λ digits. record { digits = padded false 6 digits; len = length digits } };
 
     ghost inverse_ok = { λ p h i. record { digits = sym h.0 i; len = h.1 i } };
 }

@@ -1,5 +1,6 @@
 ghost use Rattle.std.specs.Prelude.{◌≡◌, ◌<◌, length, IfOk};
-ghost use Rattle.certificate.specs.Reading.{Gives, Takes, IsClaim, body_lines, certificate_of, line_in};
+ghost use Rattle.cps_base.specs.Answers.{Gives};
+ghost use Rattle.certificate.specs.Reading.{memory_fault, Takes, IsClaim, body_lines, certificate_of, line_in};
 ghost use Rattle.text_parts.specs.Parts.{parts};
 ghost use Rattle.certificate.specs.States.{follows};
 ghost use Rattle.certificate.specs.Spelling.{text_of};
@@ -54,7 +55,7 @@ fn take_line(
 fn read_body(alloc: Global, claim: Claim, text: &[u8]) -> Result<Certificate, CertFault>
     requires short { length text.now < 4294967293 }
     requires range { IsClaim claim }
-    ensures { Gives result (body_lines claim (parts 10 text.now)) }
+    ensures { Gives memory_fault result (body_lines claim (parts 10 text.now)) }
 {
     let mut landings = Vec::new(alloc);
     let mut states = Vec::new(alloc);
@@ -75,7 +76,7 @@ fn read_body(alloc: Global, claim: Claim, text: &[u8]) -> Result<Certificate, Ce
 #[tactic(auto, unfolding(crate::specs::Reading::certificate_of, crate::specs::Reading::certificate_by))]
 fn certificate_in(alloc: Global, bytes: &[u8]) -> Result<Certificate, CertFault>
     requires { length bytes.now < 4294967295 }
-    ensures { Gives result (certificate_of bytes.now) }
+    ensures { Gives memory_fault result (certificate_of bytes.now) }
 {
     let (head, rest) = first_part(bytes, b'\n');
     if head != b"certificate 1".as_slice() {
@@ -100,7 +101,7 @@ fn certificate_in(alloc: Global, bytes: &[u8]) -> Result<Certificate, CertFault>
 #[tactic(auto, using(crate::proofs::WholeAsRead::prints_if_read))]
 pub fn read_certificate(alloc: Global, bytes: &[u8]) -> Result<Certificate, CertFault>
     requires { length bytes.now < 4294967295 }
-    ensures value { Gives result (certificate_of bytes.now) }
+    ensures value { Gives memory_fault result (certificate_of bytes.now) }
     ensures prints { IfOk result (λ certificate. text_of certificate ≡ bytes.now) }
 {
     certificate_in(alloc, bytes)

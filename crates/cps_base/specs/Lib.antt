@@ -3,3 +3,4 @@ pub mod Number
 pub mod Padded
 pub mod Tally
 pub mod Counted
+pub mod Answers

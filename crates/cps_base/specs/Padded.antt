@@ -1,6 +1,5 @@
--- How a text is kept in eight bytes: with zeros behind it.
+-- How a list is kept in an array of n places: with blanks behind it.
 use Rattle.std.specs.Prelude.{ℕ, List, ◌++◌, ◌-◌, length, replicate}
 
--- the eight bytes in which a text is kept
-abbrev pub padded : List ℕ → List ℕ
-padded text = text ++ replicate (8 - length text) 0
+abbrev pub padded : {A : Type 0} → A → ℕ → List A → List A
+padded blank n xs = xs ++ replicate (n - length xs) blank

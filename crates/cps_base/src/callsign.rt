@@ -32,10 +32,10 @@ impl Model for Callsign {
 
     ghost view = { λ c. take c.len c.bytes };
 
-    ghost invariant = { λ c. (c.bytes ≡ padded (take c.len c.bytes))
+    ghost invariant = { λ c. (c.bytes ≡ padded 0 8 (take c.len c.bytes))
         × (length (take c.len c.bytes) ≡ c.len) × IsTrue (is_callsign (take c.len c.bytes)) };
 
-    ghost inverse = { λ text. record { bytes = padded text; len = length text } };
+    ghost inverse = { λ text. record { bytes = padded 0 8 text; len = length text } };
 
     ghost inverse_ok = { λ c h i. record { bytes = sym h.0 i; len = h.1 i } };
 }

@@ -1,13 +1,7 @@
--- What the reader of a log answers: what a definition gives, unless memory ran out.
-use Rattle.std.specs.Prelude.{◌≡◌, ◌⊎◌, Result, Ok, Err}
+-- That memory ran out while a log was read.
 use Rattle.event_log.specs.declared.fault.LogFault.{LogFault}
 use Rattle.event_log.specs.declared.fault.LogCause.TheVariants as cause
 
--- memory ran out, which belongs to no record
+-- it belongs to no record
 abbrev pub memory_fault : LogFault
 memory_fault = record { number = 0; cause = cause.Memory }
-
--- an answer is what was read, as the view shows it, unless memory ran out
-abbrev pub Gives : {X Y : Type 0} → (X → Y) → Result X LogFault → Result Y LogFault → Type 0
-Gives view (Ok x) read = read ≡ Ok (view x)
-Gives view (Err e) read = (e ≡ memory_fault) ⊎ (read ≡ Err e)

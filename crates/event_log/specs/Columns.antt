@@ -1,5 +1,6 @@
 -- What the columns of a record hold, or the fault of a column.
 use Rattle.std.specs.Prelude.{ℕ, List, ◌==◌, length, Option, Some, None, Result, Ok, Err, if◌then◌else◌}
+use Rattle.cps_base.specs.Answers.{fault_as}
 use Rattle.landing_rules.specs.Limits.{greatest_weight}
 use Rattle.landing_rules.specs.Rules.{last_second}
 use Rattle.csv_records.specs.Rows.{Fields, field}
@@ -7,7 +8,6 @@ use Rattle.cps_base.specs.Text.{is_callsign}
 use Rattle.cps_base.specs.Number.{number_within}
 use Rattle.wake_table.specs.declared.category.Category as categories
 use Rattle.wake_table.specs.Letters.{category_of}
-use Rattle.flight_file.specs.Answers.{fault_as}
 use Rattle.flight_file.specs.Windows.{windows_in}
 use Rattle.flight_file.specs.After.{names_in}
 use Rattle.event_log.specs.declared.fault.Col.{Col}

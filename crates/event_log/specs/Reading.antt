@@ -1,8 +1,8 @@
 -- The events of a log, or the first fault of its first record that has one, over the records that `csv` reads.
 use Rattle.std.specs.Prelude.{ℕ, List, [], ◌∷◌, ◌++◌, Bool, not, ◌==◌, ◌&&◌, ◌+◌, nat_le, length, codes, bytes_eq, Result, Ok, Err, if◌then◌else◌}
+use Rattle.cps_base.specs.Answers.{◌>>=◌}
 use Rattle.landing_rules.specs.Limits.{most_events}
 use Rattle.csv_records.specs.Rows.{Fields, field, records_of}
-use Rattle.flight_file.specs.Answers.{◌>>=◌}
 use Rattle.event_log.specs.declared.event.Event.{Event}
 use Rattle.event_log.specs.declared.fault.LogCause.{LogCause}
 use Rattle.event_log.specs.declared.fault.LogCause.TheVariants as cause

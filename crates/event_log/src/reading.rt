@@ -1,7 +1,8 @@
 ghost use Rattle.std.specs.Prelude.{◌≡◌, [], ◌∷◌, ◌≤◌, ◌<◌, All, length, OnOk, IfOk, vec_len};
 ghost use Rattle.csv.specs.Records.{fields_of};
+ghost use Rattle.cps_base.specs.Answers.{GivesAs};
 ghost use Rattle.landing_rules.specs.Limits.{most_events};
-ghost use Rattle.event_log.specs.Answers.{Gives};
+ghost use Rattle.event_log.specs.Answers.{memory_fault};
 ghost use Rattle.event_log.specs.Seen.{IsGood};
 ghost use Rattle.event_log.specs.Reading.{is_header, event_in, header_fault, added, events_in, events_by, events_of};
 
@@ -49,7 +50,7 @@ fn event_in(before: usize, row: &ByteRecord) -> Result<Event, LogCause>
 fn add_event(events: &mut Vec<Event>, row: &ByteRecord) -> Result<(), LogFault>
     requires few { vec_len events.old ≤ most_events }
     requires good { All IsGood events.old.items }
-    ensures value { Gives (λ _. events.new.items) result
+    ensures value { GivesAs memory_fault (λ _. events.new.items) result
         (added events.old.items (event_in (length events.old.items) (fields_of row.now))) }
     ensures few { OnOk result (vec_len events.new ≤ most_events) }
     ensures good { OnOk result (All IsGood events.new.items) }
@@ -73,7 +74,7 @@ fn events_in(
     records: &mut Records,
     row: &mut ByteRecord,
 ) -> Result<Vec<Event>, LogFault>
-    ensures value { Gives (λ v. v.items) result (events_in [] records.old) }
+    ensures value { GivesAs memory_fault (λ v. v.items) result (events_in [] records.old) }
     ensures few { IfOk result (λ v. vec_len v ≤ most_events) }
     ensures good { IfOk result (λ v. All IsGood v.items) }
 {
@@ -87,7 +88,7 @@ fn events_in(
 // The events of all records of a log.
 #[tactic(auto, unfolding(crate::specs::Reading::events_by))]
 fn events_by(alloc: Global, records: &mut Records) -> Result<Vec<Event>, LogFault>
-    ensures value { Gives (λ v. v.items) result (events_by records.old) }
+    ensures value { GivesAs memory_fault (λ v. v.items) result (events_by records.old) }
     ensures few { IfOk result (λ v. vec_len v ≤ most_events) }
     ensures good { IfOk result (λ v. All IsGood v.items) }
 {
@@ -103,7 +104,7 @@ fn events_by(alloc: Global, records: &mut Records) -> Result<Vec<Event>, LogFaul
 /// are in their ranges.
 #[tactic(auto, using(crate::proofs::Wide::events_within))]
 pub fn read_events(alloc: Global, bytes: &[u8]) -> Result<Vec<Event>, LogFault>
-    ensures value { Gives (λ v. v.items) result (events_of bytes.now) }
+    ensures value { GivesAs memory_fault (λ v. v.items) result (events_of bytes.now) }
     ensures few { IfOk result (λ v. vec_len v ≤ most_events) }
     ensures good { IfOk result (λ v. All IsGood v.items) }
 {

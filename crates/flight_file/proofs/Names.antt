@@ -6,8 +6,8 @@ use Rattle.std.proofs.lemmas.Bool.{cases_Bool}
 use Rattle.std.proofs.lemmas.List.Folds.{list_any_at}
 use Rattle.std.proofs.lemmas.List.Elements.{All-push}
 use Rattle.std.proofs.lemmas.List.Quantifiers.{all_pairs_push}
+use Rattle.cps_base.specs.Answers.{◌>>=◌}
 use Rattle.flight_file.specs.After.{AreOthers, name_in, names_from}
-use Rattle.flight_file.specs.Answers.{◌>>=◌}
 use Rattle.flight_file.specs.declared.fault.AfterCause.{AfterCause}
 use Rattle.cps_base.specs.Text.{is_callsign}
 use Rattle.flight_file.specs.OfFile.{IsOfFile, CanBeRead}

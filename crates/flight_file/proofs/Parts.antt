@@ -1,8 +1,8 @@
 -- What the parts of a field are, one after the other.
 use Rattle.std.proofs.Common.{◌≡◌, ℕ, ◌+◌, ◌<◌, List, [], ◌∷◌, length, Ok, Err, Result, ◌++◌, append_assoc, arith, ap, sym, refl}
 use Rattle.std.proofs.lemmas.List.{append-nil}
+use Rattle.cps_base.specs.Answers.{◌>>=◌}
 use Rattle.flight_file.specs.Windows.{window_by, window_in, windows_from}
-use Rattle.flight_file.specs.Answers.{◌>>=◌}
 use Rattle.std.specs.Prelude.{◌==◌, ◌&&◌, IsTrue, Bool, true, false}
 use Rattle.std.specs.List.{list_all}
 use Rattle.landing_windows.specs.Windows.{is_in_days}

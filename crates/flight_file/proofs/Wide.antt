@@ -3,8 +3,8 @@ use Rattle.std.proofs.Common.{◌≡◌, true, false, List, [], ◌∷◌, lengt
 use Rattle.std.specs.Prelude.{nat_lt}
 use Rattle.std.proofs.lemmas.Bool.{cases_Bool}
 use Rattle.std.proofs.lemmas.Grind.{common_steps}
+use Rattle.cps_base.specs.Answers.{◌>>=◌}
 use Rattle.csv_records.specs.Rows.{Fields, within}
-use Rattle.flight_file.specs.Answers.{◌>>=◌}
 use Rattle.flight_file.specs.declared.fault.FlightCause.TheVariants as cause
 use Rattle.flight_file.specs.declared.fault.FlightFault.{FlightFault}
 use Rattle.flight_file.specs.declared.flight.Flight.{Flight}

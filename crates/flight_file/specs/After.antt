@@ -1,11 +1,11 @@
 -- The predecessors that a field names, or its first fault.
 use Rattle.std.specs.Prelude.{◌≢◌, All, AllPairs, ℕ, List, [], ◌∷◌, ◌++◌, not, ◌==◌, ◌+◌, nat_lt, length, bytes_eq, Result, Ok, Err, if◌then◌else◌}
 use Rattle.std.specs.List.{list_any}
+use Rattle.cps_base.specs.Answers.{◌>>=◌}
 use Rattle.text_parts.specs.Parts.{parts}
 use Rattle.cps_base.specs.Text.{is_callsign}
 use Rattle.flight_file.specs.declared.fault.AfterCause.{AfterCause}
 use Rattle.flight_file.specs.declared.fault.AfterCause.TheVariants.{TooMany, Callsign, Itself, Repeat}
-use Rattle.flight_file.specs.Answers.{◌>>=◌}
 
 -- callsigns, none the flight's own and none twice
 pub record AreOthers (own : List ℕ) (names : List (List ℕ)) : Type 0 where

@@ -1,6 +1,7 @@
 -- The flights of a file, or the first fault of its first record that has one, over the records that `csv` reads.
 use Rattle.std.specs.Prelude.{ℕ, List, [], ◌∷◌, ◌++◌, Bool, not, ◌==◌, ◌&&◌, ◌+◌, nat_le, length, codes, bytes_eq, Option, Some, None, Result, Ok, Err, if◌then◌else◌}
 use Rattle.std.specs.List.{list_any}
+use Rattle.cps_base.specs.Answers.{fault_as, ◌>>=◌}
 use Rattle.landing_rules.specs.Limits.{greatest_weight, most_flights}
 use Rattle.landing_rules.specs.Rules.{last_second}
 use Rattle.csv_records.specs.Rows.{Fields, field, records_of}
@@ -12,7 +13,6 @@ use Rattle.flight_file.specs.declared.fault.FlightCause.{FlightCause}
 use Rattle.flight_file.specs.declared.fault.FlightCause.TheVariants as cause
 use Rattle.flight_file.specs.declared.fault.FlightFault.{FlightFault}
 use Rattle.flight_file.specs.declared.flight.Flight.{Flight}
-use Rattle.flight_file.specs.Answers.{◌>>=◌, fault_as}
 use Rattle.flight_file.specs.Windows.{windows_in}
 use Rattle.flight_file.specs.After.{names_in}
 

@@ -1,5 +1,6 @@
 -- The windows that a field holds, or its first fault.
 use Rattle.std.specs.Prelude.{ℕ, List, [], ◌∷◌, ◌==◌, ◌+◌, nat_lt, length, Result, Ok, Err, if◌then◌else◌}
+use Rattle.cps_base.specs.Answers.{fault_as, ◌>>=◌}
 use Rattle.landing_rules.specs.Rules.{last_second}
 use Rattle.text_parts.specs.Parts.{parts}
 use Rattle.cps_base.specs.Number.{number_within}
@@ -7,7 +8,6 @@ use Rattle.landing_windows.specs.Windows.{windows_of}
 use Rattle.landing_windows.specs.declared.windows.WindowFault.TheVariants as window
 use Rattle.flight_file.specs.declared.fault.WindowsCause.{WindowsCause}
 use Rattle.flight_file.specs.declared.fault.WindowsCause.TheVariants.{Shape, Number, Set}
-use Rattle.flight_file.specs.Answers.{◌>>=◌, fault_as}
 
 -- a second of part i
 abbrev pub second_in : ℕ → List ℕ → Result ℕ WindowsCause

@@ -1,7 +1,8 @@
 ghost use Rattle.std.specs.Prelude.{◌≡◌, false, [], ◌∷◌, ◌≤◌, ◌<◌, length, OnOk, IfOk, vec_len};
 ghost use Rattle.csv.specs.Records.{fields_of};
+ghost use Rattle.cps_base.specs.Answers.{GivesAs};
 ghost use Rattle.landing_rules.specs.Limits.{most_flights};
-ghost use Rattle.flight_file.specs.Answers.{Gives};
+ghost use Rattle.flight_file.specs.Answers.{memory_fault};
 ghost use Rattle.flight_file.specs.OfFile.{IsOfFile, CanBeRead};
 ghost use Rattle.flight_file.specs.Reading.{is_header, has_callsign, flight_in, flight_by, header_fault, added, flights_in, flights_by, flights_of};
 
@@ -90,7 +91,7 @@ fn flight_in(flights: &[Flight], row: &ByteRecord) -> Result<Flight, FlightCause
 // One more flight, behind those of the records before.
 fn add_flight(flights: &mut Vec<Flight>, row: &ByteRecord) -> Result<(), FlightFault>
     requires { CanBeRead flights.old.items }
-    ensures value { Gives (λ _. flights.new.items) result
+    ensures value { GivesAs memory_fault (λ _. flights.new.items) result
         (added flights.old.items (flight_in flights.old.items (fields_of row.now))) }
     ensures of_file { OnOk result (CanBeRead flights.new.items) }
 {
@@ -113,7 +114,7 @@ fn flights_in(
     records: &mut Records,
     row: &mut ByteRecord,
 ) -> Result<Vec<Flight>, FlightFault>
-    ensures value { Gives (λ v. v.items) result (flights_in [] records.old) }
+    ensures value { GivesAs memory_fault (λ v. v.items) result (flights_in [] records.old) }
     ensures of_file { IfOk result (λ v. CanBeRead v.items) }
 {
     let mut flights = Vec::new(alloc);
@@ -126,7 +127,7 @@ fn flights_in(
 // The flights of all records of a file.
 #[tactic(auto, unfolding(crate::specs::Reading::flights_by))]
 fn flights_by(alloc: Global, records: &mut Records) -> Result<Vec<Flight>, FlightFault>
-    ensures value { Gives (λ v. v.items) result (flights_by records.old) }
+    ensures value { GivesAs memory_fault (λ v. v.items) result (flights_by records.old) }
     ensures of_file { IfOk result (λ v. CanBeRead v.items) }
 {
     let mut row = ByteRecord::new(alloc);
@@ -140,7 +141,7 @@ fn flights_by(alloc: Global, records: &mut Records) -> Result<Vec<Flight>, Fligh
 /// record, and holds one record at a time, and of one with more than six fields nothing.
 #[tactic(auto, using(crate::proofs::Wide::flights_within))]
 pub fn read_flights(alloc: Global, bytes: &[u8]) -> Result<Vec<Flight>, FlightFault>
-    ensures value { Gives (λ v. v.items) result (flights_of bytes.now) }
+    ensures value { GivesAs memory_fault (λ v. v.items) result (flights_of bytes.now) }
     ensures of_file { IfOk result (λ v. CanBeRead v.items) }
 {
     let mut records = Records::new(alloc, bytes, 6);

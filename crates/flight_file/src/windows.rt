@@ -1,9 +1,9 @@
 ghost use Rattle.std.specs.Prelude.{◌≡◌, ◌≤◌, IsTrue, length, take, IfOk};
 ghost use Rattle.std.specs.List.{list_all};
+ghost use Rattle.cps_base.specs.Answers.{ok_map};
 ghost use Rattle.landing_rules.specs.Rules.{last_second};
 ghost use Rattle.text_parts.specs.Parts.{parts};
 ghost use Rattle.landing_windows.specs.Windows.{is_in_days};
-ghost use Rattle.flight_file.specs.Answers.{ok_map};
 ghost use Rattle.flight_file.specs.Windows.{second_in, window_in, windows_from, windows_in};
 
 use crate::fault::WindowsCause;

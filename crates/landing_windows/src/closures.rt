@@ -29,18 +29,18 @@ pub struct Closures {
 impl Model for Closures {
     ghost use Rattle.std.specs.Prelude.{◌≡◌, ◌≤◌, List, ℕ, length, take, All};
     ghost use Rattle.std.proofs.Common.{sym};
-    ghost use Rattle.landing_windows.specs.Kept.{padded};
+    ghost use Rattle.cps_base.specs.Padded.{padded};
     ghost use Rattle.landing_windows.specs.Closed.{IsClosure};
 
     ghost Value = { List (ℕ × ℕ) };
 
     ghost view = { λ c. take c.len c.pairs };
 
-    ghost invariant = { λ c. (c.pairs ≡ padded 32 (take c.len c.pairs))
+    ghost invariant = { λ c. (c.pairs ≡ padded (0, 0) 32 (take c.len c.pairs))
         × (length (take c.len c.pairs) ≡ c.len) × (c.len ≤ 32)
         × All IsClosure (take c.len c.pairs) };
 
-    ghost inverse = { λ pairs. record { pairs = padded 32 pairs; len = length pairs } };
+    ghost inverse = { λ pairs. record { pairs = padded (0, 0) 32 pairs; len = length pairs } };
 
     ghost inverse_ok = { λ c h i. record { pairs = sym h.0 i; len = h.1 i } };
 }

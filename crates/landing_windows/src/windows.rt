@@ -37,19 +37,19 @@ impl Model for WindowSet {
     ghost use Rattle.std.specs.Prelude.{◌≡◌, List, ℕ, take, length, Ok, IsTrue};
     ghost use Rattle.std.specs.List.{list_all};
     ghost use Rattle.std.proofs.Common.{sym};
-    ghost use Rattle.landing_windows.specs.Kept.{padded};
+    ghost use Rattle.cps_base.specs.Padded.{padded};
     ghost use Rattle.landing_windows.specs.Windows.{is_in_days, windows_of};
 
     ghost Value = { List (ℕ × ℕ) };
 
     ghost view = { λ w. take w.len w.spans };
 
-    ghost invariant = { λ w. (w.spans ≡ padded 4 (take w.len w.spans))
+    ghost invariant = { λ w. (w.spans ≡ padded (0, 0) 4 (take w.len w.spans))
         × (length (take w.len w.spans) ≡ w.len)
         × (windows_of (take w.len w.spans) ≡ Ok (take w.len w.spans))
         × IsTrue (list_all is_in_days (take w.len w.spans)) };
 
-    ghost inverse = { λ spans. record { spans = padded 4 spans; len = length spans } };
+    ghost inverse = { λ spans. record { spans = padded (0, 0) 4 spans; len = length spans } };
 
     ghost inverse_ok = { λ w h i. record { spans = sym h.0 i; len = h.1 i } };
 }

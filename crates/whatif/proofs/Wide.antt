@@ -3,8 +3,8 @@ use Rattle.std.proofs.Common.{◌≡◌, ℕ, ◌<◌, true, false, List, [], �
 use Rattle.std.specs.Prelude.{nat_lt}
 use Rattle.std.proofs.lemmas.Bool.{cases_Bool}
 use Rattle.std.proofs.lemmas.Grind.{common_steps}
+use Rattle.cps_base.specs.Answers.{◌>>=◌}
 use Rattle.csv_records.specs.Rows.{Fields, within}
-use Rattle.flight_file.specs.Answers.{◌>>=◌}
 use Rattle.whatif.specs.declared.fault.TrialCause.TheVariants as cause
 use Rattle.whatif.specs.declared.fault.TrialFault.{TrialFault}
 use Rattle.whatif.specs.declared.trial.Trial.{Trial}

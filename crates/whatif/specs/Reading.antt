@@ -1,8 +1,8 @@
 -- The trials of a file, or the first fault of its first record that has one, over the records that `csv` reads.
 use Rattle.std.specs.Prelude.{ℕ, List, [], ◌∷◌, ◌++◌, Bool, not, ◌==◌, ◌&&◌, ◌+◌, nat_le, length, codes, bytes_eq, Result, Ok, Err, if◌then◌else◌}
+use Rattle.cps_base.specs.Answers.{fault_as, ok_map, ◌>>=◌}
 use Rattle.csv_records.specs.Rows.{Fields, field, records_of}
 use Rattle.cps_base.specs.Number.{number_within}
-use Rattle.flight_file.specs.Answers.{◌>>=◌, fault_as, ok_map}
 use Rattle.event_log.specs.declared.fault.FieldCause.TheVariants as field_cause
 use Rattle.event_log.specs.Spans.{span_in}
 use Rattle.whatif.specs.declared.trial.Trial.{Trial}

@@ -1,6 +1,7 @@
 ghost use Rattle.std.specs.Prelude.{◌≡◌, [], ◌≤◌, ◌<◌, All, length, OnOk, IfOk, vec_len};
 ghost use Rattle.csv.specs.Records.{fields_of};
-ghost use Rattle.whatif.specs.Answers.{Gives};
+ghost use Rattle.cps_base.specs.Answers.{GivesAs};
+ghost use Rattle.whatif.specs.Answers.{memory_fault};
 ghost use Rattle.whatif.specs.Trials.{IsGood};
 ghost use Rattle.whatif.specs.Reading.{is_header, shift_in, close_in, trial_by, trial_in, header_fault, and_in, trials_in, trials_by, trials_of};
 
@@ -78,7 +79,7 @@ fn trial_in(before: usize, row: &ByteRecord) -> Result<Trial, TrialCause>
 fn add_trial(all: &mut Vec<Trial>, row: &ByteRecord) -> Result<(), TrialFault>
     requires few { vec_len all.old ≤ 16 }
     requires good { All IsGood all.old.items }
-    ensures value { Gives (λ _. all.new.items) result (and_in all.old.items (fields_of row.now)) }
+    ensures value { GivesAs memory_fault (λ _. all.new.items) result (and_in all.old.items (fields_of row.now)) }
     ensures few { OnOk result (vec_len all.new ≤ 16) }
     ensures good { OnOk result (All IsGood all.new.items) }
 {
@@ -101,7 +102,7 @@ fn trials_in(
     records: &mut Records,
     row: &mut ByteRecord,
 ) -> Result<Vec<Trial>, TrialFault>
-    ensures value { Gives (λ v. v.items) result (trials_in [] records.old) }
+    ensures value { GivesAs memory_fault (λ v. v.items) result (trials_in [] records.old) }
     ensures few { IfOk result (λ v. vec_len v ≤ 16) }
     ensures good { IfOk result (λ v. All IsGood v.items) }
 {
@@ -115,7 +116,7 @@ fn trials_in(
 // The trials of all records of a file.
 #[tactic(auto, unfolding(crate::specs::Reading::trials_by))]
 fn trials_by(alloc: Global, records: &mut Records) -> Result<Vec<Trial>, TrialFault>
-    ensures value { Gives (λ v. v.items) result (trials_by records.old) }
+    ensures value { GivesAs memory_fault (λ v. v.items) result (trials_by records.old) }
     ensures few { IfOk result (λ v. vec_len v ≤ 16) }
     ensures good { IfOk result (λ v. All IsGood v.items) }
 {
@@ -130,7 +131,7 @@ fn trials_by(alloc: Global, records: &mut Records) -> Result<Vec<Trial>, TrialFa
 /// trials, and their numbers are in their ranges.
 #[tactic(auto, using(crate::proofs::Wide::trials_within))]
 pub fn read_trials(alloc: Global, bytes: &[u8]) -> Result<Vec<Trial>, TrialFault>
-    ensures value { Gives (λ v. v.items) result (trials_of bytes.now) }
+    ensures value { GivesAs memory_fault (λ v. v.items) result (trials_of bytes.now) }
     ensures few { IfOk result (λ v. vec_len v ≤ 16) }
     ensures good { IfOk result (λ v. All IsGood v.items) }
 {

@@ -1,8 +1,9 @@
 use Rattle.std.proofs.Common.{◌≡◌, length, Err, sym, ap, ◌∙◌, arith}
 use Rattle.std.proofs.lemmas.Grind.{common_steps}
 use Rattle.std.proofs.lemmas.Result.{err_from_is_err_and}
+use Rattle.cps_base.specs.Answers.{Fails}
 use Rattle.text_parts.specs.Parts.{parts}
-use Rattle.certificate.specs.Reading.{line_in, body_lines, Fails, Body}
+use Rattle.certificate.specs.Reading.{line_in, body_lines, memory_fault, Body}
 use Rattle.text_parts.specs.shared.Cuts.{parts_short, has_part}
 use Rattle.certificate.proofs.Valid.{body_is}
 use Rattle.certificate.proofs.Steps.{line_stop_all, line_end, fails_too}
@@ -24,7 +25,7 @@ returns-in_err-take_line c =
     let same = rw c.in-Some.is at c.loop-after.invariant.same in
     let stops : line_in c.loop-after.number b c.loop-after.line.now ≡ Err e → body_lines c.args.claim (parts 10 c.args.text.now) ≡ Err e =
     λ h. sym same ∙ line_stop_all c.loop-after.number c.args.claim b c.loop-after.line.now e (parts 10 c.in-Some.rest.now) (has_part 10 c.in-Some.rest.now) h in
-    let fails : Fails e (body_lines c.args.claim (parts 10 c.args.text.now)) = fails_too e _ _ c.in_err-take_line.ensures stops in
+    let fails : Fails memory_fault e (body_lines c.args.claim (parts 10 c.args.text.now)) = fails_too e _ _ c.in_err-take_line.ensures stops in
     let p = err_from_is_err_and c.from_residual.result c.from_residual.ensures.1 in
     rw (p.1, p.2) fails
 

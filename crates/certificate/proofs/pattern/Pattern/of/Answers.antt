@@ -1,10 +1,10 @@
 use Rattle.std.proofs.Common.{◌≡◌, ◌++◌, List, Bool, false, take, drop, length, replicate, refl}
 use Rattle.std.proofs.Math.Seq.{take-append_seam}
 use Rattle.std.proofs.lemmas.List.{drop-replicate}
-use Rattle.certificate.specs.Patterns.{padded}
+use Rattle.cps_base.specs.Padded.{padded}
 use Rattle.certificate.proofs.pattern.Pattern.of.Goals as goal
 
-kept : (digits : List Bool) → digits ++ drop (length digits) (replicate 6 false) ≡ padded digits
+kept : (digits : List Bool) → digits ++ drop (length digits) (replicate 6 false) ≡ padded false 6 digits
 kept digits = rw (drop-replicate {X = Bool} (length digits) 6 false)
 
 front : (digits : List Bool) → take (length digits) (digits ++ drop (length digits) (replicate 6 false)) ≡ digits

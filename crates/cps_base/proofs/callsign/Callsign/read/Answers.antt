@@ -7,7 +7,7 @@ use Rattle.cps_base.specs.Padded.{padded}
 use Rattle.cps_base.proofs.callsign.Callsign.read.Goals as goal
 
 -- what stands in the eight bytes, and its front
-kept : (text : List ℕ) → text ++ drop (length text) (replicate 8 0) ≡ padded text
+kept : (text : List ℕ) → text ++ drop (length text) (replicate 8 0) ≡ padded 0 8 text
 kept text = rw (drop-replicate {X = ℕ} (length text) 8 0)
 
 front : (text : List ℕ) → take (length text) (text ++ drop (length text) (replicate 8 0)) ≡ text
