@@ -13,7 +13,7 @@ pub const MOST_CLOSURES: usize = 32;
 pub const MOST_EVENTS: usize = 2_000;
 
 /// How many seconds the windows of a flight may hold together.
-pub const MOST_OPEN_SECONDS: u32 = 7_200;
+pub const MOST_OPEN_SECONDS: u64 = 7_200;
 
 /// The longest freeze, in seconds.
 pub const LONGEST_FREEZE: u32 = 7_200;

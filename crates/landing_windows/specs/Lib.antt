@@ -1,6 +1,6 @@
 -- Windows: what the windows of a flight are. Closed: what a closure may be. Spans: lists of spans, and the least second
--- in one. Same: when two lists are one. Kept: how windows and closures lie in their arrays. Runs and Shared: lemmas that
--- crates above cite too. When a second is open, and which spans are the open ones, stands in the rules.
+-- in one. Same: when two lists are one. Runs and Shared: lemmas that crates above cite too. When
+-- a second is open, and which spans are the open ones, stands in the rules.
 pub mod Windows
 pub mod Closed
 pub mod Spans
