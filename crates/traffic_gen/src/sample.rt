@@ -7,22 +7,14 @@ use aerodrome_file::{Aerodrome, FrozenList, PassedList};
 use landing_rules::Objective;
 use landing_windows::Closures;
 use std::alloc::Global;
-use wake_table::PairTable;
+use wake_table::{PairTable, SAMPLE};
 
 // The sample table of separations.
 #[tactic(auto, unfolding(wake_table::specs::Table::first_fault, wake_table::specs::Table::separation))]
 fn sample_table() -> PairTable
     ensures { result ≡ sample_table }
 {
-    let table = PairTable::new([
-        [90, 110, 120, 130, 140, 180],
-        [60, 90, 100, 110, 120, 160],
-        [60, 60, 60, 60, 100, 140],
-        [60, 60, 60, 60, 60, 120],
-        [60, 60, 60, 60, 60, 100],
-        [60, 60, 60, 60, 60, 60],
-    ]);
-    match table {
+    match PairTable::new(SAMPLE) {
         Ok(table) => table,
         Err(_) => unreachable!(),
     }

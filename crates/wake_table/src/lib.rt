@@ -7,4 +7,4 @@ mod table;
 mod tests;
 
 pub use category::{CATEGORIES, Category};
-pub use table::{GREATEST_SEPARATION, PairTable, TableFault};
+pub use table::{GREATEST_SEPARATION, PairTable, SAMPLE, TableFault};

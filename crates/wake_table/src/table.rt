@@ -8,6 +8,16 @@ use std::marker::Model;
 /// The greatest separation, in seconds.
 pub const GREATEST_SEPARATION: u32 = 600;
 
+/// The rows of the sample table of separations, in the RECAT-EU form: for each leader the seconds of the followers A to F.
+pub const SAMPLE: [[u32; 6]; 6] = [
+    [90, 110, 120, 130, 140, 180],
+    [60, 90, 100, 110, 120, 160],
+    [60, 60, 60, 60, 100, 140],
+    [60, 60, 60, 60, 60, 120],
+    [60, 60, 60, 60, 60, 100],
+    [60, 60, 60, 60, 60, 60],
+];
+
 /// Why rows of seconds are no table: the first fault, in letter order.
 #[derive(Clone, Copy, Debug, PartialEq, Eq)]
 pub enum TableFault {

@@ -1,15 +1,6 @@
 ghost use Rattle.std.specs.Prelude.{◌<◌};
 
-use crate::{Category, PairTable, TableFault};
-
-const SAMPLE: [[u32; 6]; 6] = [
-    [90, 110, 120, 130, 140, 180],
-    [60, 90, 100, 110, 120, 160],
-    [60, 60, 60, 60, 100, 140],
-    [60, 60, 60, 60, 60, 120],
-    [60, 60, 60, 60, 60, 100],
-    [60, 60, 60, 60, 60, 60],
-];
+use crate::{Category, PairTable, SAMPLE, TableFault};
 
 // The fault of the sample table with two entries changed, each given by leader, follower and seconds.
 fn fault_with(first: (usize, usize, u32), second: (usize, usize, u32)) -> Option<TableFault>
