@@ -18,7 +18,7 @@ pub struct Pattern {
 }
 
 impl Model for Pattern {
-    ghost use Rattle.std.specs.Prelude.{◌≡◌, List, Bool, true, take, length};
+    ghost use Rattle.std.specs.Prelude.{◌≡◌, List, Bool, true, false, take, length};
     ghost use Rattle.std.proofs.Common.{sym};
     ghost use Rattle.cps_base.specs.Padded.{padded};
     ghost use Rattle.certificate.specs.Patterns.{is_pattern_length};

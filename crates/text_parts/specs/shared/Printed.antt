@@ -30,7 +30,7 @@ pub and_true : (a b : Bool) → a && b ≡ true → (a ≡ true) × (b ≡ true)
 and_true true b e = (refl, e)
 and_true false b e = absurd (cc)
 
-and_is : (a b : Bool) → a ≡ true → b ≡ true → a && b ≡ true
+pub and_is : (a b : Bool) → a ≡ true → b ≡ true → a && b ≡ true
 and_is a b p q = rw (p, q) refl
 
 -- ---- numbers
