@@ -1,5 +1,5 @@
 -- What a folder in memory shows of itself, and which loads of it fail.
-use Rattle.std.specs.Prelude.{ℕ, ◌+◌, ◌-◌, ◌^◌, min, List, [], ◌∷◌, Bool, true, ◌==◌, ◌||◌, Option, Some, None, is_none, map, bytes_eq, string_bytes, String, Vec, if◌then◌else◌}
+use Rattle.std.specs.Prelude.{ℕ, ◌+◌, ◌-◌, ◌^◌, min, List, [], ◌∷◌, Bool, true, ◌==◌, ◌||◌, Option, Some, None, is_none, length, map, bytes_eq, string_bytes, String, Vec, if◌then◌else◌}
 use Rattle.std.specs.List.{list_any}
 use Rattle.std.specs.declared.alloc.Global.{Global}
 use Rattle.cps_outside.specs.FolderState.{FolderState}
@@ -14,14 +14,15 @@ abbrev pub folder_state : MemoryFolder → FolderState
 folder_state folder = record {
   tells = true;
   content = content_in folder.files.items;
+  sure = length folder.failing.items == 0;
   asked = map string_bytes folder.asked.items;
   faults = folder.faults;
   taken = folder.taken;
 }
 
--- these files, before any load
-abbrev pub fresh_folder : List (String Global × Vec ℕ Global) → FolderState
-fresh_folder files = record { tells = true; content = content_in files; asked = []; faults = 0; taken = 0 }
+-- these files, before any load, of which those of these numbers are to fail
+abbrev pub fresh_folder : List (String Global × Vec ℕ Global) → List ℕ → FolderState
+fresh_folder files failing = record { tells = true; content = content_in files; sure = length failing == 0; asked = []; faults = 0; taken = 0 }
 
 -- the numbers of the loads that are to fail
 abbrev pub failing_loads_of : MemoryFolder → List ℕ

@@ -1,15 +1,21 @@
 -- What a sink in memory shows of itself, and how many bytes it takes.
-use Rattle.std.specs.Prelude.{ℕ, ◌+◌, ◌-◌, ◌^◌, min, nat_le, List, [], Bool, true, ◌&&◌, Option, is_none, unwrap_or}
+use Rattle.std.specs.Prelude.{ℕ, ◌+◌, ◌-◌, ◌^◌, ◌==◌, min, nat_le, List, [], length, Bool, true, ◌&&◌, Option, is_none, unwrap_or}
 use Rattle.cps_outside.specs.SinkState.{SinkState}
 use Rattle.cps_outside.specs.FailingPuts.{bytes_of_failing}
 use Rattle.cps_outside.specs.declared.memory_sink.MemorySink.{MemorySink}
 
 abbrev pub sink_state : MemorySink → SinkState
-sink_state sink = record { tells = true; written = sink.written.items; faults = sink.faults }
+sink_state sink = record {
+  tells = true;
+  written = sink.written.items;
+  sure = length sink.failing.items == 0;
+  room = sink.room;
+  faults = sink.faults;
+}
 
--- before any put
-abbrev pub fresh_sink : SinkState
-fresh_sink = record { tells = true; written = []; faults = 0 }
+-- before any put, with this room, where these puts are to fail
+abbrev pub fresh_sink : ℕ → List (ℕ × ℕ) → SinkState
+fresh_sink room failing = record { tells = true; written = []; sure = length failing == 0; room = room; faults = 0 }
 
 -- the bytes for which it has room
 abbrev pub room_of : MemorySink → ℕ

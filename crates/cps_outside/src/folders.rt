@@ -1,6 +1,6 @@
 ghost use Rattle.std.specs.Prelude.{◌≡◌, ◌⊎◌, ◌^◌, ◌<◌, ◌++◌, [], ◌∷◌, IsTrue, IfOk, IsErrOf};
 ghost use Rattle.cps_outside.specs.Causes.{Rose};
-ghost use Rattle.cps_outside.specs.FolderState.{FolderState, IsAfterLoad, Gives, Exceeds};
+ghost use Rattle.cps_outside.specs.FolderState.{FolderState, IsAfterLoad, IsAbsent, Gives, Exceeds};
 ghost use Rattle.cps_outside.specs.declared.folders.LoadFault.TheVariants.{Memory};
 
 use std::alloc::{AllocError, AllocFailed};
@@ -34,15 +34,16 @@ impl<T: Drop> From<AllocFailed<T>> for LoadFault {
 
 /// Files by their names.
 ///
-/// Contracts see whether the folder tells its contents, the content of each name, the names asked for so far, how
-/// often it failed, and how many bytes were taken from it. A count that stands at its last value, 2^64 - 1, stays there.
+/// Contracts see whether the folder tells its contents, the content of each name, whether it is sure (no load of a name
+/// that is there fails), the names asked for so far, how often it failed, and how many bytes were taken from it. A count
+/// that stands at its last value, 2^64 - 1, stays there.
 pub trait Folder {
     ghost state: { Self → FolderState };
 
     /// The bytes of the file of this name, if they are at most `most`.
     ///
-    /// `Failed` comes only with one more fault, `TooLong` only where more than `most` bytes were taken. No load changes
-    /// a content.
+    /// `Failed` comes only with one more fault, and from a folder that tells its contents and is sure only for a name that
+    /// is not there. `TooLong` comes only where more than `most` bytes were taken. No load changes a content.
     fn load(&mut self, name: &str, most: usize) -> Result<Vec<u8>, LoadFault>
         ensures after { IsAfterLoad (state self.old) (state self.new) }
         ensures fits { ((state self.new).faults < 2 ^ 64) × ((state self.new).taken < 2 ^ 64) }
@@ -53,6 +54,7 @@ pub trait Folder {
             bytes.items) }
         ensures failed { IsErrOf result LoadFault.Failed
             → Rose (state self.old).faults (state self.new).faults }
+        ensures absent { IsErrOf result LoadFault.Failed → IsAbsent (state self.old) name.now }
         ensures too_long { IsErrOf result LoadFault.TooLong
             → Exceeds (state self.old) (state self.new) name.now most };
 }

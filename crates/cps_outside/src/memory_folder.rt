@@ -1,7 +1,7 @@
 ghost use Rattle.std.specs.Prelude.{◌≡◌, ◌⊎◌, ◌^◌, ◌<◌, ◌++◌, [], ◌∷◌, ◌==◌, false, IsTrue, IsSome, IfOk, IfSome, IfNone, Some, None, IsErrOf};
 ghost use Rattle.std.specs.List.{list_any};
 ghost use Rattle.cps_outside.specs.Causes.{Rose};
-ghost use Rattle.cps_outside.specs.FolderState.{IsAfterLoad, Gives, Exceeds};
+ghost use Rattle.cps_outside.specs.FolderState.{IsAfterLoad, IsAbsent, Gives, Exceeds};
 ghost use Rattle.cps_outside.specs.MemoryFolder.{content_in, folder_state, fresh_folder, failing_loads_of, number_of_load, loads_of, is_to_fail};
 
 use crate::{Folder, LoadFault};
@@ -24,7 +24,7 @@ impl MemoryFolder {
     /// A folder of these files, in which the first file of a name is the content of that name. The loads of the numbers
     /// in `failing`, counted from 1, fail.
     pub fn new(alloc: Global, files: Vec<(String, Vec<u8>)>, failing: Vec<u32>) -> MemoryFolder
-        ensures state { folder_state result ≡ fresh_folder files.items }
+        ensures state { folder_state result ≡ fresh_folder files.items failing.items }
         ensures failing { failing_loads_of result ≡ failing.items }
         ensures loads { loads_of result ≡ 0 }
     {
@@ -75,6 +75,8 @@ impl Folder for MemoryFolder {
             name.now most bytes.items) }
         ensures failed { IsErrOf result LoadFault.Failed
             → Rose (folder_state self.old).faults (folder_state self.new).faults }
+        ensures absent { IsErrOf result LoadFault.Failed
+            → IsAbsent (folder_state self.old) name.now }
         ensures too_long { IsErrOf result LoadFault.TooLong
             → Exceeds (folder_state self.old) (folder_state self.new) name.now most }
 

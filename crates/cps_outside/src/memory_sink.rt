@@ -27,7 +27,7 @@ impl MemorySink {
         room: usize,
         failing: Vec<(u32, u32)>,
     ) -> Result<MemorySink, AllocError>
-        ensures state { IfOk result (λ sink. sink_state sink ≡ fresh_sink) }
+        ensures state { IfOk result (λ sink. sink_state sink ≡ fresh_sink room failing.items) }
         ensures room { IfOk result (λ sink. room_of sink ≡ room) }
         ensures failing { IfOk result (λ sink. failing_puts_of sink ≡ failing.items) }
         ensures puts { IfOk result (λ sink. puts_of sink ≡ 0) }

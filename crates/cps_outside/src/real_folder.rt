@@ -8,7 +8,8 @@ use std::{fs, io};
 
 const BUFFER: usize = 8192;
 
-/// The files of the system, by their paths. No contract can say what a file holds, so it tells no contents.
+/// The files of the system, by their paths. No contract can say what a file holds, so it tells no contents and is not
+/// sure.
 #[derive(Drop)]
 pub struct RealFolder<'a, R: Files + AllocGlobal> {
     rt: &'a R,
@@ -60,6 +61,7 @@ impl<'a, R: Files + AllocGlobal> Folder for RealFolder<'a, R> {
     ghost state = { λ f. record {
       tells = false;
       content = λ _. None;
+      sure = false;
       asked = [];
       faults = f.faults;
       taken = f.taken;

@@ -4,7 +4,7 @@ use crate::{Sink, WriteFailed};
 use std::io;
 use std::io::{ErrorKind, Write};
 
-/// A writer, as standard output. No contract can say what it shows, so it tells no bytes.
+/// A writer, as standard output. No contract can say what it shows or takes, so it tells no bytes and is not sure.
 #[derive(Drop)]
 pub struct RealSink<W: Write + Drop> {
     writer: W,
@@ -36,7 +36,7 @@ fn write_pieces<W: Write>(writer: &mut W, bytes: &[u8]) -> io::Result<()> {
 impl<W: Write + Drop> Sink for RealSink<W> {
     ghost use Rattle.cps_outside.specs.SinkState.{SinkState};
 
-    ghost state = { λ s. record { tells = false; written = []; faults = s.faults } };
+    ghost state = { λ s. record { tells = false; written = []; sure = false; room = 0; faults = s.faults } };
 
     fn put(&mut self, bytes: &[u8]) -> Result<(), WriteFailed> {
         let faults_then = self.faults.saturating_add(1);

@@ -1,15 +1,16 @@
--- Over good files and with no fault the text is written whole.
+-- Over good files and with no fault the text is written whole; a folder that is sure has no fault over them.
 use Rattle.std.proofs.Common.{◌≡◌, inl, inr, ℕ, ◌-◌, ◌≤◌, List, [], ◌∷◌, ◌++◌, length, take, drop, map, Some, None, Option, IsTrue, ap, sym, ◌∙◌, subst, arith, take-append-drop}
 use Rattle.std.specs.List.{AllByRecursion}
 use Rattle.cps_outside.specs.FolderState.{FolderState}
 use Rattle.cps_top.specs.declared.commands.Command.{Command}
+use Rattle.endings.specs.declared.ending.Refusal.{Refusal}
 use Rattle.endings.specs.declared.ending.Ending.{Ending}
 use Rattle.endings.specs.declared.ending.Ending.TheVariants.{Answered, Misused, Refused, NotLoaded, NotWritten, TooLong, NoMemory}
-use Rattle.cps_top.specs.Commands.{command_of, files_of}
-use Rattle.endings.specs.Loads.{limit, Loads, IsTooLongAt}
+use Rattle.cps_top.specs.Commands.{command_of, files_of, Refuses}
+use Rattle.endings.specs.Loads.{limit, Loads, FailsAt, IsTooLongAt}
 use Rattle.endings.specs.Lines.{status_of}
 use Rattle.cps_top.specs.Outcome.{Outside, Ends, Serves, Follows}
-use Rattle.cps_top.specs.Statuses.{AreThere, Completes}
+use Rattle.cps_top.specs.Statuses.{AreThere, IsComplete, Completes}
 
 some_same : (x y : List ℕ) → Some x ≡ Some y → x ≡ y
 some_same x y e = cc
@@ -71,44 +72,56 @@ pub within_fits : (bytes : List ℕ) (content : Option (List ℕ)) → content �
 unfolding Within
 within_fits bytes content e within = subst Within e within
 
+-- the file of the name at a place is there, and within the limit
+named_within : (content : List ℕ → Option (List ℕ)) (ns cs : List (List ℕ)) (place : ℕ) (name : List ℕ) → map content ns ≡ map Some cs →
+    AllByRecursion (λ b. length b ≤ limit) cs → take place ns ≡ take (place - 1) ns ++ name ∷ [] → Within (content name)
+named_within content ns cs place name told bounded step =
+    let all = all_named content ns (subst (AllByRecursion Within) (sym told) (all_within cs bounded)) in
+    let split : (take (place - 1) ns ++ name ∷ []) ++ drop place ns ≡ ns = ap (λ q. q ++ drop place ns) (sym step) ∙ take-append-drop place ns in
+    all_at (λ n. Within (content n)) (take (place - 1) ns) name (drop place ns) (subst (AllByRecursion (λ n. Within (content n))) (sym split) all)
+
 -- no file is too long
 pub none_too_long : (old new : FolderState) (ns cs : List (List ℕ)) (place : ℕ) → IsTrue old.tells → map old.content ns ≡ map Some cs →
     AllByRecursion (λ b. length b ≤ limit) cs → IsTooLongAt old new ns place → ⊥
 none_too_long old new ns cs place tells told bounded long =
     let t = long.told tells in
-    let all = all_named old.content ns (subst (AllByRecursion Within) (sym told) (all_within cs bounded)) in
-    let split : (take (place - 1) ns ++ t.0 ∷ []) ++ drop place ns ≡ ns = ap (λ q. q ++ drop place ns) (sym t.2) ∙ take-append-drop place ns in
-    let at = all_at (λ n. Within (old.content n)) (take (place - 1) ns) t.0 (drop place ns) (subst (AllByRecursion (λ n. Within (old.content n))) (sym split) all) in
-    let fits = within_fits t.1 (old.content t.0) t.3 at in
+    let fits = within_fits t.1 (old.content t.0) t.3 (named_within old.content ns cs place t.0 told bounded t.2) in
     let longer = t.4 in
     omega (arith, fits, longer)
 
+absent_not_within : (content : Option (List ℕ)) → content ≡ None → Within content → ⊥
+unfolding Within
+absent_not_within content e within = subst Within e within
+
+-- no load of a folder that is sure failed
+pub none_fails : (old new : FolderState) (ns cs : List (List ℕ)) (place : ℕ) → IsTrue old.tells → IsTrue old.sure → map old.content ns ≡ map Some cs →
+    AllByRecursion (λ b. length b ≤ limit) cs → FailsAt old new ns place → ⊥
+none_fails old new ns cs place tells sure told bounded fails =
+    let t = fails.absent tells sure in
+    absent_not_within (old.content t.0) t.2 (named_within old.content ns cs place t.0 told bounded t.1)
+
+-- a run in which no load and no put failed
+pub complete_unless : (words : List (List ℕ)) (old new : Outside) (status : ℕ) (ending : Ending) (command : Command) (contents : List (List ℕ)) →
+    status ≡ status_of ending → Ends words old new ending → AreThere words old command contents → ((refusal : Refusal) → Refuses command contents refusal → ⊥) →
+    ((place : ℕ) → FailsAt old.folder new.folder (files_of words) place → ⊥) → (Follows command contents old.out new.out NotWritten → ⊥) →
+    IsComplete command contents old new status
+complete_unless words old new status (Answered answer) command contents is ends good taken load put =
+    inr (answer, is, serves_good words old new (Answered answer) command contents ends good)
+complete_unless words old new status Misused command contents is ends good taken load put =
+    let named = good.named in let unnamed = ends.0 in cc
+complete_unless words old new status (Refused refusal) command contents is ends good taken load put =
+    absurd (taken refusal (serves_good words old new (Refused refusal) command contents ends good).0)
+complete_unless words old new status (NotLoaded place) command contents is ends good taken load put =
+    absurd (load place ends.loads)
+complete_unless words old new status NotWritten command contents is ends good taken load put =
+    absurd (put (serves_good words old new NotWritten command contents ends good))
+complete_unless words old new status (TooLong place) command contents is ends good taken load put =
+    absurd (none_too_long old.folder new.folder (files_of words) contents place good.tells good.told good.bounded ends.loads)
+complete_unless words old new status NoMemory command contents is ends good taken load put = inl is
+
 pub completes : (words : List (List ℕ)) (old new : Outside) (status : ℕ) (ending : Ending) →
     status ≡ status_of ending → Ends words old new ending → Completes words old new status
-completes words old new status (Answered answer) is ends = record {
+completes words old new status ending is ends = record {
   complete = λ command contents good taken calm_folder calm_out.
-      inr (answer, is, serves_good words old new (Answered answer) command contents ends good);
+      complete_unless words old new status ending command contents is ends good taken (λ place fails. calm_folder fails.cause) (λ unwritten. calm_out unwritten.1);
 }
-completes words old new status Misused is ends = record {
-  complete = λ command contents good taken calm_folder calm_out.
-      let named = good.named in let unnamed = ends.0 in cc;
-}
-completes words old new status (Refused refusal) is ends = record {
-  complete = λ command contents good taken calm_folder calm_out.
-      absurd (taken refusal (serves_good words old new (Refused refusal) command contents ends good).0);
-}
-completes words old new status (NotLoaded place) is ends = record {
-  complete = λ command contents good taken calm_folder calm_out.
-      absurd (calm_folder ends.loads.cause);
-}
-completes words old new status NotWritten is ends = record {
-  complete = λ command contents good taken calm_folder calm_out.
-      absurd (calm_out (serves_good words old new NotWritten command contents ends good).1);
-}
-completes words old new status (TooLong place) is ends = record {
-  complete = λ command contents good taken calm_folder calm_out.
-      let same = command_same ends.command command (sym ends.named ∙ good.named) in
-      let long = subst (λ q. IsTooLongAt old.folder new.folder (files_of words) place) same ends.loads in
-      absurd (none_too_long old.folder new.folder (files_of words) contents place good.tells good.told good.bounded long);
-}
-completes words old new status NoMemory is ends = record { complete = λ command contents good taken calm_folder calm_out. inl is }

@@ -31,7 +31,7 @@ effort_ended a f e state last events old new (Ok planned) begun ends = record {
 effort_ended a f e state last events old new (Err stop.NotWritten) begun ends = (
   record {
     text = effort_text ends.effort;
-    admitted = record { state = state; events = events; begun = begun; done = ends.done; rest = ends.rest; split = ends.split; effort = ends.effort; prints = refl };
+    admitted = (record { state = state; events = events; begun = begun; done = ends.done; rest = ends.rest; split = ends.split; effort = ends.effort; prints = refl }, ends.written.lacked);
     grew = ends.written.part;
   },
   ends.written.failed,

@@ -11,4 +11,5 @@ pub mod ReplayLaws
 pub mod Showing
 pub mod Statuses
 pub mod Summed
+pub mod Sure
 pub mod Tried

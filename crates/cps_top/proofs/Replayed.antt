@@ -46,7 +46,7 @@ replayed a f e state last events old new (Ok planned) begun ends = record {
 replayed a f e state last events old new (Err stop.NotWritten) begun ends = (
   record {
     text = replay_text state ends.answers;
-    admitted = record { state = state; events = events; begun = begun; done = ends.done; rest = ends.rest; split = ends.split; answers = ends.answers; run = ends.run; prints = refl };
+    admitted = (record { state = state; events = events; begun = begun; done = ends.done; rest = ends.rest; split = ends.split; answers = ends.answers; run = ends.run; prints = refl }, ends.written.lacked);
     grew = ends.written.part;
   },
   ends.written.failed,

@@ -2,7 +2,7 @@
 use Rattle.std.specs.Prelude.{◌≡◌, ◌⊎◌, ℕ, List, Some, None}
 use Rattle.cps_outside.specs.Causes.{Rose}
 use Rattle.cps_outside.specs.FolderState.{FolderState}
-use Rattle.cps_outside.specs.SinkState.{SinkState, Grows, GrowsByPart}
+use Rattle.cps_outside.specs.SinkState.{SinkState, Grows, GrowsByPart, LacksRoom}
 use Rattle.cps_top.specs.declared.commands.Command.{Command}
 use Rattle.endings.specs.Lines.{Says, status_of, line_of}
 use Rattle.endings.specs.Loads.{Loads, FailsAt, IsTooLongAt, AsksForSome}
@@ -27,11 +27,12 @@ pub record PrintsPart (P : List ℕ → Type 0) (old new : SinkState) : Type 0 w
   pub admitted : P text
   pub grew : GrowsByPart old new text
 
--- what a command does over the contents of its files, with this ending
+-- What a command does over the contents of its files, with this ending. Into a sink that is sure, it fails to write only a text
+-- for which there was no room.
 abbrev pub Follows : Command → List (List ℕ) → SinkState → SinkState → Ending → Type 0
 Follows command contents old new (Answered answer) = Prints (λ text. Admits command contents text answer) old new
 Follows command contents old new (Refused refusal) = Refuses command contents refusal × (new ≡ old)
-Follows command contents old new NotWritten = PrintsPart (Begins command contents) old new × Rose old.faults new.faults
+Follows command contents old new NotWritten = PrintsPart (λ text. Begins command contents text × LacksRoom old text) old new × Rose old.faults new.faults
 Follows command contents old new NoMemory = (new ≡ old) ⊎ PrintsPart (Begins command contents) old new
 Follows command contents old new ending = ⊥
 

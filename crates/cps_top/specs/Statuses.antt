@@ -2,10 +2,11 @@
 use Rattle.std.specs.Prelude.{[], ◌∷◌, ◌++◌, ◌<◌, ◌≡◌, ◌⊎◌, ◌↔◌, ℕ, ◌+◌, ◌≢◌, ◌≤◌, List, length, map, Some, None, IsTrue}
 use Rattle.std.specs.List.{AllByRecursion}
 use Rattle.cps_outside.specs.Causes.{RoseBy, Rose}
+use Rattle.cps_outside.specs.SinkState.{SinkState}
 use Rattle.cps_top.specs.declared.commands.Command.{Command}
 use Rattle.endings.specs.declared.ending.Answer.{Answer}
 use Rattle.endings.specs.declared.ending.Refusal.{Refusal}
-use Rattle.cps_top.specs.Commands.{command_of, files_of, Admits, Refuses}
+use Rattle.cps_top.specs.Commands.{command_of, files_of, Admits, Begins, Refuses}
 use Rattle.endings.specs.Lines.{answer_status}
 use Rattle.endings.specs.Loads.{limit, FailsAt, IsTooLongAt, AsksForSome, FailsWithin}
 use Rattle.cps_top.specs.Outcome.{Outside, Prints}
@@ -39,13 +40,30 @@ pub record AreThere (words : List (List ℕ)) (old : Outside) (command : Command
   pub told : map old.folder.content (files_of words) ≡ map Some contents
   pub bounded : AllByRecursion (λ bytes. length bytes ≤ limit) contents
 
+-- a text was written whole, with the status of its answer, or memory was short
+abbrev pub IsComplete : Command → List (List ℕ) → Outside → Outside → ℕ → Type 0
+IsComplete command contents old new status = (status ≡ 8) ⊎ ((answer : Answer) × (status ≡ answer_status answer)
+    × Prints (λ text. Admits command contents text answer) old.out new.out)
+
 -- Over files that are taken, and with no fault, the text is written whole, or memory was short.
 pub record Completes (words : List (List ℕ)) (old new : Outside) (status : ℕ) : Type 0 where
   pub complete : (command : Command) (contents : List (List ℕ)) → AreThere words old command contents →
       ((refusal : Refusal) → Refuses command contents refusal → ⊥) →
       (Rose old.folder.faults new.folder.faults → ⊥) → (Rose old.out.faults new.out.faults → ⊥) →
-      (status ≡ 8) ⊎ ((answer : Answer) × (status ≡ answer_status answer)
-      × Prints (λ text. Admits command contents text answer) old.out new.out)
+      IsComplete command contents old new status
+
+-- there is room for every text that the command may begin to print over these contents
+abbrev pub HasRoom : Command → List (List ℕ) → SinkState → Type 0
+HasRoom command contents sink = (text : List ℕ) → Begins command contents text → length text ≤ sink.room
+
+-- From a folder that is sure: over files that are taken, and into a sink that is sure and has room, the text is written whole,
+-- or memory was short. Files that are refused give status 3, or memory was short.
+pub record IsSure (words : List (List ℕ)) (old new : Outside) (status : ℕ) : Type 0 where
+  pub complete : (command : Command) (contents : List (List ℕ)) → AreThere words old command contents → IsTrue old.folder.sure →
+      ((refusal : Refusal) → Refuses command contents refusal → ⊥) →
+      IsTrue old.out.sure → HasRoom command contents old.out → IsComplete command contents old new status
+  pub refused : (command : Command) (contents : List (List ℕ)) (refusal : Refusal) → AreThere words old command contents → IsTrue old.folder.sure →
+      Refuses command contents refusal → (status ≡ 3) ⊎ (status ≡ 8)
 
 -- Files that are refused give status 3, unless a load failed, and one that is too long gives 6, unless its load or an
 -- earlier one failed; or memory was short.

@@ -3,7 +3,7 @@ ghost use Rattle.std.specs.List.{AllByRecursion};
 ghost use Rattle.cps_top.specs.Commands.{IsInRange, file_count};
 ghost use Rattle.endings.specs.Loads.{limit};
 ghost use Rattle.cps_top.specs.Outcome.{Follows, Ends, RunsTo};
-ghost use Rattle.cps_top.specs.Statuses.{Causes, Asks, Completes, IsExact};
+ghost use Rattle.cps_top.specs.Statuses.{Causes, Asks, Completes, IsExact, IsSure};
 
 use crate::Command;
 use crate::audits::audit_files;
@@ -175,6 +175,9 @@ pub fn run<R: Threads + Sync, F: Folder, S: Sink, E: Sink, G: Gate + Sync>(
         record { folder = F.state folder.old; out = S.state out.old }
         record { folder = F.state folder.new; out = S.state out.new } result }
     ensures exact { IsExact (map string_bytes words.now)
+        record { folder = F.state folder.old; out = S.state out.old }
+        record { folder = F.state folder.new; out = S.state out.new } result }
+    ensures sure { IsSure (map string_bytes words.now)
         record { folder = F.state folder.old; out = S.state out.old }
         record { folder = F.state folder.new; out = S.state out.new } result }
 {

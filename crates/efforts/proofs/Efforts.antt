@@ -192,6 +192,7 @@ part_of_more from to x y w = record {
   tells = w.tells;
   part = λ told. let p = w.part told in (p.0, p.1 ++ y, sym (append_assoc p.0 p.1 y) ∙ ap (λ (t : Bytes). t ++ y) p.2, p.3);
   failed = w.failed;
+  lacked = λ sure. let short : from.room < length x = w.lacked sure in omega (arith, short, length-append x y);
 }
 
 whole_of_more : (from to : SinkState) (x y : Bytes) → Wrote from to x → GrowsByPart from to (x ++ y)

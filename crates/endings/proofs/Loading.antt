@@ -4,7 +4,7 @@ use Rattle.std.specs.List.{AllByRecursion}
 use Rattle.std.proofs.lemmas.List.{map-append, take_more, get_or-map, length-map}
 use Rattle.std.specs.Prelude.{slice_index_or}
 use Rattle.cps_outside.specs.Causes.{Rose}
-use Rattle.cps_outside.specs.FolderState.{FolderState, IsAfterLoad, Gives, Exceeds}
+use Rattle.cps_outside.specs.FolderState.{FolderState, IsAfterLoad, IsAbsent, Gives, Exceeds}
 use Rattle.endings.specs.Loads.{limit, Loads, StopsAt, FailsAt, IsTooLongAt, AsksForSome}
 
 pub all-append : {X : Type 0} (P : X → Type 0) (xs : List X) (y : X) → AllByRecursion P xs → P y → AllByRecursion P (xs ++ y ∷ [])
@@ -30,6 +30,7 @@ pub loads_more : (old mid new : FolderState) (ns cs : List (List ℕ)) (i : ℕ)
 loads_more old mid new ns cs i name bytes l a step asks gives = record {
   tells = a.tells ∙ l.tells;
   content = a.content ∙ l.content;
+  sure = a.sure ∙ l.sure;
   faults = omega (arith, l.faults, a.faults);
   taken = omega (arith, l.taken, a.taken);
   asked = λ told. asks (l.tells ∙ told) ∙ ap (λ q. q ++ name ∷ []) (l.asked told) ∙ append_assoc old.asked (take i ns) (name ∷ []) ∙ ap (λ q. old.asked ++ q) (sym step);
@@ -58,9 +59,14 @@ stops old mid new ns cs i name lt l step asks =
 
 pub fails_next : (old mid new : FolderState) (ns cs : List (List ℕ)) (i : ℕ) (name : List ℕ) → i < length ns →
     Loads old mid (take i ns) cs → take (i + 1) ns ≡ take i ns ++ name ∷ [] →
-    (IsTrue mid.tells → new.asked ≡ mid.asked ++ name ∷ []) → Rose mid.faults new.faults → FailsAt old new ns (i + 1)
-fails_next old mid new ns cs i name lt l step asks rose =
-    record { stops = stops old mid new ns cs i name lt l step asks; cause = omega (arith, l.faults, rose) }
+    (IsTrue mid.tells → new.asked ≡ mid.asked ++ name ∷ []) → Rose mid.faults new.faults → IsAbsent mid name → FailsAt old new ns (i + 1)
+fails_next old mid new ns cs i name lt l step asks rose absent =
+    let back : i ≡ i + 1 - 1 = omega arith in record {
+      stops = stops old mid new ns cs i name lt l step asks;
+      cause = omega (arith, l.faults, rose);
+      absent = λ told sure.
+          (name, step ∙ ap (λ k. take k ns ++ name ∷ []) back, ap (λ f. f name) (sym l.content) ∙ absent (l.tells ∙ told) (l.sure ∙ sure));
+    }
 
 pub too_long_next : (old mid new : FolderState) (ns cs : List (List ℕ)) (i : ℕ) (name : List ℕ) → i < length ns →
     Loads old mid (take i ns) cs → take (i + 1) ns ≡ take i ns ++ name ∷ [] →

@@ -1,18 +1,20 @@
 -- Several puts in a row.
-use Rattle.std.proofs.Common.{◌≡◌, refl, ℕ, ◌+◌, ◌<◌, ◌≤◌, List, [], ◌∷◌, ◌++◌, Ok, Err, Result, IsErr, inl, inr, ap, sym, ◌∙◌, subst, arith, append_assoc, append-nil, take, drop, map, length, take-append-drop}
+use Rattle.std.proofs.Common.{◌≡◌, refl, ℕ, ◌+◌, ◌<◌, ◌≤◌, List, [], ◌∷◌, ◌++◌, Ok, Err, Result, IsErr, inl, inr, ap, sym, ◌∙◌, subst, arith, append_assoc, append-nil, take, drop, map, length, take-append-drop, length-append}
 use Rattle.std.specs.Prelude.{get_or}
 use Rattle.std.specs.Borrow.{Bor}
 use Rattle.std.proofs.lemmas.List.{take_more, get_or-map, length-map}
 use Rattle.std.proofs.lemmas.Result.{IfErr-at_err, IfOk-at_ok}
 use Rattle.cps_outside.specs.Causes.{Rose}
-use Rattle.cps_outside.specs.SinkState.{SinkState, Grows, GrowsByPart, Writes}
+use Rattle.cps_outside.specs.SinkState.{SinkState, Grows, GrowsByPart, LeavesRoom, LacksRoom, Writes}
 use Rattle.endings.specs.Lines.{Says, text_of}
 
 -- this was written, with no failure
 pub record Written (old new : SinkState) (text : List ℕ) : Type 0 where
   pub tells : new.tells ≡ old.tells
+  pub sure : new.sure ≡ old.sure
   pub faults : old.faults ≤ new.faults
   pub grew : Grows old new text
+  pub left : LeavesRoom old new text
 
 text_append : (xs ys : List (List ℕ)) → text_of (xs ++ ys) ≡ text_of xs ++ text_of ys
 text_append [] ys = refl
@@ -22,18 +24,31 @@ text_more : (xs : List (List ℕ)) (y : List ℕ) → text_of (xs ++ y ∷ []) �
 text_more xs y = text_append xs (y ∷ []) ∙ ap (λ t. text_of xs ++ t) (append-nil y)
 
 pub written_none : (s : SinkState) → Written s s []
-written_none s = record { tells = refl; faults = omega arith; grew = λ told. sym (append-nil s.written) }
+written_none s = record {
+  tells = refl;
+  sure = refl;
+  faults = omega arith;
+  grew = λ told. sym (append-nil s.written);
+  left = λ sure. omega arith;
+}
 
 -- one put more
 pub written_more : {T E : Type 0} (old mid new : SinkState) (xs ys : List (List ℕ)) (y : List ℕ) (r : Result T E) (u : T) →
     r ≡ Ok u → ys ≡ xs ++ y ∷ [] → Written old mid (text_of xs) → Writes mid new y r → Written old new (text_of ys)
 written_more old mid new xs ys y r u is step a b =
     let grew : Grows mid new y = IfOk-at_ok (λ _. Grows mid new y) is b.ok in
+    let left : LeavesRoom mid new y = IfOk-at_ok (λ _. LeavesRoom mid new y) is b.left in
     record {
       tells = b.tells ∙ a.tells;
+      sure = b.sure ∙ a.sure;
       faults = omega (arith, a.faults, b.faults);
       grew = λ told. grew (a.tells ∙ told) ∙ ap (λ w. w ++ y) (a.grew told) ∙ append_assoc old.written (text_of xs) y
           ∙ ap (λ t. old.written ++ t) (sym (ap text_of step ∙ text_more xs y));
+      left = λ sure.
+          let first : old.room ≤ mid.room + length (text_of xs) = a.left sure in
+          let then : mid.room ≤ new.room + length y = left (a.sure ∙ sure) in
+          let together : length (text_of ys) ≡ length (text_of xs) + length y = ap length (ap text_of step ∙ text_more xs y) ∙ length-append (text_of xs) y in
+          omega (arith, first, then, together);
     }
 
 -- a put that failed ends it
@@ -43,12 +58,20 @@ written_part old mid new xs all rest y r e (Ok v) is wrong step a b = cc
 written_part old mid new xs all rest y r e (Err f) is wrong step a b =
     let part : GrowsByPart mid new y = IfErr-at_err (λ _. GrowsByPart mid new y) is b.part in
     let failed : Rose mid.faults new.faults = IfErr-at_err (λ _. Rose mid.faults new.faults) is b.failed in
+    let lacked : LacksRoom mid y = IfErr-at_err (λ _. LacksRoom mid y) is b.lacked in
     let text : text_of all ≡ (text_of xs ++ y) ++ text_of rest = ap text_of step ∙ text_append (xs ++ y ∷ []) rest ∙ ap (λ t. t ++ text_of rest) (text_more xs y) in
     record {
       tells = b.tells ∙ a.tells;
+      sure = b.sure ∙ a.sure;
       faults = omega (arith, a.faults, b.faults);
       ok = tt;
+      left = tt;
       failed = omega (arith, a.faults, failed);
+      lacked = λ sure.
+          let first : old.room ≤ mid.room + length (text_of xs) = a.left sure in
+          let short : mid.room < length y = lacked (a.sure ∙ sure) in
+          let together = ap length text ∙ length-append (text_of xs ++ y) (text_of rest) in
+          omega (arith, first, short, together, length-append (text_of xs) y);
       part = λ told. let p = part (a.tells ∙ told) in (
         text_of xs ++ p.0,
         p.1 ++ text_of rest,

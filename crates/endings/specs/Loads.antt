@@ -1,5 +1,5 @@
 -- What the loads of files leave, and how they may end early.
-use Rattle.std.specs.Prelude.{◌≡◌, ℕ, ◌+◌, ◌-◌, ◌<◌, ◌≤◌, List, [], ◌∷◌, ◌++◌, length, take, map, Some, IsTrue}
+use Rattle.std.specs.Prelude.{◌≡◌, ℕ, ◌+◌, ◌-◌, ◌<◌, ◌≤◌, List, [], ◌∷◌, ◌++◌, length, take, map, Some, None, IsTrue}
 use Rattle.std.specs.List.{AllByRecursion}
 use Rattle.cps_outside.specs.Causes.{RoseBy, Rose}
 use Rattle.cps_outside.specs.FolderState.{FolderState}
@@ -14,6 +14,7 @@ limit = 16777216
 pub record Loads (old new : FolderState) (names contents : List (List ℕ)) : Type 0 where
   pub tells : new.tells ≡ old.tells
   pub content : new.content ≡ old.content
+  pub sure : new.sure ≡ old.sure
   pub faults : old.faults ≤ new.faults
   pub taken : old.taken ≤ new.taken
   pub asked : IsTrue old.tells → new.asked ≡ old.asked ++ names
@@ -30,10 +31,16 @@ pub record StopsAt (old new : FolderState) (names : List (List ℕ)) (place : �
   pub bounded : AllByRecursion (λ bytes. length bytes ≤ limit) contents
   pub asked : IsTrue old.tells → new.asked ≡ old.asked ++ take place names
 
+-- where the folder tells its contents and is sure, no file has the name of this place
+abbrev pub IsAbsentAt : FolderState → List (List ℕ) → ℕ → Type 0
+IsAbsentAt old names place = IsTrue old.tells → IsTrue old.sure →
+    (name : List ℕ) × (take place names ≡ take (place - 1) names ++ name ∷ []) × (old.content name ≡ None)
+
 -- the load of this place failed
 pub record FailsAt (old new : FolderState) (names : List (List ℕ)) (place : ℕ) : Type 0 where
   pub stops : StopsAt old new names place
   pub cause : Rose old.faults new.faults
+  pub absent : IsAbsentAt old names place
 
 -- the file of this place is too long
 pub record IsTooLongAt (old new : FolderState) (names : List (List ℕ)) (place : ℕ) : Type 0 where

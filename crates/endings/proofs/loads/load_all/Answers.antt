@@ -9,6 +9,7 @@ returns-in-Err-Failed g c =
     let step = next_name c.args.names.now c.loop-index.index c.index-names-index.result c.as_str.result.now c.loop-index-test.true c.index-names-index.is c.as_str.ensures.value in
     fails_next _ _ _ (map string_bytes c.args.names.now) _ c.loop-index.index c.as_str.result.now (grind (arith, length-map)) c.loop-index.invariant step
     (λ told. asked_unless (c.load.ensures.asked told) (λ e. cc)) (c.load.ensures.failed (c.in-Err-Failed.is ∙ ap Err c.in-Err-Failed.field-0-is))
+    (c.load.ensures.absent (c.in-Err-Failed.is ∙ ap Err c.in-Err-Failed.field-0-is))
 
 pub returns-in-Err-TooLong : goal.returns-in-Err-TooLong
 returns-in-Err-TooLong g c =

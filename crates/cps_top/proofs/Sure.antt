@@ -1,0 +1,38 @@
+-- From a folder that is sure no load of files that are there fails, and into a sink that is sure no text fails for which there
+-- is room.
+use Rattle.std.proofs.Common.{◌≡◌, inl, inr, ℕ, ◌<◌, ◌≤◌, List, length, IsTrue, arith}
+use Rattle.cps_outside.specs.SinkState.{SinkState}
+use Rattle.cps_top.specs.declared.commands.Command.{Command}
+use Rattle.endings.specs.declared.ending.Ending.{Ending}
+use Rattle.endings.specs.declared.ending.Ending.TheVariants.{NotWritten}
+use Rattle.cps_top.specs.Commands.{files_of}
+use Rattle.endings.specs.Lines.{status_of}
+use Rattle.cps_top.specs.Outcome.{Outside, Ends, Follows}
+use Rattle.cps_top.specs.Statuses.{HasRoom, IsSure}
+use Rattle.cps_top.proofs.Complete.{complete_unless, none_fails}
+use Rattle.cps_top.proofs.Exact.{exact}
+use Rattle.cps_top.proofs.Statuses.{asks}
+
+none_unwritten : (command : Command) (contents : List (List ℕ)) (old new : SinkState) → IsTrue old.sure → HasRoom command contents old →
+    Follows command contents old new NotWritten → ⊥
+none_unwritten command contents old new sure room unwritten =
+    let fits : length unwritten.0.text ≤ old.room = room unwritten.0.text unwritten.0.admitted.0 in
+    let longer : old.room < length unwritten.0.text = unwritten.0.admitted.1 sure in
+    omega (arith, fits, longer)
+
+pub is_sure : (words : List (List ℕ)) (old new : Outside) (status : ℕ) (ending : Ending) →
+    status ≡ status_of ending → Ends words old new ending → IsSure words old new status
+is_sure words old new status ending is ends = record {
+  complete = λ command contents there folder taken out room.
+      complete_unless words old new status ending command contents is ends there taken
+      (λ place fails. none_fails old.folder new.folder (files_of words) contents place there.tells folder there.told there.bounded fails)
+      (none_unwritten command contents old.out new.out out room);
+  refused = λ command contents refusal there folder refuses.
+      elim ((exact words old new status ending is ends).refused command contents refusal there refuses) [
+        | inl three ↦ inl three
+        | inr (inl eight) ↦ inr eight
+        | inr (inr four) ↦ (
+            let fails = (asks words old new status ending is ends).failed four.0 in
+            absurd (none_fails old.folder new.folder (files_of words) contents fails.0 there.tells folder there.told there.bounded fails.1))
+      ];
+}

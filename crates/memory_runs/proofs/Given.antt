@@ -1,0 +1,27 @@
+-- A text that was written into an empty sink is what the sink holds.
+use Rattle.std.proofs.Common.{◌≡◌, refl, inl, inr, ℕ, List, [], ◌∷◌, subst, sym}
+use Rattle.std.specs.Prelude.{String, Vec}
+use Rattle.std.specs.declared.alloc.Global.{Global}
+use Rattle.cps_outside.specs.MemorySink.{fresh_sink}
+use Rattle.cps_outside.specs.SinkState.{SinkState}
+use Rattle.cps_top.specs.declared.commands.Command.{Command}
+use Rattle.cps_top.specs.Commands.{Admits}
+use Rattle.cps_top.specs.Outcome.{Outside}
+use Rattle.cps_top.specs.Statuses.{IsSure, IsComplete}
+use Rattle.endings.specs.declared.ending.Answer.{Answer}
+use Rattle.endings.specs.Lines.{answer_status}
+use Rattle.memory_runs.specs.Given.{given, Answers}
+
+printed : (command : Command) (contents : List (List ℕ)) (files : List (String Global × Vec ℕ Global)) (room status : ℕ) (new : Outside) →
+    IsComplete command contents (given files room) new status →
+    (status ≡ 8) ⊎ ((answer : Answer) × (status ≡ answer_status answer) × Admits command contents new.out.written answer)
+printed command contents files room status new (inl short) = inl short
+printed command contents files room status new (inr p) =
+    inr (p.0, p.1, subst (λ (text : List ℕ). Admits command contents text p.0) (sym (p.2.grew refl)) p.2.admitted)
+
+pub answers : (words : List (List ℕ)) (files : List (String Global × Vec ℕ Global)) (room status : ℕ) (new : Outside) →
+    IsSure words (given files room) new status → Answers words files room status new.out.written
+answers words files room status new sure = record {
+  complete = λ command contents there taken enough. printed command contents files room status new (sure.complete command contents there refl taken refl enough);
+  refused = λ command contents refusal there refuses. sure.refused command contents refusal there refl refuses;
+}

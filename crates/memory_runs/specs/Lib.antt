@@ -1,0 +1,2 @@
+-- Runs over files in memory in which no load and no put is to fail.
+pub mod Given

@@ -1,0 +1,8 @@
+//! Runs of the program over files in memory, in which nothing fails but for want of memory.
+#![tactic(auto)]
+
+mod runs;
+#[cfg(test)]
+mod tests;
+
+pub use runs::{MemoryRun, run_in_memory};
