@@ -1,5 +1,5 @@
 // The lines of a plan file.
-ghost use Rattle.std.specs.Prelude.{◌≡◌, ◌≤◌, IfOk, option_map};
+ghost use Rattle.std.specs.Prelude.{◌≡◌, ◌≤◌, ◌+◌, IfOk, option_map};
 ghost use Rattle.landing_rules.specs.Limits.{most_flights};
 ghost use Rattle.sequencer.specs.Shown.{shown_of};
 ghost use Rattle.audit.specs.Lines.{head_in, landing_from, landing_in, mark_in, objective_in};

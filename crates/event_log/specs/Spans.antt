@@ -1,5 +1,5 @@
 -- The span of a closure that a text is, or its first fault.
-use Rattle.std.specs.Prelude.{ℕ, List, [], ◌∷◌, nat_le, Result, Ok, Err, if◌then◌else◌}
+use Rattle.std.specs.Prelude.{ℕ, List, [], ◌∷◌, nat_le, Result, Ok, Err, if◌then◌else◌, ◌+◌}
 use Rattle.cps_base.specs.Answers.{fault_as, ◌>>=◌}
 use Rattle.landing_rules.specs.Rules.{last_second}
 use Rattle.text_parts.specs.Parts.{parts}

@@ -1,5 +1,5 @@
 // The columns of an event, each read as its kind wants it.
-ghost use Rattle.std.specs.Prelude.{◌≡◌, ◌≤◌, ◌<◌, IfOk, true, length};
+ghost use Rattle.std.specs.Prelude.{◌≡◌, ◌≤◌, ◌<◌, ◌+◌, IfOk, true, length};
 ghost use Rattle.csv.specs.Records.{fields_of};
 ghost use Rattle.cps_base.specs.Text.{is_callsign};
 ghost use Rattle.landing_rules.specs.Limits.{greatest_weight};
