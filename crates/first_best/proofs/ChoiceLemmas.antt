@@ -1,5 +1,5 @@
 -- Orders of least choices, by the pairs of the nodes.
-use Rattle.std.proofs.Common.{◌≡◌, ℕ, zero, suc, ◌+◌, ◌-◌, ◌*◌, ◌<◌, ◌≤◌, ◌⊎◌, inl, inr, List, [], ◌∷◌, length, set, get_or, cond, Bool, Option, Some, None, refl, sym, ap, ap₂, subst, ◌∙◌, arith}
+use Rattle.std.proofs.Common.{◌≡◌, ℕ, zero, suc, ◌+◌, ◌-◌, ◌*◌, ◌<◌, ◌≤◌, ◌⊎◌, inl, inr, List, [], ◌∷◌, length, set, get_or, cond, Bool, Option, Some, None, refl, sym, ap, ap₂, subst, ◌∙◌, le_trans, arith}
 use Rattle.std.specs.Prelude.{◌↔◌, slice_set, replicate, IfSome}
 use Rattle.std.proofs.lemmas.Bool.{cases_eq, cases_lt, eq-eqb, lt-ltb, le-ltb, ne_eqb}
 use Rattle.std.proofs.lemmas.List.{ext_get_or, get_or-set_same, get_or-set_other, get_or-replicate}
@@ -13,14 +13,13 @@ use Rattle.landing_rules.specs.FirstBest.{IsFirstBestList}
 use Rattle.landing_rules.specs.Flights.{Schedule}
 use Rattle.cps_theory.specs.RankLists.{IsRank, of_rank}
 use Rattle.cps_theory.specs.Separation.{Landing}
-use Rattle.cps_theory.specs.Feasible.{second_in}
+use Rattle.cps_theory.specs.Feasible.{next_from, second_in}
+use Rattle.cps_theory.specs.ProblemNetwork.{LandedIn}
 use Rattle.cps_theory.specs.Labels.{Pair}
 use Rattle.cps_theory.specs.LandingTrail.{cost_of, latest_landing, ranks}
-use Rattle.cps_theory.specs.laws.FrozenFront.{each_fits_distinct}
-use Rattle.cps_theory.specs.laws.LegalPrefix.{in_from_one, legal_each_fits}
-use Rattle.cps_theory.specs.laws.RanksOfList.{few_ranks}
 use Rattle.landing_joint.specs.RankedProblem.{no_waiting, ranked, cost_at, landing_after}
-use Rattle.landing_joint.specs.CompletingPairs.{AreCompletingPairs, AreLeastChoices, CanChoose, CanLandBy, IsLeastObjective, IsLegal, budget_of, seconds_by_rank}
+use Rattle.landing_joint.specs.CompletingPairs.{AreCompletingPairs, AreLeastChoices, CanChoose, IsCompletingPair, IsLeastObjective, IsLegal, budget_of, seconds_by_rank}
+use Rattle.landing_joint.specs.shared.FirstOpen.{is_first_open}
 use Rattle.landing_joint.specs.shared.FirstBestLists.{list_of_at, list_of_long}
 use Rattle.landing_joint.specs.shared.LeastChoices.{choice_found, choices_first_best}
 use Rattle.cps_problem.specs.WellFormed.{IsWellFormed}
@@ -30,9 +29,11 @@ use Rattle.first_best.specs.declared.node.EarlyNode.{EarlyNode}
 use Rattle.first_best.specs.Nodes.{node_at, IsPrefixOf, IsReached, LeadsTo}
 use Rattle.first_best.specs.Completing.{IsCostFrom, IsLeastOf}
 use Rattle.first_best.specs.Choices.{lesser_choice, FindsAffordable, FindsWay, IsAffordable, IsChoice, IsLeastChoice}
-use Rattle.first_best.specs.Stages.{stage_of, AreCompleted, IsAheadOf, StageAhead}
-use Rattle.first_best.proofs.CompletingLemmas.{sound_of, listed_complete, IsListed}
+use Rattle.first_best.specs.Stages.{stage_of, AreCompleted, IsAheadWithin, StageAhead}
+use Rattle.first_best.specs.Uses.{IsOfUse}
+use Rattle.first_best.proofs.CompletingLemmas.{sound_of}
 use Rattle.first_best.proofs.NodeLemmas.{leads_on, on_leads}
+use Rattle.first_best.proofs.UseLemmas.{all_kept}
 
 -- ---- the least of the choices by the first nodes
 
@@ -77,15 +78,12 @@ module _ (p : Problem) (budget : ℕ) (before : EarlyNode) (cost : ℕ) (nodes :
       let most = few c.place c.within in
       (elim u.known [ inl none ↦ absurd (let z : least.0 ≡ 61 = ap (λ (q : Pair). q.0) none in omega (arith, z, low, most)) | inr known ↦ known ], omega (arith, low, last))
 
--- ---- the pairs that the nodes list
-
-abbrev pub Keeps : List StageAhead → List ℕ → Pair → Type 0
-Keeps stages rs q = IsListed (stage_of stages (length rs)).nodes (stage_of stages (length rs)).lists rs q
+-- ---- the order so far
 
 -- the order so far
-pub record IsOrder (p : Problem) (v : ℕ) (stages : List StageAhead) (done : ℕ) (before : EarlyNode) (cost : ℕ) (schedule : Schedule) : Type 0 where
+pub record IsOrder (p : Problem) (v : ℕ) (done : ℕ) (before : EarlyNode) (cost : ℕ) (schedule : Schedule) : Type 0 where
   pub landings : List Landing
-  pub choices : AreLeastChoices p v (Keeps stages) landings
+  pub choices : AreLeastChoices p v (IsCompletingPair p v) landings
   pub long : length landings ≡ done
   pub of_node : IsPrefixOf (ranks landings) before
   pub latest : latest_landing landings ≡ (before.last, before.earliest)
@@ -96,74 +94,80 @@ pub record IsOrder (p : Problem) (v : ℕ) (stages : List StageAhead) (done : �
   pub early : before.earliest ≤ last_second
   pub small : cost ≤ 17279900 * done
 
-module _ (p : Problem) (wf : IsWellFormed p) (v : ℕ) (held : Option HeldProblem) (stages : List StageAhead) (a : IsAheadOf p v held stages) where
-  pub all_complete : AreCompletingPairs p v (Keeps stages)
-  all_complete x xs legal landed =
-      let rs = ranks (x ∷ xs) in
-      let placed = legal_each_fits (ranked p).rules rs legal in
-      let few : length rs ≤ length p.flights = few_ranks (length p.flights) rs (each_fits_distinct (ranked p).rules rs placed) (λ y i. in_from_one (ranked p).rules y rs placed i) in
-      let can : CanLandBy p rs x.1 = record { landings = x ∷ xs; legal = legal; landed = landed; one_node = record { stage = refl; placed = λ y. (λ i. i, λ i. i); latest = refl }; by = omega arith } in
-      listed_complete p v (length rs) (stage_of stages (length rs)).nodes (stage_of stages (length rs)).lists (a.completed (length rs) (omega arith) few) rs x.1 legal refl can
+module _ (p : Problem) (wf : IsWellFormed p) (v : ℕ) (held : Option HeldProblem) (stages : List StageAhead) (a : IsAheadWithin p v held stages) where
+  all_complete : AreCompletingPairs p v (IsCompletingPair p v)
+  all_complete x xs legal landed = all_kept (IsCompletingPair p v (ranks (x ∷ xs)))
 
   length_ranks : (xs : List Landing) → length (ranks xs) ≡ length xs
   length_ranks [] = refl
   length_ranks (x ∷ xs) = ap suc (length_ranks xs)
 
-  pub choices_legal : (xs : List Landing) → AreLeastChoices p v (Keeps stages) xs → IsLegal p (ranks xs)
+  pub choices_legal : (xs : List Landing) → AreLeastChoices p v (IsCompletingPair p v) xs → IsLegal p (ranks xs)
   choices_legal [] c = tt
   choices_legal (x ∷ xs) c = c.0.legal
 
-  -- ---- a choice by the nodes of the next stage is one by what they list
+  choice_landed : (xs : List Landing) (r t : ℕ) → LandedIn (ranked p) xs → CanChoose p v (IsCompletingPair p v) xs r t → LandedIn (ranked p) ((r, t) ∷ xs)
+  choice_landed xs r t landed c = (let f = (is_first_open p).found r (next_from (ranked p) (latest_landing xs).0 (latest_landing xs).1 r) t c.lands in (f.0, f.1, landed))
 
-  module _ (xs : List Landing) (legal : IsLegal p (ranks xs)) (done : ℕ) (long : length xs ≡ done) (short : done < length p.flights) (before : EarlyNode) (of : IsPrefixOf (ranks xs) before) (latest : latest_landing xs ≡ (before.last, before.earliest)) (cost : ℕ) (cost_is : cost_of (cost_at p) xs ≡ cost) where
+  pub choices_landed : (xs : List Landing) → AreLeastChoices p v (IsCompletingPair p v) xs → LandedIn (ranked p) xs
+  choices_landed [] c = tt
+  choices_landed (x ∷ xs) c = choice_landed xs x.0 x.1 (choices_landed xs c.2) c.0
+
+  -- ---- a choice by the nodes of the next stage is one by completing pairs, of which those of use suffice
+
+  module _ (xs : List Landing) (legal : IsLegal p (ranks xs)) (landed : LandedIn (ranked p) xs) (done : ℕ) (long : length xs ≡ done) (short : done < length p.flights) (before : EarlyNode) (of : IsPrefixOf (ranks xs) before) (latest : latest_landing xs ≡ (before.last, before.earliest)) (cost : ℕ) (cost_is : cost_of (cost_at p) xs ≡ cost) where
     next : StageAhead
     next = stage_of stages (done + 1)
 
     one_more : (r : ℕ) → length (r ∷ ranks xs) ≡ done + 1
     one_more r = (let e = length_ranks xs in omega (arith, e, long))
 
-    completed : AreCompleted p v (done + 1) (stage_of stages (done + 1)).nodes (stage_of stages (done + 1)).lists
+    completed : AreCompleted p v (Some (budget_of p v)) (done + 1) (stage_of stages (done + 1)).nodes (stage_of stages (done + 1)).lists
     completed = a.completed (done + 1) (omega arith) (omega (arith, short))
 
     abbrev IsNext : ℕ → ℕ → Type 0
     IsNext r t = IsChoice p (budget_of p v) before cost (stage_of stages (done + 1)).nodes (stage_of stages (done + 1)).lists r t
 
-    pub to_choose : (r t : ℕ) → IsNext r t → CanChoose p v (Keeps stages) xs r t
+    pub to_choose : (r t : ℕ) → IsNext r t → CanChoose p v (IsCompletingPair p v) xs r t
     to_choose r t c =
         let nodes = (stage_of stages (done + 1)).nodes in
         let after = node_at nodes c.place in
         let f = c.affordable in
         let on = leads_on p (ranks xs) legal before after of c.leads (subst (λ (s : ℕ). IsReached p s after) (let e = length_ranks xs in let g : done + 1 ≡ suc (length (ranks xs)) = omega (arith, e, long) in g) (completed.are_nodes.reached c.place c.within)) in
-        subst (λ (n : ℕ). CanChoose p v (Keeps stages) xs n t) c.last (record {
+        subst (λ (n : ℕ). CanChoose p v (IsCompletingPair p v) xs n t) c.last (record {
           legal = on.0;
           lands = ap (λ (l : Landing). landing_after p l.0 l.1 after.last) latest ∙ f.lands;
           pair = f.pair;
-          kept = subst (λ (s : ℕ). IsListed (stage_of stages s).nodes (stage_of stages s).lists (after.last ∷ ranks xs) f.pair) (sym (one_more after.last)) (record { place = c.place; within = c.within; of_node = on.1; listed = f.listed });
+          kept = (completed.kept c.place (after.last ∷ ranks xs) c.within on.0 (one_more after.last) on.1).completes f.pair f.listed;
           in_time = f.in_time;
           cheap = (let h = f.cheap in omega (arith, h, cost_is));
         })
 
-    pub from_choose : (r t : ℕ) → CanChoose p v (Keeps stages) xs r t → IsNext r t
+    pub from_choose : (r t : ℕ) → CanChoose p v (IsCompletingPair p v) xs r t → IsNext r t
     from_choose r t c =
-        let k : IsListed (stage_of stages (done + 1)).nodes (stage_of stages (done + 1)).lists (r ∷ ranks xs) c.pair = subst (λ (s : ℕ). IsListed (stage_of stages s).nodes (stage_of stages s).lists (r ∷ ranks xs) c.pair) (one_more r) c.kept in
-        let after = node_at (stage_of stages (done + 1)).nodes k.place in
-        let same : r ≡ after.last = k.of_node.last in
+        let more = (r, t) ∷ xs in
+        let land = choice_landed xs r t landed c in
+        let e = completed.are_nodes.every more (record { legal = c.legal; landed = land; long = one_more r }) in
+        let of_use : IsOfUse p (budget_of p v) (r ∷ ranks xs) c.pair = record { landings = more; legal = c.legal; landed = land; one_node = record { stage = refl; placed = λ x. (λ i. i, λ i. i); latest = refl }; by = c.in_time; cheap = c.cheap } in
+        let o = (completed.kept e.0 (r ∷ ranks xs) e.1 c.legal (one_more r) e.2).covers c.pair c.kept of_use in
+        let after = node_at (stage_of stages (done + 1)).nodes e.0 in
+        let same : r ≡ after.last = e.2.last in
         let price : cost_at p r t ≡ cost_at p after.last t = ap (λ (n : ℕ). cost_at p n t) same in
         record {
-          place = k.place;
-          within = k.within;
+          place = e.0;
+          within = e.1;
           last = sym same;
-          leads = on_leads p (ranks xs) r before after c.legal of k.of_node;
+          leads = on_leads p (ranks xs) r before after c.legal of e.2;
           affordable = record {
             lands = ap (λ (l : Landing). landing_after p l.0 l.1 after.last) (sym latest) ∙ ap (λ (n : ℕ). landing_after p (latest_landing xs).0 (latest_landing xs).1 n) (sym same) ∙ c.lands;
-            pair = c.pair;
-            listed = k.listed;
-            in_time = c.in_time;
-            cheap = (let h = c.cheap in omega (arith, h, cost_is, price));
+            pair = o.0;
+            listed = o.1;
+            in_time = le_trans c.in_time o.2.0;
+            cheap = (let h = c.cheap in let d = o.2.1 in omega (arith, h, d, cost_is, price));
           };
         }
 
-  pub no_order : (schedule : Schedule) → schedule ≡ replicate (length p.flights) 0 → length schedule ≡ length p.flights → IsOrder p v stages 0 (record { placed = 0; last = 0; earliest = 0 }) 0 schedule
+  pub no_order : (schedule : Schedule) → schedule ≡ replicate (length p.flights) 0 → length schedule ≡ length p.flights → IsOrder p v 0 (record { placed = 0; last = 0; earliest = 0; cheapest = 0 }) 0 schedule
   no_order schedule blank room = record {
     landings = [];
     choices = tt;
@@ -186,27 +190,28 @@ module _ (p : Problem) (wf : IsWellFormed p) (v : ℕ) (held : Option HeldProble
   passed_at zero q = absurd (let b = q.0 in omega (arith, b))
   passed_at (suc i) q = wf.passed i no_waiting (let b = q.1 in omega (arith, b))
 
-  module _ (value_is : IsLeastObjective p v) (done : ℕ) (before : EarlyNode) (cost : ℕ) (schedule : Schedule) (o : IsOrder p v stages done before cost schedule) where
+  module _ (value_is : IsLeastObjective p v) (done : ℕ) (before : EarlyNode) (cost : ℕ) (schedule : Schedule) (o : IsOrder p v done before cost schedule) where
     -- the least choice of the nodes of the next stage is one, and none is less
     pub next_choice : done < length p.flights → (least : Pair) → IsLeastChoice p (budget_of p v) before cost (stage_of stages (done + 1)).nodes (stage_of stages (done + 1)).lists least
-        → CanChoose p v (Keeps stages) o.landings least.0 least.1 × ((r t : ℕ) → CanChoose p v (Keeps stages) o.landings r t → least.0 ≤ r)
+        → CanChoose p v (IsCompletingPair p v) o.landings least.0 least.1 × ((r t : ℕ) → CanChoose p v (IsCompletingPair p v) o.landings r t → least.0 ≤ r)
     next_choice short least is =
         let xs = o.landings in
         let legal = choices_legal xs o.choices in
-        let into = from_choose xs legal done o.long short before o.of_node o.latest cost o.cost_is in
-        let c = choice_found p (sound_of p wf) passed_at v value_is (Keeps stages) all_complete xs o.choices (let l = o.long in omega (arith, short, l)) in (
-          to_choose xs legal done o.long short before o.of_node o.latest cost o.cost_is least.0 least.1 (is c.0 c.1 (into c.0 c.1 c.2)).0,
+        let landed = choices_landed xs o.choices in
+        let into = from_choose xs legal landed done o.long short before o.of_node o.latest cost o.cost_is in
+        let c = choice_found p (sound_of p wf) passed_at v value_is (IsCompletingPair p v) all_complete xs o.choices (let l = o.long in omega (arith, short, l)) in (
+          to_choose xs legal landed done o.long short before o.of_node o.latest cost o.cost_is least.0 least.1 (is c.0 c.1 (into c.0 c.1 c.2)).0,
           λ r t d. (is r t (into r t d)).1,
         )
 
     -- the same as the code finds it
     pub chosen_by : done < length p.flights → (least : Pair) (budget : ℕ) → budget ≡ budget_of p v → (stage : StageAhead) → stage ≡ stage_of stages (done + 1) → IsLeastChoice p budget before cost stage.nodes stage.lists least
-        → CanChoose p v (Keeps stages) o.landings least.0 least.1 × ((r t : ℕ) → CanChoose p v (Keeps stages) o.landings r t → least.0 ≤ r)
+        → CanChoose p v (IsCompletingPair p v) o.landings least.0 least.1 × ((r t : ℕ) → CanChoose p v (IsCompletingPair p v) o.landings r t → least.0 ≤ r)
     chosen_by short least budget b stage s is =
         next_choice short least (subst (λ (t : StageAhead). IsLeastChoice p (budget_of p v) before cost t.nodes t.lists least) s (subst (λ (n : ℕ). IsLeastChoice p n before cost stage.nodes stage.lists least) b is))
 
-    pub one_landing : (r t : ℕ) → CanChoose p v (Keeps stages) o.landings r t → ((q u : ℕ) → CanChoose p v (Keeps stages) o.landings q u → r ≤ q) → t ≤ last_second → (after : EarlyNode) → ((x : ℕ) → HasBit after.placed x ↔ (HasBit before.placed x ⊎ (x ≡ r))) → after.last ≡ r → after.earliest ≡ t
-        → (price : ℕ) → price ≡ cost_at p r t → price ≤ 17279900 → IsOrder p v stages (done + 1) after (cost + price) (slice_set schedule (r - 1) t)
+    pub one_landing : (r t : ℕ) → CanChoose p v (IsCompletingPair p v) o.landings r t → ((q u : ℕ) → CanChoose p v (IsCompletingPair p v) o.landings q u → r ≤ q) → t ≤ last_second → (after : EarlyNode) → ((x : ℕ) → HasBit after.placed x ↔ (HasBit before.placed x ⊎ (x ≡ r))) → after.last ≡ r → after.earliest ≡ t
+        → (price : ℕ) → price ≡ cost_at p r t → price ≤ 17279900 → IsOrder p v (done + 1) after (cost + price) (slice_set schedule (r - 1) t)
     one_landing r t can least days after placed last earliest price is few = record {
       landings = (r, t) ∷ o.landings;
       choices = (can, least, o.choices);
@@ -240,7 +245,7 @@ module _ (p : Problem) (wf : IsWellFormed p) (v : ℕ) (held : Option HeldProble
 
     -- with all landings it is the first best list
     pub whole_order : done ≡ length p.flights → IsFirstBestList p schedule
-    whole_order e = subst (IsFirstBestList p) (sym same) (choices_first_best p (sound_of p wf) passed_at v value_is (Keeps stages) all_complete o.landings o.choices (o.long ∙ e))
+    whole_order e = subst (IsFirstBestList p) (sym same) (choices_first_best p (sound_of p wf) passed_at v value_is (IsCompletingPair p v) all_complete o.landings o.choices (o.long ∙ e))
       where
         at : (i : ℕ) → i < length schedule → get_or schedule i 0 ≡ get_or (seconds_by_rank p o.landings) i 0
         at i lt =

@@ -1,12 +1,12 @@
 -- The windows of a stage, put together by node.
-use Rattle.std.proofs.Common.{◌≡◌, ℕ, ◌+◌, ◌<◌, ◌≤◌, inl, inr, List, [], ◌∷◌, ◌++◌, length, refl, sym, ap, subst, ◌∙◌, arith, length-append}
+use Rattle.std.proofs.Common.{◌≡◌, ℕ, suc, ◌+◌, ◌-◌, ◌<◌, ◌≤◌, inl, inr, List, [], ◌∷◌, ◌++◌, length, refl, sym, ap, subst, ◌∙◌, arith, length-append}
 use Rattle.std.specs.Prelude.{ℤ, pos, ◌↔◌}
 use Rattle.std.proofs.lemmas.Bool.{cases_eq, cases_lt}
 use Rattle.std.proofs.lemmas.List.{get_or_default, get_or_append_left, get_or_push}
 use Rattle.precedence.specs.Pairs.{HasBit}
 use Rattle.landing_rules.specs.Problem.{Problem}
 use Rattle.cps_theory.specs.Separation.{Landing}
-use Rattle.cps_theory.specs.LandingTrail.{latest_landing, pair_of, ranks}
+use Rattle.cps_theory.specs.LandingTrail.{cost_of, latest_landing, pair_of, ranks}
 use Rattle.cps_theory.specs.Labels.{InPairs, Pair}
 use Rattle.cps_theory.specs.LegalPrefix.{Legal}
 use Rattle.cps_theory.specs.UndominatedPairs.{Staircase}
@@ -22,12 +22,12 @@ use Rattle.cps_network.specs.shared.PairSteps.{at_in}
 use Rattle.cps_network.specs.declared.node.Node.{Node}
 use Rattle.first_best.specs.declared.node.EarlyNode.{EarlyNode}
 use Rattle.first_best.specs.Nodes.{node_at, AreNodesOf, IsLandedPrefix, IsPrefixOf, IsReached}
-use Rattle.first_best.specs.Gathered.{AreGathered, IsAdded, IsSameNode, IsWindowOf, place_at, second_of}
+use Rattle.first_best.specs.Gathered.{AreGathered, IsAdded, IsSameNode, IsWindowOf, cost_in, place_at, second_of}
 use Rattle.first_best.proofs.NodeLemmas.{one_set}
 
 -- ---- one window more
 
-module _ (stage : ℕ × List (List ℤ)) (lists : List (List Pair)) (count : ℕ) (nodes after : List EarlyNode) (places : List ℕ) (g : AreGathered stage lists count nodes places) (node : Node) (second place : ℕ) (add : IsAdded nodes after node second place) (at : second ≡ second_of lists count) (told : IsWindowOf stage.0 (windows.node_at stage.1 count) (node_at after place)) where
+module _ (stage : ℕ × List (List ℤ)) (lists : List (List Pair)) (count : ℕ) (nodes after : List EarlyNode) (places : List ℕ) (g : AreGathered stage lists count nodes places) (node : Node) (second cost place : ℕ) (add : IsAdded nodes after node second cost place) (at : second ≡ second_of lists count) (is : cost ≡ cost_in lists count) (told : IsWindowOf stage.0 (windows.node_at stage.1 count) (node_at after place)) where
   old_place : (i : ℕ) → i < count → place_at (places ++ place ∷ []) i ≡ place_at places i
   old_place i lt = get_or_append_left places (place ∷ []) 0 i (let l = g.long in omega (arith, lt, l))
 
@@ -77,6 +77,7 @@ module _ (stage : ℕ × List (List ℤ)) (lists : List (List Pair)) (count : �
     within = each (λ i m. m < length after) (λ i lt. let a = g.within i lt in let b = add.longer in omega (arith, a, b)) add.within;
     window = each (λ i m. IsWindowOf stage.0 (windows.node_at stage.1 i) (node_at after m)) (λ i lt. still (windows.node_at stage.1 i) (place_at places i) (g.within i lt) (g.window i lt)) told;
     low = each (λ i m. (node_at after m).earliest ≤ second_of lists i) (λ i lt. let a = g.low i lt in let b = (add.same (place_at places i) (g.within i lt)).2 in omega (arith, a, b)) (let l = add.low in omega (arith, l, at));
+    cheap = each (λ i m. (node_at after m).cheapest ≤ cost_in lists i) (λ i lt. let a = g.cheap i lt in let b = (add.same (place_at places i) (g.within i lt)).3 in omega (arith, a, b)) (let l = add.cheap in omega (arith, l, is));
     source = source_of;
     apart = λ i j li lj p l. elim (cases_lt i (length nodes)) [
       | inl a ↦ elim (cases_lt j (length nodes)) [
@@ -99,6 +100,7 @@ none_gathered stage lists = record {
   within = λ i lt. absurd (omega (arith, lt));
   window = λ i lt. absurd (omega (arith, lt));
   low = λ i lt. absurd (omega (arith, lt));
+  cheap = λ i lt. absurd (omega (arith, lt));
   source = λ j lt. absurd (omega (arith, lt));
   apart = λ i j li. absurd (omega (arith, li));
 }
@@ -117,6 +119,22 @@ pub first_least : (xs : List Pair) → Staircase xs → (q : Pair) → InPairs q
 first_least [] s q i = absurd i
 first_least (x ∷ xs) s q (inl e) = (let f : q.0 ≡ x.0 = ap (λ (z : Pair). z.0) e in omega (arith, f))
 first_least (x ∷ xs) s q (inr i) = (let a = (s.0 q i).0 in omega (arith, a))
+
+last_of_rest : (x y : Pair) (ys : List Pair) → (pair_at (x ∷ y ∷ ys) (length (x ∷ y ∷ ys) - 1)).1 ≡ (pair_at (y ∷ ys) (length (y ∷ ys) - 1)).1
+last_of_rest x y ys = (let e : length (x ∷ y ∷ ys) - 1 ≡ suc (length (y ∷ ys) - 1) = omega arith in ap (λ (n : ℕ). (pair_at (x ∷ y ∷ ys) n).1) e)
+
+-- and the last the cheapest
+pub last_cheapest : (xs : List Pair) → Staircase xs → (q : Pair) → InPairs q xs → (pair_at xs (length xs - 1)).1 ≤ q.1
+last_cheapest [] s q i = absurd i
+last_cheapest (x ∷ []) s q (inl e) = (let f : q.1 ≡ x.1 = ap (λ (z : Pair). z.1) e in omega (arith, f))
+last_cheapest (x ∷ []) s q (inr i) = absurd i
+last_cheapest (x ∷ y ∷ ys) s q (inl e) =
+    let f : q.1 ≡ x.1 = ap (λ (z : Pair). z.1) e in
+    let a = (s.0 y (inl refl)).1 in
+    let b = last_cheapest (y ∷ ys) s.1 y (inl refl) in
+    let c = last_of_rest x y ys in
+    omega (arith, f, a, b, c)
+last_cheapest (x ∷ y ∷ ys) s q (inr i) = (let b = last_cheapest (y ∷ ys) s.1 q i in let c = last_of_rest x y ys in omega (arith, b, c))
 
 some_long : (xs : List Pair) (q : Pair) → InPairs q xs → 0 < length xs
 some_long [] q i = absurd i
@@ -144,8 +162,8 @@ module _ (p : Problem) (net : network.IsWindowNetwork p) (tell : TellTheirRanks 
     last = sym (net.newest_is rs legal) ∙ ap network.latest at ∙ sym w.last;
   }
 
-  -- the window of a prefix that lands stands at some place, and its first pair is no later
-  pub place_of_prefix : (xs : List Landing) → IsLandedPrefix p stage.0 xs → (i : ℕ) × (i < length stage.1) × (network.node_of p.k (ranks xs) ≡ (stage.0, windows.node_at stage.1 i)) × (second_of lists i ≤ (latest_landing xs).1)
+  -- the window of a prefix that lands stands at some place; its first pair is no later, and its last one no dearer
+  pub place_of_prefix : (xs : List Landing) → IsLandedPrefix p stage.0 xs → (i : ℕ) × (i < length stage.1) × (network.node_of p.k (ranks xs) ≡ (stage.0, windows.node_at stage.1 i)) × (second_of lists i ≤ (latest_landing xs).1) × (cost_in lists i ≤ cost_of (cost_at p) xs)
   place_of_prefix xs l =
       let window = (network.node_of p.k (ranks xs)).1 in
       let there : network.node_of p.k (ranks xs) ≡ (stage.0, window) = ap (λ (n : ℕ). (n, window)) l.long in
@@ -156,8 +174,11 @@ module _ (p : Problem) (net : network.IsWindowNetwork p) (tell : TellTheirRanks 
       let kept = h.costs.pairs place.0 place.1 in
       let o = kept.covers q (record { landings = xs; legal = l.legal; landed = l.landed; at = at; is = refl }) in
       let first = first_least (list_at lists place.0) kept.falling o.0 o.1 in
-      let low = o.2.0 in
-      (place.0, place.1, at, omega (arith, first, low))
+      let last = last_cheapest (list_at lists place.0) kept.falling o.0 o.1 in
+      let low = o.2 in
+      let early = low.0 in
+      let cheap = low.1 in
+      (place.0, place.1, at, omega (arith, first, early), omega (arith, last, cheap))
 
   module _ (nodes : List EarlyNode) (places : List ℕ) (g : AreGathered stage lists (length stage.1) nodes places) where
     reached_at : (j : ℕ) → j < length nodes → IsReached p stage.0 (node_at nodes j)
@@ -172,20 +193,32 @@ module _ (p : Problem) (net : network.IsWindowNetwork p) (tell : TellTheirRanks 
           earliest = ap (λ (q : Pair). q.0) a.is ∙ sym s.3;
         }
 
+    -- a landed prefix of a node has its window among those of the node
+    window_of : (j : ℕ) (xs : List Landing) → j < length nodes → IsLandedPrefix p stage.0 xs → IsPrefixOf (ranks xs) (node_at nodes j)
+        → (i : ℕ) × (i < length stage.1) × (place_at places i ≡ j) × (second_of lists i ≤ (latest_landing xs).1) × (cost_in lists i ≤ cost_of (cost_at p) xs)
+    window_of j xs lt l of =
+        let i = place_of_prefix xs l in
+        let m = place_at places i.0 in
+        let other = window_prefix (ranks xs) (windows.node_at stage.1 i.0) (node_at nodes m) l.legal i.2 (g.window i.0 i.1) in
+        let same : m ≡ j = g.apart m j (g.within i.0 i.1) lt
+        (one_set (node_at nodes m).placed (node_at nodes j).placed (λ x. (λ b. (of.placed x).1 ((other.placed x).0 b), λ b. (other.placed x).1 ((of.placed x).0 b))))
+        (sym other.last ∙ of.last) in
+        (i.0, i.1, same, i.3, i.4)
+
     pub gathered_nodes : AreNodesOf p stage.0 nodes
     gathered_nodes = record {
       reached = reached_at;
       least = λ j xs lt l of.
-          let i = place_of_prefix xs l in
-          let m = place_at places i.0 in
-          let within = g.within i.0 i.1 in
-          let other = window_prefix (ranks xs) (windows.node_at stage.1 i.0) (node_at nodes m) l.legal i.2 (g.window i.0 i.1) in
-          let same : m ≡ j = g.apart m j within lt
-          (one_set (node_at nodes m).placed (node_at nodes j).placed (λ x. (λ b. (of.placed x).1 ((other.placed x).0 b), λ b. (other.placed x).1 ((of.placed x).0 b))))
-          (sym other.last ∙ of.last) in
+          let i = window_of j xs lt l of in
           let low = g.low i.0 i.1 in
-          let is : (node_at nodes m).earliest ≡ (node_at nodes j).earliest = ap (λ (n : ℕ). (node_at nodes n).earliest) same in
+          let is : (node_at nodes (place_at places i.0)).earliest ≡ (node_at nodes j).earliest = ap (λ (n : ℕ). (node_at nodes n).earliest) i.2 in
           let le = i.3 in
+          omega (arith, low, is, le);
+      cheap = λ j xs lt l of.
+          let i = window_of j xs lt l of in
+          let low = g.cheap i.0 i.1 in
+          let is : (node_at nodes (place_at places i.0)).cheapest ≡ (node_at nodes j).cheapest = ap (λ (n : ℕ). (node_at nodes n).cheapest) i.2 in
+          let le = i.4 in
           omega (arith, low, is, le);
       every = λ xs l.
           let i = place_of_prefix xs l in

@@ -2,6 +2,7 @@
 pub mod NodeLemmas
 pub mod GatherLemmas
 pub mod PairLemmas
+pub mod UseLemmas
 pub mod WayLemmas
 pub mod ScanLemmas
 pub mod CompletingLemmas

@@ -7,24 +7,28 @@ use Rattle.cps_theory.specs.Labels.{InPairs, Pair}
 use Rattle.cps_theory.specs.CompletingPairs.{NoEarlierNoDearer}
 use Rattle.cps_network.specs.shared.PairLists.{in_append, in_left, in_right}
 use Rattle.first_best.specs.declared.node.EarlyNode.{EarlyNode}
-use Rattle.first_best.specs.Completing.{AreFalling, ArePairsOf, IsLeastOf, IsPairOf}
+use Rattle.first_best.specs.Completing.{AreFalling, ArePairsOf, HasRoom, IsLeastOf, IsPairOf}
 use Rattle.first_best.proofs.PairLemmas.{falls_more, falls_rises, in_reversed, reversed_in}
+use Rattle.first_best.proofs.UseLemmas.{room_below}
 
-module _ (p : Problem) (v stage : ℕ) (node : EarlyNode) (nodes : List EarlyNode) (lists : List (List Pair)) where
-  abbrev Is : Pair → Type 0
+module _ (p : Problem) (v : ℕ) (budget : Option ℕ) (stage : ℕ) (node : EarlyNode) (nodes : List EarlyNode) (lists : List (List Pair)) (limit : ℕ) (limits : (cost : ℕ) → cost < 4294967296 → HasRoom budget node.cheapest cost → cost < limit) where
+  abbrev pub Is : Pair → Type 0
   Is q = IsPairOf p v stage node nodes lists q
 
-  -- the pairs from a second on are found, and the least cost of them is this
-  pub record Scanned (from least : ℕ) (pairs : List Pair) : Type 0 where
-    pub found : AreFalling p v stage node nodes lists from pairs
-    pub least_of : (q : Pair) → InPairs q pairs → least ≤ q.1
-    pub dear : (c : ℕ) → least ≤ c → c < 4294967296 → (o : Pair) × InPairs o pairs × (o.1 ≤ c)
+  abbrev pub Room : Pair → Type 0
+  Room q = HasRoom budget node.cheapest q.1
 
-  pub none_scanned : (from : ℕ) → ((q : Pair) → Is q → q.0 < from) → Scanned from 4294967296 []
+  -- the pairs from a second on for which there is room are found, and the least cost of them, or the limit with none, is this
+  pub record Scanned (from least : ℕ) (pairs : List Pair) : Type 0 where
+    pub found : AreFalling p v budget stage node nodes lists from pairs
+    pub least_of : (q : Pair) → InPairs q pairs → least ≤ q.1
+    pub dear : (c : ℕ) → least ≤ c → c < limit → (o : Pair) × InPairs o pairs × (o.1 ≤ c)
+
+  pub none_scanned : (from : ℕ) → ((q : Pair) → Is q → q.0 < from) → Scanned from limit []
   none_scanned from late = record {
     found = record {
       are = λ q i. absurd i;
-      cover = λ q h le. absurd (let a = late q h in omega (arith, a, le));
+      cover = λ q h le r. absurd (let a = late q h in omega (arith, a, le));
       falling = tt;
       in_reach = λ q i. absurd i;
     };
@@ -43,11 +47,11 @@ module _ (p : Problem) (v stage : ℕ) (node : EarlyNode) (nodes : List EarlyNod
     at_second : (q : Pair) → q.0 ≡ second → Is q → Is (second, q.1)
     at_second q e h = subst (λ (n : ℕ). Is (n, q.1)) e h
 
-    kept : (c : Option ℕ) → IsLeastOf (λ d. Is (second, d)) c → ((q : Pair) → Is q → q.0 ≡ second → (o : Pair) × InPairs o pairs × NoEarlierNoDearer o q) → Scanned second least pairs
-    kept c l here = record {
+    kept : ((q : Pair) → Is q → q.0 ≡ second → Room q → (o : Pair) × InPairs o pairs × NoEarlierNoDearer o q) → Scanned second least pairs
+    kept here = record {
       found = record {
         are = earlier_are;
-        cover = λ q h le. elim (split q le) [ inl e ↦ here q h e | inr more ↦ s.found.cover q h more ];
+        cover = λ q h le r. elim (split q le) [ inl e ↦ here q h e r | inr more ↦ s.found.cover q h more r ];
         falling = s.found.falling;
         in_reach = s.found.in_reach;
       };
@@ -56,12 +60,12 @@ module _ (p : Problem) (v stage : ℕ) (node : EarlyNode) (nodes : List EarlyNod
     }
 
     pub nothing_here : IsLeastOf (λ d. Is (second, d)) None → Scanned second least pairs
-    nothing_here none = kept None none (λ q h e. absurd (none q.1 (at_second q e h)))
+    nothing_here none = kept (λ q h e r. absurd (none q.1 (at_second q e h)))
 
     pub no_cheaper : (cost : ℕ) → IsLeastOf (λ d. Is (second, d)) (Some cost) → least ≤ cost → cost < 4294967296 → Scanned second least pairs
-    no_cheaper cost l le fits = kept (Some cost) l (λ q h e.
+    no_cheaper cost l le fits = kept (λ q h e r.
         let a = l.1 q.1 (at_second q e h) in
-        let d = s.dear cost le fits in
+        let d = s.dear cost le (limits cost fits (room_below budget node.cheapest cost q.1 a r)) in
         let b = (s.found.are d.0 d.1).1 in
         let f = d.2 in
         (d.0, d.1, (omega (arith, b, e), omega (arith, a, f))))
@@ -75,9 +79,9 @@ module _ (p : Problem) (v stage : ℕ) (node : EarlyNode) (nodes : List EarlyNod
               | inl a ↦ earlier_are q a
               | inr b ↦ elim b [ inl e ↦ subst (λ (o : Pair). Is o × (second ≤ o.0)) (sym e) (l.0, le_refl second) | inr none ↦ absurd none ]
             ];
-            cover = λ q h le. elim (split q le) [
+            cover = λ q h le r. elim (split q le) [
               | inl e ↦ (let a = l.1 q.1 (at_second q e h) in ((second, cost), here, (omega (arith, e), a)))
-              | inr more ↦ (let a = s.found.cover q h more in (a.0, in_left a.0 pairs ((second, cost) ∷ []) a.1, a.2))
+              | inr more ↦ (let a = s.found.cover q h more r in (a.0, in_left a.0 pairs ((second, cost) ∷ []) a.1, a.2))
             ];
             falling = falls_more pairs (second, cost) s.found.falling (λ o i.
                 let a = (s.found.are o i).1 in
@@ -96,12 +100,16 @@ module _ (p : Problem) (v stage : ℕ) (node : EarlyNode) (nodes : List EarlyNod
         }
 
   -- where nothing is cheaper, or no second is left, all are found
-  pub scanned_free : (from least : ℕ) (pairs : List Pair) → least ≡ 0 → Scanned from least pairs → AreFalling p v stage node nodes lists node.earliest pairs
+  pub scanned_free : (from least : ℕ) (pairs : List Pair) → least ≡ 0 → Scanned from least pairs → AreFalling p v budget stage node nodes lists node.earliest pairs
   scanned_free from least pairs free s = record {
     are = λ q i. (let a = s.found.are q i in (a.0, a.0.reached));
-    cover = λ q h le.
-        let d = s.dear 0 (omega (arith, free)) (omega arith) in
-        elim (by q h d) [ inl r ↦ r | inr r ↦ r ];
+    cover = λ q h le r.
+        let none : 0 < limit = limits 0 (omega arith) (room_below budget node.cheapest 0 q.1 (omega arith) r) in
+        let d = s.dear 0 (omega (arith, free)) none in
+        elim (later from q.0) [
+          | inl le ↦ s.found.cover q h le r
+          | inr le ↦ (let a = (s.found.are d.0 d.1).1 in let b = d.2 in (d.0, d.1, (omega (arith, a, le), omega (arith, b))))
+        ];
     falling = s.found.falling;
     in_reach = s.found.in_reach;
   }
@@ -109,25 +117,19 @@ module _ (p : Problem) (v stage : ℕ) (node : EarlyNode) (nodes : List EarlyNod
       later : (a b : ℕ) → (a ≤ b) ⊎ (b ≤ a)
       later a b = elim (cases_eq (a - b) 0) [ inl e ↦ inl (omega (arith, e)) | inr ne ↦ inr (omega (arith, ne)) ]
 
-      by : (q : Pair) → Is q → (d : (o : Pair) × InPairs o pairs × (o.1 ≤ 0)) → ((o : Pair) × InPairs o pairs × NoEarlierNoDearer o q) ⊎ ((o : Pair) × InPairs o pairs × NoEarlierNoDearer o q)
-      by q h d = elim (later from q.0) [
-        | inl le ↦ inl (s.found.cover q h le)
-        | inr le ↦ inr (let a = (s.found.are d.0 d.1).1 in let b = d.2 in (d.0, d.1, (omega (arith, a, le), omega (arith, b))))
-      ]
-
-  pub scanned_all : (from least : ℕ) (pairs : List Pair) → from ≤ node.earliest → Scanned from least pairs → AreFalling p v stage node nodes lists node.earliest pairs
+  pub scanned_all : (from least : ℕ) (pairs : List Pair) → from ≤ node.earliest → Scanned from least pairs → AreFalling p v budget stage node nodes lists node.earliest pairs
   scanned_all from least pairs le s = record {
     are = λ q i. (let a = s.found.are q i in (a.0, a.0.reached));
-    cover = λ q h l. s.found.cover q h (omega (arith, le, l));
+    cover = λ q h l r. s.found.cover q h (omega (arith, le, l)) r;
     falling = s.found.falling;
     in_reach = s.found.in_reach;
   }
 
-  -- the other way round
-  pub turned : (pairs : List Pair) → AreFalling p v stage node nodes lists node.earliest pairs → ArePairsOf p v stage node nodes lists (reverse pairs)
-  turned pairs f = record {
-    are = λ q i. (f.are q (in_reversed pairs q i)).0;
-    cover = λ q h. (let a = f.cover q h h.reached in (a.0, reversed_in pairs a.0 a.1, a.2));
-    rising = falls_rises pairs f.falling;
-    in_reach = λ q i. f.in_reach q (in_reversed pairs q i);
-  }
+-- the other way round
+pub turned : (p : Problem) (v : ℕ) (budget : Option ℕ) (stage : ℕ) (node : EarlyNode) (nodes : List EarlyNode) (lists : List (List Pair)) (pairs : List Pair) → AreFalling p v budget stage node nodes lists node.earliest pairs → ArePairsOf p v budget stage node nodes lists (reverse pairs)
+turned p v budget stage node nodes lists pairs f = record {
+  are = λ q i. (f.are q (in_reversed pairs q i)).0;
+  cover = λ q h r. (let a = f.cover q h h.reached r in (a.0, reversed_in pairs a.0 a.1, a.2));
+  rising = falls_rises pairs f.falling;
+  in_reach = λ q i. f.in_reach q (in_reversed pairs q i);
+}

@@ -1,5 +1,5 @@
 -- The pairs by which a node can still be completed, from those of the nodes that it leads to.
-use Rattle.std.specs.Prelude.{◌≡◌, ℕ, ◌+◌, ◌-◌, ◌*◌, ◌<◌, ◌≤◌, ◌⊎◌, List, [], ◌∷◌, length, slice_index_or, true, Option, Some, MatchOption}
+use Rattle.std.specs.Prelude.{◌≡◌, ℕ, ◌+◌, ◌-◌, ◌*◌, ◌<◌, ◌≤◌, ◌⊎◌, List, [], ◌∷◌, length, slice_index_or, true, Option, Some, None, MatchOption}
 use Rattle.landing_rules.specs.Rules.{last_second}
 use Rattle.landing_rules.specs.Problem.{Problem}
 use Rattle.cps_theory.specs.Labels.{InPairs, Pair}
@@ -69,21 +69,27 @@ pub record IsPairOf (p : Problem) (v stage : ℕ) (node : EarlyNode) (nodes : Li
   pub low : is_low p v q.0 ≡ true
   pub end : IsEnd p stage node nodes lists q.0 q.1
 
--- pairs of a node that fall, and each of its pairs from a second on has one of these at least as late and at most as dear
-pub record AreFalling (p : Problem) (v stage : ℕ) (node : EarlyNode) (nodes : List EarlyNode) (lists : List (List Pair)) (from : ℕ) (pairs : List Pair) : Type 0 where
+-- behind prefixes of which none costs less than this a budget has room for a cost; with no budget there is always room
+abbrev pub HasRoom : Option ℕ → ℕ → ℕ → Type 0
+HasRoom None cheapest cost = Unit {0}
+HasRoom (Some budget) cheapest cost = cheapest + cost ≤ budget
+
+-- pairs of a node that fall, and each of its pairs from a second on for which there is room has one of these at least as late and
+-- at most as dear
+pub record AreFalling (p : Problem) (v : ℕ) (budget : Option ℕ) (stage : ℕ) (node : EarlyNode) (nodes : List EarlyNode) (lists : List (List Pair)) (from : ℕ) (pairs : List Pair) : Type 0 where
   pub are : (q : Pair) → InPairs q pairs → IsPairOf p v stage node nodes lists q × (from ≤ q.0)
-  pub cover : (q : Pair) → IsPairOf p v stage node nodes lists q → from ≤ q.0 → (o : Pair) × InPairs o pairs × NoEarlierNoDearer o q
+  pub cover : (q : Pair) → IsPairOf p v stage node nodes lists q → from ≤ q.0 → HasRoom budget node.cheapest q.1 → (o : Pair) × InPairs o pairs × NoEarlierNoDearer o q
   pub falling : Falls pairs
   pub in_reach : AreInReach (length p.flights - stage) pairs
 
--- the pairs of a node: they ascend, and each pair of it has one of these at least as late and at most as dear
-pub record ArePairsOf (p : Problem) (v stage : ℕ) (node : EarlyNode) (nodes : List EarlyNode) (lists : List (List Pair)) (pairs : List Pair) : Type 0 where
+-- pairs of a node that ascend, and each pair of it for which there is room has one of these at least as late and at most as dear
+pub record ArePairsOf (p : Problem) (v : ℕ) (budget : Option ℕ) (stage : ℕ) (node : EarlyNode) (nodes : List EarlyNode) (lists : List (List Pair)) (pairs : List Pair) : Type 0 where
   pub are : (q : Pair) → InPairs q pairs → IsPairOf p v stage node nodes lists q
-  pub cover : (q : Pair) → IsPairOf p v stage node nodes lists q → (o : Pair) × InPairs o pairs × NoEarlierNoDearer o q
+  pub cover : (q : Pair) → IsPairOf p v stage node nodes lists q → HasRoom budget node.cheapest q.1 → (o : Pair) × InPairs o pairs × NoEarlierNoDearer o q
   pub rising : Rises pairs
   pub in_reach : AreInReach (length p.flights - stage) pairs
 
 -- a list of pairs for each of the nodes of a stage, from those of the nodes of the next
-pub record AreListsOf (p : Problem) (v stage : ℕ) (these nodes : List EarlyNode) (lists made : List (List Pair)) : Type 0 where
+pub record AreListsOf (p : Problem) (v : ℕ) (budget : Option ℕ) (stage : ℕ) (these nodes : List EarlyNode) (lists made : List (List Pair)) : Type 0 where
   pub one_each : length made ≡ length these
-  pub pairs : (j : ℕ) → j < length these → ArePairsOf p v stage (node_at these j) nodes lists (list_at made j)
+  pub pairs : (j : ℕ) → j < length these → ArePairsOf p v budget stage (node_at these j) nodes lists (list_at made j)

@@ -2,6 +2,7 @@
 pub mod Nodes
 pub mod Gathered
 pub mod Completing
+pub mod Uses
 pub mod Stages
 pub mod Ranges
 pub mod Choices

@@ -3,9 +3,10 @@
 ghost use Rattle.std.specs.Prelude.{◌≡◌, ◌+◌, ◌-◌, ◌<◌, ◌≤◌, IfOk, Some, length};
 ghost use Rattle.cps_network.specs.Pairs.{pair_at};
 ghost use Rattle.replan.specs.Kept.{held_of, problem_held};
-ghost use Rattle.first_best.specs.Stages.{pairs_of, stage_of, AreCompleted, HasEachList, HasList, IsAheadOf, IsBehind, ListsAllCompleting};
+ghost use Rattle.first_best.specs.Stages.{pairs_of, stage_of, AreCompleted, HasEachList, HasList, IsAheadBy, IsAheadOf, IsAheadWithin, IsBehind, ListsAllCompleting, ListsAllOfUse};
 ghost use Rattle.first_best.specs.Gathered.{IsGathered};
 
+use crate::budget::budget_of;
 use crate::complete::complete;
 use crate::gather::gather;
 use crate::laws::window_laws;
@@ -21,19 +22,22 @@ fn stage_before(
     problem: &Problem,
     kept: &AnyKept,
     value: u64,
+    budget: Option<u64>,
     stage: u8,
     next: &AheadStage,
 ) -> Result<AheadStage, AllocError>
     requires held { problem_held kept.now ≡ Some problem.now }
     requires stage { (1 ≤ stage) × (stage ≤ length problem.now.flights) }
-    requires next { IsBehind problem.now value stage next.now }
-    ensures completed { IfOk result (λ s. AreCompleted problem.now value stage s.nodes s.lists) }
+    requires next { IsBehind problem.now value budget stage next.now }
+    ensures completed { IfOk result (λ s.
+        AreCompleted problem.now value budget stage s.nodes s.lists) }
     ensures gathered { IfOk result (λ s. IsGathered (held_of kept.now) stage s.nodes s.places) }
 {
     window_laws(problem);
     let _held = kept.stages();
     let found = gather(alloc, problem, kept, stage)?;
-    let lists = complete(alloc, problem, value, stage, found.0.as_slice(), next)?;
+    let nodes = found.0.as_slice();
+    let lists = complete(alloc, problem, value, budget, stage, nodes, next)?;
     Ok(AheadStage {
         nodes: found.0,
         lists,
@@ -41,11 +45,11 @@ fn stage_before(
     })
 }
 
-/// For each node of the held stages of a problem the undominated pairs that complete it. A pair is an open second of the node's
-/// last flight, at or after the earliest at which a legal prefix of the node can land it, and a cost: with that flight at
-/// this second the other flights can follow in some legal order, and for the delay cost this together; for the makespan
-/// the cost is 0, and no second is above the value. A pair is undominated where no other is at least as late and at most as
-/// dear.
+/// For each node of the held stages of a problem pairs that complete it: the undominated ones, all or those of use. A pair is
+/// an open second of the node's last flight, at or after the earliest at which a legal prefix of the node can land it, and a
+/// cost: with that flight at this second the other flights can follow in some legal order, and for the delay cost this together;
+/// for the makespan the cost is 0, and no second is above the value. A pair is undominated where no other is at least as late
+/// and at most as dear.
 ///
 /// The completing pairs are this project's own.
 #[derive(Drop)]
@@ -63,6 +67,28 @@ impl Model for Ahead {
     ghost view = { λ a. a.stages.items };
 }
 
+// The pairs of the held stages that are wanted: those of use within a budget, and all with none.
+fn stages_ahead(
+    alloc: Global,
+    problem: &Problem,
+    kept: &AnyKept,
+    value: u64,
+    budget: Option<u64>,
+) -> Result<Ahead, AllocError>
+    requires { problem_held kept.now ≡ Some problem.now }
+    ensures { IfOk result (IsAheadBy problem.now value budget (held_of kept.now)) }
+{
+    let last = problem.len();
+    let mut stages = Vec::with_capacity(alloc, usize::from(last) + 1)?;
+    stages.push(AheadStage::empty(alloc))?;
+    for done in 0..last {
+        let next = &stages[usize::from(done)];
+        let stage = stage_before(alloc, problem, kept, value, budget, last - done, next)?;
+        stages.push(stage)?;
+    }
+    Ok(Ahead { stages })
+}
+
 impl Ahead {
     /// The completing pairs of a problem that the planner holds, at a value: an objective in seconds, or in weighted seconds.
     pub fn of(
@@ -77,18 +103,36 @@ impl Ahead {
         // Each window has a list: exactly the undominated pairs that complete its node, ascending in second and cost.
         ensures lists { IfOk result (HasEachList problem.now (held_of kept.now)) }
         ensures exact { IfOk result (ListsAllCompleting problem.now value (held_of kept.now)) }
+
+        // Those of use are among them.
+        ensures within { IfOk result (IsAheadWithin problem.now value (held_of kept.now)) }
     {
         window_laws(problem);
         let _held = kept.stages();
-        let last = problem.len();
-        let mut stages = Vec::with_capacity(alloc, usize::from(last) + 1)?;
-        stages.push(AheadStage::empty(alloc))?;
-        for done in 0..last {
-            let next = &stages[usize::from(done)];
-            let stage = stage_before(alloc, problem, kept, value, last - done, next)?;
-            stages.push(stage)?;
-        }
-        Ok(Ahead { stages })
+        stages_ahead(alloc, problem, kept, value, None)
+    }
+
+    /// The completing pairs that are of use at the value: some landed legal prefix of the node lands at or before the pair's
+    /// second, and costs, with the pair, no more than the value leaves to delays. Where the value is the least objective these
+    /// are few, and `first_schedule` asks for no others.
+    pub fn within(
+        alloc: Global,
+        problem: &Problem,
+        kept: &AnyKept,
+        value: u64,
+    ) -> Result<Ahead, AllocError>
+        requires { problem_held kept.now ≡ Some problem.now }
+        ensures made { IfOk result (IsAheadWithin problem.now value (held_of kept.now)) }
+
+        // Each window has a list: pairs that complete its node, ascending in second and cost, and for each pair of use one at
+        // least as late and at most as dear.
+        ensures lists { IfOk result (HasEachList problem.now (held_of kept.now)) }
+        ensures useful { IfOk result (ListsAllOfUse problem.now value (held_of kept.now)) }
+    {
+        window_laws(problem);
+        let _held = kept.stages();
+        let budget = budget_of(problem, value);
+        stages_ahead(alloc, problem, kept, value, Some(budget))
     }
 
     // A stage.

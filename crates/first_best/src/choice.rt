@@ -5,33 +5,24 @@ ghost use Rattle.precedence.specs.Pairs.{HasBit};
 ghost use Rattle.cps_network.specs.Pairs.{list_at};
 ghost use Rattle.landing_rules.specs.Rules.{last_second};
 ghost use Rattle.landing_rules.specs.FirstBest.{IsFirstBestList};
-ghost use Rattle.landing_joint.specs.CompletingPairs.{budget_of, IsLeastObjective};
+ghost use Rattle.landing_joint.specs.CompletingPairs.{IsLeastObjective};
 ghost use Rattle.replan.specs.Kept.{held_of, problem_held};
 ghost use Rattle.first_best.specs.Choices.{lesser_choice, FindsAffordable, FindsWay, IsLeastChoice};
 ghost use Rattle.first_best.specs.Completing.{Rises};
 ghost use Rattle.first_best.specs.Nodes.{node_at};
 ghost use Rattle.first_best.specs.Ranges.{HasRank, IsPlacedIn};
-ghost use Rattle.first_best.specs.Stages.{IsAheadOf};
+ghost use Rattle.first_best.specs.Stages.{IsAheadWithin};
 
 use crate::ahead::Ahead;
+use crate::budget::budget_of;
 use crate::laws::window_laws;
 use crate::node::{EarlyNode, leads_to};
 use crate::pairs::PairList;
 use crate::stage::AheadStage;
-use cps_problem::{Objective, Problem, Schedule};
+use cps_problem::{Problem, Schedule};
 use extract_plan::blank;
 use replan::AnyKept;
 use std::alloc::{AllocError, Global};
-
-// What the value leaves to the delays of the waiting flights.
-fn budget_of(problem: &Problem, value: u64) -> u64
-    ensures { result ≡ budget_of problem.now value }
-{
-    match problem.head().objective {
-        Objective::Makespan => 0,
-        Objective::Delay => value.saturating_sub(problem.head().base),
-    }
-}
 
 // Where the last flight of a node lands behind a prefix, if the order can then be ended within the budget.
 fn affordable(
@@ -143,14 +134,15 @@ fn with_rank(before: EarlyNode, rank: u8, second: u32) -> EarlyNode
         placed: before.placed | (1u64 << rank),
         last: rank,
         earliest: second,
+        cheapest: before.cheapest,
     }
 }
 
 /// The first best schedule of a problem that the planner holds: of the best and tight ones the one whose order of ranks is
 /// lexicographically least.
 ///
-/// `ahead` is what `Ahead::of` made of this problem at this value, and the value is the least objective of a feasible list of
-/// seconds. The least rank that still can be completed at the value comes next, each as early as it can.
+/// `ahead` is what `Ahead::within` made of this problem at this value, or `Ahead::of`, and the value is the least objective of a
+/// feasible list of seconds. The least rank that still can be completed at the value comes next, each as early as it can.
 pub fn first_schedule(
     alloc: Global,
     problem: &Problem,
@@ -159,7 +151,7 @@ pub fn first_schedule(
     value: u64,
 ) -> Result<Schedule, AllocError>
     requires held { problem_held kept.now ≡ Some problem.now }
-    requires ahead { IsAheadOf problem.now value (held_of kept.now) ahead.now }
+    requires ahead { IsAheadWithin problem.now value (held_of kept.now) ahead.now }
     requires value { IsLeastObjective problem.now value }
     ensures { IfOk result (IsFirstBestList problem.now) }
 {
@@ -170,6 +162,7 @@ pub fn first_schedule(
         placed: 0,
         last: 0,
         earliest: 0,
+        cheapest: 0,
     };
     let mut cost = 0u64;
     for done in 0..kept.stages() {

@@ -9,6 +9,7 @@ ghost use Rattle.first_best.specs.Nodes.{node_at};
 ghost use Rattle.first_best.specs.Completing.{AreFalling, AreListsOf, ArePairsOf, AreWaysOf, IsLeastOf, IsPairOf};
 ghost use Rattle.first_best.specs.Ranges.{HasRank, IsNextIn};
 
+use crate::budget::limit_of;
 use crate::node::EarlyNode;
 use crate::pairs::PairList;
 use crate::stage::AheadStage;
@@ -77,6 +78,25 @@ fn cost_of(
     }
 }
 
+// A second behind which none is open for a rank.
+fn last_open(problem: &Problem, rank: u8) -> u32
+    requires { (1 ≤ rank) × (rank ≤ length problem.now.flights) }
+    ensures last { (t : ℕ) → (ranked problem.now).is_open rank t ≡ true → t ≤ result }
+    ensures in_days { result ≤ last_second }
+{
+    opens_in_days(problem, rank);
+    let mut low = 0;
+    let mut high = 172799;
+    while low < high {
+        let middle = low + (high - low) / 2;
+        match problem.first_open(rank, middle + 1) {
+            None => high = middle,
+            Some(_) => low = middle + 1,
+        }
+    }
+    high
+}
+
 // A second behind which no pair of a node is.
 fn latest(problem: &Problem, stage: u8, node: EarlyNode, next: &AheadStage, ways: &[usize]) -> u32
     requires stage { (1 ≤ stage) × (stage ≤ length problem.now.flights) }
@@ -88,22 +108,23 @@ fn latest(problem: &Problem, stage: u8, node: EarlyNode, next: &AheadStage, ways
         → q.0 ≤ result }
     ensures in_days { result ≤ last_second }
 {
-    opens_in_days(problem, node.last);
+    let last = last_open(problem, node.last);
     if stage == problem.len() {
-        return 172799;
+        return last;
     }
     let mut latest = 0;
     for way in ways {
         latest = next.list(*way).latest().max(latest);
     }
-    latest.min(172799)
+    latest.min(last)
 }
 
-// The pairs of a node, the latest first.
+// The pairs of a node for which the budget has room, the latest first.
 fn latest_pairs(
     alloc: Global,
     problem: &Problem,
     value: u64,
+    budget: Option<u64>,
     stage: u8,
     node: EarlyNode,
     next: &AheadStage,
@@ -114,12 +135,12 @@ fn latest_pairs(
     requires next { IsNextIn problem.now stage next.now }
     requires ways { AreWaysOf node next.now.nodes ways.now }
     ensures { IfOk result (λ pairs.
-        AreFalling problem.now value stage node next.now.nodes next.now.lists node.earliest
-        pairs.items) }
+        AreFalling problem.now value budget stage node next.now.nodes next.now.lists
+        node.earliest pairs.items) }
 {
     let _few = problem.len();
     let end = latest(problem, stage, node, next, ways) + 1;
-    let mut least = 1u64 << 32;
+    let mut least = limit_of(budget, node.cheapest);
     let mut pairs = Vec::new(alloc);
     for i in 0..end.saturating_sub(node.earliest) {
         let second = end - 1 - i;
@@ -139,11 +160,12 @@ fn latest_pairs(
     Ok(pairs)
 }
 
-// The pairs of a node, ascending.
+// The pairs of a node for which the budget has room, ascending.
 fn pairs_of(
     alloc: Global,
     problem: &Problem,
     value: u64,
+    budget: Option<u64>,
     stage: u8,
     node: EarlyNode,
     next: &AheadStage,
@@ -152,20 +174,23 @@ fn pairs_of(
     requires node { HasRank problem.now node }
     requires next { IsNextIn problem.now stage next.now }
     ensures { IfOk result (λ pairs.
-        ArePairsOf problem.now value stage node next.now.nodes next.now.lists pairs) }
+        ArePairsOf problem.now value budget stage node next.now.nodes next.now.lists pairs) }
 {
     let _few = problem.len();
     let ways = ways_of(alloc, node, next)?;
-    let mut pairs = latest_pairs(alloc, problem, value, stage, node, next, ways.as_slice())?;
+    let ways = ways.as_slice();
+    let mut pairs = latest_pairs(alloc, problem, value, budget, stage, node, next, ways)?;
     pairs.reverse();
     Ok(PairList::of(pairs))
 }
 
-/// The pairs of the nodes of a stage, from those of the next; behind the last stage stands one without a node.
+/// The pairs of the nodes of a stage for which the budget has room, from those of the next; behind the last stage stands one
+/// without a node. With no budget it is all pairs.
 pub(crate) fn complete(
     alloc: Global,
     problem: &Problem,
     value: u64,
+    budget: Option<u64>,
     stage: u8,
     nodes: &[EarlyNode],
     next: &AheadStage,
@@ -173,12 +198,12 @@ pub(crate) fn complete(
     requires stage { (1 ≤ stage) × (stage ≤ length problem.now.flights) }
     requires nodes { (j : ℕ) → j < length nodes.now → HasRank problem.now (node_at nodes.now j) }
     requires next { IsNextIn problem.now stage next.now }
-    ensures { IfOk result (λ lists.
-        AreListsOf problem.now value stage nodes.now next.now.nodes next.now.lists lists.items) }
+    ensures { IfOk result (λ lists. AreListsOf problem.now value budget stage nodes.now
+        next.now.nodes next.now.lists lists.items) }
 {
     let mut lists = Vec::with_capacity(alloc, nodes.len())?;
     for node in nodes {
-        lists.push(pairs_of(alloc, problem, value, stage, *node, next)?)?;
+        lists.push(pairs_of(alloc, problem, value, budget, stage, *node, next)?)?;
     }
     Ok(lists)
 }

@@ -25,9 +25,10 @@ fn place_of(nodes: &[EarlyNode], node: Node) -> usize
     nodes.len()
 }
 
-// Puts a node that can be landed at a second to the others, and answers its place.
-fn add(nodes: &mut Vec<EarlyNode>, node: Node, second: u32) -> Result<usize, AllocError>
-    ensures { IfOk result (λ place. IsAdded nodes.old.items nodes.new.items node second place) }
+// Puts a node that can be landed at a second, and at a cost, to the others, and answers its place.
+fn add(nodes: &mut Vec<EarlyNode>, node: Node, second: u32, cost: u32) -> Result<usize, AllocError>
+    ensures { IfOk result (λ place.
+        IsAdded nodes.old.items nodes.new.items node second cost place) }
 {
     let place = place_of(nodes.as_slice(), node);
     if place == nodes.len() {
@@ -35,13 +36,16 @@ fn add(nodes: &mut Vec<EarlyNode>, node: Node, second: u32) -> Result<usize, All
             placed: node.placed,
             last: node.last,
             earliest: second,
+            cheapest: cost,
         })?;
     } else {
         let earliest = nodes[place].earliest.min(second);
+        let cheapest = nodes[place].cheapest.min(cost);
         nodes[place] = EarlyNode {
             placed: node.placed,
             last: node.last,
             earliest,
+            cheapest,
         };
     }
     Ok(place)
@@ -64,7 +68,8 @@ pub(crate) fn gather(
     let mut places = Vec::with_capacity(alloc, kept.size(stage))?;
     for i in 0..kept.size(stage) {
         let second = kept.label(stage, i, 0).0;
-        let place = add(&mut nodes, kept.node(stage, i), second)?;
+        let cost = kept.label(stage, i, kept.label_count(stage, i) - 1).1;
+        let place = add(&mut nodes, kept.node(stage, i), second, cost)?;
         places.push(place)?;
     }
     Ok((nodes, places))

@@ -3,7 +3,7 @@
 ghost use Rattle.std.specs.Prelude.{◌≤◌, ◌↔◌, IsTrue};
 ghost use Rattle.first_best.specs.Nodes.{LeadsTo};
 
-/// The ranks that a prefix has placed, the last of them, and how early it can be landed.
+/// The ranks that a prefix has placed, the last of them, how early it can be landed, and how cheaply.
 #[derive(Clone, Copy)]
 pub(crate) struct EarlyNode {
     /// Bit r is set exactly where rank r is placed.
@@ -11,6 +11,8 @@ pub(crate) struct EarlyNode {
     pub(crate) last: u8,
     /// The least second at which a legal prefix of this node lands its last flight.
     pub(crate) earliest: u32,
+    /// No landed legal prefix of this node costs less.
+    pub(crate) cheapest: u32,
 }
 
 // Whether a node places one rank more than another, its last one.

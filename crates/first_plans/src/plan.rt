@@ -31,7 +31,7 @@ pub fn first_plan(alloc: Global, sequencer: &Sequencer<AnyKept>) -> Result<Optio
         None => Ok(None),
         Some(shown) => {
             let value = shown.value();
-            let ahead = Ahead::of(alloc, problem, planner, value)?;
+            let ahead = Ahead::within(alloc, problem, planner, value)?;
             let schedule = first_schedule(alloc, problem, planner, &ahead, value)?;
             let plan = sequencer.plan_of(alloc, &schedule)?;
             Ok(Some(plan))

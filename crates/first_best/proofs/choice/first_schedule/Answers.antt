@@ -57,7 +57,7 @@ loop-done-preserved c =
     let price = c.from-cost.result in
     let made = one_landing p c.window_laws.ensures.well_formed v (held_of c.args.kept.now) stages c.requires.ahead c.requires.value done c.loop-done.before c.loop-done.cost c.loop-done.schedule c.loop-done.invariant
     least.0 least.1 chosen.0 chosen.1 days after.result after.ensures.placed after.ensures.last after.ensures.earliest price (c.from-cost.ensures ∙ c.cost.ensures.value) (omega (arith, days, c.from-cost.ensures, c.cost.ensures.small)) in
-    subst (λ (s : Schedule). IsOrder p v stages (done + 1) after.result (c.loop-done.cost + price) s) (sym c.set.ensures) made
+    subst (λ (s : Schedule). IsOrder p v (done + 1) after.result (c.loop-done.cost + price) s) (sym c.set.ensures) made
 
 pub returns : goal.returns
 returns c =

@@ -22,5 +22,5 @@ returns-clause-last c = λ v q h.
     let p = c.args.problem.now in
     let late = pairs_late p v c.args.stage c.args.node c.args.next.now.nodes c.args.next.now.lists c.args.ways.now c.loop-way.latest c.requires.node.0 (omega (arith, c.if-stage-len.false, c.len.ensures.value, c.requires.stage.1)) c.requires.ways
     (λ i lt. c.loop-way.invariant i (omega (arith, lt, c.loop-way-test.false))) q h in
-    let days = c.opens_in_days.ensures q.0 h.opened in
+    let days = c.last_open-last.ensures.last q.0 h.opened in
     omega (arith, late, days, c.min.ensures)

@@ -1,6 +1,7 @@
-use Rattle.std.proofs.Common.{◌-◌}
+use Rattle.std.proofs.Common.{ℕ, ◌-◌, ◌<◌}
+use Rattle.first_best.specs.Completing.{HasRoom}
 use Rattle.first_best.proofs.ScanLemmas.{Scanned}
 use Rattle.first_best.proofs.complete.latest_pairs.Given as goal
 
 abbrev pub invariant-loop-i : goal.invariant-loop-i
-invariant-loop-i l = Scanned l.problem l.value l.stage l.node l.next.nodes l.next.lists (l.end - l.i) l.least l.pairs.items
+invariant-loop-i l = (limit : ℕ) × (limits : (cost : ℕ) → cost < 4294967296 → HasRoom l.fn.budget l.node.cheapest cost → cost < limit) × Scanned l.problem l.value l.fn.budget l.stage l.node l.next.nodes l.next.lists limit limits (l.end - l.i) l.least l.pairs.items

@@ -1,6 +1,0 @@
-use Rattle.replan.specs.Kept.{held_of}
-use Rattle.first_best.proofs.AheadLemmas.{IsAheadFrom}
-use Rattle.first_best.proofs.ahead.Ahead.of.Given as goal
-
-abbrev pub invariant-loop-done : goal.invariant-loop-done
-invariant-loop-done l = IsAheadFrom l.problem l.value (held_of l.kept) l.done l.stages.items
