@@ -1,6 +1,7 @@
 -- The definitions of this crate.
 pub mod Lists
 pub mod Firsts
+pub mod Groups
 pub mod Permits
 pub mod Begins
 pub mod Compacted

@@ -1,5 +1,6 @@
 -- The definitions of this crate.
 pub mod Labels
 pub mod Columns
+pub mod Groups
 pub mod LabelPairs
 pub mod shared

@@ -2,14 +2,17 @@
 
 ghost use Rattle.std.specs.Prelude.{◌≡◌, ◌+◌, ◌*◌, ◌<◌, ◌≤◌, length};
 ghost use Rattle.cps_base.specs.Tally.{raised_by};
+ghost use Rattle.cps_nodes.specs.Leads.{Extends};
 ghost use Rattle.cps_network.specs.Landable.{HasEachLandable};
 ghost use Rattle.cps_network.specs.Lists.{node_at};
 ghost use Rattle.cps_network.specs.Permits.{IsNextOf};
 ghost use Rattle.cps_network.specs.WindowLaws.{WindowLaws};
-ghost use Rattle.makespan_labels.specs.Columns.{IsEntry, IsLeastOf};
+ghost use Rattle.makespan_labels.specs.Columns.{IsEntry};
+ghost use Rattle.makespan_labels.specs.Groups.{IsLabelled};
 ghost use Rattle.makespan_labels.specs.Labels.{IsLabel, AreLabels, HoldsLabels};
 
 use crate::column::{Column, NO_LABEL};
+use crate::group::{Group, group_for, run_of};
 use cps_base::{Ledger, Steps};
 use cps_network::{Stage, last_rank, prefix_laws};
 use cps_nodes::window_laws;
@@ -17,26 +20,14 @@ use cps_outside::Gate;
 use cps_problem::Problem;
 use std::thread::Threads;
 
-// The least label at the places of a range that is not empty.
-fn least_of(labels: &Column, from: usize, to: usize) -> u32
-    requires range { (from < to) × (to ≤ length labels.now) }
-    ensures least { IsLeastOf labels.now from to result }
-    ensures range { IsEntry result }
-{
-    let mut least = labels.label(from);
-    for i in from + 1..to {
-        least = least.min(labels.label(i));
-    }
-    least
-}
-
-// The label of the window at place i of a stage, from the labels of those that lead to it: one landing behind the least.
+// The label of the window at place i of a stage, from the labels of the group that leads to it: one landing behind the least.
 fn label_of<const W: usize>(
     problem: &Problem,
     before: &Stage<W>,
     labels: &Column,
     stage: &Stage<W>,
     i: usize,
+    group: &Group,
 ) -> u32
     requires width { W ≡ 2 * problem.now.k + 1 }
     requires laws { WindowLaws problem.now W }
@@ -44,14 +35,15 @@ fn label_of<const W: usize>(
     requires number { stage.now.0 ≡ before.now.0 + 1 }
     requires next { IsNextOf problem.now before.now.0 before.now.1 stage.now.1 }
     requires within { i < length stage.now.1 }
+    requires group { IsLabelled W before.now labels.now group.now.from group.now.least
+        group.now.leader }
+    requires leads { Extends (node_at before.now.1 group.now.from) (node_at stage.now.1 i) }
     ensures label { IsLabel problem.now stage.now.0 (node_at stage.now.1 i) result }
     ensures range { IsEntry result }
 {
     let _few = problem.len();
-    let (from, to) = stage.sources(before, i);
-    let leader = last_rank(&before.node(from), before.number());
     let rank = last_rank(&stage.node(i), stage.number());
-    match problem.landing_after(leader, least_of(labels, from, to), rank) {
+    match problem.landing_after(group.leader, group.least, rank) {
         None => NO_LABEL,
         Some(second) => second,
     }
@@ -78,10 +70,15 @@ pub fn fill_alone<const W: usize>(
     ensures landable { HasEachLandable problem.now stage.now }
 {
     let _near = problem.head();
+    let _few = before.len();
     prefix_laws::<W>(problem);
     window_laws::<W>();
+    let mut groups = [Group::none(); 8];
     for i in 0..stage.len() {
-        into.set(i, label_of(problem, before, labels, stage, i));
+        let run = run_of(&stage.node(i));
+        let group = group_for(problem, before, labels, stage, i, &groups[run]);
+        groups[run] = group;
+        into.set(i, label_of(problem, before, labels, stage, i, &group));
     }
 }
 

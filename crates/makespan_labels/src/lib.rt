@@ -6,6 +6,7 @@
 #![tactic(auto)]
 
 mod column;
+mod group;
 mod label;
 mod source;
 

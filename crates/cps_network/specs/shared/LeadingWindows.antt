@@ -9,6 +9,7 @@ use Rattle.cps_nodes.specs.Windows.{IsWindow, offset_at, shifted}
 use Rattle.cps_nodes.specs.Leads.{Extends, TailMeetsHead}
 use Rattle.cps_nodes.specs.Laws.{offset_after}
 use Rattle.landing_rules.specs.Problem.{Problem}
+use Rattle.cps_network.specs.Groups.{IsGroup}
 use Rattle.cps_network.specs.Landable.{IsLandable, HoldsLandable}
 use Rattle.cps_network.specs.Lists.{node_at}
 use Rattle.cps_network.specs.Nodes.{latest}
@@ -131,6 +132,38 @@ module _ (p : Problem) (w stage : ℕ) (before : List (List ℤ)) (v : List ℤ)
       (meets_at j lo hi ∙ sym (meets_at from (omega arith) s)) in
       omega (arith, ints, a, e, is)
 
+  -- they are those that share a tail
+  pub sources_group : IsGroup before from to
+  sources_group = record { some = some_range; within = within; exact = λ j lt. (λ e. shares j lt e, λ r. meets_at j r.0 r.1 ∙ sym (meets_at from (omega arith) some_range)) }
+    where
+      shares : (j : ℕ) → j < length before → drop 1 (node_at before j) ≡ drop 1 (node_at before from) → (from ≤ j) × (j < to)
+      shares j lt e =
+          (exact j lt).0 ((laws.leads.meets (node_at before j) v (landable_valid p w odd laws stage (node_at before j) (landable_at j lt)) node_valid).1 (e ∙ meets_at from (omega arith) some_range))
+
+-- windows that share a tail are all that lead to a window to which the first of them leads
+module _ (p : Problem) (w stage : ℕ) (before : List (List ℤ)) (v : List ℤ) (from to : ℕ) (odd : w ≡ 2 * p.k + 1) (laws : WindowLaws p w) (holds : HoldsLandable p (stage, before)) (node : (x : List ℤ) × Contains before x × IsSuccessor p stage x v) (group : IsGroup before from to) where
+  valid_at : (j : ℕ) → j < length before → IsWindow w (node_at before j)
+  valid_at j lt = landable_valid p w odd laws stage (node_at before j) ((holds (node_at before j)).0 (Contains-get_or before j [] lt))
+
+  next_valid : IsWindow w v
+  next_valid = subst (IsWindow w) (sym node.2.2) (valid_after p w odd laws node.0 stage node.2.0 (landable_valid p w odd laws stage node.0 ((holds node.0).0 node.1)) node.2.1)
+
+  meets : (j : ℕ) → j < length before → Extends (node_at before j) v ↔ TailMeetsHead (node_at before j) v
+  meets j lt = laws.leads.meets (node_at before j) v (valid_at j lt) next_valid
+
+  pub group_sources : Extends (node_at before from) v → Sources p w stage before v from to
+  group_sources leads =
+      let first : from < length before = omega (arith, group.some, group.within) in
+      let head : TailMeetsHead (node_at before from) v = (meets from first).0 leads in
+      record {
+        odd = odd;
+        laws = laws;
+        holds = holds;
+        node = node;
+        within = group.within;
+        exact = λ j lt. (λ e. (group.exact j lt).0 ((meets j lt).0 e ∙ sym head), λ r. (meets j lt).1 ((group.exact j lt).1 r ∙ head));
+      }
+
 -- ---- as the calls have it
 
 pub sources_from : (p : Problem) (w : ℕ) (before after : ℕ × List (List ℤ)) (i from to : ℕ) → w ≡ 2 * p.k + 1 → WindowLaws p w → HoldsLandable p before
@@ -138,6 +171,12 @@ pub sources_from : (p : Problem) (w : ℕ) (before after : ℕ × List (List ℤ
     → ((j : ℕ) → j < length before.1 → Extends (node_at before.1 j) (node_at after.1 i) ↔ ((from ≤ j) × (j < to))) → Sources p w before.0 before.1 (node_at after.1 i) from to
 sources_from p w before after i from to odd laws holds next lt within exact =
     record { odd = odd; laws = laws; holds = holds; node = (next (node_at after.1 i)).0 (Contains-get_or after.1 i [] lt); within = within; exact = exact }
+
+pub group_sources_from : (p : Problem) (w : ℕ) (before after : ℕ × List (List ℤ)) (i from to : ℕ) → w ≡ 2 * p.k + 1 → WindowLaws p w → HoldsLandable p before
+    → IsNextOf p before.0 before.1 after.1 → i < length after.1 → IsGroup before.1 from to → Extends (node_at before.1 from) (node_at after.1 i)
+    → Sources p w before.0 before.1 (node_at after.1 i) from to
+group_sources_from p w before after i from to odd laws holds next lt group leads =
+    group_sources p w before.0 before.1 (node_at after.1 i) from to odd laws holds ((next (node_at after.1 i)).0 (Contains-get_or after.1 i [] lt)) group leads
 
 -- the last rank of a window that is written otherwise
 pub same_rank : (x y : List ℤ) (n m l j : ℕ) → x ≡ y → n ≡ m → pos l ≡ pos n +ℤ offset_at x j → pos l ≡ pos m +ℤ offset_at y j

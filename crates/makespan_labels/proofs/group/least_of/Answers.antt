@@ -2,7 +2,7 @@ use Rattle.std.proofs.Common.{◌≡◌, ◌+◌, min, arith, ap, sym, subst, �
 use Rattle.std.specs.Prelude.{slice_index}
 use Rattle.makespan_labels.specs.Columns.{IsEntry, IsLeastOf}
 use Rattle.makespan_labels.proofs.ColumnLemmas.{least_more, entry_least}
-use Rattle.makespan_labels.proofs.label.least_of.Goals as goal
+use Rattle.makespan_labels.proofs.group.least_of.Goals as goal
 
 pub loop-i-preserved : goal.loop-i-preserved
 loop-i-preserved c =
