@@ -45,7 +45,7 @@ fn read_trial(words: &[String]) -> Option<Command>
         return None;
     };
     let seed = number(seed.as_str(), 0, 4_294_967_295)?;
-    let n = number(n.as_str(), 1, u32::from(MOST_WAITING))? as u8;
+    let n = number(n.as_str(), 1, u64::from(MOST_WAITING))? as u8;
     let k = number(k.as_str(), 0, 3)? as u8;
     Some(Command::Trial { seed, n, k })
 }
