@@ -1,18 +1,68 @@
--- The lines of the first landings, and one more.
-use Rattle.std.proofs.Common.{◌≡◌, ℕ, zero, suc, ◌+◌, List, [], ◌∷◌, ◌++◌, Some, None, take, sym, ap, ◌∙◌, append_assoc, add-one}
-use Rattle.std.specs.Prelude.{map, slice_get}
-use Rattle.std.proofs.lemmas.Option.{same_Some}
-use Rattle.std.proofs.lemmas.List.{append-nil}
+-- The lines of the first landings, and of those behind them.
+use Rattle.std.proofs.Common.{◌≡◌, ℕ, zero, suc, ◌+◌, ◌<◌, ◌≤◌, List, [], ◌∷◌, ◌++◌, Some, None, length, get_or, take, drop, refl, sym, ap, ◌∙◌, append_assoc, arith, add-one}
+use Rattle.std.specs.Prelude.{map, slice_get, option_map, OnOk, Result, Ok, Err}
+use Rattle.std.proofs.lemmas.Option.{same_Some, slice_get-map, slice_get_read}
 use Rattle.landing_rules.specs.Text.{ShownLanding, line, lines_text, landing_words}
+use Rattle.sequencer.specs.Shown.{shown_of}
+use Rattle.sequencer.specs.declared.plan.Landing.{Landing}
 
 abbrev pub landing_lines : List ShownLanding → List ℕ
 landing_lines ls = lines_text (map landing_words ls)
 
-more : (ls : List ShownLanding) (i : ℕ) (l : ShownLanding) → slice_get ls i ≡ Some l → landing_lines (take (suc i) ls) ≡ landing_lines (take i ls) ++ line (landing_words l)
-more [] i l e = let none : None ≡ Some l = e in absurd (cc none)
-more (x ∷ xs) zero l e = let same : x ≡ l = same_Some x l e in append-nil (line (landing_words x)) ∙ ap (λ (y : ShownLanding). line (landing_words y)) same
-more (x ∷ xs) (suc i) l e = ap (λ (t : List ℕ). line (landing_words x) ++ t) (more xs i l e) ∙ sym (append_assoc (line (landing_words x)) (landing_lines (take i xs)) (line (landing_words l)))
+rest_is : (ls : List ShownLanding) (i : ℕ) (l : ShownLanding) → slice_get ls i ≡ Some l → drop i ls ≡ l ∷ drop (suc i) ls
+rest_is [] i l e = let none : None ≡ Some l = e in absurd (cc none)
+rest_is (x ∷ xs) zero l e = let same : x ≡ l = same_Some x l e in ap (λ (y : ShownLanding). y ∷ xs) same
+rest_is (x ∷ xs) (suc i) l e = rest_is xs i l e
 
-pub landings_more : (ls : List ShownLanding) (i : ℕ) (l : ShownLanding) (into head : List ℕ) → slice_get ls i ≡ Some l →
-    (into ++ head ++ landing_lines (take i ls)) ++ line (landing_words l) ≡ into ++ head ++ landing_lines (take (i + 1) ls)
-landings_more ls i l into head e = rw (add-one, more ls i l e) (append_assoc (into ++ head) (landing_lines (take i ls)) (line (landing_words l)))
+-- one line more of those that are left
+pub lines_left : (ls : List ShownLanding) (i : ℕ) (l : ShownLanding) (text : List ℕ) → slice_get ls i ≡ Some l →
+    (text ++ line (landing_words l)) ++ landing_lines (drop (i + 1) ls) ≡ text ++ landing_lines (drop i ls)
+lines_left ls i l text e =
+    rw (add-one) (append_assoc text (line (landing_words l)) (landing_lines (drop (suc i) ls)) ∙ ap (λ (r : List ShownLanding). text ++ landing_lines r) (sym (rest_is ls i l e)))
+
+pub none_left : (ls : List ShownLanding) (i : ℕ) → length ls ≤ i → drop i ls ≡ []
+none_left [] zero h = refl
+none_left [] (suc i) h = refl
+none_left (x ∷ xs) zero h = absurd (omega arith)
+none_left (x ∷ xs) (suc i) h = none_left xs i (omega arith)
+
+-- the lines of the first landings, and then those of the others
+pub lines_split : (ls : List ShownLanding) (i : ℕ) → landing_lines (take i ls) ++ landing_lines (drop i ls) ≡ landing_lines ls
+lines_split ls zero = refl
+lines_split [] (suc i) = refl
+lines_split (x ∷ xs) (suc i) =
+    append_assoc (line (landing_words x)) (landing_lines (take i xs)) (landing_lines (drop i xs)) ∙ ap (λ (t : List ℕ). line (landing_words x) ++ t) (lines_split xs i)
+
+take_more : (ls : List ShownLanding) (i : ℕ) (l : ShownLanding) → slice_get ls i ≡ Some l → take (suc i) ls ≡ take i ls ++ l ∷ []
+take_more [] i l e = let none : None ≡ Some l = e in absurd (cc none)
+take_more (x ∷ xs) zero l e = let same : x ≡ l = same_Some x l e in ap (λ (y : ShownLanding). y ∷ []) same
+take_more (x ∷ xs) (suc i) l e = ap (λ (r : List ShownLanding). x ∷ r) (take_more xs i l e)
+
+-- one landing more
+pub first_more : (all first : List ShownLanding) (i : ℕ) (l : ShownLanding) → first ≡ take i all → slice_get all i ≡ Some l → first ++ l ∷ [] ≡ take (i + 1) all
+first_more all first i l e at = ap (λ (r : List ShownLanding). r ++ l ∷ []) e ∙ sym (rw (add-one) (take_more all i l at))
+
+-- of two lists
+pub both_more : (xs ys : List ShownLanding) (i : ℕ) (l : ShownLanding) → take i xs ≡ take i ys → slice_get xs i ≡ Some l → slice_get ys i ≡ Some l → take (i + 1) xs ≡ take (i + 1) ys
+both_more xs ys i l e x y = sym (first_more xs (take i ys) i l (sym e) x) ∙ first_more ys (take i ys) i l refl y
+
+take_again : (ls : List ShownLanding) (i : ℕ) → take (length (take i ls)) ls ≡ take i ls
+take_again ls zero = refl
+take_again [] (suc i) = refl
+take_again (x ∷ xs) (suc i) = ap (λ (r : List ShownLanding). x ∷ r) (take_again xs i)
+
+pub first_of_all : (all first : List ShownLanding) (i : ℕ) → first ≡ take i all → first ≡ take (length first) all
+first_of_all all first i e = e ∙ sym (take_again all i) ∙ ap (λ (r : List ShownLanding). take (length r) all) (sym e)
+
+-- a landing at its place
+pub shown_at : (items : List Landing) (i : ℕ) (l : Landing) → i < length items → l ≡ get_or items i l → slice_get (map shown_of items) i ≡ Some (shown_of l)
+shown_at items i l lt e = slice_get-map shown_of items i ∙ ap (option_map shown_of) (slice_get_read items (length items) i l refl lt e)
+
+pub ok_then : {T E : Type 0} {P Q : Type 0} (r : Result T E) → (P → Q) → OnOk r P → OnOk r Q
+ok_then (Ok v) f p = f p
+ok_then (Err e) f p = p
+
+-- head, lines kept and lines left
+pub whole_text : (all : List ShownLanding) (n : ℕ) (old head : List ℕ) → ((old ++ head) ++ landing_lines (take n all)) ++ landing_lines (drop n all) ≡ old ++ (head ++ landing_lines all)
+whole_text all n old head =
+    append_assoc (old ++ head) (landing_lines (take n all)) (landing_lines (drop n all)) ∙ ap (λ (t : List ℕ). (old ++ head) ++ t) (lines_split all n) ∙ append_assoc old head (landing_lines all)

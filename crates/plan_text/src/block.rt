@@ -1,6 +1,6 @@
-ghost use Rattle.std.specs.Prelude.{◌≡◌, ◌++◌, OnOk, option_map, Some};
+ghost use Rattle.std.specs.Prelude.{◌≡◌, ◌++◌, OnOk, option_map, Some, map, drop};
 ghost use Rattle.appending.specs.Appends.{Appends};
-ghost use Rattle.landing_rules.specs.Text.{line, block_text, head_words, landing_words, objective_word, frozen_word};
+ghost use Rattle.landing_rules.specs.Text.{line, lines_text, block_text, head_words, landing_words, objective_word, frozen_word};
 ghost use Rattle.sequencer.specs.Shown.{shown_of};
 
 use cps_problem::Objective;
@@ -37,7 +37,7 @@ pub(crate) fn append_head(
     Ok(())
 }
 
-fn append_landing(landing: &Landing, into: &mut Vec<u8>) -> Result<(), AllocError>
+pub(crate) fn append_landing(landing: &Landing, into: &mut Vec<u8>) -> Result<(), AllocError>
     ensures { OnOk result (into.new.items ≡ into.old.items ++ line (landing_words
         (shown_of landing.now))) }
 {
@@ -51,16 +51,33 @@ fn append_landing(landing: &Landing, into: &mut Vec<u8>) -> Result<(), AllocErro
     Ok(())
 }
 
+// The lines of the landings from this place on, counted from 0.
+pub(crate) fn append_landings(
+    plan: &Plan,
+    first: usize,
+    into: &mut Vec<u8>,
+) -> Result<(), AllocError>
+    ensures { OnOk result (into.new.items ≡ into.old.items ++ lines_text (map landing_words
+        (drop first plan.now.landings))) }
+{
+    for i in first..plan.len() {
+        let landing = plan.line(i);
+        append_landing(&landing, into)?;
+    }
+    Ok(())
+}
+
 fn append_plan(objective: Objective, plan: &Plan, into: &mut Vec<u8>) -> Result<(), AllocError>
     ensures { OnOk result (into.new.items ≡ into.old.items ++ block_text objective (Some
         plan.now)) }
 {
     append_head(objective, plan.value(), into)?;
-    for i in 0..plan.len() {
-        let landing = plan.line(i);
-        append_landing(&landing, into)?;
-    }
-    Ok(())
+    append_landings(plan, 0, into)
+}
+
+// Room for its lines, of which each has at most 29 bytes.
+pub(crate) fn room(plan: &Plan) -> usize {
+    plan.len().saturating_add(1).saturating_mul(32)
 }
 
 /// Appends a plan: a line with its objective and a line for each landing, in landing order; or the line `infeasible`
@@ -76,9 +93,7 @@ pub fn plan_block(
     let Some(plan) = plan else {
         return into.extend_from_slice(b"infeasible\n");
     };
-    // A line has at most 29 bytes.
-    let room = plan.len().saturating_add(1).saturating_mul(32);
-    let mut text = Vec::with_capacity(*into.allocator(), room)?;
+    let mut text = Vec::with_capacity(*into.allocator(), room(plan))?;
     append_plan(objective, plan, &mut text)?;
     into.extend_from_slice(text.as_slice())
 }

@@ -2,10 +2,12 @@
 #![tactic(auto)]
 
 mod block;
+mod frozen_lines;
 mod refusal;
 mod trial;
 
 pub use block::plan_block;
+pub use frozen_lines::FrozenLines;
 pub use refusal::refusal_line;
 pub use trial::trial_summary;
 

@@ -9,6 +9,7 @@ use cps_base::{Ledger, Steps};
 use cps_outside::{Gate, Sink};
 use cps_problem::Planner;
 use event_log::Event;
+use plan_text::FrozenLines;
 use sequencer::Sequencer;
 use situations::Refusal;
 use std::alloc::Global;
@@ -31,6 +32,7 @@ fn step<P: Planner, R: Threads + Sync, S: Sink, G: Gate + Sync, L: Ledger>(
     sequencer: &mut Sequencer<P>,
     number: u32,
     event: &Event,
+    lines: &mut FrozenLines,
     out: &mut S,
     gate: &G,
     steps: &mut Steps<L>,
@@ -41,7 +43,7 @@ fn step<P: Planner, R: Threads + Sync, S: Sink, G: Gate + Sync, L: Ledger>(
 {
     match sequencer.apply(rt, alloc, event, gate, steps) {
         Ok(()) => {
-            let text = accepted(alloc, &*sequencer, number)?;
+            let text = accepted(alloc, &*sequencer, number, lines)?;
             put(out, text.as_slice())
         }
         Err(Refusal::Memory) => Err(Stop::NoMemory),
@@ -58,6 +60,7 @@ fn replay_events<P: Planner, R: Threads + Sync, S: Sink, G: Gate + Sync, L: Ledg
     alloc: Global,
     sequencer: &mut Sequencer<P>,
     events: &[Event],
+    lines: &mut FrozenLines,
     out: &mut S,
     gate: &G,
     steps: &mut Steps<L>,
@@ -69,7 +72,9 @@ fn replay_events<P: Planner, R: Threads + Sync, S: Sink, G: Gate + Sync, L: Ledg
 {
     for i in 0..events.len() {
         let number = i as u32 + 1;
-        step(rt, alloc, sequencer, number, &events[i], out, gate, steps)?;
+        step(
+            rt, alloc, sequencer, number, &events[i], lines, out, gate, steps,
+        )?;
     }
     Ok(())
 }
@@ -78,11 +83,12 @@ fn replay_events<P: Planner, R: Threads + Sync, S: Sink, G: Gate + Sync, L: Ledg
 fn open<P: Planner, S: Sink>(
     alloc: Global,
     sequencer: &Sequencer<P>,
+    lines: &mut FrozenLines,
     out: &mut S,
 ) -> Result<(), Stop>
     ensures { Opens sequencer.now.state (S.state out.old) (S.state out.new) result }
 {
-    let text = begun(alloc, sequencer)?;
+    let text = begun(alloc, sequencer, lines)?;
     put(out, text.as_slice())
 }
 
@@ -106,7 +112,10 @@ pub fn replay<P: Planner, R: Threads + Sync, S: Sink, G: Gate + Sync, L: Ledger>
     ensures outcome { ReplayEnds sequencer.old.state sequencer.new.state
         (map event_of events.now) (S.state out.old) (S.state out.new) result }
 {
-    open(alloc, &*sequencer, out)?;
-    replay_events(rt, alloc, sequencer, events, out, gate, steps)?;
+    let mut lines = FrozenLines::new(alloc);
+    open(alloc, &*sequencer, &mut lines, out)?;
+    replay_events(
+        rt, alloc, sequencer, events, &mut lines, out, gate, steps,
+    )?;
     Ok(sequencer.plan().is_some())
 }

@@ -7,7 +7,7 @@ ghost use Rattle.situations.specs.declared.refusal.Refusal.TheVariants.{Memory};
 
 use cps_problem::Planner;
 use itoa::Buffer;
-use plan_text::{plan_block, refusal_line};
+use plan_text::{FrozenLines, refusal_line};
 use sequencer::Sequencer;
 use situations::Refusal;
 use std::alloc::{AllocError, Global};
@@ -16,11 +16,12 @@ use std::alloc::{AllocError, Global};
 pub(crate) fn begun<P: Planner>(
     alloc: Global,
     sequencer: &Sequencer<P>,
+    lines: &mut FrozenLines,
 ) -> Result<Vec<u8>, AllocError>
     ensures { IfOk result (λ text. text.items ≡ begun_text sequencer.now.state) }
 {
     let mut text = Vec::from_slice(alloc, b"event 0 begun\n")?;
-    plan_block(sequencer.objective(), sequencer.plan(), &mut text)?;
+    lines.plan_block(sequencer.objective(), sequencer.plan(), &mut text)?;
     Ok(text)
 }
 
@@ -29,6 +30,7 @@ pub(crate) fn accepted<P: Planner>(
     alloc: Global,
     sequencer: &Sequencer<P>,
     number: u32,
+    lines: &mut FrozenLines,
 ) -> Result<Vec<u8>, AllocError>
     ensures { IfOk result (λ text. text.items ≡ answer_text number None sequencer.now.state) }
 {
@@ -36,7 +38,7 @@ pub(crate) fn accepted<P: Planner>(
     let mut text = Vec::from_slice(alloc, b"event ")?;
     text.extend_from_slice(buffer.format(number).as_bytes())?;
     text.extend_from_slice(b" accepted\n")?;
-    plan_block(sequencer.objective(), sequencer.plan(), &mut text)?;
+    lines.plan_block(sequencer.objective(), sequencer.plan(), &mut text)?;
     Ok(text)
 }
 
