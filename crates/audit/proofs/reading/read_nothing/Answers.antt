@@ -1,7 +1,10 @@
-use Rattle.std.proofs.Common.{arith}
+use Rattle.std.proofs.Common.{arith, inr}
 use Rattle.std.proofs.lemmas.Grind.{common_steps}
 use Rattle.audit.proofs.LongLines.{something_behind}
 use Rattle.audit.proofs.reading.read_nothing.Goals as goal
 
 pub returns-then-not-is_empty : goal.returns-then-not-is_empty
-returns-then-not-is_empty c = let e = c.is_empty.ensures in let t = c.if-not-is_empty.true in something_behind c.args.text.now (grind (arith, common_steps))
+returns-then-not-is_empty c =
+    let e = c.is_empty.ensures in
+    let t = c.if-not-is_empty.true in
+    inr (something_behind c.args.text.now (grind (arith, common_steps)))
