@@ -114,8 +114,6 @@ pub fn replay<P: Planner, R: Threads + Sync, S: Sink, G: Gate + Sync, L: Ledger>
 {
     let mut lines = FrozenLines::new(alloc);
     open(alloc, &*sequencer, &mut lines, out)?;
-    replay_events(
-        rt, alloc, sequencer, events, &mut lines, out, gate, steps,
-    )?;
+    replay_events(rt, alloc, sequencer, events, &mut lines, out, gate, steps)?;
     Ok(sequencer.plan().is_some())
 }

@@ -12,10 +12,10 @@ returns c =
     let items = c.self.inside.landings.items in
     let head = line (head_words c.args.objective c.value.result) in
     let count : c.len.result ≡ length first =
-        let l = c.len.ensures in let v = c.self.inside.landings.ok.0 in let n = length-map items shown_of in
-        let w = ap (length {A = ShownLanding}) c.self.view_is in omega arith in
+    let l = c.len.ensures in let v = c.self.inside.landings.ok.0 in let n = length-map items shown_of in
+    let w = ap (length {A = ShownLanding}) c.self.view_is in omega arith in
     let text : c.as_slice.result.now ≡ landing_lines (take (length first) all) =
-        c.as_slice.ensures.value ∙ c.self.invariant ∙ ap landing_lines (c.self.view_is ∙ c.requires) in
+    c.as_slice.ensures.value ∙ c.self.invariant ∙ ap landing_lines (c.self.view_is ∙ c.requires) in
     ok_then c.append_landings.result
     (λ e. e ∙ ap₂ (λ (t : List ℕ) (n : ℕ). t ++ landing_lines (drop n all)) (c.in_ok-extend_from_slice.ensures.items ∙ ap₂ (λ (x y : List ℕ). x ++ y) c.in_ok-append_head.ensures text) count
     ∙ whole_text all (length first) c.args.into.now.items head
