@@ -1,6 +1,6 @@
 -- To keep some places of a list in place, step by step.
-use Rattle.std.proofs.Common.{◌≡◌, ℕ, ◌+◌, ◌<◌, ◌≤◌, List, [], ◌∷◌, ◌++◌, length, drop, take, get_or, refl, arith, length-append, length-set, append-nil, add-one, ◌∙◌, sym, ap, ap₂, inl, inr, subst, suc}
-use Rattle.std.specs.Prelude.{Bool, true, false, ◌⊎◌}
+use Rattle.std.proofs.Common.{◌≡◌, ℕ, zero, ◌+◌, ◌<◌, ◌≤◌, List, [], ◌∷◌, ◌++◌, length, drop, take, get_or, refl, arith, length-append, length-set, append-nil, add-one, ◌∙◌, sym, ap, ap₂, inl, inr, subst, suc}
+use Rattle.std.specs.Prelude.{Bool, true, false, ◌⊎◌, replicate}
 use Rattle.std.specs.List.{AllZip, swap}
 use Rattle.std.proofs.Math.ListN.{set}
 use Rattle.std.proofs.Math.Seq.{take-suc, take-suc-set}
@@ -110,3 +110,26 @@ IsCompacting-start old = record { within = omega arith; end = omega arith; len =
 -- at the end what is left is what is kept
 pub compacted : {A : Type 0} (old now : List A) (answers : List Bool) (kept i : ℕ) → length old ≤ i → IsCompacting old now answers kept i → take kept now ≡ kept_where answers old
 compacted old now answers kept i end is = is.front ∙ ap (kept_where answers) (take_all i old end)
+
+-- ---- where each place is kept
+
+replicate_more : (n : ℕ) → replicate n true ++ true ∷ [] ≡ replicate (suc n) true
+replicate_more zero = refl
+replicate_more (suc n) = ap (λ (zs : List Bool). true ∷ zs) (replicate_more n)
+
+-- one place more is kept
+pub all_more : {A : Type 0} (R : A → Bool → Type 0) (old : List A) (i : ℕ) (d : A) → i < length old
+    → AllZip R (take i old) (replicate i true) → R (get_or old i d) true → AllZip R (take (i + 1) old) (replicate (i + 1) true)
+all_more {A} R old i d lt all one =
+    let same : replicate i true ++ true ∷ [] ≡ replicate (i + 1) true = replicate_more i ∙ ap (λ (n : ℕ). replicate n true) (sym (add-one i)) in
+    subst (λ (bs : List Bool). AllZip R (take (i + 1) old) bs) same (zip_more R old (replicate i true) i true d lt all one)
+
+pub all_end : {A : Type 0} (R : A → Bool → Type 0) (old : List A) (i n : ℕ) → i ≡ n → length old ≤ i → AllZip R (take i old) (replicate i true) → AllZip R old (replicate n true)
+all_end {A} R old i n e end all =
+    subst (λ (m : ℕ). AllZip R old (replicate m true)) e (subst (λ (zs : List A). AllZip R zs (replicate i true)) (take_all i old end) all)
+
+pub all_as_they_were : {A : Type 0} (n : ℕ) (xs : List A) → length xs ≤ n → kept_where (replicate n true) xs ≡ xs
+all_as_they_were zero [] le = refl
+all_as_they_were zero (x ∷ xs) le = absurd (omega arith)
+all_as_they_were (suc n) [] le = refl
+all_as_they_were {A} (suc n) (x ∷ xs) le = ap (λ (zs : List A). x ∷ zs) (all_as_they_were n xs (omega arith))

@@ -1,6 +1,6 @@
 //! To keep some places of a list, in order and in place.
 
-ghost use Rattle.std.specs.Prelude.{◌≡◌, ℕ, Bool, ◌<◌, ◌≤◌, List, length, vec_len};
+ghost use Rattle.std.specs.Prelude.{◌≡◌, ℕ, Bool, true, ◌<◌, ◌≤◌, List, length, vec_len, replicate, IsTrue};
 ghost use Rattle.std.specs.Fn.{FnReturnsAt};
 ghost use Rattle.std.specs.List.{AllZip, swap};
 ghost use Rattle.cps_nodes.specs.Windows.{IsWidth};
@@ -15,6 +15,20 @@ fn bring_hint(hints: &mut Vec<u32>, kept: usize, i: usize)
     if i < hints.len() {
         hints.swap(kept, i);
     }
+}
+
+// Whether `accepts` holds of each label.
+pub(crate) fn keeps_all<T: Drop, F: Fn(&T) -> bool>(labels: &Vec<T>, accepts: &F) -> bool
+    requires callable { F.IsAlwaysCallable accepts.now }
+    ensures { IsTrue result → AllZip (FnReturnsAt F.Fn accepts.now) labels.now.items
+        (replicate (vec_len labels.now) true) }
+{
+    for i in 0..labels.len() {
+        if !accepts(&labels[i]) {
+            return false;
+        }
+    }
+    true
 }
 
 // Keeps the windows and the labels at the places whose label `keep` accepts, in order, and the hints where there are any.

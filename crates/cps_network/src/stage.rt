@@ -8,7 +8,7 @@ ghost use Rattle.cps_nodes.specs.Leads.{Extends, TailMeetsHead};
 ghost use Rattle.cps_network.specs.Compacted.{kept_where};
 ghost use Rattle.cps_network.specs.Lists.{IsAscending, AreWindows, node_at};
 
-use crate::compact::compact_all;
+use crate::compact::{compact_all, keeps_all};
 use crate::source_range::sources_near;
 use cps_nodes::{Window, window_laws};
 use std::alloc::{AllocError, Global};
@@ -105,6 +105,9 @@ impl<const W: usize> Stage<W> {
             answers × (self.new.1 ≡ kept_where answers self.old.1)
             × (labels.new.items ≡ kept_where answers labels.old.items) }
     {
+        if keeps_all(labels, &keep) {
+            return;
+        }
         compact_all(&mut self.windows, &mut self.hints, labels, &keep);
     }
 
