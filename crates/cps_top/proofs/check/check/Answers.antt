@@ -7,13 +7,16 @@ returns g c = (
   record {
     text = c.as_slice.result.now;
     admitted = (
-      answer_of_verdict c.in-Ok.verdict,
-      record {
-        verdict = c.in-Ok.verdict;
-        judges = c.in-Ok.ensures;
-        prints = c.as_slice.ensures.value ∙ c.in-Ok-verdict_line.ensures;
-        answers = refl;
-      },
+      (
+        answer_of_verdict c.in-Ok.verdict,
+        record {
+          verdict = c.in-Ok.verdict;
+          judges = c.in-Ok.ensures;
+          prints = c.as_slice.ensures.value ∙ c.in-Ok-verdict_line.ensures;
+          answers = refl;
+        },
+      ),
+      c.in-Err-put.ensures.writes.lacked,
     );
     grew = c.in-Err-put.ensures.writes.part;
   },
