@@ -1,6 +1,6 @@
 //! The windows of a stage, put together by node.
 
-ghost use Rattle.std.specs.Prelude.{◌≡◌, ℕ, ◌<◌, ◌≤◌, IfOk, Some, length};
+ghost use Rattle.std.specs.Prelude.{◌≡◌, ℕ, ◌<◌, ◌≤◌, ◌↔◌, IfOk, IsTrue, Some, length};
 ghost use Rattle.replan.specs.Kept.{held_of, problem_held};
 ghost use Rattle.first_best.specs.Nodes.{node_at};
 ghost use Rattle.first_best.specs.Gathered.{IsAdded, IsGathered, IsSameNode};
@@ -11,26 +11,44 @@ use cps_problem::Problem;
 use replan::AnyKept;
 use std::alloc::{AllocError, Global};
 
-// Where a node stands among others, and how many they are where it does not.
-fn place_of(nodes: &[EarlyNode], node: Node) -> usize
+// Whether a node has the same ranks, and the same one last.
+fn is_same(other: EarlyNode, node: Node) -> bool
+    ensures { IsTrue result ↔ IsSameNode other node }
+{
+    other.placed == node.placed && other.last == node.last
+}
+
+// Where a node stands among others, and how many they are where it does not. It is looked for at one place first.
+fn place_of(nodes: &[EarlyNode], node: Node, near: usize) -> usize
     ensures within { result ≤ length nodes.now }
     ensures there { result < length nodes.now → IsSameNode (node_at nodes.now result) node }
-    ensures none { (j : ℕ) → j < result → IsSameNode (node_at nodes.now j) node → ⊥ }
+    ensures none { result ≡ length nodes.now
+        → (j : ℕ) → j < length nodes.now → IsSameNode (node_at nodes.now j) node → ⊥ }
 {
+    if near < nodes.len() && is_same(nodes[near], node) {
+        return near;
+    }
     for (i, other) in nodes.iter().enumerate() {
-        if other.placed == node.placed && other.last == node.last {
+        if is_same(*other, node) {
             return i;
         }
     }
     nodes.len()
 }
 
-// Puts a node that can be landed at a second, and at a cost, to the others, and answers its place.
-fn add(nodes: &mut Vec<EarlyNode>, node: Node, second: u32, cost: u32) -> Result<usize, AllocError>
+// Puts a node that can be landed at a second, and at a cost, to the others, and answers its place. It is looked for at one place
+// first.
+fn add(
+    nodes: &mut Vec<EarlyNode>,
+    node: Node,
+    second: u32,
+    cost: u32,
+    near: usize,
+) -> Result<usize, AllocError>
     ensures { IfOk result (λ place.
         IsAdded nodes.old.items nodes.new.items node second cost place) }
 {
-    let place = place_of(nodes.as_slice(), node);
+    let place = place_of(nodes.as_slice(), node, near);
     if place == nodes.len() {
         nodes.push(EarlyNode {
             placed: node.placed,
@@ -66,11 +84,14 @@ pub(crate) fn gather(
     let _held = kept.stages();
     let mut nodes = Vec::new(alloc);
     let mut places = Vec::with_capacity(alloc, kept.size(stage))?;
+    let mut near = 0;
     for i in 0..kept.size(stage) {
         let second = kept.label(stage, i, 0).0;
         let cost = kept.label(stage, i, kept.label_count(stage, i) - 1).1;
-        let place = add(&mut nodes, kept.node(stage, i), second, cost)?;
+        let place = add(&mut nodes, kept.node(stage, i), second, cost, near)?;
         places.push(place)?;
+        // Windows that stand behind one another are mostly of nodes that do.
+        near = place + 1;
     }
     Ok((nodes, places))
 }
