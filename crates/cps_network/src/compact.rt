@@ -8,15 +8,6 @@ ghost use Rattle.cps_network.specs.Compacted.{kept_where};
 
 use cps_nodes::Window;
 
-// Brings a hint to the front, where there is one.
-fn bring_hint(hints: &mut Vec<u32>, kept: usize, i: usize)
-    requires { kept ≤ i }
-{
-    if i < hints.len() {
-        hints.swap(kept, i);
-    }
-}
-
 // Whether `accepts` holds of each label.
 pub(crate) fn keeps_all<T: Drop, F: Fn(&T) -> bool>(labels: &Vec<T>, accepts: &F) -> bool
     requires callable { F.IsAlwaysCallable accepts.now }
@@ -31,10 +22,9 @@ pub(crate) fn keeps_all<T: Drop, F: Fn(&T) -> bool>(labels: &Vec<T>, accepts: &F
     true
 }
 
-// Keeps the windows and the labels at the places whose label `keep` accepts, in order, and the hints where there are any.
+// Keeps the windows and the labels at the places whose label `keep` accepts, in order.
 pub(crate) fn compact_all<const W: usize, T: Drop, F: Fn(&T) -> bool>(
     windows: &mut Vec<Window<W>>,
-    hints: &mut Vec<u32>,
     labels: &mut Vec<T>,
     keep: &F,
 )
@@ -52,10 +42,8 @@ pub(crate) fn compact_all<const W: usize, T: Drop, F: Fn(&T) -> bool>(
         }
         labels.swap(kept, i);
         windows.swap(kept, i);
-        bring_hint(hints, kept, i);
         kept += 1;
     }
     labels.truncate(kept);
     windows.truncate(kept);
-    hints.truncate(kept);
 }

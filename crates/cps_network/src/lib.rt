@@ -13,6 +13,7 @@ mod permit;
 mod runs;
 mod source_range;
 mod stage;
+mod window_list;
 
 pub use last::last_rank;
 pub use laws::{

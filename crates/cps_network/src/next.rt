@@ -160,7 +160,8 @@ pub fn next_stage<const W: usize>(
     let _near = problem.head();
     let windows = next_windows(alloc, problem, before.number(), before.windows())?;
     let hints = begins(alloc, before.windows(), &windows)?;
-    Ok(Stage::made(before.number() + 1, windows, hints))
+    let stage = Stage::made(alloc, before.number() + 1, windows, hints)?;
+    Ok(stage)
 }
 
 // Whether two lists of windows are one.
@@ -218,7 +219,7 @@ pub fn next_stage_like<const W: usize>(
     if repeats(problem, earlier.number(), before.number())
         && are_same(before.windows(), earlier.windows())
     {
-        let next = after.copy_as(before.number() + 1)?;
+        let next = after.copy_as(alloc, before.number() + 1)?;
         return Ok(next);
     }
     let next = next_stage(alloc, before, problem)?;

@@ -8,19 +8,21 @@ ghost use Rattle.cps_nodes.specs.Leads.{Extends, TailMeetsHead};
 ghost use Rattle.cps_network.specs.Compacted.{kept_where};
 ghost use Rattle.cps_network.specs.Lists.{IsAscending, AreWindows, node_at};
 
-use crate::compact::{compact_all, keeps_all};
 use crate::source_range::sources_near;
+use crate::window_list::WindowList;
 use cps_nodes::{Window, window_laws};
 use std::alloc::{AllocError, Global};
 use std::marker::Model;
+use std::sync::Arc;
 
 /// The windows of a stage, in ascending order, none twice. The stage's number is that of the flights that have landed.
 #[derive(Drop)]
 pub struct Stage<const W: usize> {
     number: u8,
-    windows: Vec<Window<W>>,
-    // Where the windows that lead to each are likely to begin in the stage before. Only speed rests on it.
-    hints: Vec<u32>,
+    list: WindowList<W>,
+    // Where the windows that lead to each are likely to begin in the stage before, as long as none is left out. Only speed
+    // rests on it.
+    hints: Arc<Vec<u32>, Global>,
 }
 
 impl<const W: usize> Model for Stage<W> {
@@ -29,9 +31,9 @@ impl<const W: usize> Model for Stage<W> {
 
     ghost Value = { ℕ × List (List ℤ) };
 
-    ghost view = { λ s. (s.number, s.windows.items) };
+    ghost view = { λ s. (s.number, s.list) };
 
-    ghost invariant = { λ s. IsAscending s.windows.items × AreWindows W s.windows.items };
+    ghost invariant = { λ s. IsAscending s.list × AreWindows W s.list };
 }
 
 impl<const W: usize> Stage<W> {
@@ -43,24 +45,28 @@ impl<const W: usize> Stage<W> {
         window_laws::<W>();
         let mut windows = Vec::new(alloc);
         windows.push(Window::source())?;
-        Ok(Stage {
-            number: 0,
-            windows,
-            hints: Vec::new(alloc),
-        })
+        let start = Stage::made(alloc, 0, windows, Vec::new(alloc))?;
+        Ok(start)
     }
 
     // The stage of these windows.
-    pub(crate) fn made(number: u8, windows: Vec<Window<W>>, hints: Vec<u32>) -> Stage<W>
+    pub(crate) fn made(
+        alloc: Global,
+        number: u8,
+        windows: Vec<Window<W>>,
+        hints: Vec<u32>,
+    ) -> Result<Stage<W>, AllocError>
         requires ascending { IsAscending windows.items }
         requires valid { AreWindows W windows.items }
-        ensures { result ≡ (number, windows.entry.items) }
+        ensures { IfOk result (λ s. s ≡ (number, windows.entry.items)) }
     {
-        Stage {
+        let list = WindowList::new(alloc, windows)?;
+        let hints = Arc::new(alloc, hints)?;
+        Ok(Stage {
             number,
-            windows,
+            list,
             hints,
-        }
+        })
     }
 
     /// How many flights have landed by this stage.
@@ -76,14 +82,14 @@ impl<const W: usize> Stage<W> {
         ensures few { length self.now.1 ≤ W ^ W }
         ensures below { length self.now.1 ≤ 823543 }
     {
-        self.windows.len()
+        self.list.len()
     }
 
     /// Whether the stage has no window.
     pub fn is_empty(&self) -> bool
         ensures { IsTrue result ↔ (self.now.1 ≡ []) }
     {
-        self.windows.is_empty()
+        self.list.len() == 0
     }
 
     /// The window at place i of the stage, counted from 0.
@@ -92,7 +98,7 @@ impl<const W: usize> Stage<W> {
         ensures valid { IsWindow W result }
         ensures value { result ≡ node_at self.now.1 i }
     {
-        self.windows[i]
+        self.list.windows()[i]
     }
 
     /// Keeps the windows and the labels at the places whose label `keep` accepts, in order.
@@ -105,10 +111,7 @@ impl<const W: usize> Stage<W> {
             answers × (self.new.1 ≡ kept_where answers self.old.1)
             × (labels.new.items ≡ kept_where answers labels.old.items) }
     {
-        if keeps_all(labels, &keep) {
-            return;
-        }
-        compact_all(&mut self.windows, &mut self.hints, labels, &keep);
+        self.list.compact(labels, &keep);
     }
 
     // The windows, in ascending order.
@@ -117,18 +120,19 @@ impl<const W: usize> Stage<W> {
         ensures ascending { IsAscending self.now.1 }
         ensures valid { AreWindows W self.now.1 }
     {
-        &self.windows
+        self.list.windows()
     }
 
     // The same windows under another number.
-    pub(crate) fn copy_as(&self, number: u8) -> Result<Stage<W>, AllocError>
+    pub(crate) fn copy_as(&self, alloc: Global, number: u8) -> Result<Stage<W>, AllocError>
+        requires { IsWidth W }
         ensures { IfOk result (λ s. s ≡ (number, self.now.1)) }
     {
-        let windows = self.windows.clone()?;
-        let hints = self.hints.clone()?;
+        let list = self.list.share(alloc)?;
+        let hints = Arc::try_clone(&self.hints)?;
         Ok(Stage {
             number,
-            windows,
+            list,
             hints,
         })
     }
@@ -148,7 +152,7 @@ impl<const W: usize> Stage<W> {
         requires within { i < length self.now.1 }
         ensures { IsTrue result ↔ Extends (node_at before.now.1 place) (node_at self.now.1 i) }
     {
-        before.windows[place].leads_to(&self.windows[i])
+        before.list.windows()[place].leads_to(&self.list.windows()[i])
     }
 
     /// The half-open range of the windows of the stage before that lead to the window at place i. It is found without a
@@ -162,6 +166,6 @@ impl<const W: usize> Stage<W> {
             ↔ ((result.0 ≤ j) × (j < result.1)) }
     {
         window_laws::<W>();
-        sources_near(before.windows(), &self.windows[i], self.hint(i))
+        sources_near(before.windows(), &self.node(i), self.hint(i))
     }
 }

@@ -1,22 +1,16 @@
-use Rattle.std.proofs.Common.{◌≡◌, ◌<◌, ◌≤◌, ap, ◌∙◌, subst, arith, length, List, []}
+use Rattle.std.proofs.Common.{◌<◌, ◌≤◌, ap, subst, arith, length, List}
 use Rattle.std.specs.Prelude.{ℤ, ◌↔◌}
 use Rattle.cps_nodes.specs.Windows.{IsWindow}
 use Rattle.cps_nodes.specs.Leads.{TailMeetsHead}
 use Rattle.cps_network.specs.Lists.{node_at}
-use Rattle.cps_network.proofs.MergeLemmas.{node_at-default}
 use Rattle.cps_network.proofs.LayerLemmas.{extends_exact}
 use Rattle.cps_network.proofs.stage.Stage.sources.Goals as goal
 
 pub returns-clause-exact : goal.returns-clause-exact
 returns-clause-exact g c =
-    let own : c.self.inside.windows.items ≡ c.args.self.now.1 = ap (λ v. v.1) c.self.view_is in
-    let within : c.args.i < length c.self.inside.windows.items = omega (arith, ap length own) in
-    let at : c.index.result.now ≡ node_at c.args.self.now.1 c.args.i =
-    c.index.ensures ∙ node_at-default c.self.inside.windows.items c.args.i c.index.result.now [] within ∙ ap (λ (zs : List (List ℤ)). node_at zs c.args.i) own in
-    let valid : IsWindow g.row.W (node_at c.args.self.now.1 c.args.i) =
-    subst (λ (zs : List (List ℤ)). IsWindow g.row.W (node_at zs c.args.i)) own (c.self.invariant.1 c.args.i within) in
+    let valid : IsWindow g.row.W (node_at c.args.self.now.1 c.args.i) = subst (IsWindow g.row.W) c.node.ensures.value c.node.ensures.valid in
     extends_exact g.row.W c.args.before.now.1 (node_at c.args.self.now.1 c.args.i) c.sources_near.result.0 c.sources_near.result.1
     c.window_laws.ensures.leads c.windows.ensures.valid valid
-    (λ j lt. subst (λ (z : List ℤ). TailMeetsHead (node_at c.args.before.now.1 j) z ↔ ((c.sources_near.result.0 ≤ j) × (j < c.sources_near.result.1))) at
-    (subst (λ (zs : List (List ℤ)). TailMeetsHead (node_at zs j) c.index.result.now ↔ ((c.sources_near.result.0 ≤ j) × (j < c.sources_near.result.1))) c.windows.ensures.windows
+    (λ j lt. subst (λ (z : List ℤ). TailMeetsHead (node_at c.args.before.now.1 j) z ↔ ((c.sources_near.result.0 ≤ j) × (j < c.sources_near.result.1))) c.node.ensures.value
+    (subst (λ (zs : List (List ℤ)). TailMeetsHead (node_at zs j) c.node.result ↔ ((c.sources_near.result.0 ≤ j) × (j < c.sources_near.result.1))) c.windows.ensures.windows
     (c.sources_near.ensures.exact j (omega (arith, lt, ap length c.windows.ensures.windows)))))
