@@ -1,10 +1,10 @@
 #!/usr/bin/env python3
 """Runs `rt ci` and tells where its processor time went: times.py [WORD..], at the top of a checkout.
 
-It looks once a second at every prover of this machine and prints, behind what `rt ci` prints, a table with the processor seconds
+It looks once a second at every prover that the gate has started and prints, behind what `rt ci` prints, a table with the processor seconds
 of each crate's proof, of its tests' proof and of its edits, and the longest chain of crates that stand on one another. What an
 earlier run kept costs nothing and is not in the table, so a whole one wants `rt ci --anew`, or a machine where nothing is kept.
-Nothing else should prove at the same time."""
+Nothing else should prove at the same time: what does takes processors, though it is not counted."""
 import os
 import subprocess
 import sys
@@ -19,20 +19,29 @@ def read(path):
         return file.read().decode(errors='replace')
 
 
-def look(number):
-    """The crate, the kind of work and the processor seconds of a prover, or None for another process."""
+def is_under(number, ancestor):
+    """Whether a process is one that another has started, or that one of those has."""
+    while number > 1:
+        number = int(read(f'/proc/{number}/stat').rpartition(')')[2].split()[1])
+        if number == ancestor:
+            return True
+    return False
+
+
+def look(number, gate):
+    """The crate, the kind of work and the processor seconds of a prover of the gate, or None for another process."""
     words = read(f'/proc/{number}/cmdline').split('\0')
-    if not words[0].endswith('/rattle') or '--crate-name' not in words:
+    if not words[0].endswith('/rattle') or '--crate-name' not in words or not is_under(int(number), gate):
         return None
     fields = read(f'/proc/{number}/stat').rpartition(')')[2].split()
     kind = 'tests' if '--test' in words else 'edits' if 'rt-edit' in os.readlink(f'/proc/{number}/cwd') else 'proof'
     return words[words.index('--crate-name') + 1], kind, (int(fields[11]) + int(fields[12])) / TICKS, fields[19]
 
 
-def sample(seen):
+def sample(seen, gate):
     for number in filter(str.isdigit, os.listdir('/proc')):
         try:
-            found = look(number)
+            found = look(number, gate)
         except OSError:
             continue
         if found:
@@ -63,7 +72,7 @@ def main(words):
     gate = subprocess.Popen(['rt', 'ci', *words])
     seen = {}
     while gate.poll() is None:
-        sample(seen)
+        sample(seen, gate.pid)
         time.sleep(1)
     seconds = {}
     for crate, kind, spent in seen.values():
