@@ -102,7 +102,8 @@ fn frozen_from(
     values: &[Value],
 ) -> Result<FrozenList, AeroFault>
     requires { length values.now ≤ most_flights }
-    ensures value { Gives memory_fault result (frozen_from 1 clock freeze [] (items_view values.now)) }
+    ensures value { Gives memory_fault result (frozen_from 1 clock freeze [] (items_view
+        values.now)) }
     ensures range { IfOk result (AreFrozen clock freeze) }
 {
     let mut entries = Vec::new(alloc);

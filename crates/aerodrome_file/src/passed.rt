@@ -97,7 +97,8 @@ pub(crate) fn passed_in(
     k: u8,
     value: Option<&Value>,
 ) -> Result<PassedList, AeroFault>
-    ensures value { Gives memory_fault result (passed_in k (option_map (λ v. view v.now) value.entry)) }
+    ensures value { Gives memory_fault result (passed_in k (option_map (λ v. view v.now)
+        value.entry)) }
     ensures range { IfOk result (ArePassed k) }
 {
     let Some(value) = value else {

@@ -49,7 +49,8 @@ pub trait Folder {
         ensures fits { ((state self.new).faults < 2 ^ 64) × ((state self.new).taken < 2 ^ 64) }
         ensures asked { IsTrue (state self.old).tells →
             ((state self.new).asked ≡ (state self.old).asked ++ name.now ∷ [])
-            ⊎ (IsErrOf result LoadFault.Memory × ((state self.new).asked ≡ (state self.old).asked)) }
+            ⊎ (IsErrOf result LoadFault.Memory
+                × ((state self.new).asked ≡ (state self.old).asked)) }
         ensures ok { IfOk result (λ bytes. Gives (state self.old) (state self.new) name.now most
             bytes.items) }
         ensures failed { IsErrOf result LoadFault.Failed

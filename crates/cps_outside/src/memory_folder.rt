@@ -70,7 +70,8 @@ impl Folder for MemoryFolder {
             × ((folder_state self.new).taken < 2 ^ 64) }
         ensures asked { IsTrue (folder_state self.old).tells →
             ((folder_state self.new).asked ≡ (folder_state self.old).asked ++ name.now ∷ [])
-            ⊎ (IsErrOf result LoadFault.Memory × ((folder_state self.new).asked ≡ (folder_state self.old).asked)) }
+            ⊎ (IsErrOf result LoadFault.Memory
+                × ((folder_state self.new).asked ≡ (folder_state self.old).asked)) }
         ensures ok { IfOk result (λ bytes. Gives (folder_state self.old) (folder_state self.new)
             name.now most bytes.items) }
         ensures failed { IsErrOf result LoadFault.Failed

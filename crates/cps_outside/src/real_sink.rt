@@ -36,7 +36,13 @@ fn write_pieces<W: Write>(writer: &mut W, bytes: &[u8]) -> io::Result<()> {
 impl<W: Write + Drop> Sink for RealSink<W> {
     ghost use Rattle.cps_outside.specs.SinkState.{SinkState};
 
-    ghost state = { λ s. record { tells = false; written = []; sure = false; room = 0; faults = s.faults } };
+    ghost state = { λ s. record {
+      tells = false;
+      written = [];
+      sure = false;
+      room = 0;
+      faults = s.faults;
+    } };
 
     fn put(&mut self, bytes: &[u8]) -> Result<(), WriteFailed> {
         let faults_then = self.faults.saturating_add(1);

@@ -18,7 +18,8 @@ pub trait Planner: Drop {
 
     ghost due: { Self → rules.Problem → ℕ → Type 0 };
 
-    ghost due_is_one: { (planner : Self) (p : rules.Problem) (a b : ℕ) → due planner p a → due planner p b → a ≡ b };
+    ghost due_is_one: { (planner : Self) (p : rules.Problem) (a b : ℕ) → due planner p a
+        → due planner p b → a ≡ b };
 
     ghost holds: { Self → rules.Problem → Type 0 };
 

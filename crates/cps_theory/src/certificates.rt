@@ -43,7 +43,8 @@ pub fn closed_certificate_covers()
         (first : ℕ → ℕ → Option ℕ) → FindsFirstOpen p first →
         (lists : PatternNode → List Pair) → IsClosedCertificate p first cost lists →
         (xs : List Landing) → Legal p.rules (ranks xs) → LandedIn p xs →
-        (q : Pair) × InPairs q (lists (pattern_node p.rules (ranks xs))) × NoWorse q (pair_of cost xs) }
+        (q : Pair) × InPairs q (lists (pattern_node p.rules (ranks xs)))
+            × NoWorse q (pair_of cost xs) }
 {}
 
 /// A certificate whose listed pairs are closed under successor pairs bounds every feasible schedule by the
@@ -53,7 +54,8 @@ pub fn closed_certificate_bounds()
         (first : ℕ → ℕ → Option ℕ) → FindsFirstOpen p first →
         (lists : PatternNode → List Pair) → IsClosedCertificate p first cost lists →
         (value : Pair → ℕ) → IsObjective value →
-        (v : ℕ) → ((w : PatternNode) (q : Pair) → w.0 ≡ p.rules.count → InPairs q (lists w) → v ≤ value q) →
+        (v : ℕ) → ((w : PatternNode) (q : Pair) → w.0 ≡ p.rules.count → InPairs q (lists w)
+            → v ≤ value q) →
         (t : ℕ → ℕ) → Feasible p t → v ≤ value (pair_at cost p.rules.count t) }
     ensures infeasible { (p : RankedProblem) (cost : ℕ → ℕ → ℕ) → SoundProblem p
         → NeverCheaper cost →
@@ -69,18 +71,23 @@ pub fn closed_certificate_bounds()
 pub fn accepted_certificate_bounds<S>()
     ensures optimal { (node_of : S → PatternNode) (pairs_of : S → List Pair) (p : RankedProblem)
         (cost : ℕ → ℕ → ℕ) → SoundProblem p →
-        (first : ℕ → ℕ → Option ℕ) → FindsFirstOpen p first → NeverCheaper cost → (states : List S) →
-        first_missed node_of pairs_of p.rules first (next_from p) cost states (pattern_node p.rules []) ((0, 0) ∷ []) ≡ None →
+        (first : ℕ → ℕ → Option ℕ) → FindsFirstOpen p first → NeverCheaper cost
+            → (states : List S) →
+        first_missed node_of pairs_of p.rules first (next_from p) cost states (pattern_node
+            p.rules []) ((0, 0) ∷ []) ≡ None →
         missed_from node_of pairs_of p.rules first (next_from p) cost states 1 states ≡ None →
         (value : Pair → ℕ) → IsObjective value → 1 ≤ p.rules.count → (v : ℕ) →
         element_from (is_final_below node_of pairs_of p.rules.count value v) 1 states ≡ None →
         (t : ℕ → ℕ) → Feasible p t → v ≤ value (pair_at cost p.rules.count t) }
     ensures infeasible { (node_of : S → PatternNode) (pairs_of : S → List Pair)
         (p : RankedProblem) (cost : ℕ → ℕ → ℕ) → SoundProblem p →
-        (first : ℕ → ℕ → Option ℕ) → FindsFirstOpen p first → NeverCheaper cost → (states : List S) →
-        first_missed node_of pairs_of p.rules first (next_from p) cost states (pattern_node p.rules []) ((0, 0) ∷ []) ≡ None →
+        (first : ℕ → ℕ → Option ℕ) → FindsFirstOpen p first → NeverCheaper cost
+            → (states : List S) →
+        first_missed node_of pairs_of p.rules first (next_from p) cost states (pattern_node
+            p.rules []) ((0, 0) ∷ []) ≡ None →
         missed_from node_of pairs_of p.rules first (next_from p) cost states 1 states ≡ None →
-        1 ≤ p.rules.count → element_from (is_final node_of pairs_of p.rules.count) 1 states ≡ None →
+        1 ≤ p.rules.count → element_from (is_final node_of pairs_of p.rules.count) 1 states
+            ≡ None →
         (t : ℕ → ℕ) → Feasible p t → ⊥ }
 {}
 

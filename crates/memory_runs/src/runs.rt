@@ -36,7 +36,8 @@ pub fn run_in_memory<R: Threads + Sync, G: Gate + Sync>(
     room: usize,
     gate: &G,
 ) -> Result<MemoryRun, AllocError>
-    ensures outcome { IfOk result (λ r. RunsTo (map string_bytes words.now) (given files.items room)
+    ensures outcome { IfOk result (λ r. RunsTo (map string_bytes words.now) (given files.items
+        room)
         record { folder = folder_state r.folder; out = sink_state r.out }
         (fresh_sink room []) (sink_state r.err) r.status) }
     ensures answers { IfOk result (λ r. Answers (map string_bytes words.now) files.items room

@@ -36,8 +36,8 @@ fn joined_plan(
 }
 
 impl<P: Planner> Sequencer<P> {
-    /// The plan of a schedule that is feasible for the problem, best or not: the frozen landings joined with it, in landing order,
-    /// with its objective.
+    /// The plan of a schedule that is feasible for the problem, best or not: the frozen landings joined with it, in landing
+    /// order, with its objective.
     pub fn plan_of(&self, alloc: Global, schedule: &Schedule) -> Result<Plan, AllocError>
         requires { IsFeasibleList self.now.problem schedule.now }
         ensures { IfOk result (λ plan. plan ≡ shown_plan self.now.state.situation (joined

@@ -79,7 +79,8 @@ fn trial_in(before: usize, row: &ByteRecord) -> Result<Trial, TrialCause>
 fn add_trial(all: &mut Vec<Trial>, row: &ByteRecord) -> Result<(), TrialFault>
     requires few { vec_len all.old ≤ 16 }
     requires good { All IsGood all.old.items }
-    ensures value { GivesAs memory_fault (λ _. all.new.items) result (and_in all.old.items (fields_of row.now)) }
+    ensures value { GivesAs memory_fault (λ _. all.new.items) result (and_in all.old.items
+        (fields_of row.now)) }
     ensures few { OnOk result (vec_len all.new ≤ 16) }
     ensures good { OnOk result (All IsGood all.new.items) }
 {
