@@ -1,5 +1,5 @@
 -- What a run over given files does.
-use Rattle.std.specs.Prelude.{[], ◌≡◌, ◌⊎◌, ⊥, ℕ, List, String, Vec}
+use Rattle.std.specs.Prelude.{[], ◌≡◌, ◌⊎◌, ℕ, List, String, Vec}
 use Rattle.std.specs.declared.alloc.Global.{Global}
 use Rattle.cps_outside.specs.MemoryFolder.{fresh_folder}
 use Rattle.cps_outside.specs.MemorySink.{fresh_sink}
