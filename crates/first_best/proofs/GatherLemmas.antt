@@ -27,7 +27,7 @@ use Rattle.first_best.proofs.NodeLemmas.{one_set}
 
 -- ---- one window more
 
-module _ (stage : ℕ × List (List ℤ)) (lists : List (List Pair)) (count : ℕ) (nodes after : List EarlyNode) (places : List ℕ) (g : AreGathered stage lists count nodes places) (node : Node) (second cost place : ℕ) (add : IsAdded nodes after node second cost place) (at : second ≡ second_of lists count) (is : cost ≡ cost_in lists count) (told : IsWindowOf stage.0 (windows.node_at stage.1 count) (node_at after place)) where
+module _ (stage : ℕ × List (List ℤ)) (lists : List (List Pair)) (count : ℕ) (nodes after : List EarlyNode) (places : List ℕ) (g : AreGathered stage lists count nodes places) (node : Node) (second cost place : ℕ) (add : IsAdded nodes after node second cost place) (at : second ≡ second_of lists count) (most : cost ≤ cost_in lists count) (told : IsWindowOf stage.0 (windows.node_at stage.1 count) (node_at after place)) where
   old_place : (i : ℕ) → i < count → place_at (places ++ place ∷ []) i ≡ place_at places i
   old_place i lt = get_or_append_left places (place ∷ []) 0 i (let l = g.long in omega (arith, lt, l))
 
@@ -77,7 +77,7 @@ module _ (stage : ℕ × List (List ℤ)) (lists : List (List Pair)) (count : �
     within = each (λ i m. m < length after) (λ i lt. let a = g.within i lt in let b = add.longer in omega (arith, a, b)) add.within;
     window = each (λ i m. IsWindowOf stage.0 (windows.node_at stage.1 i) (node_at after m)) (λ i lt. still (windows.node_at stage.1 i) (place_at places i) (g.within i lt) (g.window i lt)) told;
     low = each (λ i m. (node_at after m).earliest ≤ second_of lists i) (λ i lt. let a = g.low i lt in let b = (add.same (place_at places i) (g.within i lt)).2 in omega (arith, a, b)) (let l = add.low in omega (arith, l, at));
-    cheap = each (λ i m. (node_at after m).cheapest ≤ cost_in lists i) (λ i lt. let a = g.cheap i lt in let b = (add.same (place_at places i) (g.within i lt)).3 in omega (arith, a, b)) (let l = add.cheap in omega (arith, l, is));
+    cheap = each (λ i m. (node_at after m).cheapest ≤ cost_in lists i) (λ i lt. let a = g.cheap i lt in let b = (add.same (place_at places i) (g.within i lt)).3 in omega (arith, a, b)) (let l = add.cheap in omega (arith, l, most));
     source = source_of;
     apart = λ i j li lj p l. elim (cases_lt i (length nodes)) [
       | inl a ↦ elim (cases_lt j (length nodes)) [

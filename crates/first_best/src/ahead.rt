@@ -45,11 +45,11 @@ fn stage_before(
     })
 }
 
-/// For each node of the held stages of a problem pairs that complete it: the undominated ones, all or those of use. A pair is
-/// an open second of the node's last flight, at or after the earliest at which a legal prefix of the node can land it, and a
-/// cost: with that flight at this second the other flights can follow in some legal order, and for the delay cost this together;
-/// for the makespan the cost is 0, and no second is above the value. A pair is undominated where no other is at least as late
-/// and at most as dear.
+/// For each node of the held stages of a problem pairs that complete it: all undominated ones, or for each that is of use one at
+/// least as late and at most as dear. A pair is an open second of the node's last flight, at or after the earliest at which a
+/// legal prefix of the node can land it, and a cost: with that flight at this second the other flights can follow in some legal
+/// order, and for the delay cost this together; for the makespan the cost is 0, and no second is above the value. A pair is
+/// undominated where no other is at least as late and at most as dear.
 ///
 /// The completing pairs are this project's own.
 #[derive(Drop)]

@@ -3,11 +3,12 @@
 ghost use Rattle.std.specs.Prelude.{◌≡◌, ℕ, ◌<◌, ◌≤◌, ◌↔◌, IfOk, IsTrue, Some, length};
 ghost use Rattle.replan.specs.Kept.{held_of, problem_held};
 ghost use Rattle.first_best.specs.Nodes.{node_at};
-ghost use Rattle.first_best.specs.Gathered.{IsAdded, IsGathered, IsSameNode};
+ghost use Rattle.replan.specs.Readers.{HasPlace, IsReadable, lists_in, pairs_in};
+ghost use Rattle.first_best.specs.Gathered.{cost_in, IsAdded, IsGathered, IsSameNode};
 
 use crate::node::EarlyNode;
 use cps_network::Node;
-use cps_problem::Problem;
+use cps_problem::{Objective, Problem};
 use replan::AnyKept;
 use std::alloc::{AllocError, Global};
 
@@ -69,6 +70,19 @@ fn add(
     Ok(place)
 }
 
+// What no pair of the window at place i of a stage costs less than: its last one's cost, and for the makespan nothing.
+fn cheapest_in(problem: &Problem, kept: &AnyKept, stage: u8, i: usize) -> u32
+    requires stage { IsReadable (held_of kept.now) stage }
+    requires place { HasPlace (held_of kept.now) stage i }
+    requires some { 0 < length (pairs_in (held_of kept.now) stage i) }
+    ensures { result ≤ cost_in (lists_in (held_of kept.now) stage) i }
+{
+    match problem.head().objective {
+        Objective::Makespan => 0,
+        Objective::Delay => kept.label(stage, i, kept.label_count(stage, i) - 1).1,
+    }
+}
+
 // The nodes of the windows of a stage, and the place of each window's node among them.
 pub(crate) fn gather(
     alloc: Global,
@@ -87,7 +101,7 @@ pub(crate) fn gather(
     let mut near = 0;
     for i in 0..kept.size(stage) {
         let second = kept.label(stage, i, 0).0;
-        let cost = kept.label(stage, i, kept.label_count(stage, i) - 1).1;
+        let cost = cheapest_in(problem, kept, stage, i);
         let place = add(&mut nodes, kept.node(stage, i), second, cost, near)?;
         places.push(place)?;
         // Windows that stand behind one another are mostly of nodes that do.

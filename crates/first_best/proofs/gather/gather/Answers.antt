@@ -1,5 +1,4 @@
-use Rattle.std.proofs.Common.{◌≡◌, ℕ, ◌+◌, ◌-◌, List, length, sym, ap, subst, ◌∙◌, arith}
-use Rattle.cps_network.specs.Pairs.{list_at, pair_at}
+use Rattle.std.proofs.Common.{◌≡◌, ℕ, ◌+◌, List, length, sym, ap, subst, arith}
 use Rattle.cps_theory.specs.Labels.{Pair}
 use Rattle.replan.specs.Kept.{held_of}
 use Rattle.replan.specs.Readers.{stage_in, lists_in}
@@ -15,25 +14,12 @@ label-second-requires-clause-index c =
     let are = c.stages-held.ensures.held p c.requires.held in
     has_first p s (lists_in (held_of c.args.kept.now) c.args.stage) (are.pairs c.args.stage c.requires.stage.1) c.loop-i.i (omega (arith, c.loop-i-test.true, c.size-i-end.ensures))
 
-pub label-cost-requires-clause-index : goal.label-cost-requires-clause-index
-label-cost-requires-clause-index c =
+pub cheapest_in-cost-requires-clause-some : goal.cheapest_in-cost-requires-clause-some
+cheapest_in-cost-requires-clause-some c =
     let p = c.args.problem.now in
     let s = stage_in (held_of c.args.kept.now) c.args.stage in
-    let lists = lists_in (held_of c.args.kept.now) c.args.stage in
     let are = c.stages-held.ensures.held p c.requires.held in
-    let some = has_first p s lists (are.pairs c.args.stage c.requires.stage.1) c.loop-i.i (omega (arith, c.loop-i-test.true, c.size-i-end.ensures)) in
-    let is = c.label_count.ensures in
-    omega (arith, some, is)
-
-pub overflow_sub-label_count : goal.overflow_sub-label_count
-overflow_sub-label_count c =
-    let p = c.args.problem.now in
-    let s = stage_in (held_of c.args.kept.now) c.args.stage in
-    let lists = lists_in (held_of c.args.kept.now) c.args.stage in
-    let are = c.stages-held.ensures.held p c.requires.held in
-    let some = has_first p s lists (are.pairs c.args.stage c.requires.stage.1) c.loop-i.i (omega (arith, c.loop-i-test.true, c.size-i-end.ensures)) in
-    let is = c.label_count.ensures in
-    omega (arith, some, is)
+    has_first p s (lists_in (held_of c.args.kept.now) c.args.stage) (are.pairs c.args.stage c.requires.stage.1) c.loop-i.i (omega (arith, c.loop-i-test.true, c.size-i-end.ensures))
 
 pub loop-i-preserved : goal.loop-i-preserved
 loop-i-preserved c =
@@ -46,8 +32,8 @@ loop-i-preserved c =
     let after = c.add.new.nodes.items in
     let place = c.in_ok-place.place in
     let told = told_by c.args.stage s.0 _ (node_at after place) c.node.result number added.here c.node.ensures.placed c.node.ensures.last in
-    let more = more_gathered s lists c.loop-i.i c.loop-i.nodes.items after c.loop-i.places.items c.loop-i.invariant c.node.result c.label-second.result.0 c.label-cost.result.1 place added (ap (λ (q : Pair). q.0) c.label-second.ensures.value)
-    (ap (λ (q : Pair). q.1) c.label-cost.ensures.value ∙ ap (λ (n : ℕ). (pair_at (list_at lists c.loop-i.i) (n - 1)).1) c.label_count.ensures) told in
+    let more = more_gathered s lists c.loop-i.i c.loop-i.nodes.items after c.loop-i.places.items c.loop-i.invariant c.node.result c.label-second.result.0 c.cheapest_in-cost.result place added (ap (λ (q : Pair). q.0) c.label-second.ensures.value)
+    c.cheapest_in-cost.ensures told in
     subst (λ (ps : List ℕ). AreGathered s lists (c.loop-i.i + 1) after ps) (sym c.in_ok-push.ensures.items) more
 
 pub returns : goal.returns
