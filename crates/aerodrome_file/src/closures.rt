@@ -9,7 +9,7 @@ use crate::fault::{AeroFault, Key, Part};
 use crate::keys::only;
 use crate::values::{at_most, get, integer_of, present};
 use landing_rules::MOST_CLOSURES;
-use landing_windows::{LAST_SECOND, ClosureFault, Closures};
+use landing_windows::{ClosureFault, Closures, LAST_SECOND};
 use toml::{Table, Value};
 
 // Whether all values of an array are tables.

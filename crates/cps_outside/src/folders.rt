@@ -50,7 +50,7 @@ pub trait Folder {
         ensures asked { IsTrue (state self.old).tells →
             ((state self.new).asked ≡ (state self.old).asked ++ name.now ∷ [])
             ⊎ (IsErrOf result LoadFault.Memory
-                × ((state self.new).asked ≡ (state self.old).asked)) }
+            × ((state self.new).asked ≡ (state self.old).asked)) }
         ensures ok { IfOk result (λ bytes. Gives (state self.old) (state self.new) name.now most
             bytes.items) }
         ensures failed { IsErrOf result LoadFault.Failed

@@ -71,7 +71,7 @@ impl Folder for MemoryFolder {
         ensures asked { IsTrue (folder_state self.old).tells →
             ((folder_state self.new).asked ≡ (folder_state self.old).asked ++ name.now ∷ [])
             ⊎ (IsErrOf result LoadFault.Memory
-                × ((folder_state self.new).asked ≡ (folder_state self.old).asked)) }
+            × ((folder_state self.new).asked ≡ (folder_state self.old).asked)) }
         ensures ok { IfOk result (λ bytes. Gives (folder_state self.old) (folder_state self.new)
             name.now most bytes.items) }
         ensures failed { IsErrOf result LoadFault.Failed

@@ -20,13 +20,13 @@ pub fn last_stage_bounds_all()
     ensures least { (p : RankedProblem) (cost : ℕ → ℕ → ℕ) → SoundProblem p → (value : Pair → ℕ)
         → IsObjective value →
         (lists : WindowNode → List Pair) → ((w : WindowNode) → w.0 ≡ p.rules.count
-            → KeptIn p cost w (lists w)) →
+        → KeptIn p cost w (lists w)) →
         (v : ℕ) → ((w : WindowNode) (q : Pair) → w.0 ≡ p.rules.count → InPairs q (lists w)
-            → v ≤ value q) →
+        → v ≤ value q) →
         (t : ℕ → ℕ) → Feasible p t → v ≤ value (pair_at cost p.rules.count t) }
     ensures attained { (p : RankedProblem) (cost : ℕ → ℕ → ℕ) → SoundProblem p →
         (lists : WindowNode → List Pair) → ((w : WindowNode) → w.0 ≡ p.rules.count
-            → KeptIn p cost w (lists w)) →
+        → KeptIn p cost w (lists w)) →
         (w : WindowNode) (q : Pair) → w.0 ≡ p.rules.count → InPairs q (lists w) →
         (t : ℕ → ℕ) × Feasible p t × (pair_at cost p.rules.count t ≡ q) }
 {}
@@ -37,11 +37,11 @@ pub fn legal_landings_are_feasible()
     ensures lands { (p : RankedProblem) (cost : ℕ → ℕ → ℕ) → SoundProblem p → (t : ℕ → ℕ)
         → Feasible p t →
         (xs : List Landing) × Legal p.rules (ranks xs) × LandedIn p xs
-            × (length (ranks xs) ≡ p.rules.count)
+        × (length (ranks xs) ≡ p.rules.count)
         × (pair_of cost xs ≡ pair_at cost p.rules.count t) }
     ensures feasible { (p : RankedProblem) (cost : ℕ → ℕ → ℕ) → SoundProblem p →
         (xs : List Landing) → Legal p.rules (ranks xs) → LandedIn p xs → length (ranks xs)
-            ≡ p.rules.count →
+        ≡ p.rules.count →
         Feasible p (second_in xs) × (pair_of cost xs ≡ pair_at cost p.rules.count (second_in xs)) }
 {}
 
@@ -52,7 +52,7 @@ pub fn least_is_best_and_tight()
         (cost : ℕ → ℕ → ℕ) → NeverCheaper cost → (value : Pair → ℕ) → IsObjective value →
         (t : ℕ → ℕ) → Feasible p t →
         ((u : ℕ → ℕ) → Feasible p u → value (pair_at cost p.rules.count t)
-            ≤ value (pair_at cost p.rules.count u)) →
+        ≤ value (pair_at cost p.rules.count u)) →
         (u : ℕ → ℕ) × IsBest p (λ v. value (pair_at cost p.rules.count v)) u × Tight p u
         × (value (pair_at cost p.rules.count u) ≡ value (pair_at cost p.rules.count t)) }
 {}
@@ -63,7 +63,7 @@ pub fn completing_pairs_from_successors()
         (first : ℕ → ℕ → Option ℕ) → FindsFirstOpen p first →
         (low : ℕ → Bool) → ((t u : ℕ) → t ≤ u → low u ≡ true → low t ≡ true) →
         (lists : PatternNode → List Pair) (w : PatternNode) (fresh : List Pair)
-            → (w.0 ≡ p.rules.count → ⊥) →
+        → (w.0 ≡ p.rules.count → ⊥) →
         ((r : ℕ) → PatternPermits p.rules w r →
         KeptCompleting (CompletesNode p cost low (pattern_push p.rules w r))
         (λ q. InPairs q (lists (pattern_push p.rules w r)))) →
@@ -71,10 +71,10 @@ pub fn completing_pairs_from_successors()
         (p.is_open (pattern_newest w) q.0 ≡ true) × ReachedIn p w q.0 × (low q.0 ≡ true)
         × ((r : ℕ) × (x : ℕ) × (o : Pair) × PatternPermits p.rules w r
         × (first r (next_from p (pattern_newest w) q.0 r) ≡ Some x)
-            × InPairs o (lists (pattern_push p.rules w r))
+        × InPairs o (lists (pattern_push p.rules w r))
         × (x ≤ o.0) × (cost r x + o.1 ≡ q.1))) →
         ((b r x : ℕ) (o : Pair) → p.is_open (pattern_newest w) b ≡ true → ReachedIn p w b → low b
-            ≡ true →
+        ≡ true →
         PatternPermits p.rules w r → first r (next_from p (pattern_newest w) b r) ≡ Some x →
         InPairs o (lists (pattern_push p.rules w r)) → x ≤ o.0 →
         (q : Pair) × InPairs q fresh × NoEarlierNoDearer q (b, cost r x + o.1)) →

@@ -44,7 +44,7 @@ pub fn closed_certificate_covers()
         (lists : PatternNode → List Pair) → IsClosedCertificate p first cost lists →
         (xs : List Landing) → Legal p.rules (ranks xs) → LandedIn p xs →
         (q : Pair) × InPairs q (lists (pattern_node p.rules (ranks xs)))
-            × NoWorse q (pair_of cost xs) }
+        × NoWorse q (pair_of cost xs) }
 {}
 
 /// A certificate whose listed pairs are closed under successor pairs bounds every feasible schedule by the
@@ -55,7 +55,7 @@ pub fn closed_certificate_bounds()
         (lists : PatternNode → List Pair) → IsClosedCertificate p first cost lists →
         (value : Pair → ℕ) → IsObjective value →
         (v : ℕ) → ((w : PatternNode) (q : Pair) → w.0 ≡ p.rules.count → InPairs q (lists w)
-            → v ≤ value q) →
+        → v ≤ value q) →
         (t : ℕ → ℕ) → Feasible p t → v ≤ value (pair_at cost p.rules.count t) }
     ensures infeasible { (p : RankedProblem) (cost : ℕ → ℕ → ℕ) → SoundProblem p
         → NeverCheaper cost →
@@ -72,9 +72,9 @@ pub fn accepted_certificate_bounds<S>()
     ensures optimal { (node_of : S → PatternNode) (pairs_of : S → List Pair) (p : RankedProblem)
         (cost : ℕ → ℕ → ℕ) → SoundProblem p →
         (first : ℕ → ℕ → Option ℕ) → FindsFirstOpen p first → NeverCheaper cost
-            → (states : List S) →
+        → (states : List S) →
         first_missed node_of pairs_of p.rules first (next_from p) cost states (pattern_node
-            p.rules []) ((0, 0) ∷ []) ≡ None →
+        p.rules []) ((0, 0) ∷ []) ≡ None →
         missed_from node_of pairs_of p.rules first (next_from p) cost states 1 states ≡ None →
         (value : Pair → ℕ) → IsObjective value → 1 ≤ p.rules.count → (v : ℕ) →
         element_from (is_final_below node_of pairs_of p.rules.count value v) 1 states ≡ None →
@@ -82,12 +82,12 @@ pub fn accepted_certificate_bounds<S>()
     ensures infeasible { (node_of : S → PatternNode) (pairs_of : S → List Pair)
         (p : RankedProblem) (cost : ℕ → ℕ → ℕ) → SoundProblem p →
         (first : ℕ → ℕ → Option ℕ) → FindsFirstOpen p first → NeverCheaper cost
-            → (states : List S) →
+        → (states : List S) →
         first_missed node_of pairs_of p.rules first (next_from p) cost states (pattern_node
-            p.rules []) ((0, 0) ∷ []) ≡ None →
+        p.rules []) ((0, 0) ∷ []) ≡ None →
         missed_from node_of pairs_of p.rules first (next_from p) cost states 1 states ≡ None →
         1 ≤ p.rules.count → element_from (is_final node_of pairs_of p.rules.count) 1 states
-            ≡ None →
+        ≡ None →
         (t : ℕ → ℕ) → Feasible p t → ⊥ }
 {}
 

@@ -39,21 +39,21 @@ pub fn successor_pairs_attain()
         (w' : WindowNode) (q : Pair) → AttainedIn p cost w' q →
         ((window_node p.rules [] ≡ w') × ((0, 0) ≡ q))
         ⊎ ((w : WindowNode) × (r : ℕ) × (a : Pair) × AttainedIn p cost w a
-            × WindowPermits p.rules w r × (window_push p.rules w r ≡ w')
+        × WindowPermits p.rules w r × (window_push p.rules w r ≡ w')
         × (p.is_open r q.0 ≡ true) × (next_from p (window_newest p.rules w) a.0 r ≤ q.0)
-            × (a.1 + cost r q.0 ≡ q.1)) }
+        × (a.1 + cost r q.0 ≡ q.1)) }
     ensures kept { (p : RankedProblem) (cost : ℕ → ℕ → ℕ) → SoundProblem p → NeverCheaper cost →
         (first : ℕ → ℕ → Option ℕ) → FindsFirstOpen p first →
         (lists : WindowNode → List Pair) (w' : WindowNode) (fresh : List Pair) →
         (window_node p.rules [] ≡ w' → ⊥) →
         ((w : WindowNode) (r : ℕ) → WindowPermits p.rules w r → window_push p.rules w r ≡ w'
-            → KeptIn p cost w (lists w)) →
+        → KeptIn p cost w (lists w)) →
         ((q : Pair) → InPairs q fresh →
         (w : WindowNode) × (r : ℕ) × (b : Pair) × WindowPermits p.rules w r
-            × (window_push p.rules w r ≡ w') × InPairs b (lists w)
+        × (window_push p.rules w r ≡ w') × InPairs b (lists w)
         × (next_pair first (next_from p) cost (window_newest p.rules w) b r ≡ Some q)) →
         ((w : WindowNode) (r : ℕ) (b q : Pair) → WindowPermits p.rules w r
-            → window_push p.rules w r ≡ w' → InPairs b (lists w) →
+        → window_push p.rules w r ≡ w' → InPairs b (lists w) →
         next_pair first (next_from p) cost (window_newest p.rules w) b r ≡ Some q →
         (o : Pair) × InPairs o fresh × NoWorse o q) →
         KeptIn p cost w' fresh }
@@ -67,7 +67,7 @@ pub fn least_label_from_sources()
         (labels : WindowNode → Option ℕ) (w' : WindowNode) (label : Option ℕ) →
         (window_node p.rules [] ≡ w' → ⊥) →
         ((w : WindowNode) (r : ℕ) → WindowPermits p.rules w r → window_push p.rules w r ≡ w'
-            → LabelIn p w (labels w)) →
+        → LabelIn p w (labels w)) →
         IsLabelFrom p first labels w' label →
         LabelIn p w' label }
     ensures least { (p : RankedProblem) (w : WindowNode) (label : Option ℕ) →
@@ -79,11 +79,11 @@ pub fn kept_pairs_are_undominated()
     ensures undominated { (p : RankedProblem) (cost : ℕ → ℕ → ℕ) (w : WindowNode)
         (pairs : List Pair) →
         KeptIn p cost w pairs → ((a b : Pair) → InPairs a pairs → InPairs b pairs → NoWorse a b
-            → a ≡ b) →
+        → a ≡ b) →
         (q : Pair) → InPairs q pairs → Undominated (AttainedIn p cost w) q }
     ensures all { (p : RankedProblem) (cost : ℕ → ℕ → ℕ) (w : WindowNode) (pairs : List Pair) →
         KeptIn p cost w pairs → (q : Pair) → Undominated (AttainedIn p cost w) q
-            → InPairs q pairs }
+        → InPairs q pairs }
 {}
 
 /// The least value of the kept pairs of a window is the least of all that it attains.
@@ -104,5 +104,5 @@ pub fn dropping_worse_pairs_loses_nothing()
     ensures staircase { (c : ℕ) (ps : List Pair) → InPairOrder ps → Staircase (sweep c ps) }
     ensures same { (ps qs : List Pair) → Staircase ps → Staircase qs →
         ((q : Pair) → InPairs q ps → InPairs q qs) → ((q : Pair) → InPairs q qs → InPairs q ps)
-            → ps ≡ qs }
+        → ps ≡ qs }
 {}

@@ -21,7 +21,7 @@ pub fn one_more_of_an_order()
         (xs : List Landing) → i < length order →
         earliest first after (reverse (take i order)) ≡ Some xs →
         first (get_or order i d) (after (latest_landing xs).0 (latest_landing xs).1 (get_or order
-            i d)) ≡ None →
+        i d)) ≡ None →
         earliest first after (reverse order) ≡ None }
     ensures seconds { (into order : List ℕ) (i u : ℕ) → i < length order →
         All (λ r. (1 ≤ r) × (r ≤ length into)) order → Distinct (reverse order) →

@@ -49,7 +49,7 @@ pub fn tight_in_its_order()
         (u : ℕ → ℕ) × Tight p u × SameOrder p.rules.count t u
         × ((r : ℕ) → IsRank p.rules.count r → u r ≤ t r)
         × (earliest first (next_from p) (sorted t p.rules.count)
-            ≡ Some (at_seconds u (sorted t p.rules.count))) }
+        ≡ Some (at_seconds u (sorted t p.rules.count))) }
     ensures unique { (p : RankedProblem) (t u : ℕ → ℕ) → Tight p t → Tight p u
         → SameOrder p.rules.count t u →
         (r : ℕ) → IsRank p.rules.count r → t r ≡ u r }

@@ -27,5 +27,5 @@ pub fn more_shift_allows_more()
     ensures no_worse { (p : RankedProblem) (k : ℕ) (back : ℕ → ℕ) → p.rules.most ≤ k
         → ((r : ℕ) → p.rules.back r ≤ back r) →
         (value : (ℕ → ℕ) → ℕ) (t u : ℕ → ℕ) → IsBest p value t
-            → IsBest (with_shift k back p) value u → value u ≤ value t }
+        → IsBest (with_shift k back p) value u → value u ≤ value t }
 {}

@@ -35,12 +35,12 @@ pub fn window_tests()
     ensures repeat { (g : OrderRules) → ((r : ℕ) → g.back r ≤ g.most) → (rs : List ℕ) (r : ℕ)
         → EachFits g rs → 1 ≤ r → suc (length rs) ≤ r + g.most →
         In r rs ↔ ((j : ℕ) × (j < suc (2 * g.most))
-            × (get_or (window g.most (suc (2 * g.most)) rs) j 0 + length rs ≡ r + g.most + j)) }
+        × (get_or (window g.most (suc (2 * g.most)) rs) j 0 + length rs ≡ r + g.most + j)) }
     ensures due { (g : OrderRules) → ((r : ℕ) → g.back r ≤ g.most) → (rs : List ℕ)
         → EachFits g rs →
         ((x : ℕ) → 1 ≤ x → x + g.most ≡ length rs → In x rs)
         ↔ ((j : ℕ) × (j < suc (2 * g.most)) × (get_or (window g.most (suc (2 * g.most)) rs) j 0
-            ≡ j)) }
+        ≡ j)) }
     ensures offsets { (g : OrderRules) → ((r : ℕ) → g.back r ≤ g.most) → (m : ℕ) (rs : List ℕ)
         → EachFits g rs →
         map (raised g.most) (offsets m rs) ≡ window g.most m rs }

@@ -38,7 +38,7 @@ fn with_pairs<const W: usize>(
     ensures { IfOk result (λ more. (pairs : List Pair) × (more ≡ costs ++ pairs ∷ [])
         × ArePairsOf problem.now stage.now.0 (node_at stage.now.1 i) pairs
         × ((q : Pair) → InPairs q pairs → (place : ℕ) × (index : ℕ)
-            × GivesPair problem.now before.now labels.now (node_at stage.now.1 i) q place index)) }
+        × GivesPair problem.now before.now labels.now (node_at stage.now.1 i) q place index)) }
 {
     let _few = problem.len();
     let _in_days = labels.len();
@@ -71,7 +71,7 @@ pub fn fill_costs_alone<const W: usize>(
     ensures sources { IfOk result (λ costs. (i : ℕ) → i < length stage.now.1 → (q : Pair)
         → InPairs q (list_at costs i)
         → (place : ℕ) × (index : ℕ)
-            × GivesPair problem.now before.now labels.now (node_at stage.now.1 i) q place index) }
+        × GivesPair problem.now before.now labels.now (node_at stage.now.1 i) q place index) }
     ensures landable { HasEachLandable problem.now stage.now }
 {
     let _near = problem.head();
@@ -104,7 +104,7 @@ pub fn fill_costs<const W: usize, R: Threads, G: Gate, L: Ledger>(
     ensures sources { IfOk result (λ costs. (i : ℕ) → i < length stage.now.1 → (q : Pair)
         → InPairs q (list_at costs i)
         → (place : ℕ) × (index : ℕ)
-            × GivesPair problem.now before.now labels.now (node_at stage.now.1 i) q place index) }
+        × GivesPair problem.now before.now labels.now (node_at stage.now.1 i) q place index) }
     ensures landable { HasEachLandable problem.now stage.now }
     ensures steps { OnOk result (L.count steps.new ≡ raised_by (length stage.now.1)
         (L.count steps.old)) }

@@ -37,11 +37,11 @@ fn first_giving(
     requires costs { All (λ q. q.1 ≤ 4277687395) pairs.now }
     ensures { MatchOption result
         ((i : ℕ) → i < length pairs.now → successor problem.now last (pair_at pairs.now i) rank
-            ≡ Some wanted → ⊥)
+        ≡ Some wanted → ⊥)
         (λ index. (index < length pairs.now) × (successor problem.now last
         (pair_at pairs.now index) rank ≡ Some wanted)
         × ((i : ℕ) → i < index → successor problem.now last (pair_at pairs.now i) rank
-            ≡ Some wanted → ⊥)) }
+        ≡ Some wanted → ⊥)) }
 {
     for i in 0..pairs.len() {
         if gives(problem, last, pairs[i], rank, wanted) {

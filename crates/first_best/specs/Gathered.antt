@@ -42,8 +42,8 @@ pub record IsAdded (before after : List EarlyNode) (node : Node) (second cost pl
   pub source : (j : ℕ) → j < length before → ((node_at after j).earliest ≡ (node_at before j).earliest) ⊎ ((j ≡ place) × ((node_at after j).earliest ≡ second))
   pub fresh : (j : ℕ) → length before ≤ j → j < length after → (j ≡ place) × ((node_at after j).earliest ≡ second) × ((i : ℕ) → i < length before → IsSameNode (node_at before i) node → ⊥)
 
--- the first windows of a stage are put together: each has its node, which is as early as the earliest of its windows and no dearer
--- than any, and no node stands twice
+-- the first windows of a stage are put together: each has its node, which is as early as the earliest of its windows and no
+-- dearer than any, and no node stands twice
 pub record AreGathered (stage : ℕ × List (List ℤ)) (lists : List (List Pair)) (count : ℕ) (nodes : List EarlyNode) (places : List ℕ) : Type 0 where
   pub long : length places ≡ count
   pub within : (i : ℕ) → i < count → place_at places i < length nodes

@@ -24,7 +24,8 @@ abbrev pub IsWanted : Problem → Option ℕ → List ℕ → Pair → Type 0
 IsWanted p None rs q = Unit {0}
 IsWanted p (Some budget) rs q = IsOfUse p budget rs q
 
--- the kept pairs of a node: each completes it, and each that does and is wanted has a kept one at least as late and at most as dear
+-- the kept pairs of a node: each completes it, and each that does and is wanted has a kept one at least as late and at most as
+-- dear
 pub record KeepsWanted (Completing Wanted Keeps : Pair → Type 0) : Type 0 where
   pub completes : (q : Pair) → Keeps q → Completing q
   pub covers : (q : Pair) → Completing q → Wanted q → (o : Pair) × Keeps o × NoEarlierNoDearer o q
