@@ -1,5 +1,5 @@
-//! Small situations whose best schedules are known, checked against the definitions by computation. Each
-//! stands beside a false neighbour: another k, a second less, or another order.
+//! Small situations whose best schedules are known, checked against the definitions by computation. Some schedules stand
+//! beside one that breaks a rule: with another k, or a second earlier.
 #![tactic(auto, unfolding(wake_table::specs::Table::separation))]
 
 ghost use Rattle.std.specs.Prelude.{◌≡◌, ◌∷◌, [], List, ℕ, IsTrue, IsFalse, codes, None, Some, ◌++◌, ◌≤◌};
