@@ -16,7 +16,7 @@ fn a_file_that_is_given_is_read(rt: HostRuntime) -> Result<(), Fail> {
     ))?;
     let run = run_in_memory(&rt, alloc, words.as_slice(), files, 1000, &FreeGate)?;
     assert_eq!(rt; run.status, 4);
-    assert_eq!(rt; run.out.written(), b"");
-    assert_eq!(rt; run.err.written(), b"cps: file 2: failed\n");
+    assert_eq!(rt; run.out.written(), b"".as_slice());
+    assert_eq!(rt; run.err.written(), b"cps: file 2: failed\n".as_slice());
     Ok(())
 }
