@@ -3,15 +3,13 @@ use Rattle.std.proofs.Common.{◌≡◌, ℕ, ◌+◌, ◌-◌, ◌*◌, ◌<◌
 use Rattle.std.specs.Prelude.{ℤ, ◌↔◌, Contains}
 use Rattle.std.proofs.lemmas.Int.{ints}
 use Rattle.cps_nodes.specs.Windows.{IsWindow, Accepts, shifted}
-use Rattle.cps_nodes.specs.WindowOrder.{window_cmp}
-use Rattle.std.specs.declared.cmp.Ordering.TheVariants.{Equal}
 use Rattle.cps_nodes.specs.Laws.{LeadOn, offset_after}
 use Rattle.cps_nodes.specs.Leads.{Extends, TailMeetsHead}
 use Rattle.landing_rules.specs.Problem.{Problem}
 use Rattle.cps_network.specs.Lists.{node_at, AreWindows}
 use Rattle.cps_network.specs.Landable.{HoldsCandidates}
 use Rattle.cps_network.specs.Permits.{IsPermitted, IsSuccessor, IsNextOf, NoneWaits, NonePassed, Repeats}
-use Rattle.cps_network.proofs.MergeLemmas.{same_from_tie, node_at-default, last_or_before, Contains-node_at}
+use Rattle.cps_network.proofs.MergeLemmas.{node_at-default, last_or_before, Contains-node_at}
 
 pub lists_same : (xs ys : List (List ℤ)) → length xs ≡ length ys → ((m : ℕ) → m < length xs → node_at xs m ≡ node_at ys m) → xs ≡ ys
 lists_same [] [] e h = refl
@@ -24,12 +22,12 @@ abbrev pub AreSameUpto : List (List ℤ) → List (List ℤ) → ℕ → Type 0
 AreSameUpto left right i = (m : ℕ) → m < i → node_at left m ≡ node_at right m
 
 pub same_more : (left right : List (List ℤ)) (i : ℕ) (a b : List ℤ) → AreSameUpto left right i → i < length left → i < length right
-    → a ≡ get_or left i a → b ≡ get_or right i b → window_cmp a b ≡ Equal → AreSameUpto left right (i + 1)
-same_more left right i a b is lt lt' a_is b_is tie m lm =
+    → a ≡ get_or left i a → b ≡ get_or right i b → a ≡ b → AreSameUpto left right (i + 1)
+same_more left right i a b is lt lt' a_is b_is e m lm =
     let at_a : a ≡ node_at left i = a_is ∙ node_at-default left i a [] lt in
     let at_b : b ≡ node_at right i = b_is ∙ node_at-default right i b [] lt' in
     elim (last_or_before m i lm) [
-      | inl same ↦ subst (λ (q : ℕ). node_at left q ≡ node_at right q) (sym same) (sym at_a ∙ same_from_tie a b tie ∙ at_b)
+      | inl same ↦ subst (λ (q : ℕ). node_at left q ≡ node_at right q) (sym same) (sym at_a ∙ e ∙ at_b)
       | inr less ↦ is m less
     ]
 

@@ -14,7 +14,6 @@ use crate::stage::Stage;
 use cps_nodes::{Window, window_laws};
 use cps_problem::Problem;
 use std::alloc::{AllocError, Global};
-use std::cmp::Ordering;
 
 // Adds the window after a landing of a rank, where it is permitted.
 fn add_permitted<const W: usize>(
@@ -172,9 +171,8 @@ fn are_same<const W: usize>(left: &[Window<W>], right: &[Window<W>]) -> bool
         return false;
     }
     for i in 0..left.len() {
-        match left[i].cmp(&right[i]) {
-            Ordering::Equal => {}
-            _ => return false,
+        if left[i] != right[i] {
+            return false;
         }
     }
     true

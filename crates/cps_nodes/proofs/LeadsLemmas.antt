@@ -2,7 +2,7 @@
 use Rattle.std.proofs.Common.{◌≡◌, ℕ, ◌+◌, ◌-◌, ◌/◌, ◌<◌, List, [], ◌∷◌, ◌++◌, length, drop, take, get_or, refl, arith, length-append, length-drop, ◌∙◌, sym, ap, subst, zero, suc}
 use Rattle.std.specs.Prelude.{ℤ, pos, ◌+ℤ◌, ◌≤ℤ◌}
 use Rattle.std.proofs.lemmas.Int.{ints}
-use Rattle.std.proofs.lemmas.List.{get_or-drop, get_or-take, take_all}
+use Rattle.std.proofs.lemmas.List.{get_or-drop, get_or-take}
 use Rattle.cps_nodes.specs.Windows.{IsWindow, HoldsRank, offset_at, shifted}
 use Rattle.cps_nodes.specs.Leads.{Extends, TailMeetsHead}
 
@@ -51,7 +51,3 @@ Extends-from_TailMeetsHead w xs ys a b leads =
         let moved : offset_at xs (1 + i) ≡ offset_at ys i =
         sym (get_or-drop 1 xs i (pos 0)) ∙ ap (λ (zs : List ℤ). get_or zs i (pos 0)) leads ∙ get_or-take (length ys - 1) ys i (pos 0) before in
         b.differ i (w - 1) (omega (arith, b.len)) (omega (arith, b.is_width)) (omega (arith, ints, e, a.len))
-
--- to read on to the end of a list from its second offset
-pub tail_whole : (xs : List ℤ) → take (length xs - 1) (drop 1 xs) ≡ drop 1 xs
-tail_whole xs = take_all (length xs - 1) (drop 1 xs) (omega (arith, length-drop 1 xs))

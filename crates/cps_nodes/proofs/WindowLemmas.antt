@@ -1,10 +1,7 @@
 -- Laws of windows as lists of offsets.
-use Rattle.std.proofs.Common.{◌≡◌, ℕ, ◌+◌, ◌-◌, ◌/◌, ◌<◌, List, [], ◌∷◌, ◌++◌, length, drop, get_or, arith, length-append, length-drop, replicate, ◌∙◌, sym, ap, inl, inr, subst}
+use Rattle.std.proofs.Common.{◌≡◌, ℕ, ◌+◌, ◌-◌, ◌/◌, ◌<◌, List, [], ◌∷◌, length, drop, get_or, arith, length-append, length-drop, replicate, ◌∙◌, sym, ap, inl, inr, subst}
 use Rattle.std.specs.Prelude.{Bool, true, false, IsTrue, ◌↔◌, ℤ, pos, ◌+ℤ◌, ◌≤ℤ◌, ◌⊎◌}
 use Rattle.std.proofs.lemmas.Int.{ints}
-use Rattle.std.proofs.Math.ListN.{set}
-use Rattle.std.proofs.Common.{take}
-use Rattle.std.proofs.Math.Seq.{set-append_seam}
 use Rattle.std.proofs.lemmas.List.{get_or_append_left, get_or-append_right, get_or-drop, get_or-replicate, length-replicate}
 use Rattle.std.proofs.lemmas.Bool.Decides.{nat_tests}
 use Rattle.cps_nodes.specs.Windows.{IsWidth, IsWindow, HoldsRank, offset_at, shifted}
@@ -75,30 +72,6 @@ IsWindow-shifted w xs o is low high fresh due =
           ];
       due = due;
     }
-
--- to turn a list by one place and to write the last offset is to shift it
-pub set-turned : (xs ys : List ℤ) (n : ℕ) (o : ℤ) → 0 < length xs → ys ≡ drop 1 xs ++ take 1 xs → n + 1 ≡ length ys → set ys n o ≡ shifted xs o
-set-turned [] ys n o h e m = absurd (omega arith)
-set-turned (x ∷ xs) ys n o h e m =
-    let at : n ≡ length xs = omega (arith, ap length e, length-append xs (x ∷ [])) in
-    rw (e, at) (set-append_seam xs x [] o)
-
--- a window's bounds, wide
-pub low_of : (w : ℕ) (xs : List ℤ) (o : ℤ) → IsWindow w xs → pos 0 ≤ℤ (o +ℤ pos (w / 2)) → (i : ℕ) → i < length (shifted xs o) → pos 0 ≤ℤ (offset_at (shifted xs o) i +ℤ pos 7)
-low_of w xs o is low i lt =
-    let some : 0 < length xs = omega (arith, is.len, is.is_width) in
-    elim (last_or_before i w (omega (arith, length-shifted xs o some, is.len))) [
-      | inl e ↦ rw (offset_at-shifted_last xs o i (e ∙ sym is.len)) (omega (arith, ints, is.is_width))
-      | inr n ↦ rw (offset_at-shifted_below xs o i (omega (arith, is.len))) (omega (arith, ints, is.low (i + 1) n, is.is_width))
-    ]
-
-pub high_of : (w : ℕ) (xs : List ℤ) (o : ℤ) → IsWindow w xs → o ≤ℤ pos (w / 2) → (i : ℕ) → i < length (shifted xs o) → offset_at (shifted xs o) i ≤ℤ pos 7
-high_of w xs o is high i lt =
-    let some : 0 < length xs = omega (arith, is.len, is.is_width) in
-    elim (last_or_before i w (omega (arith, length-shifted xs o some, is.len))) [
-      | inl e ↦ rw (offset_at-shifted_last xs o i (e ∙ sym is.len)) (omega (arith, ints, is.is_width))
-      | inr n ↦ rw (offset_at-shifted_below xs o i (omega (arith, is.len))) (omega (arith, ints, is.high (i + 1) n, is.is_width))
-    ]
 
 -- what a test for a rank says, at either answer
 pub held : (b : Bool) (xs : List ℤ) (r s : ℤ) → (IsTrue b ↔ HoldsRank xs r) → b ≡ true → r ≡ s → HoldsRank xs s

@@ -4,3 +4,4 @@ pub mod WindowOrder
 pub mod Ranks
 pub mod Leads
 pub mod Laws
+pub mod Digits

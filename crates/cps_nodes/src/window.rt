@@ -1,8 +1,9 @@
 //! A window.
 
-ghost use Rattle.std.specs.Prelude.{◌≡◌, ℕ, ℤ, pos, ◌+◌, ◌-◌, ◌*◌, ◌/◌, ◌<◌, ◌≤◌, ◌+ℤ◌, ◌-ℤ◌, ◌≤ℤ◌, List, [], ◌∷◌, ◌++◌, ◌⊎◌, ◌↔◌, length, IsTrue, IfSome, SomeIff, replicate, drop};
-ghost use Rattle.std.specs.Ordering.{int_cmp};
-ghost use Rattle.std.specs.Cmp.Lexicographic.{slice_cmp};
+ghost use Rattle.std.specs.Prelude.{◌≡◌, ℕ, ℤ, pos, ◌+◌, ◌-◌, ◌*◌, ◌/◌, ◌%◌, ◌^◌, ◌<◌, ◌≤◌, ◌+ℤ◌, ◌-ℤ◌, ◌≤ℤ◌, List, [], ◌∷◌, ◌++◌, ◌⊎◌, ◌↔◌, length, IsTrue, IfSome, SomeIff, replicate, drop};
+ghost use Rattle.std.specs.Ordering.{int_eq};
+ghost use Rattle.std.specs.Cmp.Lexicographic.{pointwise};
+ghost use Rattle.cps_nodes.specs.Digits.{digit_offset, offsets_of};
 ghost use Rattle.cps_nodes.specs.Leads.{Extends, IsBelow, GoOnAlike, TailMeetsHead};
 ghost use Rattle.cps_nodes.specs.Ranks.{KeepsShift, HasLanded, window_of};
 ghost use Rattle.cps_nodes.specs.WindowOrder.{window_cmp};
@@ -14,74 +15,78 @@ use std::marker::Model;
 /// The offsets, rank minus place, at the last W places of a stage, W = 2k + 1 being 1, 3, 5 or 7.
 ///
 /// Places below 1 hold offset 0. The ranks at the places differ, and the rank k below the last place is among them.
-#[derive(Clone, Copy, PartialEq, Eq)]
+#[derive(Clone, Copy)]
 pub struct Window<const W: usize> {
-    offsets: [i8; W],
+    // One digit in base 16 for each place, 8 more than its offset, that of the first place the highest. So windows compare
+    // as numbers do.
+    digits: u32,
 }
 
 impl<const W: usize> Model for Window<W> {
     ghost use Rattle.std.specs.Prelude.{List, ℤ};
-    ghost use Rattle.cps_nodes.specs.Windows.{IsWindow};
+    ghost use Rattle.cps_nodes.specs.Digits.{offsets_of, number_of, IsPacked, number-IsPacked};
 
     ghost Value = { List ℤ };
 
-    ghost view = { λ w. w.offsets };
+    ghost view = { λ w. offsets_of W w.digits };
 
-    ghost invariant = { λ w. IsWindow W w.offsets };
+    ghost invariant = { λ w. IsPacked W w.digits };
 
-    ghost inverse = { λ xs. record { offsets = xs } };
+    ghost inverse = { λ xs. record { digits = number_of xs } };
+
+    ghost inverse_ok = { λ w h i. record { digits = number-IsPacked W w.digits h i } };
+}
+
+// What digit i of a number counts, the lowest digit being digit 0.
+#[inline]
+fn place_value(i: usize) -> u32
+    requires { i < 8 }
+    ensures { result ≡ 2 ^ (4 * i) }
+{
+    1 << (4 * i)
+}
+
+// The offset that digit i of a number stands for.
+#[inline]
+fn digit_offset(digits: u32, i: usize) -> i8
+    requires { i < 8 }
+    ensures { result ≡ digit_offset digits i }
+{
+    (digits / place_value(i) % 16) as i8 - 8
+}
+
+// The number of the digits of a window from the second place on.
+#[inline]
+fn tail_of<const W: usize>(digits: u32) -> u32
+    requires { (0 < W) × (W < 8) }
+    ensures { result ≡ digits % 2 ^ (4 * (W - 1)) }
+{
+    digits % place_value(W - 1)
+}
+
+// The number of the digits after one more landing, at this offset.
+#[inline]
+fn shift<const W: usize>(digits: u32, offset: i8) -> u32
+    requires width { (0 < W) × (W < 8) }
+    requires low { pos 0 ≤ℤ (offset +ℤ pos 8) }
+    requires high { offset ≤ℤ pos 7 }
+    ensures few { result < 2 ^ (4 * W) }
+    ensures offsets { offsets_of W result ≡ shifted (offsets_of W digits) offset }
+{
+    tail_of::<W>(digits) * 16 + (offset + 8) as u32
 }
 
 // Whether some place holds this rank. Ranks are counted from the place of the first offset.
-fn holds_rank(offsets: &[i8], rank: i8) -> bool
-    requires few { length offsets.now < 8 }
-    requires low { (i : ℕ) → i < length offsets.now → pos 0 ≤ℤ (offset_at offsets.now i +ℤ pos 7) }
-    requires high { (i : ℕ) → i < length offsets.now → offset_at offsets.now i ≤ℤ pos 7 }
-    ensures { IsTrue result ↔ HoldsRank offsets.now rank }
+fn holds_rank<const W: usize>(digits: u32, rank: i8) -> bool
+    requires { W < 8 }
+    ensures { IsTrue result ↔ HoldsRank (offsets_of W digits) rank }
 {
-    for (i, offset) in offsets.iter().enumerate() {
-        if i as i8 + *offset == rank {
+    for i in 0..W {
+        if i as i8 + digit_offset(digits, W - 1 - i) == rank {
             return true;
         }
     }
     false
-}
-
-// How two lists of offsets compare: by the first place where they differ.
-#[inline]
-fn order_of(left: &[i8], right: &[i8]) -> Ordering
-    requires { length left.now ≡ length right.now }
-    ensures { result ≡ slice_cmp int_cmp left.now right.now }
-{
-    for i in 0..left.len() {
-        match left[i].cmp(&right[i]) {
-            Ordering::Equal => {}
-            unequal => return unequal,
-        }
-    }
-    Ordering::Equal
-}
-
-// Whether two lists of offsets are one.
-#[inline]
-fn same_offsets(left: &[i8], right: &[i8]) -> bool
-    requires { length left.now ≡ length right.now }
-    ensures { IsTrue result ↔ (left.now ≡ right.now) }
-{
-    match order_of(left, right) {
-        Ordering::Equal => true,
-        _ => false,
-    }
-}
-
-// Drops the first offset and appends this one.
-fn shift(offsets: &mut [i8], offset: i8)
-    requires { 0 < length offsets.old }
-    ensures { offsets.new ≡ shifted offsets.old offset }
-{
-    offsets.rotate_left(1);
-    let last = offsets.len() - 1;
-    offsets[last] = offset;
 }
 
 impl<const W: usize> Window<W> {
@@ -91,7 +96,9 @@ impl<const W: usize> Window<W> {
         ensures zeros { result ≡ replicate W (pos 0) }
         ensures empty { result ≡ window_of W [] }
     {
-        Window { offsets: [0; W] }
+        Window {
+            digits: 0x8888_8888 % place_value(W),
+        }
     }
 
     /// The window after one more landing, at this offset from -k to k. `None` exactly where the flight stands in this
@@ -109,34 +116,33 @@ impl<const W: usize> Window<W> {
             → SomeIff result (KeepsShift (W / 2) (ranks ++ rank ∷ []))
             (window_of W (ranks ++ rank ∷ [])) }
     {
-        let offsets = &self.offsets;
-        if holds_rank(offsets, W as i8 + offset) {
+        if holds_rank::<W>(self.digits, W as i8 + offset) {
             return None;
         }
-        let mut offsets = self.offsets;
-        shift(&mut offsets, offset);
-        if !holds_rank(&offsets, (W / 2) as i8) {
+        let digits = shift::<W>(self.digits, offset);
+        if !holds_rank::<W>(digits, (W / 2) as i8) {
             return None;
         }
-        Some(Window { offsets })
+        Some(Window { digits })
     }
 
     /// The offset at place i of the window, counted from 0.
+    #[inline]
     pub fn offset(&self, i: usize) -> i8
         requires { i < W }
         ensures valid { IsWindow W self.now }
         ensures value { result ≡ offset_at self.now i }
     {
-        self.offsets[i]
+        digit_offset(self.digits, W - 1 - i)
     }
 
     /// The offset of the last landing.
+    #[inline]
     pub fn last(&self) -> i8
         ensures valid { IsWindow W self.now }
         ensures value { result ≡ offset_at self.now (W - 1) }
     {
-        let offsets = &self.offsets;
-        offsets[W - 1]
+        digit_offset(self.digits, 0)
     }
 
     /// Whether a rank has landed by the stage of this window: it is at most stage - k, or in the window. Both numbers are
@@ -154,59 +160,60 @@ impl<const W: usize> Window<W> {
             → self.now ≡ window_of W ranks → stage ≡ pos (length ranks)
             → (IsTrue result ↔ HasLanded ranks rank) }
     {
-        let offsets = &self.offsets;
+        let digits = self.digits;
         if rank + (W / 2) as i32 <= stage {
             return true;
         }
-        holds_rank(offsets, (rank - stage + (W - 1) as i32) as i8)
+        holds_rank::<W>(digits, (rank - stage + (W - 1) as i32) as i8)
     }
 
     /// Whether some offset extends this window to `next`.
+    #[inline]
     pub fn leads_to(&self, next: &Window<W>) -> bool
         ensures valid { IsWindow W self.now }
         ensures next_valid { IsWindow W next.now }
         ensures extends { IsTrue result ↔ Extends self.now next.now }
         ensures lists { IsTrue result ↔ TailMeetsHead self.now next.now }
     {
-        let left = &self.offsets[..];
-        let right = &next.offsets[..];
-        let last = right.len() - 1;
-        same_offsets(&left[1..], &right[..last])
+        tail_of::<W>(self.digits) == next.digits / 16
     }
 
     /// Whether this window stands, in the order, before those that lead to `next`.
+    #[inline]
     pub fn is_below(&self, next: &Window<W>) -> bool
         ensures { IsTrue result ↔ IsBelow self.now next.now }
     {
-        let left = &self.offsets[..];
-        let right = &next.offsets[..];
-        let last = right.len() - 1;
-        match order_of(&left[1..], &right[..last]) {
-            Ordering::Less => true,
-            _ => false,
-        }
+        tail_of::<W>(self.digits) < next.digits / 16
     }
 
     /// Whether both windows have the same offsets from the second on. The same flights may then land next.
+    #[inline]
     pub fn shares_tail(&self, other: &Window<W>) -> bool
         ensures valid { IsWindow W self.now }
         ensures other_valid { IsWindow W other.now }
         ensures same { IsTrue result ↔ (drop 1 self.now ≡ drop 1 other.now) }
         ensures alike { IsTrue result → GoOnAlike self.now other.now }
     {
-        let left = &self.offsets[..];
-        let right = &other.offsets[..];
-        same_offsets(&left[1..], &right[1..])
+        tail_of::<W>(self.digits) == tail_of::<W>(other.digits)
+    }
+
+    // Whether both windows have the same offsets.
+    #[inline]
+    pub(crate) fn has_same_offsets(&self, other: &Window<W>) -> bool
+        ensures { result ≡ pointwise int_eq self.now other.now }
+    {
+        self.digits == other.digits
     }
 
     // The order of windows.
+    #[inline]
     pub(crate) fn compare(&self, other: &Window<W>) -> Ordering
         ensures { result ≡ window_cmp self.now other.now }
     {
-        let left = &self.offsets[..];
-        let right = &other.offsets[..];
-        match order_of(&left[1..], &right[1..]) {
-            Ordering::Equal => left[0].cmp(&right[0]),
+        let left = self.digits;
+        let right = other.digits;
+        match tail_of::<W>(left).cmp(&tail_of::<W>(right)) {
+            Ordering::Equal => left.cmp(&right),
             unequal => unequal,
         }
     }

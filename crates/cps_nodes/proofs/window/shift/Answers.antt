@@ -1,7 +1,47 @@
-use Rattle.std.proofs.Common.{arith}
-use Rattle.cps_nodes.proofs.WindowLemmas.{set-turned}
-use Rattle.std.proofs.lemmas.Int.{to_z-of_z}
+use Rattle.std.proofs.Common.{◌≡◌, ℕ, ◌*◌, ◌+◌, ◌<◌, ◌≤◌, ◌^◌, ◌∙◌, refl, ap, arith, pow_mono, w8, to_z, of_z}
+use Rattle.std.specs.Prelude.{ℤ, pos, negsuc, nat_abs, ◌+ℤ◌, ◌-ℤ◌, ◌≤ℤ◌}
+use Rattle.std.proofs.lemmas.Int.{ints}
+use Rattle.cps_nodes.specs.Digits.{offsets_of}
+use Rattle.cps_nodes.specs.Windows.{shifted}
+use Rattle.cps_nodes.proofs.DigitLemmas.{shifted-offsets_of, shifted_lt}
 use Rattle.cps_nodes.proofs.window.shift.Goals as goal
 
-pub returns : goal.returns
-returns c = rw (to_z-of_z _ c.args.offset c.ranges.offset) (set-turned c.args.offsets.now _ _ c.args.offset c.requires c.rotate_left.ensures.after (omega arith))
+abs_is : (z : ℤ) → pos 0 ≤ℤ z → pos (nat_abs z) ≡ z
+abs_is (pos n) low = refl
+abs_is (negsuc n) low = absurd (omega (arith, ints, low))
+
+-- the last digit, as the code computes it
+abbrev digit : ℤ → ℕ
+digit offset = nat_abs (to_z w8 (of_z w8 (to_z w8 (of_z w8 offset) +ℤ pos 8)))
+
+digit_is : (g : _) (c : goal.After-tail_of g) → pos (digit c.args.offset) ≡ c.args.offset +ℤ pos 8
+digit_is g c =
+    let sum : to_z w8 (of_z w8 (to_z w8 (of_z w8 c.args.offset) +ℤ pos 8)) ≡ c.args.offset +ℤ pos 8 =
+    omega (arith, ints, c.requires.low, c.requires.high, c.ranges.offset) in
+    abs_is (to_z w8 (of_z w8 (to_z w8 (of_z w8 c.args.offset) +ℤ pos 8))) (omega (arith, ints, sum, c.requires.low)) ∙ sum
+
+digit_lt : (g : _) (c : goal.After-tail_of g) → digit c.args.offset < 16
+digit_lt g c = omega (arith, ints, digit_is g c, c.requires.high)
+
+few : (g : _) (c : goal.After-tail_of g) → c.tail_of.result * 16 + digit c.args.offset < 2 ^ (4 * g.row.W)
+few g c = rw c.tail_of.ensures (shifted_lt g.row.W c.args.digits (digit c.args.offset) c.requires.width.0 (digit_lt g c))
+
+most : (g : _) (c : goal.After-tail_of g) → 2 ^ (4 * g.row.W) ≤ 2 ^ 28
+most g c =
+    let long : 4 * g.row.W ≤ 28 = omega (arith, c.requires.width) in
+    pow_mono long
+
+pub overflow_mul-result : goal.overflow_mul-result
+overflow_mul-result g c = omega (arith, few g c, most g c)
+
+pub overflow_add-result-2 : goal.overflow_add-result-2
+overflow_add-result-2 g c = omega (arith, few g c, most g c)
+
+pub returns-clause-few : goal.returns-clause-few
+returns-clause-few g c = few g c
+
+pub returns-clause-offsets : goal.returns-clause-offsets
+returns-clause-offsets g c =
+    let o : (pos (digit c.args.offset) -ℤ pos 8) ≡ c.args.offset = omega (arith, ints, digit_is g c) in
+    rw c.tail_of.ensures (shifted-offsets_of g.row.W c.args.digits (digit c.args.offset) c.requires.width.0 (digit_lt g c)
+    ∙ ap (shifted (offsets_of g.row.W c.args.digits)) o)

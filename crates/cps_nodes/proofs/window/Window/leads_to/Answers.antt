@@ -1,15 +1,22 @@
-use Rattle.std.proofs.Common.{◌∙◌, sym}
-use Rattle.std.specs.Prelude.{IsTrue, ◌↔◌}
+use Rattle.std.proofs.Common.{arith, ◌/◌}
+use Rattle.std.specs.Prelude.{IsTrue, ◌↔◌, nat_eq}
+use Rattle.cps_nodes.specs.Digits.{offsets_of}
 use Rattle.cps_nodes.specs.Leads.{TailMeetsHead}
-use Rattle.cps_nodes.proofs.LeadsLemmas.{TailMeetsHead-from_Extends, Extends-from_TailMeetsHead, tail_whole}
+use Rattle.cps_nodes.proofs.DigitTests.{meets_tested}
+use Rattle.cps_nodes.proofs.LeadsLemmas.{TailMeetsHead-from_Extends, Extends-from_TailMeetsHead}
 use Rattle.cps_nodes.proofs.window.Window.leads_to.Goals as goal
 
--- what the comparison of the slices says
-meets : (g : _) (c : goal.After-same_offsets g) → IsTrue c.same_offsets.result ↔ TailMeetsHead c.self.inside.offsets c.next.inside.offsets
-meets g c = (λ t. sym (tail_whole c.self.inside.offsets) ∙ c.same_offsets.ensures.0 t, λ e. c.same_offsets.ensures.1 (tail_whole c.self.inside.offsets ∙ e))
+-- what the comparison of the numbers says
+meets : (g : _) (c : goal.After-next g) → IsTrue (nat_eq c.tail_of.result (c.next.inside.digits / 16))
+    ↔ TailMeetsHead (offsets_of g.row.W c.self.inside.digits) (offsets_of g.row.W c.next.inside.digits)
+meets g c =
+    meets_tested g.row.W c.self.inside.digits c.next.inside.digits c.tail_of.result (omega (arith, c.self.invariant.window.is_width)) c.next.invariant.few c.tail_of.ensures
+
+pub returns-clause-lists : goal.returns-clause-lists
+returns-clause-lists g c = rw (← c.self.view_is, ← c.next.view_is) (meets g c)
 
 pub returns-clause-extends : goal.returns-clause-extends
 returns-clause-extends g c = rw (← c.self.view_is, ← c.next.view_is) (
-  λ t. Extends-from_TailMeetsHead g.row.W _ _ c.self.invariant c.next.invariant ((meets g c).0 t),
+  λ t. Extends-from_TailMeetsHead g.row.W _ _ c.self.invariant.window c.next.invariant.window ((meets g c).0 t),
   λ e. (meets g c).1 (TailMeetsHead-from_Extends _ _ e),
 )

@@ -1,10 +1,18 @@
-use Rattle.std.proofs.Common.{◌≡◌, ◌∙◌, sym, drop}
-use Rattle.cps_nodes.proofs.LeadsLemmas.{tail_whole}
+use Rattle.std.proofs.Common.{arith, drop}
+use Rattle.std.specs.Prelude.{◌≡◌, IsTrue, ◌↔◌, nat_eq}
+use Rattle.cps_nodes.specs.Digits.{offsets_of}
+use Rattle.cps_nodes.proofs.DigitTests.{tails_tested}
 use Rattle.cps_nodes.proofs.TailLemmas.{GoOnAlike-same_tail}
 use Rattle.cps_nodes.proofs.window.Window.shares_tail.Goals as goal
 
+-- what the comparison of the numbers says
+same : (g : _) (c : goal.After-tail_of-2 g) → IsTrue (nat_eq c.tail_of.result c.tail_of-2.result)
+    ↔ (drop 1 (offsets_of g.row.W c.self.inside.digits) ≡ drop 1 (offsets_of g.row.W c.other.inside.digits))
+same g c = tails_tested g.row.W c.self.inside.digits c.other.inside.digits _ _ (omega (arith, c.self.invariant.window.is_width)) c.tail_of.ensures c.tail_of-2.ensures
+
+pub returns-clause-same : goal.returns-clause-same
+returns-clause-same g c = rw (← c.self.view_is, ← c.other.view_is) (same g c)
+
 pub returns-clause-alike : goal.returns-clause-alike
-returns-clause-alike g c = λ t.
-    let same : drop 1 c.self.inside.offsets ≡ drop 1 c.other.inside.offsets =
-    sym (tail_whole c.self.inside.offsets) ∙ c.same_offsets.ensures.0 t ∙ tail_whole c.other.inside.offsets in
-    rw (← c.self.view_is, ← c.other.view_is) (GoOnAlike-same_tail g.row.W _ _ c.self.invariant c.other.invariant same)
+returns-clause-alike g c = λ t. rw (← c.self.view_is, ← c.other.view_is) (
+    GoOnAlike-same_tail g.row.W _ _ c.self.invariant.window c.other.invariant.window ((same g c).0 t))
