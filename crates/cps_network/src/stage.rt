@@ -114,8 +114,8 @@ impl<const W: usize> Stage<W> {
         self.list.compact(labels, &keep);
     }
 
-    // The windows, in ascending order.
-    pub(crate) fn windows(&self) -> &[Window<W>]
+    /// The windows, in ascending order.
+    pub fn windows(&self) -> &[Window<W>]
         ensures windows { result.now ≡ self.now.1 }
         ensures ascending { IsAscending self.now.1 }
         ensures valid { AreWindows W self.now.1 }
