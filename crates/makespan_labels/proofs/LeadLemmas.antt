@@ -1,5 +1,5 @@
 -- A landing behind a flight: the separation alone counts, since that flight waited for the horizon and for the frozen ones.
-use Rattle.std.proofs.Common.{◌≡◌, ℕ, zero, suc, ◌+◌, ◌-◌, ◌<◌, ◌≤◌, max, List, [], ◌∷◌, length, Option, Some, None, refl, sym, ap, subst, ◌∙◌, arith}
+use Rattle.std.proofs.Common.{◌≡◌, ℕ, zero, suc, ◌+◌, ◌-◌, ◌≤◌, max, List, [], ◌∷◌, Option, Some, None, sym, ap, subst, ◌∙◌, arith}
 use Rattle.std.specs.Prelude.{ℤ, slice_get}
 use Rattle.std.proofs.lemmas.Option.{get_or_from_slice_get}
 use Rattle.wake_table.specs.declared.category.Category.{Category}
@@ -13,7 +13,7 @@ use Rattle.cps_theory.specs.RankLists.{of_rank}
 use Rattle.cps_theory.specs.Separation.{Landing}
 use Rattle.cps_theory.specs.laws.LabelDominance.{last_ranks}
 use Rattle.landing_joint.specs.RankedProblem.{no_waiting, ranked, start_at, apart_at, after_last, first_at, landing_after}
-use Rattle.cps_network.specs.Nodes.{Node, latest, IsWindowNetwork}
+use Rattle.cps_network.specs.Nodes.{latest, IsWindowNetwork}
 use Rattle.makespan_labels.specs.Labels.{CanLandAt}
 
 pub flight_is : (p : Problem) (r : ℕ) (f : Waiting) → 1 ≤ r → slice_get p.flights (r - 1) ≡ Some f → of_rank no_waiting p.flights r ≡ f

@@ -27,6 +27,18 @@ pub(crate) struct Group {
     pub(crate) category: Category,
 }
 
+impl Group {
+    // No group yet.
+    pub(crate) fn blank() -> Group {
+        Group {
+            from: 0,
+            least: 0,
+            leader: 0,
+            category: Category::A,
+        }
+    }
+}
+
 // Windows with the same head stand near each other among those with the same first offset, which this tells.
 #[inline]
 pub(crate) fn run_of<const W: usize>(window: &Window<W>) -> usize
@@ -60,34 +72,35 @@ fn category_of(problem: &Problem, rank: u8) -> Category
     problem.flight(rank).category
 }
 
-// The group that leads to the window at place i of the stage after.
-pub(crate) fn group_of<const W: usize>(
+// Makes a group the one that leads to the window at place i of the stage after. It is written in place, which costs less.
+pub(crate) fn find_group<const W: usize>(
+    group: &mut Group,
     problem: &Problem,
     before: &Stage<W>,
     labels: &Column,
     stage: &Stage<W>,
     i: usize,
-) -> Group
+)
     requires width { W ≡ 2 * problem.now.k + 1 }
     requires laws { WindowLaws problem.now W }
     requires before { HoldsLabels problem.now before.now labels.now }
     requires next { IsNextOf problem.now before.now.0 before.now.1 stage.now.1 }
     requires within { i < length stage.now.1 }
-    ensures group { IsReady problem.now W before.now labels.now result }
-    ensures leads { Extends (node_at before.now.1 result.from) (node_at stage.now.1 i) }
+    ensures group { IsReady problem.now W before.now labels.now group.new }
+    ensures leads { Extends (node_at before.now.1 group.new.from) (node_at stage.now.1 i) }
 {
     let _few = problem.len();
     let (from, to) = stage.sources(before, i);
     let leader = last_rank(&before.node(from), before.number());
-    Group {
+    *group = Group {
         from,
         least: least_of(labels, from, to),
         leader,
         category: category_of(problem, leader),
-    }
+    };
 }
 
-// Makes a group the one that leads to the window at place i of the stage after, unless it does already.
+// The same, unless the group leads there already.
 #[inline]
 pub(crate) fn turn_to<const W: usize>(
     group: &mut Group,
@@ -112,5 +125,5 @@ pub(crate) fn turn_to<const W: usize>(
     if leads {
         return;
     }
-    *group = group_of(problem, before, labels, stage, i);
+    find_group(group, problem, before, labels, stage, i);
 }

@@ -15,7 +15,7 @@ ghost use Rattle.makespan_labels.specs.Ready.{IsReady};
 ghost use Rattle.makespan_labels.specs.Labels.{IsLabel, AreLabels, HoldsLabels};
 
 use crate::column::{Column, NO_LABEL};
-use crate::group::{Group, group_of, run_of, turn_to};
+use crate::group::{Group, find_group, run_of, turn_to};
 use cps_base::{Ledger, Steps};
 use cps_network::{Stage, last_rank, prefix_laws};
 use cps_nodes::{Window, window_laws};
@@ -98,13 +98,18 @@ pub fn fill_alone<const W: usize>(
     if windows.is_empty() {
         return;
     }
-    let mut groups = [group_of(problem, before, labels, stage, 0); 8];
+    let mut first = Group::blank();
+    find_group(&mut first, problem, before, labels, stage, 0);
+    let mut groups = [first; 8];
     for i in 0..windows.len() {
         let window = &windows[i];
         let run = run_of(window);
         let leads = earlier[groups[run].from].leads_to(window);
         turn_to(&mut groups[run], leads, problem, before, labels, stage, i);
-        into.set(i, label_of(problem, before, labels, stage, i, window, &groups[run]));
+        into.set(
+            i,
+            label_of(problem, before, labels, stage, i, window, &groups[run]),
+        );
     }
 }
 

@@ -1,6 +1,5 @@
-use Rattle.std.proofs.Common.{◌≡◌, ◌∙◌, ℕ, ◌<◌, ◌≤◌, List, length, get_or, length-set, sym, ap, subst, arith, rules}
-use Rattle.std.specs.Prelude.{ℤ}
-use Rattle.std.proofs.lemmas.List.Elements.{All-replicate, All-set}
+use Rattle.std.proofs.Common.{◌∙◌, ℕ, ◌<◌, length, length-set, sym, ap, arith, rules}
+use Rattle.std.proofs.lemmas.List.Elements.{All-set}
 use Rattle.cps_network.specs.Lists.{node_at}
 use Rattle.cps_network.specs.WindowLaws.{WindowLaws}
 use Rattle.cps_network.specs.shared.LandableSteps.{has_next}
@@ -14,8 +13,8 @@ pub returns-then-is_empty-clause-landable : goal.returns-then-is_empty-clause-la
 returns-then-is_empty-clause-landable g c =
     has_next c.args.problem.now c.prefix_laws.ensures.network c.args.before.now c.args.stage.now c.requires.number c.requires.before.landable c.requires.next
 
-pub group_of-groups-requires : goal.group_of-groups-requires
-group_of-groups-requires g c =
+pub find_group-requires : goal.find_group-requires
+find_group-requires g c =
     let laws : WindowLaws c.args.problem.now g.row.W = record { network = c.prefix_laws.ensures.network; alike = c.prefix_laws.ensures.sources; ranks = c.window_laws.ensures.ranks; leads = c.window_laws.ensures.leads } in
     let some : 0 < length c.windows-windows.result.now = not_empty _ (sym c.if-is_empty.false ∙ c.is_empty.ensures) in
     (search rules, (c.requires.width, (laws, (c.requires.before, (c.requires.next, omega (arith, some, ap length c.windows-windows.ensures.windows))))))
@@ -26,9 +25,28 @@ turn_to-requires g c =
     let long = ap length c.windows-windows.ensures.windows in
     let within : c.loop-i.i < length c.args.stage.now.1 = omega (arith, c.loop-i-test.true, c.loop-i.auto.i-end, long) in
     let ready = c.loop-i.invariant.2 c.run_of-run.result _ (omega (arith, c.run_of-run.ensures, c.loop-i.invariant.3)) in
-    let from = first_within _ _ _ ready.labelled.group in
-    (search rules, (c.requires.width, (laws, (c.requires.before, (c.requires.next, (within, (ready,
-      λ leads. extends_there _ _ _ _ (window_at _ _ _ _ c.windows-earlier.ensures.windows from c.index-earlier-groups.is) (window_at _ _ _ _ c.windows-windows.ensures.windows within c.index-windows-i.is) (c.leads_to-leads.ensures.extends.0 leads))))))))
+    let from = first_within _ _ _ ready.labelled.group in (
+      search rules,
+      (
+        c.requires.width,
+        (
+          laws,
+          (
+            c.requires.before,
+            (
+              c.requires.next,
+              (
+                within,
+                (
+                  ready,
+                  λ leads. extends_there _ _ _ _ (window_at _ _ _ _ c.windows-earlier.ensures.windows from c.index-earlier-groups.is) (window_at _ _ _ _ c.windows-windows.ensures.windows within c.index-windows-i.is) (c.leads_to-leads.ensures.extends.0 leads),
+                ),
+              ),
+            ),
+          ),
+        ),
+      ),
+    )
 
 pub loop-i-preserved : goal.loop-i-preserved
 loop-i-preserved g c =

@@ -1,11 +1,9 @@
-use Rattle.std.proofs.Common.{◌≡◌, suc, ◌-◌, ◌<◌, ◌≤◌, length, arith, rules, sym}
-use Rattle.std.specs.Prelude.{slice_index}
+use Rattle.std.proofs.Common.{◌≡◌, suc, ◌-◌, ◌≤◌, length, arith, rules, sym}
 use Rattle.std.proofs.lemmas.Int.{ints}
 use Rattle.cps_network.specs.Lists.{node_at}
-use Rattle.cps_network.specs.shared.LeadingWindows.{group_sources_from, same_rank, in_bytes, leader_range, rank_range}
+use Rattle.cps_network.specs.shared.LeadingWindows.{group_sources_from, same_rank, in_bytes, rank_range}
 use Rattle.makespan_labels.specs.Labels.{no_label}
-use Rattle.makespan_labels.proofs.LabelLemmas.{label_here, known_at, label_none, label_some}
-use Rattle.makespan_labels.proofs.ColumnLemmas.{entry_small}
+use Rattle.makespan_labels.proofs.LabelLemmas.{label_here, label_none, label_some}
 use Rattle.makespan_labels.proofs.label.label_of.Goals as goal
 
 pub last_rank-rank-requires : goal.last_rank-rank-requires

@@ -11,5 +11,5 @@ returns-clause-value c =
     let one : 1 ≤ group.leader = omega (arith, c.if-group-eq0.false) in
     c.first_open.ensures.value
     ∙ lands_behind p group.leader group.least c.args.rank c.sep-apart.result group.category c.flight.result.now.category c.head.ensures.well_formed.table one (c.requires.lead.started one)
-      (c.requires.lead.category_is one) (ap (λ (w : Waiting). w.category) (flight_is p c.args.rank _ c.requires.rank.0 c.flight.ensures))
-      (c.sep-apart.ensures.value ∙ ap (λ (table : List (List ℕ)). separation table group.category c.flight.result.now.category) (sym (ap (λ (q : Problem). q.table) c.head.ensures.value)))
+    (c.requires.lead.category_is one) (ap (λ (w : Waiting). w.category) (flight_is p c.args.rank _ c.requires.rank.0 c.flight.ensures))
+    (c.sep-apart.ensures.value ∙ ap (λ (table : List (List ℕ)). separation table group.category c.flight.result.now.category) (sym (ap (λ (q : Problem). q.table) c.head.ensures.value)))

@@ -3,7 +3,7 @@ use Rattle.std.proofs.lemmas.Int.{ints}
 use Rattle.cps_network.specs.Lists.{node_at}
 use Rattle.cps_network.specs.shared.LeadingWindows.{sources_from, sources_group, same_rank, in_bytes, some_range, leader_range}
 use Rattle.makespan_labels.proofs.LabelLemmas.{is_lead}
-use Rattle.makespan_labels.proofs.group.group_of.Goals as goal
+use Rattle.makespan_labels.proofs.group.find_group.Goals as goal
 
 pub least_of-requires : goal.least_of-requires
 least_of-requires g c =
