@@ -1,9 +1,21 @@
--- Groups that are remembered.
-use Rattle.std.proofs.Common.{ℕ, ◌<◌, List, length}
-use Rattle.std.specs.Prelude.{ℤ}
-use Rattle.makespan_labels.specs.declared.group.Group.{Group}
-use Rattle.makespan_labels.specs.Groups.{IsLabelled}
+-- Windows that are read in slices, and groups that lead on from one to the other.
+use Rattle.std.proofs.Common.{◌≡◌, ℕ, zero, suc, ◌<◌, false, List, [], length, get_or, sym, ap, subst, ◌∙◌, arith}
+use Rattle.std.specs.Prelude.{ℤ, nat_eq}
+use Rattle.std.proofs.lemmas.List.{get_or_default}
+use Rattle.cps_nodes.specs.Leads.{Extends}
+use Rattle.std.proofs.lemmas.Bool.{false≢true}
+use Rattle.cps_network.specs.Groups.{IsGroup}
+use Rattle.cps_network.specs.Lists.{node_at}
 
--- a group that is at hand is one of a stage, unless it stands past its end
-abbrev pub IsRemembered : ℕ → ℕ × List (List ℤ) → List ℕ → Group → Type 0
-IsRemembered width before labels group = group.from < length before.1 → IsLabelled width before labels group.from group.least group.leader
+pub window_at : (slice windows : List (List ℤ)) (i : ℕ) (x : List ℤ) → slice ≡ windows → i < length windows → x ≡ get_or slice i x → x ≡ node_at windows i
+window_at slice windows i x e lt is = is ∙ ap (λ (zs : List (List ℤ)). get_or zs i x) e ∙ sym (get_or_default windows i [] x lt)
+
+pub extends_there : (x y v w : List ℤ) → x ≡ y → v ≡ w → Extends x v → Extends y w
+extends_there x y v w e f leads = subst (λ (z : List ℤ). Extends y z) f (subst (λ (z : List ℤ). Extends z v) e leads)
+
+pub first_within : (windows : List (List ℤ)) (from to : ℕ) → IsGroup windows from to → from < length windows
+first_within windows from to group = omega (arith, group.some, group.within)
+
+pub not_empty : (n : ℕ) → false ≡ nat_eq n 0 → 0 < n
+not_empty zero e = absurd (false≢true e)
+not_empty (suc n) e = omega arith

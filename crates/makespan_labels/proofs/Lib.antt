@@ -1,3 +1,4 @@
 pub mod LabelLemmas
+pub mod LeadLemmas
 pub mod ColumnLemmas
 pub mod GroupLemmas

@@ -2,5 +2,6 @@
 pub mod Labels
 pub mod Columns
 pub mod Groups
+pub mod Ready
 pub mod LabelPairs
 pub mod shared

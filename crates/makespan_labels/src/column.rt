@@ -77,6 +77,7 @@ impl Column {
     }
 
     // Writes the entry at place i.
+    #[inline]
     pub(crate) fn set(&mut self, i: usize, label: u32)
         requires within { i < length self.old }
         requires range { IsEntry label }

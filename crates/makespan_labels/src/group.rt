@@ -5,33 +5,36 @@ ghost use Rattle.cps_nodes.specs.Leads.{Extends};
 ghost use Rattle.cps_network.specs.Lists.{node_at};
 ghost use Rattle.cps_network.specs.Permits.{IsNextOf};
 ghost use Rattle.cps_network.specs.WindowLaws.{WindowLaws};
+ghost use Rattle.cps_theory.specs.RankLists.{of_rank};
+ghost use Rattle.landing_joint.specs.RankedProblem.{no_waiting};
 ghost use Rattle.makespan_labels.specs.Columns.{IsEntry, IsLeastOf};
-ghost use Rattle.makespan_labels.specs.Groups.{IsLabelled};
+ghost use Rattle.makespan_labels.specs.Ready.{IsReady};
 ghost use Rattle.makespan_labels.specs.Labels.{HoldsLabels};
 
 use crate::column::Column;
 use cps_network::{Stage, last_rank};
 use cps_nodes::Window;
 use cps_problem::Problem;
+use wake_table::Category;
 
 // The windows with the same offsets from the second on, as one: where the first stands, the least of their labels, and the
-// rank that landed last in each.
+// rank that landed last in each, with its category.
 #[derive(Clone, Copy)]
 pub(crate) struct Group {
     pub(crate) from: usize,
     pub(crate) least: u32,
     pub(crate) leader: u8,
+    pub(crate) category: Category,
 }
 
 impl Group {
-    // No group: it stands past the end of each stage.
-    pub(crate) fn none() -> Group
-        ensures { result.from ≡ usize.MAX }
-    {
+    // No group yet.
+    pub(crate) fn blank() -> Group {
         Group {
-            from: usize::MAX,
+            from: 0,
             least: 0,
             leader: 0,
+            category: Category::A,
         }
     }
 }
@@ -58,53 +61,69 @@ fn least_of(labels: &Column, from: usize, to: usize) -> u32
     least
 }
 
-// The group that leads to the window at place i of the stage after, found anew.
-fn group_of<const W: usize>(
+// The category of the flight of a rank. Rank 0 has none, and A stands for it.
+fn category_of(problem: &Problem, rank: u8) -> Category
+    requires { rank ≤ length problem.now.flights }
+    ensures { 1 ≤ rank → (of_rank no_waiting problem.now.flights rank).category ≡ result }
+{
+    if rank == 0 {
+        return Category::A;
+    }
+    problem.flight(rank).category
+}
+
+// Makes a group the one that leads to the window at place i of the stage after. It is written in place, which costs less.
+pub(crate) fn find_group<const W: usize>(
+    group: &mut Group,
     problem: &Problem,
     before: &Stage<W>,
     labels: &Column,
     stage: &Stage<W>,
     i: usize,
-) -> Group
+)
     requires width { W ≡ 2 * problem.now.k + 1 }
     requires laws { WindowLaws problem.now W }
     requires before { HoldsLabels problem.now before.now labels.now }
     requires next { IsNextOf problem.now before.now.0 before.now.1 stage.now.1 }
     requires within { i < length stage.now.1 }
-    ensures group { IsLabelled W before.now labels.now result.from result.least result.leader }
-    ensures leads { Extends (node_at before.now.1 result.from) (node_at stage.now.1 i) }
+    ensures group { IsReady problem.now W before.now labels.now group.new }
+    ensures leads { Extends (node_at before.now.1 group.new.from) (node_at stage.now.1 i) }
 {
     let _few = problem.len();
     let (from, to) = stage.sources(before, i);
-    Group {
+    let leader = last_rank(&before.node(from), before.number());
+    *group = Group {
         from,
         least: least_of(labels, from, to),
-        leader: last_rank(&before.node(from), before.number()),
-    }
+        leader,
+        category: category_of(problem, leader),
+    };
 }
 
-// The group that leads to the window at place i of the stage after: the one at hand where it does.
+// The same, unless the group leads there already.
 #[inline]
-pub(crate) fn group_for<const W: usize>(
+pub(crate) fn turn_to<const W: usize>(
+    group: &mut Group,
+    leads: bool,
     problem: &Problem,
     before: &Stage<W>,
     labels: &Column,
     stage: &Stage<W>,
     i: usize,
-    at_hand: &Group,
-) -> Group
+)
     requires width { W ≡ 2 * problem.now.k + 1 }
     requires laws { WindowLaws problem.now W }
     requires before { HoldsLabels problem.now before.now labels.now }
     requires next { IsNextOf problem.now before.now.0 before.now.1 stage.now.1 }
     requires within { i < length stage.now.1 }
-    requires at_hand { at_hand.now.from < length before.now.1 → IsLabelled W before.now
-        labels.now at_hand.now.from at_hand.now.least at_hand.now.leader }
-    ensures group { IsLabelled W before.now labels.now result.from result.least result.leader }
-    ensures leads { Extends (node_at before.now.1 result.from) (node_at stage.now.1 i) }
+    requires group { IsReady problem.now W before.now labels.now group.old }
+    requires leads { IsTrue leads
+        → Extends (node_at before.now.1 group.old.from) (node_at stage.now.1 i) }
+    ensures group { IsReady problem.now W before.now labels.now group.new }
+    ensures leads { Extends (node_at before.now.1 group.new.from) (node_at stage.now.1 i) }
 {
-    if at_hand.from < before.len() && stage.extends(before, at_hand.from, i) {
-        return *at_hand;
+    if leads {
+        return;
     }
-    group_of(problem, before, labels, stage, i)
+    find_group(group, problem, before, labels, stage, i);
 }

@@ -1,32 +1,53 @@
 //! The labels of a stage, from those of the stage before.
 
-ghost use Rattle.std.specs.Prelude.{◌≡◌, ◌+◌, ◌*◌, ◌<◌, ◌≤◌, length};
+ghost use Rattle.std.specs.Prelude.{◌≡◌, ◌+◌, ◌*◌, ◌<◌, ◌≤◌, length, IfSome};
 ghost use Rattle.cps_base.specs.Tally.{raised_by};
 ghost use Rattle.cps_nodes.specs.Leads.{Extends};
 ghost use Rattle.cps_network.specs.Landable.{HasEachLandable};
 ghost use Rattle.cps_network.specs.Lists.{node_at};
 ghost use Rattle.cps_network.specs.Permits.{IsNextOf};
 ghost use Rattle.cps_network.specs.WindowLaws.{WindowLaws};
+ghost use Rattle.landing_joint.specs.RankedProblem.{landing_after};
+ghost use Rattle.landing_rules.specs.Rules.{last_second};
 ghost use Rattle.makespan_labels.specs.Columns.{IsEntry};
-ghost use Rattle.makespan_labels.specs.Groups.{IsLabelled};
+ghost use Rattle.makespan_labels.specs.Groups.{IsLead};
+ghost use Rattle.makespan_labels.specs.Ready.{IsReady};
 ghost use Rattle.makespan_labels.specs.Labels.{IsLabel, AreLabels, HoldsLabels};
 
 use crate::column::{Column, NO_LABEL};
-use crate::group::{Group, group_for, run_of};
+use crate::group::{Group, find_group, run_of, turn_to};
 use cps_base::{Ledger, Steps};
 use cps_network::{Stage, last_rank, prefix_laws};
-use cps_nodes::window_laws;
+use cps_nodes::{Window, window_laws};
 use cps_outside::Gate;
 use cps_problem::Problem;
 use std::thread::Threads;
 
-// The label of the window at place i of a stage, from the labels of the group that leads to it: one landing behind the least.
+// Where a rank lands behind a group. Behind a flight the separation alone counts: that flight waited for all before it.
+#[inline]
+fn landing_behind(problem: &Problem, group: &Group, rank: u8) -> Option<u32>
+    requires lead { IsLead problem.now group.now.leader group.now.least group.now.category }
+    requires rank { (1 ≤ rank) × (rank ≤ length problem.now.flights) }
+    ensures value { result ≡ landing_after problem.now group.now.leader group.now.least rank }
+    ensures in_days { IfSome result (λ t. t ≤ last_second) }
+{
+    if group.leader == 0 {
+        return problem.landing_after(0, group.least, rank);
+    }
+    let table = &problem.head().table;
+    let apart = table.sep(group.category, problem.flight(rank).category);
+    problem.first_open(rank, group.least + apart)
+}
+
+// The label of the window at place i of a stage, from the group that leads to it: one landing behind the least.
+#[inline]
 fn label_of<const W: usize>(
     problem: &Problem,
     before: &Stage<W>,
     labels: &Column,
     stage: &Stage<W>,
     i: usize,
+    window: &Window<W>,
     group: &Group,
 ) -> u32
     requires width { W ≡ 2 * problem.now.k + 1 }
@@ -35,15 +56,15 @@ fn label_of<const W: usize>(
     requires number { stage.now.0 ≡ before.now.0 + 1 }
     requires next { IsNextOf problem.now before.now.0 before.now.1 stage.now.1 }
     requires within { i < length stage.now.1 }
-    requires group { IsLabelled W before.now labels.now group.now.from group.now.least
-        group.now.leader }
+    requires window { window.now ≡ node_at stage.now.1 i }
+    requires group { IsReady problem.now W before.now labels.now group.now }
     requires leads { Extends (node_at before.now.1 group.now.from) (node_at stage.now.1 i) }
     ensures label { IsLabel problem.now stage.now.0 (node_at stage.now.1 i) result }
     ensures range { IsEntry result }
 {
     let _few = problem.len();
-    let rank = last_rank(&stage.node(i), stage.number());
-    match problem.landing_after(group.leader, group.least, rank) {
+    let rank = last_rank(window, stage.number());
+    match landing_behind(problem, group, rank) {
         None => NO_LABEL,
         Some(second) => second,
     }
@@ -70,15 +91,25 @@ pub fn fill_alone<const W: usize>(
     ensures landable { HasEachLandable problem.now stage.now }
 {
     let _near = problem.head();
-    let _few = before.len();
     prefix_laws::<W>(problem);
     window_laws::<W>();
-    let mut groups = [Group::none(); 8];
-    for i in 0..stage.len() {
-        let run = run_of(&stage.node(i));
-        let group = group_for(problem, before, labels, stage, i, &groups[run]);
-        groups[run] = group;
-        into.set(i, label_of(problem, before, labels, stage, i, &group));
+    let earlier = before.windows();
+    let windows = stage.windows();
+    if windows.is_empty() {
+        return;
+    }
+    let mut first = Group::blank();
+    find_group(&mut first, problem, before, labels, stage, 0);
+    let mut groups = [first; 8];
+    for i in 0..windows.len() {
+        let window = &windows[i];
+        let run = run_of(window);
+        let leads = earlier[groups[run].from].leads_to(window);
+        turn_to(&mut groups[run], leads, problem, before, labels, stage, i);
+        into.set(
+            i,
+            label_of(problem, before, labels, stage, i, window, &groups[run]),
+        );
     }
 }
 

@@ -2,7 +2,8 @@ use Rattle.std.proofs.Common.{◌-◌, ◌≤◌, length, arith, rules}
 use Rattle.std.proofs.lemmas.Int.{ints}
 use Rattle.cps_network.specs.Lists.{node_at}
 use Rattle.cps_network.specs.shared.LeadingWindows.{sources_from, sources_group, same_rank, in_bytes, some_range, leader_range}
-use Rattle.makespan_labels.proofs.group.group_of.Goals as goal
+use Rattle.makespan_labels.proofs.LabelLemmas.{is_lead}
+use Rattle.makespan_labels.proofs.group.find_group.Goals as goal
 
 pub least_of-requires : goal.least_of-requires
 least_of-requires g c =
@@ -20,8 +21,8 @@ node-requires g c =
     let some = some_range p g.row.W c.args.before.now.0 c.args.before.now.1 (node_at c.args.stage.now.1 c.args.i) c.sources-from.result.0 c.sources-from.result.1 s in
     (search rules, (search rules, omega (arith, some, c.sources-from.ensures.range)))
 
-pub last_rank-requires : goal.last_rank-requires
-last_rank-requires g c =
+pub last_rank-leader-requires : goal.last_rank-leader-requires
+last_rank-leader-requires g c =
     let p = c.args.problem.now in
     let s = sources_from p g.row.W c.args.before.now c.args.stage.now c.args.i c.sources-from.result.0 c.sources-from.result.1
     c.requires.width c.requires.laws c.requires.before.landable c.requires.next c.requires.within c.sources-from.ensures.range.1 c.sources-from.ensures.exact in
@@ -31,17 +32,33 @@ last_rank-requires g c =
     let h = l.1 in
     (search rules, in_bytes c.node.result (node_at c.args.before.now.1 c.sources-from.result.0) c.number.result c.args.before.now.0 (g.row.W - 1) (length p.flights) c.node.ensures.value c.number.ensures few (omega (arith, ints, e)) (omega (arith, ints, e, h)))
 
+pub category_of-requires : goal.category_of-requires
+category_of-requires g c =
+    let p = c.args.problem.now in
+    let s = sources_from p g.row.W c.args.before.now c.args.stage.now c.args.i c.sources-from.result.0 c.sources-from.result.1
+    c.requires.width c.requires.laws c.requires.before.landable c.requires.next c.requires.within c.sources-from.ensures.range.1 c.sources-from.ensures.exact in
+    let l = leader_range p g.row.W c.args.before.now.0 c.args.before.now.1 (node_at c.args.stage.now.1 c.args.i) c.sources-from.result.0 c.sources-from.result.1 s in
+    let leads = same_rank c.node.result (node_at c.args.before.now.1 c.sources-from.result.0) c.number.result c.args.before.now.0 c.last_rank-leader.result (g.row.W - 1) c.node.ensures.value c.number.ensures c.last_rank-leader.ensures in
+    let e = l.0 in
+    let h = l.1 in
+    omega (arith, ints, leads, e, h)
+
 pub returns-clause-group : goal.returns-clause-group
 returns-clause-group g c =
     let p = c.args.problem.now in
     let s = sources_from p g.row.W c.args.before.now c.args.stage.now c.args.i c.sources-from.result.0 c.sources-from.result.1
     c.requires.width c.requires.laws c.requires.before.landable c.requires.next c.requires.within c.sources-from.ensures.range.1 c.sources-from.ensures.exact in
+    let leads = same_rank c.node.result (node_at c.args.before.now.1 c.sources-from.result.0) c.number.result c.args.before.now.0 c.last_rank-leader.result (g.row.W - 1) c.node.ensures.value c.number.ensures c.last_rank-leader.ensures in
     record {
-      to = c.sources-from.result.1;
-      group = sources_group p g.row.W c.args.before.now.0 c.args.before.now.1 (node_at c.args.stage.now.1 c.args.i) c.sources-from.result.0 c.sources-from.result.1 s;
-      is_least = c.least_of.ensures.least;
-      entry = c.least_of.ensures.range;
-      leads = same_rank c.node.result (node_at c.args.before.now.1 c.sources-from.result.0) c.number.result c.args.before.now.0 c.last_rank.result (g.row.W - 1) c.node.ensures.value c.number.ensures c.last_rank.ensures;
+      labelled = record {
+        to = c.sources-from.result.1;
+        group = sources_group p g.row.W c.args.before.now.0 c.args.before.now.1 (node_at c.args.stage.now.1 c.args.i) c.sources-from.result.0 c.sources-from.result.1 s;
+        is_least = c.least_of.ensures.least;
+        entry = c.least_of.ensures.range;
+        leads = leads;
+      };
+      lead = is_lead p g.row.W c.args.before.now.0 c.args.before.now.1 (node_at c.args.stage.now.1 c.args.i) c.sources-from.result.0 c.sources-from.result.1 s c.args.labels.now c.requires.before.labelled
+          c.last_rank-leader.result leads c.least_of.result c.least_of.ensures.least c.least_of.ensures.range c.category_of.result c.category_of.ensures;
     }
 
 pub returns-clause-leads : goal.returns-clause-leads
