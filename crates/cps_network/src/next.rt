@@ -155,7 +155,6 @@ pub fn next_stage<const W: usize>(
     ensures exact { IfOk result (λ s. IsNextOf problem.now before.now.0 before.now.1 s.1) }
     ensures candidates { IfOk result (λ s. HoldsCandidates problem.now before.now s) }
 {
-    let _few = problem.len();
     let _near = problem.head();
     let windows = next_windows(alloc, problem, before.number(), before.windows())?;
     let hints = begins(alloc, before.windows(), &windows)?;
@@ -211,7 +210,6 @@ pub fn next_stage_like<const W: usize>(
     ensures exact { IfOk result (λ s. IsNextOf problem.now before.now.0 before.now.1 s.1) }
     ensures candidates { IfOk result (λ s. HoldsCandidates problem.now before.now s) }
 {
-    let _few = problem.len();
     let _near = problem.head();
     let _ascending = after.windows();
     if repeats(problem, earlier.number(), before.number())

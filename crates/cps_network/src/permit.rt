@@ -129,7 +129,6 @@ pub fn successor<const W: usize>(
     ensures next { SomeIff result (IsPermitted problem.now stage window.now rank)
         (shifted window.now (offset_after stage rank)) }
 {
-    let _few = problem.len();
     let _near = problem.head();
     let next = window.extend(offset_of(stage, rank));
     if !is_in_time(problem, stage, rank) {

@@ -73,7 +73,6 @@ pub fn source_pair<const W: usize>(
         → (place < result.0) ⊎ ((place ≡ result.0) × (index < result.1))
         → GivesPair problem.now before.now labels.now node.now (second, cost) place index → ⊥ }
 {
-    let _few = problem.len();
     let _near = problem.head();
     let _in_days = labels.len();
     prefix_laws::<W>(problem);

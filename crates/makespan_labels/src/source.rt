@@ -30,7 +30,6 @@ pub fn source_of<const W: usize>(
     ensures first { (place : ℕ) → place < result
         → GivesLabel problem.now before.now labels.now node.now label place → ⊥ }
 {
-    let _few = problem.len();
     let _near = problem.head();
     prefix_laws::<W>(problem);
     window_laws::<W>();
