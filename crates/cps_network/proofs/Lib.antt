@@ -11,3 +11,4 @@ pub mod KeptLemmas
 pub mod NetworkLemmas
 pub mod WindowNodes
 pub mod PrefixLandingLemmas
+pub mod BankLemmas

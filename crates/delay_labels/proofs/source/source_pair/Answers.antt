@@ -35,7 +35,7 @@ last_rank-last-requires g c =
       exact = c.sources-from.ensures.exact;
     } in
     let l = leader_range p g.row.W c.args.before.now.0 c.args.before.now.1 c.args.node.now c.sources-from.result.0 c.sources-from.result.1 s in
-    let few : length p.flights ≤ 60 = c.len-few.ensures.well_formed.few_flights in
+    let few : length p.flights ≤ 60 = c.head-near.ensures.well_formed.few_flights in
     let e = l.0 in
     let h = l.1 in
     (search rules, in_bytes c.node.result (node_at c.args.before.now.1 c.sources-from.result.0) c.number.result c.args.before.now.0 (g.row.W - 1) (length p.flights) c.node.ensures.value c.number.ensures few (omega (arith, ints, e)) (omega (arith, ints, e, h)))
@@ -52,7 +52,7 @@ last_rank-rank-requires g c =
       exact = c.sources-from.ensures.exact;
     } in
     let k = rank_range p g.row.W c.args.before.now.0 c.args.before.now.1 c.args.node.now c.sources-from.result.0 c.sources-from.result.1 s in
-    let few : length p.flights ≤ 60 = c.len-few.ensures.well_formed.few_flights in
+    let few : length p.flights ≤ 60 = c.head-near.ensures.well_formed.few_flights in
     let stage_is : c.number-2.result + 1 ≡ suc c.args.before.now.0 = omega (arith, c.number-2.ensures) in
     let lo = k.0 in
     let hi = k.1 in
@@ -108,7 +108,7 @@ first_giving-requires-clause-costs g c =
     let stage_is : c.number-2.result + 1 ≡ suc c.args.before.now.0 = omega (arith, c.number-2.ensures) in
     let rank_is = same_rank c.args.node.now c.args.node.now (c.number-2.result + 1) (suc c.args.before.now.0) c.last_rank-rank.result (g.row.W - 1) refl stage_is c.last_rank-rank.ensures in
     subst (λ (l : List Pair). All (λ (q : Pair). q.1 ≤ 4277687395) l) (sym c.list.ensures.value)
-    (listed_small p c.len-few.ensures.well_formed g.row.W c.args.before.now.0 c.args.before.now.1 c.args.node.now c.sources-from.result.0 c.sources-from.result.1 s c.args.labels.now c.requires.before.costs c.len-in_days.ensures.in_days c.last_rank-last.result c.last_rank-rank.result leader_is rank_is c.loop-i.i (omega (arith, c.loop-i-test.true, c.sources-from.ensures.range)))
+    (listed_small p c.head-near.ensures.well_formed g.row.W c.args.before.now.0 c.args.before.now.1 c.args.node.now c.sources-from.result.0 c.sources-from.result.1 s c.args.labels.now c.requires.before.costs c.len-in_days.ensures.in_days c.last_rank-last.result c.last_rank-rank.result leader_is rank_is c.loop-i.i (omega (arith, c.loop-i-test.true, c.sources-from.ensures.range)))
 
 pub loop-i-preserved : goal.loop-i-preserved
 loop-i-preserved g c = λ m lo hi. elim (cases_eq m c.loop-i.i) [
@@ -131,7 +131,7 @@ returns-in-Some-clause-gives g c =
     let stage_is : c.number-2.result + 1 ≡ suc c.args.before.now.0 = omega (arith, c.number-2.ensures) in
     let rank_is = same_rank c.args.node.now c.args.node.now (c.number-2.result + 1) (suc c.args.before.now.0) c.last_rank-rank.result (g.row.W - 1) refl stage_is c.last_rank-rank.ensures in
     let e = c.in-Some.ensures in
-    gives_at p c.len-few.ensures.well_formed g.row.W c.args.before.now.0 c.args.before.now.1 c.args.node.now c.sources-from.result.0 c.sources-from.result.1 s c.args.labels.now c.requires.before.costs c.len-in_days.ensures.in_days c.last_rank-last.result c.last_rank-rank.result leader_is rank_is (c.args.second, c.args.cost) c.loop-i.i c.in-Some.index (omega arith) c.loop-i-test.true
+    gives_at p c.head-near.ensures.well_formed g.row.W c.args.before.now.0 c.args.before.now.1 c.args.node.now c.sources-from.result.0 c.sources-from.result.1 s c.args.labels.now c.requires.before.costs c.len-in_days.ensures.in_days c.last_rank-last.result c.last_rank-rank.result leader_is rank_is (c.args.second, c.args.cost) c.loop-i.i c.in-Some.index (omega arith) c.loop-i-test.true
     (subst (λ (l : List Pair). c.in-Some.index < length l) c.list.ensures.value e.0)
     (subst (λ (l : List Pair). successor c.args.problem.now c.last_rank-last.result (pair_at l c.in-Some.index) c.last_rank-rank.result ≡ Some (c.args.second, c.args.cost)) c.list.ensures.value e.1)
 
@@ -151,7 +151,7 @@ returns-in-Some-clause-first g c =
     let rank_is = same_rank c.args.node.now c.args.node.now (c.number-2.result + 1) (suc c.args.before.now.0) c.last_rank-rank.result (g.row.W - 1) refl stage_is c.last_rank-rank.ensures in
     let e = c.in-Some.ensures in
     λ place index below given.
-    let found = given_at p c.len-few.ensures.well_formed g.row.W c.args.before.now.0 c.args.before.now.1 c.args.node.now c.sources-from.result.0 c.sources-from.result.1 s c.args.labels.now c.requires.before.costs c.len-in_days.ensures.in_days c.last_rank-last.result c.last_rank-rank.result leader_is rank_is (c.args.second, c.args.cost) place index given in
+    let found = given_at p c.head-near.ensures.well_formed g.row.W c.args.before.now.0 c.args.before.now.1 c.args.node.now c.sources-from.result.0 c.sources-from.result.1 s c.args.labels.now c.requires.before.costs c.len-in_days.ensures.in_days c.last_rank-last.result c.last_rank-rank.result leader_is rank_is (c.args.second, c.args.cost) place index given in
     elim below [
       | inl lt ↦ c.loop-i.invariant place found.0 lt index found.2 found.3
       | inr same ↦ (
@@ -175,7 +175,7 @@ returns-clause-gives g c =
     let stage_is : c.number-2.result + 1 ≡ suc c.args.before.now.0 = omega (arith, c.number-2.ensures) in
     let rank_is = same_rank c.args.node.now c.args.node.now (c.number-2.result + 1) (suc c.args.before.now.0) c.last_rank-rank.result (g.row.W - 1) refl stage_is c.last_rank-rank.ensures in
     let given = c.requires.given in
-    let found = given_at p c.len-few.ensures.well_formed g.row.W c.args.before.now.0 c.args.before.now.1 c.args.node.now c.sources-from.result.0 c.sources-from.result.1 s c.args.labels.now c.requires.before.costs c.len-in_days.ensures.in_days c.last_rank-last.result c.last_rank-rank.result leader_is rank_is (c.args.second, c.args.cost) given.0 given.1 given.2 in
+    let found = given_at p c.head-near.ensures.well_formed g.row.W c.args.before.now.0 c.args.before.now.1 c.args.node.now c.sources-from.result.0 c.sources-from.result.1 s c.args.labels.now c.requires.before.costs c.len-in_days.ensures.in_days c.last_rank-last.result c.last_rank-rank.result leader_is rank_is (c.args.second, c.args.cost) given.0 given.1 given.2 in
     absurd (c.loop-i.invariant given.0 found.0 (let t = found.1 in omega (arith, c.loop-i-test.false)) given.1 found.2 found.3)
 
 pub returns-clause-first : goal.returns-clause-first
@@ -194,5 +194,5 @@ returns-clause-first g c =
     let rank_is = same_rank c.args.node.now c.args.node.now (c.number-2.result + 1) (suc c.args.before.now.0) c.last_rank-rank.result (g.row.W - 1) refl stage_is c.last_rank-rank.ensures in
     λ place index below other.
     let given = c.requires.given in
-    let found = given_at p c.len-few.ensures.well_formed g.row.W c.args.before.now.0 c.args.before.now.1 c.args.node.now c.sources-from.result.0 c.sources-from.result.1 s c.args.labels.now c.requires.before.costs c.len-in_days.ensures.in_days c.last_rank-last.result c.last_rank-rank.result leader_is rank_is (c.args.second, c.args.cost) given.0 given.1 given.2 in
+    let found = given_at p c.head-near.ensures.well_formed g.row.W c.args.before.now.0 c.args.before.now.1 c.args.node.now c.sources-from.result.0 c.sources-from.result.1 s c.args.labels.now c.requires.before.costs c.len-in_days.ensures.in_days c.last_rank-last.result c.last_rank-rank.result leader_is rank_is (c.args.second, c.args.cost) given.0 given.1 given.2 in
     c.loop-i.invariant given.0 found.0 (let t = found.1 in omega (arith, c.loop-i-test.false)) given.1 found.2 found.3

@@ -36,7 +36,7 @@ last_rank-leader-requires g c =
       exact = c.sources-from.ensures.exact;
     } in
     let l = leader_range p g.row.W c.args.before.now.0 c.args.before.now.1 c.args.node.now c.sources-from.result.0 c.sources-from.result.1 s in
-    let few : length p.flights ≤ 60 = c.len-few.ensures.well_formed.few_flights in
+    let few : length p.flights ≤ 60 = c.head-near.ensures.well_formed.few_flights in
     let e = l.0 in
     let h = l.1 in
     (search rules, in_bytes c.node.result (node_at c.args.before.now.1 c.sources-from.result.0) c.number.result c.args.before.now.0 (g.row.W - 1) (length p.flights) c.node.ensures.value c.number.ensures few (omega (arith, ints, e)) (omega (arith, ints, e, h)))
@@ -53,7 +53,7 @@ last_rank-rank-requires g c =
       exact = c.sources-from.ensures.exact;
     } in
     let k = rank_range p g.row.W c.args.before.now.0 c.args.before.now.1 c.args.node.now c.sources-from.result.0 c.sources-from.result.1 s in
-    let few : length p.flights ≤ 60 = c.len-few.ensures.well_formed.few_flights in
+    let few : length p.flights ≤ 60 = c.head-near.ensures.well_formed.few_flights in
     let stage_is : c.number-2.result + 1 ≡ suc c.args.before.now.0 = omega (arith, c.number-2.ensures) in
     let lo = k.0 in
     let hi = k.1 in
