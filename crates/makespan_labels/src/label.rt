@@ -23,7 +23,8 @@ use cps_outside::Gate;
 use cps_problem::Problem;
 use std::thread::Threads;
 
-// Where a rank lands behind a group. Behind a flight the separation alone counts: that flight waited for all before it.
+// Where a rank lands behind a group. Behind a flight the separation alone counts: that flight itself waited for the horizon and
+// the last frozen landing.
 #[inline]
 fn landing_behind(problem: &Problem, group: &Group, rank: u8) -> Option<u32>
     requires lead { IsLead problem.now group.now.leader group.now.least group.now.category }
