@@ -1,5 +1,5 @@
 -- A line at which a text fails.
-use Rattle.std.proofs.Common.{◌≡◌, ℕ, ◌<◌, length, arith, List, [], ◌∷◌, Result, Err, refl}
+use Rattle.std.proofs.Common.{◌≡◌, ℕ, ◌<◌, length, arith, List, [], ◌∷◌, Err, refl}
 use Rattle.landing_rules.specs.Text.{ShownLanding}
 use Rattle.audit.specs.declared.plan.PlanFault.{PlanFault}
 use Rattle.audit.specs.Reading.{line_in, lines_in}

@@ -73,15 +73,6 @@ none_unknown active (l ∷ lines) e = go (find (named l.callsign) active) (list_
     go (Some a) false h more e = absurd (cc)
     go None b h more e = let few = few_found active lines in absurd (omega (arith, few, e))
 
--- a search by what each element shows
-pub find_seen : {T : Type 0} (seen : T → Active) (p : Active → Bool) (ts : List T) → option_map seen (find (λ t. p (seen t)) ts) ≡ find p (map seen ts)
-find_seen seen p [] = refl
-find_seen seen p (t ∷ ts) = go (p (seen t)) (find_seen seen p ts)
-  where
-    go : (b : Bool) → option_map seen (find (λ t. p (seen t)) ts) ≡ find p (map seen ts) → option_map seen (cond b (Some t) (find (λ t. p (seen t)) ts)) ≡ cond b (Some (seen t)) (find p (map seen ts))
-    go true ih = refl
-    go false ih = ih
-
 -- ---- the lines of waiting flights
 
 pub waiting_lines : {T : Type 0} (read : T → Pair) (ts : List T) (found : List Pair) → map read ts ≡ filter (λ (x : Pair). is_none x.1.frozen) found →

@@ -5,7 +5,6 @@ pub mod EachPair
 pub mod Failing
 pub mod FoundLines
 pub mod LongLines
-pub mod Looks
 pub mod Ordering
 pub mod Readable
 pub mod ReadsBack

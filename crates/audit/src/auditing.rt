@@ -65,10 +65,10 @@ fn found_in(alloc: Global, situation: &Situation, block: &Block) -> Result<Vec<F
     ensures { IfOk result (λ all. map finding_of all.items
         ≡ findings situation.now (seen_block block.now)) }
 {
-    let active = situation.flights(alloc)?;
+    let active = situation.flights();
     let lines = block.lines.all();
-    let found = lines_found(alloc, &active, lines)?;
-    let names = by_name(alloc, &active, lines, found.len())?;
+    let found = lines_found(alloc, active, lines)?;
+    let names = by_name(alloc, active, lines, found.len())?;
     if names.is_empty() {
         by_line(alloc, situation, block, &found)
     } else {

@@ -37,15 +37,14 @@ pub(crate) fn name_of(active: &Active) -> Callsign
 }
 
 // The line with its flight, where it names one that is active.
-fn found_of(active: &Vec<&Active>, line: &Landing) -> Result<Option<Found>, AllocError>
+fn found_of(active: &[Active], line: &Landing) -> Result<Option<Found>, AllocError>
     ensures { IfOk result (λ found. found
-        ≡ one_found (map (λ a. a.now) active.now.items) (shown_of line.now)) }
+        ≡ one_found active.now (shown_of line.now)) }
 {
     match active.iter().find(|a| name_of(a) == line.callsign) {
         None => Ok(None),
         Some(named) => {
-            let flight: &Active = named;
-            let active = flight.clone()?;
+            let active = named.clone()?;
             Ok(Some(Found {
                 line: *line,
                 active,
@@ -67,11 +66,11 @@ fn take_found(all: &mut Vec<Found>, found: Option<Found>) -> Result<(), AllocErr
 // The lines that name active flights, with them.
 pub(crate) fn lines_found(
     alloc: Global,
-    active: &Vec<&Active>,
+    active: &[Active],
     lines: &[Landing],
 ) -> Result<Vec<Found>, AllocError>
     ensures { IfOk result (λ all. all.items
-        ≡ lines_found (map (λ a. a.now) active.now.items) (map shown_of lines.now)) }
+        ≡ lines_found active.now (map shown_of lines.now)) }
 {
     let mut all = Vec::with_capacity(alloc, lines.len())?;
     for i in 0..lines.len() {

@@ -19,13 +19,13 @@ use std::alloc::{AllocError, Global};
 // Each active flight without a line, in order of arrival.
 fn missing(
     alloc: Global,
-    active: &Vec<&Active>,
+    active: &[Active],
     lines: &[Landing],
     seen: &Seen,
 ) -> Result<Vec<Finding>, AllocError>
     requires { (c : List ℕ) → has_name seen.now c ≡ has_line (map shown_of lines.now) c }
     ensures { IfOk result (λ all. map finding_of all.items
-        ≡ missing (map (λ a. a.now) active.now.items) (map shown_of lines.now)) }
+        ≡ missing active.now (map shown_of lines.now)) }
 {
     active
         .iter()
@@ -35,20 +35,16 @@ fn missing(
 }
 
 // Whether a flight of this name is active.
-fn is_active(active: &Vec<&Active>, callsign: Callsign) -> bool
-    ensures { result ≡ list_any (λ a. named callsign a.now) active.now.items }
+fn is_active(active: &[Active], callsign: Callsign) -> bool
+    ensures { result ≡ list_any (named callsign) active.now }
 {
     active.iter().any(|a| name_of(a) == callsign)
 }
 
 // Each line that names no active flight.
-fn unknown(
-    alloc: Global,
-    active: &Vec<&Active>,
-    lines: &[Landing],
-) -> Result<Vec<Finding>, AllocError>
+fn unknown(alloc: Global, active: &[Active], lines: &[Landing]) -> Result<Vec<Finding>, AllocError>
     ensures { IfOk result (λ all. map finding_of all.items
-        ≡ unknown (map (λ a. a.now) active.now.items) (map shown_of lines.now)) }
+        ≡ unknown active.now (map shown_of lines.now)) }
 {
     lines
         .iter()
@@ -60,14 +56,14 @@ fn unknown(
 // The same where the flights of so many lines were found: with those of all there is none to look for.
 fn unknown_unless(
     alloc: Global,
-    active: &Vec<&Active>,
+    active: &[Active],
     lines: &[Landing],
     found: usize,
 ) -> Result<Vec<Finding>, AllocError>
     requires { found
-        ≡ length (lines_found (map (λ a. a.now) active.now.items) (map shown_of lines.now)) }
+        ≡ length (lines_found active.now (map shown_of lines.now)) }
     ensures { IfOk result (λ all. map finding_of all.items
-        ≡ unknown (map (λ a. a.now) active.now.items) (map shown_of lines.now)) }
+        ≡ unknown active.now (map shown_of lines.now)) }
 {
     if found == lines.len() {
         return Ok(Vec::new(alloc));
@@ -106,14 +102,14 @@ fn twice(alloc: Global, lines: &[Landing], seen: &mut Seen) -> Result<Vec<Findin
 // What is wrong with the names: each active flight without a line, each line that names none, each that names one again.
 pub(crate) fn by_name(
     alloc: Global,
-    active: &Vec<&Active>,
+    active: &[Active],
     lines: &[Landing],
     found: usize,
 ) -> Result<Vec<Finding>, AllocError>
     requires { found
-        ≡ length (lines_found (map (λ a. a.now) active.now.items) (map shown_of lines.now)) }
+        ≡ length (lines_found active.now (map shown_of lines.now)) }
     ensures { IfOk result (λ all. map finding_of all.items
-        ≡ by_name (map (λ a. a.now) active.now.items) (map shown_of lines.now)) }
+        ≡ by_name active.now (map shown_of lines.now)) }
 {
     let mut seen = Seen::new(alloc);
     let twice = twice(alloc, lines, &mut seen)?;

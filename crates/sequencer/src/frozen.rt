@@ -26,12 +26,12 @@ fn later(active: &Active, found: Option<(u32, Category)>) -> Option<(u32, Catego
 }
 
 /// The frozen flight that lands last, by its second and category.
-pub(crate) fn last_frozen(flights: &Vec<&Active>) -> Option<(u32, Category)>
-    ensures { result ≡ latest (map (λ a. a.now) flights.now.items) }
+pub(crate) fn last_frozen(flights: &[Active]) -> Option<(u32, Category)>
+    ensures { result ≡ latest flights.now }
 {
     let mut found: Option<(u32, Category)> = None;
     for i in (0..flights.len()).rev() {
-        found = later(flights[i], found);
+        found = later(&flights[i], found);
     }
     found
 }
@@ -52,14 +52,14 @@ fn delay(active: &Active) -> u64
 }
 
 /// What the frozen landings cost together.
-pub(crate) fn frozen_delay(flights: &Vec<&Active>) -> u64
-    requires few { length flights.now.items ≤ most_flights }
-    requires small { All HasSmallDelay (map (λ a. a.now) flights.now.items) }
-    ensures { result ≡ sum_by delay_of (map (λ a. a.now) flights.now.items) }
+pub(crate) fn frozen_delay(flights: &[Active]) -> u64
+    requires few { length flights.now ≤ most_flights }
+    requires small { All HasSmallDelay flights.now }
+    ensures { result ≡ sum_by delay_of flights.now }
 {
     let mut total: u64 = 0;
     for i in 0..flights.len() {
-        total += delay(flights[i]);
+        total += delay(&flights[i]);
     }
     total
 }

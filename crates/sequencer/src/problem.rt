@@ -16,8 +16,8 @@ use situations::{Active, Situation};
 use std::alloc::{AllocError, Global};
 
 // What the frozen landings cost, and 0 for the makespan.
-fn base(situation: &Situation, flights: &Vec<&Active>) -> u64
-    requires flights { map (λ a. a.now) flights.now.items ≡ situation.now.active }
+fn base(situation: &Situation, flights: &[Active]) -> u64
+    requires flights { flights.now ≡ situation.now.active }
     requires sound { IsSound situation.now }
     ensures { result ≡ frozen_cost situation.now.aerodrome.objective
         (frozen_landings situation.now) }
@@ -29,8 +29,8 @@ fn base(situation: &Situation, flights: &Vec<&Active>) -> u64
 }
 
 // What the waiting flights share.
-fn head(situation: &Situation, flights: &Vec<&Active>) -> Head
-    requires flights { map (λ a. a.now) flights.now.items ≡ situation.now.active }
+fn head(situation: &Situation, flights: &[Active]) -> Head
+    requires flights { flights.now ≡ situation.now.active }
     requires sound { IsSound situation.now }
     ensures fixed { situation.now.aerodrome
         ≡ record situation.now.aerodrome {
@@ -62,12 +62,12 @@ pub(crate) fn posed(alloc: Global, situation: &Situation) -> Result<(Problem, Or
     ensures problem { IfOk result (λ posed. IsProblemOf situation.now posed.0) }
     ensures order { IfOk result (λ posed. posed.1 ≡ arrivals (waiting situation.now)) }
 {
-    let flights = situation.flights(alloc)?;
-    let waiting = waiting_of(alloc, &flights)?;
+    let flights = situation.flights();
+    let waiting = waiting_of(alloc, flights)?;
     let order = order_of(alloc, &waiting)?;
     let ranked = by_rank(alloc, &waiting, &order)?;
     let pairs = pairs_of(&ranked);
-    let head = head(situation, &flights);
+    let head = head(situation, flights);
     let with_times = all_waiting(alloc, &ranked, situation.closures())?;
     Ok((Problem::build(head, with_times, pairs), order))
 }

@@ -38,18 +38,18 @@ fn second_of(active: &Active, order: &Order, schedule: &Schedule) -> u32
 // The seconds at which the flights land.
 fn seconds_of(
     alloc: Global,
-    flights: &Vec<&Active>,
+    flights: &[Active],
     order: &Order,
     schedule: &Schedule,
 ) -> Result<Vec<u32>, AllocError>
-    requires there { All (IsThere order.now) (map (λ a. a.now) flights.now.items) }
+    requires there { All (IsThere order.now) flights.now }
     requires long { length order.now ≡ length schedule.now }
     ensures { IfOk result (λ seconds. seconds.items
-        ≡ map (second_in order.now schedule.now) (map (λ a. a.now) flights.now.items)) }
+        ≡ map (second_in order.now schedule.now) flights.now) }
 {
     let mut seconds = Vec::with_capacity(alloc, flights.len())?;
     for i in 0..flights.len() {
-        seconds.push(second_of(flights[i], order, schedule))?;
+        seconds.push(second_of(&flights[i], order, schedule))?;
     }
     Ok(seconds)
 }
@@ -66,7 +66,6 @@ pub(crate) fn joined_seconds(
     requires long { length schedule.now ≡ length (waiting situation.now) }
     ensures { IfOk result (λ seconds. seconds.items ≡ joined situation.now schedule.now) }
 {
-    let flights = situation.flights(alloc)?;
-    let seconds = seconds_of(alloc, &flights, order, schedule)?;
+    let seconds = seconds_of(alloc, situation.flights(), order, schedule)?;
     Ok(seconds)
 }

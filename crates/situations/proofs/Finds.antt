@@ -1,35 +1,13 @@
 -- What a search of the flights finds among the frozen landings.
-use Rattle.std.proofs.Common.{drop, ◌≡◌, ℕ, zero, suc, ◌<◌, ◌≤◌, Bool, true, false, cond, ◌&&◌, ◌||◌, List, [], ◌∷◌, Option, Some, None, refl, sym, ap, ◌∙◌, arith}
+use Rattle.std.proofs.Common.{◌≡◌, ℕ, ◌<◌, ◌≤◌, Bool, true, false, cond, ◌&&◌, List, [], ◌∷◌, Option, Some, None, refl, sym, ap, ◌∙◌, arith}
 use Rattle.std.specs.Prelude.{find, filter_map, option_map, is_some, nat_lt, nat_le}
 use Rattle.std.specs.Prelude.{if◌then◌else◌}
 use Rattle.std.proofs.lemmas.Bool.{ltb-true, ltb-false, le-leb, leb-true}
-use Rattle.std.specs.List.{list_any, cons_option, slice_get}
-use Rattle.std.specs.Str.{bytes_eq}
-use Rattle.std.specs.Map.{lookup}
-use Rattle.std.proofs.lemmas.List.Elements.{All-head, All-tail}
+use Rattle.std.specs.List.{cons_option}
 use Rattle.landing_rules.specs.Flights.{Active, Landing, Callsign, Span, landing}
 use Rattle.landing_rules.specs.Rules.{lists, is_shut}
-use Rattle.landing_rules.specs.Events.{Refusal, CoversFrozen, TooManyClosures, named, in_landing_order, insert_landing}
-use Rattle.situations.specs.Seen.{AreKeyed}
-use Rattle.situations.specs.Seen.{flights_of}
+use Rattle.landing_rules.specs.Events.{Refusal, CoversFrozen, TooManyClosures, in_landing_order, insert_landing}
 use Rattle.situations.specs.Finds.{first_frozen_listing, earliest_covered, earlier_at}
-use Rattle.situations.proofs.Entries.{Entry, keyed_named}
-
--- a look-up by key finds the flight of that name
-pub lookup-named : (c : List ℕ) (es : List Entry) → AreKeyed es → lookup (bytes_eq c) es ≡ find (named c) (flights_of es)
-lookup-named c [] k = refl
-lookup-named c (e ∷ es) k =
-    let P : Entry → Type 0 = λ e. e.0 ≡ e.1.flight.callsign in
-    let q = keyed_named c e (All-head P e es k) in
-    ap (λ b. cond b (Some e.1) (lookup (bytes_eq c) es)) (sym q) ∙ ap (λ r. cond (named c e.1) (Some e.1) r) (lookup-named c es (All-tail P e es k))
-
-pub some-find : (p : Active → Bool) (xs : List Active) → is_some (find p xs) ≡ list_any p xs
-some-find p [] = refl
-some-find p (x ∷ xs) = go (p x) (some-find p xs)
-  where
-    go : (b : Bool) → is_some (find p xs) ≡ list_any p xs → is_some (cond b (Some x) (find p xs)) ≡ (b || list_any p xs)
-    go true ih = refl
-    go false ih = ih
 
 -- the first frozen landing that lists c
 pub listing : (c : Callsign) (xs : List Active) → option_map (λ (g : Landing). g.flight.callsign) (find (λ g. lists g.flight c) (filter_map (λ a. option_map (landing a) a.frozen) xs)) ≡ first_frozen_listing c xs
@@ -167,9 +145,3 @@ pub covers-same : (o : Option Landing) (n : ℕ) → CoversAnswer (option_map na
     (if is_some o then option_map (λ (g : Landing). CoversFrozen g.flight.callsign g.second) o else (if nat_le 32 n then Some TooManyClosures else None))
 covers-same None n = refl
 covers-same (Some g) n = refl
-
--- one more flight from the back
-pub drop-more : (es : List Entry) (j : ℕ) (e : Entry) → slice_get es j ≡ Some e → drop j (flights_of es) ≡ e.1 ∷ drop (suc j) (flights_of es)
-drop-more [] j e h = let w : None ≡ Some e = h in absurd (cc)
-drop-more (x ∷ es) zero e h = let w : x ≡ e = cc in ap (λ (z : Entry). z.1 ∷ flights_of es) w
-drop-more (x ∷ es) (suc j) e h = drop-more es j e h

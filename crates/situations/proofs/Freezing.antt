@@ -1,62 +1,35 @@
--- Freezing one entry after another freezes each.
-use Rattle.std.proofs.Common.{◌≡◌, ℕ, zero, suc, ◌+◌, ◌<◌, Bool, true, false, cond, ◌&&◌, List, [], ◌∷◌, ◌++◌, length, map, take, Option, Some, None, get_or, refl, sym, ap, ◌∙◌, arith}
+-- Freezing one flight after another freezes each.
+use Rattle.std.proofs.Common.{◌≡◌, ℕ, zero, suc, ◌+◌, ◌<◌, Bool, true, false, cond, ◌&&◌, List, [], ◌∷◌, ◌++◌, length, map, set, take, Option, Some, None, get_or, refl, sym, ap, ◌∙◌, arith}
 use Rattle.std.specs.Prelude.{nat_lt, zip}
-use Rattle.std.proofs.lemmas.Option.{get_or_from_slice_get}
 use Rattle.std.proofs.lemmas.List.Sums.{length-filter}
-use Rattle.std.proofs.lemmas.List.Elements.{All-cons, All-head, All-tail}
-use Rattle.indexmap.specs.IndexMap.{set_value_at}
-use Rattle.std.specs.List.{slice_get}
 use Rattle.std.specs.Prelude.{is_none, min, count_by, filter}
 use Rattle.std.specs.Ordering.{is_lt}
 use Rattle.landing_rules.specs.Rules.{arrival_cmp, first_come_cmp}
-use Rattle.landing_rules.specs.Flights.{Flight, Active, Aerodrome, Landing, landing, landings, is_waiting}
+use Rattle.landing_rules.specs.Flights.{Flight, Active, Aerodrome, Landing, landing, landings}
 use Rattle.landing_rules.specs.Events.{after_clock, passed_after, freezes}
-use Rattle.situations.specs.Freezes.{arrival, arrival_if, freezing, behind, count_after, frozen_one, frozen_entry, IsFreezeOf}
+use Rattle.situations.specs.Freezes.{arrival, arrival_if, freezing, behind, count_after, frozen_one, IsFreezeOf}
 use Rattle.situations.specs.declared.freeze.Freeze.{Freeze}
-use Rattle.situations.specs.Seen.{AreKeyed}
-use Rattle.situations.specs.Seen.{flights_of}
 
-abbrev pub Entry : Type 0
-Entry = List ℕ × Active
-
-abbrev pub freeze_prefix : Freeze → ℕ → List Entry → List ℕ → List Entry
-freeze_prefix z zero es ts = es
+-- the flights after the first i seconds
+abbrev pub freeze_prefix : Freeze → ℕ → List Active → List ℕ → List Active
+freeze_prefix z zero xs ts = xs
 freeze_prefix z (suc i) [] ts = []
-freeze_prefix z (suc i) (e ∷ es) [] = e ∷ es
-freeze_prefix z (suc i) (e ∷ es) (t ∷ ts) = frozen_entry z e t ∷ freeze_prefix z i es ts
+freeze_prefix z (suc i) (x ∷ xs) [] = x ∷ xs
+freeze_prefix z (suc i) (x ∷ xs) (t ∷ ts) = frozen_one z x t ∷ freeze_prefix z i xs ts
 
-pub length-freeze_prefix : (z : Freeze) (i : ℕ) (es : List Entry) (ts : List ℕ) → length (freeze_prefix z i es ts) ≡ length es
-length-freeze_prefix z zero es ts = refl
-length-freeze_prefix z (suc i) [] ts = refl
-length-freeze_prefix z (suc i) (e ∷ es) [] = refl
-length-freeze_prefix z (suc i) (e ∷ es) (t ∷ ts) = ap suc (length-freeze_prefix z i es ts)
-
-pub freeze_prefix-step : (z : Freeze) (i : ℕ) (es : List Entry) (ts : List ℕ) (d : Entry) → length es ≡ length ts → i < length es →
-    set_value_at (freeze_prefix z i es ts) i (frozen_one z (get_or (freeze_prefix z i es ts) i d).1 (get_or ts i 0)) ≡ freeze_prefix z (suc i) es ts
+pub freeze_prefix-step : (z : Freeze) (i : ℕ) (xs : List Active) (ts : List ℕ) (d : Active) → length xs ≡ length ts → i < length xs →
+    set (freeze_prefix z i xs ts) i (frozen_one z (get_or (freeze_prefix z i xs ts) i d) (get_or ts i 0)) ≡ freeze_prefix z (suc i) xs ts
 freeze_prefix-step z i [] ts d n l = absurd (omega arith)
-freeze_prefix-step z i (e ∷ es) [] d n l = absurd (omega arith)
-freeze_prefix-step z zero (e ∷ es) (t ∷ ts) d n l = refl
-freeze_prefix-step z (suc i) (e ∷ es) (t ∷ ts) d n l = ap (λ r. frozen_entry z e t ∷ r) (freeze_prefix-step z i es ts d (omega arith) (omega arith))
+freeze_prefix-step z i (x ∷ xs) [] d n l = absurd (omega arith)
+freeze_prefix-step z zero (x ∷ xs) (t ∷ ts) d n l = refl
+freeze_prefix-step z (suc i) (x ∷ xs) (t ∷ ts) d n l = ap (λ r. frozen_one z x t ∷ r) (freeze_prefix-step z i xs ts d (omega arith) (omega arith))
 
-pub freeze_prefix-all : (z : Freeze) (i : ℕ) (es : List Entry) (ts : List ℕ) → length es ≡ length ts → i ≡ length ts → freeze_prefix z i es ts ≡ map (λ p. frozen_entry z p.0 p.1) (zip es ts)
+pub freeze_prefix-all : (z : Freeze) (i : ℕ) (xs : List Active) (ts : List ℕ) → length xs ≡ length ts → i ≡ length ts → freeze_prefix z i xs ts ≡ map (λ p. frozen_one z p.0 p.1) (zip xs ts)
 freeze_prefix-all z i [] [] n l = ap (λ j. freeze_prefix z j [] []) l
 freeze_prefix-all z i [] (t ∷ ts) n l = absurd (omega arith)
-freeze_prefix-all z i (e ∷ es) [] n l = absurd (omega arith)
-freeze_prefix-all z zero (e ∷ es) (t ∷ ts) n l = absurd (omega arith)
-freeze_prefix-all z (suc i) (e ∷ es) (t ∷ ts) n l = ap (λ r. frozen_entry z e t ∷ r) (freeze_prefix-all z i es ts (omega arith) (omega arith))
-
-pub frozen_keyed : (z : Freeze) (es : List Entry) (ts : List ℕ) → AreKeyed es → AreKeyed (map (λ p. frozen_entry z p.0 p.1) (zip es ts))
-frozen_keyed z [] ts k = λ i d l. absurd (omega arith)
-frozen_keyed z (e ∷ es) [] k = λ i d l. absurd (omega arith)
-frozen_keyed z (e ∷ es) (t ∷ ts) k =
-    All-cons (λ (e : Entry). e.0 ≡ e.1.flight.callsign) (frozen_entry z e t) (map (λ p. frozen_entry z p.0 p.1) (zip es ts))
-    (All-head (λ (e : Entry). e.0 ≡ e.1.flight.callsign) e es k ∙ same (is_waiting e.1 && nat_lt t z.h) (is_waiting e.1))
-    (frozen_keyed z es ts (All-tail (λ (e : Entry). e.0 ≡ e.1.flight.callsign) e es k))
-  where
-    same : (b w : Bool) → e.1.flight.callsign ≡ (cond b (record e.1 { frozen = Some t; passed = 0 }) (cond w (record e.1 { passed = count_after z e.1 }) e.1)).flight.callsign
-    same true w = refl
-    same false true = refl
-    same false false = refl
+freeze_prefix-all z i (x ∷ xs) [] n l = absurd (omega arith)
+freeze_prefix-all z zero (x ∷ xs) (t ∷ ts) n l = absurd (omega arith)
+freeze_prefix-all z (suc i) (x ∷ xs) (t ∷ ts) n l = ap (λ r. frozen_one z x t ∷ r) (freeze_prefix-all z i xs ts (omega arith) (omega arith))
 
 -- ---- what freezes
 
@@ -78,13 +51,12 @@ freezing-more h (suc i) (a ∷ active) (t ∷ ts) d n l = go (freezes h (landing
     go true ih = ap (λ l. arrival a.flight ∷ l) ih
     go false ih = ih
 
-pub freezing-step : (h i : ℕ) (active : List Active) (ts : List ℕ) (a : Active) (now new : List (ℕ × List ℕ)) → length active ≡ length ts → i < length ts → slice_get active i ≡ Some a →
+pub freezing-step : (h i : ℕ) (active : List Active) (ts : List ℕ) (a : Active) (now new : List (ℕ × List ℕ)) → length active ≡ length ts → i < length ts → a ≡ get_or active i a →
     now ≡ freezing h (take i active) (take i ts) → new ≡ now ++ arrival_if h (landing a (get_or ts i 0)) → new ≡ freezing h (take (i + 1) active) (take (i + 1) ts)
 freezing-step h i active ts a now new n l at e set =
     let m : i + 1 ≡ suc i = omega arith in
-    let here : get_or active i a ≡ a = get_or_from_slice_get active i a a at in
     set ∙ ap (λ l. l ++ arrival_if h (landing a (get_or ts i 0))) e
-    ∙ ap (λ (x : Active). freezing h (take i active) (take i ts) ++ arrival_if h (landing x (get_or ts i 0))) (sym here)
+    ∙ ap (λ (x : Active). freezing h (take i active) (take i ts) ++ arrival_if h (landing x (get_or ts i 0))) at
     ∙ freezing-more h i active ts a n l ∙ ap (λ j. freezing h (take j active) (take j ts)) (sym m)
 
 -- ---- and what a clock event makes of a flight
@@ -136,15 +108,9 @@ one_after a h active ts z of x t =
     parts t (count_after z x) (passed_after a h (landings active ts) (landing x t)) (count_is a h active ts z of x t) x.flight x.frozen x.passed (nat_lt t z.h)
     ∙ ap (λ n. cond (is_none x.frozen && nat_lt t n) (froze t x.flight) (cond (is_none x.frozen) (stays x.flight None (passed_after a h (landings active ts) (landing x t))) (stays x.flight x.frozen x.passed))) of.horizon
 
--- the flight of an entry
-pub flight_at : (es : List Entry) (i : ℕ) (v : Active) (d : Entry) → slice_get (flights_of es) i ≡ Some v → (get_or es i d).1 ≡ v
-flight_at [] i v d h = let w : None ≡ Some v = h in absurd (cc)
-flight_at (e ∷ es) zero v d h = cc
-flight_at (e ∷ es) (suc i) v d h = flight_at es i v d h
-
-pub frozen_flights : (a : Aerodrome) (h : ℕ) (active : List Active) (all : List ℕ) (z : Freeze) → IsFreezeOf a h active all z → (es : List Entry) (ts : List ℕ) →
-    flights_of (map (λ p. frozen_entry z p.0 p.1) (zip es ts)) ≡ map (after_clock a h (landings active all)) (landings (flights_of es) ts)
+pub frozen_flights : (a : Aerodrome) (h : ℕ) (active : List Active) (all : List ℕ) (z : Freeze) → IsFreezeOf a h active all z → (xs : List Active) (ts : List ℕ) →
+    map (λ p. frozen_one z p.0 p.1) (zip xs ts) ≡ map (after_clock a h (landings active all)) (landings xs ts)
 frozen_flights a h active all z of [] ts = refl
-frozen_flights a h active all z of (e ∷ es) [] = refl
-frozen_flights a h active all z of (e ∷ es) (t ∷ ts) =
-    ap (λ l. frozen_one z e.1 t ∷ l) (frozen_flights a h active all z of es ts) ∙ ap (λ v. v ∷ map (after_clock a h (landings active all)) (landings (flights_of es) ts)) (one_after a h active all z of e.1 t)
+frozen_flights a h active all z of (x ∷ xs) [] = refl
+frozen_flights a h active all z of (x ∷ xs) (t ∷ ts) =
+    ap (λ l. frozen_one z x t ∷ l) (frozen_flights a h active all z of xs ts) ∙ ap (λ v. v ∷ map (after_clock a h (landings active all)) (landings xs ts)) (one_after a h active all z of x t)

@@ -1,6 +1,5 @@
-pub mod Entries
+pub mod Callsigns
 pub mod Finds
 pub mod Firsts
 pub mod Freezing
-pub mod OpeningSituation
 pub mod OpeningSound

@@ -25,7 +25,7 @@ use Rattle.situations.specs.declared.opening_refusal.OpeningFault.{OpeningFault}
 use Rattle.situations.specs.declared.opening_refusal.OpeningFault.TheVariants as fault
 use Rattle.situations.specs.Opened.{opened, opening_of, CanOpen, HasRanges, IsKept}
 use Rattle.situations.specs.Refused.{unless, first_from, unknown_frozen_at, unknown_passed_at, too_many_waiting, opening_fault, name_fault, given_landing, given, closed_at, clash_at, clash_from, is_not_before, lands_late, late_at, rule_fault, AreKept, OpeningLaw, PlainLaw}
-use Rattle.situations.proofs.Entries.{bytes_eq-true, bytes_eq-refl}
+use Rattle.situations.proofs.Callsigns.{bytes_eq-true, bytes_eq-refl}
 
 -- ---- members
 

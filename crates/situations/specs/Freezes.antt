@@ -32,9 +32,6 @@ frozen_one z a at =
     if is_waiting a && nat_lt at z.h then record a { frozen = Some at; passed = 0 }
     else (if is_waiting a then record a { passed = count_after z a } else a)
 
-abbrev pub frozen_entry : Freeze → List ℕ × Active → ℕ → List ℕ × Active
-frozen_entry z e at = (e.0, frozen_one z e.1 at)
-
 -- what a clock event with this plan shown brings
 pub record IsFreezeOf (a : Aerodrome) (h : ℕ) (active : List Active) (t : Schedule) (z : Freeze) : Type 0 where
   pub horizon : z.h ≡ h

@@ -1,7 +1,7 @@
 -- The opening situation of an aerodrome and its flights, and what is asked of them.
-use Rattle.std.specs.Prelude.{◌≢◌, ◌≤◌, ℕ, List, Option, length, map, All, AllPairs, IsTrue}
+use Rattle.std.specs.Prelude.{◌≢◌, ◌≤◌, List, length, map, All, AllPairs, IsTrue}
 use Rattle.cps_base.specs.Text.{is_callsign}
-use Rattle.landing_rules.specs.Flights.{Aerodrome, Flight, Active, Situation}
+use Rattle.landing_rules.specs.Flights.{Aerodrome, Flight, Situation}
 use Rattle.landing_rules.specs.Limits.{greatest_weight, most_flights}
 use Rattle.landing_rules.specs.Rules.{last_second}
 use Rattle.landing_rules.specs.Sound.{AreGoodWindows}
@@ -29,10 +29,6 @@ opening_of a = record {
 -- the opening situation: the flights in the order of their file
 abbrev pub opened : aerodromes.Aerodrome → List files.Flight → Situation
 opened a fs = opening_situation (opening_of a) (map flight_of fs)
-
--- a flight that enters the system
-abbrev pub entering : Flight → Option ℕ → ℕ → Active
-entering f frozen passed = record { flight = f; frozen = frozen; passed = passed }
 
 -- what the types of a flight's fields keep
 pub record IsKept (f : Flight) : Type 0 where

@@ -1,15 +1,13 @@
 // What an accepted event changes.
 ghost use Rattle.std.specs.Prelude.{◌≡◌, ◌+◌, ◌<◌, ◌≤◌, ◌++◌, [], ◌∷◌, false, not, None, length, filter, map, option_map, IfSome, IfOk, OnOk};
-ghost use Rattle.std.specs.List.{list_any};
-ghost use Rattle.std.specs.Str.{bytes_eq};
 ghost use Rattle.landing_rules.specs.Events.{named, estimated, newcomer, without_first, same_span, refusal, situation_after};
 ghost use Rattle.landing_rules.specs.Limits.{most_closures};
 ghost use Rattle.landing_rules.specs.Sound.{IsGoodEvent};
 ghost use Rattle.event_log.specs.Seen.{event_of};
 ghost use Rattle.landing_rules.specs.Rules.{last_second};
 ghost use Rattle.flight_file.specs.Seen.{flight_of};
-ghost use Rattle.situations.specs.Opened.{entering};
 
+use crate::opening_refusal::is_named;
 use crate::{Active, Situation};
 use cps_base::Callsign;
 use event_log::Event;
@@ -17,20 +15,22 @@ use flight_file::Flight;
 use landing_windows::WindowSet;
 use std::alloc::{AllocError, Global};
 
-// The flight with another estimate and other windows.
-fn estimated(active: &Active, eta: u32, windows: &WindowSet) -> Active
-    ensures { result ≡ record active.now {
-      flight = record active.now.flight
-          { eta = eta; windows = windows.now };
-    } }
+// The flight has this estimate and these windows, where it is that of the callsign.
+fn estimate_one(active: &mut Active, callsign: Callsign, eta: u32, windows: &WindowSet)
+    ensures { active.new ≡ estimated callsign eta windows.now active.old }
 {
-    let mut flight = active.flight.copy();
-    flight.eta = eta;
-    flight.windows = *windows;
-    Active {
-        flight,
-        frozen: active.frozen,
-        passed: active.passed,
+    if active.flight.callsign == callsign {
+        active.flight.eta = eta;
+        active.flight.windows = *windows;
+    }
+}
+
+// Each flight of the callsign has them: there is one at most.
+fn estimate_each(all: &mut [Active], callsign: Callsign, eta: u32, windows: &WindowSet)
+    ensures { all.new ≡ map (estimated callsign eta windows.now) all.old }
+{
+    for i in 0..all.len() {
+        estimate_one(&mut all[i], callsign, eta, windows);
     }
 }
 
@@ -42,64 +42,32 @@ impl Situation {
               self.old.active;
         } }
     {
-        self.active.retain(
-            |c: &Callsign, a: &mut Active| -> bool
-                ensures { (result ≡ not (bytes_eq c.now callsign)) × (a.new ≡ a.old) }
-            { *c != callsign },
-        );
+        self.active.retain(|a| !is_named(a, callsign));
     }
 
     // The flight has this estimate and these windows.
-    pub(crate) fn estimate(
-        &mut self,
-        callsign: Callsign,
-        eta: u32,
-        windows: &WindowSet,
-    ) -> Result<(), AllocError>
-        ensures { OnOk result (self.new ≡ record self.old {
+    pub(crate) fn estimate(&mut self, callsign: Callsign, eta: u32, windows: &WindowSet)
+        ensures { self.new ≡ record self.old {
           active = map
               (estimated callsign eta windows.now) self.old.active;
-        }) }
+        } }
     {
-        let changed = match self.active.get(&callsign) {
-            None => return Ok(()),
-            Some(active) => estimated(active, eta, windows),
-        };
-        self.active.insert(callsign, changed)?;
-        Ok(())
-    }
-
-    // The flight is the last to arrive.
-    pub(crate) fn enter(
-        &mut self,
-        flight: &Flight,
-        frozen: Option<u32>,
-        passed: u8,
-    ) -> Result<(), AllocError>
-        requires { list_any (named flight.now.callsign) self.old.active ≡ false }
-        ensures { OnOk result (self.new ≡ record self.old {
-          active = self.old.active ++ entering
-              (flight_of flight.now) frozen passed ∷ [];
-        }) }
-    {
-        let active = Active {
-            flight: flight.copy(),
-            frozen,
-            passed,
-        };
-        self.active.insert(flight.callsign, active)?;
-        Ok(())
+        estimate_each(&mut self.active, callsign, eta, windows);
     }
 
     // The flight is the last to arrive, and waits. None has passed it.
     fn add(&mut self, flight: &Flight) -> Result<(), AllocError>
-        requires { list_any (named flight.now.callsign) self.old.active ≡ false }
         ensures { OnOk result (self.new ≡ record self.old {
           active = self.old.active ++ newcomer
               (flight_of flight.now) ∷ [];
         }) }
     {
-        self.enter(flight, None, 0)
+        self.active.push(Active {
+            flight: flight.copy(),
+            frozen: None,
+            passed: 0,
+        })?;
+        Ok(())
     }
 
     // The closure stands.
@@ -123,11 +91,12 @@ impl Situation {
 }
 
 impl Situation {
-    // The same situation.
-    fn copy(&self) -> Result<Situation, AllocError>
+    // The same situation, with a place for a flight that the event adds.
+    fn copy(&self, alloc: Global) -> Result<Situation, AllocError>
         ensures { IfOk result (λ copied. copied ≡ self.now) }
     {
-        let active = self.active.clone()?;
+        let mut active = Vec::with_capacity(alloc, self.active.len() + 1)?;
+        active.extend_with_clones(&self.active)?;
         Ok(Situation {
             fixed: self.fixed,
             active,
@@ -150,7 +119,10 @@ impl Situation {
             plan.entry) (event_of event.now)) }
     {
         match event {
-            Event::Estimate(callsign, eta, windows) => self.estimate(*callsign, *eta, windows),
+            Event::Estimate(callsign, eta, windows) => {
+                self.estimate(*callsign, *eta, windows);
+                Ok(())
+            }
             Event::Cancel(callsign) => {
                 self.cancel(*callsign);
                 Ok(())
@@ -182,7 +154,7 @@ impl Situation {
         ensures { IfOk result (λ next. next ≡ situation_after self.now (option_map (λ p. p.now)
             plan.entry) (event_of event.now)) }
     {
-        let mut next = self.copy()?;
+        let mut next = self.copy(alloc)?;
         next.change(alloc, plan, event)?;
         Ok(next)
     }

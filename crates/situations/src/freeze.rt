@@ -1,18 +1,14 @@
 // What a clock event changes.
 ghost use Rattle.std.specs.Prelude.{◌≡◌, ℕ, ◌+◌, ◌<◌, ◌≤◌, ◌++◌, true, List, Some, IfOk, OnOk, IfSome, length, map, zip, option_map, slice_index_or};
-ghost use Rattle.std.specs.Str.{bytes_eq};
 ghost use Rattle.std.specs.Ordering.{is_lt};
-ghost use Rattle.indexmap.specs.IndexMap.{index_map_len, IsUnique, set_value_at};
-ghost use Rattle.landing_rules.specs.Flights as rules;
 ghost use Rattle.landing_rules.specs.Flights.{landing};
 ghost use Rattle.landing_rules.specs.Rules.{last_second, first_come_cmp};
 ghost use Rattle.landing_rules.specs.Events.{frozen_before};
-ghost use Rattle.situations.specs.Freezes.{arrival_if, freezing, behind, count_after, frozen_one, frozen_entry, IsFreezeOf};
-ghost use Rattle.situations.specs.Seen.{fixed_of, flights_of};
+ghost use Rattle.situations.specs.Freezes.{arrival_if, freezing, behind, count_after, frozen_one, IsFreezeOf};
+ghost use Rattle.situations.specs.Seen.{fixed_of};
 
 use crate::{Active, Fixed, Situation};
 use cps_base::Callsign;
-use indexmap::IndexMap;
 use std::alloc::{AllocError, Global};
 
 // What a clock event brings: the horizon, and where flights keep a count of those that passed them the greatest count and
@@ -73,13 +69,12 @@ fn note_freezing(
 // The flights that wait and land before h.
 fn freezing(
     alloc: Global,
-    active: &IndexMap<Callsign, Active>,
+    active: &[Active],
     seconds: &[u32],
     h: u32,
 ) -> Result<Vec<(u32, Callsign)>, AllocError>
-    requires { index_map_len active.now ≡ length seconds.now }
-    ensures { IfOk result (λ found. found.items
-        ≡ freezing h (flights_of active.now.entries) seconds.now) }
+    requires { length active.now ≡ length seconds.now }
+    ensures { IfOk result (λ found. found.items ≡ freezing h active.now seconds.now) }
 {
     let mut found = Vec::new(alloc);
     for i in 0..seconds.len() {
@@ -92,13 +87,13 @@ fn freezing(
 fn counted(
     alloc: Global,
     carry: bool,
-    active: &IndexMap<Callsign, Active>,
+    active: &[Active],
     seconds: &[u32],
     h: u32,
 ) -> Result<Vec<(u32, Callsign)>, AllocError>
-    requires { index_map_len active.now ≡ length seconds.now }
+    requires { length active.now ≡ length seconds.now }
     ensures { IfOk result (λ found. carry ≡ true
-        → found.items ≡ freezing h (flights_of active.now.entries) seconds.now) }
+        → found.items ≡ freezing h active.now seconds.now) }
 {
     if !carry {
         return Ok(Vec::new(alloc));
@@ -111,12 +106,12 @@ fn counted(
 fn freeze_of(
     alloc: Global,
     fixed: &Fixed,
-    active: &IndexMap<Callsign, Active>,
+    active: &[Active],
     seconds: &[u32],
     h: u32,
 ) -> Result<Freeze, AllocError>
-    requires { index_map_len active.now ≡ length seconds.now }
-    ensures { IfOk result (IsFreezeOf (fixed_of fixed.now) h (flights_of active.now.entries)
+    requires { length active.now ≡ length seconds.now }
+    ensures { IfOk result (IsFreezeOf (fixed_of fixed.now) h active.now
         seconds.now) }
 {
     let freezing = counted(alloc, fixed.carry, active, seconds, h)?;
@@ -143,28 +138,13 @@ fn freeze_one(active: &mut Active, at: u32, freeze: &Freeze)
     }
 }
 
-// The flight at a place after the clock event.
-fn freeze_at(active: &mut IndexMap<Callsign, Active>, i: usize, at: u32, freeze: &Freeze)
-    requires { i < index_map_len active.old }
-    ensures entries { (d : List ℕ × rules.Active)
-        → active.new.entries ≡ set_value_at active.old.entries i
-        (frozen_one freeze.now (slice_index_or active.old.entries i d).1 at) }
-    ensures len { index_map_len active.new ≡ index_map_len active.old }
-    ensures unique { IsUnique bytes_eq active.old → IsUnique bytes_eq active.new }
-{
-    let flight = &mut active[i];
-    freeze_one(flight, at, freeze);
-}
-
 // Each flight after the clock event.
-fn freeze_each(active: &mut IndexMap<Callsign, Active>, seconds: &[u32], freeze: &Freeze)
-    requires { index_map_len active.old ≡ length seconds.now }
-    ensures entries { active.new.entries ≡ map (λ p. frozen_entry freeze.now p.0 p.1) (zip
-        active.old.entries seconds.now) }
-    ensures unique { IsUnique bytes_eq active.old → IsUnique bytes_eq active.new }
+fn freeze_each(active: &mut [Active], seconds: &[u32], freeze: &Freeze)
+    requires { length active.old ≡ length seconds.now }
+    ensures { active.new ≡ map (λ p. frozen_one freeze.now p.0 p.1) (zip active.old seconds.now) }
 {
     for i in 0..seconds.len() {
-        freeze_at(active, i, seconds[i], freeze);
+        freeze_one(&mut active[i], seconds[i], freeze);
     }
 }
 

@@ -34,7 +34,7 @@ pub enum OpeningFault {
 }
 
 // The second at which the flight of the callsign is frozen.
-pub(crate) fn frozen_second(frozen: &FrozenList, callsign: Callsign) -> Option<u32>
+fn frozen_second(frozen: &FrozenList, callsign: Callsign) -> Option<u32>
     ensures { result ≡ look_up callsign (map (λ f. (f.callsign, f.second)) frozen.now) }
 {
     for i in 0..frozen.len() {
@@ -47,7 +47,7 @@ pub(crate) fn frozen_second(frozen: &FrozenList, callsign: Callsign) -> Option<u
 }
 
 // How many flights passed that of the callsign.
-pub(crate) fn passed_count(passed: &PassedList, callsign: Callsign) -> u8
+fn passed_count(passed: &PassedList, callsign: Callsign) -> u8
     ensures { result ≡ unwrap_or (look_up callsign (map (λ p. (p.callsign, p.count)) passed.now))
         0 }
 {
@@ -61,7 +61,7 @@ pub(crate) fn passed_count(passed: &PassedList, callsign: Callsign) -> u8
 }
 
 // The flight as it stands in the opening situation.
-pub(crate) fn opening_flight(aerodrome: &Aerodrome, flight: &Flight) -> Active
+fn opening_flight(aerodrome: &Aerodrome, flight: &Flight) -> Active
     ensures { result ≡ opening_flight (opening_of aerodrome.now) (flight_of flight.now) }
 {
     Active {
@@ -72,7 +72,7 @@ pub(crate) fn opening_flight(aerodrome: &Aerodrome, flight: &Flight) -> Active
 }
 
 // All flights, in the order of their file.
-fn active_of(
+pub(crate) fn active_of(
     alloc: Global,
     aerodrome: &Aerodrome,
     flights: &[Flight],
@@ -86,14 +86,21 @@ fn active_of(
 }
 
 // Whether it is the flight of the callsign.
-fn is_named(active: &Active, callsign: Callsign) -> bool
+pub(crate) fn is_named(active: &Active, callsign: Callsign) -> bool
     ensures { result ≡ named callsign active.now }
 {
     active.flight.callsign == callsign
 }
 
+// The first flight of the callsign.
+pub(crate) fn find_named(active: &[Active], callsign: Callsign) -> Option<&Active>
+    ensures { option_map (λ a. a.now) result ≡ find (named callsign) active.now }
+{
+    active.iter().find(|a| is_named(a, callsign))
+}
+
 // Whether a flight has the callsign.
-fn is_there(active: &[Active], callsign: Callsign) -> bool
+pub(crate) fn is_there(active: &[Active], callsign: Callsign) -> bool
     ensures { result ≡ list_any (named callsign) active.now }
 {
     active.iter().any(|a| is_named(a, callsign))
@@ -135,7 +142,7 @@ fn unknown_passed(active: &[Active], passed: &PassedList) -> Option<OpeningFault
 }
 
 // How many flights wait.
-fn count_waiting(active: &[Active]) -> usize
+pub(crate) fn count_waiting(active: &[Active]) -> usize
     ensures value { result ≡ length (filter is_waiting active.now) }
     ensures bound { result ≤ length active.now }
 {
@@ -175,7 +182,7 @@ fn name_fault(aerodrome: &Aerodrome, active: &[Active]) -> Option<OpeningFault>
 fn given_landing(active: &[Active], entry: FrozenLanding) -> Result<Option<Given>, AllocError>
     ensures { IfOk result (λ given. given ≡ given_landing active.now entry) }
 {
-    match active.iter().find(|a| is_named(a, entry.callsign)) {
+    match find_named(active, entry.callsign) {
         None => Ok(None),
         Some(found) => Ok(Some(Given {
             active: found.clone()?,

@@ -11,6 +11,7 @@ ghost use Rattle.event_log.specs.Seen.{event_of};
 ghost use Rattle.situations.specs.Answers.{IsAnswer};
 ghost use Rattle.situations.specs.Finds.{first_frozen_listing, earliest_covered, earlier_of};
 
+use crate::opening_refusal::{count_waiting, find_named, is_there};
 use crate::{Active, Refusal, Situation};
 use cps_base::Callsign;
 use event_log::Event;
@@ -130,7 +131,7 @@ impl Situation {
         ensures { IsAnswer result (unknown_or_frozen callsign
             (find (named callsign) self.now.active)) }
     {
-        match self.active.get(&callsign) {
+        match find_named(&self.active, callsign) {
             None => Some(Refusal::UnknownFlight(callsign)),
             Some(active) => frozen_refusal(active),
         }
@@ -140,7 +141,7 @@ impl Situation {
     fn is_active(&self, callsign: Callsign) -> bool
         ensures { result ≡ list_any (named callsign) self.now.active }
     {
-        self.active.contains_key(&callsign)
+        is_there(&self.active, callsign)
     }
 
     // How many flights are active.
@@ -154,18 +155,14 @@ impl Situation {
     fn count_waiting(&self) -> usize
         ensures { result ≡ length (waiting self.now) }
     {
-        self.active.values().filter(|a| a.frozen.is_none()).count()
+        count_waiting(&self.active)
     }
 
     // The first frozen flight that lists the callsign.
     fn first_frozen_listing(&self, callsign: Callsign) -> Option<Callsign>
         ensures { result ≡ first_frozen_listing callsign self.now.active }
     {
-        match self
-            .active
-            .values()
-            .find(|a| is_frozen_listing(a, callsign))
-        {
+        match self.active.iter().find(|a| is_frozen_listing(a, callsign)) {
             None => None,
             Some(active) => Some(active.flight.callsign),
         }
@@ -190,9 +187,7 @@ impl Situation {
     {
         let mut found: Option<(Callsign, u32)> = None;
         for i in (0..self.active.len()).rev() {
-            if let Some((_, active)) = self.active.get_index(i) {
-                found = earlier(active, from, to, found);
-            }
+            found = earlier(&self.active[i], from, to, found);
         }
         found
     }

@@ -1,4 +1,4 @@
-ghost use Rattle.std.specs.Prelude.{◌≡◌, ◌<◌, ◌≤◌, [], IfOk, None, Some, length, map, option_map, slice_get};
+ghost use Rattle.std.specs.Prelude.{◌≡◌, ◌<◌, ◌≤◌, [], All, IfOk, None, Some, length, map, option_map, slice_get};
 ghost use Rattle.wake_table.specs.Table.{IsWakeTable};
 ghost use Rattle.landing_rules.specs.Flights.{horizon};
 ghost use Rattle.landing_rules.specs.Limits.{longest_freeze, most_closures};
@@ -10,11 +10,9 @@ ghost use Rattle.situations.specs.Refused.{opening_fault};
 ghost use Rattle.situations.specs.Seen.{fixed_of};
 
 use crate::Active;
-use crate::opening_refusal::{frozen_second, passed_count};
+use crate::opening_refusal::active_of;
 use aerodrome_file::Aerodrome;
-use cps_base::Callsign;
 use flight_file::Flight;
-use indexmap::IndexMap;
 use landing_rules::{MOST_CLOSURES, Objective};
 use landing_windows::Closures;
 use std::alloc::{AllocError, Global};
@@ -36,12 +34,12 @@ pub struct Fixed {
     pub carry: bool,
 }
 
-/// The flights in the system by callsign, in order of arrival, the closures that stand, and the last accepted second of
+/// The flights in the system, in order of arrival, the closures that stand, and the last accepted second of
 /// the clock. Contracts see the rules' own (`landing_rules`, `Situation`).
 #[derive(Drop)]
 pub struct Situation {
     pub(crate) fixed: Fixed,
-    pub(crate) active: IndexMap<Callsign, Active>,
+    pub(crate) active: Vec<Active>,
     pub(crate) closures: Closures,
     pub(crate) clock: Option<u32>,
 }
@@ -58,10 +56,10 @@ impl Model for Situation {
 }
 
 impl Situation {
-    // With no flight.
-    fn empty(alloc: Global, aerodrome: &Aerodrome) -> Situation
+    // With these flights.
+    fn with(aerodrome: &Aerodrome, active: Vec<Active>) -> Situation
         requires { IsInRange aerodrome.now }
-        ensures value { result ≡ opened aerodrome.now [] }
+        ensures value { result ≡ record (opened aerodrome.now []) { active = active.items } }
         ensures table { IsWakeTable aerodrome.now.table }
         ensures closures { length aerodrome.now.closures ≤ most_closures }
     {
@@ -75,7 +73,7 @@ impl Situation {
                 table: aerodrome.table,
                 carry: aerodrome.carry,
             },
-            active: IndexMap::new(alloc),
+            active,
             closures: aerodrome.closures,
             clock: aerodrome.clock,
         }
@@ -94,15 +92,9 @@ impl Situation {
         ensures value { IfOk result (λ situation. situation ≡ opened aerodrome.now flights.now) }
         ensures sound { opening_fault aerodrome.now flights.now ≡ None → IfOk result IsSound }
     {
-        let mut situation = Situation::empty(alloc, aerodrome);
-        for i in 0..flights.len() {
-            let flight = &flights[i];
-            known(flight);
-            let frozen = frozen_second(&aerodrome.frozen, flight.callsign);
-            let passed = passed_count(&aerodrome.passed, flight.callsign);
-            situation.enter(flight, frozen, passed)?;
-        }
-        Ok(situation)
+        all_known(flights);
+        let active = active_of(alloc, aerodrome, flights)?;
+        Ok(Situation::with(aerodrome, active))
     }
 
     /// What the aerodrome fixes.
@@ -129,14 +121,10 @@ impl Situation {
     }
 
     /// The flights in order of arrival.
-    pub fn flights(&self, alloc: Global) -> Result<Vec<&Active>, AllocError>
-        ensures { IfOk result (λ all. map (λ a. a.now) all.items ≡ self.now.active) }
+    pub fn flights(&self) -> &[Active]
+        ensures { result.now ≡ self.now.active }
     {
-        let mut all = Vec::with_capacity(alloc, self.active.len())?;
-        for i in 0..self.active.len() {
-            all.push(&self.active[i])?;
-        }
-        Ok(all)
+        &self.active
     }
 
     /// The i-th flight in order of arrival, counted from 0.
@@ -183,4 +171,13 @@ fn known(flight: &Flight)
     prove!(flight.callsign.bytes().len() >= 2);
     prove!(flight.windows.spans().len() <= 4);
     prove!(flight.after.len() <= 4);
+}
+
+// What they keep of each flight.
+fn all_known(flights: &[Flight])
+    ensures { All (λ f. IsKept (flight_of f)) flights.now }
+{
+    for i in 0..flights.len() {
+        known(&flights[i]);
+    }
 }

@@ -7,7 +7,7 @@ use Rattle.audit.proofs.found.lines_found.Goals as goal
 
 pub loop-i-preserved : goal.loop-i-preserved
 loop-i-preserved c =
-    let active = map (λ a. a.now) c.args.active.now.items in
+    let active = c.args.active.now in
     let lines = c.args.lines.now in
     ap (λ l. l ++ lines_found active (map shown_of (drop (c.loop-i.i + 1) lines))) c.in_ok-take_found.ensures
     ∙ found_step active lines c.loop-i.i c.index-lines-i.result c.loop-i.all.items (cons_option c.in_ok-found.found []) (lines_found active (map shown_of lines))

@@ -5,4 +5,4 @@ use Rattle.audit.proofs.found.lines_found.Given as goal
 
 -- the lines found so far, and those left
 abbrev pub invariant-loop-i : goal.invariant-loop-i
-invariant-loop-i l = l.all.items ++ lines_found (map (λ a. a.now) l.active.items) (map shown_of (drop l.i l.lines)) ≡ lines_found (map (λ a. a.now) l.active.items) (map shown_of l.lines)
+invariant-loop-i l = l.all.items ++ lines_found l.active (map shown_of (drop l.i l.lines)) ≡ lines_found l.active (map shown_of l.lines)

@@ -1,4 +1,4 @@
-use Rattle.std.proofs.Common.{rules, tests, ◌≡◌, map, not, sym, refl, ap, ◌∙◌}
+use Rattle.std.proofs.Common.{rules, tests, ◌≡◌, map, not, refl, ap, ◌∙◌}
 use Rattle.std.specs.Prelude.{IfOk, filter}
 use Rattle.std.specs.List.{list_any}
 use Rattle.std.proofs.lemmas.Iterator.{items_from_collect, YieldsList-from_map, YieldsList-from_slice}
@@ -12,16 +12,15 @@ use Rattle.sequencer.specs.declared.plan.Landing.{Landing}
 use Rattle.audit.specs.declared.finding.Finding.TheVariants as code
 use Rattle.audit.specs.Findings.{finding_of}
 use Rattle.audit.proofs.Failing.{each_failing}
-use Rattle.audit.proofs.Looks.{any_map}
 use Rattle.audit.proofs.names.unknown.Goals as goal
 
 pub returns : goal.returns
 returns c =
-    let active = c.args.active.now.items in
+    let active = c.args.active.now in
     let lines = c.args.lines.now in
-    let fails = λ (l : Landing). not (list_any (λ a. named l.callsign a.now) active) in
+    let fails = λ (l : Landing). not (list_any (named l.callsign) active) in
     let made = λ (l : Landing). code.Unknown l.callsign in
     let chain : IfOk c.collect.result (λ all. all.items ≡ map made (filter fails lines)) = items_from_collect _ c.collect.ensures.ran
     (YieldsList-from_map _ made (YieldsList-at c.map.ensures.source (YieldsList-from_filter _ fails (YieldsList-from_slice lines (cc)) c.filter.ensures.closure (λ x b q k. search (rules, tests)))) c.map.ensures.closure (λ x r q k. search (rules, tests))) in
-    IfOk-weaker c.collect.result _ _ (λ all h. ap (map finding_of) h ∙ each_failing shown_of fails made (λ l. list_any (named l.callsign) (map (λ a. a.now) active)) (λ (l : ShownLanding). Unknown l.callsign)
-    (λ l. ap not (sym (any_map (λ a. a.now) (named l.callsign) active))) (λ t. refl) lines) chain
+    IfOk-weaker c.collect.result _ _ (λ all h. ap (map finding_of) h ∙ each_failing shown_of fails made (λ l. list_any (named l.callsign) active) (λ (l : ShownLanding). Unknown l.callsign)
+    (λ l. refl) (λ t. refl) lines) chain

@@ -8,7 +8,7 @@ use Rattle.audit.proofs.names.unknown_unless.Goals as goal
 
 pub returns-then-found-lines : goal.returns-then-found-lines
 returns-then-found-lines c =
-    let active = map (λ a. a.now) c.args.active.now.items in
+    let active = c.args.active.now in
     let lines = map shown_of c.args.lines.now in
     let n = length-map c.args.lines.now shown_of in
     let r = c.requires in

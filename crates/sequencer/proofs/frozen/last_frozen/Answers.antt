@@ -1,8 +1,6 @@
-use Rattle.std.proofs.Common.{◌≡◌, ℕ, zero, suc, ◌-◌, ◌<◌, ◌≤◌, List, ◌∷◌, length, get_or, map, drop, drop-cons, sym, ap, subst, ◌∙◌, arith}
-use Rattle.std.proofs.lemmas.List.{length-map}
+use Rattle.std.proofs.Common.{◌≡◌, ℕ, zero, suc, ◌-◌, ◌<◌, ◌≤◌, List, ◌∷◌, length, get_or, drop, drop-cons, sym, ap, subst, ◌∙◌, arith}
 use Rattle.landing_rules.specs.Flights.{Active}
 use Rattle.sequencer.specs.Frozen.{latest, later_of}
-use Rattle.sequencer.proofs.Ranks.{seen_at}
 use Rattle.sequencer.proofs.frozen.last_frozen.Goals as goal
 
 -- the flight before those from i on
@@ -15,10 +13,9 @@ one_before xs (suc j) a pos le e =
 
 pub loop-i-preserved : goal.loop-i-preserved
 loop-i-preserved c =
-    let items = c.args.flights.now.items in
-    let n = length-map items (λ a. a.now) in
+    let xs = c.args.flights.now in
+    let a = c.index-flights-i.result in
     let le = c.loop-i.invariant.1 in (
-      c.later-found.ensures ∙ ap (later_of c.index.result.now.now) c.loop-i.invariant.0
-          ∙ sym (one_before (map (λ a. a.now) items) c.loop-i.i c.index.result.now.now (omega arith) (omega arith) (seen_at (λ a. a.now) items (c.loop-i.i - 1) c.index.result.now (omega arith) c.index.ensures)),
+      c.later-found.ensures ∙ ap (later_of a) c.loop-i.invariant.0 ∙ sym (one_before xs c.loop-i.i a (omega arith) (omega arith) c.index-flights-i.is),
       omega arith,
     )

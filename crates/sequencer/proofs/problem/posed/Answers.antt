@@ -1,11 +1,9 @@
 use Rattle.std.proofs.Common.{◌≡◌, ◌≢◌, ℕ, length, map, filter, sym, ap, subst, ◌∙◌, arith}
-use Rattle.std.specs.Prelude.{All, AllPairs, ◌↔◌}
+use Rattle.std.specs.Prelude.{AllPairs, ◌↔◌}
 use Rattle.std.specs.List.{AllZip}
 use Rattle.std.specs.List.Sorted.{IsStrictlySortedBy}
 use Rattle.std.proofs.lemmas.List.{length-map}
-use Rattle.std.proofs.lemmas.List.Elements.{All-filter}
 use Rattle.std.proofs.lemmas.List.Kept.{AllPairs-filter}
-use Rattle.std.proofs.lemmas.List.Sorted.{All-permutation}
 use Rattle.precedence.specs.Pairs.{MustPrecede}
 use Rattle.landing_rules.specs.Flights.{Active, waiting, is_waiting}
 use Rattle.landing_rules.specs.Rules.{first_come_cmp}
@@ -13,7 +11,7 @@ use Rattle.landing_rules.specs.Problem.{IsWaitingOf, IsProblemOf, by_rank}
 use Rattle.cps_problem.specs.Seen.{waiting_of}
 use Rattle.sequencer.specs.Ranked.{arrivals}
 use Rattle.sequencer.specs.Predecessors.{IsListed}
-use Rattle.sequencer.proofs.Ranks.{rank_permutes, rank_length}
+use Rattle.sequencer.proofs.Ranks.{rank_length}
 use Rattle.sequencer.proofs.ProblemOf.{IsHeadOf, posed, well_formed}
 use Rattle.sequencer.proofs.problem.posed.Goals as goal
 use Rattle.sequencer.proofs.problem.posed.Goals.{In_ok-with_times}
@@ -23,22 +21,22 @@ Apart a b = a.flight.callsign ≢ b.flight.callsign
 
 pub order_of-requires-clause-few : goal.order_of-requires-clause-few
 order_of-requires-clause-few c =
-    let e = ap (length {A = Active}) (c.in_ok-waiting.ensures ∙ ap (filter is_waiting) c.in_ok-flights.ensures) in
+    let e = ap (length {A = Active}) (c.in_ok-waiting.ensures ∙ ap (filter is_waiting) c.flights-flights.ensures) in
     let n = length-map c.in_ok-waiting.waiting.items (λ a. a.now) in
     let few = c.requires.few_waiting in
     omega arith
 
 pub order_of-requires-clause-callsigns : goal.order_of-requires-clause-callsigns
 order_of-requires-clause-callsigns c =
-    subst (AllPairs Apart) (sym (c.in_ok-waiting.ensures ∙ ap (filter is_waiting) c.in_ok-flights.ensures)) (AllPairs-filter Apart is_waiting c.args.situation.now.active c.requires.callsigns)
+    subst (AllPairs Apart) (sym (c.in_ok-waiting.ensures ∙ ap (filter is_waiting) c.flights-flights.ensures)) (AllPairs-filter Apart is_waiting c.args.situation.now.active c.requires.callsigns)
 
 pub by_rank-requires-clause-callsigns : goal.by_rank-requires-clause-callsigns
 by_rank-requires-clause-callsigns c =
-    subst (AllPairs Apart) (sym (c.in_ok-waiting.ensures ∙ ap (filter is_waiting) c.in_ok-flights.ensures)) (AllPairs-filter Apart is_waiting c.args.situation.now.active c.requires.callsigns)
+    subst (AllPairs Apart) (sym (c.in_ok-waiting.ensures ∙ ap (filter is_waiting) c.flights-flights.ensures)) (AllPairs-filter Apart is_waiting c.args.situation.now.active c.requires.callsigns)
 
 pub pairs_of-pairs-requires : goal.pairs_of-pairs-requires
 pairs_of-pairs-requires c =
-    let e = ap (length {A = Active}) (c.in_ok-waiting.ensures ∙ ap (filter is_waiting) c.in_ok-flights.ensures) in
+    let e = ap (length {A = Active}) (c.in_ok-waiting.ensures ∙ ap (filter is_waiting) c.flights-flights.ensures) in
     let r = ap (length {A = Active}) c.in_ok-ranked.ensures.flights in
     let m = rank_length (map (λ a. a.now) c.in_ok-waiting.waiting.items) in
     let n = length-map c.in_ok-ranked.ranked.items (λ a. a.now) in
@@ -46,7 +44,7 @@ pairs_of-pairs-requires c =
     omega arith
 
 ranks : (c : In_ok-with_times) → map (λ a. a.now) c.in_ok-ranked.ranked.items ≡ by_rank (waiting c.args.situation.now)
-ranks c = c.in_ok-ranked.ensures.flights ∙ ap by_rank (c.in_ok-waiting.ensures ∙ ap (filter is_waiting) c.in_ok-flights.ensures)
+ranks c = c.in_ok-ranked.ensures.flights ∙ ap by_rank (c.in_ok-waiting.ensures ∙ ap (filter is_waiting) c.flights-flights.ensures)
 
 zip : (c : In_ok-with_times) → AllZip (IsWaitingOf c.args.situation.now.closures) (by_rank (waiting c.args.situation.now)) (map waiting_of c.in_ok-with_times.with_times.items)
 zip c =
@@ -63,7 +61,7 @@ pub build-requires : goal.build-requires
 build-requires c =
     λ table. well_formed c.args.situation.now c.head-head.result c.in_ok-with_times.with_times.items c.pairs_of-pairs.result c.requires (heads c) (zip c) (listed c)
     c.head-head.ensures.few_places c.head-head.ensures.near
-    (subst (λ l. IsStrictlySortedBy first_come_cmp (arrivals l)) (c.in_ok-waiting.ensures ∙ ap (filter is_waiting) c.in_ok-flights.ensures) c.in_ok-ranked.ensures.ascending)
+    (subst (λ l. IsStrictlySortedBy first_come_cmp (arrivals l)) (c.in_ok-waiting.ensures ∙ ap (filter is_waiting) c.flights-flights.ensures) c.in_ok-ranked.ensures.ascending)
 
 pub returns-clause-problem : goal.returns-clause-problem
 returns-clause-problem c =
@@ -72,4 +70,4 @@ returns-clause-problem c =
     (posed c.args.situation.now c.head-head.result c.in_ok-with_times.with_times.items c.pairs_of-pairs.result c.requires (heads d) (zip d) (listed d))
 
 pub returns-clause-order : goal.returns-clause-order
-returns-clause-order c = c.in_ok-order.ensures ∙ ap arrivals (c.in_ok-waiting.ensures ∙ ap (filter is_waiting) c.in_ok-flights.ensures)
+returns-clause-order c = c.in_ok-order.ensures ∙ ap arrivals (c.in_ok-waiting.ensures ∙ ap (filter is_waiting) c.flights-flights.ensures)

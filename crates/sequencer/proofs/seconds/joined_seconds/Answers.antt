@@ -11,7 +11,7 @@ use Rattle.sequencer.proofs.seconds.joined_seconds.Goals as goal
 pub seconds_of-requires-clause-there : goal.seconds_of-requires-clause-there
 seconds_of-requires-clause-there c =
     let s = c.args.situation.now in
-    subst (λ o. All (IsThere o) (map (λ a. a.now) c.in_ok-flights.flights.items)) (sym c.requires.order) (subst (All (IsThere (arrivals (waiting s)))) (sym c.in_ok-flights.ensures) (all_there s))
+    subst (λ o. All (IsThere o) c.flights.result.now) (sym c.requires.order) (subst (All (IsThere (arrivals (waiting s)))) (sym c.flights.ensures) (all_there s))
 
 pub seconds_of-requires-clause-long : goal.seconds_of-requires-clause-long
 seconds_of-requires-clause-long c =
@@ -22,4 +22,4 @@ pub returns : goal.returns
 returns c =
     let s = c.args.situation.now in
     let t = c.args.schedule.now in
-    c.in_ok-seconds.ensures ∙ ap (λ o. map (second_in o t) (map (λ a. a.now) c.in_ok-flights.flights.items)) c.requires.order ∙ ap (map (second_in (arrivals (waiting s)) t)) c.in_ok-flights.ensures ∙ joined_is s t
+    c.in_ok-seconds.ensures ∙ ap (λ o. map (second_in o t) c.flights.result.now) c.requires.order ∙ ap (map (second_in (arrivals (waiting s)) t)) c.flights.ensures ∙ joined_is s t

@@ -4,4 +4,4 @@ use Rattle.sequencer.proofs.seconds.seconds_of.Given as goal
 
 -- the seconds so far
 abbrev pub invariant-loop-i : goal.invariant-loop-i
-invariant-loop-i l = l.seconds.items ≡ map (second_in l.order l.schedule) (take l.i (map (λ a. a.now) l.flights.items))
+invariant-loop-i l = l.seconds.items ≡ map (second_in l.order l.schedule) (take l.i l.flights)

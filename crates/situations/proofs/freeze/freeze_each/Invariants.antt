@@ -1,12 +1,7 @@
 use Rattle.std.proofs.Common.{◌≡◌}
-use Rattle.std.specs.Str.{bytes_eq}
-use Rattle.indexmap.specs.IndexMap.{IsUnique}
 use Rattle.situations.proofs.Freezing.{freeze_prefix}
 use Rattle.situations.proofs.freeze.freeze_each.Given as goal
 
 -- those below i are frozen as they should be, and the others are as they were
 abbrev pub invariant-loop-i : goal.invariant-loop-i
-invariant-loop-i l = record {
-  entries : l.active.entries ≡ freeze_prefix l.freeze l.i l.fn.active.entries l.seconds;
-  unique : IsUnique bytes_eq l.fn.active → IsUnique bytes_eq l.active;
-}
+invariant-loop-i l = l.active ≡ freeze_prefix l.freeze l.i l.fn.active l.seconds

@@ -1,8 +1,7 @@
 use Rattle.std.proofs.Common.{◌≡◌, take}
 use Rattle.situations.specs.Freezes.{freezing}
-use Rattle.situations.specs.Seen.{flights_of}
 use Rattle.situations.proofs.freeze.freezing.Given as goal
 
 -- those of the flights so far
 abbrev pub invariant-loop-i : goal.invariant-loop-i
-invariant-loop-i l = l.found.items ≡ freezing l.h (take l.i (flights_of l.active.entries)) (take l.i l.seconds)
+invariant-loop-i l = l.found.items ≡ freezing l.h (take l.i l.active) (take l.i l.seconds)
