@@ -24,9 +24,9 @@ fn category_in(active: &Option<Active>) -> Option<Category>
 }
 
 // The rank of a waiting flight.
-fn rank_shown(active: &[&Active], of: &Option<Active>) -> Option<u32>
+fn rank_shown(active: &[Active], of: &Option<Active>) -> Option<u32>
     requires { length active.now ≤ 500 }
-    ensures { result ≡ rank_shown (map (λ a. a.now) active.now) of.now }
+    ensures { result ≡ rank_shown active.now of.now }
 {
     let Some(of) = of else {
         return None;
@@ -61,10 +61,10 @@ fn place_shown(rows: &[Row], row: &Row) -> Option<u32>
     }
 }
 
-fn label_of(active: &[&Active], rows: &[Row], flagged: bool, row: &Row) -> Label
+fn label_of(active: &[Active], rows: &[Row], flagged: bool, row: &Row) -> Label
     requires active { length active.now ≤ 500 }
     requires rows { length rows.now ≤ 1000 }
-    ensures { result ≡ label_of (map (λ a. a.now) active.now) rows.now flagged row.now }
+    ensures { result ≡ label_of active.now rows.now flagged row.now }
 {
     Label {
         callsign: row.callsign,
@@ -78,7 +78,7 @@ fn label_of(active: &[&Active], rows: &[Row], flagged: bool, row: &Row) -> Label
 // The labels of all rows.
 pub(crate) fn add_labels(
     all: &mut Vec<Element>,
-    active: &[&Active],
+    active: &[Active],
     lines: &BlockLines,
     found: &[Finding],
     rows: &[Row],
@@ -86,7 +86,7 @@ pub(crate) fn add_labels(
     requires active { length active.now ≤ 500 }
     requires rows { length rows.now ≤ 1000 }
     ensures { OnOk result (all.new.items ≡ all.old.items
-        ++ labels_drawn (map (λ a. a.now) active.now) rows.now lines.now
+        ++ labels_drawn active.now rows.now lines.now
         (map finding_of found.now) 0 rows.now) }
 {
     let mut n: u32 = 0;

@@ -63,14 +63,14 @@ fn left_of(frame: Frame) -> u64
 fn in_frame(
     alloc: Global,
     situation: &Situation,
-    active: &[&Active],
+    active: &[Active],
     title: Element,
     lines: &BlockLines,
     found: &[Finding],
     rows: &[Row],
 ) -> Result<Vec<Element>, AllocError>
     requires sound { IsSound situation.now }
-    requires active { map (λ a. a.now) active.now ≡ situation.now.active }
+    requires active { active.now ≡ situation.now.active }
     requires rows { length rows.now ≤ 1000 }
     ensures { IfOk result (λ all. all.items ≡ in_frame situation.now title lines.now
         (map finding_of found.now) rows.now) }
@@ -90,9 +90,9 @@ fn in_frame(
 }
 
 // There are few rows, since there are few lines and few flights.
-fn are_few(active: &[&Active], lines: &BlockLines, rows: &[Row])
-    requires rows { rows.now ≡ rows_of (map (λ a. a.now) active.now) lines.now }
-    requires active { length (map (λ a. a.now) active.now) ≤ 500 }
+fn are_few(active: &[Active], lines: &BlockLines, rows: &[Row])
+    requires rows { rows.now ≡ rows_of active.now lines.now }
+    requires active { length active.now ≤ 500 }
     requires lines { length lines.now ≤ 500 }
     ensures { length rows.now ≤ 1000 }
 {}
@@ -110,8 +110,7 @@ fn pictured(
     ensures { IfOk result (λ all. all.items ≡ pictured situation.now title lines.now
         (map finding_of found.now)) }
 {
-    let active = situation.flights(alloc)?;
-    let flights = active.as_slice();
+    let flights = situation.flights();
     let rows = rows_of(alloc, flights, lines)?;
     let standing = rows.as_slice();
     are_few(flights, lines, standing);

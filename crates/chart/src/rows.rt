@@ -21,14 +21,13 @@ fn is_named(active: &Active, callsign: Callsign) -> bool
 }
 
 // The active flight of this name.
-fn find_active(active: &[&Active], callsign: Callsign) -> Result<Option<Active>, AllocError>
-    ensures { IfOk result (λ found. found ≡ find (named callsign) (map (λ a. a.now) active.now)) }
+fn find_active(active: &[Active], callsign: Callsign) -> Result<Option<Active>, AllocError>
+    ensures { IfOk result (λ found. found ≡ find (named callsign) active.now) }
 {
     let mut rest = active;
     while let [first, after @ ..] = rest {
         if is_named(first, callsign) {
-            let flight: &Active = first;
-            let found = flight.clone()?;
+            let found = first.clone()?;
             return Ok(Some(found));
         }
         rest = after;
@@ -37,8 +36,8 @@ fn find_active(active: &[&Active], callsign: Callsign) -> Result<Option<Active>,
 }
 
 // The row of a line.
-fn landed_row(active: &[&Active], line: &Landing) -> Result<Row, AllocError>
-    ensures { IfOk result (λ row. row ≡ landed_row (map (λ a. a.now) active.now) (shown_of
+fn landed_row(active: &[Active], line: &Landing) -> Result<Row, AllocError>
+    ensures { IfOk result (λ row. row ≡ landed_row active.now (shown_of
         line.now)) }
 {
     let found = find_active(active, line.callsign)?;
@@ -50,9 +49,9 @@ fn landed_row(active: &[&Active], line: &Landing) -> Result<Row, AllocError>
 }
 
 // Adds the rows of lines.
-fn add_landed(all: &mut Vec<Row>, active: &[&Active], lines: &[Landing]) -> Result<(), AllocError>
+fn add_landed(all: &mut Vec<Row>, active: &[Active], lines: &[Landing]) -> Result<(), AllocError>
     ensures { OnOk result (all.new.items ≡ all.old.items
-        ++ map (landed_row (map (λ a. a.now) active.now)) (map shown_of lines.now)) }
+        ++ map (landed_row active.now) (map shown_of lines.now)) }
 {
     let mut rest = lines;
     while let [line, after @ ..] = rest {
@@ -98,9 +97,9 @@ fn waiting_row(active: &Active) -> Result<Row, AllocError>
 }
 
 // Adds a row for each active flight without a line.
-fn add_missing(all: &mut Vec<Row>, active: &[&Active], lines: &[Landing]) -> Result<(), AllocError>
+fn add_missing(all: &mut Vec<Row>, active: &[Active], lines: &[Landing]) -> Result<(), AllocError>
     ensures { OnOk result (all.new.items ≡ all.old.items
-        ++ missing_rows (map shown_of lines.now) (map (λ a. a.now) active.now)) }
+        ++ missing_rows (map shown_of lines.now) active.now) }
 {
     let mut rest = active;
     while let [first, after @ ..] = rest {
@@ -116,10 +115,10 @@ fn add_missing(all: &mut Vec<Row>, active: &[&Active], lines: &[Landing]) -> Res
 // The rows of a plan among the active flights.
 pub(crate) fn rows_of(
     alloc: Global,
-    active: &[&Active],
+    active: &[Active],
     lines: &BlockLines,
 ) -> Result<Vec<Row>, AllocError>
-    ensures { IfOk result (λ rows. rows.items ≡ rows_of (map (λ a. a.now) active.now) lines.now) }
+    ensures { IfOk result (λ rows. rows.items ≡ rows_of active.now lines.now) }
 {
     let sorted = in_order(alloc, lines)?;
     let mut all = Vec::new(alloc);

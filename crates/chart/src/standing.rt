@@ -24,9 +24,9 @@ fn waits_ahead(active: &Active, of: &Active) -> bool
 }
 
 // 1 plus the number of waiting flights that come before this one.
-pub(crate) fn rank_in(active: &[&Active], of: &Active) -> u32
+pub(crate) fn rank_in(active: &[Active], of: &Active) -> u32
     requires { length active.now ≤ 500 }
-    ensures { result ≡ rank_in (map (λ a. a.now) active.now) of.now.flight }
+    ensures { result ≡ rank_in active.now of.now.flight }
 {
     1 + active.iter().filter(|a| waits_ahead(a, of)).count() as u32
 }

@@ -1,3 +1,4 @@
+pub mod Apart
 pub mod Callsigns
 pub mod Finds
 pub mod Firsts

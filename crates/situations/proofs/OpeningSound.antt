@@ -1,11 +1,11 @@
 -- What opens is a sound situation.
-use Rattle.std.proofs.Common.{◌≡◌, ◌≢◌, ℕ, ◌+◌, ◌<◌, ◌≤◌, inl, inr, Bool, true, false, cond, ◌&&◌, ◌||◌, List, [], ◌∷◌, length, map, filter, get_or, Option, Some, None, zero, suc, refl, sym, ap, ap₂, subst, ◌∙◌, arith, leb}
+use Rattle.std.proofs.Common.{◌≡◌, ◌≢◌, ℕ, ◌+◌, ◌<◌, ◌≤◌, inl, inr, Bool, true, false, cond, ◌&&◌, ◌||◌, List, [], ◌∷◌, length, map, filter, Option, Some, None, zero, suc, refl, sym, ap, ap₂, subst, ◌∙◌, arith, leb}
 use Rattle.std.specs.Prelude.{All, AllPairs, IsTrue, filter_map, find, option_map, unwrap_or, is_none}
 use Rattle.std.specs.List.{list_any, cons_option}
 use Rattle.std.specs.Option.{option_or}
 use Rattle.std.specs.Str.{bytes_eq}
 use Rattle.std.proofs.lemmas.Bool.{leb-true, leb-false, le-leb, and_parts, or_parts, false≢true, true≢false}
-use Rattle.std.proofs.lemmas.List.{length-map, get_or-map}
+use Rattle.std.proofs.lemmas.List.{length-map}
 use Rattle.std.proofs.lemmas.List.Elements.{All-nil, All-cons, All-head, All-tail}
 use Rattle.landing_rules.specs.shared.Counting.{Member}
 use Rattle.landing_rules.specs.shared.Tests.{is_pair_separated-Decides}
@@ -25,6 +25,7 @@ use Rattle.situations.specs.declared.opening_refusal.OpeningFault.{OpeningFault}
 use Rattle.situations.specs.declared.opening_refusal.OpeningFault.TheVariants as fault
 use Rattle.situations.specs.Opened.{opened, opening_of, CanOpen, HasRanges, IsKept}
 use Rattle.situations.specs.Refused.{unless, first_from, unknown_frozen_at, unknown_passed_at, too_many_waiting, opening_fault, name_fault, given_landing, given, closed_at, clash_at, clash_from, is_not_before, lands_late, late_at, rule_fault, AreKept, OpeningLaw, PlainLaw}
+use Rattle.situations.proofs.Apart.{opened_apart}
 use Rattle.situations.proofs.Callsigns.{bytes_eq-true, bytes_eq-refl}
 
 -- ---- members
@@ -209,15 +210,7 @@ module _ (a : Aerodrome) (fs : List files.Flight) (kept : AreKept a fs) (can : C
       subst P (sym (y.2 ∙ ap made f.2)) (h f.0 f.1))
 
   apart : AllPairs Differ s.active
-  apart i j d lt le e =
-      let n = length_active in
-      let g : files.Flight = record { callsign = d.flight.callsign; category = d.flight.category; eta = d.flight.eta; weight = d.flight.weight; windows = d.flight.windows; after = d.flight.after } in
-      let x = ap (λ (z : Active). z.flight.callsign) (at i d (omega arith)) ∙ ap (λ (z : Flight). z.callsign) (get_or-map flight_of fs i g d.flight (omega arith)) in
-      let y = ap (λ (z : Active). z.flight.callsign) (at j d (omega arith)) ∙ ap (λ (z : Flight). z.callsign) (get_or-map flight_of fs j g d.flight (omega arith)) in
-      can.callsigns i j g lt (omega arith) (sym x ∙ e ∙ y)
-    where
-      at : (k : ℕ) (d : Active) → k < length fs → get_or s.active k d ≡ made (get_or (map flight_of fs) k d.flight)
-      at k d lt = let n = length-map fs flight_of in get_or-map made (map flight_of fs) k d.flight d (omega arith)
+  apart = opened_apart a fs can.callsigns
 
   good : All (λ (x : Active). IsGoodFlight x.flight) s.active
   good = each_active (λ x. IsGoodFlight x.flight) (λ f m.

@@ -1,11 +1,13 @@
 // What an accepted event changes.
 ghost use Rattle.std.specs.Prelude.{◌≡◌, ◌+◌, ◌<◌, ◌≤◌, ◌++◌, [], ◌∷◌, false, not, None, length, filter, map, option_map, IfSome, IfOk, OnOk};
+ghost use Rattle.std.specs.List.{list_any};
 ghost use Rattle.landing_rules.specs.Events.{named, estimated, newcomer, without_first, same_span, refusal, situation_after};
 ghost use Rattle.landing_rules.specs.Limits.{most_closures};
 ghost use Rattle.landing_rules.specs.Sound.{IsGoodEvent};
 ghost use Rattle.event_log.specs.Seen.{event_of};
 ghost use Rattle.landing_rules.specs.Rules.{last_second};
 ghost use Rattle.flight_file.specs.Seen.{flight_of};
+ghost use Rattle.situations.specs.Seen.{AreApart};
 
 use crate::opening_refusal::is_named;
 use crate::{Active, Situation};
@@ -15,22 +17,27 @@ use flight_file::Flight;
 use landing_windows::WindowSet;
 use std::alloc::{AllocError, Global};
 
-// The flight has this estimate and these windows, where it is that of the callsign.
-fn estimate_one(active: &mut Active, callsign: Callsign, eta: u32, windows: &WindowSet)
-    ensures { active.new ≡ estimated callsign eta windows.now active.old }
+// The flight has this estimate and these windows.
+fn estimate_one(active: &mut Active, eta: u32, windows: &WindowSet)
+    ensures { active.new ≡ record active.old {
+      flight = record active.old.flight
+          { eta = eta; windows = windows.now };
+    } }
 {
-    if active.flight.callsign == callsign {
-        active.flight.eta = eta;
-        active.flight.windows = *windows;
-    }
+    active.flight.eta = eta;
+    active.flight.windows = *windows;
 }
 
-// Each flight of the callsign has them: there is one at most.
-fn estimate_each(all: &mut [Active], callsign: Callsign, eta: u32, windows: &WindowSet)
+// The flight of the callsign has them. It is looked for from the back, since the flights that wait arrived last.
+fn estimate_last(all: &mut [Active], callsign: Callsign, eta: u32, windows: &WindowSet)
+    requires { AreApart all.old }
     ensures { all.new ≡ map (estimated callsign eta windows.now) all.old }
 {
-    for i in 0..all.len() {
-        estimate_one(&mut all[i], callsign, eta, windows);
+    for i in (0..all.len()).rev() {
+        if is_named(&all[i], callsign) {
+            estimate_one(&mut all[i], eta, windows);
+            return;
+        }
     }
 }
 
@@ -52,11 +59,12 @@ impl Situation {
               (estimated callsign eta windows.now) self.old.active;
         } }
     {
-        estimate_each(&mut self.active, callsign, eta, windows);
+        estimate_last(&mut self.active, callsign, eta, windows);
     }
 
     // The flight is the last to arrive, and waits. None has passed it.
     fn add(&mut self, flight: &Flight) -> Result<(), AllocError>
+        requires { list_any (named flight.now.callsign) self.old.active ≡ false }
         ensures { OnOk result (self.new ≡ record self.old {
           active = self.old.active ++ newcomer
               (flight_of flight.now) ∷ [];

@@ -93,7 +93,7 @@ pub(crate) fn is_named(active: &Active, callsign: Callsign) -> bool
 }
 
 // The first flight of the callsign.
-pub(crate) fn find_named(active: &[Active], callsign: Callsign) -> Option<&Active>
+fn find_named(active: &[Active], callsign: Callsign) -> Option<&Active>
     ensures { option_map (λ a. a.now) result ≡ find (named callsign) active.now }
 {
     active.iter().find(|a| is_named(a, callsign))

@@ -9,9 +9,10 @@ ghost use Rattle.landing_rules.specs.Events as events;
 ghost use Rattle.flight_file.specs.Seen.{flight_of};
 ghost use Rattle.event_log.specs.Seen.{event_of};
 ghost use Rattle.situations.specs.Answers.{IsAnswer};
+ghost use Rattle.situations.specs.Seen.{AreApart};
 ghost use Rattle.situations.specs.Finds.{first_frozen_listing, earliest_covered, earlier_of};
 
-use crate::opening_refusal::{count_waiting, find_named, is_there};
+use crate::opening_refusal::{count_waiting, is_named, is_there};
 use crate::{Active, Refusal, Situation};
 use cps_base::Callsign;
 use event_log::Event;
@@ -125,13 +126,21 @@ fn earlier(
     }
 }
 
+// The flight of the callsign. It is looked for from the back, since the flights that wait arrived last.
+fn find_last(active: &[Active], callsign: Callsign) -> Option<&Active>
+    requires { AreApart active.now }
+    ensures { option_map (λ a. a.now) result ≡ find (named callsign) active.now }
+{
+    active.iter().rev().find(|a| is_named(a, callsign))
+}
+
 impl Situation {
     // Why an event on the named flight is refused.
     fn named_refusal(&self, callsign: Callsign) -> Option<Refusal>
         ensures { IsAnswer result (unknown_or_frozen callsign
             (find (named callsign) self.now.active)) }
     {
-        match find_named(&self.active, callsign) {
+        match find_last(&self.active, callsign) {
             None => Some(Refusal::UnknownFlight(callsign)),
             Some(active) => frozen_refusal(active),
         }

@@ -7,7 +7,7 @@ ghost use Rattle.flight_file.specs.Seen.{flight_of};
 ghost use Rattle.aerodrome_file.specs.Reading.{IsInRange};
 ghost use Rattle.situations.specs.Opened.{CanOpen, IsKept, opened};
 ghost use Rattle.situations.specs.Refused.{opening_fault};
-ghost use Rattle.situations.specs.Seen.{fixed_of};
+ghost use Rattle.situations.specs.Seen.{AreApart, fixed_of};
 
 use crate::Active;
 use crate::opening_refusal::active_of;
@@ -58,7 +58,8 @@ impl Model for Situation {
 impl Situation {
     // With these flights.
     fn with(aerodrome: &Aerodrome, active: Vec<Active>) -> Situation
-        requires { IsInRange aerodrome.now }
+        requires ranges { IsInRange aerodrome.now }
+        requires apart { AreApart active.items }
         ensures value { result ≡ record (opened aerodrome.now []) { active = active.items } }
         ensures table { IsWakeTable aerodrome.now.table }
         ensures closures { length aerodrome.now.closures ≤ most_closures }

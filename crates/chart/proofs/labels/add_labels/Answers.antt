@@ -1,9 +1,7 @@
-use Rattle.std.proofs.Common.{List, [], ◌∷◌, ◌+◌, ◌-◌, Bool, length, map, take, drop, sym, ap, ◌∙◌, arith}
+use Rattle.std.proofs.Common.{[], ◌∷◌, ◌+◌, ◌-◌, Bool, length, map, take, drop, sym, ap, ◌∙◌, arith}
 use Rattle.audit.specs.Findings.{finding_of}
-use Rattle.chart.specs.declared.element.Element.{Element}
 use Rattle.chart.specs.declared.element.Element.TheVariants as element
 use Rattle.chart.specs.declared.element.Label.{Label}
-use Rattle.chart.specs.Rows.{Row}
 use Rattle.chart.specs.Elements.{label_of, labels_drawn}
 use Rattle.chart.proofs.Steps.{loop_step, tail_read}
 use Rattle.chart.proofs.labels.add_labels.Goals as goal
@@ -12,7 +10,7 @@ pub loop-rest-preserved : goal.loop-rest-preserved
 loop-rest-preserved c =
     let rest = c.loop-rest.rest.now in
     let tail = take (length rest - 1) (drop 1 rest) in
-    let active = map (λ a. a.now) c.args.active.now in
+    let active = c.args.active.now in
     let rows = c.args.rows.now in
     let found = map finding_of c.args.found.now in
     let n = c.loop-rest.n in

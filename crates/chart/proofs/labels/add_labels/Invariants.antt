@@ -6,8 +6,8 @@ use Rattle.chart.proofs.labels.add_labels.Given as goal
 -- what is done so far, and what is left
 abbrev pub invariant-loop-rest : goal.invariant-loop-rest
 invariant-loop-rest l =
-    (l.all.items ++ labels_drawn (map (λ a. a.now) l.active) l.rows l.lines (map finding_of l.found) l.n l.rest
-    ≡ l.fn.all.items ++ labels_drawn (map (λ a. a.now) l.active) l.rows l.lines (map finding_of l.found) 0 l.rows)
+    (l.all.items ++ labels_drawn l.active l.rows l.lines (map finding_of l.found) l.n l.rest
+    ≡ l.fn.all.items ++ labels_drawn l.active l.rows l.lines (map finding_of l.found) 0 l.rows)
     × (l.n + length l.rest ≤ 1000)
 
 abbrev pub decreases-loop-rest : goal.decreases-loop-rest
