@@ -12,7 +12,7 @@ use Rattle.std.specs.Cmp.{nat_cmp_is, ranks, int_ranks, unsigned_tied}
 use Rattle.std.specs.Cmp.Lexicographic.{slice_cmp, pointwise, lists_ties}
 use Rattle.cps_nodes.specs.Windows.{offset_at, shifted}
 use Rattle.cps_nodes.specs.WindowOrder.{window_cmp}
-use Rattle.cps_nodes.specs.Digits.{digit_offset, offsets_of, number_of, length-offsets_of, mod-digit, number-offsets_of}
+use Rattle.cps_nodes.specs.Digits.{digit_offset, offsets_of, order_key, number_of, length-offsets_of, mod-digit, number-offsets_of}
 
 -- ---- the order
 
@@ -165,18 +165,41 @@ pointwise-offsets_of width m n l r =
     ∙ ap is_eq (slice_cmp-offsets_of width m n ∙ ap₂ nat_cmp (mod-eq_of_lt l) (mod-eq_of_lt r))
     ∙ unsigned_tied m n
 
--- after a tie the first offsets decide, and so do the whole lists
-after_tie : (a c : Ordering) → ordering_then a (ordering_then c Equal) ≡ ordering_then a (ordering_then c a)
-after_tie Less c = refl
-after_tie Equal c = refl
-after_tie Greater c = refl
+int_cmp_digits : (a b : ℕ) → int_cmp (pos a -ℤ pos 8) (pos b -ℤ pos 8) ≡ nat_cmp a b
+int_cmp_digits a b = by (int_cmp (pos a -ℤ pos 8) (pos b -ℤ pos 8)) (int_ranks (pos a -ℤ pos 8) (pos b -ℤ pos 8))
+  where
+    by : (o : Ordering)
+        → MatchOrdering o ((pos a -ℤ pos 8) <ℤ (pos b -ℤ pos 8)) ((pos a -ℤ pos 8) ≡ (pos b -ℤ pos 8)) ((pos b -ℤ pos 8) <ℤ (pos a -ℤ pos 8))
+        → o ≡ nat_cmp a b
+    by Less h = nat_cmp_is a b Less (omega (arith, ints, h))
+    by Equal h = nat_cmp_is a b Equal (omega (arith, ints, h))
+    by Greater h = nat_cmp_is a b Greater (omega (arith, ints, h))
+
+then_Equal : (o : Ordering) → ordering_then o Equal ≡ o
+then_Equal Less = refl
+then_Equal Equal = refl
+then_Equal Greater = refl
+
+-- the tails decide before the first digits
+keys_compare : (a b c d : ℕ) → c < 16 → d < 16
+    → ordering_then (nat_cmp a b) (ordering_then (int_cmp (pos c -ℤ pos 8) (pos d -ℤ pos 8)) Equal) ≡ nat_cmp (a * 16 + c) (b * 16 + d)
+keys_compare a b c d l r =
+    ap₂ ordering_then (sym (int_cmp_digits a b)) (then_Equal (int_cmp (pos c -ℤ pos 8) (pos d -ℤ pos 8)) ∙ int_cmp_digits c d)
+    ∙ digits_compare a b 16 c d l r
 
 pub window_cmp-offsets_of : (width m n : ℕ) → 0 < width → m < 2 ^ (4 * width) → n < 2 ^ (4 * width)
-    → window_cmp (offsets_of width m) (offsets_of width n)
-    ≡ ordering_then (nat_cmp (m % 2 ^ (4 * (width - 1))) (n % 2 ^ (4 * (width - 1)))) (nat_cmp m n)
+    → window_cmp (offsets_of width m) (offsets_of width n) ≡ nat_cmp (order_key width m) (order_key width n)
 window_cmp-offsets_of zero m n some l r = absurd (omega arith)
 window_cmp-offsets_of (suc width) m n some l r =
-    after_tie (slice_cmp int_cmp (offsets_of width m) (offsets_of width n)) (int_cmp (digit_offset m width) (digit_offset n width))
-    ∙ ap₂ ordering_then
-    (slice_cmp-offsets_of width m n ∙ ap (λ (e : ℕ). nat_cmp (m % 2 ^ (4 * e)) (n % 2 ^ (4 * e))) (omega arith))
-    (slice_cmp-offsets_of (suc width) m n ∙ ap₂ nat_cmp (mod-eq_of_lt l) (mod-eq_of_lt r))
+    ap (λ (o : Ordering). ordering_then o (ordering_then (int_cmp (digit_offset m width) (digit_offset n width)) Equal)) (slice_cmp-offsets_of width m n)
+    ∙ keys_compare (m % 2 ^ (4 * width)) (n % 2 ^ (4 * width)) (m / 2 ^ (4 * width) % 16) (n / 2 ^ (4 * width) % 16)
+    (mod-lt (m / 2 ^ (4 * width)) (omega arith)) (mod-lt (n / 2 ^ (4 * width)) (omega arith))
+    ∙ ap₂ nat_cmp (key m l) (key n r)
+  where
+    key : (number : ℕ) → number < 2 ^ (4 * suc width)
+        → number % 2 ^ (4 * width) * 16 + number / 2 ^ (4 * width) % 16 ≡ order_key (suc width) number
+    key number few =
+        let first : number / 2 ^ (4 * width) % 16 ≡ number / 2 ^ (4 * width) =
+        mod-eq_of_lt (shr_below number 4 (4 * width) (subst (λ (e : ℕ). number < 2 ^ e) (omega arith) few)) in
+        ap (λ (d : ℕ). number % 2 ^ (4 * width) * 16 + d) first
+        ∙ ap (λ (e : ℕ). number % 2 ^ (4 * e) * 16 + number / 2 ^ (4 * e)) (omega arith)

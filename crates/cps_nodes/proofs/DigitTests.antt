@@ -1,16 +1,14 @@
 -- What the comparisons of numbers say of the windows whose digits they are.
-use Rattle.std.proofs.Common.{◌≡◌, ℕ, ◌-◌, ◌*◌, ◌/◌, ◌%◌, ◌^◌, ◌<◌, drop, take, length, refl, ap, ap₂, sym, subst, ◌∙◌, mod-lt, pow_pos, mod-eq_of_lt, IsTrue, nat_eq, nat_lt, ◌↔◌}
+use Rattle.std.proofs.Common.{◌≡◌, ℕ, ◌-◌, ◌*◌, ◌/◌, ◌%◌, ◌^◌, ◌<◌, drop, take, length, ap, ap₂, sym, subst, ◌∙◌, mod-lt, pow_pos, mod-eq_of_lt, IsTrue, nat_eq, nat_lt, ◌↔◌}
 use Rattle.std.proofs.lemmas.Bool.{ltb-true, lt-ltb, eqb-true, eq-eqb}
 use Rattle.std.proofs.lemmas.Cmp.{ranked}
-use Rattle.std.specs.declared.cmp.Ordering.{Ordering}
-use Rattle.std.specs.declared.cmp.Ordering.TheVariants.{Less, Equal, Greater}
-use Rattle.std.specs.Ordering.{int_cmp, nat_cmp, ordering_then}
+use Rattle.std.specs.declared.cmp.Ordering.TheVariants.{Less}
+use Rattle.std.specs.Ordering.{int_cmp, nat_cmp}
 use Rattle.std.specs.Cmp.{nat_cmp_is}
 use Rattle.std.specs.Cmp.Lexicographic.{slice_cmp}
-use Rattle.cps_nodes.specs.WindowOrder.{window_cmp}
 use Rattle.cps_nodes.specs.Leads.{TailMeetsHead, IsBelow}
 use Rattle.cps_nodes.specs.Digits.{offsets_of, length-offsets_of}
-use Rattle.cps_nodes.proofs.DigitLemmas.{slice_cmp-offsets_of, tail-offsets_of, head-offsets_of, head_lt, same-offsets_of, window_cmp-offsets_of}
+use Rattle.cps_nodes.proofs.DigitLemmas.{slice_cmp-offsets_of, tail-offsets_of, head-offsets_of, head_lt, same-offsets_of}
 
 -- the tail of one window and the head of another
 module _ (width m n tail : ℕ) (some : 0 < width) (few : n < 2 ^ (4 * width)) (is : tail ≡ m % 2 ^ (4 * (width - 1))) where
@@ -51,13 +49,3 @@ module _ (width m n left right : ℕ) (some : 0 < width) (l : left ≡ m % 2 ^ (
         λ t. mt ∙ ap (offsets_of (width - 1)) (eqb-true left right t) ∙ sym nt,
         λ e. eq-eqb left right (same-offsets_of (width - 1) left right lt rt (sym mt ∙ e ∙ nt)),
       )
-
-  pub window_compared : m < 2 ^ (4 * width) → n < 2 ^ (4 * width)
-      → ordering_then (nat_cmp left right) (nat_cmp m n) ≡ window_cmp (offsets_of width m) (offsets_of width n)
-  window_compared lm ln = ap₂ (λ (a b : ℕ). ordering_then (nat_cmp a b) (nat_cmp m n)) l r ∙ sym (window_cmp-offsets_of width m n some lm ln)
-
--- an answer that is not a tie decides
-pub decided : (a b : Ordering) → (a ≡ Equal → ⊥) → a ≡ ordering_then a b
-decided Less b untied = refl
-decided Equal b untied = absurd (untied refl)
-decided Greater b untied = refl

@@ -1,5 +1,5 @@
 -- The offsets of a window as one number: its digits in base 16, each 8 more than an offset, that of the first offset the highest.
-use Rattle.std.specs.Prelude.{◌≡◌, ℕ, ℤ, pos, zero, suc, ◌+◌, ◌*◌, ◌/◌, ◌%◌, ◌^◌, ◌<◌, ◌+ℤ◌, ◌-ℤ◌, List, [], ◌∷◌, length, nat_abs}
+use Rattle.std.specs.Prelude.{◌≡◌, ℕ, ℤ, pos, zero, suc, ◌+◌, ◌-◌, ◌*◌, ◌/◌, ◌%◌, ◌^◌, ◌<◌, ◌+ℤ◌, ◌-ℤ◌, List, [], ◌∷◌, length, nat_abs}
 use Rattle.std.proofs.Common.{refl, ap, ap₂, sym, ◌∙◌, arith, mod-eq_of_lt}
 use Rattle.std.proofs.lemmas.Int.{ints}
 use Rattle.std.proofs.lemmas.Nat.{mod-pow-add}
@@ -18,6 +18,10 @@ offsets_of (suc width) number = digit_offset number width ∷ offsets_of width n
 abbrev pub number_of : List ℤ → ℕ
 number_of [] = 0
 number_of (x ∷ xs) = nat_abs (x +ℤ pos 8) * 2 ^ (4 * length xs) + number_of xs
+
+-- the number with its first digit moved to the end
+abbrev pub order_key : ℕ → ℕ → ℕ
+order_key width number = number % 2 ^ (4 * (width - 1)) * 16 + number / 2 ^ (4 * (width - 1))
 
 -- a number has no further digit, and those that it has stand for the offsets of a window
 pub record IsPacked (width number : ℕ) : Type 0 where

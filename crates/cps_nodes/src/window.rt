@@ -3,7 +3,7 @@
 ghost use Rattle.std.specs.Prelude.{◌≡◌, ℕ, ℤ, pos, ◌+◌, ◌-◌, ◌*◌, ◌/◌, ◌%◌, ◌^◌, ◌<◌, ◌≤◌, ◌+ℤ◌, ◌-ℤ◌, ◌≤ℤ◌, List, [], ◌∷◌, ◌++◌, ◌⊎◌, ◌↔◌, length, IsTrue, IfSome, SomeIff, replicate, drop};
 ghost use Rattle.std.specs.Ordering.{int_eq};
 ghost use Rattle.std.specs.Cmp.Lexicographic.{pointwise};
-ghost use Rattle.cps_nodes.specs.Digits.{digit_offset, offsets_of};
+ghost use Rattle.cps_nodes.specs.Digits.{digit_offset, offsets_of, order_key};
 ghost use Rattle.cps_nodes.specs.Leads.{Extends, IsBelow, GoOnAlike, TailMeetsHead};
 ghost use Rattle.cps_nodes.specs.Ranks.{KeepsShift, HasLanded, window_of};
 ghost use Rattle.cps_nodes.specs.WindowOrder.{window_cmp};
@@ -62,6 +62,16 @@ fn tail_of<const W: usize>(digits: u32) -> u32
     ensures { result ≡ digits % 2 ^ (4 * (W - 1)) }
 {
     digits % place_value(W - 1)
+}
+
+// The number of the digits of a window with the first one moved to the end. Windows stand in the order of these numbers.
+#[inline]
+fn order_key<const W: usize>(digits: u32) -> u32
+    requires width { (0 < W) × (W < 8) }
+    requires few { digits < 2 ^ (4 * W) }
+    ensures { result ≡ order_key W digits }
+{
+    tail_of::<W>(digits) * 16 + digits / place_value(W - 1)
 }
 
 // The number of the digits after one more landing, at this offset.
@@ -210,11 +220,6 @@ impl<const W: usize> Window<W> {
     pub(crate) fn compare(&self, other: &Window<W>) -> Ordering
         ensures { result ≡ window_cmp self.now other.now }
     {
-        let left = self.digits;
-        let right = other.digits;
-        match tail_of::<W>(left).cmp(&tail_of::<W>(right)) {
-            Ordering::Equal => left.cmp(&right),
-            unequal => unequal,
-        }
+        order_key::<W>(self.digits).cmp(&order_key::<W>(other.digits))
     }
 }
