@@ -11,4 +11,3 @@ pub mod KeptLemmas
 pub mod NetworkLemmas
 pub mod WindowNodes
 pub mod PrefixLandingLemmas
-pub mod BankLemmas

@@ -25,6 +25,3 @@ pub use node::{Node, placed_node};
 pub use permit::is_permitted;
 pub use source_range::sources;
 pub use stage::Stage;
-
-#[cfg(test)]
-mod tests;

@@ -12,6 +12,3 @@ pub use landing_rules::Objective;
 pub use planner::Planner;
 pub use problem::{Head, Problem, Waiting};
 pub use schedule::Schedule;
-
-#[cfg(test)]
-mod tests;

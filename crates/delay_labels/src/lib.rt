@@ -12,6 +12,3 @@ mod source;
 pub use costs::Costs;
 pub use fill::{fill_costs, fill_costs_alone};
 pub use source::source_pair;
-
-#[cfg(test)]
-mod tests;

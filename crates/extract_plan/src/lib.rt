@@ -8,6 +8,3 @@ mod retiming;
 pub use objective::value_of;
 pub use pair_value::value_of_pair;
 pub use retiming::{blank, retime};
-
-#[cfg(test)]
-mod tests;

@@ -14,6 +14,3 @@ pub use flight::Flight;
 pub use printing::print_flights;
 pub use reading::read_flights;
 pub use windows::read_windows;
-
-#[cfg(test)]
-mod tests;

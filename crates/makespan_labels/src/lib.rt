@@ -13,6 +13,3 @@ mod source;
 pub use column::{Column, NO_LABEL};
 pub use label::{fill, fill_alone};
 pub use source::source_of;
-
-#[cfg(test)]
-mod tests;

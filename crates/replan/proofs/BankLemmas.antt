@@ -17,20 +17,20 @@ comes_before f g lt =
     let less : Less ≡ nat_cmp f.eta g.eta = nat_cmp_is f.eta g.eta Less lt in
     ap (λ (o : Ordering). is_lt (ordering_then o (slice_cmp nat_cmp f.callsign g.callsign))) (sym less)
 
-pub well_formed : (p : rules.Problem) → IsWakeTable p.table → p.k ≤ 3 → p.horizon ≡ 0 → p.last ≡ None → p.base ≡ 0 → ((first next : ℕ) → MustPrecede p.pairs first next → ⊥)
-    → length p.flights ≤ 60 → AllPairs (λ (f g : rules.Waiting). (f.eta < g.eta) × (f.callsign ≢ g.callsign)) p.flights → All (λ (f : rules.Waiting). (f.eta ≤ 172799) × (f.weight ≡ 1) × (f.passed ≡ 0)) p.flights
+pub well_formed : (p : rules.Problem) → IsWakeTable p.table → p.k ≤ 3 → p.horizon ≡ 0 → p.last ≡ None → p.base ≡ 0 → ((i j : ℕ) → MustPrecede p.pairs i j → (1 ≤ i) × (i ≤ length p.flights) × (1 ≤ j) × (j ≤ length p.flights))
+    → length p.flights ≤ 60 → AllPairs (λ (f g : rules.Waiting). (f.eta < g.eta) × (f.callsign ≢ g.callsign)) p.flights → All (λ (f : rules.Waiting). (f.eta ≤ 172799) × (f.weight ≡ 1) × (f.passed ≤ p.k)) p.flights
     → IsWellFormed p
-well_formed p table few horizon last base free count ordered ranges = record {
+well_formed p table few horizon last base ranks count ordered ranges = record {
   table = table;
   few_places = few;
   few_flights = count;
   in_order = λ k d lt. comes_before (get_or p.flights k d) (get_or p.flights (k + 1) d) (ordered k (k + 1) d (omega arith) lt).0;
   callsigns = λ i j d lt within. (ordered i j d lt within).1;
-  between_ranks = λ i j must. absurd (free i j ((must_precede_decides p.pairs i j).0 must));
+  between_ranks = λ i j must. ranks i j ((must_precede_decides p.pairs i j).0 must);
   last_before = subst (λ (l : Option (ℕ × Category)). MatchOption l ⊤ (λ l. l.0 < p.horizon)) (sym last) tt;
   near_horizon = omega (arith, horizon);
   estimates = λ i d lt. (ranges i d lt).0;
   weights = λ i d lt. let e = (ranges i d lt).1 in (omega (arith, e), omega (arith, e));
-  passed = λ i d lt. let e = (ranges i d lt).2 in omega (arith, e);
+  passed = λ i d lt. (ranges i d lt).2;
   base = omega (arith, base, count);
 }

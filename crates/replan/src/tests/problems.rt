@@ -1,11 +1,12 @@
-use crate::{Head, Objective, Problem, Schedule, Waiting};
+// The problem of one flight, its copy, and its schedule.
+use super::is_shared;
 use cps_base::Callsign;
+use cps_problem::{Head, Objective, Problem, Schedule, Waiting};
+use extract_plan::{blank, retime, value_of};
 use landing_windows::{Closures, OpenTimes, WindowSet};
 use precedence::Pairs;
 use std::test::Fail;
 use wake_table::{Category, PairTable};
-
-fn shared_by_pieces<T: Send + Sync>(_: &T) {}
 
 #[test]
 fn a_problem_and_its_copy_land_a_flight(rt: HostRuntime) -> Result<(), Fail> {
@@ -28,15 +29,20 @@ fn a_problem_and_its_copy_land_a_flight(rt: HostRuntime) -> Result<(), Fail> {
         objective: Objective::Delay,
         horizon: 1010,
         last: Some((1000, Category::A)),
-        base: 0,
+        base: 5,
     };
     let problem = Problem::build(head, waiting, Pairs::new());
-    shared_by_pieces(&problem);
+    is_shared(&problem);
     let copied = problem.copy()?;
     assert_eq!(rt; copied.len(), 1);
     assert_eq!(rt; copied.landing_after(0, 0, 1), Some(1090));
     assert_eq!(rt; copied.cost(1, 1090), 270);
     assert_eq!(rt; problem.first_difference(&copied), 2);
+
+    let mut schedule = blank(alloc, 1)?;
+    assert!(rt; retime(&problem, &[1], &mut schedule));
+    assert_eq!(rt; schedule.second(1), 1090);
+    assert_eq!(rt; value_of(&problem, &schedule), 275);
     Ok(())
 }
 

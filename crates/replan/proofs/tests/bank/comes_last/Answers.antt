@@ -4,7 +4,7 @@ use Rattle.std.proofs.lemmas.List.{get_or-map}
 use Rattle.landing_rules.specs.Problem as rules
 use Rattle.cps_problem.specs.Seen.{waiting_of}
 use Rattle.cps_problem.specs.declared.problem.Waiting.{Waiting}
-use Rattle.cps_network.proofs.tests.comes_last.Goals as goal
+use Rattle.replan.proofs.tests.bank.comes_last.Goals as goal
 
 pub loop-earlier-preserved : goal.loop-earlier-preserved
 loop-earlier-preserved c = λ i d lt. elim (cases_eq i c.loop-earlier.earlier-index) [

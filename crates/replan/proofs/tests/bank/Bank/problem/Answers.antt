@@ -1,15 +1,14 @@
 use Rattle.std.proofs.Common.{◌≡◌, length, map, refl, arith, None}
 use Rattle.std.proofs.lemmas.List.{length-map}
-use Rattle.landing_rules.specs.declared.objective.Objective.TheVariants.{Makespan}
 use Rattle.cps_problem.specs.Seen.{problem_of, waiting_of}
-use Rattle.cps_network.proofs.BankLemmas.{well_formed}
-use Rattle.cps_network.proofs.tests.Bank.problem.Goals as goal
+use Rattle.replan.proofs.BankLemmas.{well_formed}
+use Rattle.replan.proofs.tests.bank.Bank.problem.Goals as goal
 
 pub build-requires : goal.build-requires
 build-requires c = λ table.
     let count : length (map waiting_of c.args.self.waiting.items) ≡ length c.args.self.waiting.items = length-map c.args.self.waiting.items waiting_of in
-    well_formed (problem_of (record { table = c.in_ok-table.table; k = c.args.k; objective = Makespan; horizon = 0; last = None; base = 0 }) c.args.self.waiting.items c.one_pair.result)
-    table c.requires refl refl refl
+    well_formed (problem_of (record { table = c.in_ok-table.table; k = c.args.self.k; objective = c.args.objective; horizon = 0; last = None; base = 0 }) c.args.self.waiting.items c.one_pair.result)
+    table c.args.self.near refl refl refl
     (λ i j must. let pair = c.one_pair.ensures i j must in (
       pair.0,
       omega (arith, count, pair.1, c.if-first-n.false, c.len-n.ensures),
