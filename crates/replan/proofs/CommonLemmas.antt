@@ -23,29 +23,22 @@ same_pairs : (p q : Problem) (stage : ℕ × List (List ℤ)) (labels : StagePai
 same_pairs p q stage labels head common is = record { objective = is.objective ∙ head.objective; held = kept_costs p q stage labels.lists common is.held }
 
 module _ (p q : Problem) (stages : List (ℕ × List (List ℤ))) (labels : List StagePairs) (count : ℕ) (holds : HoldsStages p stages labels) (early : EarlyStagesAreKept p q) (common : AreInCommon p q count) (more : 1 < count) (within : count ≤ length stages) where
-  stage_left : (i : ℕ) → i < count → stage_at (take count stages) i ≡ stage_at stages i
-  stage_left i lt = get_or-take count stages i (0, []) lt
-
-  held_left : (i : ℕ) → i < count → HoldsPairs q (stage_at (take count stages) i) (labels_at (take count labels) i)
-  held_left i lt =
-      let is = common.1 in
-      let e = common.2 in
-      let agree = is.agree (omega (arith, e, more)) in
-      let same = agree.head.k in
-      let here : i < length stages = omega (arith, lt, within) in
-      let kept = early common.0 is.within agree (stage_at stages i).0 (let n = holds.number i here in omega (arith, n, e, lt, same)) in
-      subst (λ (s : ℕ × List (List ℤ)). HoldsPairs q s (labels_at (take count labels) i)) (sym (stage_left i lt))
-      (subst (λ (ls : StagePairs). HoldsPairs q (stage_at stages i) ls) (sym (get_or-take count labels i no_pairs lt))
-      (same_pairs p q (stage_at stages i) (labels_at labels i) agree.head kept (holds.held i here)))
-
   long : length (take count stages) ≡ count
   long = length-take-le count stages within
 
   pub held_in_common : HoldsStages q (take count stages) (take count labels)
   held_in_common = record {
     one_each = length-take-le count labels (let a = holds.one_each in omega (arith, a, within)) ∙ sym long;
-    number = λ i lt. let here : i < count = omega (arith, lt, long) in ap (λ (s : ℕ × List (List ℤ)). s.0) (stage_left i here) ∙ holds.number i (omega (arith, here, within));
-    held = λ i lt. held_left i (omega (arith, lt, long));
+    number = λ i lt. let here : i < count = omega (arith, lt, long) in rw (get_or-take count stages i (0, []) here) (holds.number i (omega (arith, here, within)));
+    held = λ i lt.
+        let at : i < count = omega (arith, lt, long) in
+        let here : i < length stages = omega (arith, at, within) in
+        let is = common.1 in
+        let e = common.2 in
+        let agree = is.agree (omega (arith, e, more)) in
+        let same = agree.head.k in
+        let kept = early common.0 is.within agree (stage_at stages i).0 (let n = holds.number i here in omega (arith, n, e, at, same)) in
+        rw (get_or-take count stages i (0, []) at, get_or-take count labels i no_pairs at) (same_pairs p q (stage_at stages i) (labels_at labels i) agree.head kept (holds.held i here));
   }
 
 -- and what is said of them still holds
@@ -67,9 +60,7 @@ module _ (p q : Problem) (w : ℕ) (odd : w ≡ 2 * p.k + 1) (laws : WindowLaws 
     one_each = length-take-le count said (let a = whole.one_each in omega (arith, a, within)) ∙ sym (length-take-le count stages within);
     each = λ i some lt true_there.
         let here : i < count = omega (arith, lt, length-take-le count stages within) in
-        subst (λ (s : ℕ × List (List ℤ)). IsNextOf q (i - 1) (stage_at (take count stages) (i - 1)).1 s.1) (sym (get_or-take count stages i (0, []) here))
-        (subst (λ (s : ℕ × List (List ℤ)). IsNextOf q (i - 1) s.1 (stage_at stages i).1) (sym (get_or-take count stages (i - 1) (0, []) (omega (arith, here))))
-        (next_left i some here (subst IsTrue (get_or-take count said i false here) true_there)));
+        rw (get_or-take count stages i (0, []) here, get_or-take count stages (i - 1) (0, []) (omega (arith, here))) (next_left i some here (rw (get_or-take count said i false here) at true_there));
   }
 
 -- they are no more than are held

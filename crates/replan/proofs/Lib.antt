@@ -4,4 +4,3 @@ pub mod CommonLemmas
 pub mod TraceLemmas
 pub mod PlanLemmas
 pub mod BankLemmas
-pub mod LeastLemmas

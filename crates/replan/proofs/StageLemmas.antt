@@ -10,6 +10,7 @@ use Rattle.cps_theory.specs.LandingTrail.{pair_of, ranks}
 use Rattle.cps_theory.specs.Labels.{InPairs, Pair}
 use Rattle.cps_theory.specs.Network.{Undominated}
 use Rattle.landing_joint.specs.RankedProblem.{cost_at}
+use Rattle.landing_rules.specs.declared.objective.Objective.{Objective}
 use Rattle.landing_rules.specs.declared.objective.Objective.TheVariants.{Makespan}
 use Rattle.landing_rules.specs.Problem.{Problem}
 use Rattle.cps_network.specs.Due.{HasCandidates, HasCandidatesFrom}
@@ -71,51 +72,30 @@ start_costs p = record {
     }
     pairs (suc i) lt = absurd (omega arith)
 
--- the labels of stage 0
-abbrev pub start_pairs : Problem → StagePairs
-start_pairs p = record { objective = p.objective; lists = ((0, 0) ∷ []) ∷ [] }
-
-pub start_held : (p : Problem) (w : ℕ) (stages : List (ℕ × List (List ℤ))) (labels : List StagePairs) → w ≡ 2 * p.k + 1
-    → stages ≡ (0, replicate w (pos 0) ∷ []) ∷ [] → labels ≡ start_pairs p ∷ [] → HoldsStages p stages labels
-start_held p w stages labels odd e f =
-    let one : HoldsStages p ((0, replicate (2 * p.k + 1) (pos 0) ∷ []) ∷ []) (start_pairs p ∷ []) = record { one_each = refl; number = number; held = held } in
-    subst (λ (ls : List StagePairs). HoldsStages p stages ls) (sym f)
-    (subst (λ (ss : List (ℕ × List (List ℤ))). HoldsStages p ss (start_pairs p ∷ [])) (sym (e ∙ ap (λ (m : ℕ). (0, replicate m (pos 0) ∷ []) ∷ []) odd)) one)
-  where
-    number : (i : ℕ) → i < 1 → (stage_at ((0, replicate (2 * p.k + 1) (pos 0) ∷ []) ∷ []) i).0 ≡ i
-    number zero lt = refl
-    number (suc i) lt = absurd (omega arith)
-
-    held : (i : ℕ) → i < 1 → HoldsPairs p (stage_at ((0, replicate (2 * p.k + 1) (pos 0) ∷ []) ∷ []) i) (labels_at (start_pairs p ∷ []) i)
-    held zero lt = record { objective = refl; held = start_costs p }
-    held (suc i) lt = absurd (omega arith)
+pub begins : (p : Problem) (w : ℕ) (stage : ℕ × List (List ℤ)) (labels : StagePairs) (o : Objective) → w ≡ 2 * p.k + 1 → stage ≡ (0, replicate w (pos 0) ∷ [])
+    → labels ≡ record { objective = o; lists = ((0, 0) ∷ []) ∷ [] } → p.objective ≡ o → HoldsPairs p stage labels
+begins p w stage labels o odd e f g = rw (f, e, odd) (record { objective = sym g; held = start_costs p })
 
 -- ---- one stage more
 
 pub more_held : (p : Problem) (stages after : List (ℕ × List (List ℤ))) (labels more : List StagePairs) (stage : ℕ × List (List ℤ)) (last : StagePairs)
     → HoldsStages p stages labels → after ≡ stages ++ stage ∷ [] → more ≡ labels ++ last ∷ [] → stage.0 ≡ length stages → HoldsPairs p stage last → HoldsStages p after more
-more_held p stages after labels more stage last is e f number held =
-    subst (λ (ls : List StagePairs). HoldsStages p after ls) (sym f) (subst (λ (ss : List (ℕ × List (List ℤ))). HoldsStages p ss (labels ++ last ∷ [])) (sym e) (record {
-      one_each = omega (arith, length-append stages (stage ∷ []), length-append labels (last ∷ []), is.one_each);
-      number = λ i lt. elim (cases_eq i (length stages)) [
-        | inl same ↦ ap (λ (s : ℕ × List (List ℤ)). s.0) (get_or_push stages stage (0, []) i (sym same)) ∙ number ∙ sym same
-        | inr old ↦
-            let below : i < length stages = omega (arith, old, lt, length-append stages (stage ∷ [])) in
-            ap (λ (s : ℕ × List (List ℤ)). s.0) (get_or_append_left stages (stage ∷ []) (0, []) i below) ∙ is.number i below
-      ];
-      held = λ i lt. elim (cases_eq i (length stages)) [
-        | inl same ↦
-            subst (λ (s : ℕ × List (List ℤ)). HoldsPairs p s (labels_at (labels ++ last ∷ []) i)) (sym (get_or_push stages stage (0, []) i (sym same)))
-            (subst (λ (ls : StagePairs). HoldsPairs p stage ls) (sym (get_or_push labels last no_pairs i (is.one_each ∙ sym same))) held)
-        | inr old ↦
-            let below : i < length stages = omega (arith, old, lt, length-append stages (stage ∷ [])) in
-            subst (λ (s : ℕ × List (List ℤ)). HoldsPairs p s (labels_at (labels ++ last ∷ []) i)) (sym (get_or_append_left stages (stage ∷ []) (0, []) i below))
-            (subst (λ (ls : StagePairs). HoldsPairs p (stage_at stages i) ls) (sym (get_or_append_left labels (last ∷ []) no_pairs i (omega (arith, below, is.one_each)))) (is.held i below))
-      ];
-    }))
+more_held p stages after labels more stage last is e f number held = rw (e, f) (record {
+  one_each = omega (arith, length-append stages (stage ∷ []), length-append labels (last ∷ []), is.one_each);
+  number = λ i lt. elim (cases_eq i (length stages)) [
+    | inl same ↦ rw (get_or_push stages stage (0, []) i (sym same)) (number ∙ sym same)
+    | inr old ↦ let below : i < length stages = omega (arith, old, lt, length-append stages (stage ∷ [])) in rw (get_or_append_left stages (stage ∷ []) (0, []) i below) (is.number i below)
+  ];
+  held = λ i lt. elim (cases_eq i (length stages)) [
+    | inl same ↦ rw (get_or_push stages stage (0, []) i (sym same), get_or_push labels last no_pairs i (is.one_each ∙ sym same)) held
+    | inr old ↦
+        let below : i < length stages = omega (arith, old, lt, length-append stages (stage ∷ [])) in
+        rw (get_or_append_left stages (stage ∷ []) (0, []) i below, get_or_append_left labels (last ∷ []) no_pairs i (omega (arith, below, is.one_each))) (is.held i below)
+  ];
+})
 
 pub has_candidates : (p : Problem) (before after : ℕ × List (List ℤ)) (m : ℕ) → before.0 ≡ m → HoldsLandable p before → HoldsCandidates p before after → IsAscending after.1 → HasCandidates p m (length after.1)
-has_candidates p before after m e h each up = subst (λ (q : ℕ). HasCandidates p q (length after.1)) e (record { candidates = after.1; ascending = up; each = each h; counted = refl })
+has_candidates p before after m e h each up = rw (← e) (record { candidates = after.1; ascending = up; each = each h; counted = refl })
 
 -- ---- steps
 
@@ -137,10 +117,7 @@ due_more first p i o r s le some (due, from, e) (count, has, f) =
 
 pub held_at : (p : Problem) (stages : List (ℕ × List (List ℤ))) (labels : List StagePairs) → HoldsStages p stages labels → (i : ℕ) (x : ℕ × List (List ℤ)) (y : StagePairs)
     → x ≡ stage_at stages i → y ≡ labels_at labels i → i < length stages → HoldsPairs p x y × (x.0 ≡ i)
-held_at p stages labels is i x y e f lt = (
-  subst (λ (s : ℕ × List (List ℤ)). HoldsPairs p s y) (sym e) (subst (λ (ls : StagePairs). HoldsPairs p (stage_at stages i) ls) (sym f) (is.held i lt)),
-  ap (λ (s : ℕ × List (List ℤ)). s.0) e ∙ is.number i lt,
-)
+held_at p stages labels is i x y e f lt = (rw (e, f) (is.held i lt), rw e (is.number i lt))
 
 pub read_stage : (stages : List (ℕ × List (List ℤ))) (i : ℕ) (x : ℕ × List (List ℤ)) → x ≡ get_or stages i x → i < length stages → x ≡ stage_at stages i
 read_stage stages i x e lt = e ∙ get_or_default stages i x (0, []) lt
@@ -171,7 +148,7 @@ pub last_read : (p : Problem) (stages : List (ℕ × List (List ℤ))) (labels :
 last_read p stages labels holds whole n last same e =
     let lt : length p.flights < length stages = omega (arith, whole) in
     let is : last ≡ labels_at labels (length p.flights) = read_labels labels n last e (omega (arith, lt, same, holds.one_each)) ∙ ap (labels_at labels) same in
-    let held = subst (HoldsPairs p (stage_at stages (length p.flights))) (sym is) (holds.held (length p.flights) lt) in
+    let held : HoldsPairs p (stage_at stages (length p.flights)) last = rw is (holds.held (length p.flights) lt) in
     record {
       is = is;
       number = holds.number (length p.flights) lt;
@@ -185,40 +162,24 @@ last_read p stages labels holds whole n last same e =
 pub whole_at : (p : Problem) (stages : List (ℕ × List (List ℤ))) (said : List Bool) (i last : ℕ) (earlier before : ℕ × List (List ℤ)) → AreWholeWhere p stages said → ((j : ℕ) → j < length stages → (stage_at stages j).0 ≡ j)
     → last < length stages → i ≡ last - 1 → earlier ≡ stage_at stages i → before ≡ stage_at stages last → IsTrue (get_or said last false) → earlier.0 < before.0 → IsNextOf p earlier.0 earlier.1 before.1
 whole_at p stages said i last earlier before is numbers n back e f whole lt =
-    let here : before.0 ≡ last = ap (λ (s : ℕ × List (List ℤ)). s.0) f ∙ numbers last n in
-    let there : earlier.0 ≡ i = ap (λ (s : ℕ × List (List ℤ)). s.0) e ∙ numbers i (omega (arith, n, back)) in
-    let one : IsNextOf p i (stage_at stages i).1 (stage_at stages last).1 =
-    subst (λ (q : ℕ). IsNextOf p q (stage_at stages q).1 (stage_at stages last).1) (sym back) (is.each last (omega (arith, lt, here)) n whole) in
-    let two : IsNextOf p i earlier.1 before.1 =
-    subst (λ (x : ℕ × List (List ℤ)). IsNextOf p i earlier.1 x.1) (sym f) (subst (λ (x : ℕ × List (List ℤ)). IsNextOf p i x.1 (stage_at stages last).1) (sym e) one) in
-    subst (λ (q : ℕ). IsNextOf p q earlier.1 before.1) (sym there) two
+    let here : before.0 ≡ last = rw f (numbers last n) in
+    let there : earlier.0 ≡ i = rw e (numbers i (omega (arith, n, back))) in
+    rw (there, e, f, back) (is.each last (omega (arith, lt, here)) n whole)
 
 -- one stage more, and what is said of it
 pub whole_more : (p : Problem) (stages after : List (ℕ × List (List ℤ))) (whole more : List Bool) (before was stage : ℕ × List (List ℤ)) (said : Bool) → AreWholeWhere p stages whole → ((j : ℕ) → j < length stages → (stage_at stages j).0 ≡ j)
     → after ≡ stages ++ stage ∷ [] → more ≡ whole ++ said ∷ [] → (last : ℕ) → last + 1 ≡ length stages → before ≡ stage_at stages last → (IsTrue said → stage.1 ≡ was.1) → IsNextOf p before.0 before.1 was.1 → AreWholeWhere p after more
-whole_more p stages after whole more before was stage said holds numbers e f last n at kept is =
-    subst (λ (bs : List Bool). AreWholeWhere p after bs) (sym f) (subst (λ (ss : List (ℕ × List (List ℤ))). AreWholeWhere p ss (whole ++ said ∷ [])) (sym e) (record {
-      one_each = omega (arith, length-append stages (stage ∷ []), length-append whole (said ∷ []), holds.one_each);
-      each = λ i some lt true_there. elim (cases_eq i (length stages)) [
-        | inl same ↦ new i same (subst IsTrue (get_or_push whole said false i (holds.one_each ∙ sym same)) true_there)
-        | inr old ↦ earlier i some (omega (arith, old, lt, length-append stages (stage ∷ []))) true_there
-      ];
-    }))
-  where
-    new : (i : ℕ) → i ≡ length stages → IsTrue said → IsNextOf p (i - 1) (stage_at (stages ++ stage ∷ []) (i - 1)).1 (stage_at (stages ++ stage ∷ []) i).1
-    new i same whole_there =
+whole_more p stages after whole more before was stage said holds numbers e f last n at kept is = rw (f, e) (record {
+  one_each = omega (arith, length-append stages (stage ∷ []), length-append whole (said ∷ []), holds.one_each);
+  each = λ i some lt true_there. elim (cases_eq i (length stages)) [
+    | inl same ↦
         let back : i - 1 ≡ last = omega (arith, same, n) in
-        let below : i - 1 < length stages = omega (arith, back, n) in
-        let front : stage_at (stages ++ stage ∷ []) (i - 1) ≡ before = get_or_append_left stages (stage ∷ []) (0, []) (i - 1) below ∙ ap (stage_at stages) back ∙ sym at in
-        let end : stage_at (stages ++ stage ∷ []) i ≡ stage = get_or_push stages stage (0, []) i (sym same) in
-        let number : before.0 ≡ i - 1 = ap (λ (s : ℕ × List (List ℤ)). s.0) at ∙ numbers last (omega (arith, n)) ∙ sym back in
-        let one : IsNextOf p (i - 1) before.1 stage.1 =
-        subst (λ (q : ℕ). IsNextOf p q before.1 stage.1) number (subst (λ (ws : List (List ℤ)). IsNextOf p before.0 before.1 ws) (sym (kept whole_there)) is) in
-        subst (λ (x : ℕ × List (List ℤ)). IsNextOf p (i - 1) (stage_at (stages ++ stage ∷ []) (i - 1)).1 x.1) (sym end)
-        (subst (λ (x : ℕ × List (List ℤ)). IsNextOf p (i - 1) x.1 stage.1) (sym front) one)
-
-    earlier : (i : ℕ) → 0 < i → i < length stages → IsTrue (get_or (whole ++ said ∷ []) i false) → IsNextOf p (i - 1) (stage_at (stages ++ stage ∷ []) (i - 1)).1 (stage_at (stages ++ stage ∷ []) i).1
-    earlier i some lt true_there =
-        let old : IsTrue (get_or whole i false) = subst IsTrue (get_or_append_left whole (said ∷ []) false i (omega (arith, lt, holds.one_each))) true_there in
-        subst (λ (x : ℕ × List (List ℤ)). IsNextOf p (i - 1) (stage_at (stages ++ stage ∷ []) (i - 1)).1 x.1) (sym (get_or_append_left stages (stage ∷ []) (0, []) i lt))
-        (subst (λ (x : ℕ × List (List ℤ)). IsNextOf p (i - 1) x.1 (stage_at stages i).1) (sym (get_or_append_left stages (stage ∷ []) (0, []) (i - 1) (omega (arith, lt)))) (holds.each i some lt old))
+        let number : before.0 ≡ last = rw at (numbers last (omega (arith, n))) in
+        let was_kept = kept (rw (get_or_push whole said false i (holds.one_each ∙ sym same)) at true_there) in
+        rw (get_or_push stages stage (0, []) i (sym same), get_or_append_left stages (stage ∷ []) (0, []) (i - 1) (omega (arith, back, n)), back, ← at, was_kept) (rw number at is)
+    | inr old ↦
+        let below : i < length stages = omega (arith, old, lt, length-append stages (stage ∷ [])) in
+        rw (get_or_append_left stages (stage ∷ []) (0, []) i below, get_or_append_left stages (stage ∷ []) (0, []) (i - 1) (omega (arith, below)))
+        (holds.each i some below (rw (get_or_append_left whole (said ∷ []) false i (omega (arith, below, holds.one_each))) at true_there))
+  ];
+})

@@ -6,4 +6,3 @@ pub mod Held
 pub mod Kept
 pub mod Readers
 pub mod LeastValue
-pub mod shared

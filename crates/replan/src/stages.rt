@@ -6,7 +6,6 @@ ghost use Rattle.cps_network.specs.Due.{HasCandidates, HasCandidatesFrom};
 ghost use Rattle.cps_network.specs.Landable.{HoldsCandidates};
 ghost use Rattle.cps_network.specs.Lists.{IsAscending};
 ghost use Rattle.cps_network.specs.Permits.{IsNextOf};
-ghost use Rattle.replan.specs.Labels.{HoldsPairs};
 ghost use Rattle.replan.specs.Stages.{HoldsStages, AreWholeWhere};
 
 use crate::labels::Labels;
@@ -93,35 +92,6 @@ pub(crate) fn stage_after<const W: usize>(
     Ok(stage)
 }
 
-// Fills the labels of a stage from those of the stage before, and keeps its landable windows. Also whether these are all.
-fn label_stage<const W: usize, R: Threads, G: Gate, L: Ledger>(
-    rt: &R,
-    alloc: Global,
-    problem: &Problem,
-    before: &Stage<W>,
-    labels: &Labels,
-    stage: &mut Stage<W>,
-    gate: &G,
-    steps: &mut Steps<L>,
-) -> Result<(Labels, bool), AllocError>
-    requires width { W ≡ 2 * problem.now.k + 1 }
-    requires before { HoldsPairs problem.now before.now labels.now }
-    requires number { stage.old.0 ≡ before.now.0 + 1 }
-    requires exact { IsNextOf problem.now before.now.0 before.now.1 stage.old.1 }
-    ensures held { IfOk result (λ labelled. HoldsPairs problem.now stage.new labelled.0) }
-    ensures number { OnOk result (stage.new.0 ≡ stage.old.0) }
-    ensures all { IfOk result (λ labelled. IsTrue labelled.1 → stage.new.1 ≡ stage.old.1) }
-    ensures steps { OnOk result (L.count steps.new ≡ raised_by (length stage.old.1)
-        (L.count steps.old)) }
-{
-    let _near = problem.head();
-    let candidates = stage.len();
-    let mut found = labels.next(rt, alloc, problem, before, stage, gate, steps)?;
-    found.keep_landable(stage);
-    let is_whole = found.len() == candidates;
-    Ok((found, is_whole))
-}
-
 // One stage more.
 fn add_stage<const W: usize, R: Threads, G: Gate, L: Ledger>(
     rt: &R,
@@ -149,10 +119,10 @@ fn add_stage<const W: usize, R: Threads, G: Gate, L: Ledger>(
     let earlier = &kept.stages[last.saturating_sub(1)];
     let before = &kept.stages[last];
     let mut stage = stage_after(alloc, problem, earlier, before, kept.whole[last])?;
+    let candidates = stage.len();
     let labels = &kept.labels[last];
-    let (found, is_whole) = label_stage(
-        rt, alloc, problem, before, labels, &mut stage, gate, steps,
-    )?;
+    let found = labels.next(rt, alloc, problem, before, &mut stage, gate, steps)?;
+    let is_whole = stage.len() == candidates;
     kept.stages.push(stage)?;
     kept.labels.push(found)?;
     kept.whole.push(is_whole)?;

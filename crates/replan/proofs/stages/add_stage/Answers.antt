@@ -1,4 +1,4 @@
-use Rattle.std.proofs.Common.{◌≡◌, ℕ, ◌-◌, ◌<◌, length, rules, arith, ap, ◌∙◌, List, subst}
+use Rattle.std.proofs.Common.{◌≡◌, ℕ, ◌-◌, ◌<◌, length, rules, arith, ap, ◌∙◌, List, subst, sym}
 use Rattle.std.specs.Prelude.{ℤ, vec_len, IsTrue, false}
 use Rattle.std.proofs.lemmas.List.{get_or_default}
 use Rattle.replan.proofs.StageLemmas.{held_at, read_stage, read_labels, whole_at, more_held, whole_more, has_candidates}
@@ -22,8 +22,8 @@ stage_after-requires g c =
       ),
     )
 
-pub label_stage-requires : goal.label_stage-requires
-label_stage-requires g c =
+pub next-requires : goal.next-requires
+next-requires g c =
     let lt : c.len-last.result - 1 < length c.args.kept.now.stages.items = omega (arith, c.len-last.ensures, c.requires.some) in
     let h = held_at c.args.problem.now c.args.kept.now.stages.items c.args.kept.now.labels.items c.requires.held (c.len-last.result - 1) c.index-before.result.now c.index-labels.result.now
     (read_stage c.args.kept.now.stages.items (c.len-last.result - 1) c.index-before.result.now c.index-before.ensures lt)
@@ -35,15 +35,16 @@ returns-clause-held g c =
     let lt : c.len-last.result - 1 < length c.args.kept.now.stages.items = omega (arith, c.len-last.ensures, c.requires.some) in
     let e = read_stage c.args.kept.now.stages.items (c.len-last.result - 1) c.index-before.result.now c.index-before.ensures lt in
     let number : c.index-before.result.now.0 ≡ c.len-last.result - 1 = ap (λ (s : ℕ × List (List ℤ)). s.0) e ∙ c.requires.held.number (c.len-last.result - 1) lt in
-    more_held c.args.problem.now c.args.kept.now.stages.items c.push.new.self.items c.args.kept.now.labels.items c.push-2.new.self.items c.label_stage.new.stage c.in_ok-found.found c.requires.held
-    c.in_ok-push.ensures.items c.in_ok-push-2.ensures.items (omega (arith, c.in_ok-found.ensures.number, c.in_ok-stage.ensures.number, number, lt, c.len-last.ensures)) c.in_ok-found.ensures.held
+    more_held c.args.problem.now c.args.kept.now.stages.items c.push.new.self.items c.args.kept.now.labels.items c.push-2.new.self.items c.next.new.stage c.in_ok-found.found c.requires.held
+    c.in_ok-push.ensures.items c.in_ok-push-2.ensures.items (omega (arith, c.in_ok-found.ensures.left.number, c.in_ok-stage.ensures.number, number, lt, c.len-last.ensures)) c.in_ok-found.ensures.left.held
 
 pub returns-clause-whole : goal.returns-clause-whole
 returns-clause-whole g c =
     let lt : c.len-last.result - 1 < length c.args.kept.now.stages.items = omega (arith, c.len-last.ensures, c.requires.some) in
     let e = read_stage c.args.kept.now.stages.items (c.len-last.result - 1) c.index-before.result.now c.index-before.ensures lt in
-    whole_more c.args.problem.now c.args.kept.now.stages.items c.push.new.self.items c.args.kept.now.whole.items c.push-3.new.self.items c.index-before.result.now c.in_ok-stage.stage c.label_stage.new.stage c.in_ok-found.is_whole
-    c.requires.whole c.requires.held.number c.in_ok-push.ensures.items c.in_ok-push-3.ensures.items (c.len-last.result - 1) (omega (arith, c.len-last.ensures, c.requires.some)) e c.in_ok-found.ensures.all c.in_ok-stage.ensures.exact
+    whole_more c.args.problem.now c.args.kept.now.stages.items c.push.new.self.items c.args.kept.now.whole.items c.push-3.new.self.items c.index-before.result.now c.in_ok-stage.stage c.next.new.stage _
+    c.requires.whole c.requires.held.number c.in_ok-push.ensures.items c.in_ok-push-3.ensures.items (c.len-last.result - 1) (omega (arith, c.len-last.ensures, c.requires.some)) e
+    (λ same. let f : c.len.result ≡ c.len-candidates.result = search (rules, same) in c.in_ok-found.ensures.left.all (sym c.len.ensures.value ∙ f ∙ c.len-candidates.ensures.value)) c.in_ok-stage.ensures.exact
 
 pub returns-clause-steps : goal.returns-clause-steps
 returns-clause-steps g c =
