@@ -19,9 +19,6 @@ use Rattle.replan.specs.Labels.{StagePairs, HoldsPairs}
 use Rattle.replan.specs.Stages.{stage_at, labels_at, HoldsStages, AreWholeWhere}
 use Rattle.replan.proofs.StageLemmas.{no_pairs}
 
-same_pairs : (p q : Problem) (stage : ℕ × List (List ℤ)) (labels : StagePairs) → HaveSameHead p q → HaveStageInCommon p q stage.0 → HoldsPairs p stage labels → HoldsPairs q stage labels
-same_pairs p q stage labels head common is = record { objective = is.objective ∙ head.objective; held = kept_costs p q stage labels.lists common is.held }
-
 module _ (p q : Problem) (stages : List (ℕ × List (List ℤ))) (labels : List StagePairs) (count : ℕ) (holds : HoldsStages p stages labels) (early : EarlyStagesAreKept p q) (common : AreInCommon p q count) (more : 1 < count) (within : count ≤ length stages) where
   long : length (take count stages) ≡ count
   long = length-take-le count stages within
@@ -38,7 +35,7 @@ module _ (p q : Problem) (stages : List (ℕ × List (List ℤ))) (labels : List
         let agree = is.agree (omega (arith, e, more)) in
         let same = agree.head.k in
         let kept = early common.0 is.within agree (stage_at stages i).0 (let n = holds.number i here in omega (arith, n, e, at, same)) in
-        rw (get_or-take count stages i (0, []) at, get_or-take count labels i no_pairs at) (same_pairs p q (stage_at stages i) (labels_at labels i) agree.head kept (holds.held i here));
+        rw (get_or-take count stages i (0, []) at, get_or-take count labels i no_pairs at) (record { objective = (holds.held i here).objective ∙ agree.head.objective; held = kept_costs p q (stage_at stages i) _ kept (holds.held i here).held });
   }
 
 -- and what is said of them still holds
@@ -46,21 +43,18 @@ module _ (p q : Problem) (w : ℕ) (odd : w ≡ 2 * p.k + 1) (laws : WindowLaws 
   valid : (i : ℕ) → i < length stages → AreWindows w (stage_at stages i).1
   valid i lt j inside = landable_valid p w odd laws (stage_at stages i).0 (node_at (stage_at stages i).1 j) (((holds.held i lt).held.landable (node_at (stage_at stages i).1 j)).0 (Contains-get_or (stage_at stages i).1 j [] inside))
 
-  next_left : (i : ℕ) → 0 < i → i < count → IsTrue (get_or said i false) → IsNextOf q (i - 1) (stage_at stages (i - 1)).1 (stage_at stages i).1
-  next_left i some lt true_there =
-      let is = common.1 in
-      let e = common.2 in
-      let agree = is.agree (omega (arith, e, more)) in
-      let same = agree.head.k in
-      kept_next p q common.0 is.within agree bp bq w odd (i - 1) (stage_at stages (i - 1)).1 (stage_at stages i).1 (omega (arith, e, lt, some, same)) (valid (i - 1) (omega (arith, lt, within)))
-      (whole.each i some (omega (arith, lt, within)) true_there)
-
   pub whole_in_common : AreWholeWhere q (take count stages) (take count said)
   whole_in_common = record {
     one_each = length-take-le count said (let a = whole.one_each in omega (arith, a, within)) ∙ sym (length-take-le count stages within);
     each = λ i some lt true_there.
         let here : i < count = omega (arith, lt, length-take-le count stages within) in
-        rw (get_or-take count stages i (0, []) here, get_or-take count stages (i - 1) (0, []) (omega (arith, here))) (next_left i some here (rw (get_or-take count said i false here) at true_there));
+        let is = common.1 in
+        let e = common.2 in
+        let agree = is.agree (omega (arith, e, more)) in
+        let same = agree.head.k in
+        rw (get_or-take count stages i (0, []) here, get_or-take count stages (i - 1) (0, []) (omega (arith, here))) (
+        kept_next p q common.0 is.within agree bp bq w odd (i - 1) (stage_at stages (i - 1)).1 (stage_at stages i).1 (omega (arith, e, here, some, same)) (valid (i - 1) (omega (arith, here, within)))
+        (whole.each i some (omega (arith, here, within)) (rw (get_or-take count said i false here) at true_there)));
   }
 
 -- they are no more than are held

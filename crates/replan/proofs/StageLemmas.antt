@@ -21,7 +21,9 @@ use Rattle.cps_network.specs.Pairs.{ArePairsOf, HoldsCosts, list_at}
 use Rattle.cps_network.specs.Permits.{IsNextOf}
 use Rattle.cps_network.specs.shared.DueSteps.{more_from}
 use Rattle.cps_network.specs.shared.LegalWindows.{source_is}
+use Rattle.replan.specs.Held.{HeldProblem}
 use Rattle.replan.specs.Labels.{StagePairs, HoldsPairs}
+use Rattle.replan.specs.Readers.{IsReadable, stage_in}
 use Rattle.replan.specs.Stages.{stage_at, labels_at, HoldsStages, AreWholeWhere}
 
 -- ---- stage 0
@@ -124,6 +126,10 @@ read_stage stages i x e lt = e ∙ get_or_default stages i x (0, []) lt
 
 pub read_labels : (labels : List StagePairs) (i : ℕ) (y : StagePairs) → y ≡ get_or labels i y → i < length labels → y ≡ labels_at labels i
 read_labels labels i y e lt = e ∙ get_or_default labels i y no_pairs lt
+
+pub read_held : (held : Option HeldProblem) (h : HeldProblem) (stages : List (ℕ × List (List ℤ))) (i : ℕ) (x : ℕ × List (List ℤ)) → held ≡ Some h → h.stages ≡ stages → x ≡ get_or stages i x
+    → IsReadable held i → x ≡ stage_in held i
+read_held held h stages i x e f at (some, most) = let low : i ≤ length stages - 1 = rw (e, f) at most in rw (e, f) (read_stage stages i x at (omega (arith, some, low)))
 
 -- each kept list has a pair
 pub list_some : (p : Problem) (stage : ℕ × List (List ℤ)) (lists : List (List Pair)) → HoldsCosts p stage lists → (i : ℕ) → i < length stage.1 → 0 < length (list_at lists i)
