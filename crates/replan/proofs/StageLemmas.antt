@@ -1,8 +1,8 @@
--- Stage 0 with its pair, and one stage more.
-use Rattle.std.proofs.Common.{◌≡◌, ℕ, zero, suc, ◌+◌, ◌*◌, ◌<◌, ◌≤◌, List, [], ◌∷◌, ◌++◌, length, get_or, replicate, length-append, refl, sym, ap, subst, ◌∙◌, arith, inl, inr, zero-le, Option, Some, None}
-use Rattle.std.specs.Prelude.{ℤ, pos, Contains, Bool, false, IsTrue, ◌-◌}
+-- Stage 0 with its pair, one stage more, and what is kept of the stages of a problem for another.
+use Rattle.std.proofs.Common.{◌≡◌, ℕ, zero, suc, ◌+◌, ◌*◌, ◌<◌, ◌≤◌, List, [], ◌∷◌, ◌++◌, length, get_or, replicate, length-append, refl, sym, ap, subst, ◌∙◌, arith, inl, inr, zero-le, Option, Some, None, ◌-◌, take, Bool, false}
+use Rattle.std.specs.Prelude.{ℤ, pos, Contains, IsTrue}
 use Rattle.std.proofs.lemmas.Bool.{cases_eq}
-use Rattle.std.proofs.lemmas.List.{get_or_append_left, get_or_push, get_or_default}
+use Rattle.std.proofs.lemmas.List.{get_or_append_left, get_or_push, get_or_default, get_or-take, length-take-le}
 use Rattle.std.proofs.lemmas.List.Elements.{Contains-get_or}
 use Rattle.cps_base.specs.Tally.{raised_by}
 use Rattle.cps_theory.specs.Separation.{Landing}
@@ -12,19 +12,23 @@ use Rattle.cps_theory.specs.Network.{Undominated}
 use Rattle.landing_joint.specs.RankedProblem.{cost_at}
 use Rattle.landing_rules.specs.declared.objective.Objective.{Objective}
 use Rattle.landing_rules.specs.declared.objective.Objective.TheVariants.{Makespan}
-use Rattle.landing_rules.specs.Problem.{Problem}
-use Rattle.cps_network.specs.Due.{HasCandidates, HasCandidatesFrom}
+use Rattle.landing_rules.specs.Problem.{Problem, AreBetweenRanks}
+use Rattle.cps_network.specs.Due.{HasCandidates, HasCandidatesFrom, IsDueFrom}
 use Rattle.cps_network.specs.Landable.{Attains, IsLandable, HoldsLandable, HoldsCandidates}
-use Rattle.cps_network.specs.Lists.{IsAscending, node_at}
+use Rattle.cps_network.specs.Lists.{IsAscending, node_at, AreWindows}
 use Rattle.cps_network.specs.Nodes.{Node, node_of}
 use Rattle.cps_network.specs.Pairs.{ArePairsOf, HoldsCosts, list_at}
 use Rattle.cps_network.specs.Permits.{IsNextOf}
-use Rattle.cps_network.specs.shared.DueSteps.{more_from}
-use Rattle.cps_network.specs.shared.LegalWindows.{source_is}
-use Rattle.replan.specs.Held.{HeldProblem}
+use Rattle.cps_network.specs.shared.DueSteps.{more_from, due_with_held}
+use Rattle.cps_network.specs.shared.LegalWindows.{source_is, landable_valid}
+use Rattle.replan.specs.Held.{HeldProblem, AreInCommon}
 use Rattle.replan.specs.Labels.{StagePairs, HoldsPairs}
 use Rattle.replan.specs.Readers.{IsReadable, stage_in}
 use Rattle.replan.specs.Stages.{stage_at, labels_at, HoldsStages, AreWholeWhere}
+use Rattle.cps_network.specs.KeptStages.{EarlyStagesAreKept}
+use Rattle.cps_network.specs.WindowLaws.{WindowLaws}
+use Rattle.cps_network.specs.shared.KeptCandidates.{kept_next}
+use Rattle.cps_network.specs.shared.KeptCosts.{kept_costs}
 
 -- ---- stage 0
 
@@ -189,3 +193,53 @@ whole_more p stages after whole more before was stage said holds numbers e f las
         (holds.each i some below (rw (get_or_append_left whole (said ∷ []) false i (omega (arith, below, holds.one_each))) at true_there))
   ];
 })
+
+module _ (p q : Problem) (stages : List (ℕ × List (List ℤ))) (labels : List StagePairs) (count : ℕ) (holds : HoldsStages p stages labels) (early : EarlyStagesAreKept p q) (common : AreInCommon p q count) (more : 1 < count) (within : count ≤ length stages) where
+  long : length (take count stages) ≡ count
+  long = length-take-le count stages within
+
+  pub held_in_common : HoldsStages q (take count stages) (take count labels)
+  held_in_common = record {
+    one_each = length-take-le count labels (let a = holds.one_each in omega (arith, a, within)) ∙ sym long;
+    number = λ i lt. let here : i < count = omega (arith, lt, long) in rw (get_or-take count stages i (0, []) here) (holds.number i (omega (arith, here, within)));
+    held = λ i lt.
+        let at : i < count = omega (arith, lt, long) in
+        let here : i < length stages = omega (arith, at, within) in
+        let is = common.1 in
+        let e = common.2 in
+        let agree = is.agree (omega (arith, e, more)) in
+        let same = agree.head.k in
+        let kept = early common.0 is.within agree (stage_at stages i).0 (let n = holds.number i here in omega (arith, n, e, at, same)) in
+        rw (get_or-take count stages i (0, []) at, get_or-take count labels i no_pairs at) (record { objective = (holds.held i here).objective ∙ agree.head.objective; held = kept_costs p q (stage_at stages i) _ kept (holds.held i here).held });
+  }
+
+-- and what is said of them still holds
+module _ (p q : Problem) (w : ℕ) (odd : w ≡ 2 * p.k + 1) (laws : WindowLaws p w) (bp : AreBetweenRanks (length p.flights) p.pairs) (bq : AreBetweenRanks (length q.flights) q.pairs) (stages : List (ℕ × List (List ℤ))) (labels : List StagePairs) (said : List Bool) (count : ℕ) (holds : HoldsStages p stages labels) (whole : AreWholeWhere p stages said) (common : AreInCommon p q count) (more : 1 < count) (within : count ≤ length stages) where
+  valid : (i : ℕ) → i < length stages → AreWindows w (stage_at stages i).1
+  valid i lt j inside = landable_valid p w odd laws (stage_at stages i).0 (node_at (stage_at stages i).1 j) (((holds.held i lt).held.landable (node_at (stage_at stages i).1 j)).0 (Contains-get_or (stage_at stages i).1 j [] inside))
+
+  pub whole_in_common : AreWholeWhere q (take count stages) (take count said)
+  whole_in_common = record {
+    one_each = length-take-le count said (let a = whole.one_each in omega (arith, a, within)) ∙ sym (length-take-le count stages within);
+    each = λ i some lt true_there.
+        let here : i < count = omega (arith, lt, length-take-le count stages within) in
+        let is = common.1 in
+        let e = common.2 in
+        let agree = is.agree (omega (arith, e, more)) in
+        let same = agree.head.k in
+        rw (get_or-take count stages i (0, []) here, get_or-take count stages (i - 1) (0, []) (omega (arith, here))) (
+        kept_next p q common.0 is.within agree bp bq w odd (i - 1) (stage_at stages (i - 1)).1 (stage_at stages i).1 (omega (arith, e, here, some, same)) (valid (i - 1) (omega (arith, here, within)))
+        (whole.each i some (omega (arith, here, within)) (rw (get_or-take count said i false here) at true_there)));
+  }
+
+-- they are no more than are held
+pub few_in_common : (p q : Problem) (count : ℕ) (stages : List (ℕ × List (List ℤ))) → AreInCommon p q count → length stages ≡ length p.flights + 1 → count ≤ length stages
+few_in_common p q count stages (d, is, e) whole = let a = is.within.0 in omega (arith, a, e, whole)
+
+-- nor more than the other problem has
+pub fits_in_common : (p q : Problem) (count : ℕ) → AreInCommon p q count → count ≤ length q.flights + 1
+fits_in_common p q count (d, is, e) = let a = is.within.1 in omega (arith, a, e)
+
+-- what is due are the stages that follow
+pub due_after_common : (p q : Problem) (count first : ℕ) → AreInCommon p q count → count ≤ first → (1 < first → first ≤ count) → IsDueFrom (Some p) q first
+due_after_common p q count first (d, is, e) low high = due_with_held p q d first is (omega arith) (λ more. let a = high more in omega arith)

@@ -5,11 +5,19 @@ use Rattle.landing_rules.specs.declared.objective.Objective.TheVariants.{Makespa
 use Rattle.landing_rules.specs.Problem.{Problem}
 use Rattle.cps_theory.specs.Labels.{Pair}
 use Rattle.cps_network.specs.Pairs.{HoldsCosts, pair_at}
+use Rattle.makespan_labels.specs.LabelPairs.{column_pairs}
+use Rattle.replan.specs.declared.labels.ByObjective.{ByObjective}
+use Rattle.replan.specs.declared.labels.ByObjective.TheVariants.{OfColumn, OfCosts}
 
 -- lists of pairs, and the objective that they are for
 pub record StagePairs : Type 0 where
   pub objective : Objective
   pub lists : List (List Pair)
+
+-- the labels of a stage as they are kept, seen as lists of pairs
+abbrev pub pairs_of : ByObjective → StagePairs
+pairs_of (OfColumn column) = record { objective = Makespan; lists = column_pairs column }
+pairs_of (OfCosts costs) = record { objective = Delay; lists = costs }
 
 -- these are the landable windows of a stage, with their pairs
 pub record HoldsPairs (p : Problem) (stage : ℕ × List (List ℤ)) (labels : StagePairs) : Type 0 where

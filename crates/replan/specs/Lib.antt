@@ -1,6 +1,5 @@
 -- The definitions of this crate.
 pub mod Labels
-pub mod LabelsOf
 pub mod Stages
 pub mod Held
 pub mod Kept

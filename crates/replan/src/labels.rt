@@ -38,8 +38,7 @@ pub(crate) struct Labels {
 }
 
 impl Model for Labels {
-    ghost use Rattle.replan.specs.Labels.{StagePairs};
-    ghost use Rattle.replan.specs.LabelsOf.{pairs_of};
+    ghost use Rattle.replan.specs.Labels.{StagePairs, pairs_of};
 
     ghost Value = { StagePairs };
 

@@ -1,7 +1,7 @@
 use Rattle.std.proofs.Common.{ap, arith}
 use Rattle.cps_network.specs.shared.DueSteps.{due_with_none}
 use Rattle.replan.specs.Held.{HeldProblem}
-use Rattle.replan.proofs.CommonLemmas.{fits_in_common, due_after_common}
+use Rattle.replan.proofs.StageLemmas.{fits_in_common, due_after_common}
 use Rattle.replan.proofs.held.begin_stages.Goals as goal
 
 pub returns-then-count-gt1-clause-few : goal.returns-then-count-gt1-clause-few

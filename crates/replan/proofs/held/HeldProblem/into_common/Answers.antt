@@ -2,7 +2,7 @@ use Rattle.std.proofs.Common.{◌≡◌, List, length, take, sym, ap, ◌∙◌,
 use Rattle.std.proofs.lemmas.List.{length-take-le}
 use Rattle.cps_network.specs.WindowLaws.{WindowLaws}
 use Rattle.replan.specs.Held.{AreInCommon, HeldProblem}
-use Rattle.replan.proofs.CommonLemmas.{held_in_common, whole_in_common, few_in_common}
+use Rattle.replan.proofs.StageLemmas.{held_in_common, whole_in_common, few_in_common}
 use Rattle.replan.proofs.held.HeldProblem.into_common.Goals as goal
 
 pub returns-clause-held : goal.returns-clause-held

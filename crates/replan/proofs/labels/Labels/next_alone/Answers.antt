@@ -1,8 +1,7 @@
 use Rattle.std.proofs.Common.{◌≡◌, length, rules, ap, sym, subst, ◌∙◌}
 use Rattle.std.proofs.lemmas.List.{length-replicate}
 use Rattle.makespan_labels.specs.Labels.{no_label}
-use Rattle.replan.specs.Labels.{HoldsPairs}
-use Rattle.replan.specs.LabelsOf.{pairs_of}
+use Rattle.replan.specs.Labels.{HoldsPairs, pairs_of}
 use Rattle.replan.proofs.LabelsLemmas.{of_column, of_costs, column_makespan, column_held, column_left, costs_left}
 use Rattle.replan.proofs.labels.Labels.next_alone.Goals as goal
 
