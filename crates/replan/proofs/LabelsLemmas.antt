@@ -1,7 +1,6 @@
--- For each kind of labels: what is held of it as pairs, and where no window was dropped, each is still there.
+-- For each kind of labels: what is held of it as pairs, and what is left of the candidates.
 use Rattle.std.proofs.Common.{◌≡◌, ℕ, suc, ◌+◌, List, [], ◌∷◌, length, refl, sym, ap, subst, ◌∙◌, arith}
 use Rattle.std.specs.Prelude.{ℤ, Bool, true, false, ◌≤◌, map, Contains}
-use Rattle.std.proofs.lemmas.List.{length-map}
 use Rattle.std.proofs.lemmas.List.Elements.{Contains-get_or}
 use Rattle.landing_rules.specs.declared.objective.Objective.TheVariants.{Makespan, Delay}
 use Rattle.landing_rules.specs.Problem.{Problem}
@@ -15,11 +14,11 @@ use Rattle.cps_network.specs.Pairs.{AreCosts, HoldsCosts, GivesPair}
 use Rattle.cps_network.specs.Permits.{IsSuccessor}
 use Rattle.cps_network.specs.shared.PairSteps.{listed_given}
 use Rattle.makespan_labels.specs.Columns as columns
-use Rattle.makespan_labels.specs.LabelPairs.{column_pairs, label_pairs}
+use Rattle.makespan_labels.specs.LabelPairs.{column_pairs}
 use Rattle.makespan_labels.specs.Labels.{AreLabels, HoldsLabels, GivesLabel}
-use Rattle.makespan_labels.specs.shared.LabelPairs.{holds_costs, holds_labels, costs_of_labels, labels_of_costs, attains_free, gives_pair}
+use Rattle.makespan_labels.specs.shared.LabelPairs.{holds_costs, holds_labels, attains_free, gives_pair}
 use Rattle.delay_labels.specs.Lists as lists
-use Rattle.replan.specs.Labels.{StagePairs, ArePairs, HoldsPairs}
+use Rattle.replan.specs.Labels.{StagePairs, AreLandableOf, HoldsPairs}
 
 -- ---- a column, seen as pairs
 
@@ -35,9 +34,6 @@ module _ (p : Problem) (stage : ℕ × List (List ℤ)) (self : StagePairs) (col
 
   pub column_held : HoldsPairs p stage self → HoldsLabels p stage column
   column_held h = holds_labels p (column_makespan h) stage column (subst (HoldsPairs p stage) (sym is) h).held
-
-pub column_filled : (p : Problem) (stage : ℕ × List (List ℤ)) (column : List ℕ) → p.objective ≡ Makespan → AreLabels p stage column → ArePairs p stage (of_column column)
-column_filled p stage column makespan are = record { objective = sym makespan; costs = costs_of_labels p makespan stage column are }
 
 -- ---- where a pair comes from
 
@@ -61,55 +57,35 @@ module _ (p : Problem) (net : IsWindowNetwork p) (before : ℕ × List (List ℤ
         let one : GivesPair p before (column_pairs column) node (q.0, 0) place 0 = gives_pair p makespan before column node q.0 place (column_held p before self column is holds) gives in
         subst (λ (ls : StagePairs). GivesPair p before ls.lists node q place 0) is (subst (λ (o : Pair). GivesPair p before (column_pairs column) node o place 0) (sym free) one)
 
--- ---- where no window was dropped
+-- ---- what is left of the candidates
 
-kept_short : {B : Type 0} (bs : List Bool) (ys : List B) → length (kept_where bs ys) ≤ length ys
-kept_short [] ys = omega arith
+kept_short : {A : Type 0} (bs : List Bool) (xs : List A) → length (kept_where bs xs) ≤ length xs
+kept_short [] xs = omega arith
 kept_short (b ∷ bs) [] = omega arith
-kept_short (true ∷ bs) (y ∷ ys) = let h = kept_short bs ys in omega (arith, h)
-kept_short (false ∷ bs) (y ∷ ys) = let h = kept_short bs ys in omega (arith, h)
+kept_short (true ∷ bs) (x ∷ xs) = let h = kept_short bs xs in omega (arith, h)
+kept_short (false ∷ bs) (x ∷ xs) = let h = kept_short bs xs in omega (arith, h)
 
 -- where as many are kept as there are, each is kept
-kept_all : {A B : Type 0} (bs : List Bool) (ys : List B) (xs : List A) → length bs ≡ length xs → length ys ≡ length xs → length (kept_where bs ys) ≡ length ys → kept_where bs xs ≡ xs
-kept_all [] ys [] e f k = refl
-kept_all [] ys (x ∷ xs) e f k = absurd (omega (arith, e))
-kept_all (b ∷ bs) ys [] e f k = absurd (omega (arith, e))
-kept_all (b ∷ bs) [] (x ∷ xs) e f k = absurd (omega (arith, f))
-kept_all (true ∷ bs) (y ∷ ys) (x ∷ xs) e f k = ap (λ (l : List _). x ∷ l) (kept_all bs ys xs (omega (arith, e)) (omega (arith, f)) (omega (arith, k)))
-kept_all (false ∷ bs) (y ∷ ys) (x ∷ xs) e f k = let h = kept_short bs ys in absurd (omega (arith, k, h))
+kept_all : {A : Type 0} (bs : List Bool) (xs : List A) → length (kept_where bs xs) ≡ length xs → kept_where bs xs ≡ xs
+kept_all [] [] k = refl
+kept_all [] (x ∷ xs) k = absurd (omega (arith, k))
+kept_all (b ∷ bs) [] k = refl
+kept_all (true ∷ bs) (x ∷ xs) k = ap (λ (l : List _). x ∷ l) (kept_all bs xs (omega (arith, k)))
+kept_all (false ∷ bs) (x ∷ xs) k = let h = kept_short bs xs in absurd (omega (arith, k, h))
 
--- where each label is known, each window stays
-all_known : (labels : List ℕ) (xs : List (List ℤ)) → length labels ≡ length xs → length (columns.known_of labels labels) ≡ length xs → columns.known_of labels xs ≡ xs
-all_known labels xs e f = kept_all (map columns.is_known labels) labels xs (length-map labels columns.is_known ∙ e) e (f ∙ sym e)
+module _ (p : Problem) (before after : ℕ × List (List ℤ)) (number : after.0 ≡ before.0) (each : HasEachLandable p before) where
+  pub column_left : (column left : List ℕ) → p.objective ≡ Makespan → AreLabels p before column → ((q : Problem) → HasEachLandable q before → AreLabels q before column → HoldsLabels q after left)
+      → after.1 ≡ columns.known_of column before.1 → AreLandableOf p before after (of_column left)
+  column_left column left makespan are kept windows = record {
+    held = record { objective = sym makespan; held = holds_costs p makespan after left (kept p each are) };
+    number = number;
+    all = λ same. windows ∙ kept_all (map columns.is_known column) before.1 (ap length (sym windows) ∙ same);
+  }
 
--- where each list has a pair, each window stays
-all_paired : (found : List (List Pair)) (xs : List (List ℤ)) → length found ≡ length xs → length (lists.known_of found found) ≡ length xs → lists.known_of found xs ≡ xs
-all_paired found xs e f = kept_all (map lists.has_some found) found xs (length-map found lists.has_some ∙ e) e (f ∙ sym e)
-
--- ---- what is left of labels as pairs
-
-module _ (self new : StagePairs) (column left : List ℕ) (before after : ℕ × List (List ℤ)) (was : of_column column ≡ self) (is : new ≡ of_column left) where
-  pub column_all : left ≡ columns.known_of column column → after.1 ≡ columns.known_of column before.1 → length self.lists ≡ length before.1 → length new.lists ≡ length before.1 → after.1 ≡ before.1
-  column_all e f old same =
-      let one : length column ≡ length before.1 = sym (length-map column label_pairs) ∙ ap (λ (s : StagePairs). length s.lists) was ∙ old in
-      let kept : length left ≡ length before.1 = sym (length-map left label_pairs) ∙ ap (λ (s : StagePairs). length s.lists) (sym is) ∙ same in
-      f ∙ all_known column before.1 one (ap length (sym e) ∙ kept)
-
-  pub column_left : ((p : Problem) → HasEachLandable p before → AreLabels p before column → HoldsLabels p after left) → (p : Problem) → HasEachLandable p before → ArePairs p before self → HoldsPairs p after new
-  column_left kept p each are =
-      let a : ArePairs p before (of_column column) = subst (ArePairs p before) (sym was) are in
-      let makespan : p.objective ≡ Makespan = sym a.objective in
-      let h : HoldsLabels p after left = kept p each (labels_of_costs p makespan before column a.costs) in
-      subst (HoldsPairs p after) (sym is) (record { objective = a.objective; held = holds_costs p makespan after left h })
-
-module _ (self new : StagePairs) (found left : List (List Pair)) (before after : ℕ × List (List ℤ)) (was : of_costs found ≡ self) (is : new ≡ of_costs left) where
-  pub costs_all : left ≡ lists.known_of found found → after.1 ≡ lists.known_of found before.1 → length self.lists ≡ length before.1 → length new.lists ≡ length before.1 → after.1 ≡ before.1
-  costs_all e f old same =
-      let one : length found ≡ length before.1 = ap (λ (s : StagePairs). length s.lists) was ∙ old in
-      let kept : length left ≡ length before.1 = ap (λ (s : StagePairs). length s.lists) (sym is) ∙ same in
-      f ∙ all_paired found before.1 one (ap length (sym e) ∙ kept)
-
-  pub costs_left : ((p : Problem) → HasEachLandable p before → AreCosts p before found → HoldsCosts p after left) → (p : Problem) → HasEachLandable p before → ArePairs p before self → HoldsPairs p after new
-  costs_left kept p each are =
-      let a : ArePairs p before (of_costs found) = subst (ArePairs p before) (sym was) are in
-      subst (HoldsPairs p after) (sym is) (record { objective = a.objective; held = kept p each a.costs })
+  pub costs_left : (found left : List (List Pair)) → Delay ≡ p.objective → AreCosts p before found → ((q : Problem) → HasEachLandable q before → AreCosts q before found → HoldsCosts q after left)
+      → after.1 ≡ lists.known_of found before.1 → AreLandableOf p before after (of_costs left)
+  costs_left found left delay are kept windows = record {
+    held = record { objective = delay; held = kept p each are };
+    number = number;
+    all = λ same. windows ∙ kept_all (map lists.has_some found) before.1 (ap length (sym windows) ∙ same);
+  }

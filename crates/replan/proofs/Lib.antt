@@ -1,7 +1,4 @@
 pub mod LabelsLemmas
 pub mod StageLemmas
-pub mod CommonLemmas
 pub mod TraceLemmas
 pub mod PlanLemmas
-pub mod BankLemmas
-pub mod LeastLemmas

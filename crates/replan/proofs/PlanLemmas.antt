@@ -1,39 +1,180 @@
--- The order of the last stage's pair that is worth least: its earliest seconds are a best and tight schedule.
-use Rattle.std.proofs.Common.{◌≡◌, ℕ, zero, suc, ◌+◌, ◌-◌, ◌<◌, ◌≤◌, List, [], ◌∷◌, length, get_or, map, reverse, drop, take, ◌++◌, inl, inr, refl, sym, ap, subst, ◌∙◌, arith, le_trans}
+-- The last stage of a problem tells the least objective of its feasible lists, and an order whose earliest seconds are a best and
+-- tight schedule.
+use Rattle.std.proofs.Common.{◌≡◌, ℕ, zero, suc, ◌+◌, ◌-◌, ◌<◌, ◌≤◌, List, [], ◌∷◌, length, get_or, map, inl, inr, refl, sym, ap, subst, ◌∙◌, arith, le_trans, reverse, drop, take, ◌++◌}
 use Rattle.std.specs.Prelude.{ℤ}
-use Rattle.std.specs.List.{AllZip}
-use Rattle.std.proofs.lemmas.List.{length-reverse, get_or_default}
+use Rattle.std.proofs.lemmas.List.{get_or_default, length-reverse}
 use Rattle.landing_rules.specs.declared.objective.Objective.{Objective}
 use Rattle.landing_rules.specs.declared.objective.Objective.TheVariants.{Makespan, Delay}
 use Rattle.landing_rules.specs.Flights.{Schedule}
-use Rattle.landing_rules.specs.Problem.{Problem, Waiting, IsFeasibleList, IsBestList, IsTightList}
-use Rattle.cps_theory.specs.RankLists.{In, of_rank, Distinct, IsRank, numbers_from}
+use Rattle.landing_rules.specs.Problem.{Problem, Waiting, IsFeasibleList, IsBestList, list_objective, IsTightList}
+use Rattle.cps_theory.specs.RankLists.{of_rank, IsRank, numbers_from, In, Distinct}
 use Rattle.cps_theory.specs.LandingTrail.{ranks}
 use Rattle.cps_theory.specs.Labels.{InPairs, NoWorse, Pair}
+use Rattle.cps_theory.specs.Feasible.{second_in, pair_at as map_pair, at_seconds}
+use Rattle.cps_theory.specs.UndominatedPairs.{Staircase}
+use Rattle.cps_theory.specs.laws.LeastObjective.{feasible_landing_trail, landing_trail_feasible, at_second_in}
+use Rattle.landing_joint.specs.RankedProblem.{ranked, cost_at, value_by, value_at, value_of_map, makespan_by}
+use Rattle.landing_joint.specs.shared.RankedLists.{feasible_agree, feasible_list, list_feasible, sound_ranked}
+use Rattle.landing_joint.specs.shared.BestLists.{list_value}
+use Rattle.extract_plan.specs.shared.PlannedOrder.{IsPlannedFor, map_value_rises, order_best, order_tight}
+use Rattle.cps_network.specs.Lists.{node_at}
+use Rattle.cps_network.specs.Nodes.{Node, node_of}
+use Rattle.cps_network.specs.Landable.{Attains}
+use Rattle.cps_network.specs.Pairs.{list_at, pair_at}
+use Rattle.cps_network.specs.shared.PairSteps.{at_in}
+use Rattle.makespan_labels.specs.shared.LabelPairs.{attains_free}
+use Rattle.replan.specs.LeastValue.{IsLeastPlace, IsWorthNoMore}
+use Rattle.replan.specs.Labels.{StagePairs, HoldsPairs, last_pair, worth}
+use Rattle.std.specs.List.{AllZip}
 use Rattle.cps_theory.specs.LegalPrefix.{Legal}
 use Rattle.cps_theory.specs.ProblemNetwork.{LandedIn}
-use Rattle.cps_theory.specs.Feasible.{at_seconds, second_in, pair_at as map_pair}
-use Rattle.cps_theory.specs.UndominatedPairs.{Staircase}
 use Rattle.cps_theory.specs.laws.FeasibleOrder.{at_seconds_agree}
 use Rattle.cps_theory.specs.laws.FrozenFront.{each_fits_distinct}
 use Rattle.cps_theory.specs.laws.LegalPrefix.{legal_each_fits, in_from_one}
-use Rattle.cps_theory.specs.laws.LeastObjective.{at_second_in, feasible_landing_trail, landing_trail_feasible}
 use Rattle.cps_theory.specs.laws.OrderLoops.{front_whole}
-use Rattle.landing_joint.specs.RankedProblem.{ranked, cost_at, value_by, makespan_by}
-use Rattle.landing_joint.specs.shared.RankedLists.{list_feasible, sound_ranked}
-use Rattle.landing_joint.specs.shared.BestLists.{list_value}
 use Rattle.extract_plan.specs.Orders.{IsWholeOrder, LandsInOrder, EarliestInOrder}
 use Rattle.extract_plan.specs.shared.LandingOrder.{in_order, trail_lands}
-use Rattle.extract_plan.specs.shared.PlannedOrder.{IsPlannedFor, map_value_rises, order_best, order_tight}
-use Rattle.cps_network.specs.Lists.{node_at}
-use Rattle.cps_network.specs.Nodes.{node_of}
-use Rattle.cps_network.specs.Landable.{Attains}
-use Rattle.cps_network.specs.Pairs.{list_at, pair_at}
-use Rattle.makespan_labels.specs.shared.LabelPairs.{attains_free}
-use Rattle.replan.specs.Labels.{worth}
-use Rattle.replan.specs.LeastValue.{IsWorthNoMore}
-use Rattle.replan.specs.shared.LastStage.{length_mapped, rank_mapped, value_rises}
 use Rattle.replan.specs.Stages.{LandsWithPair}
+
+-- ---- no feasible list is worth less than the least last pair
+
+-- the last pair of a list that falls in cost is its cheapest
+last_cheapest : (pairs : List Pair) → Staircase pairs → (q : Pair) → InPairs q pairs → (last_pair pairs).1 ≤ q.1
+last_cheapest [] s q i = absurd i
+last_cheapest (x ∷ []) s q (inl e) = let f = ap (λ (z : Pair). z.1) e in omega arith
+last_cheapest (x ∷ []) s q (inr i) = absurd i
+last_cheapest (x ∷ (y ∷ pairs)) s q i =
+    let n : length (x ∷ (y ∷ pairs)) - 1 ≡ suc (length (y ∷ pairs) - 1) = omega arith in
+    subst (λ (m : ℕ). (pair_at (x ∷ (y ∷ pairs)) m).1 ≤ q.1) (sym n) (go (λ o j. last_cheapest (y ∷ pairs) s.1 o j) i)
+  where
+    go : ((o : Pair) → InPairs o (y ∷ pairs) → (pair_at (y ∷ pairs) (length (y ∷ pairs) - 1)).1 ≤ o.1) → InPairs q (x ∷ (y ∷ pairs)) → (pair_at (y ∷ pairs) (length (y ∷ pairs) - 1)).1 ≤ q.1
+    go rest (inl e) =
+        let a = rest y (inl refl) in
+        let b = (s.0 y (inl refl)).1 in
+        let f = ap (λ (z : Pair). z.1) e in
+        omega (arith, a, b, f)
+    go rest (inr j) = rest q j
+
+-- where no pair costs anything there is one alone
+only_pair : (pairs : List Pair) → Staircase pairs → ((q : Pair) → InPairs q pairs → q.1 ≡ 0) → (q : Pair) → InPairs q pairs → last_pair pairs ≡ q
+only_pair [] s free q i = absurd i
+only_pair (x ∷ []) s free q (inl e) = sym e
+only_pair (x ∷ []) s free q (inr i) = absurd i
+only_pair (x ∷ (y ∷ pairs)) s free q i =
+    let a = (s.0 y (inl refl)).1 in
+    let b = free x (inl refl) in
+    absurd (omega (arith, a, b))
+
+least_worth : (o : Objective) (pairs : List Pair) → Staircase pairs → (o ≡ Makespan → (q : Pair) → InPairs q pairs → q.1 ≡ 0) → (a q : Pair) → InPairs a pairs → NoWorse a q
+    → worth o (last_pair pairs) ≤ worth o q
+least_worth Makespan pairs s free a q i le =
+    let e = ap (λ (z : Pair). z.0) (only_pair pairs s (free refl) a i) in
+    let l = le.0 in
+    omega (arith, e, l)
+least_worth Delay pairs s free a q i le = le_trans (last_cheapest pairs s a i) le.1
+
+module _ (p : Problem) (is : IsPlannedFor p) (stage : ℕ × List (List ℤ)) (labels : StagePairs) (last : stage.0 ≡ length p.flights) (holds : HoldsPairs p stage labels) where
+  -- a feasible list lands in some window of the last stage, worth no less than its last pair
+  bounds : (u : Schedule) → IsFeasibleList p u
+      → (i : ℕ) × (i < length labels.lists) × (worth p.objective (last_pair (list_at labels.lists i)) ≤ worth p.objective (map_pair (cost_at p) (length p.flights) (of_rank 0 u)))
+  bounds u f =
+      let held = holds.held in
+      let x = feasible_landing_trail (ranked p) (cost_at p) (sound_ranked p is.table is.between) (of_rank 0 u) (list_feasible p u f) in
+      let at : node_of p.k (ranks x.0) ≡ (stage.0, (node_of p.k (ranks x.0)).1) = ap (λ (q : ℕ). (q, (node_of p.k (ranks x.0)).1)) (x.3 ∙ sym last) in
+      let a : Attains p stage.0 (node_of p.k (ranks x.0)).1 (map_pair (cost_at p) (length p.flights) (of_rank 0 u)) = record { landings = x.0; legal = x.1; landed = x.2; at = at; is = x.4 } in
+      let has = (held.landable (node_of p.k (ranks x.0)).1).1 (map_pair (cost_at p) (length p.flights) (of_rank 0 u), a) in
+      let it : node_at stage.1 has.0 ≡ (node_of p.k (ranks x.0)).1 = get_or_default stage.1 has.0 [] (node_of p.k (ranks x.0)).1 has.1 ∙ has.2 in
+      let are = held.costs.pairs has.0 has.1 in
+      let o = are.covers (map_pair (cost_at p) (length p.flights) (of_rank 0 u)) (subst (λ (y : List ℤ). Attains p stage.0 y (map_pair (cost_at p) (length p.flights) (of_rank 0 u))) (sym it) a) in
+      let low = least_worth p.objective (list_at labels.lists has.0) are.falling
+      (λ makespan q i. attains_free p makespan stage.0 (node_at stage.1 has.0) q ((are.undominated q).0 i).attained)
+      o.0 (map_pair (cost_at p) (length p.flights) (of_rank 0 u)) o.1 o.2 in
+      (has.0, (let b = has.1 in omega (arith, held.costs.one_each)), low)
+
+-- ---- a list of seconds from landings
+
+get_mapped : (f : ℕ → ℕ) (i n k : ℕ) → k < n → get_or (map f (numbers_from i n)) k 0 ≡ f (i + k)
+get_mapped f i zero k lt = absurd (omega arith)
+get_mapped f i (suc n) zero lt = ap f (let e : i ≡ i + 0 = omega arith in e)
+get_mapped f i (suc n) (suc k) lt = get_mapped f (suc i) n k (omega arith) ∙ ap f (let e : suc i + k ≡ i + suc k = omega arith in e)
+
+pub length_mapped : (f : ℕ → ℕ) (i n : ℕ) → length (map f (numbers_from i n)) ≡ n
+length_mapped f i zero = refl
+length_mapped f i (suc n) = ap suc (length_mapped f (suc i) n)
+
+pub rank_mapped : (f : ℕ → ℕ) (n r : ℕ) → IsRank n r → of_rank 0 (map f (numbers_from 1 n)) r ≡ f r
+rank_mapped f n zero q = absurd (let a = q.0 in omega arith)
+rank_mapped f n (suc i) q = get_mapped f 1 n i (let a = q.1 in omega arith) ∙ ap f (let e : 1 + i ≡ suc i = omega arith in e)
+
+-- ---- what is worth no more has no greater value
+
+makespan_rises : (fs : List Waiting) (p : Problem) (a b : ℕ) → a ≤ b → makespan_by fs p a ≤ makespan_by fs p b
+makespan_rises [] p a b le = omega arith
+makespan_rises (f ∷ fs) p a b le = le
+
+pub value_rises : (p : Problem) (o : Objective) (a b : Pair) → worth o a ≤ worth o b → value_by o p a ≤ value_by o p b
+value_rises p Makespan a b le = makespan_rises p.flights p a.0 b.0 le
+value_rises p Delay a b le = omega (arith, le)
+
+-- ---- the least value of the last stage
+
+module _ (p : Problem) (is : IsPlannedFor p) (stage : ℕ × List (List ℤ)) (labels : StagePairs) (last : stage.0 ≡ length p.flights) (holds : HoldsPairs p stage labels) where
+  -- without a window no list is feasible
+  pub none_feasible : length labels.lists ≡ 0 → (u : Schedule) → IsFeasibleList p u → ⊥
+  none_feasible none u f =
+      let inside = (bounds p is stage labels last holds u f).1 in
+      absurd (omega (arith, inside, none))
+
+  module _ (place : ℕ) (least : IsLeastPlace labels place) where
+    -- no feasible list is worth less than the last pair of the place whose last pair is worth least
+    pub no_more : IsWorthNoMore p (last_pair (list_at labels.lists place))
+    no_more u f =
+        let b = bounds p is stage labels last holds u f in
+        let le = b.2 in
+        let here : worth p.objective (last_pair (list_at labels.lists place)) ≤ worth p.objective (last_pair (list_at labels.lists b.0)) =
+        subst (λ (o : Objective). worth o (last_pair (list_at labels.lists place)) ≤ worth o (last_pair (list_at labels.lists b.0))) holds.objective (least.1 b.0 b.1) in
+        omega (arith, le, here)
+
+    abbrev pub least_pair : Pair
+    least_pair = last_pair (list_at labels.lists place)
+
+    module _ (some : 0 < length (list_at labels.lists place)) where
+      attained : Attains p stage.0 (node_at stage.1 place) least_pair
+      attained =
+          let here : place < length stage.1 = let l = least.0 in omega (arith, l, holds.held.costs.one_each) in
+          let has : InPairs least_pair (list_at labels.lists place) = at_in (list_at labels.lists place) (length (list_at labels.lists place) - 1) least_pair (omega (arith, some)) refl in
+          (((holds.held.costs.pairs place here).undominated least_pair).0 has).attained
+
+      best_seconds : Schedule
+      best_seconds = map (second_in attained.landings) (numbers_from 1 (length p.flights))
+
+      best_long : length best_seconds ≡ length p.flights
+      unfolding best_seconds
+      best_long = length_mapped (second_in attained.landings) 1 (length p.flights)
+
+      -- some best list has the objective of that pair
+      pub least_is_best : (t : Schedule) × IsBestList p t × (list_objective p t ≡ value_at p least_pair)
+      unfolding best_seconds
+      least_is_best =
+          let whole : length (ranks attained.landings) ≡ length p.flights = ap (λ (n : Node). n.0) attained.at ∙ last in
+          let f = landing_trail_feasible (ranked p) (cost_at p) (sound_ranked p is.table is.between) attained.landings attained.legal attained.landed whole in
+          let same : (r : ℕ) → IsRank (length p.flights) r → second_in attained.landings r ≡ of_rank 0 best_seconds r = λ r q. sym (rank_mapped (second_in attained.landings) (length p.flights) r q) in
+          let feasible : IsFeasibleList p best_seconds = feasible_list p is.passed best_seconds best_long (feasible_agree (ranked p) (second_in attained.landings) (of_rank 0 best_seconds) same f.0) in
+          let low = map_value_rises p (second_in attained.landings) (of_rank 0 best_seconds) (λ r q. let e = same r q in omega (arith, e)) in
+          let high = map_value_rises p (of_rank 0 best_seconds) (second_in attained.landings) (λ r q. let e = same r q in omega (arith, e)) in
+          let of_pair : value_of_map p (second_in attained.landings) ≡ value_at p least_pair = ap (value_at p) (sym f.1 ∙ attained.is) in
+          let of_list = list_value p best_seconds best_long in
+          let value : list_objective p best_seconds ≡ value_at p least_pair = omega (arith, low, high, of_pair, of_list) in (
+            best_seconds,
+            record {
+              feasible = feasible;
+              least = λ u g.
+                  let there = list_value p u g.one_each in
+                  let le = value_rises p p.objective least_pair (map_pair (cost_at p) (length p.flights) (of_rank 0 u)) (no_more u g) in
+                  omega (arith, value, there, le);
+            },
+            value,
+          )
 
 in_reverse : (order : List ℕ) (k d : ℕ) → k < length order → In (get_or order k d) (reverse order)
 in_reverse order k d lt =

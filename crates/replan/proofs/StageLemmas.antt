@@ -1,8 +1,8 @@
--- Stage 0 with its pair, and one stage more.
-use Rattle.std.proofs.Common.{◌≡◌, ℕ, zero, suc, ◌+◌, ◌*◌, ◌<◌, ◌≤◌, List, [], ◌∷◌, ◌++◌, length, get_or, replicate, length-append, refl, sym, ap, subst, ◌∙◌, arith, inl, inr, zero-le, Option, Some, None}
-use Rattle.std.specs.Prelude.{ℤ, pos, Contains, Bool, false, IsTrue, ◌-◌}
+-- Stage 0 with its pair, one stage more, and what is kept of the stages of a problem for another.
+use Rattle.std.proofs.Common.{◌≡◌, ℕ, zero, suc, ◌+◌, ◌*◌, ◌<◌, ◌≤◌, List, [], ◌∷◌, ◌++◌, length, get_or, replicate, length-append, refl, sym, ap, subst, ◌∙◌, arith, inl, inr, zero-le, Option, Some, None, ◌-◌, take, Bool, false}
+use Rattle.std.specs.Prelude.{ℤ, pos, Contains, IsTrue}
 use Rattle.std.proofs.lemmas.Bool.{cases_eq}
-use Rattle.std.proofs.lemmas.List.{get_or_append_left, get_or_push, get_or_default}
+use Rattle.std.proofs.lemmas.List.{get_or_append_left, get_or_push, get_or_default, get_or-take, length-take-le}
 use Rattle.std.proofs.lemmas.List.Elements.{Contains-get_or}
 use Rattle.cps_base.specs.Tally.{raised_by}
 use Rattle.cps_theory.specs.Separation.{Landing}
@@ -10,18 +10,25 @@ use Rattle.cps_theory.specs.LandingTrail.{pair_of, ranks}
 use Rattle.cps_theory.specs.Labels.{InPairs, Pair}
 use Rattle.cps_theory.specs.Network.{Undominated}
 use Rattle.landing_joint.specs.RankedProblem.{cost_at}
+use Rattle.landing_rules.specs.declared.objective.Objective.{Objective}
 use Rattle.landing_rules.specs.declared.objective.Objective.TheVariants.{Makespan}
-use Rattle.landing_rules.specs.Problem.{Problem}
-use Rattle.cps_network.specs.Due.{HasCandidates, HasCandidatesFrom}
+use Rattle.landing_rules.specs.Problem.{Problem, AreBetweenRanks}
+use Rattle.cps_network.specs.Due.{HasCandidates, HasCandidatesFrom, IsDueFrom}
 use Rattle.cps_network.specs.Landable.{Attains, IsLandable, HoldsLandable, HoldsCandidates}
-use Rattle.cps_network.specs.Lists.{IsAscending, node_at}
+use Rattle.cps_network.specs.Lists.{IsAscending, node_at, AreWindows}
 use Rattle.cps_network.specs.Nodes.{Node, node_of}
 use Rattle.cps_network.specs.Pairs.{ArePairsOf, HoldsCosts, list_at}
 use Rattle.cps_network.specs.Permits.{IsNextOf}
-use Rattle.cps_network.specs.shared.DueSteps.{more_from}
-use Rattle.cps_network.specs.shared.LegalWindows.{source_is}
+use Rattle.cps_network.specs.shared.DueSteps.{more_from, due_with_held}
+use Rattle.cps_network.specs.shared.LegalWindows.{source_is, landable_valid}
+use Rattle.replan.specs.Held.{HeldProblem, AreInCommon}
 use Rattle.replan.specs.Labels.{StagePairs, HoldsPairs}
+use Rattle.replan.specs.Readers.{IsReadable, stage_in}
 use Rattle.replan.specs.Stages.{stage_at, labels_at, HoldsStages, AreWholeWhere}
+use Rattle.cps_network.specs.KeptStages.{EarlyStagesAreKept}
+use Rattle.cps_network.specs.WindowLaws.{WindowLaws}
+use Rattle.cps_network.specs.shared.KeptCandidates.{kept_next}
+use Rattle.cps_network.specs.shared.KeptCosts.{kept_costs}
 
 -- ---- stage 0
 
@@ -71,51 +78,30 @@ start_costs p = record {
     }
     pairs (suc i) lt = absurd (omega arith)
 
--- the labels of stage 0
-abbrev pub start_pairs : Problem → StagePairs
-start_pairs p = record { objective = p.objective; lists = ((0, 0) ∷ []) ∷ [] }
-
-pub start_held : (p : Problem) (w : ℕ) (stages : List (ℕ × List (List ℤ))) (labels : List StagePairs) → w ≡ 2 * p.k + 1
-    → stages ≡ (0, replicate w (pos 0) ∷ []) ∷ [] → labels ≡ start_pairs p ∷ [] → HoldsStages p stages labels
-start_held p w stages labels odd e f =
-    let one : HoldsStages p ((0, replicate (2 * p.k + 1) (pos 0) ∷ []) ∷ []) (start_pairs p ∷ []) = record { one_each = refl; number = number; held = held } in
-    subst (λ (ls : List StagePairs). HoldsStages p stages ls) (sym f)
-    (subst (λ (ss : List (ℕ × List (List ℤ))). HoldsStages p ss (start_pairs p ∷ [])) (sym (e ∙ ap (λ (m : ℕ). (0, replicate m (pos 0) ∷ []) ∷ []) odd)) one)
-  where
-    number : (i : ℕ) → i < 1 → (stage_at ((0, replicate (2 * p.k + 1) (pos 0) ∷ []) ∷ []) i).0 ≡ i
-    number zero lt = refl
-    number (suc i) lt = absurd (omega arith)
-
-    held : (i : ℕ) → i < 1 → HoldsPairs p (stage_at ((0, replicate (2 * p.k + 1) (pos 0) ∷ []) ∷ []) i) (labels_at (start_pairs p ∷ []) i)
-    held zero lt = record { objective = refl; held = start_costs p }
-    held (suc i) lt = absurd (omega arith)
+pub begins : (p : Problem) (w : ℕ) (stage : ℕ × List (List ℤ)) (labels : StagePairs) (o : Objective) → w ≡ 2 * p.k + 1 → stage ≡ (0, replicate w (pos 0) ∷ [])
+    → labels ≡ record { objective = o; lists = ((0, 0) ∷ []) ∷ [] } → p.objective ≡ o → HoldsPairs p stage labels
+begins p w stage labels o odd e f g = rw (f, e, odd) (record { objective = sym g; held = start_costs p })
 
 -- ---- one stage more
 
 pub more_held : (p : Problem) (stages after : List (ℕ × List (List ℤ))) (labels more : List StagePairs) (stage : ℕ × List (List ℤ)) (last : StagePairs)
     → HoldsStages p stages labels → after ≡ stages ++ stage ∷ [] → more ≡ labels ++ last ∷ [] → stage.0 ≡ length stages → HoldsPairs p stage last → HoldsStages p after more
-more_held p stages after labels more stage last is e f number held =
-    subst (λ (ls : List StagePairs). HoldsStages p after ls) (sym f) (subst (λ (ss : List (ℕ × List (List ℤ))). HoldsStages p ss (labels ++ last ∷ [])) (sym e) (record {
-      one_each = omega (arith, length-append stages (stage ∷ []), length-append labels (last ∷ []), is.one_each);
-      number = λ i lt. elim (cases_eq i (length stages)) [
-        | inl same ↦ ap (λ (s : ℕ × List (List ℤ)). s.0) (get_or_push stages stage (0, []) i (sym same)) ∙ number ∙ sym same
-        | inr old ↦
-            let below : i < length stages = omega (arith, old, lt, length-append stages (stage ∷ [])) in
-            ap (λ (s : ℕ × List (List ℤ)). s.0) (get_or_append_left stages (stage ∷ []) (0, []) i below) ∙ is.number i below
-      ];
-      held = λ i lt. elim (cases_eq i (length stages)) [
-        | inl same ↦
-            subst (λ (s : ℕ × List (List ℤ)). HoldsPairs p s (labels_at (labels ++ last ∷ []) i)) (sym (get_or_push stages stage (0, []) i (sym same)))
-            (subst (λ (ls : StagePairs). HoldsPairs p stage ls) (sym (get_or_push labels last no_pairs i (is.one_each ∙ sym same))) held)
-        | inr old ↦
-            let below : i < length stages = omega (arith, old, lt, length-append stages (stage ∷ [])) in
-            subst (λ (s : ℕ × List (List ℤ)). HoldsPairs p s (labels_at (labels ++ last ∷ []) i)) (sym (get_or_append_left stages (stage ∷ []) (0, []) i below))
-            (subst (λ (ls : StagePairs). HoldsPairs p (stage_at stages i) ls) (sym (get_or_append_left labels (last ∷ []) no_pairs i (omega (arith, below, is.one_each)))) (is.held i below))
-      ];
-    }))
+more_held p stages after labels more stage last is e f number held = rw (e, f) (record {
+  one_each = omega (arith, length-append stages (stage ∷ []), length-append labels (last ∷ []), is.one_each);
+  number = λ i lt. elim (cases_eq i (length stages)) [
+    | inl same ↦ rw (get_or_push stages stage (0, []) i (sym same)) (number ∙ sym same)
+    | inr old ↦ let below : i < length stages = omega (arith, old, lt, length-append stages (stage ∷ [])) in rw (get_or_append_left stages (stage ∷ []) (0, []) i below) (is.number i below)
+  ];
+  held = λ i lt. elim (cases_eq i (length stages)) [
+    | inl same ↦ rw (get_or_push stages stage (0, []) i (sym same), get_or_push labels last no_pairs i (is.one_each ∙ sym same)) held
+    | inr old ↦
+        let below : i < length stages = omega (arith, old, lt, length-append stages (stage ∷ [])) in
+        rw (get_or_append_left stages (stage ∷ []) (0, []) i below, get_or_append_left labels (last ∷ []) no_pairs i (omega (arith, below, is.one_each))) (is.held i below)
+  ];
+})
 
 pub has_candidates : (p : Problem) (before after : ℕ × List (List ℤ)) (m : ℕ) → before.0 ≡ m → HoldsLandable p before → HoldsCandidates p before after → IsAscending after.1 → HasCandidates p m (length after.1)
-has_candidates p before after m e h each up = subst (λ (q : ℕ). HasCandidates p q (length after.1)) e (record { candidates = after.1; ascending = up; each = each h; counted = refl })
+has_candidates p before after m e h each up = rw (← e) (record { candidates = after.1; ascending = up; each = each h; counted = refl })
 
 -- ---- steps
 
@@ -137,16 +123,17 @@ due_more first p i o r s le some (due, from, e) (count, has, f) =
 
 pub held_at : (p : Problem) (stages : List (ℕ × List (List ℤ))) (labels : List StagePairs) → HoldsStages p stages labels → (i : ℕ) (x : ℕ × List (List ℤ)) (y : StagePairs)
     → x ≡ stage_at stages i → y ≡ labels_at labels i → i < length stages → HoldsPairs p x y × (x.0 ≡ i)
-held_at p stages labels is i x y e f lt = (
-  subst (λ (s : ℕ × List (List ℤ)). HoldsPairs p s y) (sym e) (subst (λ (ls : StagePairs). HoldsPairs p (stage_at stages i) ls) (sym f) (is.held i lt)),
-  ap (λ (s : ℕ × List (List ℤ)). s.0) e ∙ is.number i lt,
-)
+held_at p stages labels is i x y e f lt = (rw (e, f) (is.held i lt), rw e (is.number i lt))
 
 pub read_stage : (stages : List (ℕ × List (List ℤ))) (i : ℕ) (x : ℕ × List (List ℤ)) → x ≡ get_or stages i x → i < length stages → x ≡ stage_at stages i
 read_stage stages i x e lt = e ∙ get_or_default stages i x (0, []) lt
 
 pub read_labels : (labels : List StagePairs) (i : ℕ) (y : StagePairs) → y ≡ get_or labels i y → i < length labels → y ≡ labels_at labels i
 read_labels labels i y e lt = e ∙ get_or_default labels i y no_pairs lt
+
+pub read_held : (held : Option HeldProblem) (h : HeldProblem) (stages : List (ℕ × List (List ℤ))) (i : ℕ) (x : ℕ × List (List ℤ)) → held ≡ Some h → h.stages ≡ stages → x ≡ get_or stages i x
+    → IsReadable held i → x ≡ stage_in held i
+read_held held h stages i x e f at (some, most) = let low : i ≤ length stages - 1 = rw (e, f) at most in rw (e, f) (read_stage stages i x at (omega (arith, some, low)))
 
 -- each kept list has a pair
 pub list_some : (p : Problem) (stage : ℕ × List (List ℤ)) (lists : List (List Pair)) → HoldsCosts p stage lists → (i : ℕ) → i < length stage.1 → 0 < length (list_at lists i)
@@ -171,7 +158,7 @@ pub last_read : (p : Problem) (stages : List (ℕ × List (List ℤ))) (labels :
 last_read p stages labels holds whole n last same e =
     let lt : length p.flights < length stages = omega (arith, whole) in
     let is : last ≡ labels_at labels (length p.flights) = read_labels labels n last e (omega (arith, lt, same, holds.one_each)) ∙ ap (labels_at labels) same in
-    let held = subst (HoldsPairs p (stage_at stages (length p.flights))) (sym is) (holds.held (length p.flights) lt) in
+    let held : HoldsPairs p (stage_at stages (length p.flights)) last = rw is (holds.held (length p.flights) lt) in
     record {
       is = is;
       number = holds.number (length p.flights) lt;
@@ -185,40 +172,74 @@ last_read p stages labels holds whole n last same e =
 pub whole_at : (p : Problem) (stages : List (ℕ × List (List ℤ))) (said : List Bool) (i last : ℕ) (earlier before : ℕ × List (List ℤ)) → AreWholeWhere p stages said → ((j : ℕ) → j < length stages → (stage_at stages j).0 ≡ j)
     → last < length stages → i ≡ last - 1 → earlier ≡ stage_at stages i → before ≡ stage_at stages last → IsTrue (get_or said last false) → earlier.0 < before.0 → IsNextOf p earlier.0 earlier.1 before.1
 whole_at p stages said i last earlier before is numbers n back e f whole lt =
-    let here : before.0 ≡ last = ap (λ (s : ℕ × List (List ℤ)). s.0) f ∙ numbers last n in
-    let there : earlier.0 ≡ i = ap (λ (s : ℕ × List (List ℤ)). s.0) e ∙ numbers i (omega (arith, n, back)) in
-    let one : IsNextOf p i (stage_at stages i).1 (stage_at stages last).1 =
-    subst (λ (q : ℕ). IsNextOf p q (stage_at stages q).1 (stage_at stages last).1) (sym back) (is.each last (omega (arith, lt, here)) n whole) in
-    let two : IsNextOf p i earlier.1 before.1 =
-    subst (λ (x : ℕ × List (List ℤ)). IsNextOf p i earlier.1 x.1) (sym f) (subst (λ (x : ℕ × List (List ℤ)). IsNextOf p i x.1 (stage_at stages last).1) (sym e) one) in
-    subst (λ (q : ℕ). IsNextOf p q earlier.1 before.1) (sym there) two
+    let here : before.0 ≡ last = rw f (numbers last n) in
+    let there : earlier.0 ≡ i = rw e (numbers i (omega (arith, n, back))) in
+    rw (there, e, f, back) (is.each last (omega (arith, lt, here)) n whole)
 
 -- one stage more, and what is said of it
 pub whole_more : (p : Problem) (stages after : List (ℕ × List (List ℤ))) (whole more : List Bool) (before was stage : ℕ × List (List ℤ)) (said : Bool) → AreWholeWhere p stages whole → ((j : ℕ) → j < length stages → (stage_at stages j).0 ≡ j)
     → after ≡ stages ++ stage ∷ [] → more ≡ whole ++ said ∷ [] → (last : ℕ) → last + 1 ≡ length stages → before ≡ stage_at stages last → (IsTrue said → stage.1 ≡ was.1) → IsNextOf p before.0 before.1 was.1 → AreWholeWhere p after more
-whole_more p stages after whole more before was stage said holds numbers e f last n at kept is =
-    subst (λ (bs : List Bool). AreWholeWhere p after bs) (sym f) (subst (λ (ss : List (ℕ × List (List ℤ))). AreWholeWhere p ss (whole ++ said ∷ [])) (sym e) (record {
-      one_each = omega (arith, length-append stages (stage ∷ []), length-append whole (said ∷ []), holds.one_each);
-      each = λ i some lt true_there. elim (cases_eq i (length stages)) [
-        | inl same ↦ new i same (subst IsTrue (get_or_push whole said false i (holds.one_each ∙ sym same)) true_there)
-        | inr old ↦ earlier i some (omega (arith, old, lt, length-append stages (stage ∷ []))) true_there
-      ];
-    }))
-  where
-    new : (i : ℕ) → i ≡ length stages → IsTrue said → IsNextOf p (i - 1) (stage_at (stages ++ stage ∷ []) (i - 1)).1 (stage_at (stages ++ stage ∷ []) i).1
-    new i same whole_there =
+whole_more p stages after whole more before was stage said holds numbers e f last n at kept is = rw (f, e) (record {
+  one_each = omega (arith, length-append stages (stage ∷ []), length-append whole (said ∷ []), holds.one_each);
+  each = λ i some lt true_there. elim (cases_eq i (length stages)) [
+    | inl same ↦
         let back : i - 1 ≡ last = omega (arith, same, n) in
-        let below : i - 1 < length stages = omega (arith, back, n) in
-        let front : stage_at (stages ++ stage ∷ []) (i - 1) ≡ before = get_or_append_left stages (stage ∷ []) (0, []) (i - 1) below ∙ ap (stage_at stages) back ∙ sym at in
-        let end : stage_at (stages ++ stage ∷ []) i ≡ stage = get_or_push stages stage (0, []) i (sym same) in
-        let number : before.0 ≡ i - 1 = ap (λ (s : ℕ × List (List ℤ)). s.0) at ∙ numbers last (omega (arith, n)) ∙ sym back in
-        let one : IsNextOf p (i - 1) before.1 stage.1 =
-        subst (λ (q : ℕ). IsNextOf p q before.1 stage.1) number (subst (λ (ws : List (List ℤ)). IsNextOf p before.0 before.1 ws) (sym (kept whole_there)) is) in
-        subst (λ (x : ℕ × List (List ℤ)). IsNextOf p (i - 1) (stage_at (stages ++ stage ∷ []) (i - 1)).1 x.1) (sym end)
-        (subst (λ (x : ℕ × List (List ℤ)). IsNextOf p (i - 1) x.1 stage.1) (sym front) one)
+        let number : before.0 ≡ last = rw at (numbers last (omega (arith, n))) in
+        let was_kept = kept (rw (get_or_push whole said false i (holds.one_each ∙ sym same)) at true_there) in
+        rw (get_or_push stages stage (0, []) i (sym same), get_or_append_left stages (stage ∷ []) (0, []) (i - 1) (omega (arith, back, n)), back, ← at, was_kept) (rw number at is)
+    | inr old ↦
+        let below : i < length stages = omega (arith, old, lt, length-append stages (stage ∷ [])) in
+        rw (get_or_append_left stages (stage ∷ []) (0, []) i below, get_or_append_left stages (stage ∷ []) (0, []) (i - 1) (omega (arith, below)))
+        (holds.each i some below (rw (get_or_append_left whole (said ∷ []) false i (omega (arith, below, holds.one_each))) at true_there))
+  ];
+})
 
-    earlier : (i : ℕ) → 0 < i → i < length stages → IsTrue (get_or (whole ++ said ∷ []) i false) → IsNextOf p (i - 1) (stage_at (stages ++ stage ∷ []) (i - 1)).1 (stage_at (stages ++ stage ∷ []) i).1
-    earlier i some lt true_there =
-        let old : IsTrue (get_or whole i false) = subst IsTrue (get_or_append_left whole (said ∷ []) false i (omega (arith, lt, holds.one_each))) true_there in
-        subst (λ (x : ℕ × List (List ℤ)). IsNextOf p (i - 1) (stage_at (stages ++ stage ∷ []) (i - 1)).1 x.1) (sym (get_or_append_left stages (stage ∷ []) (0, []) i lt))
-        (subst (λ (x : ℕ × List (List ℤ)). IsNextOf p (i - 1) x.1 (stage_at stages i).1) (sym (get_or_append_left stages (stage ∷ []) (0, []) (i - 1) (omega (arith, lt)))) (holds.each i some lt old))
+module _ (p q : Problem) (stages : List (ℕ × List (List ℤ))) (labels : List StagePairs) (count : ℕ) (holds : HoldsStages p stages labels) (early : EarlyStagesAreKept p q) (common : AreInCommon p q count) (more : 1 < count) (within : count ≤ length stages) where
+  long : length (take count stages) ≡ count
+  long = length-take-le count stages within
+
+  pub held_in_common : HoldsStages q (take count stages) (take count labels)
+  held_in_common = record {
+    one_each = length-take-le count labels (let a = holds.one_each in omega (arith, a, within)) ∙ sym long;
+    number = λ i lt. let here : i < count = omega (arith, lt, long) in rw (get_or-take count stages i (0, []) here) (holds.number i (omega (arith, here, within)));
+    held = λ i lt.
+        let at : i < count = omega (arith, lt, long) in
+        let here : i < length stages = omega (arith, at, within) in
+        let is = common.1 in
+        let e = common.2 in
+        let agree = is.agree (omega (arith, e, more)) in
+        let same = agree.head.k in
+        let kept = early common.0 is.within agree (stage_at stages i).0 (let n = holds.number i here in omega (arith, n, e, at, same)) in
+        rw (get_or-take count stages i (0, []) at, get_or-take count labels i no_pairs at) (record { objective = (holds.held i here).objective ∙ agree.head.objective; held = kept_costs p q (stage_at stages i) _ kept (holds.held i here).held });
+  }
+
+-- and what is said of them still holds
+module _ (p q : Problem) (w : ℕ) (odd : w ≡ 2 * p.k + 1) (laws : WindowLaws p w) (bp : AreBetweenRanks (length p.flights) p.pairs) (bq : AreBetweenRanks (length q.flights) q.pairs) (stages : List (ℕ × List (List ℤ))) (labels : List StagePairs) (said : List Bool) (count : ℕ) (holds : HoldsStages p stages labels) (whole : AreWholeWhere p stages said) (common : AreInCommon p q count) (more : 1 < count) (within : count ≤ length stages) where
+  valid : (i : ℕ) → i < length stages → AreWindows w (stage_at stages i).1
+  valid i lt j inside = landable_valid p w odd laws (stage_at stages i).0 (node_at (stage_at stages i).1 j) (((holds.held i lt).held.landable (node_at (stage_at stages i).1 j)).0 (Contains-get_or (stage_at stages i).1 j [] inside))
+
+  pub whole_in_common : AreWholeWhere q (take count stages) (take count said)
+  whole_in_common = record {
+    one_each = length-take-le count said (let a = whole.one_each in omega (arith, a, within)) ∙ sym (length-take-le count stages within);
+    each = λ i some lt true_there.
+        let here : i < count = omega (arith, lt, length-take-le count stages within) in
+        let is = common.1 in
+        let e = common.2 in
+        let agree = is.agree (omega (arith, e, more)) in
+        let same = agree.head.k in
+        rw (get_or-take count stages i (0, []) here, get_or-take count stages (i - 1) (0, []) (omega (arith, here))) (
+        kept_next p q common.0 is.within agree bp bq w odd (i - 1) (stage_at stages (i - 1)).1 (stage_at stages i).1 (omega (arith, e, here, some, same)) (valid (i - 1) (omega (arith, here, within)))
+        (whole.each i some (omega (arith, here, within)) (rw (get_or-take count said i false here) at true_there)));
+  }
+
+-- they are no more than are held
+pub few_in_common : (p q : Problem) (count : ℕ) (stages : List (ℕ × List (List ℤ))) → AreInCommon p q count → length stages ≡ length p.flights + 1 → count ≤ length stages
+few_in_common p q count stages (d, is, e) whole = let a = is.within.0 in omega (arith, a, e, whole)
+
+-- nor more than the other problem has
+pub fits_in_common : (p q : Problem) (count : ℕ) → AreInCommon p q count → count ≤ length q.flights + 1
+fits_in_common p q count (d, is, e) = let a = is.within.1 in omega (arith, a, e)
+
+-- what is due are the stages that follow
+pub due_after_common : (p q : Problem) (count first : ℕ) → AreInCommon p q count → count ≤ first → (1 < first → first ≤ count) → IsDueFrom (Some p) q first
+due_after_common p q count first (d, is, e) low high = due_with_held p q d first is (omega arith) (λ more. let a = high more in omega arith)

@@ -96,20 +96,9 @@ pub back_pair : (p : Problem) → IsWindowNetwork p → (stages : List (ℕ × L
     → Traced p stages labels stage place index order end → Traced p stages labels s j k (set order s r) end
 back_pair p net stages labels stage s place index j k r end order before lists v q eb el number next ev eq source rank_is lt rest =
     let es : stage ≡ suc before.0 = next ∙ ap suc (sym number) in
-    let a : CompletesWith p (suc before.0) v q (reverse (drop (suc s) order)) end =
-    subst (λ (n : ℕ). CompletesWith p n v q (reverse (drop (suc s) order)) end) es
-    (subst (λ (z : List ℤ). CompletesWith p stage z q (reverse (drop (suc s) order)) end) (sym ev)
-    (subst (λ (o : Pair). CompletesWith p stage (node_at (stage_at stages stage).1 place) o (reverse (drop (suc s) order)) end) (sym eq)
-    (subst (λ (n : ℕ). CompletesWith p stage (node_at (stage_at stages stage).1 place) (pair_in labels stage place index) (reverse (drop n order)) end) next rest))) in
-    let b : CompletesWith p before.0 (node_at before.1 j) (pair_at (list_at lists j) k) (reverse (drop (suc s) order) ++ source.rank ∷ []) end =
-    completes_pair_more p net before lists v q j k end (reverse (drop (suc s) order)) source a in
-    let c : CompletesWith p before.0 (node_at before.1 j) (pair_at (list_at lists j) k) (reverse (drop s (set order s r))) end =
-    subst (λ (l : List ℕ). CompletesWith p before.0 (node_at before.1 j) (pair_at (list_at lists j) k) l end)
-    (ap (λ (x : ℕ). reverse (drop (suc s) order) ++ x ∷ []) rank_is ∙ written order s r lt) b in
-    let d : CompletesWith p s (node_at before.1 j) (pair_at (list_at lists j) k) (reverse (drop s (set order s r))) end =
-    subst (λ (n : ℕ). CompletesWith p n (node_at before.1 j) (pair_at (list_at lists j) k) (reverse (drop s (set order s r))) end) number c in
-    subst (λ (ls : List (List Pair)). CompletesWith p s (node_at (stage_at stages s).1 j) (pair_at (list_at ls j) k) (reverse (drop s (set order s r))) end) el
-    (subst (λ (z : ℕ × List (List ℤ)). CompletesWith p s (node_at z.1 j) (pair_at (list_at lists j) k) (reverse (drop s (set order s r))) end) eb d)
+    let a : CompletesWith p (suc before.0) v q (reverse (drop (suc s) order)) end = rw (ev, eq, ← es, ← next) rest in
+    let b = completes_pair_more p net before lists v q j k end (reverse (drop (suc s) order)) source a in
+    rw (← written order s r lt, ← rank_is, ← eb, ← el) (rw number at b)
 
 -- ---- what one step back reads
 
@@ -125,7 +114,6 @@ pub record StepReads (p : Problem) (stages : List (ℕ × List (List ℤ))) (lab
   pub next : after.0 ≡ suc before.0
   pub one_back : stage ≡ suc (stage - 1)
   pub within : place < length after.1
-  pub place_listed : place < length more.lists
   pub listed : index < length (list_at more.lists place)
 
 pub step_reads : (p : Problem) (stages : List (ℕ × List (List ℤ))) (labels : List StagePairs) → HoldsStages p stages labels → length stages ≡ length p.flights + 1
@@ -144,7 +132,6 @@ step_reads p stages labels holds whole stage place index before from after more 
     let number = held.1 in
     let number' = above.1 in
     let one_back : stage ≡ suc (stage - 1) = omega (arith, some) in
-    let within : place < length after.1 = subst (λ (s : ℕ × List (List ℤ)). place < length s.1) (sym after_is) lt in
     record {
       before_is = before_is;
       from_is = ap (λ (x : StagePairs). x.lists) from_is;
@@ -155,9 +142,8 @@ step_reads p stages labels holds whole stage place index before from after more 
       number = number;
       next = omega (arith, number, number', one_back);
       one_back = one_back;
-      within = within;
-      place_listed = omega (arith, within, above.0.held.costs.one_each);
-      listed = subst (λ (x : StagePairs). index < length (list_at x.lists place)) (sym more_is) listed;
+      within = rw after_is lt;
+      listed = rw more_is listed;
     }
 
 -- a listed pair is undominated
@@ -168,7 +154,7 @@ listed_undominated p before after more v q place index above number lt at listed
     let has : InPairs q (list_at more place) = at_in (list_at more place) index q listed (sym is) in
     let u : Undominated (Attains p after.0 (node_at after.1 place)) q = ((above.costs.pairs place lt).undominated q).0 has in
     let n : after.0 ≡ before.0 + 1 = omega (arith, number) in
-    subst (λ (m : ℕ). Undominated (Attains p m v) q) n (subst (λ (z : List ℤ). Undominated (Attains p after.0 z) q) (sym at) u)
+    rw (← n, at) u
 
 pub last_given : (p : Problem) (w : ℕ) → w ≡ 2 * p.k + 1 → WindowLaws p w → (before : ℕ × List (List ℤ)) (lists : List (List Pair)) (v : List ℤ) (q : Pair) (j k : ℕ) → HoldsCosts p before lists
     → (source : GivesPair p before lists v q j k) → (pos (suc before.0) +ℤ offset_at v (w - 1) ≡ pos source.rank) × (source.rank ≤ length p.flights)
@@ -182,16 +168,15 @@ pub trace_end : (p : Problem) (stages : List (ℕ × List (List ℤ))) (labels :
     → place < length (stage_at stages stage).1 → index < length (list_at (lists_at labels stage) place)
     → Traced p stages labels stage place index order end → LandsWithPair p order end
 trace_end p stages labels held stage place index end order none some lt listed rest =
-    let lt' : place < length (stage_at stages 0).1 = subst (λ (n : ℕ). place < length (stage_at stages n).1) none lt in
-    let listed' : index < length (list_at (lists_at labels 0) place) = subst (λ (n : ℕ). index < length (list_at (lists_at labels n) place)) none listed in
-    let rest' : CompletesWith p 0 (node_at (stage_at stages 0).1 place) (pair_in labels 0 place index) (reverse order) end = subst (λ (n : ℕ). Traced p stages labels n place index order end) none rest in
+    let lt' : place < length (stage_at stages 0).1 = rw none at lt in
+    let listed' : index < length (list_at (lists_at labels 0) place) = rw none at listed in
+    let rest' : Traced p stages labels 0 place index order end = rw none at rest in
     let h = (held.held 0 some).held in
     let number : (stage_at stages 0).0 ≡ 0 = held.number 0 some in
-    let l : IsLandable p 0 (node_at (stage_at stages 0).1 place) =
-    subst (λ (n : ℕ). IsLandable p n (node_at (stage_at stages 0).1 place)) number ((h.landable (node_at (stage_at stages 0).1 place)).0 (Contains-get_or (stage_at stages 0).1 place [] lt')) in
+    let l : IsLandable p 0 (node_at (stage_at stages 0).1 place) = rw number at ((h.landable (node_at (stage_at stages 0).1 place)).0 (Contains-get_or (stage_at stages 0).1 place [] lt')) in
     let at = start_only p (node_at (stage_at stages 0).1 place) l in
     let u = ((h.costs.pairs place lt').undominated (pair_in labels 0 place index)).0 (at_in (list_at (lists_at labels 0) place) index (pair_in labels 0 place index) listed' refl) in
-    let a : Attains p 0 (node_at (stage_at stages 0).1 place) (pair_in labels 0 place index) = subst (λ (n : ℕ). Attains p n (node_at (stage_at stages 0).1 place) (pair_in labels 0 place index)) number u.attained in
+    let a : Attains p 0 (node_at (stage_at stages 0).1 place) (pair_in labels 0 place index) = rw number at u.attained in
     completes_pair_all p (node_at (stage_at stages 0).1 place) order (pair_in labels 0 place index) end at (start_pair p (node_at (stage_at stages 0).1 place) (pair_in labels 0 place index) a) rest'
 
 -- before the first step back
@@ -200,11 +185,4 @@ pub trace_begins : (p : Problem) (stages : List (ℕ × List (List ℤ))) (label
     → (stage ≤ length p.flights) × (length order ≡ n) × (place < length (stage_at stages stage).1) × (index < length (list_at (lists_at labels stage) place))
     × Traced p stages labels stage place index order (last_pair (list_at (lists_at labels n) place))
 trace_begins p stages labels n stage place index order same few room within listed last =
-    let none : drop n order ≡ [] = drop_all n order (omega (arith, room)) in
-    let start : CompletesWith p n (node_at (stage_at stages n).1 place) (pair_in labels n place index) (reverse (drop n order)) (pair_in labels n place index) =
-    subst (λ (l : List ℕ). CompletesWith p n (node_at (stage_at stages n).1 place) (pair_in labels n place index) (reverse l) (pair_in labels n place index)) (sym none)
-    (completes_pair_start p n (node_at (stage_at stages n).1 place) (pair_in labels n place index)) in
-    let end : Traced p stages labels n place index order (last_pair (list_at (lists_at labels n) place)) =
-    subst (λ (i : ℕ). CompletesWith p n (node_at (stage_at stages n).1 place) (pair_in labels n place index) (reverse (drop n order)) (pair_in labels n place i)) last start in
-    subst (λ (s : ℕ). (s ≤ length p.flights) × (length order ≡ n) × (place < length (stage_at stages s).1) × (index < length (list_at (lists_at labels s) place)) × Traced p stages labels s place index order (last_pair (list_at (lists_at labels n) place)))
-    (sym same) (few, room, within, listed, end)
+    rw same (few, room, within, listed, rw (drop_all n order (omega (arith, room)), last) (completes_pair_start p n (node_at (stage_at stages n).1 place) (last_pair (list_at (lists_at labels n) place))))

@@ -1,9 +1,7 @@
 -- The definitions of this crate.
 pub mod Labels
-pub mod LabelsOf
 pub mod Stages
 pub mod Held
 pub mod Kept
 pub mod Readers
 pub mod LeastValue
-pub mod shared

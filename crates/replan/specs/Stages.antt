@@ -10,6 +10,7 @@ use Rattle.cps_theory.specs.ProblemNetwork.{LandedIn}
 use Rattle.landing_joint.specs.RankedProblem.{ranked, cost_at}
 use Rattle.cps_network.specs.Permits.{IsNextOf}
 use Rattle.replan.specs.Labels.{StagePairs, HoldsPairs}
+use Rattle.replan.specs.declared.stages.Stages.{Stages}
 
 abbrev pub stage_at : List (ℕ × List (List ℤ)) → ℕ → ℕ × List (List ℤ)
 stage_at stages i = slice_index_or stages i (0, [])
@@ -31,6 +32,10 @@ pub record HoldsStages (p : Problem) (stages : List (ℕ × List (List ℤ))) (l
 pub record AreWholeWhere (p : Problem) (stages : List (ℕ × List (List ℤ))) (said : List Bool) : Type 0 where
   pub one_each : length said ≡ length stages
   pub each : (i : ℕ) → 0 < i → i < length stages → IsTrue (slice_index_or said i false) → IsNextOf p (i - 1) (stage_at stages (i - 1)).1 (stage_at stages i).1
+
+-- stages of a problem as they are kept, and what is said of them
+abbrev pub AreStages : {W : ℕ} → Problem → Stages W → Type 0
+AreStages p kept = HoldsStages p kept.stages.items kept.labels.items × AreWholeWhere p kept.stages.items kept.whole.items
 
 -- the order is legal, and its flights can be given seconds that are open and late enough one after another, the last of them
 -- and what they cost together this pair

@@ -3,7 +3,7 @@
 ghost use Rattle.std.specs.Prelude.{◌≡◌, ℕ, ◌+◌, ◌-◌, ◌*◌, ◌<◌, ◌≤◌, length, vec_len, IfOk};
 ghost use Rattle.cps_network.specs.Due.{IsDueFrom};
 ghost use Rattle.replan.specs.Held.{AreInCommon, problem_of};
-ghost use Rattle.replan.specs.Stages.{HoldsStages, AreWholeWhere};
+ghost use Rattle.replan.specs.Stages.{AreStages};
 
 use crate::stages::{Stages, first_stage};
 use cps_network::{kept_stages, prefix_laws};
@@ -52,8 +52,7 @@ impl<const W: usize> HeldProblem<W> {
     fn into_common(self, problem: &Problem, count: usize) -> Stages<W>
         requires more { 1 < count }
         requires common { AreInCommon self.problem problem.now count }
-        ensures held { HoldsStages problem.now result.stages.items result.labels.items }
-        ensures whole { AreWholeWhere problem.now result.stages.items result.whole.items }
+        ensures held { AreStages problem.now result }
         ensures count { vec_len result.stages ≡ count }
     {
         let _held_ranks = self.problem.head();
@@ -62,7 +61,9 @@ impl<const W: usize> HeldProblem<W> {
         prefix_laws::<W>(&self.problem);
         window_laws::<W>();
         let mut stages = self.stages;
-        stages.truncate(count);
+        stages.stages.truncate(count);
+        stages.labels.truncate(count);
+        stages.whole.truncate(count);
         stages
     }
 }
@@ -74,10 +75,7 @@ pub(crate) fn begin_stages<const W: usize>(
     held: Option<HeldProblem<W>>,
 ) -> Result<Stages<W>, AllocError>
     requires width { W ≡ 2 * problem.now.k + 1 }
-    ensures held { IfOk result (λ kept. HoldsStages problem.now kept.stages.items
-        kept.labels.items) }
-    ensures whole { IfOk result (λ kept. AreWholeWhere problem.now kept.stages.items
-        kept.whole.items) }
+    ensures held { IfOk result (AreStages problem.now) }
     ensures some { IfOk result (λ kept. 0 < vec_len kept.stages) }
     ensures few { IfOk result (λ kept. vec_len kept.stages ≤ length problem.now.flights + 1) }
     ensures due { IfOk result (λ kept. IsDueFrom (problem_of held.entry) problem.now

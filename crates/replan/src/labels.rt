@@ -2,15 +2,13 @@
 
 ghost use Rattle.std.specs.Prelude.{◌≡◌, ℕ, ◌+◌, ◌*◌, ◌<◌, ◌≤◌, List, [], ◌∷◌, length, IfOk, OnOk};
 ghost use Rattle.cps_base.specs.Tally.{raised_by};
-ghost use Rattle.cps_nodes.specs.Windows.{IsWidth};
 ghost use Rattle.cps_theory.specs.Network.{Undominated};
-ghost use Rattle.landing_rules.specs.Problem.{Problem};
 ghost use Rattle.landing_rules.specs.Rules.{last_second};
-ghost use Rattle.cps_network.specs.Landable.{Attains, HasEachLandable};
+ghost use Rattle.cps_network.specs.Landable.{Attains};
 ghost use Rattle.cps_network.specs.Pairs.{GivesPair, list_at, pair_at};
 ghost use Rattle.cps_network.specs.Permits.{IsNextOf};
 ghost use Rattle.makespan_labels.specs.Labels.{no_label};
-ghost use Rattle.replan.specs.Labels.{ArePairs, HoldsPairs, last_pair, worth};
+ghost use Rattle.replan.specs.Labels.{AreLandableOf, HoldsPairs, last_pair, worth};
 
 use cps_base::{Ledger, Steps};
 use cps_network::{Stage, prefix_laws};
@@ -40,8 +38,7 @@ pub(crate) struct Labels {
 }
 
 impl Model for Labels {
-    ghost use Rattle.replan.specs.Labels.{StagePairs};
-    ghost use Rattle.replan.specs.LabelsOf.{pairs_of};
+    ghost use Rattle.replan.specs.Labels.{StagePairs, pairs_of};
 
     ghost Value = { StagePairs };
 
@@ -117,37 +114,40 @@ impl Labels {
         }
     }
 
-    // The labels of the stage that follows, from those of this one. It ticks once a window.
+    // The labels of the stage that follows, from those of this one, and of its windows only the landable ones. It ticks once
+    // a candidate.
     pub(crate) fn next<const W: usize, R: Threads, G: Gate, L: Ledger>(
         &self,
         rt: &R,
         alloc: Global,
         problem: &Problem,
         before: &Stage<W>,
-        stage: &Stage<W>,
+        stage: &mut Stage<W>,
         gate: &G,
         steps: &mut Steps<L>,
     ) -> Result<Labels, AllocError>
         requires width { W ≡ 2 * problem.now.k + 1 }
         requires before { HoldsPairs problem.now before.now self.now }
-        requires number { stage.now.0 ≡ before.now.0 + 1 }
-        requires next { IsNextOf problem.now before.now.0 before.now.1 stage.now.1 }
-        ensures pairs { IfOk result (λ labels. ArePairs problem.now stage.now labels) }
-        ensures landable { OnOk result (HasEachLandable problem.now stage.now) }
-        ensures steps { OnOk result (L.count steps.new ≡ raised_by (length stage.now.1)
+        requires number { stage.old.0 ≡ before.now.0 + 1 }
+        requires next { IsNextOf problem.now before.now.0 before.now.1 stage.old.1 }
+        ensures left { IfOk result (AreLandableOf problem.now stage.old stage.new) }
+        ensures steps { OnOk result (L.count steps.new ≡ raised_by (length stage.old.1)
             (L.count steps.old)) }
     {
+        let _near = problem.head();
         match &self.kept {
             ByObjective::OfColumn(labels) => {
                 let mut column = Column::new(alloc);
                 column.reserve(stage.len())?;
                 fill(rt, problem, before, labels, stage, &mut column, gate, steps);
+                column.keep_landable(stage);
                 Ok(Labels {
                     kept: ByObjective::OfColumn(column),
                 })
             }
             ByObjective::OfCosts(labels) => {
-                let costs = fill_costs(rt, alloc, problem, before, labels, stage, gate, steps)?;
+                let mut costs = fill_costs(rt, alloc, problem, before, labels, stage, gate, steps)?;
+                costs.keep_landable(stage);
                 Ok(Labels {
                     kept: ByObjective::OfCosts(costs),
                 })
@@ -161,49 +161,32 @@ impl Labels {
         alloc: Global,
         problem: &Problem,
         before: &Stage<W>,
-        stage: &Stage<W>,
+        stage: &mut Stage<W>,
     ) -> Result<Labels, AllocError>
         requires width { W ≡ 2 * problem.now.k + 1 }
         requires before { HoldsPairs problem.now before.now self.now }
-        requires number { stage.now.0 ≡ before.now.0 + 1 }
-        requires next { IsNextOf problem.now before.now.0 before.now.1 stage.now.1 }
-        ensures pairs { IfOk result (λ labels. ArePairs problem.now stage.now labels) }
-        ensures landable { OnOk result (HasEachLandable problem.now stage.now) }
+        requires number { stage.old.0 ≡ before.now.0 + 1 }
+        requires next { IsNextOf problem.now before.now.0 before.now.1 stage.old.1 }
+        ensures { IfOk result (AreLandableOf problem.now stage.old stage.new) }
     {
+        let _near = problem.head();
         match &self.kept {
             ByObjective::OfColumn(labels) => {
                 let mut column = Column::new(alloc);
                 column.reserve(stage.len())?;
                 fill_alone(problem, before, labels, stage, &mut column);
+                column.keep_landable(stage);
                 Ok(Labels {
                     kept: ByObjective::OfColumn(column),
                 })
             }
             ByObjective::OfCosts(labels) => {
-                let costs = fill_costs_alone(alloc, problem, before, labels, stage)?;
+                let mut costs = fill_costs_alone(alloc, problem, before, labels, stage)?;
+                costs.keep_landable(stage);
                 Ok(Labels {
                     kept: ByObjective::OfCosts(costs),
                 })
             }
-        }
-    }
-
-    // Keeps the windows and the lists at the places whose list is not empty, in order.
-    pub(crate) fn keep_landable<const W: usize>(&mut self, stage: &mut Stage<W>)
-        requires width { IsWidth W }
-        requires one_each { length self.old.lists ≡ length stage.old.1 }
-        ensures number { stage.new.0 ≡ stage.old.0 }
-
-        // Where none was left out, each window is still there.
-        ensures all { length self.new.lists ≡ length stage.old.1 → stage.new.1 ≡ stage.old.1 }
-
-        // What is left are the landable windows, where none was missing.
-        ensures landable { (p : Problem) → HasEachLandable p stage.old
-            → ArePairs p stage.old self.old → HoldsPairs p stage.new self.new }
-    {
-        match &mut self.kept {
-            ByObjective::OfColumn(column) => column.keep_landable(stage),
-            ByObjective::OfCosts(costs) => costs.keep_landable(stage),
         }
     }
 

@@ -1,11 +1,10 @@
 //! The least objective of a problem, with no way back to a schedule.
 
-ghost use Rattle.std.specs.Prelude.{◌≡◌, ◌+◌, ◌*◌, ◌<◌, length, IfOk, OnOk, IsTrue};
+ghost use Rattle.std.specs.Prelude.{◌≡◌, ◌+◌, ◌*◌, ◌<◌, length, IfOk};
 ghost use Rattle.landing_joint.specs.RankedProblem.{value_at};
 ghost use Rattle.cps_network.specs.Pairs.{list_at};
-ghost use Rattle.cps_network.specs.Permits.{IsNextOf};
 ghost use Rattle.cps_problem.specs.Plans.{IsPlannable};
-ghost use Rattle.replan.specs.Labels.{HoldsPairs, last_pair};
+ghost use Rattle.replan.specs.Labels.{last_pair};
 ghost use Rattle.replan.specs.LeastValue.{IsLeastValue};
 
 use crate::labels::Labels;
@@ -15,30 +14,6 @@ use cps_network::Stage;
 use cps_problem::Problem;
 use extract_plan::value_of_pair;
 use std::alloc::{AllocError, Global};
-
-// The labels of a stage from those of the stage before, and only its landable windows. Also whether these are all.
-fn label_alone<const W: usize>(
-    alloc: Global,
-    problem: &Problem,
-    before: &Stage<W>,
-    labels: &Labels,
-    stage: &mut Stage<W>,
-) -> Result<(Labels, bool), AllocError>
-    requires width { W ≡ 2 * problem.now.k + 1 }
-    requires before { HoldsPairs problem.now before.now labels.now }
-    requires number { stage.old.0 ≡ before.now.0 + 1 }
-    requires exact { IsNextOf problem.now before.now.0 before.now.1 stage.old.1 }
-    ensures held { IfOk result (λ labelled. HoldsPairs problem.now stage.new labelled.0) }
-    ensures number { OnOk result (stage.new.0 ≡ stage.old.0) }
-    ensures all { IfOk result (λ labelled. IsTrue labelled.1 → stage.new.1 ≡ stage.old.1) }
-{
-    let _near = problem.head();
-    let candidates = stage.len();
-    let mut found = labels.next_alone(alloc, problem, before, stage)?;
-    found.keep_landable(stage);
-    let is_whole = found.len() == candidates;
-    Ok((found, is_whole))
-}
 
 // The objective that the last pair of the list at a place makes.
 fn value_there(problem: &Problem, labels: &Labels, place: usize) -> u64
@@ -65,11 +40,12 @@ fn least_by_windows<const W: usize>(
     let mut is_whole = false;
     for _reached in 0..problem.len() {
         let mut next = stage_after(alloc, problem, &earlier, &stage, is_whole)?;
-        let labelled = label_alone(alloc, problem, &stage, &labels, &mut next)?;
+        let candidates = next.len();
+        let found = labels.next_alone(alloc, problem, &stage, &mut next)?;
+        is_whole = next.len() == candidates;
         earlier = stage;
         stage = next;
-        labels = labelled.0;
-        is_whole = labelled.1;
+        labels = found;
     }
     match least_place(&labels) {
         None => Ok(None),

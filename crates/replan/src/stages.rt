@@ -1,13 +1,12 @@
 //! The stages of a problem.
 
-ghost use Rattle.std.specs.Prelude.{◌≡◌, ℕ, ◌+◌, ◌-◌, ◌*◌, ◌<◌, ◌≤◌, length, vec_len, take, IfOk, OnOk, IsTrue};
+ghost use Rattle.std.specs.Prelude.{◌≡◌, ℕ, ◌+◌, ◌-◌, ◌*◌, ◌<◌, ◌≤◌, length, vec_len, IfOk, OnOk, IsTrue};
 ghost use Rattle.cps_base.specs.Tally.{raised_by};
 ghost use Rattle.cps_network.specs.Due.{HasCandidates, HasCandidatesFrom};
 ghost use Rattle.cps_network.specs.Landable.{HoldsCandidates};
 ghost use Rattle.cps_network.specs.Lists.{IsAscending};
 ghost use Rattle.cps_network.specs.Permits.{IsNextOf};
-ghost use Rattle.replan.specs.Labels.{HoldsPairs};
-ghost use Rattle.replan.specs.Stages.{HoldsStages, AreWholeWhere};
+ghost use Rattle.replan.specs.Stages.{AreStages};
 
 use crate::labels::Labels;
 use cps_base::{Ledger, Steps};
@@ -26,29 +25,13 @@ pub(crate) struct Stages<const W: usize> {
     pub(crate) whole: Vec<bool>,
 }
 
-impl<const W: usize> Stages<W> {
-    // Keeps so many of the stages, from stage 0 on.
-    pub(crate) fn truncate(&mut self, count: usize)
-        ensures stages { self.new.stages.items ≡ take count self.old.stages.items }
-        ensures labels { self.new.labels.items ≡ take count self.old.labels.items }
-        ensures whole { self.new.whole.items ≡ take count self.old.whole.items }
-    {
-        self.stages.truncate(count);
-        self.labels.truncate(count);
-        self.whole.truncate(count);
-    }
-}
-
 // Stage 0.
 pub(crate) fn first_stage<const W: usize>(
     alloc: Global,
     problem: &Problem,
 ) -> Result<Stages<W>, AllocError>
     requires width { W ≡ 2 * problem.now.k + 1 }
-    ensures held { IfOk result (λ kept. HoldsStages problem.now kept.stages.items
-        kept.labels.items) }
-    ensures whole { IfOk result (λ kept. AreWholeWhere problem.now kept.stages.items
-        kept.whole.items) }
+    ensures held { IfOk result (AreStages problem.now) }
     ensures one { IfOk result (λ kept. vec_len kept.stages ≡ 1) }
 {
     let objective = problem.head().objective;
@@ -93,35 +76,6 @@ pub(crate) fn stage_after<const W: usize>(
     Ok(stage)
 }
 
-// Fills the labels of a stage from those of the stage before, and keeps its landable windows. Also whether these are all.
-fn label_stage<const W: usize, R: Threads, G: Gate, L: Ledger>(
-    rt: &R,
-    alloc: Global,
-    problem: &Problem,
-    before: &Stage<W>,
-    labels: &Labels,
-    stage: &mut Stage<W>,
-    gate: &G,
-    steps: &mut Steps<L>,
-) -> Result<(Labels, bool), AllocError>
-    requires width { W ≡ 2 * problem.now.k + 1 }
-    requires before { HoldsPairs problem.now before.now labels.now }
-    requires number { stage.old.0 ≡ before.now.0 + 1 }
-    requires exact { IsNextOf problem.now before.now.0 before.now.1 stage.old.1 }
-    ensures held { IfOk result (λ labelled. HoldsPairs problem.now stage.new labelled.0) }
-    ensures number { OnOk result (stage.new.0 ≡ stage.old.0) }
-    ensures all { IfOk result (λ labelled. IsTrue labelled.1 → stage.new.1 ≡ stage.old.1) }
-    ensures steps { OnOk result (L.count steps.new ≡ raised_by (length stage.old.1)
-        (L.count steps.old)) }
-{
-    let _near = problem.head();
-    let candidates = stage.len();
-    let mut found = labels.next(rt, alloc, problem, before, stage, gate, steps)?;
-    found.keep_landable(stage);
-    let is_whole = found.len() == candidates;
-    Ok((found, is_whole))
-}
-
 // One stage more.
 fn add_stage<const W: usize, R: Threads, G: Gate, L: Ledger>(
     rt: &R,
@@ -132,14 +86,10 @@ fn add_stage<const W: usize, R: Threads, G: Gate, L: Ledger>(
     steps: &mut Steps<L>,
 ) -> Result<(), AllocError>
     requires width { W ≡ 2 * problem.now.k + 1 }
-    requires held { HoldsStages problem.now kept.old.stages.items kept.old.labels.items }
-    requires whole { AreWholeWhere problem.now kept.old.stages.items kept.old.whole.items }
+    requires held { AreStages problem.now kept.old }
     requires some { 0 < vec_len kept.old.stages }
     requires number { vec_len kept.old.stages ≤ length problem.now.flights }
-    ensures held { OnOk result (HoldsStages problem.now kept.new.stages.items
-        kept.new.labels.items) }
-    ensures whole { OnOk result (AreWholeWhere problem.now kept.new.stages.items
-        kept.new.whole.items) }
+    ensures held { OnOk result (AreStages problem.now kept.new) }
     ensures one { OnOk result (vec_len kept.new.stages ≡ vec_len kept.old.stages + 1) }
     ensures steps { OnOk result ((count : ℕ) × HasCandidates problem.now
         (vec_len kept.old.stages - 1) count × (L.count steps.new ≡ raised_by count
@@ -149,10 +99,10 @@ fn add_stage<const W: usize, R: Threads, G: Gate, L: Ledger>(
     let earlier = &kept.stages[last.saturating_sub(1)];
     let before = &kept.stages[last];
     let mut stage = stage_after(alloc, problem, earlier, before, kept.whole[last])?;
+    let candidates = stage.len();
     let labels = &kept.labels[last];
-    let (found, is_whole) = label_stage(
-        rt, alloc, problem, before, labels, &mut stage, gate, steps,
-    )?;
+    let found = labels.next(rt, alloc, problem, before, &mut stage, gate, steps)?;
+    let is_whole = stage.len() == candidates;
     kept.stages.push(stage)?;
     kept.labels.push(found)?;
     kept.whole.push(is_whole)?;
@@ -169,14 +119,10 @@ pub(crate) fn fill_stages<const W: usize, R: Threads, G: Gate, L: Ledger>(
     steps: &mut Steps<L>,
 ) -> Result<(), AllocError>
     requires width { W ≡ 2 * problem.now.k + 1 }
-    requires held { HoldsStages problem.now kept.old.stages.items kept.old.labels.items }
-    requires whole { AreWholeWhere problem.now kept.old.stages.items kept.old.whole.items }
+    requires held { AreStages problem.now kept.old }
     requires some { 0 < vec_len kept.old.stages }
     requires few { vec_len kept.old.stages ≤ length problem.now.flights + 1 }
-    ensures held { OnOk result (HoldsStages problem.now kept.new.stages.items
-        kept.new.labels.items) }
-    ensures whole { OnOk result (AreWholeWhere problem.now kept.new.stages.items
-        kept.new.whole.items) }
+    ensures held { OnOk result (AreStages problem.now kept.new) }
     ensures all { OnOk result (vec_len kept.new.stages ≡ length problem.now.flights + 1) }
     ensures steps { OnOk result ((due : ℕ) × HasCandidatesFrom (vec_len kept.old.stages)
         problem.now (length problem.now.flights) due

@@ -52,23 +52,6 @@ fn steps<R: Threads + Sync>(
     Ok(steps.ledger().value())
 }
 
-// How many steps it takes to plan a bank with one place of shift.
-fn bank_steps<R: Threads + Sync>(
-    rt: &R,
-    alloc: Global,
-    planner: &mut AnyKept,
-    bank: Bank,
-    objective: Objective,
-) -> Result<u64, Fail>
-    requires bank { bank.k ≡ 1 }
-    requires one { k_of planner.old ≡ 1 }
-    ensures one { k_of planner.new ≡ 1 }
-{
-    let problem = bank.problem(objective, 0, 1)?;
-    let value = steps(rt, alloc, planner, &problem)?;
-    Ok(value)
-}
-
 #[test]
 fn stages_in_common_are_not_counted(rt: HostRuntime) -> Result<(), Fail> {
     let alloc = rt.alloc();
@@ -83,8 +66,8 @@ fn stages_in_common_are_not_counted(rt: HostRuntime) -> Result<(), Fail> {
         (Category::E, false, Objective::Delay, 3),
         (Category::E, true, Objective::Makespan, 15),
     ] {
-        let bank = three_or_four(alloc, third, with_last)?;
-        let value = bank_steps(&rt, alloc, &mut planner, bank, objective)?;
+        let problem = three_or_four(alloc, third, with_last)?.problem(objective, 0, 1)?;
+        let value = steps(&rt, alloc, &mut planner, &problem)?;
         assert_eq!(rt; value, expected);
     }
     Ok(())

@@ -5,9 +5,8 @@ use Rattle.landing_rules.specs.Problem.{Problem}
 use Rattle.extract_plan.specs.shared.PlannedOrder.{well_formed_planned}
 use Rattle.cps_network.specs.Pairs.{list_at}
 use Rattle.replan.specs.LeastValue.{IsLeastValue}
-use Rattle.replan.specs.shared.LastStage.{none_feasible, least_is_best}
-use Rattle.replan.proofs.StageLemmas.{list_some}
-use Rattle.replan.proofs.LeastLemmas.{begins, still_next}
+use Rattle.replan.proofs.PlanLemmas.{none_feasible, least_is_best}
+use Rattle.replan.proofs.StageLemmas.{begins, list_some}
 use Rattle.replan.proofs.least.least_by_windows.Goals as goal
 
 pub loop-reached-init : goal.loop-reached-init
@@ -23,16 +22,18 @@ stage_after-requires g c =
     let at = i.1 in
     (search rules, (c.requires.width, (omega (arith, at, c.loop-reached-test.true, c.len-reached-end.ensures.value), i.2)))
 
-pub label_alone-requires : goal.label_alone-requires
-label_alone-requires g c = (search rules, (c.requires.width, (c.loop-reached.invariant.0, (c.in_ok-next.ensures.number, c.in_ok-next.ensures.exact))))
+pub next_alone-requires : goal.next_alone-requires
+next_alone-requires g c = (search rules, (c.requires.width, (c.loop-reached.invariant.0, (c.in_ok-next.ensures.number, c.in_ok-next.ensures.exact))))
 
 pub loop-reached-preserved : goal.loop-reached-preserved
 loop-reached-preserved g c =
-    let i = c.loop-reached.invariant in
-    let at = i.1 in (
-      c.in_ok-labelled.ensures.held,
-      omega (arith, at, c.in_ok-labelled.ensures.number, c.in_ok-next.ensures.number),
-      λ whole lt. still_next c.args.problem.now c.loop-reached.stage c.in_ok-next.next c.label_alone.new.stage c.in_ok-next.ensures.exact (c.in_ok-labelled.ensures.all whole),
+    let left = c.in_ok-found.ensures in
+    let at = c.loop-reached.invariant.1 in (
+      left.held,
+      omega (arith, at, left.number, c.in_ok-next.ensures.number),
+      λ whole lt.
+          let f : c.len.result ≡ c.len-candidates.result = search (rules, whole) in
+          rw (left.all (sym c.len.ensures.value ∙ f ∙ c.len-candidates.ensures.value)) c.in_ok-next.ensures.exact,
     )
 
 pub least_place-requires : goal.least_place-requires

@@ -8,100 +8,65 @@ use Rattle.cps_network.specs.Pairs.{GivesPair, list_at, pair_at}
 use Rattle.cps_network.specs.WindowLaws.{WindowLaws}
 use Rattle.replan.specs.Labels.{StagePairs, last_pair}
 use Rattle.replan.specs.Stages.{stage_at, labels_at, lists_at}
-use Rattle.replan.proofs.StageLemmas.{read_labels, list_some}
+use Rattle.replan.proofs.StageLemmas.{last_read}
 use Rattle.replan.proofs.TraceLemmas.{step_reads, trace_begins, back_pair, listed_undominated, last_given, trace_end}
 use Rattle.replan.proofs.trace.trace.Goals as goal
 
 pub source-source-requires : goal.source-source-requires
 source-source-requires g c =
     let inv = c.loop-stage.invariant in
-    let low = inv.0 in
-    let r = step_reads c.args.problem.now c.args.kept.now.stages.items c.args.kept.now.labels.items c.requires.held (omega (arith, c.requires.whole)) c.loop-stage.stage c.loop-stage.place c.loop-stage.index
-    c.index-before.result.now c.index-labels.result.now c.index-in-loop-stage.result.now c.index-in-loop-stage-2.result.now (omega (arith, c.loop-stage-test.true)) low
-    c.index-before.ensures c.index-labels.ensures c.index-in-loop-stage.ensures c.index-in-loop-stage-2.ensures inv.2 inv.3 in
-    let number = r.number in
-    let back = r.one_back in (
-      search rules,
-      (
-        search rules,
-        (
-          c.requires.width,
-          (
-            r.held,
-            (
-              omega (arith, number, back, low),
-              (
-                listed_undominated c.args.problem.now c.index-before.result.now c.index-in-loop-stage.result.now c.index-in-loop-stage-2.result.now.lists c.node-node.result c.pair-pair.result c.loop-stage.place c.loop-stage.index
-                    r.above.held r.next r.within c.node-node.ensures.value r.listed c.pair-pair.ensures.value,
-                c.pair-pair.ensures.known,
-              ),
-            ),
-          ),
-        ),
-      ),
-    )
+    let r = step_reads c.args.problem.now _ _ c.requires.held (omega (arith, c.requires.whole)) c.loop-stage.stage c.loop-stage.place c.loop-stage.index _ _ _ _
+    (omega (arith, c.loop-stage-test.true)) inv.0 c.index-before.ensures c.index-labels.ensures c.index-in-loop-stage.ensures c.index-in-loop-stage-2.ensures inv.2 inv.3 in
+    let undominated = listed_undominated c.args.problem.now c.index-before.result.now _ _ c.node-node.result c.pair-pair.result _ _ r.above.held r.next r.within c.node-node.ensures.value r.listed c.pair-pair.ensures.value in
+    (search rules, (search rules, (c.requires.width, (r.held, (omega (arith, r.number, r.one_back, inv.0), (undominated, c.pair-pair.ensures.known))))))
 
 pub last_rank-requires : goal.last_rank-requires
 last_rank-requires g c =
     let inv = c.loop-stage.invariant in
-    let low = inv.0 in
-    let r = step_reads c.args.problem.now c.args.kept.now.stages.items c.args.kept.now.labels.items c.requires.held (omega (arith, c.requires.whole)) c.loop-stage.stage c.loop-stage.place c.loop-stage.index
-    c.index-before.result.now c.index-labels.result.now c.index-in-loop-stage.result.now c.index-in-loop-stage-2.result.now (omega (arith, c.loop-stage-test.true)) low
-    c.index-before.ensures c.index-labels.ensures c.index-in-loop-stage.ensures c.index-in-loop-stage-2.ensures inv.2 inv.3 in
-    let number = r.number in
-    let back = r.one_back in
+    let r = step_reads c.args.problem.now _ _ c.requires.held (omega (arith, c.requires.whole)) c.loop-stage.stage c.loop-stage.place c.loop-stage.index _ _ _ _
+    (omega (arith, c.loop-stage-test.true)) inv.0 c.index-before.ensures c.index-labels.ensures c.index-in-loop-stage.ensures c.index-in-loop-stage-2.ensures inv.2 inv.3 in
     let laws : WindowLaws c.args.problem.now g.row.W = record { network = c.prefix_laws.ensures.network; alike = c.prefix_laws.ensures.sources; ranks = c.window_laws.ensures.ranks; leads = c.window_laws.ensures.leads } in
-    let last = last_given c.args.problem.now g.row.W c.requires.width laws c.index-before.result.now c.index-labels.result.now.lists c.node-node.result c.pair-pair.result c.source-source.result.0 c.source-source.result.1 r.held.held c.source-source.ensures in
+    let last = last_given c.args.problem.now g.row.W c.requires.width laws _ _ _ _ _ _ r.held.held c.source-source.ensures in
     let e = last.0 in
     let few = last.1 in
-    (search rules, (omega (arith, ints, e, number, back), omega (arith, ints, e, number, back, few, c.len-stage.ensures.well_formed.few_flights)))
+    (search rules, (omega (arith, ints, e, r.number, r.one_back), omega (arith, ints, e, r.number, r.one_back, few, c.len-stage.ensures.well_formed.few_flights)))
 
 pub loop-stage-preserved : goal.loop-stage-preserved
 loop-stage-preserved g c =
     let inv = c.loop-stage.invariant in
-    let low = inv.0 in
-    let r = step_reads c.args.problem.now c.args.kept.now.stages.items c.args.kept.now.labels.items c.requires.held (omega (arith, c.requires.whole)) c.loop-stage.stage c.loop-stage.place c.loop-stage.index
-    c.index-before.result.now c.index-labels.result.now c.index-in-loop-stage.result.now c.index-in-loop-stage-2.result.now (omega (arith, c.loop-stage-test.true)) low
-    c.index-before.ensures c.index-labels.ensures c.index-in-loop-stage.ensures c.index-in-loop-stage-2.ensures inv.2 inv.3 in
-    let number = r.number in
-    let back = r.one_back in
+    let r = step_reads c.args.problem.now _ _ c.requires.held (omega (arith, c.requires.whole)) c.loop-stage.stage c.loop-stage.place c.loop-stage.index _ _ _ _
+    (omega (arith, c.loop-stage-test.true)) inv.0 c.index-before.ensures c.index-labels.ensures c.index-in-loop-stage.ensures c.index-in-loop-stage-2.ensures inv.2 inv.3 in
     let laws : WindowLaws c.args.problem.now g.row.W = record { network = c.prefix_laws.ensures.network; alike = c.prefix_laws.ensures.sources; ranks = c.window_laws.ensures.ranks; leads = c.window_laws.ensures.leads } in
-    let gives : GivesPair c.args.problem.now c.index-before.result.now c.index-labels.result.now.lists c.node-node.result c.pair-pair.result c.source-source.result.0 c.source-source.result.1 = c.source-source.ensures in
-    let last = last_given c.args.problem.now g.row.W c.requires.width laws c.index-before.result.now c.index-labels.result.now.lists c.node-node.result c.pair-pair.result c.source-source.result.0 c.source-source.result.1 r.held.held gives in
+    let last = last_given c.args.problem.now g.row.W c.requires.width laws _ _ _ _ _ _ r.held.held c.source-source.ensures in
     let e = last.0 in
-    let rank_is : gives.rank ≡ c.last_rank.result = omega (arith, ints, e, number, back, c.last_rank.ensures) in
+    let gives : GivesPair c.args.problem.now c.index-before.result.now c.index-labels.result.now.lists c.node-node.result c.pair-pair.result c.source-source.result.0 c.source-source.result.1 = c.source-source.ensures in
     let room = inv.1 in (
-      omega (arith, low),
+      omega (arith, inv.0),
       length-set c.loop-stage.order (c.loop-stage.stage - 1) c.last_rank.result ∙ room,
-      subst (λ (s : ℕ × List (List ℤ)). c.source-source.result.0 < length s.1) r.before_is gives.within,
-      subst (λ (ls : List (List Pair)). c.source-source.result.1 < length (list_at ls c.source-source.result.0)) r.from_is gives.listed,
+      rw r.before_is at gives.within,
+      rw r.from_is at gives.listed,
       back_pair c.args.problem.now c.prefix_laws.ensures.network c.args.kept.now.stages.items c.args.kept.now.labels.items c.loop-stage.stage (c.loop-stage.stage - 1) c.loop-stage.place c.loop-stage.index c.source-source.result.0 c.source-source.result.1
-          c.last_rank.result (last_pair (list_at (lists_at c.args.kept.now.labels.items (length c.args.problem.now.flights)) c.args.place)) c.loop-stage.order c.index-before.result.now c.index-labels.result.now.lists c.node-node.result c.pair-pair.result
-          r.before_is r.from_is number back (c.node-node.ensures.value ∙ ap (λ (s : ℕ × List (List ℤ)). node_at s.1 c.loop-stage.place) r.after_is)
+          c.last_rank.result (last_pair (list_at (lists_at c.args.kept.now.labels.items (length c.args.problem.now.flights)) c.args.place)) c.loop-stage.order _ _ _ _
+          r.before_is r.from_is r.number r.one_back (c.node-node.ensures.value ∙ ap (λ (s : ℕ × List (List ℤ)). node_at s.1 c.loop-stage.place) r.after_is)
           (c.pair-pair.ensures.value ∙ ap (λ (ls : List (List Pair)). pair_at (list_at ls c.loop-stage.place) c.loop-stage.index) r.more_is)
-          gives rank_is (omega (arith, room, low, c.loop-stage-test.true)) inv.4,
+          gives (omega (arith, ints, e, r.number, r.one_back, c.last_rank.ensures)) (omega (arith, room, inv.0, c.loop-stage-test.true)) inv.4,
     )
 
 pub returns-clause-lands : goal.returns-clause-lands
 returns-clause-lands g c =
     let inv = c.loop-stage.invariant in
-    trace_end c.args.problem.now c.args.kept.now.stages.items c.args.kept.now.labels.items c.requires.held c.loop-stage.stage c.loop-stage.place c.loop-stage.index _ c.loop-stage.order (omega (arith, c.loop-stage-test.false)) (omega (arith, c.requires.whole)) inv.2 inv.3 inv.4
+    trace_end c.args.problem.now _ _ c.requires.held c.loop-stage.stage c.loop-stage.place c.loop-stage.index _ _ (omega (arith, c.loop-stage-test.false)) (omega (arith, c.requires.whole)) inv.2 inv.3 inv.4
 
 pub overflow_sub-index : goal.overflow_sub-index
 overflow_sub-index g c =
-    let lt : length c.args.problem.now.flights < length c.args.kept.now.stages.items = omega (arith, c.requires.whole) in
-    let el : c.index.result.now ≡ labels_at c.args.kept.now.labels.items (length c.args.problem.now.flights) =
-    read_labels c.args.kept.now.labels.items c.len-stage.result c.index.result.now c.index.ensures (omega (arith, lt, c.len-stage.ensures.value, c.requires.held.one_each)) ∙ ap (labels_at c.args.kept.now.labels.items) c.len-stage.ensures.value in
-    let some = list_some c.args.problem.now (stage_at c.args.kept.now.stages.items (length c.args.problem.now.flights)) (lists_at c.args.kept.now.labels.items (length c.args.problem.now.flights)) (c.requires.held.held (length c.args.problem.now.flights) lt).held c.args.place c.requires.within in
-    let long : c.count-index.result ≡ length (list_at (lists_at c.args.kept.now.labels.items (length c.args.problem.now.flights)) c.args.place) = c.count-index.ensures ∙ ap (λ (ls : StagePairs). length (list_at ls.lists c.args.place)) el in
-    omega (arith, some, long)
+    let l = last_read c.args.problem.now _ _ c.requires.held (omega (arith, c.requires.whole)) c.len-stage.result c.index.result.now c.len-stage.ensures.value c.index.ensures in
+    let some = l.some c.args.place (omega (arith, l.held.held.costs.one_each, c.requires.within)) in
+    omega (arith, some, c.count-index.ensures)
 
 pub loop-stage-init : goal.loop-stage-init
 loop-stage-init g c =
-    let lt : length c.args.problem.now.flights < length c.args.kept.now.stages.items = omega (arith, c.requires.whole) in
-    let el : c.index.result.now ≡ labels_at c.args.kept.now.labels.items (length c.args.problem.now.flights) =
-    read_labels c.args.kept.now.labels.items c.len-stage.result c.index.result.now c.index.ensures (omega (arith, lt, c.len-stage.ensures.value, c.requires.held.one_each)) ∙ ap (labels_at c.args.kept.now.labels.items) c.len-stage.ensures.value in
-    let some = list_some c.args.problem.now (stage_at c.args.kept.now.stages.items (length c.args.problem.now.flights)) (lists_at c.args.kept.now.labels.items (length c.args.problem.now.flights)) (c.requires.held.held (length c.args.problem.now.flights) lt).held c.args.place c.requires.within in
-    let long : c.count-index.result ≡ length (list_at (lists_at c.args.kept.now.labels.items (length c.args.problem.now.flights)) c.args.place) = c.count-index.ensures ∙ ap (λ (ls : StagePairs). length (list_at ls.lists c.args.place)) el in
-    trace_begins c.args.problem.now c.args.kept.now.stages.items c.args.kept.now.labels.items (length c.args.problem.now.flights) c.len-stage.result c.args.place (c.count-index.result - 1) c.args.order.now c.len-stage.ensures.value (omega arith) c.requires.room c.requires.within
-    (omega (arith, some, long)) (ap (λ (n : ℕ). n - 1) long)
+    let l = last_read c.args.problem.now _ _ c.requires.held (omega (arith, c.requires.whole)) c.len-stage.result c.index.result.now c.len-stage.ensures.value c.index.ensures in
+    let some = l.some c.args.place (omega (arith, l.held.held.costs.one_each, c.requires.within)) in
+    let long : c.count-index.result ≡ length (list_at (lists_at c.args.kept.now.labels.items (length c.args.problem.now.flights)) c.args.place) = rw l.is at c.count-index.ensures in
+    trace_begins c.args.problem.now _ _ (length c.args.problem.now.flights) c.len-stage.result c.args.place (c.count-index.result - 1) c.args.order.now c.len-stage.ensures.value (omega arith) c.requires.room c.requires.within
+    (omega (arith, rw l.is at some, long)) (ap (λ (n : ℕ). n - 1) long)

@@ -1,8 +1,8 @@
-use Rattle.std.proofs.Common.{◌≡◌, length, rules, ap, sym, ◌∙◌}
+use Rattle.std.proofs.Common.{◌≡◌, length, rules, ap, sym, subst, ◌∙◌}
 use Rattle.std.proofs.lemmas.List.{length-replicate}
 use Rattle.makespan_labels.specs.Labels.{no_label}
-use Rattle.replan.specs.LabelsOf.{pairs_of}
-use Rattle.replan.proofs.LabelsLemmas.{of_column, column_makespan, column_held, column_filled}
+use Rattle.replan.specs.Labels.{HoldsPairs, pairs_of}
+use Rattle.replan.proofs.LabelsLemmas.{of_column, of_costs, column_makespan, column_held, column_left, costs_left}
 use Rattle.replan.proofs.labels.Labels.next_alone.Goals as goal
 
 pub fill_alone-requires : goal.fill_alone-requires
@@ -10,7 +10,14 @@ fill_alone-requires g c =
     let is : of_column c.in-OfColumn.labels ≡ c.args.self.now = sym (ap pairs_of c.in-OfColumn.is) ∙ c.self.view_is in
     (search rules, (c.requires.width, (column_held c.args.problem.now c.args.before.now c.args.self.now c.in-OfColumn.labels is c.requires.before, (c.requires.number, (c.requires.next, ap length c.in_ok-reserve-in-OfColumn.ensures.made ∙ length-replicate c.len.result no_label ∙ c.len.ensures.value)))))
 
-pub returns-in_ok-reserve-in-OfColumn-clause-pairs : goal.returns-in_ok-reserve-in-OfColumn-clause-pairs
-returns-in_ok-reserve-in-OfColumn-clause-pairs g c =
+pub returns-in_ok-reserve-in-OfColumn : goal.returns-in_ok-reserve-in-OfColumn
+returns-in_ok-reserve-in-OfColumn g c =
     let is : of_column c.in-OfColumn.labels ≡ c.args.self.now = sym (ap pairs_of c.in-OfColumn.is) ∙ c.self.view_is in
-    column_filled c.args.problem.now c.args.stage.now c.fill_alone.new.into (column_makespan c.args.problem.now c.args.before.now c.args.self.now c.in-OfColumn.labels is c.requires.before) c.fill_alone.ensures.labels
+    column_left c.args.problem.now _ _ c.keep_landable.ensures.number c.fill_alone.ensures.landable c.fill_alone.new.into c.keep_landable.new.self
+    (column_makespan c.args.problem.now c.args.before.now c.args.self.now c.in-OfColumn.labels is c.requires.before) c.fill_alone.ensures.labels c.keep_landable.ensures.landable c.keep_landable.ensures.windows
+
+pub returns-in_ok-costs-in-OfCosts : goal.returns-in_ok-costs-in-OfCosts
+returns-in_ok-costs-in-OfCosts g c =
+    let is : of_costs c.in-OfCosts.labels ≡ c.args.self.now = sym (ap pairs_of c.in-OfCosts.is) ∙ c.self.view_is in
+    costs_left c.args.problem.now _ _ c.keep_landable-in-OfCosts.ensures.number c.in_ok-costs-in-OfCosts.ensures.landable _ _ (subst (HoldsPairs c.args.problem.now c.args.before.now) (sym is) c.requires.before).objective
+    c.in_ok-costs-in-OfCosts.ensures.pairs c.keep_landable-in-OfCosts.ensures.landable c.keep_landable-in-OfCosts.ensures.windows

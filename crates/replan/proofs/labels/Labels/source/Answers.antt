@@ -1,8 +1,7 @@
 use Rattle.std.proofs.Common.{◌≡◌, ◌+◌, rules, ap, sym, subst, ◌∙◌}
 use Rattle.cps_network.specs.Pairs.{HoldsCosts}
 use Rattle.makespan_labels.specs.shared.LabelPairs.{label_of_undominated}
-use Rattle.replan.specs.Labels.{HoldsPairs}
-use Rattle.replan.specs.LabelsOf.{pairs_of}
+use Rattle.replan.specs.Labels.{HoldsPairs, pairs_of}
 use Rattle.replan.proofs.LabelsLemmas.{of_column, of_costs, column_makespan, column_held, pair_given, node_given, column_gives}
 use Rattle.replan.proofs.labels.Labels.source.Goals as goal
 

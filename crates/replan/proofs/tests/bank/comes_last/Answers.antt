@@ -11,10 +11,8 @@ loop-earlier-preserved c = λ i d lt. elim (cases_eq i c.loop-earlier.earlier-in
   | inl same ↦
       let items = c.args.waiting.now.items in
       let all : c.deref-earlier-items.result.now ≡ items = c.deref-earlier-items.ensures.value in
-      let within : i < length items = subst (λ (xs : List Waiting). i < length xs) all (omega (arith, same, c.loop-earlier-test.true)) in
-      let at : c.earlier-item.result ≡ get_or items i c.earlier-item.result =
-      subst (λ (xs : List Waiting). c.earlier-item.result ≡ get_or xs i c.earlier-item.result) all (subst (λ (j : ℕ). c.earlier-item.result ≡ get_or c.deref-earlier-items.result.now j c.earlier-item.result) (sym same) c.earlier-item.is) in
-      subst (λ (w : rules.Waiting). (w.eta < c.args.flight.now.eta) × (w.callsign ≡ c.args.flight.now.callsign → ⊥))
-      (sym (get_or-map waiting_of items i c.earlier-item.result d within ∙ ap waiting_of (sym at))) (c.follows.ensures c.if-not-follows.false)
+      let within : i < length items = omega (arith, same, ap length all, c.loop-earlier-test.true) in
+      let at : c.earlier-item.result ≡ get_or items i c.earlier-item.result = rw (same, ← all) c.earlier-item.is in
+      rw (get_or-map waiting_of items i c.earlier-item.result d within, ← at) (c.follows.ensures c.if-not-follows.false)
   | inr ne ↦ c.loop-earlier.invariant i d (omega (arith, lt, ne))
 ]

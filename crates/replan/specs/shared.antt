@@ -1,2 +1,0 @@
--- Lemmas that crates above cite too: what the last stage of a problem tells.
-pub mod LastStage
