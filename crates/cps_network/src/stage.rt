@@ -146,15 +146,6 @@ impl<const W: usize> Stage<W> {
         }
     }
 
-    /// Whether some offset extends the window at a place of the stage before to the window at place i.
-    pub fn extends(&self, before: &Stage<W>, place: usize, i: usize) -> bool
-        requires place { place < length before.now.1 }
-        requires within { i < length self.now.1 }
-        ensures { IsTrue result ↔ Extends (node_at before.now.1 place) (node_at self.now.1 i) }
-    {
-        before.list.windows()[place].leads_to(&self.list.windows()[i])
-    }
-
     /// The half-open range of the windows of the stage before that lead to the window at place i. It is found without a
     /// search where this stage was made from that one.
     pub fn sources(&self, before: &Stage<W>, i: usize) -> (usize, usize)

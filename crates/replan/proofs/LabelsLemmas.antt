@@ -74,7 +74,8 @@ kept_all (true ∷ bs) (x ∷ xs) k = ap (λ (l : List _). x ∷ l) (kept_all bs
 kept_all (false ∷ bs) (x ∷ xs) k = let h = kept_short bs xs in absurd (omega (arith, k, h))
 
 module _ (p : Problem) (before after : ℕ × List (List ℤ)) (number : after.0 ≡ before.0) (each : HasEachLandable p before) where
-  pub column_left : (column left : List ℕ) → p.objective ≡ Makespan → AreLabels p before column → ((q : Problem) → HasEachLandable q before → AreLabels q before column → HoldsLabels q after left)
+  pub column_left : (column left : List ℕ) → p.objective ≡ Makespan → AreLabels p before column
+      → ((q : Problem) → HasEachLandable q before → AreLabels q before column → HoldsLabels q after left)
       → after.1 ≡ columns.known_of column before.1 → AreLandableOf p before after (of_column left)
   column_left column left makespan are kept windows = record {
     held = record { objective = sym makespan; held = holds_costs p makespan after left (kept p each are) };
@@ -82,7 +83,8 @@ module _ (p : Problem) (before after : ℕ × List (List ℤ)) (number : after.0
     all = λ same. windows ∙ kept_all (map columns.is_known column) before.1 (ap length (sym windows) ∙ same);
   }
 
-  pub costs_left : (found left : List (List Pair)) → Delay ≡ p.objective → AreCosts p before found → ((q : Problem) → HasEachLandable q before → AreCosts q before found → HoldsCosts q after left)
+  pub costs_left : (found left : List (List Pair)) → Delay ≡ p.objective → AreCosts p before found
+      → ((q : Problem) → HasEachLandable q before → AreCosts q before found → HoldsCosts q after left)
       → after.1 ≡ lists.known_of found before.1 → AreLandableOf p before after (of_costs left)
   costs_left found left delay are kept windows = record {
     held = record { objective = delay; held = kept p each are };

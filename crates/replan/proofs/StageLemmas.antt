@@ -90,13 +90,17 @@ more_held p stages after labels more stage last is e f number held = rw (e, f) (
   one_each = omega (arith, length-append stages (stage ∷ []), length-append labels (last ∷ []), is.one_each);
   number = λ i lt. elim (cases_eq i (length stages)) [
     | inl same ↦ rw (get_or_push stages stage (0, []) i (sym same)) (number ∙ sym same)
-    | inr old ↦ let below : i < length stages = omega (arith, old, lt, length-append stages (stage ∷ [])) in rw (get_or_append_left stages (stage ∷ []) (0, []) i below) (is.number i below)
+    | inr old ↦
+        let below : i < length stages = omega (arith, old, lt, length-append stages (stage ∷ [])) in rw (get_or_append_left stages (stage ∷ []) (0, []) i below) (is.number i below)
   ];
   held = λ i lt. elim (cases_eq i (length stages)) [
     | inl same ↦ rw (get_or_push stages stage (0, []) i (sym same), get_or_push labels last no_pairs i (is.one_each ∙ sym same)) held
     | inr old ↦
         let below : i < length stages = omega (arith, old, lt, length-append stages (stage ∷ [])) in
-        rw (get_or_append_left stages (stage ∷ []) (0, []) i below, get_or_append_left labels (last ∷ []) no_pairs i (omega (arith, below, is.one_each))) (is.held i below)
+        rw (
+          get_or_append_left stages (stage ∷ []) (0, []) i below,
+          get_or_append_left labels (last ∷ []) no_pairs i (omega (arith, below, is.one_each)),
+        ) (is.held i below)
   ];
 })
 
@@ -131,9 +135,10 @@ read_stage stages i x e lt = e ∙ get_or_default stages i x (0, []) lt
 pub read_labels : (labels : List StagePairs) (i : ℕ) (y : StagePairs) → y ≡ get_or labels i y → i < length labels → y ≡ labels_at labels i
 read_labels labels i y e lt = e ∙ get_or_default labels i y no_pairs lt
 
-pub read_held : (held : Option HeldProblem) (h : HeldProblem) (stages : List (ℕ × List (List ℤ))) (i : ℕ) (x : ℕ × List (List ℤ)) → held ≡ Some h → h.stages ≡ stages → x ≡ get_or stages i x
-    → IsReadable held i → x ≡ stage_in held i
-read_held held h stages i x e f at (some, most) = let low : i ≤ length stages - 1 = rw (e, f) at most in rw (e, f) (read_stage stages i x at (omega (arith, some, low)))
+pub read_held : (held : Option HeldProblem) (h : HeldProblem) (stages : List (ℕ × List (List ℤ))) (i : ℕ) (x : ℕ × List (List ℤ)) → held ≡ Some h
+    → h.stages ≡ stages → x ≡ get_or stages i x → IsReadable held i → x ≡ stage_in held i
+read_held held h stages i x e f at (some, most) =
+    let low : i ≤ length stages - 1 = rw (e, f) at most in rw (e, f) (read_stage stages i x at (omega (arith, some, low)))
 
 -- each kept list has a pair
 pub list_some : (p : Problem) (stage : ℕ × List (List ℤ)) (lists : List (List Pair)) → HoldsCosts p stage lists → (i : ℕ) → i < length stage.1 → 0 < length (list_at lists i)
@@ -186,7 +191,8 @@ whole_more p stages after whole more before was stage said holds numbers e f las
         let back : i - 1 ≡ last = omega (arith, same, n) in
         let number : before.0 ≡ last = rw at (numbers last (omega (arith, n))) in
         let was_kept = kept (rw (get_or_push whole said false i (holds.one_each ∙ sym same)) at true_there) in
-        rw (get_or_push stages stage (0, []) i (sym same), get_or_append_left stages (stage ∷ []) (0, []) (i - 1) (omega (arith, back, n)), back, ← at, was_kept) (rw number at is)
+        rw (get_or_push stages stage (0, []) i (sym same), get_or_append_left stages (stage ∷ []) (0, []) (i - 1) (omega (arith, back, n)), back, ← at, was_kept)
+        (rw number at is)
     | inr old ↦
         let below : i < length stages = omega (arith, old, lt, length-append stages (stage ∷ [])) in
         rw (get_or_append_left stages (stage ∷ []) (0, []) i below, get_or_append_left stages (stage ∷ []) (0, []) (i - 1) (omega (arith, below)))
@@ -201,7 +207,9 @@ module _ (p q : Problem) (stages : List (ℕ × List (List ℤ))) (labels : List
   pub held_in_common : HoldsStages q (take count stages) (take count labels)
   held_in_common = record {
     one_each = length-take-le count labels (let a = holds.one_each in omega (arith, a, within)) ∙ sym long;
-    number = λ i lt. let here : i < count = omega (arith, lt, long) in rw (get_or-take count stages i (0, []) here) (holds.number i (omega (arith, here, within)));
+    number = λ i lt.
+        let here : i < count = omega (arith, lt, long) in
+        rw (get_or-take count stages i (0, []) here) (holds.number i (omega (arith, here, within)));
     held = λ i lt.
         let at : i < count = omega (arith, lt, long) in
         let here : i < length stages = omega (arith, at, within) in
@@ -210,7 +218,8 @@ module _ (p q : Problem) (stages : List (ℕ × List (List ℤ))) (labels : List
         let agree = is.agree (omega (arith, e, more)) in
         let same = agree.head.k in
         let kept = early common.0 is.within agree (stage_at stages i).0 (let n = holds.number i here in omega (arith, n, e, at, same)) in
-        rw (get_or-take count stages i (0, []) at, get_or-take count labels i no_pairs at) (record { objective = (holds.held i here).objective ∙ agree.head.objective; held = kept_costs p q (stage_at stages i) _ kept (holds.held i here).held });
+        rw (get_or-take count stages i (0, []) at, get_or-take count labels i no_pairs at)
+        (record { objective = (holds.held i here).objective ∙ agree.head.objective; held = kept_costs p q (stage_at stages i) _ kept (holds.held i here).held });
   }
 
 -- and what is said of them still holds
@@ -228,7 +237,8 @@ module _ (p q : Problem) (w : ℕ) (odd : w ≡ 2 * p.k + 1) (laws : WindowLaws 
         let agree = is.agree (omega (arith, e, more)) in
         let same = agree.head.k in
         rw (get_or-take count stages i (0, []) here, get_or-take count stages (i - 1) (0, []) (omega (arith, here))) (
-        kept_next p q common.0 is.within agree bp bq w odd (i - 1) (stage_at stages (i - 1)).1 (stage_at stages i).1 (omega (arith, e, here, some, same)) (valid (i - 1) (omega (arith, here, within)))
+        kept_next p q common.0 is.within agree bp bq w odd (i - 1) (stage_at stages (i - 1)).1 (stage_at stages i).1 (omega (arith, e, here, some, same))
+        (valid (i - 1) (omega (arith, here, within)))
         (whole.each i some (omega (arith, here, within)) (rw (get_or-take count said i false here) at true_there)));
   }
 

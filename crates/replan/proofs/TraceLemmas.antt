@@ -173,7 +173,8 @@ trace_end p stages labels held stage place index end order none some lt listed r
     let rest' : Traced p stages labels 0 place index order end = rw none at rest in
     let h = (held.held 0 some).held in
     let number : (stage_at stages 0).0 ≡ 0 = held.number 0 some in
-    let l : IsLandable p 0 (node_at (stage_at stages 0).1 place) = rw number at ((h.landable (node_at (stage_at stages 0).1 place)).0 (Contains-get_or (stage_at stages 0).1 place [] lt')) in
+    let l : IsLandable p 0 (node_at (stage_at stages 0).1 place) =
+    rw number at ((h.landable (node_at (stage_at stages 0).1 place)).0 (Contains-get_or (stage_at stages 0).1 place [] lt')) in
     let at = start_only p (node_at (stage_at stages 0).1 place) l in
     let u = ((h.costs.pairs place lt').undominated (pair_in labels 0 place index)).0 (at_in (list_at (lists_at labels 0) place) index (pair_in labels 0 place index) listed' refl) in
     let a : Attains p 0 (node_at (stage_at stages 0).1 place) (pair_in labels 0 place index) = rw number at u.attained in
@@ -185,4 +186,4 @@ pub trace_begins : (p : Problem) (stages : List (ℕ × List (List ℤ))) (label
     → (stage ≤ length p.flights) × (length order ≡ n) × (place < length (stage_at stages stage).1) × (index < length (list_at (lists_at labels stage) place))
     × Traced p stages labels stage place index order (last_pair (list_at (lists_at labels n) place))
 trace_begins p stages labels n stage place index order same few room within listed last =
-    rw same (few, room, within, listed, rw (drop_all n order (omega (arith, room)), last) (completes_pair_start p n (node_at (stage_at stages n).1 place) (last_pair (list_at (lists_at labels n) place))))
+    rw same (few, room, within, listed, rw (drop_all n order (omega (arith, room)), last) (completes_pair_start p n (node_at (stage_at stages n).1 place) _))

@@ -1,10 +1,8 @@
-use Rattle.std.proofs.Common.{◌≡◌, ℕ, ◌<◌, List, length, rules, arith, ap, sym, subst, ◌∙◌}
+use Rattle.std.proofs.Common.{◌≡◌, ℕ, List, rules, arith, ap, sym, ◌∙◌}
 use Rattle.std.specs.Prelude.{ℤ}
 use Rattle.std.proofs.lemmas.Bool.{false≢true}
 use Rattle.landing_rules.specs.Problem.{Problem}
 use Rattle.extract_plan.specs.shared.PlannedOrder.{well_formed_planned}
-use Rattle.cps_network.specs.Pairs.{list_at}
-use Rattle.replan.specs.LeastValue.{IsLeastValue}
 use Rattle.replan.proofs.PlanLemmas.{none_feasible, least_is_best}
 use Rattle.replan.proofs.StageLemmas.{begins, list_some}
 use Rattle.replan.proofs.least.least_by_windows.Goals as goal

@@ -1,54 +1,52 @@
-use Rattle.std.proofs.Common.{◌≡◌, ℕ, ◌≤◌, List, length, rules, arith, ap, ◌∙◌, sym, subst, refl}
+use Rattle.std.proofs.Common.{◌≡◌, length, rules, arith, ap, ◌∙◌, refl}
 use Rattle.std.proofs.lemmas.List.{length-replicate}
 use Rattle.std.proofs.lemmas.Grind.{common_steps}
-use Rattle.cps_theory.specs.Labels.{Pair}
-use Rattle.cps_network.specs.Pairs.{list_at}
 use Rattle.extract_plan.specs.shared.PlannedOrder.{well_formed_planned}
-use Rattle.replan.specs.Labels.{StagePairs, last_pair}
-use Rattle.replan.specs.LeastValue.{IsWorthNoMore}
-use Rattle.replan.specs.Stages.{lists_at, LandsWithPair}
 use Rattle.replan.proofs.StageLemmas.{last_read}
-use Rattle.replan.proofs.PlanLemmas.{none_feasible, no_more, order_is_whole, seconds, order_lands, plan_best}
+use Rattle.replan.proofs.PlanLemmas.{none_feasible, no_more, order_is_whole, order_lands, plan_best}
 use Rattle.replan.proofs.plan.schedule_of.Goals as goal
 
 pub least_place-requires : goal.least_place-requires
-least_place-requires g c = (last_read c.args.problem.now _ _ c.requires.held (omega (arith, c.requires.whole)) c.len-n.result c.index.result.now c.len-n.ensures.value c.index.ensures).some
+least_place-requires g c =
+    (last_read c.args.problem.now _ _ c.requires.held (omega (arith, c.requires.whole)) _ _ c.len-n.ensures.value c.index.ensures).some
 
 pub returns-in-None : goal.returns-in-None
 returns-in-None g c =
-    let l = last_read c.args.problem.now _ _ c.requires.held (omega (arith, c.requires.whole)) c.len-n.result c.index.result.now c.len-n.ensures.value c.index.ensures in
+    let l = last_read c.args.problem.now _ _ c.requires.held (omega (arith, c.requires.whole)) _ _ c.len-n.ensures.value c.index.ensures in
     none_feasible c.args.problem.now (well_formed_planned c.args.problem.now c.len-n.ensures.well_formed) _ c.index.result.now l.number l.held c.in-None.ensures
 
 pub trace-requires : goal.trace-requires
 trace-requires g c =
-    let l = last_read c.args.problem.now _ _ c.requires.held (omega (arith, c.requires.whole)) c.len-n.result c.index.result.now c.len-n.ensures.value c.index.ensures in
+    let l = last_read c.args.problem.now _ _ c.requires.held (omega (arith, c.requires.whole)) _ _ c.len-n.ensures.value c.index.ensures in
     let inside = c.in-Some.ensures.0 in
-    let room : length c.deref_mut.result.now ≡ length c.args.problem.now.flights = omega (arith, c.deref_mut.ensures.len, c.in_ok-order-in-Some.ensures.len, c.len-n.ensures.value) in
+    let room : length c.deref_mut.result.now ≡ length c.args.problem.now.flights = omega (arith, c.in_ok-order-in-Some.ensures.len) in
     (search rules, (search rules, (c.requires.held, (c.requires.whole, (omega (arith, inside, l.held.held.costs.one_each), room)))))
 
 pub retime-requires-clause-order : goal.retime-requires-clause-order
 retime-requires-clause-order g c =
     let is : c.as_slice.result.now ≡ c.trace.new.order = grind (arith, common_steps) in
-    let room : length c.as_slice.result.now ≡ length c.args.problem.now.flights = omega (arith, ap length is, c.trace.ensures.room, c.deref_mut.ensures.len, c.in_ok-order-in-Some.ensures.len, c.len-n.ensures.value) in
-    let lands : LandsWithPair c.args.problem.now c.as_slice.result.now (last_pair (list_at (lists_at c.args.kept.now.labels.items (length c.args.problem.now.flights)) c.in-Some.place)) = rw is c.trace.ensures.lands in
+    let room : length c.as_slice.result.now ≡ length c.args.problem.now.flights = omega (arith, ap length is, c.in_ok-order-in-Some.ensures.len) in
+    let lands = rw (← is) at c.trace.ensures.lands in
     let planned = well_formed_planned c.args.problem.now c.len-n.ensures.well_formed in
     order_is_whole c.args.problem.now planned c.as_slice.result.now _ room lands
 
 pub returns-then-not-retime : goal.returns-then-not-retime
 returns-then-not-retime g c =
     let is : c.as_slice.result.now ≡ c.trace.new.order = grind (arith, common_steps) in
-    let room : length c.as_slice.result.now ≡ length c.args.problem.now.flights = omega (arith, ap length is, c.trace.ensures.room, c.deref_mut.ensures.len, c.in_ok-order-in-Some.ensures.len, c.len-n.ensures.value) in
-    let lands : LandsWithPair c.args.problem.now c.as_slice.result.now (last_pair (list_at (lists_at c.args.kept.now.labels.items (length c.args.problem.now.flights)) c.in-Some.place)) = rw is c.trace.ensures.lands in
+    let room : length c.as_slice.result.now ≡ length c.args.problem.now.flights = omega (arith, ap length is, c.in_ok-order-in-Some.ensures.len) in
+    let lands = rw (← is) at c.trace.ensures.lands in
     let planned = well_formed_planned c.args.problem.now c.len-n.ensures.well_formed in
     λ t f. c.if-not-retime.ensures.none refl _ (order_lands c.args.problem.now planned c.as_slice.result.now _ room lands)
 
 pub returns-else-not-retime : goal.returns-else-not-retime
 returns-else-not-retime g c =
     let is : c.as_slice.result.now ≡ c.trace.new.order = grind (arith, common_steps) in
-    let room : length c.as_slice.result.now ≡ length c.args.problem.now.flights = omega (arith, ap length is, c.trace.ensures.room, c.deref_mut.ensures.len, c.in_ok-order-in-Some.ensures.len, c.len-n.ensures.value) in
-    let lands : LandsWithPair c.args.problem.now c.as_slice.result.now (last_pair (list_at (lists_at c.args.kept.now.labels.items (length c.args.problem.now.flights)) c.in-Some.place)) = rw is c.trace.ensures.lands in
+    let room : length c.as_slice.result.now ≡ length c.args.problem.now.flights = omega (arith, ap length is, c.in_ok-order-in-Some.ensures.len) in
+    let lands = rw (← is) at c.trace.ensures.lands in
     let planned = well_formed_planned c.args.problem.now c.len-n.ensures.well_formed in
-    let l = last_read c.args.problem.now _ _ c.requires.held (omega (arith, c.requires.whole)) c.len-n.result c.index.result.now c.len-n.ensures.value c.index.ensures in
-    let long : length c.retime.new.into ≡ length c.args.problem.now.flights = c.if-not-retime.ensures.room ∙ ap length c.in_ok-schedule.ensures ∙ length-replicate c.len-n.result 0 ∙ c.len-n.ensures.value in
-    plan_best c.args.problem.now planned c.as_slice.result.now _ room lands c.retime.new.into long (c.if-not-retime.ensures.earliest refl) (c.if-not-retime.ensures.least refl)
+    let l = last_read c.args.problem.now _ _ c.requires.held (omega (arith, c.requires.whole)) _ _ c.len-n.ensures.value c.index.ensures in
+    let long : length c.retime.new.into ≡ length c.args.problem.now.flights =
+    c.if-not-retime.ensures.room ∙ ap length c.in_ok-schedule.ensures ∙ length-replicate c.len-n.result 0 ∙ c.len-n.ensures.value in
+    plan_best c.args.problem.now planned c.as_slice.result.now _ room lands c.retime.new.into long
+    (c.if-not-retime.ensures.earliest refl) (c.if-not-retime.ensures.least refl)
     (rw l.is at (no_more c.args.problem.now planned _ c.index.result.now l.number l.held c.in-Some.place c.in-Some.ensures))

@@ -14,8 +14,16 @@ loop-stage-init g c = (
 
 pub add_stage-requires : goal.add_stage-requires
 add_stage-requires g c =
-    let long = c.loop-stage.invariant.1 in
-    (search rules, (c.requires.width, (c.loop-stage.invariant.0, (omega (arith, long, c.loop-stage.auto, c.len-first.ensures, c.requires.some), omega (arith, long, c.loop-stage-test.true, c.len.ensures.value)))))
+    let long = c.loop-stage.invariant.1 in (
+      search rules,
+      (
+        c.requires.width,
+        (
+          c.loop-stage.invariant.0,
+          (omega (arith, long, c.loop-stage.auto, c.len-first.ensures, c.requires.some), omega (arith, long, c.loop-stage-test.true, c.len.ensures.value)),
+        ),
+      ),
+    )
 
 pub loop-stage-preserved : goal.loop-stage-preserved
 loop-stage-preserved g c =
@@ -24,7 +32,8 @@ loop-stage-preserved g c =
     let e : vec_len c.loop-stage.kept.stages - 1 ≡ c.loop-stage._stage - 1 = omega (arith, long) in (
       c.in_ok-add_stage.ensures.held,
       omega (arith, c.in_ok-add_stage.ensures.one, long),
-      due_more (vec_len c.args.kept.now.stages) c.args.problem.now c.loop-stage._stage _ _ _ (omega (arith, c.loop-stage.auto, c.len-first.ensures)) (omega (arith, c.loop-stage.auto, c.len-first.ensures, c.requires.some)) c.loop-stage.invariant.2
+      due_more (vec_len c.args.kept.now.stages) c.args.problem.now c.loop-stage._stage _ _ _ (omega (arith, c.loop-stage.auto, c.len-first.ensures))
+          (omega (arith, c.loop-stage.auto, c.len-first.ensures, c.requires.some)) c.loop-stage.invariant.2
           (s.0, subst (λ (q : ℕ). HasCandidates c.args.problem.now q s.0) e s.1, s.2),
     )
 

@@ -8,10 +8,12 @@ node-window-requires g c =
     let near : c.held.inside.problem.k ≤ 3 = c.len-few.ensures.well_formed.few_places in
     let width : g.row.W ≡ 2 * c.held.inside.problem.k + 1 = c.held.invariant.0.width_is in
     let narrow : g.row.W < 8 = omega (arith, near, width) in
-    let at = read_held c.args.self.now c.in-Some.held _ c.args.stage _ (sym c.self.view_is ∙ c.in-Some.is) (sym (ap (λ (h : HeldProblem). h.stages) c.held.view_is)) c.index.ensures c.requires.stage in
+    let same = sym (ap (λ (h : HeldProblem). h.stages) c.held.view_is) in
+    let at = read_held c.args.self.now _ _ _ _ (sym c.self.view_is ∙ c.in-Some.is) same c.index.ensures c.requires.stage in
     (search rules, (search rules, rw at c.requires.place))
 
 pub returns-in-Some-clause-placed : goal.returns-in-Some-clause-placed
 returns-in-Some-clause-placed g c =
-    let at = read_held c.args.self.now c.in-Some.held _ c.args.stage _ (sym c.self.view_is ∙ c.in-Some.is) (sym (ap (λ (h : HeldProblem). h.stages) c.held.view_is)) c.index.ensures c.requires.stage in
+    let same = sym (ap (λ (h : HeldProblem). h.stages) c.held.view_is) in
+    let at = read_held c.args.self.now _ _ _ _ (sym c.self.view_is ∙ c.in-Some.is) same c.index.ensures c.requires.stage in
     rw (← at, ← c.node-window.ensures.value) c.placed_node.ensures.placed

@@ -1,9 +1,7 @@
-use Rattle.std.proofs.Common.{◌≡◌, ℕ, ◌<◌, List, length, get_or, inl, inr, sym, ap, subst, ◌∙◌, arith}
+use Rattle.std.proofs.Common.{◌≡◌, ◌<◌, length, get_or, inl, inr, ap, arith}
 use Rattle.std.proofs.lemmas.Bool.{cases_eq}
 use Rattle.std.proofs.lemmas.List.{get_or-map}
-use Rattle.landing_rules.specs.Problem as rules
 use Rattle.cps_problem.specs.Seen.{waiting_of}
-use Rattle.cps_problem.specs.declared.problem.Waiting.{Waiting}
 use Rattle.replan.proofs.tests.bank.comes_last.Goals as goal
 
 pub loop-earlier-preserved : goal.loop-earlier-preserved
