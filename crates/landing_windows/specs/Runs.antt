@@ -226,6 +226,16 @@ same_start least v w vs ws a b same = elim (cases_Bool (nat_lt v.0 w.0)) [
 gap_after : (least : ℕ) (v : Span) (vs : List Span) → AreSpansFrom 2 least (v ∷ vs) → opens (v ∷ vs) (v.1 + 1) ≡ false
 gap_after least v vs a = or_false _ _ (not_after (v.1 + 1) v (omega arith)) (none_before 2 (v.1 + 2) vs (v.1 + 1) a.3 (omega arith))
 
+-- the span that holds the least second ends just before one that none holds
+pub stops_after : (spans rest : List Span) (d : Span) (t s : ℕ) → ((u : ℕ) → t ≤ u → opens rest u ≡ opens spans u) → AreMaximal rest → 1 ≤ length rest →
+    t ≤ (slice_index_or rest 0 d).1 → s ≡ max t (slice_index_or rest 0 d).0 → IsStopFrom (opens spans) s ((slice_index_or rest 0 d).1 + 1)
+stops_after spans [] d t s same a n b e = absurd (omega arith)
+stops_after spans (w ∷ ws) d t s same a n b e = record {
+  after = (let runs = a.1 in omega arith);
+  passes = λ u from before. sym (same u (omega arith)) ∙ holds_first w ws u (omega arith) (omega arith);
+  ends = sym (same (w.1 + 1) (omega arith)) ∙ gap_after 0 w ws a;
+}
+
 same_end : (least : ℕ) (v w : Span) (vs ws : List Span) → AreSpansFrom 2 least (v ∷ vs) → AreSpansFrom 2 least (w ∷ ws) →
     ((t : ℕ) → least ≤ t → opens (v ∷ vs) t ≡ opens (w ∷ ws) t) → v.0 ≡ w.0 → v.1 ≡ w.1
 same_end least v w vs ws a b same starts = elim (cases_Bool (nat_lt v.1 w.1)) [

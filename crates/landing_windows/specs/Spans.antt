@@ -45,6 +45,10 @@ pub record IsStopFrom (test : ℕ → Bool) (from stop : ℕ) : Type 0 where
   pub passes : (u : ℕ) → from ≤ u → u < stop → test u ≡ true
   pub ends : test stop ≡ false
 
+-- the least second at or after `from` that passes, and the last one up to which every second from it on does
+abbrev pub SpanFrom : (ℕ → Bool) → ℕ → Option Span → Type 0
+SpanFrom test from answer = MatchOption answer (NoneFrom test from) (λ span. IsLeastFrom test from span.0 × IsStopFrom test span.0 (span.1 + 1))
+
 -- a closure shuts t, and shuts every second up to the end given
 pub record IsShutUntil (closures : List Span) (t end : ℕ) : Type 0 where
   pub after : t < end

@@ -3,7 +3,7 @@ ghost use Rattle.std.specs.Cmp.{partial_equiv_from_equiv};
 ghost use Rattle.std.specs.Cmp.Lexicographic.{pointwise};
 ghost use Rattle.landing_rules.specs.Problem.{AreOpenSpans};
 ghost use Rattle.landing_rules.specs.Rules.{last_second};
-ghost use Rattle.landing_windows.specs.Spans.{opens, FirstFrom, AreMaximal};
+ghost use Rattle.landing_windows.specs.Spans.{opens, FirstFrom, SpanFrom, AreMaximal};
 ghost use Rattle.landing_windows.specs.Same.{same_pair, same_lists};
 
 use crate::search::{first_within, next_not_open, next_open};
@@ -59,6 +59,22 @@ impl OpenTimes {
         ensures spans { AreMaximal self.now }
     {
         first_within(self.spans.as_slice(), t)
+    }
+
+    /// The least open second at or after t, and the last one, at most 172,799, up to which all from it on are open. None
+    /// exactly where no second is.
+    pub fn span_from(&self, t: u32) -> Option<(u32, u32)>
+        ensures span { SpanFrom (opens self.now) t result }
+        ensures in_days { IfSome result (λ span. span.1 ≤ last_second) }
+    {
+        let mut rest = self.spans.as_slice();
+        while let [(first, last), after @ ..] = rest {
+            if t <= *last {
+                return Some((t.max(*first), *last));
+            }
+            rest = after;
+        }
+        None
     }
 
     /// Whether second t is open.

@@ -45,15 +45,27 @@ fn are_in_days(spans: &[(u32, u32)]) -> bool
         .all(|w| w.0 <= LAST_SECOND && w.1 <= LAST_SECOND)
 }
 
-// Each second of the two days, from the last one down, with the least open second from there on.
+// The open seconds from t on, with those that follow on them.
+fn span_with(t: u32, next: Option<(u32, u32)>) -> (u32, u32) {
+    match next {
+        Some((first, last)) if first == t.saturating_add(1) => (t, last),
+        _ => (t, t),
+    }
+}
+
+// Each second of the two days, from the last one down, with the next open seconds from there on.
 fn agrees(windows: &[(u32, u32)], closures: &[(u32, u32)], times: &OpenTimes) -> bool {
     let mut next = None;
     for t in (0..=LAST_SECOND).rev() {
         let is_open = is_open_plainly(windows, closures, t);
         if is_open {
-            next = Some(t);
+            next = Some(span_with(t, next));
         }
-        if times.is_open(t) != is_open || times.first_from(t) != next {
+        let first = next.map(|(first, _)| first);
+        if times.is_open(t) != is_open
+            || times.first_from(t) != first
+            || times.span_from(t) != next
+        {
             return false;
         }
     }
