@@ -1,14 +1,15 @@
 -- What spans in order and closures hold.
 use Rattle.std.proofs.Common.{Option, Some, None, IfSome, ◌≡◌, ℕ, suc, zero, ◌+◌, ◌-◌, ◌<◌, ◌≤◌, max, List, [], ◌∷◌, ◌++◌, length, slice_index_or, All, Bool, true, false, arith, add-one, ap, refl, sym, ◌∙◌, inl, inr}
-use Rattle.std.specs.Prelude.{◌||◌, ◌&&◌, nat_le, nat_lt}
+use Rattle.std.specs.Prelude.{◌||◌, nat_le, nat_lt}
 use Rattle.std.proofs.lemmas.Bool.{cases_Bool}
+use Rattle.std.proofs.lemmas.Bool.Decides.{nat_tests}
 use Rattle.std.proofs.lemmas.Grind.{common_steps}
 use Rattle.std.proofs.lemmas.List.Folds.{list_any-append}
 use Rattle.std.proofs.lemmas.List.Elements.{All-nil, All-cons, All-weaker}
 use Rattle.landing_rules.specs.Flights.{Span}
 use Rattle.landing_rules.specs.Rules.{last_second, is_within, is_open}
 use Rattle.landing_rules.specs.Problem.{AreOpenSpans}
-use Rattle.landing_windows.specs.Spans.{FirstFrom, opens, AreSpansFrom, AreInOrder, AreMaximal, NoneFrom, IsLeastFrom, IsStopFrom}
+use Rattle.landing_windows.specs.Spans.{FirstFrom, opens, shuts, is_runway_open, AreSpansFrom, AreInOrder, AreMaximal, IsLeastFrom, IsStopFrom, IsFirstShut}
 
 pub within : (u : ℕ) (w : Span) → w.0 ≤ u → u ≤ w.1 → is_within u w ≡ true
 within u w a b = grind (arith, common_steps)
@@ -90,85 +91,82 @@ least_within spans (w ∷ ws) d t s same a n b e =
       least = λ u from before. sym (same u from) ∙ none_before_first 1 w ws u a (omega arith);
     }
 
-pub stops_before : (spans rest : List Span) (d : Span) (stop : ℕ) → opens rest stop ≡ opens spans stop → AreInOrder rest → 1 ≤ length rest →
-    stop < (slice_index_or rest 0 d).0 → opens spans stop ≡ false
-stops_before spans [] d stop same a n b = absurd (omega arith)
-stops_before spans (w ∷ ws) d stop same a n b = sym same ∙ none_before_first 1 w ws stop a b
-
 -- ---- open seconds
-
-and_left : (a b : Bool) → (a && b) ≡ true → a ≡ true
-and_left true b e = refl
-and_left false b e = absurd (cc e)
-
-pub open_in_days : (windows closures : List Span) (u : ℕ) → AreInOrder windows → is_open windows closures u ≡ true → u ≤ last_second
-open_in_days windows closures u a e = opens_in_days 1 0 windows u a (and_left (opens windows u) _ e)
 
 true_not_false : (b : Bool) → b ≡ true → b ≡ false → ⊥
 true_not_false b x y = let z : true ≡ false = sym x ∙ y in cc z
-
--- a run of open seconds holds its first second, and ends within the two days
-pub run_bounds : (windows closures : List Span) (first stop : ℕ) → AreInOrder windows → is_open windows closures first ≡ true →
-    IsStopFrom (is_open windows closures) first stop → (first < stop) × (stop ≤ last_second + 1)
-run_bounds windows closures first stop a e s = elim (cases_Bool (nat_lt first stop)) [
-  | inl less ↦
-      let below : first < stop = grind (arith, common_steps) in
-      let last_open : is_open windows closures (stop - 1) ≡ true = s.passes (stop - 1) (omega arith) (omega arith) in
-      let in_days : stop - 1 ≤ last_second = open_in_days windows closures (stop - 1) a last_open in
-      (below, omega arith)
-  | inr not_less ↦
-      let above : stop ≤ first = grind (arith, common_steps) in
-      let at : stop ≡ first = let after = s.after in omega arith in
-      let shut : is_open windows closures first ≡ false = rw at at s.ends in
-      absurd (true_not_false _ e shut)
-]
 
 or_none : (b : Bool) → (b || (false || false)) ≡ b
 or_none true = refl
 or_none false = refl
 
+-- a run from an open second on holds that second
+pub run_holds : (closures : List Span) (first most stop : ℕ) → shuts closures first ≡ false → first < most → IsFirstShut closures first most stop → first < stop
+run_holds closures first most stop e h s = elim (cases_Bool (nat_lt first stop)) [
+  | inl some ↦ grind (arith, common_steps)
+  | inr none ↦
+      let after = s.after in
+      let at : stop ≡ first = grind (arith, common_steps) in
+      absurd (true_not_false (shuts closures first) (rw at at (s.shut (omega arith))) e)
+]
+
+-- from the end of a run up to the next one no second is open
+between_runs : (closures : List Span) (first stop next u : ℕ) → IsFirstShut closures first (last_second + 1) stop → IsStopFrom (shuts closures) (stop + 1) next →
+    stop ≤ u → u < next → is_runway_open closures u ≡ false
+between_runs closures first stop next u s n over below = elim (cases_Bool (nat_le u last_second)) [
+  | inl in_days ↦ elim (cases_Bool (nat_lt stop u)) [
+    | inl past ↦ let after : stop + 1 ≤ u = grind (arith, common_steps) in rw (in_days, n.passes u after below) refl
+    | inr not_past ↦
+        let at : stop ≡ u = grind (arith, common_steps) in
+        let day : u ≤ last_second = grind (arith, common_steps) in
+        let shut : shuts closures u ≡ true = rw at at (s.shut (omega arith)) in
+        rw (in_days, shut) refl
+  ]
+  | inr late ↦ rw late refl
+]
+
 -- one more run keeps that the spans so far hold exactly the open seconds so far
-pub one_more_run : (windows closures spans : List Span) (from first stop : ℕ) →
-    ((u : ℕ) → u < from → opens spans u ≡ is_open windows closures u) → EndBefore from spans →
-    IsLeastFrom (is_open windows closures) from first → IsStopFrom (is_open windows closures) first stop → first < stop →
-    (u : ℕ) → u < stop + 1 → opens (spans ++ (first, stop - 1) ∷ []) u ≡ is_open windows closures u
-one_more_run windows closures spans from first stop same before least run nonempty u below =
+pub one_more_run : (closures spans : List Span) (first stop next : ℕ) →
+    ((u : ℕ) → u < first → opens spans u ≡ is_runway_open closures u) → EndBefore first spans → first < stop →
+    IsFirstShut closures first (last_second + 1) stop → IsStopFrom (shuts closures) (stop + 1) next →
+    (u : ℕ) → u < next → opens (spans ++ (first, stop - 1) ∷ []) u ≡ is_runway_open closures u
+one_more_run closures spans first stop next same before nonempty run n u below =
     rw (list_any-append (is_within u) spans ((first, stop - 1) ∷ [])) (
-    elim (cases_Bool (nat_lt u from)) [
+    elim (cases_Bool (nat_lt u first)) [
       | inl early ↦
-          let under : u < from = grind (arith, common_steps) in
-          let after = least.after in
-          rw (not_before u (first, stop - 1) (omega arith), same u under) (or_none (is_open windows closures u))
+          let under : u < first = grind (arith, common_steps) in
+          rw (not_before u (first, stop - 1) under, same u under) (or_none (is_runway_open closures u))
       | inr late ↦
-          let over : from ≤ u = grind (arith, common_steps) in
-          rw (none_after from spans u before over) (
-          elim (cases_Bool (nat_lt u first)) [
-            | inl waits ↦
-                let under : u < first = grind (arith, common_steps) in
-                rw (not_before u (first, stop - 1) under, least.least u over under) refl
-            | inr reached ↦
-                let at : first ≤ u = grind (arith, common_steps) in
-                elim (cases_Bool (nat_lt u stop)) [
-                  | inl inside ↦
-                      let under : u < stop = grind (arith, common_steps) in
-                      rw (within u (first, stop - 1) at (omega arith), run.passes u at under) refl
-                  | inr ended ↦
-                      let over_stop : stop ≤ u = grind (arith, common_steps) in
-                      let is : u ≡ stop = omega arith in
-                      let shut : is_open windows closures u ≡ false = rw is run.ends in
-                      rw (not_after u (first, stop - 1) (omega arith), shut) refl
-                ]
+          let at : first ≤ u = grind (arith, common_steps) in
+          rw (none_after first spans u before at) (
+          elim (cases_Bool (nat_lt u stop)) [
+            | inl inside ↦
+                let under : u < stop = grind (arith, common_steps) in
+                let most = run.within in
+                let in_days : nat_le u last_second ≡ true = grind (arith, nat_tests) in
+                rw (within u (first, stop - 1) at (omega arith), in_days, run.least u at under) refl
+            | inr ended ↦
+                let over : stop ≤ u = grind (arith, common_steps) in
+                rw (not_after u (first, stop - 1) (omega arith), between_runs closures first stop next u run n over below) refl
           ])
     ])
 
--- where nothing is open from a second on, and the spans end before, the spans hold exactly the open seconds
-pub all_runs : (windows closures spans : List Span) (from : ℕ) →
-    ((u : ℕ) → u < from → opens spans u ≡ is_open windows closures u) → EndBefore from spans → NoneFrom (is_open windows closures) from →
-    (u : ℕ) → opens spans u ≡ is_open windows closures u
-all_runs windows closures spans from same before none u = elim (cases_Bool (nat_lt u from)) [
+-- where the spans hold the open seconds up to the end of the two days, they hold them all
+pub all_runs : (closures spans : List Span) (from : ℕ) → ((u : ℕ) → u < from → opens spans u ≡ is_runway_open closures u) → EndBefore from spans →
+    last_second < from → (u : ℕ) → opens spans u ≡ is_runway_open closures u
+all_runs closures spans from same before ended u = elim (cases_Bool (nat_lt u from)) [
   | inl early ↦ same u (grind (arith, common_steps))
-  | inr late ↦ let over : from ≤ u = grind (arith, common_steps) in none_after from spans u before over ∙ sym (none u over)
+  | inr late ↦
+      let over : from ≤ u = grind (arith, common_steps) in
+      let past : nat_le u last_second ≡ false = grind (arith, nat_tests) in
+      rw (none_after from spans u before over, past) refl
 ]
+
+-- `new` are the longest spans of the seconds of `old` and of those from first to last
+pub record IsOneMore (old : List Span) (first last : ℕ) (new : List Span) : Type 0 where
+  pub maximal : AreMaximal new
+  pub before : (end : ℕ) → first < end → last + 2 ≤ end → EndBefore end new
+  pub same : (u : ℕ) → opens new u ≡ (opens old u || is_within u (first, last))
 
 -- ---- what the rules ask of spans
 
