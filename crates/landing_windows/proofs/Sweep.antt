@@ -1,8 +1,9 @@
 -- What two lists of spans in order both hold, swept from the first second on.
 use Rattle.std.proofs.Common.{◌≡◌, ℕ, ◌+◌, ◌<◌, ◌≤◌, min, max, List, [], ◌∷◌, ◌++◌, length, slice_index_or, drop, Bool, true, false, arith, refl, sym, ◌∙◌, inl, inr}
-use Rattle.std.specs.Prelude.{◌||◌, ◌&&◌, not, nat_le, nat_lt}
+use Rattle.std.specs.Prelude.{◌||◌, ◌&&◌, not, nat_le}
+use Rattle.std.proofs.Math.Bool.{or-false, and_comm}
 use Rattle.std.proofs.Math.Nat.{max_comm, min_comm}
-use Rattle.std.proofs.lemmas.Bool.{cases_Bool}
+use Rattle.std.proofs.lemmas.Bool.{cases_Bool, cases_lt, and_left, and_right, le-leb}
 use Rattle.std.proofs.lemmas.Bool.Decides.{nat_tests}
 use Rattle.std.proofs.lemmas.Grind.{common_steps}
 use Rattle.std.proofs.lemmas.List.Folds.{list_any-append}
@@ -10,23 +11,15 @@ use Rattle.landing_rules.specs.Flights.{Span}
 use Rattle.landing_rules.specs.Problem.{AreOpenSpans}
 use Rattle.landing_rules.specs.Rules.{last_second, is_within}
 use Rattle.landing_windows.specs.Spans.{opens, shuts, is_runway_open, AreSecondsOf, AreSpansFrom, AreInOrder, AreMaximal}
-use Rattle.landing_windows.specs.Runs.{not_before, not_after, none_before, EndBefore, IsOneMore, end_later, end_one_more, maximal_one_more, from_lower, opens_in_days, are_open_spans}
+use Rattle.landing_windows.specs.Runs.{not_after, none_before, EndBefore, IsOneMore, end_later, end_one_more, maximal_one_more, from_lower, opens_in_days, are_open_spans}
 
 -- ---- one more run
 
-or_end : (b : Bool) → (b || false) ≡ b
-or_end true = refl
-or_end false = refl
-
 no_second : (u first last : ℕ) → last < first → is_within u (first, last) ≡ false
-no_second u first last none = elim (cases_Bool (nat_lt u first)) [
-  | inl early ↦ not_before u (first, last) (grind (arith, common_steps))
-  | inr late ↦ let at : first ≤ u = grind (arith, common_steps) in not_after u (first, last) (omega arith)
-]
+no_second u first last none = grind (arith, nat_tests, common_steps)
 
 run_on : (u last : ℕ) (w : Span) (before : Bool) → w.0 ≤ w.1 → w.1 < last → (before || (is_within u (w.0, last) || false)) ≡ ((before || (is_within u w || false)) || is_within u (w.1 + 1, last))
-run_on u last w true forward some = refl
-run_on u last w false forward some = grind (arith, nat_tests, common_steps)
+run_on u last w before forward some = grind (arith, nat_tests, common_steps)
 
 -- a last span taken off
 record IsLast (least : ℕ) (ys : List Span) (w : Span) : Type 0 where
@@ -57,7 +50,7 @@ pub none_more : (xs : List Span) (first last : ℕ) → AreMaximal xs → EndBef
 none_more xs first last a b none = record {
   maximal = a;
   before = λ end h i. end_later (first + 1) end xs b (omega arith);
-  same = λ u. rw (no_second u first last none) (sym (or_end (opens xs u)));
+  same = λ u. rw (no_second u first last none) (sym (or-false (opens xs u)));
 }
 
 pub apart_more : (xs : List Span) (first last : ℕ) → AreMaximal xs → EndBefore first xs → first ≤ last → last ≤ last_second →
@@ -65,7 +58,7 @@ pub apart_more : (xs : List Span) (first last : ℕ) → AreMaximal xs → EndBe
 apart_more xs first last a b some days = record {
   maximal = maximal_one_more 0 first xs (first, last) a b (omega arith) (omega arith) some days;
   before = λ end h i. end_one_more end xs (first, last) (end_later first end xs b (omega arith)) i;
-  same = λ u. rw (list_any-append (is_within u) xs ((first, last) ∷ []), or_end (is_within u (first, last))) refl;
+  same = λ u. rw (list_any-append (is_within u) xs ((first, last) ∷ []), or-false (is_within u (first, last))) refl;
 }
 
 pub alone_more : (xs : List Span) (first last : ℕ) → (0 < length xs → ⊥) → first ≤ last → last ≤ last_second → IsOneMore xs first last (xs ++ (first, last) ∷ [])
@@ -108,44 +101,14 @@ starts_after least (w ∷ ws) a h = a.0
 both_within : (u : ℕ) (w s : Span) → is_within u (max w.0 s.0, min w.1 s.1) ≡ (is_within u w && is_within u s)
 both_within u w s = grind (arith, nat_tests, common_steps)
 
-and_end : (b : Bool) → (b && false) ≡ false
-and_end true = refl
-and_end false = refl
-
-and_comm : (a b : Bool) → (a && b) ≡ (b && a)
-and_comm true true = refl
-and_comm true false = refl
-and_comm false true = refl
-and_comm false false = refl
-
 regroup : (t wi wr si sr : Bool) → (wi && sr) ≡ false → ((t || (wi && si)) || (wr && (si || sr))) ≡ (t || ((wi || wr) && (si || sr)))
-regroup true wi wr si sr e = refl
-regroup false false wr si sr e = refl
-regroup false true wr si true e = absurd (cc e)
-regroup false true wr true false e = refl
-regroup false true true false false e = refl
-regroup false true false false false e = refl
+regroup t wi wr si sr e = grind (arith, common_steps)
 
 apart_lists : (u : ℕ) (w s : Span) (ss : List Span) → AreSpansFrom 1 (s.1 + 1) ss → w.1 ≤ s.1 → (is_within u w && opens ss u) ≡ false
-apart_lists u w s ss a h = elim (cases_Bool (nat_le u w.1)) [
-  | inl early ↦
-      let before : u ≤ w.1 = grind (arith, common_steps) in
-      rw (none_before 1 (s.1 + 1) ss u a (omega arith)) (and_end (is_within u w))
-  | inr late ↦ let after : w.1 < u = grind (arith, common_steps) in rw (not_after u w after) refl
+apart_lists u w s ss a h = elim (cases_lt w.1 u) [
+  | inl after ↦ and_left _ _ (not_after u w after)
+  | inr early ↦ and_right _ _ (none_before 1 (s.1 + 1) ss u a (omega arith))
 ]
-
-pub window_done : (test : ℕ → Bool) (w s : Span) (ws ss times new : List Span) → IsSwept test (w ∷ ws) (s ∷ ss) times →
-    IsOneMore times (max w.0 s.0) (min w.1 s.1) new → w.1 ≤ s.1 → IsSwept test ws (s ∷ ss) new
-window_done test w s ws ss times new k more h =
-    let a = k.windows in
-    let later : w.1 + 1 ≤ start ws = starts_after (w.1 + 1) ws a.3 (omega arith) in
-    record {
-      same = λ u. rw (more.same u, both_within u w s) (regroup (opens times u) (is_within u w) (opens ws u) (is_within u s) (opens ss u) (apart_lists u w s ss k.open_spans.3 h) ∙ k.same u);
-      windows = from_lower 1 (w.1 + 1) 0 ws a.3 (omega arith);
-      open_spans = k.open_spans;
-      maximal = more.maximal;
-      before = more.before (max (start ws) s.0 + 1) (omega arith) (omega arith);
-    }
 
 swapped : (test : ℕ → Bool) (ws ss times : List Span) → IsSwept test ws ss times → IsSwept test ss ws times
 swapped test ws ss times k = record {
@@ -162,7 +125,16 @@ pub one_done : (test : ℕ → Bool) (ws ss times new : List Span) (v d : Span) 
     (slice_index_or ws 0 v).1 ≤ (slice_index_or ss 0 d).1 → IsSwept test (drop 1 ws) ss new
 one_done test [] ss times new v d k n m more h = absurd (omega arith)
 one_done test (w ∷ ws) [] times new v d k n m more h = absurd (omega arith)
-one_done test (w ∷ ws) (s ∷ ss) times new v d k n m more h = window_done test w s ws ss times new k more h
+one_done test (w ∷ ws) (s ∷ ss) times new v d k n m more h =
+    let a = k.windows in
+    let later : w.1 + 1 ≤ start ws = starts_after (w.1 + 1) ws a.3 (omega arith) in
+    record {
+      same = λ u. rw (more.same u, both_within u w s) (regroup (opens times u) (is_within u w) (opens ws u) (is_within u s) (opens ss u) (apart_lists u w s ss k.open_spans.3 h) ∙ k.same u);
+      windows = from_lower 1 (w.1 + 1) 0 ws a.3 (omega arith);
+      open_spans = k.open_spans;
+      maximal = more.maximal;
+      before = more.before (max (start ws) s.0 + 1) (omega arith) (omega arith);
+    }
 
 pub other_done : (test : ℕ → Bool) (ws ss times new : List Span) (v d : Span) → IsSwept test ws ss times → 1 ≤ length ws → 1 ≤ length ss →
     IsOneMore times (max (slice_index_or ws 0 v).0 (slice_index_or ss 0 d).0) (min (slice_index_or ws 0 v).1 (slice_index_or ss 0 d).1) new →
@@ -173,12 +145,9 @@ other_done test ws ss times new v d k n m more h =
 
 -- a window holds only seconds of the two days
 in_days : (least : ℕ) (ws : List Span) (u : ℕ) (b : Bool) → AreSpansFrom 1 least ws → (opens ws u && (nat_le u last_second && b)) ≡ (opens ws u && b)
-in_days least ws u b a = elim (cases_Bool (nat_le u last_second)) [
-  | inl early ↦ rw early refl
-  | inr late ↦ elim (cases_Bool (opens ws u)) [
-    | inl here ↦ let day : u ≤ last_second = opens_in_days 1 least ws u a here in absurd (grind (arith, nat_tests))
-    | inr there ↦ rw there refl
-  ]
+in_days least ws u b a = elim (cases_Bool (opens ws u)) [
+  | inl here ↦ let day : nat_le u last_second ≡ true = le-leb u last_second (opens_in_days 1 least ws u a here) in rw day refl
+  | inr there ↦ rw there refl
 ]
 
 pub flight_seconds : (windows closures runway times : List Span) → AreInOrder windows → AreSecondsOf (λ t. opens windows t && opens runway t) times →

@@ -48,12 +48,6 @@ pub record IsLeastFrom (test : ℕ → Bool) (from t : ℕ) : Type 0 where
 abbrev pub FirstFrom : (ℕ → Bool) → ℕ → Option ℕ → Type 0
 FirstFrom test from answer = MatchOption answer (NoneFrom test from) (λ t. IsLeastFrom test from t)
 
--- every second from `from` up to `stop` passes, and `stop` doesn't
-pub record IsStopFrom (test : ℕ → Bool) (from stop : ℕ) : Type 0 where
-  pub after : from ≤ stop
-  pub passes : (u : ℕ) → from ≤ u → u < stop → test u ≡ true
-  pub ends : test stop ≡ false
-
 -- a closure shuts t, and shuts every second up to the end given
 pub record IsShutUntil (closures : List Span) (t end : ℕ) : Type 0 where
   pub after : t < end

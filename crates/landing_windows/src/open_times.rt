@@ -4,10 +4,10 @@ ghost use Rattle.std.specs.Cmp.Lexicographic.{pointwise};
 ghost use Rattle.landing_rules.specs.Problem.{AreOpenSpans};
 ghost use Rattle.landing_rules.specs.Rules.{last_second};
 ghost use Rattle.landing_windows.specs.Runs.{EndBefore, IsOneMore};
-ghost use Rattle.landing_windows.specs.Spans.{opens, is_runway_open, AreSecondsOf, FirstFrom, AreMaximal};
+ghost use Rattle.landing_windows.specs.Spans.{opens, is_runway_open, AreMaximal, AreSecondsOf, FirstFrom};
 ghost use Rattle.landing_windows.specs.Same.{same_pair, same_lists};
 
-use crate::search::{first_shut, first_within, next_not_shut};
+use crate::search::{first_shut, first_within, shut_until};
 use crate::{Closures, LAST_SECOND, WindowSet};
 use smallvec::SmallVec;
 use std::alloc::{AllocError, Global};
@@ -46,27 +46,32 @@ impl OpenTimes {
         Ok(times)
     }
 
-    /// The seconds of the two days in no closure.
+    /// The open seconds of the runway: those of the two days in no closure.
     pub fn of_runway(alloc: Global, closures: &Closures) -> Result<OpenTimes, AllocError>
         ensures { IfOk result (λ times. AreSecondsOf (is_runway_open closures.now) times) }
     {
         let closures = closures.pairs();
         let mut spans = SmallVec::new(alloc);
-        let mut first = next_not_shut(closures, 0);
-        while first <= LAST_SECOND {
-            let stop = first_shut(closures, first, LAST_SECOND + 1);
-            spans.push((first, stop - 1))?;
-            first = next_not_shut(closures, stop + 1);
+        let mut from = 0;
+        while from <= LAST_SECOND {
+            if let Some(end) = shut_until(closures, from) {
+                from = end;
+            } else {
+                let stop = first_shut(closures, from, LAST_SECOND + 1);
+                add_run(&mut spans, from, stop - 1)?;
+                from = stop;
+            }
         }
         Ok(OpenTimes { spans })
     }
 
-    /// Those of these seconds that are in the windows: of a runway's open seconds, the flight's.
+    /// Those of these seconds that are in the windows. Of the runway's open seconds they are the flight's.
     pub fn within(&self, alloc: Global, windows: &WindowSet) -> Result<OpenTimes, AllocError>
         ensures both { IfOk result (λ times.
             AreSecondsOf (λ t. opens windows.now t && opens self.now t) times) }
-        ensures runway { IfOk result (λ times. (closures : List (ℕ × ℕ)) →
-            AreSecondsOf (is_runway_open closures) self.now → AreOpenSpans windows.now closures times) }
+        ensures flight { IfOk result (λ times. (closures : List (ℕ × ℕ)) →
+            AreSecondsOf (is_runway_open closures) self.now →
+            AreOpenSpans windows.now closures times) }
     {
         let mut windows_left = windows.spans();
         let mut open_left = self.spans.as_slice();

@@ -1,6 +1,6 @@
 // Searches along spans and closures, for the least second that is open or shut.
 ghost use Rattle.std.specs.Prelude.{◌≡◌, ◌≤◌, false, MatchOption};
-ghost use Rattle.landing_windows.specs.Spans.{opens, shuts, AreInOrder, FirstFrom, IsStopFrom, IsShutUntil, IsFirstShut};
+ghost use Rattle.landing_windows.specs.Spans.{opens, shuts, AreInOrder, FirstFrom, IsShutUntil, IsFirstShut};
 
 // The least second in a span at or after t. A scan: a flight has few open spans (mostly one, at most 36), and it
 // allocates nothing.
@@ -19,7 +19,7 @@ pub(crate) fn first_within(spans: &[(u32, u32)], t: u32) -> Option<u32>
 }
 
 // The end of a closure that holds t.
-fn shut_until(closures: &[(u32, u32)], t: u32) -> Option<u32>
+pub(crate) fn shut_until(closures: &[(u32, u32)], t: u32) -> Option<u32>
     ensures { MatchOption result (shuts closures.now t ≡ false)
         (λ end. IsShutUntil closures.now t end) }
 {
@@ -48,15 +48,4 @@ pub(crate) fn first_shut(closures: &[(u32, u32)], start: u32, most: u32) -> u32
         rest = after;
     }
     least
-}
-
-// The least second at or after t that no closure holds.
-pub(crate) fn next_not_shut(closures: &[(u32, u32)], t: u32) -> u32
-    ensures { IsStopFrom (shuts closures.now) t result }
-{
-    let mut from = t;
-    while let Some(end) = shut_until(closures, from) {
-        from = end;
-    }
-    from
 }

@@ -2,4 +2,4 @@
 use Rattle.landing_windows.proofs.open_times.OpenTimes.of.Goals as goal
 
 pub returns : goal.returns
-returns c = c.in_ok-times.ensures.runway _ c.in_ok-runway.ensures
+returns c = c.in_ok-times.ensures.flight _ c.in_ok-runway.ensures

@@ -25,4 +25,4 @@ loop-windows_left-preserved c =
 pub returns : goal.returns
 returns c =
     let both : AreSecondsOf (λ u. opens c.args.windows.now u && opens c.args.self.now u) c.loop-windows_left.spans.items = search rules in
-    record { both = both; runway = λ closures runway. flight_seconds _ _ _ _ c.spans-windows_left.ensures.in_order both runway }
+    record { both = both; flight = λ closures runway. flight_seconds _ _ _ _ c.spans-windows_left.ensures.in_order both runway }
