@@ -7,7 +7,7 @@ ghost use Rattle.landing_windows.specs.Runs.{EndBefore, IsOneMore};
 ghost use Rattle.landing_windows.specs.Spans.{opens, is_runway_open, AreMaximal, AreSecondsOf, FirstFrom, SpanFrom};
 ghost use Rattle.landing_windows.specs.Same.{same_pair, same_lists};
 
-use crate::search::{first_shut, first_within, shut_until};
+use crate::search::{first_shut, shut_until};
 use crate::{Closures, LAST_SECOND, WindowSet};
 use smallvec::SmallVec;
 use std::alloc::{AllocError, Global};
@@ -96,7 +96,8 @@ impl OpenTimes {
         ensures in_days { IfSome result (λ second. second ≤ last_second) }
         ensures spans { AreMaximal self.now }
     {
-        first_within(self.spans.as_slice(), t)
+        let (first, _) = self.span_from(t)?;
+        Some(first)
     }
 
     /// The least open second at or after t, and the last one, at most 172,799, up to which all from it on are open. None
@@ -104,6 +105,7 @@ impl OpenTimes {
     pub fn span_from(&self, t: u32) -> Option<(u32, u32)>
         ensures span { SpanFrom (opens self.now) t result }
         ensures in_days { IfSome result (λ span. span.1 ≤ last_second) }
+        ensures spans { AreMaximal self.now }
     {
         let mut rest = self.spans.as_slice();
         while let [(first, last), after @ ..] = rest {

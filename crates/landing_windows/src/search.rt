@@ -1,22 +1,6 @@
-// Searches along spans and closures, for the least second that is open or shut.
+// Searches along closures.
 ghost use Rattle.std.specs.Prelude.{◌≡◌, ◌≤◌, false, MatchOption};
-ghost use Rattle.landing_windows.specs.Spans.{opens, shuts, AreInOrder, FirstFrom, IsShutUntil, IsFirstShut};
-
-// The least second in a span at or after t. A scan: a flight has few open spans (mostly one, at most 36), and it
-// allocates nothing.
-pub(crate) fn first_within(spans: &[(u32, u32)], t: u32) -> Option<u32>
-    requires { AreInOrder spans.now }
-    ensures { FirstFrom (opens spans.now) t result }
-{
-    let mut rest = spans;
-    while let [(first, last), after @ ..] = rest {
-        if t <= *last {
-            return Some(t.max(*first));
-        }
-        rest = after;
-    }
-    None
-}
+ghost use Rattle.landing_windows.specs.Spans.{shuts, IsShutUntil, IsFirstShut};
 
 // The end of a closure that holds t.
 pub(crate) fn shut_until(closures: &[(u32, u32)], t: u32) -> Option<u32>
