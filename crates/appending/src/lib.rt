@@ -21,6 +21,3 @@ pub fn append_all(pieces: &[&[u8]], into: &mut Vec<u8>) -> Result<(), AllocError
     }
     Ok(())
 }
-
-#[cfg(test)]
-mod tests;

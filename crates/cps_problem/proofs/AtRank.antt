@@ -1,16 +1,17 @@
 -- The flight that is read at a rank, what holds of it, and its first open second.
-use Rattle.std.proofs.Common.{◌≡◌, ℕ, zero, suc, ◌+◌, ◌-◌, ◌*◌, ◌≤◌, ◌⊎◌, inl, inr, true, List, [], ◌∷◌, Option, Some, None, sym, ap, subst, ◌∙◌, arith}
+use Rattle.std.proofs.Common.{◌≡◌, ℕ, zero, suc, ◌+◌, ◌-◌, ◌*◌, ◌≤◌, max, ◌⊎◌, inl, inr, true, List, [], ◌∷◌, Option, Some, None, sym, ap, subst, ◌∙◌, arith}
 use Rattle.std.proofs.Math.Nat.{mul-le-mul_left, mul-le-mul_right}
-use Rattle.std.specs.Prelude.{All, slice_get, IfSome}
+use Rattle.std.specs.Prelude.{All, slice_get, IfSome, MatchOption}
 use Rattle.std.proofs.lemmas.Option.{slice_get_within, get_or_from_slice_get}
-use Rattle.std.proofs.lemmas.Bool.{or_cases, and_parts, leb-true, false≢true}
+use Rattle.std.proofs.lemmas.Bool.{cases_eq, or_cases, and_parts, leb-true, false≢true}
 use Rattle.landing_rules.specs.Flights.{Span}
 use Rattle.landing_rules.specs.Rules.{last_second, is_within}
 use Rattle.landing_rules.specs.Problem.{Problem, Waiting}
-use Rattle.landing_windows.specs.Spans.{opens, FirstFrom, AreMaximal, AreSpansFrom}
+use Rattle.landing_windows.specs.Spans.{opens, FirstFrom, IsLeastFrom, IsStopFrom, SpanFrom, AreMaximal, AreSpansFrom}
 use Rattle.cps_theory.specs.RankLists.{of_rank}
 use Rattle.landing_joint.specs.RankedProblem.{no_waiting, first_open}
-use Rattle.landing_joint.specs.shared.FirstOpen.{first_open_none, first_open_some}
+use Rattle.landing_joint.specs.shared.FirstOpen.{first_open_none, first_open_some, first_open_found}
+use Rattle.cps_problem.specs.OpenSpans.{IsOpenSpan}
 
 pub flight_is : (p : Problem) (r : ℕ) (f : Waiting) → 1 ≤ r → slice_get p.flights (r - 1) ≡ Some f → of_rank no_waiting p.flights r ≡ f
 flight_is p zero f one e = absurd (omega arith)
@@ -35,6 +36,28 @@ in_days gap least t (w ∷ ws) h e = go (or_cases (is_within t w) (opens ws t) e
 pub first_in_days : (spans : List Span) (t : ℕ) (answer : Option ℕ) → AreMaximal spans → FirstFrom (opens spans) t answer → IfSome answer (λ u. u ≤ last_second)
 first_in_days spans t None m h = tt
 first_in_days spans t (Some u) m h = in_days 2 0 u spans m h.passes
+
+-- a span of open seconds is one in which a rank with these spans lands at once
+pub span_is : (spans : List Span) (from : ℕ) (span : Span) → IsLeastFrom (opens spans) from span.0 → IsStopFrom (opens spans) span.0 (span.1 + 1) → IsOpenSpan (first_open spans) from span
+span_is spans from span first stop =
+    let runs : span.0 ≤ span.1 = runs_to first.passes stop in
+    record {
+      after = first.after;
+      runs = runs;
+      lands = λ t lo hi. sym (first_open_some spans t (max t span.0) (omega arith) (stop.passes (max t span.0) (omega arith) (omega arith)) (λ u a b. first.least u (omega arith) (omega arith)));
+      ends = λ e. false≢true (sym stop.ends ∙ (first_open_found spans (span.1 + 1) (span.1 + 1) e).0);
+    }
+  where
+    runs_to : opens spans span.0 ≡ true → IsStopFrom (opens spans) span.0 (span.1 + 1) → span.0 ≤ span.1
+    runs_to here s = elim (cases_eq span.0 (span.1 + 1)) [
+      | inl e ↦ absurd (false≢true (sym s.ends ∙ ap (opens spans) (sym e) ∙ here))
+      | inr ne ↦ (let after = s.after in omega arith)
+    ]
+
+pub spans_are : (spans : List Span) (from : ℕ) (answer : Option Span) → SpanFrom (opens spans) from answer
+    → MatchOption answer (first_open spans from ≡ None) (λ span. IsOpenSpan (first_open spans) from span)
+spans_are spans from None h = sym (first_open_none spans from h)
+spans_are spans from (Some span) h = span_is spans from span h.0 h.1
 
 -- a weight of at most 100, for at most each second
 pub weight_low : (w d t e : ℕ) → w ≤ 100 → d ≡ t - e → w * d ≤ 100 * t

@@ -4,5 +4,6 @@ pub mod Seen
 pub mod Inside
 pub mod WellFormed
 pub mod Plans
+pub mod OpenSpans
 pub mod FirstDifference
 pub mod shared

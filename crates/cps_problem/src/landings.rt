@@ -1,8 +1,9 @@
-ghost use Rattle.std.specs.Prelude.{◌≡◌, ◌≤◌, ◌*◌, length, IfSome};
+ghost use Rattle.std.specs.Prelude.{◌≡◌, ◌≤◌, ◌*◌, length, None, IfSome, MatchOption};
 ghost use Rattle.wake_table.specs.Table.{greatest_separation};
 ghost use Rattle.landing_rules.specs.Rules.{last_second};
 ghost use Rattle.cps_theory.specs.Feasible.{next_from};
 ghost use Rattle.landing_joint.specs.RankedProblem.{ranked, landing_after, cost_at, apart_at, start_at, first_at};
+ghost use Rattle.cps_problem.specs.OpenSpans.{IsOpenSpan};
 ghost use Rattle.cps_problem.specs.Seen.{passed_at};
 ghost use Rattle.cps_problem.specs.WellFormed.{IsWellFormed};
 
@@ -67,6 +68,16 @@ impl Problem {
         ensures in_days { IfSome result (λ t. t ≤ last_second) }
     {
         self.flight(rank).times.first_from(from)
+    }
+
+    /// The first open second of a rank from a second on, and the last one up to which it may land at each from there on.
+    pub fn open_span(&self, rank: u8, from: u32) -> Option<(u32, u32)>
+        requires { (1 ≤ rank) × (rank ≤ length self.now.flights) }
+        ensures span { MatchOption result (first_at self.now rank from ≡ None)
+            (λ span. IsOpenSpan (first_at self.now rank) from span) }
+        ensures in_days { IfSome result (λ span. span.1 ≤ last_second) }
+    {
+        self.flight(rank).times.span_from(from)
     }
 
     /// Where a rank lands behind another that landed at a second, or as the first behind rank 0: its first open second

@@ -1,14 +1,14 @@
 -- What spans in order and closures hold.
-use Rattle.std.proofs.Common.{Option, Some, None, IfSome, ◌≡◌, ℕ, suc, zero, ◌+◌, ◌-◌, ◌<◌, ◌≤◌, max, List, [], ◌∷◌, ◌++◌, length, slice_index_or, All, Bool, true, false, arith, add-one, ap, refl, sym, ◌∙◌, inl, inr}
-use Rattle.std.specs.Prelude.{◌||◌, ◌&&◌, nat_le, nat_lt}
-use Rattle.std.proofs.lemmas.Bool.{cases_Bool}
+use Rattle.std.proofs.Common.{Option, Some, None, IfSome, ◌≡◌, ℕ, suc, zero, ◌+◌, ◌-◌, ◌<◌, ◌≤◌, max, List, [], ◌∷◌, ◌++◌, length, slice_index_or, All, true, false, arith, add-one, ap, refl, sym, ◌∙◌, inl, inr}
+use Rattle.std.specs.Prelude.{◌||◌, nat_le}
+use Rattle.std.proofs.Math.Bool.{or-false, and-false}
+use Rattle.std.proofs.lemmas.Bool.{cases_Bool, cases_lt, both_ways, or_from, and_right, le-leb, lt-leb}
 use Rattle.std.proofs.lemmas.Grind.{common_steps}
-use Rattle.std.proofs.lemmas.List.Folds.{list_any-append}
 use Rattle.std.proofs.lemmas.List.Elements.{All-nil, All-cons, All-weaker}
 use Rattle.landing_rules.specs.Flights.{Span}
 use Rattle.landing_rules.specs.Rules.{last_second, is_within, is_open}
 use Rattle.landing_rules.specs.Problem.{AreOpenSpans}
-use Rattle.landing_windows.specs.Spans.{FirstFrom, opens, AreSpansFrom, AreInOrder, AreMaximal, NoneFrom, IsLeastFrom, IsStopFrom}
+use Rattle.landing_windows.specs.Spans.{FirstFrom, opens, shuts, is_runway_open, AreSpansFrom, AreInOrder, AreMaximal, AreSecondsOf, IsLeastFrom, IsStopFrom, IsShutUntil, IsFirstShut}
 
 pub within : (u : ℕ) (w : Span) → w.0 ≤ u → u ≤ w.1 → is_within u w ≡ true
 within u w a b = grind (arith, common_steps)
@@ -17,19 +17,16 @@ pub not_before : (u : ℕ) (w : Span) → u < w.0 → is_within u w ≡ false
 not_before u w a = grind (arith, common_steps)
 
 pub not_after : (u : ℕ) (w : Span) → w.1 < u → is_within u w ≡ false
-not_after u w a = elim (cases_Bool (nat_le w.0 u)) [ inl y ↦ grind (arith, common_steps) | inr n ↦ grind (arith, common_steps) ]
+not_after u w a = and_right (nat_le w.0 u) (nat_le u w.1) (lt-leb u w.1 a)
 
 pub is_within_last : (u : ℕ) (w : Span) → is_within u w ≡ true → u ≤ w.1
 is_within_last u w e = grind (arith, common_steps)
-
-or_false : (a b : Bool) → a ≡ false → b ≡ false → (a || b) ≡ false
-or_false a b x y = rw (x, y) refl
 
 -- spans that begin at `least` or later hold no second before
 pub none_before : (gap least : ℕ) (ws : List Span) (u : ℕ) → AreSpansFrom gap least ws → u < least → opens ws u ≡ false
 none_before gap least [] u a b = refl
 none_before gap least (w ∷ ws) u a b =
-    or_false (is_within u w) (opens ws u) (not_before u w (omega arith)) (none_before gap (w.1 + gap) ws u a.3 (omega arith))
+    or_from _ _ (not_before u w (omega arith)) (none_before gap (w.1 + gap) ws u a.3 (omega arith))
 
 -- spans in order hold no second before the first of them
 pub none_before_first : (gap : ℕ) (w : Span) (ws : List Span) (u : ℕ) → AreSpansFrom gap 0 (w ∷ ws) → u < w.0 → opens (w ∷ ws) u ≡ false
@@ -59,9 +56,9 @@ abbrev pub EndBefore : ℕ → List Span → Type 0
 EndBefore end [] = Unit {0}
 EndBefore end (w ∷ ws) = (w.1 + 2 ≤ end) × EndBefore end ws
 
-pub none_after : (end : ℕ) (ws : List Span) (u : ℕ) → EndBefore end ws → end ≤ u → opens ws u ≡ false
+pub none_after : (end : ℕ) (ws : List Span) (u : ℕ) → EndBefore end ws → end ≤ u + 1 → opens ws u ≡ false
 none_after end [] u a b = refl
-none_after end (w ∷ ws) u a b = or_false (is_within u w) (opens ws u) (not_after u w (omega arith)) (none_after end ws u a.1 b)
+none_after end (w ∷ ws) u a b = or_from _ _ (not_after u w (omega arith)) (none_after end ws u a.1 b)
 
 pub end_later : (end later : ℕ) (ws : List Span) → EndBefore end ws → end ≤ later → EndBefore later ws
 end_later end later [] a b = tt
@@ -90,85 +87,61 @@ least_within spans (w ∷ ws) d t s same a n b e =
       least = λ u from before. sym (same u from) ∙ none_before_first 1 w ws u a (omega arith);
     }
 
-pub stops_before : (spans rest : List Span) (d : Span) (stop : ℕ) → opens rest stop ≡ opens spans stop → AreInOrder rest → 1 ≤ length rest →
-    stop < (slice_index_or rest 0 d).0 → opens spans stop ≡ false
-stops_before spans [] d stop same a n b = absurd (omega arith)
-stops_before spans (w ∷ ws) d stop same a n b = sym same ∙ none_before_first 1 w ws stop a b
-
 -- ---- open seconds
 
-and_left : (a b : Bool) → (a && b) ≡ true → a ≡ true
-and_left true b e = refl
-and_left false b e = absurd (cc e)
+-- `new` are the longest spans of the seconds of `old` and of those from first to last
+pub record IsOneMore (old : List Span) (first last : ℕ) (new : List Span) : Type 0 where
+  pub maximal : AreMaximal new
+  pub before : (end : ℕ) → first < end → last + 2 ≤ end → EndBefore end new
+  pub same : (u : ℕ) → opens new u ≡ (opens old u || is_within u (first, last))
 
-pub open_in_days : (windows closures : List Span) (u : ℕ) → AreInOrder windows → is_open windows closures u ≡ true → u ≤ last_second
-open_in_days windows closures u a e = opens_in_days 1 0 windows u a (and_left (opens windows u) _ e)
-
-true_not_false : (b : Bool) → b ≡ true → b ≡ false → ⊥
-true_not_false b x y = let z : true ≡ false = sym x ∙ y in cc z
-
--- a run of open seconds holds its first second, and ends within the two days
-pub run_bounds : (windows closures : List Span) (first stop : ℕ) → AreInOrder windows → is_open windows closures first ≡ true →
-    IsStopFrom (is_open windows closures) first stop → (first < stop) × (stop ≤ last_second + 1)
-run_bounds windows closures first stop a e s = elim (cases_Bool (nat_lt first stop)) [
-  | inl less ↦
-      let below : first < stop = grind (arith, common_steps) in
-      let last_open : is_open windows closures (stop - 1) ≡ true = s.passes (stop - 1) (omega arith) (omega arith) in
-      let in_days : stop - 1 ≤ last_second = open_in_days windows closures (stop - 1) a last_open in
-      (below, omega arith)
-  | inr not_less ↦
-      let above : stop ≤ first = grind (arith, common_steps) in
-      let at : stop ≡ first = let after = s.after in omega arith in
-      let shut : is_open windows closures first ≡ false = rw at at s.ends in
-      absurd (true_not_false _ e shut)
+-- a run from an open second on holds that second
+pub run_holds : (closures : List Span) (from most stop : ℕ) → shuts closures from ≡ false → from < most → IsFirstShut closures from most stop → from < stop
+run_holds closures from most stop e h s = elim (cases_lt from stop) [
+  | inl some ↦ some
+  | inr none ↦ let after = s.after in let at : stop ≡ from = omega arith in absurd (both_ways (shuts closures from) e (rw at at (s.shut (omega arith))))
 ]
 
-or_none : (b : Bool) → (b || (false || false)) ≡ b
-or_none true = refl
-or_none false = refl
+-- the spans hold exactly the open seconds before `from`, and each ends before it
+pub record IsOpenUpTo (closures : List Span) (from : ℕ) (spans : List Span) : Type 0 where
+  pub same : (u : ℕ) → u < from → opens spans u ≡ is_runway_open closures u
+  pub maximal : AreMaximal spans
+  pub before : EndBefore (from + 1) spans
 
--- one more run keeps that the spans so far hold exactly the open seconds so far
-pub one_more_run : (windows closures spans : List Span) (from first stop : ℕ) →
-    ((u : ℕ) → u < from → opens spans u ≡ is_open windows closures u) → EndBefore from spans →
-    IsLeastFrom (is_open windows closures) from first → IsStopFrom (is_open windows closures) first stop → first < stop →
-    (u : ℕ) → u < stop + 1 → opens (spans ++ (first, stop - 1) ∷ []) u ≡ is_open windows closures u
-one_more_run windows closures spans from first stop same before least run nonempty u below =
-    rw (list_any-append (is_within u) spans ((first, stop - 1) ∷ [])) (
-    elim (cases_Bool (nat_lt u from)) [
-      | inl early ↦
-          let under : u < from = grind (arith, common_steps) in
-          let after = least.after in
-          rw (not_before u (first, stop - 1) (omega arith), same u under) (or_none (is_open windows closures u))
-      | inr late ↦
-          let over : from ≤ u = grind (arith, common_steps) in
-          rw (none_after from spans u before over) (
-          elim (cases_Bool (nat_lt u first)) [
-            | inl waits ↦
-                let under : u < first = grind (arith, common_steps) in
-                rw (not_before u (first, stop - 1) under, least.least u over under) refl
-            | inr reached ↦
-                let at : first ≤ u = grind (arith, common_steps) in
-                elim (cases_Bool (nat_lt u stop)) [
-                  | inl inside ↦
-                      let under : u < stop = grind (arith, common_steps) in
-                      rw (within u (first, stop - 1) at (omega arith), run.passes u at under) refl
-                  | inr ended ↦
-                      let over_stop : stop ≤ u = grind (arith, common_steps) in
-                      let is : u ≡ stop = omega arith in
-                      let shut : is_open windows closures u ≡ false = rw is run.ends in
-                      rw (not_after u (first, stop - 1) (omega arith), shut) refl
-                ]
-          ])
-    ])
+pub shut_on : (closures spans : List Span) (from end : ℕ) → IsOpenUpTo closures from spans → IsShutUntil closures from end → IsOpenUpTo closures end spans
+shut_on closures spans from end k shut = record {
+  same = λ u below. elim (cases_lt u from) [
+    | inl early ↦ k.same u early
+    | inr late ↦ rw (none_after (from + 1) spans u k.before (omega arith), shut.shut u late below) (sym (and-false (nat_le u last_second)))
+  ];
+  maximal = k.maximal;
+  before = let after = shut.after in end_later (from + 1) (end + 1) spans k.before (omega arith);
+}
 
--- where nothing is open from a second on, and the spans end before, the spans hold exactly the open seconds
-pub all_runs : (windows closures spans : List Span) (from : ℕ) →
-    ((u : ℕ) → u < from → opens spans u ≡ is_open windows closures u) → EndBefore from spans → NoneFrom (is_open windows closures) from →
-    (u : ℕ) → opens spans u ≡ is_open windows closures u
-all_runs windows closures spans from same before none u = elim (cases_Bool (nat_lt u from)) [
-  | inl early ↦ same u (grind (arith, common_steps))
-  | inr late ↦ let over : from ≤ u = grind (arith, common_steps) in none_after from spans u before over ∙ sym (none u over)
-]
+pub open_on : (closures spans new : List Span) (from stop : ℕ) → IsOpenUpTo closures from spans → IsFirstShut closures from (last_second + 1) stop → from < stop →
+    IsOneMore spans from (stop - 1) new → IsOpenUpTo closures stop new
+open_on closures spans new from stop k run some more = record {
+  same = λ u below. more.same u ∙ elim (cases_lt u from) [
+    | inl early ↦ rw (not_before u (from, stop - 1) early, k.same u early) (or-false (is_runway_open closures u))
+    | inr late ↦
+        let most = run.within in
+        let day : nat_le u last_second ≡ true = le-leb u last_second (omega arith) in
+        rw (none_after (from + 1) spans u k.before (omega arith), within u (from, stop - 1) late (omega arith), day, run.least u late below) refl
+  ];
+  maximal = more.maximal;
+  before = more.before (stop + 1) (omega arith) (omega arith);
+}
+
+pub all_open : (closures spans : List Span) (from : ℕ) → IsOpenUpTo closures from spans → last_second < from → AreSecondsOf (is_runway_open closures) spans
+all_open closures spans from k ended = record {
+  maximal = k.maximal;
+  same = λ u. elim (cases_lt u from) [
+    | inl early ↦ k.same u early
+    | inr late ↦
+        let past : nat_le u last_second ≡ false = lt-leb u last_second (omega arith) in
+        rw (none_after (from + 1) spans u k.before (omega arith), past) refl
+  ];
+}
 
 -- ---- what the rules ask of spans
 
@@ -204,42 +177,36 @@ holds_first : (w : Span) (ws : List Span) (u : ℕ) → w.0 ≤ u → u ≤ w.1 
 holds_first w ws u a b = rw (within u w a b) refl
 
 differ : (xs ys : List Span) (u : ℕ) → opens xs u ≡ opens ys u → opens xs u ≡ true → opens ys u ≡ false → ⊥
-differ xs ys u same x y = true_not_false (opens xs u) x (same ∙ y)
+differ xs ys u same x y = both_ways (opens xs u) (same ∙ y) x
 
-same_start : (least : ℕ) (v w : Span) (vs ws : List Span) → AreSpansFrom 2 least (v ∷ vs) → AreSpansFrom 2 least (w ∷ ws) →
-    ((t : ℕ) → least ≤ t → opens (v ∷ vs) t ≡ opens (w ∷ ws) t) → v.0 ≡ w.0
-same_start least v w vs ws a b same = elim (cases_Bool (nat_lt v.0 w.0)) [
-  | inl less ↦
-      let below : v.0 < w.0 = grind (arith, common_steps) in
-      absurd (differ (v ∷ vs) (w ∷ ws) v.0 (same v.0 a.0) (holds_first v vs v.0 (omega arith) a.1)
-      (none_before 2 w.0 (w ∷ ws) v.0 (omega arith, b.1, b.2, b.3) below))
-  | inr not_less ↦ elim (cases_Bool (nat_lt w.0 v.0)) [
-    | inl more ↦
-        let above : w.0 < v.0 = grind (arith, common_steps) in
-        absurd (differ (w ∷ ws) (v ∷ vs) w.0 (sym (same w.0 b.0)) (holds_first w ws w.0 (omega arith) b.1)
-        (none_before 2 v.0 (v ∷ vs) w.0 (omega arith, a.1, a.2, a.3) above))
-    | inr not_more ↦ grind (arith, common_steps)
-  ]
+-- of two lists of the same seconds neither begins before the other
+not_earlier : (least : ℕ) (v w : Span) (vs ws : List Span) → AreSpansFrom 2 least (v ∷ vs) → AreSpansFrom 2 least (w ∷ ws) →
+    ((t : ℕ) → least ≤ t → opens (v ∷ vs) t ≡ opens (w ∷ ws) t) → w.0 ≤ v.0
+not_earlier least v w vs ws a b same = elim (cases_lt v.0 w.0) [
+  | inl below ↦ absurd (differ (v ∷ vs) (w ∷ ws) v.0 (same v.0 a.0) (holds_first v vs v.0 (omega arith) a.1) (none_before 2 w.0 (w ∷ ws) v.0 (omega arith, b.1, b.2, b.3) below))
+  | inr not_below ↦ not_below
 ]
 
 -- just after its first span a list of maximal spans holds no second
 gap_after : (least : ℕ) (v : Span) (vs : List Span) → AreSpansFrom 2 least (v ∷ vs) → opens (v ∷ vs) (v.1 + 1) ≡ false
-gap_after least v vs a = or_false _ _ (not_after (v.1 + 1) v (omega arith)) (none_before 2 (v.1 + 2) vs (v.1 + 1) a.3 (omega arith))
+gap_after least v vs a = or_from _ _ (not_after (v.1 + 1) v (omega arith)) (none_before 2 (v.1 + 2) vs (v.1 + 1) a.3 (omega arith))
 
-same_end : (least : ℕ) (v w : Span) (vs ws : List Span) → AreSpansFrom 2 least (v ∷ vs) → AreSpansFrom 2 least (w ∷ ws) →
-    ((t : ℕ) → least ≤ t → opens (v ∷ vs) t ≡ opens (w ∷ ws) t) → v.0 ≡ w.0 → v.1 ≡ w.1
-same_end least v w vs ws a b same starts = elim (cases_Bool (nat_lt v.1 w.1)) [
-  | inl less ↦
-      let below : v.1 < w.1 = grind (arith, common_steps) in
-      absurd (differ (w ∷ ws) (v ∷ vs) (v.1 + 1) (sym (same (v.1 + 1) (omega arith))) (holds_first w ws (v.1 + 1) (omega arith) (omega arith))
-      (gap_after least v vs a))
-  | inr not_less ↦ elim (cases_Bool (nat_lt w.1 v.1)) [
-    | inl more ↦
-        let above : w.1 < v.1 = grind (arith, common_steps) in
-        absurd (differ (v ∷ vs) (w ∷ ws) (w.1 + 1) (same (w.1 + 1) (omega arith)) (holds_first v vs (w.1 + 1) (omega arith) (omega arith))
-        (gap_after least w ws b))
-    | inr not_more ↦ grind (arith, common_steps)
-  ]
+-- the span that holds the least second ends just before one that none holds
+pub stops_after : (spans rest : List Span) (d : Span) (t s : ℕ) → ((u : ℕ) → t ≤ u → opens rest u ≡ opens spans u) → AreMaximal rest → 1 ≤ length rest →
+    t ≤ (slice_index_or rest 0 d).1 → s ≡ max t (slice_index_or rest 0 d).0 → IsStopFrom (opens spans) s ((slice_index_or rest 0 d).1 + 1)
+stops_after spans [] d t s same a n b e = absurd (omega arith)
+stops_after spans (w ∷ ws) d t s same a n b e = record {
+  after = (let runs = a.1 in omega arith);
+  passes = λ u from before. sym (same u (omega arith)) ∙ holds_first w ws u (omega arith) (omega arith);
+  ends = sym (same (w.1 + 1) (omega arith)) ∙ gap_after 0 w ws a;
+}
+
+-- nor does its first span end before the other's
+not_sooner : (least : ℕ) (v w : Span) (vs ws : List Span) → AreSpansFrom 2 least (v ∷ vs) → AreSpansFrom 2 least (w ∷ ws) →
+    ((t : ℕ) → least ≤ t → opens (v ∷ vs) t ≡ opens (w ∷ ws) t) → v.0 ≡ w.0 → w.1 ≤ v.1
+not_sooner least v w vs ws a b same starts = elim (cases_lt v.1 w.1) [
+  | inl below ↦ absurd (differ (w ∷ ws) (v ∷ vs) (v.1 + 1) (sym (same (v.1 + 1) (omega arith))) (holds_first w ws (v.1 + 1) (omega arith) (omega arith)) (gap_after least v vs a))
+  | inr not_below ↦ not_below
 ]
 
 after_first : (v w : Span) (vs ws : List Span) (t : ℕ) → opens (v ∷ vs) t ≡ opens (w ∷ ws) t → v.1 + 2 ≤ t → v.1 ≡ w.1 → opens vs t ≡ opens ws t
@@ -253,8 +220,9 @@ one_list least [] [] a b same = refl
 one_list least [] (w ∷ ws) a b same = absurd (differ (w ∷ ws) [] w.0 (sym (same w.0 b.0)) (holds_first w ws w.0 (omega arith) b.1) refl)
 one_list least (v ∷ vs) [] a b same = absurd (differ (v ∷ vs) [] v.0 (same v.0 a.0) (holds_first v vs v.0 (omega arith) a.1) refl)
 one_list least (v ∷ vs) (w ∷ ws) a b same =
-    let starts : v.0 ≡ w.0 = same_start least v w vs ws a b same in
-    let ends : v.1 ≡ w.1 = same_end least v w vs ws a b same starts in
+    let other : (t : ℕ) → least ≤ t → opens (w ∷ ws) t ≡ opens (v ∷ vs) t = λ t h. sym (same t h) in
+    let starts : v.0 ≡ w.0 = omega (arith, not_earlier least v w vs ws a b same, not_earlier least w v ws vs b a other) in
+    let ends : v.1 ≡ w.1 = omega (arith, not_sooner least v w vs ws a b same starts, not_sooner least w v ws vs b a other (sym starts)) in
     let rest : vs ≡ ws = one_list (v.1 + 2) vs ws a.3 (rw ends b.3) (λ t h. after_first v w vs ws t (same t (omega arith)) h ends) in
     rw (pair_eq v w starts ends, rest) refl
 

@@ -1,5 +1,5 @@
 -- Lists of closed spans of seconds, and the least second at or after another that a test passes.
-use Rattle.std.specs.Prelude.{⊤, ◌≡◌, ℕ, ◌+◌, ◌<◌, ◌≤◌, Bool, true, false, List, [], ◌∷◌, Option, Some, None, MatchOption}
+use Rattle.std.specs.Prelude.{⊤, ◌≡◌, ℕ, ◌+◌, ◌<◌, ◌≤◌, Bool, true, false, ◌&&◌, not, nat_le, List, [], ◌∷◌, Option, Some, None, MatchOption}
 use Rattle.std.specs.List.{list_any}
 use Rattle.landing_rules.specs.Flights.{Span}
 use Rattle.landing_rules.specs.Rules.{last_second, is_within, is_shut}
@@ -11,6 +11,10 @@ opens spans t = list_any (is_within t) spans
 -- the second lies in one of the closures, of which each holds its first second and not its end
 abbrev pub shuts : List Span → ℕ → Bool
 shuts closures t = list_any (is_shut t) closures
+
+-- a second of the two days in no closure
+abbrev pub is_runway_open : List Span → ℕ → Bool
+is_runway_open closures t = nat_le t last_second && not (shuts closures t)
 
 -- spans of the two days in order: the first begins at `least` or later, and each next `gap` seconds after an end or later
 abbrev pub AreSpansFrom : ℕ → ℕ → List Span → Type 0
@@ -24,6 +28,11 @@ AreInOrder spans = AreSpansFrom 1 0 spans
 -- spans in order, with a second in none of them between two
 abbrev pub AreMaximal : List Span → Type 0
 AreMaximal spans = AreSpansFrom 2 0 spans
+
+-- the longest spans of exactly the seconds that pass
+pub record AreSecondsOf (test : ℕ → Bool) (spans : List Span) : Type 0 where
+  pub maximal : AreMaximal spans
+  pub same : (t : ℕ) → opens spans t ≡ test t
 
 -- no second at or after `from` passes
 abbrev pub NoneFrom : (ℕ → Bool) → ℕ → Type 0
@@ -44,6 +53,10 @@ pub record IsStopFrom (test : ℕ → Bool) (from stop : ℕ) : Type 0 where
   pub after : from ≤ stop
   pub passes : (u : ℕ) → from ≤ u → u < stop → test u ≡ true
   pub ends : test stop ≡ false
+
+-- the least second at or after `from` that passes, and the last one up to which every second from it on does
+abbrev pub SpanFrom : (ℕ → Bool) → ℕ → Option Span → Type 0
+SpanFrom test from answer = MatchOption answer (NoneFrom test from) (λ span. IsLeastFrom test from span.0 × IsStopFrom test span.0 (span.1 + 1))
 
 -- a closure shuts t, and shuts every second up to the end given
 pub record IsShutUntil (closures : List Span) (t end : ℕ) : Type 0 where

@@ -45,15 +45,27 @@ fn are_in_days(spans: &[(u32, u32)]) -> bool
         .all(|w| w.0 <= LAST_SECOND && w.1 <= LAST_SECOND)
 }
 
-// Each second of the two days, from the last one down, with the least open second from there on.
+// The open seconds from t on, with those that follow on them.
+fn span_with(t: u32, next: Option<(u32, u32)>) -> (u32, u32) {
+    match next {
+        Some((first, last)) if first == t.saturating_add(1) => (t, last),
+        _ => (t, t),
+    }
+}
+
+// Each second of the two days, from the last one down, with the next open seconds from there on.
 fn agrees(windows: &[(u32, u32)], closures: &[(u32, u32)], times: &OpenTimes) -> bool {
     let mut next = None;
     for t in (0..=LAST_SECOND).rev() {
         let is_open = is_open_plainly(windows, closures, t);
         if is_open {
-            next = Some(t);
+            next = Some(span_with(t, next));
         }
-        if times.is_open(t) != is_open || times.first_from(t) != next {
+        let first = next.map(|(first, _)| first);
+        if times.is_open(t) != is_open
+            || times.first_from(t) != first
+            || times.span_from(t) != next
+        {
             return false;
         }
     }
@@ -97,6 +109,51 @@ fn open_times_agree_with_the_definition(rt: HostRuntime) -> Result<(), Fail> {
         shared_by_pieces(&times);
     }
     assert_eq!(rt; tried, 7);
+    Ok(())
+}
+
+#[test]
+fn the_open_seconds_of_the_runway_are_cut_to_windows(rt: HostRuntime) -> Result<(), Fail> {
+    let closures: &[(u32, u32)] = &[
+        (46, 47),
+        (20, 30),
+        (172_790, 172_800),
+        (25, 35),
+        (0, 5),
+        (40, 41),
+        (50, 60),
+        (44, 45),
+        (42, 43),
+    ];
+    let runway = OpenTimes::of_runway(rt.alloc(), &closures_of(closures))?;
+    assert!(rt; agrees(&[(0, LAST_SECOND)], closures, &runway));
+    let cases: [(&[(u32, u32)], &[(u32, u32)]); 5] = [
+        (
+            &[(3, 41), (42, 48), (49, 55), (172_780, 172_799)],
+            &[(5, 49), (172_780, 172_789)],
+        ),
+        (&[(47, 47), (48, 48), (49, 49)], &[(47, 49)]),
+        (&[(60, 70), (71, 90), (92, 99)], &[(60, 90), (92, 99)]),
+        (&[(20, 34), (50, 59)], &[(25, 30)]),
+        (
+            &[(0, 172), (172_789, 172_789)],
+            &[(5, 172), (172_789, 172_795)],
+        ),
+    ];
+    let mut tried = 0u32;
+    for (windows, same) in cases {
+        if !are_in_days(windows) || !are_in_days(same) {
+            continue;
+        }
+        let (Ok(set), Ok(same)) = (WindowSet::new(windows), WindowSet::new(same)) else {
+            continue;
+        };
+        tried = tried.saturating_add(1);
+        let times = runway.within(rt.alloc(), &set)?;
+        assert!(rt; agrees(windows, closures, &times));
+        assert!(rt; times == runway.within(rt.alloc(), &same)?);
+    }
+    assert_eq!(rt; tried, 5);
     Ok(())
 }
 

@@ -3,5 +3,6 @@ pub mod Labels
 pub mod Columns
 pub mod Groups
 pub mod Ready
+pub mod Followers
 pub mod LabelPairs
 pub mod shared

@@ -10,11 +10,13 @@ ghost use Rattle.cps_network.specs.WindowLaws.{WindowLaws};
 ghost use Rattle.landing_joint.specs.RankedProblem.{landing_after};
 ghost use Rattle.landing_rules.specs.Rules.{last_second};
 ghost use Rattle.makespan_labels.specs.Columns.{IsEntry};
+ghost use Rattle.makespan_labels.specs.Followers.{IsFollower};
 ghost use Rattle.makespan_labels.specs.Groups.{IsLead};
 ghost use Rattle.makespan_labels.specs.Ready.{IsReady};
 ghost use Rattle.makespan_labels.specs.Labels.{IsLabel, AreLabels, HoldsLabels};
 
 use crate::column::{Column, NO_LABEL};
+use crate::follower::{Follower, follower_of};
 use crate::group::{Group, find_group, run_of, turn_to};
 use cps_base::{Ledger, Steps};
 use cps_network::{Stage, last_rank, prefix_laws};
@@ -22,22 +24,30 @@ use cps_nodes::{Window, window_laws};
 use cps_outside::Gate;
 use cps_problem::Problem;
 use std::thread::Threads;
+use wake_table::Category;
 
 // Where a rank lands behind a group. Behind a flight the separation alone counts: that flight itself waited for the horizon and
 // the last frozen landing.
 #[inline]
-fn landing_behind(problem: &Problem, group: &Group, rank: u8) -> Option<u32>
+fn landing_behind(
+    problem: &Problem,
+    group: &Group,
+    rank: u8,
+    follower: &mut Follower,
+) -> Option<u32>
     requires lead { IsLead problem.now group.now.leader group.now.least group.now.category }
     requires rank { (1 ≤ rank) × (rank ≤ length problem.now.flights) }
+    requires follower { IsFollower problem.now follower.old }
     ensures value { result ≡ landing_after problem.now group.now.leader group.now.least rank }
     ensures in_days { IfSome result (λ t. t ≤ last_second) }
+    ensures follower { IsFollower problem.now follower.new }
 {
     if group.leader == 0 {
         return problem.landing_after(0, group.least, rank);
     }
-    let table = &problem.head().table;
-    let apart = table.sep(group.category, problem.flight(rank).category);
-    problem.first_open(rank, group.least + apart)
+    follower.turn_to(problem, rank);
+    let apart = problem.head().table.sep(group.category, follower.category);
+    follower.first_open(problem, group.least + apart)
 }
 
 // The label of the window at place i of a stage, from the group that leads to it: one landing behind the least.
@@ -50,6 +60,7 @@ fn label_of<const W: usize>(
     i: usize,
     window: &Window<W>,
     group: &Group,
+    follower: &mut Follower,
 ) -> u32
     requires width { W ≡ 2 * problem.now.k + 1 }
     requires laws { WindowLaws problem.now W }
@@ -60,12 +71,14 @@ fn label_of<const W: usize>(
     requires window { window.now ≡ node_at stage.now.1 i }
     requires group { IsReady problem.now W before.now labels.now group.now }
     requires leads { Extends (node_at before.now.1 group.now.from) (node_at stage.now.1 i) }
+    requires follower { IsFollower problem.now follower.old }
     ensures label { IsLabel problem.now stage.now.0 (node_at stage.now.1 i) result }
     ensures range { IsEntry result }
+    ensures follower { IsFollower problem.now follower.new }
 {
     let _few = problem.len();
     let rank = last_rank(window, stage.number());
-    match landing_behind(problem, group, rank) {
+    match landing_behind(problem, group, rank, follower) {
         None => NO_LABEL,
         Some(second) => second,
     }
@@ -102,15 +115,24 @@ pub fn fill_alone<const W: usize>(
     let mut first = Group::blank();
     find_group(&mut first, problem, before, labels, stage, 0);
     let mut groups = [first; 8];
+    let mut followers = [Follower::new(0, Category::A); 8];
     for i in 0..windows.len() {
         let window = &windows[i];
         let run = run_of(window);
         let leads = earlier[groups[run].from].leads_to(window);
         turn_to(&mut groups[run], leads, problem, before, labels, stage, i);
-        into.set(
+        let follower = follower_of(window);
+        let label = label_of(
+            problem,
+            before,
+            labels,
+            stage,
             i,
-            label_of(problem, before, labels, stage, i, window, &groups[run]),
+            window,
+            &groups[run],
+            &mut followers[follower],
         );
+        into.set(i, label);
     }
 }
 

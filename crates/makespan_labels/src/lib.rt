@@ -6,6 +6,7 @@
 #![tactic(auto)]
 
 mod column;
+mod follower;
 mod group;
 mod label;
 mod source;

@@ -10,6 +10,3 @@ pub use block::plan_block;
 pub use frozen_lines::FrozenLines;
 pub use refusal::refusal_line;
 pub use trial::trial_summary;
-
-#[cfg(test)]
-mod tests;

@@ -7,7 +7,7 @@ ghost use Rattle.landing_rules.specs.Sound.{IsSound};
 ghost use Rattle.sequencer.specs.Ranked.{arrivals};
 
 use crate::frozen::{frozen_delay, last_frozen};
-use crate::order::{by_rank, order_of, waiting_of};
+use crate::order::{order_of, sort_by_rank, waiting_of};
 use crate::predecessors::pairs_of;
 use crate::waiting::all_waiting;
 use cps_problem::{Head, Objective, Problem};
@@ -63,9 +63,9 @@ pub(crate) fn posed(alloc: Global, situation: &Situation) -> Result<(Problem, Or
     ensures order { IfOk result (λ posed. posed.1 ≡ arrivals (waiting situation.now)) }
 {
     let flights = situation.flights();
-    let waiting = waiting_of(alloc, flights)?;
-    let order = order_of(alloc, &waiting)?;
-    let ranked = by_rank(alloc, &waiting, &order)?;
+    let mut ranked = waiting_of(alloc, flights)?;
+    sort_by_rank(&mut ranked);
+    let order = order_of(alloc, &ranked)?;
     let pairs = pairs_of(&ranked);
     let head = head(situation, flights);
     let with_times = all_waiting(alloc, &ranked, situation.closures())?;

@@ -6,6 +6,3 @@ mod numbers;
 
 pub use cuts::{first_part, has_many_parts};
 pub use numbers::number_in;
-
-#[cfg(test)]
-mod tests;

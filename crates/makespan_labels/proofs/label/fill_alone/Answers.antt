@@ -1,8 +1,12 @@
-use Rattle.std.proofs.Common.{◌∙◌, ℕ, ◌<◌, length, length-set, sym, ap, arith, rules}
+use Rattle.std.proofs.Common.{◌∙◌, ℕ, ◌<◌, length, length-set, refl, sym, subst, ap, arith, rules}
+use Rattle.std.proofs.lemmas.List.{get_or-set_same}
 use Rattle.std.proofs.lemmas.List.Elements.{All-set}
 use Rattle.cps_network.specs.Lists.{node_at}
 use Rattle.cps_network.specs.WindowLaws.{WindowLaws}
 use Rattle.cps_network.specs.shared.LandableSteps.{has_next}
+use Rattle.cps_nodes.specs.Leads.{Extends}
+use Rattle.makespan_labels.specs.declared.group.Group.{Group}
+use Rattle.makespan_labels.specs.Followers.{IsFollower}
 use Rattle.makespan_labels.specs.Labels.{IsLabel}
 use Rattle.makespan_labels.specs.Ready.{IsReady}
 use Rattle.makespan_labels.proofs.ColumnLemmas.{set_more}
@@ -48,13 +52,35 @@ turn_to-requires g c =
       ),
     )
 
+pub loop-i-init : goal.loop-i-init
+loop-i-init g c =
+    let none : IsFollower c.args.problem.now c.new-followers.result = c.new-followers.ensures.follower c.args.problem.now refl in
+    search (rules, none)
+
+pub label_of-label-requires : goal.label_of-label-requires
+label_of-label-requires g c =
+    let laws : WindowLaws c.args.problem.now g.row.W = record { network = c.prefix_laws.ensures.network; alike = c.prefix_laws.ensures.sources; ranks = c.window_laws.ensures.ranks; leads = c.window_laws.ensures.leads } in
+    let long = ap length c.windows-windows.ensures.windows in
+    let within : c.loop-i.i < length c.args.stage.now.1 = omega (arith, c.loop-i-test.true, c.loop-i.auto.i-end, long) in
+    let window = window_at _ _ _ _ c.windows-windows.ensures.windows within c.index-windows-i.is in
+    let turned = sym (get_or-set_same c.loop-i.groups c.run_of-run.result c.turn_to.new.group _ (omega (arith, c.run_of-run.ensures, c.loop-i.invariant.3))) in
+    let leads = subst (λ (group : Group). Extends (node_at c.args.before.now.1 group.from) (node_at c.args.stage.now.1 c.loop-i.i)) turned c.turn_to.ensures.leads in
+    let follower = c.loop-i.invariant.4 c.follower_of-follower.result _ (omega (arith, c.follower_of-follower.ensures, c.loop-i.invariant.5)) in
+    (search rules, (search rules, (c.requires.width, (laws, (c.requires.before, (c.requires.number, (c.requires.next, (within, (window, (search rules, (leads, follower)))))))))))
+
 pub loop-i-preserved : goal.loop-i-preserved
 loop-i-preserved g c =
     let long = ap length c.windows-windows.ensures.windows in
     let within : c.loop-i.i < length c.args.stage.now.1 = omega (arith, c.loop-i-test.true, c.loop-i.auto.i-end, long) in
-    let more = set_more (λ (m label : ℕ). IsLabel c.args.problem.now c.args.stage.now.0 (node_at c.args.stage.now.1 m) label) c.loop-i.into c.set.new.self c.loop-i.i c.label_of.result
-    (length c.args.stage.now.1) c.set.ensures within c.loop-i.invariant.0 c.loop-i.invariant.1 c.label_of.ensures.label in
-    (more.0, more.1, All-set (IsReady c.args.problem.now g.row.W c.args.before.now c.args.labels.now) c.loop-i.groups _ _ c.turn_to.ensures.group c.loop-i.invariant.2, length-set c.loop-i.groups _ _ ∙ c.loop-i.invariant.3)
+    let more = set_more (λ (m label : ℕ). IsLabel c.args.problem.now c.args.stage.now.0 (node_at c.args.stage.now.1 m) label) c.loop-i.into c.set.new.self c.loop-i.i c.label_of-label.result
+    (length c.args.stage.now.1) c.set.ensures within c.loop-i.invariant.0 c.loop-i.invariant.1 c.label_of-label.ensures.label in (
+      more.0,
+      more.1,
+      All-set (IsReady c.args.problem.now g.row.W c.args.before.now c.args.labels.now) c.loop-i.groups _ _ c.turn_to.ensures.group c.loop-i.invariant.2,
+      length-set c.loop-i.groups _ _ ∙ c.loop-i.invariant.3,
+      All-set (IsFollower c.args.problem.now) c.loop-i.followers _ _ c.label_of-label.ensures.follower c.loop-i.invariant.4,
+      length-set c.loop-i.followers _ _ ∙ c.loop-i.invariant.5,
+    )
 
 pub returns-clause-labels : goal.returns-clause-labels
 returns-clause-labels g c =

@@ -1,50 +1,38 @@
-use Rattle.std.proofs.Common.{◌≡◌, ◌≢◌, ℕ, length, map, filter, sym, ap, subst, ◌∙◌, arith}
-use Rattle.std.specs.Prelude.{AllPairs, ◌↔◌}
+use Rattle.std.proofs.Common.{◌≡◌, ℕ, ◌≤◌, length, map, filter, List, sym, ap, subst, ◌∙◌, arith, Bor}
+use Rattle.std.specs.Prelude.{◌↔◌}
 use Rattle.std.specs.List.{AllZip}
-use Rattle.std.specs.List.Sorted.{IsStrictlySortedBy}
 use Rattle.std.proofs.lemmas.List.{length-map}
-use Rattle.std.proofs.lemmas.List.Kept.{AllPairs-filter}
 use Rattle.precedence.specs.Pairs.{MustPrecede}
-use Rattle.landing_rules.specs.Flights.{Active, waiting, is_waiting}
-use Rattle.landing_rules.specs.Rules.{first_come_cmp}
+use Rattle.landing_rules.specs.Flights.{Active, Situation, waiting, is_waiting}
+use Rattle.landing_rules.specs.Sound.{IsSound}
 use Rattle.landing_rules.specs.Problem.{IsWaitingOf, IsProblemOf, by_rank}
 use Rattle.cps_problem.specs.Seen.{waiting_of}
-use Rattle.sequencer.specs.Ranked.{arrivals}
+use Rattle.sequencer.specs.Ranked.{arrival_of}
 use Rattle.sequencer.specs.Predecessors.{IsListed}
-use Rattle.sequencer.proofs.Ranks.{rank_length}
+use Rattle.sequencer.proofs.Ranks.{Apart, rank_length, waiting_apart}
 use Rattle.sequencer.proofs.ProblemOf.{IsHeadOf, posed, well_formed}
 use Rattle.sequencer.proofs.problem.posed.Goals as goal
 use Rattle.sequencer.proofs.problem.posed.Goals.{In_ok-with_times}
 
-abbrev Apart : Active → Active → Type 0
-Apart a b = a.flight.callsign ≢ b.flight.callsign
+pub sort_by_rank-requires : goal.sort_by_rank-requires
+sort_by_rank-requires c = subst Apart (sym (c.in_ok-ranked.ensures ∙ ap (filter is_waiting) c.flights-flights.ensures)) (waiting_apart c.args.situation.now c.requires.callsigns)
+
+few : (s : Situation) (ranked : List (Bor Active)) (found : List Active) → IsSound s → map (λ a. a.now) ranked ≡ by_rank found → found ≡ waiting s → length ranked ≤ 60
+few s ranked found sound is e =
+    let r = ap (length {A = Active}) (is ∙ ap by_rank e) in
+    let m = rank_length (waiting s) in
+    let n = length-map ranked (λ a. a.now) in
+    let few = sound.few_waiting in
+    omega arith
 
 pub order_of-requires-clause-few : goal.order_of-requires-clause-few
-order_of-requires-clause-few c =
-    let e = ap (length {A = Active}) (c.in_ok-waiting.ensures ∙ ap (filter is_waiting) c.flights-flights.ensures) in
-    let n = length-map c.in_ok-waiting.waiting.items (λ a. a.now) in
-    let few = c.requires.few_waiting in
-    omega arith
-
-pub order_of-requires-clause-callsigns : goal.order_of-requires-clause-callsigns
-order_of-requires-clause-callsigns c =
-    subst (AllPairs Apart) (sym (c.in_ok-waiting.ensures ∙ ap (filter is_waiting) c.flights-flights.ensures)) (AllPairs-filter Apart is_waiting c.args.situation.now.active c.requires.callsigns)
-
-pub by_rank-requires-clause-callsigns : goal.by_rank-requires-clause-callsigns
-by_rank-requires-clause-callsigns c =
-    subst (AllPairs Apart) (sym (c.in_ok-waiting.ensures ∙ ap (filter is_waiting) c.flights-flights.ensures)) (AllPairs-filter Apart is_waiting c.args.situation.now.active c.requires.callsigns)
+order_of-requires-clause-few c = few c.args.situation.now c.sort_by_rank.new.waiting.items _ c.requires c.sort_by_rank.ensures.flights (c.in_ok-ranked.ensures ∙ ap (filter is_waiting) c.flights-flights.ensures)
 
 pub pairs_of-pairs-requires : goal.pairs_of-pairs-requires
-pairs_of-pairs-requires c =
-    let e = ap (length {A = Active}) (c.in_ok-waiting.ensures ∙ ap (filter is_waiting) c.flights-flights.ensures) in
-    let r = ap (length {A = Active}) c.in_ok-ranked.ensures.flights in
-    let m = rank_length (map (λ a. a.now) c.in_ok-waiting.waiting.items) in
-    let n = length-map c.in_ok-ranked.ranked.items (λ a. a.now) in
-    let few = c.requires.few_waiting in
-    omega arith
+pairs_of-pairs-requires c = few c.args.situation.now c.sort_by_rank.new.waiting.items _ c.requires c.sort_by_rank.ensures.flights (c.in_ok-ranked.ensures ∙ ap (filter is_waiting) c.flights-flights.ensures)
 
-ranks : (c : In_ok-with_times) → map (λ a. a.now) c.in_ok-ranked.ranked.items ≡ by_rank (waiting c.args.situation.now)
-ranks c = c.in_ok-ranked.ensures.flights ∙ ap by_rank (c.in_ok-waiting.ensures ∙ ap (filter is_waiting) c.flights-flights.ensures)
+ranks : (c : In_ok-with_times) → map (λ a. a.now) c.sort_by_rank.new.waiting.items ≡ by_rank (waiting c.args.situation.now)
+ranks c = c.sort_by_rank.ensures.flights ∙ ap by_rank (c.in_ok-ranked.ensures ∙ ap (filter is_waiting) c.flights-flights.ensures)
 
 zip : (c : In_ok-with_times) → AllZip (IsWaitingOf c.args.situation.now.closures) (by_rank (waiting c.args.situation.now)) (map waiting_of c.in_ok-with_times.with_times.items)
 zip c =
@@ -61,7 +49,6 @@ pub build-requires : goal.build-requires
 build-requires c =
     λ table. well_formed c.args.situation.now c.head-head.result c.in_ok-with_times.with_times.items c.pairs_of-pairs.result c.requires (heads c) (zip c) (listed c)
     c.head-head.ensures.few_places c.head-head.ensures.near
-    (subst (λ l. IsStrictlySortedBy first_come_cmp (arrivals l)) (c.in_ok-waiting.ensures ∙ ap (filter is_waiting) c.flights-flights.ensures) c.in_ok-ranked.ensures.ascending)
 
 pub returns-clause-problem : goal.returns-clause-problem
 returns-clause-problem c =
@@ -70,4 +57,4 @@ returns-clause-problem c =
     (posed c.args.situation.now c.head-head.result c.in_ok-with_times.with_times.items c.pairs_of-pairs.result c.requires (heads d) (zip d) (listed d))
 
 pub returns-clause-order : goal.returns-clause-order
-returns-clause-order c = c.in_ok-order.ensures ∙ ap arrivals (c.in_ok-waiting.ensures ∙ ap (filter is_waiting) c.flights-flights.ensures)
+returns-clause-order c = c.in_ok-order.ensures ∙ ap (map arrival_of) (ranks ((goal.at.returns-clause-order c).In_ok-with_times))

@@ -19,4 +19,4 @@ loop-i-preserved c =
     let here : take (i + 1) xs ≡ take i xs ++ a ∷ [] = take_more xs i a (omega arith) ∙ ap (λ (b : Active). take i xs ++ b ∷ []) (sym is) in
     let there : map waiting_of c.push.new.self.items ≡ map waiting_of c.loop-i.all.items ++ waiting_of c.in_ok-waiting.waiting ∷ [] =
     ap (map waiting_of) c.in_ok-push.ensures.items ∙ map-append waiting_of c.loop-i.all.items (c.in_ok-waiting.waiting ∷ []) in
-    rw (here, there) (all_zipped_more (IsWaitingOf c.args.closures.now) _ _ a (waiting_of c.in_ok-waiting.waiting) c.loop-i.invariant c.in_ok-waiting.ensures)
+    rw (here, there) (all_zipped_more (IsWaitingOf c.args.closures.now) _ _ a (waiting_of c.in_ok-waiting.waiting) c.loop-i.invariant (c.in_ok-waiting.ensures _ c.in_ok-runway.ensures))

@@ -3,7 +3,7 @@ use Rattle.std.specs.List.{insert}
 use Rattle.std.specs.declared.cmp.Ordering.TheVariants.{Equal}
 use Rattle.landing_rules.specs.Rules.{first_come_cmp}
 use Rattle.fcfs_order.specs.Order.{IsOrder, with_arrival}
-use Rattle.fcfs_order.proofs.Sorted.{found, searchable, with_at, ascending_with, long_with}
+use Rattle.fcfs_order.specs.shared.Sorted.{found, searchable, with_at, ascending_with, long_with}
 use Rattle.fcfs_order.proofs.order.Order.insert.Goals as goal
 
 pub returns-in-Ok : goal.returns-in-Ok

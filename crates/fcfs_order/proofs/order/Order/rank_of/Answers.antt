@@ -5,7 +5,7 @@ use Rattle.std.specs.Prelude.{Contains}
 use Rattle.std.specs.declared.cmp.Ordering.TheVariants.{Equal}
 use Rattle.std.proofs.lemmas.Option.{slice_get-get_or}
 use Rattle.landing_rules.specs.Rules.{first_come_cmp}
-use Rattle.fcfs_order.proofs.Sorted.{found, parted, searchable, counted_at}
+use Rattle.fcfs_order.specs.shared.Sorted.{found, parted, searchable, counted_at}
 use Rattle.fcfs_order.proofs.order.Order.rank_of.Goals as goal
 
 -- the arrival stands at the place that was found

@@ -6,7 +6,7 @@ use Rattle.std.specs.List.{remove}
 use Rattle.std.specs.declared.cmp.Ordering.TheVariants.{Equal}
 use Rattle.landing_rules.specs.Rules.{first_come_cmp}
 use Rattle.fcfs_order.specs.Order.{IsOrder, without}
-use Rattle.fcfs_order.proofs.Sorted.{found, parted, searchable, without_at, without_none, ascending_without, short_without}
+use Rattle.fcfs_order.specs.shared.Sorted.{found, parted, searchable, without_at, without_none, ascending_without, short_without}
 use Rattle.fcfs_order.proofs.order.Order.remove.Goals as goal
 
 pub returns-in-Ok-clause-rest : goal.returns-in-Ok-clause-rest

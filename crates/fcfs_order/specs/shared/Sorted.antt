@@ -10,11 +10,12 @@ use Rattle.std.specs.List.{AllByRecursion, insert, remove, AllWithin}
 use Rattle.std.specs.List.Sorted.{IsStrictlySortedBy, IsNonDecreasingBy}
 use Rattle.std.proofs.lemmas.Bool.{cases_order, lt-ltb}
 use Rattle.std.proofs.lemmas.Cmp.{then_total, on_total, nat_cmp_total, nat_list_cmp_total, tied_itself}
+use Rattle.std.proofs.lemmas.Map.Keys.{Less-from_sorted}
 use Rattle.std.proofs.lemmas.Map.Text.{is_eq-slice_cmp}
 use Rattle.std.proofs.lemmas.Slice.Eq.{bytes_eq-Decides}
 use Rattle.std.proofs.lemmas.List.Sums.{sum_by-cons}
 use Rattle.landing_rules.specs.Rules.{first_come_cmp}
-use Rattle.landing_rules.specs.shared.Counting.{cases}
+use Rattle.landing_rules.specs.shared.Counting.{cases, flipped}
 use Rattle.fcfs_order.specs.Order.{with_arrival, without}
 
 abbrev Arrival : Type 0
@@ -51,23 +52,6 @@ level a b e =
 pub itself : (a : Arrival) → first_come_cmp a a ≡ Equal
 itself a = tied_itself total a
 
-flipped : (a b : Arrival) → first_come_cmp a b ≡ Greater → first_come_cmp b a ≡ Less
-flipped a b g = total.antisymm b a ∙ ap ordering_reverse g
-
-all_at : (a : Arrival) (xs : List Arrival) (k : ℕ) (d : Arrival) → AllByRecursion (λ y. first_come_cmp a y ≡ Less) xs → k < length xs → first_come_cmp a (get_or xs k d) ≡ Less
-all_at a [] k d h lt = absurd (omega arith)
-all_at a (x ∷ xs) zero d h lt = h.0
-all_at a (x ∷ xs) (suc k) d h lt = all_at a xs k d h.1 (omega arith)
-
--- an earlier one comes before a later one
-pub sorted_at : (xs : List Arrival) (i j : ℕ) (d : Arrival) → IsStrictlySortedBy first_come_cmp xs → i < j → j < length xs → first_come_cmp (get_or xs i d) (get_or xs j d) ≡ Less
-unfolding IsStrictlySortedBy
-sorted_at [] i j d s lt within = absurd (omega arith)
-sorted_at (x ∷ xs) zero zero d s lt within = absurd (omega arith)
-sorted_at (x ∷ xs) zero (suc j) d s lt within = all_at x xs j d s.0 (omega arith)
-sorted_at (x ∷ xs) (suc i) zero d s lt within = absurd (omega arith)
-sorted_at (x ∷ xs) (suc i) (suc j) d s lt within = sorted_at xs i j d s.1 (omega arith) (omega arith)
-
 index_rises : (a b p : Arrival) → first_come_cmp a b ≡ Less → ordering_index (first_come_cmp a p) ≤ ordering_index (first_come_cmp b p)
 index_rises a b p l = go (cases (first_come_cmp b p))
   where
@@ -88,7 +72,7 @@ index_rises a b p l = go (cases (first_come_cmp b p))
 pub searchable : (xs : List Arrival) (p : Arrival) → IsStrictlySortedBy first_come_cmp xs → IsNonDecreasingBy (λ y. ordering_index (first_come_cmp y p)) xs
 searchable xs p s i j d le within = elim (cases_order i j) [
   | inl e ↦ (let q = ap (λ k. ordering_index (first_come_cmp (get_or xs k d) p)) e in omega arith)
-  | inr (inl lt) ↦ index_rises (get_or xs i d) (get_or xs j d) p (sorted_at xs i j d s lt within)
+  | inr (inl lt) ↦ index_rises (get_or xs i d) (get_or xs j d) p (Less-from_sorted first_come_cmp xs i j d s lt within)
   | inr (inr gt) ↦ absurd (omega arith)
 ]
 
@@ -122,7 +106,7 @@ ascending_with p (x ∷ xs) absent s = go (first_come_cmp x p) refl (ascending_w
     go : (r : Ordering) → first_come_cmp x p ≡ r → IsStrictlySortedBy first_come_cmp (with_arrival p xs) → IsStrictlySortedBy first_come_cmp (cond (is_lt r) (x ∷ with_arrival p xs) (p ∷ x ∷ xs))
     go Less e ih = (all_with x p xs e s.0, ih)
     go Equal e ih = absurd (absent (0, omega arith, level x p e))
-    go Greater e ih = let l = flipped x p e in ((l, all_behind p x xs l s.0), s)
+    go Greater e ih = let l = flipped first_come_cmp total x p e in ((l, all_behind p x xs l s.0), s)
 
 -- ---- one less
 
@@ -131,7 +115,7 @@ unfolding IsStrictlySortedBy
 without_at p [] i s lt e = absurd (omega arith)
 without_at p (x ∷ xs) zero s lt e = ap (λ b. cond b xs (x ∷ without p xs)) (ap is_eq (subst (λ (y : Arrival). first_come_cmp x y ≡ Equal) e (itself x)))
 without_at p (x ∷ xs) (suc i) s lt e =
-    let l : first_come_cmp x p ≡ Less = subst (λ (y : Arrival). first_come_cmp x y ≡ Less) e (all_at x xs i p s.0 (omega arith)) in
+    let l : first_come_cmp x p ≡ Less = subst (λ (y : Arrival). first_come_cmp x y ≡ Less) e (Less-from_sorted first_come_cmp (x ∷ xs) 0 (suc i) p s (omega arith) lt) in
     ap (λ b. cond b xs (x ∷ without p xs)) (ap is_eq l) ∙ ap (λ l. x ∷ l) (without_at p xs i s.1 (omega arith) e)
 
 pub without_none : (p : Arrival) (xs : List Arrival) → (Contains xs p → ⊥) → without p xs ≡ xs
@@ -197,7 +181,7 @@ counted_at p (x ∷ xs) zero s lt e =
     count_other p x xs Equal refl (subst (λ (y : Arrival). first_come_cmp x y ≡ Equal) e (itself x))
     ∙ none_before p xs (subst (λ (y : Arrival). AllByRecursion (λ z. first_come_cmp y z ≡ Less) xs) e s.0)
 counted_at p (x ∷ xs) (suc i) s lt e =
-    count_less p x xs (subst (λ (y : Arrival). first_come_cmp x y ≡ Less) e (all_at x xs i p s.0 (omega arith))) ∙ ap suc (counted_at p xs i s.1 (omega arith) e)
+    count_less p x xs (subst (λ (y : Arrival). first_come_cmp x y ≡ Less) e (Less-from_sorted first_come_cmp (x ∷ xs) 0 (suc i) p s (omega arith) lt)) ∙ ap suc (counted_at p xs i s.1 (omega arith) e)
 
 -- ---- what a search says
 

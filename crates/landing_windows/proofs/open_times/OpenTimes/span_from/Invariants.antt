@@ -1,12 +1,12 @@
 -- From t on, the spans that are left hold what all hold.
 use Rattle.std.proofs.Common.{◌≡◌, ℕ, ◌≤◌, length}
-use Rattle.landing_windows.specs.Spans.{opens, AreInOrder}
-use Rattle.landing_windows.proofs.search.first_within.Given as goal
+use Rattle.landing_windows.specs.Spans.{opens, AreMaximal}
+use Rattle.landing_windows.proofs.open_times.OpenTimes.span_from.Given as goal
 
 abbrev pub invariant-loop-rest : goal.invariant-loop-rest
 invariant-loop-rest l = record {
-  same : (u : ℕ) → l.t ≤ u → opens l.rest u ≡ opens l.spans u;
-  in_order : AreInOrder l.rest;
+  same : (u : ℕ) → l.t ≤ u → opens l.rest u ≡ opens l.self u;
+  maximal : AreMaximal l.rest;
 }
 
 abbrev pub decreases-loop-rest : goal.decreases-loop-rest
