@@ -36,6 +36,8 @@ fn a_problem_and_its_copy_land_a_flight(rt: HostRuntime) -> Result<(), Fail> {
     let copied = problem.copy()?;
     assert_eq!(rt; copied.len(), 1);
     assert_eq!(rt; copied.landing_after(0, 0, 1), Some(1090));
+    assert_eq!(rt; copied.open_span(1, 900), Some((1000, 1200)));
+    assert_eq!(rt; copied.open_span(1, 1201), None);
     assert_eq!(rt; copied.cost(1, 1090), 270);
     assert_eq!(rt; problem.first_difference(&copied), 2);
 
