@@ -158,8 +158,10 @@ module _ (p : Problem) (is : IsPlannedFor p) (stage : ℕ × List (List ℤ)) (l
       least_is_best =
           let whole : length (ranks attained.landings) ≡ length p.flights = ap (λ (n : Node). n.0) attained.at ∙ last in
           let f = landing_trail_feasible (ranked p) (cost_at p) (sound_ranked p is.table is.between) attained.landings attained.legal attained.landed whole in
-          let same : (r : ℕ) → IsRank (length p.flights) r → second_in attained.landings r ≡ of_rank 0 best_seconds r = λ r q. sym (rank_mapped (second_in attained.landings) (length p.flights) r q) in
-          let feasible : IsFeasibleList p best_seconds = feasible_list p is.passed best_seconds best_long (feasible_agree (ranked p) (second_in attained.landings) (of_rank 0 best_seconds) same f.0) in
+          let same : (r : ℕ) → IsRank (length p.flights) r → second_in attained.landings r ≡ of_rank 0 best_seconds r =
+          λ r q. sym (rank_mapped (second_in attained.landings) (length p.flights) r q) in
+          let feasible : IsFeasibleList p best_seconds = feasible_list p is.passed best_seconds best_long
+          (feasible_agree (ranked p) (second_in attained.landings) (of_rank 0 best_seconds) same f.0) in
           let low = map_value_rises p (second_in attained.landings) (of_rank 0 best_seconds) (λ r q. let e = same r q in omega (arith, e)) in
           let high = map_value_rises p (of_rank 0 best_seconds) (second_in attained.landings) (λ r q. let e = same r q in omega (arith, e)) in
           let of_pair : value_of_map p (second_in attained.landings) ≡ value_at p least_pair = ap (value_at p) (sym f.1 ∙ attained.is) in

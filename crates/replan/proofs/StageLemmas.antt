@@ -91,7 +91,8 @@ more_held p stages after labels more stage last is e f number held = rw (e, f) (
   number = λ i lt. elim (cases_eq i (length stages)) [
     | inl same ↦ rw (get_or_push stages stage (0, []) i (sym same)) (number ∙ sym same)
     | inr old ↦
-        let below : i < length stages = omega (arith, old, lt, length-append stages (stage ∷ [])) in rw (get_or_append_left stages (stage ∷ []) (0, []) i below) (is.number i below)
+        let below : i < length stages = omega (arith, old, lt, length-append stages (stage ∷ [])) in
+        rw (get_or_append_left stages (stage ∷ []) (0, []) i below) (is.number i below)
   ];
   held = λ i lt. elim (cases_eq i (length stages)) [
     | inl same ↦ rw (get_or_push stages stage (0, []) i (sym same), get_or_push labels last no_pairs i (is.one_each ∙ sym same)) held
@@ -190,8 +191,8 @@ whole_more p stages after whole more before was stage said holds numbers e f las
     | inl same ↦
         let back : i - 1 ≡ last = omega (arith, same, n) in
         let number : before.0 ≡ last = rw at (numbers last (omega (arith, n))) in
-        let was_kept = kept (rw (get_or_push whole said false i (holds.one_each ∙ sym same)) at true_there) in
-        rw (get_or_push stages stage (0, []) i (sym same), get_or_append_left stages (stage ∷ []) (0, []) (i - 1) (omega (arith, back, n)), back, ← at, was_kept)
+        let left = kept (rw (get_or_push whole said false i (holds.one_each ∙ sym same)) at true_there) in
+        rw (get_or_push stages stage (0, []) i (sym same), get_or_append_left stages (stage ∷ []) (0, []) (i - 1) (omega (arith, back, n)), back, ← at, left)
         (rw number at is)
     | inr old ↦
         let below : i < length stages = omega (arith, old, lt, length-append stages (stage ∷ [])) in
@@ -217,9 +218,10 @@ module _ (p q : Problem) (stages : List (ℕ × List (List ℤ))) (labels : List
         let e = common.2 in
         let agree = is.agree (omega (arith, e, more)) in
         let same = agree.head.k in
+        let was = holds.held i here in
         let kept = early common.0 is.within agree (stage_at stages i).0 (let n = holds.number i here in omega (arith, n, e, at, same)) in
         rw (get_or-take count stages i (0, []) at, get_or-take count labels i no_pairs at)
-        (record { objective = (holds.held i here).objective ∙ agree.head.objective; held = kept_costs p q (stage_at stages i) _ kept (holds.held i here).held });
+        (record { objective = was.objective ∙ agree.head.objective; held = kept_costs p q (stage_at stages i) _ kept was.held });
   }
 
 -- and what is said of them still holds

@@ -21,5 +21,5 @@ returns-in_ok-stages-in-None-clause-due g c = rw (c.in-None.is, c.in_ok-stages-i
 pub returns-in_ok-stages-in-Some-clause-due : goal.returns-in_ok-stages-in-Some-clause-due
 returns-in_ok-stages-in-Some-clause-due g c =
     rw (c.in-Some.is, ← ap (λ (h : HeldProblem). h.problem) c.held.view_is)
-    (due_after_common c.held.inside.problem c.args.problem.now _ _ c.common-count.ensures (omega (arith, c.if-count-gt1.false, c.in_ok-stages-in-Some.ensures.one))
-    (λ more. absurd (omega (arith, more, c.in_ok-stages-in-Some.ensures.one))))
+    (due_after_common c.held.inside.problem c.args.problem.now _ _ c.common-count.ensures
+    (omega (arith, c.if-count-gt1.false, c.in_ok-stages-in-Some.ensures.one)) (λ more. absurd (omega (arith, more, c.in_ok-stages-in-Some.ensures.one))))

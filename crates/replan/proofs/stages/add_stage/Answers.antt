@@ -12,13 +12,15 @@ stage_after-requires g c =
     let f = read_stage _ _ _ c.index-earlier.ensures lower in
     let number : c.index-before.result.now.0 ≡ c.len-last.result - 1 = rw e (c.requires.held.0.number (c.len-last.result - 1) lt) in
     let said : c.index.result.now ≡ get_or c.args.kept.now.whole.items (c.len-last.result - 1) false =
-    c.index.ensures ∙ get_or_default c.args.kept.now.whole.items (c.len-last.result - 1) c.index.result.now false (omega (arith, lt, c.requires.held.1.one_each)) in (
+    c.index.ensures ∙ get_or_default c.args.kept.now.whole.items (c.len-last.result - 1) c.index.result.now false
+    (omega (arith, lt, c.requires.held.1.one_each)) in (
       search rules,
       (
         c.requires.width,
         (
           omega (arith, number, c.len-last.ensures, c.requires.number, c.requires.some),
-          λ whole less. whole_at c.args.problem.now _ _ _ _ _ _ c.requires.held.1 c.requires.held.0.number lt c.saturating_sub.ensures f e (rw said at whole) less,
+          λ whole less. whole_at c.args.problem.now _ _ _ _ _ _ c.requires.held.1 c.requires.held.0.number lt
+              c.saturating_sub.ensures f e (rw said at whole) less,
         ),
       ),
     )
@@ -43,7 +45,8 @@ returns-clause-held g c =
       whole_more c.args.problem.now c.args.kept.now.stages.items c.push.new.self.items c.args.kept.now.whole.items c.push-3.new.self.items
           c.index-before.result.now c.in_ok-stage.stage c.next.new.stage _ c.requires.held.1 c.requires.held.0.number c.in_ok-push.ensures.items
           c.in_ok-push-3.ensures.items (c.len-last.result - 1) (omega (arith, c.len-last.ensures, c.requires.some)) e
-          (λ same. let f : c.len.result ≡ c.len-candidates.result = search (rules, same) in left.all (sym c.len.ensures.value ∙ f ∙ c.len-candidates.ensures.value))
+          (λ same. let f : c.len.result ≡ c.len-candidates.result = search (rules, same) in
+          left.all (sym c.len.ensures.value ∙ f ∙ c.len-candidates.ensures.value))
           c.in_ok-stage.ensures.exact,
     )
 
@@ -55,7 +58,7 @@ returns-clause-steps g c =
     (read_labels _ _ _ c.index-labels.ensures there) lt in
     let number = h.1 in (
       length c.in_ok-stage.stage.1,
-      has_candidates c.args.problem.now c.index-before.result.now c.in_ok-stage.stage (vec_len c.args.kept.now.stages - 1) (omega (arith, number, c.len-last.ensures))
-          h.0.held.landable c.in_ok-stage.ensures.candidates c.in_ok-stage.ensures.ascending,
+      has_candidates c.args.problem.now c.index-before.result.now c.in_ok-stage.stage (vec_len c.args.kept.now.stages - 1)
+          (omega (arith, number, c.len-last.ensures)) h.0.held.landable c.in_ok-stage.ensures.candidates c.in_ok-stage.ensures.ascending,
       c.in_ok-found.ensures.steps,
     )

@@ -21,4 +21,5 @@ pub returns-in_ok-costs-in-OfCosts-clause-left : goal.returns-in_ok-costs-in-OfC
 returns-in_ok-costs-in-OfCosts-clause-left g c =
     let is : of_costs c.in-OfCosts.labels ≡ c.args.self.now = sym (ap pairs_of c.in-OfCosts.is) ∙ c.self.view_is in
     costs_left c.args.problem.now _ _ c.keep_landable-in-OfCosts.ensures.number c.in_ok-costs-in-OfCosts.ensures.landable _ _
-    (subst (HoldsPairs c.args.problem.now c.args.before.now) (sym is) c.requires.before).objective c.in_ok-costs-in-OfCosts.ensures.pairs c.keep_landable-in-OfCosts.ensures.landable c.keep_landable-in-OfCosts.ensures.windows
+    (subst (HoldsPairs c.args.problem.now c.args.before.now) (sym is) c.requires.before).objective c.in_ok-costs-in-OfCosts.ensures.pairs
+    c.keep_landable-in-OfCosts.ensures.landable c.keep_landable-in-OfCosts.ensures.windows

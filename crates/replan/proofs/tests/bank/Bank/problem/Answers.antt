@@ -20,8 +20,10 @@ comes_before f g lt =
     let less : Less ≡ nat_cmp f.eta g.eta = nat_cmp_is f.eta g.eta Less lt in
     ap (λ (o : Ordering). is_lt (ordering_then o (slice_cmp nat_cmp f.callsign g.callsign))) (sym less)
 
-well_formed : (p : rules.Problem) → IsWakeTable p.table → p.k ≤ 3 → p.horizon ≡ 0 → p.last ≡ None → p.base ≡ 0 → ((i j : ℕ) → MustPrecede p.pairs i j → (1 ≤ i) × (i ≤ length p.flights) × (1 ≤ j) × (j ≤ length p.flights))
-    → length p.flights ≤ 60 → AllPairs (λ (f g : rules.Waiting). (f.eta < g.eta) × (f.callsign ≢ g.callsign)) p.flights → All (λ (f : rules.Waiting). (f.eta ≤ 172799) × (f.weight ≡ 1) × (f.passed ≤ p.k)) p.flights
+well_formed : (p : rules.Problem) → IsWakeTable p.table → p.k ≤ 3 → p.horizon ≡ 0 → p.last ≡ None → p.base ≡ 0
+    → ((i j : ℕ) → MustPrecede p.pairs i j → (1 ≤ i) × (i ≤ length p.flights) × (1 ≤ j) × (j ≤ length p.flights))
+    → length p.flights ≤ 60 → AllPairs (λ (f g : rules.Waiting). (f.eta < g.eta) × (f.callsign ≢ g.callsign)) p.flights
+    → All (λ (f : rules.Waiting). (f.eta ≤ 172799) × (f.weight ≡ 1) × (f.passed ≤ p.k)) p.flights
     → IsWellFormed p
 well_formed p table few horizon last base ranks count ordered ranges = record {
   table = table;
