@@ -29,9 +29,8 @@ pub(crate) fn schedule_of<const W: usize>(
         Some(place) => {
             let mut order = vec![in alloc; 0u8; n as usize]?;
             trace(problem, kept, place, &mut order);
-            if !retime(problem, order.as_slice(), &mut schedule) {
-                return Ok(None);
-            }
+            let is_landed = retime(problem, order.as_slice(), &mut schedule);
+            prove!(is_landed);
             Ok(Some(schedule))
         }
     }

@@ -22,31 +22,31 @@ trace-requires g c =
     let room : length c.deref_mut.result.now ≡ length c.args.problem.now.flights = omega (arith, c.in_ok-order-in-Some.ensures.len) in
     (search rules, (search rules, (c.requires.held, (c.requires.whole, (omega (arith, inside, l.held.held.costs.one_each), room)))))
 
-pub retime-requires-clause-order : goal.retime-requires-clause-order
-retime-requires-clause-order g c =
+pub retime-is_landed-requires-clause-order : goal.retime-is_landed-requires-clause-order
+retime-is_landed-requires-clause-order g c =
     let is : c.as_slice.result.now ≡ c.trace.new.order = grind (arith, common_steps) in
     let room : length c.as_slice.result.now ≡ length c.args.problem.now.flights = omega (arith, ap length is, c.in_ok-order-in-Some.ensures.len) in
     let lands = rw (← is) at c.trace.ensures.lands in
     let planned = well_formed_planned c.args.problem.now c.len-n.ensures.well_formed in
     order_is_whole c.args.problem.now planned c.as_slice.result.now _ room lands
 
-pub returns-then-not-retime : goal.returns-then-not-retime
-returns-then-not-retime g c =
+pub prove-unreachable-requires : goal.prove-unreachable-requires
+prove-unreachable-requires g c =
     let is : c.as_slice.result.now ≡ c.trace.new.order = grind (arith, common_steps) in
     let room : length c.as_slice.result.now ≡ length c.args.problem.now.flights = omega (arith, ap length is, c.in_ok-order-in-Some.ensures.len) in
     let lands = rw (← is) at c.trace.ensures.lands in
     let planned = well_formed_planned c.args.problem.now c.len-n.ensures.well_formed in
-    λ t f. c.if-not-retime.ensures.none refl _ (order_lands c.args.problem.now planned c.as_slice.result.now _ room lands)
+    c.if-prove.ensures.none refl _ (order_lands c.args.problem.now planned c.as_slice.result.now _ room lands)
 
-pub returns-else-not-retime : goal.returns-else-not-retime
-returns-else-not-retime g c =
+pub returns-in_ok-order-in-Some : goal.returns-in_ok-order-in-Some
+returns-in_ok-order-in-Some g c =
     let is : c.as_slice.result.now ≡ c.trace.new.order = grind (arith, common_steps) in
     let room : length c.as_slice.result.now ≡ length c.args.problem.now.flights = omega (arith, ap length is, c.in_ok-order-in-Some.ensures.len) in
     let lands = rw (← is) at c.trace.ensures.lands in
     let planned = well_formed_planned c.args.problem.now c.len-n.ensures.well_formed in
     let l = last_read c.args.problem.now _ _ c.requires.held (omega (arith, c.requires.whole)) _ _ c.len-n.ensures.value c.index.ensures in
-    let long : length c.retime.new.into ≡ length c.args.problem.now.flights =
-    c.if-not-retime.ensures.room ∙ ap length c.in_ok-schedule.ensures ∙ length-replicate c.len-n.result 0 ∙ c.len-n.ensures.value in
-    plan_best c.args.problem.now planned c.as_slice.result.now _ room lands c.retime.new.into long
-    (c.if-not-retime.ensures.earliest refl) (c.if-not-retime.ensures.least refl)
+    let long : length c.retime-is_landed.new.into ≡ length c.args.problem.now.flights =
+    c.if-prove.ensures.room ∙ ap length c.in_ok-schedule.ensures ∙ length-replicate c.len-n.result 0 ∙ c.len-n.ensures.value in
+    plan_best c.args.problem.now planned c.as_slice.result.now _ room lands c.retime-is_landed.new.into long
+    (c.if-prove.ensures.earliest refl) (c.if-prove.ensures.least refl)
     (rw l.is at (no_more c.args.problem.now planned _ c.index.result.now l.number l.held c.in-Some.place c.in-Some.ensures))
