@@ -75,8 +75,3 @@ pub member_any : (c : Callsign) (ds : List Callsign) → Member c ds → list_an
 member_any c [] m = absurd m
 member_any c (d ∷ ds) (inl e) = or_left (bytes_eq d c) (list_any (λ x. bytes_eq x c) ds) ((bytes_eq-Decides d c).1 (sym e))
 member_any c (d ∷ ds) (inr m) = or_right (bytes_eq d c) (list_any (λ x. bytes_eq x c) ds) (member_any c ds m)
-
-pub all_member : (P : Landing → Type 0) (fs : List Landing) → All P fs → (g : Landing) → Member g fs → P g
-all_member P [] h g m = absurd m
-all_member P (f ∷ fs) h g (inl e) = subst P (sym e) (h 0 f (omega arith))
-all_member P (f ∷ fs) h g (inr m) = all_member P fs (λ k d lt. h (suc k) d (omega arith)) g m

@@ -12,14 +12,13 @@ use Rattle.landing_rules.specs.Events.{insert_landing, in_landing_order, frozen_
 use Rattle.landing_rules.specs.shared.Counting.{Member}
 use Rattle.landing_rules.specs.Problem as lists'
 use Rattle.landing_rules.specs.Sound.{IsSound}
-use Rattle.cps_theory.specs.RankLists.{In}
-use Rattle.cps_theory.specs.RankLists.{Distinct}
+use Rattle.cps_theory.specs.RankLists.{In, Distinct, Ordered}
 use Rattle.landing_joint.specs.Numbered.{numbered, numbers_of, waits_at, comes_before, numbered_situation}
 use Rattle.landing_joint.specs.ByNumber.{insert_number, numbers_by_rank}
 use Rattle.landing_joint.proofs.Joint.{comes_is, first_come, frozen_each}
-use Rattle.cps_theory.specs.RankLists.{Ordered}
 use Rattle.cps_theory.specs.laws.Members.{filter_in}
 use Rattle.cps_theory.specs.laws.NumberedLists.{numbers_in}
+use Rattle.landing_joint.proofs.Members.{all_from, frozen_member}
 
 -- ---- a list by its ranks
 
@@ -169,27 +168,13 @@ last_rises (f ∷ x ∷ fs) r = elim (last_rises (x ∷ fs) r.1) [
     cons_nil : (x : Landing) (fs : List Landing) → ◌≡◌ {A = List Landing} (x ∷ fs) [] → ⊥
     cons_nil x fs e = cc
 
-pub member_all : (P : Landing → Type 0) (fs : List Landing) → ((g : Landing) → Member g fs → P g) → All P fs
-member_all P [] h k d lt = absurd (omega arith)
-member_all P (f ∷ fs) h zero d lt = h f (inl refl)
-member_all P (f ∷ fs) h (suc k) d lt = member_all P fs (λ g m. h g (inr m)) k d (omega arith)
-
-frozen_member : (f : Landing) (all : List Active) → Member f (filter_map (λ a. option_map (landing a) a.frozen) all) → (i : ℕ) × (i < length all) × (u : ℕ) × ((numbered all i).frozen ≡ Some u) × (f ≡ landing (numbered all i) u)
-frozen_member f [] m = absurd m
-frozen_member f (a ∷ all) m = go a.frozen refl m (λ k. frozen_member f all k)
-  where
-    go : (o : Option ℕ) → a.frozen ≡ o → Member f (cons_option (option_map (landing a) o) (filter_map (λ b. option_map (landing b) b.frozen) all)) → (Member f (filter_map (λ b. option_map (landing b) b.frozen) all) → (i : ℕ) × (i < length all) × (u : ℕ) × ((numbered all i).frozen ≡ Some u) × (f ≡ landing (numbered all i) u)) → (i : ℕ) × (i < length (a ∷ all)) × (u : ℕ) × ((numbered (a ∷ all) i).frozen ≡ Some u) × (f ≡ landing (numbered (a ∷ all) i) u)
-    go None q m ih = let w = ih m in (suc w.0, (let l = w.1 in omega arith), w.2, w.3, w.4)
-    go (Some v) q (inl e) ih = (0, omega arith, v, q, e)
-    go (Some v) q (inr m) ih = let w = ih m in (suc w.0, (let l = w.1 in omega arith), w.2, w.3, w.4)
-
 module _ (s : Situation) (sound : IsSound s) where
   -- the one frozen flight that lands last, or none
   pub last_frozen_is : ((lists'.last_of (in_landing_order (frozen_landings s)) ≡ None) × ((i : ℕ) → In i (numbered_situation s).frozen → ⊥)) ⊎ ((i : ℕ) × In i (numbered_situation s).frozen × (lists'.last_of (in_landing_order (frozen_landings s)) ≡ Some ((numbered_situation s).frozen_at i, (numbered s.active i).flight.category)) × ((j : ℕ) → In j (numbered_situation s).frozen → (numbered_situation s).frozen_at j ≤ (numbered_situation s).frozen_at i))
   last_frozen_is =
       let fl = frozen_landings s in
       elim (last_rises (in_landing_order fl) (order_rises fl)) [
-        | inl e ↦ inl (ap lists'.last_of e, λ i m. frozen_each s sound (λ g. ⊥) (member_all (λ g. ⊥) fl (λ g k. subst (Member g) e (member_order g fl k))) i m)
+        | inl e ↦ inl (ap lists'.last_of e, λ i m. frozen_each s sound (λ g. ⊥) (all_from (λ g. ⊥) fl (λ g k. subst (Member g) e (member_order g fl k))) i m)
         | inr w ↦
             (let v = frozen_member w.0 s.active (order_member w.0 fl w.1) in
             let i = v.0 in
@@ -198,5 +183,5 @@ module _ (s : Situation) (sound : IsSound s) where
             let at : (numbered_situation s).frozen_at i ≡ v.2 = ap (λ o. unwrap_or o 0) v.3 in
             let sec : w.0.second ≡ (numbered_situation s).frozen_at i = ap (λ (g : Landing). g.second) v.4 ∙ sym at in
             let cat : w.0.flight.category ≡ (numbered s.active i).flight.category = ap (λ (g : Landing). g.flight.category) v.4 in
-            inr (i, m, w.2 ∙ ap₂ (λ (x : ℕ) (y : Category). Some (x, y)) sec cat, λ j k. subst (λ x. (numbered_situation s).frozen_at j ≤ x) sec (frozen_each s sound (λ g. g.second ≤ w.0.second) (member_all (λ g. g.second ≤ w.0.second) fl (λ g k. w.3 g (member_order g fl k))) j k)))
+            inr (i, m, w.2 ∙ ap₂ (λ (x : ℕ) (y : Category). Some (x, y)) sec cat, λ j k. subst (λ x. (numbered_situation s).frozen_at j ≤ x) sec (frozen_each s sound (λ g. g.second ≤ w.0.second) (all_from (λ g. g.second ≤ w.0.second) fl (λ g k. w.3 g (member_order g fl k))) j k)))
       ]

@@ -11,38 +11,28 @@ use Rattle.landing_rules.specs.Flights.{Flight, Active, Situation, Schedule, Lan
 use Rattle.landing_rules.specs.Rules.{last_second, is_open, lists, arrival_cmp, ArePairSeparated, IsPairInPrecedence, greatest, delay, cost, objective, IsFeasible}
 use Rattle.landing_rules.specs.Events.{State, IsAcceptedStep, Clock, frozen_landings, freezes, after_clock, clock_back, refusal, Refusal, ClockBack, situation_after, IsPlanShown}
 use Rattle.landing_rules.specs.Sound.{IsGoodFlight, ListsNone, IsSound, IsSoundState}
-use Rattle.cps_theory.specs.RankLists.{In}
+use Rattle.cps_theory.specs.RankLists.{In, numbers_from}
 use Rattle.cps_theory.specs.Freeze.{rank_in, place_in, staying_of, overtook}
 use Rattle.cps_theory.specs.NumberedSituation as numbers
-use Rattle.cps_theory.specs.laws.Members.{in_filter}
+use Rattle.cps_theory.specs.laws.Members.{in_filter, filter_in}
 use Rattle.cps_theory.specs.laws.ShiftAfterFreeze.{stays_shifted}
 use Rattle.landing_joint.specs.Numbered.{nobody, numbered, second_of, numbers_of, waits_at, comes_before, numbered_situation}
 use Rattle.landing_joint.specs.ClockLaws.{ClockKeepsPlanLaw, ClockShowsPlanLaw, ClockKeepsSoundLaw}
 use Rattle.landing_joint.proofs.Numbered.{landing_at, landings_are}
 use Rattle.landing_joint.proofs.Joint.{comes_is, among, all_among, feasible_numbered, numbered_feasible, sound_numbered, first_come, some_of, active_are, list_frozen, callsigns_differ, passed_low}
-use Rattle.cps_theory.specs.RankLists.{numbers_from}
-use Rattle.cps_theory.specs.laws.Members.{filter_in}
 use Rattle.cps_theory.specs.laws.NumberedLists.{count_by_map, count_by_agree, map_map, filter_map_is, at_all, in_numbers, numbers_in}
+use Rattle.std.proofs.lemmas.List.{length-map}
+use Rattle.landing_joint.specs.shared.FirstBestLists.{numbers_get, numbers_long}
+use Rattle.landing_joint.specs.shared.BestLists.{sum_map}
+use Rattle.cps_theory.specs.laws.WholeObjective.{sum_agree}
+use Rattle.landing_joint.proofs.Members.{fewer_kept}
 
 -- ---- lists
-
-numbered_map : (f : ℕ → Active) (b n i : ℕ) → i < n → get_or (map f (numbers_from b n)) i nobody ≡ f (b + i)
-numbered_map f b zero i lt = absurd (omega arith)
-numbered_map f b (suc n) zero lt = ap f (omega arith)
-numbered_map f b (suc n) (suc i) lt = numbered_map f (suc b) n i (omega arith) ∙ ap f (omega arith)
 
 get_or_any : {X : Type 0} (xs : List X) (i : ℕ) (d e : X) → i < length xs → get_or xs i d ≡ get_or xs i e
 get_or_any [] i d e lt = absurd (omega arith)
 get_or_any (x ∷ xs) zero d e lt = refl
 get_or_any (x ∷ xs) (suc i) d e lt = get_or_any xs i d e (omega arith)
-
-length_map : {X Y : Type 0} (f : X → Y) (xs : List X) → length (map f xs) ≡ length xs
-length_map f [] = refl
-length_map f (x ∷ xs) = ap suc (length_map f xs)
-
-length_numbers : (b n : ℕ) → length (numbers_from b n) ≡ n
-length_numbers b zero = refl
-length_numbers b (suc n) = ap suc (length_numbers (suc b) n)
 
 filter_agree : (p q : ℕ → Bool) (xs : List ℕ) → ((x : ℕ) → In x xs → p x ≡ q x) → filter p xs ≡ filter q xs
 filter_agree p q [] h = refl
@@ -55,10 +45,6 @@ filter_twice p q (x ∷ xs) = go (q x) (filter_twice p q xs)
     go : (b : Bool) → filter p (filter q xs) ≡ filter (λ y. q y && p y) xs → filter p (cond b (x ∷ filter q xs) (filter q xs)) ≡ cond (b && p x) (x ∷ filter (λ y. q y && p y) xs) (filter (λ y. q y && p y) xs)
     go true e = ap (λ l. cond (p x) (x ∷ l) l) e
     go false e = e
-
-map_agree : {Y : Type 0} (f g : ℕ → Y) (xs : List ℕ) → ((x : ℕ) → In x xs → f x ≡ g x) → map f xs ≡ map g xs
-map_agree f g [] h = refl
-map_agree f g (x ∷ xs) h = ap₂ (λ y l. y ∷ l) (h x (inl refl)) (map_agree f g xs (λ y i. h y (inr i)))
 
 -- what the clock makes of a landing: of its flight, its second, how many passed it before and after, whether it is before the horizon, and whether counts are carried
 pub record Froze (fl : Flight) (fr : Option ℕ) (pa sec m : ℕ) (d c : Bool) (a : Active) : Type 0 where
@@ -98,7 +84,7 @@ module _ (s : Situation) (sound : IsSound s) (t : Schedule) (f : IsFeasible s t)
   after_is = ap (map (after_clock s.aerodrome h all)) (landings_are s.active t f.0) ∙ map_map (after_clock s.aerodrome h all) (landing_at s.active t) (numbers_of s.active)
 
   pub length_after : length after ≡ length s.active
-  length_after = ap length after_is ∙ length_map (λ i. after_clock s.aerodrome h all (landing_at s.active t i)) (numbers_of s.active) ∙ length_numbers 0 (length s.active)
+  length_after = ap length after_is ∙ numbers_long (λ i. after_clock s.aerodrome h all (landing_at s.active t i)) 0 (length s.active)
 
   -- so the numbers stay
   pub numbers_after : numbers_of after ≡ numbers_of s.active
@@ -111,7 +97,7 @@ module _ (s : Situation) (sound : IsSound s) (t : Schedule) (f : IsFeasible s t)
   at_after i m =
       let b = in_numbers 0 (length s.active) i m in
       let e : numbered after i ≡ after_clock s.aerodrome h all (landing_at s.active t i) =
-      ap (λ l. numbered l i) after_is ∙ numbered_map (λ j. after_clock s.aerodrome h all (landing_at s.active t j)) 0 (length s.active) i (omega (arith, b.1)) ∙ ap (λ j. after_clock s.aerodrome h all (landing_at s.active t j)) (omega arith) in
+      ap (λ l. numbered l i) after_is ∙ numbers_get (λ j. after_clock s.aerodrome h all (landing_at s.active t j)) nobody 0 (length s.active) i (omega (arith, b.1)) ∙ ap (λ j. after_clock s.aerodrome h all (landing_at s.active t j)) (omega arith) in
       subst (λ a. Froze (numbered s.active i).flight (numbered s.active i).frozen (numbered s.active i).passed (second_of t i) (min s.aerodrome.k ((numbered s.active i).passed + count_passing i)) (nat_lt (second_of t i) h) s.aerodrome.carry a) (sym e)
       (froze (numbered s.active i).flight (numbered s.active i).frozen (numbered s.active i).passed (second_of t i) (min s.aerodrome.k ((numbered s.active i).passed + count_passing i)) (nat_lt (second_of t i) h) s.aerodrome.carry)
 
@@ -185,18 +171,10 @@ module _ (s : Situation) (sound : IsSound s) (t : Schedule) (f : IsFeasible s t)
 
   pub few_after : length (waiting changed) ≤ length (waiting s)
   few_after =
-      let a = ap length waiting_changed ∙ length_map (numbered after) (numbered_situation changed).waiting ∙ ap length waiting_after in
-      let b = ap length waiting_before ∙ length_map (numbered s.active) ns.waiting in
-      let c = few_filter (λ x. not (nat_lt (second_of t x) h)) ns.waiting in
+      let a = ap length waiting_changed ∙ length-map (numbered_situation changed).waiting (numbered after) ∙ ap length waiting_after in
+      let b = ap length waiting_before ∙ length-map ns.waiting (numbered s.active) in
+      let c = fewer_kept (λ x. not (nat_lt (second_of t x) h)) ns.waiting in
       omega arith
-    where
-      few_filter : (p : ℕ → Bool) (xs : List ℕ) → length (filter p xs) ≤ length xs
-      few_filter p [] = omega arith
-      few_filter p (x ∷ xs) = go (p x) (few_filter p xs)
-        where
-          go : (b : Bool) → length (filter p xs) ≤ length xs → length (cond b (x ∷ filter p xs) (filter p xs)) ≤ suc (length xs)
-          go true e = omega arith
-          go false e = omega arith
 
   each_after : (P : Active → Type 0) → ((i : ℕ) → In i (numbers_of s.active) → P (numbered after i)) → All P after
   each_after P q i d lt = subst P (get_or_any after i nobody d lt) (q i (in_after i lt))
@@ -291,16 +269,14 @@ module _ (s : Situation) (sound : IsSound s) (t : Schedule) (f : IsFeasible s t)
   pub feasible_after : IsFeasible changed t
   feasible_after = numbered_feasible changed sound_after t (f.0 ∙ sym length_after) after_numbered
 
-  sum_map_agree : (g : Landing → ℕ) (x y : ℕ → Landing) (xs : List ℕ) → ((i : ℕ) → In i xs → g (x i) ≡ g (y i)) → sum_by g (map x xs) ≡ sum_by g (map y xs)
-  sum_map_agree g x y [] e = refl
-  sum_map_agree g x y (i ∷ xs) e = let a = sum_by-cons g (x i) (map x xs) in let b = sum_by-cons g (y i) (map y xs) in let c = sum_map_agree g x y xs (λ j m. e j (inr m)) in let d = e i (inl refl) in omega arith
-
   pub objective_after : objective changed t ≡ objective s t
   objective_after = ap (cost s.aerodrome.objective) (landings_are after t (f.0 ∙ sym length_after) ∙ ap (map (landing_at after t)) numbers_after) ∙ go s.aerodrome.objective ∙ ap (cost s.aerodrome.objective) (sym (landings_are s.active t f.0))
     where
       go : (o : Objective) → cost o (map (landing_at after t) (numbers_of s.active)) ≡ cost o (map (landing_at s.active t) (numbers_of s.active))
       go Makespan = ap greatest (map_map (λ (g : Landing). g.second) (landing_at after t) (numbers_of s.active) ∙ sym (map_map (λ (g : Landing). g.second) (landing_at s.active t) (numbers_of s.active)))
-      go Delay = sum_map_agree delay (landing_at after t) (landing_at s.active t) (numbers_of s.active) (λ i m. ap (λ (x : Flight). x.weight * (second_of t i - x.eta)) (same_flight i m))
+      go Delay = sum_map delay (landing_at after t) (numbers_of s.active)
+          ∙ sum_agree (λ i. delay (landing_at after t i)) (λ i. delay (landing_at s.active t i)) (numbers_of s.active) (λ i m. ap (λ (x : Flight). x.weight * (second_of t i - x.eta)) (same_flight i m))
+          ∙ sym (sum_map delay (landing_at s.active t) (numbers_of s.active))
 
 -- ---- the laws
 

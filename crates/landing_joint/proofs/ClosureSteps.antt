@@ -7,8 +7,9 @@ use Rattle.landing_rules.specs.Flights.{Aerodrome, Landing, Situation, Schedule,
 use Rattle.landing_rules.specs.Rules.{is_open, is_within, is_shut, ArePairSeparated}
 use Rattle.landing_rules.specs.Events.{Close, Reopen, frozen_landings, in_landing_order, insert_landing, refusal, without_first, same_span, situation_after, CoversFrozen, TooManyClosures}
 use Rattle.landing_rules.specs.Sound.{IsSound}
-use Rattle.landing_joint.proofs.Members.{Member, Differ, callsigns, differ_of, none_found, length_push}
+use Rattle.landing_joint.proofs.Members.{Differ, callsigns, differ_of, none_found, length_push}
 use Rattle.landing_joint.proofs.SoundAgain.{kept, sound_again, each_of}
+use Rattle.landing_rules.specs.shared.Counting.{Member}
 
 -- ---- reopen
 

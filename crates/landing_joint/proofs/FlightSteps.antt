@@ -9,8 +9,10 @@ use Rattle.landing_rules.specs.Flights.{Active, Flight, Landing, Situation, Sche
 use Rattle.landing_rules.specs.Rules.{lists}
 use Rattle.landing_rules.specs.Events.{Estimate, Cancel, Add, named, frozen_landings, unknown_or_frozen, refusal, estimated, newcomer, situation_after, Frozen, Duplicate, TooManyFlights, TooManyWaiting, PredecessorOfFrozen}
 use Rattle.landing_rules.specs.Sound.{IsSound, IsGoodFlight, IsGoodEvent}
-use Rattle.landing_joint.proofs.Members.{map_in, Member, Differ, callsigns, in_filter, filter_in, in_map, in_push, in_frozen, frozen_in, differ_of, one_of_name, found_in, none_found, none_any, fewer_filtered, fewer_twice, fewer_kept, length_map, length_push}
+use Rattle.landing_joint.proofs.Members.{map_in, Differ, callsigns, in_filter, filter_in, in_map, in_push, in_frozen, frozen_in, differ_of, one_of_name, found_in, none_found, none_any, fewer_filtered, fewer_twice, fewer_kept, length_push}
 use Rattle.landing_joint.proofs.SoundAgain.{kept, sound_again, each_of, fewer_frozen}
+use Rattle.landing_rules.specs.shared.Counting.{Member}
+use Rattle.std.proofs.lemmas.List.{length-map}
 
 -- ---- cancel
 
@@ -71,7 +73,7 @@ re_estimated s plan c eta windows h good ok =
     let wait : (a : Active) → is_waiting (f a) ≡ true → is_waiting a ≡ true = λ a e. ap is_none (sym (estimate_frozen c eta windows a)) ∙ e in
     sound_again s new h refl
     (subst Differ (sym (callsigns_mapped f (estimate_callsign c eta windows) s.active)) (differ_of s.active h.callsigns))
-    (let l = length_map f s.active in omega (arith, h.few_active)) (let l = fewer_filtered is_waiting is_waiting f s.active wait in omega (arith, h.few_waiting)) h.few_closures
+    (let l = length-map s.active f in omega (arith, h.few_active)) (let l = fewer_filtered is_waiting is_waiting f s.active wait in omega (arith, h.few_waiting)) h.few_closures
     (λ a m. let r = in_map f s.active a m in subst (λ (z : Active). IsGoodFlight z.flight × (z.passed ≤ s.aerodrome.k) × (s.aerodrome.carry ≡ false → z.passed ≡ 0)) (sym r.2) (well r.0 (each_of s h r.0 r.1)))
     (fewer_frozen s new h refl refl (omega arith)
     (λ g m. let r = in_frozen new.active g m in let q = in_map f s.active r.0 r.2 in

@@ -1,20 +1,19 @@
 -- What is in a list after a filter, a map or a push, and where callsigns differ.
-use Rattle.std.proofs.Common.{◌≡◌, ℕ, suc, ◌≤◌, ◌⊎◌, inl, inr, Bool, true, false, cond, ◌||◌, List, [], ◌∷◌, ◌++◌, length, map, filter, Option, Some, None, refl, sym, ap, subst, ◌∙◌, arith}
+use Rattle.std.proofs.Common.{◌≡◌, ℕ, suc, ◌≤◌, ◌⊎◌, inl, inr, Bool, true, false, cond, ◌||◌, List, [], ◌∷◌, ◌++◌, length, map, filter, Option, Some, None, refl, sym, ap, subst, ◌∙◌, arith, zero, ◌<◌}
 use Rattle.std.specs.Prelude.{All, AllPairs, ◌≢◌, option_map, filter_map, find}
 use Rattle.std.specs.List.{cons_option, list_any}
 use Rattle.std.proofs.lemmas.Bool.{false≢true}
 use Rattle.std.proofs.lemmas.List.Elements.{All-cons, All-head, All-tail}
 use Rattle.std.proofs.lemmas.List.Kept.{AllPairs-cons}
 use Rattle.landing_rules.specs.Flights.{Active, Landing, Callsign, landing}
+use Rattle.landing_rules.specs.shared.Counting.{Member}
+use Rattle.cps_theory.specs.RankLists.{In}
+use Rattle.landing_joint.specs.Numbered.{numbered}
 
-abbrev pub Member : {X : Type 0} → X → List X → Type 0
-Member x [] = ⊥
-Member x (y ∷ ys) = (x ≡ y) ⊎ Member x ys
-
-pub all_at : {X : Type 0} (P : X → Type 0) (xs : List X) (x : X) → All P xs → Member x xs → P x
-all_at P [] x h m = absurd m
-all_at P (y ∷ ys) x h (inl e) = subst P (sym e) (All-head P y ys h)
-all_at P (y ∷ ys) x h (inr m) = all_at P ys x (All-tail P y ys h) m
+pub all_at : {X : Type 0} (P : X → Type 0) (xs : List X) → All P xs → (x : X) → Member x xs → P x
+all_at P [] h x m = absurd m
+all_at P (y ∷ ys) h x (inl e) = subst P (sym e) (All-head P y ys h)
+all_at P (y ∷ ys) h x (inr m) = all_at P ys (All-tail P y ys h) x m
 
 pub all_from : {X : Type 0} (P : X → Type 0) (xs : List X) → ((x : X) → Member x xs → P x) → All P xs
 all_from P [] h = λ k d l. absurd (omega arith)
@@ -75,6 +74,32 @@ frozen_in (x ∷ xs) a t m e = go x.frozen refl m (λ k. frozen_in xs a t k e)
         inl (ap (λ (z : Active). landing z t) s ∙ ap (landing x) (sym v))
     go (Some u) q (inr k) ih = inr (ih k)
 
+pub member_number : (a : Active) (all : List Active) → Member a all → (i : ℕ) × (i < length all) × (a ≡ numbered all i)
+member_number a [] m = absurd m
+member_number a (x ∷ all) (inl e) = (0, omega arith, e)
+member_number a (x ∷ all) (inr m) = let w = member_number a all m in (suc w.0, (let l = w.1 in omega arith), w.2)
+
+pub number_member : (all : List Active) (i : ℕ) → i < length all → Member (numbered all i) all
+number_member [] i lt = absurd (omega arith)
+number_member (a ∷ all) zero lt = inl refl
+number_member (a ∷ all) (suc i) lt = inr (number_member all i (omega arith))
+
+pub map_member : {X : Type 0} (F : ℕ → X) (xs : List ℕ) (x : X) → Member x (map F xs) → (i : ℕ) × In i xs × (x ≡ F i)
+map_member F [] x m = absurd m
+map_member F (i ∷ xs) x (inl e) = (i, inl refl, e)
+map_member F (i ∷ xs) x (inr m) = let w = map_member F xs x m in (w.0, inr w.1, w.2)
+
+pub member_map : {X : Type 0} (F : ℕ → X) (xs : List ℕ) (i : ℕ) → In i xs → Member (F i) (map F xs)
+member_map F [] i m = absurd m
+member_map F (x ∷ xs) i (inl e) = inl (ap F e)
+member_map F (x ∷ xs) i (inr m) = inr (member_map F xs i m)
+
+pub frozen_member : (f : Landing) (all : List Active) → Member f (filter_map (λ a. option_map (landing a) a.frozen) all) → (i : ℕ) × (i < length all) × (u : ℕ) × ((numbered all i).frozen ≡ Some u) × (f ≡ landing (numbered all i) u)
+frozen_member f all m =
+    let r = in_frozen all f m in
+    let n = member_number r.0 all r.2 in
+    (n.0, n.1, r.1, ap (λ (a : Active). a.frozen) (sym n.2) ∙ r.3, r.4 ∙ ap (λ (a : Active). landing a r.1) n.2)
+
 -- ---- callsigns differ
 
 abbrev pub Differ : List Callsign → Type 0
@@ -94,7 +119,7 @@ pub differ_of : (xs : List Active) → AllPairs (λ a b. a.flight.callsign ≢ b
 differ_of [] h = tt
 differ_of (x ∷ xs) h =
     let R : Active → Active → Type 0 = λ a b. a.flight.callsign ≢ b.flight.callsign in
-    (λ d m. let r = in_map (λ (a : Active). a.flight.callsign) xs d m in λ e. all_at (R x) xs r.0 (pairs_head R x xs h) r.1 (e ∙ r.2), differ_of xs (pairs_tail R x xs h))
+    (λ d m. let r = in_map (λ (a : Active). a.flight.callsign) xs d m in λ e. all_at (R x) xs (pairs_head R x xs h) r.0 r.1 (e ∙ r.2), differ_of xs (pairs_tail R x xs h))
 
 pub map_in : {X Y : Type 0} (f : X → Y) (xs : List X) (x : X) → Member x xs → Member (f x) (map f xs)
 map_in f [] x m = m
@@ -172,10 +197,6 @@ fewer_kept q (x ∷ xs) = go (q x) (fewer_kept q xs)
     go : (b : Bool) → length (filter q xs) ≤ length xs → length (cond b (x ∷ filter q xs) (filter q xs)) ≤ suc (length xs)
     go true h = omega arith
     go false h = omega arith
-
-pub length_map : {X Y : Type 0} (f : X → Y) (xs : List X) → length (map f xs) ≡ length xs
-length_map f [] = refl
-length_map f (x ∷ xs) = ap suc (length_map f xs)
 
 pub length_push : {X : Type 0} (xs : List X) (x : X) → length (xs ++ x ∷ []) ≡ suc (length xs)
 length_push [] x = refl

@@ -15,11 +15,12 @@ use Rattle.cps_theory.specs.NumberedSituation as numbers
 use Rattle.cps_theory.specs.laws.Members.{filter_in, in_filter}
 use Rattle.landing_joint.specs.Numbered.{numbered, second_of, numbers_of, waits_at, comes_before, numbered_situation}
 use Rattle.landing_joint.specs.PassedOver.{waiting_flight, waits_in, count_passing, ArePassedAtLeast, ClockCounts, ClockCountsLaw, ClockCountsExactlyLaw}
-use Rattle.landing_joint.proofs.Members.{Member, Differ, callsigns, all_at, all_from, differ_of, found_in, none_found, one_of_name}
+use Rattle.landing_joint.proofs.Members.{Differ, callsigns, all_at, all_from, differ_of, found_in, none_found, one_of_name, map_member, member_map}
 use Rattle.landing_joint.proofs.FlightSteps.{named_is}
 use Rattle.landing_joint.proofs.FirstStays.{bound_overtook, few_overtook_itself, fewer_overtook}
 use Rattle.landing_joint.proofs.Joint.{all_among, comes_is, feasible_numbered, first_come, passed_low}
 use Rattle.landing_joint.proofs.Clock.{at_after, forth_of, late_after, passing_is, same_flight, waiting_after, waiting_before, waiting_changed}
+use Rattle.landing_rules.specs.shared.Counting.{Member}
 
 -- ---- the flight of a name
 
@@ -45,16 +46,6 @@ some_flight s c e = go (waiting_flight s c) e
 
 pub same_some : (a b : Active) → Some a ≡ Some b → a ≡ b
 same_some a b e = cc
-
-in_map_numbers : (f : ℕ → Active) (xs : List ℕ) (y : Active) → Member y (map f xs) → (i : ℕ) × In i xs × (y ≡ f i)
-in_map_numbers f [] y m = absurd m
-in_map_numbers f (x ∷ xs) y (inl e) = (x, inl refl, e)
-in_map_numbers f (x ∷ xs) y (inr m) = let r = in_map_numbers f xs y m in (r.0, inr r.1, r.2)
-
-map_numbers_in : (f : ℕ → Active) (xs : List ℕ) (i : ℕ) → In i xs → Member (f i) (map f xs)
-map_numbers_in f [] i m = m
-map_numbers_in f (x ∷ xs) i (inl e) = inl (ap f e)
-map_numbers_in f (x ∷ xs) i (inr m) = inr (map_numbers_in f xs i m)
 
 -- ---- a clock event, by any feasible plan
 
@@ -110,11 +101,11 @@ module _ (s : Situation) (sound : IsSound s) (t : Schedule) (ok : IsFeasible s t
 
   at_number : (y : Active) → Member y (waiting changed) → (i : ℕ) × In i stay × (y ≡ numbered changed.active i)
   at_number y m =
-      let r = in_map_numbers (numbered changed.active) (numbered_situation changed).waiting y (subst (Member y) (waiting_changed s sound t ok now forth) m) in
+      let r = map_member (numbered changed.active) (numbered_situation changed).waiting y (subst (Member y) (waiting_changed s sound t ok now forth) m) in
       (r.0, subst (In r.0) (waiting_after s sound t ok now forth) r.1, r.2)
 
   was_waiting : (i : ℕ) → In i ns.waiting → Member (numbered s.active i) (waiting s)
-  was_waiting i m = subst (Member (numbered s.active i)) (sym (waiting_before s sound t ok now forth)) (map_numbers_in (numbered s.active) ns.waiting i m)
+  was_waiting i m = subst (Member (numbered s.active i)) (sym (waiting_before s sound t ok now forth)) (member_map (numbered s.active) ns.waiting i m)
 
   flight_at : (y : Active) (i : ℕ) → In i stay → y ≡ numbered changed.active i → y.flight ≡ (numbered s.active i).flight
   flight_at y i m e = ap (λ (a : Active). a.flight) e ∙ same_flight s sound t ok now forth i (stays i m).0
@@ -164,7 +155,7 @@ module _ (s : Situation) (sound : IsSound s) (t : Schedule) (ok : IsFeasible s t
           ∙ ap (λ (a : Active). is_lt (arrival_cmp a.flight (numbered s.active x).flight)) (sym n.was)
 
       least_numbers : (x : ℕ) → In x ns.waiting → comes_before s.active i x ≡ false → g ≤ (numbered s.active x).passed
-      least_numbers x m ahead = all_at (λ (x : Active). is_lt (arrival_cmp f.flight x.flight) ≡ false → g ≤ x.passed) (waiting s) (numbered s.active x) (least f here) (was_waiting x m) (sym (behind_are x m) ∙ ahead)
+      least_numbers x m ahead = all_at (λ (x : Active). is_lt (arrival_cmp f.flight x.flight) ≡ false → g ≤ x.passed) (waiting s) (least f here) (numbered s.active x) (was_waiting x m) (sym (behind_are x m) ∙ ahead)
 
       counted_each : (y : Active) → Member y (waiting changed) → is_lt (arrival_cmp (numbered changed.active i).flight y.flight) ≡ false → g + passing ≤ y.passed
       counted_each y m ahead =

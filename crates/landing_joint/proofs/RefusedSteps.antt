@@ -6,9 +6,10 @@ use Rattle.landing_rules.specs.Flights.{Flight, Landing, Situation, Schedule, Sp
 use Rattle.landing_rules.specs.Rules.{is_within, is_shut, lists}
 use Rattle.landing_rules.specs.Events.{Add, Close, Clock, frozen_landings, newcomer, situation_after}
 use Rattle.landing_rules.specs.Sound.{IsSound}
-use Rattle.landing_joint.proofs.Members.{Member, filter_in, in_frozen, frozen_in, length_push}
+use Rattle.landing_joint.proofs.Members.{filter_in, in_frozen, frozen_in, length_push}
 use Rattle.landing_joint.proofs.SoundAgain.{kept}
 use Rattle.landing_joint.proofs.FlightSteps.{waiting_push}
+use Rattle.landing_rules.specs.shared.Counting.{Member}
 
 push_in : {X : Type 0} (xs : List X) (y x : X) → Member x xs → Member x (xs ++ y ∷ [])
 push_in [] y x m = absurd m
