@@ -18,13 +18,14 @@ use Rattle.landing_joint.specs.Numbered.{nobody, numbered, second_of, numbers_of
 use Rattle.landing_joint.specs.AuditLaws.{AuditLaw, ShownPlanIsCleanLaw, shown_block}
 use Rattle.landing_joint.proofs.Numbered.{landing_at, landings_are}
 use Rattle.landing_joint.proofs.Joint.{callsigns_differ}
-use Rattle.landing_joint.proofs.ByNumber.{order_member, member_order}
+use Rattle.landing_joint.proofs.ByNumber.{order_member, member_order, order-moves}
 use Rattle.landing_joint.proofs.AuditLists.{append_nil, nil_append, or_else_nil, broken_none, none_broken, Each, each_pair}
-use Rattle.landing_joint.proofs.LandingOrder.{Strict, strict_equal, order-moves, strict_order, filter_order, rules-moved, cost_order}
+use Rattle.landing_joint.proofs.LandingOrder.{Strict, strict_equal, strict_order, filter_order, rules-moved, cost_order}
 use Rattle.landing_joint.proofs.AuditRules.{rules_kept, kept_rules}
 use Rattle.landing_joint.proofs.AuditLines.{find_first, find_some, found_any, line_member, member_line, twice_none, none_twice, second_in, second_at, lines_strict, strict_lines, Found, lines_landings, lines_marks, landings_lines, each_map, each_lines, same_refl, same_true, one_nil}
-use Rattle.landing_joint.proofs.Members.{all_at, in_map, map_in, map_member, member_map, member_number}
+use Rattle.landing_joint.proofs.Members.{in_map, map_in, map_member, member_map, member_number}
 use Rattle.std.proofs.lemmas.List.{length-map}
+use Rattle.landing_joint.specs.shared.Insertion.{all_at}
 
 module _ (s : Situation) (sound : IsSound s) where
   module _ (t : Schedule) (long : length t ≡ length s.active) where

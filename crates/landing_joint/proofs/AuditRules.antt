@@ -13,7 +13,7 @@ use Rattle.landing_rules.specs.shared.Tests.{is_pair_separated-Decides, is_shift
 use Rattle.landing_rules.specs.Audit.{Closed, Separation, Precedence, Moved, Early, Shift, for_failing, closed, are_apart, unseparated, listed_late, late, moved, early, shifted, by_rules}
 use Rattle.landing_joint.proofs.Joint.{any_low}
 use Rattle.landing_joint.proofs.AuditLists.{append_nil, nil_append, broken_none, none_broken, Each, pairs_none, none_pairs, each_pair, flat_nil, nil_flat, any_member, member_any}
-use Rattle.landing_joint.proofs.Members.{all_at, all_from}
+use Rattle.landing_joint.specs.shared.Insertion.{all_at, all_from}
 
 pub frozen_test : (o : Option ℕ) (h x : ℕ) → (is_none o || nat_eq x (unwrap_or o 0)) ≡ true → (not (is_none o) || nat_le h x) ≡ true → MatchOption o (h ≤ x) (λ t. x ≡ t)
 frozen_test None h x a b = leb-true h x b

@@ -4,7 +4,7 @@ use Rattle.std.specs.Prelude.{filter_map, option_map, is_none, unwrap_or, All, O
 use Rattle.std.specs.List.{cons_option}
 use Rattle.std.specs.Ordering.{is_lt}
 use Rattle.std.proofs.lemmas.Bool.{ltb-true, ltb-false}
-use Rattle.std.proofs.lemmas.List.Sorted.{IsPermutation-refl, IsPermutation-cons, IsPermutation-trans, IsPermutation-swap}
+use Rattle.std.proofs.lemmas.List.Sorted.{IsPermutation-refl, IsPermutation-cons, IsPermutation-trans, IsPermutation-swap, IsPermutation-sym}
 use Rattle.wake_table.specs.declared.category.Category.{Category}
 use Rattle.landing_rules.specs.Flights.{Active, Situation, Landing, landing}
 use Rattle.landing_rules.specs.Rules.{arrival_cmp}
@@ -18,51 +18,27 @@ use Rattle.landing_joint.specs.ByNumber.{insert_number, numbers_by_rank}
 use Rattle.landing_joint.proofs.Joint.{comes_is, first_come, frozen_each}
 use Rattle.cps_theory.specs.laws.Members.{filter_in}
 use Rattle.cps_theory.specs.laws.NumberedLists.{numbers_in}
-use Rattle.landing_joint.proofs.Members.{all_from, frozen_member}
+use Rattle.landing_joint.proofs.Members.{frozen_member}
+use Rattle.landing_joint.specs.shared.Insertion.{all_from, insert_moves, sort_moves, in_moved, member_moved}
 
 -- ---- a list by its ranks
 
 -- ---- sorting
 
+abbrev earlier : List Active → ℕ → ℕ → Bool
+earlier all j i = is_lt (arrival_cmp (numbered all j).flight (numbered all i).flight)
+
 insert_in : (all : List Active) (i x : ℕ) (js : List ℕ) → In x (insert_number all i js) → (x ≡ i) ⊎ In x js
-insert_in all i x [] m = m
-insert_in all i x (j ∷ js) m = go (is_lt (arrival_cmp (numbered all j).flight (numbered all i).flight)) m (insert_in all i x js)
-  where
-    go : (b : Bool) → In x (cond b (j ∷ insert_number all i js) (i ∷ j ∷ js)) → (In x (insert_number all i js) → (x ≡ i) ⊎ In x js) → (x ≡ i) ⊎ ((x ≡ j) ⊎ In x js)
-    go true (inl e) ih = inr (inl e)
-    go true (inr k) ih = elim (ih k) [ inl e ↦ inl e | inr l ↦ inr (inr l) ]
-    go false m ih = m
-
-in_insert : (all : List Active) (i x : ℕ) (js : List ℕ) → (x ≡ i) ⊎ In x js → In x (insert_number all i js)
-in_insert all i x [] m = m
-in_insert all i x (j ∷ js) m = go (is_lt (arrival_cmp (numbered all j).flight (numbered all i).flight)) m (in_insert all i x js)
-  where
-    go : (b : Bool) → (x ≡ i) ⊎ ((x ≡ j) ⊎ In x js) → ((x ≡ i) ⊎ In x js → In x (insert_number all i js)) → In x (cond b (j ∷ insert_number all i js) (i ∷ j ∷ js))
-    go true (inl e) ih = inr (ih (inl e))
-    go true (inr (inl e)) ih = inl e
-    go true (inr (inr k)) ih = inr (ih (inr k))
-    go false m ih = m
-
-pub sorted_in : (all : List Active) (x : ℕ) (js : List ℕ) → In x (numbers_by_rank all js) → In x js
-sorted_in all x [] m = m
-sorted_in all x (j ∷ js) m = elim (insert_in all j x (numbers_by_rank all js) m) [ inl e ↦ inl e | inr k ↦ inr (sorted_in all x js k) ]
-
-pub in_sorted : (all : List Active) (x : ℕ) (js : List ℕ) → In x js → In x (numbers_by_rank all js)
-in_sorted all x [] m = m
-in_sorted all x (j ∷ js) (inl e) = in_insert all j x (numbers_by_rank all js) (inl e)
-in_sorted all x (j ∷ js) (inr k) = in_insert all j x (numbers_by_rank all js) (inr (in_sorted all x js k))
-
-insert_permutes : (all : List Active) (i : ℕ) (js : List ℕ) → IsPermutation (insert_number all i js) (i ∷ js)
-insert_permutes all i [] = IsPermutation-refl (i ∷ [])
-insert_permutes all i (j ∷ js) = go (is_lt (arrival_cmp (numbered all j).flight (numbered all i).flight)) (insert_permutes all i js)
-  where
-    go : (b : Bool) → IsPermutation (insert_number all i js) (i ∷ js) → IsPermutation (cond b (j ∷ insert_number all i js) (i ∷ j ∷ js)) (i ∷ j ∷ js)
-    go true h = IsPermutation-trans (j ∷ insert_number all i js) (j ∷ i ∷ js) (i ∷ j ∷ js) (IsPermutation-cons j (insert_number all i js) (i ∷ js) h) (IsPermutation-swap (j ∷ i ∷ js) (i ∷ j ∷ js) 0 1 (omega arith) (omega arith) refl)
-    go false h = IsPermutation-refl (i ∷ j ∷ js)
+insert_in all i x js = in_moved (i ∷ js) (insert_number all i js) (IsPermutation-sym _ _ (insert_moves (earlier all) (insert_number all) (λ y. refl) (λ y z zs. refl) i js)) x
 
 pub sorted_permutes : (all : List Active) (js : List ℕ) → IsPermutation (numbers_by_rank all js) js
-sorted_permutes all [] = IsPermutation-refl []
-sorted_permutes all (j ∷ js) = IsPermutation-trans (insert_number all j (numbers_by_rank all js)) (j ∷ numbers_by_rank all js) (j ∷ js) (insert_permutes all j (numbers_by_rank all js)) (IsPermutation-cons j (numbers_by_rank all js) js (sorted_permutes all js))
+sorted_permutes all = sort_moves (earlier all) (insert_number all) (λ y. refl) (λ y z zs. refl) (numbers_by_rank all) refl (λ y ys. refl)
+
+pub sorted_in : (all : List Active) (x : ℕ) (js : List ℕ) → In x (numbers_by_rank all js) → In x js
+sorted_in all x js = in_moved js (numbers_by_rank all js) (IsPermutation-sym _ _ (sorted_permutes all js)) x
+
+pub in_sorted : (all : List Active) (x : ℕ) (js : List ℕ) → In x js → In x (numbers_by_rank all js)
+in_sorted all x js = in_moved (numbers_by_rank all js) js (sorted_permutes all js) x
 
 -- the flights of the numbers by rank are the flights by rank
 map_insert : (all : List Active) (i : ℕ) (js : List ℕ) → map (numbered all) (insert_number all i js) ≡ lists'.insert_by_rank (numbered all i) (map (numbered all) js)
@@ -116,24 +92,14 @@ abbrev Rises : List Landing → Type 0
 Rises [] = Unit {0}
 Rises (f ∷ fs) = ((g : Landing) → Member g fs → f.second ≤ g.second) × Rises fs
 
-pub member_insert : (f g : Landing) (fs : List Landing) → Member g (insert_landing f fs) → (g ≡ f) ⊎ Member g fs
-member_insert f g [] m = m
-member_insert f g (x ∷ fs) m = go (nat_lt x.second f.second) m (member_insert f g fs)
-  where
-    go : (b : Bool) → Member g (cond b (x ∷ insert_landing f fs) (f ∷ x ∷ fs)) → (Member g (insert_landing f fs) → (g ≡ f) ⊎ Member g fs) → (g ≡ f) ⊎ ((g ≡ x) ⊎ Member g fs)
-    go true (inl e) ih = inr (inl e)
-    go true (inr k) ih = elim (ih k) [ inl e ↦ inl e | inr l ↦ inr (inr l) ]
-    go false m ih = m
+pub insert-moves : (f : Landing) (fs : List Landing) → IsPermutation (f ∷ fs) (insert_landing f fs)
+insert-moves f fs = IsPermutation-sym _ _ (insert_moves (λ (g h : Landing). nat_lt g.second h.second) insert_landing (λ g. refl) (λ g h hs. refl) f fs)
 
-pub insert_member : (f g : Landing) (fs : List Landing) → (g ≡ f) ⊎ Member g fs → Member g (insert_landing f fs)
-insert_member f g [] m = m
-insert_member f g (x ∷ fs) m = go (nat_lt x.second f.second) m (insert_member f g fs)
-  where
-    go : (b : Bool) → (g ≡ f) ⊎ ((g ≡ x) ⊎ Member g fs) → ((g ≡ f) ⊎ Member g fs → Member g (insert_landing f fs)) → Member g (cond b (x ∷ insert_landing f fs) (f ∷ x ∷ fs))
-    go true (inl e) ih = inr (ih (inl e))
-    go true (inr (inl e)) ih = inl e
-    go true (inr (inr k)) ih = inr (ih (inr k))
-    go false m ih = m
+pub order-moves : (fs : List Landing) → IsPermutation fs (in_landing_order fs)
+order-moves fs = IsPermutation-sym _ _ (sort_moves (λ (g h : Landing). nat_lt g.second h.second) insert_landing (λ g. refl) (λ g h hs. refl) in_landing_order refl (λ g gs. refl) fs)
+
+pub member_insert : (f g : Landing) (fs : List Landing) → Member g (insert_landing f fs) → (g ≡ f) ⊎ Member g fs
+member_insert f g fs = member_moved (f ∷ fs) (insert_landing f fs) (insert-moves f fs) g
 
 rises_insert : (f : Landing) (fs : List Landing) → Rises fs → Rises (insert_landing f fs)
 rises_insert f [] r = (λ g m. absurd m, tt)
@@ -148,13 +114,10 @@ order_rises [] = tt
 order_rises (f ∷ fs) = rises_insert f (in_landing_order fs) (order_rises fs)
 
 pub order_member : (g : Landing) (fs : List Landing) → Member g (in_landing_order fs) → Member g fs
-order_member g [] m = m
-order_member g (f ∷ fs) m = elim (member_insert f g (in_landing_order fs) m) [ inl e ↦ inl e | inr k ↦ inr (order_member g fs k) ]
+order_member g fs = member_moved fs (in_landing_order fs) (order-moves fs) g
 
 pub member_order : (g : Landing) (fs : List Landing) → Member g fs → Member g (in_landing_order fs)
-member_order g [] m = m
-member_order g (f ∷ fs) (inl e) = insert_member f g (in_landing_order fs) (inl e)
-member_order g (f ∷ fs) (inr k) = insert_member f g (in_landing_order fs) (inr (member_order g fs k))
+member_order g fs = member_moved (in_landing_order fs) fs (IsPermutation-sym _ _ (order-moves fs)) g
 
 -- the last of landings in order: there is none, or it is one that no other is later than
 last_rises : (fs : List Landing) → Rises fs → (fs ≡ []) ⊎ ((f : Landing) × Member f fs × (lists'.last_of fs ≡ Some (f.second, f.flight.category)) × ((g : Landing) → Member g fs → g.second ≤ f.second))

@@ -16,11 +16,12 @@ use Rattle.landing_rules.specs.Sound.{IsSound, IsSoundState, IsGoodEvent}
 use Rattle.landing_rules.specs.shared.Counting.{cases, Member}
 use Rattle.landing_rules.specs.shared.Ranks.{arrival_total}
 use Rattle.landing_joint.specs.PassedOver.{waiting_flight, waits_in, is_ahead, stands_ahead, StaysInLine, StaysInLineThrough, ArePassedAtLeast, passing_by_event, passing_flight, passing_in_step, passing_in_run, StepCountsLaw, FewPassLaw, FewPassLaterLaw, IsFirstInLine, FewPassFirstLaw, FewPassAnyoneLaw}
-use Rattle.landing_joint.proofs.Members.{all_at, all_from, differ_of, in_filter, filter_in, in_map, in_push, none_any, one_of_name}
+use Rattle.landing_joint.proofs.Members.{differ_of, in_filter, filter_in, in_map, in_push, none_any, one_of_name}
 use Rattle.landing_joint.proofs.Joint.{level-callsign}
 use Rattle.landing_joint.proofs.FlightSteps.{add_parts, estimate_callsign, estimate_frozen, named_is}
 use Rattle.landing_joint.proofs.StepLaws.{event_keeps_sound, step_keeps_sound}
 use Rattle.landing_joint.proofs.PassedOver.{found, is_found, some_flight, same_some, clock_counts, clock_counts_exactly}
+use Rattle.landing_joint.specs.shared.Insertion.{all_at, all_from}
 
 -- ---- first-come order
 

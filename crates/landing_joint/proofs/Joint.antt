@@ -23,6 +23,7 @@ use Rattle.cps_theory.specs.NumberedSituation as numbers
 use Rattle.cps_theory.specs.laws.Members.{in_filter, in_append, append_in, distinct_filter, filter_in}
 use Rattle.landing_joint.specs.Numbered.{nobody, numbered, second_of, numbers_of, waits_at, comes_before, numbered_situation}
 use Rattle.landing_joint.proofs.Members as members
+use Rattle.landing_joint.specs.shared.Insertion as insertion
 use Rattle.landing_joint.proofs.Numbered.{landing_at, landings_are}
 use Rattle.cps_theory.specs.laws.NumberedLists.{count_by_map, count_by_agree, map_map, filter_map_is, all_at, at_all, in_numbers, map_numbers, distinct_numbers}
 
@@ -203,10 +204,10 @@ module _ (s : Situation) (sound : IsSound s) where
 -- ---- the frozen
 
 frozen_list : (P : Landing → Type 0) (all : List Active) → All P (filter_map (λ a. option_map (landing a) a.frozen) all) → (i : ℕ) → i < length all → (u : ℕ) → (numbered all i).frozen ≡ Some u → P (landing (numbered all i) u)
-frozen_list P all h i lt u e = members.all_at P _ h (landing (numbered all i) u) (members.frozen_in all (numbered all i) u (members.number_member all i lt) e)
+frozen_list P all h i lt u e = insertion.all_at P _ h (landing (numbered all i) u) (members.frozen_in all (numbered all i) u (members.number_member all i lt) e)
 
 pub list_frozen : (P : Landing → Type 0) (all : List Active) → ((i : ℕ) → i < length all → (u : ℕ) → (numbered all i).frozen ≡ Some u → P (landing (numbered all i) u)) → All P (filter_map (λ a. option_map (landing a) a.frozen) all)
-list_frozen P all h = members.all_from P _ (λ x m. let w = members.frozen_member x all m in subst P (sym w.4) (h w.0 w.1 w.2 w.3))
+list_frozen P all h = insertion.all_from P _ (λ x m. let w = members.frozen_member x all m in subst P (sym w.4) (h w.0 w.1 w.2 w.3))
 
 -- an open second lies in the two days
 pub any_low : (ws : List Span) (u : ℕ) → All (λ w. (w.0 ≤ w.1) × (w.1 ≤ last_second)) ws → list_any (is_within u) ws ≡ true → u ≤ last_second

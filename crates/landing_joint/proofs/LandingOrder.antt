@@ -10,7 +10,7 @@ use Rattle.landing_rules.specs.Flights.{Flight, Situation, Landing, horizon}
 use Rattle.landing_rules.specs.Rules.{last_second, is_open, waits, arrival_cmp, rank_among, place, greatest, delay, cost, ArePairSeparated, IsPairInPrecedence, IsShiftKept, IsFrozenKept, KeepsShift, KeepsRules}
 use Rattle.landing_rules.specs.Events.{insert_landing, in_landing_order}
 use Rattle.landing_rules.specs.shared.Counting.{Member}
-use Rattle.landing_joint.proofs.ByNumber.{member_insert, order_member}
+use Rattle.landing_joint.proofs.ByNumber.{member_insert, order_member, order-moves, insert-moves}
 use Rattle.landing_joint.proofs.AuditLists.{Each}
 
 -- ---- lists strictly rising by second
@@ -37,19 +37,6 @@ strict_equal (x ∷ xs) (y ∷ ys) d e f g = ap₂ (λ (z : Landing) (zs : List 
     back z i = elim (g z (inr i)) [ inl s ↦ absurd (let a = e.0 z i in let b = ap (λ (w : Landing). w.second) s in let c = ap (λ (w : Landing). w.second) same in omega arith) | inr j ↦ j ]
 
 -- ---- by landing order
-
-pub insert-moves : (f : Landing) (all : List Landing) → IsPermutation (f ∷ all) (insert_landing f all)
-insert-moves f [] = IsPermutation-refl (f ∷ [])
-insert-moves f (g ∷ rest) = by (nat_lt g.second f.second) (insert-moves f rest)
-  where
-    by : (b : Bool) → IsPermutation (f ∷ rest) (insert_landing f rest) → IsPermutation (f ∷ g ∷ rest) (cond b (g ∷ insert_landing f rest) (f ∷ g ∷ rest))
-    by true h = IsPermutation-trans (f ∷ g ∷ rest) (g ∷ f ∷ rest) (g ∷ insert_landing f rest)
-        (IsPermutation-swap (f ∷ g ∷ rest) (g ∷ f ∷ rest) 0 1 (omega arith) (omega arith) refl) (IsPermutation-cons g (f ∷ rest) (insert_landing f rest) h)
-    by false h = IsPermutation-refl (f ∷ g ∷ rest)
-
-pub order-moves : (all : List Landing) → IsPermutation all (in_landing_order all)
-order-moves [] = IsPermutation-refl []
-order-moves (f ∷ rest) = IsPermutation-trans (f ∷ rest) (f ∷ in_landing_order rest) (insert_landing f (in_landing_order rest)) (IsPermutation-cons f rest (in_landing_order rest) (order-moves rest)) (insert-moves f (in_landing_order rest))
 
 -- landings of different seconds are strictly rising in their order
 pub strict_insert : (f : Landing) (fs : List Landing) → Strict fs → ((g : Landing) → Member g fs → g.second ≢ f.second) → Strict (insert_landing f fs)

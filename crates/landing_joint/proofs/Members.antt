@@ -9,15 +9,7 @@ use Rattle.landing_rules.specs.Flights.{Active, Landing, Callsign, landing}
 use Rattle.landing_rules.specs.shared.Counting.{Member}
 use Rattle.cps_theory.specs.RankLists.{In}
 use Rattle.landing_joint.specs.Numbered.{numbered}
-
-pub all_at : {X : Type 0} (P : X → Type 0) (xs : List X) → All P xs → (x : X) → Member x xs → P x
-all_at P [] h x m = absurd m
-all_at P (y ∷ ys) h x (inl e) = subst P (sym e) (All-head P y ys h)
-all_at P (y ∷ ys) h x (inr m) = all_at P ys (All-tail P y ys h) x m
-
-pub all_from : {X : Type 0} (P : X → Type 0) (xs : List X) → ((x : X) → Member x xs → P x) → All P xs
-all_from P [] h = λ k d l. absurd (omega arith)
-all_from P (y ∷ ys) h = All-cons P y ys (h y (inl refl)) (all_from P ys (λ x m. h x (inr m)))
+use Rattle.landing_joint.specs.shared.Insertion.{all_at, all_from}
 
 pub in_filter : {X : Type 0} (p : X → Bool) (xs : List X) (x : X) → Member x (filter p xs) → Member x xs × (p x ≡ true)
 in_filter p [] x m = absurd m

@@ -15,12 +15,13 @@ use Rattle.cps_theory.specs.NumberedSituation as numbers
 use Rattle.cps_theory.specs.laws.Members.{filter_in, in_filter}
 use Rattle.landing_joint.specs.Numbered.{numbered, second_of, numbers_of, waits_at, comes_before, numbered_situation}
 use Rattle.landing_joint.specs.PassedOver.{waiting_flight, waits_in, count_passing, ArePassedAtLeast, ClockCounts, ClockCountsLaw, ClockCountsExactlyLaw}
-use Rattle.landing_joint.proofs.Members.{Differ, callsigns, all_at, all_from, differ_of, found_in, none_found, one_of_name, map_member, member_map}
+use Rattle.landing_joint.proofs.Members.{Differ, callsigns, differ_of, found_in, none_found, one_of_name, map_member, member_map}
 use Rattle.landing_joint.proofs.FlightSteps.{named_is}
 use Rattle.landing_joint.proofs.FirstStays.{bound_overtook, few_overtook_itself, fewer_overtook}
 use Rattle.landing_joint.proofs.Joint.{all_among, comes_is, feasible_numbered, first_come, passed_low}
 use Rattle.landing_joint.proofs.Clock.{at_after, forth_of, late_after, passing_is, same_flight, waiting_after, waiting_before, waiting_changed}
 use Rattle.landing_rules.specs.shared.Counting.{Member}
+use Rattle.landing_joint.specs.shared.Insertion.{all_at, all_from}
 
 -- ---- the flight of a name
 

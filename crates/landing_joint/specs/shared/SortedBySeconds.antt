@@ -4,35 +4,22 @@ use Rattle.std.proofs.lemmas.Bool.{ltb-true, ltb-false}
 use Rattle.landing_rules.specs.FirstBest.{insert_by, sorted_by}
 use Rattle.cps_theory.specs.RankLists.{In, Distinct}
 use Rattle.cps_theory.specs.FirstBest.{Ascends}
+use Rattle.landing_joint.specs.shared.Insertion.{insert_moves, sort_moves, in_moved}
+use Rattle.std.specs.Prelude.{IsPermutation}
+use Rattle.std.proofs.lemmas.List.Sorted.{IsPermutation-sym}
 
-pub in_inserted : (t : ℕ → ℕ) (r x : ℕ) (rs : List ℕ) → In x (insert_by t r rs) → (x ≡ r) ⊎ In x rs
-in_inserted t r x [] m = m
-in_inserted t r x (q ∷ rs) m = go (nat_lt (t q) (t r)) m (in_inserted t r x rs)
-  where
-    go : (b : Bool) → In x (cond b (q ∷ insert_by t r rs) (r ∷ q ∷ rs)) → (In x (insert_by t r rs) → (x ≡ r) ⊎ In x rs) → (x ≡ r) ⊎ ((x ≡ q) ⊎ In x rs)
-    go true (inl e) ih = inr (inl e)
-    go true (inr k) ih = elim (ih k) [ inl e ↦ inl e | inr l ↦ inr (inr l) ]
-    go false m ih = m
+in_inserted : (t : ℕ → ℕ) (r x : ℕ) (rs : List ℕ) → In x (insert_by t r rs) → (x ≡ r) ⊎ In x rs
+in_inserted t r x rs = in_moved (r ∷ rs) (insert_by t r rs) (IsPermutation-sym _ _ (insert_moves (λ y z. nat_lt (t y) (t z)) (insert_by t) (λ y. refl) (λ y z zs. refl) r rs)) x
 
-pub inserted_in : (t : ℕ → ℕ) (r x : ℕ) (rs : List ℕ) → (x ≡ r) ⊎ In x rs → In x (insert_by t r rs)
-inserted_in t r x [] m = m
-inserted_in t r x (q ∷ rs) m = go (nat_lt (t q) (t r)) m (inserted_in t r x rs)
-  where
-    go : (b : Bool) → (x ≡ r) ⊎ ((x ≡ q) ⊎ In x rs) → ((x ≡ r) ⊎ In x rs → In x (insert_by t r rs)) → In x (cond b (q ∷ insert_by t r rs) (r ∷ q ∷ rs))
-    go true (inl e) ih = inr (ih (inl e))
-    go true (inr (inl e)) ih = inl e
-    go true (inr (inr k)) ih = inr (ih (inr k))
-    go false m ih = m
+sorted_by_moves : (t : ℕ → ℕ) (rs : List ℕ) → IsPermutation (sorted_by t rs) rs
+sorted_by_moves t = sort_moves (λ y z. nat_lt (t y) (t z)) (insert_by t) (λ y. refl) (λ y z zs. refl) (sorted_by t) refl (λ y ys. refl)
 
 -- sorting keeps the members
 pub in_sorted_by : (t : ℕ → ℕ) (x : ℕ) (rs : List ℕ) → In x (sorted_by t rs) → In x rs
-in_sorted_by t x [] m = m
-in_sorted_by t x (r ∷ rs) m = elim (in_inserted t r x (sorted_by t rs) m) [ inl e ↦ inl e | inr k ↦ inr (in_sorted_by t x rs k) ]
+in_sorted_by t x rs = in_moved rs (sorted_by t rs) (IsPermutation-sym _ _ (sorted_by_moves t rs)) x
 
 pub sorted_by_in : (t : ℕ → ℕ) (x : ℕ) (rs : List ℕ) → In x rs → In x (sorted_by t rs)
-sorted_by_in t x [] m = m
-sorted_by_in t x (r ∷ rs) (inl e) = inserted_in t r x (sorted_by t rs) (inl e)
-sorted_by_in t x (r ∷ rs) (inr k) = inserted_in t r x (sorted_by t rs) (inr (sorted_by_in t x rs k))
+sorted_by_in t x rs = in_moved (sorted_by t rs) rs (sorted_by_moves t rs) x
 
 ascends_inserted : (t : ℕ → ℕ) (r : ℕ) (rs : List ℕ) → Ascends t rs → ((q : ℕ) → In q rs → t q ≢ t r) → Ascends t (insert_by t r rs)
 ascends_inserted t r [] a ne = (λ y i. absurd i, tt)
