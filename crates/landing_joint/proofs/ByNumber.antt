@@ -3,7 +3,7 @@ use Rattle.std.proofs.Common.{◌≡◌, ℕ, zero, suc, ◌<◌, ◌≤◌, ◌
 use Rattle.std.specs.Prelude.{filter_map, option_map, is_none, unwrap_or, All, Option, Some, None, IsPermutation, slice_get}
 use Rattle.std.specs.List.{cons_option}
 use Rattle.std.specs.Ordering.{is_lt}
-use Rattle.std.proofs.lemmas.Bool.{ltb-true, ltb-false}
+use Rattle.std.proofs.lemmas.Bool.{ltb-true, ltb-false, cases_Bool, cases_lt, lt-ltb, le-ltb}
 use Rattle.std.proofs.lemmas.List.Sorted.{IsPermutation-refl, IsPermutation-cons, IsPermutation-trans, IsPermutation-swap, IsPermutation-sym}
 use Rattle.wake_table.specs.declared.category.Category.{Category}
 use Rattle.landing_rules.specs.Flights.{Active, Situation, Landing, landing}
@@ -43,11 +43,7 @@ in_sorted all x js = in_moved (numbers_by_rank all js) js (sorted_permutes all j
 -- the flights of the numbers by rank are the flights by rank
 map_insert : (all : List Active) (i : ℕ) (js : List ℕ) → map (numbered all) (insert_number all i js) ≡ lists'.insert_by_rank (numbered all i) (map (numbered all) js)
 map_insert all i [] = refl
-map_insert all i (j ∷ js) = go (is_lt (arrival_cmp (numbered all j).flight (numbered all i).flight)) (map_insert all i js)
-  where
-    go : (b : Bool) → map (numbered all) (insert_number all i js) ≡ lists'.insert_by_rank (numbered all i) (map (numbered all) js) → map (numbered all) (cond b (j ∷ insert_number all i js) (i ∷ j ∷ js)) ≡ cond b (numbered all j ∷ lists'.insert_by_rank (numbered all i) (map (numbered all) js)) (numbered all i ∷ numbered all j ∷ map (numbered all) js)
-    go true e = ap (λ l. numbered all j ∷ l) e
-    go false e = refl
+map_insert all i (j ∷ js) = elim (cases_Bool (earlier all j i)) [ inl e ↦ rw e (ap (λ l. numbered all j ∷ l) (map_insert all i js)) | inr e ↦ rw e ]
 
 pub map_sorted : (all : List Active) (js : List ℕ) → map (numbered all) (numbers_by_rank all js) ≡ lists'.by_rank (map (numbered all) js)
 map_sorted all [] = refl
@@ -103,11 +99,10 @@ member_insert f g fs = member_moved (f ∷ fs) (insert_landing f fs) (insert-mov
 
 rises_insert : (f : Landing) (fs : List Landing) → Rises fs → Rises (insert_landing f fs)
 rises_insert f [] r = (λ g m. absurd m, tt)
-rises_insert f (x ∷ fs) r = go (nat_lt x.second f.second) refl (rises_insert f fs r.1)
-  where
-    go : (b : Bool) → nat_lt x.second f.second ≡ b → Rises (insert_landing f fs) → Rises (cond b (x ∷ insert_landing f fs) (f ∷ x ∷ fs))
-    go true e ih = (λ g m. elim (member_insert f g fs m) [ inl q ↦ (let a = ltb-true x.second f.second e in let b = ap (λ (y : Landing). y.second) q in omega arith) | inr k ↦ r.0 g k ], ih)
-    go false e ih = (λ g m. elim m [ inl q ↦ (let a = ltb-false x.second f.second e in let b = ap (λ (y : Landing). y.second) q in omega arith) | inr k ↦ (let a = ltb-false x.second f.second e in let b = r.0 g k in omega arith) ], r)
+rises_insert f (x ∷ fs) r = elim (cases_lt x.second f.second) [
+  | inl lt ↦ rw (lt-ltb x.second f.second lt) (λ g m. elim (member_insert f g fs m) [ inl q ↦ rw q (omega arith) | inr k ↦ r.0 g k ], rises_insert f fs r.1)
+  | inr le ↦ rw (le-ltb x.second f.second le) (λ g m. elim m [ inl q ↦ rw q le | inr k ↦ (let b = r.0 g k in omega arith) ], r)
+]
 
 pub order_rises : (fs : List Landing) → Rises (in_landing_order fs)
 order_rises [] = tt

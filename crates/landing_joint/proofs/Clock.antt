@@ -40,11 +40,7 @@ filter_agree p q (x ∷ xs) h = ap₂ (λ b l. cond b (x ∷ l) l) (h x (inl ref
 
 filter_twice : (p q : ℕ → Bool) (xs : List ℕ) → filter p (filter q xs) ≡ filter (λ x. q x && p x) xs
 filter_twice p q [] = refl
-filter_twice p q (x ∷ xs) = go (q x) (filter_twice p q xs)
-  where
-    go : (b : Bool) → filter p (filter q xs) ≡ filter (λ y. q y && p y) xs → filter p (cond b (x ∷ filter q xs) (filter q xs)) ≡ cond (b && p x) (x ∷ filter (λ y. q y && p y) xs) (filter (λ y. q y && p y) xs)
-    go true e = ap (λ l. cond (p x) (x ∷ l) l) e
-    go false e = e
+filter_twice p q (x ∷ xs) = elim (cases_Bool (q x)) [ inl e ↦ rw (e, filter_twice p q xs) | inr e ↦ rw (e, filter_twice p q xs) ]
 
 -- what the clock makes of a landing: of its flight, its second, how many passed it before and after, whether it is before the horizon, and whether counts are carried
 pub record Froze (fl : Flight) (fr : Option ℕ) (pa sec m : ℕ) (d c : Bool) (a : Active) : Type 0 where

@@ -38,19 +38,11 @@ use Rattle.landing_joint.specs.shared.BestLists.{sum_map}
 
 sum_parts : (g : ℕ → ℕ) (p : ℕ → Bool) (xs : List ℕ) → sum_by g xs ≡ sum_by g (filter (λ x. not (p x)) xs) + sum_by g (filter p xs)
 sum_parts g p [] = omega arith
-sum_parts g p (x ∷ xs) = go (p x) (sum_parts g p xs)
-  where
-    go : (b : Bool) → sum_by g xs ≡ sum_by g (filter (λ y. not (p y)) xs) + sum_by g (filter p xs) → sum_by g (x ∷ xs) ≡ sum_by g (cond (not b) (x ∷ filter (λ y. not (p y)) xs) (filter (λ y. not (p y)) xs)) + sum_by g (cond b (x ∷ filter p xs) (filter p xs))
-    go true e = let a = sum_by-cons g x xs in let b = sum_by-cons g x (filter p xs) in omega arith
-    go false e = let a = sum_by-cons g x xs in let b = sum_by-cons g x (filter (λ y. not (p y)) xs) in omega arith
+sum_parts g p (x ∷ xs) = let h = sum_parts g p xs in elim (cases_Bool (p x)) [ inl e ↦ rw e (omega (arith, sum_by-cons g)) | inr e ↦ rw e (omega (arith, sum_by-cons g)) ]
 
 filter_numbers : (p : ℕ → Bool) (b n : ℕ) → filter p (numbers_from (suc b) n) ≡ map suc (filter (λ i. p (suc i)) (numbers_from b n))
 filter_numbers p b zero = refl
-filter_numbers p b (suc n) = go (p (suc b)) (filter_numbers p (suc b) n)
-  where
-    go : (c : Bool) → filter p (numbers_from (suc (suc b)) n) ≡ map suc (filter (λ i. p (suc i)) (numbers_from (suc b) n)) → cond c (suc b ∷ filter p (numbers_from (suc (suc b)) n)) (filter p (numbers_from (suc (suc b)) n)) ≡ map suc (cond c (b ∷ filter (λ i. p (suc i)) (numbers_from (suc b) n)) (filter (λ i. p (suc i)) (numbers_from (suc b) n)))
-    go true e = ap (λ l. suc b ∷ l) e
-    go false e = e
+filter_numbers p b (suc n) = let h = filter_numbers p (suc b) n in elim (cases_Bool (p (suc b))) [ inl e ↦ rw e (ap (λ l. suc b ∷ l) h) | inr e ↦ rw e h ]
 
 -- the frozen landings are those of the frozen numbers
 frozen_are : (all : List Active) → filter_map (λ a. option_map (landing a) a.frozen) all ≡ map (λ i. landing (numbered all i) (unwrap_or (numbered all i).frozen 0)) (filter (λ i. not (waits_at all i)) (numbers_of all))
