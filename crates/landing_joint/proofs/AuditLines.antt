@@ -4,7 +4,7 @@ use Rattle.std.specs.Prelude.{option_map, find, AllPairs, Some, None}
 use Rattle.std.specs.Str.{bytes_eq}
 use Rattle.std.specs.List.{list_any, cons_option}
 use Rattle.std.proofs.lemmas.Slice.Eq.{bytes_eq-Decides}
-use Rattle.std.proofs.lemmas.Bool.{or_cases, or_left, or_right, ltb-true, lt-ltb, or_parts, or_from, false_from_ne_true, false≢true}
+use Rattle.std.proofs.lemmas.Bool.{or_cases, or_left, or_right, ltb-true, lt-ltb, or_parts, or_from, false_from_ne_true, false≢true, cases_Bool, cases_lt, le-ltb}
 use Rattle.landing_rules.specs.declared.objective.Objective.{Objective}
 use Rattle.landing_rules.specs.declared.objective.Objective.TheVariants.{Makespan, Delay}
 use Rattle.landing_rules.specs.Flights.{Callsign, Active, Situation, Landing, landing, is_waiting}
@@ -16,7 +16,7 @@ use Rattle.cps_theory.specs.RankLists.{Distinct, In}
 use Rattle.landing_joint.specs.Numbered.{nobody, numbered}
 use Rattle.landing_joint.proofs.AuditLists.{cons_nil, Each}
 use Rattle.landing_joint.proofs.LandingOrder.{Strict}
-use Rattle.landing_joint.proofs.Members.{found_in, in_map, map_member}
+use Rattle.landing_joint.proofs.Members.{found_in, in_map, map_member, none_any}
 
 -- ---- names
 
@@ -33,19 +33,16 @@ find_some c all a e = let r = found_in (named c) all a e in (r.0, (bytes_eq-Deci
 
 pub any_found : (c : Callsign) (all : List Active) → list_any (named c) all ≡ true → (a : Active) × (find (named c) all ≡ Some a)
 any_found c [] e = absurd (false≢true e)
-any_found c (x ∷ all) e = go (bytes_eq x.flight.callsign c) e (any_found c all)
-  where
-    go : (b : Bool) → (b || list_any (named c) all) ≡ true → (list_any (named c) all ≡ true → (a : Active) × (find (named c) all ≡ Some a)) → (a : Active) × (cond b (Some x) (find (named c) all) ≡ Some a)
-    go true e ih = (x, refl)
-    go false e ih = ih e
+any_found c (x ∷ all) e = elim (cases_Bool (bytes_eq x.flight.callsign c)) [
+  | inl q ↦ (x, rw q)
+  | inr q ↦ (let w = any_found c all (rw q at e) in (w.0, rw q w.1))
+]
 
 pub found_any : (c : Callsign) (all : List Active) (a : Active) → find (named c) all ≡ Some a → list_any (named c) all ≡ true
-found_any c all a e = let m = find_some c all a e in go all m.0 m.1
-  where
-    go : (all : List Active) → Member a all → a.flight.callsign ≡ c → list_any (named c) all ≡ true
-    go [] m q = absurd m
-    go (x ∷ all) (inl s) q = or_left (bytes_eq x.flight.callsign c) (list_any (named c) all) ((bytes_eq-Decides x.flight.callsign c).1 (ap (λ (y : Active). y.flight.callsign) (sym s) ∙ q))
-    go (x ∷ all) (inr m) q = or_right (bytes_eq x.flight.callsign c) (list_any (named c) all) (go all m q)
+found_any c all a e = elim (cases_Bool (list_any (named c) all)) [
+  | inl y ↦ y
+  | inr n ↦ (let r = found_in (named c) all a e in absurd (false≢true (sym (none_any (named c) all a n r.0) ∙ r.1)))
+]
 
 pub line_member : (c : Callsign) (lines : List ShownLanding) → has_line lines c ≡ true → (l : ShownLanding) × Member l lines × (l.callsign ≡ c)
 line_member c [] e = absurd (false≢true e)
@@ -59,15 +56,14 @@ member_line l (x ∷ lines) (inr m) = or_right (bytes_eq x.callsign l.callsign) 
 -- no callsign stands twice
 pub twice_none : (seen lines : List ShownLanding) → twice_after seen lines ≡ [] → ((l : ShownLanding) → Member l lines → has_line seen l.callsign ≡ false) × Each (λ l m. l.callsign ≢ m.callsign) lines
 twice_none seen [] e = (λ l m. absurd m, tt)
-twice_none seen (x ∷ lines) e = go (has_line seen x.callsign) refl e (twice_none (x ∷ seen) lines)
-  where
-    go : (b : Bool) → has_line seen x.callsign ≡ b → cond b (Twice x.callsign ∷ twice_after (x ∷ seen) lines) (twice_after (x ∷ seen) lines) ≡ [] → (twice_after (x ∷ seen) lines ≡ [] → ((l : ShownLanding) → Member l lines → has_line (x ∷ seen) l.callsign ≡ false) × Each (λ l m. l.callsign ≢ m.callsign) lines) → ((l : ShownLanding) → (l ≡ x) ⊎ Member l lines → has_line seen l.callsign ≡ false) × Each (λ l m. l.callsign ≢ m.callsign) (x ∷ lines)
-    go true q e ih = absurd (cons_nil (Twice x.callsign) (twice_after (x ∷ seen) lines) e)
-    go false q e ih =
-        let w = ih e in (
-          λ l m. elim m [ inl s ↦ ap (λ (y : ShownLanding). has_line seen y.callsign) s ∙ q | inr k ↦ (or_parts (bytes_eq x.callsign l.callsign) (has_line seen l.callsign) (w.0 l k)).1 ],
-          (λ l k s. false≢true (sym (or_parts (bytes_eq x.callsign l.callsign) (has_line seen l.callsign) (w.0 l k)).0 ∙ (bytes_eq-Decides x.callsign l.callsign).1 s), w.1),
-        )
+twice_none seen (x ∷ lines) e = elim (cases_Bool (has_line seen x.callsign)) [
+  | inl q ↦ absurd (cons_nil (Twice x.callsign) (twice_after (x ∷ seen) lines) (rw q at e))
+  | inr q ↦
+      (let w = twice_none (x ∷ seen) lines (rw q at e) in (
+        λ l m. elim m [ inl s ↦ rw s q | inr k ↦ (or_parts (bytes_eq x.callsign l.callsign) (has_line seen l.callsign) (w.0 l k)).1 ],
+        (λ l k s. false≢true (sym (or_parts (bytes_eq x.callsign l.callsign) (has_line seen l.callsign) (w.0 l k)).0 ∙ (bytes_eq-Decides x.callsign l.callsign).1 s), w.1),
+      ))
+]
 
 pub none_twice : (seen lines : List ShownLanding) → ((l : ShownLanding) → Member l lines → has_line seen l.callsign ≡ false) → Each (λ l m. l.callsign ≢ m.callsign) lines → twice_after seen lines ≡ []
 none_twice seen [] h e = refl
@@ -87,11 +83,10 @@ second_at (x ∷ lines) e l (inr m) = ap (λ b. cond b x.second (second_in lines
 
 pub order_strict : (i t : ℕ) (fs : List Landing) → disordered_from i t (map shown_landing fs) ≡ [] → ((g : Landing) → Member g fs → t < g.second) × Strict fs
 order_strict i t [] e = (λ g m. absurd m, tt)
-order_strict i t (f ∷ fs) e = go (nat_lt t f.second) refl e (order_strict (i + 1) f.second fs)
-  where
-    go : (b : Bool) → nat_lt t f.second ≡ b → cond b (disordered_from (i + 1) f.second (map shown_landing fs)) (Order i ∷ disordered_from (i + 1) f.second (map shown_landing fs)) ≡ [] → (disordered_from (i + 1) f.second (map shown_landing fs) ≡ [] → ((g : Landing) → Member g fs → f.second < g.second) × Strict fs) → ((g : Landing) → (g ≡ f) ⊎ Member g fs → t < g.second) × Strict (f ∷ fs)
-    go true q e ih = let w = ih e in let lt = ltb-true t f.second q in (λ g m. elim m [ inl s ↦ (let a = ap (λ (y : Landing). y.second) s in omega arith) | inr k ↦ (let a = w.0 g k in omega arith) ], w)
-    go false q e ih = absurd (cons_nil (Order i) (disordered_from (i + 1) f.second (map shown_landing fs)) e)
+order_strict i t (f ∷ fs) e = elim (cases_lt t f.second) [
+  | inl lt ↦ (let w = order_strict (i + 1) f.second fs (rw (lt-ltb t f.second lt) at e) in (λ g m. elim m [ inl s ↦ rw s lt | inr k ↦ (let a = w.0 g k in omega arith) ], w))
+  | inr le ↦ absurd (cons_nil (Order i) (disordered_from (i + 1) f.second (map shown_landing fs)) (rw (le-ltb t f.second le) at e))
+]
 
 pub strict_from : (i t : ℕ) (fs : List Landing) → ((g : Landing) → Member g fs → t < g.second) → Strict fs → disordered_from i t (map shown_landing fs) ≡ []
 strict_from i t [] h e = refl

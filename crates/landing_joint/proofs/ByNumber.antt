@@ -64,18 +64,7 @@ module _ (s : Situation) (sound : IsSound s) where
   sorted_ordered [] mj d = tt
   sorted_ordered (j ∷ js) mj d = insert_ordered j (numbers_by_rank s.active js) (mj j (inl refl)) (λ k m. mj k (inr (sorted_in s.active k js m))) (λ m. d.0 (sorted_in s.active j js m)) (sorted_ordered js (λ k m. mj k (inr m)) d.1)
 
-pub both_ways : (b c : Bool) → (b ≡ true → c ≡ true) → (c ≡ true → b ≡ true) → b ≡ c
-both_ways true true f g = refl
-both_ways true false f g = sym (f refl)
-both_ways false true f g = g refl
-both_ways false false f g = refl
-
 -- ---- reads
-
-pub get_map : (all : List Active) (js : List ℕ) (i : ℕ) (d : ℕ) (e : Active) → i < length js → get_or (map (numbered all) js) i e ≡ numbered all (get_or js i d)
-get_map all [] i d e lt = absurd (omega arith)
-get_map all (j ∷ js) zero d e lt = refl
-get_map all (j ∷ js) (suc i) d e lt = get_map all js i d e (omega arith)
 
 pub slice_map : (all : List Active) (js : List ℕ) (i : ℕ) (d : ℕ) → i < length js → slice_get (map (numbered all) js) i ≡ Some (numbered all (get_or js i d))
 slice_map all [] i d lt = absurd (omega arith)

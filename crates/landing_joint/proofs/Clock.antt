@@ -278,14 +278,7 @@ module _ (s : Situation) (sound : IsSound s) (t : Schedule) (f : IsFeasible s t)
 
 pub forth_of : (clock : Option ℕ) (now freeze : ℕ) → clock_back clock now ≡ None → horizon_after clock freeze ≤ now + freeze
 forth_of None now freeze e = zero-le
-forth_of (Some last) now freeze e = go (nat_lt now last) refl e
-  where
-    go : (b : Bool) → nat_lt now last ≡ b → (if b then Some (ClockBack last) else None) ≡ None → last + freeze ≤ now + freeze
-    go true q e = absurd (some_none (ClockBack last) e)
-      where
-        some_none : (r : Refusal) → Some r ≡ None → ⊥
-        some_none r e = cc
-    go false q e = let a = ltb-false now last q in omega arith
+forth_of (Some last) now freeze e = elim (cases_lt now last) [ inl lt ↦ (let w : Some (ClockBack last) ≡ None = rw (lt-ltb now last lt) at e in absurd (cc)) | inr le ↦ omega arith ]
 
 pub clock_keeps_plan : ClockKeepsPlanLaw
 clock_keeps_plan s t now sound f e =

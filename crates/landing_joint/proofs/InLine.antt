@@ -101,11 +101,7 @@ same_cancelled s plan c sound x a m n e =
     ap (λ (z : Active). z.passed) (one_waits s sound x a (filter_in is_waiting s.active x v.0 w.1) n (sym e))
 
 estimate_passed : (c : Callsign) (eta : ℕ) (windows : List Span) (a : Active) → (estimated c eta windows a).passed ≡ a.passed
-estimate_passed c eta windows a = go (named c a)
-  where
-    go : (b : Bool) → (cond b (record a { flight = record a.flight { eta = eta; windows = windows } }) a).passed ≡ a.passed
-    go true = refl
-    go false = refl
+estimate_passed c eta windows a = elim (cases_Bool (named c a)) [ inl e ↦ rw e | inr e ↦ rw e ]
 
 same_estimated : (s : Situation) (plan : Option Schedule) (c : Callsign) (eta : ℕ) (windows : List Span) → IsSound s → SameCounts s (situation_after s plan (Estimate c eta windows))
 same_estimated s plan c eta windows sound x a m n e =

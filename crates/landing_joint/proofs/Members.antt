@@ -11,6 +11,10 @@ use Rattle.cps_theory.specs.RankLists.{In}
 use Rattle.landing_joint.specs.Numbered.{numbered}
 use Rattle.landing_joint.specs.shared.Insertion.{all_at, all_from}
 
+pub cases_option : {X : Type 0} (o : Option X) → (o ≡ None) ⊎ ((x : X) × (o ≡ Some x))
+cases_option None = inl refl
+cases_option (Some x) = inr (x, refl)
+
 pub in_filter : {X : Type 0} (p : X → Bool) (xs : List X) (x : X) → Member x (filter p xs) → Member x xs × (p x ≡ true)
 in_filter p [] x m = absurd m
 in_filter p (y ∷ ys) x m = elim (cases_Bool (p y)) [
@@ -47,17 +51,9 @@ in_frozen (a ∷ xs) f m = go a.frozen refl m (in_frozen xs f)
 
 pub frozen_in : (xs : List Active) (a : Active) (t : ℕ) → Member a xs → a.frozen ≡ Some t → Member (landing a t) (filter_map (λ a. option_map (landing a) a.frozen) xs)
 frozen_in [] a t m e = absurd m
-frozen_in (x ∷ xs) a t m e = go x.frozen refl m (λ k. frozen_in xs a t k e)
-  where
-    go : (o : Option ℕ) → x.frozen ≡ o → (a ≡ x) ⊎ Member a xs → (Member a xs → Member (landing a t) (filter_map (λ a. option_map (landing a) a.frozen) xs)) →
-        Member (landing a t) (cons_option (option_map (landing x) o) (filter_map (λ a. option_map (landing a) a.frozen) xs))
-    go None q (inl s) ih = let w : None ≡ Some t = sym q ∙ ap (λ (z : Active). z.frozen) (sym s) ∙ e in absurd (cc)
-    go None q (inr k) ih = ih k
-    go (Some u) q (inl s) ih =
-        let w : Some u ≡ Some t = sym q ∙ ap (λ (z : Active). z.frozen) (sym s) ∙ e in
-        let v : u ≡ t = cc in
-        inl (ap (λ (z : Active). landing z t) s ∙ ap (landing x) (sym v))
-    go (Some u) q (inr k) ih = inr (ih k)
+frozen_in (x ∷ xs) a t (inl s) e =
+    subst (λ o. Member (landing a t) (cons_option (option_map (landing x) o) (filter_map (λ b. option_map (landing b) b.frozen) xs))) (sym e ∙ ap (λ (z : Active). z.frozen) s) (inl (ap (λ (z : Active). landing z t) s))
+frozen_in (x ∷ xs) a t (inr k) e = elim (cases_option x.frozen) [ inl q ↦ rw q (frozen_in xs a t k e) | inr w ↦ rw w.1 (inr (frozen_in xs a t k e)) ]
 
 pub member_number : (a : Active) (all : List Active) → Member a all → (i : ℕ) × (i < length all) × (a ≡ numbered all i)
 member_number a [] m = absurd m

@@ -15,7 +15,7 @@ use Rattle.cps_theory.specs.NumberedSituation as numbers
 use Rattle.cps_theory.specs.laws.Members.{filter_in, in_filter}
 use Rattle.landing_joint.specs.Numbered.{numbered, second_of, numbers_of, waits_at, comes_before, numbered_situation}
 use Rattle.landing_joint.specs.PassedOver.{waiting_flight, waits_in, count_passing, ArePassedAtLeast, ClockCounts, ClockCountsLaw, ClockCountsExactlyLaw}
-use Rattle.landing_joint.proofs.Members.{Differ, callsigns, differ_of, found_in, none_found, one_of_name, map_member, member_map}
+use Rattle.landing_joint.proofs.Members.{Differ, callsigns, differ_of, found_in, none_found, one_of_name, map_member, member_map, cases_option}
 use Rattle.landing_joint.proofs.FlightSteps.{named_is}
 use Rattle.landing_joint.proofs.FirstStays.{bound_overtook, few_overtook_itself, fewer_overtook}
 use Rattle.landing_joint.proofs.Joint.{all_among, comes_is, feasible_numbered, first_come, passed_low}
@@ -32,18 +32,13 @@ pub names_waiting : (s : Situation) → IsSound s → Differ (callsigns (waiting
 names_waiting s sound = differ_of (waiting s) (AllPairs-filter (λ (a b : Active). a.flight.callsign ≢ b.flight.callsign) is_waiting s.active sound.callsigns)
 
 pub is_found : (s : Situation) → IsSound s → (c : Callsign) (f : Active) → Member f (waiting s) → f.flight.callsign ≡ c → waiting_flight s c ≡ Some f
-is_found s sound c f m e = go (waiting_flight s c) refl
-  where
-    go : (o : Option Active) → waiting_flight s c ≡ o → o ≡ Some f
-    go None q = absurd (false≢true (sym (none_found (named c) (waiting s) f q m) ∙ (bytes_eq-Decides f.flight.callsign c).1 e))
-    go (Some g) q = let r = found s c g q in ap Some (one_of_name (waiting s) g f (names_waiting s sound) r.0 m (r.1 ∙ sym e))
+is_found s sound c f m e = elim (cases_option (waiting_flight s c)) [
+  | inl q ↦ absurd (false≢true (sym (none_found (named c) (waiting s) f q m) ∙ (bytes_eq-Decides f.flight.callsign c).1 e))
+  | inr w ↦ (let r = found s c w.0 w.1 in w.1 ∙ ap Some (one_of_name (waiting s) w.0 f (names_waiting s sound) r.0 m (r.1 ∙ sym e)))
+]
 
 pub some_flight : (s : Situation) (c : Callsign) → waits_in s c ≡ true → (f : Active) × (waiting_flight s c ≡ Some f)
-some_flight s c e = go (waiting_flight s c) e
-  where
-    go : (o : Option Active) → is_some o ≡ true → (f : Active) × (o ≡ Some f)
-    go None e = absurd (false≢true e)
-    go (Some f) e = (f, refl)
+some_flight s c e = elim (cases_option (waiting_flight s c)) [ inl q ↦ absurd (false≢true (sym (ap is_some q) ∙ e)) | inr w ↦ w ]
 
 pub same_some : (a b : Active) → Some a ≡ Some b → a ≡ b
 same_some a b e = cc

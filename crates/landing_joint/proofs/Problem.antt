@@ -2,7 +2,7 @@
 use Rattle.std.proofs.Common.{◌≡◌, ℕ, zero, suc, ◌+◌, ◌-◌, ◌*◌, ◌<◌, ◌≤◌, ◌⊎◌, inl, inr, List, [], ◌∷◌, length, get_or, map, filter, cond, Bool, true, false, not, ◌&&◌, nat_le, zero-le, le_antisymm, add-one, arith, refl, sym, ap, ap₂, subst, ◌∙◌}
 use Rattle.std.specs.Prelude.{filter_map, option_map, unwrap_or, is_none, sum_by, Option, Some, None, IsPermutation}
 use Rattle.std.specs.List.{AllZip, list_any, cons_option, zip}
-use Rattle.std.proofs.lemmas.Bool.{cases_eq, cases_lt, cases_Bool, and_parts, and_from, and_right, false≢true}
+use Rattle.std.proofs.lemmas.Bool.{cases_eq, cases_lt, cases_Bool, and_parts, and_from, and_right, false≢true, not-true}
 use Rattle.std.proofs.lemmas.List.Sorted.{IsPermutation-trans, sum_by-IsPermutation}
 use Rattle.wake_table.specs.declared.category.Category.{Category}
 use Rattle.wake_table.specs.Table.{separation}
@@ -27,14 +27,15 @@ use Rattle.landing_joint.specs.ByNumber.{numbers_by_rank, number_at, joined}
 use Rattle.landing_joint.specs.shared.RankedLists.{each_at, list_feasible, feasible_list, feasible_agree}
 use Rattle.landing_joint.proofs.Numbered.{landing_at, landings_are}
 use Rattle.landing_joint.proofs.Joint.{active_are, sound_numbered, open_low, feasible_numbered, numbered_feasible}
-use Rattle.landing_joint.proofs.ByNumber.{sorted_in, in_sorted, sorted_permutes, sorted_ordered, map_sorted, both_ways, get_map, slice_map, last_frozen_is}
+use Rattle.landing_joint.proofs.ByNumber.{sorted_in, in_sorted, sorted_permutes, sorted_ordered, map_sorted, slice_map, last_frozen_is}
 use Rattle.cps_theory.specs.laws.ByRank.{ranks_permute, at_in, in_at, ordered_at, get_past, zip_at, zip_long}
 use Rattle.cps_theory.specs.laws.NumberedLists.{map_map, filter_map_is, in_numbers, numbers_in}
 use Rattle.cps_theory.specs.laws.RanksBelow.{in_upto}
 use Rattle.cps_theory.specs.laws.WholeObjective.{sum_agree}
-use Rattle.std.proofs.lemmas.List.{length-map}
+use Rattle.std.proofs.lemmas.List.{length-map, get_or-map}
 use Rattle.landing_joint.specs.shared.FirstBestLists.{numbers_get, numbers_long}
 use Rattle.landing_joint.specs.shared.BestLists.{sum_map}
+use Rattle.std.specs.Cmp.{both_ways}
 
 sum_parts : (g : ℕ → ℕ) (p : ℕ → Bool) (xs : List ℕ) → sum_by g xs ≡ sum_by g (filter (λ x. not (p x)) xs) + sum_by g (filter p xs)
 sum_parts g p [] = omega arith
@@ -86,7 +87,7 @@ module _ (s : Situation) (sound : IsSound s) (p : lists'.Problem) (of : lists'.I
       let b = q.1 in
       let lt : i < length R = omega arith in
       let m = length-map R (numbered s.active) in
-      subst (λ a. lists'.IsWaitingOf s.closures a (fl (suc i))) (get_map s.active R i (length s.active) nobody lt) (zip_at (lists'.IsWaitingOf s.closures) (map (numbered s.active) R) p.flights zipped i nobody no_waiting (omega arith))
+      subst (λ a. lists'.IsWaitingOf s.closures a (fl (suc i))) (get_or-map (numbered s.active) R i (length s.active) nobody lt) (zip_at (lists'.IsWaitingOf s.closures) (map (numbered s.active) R) p.flights zipped i nobody no_waiting (omega arith))
 
   rank_cases : (r : ℕ) → IsRank (length p.flights) r ⊎ ((numbered s.active (at r) ≡ nobody) × (fl r ≡ no_waiting))
   rank_cases zero = inr (get_past s.active (length s.active) nobody (omega arith), refl)
@@ -199,20 +200,13 @@ module _ (s : Situation) (sound : IsSound s) (p : lists'.Problem) (of : lists'.I
   pub joined_frozen : (v : Schedule) (i : ℕ) → In i ns.frozen → second_of (joined s v) i ≡ ns.frozen_at i
   joined_frozen v i m =
       let w = in_filter (λ x. not (waits_at s.active x)) i (numbers_of s.active) m in
-      joined_at v i w.0 ∙ go (waits_at s.active i) w.1
-    where
-      go : (b : Bool) → not b ≡ true → cond b (of_rank 0 v (rank_in (comes_before s.active) ns.waiting i)) (ns.frozen_at i) ≡ ns.frozen_at i
-      go true e = absurd (false≢true e)
-      go false e = refl
+      joined_at v i w.0 ∙ rw (not-true (waits_at s.active i) w.1)
 
   pub joined_rank : (v : Schedule) (r : ℕ) → IsRank (length p.flights) r → second_of (joined s v) (at r) ≡ of_rank 0 v r
   joined_rank v r q =
       let w = in_filter (waits_at s.active) (at r) (numbers_of s.active) (in_waiting r q) in
-      joined_at v (at r) w.0 ∙ go (waits_at s.active (at r)) w.1 ∙ ap (of_rank 0 v) (rank_is ns (ranked p) (number_at s) (sound_numbered s sound) problem_of r q)
-    where
-      go : (b : Bool) → b ≡ true → cond b (of_rank 0 v (rank_in (comes_before s.active) ns.waiting (at r))) (ns.frozen_at (at r)) ≡ of_rank 0 v (rank_in (comes_before s.active) ns.waiting (at r))
-      go true e = refl
-      go false e = absurd (false≢true e)
+      joined_at v (at r) w.0 ∙ ap (λ b. cond b (of_rank 0 v (rank_in (comes_before s.active) ns.waiting (at r))) (ns.frozen_at (at r))) w.1
+      ∙ ap (of_rank 0 v) (rank_is ns (ranked p) (number_at s) (sound_numbered s sound) problem_of r q)
 
   -- a feasible list gives a feasible schedule
   pub list_gives_schedule : (v : Schedule) → lists'.IsFeasibleList p v → IsFeasible s (joined s v)
