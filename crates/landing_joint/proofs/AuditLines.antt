@@ -1,10 +1,10 @@
 -- The lines of a block, their flights and their landings.
-use Rattle.std.proofs.Common.{◌≡◌, ◌≢◌, ℕ, zero, suc, ◌+◌, ◌<◌, ◌⊎◌, inl, inr, List, [], ◌∷◌, length, map, cond, Bool, true, false, not, ◌||◌, nat_lt, arith, refl, sym, ap, ap₂, subst, ◌∙◌}
-use Rattle.std.specs.Prelude.{option_map, find, AllPairs, Some, None}
+use Rattle.std.proofs.Common.{◌≡◌, ◌≢◌, ℕ, zero, suc, ◌+◌, ◌<◌, inl, inr, List, [], ◌∷◌, length, map, cond, Bool, true, false, not, arith, refl, sym, ap, ap₂, subst, ◌∙◌}
+use Rattle.std.specs.Prelude.{option_map, find, AllPairs, Some}
 use Rattle.std.specs.Str.{bytes_eq}
 use Rattle.std.specs.List.{list_any, cons_option}
 use Rattle.std.proofs.lemmas.Slice.Eq.{bytes_eq-Decides}
-use Rattle.std.proofs.lemmas.Bool.{or_cases, or_left, or_right, ltb-true, lt-ltb, or_parts, or_from, false_from_ne_true, false≢true, cases_Bool, cases_lt, le-ltb}
+use Rattle.std.proofs.lemmas.Bool.{or_cases, or_left, or_right, lt-ltb, or_parts, or_from, false_from_ne_true, false≢true, cases_Bool, cases_lt, le-ltb}
 use Rattle.landing_rules.specs.declared.objective.Objective.{Objective}
 use Rattle.landing_rules.specs.declared.objective.Objective.TheVariants.{Makespan, Delay}
 use Rattle.landing_rules.specs.Flights.{Callsign, Active, Situation, Landing, landing, is_waiting}

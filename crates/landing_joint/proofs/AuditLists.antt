@@ -1,11 +1,11 @@
 -- When lists of findings are empty.
-use Rattle.std.proofs.Common.{◌≡◌, suc, ◌⊎◌, inl, inr, List, [], ◌∷◌, ◌++◌, cond, Bool, true, false, arith, refl, sym, ap, ap₂, subst, ◌∙◌}
-use Rattle.std.specs.Prelude.{flat_map, All}
+use Rattle.std.proofs.Common.{◌≡◌, ◌⊎◌, inl, inr, List, [], ◌∷◌, ◌++◌, cond, Bool, true, refl, sym, ap, ap₂, subst, ◌∙◌}
+use Rattle.std.specs.Prelude.{flat_map}
 use Rattle.std.specs.Str.{bytes_eq}
 use Rattle.std.specs.List.{list_any}
 use Rattle.std.proofs.lemmas.Slice.Eq.{bytes_eq-Decides}
 use Rattle.std.proofs.lemmas.Bool.{or_cases, or_left, or_right, false≢true, cases_Bool}
-use Rattle.landing_rules.specs.Flights.{Callsign, Landing}
+use Rattle.landing_rules.specs.Flights.{Callsign}
 use Rattle.landing_rules.specs.shared.Counting.{Member}
 use Rattle.landing_rules.specs.Audit.{Finding, for_failing, for_failing_pairs, or_else}
 

@@ -1,12 +1,11 @@
 -- The waiting flights by rank, as numbers.
 use Rattle.std.proofs.Common.{◌≡◌, ℕ, zero, suc, ◌<◌, ◌≤◌, ◌⊎◌, inl, inr, List, [], ◌∷◌, length, get_or, map, cond, Bool, true, false, not, nat_lt, zero-le, arith, refl, sym, ap, ap₂, subst, ◌∙◌}
-use Rattle.std.specs.Prelude.{filter_map, option_map, is_none, unwrap_or, All, Option, Some, None, IsPermutation, slice_get}
-use Rattle.std.specs.List.{cons_option}
+use Rattle.std.specs.Prelude.{is_none, unwrap_or, Some, None, IsPermutation, slice_get}
 use Rattle.std.specs.Ordering.{is_lt}
-use Rattle.std.proofs.lemmas.Bool.{ltb-true, ltb-false, cases_Bool, cases_lt, lt-ltb, le-ltb}
-use Rattle.std.proofs.lemmas.List.Sorted.{IsPermutation-refl, IsPermutation-cons, IsPermutation-trans, IsPermutation-swap, IsPermutation-sym}
+use Rattle.std.proofs.lemmas.Bool.{cases_Bool, cases_lt, lt-ltb, le-ltb}
+use Rattle.std.proofs.lemmas.List.Sorted.{IsPermutation-sym}
 use Rattle.wake_table.specs.declared.category.Category.{Category}
-use Rattle.landing_rules.specs.Flights.{Active, Situation, Landing, landing}
+use Rattle.landing_rules.specs.Flights.{Active, Situation, Landing}
 use Rattle.landing_rules.specs.Rules.{arrival_cmp}
 use Rattle.landing_rules.specs.Events.{insert_landing, in_landing_order, frozen_landings}
 use Rattle.landing_rules.specs.shared.Counting.{Member}

@@ -1,11 +1,11 @@
 -- The events of a closure keep a situation sound: it is closed or reopened.
-use Rattle.std.proofs.Common.{◌≡◌, ℕ, suc, ◌<◌, ◌≤◌, ◌⊎◌, inl, inr, Bool, true, false, cond, not, ◌&&◌, ◌||◌, List, [], ◌∷◌, ◌++◌, length, filter, Option, Some, None, refl, sym, ap, subst, ◌∙◌, arith}
-use Rattle.std.specs.Prelude.{option_map, filter_map, find, is_some, nat_le, nat_lt, if◌then◌else◌}
+use Rattle.std.proofs.Common.{◌≡◌, ℕ, ◌<◌, ◌≤◌, inl, inr, Bool, true, false, not, List, [], ◌∷◌, ◌++◌, length, filter, Option, Some, None, refl, sym, ap, subst, ◌∙◌, arith}
+use Rattle.std.specs.Prelude.{option_map, filter_map, find, is_some, nat_le, if◌then◌else◌}
 use Rattle.std.specs.List.{list_any}
-use Rattle.std.proofs.lemmas.Bool.{false≢true, leb-false, cases_Bool, cases_lt, le-leb, or_parts, and_parts, not-true}
+use Rattle.std.proofs.lemmas.Bool.{cases_Bool, cases_lt, le-leb, or_parts, and_parts, not-true}
 use Rattle.landing_rules.specs.Flights.{Aerodrome, Landing, Situation, Schedule, Span, landing, is_waiting, horizon, horizon_after}
 use Rattle.landing_rules.specs.Rules.{is_open, is_within, is_shut, ArePairSeparated}
-use Rattle.landing_rules.specs.Events.{Close, Reopen, frozen_landings, in_landing_order, insert_landing, refusal, without_first, same_span, situation_after, CoversFrozen, TooManyClosures}
+use Rattle.landing_rules.specs.Events.{Close, Reopen, frozen_landings, in_landing_order, refusal, without_first, same_span, situation_after, CoversFrozen, TooManyClosures}
 use Rattle.landing_rules.specs.Sound.{IsSound}
 use Rattle.landing_joint.proofs.Members.{Differ, callsigns, differ_of, none_found, length_push}
 use Rattle.landing_joint.proofs.SoundAgain.{kept, sound_again, each_of}

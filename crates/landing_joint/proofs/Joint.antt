@@ -1,6 +1,6 @@
 -- A schedule keeps the rules exactly where its map of seconds does over the numbers.
-use Rattle.std.proofs.Common.{◌≡◌, ◌≢◌, ℕ, zero, suc, ◌<◌, ◌≤◌, inl, inr, List, [], ◌∷◌, length, map, filter, true, false, not, nat_le, nat_lt, count_by, unwrap_or, arith, refl, sym, ap, subst, ◌∙◌}
-use Rattle.std.specs.List.{cons_option, list_any}
+use Rattle.std.proofs.Common.{◌≡◌, ◌≢◌, ℕ, suc, ◌<◌, ◌≤◌, inl, inr, List, [], ◌∷◌, length, map, filter, true, false, not, nat_le, nat_lt, count_by, unwrap_or, arith, refl, sym, ap, subst, ◌∙◌}
+use Rattle.std.specs.List.{list_any}
 use Rattle.std.specs.Prelude.{filter_map, option_map, All, IsTrue, MatchOption, Option, Some, None, is_none}
 use Rattle.std.proofs.lemmas.Bool.{cases_eq, cases_order, cases_Bool, and_parts, and_from, or_cases, leb-true, le-leb, lt-ltb, le-ltb, ne_eqb, false≢true}
 use Rattle.std.proofs.lemmas.Slice.Eq.{bytes_eq-Decides}

@@ -2,7 +2,7 @@
 use Rattle.std.proofs.Common.{◌≡◌, ◌≢◌, ℕ, ◌+◌, ◌<◌, ◌≤◌, inl, inr, List, [], ◌∷◌, get_or, map, filter, cond, Bool, true, false, nat_lt, count_by, arith, refl, sym, ap, ap₂}
 use Rattle.std.specs.Prelude.{All, IsTrue, IsPermutation}
 use Rattle.std.specs.Ordering.{is_lt}
-use Rattle.std.proofs.lemmas.Bool.{ltb-true, ltb-false, cases_Bool, cases_lt, lt-ltb, le-ltb}
+use Rattle.std.proofs.lemmas.Bool.{cases_Bool, cases_lt, lt-ltb, le-ltb}
 use Rattle.std.proofs.lemmas.List.Sorted.{IsPermutation-refl, IsPermutation-cons, IsPermutation-trans, IsPermutation-swap, IsPermutation-map, All-permutation, sum_by-IsPermutation}
 use Rattle.landing_rules.specs.declared.objective.Objective.{Objective}
 use Rattle.landing_rules.specs.declared.objective.Objective.TheVariants.{Makespan, Delay}
@@ -10,7 +10,7 @@ use Rattle.landing_rules.specs.Flights.{Flight, Situation, Landing, horizon}
 use Rattle.landing_rules.specs.Rules.{last_second, is_open, waits, arrival_cmp, rank_among, place, greatest, delay, cost, ArePairSeparated, IsPairInPrecedence, IsShiftKept, IsFrozenKept, KeepsShift, KeepsRules}
 use Rattle.landing_rules.specs.Events.{insert_landing, in_landing_order}
 use Rattle.landing_rules.specs.shared.Counting.{Member}
-use Rattle.landing_joint.proofs.ByNumber.{member_insert, order_member, order-moves, insert-moves}
+use Rattle.landing_joint.proofs.ByNumber.{member_insert, order_member, order-moves}
 use Rattle.landing_joint.proofs.AuditLists.{Each}
 
 -- ---- lists strictly rising by second

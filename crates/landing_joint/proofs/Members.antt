@@ -1,9 +1,8 @@
 -- What is in a list after a filter, a map or a push, and where callsigns differ.
-use Rattle.std.proofs.Common.{◌≡◌, ℕ, suc, ◌≤◌, ◌⊎◌, inl, inr, Bool, true, false, cond, ◌||◌, List, [], ◌∷◌, ◌++◌, length, map, filter, Option, Some, None, refl, sym, ap, subst, ◌∙◌, arith, zero, ◌<◌}
+use Rattle.std.proofs.Common.{◌≡◌, ℕ, suc, ◌≤◌, ◌⊎◌, inl, inr, Bool, true, false, List, [], ◌∷◌, ◌++◌, length, map, filter, Option, Some, None, refl, sym, ap, subst, ◌∙◌, arith, zero, ◌<◌}
 use Rattle.std.specs.Prelude.{All, AllPairs, ◌≢◌, option_map, filter_map, find}
 use Rattle.std.specs.List.{cons_option, list_any}
-use Rattle.std.proofs.lemmas.Bool.{false≢true, cases_Bool, or_parts}
-use Rattle.std.proofs.lemmas.List.Elements.{All-cons, All-head, All-tail}
+use Rattle.std.proofs.lemmas.Bool.{cases_Bool, or_parts}
 use Rattle.std.proofs.lemmas.List.Kept.{AllPairs-cons}
 use Rattle.landing_rules.specs.Flights.{Active, Landing, Callsign, landing}
 use Rattle.landing_rules.specs.shared.Counting.{Member}

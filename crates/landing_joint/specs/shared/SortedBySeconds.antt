@@ -1,6 +1,6 @@
 -- Numbers sorted by their seconds: the same numbers, each landing before those behind it.
-use Rattle.std.proofs.Common.{◌≡◌, ◌≢◌, ℕ, ◌<◌, ◌⊎◌, inl, inr, List, [], ◌∷◌, map, filter, cond, Bool, true, false, nat_lt, arith, refl, sym, ap, ap₂, subst}
-use Rattle.std.proofs.lemmas.Bool.{ltb-true, ltb-false, cases_Bool, cases_lt, lt-ltb, le-ltb}
+use Rattle.std.proofs.Common.{◌≡◌, ◌≢◌, ℕ, ◌<◌, ◌⊎◌, inl, inr, List, [], ◌∷◌, map, filter, Bool, nat_lt, arith, refl, sym, ap, ap₂, subst}
+use Rattle.std.proofs.lemmas.Bool.{cases_Bool, cases_lt, lt-ltb, le-ltb}
 use Rattle.landing_rules.specs.FirstBest.{insert_by, sorted_by}
 use Rattle.cps_theory.specs.RankLists.{In, Distinct}
 use Rattle.cps_theory.specs.FirstBest.{Ascends}
