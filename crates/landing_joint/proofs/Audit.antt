@@ -18,11 +18,14 @@ use Rattle.landing_joint.specs.Numbered.{nobody, numbered, second_of, numbers_of
 use Rattle.landing_joint.specs.AuditLaws.{AuditLaw, ShownPlanIsCleanLaw, shown_block}
 use Rattle.landing_joint.proofs.Numbered.{landing_at, landings_are}
 use Rattle.landing_joint.proofs.Joint.{callsigns_differ}
-use Rattle.landing_joint.proofs.ByNumber.{order_member, member_order}
-use Rattle.landing_joint.proofs.AuditLists.{append_nil, nil_append, or_else_nil, broken_none, none_broken, Each, each_pair, all_member}
-use Rattle.landing_joint.proofs.LandingOrder.{Strict, strict_equal, order-moves, strict_order, filter_order, rules-moved, cost_order}
+use Rattle.landing_joint.proofs.ByNumber.{order_member, member_order, order-moves}
+use Rattle.landing_joint.proofs.AuditLists.{append_nil, nil_append, or_else_nil, broken_none, none_broken, Each, each_pair}
+use Rattle.landing_joint.proofs.LandingOrder.{Strict, strict_equal, strict_order, filter_order, rules-moved, cost_order}
 use Rattle.landing_joint.proofs.AuditRules.{rules_kept, kept_rules}
-use Rattle.landing_joint.proofs.AuditLines.{find_first, find_some, found_any, member_number, line_member, member_line, twice_none, none_twice, second_in, second_at, lines_strict, strict_lines, Found, lines_landings, lines_marks, landings_lines, map_member, member_map, each_map, line_map, map_line, each_lines, same_refl, same_true, one_nil}
+use Rattle.landing_joint.proofs.AuditLines.{find_first, find_some, found_any, line_member, member_line, twice_none, none_twice, second_in, second_at, lines_strict, strict_lines, Found, lines_landings, lines_marks, landings_lines, each_map, each_lines, same_refl, same_true, one_nil}
+use Rattle.landing_joint.proofs.Members.{in_map, map_in, map_member, member_map, member_number}
+use Rattle.std.proofs.lemmas.List.{length-map}
+use Rattle.landing_joint.specs.shared.Insertion.{all_at}
 
 module _ (s : Situation) (sound : IsSound s) where
   module _ (t : Schedule) (long : length t ≡ length s.active) where
@@ -56,15 +59,15 @@ module _ (s : Situation) (sound : IsSound s) where
       let b = block_of s t in
       let fs : (x : Landing) → Member x S → Found s x = λ x m. finds t f.0 x (order_member x Ms m) in
       let apart : (i j : ℕ) → In i (numbers_of s.active) → In j (numbers_of s.active) → i ≢ j → second_of t i ≢ second_of t j = λ i j mi mj ne e.
-      let sep = all_member (ArePairSeparated s.aerodrome.table (landing_at s.active t i)) Ms (all_member (λ g. All (ArePairSeparated s.aerodrome.table g) Ms) Ms f.1.separated (landing_at s.active t i) (number_of t f.0 i mi)) (landing_at s.active t j) (number_of t f.0 j mj) (callsigns_differ s sound i j mi mj ne) (omega arith) in
+      let sep = all_at (ArePairSeparated s.aerodrome.table (landing_at s.active t i)) Ms (all_at (λ g. All (ArePairSeparated s.aerodrome.table g) Ms) Ms f.1.separated (landing_at s.active t i) (number_of t f.0 i mi)) (landing_at s.active t j) (number_of t f.0 j mj) (callsigns_differ s sound i j mi mj ne) (omega arith) in
       let one = (sound.table.entries (numbered s.active i).flight.category (numbered s.active j).flight.category).0 in
       omega arith in
       let strict : Strict S = strict_order Ms (subst (Each (λ f g. f.second ≢ g.second)) (sym (landings_are s.active t f.0)) (each_map (λ f g. f.second ≢ g.second) (landing_at s.active t) (numbers_of s.active) (distinct_numbers 0 (length s.active)) apart)) in
       let missing0 : missing s.active b.plan.landings ≡ [] = none_broken (λ a. has_line lines a.flight.callsign) (λ (a : Active). Missing a.flight.callsign) s.active (λ a m.
       let w = member_number a s.active m in
       let n = numbers_in 0 (length s.active) w.0 zero-le (let l = w.1 in omega arith) in
-      ap (λ (z : Active). has_line lines z.flight.callsign) w.2 ∙ member_line (shown_landing (landing_at s.active t w.0)) lines (map_line S (landing_at s.active t w.0) (member_order (landing_at s.active t w.0) Ms (number_of t f.0 w.0 n)))) in
-      let unknown0 : unknown s.active b.plan.landings ≡ [] = none_broken (λ l. list_any (named l.callsign) s.active) (λ (l : ShownLanding). Unknown l.callsign) lines (λ l m. let w = line_map S l m in let x = fs w.0 w.1 in ap (λ (z : ShownLanding). list_any (named z.callsign) s.active) w.2 ∙ found_any w.0.flight.callsign s.active x.0 x.1) in
+      ap (λ (z : Active). has_line lines z.flight.callsign) w.2 ∙ member_line (shown_landing (landing_at s.active t w.0)) lines (map_in shown_landing S (landing_at s.active t w.0) (member_order (landing_at s.active t w.0) Ms (number_of t f.0 w.0 n)))) in
+      let unknown0 : unknown s.active b.plan.landings ≡ [] = none_broken (λ l. list_any (named l.callsign) s.active) (λ (l : ShownLanding). Unknown l.callsign) lines (λ l m. let w = in_map shown_landing S l m in let x = fs w.0 w.1 in ap (λ (z : ShownLanding). list_any (named z.callsign) s.active) w.2 ∙ found_any w.0.flight.callsign s.active x.0 x.1) in
       let twice0 : twice b.plan.landings ≡ [] = none_twice [] lines (λ l m. refl) (each_lines S strict (λ x y i j e. unique t f.0 x y (order_member x Ms i) (order_member y Ms j) e)) in
       let is : block_landings s.active lines ≡ S = lines_landings s S fs in
       let rules0 : by_rules s (block_landings s.active lines) ≡ [] = ap (by_rules s) is ∙ kept_rules s S (rules-moved s Ms S (order-moves Ms) (filter_order Ms) f.1) in
@@ -101,25 +104,11 @@ module _ (s : Situation) (sound : IsSound s) where
   landings_map F [] = refl
   landings_map F (a ∷ all) = ap (λ l. landing a (F a) ∷ l) (landings_map F all)
 
-  length_map : (F : Active → ℕ) (all : List Active) → length (map F all) ≡ length all
-  length_map F [] = refl
-  length_map F (a ∷ all) = ap suc (length_map F all)
-
-  active_map : (G : Active → Landing) (all : List Active) (y : Landing) → Member y (map G all) → (a : Active) × Member a all × (y ≡ G a)
-  active_map G [] y m = absurd m
-  active_map G (a ∷ all) y (inl e) = (a, inl refl, e)
-  active_map G (a ∷ all) y (inr m) = let w = active_map G all y m in (w.0, inr w.1, w.2)
-
-  map_active : (G : Active → Landing) (all : List Active) (a : Active) → Member a all → Member (G a) (map G all)
-  map_active G [] a m = absurd m
-  map_active G (x ∷ all) a (inl e) = inl (ap G e)
-  map_active G (x ∷ all) a (inr m) = inr (map_active G all a m)
-
   each_active : (F : Active → ℕ) (L : List Landing) → Strict L → (all : List Active) → AllPairs (λ a b. a.flight.callsign ≢ b.flight.callsign) all → ((a : Active) → Member a all → Member (landing a (F a)) L) → Each (λ f g. f.second ≢ g.second) (map (λ a. landing a (F a)) all)
   each_active F L strict [] h i = tt
   each_active F L strict (a ∷ all) h i = (
     λ y m q.
-        let w = active_map (λ x. landing x (F x)) all y m in
+        let w = in_map (λ x. landing x (F x)) all y m in
         let n = member_number w.0 all w.1 in
         let differ : a.flight.callsign ≢ w.0.flight.callsign = λ e. h 0 (suc n.0) nobody (omega arith) (let l = n.1 in omega arith) (e ∙ ap (λ (z : Active). z.flight.callsign) n.2) in
         let same : F a ≡ F w.0 = q ∙ ap (λ (z : Landing). z.second) w.2 in
@@ -164,9 +153,9 @@ module _ (s : Situation) (sound : IsSound s) where
       let w = block_member b.plan.landings x m in
       let k = find_some w.0.callsign s.active w.1 w.3 in
       let at : F w.1 ≡ w.0.second = ap (second_in b.plan.landings) k.1 ∙ second_at b.plan.landings each w.0 w.2 in
-      subst (Member x) (sym ms_is) (subst (λ y. Member y (map (λ a. landing a (F a)) s.active)) (ap (λ u. landing w.1 u) at ∙ sym w.4) (map_active (λ a. landing a (F a)) s.active w.1 k.0)) in
+      subst (Member x) (sym ms_is) (subst (λ y. Member y (map (λ a. landing a (F a)) s.active)) (ap (λ u. landing w.1 u) at ∙ sym w.4) (map_in (λ a. landing a (F a)) s.active w.1 k.0)) in
       let back : (x : Landing) → Member x Ms → Member x L = λ x m.
-      let w = active_map (λ a. landing a (F a)) s.active x (subst (Member x) ms_is m) in
+      let w = in_map (λ a. landing a (F a)) s.active x (subst (Member x) ms_is m) in
       subst (λ y. Member y L) (sym w.2) (known w.0 w.1) in
       let S = in_landing_order Ms in
       let strictS : Strict S = strict_order Ms (subst (Each (λ f g. f.second ≢ g.second)) (sym ms_is) (each_active F L strict s.active sound.callsigns known)) in
@@ -176,7 +165,7 @@ module _ (s : Situation) (sound : IsSound s) where
       let k = find_some w.0.callsign s.active w.1 w.3 in
       let n = member_number w.1 s.active k.0 in
       subst (λ (y : Landing). All (λ v. (v.0 ≤ v.1) × (v.1 ≤ last_second)) y.flight.windows) (sym w.4) (subst (λ (y : Active). All (λ v. (v.0 ≤ v.1) × (v.1 ≤ last_second)) y.flight.windows) (sym n.2) (sound.flights n.0 nobody n.1).windows.spans)) r3.0 in
-      let feasible : IsFeasible s t = (length_map F s.active, rules-moved s S Ms (IsPermutation-sym Ms S (order-moves Ms)) (IsPermutation-sym (filter waits Ms) (filter waits S) (filter_order Ms)) (subst (KeepsRules s) E keeps)) in
+      let feasible : IsFeasible s t = (length-map s.active F, rules-moved s S Ms (IsPermutation-sym Ms S (order-moves Ms)) (IsPermutation-sym (filter waits Ms) (filter waits S) (filter_order Ms)) (subst (KeepsRules s) E keeps)) in
       let word_is : b.objective ≡ s.aerodrome.objective = same_true b.objective s.aerodrome.objective (one_nil (is_objective b.objective s.aerodrome.objective) OtherObjective r4.0) in
       let value_is : cost s.aerodrome.objective L ≡ b.plan.value = eqb-true (cost s.aerodrome.objective L) b.plan.value (one_nil (nat_eq (cost s.aerodrome.objective L) b.plan.value) (Value (cost s.aerodrome.objective L)) r4.1) in
       let total : b.plan.value ≡ objective s t = sym value_is ∙ ap (cost s.aerodrome.objective) E ∙ cost_order s.aerodrome.objective Ms in

@@ -1,10 +1,10 @@
 -- The lines of a block, their flights and their landings.
-use Rattle.std.proofs.Common.{◌≡◌, ◌≢◌, ℕ, zero, suc, ◌+◌, ◌<◌, ◌⊎◌, inl, inr, List, [], ◌∷◌, length, map, cond, Bool, true, false, not, ◌||◌, nat_lt, arith, refl, sym, ap, ap₂, subst, ◌∙◌}
-use Rattle.std.specs.Prelude.{option_map, find, AllPairs, Some, None}
+use Rattle.std.proofs.Common.{◌≡◌, ◌≢◌, ℕ, zero, suc, ◌+◌, ◌<◌, inl, inr, List, [], ◌∷◌, length, map, cond, Bool, true, false, not, arith, refl, sym, ap, ap₂, subst, ◌∙◌}
+use Rattle.std.specs.Prelude.{option_map, find, AllPairs, Some}
 use Rattle.std.specs.Str.{bytes_eq}
 use Rattle.std.specs.List.{list_any, cons_option}
 use Rattle.std.proofs.lemmas.Slice.Eq.{bytes_eq-Decides}
-use Rattle.std.proofs.lemmas.Bool.{or_cases, or_left, or_right, ltb-true, lt-ltb, or_parts, or_from, false_from_ne_true, false≢true}
+use Rattle.std.proofs.lemmas.Bool.{or_cases, or_left, or_right, lt-ltb, or_parts, or_from, false_from_ne_true, false≢true, cases_Bool, cases_lt, le-ltb}
 use Rattle.landing_rules.specs.declared.objective.Objective.{Objective}
 use Rattle.landing_rules.specs.declared.objective.Objective.TheVariants.{Makespan, Delay}
 use Rattle.landing_rules.specs.Flights.{Callsign, Active, Situation, Landing, landing, is_waiting}
@@ -16,6 +16,7 @@ use Rattle.cps_theory.specs.RankLists.{Distinct, In}
 use Rattle.landing_joint.specs.Numbered.{nobody, numbered}
 use Rattle.landing_joint.proofs.AuditLists.{cons_nil, Each}
 use Rattle.landing_joint.proofs.LandingOrder.{Strict}
+use Rattle.landing_joint.proofs.Members.{found_in, in_map, map_member, none_any}
 
 -- ---- names
 
@@ -28,39 +29,20 @@ find_first (a ∷ all) h (suc i) lt =
     ap (λ b. cond b (Some a) (find (named c) all)) no' ∙ find_first all (λ k j d l m. h (suc k) (suc j) d (omega arith) (omega arith)) i (omega arith)
 
 pub find_some : (c : Callsign) (all : List Active) (a : Active) → find (named c) all ≡ Some a → Member a all × (a.flight.callsign ≡ c)
-find_some c [] a e = absurd (none_is a e)
-  where
-    none_is : (a : Active) → None ≡ Some a → ⊥
-    none_is a e = cc
-find_some c (x ∷ all) a e = go (bytes_eq x.flight.callsign c) refl e (find_some c all a)
-  where
-    same : (x a : Active) → Some x ≡ Some a → x ≡ a
-    same x a e = cc
-
-    go : (b : Bool) → bytes_eq x.flight.callsign c ≡ b → cond b (Some x) (find (named c) all) ≡ Some a → (find (named c) all ≡ Some a → Member a all × (a.flight.callsign ≡ c)) → ((a ≡ x) ⊎ Member a all) × (a.flight.callsign ≡ c)
-    go true q e ih = let s = same x a e in (inl (sym s), ap (λ (y : Active). y.flight.callsign) (sym s) ∙ (bytes_eq-Decides x.flight.callsign c).0 q)
-    go false q e ih = let w = ih e in (inr w.0, w.1)
+find_some c all a e = let r = found_in (named c) all a e in (r.0, (bytes_eq-Decides a.flight.callsign c).0 r.1)
 
 pub any_found : (c : Callsign) (all : List Active) → list_any (named c) all ≡ true → (a : Active) × (find (named c) all ≡ Some a)
 any_found c [] e = absurd (false≢true e)
-any_found c (x ∷ all) e = go (bytes_eq x.flight.callsign c) e (any_found c all)
-  where
-    go : (b : Bool) → (b || list_any (named c) all) ≡ true → (list_any (named c) all ≡ true → (a : Active) × (find (named c) all ≡ Some a)) → (a : Active) × (cond b (Some x) (find (named c) all) ≡ Some a)
-    go true e ih = (x, refl)
-    go false e ih = ih e
+any_found c (x ∷ all) e = elim (cases_Bool (bytes_eq x.flight.callsign c)) [
+  | inl q ↦ (x, rw q)
+  | inr q ↦ (let w = any_found c all (rw q at e) in (w.0, rw q w.1))
+]
 
 pub found_any : (c : Callsign) (all : List Active) (a : Active) → find (named c) all ≡ Some a → list_any (named c) all ≡ true
-found_any c all a e = let m = find_some c all a e in go all m.0 m.1
-  where
-    go : (all : List Active) → Member a all → a.flight.callsign ≡ c → list_any (named c) all ≡ true
-    go [] m q = absurd m
-    go (x ∷ all) (inl s) q = or_left (bytes_eq x.flight.callsign c) (list_any (named c) all) ((bytes_eq-Decides x.flight.callsign c).1 (ap (λ (y : Active). y.flight.callsign) (sym s) ∙ q))
-    go (x ∷ all) (inr m) q = or_right (bytes_eq x.flight.callsign c) (list_any (named c) all) (go all m q)
-
-pub member_number : (a : Active) (all : List Active) → Member a all → (i : ℕ) × (i < length all) × (a ≡ numbered all i)
-member_number a [] m = absurd m
-member_number a (x ∷ all) (inl e) = (0, omega arith, e)
-member_number a (x ∷ all) (inr m) = let w = member_number a all m in (suc w.0, (let l = w.1 in omega arith), w.2)
+found_any c all a e = elim (cases_Bool (list_any (named c) all)) [
+  | inl y ↦ y
+  | inr n ↦ (let r = found_in (named c) all a e in absurd (false≢true (sym (none_any (named c) all a n r.0) ∙ r.1)))
+]
 
 pub line_member : (c : Callsign) (lines : List ShownLanding) → has_line lines c ≡ true → (l : ShownLanding) × Member l lines × (l.callsign ≡ c)
 line_member c [] e = absurd (false≢true e)
@@ -74,15 +56,14 @@ member_line l (x ∷ lines) (inr m) = or_right (bytes_eq x.callsign l.callsign) 
 -- no callsign stands twice
 pub twice_none : (seen lines : List ShownLanding) → twice_after seen lines ≡ [] → ((l : ShownLanding) → Member l lines → has_line seen l.callsign ≡ false) × Each (λ l m. l.callsign ≢ m.callsign) lines
 twice_none seen [] e = (λ l m. absurd m, tt)
-twice_none seen (x ∷ lines) e = go (has_line seen x.callsign) refl e (twice_none (x ∷ seen) lines)
-  where
-    go : (b : Bool) → has_line seen x.callsign ≡ b → cond b (Twice x.callsign ∷ twice_after (x ∷ seen) lines) (twice_after (x ∷ seen) lines) ≡ [] → (twice_after (x ∷ seen) lines ≡ [] → ((l : ShownLanding) → Member l lines → has_line (x ∷ seen) l.callsign ≡ false) × Each (λ l m. l.callsign ≢ m.callsign) lines) → ((l : ShownLanding) → (l ≡ x) ⊎ Member l lines → has_line seen l.callsign ≡ false) × Each (λ l m. l.callsign ≢ m.callsign) (x ∷ lines)
-    go true q e ih = absurd (cons_nil (Twice x.callsign) (twice_after (x ∷ seen) lines) e)
-    go false q e ih =
-        let w = ih e in (
-          λ l m. elim m [ inl s ↦ ap (λ (y : ShownLanding). has_line seen y.callsign) s ∙ q | inr k ↦ (or_parts (bytes_eq x.callsign l.callsign) (has_line seen l.callsign) (w.0 l k)).1 ],
-          (λ l k s. false≢true (sym (or_parts (bytes_eq x.callsign l.callsign) (has_line seen l.callsign) (w.0 l k)).0 ∙ (bytes_eq-Decides x.callsign l.callsign).1 s), w.1),
-        )
+twice_none seen (x ∷ lines) e = elim (cases_Bool (has_line seen x.callsign)) [
+  | inl q ↦ absurd (cons_nil (Twice x.callsign) (twice_after (x ∷ seen) lines) (rw q at e))
+  | inr q ↦
+      (let w = twice_none (x ∷ seen) lines (rw q at e) in (
+        λ l m. elim m [ inl s ↦ rw s q | inr k ↦ (or_parts (bytes_eq x.callsign l.callsign) (has_line seen l.callsign) (w.0 l k)).1 ],
+        (λ l k s. false≢true (sym (or_parts (bytes_eq x.callsign l.callsign) (has_line seen l.callsign) (w.0 l k)).0 ∙ (bytes_eq-Decides x.callsign l.callsign).1 s), w.1),
+      ))
+]
 
 pub none_twice : (seen lines : List ShownLanding) → ((l : ShownLanding) → Member l lines → has_line seen l.callsign ≡ false) → Each (λ l m. l.callsign ≢ m.callsign) lines → twice_after seen lines ≡ []
 none_twice seen [] h e = refl
@@ -102,11 +83,10 @@ second_at (x ∷ lines) e l (inr m) = ap (λ b. cond b x.second (second_in lines
 
 pub order_strict : (i t : ℕ) (fs : List Landing) → disordered_from i t (map shown_landing fs) ≡ [] → ((g : Landing) → Member g fs → t < g.second) × Strict fs
 order_strict i t [] e = (λ g m. absurd m, tt)
-order_strict i t (f ∷ fs) e = go (nat_lt t f.second) refl e (order_strict (i + 1) f.second fs)
-  where
-    go : (b : Bool) → nat_lt t f.second ≡ b → cond b (disordered_from (i + 1) f.second (map shown_landing fs)) (Order i ∷ disordered_from (i + 1) f.second (map shown_landing fs)) ≡ [] → (disordered_from (i + 1) f.second (map shown_landing fs) ≡ [] → ((g : Landing) → Member g fs → f.second < g.second) × Strict fs) → ((g : Landing) → (g ≡ f) ⊎ Member g fs → t < g.second) × Strict (f ∷ fs)
-    go true q e ih = let w = ih e in let lt = ltb-true t f.second q in (λ g m. elim m [ inl s ↦ (let a = ap (λ (y : Landing). y.second) s in omega arith) | inr k ↦ (let a = w.0 g k in omega arith) ], w)
-    go false q e ih = absurd (cons_nil (Order i) (disordered_from (i + 1) f.second (map shown_landing fs)) e)
+order_strict i t (f ∷ fs) e = elim (cases_lt t f.second) [
+  | inl lt ↦ (let w = order_strict (i + 1) f.second fs (rw (lt-ltb t f.second lt) at e) in (λ g m. elim m [ inl s ↦ rw s lt | inr k ↦ (let a = w.0 g k in omega arith) ], w))
+  | inr le ↦ absurd (cons_nil (Order i) (disordered_from (i + 1) f.second (map shown_landing fs)) (rw (le-ltb t f.second le) at e))
+]
 
 pub strict_from : (i t : ℕ) (fs : List Landing) → ((g : Landing) → Member g fs → t < g.second) → Strict fs → disordered_from i t (map shown_landing fs) ≡ []
 strict_from i t [] h e = refl
@@ -169,16 +149,6 @@ landings_lines s (l ∷ ls) h e =
         go false true e = (refl, e)
         go false false e = absurd (cons_nil (Mark l.callsign) rest e)
 
-pub map_member : (F : ℕ → Landing) (xs : List ℕ) (x : Landing) → Member x (map F xs) → (i : ℕ) × In i xs × (x ≡ F i)
-map_member F [] x m = absurd m
-map_member F (i ∷ xs) x (inl e) = (i, inl refl, e)
-map_member F (i ∷ xs) x (inr m) = let w = map_member F xs x m in (w.0, inr w.1, w.2)
-
-pub member_map : (F : ℕ → Landing) (xs : List ℕ) (i : ℕ) → In i xs → Member (F i) (map F xs)
-member_map F [] i m = absurd m
-member_map F (x ∷ xs) i (inl e) = inl (ap F e)
-member_map F (x ∷ xs) i (inr m) = inr (member_map F xs i m)
-
 pub each_map : (R : Landing → Landing → Type 0) (F : ℕ → Landing) (xs : List ℕ) → Distinct xs → ((i j : ℕ) → In i xs → In j xs → i ≢ j → R (F i) (F j)) → Each R (map F xs)
 each_map R F [] d h = tt
 each_map R F (x ∷ xs) d h = (
@@ -186,20 +156,10 @@ each_map R F (x ∷ xs) d h = (
   each_map R F xs d.1 (λ i j mi mj ne. h i j (inr mi) (inr mj) ne),
 )
 
-pub line_map : (fs : List Landing) (l : ShownLanding) → Member l (map shown_landing fs) → (x : Landing) × Member x fs × (l ≡ shown_landing x)
-line_map [] l m = absurd m
-line_map (f ∷ fs) l (inl e) = (f, inl refl, e)
-line_map (f ∷ fs) l (inr m) = let w = line_map fs l m in (w.0, inr w.1, w.2)
-
-pub map_line : (fs : List Landing) (x : Landing) → Member x fs → Member (shown_landing x) (map shown_landing fs)
-map_line [] x m = absurd m
-map_line (f ∷ fs) x (inl e) = inl (ap shown_landing e)
-map_line (f ∷ fs) x (inr m) = inr (map_line fs x m)
-
 pub each_lines : (fs : List Landing) → Strict fs → ((x y : Landing) → Member x fs → Member y fs → x.flight.callsign ≡ y.flight.callsign → x ≡ y) → Each (λ l m. l.callsign ≢ m.callsign) (map shown_landing fs)
 each_lines [] e h = tt
 each_lines (f ∷ fs) e h = (
-  λ l m q. let w = line_map fs l m in let s = h f w.0 (inl refl) (inr w.1) (q ∙ ap (λ (y : ShownLanding). y.callsign) w.2) in let lt = e.0 w.0 w.1 in let z = ap (λ (y : Landing). y.second) s in omega arith,
+  λ l m q. let w = in_map shown_landing fs l m in let s = h f w.0 (inl refl) (inr w.1) (q ∙ ap (λ (y : ShownLanding). y.callsign) w.2) in let lt = e.0 w.0 w.1 in let z = ap (λ (y : Landing). y.second) s in omega arith,
   each_lines fs e.1 (λ x y i j. h x y (inr i) (inr j)),
 )
 

@@ -1,11 +1,11 @@
 -- When lists of findings are empty.
-use Rattle.std.proofs.Common.{◌≡◌, suc, ◌⊎◌, inl, inr, List, [], ◌∷◌, ◌++◌, cond, Bool, true, false, arith, refl, sym, ap, ap₂, subst, ◌∙◌}
-use Rattle.std.specs.Prelude.{flat_map, All}
+use Rattle.std.proofs.Common.{◌≡◌, ◌⊎◌, inl, inr, List, [], ◌∷◌, ◌++◌, cond, Bool, true, refl, sym, ap, ap₂, subst, ◌∙◌}
+use Rattle.std.specs.Prelude.{flat_map}
 use Rattle.std.specs.Str.{bytes_eq}
 use Rattle.std.specs.List.{list_any}
 use Rattle.std.proofs.lemmas.Slice.Eq.{bytes_eq-Decides}
-use Rattle.std.proofs.lemmas.Bool.{or_cases, or_left, or_right, false≢true}
-use Rattle.landing_rules.specs.Flights.{Callsign, Landing}
+use Rattle.std.proofs.lemmas.Bool.{or_cases, or_left, or_right, false≢true, cases_Bool}
+use Rattle.landing_rules.specs.Flights.{Callsign}
 use Rattle.landing_rules.specs.shared.Counting.{Member}
 use Rattle.landing_rules.specs.Audit.{Finding, for_failing, for_failing_pairs, or_else}
 
@@ -27,12 +27,10 @@ cons_nil x xs e = cc
 
 pub broken_none : {X : Type 0} (holds : X → Bool) (f : X → Finding) (xs : List X) → for_failing holds f xs ≡ [] → (x : X) → Member x xs → holds x ≡ true
 broken_none holds f [] e x m = absurd m
-broken_none holds f (y ∷ ys) e x m = go (holds y) refl e m (λ q k. broken_none holds f ys q x k)
-  where
-    go : (b : Bool) → holds y ≡ b → cond b (for_failing holds f ys) (f y ∷ for_failing holds f ys) ≡ [] → (x ≡ y) ⊎ Member x ys → (for_failing holds f ys ≡ [] → Member x ys → holds x ≡ true) → holds x ≡ true
-    go true q e (inl s) ih = ap holds s ∙ q
-    go true q e (inr k) ih = ih e k
-    go false q e m ih = absurd (cons_nil (f y) (for_failing holds f ys) e)
+broken_none holds f (y ∷ ys) e x m = elim (cases_Bool (holds y)) [
+  | inl q ↦ elim m [ inl s ↦ ap holds s ∙ q | inr k ↦ broken_none holds f ys (rw q at e) x k ]
+  | inr q ↦ absurd (cons_nil (f y) (for_failing holds f ys) (rw q at e))
+]
 
 pub none_broken : {X : Type 0} (holds : X → Bool) (f : X → Finding) (xs : List X) → ((x : X) → Member x xs → holds x ≡ true) → for_failing holds f xs ≡ []
 none_broken holds f [] h = refl
@@ -75,8 +73,3 @@ pub member_any : (c : Callsign) (ds : List Callsign) → Member c ds → list_an
 member_any c [] m = absurd m
 member_any c (d ∷ ds) (inl e) = or_left (bytes_eq d c) (list_any (λ x. bytes_eq x c) ds) ((bytes_eq-Decides d c).1 (sym e))
 member_any c (d ∷ ds) (inr m) = or_right (bytes_eq d c) (list_any (λ x. bytes_eq x c) ds) (member_any c ds m)
-
-pub all_member : (P : Landing → Type 0) (fs : List Landing) → All P fs → (g : Landing) → Member g fs → P g
-all_member P [] h g m = absurd m
-all_member P (f ∷ fs) h g (inl e) = subst P (sym e) (h 0 f (omega arith))
-all_member P (f ∷ fs) h g (inr m) = all_member P fs (λ k d lt. h (suc k) d (omega arith)) g m

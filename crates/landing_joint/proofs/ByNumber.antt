@@ -1,78 +1,48 @@
 -- The waiting flights by rank, as numbers.
 use Rattle.std.proofs.Common.{◌≡◌, ℕ, zero, suc, ◌<◌, ◌≤◌, ◌⊎◌, inl, inr, List, [], ◌∷◌, length, get_or, map, cond, Bool, true, false, not, nat_lt, zero-le, arith, refl, sym, ap, ap₂, subst, ◌∙◌}
-use Rattle.std.specs.Prelude.{filter_map, option_map, is_none, unwrap_or, All, Option, Some, None, IsPermutation, slice_get}
-use Rattle.std.specs.List.{cons_option}
+use Rattle.std.specs.Prelude.{is_none, unwrap_or, Some, None, IsPermutation, slice_get}
 use Rattle.std.specs.Ordering.{is_lt}
-use Rattle.std.proofs.lemmas.Bool.{ltb-true, ltb-false}
-use Rattle.std.proofs.lemmas.List.Sorted.{IsPermutation-refl, IsPermutation-cons, IsPermutation-trans, IsPermutation-swap}
+use Rattle.std.proofs.lemmas.Bool.{cases_Bool, cases_lt, lt-ltb, le-ltb}
+use Rattle.std.proofs.lemmas.List.Sorted.{IsPermutation-sym}
 use Rattle.wake_table.specs.declared.category.Category.{Category}
-use Rattle.landing_rules.specs.Flights.{Active, Situation, Landing, landing}
+use Rattle.landing_rules.specs.Flights.{Active, Situation, Landing}
 use Rattle.landing_rules.specs.Rules.{arrival_cmp}
 use Rattle.landing_rules.specs.Events.{insert_landing, in_landing_order, frozen_landings}
 use Rattle.landing_rules.specs.shared.Counting.{Member}
 use Rattle.landing_rules.specs.Problem as lists'
 use Rattle.landing_rules.specs.Sound.{IsSound}
-use Rattle.cps_theory.specs.RankLists.{In}
-use Rattle.cps_theory.specs.RankLists.{Distinct}
+use Rattle.cps_theory.specs.RankLists.{In, Distinct, Ordered}
 use Rattle.landing_joint.specs.Numbered.{numbered, numbers_of, waits_at, comes_before, numbered_situation}
 use Rattle.landing_joint.specs.ByNumber.{insert_number, numbers_by_rank}
 use Rattle.landing_joint.proofs.Joint.{comes_is, first_come, frozen_each}
-use Rattle.cps_theory.specs.RankLists.{Ordered}
 use Rattle.cps_theory.specs.laws.Members.{filter_in}
 use Rattle.cps_theory.specs.laws.NumberedLists.{numbers_in}
+use Rattle.landing_joint.proofs.Members.{frozen_member}
+use Rattle.landing_joint.specs.shared.Insertion.{all_from, insert_moves, sort_moves, in_moved, member_moved}
 
 -- ---- a list by its ranks
 
 -- ---- sorting
 
+abbrev earlier : List Active → ℕ → ℕ → Bool
+earlier all j i = is_lt (arrival_cmp (numbered all j).flight (numbered all i).flight)
+
 insert_in : (all : List Active) (i x : ℕ) (js : List ℕ) → In x (insert_number all i js) → (x ≡ i) ⊎ In x js
-insert_in all i x [] m = m
-insert_in all i x (j ∷ js) m = go (is_lt (arrival_cmp (numbered all j).flight (numbered all i).flight)) m (insert_in all i x js)
-  where
-    go : (b : Bool) → In x (cond b (j ∷ insert_number all i js) (i ∷ j ∷ js)) → (In x (insert_number all i js) → (x ≡ i) ⊎ In x js) → (x ≡ i) ⊎ ((x ≡ j) ⊎ In x js)
-    go true (inl e) ih = inr (inl e)
-    go true (inr k) ih = elim (ih k) [ inl e ↦ inl e | inr l ↦ inr (inr l) ]
-    go false m ih = m
-
-in_insert : (all : List Active) (i x : ℕ) (js : List ℕ) → (x ≡ i) ⊎ In x js → In x (insert_number all i js)
-in_insert all i x [] m = m
-in_insert all i x (j ∷ js) m = go (is_lt (arrival_cmp (numbered all j).flight (numbered all i).flight)) m (in_insert all i x js)
-  where
-    go : (b : Bool) → (x ≡ i) ⊎ ((x ≡ j) ⊎ In x js) → ((x ≡ i) ⊎ In x js → In x (insert_number all i js)) → In x (cond b (j ∷ insert_number all i js) (i ∷ j ∷ js))
-    go true (inl e) ih = inr (ih (inl e))
-    go true (inr (inl e)) ih = inl e
-    go true (inr (inr k)) ih = inr (ih (inr k))
-    go false m ih = m
-
-pub sorted_in : (all : List Active) (x : ℕ) (js : List ℕ) → In x (numbers_by_rank all js) → In x js
-sorted_in all x [] m = m
-sorted_in all x (j ∷ js) m = elim (insert_in all j x (numbers_by_rank all js) m) [ inl e ↦ inl e | inr k ↦ inr (sorted_in all x js k) ]
-
-pub in_sorted : (all : List Active) (x : ℕ) (js : List ℕ) → In x js → In x (numbers_by_rank all js)
-in_sorted all x [] m = m
-in_sorted all x (j ∷ js) (inl e) = in_insert all j x (numbers_by_rank all js) (inl e)
-in_sorted all x (j ∷ js) (inr k) = in_insert all j x (numbers_by_rank all js) (inr (in_sorted all x js k))
-
-insert_permutes : (all : List Active) (i : ℕ) (js : List ℕ) → IsPermutation (insert_number all i js) (i ∷ js)
-insert_permutes all i [] = IsPermutation-refl (i ∷ [])
-insert_permutes all i (j ∷ js) = go (is_lt (arrival_cmp (numbered all j).flight (numbered all i).flight)) (insert_permutes all i js)
-  where
-    go : (b : Bool) → IsPermutation (insert_number all i js) (i ∷ js) → IsPermutation (cond b (j ∷ insert_number all i js) (i ∷ j ∷ js)) (i ∷ j ∷ js)
-    go true h = IsPermutation-trans (j ∷ insert_number all i js) (j ∷ i ∷ js) (i ∷ j ∷ js) (IsPermutation-cons j (insert_number all i js) (i ∷ js) h) (IsPermutation-swap (j ∷ i ∷ js) (i ∷ j ∷ js) 0 1 (omega arith) (omega arith) refl)
-    go false h = IsPermutation-refl (i ∷ j ∷ js)
+insert_in all i x js = in_moved (i ∷ js) (insert_number all i js) (IsPermutation-sym _ _ (insert_moves (earlier all) (insert_number all) (λ y. refl) (λ y z zs. refl) i js)) x
 
 pub sorted_permutes : (all : List Active) (js : List ℕ) → IsPermutation (numbers_by_rank all js) js
-sorted_permutes all [] = IsPermutation-refl []
-sorted_permutes all (j ∷ js) = IsPermutation-trans (insert_number all j (numbers_by_rank all js)) (j ∷ numbers_by_rank all js) (j ∷ js) (insert_permutes all j (numbers_by_rank all js)) (IsPermutation-cons j (numbers_by_rank all js) js (sorted_permutes all js))
+sorted_permutes all = sort_moves (earlier all) (insert_number all) (λ y. refl) (λ y z zs. refl) (numbers_by_rank all) refl (λ y ys. refl)
+
+pub sorted_in : (all : List Active) (x : ℕ) (js : List ℕ) → In x (numbers_by_rank all js) → In x js
+sorted_in all x js = in_moved js (numbers_by_rank all js) (IsPermutation-sym _ _ (sorted_permutes all js)) x
+
+pub in_sorted : (all : List Active) (x : ℕ) (js : List ℕ) → In x js → In x (numbers_by_rank all js)
+in_sorted all x js = in_moved (numbers_by_rank all js) js (sorted_permutes all js) x
 
 -- the flights of the numbers by rank are the flights by rank
 map_insert : (all : List Active) (i : ℕ) (js : List ℕ) → map (numbered all) (insert_number all i js) ≡ lists'.insert_by_rank (numbered all i) (map (numbered all) js)
 map_insert all i [] = refl
-map_insert all i (j ∷ js) = go (is_lt (arrival_cmp (numbered all j).flight (numbered all i).flight)) (map_insert all i js)
-  where
-    go : (b : Bool) → map (numbered all) (insert_number all i js) ≡ lists'.insert_by_rank (numbered all i) (map (numbered all) js) → map (numbered all) (cond b (j ∷ insert_number all i js) (i ∷ j ∷ js)) ≡ cond b (numbered all j ∷ lists'.insert_by_rank (numbered all i) (map (numbered all) js)) (numbered all i ∷ numbered all j ∷ map (numbered all) js)
-    go true e = ap (λ l. numbered all j ∷ l) e
-    go false e = refl
+map_insert all i (j ∷ js) = elim (cases_Bool (earlier all j i)) [ inl e ↦ rw e (ap (λ l. numbered all j ∷ l) (map_insert all i js)) | inr e ↦ rw e ]
 
 pub map_sorted : (all : List Active) (js : List ℕ) → map (numbered all) (numbers_by_rank all js) ≡ lists'.by_rank (map (numbered all) js)
 map_sorted all [] = refl
@@ -93,18 +63,7 @@ module _ (s : Situation) (sound : IsSound s) where
   sorted_ordered [] mj d = tt
   sorted_ordered (j ∷ js) mj d = insert_ordered j (numbers_by_rank s.active js) (mj j (inl refl)) (λ k m. mj k (inr (sorted_in s.active k js m))) (λ m. d.0 (sorted_in s.active j js m)) (sorted_ordered js (λ k m. mj k (inr m)) d.1)
 
-pub both_ways : (b c : Bool) → (b ≡ true → c ≡ true) → (c ≡ true → b ≡ true) → b ≡ c
-both_ways true true f g = refl
-both_ways true false f g = sym (f refl)
-both_ways false true f g = g refl
-both_ways false false f g = refl
-
 -- ---- reads
-
-pub get_map : (all : List Active) (js : List ℕ) (i : ℕ) (d : ℕ) (e : Active) → i < length js → get_or (map (numbered all) js) i e ≡ numbered all (get_or js i d)
-get_map all [] i d e lt = absurd (omega arith)
-get_map all (j ∷ js) zero d e lt = refl
-get_map all (j ∷ js) (suc i) d e lt = get_map all js i d e (omega arith)
 
 pub slice_map : (all : List Active) (js : List ℕ) (i : ℕ) (d : ℕ) → i < length js → slice_get (map (numbered all) js) i ≡ Some (numbered all (get_or js i d))
 slice_map all [] i d lt = absurd (omega arith)
@@ -117,45 +76,31 @@ abbrev Rises : List Landing → Type 0
 Rises [] = Unit {0}
 Rises (f ∷ fs) = ((g : Landing) → Member g fs → f.second ≤ g.second) × Rises fs
 
-pub member_insert : (f g : Landing) (fs : List Landing) → Member g (insert_landing f fs) → (g ≡ f) ⊎ Member g fs
-member_insert f g [] m = m
-member_insert f g (x ∷ fs) m = go (nat_lt x.second f.second) m (member_insert f g fs)
-  where
-    go : (b : Bool) → Member g (cond b (x ∷ insert_landing f fs) (f ∷ x ∷ fs)) → (Member g (insert_landing f fs) → (g ≡ f) ⊎ Member g fs) → (g ≡ f) ⊎ ((g ≡ x) ⊎ Member g fs)
-    go true (inl e) ih = inr (inl e)
-    go true (inr k) ih = elim (ih k) [ inl e ↦ inl e | inr l ↦ inr (inr l) ]
-    go false m ih = m
+pub insert-moves : (f : Landing) (fs : List Landing) → IsPermutation (f ∷ fs) (insert_landing f fs)
+insert-moves f fs = IsPermutation-sym _ _ (insert_moves (λ (g h : Landing). nat_lt g.second h.second) insert_landing (λ g. refl) (λ g h hs. refl) f fs)
 
-pub insert_member : (f g : Landing) (fs : List Landing) → (g ≡ f) ⊎ Member g fs → Member g (insert_landing f fs)
-insert_member f g [] m = m
-insert_member f g (x ∷ fs) m = go (nat_lt x.second f.second) m (insert_member f g fs)
-  where
-    go : (b : Bool) → (g ≡ f) ⊎ ((g ≡ x) ⊎ Member g fs) → ((g ≡ f) ⊎ Member g fs → Member g (insert_landing f fs)) → Member g (cond b (x ∷ insert_landing f fs) (f ∷ x ∷ fs))
-    go true (inl e) ih = inr (ih (inl e))
-    go true (inr (inl e)) ih = inl e
-    go true (inr (inr k)) ih = inr (ih (inr k))
-    go false m ih = m
+pub order-moves : (fs : List Landing) → IsPermutation fs (in_landing_order fs)
+order-moves fs = IsPermutation-sym _ _ (sort_moves (λ (g h : Landing). nat_lt g.second h.second) insert_landing (λ g. refl) (λ g h hs. refl) in_landing_order refl (λ g gs. refl) fs)
+
+pub member_insert : (f g : Landing) (fs : List Landing) → Member g (insert_landing f fs) → (g ≡ f) ⊎ Member g fs
+member_insert f g fs = member_moved (f ∷ fs) (insert_landing f fs) (insert-moves f fs) g
 
 rises_insert : (f : Landing) (fs : List Landing) → Rises fs → Rises (insert_landing f fs)
 rises_insert f [] r = (λ g m. absurd m, tt)
-rises_insert f (x ∷ fs) r = go (nat_lt x.second f.second) refl (rises_insert f fs r.1)
-  where
-    go : (b : Bool) → nat_lt x.second f.second ≡ b → Rises (insert_landing f fs) → Rises (cond b (x ∷ insert_landing f fs) (f ∷ x ∷ fs))
-    go true e ih = (λ g m. elim (member_insert f g fs m) [ inl q ↦ (let a = ltb-true x.second f.second e in let b = ap (λ (y : Landing). y.second) q in omega arith) | inr k ↦ r.0 g k ], ih)
-    go false e ih = (λ g m. elim m [ inl q ↦ (let a = ltb-false x.second f.second e in let b = ap (λ (y : Landing). y.second) q in omega arith) | inr k ↦ (let a = ltb-false x.second f.second e in let b = r.0 g k in omega arith) ], r)
+rises_insert f (x ∷ fs) r = elim (cases_lt x.second f.second) [
+  | inl lt ↦ rw (lt-ltb x.second f.second lt) (λ g m. elim (member_insert f g fs m) [ inl q ↦ rw q (omega arith) | inr k ↦ r.0 g k ], rises_insert f fs r.1)
+  | inr le ↦ rw (le-ltb x.second f.second le) (λ g m. elim m [ inl q ↦ rw q le | inr k ↦ (let b = r.0 g k in omega arith) ], r)
+]
 
 pub order_rises : (fs : List Landing) → Rises (in_landing_order fs)
 order_rises [] = tt
 order_rises (f ∷ fs) = rises_insert f (in_landing_order fs) (order_rises fs)
 
 pub order_member : (g : Landing) (fs : List Landing) → Member g (in_landing_order fs) → Member g fs
-order_member g [] m = m
-order_member g (f ∷ fs) m = elim (member_insert f g (in_landing_order fs) m) [ inl e ↦ inl e | inr k ↦ inr (order_member g fs k) ]
+order_member g fs = member_moved fs (in_landing_order fs) (order-moves fs) g
 
 pub member_order : (g : Landing) (fs : List Landing) → Member g fs → Member g (in_landing_order fs)
-member_order g [] m = m
-member_order g (f ∷ fs) (inl e) = insert_member f g (in_landing_order fs) (inl e)
-member_order g (f ∷ fs) (inr k) = insert_member f g (in_landing_order fs) (inr (member_order g fs k))
+member_order g fs = member_moved (in_landing_order fs) fs (IsPermutation-sym _ _ (order-moves fs)) g
 
 -- the last of landings in order: there is none, or it is one that no other is later than
 last_rises : (fs : List Landing) → Rises fs → (fs ≡ []) ⊎ ((f : Landing) × Member f fs × (lists'.last_of fs ≡ Some (f.second, f.flight.category)) × ((g : Landing) → Member g fs → g.second ≤ f.second))
@@ -169,27 +114,13 @@ last_rises (f ∷ x ∷ fs) r = elim (last_rises (x ∷ fs) r.1) [
     cons_nil : (x : Landing) (fs : List Landing) → ◌≡◌ {A = List Landing} (x ∷ fs) [] → ⊥
     cons_nil x fs e = cc
 
-pub member_all : (P : Landing → Type 0) (fs : List Landing) → ((g : Landing) → Member g fs → P g) → All P fs
-member_all P [] h k d lt = absurd (omega arith)
-member_all P (f ∷ fs) h zero d lt = h f (inl refl)
-member_all P (f ∷ fs) h (suc k) d lt = member_all P fs (λ g m. h g (inr m)) k d (omega arith)
-
-frozen_member : (f : Landing) (all : List Active) → Member f (filter_map (λ a. option_map (landing a) a.frozen) all) → (i : ℕ) × (i < length all) × (u : ℕ) × ((numbered all i).frozen ≡ Some u) × (f ≡ landing (numbered all i) u)
-frozen_member f [] m = absurd m
-frozen_member f (a ∷ all) m = go a.frozen refl m (λ k. frozen_member f all k)
-  where
-    go : (o : Option ℕ) → a.frozen ≡ o → Member f (cons_option (option_map (landing a) o) (filter_map (λ b. option_map (landing b) b.frozen) all)) → (Member f (filter_map (λ b. option_map (landing b) b.frozen) all) → (i : ℕ) × (i < length all) × (u : ℕ) × ((numbered all i).frozen ≡ Some u) × (f ≡ landing (numbered all i) u)) → (i : ℕ) × (i < length (a ∷ all)) × (u : ℕ) × ((numbered (a ∷ all) i).frozen ≡ Some u) × (f ≡ landing (numbered (a ∷ all) i) u)
-    go None q m ih = let w = ih m in (suc w.0, (let l = w.1 in omega arith), w.2, w.3, w.4)
-    go (Some v) q (inl e) ih = (0, omega arith, v, q, e)
-    go (Some v) q (inr m) ih = let w = ih m in (suc w.0, (let l = w.1 in omega arith), w.2, w.3, w.4)
-
 module _ (s : Situation) (sound : IsSound s) where
   -- the one frozen flight that lands last, or none
   pub last_frozen_is : ((lists'.last_of (in_landing_order (frozen_landings s)) ≡ None) × ((i : ℕ) → In i (numbered_situation s).frozen → ⊥)) ⊎ ((i : ℕ) × In i (numbered_situation s).frozen × (lists'.last_of (in_landing_order (frozen_landings s)) ≡ Some ((numbered_situation s).frozen_at i, (numbered s.active i).flight.category)) × ((j : ℕ) → In j (numbered_situation s).frozen → (numbered_situation s).frozen_at j ≤ (numbered_situation s).frozen_at i))
   last_frozen_is =
       let fl = frozen_landings s in
       elim (last_rises (in_landing_order fl) (order_rises fl)) [
-        | inl e ↦ inl (ap lists'.last_of e, λ i m. frozen_each s sound (λ g. ⊥) (member_all (λ g. ⊥) fl (λ g k. subst (Member g) e (member_order g fl k))) i m)
+        | inl e ↦ inl (ap lists'.last_of e, λ i m. frozen_each s sound (λ g. ⊥) (all_from (λ g. ⊥) fl (λ g k. subst (Member g) e (member_order g fl k))) i m)
         | inr w ↦
             (let v = frozen_member w.0 s.active (order_member w.0 fl w.1) in
             let i = v.0 in
@@ -198,5 +129,5 @@ module _ (s : Situation) (sound : IsSound s) where
             let at : (numbered_situation s).frozen_at i ≡ v.2 = ap (λ o. unwrap_or o 0) v.3 in
             let sec : w.0.second ≡ (numbered_situation s).frozen_at i = ap (λ (g : Landing). g.second) v.4 ∙ sym at in
             let cat : w.0.flight.category ≡ (numbered s.active i).flight.category = ap (λ (g : Landing). g.flight.category) v.4 in
-            inr (i, m, w.2 ∙ ap₂ (λ (x : ℕ) (y : Category). Some (x, y)) sec cat, λ j k. subst (λ x. (numbered_situation s).frozen_at j ≤ x) sec (frozen_each s sound (λ g. g.second ≤ w.0.second) (member_all (λ g. g.second ≤ w.0.second) fl (λ g k. w.3 g (member_order g fl k))) j k)))
+            inr (i, m, w.2 ∙ ap₂ (λ (x : ℕ) (y : Category). Some (x, y)) sec cat, λ j k. subst (λ x. (numbered_situation s).frozen_at j ≤ x) sec (frozen_each s sound (λ g. g.second ≤ w.0.second) (all_from (λ g. g.second ≤ w.0.second) fl (λ g k. w.3 g (member_order g fl k))) j k)))
       ]

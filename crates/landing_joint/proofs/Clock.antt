@@ -1,48 +1,37 @@
 -- A clock event keeps the plan feasible.
-use Rattle.std.proofs.Common.{◌≡◌, ℕ, zero, suc, ◌+◌, ◌-◌, ◌*◌, ◌<◌, ◌≤◌, ◌⊎◌, inl, inr, min, List, [], ◌∷◌, length, get_or, map, filter, cond, Bool, true, false, not, ◌&&◌, nat_le, nat_lt, count_by, sum_by, unwrap_or, zero-le, arith, refl, sym, ap, ap₂, subst, ◌∙◌}
-use Rattle.std.specs.Prelude.{All, IsTrue, Option, Some, None, is_none, if◌then◌else◌}
-use Rattle.std.proofs.lemmas.Bool.{cases_lt, cases_Bool, and_parts, lt-ltb, ltb-true, ltb-false, false≢true, false_from_ne_true}
+use Rattle.std.proofs.Common.{◌≡◌, ℕ, zero, suc, ◌+◌, ◌-◌, ◌*◌, ◌<◌, ◌≤◌, ◌⊎◌, inl, inr, min, List, [], ◌∷◌, length, get_or, map, filter, cond, Bool, true, false, not, ◌&&◌, nat_le, nat_lt, count_by, unwrap_or, zero-le, arith, refl, sym, ap, ap₂, subst, ◌∙◌}
+use Rattle.std.specs.Prelude.{All, IsTrue, Option, Some, None, is_none}
+use Rattle.std.proofs.lemmas.Bool.{cases_lt, cases_Bool, and_parts, lt-ltb, ltb-true, false≢true, false_from_ne_true}
 use Rattle.std.specs.Ordering.{is_lt, ordering_then, nat_cmp}
-use Rattle.std.proofs.lemmas.List.Sums.{sum_by-cons}
 use Rattle.wake_table.specs.Table.{separation}
 use Rattle.landing_rules.specs.declared.objective.Objective.{Objective}
 use Rattle.landing_rules.specs.declared.objective.Objective.TheVariants.{Makespan, Delay}
 use Rattle.landing_rules.specs.Flights.{Flight, Active, Situation, Schedule, Landing, landing, landings, is_waiting, waiting, horizon, horizon_after}
 use Rattle.landing_rules.specs.Rules.{last_second, is_open, lists, arrival_cmp, ArePairSeparated, IsPairInPrecedence, greatest, delay, cost, objective, IsFeasible}
-use Rattle.landing_rules.specs.Events.{State, IsAcceptedStep, Clock, frozen_landings, freezes, after_clock, clock_back, refusal, Refusal, ClockBack, situation_after, IsPlanShown}
+use Rattle.landing_rules.specs.Events.{State, IsAcceptedStep, Clock, frozen_landings, freezes, after_clock, clock_back, refusal, ClockBack, situation_after, IsPlanShown}
 use Rattle.landing_rules.specs.Sound.{IsGoodFlight, ListsNone, IsSound, IsSoundState}
-use Rattle.cps_theory.specs.RankLists.{In}
+use Rattle.cps_theory.specs.RankLists.{In, numbers_from}
 use Rattle.cps_theory.specs.Freeze.{rank_in, place_in, staying_of, overtook}
 use Rattle.cps_theory.specs.NumberedSituation as numbers
-use Rattle.cps_theory.specs.laws.Members.{in_filter}
+use Rattle.cps_theory.specs.laws.Members.{in_filter, filter_in}
 use Rattle.cps_theory.specs.laws.ShiftAfterFreeze.{stays_shifted}
 use Rattle.landing_joint.specs.Numbered.{nobody, numbered, second_of, numbers_of, waits_at, comes_before, numbered_situation}
 use Rattle.landing_joint.specs.ClockLaws.{ClockKeepsPlanLaw, ClockShowsPlanLaw, ClockKeepsSoundLaw}
 use Rattle.landing_joint.proofs.Numbered.{landing_at, landings_are}
 use Rattle.landing_joint.proofs.Joint.{comes_is, among, all_among, feasible_numbered, numbered_feasible, sound_numbered, first_come, some_of, active_are, list_frozen, callsigns_differ, passed_low}
-use Rattle.cps_theory.specs.RankLists.{numbers_from}
-use Rattle.cps_theory.specs.laws.Members.{filter_in}
 use Rattle.cps_theory.specs.laws.NumberedLists.{count_by_map, count_by_agree, map_map, filter_map_is, at_all, in_numbers, numbers_in}
+use Rattle.std.proofs.lemmas.List.{length-map}
+use Rattle.landing_joint.specs.shared.FirstBestLists.{numbers_get, numbers_long}
+use Rattle.landing_joint.specs.shared.BestLists.{sum_map}
+use Rattle.cps_theory.specs.laws.WholeObjective.{sum_agree}
+use Rattle.landing_joint.proofs.Members.{fewer_kept}
 
 -- ---- lists
-
-numbered_map : (f : ℕ → Active) (b n i : ℕ) → i < n → get_or (map f (numbers_from b n)) i nobody ≡ f (b + i)
-numbered_map f b zero i lt = absurd (omega arith)
-numbered_map f b (suc n) zero lt = ap f (omega arith)
-numbered_map f b (suc n) (suc i) lt = numbered_map f (suc b) n i (omega arith) ∙ ap f (omega arith)
 
 get_or_any : {X : Type 0} (xs : List X) (i : ℕ) (d e : X) → i < length xs → get_or xs i d ≡ get_or xs i e
 get_or_any [] i d e lt = absurd (omega arith)
 get_or_any (x ∷ xs) zero d e lt = refl
 get_or_any (x ∷ xs) (suc i) d e lt = get_or_any xs i d e (omega arith)
-
-length_map : {X Y : Type 0} (f : X → Y) (xs : List X) → length (map f xs) ≡ length xs
-length_map f [] = refl
-length_map f (x ∷ xs) = ap suc (length_map f xs)
-
-length_numbers : (b n : ℕ) → length (numbers_from b n) ≡ n
-length_numbers b zero = refl
-length_numbers b (suc n) = ap suc (length_numbers (suc b) n)
 
 filter_agree : (p q : ℕ → Bool) (xs : List ℕ) → ((x : ℕ) → In x xs → p x ≡ q x) → filter p xs ≡ filter q xs
 filter_agree p q [] h = refl
@@ -50,15 +39,7 @@ filter_agree p q (x ∷ xs) h = ap₂ (λ b l. cond b (x ∷ l) l) (h x (inl ref
 
 filter_twice : (p q : ℕ → Bool) (xs : List ℕ) → filter p (filter q xs) ≡ filter (λ x. q x && p x) xs
 filter_twice p q [] = refl
-filter_twice p q (x ∷ xs) = go (q x) (filter_twice p q xs)
-  where
-    go : (b : Bool) → filter p (filter q xs) ≡ filter (λ y. q y && p y) xs → filter p (cond b (x ∷ filter q xs) (filter q xs)) ≡ cond (b && p x) (x ∷ filter (λ y. q y && p y) xs) (filter (λ y. q y && p y) xs)
-    go true e = ap (λ l. cond (p x) (x ∷ l) l) e
-    go false e = e
-
-map_agree : {Y : Type 0} (f g : ℕ → Y) (xs : List ℕ) → ((x : ℕ) → In x xs → f x ≡ g x) → map f xs ≡ map g xs
-map_agree f g [] h = refl
-map_agree f g (x ∷ xs) h = ap₂ (λ y l. y ∷ l) (h x (inl refl)) (map_agree f g xs (λ y i. h y (inr i)))
+filter_twice p q (x ∷ xs) = elim (cases_Bool (q x)) [ inl e ↦ rw (e, filter_twice p q xs) | inr e ↦ rw (e, filter_twice p q xs) ]
 
 -- what the clock makes of a landing: of its flight, its second, how many passed it before and after, whether it is before the horizon, and whether counts are carried
 pub record Froze (fl : Flight) (fr : Option ℕ) (pa sec m : ℕ) (d c : Bool) (a : Active) : Type 0 where
@@ -98,7 +79,7 @@ module _ (s : Situation) (sound : IsSound s) (t : Schedule) (f : IsFeasible s t)
   after_is = ap (map (after_clock s.aerodrome h all)) (landings_are s.active t f.0) ∙ map_map (after_clock s.aerodrome h all) (landing_at s.active t) (numbers_of s.active)
 
   pub length_after : length after ≡ length s.active
-  length_after = ap length after_is ∙ length_map (λ i. after_clock s.aerodrome h all (landing_at s.active t i)) (numbers_of s.active) ∙ length_numbers 0 (length s.active)
+  length_after = ap length after_is ∙ numbers_long (λ i. after_clock s.aerodrome h all (landing_at s.active t i)) 0 (length s.active)
 
   -- so the numbers stay
   pub numbers_after : numbers_of after ≡ numbers_of s.active
@@ -111,7 +92,7 @@ module _ (s : Situation) (sound : IsSound s) (t : Schedule) (f : IsFeasible s t)
   at_after i m =
       let b = in_numbers 0 (length s.active) i m in
       let e : numbered after i ≡ after_clock s.aerodrome h all (landing_at s.active t i) =
-      ap (λ l. numbered l i) after_is ∙ numbered_map (λ j. after_clock s.aerodrome h all (landing_at s.active t j)) 0 (length s.active) i (omega (arith, b.1)) ∙ ap (λ j. after_clock s.aerodrome h all (landing_at s.active t j)) (omega arith) in
+      ap (λ l. numbered l i) after_is ∙ numbers_get (λ j. after_clock s.aerodrome h all (landing_at s.active t j)) nobody 0 (length s.active) i (omega (arith, b.1)) ∙ ap (λ j. after_clock s.aerodrome h all (landing_at s.active t j)) (omega arith) in
       subst (λ a. Froze (numbered s.active i).flight (numbered s.active i).frozen (numbered s.active i).passed (second_of t i) (min s.aerodrome.k ((numbered s.active i).passed + count_passing i)) (nat_lt (second_of t i) h) s.aerodrome.carry a) (sym e)
       (froze (numbered s.active i).flight (numbered s.active i).frozen (numbered s.active i).passed (second_of t i) (min s.aerodrome.k ((numbered s.active i).passed + count_passing i)) (nat_lt (second_of t i) h) s.aerodrome.carry)
 
@@ -185,18 +166,10 @@ module _ (s : Situation) (sound : IsSound s) (t : Schedule) (f : IsFeasible s t)
 
   pub few_after : length (waiting changed) ≤ length (waiting s)
   few_after =
-      let a = ap length waiting_changed ∙ length_map (numbered after) (numbered_situation changed).waiting ∙ ap length waiting_after in
-      let b = ap length waiting_before ∙ length_map (numbered s.active) ns.waiting in
-      let c = few_filter (λ x. not (nat_lt (second_of t x) h)) ns.waiting in
+      let a = ap length waiting_changed ∙ length-map (numbered_situation changed).waiting (numbered after) ∙ ap length waiting_after in
+      let b = ap length waiting_before ∙ length-map ns.waiting (numbered s.active) in
+      let c = fewer_kept (λ x. not (nat_lt (second_of t x) h)) ns.waiting in
       omega arith
-    where
-      few_filter : (p : ℕ → Bool) (xs : List ℕ) → length (filter p xs) ≤ length xs
-      few_filter p [] = omega arith
-      few_filter p (x ∷ xs) = go (p x) (few_filter p xs)
-        where
-          go : (b : Bool) → length (filter p xs) ≤ length xs → length (cond b (x ∷ filter p xs) (filter p xs)) ≤ suc (length xs)
-          go true e = omega arith
-          go false e = omega arith
 
   each_after : (P : Active → Type 0) → ((i : ℕ) → In i (numbers_of s.active) → P (numbered after i)) → All P after
   each_after P q i d lt = subst P (get_or_any after i nobody d lt) (q i (in_after i lt))
@@ -291,29 +264,20 @@ module _ (s : Situation) (sound : IsSound s) (t : Schedule) (f : IsFeasible s t)
   pub feasible_after : IsFeasible changed t
   feasible_after = numbered_feasible changed sound_after t (f.0 ∙ sym length_after) after_numbered
 
-  sum_map_agree : (g : Landing → ℕ) (x y : ℕ → Landing) (xs : List ℕ) → ((i : ℕ) → In i xs → g (x i) ≡ g (y i)) → sum_by g (map x xs) ≡ sum_by g (map y xs)
-  sum_map_agree g x y [] e = refl
-  sum_map_agree g x y (i ∷ xs) e = let a = sum_by-cons g (x i) (map x xs) in let b = sum_by-cons g (y i) (map y xs) in let c = sum_map_agree g x y xs (λ j m. e j (inr m)) in let d = e i (inl refl) in omega arith
-
   pub objective_after : objective changed t ≡ objective s t
   objective_after = ap (cost s.aerodrome.objective) (landings_are after t (f.0 ∙ sym length_after) ∙ ap (map (landing_at after t)) numbers_after) ∙ go s.aerodrome.objective ∙ ap (cost s.aerodrome.objective) (sym (landings_are s.active t f.0))
     where
       go : (o : Objective) → cost o (map (landing_at after t) (numbers_of s.active)) ≡ cost o (map (landing_at s.active t) (numbers_of s.active))
       go Makespan = ap greatest (map_map (λ (g : Landing). g.second) (landing_at after t) (numbers_of s.active) ∙ sym (map_map (λ (g : Landing). g.second) (landing_at s.active t) (numbers_of s.active)))
-      go Delay = sum_map_agree delay (landing_at after t) (landing_at s.active t) (numbers_of s.active) (λ i m. ap (λ (x : Flight). x.weight * (second_of t i - x.eta)) (same_flight i m))
+      go Delay = sum_map delay (landing_at after t) (numbers_of s.active)
+          ∙ sum_agree (λ i. delay (landing_at after t i)) (λ i. delay (landing_at s.active t i)) (numbers_of s.active) (λ i m. ap (λ (x : Flight). x.weight * (second_of t i - x.eta)) (same_flight i m))
+          ∙ sym (sum_map delay (landing_at s.active t) (numbers_of s.active))
 
 -- ---- the laws
 
 pub forth_of : (clock : Option ℕ) (now freeze : ℕ) → clock_back clock now ≡ None → horizon_after clock freeze ≤ now + freeze
 forth_of None now freeze e = zero-le
-forth_of (Some last) now freeze e = go (nat_lt now last) refl e
-  where
-    go : (b : Bool) → nat_lt now last ≡ b → (if b then Some (ClockBack last) else None) ≡ None → last + freeze ≤ now + freeze
-    go true q e = absurd (some_none (ClockBack last) e)
-      where
-        some_none : (r : Refusal) → Some r ≡ None → ⊥
-        some_none r e = cc
-    go false q e = let a = ltb-false now last q in omega arith
+forth_of (Some last) now freeze e = elim (cases_lt now last) [ inl lt ↦ (let w : Some (ClockBack last) ≡ None = rw (lt-ltb now last lt) at e in absurd (cc)) | inr le ↦ omega arith ]
 
 pub clock_keeps_plan : ClockKeepsPlanLaw
 clock_keeps_plan s t now sound f e =

@@ -1,42 +1,34 @@
 -- The events of a closure keep a situation sound: it is closed or reopened.
-use Rattle.std.proofs.Common.{◌≡◌, ℕ, suc, ◌<◌, ◌≤◌, ◌⊎◌, inl, inr, Bool, true, false, cond, not, ◌&&◌, ◌||◌, List, [], ◌∷◌, ◌++◌, length, filter, Option, Some, None, refl, sym, ap, subst, ◌∙◌, arith}
-use Rattle.std.specs.Prelude.{option_map, filter_map, find, is_some, nat_le, nat_lt, if◌then◌else◌}
+use Rattle.std.proofs.Common.{◌≡◌, ℕ, ◌<◌, ◌≤◌, inl, inr, Bool, true, false, not, List, [], ◌∷◌, ◌++◌, length, filter, Option, Some, None, refl, sym, ap, subst, ◌∙◌, arith}
+use Rattle.std.specs.Prelude.{option_map, filter_map, find, is_some, nat_le, if◌then◌else◌}
 use Rattle.std.specs.List.{list_any}
-use Rattle.std.proofs.lemmas.Bool.{false≢true, leb-false}
+use Rattle.std.proofs.lemmas.Bool.{cases_Bool, cases_lt, le-leb, or_parts, and_parts, not-true}
 use Rattle.landing_rules.specs.Flights.{Aerodrome, Landing, Situation, Schedule, Span, landing, is_waiting, horizon, horizon_after}
 use Rattle.landing_rules.specs.Rules.{is_open, is_within, is_shut, ArePairSeparated}
-use Rattle.landing_rules.specs.Events.{Close, Reopen, frozen_landings, in_landing_order, insert_landing, refusal, without_first, same_span, situation_after, CoversFrozen, TooManyClosures}
+use Rattle.landing_rules.specs.Events.{Close, Reopen, frozen_landings, in_landing_order, refusal, without_first, same_span, situation_after, CoversFrozen, TooManyClosures}
 use Rattle.landing_rules.specs.Sound.{IsSound}
-use Rattle.landing_joint.proofs.Members.{Member, Differ, callsigns, differ_of, none_found, length_push}
+use Rattle.landing_joint.proofs.Members.{Differ, callsigns, differ_of, none_found, length_push}
 use Rattle.landing_joint.proofs.SoundAgain.{kept, sound_again, each_of}
+use Rattle.landing_rules.specs.shared.Counting.{Member}
+use Rattle.landing_joint.proofs.ByNumber.{member_order}
+use Rattle.std.proofs.lemmas.List.Folds.{list_any-append}
 
 -- ---- reopen
 
 fewer_shut : (span : Span) (cs : List Span) (t : ℕ) → list_any (is_shut t) cs ≡ false → list_any (is_shut t) (without_first (same_span span) cs) ≡ false
 fewer_shut span [] t e = e
-fewer_shut span (c ∷ cs) t e = go (same_span span c) (is_shut t c) refl e (fewer_shut span cs t)
-  where
-    go : (b d : Bool) → is_shut t c ≡ d → (d || list_any (is_shut t) cs) ≡ false → (list_any (is_shut t) cs ≡ false → list_any (is_shut t) (without_first (same_span span) cs) ≡ false) → list_any (is_shut t) (cond b cs (c ∷ without_first (same_span span) cs)) ≡ false
-    go b true q e ih = absurd (false≢true (sym e))
-    go true false q e ih = e
-    go false false q e ih = ap (λ d. d || list_any (is_shut t) (without_first (same_span span) cs)) q ∙ ih e
+fewer_shut span (c ∷ cs) t e =
+    let p = or_parts (is_shut t c) (list_any (is_shut t) cs) e in
+    elim (cases_Bool (same_span span c)) [ inl q ↦ rw q p.1 | inr q ↦ rw (q, p.0) (fewer_shut span cs t p.1) ]
 
 fewer_closed : (span : Span) (cs : List Span) → length (without_first (same_span span) cs) ≤ length cs
 fewer_closed span [] = omega arith
-fewer_closed span (c ∷ cs) = go (same_span span c) (fewer_closed span cs)
-  where
-    go : (b : Bool) → length (without_first (same_span span) cs) ≤ length cs → length (cond b cs (c ∷ without_first (same_span span) cs)) ≤ suc (length cs)
-    go true h = omega arith
-    go false h = omega arith
+fewer_closed span (c ∷ cs) = let h = fewer_closed span cs in elim (cases_Bool (same_span span c)) [ inl e ↦ rw e (omega arith) | inr e ↦ rw e (omega arith) ]
 
 open_where : (windows cs ds : List Span) (t : ℕ) → (list_any (is_shut t) cs ≡ false → list_any (is_shut t) ds ≡ false) → is_open windows cs t ≡ true → is_open windows ds t ≡ true
-open_where windows cs ds t h e = go (list_any (is_within t) windows) (list_any (is_shut t) cs) (list_any (is_shut t) ds) h e
-  where
-    go : (w c d : Bool) → (c ≡ false → d ≡ false) → (w && not c) ≡ true → (w && not d) ≡ true
-    go false c d h e = e
-    go true true d h e = absurd (false≢true e)
-    go true false true h e = absurd (false≢true (sym (h refl)))
-    go true false false h e = refl
+open_where windows cs ds t h e =
+    let p = and_parts (list_any (is_within t) windows) (not (list_any (is_shut t) cs)) e in
+    rw (p.0, h (not-true (list_any (is_shut t) cs) p.1))
 
 other_closures : (s new : Situation) → IsSound s → new.aerodrome ≡ s.aerodrome → new.active ≡ s.active → new.clock ≡ s.clock → length new.closures ≤ 32 →
     ((f : Landing) → Member f (frozen_landings s) → is_open f.flight.windows new.closures f.second ≡ true) → IsSound new
@@ -62,41 +54,17 @@ reopened s plan span h =
 
 -- ---- close
 
-in_order : (f : Landing) (all : List Landing) (x : Landing) → Member x (f ∷ all) → Member x (insert_landing f all)
-in_order f [] x m = m
-in_order f (g ∷ rest) x m = go (nat_lt g.second f.second) m (in_order f rest x)
-  where
-    go : (b : Bool) → (x ≡ f) ⊎ ((x ≡ g) ⊎ Member x rest) → ((x ≡ f) ⊎ Member x rest → Member x (insert_landing f rest)) → Member x (cond b (g ∷ insert_landing f rest) (f ∷ g ∷ rest))
-    go true (inl e) ih = inr (ih (inl e))
-    go true (inr (inl e)) ih = inl e
-    go true (inr (inr k)) ih = inr (ih (inr k))
-    go false k ih = k
-
-ordered : (all : List Landing) (x : Landing) → Member x all → Member x (in_landing_order all)
-ordered [] x m = m
-ordered (f ∷ rest) x (inl e) = in_order f (in_landing_order rest) x (inl e)
-ordered (f ∷ rest) x (inr m) = in_order f (in_landing_order rest) x (inr (ordered rest x m))
-
 any_push : (p : Span → Bool) (cs : List Span) (c : Span) → list_any p cs ≡ false → p c ≡ false → list_any p (cs ++ c ∷ []) ≡ false
-any_push p [] c e n = ap (λ b. b || false) n
-any_push p (d ∷ cs) c e n = go (p d) e (λ k. any_push p cs c k n)
-  where
-    go : (b : Bool) → (b || list_any p cs) ≡ false → (list_any p cs ≡ false → list_any p (cs ++ c ∷ []) ≡ false) → (b || list_any p (cs ++ c ∷ [])) ≡ false
-    go true e ih = absurd (false≢true (sym e))
-    go false e ih = ih e
+any_push p cs c e n = list_any-append p cs (c ∷ []) ∙ rw (e, n)
 
 close_parts : (found : Option Landing) (n : ℕ) → (if is_some found then option_map (λ (g : Landing). CoversFrozen g.flight.callsign g.second) found else (if nat_le 32 n then Some TooManyClosures else None)) ≡ None → (found ≡ None) × (n < 32)
 close_parts (Some g) n e = let w : Some (CoversFrozen g.flight.callsign g.second) ≡ None = e in absurd (cc)
-close_parts None n e = (refl, go (nat_le 32 n) refl e)
-  where
-    go : (b : Bool) → nat_le 32 n ≡ b → cond b (Some TooManyClosures) None ≡ None → n < 32
-    go true q e = let w : Some TooManyClosures ≡ None = e in absurd (cc)
-    go false q e = let l = leb-false 32 n q in omega arith
+close_parts None n e = elim (cases_lt n 32) [ inl lt ↦ (refl, lt) | inr le ↦ (let w : Some TooManyClosures ≡ None = rw (le-leb 32 n le) at e in absurd (cc)) ]
 
 pub closed : (s : Situation) (plan : Option Schedule) (span : Span) → IsSound s → refusal s (Close span) ≡ None → IsSound (situation_after s plan (Close span))
 closed s plan span h ok =
     let p = close_parts (find (λ g. is_shut g.second span) (in_landing_order (frozen_landings s))) (length s.closures) ok in
     other_closures s (situation_after s plan (Close span)) h refl refl refl (let l = length_push s.closures span in omega (arith, p.1))
     (λ f m. open_where f.flight.windows s.closures (s.closures ++ span ∷ []) f.second
-    (λ e. any_push (is_shut f.second) s.closures span e (none_found (λ g. is_shut g.second span) (in_landing_order (frozen_landings s)) f p.0 (ordered (frozen_landings s) f m)))
+    (λ e. any_push (is_shut f.second) s.closures span e (none_found (λ g. is_shut g.second span) (in_landing_order (frozen_landings s)) f p.0 (member_order f (frozen_landings s) m)))
     ((kept s h).opened f m))

@@ -1,5 +1,5 @@
 -- The first best list of a problem gives the first best schedule of its situation, and there is at most one.
-use Rattle.std.proofs.Common.{◌≡◌, ◌≢◌, ℕ, zero, suc, ◌<◌, ◌≤◌, inl, inr, List, [], ◌∷◌, length, get_or, map, filter, cond, Bool, true, false, not, nat_lt, zero-le, le_antisymm, arith, refl, sym, ap, subst, ◌∙◌}
+use Rattle.std.proofs.Common.{◌≡◌, ◌≢◌, ℕ, zero, suc, ◌<◌, ◌≤◌, inl, inr, List, [], ◌∷◌, length, get_or, map, filter, Bool, true, false, not, nat_lt, zero-le, le_antisymm, arith, refl, sym, ap, subst, ◌∙◌}
 use Rattle.std.specs.Prelude.{Option, Some, None, option_map}
 use Rattle.std.proofs.lemmas.Bool.{cases_eq, cases_Bool}
 use Rattle.wake_table.specs.Table.{IsWakeTable}
@@ -34,12 +34,7 @@ use Rattle.landing_joint.proofs.Problem as joint
 -- landings in order are those of the numbers in order
 order_insert : (all : List Active) (t : Schedule) (i : ℕ) (js : List ℕ) → insert_landing (landing_at all t i) (map (landing_at all t) js) ≡ map (landing_at all t) (insert_by (second_of t) i js)
 order_insert all t i [] = refl
-order_insert all t i (j ∷ js) = go (nat_lt (second_of t j) (second_of t i)) (order_insert all t i js)
-  where
-    go : (b : Bool) → insert_landing (landing_at all t i) (map (landing_at all t) js) ≡ map (landing_at all t) (insert_by (second_of t) i js)
-        → cond b (landing_at all t j ∷ insert_landing (landing_at all t i) (map (landing_at all t) js)) (landing_at all t i ∷ landing_at all t j ∷ map (landing_at all t) js) ≡ map (landing_at all t) (cond b (j ∷ insert_by (second_of t) i js) (i ∷ j ∷ js))
-    go true e = ap (λ l. landing_at all t j ∷ l) e
-    go false e = refl
+order_insert all t i (j ∷ js) = elim (cases_Bool (nat_lt (second_of t j) (second_of t i))) [ inl e ↦ rw e (ap (λ l. landing_at all t j ∷ l) (order_insert all t i js)) | inr e ↦ rw e ]
 
 order_numbers : (all : List Active) (t : Schedule) (js : List ℕ) → in_landing_order (map (landing_at all t) js) ≡ map (landing_at all t) (sorted_by (second_of t) js)
 order_numbers all t [] = refl

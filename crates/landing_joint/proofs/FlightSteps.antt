@@ -2,15 +2,17 @@
 use Rattle.std.proofs.Common.{◌≡◌, ℕ, suc, ◌<◌, ◌≤◌, inl, inr, Bool, true, false, cond, not, List, [], ◌∷◌, ◌++◌, length, map, filter, Option, Some, None, refl, sym, ap, subst, ◌∙◌, arith}
 use Rattle.std.specs.Prelude.{◌≢◌, option_map, find, is_none, nat_le, if◌then◌else◌}
 use Rattle.std.specs.List.{list_any}
-use Rattle.std.proofs.lemmas.Bool.{false≢true, leb-false}
+use Rattle.std.proofs.lemmas.Bool.{false≢true, cases_Bool, cases_lt, le-leb, lt-leb}
 use Rattle.std.proofs.lemmas.Slice.Eq.{bytes_eq-Decides}
 use Rattle.std.proofs.lemmas.List.Kept.{AllPairs-filter}
 use Rattle.landing_rules.specs.Flights.{Active, Flight, Landing, Situation, Schedule, Callsign, Span, landing, is_waiting, waiting}
 use Rattle.landing_rules.specs.Rules.{lists}
 use Rattle.landing_rules.specs.Events.{Estimate, Cancel, Add, named, frozen_landings, unknown_or_frozen, refusal, estimated, newcomer, situation_after, Frozen, Duplicate, TooManyFlights, TooManyWaiting, PredecessorOfFrozen}
 use Rattle.landing_rules.specs.Sound.{IsSound, IsGoodFlight, IsGoodEvent}
-use Rattle.landing_joint.proofs.Members.{map_in, Member, Differ, callsigns, in_filter, filter_in, in_map, in_push, in_frozen, frozen_in, differ_of, one_of_name, found_in, none_found, none_any, fewer_filtered, fewer_twice, fewer_kept, length_map, length_push}
+use Rattle.landing_joint.proofs.Members.{map_in, Differ, callsigns, in_filter, filter_in, in_map, in_push, in_frozen, frozen_in, differ_of, one_of_name, found_in, none_found, none_any, fewer_filtered, fewer_twice, fewer_kept, length_push}
 use Rattle.landing_joint.proofs.SoundAgain.{kept, sound_again, each_of, fewer_frozen}
+use Rattle.landing_rules.specs.shared.Counting.{Member}
+use Rattle.std.proofs.lemmas.List.{length-map}
 
 -- ---- cancel
 
@@ -47,18 +49,10 @@ named_waits s c h ok a m e = go (find (named c) s.active) refl ok
         two (Some t) ok = let w : Some (Frozen t) ≡ None = ok in absurd (cc)
 
 pub estimate_callsign : (c : Callsign) (eta : ℕ) (windows : List Span) (a : Active) → (estimated c eta windows a).flight.callsign ≡ a.flight.callsign
-estimate_callsign c eta windows a = go (named c a)
-  where
-    go : (b : Bool) → (cond b (record a { flight = record a.flight { eta = eta; windows = windows } }) a).flight.callsign ≡ a.flight.callsign
-    go true = refl
-    go false = refl
+estimate_callsign c eta windows a = elim (cases_Bool (named c a)) [ inl e ↦ rw e | inr e ↦ rw e ]
 
 pub estimate_frozen : (c : Callsign) (eta : ℕ) (windows : List Span) (a : Active) → (estimated c eta windows a).frozen ≡ a.frozen
-estimate_frozen c eta windows a = go (named c a)
-  where
-    go : (b : Bool) → (cond b (record a { flight = record a.flight { eta = eta; windows = windows } }) a).frozen ≡ a.frozen
-    go true = refl
-    go false = refl
+estimate_frozen c eta windows a = elim (cases_Bool (named c a)) [ inl e ↦ rw e | inr e ↦ rw e ]
 
 callsigns_mapped : (f : Active → Active) → ((a : Active) → (f a).flight.callsign ≡ a.flight.callsign) → (xs : List Active) → callsigns (map f xs) ≡ callsigns xs
 callsigns_mapped f h [] = refl
@@ -71,7 +65,7 @@ re_estimated s plan c eta windows h good ok =
     let wait : (a : Active) → is_waiting (f a) ≡ true → is_waiting a ≡ true = λ a e. ap is_none (sym (estimate_frozen c eta windows a)) ∙ e in
     sound_again s new h refl
     (subst Differ (sym (callsigns_mapped f (estimate_callsign c eta windows) s.active)) (differ_of s.active h.callsigns))
-    (let l = length_map f s.active in omega (arith, h.few_active)) (let l = fewer_filtered is_waiting is_waiting f s.active wait in omega (arith, h.few_waiting)) h.few_closures
+    (let l = length-map s.active f in omega (arith, h.few_active)) (let l = fewer_filtered is_waiting is_waiting f s.active wait in omega (arith, h.few_waiting)) h.few_closures
     (λ a m. let r = in_map f s.active a m in subst (λ (z : Active). IsGoodFlight z.flight × (z.passed ≤ s.aerodrome.k) × (s.aerodrome.carry ≡ false → z.passed ≡ 0)) (sym r.2) (well r.0 (each_of s h r.0 r.1)))
     (fewer_frozen s new h refl refl (omega arith)
     (λ g m. let r = in_frozen new.active g m in let q = in_map f s.active r.0 r.2 in
@@ -82,18 +76,13 @@ re_estimated s plan c eta windows h good ok =
     (q.0, filter_in is_waiting s.active q.0 q.1 (wait q.0 (ap is_waiting (sym q.2) ∙ r.1)), ap (λ (z : Active). z.flight.callsign) q.2 ∙ estimate_callsign c eta windows q.0)))
   where
     well : (a : Active) → IsGoodFlight a.flight × (a.passed ≤ s.aerodrome.k) × (s.aerodrome.carry ≡ false → a.passed ≡ 0) → IsGoodFlight (estimated c eta windows a).flight × ((estimated c eta windows a).passed ≤ s.aerodrome.k) × (s.aerodrome.carry ≡ false → (estimated c eta windows a).passed ≡ 0)
-    well a w = go (named c a)
-      where
-        go : (b : Bool) → IsGoodFlight (cond b (record a { flight = record a.flight { eta = eta; windows = windows } }) a).flight × ((cond b (record a { flight = record a.flight { eta = eta; windows = windows } }) a).passed ≤ s.aerodrome.k) × (s.aerodrome.carry ≡ false → (cond b (record a { flight = record a.flight { eta = eta; windows = windows } }) a).passed ≡ 0)
-        go true = (record { callsign = w.0.callsign; eta = good.0; weight = w.0.weight; windows = good.1; after = w.0.after }, w.1, w.2)
-        go false = w
+    well a w = elim (cases_Bool (named c a)) [
+      | inl e ↦ rw e (record { callsign = w.0.callsign; eta = good.0; weight = w.0.weight; windows = good.1; after = w.0.after }, w.1, w.2)
+      | inr e ↦ rw e w
+    ]
 
     still : (a : Active) → Member a s.active → (t : ℕ) → a.frozen ≡ Some t → estimated c eta windows a ≡ a
-    still a m t e = go (named c a) refl
-      where
-        go : (b : Bool) → named c a ≡ b → cond b (record a { flight = record a.flight { eta = eta; windows = windows } }) a ≡ a
-        go true q = let w : None ≡ Some t = sym (named_waits s c h ok a m q) ∙ e in absurd (cc)
-        go false q = refl
+    still a m t e = elim (cases_Bool (named c a)) [ inl q ↦ (let w : None ≡ Some t = sym (named_waits s c h ok a m q) ∙ e in absurd (cc)) | inr q ↦ rw q ]
 
 -- ---- add
 
@@ -101,27 +90,23 @@ pub add_parts : (there : Bool) (flights wait : ℕ) (found : Option Landing) (c 
     (if there then Some (Duplicate c) else (if nat_le 500 flights then Some TooManyFlights else (if nat_le 60 wait then Some TooManyWaiting else option_map (λ (g : Landing). PredecessorOfFrozen g.flight.callsign) found))) ≡ None →
     (there ≡ false) × (flights < 500) × (wait < 60) × (found ≡ None)
 add_parts true flights wait found c e = let w : Some (Duplicate c) ≡ None = e in absurd (cc)
-add_parts false flights wait found c e = one (nat_le 500 flights) refl e
+add_parts false flights wait None c e = elim (cases_lt flights 500) [
+  | inl lt ↦ elim (cases_lt wait 60) [
+    | inl lt' ↦ (refl, lt, lt', refl)
+    | inr le ↦ (let w : Some TooManyWaiting ≡ None = rw (lt-leb 500 flights lt, le-leb 60 wait le) at e in absurd (cc))
+  ]
+  | inr le ↦ (let w : Some TooManyFlights ≡ None = rw (le-leb 500 flights le) at e in absurd (cc))
+]
+add_parts false flights wait (Some g) c e = absurd (some_none (nat_le 500 flights) (nat_le 60 wait) e)
   where
-    three : (o : Option Landing) → option_map (λ (g : Landing). PredecessorOfFrozen g.flight.callsign) o ≡ None → o ≡ None
-    three None e = refl
-    three (Some g) e = let w : Some (PredecessorOfFrozen g.flight.callsign) ≡ None = e in absurd (cc)
-
-    two : (b : Bool) → nat_le 60 wait ≡ b → flights < 500 → cond b (Some TooManyWaiting) (option_map (λ (g : Landing). PredecessorOfFrozen g.flight.callsign) found) ≡ None → (false ≡ false) × (flights < 500) × (wait < 60) × (found ≡ None)
-    two true q f e = let w : Some TooManyWaiting ≡ None = e in absurd (cc)
-    two false q f e = let l = leb-false 60 wait q in (refl, f, omega arith, three found e)
-
-    one : (b : Bool) → nat_le 500 flights ≡ b → cond b (Some TooManyFlights) (cond (nat_le 60 wait) (Some TooManyWaiting) (option_map (λ (g : Landing). PredecessorOfFrozen g.flight.callsign) found)) ≡ None → (false ≡ false) × (flights < 500) × (wait < 60) × (found ≡ None)
-    one true q e = let w : Some TooManyFlights ≡ None = e in absurd (cc)
-    one false q e = let l = leb-false 500 flights q in two (nat_le 60 wait) refl (omega arith) e
+    some_none : (a b : Bool) → cond a (Some TooManyFlights) (cond b (Some TooManyWaiting) (Some (PredecessorOfFrozen g.flight.callsign))) ≡ None → ⊥
+    some_none true b e = let w : Some TooManyFlights ≡ None = e in cc
+    some_none false true e = let w : Some TooManyWaiting ≡ None = e in cc
+    some_none false false e = let w : Some (PredecessorOfFrozen g.flight.callsign) ≡ None = e in cc
 
 pub waiting_push : (xs : List Active) (f : Flight) → length (filter is_waiting (xs ++ newcomer f ∷ [])) ≡ suc (length (filter is_waiting xs))
 waiting_push [] f = refl
-waiting_push (x ∷ xs) f = go (is_waiting x) (waiting_push xs f)
-  where
-    go : (b : Bool) → length (filter is_waiting (xs ++ newcomer f ∷ [])) ≡ suc (length (filter is_waiting xs)) → length (cond b (x ∷ filter is_waiting (xs ++ newcomer f ∷ [])) (filter is_waiting (xs ++ newcomer f ∷ []))) ≡ suc (length (cond b (x ∷ filter is_waiting xs) (filter is_waiting xs)))
-    go true h = omega arith
-    go false h = h
+waiting_push (x ∷ xs) f = let h = waiting_push xs f in elim (cases_Bool (is_waiting x)) [ inl e ↦ rw e (omega arith) | inr e ↦ rw e h ]
 
 differ_push : (xs : List Active) (a : Active) → Differ (callsigns xs) → ((x : Active) → Member x xs → x.flight.callsign ≢ a.flight.callsign) → Differ (callsigns (xs ++ a ∷ []))
 differ_push [] a d h = (λ c m. absurd m, tt)

@@ -1,5 +1,5 @@
 -- A flight that stays in line through a run is passed by at most k flights: each kind of event keeps the counts.
-use Rattle.std.proofs.Common.{◌≡◌, ℕ, ◌+◌, ◌≤◌, inl, inr, Bool, true, false, not, cond, length, filter, List, [], ◌∷◌, Option, Some, None, refl, sym, ap, ap₂, subst, ◌∙◌, arith}
+use Rattle.std.proofs.Common.{◌≡◌, ℕ, ◌+◌, ◌≤◌, inl, inr, true, false, not, length, filter, List, [], ◌∷◌, Option, Some, None, refl, sym, ap, ap₂, subst, ◌∙◌, arith}
 use Rattle.std.specs.Prelude.{All, is_none, find}
 use Rattle.std.specs.List.{list_any}
 use Rattle.std.specs.declared.cmp.Ordering.{Ordering}
@@ -13,14 +13,15 @@ use Rattle.landing_rules.specs.Flights.{Active, Aerodrome, Callsign, Flight, Sch
 use Rattle.landing_rules.specs.Rules.{arrival_cmp, lists, IsFeasible}
 use Rattle.landing_rules.specs.Events.{Event, Estimate, Cancel, Add, Close, Reopen, Clock, Refusal, State, Step, Answered, Run, IsPlanShown, estimated, frozen_landings, named, newcomer, refusal, situation_after}
 use Rattle.landing_rules.specs.Sound.{IsSound, IsSoundState, IsGoodEvent}
-use Rattle.landing_rules.specs.shared.Counting.{cases}
+use Rattle.landing_rules.specs.shared.Counting.{cases, Member}
 use Rattle.landing_rules.specs.shared.Ranks.{arrival_total}
 use Rattle.landing_joint.specs.PassedOver.{waiting_flight, waits_in, is_ahead, stands_ahead, StaysInLine, StaysInLineThrough, ArePassedAtLeast, passing_by_event, passing_flight, passing_in_step, passing_in_run, StepCountsLaw, FewPassLaw, FewPassLaterLaw, IsFirstInLine, FewPassFirstLaw, FewPassAnyoneLaw}
-use Rattle.landing_joint.proofs.Members.{Member, all_at, all_from, differ_of, in_filter, filter_in, in_map, in_push, none_any, one_of_name}
+use Rattle.landing_joint.proofs.Members.{differ_of, in_filter, filter_in, in_map, in_push, none_any, one_of_name}
 use Rattle.landing_joint.proofs.Joint.{level-callsign}
 use Rattle.landing_joint.proofs.FlightSteps.{add_parts, estimate_callsign, estimate_frozen, named_is}
 use Rattle.landing_joint.proofs.StepLaws.{event_keeps_sound, step_keeps_sound}
 use Rattle.landing_joint.proofs.PassedOver.{found, is_found, some_flight, same_some, clock_counts, clock_counts_exactly}
+use Rattle.landing_joint.specs.shared.Insertion.{all_at, all_from}
 
 -- ---- first-come order
 
@@ -56,7 +57,7 @@ SameCounts old new = (x a : Active) → Member x (waiting new) → Member a (wai
 
 module _ (old new : Situation) (sound : IsSound new) (c : Callsign) (g : ℕ) (same : SameCounts old new) (here : waits_in old c ≡ true) (line : StaysInLine c old new) (least : ArePassedAtLeast g old c) where
   at_old : (f x : Active) → waiting_flight old c ≡ Some f → Member x (waiting old) → is_lt (arrival_cmp f.flight x.flight) ≡ false → g ≤ x.passed
-  at_old f x e m q = all_at (λ (x : Active). is_lt (arrival_cmp f.flight x.flight) ≡ false → g ≤ x.passed) (waiting old) x (least f e) m q
+  at_old f x e m q = all_at (λ (x : Active). is_lt (arrival_cmp f.flight x.flight) ≡ false → g ≤ x.passed) (waiting old) (least f e) x m q
 
   least_itself : (x : Active) → Member x (waiting new) → x.flight.callsign ≡ c → g ≤ x.passed
   least_itself x m e =
@@ -100,11 +101,7 @@ same_cancelled s plan c sound x a m n e =
     ap (λ (z : Active). z.passed) (one_waits s sound x a (filter_in is_waiting s.active x v.0 w.1) n (sym e))
 
 estimate_passed : (c : Callsign) (eta : ℕ) (windows : List Span) (a : Active) → (estimated c eta windows a).passed ≡ a.passed
-estimate_passed c eta windows a = go (named c a)
-  where
-    go : (b : Bool) → (cond b (record a { flight = record a.flight { eta = eta; windows = windows } }) a).passed ≡ a.passed
-    go true = refl
-    go false = refl
+estimate_passed c eta windows a = elim (cases_Bool (named c a)) [ inl e ↦ rw e | inr e ↦ rw e ]
 
 same_estimated : (s : Situation) (plan : Option Schedule) (c : Callsign) (eta : ℕ) (windows : List Span) → IsSound s → SameCounts s (situation_after s plan (Estimate c eta windows))
 same_estimated s plan c eta windows sound x a m n e =
@@ -214,8 +211,8 @@ least_low : (s : Situation) → IsSound s → (c : Callsign) (g : ℕ) → waits
 least_low s sound c g here least =
     let f = some_flight s c here in
     let m = found s c f.0 f.1 in
-    let own = all_at (λ (x : Active). is_lt (arrival_cmp f.0.flight x.flight) ≡ false → g ≤ x.passed) (waiting s) f.0 (least f.0 f.1) m.0 (not_lt_itself f.0.flight) in
-    let most = all_at (λ (x : Active). x.passed ≤ s.aerodrome.k) s.active f.0 sound.passed (in_filter is_waiting s.active f.0 m.0).0 in
+    let own = all_at (λ (x : Active). is_lt (arrival_cmp f.0.flight x.flight) ≡ false → g ≤ x.passed) (waiting s) (least f.0 f.1) f.0 m.0 (not_lt_itself f.0.flight) in
+    let most = all_at (λ (x : Active). x.passed ≤ s.aerodrome.k) s.active sound.passed f.0 (in_filter is_waiting s.active f.0 m.0).0 in
     omega arith
 
 pub step_counts : StepCountsLaw
@@ -304,7 +301,7 @@ step_exactly old new e None c sound step carry low f g here later =
 pub few_pass_anyone : FewPassAnyoneLaw
 few_pass_anyone old [] answers c f sound carry low good run here waited =
     let s = old.situation in
-    let most = all_at (λ (x : Active). x.passed ≤ s.aerodrome.k) s.active f sound.situation.passed (in_filter is_waiting s.active f (found s c f here).0).0 in
+    let most = all_at (λ (x : Active). x.passed ≤ s.aerodrome.k) s.active sound.situation.passed f (in_filter is_waiting s.active f (found s c f here).0).0 in
     omega arith
 few_pass_anyone old (e ∷ events) [] c f sound carry low good run here waited = absurd run
 few_pass_anyone old (e ∷ events) (a ∷ answers) c f sound carry low good run here waited =

@@ -8,11 +8,10 @@ use Rattle.landing_rules.specs.Flights.{Active, Situation, Schedule, is_waiting,
 use Rattle.landing_rules.specs.Rules.{arrival_cmp, rank, IsTight, HaveSameOrder}
 use Rattle.landing_rules.specs.Problem as lists'
 use Rattle.landing_rules.specs.Sound.{IsSound}
-use Rattle.cps_theory.specs.RankLists.{In, IsRank}
+use Rattle.cps_theory.specs.RankLists.{In, IsRank, of_rank}
 use Rattle.cps_theory.specs.Freeze.{rank_in}
 use Rattle.cps_theory.specs.laws.Members.{in_filter}
 use Rattle.landing_joint.specs.Numbered.{numbered, second_of, numbers_of, waits_at, comes_before, numbered_situation}
-use Rattle.cps_theory.specs.RankLists.{of_rank}
 use Rattle.landing_joint.specs.ByNumber.{number_at, joined}
 use Rattle.landing_joint.proofs.Joint.{active_are, comes_is}
 use Rattle.landing_joint.proofs.Problem.{joined_frozen, joined_rank, joined_long, each_number, list_gives_schedule, schedule_gives_list, among}

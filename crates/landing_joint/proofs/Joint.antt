@@ -1,6 +1,6 @@
 -- A schedule keeps the rules exactly where its map of seconds does over the numbers.
-use Rattle.std.proofs.Common.{◌≡◌, ◌≢◌, ℕ, zero, suc, ◌<◌, ◌≤◌, inl, inr, List, [], ◌∷◌, length, map, filter, true, false, not, nat_le, nat_lt, count_by, unwrap_or, arith, refl, sym, ap, subst, ◌∙◌}
-use Rattle.std.specs.List.{cons_option, list_any}
+use Rattle.std.proofs.Common.{◌≡◌, ◌≢◌, ℕ, suc, ◌<◌, ◌≤◌, inl, inr, List, [], ◌∷◌, length, map, filter, true, false, not, nat_le, nat_lt, count_by, unwrap_or, arith, refl, sym, ap, subst, ◌∙◌}
+use Rattle.std.specs.List.{list_any}
 use Rattle.std.specs.Prelude.{filter_map, option_map, All, IsTrue, MatchOption, Option, Some, None, is_none}
 use Rattle.std.proofs.lemmas.Bool.{cases_eq, cases_order, cases_Bool, and_parts, and_from, or_cases, leb-true, le-leb, lt-ltb, le-ltb, ne_eqb, false≢true}
 use Rattle.std.proofs.lemmas.Slice.Eq.{bytes_eq-Decides}
@@ -20,12 +20,11 @@ use Rattle.landing_rules.specs.shared.Counting.{cases}
 use Rattle.cps_theory.specs.RankLists.{In}
 use Rattle.cps_theory.specs.Freeze.{FirstCome, rank_in, place_in}
 use Rattle.cps_theory.specs.NumberedSituation as numbers
-use Rattle.cps_theory.specs.laws.Members.{in_filter}
-use Rattle.cps_theory.specs.laws.Members.{in_append, append_in}
-use Rattle.cps_theory.specs.laws.Members.{distinct_filter}
+use Rattle.cps_theory.specs.laws.Members.{in_filter, in_append, append_in, distinct_filter, filter_in}
 use Rattle.landing_joint.specs.Numbered.{nobody, numbered, second_of, numbers_of, waits_at, comes_before, numbered_situation}
+use Rattle.landing_joint.proofs.Members as members
+use Rattle.landing_joint.specs.shared.Insertion as insertion
 use Rattle.landing_joint.proofs.Numbered.{landing_at, landings_are}
-use Rattle.cps_theory.specs.laws.Members.{filter_in}
 use Rattle.cps_theory.specs.laws.NumberedLists.{count_by_map, count_by_agree, map_map, filter_map_is, all_at, at_all, in_numbers, map_numbers, distinct_numbers}
 
 -- ---- lists
@@ -204,36 +203,11 @@ module _ (s : Situation) (sound : IsSound s) where
 
 -- ---- the frozen
 
-none_some : (u : ℕ) → None ≡ Some u → ⊥
-none_some u e = cc
-
 frozen_list : (P : Landing → Type 0) (all : List Active) → All P (filter_map (λ a. option_map (landing a) a.frozen) all) → (i : ℕ) → i < length all → (u : ℕ) → (numbered all i).frozen ≡ Some u → P (landing (numbered all i) u)
-frozen_list P [] h i lt u e = absurd (omega arith)
-frozen_list P (a ∷ all) h i lt u e = go a.frozen refl h i lt e (λ g j l x. frozen_list P all g j l u x)
-  where
-    rest : (o : Option ℕ) → All P (cons_option (option_map (landing a) o) (filter_map (λ b. option_map (landing b) b.frozen) all)) → All P (filter_map (λ b. option_map (landing b) b.frozen) all)
-    rest None h = h
-    rest (Some v) h = λ k d l. h (suc k) d (omega arith)
-
-    go : (o : Option ℕ) → a.frozen ≡ o → All P (cons_option (option_map (landing a) o) (filter_map (λ b. option_map (landing b) b.frozen) all)) → (i : ℕ) → i < length (a ∷ all) → (numbered (a ∷ all) i).frozen ≡ Some u → (All P (filter_map (λ b. option_map (landing b) b.frozen) all) → (j : ℕ) → j < length all → (numbered all j).frozen ≡ Some u → P (landing (numbered all j) u)) → P (landing (numbered (a ∷ all) i) u)
-    go o q h (suc i) lt e ih = ih (rest o h) i (omega arith) e
-    go None q h zero lt e ih = absurd (none_some u (sym q ∙ e))
-    go (Some v) q h zero lt e ih = let x : v ≡ u = some_same v u (sym q ∙ e) in subst (λ w. P (landing a w)) x (h 0 (landing a v) (omega arith))
-      where
-        some_same : (v u : ℕ) → Some v ≡ Some u → v ≡ u
-        some_same v u e = cc
+frozen_list P all h i lt u e = insertion.all_at P _ h (landing (numbered all i) u) (members.frozen_in all (numbered all i) u (members.number_member all i lt) e)
 
 pub list_frozen : (P : Landing → Type 0) (all : List Active) → ((i : ℕ) → i < length all → (u : ℕ) → (numbered all i).frozen ≡ Some u → P (landing (numbered all i) u)) → All P (filter_map (λ a. option_map (landing a) a.frozen) all)
-list_frozen P [] h = λ k d lt. absurd (omega arith)
-list_frozen P (a ∷ all) h = go a.frozen refl (list_frozen P all (λ i lt u e. h (suc i) (omega arith) u e))
-  where
-    go : (o : Option ℕ) → a.frozen ≡ o → All P (filter_map (λ b. option_map (landing b) b.frozen) all) → All P (cons_option (option_map (landing a) o) (filter_map (λ b. option_map (landing b) b.frozen) all))
-    go None q ih = ih
-    go (Some v) q ih = λ k d lt. first v q ih k d lt
-      where
-        first : (v : ℕ) → a.frozen ≡ Some v → All P (filter_map (λ b. option_map (landing b) b.frozen) all) → All P (landing a v ∷ filter_map (λ b. option_map (landing b) b.frozen) all)
-        first v q ih zero d lt = h 0 (omega arith) v q
-        first v q ih (suc k) d lt = ih k d (omega arith)
+list_frozen P all h = insertion.all_from P _ (λ x m. let w = members.frozen_member x all m in subst P (sym w.4) (h w.0 w.1 w.2 w.3))
 
 -- an open second lies in the two days
 pub any_low : (ws : List Span) (u : ℕ) → All (λ w. (w.0 ≤ w.1) × (w.1 ≤ last_second)) ws → list_any (is_within u) ws ≡ true → u ≤ last_second

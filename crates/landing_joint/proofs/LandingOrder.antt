@@ -2,7 +2,7 @@
 use Rattle.std.proofs.Common.{◌≡◌, ◌≢◌, ℕ, ◌+◌, ◌<◌, ◌≤◌, inl, inr, List, [], ◌∷◌, get_or, map, filter, cond, Bool, true, false, nat_lt, count_by, arith, refl, sym, ap, ap₂}
 use Rattle.std.specs.Prelude.{All, IsTrue, IsPermutation}
 use Rattle.std.specs.Ordering.{is_lt}
-use Rattle.std.proofs.lemmas.Bool.{ltb-true, ltb-false}
+use Rattle.std.proofs.lemmas.Bool.{cases_Bool, cases_lt, lt-ltb, le-ltb}
 use Rattle.std.proofs.lemmas.List.Sorted.{IsPermutation-refl, IsPermutation-cons, IsPermutation-trans, IsPermutation-swap, IsPermutation-map, All-permutation, sum_by-IsPermutation}
 use Rattle.landing_rules.specs.declared.objective.Objective.{Objective}
 use Rattle.landing_rules.specs.declared.objective.Objective.TheVariants.{Makespan, Delay}
@@ -10,7 +10,7 @@ use Rattle.landing_rules.specs.Flights.{Flight, Situation, Landing, horizon}
 use Rattle.landing_rules.specs.Rules.{last_second, is_open, waits, arrival_cmp, rank_among, place, greatest, delay, cost, ArePairSeparated, IsPairInPrecedence, IsShiftKept, IsFrozenKept, KeepsShift, KeepsRules}
 use Rattle.landing_rules.specs.Events.{insert_landing, in_landing_order}
 use Rattle.landing_rules.specs.shared.Counting.{Member}
-use Rattle.landing_joint.proofs.ByNumber.{member_insert, order_member}
+use Rattle.landing_joint.proofs.ByNumber.{member_insert, order_member, order-moves}
 use Rattle.landing_joint.proofs.AuditLists.{Each}
 
 -- ---- lists strictly rising by second
@@ -38,27 +38,13 @@ strict_equal (x ∷ xs) (y ∷ ys) d e f g = ap₂ (λ (z : Landing) (zs : List 
 
 -- ---- by landing order
 
-pub insert-moves : (f : Landing) (all : List Landing) → IsPermutation (f ∷ all) (insert_landing f all)
-insert-moves f [] = IsPermutation-refl (f ∷ [])
-insert-moves f (g ∷ rest) = by (nat_lt g.second f.second) (insert-moves f rest)
-  where
-    by : (b : Bool) → IsPermutation (f ∷ rest) (insert_landing f rest) → IsPermutation (f ∷ g ∷ rest) (cond b (g ∷ insert_landing f rest) (f ∷ g ∷ rest))
-    by true h = IsPermutation-trans (f ∷ g ∷ rest) (g ∷ f ∷ rest) (g ∷ insert_landing f rest)
-        (IsPermutation-swap (f ∷ g ∷ rest) (g ∷ f ∷ rest) 0 1 (omega arith) (omega arith) refl) (IsPermutation-cons g (f ∷ rest) (insert_landing f rest) h)
-    by false h = IsPermutation-refl (f ∷ g ∷ rest)
-
-pub order-moves : (all : List Landing) → IsPermutation all (in_landing_order all)
-order-moves [] = IsPermutation-refl []
-order-moves (f ∷ rest) = IsPermutation-trans (f ∷ rest) (f ∷ in_landing_order rest) (insert_landing f (in_landing_order rest)) (IsPermutation-cons f rest (in_landing_order rest) (order-moves rest)) (insert-moves f (in_landing_order rest))
-
 -- landings of different seconds are strictly rising in their order
 pub strict_insert : (f : Landing) (fs : List Landing) → Strict fs → ((g : Landing) → Member g fs → g.second ≢ f.second) → Strict (insert_landing f fs)
 strict_insert f [] e ne = (λ y m. absurd m, tt)
-strict_insert f (x ∷ fs) e ne = go (nat_lt x.second f.second) refl (strict_insert f fs e.1 (λ g m. ne g (inr m)))
-  where
-    go : (b : Bool) → nat_lt x.second f.second ≡ b → Strict (insert_landing f fs) → Strict (cond b (x ∷ insert_landing f fs) (f ∷ x ∷ fs))
-    go true q ih = (λ y m. elim (member_insert f y fs m) [ inl s ↦ (let a = ltb-true x.second f.second q in let b = ap (λ (w : Landing). w.second) s in omega arith) | inr k ↦ e.0 y k ], ih)
-    go false q ih = (λ y m. elim m [ inl s ↦ (let a = ltb-false x.second f.second q in let b = ap (λ (w : Landing). w.second) s in let c = ne x (inl refl) in omega arith) | inr k ↦ (let a = ltb-false x.second f.second q in let b = e.0 y k in let c = ne x (inl refl) in omega arith) ], e)
+strict_insert f (x ∷ fs) e ne = elim (cases_lt x.second f.second) [
+  | inl lt ↦ rw (lt-ltb x.second f.second lt) (λ y m. elim (member_insert f y fs m) [ inl s ↦ rw s lt | inr k ↦ e.0 y k ], strict_insert f fs e.1 (λ g m. ne g (inr m)))
+  | inr le ↦ rw (le-ltb x.second f.second le) (let c = ne x (inl refl) in λ y m. elim m [ inl s ↦ rw s (omega arith) | inr k ↦ (let b = e.0 y k in omega arith) ], e)
+]
 
 pub strict_order : (fs : List Landing) → Each (λ f g. f.second ≢ g.second) fs → Strict (in_landing_order fs)
 strict_order [] e = tt
@@ -82,11 +68,8 @@ filter_insert f (g ∷ fs) = go (nat_lt g.second f.second) (filter_insert f fs)
 
 pub filter_order : (fs : List Landing) → IsPermutation (filter waits fs) (filter waits (in_landing_order fs))
 filter_order [] = IsPermutation-refl []
-filter_order (f ∷ fs) = IsPermutation-trans (filter waits (f ∷ fs)) (filter waits (f ∷ in_landing_order fs)) (filter waits (insert_landing f (in_landing_order fs))) (by (waits f) (filter_order fs)) (filter_insert f (in_landing_order fs))
-  where
-    by : (b : Bool) → IsPermutation (filter waits fs) (filter waits (in_landing_order fs)) → IsPermutation (cond b (f ∷ filter waits fs) (filter waits fs)) (cond b (f ∷ filter waits (in_landing_order fs)) (filter waits (in_landing_order fs)))
-    by true h = IsPermutation-cons f (filter waits fs) (filter waits (in_landing_order fs)) h
-    by false h = h
+filter_order (f ∷ fs) = IsPermutation-trans (filter waits (f ∷ fs)) (filter waits (f ∷ in_landing_order fs)) (filter waits (insert_landing f (in_landing_order fs)))
+    (elim (cases_Bool (waits f)) [ inl e ↦ rw e (IsPermutation-cons f _ _ (filter_order fs)) | inr e ↦ rw e (filter_order fs) ]) (filter_insert f (in_landing_order fs))
 
 -- how many pass a test doesn't hang on the order
 pub count-moved : {X : Type 0} (p : X → Bool) (xs ys : List X) → IsPermutation xs ys → count_by p xs ≡ count_by p ys
@@ -123,11 +106,7 @@ rules-moved s xs ys h w r = record {
 
 pub greatest_insert : (f : Landing) (fs : List Landing) → greatest (map (λ (g : Landing). g.second) (insert_landing f fs)) ≡ greatest (map (λ (g : Landing). g.second) (f ∷ fs))
 greatest_insert f [] = refl
-greatest_insert f (x ∷ fs) = go (nat_lt x.second f.second) (greatest_insert f fs)
-  where
-    go : (b : Bool) → greatest (map (λ (g : Landing). g.second) (insert_landing f fs)) ≡ greatest (map (λ (g : Landing). g.second) (f ∷ fs)) → greatest (map (λ (g : Landing). g.second) (cond b (x ∷ insert_landing f fs) (f ∷ x ∷ fs))) ≡ greatest (map (λ (g : Landing). g.second) (f ∷ x ∷ fs))
-    go true e = omega arith
-    go false e = refl
+greatest_insert f (x ∷ fs) = let h = greatest_insert f fs in elim (cases_Bool (nat_lt x.second f.second)) [ inl e ↦ rw e (omega arith) | inr e ↦ rw e ]
 
 pub cost_order : (o : Objective) (fs : List Landing) → cost o (in_landing_order fs) ≡ cost o fs
 cost_order Makespan [] = refl

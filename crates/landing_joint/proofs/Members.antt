@@ -1,43 +1,30 @@
 -- What is in a list after a filter, a map or a push, and where callsigns differ.
-use Rattle.std.proofs.Common.{◌≡◌, ℕ, suc, ◌≤◌, ◌⊎◌, inl, inr, Bool, true, false, cond, ◌||◌, List, [], ◌∷◌, ◌++◌, length, map, filter, Option, Some, None, refl, sym, ap, subst, ◌∙◌, arith}
+use Rattle.std.proofs.Common.{◌≡◌, ℕ, suc, ◌≤◌, ◌⊎◌, inl, inr, Bool, true, false, List, [], ◌∷◌, ◌++◌, length, map, filter, Option, Some, None, refl, sym, ap, subst, ◌∙◌, arith, zero, ◌<◌}
 use Rattle.std.specs.Prelude.{All, AllPairs, ◌≢◌, option_map, filter_map, find}
 use Rattle.std.specs.List.{cons_option, list_any}
-use Rattle.std.proofs.lemmas.Bool.{false≢true}
-use Rattle.std.proofs.lemmas.List.Elements.{All-cons, All-head, All-tail}
+use Rattle.std.proofs.lemmas.Bool.{cases_Bool, or_parts}
 use Rattle.std.proofs.lemmas.List.Kept.{AllPairs-cons}
 use Rattle.landing_rules.specs.Flights.{Active, Landing, Callsign, landing}
+use Rattle.landing_rules.specs.shared.Counting.{Member}
+use Rattle.cps_theory.specs.RankLists.{In}
+use Rattle.landing_joint.specs.Numbered.{numbered}
+use Rattle.landing_joint.specs.shared.Insertion.{all_at, all_from}
 
-abbrev pub Member : {X : Type 0} → X → List X → Type 0
-Member x [] = ⊥
-Member x (y ∷ ys) = (x ≡ y) ⊎ Member x ys
-
-pub all_at : {X : Type 0} (P : X → Type 0) (xs : List X) (x : X) → All P xs → Member x xs → P x
-all_at P [] x h m = absurd m
-all_at P (y ∷ ys) x h (inl e) = subst P (sym e) (All-head P y ys h)
-all_at P (y ∷ ys) x h (inr m) = all_at P ys x (All-tail P y ys h) m
-
-pub all_from : {X : Type 0} (P : X → Type 0) (xs : List X) → ((x : X) → Member x xs → P x) → All P xs
-all_from P [] h = λ k d l. absurd (omega arith)
-all_from P (y ∷ ys) h = All-cons P y ys (h y (inl refl)) (all_from P ys (λ x m. h x (inr m)))
+pub cases_option : {X : Type 0} (o : Option X) → (o ≡ None) ⊎ ((x : X) × (o ≡ Some x))
+cases_option None = inl refl
+cases_option (Some x) = inr (x, refl)
 
 pub in_filter : {X : Type 0} (p : X → Bool) (xs : List X) (x : X) → Member x (filter p xs) → Member x xs × (p x ≡ true)
 in_filter p [] x m = absurd m
-in_filter p (y ∷ ys) x m = go (p y) refl m (in_filter p ys x)
-  where
-    go : (b : Bool) → p y ≡ b → Member x (cond b (y ∷ filter p ys) (filter p ys)) → (Member x (filter p ys) → Member x ys × (p x ≡ true)) → ((x ≡ y) ⊎ Member x ys) × (p x ≡ true)
-    go true e (inl s) ih = (inl s, ap p s ∙ e)
-    go true e (inr m) ih = let r = ih m in (inr r.0, r.1)
-    go false e m ih = let r = ih m in (inr r.0, r.1)
+in_filter p (y ∷ ys) x m = elim (cases_Bool (p y)) [
+  | inl q ↦ elim (rw q at m) [ inl s ↦ (inl s, ap p s ∙ q) | inr k ↦ (let r = in_filter p ys x k in (inr r.0, r.1)) ]
+  | inr q ↦ (let r = in_filter p ys x (rw q at m) in (inr r.0, r.1))
+]
 
 pub filter_in : {X : Type 0} (p : X → Bool) (xs : List X) (x : X) → Member x xs → p x ≡ true → Member x (filter p xs)
 filter_in p [] x m e = m
-filter_in p (y ∷ ys) x m e = go (p y) refl m (λ k. filter_in p ys x k e)
-  where
-    go : (b : Bool) → p y ≡ b → (x ≡ y) ⊎ Member x ys → (Member x ys → Member x (filter p ys)) → Member x (cond b (y ∷ filter p ys) (filter p ys))
-    go true q (inl s) ih = inl s
-    go true q (inr m) ih = inr (ih m)
-    go false q (inl s) ih = absurd (false≢true (sym q ∙ ap p (sym s) ∙ e))
-    go false q (inr m) ih = ih m
+filter_in p (y ∷ ys) x (inl s) e = rw (sym (ap p s) ∙ e) (inl s)
+filter_in p (y ∷ ys) x (inr m) e = elim (cases_Bool (p y)) [ inl q ↦ rw q (inr (filter_in p ys x m e)) | inr q ↦ rw q (filter_in p ys x m e) ]
 
 pub in_map : {X Y : Type 0} (f : X → Y) (xs : List X) (y : Y) → Member y (map f xs) → (x : X) × Member x xs × (y ≡ f x)
 in_map f [] y m = absurd m
@@ -63,17 +50,35 @@ in_frozen (a ∷ xs) f m = go a.frozen refl m (in_frozen xs f)
 
 pub frozen_in : (xs : List Active) (a : Active) (t : ℕ) → Member a xs → a.frozen ≡ Some t → Member (landing a t) (filter_map (λ a. option_map (landing a) a.frozen) xs)
 frozen_in [] a t m e = absurd m
-frozen_in (x ∷ xs) a t m e = go x.frozen refl m (λ k. frozen_in xs a t k e)
-  where
-    go : (o : Option ℕ) → x.frozen ≡ o → (a ≡ x) ⊎ Member a xs → (Member a xs → Member (landing a t) (filter_map (λ a. option_map (landing a) a.frozen) xs)) →
-        Member (landing a t) (cons_option (option_map (landing x) o) (filter_map (λ a. option_map (landing a) a.frozen) xs))
-    go None q (inl s) ih = let w : None ≡ Some t = sym q ∙ ap (λ (z : Active). z.frozen) (sym s) ∙ e in absurd (cc)
-    go None q (inr k) ih = ih k
-    go (Some u) q (inl s) ih =
-        let w : Some u ≡ Some t = sym q ∙ ap (λ (z : Active). z.frozen) (sym s) ∙ e in
-        let v : u ≡ t = cc in
-        inl (ap (λ (z : Active). landing z t) s ∙ ap (landing x) (sym v))
-    go (Some u) q (inr k) ih = inr (ih k)
+frozen_in (x ∷ xs) a t (inl s) e =
+    subst (λ o. Member (landing a t) (cons_option (option_map (landing x) o) (filter_map (λ b. option_map (landing b) b.frozen) xs))) (sym e ∙ ap (λ (z : Active). z.frozen) s) (inl (ap (λ (z : Active). landing z t) s))
+frozen_in (x ∷ xs) a t (inr k) e = elim (cases_option x.frozen) [ inl q ↦ rw q (frozen_in xs a t k e) | inr w ↦ rw w.1 (inr (frozen_in xs a t k e)) ]
+
+pub member_number : (a : Active) (all : List Active) → Member a all → (i : ℕ) × (i < length all) × (a ≡ numbered all i)
+member_number a [] m = absurd m
+member_number a (x ∷ all) (inl e) = (0, omega arith, e)
+member_number a (x ∷ all) (inr m) = let w = member_number a all m in (suc w.0, (let l = w.1 in omega arith), w.2)
+
+pub number_member : (all : List Active) (i : ℕ) → i < length all → Member (numbered all i) all
+number_member [] i lt = absurd (omega arith)
+number_member (a ∷ all) zero lt = inl refl
+number_member (a ∷ all) (suc i) lt = inr (number_member all i (omega arith))
+
+pub map_member : {X : Type 0} (F : ℕ → X) (xs : List ℕ) (x : X) → Member x (map F xs) → (i : ℕ) × In i xs × (x ≡ F i)
+map_member F [] x m = absurd m
+map_member F (i ∷ xs) x (inl e) = (i, inl refl, e)
+map_member F (i ∷ xs) x (inr m) = let w = map_member F xs x m in (w.0, inr w.1, w.2)
+
+pub member_map : {X : Type 0} (F : ℕ → X) (xs : List ℕ) (i : ℕ) → In i xs → Member (F i) (map F xs)
+member_map F [] i m = absurd m
+member_map F (x ∷ xs) i (inl e) = inl (ap F e)
+member_map F (x ∷ xs) i (inr m) = inr (member_map F xs i m)
+
+pub frozen_member : (f : Landing) (all : List Active) → Member f (filter_map (λ a. option_map (landing a) a.frozen) all) → (i : ℕ) × (i < length all) × (u : ℕ) × ((numbered all i).frozen ≡ Some u) × (f ≡ landing (numbered all i) u)
+frozen_member f all m =
+    let r = in_frozen all f m in
+    let n = member_number r.0 all r.2 in
+    (n.0, n.1, r.1, ap (λ (a : Active). a.frozen) (sym n.2) ∙ r.3, r.4 ∙ ap (λ (a : Active). landing a r.1) n.2)
 
 -- ---- callsigns differ
 
@@ -94,7 +99,7 @@ pub differ_of : (xs : List Active) → AllPairs (λ a b. a.flight.callsign ≢ b
 differ_of [] h = tt
 differ_of (x ∷ xs) h =
     let R : Active → Active → Type 0 = λ a b. a.flight.callsign ≢ b.flight.callsign in
-    (λ d m. let r = in_map (λ (a : Active). a.flight.callsign) xs d m in λ e. all_at (R x) xs r.0 (pairs_head R x xs h) r.1 (e ∙ r.2), differ_of xs (pairs_tail R x xs h))
+    (λ d m. let r = in_map (λ (a : Active). a.flight.callsign) xs d m in λ e. all_at (R x) xs (pairs_head R x xs h) r.0 r.1 (e ∙ r.2), differ_of xs (pairs_tail R x xs h))
 
 pub map_in : {X Y : Type 0} (f : X → Y) (xs : List X) (x : X) → Member x xs → Member (f x) (map f xs)
 map_in f [] x m = m
@@ -119,63 +124,42 @@ one_of_name (x ∷ xs) a b d (inr m) (inr n) e = one_of_name xs a b d.1 m n e
 
 pub found_in : {X : Type 0} (p : X → Bool) (xs : List X) (x : X) → find p xs ≡ Some x → Member x xs × (p x ≡ true)
 found_in p [] x e = let w : None ≡ Some x = e in absurd (cc)
-found_in p (y ∷ ys) x e = go (p y) refl e (found_in p ys x)
-  where
-    go : (b : Bool) → p y ≡ b → cond b (Some y) (find p ys) ≡ Some x → (find p ys ≡ Some x → Member x ys × (p x ≡ true)) → ((x ≡ y) ⊎ Member x ys) × (p x ≡ true)
-    go true q e ih = let w : y ≡ x = cc in (inl (sym w), ap p (sym w) ∙ q)
-    go false q e ih = let r = ih e in (inr r.0, r.1)
+found_in p (y ∷ ys) x e = elim (cases_Bool (p y)) [
+  | inl q ↦ (let w : Some y ≡ Some x = rw q at e in let v : y ≡ x = cc in (inl (sym v), ap p (sym v) ∙ q))
+  | inr q ↦ (let r = found_in p ys x (rw q at e) in (inr r.0, r.1))
+]
 
 pub none_found : {X : Type 0} (p : X → Bool) (xs : List X) (x : X) → find p xs ≡ None → Member x xs → p x ≡ false
 none_found p [] x e m = absurd m
-none_found p (y ∷ ys) x e m = go (p y) refl e m (none_found p ys x)
-  where
-    go : (b : Bool) → p y ≡ b → cond b (Some y) (find p ys) ≡ None → (x ≡ y) ⊎ Member x ys → (find p ys ≡ None → Member x ys → p x ≡ false) → p x ≡ false
-    go true q e m ih = let w : Some y ≡ None = e in absurd (cc)
-    go false q e (inl s) ih = ap p s ∙ q
-    go false q e (inr m) ih = ih e m
+none_found p (y ∷ ys) x e m = elim (cases_Bool (p y)) [
+  | inl q ↦ (let w : Some y ≡ None = rw q at e in absurd (cc))
+  | inr q ↦ elim m [ inl s ↦ ap p s ∙ q | inr k ↦ none_found p ys x (rw q at e) k ]
+]
 
 pub none_any : {X : Type 0} (p : X → Bool) (xs : List X) (x : X) → list_any p xs ≡ false → Member x xs → p x ≡ false
 none_any p [] x e m = absurd m
-none_any p (y ∷ ys) x e m = go (p y) refl e m (none_any p ys x)
-  where
-    go : (b : Bool) → p y ≡ b → (b || list_any p ys) ≡ false → (x ≡ y) ⊎ Member x ys → (list_any p ys ≡ false → Member x ys → p x ≡ false) → p x ≡ false
-    go true q e m ih = absurd (false≢true (sym e))
-    go false q e (inl s) ih = ap p s ∙ q
-    go false q e (inr m) ih = ih e m
+none_any p (y ∷ ys) x e (inl s) = ap p s ∙ (or_parts (p y) (list_any p ys) e).0
+none_any p (y ∷ ys) x e (inr m) = none_any p ys x (or_parts (p y) (list_any p ys) e).1 m
 
 -- ---- lengths
 
 pub fewer_filtered : {X Y : Type 0} (p : Y → Bool) (q : X → Bool) (f : X → Y) (xs : List X) → ((x : X) → p (f x) ≡ true → q x ≡ true) → length (filter p (map f xs)) ≤ length (filter q xs)
 fewer_filtered p q f [] h = omega arith
-fewer_filtered p q f (x ∷ xs) h = go (p (f x)) (q x) (h x) (fewer_filtered p q f xs h)
-  where
-    go : (b c : Bool) → (b ≡ true → c ≡ true) → length (filter p (map f xs)) ≤ length (filter q xs) → length (cond b (f x ∷ filter p (map f xs)) (filter p (map f xs))) ≤ length (cond c (x ∷ filter q xs) (filter q xs))
-    go true true h ih = omega arith
-    go true false h ih = absurd (false≢true (h refl))
-    go false true h ih = omega arith
-    go false false h ih = ih
+fewer_filtered p q f (x ∷ xs) h = let k = fewer_filtered p q f xs h in elim (cases_Bool (p (f x))) [
+  | inl e ↦ rw (e, h x e) (omega arith)
+  | inr e ↦ elim (cases_Bool (q x)) [ inl d ↦ rw (e, d) (omega arith) | inr d ↦ rw (e, d) k ]
+]
 
 pub fewer_twice : {X : Type 0} (p q : X → Bool) (xs : List X) → length (filter p (filter q xs)) ≤ length (filter p xs)
 fewer_twice p q [] = omega arith
-fewer_twice p q (x ∷ xs) = go (q x) (p x) refl (fewer_twice p q xs)
-  where
-    go : (b c : Bool) → p x ≡ c → length (filter p (filter q xs)) ≤ length (filter p xs) → length (filter p (cond b (x ∷ filter q xs) (filter q xs))) ≤ length (cond c (x ∷ filter p xs) (filter p xs))
-    go true true e ih = let z = ap (λ d. length (cond d (x ∷ filter p (filter q xs)) (filter p (filter q xs)))) e in omega arith
-    go true false e ih = let z = ap (λ d. length (cond d (x ∷ filter p (filter q xs)) (filter p (filter q xs)))) e in omega arith
-    go false true e ih = omega arith
-    go false false e ih = ih
+fewer_twice p q (x ∷ xs) = let h = fewer_twice p q xs in elim (cases_Bool (q x)) [
+  | inl e ↦ elim (cases_Bool (p x)) [ inl d ↦ rw (e, d) (omega arith) | inr d ↦ rw (e, d) h ]
+  | inr e ↦ elim (cases_Bool (p x)) [ inl d ↦ rw (e, d) (omega arith) | inr d ↦ rw (e, d) h ]
+]
 
 pub fewer_kept : {X : Type 0} (q : X → Bool) (xs : List X) → length (filter q xs) ≤ length xs
 fewer_kept q [] = omega arith
-fewer_kept q (x ∷ xs) = go (q x) (fewer_kept q xs)
-  where
-    go : (b : Bool) → length (filter q xs) ≤ length xs → length (cond b (x ∷ filter q xs) (filter q xs)) ≤ suc (length xs)
-    go true h = omega arith
-    go false h = omega arith
-
-pub length_map : {X Y : Type 0} (f : X → Y) (xs : List X) → length (map f xs) ≡ length xs
-length_map f [] = refl
-length_map f (x ∷ xs) = ap suc (length_map f xs)
+fewer_kept q (x ∷ xs) = let h = fewer_kept q xs in elim (cases_Bool (q x)) [ inl e ↦ rw e (omega arith) | inr e ↦ rw e (omega arith) ]
 
 pub length_push : {X : Type 0} (xs : List X) (x : X) → length (xs ++ x ∷ []) ≡ suc (length xs)
 length_push [] x = refl

@@ -1,5 +1,5 @@
 -- With the carry a flight is passed by at most k flights, as long as nobody new comes to stand ahead of it.
-use Rattle.std.proofs.Common.{◌≡◌, ℕ, ◌+◌, ◌≤◌, inl, inr, min, true, false, List, [], ◌∷◌, map, Option, Some, None, refl, sym, ap, ap₂, subst, ◌∙◌, arith}
+use Rattle.std.proofs.Common.{◌≡◌, ℕ, ◌+◌, ◌≤◌, inl, inr, min, true, false, List, Some, refl, sym, ap, ap₂, subst, ◌∙◌, arith}
 use Rattle.std.specs.Prelude.{◌≢◌, is_some}
 use Rattle.std.specs.Ordering.{is_lt}
 use Rattle.std.proofs.lemmas.Bool.{false≢true, le-ltb}
@@ -15,11 +15,13 @@ use Rattle.cps_theory.specs.NumberedSituation as numbers
 use Rattle.cps_theory.specs.laws.Members.{filter_in, in_filter}
 use Rattle.landing_joint.specs.Numbered.{numbered, second_of, numbers_of, waits_at, comes_before, numbered_situation}
 use Rattle.landing_joint.specs.PassedOver.{waiting_flight, waits_in, count_passing, ArePassedAtLeast, ClockCounts, ClockCountsLaw, ClockCountsExactlyLaw}
-use Rattle.landing_joint.proofs.Members.{Member, Differ, callsigns, all_at, all_from, differ_of, found_in, none_found, one_of_name}
+use Rattle.landing_joint.proofs.Members.{Differ, callsigns, differ_of, found_in, none_found, one_of_name, map_member, member_map, cases_option}
 use Rattle.landing_joint.proofs.FlightSteps.{named_is}
 use Rattle.landing_joint.proofs.FirstStays.{bound_overtook, few_overtook_itself, fewer_overtook}
 use Rattle.landing_joint.proofs.Joint.{all_among, comes_is, feasible_numbered, first_come, passed_low}
 use Rattle.landing_joint.proofs.Clock.{at_after, forth_of, late_after, passing_is, same_flight, waiting_after, waiting_before, waiting_changed}
+use Rattle.landing_rules.specs.shared.Counting.{Member}
+use Rattle.landing_joint.specs.shared.Insertion.{all_at, all_from}
 
 -- ---- the flight of a name
 
@@ -30,31 +32,16 @@ pub names_waiting : (s : Situation) → IsSound s → Differ (callsigns (waiting
 names_waiting s sound = differ_of (waiting s) (AllPairs-filter (λ (a b : Active). a.flight.callsign ≢ b.flight.callsign) is_waiting s.active sound.callsigns)
 
 pub is_found : (s : Situation) → IsSound s → (c : Callsign) (f : Active) → Member f (waiting s) → f.flight.callsign ≡ c → waiting_flight s c ≡ Some f
-is_found s sound c f m e = go (waiting_flight s c) refl
-  where
-    go : (o : Option Active) → waiting_flight s c ≡ o → o ≡ Some f
-    go None q = absurd (false≢true (sym (none_found (named c) (waiting s) f q m) ∙ (bytes_eq-Decides f.flight.callsign c).1 e))
-    go (Some g) q = let r = found s c g q in ap Some (one_of_name (waiting s) g f (names_waiting s sound) r.0 m (r.1 ∙ sym e))
+is_found s sound c f m e = elim (cases_option (waiting_flight s c)) [
+  | inl q ↦ absurd (false≢true (sym (none_found (named c) (waiting s) f q m) ∙ (bytes_eq-Decides f.flight.callsign c).1 e))
+  | inr w ↦ (let r = found s c w.0 w.1 in w.1 ∙ ap Some (one_of_name (waiting s) w.0 f (names_waiting s sound) r.0 m (r.1 ∙ sym e)))
+]
 
 pub some_flight : (s : Situation) (c : Callsign) → waits_in s c ≡ true → (f : Active) × (waiting_flight s c ≡ Some f)
-some_flight s c e = go (waiting_flight s c) e
-  where
-    go : (o : Option Active) → is_some o ≡ true → (f : Active) × (o ≡ Some f)
-    go None e = absurd (false≢true e)
-    go (Some f) e = (f, refl)
+some_flight s c e = elim (cases_option (waiting_flight s c)) [ inl q ↦ absurd (false≢true (sym (ap is_some q) ∙ e)) | inr w ↦ w ]
 
 pub same_some : (a b : Active) → Some a ≡ Some b → a ≡ b
 same_some a b e = cc
-
-in_map_numbers : (f : ℕ → Active) (xs : List ℕ) (y : Active) → Member y (map f xs) → (i : ℕ) × In i xs × (y ≡ f i)
-in_map_numbers f [] y m = absurd m
-in_map_numbers f (x ∷ xs) y (inl e) = (x, inl refl, e)
-in_map_numbers f (x ∷ xs) y (inr m) = let r = in_map_numbers f xs y m in (r.0, inr r.1, r.2)
-
-map_numbers_in : (f : ℕ → Active) (xs : List ℕ) (i : ℕ) → In i xs → Member (f i) (map f xs)
-map_numbers_in f [] i m = m
-map_numbers_in f (x ∷ xs) i (inl e) = inl (ap f e)
-map_numbers_in f (x ∷ xs) i (inr m) = inr (map_numbers_in f xs i m)
 
 -- ---- a clock event, by any feasible plan
 
@@ -110,11 +97,11 @@ module _ (s : Situation) (sound : IsSound s) (t : Schedule) (ok : IsFeasible s t
 
   at_number : (y : Active) → Member y (waiting changed) → (i : ℕ) × In i stay × (y ≡ numbered changed.active i)
   at_number y m =
-      let r = in_map_numbers (numbered changed.active) (numbered_situation changed).waiting y (subst (Member y) (waiting_changed s sound t ok now forth) m) in
+      let r = map_member (numbered changed.active) (numbered_situation changed).waiting y (subst (Member y) (waiting_changed s sound t ok now forth) m) in
       (r.0, subst (In r.0) (waiting_after s sound t ok now forth) r.1, r.2)
 
   was_waiting : (i : ℕ) → In i ns.waiting → Member (numbered s.active i) (waiting s)
-  was_waiting i m = subst (Member (numbered s.active i)) (sym (waiting_before s sound t ok now forth)) (map_numbers_in (numbered s.active) ns.waiting i m)
+  was_waiting i m = subst (Member (numbered s.active i)) (sym (waiting_before s sound t ok now forth)) (member_map (numbered s.active) ns.waiting i m)
 
   flight_at : (y : Active) (i : ℕ) → In i stay → y ≡ numbered changed.active i → y.flight ≡ (numbered s.active i).flight
   flight_at y i m e = ap (λ (a : Active). a.flight) e ∙ same_flight s sound t ok now forth i (stays i m).0
@@ -164,7 +151,7 @@ module _ (s : Situation) (sound : IsSound s) (t : Schedule) (ok : IsFeasible s t
           ∙ ap (λ (a : Active). is_lt (arrival_cmp a.flight (numbered s.active x).flight)) (sym n.was)
 
       least_numbers : (x : ℕ) → In x ns.waiting → comes_before s.active i x ≡ false → g ≤ (numbered s.active x).passed
-      least_numbers x m ahead = all_at (λ (x : Active). is_lt (arrival_cmp f.flight x.flight) ≡ false → g ≤ x.passed) (waiting s) (numbered s.active x) (least f here) (was_waiting x m) (sym (behind_are x m) ∙ ahead)
+      least_numbers x m ahead = all_at (λ (x : Active). is_lt (arrival_cmp f.flight x.flight) ≡ false → g ≤ x.passed) (waiting s) (least f here) (numbered s.active x) (was_waiting x m) (sym (behind_are x m) ∙ ahead)
 
       counted_each : (y : Active) → Member y (waiting changed) → is_lt (arrival_cmp (numbered changed.active i).flight y.flight) ≡ false → g + passing ≤ y.passed
       counted_each y m ahead =

@@ -1,8 +1,8 @@
 -- The problem of a situation is a problem of the theory, and its feasible lists are the feasible maps.
-use Rattle.std.proofs.Common.{◌≡◌, ℕ, zero, suc, ◌+◌, ◌-◌, ◌*◌, ◌<◌, ◌≤◌, ◌⊎◌, inl, inr, List, [], ◌∷◌, length, get_or, map, filter, cond, Bool, true, false, not, ◌&&◌, nat_le, zero-le, le_antisymm, add-one, arith, refl, sym, ap, ap₂, subst, ◌∙◌}
+use Rattle.std.proofs.Common.{◌≡◌, ℕ, zero, suc, ◌+◌, ◌-◌, ◌*◌, ◌<◌, ◌≤◌, ◌⊎◌, inl, inr, List, [], ◌∷◌, length, get_or, map, filter, cond, Bool, false, not, ◌&&◌, nat_le, zero-le, le_antisymm, add-one, arith, refl, sym, ap, ap₂, subst, ◌∙◌}
 use Rattle.std.specs.Prelude.{filter_map, option_map, unwrap_or, is_none, sum_by, Option, Some, None, IsPermutation}
 use Rattle.std.specs.List.{AllZip, list_any, cons_option, zip}
-use Rattle.std.proofs.lemmas.Bool.{cases_eq, cases_lt, cases_Bool, and_parts, and_from, and_right, false≢true}
+use Rattle.std.proofs.lemmas.Bool.{cases_eq, cases_lt, cases_Bool, and_parts, and_from, and_right, not-true}
 use Rattle.std.proofs.lemmas.List.Sorted.{IsPermutation-trans, sum_by-IsPermutation}
 use Rattle.wake_table.specs.declared.category.Category.{Category}
 use Rattle.wake_table.specs.Table.{separation}
@@ -16,50 +16,34 @@ use Rattle.std.proofs.lemmas.Slice.Zip.{length-zip, get_or-zip}
 use Rattle.landing_rules.specs.Problem as lists'
 use Rattle.precedence.specs.Pairs.{must_precede}
 use Rattle.landing_rules.specs.Sound.{IsSound}
-use Rattle.cps_theory.specs.RankLists.{In}
-use Rattle.cps_theory.specs.RankLists.{IsRank, upto}
+use Rattle.cps_theory.specs.RankLists.{In, IsRank, upto, of_rank, numbers_from}
 use Rattle.cps_theory.specs.NumberedSituation as numbers
 use Rattle.cps_theory.specs.Freeze.{rank_in}
-use Rattle.cps_theory.specs.laws.Members.{in_filter}
+use Rattle.cps_theory.specs.laws.Members.{in_filter, filter_in}
 use Rattle.cps_theory.specs.laws.ProblemOfSituation.{rank_is, problem_feasible, feasible_problem}
 use Rattle.landing_joint.specs.Numbered.{nobody, numbered, second_of, numbers_of, waits_at, comes_before, numbered_situation}
-use Rattle.cps_theory.specs.RankLists.{of_rank}
 use Rattle.landing_joint.specs.RankedProblem.{no_waiting, after_last, ranked}
 use Rattle.landing_joint.specs.ByNumber.{numbers_by_rank, number_at, joined}
 use Rattle.landing_joint.specs.shared.RankedLists.{each_at, list_feasible, feasible_list, feasible_agree}
 use Rattle.landing_joint.proofs.Numbered.{landing_at, landings_are}
 use Rattle.landing_joint.proofs.Joint.{active_are, sound_numbered, open_low, feasible_numbered, numbered_feasible}
-use Rattle.landing_joint.proofs.ByNumber.{sorted_in, in_sorted, sorted_permutes, sorted_ordered, map_sorted, both_ways, get_map, slice_map, last_frozen_is}
-use Rattle.cps_theory.specs.RankLists.{numbers_from}
+use Rattle.landing_joint.proofs.ByNumber.{sorted_in, in_sorted, sorted_permutes, sorted_ordered, map_sorted, slice_map, last_frozen_is}
 use Rattle.cps_theory.specs.laws.ByRank.{ranks_permute, at_in, in_at, ordered_at, get_past, zip_at, zip_long}
-use Rattle.cps_theory.specs.laws.Members.{filter_in}
 use Rattle.cps_theory.specs.laws.NumberedLists.{map_map, filter_map_is, in_numbers, numbers_in}
 use Rattle.cps_theory.specs.laws.RanksBelow.{in_upto}
 use Rattle.cps_theory.specs.laws.WholeObjective.{sum_agree}
-
-length_map : {X Y : Type 0} (f : X → Y) (xs : List X) → length (map f xs) ≡ length xs
-length_map f [] = refl
-length_map f (x ∷ xs) = ap suc (length_map f xs)
-
-sum_map : {X : Type 0} (g : X → ℕ) (F : ℕ → X) (xs : List ℕ) → sum_by g (map F xs) ≡ sum_by (λ i. g (F i)) xs
-sum_map g F [] = refl
-sum_map g F (x ∷ xs) = let a = sum_by-cons g (F x) (map F xs) in let b = sum_by-cons (λ i. g (F i)) x xs in let c = sum_map g F xs in omega arith
+use Rattle.std.proofs.lemmas.List.{length-map, get_or-map}
+use Rattle.landing_joint.specs.shared.FirstBestLists.{numbers_get, numbers_long}
+use Rattle.landing_joint.specs.shared.BestLists.{sum_map}
+use Rattle.std.specs.Cmp.{both_ways}
 
 sum_parts : (g : ℕ → ℕ) (p : ℕ → Bool) (xs : List ℕ) → sum_by g xs ≡ sum_by g (filter (λ x. not (p x)) xs) + sum_by g (filter p xs)
 sum_parts g p [] = omega arith
-sum_parts g p (x ∷ xs) = go (p x) (sum_parts g p xs)
-  where
-    go : (b : Bool) → sum_by g xs ≡ sum_by g (filter (λ y. not (p y)) xs) + sum_by g (filter p xs) → sum_by g (x ∷ xs) ≡ sum_by g (cond (not b) (x ∷ filter (λ y. not (p y)) xs) (filter (λ y. not (p y)) xs)) + sum_by g (cond b (x ∷ filter p xs) (filter p xs))
-    go true e = let a = sum_by-cons g x xs in let b = sum_by-cons g x (filter p xs) in omega arith
-    go false e = let a = sum_by-cons g x xs in let b = sum_by-cons g x (filter (λ y. not (p y)) xs) in omega arith
+sum_parts g p (x ∷ xs) = let h = sum_parts g p xs in elim (cases_Bool (p x)) [ inl e ↦ rw e (omega (arith, sum_by-cons g)) | inr e ↦ rw e (omega (arith, sum_by-cons g)) ]
 
 filter_numbers : (p : ℕ → Bool) (b n : ℕ) → filter p (numbers_from (suc b) n) ≡ map suc (filter (λ i. p (suc i)) (numbers_from b n))
 filter_numbers p b zero = refl
-filter_numbers p b (suc n) = go (p (suc b)) (filter_numbers p (suc b) n)
-  where
-    go : (c : Bool) → filter p (numbers_from (suc (suc b)) n) ≡ map suc (filter (λ i. p (suc i)) (numbers_from (suc b) n)) → cond c (suc b ∷ filter p (numbers_from (suc (suc b)) n)) (filter p (numbers_from (suc (suc b)) n)) ≡ map suc (cond c (b ∷ filter (λ i. p (suc i)) (numbers_from (suc b) n)) (filter (λ i. p (suc i)) (numbers_from (suc b) n)))
-    go true e = ap (λ l. suc b ∷ l) e
-    go false e = e
+filter_numbers p b (suc n) = let h = filter_numbers p (suc b) n in elim (cases_Bool (p (suc b))) [ inl e ↦ rw e (ap (λ l. suc b ∷ l) h) | inr e ↦ rw e h ]
 
 -- the frozen landings are those of the frozen numbers
 frozen_are : (all : List Active) → filter_map (λ a. option_map (landing a) a.frozen) all ≡ map (λ i. landing (numbered all i) (unwrap_or (numbered all i).frozen 0)) (filter (λ i. not (waits_at all i)) (numbers_of all))
@@ -94,7 +78,7 @@ module _ (s : Situation) (sound : IsSound s) (p : lists'.Problem) (of : lists'.I
   zipped = subst (λ l. AllZip (lists'.IsWaitingOf s.closures) l p.flights) ranked_is of.flights
 
   long_is : length R ≡ length p.flights
-  long_is = sym (length_map (numbered s.active) R) ∙ zip_long (lists'.IsWaitingOf s.closures) (map (numbered s.active) R) p.flights zipped
+  long_is = sym (length-map R (numbered s.active)) ∙ zip_long (lists'.IsWaitingOf s.closures) (map (numbered s.active) R) p.flights zipped
 
   waiting_of : (r : ℕ) → IsRank (length p.flights) r → lists'.IsWaitingOf s.closures (numbered s.active (at r)) (fl r)
   waiting_of zero q = absurd (let a = q.0 in omega arith)
@@ -102,8 +86,8 @@ module _ (s : Situation) (sound : IsSound s) (p : lists'.Problem) (of : lists'.I
       let l = long_is in
       let b = q.1 in
       let lt : i < length R = omega arith in
-      let m = length_map (numbered s.active) R in
-      subst (λ a. lists'.IsWaitingOf s.closures a (fl (suc i))) (get_map s.active R i (length s.active) nobody lt) (zip_at (lists'.IsWaitingOf s.closures) (map (numbered s.active) R) p.flights zipped i nobody no_waiting (omega arith))
+      let m = length-map R (numbered s.active) in
+      subst (λ a. lists'.IsWaitingOf s.closures a (fl (suc i))) (get_or-map (numbered s.active) R i (length s.active) nobody lt) (zip_at (lists'.IsWaitingOf s.closures) (map (numbered s.active) R) p.flights zipped i nobody no_waiting (omega arith))
 
   rank_cases : (r : ℕ) → IsRank (length p.flights) r ⊎ ((numbered s.active (at r) ≡ nobody) × (fl r ≡ no_waiting))
   rank_cases zero = inr (get_past s.active (length s.active) nobody (omega arith), refl)
@@ -207,38 +191,22 @@ module _ (s : Situation) (sound : IsSound s) (p : lists'.Problem) (of : lists'.I
 
   -- ---- joined with the frozen
 
-  numbers_get : (F : ℕ → ℕ) (b n i : ℕ) → i < n → get_or (map F (numbers_from b n)) i 0 ≡ F (b + i)
-  numbers_get F b zero i lt = absurd (omega arith)
-  numbers_get F b (suc n) zero lt = ap F (omega arith)
-  numbers_get F b (suc n) (suc i) lt = numbers_get F (suc b) n i (omega arith) ∙ ap F (omega arith)
-
-  numbers_long : (F : ℕ → ℕ) (b n : ℕ) → length (map F (numbers_from b n)) ≡ n
-  numbers_long F b zero = refl
-  numbers_long F b (suc n) = ap suc (numbers_long F (suc b) n)
-
   pub joined_at : (v : Schedule) (i : ℕ) → In i (numbers_of s.active) → second_of (joined s v) i ≡ cond (waits_at s.active i) (of_rank 0 v (rank_in (comes_before s.active) ns.waiting i)) (ns.frozen_at i)
   joined_at v i m =
       let b = in_numbers 0 (length s.active) i m in
       let F = λ (j : ℕ). cond (waits_at s.active j) (of_rank 0 v (rank_in (comes_before s.active) ns.waiting j)) (ns.frozen_at j) in
-      numbers_get F 0 (length s.active) i (omega (arith, b.1)) ∙ ap F (omega arith)
+      numbers_get F 0 0 (length s.active) i (omega (arith, b.1)) ∙ ap F (omega arith)
 
   pub joined_frozen : (v : Schedule) (i : ℕ) → In i ns.frozen → second_of (joined s v) i ≡ ns.frozen_at i
   joined_frozen v i m =
       let w = in_filter (λ x. not (waits_at s.active x)) i (numbers_of s.active) m in
-      joined_at v i w.0 ∙ go (waits_at s.active i) w.1
-    where
-      go : (b : Bool) → not b ≡ true → cond b (of_rank 0 v (rank_in (comes_before s.active) ns.waiting i)) (ns.frozen_at i) ≡ ns.frozen_at i
-      go true e = absurd (false≢true e)
-      go false e = refl
+      joined_at v i w.0 ∙ rw (not-true (waits_at s.active i) w.1)
 
   pub joined_rank : (v : Schedule) (r : ℕ) → IsRank (length p.flights) r → second_of (joined s v) (at r) ≡ of_rank 0 v r
   joined_rank v r q =
       let w = in_filter (waits_at s.active) (at r) (numbers_of s.active) (in_waiting r q) in
-      joined_at v (at r) w.0 ∙ go (waits_at s.active (at r)) w.1 ∙ ap (of_rank 0 v) (rank_is ns (ranked p) (number_at s) (sound_numbered s sound) problem_of r q)
-    where
-      go : (b : Bool) → b ≡ true → cond b (of_rank 0 v (rank_in (comes_before s.active) ns.waiting (at r))) (ns.frozen_at (at r)) ≡ of_rank 0 v (rank_in (comes_before s.active) ns.waiting (at r))
-      go true e = refl
-      go false e = absurd (false≢true e)
+      joined_at v (at r) w.0 ∙ ap (λ b. cond b (of_rank 0 v (rank_in (comes_before s.active) ns.waiting (at r))) (ns.frozen_at (at r))) w.1
+      ∙ ap (of_rank 0 v) (rank_is ns (ranked p) (number_at s) (sound_numbered s sound) problem_of r q)
 
   -- a feasible list gives a feasible schedule
   pub list_gives_schedule : (v : Schedule) → lists'.IsFeasibleList p v → IsFeasible s (joined s v)
@@ -255,7 +223,7 @@ module _ (s : Situation) (sound : IsSound s) (p : lists'.Problem) (of : lists'.I
 
   by_rank_at : (t : Schedule) (r : ℕ) → IsRank (length p.flights) r → of_rank 0 (seconds_by_rank t) r ≡ second_of t (at r)
   by_rank_at t zero q = absurd (let a = q.0 in omega arith)
-  by_rank_at t (suc i) q = let b = q.1 in numbers_get (λ j. second_of t (at (suc j))) 0 (length p.flights) i (omega arith) ∙ ap (λ j. second_of t (at (suc j))) (omega arith)
+  by_rank_at t (suc i) q = let b = q.1 in numbers_get (λ j. second_of t (at (suc j))) 0 0 (length p.flights) i (omega arith) ∙ ap (λ j. second_of t (at (suc j))) (omega arith)
 
   list_equal : (xs ys : List ℕ) → length xs ≡ length ys → ((i : ℕ) → i < length xs → get_or xs i 0 ≡ get_or ys i 0) → xs ≡ ys
   list_equal [] [] e h = refl

@@ -1,14 +1,16 @@
 -- What the refusals are for: after an event that each of them turns away, the situation is not sound, whatever it was before.
 use Rattle.std.proofs.Common.{◌≡◌, ℕ, ◌+◌, ◌≤◌, inl, inr, Bool, true, false, not, ◌||◌, List, [], ◌∷◌, ◌++◌, length, Option, None, refl, sym, ap, subst, ◌∙◌, arith}
 use Rattle.std.specs.List.{list_any}
-use Rattle.std.proofs.lemmas.Bool.{false≢true, and_parts}
+use Rattle.std.proofs.lemmas.Bool.{false≢true, and_parts, or_right}
 use Rattle.landing_rules.specs.Flights.{Flight, Landing, Situation, Schedule, Span, is_waiting, waiting}
 use Rattle.landing_rules.specs.Rules.{is_within, is_shut, lists}
 use Rattle.landing_rules.specs.Events.{Add, Close, Clock, frozen_landings, newcomer, situation_after}
 use Rattle.landing_rules.specs.Sound.{IsSound}
-use Rattle.landing_joint.proofs.Members.{Member, filter_in, in_frozen, frozen_in, length_push}
+use Rattle.landing_joint.proofs.Members.{filter_in, in_frozen, frozen_in, length_push}
 use Rattle.landing_joint.proofs.SoundAgain.{kept}
 use Rattle.landing_joint.proofs.FlightSteps.{waiting_push}
+use Rattle.landing_rules.specs.shared.Counting.{Member}
+use Rattle.std.proofs.lemmas.List.Folds.{list_any-append}
 
 push_in : {X : Type 0} (xs : List X) (y x : X) → Member x xs → Member x (xs ++ y ∷ [])
 push_in [] y x m = absurd m
@@ -20,12 +22,7 @@ pushed [] y = inl refl
 pushed (z ∷ xs) y = inr (pushed xs y)
 
 any_last : (p : Span → Bool) (cs : List Span) (c : Span) → p c ≡ true → list_any p (cs ++ c ∷ []) ≡ true
-any_last p [] c e = ap (λ b. b || false) e
-any_last p (d ∷ cs) c e = go (p d) (any_last p cs c e)
-  where
-    go : (b : Bool) → list_any p (cs ++ c ∷ []) ≡ true → (b || list_any p (cs ++ c ∷ [])) ≡ true
-    go true e = refl
-    go false e = e
+any_last p cs c e = list_any-append p cs (c ∷ []) ∙ or_right (list_any p cs) (p c || false) (rw e)
 
 -- the 501st flight, the 61st that waits, the 33rd closure
 flight_501 : (s : Situation) (plan : Option Schedule) (f : Flight) → 500 ≤ length s.active → IsSound (situation_after s plan (Add f)) → ⊥

@@ -5,7 +5,9 @@ use Rattle.landing_rules.specs.Flights.{Active, Aerodrome, Landing, Situation, w
 use Rattle.landing_rules.specs.Rules.{is_open, lists, ArePairSeparated, IsPairInPrecedence}
 use Rattle.landing_rules.specs.Events.{frozen_landings}
 use Rattle.landing_rules.specs.Sound.{IsSound, IsGoodFlight, ListsNone}
-use Rattle.landing_joint.proofs.Members.{Member, Differ, callsigns, all_at, all_from, differ_pairs}
+use Rattle.landing_joint.proofs.Members.{Differ, callsigns, differ_pairs}
+use Rattle.landing_rules.specs.shared.Counting.{Member}
+use Rattle.landing_joint.specs.shared.Insertion.{all_at, all_from}
 
 -- what is asked of the frozen landings, one by one
 pub record FrozenKeep (s : Situation) : Type 0 where
@@ -17,11 +19,11 @@ pub record FrozenKeep (s : Situation) : Type 0 where
 
 pub kept : (s : Situation) → IsSound s → FrozenKeep s
 kept s h = record {
-  opened = λ f m. all_at (λ (f : Landing). IsTrue (is_open f.flight.windows s.closures f.second)) (frozen_landings s) f h.frozen_open m;
-  separated = λ f g m n. all_at (ArePairSeparated s.aerodrome.table f) (frozen_landings s) g (all_at (λ f. All (ArePairSeparated s.aerodrome.table f) (frozen_landings s)) (frozen_landings s) f h.frozen_separated m) n;
-  in_precedence = λ f g m n. all_at (IsPairInPrecedence f) (frozen_landings s) g (all_at (λ f. All (IsPairInPrecedence f) (frozen_landings s)) (frozen_landings s) f h.frozen_in_precedence m) n;
-  before = λ f m. all_at (λ (f : Landing). f.second < horizon s) (frozen_landings s) f h.frozen_before m;
-  alone = λ f a m n. all_at (λ (a : Active). lists f.flight a.flight.callsign ≡ false) (waiting s) a (all_at (ListsNone (waiting s)) (frozen_landings s) f h.frozen_alone m) n;
+  opened = λ f m. all_at (λ (f : Landing). IsTrue (is_open f.flight.windows s.closures f.second)) (frozen_landings s) h.frozen_open f m;
+  separated = λ f g m n. all_at (ArePairSeparated s.aerodrome.table f) (frozen_landings s) (all_at (λ f. All (ArePairSeparated s.aerodrome.table f) (frozen_landings s)) (frozen_landings s) h.frozen_separated f m) g n;
+  in_precedence = λ f g m n. all_at (IsPairInPrecedence f) (frozen_landings s) (all_at (λ f. All (IsPairInPrecedence f) (frozen_landings s)) (frozen_landings s) h.frozen_in_precedence f m) g n;
+  before = λ f m. all_at (λ (f : Landing). f.second < horizon s) (frozen_landings s) h.frozen_before f m;
+  alone = λ f a m n. all_at (λ (a : Active). lists f.flight a.flight.callsign ≡ false) (waiting s) (all_at (ListsNone (waiting s)) (frozen_landings s) h.frozen_alone f m) a n;
 }
 
 -- the rest of soundness, and the frozen landings
@@ -46,7 +48,7 @@ module _ (old new : Situation) (sound : IsSound old) (same : new.aerodrome ≡ o
   }
 
 pub each_of : (s : Situation) → IsSound s → (a : Active) → Member a s.active → IsGoodFlight a.flight × (a.passed ≤ s.aerodrome.k) × (s.aerodrome.carry ≡ false → a.passed ≡ 0)
-each_of s h a m = (all_at (λ (a : Active). IsGoodFlight a.flight) s.active a h.flights m, all_at (λ (a : Active). a.passed ≤ s.aerodrome.k) s.active a h.passed m, λ e. all_at (λ (a : Active). a.passed ≡ 0) s.active a (h.no_carry e) m)
+each_of s h a m = (all_at (λ (a : Active). IsGoodFlight a.flight) s.active h.flights a m, all_at (λ (a : Active). a.passed ≤ s.aerodrome.k) s.active h.passed a m, λ e. all_at (λ (a : Active). a.passed ≡ 0) s.active (h.no_carry e) a m)
 
 -- where each frozen landing was one before, and each waiting flight has the callsign of one before
 pub fewer_frozen : (old new : Situation) → IsSound old → new.aerodrome ≡ old.aerodrome → new.closures ≡ old.closures → horizon old ≤ horizon new →

@@ -1,5 +1,6 @@
 -- Lemmas that crates above cite too: lists by rank as maps, what is feasible, best and tight there, and first open seconds.
 pub mod FirstOpen
+pub mod Insertion
 pub mod RankedLists
 pub mod BestLists
 pub mod SortedBySeconds

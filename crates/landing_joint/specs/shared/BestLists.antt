@@ -10,9 +10,8 @@ use Rattle.landing_rules.specs.declared.objective.Objective.TheVariants.{Makespa
 use Rattle.landing_rules.specs.Flights.{Schedule}
 use Rattle.landing_rules.specs.Rules as rules
 use Rattle.landing_rules.specs.Problem as lists'
-use Rattle.cps_theory.specs.RankLists.{IsRank, upto}
+use Rattle.cps_theory.specs.RankLists.{IsRank, upto, of_rank}
 use Rattle.cps_theory.specs.Feasible.{IsBest, Tight, SameOrder, greatest, total}
-use Rattle.cps_theory.specs.RankLists.{of_rank}
 use Rattle.landing_joint.specs.RankedProblem.{no_waiting, ranked, cost_by, value_by, value_of_map, makespan_by}
 use Rattle.landing_joint.specs.shared.RankedLists.{list_feasible, feasible_list}
 use Rattle.cps_theory.specs.laws.ByRank.{ranks_permute}
@@ -33,7 +32,7 @@ total_sum : (f : ℕ → ℕ) (rs : List ℕ) → total f rs ≡ sum_by f rs
 total_sum f [] = refl
 total_sum f (r ∷ rs) = let a = sum_by-cons f r rs in let b = total_sum f rs in omega arith
 
-sum_map : {X : Type 0} (g : X → ℕ) (F : ℕ → X) (xs : List ℕ) → sum_by g (map F xs) ≡ sum_by (λ i. g (F i)) xs
+pub sum_map : {X : Type 0} (g : X → ℕ) (F : ℕ → X) (xs : List ℕ) → sum_by g (map F xs) ≡ sum_by (λ i. g (F i)) xs
 sum_map g F [] = refl
 sum_map g F (x ∷ xs) = let a = sum_by-cons g (F x) (map F xs) in let b = sum_by-cons (λ i. g (F i)) x xs in let c = sum_map g F xs in omega arith
 

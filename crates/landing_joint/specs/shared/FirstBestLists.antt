@@ -111,21 +111,21 @@ module _ (p : lists'.Problem) (sound : SoundProblem (ranked p)) where
 abbrev pub list_of : ℕ → (ℕ → ℕ) → Schedule
 list_of n t = map t (numbers_from 1 n)
 
-numbers_long : (t : ℕ → ℕ) (b n : ℕ) → length (map t (numbers_from b n)) ≡ n
+pub numbers_long : {X : Type 0} (t : ℕ → X) (b n : ℕ) → length (map t (numbers_from b n)) ≡ n
 numbers_long t b zero = refl
 numbers_long t b (suc n) = ap suc (numbers_long t (suc b) n)
 
-numbers_get : (t : ℕ → ℕ) (b n i : ℕ) → i < n → get_or (map t (numbers_from b n)) i 0 ≡ t (b + i)
-numbers_get t b zero i lt = absurd (omega arith)
-numbers_get t b (suc n) zero lt = ap t (omega arith)
-numbers_get t b (suc n) (suc i) lt = numbers_get t (suc b) n i (omega arith) ∙ ap t (omega arith)
+pub numbers_get : {X : Type 0} (t : ℕ → X) (d : X) (b n i : ℕ) → i < n → get_or (map t (numbers_from b n)) i d ≡ t (b + i)
+numbers_get t d b zero i lt = absurd (omega arith)
+numbers_get t d b (suc n) zero lt = ap t (omega arith)
+numbers_get t d b (suc n) (suc i) lt = numbers_get t d (suc b) n i (omega arith) ∙ ap t (omega arith)
 
 pub list_of_long : (n : ℕ) (t : ℕ → ℕ) → length (list_of n t) ≡ n
 list_of_long n t = numbers_long t 1 n
 
 pub list_of_at : (n : ℕ) (t : ℕ → ℕ) (r : ℕ) → IsRank n r → of_rank 0 (list_of n t) r ≡ t r
 list_of_at n t zero q = absurd (let a = q.0 in omega arith)
-list_of_at n t (suc i) q = let a = q.1 in numbers_get t 1 n i (omega arith) ∙ ap t (omega arith)
+list_of_at n t (suc i) q = let a = q.1 in numbers_get t 0 1 n i (omega arith) ∙ ap t (omega arith)
 
 greatest_agree : (n : ℕ) (t u : ℕ → ℕ) → ((r : ℕ) → IsRank n r → t r ≡ u r) → greatest t n ≡ greatest u n
 greatest_agree zero t u h = refl

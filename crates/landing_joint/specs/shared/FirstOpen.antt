@@ -54,19 +54,17 @@ right_low (Some y) (Some z) x e = (min y z, refl, (let s : z ≡ x = cc in omega
 
 pub first_open_found : (ws : List Span) (t u : ℕ) → first_open ws t ≡ Some u → (list_any (is_within u) ws ≡ true) × (t ≤ u)
 first_open_found [] t u e = cc
-first_open_found (w ∷ ws) t u e = go (one_of (first_in_span w t) (first_open ws t) u e) (first_open_found ws t u)
-  where
-    go : (first_in_span w t ≡ Some u) ⊎ (first_open ws t ≡ Some u) → (first_open ws t ≡ Some u → (list_any (is_within u) ws ≡ true) × (t ≤ u)) → (list_any (is_within u) (w ∷ ws) ≡ true) × (t ≤ u)
-    go (inl a) ih = let f = span_found w t u a in (or_left (is_within u w) (list_any (is_within u) ws) f.0, f.1)
-    go (inr b) ih = let f = ih b in (or_right (is_within u w) (list_any (is_within u) ws) f.0, f.1)
+first_open_found (w ∷ ws) t u e = elim (one_of (first_in_span w t) (first_open ws t) u e) [
+  | inl a ↦ (let f = span_found w t u a in (or_left (is_within u w) (list_any (is_within u) ws) f.0, f.1))
+  | inr b ↦ (let f = first_open_found ws t u b in (or_right (is_within u w) (list_any (is_within u) ws) f.0, f.1))
+]
 
 pub first_open_least : (ws : List Span) (t v : ℕ) → list_any (is_within v) ws ≡ true → t ≤ v → (u : ℕ) × (first_open ws t ≡ Some u) × (u ≤ v)
 first_open_least [] t v e le = absurd (false≢true e)
-first_open_least (w ∷ ws) t v e le = go (or_cases (is_within v w) (list_any (is_within v) ws) e) (λ o. first_open_least ws t v o le)
-  where
-    go : (is_within v w ≡ true) ⊎ (list_any (is_within v) ws ≡ true) → (list_any (is_within v) ws ≡ true → (u : ℕ) × (first_open ws t ≡ Some u) × (u ≤ v)) → (u : ℕ) × (first_open (w ∷ ws) t ≡ Some u) × (u ≤ v)
-    go (inl a) ih = let s = span_least w t v a le in let l = left_low (first_in_span w t) (first_open ws t) s.0 s.1 in (l.0, l.1, (let x = s.2 in let y = l.2 in omega arith))
-    go (inr b) ih = let s = ih b in let l = right_low (first_in_span w t) (first_open ws t) s.0 s.1 in (l.0, l.1, (let x = s.2 in let y = l.2 in omega arith))
+first_open_least (w ∷ ws) t v e le = elim (or_cases (is_within v w) (list_any (is_within v) ws) e) [
+  | inl a ↦ (let s = span_least w t v a le in let l = left_low (first_in_span w t) (first_open ws t) s.0 s.1 in (l.0, l.1, (let x = s.2 in let y = l.2 in omega arith)))
+  | inr b ↦ (let s = first_open_least ws t v b le in let l = right_low (first_in_span w t) (first_open ws t) s.0 s.1 in (l.0, l.1, (let x = s.2 in let y = l.2 in omega arith)))
+]
 
 -- it is the only such answer
 pub first_open_none : (ws : List Span) (t : ℕ) → ((u : ℕ) → t ≤ u → list_any (is_within u) ws ≡ false) → None ≡ first_open ws t

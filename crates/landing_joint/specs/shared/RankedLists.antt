@@ -10,9 +10,8 @@ use Rattle.precedence.specs.Pairs.{must_precede}
 use Rattle.landing_rules.specs.Flights.{Schedule}
 use Rattle.landing_rules.specs.Rules.{is_within}
 use Rattle.landing_rules.specs.Problem as lists'
-use Rattle.cps_theory.specs.RankLists.{IsRank, upto}
+use Rattle.cps_theory.specs.RankLists.{IsRank, upto, of_rank}
 use Rattle.cps_theory.specs.Feasible.{RankedProblem, earlier, Feasible, SoundProblem}
-use Rattle.cps_theory.specs.RankLists.{of_rank}
 use Rattle.landing_joint.specs.RankedProblem.{no_waiting, after_last, ranked}
 use Rattle.cps_theory.specs.laws.ByRank.{ranks_permute}
 use Rattle.cps_theory.specs.laws.NumberedLists.{count_by_map, count_by_agree}

@@ -1,48 +1,33 @@
 -- Numbers sorted by their seconds: the same numbers, each landing before those behind it.
-use Rattle.std.proofs.Common.{◌≡◌, ◌≢◌, ℕ, ◌<◌, ◌⊎◌, inl, inr, List, [], ◌∷◌, map, filter, cond, Bool, true, false, nat_lt, arith, refl, sym, ap, ap₂, subst}
-use Rattle.std.proofs.lemmas.Bool.{ltb-true, ltb-false}
+use Rattle.std.proofs.Common.{◌≡◌, ◌≢◌, ℕ, ◌<◌, ◌⊎◌, inl, inr, List, [], ◌∷◌, map, filter, Bool, nat_lt, arith, refl, sym, ap, ap₂, subst}
+use Rattle.std.proofs.lemmas.Bool.{cases_Bool, cases_lt, lt-ltb, le-ltb}
 use Rattle.landing_rules.specs.FirstBest.{insert_by, sorted_by}
 use Rattle.cps_theory.specs.RankLists.{In, Distinct}
 use Rattle.cps_theory.specs.FirstBest.{Ascends}
+use Rattle.landing_joint.specs.shared.Insertion.{insert_moves, sort_moves, in_moved}
+use Rattle.std.specs.Prelude.{IsPermutation}
+use Rattle.std.proofs.lemmas.List.Sorted.{IsPermutation-sym}
+use Rattle.cps_theory.specs.laws.Members.{in_filter}
 
-pub in_inserted : (t : ℕ → ℕ) (r x : ℕ) (rs : List ℕ) → In x (insert_by t r rs) → (x ≡ r) ⊎ In x rs
-in_inserted t r x [] m = m
-in_inserted t r x (q ∷ rs) m = go (nat_lt (t q) (t r)) m (in_inserted t r x rs)
-  where
-    go : (b : Bool) → In x (cond b (q ∷ insert_by t r rs) (r ∷ q ∷ rs)) → (In x (insert_by t r rs) → (x ≡ r) ⊎ In x rs) → (x ≡ r) ⊎ ((x ≡ q) ⊎ In x rs)
-    go true (inl e) ih = inr (inl e)
-    go true (inr k) ih = elim (ih k) [ inl e ↦ inl e | inr l ↦ inr (inr l) ]
-    go false m ih = m
+in_inserted : (t : ℕ → ℕ) (r x : ℕ) (rs : List ℕ) → In x (insert_by t r rs) → (x ≡ r) ⊎ In x rs
+in_inserted t r x rs = in_moved (r ∷ rs) (insert_by t r rs) (IsPermutation-sym _ _ (insert_moves (λ y z. nat_lt (t y) (t z)) (insert_by t) (λ y. refl) (λ y z zs. refl) r rs)) x
 
-pub inserted_in : (t : ℕ → ℕ) (r x : ℕ) (rs : List ℕ) → (x ≡ r) ⊎ In x rs → In x (insert_by t r rs)
-inserted_in t r x [] m = m
-inserted_in t r x (q ∷ rs) m = go (nat_lt (t q) (t r)) m (inserted_in t r x rs)
-  where
-    go : (b : Bool) → (x ≡ r) ⊎ ((x ≡ q) ⊎ In x rs) → ((x ≡ r) ⊎ In x rs → In x (insert_by t r rs)) → In x (cond b (q ∷ insert_by t r rs) (r ∷ q ∷ rs))
-    go true (inl e) ih = inr (ih (inl e))
-    go true (inr (inl e)) ih = inl e
-    go true (inr (inr k)) ih = inr (ih (inr k))
-    go false m ih = m
+sorted_by_moves : (t : ℕ → ℕ) (rs : List ℕ) → IsPermutation (sorted_by t rs) rs
+sorted_by_moves t = sort_moves (λ y z. nat_lt (t y) (t z)) (insert_by t) (λ y. refl) (λ y z zs. refl) (sorted_by t) refl (λ y ys. refl)
 
 -- sorting keeps the members
 pub in_sorted_by : (t : ℕ → ℕ) (x : ℕ) (rs : List ℕ) → In x (sorted_by t rs) → In x rs
-in_sorted_by t x [] m = m
-in_sorted_by t x (r ∷ rs) m = elim (in_inserted t r x (sorted_by t rs) m) [ inl e ↦ inl e | inr k ↦ inr (in_sorted_by t x rs k) ]
+in_sorted_by t x rs = in_moved rs (sorted_by t rs) (IsPermutation-sym _ _ (sorted_by_moves t rs)) x
 
 pub sorted_by_in : (t : ℕ → ℕ) (x : ℕ) (rs : List ℕ) → In x rs → In x (sorted_by t rs)
-sorted_by_in t x [] m = m
-sorted_by_in t x (r ∷ rs) (inl e) = inserted_in t r x (sorted_by t rs) (inl e)
-sorted_by_in t x (r ∷ rs) (inr k) = inserted_in t r x (sorted_by t rs) (inr (sorted_by_in t x rs k))
+sorted_by_in t x rs = in_moved (sorted_by t rs) rs (sorted_by_moves t rs) x
 
 ascends_inserted : (t : ℕ → ℕ) (r : ℕ) (rs : List ℕ) → Ascends t rs → ((q : ℕ) → In q rs → t q ≢ t r) → Ascends t (insert_by t r rs)
 ascends_inserted t r [] a ne = (λ y i. absurd i, tt)
-ascends_inserted t r (q ∷ rs) a ne = go (nat_lt (t q) (t r)) refl (ascends_inserted t r rs a.1 (λ x i. ne x (inr i)))
-  where
-    go : (b : Bool) → nat_lt (t q) (t r) ≡ b → Ascends t (insert_by t r rs) → Ascends t (cond b (q ∷ insert_by t r rs) (r ∷ q ∷ rs))
-    go true e ih = (λ y i. elim (in_inserted t r y rs i) [ inl s ↦ subst (λ z. t q < t z) (sym s) (ltb-true (t q) (t r) e) | inr k ↦ a.0 y k ], ih)
-    go false e ih =
-        let lt : t r < t q = let x = ltb-false (t q) (t r) e in let n = ne q (inl refl) in omega arith in
-        (λ y i. elim i [ inl s ↦ subst (λ z. t r < t z) (sym s) lt | inr k ↦ (let x = a.0 y k in omega arith) ], a)
+ascends_inserted t r (q ∷ rs) a ne = elim (cases_lt (t q) (t r)) [
+  | inl lt ↦ rw (lt-ltb (t q) (t r) lt) (λ y i. elim (in_inserted t r y rs i) [ inl s ↦ rw s lt | inr k ↦ a.0 y k ], ascends_inserted t r rs a.1 (λ x i. ne x (inr i)))
+  | inr le ↦ rw (le-ltb (t q) (t r) le) (let n = ne q (inl refl) in λ y i. elim i [ inl s ↦ rw s (omega arith) | inr k ↦ (let x = a.0 y k in omega arith) ], a)
+]
 
 -- where no two land at one second, each lands before those behind it
 pub sorted_by_ascends : (t : ℕ → ℕ) (rs : List ℕ) → Distinct rs → ((q r : ℕ) → In q rs → In r rs → q ≢ r → t q ≢ t r) → Ascends t (sorted_by t rs)
@@ -54,20 +39,7 @@ sorted_by_ascends t (r ∷ rs) d ne =
 -- some of an ascending list ascend
 pub filter_ascends : (t : ℕ → ℕ) (p : ℕ → Bool) (rs : List ℕ) → Ascends t rs → Ascends t (filter p rs)
 filter_ascends t p [] a = tt
-filter_ascends t p (r ∷ rs) a = go (p r) (filter_ascends t p rs a.1)
-  where
-    kept : (y : ℕ) (xs : List ℕ) → In y (filter p xs) → In y xs
-    kept y [] i = i
-    kept y (x ∷ xs) i = by (p x) i (kept y xs)
-      where
-        by : (b : Bool) → In y (cond b (x ∷ filter p xs) (filter p xs)) → (In y (filter p xs) → In y xs) → (y ≡ x) ⊎ In y xs
-        by true (inl e) ih = inl e
-        by true (inr k) ih = inr (ih k)
-        by false k ih = inr (ih k)
-
-    go : (b : Bool) → Ascends t (filter p rs) → Ascends t (cond b (r ∷ filter p rs) (filter p rs))
-    go true ih = (λ y i. a.0 y (kept y rs i), ih)
-    go false ih = ih
+filter_ascends t p (r ∷ rs) a = let h = filter_ascends t p rs a.1 in elim (cases_Bool (p r)) [ inl e ↦ rw e (λ y i. a.0 y (in_filter p y rs i).0, h) | inr e ↦ rw e h ]
 
 pub in_map : (f : ℕ → ℕ) (y : ℕ) (rs : List ℕ) → In y (map f rs) → (x : ℕ) × In x rs × (f x ≡ y)
 in_map f y [] m = absurd m
