@@ -10,8 +10,9 @@ ghost use Rattle.cps_network.specs.Permits.{IsPermitted, IsSuccessor, IsNextOf, 
 
 use crate::permit::{due_set, most_shift, none_passed, none_waits, successor};
 use crate::runs::Runs;
+use crate::source_range::first_source;
 use crate::stage::Stage;
-use cps_nodes::{Window, window_laws};
+use cps_nodes::{ExtendableWindow, Window, window_laws};
 use cps_problem::Problem;
 use std::alloc::{AllocError, Global};
 
@@ -19,7 +20,7 @@ use std::alloc::{AllocError, Global};
 fn add_permitted<const W: usize>(
     alloc: Global,
     problem: &Problem,
-    window: &Window<W>,
+    window: &ExtendableWindow<W>,
     stage: u8,
     rank: u8,
     due: u64,
@@ -62,8 +63,9 @@ fn add_successors<const W: usize>(
     let n = problem.len();
     let first = (stage + 1).saturating_sub(k).max(1);
     let end = (stage + 1 + k).min(n) + 1;
+    let extendable = window.extendable();
     for rank in first..end {
-        add_permitted(alloc, problem, window, stage, rank, due, runs)?;
+        add_permitted(alloc, problem, &extendable, stage, rank, due, runs)?;
     }
     Ok(())
 }
@@ -120,19 +122,24 @@ fn next_windows<const W: usize>(
     Ok(after)
 }
 
-// Where the windows that lead to each are likely to begin, for all at once: one cursor for each first offset.
+// Where the windows that lead to each are likely to begin, for all at once: one cursor for each first offset, which starts
+// where the first such windows begin.
 fn begins<const W: usize>(
     alloc: Global,
     before: &[Window<W>],
     after: &[Window<W>],
 ) -> Result<Vec<u32>, AllocError>
-    requires { IsWidth W }
+    requires width { IsWidth W }
+    requires ascending { IsAscending before.now }
 {
     let mut cursors = [0usize; 8];
     let mut begins = Vec::with_capacity(alloc, after.len())?;
     for node in after {
         let run = node.offset(0).rem_euclid(8) as usize;
         let mut place = cursors[run];
+        if place == 0 {
+            place = first_source(before, node);
+        }
         while place < before.len() && before[place].is_below(node) {
             place += 1;
         }

@@ -11,7 +11,7 @@ ghost use Rattle.cps_theory.specs.LegalPrefix.{IsLegalPrefix};
 ghost use Rattle.landing_joint.specs.RankedProblem.{ranked};
 
 use crate::laws::prefix_laws;
-use cps_nodes::Window;
+use cps_nodes::{ExtendableWindow, Window};
 use cps_problem::Problem;
 
 // The most places by which a flight may leave its first-come place.
@@ -115,7 +115,7 @@ fn is_in_time(problem: &Problem, landed: u8, rank: u8) -> bool
 // The window after a landing of a rank that is at most k from the next place, where it is permitted.
 pub fn successor<const W: usize>(
     problem: &Problem,
-    window: &Window<W>,
+    window: &ExtendableWindow<W>,
     stage: u8,
     rank: u8,
     due: u64,
@@ -130,14 +130,14 @@ pub fn successor<const W: usize>(
         (shifted window.now (offset_after stage rank)) }
 {
     let _near = problem.head();
-    let next = window.extend(offset_of(stage, rank));
+    let next = window.extend(offset_of(stage, rank))?;
     if !is_in_time(problem, stage, rank) {
         return None;
     }
-    if !follows_its_predecessors(problem, window, stage, rank, due) {
+    if !follows_its_predecessors(problem, window.window(), stage, rank, due) {
         return None;
     }
-    next
+    Some(next)
 }
 
 // Whether a rank is permitted after a window of a stage.
@@ -154,7 +154,7 @@ fn permits<const W: usize>(problem: &Problem, window: &Window<W>, stage: u8, ran
     if rank > stage + 1 + k || stage + 1 > rank + k {
         return false;
     }
-    successor(problem, window, stage, rank, due_set(stage, k)).is_some()
+    successor(problem, &window.extendable(), stage, rank, due_set(stage, k)).is_some()
 }
 
 /// Whether a rank is permitted after a window of a stage. To be permitted step by step is to be legal as a whole: for every

@@ -10,7 +10,7 @@ use crate::stage::Stage;
 use cps_nodes::{Window, window_laws};
 
 // The first place whose window's tail is not below the node's head.
-fn first_source<const W: usize>(before: &[Window<W>], node: &Window<W>) -> usize
+pub(crate) fn first_source<const W: usize>(before: &[Window<W>], node: &Window<W>) -> usize
     requires width { IsWidth W }
     requires ascending { IsAscending before.now }
     ensures within { result ≤ length before.now }

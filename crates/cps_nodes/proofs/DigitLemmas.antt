@@ -1,6 +1,6 @@
 -- Offsets as digits of numbers: the tail and the head of a window, its order, and one landing more.
 use Rattle.std.proofs.Common.{◌≡◌, ℕ, zero, suc, ◌+◌, ◌-◌, ◌*◌, ◌/◌, ◌%◌, ◌^◌, ◌<◌, ◌≤◌, List, [], ◌∷◌, ◌++◌, drop, take, replicate, refl, ap, ap₂, sym, subst, ◌∙◌, arith, mul-le-mul_right, suc-mul, shr-shr, mod-lt, pow_pos, mod-eq_of_lt, pow-add}
-use Rattle.std.specs.Prelude.{ℤ, pos, ◌-ℤ◌, ◌<ℤ◌, ◌==◌}
+use Rattle.std.specs.Prelude.{ℤ, pos, negsuc, nat_abs, ◌-ℤ◌, ◌<ℤ◌, ◌≤ℤ◌, ◌==◌}
 use Rattle.std.proofs.lemmas.Int.{ints}
 use Rattle.std.proofs.lemmas.Nat.{field_of, shr_below}
 use Rattle.std.proofs.Math.Pow.{mod-mod-pow}
@@ -116,6 +116,11 @@ offset_at-offsets_of (suc width) number (suc i) lt =
     offset_at-offsets_of width number i (omega arith) ∙ ap (digit_offset number) (omega arith)
 
 -- ---- one landing more
+
+-- an integer from 0 on, as its digit or its bit is computed
+pub abs_is : (z : ℤ) → pos 0 ≤ℤ z → pos (nat_abs z) ≡ z
+abs_is (pos n) low = refl
+abs_is (negsuc n) low = absurd (omega (arith, ints, low))
 
 pub shifted-offsets_of : (width number digit : ℕ) → 0 < width → digit < 16
     → offsets_of width (number % 2 ^ (4 * (width - 1)) * 16 + digit) ≡ shifted (offsets_of width number) (pos digit -ℤ pos 8)

@@ -7,3 +7,4 @@ pub mod LeadsLemmas
 pub mod LawLemmas
 pub mod DigitLemmas
 pub mod DigitTests
+pub mod HeldLemmas

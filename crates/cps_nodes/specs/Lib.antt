@@ -5,3 +5,4 @@ pub mod Ranks
 pub mod Leads
 pub mod Laws
 pub mod Digits
+pub mod Held

@@ -8,7 +8,7 @@ mod order;
 mod window;
 
 pub use laws::window_laws;
-pub use window::Window;
+pub use window::{ExtendableWindow, Window};
 
 #[cfg(test)]
 mod tests;

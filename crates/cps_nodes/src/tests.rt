@@ -4,7 +4,7 @@ fn extended(window: Option<Window<3>>, offset: i8) -> Option<Window<3>> {
     if offset < -1 || offset > 1 {
         return None;
     }
-    window?.extend(offset)
+    window?.extendable().extend(offset)
 }
 
 #[test]

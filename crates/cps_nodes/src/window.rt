@@ -4,6 +4,7 @@ ghost use Rattle.std.specs.Prelude.{◌≡◌, ℕ, ℤ, pos, ◌+◌, ◌-◌, 
 ghost use Rattle.std.specs.Ordering.{int_eq};
 ghost use Rattle.std.specs.Cmp.Lexicographic.{pointwise};
 ghost use Rattle.cps_nodes.specs.Digits.{digit_offset, offsets_of, order_key};
+ghost use Rattle.cps_nodes.specs.Held.{AreHeld};
 ghost use Rattle.cps_nodes.specs.Leads.{Extends, IsBelow, GoOnAlike, TailMeetsHead};
 ghost use Rattle.cps_nodes.specs.Ranks.{KeepsShift, HasLanded, window_of};
 ghost use Rattle.cps_nodes.specs.WindowOrder.{window_cmp};
@@ -35,6 +36,25 @@ impl<const W: usize> Model for Window<W> {
     ghost inverse = { λ xs. record { digits = number_of xs } };
 
     ghost inverse_ok = { λ w h i. record { digits = number-IsPacked W w.digits h i } };
+}
+
+/// A window that is to be extended: the ranks that it holds are at hand, found once for all offsets that are tried.
+#[derive(Drop)]
+pub struct ExtendableWindow<const W: usize> {
+    window: Window<W>,
+    // The ranks that some place holds, counted from the place of the first offset: bit 8 + r for rank r.
+    held: u32,
+}
+
+impl<const W: usize> Model for ExtendableWindow<W> {
+    ghost use Rattle.std.specs.Prelude.{List, ℤ};
+    ghost use Rattle.cps_nodes.specs.Held.{AreHeld};
+
+    ghost Value = { List ℤ };
+
+    ghost view = { λ w. w.window };
+
+    ghost invariant = { λ w. AreHeld w.window w.held };
 }
 
 // What digit i of a number counts, the lowest digit being digit 0.
@@ -99,6 +119,57 @@ fn holds_rank<const W: usize>(digits: u32, rank: i8) -> bool
     false
 }
 
+// The bit that stands for a rank in a set of the ranks that a window holds.
+#[inline]
+fn bit_of(rank: i8) -> u32
+    requires low { pos 0 ≤ℤ (rank +ℤ pos 8) }
+    requires high { rank ≤ℤ pos 23 }
+    ensures few { result < 32 }
+    ensures bit { pos result ≡ rank +ℤ pos 8 }
+{
+    (rank + 8) as u32
+}
+
+// The ranks that the places hold, as bits. Ranks are counted from the place of the first offset.
+#[inline]
+fn held_ranks<const W: usize>(digits: u32) -> u32
+    requires { W < 8 }
+    ensures { AreHeld (offsets_of W digits) result }
+{
+    let mut held = 0;
+    for i in 0..W {
+        held |= 1 << bit_of(i as i8 + digit_offset(digits, W - 1 - i));
+    }
+    held
+}
+
+// Whether a set of the ranks that a window holds has a rank.
+#[inline]
+fn has_rank(held: u32, rank: i8) -> bool
+    requires low { pos 0 ≤ℤ (rank +ℤ pos 8) }
+    requires high { rank ≤ℤ pos 23 }
+    ensures { (xs : List ℤ) → AreHeld xs held → (IsTrue result ↔ HoldsRank xs rank) }
+{
+    (held >> bit_of(rank)) & 1 == 1
+}
+
+// Whether a window with these ranks holds, after one more landing, the rank that is then due: it lands now, at offset -k,
+// or stands in the window.
+#[inline]
+fn will_hold_due<const W: usize>(held: u32, offset: i8) -> bool
+    requires width { IsWidth W }
+    requires low { pos 0 ≤ℤ (offset +ℤ pos (W / 2)) }
+    requires high { offset ≤ℤ pos (W / 2) }
+    ensures { (xs : List ℤ) → IsWindow W xs → AreHeld xs held
+        → (IsTrue result ↔ HoldsRank (shifted xs offset) (pos (W / 2))) }
+{
+    let k = (W / 2) as i8;
+    if offset + k == 0 {
+        return true;
+    }
+    has_rank(held, k + 1)
+}
+
 impl<const W: usize> Window<W> {
     /// The window before the first landing: W zeros.
     pub fn source() -> Window<W>
@@ -111,29 +182,15 @@ impl<const W: usize> Window<W> {
         }
     }
 
-    /// The window after one more landing, at this offset from -k to k. `None` exactly where the flight stands in this
-    /// window already, or the flight that is due, of the rank k below the new place, is not in the new window.
-    pub fn extend(&self, offset: i8) -> Option<Window<W>>
-        requires low { pos 0 ≤ℤ (offset +ℤ pos (W / 2)) }
-        requires high { offset ≤ℤ pos (W / 2) }
-        ensures valid { IsWindow W self.now }
-        ensures next { SomeIff result (Accepts self.now offset) (shifted self.now offset) }
-        ensures next_valid { IfSome result (λ next. IsWindow W next) }
-
-        // For every list of ranks with this window: it goes on by a rank exactly where the rank's offset is accepted.
-        ensures ranks { (ranks : List ℕ) → (rank : ℕ) → KeepsShift (W / 2) ranks
-            → self.now ≡ window_of W ranks → offset ≡ pos rank -ℤ pos (length ranks + 1)
-            → SomeIff result (KeepsShift (W / 2) (ranks ++ rank ∷ []))
-            (window_of W (ranks ++ rank ∷ [])) }
+    /// The same window, to be extended.
+    #[inline]
+    pub fn extendable(&self) -> ExtendableWindow<W>
+        ensures { result ≡ self.now }
     {
-        if holds_rank::<W>(self.digits, W as i8 + offset) {
-            return None;
+        ExtendableWindow {
+            window: *self,
+            held: held_ranks::<W>(self.digits),
         }
-        let digits = shift::<W>(self.digits, offset);
-        if !holds_rank::<W>(digits, (W / 2) as i8) {
-            return None;
-        }
-        Some(Window { digits })
     }
 
     /// The offset at place i of the window, counted from 0.
@@ -221,5 +278,43 @@ impl<const W: usize> Window<W> {
         ensures { result ≡ window_cmp self.now other.now }
     {
         order_key::<W>(self.digits).cmp(&order_key::<W>(other.digits))
+    }
+}
+
+impl<const W: usize> ExtendableWindow<W> {
+    /// The window itself.
+    #[inline]
+    pub fn window(&self) -> &Window<W>
+        ensures { result.now ≡ self.now }
+    {
+        &self.window
+    }
+
+    /// The window after one more landing, at this offset from -k to k. `None` exactly where the flight stands in this
+    /// window already, or the flight that is due, of the rank k below the new place, is not in the new window.
+    #[inline]
+    pub fn extend(&self, offset: i8) -> Option<Window<W>>
+        requires low { pos 0 ≤ℤ (offset +ℤ pos (W / 2)) }
+        requires high { offset ≤ℤ pos (W / 2) }
+        ensures valid { IsWindow W self.now }
+        ensures next { SomeIff result (Accepts self.now offset) (shifted self.now offset) }
+        ensures next_valid { IfSome result (λ next. IsWindow W next) }
+
+        // For every list of ranks with this window: it goes on by a rank exactly where the rank's offset is accepted.
+        ensures ranks { (ranks : List ℕ) → (rank : ℕ) → KeepsShift (W / 2) ranks
+            → self.now ≡ window_of W ranks → offset ≡ pos rank -ℤ pos (length ranks + 1)
+            → SomeIff result (KeepsShift (W / 2) (ranks ++ rank ∷ []))
+            (window_of W (ranks ++ rank ∷ [])) }
+    {
+        let window = self.window;
+        let digits = window.digits;
+        if has_rank(self.held, W as i8 + offset) {
+            return None;
+        }
+        if !will_hold_due::<W>(self.held, offset) {
+            return None;
+        }
+        let digits = shift::<W>(digits, offset);
+        Some(Window { digits })
     }
 }

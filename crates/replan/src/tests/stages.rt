@@ -18,7 +18,7 @@ fn the_first_stage_has_the_source_alone(rt: HostRuntime) -> Result<(), Fail> {
         (0, 1, false)
     );
     assert_eq!(rt; last_rank(&stage.node(0), stage.number()), 0);
-    if let Some(next) = stage.node(0).extend(1) {
+    if let Some(next) = stage.node(0).extendable().extend(1) {
         assert_eq!(rt; sources(&stage, &next), (0, 1));
     }
     assert_eq!(rt; stage.sources(&stage, 0), (0, 1));

@@ -1,14 +1,10 @@
-use Rattle.std.proofs.Common.{◌≡◌, ℕ, ◌*◌, ◌+◌, ◌<◌, ◌≤◌, ◌^◌, ◌∙◌, refl, ap, arith, pow_mono, w8, to_z, of_z}
-use Rattle.std.specs.Prelude.{ℤ, pos, negsuc, nat_abs, ◌+ℤ◌, ◌-ℤ◌, ◌≤ℤ◌}
+use Rattle.std.proofs.Common.{◌≡◌, ℕ, ◌*◌, ◌+◌, ◌<◌, ◌≤◌, ◌^◌, ◌∙◌, ap, arith, pow_mono, w8, to_z, of_z}
+use Rattle.std.specs.Prelude.{ℤ, pos, nat_abs, ◌+ℤ◌, ◌-ℤ◌}
 use Rattle.std.proofs.lemmas.Int.{ints}
 use Rattle.cps_nodes.specs.Digits.{offsets_of}
 use Rattle.cps_nodes.specs.Windows.{shifted}
-use Rattle.cps_nodes.proofs.DigitLemmas.{shifted-offsets_of, shifted_lt}
+use Rattle.cps_nodes.proofs.DigitLemmas.{abs_is, shifted-offsets_of, shifted_lt}
 use Rattle.cps_nodes.proofs.window.shift.Goals as goal
-
-abs_is : (z : ℤ) → pos 0 ≤ℤ z → pos (nat_abs z) ≡ z
-abs_is (pos n) low = refl
-abs_is (negsuc n) low = absurd (omega (arith, ints, low))
 
 -- the last digit, as the code computes it
 abbrev digit : ℤ → ℕ

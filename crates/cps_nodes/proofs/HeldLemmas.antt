@@ -1,0 +1,95 @@
+-- The ranks that a window holds, as bits, and which flight is due after one landing more.
+use Rattle.std.proofs.Common.{◌≡◌, ℕ, ◌+◌, ◌-◌, ◌*◌, ◌/◌, ◌%◌, ◌^◌, ◌<◌, List, length, arith, ◌∙◌, sym, ap, inl, inr, subst, zero, suc}
+use Rattle.std.specs.Prelude.{Bool, IsTrue, ◌↔◌, ◌⊎◌, ℤ, pos, ◌+ℤ◌, ◌-ℤ◌, ◌≤ℤ◌, bit_or}
+use Rattle.std.specs.Int.{bit_at, w32}
+use Rattle.std.proofs.lemmas.Bool.{cases_eq}
+use Rattle.std.proofs.lemmas.Bool.Decides.{nat_tests}
+use Rattle.std.proofs.lemmas.Int.{ints}
+use Rattle.std.proofs.lemmas.Nat.Bits.{bit_at_set_same, bit_at_set_other, bit_at-zero}
+use Rattle.cps_nodes.specs.Windows.{IsWindow, HoldsRank, offset_at, shifted}
+use Rattle.cps_nodes.specs.Held.{AreHeld}
+use Rattle.cps_nodes.proofs.WindowLemmas.{offset_at-shifted_below, offset_at-shifted_last, length-shifted}
+
+-- bit 8 + r is set exactly where one of the first places holds rank r
+abbrev pub AreHeldUpto : List ℤ → ℕ → ℕ → Type 0
+AreHeldUpto xs n bits = (i : ℕ) → (bit_at bits i ≡ 1) ↔ ((j : ℕ) × (j < n) × (pos j +ℤ offset_at xs j ≡ pos i -ℤ pos 8))
+
+pub none_held : (xs : List ℤ) → AreHeldUpto xs 0 0
+none_held xs i = (
+  λ has. let z : bit_at 0 i ≡ 0 = bit_at-zero i in absurd (omega (arith, has, z)),
+  λ (j, lt, e). absurd (omega (arith, lt)),
+)
+
+last_or_before : (i n : ℕ) → i < n + 1 → (i ≡ n) ⊎ (i < n)
+last_or_before i n h = grind (arith, nat_tests)
+
+-- one place more
+pub held_more : (xs : List ℤ) (n bits at : ℕ) → at < 32 → pos at ≡ pos n +ℤ offset_at xs n +ℤ pos 8
+    → AreHeldUpto xs n bits → AreHeldUpto xs (n + 1) (bit_or bits (1 * 2 ^ at % 2 ^ 32))
+held_more xs n bits at few here are i = elim (cases_eq i at) [
+  | inl same ↦ (
+    λ _. (n, omega arith, omega (arith, ints, same, here)),
+    λ _. subst (λ (m : ℕ). bit_at (bit_or bits (1 * 2 ^ at % 2 ^ 32)) m ≡ 1) (sym same) (bit_at_set_same w32 bits at few),
+  )
+  | inr other ↦
+      let kept : bit_at (bit_or bits (1 * 2 ^ at % 2 ^ 32)) i ≡ bit_at bits i = bit_at_set_other w32 bits at few i other in (
+        λ has.
+            let old = (are i).0 (sym kept ∙ has) in
+            (old.0, omega (arith, old.1), old.2),
+        λ (j, lt, e). kept ∙ elim (last_or_before j n lt) [
+          | inl last ↦
+              let last_holds : pos n +ℤ offset_at xs n ≡ pos i -ℤ pos 8 = subst (λ (m : ℕ). pos m +ℤ offset_at xs m ≡ pos i -ℤ pos 8) last e in
+              absurd (other (omega (arith, ints, last_holds, here)))
+          | inr before ↦ (are i).1 (j, before, e)
+        ],
+      )
+]
+
+-- at the last place all is told
+pub held_all : (xs : List ℤ) (n bits : ℕ) → n ≡ length xs → AreHeldUpto xs n bits → AreHeld xs bits
+held_all xs n bits e are = subst (λ (m : ℕ). AreHeldUpto xs m bits) e are
+
+-- what the test of a bit says of the rank that it stands for
+pub held_tested : (b : Bool) (xs : List ℤ) (bits at : ℕ) (rank : ℤ) → (IsTrue b ↔ (bit_at bits at ≡ 1)) → pos at ≡ rank +ℤ pos 8
+    → AreHeld xs bits → IsTrue b ↔ HoldsRank xs rank
+held_tested b xs bits at rank test is are =
+    let same : (pos at -ℤ pos 8) ≡ rank = omega (arith, ints, is) in
+    let here : (bit_at bits at ≡ 1) ↔ HoldsRank xs rank = subst (λ (r : ℤ). (bit_at bits at ≡ 1) ↔ HoldsRank xs r) same (are at) in
+    (λ yes. here.0 (test.0 yes), λ holds. test.1 (here.1 holds))
+
+-- ---- the flight that is due after one landing more
+
+place_is : (i w : ℕ) → i < w → (i + 1 ≡ w) ⊎ (i + 1 < w)
+place_is i w h = grind (arith, nat_tests)
+
+module _ (w : ℕ) (xs : List ℤ) (o : ℤ) (is : IsWindow w xs) where
+  some : 0 < length xs
+  some = omega (arith, is.len, is.is_width)
+
+  -- it lands now, or the window holds it
+  pub due_before : HoldsRank (shifted xs o) (pos (w / 2)) → (o +ℤ pos (w / 2) ≡ pos 0) ⊎ HoldsRank xs (pos (w / 2 + 1))
+  due_before (j, lt, e) = elim (place_is j w (omega (arith, lt, length-shifted xs o some, is.len))) [
+    | inl last ↦
+        let at : offset_at (shifted xs o) j ≡ o = offset_at-shifted_last xs o j (last ∙ sym is.len) in
+        inl (omega (arith, ints, at, e, last, is.is_width))
+    | inr before ↦
+        let at : offset_at (shifted xs o) j ≡ offset_at xs (j + 1) = offset_at-shifted_below xs o j (omega (arith, before, is.len)) in
+        inr (j + 1, omega (arith, before, is.len), omega (arith, ints, at, e))
+  ]
+
+  pub due_lands : o +ℤ pos (w / 2) ≡ pos 0 → HoldsRank (shifted xs o) (pos (w / 2))
+  due_lands now =
+      let last : w - 1 + 1 ≡ length xs = omega (arith, is.len, is.is_width) in
+      let at : offset_at (shifted xs o) (w - 1) ≡ o = offset_at-shifted_last xs o (w - 1) last in
+      (w - 1, omega (arith, length-shifted xs o some, is.len, is.is_width), omega (arith, ints, at, now, is.is_width))
+
+  pub due_stays : HoldsRank xs (pos (w / 2 + 1)) → HoldsRank (shifted xs o) (pos (w / 2))
+  due_stays (zero, lt, e) = absurd (omega (arith, ints, e, is.high 0 (omega (arith, is.is_width))))
+  due_stays (suc i, lt, e) =
+      let at : offset_at (shifted xs o) i ≡ offset_at xs (i + 1) = offset_at-shifted_below xs o i (omega (arith, lt)) in
+      let one : offset_at xs (suc i) ≡ offset_at xs (i + 1) = ap (λ (j : ℕ). offset_at xs j) (omega arith) in
+      (i, omega (arith, lt, length-shifted xs o some), omega (arith, ints, at, one, e))
+
+  -- where it does not land now, it was held
+  pub due_was : (o +ℤ pos (w / 2) ≡ pos 0 → ⊥) → HoldsRank (shifted xs o) (pos (w / 2)) → HoldsRank xs (pos (w / 2 + 1))
+  due_was later holds = elim (due_before holds) [ inl now ↦ absurd (later now) | inr held ↦ held ]

@@ -1,0 +1,24 @@
+use Rattle.std.proofs.Common.{◌≡◌, ◌∙◌, sym, arith}
+use Rattle.std.specs.Prelude.{pos, ◌+ℤ◌}
+use Rattle.std.proofs.lemmas.Int.{ints}
+use Rattle.cps_nodes.specs.Windows.{offset_at}
+use Rattle.cps_nodes.specs.Digits.{offsets_of, length-offsets_of}
+use Rattle.cps_nodes.proofs.DigitLemmas.{offset_at-offsets_of}
+use Rattle.cps_nodes.proofs.HeldLemmas.{none_held, held_more, held_all}
+use Rattle.cps_nodes.proofs.window.held_ranks.Goals as goal
+
+pub loop-i-init : goal.loop-i-init
+loop-i-init g c = none_held (offsets_of g.row.W c.args.digits)
+
+pub loop-i-preserved : goal.loop-i-preserved
+loop-i-preserved g c =
+    let reads : offset_at (offsets_of g.row.W c.args.digits) c.loop-i.i ≡ c.digit_offset.result =
+    offset_at-offsets_of g.row.W c.args.digits c.loop-i.i c.loop-i-test.true ∙ sym c.digit_offset.ensures in
+    held_more (offsets_of g.row.W c.args.digits) c.loop-i.i c.loop-i.held c.bit_of.result c.bit_of.ensures.few
+    (omega (arith, ints, reads, c.bit_of.ensures.bit, c.loop-i-test.true, c.requires, c.digit_offset.type_inv))
+    c.loop-i.invariant
+
+pub returns : goal.returns
+returns g c =
+    held_all (offsets_of g.row.W c.args.digits) c.loop-i.i c.loop-i.held
+    (omega (arith, length-offsets_of g.row.W c.args.digits, c.loop-i-test.false, c.loop-i.auto.i-end)) c.loop-i.invariant
