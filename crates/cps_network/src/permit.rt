@@ -154,7 +154,14 @@ fn permits<const W: usize>(problem: &Problem, window: &Window<W>, stage: u8, ran
     if rank > stage + 1 + k || stage + 1 > rank + k {
         return false;
     }
-    successor(problem, &window.extendable(), stage, rank, due_set(stage, k)).is_some()
+    successor(
+        problem,
+        &window.extendable(),
+        stage,
+        rank,
+        due_set(stage, k),
+    )
+    .is_some()
 }
 
 /// Whether a rank is permitted after a window of a stage. To be permitted step by step is to be legal as a whole: for every
