@@ -1,13 +1,16 @@
 -- The ranks that a window holds, as bits, and which flight is due after one landing more.
-use Rattle.std.proofs.Common.{◌≡◌, ℕ, ◌+◌, ◌-◌, ◌*◌, ◌/◌, ◌%◌, ◌^◌, ◌<◌, List, length, arith, ◌∙◌, sym, ap, inl, inr, subst, zero, suc}
+use Rattle.std.proofs.Common.{◌≡◌, ℕ, ◌+◌, ◌-◌, ◌*◌, ◌/◌, ◌%◌, ◌^◌, ◌<◌, List, length, ◌≤◌, arith, ◌∙◌, sym, ap, inl, inr, subst, zero, suc, shr-shr, mod-lt, pow_pos}
 use Rattle.std.specs.Prelude.{Bool, IsTrue, ◌↔◌, ◌⊎◌, ℤ, pos, ◌+ℤ◌, ◌-ℤ◌, ◌≤ℤ◌, bit_or}
 use Rattle.std.specs.Int.{bit_at, w32}
 use Rattle.std.proofs.lemmas.Bool.{cases_eq}
 use Rattle.std.proofs.lemmas.Bool.Decides.{nat_tests}
 use Rattle.std.proofs.lemmas.Int.{ints}
-use Rattle.std.proofs.lemmas.Nat.Bits.{bit_at_set_same, bit_at_set_other, bit_at-zero}
+use Rattle.std.proofs.lemmas.Nat.Bits.{bit_at_set_same, bit_at_set_other, bit_at-zero, bit_at_above, bit_at_cat_low, bit_at_cat_high}
+use Rattle.std.proofs.lemmas.Nat.{field_of}
+use Rattle.std.proofs.Math.Pow.{mod-mod-pow}
 use Rattle.cps_nodes.specs.Windows.{IsWindow, HoldsRank, offset_at, shifted}
 use Rattle.cps_nodes.specs.Held.{AreHeld}
+use Rattle.cps_nodes.proofs.PrefixLemmas.{below_or_not}
 use Rattle.cps_nodes.proofs.WindowLemmas.{offset_at-shifted_below, offset_at-shifted_last, length-shifted}
 
 -- bit 8 + r is set exactly where one of the first places holds rank r
@@ -56,6 +59,51 @@ held_tested b xs bits at rank test is are =
     let same : (pos at -ℤ pos 8) ≡ rank = omega (arith, ints, is) in
     let here : (bit_at bits at ≡ 1) ↔ HoldsRank xs rank = subst (λ (r : ℤ). (bit_at bits at ≡ 1) ↔ HoldsRank xs r) same (are at) in
     (λ yes. here.0 (test.0 yes), λ holds. test.1 (here.1 holds))
+
+-- ---- the same ranks at a stage
+
+told : (b c : ℕ) (xs : List ℤ) (r s : ℤ) → b ≡ c → r ≡ s → ((c ≡ 1) ↔ HoldsRank xs r) → (b ≡ 1) ↔ HoldsRank xs s
+told b c xs r s e f is =
+    subst (λ (n : ℕ). (n ≡ 1) ↔ HoldsRank xs s) (sym e) (subst (λ (z : ℤ). (c ≡ 1) ↔ HoldsRank xs z) f is)
+
+untold : (b : ℕ) (xs : List ℤ) (s : ℤ) → b ≡ 0 → (HoldsRank xs s → ⊥) → (b ≡ 1) ↔ HoldsRank xs s
+untold b xs s e not = (λ one. absurd (omega (arith, e, one)), λ holds. absurd (not holds))
+
+-- bits below a cut are kept
+bit_at-mod : (n more i : ℕ) → bit_at (n % 2 ^ (more + 1 + i)) i ≡ bit_at n i
+bit_at-mod n more i = ap (λ (m : ℕ). m % 2) (field_of n (more + 1) i) ∙ mod-mod-pow (n / 2 ^ i) more 1
+
+bit_at-word : (n i : ℕ) → i < 64 → bit_at (n % 2 ^ 64) i ≡ bit_at (n + 0) i
+bit_at-word n i low =
+    let cut : 64 ≡ 63 - i + 1 + i = omega arith in
+    let same : n ≡ n + 0 = omega arith in
+    ap (λ (e : ℕ). bit_at (n % 2 ^ e) i) cut ∙ bit_at-mod n (63 - i) i ∙ ap (λ (m : ℕ). bit_at m i) same
+
+module _ (w stage bits : ℕ) (xs : List ℤ) (is : IsWindow w xs) (are : AreHeld xs bits) where
+  pub held_early : stage < w + 7 → (rank : ℕ) → (bit_at (bits / 2 ^ (w + 7 - stage)) rank ≡ 1) ↔ HoldsRank xs (pos rank -ℤ pos stage +ℤ pos (w - 1))
+  held_early early rank =
+      told _ _ xs _ _ (ap (λ (n : ℕ). n % 2) (shr-shr bits (w + 7 - stage) rank)) (omega (arith, ints, is.is_width)) (are (w + 7 - stage + rank))
+
+  far_below : (rank : ℕ) → rank < stage - (w + 7) → HoldsRank xs (pos rank -ℤ pos stage +ℤ pos (w - 1)) → ⊥
+  far_below rank below (i, lt, e) = omega (arith, ints, is.low i (omega (arith, lt, is.len)), is.is_width, e, below)
+
+  far_above : (rank : ℕ) → stage ≤ 60 → 64 ≤ rank → HoldsRank xs (pos rank -ℤ pos stage +ℤ pos (w - 1)) → ⊥
+  far_above rank few above (i, lt, e) = omega (arith, ints, is.high i (omega (arith, lt, is.len)), is.is_width, lt, is.len, e, above, few)
+
+  pub held_late : w + 7 ≤ stage → stage ≤ 60 → (rank : ℕ)
+      → (bit_at (bits * 2 ^ (stage - (w + 7)) % 2 ^ 64) rank ≡ 1) ↔ HoldsRank xs (pos rank -ℤ pos stage +ℤ pos (w - 1))
+  held_late late few rank = elim (below_or_not rank 64) [
+    | inr above ↦ untold _ xs _ (bit_at_above _ 64 rank (mod-lt _ (pow_pos 64)) above) (far_above rank few above)
+    | inl low ↦
+        let kept : bit_at (bits * 2 ^ (stage - (w + 7)) % 2 ^ 64) rank ≡ bit_at (bits * 2 ^ (stage - (w + 7)) + 0) rank =
+        bit_at-word (bits * 2 ^ (stage - (w + 7))) rank low in
+        elim (below_or_not rank (stage - (w + 7))) [
+          | inl below ↦ untold _ xs _ (kept ∙ bit_at_cat_low bits (stage - (w + 7)) 0 rank below ∙ bit_at-zero rank) (far_below rank below)
+          | inr within ↦
+              told _ _ xs _ _ (kept ∙ bit_at_cat_high bits (stage - (w + 7)) 0 rank (pow_pos (stage - (w + 7))) within)
+              (omega (arith, ints, is.is_width)) (are (rank - (stage - (w + 7))))
+        ]
+  ]
 
 -- ---- the flight that is due after one landing more
 

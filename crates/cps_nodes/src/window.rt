@@ -1,6 +1,7 @@
 //! A window.
 
 ghost use Rattle.std.specs.Prelude.{◌≡◌, ℕ, ℤ, pos, ◌+◌, ◌-◌, ◌*◌, ◌/◌, ◌%◌, ◌^◌, ◌<◌, ◌≤◌, ◌+ℤ◌, ◌-ℤ◌, ◌≤ℤ◌, List, [], ◌∷◌, ◌++◌, ◌⊎◌, ◌↔◌, length, IsTrue, IfSome, SomeIff, replicate, drop};
+ghost use Rattle.std.specs.Int.{bit_at};
 ghost use Rattle.std.specs.Ordering.{int_eq};
 ghost use Rattle.std.specs.Cmp.Lexicographic.{pointwise};
 ghost use Rattle.cps_nodes.specs.Digits.{digit_offset, offsets_of, order_key};
@@ -282,12 +283,24 @@ impl<const W: usize> Window<W> {
 }
 
 impl<const W: usize> ExtendableWindow<W> {
-    /// The window itself.
+    /// The ranks from 1 on that the window holds where it is one of a stage up to 60, as bits: bit r for rank r.
     #[inline]
-    pub fn window(&self) -> &Window<W>
-        ensures { result.now ≡ self.now }
+    pub fn held_at(&self, stage: u8) -> u64
+        requires { stage ≤ 60 }
+        ensures valid { IsWindow W self.now }
+        ensures held { (rank : ℕ) → 1 ≤ rank → (bit_at result rank ≡ 1)
+            ↔ HoldsRank self.now (pos rank -ℤ pos stage +ℤ pos (W - 1)) }
     {
-        &self.window
+        let window = self.window;
+        let _digits = window.digits;
+        let held = u64::from(self.held);
+
+        // At this stage the bits of both sets stand for the same ranks.
+        let start = W as u8 + 7;
+        if stage < start {
+            return held >> (start - stage);
+        }
+        held << (stage - start)
     }
 
     /// The window after one more landing, at this offset from -k to k. `None` exactly where the flight stands in this
