@@ -1,14 +1,14 @@
 //! The stage after a stage.
 
-ghost use Rattle.std.specs.Prelude.{◌≡◌, ℕ, ◌+◌, ◌-◌, ◌*◌, ◌/◌, ◌<◌, ◌≤◌, ◌⊎◌, ◌↔◌, length, IsTrue, IfOk, OnOk, Contains};
+ghost use Rattle.std.specs.Prelude.{◌≡◌, ℕ, pos, ◌+◌, ◌-◌, ◌*◌, ◌/◌, ◌<◌, ◌≤◌, ◌⊎◌, ◌↔◌, length, IsTrue, IfOk, OnOk, Contains};
 ghost use Rattle.precedence.specs.Pairs.{HasBit};
 ghost use Rattle.cps_nodes.specs.Laws.{LeadOn, offset_after};
-ghost use Rattle.cps_nodes.specs.Windows.{IsWidth, shifted};
+ghost use Rattle.cps_nodes.specs.Windows.{IsWidth, IsPlaced, shifted};
 ghost use Rattle.cps_network.specs.Landable.{HoldsCandidates};
 ghost use Rattle.cps_network.specs.Lists.{IsAscending, AreWindows, node_at};
 ghost use Rattle.cps_network.specs.Permits.{IsPermitted, IsSuccessor, IsNextOf, Repeats};
 
-use crate::permit::{due_set, most_shift, none_passed, none_waits, successor};
+use crate::permit::{due_set, most_shift, none_passed, none_waits, placed_set, successor};
 use crate::runs::Runs;
 use crate::source_range::first_source;
 use crate::stage::Stage;
@@ -23,19 +23,20 @@ fn add_permitted<const W: usize>(
     window: &ExtendableWindow<W>,
     stage: u8,
     rank: u8,
-    due: u64,
+    placed: u64,
     runs: &mut Runs<W>,
 ) -> Result<(), AllocError>
     requires width { W ≡ 2 * problem.now.k + 1 }
     requires stage { stage < length problem.now.flights }
-    requires due { (rank : ℕ) → HasBit due rank ↔ (rank + W / 2 ≤ stage) }
+    requires placed { (first : ℕ) → 1 ≤ first → HasBit placed first ↔ IsPlaced window.now (pos
+        stage) (pos first) }
     requires rank { (1 ≤ rank) × (rank ≤ length problem.now.flights) }
     requires reach { (rank ≤ stage + 1 + problem.now.k) × (stage + 1 ≤ rank + problem.now.k) }
     ensures { OnOk result ((x : _) → Contains runs.new x ↔ (Contains runs.old x
         ⊎ (IsPermitted problem.now stage window.now rank
         × (x ≡ shifted window.now (offset_after stage rank))))) }
 {
-    match successor(problem, window, stage, rank, due) {
+    match successor(problem, window, stage, rank, placed) {
         None => Ok(()),
         Some(next) => {
             runs.add(alloc, next)?;
@@ -64,8 +65,9 @@ fn add_successors<const W: usize>(
     let first = (stage + 1).saturating_sub(k).max(1);
     let end = (stage + 1 + k).min(n) + 1;
     let extendable = window.extendable();
+    let placed = placed_set(&extendable, stage, due);
     for rank in first..end {
-        add_permitted(alloc, problem, &extendable, stage, rank, due, runs)?;
+        add_permitted(alloc, problem, &extendable, stage, rank, placed, runs)?;
     }
     Ok(())
 }

@@ -35,62 +35,14 @@ pub fn due_set(stage: u8, k: u8) -> u64
     (1 << (stage - k + 1)) - 1
 }
 
-// The place at which a window of so many places holds entry i.
-fn place_at(stage: u8, i: usize, places: usize) -> i32
-    requires stage { stage ≤ 60 }
-    requires within { i < places }
-    requires few { places < 8 }
-    ensures { result ≡ pos stage -ℤ pos (places - 1 - i) }
-{
-    stage as i32 - (places - 1 - i) as i32
-}
-
-// The rank at an offset from a place, and 0 for a rank below 1.
-fn rank_from(place: i32, offset: i8) -> u8
-    requires low { pos 0 ≤ℤ (place +ℤ pos 7) }
-    requires high { place ≤ℤ pos 60 }
-    requires offset_low { pos 0 ≤ℤ (offset +ℤ pos 3) }
-    requires offset_high { offset ≤ℤ pos 3 }
-    ensures few { result < 64 }
-    ensures rank { (rank : ℕ) → 1 ≤ rank → (rank ≡ result) ↔ (place +ℤ offset ≡ pos rank) }
-{
-    let rank = place + offset as i32;
-    if rank < 0 { 0 } else { rank as u8 }
-}
-
 // The ranks that a window of a stage places, as bits.
-pub fn placed_set<const W: usize>(window: &Window<W>, stage: u8, due: u64) -> u64
+pub fn placed_set<const W: usize>(window: &ExtendableWindow<W>, stage: u8, due: u64) -> u64
     requires stage { stage ≤ 60 }
-    requires valid { IsWindow W window.now }
     requires due { (rank : ℕ) → HasBit due rank ↔ (rank + W / 2 ≤ stage) }
     ensures { (rank : ℕ) → 1 ≤ rank → HasBit result rank ↔ IsPlaced window.now (pos stage) (pos
         rank) }
 {
-    let mut placed = due;
-    for i in 0..W {
-        let rank = rank_from(place_at(stage, i, W), window.offset(i));
-        placed |= 1 << rank;
-    }
-    placed
-}
-
-// Whether each predecessor of a rank is placed by a window of a stage.
-fn follows_its_predecessors<const W: usize>(
-    problem: &Problem,
-    window: &Window<W>,
-    stage: u8,
-    rank: u8,
-    due: u64,
-) -> bool
-    requires stage { stage ≤ 60 }
-    requires valid { IsWindow W window.now }
-    requires due { (rank : ℕ) → HasBit due rank ↔ (rank + W / 2 ≤ stage) }
-    requires rank { (1 ≤ rank) × (rank ≤ 60) }
-    ensures { IsTrue result ↔ ((first : ℕ) → MustPrecede problem.now.pairs first rank → IsPlaced
-        window.now (pos stage) (pos first)) }
-{
-    let pairs = problem.pairs();
-    pairs.all_before(rank, due) || pairs.all_before(rank, placed_set(window, stage, due))
+    due | window.held_at(stage)
 }
 
 // The offset of a rank that lands after so many.
@@ -118,11 +70,12 @@ pub fn successor<const W: usize>(
     window: &ExtendableWindow<W>,
     stage: u8,
     rank: u8,
-    due: u64,
+    placed: u64,
 ) -> Option<Window<W>>
     requires width { W ≡ 2 * problem.now.k + 1 }
     requires stage { stage < length problem.now.flights }
-    requires due { (rank : ℕ) → HasBit due rank ↔ (rank + W / 2 ≤ stage) }
+    requires placed { (first : ℕ) → 1 ≤ first → HasBit placed first ↔ IsPlaced window.now (pos
+        stage) (pos first) }
     requires rank { (1 ≤ rank) × (rank ≤ length problem.now.flights) }
     requires reach { (rank ≤ stage + 1 + problem.now.k) × (stage + 1 ≤ rank + problem.now.k) }
     ensures valid { IsWindow W window.now }
@@ -134,7 +87,7 @@ pub fn successor<const W: usize>(
     if !is_in_time(problem, stage, rank) {
         return None;
     }
-    if !follows_its_predecessors(problem, window.window(), stage, rank, due) {
+    if !problem.pairs().all_before(rank, placed) {
         return None;
     }
     Some(next)
@@ -154,14 +107,9 @@ fn permits<const W: usize>(problem: &Problem, window: &Window<W>, stage: u8, ran
     if rank > stage + 1 + k || stage + 1 > rank + k {
         return false;
     }
-    successor(
-        problem,
-        &window.extendable(),
-        stage,
-        rank,
-        due_set(stage, k),
-    )
-    .is_some()
+    let extendable = window.extendable();
+    let placed = placed_set(&extendable, stage, due_set(stage, k));
+    successor(problem, &extendable, stage, rank, placed).is_some()
 }
 
 /// Whether a rank is permitted after a window of a stage. To be permitted step by step is to be legal as a whole: for every
