@@ -10,6 +10,7 @@ use Rattle.std.proofs.lemmas.Nat.{field_of}
 use Rattle.std.proofs.Math.Pow.{mod-mod-pow}
 use Rattle.cps_nodes.specs.Windows.{IsWindow, HoldsRank, offset_at, shifted}
 use Rattle.cps_nodes.specs.Held.{AreHeld}
+use Rattle.cps_nodes.specs.Leads.{IsWithin}
 use Rattle.cps_nodes.proofs.PrefixLemmas.{below_or_not}
 use Rattle.cps_nodes.proofs.WindowLemmas.{offset_at-shifted_below, offset_at-shifted_last, length-shifted}
 
@@ -115,7 +116,7 @@ module _ (w : ℕ) (xs : List ℤ) (o : ℤ) (is : IsWindow w xs) where
   some = omega (arith, is.len, is.is_width)
 
   -- it lands now, or the window holds it
-  pub due_before : HoldsRank (shifted xs o) (pos (w / 2)) → (o +ℤ pos (w / 2) ≡ pos 0) ⊎ HoldsRank xs (pos (w / 2 + 1))
+  due_before : HoldsRank (shifted xs o) (pos (w / 2)) → (o +ℤ pos (w / 2) ≡ pos 0) ⊎ HoldsRank xs (pos (w / 2 + 1))
   due_before (j, lt, e) = elim (place_is j w (omega (arith, lt, length-shifted xs o some, is.len))) [
     | inl last ↦
         let at : offset_at (shifted xs o) j ≡ o = offset_at-shifted_last xs o j (last ∙ sym is.len) in
@@ -125,19 +126,28 @@ module _ (w : ℕ) (xs : List ℤ) (o : ℤ) (is : IsWindow w xs) where
         inr (j + 1, omega (arith, before, is.len), omega (arith, ints, at, e))
   ]
 
-  pub due_lands : o +ℤ pos (w / 2) ≡ pos 0 → HoldsRank (shifted xs o) (pos (w / 2))
+  due_lands : o +ℤ pos (w / 2) ≡ pos 0 → HoldsRank (shifted xs o) (pos (w / 2))
   due_lands now =
       let last : w - 1 + 1 ≡ length xs = omega (arith, is.len, is.is_width) in
       let at : offset_at (shifted xs o) (w - 1) ≡ o = offset_at-shifted_last xs o (w - 1) last in
       (w - 1, omega (arith, length-shifted xs o some, is.len, is.is_width), omega (arith, ints, at, now, is.is_width))
 
-  pub due_stays : HoldsRank xs (pos (w / 2 + 1)) → HoldsRank (shifted xs o) (pos (w / 2))
+  due_stays : HoldsRank xs (pos (w / 2 + 1)) → HoldsRank (shifted xs o) (pos (w / 2))
   due_stays (zero, lt, e) = absurd (omega (arith, ints, e, is.high 0 (omega (arith, is.is_width))))
   due_stays (suc i, lt, e) =
       let at : offset_at (shifted xs o) i ≡ offset_at xs (i + 1) = offset_at-shifted_below xs o i (omega (arith, lt)) in
       let one : offset_at xs (suc i) ≡ offset_at xs (i + 1) = ap (λ (j : ℕ). offset_at xs j) (omega arith) in
       (i, omega (arith, lt, length-shifted xs o some), omega (arith, ints, at, one, e))
 
-  -- where it does not land now, it was held
-  pub due_was : (o +ℤ pos (w / 2) ≡ pos 0 → ⊥) → HoldsRank (shifted xs o) (pos (w / 2)) → HoldsRank xs (pos (w / 2 + 1))
-  due_was later holds = elim (due_before holds) [ inl now ↦ absurd (later now) | inr held ↦ held ]
+  -- so where it is held, every offset leaves it there
+  pub highest_held : (highest : ℤ) → highest ≡ pos (w / 2) → HoldsRank xs (pos (w / 2 + 1)) → IsWithin (pos (w / 2)) o
+      → (o ≤ℤ highest) ↔ HoldsRank (shifted xs o) (pos (w / 2))
+  highest_held highest most held within = (λ _. due_stays held, λ _. omega (arith, ints, within.high, most))
+
+  -- and else the lowest alone
+  pub highest_lands : (highest : ℤ) → highest +ℤ pos (w / 2) ≡ pos 0 → (HoldsRank xs (pos (w / 2 + 1)) → ⊥) → IsWithin (pos (w / 2)) o
+      → (o ≤ℤ highest) ↔ HoldsRank (shifted xs o) (pos (w / 2))
+  highest_lands highest lowest none within = (
+    λ low. due_lands (omega (arith, ints, low, lowest, within.low)),
+    λ holds. elim (due_before holds) [ inl now ↦ omega (arith, ints, now, lowest) | inr held ↦ absurd (none held) ],
+  )

@@ -5,7 +5,7 @@ ghost use Rattle.std.specs.Int.{bit_at};
 ghost use Rattle.std.specs.Ordering.{int_eq};
 ghost use Rattle.std.specs.Cmp.Lexicographic.{pointwise};
 ghost use Rattle.cps_nodes.specs.Digits.{digit_offset, offsets_of, order_key};
-ghost use Rattle.cps_nodes.specs.Held.{AreHeld};
+ghost use Rattle.cps_nodes.specs.Held.{AreHeld, IsDueHeldUpto};
 ghost use Rattle.cps_nodes.specs.Leads.{Extends, IsBelow, GoOnAlike, TailMeetsHead};
 ghost use Rattle.cps_nodes.specs.Ranks.{KeepsShift, HasLanded, window_of};
 ghost use Rattle.cps_nodes.specs.WindowOrder.{window_cmp};
@@ -45,17 +45,19 @@ pub struct ExtendableWindow<const W: usize> {
     window: Window<W>,
     // The ranks that some place holds, counted from the place of the first offset: bit 8 + r for rank r.
     held: u32,
+    // The highest offset of a landing after which the rank that is then due is held.
+    highest: i8,
 }
 
 impl<const W: usize> Model for ExtendableWindow<W> {
     ghost use Rattle.std.specs.Prelude.{List, ℤ};
-    ghost use Rattle.cps_nodes.specs.Held.{AreHeld};
+    ghost use Rattle.cps_nodes.specs.Held.{AreHeld, IsDueHeldUpto};
 
     ghost Value = { List ℤ };
 
     ghost view = { λ w. w.window };
 
-    ghost invariant = { λ w. AreHeld w.window w.held };
+    ghost invariant = { λ w. AreHeld w.window w.held × IsDueHeldUpto W w.window w.highest };
 }
 
 // What digit i of a number counts, the lowest digit being digit 0.
@@ -154,21 +156,15 @@ fn has_rank(held: u32, rank: i8) -> bool
     (held >> bit_of(rank)) & 1 == 1
 }
 
-// Whether a window with these ranks holds, after one more landing, the rank that is then due: it lands now, at offset -k,
-// or stands in the window.
+// The highest offset of one more landing after which a window with these ranks holds the rank that is then due: k where it is
+// held already, and else -k, at which it lands itself.
 #[inline]
-fn will_hold_due<const W: usize>(held: u32, offset: i8) -> bool
-    requires width { IsWidth W }
-    requires low { pos 0 ≤ℤ (offset +ℤ pos (W / 2)) }
-    requires high { offset ≤ℤ pos (W / 2) }
-    ensures { (xs : List ℤ) → IsWindow W xs → AreHeld xs held
-        → (IsTrue result ↔ HoldsRank (shifted xs offset) (pos (W / 2))) }
+fn highest_offset<const W: usize>(held: u32) -> i8
+    requires { IsWidth W }
+    ensures { (xs : List ℤ) → IsWindow W xs → AreHeld xs held → IsDueHeldUpto W xs result }
 {
     let k = (W / 2) as i8;
-    if offset + k == 0 {
-        return true;
-    }
-    has_rank(held, k + 1)
+    if has_rank(held, k + 1) { k } else { -k }
 }
 
 impl<const W: usize> Window<W> {
@@ -188,9 +184,11 @@ impl<const W: usize> Window<W> {
     pub fn extendable(&self) -> ExtendableWindow<W>
         ensures { result ≡ self.now }
     {
+        let held = held_ranks::<W>(self.digits);
         ExtendableWindow {
             window: *self,
-            held: held_ranks::<W>(self.digits),
+            held,
+            highest: highest_offset::<W>(held),
         }
     }
 
@@ -324,7 +322,7 @@ impl<const W: usize> ExtendableWindow<W> {
         if has_rank(self.held, W as i8 + offset) {
             return None;
         }
-        if !will_hold_due::<W>(self.held, offset) {
+        if offset > self.highest {
             return None;
         }
         let digits = shift::<W>(digits, offset);

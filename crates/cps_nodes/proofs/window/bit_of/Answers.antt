@@ -1,4 +1,4 @@
-use Rattle.std.proofs.Common.{◌≡◌, ◌<◌, ◌∙◌, arith, w8, to_z, of_z}
+use Rattle.std.proofs.Common.{◌≡◌, ◌∙◌, arith, w8, to_z, of_z}
 use Rattle.std.specs.Prelude.{pos, nat_abs, ◌+ℤ◌}
 use Rattle.std.proofs.lemmas.Int.{ints}
 use Rattle.cps_nodes.proofs.DigitLemmas.{abs_is}

@@ -1,5 +1,4 @@
 use Rattle.std.proofs.Common.{◌≡◌, ◌∙◌, sym, arith}
-use Rattle.std.specs.Prelude.{pos, ◌+ℤ◌}
 use Rattle.std.proofs.lemmas.Int.{ints}
 use Rattle.cps_nodes.specs.Windows.{offset_at}
 use Rattle.cps_nodes.specs.Digits.{offsets_of, length-offsets_of}

@@ -1,13 +1,13 @@
-use Rattle.std.proofs.Common.{◌≡◌, arith, ◌∙◌, ◌/◌, ap, refl, subst, sym, w8}
-use Rattle.std.specs.Prelude.{ℤ, pos}
+use Rattle.std.proofs.Common.{◌≡◌, arith, ◌∙◌, ap, subst, w8}
+use Rattle.std.specs.Prelude.{◌≤ℤ◌}
 use Rattle.std.proofs.lemmas.Int.{ints, to_z-of_z}
 use Rattle.cps_nodes.specs.Digits.{offsets_of}
-use Rattle.cps_nodes.specs.Windows.{IsWindow, HoldsRank, Accepts, shifted}
+use Rattle.cps_nodes.specs.Windows.{IsWindow, Accepts, shifted}
 use Rattle.cps_nodes.proofs.ExtendLemmas.{accepted_ranks, ranks_accepted}
 use Rattle.cps_nodes.proofs.WindowLemmas.{held, not_held}
 use Rattle.cps_nodes.proofs.LawLemmas.{lead_on}
 use Rattle.cps_nodes.proofs.window.ExtendableWindow.extend.Goals as goal
-use Rattle.cps_nodes.proofs.window.ExtendableWindow.extend.Goals.{Then-has_rank, Then-not-will_hold_due, After-shift-digits}
+use Rattle.cps_nodes.proofs.window.ExtendableWindow.extend.Goals.{Then-has_rank, Then-offset-self, After-shift-digits}
 
 -- the offsets of the new number
 next_is : (g : _) (c : After-shift-digits g) → offsets_of g.row.W c.shift-digits.result ≡ shifted c.self.inside.window c.args.offset
@@ -19,38 +19,37 @@ accepts : (g : _) (c : After-shift-digits g) → Accepts c.self.inside.window c.
 accepts g c =
     let is : IsWindow g.row.W c.self.inside.window = subst (IsWindow g.row.W) c.window.view_is c.window.invariant.window in
     record {
-      fresh = not_held _ _ _ _ (c.has_rank.ensures c.self.inside.window c.self.invariant) c.if-has_rank.false
+      fresh = not_held _ _ _ _ (c.has_rank.ensures c.self.inside.window c.self.invariant.0) c.if-has_rank.false
           (omega (arith, ints, c.requires.low, c.requires.high, is.is_width, is.len));
-      due = rw is.len (subst (λ (o : ℤ). HoldsRank (shifted c.self.inside.window o) (pos (g.row.W / 2))) (to_z-of_z w8 c.args.offset c.ranges.offset)
-          (held _ _ _ _ (c.will_hold_due.ensures c.self.inside.window is c.self.invariant) c.if-not-will_hold_due.false refl));
+      due = rw is.len ((c.self.invariant.1 c.args.offset (record { low = c.requires.low; high = c.requires.high })).0 (omega (arith, ints, c.if-offset-self.false)));
     }
 
 -- and what one of them says, where it does not
 repeats : (g : _) (c : Then-has_rank g) → Accepts c.self.inside.window c.args.offset → ⊥
 repeats g c = λ can.
     let is : IsWindow g.row.W c.self.inside.window = subst (IsWindow g.row.W) c.window.view_is c.window.invariant.window in
-    can.fresh (held _ _ _ _ (c.has_rank.ensures c.self.inside.window c.self.invariant) c.if-has_rank.true
+    can.fresh (held _ _ _ _ (c.has_rank.ensures c.self.inside.window c.self.invariant.0) c.if-has_rank.true
     (omega (arith, ints, c.requires.low, c.requires.high, is.is_width, is.len)))
 
-misses : (g : _) (c : Then-not-will_hold_due g) → Accepts c.self.inside.window c.args.offset → ⊥
+misses : (g : _) (c : Then-offset-self g) → Accepts c.self.inside.window c.args.offset → ⊥
 misses g c = λ can.
     let is : IsWindow g.row.W c.self.inside.window = subst (IsWindow g.row.W) c.window.view_is c.window.invariant.window in
-    not_held _ _ _ _ (c.will_hold_due.ensures c.self.inside.window is c.self.invariant) c.if-not-will_hold_due.true refl
-    (subst (λ (o : ℤ). HoldsRank (shifted c.self.inside.window o) (pos (g.row.W / 2))) (sym (to_z-of_z w8 c.args.offset c.ranges.offset))
-    (rw is.len at can.due))
+    let most : c.args.offset ≤ℤ c.self.inside.highest =
+    (c.self.invariant.1 c.args.offset (record { low = c.requires.low; high = c.requires.high })).1 (rw is.len at can.due) in
+    omega (arith, ints, most, c.if-offset-self.true)
 
 pub returns-then-has_rank-clause-next : goal.returns-then-has_rank-clause-next
 returns-then-has_rank-clause-next g c = rw (← c.self.view_is) (repeats g c)
 
-pub returns-then-not-will_hold_due-clause-next : goal.returns-then-not-will_hold_due-clause-next
-returns-then-not-will_hold_due-clause-next g c = rw (← c.self.view_is) (misses g c)
+pub returns-then-offset-self-clause-next : goal.returns-then-offset-self-clause-next
+returns-then-offset-self-clause-next g c = rw (← c.self.view_is) (misses g c)
 
 pub returns-then-has_rank-clause-ranks : goal.returns-then-has_rank-clause-ranks
 returns-then-has_rank-clause-ranks g c = λ ranks rank is at e more.
     repeats g c (ranks_accepted g.row.W _ ranks rank _ c.window.invariant.window.is_width (c.self.view_is ∙ at) e more)
 
-pub returns-then-not-will_hold_due-clause-ranks : goal.returns-then-not-will_hold_due-clause-ranks
-returns-then-not-will_hold_due-clause-ranks g c = λ ranks rank is at e more.
+pub returns-then-offset-self-clause-ranks : goal.returns-then-offset-self-clause-ranks
+returns-then-offset-self-clause-ranks g c = λ ranks rank is at e more.
     misses g c (ranks_accepted g.row.W _ ranks rank _ c.window.invariant.window.is_width (c.self.view_is ∙ at) e more)
 
 -- the offsets after the landing are those of a window
