@@ -1,10 +1,9 @@
-use Rattle.std.proofs.Common.{◌≡◌, ℕ, ◌∙◌, ap, arith, subst, List, true, w8, to_z, of_z}
+use Rattle.std.proofs.Common.{◌≡◌, ℕ, arith, subst, true, w8, to_z, of_z}
 use Rattle.std.specs.Prelude.{ℤ, pos, IsTrue, ◌↔◌}
 use Rattle.std.proofs.lemmas.Int.{ints}
 use Rattle.precedence.specs.Pairs.{HasBit, MustPrecede, AreInRange}
 use Rattle.cps_nodes.specs.Windows.{Accepts, IsPlaced, shifted}
 use Rattle.cps_nodes.specs.Laws.{offset_after}
-use Rattle.cps_network.specs.Permits.{IsPermitted}
 use Rattle.cps_network.proofs.permit.successor.Goals as goal
 use Rattle.cps_network.proofs.permit.successor.Goals.{After-all_before}
 
