@@ -293,7 +293,7 @@ impl<const W: usize> ExtendableWindow<W> {
         let _digits = window.digits;
         let held = u64::from(self.held);
 
-        // At this stage the bits of both sets stand for the same ranks.
+        // The rank that is the stage's number has bit `start` in the set that is kept, and bit `stage` in the answer.
         let start = W as u8 + 7;
         if stage < start {
             return held >> (start - stage);
