@@ -152,7 +152,8 @@ list_some p stage lists h i lt =
 
 -- the last stage as it is read: its labels have a pair each
 pub record LastRead (p : Problem) (stages : List LabelledStage) (last : LabelledStage) : Type 0 where
-  pub is : last ≡ stage_at stages (length p.flights)
+  pub is : last.labels ≡ (stage_at stages (length p.flights)).labels
+  pub one_each : length last.labels.lists ≡ length (stage_at stages (length p.flights)).stage.1
   pub number : last.stage.0 ≡ length p.flights
   pub held : HoldsPairs p last.stage last.labels
   pub some : (i : ℕ) → i < length last.labels.lists → 0 < length (list_at last.labels.lists i)
@@ -163,8 +164,10 @@ last_read p stages holds whole n last read same f e =
     let lt : n < length stages = omega (arith, whole, same) in
     let is = read_stage stages n last read f e lt in
     let h = held_at p stages holds n last is lt in
+    let at : last ≡ stage_at stages (length p.flights) = is ∙ ap (stage_at stages) same in
     record {
-      is = is ∙ ap (stage_at stages) same;
+      is = ap (λ (s : LabelledStage). s.labels) at;
+      one_each = h.0.held.costs.one_each ∙ ap (λ (s : LabelledStage). length s.stage.1) at;
       number = h.1 ∙ same;
       held = h.0;
       some = λ i inside. list_some p last.stage last.labels.lists h.0.held i (omega (arith, inside, h.0.held.costs.one_each));

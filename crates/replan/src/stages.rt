@@ -99,12 +99,12 @@ fn add_stage<const W: usize, R: Threads, G: Gate, L: Ledger>(
         (vec_len kept.old - 1) count × (L.count steps.new ≡ raised_by count
         (L.count steps.old))) }
 {
-    let last = kept.len() - 1;
-    let earlier = &kept[last.saturating_sub(1)];
-    let before = &kept[last];
-    let mut stage = stage_after(alloc, problem, &earlier.stage, &before.stage, before.is_whole)?;
+    let number = kept.len() - 1;
+    let earlier = &kept[number.saturating_sub(1)];
+    let last = &kept[number];
+    let mut stage = stage_after(alloc, problem, &earlier.stage, &last.stage, last.is_whole)?;
     let candidates = stage.len();
-    let labels = before.labels.next(rt, alloc, problem, &before.stage, &mut stage, gate, steps)?;
+    let labels = last.labels.next(rt, alloc, problem, &last.stage, &mut stage, gate, steps)?;
     let is_whole = stage.len() == candidates;
     kept.push(LabelledStage {
         stage,

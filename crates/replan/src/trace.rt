@@ -46,18 +46,18 @@ pub(crate) fn trace<const W: usize>(
         (last_pair (list_at (stage_at kept.now (length problem.now.flights)).labels.lists
         place)) }
 {
+    let n = problem.len() as usize;
     prefix_laws::<W>(problem);
     window_laws::<W>();
-    let n = problem.len() as usize;
     let last = &kept[n];
     let mut place = place;
     let mut index = last.labels.count(place) - 1;
     for i in (0..n).rev() {
-        let before = &kept[i];
-        let after = &kept[i + 1];
-        let node = after.stage.node(place);
-        let pair = after.labels.pair(place, index);
-        (place, index) = before.labels.source(problem, &before.stage, &node, pair);
-        order[i] = last_rank(&node, after.stage.number());
+        let earlier = &kept[i];
+        let later = &kept[i + 1];
+        let node = later.stage.node(place);
+        let pair = later.labels.pair(place, index);
+        (place, index) = earlier.labels.source(problem, &earlier.stage, &node, pair);
+        order[i] = last_rank(&node, later.stage.number());
     }
 }
