@@ -104,7 +104,9 @@ fn add_stage<const W: usize, R: Threads, G: Gate, L: Ledger>(
     let last = &kept[number];
     let mut stage = stage_after(alloc, problem, &earlier.stage, &last.stage, last.is_whole)?;
     let candidates = stage.len();
-    let labels = last.labels.next(rt, alloc, problem, &last.stage, &mut stage, gate, steps)?;
+    let labels = last
+        .labels
+        .next(rt, alloc, problem, &last.stage, &mut stage, gate, steps)?;
     let is_whole = stage.len() == candidates;
     kept.push(LabelledStage {
         stage,

@@ -35,9 +35,9 @@ returns-clause-held g c =
     one_more c.args.problem.now c.args.kept.now.items c.push.new.self.items _ c.requires.held c.in_ok-push.ensures.items
     (omega (arith, left.number, c.in_ok-stage.ensures.number, number, lt, c.len-number.ensures)) left.held
     (λ last is whole.
-        let f : c.len.result ≡ c.len-candidates.result = search (rules, whole) in
-        let same : last ≡ c.len-number.result - 1 = omega (arith, is, c.len-number.ensures) in
-        rw (left.all (sym c.len.ensures.value ∙ f ∙ c.len-candidates.ensures.value), same, ← e) (rw number at c.in_ok-stage.ensures.exact))
+    let f : c.len.result ≡ c.len-candidates.result = search (rules, whole) in
+    let same : last ≡ c.len-number.result - 1 = omega (arith, is, c.len-number.ensures) in
+    rw (left.all (sym c.len.ensures.value ∙ f ∙ c.len-candidates.ensures.value), same, ← e) (rw number at c.in_ok-stage.ensures.exact))
 
 pub returns-clause-steps : goal.returns-clause-steps
 returns-clause-steps g c =
