@@ -1,8 +1,9 @@
 -- Lists of pairs that rise or fall, and least costs.
-use Rattle.std.proofs.Common.{◌≡◌, ℕ, suc, ◌+◌, ◌-◌, ◌<◌, ◌≤◌, ◌⊎◌, inl, inr, zero, List, [], ◌∷◌, ◌++◌, length, reverse, refl, sym, ap, subst, ◌∙◌, arith}
+use Rattle.std.proofs.Common.{◌≡◌, ℕ, suc, ◌+◌, ◌-◌, ◌<◌, ◌≤◌, ◌⊎◌, inl, inr, zero, List, [], ◌∷◌, ◌++◌, length, reverse, refl, sym, ap, subst, ◌∙◌, ltb, arith}
 use Rattle.std.specs.Prelude.{◌↔◌, Option, Some, None, IfSome, min}
-use Rattle.std.proofs.lemmas.Bool.{cases_eq, cases_lt}
-use Rattle.std.proofs.lemmas.List.{reverse-append}
+use Rattle.std.specs.List.Sorted.{IsPartitionedBy}
+use Rattle.std.proofs.lemmas.Bool.{cases_eq, cases_lt, lt-ltb, ltb-true}
+use Rattle.std.proofs.lemmas.List.{get_or_default, reverse-append}
 use Rattle.cps_theory.specs.Labels.{InPairs, Pair}
 use Rattle.cps_theory.specs.CompletingPairs.{KeptCompleting, NoEarlierNoDearer, UndominatedCompleting}
 use Rattle.cps_theory.specs.laws.CompletingPairs.{completing_undominated, undominated_completing}
@@ -145,11 +146,14 @@ none_found xs second j le below = λ c h.
     let late = h.2 in
     absurd (omega (arith, at, b, late))
 
--- what is below at a place is below before it
-pub below_middle : (xs : List Pair) → Rises xs → (m second : ℕ) → m < length xs → (pair_at xs m).0 < second → (i : ℕ) → i < m + 1 → (pair_at xs i).0 < second
-below_middle xs r m second lt below i le = elim (cases_eq i m) [
-  | inl e ↦ (let same : (pair_at xs i).0 ≡ (pair_at xs m).0 = ap (λ (n : ℕ). (pair_at xs n).0) e in omega (arith, same, below))
-  | inr ne ↦ (let less = (rises_at xs r i m (omega (arith, le, ne)) lt).0 in omega (arith, less, below))
+-- those before a second stand ahead of the others
+pub rises_split : (xs : List Pair) → Rises xs → (second : ℕ) → IsPartitionedBy (λ q. ltb q.0 second) xs
+rises_split xs r second i j d le lt up = elim (cases_eq i j) [
+  | inl e ↦ rw e up
+  | inr ne ↦
+      let less = (rises_at xs r i j (omega (arith, le, ne)) lt).0 in
+      let below = ltb-true (pair_at xs j).0 second (rw (get_or_default xs j d (0, 0) lt) at up) in
+      rw (get_or_default xs i d (0, 0) (omega (arith, le, lt))) (lt-ltb (pair_at xs i).0 second (omega (arith, less, below)))
 ]
 
 -- the least of one family more

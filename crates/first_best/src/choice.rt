@@ -40,18 +40,12 @@ fn affordable(
     ensures found { FindsAffordable problem.now budget before cost after pairs.now result }
     ensures in_days { IfSome result (λ t. t ≤ last_second) }
 {
-    match problem.landing_after(before.last, before.earliest, after.last) {
-        None => None,
-        Some(second) => match pairs.cost_from(second) {
-            None => None,
-            Some(rest) => {
-                if cost + u64::from(problem.cost(after.last, second)) + u64::from(rest) <= budget {
-                    Some(second)
-                } else {
-                    None
-                }
-            }
-        },
+    let second = problem.landing_after(before.last, before.earliest, after.last)?;
+    let rest = pairs.cost_from(second)?;
+    if cost + u64::from(problem.cost(after.last, second)) + u64::from(rest) <= budget {
+        Some(second)
+    } else {
+        None
     }
 }
 

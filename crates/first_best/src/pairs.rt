@@ -1,6 +1,6 @@
 //! The pairs of a node.
 
-ghost use Rattle.std.specs.Prelude.{◌≡◌, ℕ, ◌<◌, ◌≤◌, length};
+ghost use Rattle.std.specs.Prelude.{◌≡◌, ℕ, ◌<◌, ◌≤◌, length, nat_lt};
 ghost use Rattle.cps_theory.specs.Labels.{InPairs, Pair};
 ghost use Rattle.cps_network.specs.Pairs.{pair_at};
 ghost use Rattle.first_best.specs.Completing.{IsCostFrom, IsLeastOf, Rises};
@@ -48,17 +48,11 @@ impl PairList {
         ensures below { (i : ℕ) → i < result → (pair_at self.now i).0 < second }
         ensures late { result < length self.now → second ≤ (pair_at self.now result).0 }
     {
-        let mut low = 0;
-        let mut high = self.len();
-        while low < high {
-            let middle = low + (high - low) / 2;
-            if self.pair(middle).0 < second {
-                low = middle + 1;
-            } else {
-                high = middle;
-            }
-        }
-        low
+        self.pairs.partition_point(
+            |pair: &(u32, u32)| -> bool
+                ensures { result ≡ nat_lt pair.now.0 second }
+            { pair.0 < second },
+        )
     }
 
     // The least cost of a pair at or after a second.

@@ -60,13 +60,9 @@ fn cost_by(
     ensures least { IsLeastOf (IsWayTo problem.now node after pairs.now second) result }
     ensures small { IfSome result (λ c. c ≤ 17279900 * (left + 1)) }
 {
-    match problem.landing_after(node.last, second, after.last) {
-        None => None,
-        Some(landing) => match pairs.cost_from(landing) {
-            None => None,
-            Some(rest) => Some(problem.cost(after.last, landing) + rest),
-        },
-    }
+    let landing = problem.landing_after(node.last, second, after.last)?;
+    let rest = pairs.cost_from(landing)?;
+    Some(problem.cost(after.last, landing) + rest)
 }
 
 // The least cost of what is left behind a node whose last flight lands at a second.

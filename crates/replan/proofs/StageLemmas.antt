@@ -1,5 +1,5 @@
 -- Stage 0 with its pair, one stage more, and what is kept of the stages of a problem for another.
-use Rattle.std.proofs.Common.{◌≡◌, ℕ, zero, suc, ◌+◌, ◌*◌, ◌<◌, ◌≤◌, List, [], ◌∷◌, ◌++◌, length, get_or, replicate, length-append, refl, sym, ap, subst, ◌∙◌, arith, inl, inr, zero-le, Option, Some, None, ◌-◌, take, Bool, false}
+use Rattle.std.proofs.Common.{◌≡◌, ℕ, zero, suc, ◌+◌, ◌*◌, ◌<◌, ◌≤◌, List, [], ◌∷◌, ◌++◌, length, get_or, replicate, length-append, refl, sym, ap, subst, ◌∙◌, arith, inl, inr, zero-le, Option, Some, None, ◌-◌, take}
 use Rattle.std.specs.Prelude.{ℤ, pos, Contains, IsTrue}
 use Rattle.std.proofs.lemmas.Bool.{cases_eq}
 use Rattle.std.proofs.lemmas.List.{get_or_append_left, get_or_push, get_or_default, get_or-take, length-take-le}
@@ -11,7 +11,6 @@ use Rattle.cps_theory.specs.Labels.{InPairs, Pair}
 use Rattle.cps_theory.specs.Network.{Undominated}
 use Rattle.landing_joint.specs.RankedProblem.{cost_at}
 use Rattle.landing_rules.specs.declared.objective.Objective.{Objective}
-use Rattle.landing_rules.specs.declared.objective.Objective.TheVariants.{Makespan}
 use Rattle.landing_rules.specs.Problem.{Problem, AreBetweenRanks}
 use Rattle.cps_network.specs.Due.{HasCandidates, HasCandidatesFrom, IsDueFrom}
 use Rattle.cps_network.specs.Landable.{Attains, IsLandable, HoldsLandable, HoldsCandidates}
@@ -23,17 +22,14 @@ use Rattle.cps_network.specs.shared.DueSteps.{more_from, due_with_held}
 use Rattle.cps_network.specs.shared.LegalWindows.{source_is, landable_valid}
 use Rattle.replan.specs.Held.{HeldProblem, AreInCommon}
 use Rattle.replan.specs.Labels.{StagePairs, HoldsPairs}
-use Rattle.replan.specs.Readers.{IsReadable, stage_in}
-use Rattle.replan.specs.Stages.{stage_at, labels_at, HoldsStages, AreWholeWhere}
+use Rattle.replan.specs.Readers.{IsReadable, lists_in, stage_in}
+use Rattle.replan.specs.Stages.{LabelledStage, no_stage, stage_at, AreStages}
 use Rattle.cps_network.specs.KeptStages.{EarlyStagesAreKept}
 use Rattle.cps_network.specs.WindowLaws.{WindowLaws}
 use Rattle.cps_network.specs.shared.KeptCandidates.{kept_next}
 use Rattle.cps_network.specs.shared.KeptCosts.{kept_costs}
 
 -- ---- stage 0
-
-abbrev pub no_pairs : StagePairs
-no_pairs = record { objective = Makespan; lists = [] }
 
 pub no_landing : (xs : List Landing) → length (ranks xs) ≡ 0 → xs ≡ []
 no_landing [] e = refl
@@ -84,26 +80,30 @@ begins p w stage labels o odd e f g = rw (f, e, odd) (record { objective = sym g
 
 -- ---- one stage more
 
-pub more_held : (p : Problem) (stages after : List (ℕ × List (List ℤ))) (labels more : List StagePairs) (stage : ℕ × List (List ℤ)) (last : StagePairs)
-    → HoldsStages p stages labels → after ≡ stages ++ stage ∷ [] → more ≡ labels ++ last ∷ [] → stage.0 ≡ length stages → HoldsPairs p stage last → HoldsStages p after more
-more_held p stages after labels more stage last is e f number held = rw (e, f) (record {
-  one_each = omega (arith, length-append stages (stage ∷ []), length-append labels (last ∷ []), is.one_each);
+-- where it is said to be whole, its windows are all that extend the last of the others
+pub one_more : (p : Problem) (stages after : List LabelledStage) (next : LabelledStage) → AreStages p stages → after ≡ stages ++ next ∷ [] → next.stage.0 ≡ length stages → HoldsPairs p next.stage next.labels
+    → ((last : ℕ) → last + 1 ≡ length stages → IsTrue next.is_whole → IsNextOf p last (stage_at stages last).stage.1 next.stage.1) → AreStages p after
+one_more p stages after next is e number held whole = rw e (record {
   number = λ i lt. elim (cases_eq i (length stages)) [
-    | inl same ↦ rw (get_or_push stages stage (0, []) i (sym same)) (number ∙ sym same)
-    | inr old ↦
-        let below : i < length stages = omega (arith, old, lt, length-append stages (stage ∷ [])) in
-        rw (get_or_append_left stages (stage ∷ []) (0, []) i below) (is.number i below)
+    | inl same ↦ rw (get_or_push stages next no_stage i (sym same)) (number ∙ sym same)
+    | inr old ↦ let below = low i lt old in rw (get_or_append_left stages (next ∷ []) no_stage i below) (is.number i below)
   ];
   held = λ i lt. elim (cases_eq i (length stages)) [
-    | inl same ↦ rw (get_or_push stages stage (0, []) i (sym same), get_or_push labels last no_pairs i (is.one_each ∙ sym same)) held
-    | inr old ↦
-        let below : i < length stages = omega (arith, old, lt, length-append stages (stage ∷ [])) in
-        rw (
-          get_or_append_left stages (stage ∷ []) (0, []) i below,
-          get_or_append_left labels (last ∷ []) no_pairs i (omega (arith, below, is.one_each)),
-        ) (is.held i below)
+    | inl same ↦ rw (get_or_push stages next no_stage i (sym same)) held
+    | inr old ↦ let below = low i lt old in rw (get_or_append_left stages (next ∷ []) no_stage i below) (is.held i below)
   ];
+  whole = λ i some lt said.
+      let back : i - 1 < length stages = omega (arith, some, lt, length-append stages (next ∷ [])) in
+      rw (get_or_append_left stages (next ∷ []) no_stage (i - 1) back) (elim (cases_eq i (length stages)) [
+        | inl same ↦ rw (get_or_push stages next no_stage i (sym same)) (whole (i - 1) (omega (arith, some, same)) (rw (get_or_push stages next no_stage i (sym same)) at said))
+        | inr old ↦
+            let below = low i lt old in
+            rw (get_or_append_left stages (next ∷ []) no_stage i below) (is.whole i some below (rw (get_or_append_left stages (next ∷ []) no_stage i below) at said))
+      ]);
 })
+  where
+    low : (i : ℕ) → i < length (stages ++ next ∷ []) → (i ≡ length stages → ⊥) → i < length stages
+    low i lt old = omega (arith, old, lt, length-append stages (next ∷ []))
 
 pub has_candidates : (p : Problem) (before after : ℕ × List (List ℤ)) (m : ℕ) → before.0 ≡ m → HoldsLandable p before → HoldsCandidates p before after → IsAscending after.1 → HasCandidates p m (length after.1)
 has_candidates p before after m e h each up = rw (← e) (record { candidates = after.1; ascending = up; each = each h; counted = refl })
@@ -126,20 +126,18 @@ due_more first p i o r s le some (due, from, e) (count, has, f) =
 
 -- ---- what is read of the stages
 
-pub held_at : (p : Problem) (stages : List (ℕ × List (List ℤ))) (labels : List StagePairs) → HoldsStages p stages labels → (i : ℕ) (x : ℕ × List (List ℤ)) (y : StagePairs)
-    → x ≡ stage_at stages i → y ≡ labels_at labels i → i < length stages → HoldsPairs p x y × (x.0 ≡ i)
-held_at p stages labels is i x y e f lt = (rw (e, f) (is.held i lt), rw e (is.number i lt))
+pub read_stage : (stages : List LabelledStage) (i : ℕ) (x y : LabelledStage) → x ≡ y → y ≡ get_or stages i y → i < length stages → x ≡ stage_at stages i
+read_stage stages i x y same e lt = same ∙ e ∙ get_or_default stages i y no_stage lt
 
-pub read_stage : (stages : List (ℕ × List (List ℤ))) (i : ℕ) (x : ℕ × List (List ℤ)) → x ≡ get_or stages i x → i < length stages → x ≡ stage_at stages i
-read_stage stages i x e lt = e ∙ get_or_default stages i x (0, []) lt
+pub held_at : (p : Problem) (stages : List LabelledStage) → AreStages p stages → (i : ℕ) (x : LabelledStage) → x ≡ stage_at stages i → i < length stages → HoldsPairs p x.stage x.labels × (x.stage.0 ≡ i)
+held_at p stages is i x e lt = rw e (is.held i lt, is.number i lt)
 
-pub read_labels : (labels : List StagePairs) (i : ℕ) (y : StagePairs) → y ≡ get_or labels i y → i < length labels → y ≡ labels_at labels i
-read_labels labels i y e lt = e ∙ get_or_default labels i y no_pairs lt
-
-pub read_held : (held : Option HeldProblem) (h : HeldProblem) (stages : List (ℕ × List (List ℤ))) (i : ℕ) (x : ℕ × List (List ℤ)) → held ≡ Some h
-    → h.stages ≡ stages → x ≡ get_or stages i x → IsReadable held i → x ≡ stage_in held i
-read_held held h stages i x e f at (some, most) =
-    let low : i ≤ length stages - 1 = rw (e, f) at most in rw (e, f) (read_stage stages i x at (omega (arith, some, low)))
+pub read_held : (held : Option HeldProblem) (h : HeldProblem) (stages : List LabelledStage) (i : ℕ) (x y : LabelledStage) → held ≡ Some h
+    → h.stages ≡ stages → x ≡ y → y ≡ get_or stages i y → IsReadable held i → (x.stage ≡ stage_in held i) × (x.labels.lists ≡ lists_in held i)
+read_held held h stages i x y e f same at (some, most) =
+    let low : i ≤ length stages - 1 = rw (e, f) at most in
+    let is = read_stage stages i x y same at (omega (arith, some, low)) in
+    rw (e, f) (ap (λ (s : LabelledStage). s.stage) is, ap (λ (s : LabelledStage). s.labels.lists) is)
 
 -- each kept list has a pair
 pub list_some : (p : Problem) (stage : ℕ × List (List ℤ)) (lists : List (List Pair)) → HoldsCosts p stage lists → (i : ℕ) → i < length stage.1 → 0 < length (list_at lists i)
@@ -152,100 +150,77 @@ list_some p stage lists h i lt =
     some [] q i = absurd i
     some (x ∷ pairs) q i = omega arith
 
--- the last stage as it is read: all of its labels, which have a pair each
-pub record LastRead (p : Problem) (stages : List (ℕ × List (List ℤ))) (labels : List StagePairs) (last : StagePairs) : Type 0 where
-  pub is : last ≡ labels_at labels (length p.flights)
-  pub number : (stage_at stages (length p.flights)).0 ≡ length p.flights
-  pub held : HoldsPairs p (stage_at stages (length p.flights)) last
-  pub some : (i : ℕ) → i < length last.lists → 0 < length (list_at last.lists i)
+-- the last stage as it is read: its labels have a pair each
+pub record LastRead (p : Problem) (stages : List LabelledStage) (last : LabelledStage) : Type 0 where
+  pub is : last.labels ≡ (stage_at stages (length p.flights)).labels
+  pub one_each : length last.labels.lists ≡ length (stage_at stages (length p.flights)).stage.1
+  pub number : last.stage.0 ≡ length p.flights
+  pub held : HoldsPairs p last.stage last.labels
+  pub some : (i : ℕ) → i < length last.labels.lists → 0 < length (list_at last.labels.lists i)
 
-pub last_read : (p : Problem) (stages : List (ℕ × List (List ℤ))) (labels : List StagePairs) → HoldsStages p stages labels → length stages ≡ length p.flights + 1
-    → (n : ℕ) (last : StagePairs) → n ≡ length p.flights → last ≡ get_or labels n last → LastRead p stages labels last
-last_read p stages labels holds whole n last same e =
-    let lt : length p.flights < length stages = omega (arith, whole) in
-    let is : last ≡ labels_at labels (length p.flights) = read_labels labels n last e (omega (arith, lt, same, holds.one_each)) ∙ ap (labels_at labels) same in
-    let held : HoldsPairs p (stage_at stages (length p.flights)) last = rw is (holds.held (length p.flights) lt) in
+pub last_read : (p : Problem) (stages : List LabelledStage) → AreStages p stages → length stages ≡ length p.flights + 1 → (n : ℕ) (last read : LabelledStage) → n ≡ length p.flights
+    → last ≡ read → read ≡ get_or stages n read → LastRead p stages last
+last_read p stages holds whole n last read same f e =
+    let lt : n < length stages = omega (arith, whole, same) in
+    let is = read_stage stages n last read f e lt in
+    let h = held_at p stages holds n last is lt in
+    let at : last ≡ stage_at stages (length p.flights) = is ∙ ap (stage_at stages) same in
     record {
-      is = is;
-      number = holds.number (length p.flights) lt;
-      held = held;
-      some = λ i inside. list_some p (stage_at stages (length p.flights)) last.lists held.held i (omega (arith, inside, held.held.costs.one_each));
+      is = ap (λ (s : LabelledStage). s.labels) at;
+      one_each = h.0.held.costs.one_each ∙ ap (λ (s : LabelledStage). length s.stage.1) at;
+      number = h.1 ∙ same;
+      held = h.0;
+      some = λ i inside. list_some p last.stage last.labels.lists h.0.held i (omega (arith, inside, h.0.held.costs.one_each));
     }
 
 -- ---- the stage after the last
 
 -- the last two stages, where the last one is whole
-pub whole_at : (p : Problem) (stages : List (ℕ × List (List ℤ))) (said : List Bool) (i last : ℕ) (earlier before : ℕ × List (List ℤ)) → AreWholeWhere p stages said → ((j : ℕ) → j < length stages → (stage_at stages j).0 ≡ j)
-    → last < length stages → i ≡ last - 1 → earlier ≡ stage_at stages i → before ≡ stage_at stages last → IsTrue (get_or said last false) → earlier.0 < before.0 → IsNextOf p earlier.0 earlier.1 before.1
-whole_at p stages said i last earlier before is numbers n back e f whole lt =
-    let here : before.0 ≡ last = rw f (numbers last n) in
-    let there : earlier.0 ≡ i = rw e (numbers i (omega (arith, n, back))) in
-    rw (there, e, f, back) (is.each last (omega (arith, lt, here)) n whole)
+pub whole_at : (p : Problem) (stages : List LabelledStage) → AreStages p stages → (i last : ℕ) (earlier before : LabelledStage) → last < length stages → i ≡ last - 1 → earlier ≡ stage_at stages i → before ≡ stage_at stages last
+    → IsTrue before.is_whole → earlier.stage.0 < before.stage.0 → IsNextOf p earlier.stage.0 earlier.stage.1 before.stage.1
+whole_at p stages is i last earlier before n back e f whole lt =
+    let here = (held_at p stages is last before f n).1 in
+    let there = (held_at p stages is i earlier e (omega (arith, n, back))).1 in
+    rw (there, e, f, back) (is.whole last (omega (arith, lt, here)) n (rw f at whole))
 
--- one stage more, and what is said of it
-pub whole_more : (p : Problem) (stages after : List (ℕ × List (List ℤ))) (whole more : List Bool) (before was stage : ℕ × List (List ℤ)) (said : Bool) → AreWholeWhere p stages whole → ((j : ℕ) → j < length stages → (stage_at stages j).0 ≡ j)
-    → after ≡ stages ++ stage ∷ [] → more ≡ whole ++ said ∷ [] → (last : ℕ) → last + 1 ≡ length stages → before ≡ stage_at stages last → (IsTrue said → stage.1 ≡ was.1) → IsNextOf p before.0 before.1 was.1 → AreWholeWhere p after more
-whole_more p stages after whole more before was stage said holds numbers e f last n at kept is = rw (f, e) (record {
-  one_each = omega (arith, length-append stages (stage ∷ []), length-append whole (said ∷ []), holds.one_each);
-  each = λ i some lt true_there. elim (cases_eq i (length stages)) [
-    | inl same ↦
-        let back : i - 1 ≡ last = omega (arith, same, n) in
-        let number : before.0 ≡ last = rw at (numbers last (omega (arith, n))) in
-        let left = kept (rw (get_or_push whole said false i (holds.one_each ∙ sym same)) at true_there) in
-        rw (get_or_push stages stage (0, []) i (sym same), get_or_append_left stages (stage ∷ []) (0, []) (i - 1) (omega (arith, back, n)), back, ← at, left)
-        (rw number at is)
-    | inr old ↦
-        let below : i < length stages = omega (arith, old, lt, length-append stages (stage ∷ [])) in
-        rw (get_or_append_left stages (stage ∷ []) (0, []) i below, get_or_append_left stages (stage ∷ []) (0, []) (i - 1) (omega (arith, below)))
-        (holds.each i some below (rw (get_or_append_left whole (said ∷ []) false i (omega (arith, below, holds.one_each))) at true_there))
-  ];
-})
+-- ---- stages in common
 
-module _ (p q : Problem) (stages : List (ℕ × List (List ℤ))) (labels : List StagePairs) (count : ℕ) (holds : HoldsStages p stages labels) (early : EarlyStagesAreKept p q) (common : AreInCommon p q count) (more : 1 < count) (within : count ≤ length stages) where
+module _ (p q : Problem) (w : ℕ) (odd : w ≡ 2 * p.k + 1) (laws : WindowLaws p w) (bp : AreBetweenRanks (length p.flights) p.pairs) (bq : AreBetweenRanks (length q.flights) q.pairs) (stages : List LabelledStage) (count : ℕ) (holds : AreStages p stages) (early : EarlyStagesAreKept p q) (common : AreInCommon p q count) (more : 1 < count) (within : count ≤ length stages) where
   long : length (take count stages) ≡ count
   long = length-take-le count stages within
 
-  pub held_in_common : HoldsStages q (take count stages) (take count labels)
-  held_in_common = record {
-    one_each = length-take-le count labels (let a = holds.one_each in omega (arith, a, within)) ∙ sym long;
-    number = λ i lt.
-        let here : i < count = omega (arith, lt, long) in
-        rw (get_or-take count stages i (0, []) here) (holds.number i (omega (arith, here, within)));
-    held = λ i lt.
-        let at : i < count = omega (arith, lt, long) in
-        let here : i < length stages = omega (arith, at, within) in
-        let is = common.1 in
-        let e = common.2 in
-        let agree = is.agree (omega (arith, e, more)) in
-        let same = agree.head.k in
-        let was = holds.held i here in
-        let kept = early common.0 is.within agree (stage_at stages i).0 (let n = holds.number i here in omega (arith, n, e, at, same)) in
-        rw (get_or-take count stages i (0, []) at, get_or-take count labels i no_pairs at)
-        (record { objective = was.objective ∙ agree.head.objective; held = kept_costs p q (stage_at stages i) _ kept was.held });
-  }
+  valid : (i : ℕ) → i < length stages → AreWindows w (stage_at stages i).stage.1
+  valid i lt j inside =
+      let at = stage_at stages i in
+      landable_valid p w odd laws at.stage.0 (node_at at.stage.1 j) (((holds.held i lt).held.landable (node_at at.stage.1 j)).0 (Contains-get_or at.stage.1 j [] inside))
 
--- and what is said of them still holds
-module _ (p q : Problem) (w : ℕ) (odd : w ≡ 2 * p.k + 1) (laws : WindowLaws p w) (bp : AreBetweenRanks (length p.flights) p.pairs) (bq : AreBetweenRanks (length q.flights) q.pairs) (stages : List (ℕ × List (List ℤ))) (labels : List StagePairs) (said : List Bool) (count : ℕ) (holds : HoldsStages p stages labels) (whole : AreWholeWhere p stages said) (common : AreInCommon p q count) (more : 1 < count) (within : count ≤ length stages) where
-  valid : (i : ℕ) → i < length stages → AreWindows w (stage_at stages i).1
-  valid i lt j inside = landable_valid p w odd laws (stage_at stages i).0 (node_at (stage_at stages i).1 j) (((holds.held i lt).held.landable (node_at (stage_at stages i).1 j)).0 (Contains-get_or (stage_at stages i).1 j [] inside))
-
-  pub whole_in_common : AreWholeWhere q (take count stages) (take count said)
-  whole_in_common = record {
-    one_each = length-take-le count said (let a = whole.one_each in omega (arith, a, within)) ∙ sym (length-take-le count stages within);
-    each = λ i some lt true_there.
-        let here : i < count = omega (arith, lt, length-take-le count stages within) in
-        let is = common.1 in
-        let e = common.2 in
-        let agree = is.agree (omega (arith, e, more)) in
-        let same = agree.head.k in
-        rw (get_or-take count stages i (0, []) here, get_or-take count stages (i - 1) (0, []) (omega (arith, here))) (
-        kept_next p q common.0 is.within agree bp bq w odd (i - 1) (stage_at stages (i - 1)).1 (stage_at stages i).1 (omega (arith, e, here, some, same))
-        (valid (i - 1) (omega (arith, here, within)))
-        (whole.each i some (omega (arith, here, within)) (rw (get_or-take count said i false here) at true_there)));
-  }
+  pub stages_in_common : AreStages q (take count stages)
+  stages_in_common =
+      let is = common.1 in
+      let e = common.2 in
+      let agree = is.agree (omega (arith, e, more)) in
+      let same = agree.head.k in
+      record {
+        number = λ i lt.
+            let at : i < count = omega (arith, lt, long) in
+            rw (get_or-take count stages i no_stage at) (holds.number i (omega (arith, at, within)));
+        held = λ i lt.
+            let at : i < count = omega (arith, lt, long) in
+            let here : i < length stages = omega (arith, at, within) in
+            let was = holds.held i here in
+            let kept = early common.0 is.within agree (stage_at stages i).stage.0 (let n = holds.number i here in omega (arith, n, e, at, same)) in
+            rw (get_or-take count stages i no_stage at)
+            (record { objective = was.objective ∙ agree.head.objective; held = kept_costs p q (stage_at stages i).stage _ kept was.held });
+        whole = λ i some lt said.
+            let at : i < count = omega (arith, lt, long) in
+            rw (get_or-take count stages i no_stage at, get_or-take count stages (i - 1) no_stage (omega (arith, at))) (
+            kept_next p q common.0 is.within agree bp bq w odd (i - 1) (stage_at stages (i - 1)).stage.1 (stage_at stages i).stage.1 (omega (arith, e, at, some, same))
+            (valid (i - 1) (omega (arith, at, within)))
+            (holds.whole i some (omega (arith, at, within)) (rw (get_or-take count stages i no_stage at) at said)));
+      }
 
 -- they are no more than are held
-pub few_in_common : (p q : Problem) (count : ℕ) (stages : List (ℕ × List (List ℤ))) → AreInCommon p q count → length stages ≡ length p.flights + 1 → count ≤ length stages
+pub few_in_common : (p q : Problem) (count : ℕ) (stages : List LabelledStage) → AreInCommon p q count → length stages ≡ length p.flights + 1 → count ≤ length stages
 few_in_common p q count stages (d, is, e) whole = let a = is.within.0 in omega (arith, a, e, whole)
 
 -- nor more than the other problem has

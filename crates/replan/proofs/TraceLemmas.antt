@@ -23,9 +23,9 @@ use Rattle.cps_network.specs.shared.LegalWindows.{next_last}
 use Rattle.cps_nodes.specs.Windows.{offset_at}
 use Rattle.cps_network.specs.Pairs.{HoldsCosts, GivesPair, list_at, pair_at, successor}
 use Rattle.cps_network.specs.shared.PairSteps.{dearer, at_in}
-use Rattle.replan.specs.Stages.{stage_at, lists_at, HoldsStages, LandsWithPair}
-use Rattle.replan.specs.Labels.{StagePairs, HoldsPairs, last_pair}
-use Rattle.replan.proofs.StageLemmas.{start_only, start_pair, read_stage, read_labels, held_at}
+use Rattle.replan.specs.Stages.{LabelledStage, stage_at, AreStages, LandsWithPair}
+use Rattle.replan.specs.Labels.{HoldsPairs, last_pair}
+use Rattle.replan.proofs.StageLemmas.{start_only, start_pair, read_stage, held_at}
 
 -- landings of a legal prefix that ends in this window with this pair
 pub record EndsWith (p : Problem) (stage : ℕ) (window : List ℤ) (q : Pair) (xs : List Landing) : Type 0 where
@@ -80,71 +80,66 @@ written xs i y lt = sym (ap reverse (drop_set xs i y lt) ∙ reverse-append (y �
 
 -- ---- what is read of a stage
 
-abbrev pub pair_in : List StagePairs → ℕ → ℕ → ℕ → Pair
-pair_in labels stage place index = pair_at (list_at (lists_at labels stage) place) index
+abbrev pub window_in : LabelledStage → ℕ → List ℤ
+window_in s place = node_at s.stage.1 place
 
-abbrev pub Traced : Problem → List (ℕ × List (List ℤ)) → List StagePairs → ℕ → ℕ → ℕ → List ℕ → Pair → Type 0
-Traced p stages labels stage place index order end =
-    CompletesWith p stage (node_at (stage_at stages stage).1 place) (pair_in labels stage place index) (reverse (drop stage order)) end
+abbrev pub pair_in : LabelledStage → ℕ → ℕ → Pair
+pair_in s place index = pair_at (list_at s.labels.lists place) index
+
+abbrev pub Traced : Problem → List LabelledStage → ℕ → ℕ → ℕ → List ℕ → Pair → Type 0
+Traced p stages stage place index order end =
+    CompletesWith p stage (window_in (stage_at stages stage) place) (pair_in (stage_at stages stage) place index) (reverse (drop stage order)) end
 
 -- ---- one step of the way back
 
-pub back_pair : (p : Problem) → IsWindowNetwork p → (stages : List (ℕ × List (List ℤ))) (labels : List StagePairs) (stage s place index j k r : ℕ) (end : Pair) (order : List ℕ)
-    (before : ℕ × List (List ℤ)) (lists : List (List Pair)) (v : List ℤ) (q : Pair) → before ≡ stage_at stages s → lists ≡ lists_at labels s → before.0 ≡ s → stage ≡ suc s
-    → v ≡ node_at (stage_at stages stage).1 place → q ≡ pair_in labels stage place index
-    → (source : GivesPair p before lists v q j k) → source.rank ≡ r → s < length order
-    → Traced p stages labels stage place index order end → Traced p stages labels s j k (set order s r) end
-back_pair p net stages labels stage s place index j k r end order before lists v q eb el number next ev eq source rank_is lt rest =
-    let es : stage ≡ suc before.0 = next ∙ ap suc (sym number) in
-    let a : CompletesWith p (suc before.0) v q (reverse (drop (suc s) order)) end = rw (ev, eq, ← es, ← next) rest in
-    let b = completes_pair_more p net before lists v q j k end (reverse (drop (suc s) order)) source a in
-    rw (← written order s r lt, ← rank_is, ← eb, ← el) (rw number at b)
-
--- ---- what one step back reads
-
--- the stage before with its labels, and the window and the pair of this stage
-pub record StepReads (p : Problem) (stages : List (ℕ × List (List ℤ))) (labels : List StagePairs) (stage place index : ℕ) (before : ℕ × List (List ℤ)) (from : StagePairs) (after : ℕ × List (List ℤ)) (more : StagePairs) : Type 0 where
+-- the stage before with its labels, and this stage
+pub record StepReads (p : Problem) (stages : List LabelledStage) (stage place index : ℕ) (before after : LabelledStage) : Type 0 where
   pub before_is : before ≡ stage_at stages (stage - 1)
-  pub from_is : from.lists ≡ lists_at labels (stage - 1)
   pub after_is : after ≡ stage_at stages stage
-  pub more_is : more.lists ≡ lists_at labels stage
-  pub held : HoldsPairs p before from
-  pub above : HoldsPairs p after more
-  pub number : before.0 ≡ stage - 1
-  pub next : after.0 ≡ suc before.0
+  pub held : HoldsPairs p before.stage before.labels
+  pub above : HoldsPairs p after.stage after.labels
+  pub number : before.stage.0 ≡ stage - 1
+  pub next : after.stage.0 ≡ suc before.stage.0
   pub one_back : stage ≡ suc (stage - 1)
-  pub within : place < length after.1
-  pub listed : index < length (list_at more.lists place)
+  pub within : place < length after.stage.1
+  pub listed : index < length (list_at after.labels.lists place)
 
-pub step_reads : (p : Problem) (stages : List (ℕ × List (List ℤ))) (labels : List StagePairs) → HoldsStages p stages labels → length stages ≡ length p.flights + 1
-    → (stage place index : ℕ) (before : ℕ × List (List ℤ)) (from : StagePairs) (after : ℕ × List (List ℤ)) (more : StagePairs) → 0 < stage → stage ≤ length p.flights
-    → before ≡ get_or stages (stage - 1) before → from ≡ get_or labels (stage - 1) from → after ≡ get_or stages stage after → more ≡ get_or labels stage more
-    → place < length (stage_at stages stage).1 → index < length (list_at (lists_at labels stage) place) → StepReads p stages labels stage place index before from after more
-step_reads p stages labels holds whole stage place index before from after more some low eb ef ea em lt listed =
-    let here : stage < length stages = omega (arith, low, whole) in
-    let back : stage - 1 < length stages = omega (arith, here) in
-    let before_is = read_stage stages (stage - 1) before eb back in
-    let after_is = read_stage stages stage after ea here in
-    let from_is = read_labels labels (stage - 1) from ef (omega (arith, back, holds.one_each)) in
-    let more_is = read_labels labels stage more em (omega (arith, here, holds.one_each)) in
-    let held = held_at p stages labels holds (stage - 1) before from before_is from_is back in
-    let above = held_at p stages labels holds stage after more after_is more_is here in
+pub step_reads : (p : Problem) (stages : List LabelledStage) → AreStages p stages → length stages ≡ length p.flights + 1
+    → (stage next place index : ℕ) (before read after read' : LabelledStage) → 0 < stage → stage ≤ length p.flights → next ≡ stage
+    → before ≡ read → read ≡ get_or stages (stage - 1) read → after ≡ read' → read' ≡ get_or stages next read'
+    → place < length (stage_at stages stage).stage.1 → index < length (list_at (stage_at stages stage).labels.lists place) → StepReads p stages stage place index before after
+step_reads p stages holds whole stage next place index before read after read' some low same eb fb ea fa lt listed =
+    let here : next < length stages = omega (arith, low, same, whole) in
+    let back : stage - 1 < length stages = omega (arith, here, same) in
+    let before_is = read_stage stages (stage - 1) before read eb fb back in
+    let after_is : after ≡ stage_at stages stage = read_stage stages next after read' ea fa here ∙ ap (stage_at stages) same in
+    let held = held_at p stages holds (stage - 1) before before_is back in
+    let above = held_at p stages holds stage after after_is (omega (arith, here, same)) in
     let number = held.1 in
     let number' = above.1 in
     let one_back : stage ≡ suc (stage - 1) = omega (arith, some) in
     record {
       before_is = before_is;
-      from_is = ap (λ (x : StagePairs). x.lists) from_is;
       after_is = after_is;
-      more_is = ap (λ (x : StagePairs). x.lists) more_is;
       held = held.0;
       above = above.0;
       number = number;
       next = omega (arith, number, number', one_back);
       one_back = one_back;
       within = rw after_is lt;
-      listed = rw more_is listed;
+      listed = rw after_is listed;
     }
+
+pub back_pair : (p : Problem) → IsWindowNetwork p → (stages : List LabelledStage) (stage place index j k r : ℕ) (end : Pair) (order : List ℕ) (before after : LabelledStage) (v : List ℤ) (q : Pair)
+    → StepReads p stages stage place index before after → v ≡ window_in after place → q ≡ pair_in after place index
+    → (source : GivesPair p before.stage before.labels.lists v q j k) → source.rank ≡ r → stage - 1 < length order
+    → Traced p stages stage place index order end → Traced p stages (stage - 1) j k (set order (stage - 1) r) end
+back_pair p net stages stage place index j k r end order before after v q reads ev eq source rank_is lt rest =
+    let s = stage - 1 in
+    let es : stage ≡ suc before.stage.0 = reads.one_back ∙ ap suc (sym reads.number) in
+    let a : CompletesWith p (suc before.stage.0) v q (reverse (drop (suc s) order)) end = rw (ev, eq, reads.after_is, ← es, ← reads.one_back) rest in
+    let b = completes_pair_more p net before.stage before.labels.lists v q j k end (reverse (drop (suc s) order)) source a in
+    rw (← written order s r lt, ← rank_is, ← reads.before_is) (rw reads.number at b)
 
 -- a listed pair is undominated
 pub listed_undominated : (p : Problem) (before after : ℕ × List (List ℤ)) (more : List (List Pair)) (v : List ℤ) (q : Pair) (place index : ℕ) → HoldsCosts p after more
@@ -164,26 +159,26 @@ last_given p w odd laws before lists v q j k held source =
       source.permitted.to_count,
     )
 
-pub trace_end : (p : Problem) (stages : List (ℕ × List (List ℤ))) (labels : List StagePairs) → HoldsStages p stages labels → (stage place index : ℕ) (end : Pair) (order : List ℕ) → stage ≡ 0 → 0 < length stages
-    → place < length (stage_at stages stage).1 → index < length (list_at (lists_at labels stage) place)
-    → Traced p stages labels stage place index order end → LandsWithPair p order end
-trace_end p stages labels held stage place index end order none some lt listed rest =
-    let lt' : place < length (stage_at stages 0).1 = rw none at lt in
-    let listed' : index < length (list_at (lists_at labels 0) place) = rw none at listed in
-    let rest' : Traced p stages labels 0 place index order end = rw none at rest in
-    let h = (held.held 0 some).held in
-    let number : (stage_at stages 0).0 ≡ 0 = held.number 0 some in
-    let l : IsLandable p 0 (node_at (stage_at stages 0).1 place) =
-    rw number at ((h.landable (node_at (stage_at stages 0).1 place)).0 (Contains-get_or (stage_at stages 0).1 place [] lt')) in
-    let at = start_only p (node_at (stage_at stages 0).1 place) l in
-    let u = ((h.costs.pairs place lt').undominated (pair_in labels 0 place index)).0 (at_in (list_at (lists_at labels 0) place) index (pair_in labels 0 place index) listed' refl) in
-    let a : Attains p 0 (node_at (stage_at stages 0).1 place) (pair_in labels 0 place index) = rw number at u.attained in
-    completes_pair_all p (node_at (stage_at stages 0).1 place) order (pair_in labels 0 place index) end at (start_pair p (node_at (stage_at stages 0).1 place) (pair_in labels 0 place index) a) rest'
+pub trace_end : (p : Problem) (stages : List LabelledStage) → AreStages p stages → (stage place index : ℕ) (end : Pair) (order : List ℕ) → stage ≡ 0 → 0 < length stages
+    → place < length (stage_at stages stage).stage.1 → index < length (list_at (stage_at stages stage).labels.lists place)
+    → Traced p stages stage place index order end → LandsWithPair p order end
+trace_end p stages is stage place index end order none some lt listed rest =
+    let start = stage_at stages 0 in
+    let lt' : place < length start.stage.1 = rw none at lt in
+    let listed' : index < length (list_at start.labels.lists place) = rw none at listed in
+    let rest' : Traced p stages 0 place index order end = rw none at rest in
+    let h = (is.held 0 some).held in
+    let number : start.stage.0 ≡ 0 = is.number 0 some in
+    let l : IsLandable p 0 (window_in start place) = rw number at ((h.landable (window_in start place)).0 (Contains-get_or start.stage.1 place [] lt')) in
+    let at = start_only p (window_in start place) l in
+    let u = ((h.costs.pairs place lt').undominated (pair_in start place index)).0 (at_in (list_at start.labels.lists place) index (pair_in start place index) listed' refl) in
+    let a : Attains p 0 (window_in start place) (pair_in start place index) = rw number at u.attained in
+    completes_pair_all p (window_in start place) order (pair_in start place index) end at (start_pair p (window_in start place) (pair_in start place index) a) rest'
 
 -- before the first step back
-pub trace_begins : (p : Problem) (stages : List (ℕ × List (List ℤ))) (labels : List StagePairs) (n stage place index : ℕ) (order : List ℕ) → stage ≡ n → n ≤ length p.flights → length order ≡ n
-    → place < length (stage_at stages n).1 → index < length (list_at (lists_at labels n) place) → index ≡ length (list_at (lists_at labels n) place) - 1
-    → (stage ≤ length p.flights) × (length order ≡ n) × (place < length (stage_at stages stage).1) × (index < length (list_at (lists_at labels stage) place))
-    × Traced p stages labels stage place index order (last_pair (list_at (lists_at labels n) place))
-trace_begins p stages labels n stage place index order same few room within listed last =
-    rw same (few, room, within, listed, rw (drop_all n order (omega (arith, room)), last) (completes_pair_start p n (node_at (stage_at stages n).1 place) _))
+pub trace_begins : (p : Problem) (stages : List LabelledStage) (n stage place index : ℕ) (order : List ℕ) → stage ≡ n → n ≤ length p.flights → length order ≡ n
+    → place < length (stage_at stages n).stage.1 → index < length (list_at (stage_at stages n).labels.lists place) → index ≡ length (list_at (stage_at stages n).labels.lists place) - 1
+    → (stage ≤ length p.flights) × (length order ≡ n) × (place < length (stage_at stages stage).stage.1) × (index < length (list_at (stage_at stages stage).labels.lists place))
+    × Traced p stages stage place index order (last_pair (list_at (stage_at stages n).labels.lists place))
+trace_begins p stages n stage place index order same few room within listed last =
+    rw same (few, room, within, listed, rw (drop_all n order (omega (arith, room)), last) (completes_pair_start p n (window_in (stage_at stages n) place) _))

@@ -5,7 +5,7 @@ use Rattle.landing_rules.specs.Problem.{Problem}
 use Rattle.cps_network.specs.Lists.{node_at}
 use Rattle.cps_network.specs.Pairs.{HoldsCosts, list_at}
 use Rattle.replan.specs.Held.{HeldProblem}
-use Rattle.replan.specs.Stages.{stage_at, lists_at}
+use Rattle.replan.specs.Stages.{stage_at}
 
 -- the number of the last stage that is held, and 0 with none
 abbrev pub stages_in : Option HeldProblem → ℕ
@@ -15,11 +15,11 @@ stages_in (Some h) = length h.stages - 1
 -- a stage that is held, and the pairs of its windows
 abbrev pub stage_in : Option HeldProblem → ℕ → ℕ × List (List ℤ)
 stage_in None i = (0, [])
-stage_in (Some h) i = stage_at h.stages i
+stage_in (Some h) i = (stage_at h.stages i).stage
 
 abbrev pub lists_in : Option HeldProblem → ℕ → List (List Pair)
 lists_in None i = []
-lists_in (Some h) i = lists_at h.labels i
+lists_in (Some h) i = (stage_at h.stages i).labels.lists
 
 -- the window at a place of a stage, and its pairs
 abbrev pub window_in : Option HeldProblem → ℕ → ℕ → List ℤ

@@ -10,32 +10,25 @@ use Rattle.cps_theory.specs.ProblemNetwork.{LandedIn}
 use Rattle.landing_joint.specs.RankedProblem.{ranked, cost_at}
 use Rattle.cps_network.specs.Permits.{IsNextOf}
 use Rattle.replan.specs.Labels.{StagePairs, HoldsPairs}
-use Rattle.replan.specs.declared.stages.Stages.{Stages}
 
-abbrev pub stage_at : List (ℕ × List (List ℤ)) → ℕ → ℕ × List (List ℤ)
-stage_at stages i = slice_index_or stages i (0, [])
+-- a stage with the pairs of its windows, and whether each of its candidates is said to be landable
+pub record LabelledStage : Type 0 where
+  pub stage : ℕ × List (List ℤ)
+  pub labels : StagePairs
+  pub is_whole : Bool
 
-abbrev pub labels_at : List StagePairs → ℕ → StagePairs
-labels_at labels i = slice_index_or labels i (record { objective = Makespan; lists = [] })
+abbrev pub no_stage : LabelledStage
+no_stage = record { stage = (0, []); labels = record { objective = Makespan; lists = [] }; is_whole = false }
 
--- the lists of pairs of a stage
-abbrev pub lists_at : List StagePairs → ℕ → List (List Pair)
-lists_at labels i = (labels_at labels i).lists
+abbrev pub stage_at : List LabelledStage → ℕ → LabelledStage
+stage_at stages i = slice_index_or stages i no_stage
 
--- these are stages of a problem, from stage 0 on: their landable windows with their pairs
-pub record HoldsStages (p : Problem) (stages : List (ℕ × List (List ℤ))) (labels : List StagePairs) : Type 0 where
-  pub one_each : length labels ≡ length stages
-  pub number : (i : ℕ) → i < length stages → (stage_at stages i).0 ≡ i
-  pub held : (i : ℕ) → i < length stages → HoldsPairs p (stage_at stages i) (labels_at labels i)
-
--- where it is said so, each candidate of a stage is among its windows: they are all that extend the stage before
-pub record AreWholeWhere (p : Problem) (stages : List (ℕ × List (List ℤ))) (said : List Bool) : Type 0 where
-  pub one_each : length said ≡ length stages
-  pub each : (i : ℕ) → 0 < i → i < length stages → IsTrue (slice_index_or said i false) → IsNextOf p (i - 1) (stage_at stages (i - 1)).1 (stage_at stages i).1
-
--- stages of a problem as they are kept, and what is said of them
-abbrev pub AreStages : {W : ℕ} → Problem → Stages W → Type 0
-AreStages p kept = HoldsStages p kept.stages.items kept.labels.items × AreWholeWhere p kept.stages.items kept.whole.items
+-- these are stages of a problem, from stage 0 on: their landable windows with their pairs; where a later one is said to be whole,
+-- its windows are all that extend the stage before
+pub record AreStages (p : Problem) (stages : List LabelledStage) : Type 0 where
+  pub number : (i : ℕ) → i < length stages → (stage_at stages i).stage.0 ≡ i
+  pub held : (i : ℕ) → i < length stages → HoldsPairs p (stage_at stages i).stage (stage_at stages i).labels
+  pub whole : (i : ℕ) → 0 < i → i < length stages → IsTrue (stage_at stages i).is_whole → IsNextOf p (i - 1) (stage_at stages (i - 1)).stage.1 (stage_at stages i).stage.1
 
 -- the order is legal, and its flights can be given seconds that are open and late enough one after another, the last of them
 -- and what they cost together this pair

@@ -5,7 +5,7 @@ ghost use Rattle.cps_network.specs.Due.{IsDueFrom};
 ghost use Rattle.replan.specs.Held.{AreInCommon, problem_of};
 ghost use Rattle.replan.specs.Stages.{AreStages};
 
-use crate::stages::{Stages, first_stage};
+use crate::stages::{LabelledStage, first_stage};
 use cps_network::{kept_stages, prefix_laws};
 use cps_nodes::window_laws;
 use cps_problem::Problem;
@@ -16,25 +16,18 @@ use std::marker::Model;
 #[derive(Drop)]
 pub(crate) struct HeldProblem<const W: usize> {
     pub(crate) problem: Problem,
-    pub(crate) stages: Stages<W>,
+    pub(crate) stages: Vec<LabelledStage<W>>,
 }
 
 impl<const W: usize> Model for HeldProblem<W> {
     ghost use Rattle.replan.specs.Held as held;
     ghost use Rattle.replan.specs.Held.{IsHeld};
-    ghost use Rattle.replan.specs.Stages.{AreWholeWhere};
 
     ghost Value = { held.HeldProblem };
 
-    ghost view = { λ h. record {
-      problem = h.problem;
-      stages = h.stages.stages.items;
-      labels = h.stages.labels.items;
-    } };
+    ghost view = { λ h. record { problem = h.problem; stages = h.stages.items } };
 
-    ghost invariant = { λ h. IsHeld W (record
-        { problem = h.problem; stages = h.stages.stages.items; labels = h.stages.labels.items })
-        × AreWholeWhere h.problem h.stages.stages.items h.stages.whole.items };
+    ghost invariant = { λ h. IsHeld W (record { problem = h.problem; stages = h.stages.items }) };
 }
 
 // How many stages of a problem, from stage 0 on, another has in common with it: those from which even the greatest shift does
@@ -49,11 +42,11 @@ fn common(held: &Problem, problem: &Problem) -> usize
 impl<const W: usize> HeldProblem<W> {
     // The stages that another problem has in common with this one, where these are more than stage 0. The others are given
     // back.
-    fn into_common(self, problem: &Problem, count: usize) -> Stages<W>
+    fn into_common(self, problem: &Problem, count: usize) -> Vec<LabelledStage<W>>
         requires more { 1 < count }
         requires common { AreInCommon self.problem problem.now count }
-        ensures held { AreStages problem.now result }
-        ensures count { vec_len result.stages ≡ count }
+        ensures held { AreStages problem.now result.items }
+        ensures count { vec_len result ≡ count }
     {
         let _held_ranks = self.problem.head();
         let _ranks = problem.head();
@@ -61,9 +54,7 @@ impl<const W: usize> HeldProblem<W> {
         prefix_laws::<W>(&self.problem);
         window_laws::<W>();
         let mut stages = self.stages;
-        stages.stages.truncate(count);
-        stages.labels.truncate(count);
-        stages.whole.truncate(count);
+        stages.truncate(count);
         stages
     }
 }
@@ -73,13 +64,13 @@ pub(crate) fn begin_stages<const W: usize>(
     alloc: Global,
     problem: &Problem,
     held: Option<HeldProblem<W>>,
-) -> Result<Stages<W>, AllocError>
+) -> Result<Vec<LabelledStage<W>>, AllocError>
     requires width { W ≡ 2 * problem.now.k + 1 }
-    ensures held { IfOk result (AreStages problem.now) }
-    ensures some { IfOk result (λ kept. 0 < vec_len kept.stages) }
-    ensures few { IfOk result (λ kept. vec_len kept.stages ≤ length problem.now.flights + 1) }
+    ensures held { IfOk result (λ kept. AreStages problem.now kept.items) }
+    ensures some { IfOk result (λ kept. 0 < vec_len kept) }
+    ensures few { IfOk result (λ kept. vec_len kept ≤ length problem.now.flights + 1) }
     ensures due { IfOk result (λ kept. IsDueFrom (problem_of held.entry) problem.now
-        (vec_len kept.stages)) }
+        (vec_len kept)) }
 {
     match held {
         None => {

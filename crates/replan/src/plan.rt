@@ -1,10 +1,10 @@
 //! A best and tight schedule.
 
-ghost use Rattle.std.specs.Prelude.{◌≡◌, ◌+◌, ◌*◌, length, vec_len, IfOk};
+ghost use Rattle.std.specs.Prelude.{◌≡◌, ◌+◌, ◌*◌, length, IfOk};
 ghost use Rattle.cps_problem.specs.Plans.{IsAnswerOf};
-ghost use Rattle.replan.specs.Stages.{HoldsStages};
+ghost use Rattle.replan.specs.Stages.{AreStages};
 
-use crate::stages::Stages;
+use crate::stages::LabelledStage;
 use crate::trace::{least_place, trace};
 use cps_problem::{Problem, Schedule};
 use extract_plan::{blank, retime};
@@ -15,16 +15,17 @@ use std::alloc::{AllocError, Global};
 pub(crate) fn schedule_of<const W: usize>(
     alloc: Global,
     problem: &Problem,
-    kept: &Stages<W>,
+    kept: &[LabelledStage<W>],
 ) -> Result<Option<Schedule>, AllocError>
     requires width { W ≡ 2 * problem.now.k + 1 }
-    requires held { HoldsStages problem.now kept.now.stages.items kept.now.labels.items }
-    requires whole { vec_len kept.now.stages ≡ length problem.now.flights + 1 }
+    requires held { AreStages problem.now kept.now }
+    requires whole { length kept.now ≡ length problem.now.flights + 1 }
     ensures { IfOk result (IsAnswerOf problem.now) }
 {
     let n = problem.len();
     let mut schedule = blank(alloc, n)?;
-    match least_place(&kept.labels[n as usize]) {
+    let last = &kept[n as usize];
+    match least_place(&last.labels) {
         None => Ok(None),
         Some(place) => {
             let mut order = vec![in alloc; 0u8; n as usize]?;

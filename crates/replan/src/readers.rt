@@ -33,7 +33,10 @@ impl<const W: usize> Kept<W> {
     {
         match &self.held {
             None => 0,
-            Some(held) => held.stages.stages[stage as usize].len(),
+            Some(held) => {
+                let labelled = &held.stages[stage as usize];
+                labelled.stage.len()
+            }
         }
     }
 
@@ -48,8 +51,8 @@ impl<const W: usize> Kept<W> {
             None => Node { placed: 0, last: 0 },
             Some(held) => {
                 let _few = held.problem.len();
-                let window = held.stages.stages[stage as usize].node(i);
-                placed_node(&window, stage)
+                let labelled = &held.stages[stage as usize];
+                placed_node(&labelled.stage.node(i), stage)
             }
         }
     }
@@ -62,7 +65,10 @@ impl<const W: usize> Kept<W> {
     {
         match &self.held {
             None => 0,
-            Some(held) => held.stages.labels[stage as usize].count(i),
+            Some(held) => {
+                let labelled = &held.stages[stage as usize];
+                labelled.labels.count(i)
+            }
         }
     }
 
@@ -76,7 +82,10 @@ impl<const W: usize> Kept<W> {
     {
         match &self.held {
             None => (0, 0),
-            Some(held) => held.stages.labels[stage as usize].pair(i, j),
+            Some(held) => {
+                let labelled = &held.stages[stage as usize];
+                labelled.labels.pair(i, j)
+            }
         }
     }
 }

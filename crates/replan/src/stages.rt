@@ -14,41 +14,45 @@ use cps_network::{Stage, next_stage, next_stage_like};
 use cps_outside::Gate;
 use cps_problem::Problem;
 use std::alloc::{AllocError, Global};
+use std::marker::Model;
 use std::thread::Threads;
 
-/// Stages of a problem, from stage 0 on: their landable windows, and the pairs of each.
+/// A stage of a problem with the pairs of its windows.
 #[derive(Drop)]
-pub(crate) struct Stages<const W: usize> {
-    pub(crate) stages: Vec<Stage<W>>,
-    pub(crate) labels: Vec<Labels>,
-    // Whether each candidate of a stage is landable: then the stage after it may be a copy of it. Of stage 0 it is not said.
-    pub(crate) whole: Vec<bool>,
+pub(crate) struct LabelledStage<const W: usize> {
+    pub(crate) stage: Stage<W>,
+    pub(crate) labels: Labels,
+    // Whether each candidate is landable: then the stage after it may be a copy of it. Of stage 0 it is not said.
+    pub(crate) is_whole: bool,
+}
+
+impl<const W: usize> Model for LabelledStage<W> {
+    ghost use Rattle.replan.specs.Stages as stages;
+
+    ghost Value = { stages.LabelledStage };
+
+    ghost view = { λ s. record { stage = s.stage; labels = s.labels; is_whole = s.is_whole } };
 }
 
 // Stage 0.
 pub(crate) fn first_stage<const W: usize>(
     alloc: Global,
     problem: &Problem,
-) -> Result<Stages<W>, AllocError>
+) -> Result<Vec<LabelledStage<W>>, AllocError>
     requires width { W ≡ 2 * problem.now.k + 1 }
-    ensures held { IfOk result (AreStages problem.now) }
-    ensures one { IfOk result (λ kept. vec_len kept.stages ≡ 1) }
+    ensures held { IfOk result (λ kept. AreStages problem.now kept.items) }
+    ensures one { IfOk result (λ kept. vec_len kept ≡ 1) }
 {
     let objective = problem.head().objective;
     let stage = Stage::start(alloc)?;
-    let start = Labels::start(alloc, objective)?;
-    let room = problem.len() as usize + 1;
-    let mut stages = Vec::with_capacity(alloc, room)?;
-    let mut labels = Vec::with_capacity(alloc, room)?;
-    let mut whole = Vec::with_capacity(alloc, room)?;
-    stages.push(stage)?;
-    labels.push(start)?;
-    whole.push(false)?;
-    Ok(Stages {
-        stages,
+    let labels = Labels::start(alloc, objective)?;
+    let mut kept = Vec::with_capacity(alloc, problem.len() as usize + 1)?;
+    kept.push(LabelledStage {
+        stage,
         labels,
-        whole,
-    })
+        is_whole: false,
+    })?;
+    Ok(kept)
 }
 
 // The stage after one. Where that has each window that extends the one before it, it is often a copy of it.
@@ -81,31 +85,34 @@ fn add_stage<const W: usize, R: Threads, G: Gate, L: Ledger>(
     rt: &R,
     alloc: Global,
     problem: &Problem,
-    kept: &mut Stages<W>,
+    kept: &mut Vec<LabelledStage<W>>,
     gate: &G,
     steps: &mut Steps<L>,
 ) -> Result<(), AllocError>
     requires width { W ≡ 2 * problem.now.k + 1 }
-    requires held { AreStages problem.now kept.old }
-    requires some { 0 < vec_len kept.old.stages }
-    requires number { vec_len kept.old.stages ≤ length problem.now.flights }
-    ensures held { OnOk result (AreStages problem.now kept.new) }
-    ensures one { OnOk result (vec_len kept.new.stages ≡ vec_len kept.old.stages + 1) }
+    requires held { AreStages problem.now kept.old.items }
+    requires some { 0 < vec_len kept.old }
+    requires number { vec_len kept.old ≤ length problem.now.flights }
+    ensures held { OnOk result (AreStages problem.now kept.new.items) }
+    ensures one { OnOk result (vec_len kept.new ≡ vec_len kept.old + 1) }
     ensures steps { OnOk result ((count : ℕ) × HasCandidates problem.now
-        (vec_len kept.old.stages - 1) count × (L.count steps.new ≡ raised_by count
+        (vec_len kept.old - 1) count × (L.count steps.new ≡ raised_by count
         (L.count steps.old))) }
 {
-    let last = kept.stages.len() - 1;
-    let earlier = &kept.stages[last.saturating_sub(1)];
-    let before = &kept.stages[last];
-    let mut stage = stage_after(alloc, problem, earlier, before, kept.whole[last])?;
+    let number = kept.len() - 1;
+    let earlier = &kept[number.saturating_sub(1)];
+    let last = &kept[number];
+    let mut stage = stage_after(alloc, problem, &earlier.stage, &last.stage, last.is_whole)?;
     let candidates = stage.len();
-    let labels = &kept.labels[last];
-    let found = labels.next(rt, alloc, problem, before, &mut stage, gate, steps)?;
+    let labels = last
+        .labels
+        .next(rt, alloc, problem, &last.stage, &mut stage, gate, steps)?;
     let is_whole = stage.len() == candidates;
-    kept.stages.push(stage)?;
-    kept.labels.push(found)?;
-    kept.whole.push(is_whole)?;
+    kept.push(LabelledStage {
+        stage,
+        labels,
+        is_whole,
+    })?;
     Ok(())
 }
 
@@ -114,22 +121,22 @@ pub(crate) fn fill_stages<const W: usize, R: Threads, G: Gate, L: Ledger>(
     rt: &R,
     alloc: Global,
     problem: &Problem,
-    kept: &mut Stages<W>,
+    kept: &mut Vec<LabelledStage<W>>,
     gate: &G,
     steps: &mut Steps<L>,
 ) -> Result<(), AllocError>
     requires width { W ≡ 2 * problem.now.k + 1 }
-    requires held { AreStages problem.now kept.old }
-    requires some { 0 < vec_len kept.old.stages }
-    requires few { vec_len kept.old.stages ≤ length problem.now.flights + 1 }
-    ensures held { OnOk result (AreStages problem.now kept.new) }
-    ensures all { OnOk result (vec_len kept.new.stages ≡ length problem.now.flights + 1) }
-    ensures steps { OnOk result ((due : ℕ) × HasCandidatesFrom (vec_len kept.old.stages)
+    requires held { AreStages problem.now kept.old.items }
+    requires some { 0 < vec_len kept.old }
+    requires few { vec_len kept.old ≤ length problem.now.flights + 1 }
+    ensures held { OnOk result (AreStages problem.now kept.new.items) }
+    ensures all { OnOk result (vec_len kept.new ≡ length problem.now.flights + 1) }
+    ensures steps { OnOk result ((due : ℕ) × HasCandidatesFrom (vec_len kept.old)
         problem.now (length problem.now.flights) due
         × (L.count steps.new ≡ raised_by due (L.count steps.old))) }
 {
     steps.tick(0);
-    let first = kept.stages.len();
+    let first = kept.len();
     for _stage in first..problem.len() as usize + 1 {
         add_stage(rt, alloc, problem, kept, gate, steps)?;
     }

@@ -2,27 +2,24 @@ use Rattle.std.proofs.Common.{length, ap, ◌∙◌, arith}
 use Rattle.std.proofs.lemmas.List.{length-take-le}
 use Rattle.cps_network.specs.WindowLaws.{WindowLaws}
 use Rattle.replan.specs.Held.{AreInCommon, HeldProblem}
-use Rattle.replan.proofs.StageLemmas.{held_in_common, whole_in_common, few_in_common}
+use Rattle.replan.proofs.StageLemmas.{stages_in_common, few_in_common}
 use Rattle.replan.proofs.held.HeldProblem.into_common.Goals as goal
 
 pub returns-clause-held : goal.returns-clause-held
 returns-clause-held g c =
     let inside = c.self.inside in
-    let held = c.self.invariant.0 in
+    let held = c.self.invariant in
     let common : AreInCommon inside.problem c.args.problem.now c.args.count = rw (ap (λ (h : HeldProblem). h.problem) c.self.view_is) c.requires.common in
-    let few = few_in_common inside.problem c.args.problem.now c.args.count inside.stages.stages.items common held.whole in
+    let few = few_in_common inside.problem c.args.problem.now c.args.count inside.stages.items common held.whole in
     let laws : WindowLaws inside.problem g.row.W =
     record { network = c.prefix_laws.ensures.network; alike = c.prefix_laws.ensures.sources; ranks = c.window_laws.ensures.ranks; leads = c.window_laws.ensures.leads } in
-    rw (c.truncate.ensures.items, c.truncate-2.ensures.items, c.truncate-3.ensures.items) (
-      held_in_common inside.problem c.args.problem.now _ _ c.args.count held.held c.kept_stages.ensures.early common c.requires.more few,
-      whole_in_common inside.problem c.args.problem.now g.row.W held.width_is laws c.head-held_ranks.ensures.well_formed.between_ranks
-          c.head-ranks.ensures.well_formed.between_ranks _ _ _ c.args.count held.held c.self.invariant.1 common c.requires.more few,
-    )
+    rw c.truncate.ensures.items (stages_in_common inside.problem c.args.problem.now g.row.W held.width_is laws c.head-held_ranks.ensures.well_formed.between_ranks
+    c.head-ranks.ensures.well_formed.between_ranks _ c.args.count held.held c.kept_stages.ensures.early common c.requires.more few)
 
 pub returns-clause-count : goal.returns-clause-count
 returns-clause-count g c =
     let inside = c.self.inside in
     let common : AreInCommon inside.problem c.args.problem.now c.args.count = rw (ap (λ (h : HeldProblem). h.problem) c.self.view_is) c.requires.common in
-    let few = few_in_common inside.problem c.args.problem.now c.args.count inside.stages.stages.items common c.self.invariant.0.whole in
-    let long = ap length c.truncate.ensures.items ∙ length-take-le c.args.count inside.stages.stages.items few in
+    let few = few_in_common inside.problem c.args.problem.now c.args.count inside.stages.items common c.self.invariant.whole in
+    let long = ap length c.truncate.ensures.items ∙ length-take-le c.args.count inside.stages.items few in
     omega (arith, long)
