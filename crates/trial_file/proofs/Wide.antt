@@ -1,5 +1,5 @@
 -- A record with too many fields is refused as one without fields is, and nothing behind it is read.
-use Rattle.std.proofs.Common.{◌≡◌, ℕ, ◌<◌, true, false, List, [], ◌∷◌, length, Result, Ok, Err, refl, arith, inl, inr}
+use Rattle.std.proofs.Common.{◌≡◌, ℕ, true, false, List, [], ◌∷◌, length, Result, Ok, Err, refl, arith, inl, inr}
 use Rattle.std.specs.Prelude.{nat_lt}
 use Rattle.std.proofs.lemmas.Bool.{cases_Bool}
 use Rattle.std.proofs.lemmas.Grind.{common_steps}
@@ -8,7 +8,7 @@ use Rattle.csv_records.specs.Rows.{Fields, within}
 use Rattle.trial_file.specs.declared.fault.TrialCause.TheVariants as cause
 use Rattle.trial_file.specs.declared.fault.TrialFault.{TrialFault}
 use Rattle.trial_file.specs.declared.trial.Trial.{Trial}
-use Rattle.trial_file.specs.Reading.{is_header, trial_in, header_fault, added, trials_in, trials_by}
+use Rattle.trial_file.specs.Reading.{is_header, trial_in, added, trials_in, trials_by}
 
 wide_trial : (before : ℕ) (r : Fields) → nat_lt 2 (length r) ≡ true → trial_in before r ≡ Err cause.FieldCount
 unfolding trial_in
