@@ -10,8 +10,8 @@ use Rattle.landing_rules.specs.Sound.{IsGoodFlight}
 use Rattle.landing_rules.specs.Events.{named}
 use Rattle.landing_rules.specs.Text.{ShownLanding}
 use Rattle.landing_rules.specs.Audit.{Unknown, landing_of, lines_found, unknown}
-use Rattle.sequencer.specs.Shown.{shown_of}
-use Rattle.sequencer.specs.declared.plan.Landing.{Landing}
+use Rattle.plan_file.specs.Shown.{shown_of}
+use Rattle.plan_file.specs.declared.landing.Landing.{Landing}
 use Rattle.audit.specs.Findings.{HasSmallWeight, one_found}
 use Rattle.audit.proofs.SeenNames.{some-find}
 

@@ -1,12 +1,8 @@
-pub mod BodyLines
 pub mod Broken
 pub mod CleanBlocks
 pub mod EachPair
 pub mod Failing
 pub mod FoundLines
-pub mod LongLines
 pub mod Ordering
-pub mod Readable
-pub mod ReadsBack
 pub mod SeenNames
 pub mod Shifting

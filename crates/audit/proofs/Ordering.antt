@@ -3,8 +3,8 @@ use Rattle.std.proofs.Common.{◌≡◌, ℕ, ◌+◌, ◌<◌, Bool, true, fals
 use Rattle.std.specs.Prelude.{nat_lt}
 use Rattle.std.proofs.lemmas.List.{drop_more}
 use Rattle.landing_rules.specs.Audit.{Finding, Order, disordered_from}
-use Rattle.sequencer.specs.Shown.{shown_of}
-use Rattle.sequencer.specs.declared.plan.Landing.{Landing}
+use Rattle.plan_file.specs.Shown.{shown_of}
+use Rattle.plan_file.specs.declared.landing.Landing.{Landing}
 use Rattle.audit.specs.Findings.{out_of_order}
 
 pub order_step : (lines : List Landing) (i before : ℕ) (l : Landing) (done more whole : List Finding) →

@@ -9,8 +9,8 @@ use Rattle.indexmap.specs.IndexSet.{insert_key}
 use Rattle.landing_rules.specs.Flights.{Active}
 use Rattle.landing_rules.specs.Text.{ShownLanding}
 use Rattle.landing_rules.specs.Audit.{Finding, Twice, has_line, twice_after}
-use Rattle.sequencer.specs.Shown.{shown_of}
-use Rattle.sequencer.specs.declared.plan.Landing.{Landing}
+use Rattle.plan_file.specs.Shown.{shown_of}
+use Rattle.plan_file.specs.declared.landing.Landing.{Landing}
 use Rattle.audit.specs.Findings.{repeated}
 use Rattle.audit.specs.Seen.{has_name}
 

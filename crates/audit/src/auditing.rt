@@ -4,10 +4,9 @@ ghost use Rattle.landing_rules.specs.Limits.{most_flights};
 ghost use Rattle.landing_rules.specs.Sound.{IsSound};
 ghost use Rattle.landing_rules.specs.Audit.{IsClean, by_line, by_rules, findings, landing_of, lines_found};
 ghost use Rattle.audit.specs.Findings.{finding_of};
-ghost use Rattle.audit.specs.Blocks.{seen_block};
+ghost use Rattle.plan_file.specs.Blocks.{seen_block};
 
 use crate::Finding;
-use crate::block::Block;
 use crate::found::{Found, lines_found, mismarked};
 use crate::head::by_head;
 use crate::joining::joined;
@@ -16,6 +15,7 @@ use crate::order::disordered;
 use crate::rules::{closed, early, late, moved, unseparated};
 use crate::shift::shifted;
 use landing_joint::laws::findings_are_whole;
+use plan_file::Block;
 use situations::Situation;
 use std::alloc::{AllocError, Global};
 

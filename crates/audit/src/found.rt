@@ -2,12 +2,12 @@
 ghost use Rattle.std.specs.Prelude.{◌≡◌, ◌++◌, [], IfOk, OnOk, map};
 ghost use Rattle.std.specs.List.{cons_option};
 ghost use Rattle.landing_rules.specs.Audit.{lines_found, is_marked, mismarked};
-ghost use Rattle.sequencer.specs.Shown.{shown_of};
+ghost use Rattle.plan_file.specs.Shown.{shown_of};
 ghost use Rattle.audit.specs.Findings.{finding_of, one_found};
 
 use crate::Finding;
 use cps_base::Callsign;
-use sequencer::Landing;
+use plan_file::Landing;
 use situations::Active;
 use std::alloc::{AllocError, Global};
 use std::marker::Model;
@@ -22,7 +22,7 @@ pub(crate) struct Found {
 impl Model for Found {
     ghost use Rattle.landing_rules.specs.Flights as rules;
     ghost use Rattle.landing_rules.specs.Text.{ShownLanding};
-    ghost use Rattle.sequencer.specs.Shown.{shown_of};
+    ghost use Rattle.plan_file.specs.Shown.{shown_of};
 
     ghost Value = { ShownLanding × rules.Active };
 

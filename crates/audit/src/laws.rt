@@ -1,4 +1,4 @@
-//! What holds of printed plans and of the plans that are shown.
+//! What holds of the findings, and of the plans that are shown.
 
 ghost use Rattle.std.specs.Prelude.{◌≡◌, [], Some};
 ghost use Rattle.landing_rules.specs.Audit.{findings};
@@ -6,19 +6,10 @@ ghost use Rattle.landing_rules.specs.Flights.{Active, Landing};
 ghost use Rattle.landing_rules.specs.Text.{ShownLanding, ShownPlan, plan_shown};
 ghost use Rattle.audit.specs.Members.{EachBreakLaw, EachPairLaw};
 ghost use Rattle.landing_joint.specs.AuditLaws.{shown_block};
-ghost use Rattle.audit.specs.Printed.{NoPlanReadsBackLaw, PlanReadsBackLaw, ShownPlanIsReadableLaw};
 
 use cps_problem::Planner;
 use landing_joint::laws::findings_are_whole;
 use sequencer::Sequencer;
-
-/// What is printed of a plan reads back as the plan, where its callsigns, numbers and their count are in their ranges, as
-/// they are of every plan that a sound state shows; and the line of no plan reads back as none.
-pub fn printed_plans_read_back()
-    ensures plan { PlanReadsBackLaw }
-    ensures none { NoPlanReadsBackLaw }
-    ensures shown { ShownPlanIsReadableLaw }
-{}
 
 /// Nothing is found in the plan that a sequencer shows, in its situation and under its objective: after it began, and
 /// after any events.

@@ -3,7 +3,7 @@ ghost use Rattle.std.specs.Prelude.{◌≡◌, ◌++◌, ℕ, List, [], IfOk, On
 ghost use Rattle.landing_rules.specs.Audit.{by_name, has_line, lines_found, missing, twice, unknown};
 ghost use Rattle.landing_rules.specs.Events.{named};
 ghost use Rattle.std.specs.List.{list_any};
-ghost use Rattle.sequencer.specs.Shown.{shown_of};
+ghost use Rattle.plan_file.specs.Shown.{shown_of};
 ghost use Rattle.audit.specs.Findings.{finding_of, repeated};
 ghost use Rattle.audit.specs.Seen.{has_name};
 
@@ -12,7 +12,7 @@ use crate::found::name_of;
 use crate::joining::joined;
 use crate::seen::Seen;
 use cps_base::Callsign;
-use sequencer::Landing;
+use plan_file::Landing;
 use situations::Active;
 use std::alloc::{AllocError, Global};
 

@@ -2,11 +2,11 @@
 ghost use Rattle.std.specs.Prelude.{◌≡◌, ◌≤◌, ◌++◌, ◌+◌, IfOk, OnOk, length, map};
 ghost use Rattle.landing_rules.specs.Audit.{disordered, disordered_from};
 ghost use Rattle.landing_rules.specs.Limits.{most_flights};
-ghost use Rattle.sequencer.specs.Shown.{shown_of};
+ghost use Rattle.plan_file.specs.Shown.{shown_of};
 ghost use Rattle.audit.specs.Findings.{finding_of, out_of_order};
 
 use crate::Finding;
-use sequencer::Landing;
+use plan_file::Landing;
 use std::alloc::{AllocError, Global};
 
 // Notes line i where its second is not above that of the line before.

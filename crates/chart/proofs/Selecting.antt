@@ -5,9 +5,9 @@ use Rattle.std.proofs.lemmas.List.Concat.{flat_map-append}
 use Rattle.landing_rules.specs.Flights.{Callsign, Span, Active, Situation, horizon}
 use Rattle.landing_rules.specs.Text.{ShownLanding}
 use Rattle.landing_rules.specs.Audit.{Finding, findings}
-use Rattle.audit.specs.declared.block.Block.{Block}
-use Rattle.audit.specs.declared.plan.PlanText.TheVariants as plans
-use Rattle.audit.specs.Blocks.{seen_block}
+use Rattle.plan_file.specs.declared.block.Block.{Block}
+use Rattle.plan_file.specs.declared.plan.PlanText.TheVariants as plans
+use Rattle.plan_file.specs.Blocks.{seen_block}
 use Rattle.chart.specs.declared.element.Element.{Element}
 use Rattle.chart.specs.declared.element.Element.TheVariants as element
 use Rattle.chart.specs.declared.element.Label.{Label}

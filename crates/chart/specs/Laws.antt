@@ -3,8 +3,8 @@ use Rattle.std.specs.Prelude.{◌≡◌, ⊤, ℕ, ◌-◌, ◌*◌, ◌<◌, �
 use Rattle.std.specs.List.{AllByRecursion}
 use Rattle.landing_rules.specs.Flights.{Callsign, Span, Active, Situation, horizon}
 use Rattle.landing_rules.specs.Text.{ShownLanding}
-use Rattle.audit.specs.declared.block.Block.{Block}
-use Rattle.audit.specs.declared.plan.PlanText.TheVariants as plans
+use Rattle.plan_file.specs.declared.block.Block.{Block}
+use Rattle.plan_file.specs.declared.plan.PlanText.TheVariants as plans
 use Rattle.chart.specs.declared.element.Element.{Element}
 use Rattle.chart.specs.declared.element.Element.TheVariants as element
 use Rattle.chart.specs.declared.element.Spot.{Spot}

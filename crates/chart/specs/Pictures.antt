@@ -4,9 +4,9 @@ use Rattle.landing_rules.specs.declared.objective.Objective.{Objective}
 use Rattle.landing_rules.specs.Flights.{Situation, horizon}
 use Rattle.landing_rules.specs.Text.{ShownLanding}
 use Rattle.landing_rules.specs.Audit.{Finding, findings}
-use Rattle.audit.specs.declared.plan.PlanText.{PlanText}
-use Rattle.audit.specs.declared.plan.PlanText.TheVariants as plans
-use Rattle.audit.specs.Blocks.{seen_block}
+use Rattle.plan_file.specs.declared.plan.PlanText.{PlanText}
+use Rattle.plan_file.specs.declared.plan.PlanText.TheVariants as plans
+use Rattle.plan_file.specs.Blocks.{seen_block}
 use Rattle.chart.specs.declared.element.Element.{Element}
 use Rattle.chart.specs.declared.element.Element.TheVariants as element
 use Rattle.chart.specs.declared.frame.Frame.{Frame}

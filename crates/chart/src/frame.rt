@@ -1,11 +1,11 @@
 // Which seconds a picture shows.
 ghost use Rattle.std.specs.Prelude.{◌≡◌, ◌≤◌, ◌<◌, ◌^◌, option_map};
 ghost use Rattle.landing_rules.specs.Text.{ShownLanding};
-ghost use Rattle.sequencer.specs.Shown.{shown_of};
+ghost use Rattle.plan_file.specs.Shown.{shown_of};
 ghost use Rattle.chart.specs.Frames.{empty, first_of, frame_of, span_of, widened, with_active, with_horizon, with_landing, with_row, with_rows, with_windows};
 
 use crate::row::Row;
-use sequencer::Landing;
+use plan_file::Landing;
 use situations::Active;
 
 // From a first second to a last one.

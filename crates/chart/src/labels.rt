@@ -1,14 +1,14 @@
 // The words of the rows.
 ghost use Rattle.std.specs.Prelude.{◌≡◌, ◌≤◌, ◌++◌, OnOk, length, map, option_map};
-ghost use Rattle.sequencer.specs.Shown.{shown_of};
+ghost use Rattle.plan_file.specs.Shown.{shown_of};
 ghost use Rattle.audit.specs.Findings.{finding_of};
 ghost use Rattle.chart.specs.Elements.{category_in, label_of, labels_drawn, place_at, place_shown, rank_shown};
 
 use crate::row::Row;
 use crate::standing::{flags_row, place_in, rank_in};
 use crate::{Element, Label};
-use audit::{BlockLines, Finding};
-use sequencer::Landing;
+use audit::Finding;
+use plan_file::{BlockLines, Landing};
 use situations::Active;
 use std::alloc::AllocError;
 use wake_table::Category;

@@ -3,8 +3,8 @@ ghost use Rattle.std.specs.Prelude.{◌≡◌, ◌≤◌, ◌-◌, ◌++◌, IfO
 ghost use Rattle.landing_rules.specs.Flights.{horizon};
 ghost use Rattle.landing_rules.specs.Sound.{IsSound};
 ghost use Rattle.audit.specs.Findings.{finding_of};
-ghost use Rattle.audit.specs.Reading.{HasFewLines};
-ghost use Rattle.audit.specs.declared.plan.PlanText.TheVariants as plans;
+ghost use Rattle.plan_file.specs.Reading.{HasFewLines};
+ghost use Rattle.plan_file.specs.declared.plan.PlanText.TheVariants as plans;
 ghost use Rattle.chart.specs.Places.{x_of};
 ghost use Rattle.chart.specs.Held.{found_in};
 ghost use Rattle.chart.specs.Frames.{first_of, span_of};
@@ -19,7 +19,8 @@ use crate::row::Row;
 use crate::rows::rows_of;
 use crate::shapes::add_rows;
 use crate::{Element, Picture};
-use audit::{Block, BlockLines, Finding, PlanText, audit};
+use audit::{Finding, audit};
+use plan_file::{Block, BlockLines, PlanText};
 use situations::{Active, Situation};
 use std::alloc::{AllocError, Global};
 

@@ -2,7 +2,7 @@
 ghost use Rattle.std.specs.Prelude.{◌≡◌};
 
 use cps_base::Callsign;
-use sequencer::Landing;
+use plan_file::Landing;
 use situations::Active;
 use std::marker::Model;
 
@@ -16,7 +16,7 @@ pub(crate) struct Row {
 
 impl Model for Row {
     ghost use Rattle.std.specs.Prelude.{option_map};
-    ghost use Rattle.sequencer.specs.Shown.{shown_of};
+    ghost use Rattle.plan_file.specs.Shown.{shown_of};
     ghost use Rattle.chart.specs.Rows as picture;
 
     ghost Value = { picture.Row };

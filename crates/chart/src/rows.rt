@@ -2,14 +2,13 @@
 ghost use Rattle.std.specs.Prelude.{◌≡◌, ◌++◌, IfOk, OnOk, find, map};
 ghost use Rattle.landing_rules.specs.Audit.{has_line};
 ghost use Rattle.landing_rules.specs.Events.{named};
-ghost use Rattle.sequencer.specs.Shown.{shown_of};
+ghost use Rattle.plan_file.specs.Shown.{shown_of};
 ghost use Rattle.chart.specs.Rows.{landed_row, missing_rows, rows_of, waiting_row};
 
 use crate::order::in_order;
 use crate::row::Row;
-use audit::BlockLines;
 use cps_base::Callsign;
-use sequencer::Landing;
+use plan_file::{BlockLines, Landing};
 use situations::Active;
 use std::alloc::{AllocError, Global};
 

@@ -1,7 +1,7 @@
 // What the rows draw.
 ghost use Rattle.std.specs.Prelude.{◌≡◌, ◌≤◌, ◌++◌, OnOk, length, map, option_map};
 ghost use Rattle.wake_table.specs.Table.{separation};
-ghost use Rattle.sequencer.specs.Shown.{shown_of};
+ghost use Rattle.plan_file.specs.Shown.{shown_of};
 ghost use Rattle.audit.specs.Findings.{finding_of};
 ghost use Rattle.chart.specs.Elements.{delay_drawn, flight_drawn, landing_drawn, mark_drawn, owed_behind, owed_drawn, owed_to, row_drawn, rows_drawn, windows_drawn};
 
@@ -9,9 +9,9 @@ use crate::places::spot;
 use crate::row::Row;
 use crate::standing::flags_row;
 use crate::{Element, Look};
-use audit::{BlockLines, Finding};
+use audit::Finding;
 use cps_base::Callsign;
-use sequencer::Landing;
+use plan_file::{BlockLines, Landing};
 use situations::Active;
 use std::alloc::AllocError;
 use wake_table::PairTable;

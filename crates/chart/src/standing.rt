@@ -4,13 +4,14 @@ ghost use Rattle.std.specs.Ordering.{is_lt};
 ghost use Rattle.landing_rules.specs.Flights.{is_waiting};
 ghost use Rattle.landing_rules.specs.Rules.{arrival_cmp};
 ghost use Rattle.landing_rules.specs.Audit as rules;
-ghost use Rattle.sequencer.specs.Shown.{shown_of};
+ghost use Rattle.plan_file.specs.Shown.{shown_of};
 ghost use Rattle.audit.specs.Findings.{finding_of};
 ghost use Rattle.chart.specs.Rows.{is_flagged, lands_before, names, place_in, rank_in, waits};
 
 use crate::row::Row;
-use audit::{BlockLines, Finding};
+use audit::Finding;
 use cps_base::Callsign;
+use plan_file::BlockLines;
 use situations::Active;
 
 // Whether the flight waits and comes before another, first come, first served.

@@ -7,11 +7,11 @@ use Rattle.aerodrome_file.specs.declared.aerodrome.Aerodrome.{Aerodrome}
 use Rattle.aerodrome_file.specs.Reading.{aerodrome_of}
 use Rattle.flight_file.specs.declared.flight.Flight.{Flight}
 use Rattle.flight_file.specs.Reading.{flights_of}
-use Rattle.audit.specs.Reading.{plan_of}
+use Rattle.plan_file.specs.Reading.{plan_of}
 use Rattle.endings.specs.declared.ending.Ending.{Ending}
 use Rattle.landing_rules.specs.Flights.{Situation}
 use Rattle.landing_rules.specs.Audit.{Finding}
-use Rattle.audit.specs.declared.plan.PlanText.{PlanText}
+use Rattle.plan_file.specs.declared.plan.PlanText.{PlanText}
 use Rattle.chart.specs.declared.element.Element.{Element}
 use Rattle.chart.specs.Pictures.{elements_of, found_of}
 use Rattle.chart.specs.Texts.{picture_text}

@@ -2,16 +2,16 @@
 ghost use Rattle.std.specs.Prelude.{◌≡◌, ◌∷◌, [], MatchResult};
 ghost use Rattle.aerodrome_file.specs.Reading.{IsInRange};
 ghost use Rattle.flight_file.specs.OfFile.{CanBeRead};
-ghost use Rattle.audit.specs.Reading.{HasFewLines};
+ghost use Rattle.plan_file.specs.Reading.{HasFewLines};
 ghost use Rattle.chart_main.specs.Drawings.{AreDrawn, IsDrawn, StopsFiles, StopsOpened};
 ghost use Rattle.chart_main.specs.Outcomes.{Follows, done_by};
 
 use aerodrome_file::{Aerodrome, read_aerodrome};
-use audit::{PlanText, read_plan};
 use chart::{append_picture, picture};
 use cps_outside::{Sink, WriteFailed};
 use endings::Ending;
 use flight_file::{Flight, read_flights};
+use plan_file::{PlanText, read_plan};
 use sequencer::opening;
 use std::alloc::Global;
 

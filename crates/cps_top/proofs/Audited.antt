@@ -2,7 +2,7 @@
 use Rattle.std.proofs.Common.{◌≡◌, ℕ, List, None, Ok, ap, ◌∙◌}
 use Rattle.aerodrome_file.specs.Reading.{aerodrome_of}
 use Rattle.flight_file.specs.Reading.{flights_of}
-use Rattle.audit.specs.Reading.{plan_of}
+use Rattle.plan_file.specs.Reading.{plan_of}
 use Rattle.endings.specs.declared.ending.Answer.{Answer}
 use Rattle.cps_top.specs.Audit.{AdmitsAudit, unaudited_by}
 

@@ -2,7 +2,7 @@
 use Rattle.std.proofs.Common.{◌≡◌, ℕ, List, None, Ok, ap, ◌∙◌}
 use Rattle.aerodrome_file.specs.Reading.{aerodrome_of}
 use Rattle.flight_file.specs.Reading.{flights_of}
-use Rattle.whatif.specs.Reading.{trials_of}
+use Rattle.trial_file.specs.Reading.{trials_of}
 use Rattle.endings.specs.declared.ending.Answer.{Answer}
 use Rattle.cps_top.specs.WhatIf.{AdmitsWhatIf, untried_by}
 

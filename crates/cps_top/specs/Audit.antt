@@ -9,11 +9,11 @@ use Rattle.aerodrome_file.specs.Reading.{aerodrome_of}
 use Rattle.flight_file.specs.declared.flight.Flight.{Flight}
 use Rattle.flight_file.specs.declared.fault.FlightFault.{FlightFault}
 use Rattle.flight_file.specs.Reading.{flights_of}
-use Rattle.audit.specs.declared.plan.PlanFault.{PlanFault}
-use Rattle.audit.specs.declared.plan.PlanText.{PlanText}
-use Rattle.audit.specs.declared.plan.PlanText.TheVariants as plans
-use Rattle.audit.specs.Blocks.{seen_block}
-use Rattle.audit.specs.Reading.{plan_of}
+use Rattle.plan_file.specs.declared.plan.PlanFault.{PlanFault}
+use Rattle.plan_file.specs.declared.plan.PlanText.{PlanText}
+use Rattle.plan_file.specs.declared.plan.PlanText.TheVariants as plans
+use Rattle.plan_file.specs.Blocks.{seen_block}
+use Rattle.plan_file.specs.Reading.{plan_of}
 use Rattle.audit.specs.Texts.{findings_text}
 use Rattle.sequencer.specs.Opened.{opened}
 use Rattle.endings.specs.declared.ending.Answer.{Answer}

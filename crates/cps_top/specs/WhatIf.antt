@@ -6,11 +6,11 @@ use Rattle.aerodrome_file.specs.Reading.{aerodrome_of}
 use Rattle.flight_file.specs.declared.flight.Flight.{Flight}
 use Rattle.flight_file.specs.declared.fault.FlightFault.{FlightFault}
 use Rattle.flight_file.specs.Reading.{flights_of}
-use Rattle.whatif.specs.declared.fault.TrialFault.{TrialFault}
+use Rattle.trial_file.specs.declared.fault.TrialFault.{TrialFault}
 use Rattle.whatif.specs.declared.outcome.Outcome.{Outcome}
-use Rattle.whatif.specs.declared.trial.Trial.{Trial}
+use Rattle.trial_file.specs.declared.trial.Trial.{Trial}
 use Rattle.whatif.specs.Outcomes.{AreOutcomes}
-use Rattle.whatif.specs.Reading.{trials_of}
+use Rattle.trial_file.specs.Reading.{trials_of}
 use Rattle.whatif.specs.Text.{outcomes_text}
 use Rattle.endings.specs.declared.ending.Answer.{Answer}
 use Rattle.endings.specs.declared.ending.Answer.TheVariants.{Tried}

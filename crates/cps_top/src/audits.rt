@@ -2,21 +2,22 @@
 ghost use Rattle.std.specs.Prelude.{◌≡◌, ◌≤◌, [], ◌∷◌, IfOk, MatchResult, length};
 ghost use Rattle.landing_rules.specs.Audit.{findings};
 ghost use Rattle.landing_rules.specs.Limits.{most_flights};
-ghost use Rattle.audit.specs.Blocks.{seen_block};
+ghost use Rattle.plan_file.specs.Blocks.{seen_block};
 ghost use Rattle.aerodrome_file.specs.Reading.{IsInRange};
 ghost use Rattle.flight_file.specs.OfFile.{CanBeRead};
 ghost use Rattle.landing_rules.specs.Sound.{IsSound};
-ghost use Rattle.audit.specs.Reading.{HasFewLines};
+ghost use Rattle.plan_file.specs.Reading.{HasFewLines};
 ghost use Rattle.cps_top.specs.declared.commands.Command.TheVariants as commands;
 ghost use Rattle.cps_top.specs.Audit.{AdmitsAudit, IsAudited, StopsAudit, audit_answer, audit_text, report, report_answer};
 ghost use Rattle.cps_top.specs.Outcome.{Follows};
 ghost use Rattle.cps_top.specs.Plan.{StopsOpened};
 
 use aerodrome_file::{Aerodrome, read_aerodrome};
-use audit::{Block, PlanText, append_findings, audit, read_plan};
+use audit::{append_findings, audit};
 use cps_outside::Sink;
 use endings::{Answer, Ending};
 use flight_file::{Flight, read_flights};
+use plan_file::{Block, PlanText, read_plan};
 use sequencer::opening;
 use situations::Situation;
 use std::alloc::{AllocError, Global};

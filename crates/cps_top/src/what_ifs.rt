@@ -2,7 +2,7 @@
 ghost use Rattle.std.specs.Prelude.{◌≤◌, [], ◌∷◌, All, MatchResult, length};
 ghost use Rattle.aerodrome_file.specs.Reading.{IsInRange};
 ghost use Rattle.flight_file.specs.OfFile.{CanBeRead};
-ghost use Rattle.whatif.specs.Trials.{IsGood};
+ghost use Rattle.trial_file.specs.Trials.{IsGood};
 ghost use Rattle.cps_top.specs.declared.commands.Command.TheVariants as commands;
 ghost use Rattle.cps_top.specs.Outcome.{Follows};
 ghost use Rattle.cps_top.specs.Plan.{StopsOpened};
@@ -15,7 +15,8 @@ use flight_file::{Flight, read_flights};
 use situations::opening_fault;
 use std::alloc::Global;
 use std::thread::Threads;
-use whatif::{Trial, append_outcomes, read_trials, run_trials};
+use trial_file::{Trial, read_trials};
+use whatif::{append_outcomes, run_trials};
 
 // The outcomes of the trials over files that are read, a line each.
 fn try_opened<R: Threads + Sync, G: Gate + Sync>(

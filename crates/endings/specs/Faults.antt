@@ -4,8 +4,8 @@ use Rattle.aerodrome_file.specs.declared.fault.AeroFault.{AeroFault}
 use Rattle.aerodrome_file.specs.declared.fault.AeroFault.TheVariants as aerodrome
 use Rattle.certificate.specs.declared.fault.CertFault.{CertFault}
 use Rattle.certificate.specs.declared.fault.CertFault.TheVariants as certificate
-use Rattle.audit.specs.declared.plan.PlanFault.{PlanFault}
-use Rattle.audit.specs.declared.plan.PlanFault.TheVariants as plan
+use Rattle.plan_file.specs.declared.plan.PlanFault.{PlanFault}
+use Rattle.plan_file.specs.declared.plan.PlanFault.TheVariants as plan
 use Rattle.event_log.specs.declared.fault.LogCause.{LogCause}
 use Rattle.event_log.specs.declared.fault.LogCause.TheVariants as log
 use Rattle.event_log.specs.declared.fault.LogFault.{LogFault}
@@ -15,9 +15,9 @@ use Rattle.flight_file.specs.declared.fault.FlightFault.{FlightFault}
 use Rattle.situations.specs.declared.opening_refusal.OpeningFault.{OpeningFault}
 use Rattle.sequencer.specs.declared.begin.BeginFault.{BeginFault}
 use Rattle.sequencer.specs.Begun.{opening_fault_of}
-use Rattle.whatif.specs.declared.fault.TrialCause.{TrialCause}
-use Rattle.whatif.specs.declared.fault.TrialCause.TheVariants as trial
-use Rattle.whatif.specs.declared.fault.TrialFault.{TrialFault}
+use Rattle.trial_file.specs.declared.fault.TrialCause.{TrialCause}
+use Rattle.trial_file.specs.declared.fault.TrialCause.TheVariants as trial
+use Rattle.trial_file.specs.declared.fault.TrialFault.{TrialFault}
 use Rattle.endings.specs.declared.ending.Ending.{Ending}
 use Rattle.endings.specs.declared.ending.Ending.TheVariants.{Refused, NoMemory}
 use Rattle.endings.specs.declared.ending.Refusal.TheVariants.{Aerodrome, Flights, Events, Certificate, Trials, Plan, Opening}

@@ -35,11 +35,11 @@ use Rattle.certificate.specs.declared.fault.CertFault.{CertFault}
 use Rattle.certificate.specs.declared.fault.CertFault.TheVariants as certificate
 use Rattle.situations.specs.declared.opening_refusal.OpeningFault.{OpeningFault}
 use Rattle.situations.specs.declared.opening_refusal.OpeningFault.TheVariants as opening
-use Rattle.whatif.specs.declared.fault.TrialCause.{TrialCause}
-use Rattle.whatif.specs.declared.fault.TrialCause.TheVariants as trial
-use Rattle.whatif.specs.declared.fault.TrialFault.{TrialFault}
-use Rattle.audit.specs.declared.plan.PlanFault.{PlanFault}
-use Rattle.audit.specs.declared.plan.PlanFault.TheVariants as plan
+use Rattle.trial_file.specs.declared.fault.TrialCause.{TrialCause}
+use Rattle.trial_file.specs.declared.fault.TrialCause.TheVariants as trial
+use Rattle.trial_file.specs.declared.fault.TrialFault.{TrialFault}
+use Rattle.plan_file.specs.declared.plan.PlanFault.{PlanFault}
+use Rattle.plan_file.specs.declared.plan.PlanFault.TheVariants as plan
 use Rattle.endings.specs.declared.ending.Answer.{Answer}
 use Rattle.endings.specs.declared.ending.Answer.TheVariants.{Scheduled, Infeasible, Certified, Accepted, Rejected, Tried, Clean, Broken, Claimed}
 use Rattle.endings.specs.declared.ending.Refusal.{Refusal}

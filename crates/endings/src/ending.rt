@@ -1,10 +1,10 @@
 use aerodrome_file::AeroFault;
-use audit::PlanFault;
 use certificate::CertFault;
 use event_log::LogFault;
 use flight_file::FlightFault;
+use plan_file::PlanFault;
 use situations::OpeningFault;
-use whatif::TrialFault;
+use trial_file::TrialFault;
 
 /// What a command answers once its text is written.
 #[derive(Clone, Copy, Debug, PartialEq, Eq)]

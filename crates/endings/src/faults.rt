@@ -3,14 +3,14 @@ ghost use Rattle.std.specs.Prelude.{◌≡◌};
 
 use crate::{Ending, Refusal};
 use aerodrome_file::AeroFault;
-use audit::PlanFault;
 use certificate::CertFault;
 use event_log::{LogCause, LogFault};
 use flight_file::{FlightCause, FlightFault};
+use plan_file::PlanFault;
 use sequencer::BeginFault;
 use situations::OpeningFault;
 use std::alloc::AllocError;
-use whatif::{TrialCause, TrialFault};
+use trial_file::{TrialCause, TrialFault};
 
 impl From<AllocError> for Ending {
     ghost use Rattle.std.specs.Prelude.{◌≡◌};

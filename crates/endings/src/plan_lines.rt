@@ -4,9 +4,9 @@ ghost use Rattle.cps_outside.specs.SinkState.{Writes};
 ghost use Rattle.endings.specs.Lines.{plan_line};
 
 use crate::lines::put_all;
-use audit::PlanFault;
 use cps_outside::{Sink, WriteFailed};
 use itoa::Buffer;
+use plan_file::PlanFault;
 
 // Writes the line of a fault.
 pub(crate) fn say_plan<E: Sink>(err: &mut E, fault: &PlanFault) -> Result<(), WriteFailed>

@@ -1,7 +1,7 @@
 // The lines for a trial file that is none.
 ghost use Rattle.std.specs.Prelude.{◌≡◌, decimal};
 ghost use Rattle.cps_outside.specs.SinkState.{Writes};
-ghost use Rattle.whatif.specs.declared.fault.TrialCause.TheVariants as trial;
+ghost use Rattle.trial_file.specs.declared.fault.TrialCause.TheVariants as trial;
 ghost use Rattle.endings.specs.Lines.{trial_line, trials_line};
 
 use crate::event_lines::{field_part, field_why, field_word};
@@ -9,7 +9,7 @@ use crate::lines::put_all;
 use cps_outside::{Sink, WriteFailed};
 use event_log::FieldCause;
 use itoa::Buffer;
-use whatif::{TrialCause, TrialFault};
+use trial_file::{TrialCause, TrialFault};
 
 const RECORD: &[u8] = b"cps: trials: record ";
 

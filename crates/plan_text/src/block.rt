@@ -1,11 +1,12 @@
 ghost use Rattle.std.specs.Prelude.{◌≡◌, ◌++◌, OnOk, option_map, Some, map, drop};
 ghost use Rattle.appending.specs.Appends.{Appends};
 ghost use Rattle.landing_rules.specs.Text.{line, lines_text, block_text, head_words, landing_words, objective_word, frozen_word};
-ghost use Rattle.sequencer.specs.Shown.{shown_of};
+ghost use Rattle.plan_file.specs.Shown.{shown_of};
 
 use cps_problem::Objective;
 use itoa::Buffer;
-use sequencer::{Landing, Plan};
+use plan_file::Landing;
+use sequencer::Plan;
 use std::alloc::AllocError;
 
 fn objective_word(objective: Objective) -> &'static [u8]

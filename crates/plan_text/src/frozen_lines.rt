@@ -1,11 +1,12 @@
 ghost use Rattle.std.specs.Prelude.{◌≡◌, ◌++◌, [], ◌∷◌, OnOk, IsTrue, option_map, Some, length, take};
 ghost use Rattle.appending.specs.Appends.{Appends};
 ghost use Rattle.landing_rules.specs.Text.{block_text};
-ghost use Rattle.sequencer.specs.Shown.{shown_of};
+ghost use Rattle.plan_file.specs.Shown.{shown_of};
 
 use crate::block::{append_head, append_landing, append_landings, room};
 use cps_problem::Objective;
-use sequencer::{Landing, Plan};
+use plan_file::Landing;
+use sequencer::Plan;
 use std::alloc::{AllocError, Global};
 use std::marker::Model;
 
@@ -22,7 +23,7 @@ pub struct FrozenLines {
 impl Model for FrozenLines {
     ghost use Rattle.std.specs.Prelude.{◌≡◌, List, map};
     ghost use Rattle.landing_rules.specs.Text.{ShownLanding, landing_words, lines_text};
-    ghost use Rattle.sequencer.specs.Shown.{shown_of};
+    ghost use Rattle.plan_file.specs.Shown.{shown_of};
 
     ghost Value = { List ShownLanding };
 

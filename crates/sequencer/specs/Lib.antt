@@ -1,8 +1,7 @@
--- Why nothing begins, the flights by rank, what the frozen ones leave them, what a plan shows, and what is true of every sequencer.
+-- Why nothing begins, the flights by rank, what the frozen ones leave them, and what is true of every sequencer.
 pub use Rattle.situations.specs.Opened
 pub mod Begun
 pub mod Frozen
 pub mod Predecessors
 pub mod Ranked
-pub mod Shown
 pub mod Standing

@@ -13,7 +13,7 @@ mod sequencer;
 mod waiting;
 
 pub use begin::{BeginFault, opening, opening_problem};
-pub use plan::{Landing, Plan};
+pub use plan::Plan;
 pub use problem::problem_of;
 pub use sequencer::Sequencer;
 pub use situations::Refusal;

@@ -3,4 +3,3 @@ pub mod ClosureLemmas
 pub mod AboveLemmas
 pub mod LeastLemmas
 pub mod ShiftLemmas
-pub mod Wide

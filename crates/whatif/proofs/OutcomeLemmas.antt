@@ -10,7 +10,7 @@ use Rattle.flight_file.specs.declared.flight.Flight as files
 use Rattle.situations.specs.Answers.{IsAnswer}
 use Rattle.situations.specs.declared.refusal.Refusal as code
 use Rattle.situations.specs.declared.refusal.Refusal.TheVariants as code_is
-use Rattle.whatif.specs.declared.trial.Trial.{Trial}
+use Rattle.trial_file.specs.declared.trial.Trial.{Trial}
 use Rattle.whatif.specs.declared.outcome.Outcome.{Outcome}
 use Rattle.whatif.specs.declared.outcome.Outcome.TheVariants.{Value, Infeasible, Refused}
 use Rattle.whatif.specs.Laws.{IsNoWorse}

@@ -10,7 +10,7 @@ use Rattle.flight_file.specs.declared.flight.Flight as files
 use Rattle.landing_joint.specs.Shift.{with_shift}
 use Rattle.situations.specs.Opened.{CanOpen, opened}
 use Rattle.situations.specs.Refused.{IsOpenable}
-use Rattle.whatif.specs.declared.trial.Trial.TheVariants.{Shift}
+use Rattle.trial_file.specs.declared.trial.Trial.TheVariants.{Shift}
 use Rattle.whatif.specs.declared.outcome.Outcome.{Outcome}
 use Rattle.whatif.specs.declared.outcome.TrialRefusal.{TrialRefusal}
 use Rattle.whatif.specs.declared.outcome.TrialRefusal.TheVariants.{DelayShift, PassedAbove}

@@ -3,7 +3,7 @@ use Rattle.std.specs.Prelude.{◌≡◌, ℕ, ◌≤◌, List, None, ⊤}
 use Rattle.aerodrome_file.specs.declared.aerodrome.Aerodrome as aerodromes
 use Rattle.flight_file.specs.declared.flight.Flight as files
 use Rattle.situations.specs.Opened.{opened}
-use Rattle.whatif.specs.declared.trial.Trial.TheVariants.{Shift, Close}
+use Rattle.trial_file.specs.declared.trial.Trial.TheVariants.{Shift, Close}
 use Rattle.whatif.specs.declared.outcome.Outcome.{Outcome}
 use Rattle.whatif.specs.declared.outcome.Outcome.TheVariants.{Value, Infeasible, Refused}
 use Rattle.whatif.specs.Outcomes.{refusal, HasLeast, IsOutcomeOf}

@@ -1,7 +1,4 @@
--- What a trial file is, and what comes of its trials.
-pub mod Answers
-pub mod Trials
-pub mod Reading
+-- What comes of trials.
 pub mod Outcomes
 pub mod Laws
 pub mod Text

@@ -12,8 +12,8 @@ use Rattle.flight_file.specs.declared.flight.Flight as files
 use Rattle.situations.specs.Opened.{opened}
 use Rattle.situations.specs.declared.refusal.Refusal as code
 use Rattle.situations.specs.declared.refusal.Refusal.TheVariants as found
-use Rattle.whatif.specs.declared.trial.Trial.{Trial}
-use Rattle.whatif.specs.declared.trial.Trial.TheVariants.{Shift, Close}
+use Rattle.trial_file.specs.declared.trial.Trial.{Trial}
+use Rattle.trial_file.specs.declared.trial.Trial.TheVariants.{Shift, Close}
 use Rattle.whatif.specs.declared.outcome.TrialRefusal.{TrialRefusal}
 use Rattle.whatif.specs.declared.outcome.TrialRefusal.TheVariants.{DelayShift, PassedAbove, CoversFrozen, TooManyClosures}
 use Rattle.whatif.specs.declared.outcome.Outcome.{Outcome}

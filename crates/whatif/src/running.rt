@@ -4,15 +4,14 @@ ghost use Rattle.std.specs.Prelude.{◌≡◌, ◌≤◌, ◌<◌, ◌+◌, All,
 ghost use Rattle.landing_rules.specs.Rules.{last_second};
 ghost use Rattle.cps_problem.specs.Plans.{IsWithinShift};
 ghost use Rattle.landing_rules.specs.Sound.{IsSound};
-ghost use Rattle.whatif.specs.declared.trial.Trial.TheVariants.{Shift, Close};
-ghost use Rattle.whatif.specs.Trials.{IsGood};
+ghost use Rattle.trial_file.specs.declared.trial.Trial.TheVariants.{Shift, Close};
+ghost use Rattle.trial_file.specs.Trials.{IsGood};
 ghost use Rattle.situations.specs.Refused.{IsOpenable};
 ghost use Rattle.whatif.specs.Outcomes.{HasLeast, IsOutcomeOf, IsAnswerAt, AreOutcomes};
 ghost use Rattle.situations.specs.Opened.{opened};
 
 use crate::outcome::Outcome;
 use crate::refusal::{closure_refusal, shift_refusal};
-use crate::trial::Trial;
 use aerodrome_file::Aerodrome;
 use cps_outside::Gate;
 use event_log::Event;
@@ -24,6 +23,7 @@ use sequencer::problem_of;
 use situations::Situation;
 use std::alloc::{AllocError, Global};
 use std::thread::Threads;
+use trial_file::Trial;
 
 // The least objective of a situation.
 fn least_of(alloc: Global, situation: &Situation) -> Result<Outcome, AllocError>

@@ -3,7 +3,7 @@ use Rattle.std.proofs.Common.{◌≡◌, suc, ◌≤◌, List, [], ◌∷◌, le
 use Rattle.std.specs.List.{AllZip}
 use Rattle.aerodrome_file.specs.declared.aerodrome.Aerodrome as aerodromes
 use Rattle.flight_file.specs.declared.flight.Flight as files
-use Rattle.whatif.specs.declared.trial.Trial.{Trial}
+use Rattle.trial_file.specs.declared.trial.Trial.{Trial}
 use Rattle.whatif.specs.declared.outcome.Outcome.{Outcome}
 use Rattle.whatif.specs.Outcomes.{AreOutcomes, IsOutcomeOf}
 

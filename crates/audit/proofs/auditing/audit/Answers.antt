@@ -1,5 +1,5 @@
 use Rattle.std.proofs.lemmas.Result.{IfOk-weaker}
-use Rattle.audit.specs.Blocks.{seen_block}
+use Rattle.plan_file.specs.Blocks.{seen_block}
 use Rattle.audit.proofs.CleanBlocks.{clean_exactly}
 use Rattle.audit.proofs.auditing.audit.Goals as goal
 

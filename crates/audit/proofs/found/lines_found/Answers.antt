@@ -1,7 +1,7 @@
 use Rattle.std.proofs.Common.{◌+◌, [], ◌++◌, map, drop, ap, ◌∙◌}
 use Rattle.std.specs.List.{cons_option}
 use Rattle.landing_rules.specs.Audit.{lines_found}
-use Rattle.sequencer.specs.Shown.{shown_of}
+use Rattle.plan_file.specs.Shown.{shown_of}
 use Rattle.audit.proofs.FoundLines.{found_step}
 use Rattle.audit.proofs.found.lines_found.Goals as goal
 

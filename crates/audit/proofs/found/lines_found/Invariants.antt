@@ -1,6 +1,6 @@
 use Rattle.std.proofs.Common.{◌≡◌, ◌++◌, map, drop}
 use Rattle.landing_rules.specs.Audit.{lines_found}
-use Rattle.sequencer.specs.Shown.{shown_of}
+use Rattle.plan_file.specs.Shown.{shown_of}
 use Rattle.audit.proofs.found.lines_found.Given as goal
 
 -- the lines found so far, and those left

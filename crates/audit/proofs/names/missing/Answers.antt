@@ -5,7 +5,7 @@ use Rattle.std.proofs.lemmas.Iterator.Consumers.{YieldsList-from_filter, YieldsL
 use Rattle.std.proofs.lemmas.Result.{IfOk-weaker}
 use Rattle.landing_rules.specs.Flights.{Active}
 use Rattle.landing_rules.specs.Audit.{has_line, missing, Missing}
-use Rattle.sequencer.specs.Shown.{shown_of}
+use Rattle.plan_file.specs.Shown.{shown_of}
 use Rattle.audit.specs.Seen.{has_name}
 use Rattle.audit.specs.declared.finding.Finding.TheVariants as code
 use Rattle.audit.specs.Findings.{finding_of}

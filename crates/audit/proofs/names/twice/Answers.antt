@@ -1,8 +1,8 @@
 use Rattle.std.proofs.Common.{◌≡◌, ℕ, List, ◌+◌, ◌||◌, ◌∷◌, ◌++◌, get_or, map, drop, sym, ap, ap₂, ◌∙◌}
 use Rattle.std.specs.Str.{bytes_eq}
 use Rattle.landing_rules.specs.Audit.{twice, twice_after}
-use Rattle.sequencer.specs.Shown.{shown_of}
-use Rattle.sequencer.specs.declared.plan.Landing.{Landing}
+use Rattle.plan_file.specs.Shown.{shown_of}
+use Rattle.plan_file.specs.declared.landing.Landing.{Landing}
 use Rattle.audit.specs.Findings.{finding_of, repeated}
 use Rattle.audit.specs.Seen.{has_name}
 use Rattle.audit.proofs.SeenNames.{twice_step, seen_step}

@@ -1,7 +1,7 @@
 use Rattle.std.proofs.Common.{◌≡◌, ℕ, List, ◌++◌, ◌||◌, map, drop}
 use Rattle.landing_rules.specs.Text.{ShownLanding}
 use Rattle.landing_rules.specs.Audit.{has_line, twice, twice_after}
-use Rattle.sequencer.specs.Shown.{shown_of}
+use Rattle.plan_file.specs.Shown.{shown_of}
 use Rattle.audit.specs.Findings.{finding_of}
 use Rattle.audit.specs.Seen.{has_name}
 use Rattle.audit.proofs.names.twice.Given as goal

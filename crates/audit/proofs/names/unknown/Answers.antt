@@ -7,8 +7,8 @@ use Rattle.std.proofs.lemmas.Result.{IfOk-weaker}
 use Rattle.landing_rules.specs.Events.{named}
 use Rattle.landing_rules.specs.Text.{ShownLanding}
 use Rattle.landing_rules.specs.Audit.{Unknown}
-use Rattle.sequencer.specs.Shown.{shown_of}
-use Rattle.sequencer.specs.declared.plan.Landing.{Landing}
+use Rattle.plan_file.specs.Shown.{shown_of}
+use Rattle.plan_file.specs.declared.landing.Landing.{Landing}
 use Rattle.audit.specs.declared.finding.Finding.TheVariants as code
 use Rattle.audit.specs.Findings.{finding_of}
 use Rattle.audit.proofs.Failing.{each_failing}

@@ -1,7 +1,7 @@
 use Rattle.std.proofs.Common.{◌≡◌, length, map, sym, ap, ◌∙◌, arith}
 use Rattle.std.proofs.lemmas.List.{length-map}
 use Rattle.landing_rules.specs.Audit.{lines_found}
-use Rattle.sequencer.specs.Shown.{shown_of}
+use Rattle.plan_file.specs.Shown.{shown_of}
 use Rattle.audit.specs.Findings.{finding_of}
 use Rattle.audit.proofs.FoundLines.{none_unknown}
 use Rattle.audit.proofs.names.unknown_unless.Goals as goal

@@ -1,6 +1,6 @@
 use Rattle.std.proofs.Common.{◌≡◌, ◌+◌, ◌++◌, map, drop}
 use Rattle.landing_rules.specs.Audit.{disordered_from}
-use Rattle.sequencer.specs.Shown.{shown_of}
+use Rattle.plan_file.specs.Shown.{shown_of}
 use Rattle.audit.specs.Findings.{finding_of}
 use Rattle.audit.proofs.order.disordered_behind.Given as goal
 

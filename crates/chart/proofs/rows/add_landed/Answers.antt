@@ -1,6 +1,6 @@
 use Rattle.std.proofs.Common.{List, [], ◌∷◌, ◌-◌, length, map, take, drop, sym, ap}
-use Rattle.sequencer.specs.Shown.{shown_of}
-use Rattle.sequencer.specs.declared.plan.Landing.{Landing}
+use Rattle.plan_file.specs.Shown.{shown_of}
+use Rattle.plan_file.specs.declared.landing.Landing.{Landing}
 use Rattle.chart.specs.Rows.{Row, landed_row}
 use Rattle.chart.proofs.Steps.{loop_step, tail_read}
 use Rattle.chart.proofs.rows.add_landed.Goals as goal

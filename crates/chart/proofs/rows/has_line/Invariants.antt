@@ -1,6 +1,6 @@
 use Rattle.std.proofs.Common.{◌≡◌, map, length}
 use Rattle.landing_rules.specs.Audit.{has_line}
-use Rattle.sequencer.specs.Shown.{shown_of}
+use Rattle.plan_file.specs.Shown.{shown_of}
 use Rattle.chart.proofs.rows.has_line.Given as goal
 
 -- none of those before has it

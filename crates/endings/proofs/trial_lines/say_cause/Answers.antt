@@ -1,6 +1,6 @@
 use Rattle.std.proofs.Common.{◌≡◌, ℕ, List, ap₂, sym, ◌∙◌, refl}
-use Rattle.whatif.specs.declared.fault.TrialCause.{TrialCause}
-use Rattle.whatif.specs.declared.fault.TrialCause.TheVariants as trial
+use Rattle.trial_file.specs.declared.fault.TrialCause.{TrialCause}
+use Rattle.trial_file.specs.declared.fault.TrialCause.TheVariants as trial
 use Rattle.endings.specs.Lines.{trial_line}
 use Rattle.endings.proofs.Writing.{says}
 use Rattle.endings.proofs.trial_lines.say_cause.Goals as goal

@@ -1,6 +1,6 @@
 use Rattle.std.proofs.Common.{◌+◌, ◌++◌, ◌∙◌, ap, drop}
 use Rattle.landing_rules.specs.Text.{line, landing_words}
-use Rattle.sequencer.specs.Shown.{shown_of}
+use Rattle.plan_file.specs.Shown.{shown_of}
 use Rattle.plan_text.proofs.Landings.{landing_lines, lines_left}
 use Rattle.plan_text.proofs.block.append_landings.Goals as goal
 

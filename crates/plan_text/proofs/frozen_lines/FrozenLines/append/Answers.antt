@@ -1,7 +1,7 @@
 use Rattle.std.proofs.Common.{◌≡◌, ◌++◌, ◌∙◌, ap, ap₂, drop, length, take, List, ℕ, arith}
 use Rattle.std.proofs.lemmas.List.{length-map}
 use Rattle.landing_rules.specs.Text.{ShownLanding, line, head_words}
-use Rattle.sequencer.specs.Shown.{shown_of}
+use Rattle.plan_file.specs.Shown.{shown_of}
 use Rattle.plan_text.proofs.Landings.{landing_lines, ok_then, whole_text}
 use Rattle.plan_text.proofs.frozen_lines.FrozenLines.append.Goals as goal
 

@@ -1,7 +1,7 @@
 use Rattle.std.proofs.Common.{◌≡◌, ◌∙◌, ◌<◌, ap, arith, refl, sym, map, length, Some, List}
 use Rattle.std.specs.Prelude.{slice_get}
 use Rattle.landing_rules.specs.Text.{ShownLanding}
-use Rattle.sequencer.specs.Shown.{shown_of}
+use Rattle.plan_file.specs.Shown.{shown_of}
 use Rattle.plan_text.proofs.Landings.{both_more, shown_at}
 use Rattle.plan_text.proofs.frozen_lines.FrozenLines.begin.Goals as goal
 

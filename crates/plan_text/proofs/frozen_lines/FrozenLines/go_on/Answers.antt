@@ -1,5 +1,5 @@
 use Rattle.std.proofs.Common.{◌∙◌}
-use Rattle.sequencer.specs.Shown.{shown_of}
+use Rattle.plan_file.specs.Shown.{shown_of}
 use Rattle.plan_text.proofs.Landings.{first_more}
 use Rattle.plan_text.proofs.frozen_lines.FrozenLines.go_on.Goals as goal
 

@@ -1,0 +1,4 @@
+pub mod BodyLines
+pub mod LongLines
+pub mod Readable
+pub mod ReadsBack

@@ -1,0 +1,37 @@
+-- A line with more fields than its form has is none, and a text that is not empty says something.
+use Rattle.std.proofs.Common.{◌≡◌, ℕ, ◌<◌, Bool, true, false, cond, List, [], ◌∷◌, length, None, Ok, Err, sym, ap, ◌∙◌, arith, refl}
+use Rattle.std.specs.Prelude.{◌==◌}
+use Rattle.std.specs.List.{join_with_byte}
+use Rattle.std.proofs.lemmas.Bool.{eqb-true}
+use Rattle.std.proofs.lemmas.List.Splits.{join_with_byte-slice_split}
+use Rattle.text_parts.specs.Parts.{parts}
+use Rattle.text_parts.specs.shared.Cuts.{has_part}
+use Rattle.plan_file.specs.declared.plan.PlanFault.TheVariants as fault
+use Rattle.plan_file.specs.declared.plan.PlanText.TheVariants as said
+use Rattle.plan_file.specs.Lines.{head_by, landing_by}
+use Rattle.plan_file.specs.Reading.{nothing_behind}
+
+pub head_many : (a b : List ℕ) (ps : List (List ℕ)) → 0 < length ps → head_by (a ∷ b ∷ ps) ≡ None
+unfolding head_by
+head_many a b [] h = absurd (omega (arith, h))
+head_many a b (p ∷ ps) h = refl
+
+pub landing_many : (a b c d : List ℕ) (ps : List (List ℕ)) → 0 < length ps → landing_by (a ∷ b ∷ c ∷ d ∷ ps) ≡ None
+unfolding landing_by
+landing_many a b c d [] h = absurd (omega (arith, h))
+landing_many a b c d (p ∷ ps) h = refl
+
+pub something_behind : (text : List ℕ) → 0 < length text → nothing_behind (parts 10 text) ≡ Err (fault.Line 2)
+something_behind text some = go (parts 10 text) refl
+  where
+    go : (ps : List (List ℕ)) → parts 10 text ≡ ps → nothing_behind ps ≡ Err (fault.Line 2)
+    go [] e = let h = has_part 10 text in let n = ap length e in absurd (omega (arith, h, n))
+    go (x ∷ []) e = one (length x == 0) refl
+      where
+        whole : x ≡ text
+        whole = ap (join_with_byte 10) (sym e) ∙ join_with_byte-slice_split 10 text
+
+        one : (b : Bool) → (length x == 0) ≡ b → cond b (Ok said.Nothing) (Err (fault.Line 2)) ≡ Err (fault.Line 2)
+        one true h = let z = eqb-true (length x) 0 h in let n = ap length whole in absurd (omega (arith, z, n, some))
+        one false h = refl
+    go (x ∷ y ∷ ps) e = refl

@@ -1,0 +1,113 @@
+// The lines of a plan file.
+ghost use Rattle.std.specs.Prelude.{◌≡◌, ◌≤◌, ◌+◌, IfOk, option_map};
+ghost use Rattle.landing_rules.specs.Limits.{most_flights};
+ghost use Rattle.plan_file.specs.Shown.{shown_of};
+ghost use Rattle.plan_file.specs.Lines.{head_in, landing_from, landing_in, mark_in, objective_in};
+ghost use Rattle.plan_file.specs.Reading.{GivesLanding, line_in};
+
+use crate::landing::Landing;
+use crate::plan::PlanFault;
+use cps_base::Callsign;
+use landing_rules::{MOST_FLIGHTS, Objective};
+use landing_windows::LAST_SECOND;
+use text_parts::{first_part, number_in};
+
+// The objective that a word names.
+fn objective_in(word: &[u8]) -> Option<Objective>
+    ensures { result ≡ objective_in word.now }
+{
+    if word == b"makespan".as_slice() {
+        Some(Objective::Makespan)
+    } else if word == b"delay".as_slice() {
+        Some(Objective::Delay)
+    } else {
+        None
+    }
+}
+
+// The objective and the number that the first line says.
+#[tactic(auto, unfolding(crate::specs::Lines::head_in, crate::specs::Lines::head_by))]
+pub(crate) fn head_of(line: &[u8]) -> Option<(Objective, u64)>
+    ensures { result ≡ head_in line.now }
+{
+    let (word, rest) = first_part(line, b' ');
+    let Some(rest) = rest else {
+        return None;
+    };
+    let (value, more) = first_part(rest, b' ');
+    if let Some(_) = more {
+        return None;
+    }
+    let objective = objective_in(word)?;
+    let value = number_in(value, 0, 8_639_950_000)?;
+    Some((objective, value))
+}
+
+// Whether a landing is frozen, by its last word.
+fn mark_in(word: &[u8]) -> Option<bool>
+    ensures { result ≡ mark_in word.now }
+{
+    if word == b"waiting".as_slice() {
+        Some(false)
+    } else if word == b"frozen".as_slice() {
+        Some(true)
+    } else {
+        None
+    }
+}
+
+#[tactic(auto, unfolding(crate::specs::Lines::landing_from))]
+fn landing_from(callsign: &[u8], second: &[u8], mark: &[u8]) -> Option<Landing>
+    ensures { option_map shown_of result ≡ landing_from callsign.now second.now mark.now }
+{
+    let callsign = Callsign::read(callsign)?;
+    let second = number_in(second, 0, u64::from(LAST_SECOND))?;
+    let frozen = mark_in(mark)?;
+    Some(Landing {
+        callsign,
+        second: second as u32,
+        frozen,
+    })
+}
+
+// The landing that a line says.
+#[tactic(auto, unfolding(crate::specs::Lines::landing_in, crate::specs::Lines::landing_by))]
+fn landing_of(line: &[u8]) -> Option<Landing>
+    ensures { option_map shown_of result ≡ landing_in line.now }
+{
+    let (word, rest) = first_part(line, b' ');
+    let Some(rest) = rest else {
+        return None;
+    };
+    let (callsign, rest) = first_part(rest, b' ');
+    let Some(rest) = rest else {
+        return None;
+    };
+    let (second, rest) = first_part(rest, b' ');
+    let Some(rest) = rest else {
+        return None;
+    };
+    let (mark, more) = first_part(rest, b' ');
+    if let Some(_) = more {
+        return None;
+    }
+    if word != b"land".as_slice() {
+        return None;
+    }
+    landing_from(callsign, second, mark)
+}
+
+// The landing of this line, which is one of at most 501.
+#[tactic(auto, unfolding(crate::specs::Reading::line_in))]
+pub(crate) fn line_of(number: u32, line: &[u8]) -> Result<Landing, PlanFault>
+    ensures value { GivesLanding result (line_in number line.now) }
+    ensures few { IfOk result (λ _. number ≤ most_flights + 1) }
+{
+    if number > MOST_FLIGHTS as u32 + 1 {
+        return Err(PlanFault::Line(number));
+    }
+    match landing_of(line) {
+        Some(landing) => Ok(landing),
+        None => Err(PlanFault::Line(number)),
+    }
+}

@@ -1,0 +1,10 @@
+-- Trials: the ranges of their numbers.
+use Rattle.std.specs.Prelude.{◌+◌, ◌<◌, ◌≤◌}
+use Rattle.landing_rules.specs.Rules.{last_second}
+use Rattle.trial_file.specs.declared.trial.Trial.{Trial}
+use Rattle.trial_file.specs.declared.trial.Trial.TheVariants.{Shift, Close}
+
+-- the numbers of a trial are in their ranges
+abbrev pub IsGood : Trial → Type 0
+IsGood (Shift k) = k ≤ 3
+IsGood (Close from to) = (from < to) × (to ≤ last_second + 1)

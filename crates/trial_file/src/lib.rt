@@ -1,0 +1,10 @@
+//! The trial file: its trials, and the first fault of a file that is none.
+#![tactic(auto)]
+
+mod fault;
+mod reading;
+mod trial;
+
+pub use fault::{TrialCause, TrialFault};
+pub use reading::read_trials;
+pub use trial::Trial;
