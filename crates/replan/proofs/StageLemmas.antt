@@ -81,7 +81,8 @@ begins p w stage labels o odd e f g = rw (f, e, odd) (record { objective = sym g
 -- ---- one stage more
 
 -- where it is said to be whole, its windows are all that extend the last of the others
-pub one_more : (p : Problem) (stages after : List LabelledStage) (next : LabelledStage) → AreStages p stages → after ≡ stages ++ next ∷ [] → next.stage.0 ≡ length stages → HoldsPairs p next.stage next.labels
+pub one_more : (p : Problem) (stages after : List LabelledStage) (next : LabelledStage) → AreStages p stages → after ≡ stages ++ next ∷ []
+    → next.stage.0 ≡ length stages → HoldsPairs p next.stage next.labels
     → ((last : ℕ) → last + 1 ≡ length stages → IsTrue next.is_whole → IsNextOf p last (stage_at stages last).stage.1 next.stage.1) → AreStages p after
 one_more p stages after next is e number held whole = rw e (record {
   number = λ i lt. elim (cases_eq i (length stages)) [
@@ -95,10 +96,13 @@ one_more p stages after next is e number held whole = rw e (record {
   whole = λ i some lt said.
       let back : i - 1 < length stages = omega (arith, some, lt, length-append stages (next ∷ [])) in
       rw (get_or_append_left stages (next ∷ []) no_stage (i - 1) back) (elim (cases_eq i (length stages)) [
-        | inl same ↦ rw (get_or_push stages next no_stage i (sym same)) (whole (i - 1) (omega (arith, some, same)) (rw (get_or_push stages next no_stage i (sym same)) at said))
+        | inl same ↦
+            let here = get_or_push stages next no_stage i (sym same) in
+            rw here (whole (i - 1) (omega (arith, some, same)) (rw here at said))
         | inr old ↦
             let below = low i lt old in
-            rw (get_or_append_left stages (next ∷ []) no_stage i below) (is.whole i some below (rw (get_or_append_left stages (next ∷ []) no_stage i below) at said))
+            let here = get_or_append_left stages (next ∷ []) no_stage i below in
+            rw here (is.whole i some below (rw here at said))
       ]);
 })
   where
@@ -129,7 +133,8 @@ due_more first p i o r s le some (due, from, e) (count, has, f) =
 pub read_stage : (stages : List LabelledStage) (i : ℕ) (x y : LabelledStage) → x ≡ y → y ≡ get_or stages i y → i < length stages → x ≡ stage_at stages i
 read_stage stages i x y same e lt = same ∙ e ∙ get_or_default stages i y no_stage lt
 
-pub held_at : (p : Problem) (stages : List LabelledStage) → AreStages p stages → (i : ℕ) (x : LabelledStage) → x ≡ stage_at stages i → i < length stages → HoldsPairs p x.stage x.labels × (x.stage.0 ≡ i)
+pub held_at : (p : Problem) (stages : List LabelledStage) → AreStages p stages → (i : ℕ) (x : LabelledStage) → x ≡ stage_at stages i → i < length stages
+    → HoldsPairs p x.stage x.labels × (x.stage.0 ≡ i)
 held_at p stages is i x e lt = rw e (is.held i lt, is.number i lt)
 
 pub read_held : (held : Option HeldProblem) (h : HeldProblem) (stages : List LabelledStage) (i : ℕ) (x y : LabelledStage) → held ≡ Some h
@@ -158,7 +163,8 @@ pub record LastRead (p : Problem) (stages : List LabelledStage) (last : Labelled
   pub held : HoldsPairs p last.stage last.labels
   pub some : (i : ℕ) → i < length last.labels.lists → 0 < length (list_at last.labels.lists i)
 
-pub last_read : (p : Problem) (stages : List LabelledStage) → AreStages p stages → length stages ≡ length p.flights + 1 → (n : ℕ) (last read : LabelledStage) → n ≡ length p.flights
+pub last_read : (p : Problem) (stages : List LabelledStage) → AreStages p stages → length stages ≡ length p.flights + 1
+    → (n : ℕ) (last read : LabelledStage) → n ≡ length p.flights
     → last ≡ read → read ≡ get_or stages n read → LastRead p stages last
 last_read p stages holds whole n last read same f e =
     let lt : n < length stages = omega (arith, whole, same) in
@@ -176,7 +182,8 @@ last_read p stages holds whole n last read same f e =
 -- ---- the stage after the last
 
 -- the last two stages, where the last one is whole
-pub whole_at : (p : Problem) (stages : List LabelledStage) → AreStages p stages → (i last : ℕ) (earlier before : LabelledStage) → last < length stages → i ≡ last - 1 → earlier ≡ stage_at stages i → before ≡ stage_at stages last
+pub whole_at : (p : Problem) (stages : List LabelledStage) → AreStages p stages → (i last : ℕ) (earlier before : LabelledStage) → last < length stages → i ≡ last - 1
+    → earlier ≡ stage_at stages i → before ≡ stage_at stages last
     → IsTrue before.is_whole → earlier.stage.0 < before.stage.0 → IsNextOf p earlier.stage.0 earlier.stage.1 before.stage.1
 whole_at p stages is i last earlier before n back e f whole lt =
     let here = (held_at p stages is last before f n).1 in
@@ -185,39 +192,40 @@ whole_at p stages is i last earlier before n back e f whole lt =
 
 -- ---- stages in common
 
-module _ (p q : Problem) (w : ℕ) (odd : w ≡ 2 * p.k + 1) (laws : WindowLaws p w) (bp : AreBetweenRanks (length p.flights) p.pairs) (bq : AreBetweenRanks (length q.flights) q.pairs) (stages : List LabelledStage) (count : ℕ) (holds : AreStages p stages) (early : EarlyStagesAreKept p q) (common : AreInCommon p q count) (more : 1 < count) (within : count ≤ length stages) where
-  long : length (take count stages) ≡ count
-  long = length-take-le count stages within
+module _ (p q : Problem) (w : ℕ) (odd : w ≡ 2 * p.k + 1) (laws : WindowLaws p w) (bp : AreBetweenRanks (length p.flights) p.pairs) (bq : AreBetweenRanks (length q.flights) q.pairs) where
+  module _ (stages : List LabelledStage) (count : ℕ) (holds : AreStages p stages) (early : EarlyStagesAreKept p q) (common : AreInCommon p q count) (more : 1 < count) (within : count ≤ length stages) where
+    long : length (take count stages) ≡ count
+    long = length-take-le count stages within
 
-  valid : (i : ℕ) → i < length stages → AreWindows w (stage_at stages i).stage.1
-  valid i lt j inside =
-      let at = stage_at stages i in
-      landable_valid p w odd laws at.stage.0 (node_at at.stage.1 j) (((holds.held i lt).held.landable (node_at at.stage.1 j)).0 (Contains-get_or at.stage.1 j [] inside))
+    valid : (i : ℕ) → i < length stages → AreWindows w (stage_at stages i).stage.1
+    valid i lt j inside =
+        let at = stage_at stages i in
+        landable_valid p w odd laws at.stage.0 (node_at at.stage.1 j) (((holds.held i lt).held.landable (node_at at.stage.1 j)).0 (Contains-get_or at.stage.1 j [] inside))
 
-  pub stages_in_common : AreStages q (take count stages)
-  stages_in_common =
-      let is = common.1 in
-      let e = common.2 in
-      let agree = is.agree (omega (arith, e, more)) in
-      let same = agree.head.k in
-      record {
-        number = λ i lt.
-            let at : i < count = omega (arith, lt, long) in
-            rw (get_or-take count stages i no_stage at) (holds.number i (omega (arith, at, within)));
-        held = λ i lt.
-            let at : i < count = omega (arith, lt, long) in
-            let here : i < length stages = omega (arith, at, within) in
-            let was = holds.held i here in
-            let kept = early common.0 is.within agree (stage_at stages i).stage.0 (let n = holds.number i here in omega (arith, n, e, at, same)) in
-            rw (get_or-take count stages i no_stage at)
-            (record { objective = was.objective ∙ agree.head.objective; held = kept_costs p q (stage_at stages i).stage _ kept was.held });
-        whole = λ i some lt said.
-            let at : i < count = omega (arith, lt, long) in
-            rw (get_or-take count stages i no_stage at, get_or-take count stages (i - 1) no_stage (omega (arith, at))) (
-            kept_next p q common.0 is.within agree bp bq w odd (i - 1) (stage_at stages (i - 1)).stage.1 (stage_at stages i).stage.1 (omega (arith, e, at, some, same))
-            (valid (i - 1) (omega (arith, at, within)))
-            (holds.whole i some (omega (arith, at, within)) (rw (get_or-take count stages i no_stage at) at said)));
-      }
+    pub stages_in_common : AreStages q (take count stages)
+    stages_in_common =
+        let is = common.1 in
+        let e = common.2 in
+        let agree = is.agree (omega (arith, e, more)) in
+        let same = agree.head.k in
+        record {
+          number = λ i lt.
+              let at : i < count = omega (arith, lt, long) in
+              rw (get_or-take count stages i no_stage at) (holds.number i (omega (arith, at, within)));
+          held = λ i lt.
+              let at : i < count = omega (arith, lt, long) in
+              let here : i < length stages = omega (arith, at, within) in
+              let was = holds.held i here in
+              let kept = early common.0 is.within agree (stage_at stages i).stage.0 (let n = holds.number i here in omega (arith, n, e, at, same)) in
+              rw (get_or-take count stages i no_stage at)
+              (record { objective = was.objective ∙ agree.head.objective; held = kept_costs p q (stage_at stages i).stage _ kept was.held });
+          whole = λ i some lt said.
+              let at : i < count = omega (arith, lt, long) in
+              rw (get_or-take count stages i no_stage at, get_or-take count stages (i - 1) no_stage (omega (arith, at))) (
+              kept_next p q common.0 is.within agree bp bq w odd (i - 1) (stage_at stages (i - 1)).stage.1 (stage_at stages i).stage.1 (omega (arith, e, at, some, same))
+              (valid (i - 1) (omega (arith, at, within)))
+              (holds.whole i some (omega (arith, at, within)) (rw (get_or-take count stages i no_stage at) at said)));
+        }
 
 -- they are no more than are held
 pub few_in_common : (p q : Problem) (count : ℕ) (stages : List LabelledStage) → AreInCommon p q count → length stages ≡ length p.flights + 1 → count ≤ length stages

@@ -130,8 +130,8 @@ step_reads p stages holds whole stage next place index before read after read' s
       listed = rw after_is listed;
     }
 
-pub back_pair : (p : Problem) → IsWindowNetwork p → (stages : List LabelledStage) (stage place index j k r : ℕ) (end : Pair) (order : List ℕ) (before after : LabelledStage) (v : List ℤ) (q : Pair)
-    → StepReads p stages stage place index before after → v ≡ window_in after place → q ≡ pair_in after place index
+pub back_pair : (p : Problem) → IsWindowNetwork p → (stages : List LabelledStage) (stage place index j k r : ℕ) (end : Pair) (order : List ℕ)
+    (before after : LabelledStage) (v : List ℤ) (q : Pair) → StepReads p stages stage place index before after → v ≡ window_in after place → q ≡ pair_in after place index
     → (source : GivesPair p before.stage before.labels.lists v q j k) → source.rank ≡ r → stage - 1 < length order
     → Traced p stages stage place index order end → Traced p stages (stage - 1) j k (set order (stage - 1) r) end
 back_pair p net stages stage place index j k r end order before after v q reads ev eq source rank_is lt rest =

@@ -28,7 +28,8 @@ stage_at stages i = slice_index_or stages i no_stage
 pub record AreStages (p : Problem) (stages : List LabelledStage) : Type 0 where
   pub number : (i : ℕ) → i < length stages → (stage_at stages i).stage.0 ≡ i
   pub held : (i : ℕ) → i < length stages → HoldsPairs p (stage_at stages i).stage (stage_at stages i).labels
-  pub whole : (i : ℕ) → 0 < i → i < length stages → IsTrue (stage_at stages i).is_whole → IsNextOf p (i - 1) (stage_at stages (i - 1)).stage.1 (stage_at stages i).stage.1
+  pub whole : (i : ℕ) → 0 < i → i < length stages → IsTrue (stage_at stages i).is_whole
+      → IsNextOf p (i - 1) (stage_at stages (i - 1)).stage.1 (stage_at stages i).stage.1
 
 -- the order is legal, and its flights can be given seconds that are open and late enough one after another, the last of them
 -- and what they cost together this pair

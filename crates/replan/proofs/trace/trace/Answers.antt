@@ -13,7 +13,8 @@ pub source-requires : goal.source-requires
 source-requires g c =
     let inv = c.loop-i.invariant in
     let r = step_reads c.args.problem.now _ c.requires.held (omega (arith, c.requires.whole)) c.loop-i.i _ c.loop-i.place c.loop-i.index _ _ _ _
-    (omega (arith, c.loop-i-test.true)) inv.0 (omega (arith, c.loop-i-test.true)) c.earlier.view_is c.index-kept-i.is c.later.view_is c.index-kept-i-in-loop-i.is inv.2 inv.3 in
+    (omega (arith, c.loop-i-test.true)) inv.0 (omega (arith, c.loop-i-test.true))
+    c.earlier.view_is c.index-kept-i.is c.later.view_is c.index-kept-i-in-loop-i.is inv.2 inv.3 in
     let undominated = listed_undominated c.args.problem.now c.earlier.inside.stage _ _ _ _ _ _ r.above.held r.next r.within
     c.node-node.ensures.value r.listed c.pair-pair.ensures.value in
     (search rules, (search rules, (c.requires.width, (r.held, (omega (arith, r.number, r.one_back, inv.0), (undominated, c.pair-pair.ensures.known))))))
@@ -22,7 +23,8 @@ pub last_rank-requires : goal.last_rank-requires
 last_rank-requires g c =
     let inv = c.loop-i.invariant in
     let r = step_reads c.args.problem.now _ c.requires.held (omega (arith, c.requires.whole)) c.loop-i.i _ c.loop-i.place c.loop-i.index _ _ _ _
-    (omega (arith, c.loop-i-test.true)) inv.0 (omega (arith, c.loop-i-test.true)) c.earlier.view_is c.index-kept-i.is c.later.view_is c.index-kept-i-in-loop-i.is inv.2 inv.3 in
+    (omega (arith, c.loop-i-test.true)) inv.0 (omega (arith, c.loop-i-test.true))
+    c.earlier.view_is c.index-kept-i.is c.later.view_is c.index-kept-i-in-loop-i.is inv.2 inv.3 in
     let laws : WindowLaws c.args.problem.now g.row.W =
     record { network = c.prefix_laws.ensures.network; alike = c.prefix_laws.ensures.sources; ranks = c.window_laws.ensures.ranks; leads = c.window_laws.ensures.leads } in
     let last = last_given c.args.problem.now g.row.W c.requires.width laws _ _ _ _ _ _ r.held.held c.source.ensures in
@@ -35,7 +37,8 @@ pub loop-i-preserved : goal.loop-i-preserved
 loop-i-preserved g c =
     let inv = c.loop-i.invariant in
     let r = step_reads c.args.problem.now _ c.requires.held (omega (arith, c.requires.whole)) c.loop-i.i _ c.loop-i.place c.loop-i.index _ _ _ _
-    (omega (arith, c.loop-i-test.true)) inv.0 (omega (arith, c.loop-i-test.true)) c.earlier.view_is c.index-kept-i.is c.later.view_is c.index-kept-i-in-loop-i.is inv.2 inv.3 in
+    (omega (arith, c.loop-i-test.true)) inv.0 (omega (arith, c.loop-i-test.true))
+    c.earlier.view_is c.index-kept-i.is c.later.view_is c.index-kept-i-in-loop-i.is inv.2 inv.3 in
     let laws : WindowLaws c.args.problem.now g.row.W =
     record { network = c.prefix_laws.ensures.network; alike = c.prefix_laws.ensures.sources; ranks = c.window_laws.ensures.ranks; leads = c.window_laws.ensures.leads } in
     let last = last_given c.args.problem.now g.row.W c.requires.width laws _ _ _ _ _ _ r.held.held c.source.ensures in
