@@ -1,7 +1,6 @@
 mod arrivals;
 mod bank;
 mod labels;
-mod memory;
 mod numbers;
 mod open_times;
 mod pairs;

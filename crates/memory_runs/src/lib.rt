@@ -2,5 +2,7 @@
 #![tactic(auto)]
 
 mod runs;
+#[cfg(test)]
+mod tests;
 
 pub use runs::{MemoryRun, run_in_memory};

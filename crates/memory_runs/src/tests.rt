@@ -1,5 +1,5 @@
+use crate::run_in_memory;
 use cps_outside::FreeGate;
-use memory_runs::run_in_memory;
 use std::test::Fail;
 
 #[test]
