@@ -8,6 +8,3 @@ mod number;
 pub use callsign::Callsign;
 pub use ledger::{Counted, Ledger, Silent, Steps};
 pub use number::{NumberFault, read_number};
-
-#[cfg(test)]
-mod tests;

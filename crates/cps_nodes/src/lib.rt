@@ -9,6 +9,3 @@ mod window;
 
 pub use laws::window_laws;
 pub use window::{ExtendableWindow, Window};
-
-#[cfg(test)]
-mod tests;

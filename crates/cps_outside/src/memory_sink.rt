@@ -49,6 +49,13 @@ impl MemorySink {
         self.written.as_slice()
     }
 
+    /// How many puts there were, at most 2 ^ 64 - 1.
+    pub fn puts(&self) -> u64
+        ensures { result ≡ puts_of self.now }
+    {
+        self.puts
+    }
+
     // Takes these bytes, for which there is room.
     fn take(&mut self, bytes: &[u8])
         requires { length bytes.now ≤ self.old.room }

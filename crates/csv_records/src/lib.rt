@@ -5,6 +5,3 @@ mod records;
 mod width;
 
 pub use records::{Records, field};
-
-#[cfg(test)]
-mod tests;

@@ -4,6 +4,3 @@
 mod order;
 
 pub use order::Order;
-
-#[cfg(test)]
-mod tests;

@@ -4,8 +4,6 @@
 
 mod lists;
 mod numbers;
-#[cfg(test)]
-mod tests;
 
 pub use lists::{fill_lists, fill_long_lists};
 pub use numbers::{PIECE, fill_numbers};

@@ -5,8 +5,6 @@ mod closures;
 pub mod laws;
 mod open_times;
 mod search;
-#[cfg(test)]
-mod tests;
 mod windows;
 
 pub use closures::{ClosureFault, Closures};

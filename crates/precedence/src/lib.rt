@@ -4,6 +4,3 @@
 mod pairs;
 
 pub use pairs::Pairs;
-
-#[cfg(test)]
-mod tests;

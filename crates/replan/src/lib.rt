@@ -18,6 +18,3 @@ mod trace;
 pub use any_kept::AnyKept;
 pub use kept::Kept;
 pub use least::least_value;
-
-#[cfg(test)]
-mod tests;

@@ -7,6 +7,3 @@ mod sample;
 mod traffic;
 
 pub use traffic::{Traffic, generate};
-
-#[cfg(test)]
-mod tests;

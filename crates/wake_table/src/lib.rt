@@ -3,8 +3,6 @@
 
 mod category;
 mod table;
-#[cfg(test)]
-mod tests;
 
 pub use category::{CATEGORIES, Category};
 pub use table::{GREATEST_SEPARATION, PairTable, SAMPLE, TableFault};

@@ -3,7 +3,6 @@
 #![tactic(auto)]
 
 mod cases;
-mod counting;
 mod files;
 mod runs;
 

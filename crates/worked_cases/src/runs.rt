@@ -1,6 +1,5 @@
 // The run of a case.
 use crate::cases::{Case, Texts};
-use crate::counting::CountingSink;
 use crate::files::folder_of;
 use anyhow::Result;
 use cps_outside::{FreeGate, MemorySink};
@@ -11,9 +10,9 @@ use std::thread::Threads;
 // The most bytes that a case writes.
 const ROOM: usize = 8_000_000;
 
-fn sink(alloc: Global, failing: &[(u32, u32)]) -> Result<CountingSink> {
+fn sink(alloc: Global, failing: &[(u32, u32)]) -> Result<MemorySink> {
     let sink = MemorySink::new(alloc, ROOM, failing.to_vec(alloc)?)?;
-    Ok(CountingSink { sink, puts: 0 })
+    Ok(sink)
 }
 
 fn words_of(alloc: Global, case: &Case) -> Result<Vec<String>> {
@@ -61,8 +60,8 @@ pub(crate) fn is_as_shown<R: Threads + Sync>(
     );
     Ok(
         status == case.status
-            && is_output(case, out.sink.written())
-            && case.puts.is_none_or(|puts| puts == out.puts)
-            && err.sink.written() == case.err.as_bytes(),
+            && is_output(case, out.written())
+            && case.puts.is_none_or(|puts| puts == out.puts())
+            && err.written() == case.err.as_bytes(),
     )
 }

@@ -1,0 +1,5 @@
+//! Tests of the crates through their public calls, in a crate of their own, so that each crate is proved once.
+#![tactic(auto)]
+
+#[cfg(test)]
+mod tests;

@@ -1,0 +1,16 @@
+mod arrivals;
+mod bank;
+mod labels;
+mod numbers;
+mod open_times;
+mod pairs;
+mod planner;
+mod problems;
+mod records;
+mod separations;
+mod stages;
+mod traffic;
+mod windows;
+mod workers;
+
+fn is_shared<T: Send + Sync>(_: &T) {}

@@ -1,0 +1,44 @@
+ghost use Rattle.std.specs.Prelude.{◌<◌};
+
+use super::is_shared;
+use wake_table::{Category, PairTable, SAMPLE, TableFault};
+
+// The fault of the sample table with two entries changed, each given by leader, follower and seconds.
+fn fault_with(first: (usize, usize, u32), second: (usize, usize, u32)) -> Option<TableFault>
+    requires { (first.0 < 6) × (first.1 < 6) × (second.0 < 6) × (second.1 < 6) }
+{
+    let mut rows = SAMPLE;
+    rows[first.0][first.1] = first.2;
+    rows[second.0][second.1] = second.2;
+    PairTable::new(rows).err()
+}
+
+#[test]
+fn the_first_fault_in_letter_order_is_named(rt: HostRuntime) {
+    use Category::{A, B, C, D, E, F};
+    use TableFault::{OutOfRange, Triangle};
+    let same = (0, 0, 90);
+    let cases = [
+        (same, same, None),
+        ((0, 2, 70), (2, 5, 60), Some(Triangle(A, C, F))),
+        ((4, 4, 130), same, Some(Triangle(E, D, E))),
+        ((5, 0, 600), same, Some(Triangle(F, B, A))),
+        ((5, 0, 601), (4, 4, 130), Some(OutOfRange(F, A))),
+        ((5, 0, 601), (1, 3, 0), Some(OutOfRange(B, D))),
+    ];
+    for (first, second, fault) in cases {
+        assert_eq!(rt; fault_with(first, second), fault);
+    }
+}
+
+#[test]
+fn the_sample_table_gives_its_entries(rt: HostRuntime) {
+    let table = PairTable::new(SAMPLE);
+    is_shared(&table);
+    assert_eq!(rt;
+        table.map(|t| t.sep(Category::A, Category::F)).ok(),
+        Some(180)
+    );
+    assert_eq!(rt; Category::read(b"C").map(|c| c.letter()), Some(b'C'));
+    assert_eq!(rt; Category::read(b"c"), None);
+}

@@ -1,0 +1,114 @@
+use cps_outside::{FreeGate, Gate};
+use label_workers::{PIECE, fill_lists, fill_long_lists, fill_numbers};
+use std::alloc::AllocError;
+use std::sync::atomic::{AtomicU64, Ordering};
+use std::test::Fail;
+
+// Holds piece 0 until piece 1 has passed, for so many turns at most.
+#[derive(Drop)]
+struct Holding {
+    passed: AtomicU64,
+    seen: AtomicU64,
+}
+
+const TURNS: u32 = 100_000_000;
+
+impl Gate for Holding {
+    fn pass(&self, piece: u32) {
+        if piece == 1 {
+            self.passed.store(1, Ordering::SeqCst);
+        }
+        if piece == 0 {
+            for _ in 0..TURNS {
+                if self.passed.load(Ordering::SeqCst) == 1 {
+                    self.seen.store(1, Ordering::SeqCst);
+                    return;
+                }
+            }
+        }
+    }
+}
+
+fn holds_piece_0() -> Holding {
+    Holding {
+        passed: AtomicU64::new(0),
+        seen: AtomicU64::new(0),
+    }
+}
+
+// Counts the pieces.
+#[derive(Drop)]
+struct Counting {
+    passes: AtomicU64,
+}
+
+impl Gate for Counting {
+    fn pass(&self, _piece: u32) {
+        self.passes.fetch_add(1, Ordering::SeqCst);
+    }
+}
+
+fn counts_pieces() -> Counting {
+    Counting {
+        passes: AtomicU64::new(0),
+    }
+}
+
+#[test]
+fn two_pieces_of_a_column_run_beside_each_other(rt: HostRuntime) -> Result<(), Fail> {
+    let gate = holds_piece_0();
+    let mut column = vec![in rt.alloc(); 0u32; 2048]?;
+    fill_numbers(&rt, column.as_mut_slice(), &gate, &|i| (i % 1000) as u32);
+    assert_eq!(rt; gate.seen.load(Ordering::SeqCst), 1);
+    for (i, x) in column.iter().enumerate() {
+        assert_eq!(rt; *x, (i % 1000) as u32);
+    }
+    Ok(())
+}
+
+#[test]
+fn each_piece_passes_the_gate_once_and_the_last_may_be_shorter(
+    rt: HostRuntime,
+) -> Result<(), Fail> {
+    let gate = counts_pieces();
+    let mut column = vec![in rt.alloc(); 7u32; 9 * PIECE + 6]?;
+    fill_numbers(&rt, column.as_mut_slice(), &gate, &|i| (i % 1000) as u32);
+    assert_eq!(rt; gate.passes.load(Ordering::SeqCst), 10);
+    for (i, x) in column.iter().enumerate() {
+        assert_eq!(rt; *x, (i % 1000) as u32);
+    }
+    let mut empty = vec![in rt.alloc(); 7u32; 0]?;
+    fill_numbers(&rt, empty.as_mut_slice(), &gate, &|_| 0);
+    assert_eq!(rt; gate.passes.load(Ordering::SeqCst), 10);
+    Ok(())
+}
+
+#[test]
+fn each_item_is_a_piece(rt: HostRuntime) -> Result<(), Fail> {
+    let alloc = rt.alloc();
+    for least in 1..10 {
+        let gate = counts_pieces();
+        let squares = fill_long_lists(&rt, alloc, 8, least, &gate, &|i| Ok((i % 8) * (i % 8)))?;
+        assert_eq!(rt; squares.as_slice(), [0, 1, 4, 9, 16, 25, 36, 49].as_slice());
+        assert_eq!(rt; gate.passes.load(Ordering::SeqCst), 8);
+        let refused = fill_long_lists(
+            &rt,
+            alloc,
+            8,
+            least,
+            &FreeGate,
+            &|i| { if i == 5 { Err(AllocError) } else { Ok(i) } },
+        );
+        assert!(rt; refused.is_err());
+    }
+    Ok(())
+}
+
+#[test]
+fn two_items_run_beside_each_other(rt: HostRuntime) -> Result<(), Fail> {
+    let gate = holds_piece_0();
+    let items = fill_lists(&rt, rt.alloc(), 2, &gate, &|i| Ok(i))?;
+    assert_eq!(rt; gate.seen.load(Ordering::SeqCst), 1);
+    assert_eq!(rt; items.as_slice(), [0, 1].as_slice());
+    Ok(())
+}

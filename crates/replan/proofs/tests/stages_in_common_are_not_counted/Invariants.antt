@@ -1,6 +1,0 @@
-use Rattle.std.proofs.Common.{◌≡◌}
-use Rattle.replan.specs.Kept.{k_of}
-use Rattle.replan.proofs.tests.stages_in_common_are_not_counted.Given as goal
-
-abbrev pub invariant-loop-third : goal.invariant-loop-third
-invariant-loop-third g l = k_of l.planner ≡ 1
