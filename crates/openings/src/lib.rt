@@ -1,0 +1,8 @@
+//! What the aerodrome file and the flight file open, and how a command over them may end.
+#![tactic(auto)]
+
+mod answering;
+mod opening;
+
+pub use answering::answer;
+pub use opening::begin;
