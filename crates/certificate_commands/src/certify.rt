@@ -1,4 +1,4 @@
-ghost use Rattle.std.specs.Prelude.{◌≡◌, [], MatchResult};
+ghost use Rattle.std.specs.Prelude.{MatchResult};
 ghost use Rattle.aerodrome_file.specs.Reading.{IsInRange};
 ghost use Rattle.flight_file.specs.OfFile.{CanBeRead};
 ghost use Rattle.certificate_commands.specs.Certify.{AdmitsCertify, Certifies, FollowsCertify, IsCertified};
@@ -12,6 +12,7 @@ use cps_problem::Planner;
 use endings::{Answer, Ending};
 use flight_file::{Flight, read_flights};
 use landing_joint::laws::problem_stands_for_situation;
+use openings::{Report, print_report};
 use replan::AnyKept;
 use sequencer::opening_problem;
 use std::alloc::Global;
@@ -40,44 +41,44 @@ fn certify_opened<R: Threads + Sync, G: Gate + Sync>(
     Ok(certificate)
 }
 
-// Writes its text into an empty one.
-fn write_opened<R: Threads + Sync, G: Gate + Sync>(
+// Its text.
+fn report_opened<R: Threads + Sync, G: Gate + Sync>(
     rt: &R,
     alloc: Global,
     aerodrome: &Aerodrome,
     flights: &[Flight],
     gate: &G,
-    text: &mut Vec<u8>,
-) -> Result<Answer, Ending>
+) -> Result<Report, Ending>
     requires range { IsInRange aerodrome.now }
     requires read { CanBeRead flights.now }
-    requires empty { text.old.items ≡ [] }
     ensures { MatchResult result
-        (λ answer. Certifies aerodrome.now flights.now text.new.items answer)
+        (λ r. Certifies aerodrome.now flights.now r.text.items r.answer)
         (StopsOpened aerodrome.now flights.now) }
 {
     let certificate = certify_opened(rt, alloc, aerodrome, flights, gate)?;
-    print_certificate(&certificate, text)?;
-    Ok(Answer::Certified)
+    let mut text = Vec::new(alloc);
+    print_certificate(&certificate, &mut text)?;
+    Ok(Report {
+        text,
+        answer: Answer::Certified,
+    })
 }
 
 // The same for the bytes of the files.
-fn write_files<R: Threads + Sync, G: Gate + Sync>(
+fn report_files<R: Threads + Sync, G: Gate + Sync>(
     rt: &R,
     alloc: Global,
     aerodrome: &[u8],
     flights: &[u8],
     gate: &G,
-    text: &mut Vec<u8>,
-) -> Result<Answer, Ending>
-    requires empty { text.old.items ≡ [] }
+) -> Result<Report, Ending>
     ensures { MatchResult result
-        (λ answer. AdmitsCertify aerodrome.now flights.now text.new.items answer)
+        (λ r. AdmitsCertify aerodrome.now flights.now r.text.items r.answer)
         (StopsPlan aerodrome.now flights.now) }
 {
     let aerodrome = read_aerodrome(alloc, aerodrome)?;
     let flights = read_flights(alloc, flights)?;
-    write_opened(rt, alloc, &aerodrome, flights.as_slice(), gate, text)
+    report_opened(rt, alloc, &aerodrome, flights.as_slice(), gate)
 }
 
 /// The command `certify`: prints a certificate of the problem that the files open.
@@ -92,12 +93,6 @@ pub fn run_certify<R: Threads + Sync, S: Sink, G: Gate + Sync>(
     ensures { FollowsCertify aerodrome.now flights.now
         (S.state out.old) (S.state out.new) result }
 {
-    let mut text = Vec::new(alloc);
-    match write_files(rt, alloc, aerodrome, flights, gate, &mut text) {
-        Err(ending) => ending,
-        Ok(answer) => match out.put(text.as_slice()) {
-            Ok(()) => Ending::Answered(answer),
-            Err(_) => Ending::NotWritten,
-        },
-    }
+    let report = report_files(rt, alloc, aerodrome, flights, gate);
+    print_report(out, report)
 }

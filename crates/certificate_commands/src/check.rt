@@ -1,7 +1,7 @@
 ghost use Rattle.std.specs.Prelude.{◌<◌, length, MatchResult};
 ghost use Rattle.aerodrome_file.specs.Reading.{IsInRange};
 ghost use Rattle.flight_file.specs.OfFile.{CanBeRead};
-ghost use Rattle.certificate_commands.specs.Check.{FollowsCheck, IsJudged, Judges, StopsCheck};
+ghost use Rattle.certificate_commands.specs.Check.{AdmitsCheck, FollowsCheck, IsJudged, Judges, StopsCheck};
 ghost use Rattle.openings.specs.Plan.{StopsOpened};
 
 use crate::verdict_lines::{answer, verdict_line};
@@ -12,6 +12,7 @@ use cps_outside::Sink;
 use endings::Ending;
 use flight_file::{Flight, read_flights};
 use landing_joint::laws::problem_stands_for_situation;
+use openings::{Report, print_report};
 use sequencer::opening_problem;
 use std::alloc::Global;
 
@@ -51,6 +52,24 @@ fn judge_files(
     judge_opened(alloc, &aerodrome, flights.as_slice(), &certificate)
 }
 
+// The line of that verdict.
+fn report_files(
+    alloc: Global,
+    aerodrome: &[u8],
+    flights: &[u8],
+    certificate: &[u8],
+) -> Result<Report, Ending>
+    requires { length certificate.now < 4294967295 }
+    ensures { MatchResult result
+        (λ r. AdmitsCheck aerodrome.now flights.now certificate.now r.text.items r.answer)
+        (StopsCheck aerodrome.now flights.now certificate.now) }
+{
+    let verdict = judge_files(alloc, aerodrome, flights, certificate)?;
+    let text = verdict_line(alloc, &verdict)?;
+    let answer = answer(&verdict);
+    Ok(Report { text, answer })
+}
+
 /// The command `check`: prints the verdict on the certificate of the files, of fewer than 4,294,967,295 bytes, and answers whether
 /// it is accepted.
 pub fn run_check<S: Sink>(
@@ -64,15 +83,6 @@ pub fn run_check<S: Sink>(
     ensures { FollowsCheck aerodrome.now flights.now certificate.now
         (S.state out.old) (S.state out.new) result }
 {
-    let verdict = match judge_files(alloc, aerodrome, flights, certificate) {
-        Ok(verdict) => verdict,
-        Err(ending) => return ending,
-    };
-    match verdict_line(alloc, &verdict) {
-        Err(_) => Ending::NoMemory,
-        Ok(text) => match out.put(text.as_slice()) {
-            Ok(()) => Ending::Answered(answer(&verdict)),
-            Err(_) => Ending::NotWritten,
-        },
-    }
+    let report = report_files(alloc, aerodrome, flights, certificate);
+    print_report(out, report)
 }

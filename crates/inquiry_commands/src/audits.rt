@@ -14,16 +14,10 @@ use audit::{Block, PlanText, append_findings, audit, read_plan};
 use cps_outside::Sink;
 use endings::{Answer, Ending};
 use flight_file::{Flight, read_flights};
+use openings::{Report, print_report};
 use sequencer::opening;
 use situations::Situation;
 use std::alloc::{AllocError, Global};
-
-// A text to print, and what is answered with it.
-#[derive(Drop)]
-struct Report {
-    text: Vec<u8>,
-    answer: Answer,
-}
 
 // What is found of a plan block: a line for each finding, or that there is none.
 fn report_block(alloc: Global, situation: &Situation, block: &Block) -> Result<Report, AllocError>
@@ -113,12 +107,6 @@ pub fn run_audit<S: Sink>(
     ensures { FollowsAudit aerodrome.now flights.now plan.now
         (S.state out.old) (S.state out.new) result }
 {
-    let report = match report_files(alloc, aerodrome, flights, plan) {
-        Ok(report) => report,
-        Err(ending) => return ending,
-    };
-    match out.put(report.text.as_slice()) {
-        Ok(()) => Ending::Answered(report.answer),
-        Err(_) => Ending::NotWritten,
-    }
+    let report = report_files(alloc, aerodrome, flights, plan);
+    print_report(out, report)
 }

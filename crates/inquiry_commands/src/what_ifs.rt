@@ -9,6 +9,7 @@ use aerodrome_file::{Aerodrome, read_aerodrome};
 use cps_outside::{Gate, Sink};
 use endings::{Answer, Ending, Refusal};
 use flight_file::{Flight, read_flights};
+use openings::{Report, print_report};
 use situations::opening_fault;
 use std::alloc::Global;
 use std::thread::Threads;
@@ -41,29 +42,33 @@ fn try_opened<R: Threads + Sync, G: Gate + Sync>(
 }
 
 // The same for the bytes of the files.
-fn try_files<R: Threads + Sync, G: Gate + Sync>(
+fn report_files<R: Threads + Sync, G: Gate + Sync>(
     rt: &R,
     alloc: Global,
     aerodrome: &[u8],
     flights: &[u8],
     trials: &[u8],
     gate: &G,
-) -> Result<Vec<u8>, Ending>
+) -> Result<Report, Ending>
     ensures { MatchResult result
-        (λ text. AdmitsWhatIf aerodrome.now flights.now trials.now text.items Answer.Tried)
+        (λ r. AdmitsWhatIf aerodrome.now flights.now trials.now r.text.items r.answer)
         (StopsWhatIf aerodrome.now flights.now trials.now) }
 {
     let aerodrome = read_aerodrome(alloc, aerodrome)?;
     let flights = read_flights(alloc, flights)?;
     let trials = read_trials(alloc, trials)?;
-    try_opened(
+    let text = try_opened(
         rt,
         alloc,
         &aerodrome,
         flights.as_slice(),
         trials.as_slice(),
         gate,
-    )
+    )?;
+    Ok(Report {
+        text,
+        answer: Answer::Tried,
+    })
 }
 
 /// The command `whatif`: prints the outcomes of the trials of the files, a line each.
@@ -79,11 +84,6 @@ pub fn run_what_if<R: Threads + Sync, S: Sink, G: Gate + Sync>(
     ensures { FollowsWhatIf aerodrome.now flights.now trials.now
         (S.state out.old) (S.state out.new) result }
 {
-    match try_files(rt, alloc, aerodrome, flights, trials, gate) {
-        Err(ending) => ending,
-        Ok(text) => match out.put(text.as_slice()) {
-            Ok(()) => Ending::Answered(Answer::Tried),
-            Err(_) => Ending::NotWritten,
-        },
-    }
+    let report = report_files(rt, alloc, aerodrome, flights, trials, gate);
+    print_report(out, report)
 }

@@ -3,6 +3,8 @@
 
 mod answering;
 mod opening;
+mod report;
 
 pub use answering::answer;
 pub use opening::begin;
+pub use report::{Report, print_report};

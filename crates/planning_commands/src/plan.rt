@@ -1,4 +1,4 @@
-ghost use Rattle.std.specs.Prelude.{◌≡◌, [], OnOk, IfOk, MatchResult};
+ghost use Rattle.std.specs.Prelude.{◌≡◌, IfOk, MatchResult};
 ghost use Rattle.landing_rules.specs.Text.{lines_text, plan_lines};
 ghost use Rattle.aerodrome_file.specs.Reading.{IsInRange};
 ghost use Rattle.flight_file.specs.OfFile.{CanBeRead};
@@ -8,65 +8,62 @@ ghost use Rattle.planning_commands.specs.Plan.{Shows, FollowsPlan};
 use aerodrome_file::{Aerodrome, read_aerodrome};
 use cps_outside::{Gate, Sink};
 use cps_problem::Planner;
-use endings::{Answer, Ending};
+use endings::Ending;
 use flight_file::{Flight, read_flights};
-use openings::{answer, begin};
+use openings::{Report, answer, begin, print_report};
 use plan_text::plan_block;
 use sequencer::Sequencer;
 use std::alloc::{AllocError, Global};
 use std::thread::Threads;
 
-// Writes the block of the plan that is shown into an empty text.
-fn write_plan<P: Planner>(
+// The block of the plan that is shown.
+fn report_plan<P: Planner>(
+    alloc: Global,
     sequencer: &Sequencer<P>,
-    text: &mut Vec<u8>,
-) -> Result<Answer, AllocError>
-    requires empty { text.old.items ≡ [] }
-    ensures prints { OnOk result (text.new.items ≡ lines_text (plan_lines sequencer.now.state)) }
-    ensures answers { IfOk result (λ answer. answer ≡ answer_of sequencer.now.state.plan) }
+) -> Result<Report, AllocError>
+    ensures text { IfOk result (λ r. r.text.items ≡ lines_text (plan_lines sequencer.now.state)) }
+    ensures answer { IfOk result (λ r. r.answer ≡ answer_of sequencer.now.state.plan) }
 {
-    plan_block(sequencer.objective(), sequencer.plan(), text)?;
-    Ok(answer(sequencer.plan().is_some()))
+    let mut text = Vec::new(alloc);
+    plan_block(sequencer.objective(), sequencer.plan(), &mut text)?;
+    let answer = answer(sequencer.plan().is_some());
+    Ok(Report { text, answer })
 }
 
 // The same for what files that are read open.
-fn write_opened<R: Threads + Sync, G: Gate + Sync>(
+fn report_opened<R: Threads + Sync, G: Gate + Sync>(
     rt: &R,
     alloc: Global,
     aerodrome: Aerodrome,
     flights: Vec<Flight>,
     gate: &G,
-    text: &mut Vec<u8>,
-) -> Result<Answer, Ending>
+) -> Result<Report, Ending>
     requires range { IsInRange aerodrome }
     requires read { CanBeRead flights.items }
-    requires empty { text.old.items ≡ [] }
     ensures { MatchResult result
-        (λ answer. Shows aerodrome flights.items text.new.items answer)
+        (λ r. Shows aerodrome flights.items r.text.items r.answer)
         (StopsOpened aerodrome flights.items) }
 {
     let (sequencer, _) = begin(rt, alloc, aerodrome, flights, gate)?;
-    let answer = write_plan(&sequencer, text)?;
-    Ok(answer)
+    let report = report_plan(alloc, &sequencer)?;
+    Ok(report)
 }
 
 // The same for the bytes of the files.
-fn write_files<R: Threads + Sync, G: Gate + Sync>(
+fn report_files<R: Threads + Sync, G: Gate + Sync>(
     rt: &R,
     alloc: Global,
     aerodrome: &[u8],
     flights: &[u8],
     gate: &G,
-    text: &mut Vec<u8>,
-) -> Result<Answer, Ending>
-    requires empty { text.old.items ≡ [] }
+) -> Result<Report, Ending>
     ensures { MatchResult result
-        (λ answer. AdmitsPlan aerodrome.now flights.now text.new.items answer)
+        (λ r. AdmitsPlan aerodrome.now flights.now r.text.items r.answer)
         (StopsPlan aerodrome.now flights.now) }
 {
     let aerodrome = read_aerodrome(alloc, aerodrome)?;
     let flights = read_flights(alloc, flights)?;
-    write_opened(rt, alloc, aerodrome, flights, gate, text)
+    report_opened(rt, alloc, aerodrome, flights, gate)
 }
 
 /// The command `plan`: prints the opening plan of the files, and answers whether there is one.
@@ -81,12 +78,6 @@ pub fn run_plan<R: Threads + Sync, S: Sink, G: Gate + Sync>(
     ensures { FollowsPlan aerodrome.now flights.now
         (S.state out.old) (S.state out.new) result }
 {
-    let mut text = Vec::new(alloc);
-    match write_files(rt, alloc, aerodrome, flights, gate, &mut text) {
-        Err(ending) => ending,
-        Ok(answer) => match out.put(text.as_slice()) {
-            Ok(()) => Ending::Answered(answer),
-            Err(_) => Ending::NotWritten,
-        },
-    }
+    let report = report_files(rt, alloc, aerodrome, flights, gate);
+    print_report(out, report)
 }

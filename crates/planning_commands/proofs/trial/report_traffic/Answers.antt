@@ -5,13 +5,13 @@ use Rattle.std.proofs.Common.{List}
 use Rattle.std.proofs.lemmas.Result.{err_from_is_err_and}
 use Rattle.aerodrome_file.specs.declared.aerodrome.Aerodrome.{Aerodrome}
 use Rattle.planning_commands.proofs.Summed.{stops_short}
-use Rattle.planning_commands.proofs.trial.write_traffic.Goals as goal
+use Rattle.planning_commands.proofs.trial.report_traffic.Goals as goal
 
 pub returns : goal.returns
 returns g c =
     sums c.args.traffic c.args.n c.args.k c.in_ok-sequencer.nodes c.into_parts-aerodrome.result.0 c.into_parts-aerodrome.result.1.items
-    c.in_ok-sequencer.sequencer c.write_summary.new.text.items c.in_ok-answer.answer c.into_parts-aerodrome.ensures.aerodrome c.into_parts-aerodrome.ensures.flights
-    c.in_ok-sequencer.ensures.opened c.in_ok-sequencer.ensures.planned c.in_ok-answer.ensures.prints c.in_ok-answer.ensures.answers
+    c.in_ok-sequencer.sequencer c.in_ok-report.report.text.items c.in_ok-report.report.answer c.into_parts-aerodrome.ensures.aerodrome c.into_parts-aerodrome.ensures.flights
+    c.in_ok-sequencer.ensures.opened c.in_ok-sequencer.ensures.planned c.in_ok-report.ensures.text c.in_ok-report.ensures.answer
 
 pub returns-in_err-sequencer : goal.returns-in_err-sequencer
 returns-in_err-sequencer g c =
