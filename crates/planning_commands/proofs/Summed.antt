@@ -1,5 +1,5 @@
 -- From what was begun and written to what is said of traffic.
-use Rattle.std.proofs.Common.{◌≡◌, ℕ, ◌≤◌, List, length, None, Some, refl, sym, ap, ◌∙◌}
+use Rattle.std.proofs.Common.{◌≡◌, ℕ, ◌≤◌, List, length, None, Some, sym, ap, ◌∙◌}
 use Rattle.std.specs.Prelude.{option_map}
 use Rattle.landing_rules.specs.Text.{plan_shown}
 use Rattle.cps_network.specs.shared.DueSteps.{all_due}
@@ -12,11 +12,11 @@ use Rattle.plan_text.specs.Trial.{trial_text}
 use Rattle.endings.specs.declared.ending.Answer.{Answer}
 use Rattle.endings.specs.declared.ending.Refusal.{Refusal}
 use Rattle.endings.specs.declared.ending.Ending.{Ending}
-use Rattle.endings.specs.declared.ending.Ending.TheVariants.{Answered, Misused, Refused, NotLoaded, NotWritten, TooLong, NoMemory}
-use Rattle.openings.specs.Plan.{answer_of, IsOpened, IsPlannedAnew, StopsOpened}
+use Rattle.openings.specs.Plan.{answer_of, refusal_of, IsOpened, IsPlannedAnew, StopsOpened}
+use Rattle.openings.specs.shared.Opened.{stops_by}
 use Rattle.endings.specs.declared.ending.Refusal.TheVariants.{Opening}
 use Rattle.situations.specs.Refused.{opening_fault}
-use Rattle.planning_commands.specs.Trial.{Sums}
+use Rattle.planning_commands.specs.Trial.{Sums, StopsTrial}
 
 pub sums : (made : Made) (n k nodes : ℕ) (aerodrome : Aerodrome) (flights : List Flight) (s : Standing AnyKept) (text : List ℕ) (answer : Answer) →
     aerodrome ≡ made.aerodrome → flights ≡ made.flights → IsOpened aerodrome flights s.state → IsPlannedAnew s nodes →
@@ -32,15 +32,10 @@ sums made n k nodes aerodrome flights s text answer a_is f_is opened planned pri
   answers = answers;
 }
 
+none_some : {cause : Refusal} → None ≡ Some cause → ⊥
+none_some e = cc
+
 -- files that open are stopped by memory alone
-pub stops_short : (aerodrome : Aerodrome) (flights : List Flight) (ending : Ending) → opening_fault aerodrome flights ≡ None → StopsOpened aerodrome flights ending → ending ≡ NoMemory
-stops_short aerodrome flights (Refused cause) opens stops = absurd (none_some (sym (ap (option_map Opening) opens) ∙ stops))
-  where
-    none_some : {cause : Refusal} → None ≡ Some cause → ⊥
-    none_some e = cc
-stops_short aerodrome flights NoMemory opens stops = refl
-stops_short aerodrome flights (Answered answer) opens stops = absurd stops
-stops_short aerodrome flights Misused opens stops = absurd stops
-stops_short aerodrome flights (NotLoaded place) opens stops = absurd stops
-stops_short aerodrome flights NotWritten opens stops = absurd stops
-stops_short aerodrome flights (TooLong place) opens stops = absurd stops
+pub stops_short : (aerodrome : Aerodrome) (flights : List Flight) (ending : Ending) → opening_fault aerodrome flights ≡ None → StopsOpened aerodrome flights ending → StopsTrial ending
+stops_short aerodrome flights ending opens =
+    stops_by (λ cause. refusal_of aerodrome flights ≡ Some cause) (λ cause. ⊥) ending (λ cause refused. none_some (sym (ap (option_map Opening) opens) ∙ refused))

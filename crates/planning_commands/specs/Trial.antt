@@ -12,7 +12,7 @@ use Rattle.cps_outside.specs.SinkState.{SinkState}
 use Rattle.endings.specs.declared.ending.Answer.{Answer}
 use Rattle.endings.specs.declared.ending.Ending.{Ending}
 use Rattle.openings.specs.Follows.{FollowsAtOnce}
-use Rattle.openings.specs.Plan.{answer_of}
+use Rattle.openings.specs.Plan.{Stops, answer_of}
 
 -- The text is the summary of an opening state of this traffic, with the number of the candidates of all stages of its
 -- problem.
@@ -30,6 +30,10 @@ pub record Sums (made : Made) (n k : ℕ) (text : List ℕ) (answer : Answer) : 
 abbrev pub AdmitsTrial : ℕ → ℕ → ℕ → List ℕ → Answer → Type 0
 AdmitsTrial seed n k = Sums (traffic seed n k) n k
 
--- what `trial` does, with this ending. It refuses nothing
+-- how `trial`, which refuses nothing, may stop before it writes
+abbrev pub StopsTrial : Ending → Type 0
+StopsTrial = Stops (λ refusal. ⊥)
+
+-- what `trial` does, with this ending
 abbrev pub FollowsTrial : ℕ → ℕ → ℕ → SinkState → SinkState → Ending → Type 0
 FollowsTrial seed n k = FollowsAtOnce (AdmitsTrial seed n k) (λ refusal. ⊥)

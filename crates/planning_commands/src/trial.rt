@@ -3,10 +3,9 @@ ghost use Rattle.landing_rules.specs.Limits.{most_waiting};
 ghost use Rattle.landing_rules.specs.Text.{plan_shown};
 ghost use Rattle.aerodrome_file.specs.Reading.{IsInRange};
 ghost use Rattle.flight_file.specs.OfFile.{CanBeRead};
-ghost use Rattle.endings.specs.declared.ending.Ending.TheVariants.{NoMemory};
 ghost use Rattle.plan_text.specs.Trial.{trial_text};
 ghost use Rattle.openings.specs.Plan.{answer_of};
-ghost use Rattle.planning_commands.specs.Trial.{Sums, AdmitsTrial, FollowsTrial};
+ghost use Rattle.planning_commands.specs.Trial.{Sums, AdmitsTrial, FollowsTrial, StopsTrial};
 
 use cps_outside::{Gate, Sink};
 use cps_problem::Planner;
@@ -55,7 +54,7 @@ fn report_traffic<R: Threads + Sync, G: Gate + Sync>(
     requires none_passed { traffic.aerodrome.passed ≡ [] }
     ensures { MatchResult result
         (λ r. Sums traffic n k r.text.items r.answer)
-        (λ ending. ending ≡ NoMemory) }
+        StopsTrial }
 {
     plain_files_open();
     let (aerodrome, flights) = traffic.into_parts();
@@ -77,7 +76,7 @@ fn report_seed<R: Threads + Sync, G: Gate + Sync>(
     requires shifts { k ≤ 3 }
     ensures { MatchResult result
         (λ r. AdmitsTrial seed n k r.text.items r.answer)
-        (λ ending. ending ≡ NoMemory) }
+        StopsTrial }
 {
     let traffic = generate(alloc, seed, n, k)?;
     report_traffic(rt, alloc, traffic, n, k, gate)

@@ -22,4 +22,4 @@ returns-in_err-sequencer g c =
     let few = subst (λ (fs : List Flight). length fs ≤ 60) (sym f_is) c.requires.few in
     let opens = c.plain_files_open.ensures aerodrome flights (ap (λ (a : Aerodrome). a.frozen) a_is ∙ c.requires.none_frozen) (ap (λ (a : Aerodrome). a.passed) a_is ∙ c.requires.none_passed) few in
     let p = err_from_is_err_and c.from_residual.result c.from_residual.ensures.1 in
-    rw p.1 (p.2 ∙ stops_short aerodrome flights c.in_err-sequencer.field-0.0 opens c.in_err-sequencer.ensures.opened)
+    rw (p.1, p.2) (stops_short aerodrome flights c.in_err-sequencer.field-0.0 opens c.in_err-sequencer.ensures.opened)
