@@ -1,5 +1,5 @@
 -- From the clause of a printed first plan to the laws of its text.
-use Rattle.std.proofs.Common.{◌≡◌, ℕ, List, Option, Some, None, map, refl, sym, ap, ap₂, subst, ◌∙◌}
+use Rattle.std.proofs.Common.{◌≡◌, List, Option, Some, None, map, refl, sym, ap, ap₂, subst, ◌∙◌}
 use Rattle.std.specs.Prelude.{option_map}
 use Rattle.std.specs.Result.{result_ok}
 use Rattle.std.proofs.lemmas.Option.{same_Some}
@@ -13,9 +13,8 @@ use Rattle.aerodrome_file.specs.declared.aerodrome.Aerodrome.{Aerodrome}
 use Rattle.flight_file.specs.declared.flight.Flight.{Flight}
 use Rattle.flight_file.specs.Seen.{flight_of}
 use Rattle.sequencer.specs.Opened.{opening_of}
-use Rattle.endings.specs.declared.ending.Answer.{Answer}
 use Rattle.openings.specs.Plan.{answer_of}
-use Rattle.inquiry_commands.specs.First.{AdmitsFirst, FirstTextIsOneLaw, FirstCostsAsPlanLaw}
+use Rattle.inquiry_commands.specs.First.{FirstTextIsOneLaw, FirstCostsAsPlanLaw}
 
 opened_same : (a b : Aerodrome) (f g : List Flight) (s t : Situation) → a ≡ b → f ≡ g →
     s ≡ opening_situation (opening_of a) (map flight_of f) → t ≡ opening_situation (opening_of b) (map flight_of g) → s ≡ t

@@ -1,5 +1,5 @@
 -- What `first` prints over the contents of its two files. It refuses those that `plan` refuses.
-use Rattle.std.specs.Prelude.{◌≡◌, ℕ, List, map, Ok, Option, option_map}
+use Rattle.std.specs.Prelude.{◌≡◌, ℕ, List, Ok, Option, option_map}
 use Rattle.landing_rules.specs.Flights.{Situation, Schedule}
 use Rattle.landing_rules.specs.Rules.{objective}
 use Rattle.landing_rules.specs.Events.{State}

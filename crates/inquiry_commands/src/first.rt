@@ -19,12 +19,10 @@ use std::alloc::{AllocError, Global};
 use std::thread::Threads;
 
 // The block of the first plan.
-fn report_plan(
-    alloc: Global,
-    sequencer: &Sequencer<AnyKept>,
-) -> Result<Report, AllocError>
+fn report_plan(alloc: Global, sequencer: &Sequencer<AnyKept>) -> Result<Report, AllocError>
     requires held { problem_held sequencer.now.planner ≡ Some sequencer.now.problem }
-    ensures shows { IfOk result (λ r. ShowsFirstOf sequencer.now.state.situation r.text.items r.answer) }
+    ensures shows { IfOk result (λ r.
+        ShowsFirstOf sequencer.now.state.situation r.text.items r.answer) }
     ensures sound { OnOk result (IsSoundState sequencer.now.state) }
 {
     let _sound = sequencer.problem();

@@ -1,5 +1,5 @@
 -- From what an effort did to what the command says of its files.
-use Rattle.std.proofs.Common.{◌≡◌, ℕ, List, Bool, Ok, Err, Result, refl, ap, ◌∙◌, inl, inr}
+use Rattle.std.proofs.Common.{ℕ, List, Bool, Ok, Err, Result, refl, ap, ◌∙◌, inl, inr}
 use Rattle.std.specs.Prelude.{is_some}
 use Rattle.cps_outside.specs.SinkState.{SinkState}
 use Rattle.landing_rules.specs.Events as rules

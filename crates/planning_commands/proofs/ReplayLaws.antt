@@ -1,11 +1,11 @@
 -- From the clause of a printed replay to the laws of its text.
-use Rattle.std.proofs.Common.{◌≡◌, ℕ, List, [], ◌∷◌, Option, Some, None, map, take, length, refl, sym, ap, subst, ◌∙◌}
-use Rattle.std.specs.Prelude.{All, MatchOption, Ok}
+use Rattle.std.proofs.Common.{◌≡◌, List, [], ◌∷◌, Option, None, map, length, sym, ap, subst, ◌∙◌}
+use Rattle.std.specs.Prelude.{All}
 use Rattle.std.specs.Result.{result_ok}
 use Rattle.std.proofs.lemmas.List.Elements.{All-head, All-tail}
 use Rattle.std.proofs.lemmas.Option.{same_Some}
 use Rattle.std.proofs.Math.Seq.{take-length}
-use Rattle.landing_rules.specs.Events.{State, Event, Refusal, Clock, Answered, Opening, IsAcceptedStep, IsOpeningState, Run, Step, opening_situation, refusal}
+use Rattle.landing_rules.specs.Events.{State, Event, Refusal, Clock, Answered, Opening, IsOpeningState, Run, Step}
 use Rattle.landing_rules.specs.Flights.{Flight}
 use Rattle.landing_rules.specs.Sound.{IsSound, IsSoundState, IsGoodEvent}
 use Rattle.landing_joint.specs.ClockLaws.{ClockShowsPlanLaw}
@@ -15,7 +15,6 @@ use Rattle.replay_law.specs.Runs.{IsRunOf, TextLaw}
 use Rattle.flight_file.specs.Seen.{flight_of}
 use Rattle.event_log.specs.Seen.{event_of}
 use Rattle.sequencer.specs.Opened.{opening_of}
-use Rattle.planning_commands.specs.Replay.{AdmitsReplay, IsBegun}
 use Rattle.planning_commands.specs.ReplayLaws.{TextFixesReplayLaw, ReplayIsSoundLaw, ClockIsNoDearerLaw, FewPassReplayLaw, EachStep, IsNoDearerAfterClock}
 
 -- a whole run is one over as many events as there are

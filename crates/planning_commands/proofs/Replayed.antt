@@ -63,8 +63,8 @@ stops_replay a f e aerodrome flights log ending a_read f_read e_read =
     stops_by (λ cause. refusal_of aerodrome flights ≡ Some cause)
     (λ cause. refused_with (aerodrome_of a) (flights_of f) (events_of e) ≡ Some cause) ending
     (λ cause refused.
-        ap (λ r. refused_with r (flights_of f) (events_of e)) a_read ∙ ap (λ r. refused_with (Ok aerodrome) r (events_of e)) f_read
-        ∙ ap (λ r. refused_with (Ok aerodrome) (Ok flights) r) e_read ∙ refused)
+    ap (λ r. refused_with r (flights_of f) (events_of e)) a_read ∙ ap (λ r. refused_with (Ok aerodrome) r (events_of e)) f_read
+    ∙ ap (λ r. refused_with (Ok aerodrome) (Ok flights) r) e_read ∙ refused)
 
 -- the events of a log with their numbers in range, as the rules see them
 pub events_in_range : (log : List Event) → All IsGood log → All IsGoodEvent (map event_of log)

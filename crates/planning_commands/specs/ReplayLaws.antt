@@ -1,5 +1,5 @@
 -- What the printed text of a replay fixes and promises, over the bytes of its files.
-use Rattle.std.specs.Prelude.{◌≡◌, ⊤, ℕ, ◌≤◌, true, IsTrue, List, [], ◌∷◌, All, Some, None}
+use Rattle.std.specs.Prelude.{◌≡◌, ⊤, ℕ, ◌≤◌, true, IsTrue, List, ◌∷◌, All, Some, None}
 use Rattle.landing_rules.specs.Flights.{Callsign, Schedule}
 use Rattle.landing_rules.specs.Rules.{objective}
 use Rattle.landing_rules.specs.Events.{State, Event, Clock, Answered}

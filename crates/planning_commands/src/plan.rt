@@ -17,10 +17,7 @@ use std::alloc::{AllocError, Global};
 use std::thread::Threads;
 
 // The block of the plan that is shown.
-fn report_plan<P: Planner>(
-    alloc: Global,
-    sequencer: &Sequencer<P>,
-) -> Result<Report, AllocError>
+fn report_plan<P: Planner>(alloc: Global, sequencer: &Sequencer<P>) -> Result<Report, AllocError>
     ensures text { IfOk result (λ r. r.text.items ≡ lines_text (plan_lines sequencer.now.state)) }
     ensures answer { IfOk result (λ r. r.answer ≡ answer_of sequencer.now.state.plan) }
 {

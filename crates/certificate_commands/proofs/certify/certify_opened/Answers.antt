@@ -1,5 +1,4 @@
-use Rattle.std.proofs.Common.{sym, subst₂}
-use Rattle.cps_problem.specs.Plans.{IsWithinShift}
+use Rattle.std.proofs.Common.{sym}
 use Rattle.sequencer.specs.Opened.{opened}
 use Rattle.openings.specs.shared.Opened.{opened_taken, stops_opened}
 use Rattle.certificate_commands.proofs.TrueVerdicts.{claim_true}
