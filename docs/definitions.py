@@ -1,6 +1,6 @@
 """Counts the definitions that somebody has to believe who wants to trust a command: definitions.py [NAME ..].
 
-From a definition in crates/*/specs, such as cps_top's AdmitsPlan, it follows every name to the definitions of this repository,
+From a definition in crates/*/specs, such as openings' AdmitsPlan, it follows every name to the definitions of this repository,
 and prints by file how many there are and how many lines they take, without comments. Without a name it counts for each
 command. Types that a Rust file declares (specs/declared) are counted by name alone."""
 import re

@@ -1,90 +1,14 @@
--- From the one verdict of a situation to the one text of `check`, and to its answer on what `certify` prints.
-use Rattle.std.proofs.Common.{◌≡◌, refl, ℕ, List, [], ◌∷◌, inl, inr, ap, subst, sym, ◌∙◌}
-use Rattle.std.specs.Result.{result_ok}
-use Rattle.std.proofs.lemmas.Option.{same_Some}
-use Rattle.aerodrome_file.specs.declared.aerodrome.Aerodrome.{Aerodrome}
-use Rattle.flight_file.specs.declared.flight.Flight.{Flight}
-use Rattle.certificate.specs.declared.certificate.Claim.{Claim}
-use Rattle.certificate.specs.declared.certificate.Claim.TheVariants as claim
-use Rattle.certificate.specs.Reading.{Cert}
-use Rattle.cert_check.specs.Situations.{OneVerdictLaw}
-use Rattle.cert_check.specs.WholeLaws.{claimed}
-use Rattle.cert_check.specs.declared.verdict.Verdict.{Verdict}
-use Rattle.sequencer.specs.Opened.{opened}
+-- From what `check` may answer on a printed certificate to what a complete run of it does.
+use Rattle.std.proofs.Common.{ℕ, List, [], ◌∷◌, inl, inr, ap, subst, ◌∙◌}
 use Rattle.cps_outside.specs.SinkState.{Grows}
 use Rattle.cps_top.specs.declared.commands.Command.TheVariants.{Check}
-use Rattle.endings.specs.declared.ending.Answer.{Answer}
-use Rattle.endings.specs.declared.ending.Answer.TheVariants.{Accepted}
 use Rattle.cps_top.specs.AcceptedRuns.{PrintedRunsAcceptedLaw}
-use Rattle.cps_top.specs.Certify.{AdmitsCertify, PrintedIsAcceptedLaw}
-use Rattle.cps_top.specs.Check.{AdmitsCheck, CheckTextIsOneLaw, IsJudged, Judges}
+use Rattle.certificate_commands.specs.Certify.{PrintedIsAcceptedLaw}
 use Rattle.endings.specs.Lines.{answer_status}
-use Rattle.cps_top.specs.Verdicts.{answer_of_verdict, verdict_text}
-use Rattle.cps_top.proofs.Judged.{not_unchecked}
 
--- a certificate is judged in one way for the files of one situation
-one_judged : OneVerdictLaw → (aerodrome : Aerodrome) (flights : List Flight) (c : Cert) (v w : Verdict) → IsJudged aerodrome flights c v
-    → IsJudged aerodrome flights c w → v ≡ w
-one_judged law aerodrome flights c v w j k =
-    j.verdict_is ∙ law (opened aerodrome flights) j.problem k.problem c j.problem_of k.problem_of ∙ sym k.verdict_is
-
--- and so are the bytes
-one_verdict : OneVerdictLaw → (a f c : List ℕ) (v w : Verdict) → Judges a f c v → Judges a f c w → v ≡ w
-one_verdict law a f c v w x y =
-    let aerodromes : y.aerodrome ≡ x.aerodrome = same_Some _ _ (ap result_ok (sym y.aerodrome_read ∙ x.aerodrome_read)) in
-    let flights : y.flights ≡ x.flights = same_Some _ _ (ap result_ok (sym y.flights_read ∙ x.flights_read)) in
-    let certificates : y.certificate ≡ x.certificate = same_Some _ _ (ap result_ok (sym y.certificate_read ∙ x.certificate_read)) in
-    let there = subst (λ (d : Cert). IsJudged x.aerodrome x.flights d w) certificates
-    (subst (λ (l : List Flight). IsJudged x.aerodrome l y.certificate w) flights
-    (subst (λ (b : Aerodrome). IsJudged b y.flights y.certificate w) aerodromes y.judged)) in
-    one_judged law x.aerodrome x.flights x.certificate v w x.judged there
-
-pub text_is_one : OneVerdictLaw → CheckTextIsOneLaw
-text_is_one law a f c text other answer another x y =
-    let verdicts = one_verdict law a f c x.verdict y.verdict x.judges y.judges in (
-      x.prints ∙ ap verdict_text verdicts ∙ sym y.prints,
-      x.answers ∙ ap answer_of_verdict verdicts ∙ sym y.answers,
-    )
-
-accepted_answer : (c : Claim) → Accepted ≡ answer_of_verdict (claimed c)
-accepted_answer (claim.Optimal v) = refl
-accepted_answer claim.Infeasible = refl
-
--- what `certify` printed `check` may accept
-may_accept : (a f text : List ℕ) (answer : Answer) (printed : AdmitsCertify a f text answer)
-    → AdmitsCheck a f text (verdict_text (claimed printed.certifies.certificate.claim)) Accepted
-may_accept a f text answer printed = record {
-  verdict = claimed printed.certifies.certificate.claim;
-  judges = record {
-    aerodrome = printed.aerodrome;
-    flights = printed.flights;
-    certificate = printed.certifies.certificate;
-    aerodrome_read = printed.aerodrome_read;
-    flights_read = printed.flights_read;
-    certificate_read = printed.certifies.reads;
-    judged = printed.certifies.certified.judged;
-  };
-  prints = refl;
-  answers = accepted_answer printed.certifies.certificate.claim;
-}
-
--- and in no other way
-pub printed_accepted : OneVerdictLaw → PrintedIsAcceptedLaw
-printed_accepted law a f text answer printed =
-    let line = verdict_text (claimed printed.certifies.certificate.claim) in
-    let there : AdmitsCheck a f text line Accepted = may_accept a f text answer printed in
-    record {
-      taken = λ cause refused. let none = sym (not_unchecked a f text there.verdict there.judges) ∙ refused in cc none;
-      answered = λ other told. (
-        λ here. text_is_one law a f text other line told Accepted here there,
-        λ same. subst (λ (x : List ℕ). AdmitsCheck a f text x told) (sym same.0) (subst (λ (x : Answer). AdmitsCheck a f text line x) (sym same.1) there),
-      );
-    }
-
--- what a complete run of `check` does with it
-pub runs_accepted : OneVerdictLaw → PrintedRunsAcceptedLaw
+pub runs_accepted : PrintedIsAcceptedLaw → PrintedRunsAcceptedLaw
 runs_accepted law words old new status a f text answer printed there done unfailed unhurt =
-    let accepted = printed_accepted law a f text answer printed in
+    let accepted = law a f text answer printed in
     elim (done.complete Check (a ∷ f ∷ text ∷ []) there accepted.taken unfailed unhurt) [
       | inl short ↦ inl short
       | inr ended ↦

@@ -11,15 +11,15 @@ use Rattle.endings.specs.declared.ending.Ending.{Ending}
 use Rattle.endings.specs.declared.ending.Ending.TheVariants.{Answered, Misused, Refused, NotLoaded, NotWritten, TooLong, NoMemory}
 use Rattle.cps_top.specs.Commands.{command_of, files_of, Admits, Begins, Refuses}
 use Rattle.cps_outside.specs.FolderState.{FolderState}
-use Rattle.cps_top.specs.Plan.{refused_by}
+use Rattle.openings.specs.Plan.{refused_by}
 use Rattle.endings.specs.Loads.{limit, FailsAt, FailsWithin}
 use Rattle.endings.specs.Lines.{status_of}
 use Rattle.cps_top.specs.Outcome.{Outside, Ends, Serves}
 use Rattle.cps_top.specs.Statuses.{IsExact}
-use Rattle.cps_top.proofs.Audited.{not_unaudited}
-use Rattle.cps_top.proofs.Judged.{not_unchecked}
-use Rattle.cps_top.proofs.Tried.{not_untried}
-use Rattle.cps_top.proofs.Replayed.{not_refused}
+use Rattle.inquiry_commands.specs.shared.Audited.{not_unaudited}
+use Rattle.certificate_commands.specs.shared.Judged.{not_unchecked}
+use Rattle.inquiry_commands.specs.shared.Tried.{not_untried}
+use Rattle.planning_commands.specs.shared.Begun.{not_refused}
 use Rattle.cps_top.proofs.Complete.{command_same, serves_at, none_too_long, Within, all_within, all_named, all_at, within_fits}
 
 none_some : {refusal : Refusal} → None ≡ Some refusal → ⊥

@@ -1,15 +1,7 @@
 pub mod Accepting
-pub mod Audited
 pub mod Complete
-pub mod Counted
 pub mod Counts
 pub mod Exact
-pub mod FirstLaws
-pub mod Judged
-pub mod Replayed
-pub mod ReplayLaws
-pub mod Showing
+pub mod Followed
 pub mod Statuses
-pub mod Summed
 pub mod Sure
-pub mod Tried

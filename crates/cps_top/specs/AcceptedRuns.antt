@@ -5,10 +5,10 @@ use Rattle.cps_outside.specs.Causes.{Rose}
 use Rattle.cps_outside.specs.SinkState.{Grows}
 use Rattle.cps_top.specs.declared.commands.Command.TheVariants.{Check}
 use Rattle.endings.specs.declared.ending.Answer.{Answer}
-use Rattle.cps_top.specs.Certify.{AdmitsCertify}
+use Rattle.certificate_commands.specs.Certify.{AdmitsCertify}
 use Rattle.cps_top.specs.Outcome.{Outside}
 use Rattle.cps_top.specs.Statuses.{AreThere, Completes}
-use Rattle.cps_top.specs.Verdicts.{verdict_text}
+use Rattle.certificate_commands.specs.Verdicts.{verdict_text}
 
 -- Over files that are there, none of them too long, and with no fault, the line of what it claims is written whole, with
 -- status 0, or memory was short.

@@ -7,15 +7,15 @@ use Rattle.cps_top.specs.declared.commands.Command.{Command}
 use Rattle.cps_top.specs.declared.commands.Command.TheVariants.{Plan, Replay, Certify, Check, Effort, Trial, First, WhatIf, Audit}
 use Rattle.endings.specs.declared.ending.Answer.{Answer}
 use Rattle.endings.specs.declared.ending.Refusal.{Refusal}
-use Rattle.cps_top.specs.Audit.{AdmitsAudit, RefusesAudit}
-use Rattle.cps_top.specs.Certify.{AdmitsCertify}
-use Rattle.cps_top.specs.Check.{AdmitsCheck, RefusesCheck}
-use Rattle.cps_top.specs.Effort.{AdmitsEffort, BeginsEffort}
-use Rattle.cps_top.specs.First.{AdmitsFirst}
-use Rattle.cps_top.specs.Plan.{AdmitsPlan, RefusesPlan}
-use Rattle.cps_top.specs.Replay.{AdmitsReplay, BeginsReplay, RefusesReplay}
-use Rattle.cps_top.specs.Trial.{AdmitsTrial}
-use Rattle.cps_top.specs.WhatIf.{AdmitsWhatIf, RefusesWhatIf}
+use Rattle.inquiry_commands.specs.Audit.{AdmitsAudit, RefusesAudit}
+use Rattle.certificate_commands.specs.Certify.{AdmitsCertify}
+use Rattle.certificate_commands.specs.Check.{AdmitsCheck, RefusesCheck}
+use Rattle.planning_commands.specs.Effort.{AdmitsEffort, BeginsEffort}
+use Rattle.inquiry_commands.specs.First.{AdmitsFirst}
+use Rattle.openings.specs.Plan.{AdmitsPlan, RefusesPlan}
+use Rattle.planning_commands.specs.Replay.{AdmitsReplay, BeginsReplay, RefusesReplay}
+use Rattle.planning_commands.specs.Trial.{AdmitsTrial}
+use Rattle.inquiry_commands.specs.WhatIf.{AdmitsWhatIf, RefusesWhatIf}
 
 -- the number that a word is, of those from least to most
 abbrev pub number_of : List ℕ → ℕ → ℕ → Option ℕ

@@ -1,13 +1,13 @@
 -- What a run of the program does: its ending, the cause of it, and what it wrote.
 use Rattle.std.specs.Prelude.{◌≡◌, ◌⊎◌, ℕ, List, Some, None}
-use Rattle.cps_outside.specs.Causes.{Rose}
 use Rattle.cps_outside.specs.FolderState.{FolderState}
-use Rattle.cps_outside.specs.SinkState.{SinkState, Grows, GrowsByPart, LacksRoom}
+use Rattle.cps_outside.specs.SinkState.{SinkState}
 use Rattle.cps_top.specs.declared.commands.Command.{Command}
 use Rattle.endings.specs.Lines.{Says, status_of, line_of}
 use Rattle.endings.specs.Loads.{Loads, FailsAt, IsTooLongAt, AsksForSome}
 use Rattle.endings.specs.declared.ending.Ending.{Ending}
-use Rattle.endings.specs.declared.ending.Ending.TheVariants.{Answered, Misused, Refused, NotLoaded, NotWritten, TooLong, NoMemory}
+use Rattle.endings.specs.declared.ending.Ending.TheVariants.{Misused, NotLoaded, TooLong, NoMemory}
+use Rattle.openings.specs.Follows.{FollowsBy}
 use Rattle.cps_top.specs.Commands.{command_of, files_of, Admits, Begins, Refuses}
 
 -- the outside but for the standard error
@@ -15,26 +15,9 @@ pub record Outside : Type 0 where
   pub folder : FolderState
   pub out : SinkState
 
--- A text that P admits was written whole.
-pub record Prints (P : List ℕ → Type 0) (old new : SinkState) : Type 0 where
-  pub text : List ℕ
-  pub admitted : P text
-  pub grew : Grows old new text
-
--- A part of a text that P admits was written.
-pub record PrintsPart (P : List ℕ → Type 0) (old new : SinkState) : Type 0 where
-  pub text : List ℕ
-  pub admitted : P text
-  pub grew : GrowsByPart old new text
-
--- What a command does over the contents of its files, with this ending. Into a sink that is sure, it fails to write only a text
--- for which there was no room.
+-- What a command does over the contents of its files, with this ending.
 abbrev pub Follows : Command → List (List ℕ) → SinkState → SinkState → Ending → Type 0
-Follows command contents old new (Answered answer) = Prints (λ text. Admits command contents text answer) old new
-Follows command contents old new (Refused refusal) = Refuses command contents refusal × (new ≡ old)
-Follows command contents old new NotWritten = PrintsPart (λ text. Begins command contents text × LacksRoom old text) old new × Rose old.faults new.faults
-Follows command contents old new NoMemory = (new ≡ old) ⊎ PrintsPart (Begins command contents) old new
-Follows command contents old new ending = ⊥
+Follows command contents = FollowsBy (Admits command contents) (Begins command contents) (Refuses command contents)
 
 -- The words name a command, whose files were loaded and which then ran.
 pub record Serves (words : List (List ℕ)) (old new : Outside) (ending : Ending) : Type 0 where

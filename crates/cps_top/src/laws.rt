@@ -1,9 +1,9 @@
 // What holds of the texts of the commands.
 ghost use Rattle.cps_top.specs.AcceptedRuns.{PrintedRunsAcceptedLaw};
-ghost use Rattle.cps_top.specs.Certify.{PrintedIsAcceptedLaw};
-ghost use Rattle.cps_top.specs.Check.{CheckTextIsOneLaw};
+ghost use Rattle.certificate_commands.specs.Certify.{PrintedIsAcceptedLaw};
+ghost use Rattle.certificate_commands.specs.Check.{CheckTextIsOneLaw};
 
-use cert_check::situation_has_one_verdict;
+use certificate_commands::check_accepts_printed_certificates;
 
 /// A text that `certify` may print for two files `check` accepts, for the same files: it is not refused, and the line of what
 /// the certificate claims is the one text that `check` may print of it. The call does nothing: it tells its caller the law.
@@ -16,5 +16,5 @@ pub fn printed_certificates_are_accepted()
     // What `check` prints is a function of its three files' bytes, whoever wrote them.
     ensures one { CheckTextIsOneLaw }
 {
-    situation_has_one_verdict();
+    check_accepts_printed_certificates();
 }

@@ -6,18 +6,12 @@ ghost use Rattle.cps_top.specs.Outcome.{Follows, Ends, RunsTo};
 ghost use Rattle.cps_top.specs.Statuses.{Causes, Asks, Completes, IsExact, IsSure};
 
 use crate::Command;
-use crate::audits::audit_files;
-use crate::certify::certify;
-use crate::check::check;
 use crate::commands::{files, read_command};
-use crate::effort::effort;
-use crate::first::first;
-use crate::plan::plan;
-use crate::replay::replay;
-use crate::trial::trial;
-use crate::what_ifs::what_if;
+use certificate_commands::{run_certify, run_check};
 use cps_outside::{Folder, Gate, Sink};
 use endings::{Ending, load_all, say, status};
+use inquiry_commands::{run_audit, run_first, run_what_if};
+use planning_commands::{run_effort, run_plan, run_replay, run_trial};
 use std::alloc::Global;
 use std::thread::Threads;
 
@@ -38,7 +32,7 @@ fn perform<R: Threads + Sync, S: Sink, G: Gate + Sync>(
         (S.state out.old) (S.state out.new) result }
 {
     match command {
-        Command::Plan => plan(
+        Command::Plan => run_plan(
             rt,
             alloc,
             contents[0].as_slice(),
@@ -46,31 +40,7 @@ fn perform<R: Threads + Sync, S: Sink, G: Gate + Sync>(
             out,
             gate,
         ),
-        Command::Replay => replay(
-            rt,
-            alloc,
-            contents[0].as_slice(),
-            contents[1].as_slice(),
-            contents[2].as_slice(),
-            out,
-            gate,
-        ),
-        Command::Certify => certify(
-            rt,
-            alloc,
-            contents[0].as_slice(),
-            contents[1].as_slice(),
-            out,
-            gate,
-        ),
-        Command::Check => check(
-            alloc,
-            contents[0].as_slice(),
-            contents[1].as_slice(),
-            contents[2].as_slice(),
-            out,
-        ),
-        Command::Effort => effort(
+        Command::Replay => run_replay(
             rt,
             alloc,
             contents[0].as_slice(),
@@ -79,7 +49,7 @@ fn perform<R: Threads + Sync, S: Sink, G: Gate + Sync>(
             out,
             gate,
         ),
-        Command::First => first(
+        Command::Certify => run_certify(
             rt,
             alloc,
             contents[0].as_slice(),
@@ -87,7 +57,14 @@ fn perform<R: Threads + Sync, S: Sink, G: Gate + Sync>(
             out,
             gate,
         ),
-        Command::WhatIf => what_if(
+        Command::Check => run_check(
+            alloc,
+            contents[0].as_slice(),
+            contents[1].as_slice(),
+            contents[2].as_slice(),
+            out,
+        ),
+        Command::Effort => run_effort(
             rt,
             alloc,
             contents[0].as_slice(),
@@ -96,14 +73,31 @@ fn perform<R: Threads + Sync, S: Sink, G: Gate + Sync>(
             out,
             gate,
         ),
-        Command::Audit => audit_files(
+        Command::First => run_first(
+            rt,
+            alloc,
+            contents[0].as_slice(),
+            contents[1].as_slice(),
+            out,
+            gate,
+        ),
+        Command::WhatIf => run_what_if(
+            rt,
+            alloc,
+            contents[0].as_slice(),
+            contents[1].as_slice(),
+            contents[2].as_slice(),
+            out,
+            gate,
+        ),
+        Command::Audit => run_audit(
             alloc,
             contents[0].as_slice(),
             contents[1].as_slice(),
             contents[2].as_slice(),
             out,
         ),
-        Command::Trial { seed, n, k } => trial(rt, alloc, seed, n, k, out, gate),
+        Command::Trial { seed, n, k } => run_trial(rt, alloc, seed, n, k, out, gate),
     }
 }
 

@@ -1,0 +1,56 @@
+-- What `certify` prints over the contents of its two files. It refuses those that `plan` refuses.
+use Rattle.std.specs.Prelude.{◌≡◌, ◌↔◌, ℕ, List, Ok}
+use Rattle.aerodrome_file.specs.declared.aerodrome.Aerodrome.{Aerodrome}
+use Rattle.aerodrome_file.specs.Reading.{aerodrome_of}
+use Rattle.flight_file.specs.declared.flight.Flight.{Flight}
+use Rattle.flight_file.specs.Reading.{flights_of}
+use Rattle.certificate.specs.declared.certificate.Claim.{Claim}
+use Rattle.certificate.specs.Reading.{Cert, certificate_of}
+use Rattle.certificate.specs.Spelling.{text_of}
+use Rattle.cert_check.specs.Whole.{IsWhole}
+use Rattle.cert_check.specs.WholeLaws.{claimed}
+use Rattle.cps_outside.specs.SinkState.{SinkState}
+use Rattle.endings.specs.declared.ending.Answer.{Answer}
+use Rattle.endings.specs.declared.ending.Answer.TheVariants.{Accepted, Certified}
+use Rattle.endings.specs.declared.ending.Ending.{Ending}
+use Rattle.endings.specs.declared.ending.Refusal.{Refusal}
+use Rattle.openings.specs.Follows.{FollowsAtOnce}
+use Rattle.openings.specs.Plan.{RefusesPlan}
+use Rattle.certificate_commands.specs.Check.{AdmitsCheck, IsJudged, RefusesCheck}
+use Rattle.certificate_commands.specs.Verdicts.{verdict_text}
+
+-- The files are taken. This certificate leaves nothing out of the problem of their opening situation, and its verdict is
+-- what it claims, which is true of that situation.
+pub record IsCertified (aerodrome : Aerodrome) (flights : List Flight) (certificate : Cert) : Type 0 where
+  pub judged : IsJudged aerodrome flights certificate (claimed certificate.claim)
+  pub whole : IsWhole judged.problem certificate
+
+-- The text is that of such a certificate, and reads as it.
+pub record Certifies (aerodrome : Aerodrome) (flights : List Flight) (text : List ℕ) (answer : Answer) : Type 0 where
+  pub certificate : Cert
+  pub certified : IsCertified aerodrome flights certificate
+  pub prints : text ≡ text_of certificate
+  pub reads : certificate_of text ≡ Ok certificate
+  pub answers : answer ≡ Certified
+
+-- The files read as an aerodrome and flights, of which the text says so.
+pub record AdmitsCertify (aerodrome_bytes flight_bytes text : List ℕ) (answer : Answer) : Type 0 where
+  pub aerodrome : Aerodrome
+  pub flights : List Flight
+  pub aerodrome_read : aerodrome_of aerodrome_bytes ≡ Ok aerodrome
+  pub flights_read : flights_of flight_bytes ≡ Ok flights
+  pub certifies : Certifies aerodrome flights text answer
+
+-- what `certify` does, with this ending
+abbrev pub FollowsCertify : List ℕ → List ℕ → SinkState → SinkState → Ending → Type 0
+FollowsCertify aerodrome flights = FollowsAtOnce (AdmitsCertify aerodrome flights) (RefusesPlan aerodrome flights)
+
+-- `check` takes this text as a certificate for the files, and answers it by the line of this claim and in no other way.
+pub record IsAccepted (aerodrome flights text : List ℕ) (claim : Claim) : Type 0 where
+  pub taken : (cause : Refusal) → RefusesCheck aerodrome flights text cause → ⊥
+  pub answered : (line : List ℕ) (told : Answer) → AdmitsCheck aerodrome flights text line told ↔ ((line ≡ verdict_text (claimed claim)) × (told ≡ Accepted))
+
+-- A text that `certify` may print for two files is accepted with what it claims, for the same files.
+abbrev pub PrintedIsAcceptedLaw : Type 0
+PrintedIsAcceptedLaw = (aerodrome flights text : List ℕ) (answer : Answer) (printed : AdmitsCertify aerodrome flights text answer) →
+    IsAccepted aerodrome flights text printed.certifies.certificate.claim

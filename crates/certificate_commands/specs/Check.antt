@@ -1,0 +1,72 @@
+-- What `check` prints over the contents of its three files, and which it refuses.
+use Rattle.std.specs.Prelude.{◌≡◌, ℕ, List, Option, Some, None, Result, Ok, Err}
+use Rattle.landing_rules.specs.Problem.{Problem, IsProblemOf}
+use Rattle.aerodrome_file.specs.declared.aerodrome.Aerodrome.{Aerodrome}
+use Rattle.aerodrome_file.specs.declared.fault.AeroFault.{AeroFault}
+use Rattle.aerodrome_file.specs.Reading.{aerodrome_of}
+use Rattle.flight_file.specs.declared.flight.Flight.{Flight}
+use Rattle.flight_file.specs.declared.fault.FlightFault.{FlightFault}
+use Rattle.flight_file.specs.Reading.{flights_of}
+use Rattle.certificate.specs.declared.fault.CertFault.{CertFault}
+use Rattle.certificate.specs.Reading.{Cert, certificate_of}
+use Rattle.cert_check.specs.Verdict.{verdict_of}
+use Rattle.cert_check.specs.declared.verdict.Verdict.{Verdict}
+use Rattle.sequencer.specs.Opened.{opened}
+use Rattle.cps_outside.specs.SinkState.{SinkState}
+use Rattle.endings.specs.declared.ending.Answer.{Answer}
+use Rattle.endings.specs.declared.ending.Ending.{Ending}
+use Rattle.endings.specs.declared.ending.Refusal.{Refusal}
+use Rattle.endings.specs.declared.ending.Refusal.TheVariants as refusal
+use Rattle.openings.specs.Follows.{FollowsAtOnce}
+use Rattle.openings.specs.Plan.{refusal_of, Stops}
+use Rattle.certificate_commands.specs.Verdicts.{verdict_text, answer_of_verdict, IsTrueOf}
+
+-- the first cause, in the order of the files
+abbrev pub unchecked_by : Result Aerodrome AeroFault → Result (List Flight) FlightFault → Result Cert CertFault → Option Refusal
+unchecked_by (Err fault) flights certificate = Some (refusal.Aerodrome fault)
+unchecked_by (Ok aerodrome) (Err fault) certificate = Some (refusal.Flights fault)
+unchecked_by (Ok aerodrome) (Ok flights) (Err fault) = Some (refusal.Certificate fault)
+unchecked_by (Ok aerodrome) (Ok flights) (Ok certificate) = refusal_of aerodrome flights
+
+abbrev pub RefusesCheck : List ℕ → List ℕ → List ℕ → Refusal → Type 0
+RefusesCheck aerodrome flights certificate cause = unchecked_by (aerodrome_of aerodrome) (flights_of flights) (certificate_of certificate) ≡ Some cause
+
+-- The files are taken. This is the verdict on the certificate for the problem of their opening situation, and what it says
+-- of that situation is true.
+pub record IsJudged (aerodrome : Aerodrome) (flights : List Flight) (certificate : Cert) (verdict : Verdict) : Type 0 where
+  pub taken : refusal_of aerodrome flights ≡ None
+  pub problem : Problem
+  pub problem_of : IsProblemOf (opened aerodrome flights) problem
+  pub verdict_is : verdict ≡ verdict_of problem certificate
+  pub true_of : IsTrueOf (opened aerodrome flights) problem certificate.landings verdict
+
+-- The files read as an aerodrome, flights and a certificate, with this verdict.
+pub record Judges (aerodrome_bytes flight_bytes certificate_bytes : List ℕ) (verdict : Verdict) : Type 0 where
+  pub aerodrome : Aerodrome
+  pub flights : List Flight
+  pub certificate : Cert
+  pub aerodrome_read : aerodrome_of aerodrome_bytes ≡ Ok aerodrome
+  pub flights_read : flights_of flight_bytes ≡ Ok flights
+  pub certificate_read : certificate_of certificate_bytes ≡ Ok certificate
+  pub judged : IsJudged aerodrome flights certificate verdict
+
+-- The text is the line of that verdict.
+pub record AdmitsCheck (aerodrome flights certificate text : List ℕ) (answer : Answer) : Type 0 where
+  pub verdict : Verdict
+  pub judges : Judges aerodrome flights certificate verdict
+  pub prints : text ≡ verdict_text verdict
+  pub answers : answer ≡ answer_of_verdict verdict
+
+-- Two texts that `check` may print for the same files are one, with one answer.
+abbrev pub CheckTextIsOneLaw : Type 0
+CheckTextIsOneLaw = (aerodrome flights certificate text other : List ℕ) (answer another : Answer)
+    → AdmitsCheck aerodrome flights certificate text answer → AdmitsCheck aerodrome flights certificate other another → (text ≡ other) × (answer ≡ another)
+
+-- what `check` does, with this ending
+abbrev pub FollowsCheck : List ℕ → List ℕ → List ℕ → SinkState → SinkState → Ending → Type 0
+FollowsCheck aerodrome flights certificate =
+    FollowsAtOnce (AdmitsCheck aerodrome flights certificate) (RefusesCheck aerodrome flights certificate)
+
+-- how `check` may stop before it writes
+abbrev pub StopsCheck : List ℕ → List ℕ → List ℕ → Ending → Type 0
+StopsCheck aerodrome flights certificate = Stops (RefusesCheck aerodrome flights certificate)

@@ -1,0 +1,5 @@
+-- What these commands print, and which files they refuse.
+pub mod Certify
+pub mod Check
+pub mod Verdicts
+pub mod shared

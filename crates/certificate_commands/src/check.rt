@@ -1,0 +1,88 @@
+ghost use Rattle.std.specs.Prelude.{◌<◌, length, MatchResult};
+ghost use Rattle.aerodrome_file.specs.Reading.{IsInRange};
+ghost use Rattle.flight_file.specs.OfFile.{CanBeRead};
+ghost use Rattle.certificate_commands.specs.Check.{AdmitsCheck, FollowsCheck, IsJudged, Judges, StopsCheck};
+ghost use Rattle.openings.specs.Plan.{StopsOpened};
+
+use crate::verdict_lines::{answer, verdict_line};
+use aerodrome_file::{Aerodrome, read_aerodrome};
+use cert_check::{Verdict, judge};
+use certificate::{Certificate, read_certificate};
+use cps_outside::Sink;
+use endings::Ending;
+use flight_file::{Flight, read_flights};
+use landing_joint::laws::problem_stands_for_situation;
+use openings::{Report, print_report};
+use sequencer::opening_problem;
+use std::alloc::Global;
+
+// The verdict on a certificate for the opening situation of the files.
+fn judge_opened(
+    alloc: Global,
+    aerodrome: &Aerodrome,
+    flights: &[Flight],
+    certificate: &Certificate,
+) -> Result<Verdict, Ending>
+    requires range { IsInRange aerodrome.now }
+    requires read { CanBeRead flights.now }
+    ensures { MatchResult result
+        (IsJudged aerodrome.now flights.now certificate.now)
+        (StopsOpened aerodrome.now flights.now) }
+{
+    problem_stands_for_situation();
+    let problem = opening_problem(alloc, aerodrome, flights)?;
+    Ok(judge(&problem, certificate))
+}
+
+// The same for the bytes of the files.
+fn judge_files(
+    alloc: Global,
+    aerodrome: &[u8],
+    flights: &[u8],
+    certificate: &[u8],
+) -> Result<Verdict, Ending>
+    requires { length certificate.now < 4294967295 }
+    ensures { MatchResult result
+        (Judges aerodrome.now flights.now certificate.now)
+        (StopsCheck aerodrome.now flights.now certificate.now) }
+{
+    let aerodrome = read_aerodrome(alloc, aerodrome)?;
+    let flights = read_flights(alloc, flights)?;
+    let certificate = read_certificate(alloc, certificate)?;
+    judge_opened(alloc, &aerodrome, flights.as_slice(), &certificate)
+}
+
+// The line of that verdict.
+fn report_files(
+    alloc: Global,
+    aerodrome: &[u8],
+    flights: &[u8],
+    certificate: &[u8],
+) -> Result<Report, Ending>
+    requires { length certificate.now < 4294967295 }
+    ensures { MatchResult result
+        (λ r. AdmitsCheck aerodrome.now flights.now certificate.now r.text.items r.answer)
+        (StopsCheck aerodrome.now flights.now certificate.now) }
+{
+    let verdict = judge_files(alloc, aerodrome, flights, certificate)?;
+    let text = verdict_line(alloc, &verdict)?;
+    let answer = answer(&verdict);
+    Ok(Report { text, answer })
+}
+
+/// The command `check`: prints the verdict on the certificate of the files, of fewer than 4,294,967,295 bytes, and answers whether
+/// it is accepted.
+pub fn run_check<S: Sink>(
+    alloc: Global,
+    aerodrome: &[u8],
+    flights: &[u8],
+    certificate: &[u8],
+    out: &mut S,
+) -> Ending
+    requires { length certificate.now < 4294967295 }
+    ensures { FollowsCheck aerodrome.now flights.now certificate.now
+        (S.state out.old) (S.state out.new) result }
+{
+    let report = report_files(alloc, aerodrome, flights, certificate);
+    print_report(out, report)
+}

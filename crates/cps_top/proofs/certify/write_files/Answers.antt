@@ -1,7 +1,0 @@
-use Rattle.cps_top.proofs.Showing.{certified_of_bytes}
-use Rattle.cps_top.proofs.certify.write_files.Goals as goal
-
-pub returns : goal.returns
-returns g c =
-    certified_of_bytes c.write_opened.result _ _ _ c.in_ok-aerodrome.aerodrome _ c.in_ok-aerodrome.ensures.value c.in_ok-flights.ensures.value
-    (rw c.as_slice.ensures.value at c.write_opened.ensures)

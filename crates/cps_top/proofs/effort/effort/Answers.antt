@@ -1,7 +1,0 @@
-use Rattle.cps_top.proofs.Counted.{effort_ended}
-use Rattle.cps_top.proofs.effort.effort.Goals as goal
-
-pub returns : goal.returns
-returns g c =
-    rw c.ending_of.ensures (effort_ended c.args.aerodrome.now c.args.flights.now c.args.events.now _ c.effort-ended.new.sequencer.state _ _ _ _ c.in-Ok.ensures.begun.0
-    (rw c.as_slice.ensures.value at c.effort-ended.ensures))

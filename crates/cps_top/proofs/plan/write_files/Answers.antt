@@ -1,5 +1,0 @@
-use Rattle.cps_top.proofs.Showing.{of_bytes}
-use Rattle.cps_top.proofs.plan.write_files.Goals as goal
-
-pub returns : goal.returns
-returns g c = of_bytes c.write_opened.result _ _ _ c.in_ok-aerodrome.aerodrome _ c.in_ok-aerodrome.ensures.value c.in_ok-flights.ensures.value c.write_opened.ensures

@@ -1,7 +1,0 @@
-use Rattle.cps_top.proofs.Replayed.{replayed}
-use Rattle.cps_top.proofs.replay.replay.Goals as goal
-
-pub returns : goal.returns
-returns g c =
-    rw c.ending_of.ensures (replayed c.args.aerodrome.now c.args.flights.now c.args.events.now _ c.replay-replayed.new.sequencer.state _ _ _ _ c.in-Ok.ensures.begun.0
-    (rw c.as_slice.ensures.value at c.replay-replayed.ensures.outcome))

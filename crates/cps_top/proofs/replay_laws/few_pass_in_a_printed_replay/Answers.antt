@@ -1,5 +1,0 @@
-use Rattle.cps_top.proofs.ReplayLaws.{printed_few_pass}
-use Rattle.cps_top.proofs.replay_laws.few_pass_in_a_printed_replay.Goals as goal
-
-pub returns : goal.returns
-returns c = printed_few_pass c.few_pass_a_waiting_flight.ensures.run

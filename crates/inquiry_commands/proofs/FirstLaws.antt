@@ -1,0 +1,51 @@
+-- From the clause of a printed first plan to the laws of its text.
+use Rattle.std.proofs.Common.{◌≡◌, List, Option, Some, None, map, refl, sym, ap, ap₂, subst, ◌∙◌}
+use Rattle.std.specs.Prelude.{option_map}
+use Rattle.std.specs.Result.{result_ok}
+use Rattle.std.proofs.lemmas.Option.{same_Some}
+use Rattle.landing_rules.specs.Flights.{Situation, Schedule}
+use Rattle.landing_rules.specs.Rules.{objective}
+use Rattle.landing_rules.specs.Events.{IsPlanShown, opening_situation}
+use Rattle.landing_rules.specs.FirstBest.{IsFirstPlan}
+use Rattle.landing_rules.specs.Text.{lines_text, plan_lines}
+use Rattle.landing_joint.specs.FirstBestLaws.{FirstBestObjectiveLaw, FirstPlanIsOneLaw}
+use Rattle.aerodrome_file.specs.declared.aerodrome.Aerodrome.{Aerodrome}
+use Rattle.flight_file.specs.declared.flight.Flight.{Flight}
+use Rattle.flight_file.specs.Seen.{flight_of}
+use Rattle.sequencer.specs.Opened.{opening_of}
+use Rattle.openings.specs.Plan.{answer_of}
+use Rattle.inquiry_commands.specs.First.{FirstTextIsOneLaw, FirstCostsAsPlanLaw}
+
+opened_same : (a b : Aerodrome) (f g : List Flight) (s t : Situation) → a ≡ b → f ≡ g →
+    s ≡ opening_situation (opening_of a) (map flight_of f) → t ≡ opening_situation (opening_of b) (map flight_of g) → s ≡ t
+opened_same a b f g s t a_is f_is one other = one ∙ ap₂ (λ x y. opening_situation (opening_of x) (map flight_of y)) a_is f_is ∙ sym other
+
+pub text_is_one : FirstPlanIsOneLaw → FirstTextIsOneLaw
+text_is_one law a f text other answer another p q =
+    let aerodromes : p.aerodrome ≡ q.aerodrome = same_Some _ _ (ap result_ok (sym p.aerodrome_read ∙ q.aerodrome_read)) in
+    let flights : p.flights ≡ q.flights = same_Some _ _ (ap result_ok (sym p.flights_read ∙ q.flights_read)) in
+    let s : p.shows.state.situation ≡ q.shows.state.situation =
+    opened_same _ _ _ _ _ _ aerodromes flights p.shows.opened.opens.situation q.shows.opened.opens.situation in
+    let plan : p.shows.plan ≡ q.shows.plan =
+    law p.shows.state.situation p.shows.plan q.shows.plan p.shows.sound p.shows.first
+    (subst (λ (x : Situation). IsFirstPlan x q.shows.plan) (sym s) q.shows.first) in (
+      p.shows.prints ∙ ap₂ (λ (x : Situation) (y : Option Schedule). lines_text (plan_lines (record { situation = x; plan = y }))) s plan ∙ sym q.shows.prints,
+      p.shows.answers ∙ ap answer_of plan ∙ sym q.shows.answers,
+    )
+
+-- a first plan costs what a plan costs that may be shown
+costs : FirstBestObjectiveLaw → (s : Situation) (x y : Option Schedule) → IsFirstPlan s x → IsPlanShown s y →
+    option_map (objective s) x ≡ option_map (objective s) y
+costs law s None None a b = refl
+costs law s None (Some u) a b = absurd (a u b.0.feasible)
+costs law s (Some t) None a b = absurd (b t a.best.feasible)
+costs law s (Some t) (Some u) a b = ap Some (law s t u a b.0)
+
+pub costs_as_plan : FirstBestObjectiveLaw → FirstCostsAsPlanLaw
+costs_as_plan law a f text other answer another p q =
+    let aerodromes : p.aerodrome ≡ q.aerodrome = same_Some _ _ (ap result_ok (sym p.aerodrome_read ∙ q.aerodrome_read)) in
+    let flights : p.flights ≡ q.flights = same_Some _ _ (ap result_ok (sym p.flights_read ∙ q.flights_read)) in
+    let s : q.state.situation ≡ p.shows.state.situation =
+    opened_same _ _ _ _ _ _ (sym aerodromes) (sym flights) q.opens.situation p.shows.opened.opens.situation in
+    costs law p.shows.state.situation p.shows.plan q.state.plan p.shows.first (subst (λ (x : Situation). IsPlanShown x q.state.plan) s q.opens.shown)
+    ∙ ap (λ (x : Situation). option_map (objective x) q.state.plan) (sym s)

@@ -1,0 +1,9 @@
+use Rattle.openings.specs.shared.Finished.{finished}
+use Rattle.inquiry_commands.specs.WhatIf.{AdmitsWhatIf, RefusesWhatIf}
+use Rattle.inquiry_commands.proofs.what_ifs.run_what_if.Goals as goal
+
+pub returns : goal.returns
+returns g c =
+    finished (AdmitsWhatIf c.args.aerodrome.now c.args.flights.now c.args.trials.now)
+    (RefusesWhatIf c.args.aerodrome.now c.args.flights.now c.args.trials.now)
+    c.report_files-report.result _ _ _ c.report_files-report.ensures c.print_report.ensures

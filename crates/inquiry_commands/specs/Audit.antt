@@ -1,0 +1,78 @@
+-- What `audit` prints over the contents of its three files, and which it refuses.
+use Rattle.std.specs.Prelude.{◌≡◌, ℕ, List, [], ◌∷◌, codes, Option, Some, None, Result, Ok, Err}
+use Rattle.landing_rules.specs.Flights.{Situation}
+use Rattle.landing_rules.specs.Text.{line}
+use Rattle.landing_rules.specs.Audit.{Finding, findings}
+use Rattle.aerodrome_file.specs.declared.aerodrome.Aerodrome.{Aerodrome}
+use Rattle.aerodrome_file.specs.declared.fault.AeroFault.{AeroFault}
+use Rattle.aerodrome_file.specs.Reading.{aerodrome_of}
+use Rattle.flight_file.specs.declared.flight.Flight.{Flight}
+use Rattle.flight_file.specs.declared.fault.FlightFault.{FlightFault}
+use Rattle.flight_file.specs.Reading.{flights_of}
+use Rattle.plan_file.specs.declared.plan.PlanFault.{PlanFault}
+use Rattle.plan_file.specs.declared.plan.PlanText.{PlanText}
+use Rattle.plan_file.specs.declared.plan.PlanText.TheVariants as plans
+use Rattle.plan_file.specs.Blocks.{seen_block}
+use Rattle.plan_file.specs.Reading.{plan_of}
+use Rattle.audit.specs.Texts.{findings_text}
+use Rattle.sequencer.specs.Opened.{opened}
+use Rattle.cps_outside.specs.SinkState.{SinkState}
+use Rattle.endings.specs.declared.ending.Answer.{Answer}
+use Rattle.endings.specs.declared.ending.Answer.TheVariants.{Clean, Broken, Claimed}
+use Rattle.endings.specs.declared.ending.Ending.{Ending}
+use Rattle.endings.specs.declared.ending.Refusal.{Refusal}
+use Rattle.endings.specs.declared.ending.Refusal.TheVariants as refusal
+use Rattle.openings.specs.Follows.{FollowsAtOnce}
+use Rattle.openings.specs.Plan.{refusal_of, Stops}
+
+-- the first cause, in the order of the files
+abbrev pub unaudited_by : Result Aerodrome AeroFault → Result (List Flight) FlightFault → Result PlanText PlanFault → Option Refusal
+unaudited_by (Err fault) flights plan = Some (refusal.Aerodrome fault)
+unaudited_by (Ok aerodrome) (Err fault) plan = Some (refusal.Flights fault)
+unaudited_by (Ok aerodrome) (Ok flights) (Err fault) = Some (refusal.Plan fault)
+unaudited_by (Ok aerodrome) (Ok flights) (Ok plan) = refusal_of aerodrome flights
+
+abbrev pub RefusesAudit : List ℕ → List ℕ → List ℕ → Refusal → Type 0
+RefusesAudit aerodrome flights plan cause = unaudited_by (aerodrome_of aerodrome) (flights_of flights) (plan_of plan) ≡ Some cause
+
+-- the lines of the findings, or that there is none
+abbrev pub report : List Finding → List ℕ
+report [] = line (codes "ok")
+report (first ∷ others) = findings_text (first ∷ others)
+
+abbrev pub report_answer : List Finding → Answer
+report_answer [] = Clean
+report_answer (first ∷ others) = Broken
+
+-- what is printed of a plan in a situation. That there is no plan is a claim, which is not judged
+abbrev pub audit_text : Situation → PlanText → List ℕ
+audit_text s plans.Nothing = line (codes "infeasible claimed")
+audit_text s (plans.Block b) = report (findings s (seen_block b))
+
+abbrev pub audit_answer : Situation → PlanText → Answer
+audit_answer s plans.Nothing = Claimed
+audit_answer s (plans.Block b) = report_answer (findings s (seen_block b))
+
+-- The files are taken, and the text is what is found of the plan in their opening situation.
+pub record IsAudited (aerodrome : Aerodrome) (flights : List Flight) (plan : PlanText) (text : List ℕ) (answer : Answer) : Type 0 where
+  pub taken : refusal_of aerodrome flights ≡ None
+  pub prints : text ≡ audit_text (opened aerodrome flights) plan
+  pub answers : answer ≡ audit_answer (opened aerodrome flights) plan
+
+-- The files read as an aerodrome, flights and a plan, and this is found.
+pub record AdmitsAudit (aerodrome_bytes flight_bytes plan_bytes text : List ℕ) (answer : Answer) : Type 0 where
+  pub aerodrome : Aerodrome
+  pub flights : List Flight
+  pub plan : PlanText
+  pub aerodrome_read : aerodrome_of aerodrome_bytes ≡ Ok aerodrome
+  pub flights_read : flights_of flight_bytes ≡ Ok flights
+  pub plan_read : plan_of plan_bytes ≡ Ok plan
+  pub audited : IsAudited aerodrome flights plan text answer
+
+-- what `audit` does, with this ending
+abbrev pub FollowsAudit : List ℕ → List ℕ → List ℕ → SinkState → SinkState → Ending → Type 0
+FollowsAudit aerodrome flights plan = FollowsAtOnce (AdmitsAudit aerodrome flights plan) (RefusesAudit aerodrome flights plan)
+
+-- how `audit` may stop before it writes
+abbrev pub StopsAudit : List ℕ → List ℕ → List ℕ → Ending → Type 0
+StopsAudit aerodrome flights plan = Stops (RefusesAudit aerodrome flights plan)

@@ -1,0 +1,57 @@
+-- What `first` prints over the contents of its two files. It refuses those that `plan` refuses.
+use Rattle.std.specs.Prelude.{◌≡◌, ℕ, List, Ok, Option, option_map}
+use Rattle.landing_rules.specs.Flights.{Situation, Schedule}
+use Rattle.landing_rules.specs.Rules.{objective}
+use Rattle.landing_rules.specs.Events.{State}
+use Rattle.landing_rules.specs.FirstBest.{IsFirstPlan}
+use Rattle.landing_rules.specs.Sound.{IsSound}
+use Rattle.landing_rules.specs.Text.{lines_text, plan_lines}
+use Rattle.aerodrome_file.specs.declared.aerodrome.Aerodrome.{Aerodrome}
+use Rattle.aerodrome_file.specs.Reading.{aerodrome_of}
+use Rattle.flight_file.specs.declared.flight.Flight.{Flight}
+use Rattle.flight_file.specs.Reading.{flights_of}
+use Rattle.cps_outside.specs.SinkState.{SinkState}
+use Rattle.endings.specs.declared.ending.Answer.{Answer}
+use Rattle.endings.specs.declared.ending.Ending.{Ending}
+use Rattle.openings.specs.Follows.{FollowsAtOnce}
+use Rattle.openings.specs.Plan.{AdmitsPlan, RefusesPlan, IsOpened, answer_of}
+
+-- The text is the block of a first plan of an opening state of files that are taken.
+pub record ShowsFirst (aerodrome : Aerodrome) (flights : List Flight) (text : List ℕ) (answer : Answer) : Type 0 where
+  pub state : State
+  pub opened : IsOpened aerodrome flights state
+  pub sound : IsSound state.situation
+  pub plan : Option Schedule
+  pub first : IsFirstPlan state.situation plan
+  pub prints : text ≡ lines_text (plan_lines (record { situation = state.situation; plan = plan }))
+  pub answers : answer ≡ answer_of plan
+
+-- The files read as an aerodrome and flights, of which the text shows the first plan.
+pub record AdmitsFirst (aerodrome_bytes flight_bytes text : List ℕ) (answer : Answer) : Type 0 where
+  pub aerodrome : Aerodrome
+  pub flights : List Flight
+  pub aerodrome_read : aerodrome_of aerodrome_bytes ≡ Ok aerodrome
+  pub flights_read : flights_of flight_bytes ≡ Ok flights
+  pub shows : ShowsFirst aerodrome flights text answer
+
+-- what `first` does, with this ending
+abbrev pub FollowsFirst : List ℕ → List ℕ → SinkState → SinkState → Ending → Type 0
+FollowsFirst aerodrome flights = FollowsAtOnce (AdmitsFirst aerodrome flights) (RefusesPlan aerodrome flights)
+
+-- two texts that `first` may print for the same files are one, with one answer
+abbrev pub FirstTextIsOneLaw : Type 0
+FirstTextIsOneLaw = (aerodrome flights text other : List ℕ) (answer another : Answer)
+    → AdmitsFirst aerodrome flights text answer → AdmitsFirst aerodrome flights other another → (text ≡ other) × (answer ≡ another)
+
+-- and its plan costs what the plan that `plan` may print for them costs
+abbrev pub FirstCostsAsPlanLaw : Type 0
+FirstCostsAsPlanLaw = (aerodrome flights text other : List ℕ) (answer another : Answer)
+    → (first : AdmitsFirst aerodrome flights text answer) → (planned : AdmitsPlan aerodrome flights other another)
+    → option_map (objective first.shows.state.situation) first.shows.plan ≡ option_map (objective planned.state.situation) planned.state.plan
+
+-- the text is the block of a first plan of this situation
+pub record ShowsFirstOf (s : Situation) (text : List ℕ) (answer : Answer) : Type 0 where
+  pub plan : Option Schedule
+  pub first : IsFirstPlan s plan
+  pub prints : text ≡ lines_text (plan_lines (record { situation = s; plan = plan }))
+  pub answers : answer ≡ answer_of plan

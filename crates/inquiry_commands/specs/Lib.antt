@@ -1,0 +1,5 @@
+-- What these commands print, and which files they refuse.
+pub mod Audit
+pub mod First
+pub mod WhatIf
+pub mod shared

@@ -1,0 +1,58 @@
+-- What `whatif` prints over the contents of its three files, and which it refuses.
+use Rattle.std.specs.Prelude.{◌≡◌, ℕ, List, Option, Some, None, Result, Ok, Err}
+use Rattle.aerodrome_file.specs.declared.aerodrome.Aerodrome.{Aerodrome}
+use Rattle.aerodrome_file.specs.declared.fault.AeroFault.{AeroFault}
+use Rattle.aerodrome_file.specs.Reading.{aerodrome_of}
+use Rattle.flight_file.specs.declared.flight.Flight.{Flight}
+use Rattle.flight_file.specs.declared.fault.FlightFault.{FlightFault}
+use Rattle.flight_file.specs.Reading.{flights_of}
+use Rattle.trial_file.specs.declared.fault.TrialFault.{TrialFault}
+use Rattle.whatif.specs.declared.outcome.Outcome.{Outcome}
+use Rattle.trial_file.specs.declared.trial.Trial.{Trial}
+use Rattle.whatif.specs.Outcomes.{AreOutcomes}
+use Rattle.trial_file.specs.Reading.{trials_of}
+use Rattle.whatif.specs.Text.{outcomes_text}
+use Rattle.cps_outside.specs.SinkState.{SinkState}
+use Rattle.endings.specs.declared.ending.Answer.{Answer}
+use Rattle.endings.specs.declared.ending.Answer.TheVariants.{Tried}
+use Rattle.endings.specs.declared.ending.Ending.{Ending}
+use Rattle.endings.specs.declared.ending.Refusal.{Refusal}
+use Rattle.endings.specs.declared.ending.Refusal.TheVariants as refusal
+use Rattle.openings.specs.Follows.{FollowsAtOnce}
+use Rattle.openings.specs.Plan.{refusal_of, Stops}
+
+-- the first cause, in the order of the files
+abbrev pub untried_by : Result Aerodrome AeroFault → Result (List Flight) FlightFault → Result (List Trial) TrialFault → Option Refusal
+untried_by (Err fault) flights trials = Some (refusal.Aerodrome fault)
+untried_by (Ok aerodrome) (Err fault) trials = Some (refusal.Flights fault)
+untried_by (Ok aerodrome) (Ok flights) (Err fault) = Some (refusal.Trials fault)
+untried_by (Ok aerodrome) (Ok flights) (Ok trials) = refusal_of aerodrome flights
+
+abbrev pub RefusesWhatIf : List ℕ → List ℕ → List ℕ → Refusal → Type 0
+RefusesWhatIf aerodrome flights trials cause = untried_by (aerodrome_of aerodrome) (flights_of flights) (trials_of trials) ≡ Some cause
+
+-- The files are taken, and the text has a line for the outcome as they are and for that of each trial.
+pub record AreTried (aerodrome : Aerodrome) (flights : List Flight) (trials : List Trial) (text : List ℕ) : Type 0 where
+  pub taken : refusal_of aerodrome flights ≡ None
+  pub outcomes : List Outcome
+  pub are : AreOutcomes aerodrome flights trials outcomes
+  pub prints : text ≡ outcomes_text outcomes
+
+-- The files read as an aerodrome, flights and trials, and these are their outcomes.
+pub record AdmitsWhatIf (aerodrome_bytes flight_bytes trial_bytes text : List ℕ) (answer : Answer) : Type 0 where
+  pub aerodrome : Aerodrome
+  pub flights : List Flight
+  pub trials : List Trial
+  pub aerodrome_read : aerodrome_of aerodrome_bytes ≡ Ok aerodrome
+  pub flights_read : flights_of flight_bytes ≡ Ok flights
+  pub trials_read : trials_of trial_bytes ≡ Ok trials
+  pub tried : AreTried aerodrome flights trials text
+  pub answers : answer ≡ Tried
+
+-- what `whatif` does, with this ending
+abbrev pub FollowsWhatIf : List ℕ → List ℕ → List ℕ → SinkState → SinkState → Ending → Type 0
+FollowsWhatIf aerodrome flights trials = FollowsAtOnce (AdmitsWhatIf aerodrome flights trials) (RefusesWhatIf aerodrome flights trials)
+
+-- how `whatif` may stop before it writes
+abbrev pub StopsWhatIf : List ℕ → List ℕ → List ℕ → Ending → Type 0
+StopsWhatIf aerodrome flights trials = Stops (RefusesWhatIf aerodrome flights trials)

@@ -1,0 +1,3 @@
+-- Lemmas that crates above cite too.
+pub mod Audited
+pub mod Tried

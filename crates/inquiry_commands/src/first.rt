@@ -1,0 +1,86 @@
+ghost use Rattle.std.specs.Prelude.{◌≡◌, IfOk, OnOk, Some, MatchResult};
+ghost use Rattle.aerodrome_file.specs.Reading.{IsInRange};
+ghost use Rattle.flight_file.specs.OfFile.{CanBeRead};
+ghost use Rattle.landing_rules.specs.Sound.{IsSoundState};
+ghost use Rattle.replan.specs.Kept.{problem_held};
+ghost use Rattle.inquiry_commands.specs.First.{AdmitsFirst, FollowsFirst, ShowsFirst, ShowsFirstOf};
+ghost use Rattle.openings.specs.Plan.{StopsOpened, StopsPlan};
+
+use aerodrome_file::{Aerodrome, read_aerodrome};
+use cps_outside::{Gate, Sink};
+use endings::Ending;
+use first_plans::first_plan;
+use flight_file::{Flight, read_flights};
+use openings::{Report, answer, begin, print_report};
+use plan_text::plan_block;
+use replan::AnyKept;
+use sequencer::Sequencer;
+use std::alloc::{AllocError, Global};
+use std::thread::Threads;
+
+// The block of the first plan.
+fn report_plan(alloc: Global, sequencer: &Sequencer<AnyKept>) -> Result<Report, AllocError>
+    requires held { problem_held sequencer.now.planner ≡ Some sequencer.now.problem }
+    ensures shows { IfOk result (λ r.
+        ShowsFirstOf sequencer.now.state.situation r.text.items r.answer) }
+    ensures sound { OnOk result (IsSoundState sequencer.now.state) }
+{
+    let _sound = sequencer.problem();
+    let plan = first_plan(alloc, sequencer)?;
+    let mut text = Vec::new(alloc);
+    plan_block(sequencer.objective(), plan.as_ref(), &mut text)?;
+    let answer = answer(plan.is_some());
+    Ok(Report { text, answer })
+}
+
+// The same for what files that are read open.
+fn report_opened<R: Threads + Sync, G: Gate + Sync>(
+    rt: &R,
+    alloc: Global,
+    aerodrome: Aerodrome,
+    flights: Vec<Flight>,
+    gate: &G,
+) -> Result<Report, Ending>
+    requires range { IsInRange aerodrome }
+    requires read { CanBeRead flights.items }
+    ensures { MatchResult result
+        (λ r. ShowsFirst aerodrome flights.items r.text.items r.answer)
+        (StopsOpened aerodrome flights.items) }
+{
+    let (sequencer, _) = begin(rt, alloc, aerodrome, flights, gate)?;
+    let report = report_plan(alloc, &sequencer)?;
+    Ok(report)
+}
+
+// The same for the bytes of the files.
+fn report_files<R: Threads + Sync, G: Gate + Sync>(
+    rt: &R,
+    alloc: Global,
+    aerodrome: &[u8],
+    flights: &[u8],
+    gate: &G,
+) -> Result<Report, Ending>
+    ensures { MatchResult result
+        (λ r. AdmitsFirst aerodrome.now flights.now r.text.items r.answer)
+        (StopsPlan aerodrome.now flights.now) }
+{
+    let aerodrome = read_aerodrome(alloc, aerodrome)?;
+    let flights = read_flights(alloc, flights)?;
+    report_opened(rt, alloc, aerodrome, flights, gate)
+}
+
+/// The command `first`: prints the first plan of the files, and answers whether there is one.
+pub fn run_first<R: Threads + Sync, S: Sink, G: Gate + Sync>(
+    rt: &R,
+    alloc: Global,
+    aerodrome: &[u8],
+    flights: &[u8],
+    out: &mut S,
+    gate: &G,
+) -> Ending
+    ensures { FollowsFirst aerodrome.now flights.now
+        (S.state out.old) (S.state out.new) result }
+{
+    let report = report_files(rt, alloc, aerodrome, flights, gate);
+    print_report(out, report)
+}

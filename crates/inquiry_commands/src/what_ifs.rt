@@ -1,0 +1,90 @@
+ghost use Rattle.std.specs.Prelude.{◌≤◌, All, MatchResult, length};
+ghost use Rattle.aerodrome_file.specs.Reading.{IsInRange};
+ghost use Rattle.flight_file.specs.OfFile.{CanBeRead};
+ghost use Rattle.trial_file.specs.Trials.{IsGood};
+ghost use Rattle.openings.specs.Plan.{StopsOpened};
+ghost use Rattle.inquiry_commands.specs.WhatIf.{AdmitsWhatIf, AreTried, FollowsWhatIf, StopsWhatIf};
+
+use aerodrome_file::{Aerodrome, read_aerodrome};
+use cps_outside::{Gate, Sink};
+use endings::{Answer, Ending, Refusal};
+use flight_file::{Flight, read_flights};
+use openings::{Report, print_report};
+use situations::opening_fault;
+use std::alloc::Global;
+use std::thread::Threads;
+use trial_file::{Trial, read_trials};
+use whatif::{append_outcomes, run_trials};
+
+// The outcomes of the trials over files that are read, a line each.
+fn try_opened<R: Threads + Sync, G: Gate + Sync>(
+    rt: &R,
+    alloc: Global,
+    aerodrome: &Aerodrome,
+    flights: &[Flight],
+    trials: &[Trial],
+    gate: &G,
+) -> Result<Vec<u8>, Ending>
+    requires range { IsInRange aerodrome.now }
+    requires read { CanBeRead flights.now }
+    requires few { length trials.now ≤ 16 }
+    requires good { All IsGood trials.now }
+    ensures { MatchResult result
+        (λ text. AreTried aerodrome.now flights.now trials.now text.items)
+        (StopsOpened aerodrome.now flights.now) }
+{
+    if let Some(fault) = opening_fault(alloc, aerodrome, flights)? {
+        return Err(Ending::Refused(Refusal::Opening(fault)));
+    }
+    let outcomes = run_trials(rt, alloc, aerodrome, flights, trials, gate)?;
+    let mut text = Vec::new(alloc);
+    append_outcomes(outcomes.as_slice(), &mut text)?;
+    Ok(text)
+}
+
+// The same for the bytes of the files.
+fn report_files<R: Threads + Sync, G: Gate + Sync>(
+    rt: &R,
+    alloc: Global,
+    aerodrome: &[u8],
+    flights: &[u8],
+    trials: &[u8],
+    gate: &G,
+) -> Result<Report, Ending>
+    ensures { MatchResult result
+        (λ r. AdmitsWhatIf aerodrome.now flights.now trials.now r.text.items r.answer)
+        (StopsWhatIf aerodrome.now flights.now trials.now) }
+{
+    let aerodrome = read_aerodrome(alloc, aerodrome)?;
+    let flights = read_flights(alloc, flights)?;
+    let trials = read_trials(alloc, trials)?;
+    let text = try_opened(
+        rt,
+        alloc,
+        &aerodrome,
+        flights.as_slice(),
+        trials.as_slice(),
+        gate,
+    )?;
+    Ok(Report {
+        text,
+        answer: Answer::Tried,
+    })
+}
+
+/// The command `whatif`: prints the outcomes of the trials of the files, a line each.
+pub fn run_what_if<R: Threads + Sync, S: Sink, G: Gate + Sync>(
+    rt: &R,
+    alloc: Global,
+    aerodrome: &[u8],
+    flights: &[u8],
+    trials: &[u8],
+    out: &mut S,
+    gate: &G,
+) -> Ending
+    ensures { FollowsWhatIf aerodrome.now flights.now trials.now
+        (S.state out.old) (S.state out.new) result }
+{
+    let report = report_files(rt, alloc, aerodrome, flights, trials, gate);
+    print_report(out, report)
+}

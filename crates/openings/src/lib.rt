@@ -1,0 +1,10 @@
+//! What the aerodrome file and the flight file open, and how a command over them may end.
+#![tactic(auto)]
+
+mod answering;
+mod opening;
+mod report;
+
+pub use answering::answer;
+pub use opening::begin;
+pub use report::{Report, print_report};

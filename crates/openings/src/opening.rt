@@ -1,0 +1,38 @@
+ghost use Rattle.std.specs.Prelude.{IfOk, MatchResult};
+ghost use Rattle.aerodrome_file.specs.Reading.{IsInRange};
+ghost use Rattle.flight_file.specs.OfFile.{CanBeRead};
+ghost use Rattle.openings.specs.Plan.{IsOpened, IsPlannedAnew, StopsOpened};
+
+use aerodrome_file::Aerodrome;
+use cps_base::{Counted, Steps};
+use cps_outside::Gate;
+use efforts::due_is_small;
+use endings::Ending;
+use flight_file::Flight;
+use replan::AnyKept;
+use sequencer::Sequencer;
+use std::alloc::Global;
+use std::thread::Threads;
+
+/// The sequencer that the files begin, with a planner that keeps its stages, and the steps of its planning; or how the command
+/// ends that wanted it: the files open no situation, or memory ran out.
+pub fn begin<R: Threads + Sync, G: Gate + Sync>(
+    rt: &R,
+    alloc: Global,
+    aerodrome: Aerodrome,
+    flights: Vec<Flight>,
+    gate: &G,
+) -> Result<(Sequencer<AnyKept>, u64), Ending>
+    requires range { IsInRange aerodrome }
+    requires read { CanBeRead flights.items }
+    ensures opened { MatchResult result
+        (λ begun. IsOpened aerodrome flights.items begun.0.state)
+        (StopsOpened aerodrome flights.items) }
+    ensures planned { IfOk result (λ begun. IsPlannedAnew begun.0 begun.1) }
+{
+    let planner = AnyKept::fresh(aerodrome.k);
+    let mut steps = Steps::new(Counted::new());
+    let sequencer = Sequencer::begin(rt, alloc, aerodrome, flights, planner, gate, &mut steps)?;
+    due_is_small(sequencer.problem());
+    Ok((sequencer, steps.ledger().value()))
+}

@@ -1,0 +1,5 @@
+pub mod Counted
+pub mod Replayed
+pub mod ReplayLaws
+pub mod Showing
+pub mod Summed

@@ -1,0 +1,43 @@
+-- From what was begun and written to what is said of traffic.
+use Rattle.std.proofs.Common.{◌≡◌, ℕ, List, None, Some, sym, ap, ◌∙◌}
+use Rattle.std.specs.Prelude.{option_map}
+use Rattle.landing_rules.specs.Text.{plan_shown}
+use Rattle.cps_network.specs.shared.DueSteps.{all_due}
+use Rattle.replan.specs.declared.any_kept.AnyKept.{AnyKept}
+use Rattle.sequencer.specs.Standing.{Standing}
+use Rattle.aerodrome_file.specs.declared.aerodrome.Aerodrome.{Aerodrome}
+use Rattle.flight_file.specs.declared.flight.Flight.{Flight}
+use Rattle.traffic_gen.specs.Made.{Made}
+use Rattle.plan_text.specs.Trial.{trial_text}
+use Rattle.endings.specs.declared.ending.Answer.{Answer}
+use Rattle.endings.specs.declared.ending.Refusal.{Refusal}
+use Rattle.endings.specs.declared.ending.Ending.{Ending}
+use Rattle.openings.specs.Plan.{answer_of, refusal_of, IsOpened, IsPlannedAnew, StopsOpened}
+use Rattle.openings.specs.shared.Opened.{stops_by}
+use Rattle.endings.specs.declared.ending.Refusal.TheVariants.{Opening}
+use Rattle.situations.specs.Refused.{opening_fault}
+use Rattle.planning_commands.specs.Trial.{Sums, StopsTrial}
+
+pub sums : (made : Made) (n k nodes : ℕ) (aerodrome : Aerodrome) (flights : List Flight) (s : Standing AnyKept) (text : List ℕ) (answer : Answer) →
+    aerodrome ≡ made.aerodrome → flights ≡ made.flights → IsOpened aerodrome flights s.state → IsPlannedAnew s nodes →
+    text ≡ trial_text n k nodes s.state.situation.aerodrome.objective (plan_shown s.state) → answer ≡ answer_of s.state.plan → Sums made n k text answer
+sums made n k nodes aerodrome flights s text answer a_is f_is opened planned prints answers = record {
+  state = s.state;
+  opens = rw (← a_is, ← f_is) opened.opens;
+  problem = s.problem;
+  problem_of = planned.problem_of;
+  nodes = nodes;
+  candidates = all_due s.problem nodes planned.due;
+  prints = prints;
+  answers = answers;
+}
+
+none_some : {cause : Refusal} → None ≡ Some cause → ⊥
+none_some e = cc
+
+-- files that open are stopped by memory alone
+pub stops_short : (aerodrome : Aerodrome) (flights : List Flight) (ending : Ending) → opening_fault aerodrome flights ≡ None →
+    StopsOpened aerodrome flights ending → StopsTrial ending
+stops_short aerodrome flights ending opens =
+    stops_by (λ cause. refusal_of aerodrome flights ≡ Some cause) (λ cause. ⊥) ending
+    (λ cause refused. none_some (sym (ap (option_map Opening) opens) ∙ refused))

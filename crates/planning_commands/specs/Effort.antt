@@ -1,0 +1,38 @@
+-- What `effort` prints over the contents of its three files. It refuses those that `replay` refuses.
+use Rattle.std.specs.Prelude.{◌≡◌, ℕ, List, ◌++◌}
+use Rattle.landing_rules.specs.Events as rules
+use Rattle.landing_rules.specs.Events.{State}
+use Rattle.efforts.specs.Efforts.{Effort, answers_of, effort_text}
+use Rattle.replays.specs.Runs.{last_state}
+use Rattle.cps_outside.specs.SinkState.{SinkState}
+use Rattle.endings.specs.declared.ending.Answer.{Answer}
+use Rattle.endings.specs.declared.ending.Ending.{Ending}
+use Rattle.openings.specs.Follows.{FollowsBy}
+use Rattle.openings.specs.Plan.{answer_of}
+use Rattle.planning_commands.specs.Replay.{IsBegun, RefusesReplay}
+
+-- The text tells the steps of the plannings of a run of the rules over all events of the log, from an opening state of the
+-- files.
+pub record AdmitsEffort (aerodrome flights log text : List ℕ) (answer : Answer) : Type 0 where
+  pub state : State
+  pub events : List rules.Event
+  pub begun : IsBegun aerodrome flights log state events
+  pub effort : Effort state events
+  pub prints : text ≡ effort_text effort
+  pub answered : answer ≡ answer_of (last_state state (answers_of effort.plannings.planned)).plan
+
+-- The text tells those of a run over the first events of the log.
+pub record BeginsEffort (aerodrome flights log text : List ℕ) : Type 0 where
+  pub state : State
+  pub events : List rules.Event
+  pub begun : IsBegun aerodrome flights log state events
+  pub done : List rules.Event
+  pub rest : List rules.Event
+  pub split : done ++ rest ≡ events
+  pub effort : Effort state done
+  pub prints : text ≡ effort_text effort
+
+-- what `effort` does, with this ending
+abbrev pub FollowsEffort : List ℕ → List ℕ → List ℕ → SinkState → SinkState → Ending → Type 0
+FollowsEffort aerodrome flights events =
+    FollowsBy (AdmitsEffort aerodrome flights events) (BeginsEffort aerodrome flights events) (RefusesReplay aerodrome flights events)

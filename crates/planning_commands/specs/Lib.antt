@@ -1,0 +1,7 @@
+-- What these commands print, and which files they refuse.
+pub mod Effort
+pub mod Plan
+pub mod Replay
+pub mod ReplayLaws
+pub mod Trial
+pub mod shared

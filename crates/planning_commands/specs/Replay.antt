@@ -1,0 +1,91 @@
+-- What `replay` prints over the contents of its three files, and which it refuses.
+use Rattle.std.specs.Prelude.{◌≡◌, ℕ, Bool, List, ◌++◌, map, All, Option, Some, None, Result, Ok, Err}
+use Rattle.landing_rules.specs.Events as rules
+use Rattle.landing_rules.specs.Events.{State, Answered, Run, IsOpeningState}
+use Rattle.landing_rules.specs.Sound.{IsSoundState, IsGoodEvent}
+use Rattle.landing_rules.specs.Text.{replay_text}
+use Rattle.aerodrome_file.specs.declared.aerodrome.Aerodrome.{Aerodrome}
+use Rattle.aerodrome_file.specs.declared.fault.AeroFault.{AeroFault}
+use Rattle.aerodrome_file.specs.Reading.{aerodrome_of}
+use Rattle.flight_file.specs.declared.flight.Flight.{Flight}
+use Rattle.flight_file.specs.declared.fault.FlightFault.{FlightFault}
+use Rattle.flight_file.specs.Reading.{flights_of}
+use Rattle.flight_file.specs.Seen.{flight_of}
+use Rattle.event_log.specs.declared.event.Event.{Event}
+use Rattle.event_log.specs.declared.fault.LogFault.{LogFault}
+use Rattle.event_log.specs.Reading.{events_of}
+use Rattle.event_log.specs.Seen.{event_of}
+use Rattle.sequencer.specs.Opened.{opening_of}
+use Rattle.replays.specs.Runs.{last_state}
+use Rattle.replays.specs.declared.stops.Stop.{Stop}
+use Rattle.replays.specs.declared.stops.Stop.TheVariants as stop
+use Rattle.cps_outside.specs.SinkState.{SinkState}
+use Rattle.endings.specs.declared.ending.Answer.{Answer}
+use Rattle.endings.specs.declared.ending.Ending.{Ending}
+use Rattle.endings.specs.declared.ending.Ending.TheVariants as endings
+use Rattle.endings.specs.declared.ending.Refusal.{Refusal}
+use Rattle.endings.specs.declared.ending.Refusal.TheVariants as refusal
+use Rattle.openings.specs.Follows.{FollowsBy}
+use Rattle.openings.specs.Plan.{refusal_of, answer_by, answer_of, Stops}
+
+-- the first cause, in the order of the files
+abbrev pub refused_with : Result Aerodrome AeroFault → Result (List Flight) FlightFault → Result (List Event) LogFault → Option Refusal
+refused_with (Err fault) flights events = Some (refusal.Aerodrome fault)
+refused_with (Ok aerodrome) (Err fault) events = Some (refusal.Flights fault)
+refused_with (Ok aerodrome) (Ok flights) (Err fault) = Some (refusal.Events fault)
+refused_with (Ok aerodrome) (Ok flights) (Ok events) = refusal_of aerodrome flights
+
+abbrev pub RefusesReplay : List ℕ → List ℕ → List ℕ → Refusal → Type 0
+RefusesReplay aerodrome flights events cause = refused_with (aerodrome_of aerodrome) (flights_of flights) (events_of events) ≡ Some cause
+
+-- The files read as an aerodrome, flights and a log, and are taken. They have these events, with their numbers in range, and
+-- this opening state, which is sound.
+pub record IsBegun (aerodrome_bytes flight_bytes event_bytes : List ℕ) (state : State) (events : List rules.Event) : Type 0 where
+  pub aerodrome : Aerodrome
+  pub flights : List Flight
+  pub log : List Event
+  pub aerodrome_read : aerodrome_of aerodrome_bytes ≡ Ok aerodrome
+  pub flights_read : flights_of flight_bytes ≡ Ok flights
+  pub events_read : events_of event_bytes ≡ Ok log
+  pub taken : refusal_of aerodrome flights ≡ None
+  pub opens : IsOpeningState (opening_of aerodrome) (map flight_of flights) state
+  pub sound : IsSoundState state
+  pub events_are : events ≡ map event_of log
+  pub in_range : All IsGoodEvent events
+
+-- The text is that of a run of the rules over all events of the log, from an opening state of the files.
+pub record AdmitsReplay (aerodrome flights log text : List ℕ) (answer : Answer) : Type 0 where
+  pub state : State
+  pub events : List rules.Event
+  pub begun : IsBegun aerodrome flights log state events
+  pub answers : List Answered
+  pub run : Run state events answers
+  pub prints : text ≡ replay_text state answers
+  pub answered : answer ≡ answer_of (last_state state answers).plan
+
+-- The text is that of a run of the rules over the first events of the log, from an opening state of the files.
+pub record BeginsReplay (aerodrome flights log text : List ℕ) : Type 0 where
+  pub state : State
+  pub events : List rules.Event
+  pub begun : IsBegun aerodrome flights log state events
+  pub done : List rules.Event
+  pub rest : List rules.Event
+  pub split : done ++ rest ≡ events
+  pub answers : List Answered
+  pub run : Run state done answers
+  pub prints : text ≡ replay_text state answers
+
+-- what `replay` does, with this ending
+abbrev pub FollowsReplay : List ℕ → List ℕ → List ℕ → SinkState → SinkState → Ending → Type 0
+FollowsReplay aerodrome flights events =
+    FollowsBy (AdmitsReplay aerodrome flights events) (BeginsReplay aerodrome flights events) (RefusesReplay aerodrome flights events)
+
+-- how `replay` may stop before it writes
+abbrev pub StopsReplay : List ℕ → List ℕ → List ℕ → Ending → Type 0
+StopsReplay aerodrome flights events = Stops (RefusesReplay aerodrome flights events)
+
+-- how the program ends where its replay ended so
+abbrev pub ending_of : Result Bool Stop → Ending
+ending_of (Ok planned) = endings.Answered (answer_by planned)
+ending_of (Err stop.NotWritten) = endings.NotWritten
+ending_of (Err stop.NoMemory) = endings.NoMemory

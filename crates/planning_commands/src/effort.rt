@@ -1,0 +1,39 @@
+ghost use Rattle.planning_commands.specs.Effort.{FollowsEffort};
+
+use crate::replay::{begin_files, ending_of};
+use cps_outside::{Gate, Sink};
+use endings::Ending;
+use std::alloc::Global;
+use std::thread::Threads;
+
+/// The command `effort`: prints how many steps each planning of a replay of the files takes, and answers whether the last plan
+/// is a schedule.
+pub fn run_effort<R: Threads + Sync, S: Sink, G: Gate + Sync>(
+    rt: &R,
+    alloc: Global,
+    aerodrome: &[u8],
+    flights: &[u8],
+    events: &[u8],
+    out: &mut S,
+    gate: &G,
+) -> Ending
+    ensures { FollowsEffort aerodrome.now flights.now events.now
+        (S.state out.old) (S.state out.new) result }
+{
+    let (mut sequencer, events, opening) = match begin_files(
+        rt, alloc, aerodrome, flights, events, gate,
+    ) {
+        Ok(begun) => begun,
+        Err(ending) => return ending,
+    };
+    let ended = efforts::effort(
+        rt,
+        alloc,
+        &mut sequencer,
+        opening,
+        events.as_slice(),
+        out,
+        gate,
+    );
+    ending_of(ended)
+}

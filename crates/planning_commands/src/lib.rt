@@ -1,0 +1,17 @@
+//! The commands that print plans, replays and their steps, over the bytes of their files.
+#![tactic(auto)]
+
+mod effort;
+mod plan;
+mod replay;
+mod replay_laws;
+mod trial;
+
+pub use effort::run_effort;
+pub use plan::run_plan;
+pub use replay::run_replay;
+pub use replay_laws::{
+    clock_shows_no_dearer_plan, few_pass_in_a_printed_replay, printed_states_are_sound,
+    text_fixes_the_replay,
+};
+pub use trial::run_trial;

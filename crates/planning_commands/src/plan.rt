@@ -1,0 +1,80 @@
+ghost use Rattle.std.specs.Prelude.{◌≡◌, IfOk, MatchResult};
+ghost use Rattle.landing_rules.specs.Text.{lines_text, plan_lines};
+ghost use Rattle.aerodrome_file.specs.Reading.{IsInRange};
+ghost use Rattle.flight_file.specs.OfFile.{CanBeRead};
+ghost use Rattle.openings.specs.Plan.{answer_of, AdmitsPlan, StopsPlan, StopsOpened};
+ghost use Rattle.planning_commands.specs.Plan.{Shows, FollowsPlan};
+
+use aerodrome_file::{Aerodrome, read_aerodrome};
+use cps_outside::{Gate, Sink};
+use cps_problem::Planner;
+use endings::Ending;
+use flight_file::{Flight, read_flights};
+use openings::{Report, answer, begin, print_report};
+use plan_text::plan_block;
+use sequencer::Sequencer;
+use std::alloc::{AllocError, Global};
+use std::thread::Threads;
+
+// The block of the plan that is shown.
+fn report_plan<P: Planner>(alloc: Global, sequencer: &Sequencer<P>) -> Result<Report, AllocError>
+    ensures text { IfOk result (λ r. r.text.items ≡ lines_text (plan_lines sequencer.now.state)) }
+    ensures answer { IfOk result (λ r. r.answer ≡ answer_of sequencer.now.state.plan) }
+{
+    let mut text = Vec::new(alloc);
+    plan_block(sequencer.objective(), sequencer.plan(), &mut text)?;
+    let answer = answer(sequencer.plan().is_some());
+    Ok(Report { text, answer })
+}
+
+// The same for what files that are read open.
+fn report_opened<R: Threads + Sync, G: Gate + Sync>(
+    rt: &R,
+    alloc: Global,
+    aerodrome: Aerodrome,
+    flights: Vec<Flight>,
+    gate: &G,
+) -> Result<Report, Ending>
+    requires range { IsInRange aerodrome }
+    requires read { CanBeRead flights.items }
+    ensures { MatchResult result
+        (λ r. Shows aerodrome flights.items r.text.items r.answer)
+        (StopsOpened aerodrome flights.items) }
+{
+    let (sequencer, _) = begin(rt, alloc, aerodrome, flights, gate)?;
+    let report = report_plan(alloc, &sequencer)?;
+    Ok(report)
+}
+
+// The same for the bytes of the files.
+fn report_files<R: Threads + Sync, G: Gate + Sync>(
+    rt: &R,
+    alloc: Global,
+    aerodrome: &[u8],
+    flights: &[u8],
+    gate: &G,
+) -> Result<Report, Ending>
+    ensures { MatchResult result
+        (λ r. AdmitsPlan aerodrome.now flights.now r.text.items r.answer)
+        (StopsPlan aerodrome.now flights.now) }
+{
+    let aerodrome = read_aerodrome(alloc, aerodrome)?;
+    let flights = read_flights(alloc, flights)?;
+    report_opened(rt, alloc, aerodrome, flights, gate)
+}
+
+/// The command `plan`: prints the opening plan of the files, and answers whether there is one.
+pub fn run_plan<R: Threads + Sync, S: Sink, G: Gate + Sync>(
+    rt: &R,
+    alloc: Global,
+    aerodrome: &[u8],
+    flights: &[u8],
+    out: &mut S,
+    gate: &G,
+) -> Ending
+    ensures { FollowsPlan aerodrome.now flights.now
+        (S.state out.old) (S.state out.new) result }
+{
+    let report = report_files(rt, alloc, aerodrome, flights, gate);
+    print_report(out, report)
+}

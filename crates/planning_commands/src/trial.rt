@@ -1,0 +1,102 @@
+ghost use Rattle.std.specs.Prelude.{◌≡◌, ◌≤◌, [], length, MatchResult, IfOk};
+ghost use Rattle.landing_rules.specs.Limits.{most_waiting};
+ghost use Rattle.landing_rules.specs.Text.{plan_shown};
+ghost use Rattle.aerodrome_file.specs.Reading.{IsInRange};
+ghost use Rattle.flight_file.specs.OfFile.{CanBeRead};
+ghost use Rattle.plan_text.specs.Trial.{trial_text};
+ghost use Rattle.openings.specs.Plan.{answer_of};
+ghost use Rattle.planning_commands.specs.Trial.{Sums, AdmitsTrial, FollowsTrial, StopsTrial};
+
+use cps_outside::{Gate, Sink};
+use cps_problem::Planner;
+use endings::Ending;
+use openings::{Report, answer, begin, print_report};
+use plan_text::trial_summary;
+use sequencer::Sequencer;
+use situations::laws::plain_files_open;
+use std::alloc::{AllocError, Global};
+use std::thread::Threads;
+use traffic_gen::{Traffic, generate};
+
+// The summary of the plan that is shown, over so many candidates.
+fn report_plan<P: Planner>(
+    alloc: Global,
+    sequencer: &Sequencer<P>,
+    n: u8,
+    k: u8,
+    nodes: u64,
+) -> Result<Report, AllocError>
+    ensures text { IfOk result (λ r. r.text.items ≡
+        trial_text n k nodes sequencer.now.state.situation.aerodrome.objective
+        (plan_shown sequencer.now.state)) }
+    ensures answer { IfOk result (λ r. r.answer ≡ answer_of sequencer.now.state.plan) }
+{
+    let plan = sequencer.plan();
+    let mut text = Vec::new(alloc);
+    trial_summary(n, k, nodes, sequencer.objective(), plan, &mut text)?;
+    let answer = answer(plan.is_some());
+    Ok(Report { text, answer })
+}
+
+// The same for traffic of n flights under the bound k on shifts.
+fn report_traffic<R: Threads + Sync, G: Gate + Sync>(
+    rt: &R,
+    alloc: Global,
+    traffic: Traffic,
+    n: u8,
+    k: u8,
+    gate: &G,
+) -> Result<Report, Ending>
+    requires range { IsInRange traffic.aerodrome }
+    requires read { CanBeRead traffic.flights }
+    requires few { length traffic.flights ≤ most_waiting }
+    requires none_frozen { traffic.aerodrome.frozen ≡ [] }
+    requires none_passed { traffic.aerodrome.passed ≡ [] }
+    ensures { MatchResult result
+        (λ r. Sums traffic n k r.text.items r.answer)
+        StopsTrial }
+{
+    plain_files_open();
+    let (aerodrome, flights) = traffic.into_parts();
+    let (sequencer, nodes) = begin(rt, alloc, aerodrome, flights, gate)?;
+    let report = report_plan(alloc, &sequencer, n, k, nodes)?;
+    Ok(report)
+}
+
+// The same for the traffic of a seed.
+fn report_seed<R: Threads + Sync, G: Gate + Sync>(
+    rt: &R,
+    alloc: Global,
+    seed: u64,
+    n: u8,
+    k: u8,
+    gate: &G,
+) -> Result<Report, Ending>
+    requires count { (1 ≤ n) × (n ≤ most_waiting) }
+    requires shifts { k ≤ 3 }
+    ensures { MatchResult result
+        (λ r. AdmitsTrial seed n k r.text.items r.answer)
+        StopsTrial }
+{
+    let traffic = generate(alloc, seed, n, k)?;
+    report_traffic(rt, alloc, traffic, n, k, gate)
+}
+
+/// The command `trial`: prints the summary of the traffic of a seed with `n` flights, 1 to 60, under the bound `k` on shifts, 0 to
+/// 3, and answers whether it has a plan.
+pub fn run_trial<R: Threads + Sync, S: Sink, G: Gate + Sync>(
+    rt: &R,
+    alloc: Global,
+    seed: u64,
+    n: u8,
+    k: u8,
+    out: &mut S,
+    gate: &G,
+) -> Ending
+    requires count { (1 ≤ n) × (n ≤ most_waiting) }
+    requires shifts { k ≤ 3 }
+    ensures { FollowsTrial seed n k (S.state out.old) (S.state out.new) result }
+{
+    let report = report_seed(rt, alloc, seed, n, k, gate);
+    print_report(out, report)
+}
