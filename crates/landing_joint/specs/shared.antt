@@ -1,4 +1,5 @@
--- Lemmas that crates above cite too: lists by rank as maps, what is feasible, best and tight there, and first open seconds.
+-- Lemmas that crates above cite too, with what they rest on: lists by rank as maps, what is feasible, best and tight there, and first
+-- open seconds.
 pub mod FirstOpen
 pub mod Insertion
 pub mod RankedLists
