@@ -6,6 +6,7 @@ pub mod Order
 pub mod Pairs
 pub mod Ranks
 pub mod FoundRanks
+pub mod FoundNumbers
 pub mod Shapes
 pub mod Sound
 pub mod PermitTests
