@@ -72,7 +72,6 @@ fn is_misshapen(problem: &Problem, state: &CertState) -> bool
 }
 
 // The first state without the right shape.
-#[tactic(auto, unfolding(cps_theory::specs::FirstFound::element_from))]
 pub(crate) fn shape_failure(problem: &Problem, states: &[CertState]) -> Option<u32>
     requires { length states.now < 4294967295 }
     ensures { result ≡ shape_failure problem.now states.now }
@@ -97,39 +96,25 @@ fn is_final_below(problem: &Problem, value: u64, state: &CertState) -> bool
     state.stage() == problem.len() && has_pair_below(problem, value, state.pairs())
 }
 
-#[tactic(auto, unfolding(cps_theory::specs::FirstFound::element_from))]
 fn first_final_below(problem: &Problem, value: u64, states: &[CertState]) -> Option<u32>
     requires { length states.now < 4294967295 }
     ensures { result ≡ element_from (is_final_below problem.now value) 1 states.now }
 {
-    let mut rest = states;
-    let mut number: u32 = 1;
-    while let [state, after @ ..] = rest {
-        if is_final_below(problem, value, state) {
-            return Some(number);
-        }
-        rest = after;
-        number += 1;
-    }
-    None
+    states
+        .iter()
+        .position(|state| is_final_below(problem, value, state))
+        .map(|at| at as u32 + 1)
 }
 
-#[tactic(auto, unfolding(cps_theory::specs::FirstFound::element_from))]
 fn first_final(problem: &Problem, states: &[CertState]) -> Option<u32>
     requires { length states.now < 4294967295 }
     ensures { result ≡ element_from (is_final problem.now) 1 states.now }
 {
     let n = problem.len();
-    let mut rest = states;
-    let mut number: u32 = 1;
-    while let [state, after @ ..] = rest {
-        if state.stage() == n {
-            return Some(number);
-        }
-        rest = after;
-        number += 1;
-    }
-    None
+    states
+        .iter()
+        .position(|state| state.stage() == n)
+        .map(|at| at as u32 + 1)
 }
 
 // The first state that contradicts the claim; with no flight the start is one of the last stage.
