@@ -85,9 +85,7 @@ pub(crate) fn shape_failure(problem: &Problem, states: &[CertState]) -> Option<u
 fn has_pair_below(problem: &Problem, value: u64, pairs: &[(u32, u32)]) -> bool
     ensures { result ≡ list_any (λ q. nat_lt (value_at problem.now q) value) pairs.now }
 {
-    pairs
-        .iter()
-        .any(|(second, cost)| objective_of(problem, *second, u64::from(*cost)) < value)
+    pairs.iter().any(|(second, cost)| objective_of(problem, *second, u64::from(*cost)) < value)
 }
 
 fn is_final_below(problem: &Problem, value: u64, state: &CertState) -> bool
