@@ -5,6 +5,8 @@ pub mod Digits
 pub mod Order
 pub mod Pairs
 pub mod Ranks
+pub mod FoundRanks
+pub mod FoundNumbers
 pub mod Shapes
 pub mod Sound
 pub mod PermitTests

@@ -113,14 +113,9 @@ fn misses_any(
     requires pairs { list_all is_pair pairs.now ≡ true }
     ensures { result ≡ list_any (is_missed problem.now states.now (seen node.now) rank) pairs.now }
 {
-    let mut rest = pairs;
-    while let [pair, after @ ..] = rest {
-        if is_missed(problem, states, node, rank, *pair) {
-            return true;
-        }
-        rest = after;
-    }
-    false
+    pairs
+        .iter()
+        .any(|pair| is_missed(problem, states, node, rank, *pair))
 }
 
 fn misses(
@@ -140,7 +135,6 @@ fn misses(
     is_permitted(problem, node, rank) && misses_any(problem, states, node, rank, pairs)
 }
 
-#[tactic(auto, unfolding(cps_theory::specs::CertificateClosure::first_missed))]
 fn first_missed(
     problem: &Problem,
     states: &[CertState],
@@ -153,13 +147,7 @@ fn first_missed(
     requires pairs { list_all is_pair pairs.now ≡ true }
     ensures { result ≡ first_missed problem.now states.now (seen node.now) pairs.now }
 {
-    let end = problem.len() + 1;
-    for rank in 1..end {
-        if misses(problem, states, node, rank, pairs) {
-            return Some(rank);
-        }
-    }
-    None
+    (1..problem.len() + 1).find(|rank| misses(problem, states, node, *rank, pairs))
 }
 
 // The first rank by which a pair of the state has a successor that is not covered.

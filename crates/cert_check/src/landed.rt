@@ -105,13 +105,7 @@ pub(crate) fn are_not_flights(problem: &Problem, claim: Claim, landings: &[(Call
 fn first_not_once(problem: &Problem, landings: &[(Callsign, u32)]) -> Option<u8>
     ensures { result ≡ first_from (is_not_once problem.now landings.now) 1 (count problem.now) }
 {
-    let end = problem.len() + 1;
-    for rank in 1..end {
-        if is_not_once(problem, landings, rank) {
-            return Some(rank);
-        }
-    }
-    None
+    (1..problem.len() + 1).find(|rank| is_not_once(problem, landings, *rank))
 }
 
 // The least rank whose second is not open.
@@ -119,13 +113,7 @@ pub(crate) fn first_shut(problem: &Problem, landings: &[(Callsign, u32)]) -> Opt
     requires { AreLandings landings.now }
     ensures { result ≡ first_from (is_shut problem.now landings.now) 1 (count problem.now) }
 {
-    let end = problem.len() + 1;
-    for rank in 1..end {
-        if is_shut(problem, landings, rank) {
-            return Some(rank);
-        }
-    }
-    None
+    (1..problem.len() + 1).find(|rank| is_shut(problem, landings, *rank))
 }
 
 // The least rank that is too early.
@@ -133,13 +121,7 @@ pub(crate) fn first_early(problem: &Problem, landings: &[(Callsign, u32)]) -> Op
     requires { AreLandings landings.now }
     ensures { result ≡ first_from (is_early problem.now landings.now) 1 (count problem.now) }
 {
-    let end = problem.len() + 1;
-    for rank in 1..end {
-        if is_early(problem, landings, rank) {
-            return Some(rank);
-        }
-    }
-    None
+    (1..problem.len() + 1).find(|rank| is_early(problem, landings, *rank))
 }
 
 // The least rank too far from its place.
@@ -147,13 +129,7 @@ pub(crate) fn first_shifted(problem: &Problem, landings: &[(Callsign, u32)]) -> 
     requires { AreLandings landings.now }
     ensures { result ≡ first_from (is_shifted problem.now landings.now) 1 (count problem.now) }
 {
-    let end = problem.len() + 1;
-    for rank in 1..end {
-        if is_shifted(problem, landings, rank) {
-            return Some(rank);
-        }
-    }
-    None
+    (1..problem.len() + 1).find(|rank| is_shifted(problem, landings, *rank))
 }
 
 fn first_too_close(problem: &Problem, landings: &[(Callsign, u32)], rank: u8) -> Option<u8>
@@ -161,13 +137,7 @@ fn first_too_close(problem: &Problem, landings: &[(Callsign, u32)], rank: u8) ->
     requires rank { (1 ≤ rank) × (rank ≤ count problem.now) }
     ensures { result ≡ first_too_close problem.now landings.now rank }
 {
-    let end = problem.len() + 1;
-    for other in 1..end {
-        if are_too_close(problem, landings, rank, other) {
-            return Some(other);
-        }
-    }
-    None
+    (1..problem.len() + 1).find(|other| are_too_close(problem, landings, rank, *other))
 }
 
 // The first two ranks, the lower one first, that land too close to one another.
@@ -190,13 +160,7 @@ fn first_out_of_order(problem: &Problem, landings: &[(Callsign, u32)], rank: u8)
     requires rank { (1 ≤ rank) × (rank ≤ count problem.now) }
     ensures { result ≡ first_out_of_order problem.now landings.now rank }
 {
-    let end = problem.len() + 1;
-    for other in 1..end {
-        if are_out_of_order(problem, landings, rank, other) {
-            return Some(other);
-        }
-    }
-    None
+    (1..problem.len() + 1).find(|other| are_out_of_order(problem, landings, rank, *other))
 }
 
 // The first two ranks of which the one must precede the other and does not.

@@ -26,13 +26,7 @@ fn missing_predecessor(problem: &Problem, node: &Node, rank: u8) -> Option<u8>
     ensures { result ≡ first_from (is_missing_predecessor (rules_of problem.now) (seen node.now)
         rank) 1 (count problem.now) }
 {
-    let end = problem.len() + 1;
-    for other in 1..end {
-        if is_missing_predecessor(problem, node, rank, other) {
-            return Some(other);
-        }
-    }
-    None
+    (1..problem.len() + 1).find(|other| is_missing_predecessor(problem, node, rank, *other))
 }
 
 // After this rank, the rank that no later place could take is placed.

@@ -32,13 +32,7 @@ fn wrong_digit(k: u8, n: u8, node: &Node) -> Option<u8>
     requires stage { node.now.stage ≤ 60 }
     ensures { result ≡ first_from (is_wrong_digit k n (seen node.now)) 1 (2 * k) }
 {
-    let end = 2 * k + 1;
-    for j in 1..end {
-        if is_wrong_digit(k, n, node, j) {
-            return Some(j);
-        }
-    }
-    None
+    (1..2 * k + 1).find(|j| is_wrong_digit(k, n, node, *j))
 }
 
 // How many digits are 1.
@@ -78,34 +72,20 @@ fn is_misshapen(problem: &Problem, state: &CertState) -> bool
 }
 
 // The first state without the right shape.
-#[tactic(auto, unfolding(cps_theory::specs::FirstFound::element_from))]
 pub(crate) fn shape_failure(problem: &Problem, states: &[CertState]) -> Option<u32>
     requires { length states.now < 4294967295 }
     ensures { result ≡ shape_failure problem.now states.now }
 {
-    let mut rest = states;
-    let mut number: u32 = 1;
-    while let [state, after @ ..] = rest {
-        if is_misshapen(problem, state) {
-            return Some(number);
-        }
-        rest = after;
-        number += 1;
-    }
-    None
+    states
+        .iter()
+        .position(|state| is_misshapen(problem, state))
+        .map(|at| at as u32 + 1)
 }
 
 fn has_pair_below(problem: &Problem, value: u64, pairs: &[(u32, u32)]) -> bool
     ensures { result ≡ list_any (λ q. nat_lt (value_at problem.now q) value) pairs.now }
 {
-    let mut rest = pairs;
-    while let [(second, cost), after @ ..] = rest {
-        if objective_of(problem, *second, u64::from(*cost)) < value {
-            return true;
-        }
-        rest = after;
-    }
-    false
+    pairs.iter().any(|(second, cost)| objective_of(problem, *second, u64::from(*cost)) < value)
 }
 
 fn is_final_below(problem: &Problem, value: u64, state: &CertState) -> bool
@@ -114,39 +94,25 @@ fn is_final_below(problem: &Problem, value: u64, state: &CertState) -> bool
     state.stage() == problem.len() && has_pair_below(problem, value, state.pairs())
 }
 
-#[tactic(auto, unfolding(cps_theory::specs::FirstFound::element_from))]
 fn first_final_below(problem: &Problem, value: u64, states: &[CertState]) -> Option<u32>
     requires { length states.now < 4294967295 }
     ensures { result ≡ element_from (is_final_below problem.now value) 1 states.now }
 {
-    let mut rest = states;
-    let mut number: u32 = 1;
-    while let [state, after @ ..] = rest {
-        if is_final_below(problem, value, state) {
-            return Some(number);
-        }
-        rest = after;
-        number += 1;
-    }
-    None
+    states
+        .iter()
+        .position(|state| is_final_below(problem, value, state))
+        .map(|at| at as u32 + 1)
 }
 
-#[tactic(auto, unfolding(cps_theory::specs::FirstFound::element_from))]
 fn first_final(problem: &Problem, states: &[CertState]) -> Option<u32>
     requires { length states.now < 4294967295 }
     ensures { result ≡ element_from (is_final problem.now) 1 states.now }
 {
     let n = problem.len();
-    let mut rest = states;
-    let mut number: u32 = 1;
-    while let [state, after @ ..] = rest {
-        if state.stage() == n {
-            return Some(number);
-        }
-        rest = after;
-        number += 1;
-    }
-    None
+    states
+        .iter()
+        .position(|state| state.stage() == n)
+        .map(|at| at as u32 + 1)
 }
 
 // The first state that contradicts the claim; with no flight the start is one of the last stage.

@@ -1,9 +1,11 @@
--- The next does not pass the test either.
-use Rattle.std.proofs.Common.{◌∙◌, sym, arith}
+use Rattle.std.proofs.Common.{rules, tests, arith}
+use Rattle.cert_check.specs.Landings.{count}
 use Rattle.cert_check.specs.States.{misses}
 use Rattle.cert_check.specs.Seen.{seen}
-use Rattle.cps_theory.specs.laws.FirstFound.{first_next}
+use Rattle.cps_theory.specs.CertificateClosure.{first_missed}
+use Rattle.cert_check.proofs.FoundRanks.{found_in_range}
 use Rattle.cert_check.proofs.closure.first_missed.Goals as goal
 
-pub loop-rank-preserved : goal.loop-rank-preserved
-loop-rank-preserved c = sym (first_next (misses c.args.problem.now c.args.states.now (seen c.args.node.now) c.args.pairs.now) c.loop-rank.rank _ (omega arith) (sym c.misses.ensures ∙ c.if-misses.false)) ∙ c.loop-rank.invariant
+pub returns : goal.returns
+unfolding first_missed
+returns c = found_in_range (misses c.args.problem.now c.args.states.now (seen c.args.node.now) c.args.pairs.now) (count c.args.problem.now) _ _ _ _ (omega arith) c.find.ensures.ran (λ x b q k. search (rules, tests))

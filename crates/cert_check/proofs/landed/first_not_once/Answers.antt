@@ -1,8 +1,7 @@
--- The next does not pass the test either.
-use Rattle.std.proofs.Common.{◌∙◌, sym, arith}
-use Rattle.cert_check.specs.Landings.{is_not_once}
-use Rattle.cps_theory.specs.laws.FirstFound.{first_next}
+use Rattle.std.proofs.Common.{rules, tests, arith}
+use Rattle.cert_check.specs.Landings.{count, is_not_once}
+use Rattle.cert_check.proofs.FoundRanks.{found_in_range}
 use Rattle.cert_check.proofs.landed.first_not_once.Goals as goal
 
-pub loop-rank-preserved : goal.loop-rank-preserved
-loop-rank-preserved c = sym (first_next (is_not_once c.args.problem.now c.args.landings.now) c.loop-rank.rank _ (omega arith) (sym c.is_not_once.ensures ∙ c.if-is_not_once.false)) ∙ c.loop-rank.invariant
+pub returns : goal.returns
+returns c = found_in_range (is_not_once c.args.problem.now c.args.landings.now) (count c.args.problem.now) _ _ _ _ (omega arith) c.find.ensures.ran (λ x b q k. search (rules, tests))

@@ -1,11 +1,7 @@
--- The next does not pass the test either.
-use Rattle.std.proofs.Common.{◌∙◌, sym, arith}
-use Rattle.cert_check.specs.Landings.{is_shifted}
-use Rattle.cps_theory.specs.laws.FirstFound.{first_here, first_next}
+use Rattle.std.proofs.Common.{rules, tests, arith}
+use Rattle.cert_check.specs.Landings.{count, is_shifted}
+use Rattle.cert_check.proofs.FoundRanks.{found_in_range}
 use Rattle.cert_check.proofs.landed.first_shifted.Goals as goal
 
-pub loop-rank-preserved : goal.loop-rank-preserved
-loop-rank-preserved c = sym (first_next (is_shifted c.args.problem.now c.args.landings.now) c.loop-rank.rank _ (omega arith) (sym c.is_shifted.ensures ∙ c.if-is_shifted.false)) ∙ c.loop-rank.invariant
-
-pub returns-then-is_shifted : goal.returns-then-is_shifted
-returns-then-is_shifted c = sym (sym c.loop-rank.invariant ∙ first_here (is_shifted c.args.problem.now c.args.landings.now) c.loop-rank.rank _ (omega arith) (sym c.is_shifted.ensures ∙ c.if-is_shifted.true))
+pub returns : goal.returns
+returns c = found_in_range (is_shifted c.args.problem.now c.args.landings.now) (count c.args.problem.now) _ _ _ _ (omega arith) c.find.ensures.ran (λ x b q k. search (rules, tests))
