@@ -1,12 +1,13 @@
 -- One step of a look through a list, for what stands first in it.
-use Rattle.std.proofs.Common.{◌≡◌, ℕ, zero, suc, ◌+◌, ◌<◌, ◌≤◌, Bool, true, false, cond, take, subst, arith, List, [], ◌∷◌, ◌++◌, length, get_or, map, drop, Option, Some, None, refl, sym, ap, ◌∙◌, append_assoc}
-use Rattle.std.specs.Prelude.{slice_get, find, filter_map}
-use Rattle.std.specs.List.{cons_option, list_any}
+use Rattle.std.proofs.Common.{◌≡◌, ℕ, zero, suc, ◌+◌, ◌<◌, ◌≤◌, Bool, true, false, not, cond, take, subst, arith, List, [], ◌∷◌, ◌++◌, length, get_or, map, drop, Option, Some, None, refl, sym, ap, ◌∙◌, append_assoc}
+use Rattle.std.specs.Prelude.{slice_get, find, filter_map, position, option_map}
+use Rattle.std.specs.List.{cons_option, list_any, position_from}
 use Rattle.std.proofs.lemmas.Bool.{or_parts, or_from}
 use Rattle.std.specs.Option.{option_or}
 use Rattle.std.specs.Str.{bytes_eq}
 use Rattle.std.proofs.lemmas.List.{drop_more, drop_all}
 use Rattle.std.proofs.lemmas.Option.{slice_get_within, get_or_from_slice_get}
+use Rattle.std.proofs.lemmas.Iterator.Adapters.{position_from-zero}
 use Rattle.landing_rules.specs.Flights.{Callsign}
 use Rattle.landing_rules.specs.Events.{look_up}
 use Rattle.situations.specs.declared.opening_refusal.OpeningFault.{OpeningFault}
@@ -40,6 +41,20 @@ module _ {X : Type 0} (fault_at : ℕ → X → Option OpeningFault) (xs : List 
 
   pub first_end : (p i : ℕ) (whole : Option OpeningFault) → length xs ≤ i → first_from fault_at p (drop i xs) ≡ whole → None ≡ whole
   first_end p i whole le h = ap (first_from fault_at p) (sym (drop_all i xs le)) ∙ h
+
+-- the first element that fails its test, where the first one is at place n, gives the first fault
+module _ {X : Type 0} (ok : X → Bool) (fault : ℕ → OpeningFault) where
+  from_place : (n k : ℕ) (xs : List X) → option_map (λ i. fault (i + n)) (position_from (λ x. not (ok x)) k xs) ≡ first_from (λ i x. unless (ok x) (fault i)) (k + n) xs
+  from_place n k [] = refl
+  from_place n k (x ∷ xs) = go (ok x) (from_place n (k + 1) xs)
+    where
+      go : (b : Bool) → option_map (λ i. fault (i + n)) (position_from (λ y. not (ok y)) (k + 1) xs) ≡ first_from (λ i y. unless (ok y) (fault i)) (k + 1 + n) xs →
+          option_map (λ i. fault (i + n)) (cond (not b) (Some k) (position_from (λ y. not (ok y)) (k + 1) xs)) ≡ option_or (unless b (fault (k + n))) (first_from (λ i y. unless (ok y) (fault i)) (k + n + 1) xs)
+      go true ih = ih ∙ ap (λ m. first_from (λ i y. unless (ok y) (fault i)) m xs) (omega arith)
+      go false ih = refl
+
+  pub first_place : (n : ℕ) (xs : List X) (at : Option ℕ) → at ≡ position (λ x. not (ok x)) xs → option_map (λ i. fault (i + n)) at ≡ first_from (λ i x. unless (ok x) (fault i)) n xs
+  first_place n xs at e = ap (option_map (λ i. fault (i + n))) (e ∙ position_from-zero (λ x. not (ok x)) xs) ∙ from_place n 0 xs ∙ ap (λ m. first_from (λ i x. unless (ok x) (fault i)) m xs) (omega arith)
 
 -- ---- the first that passes a test
 

@@ -42,12 +42,9 @@ fn first_closed(closures: &Closures, all: &[Given]) -> Option<OpeningFault>
     requires { length all.now ≤ most_flights }
     ensures { result ≡ first_from (closed_at closures.now) 1 all.now }
 {
-    for i in 0..all.len() {
-        if !is_at_open_second(closures, &all[i]) {
-            return Some(OpeningFault::FrozenClosed((i + 1) as u16));
-        }
-    }
-    None
+    all.iter()
+        .position(|g| !is_at_open_second(closures, g))
+        .map(|i| OpeningFault::FrozenClosed((i + 1) as u16))
 }
 
 // Whether the second landing is at least the table's time after the first, where it is not before it.
@@ -74,12 +71,10 @@ fn clash_of(table: &PairTable, i: usize, first: &Given, others: &[Given]) -> Opt
     requires { i + length others.now ≤ most_flights }
     ensures { result ≡ first_from (clash_at table.now i first.now) (i + 1) others.now }
 {
-    for j in 0..others.len() {
-        if !are_apart(table, first, &others[j]) {
-            return Some(OpeningFault::FrozenSeparation(i as u16, (i + 1 + j) as u16));
-        }
-    }
-    None
+    others
+        .iter()
+        .position(|g| !are_apart(table, first, g))
+        .map(|j| OpeningFault::FrozenSeparation(i as u16, (j + i + 1) as u16))
 }
 
 // The first two landings, neighbours or not, that are not the table's time apart.
