@@ -108,40 +108,21 @@ fn lands_late(active: &[Active], second: u32, callsign: Callsign) -> bool
     active.iter().any(|a| is_late(a, callsign, second))
 }
 
-// The second at which it lands.
-fn second_of(given: &Given) -> u32
-    ensures { result ≡ given.now.second }
+// The flights it lists.
+fn listed(given: &Given) -> &[Callsign]
+    ensures { result.now ≡ given.now.flight.after }
 {
-    given.second
-}
-
-// How many flights it lists.
-fn count_listed(given: &Given) -> usize
-    ensures { result ≡ length given.now.flight.after }
-{
-    given.active.flight.after.len()
-}
-
-// The one at this place of its list, from 0.
-fn listed(given: &Given, i: usize) -> Callsign
-    requires { i < length given.now.flight.after }
-    ensures { slice_get given.now.flight.after i ≡ Some result }
-{
-    given.active.flight.after.at(i)
+    given.active.flight.after.names()
 }
 
 // The first of its list that does not land before it.
 fn late_listed(active: &[Active], given: &Given) -> Option<Callsign>
     ensures { result ≡ find (lands_late active.now given.now.second) given.now.flight.after }
 {
-    let second = second_of(given);
-    for i in 0..count_listed(given) {
-        let callsign = listed(given, i);
-        if lands_late(active, second, callsign) {
-            return Some(callsign);
-        }
-    }
-    None
+    listed(given)
+        .iter()
+        .find(|name| lands_late(active, given.second, **name))
+        .copied()
 }
 
 // The first landing that is not behind each active flight of its list.
