@@ -50,6 +50,14 @@ impl FrozenList {
     {
         self.entries[i]
     }
+
+    /// The entries, in their order.
+    pub fn entries(&self) -> &[FrozenLanding]
+        ensures { result.now ≡ self.now }
+    {
+        self.entries.as_slice()
+    }
+
     // The same list.
     pub(crate) fn copy(&self) -> Result<FrozenList, AllocError>
         ensures { IfOk result (λ copied. copied ≡ self.now) }

@@ -50,6 +50,14 @@ impl PassedList {
     {
         self.entries[i]
     }
+
+    /// The entries, in their order.
+    pub fn entries(&self) -> &[PassedCount]
+        ensures { result.now ≡ self.now }
+    {
+        self.entries.as_slice()
+    }
+
     // The same list.
     pub(crate) fn copy(&self) -> Result<PassedList, AllocError>
         ensures { IfOk result (λ copied. copied ≡ self.now) }

@@ -52,8 +52,8 @@ impl After {
         self.names[..self.len].iter().any(|n| name == *n)
     }
 
-    // The callsigns, in their order.
-    pub(crate) fn names(&self) -> &[Callsign]
+    /// The callsigns, in their order.
+    pub fn names(&self) -> &[Callsign]
         ensures value { result.now ≡ self.now }
         ensures few { length self.now ≤ 4 }
     {

@@ -113,8 +113,8 @@ impl Closures {
         self.pairs()[i]
     }
 
-    // The pairs, in order.
-    pub(crate) fn pairs(&self) -> &[(u32, u32)]
+    /// The closures, in order, each as its first second and its end.
+    pub fn pairs(&self) -> &[(u32, u32)]
         ensures value { result.now ≡ self.now }
         ensures few { length self.now ≤ most_closures }
         ensures closures { All IsClosure self.now }

@@ -1,12 +1,13 @@
 -- One step of a look through a list, for what stands first in it.
-use Rattle.std.proofs.Common.{◌≡◌, ℕ, zero, suc, ◌+◌, ◌<◌, ◌≤◌, Bool, true, false, cond, take, subst, arith, List, [], ◌∷◌, ◌++◌, length, get_or, map, drop, Option, Some, None, refl, sym, ap, ◌∙◌, append_assoc}
-use Rattle.std.specs.Prelude.{slice_get, find, filter_map}
-use Rattle.std.specs.List.{cons_option, list_any}
+use Rattle.std.proofs.Common.{◌≡◌, ℕ, zero, suc, ◌+◌, ◌<◌, ◌≤◌, Bool, true, false, not, cond, take, subst, arith, List, [], ◌∷◌, ◌++◌, length, get_or, map, drop, Option, Some, None, refl, sym, ap, ◌∙◌, append_assoc}
+use Rattle.std.specs.Prelude.{slice_get, find, filter_map, position, option_map}
+use Rattle.std.specs.List.{cons_option, list_any, position_from}
 use Rattle.std.proofs.lemmas.Bool.{or_parts, or_from}
 use Rattle.std.specs.Option.{option_or}
 use Rattle.std.specs.Str.{bytes_eq}
 use Rattle.std.proofs.lemmas.List.{drop_more, drop_all}
 use Rattle.std.proofs.lemmas.Option.{slice_get_within, get_or_from_slice_get}
+use Rattle.std.proofs.lemmas.Iterator.Adapters.{position_from-zero}
 use Rattle.landing_rules.specs.Flights.{Callsign}
 use Rattle.landing_rules.specs.Events.{look_up}
 use Rattle.situations.specs.declared.opening_refusal.OpeningFault.{OpeningFault}
@@ -22,12 +23,6 @@ from_index xs i x lt e = drop_more xs i x lt ∙ ap (λ y. y ∷ drop (i + 1) xs
 
 -- ---- the first fault
 
-pub fails : (b : Bool) (f : OpeningFault) → b ≡ false → unless b f ≡ Some f
-fails b f e = ap (λ z. unless z f) e
-
-pub passes : (b : Bool) (f : OpeningFault) → b ≡ true → unless b f ≡ None
-passes b f e = ap (λ z. unless z f) e
-
 module _ {X : Type 0} (fault_at : ℕ → X → Option OpeningFault) (xs : List X) where
   pub first_step : (p i : ℕ) (x : X) → drop i xs ≡ x ∷ drop (i + 1) xs → first_from fault_at p (drop i xs) ≡ option_or (fault_at p x) (first_from fault_at (p + 1) (drop (i + 1) xs))
   first_step p i x here = ap (first_from fault_at p) here
@@ -41,38 +36,30 @@ module _ {X : Type 0} (fault_at : ℕ → X → Option OpeningFault) (xs : List 
   pub first_end : (p i : ℕ) (whole : Option OpeningFault) → length xs ≤ i → first_from fault_at p (drop i xs) ≡ whole → None ≡ whole
   first_end p i whole le h = ap (first_from fault_at p) (sym (drop_all i xs le)) ∙ h
 
--- ---- the first that passes a test
+-- the first element that fails its test, where the first one is at place n, gives the first fault
+module _ {X : Type 0} (ok : X → Bool) (fault : ℕ → OpeningFault) where
+  from_place : (n k : ℕ) (xs : List X) → option_map (λ i. fault (i + n)) (position_from (λ x. not (ok x)) k xs) ≡ first_from (λ i x. unless (ok x) (fault i)) (k + n) xs
+  from_place n k [] = refl
+  from_place n k (x ∷ xs) = go (ok x) (from_place n (k + 1) xs)
+    where
+      go : (b : Bool) → option_map (λ i. fault (i + n)) (position_from (λ y. not (ok y)) (k + 1) xs) ≡ first_from (λ i y. unless (ok y) (fault i)) (k + 1 + n) xs →
+          option_map (λ i. fault (i + n)) (cond (not b) (Some k) (position_from (λ y. not (ok y)) (k + 1) xs)) ≡ option_or (unless b (fault (k + n))) (first_from (λ i y. unless (ok y) (fault i)) (k + n + 1) xs)
+      go true ih = ih ∙ ap (λ m. first_from (λ i y. unless (ok y) (fault i)) m xs) (omega arith)
+      go false ih = refl
 
-module _ {X : Type 0} (p : X → Bool) (xs : List X) where
-  find_step : (i : ℕ) (x : X) (b : Bool) → drop i xs ≡ x ∷ drop (i + 1) xs → p x ≡ b → find p (drop i xs) ≡ cond b (Some x) (find p (drop (i + 1) xs))
-  find_step i x b here e = ap (find p) here ∙ ap (λ z. cond z (Some x) (find p (drop (i + 1) xs))) e
-
-  pub find_stop : (i : ℕ) (x : X) (whole : Option X) → drop i xs ≡ x ∷ drop (i + 1) xs → p x ≡ true → find p (drop i xs) ≡ whole → Some x ≡ whole
-  find_stop i x whole here e h = sym (find_step i x true here e) ∙ h
-
-  pub find_next : (i : ℕ) (x : X) (whole : Option X) → drop i xs ≡ x ∷ drop (i + 1) xs → p x ≡ false → find p (drop i xs) ≡ whole → find p (drop (i + 1) xs) ≡ whole
-  find_next i x whole here e h = sym (find_step i x false here e) ∙ h
-
-  pub find_end : (i : ℕ) (whole : Option X) → length xs ≤ i → find p (drop i xs) ≡ whole → None ≡ whole
-  find_end i whole le h = ap (find p) (sym (drop_all i xs le)) ∙ h
+  pub first_place : (n : ℕ) (xs : List X) (at : Option ℕ) → at ≡ position (λ x. not (ok x)) xs → option_map (λ i. fault (i + n)) at ≡ first_from (λ i x. unless (ok x) (fault i)) n xs
+  first_place n xs at e = ap (option_map (λ i. fault (i + n))) (e ∙ position_from-zero (λ x. not (ok x)) xs) ∙ from_place n 0 xs ∙ ap (λ m. first_from (λ i x. unless (ok x) (fault i)) m xs) (omega arith)
 
 -- ---- an entry by its callsign
 
-module _ {X : Type 0} (seen : X → Callsign × ℕ) (c : Callsign) (xs : List X) where
-  abbrev left : ℕ → Option ℕ
-  left i = look_up c (map seen (drop i xs))
-
-  look_step : (i : ℕ) (x : X) (b : Bool) → drop i xs ≡ x ∷ drop (i + 1) xs → bytes_eq (seen x).0 c ≡ b → left i ≡ cond b (Some (seen x).1) (left (i + 1))
-  look_step i x b here e = ap (λ l. look_up c (map seen l)) here ∙ ap (λ z. cond z (Some (seen x).1) (left (i + 1))) e
-
-  pub look_stop : (i : ℕ) (x : X) (whole : Option ℕ) → drop i xs ≡ x ∷ drop (i + 1) xs → bytes_eq (seen x).0 c ≡ true → left i ≡ whole → Some (seen x).1 ≡ whole
-  look_stop i x whole here e h = sym (look_step i x true here e) ∙ h
-
-  pub look_next : (i : ℕ) (x : X) (whole : Option ℕ) → drop i xs ≡ x ∷ drop (i + 1) xs → bytes_eq (seen x).0 c ≡ false → left i ≡ whole → left (i + 1) ≡ whole
-  look_next i x whole here e h = sym (look_step i x false here e) ∙ h
-
-  pub look_end : (i : ℕ) (whole : Option ℕ) → length xs ≤ i → left i ≡ whole → None ≡ whole
-  look_end i whole le h = ap (λ l. look_up c (map seen l)) (sym (drop_all i xs le)) ∙ h
+pub looked_up : {X : Type 0} (name : X → Callsign) (number : X → ℕ) (c : Callsign) (xs : List X) → option_map number (find (λ x. bytes_eq (name x) c) xs) ≡ look_up c (map (λ x. (name x, number x)) xs)
+looked_up name number c [] = refl
+looked_up name number c (x ∷ xs) = go (bytes_eq (name x) c) (looked_up name number c xs)
+  where
+    go : (b : Bool) → option_map number (find (λ y. bytes_eq (name y) c) xs) ≡ look_up c (map (λ y. (name y, number y)) xs) →
+        option_map number (cond b (Some x) (find (λ y. bytes_eq (name y) c) xs)) ≡ cond b (Some (number x)) (look_up c (map (λ y. (name y, number y)) xs))
+    go true ih = refl
+    go false ih = ih
 
 -- ---- the landings that entries give
 
@@ -93,15 +80,3 @@ few_given {Y = Y} h (x ∷ xs) = go (h x) (few_given h xs)
     go : (o : Option Y) → length (filter_map h xs) ≤ length xs → length (cons_option o (filter_map h xs)) ≤ suc (length xs)
     go None le = omega arith
     go (Some y) le = omega arith
-
--- ---- none so far
-
-none_suc : {X : Type 0} (p : X → Bool) (xs : List X) (i : ℕ) (x : X) → slice_get xs i ≡ Some x → p x ≡ false → list_any p (take i xs) ≡ false → list_any p (take (suc i) xs) ≡ false
-none_suc p [] i x e n h = let w : None ≡ Some x = e in absurd (cc)
-none_suc p (y ∷ ys) zero x e n h = let w : y ≡ x = cc in or_from (p y) false (ap p w ∙ n) refl
-none_suc p (y ∷ ys) (suc i) x e n h =
-    let both = or_parts (p y) (list_any p (take i ys)) h in
-    or_from (p y) (list_any p (take (suc i) ys)) both.0 (none_suc p ys i x e n both.1)
-
-pub none_more : {X : Type 0} (p : X → Bool) (xs : List X) (i : ℕ) (x : X) → slice_get xs i ≡ Some x → p x ≡ false → list_any p (take i xs) ≡ false → list_any p (take (i + 1) xs) ≡ false
-none_more p xs i x e n h = let m : suc i ≡ i + 1 = omega arith in subst (λ j. list_any p (take j xs) ≡ false) m (none_suc p xs i x e n h)

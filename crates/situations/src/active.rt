@@ -49,12 +49,7 @@ impl Clone for Active {
 fn lists(flight: &Flight, callsign: Callsign) -> bool
     ensures { result ≡ lists (flight_of flight.now) callsign }
 {
-    for i in 0..flight.after.len() {
-        if flight.after.at(i) == callsign {
-            return true;
-        }
-    }
-    false
+    flight.after.names().iter().any(|name| *name == callsign)
 }
 
 impl Active {

@@ -42,12 +42,9 @@ fn first_closed(closures: &Closures, all: &[Given]) -> Option<OpeningFault>
     requires { length all.now ≤ most_flights }
     ensures { result ≡ first_from (closed_at closures.now) 1 all.now }
 {
-    for i in 0..all.len() {
-        if !is_at_open_second(closures, &all[i]) {
-            return Some(OpeningFault::FrozenClosed((i + 1) as u16));
-        }
-    }
-    None
+    all.iter()
+        .position(|g| !is_at_open_second(closures, g))
+        .map(|i| OpeningFault::FrozenClosed((i + 1) as u16))
 }
 
 // Whether the second landing is at least the table's time after the first, where it is not before it.
@@ -74,12 +71,10 @@ fn clash_of(table: &PairTable, i: usize, first: &Given, others: &[Given]) -> Opt
     requires { i + length others.now ≤ most_flights }
     ensures { result ≡ first_from (clash_at table.now i first.now) (i + 1) others.now }
 {
-    for j in 0..others.len() {
-        if !are_apart(table, first, &others[j]) {
-            return Some(OpeningFault::FrozenSeparation(i as u16, (i + 1 + j) as u16));
-        }
-    }
-    None
+    others
+        .iter()
+        .position(|g| !are_apart(table, first, g))
+        .map(|j| OpeningFault::FrozenSeparation(i as u16, (j + i + 1) as u16))
 }
 
 // The first two landings, neighbours or not, that are not the table's time apart.
@@ -113,40 +108,21 @@ fn lands_late(active: &[Active], second: u32, callsign: Callsign) -> bool
     active.iter().any(|a| is_late(a, callsign, second))
 }
 
-// The second at which it lands.
-fn second_of(given: &Given) -> u32
-    ensures { result ≡ given.now.second }
+// The flights it lists.
+fn listed(given: &Given) -> &[Callsign]
+    ensures { result.now ≡ given.now.flight.after }
 {
-    given.second
-}
-
-// How many flights it lists.
-fn count_listed(given: &Given) -> usize
-    ensures { result ≡ length given.now.flight.after }
-{
-    given.active.flight.after.len()
-}
-
-// The one at this place of its list, from 0.
-fn listed(given: &Given, i: usize) -> Callsign
-    requires { i < length given.now.flight.after }
-    ensures { slice_get given.now.flight.after i ≡ Some result }
-{
-    given.active.flight.after.at(i)
+    given.active.flight.after.names()
 }
 
 // The first of its list that does not land before it.
 fn late_listed(active: &[Active], given: &Given) -> Option<Callsign>
     ensures { result ≡ find (lands_late active.now given.now.second) given.now.flight.after }
 {
-    let second = second_of(given);
-    for i in 0..count_listed(given) {
-        let callsign = listed(given, i);
-        if lands_late(active, second, callsign) {
-            return Some(callsign);
-        }
-    }
-    None
+    listed(given)
+        .iter()
+        .find(|name| lands_late(active, given.second, **name))
+        .copied()
 }
 
 // The first landing that is not behind each active flight of its list.

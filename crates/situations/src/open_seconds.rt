@@ -16,12 +16,7 @@ fn holds(closure: (u32, u32), second: u32) -> bool
 fn is_shut(closures: &Closures, second: u32) -> bool
     ensures { result ≡ list_any (is_shut second) closures.now }
 {
-    for i in 0..closures.len() {
-        if holds(closures.pair(i), second) {
-            return true;
-        }
-    }
-    false
+    closures.pairs().iter().any(|c| holds(*c, second))
 }
 
 // Whether the window holds the second.

@@ -37,13 +37,11 @@ pub enum OpeningFault {
 fn frozen_second(frozen: &FrozenList, callsign: Callsign) -> Option<u32>
     ensures { result ≡ look_up callsign (map (λ f. (f.callsign, f.second)) frozen.now) }
 {
-    for i in 0..frozen.len() {
-        let entry = frozen.at(i);
-        if entry.callsign == callsign {
-            return Some(entry.second);
-        }
-    }
-    None
+    frozen
+        .entries()
+        .iter()
+        .find(|f| f.callsign == callsign)
+        .map(|f| f.second)
 }
 
 // How many flights passed that of the callsign.
@@ -51,13 +49,11 @@ fn passed_count(passed: &PassedList, callsign: Callsign) -> u8
     ensures { result ≡ unwrap_or (look_up callsign (map (λ p. (p.callsign, p.count)) passed.now))
         0 }
 {
-    for i in 0..passed.len() {
-        let entry = passed.at(i);
-        if entry.callsign == callsign {
-            return entry.count;
-        }
-    }
-    0
+    passed
+        .entries()
+        .iter()
+        .find(|p| p.callsign == callsign)
+        .map_or(0, |p| p.count)
 }
 
 // The flight as it stands in the opening situation.
@@ -120,12 +116,11 @@ fn unknown_frozen(active: &[Active], frozen: &FrozenList) -> Option<OpeningFault
     requires { length frozen.now ≤ most_flights }
     ensures { result ≡ first_from (unknown_frozen_at active.now) 1 frozen.now }
 {
-    for i in 0..frozen.len() {
-        if !is_there(active, frozen.at(i).callsign) {
-            return Some(OpeningFault::UnknownFrozen((i + 1) as u16));
-        }
-    }
-    None
+    frozen
+        .entries()
+        .iter()
+        .position(|f| !is_there(active, f.callsign))
+        .map(|i| OpeningFault::UnknownFrozen((i + 1) as u16))
 }
 
 // The first entry of `passed` that names no waiting flight.
@@ -133,12 +128,11 @@ fn unknown_passed(active: &[Active], passed: &PassedList) -> Option<OpeningFault
     requires { length passed.now ≤ most_waiting }
     ensures { result ≡ first_from (unknown_passed_at active.now) 1 passed.now }
 {
-    for i in 0..passed.len() {
-        if !is_waiting_there(active, passed.at(i).callsign) {
-            return Some(OpeningFault::UnknownPassed((i + 1) as u8));
-        }
-    }
-    None
+    passed
+        .entries()
+        .iter()
+        .position(|p| !is_waiting_there(active, p.callsign))
+        .map(|i| OpeningFault::UnknownPassed((i + 1) as u8))
 }
 
 // How many flights wait.

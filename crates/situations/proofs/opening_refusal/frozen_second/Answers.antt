@@ -1,20 +1,13 @@
-use Rattle.std.proofs.Common.{ℕ, sym, ◌∙◌}
-use Rattle.landing_rules.specs.Flights.{Callsign}
+use Rattle.std.proofs.Common.{rules, tests, ap, ◌∙◌}
+use Rattle.std.specs.Prelude.{option_map}
+use Rattle.std.specs.Str.{bytes_eq}
+use Rattle.std.proofs.lemmas.Iterator.{YieldsList-from_slice}
+use Rattle.std.proofs.lemmas.Iterator.Search.{find_from_yields_List}
 use Rattle.aerodrome_file.specs.declared.frozen_list.FrozenLanding.{FrozenLanding}
-use Rattle.situations.proofs.Firsts.{from_get, look_stop, look_next}
+use Rattle.situations.proofs.Firsts.{looked_up}
 use Rattle.situations.proofs.opening_refusal.frozen_second.Goals as goal
 
-abbrev seen : FrozenLanding → Callsign × ℕ
-seen f = (f.callsign, f.second)
-
-pub returns-then-eq : goal.returns-then-eq
-returns-then-eq c =
-    let all = c.args.frozen.now in
-    let entry = c.at-entry.result in
-    look_stop seen c.args.callsign all c.loop-i.i entry _ (from_get all c.loop-i.i entry c.at-entry.ensures) (sym c.eq.ensures ∙ c.if-eq.true) c.loop-i.invariant
-
-pub loop-i-preserved : goal.loop-i-preserved
-loop-i-preserved c =
-    let all = c.args.frozen.now in
-    let entry = c.at-entry.result in
-    look_next seen c.args.callsign all c.loop-i.i entry _ (from_get all c.loop-i.i entry c.at-entry.ensures) (sym c.eq.ensures ∙ c.if-eq.false) c.loop-i.invariant
+pub returns : goal.returns
+returns c =
+    let found = find_from_yields_List (λ (f : FrozenLanding). bytes_eq f.callsign c.args.callsign) _ _ c.find.result c.find.ensures.ran (YieldsList-from_slice c.args.frozen.now (cc)) (λ x b q k. search (rules, tests)) in
+    search (rules) ∙ ap (option_map (λ (f : FrozenLanding). f.second)) found ∙ looked_up (λ (f : FrozenLanding). f.callsign) (λ (f : FrozenLanding). f.second) c.args.callsign c.args.frozen.now

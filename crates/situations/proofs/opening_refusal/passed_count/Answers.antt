@@ -1,21 +1,13 @@
-use Rattle.std.proofs.Common.{ℕ, sym, ap, ◌∙◌}
-use Rattle.std.specs.Prelude.{unwrap_or}
-use Rattle.landing_rules.specs.Flights.{Callsign}
+use Rattle.std.proofs.Common.{rules, tests, ap, ◌∙◌}
+use Rattle.std.specs.Prelude.{option_map, unwrap_or}
+use Rattle.std.specs.Str.{bytes_eq}
+use Rattle.std.proofs.lemmas.Iterator.{YieldsList-from_slice}
+use Rattle.std.proofs.lemmas.Iterator.Search.{find_from_yields_List}
 use Rattle.aerodrome_file.specs.declared.passed_list.PassedCount.{PassedCount}
-use Rattle.situations.proofs.Firsts.{from_get, look_stop, look_next}
+use Rattle.situations.proofs.Firsts.{looked_up}
 use Rattle.situations.proofs.opening_refusal.passed_count.Goals as goal
 
-abbrev seen : PassedCount → Callsign × ℕ
-seen p = (p.callsign, p.count)
-
-pub returns-then-eq : goal.returns-then-eq
-returns-then-eq c =
-    let all = c.args.passed.now in
-    let entry = c.at-entry.result in
-    ap (λ o. unwrap_or o 0) (look_stop seen c.args.callsign all c.loop-i.i entry _ (from_get all c.loop-i.i entry c.at-entry.ensures) (sym c.eq.ensures ∙ c.if-eq.true) c.loop-i.invariant)
-
-pub loop-i-preserved : goal.loop-i-preserved
-loop-i-preserved c =
-    let all = c.args.passed.now in
-    let entry = c.at-entry.result in
-    look_next seen c.args.callsign all c.loop-i.i entry _ (from_get all c.loop-i.i entry c.at-entry.ensures) (sym c.eq.ensures ∙ c.if-eq.false) c.loop-i.invariant
+pub returns : goal.returns
+returns c =
+    let found = find_from_yields_List (λ (p : PassedCount). bytes_eq p.callsign c.args.callsign) _ _ c.find.result c.find.ensures.ran (YieldsList-from_slice c.args.passed.now (cc)) (λ x b q k. search (rules, tests)) in
+    search (rules) ∙ ap (λ o. unwrap_or o 0) (ap (option_map (λ (p : PassedCount). p.count)) found ∙ looked_up (λ (p : PassedCount). p.callsign) (λ (p : PassedCount). p.count) c.args.callsign c.args.passed.now)

@@ -1,23 +1,13 @@
-use Rattle.std.proofs.Common.{◌+◌, sym, ◌∙◌}
+use Rattle.std.proofs.Common.{not, rules, tests, ◌∙◌}
 use Rattle.std.specs.List.{list_any}
 use Rattle.landing_rules.specs.Events.{named}
+use Rattle.std.proofs.lemmas.Iterator.{YieldsList-from_slice}
+use Rattle.std.proofs.lemmas.Iterator.Search.{position_from_yields_List}
+use Rattle.aerodrome_file.specs.declared.frozen_list.FrozenLanding.{FrozenLanding}
 use Rattle.situations.specs.declared.opening_refusal.OpeningFault.TheVariants as fault
-use Rattle.situations.specs.Refused.{unknown_frozen_at}
-use Rattle.situations.proofs.Firsts.{from_get, first_stop, first_next, fails, passes}
+use Rattle.situations.proofs.Firsts.{first_place}
 use Rattle.situations.proofs.opening_refusal.unknown_frozen.Goals as goal
 
-pub returns-then-not-is_there : goal.returns-then-not-is_there
-returns-then-not-is_there c =
-    let all = c.args.frozen.now in
-    let i = c.loop-i.i in
-    let entry = c.at.result in
-    let f = fault.UnknownFrozen (i + 1) in
-    first_stop (unknown_frozen_at c.args.active.now) all (i + 1) i entry f _ (from_get all i entry c.at.ensures) (fails (list_any (named entry.callsign) c.args.active.now) f (sym c.is_there.ensures ∙ c.if-not-is_there.true)) c.loop-i.invariant
-
-pub loop-i-preserved : goal.loop-i-preserved
-loop-i-preserved c =
-    let all = c.args.frozen.now in
-    let i = c.loop-i.i in
-    let entry = c.at.result in
-    let f = fault.UnknownFrozen (i + 1) in
-    first_next (unknown_frozen_at c.args.active.now) all (i + 1) i entry _ (from_get all i entry c.at.ensures) (passes (list_any (named entry.callsign) c.args.active.now) f (sym c.is_there.ensures ∙ c.if-not-is_there.false)) c.loop-i.invariant
+pub returns : goal.returns
+returns c =
+    search (rules) ∙ first_place (λ (e : FrozenLanding). list_any (named e.callsign) c.args.active.now) fault.UnknownFrozen 1 c.args.frozen.now c.position.result (position_from_yields_List (λ (e : FrozenLanding). not (list_any (named e.callsign) c.args.active.now)) _ _ c.position.result c.position.ensures.ran (YieldsList-from_slice c.args.frozen.now (cc)) (λ x b q k. search (rules, tests)))

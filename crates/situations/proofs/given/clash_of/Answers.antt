@@ -1,0 +1,11 @@
+use Rattle.std.proofs.Common.{◌+◌, not, rules, tests, ◌∙◌}
+use Rattle.std.proofs.lemmas.Iterator.{YieldsList-from_slice}
+use Rattle.std.proofs.lemmas.Iterator.Search.{position_from_yields_List}
+use Rattle.landing_rules.specs.Audit.{are_apart}
+use Rattle.situations.specs.declared.opening_refusal.OpeningFault.TheVariants as fault
+use Rattle.situations.proofs.Firsts.{first_place}
+use Rattle.situations.proofs.given.clash_of.Goals as goal
+
+pub returns : goal.returns
+returns c =
+    search (rules) ∙ first_place (are_apart c.args.table.now c.args.first.now) (fault.FrozenSeparation c.args.i) (c.args.i + 1) c.args.others.now c.position.result (position_from_yields_List (λ g. not (are_apart c.args.table.now c.args.first.now g)) _ _ c.position.result c.position.ensures.ran (YieldsList-from_slice c.args.others.now (cc)) (λ x b q k. search (rules, tests)))
