@@ -43,12 +43,9 @@ fn first_giving(
         × ((i : ℕ) → i < index → successor problem.now last (pair_at pairs.now i) rank
         ≡ Some wanted → ⊥)) }
 {
-    for i in 0..pairs.len() {
-        if gives(problem, last, pairs[i], rank, wanted) {
-            return Some(i);
-        }
-    }
-    None
+    pairs
+        .iter()
+        .position(|pair| gives(problem, last, *pair, rank, wanted))
 }
 
 /// The first place of a stage, and the first index of the list there, whose pair gives this pair to a window of the next
