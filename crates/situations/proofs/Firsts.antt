@@ -1,11 +1,10 @@
--- One step of a look through a list, for what stands first in it.
-use Rattle.std.proofs.Common.{◌≡◌, ℕ, zero, suc, ◌+◌, ◌<◌, ◌≤◌, Bool, true, false, not, cond, take, subst, arith, List, [], ◌∷◌, ◌++◌, length, get_or, map, drop, Option, Some, None, refl, sym, ap, ◌∙◌, append_assoc}
+-- What stands first in a list.
+use Rattle.std.proofs.Common.{◌≡◌, ℕ, suc, ◌+◌, ◌≤◌, Bool, true, false, not, cond, arith, List, [], ◌∷◌, ◌++◌, length, map, drop, Option, Some, None, refl, sym, ap, ◌∙◌, append_assoc}
 use Rattle.std.specs.Prelude.{slice_get, find, filter_map, position, option_map}
-use Rattle.std.specs.List.{cons_option, list_any, position_from}
-use Rattle.std.proofs.lemmas.Bool.{or_parts, or_from}
+use Rattle.std.specs.List.{cons_option, position_from}
 use Rattle.std.specs.Option.{option_or}
 use Rattle.std.specs.Str.{bytes_eq}
-use Rattle.std.proofs.lemmas.List.{drop_more, drop_all}
+use Rattle.std.proofs.lemmas.List.{drop_more}
 use Rattle.std.proofs.lemmas.Option.{slice_get_within, get_or_from_slice_get}
 use Rattle.std.proofs.lemmas.Iterator.Adapters.{position_from-zero}
 use Rattle.landing_rules.specs.Flights.{Callsign}
@@ -18,23 +17,7 @@ use Rattle.situations.specs.Refused.{unless, first_from}
 pub from_get : {X : Type 0} (xs : List X) (i : ℕ) (x : X) → slice_get xs i ≡ Some x → drop i xs ≡ x ∷ drop (i + 1) xs
 from_get xs i x e = drop_more xs i x (slice_get_within xs i x e) ∙ ap (λ y. y ∷ drop (i + 1) xs) (get_or_from_slice_get xs i x x e)
 
-pub from_index : {X : Type 0} (xs : List X) (i : ℕ) (x : X) → i < length xs → x ≡ get_or xs i x → drop i xs ≡ x ∷ drop (i + 1) xs
-from_index xs i x lt e = drop_more xs i x lt ∙ ap (λ y. y ∷ drop (i + 1) xs) (sym e)
-
 -- ---- the first fault
-
-module _ {X : Type 0} (fault_at : ℕ → X → Option OpeningFault) (xs : List X) where
-  pub first_step : (p i : ℕ) (x : X) → drop i xs ≡ x ∷ drop (i + 1) xs → first_from fault_at p (drop i xs) ≡ option_or (fault_at p x) (first_from fault_at (p + 1) (drop (i + 1) xs))
-  first_step p i x here = ap (first_from fault_at p) here
-
-  pub first_stop : (p i : ℕ) (x : X) (f : OpeningFault) (whole : Option OpeningFault) → drop i xs ≡ x ∷ drop (i + 1) xs → fault_at p x ≡ Some f → first_from fault_at p (drop i xs) ≡ whole → Some f ≡ whole
-  first_stop p i x f whole here e h = ap (λ o. option_or o (first_from fault_at (p + 1) (drop (i + 1) xs))) (sym e) ∙ sym (first_step p i x here) ∙ h
-
-  pub first_next : (p i : ℕ) (x : X) (whole : Option OpeningFault) → drop i xs ≡ x ∷ drop (i + 1) xs → fault_at p x ≡ None → first_from fault_at p (drop i xs) ≡ whole → first_from fault_at (p + 1) (drop (i + 1) xs) ≡ whole
-  first_next p i x whole here e h = ap (λ o. option_or o (first_from fault_at (p + 1) (drop (i + 1) xs))) (sym e) ∙ sym (first_step p i x here) ∙ h
-
-  pub first_end : (p i : ℕ) (whole : Option OpeningFault) → length xs ≤ i → first_from fault_at p (drop i xs) ≡ whole → None ≡ whole
-  first_end p i whole le h = ap (first_from fault_at p) (sym (drop_all i xs le)) ∙ h
 
 -- the first element that fails its test, where the first one is at place n, gives the first fault
 module _ {X : Type 0} (ok : X → Bool) (fault : ℕ → OpeningFault) where
