@@ -1,5 +1,5 @@
--- Lists of windows that are one, and the windows of the next stage.
-use Rattle.std.proofs.Common.{◌≡◌, ℕ, ◌+◌, ◌-◌, ◌*◌, ◌<◌, ◌≤◌, List, [], ◌∷◌, length, get_or, refl, arith, ◌∙◌, sym, ap, ap₂, inl, inr, subst, zero, suc}
+-- The windows of the next stage.
+use Rattle.std.proofs.Common.{◌≡◌, ℕ, ◌+◌, ◌-◌, ◌*◌, ◌<◌, ◌≤◌, List, [], ◌∷◌, length, arith, ◌∙◌, sym, ap, inl, subst, zero, suc}
 use Rattle.std.specs.Prelude.{ℤ, ◌↔◌, Contains}
 use Rattle.std.proofs.lemmas.Int.{ints}
 use Rattle.cps_nodes.specs.Windows.{IsWindow, Accepts, shifted}
@@ -9,30 +9,7 @@ use Rattle.landing_rules.specs.Problem.{Problem}
 use Rattle.cps_network.specs.Lists.{node_at, AreWindows}
 use Rattle.cps_network.specs.Landable.{HoldsCandidates}
 use Rattle.cps_network.specs.Permits.{IsPermitted, IsSuccessor, IsNextOf, NoneWaits, NonePassed, Repeats}
-use Rattle.cps_network.proofs.MergeLemmas.{node_at-default, last_or_before, Contains-node_at}
-
-pub lists_same : (xs ys : List (List ℤ)) → length xs ≡ length ys → ((m : ℕ) → m < length xs → node_at xs m ≡ node_at ys m) → xs ≡ ys
-lists_same [] [] e h = refl
-lists_same [] (y ∷ ys) e h = absurd (omega arith)
-lists_same (x ∷ xs) [] e h = absurd (omega arith)
-lists_same (x ∷ xs) (y ∷ ys) e h = ap₂ (λ (z : List ℤ) (zs : List (List ℤ)). z ∷ zs) (h 0 (omega arith)) (lists_same xs ys (omega arith) (λ m lt. h (suc m) (omega arith)))
-
--- the lists are one up to i
-abbrev pub AreSameUpto : List (List ℤ) → List (List ℤ) → ℕ → Type 0
-AreSameUpto left right i = (m : ℕ) → m < i → node_at left m ≡ node_at right m
-
-pub same_more : (left right : List (List ℤ)) (i : ℕ) (a b : List ℤ) → AreSameUpto left right i → i < length left → i < length right
-    → a ≡ get_or left i a → b ≡ get_or right i b → a ≡ b → AreSameUpto left right (i + 1)
-same_more left right i a b is lt lt' a_is b_is e m lm =
-    let at_a : a ≡ node_at left i = a_is ∙ node_at-default left i a [] lt in
-    let at_b : b ≡ node_at right i = b_is ∙ node_at-default right i b [] lt' in
-    elim (last_or_before m i lm) [
-      | inl same ↦ subst (λ (q : ℕ). node_at left q ≡ node_at right q) (sym same) (sym at_a ∙ e ∙ at_b)
-      | inr less ↦ is m less
-    ]
-
-pub same_all : (left right : List (List ℤ)) (i : ℕ) → AreSameUpto left right i → length left ≤ i → length left ≡ length right → left ≡ right
-same_all left right i is end len = lists_same left right len (λ m lt. is m (omega arith))
+use Rattle.cps_network.proofs.MergeLemmas.{node_at-default, Contains-node_at}
 
 pub window_at : (width : ℕ) (ws : List (List ℤ)) (x : List ℤ) → AreWindows width ws → Contains ws x → IsWindow width x
 window_at width ws x valid (i, lt, at) = subst (λ (z : List ℤ). IsWindow width z) (node_at-default ws i [] x lt ∙ at) (valid i lt)

@@ -171,21 +171,6 @@ pub fn next_stage<const W: usize>(
     Ok(stage)
 }
 
-// Whether two lists of windows are one.
-fn are_same<const W: usize>(left: &[Window<W>], right: &[Window<W>]) -> bool
-    ensures { IsTrue result → left.now ≡ right.now }
-{
-    if left.len() != right.len() {
-        return false;
-    }
-    for i in 0..left.len() {
-        if left[i] != right[i] {
-            return false;
-        }
-    }
-    true
-}
-
 // Whether the same ranks, counted from the next place, may land after two stages that have the same windows: none in reach
 // of either waits for another or was passed.
 fn repeats(problem: &Problem, earlier: u8, stage: u8) -> bool
@@ -222,7 +207,7 @@ pub fn next_stage_like<const W: usize>(
     let _near = problem.head();
     let _ascending = after.windows();
     if repeats(problem, earlier.number(), before.number())
-        && are_same(before.windows(), earlier.windows())
+        && before.windows() == earlier.windows()
     {
         let next = after.copy_as(alloc, before.number() + 1)?;
         return Ok(next);

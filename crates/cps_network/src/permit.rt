@@ -141,13 +141,10 @@ pub fn none_waits(problem: &Problem, stage: u8) -> bool
     let k = most_shift(problem);
     let n = problem.len();
     let due = due_set(stage, k);
-    for rank in 1..n + 1 {
+    (1..n + 1).all(|rank| {
         let in_reach = rank <= stage + 1 + k && stage + 1 <= rank + k;
-        if in_reach && !problem.pairs().all_before(rank, due) {
-            return false;
-        }
-    }
-    true
+        !in_reach || problem.pairs().all_before(rank, due)
+    })
 }
 
 // Whether no rank in reach of a stage was passed.
