@@ -1,4 +1,4 @@
--- What a search finds first, one step of a loop at a time, and what it has passed where it finds nothing.
+-- What a search finds first, and what it has passed where it finds nothing.
 use Rattle.std.proofs.Common.{◌≡◌, ℕ, zero, suc, ◌+◌, ◌-◌, ◌<◌, ◌≤◌, Bool, true, false, cond, List, ◌∷◌, length, get_or, drop, drop-cons, Option, Some, None, refl, sym, ap, subst, ◌∙◌, arith, inl, inr}
 use Rattle.std.specs.Option.{option_or}
 use Rattle.std.proofs.lemmas.Bool.{cases_eq}
@@ -18,19 +18,7 @@ from_none test x (suc m) e y le lt = go (test x) refl e (λ f l. from_none test 
     go true q e more = absurd (cc)
     go false q e more = elim (cases_eq y x) [ inl s ↦ ap test s ∙ q | inr ne ↦ more e (omega arith) ]
 
--- ---- a loop from x up to an end
-
-more : (test : ℕ → Bool) (x end : ℕ) → x < end → first_from test x (end - x) ≡ first_from test x (suc (end - (x + 1)))
-more test x end lt = let e : end - x ≡ suc (end - (x + 1)) = omega arith in ap (first_from test x) e
-
-pub first_here : (test : ℕ → Bool) (x end : ℕ) → x < end → test x ≡ true → first_from test x (end - x) ≡ Some x
-first_here test x end lt h = more test x end lt ∙ rw h refl
-
-pub first_next : (test : ℕ → Bool) (x end : ℕ) → x < end → test x ≡ false → first_from test x (end - x) ≡ first_from test (x + 1) (end - (x + 1))
-first_next test x end lt h = more test x end lt ∙ rw h (let e : suc x ≡ x + 1 = omega arith in ap (λ (y : ℕ). first_from test y (end - (x + 1))) e)
-
-pub first_done : (test : ℕ → Bool) (x end : ℕ) → end ≤ x → first_from test x (end - x) ≡ None
-first_done test x end le = let e : end - x ≡ 0 = omega arith in ap (first_from test x) e
+-- ---- pairs, by a loop from x up to an end
 
 pair_more : (find : ℕ → Option ℕ) (x end : ℕ) → x < end → first_pair_from find x (end - x) ≡ first_pair_from find x (suc (end - (x + 1)))
 pair_more find x end lt = let e : end - x ≡ suc (end - (x + 1)) = omega arith in ap (first_pair_from find x) e
