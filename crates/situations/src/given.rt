@@ -71,10 +71,8 @@ fn clash_of(table: &PairTable, i: usize, first: &Given, others: &[Given]) -> Opt
     requires { i + length others.now ≤ most_flights }
     ensures { result ≡ first_from (clash_at table.now i first.now) (i + 1) others.now }
 {
-    others.iter().position(|g| !are_apart(table, first, g)).map(|j| OpeningFault::FrozenSeparation(
-        i as u16,
-        (j + i + 1) as u16,
-    ))
+    let place = others.iter().position(|g| !are_apart(table, first, g));
+    place.map(|j| OpeningFault::FrozenSeparation(i as u16, (j + i + 1) as u16))
 }
 
 // The first two landings, neighbours or not, that are not the table's time apart.
