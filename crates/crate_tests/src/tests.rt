@@ -1,5 +1,4 @@
 mod arrivals;
-mod bank;
 mod labels;
 mod numbers;
 mod open_times;

@@ -1,6 +1,6 @@
 // The files of a case, in memory.
-use crate::cases::{Case, Part, Texts};
 use anyhow::{Result, bail};
+use case_tables::{Case, Part, Texts};
 use cps_outside::MemoryFolder;
 use std::alloc::Global;
 

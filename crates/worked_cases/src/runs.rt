@@ -1,7 +1,7 @@
 // The run of a case.
-use crate::cases::{Case, Texts};
 use crate::files::folder_of;
 use anyhow::Result;
+use case_tables::{Case, Texts};
 use cps_outside::{FreeGate, MemorySink};
 use cps_top::run;
 use std::alloc::Global;
@@ -21,21 +21,6 @@ fn words_of(alloc: Global, case: &Case) -> Result<Vec<String>> {
         words.push(String::from_str(alloc, word)?)?;
     }
     Ok(words)
-}
-
-// Whether an output is the one of a case.
-fn is_output(case: &Case, written: &[u8]) -> bool {
-    if let Some(head) = &case.begins {
-        return written.starts_with(head.as_bytes());
-    }
-    if let Some(end) = &case.ends {
-        return written.ends_with(end.as_bytes());
-    }
-    let is_other = match &case.or {
-        Some(other) => written == other.as_bytes(),
-        None => false,
-    };
-    is_other || written == case.out.as_bytes()
 }
 
 /// Whether the run of a case ends as it should.
@@ -60,7 +45,7 @@ pub(crate) fn is_as_shown<R: Threads + Sync>(
     );
     Ok(
         status == case.status
-            && is_output(case, out.written())
+            && case.is_output(out.written())
             && case.puts.is_none_or(|puts| puts == out.puts())
             && err.written() == case.err.as_bytes(),
     )

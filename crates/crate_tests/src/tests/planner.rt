@@ -2,8 +2,8 @@ ghost use Rattle.std.specs.Prelude.{◌≡◌, ◌≤◌, IfOk};
 ghost use Rattle.cps_problem.specs.Plans.{IsPlannable};
 ghost use Rattle.replan.specs.Kept.{k_of};
 
-use super::bank::Bank;
 use super::is_shared;
+use crate::bank::Bank;
 use cps_base::{Counted, Steps};
 use cps_outside::FreeGate;
 use cps_problem::{Objective, Planner, Problem};

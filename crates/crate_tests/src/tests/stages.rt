@@ -2,8 +2,8 @@
 ghost use Rattle.std.specs.Prelude.{◌≡◌, ◌+◌, ◌*◌, ◌≤◌, IfOk};
 ghost use Rattle.cps_nodes.specs.Windows.{IsWidth};
 
-use super::bank::Bank;
 use super::is_shared;
+use crate::bank::Bank;
 use cps_network::{Stage, last_rank, next_stage, next_stage_like, sources};
 use cps_problem::{Objective, Problem};
 use std::alloc::Global;

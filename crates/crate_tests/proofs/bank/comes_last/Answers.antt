@@ -2,7 +2,7 @@ use Rattle.std.proofs.Common.{◌≡◌, ◌<◌, length, get_or, inl, inr, ap, 
 use Rattle.std.proofs.lemmas.Bool.{cases_eq}
 use Rattle.std.proofs.lemmas.List.{get_or-map}
 use Rattle.cps_problem.specs.Seen.{waiting_of}
-use Rattle.crate_tests.proofs.tests.bank.comes_last.Goals as goal
+use Rattle.crate_tests.proofs.bank.comes_last.Goals as goal
 
 pub loop-earlier-preserved : goal.loop-earlier-preserved
 loop-earlier-preserved c = λ i d lt. elim (cases_eq i c.loop-earlier.earlier-index) [

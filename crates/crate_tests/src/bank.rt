@@ -1,4 +1,5 @@
-// Waiting flights for the tests, each of which comes behind those before it.
+//! Waiting flights for tests, each of which comes behind those before it.
+
 ghost use Rattle.std.specs.Prelude.{◌≡◌, ◌≢◌, ℕ, ◌<◌, ◌≤◌, All, AllPairs, IfOk, IsTrue, map, vec_len};
 ghost use Rattle.precedence.specs.Pairs.{MustPrecede};
 ghost use Rattle.cps_problem.specs.Seen.{waiting_of};
@@ -11,10 +12,10 @@ use std::alloc::Global;
 use std::test::Fail;
 use wake_table::{Category, PairTable};
 
-// Flights for a planning with k places of shift.
+/// Flights of weight 1 for a planning with k places of shift, in the order of their estimates.
 #[derive(Drop)]
-pub(super) struct Bank {
-    pub(super) k: u8,
+pub struct Bank {
+    pub(crate) k: u8,
     waiting: Vec<Waiting>,
     ghost near: { k ≤ 3 },
     ghost few: { vec_len waiting ≤ 60 },
@@ -46,7 +47,8 @@ fn comes_last(waiting: &Vec<Waiting>, flight: &Waiting) -> bool
 }
 
 impl Bank {
-    pub(super) fn new(alloc: Global, k: u8) -> Bank
+    /// No flight yet, and at most 3 places of shift.
+    pub fn new(alloc: Global, k: u8) -> Bank
         requires { k ≤ 3 }
         ensures { result.k ≡ k }
     {
@@ -70,8 +72,9 @@ impl Bank {
         Ok(())
     }
 
-    // Adds a flight of weight 1 that so many passed, and that may land from its estimate to this second.
-    pub(super) fn add(
+    /// Adds a flight of weight 1 that so many passed, and that may land from its estimate to this second. It fails where the
+    /// flight does not come behind the others, or is none of such a planning.
+    pub fn add(
         &mut self,
         name: &[u8],
         category: Category,
@@ -98,8 +101,8 @@ impl Bank {
         Ok(())
     }
 
-    // Adds the flight of a number, 1000 seconds and so many behind the start, that may land for two hours.
-    pub(super) fn add_numbered(&mut self, number: u8, passed: u8) -> Result<(), Fail>
+    /// Adds the flight of a number, 1000 seconds and so many behind the start, that may land for two hours.
+    pub fn add_numbered(&mut self, number: u8, passed: u8) -> Result<(), Fail>
         requires { number < 100 }
         ensures { self.new.k ≡ self.old.k }
     {
@@ -108,9 +111,9 @@ impl Bank {
         Ok(())
     }
 
-    // Their problem: a minute between any two landings, and nothing is frozen. The first of two ranks must land before the
-    // next; no pair is asked for where the first is 0.
-    pub(super) fn problem(self, objective: Objective, first: u8, next: u8) -> Result<Problem, Fail>
+    /// Their problem: a minute between any two landings, and nothing is frozen. The first of two ranks must land before the
+    /// next; no pair is asked for where the first is 0.
+    pub fn problem(self, objective: Objective, first: u8, next: u8) -> Result<Problem, Fail>
         ensures k { IfOk result (λ problem. problem.k ≡ self.k) }
         ensures objective { IfOk result (λ problem. problem.objective ≡ objective) }
     {

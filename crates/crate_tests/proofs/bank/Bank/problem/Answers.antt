@@ -13,7 +13,7 @@ use Rattle.landing_rules.specs.Problem as rules
 use Rattle.cps_problem.specs.WellFormed.{ComesBefore, IsWellFormed}
 use Rattle.std.proofs.lemmas.List.{length-map}
 use Rattle.cps_problem.specs.Seen.{problem_of, waiting_of}
-use Rattle.crate_tests.proofs.tests.bank.Bank.problem.Goals as goal
+use Rattle.crate_tests.proofs.bank.Bank.problem.Goals as goal
 
 comes_before : (f g : rules.Waiting) → f.eta < g.eta → ComesBefore f g
 comes_before f g lt =
