@@ -4,6 +4,7 @@ pub mod MergeLemmas
 pub mod SourceLemmas
 pub mod StageLemmas
 pub mod LayerLemmas
+pub mod AlikeLemmas
 pub mod LegalLists
 pub mod LegalLemmas
 pub mod CompactLemmas

@@ -44,6 +44,14 @@ pub record Repeats (p : Problem) (earlier stage : ℕ) : Type 0 where
   pub earlier_free : NonePassed p earlier
   pub free : NonePassed p stage
 
+-- each rank was passed as often in both problems
+abbrev pub ArePassedAlike : Problem → Problem → Type 0
+ArePassedAlike p q = (rank : ℕ) → 1 ≤ rank → rank ≤ length p.flights → passed_at p rank ≡ passed_at q rank
+
+-- any list that is the next of a stage's windows for the one problem is so for the other
+abbrev pub HaveSameSuccessors : Problem → Problem → Type 0
+HaveSameSuccessors p q = (stage : ℕ) (before after : List (List ℤ)) → IsNextOf p stage before after → IsNextOf q stage before after
+
 -- where one window of a stage extends to another by a permitted rank, so does each window that leads to it
 abbrev pub LeadAlike : Problem → ℕ → Type 0
 LeadAlike p width = (stage : ℕ) (xs ys next : List ℤ) → IsWindow width xs → IsWindow width ys

@@ -3,6 +3,7 @@
 //! The network follows Balakrishnan and Chandran (2010) in outline; its exact form is this project's own.
 #![tactic(auto)]
 
+mod alike;
 mod compact;
 mod last;
 mod laws;
@@ -15,12 +16,13 @@ mod source_range;
 mod stage;
 mod window_list;
 
+pub use alike::permit_alike;
 pub use last::last_rank;
 pub use laws::{
     due_is_bounded, kept_stages, node_laws, prefix_laws, prefixes_keep_the_separation,
     windows_tell_their_ranks,
 };
-pub use next::{next_stage, next_stage_like};
+pub use next::{next_stage, next_stage_again, next_stage_like};
 pub use node::{Node, placed_node};
 pub use permit::is_permitted;
 pub use source_range::sources;

@@ -215,3 +215,30 @@ pub fn next_stage_like<const W: usize>(
     let next = next_stage(alloc, before, problem)?;
     Ok(next)
 }
+
+/// The same as `next_stage`, where another stage is at hand, and the windows that come after its own in this problem: where
+/// both have the same windows, the next stage shares those.
+pub fn next_stage_again<const W: usize>(
+    alloc: Global,
+    before: &Stage<W>,
+    problem: &Problem,
+    earlier: &Stage<W>,
+    after: &Stage<W>,
+) -> Result<Stage<W>, AllocError>
+    requires width { W ≡ 2 * problem.now.k + 1 }
+    requires stage { before.now.0 < length problem.now.flights }
+    requires after { IsNextOf problem.now before.now.0 earlier.now.1 after.now.1 }
+    ensures number { IfOk result (λ s. s.0 ≡ before.now.0 + 1) }
+    ensures ascending { IfOk result (λ s. IsAscending s.1) }
+    ensures exact { IfOk result (λ s. IsNextOf problem.now before.now.0 before.now.1 s.1) }
+    ensures candidates { IfOk result (λ s. HoldsCandidates problem.now before.now s) }
+{
+    let _near = problem.head();
+    let _ascending = after.windows();
+    if before.windows() == earlier.windows() {
+        let next = after.copy_as(alloc, before.number() + 1)?;
+        return Ok(next);
+    }
+    let next = next_stage(alloc, before, problem)?;
+    Ok(next)
+}

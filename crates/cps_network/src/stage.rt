@@ -123,9 +123,16 @@ impl<const W: usize> Stage<W> {
         self.list.windows()
     }
 
+    /// The same stage once more; its windows are shared.
+    pub fn share(&self, alloc: Global) -> Result<Stage<W>, AllocError>
+        ensures { IfOk result (λ s. s ≡ self.now) }
+    {
+        let same = self.copy_as(alloc, self.number)?;
+        Ok(same)
+    }
+
     // The same windows under another number.
     pub(crate) fn copy_as(&self, alloc: Global, number: u8) -> Result<Stage<W>, AllocError>
-        requires { IsWidth W }
         ensures { IfOk result (λ s. s ≡ (number, self.now.1)) }
     {
         let list = self.list.share(alloc)?;

@@ -95,7 +95,6 @@ impl<const W: usize> WindowList<W> {
 
     // The same list, shared where nothing of it was left out.
     pub(crate) fn share(&self, alloc: Global) -> Result<WindowList<W>, AllocError>
-        requires { IsWidth W }
         ensures { IfOk result (λ list. list ≡ self.now) }
     {
         if self.is_own {
