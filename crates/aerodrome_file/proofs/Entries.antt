@@ -8,10 +8,11 @@ use Rattle.std.proofs.lemmas.List.{take_rest}
 use Rattle.std.specs.Prelude.{bytes_eq, ◌≢◌}
 use Rattle.toml.specs.declared.value.Value.{Value}
 use Rattle.toml.specs.View.{view, items_view}
-use Rattle.aerodrome_file.specs.declared.frozen_list.FrozenLanding.{FrozenLanding}
-use Rattle.aerodrome_file.specs.declared.passed_list.PassedCount.{PassedCount}
-use Rattle.aerodrome_file.specs.Frozen.{has_frozen, frozen_of, frozen_from, IsFrozen, AreFrozen}
-use Rattle.aerodrome_file.specs.Passed.{has_passed, passed_of, passed_from, ArePassed}
+use Rattle.arrivals.specs.declared.frozen_list.FrozenLanding.{FrozenLanding}
+use Rattle.arrivals.specs.declared.passed_list.PassedCount.{PassedCount}
+use Rattle.arrivals.specs.Aerodromes.{IsFrozen, AreFrozen, ArePassed}
+use Rattle.aerodrome_file.specs.Frozen.{has_frozen, frozen_of, frozen_from}
+use Rattle.aerodrome_file.specs.Passed.{has_passed, passed_of, passed_from}
 
 pub frozen_more : (clock freeze : ℕ) (fs : List FrozenLanding) (f : FrozenLanding) → AreFrozen clock freeze fs → IsFrozen clock freeze f → has_frozen fs f.callsign ≡ false → length fs < 500 → AreFrozen clock freeze (fs ++ f ∷ [])
 frozen_more clock freeze fs f are here new room = record {

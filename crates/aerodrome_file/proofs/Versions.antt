@@ -10,8 +10,8 @@ use Rattle.std.proofs.lemmas.Bool.{cases_Bool, ltb-false}
 use Rattle.std.proofs.lemmas.Map.Lookups.{exact_bytes}
 use Rattle.toml.specs.Data.{Data, integer, Members, no_members, member, get_member}
 use Rattle.landing_rules.specs.declared.objective.Objective.{Objective}
-use Rattle.aerodrome_file.specs.declared.frozen_list.FrozenLanding.{FrozenLanding}
-use Rattle.aerodrome_file.specs.declared.passed_list.PassedCount.{PassedCount}
+use Rattle.arrivals.specs.declared.frozen_list.FrozenLanding.{FrozenLanding}
+use Rattle.arrivals.specs.declared.passed_list.PassedCount.{PassedCount}
 use Rattle.aerodrome_file.specs.declared.fault.Key.TheVariants as key
 use Rattle.aerodrome_file.specs.declared.fault.Part.{Part}
 use Rattle.aerodrome_file.specs.declared.fault.Part.TheVariants as part
@@ -20,7 +20,7 @@ use Rattle.aerodrome_file.specs.Values.{number_in}
 use Rattle.aerodrome_file.specs.Version.{version_of, HasKeysOf}
 use Rattle.aerodrome_file.specs.Frozen.{clock_in, frozen_in}
 use Rattle.aerodrome_file.specs.Passed.{passed_in}
-use Rattle.aerodrome_file.specs.Reading.{is_delay, most_shift, is_beyond}
+use Rattle.arrivals.specs.Aerodromes.{is_delay, most_shift, is_beyond}
 
 -- a key that a part does not have is at no value
 pub only_absent : (v : ℕ) (p : Part) (k : List ℕ) (ms : Members) → only v p ms ≡ Ok (tt {0}) → is_known v p k ≡ false → get_member k ms ≡ None

@@ -1,11 +1,11 @@
 -- The clock second and the frozen landings in the file.
-use Rattle.std.specs.Prelude.{◌≡◌, ◌≢◌, ◌≤◌, ◌<◌, ℕ, List, [], ◌∷◌, ◌++◌, Bool, not, ◌+◌, ◌==◌, nat_le, nat_lt, length, codes, bytes_eq, Option, Some, None, Result, Ok, Err, All, AllPairs, if◌then◌else◌}
+use Rattle.std.specs.Prelude.{ℕ, List, [], ◌∷◌, ◌++◌, Bool, not, ◌+◌, ◌==◌, nat_le, nat_lt, codes, bytes_eq, Option, Some, None, Result, Ok, Err, if◌then◌else◌}
 use Rattle.std.specs.List.{list_any}
 use Rattle.toml.specs.Data.{Data, array, table, Items, no_items, item, Members, get_member}
 use Rattle.cps_base.specs.Answers.{◌>>=◌}
 use Rattle.landing_rules.specs.Limits.{most_flights}
 use Rattle.landing_rules.specs.Rules.{last_second}
-use Rattle.aerodrome_file.specs.declared.frozen_list.FrozenLanding.{FrozenLanding}
+use Rattle.arrivals.specs.declared.frozen_list.FrozenLanding.{FrozenLanding}
 use Rattle.aerodrome_file.specs.declared.fault.AeroFault.{AeroFault}
 use Rattle.aerodrome_file.specs.declared.fault.AeroFault.TheVariants as fault
 use Rattle.aerodrome_file.specs.declared.fault.Key.TheVariants as key
@@ -70,24 +70,3 @@ frozen_in clock freeze (Some (array ds)) =
     else if items_length ds == 0 then Ok []
     else frozen_after clock freeze ds
 frozen_in clock freeze (Some d) = Err (fault.WrongKind key.Frozen)
-
--- a second of the two days, before the clock second plus freeze
-pub record IsFrozen (clock freeze : ℕ) (f : FrozenLanding) : Type 0 where
-  pub range : f.second ≤ last_second
-  pub early : f.second < clock + freeze
-
--- at most 500 of these, with different callsigns
-pub record AreFrozen (clock freeze : ℕ) (fs : List FrozenLanding) : Type 0 where
-  pub few : length fs ≤ most_flights
-  pub seconds : All (IsFrozen clock freeze) fs
-  pub callsigns : AllPairs (λ f later. f.callsign ≢ later.callsign) fs
-
--- none without a clock second
-abbrev pub AreFrozenBy : Option ℕ → ℕ → List FrozenLanding → Type 0
-AreFrozenBy None freeze fs = fs ≡ []
-AreFrozenBy (Some now) freeze fs = AreFrozen now freeze fs
-
--- a second of the two days, or none
-abbrev pub IsClock : Option ℕ → Type 0
-IsClock None = Unit {0}
-IsClock (Some now) = now ≤ last_second

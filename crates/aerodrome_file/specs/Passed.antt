@@ -1,10 +1,10 @@
 -- The counts of passed flights in the file.
-use Rattle.std.specs.Prelude.{◌≢◌, ◌≤◌, ℕ, List, [], ◌∷◌, ◌++◌, Bool, not, ◌+◌, nat_lt, length, codes, bytes_eq, Option, Some, None, Result, Ok, Err, All, AllPairs, if◌then◌else◌}
+use Rattle.std.specs.Prelude.{ℕ, List, [], ◌∷◌, ◌++◌, Bool, not, ◌+◌, nat_lt, codes, bytes_eq, Option, Some, None, Result, Ok, Err, if◌then◌else◌}
 use Rattle.std.specs.List.{list_any}
 use Rattle.toml.specs.Data.{Data, array, table, Items, no_items, item, Members, get_member}
 use Rattle.cps_base.specs.Answers.{◌>>=◌}
 use Rattle.landing_rules.specs.Limits.{most_waiting}
-use Rattle.aerodrome_file.specs.declared.passed_list.PassedCount.{PassedCount}
+use Rattle.arrivals.specs.declared.passed_list.PassedCount.{PassedCount}
 use Rattle.aerodrome_file.specs.declared.fault.AeroFault.{AeroFault}
 use Rattle.aerodrome_file.specs.declared.fault.AeroFault.TheVariants as fault
 use Rattle.aerodrome_file.specs.declared.fault.Key.TheVariants as key
@@ -50,9 +50,3 @@ passed_in k (Some (array ds)) =
     else if nat_lt most_waiting (items_length ds) then Err fault.PassedTooMany
     else passed_from 1 k [] ds
 passed_in k (Some d) = Err (fault.WrongKind key.Passed)
-
--- at most 60 counts from 1 to k, of different callsigns
-pub record ArePassed (k : ℕ) (ps : List PassedCount) : Type 0 where
-  pub few : length ps ≤ most_waiting
-  pub counts : All (λ p. (1 ≤ p.count) × (p.count ≤ k)) ps
-  pub callsigns : AllPairs (λ p later. p.callsign ≢ later.callsign) ps

@@ -1,5 +1,5 @@
 -- The aerodrome that a text is, or its first fault, over the table that `toml` reads.
-use Rattle.std.specs.Prelude.{◌≡◌, ◌≤◌, ◌<◌, ℕ, List, [], Bool, true, false, ◌==◌, ◌&&◌, nat_lt, length, codes, bytes_eq, Option, Some, None, Result, Ok, Err, if◌then◌else◌}
+use Rattle.std.specs.Prelude.{ℕ, List, ◌==◌, length, codes, bytes_eq, Option, Some, None, Result, Ok, Err, if◌then◌else◌}
 use Rattle.std.specs.Str.Lossy.{utf8_valid_len}
 use Rattle.toml.specs.Data.{Data, string, Members, get_member}
 use Rattle.toml.specs.Parse.{parse_document}
@@ -7,16 +7,17 @@ use Rattle.cps_base.specs.Answers.{◌>>=◌}
 use Rattle.landing_rules.specs.Limits.{longest_freeze}
 use Rattle.landing_rules.specs.declared.objective.Objective.{Objective}
 use Rattle.landing_rules.specs.declared.objective.Objective.TheVariants.{Makespan, Delay}
-use Rattle.aerodrome_file.specs.declared.aerodrome.Aerodrome.{Aerodrome}
+use Rattle.arrivals.specs.declared.aerodrome.Aerodrome.{Aerodrome}
 use Rattle.aerodrome_file.specs.declared.fault.AeroFault.{AeroFault}
 use Rattle.aerodrome_file.specs.declared.fault.AeroFault.TheVariants as fault
 use Rattle.aerodrome_file.specs.declared.fault.Key.TheVariants as key
-use Rattle.aerodrome_file.specs.Version.{version_in, IsVersion}
+use Rattle.arrivals.specs.Aerodromes.{is_beyond}
+use Rattle.aerodrome_file.specs.Version.{version_in}
 use Rattle.aerodrome_file.specs.Values.{number_in}
 use Rattle.aerodrome_file.specs.Separations.{table_in}
 use Rattle.aerodrome_file.specs.Closures.{closures_in}
-use Rattle.aerodrome_file.specs.Frozen.{clock_in, frozen_in, IsClock, AreFrozenBy}
-use Rattle.aerodrome_file.specs.Passed.{passed_in, ArePassed}
+use Rattle.aerodrome_file.specs.Frozen.{clock_in, frozen_in}
+use Rattle.aerodrome_file.specs.Passed.{passed_in}
 
 -- the table that a text of UTF-8 is
 unfoldable pub document : List ℕ → Option Members
@@ -30,18 +31,6 @@ objective_in (Some (string text)) =
     else if bytes_eq text (codes "delay") then Ok Delay
     else Err (fault.OutOfRange key.Objective)
 objective_in (Some d) = Err (fault.WrongKind key.Objective)
-
-abbrev pub is_delay : Objective → Bool
-is_delay Makespan = false
-is_delay Delay = true
-
--- the greatest shift that delay takes in a version
-abbrev pub most_shift : ℕ → ℕ
-most_shift version = if version == 1 then 1 else 2
-
--- the objective does not take this shift in the version
-abbrev pub is_beyond : ℕ → ℕ → Objective → Bool
-is_beyond version k objective = is_delay objective && nat_lt (most_shift version) k
 
 -- the aerodrome that a table is
 unfoldable pub aerodrome_in : Members → Result Aerodrome AeroFault
@@ -76,17 +65,3 @@ aerodrome_or (Some ms) = aerodrome_in ms
 -- the aerodrome that a text is
 unfoldable pub aerodrome_of : List ℕ → Result Aerodrome AeroFault
 aerodrome_of bytes = aerodrome_or (document bytes)
-
--- numbers in their ranges, a shift that the objective takes, and nothing that the version does not have
-pub record IsInRange (a : Aerodrome) : Type 0 where
-  pub version : IsVersion a.version
-  pub k : a.k ≤ 3
-  pub freeze : a.freeze ≤ longest_freeze
-  pub shift : is_delay a.objective ≡ true → a.k ≤ most_shift a.version
-  pub clock : IsClock a.clock
-  pub frozen : AreFrozenBy a.clock a.freeze a.frozen
-  pub carry : a.carry ≡ (a.version == 3)
-  pub passed : ArePassed a.k a.passed
-  pub no_clock : a.version < 2 → a.clock ≡ None
-  pub none_frozen : a.version < 2 → a.frozen ≡ []
-  pub none_passed : a.carry ≡ false → a.passed ≡ []

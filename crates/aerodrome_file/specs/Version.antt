@@ -1,5 +1,5 @@
 -- The version of the file.
-use Rattle.std.specs.Prelude.{◌≡◌, ◌<◌, ◌≤◌, ℕ, pos, ◌==◌, codes, Option, Some, None, Result, if◌then◌else◌}
+use Rattle.std.specs.Prelude.{◌≡◌, ◌<◌, ℕ, pos, ◌==◌, codes, Option, Some, None, Result, if◌then◌else◌}
 use Rattle.toml.specs.Data.{Data, integer, Members, get_member}
 use Rattle.cps_base.specs.Answers.{◌>>=◌}
 use Rattle.aerodrome_file.specs.declared.fault.AeroFault.{AeroFault}
@@ -18,9 +18,6 @@ unfoldable pub version_in : Members → Result ℕ AeroFault
 version_in ms = do
   _ ← only (version_of (get_member (codes "version") ms)) part.Top ms
   number_in key.Version 1 3 (get_member (codes "version") ms)
-
-abbrev pub IsVersion : ℕ → Type 0
-IsVersion v = (1 ≤ v) × (v ≤ 3)
 
 -- keys of later versions are absent
 pub record HasKeysOf (v : ℕ) (ms : Members) : Type 0 where

@@ -4,13 +4,14 @@ ghost use Rattle.toml.specs.View.{view, items_view, table_view};
 ghost use Rattle.cps_base.specs.Answers.{Gives};
 ghost use Rattle.landing_rules.specs.Limits.{most_flights};
 ghost use Rattle.aerodrome_file.specs.Answers.{memory_fault};
-ghost use Rattle.aerodrome_file.specs.Frozen.{clock_in, has_frozen, is_late, frozen_entry, frozen_of, frozen_from, frozen_in, IsClock, IsFrozen, AreFrozen, AreFrozenBy};
+ghost use Rattle.arrivals.specs.Aerodromes.{IsClock, IsFrozen, AreFrozen, AreFrozenBy};
+ghost use Rattle.aerodrome_file.specs.Frozen.{clock_in, has_frozen, is_late, frozen_entry, frozen_of, frozen_from, frozen_in};
 
 use crate::closures::are_tables;
 use crate::fault::{AeroFault, Key, Part};
-use crate::frozen_list::{FrozenLanding, FrozenList};
 use crate::keys::only;
 use crate::values::{at_most, callsign_at, get, integer_of, present, string_of};
+use arrivals::{FrozenLanding, FrozenList};
 use cps_base::Callsign;
 use landing_rules::MOST_FLIGHTS;
 use landing_windows::LAST_SECOND;

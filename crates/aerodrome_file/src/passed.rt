@@ -4,13 +4,14 @@ ghost use Rattle.toml.specs.View.{view, items_view, table_view};
 ghost use Rattle.cps_base.specs.Answers.{Gives};
 ghost use Rattle.landing_rules.specs.Limits.{most_waiting};
 ghost use Rattle.aerodrome_file.specs.Answers.{memory_fault};
-ghost use Rattle.aerodrome_file.specs.Passed.{has_passed, passed_entry, passed_of, passed_from, passed_in, ArePassed};
+ghost use Rattle.arrivals.specs.Aerodromes.{ArePassed};
+ghost use Rattle.aerodrome_file.specs.Passed.{has_passed, passed_entry, passed_of, passed_from, passed_in};
 
 use crate::closures::are_tables;
 use crate::fault::{AeroFault, Key, Part};
 use crate::keys::only;
-use crate::passed_list::{PassedCount, PassedList};
 use crate::values::{callsign_at, get, integer_of, present, string_of, within};
+use arrivals::{PassedCount, PassedList};
 use cps_base::Callsign;
 use landing_rules::MOST_WAITING;
 use std::alloc::Global;

@@ -1,7 +1,8 @@
 // The version of the file.
 ghost use Rattle.std.specs.Prelude.{◌≡◌, IfOk, option_map};
 ghost use Rattle.toml.specs.View.{view, table_view};
-ghost use Rattle.aerodrome_file.specs.Version.{version_of, version_in, IsVersion, HasKeysOf};
+ghost use Rattle.arrivals.specs.Aerodromes.{IsVersion};
+ghost use Rattle.aerodrome_file.specs.Version.{version_of, version_in, HasKeysOf};
 
 use crate::fault::{AeroFault, Key, Part};
 use crate::keys::only;

@@ -1,8 +1,8 @@
 -- What `certify` prints over the contents of its two files. It refuses those that `plan` refuses.
 use Rattle.std.specs.Prelude.{◌≡◌, ◌↔◌, ℕ, List, Ok}
-use Rattle.aerodrome_file.specs.declared.aerodrome.Aerodrome.{Aerodrome}
+use Rattle.arrivals.specs.declared.aerodrome.Aerodrome.{Aerodrome}
 use Rattle.aerodrome_file.specs.Reading.{aerodrome_of}
-use Rattle.flight_file.specs.declared.flight.Flight.{Flight}
+use Rattle.arrivals.specs.declared.flight.Flight.{Flight}
 use Rattle.flight_file.specs.Reading.{flights_of}
 use Rattle.certificate.specs.declared.certificate.Claim.{Claim}
 use Rattle.certificate.specs.Reading.{Cert, certificate_of}

@@ -1,16 +1,17 @@
 ghost use Rattle.std.specs.Prelude.{MatchResult};
-ghost use Rattle.aerodrome_file.specs.Reading.{IsInRange};
-ghost use Rattle.flight_file.specs.OfFile.{CanBeRead};
+ghost use Rattle.arrivals.specs.Aerodromes.{IsInRange};
+ghost use Rattle.arrivals.specs.Flights.{AreArrivals};
 ghost use Rattle.certificate_commands.specs.Certify.{AdmitsCertify, Certifies, FollowsCertify, IsCertified};
 ghost use Rattle.openings.specs.Plan.{StopsOpened, StopsPlan};
 
-use aerodrome_file::{Aerodrome, read_aerodrome};
+use aerodrome_file::read_aerodrome;
+use arrivals::{Aerodrome, Flight};
 use certificate::{Certificate, print_certificate};
 use cps_base::{Silent, Steps};
 use cps_outside::{Gate, Sink};
 use cps_problem::Planner;
 use endings::{Answer, Ending};
-use flight_file::{Flight, read_flights};
+use flight_file::read_flights;
 use landing_joint::laws::problem_stands_for_situation;
 use openings::{Report, print_report};
 use replan::AnyKept;
@@ -27,7 +28,7 @@ fn certify_opened<R: Threads + Sync, G: Gate + Sync>(
     gate: &G,
 ) -> Result<Certificate, Ending>
     requires range { IsInRange aerodrome.now }
-    requires read { CanBeRead flights.now }
+    requires read { AreArrivals flights.now }
     ensures { MatchResult result
         (IsCertified aerodrome.now flights.now)
         (StopsOpened aerodrome.now flights.now) }
@@ -50,7 +51,7 @@ fn report_opened<R: Threads + Sync, G: Gate + Sync>(
     gate: &G,
 ) -> Result<Report, Ending>
     requires range { IsInRange aerodrome.now }
-    requires read { CanBeRead flights.now }
+    requires read { AreArrivals flights.now }
     ensures { MatchResult result
         (λ r. Certifies aerodrome.now flights.now r.text.items r.answer)
         (StopsOpened aerodrome.now flights.now) }

@@ -1,16 +1,17 @@
 ghost use Rattle.std.specs.Prelude.{◌<◌, length, MatchResult};
-ghost use Rattle.aerodrome_file.specs.Reading.{IsInRange};
-ghost use Rattle.flight_file.specs.OfFile.{CanBeRead};
+ghost use Rattle.arrivals.specs.Aerodromes.{IsInRange};
+ghost use Rattle.arrivals.specs.Flights.{AreArrivals};
 ghost use Rattle.certificate_commands.specs.Check.{AdmitsCheck, FollowsCheck, IsJudged, Judges, StopsCheck};
 ghost use Rattle.openings.specs.Plan.{StopsOpened};
 
 use crate::verdict_lines::{answer, verdict_line};
-use aerodrome_file::{Aerodrome, read_aerodrome};
+use aerodrome_file::read_aerodrome;
+use arrivals::{Aerodrome, Flight};
 use cert_check::{Verdict, judge};
 use certificate::{Certificate, read_certificate};
 use cps_outside::Sink;
 use endings::Ending;
-use flight_file::{Flight, read_flights};
+use flight_file::read_flights;
 use landing_joint::laws::problem_stands_for_situation;
 use openings::{Report, print_report};
 use sequencer::opening_problem;
@@ -24,7 +25,7 @@ fn judge_opened(
     certificate: &Certificate,
 ) -> Result<Verdict, Ending>
     requires range { IsInRange aerodrome.now }
-    requires read { CanBeRead flights.now }
+    requires read { AreArrivals flights.now }
     ensures { MatchResult result
         (IsJudged aerodrome.now flights.now certificate.now)
         (StopsOpened aerodrome.now flights.now) }

@@ -1,10 +1,10 @@
 -- What is drawn over the contents of the three files, and which are refused.
 use Rattle.std.specs.Prelude.{◌≡◌, ⊤, ℕ, List, [], ◌∷◌, Option, Some, None, Result, Ok, Err, option_map}
 use Rattle.landing_rules.specs.Flights.{Situation}
-use Rattle.aerodrome_file.specs.declared.aerodrome.Aerodrome.{Aerodrome}
+use Rattle.arrivals.specs.declared.aerodrome.Aerodrome.{Aerodrome}
 use Rattle.aerodrome_file.specs.declared.fault.AeroFault.{AeroFault}
 use Rattle.aerodrome_file.specs.Reading.{aerodrome_of}
-use Rattle.flight_file.specs.declared.flight.Flight.{Flight}
+use Rattle.arrivals.specs.declared.flight.Flight.{Flight}
 use Rattle.flight_file.specs.declared.fault.FlightFault.{FlightFault}
 use Rattle.flight_file.specs.Reading.{flights_of}
 use Rattle.plan_file.specs.declared.plan.PlanFault.{PlanFault}

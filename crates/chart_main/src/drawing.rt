@@ -1,16 +1,17 @@
 // The picture of three files.
 ghost use Rattle.std.specs.Prelude.{◌≡◌, ◌∷◌, [], MatchResult};
-ghost use Rattle.aerodrome_file.specs.Reading.{IsInRange};
-ghost use Rattle.flight_file.specs.OfFile.{CanBeRead};
+ghost use Rattle.arrivals.specs.Aerodromes.{IsInRange};
+ghost use Rattle.arrivals.specs.Flights.{AreArrivals};
 ghost use Rattle.plan_file.specs.Reading.{HasFewLines};
 ghost use Rattle.chart_main.specs.Drawings.{AreDrawn, IsDrawn, StopsFiles, StopsOpened};
 ghost use Rattle.chart_main.specs.Outcomes.{Follows, done_by};
 
-use aerodrome_file::{Aerodrome, read_aerodrome};
+use aerodrome_file::read_aerodrome;
+use arrivals::{Aerodrome, Flight};
 use chart::{append_picture, picture};
 use cps_outside::{Sink, WriteFailed};
 use endings::Ending;
-use flight_file::{Flight, read_flights};
+use flight_file::read_flights;
 use plan_file::{PlanText, read_plan};
 use sequencer::opening;
 use std::alloc::Global;
@@ -23,7 +24,7 @@ fn draw_opened(
     plan: &PlanText,
 ) -> Result<Vec<u8>, Ending>
     requires range { IsInRange aerodrome }
-    requires read { CanBeRead flights.items }
+    requires read { AreArrivals flights.items }
     requires few { HasFewLines plan.now }
     ensures { MatchResult result (λ text. IsDrawn aerodrome flights.items plan.now text.items)
         (StopsOpened aerodrome flights.items) }

@@ -2,16 +2,16 @@ ghost use Rattle.std.specs.Prelude.{◌≡◌, ◌≤◌, All, Some, None, Match
 ghost use Rattle.landing_rules.specs.Limits.{most_events};
 ghost use Rattle.landing_rules.specs.Sound.{IsGoodEvent};
 ghost use Rattle.cps_network.specs.Due.{IsDue};
-ghost use Rattle.event_log.specs.Seen.{event_of, IsGood};
+ghost use Rattle.arrivals.specs.Seen.{event_of, IsGood};
 ghost use Rattle.situations.specs.Answers.{refusal_of};
 ghost use Rattle.efforts.specs.Efforts.{begun_line, total_line};
 ghost use Rattle.efforts.specs.Ends.{IsHeld, WritesSteps, Plans, StepPlans, EventsPlan, EffortEnds};
 
 use crate::bound::due_is_small;
 use crate::texts::{accepted, begun, refused, total};
+use arrivals::Event;
 use cps_base::{Counted, Steps};
 use cps_outside::{Gate, Sink};
-use event_log::Event;
 use replan::AnyKept;
 use replays::Stop;
 use sequencer::Sequencer;

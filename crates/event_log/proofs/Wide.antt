@@ -7,7 +7,7 @@ use Rattle.cps_base.specs.Answers.{◌>>=◌}
 use Rattle.csv_records.specs.Rows.{Fields, within}
 use Rattle.event_log.specs.declared.fault.LogCause.TheVariants as cause
 use Rattle.event_log.specs.declared.fault.LogFault.{LogFault}
-use Rattle.event_log.specs.declared.event.Event.{Event}
+use Rattle.arrivals.specs.declared.event.Event.{Event}
 use Rattle.event_log.specs.Reading.{is_header, event_in, added, events_in, events_by}
 
 wide_event : (before : ℕ) (r : Fields) → nat_lt 7 (length r) ≡ true → event_in before r ≡ Err cause.FieldCount

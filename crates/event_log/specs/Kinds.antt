@@ -2,8 +2,8 @@
 use Rattle.std.specs.Prelude.{ℕ, List, codes, bytes_eq, Result, Ok, Err, if◌then◌else◌}
 use Rattle.cps_base.specs.Answers.{◌>>=◌}
 use Rattle.csv_records.specs.Rows.{Fields}
-use Rattle.event_log.specs.declared.event.Event.{Event}
-use Rattle.event_log.specs.declared.event.Event.TheVariants.{Estimate, Cancel, Add, Close, Reopen, Clock}
+use Rattle.arrivals.specs.declared.event.Event.{Event}
+use Rattle.arrivals.specs.declared.event.Event.TheVariants.{Estimate, Cancel, Add, Close, Reopen, Clock}
 use Rattle.event_log.specs.declared.fault.Col.TheVariants.{Callsign, Category, Eta, Weight, Windows, After}
 use Rattle.event_log.specs.declared.fault.LogCause.{LogCause}
 use Rattle.event_log.specs.declared.fault.LogCause.TheVariants.{Kind}

@@ -1,5 +1,4 @@
 pub mod Answers
-pub mod Seen
 pub mod Spans
 pub mod Columns
 pub mod Kinds

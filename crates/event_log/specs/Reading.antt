@@ -3,7 +3,7 @@ use Rattle.std.specs.Prelude.{ℕ, List, [], ◌∷◌, ◌++◌, Bool, not, ◌
 use Rattle.cps_base.specs.Answers.{◌>>=◌}
 use Rattle.landing_rules.specs.Limits.{most_events}
 use Rattle.csv_records.specs.Rows.{Fields, field, records_of}
-use Rattle.event_log.specs.declared.event.Event.{Event}
+use Rattle.arrivals.specs.declared.event.Event.{Event}
 use Rattle.event_log.specs.declared.fault.LogCause.{LogCause}
 use Rattle.event_log.specs.declared.fault.LogCause.TheVariants as cause
 use Rattle.event_log.specs.declared.fault.LogFault.{LogFault}

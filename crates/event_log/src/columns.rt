@@ -9,10 +9,11 @@ ghost use Rattle.event_log.specs.Columns.{column, empty_in, callsign_in, categor
 
 use crate::fault::{Col, FieldCause, LogCause};
 use crate::span::read_span;
+use arrivals::After;
 use cps_base::{Callsign, read_number};
 use csv::ByteRecord;
 use csv_records::field;
-use flight_file::{After, read_after, read_windows};
+use flight_file::{read_after, read_windows};
 use landing_rules::GREATEST_WEIGHT;
 use landing_windows::{LAST_SECOND, WindowSet};
 use wake_table::Category;

@@ -2,15 +2,14 @@
 ghost use Rattle.std.specs.Prelude.{◌≡◌, IfOk};
 ghost use Rattle.csv.specs.Records.{fields_of};
 ghost use Rattle.event_log.specs.Kinds.{estimate_in, cancel_in, add_in, close_in, reopen_in, clock_in, event_by};
-ghost use Rattle.event_log.specs.Seen.{IsGood};
+ghost use Rattle.arrivals.specs.Seen.{IsGood};
 
 use crate::columns::{
     after_in, callsign_in, category_in, empty_in, second_in, span_in, weight_in, windows_in,
 };
-use crate::event::Event;
 use crate::fault::{Col, LogCause};
+use arrivals::{Event, Flight};
 use csv::ByteRecord;
-use flight_file::Flight;
 
 // A new estimate.
 #[tactic(auto, unfolding(crate::specs::Kinds::estimate_in))]

@@ -2,13 +2,11 @@
 #![tactic(auto)]
 
 mod columns;
-mod event;
 mod fault;
 mod kinds;
 mod reading;
 mod span;
 
-pub use event::Event;
 pub use fault::{Col, FieldCause, LogCause, LogFault};
 pub use reading::read_events;
 pub use span::read_span;

@@ -7,12 +7,12 @@ use Rattle.std.proofs.lemmas.List.Folds.{list_any_at}
 use Rattle.std.proofs.lemmas.List.Elements.{All-push}
 use Rattle.std.proofs.lemmas.List.Quantifiers.{all_pairs_push}
 use Rattle.cps_base.specs.Answers.{◌>>=◌}
-use Rattle.flight_file.specs.After.{AreOthers, name_in, names_from}
+use Rattle.arrivals.specs.Flights.{AreOthers, IsArrival, AreArrivals}
+use Rattle.flight_file.specs.After.{name_in, names_from}
 use Rattle.flight_file.specs.declared.fault.AfterCause.{AfterCause}
 use Rattle.cps_base.specs.Text.{is_callsign}
-use Rattle.flight_file.specs.OfFile.{IsOfFile, CanBeRead}
 use Rattle.flight_file.specs.Reading.{has_callsign}
-use Rattle.flight_file.specs.declared.flight.Flight.{Flight}
+use Rattle.arrivals.specs.declared.flight.Flight.{Flight}
 use Rattle.std.proofs.lemmas.Slice.Eq.{bytes_eq-Decides}
 
 pub unlike : (a b : List ℕ) → a ≢ b → bytes_eq a b ≡ false
@@ -74,10 +74,10 @@ none_others own = record {
 }
 
 -- one flight more
-pub flights_more : (fs : List Flight) (f : Flight) → CanBeRead fs → IsOfFile f → has_callsign fs f.callsign ≡ false → length fs < 500 → CanBeRead (fs ++ f ∷ [])
+pub flights_more : (fs : List Flight) (f : Flight) → AreArrivals fs → IsArrival f → has_callsign fs f.callsign ≡ false → length fs < 500 → AreArrivals (fs ++ f ∷ [])
 flights_more fs f can here new room = record {
   few = omega (arith, length-append fs (f ∷ []));
-  flights = All-push IsOfFile fs f can.flights here;
+  flights = All-push IsArrival fs f can.flights here;
   callsigns = all_pairs_push (λ g later. g.callsign ≢ later.callsign) fs f can.callsigns (λ k d below same.
       let alike : bytes_eq (get_or fs k d).callsign f.callsign ≡ true = (bytes_eq-Decides (get_or fs k d).callsign f.callsign).1 same in
       let some : has_callsign fs f.callsign ≡ true = list_any_at (λ g. bytes_eq g.callsign f.callsign) fs k d below alike in

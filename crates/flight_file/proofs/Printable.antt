@@ -7,10 +7,10 @@ use Rattle.std.proofs.Math.Seq.{get_or-append_seam}
 use Rattle.std.proofs.lemmas.List.Folds.{list_any_none}
 use Rattle.cps_base.specs.Text.{is_callsign}
 use Rattle.landing_windows.specs.Windows.{windows_of}
-use Rattle.flight_file.specs.declared.flight.Flight.{Flight}
+use Rattle.arrivals.specs.declared.flight.Flight.{Flight}
 use Rattle.flight_file.specs.Reading.{has_callsign}
 use Rattle.flight_file.proofs.Names.{unlike}
-use Rattle.flight_file.specs.OfFile.{IsOfFile, CanBeRead}
+use Rattle.arrivals.specs.Flights.{IsArrival, AreArrivals}
 use Rattle.flight_file.specs.Kept.{AreCallsigns, IsKept, AreKept}
 
 abbrev pub AreInDays : List (ℕ × ℕ) → Type 0
@@ -59,7 +59,7 @@ new_names own before (n ∷ names) calls differ pairs = (
   new_names own (before ++ n ∷ []) names calls.1 (λ k d below. differ (suc k) d (omega arith)) (rw (append_assoc before (n ∷ []) names) pairs),
 )
 
-printable : (f : Flight) → IsOfFile f → IsKept f → IsPrintable f
+printable : (f : Flight) → IsArrival f → IsKept f → IsPrintable f
 printable f can kept = record {
   callsign = kept.callsign;
   eta = can.eta;
@@ -70,7 +70,7 @@ printable f can kept = record {
   few_after = kept.few;
 }
 
-all_printable : (before flights : List Flight) → All IsOfFile flights → AreKept flights → AllPairs (λ f later. f.callsign ≢ later.callsign) (before ++ flights) → ArePrintable before flights
+all_printable : (before flights : List Flight) → All IsArrival flights → AreKept flights → AllPairs (λ f later. f.callsign ≢ later.callsign) (before ++ flights) → ArePrintable before flights
 all_printable before [] can kept pairs = tt
 all_printable before (f ∷ flights) can kept pairs = (
   printable f (can 0 f (omega arith)) kept.0,
@@ -78,5 +78,5 @@ all_printable before (f ∷ flights) can kept pairs = (
   all_printable (before ++ f ∷ []) flights (λ k d below. can (suc k) d (omega arith)) kept.1 (rw (append_assoc before (f ∷ []) flights) pairs),
 )
 
-pub are_printable : (flights : List Flight) → CanBeRead flights → AreKept flights → ArePrintable [] flights
+pub are_printable : (flights : List Flight) → AreArrivals flights → AreKept flights → ArePrintable [] flights
 are_printable flights can kept = all_printable [] flights can.flights kept can.callsigns

@@ -9,10 +9,10 @@ use Rattle.wake_table.specs.Letters.{letter}
 use Rattle.csv_records.specs.Rows.{Fields, records_of}
 use Rattle.csv_records.specs.Plain.{plain_text, IsPlainRow, ArePlainRows}
 use Rattle.csv_records.specs.PlainLaw.{plain_high, records_of-plain}
-use Rattle.flight_file.specs.declared.flight.Flight.{Flight}
+use Rattle.arrivals.specs.declared.flight.Flight.{Flight}
 use Rattle.flight_file.specs.Reading.{is_header, has_callsign, flight_by, flight_in, flights_in, flights_by, flights_of}
 use Rattle.flight_file.specs.Printed.{header, flight_fields, flights_text, names_text, windows_text}
-use Rattle.flight_file.specs.OfFile.{CanBeRead}
+use Rattle.arrivals.specs.Flights.{AreArrivals}
 use Rattle.flight_file.specs.Kept.{AreKept}
 use Rattle.flight_file.proofs.Printable.{IsPrintable, ArePrintable, are_printable}
 use Rattle.flight_file.proofs.PrintedFields.{number_read, category_read, high_letter, decimal_digits, high_digits, windows_text_read, high_windows_text, names_text_read, high_names_text, high_callsign}
@@ -75,7 +75,7 @@ unfolding is_header
 header_read = refl
 
 -- reading what was printed gives the flights again
-pub read_printed : (fs : List Flight) → CanBeRead fs → AreKept fs → flights_of (flights_text fs) ≡ Ok fs
+pub read_printed : (fs : List Flight) → AreArrivals fs → AreKept fs → flights_of (flights_text fs) ≡ Ok fs
 unfolding flights_by
 read_printed fs can kept =
     let h : ArePrintable [] fs = are_printable fs can kept in

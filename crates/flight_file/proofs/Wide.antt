@@ -7,7 +7,7 @@ use Rattle.cps_base.specs.Answers.{◌>>=◌}
 use Rattle.csv_records.specs.Rows.{Fields, within}
 use Rattle.flight_file.specs.declared.fault.FlightCause.TheVariants as cause
 use Rattle.flight_file.specs.declared.fault.FlightFault.{FlightFault}
-use Rattle.flight_file.specs.declared.flight.Flight.{Flight}
+use Rattle.arrivals.specs.declared.flight.Flight.{Flight}
 use Rattle.flight_file.specs.Reading.{is_header, flight_in, added, flights_in, flights_by}
 
 wide_flight : (before : List Flight) (r : Fields) → nat_lt 6 (length r) ≡ true → flight_in before r ≡ Err cause.FieldCount

@@ -1,16 +1,11 @@
 -- The predecessors that a field names, or its first fault.
-use Rattle.std.specs.Prelude.{◌≢◌, All, AllPairs, ℕ, List, [], ◌∷◌, ◌++◌, not, ◌==◌, ◌+◌, nat_lt, length, bytes_eq, Result, Ok, Err, if◌then◌else◌}
+use Rattle.std.specs.Prelude.{ℕ, List, [], ◌∷◌, ◌++◌, not, ◌==◌, ◌+◌, nat_lt, length, bytes_eq, Result, Ok, Err, if◌then◌else◌}
 use Rattle.std.specs.List.{list_any}
 use Rattle.cps_base.specs.Answers.{◌>>=◌}
 use Rattle.text_parts.specs.Parts.{parts}
 use Rattle.cps_base.specs.Text.{is_callsign}
 use Rattle.flight_file.specs.declared.fault.AfterCause.{AfterCause}
 use Rattle.flight_file.specs.declared.fault.AfterCause.TheVariants.{TooMany, Callsign, Itself, Repeat}
-
--- callsigns, none the flight's own and none twice
-pub record AreOthers (own : List ℕ) (names : List (List ℕ)) : Type 0 where
-  pub other : All (λ name. name ≢ own) names
-  pub once : AllPairs (λ name later. name ≢ later) names
 
 -- the predecessor that part i names, behind those of the parts before it
 abbrev pub name_in : List ℕ → ℕ → List (List ℕ) → List ℕ → Result (List ℕ) AfterCause

@@ -3,7 +3,7 @@ use Rattle.std.specs.Prelude.{⊤, ◌≡◌, ℕ, ◌≤◌, List, [], ◌∷�
 use Rattle.cps_base.specs.Text.{is_callsign}
 use Rattle.landing_rules.specs.Sound.{AreGoodWindows}
 use Rattle.landing_windows.specs.Windows.{windows_of}
-use Rattle.flight_file.specs.declared.flight.Flight.{Flight}
+use Rattle.arrivals.specs.declared.flight.Flight.{Flight}
 
 abbrev pub AreCallsigns : List (List ℕ) → Type 0
 AreCallsigns [] = ⊤

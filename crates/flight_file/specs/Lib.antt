@@ -2,7 +2,5 @@ pub mod Answers
 pub mod Windows
 pub mod After
 pub mod Reading
-pub mod OfFile
 pub mod Kept
 pub mod Printed
-pub mod Seen

@@ -3,7 +3,7 @@ use Rattle.std.specs.Prelude.{ℕ, List, [], ◌∷◌, ◌++◌, ◌==◌, Bool
 use Rattle.wake_table.specs.Letters.{letter}
 use Rattle.csv_records.specs.Rows.{Fields}
 use Rattle.csv_records.specs.Plain.{plain_text}
-use Rattle.flight_file.specs.declared.flight.Flight.{Flight}
+use Rattle.arrivals.specs.declared.flight.Flight.{Flight}
 
 -- `first-last`
 abbrev pub window_text : ℕ × ℕ → List ℕ

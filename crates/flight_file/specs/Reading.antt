@@ -12,7 +12,7 @@ use Rattle.wake_table.specs.Letters.{category_of}
 use Rattle.flight_file.specs.declared.fault.FlightCause.{FlightCause}
 use Rattle.flight_file.specs.declared.fault.FlightCause.TheVariants as cause
 use Rattle.flight_file.specs.declared.fault.FlightFault.{FlightFault}
-use Rattle.flight_file.specs.declared.flight.Flight.{Flight}
+use Rattle.arrivals.specs.declared.flight.Flight.{Flight}
 use Rattle.flight_file.specs.Windows.{windows_in}
 use Rattle.flight_file.specs.After.{names_in}
 

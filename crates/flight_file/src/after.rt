@@ -1,92 +1,12 @@
-ghost use Rattle.std.specs.Prelude.{◌≡◌, IfOk, ◌≤◌, ◌<◌, ◌++◌, ◌∷◌, [], length, bytes_eq, slice_get, Some};
-ghost use Rattle.std.specs.List.{list_any};
+ghost use Rattle.std.specs.Prelude.{◌≡◌, IfOk, ◌≤◌, [], length};
 ghost use Rattle.text_parts.specs.Parts.{parts};
-ghost use Rattle.flight_file.specs.After.{names_in, name_in, names_from, AreOthers};
+ghost use Rattle.arrivals.specs.Flights.{AreOthers};
+ghost use Rattle.flight_file.specs.After.{names_in, name_in, names_from};
 
 use crate::fault::AfterCause;
+use arrivals::After;
 use cps_base::Callsign;
-use std::marker::Model;
 use text_parts::{first_part, has_many_parts};
-
-/// The callsigns of at most four predecessors, kept in place. Contracts see their list.
-#[derive(Drop)]
-pub struct After {
-    names: [Callsign; 4],
-    len: usize,
-}
-
-impl Model for After {
-    ghost use Rattle.std.specs.Prelude.{◌≡◌, IfOk, ◌≤◌, ℕ, List, take, length};
-
-    ghost Value = { List (List ℕ) };
-
-    ghost view = { λ a. take a.len a.names };
-
-    ghost invariant = { λ a. (a.len ≤ 4) × (length a.names ≡ 4) };
-}
-
-impl After {
-    // No predecessor; the flight's own callsign fills the places.
-    fn new(own: Callsign) -> After
-        ensures { result ≡ [] }
-    {
-        After {
-            names: [own; 4],
-            len: 0,
-        }
-    }
-
-    // One predecessor more.
-    fn push(&mut self, name: Callsign)
-        requires { length self.old < 4 }
-        ensures { self.new ≡ self.old ++ name ∷ [] }
-    {
-        self.names[self.len] = name;
-        self.len += 1;
-    }
-
-    // Whether the callsign is among them.
-    fn has(&self, name: Callsign) -> bool
-        ensures { result ≡ list_any (bytes_eq name) self.now }
-    {
-        self.names[..self.len].iter().any(|n| name == *n)
-    }
-
-    /// The callsigns, in their order.
-    pub fn names(&self) -> &[Callsign]
-        ensures value { result.now ≡ self.now }
-        ensures few { length self.now ≤ 4 }
-    {
-        &self.names[..self.len]
-    }
-
-    // The same predecessors again.
-    pub(crate) fn copy(&self) -> After
-        ensures { result ≡ self.now }
-    {
-        After {
-            names: self.names,
-            len: self.len,
-        }
-    }
-
-    /// How many there are, at most four.
-    pub fn len(&self) -> usize
-        ensures value { result ≡ length self.now }
-        ensures few { result ≤ 4 }
-    {
-        self.len
-    }
-
-    /// The one at this place, from 0.
-    pub fn at(&self, i: usize) -> Callsign
-        requires { i < length self.now }
-        ensures { slice_get self.now i ≡ Some result }
-    {
-        let names = &self.names[..self.len];
-        names[i]
-    }
-}
 
 // One more predecessor, part `number`, behind those of the parts before it.
 fn name_in(own: Callsign, number: u8, before: &After, text: &[u8]) -> Result<Callsign, AfterCause>

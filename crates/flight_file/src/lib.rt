@@ -3,14 +3,12 @@
 
 mod after;
 mod fault;
-mod flight;
 mod printing;
 mod reading;
 mod windows;
 
-pub use after::{After, read_after};
+pub use after::read_after;
 pub use fault::{AfterCause, FlightCause, FlightFault, WindowsCause};
-pub use flight::Flight;
 pub use printing::print_flights;
 pub use reading::read_flights;
 pub use windows::read_windows;

@@ -4,12 +4,12 @@ ghost use Rattle.appending.specs.Appends.{Appends};
 ghost use Rattle.csv_records.specs.Plain.{plain_line};
 ghost use Rattle.cps_base.specs.Text.{is_callsign};
 ghost use Rattle.flight_file.specs.Reading.{flights_of};
-ghost use Rattle.flight_file.specs.OfFile.{CanBeRead};
+ghost use Rattle.arrivals.specs.Flights.{AreArrivals};
 ghost use Rattle.flight_file.specs.Printed.{windows_text, names_text, mark_text, head_text, flight_fields, flights_text};
 ghost use Rattle.flight_file.specs.Kept.{AreCallsigns, IsKept, AreKept};
 
-use crate::flight::Flight;
 use appending::append_all;
+use arrivals::Flight;
 use cps_base::Callsign;
 use itoa::Buffer;
 use std::alloc::AllocError;
@@ -110,7 +110,7 @@ fn append_flights(flights: &[Flight], into: &mut Vec<u8>) -> Result<(), AllocErr
 #[tactic(auto, using(crate::proofs::Printed::read_printed))]
 pub fn print_flights(flights: &[Flight], into: &mut Vec<u8>) -> Result<(), AllocError>
     ensures appends { Appends into.old.items into.new.items (flights_text flights.now) result }
-    ensures reads { CanBeRead flights.now
+    ensures reads { AreArrivals flights.now
         → OnOk result (flights_of (flights_text flights.now) ≡ Ok flights.now) }
 {
     let mut text = Vec::new(*into.allocator());

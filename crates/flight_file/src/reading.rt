@@ -3,13 +3,13 @@ ghost use Rattle.csv.specs.Records.{fields_of};
 ghost use Rattle.cps_base.specs.Answers.{GivesAs};
 ghost use Rattle.landing_rules.specs.Limits.{most_flights};
 ghost use Rattle.flight_file.specs.Answers.{memory_fault};
-ghost use Rattle.flight_file.specs.OfFile.{IsOfFile, CanBeRead};
+ghost use Rattle.arrivals.specs.Flights.{IsArrival, AreArrivals};
 ghost use Rattle.flight_file.specs.Reading.{is_header, has_callsign, flight_in, flight_by, header_fault, added, flights_in, flights_by, flights_of};
 
 use crate::after::read_after;
 use crate::fault::{FlightCause, FlightFault};
-use crate::flight::Flight;
 use crate::windows::read_windows;
+use arrivals::Flight;
 use cps_base::{Callsign, read_number};
 use csv::ByteRecord;
 use csv_records::{Records, field};
@@ -43,7 +43,7 @@ fn has_callsign(flights: &[Flight], name: Callsign) -> bool
 #[tactic(auto, unfolding(crate::specs::Reading::flight_in, crate::specs::Reading::flight_by))]
 fn flight_in(flights: &[Flight], row: &ByteRecord) -> Result<Flight, FlightCause>
     ensures value { result ≡ flight_in flights.now (fields_of row.now) }
-    ensures of_file { IfOk result IsOfFile }
+    ensures of_file { IfOk result IsArrival }
     ensures new { IfOk result (λ f. has_callsign flights.now f.callsign ≡ false) }
     ensures room { IfOk result (λ _. length flights.now < most_flights) }
 {
@@ -90,10 +90,10 @@ fn flight_in(flights: &[Flight], row: &ByteRecord) -> Result<Flight, FlightCause
 
 // One more flight, behind those of the records before.
 fn add_flight(flights: &mut Vec<Flight>, row: &ByteRecord) -> Result<(), FlightFault>
-    requires { CanBeRead flights.old.items }
+    requires { AreArrivals flights.old.items }
     ensures value { GivesAs memory_fault (λ _. flights.new.items) result
         (added flights.old.items (flight_in flights.old.items (fields_of row.now))) }
-    ensures of_file { OnOk result (CanBeRead flights.new.items) }
+    ensures of_file { OnOk result (AreArrivals flights.new.items) }
 {
     match flight_in(flights.as_slice(), row) {
         Ok(flight) => {
@@ -115,7 +115,7 @@ fn flights_in(
     row: &mut ByteRecord,
 ) -> Result<Vec<Flight>, FlightFault>
     ensures value { GivesAs memory_fault (λ v. v.items) result (flights_in [] records.old) }
-    ensures of_file { IfOk result (λ v. CanBeRead v.items) }
+    ensures of_file { IfOk result (λ v. AreArrivals v.items) }
 {
     let mut flights = Vec::new(alloc);
     while records.read_next(row)? {
@@ -128,7 +128,7 @@ fn flights_in(
 #[tactic(auto, unfolding(crate::specs::Reading::flights_by))]
 fn flights_by(alloc: Global, records: &mut Records) -> Result<Vec<Flight>, FlightFault>
     ensures value { GivesAs memory_fault (λ v. v.items) result (flights_by records.old) }
-    ensures of_file { IfOk result (λ v. CanBeRead v.items) }
+    ensures of_file { IfOk result (λ v. AreArrivals v.items) }
 {
     let mut row = ByteRecord::new(alloc);
     if !records.read_next(&mut row)? || !is_header(&row) {
@@ -142,7 +142,7 @@ fn flights_by(alloc: Global, records: &mut Records) -> Result<Vec<Flight>, Fligh
 #[tactic(auto, using(crate::proofs::Wide::flights_within))]
 pub fn read_flights(alloc: Global, bytes: &[u8]) -> Result<Vec<Flight>, FlightFault>
     ensures value { GivesAs memory_fault (λ v. v.items) result (flights_of bytes.now) }
-    ensures of_file { IfOk result (λ v. CanBeRead v.items) }
+    ensures of_file { IfOk result (λ v. AreArrivals v.items) }
 {
     let mut records = Records::new(alloc, bytes, 6);
     flights_by(alloc, &mut records)

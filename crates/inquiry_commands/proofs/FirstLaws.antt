@@ -9,9 +9,9 @@ use Rattle.landing_rules.specs.Events.{IsPlanShown, opening_situation}
 use Rattle.landing_rules.specs.FirstBest.{IsFirstPlan}
 use Rattle.landing_rules.specs.Text.{lines_text, plan_lines}
 use Rattle.landing_joint.specs.FirstBestLaws.{FirstBestObjectiveLaw, FirstPlanIsOneLaw}
-use Rattle.aerodrome_file.specs.declared.aerodrome.Aerodrome.{Aerodrome}
-use Rattle.flight_file.specs.declared.flight.Flight.{Flight}
-use Rattle.flight_file.specs.Seen.{flight_of}
+use Rattle.arrivals.specs.declared.aerodrome.Aerodrome.{Aerodrome}
+use Rattle.arrivals.specs.declared.flight.Flight.{Flight}
+use Rattle.arrivals.specs.Seen.{flight_of}
 use Rattle.sequencer.specs.Opened.{opening_of}
 use Rattle.openings.specs.Plan.{answer_of}
 use Rattle.inquiry_commands.specs.First.{FirstTextIsOneLaw, FirstCostsAsPlanLaw}

@@ -2,18 +2,19 @@ ghost use Rattle.std.specs.Prelude.{◌≡◌, ◌≤◌, IfOk, MatchResult, len
 ghost use Rattle.landing_rules.specs.Audit.{findings};
 ghost use Rattle.landing_rules.specs.Limits.{most_flights};
 ghost use Rattle.plan_file.specs.Blocks.{seen_block};
-ghost use Rattle.aerodrome_file.specs.Reading.{IsInRange};
-ghost use Rattle.flight_file.specs.OfFile.{CanBeRead};
+ghost use Rattle.arrivals.specs.Aerodromes.{IsInRange};
+ghost use Rattle.arrivals.specs.Flights.{AreArrivals};
 ghost use Rattle.landing_rules.specs.Sound.{IsSound};
 ghost use Rattle.plan_file.specs.Reading.{HasFewLines};
 ghost use Rattle.inquiry_commands.specs.Audit.{AdmitsAudit, FollowsAudit, IsAudited, StopsAudit, audit_answer, audit_text, report, report_answer};
 ghost use Rattle.openings.specs.Plan.{StopsOpened};
 
-use aerodrome_file::{Aerodrome, read_aerodrome};
+use aerodrome_file::read_aerodrome;
+use arrivals::{Aerodrome, Flight};
 use audit::{append_findings, audit};
 use cps_outside::Sink;
 use endings::{Answer, Ending};
-use flight_file::{Flight, read_flights};
+use flight_file::read_flights;
 use openings::{Report, print_report};
 use plan_file::{Block, PlanText, read_plan};
 use sequencer::opening;
@@ -69,7 +70,7 @@ fn report_opened(
     plan: &PlanText,
 ) -> Result<Report, Ending>
     requires range { IsInRange aerodrome }
-    requires read { CanBeRead flights.items }
+    requires read { AreArrivals flights.items }
     requires few { HasFewLines plan.now }
     ensures { MatchResult result
         (λ r. IsAudited aerodrome flights.items plan.now r.text.items r.answer)

@@ -1,16 +1,17 @@
 ghost use Rattle.std.specs.Prelude.{◌≡◌, IfOk, OnOk, Some, MatchResult};
-ghost use Rattle.aerodrome_file.specs.Reading.{IsInRange};
-ghost use Rattle.flight_file.specs.OfFile.{CanBeRead};
+ghost use Rattle.arrivals.specs.Aerodromes.{IsInRange};
+ghost use Rattle.arrivals.specs.Flights.{AreArrivals};
 ghost use Rattle.landing_rules.specs.Sound.{IsSoundState};
 ghost use Rattle.replan.specs.Kept.{problem_held};
 ghost use Rattle.inquiry_commands.specs.First.{AdmitsFirst, FollowsFirst, ShowsFirst, ShowsFirstOf};
 ghost use Rattle.openings.specs.Plan.{StopsOpened, StopsPlan};
 
-use aerodrome_file::{Aerodrome, read_aerodrome};
+use aerodrome_file::read_aerodrome;
+use arrivals::{Aerodrome, Flight};
 use cps_outside::{Gate, Sink};
 use endings::Ending;
 use first_plans::first_plan;
-use flight_file::{Flight, read_flights};
+use flight_file::read_flights;
 use openings::{Report, answer, begin, print_report};
 use plan_text::plan_block;
 use replan::AnyKept;
@@ -42,7 +43,7 @@ fn report_opened<R: Threads + Sync, G: Gate + Sync>(
     gate: &G,
 ) -> Result<Report, Ending>
     requires range { IsInRange aerodrome }
-    requires read { CanBeRead flights.items }
+    requires read { AreArrivals flights.items }
     ensures { MatchResult result
         (λ r. ShowsFirst aerodrome flights.items r.text.items r.answer)
         (StopsOpened aerodrome flights.items) }

@@ -1,14 +1,15 @@
 ghost use Rattle.std.specs.Prelude.{◌≤◌, All, MatchResult, length};
-ghost use Rattle.aerodrome_file.specs.Reading.{IsInRange};
-ghost use Rattle.flight_file.specs.OfFile.{CanBeRead};
+ghost use Rattle.arrivals.specs.Aerodromes.{IsInRange};
+ghost use Rattle.arrivals.specs.Flights.{AreArrivals};
 ghost use Rattle.trial_file.specs.Trials.{IsGood};
 ghost use Rattle.openings.specs.Plan.{StopsOpened};
 ghost use Rattle.inquiry_commands.specs.WhatIf.{AdmitsWhatIf, AreTried, FollowsWhatIf, StopsWhatIf};
 
-use aerodrome_file::{Aerodrome, read_aerodrome};
+use aerodrome_file::read_aerodrome;
+use arrivals::{Aerodrome, Flight};
 use cps_outside::{Gate, Sink};
 use endings::{Answer, Ending, Refusal};
-use flight_file::{Flight, read_flights};
+use flight_file::read_flights;
 use openings::{Report, print_report};
 use situations::opening_fault;
 use std::alloc::Global;
@@ -26,7 +27,7 @@ fn try_opened<R: Threads + Sync, G: Gate + Sync>(
     gate: &G,
 ) -> Result<Vec<u8>, Ending>
     requires range { IsInRange aerodrome.now }
-    requires read { CanBeRead flights.now }
+    requires read { AreArrivals flights.now }
     requires few { length trials.now ≤ 16 }
     requires good { All IsGood trials.now }
     ensures { MatchResult result

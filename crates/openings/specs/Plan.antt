@@ -8,13 +8,13 @@ use Rattle.cps_network.specs.Due.{IsDue}
 use Rattle.efforts.specs.Ends.{IsHeld}
 use Rattle.replan.specs.declared.any_kept.AnyKept.{AnyKept}
 use Rattle.sequencer.specs.Standing.{Standing}
-use Rattle.aerodrome_file.specs.declared.aerodrome.Aerodrome.{Aerodrome}
+use Rattle.arrivals.specs.declared.aerodrome.Aerodrome.{Aerodrome}
 use Rattle.aerodrome_file.specs.declared.fault.AeroFault.{AeroFault}
 use Rattle.aerodrome_file.specs.Reading.{aerodrome_of}
-use Rattle.flight_file.specs.declared.flight.Flight.{Flight}
+use Rattle.arrivals.specs.declared.flight.Flight.{Flight}
 use Rattle.flight_file.specs.declared.fault.FlightFault.{FlightFault}
 use Rattle.flight_file.specs.Reading.{flights_of}
-use Rattle.flight_file.specs.Seen.{flight_of}
+use Rattle.arrivals.specs.Seen.{flight_of}
 use Rattle.situations.specs.Refused.{opening_fault}
 use Rattle.sequencer.specs.Opened.{opening_of}
 use Rattle.endings.specs.declared.ending.Answer as answers

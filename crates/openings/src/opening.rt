@@ -1,14 +1,13 @@
 ghost use Rattle.std.specs.Prelude.{IfOk, MatchResult};
-ghost use Rattle.aerodrome_file.specs.Reading.{IsInRange};
-ghost use Rattle.flight_file.specs.OfFile.{CanBeRead};
+ghost use Rattle.arrivals.specs.Aerodromes.{IsInRange};
+ghost use Rattle.arrivals.specs.Flights.{AreArrivals};
 ghost use Rattle.openings.specs.Plan.{IsOpened, IsPlannedAnew, StopsOpened};
 
-use aerodrome_file::Aerodrome;
+use arrivals::{Aerodrome, Flight};
 use cps_base::{Counted, Steps};
 use cps_outside::Gate;
 use efforts::due_is_small;
 use endings::Ending;
-use flight_file::Flight;
 use replan::AnyKept;
 use sequencer::Sequencer;
 use std::alloc::Global;
@@ -24,7 +23,7 @@ pub fn begin<R: Threads + Sync, G: Gate + Sync>(
     gate: &G,
 ) -> Result<(Sequencer<AnyKept>, u64), Ending>
     requires range { IsInRange aerodrome }
-    requires read { CanBeRead flights.items }
+    requires read { AreArrivals flights.items }
     ensures opened { MatchResult result
         (λ begun. IsOpened aerodrome flights.items begun.0.state)
         (StopsOpened aerodrome flights.items) }

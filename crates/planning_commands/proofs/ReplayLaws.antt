@@ -12,8 +12,7 @@ use Rattle.landing_joint.specs.ClockLaws.{ClockShowsPlanLaw}
 use Rattle.landing_joint.specs.PassedOver.{FewPassLaw}
 use Rattle.landing_joint.specs.StepLaws.{StepKeepsSoundLaw, RunKeepsSoundLaw}
 use Rattle.replay_law.specs.Runs.{IsRunOf, TextLaw}
-use Rattle.flight_file.specs.Seen.{flight_of}
-use Rattle.event_log.specs.Seen.{event_of}
+use Rattle.arrivals.specs.Seen.{flight_of, event_of}
 use Rattle.sequencer.specs.Opened.{opening_of}
 use Rattle.planning_commands.specs.ReplayLaws.{TextFixesReplayLaw, ReplayIsSoundLaw, ClockIsNoDearerLaw, FewPassReplayLaw, EachStep, IsNoDearerAfterClock}
 

@@ -7,13 +7,13 @@ use Rattle.landing_rules.specs.Events as rules
 use Rattle.landing_rules.specs.Events.{State}
 use Rattle.landing_rules.specs.Sound.{IsGoodEvent}
 use Rattle.landing_rules.specs.Text.{replay_text}
-use Rattle.aerodrome_file.specs.declared.aerodrome.Aerodrome.{Aerodrome}
+use Rattle.arrivals.specs.declared.aerodrome.Aerodrome.{Aerodrome}
 use Rattle.aerodrome_file.specs.Reading.{aerodrome_of}
-use Rattle.flight_file.specs.declared.flight.Flight.{Flight}
+use Rattle.arrivals.specs.declared.flight.Flight.{Flight}
 use Rattle.flight_file.specs.Reading.{flights_of}
-use Rattle.event_log.specs.declared.event.Event.{Event}
+use Rattle.arrivals.specs.declared.event.Event.{Event}
 use Rattle.event_log.specs.Reading.{events_of}
-use Rattle.event_log.specs.Seen.{event_of, IsGood}
+use Rattle.arrivals.specs.Seen.{event_of, IsGood}
 use Rattle.replays.specs.Runs.{ReplayEnds}
 use Rattle.replays.specs.declared.stops.Stop.{Stop}
 use Rattle.replays.specs.declared.stops.Stop.TheVariants as stop

@@ -5,8 +5,8 @@ use Rattle.landing_rules.specs.Text.{plan_shown}
 use Rattle.cps_network.specs.shared.DueSteps.{all_due}
 use Rattle.replan.specs.declared.any_kept.AnyKept.{AnyKept}
 use Rattle.sequencer.specs.Standing.{Standing}
-use Rattle.aerodrome_file.specs.declared.aerodrome.Aerodrome.{Aerodrome}
-use Rattle.flight_file.specs.declared.flight.Flight.{Flight}
+use Rattle.arrivals.specs.declared.aerodrome.Aerodrome.{Aerodrome}
+use Rattle.arrivals.specs.declared.flight.Flight.{Flight}
 use Rattle.traffic_gen.specs.Made.{Made}
 use Rattle.plan_text.specs.Trial.{trial_text}
 use Rattle.endings.specs.declared.ending.Answer.{Answer}

@@ -4,17 +4,16 @@ use Rattle.landing_rules.specs.Events as rules
 use Rattle.landing_rules.specs.Events.{State, Answered, Run, IsOpeningState}
 use Rattle.landing_rules.specs.Sound.{IsSoundState, IsGoodEvent}
 use Rattle.landing_rules.specs.Text.{replay_text}
-use Rattle.aerodrome_file.specs.declared.aerodrome.Aerodrome.{Aerodrome}
+use Rattle.arrivals.specs.declared.aerodrome.Aerodrome.{Aerodrome}
 use Rattle.aerodrome_file.specs.declared.fault.AeroFault.{AeroFault}
 use Rattle.aerodrome_file.specs.Reading.{aerodrome_of}
-use Rattle.flight_file.specs.declared.flight.Flight.{Flight}
+use Rattle.arrivals.specs.declared.flight.Flight.{Flight}
 use Rattle.flight_file.specs.declared.fault.FlightFault.{FlightFault}
 use Rattle.flight_file.specs.Reading.{flights_of}
-use Rattle.flight_file.specs.Seen.{flight_of}
-use Rattle.event_log.specs.declared.event.Event.{Event}
+use Rattle.arrivals.specs.Seen.{flight_of, event_of}
+use Rattle.arrivals.specs.declared.event.Event.{Event}
 use Rattle.event_log.specs.declared.fault.LogFault.{LogFault}
 use Rattle.event_log.specs.Reading.{events_of}
-use Rattle.event_log.specs.Seen.{event_of}
 use Rattle.sequencer.specs.Opened.{opening_of}
 use Rattle.replays.specs.Runs.{last_state}
 use Rattle.replays.specs.declared.stops.Stop.{Stop}

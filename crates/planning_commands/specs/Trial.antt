@@ -3,7 +3,7 @@ use Rattle.std.specs.Prelude.{◌≡◌, ℕ, List, length, map}
 use Rattle.landing_rules.specs.Events.{State, IsOpeningState}
 use Rattle.landing_rules.specs.Problem.{Problem, IsProblemOf}
 use Rattle.landing_rules.specs.Text.{plan_shown}
-use Rattle.flight_file.specs.Seen.{flight_of}
+use Rattle.arrivals.specs.Seen.{flight_of}
 use Rattle.sequencer.specs.Opened.{opening_of}
 use Rattle.cps_network.specs.Due.{HasCandidatesUpto}
 use Rattle.traffic_gen.specs.Made.{Made, traffic}

@@ -1,15 +1,16 @@
 ghost use Rattle.std.specs.Prelude.{◌≡◌, IfOk, MatchResult};
 ghost use Rattle.landing_rules.specs.Text.{lines_text, plan_lines};
-ghost use Rattle.aerodrome_file.specs.Reading.{IsInRange};
-ghost use Rattle.flight_file.specs.OfFile.{CanBeRead};
+ghost use Rattle.arrivals.specs.Aerodromes.{IsInRange};
+ghost use Rattle.arrivals.specs.Flights.{AreArrivals};
 ghost use Rattle.openings.specs.Plan.{answer_of, AdmitsPlan, StopsPlan, StopsOpened};
 ghost use Rattle.planning_commands.specs.Plan.{Shows, FollowsPlan};
 
-use aerodrome_file::{Aerodrome, read_aerodrome};
+use aerodrome_file::read_aerodrome;
+use arrivals::{Aerodrome, Flight};
 use cps_outside::{Gate, Sink};
 use cps_problem::Planner;
 use endings::Ending;
-use flight_file::{Flight, read_flights};
+use flight_file::read_flights;
 use openings::{Report, answer, begin, print_report};
 use plan_text::plan_block;
 use sequencer::Sequencer;
@@ -36,7 +37,7 @@ fn report_opened<R: Threads + Sync, G: Gate + Sync>(
     gate: &G,
 ) -> Result<Report, Ending>
     requires range { IsInRange aerodrome }
-    requires read { CanBeRead flights.items }
+    requires read { AreArrivals flights.items }
     ensures { MatchResult result
         (λ r. Shows aerodrome flights.items r.text.items r.answer)
         (StopsOpened aerodrome flights.items) }

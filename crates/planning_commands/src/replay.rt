@@ -1,14 +1,15 @@
 ghost use Rattle.std.specs.Prelude.{◌≡◌, ◌≤◌, All, map, vec_len, IfOk, MatchResult};
 ghost use Rattle.landing_rules.specs.Limits.{most_events};
-ghost use Rattle.event_log.specs.Seen.{event_of, IsGood};
+ghost use Rattle.arrivals.specs.Seen.{event_of, IsGood};
 ghost use Rattle.openings.specs.Plan.{IsPlannedAnew};
 ghost use Rattle.planning_commands.specs.Replay.{ending_of, FollowsReplay, IsBegun, StopsReplay};
 
 use aerodrome_file::read_aerodrome;
+use arrivals::Event;
 use cps_base::{Silent, Steps};
 use cps_outside::{Gate, Sink};
 use endings::Ending;
-use event_log::{Event, read_events};
+use event_log::read_events;
 use flight_file::read_flights;
 use openings::{answer, begin};
 use replan::AnyKept;

@@ -1,8 +1,8 @@
 ghost use Rattle.std.specs.Prelude.{◌≡◌, ◌≤◌, [], length, MatchResult, IfOk};
 ghost use Rattle.landing_rules.specs.Limits.{most_waiting};
 ghost use Rattle.landing_rules.specs.Text.{plan_shown};
-ghost use Rattle.aerodrome_file.specs.Reading.{IsInRange};
-ghost use Rattle.flight_file.specs.OfFile.{CanBeRead};
+ghost use Rattle.arrivals.specs.Aerodromes.{IsInRange};
+ghost use Rattle.arrivals.specs.Flights.{AreArrivals};
 ghost use Rattle.plan_text.specs.Trial.{trial_text};
 ghost use Rattle.openings.specs.Plan.{answer_of};
 ghost use Rattle.planning_commands.specs.Trial.{Sums, AdmitsTrial, FollowsTrial, StopsTrial};
@@ -48,7 +48,7 @@ fn report_traffic<R: Threads + Sync, G: Gate + Sync>(
     gate: &G,
 ) -> Result<Report, Ending>
     requires range { IsInRange traffic.aerodrome }
-    requires read { CanBeRead traffic.flights }
+    requires read { AreArrivals traffic.flights }
     requires few { length traffic.flights ≤ most_waiting }
     requires none_frozen { traffic.aerodrome.frozen ≡ [] }
     requires none_passed { traffic.aerodrome.passed ≡ [] }

@@ -7,10 +7,9 @@ ghost use Rattle.situations.specs.Refused.{opening_fault};
 ghost use Rattle.sequencer.specs.Begun.{IsRefusedBy};
 
 use crate::problem::problem_of;
-use aerodrome_file::Aerodrome;
+use arrivals::{Aerodrome, Flight};
 use cps_base::Callsign;
 use cps_problem::Problem;
-use flight_file::Flight;
 use situations::{OpeningFault, Situation, opening_fault};
 use std::alloc::{AllocError, Global};
 

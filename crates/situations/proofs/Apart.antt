@@ -9,9 +9,9 @@ use Rattle.std.proofs.lemmas.List.{length-map, get_or-map, reverse-append}
 use Rattle.std.proofs.lemmas.List.Folds.{find-append}
 use Rattle.landing_rules.specs.Flights.{Active, Callsign, Flight, Span, is_waiting}
 use Rattle.landing_rules.specs.Events.{named, estimated, opening_flight}
-use Rattle.aerodrome_file.specs.declared.aerodrome.Aerodrome.{Aerodrome}
-use Rattle.flight_file.specs.declared.flight.Flight as files
-use Rattle.flight_file.specs.Seen.{flight_of}
+use Rattle.arrivals.specs.declared.aerodrome.Aerodrome.{Aerodrome}
+use Rattle.arrivals.specs.declared.flight.Flight as files
+use Rattle.arrivals.specs.Seen.{flight_of}
 use Rattle.situations.specs.Opened.{opened, opening_of}
 use Rattle.situations.specs.declared.freeze.Freeze.{Freeze}
 use Rattle.situations.specs.Freezes.{count_after, frozen_one}

@@ -15,12 +15,12 @@ use Rattle.landing_rules.specs.Events.{named, look_up, opening_flight, frozen_la
 use Rattle.landing_rules.specs.Audit.{are_apart}
 use Rattle.landing_rules.specs.Testing.{is_pair_separated}
 use Rattle.landing_rules.specs.Sound.{IsSound, IsGoodFlight, ListsNone}
-use Rattle.aerodrome_file.specs.declared.aerodrome.Aerodrome.{Aerodrome}
-use Rattle.aerodrome_file.specs.declared.frozen_list.FrozenLanding.{FrozenLanding}
-use Rattle.aerodrome_file.specs.declared.passed_list.PassedCount.{PassedCount}
-use Rattle.aerodrome_file.specs.Frozen.{AreFrozenBy, IsFrozen}
-use Rattle.flight_file.specs.declared.flight.Flight as files
-use Rattle.flight_file.specs.Seen.{flight_of}
+use Rattle.arrivals.specs.declared.aerodrome.Aerodrome.{Aerodrome}
+use Rattle.arrivals.specs.declared.frozen_list.FrozenLanding.{FrozenLanding}
+use Rattle.arrivals.specs.declared.passed_list.PassedCount.{PassedCount}
+use Rattle.arrivals.specs.Aerodromes.{AreFrozenBy, IsFrozen}
+use Rattle.arrivals.specs.declared.flight.Flight as files
+use Rattle.arrivals.specs.Seen.{flight_of}
 use Rattle.situations.specs.declared.opening_refusal.OpeningFault.{OpeningFault}
 use Rattle.situations.specs.declared.opening_refusal.OpeningFault.TheVariants as fault
 use Rattle.situations.specs.Opened.{opened, opening_of, CanOpen, HasRanges, IsKept}

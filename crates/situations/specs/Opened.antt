@@ -6,11 +6,11 @@ use Rattle.landing_rules.specs.Limits.{greatest_weight, most_flights}
 use Rattle.landing_rules.specs.Rules.{last_second}
 use Rattle.landing_rules.specs.Sound.{AreGoodWindows}
 use Rattle.landing_rules.specs.Events.{Opening, opening_situation}
-use Rattle.aerodrome_file.specs.declared.aerodrome.Aerodrome as aerodromes
-use Rattle.aerodrome_file.specs.Reading.{IsInRange}
-use Rattle.flight_file.specs.declared.flight.Flight as files
-use Rattle.flight_file.specs.OfFile.{CanBeRead}
-use Rattle.flight_file.specs.Seen.{flight_of}
+use Rattle.arrivals.specs.declared.aerodrome.Aerodrome as aerodromes
+use Rattle.arrivals.specs.Aerodromes.{IsInRange}
+use Rattle.arrivals.specs.declared.flight.Flight as files
+use Rattle.arrivals.specs.Flights.{AreArrivals}
+use Rattle.arrivals.specs.Seen.{flight_of}
 
 -- an aerodrome of the files, as the rules see it
 abbrev pub aerodrome_of : aerodromes.Aerodrome → Aerodrome
@@ -48,7 +48,7 @@ pub record CanOpen (a : aerodromes.Aerodrome) (fs : List files.Flight) : Type 0 
   pub callsigns : AllPairs (λ f later. f.callsign ≢ later.callsign) fs
 
 -- what the readers of the files give
-pub files_can_open : (a : aerodromes.Aerodrome) (fs : List files.Flight) → IsInRange a → CanBeRead fs → CanOpen a fs
+pub files_can_open : (a : aerodromes.Aerodrome) (fs : List files.Flight) → IsInRange a → AreArrivals fs → CanOpen a fs
 files_can_open a fs range read = record {
   aerodrome = range;
   few = read.few;

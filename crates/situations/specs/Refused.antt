@@ -9,11 +9,11 @@ use Rattle.landing_rules.specs.Rules.{is_open}
 use Rattle.landing_rules.specs.Events.{named}
 use Rattle.landing_rules.specs.Audit.{are_apart}
 use Rattle.landing_rules.specs.Sound.{IsSound}
-use Rattle.aerodrome_file.specs.declared.aerodrome.Aerodrome as aerodromes
-use Rattle.aerodrome_file.specs.declared.frozen_list.FrozenLanding.{FrozenLanding}
-use Rattle.aerodrome_file.specs.declared.passed_list.PassedCount.{PassedCount}
-use Rattle.flight_file.specs.declared.flight.Flight as files
-use Rattle.flight_file.specs.Seen.{flight_of}
+use Rattle.arrivals.specs.declared.aerodrome.Aerodrome as aerodromes
+use Rattle.arrivals.specs.declared.frozen_list.FrozenLanding.{FrozenLanding}
+use Rattle.arrivals.specs.declared.passed_list.PassedCount.{PassedCount}
+use Rattle.arrivals.specs.declared.flight.Flight as files
+use Rattle.arrivals.specs.Seen.{flight_of}
 use Rattle.situations.specs.declared.opening_refusal.OpeningFault.{OpeningFault}
 use Rattle.situations.specs.declared.opening_refusal.OpeningFault.TheVariants as fault
 use Rattle.situations.specs.Opened.{opened, CanOpen, IsKept}

@@ -1,9 +1,9 @@
 ghost use Rattle.std.specs.Prelude.{◌≡◌};
 ghost use Rattle.landing_rules.specs.Rules.{lists};
-ghost use Rattle.flight_file.specs.Seen.{flight_of};
+ghost use Rattle.arrivals.specs.Seen.{flight_of};
 
+use arrivals::Flight;
 use cps_base::Callsign;
-use flight_file::Flight;
 use std::alloc::AllocError;
 use std::marker::Model;
 
@@ -20,7 +20,7 @@ pub struct Active {
 
 impl Model for Active {
     ghost use Rattle.landing_rules.specs.Flights as rules;
-    ghost use Rattle.flight_file.specs.Seen.{flight_of};
+    ghost use Rattle.arrivals.specs.Seen.{flight_of};
 
     ghost Value = { rules.Active };
 

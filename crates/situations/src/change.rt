@@ -4,16 +4,14 @@ ghost use Rattle.std.specs.List.{list_any};
 ghost use Rattle.landing_rules.specs.Events.{named, estimated, newcomer, without_first, same_span, refusal, situation_after};
 ghost use Rattle.landing_rules.specs.Limits.{most_closures};
 ghost use Rattle.landing_rules.specs.Sound.{IsGoodEvent};
-ghost use Rattle.event_log.specs.Seen.{event_of};
+ghost use Rattle.arrivals.specs.Seen.{event_of, flight_of};
 ghost use Rattle.landing_rules.specs.Rules.{last_second};
-ghost use Rattle.flight_file.specs.Seen.{flight_of};
 ghost use Rattle.situations.specs.Seen.{AreApart};
 
 use crate::opening_refusal::is_named;
 use crate::{Active, Situation};
+use arrivals::{Event, Flight};
 use cps_base::Callsign;
-use event_log::Event;
-use flight_file::Flight;
 use landing_windows::WindowSet;
 use std::alloc::{AllocError, Global};
 

@@ -9,7 +9,7 @@ ghost use Rattle.situations.specs.Refused.{first_from, closed_at, clash_at, clas
 
 use crate::open_seconds::is_open;
 use crate::{Active, OpeningFault};
-use aerodrome_file::Aerodrome;
+use arrivals::Aerodrome;
 use cps_base::Callsign;
 use landing_windows::Closures;
 use std::marker::Model;

@@ -4,15 +4,14 @@ ghost use Rattle.std.specs.List.{list_any};
 ghost use Rattle.landing_rules.specs.Flights.{is_waiting};
 ghost use Rattle.landing_rules.specs.Events.{named, look_up, opening_flight};
 ghost use Rattle.landing_rules.specs.Limits.{most_flights, most_waiting};
-ghost use Rattle.flight_file.specs.Seen.{flight_of};
+ghost use Rattle.arrivals.specs.Seen.{flight_of};
 ghost use Rattle.situations.specs.Opened.{CanOpen, opened, opening_of};
 ghost use Rattle.situations.specs.Refused.{unknown_frozen_at, unknown_passed_at, is_waiting_there, too_many_waiting, name_fault, first_from, given_landing, given, rule_fault, opening_fault};
 
 use crate::Active;
 use crate::given::{Given, rule_fault};
-use aerodrome_file::{Aerodrome, FrozenLanding, FrozenList, PassedList};
+use arrivals::{Aerodrome, Flight, FrozenLanding, FrozenList, PassedList};
 use cps_base::Callsign;
-use flight_file::Flight;
 use landing_rules::MOST_WAITING;
 use std::alloc::{AllocError, Global};
 

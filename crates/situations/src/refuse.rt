@@ -6,17 +6,15 @@ ghost use Rattle.landing_rules.specs.Limits.{most_closures, most_flights, most_w
 ghost use Rattle.landing_rules.specs.Rules.{lists};
 ghost use Rattle.landing_rules.specs.Events.{named, same_span, unknown_or_frozen, clock_back, refusal, Add, Close};
 ghost use Rattle.landing_rules.specs.Events as events;
-ghost use Rattle.flight_file.specs.Seen.{flight_of};
-ghost use Rattle.event_log.specs.Seen.{event_of};
+ghost use Rattle.arrivals.specs.Seen.{flight_of, event_of};
 ghost use Rattle.situations.specs.Answers.{IsAnswer};
 ghost use Rattle.situations.specs.Seen.{AreApart};
 ghost use Rattle.situations.specs.Finds.{first_frozen_listing, earliest_covered, earlier_of};
 
 use crate::opening_refusal::{count_waiting, is_named, is_there};
 use crate::{Active, Refusal, Situation};
+use arrivals::{Event, Flight};
 use cps_base::Callsign;
-use event_log::Event;
-use flight_file::Flight;
 use landing_rules::{MOST_CLOSURES, MOST_FLIGHTS, MOST_WAITING};
 
 // The refusal of a frozen flight.

@@ -3,9 +3,8 @@ use Rattle.std.proofs.Common.{◌≡◌, ◌≢◌, ℕ, zero, suc, ◌+◌, ◌
 use Rattle.std.specs.Prelude.{All, AllPairs}
 use Rattle.std.proofs.lemmas.List.Elements.{All-nil, All-cons}
 use Rattle.std.proofs.lemmas.List.Kept.{AllPairs-cons}
-use Rattle.flight_file.specs.declared.flight.Flight.{Flight}
-use Rattle.flight_file.specs.After.{AreOthers}
-use Rattle.flight_file.specs.OfFile.{IsOfFile, CanBeRead}
+use Rattle.arrivals.specs.declared.flight.Flight.{Flight}
+use Rattle.arrivals.specs.Flights.{AreOthers, IsArrival, AreArrivals}
 use Rattle.traffic_gen.specs.Draws.{next, drawn}
 use Rattle.traffic_gen.specs.Flights.{callsign, flight, flights_from, after_three}
 
@@ -21,7 +20,7 @@ drawn_below most x h = omega arith
 no_others : (own : List ℕ) → AreOthers own []
 no_others own = record { other = λ k d h. absurd (omega arith); once = λ i j d h g. absurd (omega arith) }
 
-of_file : (number before x : ℕ) → before + 119 ≤ 172799 → IsOfFile (flight number before x)
+of_file : (number before x : ℕ) → before + 119 ≤ 172799 → IsArrival (flight number before x)
 unfolding flight
 of_file number before x h = record {
   eta = let less = drawn_below 60 (next x) (omega arith) in omega arith;
@@ -29,12 +28,12 @@ of_file number before x h = record {
   after = no_others (callsign number);
 }
 
-all_of_file : (n number before x : ℕ) → before + 119 * n ≤ 172799 → All IsOfFile (flights_from n number before x)
+all_of_file : (n number before x : ℕ) → before + 119 * n ≤ 172799 → All IsArrival (flights_from n number before x)
 unfolding flights_from
-all_of_file zero number before x h = All-nil IsOfFile
+all_of_file zero number before x h = All-nil IsArrival
 all_of_file (suc n) number before x h =
     let less = drawn_below 60 (next x) (omega arith) in
-    All-cons IsOfFile (flight number before x) (flights_from n (number + 1) (before + 60 + drawn 60 (next x)) (after_three x))
+    All-cons IsArrival (flight number before x) (flights_from n (number + 1) (before + 60 + drawn 60 (next x)) (after_three x))
     (of_file number before x (omega arith))
     (all_of_file n (number + 1) (before + 60 + drawn 60 (next x)) (after_three x) (omega arith))
 
@@ -77,7 +76,7 @@ one_more made all k n number before x h e =
     let whole : made ++ flights_from (suc n) number before x ≡ all = rw h at e in
     append_assoc made (flight number before x ∷ []) (flights_from n (number + 1) (before + 60 + drawn 60 (next x)) (after_three x)) ∙ whole
 
-pub can_be_read : (n seed : ℕ) → n ≤ 60 → CanBeRead (flights_from n 1 3600 seed)
+pub can_be_read : (n seed : ℕ) → n ≤ 60 → AreArrivals (flights_from n 1 3600 seed)
 can_be_read n seed h = record {
   few = let so_many = flights_length n 1 3600 seed in omega arith;
   flights = all_of_file n 1 3600 seed (omega arith);

@@ -1,7 +1,7 @@
 -- The traffic of a seed.
 use Rattle.std.specs.Prelude.{ℕ, List}
-use Rattle.aerodrome_file.specs.declared.aerodrome.Aerodrome.{Aerodrome}
-use Rattle.flight_file.specs.declared.flight.Flight.{Flight}
+use Rattle.arrivals.specs.declared.aerodrome.Aerodrome.{Aerodrome}
+use Rattle.arrivals.specs.declared.flight.Flight.{Flight}
 use Rattle.traffic_gen.specs.Sample.{aerodrome_with}
 use Rattle.traffic_gen.specs.Flights.{flights_from}
 

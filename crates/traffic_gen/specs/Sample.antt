@@ -1,7 +1,7 @@
 -- The sample table of separations, and the aerodrome of a trial.
 use Rattle.std.specs.Prelude.{ℕ, List, [], ◌∷◌, None, false}
 use Rattle.landing_rules.specs.declared.objective.Objective.TheVariants.{Makespan}
-use Rattle.aerodrome_file.specs.declared.aerodrome.Aerodrome.{Aerodrome}
+use Rattle.arrivals.specs.declared.aerodrome.Aerodrome.{Aerodrome}
 
 -- for each leader in letter order, the seconds of the followers A to F
 abbrev pub sample_table : List (List ℕ)

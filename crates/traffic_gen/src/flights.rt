@@ -1,12 +1,12 @@
 // The flights that a state makes.
-ghost use Rattle.std.specs.Prelude.{◌≡◌, ◌+◌, ◌<◌, ◌≤◌, [], IfOk};
+ghost use Rattle.std.specs.Prelude.{◌≡◌, ◌+◌, ◌<◌, ◌≤◌, IfOk};
 ghost use Rattle.landing_rules.specs.Limits.{most_waiting};
 ghost use Rattle.traffic_gen.specs.Draws.{next, drawn};
 ghost use Rattle.traffic_gen.specs.Flights.{callsign, category_at, window_from, flight, flights_from};
 
 use crate::draws::{drawn, next};
+use arrivals::{After, Flight};
 use cps_base::Callsign;
-use flight_file::{After, Flight, read_after};
 use landing_windows::WindowSet;
 use std::alloc::{AllocError, Global};
 use wake_table::{CATEGORIES, Category};
@@ -49,17 +49,6 @@ fn window_from(eta: u32) -> WindowSet
     }
 }
 
-// No predecessor.
-#[tactic(auto, unfolding(flight_file::specs::After::names_in))]
-fn no_predecessor(own: Callsign) -> After
-    ensures { result ≡ [] }
-{
-    match read_after(&[], own) {
-        Ok(after) => after,
-        Err(_) => unreachable!(),
-    }
-}
-
 // The flight of this number, behind one that is due at second `before`.
 #[tactic(auto, unfolding(crate::specs::Flights::flight))]
 fn flight(number: u8, before: u32, state: u64) -> Flight
@@ -79,7 +68,7 @@ fn flight(number: u8, before: u32, state: u64) -> Flight
         eta,
         weight: 1 + drawn(5, weighed) as u32,
         windows: window_from(eta),
-        after: no_predecessor(callsign),
+        after: After::new(callsign),
     }
 }
 

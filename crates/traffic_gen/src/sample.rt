@@ -1,9 +1,9 @@
 // The aerodrome of a trial.
 ghost use Rattle.std.specs.Prelude.{◌≡◌, ◌≤◌};
-ghost use Rattle.aerodrome_file.specs.Reading.{IsInRange};
+ghost use Rattle.arrivals.specs.Aerodromes.{IsInRange};
 ghost use Rattle.traffic_gen.specs.Sample.{sample_table, aerodrome_with};
 
-use aerodrome_file::{Aerodrome, FrozenList, PassedList};
+use arrivals::{Aerodrome, FrozenList, PassedList};
 use landing_rules::Objective;
 use landing_windows::Closures;
 use std::alloc::Global;

@@ -1,13 +1,12 @@
 ghost use Rattle.std.specs.Prelude.{◌≡◌, ◌≤◌, IfOk, length};
 ghost use Rattle.landing_rules.specs.Limits.{most_waiting};
-ghost use Rattle.aerodrome_file.specs.Reading.{IsInRange};
-ghost use Rattle.flight_file.specs.OfFile.{CanBeRead};
+ghost use Rattle.arrivals.specs.Aerodromes.{IsInRange};
+ghost use Rattle.arrivals.specs.Flights.{AreArrivals};
 ghost use Rattle.traffic_gen.specs.Made.{traffic};
 
 use crate::flights::flights;
 use crate::sample::aerodrome_with;
-use aerodrome_file::Aerodrome;
-use flight_file::Flight;
+use arrivals::{Aerodrome, Flight};
 use std::alloc::{AllocError, Global};
 use std::marker::Model;
 
@@ -44,7 +43,7 @@ pub fn generate(alloc: Global, seed: u64, n: u8, k: u8) -> Result<Traffic, Alloc
     requires shifts { k ≤ 3 }
     ensures value { IfOk result (λ t. t ≡ traffic seed n k) }
     ensures range { IfOk result (λ t. IsInRange t.aerodrome) }
-    ensures of_file { IfOk result (λ t. CanBeRead t.flights) }
+    ensures of_file { IfOk result (λ t. AreArrivals t.flights) }
     ensures count { IfOk result (λ t. length t.flights ≡ n) }
 {
     let flights = flights(alloc, seed, n)?;

@@ -3,7 +3,7 @@ use Rattle.std.proofs.Common.{◌≡◌, ℕ, ◌+◌, ◌≤◌, List, ◌∷�
 use Rattle.std.specs.Prelude.{slice_get, nat_lt, if◌then◌else◌}
 use Rattle.std.proofs.lemmas.List.{drop_more, drop_all}
 use Rattle.std.proofs.lemmas.Option.{slice_get_within, get_or_from_slice_get}
-use Rattle.aerodrome_file.specs.declared.passed_list.PassedCount.{PassedCount}
+use Rattle.arrivals.specs.declared.passed_list.PassedCount.{PassedCount}
 use Rattle.whatif.specs.Outcomes.{first_above}
 
 module _ (k : ℕ) (ps : List PassedCount) (i : ℕ) (p : PassedCount) (at : slice_get ps i ≡ Some p) where

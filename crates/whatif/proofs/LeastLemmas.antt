@@ -8,7 +8,7 @@ use Rattle.landing_rules.specs.Problem.{Problem, IsProblemOf, joined}
 use Rattle.landing_rules.specs.Sound.{IsSound}
 use Rattle.landing_joint.specs.ProblemLaws.{BestListLaw, SameObjectiveLaw, NoListLaw}
 use Rattle.cps_problem.specs.Plans.{IsWithinShift, IsPlannable}
-use Rattle.aerodrome_file.specs.Reading.{is_delay, most_shift}
+use Rattle.arrivals.specs.Aerodromes.{is_delay, most_shift}
 use Rattle.replan.specs.LeastValue.{IsLeastValue}
 use Rattle.whatif.specs.declared.outcome.Outcome.TheVariants.{Value, Infeasible}
 use Rattle.whatif.specs.Outcomes.{HasLeast}

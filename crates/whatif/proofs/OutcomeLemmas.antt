@@ -5,8 +5,8 @@ use Rattle.std.specs.List.{AllZip}
 use Rattle.landing_rules.specs.Flights.{Situation, Schedule, Span, Landing}
 use Rattle.landing_rules.specs.Rules.{IsFeasible, IsBest, objective, is_shut}
 use Rattle.landing_rules.specs.Events as rules
-use Rattle.aerodrome_file.specs.declared.aerodrome.Aerodrome as aerodromes
-use Rattle.flight_file.specs.declared.flight.Flight as files
+use Rattle.arrivals.specs.declared.aerodrome.Aerodrome as aerodromes
+use Rattle.arrivals.specs.declared.flight.Flight as files
 use Rattle.situations.specs.Answers.{IsAnswer}
 use Rattle.situations.specs.declared.refusal.Refusal as code
 use Rattle.situations.specs.declared.refusal.Refusal.TheVariants as code_is

@@ -3,10 +3,10 @@ use Rattle.std.proofs.Common.{◌≡◌, ℕ, zero, suc, ◌+◌, ◌≤◌, Lis
 use Rattle.std.specs.Prelude.{All, ◌&&◌, nat_lt, option_map, if◌then◌else◌, Result, Ok, Err, IfOk}
 use Rattle.landing_rules.specs.declared.objective.Objective.{Objective}
 use Rattle.landing_rules.specs.declared.objective.Objective.TheVariants.{Makespan, Delay}
-use Rattle.aerodrome_file.specs.declared.aerodrome.Aerodrome as aerodromes
-use Rattle.aerodrome_file.specs.declared.passed_list.PassedCount.{PassedCount}
-use Rattle.aerodrome_file.specs.Reading.{IsInRange, is_delay, is_beyond, most_shift}
-use Rattle.flight_file.specs.declared.flight.Flight as files
+use Rattle.arrivals.specs.declared.aerodrome.Aerodrome as aerodromes
+use Rattle.arrivals.specs.declared.passed_list.PassedCount.{PassedCount}
+use Rattle.arrivals.specs.Aerodromes.{IsInRange, is_delay, is_beyond, most_shift}
+use Rattle.arrivals.specs.declared.flight.Flight as files
 use Rattle.landing_joint.specs.Shift.{with_shift}
 use Rattle.situations.specs.Opened.{CanOpen, opened}
 use Rattle.situations.specs.Refused.{IsOpenable}

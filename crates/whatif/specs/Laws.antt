@@ -1,7 +1,7 @@
 -- More shift is never worse, and a closure never better.
 use Rattle.std.specs.Prelude.{◌≡◌, ℕ, ◌≤◌, List, None, ⊤}
-use Rattle.aerodrome_file.specs.declared.aerodrome.Aerodrome as aerodromes
-use Rattle.flight_file.specs.declared.flight.Flight as files
+use Rattle.arrivals.specs.declared.aerodrome.Aerodrome as aerodromes
+use Rattle.arrivals.specs.declared.flight.Flight as files
 use Rattle.situations.specs.Opened.{opened}
 use Rattle.trial_file.specs.declared.trial.Trial.TheVariants.{Shift, Close}
 use Rattle.whatif.specs.declared.outcome.Outcome.{Outcome}

@@ -5,10 +5,10 @@ use Rattle.landing_rules.specs.Flights.{Situation, Schedule}
 use Rattle.landing_rules.specs.Rules.{IsFeasible, IsBest, objective}
 use Rattle.landing_rules.specs.Events as rules
 use Rattle.landing_joint.specs.Shift.{with_shift}
-use Rattle.aerodrome_file.specs.declared.aerodrome.Aerodrome as aerodromes
-use Rattle.aerodrome_file.specs.declared.passed_list.PassedCount.{PassedCount}
-use Rattle.aerodrome_file.specs.Reading.{is_beyond}
-use Rattle.flight_file.specs.declared.flight.Flight as files
+use Rattle.arrivals.specs.declared.aerodrome.Aerodrome as aerodromes
+use Rattle.arrivals.specs.declared.passed_list.PassedCount.{PassedCount}
+use Rattle.arrivals.specs.Aerodromes.{is_beyond}
+use Rattle.arrivals.specs.declared.flight.Flight as files
 use Rattle.situations.specs.Opened.{opened}
 use Rattle.situations.specs.declared.refusal.Refusal as code
 use Rattle.situations.specs.declared.refusal.Refusal.TheVariants as found

@@ -2,12 +2,11 @@
 ghost use Rattle.std.specs.Prelude.{◌≡◌, ◌≤◌, Some, length, nat_lt};
 ghost use Rattle.landing_rules.specs.Events as rules;
 ghost use Rattle.landing_rules.specs.Limits.{most_waiting};
-ghost use Rattle.aerodrome_file.specs.Reading.{is_beyond};
+ghost use Rattle.arrivals.specs.Aerodromes.{is_beyond};
 ghost use Rattle.whatif.specs.Outcomes.{first_above, shift_refusal, closure_refusal, found_refusal};
 
 use crate::outcome::TrialRefusal;
-use aerodrome_file::{Aerodrome, PassedList};
-use event_log::Event;
+use arrivals::{Aerodrome, Event, PassedList};
 use landing_rules::Objective;
 use situations::{Refusal, Situation};
 

@@ -12,10 +12,8 @@ ghost use Rattle.situations.specs.Opened.{opened};
 
 use crate::outcome::Outcome;
 use crate::refusal::{closure_refusal, shift_refusal};
-use aerodrome_file::Aerodrome;
+use arrivals::{Aerodrome, Event, Flight};
 use cps_outside::Gate;
-use event_log::Event;
-use flight_file::Flight;
 use label_workers::fill_lists;
 use landing_joint::laws::{every_step_keeps_soundness, problem_stands_for_situation};
 use replan::least_value;

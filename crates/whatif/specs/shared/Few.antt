@@ -1,8 +1,8 @@
 -- There is one outcome more than there are trials, so at most 17.
 use Rattle.std.proofs.Common.{◌≡◌, suc, ◌≤◌, List, [], ◌∷◌, length, refl, ap, arith}
 use Rattle.std.specs.List.{AllZip}
-use Rattle.aerodrome_file.specs.declared.aerodrome.Aerodrome as aerodromes
-use Rattle.flight_file.specs.declared.flight.Flight as files
+use Rattle.arrivals.specs.declared.aerodrome.Aerodrome as aerodromes
+use Rattle.arrivals.specs.declared.flight.Flight as files
 use Rattle.trial_file.specs.declared.trial.Trial.{Trial}
 use Rattle.whatif.specs.declared.outcome.Outcome.{Outcome}
 use Rattle.whatif.specs.Outcomes.{AreOutcomes, IsOutcomeOf}

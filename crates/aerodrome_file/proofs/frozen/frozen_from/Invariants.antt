@@ -1,7 +1,8 @@
 -- The entries so far, and those of the tables that are left behind them, are those of all.
 use Rattle.std.proofs.Common.{◌≡◌, ◌+◌, ◌≤◌, [], length}
 use Rattle.toml.specs.View.{items_view}
-use Rattle.aerodrome_file.specs.Frozen.{frozen_from, AreFrozen}
+use Rattle.arrivals.specs.Aerodromes.{AreFrozen}
+use Rattle.aerodrome_file.specs.Frozen.{frozen_from}
 use Rattle.aerodrome_file.proofs.frozen.frozen_from.Given as goal
 
 abbrev pub invariant-loop-rest : goal.invariant-loop-rest

@@ -1,7 +1,8 @@
 -- The entries so far, and those of the tables that are left behind them, are those of all.
 use Rattle.std.proofs.Common.{◌≡◌, ◌+◌, ◌≤◌, [], length}
 use Rattle.toml.specs.View.{items_view}
-use Rattle.aerodrome_file.specs.Passed.{passed_from, ArePassed}
+use Rattle.arrivals.specs.Aerodromes.{ArePassed}
+use Rattle.aerodrome_file.specs.Passed.{passed_from}
 use Rattle.aerodrome_file.proofs.passed.passed_from.Given as goal
 
 abbrev pub invariant-loop-rest : goal.invariant-loop-rest

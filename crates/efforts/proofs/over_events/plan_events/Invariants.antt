@@ -1,5 +1,5 @@
 use Rattle.std.proofs.Common.{◌+◌, map, drop}
-use Rattle.event_log.specs.Seen.{event_of}
+use Rattle.arrivals.specs.Seen.{event_of}
 use Rattle.efforts.proofs.Efforts.{Done}
 use Rattle.efforts.proofs.over_events.plan_events.Given as goal
 

@@ -1,7 +1,7 @@
 -- The records that are left, behind the events so far, give what all of them give.
 use Rattle.std.proofs.Common.{◌≡◌, ◌≤◌, [], length, vec_len}
 use Rattle.std.specs.Prelude.{All}
-use Rattle.event_log.specs.Seen.{IsGood}
+use Rattle.arrivals.specs.Seen.{IsGood}
 use Rattle.event_log.specs.Reading.{events_in}
 use Rattle.event_log.proofs.reading.events_in.Given as goal
 

@@ -1,6 +1,6 @@
 -- None is left at the end.
 use Rattle.std.proofs.Common.{◌<◌, List, [], ◌∷◌, length, arith}
-use Rattle.flight_file.specs.declared.flight.Flight.{Flight}
+use Rattle.arrivals.specs.declared.flight.Flight.{Flight}
 use Rattle.flight_file.specs.Kept.{AreKept}
 use Rattle.flight_file.proofs.printing.append_flights.Goals as goal
 

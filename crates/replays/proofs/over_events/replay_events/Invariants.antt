@@ -1,5 +1,5 @@
 use Rattle.std.proofs.Common.{◌+◌, map, drop}
-use Rattle.event_log.specs.Seen.{event_of}
+use Rattle.arrivals.specs.Seen.{event_of}
 use Rattle.replays.proofs.Replays.{Done}
 use Rattle.replays.proofs.over_events.replay_events.Given as goal
 

@@ -4,8 +4,8 @@ use Rattle.std.proofs.lemmas.Bool.{cases_Bool}
 use Rattle.landing_rules.specs.declared.objective.Objective.{Objective}
 use Rattle.landing_rules.specs.declared.objective.Objective.TheVariants.{Makespan, Delay}
 use Rattle.landing_rules.specs.Flights.{Situation}
-use Rattle.aerodrome_file.specs.declared.aerodrome.Aerodrome.{Aerodrome}
-use Rattle.aerodrome_file.specs.Reading.{IsInRange, is_delay, most_shift}
+use Rattle.arrivals.specs.declared.aerodrome.Aerodrome.{Aerodrome}
+use Rattle.arrivals.specs.Aerodromes.{IsInRange, is_delay, most_shift}
 use Rattle.cps_problem.specs.Plans.{IsWithinShift}
 use Rattle.situations.specs.Opened.{aerodrome_of}
 use Rattle.sequencer.proofs.begin.open.Goals as goal

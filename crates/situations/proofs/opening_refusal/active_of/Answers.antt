@@ -4,8 +4,8 @@ use Rattle.std.proofs.lemmas.Iterator.{items_from_collect, YieldsList-from_map, 
 use Rattle.std.proofs.lemmas.Result.{IfOk-weaker}
 use Rattle.std.proofs.lemmas.Simd.{map-map}
 use Rattle.landing_rules.specs.Events.{opening_flight}
-use Rattle.flight_file.specs.declared.flight.Flight.{Flight}
-use Rattle.flight_file.specs.Seen.{flight_of}
+use Rattle.arrivals.specs.declared.flight.Flight.{Flight}
+use Rattle.arrivals.specs.Seen.{flight_of}
 use Rattle.situations.specs.Opened.{opening_of}
 use Rattle.situations.proofs.opening_refusal.active_of.Goals as goal
 

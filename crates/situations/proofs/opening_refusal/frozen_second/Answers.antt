@@ -3,7 +3,7 @@ use Rattle.std.specs.Prelude.{option_map}
 use Rattle.std.specs.Str.{bytes_eq}
 use Rattle.std.proofs.lemmas.Iterator.{YieldsList-from_slice}
 use Rattle.std.proofs.lemmas.Iterator.Search.{find_from_yields_List}
-use Rattle.aerodrome_file.specs.declared.frozen_list.FrozenLanding.{FrozenLanding}
+use Rattle.arrivals.specs.declared.frozen_list.FrozenLanding.{FrozenLanding}
 use Rattle.situations.proofs.Firsts.{looked_up}
 use Rattle.situations.proofs.opening_refusal.frozen_second.Goals as goal
 

@@ -3,7 +3,7 @@ use Rattle.std.specs.Prelude.{option_map, unwrap_or}
 use Rattle.std.specs.Str.{bytes_eq}
 use Rattle.std.proofs.lemmas.Iterator.{YieldsList-from_slice}
 use Rattle.std.proofs.lemmas.Iterator.Search.{find_from_yields_List}
-use Rattle.aerodrome_file.specs.declared.passed_list.PassedCount.{PassedCount}
+use Rattle.arrivals.specs.declared.passed_list.PassedCount.{PassedCount}
 use Rattle.situations.proofs.Firsts.{looked_up}
 use Rattle.situations.proofs.opening_refusal.passed_count.Goals as goal
 

@@ -3,7 +3,7 @@ use Rattle.std.specs.List.{list_any}
 use Rattle.landing_rules.specs.Events.{named}
 use Rattle.std.proofs.lemmas.Iterator.{YieldsList-from_slice}
 use Rattle.std.proofs.lemmas.Iterator.Search.{position_from_yields_List}
-use Rattle.aerodrome_file.specs.declared.frozen_list.FrozenLanding.{FrozenLanding}
+use Rattle.arrivals.specs.declared.frozen_list.FrozenLanding.{FrozenLanding}
 use Rattle.situations.specs.declared.opening_refusal.OpeningFault.TheVariants as fault
 use Rattle.situations.proofs.Firsts.{first_place}
 use Rattle.situations.proofs.opening_refusal.unknown_frozen.Goals as goal

@@ -1,7 +1,7 @@
 use Rattle.std.proofs.Common.{not, rules, tests, ◌∙◌}
 use Rattle.std.proofs.lemmas.Iterator.{YieldsList-from_slice}
 use Rattle.std.proofs.lemmas.Iterator.Search.{position_from_yields_List}
-use Rattle.aerodrome_file.specs.declared.passed_list.PassedCount.{PassedCount}
+use Rattle.arrivals.specs.declared.passed_list.PassedCount.{PassedCount}
 use Rattle.situations.specs.declared.opening_refusal.OpeningFault.TheVariants as fault
 use Rattle.situations.specs.Refused.{is_waiting_there}
 use Rattle.situations.proofs.Firsts.{first_place}

@@ -2,7 +2,7 @@ use Rattle.std.proofs.Common.{subst}
 use Rattle.std.specs.Prelude.{All}
 use Rattle.std.proofs.lemmas.List.{take_all}
 use Rattle.std.proofs.lemmas.List.Elements.{All-more}
-use Rattle.flight_file.specs.Seen.{flight_of}
+use Rattle.arrivals.specs.Seen.{flight_of}
 use Rattle.situations.specs.Opened.{IsKept}
 use Rattle.situations.proofs.situation.all_known.Goals as goal
 

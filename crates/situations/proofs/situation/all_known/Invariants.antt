@@ -1,6 +1,6 @@
 use Rattle.std.proofs.Common.{take}
 use Rattle.std.specs.Prelude.{All}
-use Rattle.flight_file.specs.Seen.{flight_of}
+use Rattle.arrivals.specs.Seen.{flight_of}
 use Rattle.situations.specs.Opened.{IsKept}
 use Rattle.situations.proofs.situation.all_known.Given as goal
 

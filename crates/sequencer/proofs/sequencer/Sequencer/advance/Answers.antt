@@ -1,6 +1,6 @@
 use Rattle.std.proofs.Common.{ap, ◌∙◌}
 use Rattle.landing_rules.specs.Events.{refusal, situation_after}
-use Rattle.event_log.specs.Seen.{event_of}
+use Rattle.arrivals.specs.Seen.{event_of}
 use Rattle.sequencer.proofs.Kept.{next_sound, next_in_step}
 use Rattle.sequencer.proofs.sequencer.Sequencer.advance.Goals as goal
 

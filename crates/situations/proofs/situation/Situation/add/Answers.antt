@@ -3,7 +3,7 @@ use Rattle.std.specs.List.{list_any}
 use Rattle.std.proofs.lemmas.List.Quantifiers.{all_pairs_push}
 use Rattle.landing_rules.specs.Flights.{Situation}
 use Rattle.landing_rules.specs.Events.{named}
-use Rattle.flight_file.specs.declared.flight.Flight as files
+use Rattle.arrivals.specs.declared.flight.Flight as files
 use Rattle.situations.specs.Seen.{AreApart}
 use Rattle.situations.proofs.Apart.{none_named}
 use Rattle.situations.proofs.situation.Situation.add.Goals as goal

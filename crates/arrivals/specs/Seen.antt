@@ -1,9 +1,13 @@
--- An event of the log, as the rules see it.
+-- A flight of the file and an event of the log, as the rules see them.
+use Rattle.landing_rules.specs.Flights as flights
 use Rattle.landing_rules.specs.Events as rules
 use Rattle.landing_rules.specs.Sound.{IsGoodEvent}
-use Rattle.flight_file.specs.Seen.{flight_of}
-use Rattle.event_log.specs.declared.event.Event.{Event}
-use Rattle.event_log.specs.declared.event.Event.TheVariants.{Estimate, Cancel, Add, Close, Reopen, Clock}
+use Rattle.arrivals.specs.declared.flight.Flight.{Flight}
+use Rattle.arrivals.specs.declared.event.Event.{Event}
+use Rattle.arrivals.specs.declared.event.Event.TheVariants.{Estimate, Cancel, Add, Close, Reopen, Clock}
+
+abbrev pub flight_of : Flight → flights.Flight
+flight_of f = record { callsign = f.callsign; category = f.category; eta = f.eta; weight = f.weight; windows = f.windows; after = f.after }
 
 abbrev pub event_of : Event → rules.Event
 event_of (Estimate callsign eta windows) = rules.Estimate callsign eta windows

@@ -21,7 +21,7 @@ pub struct PassedList {
 
 impl Model for PassedList {
     ghost use Rattle.std.specs.Prelude.{List};
-    ghost use Rattle.aerodrome_file.specs.declared.passed_list.PassedCount.{PassedCount};
+    ghost use Rattle.arrivals.specs.declared.passed_list.PassedCount.{PassedCount};
 
     ghost Value = { List PassedCount };
 

@@ -21,7 +21,7 @@ pub struct FrozenList {
 
 impl Model for FrozenList {
     ghost use Rattle.std.specs.Prelude.{List};
-    ghost use Rattle.aerodrome_file.specs.declared.frozen_list.FrozenLanding.{FrozenLanding};
+    ghost use Rattle.arrivals.specs.declared.frozen_list.FrozenLanding.{FrozenLanding};
 
     ghost Value = { List FrozenLanding };
 

@@ -1,5 +1,5 @@
+use crate::flight::Flight;
 use cps_base::Callsign;
-use flight_file::Flight;
 use landing_windows::WindowSet;
 
 /// An event of the log. Seconds run from 0 to 172,799.

@@ -1,0 +1,3 @@
+pub mod Aerodromes
+pub mod Flights
+pub mod Seen
