@@ -7,13 +7,14 @@ use Rattle.landing_rules.specs.Problem.{Problem, IsProblemOf}
 use Rattle.landing_rules.specs.Text.{Bytes}
 use Rattle.cps_network.specs.Due.{IsDue}
 use Rattle.replan.specs.declared.any_kept.AnyKept.{AnyKept}
-use Rattle.replays.specs.Runs.{last_state, Wrote, WrotePart}
-use Rattle.replays.specs.shared.LongerRuns.{Run-push, last_state-push}
-use Rattle.replays.specs.shared.Written.{wrote_nothing, wrote_after, part_after}
-use Rattle.replays.specs.declared.stops.Stop.{Stop}
-use Rattle.replays.specs.declared.stops.Stop.TheVariants as stop
+use Rattle.event_answers.specs.Runs.{last_state}
+use Rattle.event_answers.specs.Written.{Wrote, WrotePart}
+use Rattle.event_answers.specs.shared.LongerRuns.{Run-push, last_state-push}
+use Rattle.event_answers.specs.shared.Written.{wrote_nothing, wrote_after, part_after}
+use Rattle.event_answers.specs.declared.stops.Stop.{Stop}
+use Rattle.event_answers.specs.declared.stops.Stop.TheVariants as stop
 use Rattle.sequencer.specs.Standing.{Standing}
-use Rattle.plan_text.specs.Refused.{refused_text}
+use Rattle.event_answers.specs.Refused.{refused_text}
 use Rattle.situations.specs.Answers.{refusal_of}
 use Rattle.situations.specs.declared.refusal.Refusal as refusals
 use Rattle.situations.specs.declared.refusal.Refusal.TheVariants as refusal

@@ -6,9 +6,10 @@ use Rattle.landing_rules.specs.Problem.{Problem, IsProblemOf}
 use Rattle.landing_rules.specs.Text.{Bytes}
 use Rattle.replan.specs.Kept.{problem_held}
 use Rattle.replan.specs.declared.any_kept.AnyKept.{AnyKept}
-use Rattle.replays.specs.Runs.{last_state, Wrote, WrotePart}
-use Rattle.replays.specs.declared.stops.Stop.{Stop}
-use Rattle.replays.specs.declared.stops.Stop.TheVariants as stop
+use Rattle.event_answers.specs.Runs.{last_state}
+use Rattle.event_answers.specs.Written.{Wrote, WrotePart}
+use Rattle.event_answers.specs.declared.stops.Stop.{Stop}
+use Rattle.event_answers.specs.declared.stops.Stop.TheVariants as stop
 use Rattle.sequencer.specs.Standing.{Standing}
 use Rattle.efforts.specs.Bound.{most_steps}
 use Rattle.efforts.specs.Efforts.{TakesSteps, Plannings, Effort, answers_of, steps_of, answer_line, answer_lines, effort_text}

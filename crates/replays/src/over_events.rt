@@ -3,11 +3,11 @@ ghost use Rattle.landing_rules.specs.Sound.{IsGoodEvent};
 ghost use Rattle.event_log.specs.Seen.{event_of, IsGood};
 ghost use Rattle.replays.specs.Runs.{Puts, Opens, StepWrites, EventsWrite, ReplayEnds};
 
-use crate::stops::Stop;
 use crate::texts::{accepted, begun, refused};
 use cps_base::{Ledger, Steps};
 use cps_outside::{Gate, Sink};
 use cps_problem::Planner;
+use event_answers::Stop;
 use event_log::Event;
 use plan_text::FrozenLines;
 use sequencer::Sequencer;

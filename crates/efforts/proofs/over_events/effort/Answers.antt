@@ -5,7 +5,7 @@ use Rattle.std.proofs.lemmas.Result.{err_from_is_err_and}
 use Rattle.landing_rules.specs.Problem.{Problem}
 use Rattle.cps_network.specs.Due.{IsDue}
 use Rattle.event_log.specs.Seen.{event_of}
-use Rattle.replays.specs.Runs.{Wrote}
+use Rattle.event_answers.specs.Written.{Wrote}
 use Rattle.efforts.specs.Bound.{most_steps}
 use Rattle.efforts.specs.Efforts.{total_line}
 use Rattle.efforts.specs.Ends.{WritesSteps}
