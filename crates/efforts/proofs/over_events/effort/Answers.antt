@@ -6,7 +6,7 @@ use Rattle.landing_rules.specs.Problem.{Problem}
 use Rattle.cps_network.specs.Due.{IsDue}
 use Rattle.event_log.specs.Seen.{event_of}
 use Rattle.event_answers.specs.Written.{Wrote}
-use Rattle.efforts.specs.Bound.{most_steps}
+use Rattle.replan.specs.Bound.{most_steps}
 use Rattle.efforts.specs.Efforts.{total_line}
 use Rattle.efforts.specs.Ends.{WritesSteps}
 use Rattle.efforts.proofs.Efforts.{stops_at_once, stops_after, stops_last, ends_whole}
