@@ -13,7 +13,6 @@ mod sequencer;
 mod waiting;
 
 pub use begin::{opening, opening_problem};
-pub use plan::Plan;
 pub use problem::problem_of;
 pub use sequencer::Sequencer;
 pub use situations::{BeginFault, Refusal};

@@ -16,7 +16,7 @@ ghost use Rattle.situations.specs.Refused.{opening_fault};
 ghost use Rattle.situations.specs.Begun.{IsRefusedBy, opening_fault_of};
 
 use crate::begin::open;
-use crate::plan::{Plan, plan_of};
+use crate::plan::plan_of;
 use crate::problem::posed;
 use crate::seconds::joined_seconds;
 use aerodrome_file::Aerodrome;
@@ -28,6 +28,7 @@ use extract_plan::value_of;
 use fcfs_order::Order;
 use flight_file::Flight;
 use landing_joint::laws::{every_step_keeps_soundness, problem_stands_for_situation};
+use plan_file::Plan;
 use situations::{BeginFault, Refusal, Situation};
 use std::alloc::{AllocError, Global};
 use std::marker::Model;
