@@ -6,20 +6,22 @@ use Rattle.landing_rules.specs.Events.{State, Event, Refusal, Step, Answered, Ru
 use Rattle.landing_rules.specs.Problem.{Problem, IsProblemOf}
 use Rattle.landing_rules.specs.Text.{Bytes}
 use Rattle.cps_network.specs.Due.{IsDue}
+use Rattle.replan.specs.Kept.{Holds}
 use Rattle.replan.specs.declared.any_kept.AnyKept.{AnyKept}
-use Rattle.replays.specs.Runs.{last_state, Wrote, WrotePart}
-use Rattle.replays.specs.shared.LongerRuns.{Run-push, last_state-push}
-use Rattle.replays.specs.shared.Written.{wrote_nothing, wrote_after, part_after}
-use Rattle.replays.specs.declared.stops.Stop.{Stop}
-use Rattle.replays.specs.declared.stops.Stop.TheVariants as stop
+use Rattle.event_answers.specs.Runs.{last_state}
+use Rattle.event_answers.specs.Written.{Wrote, WrotePart}
+use Rattle.event_answers.specs.shared.LongerRuns.{Run-push, last_state-push}
+use Rattle.event_answers.specs.shared.Written.{wrote_nothing, wrote_after, part_after}
+use Rattle.event_answers.specs.declared.stops.Stop.{Stop}
+use Rattle.event_answers.specs.declared.stops.Stop.TheVariants as stop
 use Rattle.sequencer.specs.Standing.{Standing}
-use Rattle.plan_text.specs.Refused.{refused_text}
+use Rattle.event_answers.specs.Refused.{refused_text}
 use Rattle.situations.specs.Answers.{refusal_of}
 use Rattle.situations.specs.declared.refusal.Refusal as refusals
 use Rattle.situations.specs.declared.refusal.Refusal.TheVariants as refusal
-use Rattle.efforts.specs.Bound.{most_steps}
+use Rattle.replan.specs.Bound.{most_steps}
 use Rattle.efforts.specs.Efforts.{Planned, TakesSteps, IsPlanned, Plannings, Effort, answers_of, steps_of, last_problem, begun_line, answer_line, answer_lines, total_line, planned_text}
-use Rattle.efforts.specs.Ends.{IsHeld, Plans, PlansWith, StepPlans, AllPlan, SomePlan, EventsPlan, WritesSteps, EffortTells, PartTells, EffortEnds}
+use Rattle.efforts.specs.Ends.{Plans, PlansWith, StepPlans, AllPlan, SomePlan, EventsPlan, WritesSteps, EffortTells, PartTells, EffortEnds}
 use Rattle.efforts.proofs.Chains.{answers-push, planned-push, last_problem-push, steps-push, lines-push}
 
 -- what was done of the events, and what is left
@@ -29,14 +31,14 @@ pub record Done (old : Standing AnyKept) (events : List Event) (from : SinkState
   pub plannings : Plannings old.problem old.state done
   pub state : now.state ≡ last_state old.state (answers_of plannings.planned)
   pub problem : now.problem ≡ last_problem old.problem plannings.planned
-  pub held : IsHeld now
+  pub held : Holds now.planner now.problem
   pub number : i ≡ 1 + length plannings.planned
   pub as_many : length plannings.planned ≡ length done
   pub total_is : total ≡ steps_of plannings.planned
   pub few : total ≤ length done * most_steps
   pub written : Wrote from to (answer_lines 1 plannings.planned)
 
-pub begins : (old : Standing AnyKept) (events : List Event) (from : SinkState) → IsHeld old → Done old events from 1 old events from 0
+pub begins : (old : Standing AnyKept) (events : List Event) (from : SinkState) → Holds old.planner old.problem → Done old events from 1 old events from 0
 begins old events from held = record {
   done = [];
   split = refl;

@@ -1,21 +1,18 @@
 -- What writing an effort leaves.
-use Rattle.std.specs.Prelude.{◌≡◌, ◌⊎◌, ℕ, ◌*◌, ◌≤◌, List, ◌++◌, Bool, Option, Some, None, length, is_some, Result, Ok, Err}
+use Rattle.std.specs.Prelude.{◌≡◌, ◌⊎◌, ℕ, ◌*◌, ◌≤◌, List, ◌++◌, Bool, Option, None, length, is_some, Result, Ok, Err}
 use Rattle.cps_outside.specs.SinkState.{SinkState, GrowsByPart}
 use Rattle.landing_rules.specs.Events.{State, Event, Refusal, Step}
 use Rattle.landing_rules.specs.Problem.{Problem, IsProblemOf}
 use Rattle.landing_rules.specs.Text.{Bytes}
-use Rattle.replan.specs.Kept.{problem_held}
+use Rattle.replan.specs.Kept.{Holds}
 use Rattle.replan.specs.declared.any_kept.AnyKept.{AnyKept}
-use Rattle.replays.specs.Runs.{last_state, Wrote, WrotePart}
-use Rattle.replays.specs.declared.stops.Stop.{Stop}
-use Rattle.replays.specs.declared.stops.Stop.TheVariants as stop
+use Rattle.event_answers.specs.Runs.{last_state}
+use Rattle.event_answers.specs.Written.{Wrote, WrotePart}
+use Rattle.event_answers.specs.declared.stops.Stop.{Stop}
+use Rattle.event_answers.specs.declared.stops.Stop.TheVariants as stop
 use Rattle.sequencer.specs.Standing.{Standing}
-use Rattle.efforts.specs.Bound.{most_steps}
+use Rattle.replan.specs.Bound.{most_steps}
 use Rattle.efforts.specs.Efforts.{TakesSteps, Plannings, Effort, answers_of, steps_of, answer_line, answer_lines, effort_text}
-
--- the planner holds the problem of the situation
-abbrev pub IsHeld : Standing AnyKept → Type 0
-IsHeld s = problem_held s.planner ≡ Some s.problem
 
 -- a line that tells these steps, in one put; where memory runs out it is not begun
 abbrev pub WritesSteps : SinkState → SinkState → Bytes → ℕ → Result ℕ Stop → Type 0
@@ -29,7 +26,7 @@ pub record Plans (old new : Standing AnyKept) (e : Event) (answer : Option Refus
   pub problem_of : IsProblemOf new.state.situation new.problem
   pub takes : TakesSteps old.problem answer new.problem steps
   pub few : steps ≤ most_steps
-  pub held : IsHeld new
+  pub held : Holds new.planner new.problem
 
 -- and its line
 pub record PlansWith (old new : Standing AnyKept) (i : ℕ) (e : Event) (steps : ℕ) (P : Bytes → Type 0) : Type 0 where

@@ -1,4 +1,3 @@
 -- The steps of the plannings of a run, their text, and what writing it leaves.
-pub mod Bound
 pub mod Efforts
 pub mod Ends

@@ -1,9 +1,7 @@
 //! The effort of a replay: the steps of the planning after each event, and their total.
 #![tactic(auto)]
 
-mod bound;
 mod over_events;
 mod texts;
 
-pub use bound::due_is_small;
 pub use over_events::effort;

@@ -4,16 +4,16 @@ ghost use Rattle.landing_rules.specs.Sound.{IsGoodEvent};
 ghost use Rattle.cps_network.specs.Due.{IsDue};
 ghost use Rattle.arrivals.specs.Seen.{event_of, IsGood};
 ghost use Rattle.situations.specs.Answers.{refusal_of};
+ghost use Rattle.replan.specs.Kept.{Holds};
 ghost use Rattle.efforts.specs.Efforts.{begun_line, total_line};
-ghost use Rattle.efforts.specs.Ends.{IsHeld, WritesSteps, Plans, StepPlans, EventsPlan, EffortEnds};
+ghost use Rattle.efforts.specs.Ends.{WritesSteps, Plans, StepPlans, EventsPlan, EffortEnds};
 
-use crate::bound::due_is_small;
 use crate::texts::{accepted, begun, refused, total};
-use arrivals::Event;
+use arrivals::{Event, Event};
 use cps_base::{Counted, Steps};
 use cps_outside::{Gate, Sink};
-use replan::AnyKept;
-use replays::Stop;
+use event_answers::Stop;
+use replan::{AnyKept, due_is_small};
 use sequencer::Sequencer;
 use situations::Refusal;
 use std::alloc::Global;
@@ -38,7 +38,7 @@ fn plan_event<R: Threads + Sync, G: Gate + Sync>(
     gate: &G,
 ) -> Result<u64, Refusal>
     requires good { IsGoodEvent (event_of event.now) }
-    requires held { IsHeld sequencer.old }
+    requires held { Holds sequencer.old.planner sequencer.old.problem }
     ensures { MatchResult result
         (λ steps. Plans sequencer.old sequencer.new (event_of event.now) None steps)
         (λ fault. MatchOption (refusal_of fault) ⊤
@@ -62,7 +62,7 @@ fn step<R: Threads + Sync, S: Sink, G: Gate + Sync>(
     gate: &G,
 ) -> Result<u64, Stop>
     requires good { IsGoodEvent (event_of event.now) }
-    requires held { IsHeld sequencer.old }
+    requires held { Holds sequencer.old.planner sequencer.old.problem }
     ensures { StepPlans sequencer.old sequencer.new number (event_of event.now) (S.state out.old)
         (S.state out.new) result }
 {
@@ -90,7 +90,7 @@ fn plan_events<R: Threads + Sync, S: Sink, G: Gate + Sync>(
 ) -> Result<u64, Stop>
     requires good { All IsGood events.now }
     requires few { length events.now ≤ most_events }
-    requires held { IsHeld sequencer.old }
+    requires held { Holds sequencer.old.planner sequencer.old.problem }
     ensures { EventsPlan sequencer.old sequencer.new (map event_of events.now) (S.state out.old)
         (S.state out.new) result }
 {
@@ -145,7 +145,7 @@ pub fn effort<R: Threads + Sync, S: Sink, G: Gate + Sync>(
 ) -> Result<bool, Stop>
     requires good { All IsGood events.now }
     requires few { length events.now ≤ most_events }
-    requires held { IsHeld sequencer.old }
+    requires held { Holds sequencer.old.planner sequencer.old.problem }
     requires opened { IsDue None sequencer.old.problem opening }
     ensures { EffortEnds sequencer.old.state sequencer.new.state (map event_of events.now)
         (S.state out.old) (S.state out.new) result }

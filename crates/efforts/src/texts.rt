@@ -2,11 +2,11 @@
 ghost use Rattle.std.specs.Prelude.{◌≡◌, ◌≢◌, IfOk, None};
 ghost use Rattle.situations.specs.Answers.{refusal_of};
 ghost use Rattle.situations.specs.declared.refusal.Refusal.TheVariants.{Memory};
-ghost use Rattle.plan_text.specs.Refused.{refused_text};
+ghost use Rattle.event_answers.specs.Refused.{refused_text};
 ghost use Rattle.efforts.specs.Efforts.{answer_line, begun_line, total_line};
 
+use event_answers::refusal_line;
 use itoa::Buffer;
-use plan_text::refusal_line;
 use situations::Refusal;
 use std::alloc::{AllocError, Global};
 

@@ -13,8 +13,8 @@ use Rattle.flight_file.specs.declared.fault.FlightCause.{FlightCause}
 use Rattle.flight_file.specs.declared.fault.FlightCause.TheVariants as flight
 use Rattle.flight_file.specs.declared.fault.FlightFault.{FlightFault}
 use Rattle.situations.specs.declared.opening_refusal.OpeningFault.{OpeningFault}
-use Rattle.sequencer.specs.declared.begin.BeginFault.{BeginFault}
-use Rattle.sequencer.specs.Begun.{opening_fault_of}
+use Rattle.situations.specs.declared.begin_fault.BeginFault.{BeginFault}
+use Rattle.situations.specs.Begun.{opening_fault_of}
 use Rattle.trial_file.specs.declared.fault.TrialCause.{TrialCause}
 use Rattle.trial_file.specs.declared.fault.TrialCause.TheVariants as trial
 use Rattle.trial_file.specs.declared.fault.TrialFault.{TrialFault}

@@ -7,8 +7,7 @@ use certificate::CertFault;
 use event_log::{LogCause, LogFault};
 use flight_file::{FlightCause, FlightFault};
 use plan_file::PlanFault;
-use sequencer::BeginFault;
-use situations::OpeningFault;
+use situations::{BeginFault, OpeningFault};
 use std::alloc::AllocError;
 use trial_file::{TrialCause, TrialFault};
 

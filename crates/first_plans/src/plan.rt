@@ -7,8 +7,9 @@ ghost use Rattle.first_plans.specs.FirstShown.{IsFirstShown, value_of};
 
 use first_best::{Ahead, first_schedule};
 use landing_joint::laws::{first_best_schedule_is_one, problem_stands_for_situation};
+use plan_file::Plan;
 use replan::AnyKept;
-use sequencer::{Plan, Sequencer};
+use sequencer::Sequencer;
 use std::alloc::{AllocError, Global};
 
 /// The plan of the first best schedule of the situation: of the best and tight ones the one whose waiting flights land in the

@@ -5,7 +5,7 @@ use Rattle.landing_rules.specs.Events.{State, IsOpeningState}
 use Rattle.landing_rules.specs.Problem.{IsProblemOf}
 use Rattle.landing_rules.specs.Text.{lines_text, plan_lines}
 use Rattle.cps_network.specs.Due.{IsDue}
-use Rattle.efforts.specs.Ends.{IsHeld}
+use Rattle.replan.specs.Kept.{Holds}
 use Rattle.replan.specs.declared.any_kept.AnyKept.{AnyKept}
 use Rattle.sequencer.specs.Standing.{Standing}
 use Rattle.arrivals.specs.declared.aerodrome.Aerodrome.{Aerodrome}
@@ -52,7 +52,7 @@ pub record IsOpened (aerodrome : Aerodrome) (flights : List Flight) (state : Sta
 -- The planner holds the problem, which was planned in so many steps with nothing held.
 pub record IsPlannedAnew (s : Standing AnyKept) (steps : ℕ) : Type 0 where
   pub problem_of : IsProblemOf s.state.situation s.problem
-  pub held : IsHeld s
+  pub held : Holds s.planner s.problem
   pub due : IsDue None s.problem steps
 
 -- The files read as an aerodrome and flights that are taken, and the text is the block of an opening state of them.

@@ -5,8 +5,7 @@ ghost use Rattle.plan_file.specs.Shown.{shown_of};
 
 use cps_problem::Objective;
 use itoa::Buffer;
-use plan_file::Landing;
-use sequencer::Plan;
+use plan_file::{Landing, Plan};
 use std::alloc::AllocError;
 
 fn objective_word(objective: Objective) -> &'static [u8]

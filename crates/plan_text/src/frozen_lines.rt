@@ -5,8 +5,7 @@ ghost use Rattle.plan_file.specs.Shown.{shown_of};
 
 use crate::block::{append_head, append_landing, append_landings, room};
 use cps_problem::Objective;
-use plan_file::Landing;
-use sequencer::Plan;
+use plan_file::{Landing, Plan};
 use std::alloc::{AllocError, Global};
 use std::marker::Model;
 

@@ -6,7 +6,7 @@ ghost use Rattle.plan_text.specs.Trial.{trial_head, trial_text};
 use crate::block::append_head;
 use cps_problem::Objective;
 use itoa::Buffer;
-use sequencer::Plan;
+use plan_file::Plan;
 use std::alloc::AllocError;
 
 // A line with a number behind its word.

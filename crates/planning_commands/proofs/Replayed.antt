@@ -15,8 +15,8 @@ use Rattle.arrivals.specs.declared.event.Event.{Event}
 use Rattle.event_log.specs.Reading.{events_of}
 use Rattle.arrivals.specs.Seen.{event_of, IsGood}
 use Rattle.replays.specs.Runs.{ReplayEnds}
-use Rattle.replays.specs.declared.stops.Stop.{Stop}
-use Rattle.replays.specs.declared.stops.Stop.TheVariants as stop
+use Rattle.event_answers.specs.declared.stops.Stop.{Stop}
+use Rattle.event_answers.specs.declared.stops.Stop.TheVariants as stop
 use Rattle.endings.specs.declared.ending.Ending.{Ending}
 use Rattle.openings.specs.Plan.{answer_by, refusal_of, StopsOpened}
 use Rattle.openings.specs.shared.Opened.{stops_by}

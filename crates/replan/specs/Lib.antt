@@ -5,3 +5,4 @@ pub mod Held
 pub mod Kept
 pub mod Readers
 pub mod LeastValue
+pub mod Bound

@@ -6,6 +6,7 @@
 #![tactic(auto)]
 
 mod any_kept;
+mod bound;
 mod held;
 mod kept;
 mod labels;
@@ -16,5 +17,6 @@ mod stages;
 mod trace;
 
 pub use any_kept::AnyKept;
+pub use bound::due_is_small;
 pub use kept::Kept;
 pub use least::least_value;

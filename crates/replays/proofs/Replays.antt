@@ -4,11 +4,13 @@ use Rattle.std.proofs.lemmas.List.{append-nil, length-append}
 use Rattle.cps_outside.specs.SinkState.{SinkState}
 use Rattle.landing_rules.specs.Events.{State, Event, Step, Answered, Run}
 use Rattle.landing_rules.specs.Text.{Bytes, answer_text, answers_text, replay_text, begun_text}
-use Rattle.replays.specs.shared.LongerRuns.{Run-push, answers_text-push, last_state-push}
-use Rattle.replays.specs.shared.Written.{wrote_nothing, wrote_after, part_after}
-use Rattle.replays.specs.declared.stops.Stop.{Stop}
-use Rattle.replays.specs.declared.stops.Stop.TheVariants as stop
-use Rattle.replays.specs.Runs.{last_state, Wrote, WrotePart, Answers, StepWrites, Opens, RunTells, PartTells, EventsWrite, ReplayEnds}
+use Rattle.event_answers.specs.shared.LongerRuns.{Run-push, answers_text-push, last_state-push}
+use Rattle.event_answers.specs.shared.Written.{wrote_nothing, wrote_after, part_after}
+use Rattle.event_answers.specs.declared.stops.Stop.{Stop}
+use Rattle.event_answers.specs.declared.stops.Stop.TheVariants as stop
+use Rattle.event_answers.specs.Runs.{last_state}
+use Rattle.event_answers.specs.Written.{Wrote, WrotePart}
+use Rattle.replays.specs.Runs.{Answers, StepWrites, Opens, RunTells, PartTells, EventsWrite, ReplayEnds}
 
 -- what was done of the events, and what is left
 pub record Done (old : State) (events : List Event) (from : SinkState) (i : ℕ) (state : State) (rest : List Event) (to : SinkState) : Type 0 where

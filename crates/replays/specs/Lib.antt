@@ -1,3 +1,2 @@
 -- What a replay writes.
 pub mod Runs
-pub mod shared

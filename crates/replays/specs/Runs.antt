@@ -1,31 +1,12 @@
 -- What a replay writes, by runs of the rules.
-use Rattle.std.specs.Prelude.{◌≡◌, ◌⊎◌, ℕ, ◌≤◌, List, [], ◌∷◌, ◌++◌, Bool, Option, is_some, Result, Ok, Err}
-use Rattle.cps_outside.specs.Causes.{Rose}
-use Rattle.cps_outside.specs.SinkState.{SinkState, Grows, GrowsByPart, LeavesRoom, LacksRoom}
+use Rattle.std.specs.Prelude.{◌≡◌, ◌⊎◌, ℕ, List, ◌++◌, Bool, Option, is_some, Result, Ok, Err}
+use Rattle.cps_outside.specs.SinkState.{SinkState}
 use Rattle.landing_rules.specs.Events.{State, Event, Refusal, Step, Answered, Run}
 use Rattle.landing_rules.specs.Text.{Bytes, answer_text, answers_text, replay_text, begun_text}
-use Rattle.replays.specs.declared.stops.Stop.{Stop}
-use Rattle.replays.specs.declared.stops.Stop.TheVariants as stop
-
--- the state in which a run ends
-abbrev pub last_state : State → List Answered → State
-last_state state [] = state
-last_state state (a ∷ rest) = last_state a.state rest
-
--- a text was written whole
-pub record Wrote (old new : SinkState) (text : Bytes) : Type 0 where
-  pub tells : new.tells ≡ old.tells
-  pub sure : new.sure ≡ old.sure
-  pub faults : old.faults ≤ new.faults
-  pub grew : Grows old new text
-  pub left : LeavesRoom old new text
-
--- a part of a text was written, and a put failed; where the sink is sure there was no room for the text
-pub record WrotePart (old new : SinkState) (text : Bytes) : Type 0 where
-  pub tells : new.tells ≡ old.tells
-  pub part : GrowsByPart old new text
-  pub failed : Rose old.faults new.faults
-  pub lacked : LacksRoom old text
+use Rattle.event_answers.specs.Runs.{last_state}
+use Rattle.event_answers.specs.Written.{Wrote, WrotePart}
+use Rattle.event_answers.specs.declared.stops.Stop.{Stop}
+use Rattle.event_answers.specs.declared.stops.Stop.TheVariants as stop
 
 -- one put
 abbrev pub Puts : SinkState → SinkState → Bytes → Result (Unit {0}) Stop → Type 0

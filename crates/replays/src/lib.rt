@@ -2,8 +2,6 @@
 #![tactic(auto)]
 
 mod over_events;
-mod stops;
 mod texts;
 
 pub use over_events::replay;
-pub use stops::Stop;

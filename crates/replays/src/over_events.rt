@@ -3,12 +3,12 @@ ghost use Rattle.landing_rules.specs.Sound.{IsGoodEvent};
 ghost use Rattle.arrivals.specs.Seen.{event_of, IsGood};
 ghost use Rattle.replays.specs.Runs.{Puts, Opens, StepWrites, EventsWrite, ReplayEnds};
 
-use crate::stops::Stop;
 use crate::texts::{accepted, begun, refused};
-use arrivals::Event;
+use arrivals::{Event, Event};
 use cps_base::{Ledger, Steps};
 use cps_outside::{Gate, Sink};
 use cps_problem::Planner;
+use event_answers::Stop;
 use plan_text::FrozenLines;
 use sequencer::Sequencer;
 use situations::Refusal;

@@ -1,6 +1,5 @@
--- Why nothing begins, the flights by rank, what the frozen ones leave them, and what is true of every sequencer.
+-- The flights by rank, what the frozen ones leave them, and what is true of every sequencer.
 pub use Rattle.situations.specs.Opened
-pub mod Begun
 pub mod Frozen
 pub mod Predecessors
 pub mod Ranked

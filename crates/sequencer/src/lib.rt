@@ -12,8 +12,7 @@ mod seconds;
 mod sequencer;
 mod waiting;
 
-pub use begin::{BeginFault, opening, opening_problem};
-pub use plan::Plan;
+pub use begin::{opening, opening_problem};
 pub use problem::problem_of;
 pub use sequencer::Sequencer;
-pub use situations::Refusal;
+pub use situations::{BeginFault, Refusal};

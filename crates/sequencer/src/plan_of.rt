@@ -4,13 +4,14 @@ ghost use Rattle.landing_rules.specs.Problem.{joined, IsFeasibleList, IsProblemO
 ghost use Rattle.landing_rules.specs.Sound.{IsSound};
 ghost use Rattle.landing_rules.specs.Text.{shown_plan};
 
-use crate::plan::{Plan, plan_of};
+use crate::plan::plan_of;
 use crate::problem::posed;
 use crate::seconds::joined_seconds;
 use crate::sequencer::Sequencer;
 use cps_problem::{Planner, Problem, Schedule};
 use extract_plan::value_of;
 use landing_joint::laws::problem_stands_for_situation;
+use plan_file::Plan;
 use situations::Situation;
 use std::alloc::{AllocError, Global};
 

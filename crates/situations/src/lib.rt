@@ -2,6 +2,7 @@
 #![tactic(auto)]
 
 mod active;
+mod begin_fault;
 mod change;
 mod freeze;
 mod given;
@@ -13,6 +14,7 @@ mod refuse;
 mod situation;
 
 pub use active::Active;
+pub use begin_fault::BeginFault;
 pub use open_seconds::is_open;
 pub use opening_refusal::{OpeningFault, opening_fault};
 pub use refusal::Refusal;

@@ -7,8 +7,8 @@ use Rattle.arrivals.specs.declared.flight.Flight.{Flight}
 use Rattle.flight_file.specs.Reading.{flights_of}
 use Rattle.situations.specs.declared.opening_refusal.OpeningFault.{OpeningFault}
 use Rattle.situations.specs.Refused.{opening_fault}
-use Rattle.sequencer.specs.declared.begin.BeginFault.{BeginFault}
-use Rattle.sequencer.specs.Begun.{IsRefusedBy, opening_fault_of}
+use Rattle.situations.specs.declared.begin_fault.BeginFault.{BeginFault}
+use Rattle.situations.specs.Begun.{IsRefusedBy, opening_fault_of}
 use Rattle.endings.specs.Faults.{begin_ending, opening_ending}
 use Rattle.endings.specs.declared.ending.Ending.{Ending}
 use Rattle.endings.specs.declared.ending.Ending.TheVariants.{Answered, Misused, Refused, NotLoaded, NotWritten, TooLong, NoMemory}

@@ -5,8 +5,8 @@ use Rattle.std.proofs.lemmas.Result.{err_from_is_err_and}
 use Rattle.landing_rules.specs.Problem.{Problem}
 use Rattle.cps_network.specs.Due.{IsDue}
 use Rattle.arrivals.specs.Seen.{event_of}
-use Rattle.replays.specs.Runs.{Wrote}
-use Rattle.efforts.specs.Bound.{most_steps}
+use Rattle.event_answers.specs.Written.{Wrote}
+use Rattle.replan.specs.Bound.{most_steps}
 use Rattle.efforts.specs.Efforts.{total_line}
 use Rattle.efforts.specs.Ends.{WritesSteps}
 use Rattle.efforts.proofs.Efforts.{stops_at_once, stops_after, stops_last, ends_whole}

@@ -3,7 +3,7 @@ use Rattle.std.specs.Prelude.{min}
 use Rattle.cps_base.specs.Tally.{raised_by}
 use Rattle.landing_rules.specs.Problem.{Problem}
 use Rattle.cps_network.specs.Due.{IsDue}
-use Rattle.efforts.specs.Bound.{most_steps}
+use Rattle.replan.specs.Bound.{most_steps}
 use Rattle.std.proofs.lemmas.Result.{err_from_is_err_and}
 use Rattle.openings.specs.shared.Opened.{stops_opened}
 use Rattle.openings.proofs.opening.begin.Goals as goal

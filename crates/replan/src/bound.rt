@@ -1,4 +1,4 @@
-ghost use Rattle.efforts.specs.Bound.{DueIsSmall};
+ghost use Rattle.replan.specs.Bound.{DueIsSmall};
 
 use cps_network::due_is_bounded;
 use cps_problem::Problem;

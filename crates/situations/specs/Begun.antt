@@ -2,8 +2,8 @@
 use Rattle.std.specs.Prelude.{◌≡◌, Option, Some, None, MatchOption, ⊤}
 use Rattle.situations.specs.declared.opening_refusal.OpeningFault.{OpeningFault}
 use Rattle.situations.specs.declared.opening_refusal.OpeningFault.TheVariants as opening
-use Rattle.sequencer.specs.declared.begin.BeginFault.{BeginFault}
-use Rattle.sequencer.specs.declared.begin.BeginFault.TheVariants as begin
+use Rattle.situations.specs.declared.begin_fault.BeginFault.{BeginFault}
+use Rattle.situations.specs.declared.begin_fault.BeginFault.TheVariants as begin
 
 -- the opening refusal that it is, and none for want of memory
 abbrev pub opening_fault_of : BeginFault → Option OpeningFault

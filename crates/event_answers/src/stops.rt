@@ -1,6 +1,6 @@
 use std::alloc::AllocError;
 
-/// Why a replay stops before its end.
+/// Why a run over events stops before its end.
 #[derive(Clone, Copy, Debug, PartialEq, Eq)]
 pub enum Stop {
     /// A put failed.
@@ -11,7 +11,7 @@ pub enum Stop {
 
 impl From<AllocError> for Stop {
     ghost use Rattle.std.specs.Prelude.{◌≡◌};
-    ghost use Rattle.replays.specs.declared.stops.Stop.TheVariants.{NoMemory};
+    ghost use Rattle.event_answers.specs.declared.stops.Stop.TheVariants.{NoMemory};
 
     ghost from_gives = { λ _ stop. stop ≡ NoMemory };
 

@@ -1,7 +1,7 @@
 -- A run goes on by one step, and so does its text.
 use Rattle.std.proofs.Common.{◌≡◌, ℕ, zero, suc, ◌+◌, ◌<◌, ◌≤◌, List, [], ◌∷◌, ◌++◌, length, map, drop, get_or, drop-cons, add-one, refl, sym, ap, ◌∙◌, arith, append_assoc, append-nil}
 use Rattle.landing_rules.specs.Events.{Event, State, Step, Answered, Run}
-use Rattle.replays.specs.Runs.{last_state}
+use Rattle.event_answers.specs.Runs.{last_state}
 use Rattle.landing_rules.specs.Text.{answer_text, answers_text}
 
 pub Run-push : (s : State) (events : List Event) (answers : List Answered) (e : Event) (a : Answered) →

@@ -3,7 +3,7 @@ use Rattle.std.proofs.Common.{◌≡◌, ◌+◌, ◌<◌, ◌≤◌, [], ◌++�
 use Rattle.std.proofs.lemmas.List.{append-nil}
 use Rattle.cps_outside.specs.SinkState.{SinkState}
 use Rattle.landing_rules.specs.Text.{Bytes}
-use Rattle.replays.specs.Runs.{Wrote, WrotePart}
+use Rattle.event_answers.specs.Written.{Wrote, WrotePart}
 
 pub wrote_nothing : (old : SinkState) → Wrote old old []
 wrote_nothing old = record {

@@ -2,7 +2,7 @@ ghost use Rattle.std.specs.Prelude.{◌≡◌, ◌≢◌, ◌++◌, OnOk};
 ghost use Rattle.appending.specs.Appends.{Appends};
 ghost use Rattle.situations.specs.Answers.{refusal_of};
 ghost use Rattle.situations.specs.declared.refusal.Refusal.TheVariants.{Memory, CoversFrozen};
-ghost use Rattle.plan_text.specs.Refused.{cause_text, refused_text};
+ghost use Rattle.event_answers.specs.Refused.{cause_text, refused_text};
 
 use cps_base::Callsign;
 use itoa::Buffer;

@@ -1,6 +1,6 @@
 -- The pieces one behind the other are the words of the cause.
 use Rattle.std.proofs.Common.{append_assoc}
-use Rattle.plan_text.proofs.refusal.append_covered.Goals as goal
+use Rattle.event_answers.proofs.refusal.append_covered.Goals as goal
 
 pub returns : goal.returns
 returns c =

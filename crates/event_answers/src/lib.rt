@@ -1,0 +1,8 @@
+//! What an event of a log is answered with: the line of a refused event, and how a run over events stops.
+#![tactic(auto)]
+
+mod refusal;
+mod stops;
+
+pub use refusal::refusal_line;
+pub use stops::Stop;
