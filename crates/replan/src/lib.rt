@@ -6,6 +6,7 @@
 #![tactic(auto)]
 
 mod any_kept;
+mod former;
 mod held;
 mod kept;
 mod labels;
