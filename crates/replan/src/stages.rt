@@ -81,7 +81,8 @@ pub(crate) fn stage_after<const W: usize>(
     Ok(stage)
 }
 
-// The same. Where a stage that was held follows the same windows, it is a copy of that.
+// The same. Where a stage that was held follows the same windows, it is a copy of that. Behind more or fewer windows the
+// stage before may still be the one to copy.
 fn stage_again<const W: usize>(
     alloc: Global,
     problem: &Problem,
@@ -104,7 +105,7 @@ fn stage_again<const W: usize>(
     if number + 1 < former.len() {
         let held = &former[number];
         let after = &former[number + 1];
-        if after.is_whole {
+        if after.is_whole && held.stage.len() == before.len() {
             let stage = next_stage_again(alloc, before, problem, &held.stage, &after.stage)?;
             return Ok(stage);
         }
