@@ -1,4 +1,5 @@
 pub mod LabelsLemmas
 pub mod StageLemmas
+pub mod FormerLemmas
 pub mod TraceLemmas
 pub mod PlanLemmas

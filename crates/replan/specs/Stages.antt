@@ -23,13 +23,31 @@ no_stage = record { stage = (0, []); labels = record { objective = Makespan; lis
 abbrev pub stage_at : List LabelledStage → ℕ → LabelledStage
 stage_at stages i = slice_index_or stages i no_stage
 
--- these are stages of a problem, from stage 0 on: their landable windows with their pairs; where a later one is said to be whole,
--- its windows are all that extend the stage before
+-- of so many stages, from stage 0 on, each later one that is said to be whole has exactly the windows that extend the one before
+abbrev pub AreWholeAsSaid : Problem → ℕ → (ℕ → Bool) → (ℕ → List (List ℤ)) → Type 0
+AreWholeAsSaid p count is_whole windows = (i : ℕ) → 0 < i → i < count → IsTrue (is_whole i) → IsNextOf p (i - 1) (windows (i - 1)) (windows i)
+
+-- these are stages of a problem, from stage 0 on: their landable windows with their pairs, whole as said
 pub record AreStages (p : Problem) (stages : List LabelledStage) : Type 0 where
   pub number : (i : ℕ) → i < length stages → (stage_at stages i).stage.0 ≡ i
   pub held : (i : ℕ) → i < length stages → HoldsPairs p (stage_at stages i).stage (stage_at stages i).labels
-  pub whole : (i : ℕ) → 0 < i → i < length stages → IsTrue (stage_at stages i).is_whole
-      → IsNextOf p (i - 1) (stage_at stages (i - 1)).stage.1 (stage_at stages i).stage.1
+  pub whole : AreWholeAsSaid p (length stages) (λ i. (stage_at stages i).is_whole) (λ i. (stage_at stages i).stage.1)
+
+-- the windows of a stage that was held, and whether they are said to be all that extend the one before
+pub record FormerStage : Type 0 where
+  pub stage : ℕ × List (List ℤ)
+  pub is_whole : Bool
+
+-- what is left of a stage without its pairs
+abbrev pub former_of : LabelledStage → FormerStage
+former_of s = record { stage = s.stage; is_whole = s.is_whole }
+
+abbrev pub former_at : List FormerStage → ℕ → FormerStage
+former_at former i = slice_index_or former i (former_of no_stage)
+
+-- these are windows of the stages that were held, from stage 0 on, and whole as said in this problem too
+abbrev pub AreFormer : Problem → List FormerStage → Type 0
+AreFormer p former = AreWholeAsSaid p (length former) (λ i. (former_at former i).is_whole) (λ i. (former_at former i).stage.1)
 
 -- the order is legal, and its flights can be given seconds that are open and late enough one after another, the last of them
 -- and what they cost together this pair

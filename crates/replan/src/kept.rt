@@ -6,6 +6,7 @@ ghost use Rattle.cps_network.specs.Due.{IsDue};
 ghost use Rattle.cps_problem.specs.Plans.{IsAnswerOf};
 ghost use Rattle.replan.specs.Held.{problem_of};
 
+use crate::former::former_stages;
 use crate::held::{HeldProblem, begin_stages};
 use crate::plan::schedule_of;
 use crate::stages::fill_stages;
@@ -45,7 +46,8 @@ impl<const W: usize> Kept<W> {
     }
 
     // Plans a problem, and holds it. The stages that it has in common with the problem held before are kept, and the others
-    // are given back before new ones are filled. After want of memory no problem is held.
+    // are given back before new ones are filled, but for their windows where these may be taken again. After want of memory
+    // no problem is held.
     pub(crate) fn replan<R: Threads, G: Gate, L: Ledger>(
         &mut self,
         rt: &R,
@@ -63,8 +65,9 @@ impl<const W: usize> Kept<W> {
     {
         let held = self.held.take();
         let copied = problem.copy()?;
+        let former = former_stages(alloc, &held, problem)?;
         let mut stages = begin_stages(alloc, problem, held)?;
-        fill_stages(rt, alloc, problem, &mut stages, gate, steps)?;
+        fill_stages(rt, alloc, problem, &mut stages, &former, gate, steps)?;
         let answer = schedule_of(alloc, problem, &stages)?;
         self.held = Some(HeldProblem {
             problem: copied,

@@ -7,6 +7,7 @@
 
 mod any_kept;
 mod bound;
+mod former;
 mod held;
 mod kept;
 mod labels;

@@ -6,11 +6,12 @@ ghost use Rattle.cps_network.specs.Due.{HasCandidates, HasCandidatesFrom};
 ghost use Rattle.cps_network.specs.Landable.{HoldsCandidates};
 ghost use Rattle.cps_network.specs.Lists.{IsAscending};
 ghost use Rattle.cps_network.specs.Permits.{IsNextOf};
-ghost use Rattle.replan.specs.Stages.{AreStages};
+ghost use Rattle.replan.specs.Stages.{AreFormer, AreStages};
 
+use crate::former::FormerStage;
 use crate::labels::Labels;
 use cps_base::{Ledger, Steps};
-use cps_network::{Stage, next_stage, next_stage_like};
+use cps_network::{Stage, next_stage, next_stage_again, next_stage_like};
 use cps_outside::Gate;
 use cps_problem::Problem;
 use std::alloc::{AllocError, Global};
@@ -80,12 +81,46 @@ pub(crate) fn stage_after<const W: usize>(
     Ok(stage)
 }
 
+// The same. Where a stage that was held follows the same windows, it is a copy of that. Behind more or fewer windows the
+// stage before may still be the one to copy.
+fn stage_again<const W: usize>(
+    alloc: Global,
+    problem: &Problem,
+    earlier: &Stage<W>,
+    before: &Stage<W>,
+    is_whole: bool,
+    former: &[FormerStage<W>],
+) -> Result<Stage<W>, AllocError>
+    requires width { W ≡ 2 * problem.now.k + 1 }
+    requires stage { before.now.0 < length problem.now.flights }
+    requires whole { IsTrue is_whole → earlier.now.0 < before.now.0
+        → IsNextOf problem.now earlier.now.0 earlier.now.1 before.now.1 }
+    requires former { AreFormer problem.now former.now }
+    ensures number { IfOk result (λ s. s.0 ≡ before.now.0 + 1) }
+    ensures ascending { IfOk result (λ s. IsAscending s.1) }
+    ensures exact { IfOk result (λ s. IsNextOf problem.now before.now.0 before.now.1 s.1) }
+    ensures candidates { IfOk result (λ s. HoldsCandidates problem.now before.now s) }
+{
+    let number = before.number() as usize;
+    if number + 1 < former.len() {
+        let held = &former[number];
+        let after = &former[number + 1];
+        if after.is_whole && held.stage.len() == before.len() {
+            let stage = next_stage_again(alloc, before, problem, &held.stage, &after.stage)?;
+            return Ok(stage);
+        }
+    }
+    let stage = stage_after(alloc, problem, earlier, before, is_whole)?;
+    Ok(stage)
+}
+
 // One stage more.
 fn add_stage<const W: usize, R: Threads, G: Gate, L: Ledger>(
     rt: &R,
     alloc: Global,
     problem: &Problem,
     kept: &mut Vec<LabelledStage<W>>,
+    former: &[FormerStage<W>],
     gate: &G,
     steps: &mut Steps<L>,
 ) -> Result<(), AllocError>
@@ -93,6 +128,7 @@ fn add_stage<const W: usize, R: Threads, G: Gate, L: Ledger>(
     requires held { AreStages problem.now kept.old.items }
     requires some { 0 < vec_len kept.old }
     requires number { vec_len kept.old ≤ length problem.now.flights }
+    requires former { AreFormer problem.now former.now }
     ensures held { OnOk result (AreStages problem.now kept.new.items) }
     ensures one { OnOk result (vec_len kept.new ≡ vec_len kept.old + 1) }
     ensures steps { OnOk result ((count : ℕ) × HasCandidates problem.now
@@ -102,7 +138,14 @@ fn add_stage<const W: usize, R: Threads, G: Gate, L: Ledger>(
     let number = kept.len() - 1;
     let earlier = &kept[number.saturating_sub(1)];
     let last = &kept[number];
-    let mut stage = stage_after(alloc, problem, &earlier.stage, &last.stage, last.is_whole)?;
+    let mut stage = stage_again(
+        alloc,
+        problem,
+        &earlier.stage,
+        &last.stage,
+        last.is_whole,
+        former,
+    )?;
     let candidates = stage.len();
     let labels = last
         .labels
@@ -122,6 +165,7 @@ pub(crate) fn fill_stages<const W: usize, R: Threads, G: Gate, L: Ledger>(
     alloc: Global,
     problem: &Problem,
     kept: &mut Vec<LabelledStage<W>>,
+    former: &[FormerStage<W>],
     gate: &G,
     steps: &mut Steps<L>,
 ) -> Result<(), AllocError>
@@ -129,6 +173,7 @@ pub(crate) fn fill_stages<const W: usize, R: Threads, G: Gate, L: Ledger>(
     requires held { AreStages problem.now kept.old.items }
     requires some { 0 < vec_len kept.old }
     requires few { vec_len kept.old ≤ length problem.now.flights + 1 }
+    requires former { AreFormer problem.now former.now }
     ensures held { OnOk result (AreStages problem.now kept.new.items) }
     ensures all { OnOk result (vec_len kept.new ≡ length problem.now.flights + 1) }
     ensures steps { OnOk result ((due : ℕ) × HasCandidatesFrom (vec_len kept.old)
@@ -138,7 +183,7 @@ pub(crate) fn fill_stages<const W: usize, R: Threads, G: Gate, L: Ledger>(
     steps.tick(0);
     let first = kept.len();
     for _stage in first..problem.len() as usize + 1 {
-        add_stage(rt, alloc, problem, kept, gate, steps)?;
+        add_stage(rt, alloc, problem, kept, former, gate, steps)?;
     }
     Ok(())
 }

@@ -3,8 +3,8 @@ use Rattle.std.specs.Prelude.{vec_len}
 use Rattle.replan.proofs.StageLemmas.{held_at, read_stage, whole_at, one_more, has_candidates}
 use Rattle.replan.proofs.stages.add_stage.Goals as goal
 
-pub stage_after-requires : goal.stage_after-requires
-stage_after-requires g c =
+pub stage_again-requires : goal.stage_again-requires
+stage_again-requires g c =
     let stages = c.args.kept.now.items in
     let lt : c.len-number.result - 1 < length stages = omega (arith, c.len-number.ensures, c.requires.some) in
     let e = read_stage _ _ _ _ c.last.view_is c.index-last.ensures lt in
@@ -12,10 +12,13 @@ stage_after-requires g c =
     let number = (held_at c.args.problem.now _ c.requires.held _ _ e lt).1 in (
       search rules,
       (
-        c.requires.width,
+        search rules,
         (
-          omega (arith, number, c.len-number.ensures, c.requires.number, c.requires.some),
-          whole_at c.args.problem.now _ c.requires.held _ _ _ _ lt c.saturating_sub.ensures f e,
+          c.requires.width,
+          (
+            omega (arith, number, c.len-number.ensures, c.requires.number, c.requires.some),
+            (whole_at c.args.problem.now _ c.requires.held _ _ _ _ lt c.saturating_sub.ensures f e, c.requires.former),
+          ),
         ),
       ),
     )

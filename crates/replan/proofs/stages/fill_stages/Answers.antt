@@ -17,10 +17,16 @@ add_stage-requires g c =
     let long = c.loop-stage.invariant.1 in (
       search rules,
       (
-        c.requires.width,
+        search rules,
         (
-          c.loop-stage.invariant.0,
-          (omega (arith, long, c.loop-stage.auto, c.len-first.ensures, c.requires.some), omega (arith, long, c.loop-stage-test.true, c.len.ensures.value)),
+          c.requires.width,
+          (
+            c.loop-stage.invariant.0,
+            (
+              omega (arith, long, c.loop-stage.auto, c.len-first.ensures, c.requires.some),
+              (omega (arith, long, c.loop-stage-test.true, c.len.ensures.value), c.requires.former),
+            ),
+          ),
         ),
       ),
     )

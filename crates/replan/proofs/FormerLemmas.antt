@@ -1,0 +1,34 @@
+-- The stages that were held, without their pairs.
+use Rattle.std.proofs.Common.{◌≡◌, ℕ, ◌+◌, ◌-◌, ◌<◌, List, [], ◌∷◌, ◌++◌, length, get_or, map, take, arith, ◌∙◌}
+use Rattle.std.specs.Prelude.{ℤ, IsTrue}
+use Rattle.std.proofs.lemmas.List.{get_or-map, get_or_default, length-map, map_more}
+use Rattle.landing_rules.specs.Problem.{Problem}
+use Rattle.cps_network.specs.Permits.{IsNextOf, HaveSameSuccessors}
+use Rattle.replan.specs.Stages.{LabelledStage, no_stage, stage_at, AreStages, FormerStage, former_of, former_at, AreFormer}
+
+-- they are whole as said in each problem in which the same windows follow
+pub former_whole : (p q : Problem) (stages : List LabelledStage) → AreStages p stages → HaveSameSuccessors p q → AreFormer q (map former_of stages)
+former_whole p q stages is alike i some lt said =
+    let here : i < length stages = omega (arith, lt, length-map stages former_of) in
+    let at = get_or-map former_of stages i no_stage (former_of no_stage) here in
+    let before = get_or-map former_of stages (i - 1) no_stage (former_of no_stage) (omega (arith, here)) in
+    rw (at, before) (alike (i - 1) (stage_at stages (i - 1)).stage.1 (stage_at stages i).stage.1 (is.whole i some here (rw at at said)))
+
+-- one stage more without its pairs
+pub one_shared : (stages : List LabelledStage) (former after : List FormerStage) (i : ℕ) (x y : LabelledStage) (s : ℕ × List (List ℤ)) → i < length stages
+    → former ≡ map former_of (take i stages) → x ≡ y → y ≡ get_or stages i y → s ≡ x.stage → after ≡ former ++ record { stage = s; is_whole = x.is_whole } ∷ []
+    → after ≡ map former_of (take (i + 1) stages)
+one_shared stages former after i x y s lt before same e shared added =
+    let here = same ∙ e ∙ get_or_default stages i y no_stage lt in
+    rw (map_more former_of stages i no_stage lt, ← here, ← before, ← shared) added
+
+pub read_former : (former : List FormerStage) (i : ℕ) (x y : FormerStage) → x ≡ y → y ≡ get_or former i y → i < length former → x ≡ former_at former i
+read_former former i x y same e lt = same ∙ e ∙ get_or_default former i y (former_of no_stage) lt
+
+-- two of them, where the later one is whole
+pub next_former : (p : Problem) (former : List FormerStage) → AreFormer p former → (s i j : ℕ) (x y : FormerStage) → i ≡ s → j ≡ s + 1 → j < length former
+    → x ≡ former_at former i → y ≡ former_at former j → IsTrue y.is_whole → IsNextOf p s x.stage.1 y.stage.1
+next_former p former are s i j x y same next lt e f whole =
+    let back : s + 1 - 1 ≡ s = omega arith in
+    let step = are (s + 1) (omega arith) (omega (arith, lt, next)) (rw (f, next) at whole) in
+    rw (e, f, same, next) (rw back at step)

@@ -1,0 +1,7 @@
+use Rattle.std.proofs.Common.{rules}
+use Rattle.replan.proofs.kept.Kept.replan.Goals as goal
+
+pub fill_stages-requires : goal.fill_stages-requires
+fill_stages-requires g c =
+    let s = c.in_ok-stages.ensures in
+    (search rules, (search rules, (c.requires, (s.held, (s.some, (s.few, rw c.deref.ensures.value c.in_ok-former.ensures))))))
