@@ -11,7 +11,7 @@ mkdir -p "$crate/src" "$crate/proofs/copied" || exit 1
 cp "$here/main.rt.txt" "$crate/src/main.rt" || exit 1
 cp "$here/Invariants.antt.txt" "$crate/proofs/copied/Invariants.antt" || exit 1
 : >"$crate/proofs/Lib.antt"
-echo "network_bench: aerodrome_file cps_network cps_nodes cps_problem flight_file itoa landing_windows sequencer wake_table" >>"$to/crates.txt"
+echo "network_bench: arrivals cps_network cps_nodes cps_problem flight_file itoa landing_windows sequencer wake_table" >>"$to/crates.txt"
 cd "$crate" || exit 1
 rt run -- >"$to/log" 2>&1
 [ -x "$crate/out/network_bench" ] || { tail -n 20 "$to/log" >&2; exit 1; }

@@ -9,7 +9,7 @@ ghost use Rattle.efforts.specs.Efforts.{begun_line, total_line};
 ghost use Rattle.efforts.specs.Ends.{WritesSteps, Plans, StepPlans, EventsPlan, EffortEnds};
 
 use crate::texts::{accepted, begun, refused, total};
-use arrivals::{Event, Event};
+use arrivals::Event;
 use cps_base::{Counted, Steps};
 use cps_outside::{Gate, Sink};
 use event_answers::Stop;

@@ -10,7 +10,7 @@ use cps_base::{Silent, Steps};
 use cps_outside::{Gate, Sink};
 use endings::Ending;
 use event_answers::Stop;
-use event_log::{Event, read_events};
+use event_log::read_events;
 use flight_file::read_flights;
 use openings::{answer, begin};
 use replan::AnyKept;

@@ -4,7 +4,7 @@ ghost use Rattle.arrivals.specs.Seen.{event_of, IsGood};
 ghost use Rattle.replays.specs.Runs.{Puts, Opens, StepWrites, EventsWrite, ReplayEnds};
 
 use crate::texts::{accepted, begun, refused};
-use arrivals::{Event, Event};
+use arrivals::Event;
 use cps_base::{Ledger, Steps};
 use cps_outside::{Gate, Sink};
 use cps_problem::Planner;
