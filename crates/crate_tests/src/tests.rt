@@ -1,4 +1,4 @@
-mod arrivals;
+mod first_come;
 mod labels;
 mod numbers;
 mod open_times;
