@@ -1,4 +1,7 @@
 // The files of a case, in memory.
+ghost use Rattle.std.specs.Prelude.{◌≡◌, IfOk};
+ghost use Rattle.cps_outside.specs.MemoryFolder.{failing_loads_of};
+
 use anyhow::{Result, bail};
 use case_tables::{Case, Part, Texts};
 use cps_outside::MemoryFolder;
@@ -37,8 +40,10 @@ fn content_of(alloc: Global, texts: &Texts, parts: &[Part]) -> Result<Vec<u8>> {
     Ok(content)
 }
 
-/// The folder of a case.
-pub(crate) fn folder_of(alloc: Global, texts: &Texts, case: &Case) -> Result<MemoryFolder> {
+/// The folder of a case, of which exactly the loads fail that are to fail there.
+pub(crate) fn folder_of(alloc: Global, texts: &Texts, case: &Case) -> Result<MemoryFolder>
+    ensures { IfOk result (λ folder. failing_loads_of folder ≡ case.now.failing_loads.items) }
+{
     let mut files = Vec::new(alloc);
     for (name, parts) in &case.files {
         let content = content_of(alloc, texts, parts.as_slice())?;

@@ -1,4 +1,7 @@
 // The run of a case.
+ghost use Rattle.std.specs.Prelude.{◌≡◌, IfOk};
+ghost use Rattle.cps_outside.specs.MemorySink.{failing_puts_of};
+
 use crate::files::folder_of;
 use anyhow::Result;
 use case_tables::{Case, Texts};
@@ -10,7 +13,10 @@ use std::thread::Threads;
 // The most bytes that a case writes.
 const ROOM: usize = 8_000_000;
 
-fn sink(alloc: Global, failing: &[(u32, u32)]) -> Result<MemorySink> {
+// A sink of which exactly these puts fail.
+fn sink(alloc: Global, failing: &[(u32, u32)]) -> Result<MemorySink>
+    ensures { IfOk result (λ sink. failing_puts_of sink ≡ failing.now) }
+{
     let sink = MemorySink::new(alloc, ROOM, failing.to_vec(alloc)?)?;
     Ok(sink)
 }
