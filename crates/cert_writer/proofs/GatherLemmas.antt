@@ -17,7 +17,7 @@ use Rattle.cps_network.specs.Nodes.{Node, latest}
 use Rattle.cps_network.specs.Pairs.{HoldsCosts, list_at}
 use Rattle.cps_network.specs.WindowRanks.{TellsPlaced}
 use Rattle.cert_check.specs.PlacedBits.{digits_of}
-use Rattle.whole_states.specs.StageEntries.{IsWindowOf, PlacedTellNodes}
+use Rattle.cert_writer.specs.StageEntries.{IsWindowOf, PlacedTellNodes}
 use Rattle.cert_writer.specs.Gathered.{AreGathered, IsEntryBefore, IsInRange}
 use Rattle.cert_writer.specs.Slots.{HasSlot}
 use Rattle.cert_writer.proofs.SlotLemmas.{one_slot, slot_node}

@@ -1,4 +1,6 @@
 -- The lemmas of this crate.
+pub mod Entries
+pub mod AllStages
 pub mod SlotLemmas
 pub mod PairLemmas
 pub mod GatherLemmas

@@ -14,7 +14,7 @@ use Rattle.certificate.specs.Patterns.{bits, is_pattern_length}
 use Rattle.certificate.specs.States.{State, IsState, is_pair, rises}
 use Rattle.cert_check.specs.States.{node_of}
 use Rattle.cert_check.specs.shared.KeptPairs.{HoldsEntries}
-use Rattle.whole_states.specs.StageEntries.{IsEntry, IsEntryOf}
+use Rattle.cert_writer.specs.StageEntries.{IsEntry, IsEntryOf}
 use Rattle.cert_writer.specs.Gathered.{AreGathered}
 use Rattle.cert_writer.specs.Slots.{number_of, HasNumber, HasSlot}
 use Rattle.cert_writer.specs.Written.{AreWrittenBelow}

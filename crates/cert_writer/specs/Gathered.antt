@@ -5,7 +5,7 @@ use Rattle.landing_rules.specs.Rules.{last_second}
 use Rattle.cps_theory.specs.Labels.{InPairs, NoWorse, Pair}
 use Rattle.cps_theory.specs.Patterns.{PatternNode}
 use Rattle.cps_network.specs.Pairs.{list_at}
-use Rattle.whole_states.specs.StageEntries.{IsEntry}
+use Rattle.cert_writer.specs.StageEntries.{IsEntry}
 use Rattle.cert_writer.specs.Slots.{HasSlot}
 
 -- a pair's second is one of the two days, and its cost a number of a certificate

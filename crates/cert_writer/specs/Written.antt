@@ -8,7 +8,7 @@ use Rattle.certificate.specs.States.{State, AreAscending, is_pair}
 use Rattle.cert_check.specs.States.{node_of}
 use Rattle.cert_check.specs.Whole.{HasNode}
 use Rattle.cert_check.specs.shared.KeptPairs.{HoldsEntries}
-use Rattle.whole_states.specs.StageEntries.{IsEntryOf, EntriesKeepNodes, PlacedTellNodes, StagesMakeStates}
+use Rattle.cert_writer.specs.StageEntries.{IsEntryOf, EntriesKeepNodes, PlacedTellNodes, StagesMakeStates}
 use Rattle.replan.specs.Held.{HeldProblem}
 use Rattle.replan.specs.Readers.{stage_in, lists_in}
 use Rattle.cert_writer.specs.Gathered.{AreGathered}

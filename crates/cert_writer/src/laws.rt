@@ -4,8 +4,8 @@ ghost use Rattle.std.specs.Prelude.{◌≡◌, ◌≤◌};
 ghost use Rattle.cps_problem.specs.WellFormed.{IsWellFormed};
 ghost use Rattle.cert_writer.specs.Written.{StageLaws};
 
+use crate::whole_states::stages_make_whole_states;
 use cps_problem::Problem;
-use whole_states::stages_make_whole_states;
 
 // The laws of the stages of a problem, whatever its k. The call does nothing: it tells its caller the laws.
 pub(crate) fn stage_laws(problem: &Problem)

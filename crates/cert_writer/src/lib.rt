@@ -9,6 +9,7 @@ mod order;
 mod pairs;
 mod slot;
 mod states;
+mod whole_states;
 mod writer;
 
 pub use writer::certify;

@@ -1,5 +1,6 @@
 -- What these commands print, and which files they refuse.
 pub mod Audit
 pub mod First
+pub mod FirstShown
 pub mod WhatIf
 pub mod shared

@@ -6,11 +6,11 @@ ghost use Rattle.replan.specs.Kept.{problem_held};
 ghost use Rattle.inquiry_commands.specs.First.{AdmitsFirst, FollowsFirst, ShowsFirst, ShowsFirstOf};
 ghost use Rattle.openings.specs.Plan.{StopsOpened, StopsPlan};
 
+use crate::first_plans::first_plan;
 use aerodrome_file::read_aerodrome;
 use arrivals::{Aerodrome, Flight};
 use cps_outside::{Gate, Sink};
 use endings::Ending;
-use first_plans::first_plan;
 use flight_file::read_flights;
 use openings::{Report, answer, begin, print_report};
 use plan_text::plan_block;

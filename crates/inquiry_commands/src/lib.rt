@@ -4,6 +4,7 @@
 mod audits;
 mod first;
 mod first_laws;
+mod first_plans;
 mod what_ifs;
 
 pub use audits::run_audit;

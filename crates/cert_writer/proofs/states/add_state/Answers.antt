@@ -4,7 +4,7 @@ use Rattle.std.proofs.lemmas.Bool.Decides.{nat_tests}
 use Rattle.cps_theory.specs.Labels.{Pair}
 use Rattle.certificate.specs.Patterns.{bits}
 use Rattle.certificate.specs.States.{State, IsState}
-use Rattle.whole_states.specs.StageEntries.{IsEntryOf}
+use Rattle.cert_writer.specs.StageEntries.{IsEntryOf}
 use Rattle.replan.specs.Kept.{held_of}
 use Rattle.replan.specs.Readers.{stage_in, lists_in}
 use Rattle.cert_writer.specs.Gathered.{IsInRange}

@@ -1,6 +1,6 @@
 use Rattle.replan.specs.Kept.{held_of}
 use Rattle.replan.specs.Readers.{stage_in, lists_in}
-use Rattle.whole_states.specs.StageEntries.{IsEntryOf}
+use Rattle.cert_writer.specs.StageEntries.{IsEntryOf}
 use Rattle.cert_writer.specs.Written.{AreWrittenBelow}
 use Rattle.cert_writer.proofs.states.add_states.Given as goal
 

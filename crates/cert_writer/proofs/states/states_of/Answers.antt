@@ -1,5 +1,5 @@
 use Rattle.std.proofs.Common.{◌≡◌, ℕ, ◌+◌, length, arith, subst}
-use Rattle.whole_states.specs.StageEntries.{IsEntryOf}
+use Rattle.cert_writer.specs.StageEntries.{IsEntryOf}
 use Rattle.replan.specs.Kept.{held_of}
 use Rattle.replan.specs.Readers.{stage_in, lists_in}
 use Rattle.cert_writer.specs.Written.{AreWrittenBelow}

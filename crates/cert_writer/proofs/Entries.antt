@@ -25,7 +25,7 @@ use Rattle.cps_network.specs.Pairs.{HoldsCosts}
 use Rattle.cps_network.specs.WindowRanks.{TellTheirRanks}
 use Rattle.cert_check.specs.PlacedBits.{digits_of, PatternOfBitsLaw}
 use Rattle.cert_check.specs.Whole.{Attains}
-use Rattle.whole_states.specs.StageEntries.{IsEntry, PlacedTellNodes, EntriesKeepNodes, EndWithFlights}
+use Rattle.cert_writer.specs.StageEntries.{IsEntry, PlacedTellNodes, EntriesKeepNodes, EndWithFlights}
 
 pub end_with_flights : (p : Problem) → EndWithFlights p
 end_with_flights p d q a =

@@ -1,6 +1,6 @@
 -- The entries of a stage keep the pairs of its nodes.
-use Rattle.whole_states.proofs.Entries.{entries_keep, placed_tell, end_with_flights}
-use Rattle.whole_states.proofs.laws.stages_keep_their_patterns.Goals as goal
+use Rattle.cert_writer.proofs.Entries.{entries_keep, placed_tell, end_with_flights}
+use Rattle.cert_writer.proofs.whole_states.stages_keep_their_patterns.Goals as goal
 
 pub returns-clause-entries : goal.returns-clause-entries
 returns-clause-entries g c = entries_keep c.args.problem.now c.head-well_formed.ensures.well_formed c.node_laws.ensures

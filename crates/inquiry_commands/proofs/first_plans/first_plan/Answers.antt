@@ -3,8 +3,8 @@ use Rattle.landing_rules.specs.FirstBest.{IsFirstBestList}
 use Rattle.landing_rules.specs.Problem.{Problem}
 use Rattle.landing_rules.specs.Text.{plan_shown, ShownPlan}
 use Rattle.landing_joint.specs.CompletingPairs.{IsLeastObjective}
-use Rattle.first_plans.proofs.FirstLemmas.{first_shown, first_value, shown_least}
-use Rattle.first_plans.proofs.plan.first_plan.Goals as goal
+use Rattle.inquiry_commands.proofs.FirstPlans.{first_shown, first_value, shown_least}
+use Rattle.inquiry_commands.proofs.first_plans.first_plan.Goals as goal
 
 pub first_schedule-requires-clause-value : goal.first_schedule-requires-clause-value
 first_schedule-requires-clause-value c =

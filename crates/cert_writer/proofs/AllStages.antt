@@ -8,7 +8,7 @@ use Rattle.cps_theory.specs.Network.{Kept}
 use Rattle.cps_theory.specs.Patterns.{PatternNode}
 use Rattle.cert_check.specs.Whole.{Attains}
 use Rattle.cert_check.specs.shared.KeptPairs.{entries_are_whole}
-use Rattle.whole_states.specs.StageEntries.{IsEntryOf, EntriesKeepNodes, EndWithFlights, AreStagesWith, StagesMakeStates}
+use Rattle.cert_writer.specs.StageEntries.{IsEntryOf, EntriesKeepNodes, EndWithFlights, AreStagesWith, StagesMakeStates}
 
 module _ (p : Problem) (end : EndWithFlights p) (entries : EntriesKeepNodes p) (stages : ℕ → ℕ × List (List ℤ)) (lists : ℕ → List (List Pair)) (are : AreStagesWith p stages lists) where
   -- behind the last stage there is no node

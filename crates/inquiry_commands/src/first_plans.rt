@@ -1,9 +1,9 @@
-//! The first plan.
+//! The first plan of a situation: its first best schedule as the sequencer shows plans.
 
 ghost use Rattle.std.specs.Prelude.{◌≡◌, IfOk, Some};
 ghost use Rattle.landing_rules.specs.Text.{plan_shown};
 ghost use Rattle.replan.specs.Kept.{problem_held};
-ghost use Rattle.first_plans.specs.FirstShown.{IsFirstShown, value_of};
+ghost use Rattle.inquiry_commands.specs.FirstShown.{IsFirstShown, value_of};
 
 use first_best::{Ahead, first_schedule};
 use landing_joint::laws::{first_best_schedule_is_one, problem_stands_for_situation};
@@ -16,7 +16,10 @@ use std::alloc::{AllocError, Global};
 /// lexicographically least order of ranks. `None` exactly where no schedule is feasible.
 ///
 /// It asks that the planner holds the problem of the situation, as it does after `begin` and each accepted event.
-pub fn first_plan(alloc: Global, sequencer: &Sequencer<AnyKept>) -> Result<Option<Plan>, AllocError>
+pub(crate) fn first_plan(
+    alloc: Global,
+    sequencer: &Sequencer<AnyKept>,
+) -> Result<Option<Plan>, AllocError>
     requires { problem_held sequencer.now.planner ≡ Some sequencer.now.problem }
     ensures first { IfOk result (IsFirstShown sequencer.now.state.situation) }
 

@@ -11,7 +11,7 @@ use Rattle.landing_rules.specs.Text.{plan_shown, shown_plan, ShownPlan}
 use Rattle.landing_joint.specs.CompletingPairs.{IsLeastObjective}
 use Rattle.landing_joint.specs.FirstBestLaws.{FirstBestListLaw, FirstBestObjectiveLaw}
 use Rattle.landing_joint.specs.ProblemLaws.{ListGivesScheduleLaw, SameObjectiveLaw, ScheduleGivesListLaw}
-use Rattle.first_plans.specs.FirstShown.{value_of, IsFirstShown}
+use Rattle.inquiry_commands.specs.FirstShown.{value_of, IsFirstShown}
 
 -- none is shown: none is the first plan
 pub none_first : (state : State) → IsPlanShown state.situation state.plan → None ≡ plan_shown state → IsFirstShown state.situation None
