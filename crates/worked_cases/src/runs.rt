@@ -1,4 +1,5 @@
 // The run of a case.
+ghost use Rattle.std.specs.Prelude.{◌≡◌, option_copied, option_map, string_bytes};
 
 use crate::cases::{Case, Texts};
 use crate::files::files_of;
@@ -47,7 +48,12 @@ fn is_to_fail(case: &Case) -> bool {
         && case.failing_lines.is_empty())
 }
 
-fn outputs_of(case: &Case) -> Outputs<'_> {
+fn outputs_of(case: &Case) -> Outputs<'_>
+    ensures whole { result.whole.now ≡ string_bytes case.now.out }
+    ensures other { option_copied result.other ≡ option_map string_bytes case.now.or }
+    ensures begins { option_copied result.begins ≡ option_map string_bytes case.now.begins }
+    ensures ends { option_copied result.ends ≡ option_map string_bytes case.now.ends }
+{
     Outputs {
         whole: case.out.as_str(),
         other: case.or.as_deref(),
