@@ -9,13 +9,11 @@ mod memory_sink;
 mod real_folder;
 mod real_sink;
 mod sinks;
-#[cfg(test)]
-mod tests;
 
 pub use folders::{Folder, LoadFault};
 pub use gates::{FreeGate, Gate};
 pub use memory_folder::MemoryFolder;
 pub use memory_sink::MemorySink;
-pub use real_folder::RealFolder;
+pub use real_folder::{RealFolder, read_pieces};
 pub use real_sink::RealSink;
 pub use sinks::{Sink, WriteFailed};

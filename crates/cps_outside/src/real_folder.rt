@@ -31,8 +31,9 @@ impl<'a, R: Files + AllocGlobal> RealFolder<'a, R> {
     }
 }
 
-// The bytes up to the end, or one more than `most` of them.
-pub(crate) fn read_pieces<F: Read>(alloc: Global, file: &mut F, most: usize) -> io::Result<Vec<u8>>
+/// The bytes up to the end, or where there are more, one more than `most` of them. An error is the first fault of a read, or
+/// that memory is short.
+pub fn read_pieces<F: Read>(alloc: Global, file: &mut F, most: usize) -> io::Result<Vec<u8>>
     ensures { IfOk result (λ bytes. vec_len bytes ≤ most + 1) }
 {
     let mut buffer = [0u8; BUFFER];

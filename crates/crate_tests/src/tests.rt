@@ -2,6 +2,7 @@ mod first_come;
 mod labels;
 mod numbers;
 mod open_times;
+mod outside;
 mod pairs;
 mod planner;
 mod problems;

@@ -1,10 +1,6 @@
-// The files of a case, in memory.
-ghost use Rattle.std.specs.Prelude.{◌≡◌, IfOk};
-ghost use Rattle.cps_outside.specs.MemoryFolder.{failing_loads_of};
-
+// The files of a case.
+use crate::cases::{Case, Part, Texts};
 use anyhow::{Result, bail};
-use case_tables::{Case, Part, Texts};
-use cps_outside::MemoryFolder;
 use std::alloc::Global;
 
 // Adds a text as it is written in a table.
@@ -40,15 +36,16 @@ fn content_of(alloc: Global, texts: &Texts, parts: &[Part]) -> Result<Vec<u8>> {
     Ok(content)
 }
 
-/// The folder of a case, of which exactly the loads fail that are to fail there.
-pub(crate) fn folder_of(alloc: Global, texts: &Texts, case: &Case) -> Result<MemoryFolder>
-    ensures { IfOk result (λ folder. failing_loads_of folder ≡ case.now.failing_loads.items) }
-{
+/// The files of a case, each with its name.
+pub(crate) fn files_of(
+    alloc: Global,
+    texts: &Texts,
+    case: &Case,
+) -> Result<Vec<(String, Vec<u8>)>> {
     let mut files = Vec::new(alloc);
     for (name, parts) in &case.files {
         let content = content_of(alloc, texts, parts.as_slice())?;
         files.push((String::from_str(alloc, name.as_str())?, content))?;
     }
-    let failing = case.failing_loads.as_slice().to_vec(alloc)?;
-    Ok(MemoryFolder::new(alloc, files, failing))
+    Ok(files)
 }

@@ -2,12 +2,13 @@
 //! the status. The tables stand in data/, and what this prints in stdout.
 #![tactic(auto)]
 
+mod cases;
 mod files;
 mod runs;
 
+use crate::cases::{Table, Texts};
 use crate::runs::is_as_shown;
 use anyhow::{Result, bail};
-use case_tables::{Table, Texts};
 use cps_outside::{Folder, LoadFault, RealFolder};
 use serde::de::DeserializeOwned;
 use std::rt::Files;

@@ -1,7 +1,7 @@
 use Rattle.std.proofs.Common.{length, drop, take, ◌-◌}
 use Rattle.std.proofs.lemmas.Slice.Eq.{starts_is, ends_is}
 use Rattle.std.proofs.lemmas.Bool.Decides.{Decides-eqb}
-use Rattle.case_tables.proofs.cases.Case.is_output.Goals as goal
+use Rattle.case_outcomes.proofs.output.Outputs.contains.Goals as goal
 
 pub returns-in-Some : goal.returns-in-Some
 returns-in-Some c =

@@ -1,9 +1,8 @@
 ghost use Rattle.std.specs.Prelude.{◌≤◌, IfOk};
 
-use crate::real_folder::read_pieces;
-use crate::{
+use cps_outside::{
     Folder, FreeGate, Gate, LoadFault, MemoryFolder, MemorySink, RealFolder, RealSink, Sink,
-    WriteFailed,
+    WriteFailed, read_pieces,
 };
 use std::io;
 use std::io::{ErrorKind, Read, Write};

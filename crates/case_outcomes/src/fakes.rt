@@ -1,0 +1,31 @@
+ghost use Rattle.std.specs.Prelude.{◌≡◌, IfOk};
+ghost use Rattle.cps_outside.specs.MemoryFolder.{failing_loads_of, folder_state, fresh_folder};
+ghost use Rattle.cps_outside.specs.MemorySink.{failing_puts_of, fresh_sink, sink_state};
+
+use cps_outside::{MemoryFolder, MemorySink};
+use std::alloc::{AllocError, Global};
+
+/// A folder of these files, of which exactly these loads fail.
+pub fn failing_folder(
+    alloc: Global,
+    files: Vec<(String, Vec<u8>)>,
+    failing: &[u32],
+) -> Result<MemoryFolder, AllocError>
+    ensures state { IfOk result (λ folder. folder_state folder
+        ≡ fresh_folder files.items failing.now) }
+    ensures failing { IfOk result (λ folder. failing_loads_of folder ≡ failing.now) }
+{
+    Ok(MemoryFolder::new(alloc, files, failing.to_vec(alloc)?))
+}
+
+/// A sink with room for `room` bytes, of which exactly these puts fail, each with the bytes that it takes.
+pub fn failing_sink(
+    alloc: Global,
+    room: usize,
+    failing: &[(u32, u32)],
+) -> Result<MemorySink, AllocError>
+    ensures state { IfOk result (λ sink. sink_state sink ≡ fresh_sink room failing.now) }
+    ensures failing { IfOk result (λ sink. failing_puts_of sink ≡ failing.now) }
+{
+    MemorySink::new(alloc, room, failing.to_vec(alloc)?)
+}
