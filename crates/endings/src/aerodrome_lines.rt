@@ -2,6 +2,7 @@
 ghost use Rattle.std.specs.Prelude.{◌≡◌};
 ghost use Rattle.cps_outside.specs.SinkState.{Writes};
 ghost use Rattle.endings.specs.Lines.{letter_text, key_name, key_index, key_line, unknown_line, table_line, closure_line, entry_line, aerodrome_line};
+ghost use Rattle.endings.specs.Pieces.{closure_word};
 
 use crate::lines::put_all;
 use aerodrome_file::{AeroFault, Key, KeyText, Part};
@@ -131,18 +132,24 @@ fn say_table<E: Sink>(err: &mut E, fault: &TableFault) -> Result<(), WriteFailed
     }
 }
 
+fn closure_word(fault: &ClosureFault) -> &'static [u8]
+    ensures { result.now ≡ closure_word fault.now }
+{
+    match fault {
+        ClosureFault::Empty => b" empty\n",
+        ClosureFault::TooMany => b" too-many\n",
+    }
+}
+
 fn say_closure<E: Sink>(err: &mut E, i: u8, fault: &ClosureFault) -> Result<(), WriteFailed>
     ensures { Writes (E.state err.old) (E.state err.new) (closure_line i fault.now) result }
 {
     let mut buffer = Buffer::new();
     let i = buffer.format(i).as_bytes();
-    match fault {
-        ClosureFault::Empty => put_all(err, &[b"cps: aerodrome: closure ", i, b" empty\n"]),
-        ClosureFault::TooMany => put_all(err, &[b"cps: aerodrome: closure ", i, b" too-many\n"]),
-    }
+    put_all(err, &[b"cps: aerodrome: closure ", i, closure_word(fault)])
 }
 
-// The line of an entry: its list and what is wrong with it, around its number.
+// The line of a number: what is wrong with it, as with the entry of a list.
 fn say_entry<E: Sink>(err: &mut E, words: &'static [u8], i: u16) -> Result<(), WriteFailed>
     ensures { Writes (E.state err.old) (E.state err.new) (entry_line words.now i) result }
 {
@@ -155,25 +162,21 @@ fn say_entry<E: Sink>(err: &mut E, words: &'static [u8], i: u16) -> Result<(), W
 pub(crate) fn say_aerodrome<E: Sink>(err: &mut E, fault: &AeroFault) -> Result<(), WriteFailed>
     ensures { Writes (E.state err.old) (E.state err.new) (aerodrome_line fault.now) result }
 {
-    let mut buffer = Buffer::new();
     match fault {
-        AeroFault::NotToml => put_all(err, &[b"cps: aerodrome: not toml\n"]),
+        AeroFault::NotToml => err.put(b"cps: aerodrome: not toml\n"),
         AeroFault::MissingKey(key) => say_key(err, b"missing ", key),
         AeroFault::UnknownKey(part, key) => say_unknown(err, part, key),
         AeroFault::WrongKind(key) => say_key(err, b"kind ", key),
         AeroFault::OutOfRange(key) => say_key(err, b"range ", key),
         AeroFault::Table(fault) => say_table(err, fault),
         AeroFault::Closure(i, fault) => say_closure(err, *i, fault),
-        AeroFault::FrozenTooMany => put_all(err, &[b"cps: aerodrome: frozen too-many\n"]),
-        AeroFault::FrozenNoClock => put_all(err, &[b"cps: aerodrome: frozen no-clock\n"]),
+        AeroFault::FrozenTooMany => err.put(b"cps: aerodrome: frozen too-many\n"),
+        AeroFault::FrozenNoClock => err.put(b"cps: aerodrome: frozen no-clock\n"),
         AeroFault::FrozenRepeat(i) => say_entry(err, b"frozen repeat ", *i),
         AeroFault::FrozenLate(i) => say_entry(err, b"frozen late ", *i),
-        AeroFault::PassedTooMany => put_all(err, &[b"cps: aerodrome: passed too-many\n"]),
+        AeroFault::PassedTooMany => err.put(b"cps: aerodrome: passed too-many\n"),
         AeroFault::PassedRepeat(i) => say_entry(err, b"passed repeat ", u16::from(*i)),
-        AeroFault::DelayShift(k) => {
-            let k = buffer.format(*k).as_bytes();
-            put_all(err, &[b"cps: aerodrome: delay shift ", k, b"\n"])
-        }
-        AeroFault::Memory => put_all(err, &[b"cps: no memory\n"]),
+        AeroFault::DelayShift(k) => say_entry(err, b"delay shift ", u16::from(*k)),
+        AeroFault::Memory => err.put(b"cps: no memory\n"),
     }
 }

@@ -22,6 +22,6 @@ pub(crate) fn say_certificate<E: Sink>(err: &mut E, fault: &CertFault) -> Result
             let number = buffer.format(*number).as_bytes();
             put_all(err, &[b"cps: certificate: order ", number, b"\n"])
         }
-        CertFault::Memory => put_all(err, &[b"cps: no memory\n"]),
+        CertFault::Memory => err.put(b"cps: no memory\n"),
     }
 }

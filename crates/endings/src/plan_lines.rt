@@ -18,6 +18,6 @@ pub(crate) fn say_plan<E: Sink>(err: &mut E, fault: &PlanFault) -> Result<(), Wr
             let number = buffer.format(*number).as_bytes();
             put_all(err, &[b"cps: plan: line ", number, b"\n"])
         }
-        PlanFault::Memory => put_all(err, &[b"cps: no memory\n"]),
+        PlanFault::Memory => err.put(b"cps: no memory\n"),
     }
 }

@@ -3,6 +3,7 @@ ghost use Rattle.std.specs.Prelude.{◌≡◌, decimal};
 ghost use Rattle.cps_outside.specs.SinkState.{Writes};
 ghost use Rattle.trial_file.specs.declared.fault.TrialCause.TheVariants as trial;
 ghost use Rattle.endings.specs.Lines.{trial_line, trials_line};
+ghost use Rattle.endings.specs.Pieces.{trial_words, trial_words_line};
 
 use crate::event_lines::{field_part, field_why, field_word};
 use crate::lines::put_all;
@@ -36,20 +37,38 @@ fn say_value<E: Sink>(err: &mut E, number: u32, cause: &FieldCause) -> Result<()
     )
 }
 
-// Writes the line of a cause in the record of this number.
-fn say_cause<E: Sink>(err: &mut E, number: u32, cause: TrialCause) -> Result<(), WriteFailed>
+// What stands behind the number of the record, where no value is wrong.
+fn cause_words(cause: &TrialCause) -> &'static [u8]
+    ensures { result.now ≡ trial_words cause.now }
+{
+    match cause {
+        TrialCause::Header => b": header\n",
+        TrialCause::FieldCount => b": fields\n",
+        TrialCause::Kind => b": kind\n",
+        TrialCause::Value(_) => b"",
+        TrialCause::TooMany => b": too-many\n",
+        TrialCause::Memory => b": memory\n",
+    }
+}
+
+// Writes the line of words in the record of this number.
+fn say_words<E: Sink>(err: &mut E, number: u32, words: &'static [u8]) -> Result<(), WriteFailed>
     ensures { Writes (E.state err.old) (E.state err.new)
-        (trial_line (decimal number) cause) result }
+        (trial_words_line (decimal number) words.now) result }
 {
     let mut buffer = Buffer::new();
-    let text = buffer.format(number).as_bytes();
+    let number = buffer.format(number).as_bytes();
+    put_all(err, &[RECORD, number, words])
+}
+
+// Writes the line of a cause in the record of this number.
+fn say_cause<E: Sink>(err: &mut E, number: u32, cause: &TrialCause) -> Result<(), WriteFailed>
+    ensures { Writes (E.state err.old) (E.state err.new)
+        (trial_line (decimal number) cause.now) result }
+{
     match cause {
-        TrialCause::Header => put_all(err, &[RECORD, text, b": header\n"]),
-        TrialCause::FieldCount => put_all(err, &[RECORD, text, b": fields\n"]),
-        TrialCause::Kind => put_all(err, &[RECORD, text, b": kind\n"]),
-        TrialCause::Value(why) => say_value(err, number, &why),
-        TrialCause::TooMany => put_all(err, &[RECORD, text, b": too-many\n"]),
-        TrialCause::Memory => put_all(err, &[RECORD, text, b": memory\n"]),
+        TrialCause::Value(why) => say_value(err, number, why),
+        _ => say_words(err, number, cause_words(cause)),
     }
 }
 
@@ -57,5 +76,5 @@ fn say_cause<E: Sink>(err: &mut E, number: u32, cause: TrialCause) -> Result<(),
 pub(crate) fn say_trials<E: Sink>(err: &mut E, fault: &TrialFault) -> Result<(), WriteFailed>
     ensures { Writes (E.state err.old) (E.state err.new) (trials_line fault.now) result }
 {
-    say_cause(err, fault.number, fault.cause)
+    say_cause(err, fault.number, &fault.cause)
 }

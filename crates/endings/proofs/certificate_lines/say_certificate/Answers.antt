@@ -15,4 +15,4 @@ returns-in-Order g c =
     says _ _ _ _ _ (ap (λ t. text_of (codes "cps: certificate: order " ∷ t ∷ codes "\n" ∷ [])) n ∙ ap certificate_line (sym c.in-Order.is)) c.put_all-in-Order.ensures
 
 pub returns-in-Memory : goal.returns-in-Memory
-returns-in-Memory g c = says _ _ _ _ _ (ap certificate_line (sym c.in-Memory.is)) c.put_all-in-Memory.ensures
+returns-in-Memory g c = says _ _ _ _ _ (ap certificate_line (sym c.in-Memory.is)) c.put.ensures.writes

@@ -10,4 +10,4 @@ returns-in-Line g c =
     says _ _ _ _ _ (ap (λ t. text_of (codes "cps: plan: line " ∷ t ∷ codes "\n" ∷ [])) n ∙ ap plan_line (sym c.in-Line.is)) c.put_all.ensures
 
 pub returns-in-Memory : goal.returns-in-Memory
-returns-in-Memory g c = says _ _ _ _ _ (ap plan_line (sym c.in-Memory.is)) c.put_all-in-Memory.ensures
+returns-in-Memory g c = says _ _ _ _ _ (ap plan_line (sym c.in-Memory.is)) c.put.ensures.writes
