@@ -54,9 +54,6 @@ event_words (log.Field column cause) = []
 event_words log.TooMany = codes ": too-many\n"
 event_words log.Memory = codes ": memory\n"
 
-abbrev pub event_words_line : List ℕ → List ℕ → List ℕ
-event_words_line number words = text_of (codes "cps: events: record " ∷ number ∷ words ∷ [])
-
 -- behind the number of a trial's record, where no value is wrong
 abbrev pub trial_words : TrialCause → List ℕ
 trial_words trial.Header = codes ": header\n"
@@ -66,9 +63,6 @@ trial_words (trial.Value cause) = []
 trial_words trial.TooMany = codes ": too-many\n"
 trial_words trial.Memory = codes ": memory\n"
 
-abbrev pub trial_words_line : List ℕ → List ℕ → List ℕ
-trial_words_line number words = text_of (codes "cps: trials: record " ∷ number ∷ words ∷ [])
-
--- the line of a file by its number and what befell it
-abbrev pub file_line : ℕ → List ℕ → List ℕ
-file_line place words = text_of (codes "cps: file " ∷ decimal place ∷ words ∷ [])
+-- a line of words, a number and more words
+abbrev pub between_line : List ℕ → ℕ → List ℕ → List ℕ
+between_line before n after = text_of (before ∷ decimal n ∷ after ∷ [])

@@ -1,10 +1,10 @@
 // The lines for an aerodrome file that is none.
 ghost use Rattle.std.specs.Prelude.{◌≡◌};
 ghost use Rattle.cps_outside.specs.SinkState.{Writes};
-ghost use Rattle.endings.specs.Lines.{letter_text, key_name, key_index, key_line, unknown_line, table_line, closure_line, entry_line, aerodrome_line};
+ghost use Rattle.endings.specs.Lines.{letter_text, key_name, key_index, key_line, unknown_line, table_line, closure_line, aerodrome_line};
 ghost use Rattle.endings.specs.Pieces.{closure_word};
 
-use crate::lines::put_all;
+use crate::lines::{put_all, say_between, say_number};
 use aerodrome_file::{AeroFault, Key, KeyText, Part};
 use cps_outside::{Sink, WriteFailed};
 use itoa::Buffer;
@@ -144,18 +144,12 @@ fn closure_word(fault: &ClosureFault) -> &'static [u8]
 fn say_closure<E: Sink>(err: &mut E, i: u8, fault: &ClosureFault) -> Result<(), WriteFailed>
     ensures { Writes (E.state err.old) (E.state err.new) (closure_line i fault.now) result }
 {
-    let mut buffer = Buffer::new();
-    let i = buffer.format(i).as_bytes();
-    put_all(err, &[b"cps: aerodrome: closure ", i, closure_word(fault)])
-}
-
-// The line of a number: what is wrong with it, as with the entry of a list.
-fn say_entry<E: Sink>(err: &mut E, words: &'static [u8], i: u16) -> Result<(), WriteFailed>
-    ensures { Writes (E.state err.old) (E.state err.new) (entry_line words.now i) result }
-{
-    let mut buffer = Buffer::new();
-    let i = buffer.format(i).as_bytes();
-    put_all(err, &[b"cps: aerodrome: ", words, i, b"\n"])
+    say_between(
+        err,
+        b"cps: aerodrome: closure ",
+        u32::from(i),
+        closure_word(fault),
+    )
 }
 
 // Writes the line of a fault.
@@ -172,11 +166,19 @@ pub(crate) fn say_aerodrome<E: Sink>(err: &mut E, fault: &AeroFault) -> Result<(
         AeroFault::Closure(i, fault) => say_closure(err, *i, fault),
         AeroFault::FrozenTooMany => err.put(b"cps: aerodrome: frozen too-many\n"),
         AeroFault::FrozenNoClock => err.put(b"cps: aerodrome: frozen no-clock\n"),
-        AeroFault::FrozenRepeat(i) => say_entry(err, b"frozen repeat ", *i),
-        AeroFault::FrozenLate(i) => say_entry(err, b"frozen late ", *i),
+        AeroFault::FrozenRepeat(i) => say_number(
+            err,
+            b"cps: aerodrome: frozen repeat ",
+            u32::from(*i),
+        ),
+        AeroFault::FrozenLate(i) => say_number(err, b"cps: aerodrome: frozen late ", u32::from(*i)),
         AeroFault::PassedTooMany => err.put(b"cps: aerodrome: passed too-many\n"),
-        AeroFault::PassedRepeat(i) => say_entry(err, b"passed repeat ", u16::from(*i)),
-        AeroFault::DelayShift(k) => say_entry(err, b"delay shift ", u16::from(*k)),
+        AeroFault::PassedRepeat(i) => say_number(
+            err,
+            b"cps: aerodrome: passed repeat ",
+            u32::from(*i),
+        ),
+        AeroFault::DelayShift(k) => say_number(err, b"cps: aerodrome: delay shift ", u32::from(*k)),
         AeroFault::Memory => err.put(b"cps: no memory\n"),
     }
 }

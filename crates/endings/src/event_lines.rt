@@ -3,12 +3,12 @@ ghost use Rattle.std.specs.Prelude.{◌≡◌, decimal};
 ghost use Rattle.cps_outside.specs.SinkState.{Writes};
 ghost use Rattle.event_log.specs.declared.fault.LogCause.TheVariants as log;
 ghost use Rattle.endings.specs.Lines.{column_word, field_word, field_part, field_why, event_line, events_line};
-ghost use Rattle.endings.specs.Pieces.{event_words, event_words_line};
+ghost use Rattle.endings.specs.Pieces.{event_words};
 
 use crate::flight_lines::{
     after_part, after_word, number_word, windows_part, windows_why, windows_word,
 };
-use crate::lines::put_all;
+use crate::lines::{put_all, say_between};
 use cps_outside::{Sink, WriteFailed};
 use event_log::{Col, FieldCause, LogCause, LogFault};
 use itoa::Buffer;
@@ -104,16 +104,6 @@ fn cause_words(cause: &LogCause) -> &'static [u8]
     }
 }
 
-// Writes the line of words in the record of this number.
-fn say_words<E: Sink>(err: &mut E, number: u32, words: &'static [u8]) -> Result<(), WriteFailed>
-    ensures { Writes (E.state err.old) (E.state err.new)
-        (event_words_line (decimal number) words.now) result }
-{
-    let mut buffer = Buffer::new();
-    let number = buffer.format(number).as_bytes();
-    put_all(err, &[RECORD, number, words])
-}
-
 // Writes the line of a cause in the record of this number.
 fn say_cause<E: Sink>(err: &mut E, number: u32, cause: &LogCause) -> Result<(), WriteFailed>
     ensures { Writes (E.state err.old) (E.state err.new)
@@ -121,7 +111,7 @@ fn say_cause<E: Sink>(err: &mut E, number: u32, cause: &LogCause) -> Result<(), 
 {
     match cause {
         LogCause::Field(column, why) => say_field(err, number, *column, why),
-        _ => say_words(err, number, cause_words(cause)),
+        _ => say_between(err, RECORD, number, cause_words(cause)),
     }
 }
 

@@ -3,10 +3,10 @@ ghost use Rattle.std.specs.Prelude.{◌≡◌, decimal};
 ghost use Rattle.cps_outside.specs.SinkState.{Writes};
 ghost use Rattle.trial_file.specs.declared.fault.TrialCause.TheVariants as trial;
 ghost use Rattle.endings.specs.Lines.{trial_line, trials_line};
-ghost use Rattle.endings.specs.Pieces.{trial_words, trial_words_line};
+ghost use Rattle.endings.specs.Pieces.{trial_words};
 
 use crate::event_lines::{field_part, field_why, field_word};
-use crate::lines::put_all;
+use crate::lines::{put_all, say_between};
 use cps_outside::{Sink, WriteFailed};
 use event_log::FieldCause;
 use itoa::Buffer;
@@ -51,16 +51,6 @@ fn cause_words(cause: &TrialCause) -> &'static [u8]
     }
 }
 
-// Writes the line of words in the record of this number.
-fn say_words<E: Sink>(err: &mut E, number: u32, words: &'static [u8]) -> Result<(), WriteFailed>
-    ensures { Writes (E.state err.old) (E.state err.new)
-        (trial_words_line (decimal number) words.now) result }
-{
-    let mut buffer = Buffer::new();
-    let number = buffer.format(number).as_bytes();
-    put_all(err, &[RECORD, number, words])
-}
-
 // Writes the line of a cause in the record of this number.
 fn say_cause<E: Sink>(err: &mut E, number: u32, cause: &TrialCause) -> Result<(), WriteFailed>
     ensures { Writes (E.state err.old) (E.state err.new)
@@ -68,7 +58,7 @@ fn say_cause<E: Sink>(err: &mut E, number: u32, cause: &TrialCause) -> Result<()
 {
     match cause {
         TrialCause::Value(why) => say_value(err, number, why),
-        _ => say_words(err, number, cause_words(cause)),
+        _ => say_between(err, RECORD, number, cause_words(cause)),
     }
 }
 

@@ -1,24 +1,28 @@
 use Rattle.std.proofs.Common.{◌≡◌, ℕ, List, refl, ap, sym, decimal}
+use Rattle.std.specs.Prelude.{codes}
 use Rattle.event_log.specs.declared.fault.FieldCause.{FieldCause}
 use Rattle.trial_file.specs.declared.fault.TrialCause.{TrialCause}
 use Rattle.trial_file.specs.declared.fault.TrialCause.TheVariants as trial
 use Rattle.endings.specs.Lines.{trial_line}
-use Rattle.endings.specs.Pieces.{trial_words, trial_words_line}
+use Rattle.endings.specs.Pieces.{trial_words, between_line}
 use Rattle.endings.proofs.Writing.{says}
 use Rattle.endings.proofs.trial_lines.say_cause.Goals as goal
 
+abbrev start : List ℕ
+start = codes "cps: trials: record "
+
 -- the line where no value is wrong
-plain : (n words : List ℕ) (cause : TrialCause) → words ≡ trial_words cause →
-    ((why : FieldCause) → cause ≡ trial.Value why → ⊥) → trial_words_line n words ≡ trial_line n cause
-plain n words trial.Header is never = ap (trial_words_line n) is
-plain n words trial.FieldCount is never = ap (trial_words_line n) is
-plain n words trial.Kind is never = ap (trial_words_line n) is
+plain : (n : ℕ) (words : List ℕ) (cause : TrialCause) → words ≡ trial_words cause →
+    ((why : FieldCause) → cause ≡ trial.Value why → ⊥) → between_line start n words ≡ trial_line (decimal n) cause
+plain n words trial.Header is never = ap (between_line start n) is
+plain n words trial.FieldCount is never = ap (between_line start n) is
+plain n words trial.Kind is never = ap (between_line start n) is
 plain n words (trial.Value why) is never = absurd (never why refl)
-plain n words trial.TooMany is never = ap (trial_words_line n) is
-plain n words trial.Memory is never = ap (trial_words_line n) is
+plain n words trial.TooMany is never = ap (between_line start n) is
+plain n words trial.Memory is never = ap (between_line start n) is
 
 pub returns-in-Value : goal.returns-in-Value
 returns-in-Value g c = says _ _ _ _ _ (ap (trial_line (decimal c.args.number)) (sym c.in-Value.is)) c.say_value.ensures
 
 pub returns-in_default : goal.returns-in_default
-returns-in_default g c = says _ _ _ _ _ (plain (decimal c.args.number) _ c.args.cause.now c.cause_words.ensures c.in_default.not-Value) c.say_words.ensures
+returns-in_default g c = says _ _ _ _ _ (plain c.args.number _ c.args.cause.now c.cause_words.ensures c.in_default.not-Value) c.say_between.ensures
