@@ -1,9 +1,10 @@
 // The lines for an aerodrome file that is none.
 ghost use Rattle.std.specs.Prelude.{◌≡◌};
 ghost use Rattle.cps_outside.specs.SinkState.{Writes};
-ghost use Rattle.endings.specs.Lines.{letter_text, key_name, key_index, key_line, unknown_line, table_line, closure_line, entry_line, aerodrome_line};
+ghost use Rattle.endings.specs.Lines.{letter_text, key_name, key_index, key_line, unknown_line, table_line, closure_line, aerodrome_line};
+ghost use Rattle.endings.specs.Pieces.{closure_word};
 
-use crate::lines::put_all;
+use crate::lines::{put_all, say_between, say_number};
 use aerodrome_file::{AeroFault, Key, KeyText, Part};
 use cps_outside::{Sink, WriteFailed};
 use itoa::Buffer;
@@ -131,49 +132,53 @@ fn say_table<E: Sink>(err: &mut E, fault: &TableFault) -> Result<(), WriteFailed
     }
 }
 
-fn say_closure<E: Sink>(err: &mut E, i: u8, fault: &ClosureFault) -> Result<(), WriteFailed>
-    ensures { Writes (E.state err.old) (E.state err.new) (closure_line i fault.now) result }
+fn closure_word(fault: &ClosureFault) -> &'static [u8]
+    ensures { result.now ≡ closure_word fault.now }
 {
-    let mut buffer = Buffer::new();
-    let i = buffer.format(i).as_bytes();
     match fault {
-        ClosureFault::Empty => put_all(err, &[b"cps: aerodrome: closure ", i, b" empty\n"]),
-        ClosureFault::TooMany => put_all(err, &[b"cps: aerodrome: closure ", i, b" too-many\n"]),
+        ClosureFault::Empty => b" empty\n",
+        ClosureFault::TooMany => b" too-many\n",
     }
 }
 
-// The line of an entry: its list and what is wrong with it, around its number.
-fn say_entry<E: Sink>(err: &mut E, words: &'static [u8], i: u16) -> Result<(), WriteFailed>
-    ensures { Writes (E.state err.old) (E.state err.new) (entry_line words.now i) result }
+fn say_closure<E: Sink>(err: &mut E, i: u8, fault: &ClosureFault) -> Result<(), WriteFailed>
+    ensures { Writes (E.state err.old) (E.state err.new) (closure_line i fault.now) result }
 {
-    let mut buffer = Buffer::new();
-    let i = buffer.format(i).as_bytes();
-    put_all(err, &[b"cps: aerodrome: ", words, i, b"\n"])
+    say_between(
+        err,
+        b"cps: aerodrome: closure ",
+        u32::from(i),
+        closure_word(fault),
+    )
 }
 
 // Writes the line of a fault.
 pub(crate) fn say_aerodrome<E: Sink>(err: &mut E, fault: &AeroFault) -> Result<(), WriteFailed>
     ensures { Writes (E.state err.old) (E.state err.new) (aerodrome_line fault.now) result }
 {
-    let mut buffer = Buffer::new();
     match fault {
-        AeroFault::NotToml => put_all(err, &[b"cps: aerodrome: not toml\n"]),
+        AeroFault::NotToml => err.put(b"cps: aerodrome: not toml\n"),
         AeroFault::MissingKey(key) => say_key(err, b"missing ", key),
         AeroFault::UnknownKey(part, key) => say_unknown(err, part, key),
         AeroFault::WrongKind(key) => say_key(err, b"kind ", key),
         AeroFault::OutOfRange(key) => say_key(err, b"range ", key),
         AeroFault::Table(fault) => say_table(err, fault),
         AeroFault::Closure(i, fault) => say_closure(err, *i, fault),
-        AeroFault::FrozenTooMany => put_all(err, &[b"cps: aerodrome: frozen too-many\n"]),
-        AeroFault::FrozenNoClock => put_all(err, &[b"cps: aerodrome: frozen no-clock\n"]),
-        AeroFault::FrozenRepeat(i) => say_entry(err, b"frozen repeat ", *i),
-        AeroFault::FrozenLate(i) => say_entry(err, b"frozen late ", *i),
-        AeroFault::PassedTooMany => put_all(err, &[b"cps: aerodrome: passed too-many\n"]),
-        AeroFault::PassedRepeat(i) => say_entry(err, b"passed repeat ", u16::from(*i)),
-        AeroFault::DelayShift(k) => {
-            let k = buffer.format(*k).as_bytes();
-            put_all(err, &[b"cps: aerodrome: delay shift ", k, b"\n"])
-        }
-        AeroFault::Memory => put_all(err, &[b"cps: no memory\n"]),
+        AeroFault::FrozenTooMany => err.put(b"cps: aerodrome: frozen too-many\n"),
+        AeroFault::FrozenNoClock => err.put(b"cps: aerodrome: frozen no-clock\n"),
+        AeroFault::FrozenRepeat(i) => say_number(
+            err,
+            b"cps: aerodrome: frozen repeat ",
+            u32::from(*i),
+        ),
+        AeroFault::FrozenLate(i) => say_number(err, b"cps: aerodrome: frozen late ", u32::from(*i)),
+        AeroFault::PassedTooMany => err.put(b"cps: aerodrome: passed too-many\n"),
+        AeroFault::PassedRepeat(i) => say_number(
+            err,
+            b"cps: aerodrome: passed repeat ",
+            u32::from(*i),
+        ),
+        AeroFault::DelayShift(k) => say_number(err, b"cps: aerodrome: delay shift ", u32::from(*k)),
+        AeroFault::Memory => err.put(b"cps: no memory\n"),
     }
 }

@@ -7,7 +7,7 @@ use situations::OpeningFault;
 use trial_file::TrialFault;
 
 /// What a command answers once its text is written.
-#[derive(Clone, Copy, Debug, PartialEq, Eq)]
+#[derive(Clone, Copy)]
 pub enum Answer {
     /// The last plan is a schedule.
     Scheduled,
@@ -30,7 +30,7 @@ pub enum Answer {
 }
 
 /// Why the files are not taken.
-#[derive(Clone, Copy, Debug, PartialEq, Eq)]
+#[derive(Clone, Copy)]
 pub enum Refusal {
     /// The aerodrome file is none.
     Aerodrome(AeroFault),
@@ -49,7 +49,7 @@ pub enum Refusal {
 }
 
 /// How a run ends.
-#[derive(Clone, Copy, Debug, PartialEq, Eq)]
+#[derive(Clone, Copy)]
 pub enum Ending {
     /// The text was written whole.
     Answered(Answer),

@@ -3,11 +3,12 @@ ghost use Rattle.std.specs.Prelude.{◌≡◌, decimal};
 ghost use Rattle.cps_outside.specs.SinkState.{Writes};
 ghost use Rattle.event_log.specs.declared.fault.LogCause.TheVariants as log;
 ghost use Rattle.endings.specs.Lines.{column_word, field_word, field_part, field_why, event_line, events_line};
+ghost use Rattle.endings.specs.Pieces.{event_words};
 
 use crate::flight_lines::{
     after_part, after_word, number_word, windows_part, windows_why, windows_word,
 };
-use crate::lines::put_all;
+use crate::lines::{put_all, say_between};
 use cps_outside::{Sink, WriteFailed};
 use event_log::{Col, FieldCause, LogCause, LogFault};
 use itoa::Buffer;
@@ -89,20 +90,28 @@ fn say_field<E: Sink>(
     )
 }
 
-// Writes the line of a cause in the record of this number.
-fn say_cause<E: Sink>(err: &mut E, number: u32, cause: LogCause) -> Result<(), WriteFailed>
-    ensures { Writes (E.state err.old) (E.state err.new)
-        (event_line (decimal number) cause) result }
+// What stands behind the number of the record, where no field is wrong.
+fn cause_words(cause: &LogCause) -> &'static [u8]
+    ensures { result.now ≡ event_words cause.now }
 {
-    let mut buffer = Buffer::new();
-    let text = buffer.format(number).as_bytes();
     match cause {
-        LogCause::Header => put_all(err, &[RECORD, text, b": header\n"]),
-        LogCause::FieldCount => put_all(err, &[RECORD, text, b": fields\n"]),
-        LogCause::Kind => put_all(err, &[RECORD, text, b": kind\n"]),
-        LogCause::Field(column, why) => say_field(err, number, column, &why),
-        LogCause::TooMany => put_all(err, &[RECORD, text, b": too-many\n"]),
-        LogCause::Memory => put_all(err, &[RECORD, text, b": memory\n"]),
+        LogCause::Header => b": header\n",
+        LogCause::FieldCount => b": fields\n",
+        LogCause::Kind => b": kind\n",
+        LogCause::Field(_, _) => b"",
+        LogCause::TooMany => b": too-many\n",
+        LogCause::Memory => b": memory\n",
+    }
+}
+
+// Writes the line of a cause in the record of this number.
+fn say_cause<E: Sink>(err: &mut E, number: u32, cause: &LogCause) -> Result<(), WriteFailed>
+    ensures { Writes (E.state err.old) (E.state err.new)
+        (event_line (decimal number) cause.now) result }
+{
+    match cause {
+        LogCause::Field(column, why) => say_field(err, number, *column, why),
+        _ => say_between(err, RECORD, number, cause_words(cause)),
     }
 }
 
@@ -110,5 +119,5 @@ fn say_cause<E: Sink>(err: &mut E, number: u32, cause: LogCause) -> Result<(), W
 pub(crate) fn say_events<E: Sink>(err: &mut E, fault: &LogFault) -> Result<(), WriteFailed>
     ensures { Writes (E.state err.old) (E.state err.new) (events_line fault.now) result }
 {
-    say_cause(err, fault.number, fault.cause)
+    say_cause(err, fault.number, &fault.cause)
 }

@@ -2,6 +2,7 @@
 ghost use Rattle.std.specs.Prelude.{◌≡◌, decimal};
 ghost use Rattle.cps_outside.specs.SinkState.{Writes};
 ghost use Rattle.endings.specs.Lines.{number_word, windows_word, windows_part, windows_why, after_word, after_part, cause_line, flights_line};
+ghost use Rattle.endings.specs.Pieces.{cause_words, cause_word, cause_part, cause_why};
 
 use crate::lines::put_all;
 use cps_base::NumberFault;
@@ -79,6 +80,57 @@ pub(crate) fn after_part<'a>(cause: &AfterCause, buffer: &'a mut Buffer) -> &'a 
     }
 }
 
+// What stands behind the number of the record.
+fn cause_words(cause: &FlightCause) -> &'static [u8]
+    ensures { result.now ≡ cause_words cause.now }
+{
+    match cause {
+        FlightCause::Header => b": header",
+        FlightCause::FieldCount => b": fields",
+        FlightCause::Callsign => b": callsign",
+        FlightCause::Category => b": category",
+        FlightCause::Eta(_) => b": eta ",
+        FlightCause::Weight(_) => b": weight ",
+        FlightCause::Windows(_) => b": windows ",
+        FlightCause::After(_) => b": after ",
+        FlightCause::Duplicate => b": duplicate",
+        FlightCause::TooMany => b": too-many",
+        FlightCause::Memory => b": memory",
+    }
+}
+
+// What is wrong with the field, where a field is wrong.
+fn cause_word(cause: &FlightCause) -> &'static [u8]
+    ensures { result.now ≡ cause_word cause.now }
+{
+    match cause {
+        FlightCause::Eta(fault) => number_word(fault),
+        FlightCause::Weight(fault) => number_word(fault),
+        FlightCause::Windows(why) => windows_word(why),
+        FlightCause::After(why) => after_word(why),
+        _ => b"",
+    }
+}
+
+fn cause_part<'a>(cause: &FlightCause, buffer: &'a mut Buffer) -> &'a [u8]
+    ensures { result.now ≡ cause_part cause.now }
+{
+    match cause {
+        FlightCause::Windows(why) => windows_part(why, buffer),
+        FlightCause::After(why) => after_part(why, buffer),
+        _ => b"",
+    }
+}
+
+fn cause_why(cause: &FlightCause) -> &'static [u8]
+    ensures { result.now ≡ cause_why cause.now }
+{
+    match cause {
+        FlightCause::Windows(why) => windows_why(why),
+        _ => b"",
+    }
+}
+
 const RECORD: &[u8] = b"cps: flights: record ";
 
 // Writes the line of a cause in the record of this number.
@@ -89,46 +141,19 @@ fn say_cause<E: Sink>(err: &mut E, number: u32, cause: &FlightCause) -> Result<(
     let mut number_buffer = Buffer::new();
     let mut buffer = Buffer::new();
     let number = number_buffer.format(number).as_bytes();
-    match cause {
-        FlightCause::Header => put_all(err, &[RECORD, number, b": header\n"]),
-        FlightCause::FieldCount => put_all(err, &[RECORD, number, b": fields\n"]),
-        FlightCause::Callsign => put_all(err, &[RECORD, number, b": callsign\n"]),
-        FlightCause::Category => put_all(err, &[RECORD, number, b": category\n"]),
-        FlightCause::Eta(fault) => {
-            put_all(err, &[RECORD, number, b": eta ", number_word(fault), b"\n"])
-        }
-        FlightCause::Weight(fault) => {
-            put_all(
-                err,
-                &[RECORD, number, b": weight ", number_word(fault), b"\n"],
-            )
-        }
-        FlightCause::Windows(why) => {
-            let part = windows_part(why, &mut buffer);
-            put_all(
-                err,
-                &[
-                    RECORD,
-                    number,
-                    b": windows ",
-                    windows_word(why),
-                    part,
-                    windows_why(why),
-                    b"\n",
-                ],
-            )
-        }
-        FlightCause::After(why) => {
-            let part = after_part(why, &mut buffer);
-            put_all(
-                err,
-                &[RECORD, number, b": after ", after_word(why), part, b"\n"],
-            )
-        }
-        FlightCause::Duplicate => put_all(err, &[RECORD, number, b": duplicate\n"]),
-        FlightCause::TooMany => put_all(err, &[RECORD, number, b": too-many\n"]),
-        FlightCause::Memory => put_all(err, &[RECORD, number, b": memory\n"]),
-    }
+    let part = cause_part(cause, &mut buffer);
+    put_all(
+        err,
+        &[
+            RECORD,
+            number,
+            cause_words(cause),
+            cause_word(cause),
+            part,
+            cause_why(cause),
+            b"\n",
+        ],
+    )
 }
 
 // Writes the line of a fault.

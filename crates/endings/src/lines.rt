@@ -1,7 +1,8 @@
 // The statuses and the lines on the standard error. A line is written piece by piece and takes no memory.
-ghost use Rattle.std.specs.Prelude.{◌≡◌, ◌<◌, map, decimal, codes};
+ghost use Rattle.std.specs.Prelude.{◌≡◌, map};
 ghost use Rattle.cps_outside.specs.SinkState.{Writes};
-ghost use Rattle.endings.specs.Lines.{Says, status_of, line_of, text_of, refusal_line};
+ghost use Rattle.endings.specs.Lines.{Says, status_of, line_of, text_of, numbered_line, refusal_line};
+ghost use Rattle.endings.specs.Pieces.{between_line};
 
 use crate::aerodrome_lines::say_aerodrome;
 use crate::certificate_lines::say_certificate;
@@ -43,6 +44,32 @@ pub(crate) fn put_all<E: Sink>(err: &mut E, pieces: &[&[u8]]) -> Result<(), Writ
     Ok(())
 }
 
+// Writes a line of words, a number and more words.
+pub(crate) fn say_between<E: Sink>(
+    err: &mut E,
+    before: &'static [u8],
+    number: u32,
+    after: &'static [u8],
+) -> Result<(), WriteFailed>
+    ensures { Writes (E.state err.old) (E.state err.new)
+        (between_line before.now number after.now) result }
+{
+    let mut buffer = Buffer::new();
+    let number = buffer.format(number).as_bytes();
+    put_all(err, &[before, number, after])
+}
+
+// Writes a line of these words and a number.
+pub(crate) fn say_number<E: Sink>(
+    err: &mut E,
+    words: &'static [u8],
+    n: u32,
+) -> Result<(), WriteFailed>
+    ensures { Writes (E.state err.old) (E.state err.new) (numbered_line words.now n) result }
+{
+    say_between(err, words, n, b"\n")
+}
+
 fn say_refusal<E: Sink>(err: &mut E, refusal: &Refusal) -> Result<(), WriteFailed>
     ensures { Writes (E.state err.old) (E.state err.new) (refusal_line refusal.now) result }
 {
@@ -57,28 +84,26 @@ fn say_refusal<E: Sink>(err: &mut E, refusal: &Refusal) -> Result<(), WriteFaile
     }
 }
 
+fn say_line<E: Sink>(err: &mut E, ending: &Ending) -> Result<(), WriteFailed>
+    ensures { Writes (E.state err.old) (E.state err.new) (line_of ending.now) result }
+{
+    match ending {
+        Ending::Answered(_) => Ok(()),
+        Ending::Misused => err.put(b"cps: usage\n"),
+        Ending::Refused(refusal) => say_refusal(err, refusal),
+        Ending::NotLoaded(place) => say_between(err, b"cps: file ", *place, b": failed\n"),
+        Ending::NotWritten => err.put(b"cps: write failed\n"),
+        Ending::TooLong(place) => say_between(err, b"cps: file ", *place, b": too long\n"),
+        Ending::NoMemory => err.put(b"cps: no memory\n"),
+    }
+}
+
 /// Writes the line of an ending; that of an answer is empty.
-#[tactic(auto, using(crate::proofs::Writing::said))]
 pub fn say<E: Sink>(err: &mut E, ending: &Ending) -> Result<(), WriteFailed>
     ensures writes { Writes (E.state err.old) (E.state err.new) (line_of ending.now) result }
 
     // What a caller knows that lets the result go.
     ensures says { Says (E.state err.old) (E.state err.new) (line_of ending.now) }
 {
-    let mut buffer = Buffer::new();
-    match ending {
-        Ending::Answered(_) => Ok(()),
-        Ending::Misused => put_all(err, &[b"cps: usage\n"]),
-        Ending::Refused(refusal) => say_refusal(err, refusal),
-        Ending::NotLoaded(place) => {
-            let place = buffer.format(*place).as_bytes();
-            put_all(err, &[b"cps: file ", place, b": failed\n"])
-        }
-        Ending::NotWritten => put_all(err, &[b"cps: write failed\n"]),
-        Ending::TooLong(place) => {
-            let place = buffer.format(*place).as_bytes();
-            put_all(err, &[b"cps: file ", place, b": too long\n"])
-        }
-        Ending::NoMemory => put_all(err, &[b"cps: no memory\n"]),
-    }
+    say_line(err, ending)
 }

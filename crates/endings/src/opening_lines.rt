@@ -1,22 +1,13 @@
 // The lines for files that open no situation.
 ghost use Rattle.std.specs.Prelude.{◌≡◌, decimal};
 ghost use Rattle.cps_outside.specs.SinkState.{Writes};
-ghost use Rattle.endings.specs.Lines.{numbered_line, pair_line, precedence_line, opening_line};
+ghost use Rattle.endings.specs.Lines.{pair_line, precedence_line, opening_line};
 
-use crate::lines::put_all;
+use crate::lines::{put_all, say_number};
 use cps_base::Callsign;
 use cps_outside::{Sink, WriteFailed};
 use itoa::Buffer;
 use situations::OpeningFault;
-
-// Writes a line of these words and a number.
-fn say_number<E: Sink>(err: &mut E, words: &'static [u8], n: u32) -> Result<(), WriteFailed>
-    ensures { Writes (E.state err.old) (E.state err.new) (numbered_line words.now n) result }
-{
-    let mut buffer = Buffer::new();
-    let n = buffer.format(n).as_bytes();
-    put_all(err, &[words, n, b"\n"])
-}
 
 // Writes the line of two frozen landings that are too close.
 fn say_pair<E: Sink>(err: &mut E, i: u16, j: u16) -> Result<(), WriteFailed>

@@ -3,9 +3,10 @@ ghost use Rattle.std.specs.Prelude.{◌≡◌, decimal};
 ghost use Rattle.cps_outside.specs.SinkState.{Writes};
 ghost use Rattle.trial_file.specs.declared.fault.TrialCause.TheVariants as trial;
 ghost use Rattle.endings.specs.Lines.{trial_line, trials_line};
+ghost use Rattle.endings.specs.Pieces.{trial_words};
 
 use crate::event_lines::{field_part, field_why, field_word};
-use crate::lines::put_all;
+use crate::lines::{put_all, say_between};
 use cps_outside::{Sink, WriteFailed};
 use event_log::FieldCause;
 use itoa::Buffer;
@@ -36,20 +37,28 @@ fn say_value<E: Sink>(err: &mut E, number: u32, cause: &FieldCause) -> Result<()
     )
 }
 
-// Writes the line of a cause in the record of this number.
-fn say_cause<E: Sink>(err: &mut E, number: u32, cause: TrialCause) -> Result<(), WriteFailed>
-    ensures { Writes (E.state err.old) (E.state err.new)
-        (trial_line (decimal number) cause) result }
+// What stands behind the number of the record, where no value is wrong.
+fn cause_words(cause: &TrialCause) -> &'static [u8]
+    ensures { result.now ≡ trial_words cause.now }
 {
-    let mut buffer = Buffer::new();
-    let text = buffer.format(number).as_bytes();
     match cause {
-        TrialCause::Header => put_all(err, &[RECORD, text, b": header\n"]),
-        TrialCause::FieldCount => put_all(err, &[RECORD, text, b": fields\n"]),
-        TrialCause::Kind => put_all(err, &[RECORD, text, b": kind\n"]),
-        TrialCause::Value(why) => say_value(err, number, &why),
-        TrialCause::TooMany => put_all(err, &[RECORD, text, b": too-many\n"]),
-        TrialCause::Memory => put_all(err, &[RECORD, text, b": memory\n"]),
+        TrialCause::Header => b": header\n",
+        TrialCause::FieldCount => b": fields\n",
+        TrialCause::Kind => b": kind\n",
+        TrialCause::Value(_) => b"",
+        TrialCause::TooMany => b": too-many\n",
+        TrialCause::Memory => b": memory\n",
+    }
+}
+
+// Writes the line of a cause in the record of this number.
+fn say_cause<E: Sink>(err: &mut E, number: u32, cause: &TrialCause) -> Result<(), WriteFailed>
+    ensures { Writes (E.state err.old) (E.state err.new)
+        (trial_line (decimal number) cause.now) result }
+{
+    match cause {
+        TrialCause::Value(why) => say_value(err, number, why),
+        _ => say_between(err, RECORD, number, cause_words(cause)),
     }
 }
 
@@ -57,5 +66,5 @@ fn say_cause<E: Sink>(err: &mut E, number: u32, cause: TrialCause) -> Result<(),
 pub(crate) fn say_trials<E: Sink>(err: &mut E, fault: &TrialFault) -> Result<(), WriteFailed>
     ensures { Writes (E.state err.old) (E.state err.new) (trials_line fault.now) result }
 {
-    say_cause(err, fault.number, fault.cause)
+    say_cause(err, fault.number, &fault.cause)
 }

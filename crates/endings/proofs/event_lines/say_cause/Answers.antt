@@ -1,28 +1,29 @@
-use Rattle.std.proofs.Common.{◌≡◌, ℕ, List, ap₂, sym, ◌∙◌, refl}
+use Rattle.std.proofs.Common.{◌≡◌, ℕ, List, refl, ap, sym, decimal}
+use Rattle.event_log.specs.declared.fault.Col.{Col}
+use Rattle.std.specs.Prelude.{codes}
+use Rattle.event_log.specs.declared.fault.FieldCause.{FieldCause}
 use Rattle.event_log.specs.declared.fault.LogCause.{LogCause}
 use Rattle.event_log.specs.declared.fault.LogCause.TheVariants as log
 use Rattle.endings.specs.Lines.{event_line}
+use Rattle.endings.specs.Pieces.{event_words, between_line}
 use Rattle.endings.proofs.Writing.{says}
 use Rattle.endings.proofs.event_lines.say_cause.Goals as goal
 
--- the line of a cause by its number's text and its variant
-named : (n m : List ℕ) (x y : LogCause) → n ≡ m → y ≡ x → event_line n x ≡ event_line m y
-named n m x y number cause = ap₂ event_line number (sym cause)
+abbrev start : List ℕ
+start = codes "cps: events: record "
 
-pub returns-in-Header : goal.returns-in-Header
-returns-in-Header g c = says _ _ _ _ _ (named _ _ log.Header _ (c.as_bytes-text.ensures.value ∙ c.format.ensures.text) c.in-Header.is) c.put_all.ensures
-
-pub returns-in-FieldCount : goal.returns-in-FieldCount
-returns-in-FieldCount g c = says _ _ _ _ _ (named _ _ log.FieldCount _ (c.as_bytes-text.ensures.value ∙ c.format.ensures.text) c.in-FieldCount.is) c.put_all-in-FieldCount.ensures
-
-pub returns-in-Kind : goal.returns-in-Kind
-returns-in-Kind g c = says _ _ _ _ _ (named _ _ log.Kind _ (c.as_bytes-text.ensures.value ∙ c.format.ensures.text) c.in-Kind.is) c.put_all-in-Kind.ensures
+-- the line where no field is wrong
+plain : (n : ℕ) (words : List ℕ) (cause : LogCause) → words ≡ event_words cause →
+    ((column : Col) → (why : FieldCause) → cause ≡ log.Field column why → ⊥) → between_line start n words ≡ event_line (decimal n) cause
+plain n words log.Header is never = ap (between_line start n) is
+plain n words log.FieldCount is never = ap (between_line start n) is
+plain n words log.Kind is never = ap (between_line start n) is
+plain n words (log.Field column why) is never = absurd (never column why refl)
+plain n words log.TooMany is never = ap (between_line start n) is
+plain n words log.Memory is never = ap (between_line start n) is
 
 pub returns-in-Field : goal.returns-in-Field
-returns-in-Field g c = says _ _ _ _ _ (named _ _ (log.Field c.in-Field.column c.in-Field.why) _ refl c.in-Field.is) c.say_field.ensures
+returns-in-Field g c = says _ _ _ _ _ (ap (event_line (decimal c.args.number)) (sym c.in-Field.is)) c.say_field.ensures
 
-pub returns-in-TooMany : goal.returns-in-TooMany
-returns-in-TooMany g c = says _ _ _ _ _ (named _ _ log.TooMany _ (c.as_bytes-text.ensures.value ∙ c.format.ensures.text) c.in-TooMany.is) c.put_all-in-TooMany.ensures
-
-pub returns-in-Memory : goal.returns-in-Memory
-returns-in-Memory g c = says _ _ _ _ _ (named _ _ log.Memory _ (c.as_bytes-text.ensures.value ∙ c.format.ensures.text) c.in-Memory.is) c.put_all-in-Memory.ensures
+pub returns-in_default : goal.returns-in_default
+returns-in_default g c = says _ _ _ _ _ (plain c.args.number _ c.args.cause.now c.cause_words.ensures c.in_default.not-Field) c.say_between.ensures

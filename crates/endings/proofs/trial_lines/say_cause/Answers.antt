@@ -1,28 +1,28 @@
-use Rattle.std.proofs.Common.{◌≡◌, ℕ, List, ap₂, sym, ◌∙◌, refl}
+use Rattle.std.proofs.Common.{◌≡◌, ℕ, List, refl, ap, sym, decimal}
+use Rattle.std.specs.Prelude.{codes}
+use Rattle.event_log.specs.declared.fault.FieldCause.{FieldCause}
 use Rattle.trial_file.specs.declared.fault.TrialCause.{TrialCause}
 use Rattle.trial_file.specs.declared.fault.TrialCause.TheVariants as trial
 use Rattle.endings.specs.Lines.{trial_line}
+use Rattle.endings.specs.Pieces.{trial_words, between_line}
 use Rattle.endings.proofs.Writing.{says}
 use Rattle.endings.proofs.trial_lines.say_cause.Goals as goal
 
--- the line of a cause by its number's text and its variant
-named : (n m : List ℕ) (x y : TrialCause) → n ≡ m → y ≡ x → trial_line n x ≡ trial_line m y
-named n m x y number cause = ap₂ trial_line number (sym cause)
+abbrev start : List ℕ
+start = codes "cps: trials: record "
 
-pub returns-in-Header : goal.returns-in-Header
-returns-in-Header g c = says _ _ _ _ _ (named _ _ trial.Header _ (c.as_bytes-text.ensures.value ∙ c.format.ensures.text) c.in-Header.is) c.put_all.ensures
-
-pub returns-in-FieldCount : goal.returns-in-FieldCount
-returns-in-FieldCount g c = says _ _ _ _ _ (named _ _ trial.FieldCount _ (c.as_bytes-text.ensures.value ∙ c.format.ensures.text) c.in-FieldCount.is) c.put_all-in-FieldCount.ensures
-
-pub returns-in-Kind : goal.returns-in-Kind
-returns-in-Kind g c = says _ _ _ _ _ (named _ _ trial.Kind _ (c.as_bytes-text.ensures.value ∙ c.format.ensures.text) c.in-Kind.is) c.put_all-in-Kind.ensures
+-- the line where no value is wrong
+plain : (n : ℕ) (words : List ℕ) (cause : TrialCause) → words ≡ trial_words cause →
+    ((why : FieldCause) → cause ≡ trial.Value why → ⊥) → between_line start n words ≡ trial_line (decimal n) cause
+plain n words trial.Header is never = ap (between_line start n) is
+plain n words trial.FieldCount is never = ap (between_line start n) is
+plain n words trial.Kind is never = ap (between_line start n) is
+plain n words (trial.Value why) is never = absurd (never why refl)
+plain n words trial.TooMany is never = ap (between_line start n) is
+plain n words trial.Memory is never = ap (between_line start n) is
 
 pub returns-in-Value : goal.returns-in-Value
-returns-in-Value g c = says _ _ _ _ _ (named _ _ (trial.Value c.in-Value.why) _ refl c.in-Value.is) c.say_value.ensures
+returns-in-Value g c = says _ _ _ _ _ (ap (trial_line (decimal c.args.number)) (sym c.in-Value.is)) c.say_value.ensures
 
-pub returns-in-TooMany : goal.returns-in-TooMany
-returns-in-TooMany g c = says _ _ _ _ _ (named _ _ trial.TooMany _ (c.as_bytes-text.ensures.value ∙ c.format.ensures.text) c.in-TooMany.is) c.put_all-in-TooMany.ensures
-
-pub returns-in-Memory : goal.returns-in-Memory
-returns-in-Memory g c = says _ _ _ _ _ (named _ _ trial.Memory _ (c.as_bytes-text.ensures.value ∙ c.format.ensures.text) c.in-Memory.is) c.put_all-in-Memory.ensures
+pub returns-in_default : goal.returns-in_default
+returns-in_default g c = says _ _ _ _ _ (plain c.args.number _ c.args.cause.now c.cause_words.ensures c.in_default.not-Value) c.say_between.ensures
