@@ -22,9 +22,9 @@ pub loop_step : {X E : Type 0} (before after : List X → List E) (rest tail : L
 loop_step before after rest tail x old more new whole here e g h =
     ap (λ y. y ++ after tail) e ∙ append_assoc old more (after tail) ∙ ap (λ r. old ++ r) (sym g ∙ sym (ap before here)) ∙ h
 
--- ---- texts, one behind another
+-- ---- one behind another
 
-pub then : (o a rest : List ℕ) → {v w : List ℕ} → v ≡ o ++ a → w ≡ v ++ rest → w ≡ o ++ (a ++ rest)
+pub then : {X : Type 0} (o a rest : List X) → {v w : List X} → v ≡ o ++ a → w ≡ v ++ rest → w ≡ o ++ (a ++ rest)
 then o a rest e h = h ∙ ap (λ x. x ++ rest) e ∙ append_assoc o a rest
 
 -- ---- a line put in its place

@@ -135,6 +135,21 @@ fn picture_block(alloc: Global, situation: &Situation, block: &Block) -> Result<
     })
 }
 
+fn picture_nothing(alloc: Global, situation: &Situation) -> Result<Picture, AllocError>
+    requires { IsSound situation.now }
+    ensures elements { IfOk result (λ picture. picture.elements.items
+        ≡ elements_of situation.now plans.Nothing) }
+    ensures found { IfOk result (λ picture. found_in picture
+        ≡ found_of situation.now plans.Nothing) }
+{
+    let none = BlockLines::new(Vec::new(alloc));
+    let elements = pictured(alloc, situation, Element::NoPlan, &none, &[])?;
+    Ok(Picture {
+        elements,
+        found: None,
+    })
+}
+
 /// The picture of a plan in a situation: the sheet, the title, the horizon in words, a label for each row, and in the field
 /// of time the closures, the ticks and the horizon over all rows and what each row draws; and what is found of the plan. The
 /// rows are the landing lines in landing order, of two at one second the one whose callsign comes first, and behind them the
@@ -149,14 +164,7 @@ pub fn picture(alloc: Global, situation: &Situation, plan: &PlanText) -> Result<
     ensures found { IfOk result (λ picture. found_in picture ≡ found_of situation.now plan.now) }
 {
     match plan {
-        PlanText::Nothing => {
-            let none = BlockLines::new(Vec::new(alloc));
-            let elements = pictured(alloc, situation, Element::NoPlan, &none, &[])?;
-            Ok(Picture {
-                elements,
-                found: None,
-            })
-        }
+        PlanText::Nothing => picture_nothing(alloc, situation),
         PlanText::Block(block) => picture_block(alloc, situation, block),
     }
 }

@@ -12,11 +12,18 @@ use plan_file::{BlockLines, Landing};
 use situations::Active;
 use std::alloc::{AllocError, Global};
 
+// The flight's callsign.
+fn name_of(active: &Active) -> Callsign
+    ensures { result ≡ active.now.flight.callsign }
+{
+    active.flight.callsign
+}
+
 // Whether the flight has the callsign.
 fn is_named(active: &Active, callsign: Callsign) -> bool
     ensures { result ≡ named callsign active.now }
 {
-    active.flight.callsign == callsign
+    name_of(active) == callsign
 }
 
 // The active flight of this name.
@@ -73,13 +80,6 @@ fn has_line(lines: &[Landing], callsign: Callsign) -> bool
         rest = after;
     }
     false
-}
-
-// The flight's callsign.
-fn name_of(active: &Active) -> Callsign
-    ensures { result ≡ active.now.flight.callsign }
-{
-    active.flight.callsign
 }
 
 // The row of a flight without a line.

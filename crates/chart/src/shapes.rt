@@ -3,6 +3,8 @@ ghost use Rattle.std.specs.Prelude.{◌≡◌, ◌≤◌, ◌++◌, OnOk, length
 ghost use Rattle.wake_table.specs.Table.{separation};
 ghost use Rattle.plan_file.specs.Shown.{shown_of};
 ghost use Rattle.audit.specs.Findings.{finding_of};
+ghost use Rattle.chart.specs.declared.element.Element.TheVariants as element;
+ghost use Rattle.chart.specs.Places.{spot};
 ghost use Rattle.chart.specs.Elements.{delay_drawn, flight_drawn, landing_drawn, mark_drawn, owed_behind, owed_drawn, owed_to, row_drawn, rows_drawn, windows_drawn};
 
 use crate::places::spot;
@@ -15,6 +17,16 @@ use plan_file::{BlockLines, Landing};
 use situations::Active;
 use std::alloc::AllocError;
 use wake_table::PairTable;
+
+// A window.
+fn window(span: u64, n: u32, callsign: Callsign, seconds: (u32, u32)) -> Element
+    requires { 1 ≤ span }
+    ensures { result ≡ element.Window n callsign (spot span seconds.0) (spot span seconds.1) }
+{
+    let from = spot(span, u64::from(seconds.0));
+    let to = spot(span, u64::from(seconds.1));
+    Element::Window(n, callsign, from, to)
+}
 
 // The windows.
 fn add_windows(
@@ -29,10 +41,8 @@ fn add_windows(
         ++ windows_drawn span n callsign windows.now) }
 {
     let mut rest = windows;
-    while let [(first, last), after @ ..] = rest {
-        let from = spot(span, u64::from(*first));
-        let to = spot(span, u64::from(*last));
-        all.push(Element::Window(n, callsign, from, to))?;
+    while let [first, after @ ..] = rest {
+        all.push(window(span, n, callsign, *first))?;
         rest = after;
     }
     Ok(())

@@ -1,5 +1,5 @@
 // The words of a row, as text.
-ghost use Rattle.std.specs.Prelude.{◌≡◌, ◌++◌, OnOk, decimal};
+ghost use Rattle.std.specs.Prelude.{◌≡◌, ◌∷◌, ◌++◌, OnOk, decimal};
 ghost use Rattle.chart.specs.Texts.{category_cell, label_end, label_head, label_open, label_text, number_cell, shift_between, shift_by, shift_cell, shift_words};
 
 use crate::Label;
@@ -65,24 +65,27 @@ fn append_number(x: &[u8], number: Option<u32>, into: &mut Vec<u8>) -> Result<()
     append_all(&pieces, into)
 }
 
+// A sign and a number.
+fn append_signed(sign: u8, number: u32, into: &mut Vec<u8>) -> Result<(), AllocError>
+    ensures { OnOk result (into.new.items ≡ into.old.items ++ sign ∷ decimal number) }
+{
+    let mut digits = Buffer::new();
+    into.push(sign)?;
+    into.extend_from_slice(digits.format(number).as_bytes())
+}
+
 // How many places later than its rank a flight lands, with its sign.
 #[tactic(auto, unfolding(crate::specs::Texts::shift_words))]
 fn append_shift_words(rank: u32, place: u32, into: &mut Vec<u8>) -> Result<(), AllocError>
     ensures { OnOk result (into.new.items ≡ into.old.items ++ shift_words rank place) }
 {
-    let mut digits = Buffer::new();
     if rank < place {
-        into.push(b'+')?;
-        into.extend_from_slice(digits.format(place - rank).as_bytes())?;
-        return Ok(());
+        return append_signed(b'+', place - rank, into);
     }
     if place < rank {
-        into.push(b'-')?;
-        into.extend_from_slice(digits.format(rank - place).as_bytes())?;
-        return Ok(());
+        return append_signed(b'-', rank - place, into);
     }
-    into.push(b'0')?;
-    Ok(())
+    into.extend_from_slice(b"0")
 }
 
 fn append_shift_between(rank: u32, place: u32, into: &mut Vec<u8>) -> Result<(), AllocError>

@@ -35,8 +35,7 @@ fn append_numbered(text: &'static [u8], number: u64, into: &mut Vec<u8>) -> Resu
 {
     let mut digits = Buffer::new();
     into.extend_from_slice(text)?;
-    into.extend_from_slice(digits.format(number).as_bytes())?;
-    Ok(())
+    into.extend_from_slice(digits.format(number).as_bytes())
 }
 
 // A text and where so many rows end.
@@ -51,16 +50,18 @@ pub(crate) fn append_bottom(
     append_numbered(text, bottom_of(rows), into)
 }
 
+// The zero that stands before a number of one digit.
+fn zero_before(n: u64) -> &'static [u8]
+    ensures { result.now ++ decimal n ≡ two n }
+{
+    if n < 10 { b"0" } else { b"" }
+}
+
 // A number in two digits, or in more where it has more.
 fn append_two(n: u64, into: &mut Vec<u8>) -> Result<(), AllocError>
     ensures { OnOk result (into.new.items ≡ into.old.items ++ two n) }
 {
-    let mut digits = Buffer::new();
-    if n < 10 {
-        into.push(b'0')?;
-    }
-    into.extend_from_slice(digits.format(n).as_bytes())?;
-    Ok(())
+    append_numbered(zero_before(n), n, into)
 }
 
 // Hours, minutes and seconds.

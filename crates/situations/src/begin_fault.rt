@@ -4,7 +4,7 @@ use cps_base::Callsign;
 use std::alloc::AllocError;
 
 /// Why nothing begins. Entries count from 1.
-#[derive(Clone, Copy, Debug, PartialEq, Eq)]
+#[derive(Clone, Copy)]
 pub enum BeginFault {
     /// This entry of `frozen` names no flight of the file.
     UnknownFrozen(u16),

@@ -8,6 +8,7 @@ ghost use Rattle.landing_rules.specs.Audit.{are_apart};
 ghost use Rattle.situations.specs.Refused.{first_from, closed_at, clash_at, clash_from, is_not_before, lands_late, late_at, rule_fault};
 
 use crate::open_seconds::is_open;
+use crate::opening_refusal::is_named;
 use crate::{Active, OpeningFault};
 use arrivals::Aerodrome;
 use cps_base::Callsign;
@@ -92,7 +93,7 @@ fn first_clash(table: &PairTable, all: &[Given]) -> Option<OpeningFault>
 fn is_late(active: &Active, callsign: Callsign, second: u32) -> bool
     ensures { result ≡ (named callsign active.now && is_not_before second active.now.frozen) }
 {
-    active.flight.callsign == callsign
+    is_named(active, callsign)
         && match active.frozen {
             None => true,
             Some(at) => second <= at,

@@ -2,7 +2,7 @@ use cps_base::Callsign;
 use std::alloc::AllocError;
 
 /// Why an event is refused. Seconds run from 0 to 172,799.
-#[derive(Clone, Copy, Debug, PartialEq, Eq)]
+#[derive(Clone, Copy)]
 pub enum Refusal {
     /// An estimate or a cancellation of a flight that is not active: its callsign.
     UnknownFlight(Callsign),
