@@ -1,7 +1,7 @@
 -- The clock second and the frozen landings in the file.
 use Rattle.std.specs.Prelude.{ℕ, List, [], ◌∷◌, ◌++◌, Bool, not, ◌+◌, ◌==◌, nat_le, nat_lt, codes, bytes_eq, Option, Some, None, Result, Ok, Err, if◌then◌else◌}
 use Rattle.std.specs.List.{list_any}
-use Rattle.toml.specs.Data.{Data, array, table, Items, no_items, item, Members, get_member}
+use Rattle.toml.specs.Data.{Data, array, table, Items, no_items, item, Members}
 use Rattle.cps_base.specs.Answers.{◌>>=◌}
 use Rattle.landing_rules.specs.Limits.{most_flights}
 use Rattle.landing_rules.specs.Rules.{last_second}
@@ -10,8 +10,7 @@ use Rattle.aerodrome_file.specs.declared.fault.AeroFault.{AeroFault}
 use Rattle.aerodrome_file.specs.declared.fault.AeroFault.TheVariants as fault
 use Rattle.aerodrome_file.specs.declared.fault.Key.TheVariants as key
 use Rattle.aerodrome_file.specs.declared.fault.Part.TheVariants as part
-use Rattle.aerodrome_file.specs.Keys.{only}
-use Rattle.aerodrome_file.specs.Values.{present, integer_of, string_of, callsign_at, at_most}
+use Rattle.aerodrome_file.specs.Values.{integer_of, at_most, named_number}
 use Rattle.aerodrome_file.specs.Closures.{are_tables, items_length}
 
 -- the clock second, none where the key is absent
@@ -33,16 +32,11 @@ is_late clock freeze second = nat_le (clock + freeze) second
 -- frozen landing i, behind those before it
 unfoldable pub frozen_entry : ℕ → ℕ → ℕ → List FrozenLanding → Members → Result FrozenLanding AeroFault
 frozen_entry i clock freeze before ms = do
-  _ ← only 1 (part.Frozen i) ms
-  callsign ← present (key.FrozenCallsign i) (get_member (codes "callsign") ms)
-  second ← present (key.FrozenSecond i) (get_member (codes "second") ms)
-  text ← string_of (key.FrozenCallsign i) callsign
-  number ← integer_of (key.FrozenSecond i) second
-  name ← callsign_at (key.FrozenCallsign i) text
-  at ← at_most (key.FrozenSecond i) last_second number
-  if has_frozen before name then Err (fault.FrozenRepeat i)
+  named ← named_number (part.Frozen i) (key.FrozenCallsign i) (key.FrozenSecond i) (codes "second") ms
+  at ← at_most (key.FrozenSecond i) last_second named.1
+  if has_frozen before named.0 then Err (fault.FrozenRepeat i)
       else if is_late clock freeze at then Err (fault.FrozenLate i)
-      else Ok (record { callsign = name; second = at })
+      else Ok (record { callsign = named.0; second = at })
 
 -- the frozen landing that a value is
 unfoldable pub frozen_of : ℕ → ℕ → ℕ → List FrozenLanding → Data → Result FrozenLanding AeroFault

@@ -1,7 +1,7 @@
 -- The counts of passed flights in the file.
 use Rattle.std.specs.Prelude.{ℕ, List, [], ◌∷◌, ◌++◌, Bool, not, ◌+◌, nat_lt, codes, bytes_eq, Option, Some, None, Result, Ok, Err, if◌then◌else◌}
 use Rattle.std.specs.List.{list_any}
-use Rattle.toml.specs.Data.{Data, array, table, Items, no_items, item, Members, get_member}
+use Rattle.toml.specs.Data.{Data, array, table, Items, no_items, item, Members}
 use Rattle.cps_base.specs.Answers.{◌>>=◌}
 use Rattle.landing_rules.specs.Limits.{most_waiting}
 use Rattle.arrivals.specs.declared.passed_list.PassedCount.{PassedCount}
@@ -9,8 +9,7 @@ use Rattle.aerodrome_file.specs.declared.fault.AeroFault.{AeroFault}
 use Rattle.aerodrome_file.specs.declared.fault.AeroFault.TheVariants as fault
 use Rattle.aerodrome_file.specs.declared.fault.Key.TheVariants as key
 use Rattle.aerodrome_file.specs.declared.fault.Part.TheVariants as part
-use Rattle.aerodrome_file.specs.Keys.{only}
-use Rattle.aerodrome_file.specs.Values.{present, integer_of, string_of, callsign_at, within}
+use Rattle.aerodrome_file.specs.Values.{within, named_number}
 use Rattle.aerodrome_file.specs.Closures.{are_tables, items_length}
 
 -- an entry before has this callsign
@@ -20,15 +19,10 @@ has_passed before name = list_any (λ p. bytes_eq p.callsign name) before
 -- entry i, behind those before it
 unfoldable pub passed_entry : ℕ → ℕ → List PassedCount → Members → Result PassedCount AeroFault
 passed_entry i k before ms = do
-  _ ← only 1 (part.Passed i) ms
-  callsign ← present (key.PassedCallsign i) (get_member (codes "callsign") ms)
-  count ← present (key.PassedCount i) (get_member (codes "count") ms)
-  text ← string_of (key.PassedCallsign i) callsign
-  number ← integer_of (key.PassedCount i) count
-  name ← callsign_at (key.PassedCallsign i) text
-  passed ← within (key.PassedCount i) 1 k number
-  if has_passed before name then Err (fault.PassedRepeat i)
-      else Ok (record { callsign = name; count = passed })
+  named ← named_number (part.Passed i) (key.PassedCallsign i) (key.PassedCount i) (codes "count") ms
+  passed ← within (key.PassedCount i) 1 k named.1
+  if has_passed before named.0 then Err (fault.PassedRepeat i)
+      else Ok (record { callsign = named.0; count = passed })
 
 -- the entry that a value is
 unfoldable pub passed_of : ℕ → ℕ → List PassedCount → Data → Result PassedCount AeroFault

@@ -1,10 +1,13 @@
 -- The values at the keys of the file.
-use Rattle.std.specs.Prelude.{ℕ, List, ℤ, pos, negsuc, ◌&&◌, nat_le, Option, Some, None, Result, Ok, Err, if◌then◌else◌}
-use Rattle.toml.specs.Data.{Data, string, integer}
+use Rattle.std.specs.Prelude.{ℕ, List, ℤ, pos, negsuc, ◌&&◌, nat_le, codes, Option, Some, None, Result, Ok, Err, if◌then◌else◌}
+use Rattle.toml.specs.Data.{Data, string, integer, Members, get_member}
+use Rattle.cps_base.specs.Answers.{◌>>=◌}
 use Rattle.cps_base.specs.Text.{is_callsign}
 use Rattle.aerodrome_file.specs.declared.fault.AeroFault.{AeroFault}
 use Rattle.aerodrome_file.specs.declared.fault.AeroFault.TheVariants as fault
 use Rattle.aerodrome_file.specs.declared.fault.Key.{Key}
+use Rattle.aerodrome_file.specs.declared.fault.Part.{Part}
+use Rattle.aerodrome_file.specs.Keys.{only}
 
 -- the value, where there is one
 abbrev pub present : Key → Option Data → Result Data AeroFault
@@ -41,3 +44,14 @@ number_in k least most None = Err (fault.MissingKey k)
 number_in k least most (Some (integer (pos n))) = if nat_le least n && nat_le n most then Ok n else Err (fault.OutOfRange k)
 number_in k least most (Some (integer (negsuc n))) = Err (fault.OutOfRange k)
 number_in k least most (Some d) = Err (fault.WrongKind k)
+
+-- the callsign and the integer of an entry, each at its key
+unfoldable pub named_number : Part → Key → Key → List ℕ → Members → Result (List ℕ × ℤ) AeroFault
+named_number p name_key number_key word ms = do
+  _ ← only 1 p ms
+  callsign ← present name_key (get_member (codes "callsign") ms)
+  number ← present number_key (get_member word ms)
+  text ← string_of name_key callsign
+  number ← integer_of number_key number
+  callsign ← callsign_at name_key text
+  Ok (callsign, number)

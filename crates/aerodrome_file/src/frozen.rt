@@ -9,8 +9,7 @@ ghost use Rattle.aerodrome_file.specs.Frozen.{clock_in, has_frozen, is_late, fro
 
 use crate::closures::are_tables;
 use crate::fault::{AeroFault, Key, Part};
-use crate::keys::only;
-use crate::values::{at_most, callsign_at, get, integer_of, present, string_of};
+use crate::values::{at_most, integer_of, named_number};
 use arrivals::{FrozenLanding, FrozenList};
 use cps_base::Callsign;
 use landing_rules::MOST_FLIGHTS;
@@ -59,12 +58,13 @@ fn frozen_entry(
     ensures range { IfOk result (IsFrozen clock freeze) }
     ensures new { IfOk result (λ f. has_frozen before.now f.callsign ≡ false) }
 {
-    only(1, Part::Frozen(number), table)?;
-    let callsign = present(Key::FrozenCallsign(number), get(table, "callsign"))?;
-    let second = present(Key::FrozenSecond(number), get(table, "second"))?;
-    let text = string_of(Key::FrozenCallsign(number), callsign)?;
-    let second = integer_of(Key::FrozenSecond(number), second)?;
-    let callsign = callsign_at(Key::FrozenCallsign(number), text.as_bytes())?;
+    let (callsign, second) = named_number(
+        Part::Frozen(number),
+        Key::FrozenCallsign(number),
+        Key::FrozenSecond(number),
+        "second",
+        table,
+    )?;
     let second = at_most(Key::FrozenSecond(number), LAST_SECOND, second)?;
     if has_frozen(before, callsign) {
         return Err(AeroFault::FrozenRepeat(number));

@@ -9,8 +9,7 @@ ghost use Rattle.aerodrome_file.specs.Passed.{has_passed, passed_entry, passed_o
 
 use crate::closures::are_tables;
 use crate::fault::{AeroFault, Key, Part};
-use crate::keys::only;
-use crate::values::{callsign_at, get, integer_of, present, string_of, within};
+use crate::values::{named_number, within};
 use arrivals::{PassedCount, PassedList};
 use cps_base::Callsign;
 use landing_rules::MOST_WAITING;
@@ -36,12 +35,13 @@ fn passed_entry(
     ensures range { IfOk result (λ p. (1 ≤ p.count) × (p.count ≤ k)) }
     ensures new { IfOk result (λ p. has_passed before.now p.callsign ≡ false) }
 {
-    only(1, Part::Passed(number), table)?;
-    let callsign = present(Key::PassedCallsign(number), get(table, "callsign"))?;
-    let count = present(Key::PassedCount(number), get(table, "count"))?;
-    let text = string_of(Key::PassedCallsign(number), callsign)?;
-    let count = integer_of(Key::PassedCount(number), count)?;
-    let callsign = callsign_at(Key::PassedCallsign(number), text.as_bytes())?;
+    let (callsign, count) = named_number(
+        Part::Passed(number),
+        Key::PassedCallsign(number),
+        Key::PassedCount(number),
+        "count",
+        table,
+    )?;
     let count = within(Key::PassedCount(number), 1, u32::from(k), count)?;
     if has_passed(before, callsign) {
         return Err(AeroFault::PassedRepeat(number));

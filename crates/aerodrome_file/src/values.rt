@@ -3,9 +3,10 @@ ghost use Rattle.std.specs.Prelude.{◌≡◌, ◌≤◌, IfOk, option_map};
 ghost use Rattle.toml.specs.Data.{get_member};
 ghost use Rattle.toml.specs.View.{view, table_view};
 ghost use Rattle.aerodrome_file.specs.Answers.{Shows, ShowsText};
-ghost use Rattle.aerodrome_file.specs.Values.{present, integer_of, string_of, callsign_at, at_most, within, number_in};
+ghost use Rattle.aerodrome_file.specs.Values.{present, integer_of, string_of, callsign_at, at_most, within, number_in, named_number};
 
-use crate::fault::{AeroFault, Key};
+use crate::fault::{AeroFault, Key, Part};
+use crate::keys::only;
 use cps_base::Callsign;
 use toml::{Table, Value};
 
@@ -101,4 +102,24 @@ pub(crate) fn number_in(
     } else {
         Err(AeroFault::OutOfRange(key))
     }
+}
+
+// The callsign and the integer of an entry, each at its key.
+#[tactic(auto, unfolding(crate::specs::Values::named_number))]
+pub(crate) fn named_number(
+    part: Part,
+    name_key: Key,
+    number_key: Key,
+    word: &str,
+    table: &Table,
+) -> Result<(Callsign, i64), AeroFault>
+    ensures { result ≡ named_number part name_key number_key word.now (table_view table.now) }
+{
+    only(1, part, table)?;
+    let callsign = present(name_key, get(table, "callsign"))?;
+    let number = present(number_key, get(table, word))?;
+    let text = string_of(name_key, callsign)?;
+    let number = integer_of(number_key, number)?;
+    let callsign = callsign_at(name_key, text.as_bytes())?;
+    Ok((callsign, number))
 }

@@ -6,3 +6,4 @@ pub mod FoundLines
 pub mod Ordering
 pub mod SeenNames
 pub mod Shifting
+pub mod AtEnd

@@ -1,7 +1,7 @@
 use cps_base::Callsign;
 
 /// What is wrong with a plan block. Seconds run from 0 to 172,799.
-#[derive(Clone, Copy, Debug, PartialEq, Eq)]
+#[derive(Clone, Copy)]
 pub enum Finding {
     /// An active flight without a line.
     Missing(Callsign),

@@ -99,6 +99,23 @@ fn twice(alloc: Global, lines: &[Landing], seen: &mut Seen) -> Result<Vec<Findin
     Ok(all)
 }
 
+// Each active flight without a line, and each line whose callsign an earlier line has.
+fn missing_and_twice(
+    alloc: Global,
+    active: &[Active],
+    lines: &[Landing],
+) -> Result<(Vec<Finding>, Vec<Finding>), AllocError>
+    ensures missing { IfOk result (λ both. map finding_of both.0.items
+        ≡ missing active.now (map shown_of lines.now)) }
+    ensures twice { IfOk result (λ both. map finding_of both.1.items
+        ≡ twice (map shown_of lines.now)) }
+{
+    let mut seen = Seen::new(alloc);
+    let twice = twice(alloc, lines, &mut seen)?;
+    let missing = missing(alloc, active, lines, &seen)?;
+    Ok((missing, twice))
+}
+
 // What is wrong with the names: each active flight without a line, each line that names none, each that names one again.
 pub(crate) fn by_name(
     alloc: Global,
@@ -111,9 +128,7 @@ pub(crate) fn by_name(
     ensures { IfOk result (λ all. map finding_of all.items
         ≡ by_name active.now (map shown_of lines.now)) }
 {
-    let mut seen = Seen::new(alloc);
-    let twice = twice(alloc, lines, &mut seen)?;
     let unknown = unknown_unless(alloc, active, lines, found)?;
-    let missing = missing(alloc, active, lines, &seen)?;
+    let (missing, twice) = missing_and_twice(alloc, active, lines)?;
     joined(missing, joined(unknown, twice)?)
 }

@@ -1,10 +1,11 @@
-use Rattle.std.proofs.Common.{◌+◌, ◌++◌, map, drop, ap, ◌∙◌}
+use Rattle.std.proofs.Common.{◌+◌, ◌++◌, map, drop, ap, ◌∙◌, refl}
 use Rattle.std.specs.Prelude.{flat_map}
 use Rattle.std.proofs.lemmas.List.{map-append}
 use Rattle.landing_rules.specs.Flights.{Landing}
 use Rattle.landing_rules.specs.Audit.{landing_of, late, listed_late}
 use Rattle.audit.specs.Findings.{finding_of}
 use Rattle.audit.proofs.EachPair.{flat_seen}
+use Rattle.audit.proofs.AtEnd.{at_end}
 use Rattle.audit.proofs.rules.late.Goals as goal
 
 pub loop-i-preserved : goal.loop-i-preserved
@@ -16,3 +17,9 @@ loop-i-preserved c =
     ap (λ l. l ++ flat_map each (map landing_of (drop (c.loop-i.i + 1) found))) pushed
     ∙ flat_seen each landing_of found c.loop-i.i c.index-found-i.result (map finding_of c.loop-i.all.items) (map finding_of c.in_ok-more.more.items) (late all)
     c.loop-i-test.true c.index-found-i.is c.in_ok-more.ensures c.loop-i.invariant
+
+pub returns : goal.returns
+returns c =
+    let all = map landing_of c.args.found.now in
+    let each = λ (d : Landing). flat_map (listed_late all d) d.flight.after in
+    at_end (map finding_of c.loop-i.all.items) (λ ds. flat_map each (map landing_of ds)) c.args.found.now c.loop-i.i _ c.loop-i-test.false refl c.loop-i.invariant

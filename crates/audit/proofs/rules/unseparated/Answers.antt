@@ -1,9 +1,10 @@
-use Rattle.std.proofs.Common.{◌+◌, ◌++◌, map, drop, ap, ◌∙◌}
+use Rattle.std.proofs.Common.{◌+◌, ◌++◌, map, drop, ap, ◌∙◌, refl}
 use Rattle.std.proofs.lemmas.List.{map-append}
 use Rattle.landing_rules.specs.Flights.{Landing}
 use Rattle.landing_rules.specs.Audit.{landing_of, are_apart, unseparated, Separation}
 use Rattle.audit.specs.Findings.{finding_of}
 use Rattle.audit.proofs.EachPair.{pairs_more}
+use Rattle.audit.proofs.AtEnd.{at_end}
 use Rattle.audit.proofs.rules.unseparated.Goals as goal
 
 pub loop-i-preserved : goal.loop-i-preserved
@@ -15,3 +16,7 @@ loop-i-preserved c =
     ∙ pairs_more (are_apart table) (λ (f g : Landing). Separation f.flight.callsign g.flight.callsign) landing_of found c.loop-i.i c.index-found-i.result
     (map finding_of c.loop-i.all.items) (map finding_of c.in_ok-more.more.items) (unseparated table (map landing_of found))
     c.loop-i-test.true c.index-found-i.is c.in_ok-more.ensures c.loop-i.invariant
+
+pub returns : goal.returns
+returns c =
+    at_end (map finding_of c.loop-i.all.items) (λ ls. unseparated c.args.table.now (map landing_of ls)) c.args.found.now c.loop-i.i _ c.loop-i-test.false refl c.loop-i.invariant
