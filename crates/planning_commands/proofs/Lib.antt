@@ -3,3 +3,4 @@ pub mod Replayed
 pub mod ReplayLaws
 pub mod Showing
 pub mod Summed
+pub mod Answering
