@@ -1,4 +1,4 @@
-// A worked example, as a table of this project's own form tells it.
+// The tables of worked examples: what a run is given, and what comes of it. A table is a TOML file of this project's own form.
 use serde::Deserialize;
 use std::collections::BTreeMap;
 

@@ -1,5 +1,5 @@
-//! The worked examples, each through the whole program over files in memory: what is printed, the line on the standard error, and
-//! the status. The tables stand in data/, and what this prints in stdout.
+//! The worked examples, each through the whole program over files in memory: what is printed, the line on the standard error,
+//! and the status. The tables stand in data/, and what this prints in stdout.
 #![tactic(auto)]
 
 mod cases;
