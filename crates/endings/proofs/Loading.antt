@@ -1,7 +1,7 @@
 -- One load more.
-use Rattle.std.proofs.Common.{◌≡◌, ◌⊎◌, inl, inr, ℕ, ◌+◌, ◌-◌, ◌<◌, ◌≤◌, List, [], ◌∷◌, ◌++◌, length, take, drop, map, Some, String, Global, string_bytes, IsTrue, ap, sym, ◌∙◌, arith, append_assoc, take-append-drop, length-append}
+use Rattle.std.proofs.Common.{◌≡◌, ◌⊎◌, inl, inr, ℕ, ◌+◌, ◌-◌, ◌<◌, ◌≤◌, List, [], ◌∷◌, ◌++◌, length, take, drop, map, Some, String, Global, string_bytes, IsTrue, ap, sym, subst, ◌∙◌, arith, append_assoc, take-append-drop, length-append}
 use Rattle.std.specs.List.{AllByRecursion}
-use Rattle.std.proofs.lemmas.List.{map-append, take_more, get_or-map, length-map}
+use Rattle.std.proofs.lemmas.List.{map-append, take_all, take_more, get_or-map, length-map}
 use Rattle.std.specs.Prelude.{slice_index_or}
 use Rattle.cps_outside.specs.Causes.{Rose}
 use Rattle.cps_outside.specs.FolderState.{FolderState, IsAfterLoad, IsAbsent, Gives, Exceeds}
@@ -18,6 +18,16 @@ next_name names i s t lt is same =
     let inside : i < length (map string_bytes names) = grind (arith, length-map) in
     let at : slice_index_or (map string_bytes names) i t ≡ t = get_or-map string_bytes names i s t lt ∙ ap string_bytes (sym is) ∙ sym same in
     take_more (map string_bytes names) i t inside ∙ ap (λ n. take i (map string_bytes names) ++ n ∷ []) at
+
+pub is_name : (names : List (String Global)) (i : ℕ) → i < length names → i < length (map string_bytes names)
+is_name names i lt = grind (arith, length-map)
+
+-- no name is left
+pub all_loaded : (old new : FolderState) (names : List (String Global)) (cs : List (List ℕ)) (i : ℕ) → length names ≤ i →
+    Loads old new (take i (map string_bytes names)) cs → Loads old new (map string_bytes names) cs
+all_loaded old new names cs i end l =
+    let last : length (map string_bytes names) ≤ i = grind (arith, length-map) in
+    subst (λ ns. Loads old new ns cs) (take_all i (map string_bytes names) last) l
 
 pub asked_unless : {A B C : Type 0} → A ⊎ (B × C) → (B → ⊥) → A
 asked_unless (inl a) never = a
