@@ -16,7 +16,7 @@ use landing_rules::MOST_WAITING;
 use std::alloc::{AllocError, Global};
 
 /// Why an aerodrome file and its flights open no situation. Entries count from 1.
-#[derive(Clone, Copy, Debug, PartialEq, Eq)]
+#[derive(Clone, Copy)]
 pub enum OpeningFault {
     /// This entry of `frozen` names no flight of the file.
     UnknownFrozen(u16),
