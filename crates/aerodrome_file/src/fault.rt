@@ -1,7 +1,6 @@
 use crate::key_text::KeyText;
 use landing_windows::ClosureFault;
-use std::error::Error;
-use std::fmt;
+use thiserror::Error;
 use wake_table::{Category, TableFault};
 
 /// A key of the file. Closures, frozen landings and entries of `passed` are numbered from 1.
@@ -57,67 +56,51 @@ pub enum Part {
 }
 
 /// Why a text is not an aerodrome file: its first fault.
-#[derive(Clone, Copy, Debug, PartialEq, Eq)]
+#[derive(Clone, Copy, Debug, PartialEq, Eq, Error)]
 pub enum AeroFault {
     /// It is no TOML document.
+    #[error("not TOML")]
     NotToml,
     /// A key that is needed is absent.
+    #[error("a key is missing")]
     MissingKey(Key),
     /// The first key of a part, in byte order, that the part does not have.
+    #[error("an unknown key")]
     UnknownKey(Part, KeyText),
     /// The value at a key is of another kind.
+    #[error("a value of another kind")]
     WrongKind(Key),
     /// The value at a key is outside its range.
+    #[error("a value out of its range")]
     OutOfRange(Key),
     /// The rows are no table of separations.
+    #[error("not a table of separations")]
     Table(TableFault),
     /// A closure is empty, or there are more than 32, which is told of number 33.
+    #[error("not a closure")]
     Closure(u8, ClosureFault),
     /// There are more than 500 frozen landings.
+    #[error("too many frozen landings")]
     FrozenTooMany,
     /// There is a frozen landing, and no clock second.
+    #[error("a frozen landing without a clock")]
     FrozenNoClock,
     /// An earlier frozen landing has the callsign of this one.
+    #[error("a flight that is frozen twice")]
     FrozenRepeat(u16),
     /// The second of this frozen landing is not before the clock second plus `freeze`.
+    #[error("a frozen landing after the horizon")]
     FrozenLate(u16),
     /// There are more than 60 entries of `passed`.
+    #[error("too many counts")]
     PassedTooMany,
     /// An earlier entry of `passed` has the callsign of this one.
+    #[error("a flight with two counts")]
     PassedRepeat(u8),
     /// The objective is delay, and `k` is above 1 in version 1, or above 2 in a later one.
+    #[error("more shifts than delay takes")]
     DelayShift(u8),
     /// Memory ran out.
+    #[error("out of memory")]
     Memory,
 }
-
-impl AeroFault {
-    // What it is, in a few words.
-    fn message(self) -> &'static str {
-        match self {
-            AeroFault::NotToml => "not TOML",
-            AeroFault::MissingKey(_) => "a key is missing",
-            AeroFault::UnknownKey(_, _) => "an unknown key",
-            AeroFault::WrongKind(_) => "a value of another kind",
-            AeroFault::OutOfRange(_) => "a value out of its range",
-            AeroFault::Table(_) => "not a table of separations",
-            AeroFault::Closure(_, _) => "not a closure",
-            AeroFault::FrozenTooMany => "too many frozen landings",
-            AeroFault::FrozenNoClock => "a frozen landing without a clock",
-            AeroFault::FrozenRepeat(_) => "a flight that is frozen twice",
-            AeroFault::FrozenLate(_) => "a frozen landing after the horizon",
-            AeroFault::PassedTooMany => "too many counts",
-            AeroFault::PassedRepeat(_) => "a flight with two counts",
-            AeroFault::DelayShift(_) => "more shifts than delay takes",
-            AeroFault::Memory => "out of memory",
-        }
-    }
-}
-
-impl fmt::Display for AeroFault {
-    fn fmt<W: fmt::Write>(&self, f: &mut fmt::Formatter<W>) -> fmt::Result {
-        f.write_str(self.message())
-    }
-}
-
-impl Error for AeroFault {}

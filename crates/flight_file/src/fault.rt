@@ -1,8 +1,7 @@
 use cps_base::NumberFault;
 use landing_windows::WindowFault;
 use std::alloc::{AllocError, AllocFailed};
-use std::error::Error;
-use std::fmt;
+use thiserror::Error;
 
 /// Why a text is not the windows of a flight. Parts are numbered from 1.
 #[derive(Clone, Copy, Debug, PartialEq, Eq)]
@@ -29,58 +28,42 @@ pub enum AfterCause {
 }
 
 /// Why a record is not a flight. The first cause in this order is the one that is told.
-#[derive(Clone, Copy, Debug, PartialEq, Eq)]
+#[derive(Clone, Copy, Debug, PartialEq, Eq, Error)]
 pub enum FlightCause {
     /// The first record is not the header, or there is no record.
+    #[error("not the header of a flight file")]
     Header,
     /// The record has not six fields.
+    #[error("not six fields")]
     FieldCount,
     /// The first field is no callsign.
+    #[error("not a callsign")]
     Callsign,
     /// The second field is no wake category.
+    #[error("not a category")]
     Category,
     /// The third field is no second.
+    #[error("not an estimated second")]
     Eta(NumberFault),
     /// The fourth field is no weight from 1 to 100.
+    #[error("not a weight")]
     Weight(NumberFault),
     /// The fifth field is no set of windows.
+    #[error("not windows")]
     Windows(WindowsCause),
     /// The sixth field is no list of predecessors.
+    #[error("not predecessors")]
     After(AfterCause),
     /// An earlier record has the callsign.
+    #[error("a callsign that stands twice")]
     Duplicate,
     /// 500 flights came before.
+    #[error("too many flights")]
     TooMany,
     /// Memory ran out.
+    #[error("out of memory")]
     Memory,
 }
-
-impl FlightCause {
-    // What it is, in a few words.
-    fn message(self) -> &'static str {
-        match self {
-            FlightCause::Header => "not the header of a flight file",
-            FlightCause::FieldCount => "not six fields",
-            FlightCause::Callsign => "not a callsign",
-            FlightCause::Category => "not a category",
-            FlightCause::Eta(_) => "not an estimated second",
-            FlightCause::Weight(_) => "not a weight",
-            FlightCause::Windows(_) => "not windows",
-            FlightCause::After(_) => "not predecessors",
-            FlightCause::Duplicate => "a callsign that stands twice",
-            FlightCause::TooMany => "too many flights",
-            FlightCause::Memory => "out of memory",
-        }
-    }
-}
-
-impl fmt::Display for FlightCause {
-    fn fmt<W: fmt::Write>(&self, f: &mut fmt::Formatter<W>) -> fmt::Result {
-        f.write_str(self.message())
-    }
-}
-
-impl Error for FlightCause {}
 
 /// Why a file is not a flight file: its first record that has a cause, and the first cause of that.
 #[derive(Clone, Copy, Debug, PartialEq, Eq)]
