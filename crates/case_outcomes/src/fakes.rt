@@ -1,11 +1,15 @@
 ghost use Rattle.std.specs.Prelude.{◌≡◌, IfOk};
-ghost use Rattle.cps_outside.specs.MemoryFolder.{failing_loads_of, folder_state, fresh_folder};
-ghost use Rattle.cps_outside.specs.MemorySink.{failing_puts_of, fresh_sink, sink_state};
+ghost use Rattle.cps_outside.specs.MemoryFolder.{
+    failing_loads_of, folder_state, fresh_folder, loads_of,
+};
+ghost use Rattle.cps_outside.specs.MemorySink.{
+    failing_puts_of, fresh_sink, puts_of, sink_state,
+};
 
 use cps_outside::{MemoryFolder, MemorySink};
 use std::alloc::{AllocError, Global};
 
-/// A folder of these files, of which exactly these loads fail.
+/// A folder of these files before any load, of which exactly the loads of these numbers, from 1, fail.
 pub fn failing_folder(
     alloc: Global,
     files: Vec<(String, Vec<u8>)>,
@@ -14,11 +18,13 @@ pub fn failing_folder(
     ensures state { IfOk result (λ folder. folder_state folder
         ≡ fresh_folder files.items failing.now) }
     ensures failing { IfOk result (λ folder. failing_loads_of folder ≡ failing.now) }
+    ensures loads { IfOk result (λ folder. loads_of folder ≡ 0) }
 {
     Ok(MemoryFolder::new(alloc, files, failing.to_vec(alloc)?))
 }
 
-/// A sink with room for `room` bytes, of which exactly these puts fail, each with the bytes that it takes.
+/// A sink with room for `room` bytes before any put, of which exactly the puts of these numbers, from 1, fail, each with
+/// the bytes that it takes.
 pub fn failing_sink(
     alloc: Global,
     room: usize,
@@ -26,6 +32,7 @@ pub fn failing_sink(
 ) -> Result<MemorySink, AllocError>
     ensures state { IfOk result (λ sink. sink_state sink ≡ fresh_sink room failing.now) }
     ensures failing { IfOk result (λ sink. failing_puts_of sink ≡ failing.now) }
+    ensures puts { IfOk result (λ sink. puts_of sink ≡ 0) }
 {
     MemorySink::new(alloc, room, failing.to_vec(alloc)?)
 }

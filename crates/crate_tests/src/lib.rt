@@ -1,7 +1,6 @@
 //! Tests of the crates through their public calls, in a crate of their own, so that each crate is proved once.
 #![tactic(auto)]
 
-#[cfg(test)]
-mod bank;
+pub mod bank;
 #[cfg(test)]
 mod tests;
