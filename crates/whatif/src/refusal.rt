@@ -1,5 +1,5 @@
 // Why a trial is not planned.
-ghost use Rattle.std.specs.Prelude.{◌≡◌, ◌≤◌, Some, length, nat_lt};
+ghost use Rattle.std.specs.Prelude.{◌≡◌, ◌≤◌, Some, length};
 ghost use Rattle.landing_rules.specs.Events as rules;
 ghost use Rattle.landing_rules.specs.Limits.{most_waiting};
 ghost use Rattle.arrivals.specs.Aerodromes.{is_beyond};
@@ -18,23 +18,16 @@ fn is_beyond(aerodrome: &Aerodrome, k: u8) -> bool
     aerodrome.objective == Objective::Delay && k > most
 }
 
-fn is_above(count: u8, k: u8) -> bool
-    ensures { result ≡ nat_lt k count }
-{
-    count > k
-}
-
 // The first passed-over count above the limit of shift, counted from 1.
 fn first_above(passed: &PassedList, k: u8) -> Option<u8>
     requires { length passed.now ≤ most_waiting }
     ensures { result ≡ first_above k 1 passed.now }
 {
-    for i in 0..passed.len() {
-        if is_above(passed.at(i).count, k) {
-            return Some(i as u8 + 1);
-        }
-    }
-    None
+    passed
+        .entries()
+        .iter()
+        .position(|entry| entry.count > k)
+        .map(|i| i as u8 + 1)
 }
 
 // Why the limit of shift is refused.
