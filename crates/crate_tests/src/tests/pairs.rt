@@ -1,15 +1,20 @@
 use super::is_shared;
 use precedence::Pairs;
 
-#[test]
-fn a_pair_holds_one_way(rt: HostRuntime) {
+// Two flights before the last one.
+fn two_pairs() -> Pairs {
     let mut pairs = Pairs::new();
-    assert!(rt; pairs == Pairs::new());
-    is_shared(&pairs);
     pairs.add(1, 60);
     pairs.add(59, 60);
+    pairs
+}
+
+#[test]
+fn a_pair_holds_one_way(rt: HostRuntime) {
+    let pairs = two_pairs();
+    is_shared(&pairs);
     let kept = pairs;
-    assert!(rt; kept == pairs && kept != Pairs::new());
+    assert!(rt; Pairs::new() == Pairs::new() && kept == pairs && kept != Pairs::new());
     for (first, next, want) in [
         (1, 60, true),
         (60, 1, false),
@@ -22,6 +27,11 @@ fn a_pair_holds_one_way(rt: HostRuntime) {
             "{first} before {next}"
         );
     }
+}
+
+#[test]
+fn all_before_are_asked_at_once(rt: HostRuntime) {
+    let pairs = two_pairs();
     for (next, placed, want) in [
         (60, 1 << 1, false),
         (60, 1 << 1 | 1 << 59, true),

@@ -46,22 +46,39 @@ fn steps<R: Threads + Sync>(
     Ok(steps.ledger().value())
 }
 
+// How many steps it takes to plan these three or four flights.
+fn steps_of<R: Threads + Sync>(
+    rt: &R,
+    alloc: Global,
+    planner: &mut AnyKept,
+    flights: (Category, bool),
+    objective: Objective,
+) -> Result<u64, Fail>
+    requires { k_of planner.old ≡ 1 }
+    ensures { k_of planner.new ≡ k_of planner.old }
+{
+    let problem = three_or_four(alloc, flights.0, flights.1)?.problem(objective, 0, 1)?;
+    steps(rt, alloc, planner, &problem)
+}
+
+// The third flight's category, whether there is a fourth, the objective, and the steps.
+const PLANNINGS: [(Category, bool, Objective, u64); 7] = [
+    (Category::F, false, Objective::Makespan, 8),
+    (Category::F, true, Objective::Makespan, 10),
+    (Category::E, true, Objective::Makespan, 13),
+    (Category::E, false, Objective::Makespan, 3),
+    (Category::E, false, Objective::Delay, 8),
+    (Category::E, false, Objective::Delay, 3),
+    (Category::E, true, Objective::Makespan, 15),
+];
+
 #[test]
 fn stages_in_common_are_not_counted(rt: HostRuntime) -> Result<(), Fail> {
-    let alloc = rt.alloc();
     let mut planner = AnyKept::fresh(1);
     is_shared(&planner);
-    for (third, with_last, objective, expected) in [
-        (Category::F, false, Objective::Makespan, 8),
-        (Category::F, true, Objective::Makespan, 10),
-        (Category::E, true, Objective::Makespan, 13),
-        (Category::E, false, Objective::Makespan, 3),
-        (Category::E, false, Objective::Delay, 8),
-        (Category::E, false, Objective::Delay, 3),
-        (Category::E, true, Objective::Makespan, 15),
-    ] {
-        let problem = three_or_four(alloc, third, with_last)?.problem(objective, 0, 1)?;
-        let value = steps(&rt, alloc, &mut planner, &problem)?;
+    for (third, with_last, objective, expected) in PLANNINGS {
+        let flights = (third, with_last);
+        let value = steps_of(&rt, rt.alloc(), &mut planner, flights, objective)?;
         assert_eq!(rt; value, expected);
     }
     Ok(())
@@ -80,17 +97,19 @@ fn sixty(alloc: Global, k: u8) -> Result<Problem, Fail>
     Ok(bank.problem(Objective::Makespan, 0, 1)?)
 }
 
+// How many steps it takes to plan the sixty flights.
+fn steps_of_sixty<R: Threads + Sync>(rt: &R, alloc: Global, k: u8) -> Result<u64, Fail>
+    requires { k ≤ 3 }
+{
+    let problem = sixty(alloc, k)?;
+    steps(rt, alloc, &mut AnyKept::fresh(k), &problem)
+}
+
 #[test]
 fn a_planning_ticks_once_a_candidate(rt: HostRuntime) -> Result<(), Fail> {
-    let alloc = rt.alloc();
     for (k, candidates) in [(0u8, 60u64), (1, 463), (2, 18234), (3, 1719951)] {
-        let problem = sixty(alloc, k)?;
-        let mut planner = AnyKept::fresh(k);
-        assert_eq!(rt;
-            steps(&rt, alloc, &mut planner, &problem)?,
-            candidates,
-            "{k}"
-        );
+        let steps = steps_of_sixty(&rt, rt.alloc(), k)?;
+        assert_eq!(rt; steps, candidates, "{k}");
     }
     Ok(())
 }

@@ -1,32 +1,41 @@
 // The stages of the network: both ways of making one, and what is left of one.
-ghost use Rattle.std.specs.Prelude.{◌≡◌, ◌+◌, ◌*◌, ◌≤◌, IfOk};
+ghost use Rattle.std.specs.Prelude.{◌≡◌, ◌+◌, ◌*◌, ◌<◌, ◌≤◌, IfOk, length};
 ghost use Rattle.cps_nodes.specs.Windows.{IsWidth};
 
 use super::is_shared;
 use crate::bank::Bank;
 use cps_network::{Stage, last_rank, next_stage, next_stage_like, sources};
 use cps_problem::{Objective, Problem};
-use std::alloc::Global;
+use std::alloc::{AllocError, Global};
 use std::test::Fail;
+
+// The sources in a stage of the window that begins with rank 2.
+fn sources_of_rank_2(stage: &Stage<3>) -> Option<(usize, usize)>
+    requires { 0 < length stage.now.1 }
+{
+    let next = stage.node(0).extendable().extend(1)?;
+    Some(sources(stage, &next))
+}
+
+// How many windows and labels are left of a stage where each of its windows is left out.
+fn left_of_none(alloc: Global, mut stage: Stage<3>) -> Result<(usize, usize), AllocError> {
+    let mut labels = vec![in alloc; 7u32; stage.len()]?;
+    stage.compact(&mut labels, |label| *label > 7);
+    Ok((stage.len(), labels.len()))
+}
 
 #[test]
 fn the_first_stage_has_the_source_alone(rt: HostRuntime) -> Result<(), Fail> {
-    let mut stage: Stage<3> = Stage::start(rt.alloc())?;
+    let stage: Stage<3> = Stage::start(rt.alloc())?;
     is_shared(&stage);
     assert_eq!(rt;
         (stage.number(), stage.len(), stage.is_empty()),
         (0, 1, false)
     );
     assert_eq!(rt; last_rank(&stage.node(0), stage.number()), 0);
-    if let Some(next) = stage.node(0).extendable().extend(1) {
-        assert_eq!(rt; sources(&stage, &next), (0, 1));
-    }
+    assert_eq!(rt; sources_of_rank_2(&stage), Some((0, 1)));
     assert_eq!(rt; stage.sources(&stage, 0), (0, 1));
-
-    let mut labels = [7u32].to_vec(rt.alloc())?;
-    assert_eq!(rt; labels.len(), 1);
-    stage.compact(&mut labels, |label| *label > 7);
-    assert!(rt; stage.is_empty() && labels.is_empty());
+    assert_eq!(rt; left_of_none(rt.alloc(), stage)?, (0, 0));
     Ok(())
 }
 
@@ -37,7 +46,7 @@ fn sixteen(alloc: Global, k: u8, first: u8, next: u8, passed: u8) -> Result<Prob
 {
     let mut bank = Bank::new(alloc, k);
     for rank in 1..17u8 {
-        bank.add_numbered(rank, if rank == passed { 1 } else { 0 })?;
+        bank.add_numbered(rank, u8::from(rank == passed))?;
     }
     Ok(bank.problem(Objective::Makespan, first, next)?)
 }
@@ -60,6 +69,42 @@ fn are_one<const W: usize>(left: &Stage<W>, right: &Stage<W>) -> bool {
     left.number() == right.number() && left.windows() == right.windows()
 }
 
+// The stage after a stage of a problem, where it is asked for without its first window.
+fn stage_after<const W: usize>(
+    alloc: Global,
+    problem: &Problem,
+    before: &Stage<W>,
+    leave_out: bool,
+) -> Result<Stage<W>, Fail>
+    requires width { IsWidth W }
+    requires places { W ≡ 2 * problem.now.k + 1 }
+    requires stage { before.now.0 < length problem.now.flights }
+    ensures { IfOk result (λ stage. stage.0 ≡ before.now.0 + 1) }
+{
+    let mut stage = next_stage(alloc, before, problem)?;
+    if leave_out {
+        leave_out_first(alloc, &mut stage)?;
+    }
+    Ok(stage)
+}
+
+// Whether both ways of making the stage after a stage, of which one looks at an earlier stage, give the same one.
+fn have_same_next<const W: usize>(
+    alloc: Global,
+    problem: &Problem,
+    earlier: &Stage<W>,
+    stage: &Stage<W>,
+) -> Result<bool, AllocError>
+    requires places { W ≡ 2 * problem.now.k + 1 }
+    requires stage { stage.now.0 < length problem.now.flights }
+    requires earlier { earlier.now.0 < stage.now.0 }
+{
+    let after = next_stage(alloc, earlier, problem)?;
+    let like = next_stage_like(alloc, stage, problem, earlier, &after)?;
+    let next = next_stage(alloc, stage, problem)?;
+    Ok(are_one(&next, &like))
+}
+
 // Whether both ways of making the next stage give the same one, from each stage of a problem on. The first window of the
 // stage of one number is left out.
 fn have_one_next<const W: usize>(
@@ -70,45 +115,45 @@ fn have_one_next<const W: usize>(
     requires width { IsWidth W }
     requires places { W ≡ 2 * problem.now.k + 1 }
 {
-    if problem.is_empty() {
-        return Ok(true);
-    }
     let mut earlier: Stage<W> = Stage::start(alloc)?;
-    let mut after = next_stage(alloc, &earlier, problem)?;
     for number in 1..problem.len() {
-        let mut stage = next_stage(alloc, &earlier, problem)?;
-        if number == left_out {
-            leave_out_first(alloc, &mut stage)?;
-        }
-        let next = next_stage(alloc, &stage, problem)?;
-        let like = next_stage_like(alloc, &stage, problem, &earlier, &after)?;
-        if !are_one(&next, &like) {
+        let stage = stage_after(alloc, problem, &earlier, number == left_out)?;
+        if !have_same_next(alloc, problem, &earlier, &stage)? {
             return Ok(false);
         }
         earlier = stage;
-        after = next;
     }
     Ok(true)
 }
 
+// The same for sixteen flights, with one place of shift and with two.
+fn sixteen_have_one_next(
+    alloc: Global,
+    first: u8,
+    next: u8,
+    passed: u8,
+    left_out: u8,
+) -> Result<bool, Fail> {
+    let one = sixteen(alloc, 1, first, next, passed)?;
+    let two = sixteen(alloc, 2, first, next, passed)?;
+    Ok(have_one_next::<3>(alloc, &one, left_out)? && have_one_next::<5>(alloc, &two, left_out)?)
+}
+
+// A pair of ranks, a rank that was passed, and the stage of which a window is left out; 0 for none.
+const SIXTEENS: [(u8, u8, u8, u8); 5] = [
+    (0, 1, 0, 0),
+    (8, 9, 0, 0),
+    (0, 1, 8, 0),
+    (0, 1, 0, 8),
+    (3, 5, 9, 12),
+];
+
 #[test]
 fn a_stage_made_like_an_earlier_one_is_the_next(rt: HostRuntime) -> Result<(), Fail> {
-    let alloc = rt.alloc();
-    let three = sixteen(alloc, 3, 0, 1, 0)?;
-    assert!(rt; have_one_next::<7>(alloc, &three, 0)?);
-
-    // A pair of ranks, a rank that was passed, and the stage of which a window is left out; 0 for none.
-    for (first, next, passed, left_out) in [
-        (0u8, 1u8, 0u8, 0u8),
-        (8, 9, 0, 0),
-        (0, 1, 8, 0),
-        (0, 1, 0, 8),
-        (3, 5, 9, 12),
-    ] {
-        let one = sixteen(alloc, 1, first, next, passed)?;
-        let two = sixteen(alloc, 2, first, next, passed)?;
-        let are_same = have_one_next::<3>(alloc, &one, left_out)?
-            && have_one_next::<5>(alloc, &two, left_out)?;
+    let three = sixteen(rt.alloc(), 3, 0, 1, 0)?;
+    assert!(rt; have_one_next::<7>(rt.alloc(), &three, 0)?);
+    for (first, next, passed, left_out) in SIXTEENS {
+        let are_same = sixteen_have_one_next(rt.alloc(), first, next, passed, left_out)?;
         assert!(rt; are_same, "{first} {next} {passed} {left_out}");
     }
     Ok(())

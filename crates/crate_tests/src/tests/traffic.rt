@@ -1,40 +1,62 @@
 use flight_file::{print_flights, read_flights};
+use std::alloc::Global;
 use std::test::Fail;
 use traffic_gen::generate;
 use wake_table::Category;
 
 #[test]
-fn the_first_estimate_of_seed_0(rt: HostRuntime) -> Result<(), Fail> {
-    let (aerodrome, flights) = generate(rt.alloc(), 0, 1, 0)?.into_parts();
-    assert_eq!(rt; aerodrome.k, 0);
-    assert_eq!(rt; aerodrome.freeze, 0);
-    assert_eq!(rt; aerodrome.table.sep(Category::A, Category::F), 180);
-    assert_eq!(rt; aerodrome.closures.len(), 0);
-    assert_eq!(rt; flights.len(), 1);
-    let first = flights.first().ok_or("no flight")?;
-    assert_eq!(rt; first.callsign.bytes(), b"T001".as_slice());
-    assert_eq!(rt; first.category, Category::A);
-    assert_eq!(rt; first.eta, 3707);
-    assert_eq!(rt; first.weight, 3);
-    assert_eq!(rt; first.windows.spans(), [(3707, 10906)].as_slice());
-    assert_eq!(rt; first.after.len(), 0);
+fn the_aerodrome_of_seed_0(rt: HostRuntime) -> Result<(), Fail> {
+    let (aerodrome, _) = generate(rt.alloc(), 0, 1, 0)?.into_parts();
+    let sep = aerodrome.table.sep(Category::A, Category::F);
+    assert_eq!(rt;
+        (aerodrome.k, aerodrome.freeze, sep, aerodrome.closures.len()),
+        (0, 0, 180, 0)
+    );
     Ok(())
 }
 
 #[test]
-fn the_letters_of_seed_7(rt: HostRuntime) -> Result<(), Fail> {
-    let (_, flights) = generate(rt.alloc(), 7, 60, 3)?.into_parts();
-    let mut letters = Vec::new(rt.alloc());
+fn the_first_estimate_of_seed_0(rt: HostRuntime) -> Result<(), Fail> {
+    let (_, flights) = generate(rt.alloc(), 0, 1, 0)?.into_parts();
+    assert_eq!(rt; flights.len(), 1);
+    let first = flights.first().ok_or("no flight")?;
+    assert_eq!(rt;
+        (first.category, first.eta, first.weight, first.after.len()),
+        (Category::A, 3707, 3, 0)
+    );
+    assert_eq!(rt;
+        (first.callsign.bytes(), first.windows.spans()),
+        (b"T001".as_slice(), [(3707, 10906)].as_slice())
+    );
+    Ok(())
+}
+
+// The letters of the categories of seed 7.
+fn letters(alloc: Global) -> Result<Vec<u8>, Fail> {
+    let (_, flights) = generate(alloc, 7, 60, 3)?.into_parts();
+    let mut letters = Vec::new(alloc);
     for flight in flights.iter() {
         letters.push(flight.category.letter())?;
     }
-    let expected = b"FBABCDFEADBFBBCAAFBABFFDBAACFFDEACCDFAACCCCEDFCADBEBCBDDEADB";
-    assert_eq!(rt; letters.as_slice(), expected.as_slice());
+    Ok(letters)
+}
+
+const LETTERS: &[u8] = b"FBABCDFEADBFBBCAAFBABFFDBAACFFDEACCDFAACCCCEDFCADBEBCBDDEADB";
+
+#[test]
+fn the_letters_of_seed_7(rt: HostRuntime) -> Result<(), Fail> {
+    let letters = letters(rt.alloc())?;
+    assert_eq!(rt; letters.as_slice(), LETTERS);
+    Ok(())
+}
+
+#[test]
+fn the_last_flight_of_seed_7(rt: HostRuntime) -> Result<(), Fail> {
+    let (_, flights) = generate(rt.alloc(), 7, 60, 3)?.into_parts();
     let last = flights.last().ok_or("no flight")?;
-    assert_eq!(rt; last.callsign.bytes(), b"T060".as_slice());
     assert_eq!(rt;
-        (last.category, last.eta, last.weight),
-        (Category::B, 9044, 3)
+        (last.callsign.bytes(), last.category, last.eta, last.weight),
+        (b"T060".as_slice(), Category::B, 9044, 3)
     );
     Ok(())
 }
@@ -48,19 +70,29 @@ NJE5,F,36130,1,36130-37930,
 BEL3,E,36160,2,36160-37960,
 ";
 
+// The bank as it is printed once it is read.
+fn printed(alloc: Global) -> Result<Vec<u8>, Fail> {
+    let flights = read_flights(alloc, BANK.as_bytes())?;
+    let mut text = Vec::new(alloc);
+    print_flights(flights.as_slice(), &mut text)?;
+    Ok(text)
+}
+
 #[test]
 fn an_ordinary_bank_is_read_and_printed_as_it_was(rt: HostRuntime) -> Result<(), Fail> {
-    let read = read_flights(rt.alloc(), BANK.as_bytes());
-    assert!(rt; read.is_ok());
-    let Ok(flights) = read else {
-        return Ok(());
-    };
-    assert!(rt; flights.len() == 5);
-    let mut text = Vec::new(rt.alloc());
-    print_flights(flights.as_slice(), &mut text)?;
+    let text = printed(rt.alloc())?;
     assert!(rt; text.as_slice() == BANK.as_bytes());
+    Ok(())
+}
+
+#[test]
+fn a_flight_of_an_ordinary_bank_is_copied(rt: HostRuntime) -> Result<(), Fail> {
+    let flights = read_flights(rt.alloc(), BANK.as_bytes())?;
+    assert!(rt; flights.len() == 5);
     let copy = flights[2].copy();
-    assert!(rt; copy.callsign.bytes() == b"DLH400".as_slice());
-    assert!(rt; copy.eta == 36090 && copy.after.len() == 0);
+    assert_eq!(rt;
+        (copy.callsign.bytes(), copy.eta, copy.after.len()),
+        (b"DLH400".as_slice(), 36090, 0)
+    );
     Ok(())
 }

@@ -1,3 +1,5 @@
+ghost use Rattle.std.specs.Prelude.{pos, ◌+ℤ◌, ◌≤ℤ◌};
+
 use cps_nodes::Window;
 
 fn extended(window: Option<Window<3>>, offset: i8) -> Option<Window<3>> {
@@ -7,27 +9,39 @@ fn extended(window: Option<Window<3>>, offset: i8) -> Option<Window<3>> {
     window?.extendable().extend(offset)
 }
 
+fn offsets(window: &Window<3>) -> (i8, i8, i8) {
+    (window.offset(0), window.offset(1), window.last())
+}
+
+// Whether each of the ranks 0 to 4 is placed when a stage is done.
+fn placed(window: &Window<3>, stage: i32) -> (bool, bool, bool, bool, bool)
+    requires { (pos 0 ≤ℤ (stage +ℤ pos 10)) × (stage ≤ℤ pos 100) }
+{
+    (
+        window.placed(0, stage),
+        window.placed(1, stage),
+        window.placed(2, stage),
+        window.placed(3, stage),
+        window.placed(4, stage),
+    )
+}
+
+// The window of rank 2 alone.
+fn of_rank_2() -> Option<Window<3>> {
+    extended(Some(Window::source()), 1)
+}
+
 #[test]
 fn a_repeat_and_a_missing_due_flight_are_refused(rt: HostRuntime) {
-    let first = extended(Some(Window::source()), 1);
-    assert!(rt; extended(first, 0).is_none(), "rank 2 is repeated");
-    assert!(rt; extended(first, 1).is_none(), "rank 1 is due");
+    assert!(rt; extended(of_rank_2(), 0).is_none(), "rank 2 is repeated");
+    assert!(rt; extended(of_rank_2(), 1).is_none(), "rank 1 is due");
 
     // Ranks 1 and 2 have changed places.
-    let second = extended(first, -1);
-    let window = second.expect(&rt, "rank 1 may land second");
-    assert_eq!(rt;
-        (window.offset(0), window.offset(1), window.last()),
-        (0, 1, -1)
-    );
-    assert!(rt;
-        window.placed(0, 2) && window.placed(1, 2) && window.placed(2, 2) && !window.placed(3, 2)
-    );
-
-    let window = extended(second, 1).expect(&rt, "rank 2 is due and there");
-    assert!(rt;
-        window.placed(2, 3) && window.placed(1, 3) && window.placed(4, 3) && !window.placed(3, 3)
-    );
+    let second = extended(of_rank_2(), -1).expect(&rt, "rank 1 may land second");
+    assert_eq!(rt; offsets(&second), (0, 1, -1));
+    assert_eq!(rt; placed(&second, 2), (true, true, true, false, false));
+    let third = extended(Some(second), 1).expect(&rt, "rank 2 is due and there");
+    assert_eq!(rt; placed(&third, 3), (true, true, true, false, true));
 }
 
 #[test]

@@ -1,8 +1,11 @@
+ghost use Rattle.std.specs.Prelude.{◌<◌, ◌^◌};
+
 use cps_outside::{FreeGate, Gate};
 use label_workers::{PIECE, fill_lists, fill_long_lists, fill_numbers};
-use std::alloc::AllocError;
+use std::alloc::{AllocError, Global};
 use std::sync::atomic::{AtomicU64, Ordering};
 use std::test::Fail;
+use std::thread::Threads;
 
 // Holds piece 0 until piece 1 has passed, for so many turns at most.
 #[derive(Drop)]
@@ -54,15 +57,35 @@ fn counts_pieces() -> Counting {
     }
 }
 
+// Whether each number is the last three digits of its place.
+fn are_last_digits(column: &[u32]) -> bool {
+    for (i, x) in column.iter().enumerate() {
+        if *x != (i % 1000) as u32 {
+            return false;
+        }
+    }
+    true
+}
+
+// Whether a column of so many numbers is filled.
+fn is_filled<R: Threads + Sync, G: Gate + Sync>(
+    rt: &R,
+    alloc: Global,
+    gate: &G,
+    len: usize,
+) -> Result<bool, AllocError>
+    requires { len < 2 ^ 32 }
+{
+    let mut column = vec![in alloc; 7u32; len]?;
+    fill_numbers(rt, column.as_mut_slice(), gate, &|i| (i % 1000) as u32);
+    Ok(are_last_digits(&column))
+}
+
 #[test]
 fn two_pieces_of_a_column_run_beside_each_other(rt: HostRuntime) -> Result<(), Fail> {
     let gate = holds_piece_0();
-    let mut column = vec![in rt.alloc(); 0u32; 2048]?;
-    fill_numbers(&rt, column.as_mut_slice(), &gate, &|i| (i % 1000) as u32);
+    assert!(rt; is_filled(&rt, rt.alloc(), &gate, 2048)?);
     assert_eq!(rt; gate.seen.load(Ordering::SeqCst), 1);
-    for (i, x) in column.iter().enumerate() {
-        assert_eq!(rt; *x, (i % 1000) as u32);
-    }
     Ok(())
 }
 
@@ -71,35 +94,37 @@ fn each_piece_passes_the_gate_once_and_the_last_may_be_shorter(
     rt: HostRuntime,
 ) -> Result<(), Fail> {
     let gate = counts_pieces();
-    let mut column = vec![in rt.alloc(); 7u32; 9 * PIECE + 6]?;
-    fill_numbers(&rt, column.as_mut_slice(), &gate, &|i| (i % 1000) as u32);
+    assert!(rt; is_filled(&rt, rt.alloc(), &gate, 9 * PIECE + 6)?);
     assert_eq!(rt; gate.passes.load(Ordering::SeqCst), 10);
-    for (i, x) in column.iter().enumerate() {
-        assert_eq!(rt; *x, (i % 1000) as u32);
-    }
-    let mut empty = vec![in rt.alloc(); 7u32; 0]?;
-    fill_numbers(&rt, empty.as_mut_slice(), &gate, &|_| 0);
+    assert!(rt; is_filled(&rt, rt.alloc(), &gate, 0)?);
     assert_eq!(rt; gate.passes.load(Ordering::SeqCst), 10);
     Ok(())
 }
 
+// Whether the squares of eight items are made, each thread making so many at least.
+fn are_squares<R: Threads + Sync>(
+    rt: &R,
+    alloc: Global,
+    gate: &Counting,
+    least: usize,
+) -> Result<bool, AllocError> {
+    let squares = fill_long_lists(rt, alloc, 8, least, gate, &|i| Ok((i % 8) * (i % 8)))?;
+    Ok(squares.as_slice() == [0, 1, 4, 9, 16, 25, 36, 49].as_slice())
+}
+
+// Whether eight items are refused where one of them is.
+fn are_refused<R: Threads + Sync>(rt: &R, alloc: Global, least: usize) -> bool {
+    let item = |i| if i == 5 { Err(AllocError) } else { Ok(i) };
+    fill_long_lists(rt, alloc, 8, least, &FreeGate, &item).is_err()
+}
+
 #[test]
 fn each_item_is_a_piece(rt: HostRuntime) -> Result<(), Fail> {
-    let alloc = rt.alloc();
     for least in 1..10 {
         let gate = counts_pieces();
-        let squares = fill_long_lists(&rt, alloc, 8, least, &gate, &|i| Ok((i % 8) * (i % 8)))?;
-        assert_eq!(rt; squares.as_slice(), [0, 1, 4, 9, 16, 25, 36, 49].as_slice());
+        assert!(rt; are_squares(&rt, rt.alloc(), &gate, least)?);
         assert_eq!(rt; gate.passes.load(Ordering::SeqCst), 8);
-        let refused = fill_long_lists(
-            &rt,
-            alloc,
-            8,
-            least,
-            &FreeGate,
-            &|i| { if i == 5 { Err(AllocError) } else { Ok(i) } },
-        );
-        assert!(rt; refused.is_err());
+        assert!(rt; are_refused(&rt, rt.alloc(), least));
     }
     Ok(())
 }
