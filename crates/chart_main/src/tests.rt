@@ -141,25 +141,45 @@ fn text(alloc: Global, parts: &[&str]) -> Result<Vec<u8>, AllocError> {
     Ok(text)
 }
 
-// A folder of the three files. The load of the number `failing` fails, where there is one of that number.
-fn folder(
+// A file of this name.
+fn file(alloc: Global, name: &str, parts: &[&str]) -> Result<(String, Vec<u8>), AllocError> {
+    Ok((String::from_str(alloc, name)?, text(alloc, parts)?))
+}
+
+// The three files.
+fn files(
     alloc: Global,
     head: &str,
     flights: &str,
     plan: &str,
+) -> Result<Vec<(String, Vec<u8>)>, AllocError> {
+    let mut files = Vec::new(alloc);
+    files.push(file(alloc, "aerodrome", &[head, TABLE])?)?;
+    files.push(file(alloc, "flights", &[HEADER, flights])?)?;
+    files.push(file(alloc, "plan", &[plan])?)?;
+    Ok(files)
+}
+
+// A folder of these files. The load of the number `failing` fails, where there is one of that number.
+fn folder(
+    alloc: Global,
+    files: Vec<(String, Vec<u8>)>,
     failing: u32,
 ) -> Result<MemoryFolder, AllocError> {
-    let mut files = Vec::new(alloc);
-    files.push((
-        String::from_str(alloc, "aerodrome")?,
-        text(alloc, &[head, TABLE])?,
-    ))?;
-    files.push((
-        String::from_str(alloc, "flights")?,
-        text(alloc, &[HEADER, flights])?,
-    ))?;
-    files.push((String::from_str(alloc, "plan")?, text(alloc, &[plan])?))?;
     Ok(MemoryFolder::new(alloc, files, vec![in alloc; failing]?))
+}
+
+// A sink of this size. The put of the number `failing`, where there is one of that number, fails after 5 bytes.
+fn sink(alloc: Global, size: usize, failing: u32) -> Result<MemorySink, AllocError> {
+    MemorySink::new(alloc, size, vec![in alloc; (failing, 5u32)]?)
+}
+
+fn names(alloc: Global, words: &[&str]) -> Result<Vec<String>, AllocError> {
+    let mut names = Vec::new(alloc);
+    for word in words {
+        names.push(String::from_str(alloc, word)?)?;
+    }
+    Ok(names)
 }
 
 // What comes of a run.
@@ -170,20 +190,17 @@ struct Outcome {
     err: MemorySink,
 }
 
-// A run of these words. The put of the number `failing`, where there is one of that number, fails after 5 bytes.
+// A run of these words, in which the put of the number `failing` fails.
 fn run_words(
     alloc: Global,
     words: &[&str],
-    mut folder: MemoryFolder,
+    folder: &mut MemoryFolder,
     failing: u32,
 ) -> Result<Outcome, AllocError> {
-    let mut names = Vec::new(alloc);
-    for word in words {
-        names.push(String::from_str(alloc, word)?)?;
-    }
-    let mut out = MemorySink::new(alloc, 20_000, vec![in alloc; (failing, 5u32)]?)?;
-    let mut err = MemorySink::new(alloc, 100, Vec::new(alloc))?;
-    let status = run(alloc, names.as_slice(), &mut folder, &mut out, &mut err);
+    let names = names(alloc, words)?;
+    let mut out = sink(alloc, 20_000, failing)?;
+    let mut err = sink(alloc, 100, 0)?;
+    let status = run(alloc, names.as_slice(), folder, &mut out, &mut err);
     Ok(Outcome { status, out, err })
 }
 
@@ -209,20 +226,26 @@ fn stand_in_order(text: &[u8], pieces: &[&str]) -> bool {
     true
 }
 
+fn drawn(alloc: Global, drawing: &Drawing) -> Result<Outcome, AllocError> {
+    let files = files(alloc, drawing.head, drawing.flights, drawing.plan)?;
+    let mut folder = folder(alloc, files, 0)?;
+    run_words(alloc, &["aerodrome", "flights", "plan"], &mut folder, 0)
+}
+
 #[test]
 fn plans_are_drawn_in_the_opening_situation(rt: HostRuntime) -> Result<(), Fail> {
-    let alloc = rt.alloc();
     for expected in &DRAWINGS {
-        let folder = folder(alloc, expected.head, expected.flights, expected.plan, 0)?;
-        let outcome = run_words(alloc, &["aerodrome", "flights", "plan"], folder, 0)?;
-        assert_eq!(rt; outcome.status, expected.status);
-        assert_eq!(rt; outcome.err.written(), expected.err.as_bytes());
-        assert!(rt;
-            stand_in_order(outcome.out.written(), expected.pieces),
-            "{}",
-            expected.plan
+        let outcome = drawn(rt.alloc(), expected)?;
+        let out = outcome.out.written();
+        assert_eq!(rt;
+            (outcome.status, out.is_empty(), outcome.err.written()),
+            (
+                expected.status,
+                expected.status != 0,
+                expected.err.as_bytes()
+            )
         );
-        assert_eq!(rt; outcome.out.written().is_empty(), expected.status != 0);
+        assert!(rt; stand_in_order(out, expected.pieces), "{}", expected.plan);
     }
     Ok(())
 }
@@ -272,15 +295,24 @@ const CASES: [Case; 4] = [
     },
 ];
 
+fn outcome_of(alloc: Global, case: &Case) -> Result<Outcome, AllocError> {
+    let files = files(alloc, PLAIN, TWO, "infeasible\n")?;
+    let mut folder = folder(alloc, files, case.load)?;
+    run_words(alloc, case.words, &mut folder, case.put)
+}
+
 #[test]
 fn faults_end_with_their_status_and_line(rt: HostRuntime) -> Result<(), Fail> {
-    let alloc = rt.alloc();
     for expected in &CASES {
-        let folder = folder(alloc, PLAIN, TWO, "infeasible\n", expected.load)?;
-        let outcome = run_words(alloc, expected.words, folder, expected.put)?;
-        assert_eq!(rt; outcome.status, expected.status);
-        assert_eq!(rt; outcome.out.written(), expected.out.as_bytes());
-        assert_eq!(rt; outcome.err.written(), expected.err.as_bytes());
+        let outcome = outcome_of(rt.alloc(), expected)?;
+        assert_eq!(rt;
+            (outcome.status, outcome.out.written(), outcome.err.written()),
+            (
+                expected.status,
+                expected.out.as_bytes(),
+                expected.err.as_bytes()
+            )
+        );
     }
     Ok(())
 }
