@@ -1,15 +1,16 @@
 //! The problem that was planned last, with its stages.
 
-ghost use Rattle.std.specs.Prelude.{◌≡◌, ℕ, ◌+◌, ◌*◌, IfOk, OnOk, OnErr, None, Some};
+ghost use Rattle.std.specs.Prelude.{◌≡◌, ℕ, ◌+◌, ◌*◌, length, vec_len, IfOk, OnOk, OnErr, None, Some};
 ghost use Rattle.cps_base.specs.Tally.{raised_by};
 ghost use Rattle.cps_network.specs.Due.{IsDue};
 ghost use Rattle.cps_problem.specs.Plans.{IsAnswerOf};
 ghost use Rattle.replan.specs.Held.{problem_of};
+ghost use Rattle.replan.specs.Stages.{AreStages};
 
 use crate::former::former_stages;
 use crate::held::{HeldProblem, begin_stages};
 use crate::plan::schedule_of;
-use crate::stages::fill_stages;
+use crate::stages::{LabelledStage, fill_stages};
 use cps_base::{Ledger, Steps};
 use cps_outside::Gate;
 use cps_problem::{Problem, Schedule};
@@ -37,6 +38,28 @@ impl<const W: usize> Model for Kept<W> {
     ghost invariant = { λ k. MatchOption k.held ⊤ (IsHeld W) };
 }
 
+// All stages of a problem, in place of those that are held. Those that it has in common with the problem held are kept, and
+// the others are given back before new ones are filled, but for their windows where these may be taken again.
+fn all_stages<const W: usize, R: Threads, G: Gate, L: Ledger>(
+    rt: &R,
+    alloc: Global,
+    problem: &Problem,
+    held: Option<HeldProblem<W>>,
+    gate: &G,
+    steps: &mut Steps<L>,
+) -> Result<Vec<LabelledStage<W>>, AllocError>
+    requires { W ≡ 2 * problem.now.k + 1 }
+    ensures held { IfOk result (λ kept. AreStages problem.now kept.items) }
+    ensures all { IfOk result (λ kept. vec_len kept ≡ length problem.now.flights + 1) }
+    ensures steps { OnOk result ((due : ℕ) × IsDue (problem_of held.entry) problem.now due
+        × (L.count steps.new ≡ raised_by due (L.count steps.old))) }
+{
+    let former = former_stages(alloc, &held, problem)?;
+    let mut stages = begin_stages(alloc, problem, held)?;
+    fill_stages(rt, alloc, problem, &mut stages, &former, gate, steps)?;
+    Ok(stages)
+}
+
 impl<const W: usize> Kept<W> {
     // Holds no problem yet.
     pub(crate) fn fresh() -> Kept<W>
@@ -45,9 +68,7 @@ impl<const W: usize> Kept<W> {
         Kept { held: None }
     }
 
-    // Plans a problem, and holds it. The stages that it has in common with the problem held before are kept, and the others
-    // are given back before new ones are filled, but for their windows where these may be taken again. After want of memory
-    // no problem is held.
+    // Plans a problem, and holds it in place of the one held before. After want of memory no problem is held.
     pub(crate) fn replan<R: Threads, G: Gate, L: Ledger>(
         &mut self,
         rt: &R,
@@ -65,9 +86,7 @@ impl<const W: usize> Kept<W> {
     {
         let held = self.held.take();
         let copied = problem.copy()?;
-        let former = former_stages(alloc, &held, problem)?;
-        let mut stages = begin_stages(alloc, problem, held)?;
-        fill_stages(rt, alloc, problem, &mut stages, &former, gate, steps)?;
+        let stages = all_stages(rt, alloc, problem, held, gate, steps)?;
         let answer = schedule_of(alloc, problem, &stages)?;
         self.held = Some(HeldProblem {
             problem: copied,

@@ -1,11 +1,12 @@
 //! The stages of a problem.
 
-ghost use Rattle.std.specs.Prelude.{◌≡◌, ℕ, ◌+◌, ◌-◌, ◌*◌, ◌<◌, ◌≤◌, length, vec_len, IfOk, OnOk, IsTrue};
+ghost use Rattle.std.specs.Prelude.{◌≡◌, ℕ, ◌+◌, ◌-◌, ◌*◌, ◌<◌, ◌≤◌, length, vec_len, IfOk, OnOk, IsTrue, false};
 ghost use Rattle.cps_base.specs.Tally.{raised_by};
 ghost use Rattle.cps_network.specs.Due.{HasCandidates, HasCandidatesFrom};
 ghost use Rattle.cps_network.specs.Landable.{HoldsCandidates};
 ghost use Rattle.cps_network.specs.Lists.{IsAscending};
 ghost use Rattle.cps_network.specs.Permits.{IsNextOf};
+ghost use Rattle.replan.specs.Labels.{HoldsPairs};
 ghost use Rattle.replan.specs.Stages.{AreFormer, AreStages};
 
 use crate::former::FormerStage;
@@ -36,6 +37,26 @@ impl<const W: usize> Model for LabelledStage<W> {
 }
 
 // Stage 0.
+pub(crate) fn stage_zero<const W: usize>(
+    alloc: Global,
+    problem: &Problem,
+) -> Result<LabelledStage<W>, AllocError>
+    requires width { W ≡ 2 * problem.now.k + 1 }
+    ensures held { IfOk result (λ s. HoldsPairs problem.now s.stage s.labels) }
+    ensures number { IfOk result (λ s. s.stage.0 ≡ 0) }
+    ensures unsaid { IfOk result (λ s. s.is_whole ≡ false) }
+{
+    let objective = problem.head().objective;
+    let stage = Stage::start(alloc)?;
+    let labels = Labels::start(alloc, objective)?;
+    Ok(LabelledStage {
+        stage,
+        labels,
+        is_whole: false,
+    })
+}
+
+// The stages from which on a problem is filled where it has none in common with another: stage 0 alone.
 pub(crate) fn first_stage<const W: usize>(
     alloc: Global,
     problem: &Problem,
@@ -44,15 +65,9 @@ pub(crate) fn first_stage<const W: usize>(
     ensures held { IfOk result (λ kept. AreStages problem.now kept.items) }
     ensures one { IfOk result (λ kept. vec_len kept ≡ 1) }
 {
-    let objective = problem.head().objective;
-    let stage = Stage::start(alloc)?;
-    let labels = Labels::start(alloc, objective)?;
+    let first = stage_zero(alloc, problem)?;
     let mut kept = Vec::with_capacity(alloc, problem.len() as usize + 1)?;
-    kept.push(LabelledStage {
-        stage,
-        labels,
-        is_whole: false,
-    })?;
+    kept.push(first)?;
     Ok(kept)
 }
 

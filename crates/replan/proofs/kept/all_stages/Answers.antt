@@ -1,5 +1,5 @@
 use Rattle.std.proofs.Common.{rules}
-use Rattle.replan.proofs.kept.Kept.replan.Goals as goal
+use Rattle.replan.proofs.kept.all_stages.Goals as goal
 
 pub fill_stages-requires : goal.fill_stages-requires
 fill_stages-requires g c =
