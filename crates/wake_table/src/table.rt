@@ -1,6 +1,6 @@
 ghost use Rattle.std.specs.Prelude.{◌≡◌, ◌<◌, ◌≤◌, ◌+◌, find};
 ghost use Rattle.wake_table.specs.declared.category.Category.{Category};
-ghost use Rattle.wake_table.specs.Table.{breaks_triangle, greatest_separation, is_out_of_range, pairs, pairs_from, separation, table_of, triples, triples_from, triples_from_two, IsWakeTable};
+ghost use Rattle.wake_table.specs.Table.{breaks_triangle, greatest_separation, is_out_of_range, pairs, separation, table_of, triples, triples_from, IsWakeTable};
 
 use crate::category::{CATEGORIES, Category};
 use std::marker::Model;
@@ -35,72 +35,53 @@ fn entry(rows: &[[u32; 6]; 6], leader: Category, follower: Category) -> u32
     rows[leader.place()][follower.place()]
 }
 
-// The functions below look at these letters, in turn.
-
-fn bad_follower(
-    rows: &[[u32; 6]; 6],
-    letters: &[Category],
-    leader: Category,
-) -> Option<(Category, Category)>
-    ensures { result ≡ find (is_out_of_range rows.now) (pairs_from letters.now leader) }
+// Whether a leader and a follower have less than 1 second between them, or more than the greatest separation.
+fn is_out_of_range(rows: &[[u32; 6]; 6], pair: (Category, Category)) -> bool
+    ensures { result ≡ is_out_of_range rows.now pair }
 {
-    for follower in letters {
-        let seconds = entry(rows, leader, *follower);
-        if seconds < 1 || seconds > GREATEST_SEPARATION {
-            return Some((leader, *follower));
-        }
-    }
-    None
+    let seconds = entry(rows, pair.0, pair.1);
+    seconds < 1 || seconds > GREATEST_SEPARATION
 }
 
+// The first such pair, in letter order.
 fn bad_pair(rows: &[[u32; 6]; 6], letters: &[Category]) -> Option<(Category, Category)>
     ensures { result ≡ find (is_out_of_range rows.now) (pairs letters.now) }
 {
-    for leader in letters {
-        if let Some(pair) = bad_follower(rows, letters, *leader) {
-            return Some(pair);
-        }
-    }
-    None
+    letters
+        .iter()
+        .flat_map(|leader| letters.iter().map(move |follower| (*leader, *follower)))
+        .find(|pair| is_out_of_range(rows, *pair))
 }
 
-fn bad_last(
+// Whether it takes longer from the first to the last than by way of the one in the middle.
+fn breaks_triangle(rows: &[[u32; 6]; 6], triple: (Category, Category, Category)) -> bool
+    ensures { result ≡ breaks_triangle rows.now triple }
+{
+    let (first, middle, last) = triple;
+    let by_middle = u64::from(entry(rows, first, middle)) + u64::from(entry(rows, middle, last));
+    by_middle < u64::from(entry(rows, first, last))
+}
+
+// The first such triple of a first flight, in letter order.
+fn bad_triple_from(
     rows: &[[u32; 6]; 6],
     letters: &[Category],
-    a: Category,
-    b: Category,
+    first: Category,
 ) -> Option<(Category, Category, Category)>
-    ensures { result ≡ find (breaks_triangle rows.now) (triples_from_two letters.now a b) }
+    ensures { result ≡ find (breaks_triangle rows.now) (triples_from letters.now first) }
 {
-    for c in letters {
-        let by_middle = u64::from(entry(rows, a, b)) + u64::from(entry(rows, b, *c));
-        if by_middle < u64::from(entry(rows, a, *c)) {
-            return Some((a, b, *c));
-        }
-    }
-    None
+    letters
+        .iter()
+        .flat_map(|middle| letters.iter().map(move |last| (first, *middle, *last)))
+        .find(|triple| breaks_triangle(rows, *triple))
 }
 
-fn bad_middle(
-    rows: &[[u32; 6]; 6],
-    letters: &[Category],
-    a: Category,
-) -> Option<(Category, Category, Category)>
-    ensures { result ≡ find (breaks_triangle rows.now) (triples_from letters.now a) }
-{
-    for b in letters {
-        if let Some(triple) = bad_last(rows, letters, a, *b) {
-            return Some(triple);
-        }
-    }
-    None
-}
-
+// The first of all triples.
 fn bad_triple(rows: &[[u32; 6]; 6], letters: &[Category]) -> Option<(Category, Category, Category)>
     ensures { result ≡ find (breaks_triangle rows.now) (triples letters.now) }
 {
-    for a in letters {
-        if let Some(triple) = bad_middle(rows, letters, *a) {
+    for first in letters {
+        if let Some(triple) = bad_triple_from(rows, letters, *first) {
             return Some(triple);
         }
     }

@@ -1,15 +1,15 @@
--- The fault found is the first along the letters, and there is none where none is found.
-use Rattle.std.proofs.Common.{arith, refl}
-use Rattle.wake_table.specs.declared.category.Category.TheVariants.{A}
+use Rattle.std.proofs.Common.{refl, rules, tests, sym, ◌∙◌}
+use Rattle.std.specs.Iterator.Adapters.{map_callee, flatten_source}
+use Rattle.std.proofs.lemmas.Iterator.{YieldsList-from_slice, YieldsList-from_map}
+use Rattle.std.proofs.lemmas.Iterator.Search.{find_from_yields_List}
+use Rattle.std.proofs.lemmas.Iterator.Adapters.{YieldsList-from_flat_map, option_map_id}
 use Rattle.wake_table.specs.Table.{is_out_of_range, pairs_from}
-use Rattle.wake_table.proofs.Firsts.{through_lists, found, next, nowhere}
 use Rattle.wake_table.proofs.table.bad_pair.Goals as goal
 
-pub returns-in-Some : goal.returns-in-Some
-returns-in-Some c = found _ _ (through_lists (is_out_of_range c.args.rows.now) (pairs_from c.args.letters.now)) c.args.letters.now c.loop-leader.leader-index A _ c.loop-leader.invariant (omega arith) (rw (← c.bad_follower.ensures, c.in-Some.is) refl)
-
-pub loop-leader-preserved : goal.loop-leader-preserved
-loop-leader-preserved c = next _ _ (through_lists (is_out_of_range c.args.rows.now) (pairs_from c.args.letters.now)) c.args.letters.now c.loop-leader.leader-index A c.loop-leader.invariant (omega arith) (rw (← c.bad_follower.ensures, c.in_default.is) refl)
-
 pub returns : goal.returns
-returns c = nowhere _ _ (through_lists (is_out_of_range c.args.rows.now) (pairs_from c.args.letters.now)) c.args.letters.now c.loop-leader.leader-index c.loop-leader.invariant (omega arith)
+returns c =
+    sym (option_map_id c.find.result) ∙ find_from_yields_List (is_out_of_range c.args.rows.now) _ _ c.find.result c.find.ensures.ran
+    (YieldsList-from_flat_map _ _ _ (λ x. x) (pairs_from c.args.letters.now) (map_callee (flatten_source c.flat_map.result))
+    (λ x u q k. (search (rules), λ j b. YieldsList-from_map _ (λ follower. (x.now, follower)) (YieldsList-from_slice c.args.letters.now (search (rules))) refl (λ y r q2 k2. search (rules, tests))))
+    (YieldsList-from_slice c.args.letters.now (search (rules))) (cc) (search (rules)) (search (rules)) (search (rules)))
+    (λ x b q k. search (rules, tests))

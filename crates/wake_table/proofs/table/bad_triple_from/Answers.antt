@@ -1,0 +1,15 @@
+use Rattle.std.proofs.Common.{refl, rules, tests, sym, ◌∙◌}
+use Rattle.std.specs.Iterator.Adapters.{map_callee, flatten_source}
+use Rattle.std.proofs.lemmas.Iterator.{YieldsList-from_slice, YieldsList-from_map}
+use Rattle.std.proofs.lemmas.Iterator.Search.{find_from_yields_List}
+use Rattle.std.proofs.lemmas.Iterator.Adapters.{YieldsList-from_flat_map, option_map_id}
+use Rattle.wake_table.specs.Table.{breaks_triangle, triples_from_two}
+use Rattle.wake_table.proofs.table.bad_triple_from.Goals as goal
+
+pub returns : goal.returns
+returns c =
+    sym (option_map_id c.find.result) ∙ find_from_yields_List (breaks_triangle c.args.rows.now) _ _ c.find.result c.find.ensures.ran
+    (YieldsList-from_flat_map _ _ _ (λ x. x) (triples_from_two c.args.letters.now c.args.first) (map_callee (flatten_source c.flat_map.result))
+    (λ middle u q k. (search (rules), λ j b. YieldsList-from_map _ (λ last. (c.args.first, middle.now, last)) (YieldsList-from_slice c.args.letters.now (search (rules))) refl (λ last r q2 k2. search (rules, tests))))
+    (YieldsList-from_slice c.args.letters.now (search (rules))) (cc) (search (rules)) (search (rules)) (search (rules)))
+    (λ x b q k. search (rules, tests))
