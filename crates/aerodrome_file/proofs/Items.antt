@@ -1,9 +1,12 @@
 -- Arrays of values: of six, of any length, and of closures that were read in part.
 use Rattle.std.proofs.Common.{◌≡◌, suc, ℕ, List, [], ◌∷◌, ◌++◌, Result, Ok, Err, length, get_or, None, refl, ap, arith}
 use Rattle.toml.specs.declared.value.Value.{Value}
-use Rattle.toml.specs.View.{items_view}
+use Rattle.std.specs.Prelude.{◌&&◌, Bool, is_some}
+use Rattle.std.specs.List.{list_all}
+use Rattle.toml.specs.Data.{Data, item, table, string, integer, float, boolean, datetime, array, as_table}
+use Rattle.toml.specs.View.{view, items_view}
 use Rattle.aerodrome_file.specs.Separations.{six_of}
-use Rattle.aerodrome_file.specs.Closures.{items_length}
+use Rattle.aerodrome_file.specs.Closures.{are_tables, items_length}
 use Rattle.aerodrome_file.specs.declared.fault.AeroFault.{AeroFault}
 
 pub six_items : (vs : List Value) (a b c d e f : Value) → length vs ≡ 6 → a ≡ get_or vs 0 a → b ≡ get_or vs 1 b → c ≡ get_or vs 2 c → d ≡ get_or vs 3 d → e ≡ get_or vs 4 e → f ≡ get_or vs 5 f
@@ -27,6 +30,23 @@ not_six (v ∷ w ∷ x ∷ y ∷ []) h = refl
 not_six (v ∷ w ∷ x ∷ y ∷ z ∷ []) h = refl
 not_six (v ∷ w ∷ x ∷ y ∷ z ∷ o ∷ []) h = absurd (h refl)
 not_six (v ∷ w ∷ x ∷ y ∷ z ∷ o ∷ l ∷ vs) h = refl
+
+abbrev pub is_table : Value → Bool
+is_table v = is_some (as_table (view v))
+
+-- `are_tables` asks it of each value
+pub tables_view : (vs : List Value) → are_tables (items_view vs) ≡ list_all is_table vs
+tables_view [] = refl
+tables_view (v ∷ vs) = go (view v) (tables_view vs)
+  where
+    go : (d : Data) → are_tables (items_view vs) ≡ list_all is_table vs → are_tables (item d (items_view vs)) ≡ (is_some (as_table d) && list_all is_table vs)
+    go (table ms) ih = ih
+    go (string s) ih = refl
+    go (integer n) ih = refl
+    go (float x) ih = refl
+    go (boolean b) ih = refl
+    go (datetime t) ih = refl
+    go (array ds) ih = refl
 
 pub items_length_view : (vs : List Value) → items_length (items_view vs) ≡ length vs
 items_length_view [] = refl

@@ -16,14 +16,7 @@ use toml::{Table, Value};
 pub(crate) fn are_tables(values: &[Value]) -> bool
     ensures { result ≡ are_tables (items_view values.now) }
 {
-    let mut rest = values;
-    while let [first, after @ ..] = rest {
-        if !first.is_table() {
-            return false;
-        }
-        rest = after;
-    }
-    true
+    values.iter().all(Value::is_table)
 }
 
 // The two seconds of a closure.
