@@ -1,5 +1,5 @@
 // The keys that each part of the file has.
-ghost use Rattle.std.specs.Prelude.{◌≡◌};
+ghost use Rattle.std.specs.Prelude.{◌≡◌, ◌||◌, bytes_eq};
 ghost use Rattle.toml.specs.View.{table_view};
 ghost use Rattle.aerodrome_file.specs.Keys.{is_first_key, is_top_key, is_letter, is_known, only};
 
@@ -34,15 +34,21 @@ fn is_letter(key: &str) -> bool
     Category::read(key.as_bytes()).is_some()
 }
 
+fn is_either(key: &str, first: &str, second: &str) -> bool
+    ensures { result ≡ (bytes_eq key.now first.now || bytes_eq key.now second.now) }
+{
+    key == first || key == second
+}
+
 fn is_known(version: u8, part: Part, key: &str) -> bool
     ensures { result ≡ is_known version part key.now }
 {
     match part {
         Part::Top => is_top_key(version, key),
         Part::Table => is_letter(key),
-        Part::Closure(_) => key == "from" || key == "to",
-        Part::Frozen(_) => key == "callsign" || key == "second",
-        Part::Passed(_) => key == "callsign" || key == "count",
+        Part::Closure(_) => is_either(key, "from", "to"),
+        Part::Frozen(_) => is_either(key, "callsign", "second"),
+        Part::Passed(_) => is_either(key, "callsign", "count"),
     }
 }
 

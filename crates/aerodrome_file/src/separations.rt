@@ -1,5 +1,6 @@
 // The table of separations in the file.
 ghost use Rattle.std.specs.Prelude.{◌≡◌, option_map};
+ghost use Rattle.toml.specs.Data.{get_member};
 ghost use Rattle.toml.specs.View.{view, items_view, table_view};
 ghost use Rattle.aerodrome_file.specs.Separations.{second_of, six_of, row_of, rows_in, table_in};
 
@@ -57,18 +58,25 @@ fn row_of(leader: Category, value: Option<&Value>) -> Result<[u32; 6], AeroFault
     }
 }
 
+// The row of a leader at its key.
+fn row_at(leader: Category, rows: &Table, key: &str) -> Result<[u32; 6], AeroFault>
+    ensures { result ≡ row_of leader (get_member key.now (table_view rows.now)) }
+{
+    row_of(leader, get(rows, key))
+}
+
 // The table of these rows.
 #[tactic(auto, unfolding(crate::specs::Separations::rows_in))]
 fn rows_in(rows: &Table) -> Result<PairTable, AeroFault>
     ensures { result ≡ rows_in (table_view rows.now) }
 {
     only(1, Part::Table, rows)?;
-    let a = row_of(Category::A, get(rows, "A"))?;
-    let b = row_of(Category::B, get(rows, "B"))?;
-    let c = row_of(Category::C, get(rows, "C"))?;
-    let d = row_of(Category::D, get(rows, "D"))?;
-    let e = row_of(Category::E, get(rows, "E"))?;
-    let f = row_of(Category::F, get(rows, "F"))?;
+    let a = row_at(Category::A, rows, "A")?;
+    let b = row_at(Category::B, rows, "B")?;
+    let c = row_at(Category::C, rows, "C")?;
+    let d = row_at(Category::D, rows, "D")?;
+    let e = row_at(Category::E, rows, "E")?;
+    let f = row_at(Category::F, rows, "F")?;
     match PairTable::new([a, b, c, d, e, f]) {
         Ok(table) => Ok(table),
         Err(fault) => Err(AeroFault::Table(fault)),
