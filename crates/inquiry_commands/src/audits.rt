@@ -1,6 +1,7 @@
-ghost use Rattle.std.specs.Prelude.{◌≡◌, ◌≤◌, IfOk, MatchResult, length};
+ghost use Rattle.std.specs.Prelude.{◌≡◌, ◌≤◌, IfOk, MatchResult, length, map};
 ghost use Rattle.landing_rules.specs.Audit.{findings};
 ghost use Rattle.landing_rules.specs.Limits.{most_flights};
+ghost use Rattle.audit.specs.Findings.{finding_of};
 ghost use Rattle.plan_file.specs.Blocks.{seen_block};
 ghost use Rattle.arrivals.specs.Aerodromes.{IsInRange};
 ghost use Rattle.arrivals.specs.Flights.{AreArrivals};
@@ -11,7 +12,7 @@ ghost use Rattle.openings.specs.Plan.{StopsOpened};
 
 use aerodrome_file::read_aerodrome;
 use arrivals::{Aerodrome, Flight};
-use audit::{append_findings, audit};
+use audit::{Finding, append_findings, audit};
 use cps_outside::Sink;
 use endings::{Answer, Ending};
 use flight_file::read_flights;
@@ -20,6 +21,25 @@ use plan_file::{Block, PlanText, read_plan};
 use sequencer::opening;
 use situations::Situation;
 use std::alloc::{AllocError, Global};
+
+// A line for each finding, or that there is none.
+fn report_found(alloc: Global, found: &[Finding]) -> Result<Report, AllocError>
+    ensures text { IfOk result (λ r. r.text.items ≡ report (map finding_of found.now)) }
+    ensures answer { IfOk result (λ r. r.answer ≡ report_answer (map finding_of found.now)) }
+{
+    if found.is_empty() {
+        return Ok(Report {
+            text: Vec::from_slice(alloc, b"ok\n")?,
+            answer: Answer::Clean,
+        });
+    }
+    let mut text = Vec::new(alloc);
+    append_findings(found, &mut text)?;
+    Ok(Report {
+        text,
+        answer: Answer::Broken,
+    })
+}
 
 // What is found of a plan block: a line for each finding, or that there is none.
 fn report_block(alloc: Global, situation: &Situation, block: &Block) -> Result<Report, AllocError>
@@ -31,19 +51,8 @@ fn report_block(alloc: Global, situation: &Situation, block: &Block) -> Result<R
         report_answer (findings situation.now (seen_block block.now))) }
 {
     let found = audit(alloc, situation, block)?;
-    let mut text = Vec::new(alloc);
-    if found.is_empty() {
-        text.extend_from_slice(b"ok\n")?;
-        return Ok(Report {
-            text,
-            answer: Answer::Clean,
-        });
-    }
-    append_findings(&found, &mut text)?;
-    Ok(Report {
-        text,
-        answer: Answer::Broken,
-    })
+    let report = report_found(alloc, &found)?;
+    Ok(report)
 }
 
 // What is found of a plan. That there is none is a claim, which only a certificate shows.
