@@ -1,67 +1,71 @@
-// The tables of worked examples: what a run is given, and what comes of it. A table is a TOML file of this project's own form.
-use serde::Deserialize;
-use std::collections::BTreeMap;
+// A worked example: what a run is given, and what comes of it. It is a table of a TOML file of this project's own form.
+use crate::fields::{needed_number, number_at, text_at};
+use anyhow::{Result, bail};
+use toml::Table;
 
-/// Texts by name, for the cases to share.
-pub(crate) type Texts = BTreeMap<String, String>;
+const KEYS: [&str; 13] = [
+    // What the case shows.
+    "shows",
+    // The words of the command line, with a blank between any two.
+    "words",
+    // The files by their names.
+    "files",
+    // The numbers, from 1, of the loads that fail.
+    "failing_loads",
+    // The numbers, from 1, of the puts to the output that fail, each with the bytes that it takes.
+    "failing_puts",
+    // The same for the standard error.
+    "failing_lines",
+    // What comes of the run.
+    "status",
+    "out",
+    "or",
+    "begins",
+    "ends",
+    "err",
+    "puts",
+];
 
-/// A part of a file.
-#[derive(Drop, Deserialize)]
-#[serde(untagged)]
-pub(crate) enum Part {
-    /// This text; behind an `@` the shared text of that name.
-    Text(String),
-    /// A text so many times.
-    Repeated {
-        /// How often.
-        times: u32,
-        /// The text.
-        text: String,
-    },
+/// Refuses a case with a key that none has.
+pub(crate) fn check_keys(case: &Table) -> Result<()> {
+    for key in case.keys() {
+        if !KEYS.contains(&key.as_str()) {
+            bail!("no case has a key {key}");
+        }
+    }
+    Ok(())
 }
 
-/// A run, and what comes of it.
-#[derive(Drop, Deserialize)]
-#[serde(deny_unknown_fields)]
-pub(crate) struct Case {
-    /// What the case shows.
-    pub(crate) shows: String,
-    /// The words of the command line, with a blank between any two.
-    pub(crate) words: String,
-    /// The files by their names.
-    #[serde(default)]
-    pub(crate) files: BTreeMap<String, Vec<Part>>,
-    /// The numbers, from 1, of the loads that fail.
-    #[serde(default)]
-    pub(crate) failing_loads: Vec<u32>,
-    /// The numbers, from 1, of the puts to the output that fail, each with the bytes that it takes.
-    #[serde(default)]
-    pub(crate) failing_puts: Vec<(u32, u32)>,
-    /// The same for the standard error.
-    #[serde(default)]
-    pub(crate) failing_lines: Vec<(u32, u32)>,
+/// What comes of a run.
+#[derive(Drop)]
+pub(crate) struct Outcome<'a> {
     /// The exit status.
-    pub(crate) status: u8,
+    pub(crate) status: u32,
     /// The whole output, or where two are right, one of them.
-    #[serde(default)]
-    pub(crate) out: String,
+    pub(crate) out: &'a str,
     /// The other one.
-    pub(crate) or: Option<String>,
+    pub(crate) or: Option<&'a str>,
     /// How the output begins, in place of the whole.
-    pub(crate) begins: Option<String>,
+    pub(crate) begins: Option<&'a str>,
     /// How it ends, in place of the whole.
-    pub(crate) ends: Option<String>,
+    pub(crate) ends: Option<&'a str>,
     /// The whole standard error.
-    #[serde(default)]
-    pub(crate) err: String,
+    pub(crate) err: &'a str,
     /// How many puts the output comes in.
-    pub(crate) puts: Option<u64>,
+    pub(crate) puts: Option<u32>,
 }
 
-/// The cases of a file.
-#[derive(Drop, Deserialize)]
-#[serde(deny_unknown_fields)]
-pub(crate) struct Table {
-    /// In the order of the file.
-    pub(crate) cases: Vec<Case>,
+impl<'a> Outcome<'a> {
+    /// What should come of the run of a case.
+    pub(crate) fn of(case: &'a Table) -> Result<Outcome<'a>> {
+        Ok(Outcome {
+            status: needed_number(case, "status")?,
+            out: text_at(case, "out")?.unwrap_or(""),
+            or: text_at(case, "or")?,
+            begins: text_at(case, "begins")?,
+            ends: text_at(case, "ends")?,
+            err: text_at(case, "err")?.unwrap_or(""),
+            puts: number_at(case, "puts")?,
+        })
+    }
 }

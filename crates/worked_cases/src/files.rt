@@ -1,34 +1,38 @@
 // The files of a case.
-use crate::cases::{Case, Part, Texts};
+use crate::fields::{items_at, needed_number, needed_text};
 use anyhow::{Result, bail};
 use std::alloc::Global;
+use toml::{Table, Value};
 
-// Adds a text as it is written in a table.
-fn add_text(texts: &Texts, text: &str, content: &mut Vec<u8>) -> Result<()> {
-    match text.strip_prefix('@') {
-        None => content.extend_from_slice(text.as_bytes())?,
-        Some(name) => match texts.get(name) {
-            Some(shared) => content.extend_from_slice(shared.as_bytes())?,
-            None => bail!("there is no text {name}"),
-        },
+// Adds a text as it is written in a table: behind an `@` the shared text of that name.
+fn add_text(texts: &Table, text: &str, content: &mut Vec<u8>) -> Result<()> {
+    let added = match text.strip_prefix('@') {
+        None => text,
+        Some(name) => needed_text(texts, name)?,
+    };
+    content.extend_from_slice(added.as_bytes())?;
+    Ok(())
+}
+
+// Adds a text so many times.
+fn add_repeated(repeated: &Table, content: &mut Vec<u8>) -> Result<()> {
+    let text = needed_text(repeated, "text")?;
+    for _ in 0..needed_number(repeated, "times")? {
+        content.extend_from_slice(text.as_bytes())?;
     }
     Ok(())
 }
 
 // Adds a part of a file.
-fn add_part(texts: &Texts, part: &Part, content: &mut Vec<u8>) -> Result<()> {
+fn add_part(texts: &Table, part: &Value, content: &mut Vec<u8>) -> Result<()> {
     match part {
-        Part::Text(text) => add_text(texts, text.as_str(), content)?,
-        Part::Repeated { times, text } => {
-            for _ in 0..*times {
-                content.extend_from_slice(text.as_bytes())?;
-            }
-        }
+        Value::String(text) => add_text(texts, text.as_str(), content),
+        Value::Table(repeated) => add_repeated(repeated, content),
+        _ => bail!("a part is a text, or a text so many times"),
     }
-    Ok(())
 }
 
-fn content_of(alloc: Global, texts: &Texts, parts: &[Part]) -> Result<Vec<u8>> {
+fn content_of(alloc: Global, texts: &Table, parts: &[Value]) -> Result<Vec<u8>> {
     let mut content = Vec::new(alloc);
     for part in parts {
         add_part(texts, part, &mut content)?;
@@ -36,15 +40,15 @@ fn content_of(alloc: Global, texts: &Texts, parts: &[Part]) -> Result<Vec<u8>> {
     Ok(content)
 }
 
-/// The files of a case, each with its name.
+/// These files of a case, each with its name.
 pub(crate) fn files_of(
     alloc: Global,
-    texts: &Texts,
-    case: &Case,
+    texts: &Table,
+    named: &Table,
 ) -> Result<Vec<(String, Vec<u8>)>> {
     let mut files = Vec::new(alloc);
-    for (name, parts) in &case.files {
-        let content = content_of(alloc, texts, parts.as_slice())?;
+    for name in named.keys() {
+        let content = content_of(alloc, texts, items_at(named, name.as_str())?)?;
         files.push((String::from_str(alloc, name.as_str())?, content))?;
     }
     Ok(files)

@@ -3,16 +3,17 @@
 #![tactic(auto)]
 
 mod cases;
+mod fields;
 mod files;
 mod runs;
 
-use crate::cases::{Table, Texts};
+use crate::fields::{items_at, needed_text};
 use crate::runs::is_as_shown;
 use anyhow::{Result, bail};
 use cps_outside::{Folder, LoadFault, RealFolder};
-use serde::de::DeserializeOwned;
 use std::rt::Files;
 use std::thread::Threads;
+use toml::{Table, Value};
 
 const TABLES: [&str; 9] = [
     "plans.toml",
@@ -26,39 +27,56 @@ const TABLES: [&str; 9] = [
     "hostile.toml",
 ];
 
-// A file of the folder that the program runs in.
-fn read<T: DeserializeOwned, R: Files + AllocGlobal>(rt: &R, name: &str) -> Result<T> {
+// A table of the folder that the program runs in.
+fn read<R: Files + AllocGlobal>(rt: &R, name: &str) -> Result<Table> {
     let mut folder = RealFolder::new(rt);
     match folder.load(name, 1_000_000) {
-        Ok(bytes) => Ok(toml::from_slice(rt.alloc(), bytes.as_slice())?),
+        Ok(bytes) => Ok(toml::table_from_slice(rt.alloc(), bytes.as_slice())?),
         Err(LoadFault::Failed) => bail!("{name} cannot be read"),
         Err(LoadFault::TooLong) => bail!("{name} is too long"),
         Err(LoadFault::Memory) => bail!("no memory"),
     }
 }
 
-// Runs the cases of a table, and names each that does not end as it should.
+// Runs a case, and names it where it does not end as it should.
+fn run_case<R: Threads + Print + AllocGlobal + Sync>(
+    rt: &R,
+    texts: &Table,
+    name: &str,
+    case: &Value,
+) -> Result<bool> {
+    let Value::Table(case) = case else {
+        bail!("{name}: a case is no table")
+    };
+    let shows = needed_text(case, "shows")?;
+    let is_right = is_as_shown(rt, rt.alloc(), texts, case)?;
+    if !is_right {
+        println!(rt; "{name}: wrong: {shows}")?;
+    }
+    Ok(is_right)
+}
+
+// Runs the cases of a table, and counts those that do not end as they should.
 fn run_table<R: Threads + Files + Print + AllocGlobal + Sync>(
     rt: &R,
-    texts: &Texts,
+    texts: &Table,
     name: &str,
 ) -> Result<()> {
-    let table: Table = read(rt, name)?;
+    let table = read(rt, name)?;
+    let cases = items_at(&table, "cases")?;
     let mut wrong = 0u64;
-    for case in &table.cases {
-        let shows = case.shows.as_str();
-        if !is_as_shown(rt, rt.alloc(), texts, case)? {
+    for case in cases {
+        if !run_case(rt, texts, name, case)? {
             wrong = wrong.saturating_add(1);
-            println!(rt; "{name}: wrong: {shows}")?;
         }
     }
-    let count = table.cases.len();
+    let count = cases.len();
     println!(rt; "{name}: {count} cases, {wrong} wrong")?;
     Ok(())
 }
 
 fn main(rt: HostRuntime) -> Result<()> {
-    let texts: Texts = read(&rt, "texts.toml")?;
+    let texts = read(&rt, "texts.toml")?;
     for name in TABLES {
         run_table(&rt, &texts, name)?;
     }
