@@ -128,6 +128,38 @@ fn shown_answer(
     }
 }
 
+// The problem of a situation, and what is shown for the planner's answer to it.
+fn planned<P: Planner, R: Threads + Sync, G: Gate + Sync, L: Ledger>(
+    rt: &R,
+    alloc: Global,
+    situation: &Situation,
+    planner: &mut P,
+    gate: &G,
+    steps: &mut Steps<L>,
+) -> Result<(Problem, Option<Shown>), AllocError>
+    requires sound { IsSound situation.now }
+    requires same_k { situation.now.aerodrome.k ≡ P.k planner.old }
+    requires plannable { IsWithinShift situation.now.aerodrome.objective
+        situation.now.aerodrome.k }
+    ensures problem { IfOk result (λ planned. IsProblemOf situation.now planned.0) }
+    ensures shown { IfOk result (λ planned. IsPlanShown situation.now
+        (option_map (λ p. p.seconds.items) planned.1)) }
+    ensures plan { IfOk result (λ planned. option_map (λ p. p.plan) planned.1 ≡ plan_shown
+        (record {
+          situation = situation.now;
+          plan = option_map (λ p. p.seconds.items) planned.1;
+        })) }
+    ensures k { P.k planner.new ≡ P.k planner.old }
+    ensures holds { IfOk result (λ planned. P.holds planner.new planned.0) }
+    ensures steps { IfOk result (λ planned. (n : ℕ) × P.due planner.old planned.0 n
+        × (L.count steps.new ≡ raised_by n (L.count steps.old))) }
+{
+    let (problem, order) = posed(alloc, situation)?;
+    let answer = planner.replan(rt, alloc, &problem, gate, steps)?;
+    let shown = shown_answer(alloc, situation, &problem, &order, &answer)?;
+    Ok((problem, shown))
+}
+
 impl<P: Planner> Sequencer<P> {
     /// The plan that is shown. `None` exactly where no schedule is feasible in the situation.
     pub fn plan(&self) -> Option<&Plan>
@@ -192,9 +224,7 @@ impl<P: Planner> Sequencer<P> {
     {
         every_step_keeps_soundness();
         let next = self.situation.after(alloc, seconds_of(&self.shown), event)?;
-        let (problem, order) = posed(alloc, &next)?;
-        let answer = self.planner.replan(rt, alloc, &problem, gate, steps)?;
-        let shown = shown_answer(alloc, &next, &problem, &order, &answer)?;
+        let (problem, shown) = planned(rt, alloc, &next, &mut self.planner, gate, steps)?;
         self.situation = next;
         self.shown = shown;
         self.problem = problem;
@@ -253,9 +283,7 @@ impl<P: Planner> Sequencer<P> {
         ensures steps { IfOk result (λ s. (n : ℕ) × P.due planner s.problem n
             × (L.count steps.new ≡ raised_by n (L.count steps.old))) }
     {
-        let (problem, order) = posed(alloc, &situation)?;
-        let answer = planner.replan(rt, alloc, &problem, gate, steps)?;
-        let shown = shown_answer(alloc, &situation, &problem, &order, &answer)?;
+        let (problem, shown) = planned(rt, alloc, &situation, &mut planner, gate, steps)?;
         Ok(Sequencer {
             situation,
             shown,

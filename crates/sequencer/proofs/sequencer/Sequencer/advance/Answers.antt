@@ -4,15 +4,8 @@ use Rattle.arrivals.specs.Seen.{event_of}
 use Rattle.sequencer.proofs.Kept.{next_sound, next_in_step}
 use Rattle.sequencer.proofs.sequencer.Sequencer.advance.Goals as goal
 
-pub posed-requires : goal.posed-requires
-posed-requires g c =
-    let e = event_of c.args.event.now in
-    next_sound c.every_step_keeps_soundness.ensures.situation _ e c.in_ok-next.next c.self.invariant.sound c.requires.good
-    (ap (λ v. refusal v.state.situation e) c.self.view_is ∙ c.requires.accepted)
-    (c.in_ok-next.ensures ∙ ap (λ p. situation_after c.self.inside.situation p e) c.seconds_of.ensures)
-
-pub shown_answer-requires-clause-sound : goal.shown_answer-requires-clause-sound
-shown_answer-requires-clause-sound g c =
+pub planned-requires-clause-sound : goal.planned-requires-clause-sound
+planned-requires-clause-sound g c = λ lives within.
     let e = event_of c.args.event.now in
     next_sound c.every_step_keeps_soundness.ensures.situation _ e c.in_ok-next.next c.self.invariant.sound c.requires.good
     (ap (λ v. refusal v.state.situation e) c.self.view_is ∙ c.requires.accepted)
@@ -24,7 +17,7 @@ invariant_of-self-2 g c =
     next_in_step c.every_step_keeps_soundness.ensures.situation _ _ c.self.inside.problem _ e c.in_ok-next.next _ _ c.in_ok-problem.problem _ c.self.invariant c.requires.good
     (ap (λ v. refusal v.state.situation e) c.self.view_is ∙ c.requires.accepted)
     (c.in_ok-next.ensures ∙ ap (λ p. situation_after c.self.inside.situation p e) c.seconds_of.ensures)
-    c.in_ok-problem.ensures.problem c.in_ok-shown.ensures.shown c.in_ok-shown.ensures.plan c.replan.ensures.k
+    c.in_ok-problem.ensures.problem c.in_ok-problem.ensures.shown c.in_ok-problem.ensures.plan c.planned.ensures.k
 
 pub returns-clause-step : goal.returns-clause-step
 returns-clause-step g c =
@@ -32,5 +25,5 @@ returns-clause-step g c =
     record {
       changed = c.in_ok-next.ensures ∙ ap (λ p. situation_after c.self.inside.situation p e) c.seconds_of.ensures
           ∙ ap (λ v. situation_after v.state.situation v.state.plan e) c.self.view_is;
-      shown = c.in_ok-shown.ensures.shown;
+      shown = c.in_ok-problem.ensures.shown;
     }
