@@ -1,16 +1,6 @@
 ghost use Rattle.std.specs.Prelude.{◌≡◌, IfOk};
-ghost use Rattle.cps_outside.specs.MemoryFolder.{
-  failing_loads_of,
-  folder_state,
-  fresh_folder,
-  loads_of,
-};
-ghost use Rattle.cps_outside.specs.MemorySink.{
-  failing_puts_of,
-  fresh_sink,
-  puts_of,
-  sink_state,
-};
+ghost use Rattle.cps_outside.specs.MemoryFolder.{failing_loads_of, folder_state, fresh_folder, loads_of};
+ghost use Rattle.cps_outside.specs.MemorySink.{failing_puts_of, fresh_sink, puts_of, sink_state};
 
 use cps_outside::{MemoryFolder, MemorySink};
 use std::alloc::{AllocError, Global};
