@@ -1,4 +1,4 @@
-ghost use Rattle.std.specs.Prelude.{◌≡◌, Some, IfSome, ◌≤◌, length, map, string_bytes};
+ghost use Rattle.std.specs.Prelude.{◌≡◌, ◌==◌, ◌&&◌, Some, IfSome, ◌≤◌, bytes_eq, length, map, string_bytes};
 ghost use Rattle.cps_top.specs.Commands.{IsInRange, command_of, file_count, files_of, number_of, trial_of};
 
 use cps_base::read_number;
@@ -50,6 +50,13 @@ fn read_trial(words: &[String]) -> Option<Command>
     Some(Command::Trial { seed, n, k })
 }
 
+// Whether these are a command's first word and as many words behind it as it has files.
+fn fits(word: &str, rest: &[String], name: &str, files: usize) -> bool
+    ensures { result ≡ (bytes_eq word.now name.now && (length rest.now == files)) }
+{
+    word == name && rest.len() == files
+}
+
 // The command that these words fit.
 pub(crate) fn read_command(words: &[String]) -> Option<Command>
     ensures value { result ≡ command_of (map string_bytes words.now) }
@@ -58,31 +65,32 @@ pub(crate) fn read_command(words: &[String]) -> Option<Command>
     let [word, rest @ ..] = words else {
         return None;
     };
-    if word.as_str() == "plan" && rest.len() == 2 {
+    let word = word.as_str();
+    if fits(word, rest, "plan", 2) {
         return Some(Command::Plan);
     }
-    if word.as_str() == "replay" && rest.len() == 3 {
+    if fits(word, rest, "replay", 3) {
         return Some(Command::Replay);
     }
-    if word.as_str() == "certify" && rest.len() == 2 {
+    if fits(word, rest, "certify", 2) {
         return Some(Command::Certify);
     }
-    if word.as_str() == "check" && rest.len() == 3 {
+    if fits(word, rest, "check", 3) {
         return Some(Command::Check);
     }
-    if word.as_str() == "effort" && rest.len() == 3 {
+    if fits(word, rest, "effort", 3) {
         return Some(Command::Effort);
     }
-    if word.as_str() == "first" && rest.len() == 2 {
+    if fits(word, rest, "first", 2) {
         return Some(Command::First);
     }
-    if word.as_str() == "whatif" && rest.len() == 3 {
+    if fits(word, rest, "whatif", 3) {
         return Some(Command::WhatIf);
     }
-    if word.as_str() == "audit" && rest.len() == 3 {
+    if fits(word, rest, "audit", 3) {
         return Some(Command::Audit);
     }
-    if word.as_str() == "trial" {
+    if word == "trial" {
         return read_trial(rest);
     }
     None
