@@ -1,6 +1,6 @@
 -- A plan block tells its plan, and where it ends.
 use Rattle.std.proofs.Common.{◌≡◌, ℕ, ◌<◌, ◌≤◌, List, [], ◌∷◌, ◌++◌, Bool, true, false, Option, Some, None, refl, sym, ap, ◌∙◌, arith, rules, append_assoc}
-use Rattle.std.specs.Prelude.{◌^◌, ⊤, ◌&&◌, map, codes, decimal}
+use Rattle.std.specs.Prelude.{◌^◌, ⊤, ◌&&◌, not, nat_eq, map, codes, decimal}
 use Rattle.std.specs.Char.{is_ascii_digit}
 use Rattle.std.specs.List.{list_all}
 use Rattle.std.specs.Str.Parse.{digits_value}
@@ -118,26 +118,25 @@ block_same o (Some p) (Some q) u v a b s t e =
 
 -- ---- the lines of a block have no line feed
 
-land_without : IsWithout 10 (codes "land ")
-land_without = ((λ e. cc e), ((λ e. cc e), ((λ e. cc e), ((λ e. cc e), ((λ e. cc e), tt)))))
+differs : (b mark : ℕ) → not (nat_eq b mark) ≡ true → b ≡ mark → ⊥
+differs b mark h e = grind (arith, nat_tests, common_steps)
 
-blank_without : IsWithout 10 (codes " ")
-blank_without = ((λ e. cc e), tt)
+-- a text in which each byte is tested
+all_without : (mark : ℕ) (bs : Bytes) → list_all (λ b. not (nat_eq b mark)) bs ≡ true → IsWithout mark bs
+all_without mark [] h = tt
+all_without mark (b ∷ bs) h = (differs b mark (left_of _ _ h), all_without mark bs (right_of _ _ h))
 
 frozen_without : (b : Bool) → IsWithout 10 (frozen_word b)
-frozen_without true = ((λ e. cc e), ((λ e. cc e), ((λ e. cc e), ((λ e. cc e), ((λ e. cc e), ((λ e. cc e), ((λ e. cc e), tt)))))))
-frozen_without false = ((λ e. cc e), ((λ e. cc e), ((λ e. cc e), ((λ e. cc e), ((λ e. cc e), ((λ e. cc e), ((λ e. cc e), ((λ e. cc e), tt))))))))
-
-none_without : IsWithout 10 (codes "infeasible")
-none_without = ((λ e. cc e), ((λ e. cc e), ((λ e. cc e), ((λ e. cc e), ((λ e. cc e), ((λ e. cc e), ((λ e. cc e), ((λ e. cc e), ((λ e. cc e), ((λ e. cc e), tt))))))))))
+frozen_without true = all_without 10 (frozen_word true) refl
+frozen_without false = all_without 10 (frozen_word false) refl
 
 objective_without : (o : Objective) → IsWithout 10 (objective_word o)
-objective_without Makespan = ((λ e. cc e), ((λ e. cc e), ((λ e. cc e), ((λ e. cc e), ((λ e. cc e), ((λ e. cc e), ((λ e. cc e), ((λ e. cc e), ((λ e. cc e), tt)))))))))
-objective_without Delay = ((λ e. cc e), ((λ e. cc e), ((λ e. cc e), ((λ e. cc e), ((λ e. cc e), ((λ e. cc e), tt))))))
+objective_without Makespan = all_without 10 (objective_word Makespan) refl
+objective_without Delay = all_without 10 (objective_word Delay) refl
 
 landing_line : (f : ShownLanding) → IsName f.callsign → f.second < 2 ^ 64 → IsWithout 10 (landing_words f)
 landing_line f p m =
-    IsWithout-append 10 (codes "land ") _ land_without (IsWithout-append 10 (f.callsign ++ codes " ") _ (IsWithout-append 10 f.callsign _ (name_without 10 f.callsign (omega arith) p) blank_without)
+    IsWithout-append 10 (codes "land ") _ (all_without 10 (codes "land ") refl) (IsWithout-append 10 (f.callsign ++ codes " ") _ (IsWithout-append 10 f.callsign _ (name_without 10 f.callsign (omega arith) p) (all_without 10 (codes " ") refl))
     (IsWithout-append 10 (decimal f.second) _ (decimal_without 10 f.second (omega arith) m) (frozen_without f.frozen)))
 
 pub landing_lines : (fs : List ShownLanding) → AreNamed fs → AreLines (map landing_words fs)
@@ -145,7 +144,7 @@ landing_lines [] h = tt
 landing_lines (f ∷ fs) h = (landing_line f h.0.0 h.0.1, landing_lines fs h.1)
 
 pub block_are_lines : (o : Objective) (p : Option ShownPlan) → IsShowable p → AreLines (block_lines o p)
-block_are_lines o None h = (none_without, tt)
+block_are_lines o None h = (all_without 10 (codes "infeasible") refl, tt)
 block_are_lines o (Some p) h = (IsWithout-append 10 (objective_word o) _ (objective_without o) (decimal_without 10 p.value (omega arith) h.0), landing_lines p.landings h.1)
 
 -- a block tells its plan
