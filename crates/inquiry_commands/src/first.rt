@@ -34,6 +34,15 @@ fn report_plan(alloc: Global, sequencer: &Sequencer<AnyKept>) -> Result<Report, 
     Ok(Report { text, answer })
 }
 
+// The same of a sequencer that has begun.
+fn report_begun(alloc: Global, begun: (Sequencer<AnyKept>, u64)) -> Result<Report, AllocError>
+    requires held { problem_held begun.0.planner ≡ Some begun.0.problem }
+    ensures shows { IfOk result (λ r. ShowsFirstOf begun.0.state.situation r.text.items r.answer) }
+    ensures sound { OnOk result (IsSoundState begun.0.state) }
+{
+    report_plan(alloc, &begun.0)
+}
+
 // The same for what files that are read open.
 fn report_opened<R: Threads + Sync, G: Gate + Sync>(
     rt: &R,
@@ -48,9 +57,8 @@ fn report_opened<R: Threads + Sync, G: Gate + Sync>(
         (λ r. ShowsFirst aerodrome flights.items r.text.items r.answer)
         (StopsOpened aerodrome flights.items) }
 {
-    let (sequencer, _) = begin(rt, alloc, aerodrome, flights, gate)?;
-    let report = report_plan(alloc, &sequencer)?;
-    Ok(report)
+    let begun = begin(rt, alloc, aerodrome, flights, gate)?;
+    Ok(report_begun(alloc, begun)?)
 }
 
 // The same for the bytes of the files.

@@ -28,6 +28,14 @@ fn report_plan<P: Planner>(alloc: Global, sequencer: &Sequencer<P>) -> Result<Re
     Ok(Report { text, answer })
 }
 
+// The same of a sequencer that has begun.
+fn report_begun<P: Planner>(alloc: Global, begun: (Sequencer<P>, u64)) -> Result<Report, AllocError>
+    ensures text { IfOk result (λ r. r.text.items ≡ lines_text (plan_lines begun.0.state)) }
+    ensures answer { IfOk result (λ r. r.answer ≡ answer_of begun.0.state.plan) }
+{
+    report_plan(alloc, &begun.0)
+}
+
 // The same for what files that are read open.
 fn report_opened<R: Threads + Sync, G: Gate + Sync>(
     rt: &R,
@@ -42,9 +50,8 @@ fn report_opened<R: Threads + Sync, G: Gate + Sync>(
         (λ r. Shows aerodrome flights.items r.text.items r.answer)
         (StopsOpened aerodrome flights.items) }
 {
-    let (sequencer, _) = begin(rt, alloc, aerodrome, flights, gate)?;
-    let report = report_plan(alloc, &sequencer)?;
-    Ok(report)
+    let begun = begin(rt, alloc, aerodrome, flights, gate)?;
+    Ok(report_begun(alloc, begun)?)
 }
 
 // The same for the bytes of the files.

@@ -38,6 +38,21 @@ fn report_plan<P: Planner>(
     Ok(Report { text, answer })
 }
 
+// The same of a sequencer that has begun, with the candidates of its planning.
+fn report_begun<P: Planner>(
+    alloc: Global,
+    begun: (Sequencer<P>, u64),
+    n: u8,
+    k: u8,
+) -> Result<Report, AllocError>
+    ensures text { IfOk result (λ r. r.text.items ≡
+        trial_text n k begun.1 begun.0.state.situation.aerodrome.objective
+        (plan_shown begun.0.state)) }
+    ensures answer { IfOk result (λ r. r.answer ≡ answer_of begun.0.state.plan) }
+{
+    report_plan(alloc, &begun.0, n, k, begun.1)
+}
+
 // The same for traffic of n flights under the bound k on shifts.
 fn report_traffic<R: Threads + Sync, G: Gate + Sync>(
     rt: &R,
@@ -58,8 +73,8 @@ fn report_traffic<R: Threads + Sync, G: Gate + Sync>(
 {
     plain_files_open();
     let (aerodrome, flights) = traffic.into_parts();
-    let (sequencer, nodes) = begin(rt, alloc, aerodrome, flights, gate)?;
-    let report = report_plan(alloc, &sequencer, n, k, nodes)?;
+    let begun = begin(rt, alloc, aerodrome, flights, gate)?;
+    let report = report_begun(alloc, begun, n, k)?;
     Ok(report)
 }
 
