@@ -5,7 +5,7 @@ use cps_base::read_number;
 use landing_rules::MOST_WAITING;
 
 /// The commands, each with its first word.
-#[derive(Clone, Copy, Debug, PartialEq, Eq)]
+#[derive(Clone, Copy)]
 pub enum Command {
     /// `plan AERODROME FLIGHTS`.
     Plan,
