@@ -1,11 +1,11 @@
-ghost use Rattle.std.specs.Prelude.{◌≡◌, ◌⊎◌, ◌^◌, ◌<◌, ◌++◌, [], ◌∷◌, ◌==◌, false, IsTrue, IsSome, IfOk, IfSome, IfNone, Some, None, IsErrOf};
+ghost use Rattle.std.specs.Prelude.{◌≡◌, ◌⊎◌, ◌^◌, ◌<◌, ◌++◌, [], ◌∷◌, ◌==◌, ◌||◌, false, is_none, map, string_bytes, OnOk, OnErr, IsTrue, IsSome, IfOk, IfSome, IfNone, Some, None, IsErrOf};
 ghost use Rattle.std.specs.List.{list_any};
 ghost use Rattle.cps_outside.specs.Causes.{Rose};
 ghost use Rattle.cps_outside.specs.FolderState.{IsAfterLoad, IsAbsent, Gives, Exceeds};
 ghost use Rattle.cps_outside.specs.MemoryFolder.{content_in, folder_state, fresh_folder, failing_loads_of, number_of_load, loads_of, is_to_fail};
 
 use crate::{Folder, LoadFault};
-use std::alloc::Global;
+use std::alloc::{AllocError, Global};
 
 /// Files in memory. It tells its contents, and fails at an absent name and at each load whose number, counted from 1,
 /// is listed.
@@ -61,6 +61,33 @@ fn is_listed(failing: &[u32], load: u64) -> bool
     failing.iter().any(|number| u64::from(*number) == load)
 }
 
+// The content that a load of this number gives: none where the load is to fail, or no file has the name.
+fn content_at<'a>(
+    files: &'a [(String, Vec<u8>)],
+    failing: &[u32],
+    load: u64,
+    name: &str,
+) -> Option<&'a [u8]>
+    ensures found { IfSome result (λ bytes. content_in files.now name.now ≡ Some bytes.now) }
+    ensures fails { is_none result ≡ (list_any (λ number. number == load) failing.now
+        || is_none (content_in files.now name.now)) }
+{
+    if is_listed(failing, load) {
+        return None;
+    }
+    content_of(files, name)
+}
+
+// Keeps a name that was asked for.
+fn keep(alloc: Global, asked: &mut Vec<String>, name: &str) -> Result<(), AllocError>
+    ensures kept { OnOk result (map string_bytes asked.new.items
+        ≡ map string_bytes asked.old.items ++ name.now ∷ []) }
+    ensures same { OnErr result (asked.new.items ≡ asked.old.items) }
+{
+    asked.push(String::from_str(alloc, name)?)?;
+    Ok(())
+}
+
 impl Folder for MemoryFolder {
     ghost state = { folder_state };
 
@@ -101,12 +128,9 @@ impl Folder for MemoryFolder {
         let faults_then = self.faults.saturating_add(1);
         let taken = self.taken;
         self.loads = self.loads.saturating_add(1);
-        self.asked.push(String::from_str(self.alloc, name)?)?;
-        if is_listed(self.failing.as_slice(), self.loads) {
-            self.faults = faults_then;
-            return Err(LoadFault::Failed);
-        }
-        let Some(content) = content_of(self.files.as_slice(), name) else {
+        keep(self.alloc, &mut self.asked, name)?;
+        let files = self.files.as_slice();
+        let Some(content) = content_at(files, self.failing.as_slice(), self.loads, name) else {
             self.faults = faults_then;
             return Err(LoadFault::Failed);
         };
