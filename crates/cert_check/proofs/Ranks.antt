@@ -1,17 +1,11 @@
--- What stands at a rank, and one rank more of a sum or of a count.
-use Rattle.std.proofs.Common.{◌≡◌, ℕ, ◌+◌, ◌-◌, ◌≤◌, Bool, cond, ap, arith}
-use Rattle.std.specs.Prelude.{count_by}
-use Rattle.std.proofs.lemmas.List.Sums.{sum_by-cons}
-use Rattle.cps_theory.specs.RankLists.{upto}
-use Rattle.cps_theory.specs.Feasible.{total}
-use Rattle.cps_theory.specs.laws.RanksBelow.{upto_more}
+-- A fold that goes up through the ranks.
+use Rattle.std.proofs.Common.{◌≡◌, ℕ, zero, suc, ◌+◌, ap, ◌∙◌, arith}
+use Rattle.std.specs.List.{fold, range_with_len}
 
-pub one_more : (f : ℕ → ℕ) (r costs cost : ℕ) → 1 ≤ r → costs ≡ total f (upto (r - 1)) → cost ≡ f r → costs + cost ≡ total f (upto (r + 1 - 1))
-one_more f r costs cost one a b = let e = ap (total f) (upto_more r one) in omega arith
-
-pub count_more : (t : ℕ → Bool) (r n : ℕ) (b : Bool) → 1 ≤ r → n ≡ count_by t (upto (r - 1)) → b ≡ t r → n + cond b 1 0 ≡ count_by t (upto (r + 1 - 1))
-count_more t r n b one e is =
-    let more = ap (count_by t) (upto_more r one) in
-    let cut = sum_by-cons (λ (q : ℕ). cond (t q) 1 0) r (upto (r - 1)) in
-    let here = ap (λ (c : Bool). cond {A = ℕ} c 1 0) is in
-    omega arith
+-- what each rank takes one step further is the fold of the steps
+pub ranks_folded : {X : Type 0} (step : X → ℕ → X) (so_far : ℕ → X) → ((n : ℕ) → step (so_far n) (suc n) ≡ so_far (suc n)) → (n : ℕ) → fold step (so_far 0) (range_with_len 1 n) ≡ so_far n
+ranks_folded step so_far more n = from n 0 1 n (omega arith) (omega arith)
+  where
+    from : (m a b c : ℕ) → b ≡ suc a → c ≡ m + a → fold step (so_far a) (range_with_len b m) ≡ so_far c
+    from zero a b c e is = ap so_far (omega arith)
+    from (suc m) a b c e is = ap (λ x. fold step x (range_with_len (b + 1) m)) (ap (step (so_far a)) e ∙ more a) ∙ from m (suc a) (b + 1) c (omega arith) (omega arith)

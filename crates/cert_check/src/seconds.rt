@@ -18,14 +18,10 @@ fn second_of(landings: &[(Callsign, u32)], name: Callsign) -> u32
     ensures value { result ≡ second_of landings.now name }
     ensures small { result ≤ 172799 }
 {
-    let mut rest = landings;
-    while let [(callsign, second), after @ ..] = rest {
-        if *callsign == name {
-            return *second;
-        }
-        rest = after;
-    }
-    0
+    landings
+        .iter()
+        .find(|landing| landing.0 == name)
+        .map_or(0, |landing| landing.1)
 }
 
 pub(crate) fn callsign(problem: &Problem, rank: u8) -> Callsign
@@ -53,24 +49,17 @@ pub(crate) fn place(problem: &Problem, landings: &[(Callsign, u32)], rank: u8) -
     ensures small { result ≤ 61 }
 {
     let own = second(problem, landings, rank);
-    let end = problem.len() + 1;
-    let mut earlier = 0;
-    for other in 1..end {
-        earlier += u8::from(second(problem, landings, other) < own);
-    }
-    earlier + 1
+    let earlier = (1..problem.len() + 1)
+        .filter(|other| second(problem, landings, *other) < own)
+        .count();
+    earlier as u8 + 1
 }
 
 fn greatest(problem: &Problem, landings: &[(Callsign, u32)]) -> u32
     requires { AreLandings landings.now }
     ensures { result ≡ greatest (second problem.now landings.now) (count problem.now) }
 {
-    let end = problem.len() + 1;
-    let mut most = 0;
-    for rank in 1..end {
-        most = second(problem, landings, rank).max(most);
-    }
-    most
+    (1..problem.len() + 1).fold(0, |most, rank| second(problem, landings, rank).max(most))
 }
 
 fn total_cost(problem: &Problem, landings: &[(Callsign, u32)]) -> u64
@@ -79,13 +68,9 @@ fn total_cost(problem: &Problem, landings: &[(Callsign, u32)]) -> u64
         (second problem.now landings.now r)) (upto (count problem.now)) }
     ensures small { result ≤ 17279900 * count problem.now }
 {
-    let end = problem.len() + 1;
-    let mut costs = 0;
-    for rank in 1..end {
-        let second = second(problem, landings, rank);
-        costs += u64::from(problem.cost(rank, second));
-    }
-    costs
+    (1..problem.len() + 1)
+        .map(|rank| u64::from(problem.cost(rank, second(problem, landings, rank))))
+        .sum()
 }
 
 // The objective of the landings, with the frozen flights.
