@@ -83,13 +83,10 @@ fn seconds_in(spans: &[(u32, u32)]) -> u64
     requires { length spans.now ≤ 4 }
     ensures { result ≡ seconds_in spans.now }
 {
-    let mut seconds = 0;
-    let mut rest = spans;
-    while let [(first, last), after @ ..] = rest {
-        seconds += (u64::from(*last) + 1).saturating_sub(u64::from(*first));
-        rest = after;
-    }
-    seconds
+    spans
+        .iter()
+        .map(|(first, last)| (u64::from(*last) + 1).saturating_sub(u64::from(*first)))
+        .sum()
 }
 
 impl WindowSet {
