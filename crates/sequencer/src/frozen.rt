@@ -57,9 +57,5 @@ pub(crate) fn frozen_delay(flights: &[Active]) -> u64
     requires small { All HasSmallDelay flights.now }
     ensures { result ≡ sum_by delay_of flights.now }
 {
-    let mut total: u64 = 0;
-    for i in 0..flights.len() {
-        total += delay(&flights[i]);
-    }
-    total
+    flights.iter().map(delay).sum()
 }

@@ -1,22 +1,13 @@
-use Rattle.std.proofs.Common.{◌≡◌, ◌+◌, get_or, sym, ap, subst, arith}
-use Rattle.std.specs.Prelude.{sum_by, take}
-use Rattle.std.proofs.lemmas.List.Sums.{sum_by_more}
-use Rattle.sequencer.specs.Frozen.{delay_of, HasSmallDelay}
+use Rattle.std.proofs.Common.{◌^◌, rules, arith}
+use Rattle.std.proofs.lemmas.Iterator.{YieldsList-from_slice, YieldsList-from_map}
+use Rattle.std.proofs.lemmas.Iterator.Adapters.{fits_from_length, at_most_from_yields_List}
+use Rattle.std.proofs.lemmas.Iterator.Consumers.{sum_by_from_yields_List}
+use Rattle.landing_rules.specs.Limits.{most_flights}
+use Rattle.sequencer.specs.Frozen.{delay_of}
 use Rattle.sequencer.proofs.frozen.frozen_delay.Goals as goal
 
-pub delay-total-requires : goal.delay-total-requires
-delay-total-requires c =
-    let a = c.index-flights-i.result in
-    subst HasSmallDelay (sym c.index-flights-i.is) (c.requires.small c.loop-i.i a c.loop-i-test.true)
+pub sum-requires-clause-fits : goal.sum-requires-clause-fits
+sum-requires-clause-fits c = fits_from_length _ _ most_flights (2 ^ 64) (at_most_from_yields_List (YieldsList-from_slice c.args.flights.now cc) c.requires.few) c.map.ensures.closure (omega arith) (λ x r q k. search rules)
 
-pub loop-i-preserved : goal.loop-i-preserved
-loop-i-preserved c =
-    let xs = c.args.flights.now in
-    let a = c.index-flights-i.result in
-    let more : sum_by delay_of (take (c.loop-i.i + 1) xs) ≡ sum_by delay_of (take c.loop-i.i xs) + delay_of (get_or xs c.loop-i.i a) = sum_by_more delay_of xs c.loop-i.i a c.loop-i-test.true in
-    let here : delay_of (get_or xs c.loop-i.i a) ≡ delay_of a = ap delay_of (sym c.index-flights-i.is) in
-    let was = c.loop-i.invariant.0 in
-    let small = c.loop-i.invariant.1 in
-    let one = c.delay-total.ensures.value in
-    let few = c.delay-total.ensures.small in
-    (omega arith, omega arith)
+pub returns : goal.returns
+returns c = sum_by_from_yields_List delay_of c.args.flights.now c.map.result _ c.sum.ensures.ran (YieldsList-from_map _ delay_of (YieldsList-from_slice c.args.flights.now (cc)) c.map.ensures.closure (λ x r q k. search rules))
