@@ -2,7 +2,6 @@
 use Rattle.std.proofs.Common.{◌≡◌, ℕ, ◌≤◌, List, [], length, sym, ap, ap₂, subst, ◌∙◌, arith}
 use Rattle.std.specs.Prelude.{ℤ, pos, ◌↔◌}
 use Rattle.std.proofs.lemmas.List.{get_or_default}
-use Rattle.precedence.specs.Pairs.{HasBit}
 use Rattle.landing_rules.specs.Problem.{Problem}
 use Rattle.cps_theory.specs.RankLists.{In}
 use Rattle.cps_theory.specs.LandingTrail.{last_rank, ranks}
@@ -10,7 +9,7 @@ use Rattle.cps_theory.specs.Feasible.{SoundProblem}
 use Rattle.cps_theory.specs.Labels.{NoWorse, Pair}
 use Rattle.cps_theory.specs.LegalPrefix.{Legal}
 use Rattle.cps_theory.specs.Network.{Kept}
-use Rattle.cps_theory.specs.Patterns.{PatternNode, pattern_node}
+use Rattle.cps_theory.specs.Patterns.{PatternNode}
 use Rattle.cps_theory.specs.laws.FrozenFront.{each_fits_distinct}
 use Rattle.cps_theory.specs.laws.LegalPrefix.{in_from_one, legal_each_fits}
 use Rattle.cps_theory.specs.laws.RanksOfList.{few_ranks}
