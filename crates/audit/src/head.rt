@@ -70,11 +70,7 @@ fn total_delay(found: &[Found]) -> u64
     requires small { All HasSmallWeight found.now }
     ensures { result ≡ sum_by delay (map landing_of found.now) }
 {
-    let mut total: u64 = 0;
-    for i in 0..found.len() {
-        total += delay_of(&found[i]);
-    }
-    total
+    found.iter().map(delay_of).sum()
 }
 
 // The objective of the seconds.
