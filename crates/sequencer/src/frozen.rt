@@ -29,11 +29,10 @@ fn later(active: &Active, found: Option<(u32, Category)>) -> Option<(u32, Catego
 pub(crate) fn last_frozen(flights: &[Active]) -> Option<(u32, Category)>
     ensures { result ≡ latest flights.now }
 {
-    let mut found: Option<(u32, Category)> = None;
-    for i in (0..flights.len()).rev() {
-        found = later(&flights[i], found);
-    }
-    found
+    flights
+        .iter()
+        .rev()
+        .fold(None, |found, active| later(active, found))
 }
 
 // What the flight's frozen landing costs, and 0 where it waits.
