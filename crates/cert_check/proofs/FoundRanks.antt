@@ -1,15 +1,19 @@
 -- What `find` over a range finds is the first number that passes.
-use Rattle.std.proofs.Common.{◌≡◌, ℕ, zero, suc, ◌+◌, ◌<◌, ◌≤◌, Bool, true, false, Option, Some, None, sym, ap, ◌∙◌, arith, inl, inr}
+use Rattle.std.proofs.Common.{◌≡◌, ℕ, zero, suc, ◌+◌, ◌<◌, ◌≤◌, Bool, true, false, Option, Some, None, refl, sym, ap, ◌∙◌, arith, inl, inr}
 use Rattle.std.specs.Option.{MatchOption}
 use Rattle.std.specs.declared.ops.Range.{Range}
 use Rattle.std.specs.Iterator.{FindsItem}
 use Rattle.std.specs.Fn.{CalledAt}
 use Rattle.std.proofs.iter.Yields.{nat_range_steps}
 use denote.Ref.{Bor}
-use denote.Param.Members.{Mut}
+use denote.Param.Members.{Mut, Called}
 use Rattle.std.proofs.lemmas.Bool.{cases_eq}
-use Rattle.std.proofs.lemmas.Iterator.{first_from_Range}
-use Rattle.cps_theory.specs.FirstFound.{first_from}
+use Rattle.std.proofs.lemmas.Iterator.{first_from_Range, YieldsList-from_range}
+use Rattle.std.specs.Iterator.Runs.{SomeRun, AllItemsGive, IsFirstToGive}
+use Rattle.std.specs.Option.{option_or}
+use Rattle.std.specs.List.{range_with_len}
+use Rattle.cps_base.specs.laws.FindMap.{first_answer, first_answer_from_find_map}
+use Rattle.cps_theory.specs.FirstFound.{first_from, first_pair_from, with_number}
 use Rattle.cps_theory.specs.laws.FirstFound.{none_from}
 
 first_at : (test : ℕ → Bool) (x m y : ℕ) → x ≤ y → y < x + m → test y ≡ true → ((k : ℕ) → x ≤ k → k < y → test k ≡ false) → Some y ≡ first_from test x m
@@ -27,3 +31,17 @@ found_in_range test m s u f r e ran calls =
     by : (o : Option ℕ) → MatchOption o ((k : ℕ) → s.start ≤ k → k < s.end → test k ≡ false) (λ i. (s.start ≤ i) × (i < s.end) × (test i ≡ true) × ((k : ℕ) → s.start ≤ k → k < i → test k ≡ false)) → o ≡ first_from test s.start m
     by None h = sym (none_from test s.start m (λ y a b. h y a (omega (arith, e))))
     by (Some i) h = first_at test s.start m i h.0 (omega (arith, e, h.1)) h.2 h.3
+
+ranks_answer : (find : ℕ → Option ℕ) (x m : ℕ) → first_answer (λ y. with_number y (find y)) (range_with_len x m) ≡ first_pair_from find x m
+unfolding first_answer
+ranks_answer find x zero = refl
+ranks_answer find x (suc m) =
+    let one : x + 1 ≡ suc x = omega arith in
+    ap (λ y. option_or (with_number x (find x)) (first_answer (λ z. with_number z (find z)) (range_with_len y m))) one ∙ ap (option_or (with_number x (find x))) (ranks_answer find (suc x) m)
+
+-- what `find_map` over a range finds is the first number for which another is found, with that other
+pub pair_in_range : {F : Type 0} {g : Mut F (ℕ × Unit {0}) (Option (ℕ × ℕ))} (find : ℕ → Option ℕ) (m : ℕ) (s : Range ℕ) (f : F) (r : Option (ℕ × ℕ)) → s.end ≡ s.start + m
+    → SomeRun nat_range_steps s (λ p. MatchOption r ((p.whole ≡ true) × AllItemsGive p g f None) (λ y. (i : ℕ) × (i < p.len) × (p.len ≡ i + 1) × IsFirstToGive p g f (Some y) None i))
+    → ((x : ℕ) (b : Option (ℕ × ℕ)) (q : F) → Called g f (x, tt) b q → (q ≡ f) × (b ≡ with_number x (find x))) → r ≡ first_pair_from find s.start m
+pair_in_range find m s f r e runs calls =
+    first_answer_from_find_map (λ x. with_number x (find x)) f calls r runs (YieldsList-from_range s.start s.end m refl (omega (arith, e))) ∙ ranks_answer find s.start m

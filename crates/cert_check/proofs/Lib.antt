@@ -4,7 +4,6 @@ pub mod Bytes
 pub mod Digits
 pub mod Order
 pub mod Pairs
-pub mod Ranks
 pub mod FoundRanks
 pub mod FoundNumbers
 pub mod Shapes

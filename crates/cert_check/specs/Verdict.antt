@@ -1,5 +1,5 @@
 -- When a certificate holds for a problem, which condition fails first, and the verdict.
-use Rattle.std.specs.Prelude.{◌≡◌, ℕ, ◌==◌, List, Option, Some, None, option_map, if◌then◌else◌}
+use Rattle.std.specs.Prelude.{ℕ, ◌==◌, List, Option, Some, None, option_map, if◌then◌else◌}
 use Rattle.std.specs.Option.{option_or}
 use Rattle.landing_rules.specs.Problem.{Problem, list_objective}
 use Rattle.cps_theory.specs.FirstFound.{first_from, first_pair_from}
@@ -50,10 +50,6 @@ state_reason p c ss =
 -- the first condition that fails
 unfoldable pub failure : Problem → Cert → Option Reason
 failure p c = option_or (flights_reason p c.claim c.landings) (option_or (claim_reason p c.claim c.landings) (state_reason p c.claim c.states))
-
--- none fails
-abbrev pub Holds : Problem → Cert → Type 0
-Holds p c = failure p c ≡ None
 
 -- what is claimed, where none fails
 abbrev pub verdict_by : Claim → Option Reason → Verdict

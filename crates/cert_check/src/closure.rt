@@ -1,14 +1,13 @@
 // Which successor pairs the states leave out.
-ghost use Rattle.std.specs.Prelude.{◌≡◌, ◌≤◌, ◌<◌, ◌+◌, ◌-◌, ◌∷◌, [], true, false, length, Some, None, nat_le};
+ghost use Rattle.std.specs.Prelude.{◌≡◌, ◌≤◌, ◌<◌, ◌+◌, ◌-◌, true, false, length, Some, None, nat_le};
 ghost use Rattle.std.specs.List.{list_any, list_all};
 ghost use Rattle.std.specs.List.Sorted.{IsBinarySearchResult, IsSearchInRange};
 ghost use Rattle.landing_rules.specs.Rules.{last_second};
 ghost use Rattle.cps_theory.specs.Labels.{no_worse};
-ghost use Rattle.cps_theory.specs.Patterns.{pattern_push};
 ghost use Rattle.cps_theory.specs.CertificateClosure.{node_cmp};
-ghost use Rattle.certificate.specs.States.{AreAscending, AreStates, is_pair, rises};
+ghost use Rattle.certificate.specs.States.{AreAscending, is_pair, rises};
 ghost use Rattle.cert_check.specs.Landings.{count};
-ghost use Rattle.cert_check.specs.States.{node_of, ready, rules_of, successor, covers, is_missed, misses, first_missed, missed_from, successor_failure, shape_failure, is_misshapen, start_node};
+ghost use Rattle.cert_check.specs.States.{node_of, ready, successor, covers, is_missed, misses, first_missed, missed_from, successor_failure, shape_failure, is_misshapen, start_node};
 ghost use Rattle.cert_check.specs.Seen.{seen};
 
 use crate::node::{Node, compare, node_of, pushed, start_node};
@@ -166,12 +165,10 @@ fn missed_state(problem: &Problem, states: &[CertState]) -> Option<(u32, u8)>
     requires shaped { shape_failure problem.now states.now ≡ None }
     ensures { result ≡ missed_from problem.now states.now 1 states.now }
 {
-    for at in 0..states.len() {
-        if let Some(rank) = missed_at(problem, states, &states[at]) {
-            return Some((at as u32 + 1, rank));
-        }
-    }
-    None
+    states.iter().enumerate().find_map(|(at, state)| {
+        let rank = missed_at(problem, states, state)?;
+        Some((at as u32 + 1, rank))
+    })
 }
 
 // The first state and rank whose successor pair is not covered, the start being state 0.

@@ -146,13 +146,10 @@ pub(crate) fn first_close_pair(problem: &Problem, landings: &[(Callsign, u32)]) 
     ensures { result ≡ first_pair_from (first_too_close problem.now landings.now) 1
         (count problem.now) }
 {
-    let end = problem.len() + 1;
-    for rank in 1..end {
-        if let Some(other) = first_too_close(problem, landings, rank) {
-            return Some((rank, other));
-        }
-    }
-    None
+    (1..problem.len() + 1).find_map(|rank| {
+        let other = first_too_close(problem, landings, rank)?;
+        Some((rank, other))
+    })
 }
 
 fn first_out_of_order(problem: &Problem, landings: &[(Callsign, u32)], rank: u8) -> Option<u8>
@@ -172,11 +169,8 @@ pub(crate) fn first_unordered_pair(
     ensures { result ≡ first_pair_from (first_out_of_order problem.now landings.now) 1
         (count problem.now) }
 {
-    let end = problem.len() + 1;
-    for rank in 1..end {
-        if let Some(other) = first_out_of_order(problem, landings, rank) {
-            return Some((rank, other));
-        }
-    }
-    None
+    (1..problem.len() + 1).find_map(|rank| {
+        let other = first_out_of_order(problem, landings, rank)?;
+        Some((rank, other))
+    })
 }

@@ -1,9 +1,8 @@
 // A stage of a landing order with its pattern and its last rank, and the node behind it by one more rank.
-ghost use Rattle.std.specs.Prelude.{◌≡◌, ◌≤◌, ◌<◌, ◌*◌, ◌+◌, ◌-◌, suc, [], false, length, get_or};
+ghost use Rattle.std.specs.Prelude.{◌≡◌, ◌≤◌, ◌<◌, ◌*◌, ◌+◌, ◌-◌, suc, [], length};
 ghost use Rattle.cps_theory.specs.Patterns.{pattern_digit, pattern_node, pattern_push, tests_from};
 ghost use Rattle.cps_theory.specs.CertificateClosure.{is_placed_by_pattern, node_cmp};
 ghost use Rattle.certificate.specs.Patterns.{bits};
-ghost use Rattle.cert_check.specs.Landings.{count};
 ghost use Rattle.cert_check.specs.States.{digit, node_of, rules_of};
 ghost use Rattle.cert_check.specs.Seen.{seen, pushed_digit};
 

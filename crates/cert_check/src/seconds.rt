@@ -1,5 +1,5 @@
 // The second at which the landings let a rank land, and what all of them are worth.
-ghost use Rattle.std.specs.Prelude.{◌≡◌, ◌≤◌, ◌-◌, ◌*◌, ◌+◌, length, bytes_eq, count_by, slice_get, Some};
+ghost use Rattle.std.specs.Prelude.{◌≡◌, ◌≤◌, ◌-◌, ◌*◌, ◌+◌, slice_get, Some};
 ghost use Rattle.landing_rules.specs.Problem.{list_objective};
 ghost use Rattle.cps_theory.specs.RankLists.{upto};
 ghost use Rattle.cps_theory.specs.Feasible.{earlier, greatest, total};

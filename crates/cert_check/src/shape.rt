@@ -1,9 +1,8 @@
 // The shape of the states, and the states of the last stage.
 ghost use Rattle.std.specs.Prelude.{◌≡◌, ◌≤◌, ◌<◌, ◌+◌, ◌*◌, length, count_by, nat_lt};
-ghost use Rattle.std.specs.List.{list_any, list_all};
+ghost use Rattle.std.specs.List.{list_any};
 ghost use Rattle.cps_theory.specs.FirstFound.{first_from, element_from};
 ghost use Rattle.landing_joint.specs.RankedProblem.{value_at};
-ghost use Rattle.certificate.specs.States.{is_pair};
 ghost use Rattle.cert_check.specs.Landings.{count};
 ghost use Rattle.cert_check.specs.States.{digit, is_one, is_wrong_digit, is_shaped, is_misshapen, node_of, shape_failure, is_final, is_final_below, final_failure};
 ghost use Rattle.cert_check.specs.Seen.{seen};

@@ -1,5 +1,5 @@
 -- One window more is gathered.
-use Rattle.std.proofs.Common.{◌≡◌, ℕ, zero, suc, ◌+◌, ◌*◌, ◌<◌, ◌≤◌, ◌^◌, ◌⊎◌, inl, inr, List, [], ◌∷◌, length, set, replicate, Bool, refl, sym, ap, ap₂, subst, ◌∙◌, arith}
+use Rattle.std.proofs.Common.{◌≡◌, ℕ, zero, suc, ◌+◌, ◌<◌, ◌≤◌, ◌⊎◌, inl, inr, List, [], ◌∷◌, length, set, replicate, Bool, refl, sym, ap, ap₂, subst, ◌∙◌, arith}
 use Rattle.std.specs.Prelude.{ℤ, All}
 use Rattle.std.proofs.lemmas.Bool.{cases_eq}
 use Rattle.std.proofs.lemmas.List.{get_or_default}
@@ -81,26 +81,7 @@ none_there zero i = refl
 none_there (suc n) zero = refl
 none_there (suc n) (suc i) = none_there n i
 
-none_in : (xs : List Pair) (q : Pair) → xs ≡ [] → InPairs q xs → ⊥
-none_in [] q e i = i
-none_in (x ∷ xs) q e i = absurd (let l = ap length e in omega (arith, l))
-
-none_all : (xs : List Pair) → xs ≡ [] → All IsInRange xs
-none_all [] e = λ i d lt. absurd (omega (arith, lt))
-none_all (x ∷ xs) e = absurd (let l = ap length e in omega (arith, l))
-
 module _ (p : Problem) (stage : ℕ × List (List ℤ)) (lists : List (List Pair)) where
-  -- no window yet
-  pub none_gathered : (slots : List (List Pair)) → slots ≡ replicate (8 * 2 ^ (2 * p.k)) [] → length slots ≡ 8 * 2 ^ (2 * p.k) → AreGathered p stage lists 0 slots
-  none_gathered slots e long =
-      let none = λ (i : ℕ). ap (λ l. list_at l i) e ∙ none_there (8 * 2 ^ (2 * p.k)) i in
-      record {
-        room = long;
-        found = λ slot q i. absurd (none_in (list_at slots slot) q (none slot) i);
-        covers = λ slot d q at has e. absurd (let lt = e.1 in omega (arith, lt));
-        in_range = λ slot. none_all (list_at slots slot) (none slot);
-      }
-
   module _ (h : HoldsCosts p stage lists) (count : ℕ) (within : count < length stage.1) (slots : List (List Pair)) (g : AreGathered p stage lists count slots) (slot : ℕ) (here : PatternNode) (at : here.0 ≡ stage.0) (has : HasSlot p.k here slot) (of : IsWindowOf p stage.0 (node_at stage.1 count) here) (list : List Pair) (into : (q : Pair) → InPairs q list → InPairs q (list_at slots slot) ⊎ InPairs q (list_at lists count)) (keeps : (q : Pair) → InPairs q (list_at slots slot) ⊎ InPairs q (list_at lists count) → (o : Pair) × InPairs o list × NoWorse o q) (ranged : All IsInRange (list_at slots slot) → All IsInRange list) where
     lt : slot < length slots
     lt = let a = has.within in let b = g.room in omega (arith, a, b)

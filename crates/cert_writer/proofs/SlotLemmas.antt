@@ -185,10 +185,6 @@ number_slot k d n ones h turned low =
       within = let few : n % 8 < 8 = omega arith in omega (arith, few, low);
     }
 
--- the node with turned digits has the number
-pub turned_number : (k stage last n ones : ℕ) → number_of (bits (2 * k) ones) ≡ n / 8 → last + k ≡ n % 8 + stage → HasNumber k (stage, bits (2 * k) ones, last) n
-turned_number k stage last n ones turned at = record { digits = length_bits (2 * k) ones; pattern = turned; last = at }
-
 -- a node near its stage has a number
 pub number_near : (k : ℕ) (d : PatternNode) → k ≤ 3 → length d.1 ≡ 2 * k → d.0 ≤ d.2 + k → d.2 ≤ d.0 + k → (n : ℕ) × (n < 8 * 2 ^ (2 * k)) × HasNumber k d n
 number_near k d few long low high =

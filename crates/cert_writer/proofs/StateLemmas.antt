@@ -81,16 +81,6 @@ module _ (k : ℕ) (Entry : PatternNode → Pair → Type 0) (stage number : ℕ
       past s (inl lt) = omega (arith, lt)
       past s (inr r) = let at = r.0 in omega (arith, at)
 
--- before the first stage nothing is written
-pub none_written : (k : ℕ) (Entry : PatternNode → Pair → Type 0) → AreWrittenBelow k Entry 1 0 []
-none_written k Entry = record {
-  each = λ i d lt. absurd (omega (arith, lt));
-  every = λ d q one b e. elim b [ inl lt ↦ absurd (omega (arith, lt, one)) | inr r ↦ absurd (let lt = r.2 in omega (arith, lt)) ];
-  ascending = tt;
-  below = λ i d lt. absurd (omega (arith, lt));
-  in_range = λ i d lt. absurd (omega (arith, lt));
-}
-
 -- with all stages all entries are held
 pub all_written : (k : ℕ) (Entry : PatternNode → Pair → Type 0) (last : ℕ) (ss : List State) → AreWrittenBelow k Entry (last + 1) 0 ss → ((d : PatternNode) (q : Pair) → Entry d q → d.0 ≤ last) → HoldAllEntries Entry ss
 all_written k Entry last ss w ends = record {

@@ -1,13 +1,9 @@
 -- One more line of the text, and a line at which it fails.
-use Rattle.std.proofs.Common.{◌≡◌, ℕ, ◌+◌, ◌<◌, length, arith, List, [], ◌∷◌, Result, Ok, Err, inl, inr, refl}
+use Rattle.std.proofs.Common.{◌≡◌, ℕ, ◌<◌, length, arith, List, [], ◌∷◌, Result, Ok, Err, inl, inr, refl}
 use Rattle.cps_base.specs.Answers.{Fails}
 use Rattle.certificate.specs.declared.certificate.Claim.{Claim}
 use Rattle.certificate.specs.declared.fault.CertFault.{CertFault}
 use Rattle.certificate.specs.Reading.{Cert, Body, line_in, lines_in, memory_fault}
-
-pub line_more : (n : ℕ) (c : Claim) (b b' : Body) (line next : List ℕ) (rest : List (List ℕ)) → line_in n b line ≡ Ok b' → lines_in n c b line (next ∷ rest) ≡ lines_in (n + 1) c b' next rest
-unfolding lines_in
-line_more n c b b' line next rest e = rw e refl
 
 pub line_stop : (n : ℕ) (c : Claim) (b : Body) (line : List ℕ) (e : CertFault) (rest : List (List ℕ)) (next : List ℕ) → line_in n b line ≡ Err e → lines_in n c b line (next ∷ rest) ≡ Err e
 unfolding lines_in

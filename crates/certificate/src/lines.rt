@@ -4,7 +4,7 @@ ghost use Rattle.landing_rules.specs.Limits.{most_waiting};
 ghost use Rattle.certificate.specs.Patterns.{is_pattern_length};
 ghost use Rattle.certificate.specs.States.{rises, is_pair};
 ghost use Rattle.certificate.specs.Reading.{IsClaim};
-ghost use Rattle.text_parts.specs.Parts.{parts, parts_left, number_in};
+ghost use Rattle.text_parts.specs.Parts.{parts_left, number_in};
 ghost use Rattle.certificate.specs.Lines.{is_mark, are_marks, is_digit, pattern_in, pair_in, pairs_in, state_with, state_from, state_in, landing_in, claim_in};
 
 use crate::certificate::Claim;

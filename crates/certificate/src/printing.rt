@@ -2,7 +2,7 @@
 ghost use Rattle.std.specs.Prelude.{◌≡◌, ◌++◌, ◌∷◌, Ok, OnOk, codes, decimal};
 ghost use Rattle.appending.specs.Appends.{Appends};
 ghost use Rattle.certificate.specs.Reading.{certificate_of};
-ghost use Rattle.certificate.specs.Spelling.{digit_text, pattern_text, pair_text, pairs_text, state_text, landing_text, claim_text, landing_lines, state_lines, text_of};
+ghost use Rattle.certificate.specs.Spelling.{digit_text, pattern_text, pairs_text, state_text, claim_text, landing_lines, state_lines, text_of};
 
 use crate::certificate::{Certificate, Claim};
 use crate::pattern::Pattern;

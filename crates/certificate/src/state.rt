@@ -1,7 +1,6 @@
-ghost use Rattle.std.specs.Prelude.{◌≡◌, true, ◌≤◌, length, vec_len};
-ghost use Rattle.std.specs.List.{list_all};
+ghost use Rattle.std.specs.Prelude.{◌≡◌, ◌≤◌};
 ghost use Rattle.landing_rules.specs.Limits.{most_waiting};
-ghost use Rattle.certificate.specs.States.{IsState, state_cmp, comes_before, is_pair, rises};
+ghost use Rattle.certificate.specs.States.{IsState, state_cmp, comes_before};
 
 use crate::pattern::Pattern;
 use std::cmp::Ordering;

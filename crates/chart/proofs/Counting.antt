@@ -1,10 +1,10 @@
 -- How many rows a picture has.
-use Rattle.std.proofs.Common.{◌≡◌, ℕ, ◌+◌, ◌≤◌, Bool, true, false, cond, List, [], ◌∷◌, ◌++◌, length, map, refl, sym, ap, ◌∙◌, arith, length-append}
+use Rattle.std.proofs.Common.{◌≡◌, ◌+◌, ◌≤◌, Bool, true, false, cond, List, [], ◌∷◌, length, map, refl, arith, length-append}
 use Rattle.std.proofs.lemmas.List.{length-map}
 use Rattle.landing_rules.specs.Flights.{Active}
 use Rattle.landing_rules.specs.Text.{ShownLanding}
 use Rattle.landing_rules.specs.Audit.{has_line}
-use Rattle.chart.specs.Rows.{Row, insert_line, inserted, in_order, is_above, landed_row, missing_rows, rows_of, waiting_row}
+use Rattle.chart.specs.Rows.{insert_line, inserted, in_order, is_above, landed_row, missing_rows, rows_of, waiting_row}
 
 one_more : (l : ShownLanding) (xs : List ShownLanding) → length (insert_line l xs) ≡ length xs + 1
 one_more l [] = refl

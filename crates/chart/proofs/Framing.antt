@@ -1,12 +1,12 @@
 -- All that the rows draw is in the frame.
-use Rattle.std.proofs.Common.{◌≡◌, ℕ, ◌≤◌, Bool, true, false, cond, List, [], ◌∷◌, arith}
-use Rattle.std.specs.Prelude.{⊤, Option, Some, None, ◌==◌, min, max}
+use Rattle.std.proofs.Common.{ℕ, ◌≤◌, Bool, true, false, cond, List, [], ◌∷◌, arith}
+use Rattle.std.specs.Prelude.{Option, Some, None, ◌==◌}
 use Rattle.std.specs.List.{AllByRecursion}
 use Rattle.landing_rules.specs.Flights.{Span, Active}
 use Rattle.landing_rules.specs.Text.{ShownLanding}
 use Rattle.chart.specs.declared.frame.Frame.{Frame}
 use Rattle.chart.specs.Rows.{Row}
-use Rattle.chart.specs.Frames.{empty, first_of, frame_of, widened, with_active, with_horizon, with_landing, with_row, with_rows, with_windows}
+use Rattle.chart.specs.Frames.{empty, frame_of, widened, with_active, with_horizon, with_landing, with_row, with_rows, with_windows}
 use Rattle.chart.specs.Laws.{FrameLaw, Holds, HoldsFlight, HoldsLanding, HoldsRow, HoldsWindow}
 
 -- the seconds from the first to the last

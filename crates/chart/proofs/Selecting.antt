@@ -1,12 +1,10 @@
 -- What a picture holds of one kind of element.
-use Rattle.std.proofs.Common.{◌≡◌, ℕ, ◌+◌, ◌-◌, Bool, true, false, cond, List, [], ◌∷◌, ◌++◌, length, map, refl, sym, ap, ◌∙◌, append_assoc, append-nil}
+use Rattle.std.proofs.Common.{◌≡◌, ℕ, ◌+◌, ◌-◌, Bool, true, false, cond, List, [], ◌∷◌, ◌++◌, length, map, refl, ap, ◌∙◌, append-nil}
 use Rattle.std.specs.Prelude.{Option, Some, None, flat_map, nat_le, ◌==◌}
 use Rattle.std.proofs.lemmas.List.Concat.{flat_map-append}
 use Rattle.landing_rules.specs.Flights.{Callsign, Span, Active, Situation, horizon}
 use Rattle.landing_rules.specs.Text.{ShownLanding}
 use Rattle.landing_rules.specs.Audit.{Finding, findings}
-use Rattle.plan_file.specs.declared.block.Block.{Block}
-use Rattle.plan_file.specs.declared.plan.PlanText.TheVariants as plans
 use Rattle.plan_file.specs.Blocks.{seen_block}
 use Rattle.chart.specs.declared.element.Element.{Element}
 use Rattle.chart.specs.declared.element.Element.TheVariants as element
@@ -18,9 +16,9 @@ use Rattle.chart.specs.Places.{spot, step_of, multiple_from, x_of}
 use Rattle.chart.specs.Rows.{Row, rows_of, is_flagged, landed_row, missing_rows, in_order, waiting_row}
 use Rattle.landing_rules.specs.Audit.{has_line}
 use Rattle.chart.specs.Frames.{frame_of, span_of, first_of}
-use Rattle.chart.specs.Elements.{windows_drawn, flight_drawn, delay_drawn, owed_drawn, owed_behind, owed_to, landing_drawn, row_drawn, rows_drawn, labels_drawn, label_of, closures_drawn, ticks_from, ticks_drawn, twelve, horizon_drawn, horizon_said}
+use Rattle.chart.specs.Elements.{windows_drawn, flight_drawn, delay_drawn, owed_drawn, owed_behind, landing_drawn, row_drawn, rows_drawn, labels_drawn, label_of, closures_drawn, ticks_from, ticks_drawn, twelve, horizon_drawn, horizon_said}
 use Rattle.chart.specs.Pictures.{field_drawn, drawn, lines_below}
-use Rattle.chart.specs.Laws.{MarksLaw, WindowsLaw, ClosuresLaw, marks_in, marked, Marked, windows_in, window_bar, window_bars, row_windows, Bar, closures_in, block_span}
+use Rattle.chart.specs.Laws.{MarksLaw, WindowsLaw, ClosuresLaw, marks_in, marked, Marked, windows_in, window_bar, window_bars, row_windows, closures_in, block_span}
 
 -- ---- lists
 

@@ -1,5 +1,5 @@
 -- The rows of a picture are those of the situation and the lines, and its parts stand one behind another.
-use Rattle.std.proofs.Common.{◌≡◌, ℕ, ◌+◌, ◌-◌, List, [], ◌∷◌, ◌++◌, length, sym, ap, ap₂, ◌∙◌, append_assoc}
+use Rattle.std.proofs.Common.{◌≡◌, ℕ, ◌+◌, ◌-◌, List, [], ◌∷◌, ◌++◌, length, sym, ap, ap₂, ◌∙◌}
 use Rattle.landing_rules.specs.Flights.{Active, Situation, Span, horizon}
 use Rattle.landing_rules.specs.Text.{ShownLanding}
 use Rattle.landing_rules.specs.Audit.{Finding}

@@ -1,5 +1,5 @@
 -- The elements of the rows, and those over all rows.
-use Rattle.std.specs.Prelude.{ℕ, ◌+◌, ◌-◌, ◌*◌, ◌==◌, Bool, ◌&&◌, List, [], ◌∷◌, ◌++◌, Option, Some, None, nat_le, if◌then◌else◌}
+use Rattle.std.specs.Prelude.{ℕ, ◌+◌, ◌-◌, ◌==◌, Bool, List, [], ◌∷◌, ◌++◌, Option, Some, None, nat_le, if◌then◌else◌}
 use Rattle.wake_table.specs.declared.category.Category.{Category}
 use Rattle.wake_table.specs.Table.{separation}
 use Rattle.landing_rules.specs.Flights.{Callsign, Span, Active, is_waiting}
@@ -8,7 +8,6 @@ use Rattle.landing_rules.specs.Audit.{Finding}
 use Rattle.chart.specs.declared.element.Element.{Element}
 use Rattle.chart.specs.declared.element.Element.TheVariants as element
 use Rattle.chart.specs.declared.element.Label.{Label}
-use Rattle.chart.specs.declared.element.Look.{Look}
 use Rattle.chart.specs.Places.{spot, step_of, multiple_from}
 use Rattle.chart.specs.Rows.{Row, rank_in, place_in, is_flagged}
 

@@ -1,5 +1,6 @@
 -- Which seconds a picture shows.
-use Rattle.std.specs.Prelude.{ℕ, ◌-◌, ◌==◌, min, max, List, [], ◌∷◌, Option, Some, None, if◌then◌else◌}
+use Rattle.std.specs.Prelude.{ℕ, ◌-◌, ◌==◌, min, max, List, Option, Some, None, if◌then◌else◌}
+use Rattle.std.specs.List.{fold}
 use Rattle.landing_rules.specs.Flights.{Span, Active}
 use Rattle.landing_rules.specs.Text.{ShownLanding}
 use Rattle.chart.specs.declared.frame.Frame.{Frame}
@@ -13,9 +14,11 @@ abbrev pub with_landing : Frame → Option ShownLanding → Frame
 with_landing f None = f
 with_landing f (Some l) = widened f l.second
 
+abbrev pub with_window : Frame → Span → Frame
+with_window f w = widened (widened f w.0) w.1
+
 abbrev pub with_windows : Frame → List Span → Frame
-with_windows f [] = f
-with_windows f (w ∷ rest) = with_windows (widened (widened f w.0) w.1) rest
+with_windows = fold with_window
 
 abbrev pub with_active : Frame → Option Active → Frame
 with_active f None = f
@@ -25,8 +28,7 @@ abbrev pub with_row : Frame → Row → Frame
 with_row f r = with_active (with_landing f r.landing) r.active
 
 abbrev pub with_rows : Frame → List Row → Frame
-with_rows f [] = f
-with_rows f (r ∷ rest) = with_rows (with_row f r) rest
+with_rows = fold with_row
 
 -- the horizon, where it bars any second
 abbrev pub with_horizon : Frame → ℕ → Frame

@@ -1,5 +1,5 @@
 -- Where a second is drawn.
-use Rattle.std.specs.Prelude.{ℕ, ◌+◌, ◌-◌, ◌*◌, ◌/◌, List, [], ◌∷◌, nat_le, if◌then◌else◌}
+use Rattle.std.specs.Prelude.{ℕ, ◌+◌, ◌-◌, ◌*◌, ◌/◌, nat_le, if◌then◌else◌}
 use Rattle.chart.specs.declared.element.Spot.{Spot}
 
 -- the place of a second from the left, in pixels, where 920 of them show this span of seconds

@@ -1,8 +1,7 @@
 -- The text of each element.
-use Rattle.std.specs.Prelude.{ℕ, ◌+◌, ◌-◌, ◌*◌, ◌/◌, ◌%◌, ◌==◌, Bool, List, [], ◌∷◌, ◌++◌, Option, Some, None, nat_lt, codes, decimal, flat_map, if◌then◌else◌}
+use Rattle.std.specs.Prelude.{ℕ, ◌+◌, ◌-◌, ◌*◌, ◌/◌, ◌%◌, Bool, List, [], ◌∷◌, ◌++◌, Option, Some, None, nat_lt, codes, decimal, flat_map, if◌then◌else◌}
 use Rattle.wake_table.specs.Letters.{letter}
 use Rattle.wake_table.specs.declared.category.Category.{Category}
-use Rattle.landing_rules.specs.declared.objective.Objective.{Objective}
 use Rattle.landing_rules.specs.Text.{head_words}
 use Rattle.landing_rules.specs.Flights.{Callsign}
 use Rattle.landing_rules.specs.Audit.{Finding}

@@ -1,5 +1,5 @@
 // What stands over all rows.
-ghost use Rattle.std.specs.Prelude.{◌≡◌, ◌<◌, ◌≤◌, ◌++◌, ◌^◌, OnOk};
+ghost use Rattle.std.specs.Prelude.{◌≡◌, ◌<◌, ◌≤◌, ◌++◌, OnOk};
 ghost use Rattle.chart.specs.Elements.{closure_drawn, closures_drawn, horizon_drawn, horizon_said, ticks_drawn, ticks_from};
 
 use crate::Element;

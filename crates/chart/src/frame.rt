@@ -1,8 +1,7 @@
 // Which seconds a picture shows.
-ghost use Rattle.std.specs.Prelude.{◌≡◌, ◌≤◌, ◌<◌, ◌^◌, option_map};
-ghost use Rattle.landing_rules.specs.Text.{ShownLanding};
+ghost use Rattle.std.specs.Prelude.{◌≡◌, ◌≤◌, ◌<◌, option_map};
 ghost use Rattle.plan_file.specs.Shown.{shown_of};
-ghost use Rattle.chart.specs.Frames.{empty, first_of, frame_of, span_of, widened, with_active, with_horizon, with_landing, with_row, with_rows, with_windows};
+ghost use Rattle.chart.specs.Frames.{first_of, frame_of, span_of, widened, with_active, with_landing, with_row, with_rows, with_window, with_windows};
 
 use crate::row::Row;
 use plan_file::Landing;
@@ -34,16 +33,18 @@ fn with_landing(frame: Frame, landing: &Option<Landing>) -> Frame
     }
 }
 
-fn with_windows(narrow: Frame, windows: &[(u32, u32)]) -> Frame
-    ensures { result ≡ with_windows narrow windows.now }
+fn with_window(frame: Frame, window: (u32, u32)) -> Frame
+    ensures { result ≡ with_window frame window }
 {
-    let mut frame = narrow;
-    let mut rest = windows;
-    while let [(first, last), after @ ..] = rest {
-        frame = widened(widened(frame, *first), *last);
-        rest = after;
-    }
-    frame
+    widened(widened(frame, window.0), window.1)
+}
+
+fn with_windows(frame: Frame, windows: &[(u32, u32)]) -> Frame
+    ensures { result ≡ with_windows frame windows.now }
+{
+    windows
+        .iter()
+        .fold(frame, |frame, window| with_window(frame, *window))
 }
 
 fn with_active(frame: Frame, active: &Option<Active>) -> Frame
@@ -64,16 +65,10 @@ fn with_row(frame: Frame, row: &Row) -> Frame
     with_active(with_landing(frame, &row.landing), &row.active)
 }
 
-fn with_rows(narrow: Frame, rows: &[Row]) -> Frame
-    ensures { result ≡ with_rows narrow rows.now }
+fn with_rows(frame: Frame, rows: &[Row]) -> Frame
+    ensures { result ≡ with_rows frame rows.now }
 {
-    let mut frame = narrow;
-    let mut rest = rows;
-    while let [row, after @ ..] = rest {
-        frame = with_row(frame, row);
-        rest = after;
-    }
-    frame
+    rows.iter().fold(frame, with_row)
 }
 
 // From the first to the last second of all rows and the horizon.

@@ -1,5 +1,4 @@
 // The rows of a picture.
-ghost use Rattle.std.specs.Prelude.{◌≡◌};
 
 use cps_base::Callsign;
 use plan_file::Landing;

@@ -72,14 +72,7 @@ fn add_landed(all: &mut Vec<Row>, active: &[Active], lines: &[Landing]) -> Resul
 fn has_line(lines: &[Landing], callsign: Callsign) -> bool
     ensures { result ≡ has_line (map shown_of lines.now) callsign }
 {
-    let mut rest = lines;
-    while let [line, after @ ..] = rest {
-        if line.callsign == callsign {
-            return true;
-        }
-        rest = after;
-    }
-    false
+    lines.iter().any(|line| line.callsign == callsign)
 }
 
 // The row of a flight without a line.

@@ -1,5 +1,5 @@
 // What the rows draw.
-ghost use Rattle.std.specs.Prelude.{◌≡◌, ◌≤◌, ◌++◌, OnOk, length, map, option_map};
+ghost use Rattle.std.specs.Prelude.{◌≡◌, ◌≤◌, ◌++◌, OnOk, length, map};
 ghost use Rattle.wake_table.specs.Table.{separation};
 ghost use Rattle.plan_file.specs.Shown.{shown_of};
 ghost use Rattle.audit.specs.Findings.{finding_of};

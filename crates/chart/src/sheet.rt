@@ -1,5 +1,5 @@
 // The sheet, and the texts that are the same in every picture.
-ghost use Rattle.std.specs.Prelude.{◌≡◌, ◌++◌, OnOk, decimal};
+ghost use Rattle.std.specs.Prelude.{◌≡◌, ◌++◌, OnOk};
 ghost use Rattle.landing_rules.specs.Text.{head_words, objective_word};
 ghost use Rattle.audit.specs.Findings.{finding_of};
 ghost use Rattle.chart.specs.Sheets.{columns_text, key_text, style_text};

@@ -1,10 +1,9 @@
 // Ranks, places, and what findings are about.
-ghost use Rattle.std.specs.Prelude.{◌≡◌, ◌≤◌, ◌&&◌, length, map, option_map};
+ghost use Rattle.std.specs.Prelude.{◌≡◌, ◌≤◌, ◌&&◌, length, map};
 ghost use Rattle.std.specs.Ordering.{is_lt};
 ghost use Rattle.landing_rules.specs.Flights.{is_waiting};
 ghost use Rattle.landing_rules.specs.Rules.{arrival_cmp};
 ghost use Rattle.landing_rules.specs.Audit as rules;
-ghost use Rattle.plan_file.specs.Shown.{shown_of};
 ghost use Rattle.audit.specs.Findings.{finding_of};
 ghost use Rattle.chart.specs.Rows.{is_flagged, lands_before, names, place_in, rank_in, waits};
 
@@ -81,14 +80,7 @@ fn names(lines: &BlockLines, callsign: Callsign, finding: &Finding) -> bool
 fn is_flagged(lines: &BlockLines, found: &[Finding], callsign: Callsign) -> bool
     ensures { result ≡ is_flagged lines.now (map finding_of found.now) callsign }
 {
-    let mut rest = found;
-    while let [finding, after @ ..] = rest {
-        if names(lines, callsign, finding) {
-            return true;
-        }
-        rest = after;
-    }
-    false
+    found.iter().any(|finding| names(lines, callsign, finding))
 }
 
 // Whether a finding is about the row.

@@ -1,6 +1,6 @@
 // The words of a row, as text.
 ghost use Rattle.std.specs.Prelude.{◌≡◌, ◌∷◌, ◌++◌, OnOk, decimal};
-ghost use Rattle.chart.specs.Texts.{category_cell, label_end, label_head, label_open, label_text, number_cell, shift_between, shift_by, shift_cell, shift_words};
+ghost use Rattle.chart.specs.Texts.{category_cell, label_end, label_head, label_open, label_text, number_cell, shift_between, shift_cell, shift_words};
 
 use crate::Label;
 use appending::append_all;

@@ -16,7 +16,7 @@ use Rattle.chart.specs.declared.element.Element.{Element}
 use Rattle.chart.specs.Pictures.{elements_of, found_of}
 use Rattle.chart.specs.Texts.{picture_text}
 use Rattle.chart_main.specs.Drawings.{AreDrawn, IsDrawn, StopsBy, StopsFiles, StopsOpened, chart_text, undrawn_by, unopened_by}
-use Rattle.chart_main.specs.Outcomes.{Draws, Follows, done_by}
+use Rattle.chart_main.specs.Outcomes.{Follows, done_by}
 
 pub text_of : (s seen : Situation) (plan : PlanText) (elements : List Element) (found : Option (List Finding)) (old text : List ℕ) →
     old ≡ [] → text ≡ old ++ picture_text elements found → elements ≡ elements_of seen plan → found ≡ found_of seen plan → seen ≡ s → text ≡ chart_text s plan

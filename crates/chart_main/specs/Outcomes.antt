@@ -7,7 +7,7 @@ use Rattle.cps_outside.specs.SinkState.{SinkState, Grows, GrowsByPart}
 use Rattle.endings.specs.Lines.{Says, status_of, line_of}
 use Rattle.endings.specs.Loads.{Loads, FailsAt, IsTooLongAt, AsksForSome}
 use Rattle.endings.specs.declared.ending.Ending.{Ending}
-use Rattle.endings.specs.declared.ending.Ending.TheVariants.{Misused, Refused, NotLoaded, NotWritten, TooLong, NoMemory}
+use Rattle.endings.specs.declared.ending.Ending.TheVariants.{Misused, NotLoaded, NotWritten, TooLong, NoMemory}
 use Rattle.chart_main.specs.Drawings.{AreDrawn, StopsFiles}
 
 -- the outside but for the standard error

@@ -4,3 +4,4 @@ pub mod Padded
 pub mod Tally
 pub mod Counted
 pub mod Answers
+pub mod laws

@@ -107,10 +107,6 @@ brought {A} old now after answers kept i d lt is e =
 pub IsCompacting-start : {A : Type 0} (old : List A) → IsCompacting old old [] 0 0
 IsCompacting-start old = record { within = omega arith; end = omega arith; len = refl; long = refl; front = refl; rest = refl }
 
--- at the end what is left is what is kept
-pub compacted : {A : Type 0} (old now : List A) (answers : List Bool) (kept i : ℕ) → length old ≤ i → IsCompacting old now answers kept i → take kept now ≡ kept_where answers old
-compacted old now answers kept i end is = is.front ∙ ap (kept_where answers) (take_all i old end)
-
 -- ---- where each place is kept
 
 replicate_more : (n : ℕ) → replicate n true ++ true ∷ [] ≡ replicate (suc n) true

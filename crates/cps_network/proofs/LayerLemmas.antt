@@ -1,5 +1,5 @@
 -- The windows of the next stage.
-use Rattle.std.proofs.Common.{◌≡◌, ℕ, ◌+◌, ◌-◌, ◌*◌, ◌<◌, ◌≤◌, List, [], ◌∷◌, length, arith, ◌∙◌, sym, ap, inl, subst, zero, suc}
+use Rattle.std.proofs.Common.{◌≡◌, ℕ, ◌+◌, ◌-◌, ◌*◌, ◌<◌, ◌≤◌, List, [], length, arith, ◌∙◌, sym, ap, inl, subst}
 use Rattle.std.specs.Prelude.{ℤ, ◌↔◌, Contains}
 use Rattle.std.proofs.lemmas.Int.{ints}
 use Rattle.cps_nodes.specs.Windows.{IsWindow, Accepts, shifted}
@@ -50,10 +50,6 @@ next_valid p stage width before after odd law valid next i lt =
     let is : IsPermitted p stage s.0 s.2.0 = s.2.1 in
     subst (λ (z : List ℤ). IsWindow width z) (sym s.2.2) (law.stays s.0 (offset_after stage s.2.0) (window_at width before s.0 valid s.1)
     (record { low = omega (arith, ints, is.late, odd); high = omega (arith, ints, is.early, odd) }) is.accepted)
-
-pub one_window : (width : ℕ) (x : List ℤ) → IsWindow width x → AreWindows width (x ∷ [])
-one_window width x is zero lt = is
-one_window width x is (suc i) lt = absurd (omega arith)
 
 -- the same, for numbers and windows that are written otherwise
 pub next_at : (p : Problem) (a b : ℕ) (xs ys us vs : List (List ℤ)) → IsNextOf p a xs us → a ≡ b → xs ≡ ys → us ≡ vs → IsNextOf p b ys vs

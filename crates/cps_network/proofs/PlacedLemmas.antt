@@ -5,7 +5,7 @@ use Rattle.std.specs.Int.{bit_at}
 use Rattle.std.proofs.lemmas.Bool.Decides.{nat_tests}
 use Rattle.std.proofs.lemmas.Int.{ints}
 use Rattle.std.proofs.lemmas.Nat.{one_shl}
-use Rattle.std.proofs.lemmas.Nat.Bits.{bit_at_or, bit_at-lt, bit_at_ones, bit_at_ones_above, bit_at-zero, bit_at_lowest, bit_at-suc}
+use Rattle.std.proofs.lemmas.Nat.Bits.{bit_at_or, bit_at-lt, bit_at_ones, bit_at_ones_above, bit_at_lowest, bit_at-suc}
 use Rattle.precedence.specs.Pairs.{HasBit}
 use Rattle.cps_nodes.specs.Windows.{IsWindow, IsPlaced, HoldsRank}
 
@@ -23,9 +23,6 @@ due_bits stage k rank few near =
           let none : bit_at (2 ^ (stage - k + 1) - 1) rank ≡ 0 = bit_at_ones_above (stage - k + 1) rank high in
           (λ has. absurd (omega (arith, has, is, none)), λ due. absurd (omega arith))
     ]
-
-pub none_due : (rank : ℕ) → HasBit 0 rank → ⊥
-none_due rank has = let z : bit_at 0 rank ≡ 0 = bit_at-zero rank in omega (arith, has)
 
 -- a set of the ranks that are due and one of those that a window holds are together the ranks that it places
 pub placed_of : (w : ℕ) (xs : List ℤ) (stage due held rank : ℕ) → IsWindow w xs → HasBit due rank ↔ (rank + w / 2 ≤ stage)

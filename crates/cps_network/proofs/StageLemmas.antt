@@ -1,6 +1,6 @@
 -- Laws of the windows that extend those of a stage.
 use Rattle.std.proofs.Common.{◌≡◌, ℕ, ◌+◌, ◌-◌, ◌*◌, ◌<◌, ◌≤◌, min, max, List, [], length, get_or, arith, ◌∙◌, sym, ap, inl, inr, subst}
-use Rattle.std.specs.Prelude.{ℤ, pos, ◌⊎◌, ◌↔◌, Contains, Option, Some, None}
+use Rattle.std.specs.Prelude.{ℤ, pos, ◌⊎◌, ◌↔◌, Contains, Option, Some}
 use Rattle.std.specs.Option.{SomeIff}
 use Rattle.std.proofs.lemmas.Int.{ints}
 use Rattle.cps_nodes.specs.Windows.{shifted}
@@ -13,9 +13,6 @@ use Rattle.cps_network.proofs.MergeLemmas.{last_or_before, node_at-default, Cont
 
 pub some_is : {T : Type 0} (r : Option T) (P : Type 0) (v x : T) → SomeIff r P v → r ≡ Some x → P × (x ≡ v)
 some_is {T} r P v x h e = subst (λ (q : Option T). SomeIff q P v) e h
-
-pub none_is : {T : Type 0} (r : Option T) (P : Type 0) (v : T) → SomeIff r P v → r ≡ None → P → ⊥
-none_is {T} r P v h e = subst (λ (q : Option T). SomeIff q P v) e h
 
 -- windows that go on alike have the same successors
 pub IsSuccessor-alike : (p : Problem) (stage : ℕ) (xs ys next : List ℤ) → length xs ≡ 2 * p.k + 1 → GoOnAlike xs ys
@@ -74,11 +71,6 @@ added_all p stage window start now rank high are x = (
   λ has. elim ((are x).0 has) [ inl old ↦ inl old | inr (m, lt, is, e) ↦ inr (m, is, e) ],
   λ has. elim has [ inl old ↦ (are x).1 (inl old) | inr (m, is, e) ↦ (are x).1 (inr (m, omega (arith, is.early, is.to_count), is, e)) ],
 )
-
--- nothing is added where nothing is permitted
-pub unchanged : (r : Option (List ℤ)) (P : Type 0) (v : List ℤ) (now : List (List ℤ)) → SomeIff r P v → r ≡ None
-    → (x : List ℤ) → Contains now x ↔ (Contains now x ⊎ (P × (x ≡ v)))
-unchanged r P v now h e x = (λ has. inl has, λ has. elim has [ inl old ↦ old | inr new ↦ absurd (none_is r P v h e new.0) ])
 
 -- one window is added where it is permitted
 pub grown : (r : Option (List ℤ)) (P : Type 0) (v y : List ℤ) (now after : List (List ℤ)) → SomeIff r P v → r ≡ Some y

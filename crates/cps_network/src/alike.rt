@@ -1,7 +1,6 @@
 //! Whether two problems permit the same ranks after the same windows.
 
-ghost use Rattle.std.specs.Prelude.{◌≡◌, ℕ, ◌≤◌, ◌↔◌, length, IsTrue};
-ghost use Rattle.cps_problem.specs.Seen.{passed_at};
+ghost use Rattle.std.specs.Prelude.{◌≡◌, ◌↔◌, length, IsTrue};
 ghost use Rattle.cps_network.specs.Permits.{ArePassedAlike, HaveSameSuccessors};
 
 use crate::permit::most_shift;
@@ -19,13 +18,7 @@ fn are_passed_alike(held: &Problem, problem: &Problem) -> bool
     requires { length held.now.flights ≡ length problem.now.flights }
     ensures { IsTrue result → ArePassedAlike held.now problem.now }
 {
-    let n = held.len();
-    for rank in 1..n + 1 {
-        if held.passed(rank) != problem.passed(rank) {
-            return false;
-        }
-    }
-    true
+    (1..held.len() + 1).all(|rank| held.passed(rank) == problem.passed(rank))
 }
 
 /// Whether two problems have as many flights, the same k and the same pairs, and each rank of theirs was passed as often.

@@ -1,6 +1,6 @@
 //! To keep some places of a list, in order and in place.
 
-ghost use Rattle.std.specs.Prelude.{◌≡◌, ℕ, Bool, true, ◌<◌, ◌≤◌, List, length, vec_len, replicate, IsTrue};
+ghost use Rattle.std.specs.Prelude.{◌≡◌, Bool, true, ◌<◌, List, vec_len, replicate, IsTrue};
 ghost use Rattle.std.specs.Fn.{FnReturnsAt};
 ghost use Rattle.std.specs.List.{AllZip, swap};
 ghost use Rattle.cps_nodes.specs.Windows.{IsWidth};

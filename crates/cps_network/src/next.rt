@@ -2,7 +2,7 @@
 
 ghost use Rattle.std.specs.Prelude.{◌≡◌, ℕ, pos, ◌+◌, ◌-◌, ◌*◌, ◌/◌, ◌<◌, ◌≤◌, ◌⊎◌, ◌↔◌, length, IsTrue, IfOk, OnOk, Contains};
 ghost use Rattle.precedence.specs.Pairs.{HasBit};
-ghost use Rattle.cps_nodes.specs.Laws.{LeadOn, offset_after};
+ghost use Rattle.cps_nodes.specs.Laws.{offset_after};
 ghost use Rattle.cps_nodes.specs.Windows.{IsWidth, IsPlaced, shifted};
 ghost use Rattle.cps_network.specs.Landable.{HoldsCandidates};
 ghost use Rattle.cps_network.specs.Lists.{IsAscending, AreWindows, node_at};

@@ -1,7 +1,7 @@
 //! Whether a rank may land next, and the window that then follows.
 
-ghost use Rattle.std.specs.Prelude.{◌≡◌, ℕ, ℤ, pos, ◌+◌, ◌*◌, ◌/◌, ◌<◌, ◌-◌, ◌≤◌, ◌↔◌, ◌+ℤ◌, ◌-ℤ◌, ◌≤ℤ◌, List, ◌∷◌, length, reverse, IsTrue, IfSome, SomeIff};
-ghost use Rattle.precedence.specs.Pairs.{HasBit, MustPrecede};
+ghost use Rattle.std.specs.Prelude.{◌≡◌, ℕ, pos, ◌+◌, ◌*◌, ◌/◌, ◌<◌, ◌-◌, ◌≤◌, ◌↔◌, List, ◌∷◌, length, reverse, IsTrue, SomeIff};
+ghost use Rattle.precedence.specs.Pairs.{HasBit};
 ghost use Rattle.cps_nodes.specs.Windows.{IsWindow, IsPlaced, shifted};
 ghost use Rattle.cps_nodes.specs.Ranks.{window_of};
 ghost use Rattle.cps_nodes.specs.Laws.{offset_after};
@@ -156,10 +156,5 @@ pub fn none_passed(problem: &Problem, stage: u8) -> bool
     let n = problem.len();
     let first = (stage + 1).saturating_sub(k).max(1);
     let end = (stage + 1 + k).min(n) + 1;
-    for rank in first..end {
-        if problem.passed(rank) > 0 {
-            return false;
-        }
-    }
-    true
+    (first..end).all(|rank| problem.passed(rank) == 0)
 }

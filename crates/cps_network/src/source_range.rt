@@ -1,9 +1,8 @@
 //! The windows that lead to a window.
 
-ghost use Rattle.std.specs.Prelude.{◌≡◌, ℕ, ◌+◌, ◌-◌, ◌/◌, ◌<◌, ◌≤◌, ◌↔◌, length, IsTrue};
+ghost use Rattle.std.specs.Prelude.{ℕ, ◌+◌, ◌-◌, ◌/◌, ◌<◌, ◌≤◌, ◌↔◌, length, IsTrue};
 ghost use Rattle.cps_nodes.specs.Windows.{IsWidth};
 ghost use Rattle.cps_network.specs.Lists.{IsAscending, node_at};
-ghost use Rattle.cps_network.specs.Begins.{BeginAt};
 ghost use Rattle.cps_nodes.specs.Leads.{Extends, TailMeetsHead, IsBelow};
 
 use crate::stage::Stage;

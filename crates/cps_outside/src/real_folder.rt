@@ -57,8 +57,6 @@ fn read_named<R: Files + AllocGlobal>(rt: &R, name: &str, most: usize) -> io::Re
 }
 
 impl<'a, R: Files + AllocGlobal> Folder for RealFolder<'a, R> {
-    ghost use Rattle.cps_outside.specs.FolderState.{FolderState};
-
     ghost state = { λ f. record {
       tells = false;
       content = λ _. None;

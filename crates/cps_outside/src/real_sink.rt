@@ -34,8 +34,6 @@ fn write_pieces<W: Write>(writer: &mut W, bytes: &[u8]) -> io::Result<()> {
 }
 
 impl<W: Write + Drop> Sink for RealSink<W> {
-    ghost use Rattle.cps_outside.specs.SinkState.{SinkState};
-
     ghost state = { λ s. record {
       tells = false;
       written = [];

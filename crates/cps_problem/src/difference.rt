@@ -1,8 +1,8 @@
 //! Up to which rank two problems are the same.
 
-ghost use Rattle.std.specs.Prelude.{◌≡◌, ℕ, ◌+◌, ◌<◌, ◌≤◌, ◌↔◌, IsTrue, length, slice_get};
+ghost use Rattle.std.specs.Prelude.{◌≡◌, ℕ, ◌+◌, ◌<◌, ◌≤◌, ◌↔◌, IsTrue, length};
 ghost use Rattle.precedence.specs.Pairs.{must_precede};
-ghost use Rattle.cps_problem.specs.FirstDifference.{HaveSameHead, HaveSameFlights, HaveSameBelow, HasPredecessorFrom, HaveSameAt, HaveSamePredecessors, AgreeUpTo, IsWithinBoth, IsFirstDifference};
+ghost use Rattle.cps_problem.specs.FirstDifference.{HaveSameHead, HaveSameFlights, HaveSameBelow, HasPredecessorFrom, HaveSameAt, HaveSamePredecessors, IsWithinBoth, IsFirstDifference};
 ghost use Rattle.cps_problem.specs.Seen.{waiting_of};
 
 use crate::{Problem, Waiting};
@@ -90,12 +90,8 @@ impl Problem {
             → HaveSameFlights self.now other.now s → s ≤ result }
     {
         let n = self.len().min(other.len());
-        for rank in 1..n + 1 {
-            if !is_same_flight(self.flight(rank), other.flight(rank)) {
-                return rank;
-            }
-        }
-        n + 1
+        let differs = |rank: &u8| !is_same_flight(self.flight(*rank), other.flight(*rank));
+        (1..n + 1).find(differs).unwrap_or(n + 1)
     }
 
     // Whether rank j has the same predecessors below r in both problems.
@@ -104,12 +100,7 @@ impl Problem {
         requires j { (1 ≤ j) × (j < r) }
         ensures { IsTrue result ↔ HaveSameBelow self.now other.now r j }
     {
-        for i in 1..r {
-            if self.pairs().must_precede(i, j) != other.pairs().must_precede(i, j) {
-                return false;
-            }
-        }
-        true
+        (1..r).all(|i| self.pairs().must_precede(i, j) == other.pairs().must_precede(i, j))
     }
 
     // Whether rank j has a predecessor of rank r or above.
@@ -119,12 +110,7 @@ impl Problem {
         ensures { IsTrue result ↔ HasPredecessorFrom self.now r j }
     {
         let _ranks = self.head();
-        for i in r..self.len() + 1 {
-            if self.pairs().must_precede(i, j) {
-                return true;
-            }
-        }
-        false
+        (r..self.len() + 1).any(|i| self.pairs().must_precede(i, j))
     }
 
     // The same, and whether it has a predecessor of rank r or above in both or in neither.
@@ -147,12 +133,7 @@ impl Problem {
         ensures { IsTrue result ↔ HaveSamePredecessors self.now other.now r }
     {
         let _few = self.len();
-        for j in 1..r {
-            if !self.has_same_at(other, r, j) {
-                return false;
-            }
-        }
-        true
+        (1..r).all(|j| self.has_same_at(other, r, j))
     }
 
     /// The first rank at which two problems differ for those who land early: the greatest number, at most one above the

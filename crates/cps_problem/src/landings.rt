@@ -5,7 +5,6 @@ ghost use Rattle.cps_theory.specs.Feasible.{next_from};
 ghost use Rattle.landing_joint.specs.RankedProblem.{ranked, landing_after, cost_at, apart_at, start_at, first_at};
 ghost use Rattle.cps_problem.specs.OpenSpans.{IsOpenSpan};
 ghost use Rattle.cps_problem.specs.Seen.{passed_at};
-ghost use Rattle.cps_problem.specs.WellFormed.{IsWellFormed};
 
 use crate::Problem;
 use landing_rules::Objective;

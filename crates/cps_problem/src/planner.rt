@@ -1,4 +1,4 @@
-ghost use Rattle.std.specs.Prelude.{◌≡◌, ℕ, ◌≤◌, OnOk, IfOk, Option};
+ghost use Rattle.std.specs.Prelude.{◌≡◌, ℕ, OnOk, IfOk, Option};
 ghost use Rattle.cps_base.specs.Tally.{raised_by};
 ghost use Rattle.landing_rules.specs.Problem as rules;
 ghost use Rattle.cps_problem.specs.Plans.{IsPlannable, IsAnswerOf};

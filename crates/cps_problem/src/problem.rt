@@ -1,4 +1,4 @@
-ghost use Rattle.std.specs.Prelude.{◌≡◌, ℕ, ◌+◌, ◌-◌, ◌≤◌, IfOk, Some, length, nat_eq, slice_get};
+ghost use Rattle.std.specs.Prelude.{◌≡◌, ◌-◌, ◌≤◌, IfOk, Some, length, nat_eq, slice_get};
 ghost use Rattle.cps_problem.specs.Seen.{waiting_of, problem_of};
 ghost use Rattle.cps_problem.specs.WellFormed.{CanBuild, IsWellFormed};
 

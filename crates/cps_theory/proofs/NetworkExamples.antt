@@ -6,7 +6,7 @@ use Rattle.cps_theory.specs.Separation.{Landing}
 use Rattle.cps_theory.specs.LandingTrail.{pair_of, ranks}
 use Rattle.cps_theory.specs.Labels.{InPairs, Pair}
 use Rattle.cps_theory.specs.LegalPrefix.{Legal}
-use Rattle.cps_theory.specs.Network.{Attained, KeptFact, Undominated}
+use Rattle.cps_theory.specs.Network.{Attained, Undominated}
 use Rattle.cps_theory.specs.Windows.{WindowNode, WindowPermits, window_newest, window_node, window_push}
 use Rattle.cps_theory.specs.StageLabels.{IsLeastLabel, ListedBeside, NextStage, StageKept, no_cost}
 use Rattle.cps_theory.specs.Patterns.{PatternNode, PatternPermits, pattern_newest, pattern_node, pattern_push}
@@ -16,7 +16,6 @@ use Rattle.cps_theory.specs.ProblemNetwork.{AttainedIn, FindsFirstOpen, IsClosed
 use Rattle.cps_theory.specs.CompletingPairs.{Choice, KeptCompleting, LeastChoices, NoEarlierNoDearer, NoGreaterOrder, OrderWithinBudget, onto}
 use Rattle.cps_theory.specs.FirstBest.{Ascends, BuiltByNodes, CompletesNode, FirstBest, InLandingOrder, ListsCompleting, ReachedIn}
 use Rattle.cps_theory.specs.laws.LeastLabels.{least_from_kept}
-use Rattle.cps_theory.specs.laws.StoredFacts.{kept_fact}
 use Rattle.cps_theory.proofs.NodeExamples.{two}
 use Rattle.cps_theory.proofs.ScheduleExamples.{pair_of_flights, in_rank_order}
 
@@ -136,9 +135,6 @@ start_is_least = least_from_kept (Attained (λ r u. leb 1000 u ≡ true) (next_f
 
 start_undominated : Undominated (AttainedIn pair_of_flights (λ r t. 0) (window_node two [])) (0, 0)
 start_undominated = record { attained = start_keeps.attained (0, 0) (inl refl); best = λ q a le. sym (start_attains q a) }
-
-start_fact : KeptFact (AttainedIn pair_of_flights (λ r t. 0) (window_node two [])) (λ q. InPairs q ((0, 0) ∷ []))
-start_fact = kept_fact (Attained (λ r u. leb 1000 u ≡ true) (next_from pair_of_flights) (λ r t. 0) (Legal two) (window_node two) (window_node two [])) (λ q. InPairs q ((0, 0) ∷ [])) start_keeps
 
 abbrev first : ℕ → ℕ → Option ℕ
 first r t = Some (max t 1000)

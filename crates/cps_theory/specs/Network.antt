@@ -29,8 +29,3 @@ pub record Kept (Attains Keeps : Pair → Type 0) : Type 0 where
 pub record Undominated (Attains : Pair → Type 0) (p : Pair) : Type 0 where
   pub attained : Attains p
   pub best : (q : Pair) → Attains q → NoWorse q p → q ≡ p
-
--- the same as a fact with one proof, which a ghost field or an invariant can keep
-pub record KeptFact (Attains Keeps : Pair → Type 0) : Type 0 where
-  pub attained : (p : Pair) → Keeps p → ∥ Attains p ∥₁
-  pub covers : (q : Pair) → Attains q → ∥ ((p : Pair) × Keeps p × NoWorse p q) ∥₁

@@ -40,15 +40,14 @@ pub mod PatternShape
 pub mod PatternTests
 pub mod ProblemOfSituation
 pub mod RankCounts
+pub mod Ranges
 pub mod RanksBelow
 pub mod RanksOfList
 pub mod Retiming
 pub mod Separation
 pub mod ShiftAfterFreeze
 pub mod SituationAfterFreeze
-pub mod StageLists
 pub mod Staircases
-pub mod StoredFacts
 pub mod TightMaps
 pub mod UndominatedPairs
 pub mod WholeObjective

@@ -8,26 +8,7 @@ use Rattle.cps_top.specs.Outcome.{Outside, Ends}
 use Rattle.cps_top.specs.Commands.{files_of}
 use Rattle.endings.specs.Loads.{AsksForSome, StopsAt, Loads}
 use Rattle.cps_outside.specs.FolderState.{FolderState}
-use Rattle.cps_top.specs.Statuses.{Causes, Asks}
-
-pub causes : (words : List (List ℕ)) (old new : Outside) (status : ℕ) (ending : Ending) →
-    status ≡ status_of ending → Ends words old new ending → Causes words old new status
-causes words old new status (Answered Scheduled) is ends = grind arith
-causes words old new status (Answered Infeasible) is ends = grind arith
-causes words old new status (Answered Certified) is ends = grind arith
-causes words old new status (Answered Accepted) is ends = grind arith
-causes words old new status (Answered Rejected) is ends = grind arith
-causes words old new status (Answered Tried) is ends = grind arith
-causes words old new status (Answered Clean) is ends = grind arith
-causes words old new status (Answered Broken) is ends = grind arith
-causes words old new status (Answered Claimed) is ends = grind arith
-causes words old new status Misused is ends = grind arith
-causes words old new status (Refused refusal) is ends = grind arith
-causes words old new status (NotLoaded place) is ends = grind arith
-causes words old new status NotWritten is ends = grind arith
-causes words old new status (TooLong place) is ends = grind arith
-causes words old new status NoMemory is (inl ends) = grind arith
-causes words old new status NoMemory is (inr ends) = grind arith
+use Rattle.cps_top.specs.Statuses.{Asks}
 
 loads_all : (old new : FolderState) (names contents : List (List ℕ)) → Loads old new names contents → AsksForSome old new names
 loads_all old new names contents l = λ told. (names, [], append-nil names, l.asked told)

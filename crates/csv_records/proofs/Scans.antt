@@ -114,10 +114,6 @@ turned text p ended i t below at same =
     let now : IsAt (first_of text) p ended (get_or text i 0 ∷ drop (i + 1) text) = rw here at at in
     rw same (after (first_of text) p ended (get_or text i 0) (drop (i + 1) text) now)
 
--- before the first byte
-pub scan_begins : (text : List ℕ) → IsScanned text place.Between 0 0
-scan_begins text = ([], [], refl, refl)
-
 pub scan_goes_on : (text : List ℕ) (p next : Place) (ended i : ℕ) → i < length text → IsScanned text p ended i → IsTurn text p i (turn.GoesOn next) → IsScanned text next ended (i + 1)
 unfolding After
 scan_goes_on text p next ended i below at same = (turned text p ended i (turn.GoesOn next) below at same).0

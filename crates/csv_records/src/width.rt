@@ -1,5 +1,5 @@
 // Where a record ends, before it is read: one with too many fields need not be held.
-ghost use Rattle.std.specs.Prelude.{◌≡◌, ◌<◌, ◌≤◌};
+ghost use Rattle.std.specs.Prelude.{◌≡◌, ◌<◌};
 ghost use Rattle.csv.specs.Machine.{step};
 ghost use Rattle.csv.specs.Reading.{default_config, is_bom, strip_bom};
 ghost use Rattle.csv_records.specs.Extent.{turn_of, state_of, IsEnd};

@@ -1,6 +1,6 @@
 //! Lists of pairs of a second and a cost.
 
-ghost use Rattle.std.specs.Prelude.{◌≡◌, ℕ, ◌<◌, ◌≤◌, List, [], ◌∷◌, ◌++◌, All, length, IfOk, nat_lt};
+ghost use Rattle.std.specs.Prelude.{◌≡◌, ℕ, ◌<◌, List, [], ◌∷◌, ◌++◌, All, length, IfOk, nat_lt};
 ghost use Rattle.cps_nodes.specs.Windows.{IsWidth};
 ghost use Rattle.cps_theory.specs.UndominatedPairs.{sweep};
 ghost use Rattle.landing_rules.specs.Problem.{Problem};

@@ -1,10 +1,8 @@
 -- A run with its plannings goes on by one event.
 use Rattle.std.proofs.Common.{◌≡◌, ℕ, ◌+◌, List, [], ◌∷◌, ◌++◌, length, refl, sym, ap, ◌∙◌, arith, append_assoc, append-nil}
-use Rattle.std.specs.Prelude.{map}
 use Rattle.std.proofs.lemmas.List.{map-append}
 use Rattle.std.proofs.lemmas.List.Sums.{sum_by_push}
 use Rattle.landing_rules.specs.Problem.{Problem}
-use Rattle.landing_rules.specs.Events.{Answered}
 use Rattle.efforts.specs.Efforts.{Planned, IsPlanned, ArePlanned, answers_of, steps_of, last_problem, answer_line, answer_lines}
 
 pub answers-push : (planned : List Planned) (a : Planned) → answers_of (planned ++ a ∷ []) ≡ answers_of planned ++ a.answered ∷ []

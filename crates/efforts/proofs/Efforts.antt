@@ -21,7 +21,7 @@ use Rattle.situations.specs.declared.refusal.Refusal as refusals
 use Rattle.situations.specs.declared.refusal.Refusal.TheVariants as refusal
 use Rattle.replan.specs.Bound.{most_steps}
 use Rattle.efforts.specs.Efforts.{Planned, TakesSteps, IsPlanned, Plannings, Effort, answers_of, steps_of, last_problem, begun_line, answer_line, answer_lines, total_line, planned_text}
-use Rattle.efforts.specs.Ends.{Plans, PlansWith, StepPlans, AllPlan, SomePlan, EventsPlan, WritesSteps, EffortTells, PartTells, EffortEnds}
+use Rattle.efforts.specs.Ends.{Plans, PlansWith, StepPlans, AllPlan, SomePlan, EventsPlan, WritesSteps, EffortTells, EffortEnds}
 use Rattle.efforts.proofs.Chains.{answers-push, planned-push, last_problem-push, steps-push, lines-push}
 
 -- what was done of the events, and what is left

@@ -1,8 +1,8 @@
 -- What writing an effort leaves.
-use Rattle.std.specs.Prelude.{◌≡◌, ◌⊎◌, ℕ, ◌*◌, ◌≤◌, List, ◌++◌, Bool, Option, None, length, is_some, Result, Ok, Err}
+use Rattle.std.specs.Prelude.{◌≡◌, ◌⊎◌, ℕ, ◌*◌, ◌≤◌, List, ◌++◌, Bool, Option, length, is_some, Result, Ok, Err}
 use Rattle.cps_outside.specs.SinkState.{SinkState, GrowsByPart}
 use Rattle.landing_rules.specs.Events.{State, Event, Refusal, Step}
-use Rattle.landing_rules.specs.Problem.{Problem, IsProblemOf}
+use Rattle.landing_rules.specs.Problem.{IsProblemOf}
 use Rattle.landing_rules.specs.Text.{Bytes}
 use Rattle.replan.specs.Kept.{Holds}
 use Rattle.replan.specs.declared.any_kept.AnyKept.{AnyKept}

@@ -23,15 +23,6 @@ text_append (x ∷ xs) ys = ap (λ t. x ++ t) (text_append xs ys) ∙ sym (appen
 text_more : (xs : List (List ℕ)) (y : List ℕ) → text_of (xs ++ y ∷ []) ≡ text_of xs ++ y
 text_more xs y = text_append xs (y ∷ []) ∙ ap (λ t. text_of xs ++ t) (append-nil y)
 
-pub written_none : (s : SinkState) → Written s s []
-written_none s = record {
-  tells = refl;
-  sure = refl;
-  faults = omega arith;
-  grew = λ told. sym (append-nil s.written);
-  left = λ sure. omega arith;
-}
-
 -- one put more
 pub written_more : {T E : Type 0} (old mid new : SinkState) (xs ys : List (List ℕ)) (y : List ℕ) (r : Result T E) (u : T) →
     r ≡ Ok u → ys ≡ xs ++ y ∷ [] → Written old mid (text_of xs) → Writes mid new y r → Written old new (text_of ys)

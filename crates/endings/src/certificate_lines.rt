@@ -1,5 +1,4 @@
 // The lines for a certificate that is none.
-ghost use Rattle.std.specs.Prelude.{◌≡◌};
 ghost use Rattle.cps_outside.specs.SinkState.{Writes};
 ghost use Rattle.endings.specs.Lines.{certificate_line};
 

@@ -1,5 +1,4 @@
 // The lines for files that open no situation.
-ghost use Rattle.std.specs.Prelude.{◌≡◌, decimal};
 ghost use Rattle.cps_outside.specs.SinkState.{Writes};
 ghost use Rattle.endings.specs.Lines.{pair_line, precedence_line, opening_line};
 

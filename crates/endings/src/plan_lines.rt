@@ -1,5 +1,4 @@
 // The lines for a plan file that is none.
-ghost use Rattle.std.specs.Prelude.{◌≡◌};
 ghost use Rattle.cps_outside.specs.SinkState.{Writes};
 ghost use Rattle.endings.specs.Lines.{plan_line};
 

@@ -1,10 +1,10 @@
-ghost use Rattle.std.specs.Prelude.{◌≡◌, [], ◌∷◌, ◌≤◌, ◌<◌, All, length, OnOk, IfOk, vec_len};
+ghost use Rattle.std.specs.Prelude.{◌≡◌, [], ◌≤◌, ◌<◌, All, length, OnOk, IfOk, vec_len};
 ghost use Rattle.csv.specs.Records.{fields_of};
 ghost use Rattle.cps_base.specs.Answers.{GivesAs};
 ghost use Rattle.landing_rules.specs.Limits.{most_events};
 ghost use Rattle.event_log.specs.Answers.{memory_fault};
 ghost use Rattle.arrivals.specs.Seen.{IsGood};
-ghost use Rattle.event_log.specs.Reading.{is_header, event_in, header_fault, added, events_in, events_by, events_of};
+ghost use Rattle.event_log.specs.Reading.{is_header, event_in, added, events_in, events_by, events_of};
 
 use crate::fault::{LogCause, LogFault};
 use crate::kinds::event_by;

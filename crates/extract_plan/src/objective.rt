@@ -34,11 +34,8 @@ pub(crate) fn last_frozen(problem: &Problem) -> u64
 fn greatest_second(schedule: &Schedule) -> u32
     ensures { result ≡ greatest (of_rank 0 schedule.now) (length schedule.now) }
 {
-    let mut latest = 0;
-    for rank in 1..schedule.len() as u8 + 1 {
-        latest = schedule.second(rank).max(latest);
-    }
-    latest
+    let ranks = 1..schedule.len() as u8 + 1;
+    ranks.fold(0, |latest, rank| schedule.second(rank).max(latest))
 }
 
 fn total_cost(problem: &Problem, schedule: &Schedule) -> u64

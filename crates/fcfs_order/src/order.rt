@@ -1,4 +1,4 @@
-ghost use Rattle.std.specs.Prelude.{◌≡◌, ℕ, ◌+◌, ◌-◌, ◌<◌, ◌≤◌, ◌↔◌, [], length, slice_get, count_by, Some, None, IfSome, IsNone, IsTrue, MatchResult, Contains, MatchOption};
+ghost use Rattle.std.specs.Prelude.{◌≡◌, ℕ, ◌+◌, ◌-◌, ◌<◌, ◌≤◌, ◌↔◌, [], length, slice_get, count_by, Some, None, IfSome, IsNone, IsTrue, MatchResult, Contains};
 ghost use Rattle.std.specs.Ordering.{is_lt};
 ghost use Rattle.landing_rules.specs.Limits.{most_waiting};
 ghost use Rattle.landing_rules.specs.Rules.{first_come_cmp};

@@ -1,5 +1,5 @@
 -- Stages made from the last backward.
-use Rattle.std.proofs.Common.{◌≡◌, ℕ, ◌+◌, ◌-◌, ◌<◌, ◌≤◌, inl, inr, List, [], ◌∷◌, ◌++◌, length, refl, sym, ap, subst, ◌∙◌, arith, length-append}
+use Rattle.std.proofs.Common.{◌≡◌, ℕ, ◌+◌, ◌-◌, ◌<◌, ◌≤◌, inl, inr, List, [], ◌∷◌, ◌++◌, length, sym, ap, subst, ◌∙◌, arith, length-append}
 use Rattle.std.specs.Prelude.{slice_index_or, Option, Some, None}
 use Rattle.cps_theory.specs.Labels.{InPairs}
 use Rattle.cps_theory.specs.Separation.{Landing}
@@ -16,7 +16,7 @@ use Rattle.replan.specs.Readers.{AreStagesOf, lists_in, stage_in, window_in}
 use Rattle.first_best.specs.declared.node.EarlyNode.{EarlyNode}
 use Rattle.first_best.specs.Nodes.{node_at, AreNodesOf, IsLandedPrefix}
 use Rattle.first_best.specs.Gathered.{IsGathered, place_at}
-use Rattle.first_best.specs.Stages.{no_stage, pairs_of, stage_of, AreCompleted, HasEachList, IsAheadBy, IsAheadOf, IsAheadWithin, IsBehind, ListsAllCompleting, ListsAllOfUse, StageAhead}
+use Rattle.first_best.specs.Stages.{no_stage, pairs_of, stage_of, AreCompleted, HasEachList, IsAheadBy, IsAheadOf, IsAheadWithin, ListsAllCompleting, ListsAllOfUse, StageAhead}
 use Rattle.first_best.specs.Uses.{IsWanted, KeepsWanted}
 use Rattle.first_best.specs.Completing.{Rises}
 use Rattle.first_best.proofs.GatherLemmas.{gathered_nodes, window_prefix}
@@ -34,12 +34,6 @@ pub record IsAheadFrom (p : Problem) (v : ℕ) (budget : Option ℕ) (held : Opt
   pub gathered : (i : ℕ) → 1 ≤ i → i ≤ done → IsGathered held (length p.flights + 1 - i) (at stages i).nodes (at stages i).places
 
 module _ (p : Problem) (v : ℕ) (budget : Option ℕ) (held : Option HeldProblem) (done : ℕ) (stages : List StageAhead) (a : IsAheadFrom p v budget held done stages) where
-  pub behind_from : (stage : ℕ) → stage ≡ length p.flights - done → done < length p.flights → IsBehind p v budget stage (at stages done)
-  behind_from stage is lt = elim (cases_eq done 0) [
-    | inl e ↦ inl (omega (arith, is, e), ap (at stages) e ∙ a.first)
-    | inr ne ↦ inr (omega (arith, is, lt, ne), subst (λ (n : ℕ). AreCompleted p v budget n (at stages done).nodes (at stages done).lists) (let e : length p.flights + 1 - done ≡ stage + 1 = omega (arith, is, lt) in e) (a.completed done (omega (arith, ne)) (omega arith)))
-  ]
-
   module _ (stage : ℕ) (is : stage ≡ length p.flights - done) (lt : done < length p.flights) (s : StageAhead) (completed : AreCompleted p v budget stage s.nodes s.lists) (gathered : IsGathered held stage s.nodes s.places) where
     old : (i : ℕ) → i ≤ done → at (stages ++ s ∷ []) i ≡ at stages i
     old i le = get_or_append_left stages (s ∷ []) no_stage i (let l = a.long in omega (arith, le, l))
@@ -77,15 +71,6 @@ module _ (p : Problem) (v : ℕ) (budget : Option ℕ) (held : Option HeldProble
 
       high : (s : ℕ) → 1 ≤ s → length stages - s ≤ done
       high s one = (let l = a.long in omega (arith, one, l, e))
-
--- before the first
-pub none_ahead : (p : Problem) (v : ℕ) (budget : Option ℕ) (held : Option HeldProblem) → IsAheadFrom p v budget held 0 (no_stage ∷ [])
-none_ahead p v budget held = record {
-  long = refl;
-  first = refl;
-  completed = λ i one le. absurd (omega (arith, one, le));
-  gathered = λ i one le. absurd (omega (arith, one, le));
-}
 
 -- the nodes of a stage that is held
 pub held_nodes : (p : Problem) (held : Option HeldProblem) → network.IsWindowNetwork p → TellTheirRanks p → AreStagesOf p held → (stage : ℕ) → stage ≤ length p.flights → (nodes : List EarlyNode) (places : List ℕ) → IsGathered held stage nodes places → AreNodesOf p stage nodes

@@ -94,17 +94,6 @@ module _ (stage : ℕ × List (List ℤ)) (lists : List (List Pair)) (count : �
     ];
   }
 
-pub none_gathered : (stage : ℕ × List (List ℤ)) (lists : List (List Pair)) → AreGathered stage lists 0 [] []
-none_gathered stage lists = record {
-  long = refl;
-  within = λ i lt. absurd (omega (arith, lt));
-  window = λ i lt. absurd (omega (arith, lt));
-  low = λ i lt. absurd (omega (arith, lt));
-  cheap = λ i lt. absurd (omega (arith, lt));
-  source = λ j lt. absurd (omega (arith, lt));
-  apart = λ i j li. absurd (omega (arith, li));
-}
-
 -- the node that a window tells
 pub told_by : (stage : ℕ) (at : ℕ) (window : List ℤ) (new : EarlyNode) (node : Node) → at ≡ stage → IsSameNode new node → TellsPlaced window stage node.placed → node.last ≡ network.latest (stage, window) → IsWindowOf at window new
 told_by stage at window new node e same placed last = subst (λ (n : ℕ). IsWindowOf n window new) (sym e) (record {

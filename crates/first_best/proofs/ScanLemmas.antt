@@ -24,18 +24,6 @@ module _ (p : Problem) (v : ℕ) (budget : Option ℕ) (stage : ℕ) (node : Ear
     pub least_of : (q : Pair) → InPairs q pairs → least ≤ q.1
     pub dear : (c : ℕ) → least ≤ c → c < limit → (o : Pair) × InPairs o pairs × (o.1 ≤ c)
 
-  pub none_scanned : (from : ℕ) → ((q : Pair) → Is q → q.0 < from) → Scanned from limit []
-  none_scanned from late = record {
-    found = record {
-      are = λ q i. absurd i;
-      cover = λ q h le r. absurd (let a = late q h in omega (arith, a, le));
-      falling = tt;
-      in_reach = λ q i. absurd i;
-    };
-    least_of = λ q i. absurd i;
-    dear = λ c le lt. absurd (omega (arith, le, lt));
-  }
-
   module _ (second least : ℕ) (pairs : List Pair) (s : Scanned (second + 1) least pairs) where
     -- what is found one second earlier
     earlier_are : (q : Pair) → InPairs q pairs → Is q × (second ≤ q.0)

@@ -64,13 +64,6 @@ all_ways node nodes j ways e w = record {
 -- ---- the cost by one of them
 
 module _ (p : Problem) (node after : EarlyNode) (pairs : List Pair) (second : ℕ) where
-  -- the last flight of the other node does not land
-  pub not_landed : landing_after p node.last second after.last ≡ None → IsLeastOf (IsWayTo p node after pairs second) None
-  not_landed none c w = (let e = sym none ∙ w.lands in never e)
-    where
-      never : {x : ℕ} → ◌≡◌ {A = Option ℕ} None (Some x) → ⊥
-      never e = cc
-
   module _ (landing : ℕ) (lands : landing_after p node.last second after.last ≡ Some landing) where
     same_landing : (c : ℕ) (w : IsWayTo p node after pairs second c) → w.lands_at ≡ landing
     same_landing c w = (let e = sym w.lands ∙ lands in one e)
@@ -118,10 +111,6 @@ module _ (p : Problem) (stage : ℕ) (node : EarlyNode) (nodes : List EarlyNode)
           let w = h.1 in
           let a = are.every w.place w.within w.leads in
           (a.0, a.1, subst (λ (n : ℕ). IsWayTo p node (node_at nodes n) (list_at lists n) second c) (sym a.2) w.way)
-
--- at the last stage nothing is left
-pub last_end : (p : Problem) (stage : ℕ) (node : EarlyNode) (nodes : List EarlyNode) (lists : List (List Pair)) (second : ℕ) → stage ≡ length p.flights → IsLeastOf (IsEnd p stage node nodes lists second) (Some 0)
-last_end p stage node nodes lists second e = (inl (e, refl), λ d h. omega arith)
 
 -- a pair of the node at an open second that the value allows
 pub end_pair : (p : Problem) (v stage : ℕ) (node : EarlyNode) (nodes : List EarlyNode) (lists : List (List Pair)) (second : ℕ) → (ranked p).is_open node.last second ≡ true → node.earliest ≤ second → is_low p v second ≡ true → (least : Option ℕ) → IsLeastOf (IsEnd p stage node nodes lists second) least → IsLeastOf (λ c. IsPairOf p v stage node nodes lists (second, c)) least

@@ -29,12 +29,8 @@ fn place_of(nodes: &[EarlyNode], node: Node, near: usize) -> usize
     if near < nodes.len() && is_same(nodes[near], node) {
         return near;
     }
-    for (i, other) in nodes.iter().enumerate() {
-        if is_same(*other, node) {
-            return i;
-        }
-    }
-    nodes.len()
+    let place = nodes.iter().position(|other| is_same(*other, node));
+    place.unwrap_or(nodes.len())
 }
 
 // Puts a node that can be landed at a second, and at a cost, to the others, and answers its place. It is looked for at one place

@@ -67,12 +67,6 @@ names_given own i before (p ∷ ps) names e h = by (name_in own i before p) refl
     by (Ok c) named rest more = let new = name_new own i before p c named in more c rest (others_more own before c h new.0 new.1)
     by (Err x) named rest more = absurd (cc rest)
 
-pub none_others : (own : List ℕ) → AreOthers own []
-none_others own = record {
-  other = λ k d below. absurd (omega arith);
-  once = λ i j d low below. absurd (omega arith);
-}
-
 -- one flight more
 pub flights_more : (fs : List Flight) (f : Flight) → AreArrivals fs → IsArrival f → has_callsign fs f.callsign ≡ false → length fs < 500 → AreArrivals (fs ++ f ∷ [])
 flights_more fs f can here new room = record {

@@ -1,6 +1,5 @@
 -- What the parts of a field are, one after the other.
 use Rattle.std.proofs.Common.{◌≡◌, ℕ, ◌+◌, ◌<◌, List, [], ◌∷◌, length, Ok, Err, Result, ◌++◌, append_assoc, arith, ap, sym, refl}
-use Rattle.std.proofs.lemmas.List.{append-nil}
 use Rattle.cps_base.specs.Answers.{◌>>=◌}
 use Rattle.flight_file.specs.Windows.{window_by, window_in, windows_from}
 use Rattle.std.specs.Prelude.{◌==◌, ◌&&◌, IsTrue, Bool, true, false}
@@ -8,7 +7,6 @@ use Rattle.std.specs.List.{list_all}
 use Rattle.landing_windows.specs.Windows.{is_in_days}
 use Rattle.std.proofs.lemmas.List.Splits.{length-slice_split}
 use Rattle.text_parts.specs.Parts.{parts}
-use Rattle.flight_file.specs.declared.fault.WindowsCause.{WindowsCause}
 use Rattle.flight_file.specs.declared.fault.WindowsCause.TheVariants.{Shape}
 
 -- a text has a part
@@ -33,14 +31,6 @@ front_more front x (Err e) = refl
 pub window_more : (i : ℕ) (front : List (ℕ × ℕ)) (p : List ℕ) (ps : List (List ℕ)) (w : ℕ × ℕ) → window_in i p ≡ Ok w → with_front front (windows_from i (p ∷ ps)) ≡ with_front (front ++ w ∷ []) (windows_from (i + 1) ps)
 unfolding windows_from
 window_more i front p ps w e = rw e (front_more front w (windows_from (i + 1) ps))
-
-pub window_stop : (i : ℕ) (front : List (ℕ × ℕ)) (p : List ℕ) (ps : List (List ℕ)) (e : WindowsCause) → window_in i p ≡ Err e → with_front front (windows_from i (p ∷ ps)) ≡ Err e
-unfolding windows_from
-window_stop i front p ps e h = rw h refl
-
-pub window_end : (i : ℕ) (front : List (ℕ × ℕ)) → with_front front (windows_from i []) ≡ Ok front
-unfolding windows_from
-window_end i front = ap Ok (append-nil front)
 
 -- both tests pass
 pub left_of : (a b : Bool) → (a && b) ≡ true → a ≡ true

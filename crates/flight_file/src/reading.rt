@@ -1,10 +1,10 @@
-ghost use Rattle.std.specs.Prelude.{◌≡◌, false, [], ◌∷◌, ◌≤◌, ◌<◌, length, OnOk, IfOk, vec_len};
+ghost use Rattle.std.specs.Prelude.{◌≡◌, false, [], ◌<◌, length, OnOk, IfOk};
 ghost use Rattle.csv.specs.Records.{fields_of};
 ghost use Rattle.cps_base.specs.Answers.{GivesAs};
 ghost use Rattle.landing_rules.specs.Limits.{most_flights};
 ghost use Rattle.flight_file.specs.Answers.{memory_fault};
 ghost use Rattle.arrivals.specs.Flights.{IsArrival, AreArrivals};
-ghost use Rattle.flight_file.specs.Reading.{is_header, has_callsign, flight_in, flight_by, header_fault, added, flights_in, flights_by, flights_of};
+ghost use Rattle.flight_file.specs.Reading.{is_header, has_callsign, flight_in, flight_by, added, flights_in, flights_by, flights_of};
 
 use crate::after::read_after;
 use crate::fault::{FlightCause, FlightFault};

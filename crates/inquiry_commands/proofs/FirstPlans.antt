@@ -1,25 +1,17 @@
 -- The value of the plan that is shown is the least of the problem, and the first list joined is a first plan.
-use Rattle.std.proofs.Common.{◌≡◌, ℕ, ◌≤◌, Option, Some, None, refl, sym, ap, subst, ◌∙◌, arith}
+use Rattle.std.proofs.Common.{◌≡◌, Option, Some, None, sym, ap, subst, ◌∙◌, arith}
 use Rattle.std.specs.Prelude.{option_map}
-use Rattle.landing_rules.specs.Flights.{Situation, Schedule}
+use Rattle.landing_rules.specs.Flights.{Schedule}
 use Rattle.landing_rules.specs.Rules.{objective, IsBest}
 use Rattle.landing_rules.specs.Events.{IsPlanShown, State}
-use Rattle.landing_rules.specs.Problem.{joined, list_objective, IsFeasibleList, IsProblemOf, Problem}
-use Rattle.landing_rules.specs.FirstBest.{IsFirstBest, IsFirstBestList}
+use Rattle.landing_rules.specs.Problem.{joined, IsProblemOf, Problem}
+use Rattle.landing_rules.specs.FirstBest.{IsFirstBestList}
 use Rattle.landing_rules.specs.Sound.{IsSound}
 use Rattle.landing_rules.specs.Text.{plan_shown, shown_plan, ShownPlan}
 use Rattle.landing_joint.specs.CompletingPairs.{IsLeastObjective}
 use Rattle.landing_joint.specs.FirstBestLaws.{FirstBestListLaw, FirstBestObjectiveLaw}
 use Rattle.landing_joint.specs.ProblemLaws.{ListGivesScheduleLaw, SameObjectiveLaw, ScheduleGivesListLaw}
 use Rattle.inquiry_commands.specs.FirstShown.{value_of, IsFirstShown}
-
--- none is shown: none is the first plan
-pub none_first : (state : State) → IsPlanShown state.situation state.plan → None ≡ plan_shown state → IsFirstShown state.situation None
-none_first state shown none = go state.plan shown none
-  where
-    go : (plan : Option Schedule) → IsPlanShown state.situation plan → None ≡ option_map (shown_plan state.situation) plan → IsFirstShown state.situation None
-    go None s e = record { schedule = None; first = s; is = refl }
-    go (Some t) s e = absurd (let x : ⊥ = cc in x)
 
 module _ (gives : ListGivesScheduleLaw) (every : ScheduleGivesListLaw) (same : SameObjectiveLaw) (state : State) (p : Problem) (sound : IsSound state.situation) (of : IsProblemOf state.situation p) where
   -- the value that is shown is the least objective of a list

@@ -8,8 +8,8 @@ use Rattle.landing_rules.specs.declared.objective.Objective.{Objective}
 use Rattle.landing_rules.specs.declared.objective.Objective.TheVariants.{Makespan, Delay}
 use Rattle.landing_rules.specs.Flights.{Flight, Active, Situation, Schedule, Landing, landing, landings, is_waiting, waiting, horizon, horizon_after}
 use Rattle.landing_rules.specs.Rules.{last_second, is_open, lists, arrival_cmp, ArePairSeparated, IsPairInPrecedence, greatest, delay, cost, objective, IsFeasible}
-use Rattle.landing_rules.specs.Events.{State, IsAcceptedStep, Clock, frozen_landings, freezes, after_clock, clock_back, refusal, ClockBack, situation_after, IsPlanShown}
-use Rattle.landing_rules.specs.Sound.{IsGoodFlight, ListsNone, IsSound, IsSoundState}
+use Rattle.landing_rules.specs.Events.{Clock, frozen_landings, freezes, after_clock, clock_back, ClockBack, situation_after, IsPlanShown}
+use Rattle.landing_rules.specs.Sound.{IsGoodFlight, ListsNone, IsSound}
 use Rattle.cps_theory.specs.RankLists.{In, numbers_from}
 use Rattle.cps_theory.specs.Freeze.{rank_in, place_in, staying_of, overtook}
 use Rattle.cps_theory.specs.NumberedSituation as numbers
@@ -319,10 +319,3 @@ sound_alone s now sound forth = record {
 pub clock_keeps_sound : ClockKeepsSoundLaw
 clock_keeps_sound s None now sound f e = sound_alone s now sound (forth_of s.clock now s.aerodrome.freeze e)
 clock_keeps_sound s (Some t) now sound f e = sound_after s sound t (f t refl) now (forth_of s.clock now s.aerodrome.freeze e)
-
--- so a clock event leads from a sound state to a sound state
-pub clock_step_sound : (old new : State) (now : ℕ) → IsSoundState old → refusal old.situation (Clock now) ≡ None → IsAcceptedStep old (Clock now) new → IsSoundState new
-clock_step_sound old new now sound e step = record {
-  situation = subst IsSound (sym step.changed) (clock_keeps_sound old.situation old.plan now sound.situation (λ t q. (subst (IsPlanShown old.situation) q sound.shown).0.feasible) e);
-  shown = step.shown;
-}

@@ -38,10 +38,6 @@ pub AreLines-append : (a b : List Bytes) → AreLines a → AreLines b → AreLi
 AreLines-append [] b p q = q
 AreLines-append (l ∷ a) b p q = (p.0, AreLines-append a b p.1 q)
 
-abbrev pub IsEmpty : Bytes → Type 0
-IsEmpty [] = ⊤
-IsEmpty (b ∷ rest) = ⊥
-
 line_some : (l x : Bytes) → l ++ 10 ∷ x ≡ [] → ⊥
 line_some [] x e = cc e
 line_some (b ∷ l) x e = cc e

@@ -2,10 +2,10 @@
 //! beside one that breaks a rule: with another k, or a second earlier.
 #![tactic(auto, unfolding(wake_table::specs::Table::separation))]
 
-ghost use Rattle.std.specs.Prelude.{◌≡◌, ◌∷◌, [], List, ℕ, IsTrue, IsFalse, codes, None, Some, ◌++◌, ◌≤◌};
+ghost use Rattle.std.specs.Prelude.{◌≡◌, ◌∷◌, [], ℕ, IsTrue, IsFalse, codes, None, Some, ◌++◌, ◌≤◌};
 ghost use Rattle.landing_rules.specs.Testing.{is_feasible};
 ghost use Rattle.landing_rules.specs.Examples.{pair, tight_pair, three};
-ghost use Rattle.landing_rules.specs.Rules.{objective, IsFeasible, IsBest};
+ghost use Rattle.landing_rules.specs.Rules.{objective, IsBest};
 
 /// Known schedules keep the rules, and break them with another k or a second less.
 pub fn known_schedules_keep_the_rules()
@@ -54,7 +54,7 @@ pub fn three_flights_end_at_1240()
 {}
 
 ghost use Rattle.std.specs.Prelude.{map};
-ghost use Rattle.landing_rules.specs.Events.{refusal, situation_after, Clock, Close, Cancel, Add, Frozen, CoversFrozen, ClockBack, PredecessorOfFrozen, UnknownFlight, Duplicate};
+ghost use Rattle.landing_rules.specs.Events.{refusal, situation_after, Clock, Close, Cancel, Add, Frozen, CoversFrozen, ClockBack, UnknownFlight};
 ghost use Rattle.landing_rules.specs.Examples.{pair_at_900, carried_at_900, opened_at_900, f2};
 
 /// What a clock event freezes, and what is refused then.
@@ -92,8 +92,7 @@ pub fn five_flights_by_delay()
     ensures unlisted { IsFalse (is_feasible five (1000 ∷ 1180 ∷ 1240 ∷ 1410 ∷ 1350 ∷ [])) }
 {}
 
-ghost use Rattle.landing_rules.specs.Events.{Run, State, IsPlanShown};
-ghost use Rattle.landing_rules.specs.Rules.{IsTight};
+ghost use Rattle.landing_rules.specs.Events.{Run, IsPlanShown};
 
 /// A whole run of the pair with one clock event, and a pair without a plan.
 pub fn known_runs_are_runs()

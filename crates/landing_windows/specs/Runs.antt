@@ -1,5 +1,5 @@
 -- What spans in order and closures hold.
-use Rattle.std.proofs.Common.{Option, Some, None, IfSome, ◌≡◌, ℕ, suc, zero, ◌+◌, ◌-◌, ◌<◌, ◌≤◌, max, List, [], ◌∷◌, ◌++◌, length, slice_index_or, All, true, false, arith, add-one, ap, refl, sym, ◌∙◌, inl, inr}
+use Rattle.std.proofs.Common.{◌≡◌, ℕ, suc, zero, ◌+◌, ◌-◌, ◌<◌, ◌≤◌, max, List, [], ◌∷◌, ◌++◌, length, slice_index_or, All, true, false, arith, add-one, ap, refl, sym, ◌∙◌, inl, inr}
 use Rattle.std.specs.Prelude.{◌||◌, nat_le}
 use Rattle.std.proofs.Math.Bool.{or-false, and-false}
 use Rattle.std.proofs.lemmas.Bool.{cases_Bool, cases_lt, both_ways, or_from, and_right, le-leb, lt-leb}
@@ -8,7 +8,7 @@ use Rattle.std.proofs.lemmas.List.Elements.{All-nil, All-cons, All-weaker}
 use Rattle.landing_rules.specs.Flights.{Span}
 use Rattle.landing_rules.specs.Rules.{last_second, is_within, is_open}
 use Rattle.landing_rules.specs.Problem.{AreOpenSpans}
-use Rattle.landing_windows.specs.Spans.{FirstFrom, opens, shuts, is_runway_open, AreSpansFrom, AreInOrder, AreMaximal, AreSecondsOf, IsLeastFrom, IsStopFrom, IsShutUntil, IsFirstShut}
+use Rattle.landing_windows.specs.Spans.{opens, shuts, is_runway_open, AreSpansFrom, AreInOrder, AreMaximal, AreSecondsOf, IsLeastFrom, IsStopFrom, IsShutUntil, IsFirstShut}
 
 pub within : (u : ℕ) (w : Span) → w.0 ≤ u → u ≤ w.1 → is_within u w ≡ true
 within u w a b = grind (arith, common_steps)
@@ -225,7 +225,3 @@ one_list least (v ∷ vs) (w ∷ ws) a b same =
     let ends : v.1 ≡ w.1 = omega (arith, not_sooner least v w vs ws a b same starts, not_sooner least w v ws vs b a other (sym starts)) in
     let rest : vs ≡ ws = one_list (v.1 + 2) vs ws a.3 (rw ends b.3) (λ t h. after_first v w vs ws t (same t (omega arith)) h ends) in
     rw (pair_eq v w starts ends, rest) refl
-
-pub first_in_days : (spans : List Span) (t : ℕ) (answer : Option ℕ) → AreInOrder spans → FirstFrom (opens spans) t answer → IfSome answer (λ second. second ≤ last_second)
-first_in_days spans t None a e = tt
-first_in_days spans t (Some second) a e = opens_in_days 1 0 spans second a e.passes

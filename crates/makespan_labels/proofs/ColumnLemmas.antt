@@ -15,15 +15,6 @@ use Rattle.makespan_labels.specs.shared.NetworkSteps.{can_land, is_landable}
 
 -- ---- the least of a range
 
-pub least_start : (labels : List ℕ) (from : ℕ) → IsLeastOf labels from (from + 1) (slice_index labels from)
-least_start labels from = record {
-  place = from;
-  from_here = omega arith;
-  to_there = omega arith;
-  is = refl;
-  low = λ i lo hi. let e : from ≡ i = omega (arith, lo, hi) in let f = ap (slice_index labels) e in omega (arith, f);
-}
-
 min_cases : (a b : ℕ) → ((min a b ≡ a) × (a ≤ b)) ⊎ ((min a b ≡ b) × (b ≤ a))
 min_cases a b = elim (cases_lt a b) [ inl lt ↦ inl (omega arith, omega arith) | inr le ↦ inr (omega arith, le) ]
 

@@ -1,4 +1,3 @@
 -- Lemmas that crates above cite too: landings one more and one back, and labels as pairs.
 pub mod NetworkSteps
-pub mod KeptLabels
 pub mod LabelPairs

@@ -1,6 +1,6 @@
 //! Back from a label to a window of the stage before from which it comes.
 
-ghost use Rattle.std.specs.Prelude.{◌≡◌, ℕ, ℤ, List, ◌+◌, ◌*◌, ◌<◌, ◌≤◌, length, Contains};
+ghost use Rattle.std.specs.Prelude.{◌≡◌, ℕ, ℤ, List, ◌+◌, ◌*◌, ◌<◌, Contains};
 ghost use Rattle.cps_network.specs.Permits.{IsSuccessor};
 ghost use Rattle.makespan_labels.specs.Labels.{no_label, IsLabel, HoldsLabels, GivesLabel};
 

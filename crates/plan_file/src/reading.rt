@@ -1,5 +1,5 @@
 // The plan that a text is.
-ghost use Rattle.std.specs.Prelude.{◌≡◌, ◌≤◌, IfOk, length, map};
+ghost use Rattle.std.specs.Prelude.{◌≤◌, IfOk, length, map};
 ghost use Rattle.cps_base.specs.Answers.{Gives, GivesAs};
 ghost use Rattle.landing_rules.specs.Limits.{most_flights};
 ghost use Rattle.plan_file.specs.Shown.{shown_of};

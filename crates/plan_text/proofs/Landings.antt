@@ -51,9 +51,6 @@ take_again ls zero = refl
 take_again [] (suc i) = refl
 take_again (x ∷ xs) (suc i) = ap (λ (r : List ShownLanding). x ∷ r) (take_again xs i)
 
-pub first_of_all : (all first : List ShownLanding) (i : ℕ) → first ≡ take i all → first ≡ take (length first) all
-first_of_all all first i e = e ∙ sym (take_again all i) ∙ ap (λ (r : List ShownLanding). take (length r) all) (sym e)
-
 -- a landing at its place
 pub shown_at : (items : List Landing) (i : ℕ) (l : Landing) → i < length items → l ≡ get_or items i l → slice_get (map shown_of items) i ≡ Some (shown_of l)
 shown_at items i l lt e = slice_get-map shown_of items i ∙ ap (option_map shown_of) (slice_get_read items (length items) i l refl lt e)

@@ -1,6 +1,6 @@
 //! A problem that is held with all of its stages, and what another problem has in common with it.
 
-ghost use Rattle.std.specs.Prelude.{◌≡◌, ℕ, ◌+◌, ◌-◌, ◌*◌, ◌<◌, ◌≤◌, length, vec_len, IfOk};
+ghost use Rattle.std.specs.Prelude.{◌≡◌, ◌+◌, ◌-◌, ◌*◌, ◌<◌, ◌≤◌, length, vec_len, IfOk};
 ghost use Rattle.cps_network.specs.Due.{IsDueFrom};
 ghost use Rattle.replan.specs.Held.{AreInCommon, problem_of};
 ghost use Rattle.replan.specs.Stages.{AreStages};

@@ -1,6 +1,6 @@
 //! The labels of a stage, for either objective.
 
-ghost use Rattle.std.specs.Prelude.{◌≡◌, ℕ, ◌+◌, ◌*◌, ◌<◌, ◌≤◌, List, [], ◌∷◌, length, IfOk, OnOk};
+ghost use Rattle.std.specs.Prelude.{◌≡◌, ◌+◌, ◌*◌, ◌<◌, ◌≤◌, [], ◌∷◌, length, IfOk, OnOk};
 ghost use Rattle.cps_base.specs.Tally.{raised_by};
 ghost use Rattle.cps_theory.specs.Network.{Undominated};
 ghost use Rattle.landing_rules.specs.Rules.{last_second};

@@ -1,6 +1,6 @@
 //! Back from a best pair of the last stage to an order.
 
-ghost use Rattle.std.specs.Prelude.{◌≡◌, ℕ, ◌+◌, ◌*◌, ◌<◌, ◌≤◌, length, MatchOption};
+ghost use Rattle.std.specs.Prelude.{◌≡◌, ℕ, ◌+◌, ◌*◌, ◌<◌, length, MatchOption};
 ghost use Rattle.cps_network.specs.Pairs.{list_at};
 ghost use Rattle.replan.specs.Labels.{last_pair};
 ghost use Rattle.replan.specs.LeastValue.{IsLeastPlace};

@@ -1,5 +1,5 @@
 -- A replay goes on by one event, or stops there.
-use Rattle.std.proofs.Common.{◌≡◌, ℕ, zero, suc, ◌+◌, ◌<◌, ◌≤◌, List, [], ◌∷◌, ◌++◌, length, map, drop, get_or, drop-cons, add-one, Err, inl, inr, refl, sym, ap, subst, ◌∙◌, arith, append_assoc}
+use Rattle.std.proofs.Common.{◌≡◌, ℕ, ◌+◌, List, [], ◌∷◌, ◌++◌, length, Err, inl, inr, refl, sym, ap, subst, ◌∙◌, arith, append_assoc}
 use Rattle.std.proofs.lemmas.List.{append-nil, length-append}
 use Rattle.cps_outside.specs.SinkState.{SinkState}
 use Rattle.landing_rules.specs.Events.{State, Event, Step, Answered, Run}
@@ -10,7 +10,7 @@ use Rattle.event_answers.specs.declared.stops.Stop.{Stop}
 use Rattle.event_answers.specs.declared.stops.Stop.TheVariants as stop
 use Rattle.event_answers.specs.Runs.{last_state}
 use Rattle.event_answers.specs.Written.{Wrote, WrotePart}
-use Rattle.replays.specs.Runs.{Answers, StepWrites, Opens, RunTells, PartTells, EventsWrite, ReplayEnds}
+use Rattle.replays.specs.Runs.{Answers, StepWrites, Opens, PartTells, EventsWrite, ReplayEnds}
 
 -- what was done of the events, and what is left
 pub record Done (old : State) (events : List Event) (from : SinkState) (i : ℕ) (state : State) (rest : List Event) (to : SinkState) : Type 0 where
@@ -66,15 +66,6 @@ pub stops_short : (old state : State) (events : List Event) (from to : SinkState
     Done old events from i state rest to → PartTells old events (λ answers. Wrote from to (answers_text 1 answers))
 stops_short old state events from to i rest d = record { done = d.done; rest = rest; split = d.split; answers = d.answers; run = d.run; written = d.written }
 
-pub ends : (old state : State) (events : List Event) (from to : SinkState) (i : ℕ) →
-    Done old events from i state [] to → RunTells old events state (λ answers. Wrote from to (answers_text 1 answers))
-ends old state events from to i d = record {
-  answers = d.answers;
-  run = subst (λ (es : List Event). Run old es d.answers) (sym (append-nil d.done) ∙ d.split) d.run;
-  last = d.last;
-  written = d.written;
-}
-
 pub stops : (s : Stop) (old state new : State) (events : List Event) (from to to2 : SinkState) (i : ℕ) (e : Event) (rest : List Event) →
     Done old events from i state (e ∷ rest) to → StepWrites state new i e to to2 (Err s) → EventsWrite old new events from to2 (Err s)
 stops stop.NotWritten old state new events from to to2 i e rest d a = stops_unwritten old state new events from to to2 i e rest d a
@@ -82,10 +73,6 @@ stops stop.NoMemory old state new events from to to2 i e rest d a =
     subst (λ (x : SinkState). PartTells old events (λ answers. Wrote from x (answers_text 1 answers))) (sym a) (stops_short old state events from to i (e ∷ rest) d)
 
 -- ---- with the opening's text before
-
-pub whole_after : (old new : State) (events : List Event) (from mid to : SinkState) → Wrote from mid (begun_text old) →
-    RunTells old events new (λ answers. Wrote mid to (answers_text 1 answers)) → RunTells old events new (λ answers. Wrote from to (replay_text old answers))
-whole_after old new events from mid to a r = record { answers = r.answers; run = r.run; last = r.last; written = wrote_after from mid to (begun_text old) (answers_text 1 r.answers) a r.written }
 
 pub unwritten_after : (old : State) (events : List Event) (from mid to : SinkState) → Wrote from mid (begun_text old) →
     PartTells old events (λ answers. WrotePart mid to (answers_text 1 answers)) → PartTells old events (λ answers. WrotePart from to (replay_text old answers))

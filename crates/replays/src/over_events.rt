@@ -1,4 +1,4 @@
-ghost use Rattle.std.specs.Prelude.{◌≡◌, ◌<◌, ◌^◌, All, length, map};
+ghost use Rattle.std.specs.Prelude.{◌<◌, ◌^◌, All, length, map};
 ghost use Rattle.landing_rules.specs.Sound.{IsGoodEvent};
 ghost use Rattle.arrivals.specs.Seen.{event_of, IsGood};
 ghost use Rattle.replays.specs.Runs.{Puts, Opens, StepWrites, EventsWrite, ReplayEnds};

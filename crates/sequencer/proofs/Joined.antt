@@ -86,9 +86,6 @@ module _ (s : Situation) (p : problems.Problem) (sound : IsSound s) (of : IsProb
   good : All (λ (a : Active). IsGoodFlight a.flight) (by_rank (waiting s))
   good = All-permutation (λ (a : Active). IsGoodFlight a.flight) (waiting s) (by_rank (waiting s)) (rank_permutes (waiting s)) (All-filter is_waiting (λ (a : Active). IsGoodFlight a.flight) s.active sound.flights)
 
-  InDays : problems.Waiting → Type 0
-  InDays w = (u : ℕ) → IsTrue (list_any (is_within u) w.open_spans) → u ≤ last_second
-
   pub list_in_days : All (λ u. u ≤ last_second) t
   list_in_days k d lt =
       let e = keeps.one_each in

@@ -1,8 +1,7 @@
 // What the frozen flights leave to the waiting ones.
-ghost use Rattle.std.specs.Prelude.{◌≡◌, ℕ, ◌≤◌, All, ⊤, MatchOption, Option, length, map, sum_by};
+ghost use Rattle.std.specs.Prelude.{◌≡◌, ◌≤◌, All, Option, length, map, sum_by};
 ghost use Rattle.wake_table.specs.declared.category.Category.{Category};
 ghost use Rattle.landing_rules.specs.Limits.{most_flights};
-ghost use Rattle.landing_rules.specs.Rules.{last_second};
 ghost use Rattle.sequencer.specs.Frozen.{latest, later_of, delay_of, HasSmallDelay};
 
 use situations::Active;

@@ -1,5 +1,5 @@
 // The problem of a situation.
-ghost use Rattle.std.specs.Prelude.{◌≡◌, ◌≤◌, IfOk, map};
+ghost use Rattle.std.specs.Prelude.{◌≡◌, ◌≤◌, IfOk};
 ghost use Rattle.landing_rules.specs.Flights.{horizon, waiting};
 ghost use Rattle.landing_rules.specs.Events.{frozen_landings, in_landing_order};
 ghost use Rattle.landing_rules.specs.Problem.{IsProblemOf, last_of, frozen_cost};

@@ -1,5 +1,5 @@
 // The schedule that joins the frozen landings with a planner's seconds by rank.
-ghost use Rattle.std.specs.Prelude.{◌≡◌, ℕ, IfOk, None, All, length, map, Contains};
+ghost use Rattle.std.specs.Prelude.{◌≡◌, IfOk, None, All, length, map, Contains};
 ghost use Rattle.landing_rules.specs.Flights.{waiting};
 ghost use Rattle.landing_rules.specs.Problem.{joined};
 ghost use Rattle.landing_rules.specs.Sound.{IsSound};

@@ -1,7 +1,6 @@
 ghost use Rattle.std.specs.Prelude.{◌≡◌, ℕ, Option, Some, None, IfOk, IfErr, OnOk, OnErr, MatchOption, map, option_map, ⊤};
 ghost use Rattle.cps_base.specs.Tally.{raised_by};
 ghost use Rattle.landing_rules.specs.Flights.{waiting};
-ghost use Rattle.landing_rules.specs.Rules.{IsFeasible};
 ghost use Rattle.landing_rules.specs.Events.{refusal, IsPlanShown, IsAcceptedStep, IsOpeningState, Step};
 ghost use Rattle.landing_rules.specs.Problem.{IsProblemOf};
 ghost use Rattle.landing_rules.specs.Sound.{IsSound, IsSoundState, IsGoodEvent};

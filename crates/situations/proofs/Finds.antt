@@ -114,9 +114,6 @@ find-insert span f (g ∷ rest) o = go (nat_lt g.second f.second) refl (find-ins
 abbrev pub named_second : Landing → Callsign × ℕ
 named_second g = (g.flight.callsign, g.second)
 
-abbrev frozen_of : List Active → List Landing
-frozen_of xs = filter_map (λ a. option_map (landing a) a.frozen) xs
-
 -- what the loop finds is the first in landing order
 pub covered : (span : Span) (xs : List Active) → earliest_covered span xs ≡ option_map named_second (find (λ g. is_shut g.second span) (in_landing_order (filter_map (λ a. option_map (landing a) a.frozen) xs)))
 covered span [] = refl

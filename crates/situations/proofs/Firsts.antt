@@ -1,16 +1,17 @@
 -- What stands first in a list.
 use Rattle.std.proofs.Common.{◌≡◌, ℕ, suc, ◌+◌, ◌≤◌, Bool, true, false, not, cond, arith, List, [], ◌∷◌, ◌++◌, length, map, drop, Option, Some, None, refl, sym, ap, ◌∙◌, append_assoc}
 use Rattle.std.specs.Prelude.{slice_get, find, filter_map, position, option_map}
-use Rattle.std.specs.List.{cons_option, position_from}
+use Rattle.std.specs.List.{cons_option, position_from, enumerate_from}
 use Rattle.std.specs.Option.{option_or}
 use Rattle.std.specs.Str.{bytes_eq}
-use Rattle.std.proofs.lemmas.List.{drop_more}
+use Rattle.std.proofs.lemmas.List.{drop_more, drop-drop}
 use Rattle.std.proofs.lemmas.Option.{slice_get_within, get_or_from_slice_get}
 use Rattle.std.proofs.lemmas.Iterator.Adapters.{position_from-zero}
-use Rattle.landing_rules.specs.Flights.{Callsign}
+use Rattle.landing_rules.specs.Flights.{Callsign, Landing}
 use Rattle.landing_rules.specs.Events.{look_up}
+use Rattle.cps_base.specs.laws.FindMap.{first_answer}
 use Rattle.situations.specs.declared.opening_refusal.OpeningFault.{OpeningFault}
-use Rattle.situations.specs.Refused.{unless, first_from}
+use Rattle.situations.specs.Refused.{unless, first_from, clash_at, clash_from}
 
 -- ---- the element at a place
 
@@ -32,6 +33,25 @@ module _ {X : Type 0} (ok : X → Bool) (fault : ℕ → OpeningFault) where
 
   pub first_place : (n : ℕ) (xs : List X) (at : Option ℕ) → at ≡ position (λ x. not (ok x)) xs → option_map (λ i. fault (i + n)) at ≡ first_from (λ i x. unless (ok x) (fault i)) n xs
   first_place n xs at e = ap (option_map (λ i. fault (i + n))) (e ∙ position_from-zero (λ x. not (ok x)) xs) ∙ from_place n 0 xs ∙ ap (λ m. first_from (λ i x. unless (ok x) (fault i)) m xs) (omega arith)
+
+-- the first answer along the elements with their numbers from 0 is the first fault with their places from 1
+pub first_numbered : {X : Type 0} (fault_at : ℕ → X → Option OpeningFault) (n : ℕ) (xs : List X) → first_answer (λ p. fault_at (p.0 + 1) p.1) (enumerate_from n xs) ≡ first_from fault_at (n + 1) xs
+unfolding first_answer
+first_numbered fault_at n [] = refl
+first_numbered fault_at n (x ∷ xs) = ap (λ o. option_or (fault_at (n + 1) x) o) (first_numbered fault_at (n + 1) xs)
+
+-- the first landing behind one with its number that is not the table's time from it
+abbrev pub clash_behind : List (List ℕ) → List Landing → ℕ × Landing → Option OpeningFault
+clash_behind table all g = first_from (clash_at table (g.0 + 1) g.1) (g.0 + 2) (drop (g.0 + 1) all)
+
+pub first_clashing : (table : List (List ℕ)) (all : List Landing) (n : ℕ) (xs : List Landing) → drop n all ≡ xs → first_answer (clash_behind table all) (enumerate_from n xs) ≡ clash_from table (n + 1) xs
+unfolding first_answer
+first_clashing table all n [] e = refl
+first_clashing table all n (x ∷ xs) e =
+    let rest : drop (n + 1) all ≡ xs = sym (drop-drop 1 n all) ∙ ap (drop 1) e in
+    let two : n + 2 ≡ n + 1 + 1 = omega arith in
+    ap (λ m. option_or (first_from (clash_at table (n + 1) x) m (drop (n + 1) all)) (first_answer (clash_behind table all) (enumerate_from (n + 1) xs))) two
+    ∙ rw (rest, first_clashing table all (n + 1) xs rest) refl
 
 -- ---- an entry by its callsign
 

@@ -9,7 +9,6 @@ use Rattle.landing_rules.specs.Events.{Opening, opening_situation}
 use Rattle.arrivals.specs.declared.aerodrome.Aerodrome as aerodromes
 use Rattle.arrivals.specs.Aerodromes.{IsInRange}
 use Rattle.arrivals.specs.declared.flight.Flight as files
-use Rattle.arrivals.specs.Flights.{AreArrivals}
 use Rattle.arrivals.specs.Seen.{flight_of}
 
 -- an aerodrome of the files, as the rules see it
@@ -46,12 +45,3 @@ pub record CanOpen (a : aerodromes.Aerodrome) (fs : List files.Flight) : Type 0 
   pub few : length fs ≤ most_flights
   pub flights : All HasRanges fs
   pub callsigns : AllPairs (λ f later. f.callsign ≢ later.callsign) fs
-
--- what the readers of the files give
-pub files_can_open : (a : aerodromes.Aerodrome) (fs : List files.Flight) → IsInRange a → AreArrivals fs → CanOpen a fs
-files_can_open a fs range read = record {
-  aerodrome = range;
-  few = read.few;
-  flights = λ k d lt. let f = read.flights k d lt in record { eta = f.eta; weight = f.weight };
-  callsigns = read.callsigns;
-}

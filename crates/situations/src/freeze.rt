@@ -1,5 +1,5 @@
 // What a clock event changes.
-ghost use Rattle.std.specs.Prelude.{◌≡◌, ℕ, ◌+◌, ◌<◌, ◌≤◌, ◌++◌, true, List, Some, IfOk, OnOk, IfSome, length, map, zip, option_map, slice_index_or};
+ghost use Rattle.std.specs.Prelude.{◌≡◌, ◌+◌, ◌<◌, ◌≤◌, ◌++◌, true, Some, IfOk, OnOk, IfSome, length, map, zip, option_map};
 ghost use Rattle.std.specs.Ordering.{is_lt};
 ghost use Rattle.landing_rules.specs.Flights.{landing};
 ghost use Rattle.landing_rules.specs.Rules.{last_second, first_come_cmp};

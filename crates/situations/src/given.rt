@@ -1,5 +1,5 @@
 // The frozen landings that an aerodrome file gives, and the rules over them.
-ghost use Rattle.std.specs.Prelude.{◌≡◌, ◌+◌, ◌<◌, ◌≤◌, ◌&&◌, Some, length, find, slice_get};
+ghost use Rattle.std.specs.Prelude.{◌≡◌, ◌+◌, ◌<◌, ◌≤◌, ◌&&◌, Some, drop, length, find};
 ghost use Rattle.landing_rules.specs.Limits.{most_flights};
 ghost use Rattle.landing_rules.specs.Rules.{is_open};
 ghost use Rattle.landing_rules.specs.Events.{named};
@@ -67,13 +67,13 @@ fn are_apart(table: &PairTable, f: &Given, g: &Given) -> bool
     is_pair_separated(table, f, g) && is_pair_separated(table, g, f)
 }
 
-// The first of the others, which stand behind the landing at place i, that is not the table's time from it.
-fn clash_of(table: &PairTable, i: usize, first: &Given, others: &[Given]) -> Option<OpeningFault>
-    requires { i + length others.now ≤ most_flights }
-    ensures { result ≡ first_from (clash_at table.now i first.now) (i + 1) others.now }
+// The first landing behind place i that is not the table's time from the one that stands there.
+fn clash_of(table: &PairTable, i: usize, first: &Given, all: &[Given]) -> Option<OpeningFault>
+    requires { (i ≤ length all.now) × (length all.now ≤ most_flights) }
+    ensures { result ≡ first_from (clash_at table.now i first.now) (i + 1) (drop i all.now) }
 {
-    let place = others.iter().position(|g| !are_apart(table, first, g));
-    place.map(|j| OpeningFault::FrozenSeparation(i as u16, (j + i + 1) as u16))
+    let place = all[i..].iter().position(|g| !are_apart(table, first, g));
+    place.map(|j| OpeningFault::FrozenSeparation(i as u16, (i + j + 1) as u16))
 }
 
 // The first two landings, neighbours or not, that are not the table's time apart.
@@ -81,12 +81,9 @@ fn first_clash(table: &PairTable, all: &[Given]) -> Option<OpeningFault>
     requires { length all.now ≤ most_flights }
     ensures { result ≡ clash_from table.now 1 all.now }
 {
-    for i in 0..all.len() {
-        if let Some(fault) = clash_of(table, i + 1, &all[i], &all[i + 1..]) {
-            return Some(fault);
-        }
-    }
-    None
+    all.iter()
+        .enumerate()
+        .find_map(|(i, first)| clash_of(table, i + 1, first, all))
 }
 
 // Whether the flight has the callsign, and waits or is frozen at the second or later.
@@ -129,12 +126,10 @@ fn first_late(active: &[Active], all: &[Given]) -> Option<OpeningFault>
     requires { length all.now ≤ most_flights }
     ensures { result ≡ first_from (late_at active.now) 1 all.now }
 {
-    for i in 0..all.len() {
-        if let Some(callsign) = late_listed(active, &all[i]) {
-            return Some(OpeningFault::FrozenPrecedence((i + 1) as u16, callsign));
-        }
-    }
-    None
+    all.iter().enumerate().find_map(|(i, given)| {
+        let callsign = late_listed(active, given)?;
+        Some(OpeningFault::FrozenPrecedence((i + 1) as u16, callsign))
+    })
 }
 
 // What is wrong with the frozen landings.

@@ -1,5 +1,5 @@
 // What an event answers.
-ghost use Rattle.std.specs.Prelude.{◌≡◌, ◌&&◌, List, Option, Some, None, length, find, is_some, nat_le, option_map, if◌then◌else◌};
+ghost use Rattle.std.specs.Prelude.{◌≡◌, ◌&&◌, Option, Some, None, length, find, is_some, nat_le, option_map, if◌then◌else◌};
 ghost use Rattle.std.specs.List.{list_any};
 ghost use Rattle.landing_rules.specs.Flights.{waiting};
 ghost use Rattle.landing_rules.specs.Limits.{most_closures, most_flights, most_waiting};
@@ -192,11 +192,8 @@ impl Situation {
     fn earliest_covered(&self, from: u32, to: u32) -> Option<(Callsign, u32)>
         ensures { result ≡ earliest_covered (from, to) self.now.active }
     {
-        let mut found: Option<(Callsign, u32)> = None;
-        for i in (0..self.active.len()).rev() {
-            found = earlier(&self.active[i], from, to, found);
-        }
-        found
+        let active = self.active.iter().rev();
+        active.fold(None, |found, flight| earlier(flight, from, to, found))
     }
 
     // How many closures stand.

@@ -1,9 +1,9 @@
-ghost use Rattle.std.specs.Prelude.{◌≡◌, [], ◌≤◌, ◌<◌, All, length, OnOk, IfOk, vec_len};
+ghost use Rattle.std.specs.Prelude.{◌≡◌, [], ◌≤◌, ◌<◌, All, OnOk, IfOk, vec_len};
 ghost use Rattle.csv.specs.Records.{fields_of};
 ghost use Rattle.cps_base.specs.Answers.{GivesAs};
 ghost use Rattle.trial_file.specs.Answers.{memory_fault};
 ghost use Rattle.trial_file.specs.Trials.{IsGood};
-ghost use Rattle.trial_file.specs.Reading.{is_header, shift_in, close_in, trial_by, trial_in, header_fault, and_in, trials_in, trials_by, trials_of};
+ghost use Rattle.trial_file.specs.Reading.{is_header, shift_in, close_in, trial_by, trial_in, and_in, trials_in, trials_by, trials_of};
 
 use crate::fault::{TrialCause, TrialFault};
 use crate::trial::Trial;

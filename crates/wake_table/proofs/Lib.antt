@@ -1,2 +1,2 @@
 -- Lemmas of the wake table.
-pub mod Firsts
+pub mod NoneFound

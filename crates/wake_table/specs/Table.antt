@@ -18,15 +18,12 @@ pairs_from letters leader = map (λ follower. (leader, follower)) letters
 abbrev pub pairs : List Category → List (Category × Category)
 pairs letters = flat_map (pairs_from letters) letters
 
--- the triples of these two, of this one, and all triples, in letter order
-abbrev pub triples_from_two : List Category → Category → Category → List (Category × Category × Category)
-triples_from_two letters a b = map (λ c. (a, b, c)) letters
-
-abbrev pub triples_from : List Category → Category → List (Category × Category × Category)
-triples_from letters a = flat_map (triples_from_two letters a) letters
+-- the triples that begin with this pair, and all triples, in letter order
+abbrev pub triples_from : List Category → Category × Category → List (Category × Category × Category)
+triples_from letters p = map (λ last. (p.0, p.1, last)) letters
 
 abbrev pub triples : List Category → List (Category × Category × Category)
-triples letters = flat_map (triples_from letters) letters
+triples letters = flat_map (triples_from letters) (pairs letters)
 
 -- the greatest separation, in seconds
 abbrev pub greatest_separation : ℕ

@@ -1,6 +1,6 @@
 ghost use Rattle.std.specs.Prelude.{◌≡◌, ◌<◌, ◌≤◌, ◌+◌, find};
 ghost use Rattle.wake_table.specs.declared.category.Category.{Category};
-ghost use Rattle.wake_table.specs.Table.{breaks_triangle, greatest_separation, is_out_of_range, pairs, separation, table_of, triples, triples_from, IsWakeTable};
+ghost use Rattle.wake_table.specs.Table.{breaks_triangle, greatest_separation, is_out_of_range, pairs, separation, table_of, triples, IsWakeTable};
 
 use crate::category::{CATEGORIES, Category};
 use std::marker::Model;
@@ -62,30 +62,15 @@ fn breaks_triangle(rows: &[[u32; 6]; 6], triple: (Category, Category, Category))
     by_middle < u64::from(entry(rows, first, last))
 }
 
-// The first such triple of a first flight, in letter order.
-fn bad_triple_from(
-    rows: &[[u32; 6]; 6],
-    letters: &[Category],
-    first: Category,
-) -> Option<(Category, Category, Category)>
-    ensures { result ≡ find (breaks_triangle rows.now) (triples_from letters.now first) }
-{
-    letters
-        .iter()
-        .flat_map(|middle| letters.iter().map(move |last| (first, *middle, *last)))
-        .find(|triple| breaks_triangle(rows, *triple))
-}
-
-// The first of all triples.
+// The first such triple, in letter order.
 fn bad_triple(rows: &[[u32; 6]; 6], letters: &[Category]) -> Option<(Category, Category, Category)>
     ensures { result ≡ find (breaks_triangle rows.now) (triples letters.now) }
 {
-    for first in letters {
-        if let Some(triple) = bad_triple_from(rows, letters, *first) {
-            return Some(triple);
-        }
-    }
-    None
+    letters
+        .iter()
+        .flat_map(|first| letters.iter().map(move |middle| (*first, *middle)))
+        .flat_map(|(first, middle)| letters.iter().map(move |last| (first, middle, *last)))
+        .find(|triple| breaks_triangle(rows, *triple))
 }
 
 /// The separation of each leader and follower: 1 to 600 seconds each, and never more than by way of a third

@@ -1,6 +1,6 @@
 //! The outcomes of trials.
 
-ghost use Rattle.std.specs.Prelude.{◌≡◌, ◌≤◌, ◌<◌, ◌+◌, All, IfOk, length};
+ghost use Rattle.std.specs.Prelude.{◌≤◌, ◌<◌, ◌+◌, All, IfOk, length};
 ghost use Rattle.landing_rules.specs.Rules.{last_second};
 ghost use Rattle.cps_problem.specs.Plans.{IsWithinShift};
 ghost use Rattle.landing_rules.specs.Sound.{IsSound};

@@ -10,13 +10,8 @@ use Rattle.landing_rules.specs.Problem.{Problem, Waiting, AreBetweenRanks}
 use Rattle.cps_problem.specs.FirstDifference.{AgreeUpTo, IsWithinBoth}
 use Rattle.cps_problem.specs.shared.EarlyLandings.{same_flight}
 use Rattle.cps_problem.specs.shared.OneDifference.{agree_back}
-use Rattle.cps_network.specs.Due.{HasCandidates}
-use Rattle.cps_network.specs.KeptStages.{HaveStageInCommon}
-use Rattle.cps_network.specs.Landable.{IsCandidate}
 use Rattle.cps_network.specs.Lists.{AreWindows}
 use Rattle.cps_network.specs.Permits.{IsPermitted, IsSuccessor, IsNextOf}
-use Rattle.cps_network.specs.WindowLaws.{WindowLaws}
-use Rattle.cps_network.specs.shared.LegalWindows.{landable_valid}
 
 -- no window of a stage places a rank that even the greatest shift does not reach
 none_above : (w k : ℕ) (xs : List ℤ) (stage rank : ℕ) → w ≡ 2 * k + 1 → IsWindow w xs → stage + k < rank → IsPlaced xs (pos stage) (pos rank) → ⊥
@@ -75,21 +70,3 @@ module _ (p q : Problem) (d : ℕ) (within : IsWithinBoth p q d) (agree : AgreeU
     where
       valid_in : (window : List ℤ) → Contains before window → IsWindow w window
       valid_in window (i, lt, at) = subst (IsWindow w) (get_or_default before i [] window lt ∙ at) (valid i lt)
-
-  -- and so the candidates of an early stage
-  module _ (laws : WindowLaws p w) (stage : ℕ) (early : suc stage + p.k < d) (common : HaveStageInCommon p q stage) where
-    candidate_there : (next : List ℤ) → IsCandidate p stage next → IsCandidate q stage next
-    candidate_there next (xs, can, s) = (xs, (common.landable xs).0 can, there stage early xs next (landable_valid p w odd laws stage xs can) s)
-
-    candidate_back : (next : List ℤ) → IsCandidate q stage next → IsCandidate p stage next
-    candidate_back next (xs, can, s) =
-        let here = (common.landable xs).1 can in
-        (xs, here, back stage early xs next (landable_valid p w odd laws stage xs here) s)
-
-    pub kept_candidates : (count : ℕ) → HasCandidates p stage count → HasCandidates q stage count
-    kept_candidates count has = record {
-      candidates = has.candidates;
-      ascending = has.ascending;
-      each = λ next. (λ h. candidate_there next ((has.each next).0 h), λ c. (has.each next).1 (candidate_back next c));
-      counted = has.counted;
-    }

@@ -1,7 +1,5 @@
 -- Listed states of which no successor pair is missed are closed under successor pairs.
-use Rattle.std.proofs.lemmas.List.{drop_all}
-use Rattle.std.specs.Option.{option_or}
-use Rattle.std.proofs.Common.{◌≤◌, length, get_or, drop, ◌<◌, ◌≡◌, ℕ, ◌+◌, inl, inr, Bool, true, false, not, ◌&&◌, leb, List, [], ◌∷◌, Option, Some, None, refl, sym, ap, subst, ◌∙◌, arith}
+use Rattle.std.proofs.Common.{◌≡◌, ℕ, ◌+◌, inl, inr, Bool, true, false, not, ◌&&◌, leb, List, [], ◌∷◌, Option, Some, None, refl, sym, ap, subst, ◌∙◌, arith}
 use Rattle.std.specs.List.{list_any}
 use Rattle.std.specs.Ordering.{is_eq}
 use Rattle.std.proofs.lemmas.Bool.{leb-true, or_cases, or_parts, and_parts}
@@ -9,9 +7,8 @@ use Rattle.cps_theory.specs.Labels.{InPairs, NoWorse, Pair, next_pair, no_worse}
 use Rattle.cps_theory.specs.LegalPrefix.{OrderRules}
 use Rattle.cps_theory.specs.Patterns.{PatternNode, PatternPermits, pattern_newest, pattern_node, pattern_push}
 use Rattle.cps_theory.specs.ClosedSets.{ClosedNodes}
-use Rattle.cps_theory.specs.FirstFound.{with_number}
 use Rattle.cps_theory.specs.CertificateClosure.{IsListed, IsListedOrStart, covers, covers_at, first_missed, is_missed, is_not_covered, missed_from, misses, node_cmp, permits_next}
-use Rattle.cps_theory.specs.laws.FirstFound.{cut_at, from_none, or_none, with_number_none}
+use Rattle.cps_theory.specs.laws.FirstFound.{from_none, or_none, with_number_none}
 use Rattle.cps_theory.specs.laws.NodeOrder.{node_tie, eq_of}
 use Rattle.cps_theory.specs.laws.PatternTests.{permits_is}
 
@@ -84,17 +81,3 @@ module _ {S : Type 0} (node_of : S → PatternNode) (pairs_of : S → List Pair)
             (o.0, inr (subst (λ (z : PatternNode). IsListed node_of pairs_of all (pattern_push g z r) o.0) k.1 o.1), o.2)
       ];
     }
-
-  -- ---- a loop over the states
-  module _ (g : OrderRules) (first : ℕ → ℕ → Option ℕ) (after : ℕ → ℕ → ℕ → ℕ) (cost : ℕ → ℕ → ℕ) (all : List S) where
-    pub missed_here : (n : ℕ) (ss : List S) (i : ℕ) (d : S) (r : ℕ) → i < length ss → first_missed node_of pairs_of g first after cost all (node_of (get_or ss i d)) (pairs_of (get_or ss i d)) ≡ Some r → missed_from node_of pairs_of g first after cost all n (drop i ss) ≡ Some (n, r)
-    unfolding missed_from
-    missed_here n ss i d r lt e = ap (missed_from node_of pairs_of g first after cost all n) (cut_at ss i d lt) ∙ ap (λ (o : Option ℕ). option_or (with_number n o) (missed_from node_of pairs_of g first after cost all (n + 1) (drop (i + 1) ss))) e
-
-    pub missed_later : (n : ℕ) (ss : List S) (i : ℕ) (d : S) → i < length ss → first_missed node_of pairs_of g first after cost all (node_of (get_or ss i d)) (pairs_of (get_or ss i d)) ≡ None → missed_from node_of pairs_of g first after cost all n (drop i ss) ≡ missed_from node_of pairs_of g first after cost all (n + 1) (drop (i + 1) ss)
-    unfolding missed_from
-    missed_later n ss i d lt e = ap (missed_from node_of pairs_of g first after cost all n) (cut_at ss i d lt) ∙ ap (λ (o : Option ℕ). option_or (with_number n o) (missed_from node_of pairs_of g first after cost all (n + 1) (drop (i + 1) ss))) e
-
-    pub missed_end : (n : ℕ) (ss : List S) (i : ℕ) → length ss ≤ i → missed_from node_of pairs_of g first after cost all n (drop i ss) ≡ None
-    unfolding missed_from
-    missed_end n ss i le = ap (missed_from node_of pairs_of g first after cost all n) (drop_all i ss le)

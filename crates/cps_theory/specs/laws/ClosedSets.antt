@@ -1,12 +1,11 @@
 -- Closed sets of pairs have one no later and no dearer for every landing of every legal prefix.
-use Rattle.std.proofs.Common.{true, ◌≡◌, ℕ, ◌≤◌, List, [], length, Option, Some, ◌⊎◌, inl, inr, refl, sym, subst, le_trans}
+use Rattle.std.proofs.Common.{true, ◌≡◌, ℕ, ◌≤◌, List, [], length, Option, Some, sym, subst, le_trans}
 use Rattle.cps_theory.specs.Separation.{Landing}
 use Rattle.cps_theory.specs.Retiming.{IsFirstOpen, NeverEarlier}
 use Rattle.cps_theory.specs.LandingTrail.{Landed, pair_of, ranks}
 use Rattle.cps_theory.specs.Labels.{NeverCheaper, NoWorse, Pair, next_pair}
 use Rattle.cps_theory.specs.LegalPrefix.{Legal, OrderRules}
 use Rattle.cps_theory.specs.Network.{Network}
-use Rattle.cps_theory.specs.StageLabels.{ListedBeside}
 use Rattle.cps_theory.specs.Patterns.{PatternNode, PatternPermits, pattern_newest, pattern_node, pattern_push}
 use Rattle.cps_theory.specs.ClosedSets.{ClosedNodes}
 use Rattle.cps_theory.specs.laws.LabelDominance.{closed_covers}
@@ -38,17 +37,3 @@ module _ (Open : ℕ → ℕ → Type 0) (first : ℕ → ℕ → Option ℕ) (a
     closed_landings_infeasible none xs legal landed whole =
         let k = closed_nodes_cover PatternNode (Legal g) (pattern_node g) (PatternPermits g) (pattern_push g) pattern_newest (pattern_network g ones) Lists c xs legal landed in
         none (pattern_node g (ranks xs)) k.0 whole k.1
-
--- the same closedness, over a list of states by place: `places` tells each listed state, and 0 is the start
-pub closed_nodes_by_places : (W : Type 0) (first : ℕ → ℕ → Option ℕ) (after : ℕ → ℕ → ℕ → ℕ) (cost : ℕ → ℕ → ℕ) (Permitted : W → ℕ → Type 0) (push : W → ℕ → W) (newest : W → ℕ) (at_start : W) (states : List W) (pairs : List (List Pair)) → ((r : ℕ) (q : Pair) → Permitted at_start r → next_pair first after cost (newest at_start) (0, 0) r ≡ Some q → (o : Pair) × ListedBeside states pairs (push at_start r) o × NoWorse o q) → ((w : W) (r : ℕ) (p q : Pair) → ListedBeside states pairs w p → Permitted w r → next_pair first after cost (newest w) p r ≡ Some q → (o : Pair) × ListedBeside states pairs (push w r) o × NoWorse o q) → ClosedNodes first after cost Permitted push newest at_start (λ w p. ((w ≡ at_start) × (p ≡ (0, 0))) ⊎ ListedBeside states pairs w p)
-closed_nodes_by_places W first after cost Permitted push newest at_start states pairs from_start from_state = record {
-  start = inl (refl, refl);
-  step = λ w r p q l permitted e. elim l [
-    | inl s ↦
-        let pm = subst (λ z. Permitted z r) s.0 permitted in
-        let e' = subst (λ z. next_pair first after cost (newest z) (0, 0) r ≡ Some q) s.0 (subst (λ z. next_pair first after cost (newest w) z r ≡ Some q) s.1 e) in
-        let o = from_start r q pm e' in
-        (o.0, inr (subst (λ z. ListedBeside states pairs (push z r) o.0) (sym s.0) o.1), o.2)
-    | inr b ↦ let o = from_state w r p q b permitted e in (o.0, inr o.1, o.2)
-  ];
-}

@@ -1,10 +1,10 @@
--- The completing pairs of a node from those of its successors; undominated ones lose nothing; a node is reached by a second exactly where its least label is no later.
+-- The completing pairs of a node from those of its successors; undominated ones lose nothing.
 use Rattle.std.proofs.Common.{◌≡◌, ℕ, ◌+◌, ◌≤◌, List, [], ◌∷◌, Option, Some, arith, refl, sym, ap, ap₂, subst, ◌∙◌, le_refl, le_trans, le_antisymm}
 use Rattle.cps_theory.specs.Separation.{Landing}
 use Rattle.cps_theory.specs.Retiming.{IsFirstOpen, NeverEarlier}
-use Rattle.cps_theory.specs.LandingTrail.{Landed, cost_of, latest_landing, pair_of, ranks}
+use Rattle.cps_theory.specs.LandingTrail.{Landed, cost_of, latest_landing, ranks}
 use Rattle.cps_theory.specs.Labels.{NeverCheaper, Pair}
-use Rattle.cps_theory.specs.Network.{Attained, Network}
+use Rattle.cps_theory.specs.Network.{Network}
 use Rattle.cps_theory.specs.CompletingPairs.{AllLow, Completes, Follows, KeptCompleting, NoEarlierNoDearer, Reached, UndominatedCompleting, onto}
 use Rattle.cps_theory.specs.laws.LabelDominance.{last_ranks}
 
@@ -118,11 +118,3 @@ module _ (W : Type 0) (Open : ℕ → ℕ → Type 0) (first : ℕ → ℕ → O
       let r = whole_continued (y ∷ xs) ys l d f a in
       let s = net.shrinks y.0 (ranks xs) r.0 in
       (s.0, r.1.2, r.2.1, (s.1, r.1.0, subst (λ k. after k (latest_landing xs).1 y.0 ≤ y.1) (sym (newest_last xs s.0)) r.1.1, r.2.0, subst (λ w. Follow w y.1 ys) (net.pushes y.0 (ranks xs) s.0) r.3))
-
--- a node is reached by b exactly where its least label is at most b
-module _ {W : Type 0} (Open : ℕ → ℕ → Type 0) (after : ℕ → ℕ → ℕ → ℕ) (cost : ℕ → ℕ → ℕ) (Legal : List ℕ → Type 0) (node : List ℕ → W) (w : W) (label : Pair) (attained : Attained Open after cost Legal node w label) (least : (q : Pair) → Attained Open after cost Legal node w q → label.0 ≤ q.0) where
-  pub label_reached : (b : ℕ) → label.0 ≤ b → Reached Open after Legal node w b
-  label_reached b le = record { landings = attained.landings; legal = attained.legal; landed = attained.landed; at = attained.at; by = let e = ap (λ (x : Pair). x.0) attained.is in omega arith }
-
-  pub reached_label : (b : ℕ) → Reached Open after Legal node w b → label.0 ≤ b
-  reached_label b r = le_trans (least (pair_of cost r.landings) (record { landings = r.landings; legal = r.legal; landed = r.landed; at = r.at; is = refl })) r.by

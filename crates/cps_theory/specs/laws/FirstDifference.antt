@@ -1,6 +1,6 @@
 -- The computed first difference is the greatest number up to which two problems agree; the stages below it attain the same pairs; what is due is at most what all stages are.
 use Rattle.std.proofs.Common.{◌≡◌, ℕ, zero, suc, ◌+◌, ◌-◌, ◌*◌, ◌<◌, ◌≤◌, ◌⊎◌, ◌↔◌, inl, inr, min, List, length, Bool, true, false, cond, ◌&&◌, leb, ltb, max, arith, refl, sym, ap, ap₂, subst, ◌∙◌, zero-le, le_refl, suc-mul}
-use Rattle.std.proofs.lemmas.Bool.{cases_lt, cases_eq, and_parts, and_from, or_cases, or_left, or_right, or_parts, leb-true, le-leb, leb-false, ltb-false, lt-ltb, false≢true}
+use Rattle.std.proofs.lemmas.Bool.{cases_lt, cases_eq, and_parts, and_from, or_cases, or_left, or_right, or_parts, leb-true, le-leb, leb-false, ltb-false, false≢true}
 use Rattle.cps_theory.specs.RankLists.{of_rank}
 use Rattle.cps_theory.specs.LandingTrail.{ranks}
 use Rattle.cps_theory.specs.Labels.{Pair}
@@ -141,10 +141,6 @@ module _ {X : Type 0} (same : X → X → Bool) (decides : (x y : X) → (same x
         apart = λ e. absurd (false≢true (sym e));
       }
 
-  pub first_difference_range : (heads : Bool) (p q : RankedFlights X) → (1 ≤ first_difference same d heads p q) × (first_difference same d heads p q ≤ suc (min (length p.flights) (length q.flights)))
-  first_difference_range false p q = (omega arith, omega arith)
-  first_difference_range true p q = (greatest_one (agrees same d p q) (min (length p.flights) (length q.flights)), (let a = (first_difference_is true p q).agree refl in let b = a.reaches.0 in let c = a.reaches.1 in omega arith))
-
 -- ---- agreement
 
 pub agree_up_sym : {X : Type 0} (d : X) (p q : RankedFlights X) (r : ℕ) → AgreeUpTo d p q r → AgreeUpTo d q p r
@@ -204,10 +200,6 @@ due_bound candidates b d k m (suc n) h =
     go : (t : Bool) → cond t (candidates (suc n)) 0 ≤ candidates (suc n)
     go true = le_refl (candidates (suc n))
     go false = zero-le
-
--- with nothing held every stage counts
-pub counts_fresh : (k p : ℕ) → 1 ≤ p → counts 1 k 0 p ≡ true
-counts_fresh k p one = or_right (leb (1 - k) p) (ltb 0 p) (lt-ltb 0 p one)
 
 -- the nodes of a stage that does not count attain the same pairs in both problems
 module _ {X : Type 0} (d : X) (v : Reading X) (p q : RankedFlights X) (r : ℕ) (g : AgreeUpTo d p q r) (op : RanksOnly p) (oq : RanksOnly q) (W : Type 0) (node : List ℕ → W) (stage : W → ℕ) (staged : (rs : List ℕ) → stage (node rs) ≡ length rs) where

@@ -22,14 +22,6 @@ module _ (Open : ℕ → ℕ → Type 0) (first : ℕ → ℕ → Option ℕ) (a
       let f = opens.least r (after l a.0 r) t open' (le_trans (later.mono l a.0 b.0 r le.0) at) in
       ((f.0, a.1 + cost r f.0), ap (option_map (λ t. (t, a.1 + cost r t))) f.1, (f.2, add-le-add le.1 (dearer.mono r f.0 t f.2)))
 
-  -- the successor of a pair no worse is no worse
-  pub next_mono : (l : ℕ) (a b : Pair) (r : ℕ) (q : Pair) → NoWorse a b → next_pair first after cost l b r ≡ Some q → (p : Pair) × (next_pair first after cost l a r ≡ Some p) × NoWorse p q
-  next_mono l a b r q le e =
-      let m = mapped (λ t. (t, b.1 + cost r t)) (first r (after l b.0 r)) q e in
-      let found = opens.found r (after l b.0 r) m.0 m.1 in
-      let c = next_covers l a b r m.0 le found.0 found.1 in
-      (c.0, c.1, subst (λ x. NoWorse c.0 x) m.2 c.2)
-
   -- a successor of landed flights is landed
   pub next_lands : (xs : List Landing) (r : ℕ) (p : Pair) → Landed Open after xs → next_pair first after cost (last_rank (ranks xs)) (pair_of cost xs) r ≡ Some p → (Landed Open after ((r, p.0) ∷ xs)) × (pair_of cost ((r, p.0) ∷ xs) ≡ p)
   next_lands xs r p l e =

@@ -14,6 +14,3 @@ more_shift p k back forward further t f = record {
 
 pub more_shift_no_worse : (p : RankedProblem) (k : ℕ) (back : ℕ → ℕ) → p.rules.most ≤ k → ((r : ℕ) → p.rules.back r ≤ back r) → (value : (ℕ → ℕ) → ℕ) (t u : ℕ → ℕ) → IsBest p value t → IsBest (with_shift k back p) value u → value u ≤ value t
 more_shift_no_worse p k back forward further value t u best more = more.least t (more_shift p k back forward further t best.feasible)
-
-pub less_shift_infeasible : (p : RankedProblem) (k : ℕ) (back : ℕ → ℕ) → p.rules.most ≤ k → ((r : ℕ) → p.rules.back r ≤ back r) → ((u : ℕ → ℕ) → Feasible (with_shift k back p) u → ⊥) → (t : ℕ → ℕ) → Feasible p t → ⊥
-less_shift_infeasible p k back forward further none t f = none t (more_shift p k back forward further t f)

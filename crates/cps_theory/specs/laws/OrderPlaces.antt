@@ -1,7 +1,7 @@
 -- A front of an order that keeps the rules place by place, reversed, is a list whose ranks each fit behind those before them.
 use Rattle.std.proofs.Common.{◌≡◌, ℕ, zero, suc, ◌+◌, ◌<◌, ◌≤◌, inl, inr, List, length, take, reverse, get_or, arith, sym, ap, subst, ◌∙◌, length-take}
 use Rattle.std.proofs.lemmas.Bool.{cases_eq}
-use Rattle.std.proofs.lemmas.List.{length-reverse, take_all}
+use Rattle.std.proofs.lemmas.List.{length-reverse}
 use Rattle.cps_theory.specs.RankLists.{In}
 use Rattle.cps_theory.specs.LegalPrefix.{EachFits, KeepsOrderByPlace, OrderRules}
 use Rattle.cps_theory.specs.laws.OrderLoops.{front_more}
@@ -44,7 +44,3 @@ order_each_fits g order k (suc i) le =
       },
       order_each_fits g order k i (omega arith),
     )
-
--- the whole order
-pub whole_order_each_fits : (g : OrderRules) (order : List ℕ) → KeepsOrderByPlace g order → EachFits g (reverse order)
-whole_order_each_fits g order k = subst (λ l. EachFits g (reverse l)) (take_all (length order) order (omega arith)) (order_each_fits g order k (length order) (omega arith))

@@ -3,7 +3,6 @@ use Rattle.std.proofs.Common.{◌≡◌, ◌⊎◌, inl, inr, List, [], ◌∷�
 use Rattle.std.proofs.lemmas.Bool.{and_parts, leb-true, false≢true}
 use Rattle.cps_theory.specs.Labels.{InPairs, NoWorse, Pair, no_worse}
 use Rattle.cps_theory.specs.UndominatedPairs.{Covers, add_pair, some_no_worse, without}
-use Rattle.cps_theory.specs.laws.LabelDominance.{no_worse_trans}
 
 pub no_worse_true : (p q : Pair) → no_worse p q ≡ true → NoWorse p q
 no_worse_true p q e = let a = and_parts (leb p.0 q.0) (leb p.1 q.1) e in (leb-true p.0 q.0 a.0, leb-true p.1 q.1 a.1)
@@ -43,14 +42,3 @@ add_covers p qs = λ q i. go (some_no_worse p qs) refl q i
     go true e q (inr i) = (q, i, (le_refl q.0, le_refl q.1))
     go false e q (inl s) = (p, inl refl, subst (NoWorse p) (sym s) (le_refl p.0, le_refl p.1))
     go false e q (inr i) = elim (without_covers p q qs i) [ inl l ↦ (p, inl refl, l) | inr j ↦ (q, inr j, (le_refl q.0, le_refl q.1)) ]
-
-pub add_in : (p q : Pair) (qs : List Pair) → InPairs q (add_pair p qs) → InPairs q (p ∷ qs)
-add_in p q qs = go (some_no_worse p qs)
-  where
-    go : (b : Bool) → InPairs q (cond b qs (p ∷ without p qs)) → (q ≡ p) ⊎ InPairs q qs
-    go true i = inr i
-    go false (inl s) = inl s
-    go false (inr i) = inr (without_in p q qs i)
-
-pub covers_trans : (ps qs rs : List Pair) → Covers ps qs → Covers qs rs → Covers ps rs
-covers_trans ps qs rs a b = λ p i. let x = a p i in let y = b x.0 x.1 in (y.0, y.1, no_worse_trans y.0 x.0 p y.2 x.2)

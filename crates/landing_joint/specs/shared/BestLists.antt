@@ -78,9 +78,6 @@ module _ (p : lists'.Problem) (v : Schedule) (long : length v ≡ length p.fligh
 
 -- ---- best and tight lists
 
-at_or : (xs : List ℕ) (i : ℕ) → of_rank 0 xs (suc i) ≡ get_or xs i 0
-at_or xs i = refl
-
 pub zip_of : (xs ys : List ℕ) → length xs ≡ length ys → ((i : ℕ) → i < length xs → get_or xs i 0 ≤ get_or ys i 0) → AllZip (λ a b. a ≤ b) xs ys
 zip_of [] [] e h = tt
 zip_of [] (y ∷ ys) e h = absurd (omega arith)

@@ -19,15 +19,6 @@ use Rattle.landing_joint.specs.CompletingPairs.{AreOneNode, CanLandBy, EndsOrder
 
 -- ---- nodes
 
-one_refl : (rs : List ℕ) → AreOneNode rs rs
-one_refl rs = record { stage = refl; placed = λ x. (λ i. i, λ i. i); latest = refl }
-
-pub one_sym : (rs os : List ℕ) → AreOneNode rs os → AreOneNode os rs
-one_sym rs os n = record { stage = sym n.stage; placed = λ x. let a = n.placed x in (a.1, a.0); latest = sym n.latest }
-
-pub one_trans : (rs os qs : List ℕ) → AreOneNode rs os → AreOneNode os qs → AreOneNode rs qs
-one_trans rs os qs m n = record { stage = m.stage ∙ n.stage; placed = λ x. let a = m.placed x in let b = n.placed x in (λ i. b.0 (a.0 i), λ i. a.1 (b.1 i)); latest = m.latest ∙ n.latest }
-
 same_member : (x : ℕ) (rs os : List ℕ) → In x rs ↔ In x os → is_member x rs ≡ is_member x os
 same_member x rs os h = go (is_member x rs) (is_member x os) refl refl
   where

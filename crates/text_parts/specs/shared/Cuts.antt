@@ -1,5 +1,5 @@
 -- A text is cut at its first mark.
-use Rattle.std.proofs.Common.{◌≡◌, ℕ, ◌+◌, ◌-◌, ◌<◌, ◌≤◌, List, [], ◌∷◌, Bool, false, length, take, drop, Some, None, arith, inl, inr, length-drop}
+use Rattle.std.proofs.Common.{◌≡◌, ℕ, ◌+◌, ◌-◌, ◌<◌, ◌≤◌, List, [], ◌∷◌, false, length, take, drop, Some, None, arith, inl, inr, length-drop}
 use Rattle.std.specs.Prelude.{◌==◌, position, nat_lt}
 use Rattle.std.specs.List.{position_or_len}
 use Rattle.std.proofs.Math.Seq.{take-length}
@@ -10,9 +10,6 @@ use Rattle.std.proofs.lemmas.List.Sums.{fails_before_first, count_by-le-length}
 use Rattle.std.proofs.lemmas.List.Elements.{All-from_get_or}
 use Rattle.std.proofs.lemmas.List.Splits.{slice_split_first, slice_split_none, length-slice_split}
 use Rattle.text_parts.specs.Parts.{parts}
-
-abbrev pub is_mark : ℕ → ℕ → Bool
-is_mark mark b = b == mark
 
 rest_is : (k : ℕ) (text : List ℕ) → take (length text - k) (drop k text) ≡ drop k text
 rest_is k text = rw (← length-drop k text) (take-length (drop k text))

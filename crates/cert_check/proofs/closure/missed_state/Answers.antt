@@ -1,39 +1,37 @@
--- One state more, or the end.
-use Rattle.std.proofs.Common.{◌∙◌, ◌+◌, sym, ap, arith}
+use Rattle.std.proofs.Common.{◌≡◌, ◌+◌, ◌<◌, ℕ, length, List, [], ◌∷◌, refl, ap, rules, tests, arith, ◌∙◌}
+use Rattle.std.specs.Option.{option_or}
+use Rattle.std.specs.List.{enumerate_from}
+use Rattle.std.proofs.lemmas.Iterator.{YieldsList-from_slice}
+use Rattle.std.proofs.lemmas.Iterator.Adapters.{serves_from_places}
+use Rattle.std.proofs.lemmas.Iterator.Consumers.{YieldsList-from_enumerate}
+use Rattle.std.proofs.lemmas.List.FromFn.{length-enumerate_from, get_or-enumerate_from}
 use Rattle.certificate.specs.States.{State}
-use Rattle.cps_theory.specs.laws.FirstFound.{passes_at}
-use Rattle.cps_theory.specs.laws.CertificateClosure.{missed_here, missed_later, missed_end}
-use Rattle.landing_joint.specs.RankedProblem.{first_at, cost_at}
-use Rattle.cert_check.specs.States.{node_of, pairs_of, rules_of, ready, first_missed, is_misshapen}
+use Rattle.landing_rules.specs.Problem.{Problem}
+use Rattle.cps_theory.specs.FirstFound.{with_number}
+use Rattle.cps_theory.specs.CertificateClosure as closure
+use Rattle.cps_theory.specs.laws.FirstFound.{each_fails}
+use Rattle.cert_check.specs.States.{node_of, first_missed, missed_from, is_misshapen}
+use Rattle.cps_base.specs.laws.FindMap.{first_answer, first_answer_from_find_map}
 use Rattle.cert_check.proofs.closure.missed_state.Goals as goal
 
-pub missed_at-requires-clause-shaped : goal.missed_at-requires-clause-shaped
-missed_at-requires-clause-shaped c =
-    let p = c.args.problem.now in
-    let ss = c.args.states.now in
-    ap (is_misshapen p) c.index-states-at.is ∙ (passes_at (is_misshapen p) (c.loop-at.at + 1) ss c.loop-at.at c.index-states-at.result (omega arith) c.loop-at.invariant.shaped).0
+states_answer : (p : Problem) (all : List State) (n : ℕ) (ss : List State) → first_answer (λ s. with_number (s.0 + 1) (first_missed p all (node_of s.1) s.1.pairs)) (enumerate_from n ss) ≡ missed_from p all (n + 1) ss
+unfolding first_answer closure.missed_from
+states_answer p all n [] = refl
+states_answer p all n (s ∷ ss) = ap (option_or (with_number (n + 1) (first_missed p all (node_of s) s.pairs))) (states_answer p all (n + 1) ss)
 
-pub returns-in-Some : goal.returns-in-Some
-returns-in-Some c =
+pub find_map-requires-clause-callable : goal.find_map-requires-clause-callable
+find_map-requires-clause-callable c =
     let p = c.args.problem.now in
     let ss = c.args.states.now in
-    let d = c.index-states-at.result in
-    let here = ap (λ (s : State). first_missed p ss (node_of s) s.pairs) (sym c.index-states-at.is) ∙ sym c.missed_at.ensures ∙ c.in-Some.is in
-    sym (sym c.loop-at.invariant.same ∙ missed_here node_of pairs_of (rules_of p) (first_at p) (ready p) (cost_at p) ss (c.loop-at.at + 1) ss c.loop-at.at d _ (omega arith) here)
-
-pub loop-at-preserved : goal.loop-at-preserved
-loop-at-preserved c =
-    let p = c.args.problem.now in
-    let ss = c.args.states.now in
-    let d = c.index-states-at.result in
-    let here = ap (λ (s : State). first_missed p ss (node_of s) s.pairs) (sym c.index-states-at.is) ∙ sym c.missed_at.ensures ∙ c.in_default.is in
-    record {
-      same = sym (missed_later node_of pairs_of (rules_of p) (first_at p) (ready p) (cost_at p) ss (c.loop-at.at + 1) ss c.loop-at.at d (omega arith) here) ∙ c.loop-at.invariant.same;
-      shaped = (passes_at (is_misshapen p) (c.loop-at.at + 1) ss c.loop-at.at d (omega arith) c.loop-at.invariant.shaped).1;
-    }
+    serves_from_places (YieldsList-from_enumerate (YieldsList-from_slice ss (search (rules))) (search (rules))) (λ x q k. search (rules, tests)) (λ x k lt e.
+    let below : k < length ss = omega (arith, length-enumerate_from 0 ss, lt) in
+    let there = e ∙ get_or-enumerate_from 0 ss k (x.0, x.1.now) below in
+    let few : x.0 < 4294967295 = omega (arith, ap (λ s. s.0) there, below, c.requires.few) in
+    let shaped = ap (λ s. is_misshapen p s.1) there ∙ each_fails (is_misshapen p) 1 ss c.requires.shaped k x.1.now below in
+    search (rules, few, shaped))
 
 pub returns : goal.returns
 returns c =
-    let p = c.args.problem.now in
-    let ss = c.args.states.now in
-    sym (sym c.loop-at.invariant.same ∙ missed_end node_of pairs_of (rules_of p) (first_at p) (ready p) (cost_at p) ss (c.loop-at.at + 1) ss c.loop-at.at (omega arith))
+    first_answer_from_find_map (λ s. with_number (s.0 + 1) (first_missed c.args.problem.now c.args.states.now (node_of s.1) s.1.pairs)) _ (λ x r q k. search (rules, tests)) c.find_map.result c.find_map.ensures.runs
+    (YieldsList-from_enumerate (YieldsList-from_slice c.args.states.now (search (rules))) (search (rules)))
+    ∙ states_answer c.args.problem.now c.args.states.now 0 c.args.states.now

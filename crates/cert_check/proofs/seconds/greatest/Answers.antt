@@ -4,7 +4,7 @@ use Rattle.std.proofs.lemmas.Iterator.{YieldsList-from_range}
 use Rattle.std.proofs.lemmas.Iterator.Consumers.{fold_from_yields_List}
 use Rattle.cps_theory.specs.Feasible.{greatest}
 use Rattle.cert_check.specs.Landings.{count, second}
-use Rattle.cert_check.proofs.Ranks.{ranks_folded}
+use Rattle.cps_theory.specs.laws.RanksBelow.{ranks_folded}
 use Rattle.cert_check.proofs.seconds.greatest.Goals as goal
 
 pub returns : goal.returns

@@ -9,7 +9,7 @@ use Rattle.std.proofs.lemmas.List.Sums.{length-filter, sum_by-cons}
 use Rattle.cps_theory.specs.RankLists.{upto}
 use Rattle.landing_joint.specs.shared.RankedLists.{place_is}
 use Rattle.cert_check.specs.Landings.{count, second, seconds, second_of}
-use Rattle.cert_check.proofs.Ranks.{ranks_folded}
+use Rattle.cps_theory.specs.laws.RanksBelow.{ranks_folded}
 use Rattle.cert_check.proofs.seconds.place.Goals as goal
 
 pub returns-clause-value : goal.returns-clause-value

@@ -9,7 +9,7 @@ use Rattle.cps_theory.specs.Feasible.{total}
 use Rattle.cps_theory.specs.RankLists.{upto}
 use Rattle.landing_joint.specs.RankedProblem.{cost_at}
 use Rattle.cert_check.specs.Landings.{count, second}
-use Rattle.cert_check.proofs.Ranks.{ranks_folded}
+use Rattle.cps_theory.specs.laws.RanksBelow.{ranks_folded}
 use Rattle.cert_check.proofs.seconds.total_cost.Goals as goal
 
 -- a cost, which is at most this

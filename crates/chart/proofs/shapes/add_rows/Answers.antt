@@ -1,4 +1,4 @@
-use Rattle.std.proofs.Common.{List, [], ◌∷◌, ◌++◌, ◌+◌, ◌-◌, Bool, length, map, take, drop, sym, ap, ◌∙◌, arith}
+use Rattle.std.proofs.Common.{◌++◌, ◌+◌, ◌-◌, Bool, length, map, take, drop, sym, ap, arith}
 use Rattle.audit.specs.Findings.{finding_of}
 use Rattle.chart.specs.Elements.{row_drawn, rows_drawn}
 use Rattle.chart.proofs.Steps.{loop_step, tail_read}

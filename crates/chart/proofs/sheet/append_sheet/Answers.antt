@@ -1,5 +1,4 @@
-use Rattle.std.proofs.Common.{◌≡◌, ℕ, List, [], ◌∷◌, ◌++◌, ap, ◌∙◌}
-use Rattle.std.specs.Prelude.{codes, decimal, option_map, map}
+use Rattle.std.proofs.Common.{ℕ, List, ◌++◌}
 use Rattle.chart.specs.Texts.{sheet_head}
 use Rattle.chart.specs.Sheets.{style_text, columns_text, key_text}
 use Rattle.chart.proofs.Steps.{then}

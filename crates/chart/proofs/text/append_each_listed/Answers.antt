@@ -1,4 +1,4 @@
-use Rattle.std.proofs.Common.{◌≡◌, ℕ, List, ◌-◌, length, map, take, drop, refl}
+use Rattle.std.proofs.Common.{ℕ, List, ◌-◌, length, map, take, drop, refl}
 use Rattle.std.specs.Prelude.{flat_map}
 use Rattle.audit.specs.declared.finding.Finding.{Finding}
 use Rattle.audit.specs.Findings.{finding_of}

@@ -1,5 +1,5 @@
-use Rattle.std.proofs.Common.{◌≡◌, ℕ, List, [], ◌∷◌, ◌++◌, ap, ◌∙◌}
-use Rattle.std.specs.Prelude.{codes, decimal, option_map, map}
+use Rattle.std.proofs.Common.{ℕ, List, ◌++◌}
+use Rattle.std.specs.Prelude.{codes, option_map, map}
 use Rattle.chart.specs.Texts.{elements_text, verdict_text}
 use Rattle.audit.specs.Findings.{finding_of}
 use Rattle.chart.proofs.Steps.{then}

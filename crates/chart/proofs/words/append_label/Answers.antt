@@ -1,5 +1,5 @@
-use Rattle.std.proofs.Common.{◌≡◌, ℕ, List, [], ◌∷◌, ◌++◌, ap, ◌∙◌}
-use Rattle.std.specs.Prelude.{codes, decimal, option_map, map}
+use Rattle.std.proofs.Common.{ℕ, List, ◌++◌, ap, ◌∙◌}
+use Rattle.std.specs.Prelude.{codes}
 use Rattle.chart.specs.Texts.{category_cell, label_end, label_head, label_open, number_cell, shift_cell}
 use Rattle.chart.proofs.Steps.{then}
 use Rattle.chart.proofs.words.append_label.Goals as goal

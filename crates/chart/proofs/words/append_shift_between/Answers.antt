@@ -1,5 +1,5 @@
-use Rattle.std.proofs.Common.{◌≡◌, ℕ, List, [], ◌∷◌, ◌++◌, ap, ◌∙◌}
-use Rattle.std.specs.Prelude.{codes, decimal, option_map, map}
+use Rattle.std.proofs.Common.{ℕ, List, ◌++◌}
+use Rattle.std.specs.Prelude.{codes}
 use Rattle.chart.specs.Texts.{shift_words}
 use Rattle.chart.proofs.Steps.{then}
 use Rattle.chart.proofs.words.append_shift_between.Goals as goal

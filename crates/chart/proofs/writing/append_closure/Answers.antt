@@ -1,5 +1,4 @@
-use Rattle.std.proofs.Common.{◌≡◌, ℕ, List, [], ◌∷◌, ◌++◌, ap, ◌∙◌}
-use Rattle.std.specs.Prelude.{codes, decimal, option_map, map}
+use Rattle.std.proofs.Common.{ℕ, List, [], ◌∷◌, ◌++◌}
 use Rattle.chart.specs.Texts.{closure_head, moment, shape_end}
 use Rattle.chart.proofs.Steps.{then}
 use Rattle.chart.proofs.writing.append_closure.Goals as goal

@@ -1,5 +1,5 @@
-use Rattle.std.proofs.Common.{◌≡◌, ℕ, List, [], ◌∷◌, ◌++◌, ap, ◌∙◌}
-use Rattle.std.specs.Prelude.{codes, decimal, option_map, map}
+use Rattle.std.proofs.Common.{ℕ, List, ◌++◌}
+use Rattle.std.specs.Prelude.{codes, decimal}
 use Rattle.chart.specs.Texts.{bottom_of}
 use Rattle.chart.proofs.Steps.{then}
 use Rattle.chart.proofs.writing.append_horizon_head.Goals as goal

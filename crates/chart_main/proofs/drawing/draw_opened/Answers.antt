@@ -1,4 +1,3 @@
-use Rattle.std.proofs.Common.{[]}
 use Rattle.sequencer.specs.Opened.{opened}
 use Rattle.chart.specs.Held.{found_in}
 use Rattle.chart_main.proofs.Texts.{text_of}

@@ -1,8 +1,8 @@
-use Rattle.std.proofs.Common.{◌+◌, subst, arith}
+use Rattle.std.proofs.Common.{arith}
 use Rattle.std.proofs.lemmas.Result.{err_from_is_err_and}
 use Rattle.arrivals.specs.Seen.{event_of}
 use Rattle.event_answers.specs.shared.LongerRuns.{event_at, none_left}
-use Rattle.efforts.proofs.Efforts.{Done, begins, goes_on, stops, ends}
+use Rattle.efforts.proofs.Efforts.{begins, goes_on, stops, ends}
 use Rattle.efforts.proofs.over_events.plan_events.Goals as goal
 
 pub loop-i-init : goal.loop-i-init

@@ -1,4 +1,4 @@
-use Rattle.std.proofs.Common.{rules, arith}
+use Rattle.std.proofs.Common.{rules}
 use Rattle.first_best.proofs.budget.limit_of.Goals as goal
 
 pub returns-in-Some : goal.returns-in-Some

@@ -1,7 +1,6 @@
-use Rattle.std.proofs.Common.{◌≡◌, ℕ, Option, Some, sym, ap, subst, ◌∙◌}
+use Rattle.std.proofs.Common.{ℕ, sym, subst}
 use Rattle.landing_rules.specs.FirstBest.{IsFirstBestList}
 use Rattle.landing_rules.specs.Problem.{Problem}
-use Rattle.landing_rules.specs.Text.{plan_shown, ShownPlan}
 use Rattle.landing_joint.specs.CompletingPairs.{IsLeastObjective}
 use Rattle.inquiry_commands.proofs.FirstPlans.{first_shown, first_value, shown_least}
 use Rattle.inquiry_commands.proofs.first_plans.first_plan.Goals as goal

@@ -1,7 +1,6 @@
 -- The items of the lanes are those of the list, at their places.
 use Rattle.std.proofs.Common.{◌≡◌, ℕ, ◌+◌, ◌-◌, ◌*◌, ◌<◌, ◌≤◌, ◌∙◌, arith, rules, ap, subst, sym, length, Ok, slice_index_or}
-use Rattle.std.specs.Prelude.{IfOk, min, vec_len}
-use Rattle.std.specs.List.{flat_map}
+use Rattle.std.specs.Prelude.{IfOk, min}
 use Rattle.std.proofs.lemmas.List.{get_or-map, length-map}
 use Rattle.std.proofs.lemmas.Result.{IfOk-weaker}
 use Rattle.label_workers.proofs.LaneLemmas.{AreLanes, IsLane, all_long, all_each}

@@ -1,5 +1,4 @@
 use Rattle.std.proofs.Common.{◌+◌, ◌++◌, ◌∙◌, ap, drop}
-use Rattle.landing_rules.specs.Text.{line, landing_words}
 use Rattle.plan_file.specs.Shown.{shown_of}
 use Rattle.plan_text.proofs.Landings.{landing_lines, lines_left}
 use Rattle.plan_text.proofs.block.append_landings.Goals as goal

@@ -1,5 +1,4 @@
 use Rattle.std.proofs.Common.{[], arith}
-use Rattle.replan.specs.Stages.{LabelledStage}
 use Rattle.replan.proofs.StageLemmas.{one_more}
 use Rattle.replan.proofs.stages.first_stage.Goals as goal
 

@@ -1,15 +1,18 @@
--- The fault found is the first along the letters, and there is none where none is found.
-use Rattle.std.proofs.Common.{arith, refl}
-use Rattle.wake_table.specs.declared.category.Category.TheVariants.{A}
-use Rattle.wake_table.specs.Table.{breaks_triangle, triples_from}
-use Rattle.wake_table.proofs.Firsts.{through_lists, found, next, nowhere}
+use Rattle.std.proofs.Common.{refl, rules, tests, sym, ◌∙◌}
+use Rattle.std.specs.Iterator.Adapters.{map_callee, flatten_source}
+use Rattle.std.proofs.lemmas.Iterator.{YieldsList-from_slice, YieldsList-from_map}
+use Rattle.std.proofs.lemmas.Iterator.Search.{find_from_yields_List}
+use Rattle.std.proofs.lemmas.Iterator.Adapters.{YieldsList-from_flat_map, option_map_id}
+use Rattle.wake_table.specs.Table.{breaks_triangle, pairs_from, triples_from}
 use Rattle.wake_table.proofs.table.bad_triple.Goals as goal
 
-pub returns-in-Some : goal.returns-in-Some
-returns-in-Some c = found _ _ (through_lists (breaks_triangle c.args.rows.now) (triples_from c.args.letters.now)) c.args.letters.now c.loop-first.first-index A _ c.loop-first.invariant (omega arith) (rw (← c.bad_triple_from.ensures, c.in-Some.is) refl)
-
-pub loop-first-preserved : goal.loop-first-preserved
-loop-first-preserved c = next _ _ (through_lists (breaks_triangle c.args.rows.now) (triples_from c.args.letters.now)) c.args.letters.now c.loop-first.first-index A c.loop-first.invariant (omega arith) (rw (← c.bad_triple_from.ensures, c.in_default.is) refl)
-
 pub returns : goal.returns
-returns c = nowhere _ _ (through_lists (breaks_triangle c.args.rows.now) (triples_from c.args.letters.now)) c.args.letters.now c.loop-first.first-index c.loop-first.invariant (omega arith)
+returns c =
+    sym (option_map_id c.find.result) ∙ find_from_yields_List (breaks_triangle c.args.rows.now) _ _ c.find.result c.find.ensures.ran
+    (YieldsList-from_flat_map _ _ _ (λ x. x) (triples_from c.args.letters.now) (map_callee (flatten_source c.flat_map-2.result))
+    (λ p u q k. (search (rules), λ j b. YieldsList-from_map _ (λ last. (p.0, p.1, last)) (YieldsList-from_slice c.args.letters.now (search (rules))) refl (λ last r q2 k2. search (rules, tests))))
+    (YieldsList-from_flat_map _ _ _ (λ x. x) (pairs_from c.args.letters.now) (map_callee (flatten_source c.flat_map.result))
+    (λ first u q k. (search (rules), λ j b. YieldsList-from_map _ (λ middle. (first.now, middle)) (YieldsList-from_slice c.args.letters.now (search (rules))) refl (λ y r q2 k2. search (rules, tests))))
+    (YieldsList-from_slice c.args.letters.now (search (rules))) (cc) (search (rules)) (search (rules)) (search (rules)))
+    (cc) (search (rules)) (search (rules)) (search (rules)))
+    (λ x b q k. search (rules, tests))

@@ -1,4 +1,4 @@
-use Rattle.std.proofs.Common.{◌≡◌, ◌∙◌, ◌<◌, ap, arith, refl, sym, map, length, Some, List}
+use Rattle.std.proofs.Common.{◌≡◌, ◌∙◌, ◌<◌, ap, arith, refl, sym, length, Some, List}
 use Rattle.std.specs.Prelude.{slice_get}
 use Rattle.landing_rules.specs.Text.{ShownLanding}
 use Rattle.plan_file.specs.Shown.{shown_of}

@@ -1,5 +1,5 @@
 -- An entry of a table is in range and keeps the triangle inequality.
-use Rattle.wake_table.proofs.Firsts.{table_range, table_triangle}
+use Rattle.wake_table.proofs.NoneFound.{table_range, table_triangle}
 use Rattle.wake_table.proofs.table.PairTable.sep.Goals as goal
 
 pub returns : goal.returns

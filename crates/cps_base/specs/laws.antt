@@ -1,0 +1,2 @@
+-- The laws: the public lemmas that crates above cite.
+pub mod FindMap
