@@ -30,15 +30,11 @@ fn is_named(active: &Active, callsign: Callsign) -> bool
 fn find_active(active: &[Active], callsign: Callsign) -> Result<Option<Active>, AllocError>
     ensures { IfOk result (λ found. found ≡ find (named callsign) active.now) }
 {
-    let mut rest = active;
-    while let [first, after @ ..] = rest {
-        if is_named(first, callsign) {
-            let found = first.clone()?;
-            return Ok(Some(found));
-        }
-        rest = after;
-    }
-    Ok(None)
+    let Some(found) = active.iter().find(|a| is_named(a, callsign)) else {
+        return Ok(None);
+    };
+    let found = found.clone()?;
+    Ok(Some(found))
 }
 
 // The row of a line.
