@@ -57,10 +57,11 @@ fn is_known(version: u8, part: Part, key: &str) -> bool
 pub(crate) fn only(version: u8, part: Part, table: &Table) -> Result<(), AeroFault>
     ensures { result ≡ only version part (table_view table.now) }
 {
-    for (key, _) in table.iter() {
-        if !is_known(version, part, key.as_str()) {
-            return Err(AeroFault::UnknownKey(part, KeyText::of(key.as_bytes())));
-        }
+    let unknown = table
+        .iter()
+        .find(|(key, _)| !is_known(version, part, key.as_str()));
+    match unknown {
+        Some((key, _)) => Err(AeroFault::UnknownKey(part, KeyText::of(key.as_bytes()))),
+        None => Ok(()),
     }
-    Ok(())
 }

@@ -47,11 +47,10 @@ fn second_of(found: &Found) -> u32
 fn greatest_second(found: &[Found]) -> u32
     ensures { result ≡ greatest (map (λ f. f.second) (map landing_of found.now)) }
 {
-    let mut latest = 0;
-    for i in (0..found.len()).rev() {
-        latest = second_of(&found[i]).max(latest);
-    }
-    latest
+    found
+        .iter()
+        .rev()
+        .fold(0, |latest, found| second_of(found).max(latest))
 }
 
 // What the landing costs: its delay after the estimate, by weight.

@@ -38,13 +38,7 @@ fn wrong_digit(k: u8, n: u8, node: &Node) -> Option<u8>
 fn ones(pattern: &Pattern) -> u8
     ensures { result ≡ count_by is_one pattern.now }
 {
-    let mut ones = 0;
-    for j in 0..pattern.length() {
-        if digit(pattern, j + 1) {
-            ones += 1;
-        }
-    }
-    ones
+    pattern.digits().iter().filter(|is_one| **is_one).count() as u8
 }
 
 #[tactic(auto, unfolding(crate::specs::States::is_shaped))]

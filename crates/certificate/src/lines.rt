@@ -97,16 +97,7 @@ fn pairs_of(alloc: Global, text: Option<&[u8]>) -> Result<Option<Vec<(u32, u32)>
 fn rise(pairs: &[(u32, u32)]) -> bool
     ensures { result ≡ rises pairs.now }
 {
-    let mut rest = pairs;
-    while let [first, after @ ..] = rest {
-        if let [next, ..] = after {
-            if !(first.0 < next.0 && next.1 < first.1) {
-                return false;
-            }
-        }
-        rest = after;
-    }
-    true
+    pairs.is_sorted_by(|pair, next| pair.0 < next.0 && next.1 < pair.1)
 }
 
 // The landing that a line says.

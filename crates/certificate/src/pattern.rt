@@ -58,8 +58,8 @@ impl Pattern {
         Pattern { digits: kept, len }
     }
 
-    // The digits, the first of them digit 1.
-    pub(crate) fn digits(&self) -> &[bool]
+    /// The digits, the first of them digit 1.
+    pub fn digits(&self) -> &[bool]
         ensures value { result.now ≡ self.now }
         ensures size { is_pattern_length (length self.now) ≡ true }
     {

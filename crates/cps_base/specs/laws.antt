@@ -1,2 +1,3 @@
 -- The laws: the public lemmas that crates above cite.
 pub mod FindMap
+pub mod Folds

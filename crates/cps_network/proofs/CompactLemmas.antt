@@ -5,7 +5,7 @@ use Rattle.std.specs.List.{AllZip, swap}
 use Rattle.std.proofs.Math.ListN.{set}
 use Rattle.std.proofs.Math.Seq.{take-suc, take-suc-set}
 use Rattle.std.proofs.lemmas.Bool.Decides.{nat_tests}
-use Rattle.std.proofs.lemmas.List.{drop-set-lt, take-set, take-set-le, drop-drop, get_or-drop, take_all, length-take-le}
+use Rattle.std.proofs.lemmas.List.{drop-set-lt, take-set, take-set-le, drop-drop, get_or-drop, length-take-le}
 use Rattle.std.proofs.lemmas.List.Edits.{swap_is, length-swap}
 use Rattle.cps_network.specs.Compacted.{kept_where}
 
@@ -108,21 +108,6 @@ pub IsCompacting-start : {A : Type 0} (old : List A) → IsCompacting old old []
 IsCompacting-start old = record { within = omega arith; end = omega arith; len = refl; long = refl; front = refl; rest = refl }
 
 -- ---- where each place is kept
-
-replicate_more : (n : ℕ) → replicate n true ++ true ∷ [] ≡ replicate (suc n) true
-replicate_more zero = refl
-replicate_more (suc n) = ap (λ (zs : List Bool). true ∷ zs) (replicate_more n)
-
--- one place more is kept
-pub all_more : {A : Type 0} (R : A → Bool → Type 0) (old : List A) (i : ℕ) (d : A) → i < length old
-    → AllZip R (take i old) (replicate i true) → R (get_or old i d) true → AllZip R (take (i + 1) old) (replicate (i + 1) true)
-all_more {A} R old i d lt all one =
-    let same : replicate i true ++ true ∷ [] ≡ replicate (i + 1) true = replicate_more i ∙ ap (λ (n : ℕ). replicate n true) (sym (add-one i)) in
-    subst (λ (bs : List Bool). AllZip R (take (i + 1) old) bs) same (zip_more R old (replicate i true) i true d lt all one)
-
-pub all_end : {A : Type 0} (R : A → Bool → Type 0) (old : List A) (i n : ℕ) → i ≡ n → length old ≤ i → AllZip R (take i old) (replicate i true) → AllZip R old (replicate n true)
-all_end {A} R old i n e end all =
-    subst (λ (m : ℕ). AllZip R old (replicate m true)) e (subst (λ (zs : List A). AllZip R zs (replicate i true)) (take_all i old end) all)
 
 pub all_as_they_were : {A : Type 0} (n : ℕ) (xs : List A) → length xs ≤ n → kept_where (replicate n true) xs ≡ xs
 all_as_they_were zero [] le = refl

@@ -14,12 +14,12 @@ pub(crate) fn keeps_all<T: Drop, F: Fn(&T) -> bool>(labels: &Vec<T>, accepts: &F
     ensures { IsTrue result → AllZip (FnReturnsAt F.Fn accepts.now) labels.now.items
         (replicate (vec_len labels.now) true) }
 {
-    for i in 0..labels.len() {
-        if !accepts(&labels[i]) {
-            return false;
-        }
-    }
-    true
+    labels.iter().all(
+        |label: &T| -> bool
+            requires { F.IsAlwaysCallable accepts.now }
+            ensures { FnReturnsAt F.Fn accepts.entry.now label.now result }
+        { accepts(label) },
+    )
 }
 
 // Keeps the windows and the labels at the places whose label `keep` accepts, in order.

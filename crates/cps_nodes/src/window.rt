@@ -109,17 +109,23 @@ fn shift<const W: usize>(digits: u32, offset: i8) -> u32
     tail_of::<W>(digits) * 16 + (offset + 8) as u32
 }
 
+// The rank that a place of a window of this width holds, counted from the place of the first offset.
+#[inline]
+fn rank_at(digits: u32, width: usize, i: usize) -> i8
+    requires width { width < 8 }
+    requires place { i < width }
+    ensures rank { result ≡ pos i +ℤ digit_offset digits (width - 1 - i) }
+{
+    i as i8 + digit_offset(digits, width - 1 - i)
+}
+
 // Whether some place holds this rank. Ranks are counted from the place of the first offset.
 fn holds_rank<const W: usize>(digits: u32, rank: i8) -> bool
     requires { W < 8 }
     ensures { IsTrue result ↔ HoldsRank (offsets_of W digits) rank }
 {
-    for i in 0..W {
-        if i as i8 + digit_offset(digits, W - 1 - i) == rank {
-            return true;
-        }
-    }
-    false
+    let width = W; // a closure that names W is not read by the checker
+    (0..width).any(|i| rank_at(digits, width, i) == rank)
 }
 
 // The bit that stands for a rank in a set of the ranks that a window holds.
@@ -141,7 +147,7 @@ fn held_ranks<const W: usize>(digits: u32) -> u32
 {
     let mut held = 0;
     for i in 0..W {
-        held |= 1 << bit_of(i as i8 + digit_offset(digits, W - 1 - i));
+        held |= 1 << bit_of(rank_at(digits, W, i));
     }
     held
 }

@@ -45,14 +45,8 @@ fn content_of<'a>(files: &'a [(String, Vec<u8>)], name: &str) -> Option<&'a [u8]
     ensures found { IfSome result (λ bytes. content_in files.now name.now ≡ Some bytes.now) }
     ensures absent { IfNone result (content_in files.now name.now ≡ None) }
 {
-    let mut rest = files;
-    while let [file, after @ ..] = rest {
-        if file.0.as_str() == name {
-            return Some(file.1.as_slice());
-        }
-        rest = after;
-    }
-    None
+    let file = files.iter().find(|file| file.0.as_str() == name)?;
+    Some(file.1.as_slice())
 }
 
 fn is_listed(failing: &[u32], load: u64) -> bool

@@ -74,14 +74,8 @@ impl MemorySink {
 fn bytes_of_failing(failing: &[(u32, u32)], put: u64) -> Option<u32>
     ensures { result ≡ bytes_of_failing failing.now put }
 {
-    let mut rest = failing;
-    while let [(number, taken), after @ ..] = rest {
-        if u64::from(*number) == put {
-            return Some(*taken);
-        }
-        rest = after;
-    }
-    None
+    let entry = failing.iter().find(|entry| u64::from(entry.0) == put)?;
+    Some(entry.1)
 }
 
 impl Sink for MemorySink {

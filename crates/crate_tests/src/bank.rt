@@ -38,12 +38,7 @@ fn comes_last(waiting: &Vec<Waiting>, flight: &Waiting) -> bool
     ensures { IsTrue result → All (λ f. (f.eta < flight.now.eta)
         × (f.callsign ≢ flight.now.callsign)) (map waiting_of waiting.now.items) }
 {
-    for earlier in waiting {
-        if !follows(earlier, flight) {
-            return false;
-        }
-    }
-    true
+    waiting.iter().all(|earlier| follows(earlier, flight))
 }
 
 impl Bank {

@@ -3,3 +3,4 @@ pub mod PartLemmas
 pub mod CostLemmas
 pub mod PairLemmas
 pub mod CompactLemmas
+mod FoundPairs

@@ -1,6 +1,6 @@
 -- The pairs of a window of the next stage, from those of the windows that lead to it.
-use Rattle.std.proofs.Common.{◌≡◌, ℕ, suc, ◌+◌, ◌-◌, ◌<◌, ◌≤◌, inl, inr, List, [], ◌∷◌, ◌++◌, length, get_or, Some, true, refl, sym, ap, subst, ◌∙◌, arith}
-use Rattle.std.specs.Prelude.{ℤ, pos, ◌+ℤ◌, Contains, All}
+use Rattle.std.proofs.Common.{◌≡◌, ℕ, suc, ◌+◌, ◌-◌, ◌<◌, ◌≤◌, ◌⊎◌, inl, inr, List, [], ◌∷◌, ◌++◌, length, get_or, Option, Some, None, true, refl, sym, ap, subst, ◌∙◌, arith}
+use Rattle.std.specs.Prelude.{ℤ, pos, ◌+ℤ◌, Contains, All, MatchOption, unwrap_or}
 use Rattle.std.specs.List.Sorted.{IsPermutation, IsSorted}
 use Rattle.std.specs.Ordering.{nat_cmp, ordering_then}
 use Rattle.std.proofs.lemmas.List.Sorted.{All-permutation}
@@ -33,6 +33,13 @@ use Rattle.cps_network.specs.shared.PairSteps.{dearer, in_at, at_in, next_attain
 use Rattle.cps_network.specs.shared.PairLists.{all_in, in_permuted, permuted_in, sorted_in_order}
 use Rattle.delay_labels.proofs.ListLemmas.{given_in_range, range_gives}
 use Rattle.delay_labels.proofs.CostLemmas.{attained_small}
+
+-- no pair of a list has this successor; the first that has it stands at this index
+abbrev pub GivesNone : Problem → ℕ → ℕ → List Pair → Pair → Type 0
+GivesNone p l r pairs q = (i : ℕ) → i < length pairs → successor p l (pair_at pairs i) r ≡ Some q → ⊥
+
+abbrev pub GivesFirst : Problem → ℕ → ℕ → List Pair → Pair → ℕ → Type 0
+GivesFirst p l r pairs q index = (index < length pairs) × (successor p l (pair_at pairs index) r ≡ Some q) × ((i : ℕ) → i < index → successor p l (pair_at pairs i) r ≡ Some q → ⊥)
 
 module _ (p : Problem) (wf : IsWellFormed p) (w stage : ℕ) (before : List (List ℤ)) (v : List ℤ) (from to : ℕ) (range : Sources p w stage before v from to) (lists : List (List Pair)) (are : AreCosts p (stage, before) lists) (days : (i : ℕ) → All IsInDays (list_at lists i)) (l r : ℕ) (leader_is : pos l ≡ pos stage +ℤ offset_at (node_at before from) (w - 1)) (rank_is : pos r ≡ pos (suc stage) +ℤ offset_at v (w - 1)) where
   -- few flights have landed
@@ -111,6 +118,23 @@ module _ (p : Problem) (wf : IsWellFormed p) (w stage : ℕ) (before : List (Lis
         g.listed,
         sym (ap (λ (y : ℕ). successor p y (pair_at (list_at lists j) index) g.rank) lead ∙ ap (λ (y : ℕ). successor p l (pair_at (list_at lists j) index) y) same) ∙ g.lands,
       )
+
+  -- what is found first in the range is the first place and index that give the pair
+  pub first_source : (q : Pair) (j index : ℕ) → GivesPair p (stage, before) lists v q j index → (found : Option (ℕ × ℕ))
+      → MatchOption found ((k : ℕ) → from ≤ k → k < to → GivesNone p l r (list_at lists k) q)
+      (λ y. (k : ℕ) × (from ≤ k) × (k < to) × ((y.0 ≡ k) × GivesFirst p l r (list_at lists k) q y.1) × ((i : ℕ) → from ≤ i → i < k → GivesNone p l r (list_at lists i) q))
+      → GivesPair p (stage, before) lists v q (unwrap_or found (from, 0)).0 (unwrap_or found (from, 0)).1
+      × ((place i : ℕ) → (place < (unwrap_or found (from, 0)).0) ⊎ ((place ≡ (unwrap_or found (from, 0)).0) × (i < (unwrap_or found (from, 0)).1)) → GivesPair p (stage, before) lists v q place i → ⊥)
+  first_source q j index given None none = let g = given_at q j index given in absurd (none j g.0 g.1 index g.2 g.3)
+  first_source q j index given (Some (place, i)) (k, lo, hi, (same, (within, lands, first)), none) = (
+    subst (λ (n : ℕ). GivesPair p (stage, before) lists v q n i) (sym same) (gives_at q k i lo hi within lands),
+    λ n m below other.
+        let g = given_at q n m other in
+        elim below [
+          | inl lt ↦ none n g.0 (omega (arith, lt, same)) m g.2 g.3
+          | inr at ↦ first m at.1 (subst (λ (o : ℕ). successor p l (pair_at (list_at lists o) m) r ≡ Some q) (at.0 ∙ same) g.3)
+        ],
+  )
 
   abbrev Lists : Node → Pair → Type 0
   Lists n q = (j : ℕ) × (j < length before) × (n ≡ (stage, node_at before j)) × InPairs q (list_at lists j)
@@ -202,10 +226,3 @@ pairs_here p wf w before after v from to range lists costs more are days l r lea
 pub given_source : (p : Problem) (before : ℕ × List (List ℤ)) (lists : List (List Pair)) (v : List ℤ) (q : Pair) (j index : ℕ) → GivesPair p before lists v q j index
     → (x : List ℤ) × Contains before.1 x × IsSuccessor p before.0 x v
 given_source p before lists v q j index g = (node_at before.1 j, Contains-get_or before.1 j [] g.within, (g.rank, g.permitted, g.next))
-
--- a list without the pair at an index, read otherwise
-pub none_at : (p : Problem) (l r : ℕ) (q : Pair) (lists : List (List Pair)) (xs : List Pair) (i m : ℕ) → xs ≡ list_at lists i → ((k : ℕ) → k < length xs → successor p l (pair_at xs k) r ≡ Some q → ⊥)
-    → m ≡ i → (index : ℕ) → index < length (list_at lists m) → successor p l (pair_at (list_at lists m) index) r ≡ Some q → ⊥
-none_at p l r q lists xs i m e none same index lt gives =
-    let f : xs ≡ list_at lists m = e ∙ ap (list_at lists) (sym same) in
-    none index (subst (λ (ys : List Pair). index < length ys) (sym f) lt) (subst (λ (ys : List Pair). successor p l (pair_at ys index) r ≡ Some q) (sym f) gives)

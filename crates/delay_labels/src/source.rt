@@ -1,7 +1,7 @@
 //! Back from a pair to a pair of the stage before from which it comes.
 
 ghost use Rattle.std.specs.Prelude.{◌≡◌, ℕ, ◌+◌, ◌*◌, ◌<◌, ◌≤◌, ◌⊎◌, All, length, Some, MatchOption, IsTrue, ◌↔◌};
-ghost use Rattle.cps_network.specs.Pairs.{pair_at, successor, HoldsCosts, GivesPair};
+ghost use Rattle.cps_network.specs.Pairs.{list_at, pair_at, successor, HoldsCosts, GivesPair};
 ghost use Rattle.delay_labels.specs.Parts.{IsInDays};
 
 use crate::costs::Costs;
@@ -48,6 +48,32 @@ fn first_giving(
         .position(|pair| gives(problem, last, *pair, rank, wanted))
 }
 
+// The same in the list at a place, with that place.
+fn first_giving_at(
+    problem: &Problem,
+    last: u8,
+    rank: u8,
+    labels: &Costs,
+    place: usize,
+    wanted: (u32, u32),
+) -> Option<(usize, usize)>
+    requires last { last ≤ length problem.now.flights }
+    requires rank { (1 ≤ rank) × (rank ≤ length problem.now.flights) }
+    requires place { place < length labels.now }
+    requires costs { All (λ q. q.1 ≤ 4277687395) (list_at labels.now place) }
+    ensures { MatchOption result
+        ((i : ℕ) → i < length (list_at labels.now place) → successor problem.now last
+        (pair_at (list_at labels.now place) i) rank ≡ Some wanted → ⊥)
+        (λ at. (at.0 ≡ place) × (at.1 < length (list_at labels.now place))
+        × (successor problem.now last (pair_at (list_at labels.now place) at.1) rank
+        ≡ Some wanted)
+        × ((i : ℕ) → i < at.1 → successor problem.now last
+        (pair_at (list_at labels.now place) i) rank ≡ Some wanted → ⊥)) }
+{
+    let index = first_giving(problem, last, rank, labels.list(place), wanted)?;
+    Some((place, index))
+}
+
 /// The first place of a stage, and the first index of the list there, whose pair gives this pair to a window of the next
 /// stage: by a permitted rank, whose landing behind it is the pair's second and adds up to the pair's cost.
 ///
@@ -77,11 +103,7 @@ pub fn source_pair<const W: usize>(
     let (from, to) = sources(before, node);
     let last = last_rank(&before.node(from), before.number());
     let rank = last_rank(node, before.number() + 1);
-    for i in from..to {
-        match first_giving(problem, last, rank, labels.list(i), (second, cost)) {
-            None => continue,
-            Some(index) => return (i, index),
-        }
-    }
-    (from, 0)
+    (from..to)
+        .find_map(|i| first_giving_at(problem, last, rank, labels, i, (second, cost)))
+        .unwrap_or((from, 0))
 }

@@ -1,4 +1,4 @@
--- One rank more of a sum, and the objective of a schedule by its greatest second or its sum.
+-- A rank's second, and the objective of a schedule by its greatest second or its sum.
 use Rattle.std.proofs.Common.{◌≡◌, ℕ, zero, suc, ◌+◌, ◌-◌, ◌≤◌, false, List, [], ◌∷◌, length, refl, sym, ap, ◌∙◌, arith}
 use Rattle.std.specs.Prelude.{slice_index, nat_eq}
 use Rattle.std.proofs.lemmas.Bool.{true≢false}
@@ -8,16 +8,12 @@ use Rattle.landing_rules.specs.Flights.{Schedule}
 use Rattle.landing_rules.specs.Problem.{Problem, Waiting, list_objective}
 use Rattle.cps_theory.specs.RankLists.{of_rank, upto}
 use Rattle.cps_theory.specs.Feasible.{greatest, total}
-use Rattle.cps_theory.specs.laws.RanksBelow.{upto_more}
 use Rattle.landing_joint.specs.RankedProblem.{cost_at, value_by, makespan_by}
 use Rattle.landing_joint.specs.shared.BestLists.{list_value}
 
 pub at_rank : (s : Schedule) (r : ℕ) → 1 ≤ r → of_rank 0 s r ≡ slice_index s (r - 1)
 at_rank s zero one = absurd (omega arith)
 at_rank s (suc i) one = let e : i ≡ suc i - 1 = omega arith in ap (slice_index s) e
-
-pub one_more : (f : ℕ → ℕ) (r costs cost : ℕ) → 1 ≤ r → costs ≡ total f (upto (r - 1)) → cost ≡ f r → costs + cost ≡ total f (upto (r + 1 - 1))
-one_more f r costs cost one a b = let e = ap (total f) (upto_more r one) in omega arith
 
 some_waiting : (fs : List Waiting) (p : Problem) (t : ℕ) → nat_eq (length fs) 0 ≡ false → makespan_by fs p t ≡ t
 some_waiting [] p t e = absurd (true≢false e)

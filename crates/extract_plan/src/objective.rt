@@ -38,6 +38,17 @@ fn greatest_second(schedule: &Schedule) -> u32
     ranks.fold(0, |latest, rank| schedule.second(rank).max(latest))
 }
 
+// The cost of a rank's landing.
+fn cost_of(problem: &Problem, schedule: &Schedule, rank: u8) -> u64
+    requires rank { (1 ≤ rank) × (rank ≤ length problem.now.flights) }
+    requires room { length schedule.now ≡ length problem.now.flights }
+    requires seconds { All (λ t. t ≤ last_second) schedule.now }
+    ensures value { result ≡ cost_at problem.now rank (of_rank 0 schedule.now rank) }
+    ensures small { result ≤ 17279900 }
+{
+    u64::from(problem.cost(rank, schedule.second(rank)))
+}
+
 fn total_cost(problem: &Problem, schedule: &Schedule) -> u64
     requires room { length schedule.now ≡ length problem.now.flights }
     requires seconds { All (λ t. t ≤ last_second) schedule.now }
@@ -45,9 +56,7 @@ fn total_cost(problem: &Problem, schedule: &Schedule) -> u64
         (upto (length problem.now.flights)) }
     ensures small { result ≤ 17279900 * length problem.now.flights }
 {
-    let mut costs = 0;
-    for rank in 1..problem.len() + 1 {
-        costs += u64::from(problem.cost(rank, schedule.second(rank)));
-    }
-    costs
+    (1..problem.len() + 1)
+        .map(|rank| cost_of(problem, schedule, rank))
+        .sum()
 }

@@ -8,3 +8,4 @@ pub mod ScanLemmas
 pub mod CompletingLemmas
 pub mod AheadLemmas
 pub mod ChoiceLemmas
+pub mod FoldCalls

@@ -43,3 +43,8 @@ IsLeastChoice p budget before cost nodes lists least =
 abbrev pub FindsWay : Problem → ℕ → EarlyNode → ℕ → EarlyNode → List Pair → Option ℕ → Type 0
 FindsWay p budget before cost after pairs found =
     MatchOption found ((t : ℕ) → LeadsTo before after → IsAffordable p budget before cost after pairs t → ⊥) (λ t. LeadsTo before after × IsAffordable p budget before cost after pairs t)
+
+-- a choice, or that by way of a node in its place where that is less
+abbrev pub IsLesserBy : Problem → ℕ → EarlyNode → ℕ → EarlyNode → List Pair → Pair → Pair → Type 0
+IsLesserBy p budget before cost after pairs least made =
+    (found : Option ℕ) × FindsWay p budget before cost after pairs found × (made ≡ lesser_choice least after.last found)

@@ -7,7 +7,7 @@ ghost use Rattle.landing_rules.specs.Rules.{last_second};
 ghost use Rattle.landing_rules.specs.FirstBest.{IsFirstBestList};
 ghost use Rattle.landing_joint.specs.CompletingPairs.{IsLeastObjective};
 ghost use Rattle.replan.specs.Kept.{held_of, problem_held};
-ghost use Rattle.first_best.specs.Choices.{lesser_choice, FindsAffordable, FindsWay, IsLeastChoice};
+ghost use Rattle.first_best.specs.Choices.{lesser_choice, FindsAffordable, FindsWay, IsLeastChoice, IsLesserBy};
 ghost use Rattle.first_best.specs.Completing.{Rises};
 ghost use Rattle.first_best.specs.Nodes.{node_at};
 ghost use Rattle.first_best.specs.Ranges.{HasRank, IsPlacedIn};
@@ -89,6 +89,31 @@ fn found_by(
     }
 }
 
+// A choice, or that by way of the node at place j in its place where that is less.
+fn with_node(
+    problem: &Problem,
+    budget: u64,
+    before: EarlyNode,
+    cost: u64,
+    stage: &AheadStage,
+    j: usize,
+    least: (u8, u32),
+) -> (u8, u32)
+    requires before { IsPlacedIn problem.now before }
+    requires node { j < length stage.now.nodes }
+    requires list { j < length stage.now.lists }
+    requires rank { HasRank problem.now (node_at stage.now.nodes j) }
+    requires rising { Rises (list_at stage.now.lists j) }
+    requires cost { cost ≤ 17279900 * 60 }
+    ensures lesser { IsLesserBy problem.now budget before cost
+        (node_at stage.now.nodes j) (list_at stage.now.lists j) least result }
+    ensures in_days { least.1 ≤ last_second → result.1 ≤ last_second }
+{
+    let after = stage.node(j);
+    let found = found_by(problem, budget, before, cost, after, stage.list(j));
+    lesser(least, after.last, found)
+}
+
 // The least rank that can come next, where one can, and its second.
 fn least_choice(
     problem: &Problem,
@@ -108,13 +133,9 @@ fn least_choice(
     ensures in_days { result.1 ≤ last_second }
 {
     let _few = problem.len();
-    let mut least = (61, 0);
-    for j in 0..stage.len() {
-        let after = stage.node(j);
-        let found = found_by(problem, budget, before, cost, after, stage.list(j));
-        least = lesser(least, after.last, found);
-    }
-    least
+    (0..stage.len()).fold((61, 0), |least, j| {
+        with_node(problem, budget, before, cost, stage, j, least)
+    })
 }
 
 // The node behind another, by a rank that lands at a second.

@@ -112,10 +112,9 @@ fn latest(problem: &Problem, stage: u8, node: EarlyNode, next: &AheadStage, ways
     if stage == problem.len() {
         return last;
     }
-    let mut latest = 0;
-    for way in ways {
-        latest = next.list(*way).latest().max(latest);
-    }
+    let latest = ways
+        .iter()
+        .fold(0, |latest, way| next.latest(*way).max(latest));
     latest.min(last)
 }
 

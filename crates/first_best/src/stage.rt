@@ -1,7 +1,9 @@
 //! A stage with the pairs that complete its nodes.
 
-ghost use Rattle.std.specs.Prelude.{◌≡◌, ◌<◌, length};
+ghost use Rattle.std.specs.Prelude.{◌≡◌, ◌<◌, ◌≤◌, length};
+ghost use Rattle.cps_theory.specs.Labels.{InPairs, Pair};
 ghost use Rattle.cps_network.specs.Pairs.{list_at};
+ghost use Rattle.first_best.specs.Completing.{Rises};
 ghost use Rattle.first_best.specs.Nodes.{node_at};
 ghost use Rattle.first_best.specs.Stages.{no_stage};
 
@@ -63,5 +65,14 @@ impl AheadStage {
         ensures { result.now ≡ list_at self.now.lists j }
     {
         &self.lists[j]
+    }
+
+    // A second behind which no pair of the node at place j is.
+    pub(crate) fn latest(&self, j: usize) -> u32
+        requires place { j < length self.now.lists }
+        requires rising { Rises (list_at self.now.lists j) }
+        ensures { (q : Pair) → InPairs q (list_at self.now.lists j) → q.0 ≤ result }
+    {
+        self.list(j).latest()
     }
 }

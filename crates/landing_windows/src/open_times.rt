@@ -107,14 +107,8 @@ impl OpenTimes {
         ensures in_days { IfSome result (λ span. span.1 ≤ last_second) }
         ensures spans { AreMaximal self.now }
     {
-        let mut rest = self.spans.as_slice();
-        while let [(first, last), after @ ..] = rest {
-            if t <= *last {
-                return Some((t.max(*first), *last));
-            }
-            rest = after;
-        }
-        None
+        let (first, last) = self.spans.iter().find(|(_, last)| t <= *last)?;
+        Some((t.max(*first), *last))
     }
 
     /// Whether second t is open.

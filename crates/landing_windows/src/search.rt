@@ -7,14 +7,8 @@ pub(crate) fn shut_until(closures: &[(u32, u32)], t: u32) -> Option<u32>
     ensures { MatchOption result (shuts closures.now t ≡ false)
         (λ end. IsShutUntil closures.now t end) }
 {
-    let mut rest = closures;
-    while let [(from, to), after @ ..] = rest {
-        if *from <= t && t < *to {
-            return Some(*to);
-        }
-        rest = after;
-    }
-    None
+    let closure = closures.iter().find(|(from, to)| *from <= t && t < *to)?;
+    Some(closure.1)
 }
 
 // The least second from `start` on that a closure holds, or `most` where that comes first.
@@ -22,14 +16,8 @@ pub(crate) fn first_shut(closures: &[(u32, u32)], start: u32, most: u32) -> u32
     requires { start ≤ most }
     ensures { IsFirstShut closures.now start most result }
 {
-    let mut least = most;
-    let mut rest = closures;
-    while let [(from, to), after @ ..] = rest {
+    closures.iter().fold(most, |least, (from, to)| {
         let first = start.max(*from);
-        if first < *to && first < least {
-            least = first;
-        }
-        rest = after;
-    }
-    least
+        if first < *to { first.min(least) } else { least }
+    })
 }

@@ -18,6 +18,15 @@ use Rattle.makespan_labels.specs.shared.NetworkSteps.{can_land, is_landable}
 min_cases : (a b : ℕ) → ((min a b ≡ a) × (a ≤ b)) ⊎ ((min a b ≡ b) × (b ≤ a))
 min_cases a b = elim (cases_lt a b) [ inl lt ↦ inl (omega arith, omega arith) | inr le ↦ inr (omega arith, le) ]
 
+pub least_one : (labels : List ℕ) (i least : ℕ) → least ≡ slice_index labels i → IsLeastOf labels i (i + 1) least
+least_one labels i least is = record {
+  place = i;
+  from_here = omega arith;
+  to_there = omega arith;
+  is = sym is;
+  low = λ j lo hi. let e : i ≡ j = omega (arith, lo, hi) in let f = ap (slice_index labels) e in omega (arith, is, f);
+}
+
 pub least_more : (labels : List ℕ) (from i least : ℕ) → from ≤ i → IsLeastOf labels from i least → IsLeastOf labels from (i + 1) (min least (slice_index labels i))
 least_more labels from i least le is = elim (min_cases least (slice_index labels i)) [
   | inl a ↦ record { place = is.place; from_here = is.from_here; to_there = omega (arith, is.to_there); is = is.is ∙ sym a.0; low = low }

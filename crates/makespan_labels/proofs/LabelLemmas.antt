@@ -1,6 +1,7 @@
 -- The label of a window of the next stage, from the least label of the windows that lead to it.
-use Rattle.std.proofs.Common.{◌≡◌, ℕ, suc, ◌+◌, ◌-◌, ◌<◌, ◌≤◌, List, length, Option, Some, None, sym, ap, subst, ◌∙◌, arith, le_trans, true}
-use Rattle.std.specs.Prelude.{ℤ, pos, ◌+ℤ◌, slice_index}
+use Rattle.std.proofs.Common.{◌≡◌, ℕ, suc, ◌+◌, ◌-◌, ◌<◌, ◌≤◌, List, length, Option, Some, None, sym, ap, subst, ◌∙◌, arith, le_trans, true, false}
+use Rattle.std.specs.Prelude.{ℤ, pos, ◌+ℤ◌, slice_index, MatchOption, unwrap_or, nat_eq}
+use Rattle.std.specs.Option.{option_eq}
 use Rattle.cps_nodes.specs.Windows.{offset_at}
 use Rattle.std.proofs.lemmas.Int.{ints}
 use Rattle.wake_table.specs.declared.category.Category.{Category}
@@ -18,7 +19,7 @@ use Rattle.cps_network.specs.shared.LeadingWindows.{Sources, landable_at, succes
 use Rattle.makespan_labels.specs.Columns.{IsEntry, IsLeastOf}
 use Rattle.makespan_labels.specs.Groups.{IsLead}
 use Rattle.makespan_labels.specs.Labels.{no_label, CanLandAt, IsLabel, AreLabels, GivesLabel}
-use Rattle.makespan_labels.proofs.ColumnLemmas.{entry_small}
+use Rattle.makespan_labels.proofs.ColumnLemmas.{entry_small, some_from_eq, none_from_eq}
 use Rattle.makespan_labels.proofs.LeadLemmas.{can_started}
 use Rattle.makespan_labels.specs.shared.NetworkSteps.{can_land, is_landable, ComesFrom, comes_from, lands_next}
 
@@ -139,6 +140,22 @@ module _ (p : Problem) (w stage : ℕ) (before : List (List ℤ)) (v : List ℤ)
         let le = u.2 in
         let same : u.0 ≡ label = omega (arith, low, le) in
         (j.0, j.1, j.2, u.1 ∙ ap Some same)
+
+    -- what is found first in the range is the first window that gives it
+    pub first_found : (label : ℕ) → label < no_label → IsLabel p (suc stage) v label → (found : Option ℕ)
+        → MatchOption found ((k : ℕ) → from ≤ k → k < to → false ≡ option_eq nat_eq (landing_after p l (slice_index labels k) r) (Some label))
+        (λ i. (from ≤ i) × (i < to) × (true ≡ option_eq nat_eq (landing_after p l (slice_index labels i) r) (Some label))
+        × ((k : ℕ) → from ≤ k → k < i → false ≡ option_eq nat_eq (landing_after p l (slice_index labels k) r) (Some label)))
+        → GivesLabel p (stage, before) labels v label (unwrap_or found from) × ((place : ℕ) → place < unwrap_or found from → GivesLabel p (stage, before) labels v label place → ⊥)
+    first_found label known is None none =
+        let j = some_gives label known is in
+        absurd (none_from_eq (landing_after p l (slice_index labels j.0) r) label (none j.0 j.1 j.2) j.3)
+    first_found label known is (Some i) at = (
+      gives_label i label at.0 at.1 (some_from_eq (landing_after p l (slice_index labels i) r) label at.2),
+      λ place lt given.
+          let g = given_in_range place label given in
+          none_from_eq (landing_after p l (slice_index labels place) r) label (at.3 place g.0 lt) g.2,
+    )
 
 -- ---- as the calls have it
 

@@ -54,11 +54,7 @@ fn least_of(labels: &Column, from: usize, to: usize) -> u32
     ensures least { IsLeastOf labels.now from to result }
     ensures range { IsEntry result }
 {
-    let mut least = labels.label(from);
-    for i in from + 1..to {
-        least = least.min(labels.label(i));
-    }
-    least
+    (from + 1..to).fold(labels.label(from), |least, i| least.min(labels.label(i)))
 }
 
 // The category of the flight of a rank. Rank 0 has none, and A stands for it.

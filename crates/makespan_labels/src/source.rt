@@ -36,10 +36,7 @@ pub fn source_of<const W: usize>(
     let (from, to) = sources(before, node);
     let leader = last_rank(&before.node(from), before.number());
     let rank = last_rank(node, before.number() + 1);
-    for i in from..to {
-        if problem.landing_after(leader, labels.label(i), rank) == Some(label) {
-            return i;
-        }
-    }
-    from
+    (from..to)
+        .find(|i| problem.landing_after(leader, labels.label(*i), rank) == Some(label))
+        .unwrap_or(from)
 }

@@ -1,10 +1,8 @@
 -- The lines of the first landings, and of those behind them.
-use Rattle.std.proofs.Common.{◌≡◌, ℕ, zero, suc, ◌+◌, ◌<◌, ◌≤◌, List, [], ◌∷◌, ◌++◌, Some, None, length, get_or, take, drop, refl, sym, ap, ◌∙◌, append_assoc, arith, add-one}
-use Rattle.std.specs.Prelude.{map, slice_get, option_map, OnOk, Result, Ok, Err}
-use Rattle.std.proofs.lemmas.Option.{same_Some, slice_get-map, slice_get_read}
+use Rattle.std.proofs.Common.{◌≡◌, ℕ, zero, suc, ◌+◌, ◌≤◌, List, [], ◌∷◌, ◌++◌, Some, None, length, take, drop, refl, sym, ap, ◌∙◌, append_assoc, arith, add-one}
+use Rattle.std.specs.Prelude.{map, slice_get, OnOk, Result, Ok, Err}
+use Rattle.std.proofs.lemmas.Option.{same_Some}
 use Rattle.landing_rules.specs.Text.{ShownLanding, line, lines_text, landing_words}
-use Rattle.plan_file.specs.Shown.{shown_of}
-use Rattle.plan_file.specs.declared.landing.Landing.{Landing}
 
 abbrev pub landing_lines : List ShownLanding → List ℕ
 landing_lines ls = lines_text (map landing_words ls)
@@ -42,18 +40,10 @@ take_more (x ∷ xs) (suc i) l e = ap (λ (r : List ShownLanding). x ∷ r) (tak
 pub first_more : (all first : List ShownLanding) (i : ℕ) (l : ShownLanding) → first ≡ take i all → slice_get all i ≡ Some l → first ++ l ∷ [] ≡ take (i + 1) all
 first_more all first i l e at = ap (λ (r : List ShownLanding). r ++ l ∷ []) e ∙ sym (rw (add-one) (take_more all i l at))
 
--- of two lists
-pub both_more : (xs ys : List ShownLanding) (i : ℕ) (l : ShownLanding) → take i xs ≡ take i ys → slice_get xs i ≡ Some l → slice_get ys i ≡ Some l → take (i + 1) xs ≡ take (i + 1) ys
-both_more xs ys i l e x y = sym (first_more xs (take i ys) i l (sym e) x) ∙ first_more ys (take i ys) i l refl y
-
 take_again : (ls : List ShownLanding) (i : ℕ) → take (length (take i ls)) ls ≡ take i ls
 take_again ls zero = refl
 take_again [] (suc i) = refl
 take_again (x ∷ xs) (suc i) = ap (λ (r : List ShownLanding). x ∷ r) (take_again xs i)
-
--- a landing at its place
-pub shown_at : (items : List Landing) (i : ℕ) (l : Landing) → i < length items → l ≡ get_or items i l → slice_get (map shown_of items) i ≡ Some (shown_of l)
-shown_at items i l lt e = slice_get-map shown_of items i ∙ ap (option_map shown_of) (slice_get_read items (length items) i l refl lt e)
 
 pub ok_then : {T E : Type 0} {P Q : Type 0} (r : Result T E) → (P → Q) → OnOk r P → OnOk r Q
 ok_then (Ok v) f p = f p

@@ -56,15 +56,12 @@ impl FrozenLines {
     fn begin(&self, plan: &Plan) -> bool
         ensures { IsTrue result → self.now ≡ take (length self.now) plan.now.landings }
     {
-        if plan.len() < self.landings.len() {
-            return false;
-        }
-        for i in 0..self.landings.len() {
-            if !is_same(&self.landings[i], &plan.line(i)) {
-                return false;
-            }
-        }
-        true
+        self.landings.len() <= plan.len()
+            && self
+                .landings
+                .iter()
+                .enumerate()
+                .all(|(place, landing)| is_same(landing, &plan.line(place)))
     }
 
     // Forgets them.

@@ -3,3 +3,4 @@ pub mod StageLemmas
 pub mod FormerLemmas
 pub mod TraceLemmas
 pub mod PlanLemmas
+pub mod LeastPlace

@@ -17,16 +17,7 @@ pub(crate) fn least_place(labels: &Labels) -> Option<usize>
     requires { (i : ℕ) → i < length labels.now.lists → 0 < length (list_at labels.now.lists i) }
     ensures { MatchOption result (length labels.now.lists ≡ 0) (IsLeastPlace labels.now) }
 {
-    if labels.len() == 0 {
-        return None;
-    }
-    let mut place = 0;
-    for i in 1..labels.len() {
-        if labels.value(i) < labels.value(place) {
-            place = i;
-        }
-    }
-    Some(place)
+    (0..labels.len()).min_by_key(|place| labels.value(*place))
 }
 
 // Writes the order of a legal prefix that ends in this window of the last stage and lands with the last pair of its list.

@@ -1,5 +1,5 @@
 -- Callsigns that are apart stay so, and one search finds what another does.
-use Rattle.std.proofs.Common.{◌≡◌, ◌≢◌, ℕ, zero, suc, ◌-◌, ◌<◌, ◌≤◌, Bool, true, false, cond, ◌||◌, List, [], ◌∷◌, length, map, zip, set, drop, drop-cons, get_or, Option, Some, None, refl, sym, ap, subst, ◌∙◌, arith}
+use Rattle.std.proofs.Common.{◌≡◌, ◌≢◌, ℕ, zero, suc, ◌<◌, Bool, true, false, cond, ◌||◌, List, [], ◌∷◌, length, map, zip, set, drop, get_or, Option, Some, None, refl, sym, ap, ◌∙◌, arith}
 use Rattle.std.specs.Prelude.{◌&&◌, AllPairs, find, nat_lt, reverse}
 use Rattle.std.specs.List.{list_any}
 use Rattle.std.proofs.lemmas.Bool.{false≢true}
@@ -70,16 +70,11 @@ with_estimate eta windows a = record a { flight = record a.flight { eta = eta; w
 pub other : (c : Callsign) (eta : ℕ) (windows : List Span) (a : Active) → named c a ≡ false → estimated c eta windows a ≡ a
 other c eta windows a e = ap (λ b. cond b (with_estimate eta windows a) a) e
 
--- one flight more from the back that has another callsign
-pub others_from : (c : Callsign) (eta : ℕ) (windows : List Span) (xs : List Active) (i : ℕ) (a : Active) → 0 < i → i ≤ length xs → a ≡ get_or xs (i - 1) a → named c a ≡ false →
-    map (estimated c eta windows) (drop i xs) ≡ drop i xs → map (estimated c eta windows) (drop (i - 1) xs) ≡ drop (i - 1) xs
-others_from c eta windows xs zero a pos le is e behind = absurd (omega arith)
-others_from c eta windows xs (suc j) a pos le is e behind =
-    let one : suc j - 1 ≡ j = omega arith in
-    let same : a ≡ get_or xs j a = subst (λ n. a ≡ get_or xs n a) one is in
-    let here : drop j xs ≡ a ∷ drop (suc j) xs = drop-cons xs j a (omega arith) ∙ ap (λ (b : Active). b ∷ drop (suc j) xs) (sym same) in
-    ap (λ n. map (estimated c eta windows) (drop n xs)) one ∙ ap (map (estimated c eta windows)) here ∙ ap (λ y. y ∷ map (estimated c eta windows) (drop (suc j) xs)) (other c eta windows a e)
-    ∙ ap (λ l. a ∷ l) behind ∙ sym here ∙ ap (λ n. drop n xs) (sym one)
+-- flights of other callsigns stay
+pub others : (c : Callsign) (eta : ℕ) (windows : List Span) (xs : List Active) → ((j : ℕ) (d : Active) → j < length xs → named c (get_or xs j d) ≡ false) → map (estimated c eta windows) xs ≡ xs
+others c eta windows [] none = refl
+others c eta windows (x ∷ xs) none =
+    ap (λ y. y ∷ map (estimated c eta windows) xs) (other c eta windows x (none zero x (omega arith))) ∙ ap (λ l. x ∷ l) (others c eta windows xs (λ j d lt. none (suc j) d (omega arith)))
 
 -- the flight of the callsign, and no other
 pub one_estimated : (c : Callsign) (eta : ℕ) (windows : List Span) (xs : List Active) (i : ℕ) (a : Active) → AreApart xs → i < length xs → a ≡ get_or xs i a → named c a ≡ true →

@@ -31,11 +31,8 @@ fn estimate_last(all: &mut [Active], callsign: Callsign, eta: u32, windows: &Win
     requires { AreApart all.old }
     ensures { all.new ≡ map (estimated callsign eta windows.now) all.old }
 {
-    for i in (0..all.len()).rev() {
-        if is_named(&all[i], callsign) {
-            estimate_one(&mut all[i], eta, windows);
-            return;
-        }
+    if let Some(place) = all.iter().rposition(|active| is_named(active, callsign)) {
+        estimate_one(&mut all[place], eta, windows);
     }
 }
 

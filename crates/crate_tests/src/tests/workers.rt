@@ -59,12 +59,10 @@ fn counts_pieces() -> Counting {
 
 // Whether each number is the last three digits of its place.
 fn are_last_digits(column: &[u32]) -> bool {
-    for (i, x) in column.iter().enumerate() {
-        if *x != (i % 1000) as u32 {
-            return false;
-        }
-    }
-    true
+    column
+        .iter()
+        .enumerate()
+        .all(|(i, x)| *x == (i % 1000) as u32)
 }
 
 // Whether a column of so many numbers is filled.

@@ -1,6 +1,5 @@
-use Rattle.std.proofs.Common.{◌≡◌, ◌∙◌, sym, arith}
+use Rattle.std.proofs.Common.{arith}
 use Rattle.std.proofs.lemmas.Int.{ints}
-use Rattle.cps_nodes.specs.Windows.{offset_at}
 use Rattle.cps_nodes.specs.Digits.{offsets_of, length-offsets_of}
 use Rattle.cps_nodes.proofs.DigitLemmas.{offset_at-offsets_of}
 use Rattle.cps_nodes.proofs.HeldLemmas.{none_held, held_more, held_all}
@@ -11,11 +10,9 @@ loop-i-init g c = none_held (offsets_of g.row.W c.args.digits)
 
 pub loop-i-preserved : goal.loop-i-preserved
 loop-i-preserved g c =
-    let reads : offset_at (offsets_of g.row.W c.args.digits) c.loop-i.i ≡ c.digit_offset.result =
-    offset_at-offsets_of g.row.W c.args.digits c.loop-i.i c.loop-i-test.true ∙ sym c.digit_offset.ensures in
+    let reads = offset_at-offsets_of g.row.W c.args.digits c.loop-i.i c.loop-i-test.true in
     held_more (offsets_of g.row.W c.args.digits) c.loop-i.i c.loop-i.held c.bit_of.result c.bit_of.ensures.few
-    (omega (arith, ints, reads, c.bit_of.ensures.bit, c.loop-i-test.true, c.requires, c.digit_offset.type_inv))
-    c.loop-i.invariant
+    (omega (arith, ints, reads, c.bit_of.ensures.bit, c.rank_at.ensures.rank)) c.loop-i.invariant
 
 pub returns : goal.returns
 returns g c =

@@ -1,39 +1,41 @@
-use Rattle.std.proofs.Common.{◌≡◌, ℕ, ◌+◌, ◌<◌, ◌∙◌, sym, ap, refl, arith, inl, inr, w8, of_z, to_z}
-use Rattle.std.specs.Prelude.{pos, ◌+ℤ◌, ◌⊎◌}
-use Rattle.std.proofs.lemmas.Bool.Decides.{nat_tests}
-use Rattle.std.proofs.lemmas.Int.{ints, to_z-of_z}
-use Rattle.cps_nodes.specs.Windows.{offset_at}
-use Rattle.cps_nodes.specs.Digits.{offsets_of, length-offsets_of}
+use Rattle.std.proofs.Common.{refl, ◌≡◌, ℕ, ◌-◌, ◌<◌, ◌∙◌, Bool, true, false, length, sym, ap, subst, arith, rules, tests}
+use Rattle.std.specs.Prelude.{ℤ, pos, ◌+ℤ◌, ◌↔◌, IsTrue}
+use Rattle.std.specs.Bool.{MatchBool}
+use Rattle.std.specs.List.{AllWithin, HoldsAt, range_with_len}
+use Rattle.std.proofs.lemmas.Iterator.{YieldsList-from_range, cases_from_any}
+use Rattle.std.proofs.lemmas.List.FromFn.{length-range_with_len, get_or-range_with_len}
+use Rattle.cps_nodes.specs.Windows.{HoldsRank}
+use Rattle.cps_nodes.specs.Digits.{digit_offset, offsets_of, length-offsets_of}
 use Rattle.cps_nodes.proofs.DigitLemmas.{offset_at-offsets_of}
 use Rattle.cps_nodes.proofs.window.holds_rank.Goals as goal
 
-last_or_old : (i n : ℕ) → i < n + 1 → (i ≡ n) ⊎ (i < n)
-last_or_old i n h = grind (arith, nat_tests)
+-- the place holds the rank
+abbrev Holds : ℕ → ℕ → ℤ → ℕ → Type 0
+Holds digits width rank i = pos i +ℤ digit_offset digits (width - 1 - i) ≡ rank
 
-pub returns-then-i-digit_offset : goal.returns-then-i-digit_offset
-returns-then-i-digit_offset g c =
-    let reads : offset_at (offsets_of g.row.W c.args.digits) c.loop-i.i ≡ c.digit_offset.result =
-    offset_at-offsets_of g.row.W c.args.digits c.loop-i.i c.loop-i-test.true ∙ sym c.digit_offset.ensures in
-    let h = c.if-i-digit_offset.true in
-    let held : pos c.loop-i.i +ℤ c.digit_offset.result ≡ c.args.rank = omega (arith, ints, h, c.requires, c.ranges.rank, c.digit_offset.type_inv) in
-    (λ _. (c.loop-i.i, omega (arith, length-offsets_of g.row.W c.args.digits, c.loop-i-test.true), rw reads held), λ _. refl)
-
-pub loop-i-preserved : goal.loop-i-preserved
-loop-i-preserved g c = λ k lt same. elim (last_or_old k c.loop-i.i lt) [
-  | inl e ↦
-      let reads : offset_at (offsets_of g.row.W c.args.digits) c.loop-i.i ≡ c.digit_offset.result =
-      offset_at-offsets_of g.row.W c.args.digits c.loop-i.i c.loop-i-test.true ∙ sym c.digit_offset.ensures in
-      let here : offset_at (offsets_of g.row.W c.args.digits) k ≡ c.digit_offset.result = ap (offset_at (offsets_of g.row.W c.args.digits)) e ∙ reads in
-      let held : (to_z w8 c.loop-i.i +ℤ to_z w8 (of_z w8 c.digit_offset.result)) ≡ c.args.rank =
-      omega (arith, ints, same, c.requires, c.ranges.rank, c.digit_offset.type_inv) in
-      c.if-i-digit_offset.false (ap (of_z w8) held)
-  | inr before ↦ c.loop-i.invariant k before same
-]
+decided : (r : Bool) (digits width : ℕ) (rank : ℤ)
+    → MatchBool r ((k : ℕ) × (k < length (range_with_len 0 width)) × HoldsAt (Holds digits width rank) (range_with_len 0 width) k)
+    (AllWithin (λ i. Holds digits width rank i → ⊥) (range_with_len 0 width) 0 (length (range_with_len 0 width)))
+    → IsTrue r ↔ HoldsRank (offsets_of width digits) rank
+decided true digits width rank (k, lt, holds) =
+    let long = length-range_with_len 0 width in
+    let all = length-offsets_of width digits in
+    let at = get_or-range_with_len 0 width k 0 (omega arith) in
+    let here : Holds digits width rank k = subst (Holds digits width rank) (at ∙ omega arith) (holds 0) in
+    (λ _. (k, omega arith, ap (λ d. pos k +ℤ d) (offset_at-offsets_of width digits k (omega arith)) ∙ here), λ _. refl)
+decided false digits width rank none =
+    let long = length-range_with_len 0 width in
+    let all = length-offsets_of width digits in (
+      λ t. absurd (cc),
+      λ (k, lt, same).
+          let at = get_or-range_with_len 0 width k 0 (omega arith) in
+          absurd (subst (λ i. Holds digits width rank i → ⊥) (at ∙ omega arith) (none k 0 (omega arith) (omega arith))
+          (ap (λ d. pos k +ℤ d) (sym (offset_at-offsets_of width digits k (omega arith))) ∙ same)),
+    )
 
 pub returns : goal.returns
-returns g c = (
-  λ t. cc,
-  λ holds. absurd (c.loop-i.invariant holds.0
-      (omega (arith, holds.1, length-offsets_of g.row.W c.args.digits, c.loop-i-test.false))
-      (holds.2 ∙ sym (to_z-of_z w8 c.args.rank c.ranges.rank))),
-)
+returns g c =
+    let width = g.row.W in
+    let cases = cases_from_any _ _ c.any.result (Holds c.args.digits width c.args.rank) (λ i. Holds c.args.digits width c.args.rank i → ⊥) c.any.ensures.ran (YieldsList-from_range 0 width width (search (rules, tests)) (omega arith))
+    (λ i q k. grind (arith, tests)) (λ i q k. (search (rules, tests), λ holds. grind (arith, tests))) in
+    decided c.any.result c.args.digits width c.args.rank cases

@@ -1,16 +1,20 @@
-use Rattle.std.proofs.Common.{◌≡◌, ◌<◌, length, get_or, inl, inr, ap, arith}
-use Rattle.std.proofs.lemmas.Bool.{cases_eq}
-use Rattle.std.proofs.lemmas.List.{get_or-map}
+use Rattle.std.proofs.Common.{◌≡◌, ◌<◌, ℕ, true, length, subst, rules, tests}
+use Rattle.std.specs.Prelude.{⊤, ◌≢◌}
+use Rattle.std.specs.Bool.{MatchBool}
+use Rattle.std.specs.List.{AllWithin, HoldsAt}
+use Rattle.std.proofs.lemmas.Iterator.{YieldsList-from_slice, cases_from_all}
+use Rattle.std.proofs.lemmas.List.Elements.{All-map, All-from_all_within}
+use Rattle.landing_rules.specs.Problem as rules
 use Rattle.cps_problem.specs.Seen.{waiting_of}
+use Rattle.cps_problem.specs.declared.problem.Waiting.{Waiting}
 use Rattle.crate_tests.proofs.bank.comes_last.Goals as goal
 
-pub loop-earlier-preserved : goal.loop-earlier-preserved
-loop-earlier-preserved c = λ i d lt. elim (cases_eq i c.loop-earlier.earlier-index) [
-  | inl same ↦
-      let items = c.args.waiting.now.items in
-      let all : c.deref-earlier-items.result.now ≡ items = c.deref-earlier-items.ensures.value in
-      let within : i < length items = omega (arith, same, ap length all, c.loop-earlier-test.true) in
-      let at : c.earlier-item.result ≡ get_or items i c.earlier-item.result = rw (same, ← all) c.earlier-item.is in
-      rw (get_or-map waiting_of items i c.earlier-item.result d within, ← at) (c.follows.ensures c.if-not-follows.false)
-  | inr ne ↦ c.loop-earlier.invariant i d (omega (arith, lt, ne))
-]
+pub returns : goal.returns
+returns c = λ yes.
+    let flights = c.args.waiting.now.items in
+    let Before = λ (f : Waiting). ((waiting_of f).eta < c.args.flight.now.eta) × ((waiting_of f).callsign ≢ c.args.flight.now.callsign) in
+    let cases = cases_from_all _ _ c.all.result Before (λ f. ⊤) c.all.ensures.ran (YieldsList-from_slice flights (cc)) (λ x q k. (search (rules, tests), search (rules, tests))) (λ x q k. tt) in
+    let all : c.all.result ≡ true = search (rules) in
+    let each : AllWithin Before flights 0 (length flights) =
+    subst (λ b. MatchBool b (AllWithin Before flights 0 (length flights)) ((k : ℕ) × (k < length flights) × HoldsAt (λ f. ⊤) flights k)) all cases in
+    All-map (λ (f : rules.Waiting). (f.eta < c.args.flight.now.eta) × (f.callsign ≢ c.args.flight.now.callsign)) waiting_of flights (All-from_all_within Before flights each)

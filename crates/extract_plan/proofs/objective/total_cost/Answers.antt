@@ -1,23 +1,36 @@
-use Rattle.std.proofs.Common.{◌≡◌, ◌-◌, ◌≤◌, arith, ap, sym, subst, ◌∙◌}
-use Rattle.cps_theory.specs.RankLists.{of_rank}
+-- The costs of all ranks.
+use Rattle.std.proofs.Common.{◌≤◌, ◌*◌, ◌+◌, ℕ, zero, suc, min, arith, length, ◌∙◌, rules, tests}
+use Rattle.std.specs.Prelude.{sum_by}
+use Rattle.std.specs.List.{range_with_len}
+use Rattle.std.proofs.lemmas.Iterator.{YieldsList-from_map, YieldsList-from_range}
+use Rattle.std.proofs.lemmas.Iterator.Consumers.{sum_by_from_yields_List, fits_by_from_yields_list}
+use Rattle.std.proofs.lemmas.List.Sums.{sum_by-cons}
+use Rattle.cps_theory.specs.Feasible.{total}
+use Rattle.cps_theory.specs.RankLists.{of_rank, upto}
+use Rattle.cps_theory.specs.laws.RanksBelow.{ranks_folded}
 use Rattle.landing_joint.specs.RankedProblem.{cost_at}
-use Rattle.extract_plan.proofs.Totals.{at_rank, one_more}
 use Rattle.extract_plan.proofs.objective.total_cost.Goals as goal
 
-pub loop-rank-preserved : goal.loop-rank-preserved
-loop-rank-preserved c =
-    let p = c.args.problem.now in
-    let s = c.args.schedule.now in
-    let r = c.loop-rank.rank in
-    let cost : c.from-costs.result ≡ cost_at p r (of_rank 0 s r) =
-    c.from-costs.ensures ∙ c.cost.ensures.value ∙ ap (cost_at p r) (c.second.ensures ∙ sym (at_rank s r c.loop-rank.auto.rank)) in
-    record {
-      value = one_more (λ q. cost_at p q (of_rank 0 s q)) r c.loop-rank.costs c.from-costs.result c.loop-rank.auto.rank c.loop-rank.invariant.value cost;
-      small =
-          let t : c.second.result ≤ 172799 = subst (λ n. n ≤ 172799) (sym c.second.ensures) (c.requires.seconds (r - 1) 0 (let n = c.requires.room in let e = c.len-rank-end.ensures.value in let lt = c.loop-rank-test.true in let one = c.loop-rank.auto.rank in omega arith)) in
-          let a = c.loop-rank.invariant.small in
-          let b = c.cost.ensures.small in
-          let e = c.from-costs.ensures in
-          let one = c.loop-rank.auto.rank in
-          omega arith;
-    }
+-- a cost, which is no more than that of a second of the two days
+abbrev small : (ℕ → ℕ) → ℕ → ℕ
+small cost r = min (cost r) 17279900
+
+small_sum : (cost : ℕ → ℕ) (n a : ℕ) → sum_by (small cost) (range_with_len a n) ≤ 17279900 * n
+small_sum cost zero a = omega arith
+small_sum cost (suc n) a = omega (arith, sum_by-cons (small cost) a (range_with_len (a + 1) n), small_sum cost n (a + 1))
+
+pub sum-requires-clause-fits : goal.sum-requires-clause-fits
+sum-requires-clause-fits c =
+    let n = length c.args.problem.now.flights in
+    let cost = λ (r : ℕ). cost_at c.args.problem.now r (of_rank 0 c.args.schedule.now r) in
+    let ranks = YieldsList-from_range 1 _ n c.map.ensures.source (omega (arith, c.len.ensures.value)) in
+    fits_by_from_yields_list (small cost) _ c.map.result _ (YieldsList-from_map _ (small cost) ranks c.map.ensures.closure (λ x r q k. search (rules, tests))) (omega (arith, small_sum cost n 1, c.len.ensures.value, c.len.type_inv))
+
+pub returns : goal.returns
+returns c =
+    let n = length c.args.problem.now.flights in
+    let cost = λ (r : ℕ). cost_at c.args.problem.now r (of_rank 0 c.args.schedule.now r) in
+    let ranks = YieldsList-from_range 1 _ n c.map.ensures.source (omega (arith, c.len.ensures.value)) in
+    let whole = sum_by_from_yields_List cost _ c.map.result _ c.sum.ensures.ran (YieldsList-from_map _ cost ranks c.map.ensures.closure (λ x r q k. search (rules, tests))) in
+    let low = sum_by_from_yields_List (small cost) _ c.map.result _ c.sum.ensures.ran (YieldsList-from_map _ (small cost) ranks c.map.ensures.closure (λ x r q k. search (rules, tests))) in
+    record { value = whole ∙ ranks_folded (λ a r. a + cost r) (λ n. total cost (upto n)) (λ n. omega arith) n; small = omega (arith, low, small_sum cost n 1) }

@@ -1,26 +1,42 @@
-use Rattle.std.proofs.Common.{ℕ, inl, inr, sym, subst, arith}
+use Rattle.std.proofs.Common.{◌≡◌, ◌≤◌, ◌<◌, ℕ, inl, inr, ap, ◌∙◌, subst, arith, rules, tests, length}
 use Rattle.std.specs.Prelude.{slice_index_or}
 use Rattle.std.proofs.lemmas.Bool.{cases_eq}
-use Rattle.cps_theory.specs.Labels.{InPairs}
+use Rattle.std.proofs.lemmas.Iterator.{YieldsList-from_slice}
+use Rattle.std.proofs.lemmas.Option.{slice_get_within, get_or_from_slice_get}
+use Rattle.cps_theory.specs.Labels.{InPairs, Pair}
 use Rattle.cps_network.specs.Pairs.{list_at}
+use Rattle.cps_base.specs.laws.Folds.{kept_by_fold}
+use Rattle.first_best.proofs.FoldCalls.{fold_may_call}
 use Rattle.first_best.proofs.WayLemmas.{pairs_late}
 use Rattle.first_best.proofs.complete.latest.Goals as goal
 
-pub loop-way-preserved : goal.loop-way-preserved
-loop-way-preserved c = λ i lt q m.
-    let lists = c.args.next.now.lists in
-    elim (cases_eq i c.loop-way.way-index) [
-      | inl e ↦
-          let here = subst (InPairs q) (sym c.list.ensures) (subst (λ (n : ℕ). InPairs q (list_at lists (slice_index_or c.args.ways.now n 0))) e m) in
-          let late = c.latest.ensures q here in
-          omega (arith, late, c.max-latest.ensures)
-      | inr ne ↦ (let late = c.loop-way.invariant i (omega (arith, lt, ne)) q m in omega (arith, late, c.max-latest.ensures))
-    ]
+pub fold-latest-requires-clause-callable : goal.fold-latest-requires-clause-callable
+fold-latest-requires-clause-callable c =
+    let ways = c.args.ways.now in
+    fold_may_call (YieldsList-from_slice ways (cc)) (λ a x b q k. search (rules, tests)) (λ k a x at.
+    let lt = slice_get_within ways k x.now at in
+    let is = get_or_from_slice_get ways k x.now 0 at in
+    let within : x.now < length c.args.next.now.lists = omega (arith, c.requires.ways.within k lt, is, c.requires.next.one_each) in
+    let rises = c.requires.next.rising x.now in
+    search (rules, tests))
 
 pub returns-clause-last : goal.returns-clause-last
 returns-clause-last c = λ v q h.
     let p = c.args.problem.now in
-    let late = pairs_late p v c.args.stage c.args.node c.args.next.now.nodes c.args.next.now.lists c.args.ways.now c.loop-way.latest c.requires.node.0 (omega (arith, c.if-stage-len.false, c.len.ensures.value, c.requires.stage.1)) c.requires.ways
-    (λ i lt. c.loop-way.invariant i (omega (arith, lt, c.loop-way-test.false))) q h in
+    let lists = c.args.next.now.lists in
+    let ways = c.args.ways.now in
+    let all = kept_by_fold _ (λ n latest. (i : ℕ) → i < n → (q : Pair) → InPairs q (list_at lists (slice_index_or ways i 0)) → q.0 ≤ latest) c.fold-latest.ensures.ran (YieldsList-from_slice ways (cc)) (λ i lt. absurd (omega (arith, lt)))
+    (λ i a x b q at held k.
+    let is = get_or_from_slice_get ways i x.now 0 at in
+    let same : q ≡ record { 0 = c.args.next } = search (rules, tests) in
+    let more : a ≤ b = search (rules, tests, arith) in
+    let here : (o : Pair) → InPairs o (list_at lists x.now) → o.0 ≤ b = λ o m. search (rules, tests, arith) in (
+      same,
+      λ j below o m. elim (cases_eq j i) [
+        | inl e ↦ here o (subst (λ n. InPairs o (list_at lists n)) (ap (λ n. slice_index_or ways n 0) e ∙ is) m)
+        | inr ne ↦ (let late = held j (omega (arith, below, ne)) o m in omega (arith, late, more))
+      ],
+    )) in
+    let late = pairs_late p v c.args.stage c.args.node c.args.next.now.nodes lists ways c.fold-latest.result c.requires.node.0 (omega (arith, c.if-stage-len.false, c.len.ensures.value, c.requires.stage.1)) c.requires.ways all q h in
     let days = c.last_open-last.ensures.last q.0 h.opened in
     omega (arith, late, days, c.min.ensures)

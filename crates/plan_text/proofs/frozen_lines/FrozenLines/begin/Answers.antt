@@ -1,16 +1,37 @@
-use Rattle.std.proofs.Common.{◌≡◌, ◌∙◌, ◌<◌, ap, arith, refl, sym, length, Some, List}
-use Rattle.std.specs.Prelude.{slice_get}
+use Rattle.std.proofs.Common.{◌≡◌, ◌∙◌, ◌+◌, ◌∷◌, [], ◌<◌, ℕ, suc, List, Some, true, get_or, length, map, take, ap, sym, subst, arith, refl, rules, tests}
+use Rattle.std.specs.Prelude.{⊤, slice_get}
+use Rattle.std.specs.Bool.{MatchBool}
+use Rattle.std.specs.List.{AllWithin, HoldsAt, enumerate_from}
+use Rattle.std.proofs.lemmas.Iterator.{YieldsList-from_slice, cases_from_all}
+use Rattle.std.proofs.lemmas.Iterator.Consumers.{YieldsList-from_enumerate}
+use Rattle.std.proofs.lemmas.List.{length-map}
+use Rattle.std.proofs.lemmas.List.FromFn.{length-enumerate_from, get_or-enumerate_from}
+use Rattle.std.proofs.lemmas.Option.{same_Some}
 use Rattle.landing_rules.specs.Text.{ShownLanding}
 use Rattle.plan_file.specs.Shown.{shown_of}
-use Rattle.plan_text.proofs.Landings.{both_more, shown_at}
+use Rattle.plan_file.specs.declared.landing.Landing.{Landing}
 use Rattle.plan_text.proofs.frozen_lines.FrozenLines.begin.Goals as goal
 
-pub loop-i-preserved : goal.loop-i-preserved
-loop-i-preserved c =
-    let items = c.self.inside.landings.items in
-    let i = c.loop-i.i in
-    let within : i < length items = let b = c.loop-i-test.true in let l = c.len-i-end.ensures in let v = c.self.inside.landings.ok.0 in omega arith in
-    let same : shown_of c.index.result.now ≡ shown_of c.line.result = c.if-not-is_same.ensures refl in
-    both_more c.args.self.now c.args.plan.now.landings i (shown_of c.line.result) c.loop-i.invariant
-    (ap (λ (l : List ShownLanding). slice_get l i) (sym c.self.view_is) ∙ shown_at items i c.index.result.now within c.index.ensures ∙ ap Some same)
-    c.line.ensures
+alike : (xs : List Landing) (ls : List ShownLanding) → ((i : ℕ) (d : Landing) → i < length xs → slice_get ls i ≡ Some (shown_of (get_or xs i d))) → map shown_of xs ≡ take (length xs) ls
+alike [] ls each = refl
+alike (x ∷ xs) [] each = absurd (let none = each 0 x (omega arith) in cc)
+alike (x ∷ xs) (l ∷ ls) each =
+    let first = same_Some l (shown_of x) (each 0 x (omega arith)) in
+    ap (λ y. y ∷ map shown_of xs) (sym first) ∙ ap (λ r. l ∷ r) (alike xs ls (λ i d lt. each (suc i) d (omega arith)))
+
+pub returns-then-len : goal.returns-then-len
+returns-then-len c = λ yes.
+    let xs = c.self.inside.landings.items in
+    let ls = c.args.plan.now.landings in
+    let Same = λ (e : ℕ × Landing). slice_get ls e.0 ≡ Some (shown_of e.1) in
+    let cases = cases_from_all _ _ c.all.result Same (λ e. ⊤) c.all.ensures.ran (YieldsList-from_enumerate (YieldsList-from_slice xs (cc)) c.enumerate.ensures.count)
+    (λ x q k. (search (rules, tests), search (rules, tests))) (λ x q k. tt) in
+    let all : c.all.result ≡ true = search (rules) in
+    let long = length-enumerate_from 0 xs in
+    let each : AllWithin Same (enumerate_from 0 xs) 0 (length (enumerate_from 0 xs)) =
+    subst (λ b. MatchBool b (AllWithin Same (enumerate_from 0 xs) 0 (length (enumerate_from 0 xs))) ((k : ℕ) × (k < length (enumerate_from 0 xs)) × HoldsAt (λ e. ⊤) (enumerate_from 0 xs) k)) all cases in
+    let same = alike xs ls (λ i d lt.
+    let at : 0 + i ≡ i = omega arith in
+    subst (λ n. slice_get ls n ≡ Some (shown_of (get_or xs i d))) at (subst Same (get_or-enumerate_from 0 xs i (0, d) lt) (each i (0, d) (omega arith) (omega arith)))) in
+    let is = sym c.self.view_is in
+    is ∙ same ∙ ap (λ n. take n ls) (sym (ap length is ∙ length-map xs shown_of))
