@@ -80,11 +80,10 @@ fn pushed_ones(k: u8, node: &Node, rank: u8) -> u8
         (suc (suc node.now.stage)) (2 * k) }
 {
     let digits = 2 * k;
-    let mut ones = 0;
-    for i in 0..digits {
-        ones = 2 * ones + u8::from(pushed_digit(k, node, rank, digits - i));
-    }
-    ones
+    (0..digits).fold(
+        0,
+        |ones, i| 2 * ones + u8::from(pushed_digit(k, node, rank, digits - i)),
+    )
 }
 
 // The node behind a node by one more rank.

@@ -1,14 +1,14 @@
 -- Digits as numbers, and nodes by number and by slot.
 use Rattle.std.proofs.Common.{◌≡◌, ℕ, zero, suc, ◌+◌, ◌-◌, ◌*◌, ◌/◌, ◌%◌, ◌^◌, ◌<◌, ◌≤◌, Bool, true, false, cond, eqb, List, [], ◌∷◌, length, refl, sym, ap, ap₂, subst, ◌∙◌, arith, inl, inr}
 use Rattle.std.specs.Prelude.{◌↔◌, ◌⊎◌, max, bit_or}
-use Rattle.std.specs.Int.{bit_at}
-use Rattle.std.proofs.lemmas.Nat.{one_shl, shl_whole}
+use Rattle.std.specs.Int.{bit_at, reverse_bits, reverse_bits_onto, w8}
+use Rattle.std.proofs.lemmas.Nat.{one_shl, shl_whole, pow_pos, div-mul-add}
 use Rattle.std.proofs.lemmas.Nat.Bits.{bit_at_or, bit_at_ones, bit_at_ones_above, bit_at-lt, bit_at-suc}
 use Rattle.precedence.specs.Pairs.{HasBit}
 use Rattle.std.specs.Ordering.{bool_cmp, nat_cmp, ordering_then}
 use Rattle.std.specs.declared.cmp.Ordering.TheVariants.{Less, Equal, Greater}
 use Rattle.std.specs.Cmp.Lexicographic.{slice_cmp}
-use Rattle.std.proofs.Math.Nat.{pow-suc, div-add-mod'}
+use Rattle.std.proofs.Math.Nat.{pow-suc, div-add-mod', pow-le-pow_right}
 use Rattle.std.proofs.lemmas.Bool.{cases_lt, lt-ltb, le-ltb, eq-eqb}
 use Rattle.cps_theory.specs.Patterns.{PatternNode}
 use Rattle.cps_theory.specs.CertificateClosure.{node_cmp}
@@ -76,7 +76,7 @@ digit_value zero n lt = omega arith
 digit_value (suc zero) n lt = omega arith
 digit_value (suc (suc b)) n lt = absurd (omega arith)
 
-pub turned_more : (n j rest ones : ℕ) → n ≡ rest * 2 ^ j + number_of (bits j ones) → n ≡ rest / 2 * 2 ^ suc j + number_of (bits (suc j) (ones * 2 + rest % 2))
+turned_more : (n j rest ones : ℕ) → n ≡ rest * 2 ^ j + number_of (bits j ones) → n ≡ rest / 2 * 2 ^ suc j + number_of (bits (suc j) (ones * 2 + rest % 2))
 turned_more n j rest ones e =
     let b : rest % 2 < 2 = omega arith in
     let half : (ones * 2 + rest % 2) / 2 ≡ ones = omega arith in
@@ -91,7 +91,7 @@ turned_more n j rest ones e =
     let up : rest / 2 * 2 ^ suc j ≡ rest / 2 * (2 * 2 ^ j) = ap (λ m. rest / 2 * m) d in
     omega (arith, e, value, whole, up)
 
-pub turned_step : (n j rest ones : ℕ) → (n ≡ rest * 2 ^ j + number_of (bits j ones)) × (ones < 2 ^ j) → (n ≡ rest / 2 * 2 ^ (j + 1) + number_of (bits (j + 1) (ones * 2 + rest % 2))) × (ones * 2 + rest % 2 < 2 ^ (j + 1))
+turned_step : (n j rest ones : ℕ) → (n ≡ rest * 2 ^ j + number_of (bits j ones)) × (ones < 2 ^ j) → (n ≡ rest / 2 * 2 ^ (j + 1) + number_of (bits (j + 1) (ones * 2 + rest % 2))) × (ones * 2 + rest % 2 < 2 ^ (j + 1))
 turned_step n j rest ones h =
     let e : suc j ≡ j + 1 = omega arith in
     let d = double j in
@@ -100,10 +100,45 @@ turned_step n j rest ones h =
     let small : ones * 2 + rest % 2 < 2 ^ suc j = omega (arith, d, b, low) in
     subst (λ m. (n ≡ rest / 2 * 2 ^ m + number_of (bits m (ones * 2 + rest % 2))) × (ones * 2 + rest % 2 < 2 ^ m)) e (turned_more n j rest ones h.0, small)
 
--- a number with nothing left is told by its digits
-pub nothing_left : (n m rest v : ℕ) → n ≡ rest * m + v → n < m → n ≡ v
-nothing_left n m zero v e lt = omega (arith, e)
-nothing_left n m (suc rest) v e lt = absurd (omega (arith, e, lt))
+-- with nothing left, only zeros come behind
+zeros_behind : (d ones : ℕ) → reverse_bits_onto d 0 ones ≡ ones * 2 ^ d
+unfolding reverse_bits_onto
+zeros_behind zero ones = omega arith
+zeros_behind (suc d) ones =
+    let up : ones * 2 ^ suc d ≡ ones * (2 * 2 ^ d) = ap (λ m. ones * m) (double d) in
+    let rest : (ones * 2 + 0) * 2 ^ d ≡ ones * 2 ^ suc d = omega (arith, up) in
+    zeros_behind d (ones * 2 + 0) ∙ rest
+
+-- the turned digits of a number are the high ones of its reversed bits
+turned_onto : (m d n j rest ones : ℕ) → (n ≡ rest * 2 ^ j + number_of (bits j ones)) × (ones < 2 ^ j) → rest < 2 ^ m
+    → (turned : ℕ) × (reverse_bits_onto (m + d) rest ones ≡ turned * 2 ^ d) × (n ≡ number_of (bits (j + m) turned)) × (turned < 2 ^ (j + m))
+unfolding reverse_bits_onto
+turned_onto zero d n j (suc rest) ones h low = absurd (omega (arith, low))
+turned_onto zero d n j zero ones h low =
+    let e : j ≡ j + 0 = omega arith in
+    let v = h.0 in
+    let same : n ≡ number_of (bits j ones) = omega (arith, v) in
+    (ones, ap (λ i. reverse_bits_onto i 0 ones) (let none : 0 + d ≡ d = omega arith in none) ∙ zeros_behind d ones, same ∙ ap (λ i. number_of (bits i ones)) e, subst (λ i. ones < 2 ^ i) e h.1)
+turned_onto (suc m) d n j rest ones h low =
+    let e : j + 1 + m ≡ j + suc m = omega arith in
+    let t = turned_onto m d n (j + 1) (rest / 2) (ones * 2 + rest % 2) (turned_step n j rest ones h) (let e = double m in omega (arith, low, e)) in
+    (t.0, ap (λ i. reverse_bits_onto i rest ones) (let one : suc m + d ≡ suc (m + d) = omega arith in one) ∙ t.1, t.2 ∙ ap (λ i. number_of (bits i t.0)) e, subst (λ i. t.0 < 2 ^ i) e t.3)
+
+pub turned_bits : (k n r : ℕ) → k ≤ 3 → n < 2 ^ (2 * k) → r ≡ reverse_bits w8 (n * 2 ^ 1 % 256)
+    → (number_of (bits (2 * k) (r / 2 ^ (7 - 2 * k))) ≡ n) × (r / 2 ^ (7 - 2 * k) < 2 ^ (2 * k))
+unfolding reverse_bits_onto
+turned_bits k n r near low is =
+    let small : 2 ^ (2 * k) ≤ 2 ^ 6 = pow-le-pow_right {n = 2} (omega arith) {j = 6} (omega (arith, near)) in
+    let twice : n * 2 ^ 1 % 256 ≡ n * 2 = omega (arith, low, small) in
+    let t = turned_onto (2 * k) (7 - 2 * k) n 0 n 0 (omega arith, omega arith) low in
+    let first : reverse_bits_onto 7 (n * 2 / 2) (0 * 2 + n * 2 % 2) ≡ reverse_bits_onto 7 n 0 =
+    ap₂ (reverse_bits_onto 7) (let e : n * 2 / 2 ≡ n = omega arith in e) (let e : 0 * 2 + n * 2 % 2 ≡ 0 = omega arith in e) in
+    let all : 7 ≡ 2 * k + (7 - 2 * k) = omega (arith, near) in
+    let made : r ≡ t.0 * 2 ^ (7 - 2 * k) + 0 =
+    is ∙ ap (λ m. reverse_bits_onto 8 m 0) twice ∙ first ∙ ap (λ m. reverse_bits_onto m n 0) all ∙ t.1 ∙ (let e : t.0 * 2 ^ (7 - 2 * k) ≡ t.0 * 2 ^ (7 - 2 * k) + 0 = omega arith in e) in
+    let high : r / 2 ^ (7 - 2 * k) ≡ t.0 = ap (λ m. m / 2 ^ (7 - 2 * k)) made ∙ div-mul-add t.0 (2 ^ (7 - 2 * k)) 0 (pow_pos (7 - 2 * k)) in
+    let whole : 0 + 2 * k ≡ 2 * k = omega arith in
+    (ap (λ m. number_of (bits (2 * k) m)) high ∙ sym (t.2 ∙ ap (λ i. number_of (bits i t.0)) whole), subst (λ m. m < 2 ^ (2 * k)) (sym high) (subst (λ i. t.0 < 2 ^ i) whole t.3))
 
 -- ---- bits
 

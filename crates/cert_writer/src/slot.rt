@@ -36,11 +36,6 @@ pub(crate) fn turned(k: u8, number: u8) -> u8
     ensures digits { number_of (bits (2 * k) result) ≡ number }
     ensures below { result < 2 ^ (2 * k) }
 {
-    let mut rest = number;
-    let mut ones = 0;
-    for _digit in 0..2 * k {
-        ones = ones * 2 + rest % 2;
-        rest /= 2;
-    }
-    ones
+    // one bit up first, as a byte can't be shifted back by 8, where k is 0
+    (number << 1).reverse_bits() >> (7 - 2 * k)
 }

@@ -206,12 +206,7 @@ fn run_words(
 
 // Where the piece stands in the text, from this place on.
 fn place_of(text: &[u8], piece: &[u8], from: usize) -> Option<usize> {
-    for i in from..text.len() {
-        if text[i..].starts_with(piece) {
-            return Some(i);
-        }
-    }
-    None
+    (from..text.len()).find(|i| text[*i..].starts_with(piece))
 }
 
 // Whether the pieces stand in the text, each behind the beginning of the one before.

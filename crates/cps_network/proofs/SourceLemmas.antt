@@ -1,12 +1,13 @@
 -- The windows that lead to one window stand side by side.
-use Rattle.std.proofs.Common.{◌≡◌, ℕ, ◌+◌, ◌-◌, ◌<◌, ◌≤◌, List, length, drop, take, refl, arith, ◌∙◌, sym, ap, inl, inr, subst}
-use Rattle.std.specs.Prelude.{ℤ, ◌⊎◌, ◌↔◌}
+use Rattle.std.proofs.Common.{◌≡◌, ℕ, Bool, true, false, [], ◌-◌, ◌<◌, ◌≤◌, List, length, drop, take, refl, arith, ◌∙◌, sym, ap, inl, inr, subst}
+use Rattle.std.specs.Prelude.{ℤ, ◌⊎◌, ◌↔◌, IsTrue, slice_index_or}
 use Rattle.std.proofs.lemmas.Bool.Decides.{nat_tests}
 use Rattle.std.proofs.lemmas.Cmp.{lists_total, int_cmp_total, tied_itself}
 use Rattle.std.specs.declared.cmp.Ordering.{Ordering}
 use Rattle.std.specs.declared.cmp.Ordering.TheVariants.{Less, Equal, Greater}
-use Rattle.std.specs.Ordering.{int_cmp, int_eq, is_eq, ordering_then}
+use Rattle.std.specs.Ordering.{int_cmp, int_eq, is_eq, is_lt, ordering_then}
 use Rattle.std.specs.Cmp.{IsTotalOrder}
+use Rattle.std.specs.List.Sorted.{IsPartitionedBy}
 use Rattle.std.specs.Cmp.Lexicographic.{slice_cmp, pointwise, lists_ties}
 use Rattle.cps_nodes.specs.WindowOrder.{window_cmp}
 use Rattle.cps_nodes.specs.Leads.{IsBelow, TailMeetsHead}
@@ -14,7 +15,7 @@ use Rattle.std.proofs.lemmas.Slice.Eq.{slice_eq-Decides}
 use Rattle.std.proofs.lemmas.Bool.Decides.{Decides-int_eq}
 use Rattle.cps_network.specs.Lists.{node_at, IsAscending}
 use Rattle.cps_network.specs.Begins.{BeginAt}
-use Rattle.cps_network.proofs.MergeLemmas.{last_or_before}
+use Rattle.cps_network.proofs.MergeLemmas.{node_at-default}
 
 total : IsTotalOrder (slice_cmp int_cmp)
 total = lists_total int_cmp_total
@@ -53,39 +54,40 @@ none_after x y z up not_under not_leads leads = elim (tails_rise x y up) [
   | inr same ↦ not_leads (same ∙ leads)
 ]
 
--- the search so far: all before low are below, and none from high on is
-pub record IsSearch (before : List (List ℤ)) (node : List ℤ) (low high : ℕ) : Type 0 where
-  pub ordered : low ≤ high
-  pub within : high ≤ length before
-  pub below : (i : ℕ) → i < low → IsBelow (node_at before i) node
-  pub above : (i : ℕ) → high ≤ i → i < length before → IsBelow (node_at before i) node → ⊥
-
 same_or_before : (i j : ℕ) → i ≤ j → (i ≡ j) ⊎ (i < j)
 same_or_before i j h = grind (arith, nat_tests)
 
-pub search_right : (before : List (List ℤ)) (node : List ℤ) (low high middle : ℕ) → IsAscending before → IsSearch before node low high → low ≤ middle → middle < high
-    → IsBelow (node_at before middle) node → IsSearch before node (middle + 1) high
-search_right before node low high middle up is lm mh below = record {
-  ordered = omega arith;
-  within = is.within;
-  below = λ i lt. elim (last_or_before i middle lt) [
-    | inl same ↦ subst (λ (q : ℕ). IsBelow (node_at before q) node) (sym same) below
-    | inr less ↦ IsBelow-earlier (node_at before i) (node_at before middle) node (up i middle less (omega (arith, is.within))) below
-  ];
-  above = is.above;
-}
+-- whether a window is below a node
+abbrev pub is_below : List ℤ → List ℤ → Bool
+is_below node window = is_lt (slice_cmp int_cmp (drop 1 window) (take (length node - 1) node))
 
-pub search_left : (before : List (List ℤ)) (node : List ℤ) (low high middle : ℕ) → IsAscending before → IsSearch before node low high → low ≤ middle → middle < high
-    → (IsBelow (node_at before middle) node → ⊥) → IsSearch before node low middle
-search_left before node low high middle up is lm mh not = record {
-  ordered = lm;
-  within = omega (arith, is.within);
-  below = is.below;
-  above = λ i from within below. elim (same_or_before middle i from) [
-    | inl same ↦ not (subst (λ (q : ℕ). IsBelow (node_at before q) node) (sym same) below)
-    | inr less ↦ not (IsBelow-earlier (node_at before middle) (node_at before i) node (up middle i less within) below)
-  ];
-}
+pub IsBelow-true : (node window : List ℤ) → is_below node window ≡ true → IsBelow window node
+IsBelow-true node window passes = less (slice_cmp int_cmp (drop 1 window) (take (length node - 1) node)) passes
+  where
+    less : (o : Ordering) → is_lt o ≡ true → o ≡ Less
+    less Less e = refl
+    less Equal e = absurd cc
+    less Greater e = absurd cc
+
+pub is_below-from : (node window : List ℤ) (answer : Bool) → (IsTrue answer ↔ IsBelow window node) → answer ≡ is_below node window
+is_below-from node window answer says = same answer (slice_cmp int_cmp (drop 1 window) (take (length node - 1) node)) says
+  where
+    same : (b : Bool) (o : Ordering) → (IsTrue b ↔ (o ≡ Less)) → b ≡ is_lt o
+    same b Less h = h.1 refl
+    same true Equal h = absurd (let less = h.0 refl in cc)
+    same false Equal h = refl
+    same true Greater h = absurd (let less = h.0 refl in cc)
+    same false Greater h = refl
+
+-- of ascending windows those below a node stand before the others
+pub IsPartitionedBy-is_below : (before : List (List ℤ)) (node : List ℤ) → IsAscending before → IsPartitionedBy (is_below node) before
+IsPartitionedBy-is_below before node up i j d le within passes = elim (same_or_before i j le) [
+  | inl same ↦ subst (λ (q : ℕ). is_below node (slice_index_or before q d) ≡ true) (sym same) passes
+  | inr less ↦
+      let later : IsBelow (node_at before j) node = subst (λ (x : List ℤ). IsBelow x node) (node_at-default before j d [] within) (IsBelow-true node (slice_index_or before j d) passes) in
+      let earlier : IsBelow (node_at before i) node = IsBelow-earlier (node_at before i) (node_at before j) node (up i j less within) later in
+      subst (λ (x : List ℤ). is_below node x ≡ true) (node_at-default before i [] d (omega (arith, less, within))) (ap is_lt earlier)
+]
 
 -- the range is that of the windows that lead to the node
 pub exact : (before : List (List ℤ)) (node : List ℤ) (from to : ℕ) → IsAscending before

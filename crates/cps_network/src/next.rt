@@ -124,6 +124,18 @@ fn next_windows<const W: usize>(
     Ok(after)
 }
 
+// The first place, from this one on, whose window's tail is not below the node's head.
+#[inline]
+fn past_below<const W: usize>(before: &[Window<W>], node: &Window<W>, from: usize) -> usize {
+    (from..before.len())
+        .find(
+            |place: &usize| -> bool
+                requires { place.now < length before.now }
+            { !before[*place].is_below(node) },
+        )
+        .unwrap_or(before.len())
+}
+
 // Where the windows that lead to each are likely to begin, for all at once: one cursor for each first offset, which starts
 // where the first such windows begin.
 fn begins<const W: usize>(
@@ -142,9 +154,7 @@ fn begins<const W: usize>(
         if place == 0 {
             place = first_source(before, node);
         }
-        while place < before.len() && before[place].is_below(node) {
-            place += 1;
-        }
+        place = past_below(before, node, place);
         cursors[run] = place;
         begins.push(place.min(u32::MAX as usize) as u32)?;
     }

@@ -1,6 +1,6 @@
 //! The windows that lead to a window.
 
-ghost use Rattle.std.specs.Prelude.{ℕ, ◌+◌, ◌-◌, ◌/◌, ◌<◌, ◌≤◌, ◌↔◌, length, IsTrue};
+ghost use Rattle.std.specs.Prelude.{ℕ, ◌-◌, ◌<◌, ◌≤◌, ◌↔◌, length, IsTrue, not};
 ghost use Rattle.cps_nodes.specs.Windows.{IsWidth};
 ghost use Rattle.cps_network.specs.Lists.{IsAscending, node_at};
 ghost use Rattle.cps_nodes.specs.Leads.{Extends, TailMeetsHead, IsBelow};
@@ -17,17 +17,11 @@ pub(crate) fn first_source<const W: usize>(before: &[Window<W>], node: &Window<W
     ensures above { (i : ℕ) → result ≤ i → i < length before.now
         → IsBelow (node_at before.now i) node.now → ⊥ }
 {
-    let mut low = 0;
-    let mut high = before.len();
-    while low < high {
-        let middle = low + (high - low) / 2;
-        if before[middle].is_below(node) {
-            low = middle + 1;
-        } else {
-            high = middle;
-        }
-    }
-    low
+    before.partition_point(
+        |window: &Window<W>| -> bool
+            ensures { IsTrue result ↔ IsBelow window.now node.entry.now }
+        { window.is_below(node) },
+    )
 }
 
 // Whether the windows that lead to a node may begin at this place: the one before it does not lead there.
@@ -51,11 +45,15 @@ fn end_from<const W: usize>(before: &[Window<W>], node: &Window<W>, from: usize)
     ensures ends { result < length before.now
         → TailMeetsHead (node_at before.now result) node.now → ⊥ }
 {
-    let mut to = from;
-    while to < before.len() && before[to].leads_to(node) {
-        to += 1;
-    }
-    to
+    (from..before.len())
+        .find(
+            |to: &usize| -> bool
+                requires { to.now < length before.now }
+                ensures { IsTrue (not result)
+                    ↔ TailMeetsHead (node_at before.entry.now to.now) node.entry.now }
+            { !before[*to].leads_to(node) },
+        )
+        .unwrap_or(before.len())
 }
 
 // The half-open range of the windows that lead to a window. It is fastest where the hint is its first place.

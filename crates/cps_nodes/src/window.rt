@@ -145,11 +145,8 @@ fn held_ranks<const W: usize>(digits: u32) -> u32
     requires { W < 8 }
     ensures { AreHeld (offsets_of W digits) result }
 {
-    let mut held = 0;
-    for i in 0..W {
-        held |= 1 << bit_of(rank_at(digits, W, i));
-    }
-    held
+    let width = W; // a closure that names W is not read by the checker
+    (0..width).fold(0, |held, i| held | 1 << bit_of(rank_at(digits, width, i)))
 }
 
 // Whether a set of the ranks that a window holds has a rank.

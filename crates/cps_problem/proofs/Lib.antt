@@ -1,2 +1,1 @@
 pub mod AtRank
-mod Lowering

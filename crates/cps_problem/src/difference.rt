@@ -144,10 +144,10 @@ impl Problem {
         if !self.has_same_head(other) {
             return 1;
         }
-        let mut r = self.same_flights(other);
-        while r > 1 && !self.has_same_predecessors(other, r) {
-            r -= 1;
-        }
-        r
+        let most = self.same_flights(other);
+        let agreed = (2..=most)
+            .rev()
+            .find(|r| self.has_same_predecessors(other, *r));
+        agreed.unwrap_or(1)
     }
 }

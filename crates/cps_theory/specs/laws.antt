@@ -17,6 +17,7 @@ pub mod FirstFound
 pub mod FrozenFront
 pub mod FrozenSeparation
 pub mod KeptStages
+pub mod LastInRange
 pub mod LabelDominance
 pub mod LandingOrder
 pub mod LeastChoices

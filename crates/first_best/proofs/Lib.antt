@@ -8,4 +8,3 @@ pub mod ScanLemmas
 pub mod CompletingLemmas
 pub mod AheadLemmas
 pub mod ChoiceLemmas
-pub mod FoldCalls

@@ -1,6 +1,7 @@
 -- Lists of pairs that rise or fall, and least costs.
-use Rattle.std.proofs.Common.{◌≡◌, ℕ, suc, ◌+◌, ◌-◌, ◌<◌, ◌≤◌, ◌⊎◌, inl, inr, zero, List, [], ◌∷◌, ◌++◌, length, reverse, refl, sym, ap, subst, ◌∙◌, ltb, arith}
-use Rattle.std.specs.Prelude.{◌↔◌, Option, Some, None, IfSome, min}
+use Rattle.std.proofs.Common.{◌≡◌, ℕ, suc, ◌-◌, ◌<◌, ◌≤◌, ◌⊎◌, inl, inr, zero, List, [], ◌∷◌, ◌++◌, length, reverse, refl, sym, ap, subst, ◌∙◌, ltb, arith}
+use Rattle.std.specs.Prelude.{◌↔◌, Option, Some, None, filter_map, fold, min, slice_index_or}
+use Rattle.std.specs.List.{cons_option, reduce}
 use Rattle.std.specs.List.Sorted.{IsPartitionedBy}
 use Rattle.std.proofs.lemmas.Bool.{cases_eq, cases_lt, lt-ltb, ltb-true}
 use Rattle.std.proofs.lemmas.List.{get_or_default, reverse-append}
@@ -95,10 +96,69 @@ least_either P Q (Some x) (Some y) l m = (
   λ d h. elim h [ inl z ↦ (let a = l.1 d z in omega (arith, a)) | inr z ↦ (let a = m.1 d z in omega (arith, a)) ],
 )
 
-pub small_either : (most : ℕ) (a b : Option ℕ) → IfSome a (λ c. c ≤ most) → IfSome b (λ c. c ≤ most) → IfSome (earlier_of a b) (λ c. c ≤ most)
-small_either most None b l m = m
-small_either most (Some x) None l m = l
-small_either most (Some x) (Some y) l m = omega (arith, l, m)
+-- there is one at most
+pub least_unique : (P : ℕ → Type 0) (a b : Option ℕ) → IsLeastOf P a → IsLeastOf P b → a ≡ b
+least_unique P None None l m = refl
+least_unique P None (Some y) l m = absurd (l y m.0)
+least_unique P (Some x) None l m = absurd (m x l.0)
+least_unique P (Some x) (Some y) l m = (let a = l.1 y m.0 in let b = m.1 x l.0 in ap Some (omega (arith, a, b)))
+
+fold_min : (a b : ℕ) (xs : List ℕ) → fold min (min a b) xs ≡ min a (fold min b xs)
+fold_min a b [] = refl
+fold_min a b (x ∷ xs) = ap (λ n. fold min n xs) (omega arith) ∙ fold_min a (min b x) xs
+
+reduce_min : (o : Option ℕ) (xs : List ℕ) → reduce min (cons_option o xs) ≡ earlier_of o (reduce min xs)
+reduce_min None xs = refl
+reduce_min (Some x) [] = refl
+reduce_min (Some x) (y ∷ ys) = ap Some (fold_min x y ys)
+
+-- the least over a list, where each element has one or none
+module _ {A : Type 0} (d : A) (W : A → ℕ → Type 0) (each : (x : A) → (o : Option ℕ) × IsLeastOf (W x) o) where
+  abbrev pub IsAtSome : List A → ℕ → Type 0
+  IsAtSome xs c = (i : ℕ) × (i < length xs) × W (slice_index_or xs i d) c
+
+  abbrev pub least_at : List A → Option ℕ
+  least_at xs = reduce min (filter_map (λ x. (each x).0) xs)
+
+  pub least_of_list : (xs : List A) → IsLeastOf (IsAtSome xs) (least_at xs)
+  least_of_list [] = λ c n. (let lt = n.1 in absurd (omega (arith, lt)))
+  least_of_list (x ∷ xs) =
+      rw (reduce_min (each x).0 (filter_map (λ y. (each y).0) xs))
+      (least_same (λ c. W x c ⊎ IsAtSome xs c) (IsAtSome (x ∷ xs)) (earlier_of (each x).0 (least_at xs)) (λ c. (to c, from c)) (least_either (W x) (IsAtSome xs) (each x).0 (least_at xs) (each x).1 (least_of_list xs)))
+    where
+      to : (c : ℕ) → W x c ⊎ IsAtSome xs c → IsAtSome (x ∷ xs) c
+      to c (inl w) = (0, omega arith, w)
+      to c (inr (i, lt, w)) = (suc i, omega (arith, lt), w)
+
+      from : (c : ℕ) → IsAtSome (x ∷ xs) c → W x c ⊎ IsAtSome xs c
+      from c (zero, lt, w) = inl w
+      from c (suc i, lt, w) = inr (i, omega (arith, lt), w)
+
+-- pairs have a least cost from a second on, or none
+module _ (second : ℕ) where
+  abbrev IsCostOf : Pair → ℕ → Type 0
+  IsCostOf q c = (second ≤ q.0) × (q.1 ≡ c)
+
+  least_of_pair : (q : Pair) → (o : Option ℕ) × IsLeastOf (IsCostOf q) o
+  least_of_pair q = elim (cases_lt q.0 second) [
+    | inl lt ↦ (None, λ c h. (let le = h.0 in absurd (omega (arith, lt, le))))
+    | inr le ↦ (Some q.1, ((le, refl), λ c h. (let e = h.1 in omega (arith, e))))
+  ]
+
+  pub least_from : (xs : List Pair) → (o : Option ℕ) × IsLeastOf (IsCostFrom xs second) o
+  least_from xs = (least, least_same IsAt (IsCostFrom xs second) least (λ c. (to c, from c)) (least_of_list (0, 0) IsCostOf least_of_pair xs))
+    where
+      least : Option ℕ
+      least = least_at (0, 0) IsCostOf least_of_pair xs
+
+      IsAt : ℕ → Type 0
+      IsAt = IsAtSome (0, 0) IsCostOf least_of_pair xs
+
+      to : (c : ℕ) → IsAt c → IsCostFrom xs second c
+      to c (i, lt, h) = (pair_at xs i, at_in xs i (pair_at xs i) lt refl, h.0, h.1)
+
+      from : (c : ℕ) → IsCostFrom xs second c → IsAt c
+      from c (q, listed, late, is) = (let a = in_at q xs listed in (a.0, a.1, subst (λ (o : Pair). IsCostOf o c) (sym a.2) (late, is)))
 
 -- ---- by places
 
@@ -155,17 +215,3 @@ rises_split xs r second i j d le lt up = elim (cases_eq i j) [
       let below = ltb-true (pair_at xs j).0 second (rw (get_or_default xs j d (0, 0) lt) at up) in
       rw (get_or_default xs i d (0, 0) (omega (arith, le, lt))) (lt-ltb (pair_at xs i).0 second (omega (arith, less, below)))
 ]
-
--- the least of one family more
-pub upto_more : (W : ℕ → ℕ → Type 0) (n : ℕ) (a b : Option ℕ) → IsLeastOf (λ c. (i : ℕ) × (i < n) × W i c) a → IsLeastOf (W n) b → IsLeastOf (λ c. (i : ℕ) × (i < n + 1) × W i c) (earlier_of a b)
-upto_more W n a b l m = least_same (λ c. ((i : ℕ) × (i < n) × W i c) ⊎ W n c) (λ c. (i : ℕ) × (i < n + 1) × W i c) (earlier_of a b) (λ c. (to c, from c)) (least_either (λ c. (i : ℕ) × (i < n) × W i c) (W n) a b l m)
-  where
-    to : (c : ℕ) → ((i : ℕ) × (i < n) × W i c) ⊎ W n c → (i : ℕ) × (i < n + 1) × W i c
-    to c (inl (i, lt, w)) = (i, omega (arith, lt), w)
-    to c (inr w) = (n, omega arith, w)
-
-    from : (c : ℕ) → (i : ℕ) × (i < n + 1) × W i c → ((i : ℕ) × (i < n) × W i c) ⊎ W n c
-    from c (i, lt, w) = elim (cases_eq i n) [
-      | inl e ↦ inr (subst (λ (j : ℕ). W j c) e w)
-      | inr ne ↦ inl (i, omega (arith, lt, ne), w)
-    ]

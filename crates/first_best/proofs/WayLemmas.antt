@@ -1,6 +1,7 @@
 -- Ways from a node to others, and the least cost by them.
 use Rattle.std.proofs.Common.{◌≡◌, ℕ, zero, suc, ◌+◌, ◌<◌, ◌≤◌, inl, inr, List, [], ◌∷◌, ◌++◌, length, Option, Some, None, true, false, ◌&&◌, refl, sym, ap, subst, ◌∙◌, arith}
 use Rattle.std.specs.Prelude.{slice_index_or}
+use Rattle.std.proofs.lemmas.Option.{none-some}
 use Rattle.std.proofs.lemmas.Bool.{and_from, cases_eq, cases_lt, false≢true}
 use Rattle.std.proofs.lemmas.List.{get_or_append_left, get_or_push}
 use Rattle.std.proofs.Common.{length-append}
@@ -14,7 +15,7 @@ use Rattle.cps_network.specs.Pairs.{list_at}
 use Rattle.first_best.specs.declared.node.EarlyNode.{EarlyNode}
 use Rattle.first_best.specs.Nodes.{node_at, LeadsTo}
 use Rattle.first_best.specs.Completing.{AreWaysOf, IsCostFrom, IsEnd, IsLeastOf, IsPairOf, IsWayTo}
-use Rattle.first_best.proofs.PairLemmas.{least_same}
+use Rattle.first_best.proofs.PairLemmas.{least_from, least_same}
 
 -- ---- the places of the nodes that a node leads to
 
@@ -92,6 +93,21 @@ module _ (p : Problem) (node after : EarlyNode) (pairs : List Pair) (second : �
           let s : cost_at p after.last w.lands_at ≡ cost_at p after.last landing = ap (cost_at p after.last) e in
           omega (arith, a, b, s),
     )
+
+  -- it has a least, or there is none
+  abbrev HasLeast : Type 0
+  HasLeast = (o : Option ℕ) × IsLeastOf (IsWayTo p node after pairs second) o
+
+  least_by : (landing : ℕ) → landing_after p node.last second after.last ≡ Some landing → (rest : Option ℕ) → IsLeastOf (IsCostFrom pairs landing) rest → HasLeast
+  least_by landing lands None least = (None, too_late landing lands least)
+  least_by landing lands (Some rest) least = (Some (cost_at p after.last landing + rest), way_cost landing lands rest least)
+
+  pub least_way : HasLeast
+  least_way = go (landing_after p node.last second after.last) refl
+    where
+      go : (o : Option ℕ) → landing_after p node.last second after.last ≡ o → HasLeast
+      go None is = (None, λ c w. none-some w.lands_at (sym is ∙ w.lands))
+      go (Some landing) is = (let rest = least_from landing pairs in least_by landing is rest.0 rest.1)
 
 -- ---- the least cost
 

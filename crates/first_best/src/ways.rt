@@ -2,13 +2,12 @@
 
 ghost use Rattle.std.specs.Prelude.{◌≡◌, ℕ, ◌+◌, ◌-◌, ◌*◌, ◌<◌, ◌≤◌, IfOk, IfSome, length};
 ghost use Rattle.landing_rules.specs.Rules.{last_second};
-ghost use Rattle.landing_joint.specs.RankedProblem.{earlier_of};
+ghost use Rattle.cps_network.specs.Pairs.{list_at};
 ghost use Rattle.first_best.specs.Nodes.{node_at};
-ghost use Rattle.first_best.specs.Completing.{AreInReach, AreWaysOf, IsEnd, IsLeastOf, IsWayTo, Rises};
+ghost use Rattle.first_best.specs.Completing.{AreWaysOf, IsEnd, IsLeastOf, IsWayTo};
 ghost use Rattle.first_best.specs.Ranges.{HasRank, IsNextIn};
 
 use crate::node::{EarlyNode, leads_to};
-use crate::pairs::PairList;
 use crate::stage::AheadStage;
 use cps_problem::Problem;
 use std::alloc::{AllocError, Global};
@@ -31,37 +30,29 @@ pub(crate) fn ways_of(
     Ok(ways)
 }
 
-// The lesser of two costs, where there are such.
-fn lesser(a: Option<u32>, b: Option<u32>) -> Option<u32>
-    ensures { result ≡ earlier_of a b }
-{
-    match (a, b) {
-        (Some(x), Some(y)) => Some(x.min(y)),
-        (Some(x), None) => Some(x),
-        (None, b) => b,
-    }
-}
-
-// The least cost of what is left behind a node whose last flight lands at a second, by way of another node.
+// The least cost of what is left behind a node whose last flight lands at a second, by way of the node at a place of the next
+// stage.
 fn cost_by(
     problem: &Problem,
+    stage: u8,
     node: EarlyNode,
-    after: EarlyNode,
-    pairs: &PairList,
+    next: &AheadStage,
+    way: usize,
     second: u32,
-    left: u8,
 ) -> Option<u32>
+    requires stage { stage < length problem.now.flights }
+    requires few { length problem.now.flights ≤ 60 }
     requires node { HasRank problem.now node }
-    requires after { HasRank problem.now after }
-    requires left { left < 60 }
-    requires rising { Rises pairs.now }
-    requires in_reach { AreInReach left pairs.now }
+    requires next { IsNextIn problem.now stage next.now }
+    requires way { way < length next.now.nodes }
     requires second { second ≤ last_second }
-    ensures least { IsLeastOf (IsWayTo problem.now node after pairs.now second) result }
-    ensures small { IfSome result (λ c. c ≤ 17279900 * (left + 1)) }
+    ensures least { IsLeastOf (IsWayTo problem.now node
+        (node_at next.now.nodes way) (list_at next.now.lists way) second) result }
+    ensures small { IfSome result (λ c. c ≤ 17279900 * (length problem.now.flights - stage)) }
 {
+    let after = next.node(way);
     let landing = problem.landing_after(node.last, second, after.last)?;
-    let rest = pairs.cost_from(landing)?;
+    let rest = next.list(way).cost_from(landing)?;
     Some(problem.cost(after.last, landing) + rest)
 }
 
@@ -83,21 +74,10 @@ pub(crate) fn least_cost(
         (IsEnd problem.now stage node next.now.nodes next.now.lists second) result }
     ensures small { IfSome result (λ c. c ≤ 17279900 * (length problem.now.flights - stage)) }
 {
-    let left = problem.len() - stage;
-    if left == 0 {
+    if stage == problem.len() {
         return Some(0);
     }
-    let mut least = None;
-    for way in ways {
-        let cost = cost_by(
-            problem,
-            node,
-            next.node(*way),
-            next.list(*way),
-            second,
-            left - 1,
-        );
-        least = lesser(least, cost);
-    }
-    least
+    ways.iter()
+        .filter_map(|way| cost_by(problem, stage, node, next, *way, second))
+        .min()
 }

@@ -1,15 +1,15 @@
 -- What a `fold` keeps, by the number of elements so far: std says it of a run of calls.
-use Rattle.std.proofs.Common.{◌≡◌, ℕ, suc, zero, ◌+◌, ◌-◌, ◌<◌, ◌≤◌, List, [], ◌∷◌, map, length, Option, Some, refl, sym, ap, subst, ◌∙◌, arith}
-use Rattle.std.specs.Prelude.{slice_get, unwrap_or}
+use Rattle.std.proofs.Common.{◌≡◌, ℕ, suc, ◌+◌, ◌-◌, ◌<◌, ◌≤◌, List, [], ◌∷◌, map, length, Option, Some, refl, sym, ap, subst, ◌∙◌, arith}
+use Rattle.std.specs.Prelude.{slice_get}
 use Rattle.std.specs.List.{FoldsTo, range_with_len}
 use Rattle.std.specs.Iterator.{Drains}
 use Rattle.std.proofs.lemmas.Iterator.{YieldsList, items_from_drains, YieldsList-from_range}
-use Rattle.std.proofs.lemmas.Option.{slice_get-map}
+use Rattle.std.proofs.lemmas.Option.{slice_get-map, slice_get_within, get_or_from_slice_get}
 use Rattle.std.proofs.lemmas.List.{length-map}
 use Rattle.std.specs.Option.{option_map}
 use Rattle.std.specs.declared.ops.Range.{Range}
 use Rattle.std.proofs.iter.Yields.{nat_range_steps}
-use Rattle.std.proofs.lemmas.List.FromFn.{length-range_with_len}
+use Rattle.std.proofs.lemmas.List.FromFn.{length-range_with_len, get_or-range_with_len}
 use denote.Param.Members.{Mut, Called}
 
 module _ {A C F : Type 0} {g : Mut F (C × (A × Unit {0})) C} (f : F) where
@@ -40,11 +40,12 @@ module _ {A C F : Type 0} {g : Mut F (C × (A × Unit {0})) C} (f : F) where
         (more.0, subst (λ n. J n c) (omega arith) more.1)) folds in
         subst (λ n. J n r) (omega arith) kept
 
--- the numbers of a range, each in turn
-number_at : (from n k x : ℕ) → slice_get (range_with_len from n) k ≡ Some x → (x ≡ from + k) × (k < n)
-number_at from zero k x at = absurd (cc)
-number_at from (suc n) zero x at = (sym (ap (λ o. unwrap_or o x) at) ∙ omega arith, omega arith)
-number_at from (suc n) (suc k) x at = let more = number_at (from + 1) n k x at in (omega (arith, more), omega (arith, more))
+-- the number at a place of a range
+pub number_at : (from n k x : ℕ) → slice_get (range_with_len from n) k ≡ Some x → (x ≡ from + k) × (k < n)
+number_at from n k x at =
+    let within = slice_get_within (range_with_len from n) k x at in
+    let below : k < n = omega (arith, within, length-range_with_len from n) in
+    (sym (get_or_from_slice_get (range_with_len from n) k x 0 at) ∙ get_or-range_with_len from n k 0 below, below)
 
 module _ {C F : Type 0} {g : Mut F (C × (ℕ × Unit {0})) C} (f : F) {s : Range ℕ} where
   -- the same, where a range is folded: J holds of the next number and what is made of those before it

@@ -1,21 +1,18 @@
-use Rattle.std.proofs.Common.{◌≡◌, ◌+◌, ◌-◌, ◌/◌, ◌∙◌, arith, subst, sym, List, []}
-use Rattle.std.specs.Prelude.{ℤ, true}
-use Rattle.cps_nodes.specs.Leads.{IsBelow}
+use Rattle.std.proofs.Common.{◌≡◌, arith, rules, [], ap, is_lt, false, true}
+use Rattle.std.specs.List.Sorted.{IsPartitionPoint}
+use Rattle.std.proofs.lemmas.List.Sorted.{IsPartitionPoint-from_clause}
 use Rattle.cps_network.specs.Lists.{node_at}
-use Rattle.cps_network.proofs.MergeLemmas.{node_at-default}
-use Rattle.cps_network.proofs.SourceLemmas.{search_right, search_left}
+use Rattle.cps_network.proofs.SourceLemmas.{is_below, is_below-from, IsBelow-true, IsPartitionedBy-is_below}
 use Rattle.cps_network.proofs.source_range.first_source.Goals as goal
 
-pub loop-low-preserved-then-is_below : goal.loop-low-preserved-then-is_below
-loop-low-preserved-then-is_below g c =
-    let at : c.index-before-middle.result ≡ node_at c.args.before.now (c.loop-low.low + (c.loop-low.high - c.loop-low.low) / 2) =
-    c.index-before-middle.is ∙ node_at-default c.args.before.now (c.loop-low.low + (c.loop-low.high - c.loop-low.low) / 2) c.index-before-middle.result [] (omega (arith, c.loop-low.invariant.within)) in
-    search_right c.args.before.now c.args.node.now c.loop-low.low c.loop-low.high (c.loop-low.low + (c.loop-low.high - c.loop-low.low) / 2) c.requires.ascending c.loop-low.invariant (omega arith) (omega arith)
-    (subst (λ (x : List ℤ). IsBelow x c.args.node.now) at (c.is_below.ensures.0 c.if-is_below.true))
+-- where the test begins to fail
+point : (g : _) (c : goal.After-partition_point g) → IsPartitionPoint (λ x. is_below c.args.node.now x ≡ true) (λ x. is_below c.args.node.now x ≡ false) c.args.before.now c.partition_point.result
+point g c =
+    IsPartitionPoint-from_clause (is_below c.args.node.now) _ _ c.partition_point.ensures.partitioned (IsPartitionedBy-is_below _ _ c.requires.ascending)
+    (λ a r q k. (is_below-from c.args.node.now a.0.now r (search rules), search rules))
 
-pub loop-low-preserved : goal.loop-low-preserved
-loop-low-preserved g c =
-    let at : c.index-before-middle.result ≡ node_at c.args.before.now (c.loop-low.low + (c.loop-low.high - c.loop-low.low) / 2) =
-    c.index-before-middle.is ∙ node_at-default c.args.before.now (c.loop-low.low + (c.loop-low.high - c.loop-low.low) / 2) c.index-before-middle.result [] (omega (arith, c.loop-low.invariant.within)) in
-    search_left c.args.before.now c.args.node.now c.loop-low.low c.loop-low.high (c.loop-low.low + (c.loop-low.high - c.loop-low.low) / 2) c.requires.ascending c.loop-low.invariant (omega arith) (omega arith)
-    (λ below. let t : c.is_below.result ≡ true = c.is_below.ensures.1 (subst (λ (x : List ℤ). IsBelow x c.args.node.now) (sym at) below) in cc)
+pub returns-clause-below : goal.returns-clause-below
+returns-clause-below g c = λ i lt. IsBelow-true c.args.node.now (node_at c.args.before.now i) ((point g c).0 i [] (omega arith) lt)
+
+pub returns-clause-above : goal.returns-clause-above
+returns-clause-above g c = λ i from within below. let fails = (point g c).1 i [] from within in let holds = ap is_lt below in cc

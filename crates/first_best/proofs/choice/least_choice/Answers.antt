@@ -5,7 +5,7 @@ use Rattle.first_best.specs.Nodes.{node_at}
 use Rattle.first_best.specs.Choices.{IsLesserBy}
 use Rattle.first_best.proofs.ChoiceLemmas.{LeastUpto, least_upto, none_upto, one_upto}
 use Rattle.cps_base.specs.laws.Folds.{kept_by_fold_of_range}
-use Rattle.first_best.proofs.FoldCalls.{fold_of_range_may_call}
+use Rattle.cps_base.specs.laws.FoldCalls.{fold_of_range_may_call}
 use Rattle.first_best.proofs.choice.least_choice.Goals as goal
 
 pub fold-requires-clause-callable : goal.fold-requires-clause-callable

@@ -6,7 +6,7 @@ use Rattle.std.proofs.lemmas.Option.{slice_get_within, get_or_from_slice_get}
 use Rattle.cps_theory.specs.Labels.{InPairs, Pair}
 use Rattle.cps_network.specs.Pairs.{list_at}
 use Rattle.cps_base.specs.laws.Folds.{kept_by_fold}
-use Rattle.first_best.proofs.FoldCalls.{fold_may_call}
+use Rattle.cps_base.specs.laws.FoldCalls.{fold_may_call}
 use Rattle.first_best.proofs.WayLemmas.{pairs_late}
 use Rattle.first_best.proofs.complete.latest.Goals as goal
 

@@ -1,42 +1,38 @@
-use Rattle.std.proofs.Common.{◌≡◌, ℕ, ◌+◌, ◌-◌, ◌*◌, ◌<◌, ◌≤◌, List, length, Option, sym, ap, subst, arith}
-use Rattle.std.specs.Prelude.{IfSome, slice_index_or}
-use Rattle.cps_theory.specs.Labels.{Pair}
-use Rattle.first_best.specs.declared.node.EarlyNode.{EarlyNode}
+use Rattle.std.proofs.Common.{ℕ, ◌<◌, length, sym, subst, ◌∙◌, arith, rules, tests}
+use Rattle.std.proofs.lemmas.Iterator.{YieldsList-from_slice}
+use Rattle.std.proofs.lemmas.Iterator.Adapters.{option_map_id, serves_from_places}
+use Rattle.std.proofs.lemmas.Iterator.Consumers.{YieldsList-from_filter_map, min_from_yields_List}
+use Rattle.std.proofs.lemmas.List.{get_or_default}
+use Rattle.cps_network.specs.Pairs.{list_at}
 use Rattle.first_best.specs.Nodes.{node_at}
-use Rattle.first_best.specs.Completing.{AreInReach, IsLeastOf, IsWayTo}
-use Rattle.first_best.proofs.PairLemmas.{small_either, upto_more}
-use Rattle.first_best.proofs.WayLemmas.{IsWayAt, ways_end}
+use Rattle.first_best.specs.Completing.{IsLeastOf, IsWayTo}
+use Rattle.first_best.proofs.PairLemmas.{least_of_list, least_unique}
+use Rattle.first_best.proofs.WayLemmas.{least_way, ways_end}
 use Rattle.first_best.proofs.ways.least_cost.Goals as goal
 
-pub cost_by-cost-requires-clause-in_reach : goal.cost_by-cost-requires-clause-in_reach
-cost_by-cost-requires-clause-in_reach c =
-    subst (λ (l : List Pair). AreInReach (c.len.result - c.args.stage - 1) l) (sym c.list.ensures)
-    (c.requires.next.in_reach (slice_index_or c.args.ways.now c.loop-way.way-index 0) (c.len.result - c.args.stage - 1) (omega (arith, c.len.ensures.value, c.if-left-eq0.false, c.requires.stage.1)))
+pub min-requires-clause-can : goal.min-requires-clause-can
+min-requires-clause-can c = (
+  tt,
+  tt,
+  serves_from_places (YieldsList-from_slice c.args.ways.now (cc)) (λ x q k. search (rules, tests)) (λ x i lt is.
+      let way = c.requires.ways.within i lt in
+      let same = get_or_default c.args.ways.now i x.now 0 lt in
+      let within : x.now < length c.args.next.now.nodes = omega (arith, way, same, is) in
+      search (rules, tests)),
+)
 
-pub loop-way-preserved : goal.loop-way-preserved
-loop-way-preserved c =
+pub returns-clause-least : goal.returns-clause-least
+returns-clause-least c =
     let p = c.args.problem.now in
     let node = c.args.node in
     let nodes = c.args.next.now.nodes in
     let lists = c.args.next.now.lists in
     let ways = c.args.ways.now in
-    let at = slice_index_or ways c.loop-way.way-index 0 in
-    let most = 17279900 * (length p.flights - c.args.stage) in
-    let cost = c.cost_by-cost.result in
-    let here : IsLeastOf (IsWayAt p c.args.stage node nodes lists ways c.args.second c.loop-way.way-index) cost =
-    subst (λ (l : List Pair). IsLeastOf (IsWayTo p node (node_at nodes at) l c.args.second) cost) c.list.ensures
-    (subst (λ (n : EarlyNode). IsLeastOf (IsWayTo p node n c.list.result.now c.args.second) cost) c.node.ensures c.cost_by-cost.ensures.least) in
-    let few : 17279900 * (c.len.result - c.args.stage - 1 + 1) ≡ most = ap (λ (n : ℕ). 17279900 * n) (let e : c.len.result - c.args.stage - 1 + 1 ≡ length p.flights - c.args.stage = omega (arith, c.len.ensures.value, c.if-left-eq0.false, c.requires.stage.1) in e) in
-    record {
-      least = subst (λ (o : Option ℕ). IsLeastOf (λ d. (i : ℕ) × (i < c.loop-way.way-index + 1) × IsWayAt p c.args.stage node nodes lists ways c.args.second i d) o) (sym c.lesser-least.ensures)
-          (upto_more (IsWayAt p c.args.stage node nodes lists ways c.args.second) c.loop-way.way-index c.loop-way.least cost c.loop-way.invariant.least here);
-      small = subst (λ (o : Option ℕ). IfSome o (λ d. d ≤ most)) (sym c.lesser-least.ensures)
-          (small_either most c.loop-way.least cost c.loop-way.invariant.small (subst (λ (m : ℕ). IfSome cost (λ d. d ≤ m)) few c.cost_by-cost.ensures.small));
-    }
-
-pub returns-clause-least : goal.returns-clause-least
-returns-clause-least c =
-    let p = c.args.problem.now in
-    let end : c.loop-way.way-index ≡ length c.args.ways.now = omega (arith, c.loop-way-test.false, c.loop-way.auto.way-index-end) in
-    ways_end p c.args.stage c.args.node c.args.next.now.nodes c.args.next.now.lists c.args.ways.now c.args.second c.requires.ways (omega (arith, c.len.ensures.value, c.if-left-eq0.false)) c.loop-way.least
-    (subst (λ (n : ℕ). IsLeastOf (λ d. (i : ℕ) × (i < n) × IsWayAt p c.args.stage c.args.node c.args.next.now.nodes c.args.next.now.lists c.args.ways.now c.args.second i d) c.loop-way.least) end c.loop-way.invariant.least)
+    let to = λ (j : ℕ). IsWayTo p node (node_at nodes j) (list_at lists j) c.args.second in
+    let each = λ (j : ℕ). least_way p node (node_at nodes j) (list_at lists j) c.args.second in
+    let is = sym (option_map_id c.min.result) ∙ min_from_yields_List c.filter_map.result c.min.result c.min.ensures.ran
+    (YieldsList-from_filter_map _ (λ j. (each j).0) (YieldsList-from_slice ways (cc)) c.filter_map.ensures.closure (λ x r q k.
+    let told : IsLeastOf (to x.now) r = search (rules, tests) in
+    (search (rules, tests), least_unique (to x.now) r (each x.now).0 told (each x.now).1))) in
+    ways_end p c.args.stage node nodes lists ways c.args.second c.requires.ways (omega (arith, c.len.ensures.value, c.if-stage-len.false, c.requires.stage.1)) c.min.result
+    (subst (IsLeastOf _) (sym is) (least_of_list 0 to each ways))
