@@ -28,8 +28,7 @@ fn is_number(text: &[u8]) -> bool
     text.len() > 0 && (text.len() == 1 || text[0] != b'0') && are_digits(text)
 }
 
-// The value of digits, or the greatest `u128` where that is less. It subtracts so that it can't go below 0, since a closure
-// is not told that each byte is a digit.
+// The value of digits, or the greatest `u128` where that is less.
 fn value_of(digits: &[u8]) -> u128
     requires { list_all is_ascii_digit digits.now ≡ true }
     ensures { result ≡ min (digits_value 10 digits.now) (2 ^ 128 - 1) }
@@ -37,7 +36,7 @@ fn value_of(digits: &[u8]) -> u128
     digits.iter().fold(0, |value: u128, digit| {
         value
             .saturating_mul(10)
-            .saturating_add(u128::from(digit.saturating_sub(b'0')))
+            .saturating_add(u128::from(*digit - b'0'))
     })
 }
 

@@ -17,9 +17,9 @@ pub mod FirstFound
 pub mod FrozenFront
 pub mod FrozenSeparation
 pub mod KeptStages
-pub mod LastInRange
 pub mod LabelDominance
 pub mod LandingOrder
+pub mod LastInRange
 pub mod LeastChoices
 pub mod LeastLabels
 pub mod LeastObjective

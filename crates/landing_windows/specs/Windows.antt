@@ -1,5 +1,6 @@
 -- What the windows of a flight are, and the first fault of spans that are none.
-use Rattle.std.specs.Prelude.{ℕ, List, [], ◌∷◌, Bool, false, ◌==◌, ◌+◌, ◌-◌, ◌&&◌, nat_le, nat_lt, length, sum_by, Option, Some, None, Result, Ok, Err, if◌then◌else◌}
+use Rattle.std.specs.Prelude.{ℕ, zero, suc, List, [], ◌∷◌, Bool, false, ◌==◌, ◌+◌, ◌-◌, ◌&&◌, nat_le, nat_lt, length, slice_index_or, sum_by, Option, Some, None, Result, Ok, Err, if◌then◌else◌}
+use Rattle.std.specs.Option.{option_or}
 use Rattle.landing_rules.specs.Flights.{Span}
 use Rattle.landing_rules.specs.Limits.{most_open_seconds}
 use Rattle.landing_rules.specs.Rules.{last_second}
@@ -14,13 +15,19 @@ abbrev pub overlaps : Option ℕ → ℕ → Bool
 overlaps None first = false
 overlaps (Some last) first = nat_le first last
 
+-- what is wrong with the span of a number, where the one before it ends at that second
+abbrev pub span_fault : ℕ → Option ℕ → Span → Option WindowFault
+span_fault i before s = if nat_lt s.1 s.0 then Some (Backward i) else if overlaps before s.0 then Some (Overlap i) else None
+
 -- the first span, counted from i, that runs backward or does not start after the second where the span before it ended
 unfoldable pub bad_span : ℕ → Option ℕ → List Span → Option WindowFault
 bad_span i before [] = None
-bad_span i before (s ∷ ss) =
-    if nat_lt s.1 s.0 then Some (Backward i)
-    else if overlaps before s.0 then Some (Overlap i)
-    else bad_span (i + 1) (Some s.1) ss
+bad_span i before (s ∷ ss) = option_or (span_fault i before s) (bad_span (i + 1) (Some s.1) ss)
+
+-- the second where the span before a place ends, counted from 0
+unfoldable pub end_before : List Span → ℕ → Option ℕ
+end_before spans zero = None
+end_before spans (suc i) = Some (slice_index_or spans i (0, 0)).1
 
 -- the seconds of spans that run forward
 unfoldable pub seconds_in : List Span → ℕ

@@ -1,8 +1,15 @@
-ghost use Rattle.std.specs.Prelude.{◌≡◌, ◌≤◌, ◌<◌, ◌+◌, ◌*◌, length, IsTrue, None, Ok};
+ghost use Rattle.std.specs.Prelude.{◌≡◌, ◌≤◌, ◌<◌, ◌+◌, ◌*◌, length, slice_index_or, IsTrue, None, Ok};
 ghost use Rattle.std.specs.List.{list_all};
 ghost use Rattle.landing_rules.specs.Sound.{AreGoodWindows};
 ghost use Rattle.landing_windows.specs.Spans.{AreInOrder};
-ghost use Rattle.landing_windows.specs.Windows.{is_in_days, bad_span, seconds_in, windows_of};
+ghost use Rattle.landing_windows.specs.Windows.{
+  is_in_days,
+  span_fault,
+  bad_span,
+  end_before,
+  seconds_in,
+  windows_of,
+};
 
 use landing_rules::MOST_OPEN_SECONDS;
 use std::marker::Model;
@@ -54,28 +61,31 @@ impl Model for WindowSet {
     ghost inverse_ok = { λ w h i. record { spans = sym h.0 i; len = h.1 i } };
 }
 
-#[tactic(auto, unfolding(crate::specs::Windows::bad_span))]
+// What is wrong with the span of a place, counted from 0, after the one before it.
+#[tactic(auto, unfolding(crate::specs::Windows::end_before))]
+fn fault_at(spans: &[(u32, u32)], place: usize) -> Option<WindowFault>
+    requires few { length spans.now ≤ 4 }
+    requires place { place < length spans.now }
+    ensures { result ≡ span_fault (place + 1) (end_before spans.now place)
+        (slice_index_or spans.now place (0, 0)) }
+{
+    let (first, last) = spans[place];
+    let number = place as u8 + 1;
+    if last < first {
+        return Some(WindowFault::Backward(number));
+    }
+    if place > 0 && first <= spans[place - 1].1 {
+        return Some(WindowFault::Overlap(number));
+    }
+    None
+}
+
+// The first fault along the spans.
 fn bad_span(spans: &[(u32, u32)]) -> Option<WindowFault>
     requires { length spans.now ≤ 4 }
     ensures { result ≡ bad_span 1 None spans.now }
 {
-    let mut number: u8 = 1;
-    let mut before: Option<u32> = None;
-    let mut rest = spans;
-    while let [(first, last), after @ ..] = rest {
-        if *last < *first {
-            return Some(WindowFault::Backward(number));
-        }
-        if let Some(end) = before {
-            if *first <= end {
-                return Some(WindowFault::Overlap(number));
-            }
-        }
-        number += 1;
-        before = Some(*last);
-        rest = after;
-    }
-    None
+    (0..spans.len()).find_map(|place| fault_at(spans, place))
 }
 
 #[tactic(auto, unfolding(crate::specs::Windows::seconds_in))]
