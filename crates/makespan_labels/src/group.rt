@@ -68,11 +68,13 @@ fn category_of(problem: &Problem, rank: u8) -> Category
     problem.flight(rank).category
 }
 
-// Makes a group the one that leads to the window at place i of the stage after. It is written in place, which costs less.
+// Makes a group the one that leads to the window at place i of the stage after, where `earlier` are the windows of the stage
+// before. It is written in place, which costs less.
 pub(crate) fn find_group<const W: usize>(
     group: &mut Group,
     problem: &Problem,
     before: &Stage<W>,
+    earlier: &[Window<W>],
     labels: &Column,
     stage: &Stage<W>,
     i: usize,
@@ -80,6 +82,7 @@ pub(crate) fn find_group<const W: usize>(
     requires width { W ≡ 2 * problem.now.k + 1 }
     requires laws { WindowLaws problem.now W }
     requires before { HoldsLabels problem.now before.now labels.now }
+    requires earlier { earlier.now ≡ before.now.1 }
     requires next { IsNextOf problem.now before.now.0 before.now.1 stage.now.1 }
     requires within { i < length stage.now.1 }
     ensures group { IsReady problem.now W before.now labels.now group.new }
@@ -87,7 +90,7 @@ pub(crate) fn find_group<const W: usize>(
 {
     let _few = problem.len();
     let (from, to) = stage.sources(before, i);
-    let leader = last_rank(&before.node(from), before.number());
+    let leader = last_rank(&earlier[from], before.number());
     *group = Group {
         from,
         least: least_of(labels, from, to),
@@ -103,6 +106,7 @@ pub(crate) fn turn_to<const W: usize>(
     leads: bool,
     problem: &Problem,
     before: &Stage<W>,
+    earlier: &[Window<W>],
     labels: &Column,
     stage: &Stage<W>,
     i: usize,
@@ -110,6 +114,7 @@ pub(crate) fn turn_to<const W: usize>(
     requires width { W ≡ 2 * problem.now.k + 1 }
     requires laws { WindowLaws problem.now W }
     requires before { HoldsLabels problem.now before.now labels.now }
+    requires earlier { earlier.now ≡ before.now.1 }
     requires next { IsNextOf problem.now before.now.0 before.now.1 stage.now.1 }
     requires within { i < length stage.now.1 }
     requires group { IsReady problem.now W before.now labels.now group.old }
@@ -121,5 +126,5 @@ pub(crate) fn turn_to<const W: usize>(
     if leads {
         return;
     }
-    find_group(group, problem, before, labels, stage, i);
+    find_group(group, problem, before, earlier, labels, stage, i);
 }

@@ -113,14 +113,23 @@ pub fn fill_alone<const W: usize>(
         return;
     }
     let mut first = Group::blank();
-    find_group(&mut first, problem, before, labels, stage, 0);
+    find_group(&mut first, problem, before, earlier, labels, stage, 0);
     let mut groups = [first; 8];
     let mut followers = [Follower::new(0, Category::A); 8];
     for i in 0..windows.len() {
         let window = &windows[i];
         let run = run_of(window);
         let leads = earlier[groups[run].from].leads_to(window);
-        turn_to(&mut groups[run], leads, problem, before, labels, stage, i);
+        turn_to(
+            &mut groups[run],
+            leads,
+            problem,
+            before,
+            earlier,
+            labels,
+            stage,
+            i,
+        );
         let follower = follower_of(window);
         let label = label_of(
             problem,

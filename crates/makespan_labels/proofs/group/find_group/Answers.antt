@@ -1,7 +1,8 @@
-use Rattle.std.proofs.Common.{◌-◌, ◌≤◌, length, arith, rules}
+use Rattle.std.proofs.Common.{◌-◌, ◌≤◌, length, ap, arith, rules}
 use Rattle.std.proofs.lemmas.Int.{ints}
 use Rattle.cps_network.specs.Lists.{node_at}
 use Rattle.cps_network.specs.shared.LeadingWindows.{sources_from, sources_group, same_rank, in_bytes, some_range, leader_range}
+use Rattle.makespan_labels.proofs.GroupLemmas.{window_at}
 use Rattle.makespan_labels.proofs.LabelLemmas.{is_lead}
 use Rattle.makespan_labels.proofs.group.find_group.Goals as goal
 
@@ -13,13 +14,13 @@ least_of-requires g c =
     let some = some_range p g.row.W c.args.before.now.0 c.args.before.now.1 (node_at c.args.stage.now.1 c.args.i) c.sources-from.result.0 c.sources-from.result.1 s in
     record { range = (some, omega (arith, c.sources-from.ensures.range, c.requires.before.labelled.one_each)) }
 
-pub node-requires : goal.node-requires
-node-requires g c =
+pub bounds-earlier-from : goal.bounds-earlier-from
+bounds-earlier-from g c =
     let p = c.args.problem.now in
     let s = sources_from p g.row.W c.args.before.now c.args.stage.now c.args.i c.sources-from.result.0 c.sources-from.result.1
     c.requires.width c.requires.laws c.requires.before.landable c.requires.next c.requires.within c.sources-from.ensures.range.1 c.sources-from.ensures.exact in
     let some = some_range p g.row.W c.args.before.now.0 c.args.before.now.1 (node_at c.args.stage.now.1 c.args.i) c.sources-from.result.0 c.sources-from.result.1 s in
-    (search rules, (search rules, omega (arith, some, c.sources-from.ensures.range)))
+    omega (arith, some, c.sources-from.ensures.range, ap length c.requires.earlier)
 
 pub last_rank-leader-requires : goal.last_rank-leader-requires
 last_rank-leader-requires g c =
@@ -27,10 +28,12 @@ last_rank-leader-requires g c =
     let s = sources_from p g.row.W c.args.before.now c.args.stage.now c.args.i c.sources-from.result.0 c.sources-from.result.1
     c.requires.width c.requires.laws c.requires.before.landable c.requires.next c.requires.within c.sources-from.ensures.range.1 c.sources-from.ensures.exact in
     let l = leader_range p g.row.W c.args.before.now.0 c.args.before.now.1 (node_at c.args.stage.now.1 c.args.i) c.sources-from.result.0 c.sources-from.result.1 s in
+    let some = some_range p g.row.W c.args.before.now.0 c.args.before.now.1 (node_at c.args.stage.now.1 c.args.i) c.sources-from.result.0 c.sources-from.result.1 s in
+    let window = window_at _ _ _ _ c.requires.earlier (omega (arith, some, c.sources-from.ensures.range)) c.index-earlier-from.is in
     let few : length p.flights ≤ 60 = c.len-few.ensures.well_formed.few_flights in
     let e = l.0 in
     let h = l.1 in
-    (search rules, in_bytes c.node.result (node_at c.args.before.now.1 c.sources-from.result.0) c.number.result c.args.before.now.0 (g.row.W - 1) (length p.flights) c.node.ensures.value c.number.ensures few (omega (arith, ints, e)) (omega (arith, ints, e, h)))
+    (search rules, in_bytes _ (node_at c.args.before.now.1 c.sources-from.result.0) c.number.result c.args.before.now.0 (g.row.W - 1) (length p.flights) window c.number.ensures few (omega (arith, ints, e)) (omega (arith, ints, e, h)))
 
 pub category_of-requires : goal.category_of-requires
 category_of-requires g c =
@@ -38,7 +41,9 @@ category_of-requires g c =
     let s = sources_from p g.row.W c.args.before.now c.args.stage.now c.args.i c.sources-from.result.0 c.sources-from.result.1
     c.requires.width c.requires.laws c.requires.before.landable c.requires.next c.requires.within c.sources-from.ensures.range.1 c.sources-from.ensures.exact in
     let l = leader_range p g.row.W c.args.before.now.0 c.args.before.now.1 (node_at c.args.stage.now.1 c.args.i) c.sources-from.result.0 c.sources-from.result.1 s in
-    let leads = same_rank c.node.result (node_at c.args.before.now.1 c.sources-from.result.0) c.number.result c.args.before.now.0 c.last_rank-leader.result (g.row.W - 1) c.node.ensures.value c.number.ensures c.last_rank-leader.ensures in
+    let some = some_range p g.row.W c.args.before.now.0 c.args.before.now.1 (node_at c.args.stage.now.1 c.args.i) c.sources-from.result.0 c.sources-from.result.1 s in
+    let window = window_at _ _ _ _ c.requires.earlier (omega (arith, some, c.sources-from.ensures.range)) c.index-earlier-from.is in
+    let leads = same_rank _ (node_at c.args.before.now.1 c.sources-from.result.0) c.number.result c.args.before.now.0 c.last_rank-leader.result (g.row.W - 1) window c.number.ensures c.last_rank-leader.ensures in
     let e = l.0 in
     let h = l.1 in
     omega (arith, ints, leads, e, h)
@@ -48,7 +53,9 @@ returns-clause-group g c =
     let p = c.args.problem.now in
     let s = sources_from p g.row.W c.args.before.now c.args.stage.now c.args.i c.sources-from.result.0 c.sources-from.result.1
     c.requires.width c.requires.laws c.requires.before.landable c.requires.next c.requires.within c.sources-from.ensures.range.1 c.sources-from.ensures.exact in
-    let leads = same_rank c.node.result (node_at c.args.before.now.1 c.sources-from.result.0) c.number.result c.args.before.now.0 c.last_rank-leader.result (g.row.W - 1) c.node.ensures.value c.number.ensures c.last_rank-leader.ensures in
+    let some = some_range p g.row.W c.args.before.now.0 c.args.before.now.1 (node_at c.args.stage.now.1 c.args.i) c.sources-from.result.0 c.sources-from.result.1 s in
+    let window = window_at _ _ _ _ c.requires.earlier (omega (arith, some, c.sources-from.ensures.range)) c.index-earlier-from.is in
+    let leads = same_rank _ (node_at c.args.before.now.1 c.sources-from.result.0) c.number.result c.args.before.now.0 c.last_rank-leader.result (g.row.W - 1) window c.number.ensures c.last_rank-leader.ensures in
     record {
       labelled = record {
         to = c.sources-from.result.1;

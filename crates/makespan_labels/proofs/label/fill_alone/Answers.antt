@@ -21,7 +21,7 @@ pub find_group-requires : goal.find_group-requires
 find_group-requires g c =
     let laws : WindowLaws c.args.problem.now g.row.W = record { network = c.prefix_laws.ensures.network; alike = c.prefix_laws.ensures.sources; ranks = c.window_laws.ensures.ranks; leads = c.window_laws.ensures.leads } in
     let some : 0 < length c.windows-windows.result.now = not_empty _ (sym c.if-is_empty.false ∙ c.is_empty.ensures) in
-    (search rules, (c.requires.width, (laws, (c.requires.before, (c.requires.next, omega (arith, some, ap length c.windows-windows.ensures.windows))))))
+    (search rules, (search rules, (c.requires.width, (laws, (c.requires.before, (c.windows-earlier.ensures.windows, (c.requires.next, omega (arith, some, ap length c.windows-windows.ensures.windows))))))))
 
 pub turn_to-requires : goal.turn_to-requires
 turn_to-requires g c =
@@ -29,28 +29,10 @@ turn_to-requires g c =
     let long = ap length c.windows-windows.ensures.windows in
     let within : c.loop-i.i < length c.args.stage.now.1 = omega (arith, c.loop-i-test.true, c.loop-i.auto.i-end, long) in
     let ready = c.loop-i.invariant.2 c.run_of-run.result _ (omega (arith, c.run_of-run.ensures, c.loop-i.invariant.3)) in
-    let from = first_within _ _ _ ready.labelled.group in (
-      search rules,
-      (
-        c.requires.width,
-        (
-          laws,
-          (
-            c.requires.before,
-            (
-              c.requires.next,
-              (
-                within,
-                (
-                  ready,
-                  λ leads. extends_there _ _ _ _ (window_at _ _ _ _ c.windows-earlier.ensures.windows from c.index-earlier-groups.is) (window_at _ _ _ _ c.windows-windows.ensures.windows within c.index-windows-i.is) (c.leads_to-leads.ensures.extends.0 leads),
-                ),
-              ),
-            ),
-          ),
-        ),
-      ),
-    )
+    let from = first_within _ _ _ ready.labelled.group in
+    let there = window_at _ _ _ _ c.windows-windows.ensures.windows within c.index-windows-i.is in
+    let here = window_at _ _ _ _ c.windows-earlier.ensures.windows from c.index-earlier-groups.is in
+    (search rules, (search rules, (c.requires.width, (laws, (c.requires.before, (c.windows-earlier.ensures.windows, (c.requires.next, (within, (ready, λ leads. extends_there _ _ _ _ here there (c.leads_to-leads.ensures.extends.0 leads))))))))))
 
 pub loop-i-init : goal.loop-i-init
 loop-i-init g c =
