@@ -141,8 +141,7 @@ fn latest_pairs(
     let end = latest(problem, stage, node, next, ways) + 1;
     let mut least = limit_of(budget, node.cheapest);
     let mut pairs = Vec::new(alloc);
-    for i in 0..end.saturating_sub(node.earliest) {
-        let second = end - 1 - i;
+    for second in (node.earliest..end).rev() {
         if least == 0 {
             return Ok(pairs);
         }
