@@ -19,9 +19,12 @@ loop-second-preserved-in-None c =
     let i = c.loop-second.invariant in
     let second = c.loop-second.second - 1 in
     let before : c.loop-second.second ≡ second + 1 = omega (arith, c.loop-second-test.true) in
-    let none = subst (λ (o : Option ℕ). IsLeastOf (λ d. IsPairOf p c.args.value c.args.stage c.args.node nodes lists (second, d)) o) c.in-None.is c.cost_of.ensures.least in
-    (i.0, i.1, nothing_here p c.args.value c.args.budget c.args.stage c.args.node nodes lists i.0 i.1 second c.loop-second.least c.loop-second.pairs.items
-    (subst (λ (n : ℕ). Scanned p c.args.value c.args.budget c.args.stage c.args.node nodes lists i.0 i.1 n c.loop-second.least c.loop-second.pairs.items) before i.2) none)
+    let none = subst (λ (o : Option ℕ). IsLeastOf (λ d. IsPairOf p c.args.value c.args.stage c.args.node nodes lists (second, d)) o) c.in-None.is c.cost_of.ensures.least in (
+      i.0,
+      i.1,
+      nothing_here p c.args.value c.args.budget c.args.stage c.args.node nodes lists i.0 i.1 second c.loop-second.least c.loop-second.pairs.items
+          (subst (λ (n : ℕ). Scanned p c.args.value c.args.budget c.args.stage c.args.node nodes lists i.0 i.1 n c.loop-second.least c.loop-second.pairs.items) before i.2) none,
+    )
 
 pub loop-second-preserved-then-from-least : goal.loop-second-preserved-then-from-least
 loop-second-preserved-then-from-least c =
@@ -52,9 +55,12 @@ loop-second-preserved c =
     let scanned = subst (λ (n : ℕ). Scanned p c.args.value c.args.budget c.args.stage c.args.node nodes lists i.0 i.1 n c.loop-second.least c.loop-second.pairs.items) before i.2 in
     let found = subst (λ (o : Option ℕ). IsLeastOf (λ d. IsPairOf p c.args.value c.args.stage c.args.node nodes lists (second, d)) o) c.in-Some.is c.cost_of.ensures.least in
     let small = subst (λ (o : Option ℕ). IfSome o (λ d. d ≤ 17279900 * (length p.flights - c.args.stage))) c.in-Some.is c.cost_of.ensures.small in
-    let dear : c.loop-second.least ≤ cost = omega (arith, c.if-from-least.false, c.from.ensures) in
-    (i.0, i.1, no_cheaper p c.args.value c.args.budget c.args.stage c.args.node nodes lists i.0 i.1 second c.loop-second.least c.loop-second.pairs.items scanned cost found dear
-    (omega (arith, small, c.len-few.ensures.well_formed.few_flights)))
+    let dear : c.loop-second.least ≤ cost = omega (arith, c.if-from-least.false, c.from.ensures) in (
+      i.0,
+      i.1,
+      no_cheaper p c.args.value c.args.budget c.args.stage c.args.node nodes lists i.0 i.1 second c.loop-second.least c.loop-second.pairs.items scanned cost found dear
+          (omega (arith, small, c.len-few.ensures.well_formed.few_flights)),
+    )
 
 pub returns : goal.returns
 returns c =
