@@ -146,7 +146,7 @@ def main(program, first=0, count=500):
         for seed in range(int(first), int(first) + int(count)):
             try:
                 check_case(str(Path(program).resolve()), Path(folder), seed)
-            except (Wrong, IndexError, ValueError) as fault:
+            except (Wrong, IndexError, ValueError, subprocess.TimeoutExpired) as fault:
                 wrong += 1
                 print(f'seed {seed}: {fault}')
     print(f'{count} cases from seed {first}: {wrong} wrong')

@@ -48,7 +48,7 @@ def draw_opening(draw, s):
     frozen = {c: t for c, t in planned.items() if t < clock + s.freeze}
     if frozen and draw.random() < 0.2:
         frozen[draw.choice(list(frozen))] = draw.randint(0, clock + s.freeze - 1)
-    if draw.random() < 0.05 and clock + s.freeze > 0:
+    if draw.random() < 0.05:
         frozen['ZZ9'] = draw.randint(0, clock + s.freeze - 1)
     entries = list(frozen.items())
     draw.shuffle(entries)

@@ -28,6 +28,8 @@ def run(program, folder, words):
 
 
 def main(program, only=None):
+    if only not in (None, *files.COMMANDS):
+        sys.exit(f'no such kind: {only}')
     program = str(Path(program).resolve())
     wrong = 0
     with tempfile.TemporaryDirectory() as made:

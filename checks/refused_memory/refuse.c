@@ -1,4 +1,4 @@
-/* Refuses one allocation: that with the number in REFUSE, from 1 (malloc, calloc and realloc are counted together). */
+/* Refuses one allocation: that with the number in REFUSE, from 1 (malloc and realloc are counted together). */
 #define _GNU_SOURCE
 #include <dlfcn.h>
 #include <stdlib.h>

@@ -1,7 +1,8 @@
 """Refuses each allocation in turn: sweep.py PROGRAM FOLDER WORD.., in the folder whose files the words name.
 
 Where allocation N is refused the program must end with status 8 and a front of its text, or with its whole text and its own
-status. Goes on until forty numbers in a row made no difference, so that none is left to refuse, and prints one line."""
+status. Goes on until forty numbers in a row made no difference, so that none is left to refuse, and prints one line. Ends with
+1 where an answer was wrong, or where nothing was refused."""
 import os
 import subprocess
 import sys
@@ -30,6 +31,8 @@ def main(program, folder, *words):
     refused, wrong, in_a_row, number = 0, 0, 0, 0
     with tempfile.TemporaryDirectory() as build:
         library = Path(build) / 'refuse.so'
+        if {' ', ':'} & set(str(library)):
+            sys.exit('LD_PRELOAD takes no path with a blank or a colon')
         source = Path(__file__).parent / 'refuse.c'
         subprocess.run(['cc', '-O2', '-shared', '-fPIC', '-o', library, source, '-ldl'], check=True)
         while in_a_row < LAST_IN_A_ROW:
@@ -41,7 +44,7 @@ def main(program, folder, *words):
                 print(f'{" ".join(words)}: allocation {number}: {answer}')
             in_a_row = in_a_row + 1 if answer == whole else 0
     print(f'{" ".join(words)}: {refused} allocations refused, {wrong} wrong answers')
-    return wrong > 0
+    return wrong > 0 or refused == 0
 
 
 if __name__ == '__main__':
