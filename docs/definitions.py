@@ -8,11 +8,13 @@ import sys
 from pathlib import Path
 
 CRATES = Path(__file__).resolve().parent.parent / 'crates'
-HEAD = re.compile(r'^(?:abbrev )?(?:pub )?(?:record |data )?([A-Za-z_][\w\'-]*)[ :]')
-WORD = re.compile(r'[A-Za-z_][\w\'-]*(?:\.[A-Za-z_][\w\'-]*)*')
+HEAD = re.compile(r'(?:abbrev |unfoldable )?(?:pub )?(?:record |data )?([A-Za-z_][\w\'-]*|>>=)[ :]')
+WORD = re.compile(r'[A-Za-z_][\w\'-]*(?:\.[A-Za-z_][\w\'-]*)*|>>=')
+NO_NAMES = 'use', 'pub', 'mod', 'module', 'infixl', 'infixr', 'infix', 'unfolding'
 COMMANDS = {'plan': 'AdmitsPlan', 'replay': 'AdmitsReplay', 'certify': 'AdmitsCertify', 'check': 'AdmitsCheck',
-            'effort': 'AdmitsEffort', 'trial': 'AdmitsTrial', 'a plan shown': 'IsPlanShown', 'a run': 'Run',
-            'a replay and its text': 'replay_text'}
+            'effort': 'AdmitsEffort', 'trial': 'AdmitsTrial', 'first': 'AdmitsFirst', 'whatif': 'AdmitsWhatIf',
+            'audit': 'AdmitsAudit', 'a plan shown': 'IsPlanShown', 'a run': 'Run', 'a replay and its text': 'replay_text'}
+SHOWN = {}  # the modules that a crate shows under a name of its own
 
 
 def module(path):
@@ -20,26 +22,38 @@ def module(path):
     return '.'.join(['Rattle', crate, 'specs', *rest])
 
 
+def read_use(where, line, imports):
+    """Notes what a line imports. True where it is such a line."""
+    use = re.match(r"(pub )?use (\S+?)(?:\.\{(.*)\})?(?: as ([\w']+))?$", line)
+    if use is None:
+        return False
+    for item in filter(None, map(str.strip, (use[3] or '').split(','))):
+        imports[item.split(' as ')[-1]] = (use[2], item.split(' as ')[0])
+    if use[4]:
+        imports[use[4]] = (use[2], None)
+    elif use[1] and use[3] is None:
+        SHOWN['.'.join([*where.split('.')[:-1], use[2].split('.')[-1]])] = use[2]
+    return True
+
+
 def read(path):
-    """The names that a file imports, and its definitions with their lines."""
-    imports, names, current = {}, {}, None
-    for line in path.read_text().split('\n'):
-        use = re.match(r'use (\S+?)(?:\.\{(.*)\})?(?: as (\w+))?$', line)
-        if use:
-            for item in (use[2] or '').split(','):
-                if item.strip():
-                    imports[item.split(' as ')[-1].strip()] = (use[1], item.split(' as ')[0].strip())
-            if use[3]:
-                imports[use[3]] = (use[1], None)
-        elif line.strip() == '' or line.lstrip().startswith('--'):
+    """The names that a file imports, and its definitions with their lines. What an inner module holds stands deeper by two."""
+    imports, names, current, depth = {}, {}, None, 0
+    for line in path.read_text().replace('◌', '').split('\n'):
+        text = line.lstrip()
+        if read_use(module(path), line, imports) or text == '' or text.startswith('--'):
             continue
-        elif line[0].isspace() and current:
+        indent = len(line) - len(text)
+        if indent < depth and text[0] not in ')]}':
+            depth = indent
+        head = HEAD.match(text) if indent == depth else None
+        if text.startswith('module ') and indent == depth:
+            depth, current = depth + 2, None
+        elif head and head[1] not in NO_NAMES:
+            current = head[1]
+            names.setdefault(current, []).append(line)
+        elif current:
             names[current].append(line)
-        else:
-            head = HEAD.match(line)
-            if head and head[1] not in ('use', 'pub', 'mod'):
-                current = head[1]
-                names.setdefault(current, []).append(line)
     return imports, names
 
 
@@ -56,6 +70,7 @@ def find(where, word):
         target, name = imports[first]
         if name is None:
             name = rest.split('.')[0]
+        target = SHOWN.get(target, target)
         return (target, name) if target in FILES and name in FILES[target][1] else None
     return None
 
@@ -77,6 +92,8 @@ def starts(name):
 
 
 def report(title, name):
+    if not starts(name):
+        sys.exit(f'no definition {name}')
     for start in starts(name):
         by_file = {}
         for where, definition in reach(start):

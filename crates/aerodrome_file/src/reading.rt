@@ -4,7 +4,7 @@ ghost use Rattle.toml.specs.Errors.{IsMemory};
 ghost use Rattle.toml.specs.View.{view, table_view};
 ghost use Rattle.cps_base.specs.Answers.{Gives};
 ghost use Rattle.aerodrome_file.specs.Answers.{memory_fault, GivesTable};
-ghost use Rattle.arrivals.specs.Aerodromes.{most_shift, is_beyond, IsInRange};
+ghost use Rattle.arrivals.specs.Aerodromes.{IsInRange};
 ghost use Rattle.aerodrome_file.specs.Reading.{document, objective_in, aerodrome_in, aerodrome_of};
 
 use crate::closures::closures_in;
@@ -14,7 +14,7 @@ use crate::passed::passed_in;
 use crate::separations::table_in;
 use crate::values::{get, number_in};
 use crate::version::version_in;
-use arrivals::Aerodrome;
+use arrivals::{Aerodrome, is_beyond};
 use landing_rules::{LONGEST_FREEZE, Objective};
 use std::alloc::Global;
 use toml::de::Error;
@@ -59,20 +59,6 @@ fn objective_in(value: Option<&Value>) -> Result<Objective, AeroFault>
         Some("delay") => Ok(Objective::Delay),
         Some(_) => Err(AeroFault::OutOfRange(Key::Objective)),
     }
-}
-
-// The greatest shift that delay takes in a version.
-fn most_shift(version: u8) -> u8
-    ensures { result ≡ most_shift version }
-{
-    if version == 1 { 1 } else { 2 }
-}
-
-// Whether the objective does not take this shift in a version.
-fn is_beyond(version: u8, k: u8, objective: Objective) -> bool
-    ensures { result ≡ is_beyond version k objective }
-{
-    objective == Objective::Delay && k > most_shift(version)
 }
 
 // The aerodrome that a table is.

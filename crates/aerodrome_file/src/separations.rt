@@ -8,17 +8,18 @@ use crate::fault::{AeroFault, Key, Part};
 use crate::keys::only;
 use crate::values::get;
 use toml::{Table, Value};
-use wake_table::{Category, PairTable};
+use wake_table::{Category, GREATEST_SEPARATION, PairTable};
 
 // An entry of the table, where 601 stands for all above 600, and 0 for all below 1.
 fn second_of(value: &Value) -> Option<u32>
     ensures { result ≡ second_of (view value.now) }
 {
     let number = value.as_integer()?;
+    let above = GREATEST_SEPARATION + 1;
     Some(if number < 0 {
         0
-    } else if number > 601 {
-        601
+    } else if number > i64::from(above) {
+        above
     } else {
         number as u32
     })

@@ -7,6 +7,7 @@ mod event;
 mod flight;
 mod frozen_list;
 mod passed_list;
+mod shift;
 
 pub use aerodrome::Aerodrome;
 pub use after::After;
@@ -14,3 +15,4 @@ pub use event::Event;
 pub use flight::Flight;
 pub use frozen_list::{FrozenLanding, FrozenList};
 pub use passed_list::{PassedCount, PassedList};
+pub use shift::is_beyond;

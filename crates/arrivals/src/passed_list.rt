@@ -1,4 +1,4 @@
-ghost use Rattle.std.specs.Prelude.{◌≡◌, ◌<◌, length, slice_get, IfOk, Some};
+ghost use Rattle.std.specs.Prelude.{◌≡◌, IfOk};
 
 use cps_base::Callsign;
 use std::alloc::AllocError;
@@ -34,21 +34,6 @@ impl PassedList {
         ensures { result ≡ entries.items }
     {
         PassedList { entries }
-    }
-
-    /// How many entries there are.
-    pub fn len(&self) -> usize
-        ensures { result ≡ length self.now }
-    {
-        self.entries.len()
-    }
-
-    /// The i-th entry, counted from 0.
-    pub fn at(&self, i: usize) -> PassedCount
-        requires { i < length self.now }
-        ensures { slice_get self.now i ≡ Some result }
-    {
-        self.entries[i]
     }
 
     /// The entries, in their order.

@@ -18,15 +18,6 @@ pairs_more pass found seen ts i t done more whole lt same e h =
     ∙ ap (λ m. done ++ (m ++ for_failing_pairs pass found (map seen rest))) given
     ∙ ap (λ l. done ++ for_failing_pairs pass found (map seen l)) (sym here) ∙ h
 
-pub flat_more : {X : Type 0} (F : X → List Finding) (xs : List X) (i : ℕ) (x : X) (done more whole : List Finding) →
-    i < length xs → x ≡ get_or xs i x → more ≡ F x → done ++ flat_map F (drop i xs) ≡ whole → (done ++ more) ++ flat_map F (drop (i + 1) xs) ≡ whole
-flat_more F xs i x done more whole lt same e h =
-    let rest = drop (i + 1) xs in
-    let here : drop i xs ≡ x ∷ rest = drop_more xs i x lt ∙ ap (λ y. y ∷ rest) (sym same) in
-    append_assoc done more (flat_map F rest)
-    ∙ ap (λ m. done ++ (m ++ flat_map F rest)) e
-    ∙ ap (λ l. done ++ flat_map F l) (sym here) ∙ h
-
 pub flat_seen : {T X : Type 0} (F : X → List Finding) (seen : T → X) (ts : List T) (i : ℕ) (t : T) (done more whole : List Finding) →
     i < length ts → t ≡ get_or ts i t → more ≡ F (seen t) → done ++ flat_map F (map seen (drop i ts)) ≡ whole → (done ++ more) ++ flat_map F (map seen (drop (i + 1) ts)) ≡ whole
 flat_seen F seen ts i t done more whole lt same e h =

@@ -73,8 +73,8 @@ pub(crate) fn lines_found(
         ≡ lines_found active.now (map shown_of lines.now)) }
 {
     let mut all = Vec::with_capacity(alloc, lines.len())?;
-    for i in 0..lines.len() {
-        let found = found_of(active, &lines[i])?;
+    for line in lines {
+        let found = found_of(active, line)?;
         take_found(&mut all, found)?;
     }
     Ok(all)

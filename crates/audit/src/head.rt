@@ -15,10 +15,7 @@ use std::alloc::{AllocError, Global};
 fn is_objective(said: Objective, meant: Objective) -> bool
     ensures { result ≡ is_objective said meant }
 {
-    match (said, meant) {
-        (Objective::Makespan, Objective::Makespan) | (Objective::Delay, Objective::Delay) => true,
-        _ => false,
-    }
+    said == meant
 }
 
 // Where the block's word is not the aerodrome's.

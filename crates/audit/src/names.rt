@@ -91,10 +91,9 @@ fn twice(alloc: Global, lines: &[Landing], seen: &mut Seen) -> Result<Vec<Findin
         ≡ has_line (map shown_of lines.now) c) }
 {
     let mut all = Vec::new(alloc);
-    for i in 0..lines.len() {
-        let callsign = lines[i].callsign;
-        let was_seen = seen.add(callsign)?;
-        note(&mut all, was_seen, callsign)?;
+    for line in lines {
+        let was_seen = seen.add(line.callsign)?;
+        note(&mut all, was_seen, line.callsign)?;
     }
     Ok(all)
 }

@@ -1,7 +1,6 @@
 // The rules over the lines of a block, each with its flight.
-ghost use Rattle.std.specs.Prelude.{◌≡◌, ◌<◌, IfOk, Some, flat_map, length, map, slice_get};
+ghost use Rattle.std.specs.Prelude.{◌≡◌, IfOk, flat_map, map};
 ghost use Rattle.landing_rules.specs.Rules.{is_open};
-ghost use Rattle.landing_rules.specs.Testing.{is_pair_separated};
 ghost use Rattle.landing_rules.specs.Audit.{landing_of, closed, are_apart, unseparated, for_failing, Separation, is_before, late, listed_late, is_kept, moved, is_late_enough, early};
 ghost use Rattle.landing_rules.specs.Flights.{horizon, Landing};
 ghost use Rattle.audit.specs.Findings.{finding_of};
@@ -38,23 +37,11 @@ pub(crate) fn closed(
         .collect(alloc)
 }
 
-// Whether the second landing is at least the table's time after the first, where it is not before it.
-fn is_pair_separated(table: &PairTable, f: &Found, g: &Found) -> bool
-    ensures { result ≡ is_pair_separated table.now (landing_of f.now) (landing_of g.now) }
-{
-    let leader = &f.active.flight;
-    let follower = &g.active.flight;
-    let apart = u64::from(table.sep(leader.category, follower.category));
-    leader.callsign == follower.callsign
-        || g.line.second < f.line.second
-        || u64::from(f.line.second) + apart <= u64::from(g.line.second)
-}
-
 // Whether two landings are the table's time apart, whichever is the earlier.
 fn are_apart(table: &PairTable, f: &Found, g: &Found) -> bool
     ensures { result ≡ are_apart table.now (landing_of f.now) (landing_of g.now) }
 {
-    is_pair_separated(table, f, g) && is_pair_separated(table, g, f)
+    situations::are_apart(table, &f.active, f.line.second, &g.active, g.line.second)
 }
 
 // Each of the others that is not the table's time from the first.
@@ -100,7 +87,7 @@ fn is_before(d: &Found, callsign: Callsign, f: &Found) -> bool
     f.active.flight.callsign != callsign || f.line.second < d.line.second
 }
 
-// For one that d lists, where it is active.
+// The flight of the callsign, which d lists, where it is active and does not land before d.
 fn listed_late(
     alloc: Global,
     found: &[Found],
@@ -117,21 +104,6 @@ fn listed_late(
         .collect(alloc)
 }
 
-// How many flights it lists.
-fn count_listed(d: &Found) -> usize
-    ensures { result ≡ length d.now.1.flight.after }
-{
-    d.active.flight.after.len()
-}
-
-// The one at this place of its list, from 0.
-fn listed(d: &Found, i: usize) -> Callsign
-    requires { i < length d.now.1.flight.after }
-    ensures { slice_get d.now.1.flight.after i ≡ Some result }
-{
-    d.active.flight.after.at(i)
-}
-
 // Each active flight that d lists and that doesn't land before it, in the order of its list.
 fn late_for(alloc: Global, found: &[Found], d: &Found) -> Result<Vec<Finding>, AllocError>
     ensures { IfOk result (λ all. map finding_of all.items
@@ -139,20 +111,20 @@ fn late_for(alloc: Global, found: &[Found], d: &Found) -> Result<Vec<Finding>, A
         d.now.1.flight.after) }
 {
     let mut all = Vec::new(alloc);
-    for i in 0..count_listed(d) {
-        let mut more = listed_late(alloc, found, d, listed(d, i))?;
+    for callsign in d.active.flight.after.names() {
+        let mut more = listed_late(alloc, found, d, *callsign)?;
         all.append(&mut more)?;
     }
     Ok(all)
 }
 
-// Each line and each active flight of its list, in that order, that doesn't land before it.
+// Line by line, each active flight of the line's list that does not land before it, in the order of the list.
 pub(crate) fn late(alloc: Global, found: &[Found]) -> Result<Vec<Finding>, AllocError>
     ensures { IfOk result (λ all. map finding_of all.items ≡ late (map landing_of found.now)) }
 {
     let mut all = Vec::new(alloc);
-    for i in 0..found.len() {
-        let mut more = late_for(alloc, found, &found[i])?;
+    for d in found {
+        let mut more = late_for(alloc, found, d)?;
         all.append(&mut more)?;
     }
     Ok(all)

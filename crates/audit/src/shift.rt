@@ -105,8 +105,8 @@ pub(crate) fn shifted(alloc: Global, k: u8, found: &[Found]) -> Result<Vec<Findi
 {
     let waiting = waiting(alloc, found)?;
     let mut all = Vec::new(alloc);
-    for i in 0..waiting.len() {
-        note(&mut all, k, &waiting, waiting[i])?;
+    for f in &waiting {
+        note(&mut all, k, &waiting, f)?;
     }
     Ok(all)
 }

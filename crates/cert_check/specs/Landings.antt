@@ -73,6 +73,7 @@ first_out_of_order p ls r = first_from (are_out_of_order p ls r) 1 (count p)
 abbrev pub place : Problem → Landings → ℕ → ℕ
 place p ls r = place_in (seconds p ls) (second p ls r)
 
--- a rank lands more places before it than the shift allows, or more behind it
+-- a rank lands further ahead of its rank than the shift allows, or further behind it than the shift less the flights that
+-- passed it
 abbrev pub is_shifted : Problem → Landings → ℕ → Bool
 is_shifted p ls r = nat_lt (place p ls r + p.k) r || nat_lt (r + p.k) (place p ls r + (flight p r).passed)

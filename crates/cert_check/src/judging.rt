@@ -96,8 +96,8 @@ fn decide(problem: &Problem, certificate: &Certificate) -> Verdict
 
 /// What a certificate shows of a problem, or the first of its conditions that fails. It takes no memory.
 ///
-/// Whoever wrote the certificate: only where its landings are feasible, with this objective, and no schedule has a smaller
-/// one, is the answer that optimum; and only where no schedule is feasible, is it that there is none.
+/// Whoever wrote the certificate: an optimum is answered only where its landings are feasible with this objective and no
+/// feasible schedule has a smaller one, and infeasible only where no schedule is feasible.
 pub fn judge(problem: &Problem, certificate: &Certificate) -> Verdict
     ensures exact { result ≡ verdict_of problem.now certificate.now }
     ensures optimal { (v : ℕ) → result ≡ Verdict.Optimal v

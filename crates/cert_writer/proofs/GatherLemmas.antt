@@ -1,5 +1,5 @@
 -- One window more is gathered.
-use Rattle.std.proofs.Common.{◌≡◌, ℕ, zero, suc, ◌+◌, ◌<◌, ◌≤◌, ◌⊎◌, inl, inr, List, [], ◌∷◌, length, set, replicate, Bool, refl, sym, ap, ap₂, subst, ◌∙◌, arith}
+use Rattle.std.proofs.Common.{◌≡◌, ℕ, zero, suc, ◌+◌, ◌<◌, ◌≤◌, ◌⊎◌, inl, inr, List, [], ◌∷◌, length, set, Bool, refl, sym, ap, ap₂, subst, ◌∙◌, arith}
 use Rattle.std.specs.Prelude.{ℤ, All}
 use Rattle.std.proofs.lemmas.Bool.{cases_eq}
 use Rattle.std.proofs.lemmas.List.{get_or_default}
@@ -75,11 +75,6 @@ set_long : (xs : List (List Pair)) (i : ℕ) (y : List Pair) → length (set xs 
 set_long [] i y = refl
 set_long (x ∷ xs) zero y = refl
 set_long (x ∷ xs) (suc i) y = ap suc (set_long xs i y)
-
-none_there : (n i : ℕ) → list_at (replicate n []) i ≡ []
-none_there zero i = refl
-none_there (suc n) zero = refl
-none_there (suc n) (suc i) = none_there n i
 
 module _ (p : Problem) (stage : ℕ × List (List ℤ)) (lists : List (List Pair)) where
   module _ (h : HoldsCosts p stage lists) (count : ℕ) (within : count < length stage.1) (slots : List (List Pair)) (g : AreGathered p stage lists count slots) (slot : ℕ) (here : PatternNode) (at : here.0 ≡ stage.0) (has : HasSlot p.k here slot) (of : IsWindowOf p stage.0 (node_at stage.1 count) here) (list : List Pair) (into : (q : Pair) → InPairs q list → InPairs q (list_at slots slot) ⊎ InPairs q (list_at lists count)) (keeps : (q : Pair) → InPairs q (list_at slots slot) ⊎ InPairs q (list_at lists count) → (o : Pair) × InPairs o list × NoWorse o q) (ranged : All IsInRange (list_at slots slot) → All IsInRange list) where

@@ -1,5 +1,5 @@
 -- The state of a slot.
-use Rattle.std.proofs.Common.{◌≡◌, ℕ, zero, suc, ◌+◌, ◌-◌, ◌*◌, ◌/◌, ◌%◌, ◌<◌, ◌≤◌, ◌^◌, inl, List, [], ◌∷◌, ◌++◌, length, get_or, true, refl, sym, ap, subst, ◌∙◌, arith}
+use Rattle.std.proofs.Common.{◌≡◌, ℕ, zero, suc, ◌+◌, ◌-◌, ◌*◌, ◌/◌, ◌%◌, ◌<◌, ◌≤◌, ◌^◌, inl, List, [], ◌∷◌, ◌++◌, length, get_or, true, Option, refl, sym, ap, subst, ◌∙◌, arith}
 use Rattle.std.specs.Prelude.{ℤ}
 use Rattle.std.specs.List.{list_all}
 use Rattle.std.proofs.lemmas.List.{get_or_default}
@@ -10,12 +10,14 @@ use Rattle.cps_theory.specs.laws.LabelDominance.{no_worse_trans}
 use Rattle.cps_problem.specs.WellFormed.{IsWellFormed}
 use Rattle.cps_network.specs.Lists.{node_at}
 use Rattle.cps_network.specs.Pairs.{HoldsCosts, list_at}
+use Rattle.replan.specs.Held.{HeldProblem}
+use Rattle.replan.specs.Readers.{AreStagesOf, stage_in, lists_in}
 use Rattle.certificate.specs.Patterns.{bits, is_pattern_length}
 use Rattle.certificate.specs.States.{State, IsState, is_pair, rises}
 use Rattle.cert_check.specs.States.{node_of}
 use Rattle.cert_check.specs.shared.KeptPairs.{HoldsEntries}
 use Rattle.cert_writer.specs.StageEntries.{IsEntry, IsEntryOf}
-use Rattle.cert_writer.specs.Gathered.{AreGathered}
+use Rattle.cert_writer.specs.Gathered.{AreGathered, HasBetter, HasOnly}
 use Rattle.cert_writer.specs.Slots.{number_of, HasNumber, HasSlot}
 use Rattle.cert_writer.specs.Written.{AreWrittenBelow}
 use Rattle.cert_writer.proofs.SlotLemmas.{number_near, number_slot, slot_node, length_bits}
@@ -42,15 +44,36 @@ module _ (slots : List (List Pair)) (slot : ℕ) (within : slot < length slots) 
   pub slot_is : now ≡ list_at slots slot
   slot_is = is ∙ get_or_default slots slot now [] within
 
-  pub found_in : (best : List Pair) → ((q : Pair) → InPairs q best → InPairs q now) → (q : Pair) → InPairs q best → InPairs q (list_at slots slot)
+  pub found_in : (best : List Pair) → HasOnly best (λ q. InPairs q now) → HasOnly best (λ q. InPairs q (list_at slots slot))
   found_in best h q i = subst (InPairs q) slot_is (h q i)
 
-  pub covers_in : (best : List Pair) → ((q : Pair) → InPairs q now → (o : Pair) × InPairs o best × NoWorse o q) → (q : Pair) → InPairs q (list_at slots slot) → (o : Pair) × InPairs o best × NoWorse o q
+  pub covers_in : (best : List Pair) → HasBetter best (λ q. InPairs q now) → HasBetter best (λ q. InPairs q (list_at slots slot))
   covers_in best h q i = h q (subst (InPairs q) (sym slot_is) i)
 
 -- ---- the stage
 
-module _ (p : Problem) (wf : IsWellFormed p) (stages : ℕ → ℕ × List (List ℤ)) (lists : ℕ → List (List Pair)) (stage : ℕ) (one : 1 ≤ stage) (most : stage ≤ length p.flights) (number_is : (stages stage).0 ≡ stage) (h : HoldsCosts p (stages stage) (lists stage)) where
+-- a stage of a well-formed problem, under its number, with the undominated pairs of its windows
+pub record IsHeld (p : Problem) (stages : ℕ → ℕ × List (List ℤ)) (lists : ℕ → List (List Pair)) (stage : ℕ) : Type 0 where
+  pub well_formed : IsWellFormed p
+  pub begun : 1 ≤ stage
+  pub within : stage ≤ length p.flights
+  pub number : (stages stage).0 ≡ stage
+  pub costs : HoldsCosts p (stages stage) (lists stage)
+
+-- each stage of a problem that a planner holds is
+pub stage_held : (p : Problem) (held : Option HeldProblem) (stage : ℕ) → IsWellFormed p → AreStagesOf p held
+    → (1 ≤ stage) × (stage ≤ length p.flights) → IsHeld p (stage_in held) (lists_in held) stage
+stage_held p held stage wf are s = record { well_formed = wf; begun = s.0; within = s.1; number = are.number stage s.1; costs = are.pairs stage s.1 }
+
+-- these are the best pairs of the slot of a node's number, where the slots have the pairs of the stage
+pub record AreBestAt (p : Problem) (stages : ℕ → ℕ × List (List ℤ)) (lists : ℕ → List (List Pair)) (stage number ones : ℕ) (slots : List (List Pair)) (best : List Pair) : Type 0 where
+  pub turned : number_of (bits (2 * p.k) ones) ≡ number / 8
+  pub low : ones < 2 ^ (2 * p.k)
+  pub gathered : AreGathered p (stages stage) (lists stage) (length (stages stage).1) slots
+  pub found : HasOnly best (λ q. InPairs q (list_at slots (ones * 8 + number % 8)))
+  pub covers : HasBetter best (λ q. InPairs q (list_at slots (ones * 8 + number % 8)))
+
+module _ (p : Problem) (stages : ℕ → ℕ × List (List ℤ)) (lists : ℕ → List (List Pair)) (stage : ℕ) (held : IsHeld p stages lists stage) where
   abbrev pub Entry : PatternNode → Pair → Type 0
   Entry = IsEntryOf p stages lists
 
@@ -58,16 +81,16 @@ module _ (p : Problem) (wf : IsWellFormed p) (stages : ℕ → ℕ × List (List
   entry_here d q at e = subst (λ i. IsEntry p (stages i) (lists i) d q) at e.1
 
   here_entry : (d : PatternNode) (q : Pair) → d.0 ≡ stage → IsEntry p (stages stage) (lists stage) d q → Entry d q
-  here_entry d q at e = (omega (arith, at, most), subst (λ i. IsEntry p (stages i) (lists i) d q) (sym at) e)
+  here_entry d q at e = (let most = held.within in omega (arith, at, most), subst (λ i. IsEntry p (stages i) (lists i) d q) (sym at) e)
 
   shape_here : (d : PatternNode) (q : Pair) → IsEntry p (stages stage) (lists stage) d q → IsShaped p.k (length p.flights) d × (1 ≤ d.2)
-  shape_here d q e = window_shape p (stages stage).0 (node_at (stages stage).1 e.place) d (omega (arith, number_is, one)) (place_landable p (stages stage) (lists stage) h e.place e.within) e.node
+  shape_here d q e = window_shape p (stages stage).0 (node_at (stages stage).1 e.place) d (let number_is = held.number in let one = held.begun in omega (arith, number_is, one)) (place_landable p (stages stage) (lists stage) held.costs e.place e.within) e.node
 
   -- all nodes of the stage with entries have a number
   pub entry_number : (d : PatternNode) (q : Pair) → d.0 ≡ stage → Entry d q → (n : ℕ) × (n < 8 * 2 ^ (2 * p.k)) × HasNumber p.k d n
-  entry_number d q at e = let s = (shape_here d q (entry_here d q at e)).0 in number_near p.k d wf.few_places s.digits s.near.0 s.near.1
+  entry_number d q at e = let s = (shape_here d q (entry_here d q at e)).0 in number_near p.k d held.well_formed.few_places s.digits s.near.0 s.near.1
 
-  module _ (number ones : ℕ) (turned : number_of (bits (2 * p.k) ones) ≡ number / 8) (low : ones < 2 ^ (2 * p.k)) (slots : List (List Pair)) (g : AreGathered p (stages stage) (lists stage) (length (stages stage).1) slots) (best : List Pair) (found : (q : Pair) → InPairs q best → InPairs q (list_at slots (ones * 8 + number % 8))) (covers : (q : Pair) → InPairs q (list_at slots (ones * 8 + number % 8)) → (o : Pair) × InPairs o best × NoWorse o q) where
+  module _ (number ones : ℕ) (slots : List (List Pair)) (best : List Pair) (are : AreBestAt p stages lists stage number ones slots best) where
     abbrev slot : ℕ
     slot = ones * 8 + number % 8
 
@@ -75,8 +98,8 @@ module _ (p : Problem) (wf : IsWellFormed p) (stages : ℕ → ℕ × List (List
     best_covers : (d : PatternNode) (q : Pair) → d.0 ≡ stage → HasNumber p.k d number → Entry d q → (o : Pair) × InPairs o best × NoWorse o q
     best_covers d q at has e =
         let here = entry_here d q at e in
-        let c = g.covers slot d q (at ∙ sym number_is) (number_slot p.k d number ones has turned low) (here, here.within) in
-        let o = covers c.0 c.1 in
+        let c = are.gathered.covers slot d q (at ∙ sym held.number) (number_slot p.k d number ones has are.turned are.low) (here, here.within) in
+        let o = are.covers c.0 c.1 in
         (o.0, o.1, no_worse_trans o.0 c.0 q o.2 c.2)
 
     pub none_best : (ss : List State) → AreWrittenBelow p.k Entry stage number ss → length best ≡ 0 → AreWrittenBelow p.k Entry stage (number + 1) ss
@@ -85,8 +108,8 @@ module _ (p : Problem) (wf : IsWellFormed p) (stages : ℕ → ℕ × List (List
     -- each of them is an entry of one node of the slot
     node_of_best : (q : Pair) → InPairs q best → (d : PatternNode) × (d.0 ≡ stage) × HasSlot p.k d slot × Entry d q
     node_of_best q i =
-        let f = g.found slot q (found q i) in
-        (f.0, f.1 ∙ number_is, f.2, here_entry f.0 q (f.1 ∙ number_is) f.3.0)
+        let f = are.gathered.found slot q (are.found q i) in
+        (f.0, f.1 ∙ held.number, f.2, here_entry f.0 q (f.1 ∙ held.number) f.3.0)
 
     first : 1 ≤ length best → (q : Pair) × InPairs q best
     first some = go best some
@@ -120,7 +143,7 @@ module _ (p : Problem) (wf : IsWellFormed p) (stages : ℕ → ℕ × List (List
           record { pattern = ap (bits (2 * p.k)) (sym high); last = omega (arith, rest, known); within = n.2.within }
 
       written_number : HasNumber p.k (node_of written) number
-      written_number = let known = last_known in record { digits = length_bits (2 * p.k) ones; pattern = turned; last = omega (arith, known) }
+      written_number = let known = last_known in record { digits = length_bits (2 * p.k) ones; pattern = are.turned; last = omega (arith, known) }
 
       best_entry : (q : Pair) → InPairs q best → Entry (node_of written) q
       best_entry q i =
@@ -129,7 +152,7 @@ module _ (p : Problem) (wf : IsWellFormed p) (stages : ℕ → ℕ × List (List
 
       pub written_holds : rises best ≡ true → HoldsEntries Entry written
       written_holds up = record {
-        begun = one;
+        begun = held.begun;
         some = some;
         found = best_entry;
         covers = λ q e. best_covers (node_of written) q refl written_number e;
@@ -142,11 +165,12 @@ module _ (p : Problem) (wf : IsWellFormed p) (stages : ℕ → ℕ × List (List
       pub written_in_form : rises best ≡ true → list_all is_pair best ≡ true → IsState written
       written_in_form up ranged =
           let s = shape_here (node_of written) (first some).0 (entry_here (node_of written) (first some).0 refl (best_entry (first some).0 (first some).1)) in
-          let few = wf.few_flights in
+          let few = held.well_formed.few_flights in
+          let most = held.within in
           let latest = s.0.latest in
           record {
-            stage = (one, omega (arith, few, most));
-            pattern = ap is_pattern_length (length_bits (2 * p.k) ones) ∙ even_length p.k wf.few_places;
+            stage = (held.begun, omega (arith, few, most));
+            pattern = ap is_pattern_length (length_bits (2 * p.k) ones) ∙ even_length p.k held.well_formed.few_places;
             last = (s.1, omega (arith, few, latest));
             some_pairs = some;
             pairs = ranged;

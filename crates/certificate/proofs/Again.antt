@@ -13,7 +13,7 @@ use Rattle.certificate.specs.declared.certificate.Claim.TheVariants.{Optimal, In
 use Rattle.certificate.specs.Reading.{IsClaim}
 use Rattle.certificate.specs.Patterns.{is_pattern_length}
 use Rattle.certificate.specs.States.{Pair, State, IsState, is_pair}
-use Rattle.certificate.specs.Lines.{is_digit, is_mark, are_marks, pattern_in, pair_in, pair_by, pairs_in, state_in, state_by, state_from, landing_in, landing_by, claim_in, claim_by}
+use Rattle.certificate.specs.Lines.{digit_of, is_digit, are_marks, pattern_in, pair_in, pair_by, pairs_in, state_in, state_by, state_from, landing_in, landing_by, claim_in, claim_by}
 use Rattle.certificate.specs.Spelling.{digit_text, pattern_text, pair_text, pairs_text, state_text, landing_text, claim_text}
 
 -- ---- pairs
@@ -52,12 +52,12 @@ pairs_read (p ∷ ps) k = rw (pair_reads p k.0 k.1, pairs_read ps k.2) refl
 
 -- ---- patterns
 
-digit_back : (ds : List Bool) → map is_digit (map digit_text ds) ≡ ds
+digit_back : (ds : List Bool) → map digit_of (map digit_text ds) ≡ ds
 digit_back [] = refl
 digit_back (true ∷ ds) = ap (λ (xs : List Bool). true ∷ xs) (digit_back ds)
 digit_back (false ∷ ds) = ap (λ (xs : List Bool). false ∷ xs) (digit_back ds)
 
-all_marks : (ds : List Bool) → list_all is_mark (map digit_text ds) ≡ true
+all_marks : (ds : List Bool) → list_all is_digit (map digit_text ds) ≡ true
 all_marks [] = refl
 all_marks (true ∷ ds) = all_marks ds
 all_marks (false ∷ ds) = all_marks ds

@@ -19,7 +19,7 @@ use Rattle.text_parts.specs.shared.Printed.{and_true}
 use Rattle.certificate.specs.declared.certificate.Claim.{Claim}
 use Rattle.certificate.specs.declared.certificate.Claim.TheVariants.{Optimal, Infeasible}
 use Rattle.certificate.specs.States.{Pair, State}
-use Rattle.certificate.specs.Lines.{is_digit, is_mark, are_marks, pattern_in, pair_in, pair_by, pairs_in, state_in, state_by, state_from, landing_in, landing_by, claim_in, claim_by}
+use Rattle.certificate.specs.Lines.{digit_of, is_digit, are_marks, pattern_in, pair_in, pair_by, pairs_in, state_in, state_by, state_from, landing_in, landing_by, claim_in, claim_by}
 use Rattle.certificate.specs.Spelling.{digit_text, pattern_text, pair_text, pairs_text, state_text, landing_text, claim_text}
 use Rattle.certificate.proofs.Valid.{then_some, map_some, passed, passed_then}
 
@@ -87,20 +87,20 @@ pairs_printed a (p ∷ ps) xs e =
 
 -- ---- patterns
 
-digits_printed : (text : List ℕ) → list_all is_mark text ≡ true → map digit_text (map is_digit text) ≡ text
+digits_printed : (text : List ℕ) → list_all is_digit text ≡ true → map digit_text (map digit_of text) ≡ text
 digits_printed [] e = refl
 digits_printed (b ∷ text) e =
-    let h = and_true (is_mark b) (list_all is_mark text) e in
+    let h = and_true (is_digit b) (list_all is_digit text) e in
     go (b == 48) (b == 49) refl refl h.0 ∙ ap (λ (t : List ℕ). b ∷ t) (digits_printed text h.1)
   where
-    go : (x y : Bool) → (b == 48) ≡ x → (b == 49) ≡ y → x || y ≡ true → digit_text (is_digit b) ∷ map digit_text (map is_digit text) ≡ b ∷ map digit_text (map is_digit text)
-    go x true p q e = let same : b ≡ 49 = grind (arith, common_steps) in subst (λ (c : ℕ). digit_text (is_digit c) ∷ map digit_text (map is_digit text) ≡ c ∷ map digit_text (map is_digit text)) (sym same) refl
-    go true false p q e = let same : b ≡ 48 = grind (arith, common_steps) in subst (λ (c : ℕ). digit_text (is_digit c) ∷ map digit_text (map is_digit text) ≡ c ∷ map digit_text (map is_digit text)) (sym same) refl
+    go : (x y : Bool) → (b == 48) ≡ x → (b == 49) ≡ y → x || y ≡ true → digit_text (digit_of b) ∷ map digit_text (map digit_of text) ≡ b ∷ map digit_text (map digit_of text)
+    go x true p q e = let same : b ≡ 49 = grind (arith, common_steps) in subst (λ (c : ℕ). digit_text (digit_of c) ∷ map digit_text (map digit_of text) ≡ c ∷ map digit_text (map digit_of text)) (sym same) refl
+    go true false p q e = let same : b ≡ 48 = grind (arith, common_steps) in subst (λ (c : ℕ). digit_text (digit_of c) ∷ map digit_text (map digit_of text) ≡ c ∷ map digit_text (map digit_of text)) (sym same) refl
     go false false p q e = absurd cc
 
-some_digits : (text : List ℕ) → are_marks text ≡ true → pattern_text (map is_digit text) ≡ text
+some_digits : (text : List ℕ) → are_marks text ≡ true → pattern_text (map digit_of text) ≡ text
 some_digits [] e = absurd cc
-some_digits (b ∷ text) e = digits_printed (b ∷ text) (and_true _ (list_all is_mark (b ∷ text)) e).1
+some_digits (b ∷ text) e = digits_printed (b ∷ text) (and_true _ (list_all is_digit (b ∷ text)) e).1
 
 blank : pattern_text [] ≡ codes "-"
 blank = refl
@@ -109,10 +109,10 @@ pub pattern_printed : (text : List ℕ) (ds : List Bool) → pattern_in text ≡
 unfolding pattern_in
 pattern_printed text ds e = go (bytes_eq text (codes "-")) (are_marks text) refl refl e
   where
-    go : (a b : Bool) → bytes_eq text (codes "-") ≡ a → are_marks text ≡ b → cond a (Some []) (cond b (Some (map is_digit text)) None) ≡ Some ds → pattern_text ds ≡ text
+    go : (a b : Bool) → bytes_eq text (codes "-") ≡ a → are_marks text ≡ b → cond a (Some []) (cond b (Some (map digit_of text)) None) ≡ Some ds → pattern_text ds ≡ text
     go true b p q e = let same : [] ≡ ds = cc in ap pattern_text (sym same) ∙ blank ∙ sym (same_text text (codes "-") p)
     go false false p q e = absurd cc
-    go false true p q e = let same : map is_digit text ≡ ds = cc in ap pattern_text (sym same) ∙ some_digits text q
+    go false true p q e = let same : map digit_of text ≡ ds = cc in ap pattern_text (sym same) ∙ some_digits text q
 
 -- ---- lines
 

@@ -17,7 +17,7 @@ use Rattle.certificate.specs.declared.fault.CertFault.{CertFault}
 use Rattle.certificate.specs.declared.fault.CertFault.TheVariants as fault
 use Rattle.certificate.specs.Patterns.{is_pattern_length}
 use Rattle.certificate.specs.States.{Pair, State, IsState, is_pair, rises, comes_behind, follows, AreStates, AreAscending}
-use Rattle.certificate.specs.Lines.{pattern_in, are_marks, is_digit, pair_by, pair_in, pairs_in, state_from, state_by, state_in, landing_by, landing_in}
+use Rattle.certificate.specs.Lines.{pattern_in, are_marks, digit_of, pair_by, pair_in, pairs_in, state_from, state_by, state_in, landing_by, landing_in}
 use Rattle.certificate.specs.Reading.{Cert, IsClaim, AreLandings, IsCertificate, Body, with_landing, with_state, line_in, lines_in, body_lines}
 
 pub then_some : {A B : Type 0} (o : Option A) (f : A → Option B) (y : B) → option_and_then f o ≡ Some y → (x : A) × (o ≡ Some x) × (f x ≡ Some y)
@@ -58,14 +58,14 @@ pub pattern_size : (text : List ℕ) (ds : List Bool) → pattern_in text ≡ So
 unfolding pattern_in
 pattern_size text ds e = go (bytes_eq text (codes "-")) (are_marks text) refl e
   where
-    go : (a b : Bool) → are_marks text ≡ b → cond a (Some []) (cond b (Some (map is_digit text)) None) ≡ Some ds → is_pattern_length (length ds) ≡ true
+    go : (a b : Bool) → are_marks text ≡ b → cond a (Some []) (cond b (Some (map digit_of text)) None) ≡ Some ds → is_pattern_length (length ds) ≡ true
     go true b p e = let same : [] ≡ ds = cc in subst (λ (xs : List Bool). is_pattern_length (length xs) ≡ true) same refl
     go false false p e = absurd cc
     go false true p e =
-        let same : map is_digit text ≡ ds = cc in
+        let same : map digit_of text ≡ ds = cc in
         let all = and_true _ _ p in
         let size = and_true _ _ all.0 in
-        subst (λ (xs : List Bool). is_pattern_length (length xs) ≡ true) same (rw (length-map text is_digit) size.1)
+        subst (λ (xs : List Bool). is_pattern_length (length xs) ≡ true) same (rw (length-map text digit_of) size.1)
 
 pub pair_range : (text : List ℕ) (p : Pair) → pair_in text ≡ Some p → is_pair p ≡ true
 unfolding pair_in

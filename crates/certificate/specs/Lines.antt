@@ -9,19 +9,21 @@ use Rattle.certificate.specs.declared.certificate.Claim.TheVariants.{Optimal, In
 use Rattle.certificate.specs.Patterns.{is_pattern_length}
 use Rattle.certificate.specs.States.{Pair, State, rises}
 
-abbrev pub is_digit : ℕ → Bool
-is_digit b = b == 49
+-- the digit that a byte is: 1 is true
+abbrev pub digit_of : ℕ → Bool
+digit_of b = b == 49
 
-abbrev pub is_mark : ℕ → Bool
-is_mark b = b == 48 || b == 49
+-- a byte is that of a digit, 0 or 1
+abbrev pub is_digit : ℕ → Bool
+is_digit b = b == 48 || b == 49
 
 abbrev pub are_marks : List ℕ → Bool
-are_marks text = (nat_lt 0 (length text) && is_pattern_length (length text)) && list_all is_mark text
+are_marks text = (nat_lt 0 (length text) && is_pattern_length (length text)) && list_all is_digit text
 
 unfoldable pub pattern_in : List ℕ → Option (List Bool)
 pattern_in text =
     if bytes_eq text (codes "-") then Some []
-    else if are_marks text then Some (map is_digit text)
+    else if are_marks text then Some (map digit_of text)
     else None
 
 abbrev pub pair_by : List (List ℕ) → Option Pair
@@ -60,6 +62,7 @@ landing_by fields = None
 unfoldable pub landing_in : List ℕ → Option (List ℕ × ℕ)
 landing_in line = landing_by (parts 32 line)
 
+-- the value: at most 500 flights of weight 100, each 172,799 seconds late
 abbrev pub claim_with : List ℕ → Option Claim
 claim_with value = option_map Optimal (number_in value 0 8639950000)
 

@@ -16,6 +16,7 @@ pub record Cert : Type 0 where
   pub landings : List (List ℕ × ℕ)
   pub states : List State
 
+-- the value: at most 500 flights of weight 100, each 172,799 seconds late
 abbrev pub IsClaim : Claim → Type 0
 IsClaim (Optimal v) = v ≤ 8639950000
 IsClaim Infeasible = Unit {0}
@@ -47,7 +48,7 @@ with_state n b line (Some s) = if follows b.1 s then Ok (b.0, b.1 ++ s ∷ []) e
 unfoldable pub line_in : ℕ → Body → List ℕ → Result Body CertFault
 line_in n b line = with_state n b line (state_in line)
 
--- the certificate after this line, which ends where a line comes behind it
+-- the certificate of the lines from line n on, behind what was read before; behind the last line feed nothing stands
 unfoldable pub lines_in : ℕ → Claim → Body → List ℕ → List (List ℕ) → Result Cert CertFault
 lines_in n c b line [] = if length line == 0 then Ok (record { claim = c; landings = b.0; states = b.1 }) else Err (fault.Line n)
 lines_in n c b line (next ∷ rest) = line_in n b line >>= (λ more. lines_in (n + 1) c more next rest)

@@ -5,7 +5,7 @@ ghost use Rattle.certificate.specs.Patterns.{is_pattern_length};
 ghost use Rattle.certificate.specs.States.{rises, is_pair};
 ghost use Rattle.certificate.specs.Reading.{IsClaim};
 ghost use Rattle.text_parts.specs.Parts.{parts_left, number_in};
-ghost use Rattle.certificate.specs.Lines.{is_mark, are_marks, is_digit, pattern_in, pair_in, pairs_in, state_with, state_from, state_in, landing_in, claim_in};
+ghost use Rattle.certificate.specs.Lines.{is_digit, are_marks, digit_of, pattern_in, pair_in, pairs_in, state_with, state_from, state_in, landing_in, claim_in};
 
 use crate::certificate::Claim;
 use crate::pattern::Pattern;
@@ -17,7 +17,7 @@ use std::alloc::{AllocError, Global};
 use text_parts::{first_part, number_in};
 
 fn are_all_marks(text: &[u8]) -> bool
-    ensures { result ≡ list_all is_mark text.now }
+    ensures { result ≡ list_all is_digit text.now }
 {
     text.iter().all(|b| *b == b'0' || *b == b'1')
 }
@@ -32,7 +32,7 @@ fn are_marks(text: &[u8]) -> bool
 fn digits_of(text: &[u8]) -> [bool; 6]
     requires { length text.now ≤ 6 }
     ensures len { length result ≡ 6 }
-    ensures value { take (length text.now) result ≡ map is_digit text.now }
+    ensures value { take (length text.now) result ≡ map digit_of text.now }
 {
     let mut digits = [false; 6];
     for i in 0..text.len() {

@@ -28,9 +28,8 @@ pub(crate) fn add_closures(
     ensures { OnOk result (all.new.items ≡ all.old.items ++ closures_drawn span count
         closures.now) }
 {
-    for i in 0..closures.len() {
-        let closure = closures.pair(i);
-        all.push(closed(span, count, closure))?;
+    for closure in closures.pairs() {
+        all.push(closed(span, count, *closure))?;
     }
     Ok(())
 }

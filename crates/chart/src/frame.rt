@@ -4,14 +4,15 @@ ghost use Rattle.plan_file.specs.Shown.{shown_of};
 ghost use Rattle.chart.specs.Frames.{first_of, frame_of, span_of, widened, with_active, with_landing, with_row, with_rows, with_window, with_windows};
 
 use crate::row::Row;
+use landing_windows::LAST_SECOND;
 use plan_file::Landing;
 use situations::Active;
 
 // From a first second to a last one.
 #[derive(Clone, Copy)]
-pub struct Frame {
-    pub first: u32,
-    pub last: u32,
+pub(crate) struct Frame {
+    pub(crate) first: u32,
+    pub(crate) last: u32,
 }
 
 // Widened, where need be, to hold the second.
@@ -77,7 +78,7 @@ pub(crate) fn frame_of(horizon: u32, rows: &[Row]) -> Frame
 {
     let frame = with_rows(
         Frame {
-            first: 172_800,
+            first: LAST_SECOND + 1,
             last: 0,
         },
         rows,

@@ -64,14 +64,12 @@ fn left_of(frame: Frame) -> u64
 fn in_frame(
     alloc: Global,
     situation: &Situation,
-    active: &[Active],
     title: Element,
     lines: &BlockLines,
     found: &[Finding],
     rows: &[Row],
 ) -> Result<Vec<Element>, AllocError>
     requires sound { IsSound situation.now }
-    requires active { active.now ≡ situation.now.active }
     requires rows { length rows.now ≤ 1000 }
     ensures { IfOk result (λ all. all.items ≡ in_frame situation.now title lines.now
         (map finding_of found.now) rows.now) }
@@ -82,7 +80,7 @@ fn in_frame(
     all.push(Element::Sheet(count + lines_below(found)))?;
     all.push(title)?;
     say_horizon(&mut all, situation.horizon())?;
-    add_labels(&mut all, active, lines, found, rows)?;
+    add_labels(&mut all, situation.flights(), lines, found, rows)?;
     all.push(Element::Field(left_of(frame)))?;
     add_field(&mut all, situation, lines, found, rows, frame)?;
     all.push(Element::FieldEnd)?;
@@ -115,7 +113,7 @@ fn pictured(
     let rows = rows_of(alloc, flights, lines)?;
     let standing = rows.as_slice();
     are_few(flights, lines, standing);
-    in_frame(alloc, situation, flights, title, lines, found, standing)
+    in_frame(alloc, situation, title, lines, found, standing)
 }
 
 fn picture_block(alloc: Global, situation: &Situation, block: &Block) -> Result<Picture, AllocError>

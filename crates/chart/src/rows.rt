@@ -12,25 +12,11 @@ use plan_file::{BlockLines, Landing};
 use situations::Active;
 use std::alloc::{AllocError, Global};
 
-// The flight's callsign.
-fn name_of(active: &Active) -> Callsign
-    ensures { result ≡ active.now.flight.callsign }
-{
-    active.flight.callsign
-}
-
-// Whether the flight has the callsign.
-fn is_named(active: &Active, callsign: Callsign) -> bool
-    ensures { result ≡ named callsign active.now }
-{
-    name_of(active) == callsign
-}
-
 // The active flight of this name.
 fn find_active(active: &[Active], callsign: Callsign) -> Result<Option<Active>, AllocError>
     ensures { IfOk result (λ found. found ≡ find (named callsign) active.now) }
 {
-    let Some(found) = active.iter().find(|a| is_named(a, callsign)) else {
+    let Some(found) = active.iter().find(|a| a.flight.callsign == callsign) else {
         return Ok(None);
     };
     let found = found.clone()?;
@@ -75,10 +61,9 @@ fn has_line(lines: &[Landing], callsign: Callsign) -> bool
 fn waiting_row(active: &Active) -> Result<Row, AllocError>
     ensures { IfOk result (λ row. row ≡ waiting_row active.now) }
 {
-    let callsign = name_of(active);
     let found = active.clone()?;
     Ok(Row {
-        callsign,
+        callsign: active.flight.callsign,
         active: Some(found),
         landing: None,
     })
@@ -91,7 +76,7 @@ fn add_missing(all: &mut Vec<Row>, active: &[Active], lines: &[Landing]) -> Resu
 {
     let mut rest = active;
     while let [first, after @ ..] = rest {
-        if !has_line(lines, name_of(first)) {
+        if !has_line(lines, first.flight.callsign) {
             let row = waiting_row(first)?;
             all.push(row)?;
         }

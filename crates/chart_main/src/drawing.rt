@@ -29,7 +29,7 @@ fn draw_opened(
     ensures { MatchResult result (λ text. IsDrawn aerodrome flights.items plan.now text.items)
         (StopsOpened aerodrome flights.items) }
 {
-    let situation = opening(alloc, aerodrome, flights)?;
+    let situation = opening(alloc, &aerodrome, flights.as_slice())?;
     let drawn = picture(alloc, &situation, plan)?;
     let mut text = Vec::new(alloc);
     append_picture(&drawn, &mut text)?;

@@ -8,7 +8,7 @@ ghost use Rattle.cps_network.specs.Landable.{HoldsCandidates};
 ghost use Rattle.cps_network.specs.Lists.{IsAscending, AreWindows, node_at};
 ghost use Rattle.cps_network.specs.Permits.{IsPermitted, IsSuccessor, IsNextOf, Repeats};
 
-use crate::permit::{due_set, most_shift, none_passed, none_waits, placed_set, successor};
+use crate::permit::{due_set, most_shift, none_passed, none_waits, placed_set, reach, successor};
 use crate::runs::Runs;
 use crate::source_range::first_source;
 use crate::stage::Stage;
@@ -60,10 +60,7 @@ fn add_successors<const W: usize>(
     ensures { OnOk result ((x : _) → Contains runs.new x ↔ (Contains runs.old x ⊎ IsSuccessor
         problem.now stage window.now x)) }
 {
-    let k = most_shift(problem);
-    let n = problem.len();
-    let first = (stage + 1).saturating_sub(k).max(1);
-    let end = (stage + 1 + k).min(n) + 1;
+    let (first, end) = reach(problem, stage);
     let extendable = window.extendable();
     let placed = placed_set(&extendable, stage, due);
     for rank in first..end {

@@ -1,6 +1,6 @@
 //! Whether a rank may land next, and the window that then follows.
 
-ghost use Rattle.std.specs.Prelude.{◌≡◌, ℕ, pos, ◌+◌, ◌*◌, ◌/◌, ◌<◌, ◌-◌, ◌≤◌, ◌↔◌, List, ◌∷◌, length, reverse, IsTrue, SomeIff};
+ghost use Rattle.std.specs.Prelude.{◌≡◌, ℕ, pos, ◌+◌, ◌*◌, ◌/◌, ◌<◌, ◌-◌, ◌≤◌, ◌↔◌, List, ◌∷◌, length, max, min, reverse, IsTrue, SomeIff};
 ghost use Rattle.precedence.specs.Pairs.{HasBit};
 ghost use Rattle.cps_nodes.specs.Windows.{IsWindow, IsPlaced, shifted};
 ghost use Rattle.cps_nodes.specs.Ranks.{window_of};
@@ -15,7 +15,7 @@ use cps_nodes::{ExtendableWindow, Window};
 use cps_problem::Problem;
 
 // The most places by which a flight may leave its first-come place.
-pub fn most_shift(problem: &Problem) -> u8
+pub(crate) fn most_shift(problem: &Problem) -> u8
     ensures k { result ≡ problem.now.k }
     ensures near { result ≤ 3 }
     ensures few { length problem.now.flights ≤ 60 }
@@ -23,8 +23,21 @@ pub fn most_shift(problem: &Problem) -> u8
     problem.head().k
 }
 
+// The half-open range of the ranks in reach of a stage: those at most k places from the next one.
+pub(crate) fn reach(problem: &Problem, stage: u8) -> (u8, u8)
+    requires { stage < length problem.now.flights }
+    ensures first { result.0 ≡ max (stage + 1 - problem.now.k) 1 }
+    ensures end { result.1 ≡ min (stage + 1 + problem.now.k) (length problem.now.flights) + 1 }
+    ensures few { length problem.now.flights ≤ 60 }
+{
+    let k = most_shift(problem);
+    let first = (stage + 1).saturating_sub(k).max(1);
+    let end = (stage + 1 + k).min(problem.len()) + 1;
+    (first, end)
+}
+
 // The ranks that are due by a stage, as bits: those at most stage - k.
-pub fn due_set(stage: u8, k: u8) -> u64
+pub(crate) fn due_set(stage: u8, k: u8) -> u64
     requires stage { stage ≤ 60 }
     requires near { k ≤ 3 }
     ensures { (rank : ℕ) → HasBit result rank ↔ (rank + k ≤ stage) }
@@ -36,7 +49,7 @@ pub fn due_set(stage: u8, k: u8) -> u64
 }
 
 // The ranks that a window of a stage places, as bits.
-pub fn placed_set<const W: usize>(window: &ExtendableWindow<W>, stage: u8, due: u64) -> u64
+pub(crate) fn placed_set<const W: usize>(window: &ExtendableWindow<W>, stage: u8, due: u64) -> u64
     requires stage { stage ≤ 60 }
     requires due { (rank : ℕ) → HasBit due rank ↔ (rank + W / 2 ≤ stage) }
     ensures { (rank : ℕ) → 1 ≤ rank → HasBit result rank ↔ IsPlaced window.now (pos stage) (pos
@@ -65,7 +78,7 @@ fn is_in_time(problem: &Problem, landed: u8, rank: u8) -> bool
 }
 
 // The window after a landing of a rank that is at most k from the next place, where it is permitted.
-pub fn successor<const W: usize>(
+pub(crate) fn successor<const W: usize>(
     problem: &Problem,
     window: &ExtendableWindow<W>,
     stage: u8,
@@ -134,27 +147,20 @@ pub fn is_permitted<const W: usize>(
 }
 
 // Whether each predecessor of each rank in reach of a stage is due by then, so that no window need be looked at.
-pub fn none_waits(problem: &Problem, stage: u8) -> bool
+pub(crate) fn none_waits(problem: &Problem, stage: u8) -> bool
     requires { stage < length problem.now.flights }
     ensures { IsTrue result → NoneWaits problem.now stage }
 {
-    let k = most_shift(problem);
-    let n = problem.len();
-    let due = due_set(stage, k);
-    (1..n + 1).all(|rank| {
-        let in_reach = rank <= stage + 1 + k && stage + 1 <= rank + k;
-        !in_reach || problem.pairs().all_before(rank, due)
-    })
+    let due = due_set(stage, most_shift(problem));
+    let (first, end) = reach(problem, stage);
+    (first..end).all(|rank| problem.pairs().all_before(rank, due))
 }
 
 // Whether no rank in reach of a stage was passed.
-pub fn none_passed(problem: &Problem, stage: u8) -> bool
+pub(crate) fn none_passed(problem: &Problem, stage: u8) -> bool
     requires { stage < length problem.now.flights }
     ensures { IsTrue result → NonePassed problem.now stage }
 {
-    let k = most_shift(problem);
-    let n = problem.len();
-    let first = (stage + 1).saturating_sub(k).max(1);
-    let end = (stage + 1 + k).min(n) + 1;
+    let (first, end) = reach(problem, stage);
     (first..end).all(|rank| problem.passed(rank) == 0)
 }

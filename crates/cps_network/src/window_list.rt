@@ -41,8 +41,8 @@ fn copy_to<const W: usize>(list: &[Window<W>], into: &mut Vec<Window<W>>)
     requires room { length list.now ≤ vec_capacity into.old }
     ensures { into.new.items ≡ list.now }
 {
-    for i in 0..list.len() {
-        match into.push(list[i]) {
+    for window in list {
+        match into.push(*window) {
             Ok(()) => {}
             Err(_) => unreachable!(),
         }

@@ -25,6 +25,7 @@ pub record IsWellFormed (p : Problem) : Type 0 where
   pub estimates : All (λ f. f.eta ≤ last_second) p.flights
   pub weights : All (λ f. (1 ≤ f.weight) × (f.weight ≤ greatest_weight)) p.flights
   pub passed : All (λ f. f.passed ≤ p.k) p.flights
+  -- at most 500 flights of weight 100, each 172,799 seconds late
   pub base : p.base + 17279900 * length p.flights ≤ 8639950000
 
 -- what is asked of the parts of a problem: all of this, but that its table is one, which the table's type keeps

@@ -1,5 +1,6 @@
 ghost use Rattle.std.specs.Prelude.{◌≡◌, ◌≤◌, ◌*◌, length, None, IfSome, MatchOption};
 ghost use Rattle.wake_table.specs.Table.{greatest_separation};
+ghost use Rattle.landing_rules.specs.Problem.{last_frozen};
 ghost use Rattle.landing_rules.specs.Rules.{last_second};
 ghost use Rattle.cps_theory.specs.Feasible.{next_from};
 ghost use Rattle.landing_joint.specs.RankedProblem.{ranked, landing_after, cost_at, apart_at, start_at, first_at};
@@ -28,6 +29,16 @@ impl Problem {
     {
         let _counts = self.head();
         self.flight(rank).passed
+    }
+
+    /// The second of the last frozen landing, and 0 with none.
+    pub fn last_frozen(&self) -> u32
+        ensures { result ≡ last_frozen self.now.last }
+    {
+        match self.head().last {
+            None => 0,
+            Some((second, _)) => second,
+        }
     }
 
     /// From when on a rank may land as the first: from the horizon on, and behind the last frozen landing.

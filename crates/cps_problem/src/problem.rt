@@ -10,16 +10,20 @@ use std::alloc::AllocError;
 use std::marker::Model;
 use wake_table::{Category, PairTable};
 
-/// A waiting flight: its callsign and wake category, its estimated second, its weight from 1 to 100, how many flights
-/// passed it, and its open seconds.
+/// A waiting flight.
 #[derive(Drop)]
 pub struct Waiting {
+    /// Its callsign.
     pub callsign: Callsign,
+    /// Its wake category.
     pub category: Category,
+    /// Its estimated second, 0 to 172,799.
     pub eta: u32,
+    /// Its weight, 1 to 100.
     pub weight: u32,
     /// How many flights behind it in first-come order froze ahead of it, at most k.
     pub passed: u8,
+    /// Its open seconds.
     pub times: OpenTimes,
 }
 
@@ -30,6 +34,7 @@ pub struct Head {
     pub table: PairTable,
     /// The most places by which a flight may leave its first-come place: 0 to 3.
     pub k: u8,
+    /// What a plan makes least.
     pub objective: Objective,
     /// The second before which no waiting flight may land.
     pub horizon: u32,

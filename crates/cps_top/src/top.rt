@@ -1,4 +1,4 @@
-ghost use Rattle.std.specs.Prelude.{◌≡◌, ◌≤◌, map, length, string_bytes, vec_items};
+ghost use Rattle.std.specs.Prelude.{◌≡◌, ◌≤◌, [], length, map, slice_get, string_bytes, unwrap_or, vec_items};
 ghost use Rattle.std.specs.List.{AllByRecursion};
 ghost use Rattle.cps_top.specs.Commands.{IsInRange, file_count};
 ghost use Rattle.endings.specs.Loads.{limit};
@@ -14,6 +14,16 @@ use inquiry_commands::{run_audit, run_first, run_what_if};
 use planning_commands::{run_effort, run_plan, run_replay, run_trial};
 use std::alloc::Global;
 use std::thread::Threads;
+
+// The contents of a command's i-th file, from 0; a file that it does not have is empty.
+fn file(contents: &[Vec<u8>], i: usize) -> &[u8]
+    ensures { result.now ≡ unwrap_or (slice_get (map vec_items contents.now) i) [] }
+{
+    match contents.get(i) {
+        Some(bytes) => bytes.as_slice(),
+        None => &[],
+    }
+}
 
 // A command over the contents of its files.
 fn perform<R: Threads + Sync, S: Sink, G: Gate + Sync>(
@@ -31,72 +41,19 @@ fn perform<R: Threads + Sync, S: Sink, G: Gate + Sync>(
     ensures { Follows command (map vec_items contents.now)
         (S.state out.old) (S.state out.new) result }
 {
+    let aerodrome = file(contents, 0);
+    let flights = file(contents, 1);
+    // The events, the certificate, the trials or the plan.
+    let third = file(contents, 2);
     match command {
-        Command::Plan => run_plan(
-            rt,
-            alloc,
-            contents[0].as_slice(),
-            contents[1].as_slice(),
-            out,
-            gate,
-        ),
-        Command::Replay => run_replay(
-            rt,
-            alloc,
-            contents[0].as_slice(),
-            contents[1].as_slice(),
-            contents[2].as_slice(),
-            out,
-            gate,
-        ),
-        Command::Certify => run_certify(
-            rt,
-            alloc,
-            contents[0].as_slice(),
-            contents[1].as_slice(),
-            out,
-            gate,
-        ),
-        Command::Check => run_check(
-            alloc,
-            contents[0].as_slice(),
-            contents[1].as_slice(),
-            contents[2].as_slice(),
-            out,
-        ),
-        Command::Effort => run_effort(
-            rt,
-            alloc,
-            contents[0].as_slice(),
-            contents[1].as_slice(),
-            contents[2].as_slice(),
-            out,
-            gate,
-        ),
-        Command::First => run_first(
-            rt,
-            alloc,
-            contents[0].as_slice(),
-            contents[1].as_slice(),
-            out,
-            gate,
-        ),
-        Command::WhatIf => run_what_if(
-            rt,
-            alloc,
-            contents[0].as_slice(),
-            contents[1].as_slice(),
-            contents[2].as_slice(),
-            out,
-            gate,
-        ),
-        Command::Audit => run_audit(
-            alloc,
-            contents[0].as_slice(),
-            contents[1].as_slice(),
-            contents[2].as_slice(),
-            out,
-        ),
+        Command::Plan => run_plan(rt, alloc, aerodrome, flights, out, gate),
+        Command::Replay => run_replay(rt, alloc, aerodrome, flights, third, out, gate),
+        Command::Certify => run_certify(rt, alloc, aerodrome, flights, out, gate),
+        Command::Check => run_check(alloc, aerodrome, flights, third, out),
+        Command::Effort => run_effort(rt, alloc, aerodrome, flights, third, out, gate),
+        Command::First => run_first(rt, alloc, aerodrome, flights, out, gate),
+        Command::WhatIf => run_what_if(rt, alloc, aerodrome, flights, third, out, gate),
+        Command::Audit => run_audit(alloc, aerodrome, flights, third, out),
         Command::Trial { seed, n, k } => run_trial(rt, alloc, seed, n, k, out, gate),
     }
 }

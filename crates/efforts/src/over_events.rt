@@ -127,7 +127,8 @@ fn is_planned(sequencer: &Sequencer<AnyKept>) -> bool
 }
 
 /// Replays the events from the state of the sequencer, and prints how many steps its planning took at the opening, after
-/// each accepted event, and in all. Each line is one put. It answers whether a plan is shown at the end.
+/// each accepted event, and in all. Each line is one put, though no clause says so. It answers whether a plan is shown at
+/// the end.
 ///
 /// `opening` is how many steps the planning of the sequencer's problem took with nothing held, and the planner holds that
 /// problem. It asks that the events' numbers are in their ranges, and that there are at most 2,000. Where it answers a plan,

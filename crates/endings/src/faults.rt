@@ -1,13 +1,11 @@
 // How a run ends where a file is none, or memory runs out: each fault by itself, so that `?` passes it on.
-ghost use Rattle.std.specs.Prelude.{◌≡◌};
-
 use crate::{Ending, Refusal};
 use aerodrome_file::AeroFault;
 use certificate::CertFault;
 use event_log::{LogCause, LogFault};
 use flight_file::{FlightCause, FlightFault};
 use plan_file::PlanFault;
-use situations::{BeginFault, OpeningFault};
+use situations::BeginFault;
 use std::alloc::AllocError;
 use trial_file::{TrialCause, TrialFault};
 
@@ -114,22 +112,8 @@ impl From<BeginFault> for Ending {
 
     fn from(fault: BeginFault) -> Self {
         match fault {
-            BeginFault::UnknownFrozen(i) => refused(OpeningFault::UnknownFrozen(i)),
-            BeginFault::UnknownPassed(i) => refused(OpeningFault::UnknownPassed(i)),
-            BeginFault::TooManyWaiting(n) => refused(OpeningFault::TooManyWaiting(n)),
-            BeginFault::FrozenClosed(i) => refused(OpeningFault::FrozenClosed(i)),
-            BeginFault::FrozenSeparation(i, j) => refused(OpeningFault::FrozenSeparation(i, j)),
-            BeginFault::FrozenPrecedence(i, callsign) => {
-                refused(OpeningFault::FrozenPrecedence(i, callsign))
-            }
+            BeginFault::Opening(fault) => Ending::Refused(Refusal::Opening(fault)),
             BeginFault::Memory => Ending::NoMemory,
         }
     }
-}
-
-// The ending of an opening that is refused.
-fn refused(fault: OpeningFault) -> Ending
-    ensures { result ≡ Ending.Refused (Refusal.Opening fault) }
-{
-    Ending::Refused(Refusal::Opening(fault))
 }

@@ -40,7 +40,7 @@ category_or None = Err (Field Category fault.Bad)
 abbrev pub category_in : Fields → Result categories.Category LogCause
 category_in r = category_or (category_of (column Category r))
 
--- a second of the two days, which of a clock's event is the clock's
+-- a second of the two days; in a clock event it is the clock's
 abbrev pub second_in : Fields → Result ℕ LogCause
 second_in r = fault_as (λ e. Field Eta (fault.Number e)) (number_within (column Eta r) 0 last_second)
 

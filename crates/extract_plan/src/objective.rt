@@ -1,6 +1,6 @@
 ghost use Rattle.std.specs.Prelude.{◌≡◌, ◌≤◌, ◌*◌, length, All};
 ghost use Rattle.landing_rules.specs.Rules.{last_second};
-ghost use Rattle.landing_rules.specs.Problem.{list_objective, last_frozen};
+ghost use Rattle.landing_rules.specs.Problem.{list_objective};
 ghost use Rattle.cps_theory.specs.RankLists.{of_rank, upto};
 ghost use Rattle.cps_theory.specs.Feasible.{greatest, total};
 ghost use Rattle.landing_joint.specs.RankedProblem.{cost_at};
@@ -15,19 +15,9 @@ pub fn value_of(problem: &Problem, schedule: &Schedule) -> u64
     ensures { result ≡ list_objective problem.now schedule.now }
 {
     match problem.head().objective {
-        Objective::Makespan if problem.is_empty() => last_frozen(problem),
+        Objective::Makespan if problem.is_empty() => u64::from(problem.last_frozen()),
         Objective::Makespan => u64::from(greatest_second(schedule)),
         Objective::Delay => problem.head().base + total_cost(problem, schedule),
-    }
-}
-
-// The second of the last frozen landing, or 0 with none.
-pub(crate) fn last_frozen(problem: &Problem) -> u64
-    ensures { result ≡ last_frozen problem.now.last }
-{
-    match problem.head().last {
-        None => 0,
-        Some((second, _)) => u64::from(second),
     }
 }
 

@@ -24,7 +24,15 @@ module _ (p : Problem) (v : ℕ) (budget : Option ℕ) (stage : ℕ) (node : Ear
     pub least_of : (q : Pair) → InPairs q pairs → least ≤ q.1
     pub dear : (c : ℕ) → least ≤ c → c < limit → (o : Pair) × InPairs o pairs × (o.1 ≤ c)
 
-  module _ (second least : ℕ) (pairs : List Pair) (s : Scanned (second + 1) least pairs) where
+  -- one second earlier, whose least cost is this
+  module _ (from second least : ℕ) (pairs : List Pair) (before : from ≡ second + 1) (scanned : Scanned from least pairs)
+      (cost_here : Option ℕ) (least_here : IsLeastOf (λ d. Is (second, d)) cost_here) where
+    s : Scanned (second + 1) least pairs
+    s = subst (λ (n : ℕ). Scanned n least pairs) before scanned
+
+    is_least : (o : Option ℕ) → cost_here ≡ o → IsLeastOf (λ d. Is (second, d)) o
+    is_least o e = subst (λ (o : Option ℕ). IsLeastOf (λ d. Is (second, d)) o) e least_here
+
     -- what is found one second earlier
     earlier_are : (q : Pair) → InPairs q pairs → Is q × (second ≤ q.0)
     earlier_are q i = (let a = s.found.are q i in (a.0, (let b = a.1 in omega (arith, b))))
@@ -47,19 +55,20 @@ module _ (p : Problem) (v : ℕ) (budget : Option ℕ) (stage : ℕ) (node : Ear
       dear = s.dear;
     }
 
-    pub nothing_here : IsLeastOf (λ d. Is (second, d)) None → Scanned second least pairs
-    nothing_here none = kept (λ q h e r. absurd (none q.1 (at_second q e h)))
+    pub nothing_here : cost_here ≡ None → Scanned second least pairs
+    nothing_here none = kept (λ q h e r. absurd (is_least None none q.1 (at_second q e h)))
 
-    pub no_cheaper : (cost : ℕ) → IsLeastOf (λ d. Is (second, d)) (Some cost) → least ≤ cost → cost < 4294967296 → Scanned second least pairs
-    no_cheaper cost l le fits = kept (λ q h e r.
-        let a = l.1 q.1 (at_second q e h) in
+    pub no_cheaper : (cost : ℕ) → cost_here ≡ Some cost → least ≤ cost → cost < 4294967296 → Scanned second least pairs
+    no_cheaper cost is le fits = kept (λ q h e r.
+        let a = (is_least (Some cost) is).1 q.1 (at_second q e h) in
         let d = s.dear cost le (limits cost fits (room_below budget node.cheapest cost q.1 a r)) in
         let b = (s.found.are d.0 d.1).1 in
         let f = d.2 in
         (d.0, d.1, (omega (arith, b, e), omega (arith, a, f))))
 
-    pub cheaper : (cost : ℕ) → IsLeastOf (λ d. Is (second, d)) (Some cost) → cost < least → second ≤ last_second → cost ≤ 17279900 * (length p.flights - stage) → Scanned second cost (pairs ++ (second, cost) ∷ [])
-    cheaper cost l lt in_days small =
+    pub cheaper : (cost : ℕ) → cost_here ≡ Some cost → cost < least → second ≤ last_second → cost ≤ 17279900 * (length p.flights - stage) → Scanned second cost (pairs ++ (second, cost) ∷ [])
+    cheaper cost is lt in_days small =
+        let l = is_least (Some cost) is in
         let here = in_right (second, cost) pairs ((second, cost) ∷ []) (inl refl) in
         record {
           found = record {

@@ -28,7 +28,7 @@ Falls (q ∷ qs) = ((o : Pair) → InPairs o qs → (o.0 < q.0) × (o.1 < q.1)) 
 abbrev pub IsCostFrom : List Pair → ℕ → ℕ → Type 0
 IsCostFrom pairs second cost = (q : Pair) × InPairs q pairs × (second ≤ q.0) × (q.1 ≡ cost)
 
--- seconds of the two days, and the costs of so many flights
+-- seconds of the two days, and the costs of so many flights, each at most 100 times 172,799
 abbrev pub AreInReach : ℕ → List Pair → Type 0
 AreInReach left pairs = (q : Pair) → InPairs q pairs → (q.0 ≤ last_second) × (q.1 ≤ 17279900 * left)
 

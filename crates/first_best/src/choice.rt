@@ -21,6 +21,7 @@ use crate::pairs::PairList;
 use crate::stage::AheadStage;
 use cps_problem::{Problem, Schedule};
 use extract_plan::blank;
+use landing_rules::MOST_WAITING;
 use replan::AnyKept;
 use std::alloc::{AllocError, Global};
 
@@ -133,7 +134,7 @@ fn least_choice(
     ensures in_days { result.1 ≤ last_second }
 {
     let _few = problem.len();
-    (0..stage.len()).fold((61, 0), |least, j| {
+    (0..stage.len()).fold((MOST_WAITING + 1, 0), |least, j| {
         with_node(problem, budget, before, cost, stage, j, least)
     })
 }

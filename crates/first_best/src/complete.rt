@@ -15,6 +15,7 @@ use crate::pairs::PairList;
 use crate::stage::AheadStage;
 use crate::ways::{least_cost, ways_of};
 use cps_problem::{Objective, Problem};
+use landing_windows::LAST_SECOND;
 use std::alloc::{AllocError, Global};
 
 // Whether the value allows a landing at a second.
@@ -49,7 +50,7 @@ fn opens_in_days(problem: &Problem, rank: u8)
     requires { (1 ≤ rank) × (rank ≤ length problem.now.flights) }
     ensures { (t : ℕ) → (ranked problem.now).is_open rank t ≡ true → t ≤ last_second }
 {
-    let _none = problem.first_open(rank, 172800);
+    let _none = problem.first_open(rank, LAST_SECOND + 1);
 }
 
 // The cost of a node's pair at a second.
@@ -86,7 +87,7 @@ fn last_open(problem: &Problem, rank: u8) -> u32
 {
     opens_in_days(problem, rank);
     let mut low = 0;
-    let mut high = 172799;
+    let mut high = LAST_SECOND;
     while low < high {
         let middle = low + (high - low) / 2;
         match problem.first_open(rank, middle + 1) {

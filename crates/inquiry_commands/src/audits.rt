@@ -85,7 +85,7 @@ fn report_opened(
         (λ r. IsAudited aerodrome flights.items plan.now r.text.items r.answer)
         (StopsOpened aerodrome flights.items) }
 {
-    let situation = opening(alloc, aerodrome, flights)?;
+    let situation = opening(alloc, &aerodrome, flights.as_slice())?;
     let report = report_plan(alloc, &situation, plan)?;
     Ok(report)
 }

@@ -1,7 +1,7 @@
 ghost use Rattle.std.specs.Prelude.{◌≤◌, All, MatchResult, length};
 ghost use Rattle.arrivals.specs.Aerodromes.{IsInRange};
 ghost use Rattle.arrivals.specs.Flights.{AreArrivals};
-ghost use Rattle.trial_file.specs.Trials.{IsGood};
+ghost use Rattle.trial_file.specs.Trials.{IsGood, most_trials};
 ghost use Rattle.openings.specs.Plan.{StopsOpened};
 ghost use Rattle.inquiry_commands.specs.WhatIf.{AdmitsWhatIf, AreTried, FollowsWhatIf, StopsWhatIf};
 
@@ -28,7 +28,7 @@ fn try_opened<R: Threads + Sync, G: Gate + Sync>(
 ) -> Result<Vec<u8>, Ending>
     requires range { IsInRange aerodrome.now }
     requires read { AreArrivals flights.now }
-    requires few { length trials.now ≤ 16 }
+    requires few { length trials.now ≤ most_trials }
     requires good { All IsGood trials.now }
     ensures { MatchResult result
         (λ text. AreTried aerodrome.now flights.now trials.now text.items)

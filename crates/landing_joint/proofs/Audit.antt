@@ -11,7 +11,7 @@ use Rattle.landing_rules.specs.Events.{named, in_landing_order, IsPlanShown}
 use Rattle.landing_rules.specs.Text.{ShownLanding, shown_landing, shown_plan}
 use Rattle.landing_rules.specs.Sound.{IsSound}
 use Rattle.landing_rules.specs.shared.Counting.{Member}
-use Rattle.landing_rules.specs.Audit.{Block, block_of, IsClean, Missing, Unknown, OtherObjective, Value, has_line, missing, unknown, twice, by_name, disordered, lines_found, mismarked, landing_of, block_landings, by_rules, is_objective, other_objective, other_value, by_line, or_else, findings}
+use Rattle.landing_rules.specs.Audit.{Block, block_of, IsClean, Missing, Unknown, OtherObjective, Value, has_line, missing, unknown, twice, by_name, disordered, lines_found, mismarked, landing_of, by_rules, is_objective, other_objective, other_value, by_line, or_else, findings}
 use Rattle.cps_theory.specs.RankLists.{In}
 use Rattle.cps_theory.specs.laws.NumberedLists.{in_numbers, numbers_in, distinct_numbers}
 use Rattle.landing_joint.specs.Numbered.{nobody, numbered, second_of, numbers_of}
@@ -22,7 +22,7 @@ use Rattle.landing_joint.proofs.ByNumber.{order_member, member_order, order-move
 use Rattle.landing_joint.proofs.AuditLists.{append_nil, nil_append, or_else_nil, broken_none, none_broken, Each, each_pair}
 use Rattle.landing_joint.proofs.LandingOrder.{Strict, strict_equal, strict_order, filter_order, rules-moved, cost_order}
 use Rattle.landing_joint.proofs.AuditRules.{rules_kept, kept_rules}
-use Rattle.landing_joint.proofs.AuditLines.{find_first, find_some, found_any, line_member, member_line, twice_none, none_twice, second_in, second_at, lines_strict, strict_lines, Found, lines_landings, lines_marks, landings_lines, each_map, each_lines, same_refl, same_true, one_nil}
+use Rattle.landing_joint.proofs.AuditLines.{block_landings, find_first, find_some, found_any, line_member, member_line, twice_none, none_twice, second_in, second_at, lines_strict, strict_lines, Found, lines_landings, lines_marks, landings_lines, each_map, each_lines, same_refl, same_true, one_nil}
 use Rattle.landing_joint.proofs.Members.{in_map, map_in, map_member, member_map, member_number}
 use Rattle.std.proofs.lemmas.List.{length-map}
 use Rattle.landing_joint.specs.shared.Insertion.{all_at}

@@ -11,7 +11,7 @@ use Rattle.landing_rules.specs.Flights.{Callsign, Active, Situation, Landing, la
 use Rattle.landing_rules.specs.Events.{named}
 use Rattle.landing_rules.specs.Text.{ShownLanding, shown_landing}
 use Rattle.landing_rules.specs.shared.Counting.{Member}
-use Rattle.landing_rules.specs.Audit.{Finding, Twice, Order, Mark, for_failing, has_line, twice_after, disordered_from, disordered, lines_found, is_marked, landing_of, block_landings, is_objective}
+use Rattle.landing_rules.specs.Audit.{Finding, Twice, Order, Mark, for_failing, has_line, twice_after, disordered_from, disordered, lines_found, is_marked, landing_of, is_objective}
 use Rattle.cps_theory.specs.RankLists.{Distinct, In}
 use Rattle.landing_joint.specs.Numbered.{nobody, numbered}
 use Rattle.landing_joint.proofs.AuditLists.{cons_nil, Each}
@@ -105,6 +105,10 @@ strict_lines (f ∷ fs) e = strict_from 2 f.second fs e.0 e.1
 -- each line of these landings finds its flight again
 abbrev pub Found : Situation → Landing → Type 0
 Found s x = (a : Active) × (find (named x.flight.callsign) s.active ≡ Some a) × (x ≡ landing a x.second)
+
+-- the landings of the lines of a block
+abbrev pub block_landings : List Active → List ShownLanding → List Landing
+block_landings active lines = map landing_of (lines_found active lines)
 
 pub lines_landings : (s : Situation) (fs : List Landing) → ((x : Landing) → Member x fs → Found s x) → block_landings s.active (map shown_landing fs) ≡ fs
 lines_landings s [] h = refl

@@ -103,9 +103,6 @@ mismarked found = for_failing is_marked (λ (x : ShownLanding × Active). Mark x
 abbrev pub landing_of : ShownLanding × Active → Landing
 landing_of x = landing x.1 x.0.second
 
-abbrev pub block_landings : List Active → List ShownLanding → List Landing
-block_landings active lines = map landing_of (lines_found active lines)
-
 -- each landing at a second that is not open
 abbrev pub closed : Situation → List Landing → List Finding
 closed s all = for_failing (λ f. is_open f.flight.windows s.closures f.second) (λ (f : Landing). Closed f.flight.callsign f.second) all
@@ -114,7 +111,7 @@ closed s all = for_failing (λ f. is_open f.flight.windows s.closures f.second) 
 abbrev pub are_apart : List (List ℕ) → Landing → Landing → Bool
 are_apart table f g = is_pair_separated table f g && is_pair_separated table g f
 
--- each pair of lines, neighbours or not, that is not
+-- each two lines, neighbours or not, that are not the table's time apart
 abbrev pub unseparated : List (List ℕ) → List Landing → List Finding
 unseparated table all = for_failing_pairs (are_apart table) (λ (f g : Landing). Separation f.flight.callsign g.flight.callsign) all
 
@@ -122,25 +119,27 @@ unseparated table all = for_failing_pairs (are_apart table) (λ (f g : Landing).
 abbrev pub is_before : Landing → Callsign → Landing → Bool
 is_before d c f = not (bytes_eq f.flight.callsign c) || nat_lt f.second d.second
 
--- for one that d lists, where it is active
+-- the flight c, which d lists, where it is active and does not land before d
 abbrev pub listed_late : List Landing → Landing → Callsign → List Finding
 listed_late all d c = for_failing (is_before d c) (λ (f : Landing). Precedence c d.flight.callsign) all
 
--- each line and each active flight of its list, in that order, that doesn't land before it
+-- line by line, each active flight of the line's list that does not land before it, in the order of the list
 abbrev pub late : List Landing → List Finding
 late all = flat_map (λ (d : Landing). flat_map (listed_late all d) d.flight.after) all
 
--- each frozen flight that is not at its second
+-- a frozen flight lands at its second
 abbrev pub is_kept : Landing → Bool
 is_kept f = waits f || (f.second == unwrap_or f.frozen 0)
 
+-- each frozen flight that is not at its second
 abbrev pub moved : List Landing → List Finding
 moved all = for_failing is_kept (λ (f : Landing). Moved f.flight.callsign (unwrap_or f.frozen 0)) all
 
--- each waiting flight before the horizon
+-- a waiting flight lands at the horizon or later
 abbrev pub is_late_enough : ℕ → Landing → Bool
 is_late_enough h f = not (waits f) || nat_le h f.second
 
+-- each waiting flight before the horizon
 abbrev pub early : ℕ → List Landing → List Finding
 early h all = for_failing (is_late_enough h) (λ (f : Landing). Early f.flight.callsign) all
 

@@ -22,16 +22,16 @@ pub record Flight : Type 0 where
   pub windows : List Span
   pub after : List Callsign
 
--- a flight in the system: the second at which it is frozen, if it is, and how many flights behind it
--- in first-come order were frozen ahead of it
+-- a flight in the system: the second at which it is frozen, if it is, and, with the carry, how many flights behind it in
+-- first-come order were frozen ahead of it, counted up to k
 pub record Active : Type 0 where
   pub flight : Flight
   pub frozen : Option ℕ
   pub passed : ℕ
 
 -- what an aerodrome fixes. k is the most places by which a flight may leave its first-come place;
--- freeze is how far behind the clock the horizon lies; the table has a row for each leader, of the
--- seconds to each follower; carry says whether flights that were passed are counted on
+-- freeze is how many seconds ahead of the clock the horizon lies; the table has a row for each leader, of
+-- the seconds to each follower; carry says whether each waiting flight keeps a count of those that passed it
 pub record Aerodrome : Type 0 where
   pub k : ℕ
   pub freeze : ℕ

@@ -47,6 +47,7 @@ place_in t second = 1 + count_by (λ u. nat_lt u second) t
 pub record IsFeasibleList (p : Problem) (t : Schedule) : Type 0 where
   pub one_each : length t ≡ length p.flights
   pub open_seconds : EachWaiting p t (λ r f a. IsTrue (list_any (is_within a) f.open_spans))
+  -- each lands at the horizon or later
   pub late : EachWaiting p t (λ r f a. p.horizon ≤ a)
   pub after_last : EachWaiting p t (λ r f a. MatchOption p.last ⊤ (λ l. l.0 + separation p.table l.1 f.category ≤ a))
   pub separated : EachWaiting p t (λ r f a. EachWaiting p t (λ q g b. r ≢ q → a ≤ b → a + separation p.table f.category g.category ≤ b))
@@ -116,7 +117,7 @@ abbrev pub ArePredecessorsOf : List Active → List ℕ → Type 0
 ArePredecessorsOf ranked pairs = (i j : ℕ) (a b : Active) → slice_get ranked i ≡ Some a → slice_get ranked j ≡ Some b →
     must_precede pairs (i + 1) (j + 1) ≡ lists b.flight a.flight.callsign
 
--- and stands between no other numbers
+-- and no pair is of a number that is no rank
 abbrev pub AreBetweenRanks : ℕ → List ℕ → Type 0
 AreBetweenRanks n pairs = (i j : ℕ) → IsTrue (must_precede pairs i j) → (1 ≤ i) × (i ≤ n) × (1 ≤ j) × (j ≤ n)
 

@@ -1,6 +1,6 @@
--- The situations that a run can reach, and the events that a run is asked to be of: numbers in their
--- ranges, callsigns of their shape and apart, and frozen landings that keep the rules among themselves.
--- This project's own.
+-- The situations that a run can reach, and what is asked of the events of a run: numbers in their ranges,
+-- callsigns of their shape and apart, and frozen landings that keep the rules among themselves. This
+-- project's own.
 use Rattle.std.specs.Prelude.{⊤, ◌≡◌, ◌≢◌, ◌+◌, ◌-◌, ◌<◌, ◌≤◌, false, List, length, IsTrue, All, AllPairs, sum_by}
 use Rattle.std.specs.List.{AllAdjacentBelow}
 use Rattle.cps_base.specs.Text.{is_callsign}

@@ -15,7 +15,7 @@ abbrev pub overlaps : Option ℕ → ℕ → Bool
 overlaps None first = false
 overlaps (Some last) first = nat_le first last
 
--- what is wrong with the span of a number, where the one before it ends at that second
+-- what is wrong with a span, by its number and the second where the span before it ends
 abbrev pub span_fault : ℕ → Option ℕ → Span → Option WindowFault
 span_fault i before s = if nat_lt s.1 s.0 then Some (Backward i) else if overlaps before s.0 then Some (Overlap i) else None
 

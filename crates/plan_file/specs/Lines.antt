@@ -13,6 +13,7 @@ objective_in word =
     else if bytes_eq word (codes "delay") then Some Delay
     else None
 
+-- the value: at most 500 flights of weight 100, each 172,799 seconds late
 unfoldable pub head_by : List (List ℕ) → Option (Objective × ℕ)
 head_by (word ∷ value ∷ []) = option_and_then (λ o. option_map (λ v. (o, v)) (number_in value 0 8639950000)) (objective_in word)
 head_by fields = None

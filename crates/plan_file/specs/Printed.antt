@@ -16,6 +16,7 @@ AreReadable (f ∷ rest) = (is_callsign f.callsign ≡ true) × (f.second ≤ la
 
 -- at most 500 landings of callsigns, and all numbers in their ranges
 pub record IsReadable (p : ShownPlan) : Type 0 where
+  -- at most 500 flights of weight 100, each 172,799 seconds late
   pub value : p.value ≤ 8639950000
   pub few : length p.landings ≤ most_flights
   pub landings : AreReadable p.landings

@@ -33,7 +33,7 @@ body_lines (line ∷ rest) = lines_in 2 [] line rest
 abbrev pub plan_with : Objective × ℕ → List ShownLanding → Result PlanText PlanFault
 plan_with head lines = Ok (said.Block (record { objective = head.0; value = head.1; lines = lines }))
 
--- behind a first line of landings
+-- behind the first line of a plan: its landing lines
 abbrev pub plan_behind : Option (Objective × ℕ) → List (List ℕ) → Result PlanText PlanFault
 plan_behind None rest = Err (fault.Line 1)
 plan_behind (Some head) rest = body_lines rest >>= plan_with head

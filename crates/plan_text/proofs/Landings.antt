@@ -1,5 +1,5 @@
 -- The lines of the first landings, and of those behind them.
-use Rattle.std.proofs.Common.{◌≡◌, ℕ, zero, suc, ◌+◌, ◌≤◌, List, [], ◌∷◌, ◌++◌, Some, None, length, take, drop, refl, sym, ap, ◌∙◌, append_assoc, arith, add-one}
+use Rattle.std.proofs.Common.{◌≡◌, ℕ, zero, suc, ◌+◌, List, [], ◌∷◌, ◌++◌, Some, None, take, drop, refl, sym, ap, ◌∙◌, append_assoc, add-one}
 use Rattle.std.specs.Prelude.{map, slice_get, OnOk, Result, Ok, Err}
 use Rattle.std.proofs.lemmas.Option.{same_Some}
 use Rattle.landing_rules.specs.Text.{ShownLanding, line, lines_text, landing_words}
@@ -18,12 +18,6 @@ pub lines_left : (ls : List ShownLanding) (i : ℕ) (l : ShownLanding) (text : L
 lines_left ls i l text e =
     rw (add-one) (append_assoc text (line (landing_words l)) (landing_lines (drop (suc i) ls)) ∙ ap (λ (r : List ShownLanding). text ++ landing_lines r) (sym (rest_is ls i l e)))
 
-pub none_left : (ls : List ShownLanding) (i : ℕ) → length ls ≤ i → drop i ls ≡ []
-none_left [] zero h = refl
-none_left [] (suc i) h = refl
-none_left (x ∷ xs) zero h = absurd (omega arith)
-none_left (x ∷ xs) (suc i) h = none_left xs i (omega arith)
-
 -- the lines of the first landings, and then those of the others
 pub lines_split : (ls : List ShownLanding) (i : ℕ) → landing_lines (take i ls) ++ landing_lines (drop i ls) ≡ landing_lines ls
 lines_split ls zero = refl
@@ -39,11 +33,6 @@ take_more (x ∷ xs) (suc i) l e = ap (λ (r : List ShownLanding). x ∷ r) (tak
 -- one landing more
 pub first_more : (all first : List ShownLanding) (i : ℕ) (l : ShownLanding) → first ≡ take i all → slice_get all i ≡ Some l → first ++ l ∷ [] ≡ take (i + 1) all
 first_more all first i l e at = ap (λ (r : List ShownLanding). r ++ l ∷ []) e ∙ sym (rw (add-one) (take_more all i l at))
-
-take_again : (ls : List ShownLanding) (i : ℕ) → take (length (take i ls)) ls ≡ take i ls
-take_again ls zero = refl
-take_again [] (suc i) = refl
-take_again (x ∷ xs) (suc i) = ap (λ (r : List ShownLanding). x ∷ r) (take_again xs i)
 
 pub ok_then : {T E : Type 0} {P Q : Type 0} (r : Result T E) → (P → Q) → OnOk r P → OnOk r Q
 ok_then (Ok v) f p = f p

@@ -38,7 +38,7 @@ callsign_name c h = bytes_name c (right_of (nat_le 2 (length c) && nat_le (lengt
 
 -- ---- what is shown of a sound state
 
--- a block tells the plan that it shows, and a sound state shows a plan whose block reads back
+-- a block tells the plan that it shows, and a sound state shows callsigns and numbers in their ranges
 abbrev pub ShownLaws : Type 0
 ShownLaws = BlockLaw × ShownPlanIsReadableLaw
 

@@ -8,7 +8,7 @@ use Rattle.event_answers.specs.Written.{Wrote, WrotePart}
 use Rattle.event_answers.specs.declared.stops.Stop.{Stop}
 use Rattle.event_answers.specs.declared.stops.Stop.TheVariants as stop
 
--- one put
+-- a text was written whole, or a part of it and a write failed
 abbrev pub Puts : SinkState → SinkState → Bytes → Result (Unit {0}) Stop → Type 0
 Puts from to text (Ok u) = Wrote from to text
 Puts from to text (Err stop.NotWritten) = WrotePart from to text

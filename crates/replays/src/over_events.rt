@@ -93,7 +93,8 @@ fn open<P: Planner, S: Sink>(
 }
 
 /// Replays the events from the state of the sequencer: prints its plan, then for each event its answer, and the plan
-/// after it where it was accepted. Each answer is one put. It answers whether a plan is shown at the end.
+/// after it where it was accepted. Each answer is one put, though no clause says so. It answers whether a plan is shown
+/// at the end.
 ///
 /// It asks that the events' numbers are in their ranges, and that there are fewer than 2^31. Where it answers a plan, or
 /// none, `out` grew by the text of a run of the rules over all of the events. After a put that failed it grew by a part

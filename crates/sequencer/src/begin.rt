@@ -12,8 +12,12 @@ use cps_problem::Problem;
 use situations::{BeginFault, Situation, opening_fault};
 use std::alloc::Global;
 
-/// The situation that an aerodrome and its flights open, where no opening refusal holds.
-pub(crate) fn open(
+/// The situation that an aerodrome and its flights open: the flights in the order of their file, and the clock second, the
+/// frozen landings and the counts of the aerodrome's file.
+///
+/// It is asked that there are at most 500 flights, with callsigns apart, and that all numbers are in their ranges. A
+/// refusal is the first opening refusal that holds, with its value, or want of memory.
+pub fn opening(
     alloc: Global,
     aerodrome: &Aerodrome,
     flights: &[Flight],
@@ -33,26 +37,6 @@ pub(crate) fn open(
     Ok(situation)
 }
 
-/// The situation that an aerodrome and its flights open: the flights in the order of their file, and the clock second, the
-/// frozen landings and the counts of the aerodrome's file.
-///
-/// It is asked that there are at most 500 flights, with callsigns apart, and that all numbers are in their ranges. A
-/// refusal is the first opening refusal that holds, with its value, or want of memory.
-pub fn opening(
-    alloc: Global,
-    aerodrome: Aerodrome,
-    flights: Vec<Flight>,
-) -> Result<Situation, BeginFault>
-    requires { CanOpen aerodrome flights.items }
-    ensures value { IfOk result (λ situation. situation ≡ opened aerodrome flights.items) }
-    ensures sound { IfOk result IsSound }
-    ensures openable { IfOk result (λ _. opening_fault aerodrome flights.items ≡ None) }
-    ensures refused { IfErr result (IsRefusedBy (opening_fault aerodrome flights.items)) }
-{
-    let situation = open(alloc, &aerodrome, flights.as_slice())?;
-    Ok(situation)
-}
-
 /// The problem of the opening situation: its waiting flights by rank, and what the frozen ones leave them.
 ///
 /// It is asked that there are at most 500 flights, with callsigns apart, and that all numbers are in their ranges. A
@@ -68,7 +52,7 @@ pub fn opening_problem(
     ensures openable { IfOk result (λ _. opening_fault aerodrome.now flights.now ≡ None) }
     ensures refused { IfErr result (IsRefusedBy (opening_fault aerodrome.now flights.now)) }
 {
-    let situation = open(alloc, aerodrome, flights)?;
+    let situation = opening(alloc, aerodrome, flights)?;
     let problem = problem_of(alloc, &situation)?;
     Ok(problem)
 }

@@ -48,8 +48,8 @@ fn seconds_of(
         ≡ map (second_in order.now schedule.now) flights.now) }
 {
     let mut seconds = Vec::with_capacity(alloc, flights.len())?;
-    for i in 0..flights.len() {
-        seconds.push(second_of(&flights[i], order, schedule))?;
+    for active in flights {
+        seconds.push(second_of(active, order, schedule))?;
     }
     Ok(seconds)
 }

@@ -13,7 +13,7 @@ ghost use Rattle.situations.specs.Opened.{CanOpen, opening_of};
 ghost use Rattle.situations.specs.Refused.{opening_fault};
 ghost use Rattle.situations.specs.Begun.{IsRefusedBy, opening_fault_of};
 
-use crate::begin::open;
+use crate::begin::opening;
 use crate::plan::plan_of;
 use crate::problem::posed;
 use crate::seconds::joined_seconds;
@@ -171,14 +171,6 @@ impl<P: Planner> Sequencer<P> {
         }
     }
 
-    /// The situation on the approach.
-    pub fn situation(&self) -> &Situation
-        ensures value { result.now ≡ self.now.state.situation }
-        ensures sound { IsSoundState self.now.state }
-    {
-        &self.situation
-    }
-
     /// The problem of the situation.
     pub fn problem(&self) -> &Problem
         ensures value { result.now ≡ self.now.problem }
@@ -318,7 +310,7 @@ impl<P: Planner> Sequencer<P> {
         ensures kept { IfErr result (λ fault. MatchOption (opening_fault_of fault) ⊤
             (λ _. steps.new ≡ steps.old)) }
     {
-        let situation = open(alloc, &aerodrome, flights.as_slice())?;
+        let situation = opening(alloc, &aerodrome, flights.as_slice())?;
         let sequencer = Sequencer::start(rt, alloc, situation, planner, gate, steps)?;
         Ok(sequencer)
     }

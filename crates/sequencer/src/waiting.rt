@@ -39,8 +39,8 @@ pub(crate) fn all_waiting(
 {
     let runway = OpenTimes::of_runway(alloc, closures)?;
     let mut all = Vec::with_capacity(alloc, ranked.len())?;
-    for i in 0..ranked.len() {
-        let waiting = waiting_of(alloc, ranked[i], &runway)?;
+    for active in ranked {
+        let waiting = waiting_of(alloc, active, &runway)?;
         all.push(waiting)?;
     }
     Ok(all)

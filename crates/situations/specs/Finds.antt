@@ -1,4 +1,4 @@
--- What a search of the active flights finds, the last one first.
+-- What a search of the active flights finds.
 use Rattle.std.specs.Prelude.{ℕ, List, [], ◌∷◌, Option, Some, None, ◌&&◌, option_map, find, is_some, nat_le, if◌then◌else◌}
 use Rattle.landing_rules.specs.Flights.{Active, Callsign, Span}
 use Rattle.landing_rules.specs.Rules.{lists, is_shut}

@@ -1,5 +1,6 @@
 ghost use Rattle.std.specs.Prelude.{◌≡◌};
 ghost use Rattle.landing_rules.specs.Rules.{lists};
+ghost use Rattle.landing_rules.specs.Events.{named};
 ghost use Rattle.arrivals.specs.Seen.{flight_of};
 
 use arrivals::Flight;
@@ -14,7 +15,7 @@ pub struct Active {
     pub flight: Flight,
     /// The second at which it is frozen, if it is.
     pub frozen: Option<u32>,
-    /// How many flights behind it in first-come order were frozen ahead of it.
+    /// With the carry, how many flights behind it in first-come order were frozen ahead of it, counted up to k; else 0.
     pub passed: u8,
 }
 
@@ -53,6 +54,13 @@ fn lists(flight: &Flight, callsign: Callsign) -> bool
 }
 
 impl Active {
+    /// Whether it is the flight of the callsign.
+    pub fn is_named(&self, callsign: Callsign) -> bool
+        ensures { result ≡ named callsign self.now }
+    {
+        self.flight.callsign == callsign
+    }
+
     /// Whether the flight is to land behind that of the callsign.
     pub fn lists(&self, callsign: Callsign) -> bool
         ensures { result ≡ lists self.now.flight callsign }

@@ -8,7 +8,6 @@ ghost use Rattle.arrivals.specs.Seen.{event_of, flight_of};
 ghost use Rattle.landing_rules.specs.Rules.{last_second};
 ghost use Rattle.situations.specs.Seen.{AreApart};
 
-use crate::opening_refusal::is_named;
 use crate::{Active, Situation};
 use arrivals::{Event, Flight};
 use cps_base::Callsign;
@@ -31,7 +30,7 @@ fn estimate_last(all: &mut [Active], callsign: Callsign, eta: u32, windows: &Win
     requires { AreApart all.old }
     ensures { all.new ≡ map (estimated callsign eta windows.now) all.old }
 {
-    if let Some(place) = all.iter().rposition(|active| is_named(active, callsign)) {
+    if let Some(place) = all.iter().rposition(|active| active.is_named(callsign)) {
         estimate_one(&mut all[place], eta, windows);
     }
 }
@@ -44,7 +43,7 @@ impl Situation {
               self.old.active;
         } }
     {
-        self.active.retain(|a| !is_named(a, callsign));
+        self.active.retain(|a| !a.is_named(callsign));
     }
 
     // The flight has this estimate and these windows.

@@ -3,7 +3,7 @@ ghost use Rattle.std.specs.Prelude.{◌≡◌, ◌+◌, ◌<◌, ◌≤◌, ◌+
 ghost use Rattle.std.specs.Ordering.{is_lt};
 ghost use Rattle.landing_rules.specs.Flights.{landing};
 ghost use Rattle.landing_rules.specs.Rules.{last_second, first_come_cmp};
-ghost use Rattle.landing_rules.specs.Events.{frozen_before};
+ghost use Rattle.landing_rules.specs.Events.{active_after_clock};
 ghost use Rattle.situations.specs.Freezes.{arrival_if, freezing, behind, count_after, frozen_one, IsFreezeOf};
 ghost use Rattle.situations.specs.Seen.{fixed_of};
 
@@ -153,7 +153,7 @@ impl Situation {
     fn freeze_by(&mut self, alloc: Global, seconds: &[u32], h: u32) -> Result<(), AllocError>
         requires { length seconds.now ≡ length self.old.active }
         ensures { OnOk result (self.new ≡ record self.old {
-          active = frozen_before
+          active = active_after_clock
               self.old.aerodrome h self.old.active (Some seconds.now);
         }) }
     {
@@ -190,7 +190,7 @@ impl Situation {
         requires second { now ≤ last_second }
         ensures { OnOk result (self.new ≡ record self.old {
           clock = Some now;
-          active = frozen_before self.old.aerodrome (now + self.old.aerodrome.freeze)
+          active = active_after_clock self.old.aerodrome (now + self.old.aerodrome.freeze)
               self.old.active (option_map (λ p. p.now) plan.entry);
         }) }
     {

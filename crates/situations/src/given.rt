@@ -3,12 +3,10 @@ ghost use Rattle.std.specs.Prelude.{◌≡◌, ◌+◌, ◌<◌, ◌≤◌, ◌&
 ghost use Rattle.landing_rules.specs.Limits.{most_flights};
 ghost use Rattle.landing_rules.specs.Rules.{is_open};
 ghost use Rattle.landing_rules.specs.Events.{named};
-ghost use Rattle.landing_rules.specs.Testing.{is_pair_separated};
-ghost use Rattle.landing_rules.specs.Audit.{are_apart};
 ghost use Rattle.situations.specs.Refused.{first_from, closed_at, clash_at, clash_from, is_not_before, lands_late, late_at, rule_fault};
 
 use crate::open_seconds::is_open;
-use crate::opening_refusal::is_named;
+use crate::separation::are_apart;
 use crate::{Active, OpeningFault};
 use arrivals::Aerodrome;
 use cps_base::Callsign;
@@ -48,31 +46,18 @@ fn first_closed(closures: &Closures, all: &[Given]) -> Option<OpeningFault>
         .map(|i| OpeningFault::FrozenClosed((i + 1) as u16))
 }
 
-// Whether the second landing is at least the table's time after the first, where it is not before it.
-fn is_pair_separated(table: &PairTable, f: &Given, g: &Given) -> bool
-    ensures { result ≡ is_pair_separated table.now f.now g.now }
-{
-    let leader = &f.active.flight;
-    let follower = &g.active.flight;
-    let apart = u64::from(table.sep(leader.category, follower.category));
-    leader.callsign == follower.callsign
-        || g.second < f.second
-        || u64::from(f.second) + apart <= u64::from(g.second)
-}
-
-// Whether two landings are the table's time apart, whichever is the earlier.
-fn are_apart(table: &PairTable, f: &Given, g: &Given) -> bool
-    ensures { result ≡ are_apart table.now f.now g.now }
-{
-    is_pair_separated(table, f, g) && is_pair_separated(table, g, f)
-}
-
 // The first landing behind place i that is not the table's time from the one that stands there.
 fn clash_of(table: &PairTable, i: usize, first: &Given, all: &[Given]) -> Option<OpeningFault>
     requires { (i ≤ length all.now) × (length all.now ≤ most_flights) }
     ensures { result ≡ first_from (clash_at table.now i first.now) (i + 1) (drop i all.now) }
 {
-    let place = all[i..].iter().position(|g| !are_apart(table, first, g));
+    let place = all[i..].iter().position(|g| !are_apart(
+        table,
+        &first.active,
+        first.second,
+        &g.active,
+        g.second,
+    ));
     place.map(|j| OpeningFault::FrozenSeparation(i as u16, (i + j + 1) as u16))
 }
 
@@ -90,7 +75,7 @@ fn first_clash(table: &PairTable, all: &[Given]) -> Option<OpeningFault>
 fn is_late(active: &Active, callsign: Callsign, second: u32) -> bool
     ensures { result ≡ (named callsign active.now && is_not_before second active.now.frozen) }
 {
-    is_named(active, callsign)
+    active.is_named(callsign)
         && match active.frozen {
             None => true,
             Some(at) => second <= at,

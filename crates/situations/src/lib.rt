@@ -11,6 +11,7 @@ mod open_seconds;
 mod opening_refusal;
 mod refusal;
 mod refuse;
+mod separation;
 mod situation;
 
 pub use active::Active;
@@ -18,4 +19,5 @@ pub use begin_fault::BeginFault;
 pub use open_seconds::is_open;
 pub use opening_refusal::{OpeningFault, opening_fault};
 pub use refusal::Refusal;
+pub use separation::are_apart;
 pub use situation::{Fixed, Situation};

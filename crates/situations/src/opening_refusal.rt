@@ -80,25 +80,18 @@ pub(crate) fn active_of(
         .collect(alloc)
 }
 
-// Whether it is the flight of the callsign.
-pub(crate) fn is_named(active: &Active, callsign: Callsign) -> bool
-    ensures { result ≡ named callsign active.now }
-{
-    active.flight.callsign == callsign
-}
-
 // The first flight of the callsign.
 fn find_named(active: &[Active], callsign: Callsign) -> Option<&Active>
     ensures { option_map (λ a. a.now) result ≡ find (named callsign) active.now }
 {
-    active.iter().find(|a| is_named(a, callsign))
+    active.iter().find(|a| a.is_named(callsign))
 }
 
 // Whether a flight has the callsign.
 pub(crate) fn is_there(active: &[Active], callsign: Callsign) -> bool
     ensures { result ≡ list_any (named callsign) active.now }
 {
-    active.iter().any(|a| is_named(a, callsign))
+    active.iter().any(|a| a.is_named(callsign))
 }
 
 // Whether a waiting flight has the callsign.
@@ -107,7 +100,7 @@ fn is_waiting_there(active: &[Active], callsign: Callsign) -> bool
 {
     active
         .iter()
-        .any(|a| is_named(a, callsign) && a.frozen.is_none())
+        .any(|a| a.is_named(callsign) && a.frozen.is_none())
 }
 
 // The first entry of `frozen` that names no flight.
@@ -185,13 +178,17 @@ fn given_landing(active: &[Active], entry: FrozenLanding) -> Result<Option<Given
 }
 
 // The frozen landings of the file, in its order.
-fn given(alloc: Global, active: &[Active], frozen: &FrozenList) -> Result<Vec<Given>, AllocError>
+fn given(
+    alloc: Global,
+    active: &[Active],
+    frozen: &[FrozenLanding],
+) -> Result<Vec<Given>, AllocError>
     ensures value { IfOk result (λ all. all.items ≡ given active.now frozen.now) }
     ensures few { IfOk result (λ all. length all.items ≤ length frozen.now) }
 {
     let mut all = Vec::with_capacity(alloc, frozen.len())?;
-    for i in 0..frozen.len() {
-        if let Some(landing) = given_landing(active, frozen.at(i))? {
+    for entry in frozen {
+        if let Some(landing) = given_landing(active, *entry)? {
             all.push(landing)?;
         }
     }
@@ -214,6 +211,6 @@ pub fn opening_fault(
     if let Some(fault) = name_fault(aerodrome, &active) {
         return Ok(Some(fault));
     }
-    let given = given(alloc, &active, &aerodrome.frozen)?;
+    let given = given(alloc, &active, aerodrome.frozen.entries())?;
     Ok(rule_fault(aerodrome, &active, &given))
 }

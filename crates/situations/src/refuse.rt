@@ -11,7 +11,7 @@ ghost use Rattle.situations.specs.Answers.{IsAnswer};
 ghost use Rattle.situations.specs.Seen.{AreApart};
 ghost use Rattle.situations.specs.Finds.{first_frozen_listing, earliest_covered, earlier_of};
 
-use crate::opening_refusal::{count_waiting, is_named, is_there};
+use crate::opening_refusal::{count_waiting, is_there};
 use crate::{Active, Refusal, Situation};
 use arrivals::{Event, Flight};
 use cps_base::Callsign;
@@ -129,7 +129,7 @@ fn find_last(active: &[Active], callsign: Callsign) -> Option<&Active>
     requires { AreApart active.now }
     ensures { option_map (λ a. a.now) result ≡ find (named callsign) active.now }
 {
-    active.iter().rev().find(|a| is_named(a, callsign))
+    active.iter().rev().find(|a| a.is_named(callsign))
 }
 
 impl Situation {

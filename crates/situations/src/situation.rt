@@ -1,4 +1,4 @@
-ghost use Rattle.std.specs.Prelude.{◌≡◌, ◌<◌, ◌≤◌, [], All, IfOk, None, Some, length, option_map, slice_get};
+ghost use Rattle.std.specs.Prelude.{◌≡◌, ◌≤◌, [], All, IfOk, None, length};
 ghost use Rattle.wake_table.specs.Table.{IsWakeTable};
 ghost use Rattle.landing_rules.specs.Flights.{horizon};
 ghost use Rattle.landing_rules.specs.Limits.{longest_freeze, most_closures};
@@ -113,43 +113,11 @@ impl Situation {
         &self.closures
     }
 
-    /// How many flights are active.
-    pub fn len(&self) -> usize
-        ensures { result ≡ length self.now.active }
-    {
-        self.active.len()
-    }
-
     /// The flights in order of arrival.
     pub fn flights(&self) -> &[Active]
         ensures { result.now ≡ self.now.active }
     {
         &self.active
-    }
-
-    /// The i-th flight in order of arrival, counted from 0.
-    pub fn flight(&self, i: usize) -> &Flight
-        requires { i < length self.now.active }
-        ensures { option_map (λ a. a.flight) (slice_get self.now.active i)
-            ≡ Some (flight_of result.now) }
-    {
-        &self.active[i].flight
-    }
-
-    /// The second at which the i-th flight is frozen, if it is.
-    pub fn frozen(&self, i: usize) -> Option<u32>
-        requires { i < length self.now.active }
-        ensures { option_map (λ a. a.frozen) (slice_get self.now.active i) ≡ Some result }
-    {
-        self.active[i].frozen
-    }
-
-    /// How many flights behind the i-th in first-come order were frozen ahead of it: 0 to k where it waits.
-    pub fn passed(&self, i: usize) -> u8
-        requires { i < length self.now.active }
-        ensures { option_map (λ a. a.passed) (slice_get self.now.active i) ≡ Some result }
-    {
-        self.active[i].passed
     }
 
     /// The second before which no waiting flight may land: 0 without a clock second, and else at most 179,999.
@@ -177,7 +145,7 @@ fn known(flight: &Flight)
 fn all_known(flights: &[Flight])
     ensures { All (λ f. IsKept (flight_of f)) flights.now }
 {
-    for i in 0..flights.len() {
-        known(&flights[i]);
+    for flight in flights {
+        known(flight);
     }
 }

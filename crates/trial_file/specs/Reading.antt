@@ -5,6 +5,7 @@ use Rattle.csv_records.specs.Rows.{Fields, field, records_of}
 use Rattle.cps_base.specs.Number.{number_within}
 use Rattle.event_log.specs.declared.fault.FieldCause.TheVariants as field_cause
 use Rattle.event_log.specs.Spans.{span_in}
+use Rattle.trial_file.specs.Trials.{most_trials}
 use Rattle.trial_file.specs.declared.trial.Trial.{Trial}
 use Rattle.trial_file.specs.declared.trial.Trial.TheVariants.{Shift, Close}
 use Rattle.trial_file.specs.declared.fault.TrialCause.{TrialCause}
@@ -34,7 +35,7 @@ trial_by kind text =
 unfoldable pub trial_in : ℕ → Fields → Result Trial TrialCause
 trial_in n r =
     if not (length r == 2) then Err cause.FieldCount
-    else (trial_by (field r 0) (field r 1) >>= (λ t. if nat_le 16 n then Err cause.TooMany else Ok t))
+    else (trial_by (field r 0) (field r 1) >>= (λ t. if nat_le most_trials n then Err cause.TooMany else Ok t))
 
 -- the first record is not the header
 abbrev pub header_fault : TrialFault

@@ -17,7 +17,7 @@ pub enum TrialCause {
     /// The second field is not what the kind wants.
     #[error("not what the kind of trial wants")]
     Value(FieldCause),
-    /// 16 trials came before.
+    /// `MOST_TRIALS` trials came before.
     #[error("too many trials")]
     TooMany,
     /// Memory ran out.

@@ -6,5 +6,5 @@ mod reading;
 mod trial;
 
 pub use fault::{TrialCause, TrialFault};
-pub use reading::read_trials;
+pub use reading::{MOST_TRIALS, read_trials};
 pub use trial::Trial;

@@ -2,7 +2,7 @@ ghost use Rattle.std.specs.Prelude.{◌≡◌, [], ◌≤◌, ◌<◌, All, OnOk
 ghost use Rattle.csv.specs.Records.{fields_of};
 ghost use Rattle.cps_base.specs.Answers.{GivesAs};
 ghost use Rattle.trial_file.specs.Answers.{memory_fault};
-ghost use Rattle.trial_file.specs.Trials.{IsGood};
+ghost use Rattle.trial_file.specs.Trials.{most_trials, IsGood};
 ghost use Rattle.trial_file.specs.Reading.{is_header, shift_in, close_in, trial_by, trial_in, and_in, trials_in, trials_by, trials_of};
 
 use crate::fault::{TrialCause, TrialFault};
@@ -12,6 +12,9 @@ use csv::ByteRecord;
 use csv_records::{Records, field};
 use event_log::{FieldCause, read_span};
 use std::alloc::Global;
+
+/// How many trials a file may have.
+pub const MOST_TRIALS: usize = 16;
 
 // Whether a record is the header of the file.
 #[tactic(auto, unfolding(crate::specs::Reading::is_header))]
@@ -63,13 +66,13 @@ fn trial_by(kind: &[u8], text: &[u8]) -> Result<Trial, TrialCause>
 fn trial_in(before: usize, row: &ByteRecord) -> Result<Trial, TrialCause>
     ensures value { result ≡ trial_in before (fields_of row.now) }
     ensures good { IfOk result IsGood }
-    ensures room { IfOk result (λ _. before < 16) }
+    ensures room { IfOk result (λ _. before < most_trials) }
 {
     if row.len() != 2 {
         return Err(TrialCause::FieldCount);
     }
     let trial = trial_by(field(row, 0), field(row, 1))?;
-    if before >= 16 {
+    if before >= MOST_TRIALS {
         return Err(TrialCause::TooMany);
     }
     Ok(trial)
@@ -77,11 +80,11 @@ fn trial_in(before: usize, row: &ByteRecord) -> Result<Trial, TrialCause>
 
 // One more trial, behind those of the records before.
 fn add_trial(all: &mut Vec<Trial>, row: &ByteRecord) -> Result<(), TrialFault>
-    requires few { vec_len all.old ≤ 16 }
+    requires few { vec_len all.old ≤ most_trials }
     requires good { All IsGood all.old.items }
     ensures value { GivesAs memory_fault (λ _. all.new.items) result (and_in all.old.items
         (fields_of row.now)) }
-    ensures few { OnOk result (vec_len all.new ≤ 16) }
+    ensures few { OnOk result (vec_len all.new ≤ most_trials) }
     ensures good { OnOk result (All IsGood all.new.items) }
 {
     match trial_in(all.len(), row) {
@@ -104,7 +107,7 @@ fn trials_in(
     row: &mut ByteRecord,
 ) -> Result<Vec<Trial>, TrialFault>
     ensures value { GivesAs memory_fault (λ v. v.items) result (trials_in [] records.old) }
-    ensures few { IfOk result (λ v. vec_len v ≤ 16) }
+    ensures few { IfOk result (λ v. vec_len v ≤ most_trials) }
     ensures good { IfOk result (λ v. All IsGood v.items) }
 {
     let mut trials = Vec::new(alloc);
@@ -118,7 +121,7 @@ fn trials_in(
 #[tactic(auto, unfolding(crate::specs::Reading::trials_by))]
 fn trials_by(alloc: Global, records: &mut Records) -> Result<Vec<Trial>, TrialFault>
     ensures value { GivesAs memory_fault (λ v. v.items) result (trials_by records.old) }
-    ensures few { IfOk result (λ v. vec_len v ≤ 16) }
+    ensures few { IfOk result (λ v. vec_len v ≤ most_trials) }
     ensures good { IfOk result (λ v. All IsGood v.items) }
 {
     let mut row = ByteRecord::new(alloc);
@@ -128,12 +131,12 @@ fn trials_by(alloc: Global, records: &mut Records) -> Result<Vec<Trial>, TrialFa
     trials_in(alloc, records, &mut row)
 }
 
-/// The trials of a file, or the first fault of its first record that has one. It stops at that record. There are at most 16
-/// trials, and their numbers are in their ranges.
+/// The trials of a file, or the first fault of its first record that has one. It stops at that record. There are at most
+/// `MOST_TRIALS` trials, and their numbers are in their ranges.
 #[tactic(auto, using(crate::proofs::Wide::trials_within))]
 pub fn read_trials(alloc: Global, bytes: &[u8]) -> Result<Vec<Trial>, TrialFault>
     ensures value { GivesAs memory_fault (λ v. v.items) result (trials_of bytes.now) }
-    ensures few { IfOk result (λ v. vec_len v ≤ 16) }
+    ensures few { IfOk result (λ v. vec_len v ≤ most_trials) }
     ensures good { IfOk result (λ v. All IsGood v.items) }
 {
     let mut records = Records::new(alloc, bytes, 2);

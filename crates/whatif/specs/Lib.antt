@@ -2,4 +2,3 @@
 pub mod Outcomes
 pub mod Laws
 pub mod Text
-pub mod shared

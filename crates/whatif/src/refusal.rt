@@ -2,21 +2,11 @@
 ghost use Rattle.std.specs.Prelude.{◌≡◌, ◌≤◌, Some, length};
 ghost use Rattle.landing_rules.specs.Events as rules;
 ghost use Rattle.landing_rules.specs.Limits.{most_waiting};
-ghost use Rattle.arrivals.specs.Aerodromes.{is_beyond};
 ghost use Rattle.whatif.specs.Outcomes.{first_above, shift_refusal, closure_refusal, found_refusal};
 
 use crate::outcome::TrialRefusal;
-use arrivals::{Aerodrome, Event, PassedList};
-use landing_rules::Objective;
+use arrivals::{Aerodrome, Event, PassedList, is_beyond};
 use situations::{Refusal, Situation};
-
-// Whether the objective does not take this limit of shift.
-fn is_beyond(aerodrome: &Aerodrome, k: u8) -> bool
-    ensures { result ≡ is_beyond aerodrome.now.version k aerodrome.now.objective }
-{
-    let most = if aerodrome.version == 1 { 1 } else { 2 };
-    aerodrome.objective == Objective::Delay && k > most
-}
 
 // The first passed-over count above the limit of shift, counted from 1.
 fn first_above(passed: &PassedList, k: u8) -> Option<u8>
@@ -35,7 +25,7 @@ pub(crate) fn shift_refusal(aerodrome: &Aerodrome, k: u8) -> Option<TrialRefusal
     requires { length aerodrome.now.passed ≤ most_waiting }
     ensures { result ≡ shift_refusal aerodrome.now k }
 {
-    if is_beyond(aerodrome, k) {
+    if is_beyond(aerodrome.version, k, aerodrome.objective) {
         return Some(TrialRefusal::DelayShift(k));
     }
     match first_above(&aerodrome.passed, k) {

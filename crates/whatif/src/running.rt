@@ -5,7 +5,7 @@ ghost use Rattle.landing_rules.specs.Rules.{last_second};
 ghost use Rattle.cps_problem.specs.Plans.{IsWithinShift};
 ghost use Rattle.landing_rules.specs.Sound.{IsSound};
 ghost use Rattle.trial_file.specs.declared.trial.Trial.TheVariants.{Shift, Close};
-ghost use Rattle.trial_file.specs.Trials.{IsGood};
+ghost use Rattle.trial_file.specs.Trials.{IsGood, most_trials};
 ghost use Rattle.situations.specs.Refused.{IsOpenable};
 ghost use Rattle.whatif.specs.Outcomes.{HasLeast, IsOutcomeOf, IsAnswerAt, AreOutcomes};
 ghost use Rattle.situations.specs.Opened.{opened};
@@ -142,7 +142,7 @@ pub fn run_trials<R: Threads + Sync, G: Gate + Sync>(
 ) -> Result<Vec<Outcome>, AllocError>
     requires opens { IsOpenable aerodrome.now flights.now }
     requires good { All IsGood trials.now }
-    requires few { length trials.now ≤ 16 }
+    requires few { length trials.now ≤ most_trials }
     ensures value { IfOk result (λ v. AreOutcomes aerodrome.now flights.now trials.now v.items) }
     ensures few { IfOk result (λ v. length v.items ≤ 17) }
 {

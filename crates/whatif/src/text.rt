@@ -1,6 +1,7 @@
 //! What is printed of the outcomes of trials.
 
 ghost use Rattle.std.specs.Prelude.{◌≡◌, ◌++◌, ◌≤◌, length, decimal, OnOk};
+ghost use Rattle.trial_file.specs.Trials.{most_trials};
 ghost use Rattle.whatif.specs.Text.{covered_words, cause_words, outcome_words, trial_line, trial_lines, outcomes_text};
 
 use crate::outcome::{Outcome, TrialRefusal};
@@ -70,7 +71,7 @@ fn append_trial(number: u8, outcome: &Outcome, into: &mut Vec<u8>) -> Result<(),
 
 // The lines of the trials.
 fn append_trials(outcomes: &[Outcome], into: &mut Vec<u8>) -> Result<(), AllocError>
-    requires { length outcomes.now ≤ 16 }
+    requires { length outcomes.now ≤ most_trials }
     ensures { OnOk result (into.new.items ≡ into.old.items ++ trial_lines 1 outcomes.now) }
 {
     let mut number = 1;

@@ -20,10 +20,13 @@ pub(crate) fn needed_text<'a>(table: &'a Table, key: &str) -> Result<&'a str> {
     }
 }
 
-fn number_of(value: &Value) -> Result<u32> {
-    match value.as_integer() {
-        Some(number) => Ok(u32::try_from(number)?),
-        None => bail!("a number is wanted"),
+fn number_of(key: &str, value: &Value) -> Result<u32> {
+    let Some(number) = value.as_integer() else {
+        bail!("{key} is no number");
+    };
+    match u32::try_from(number) {
+        Ok(number) => Ok(number),
+        Err(_) => bail!("{key} is out of range"),
     }
 }
 
@@ -31,7 +34,7 @@ fn number_of(value: &Value) -> Result<u32> {
 pub(crate) fn number_at(table: &Table, key: &str) -> Result<Option<u32>> {
     match table.get(key) {
         None => Ok(None),
-        Some(value) => Ok(Some(number_of(value)?)),
+        Some(value) => Ok(Some(number_of(key, value)?)),
     }
 }
 
@@ -56,17 +59,17 @@ pub(crate) fn items_at<'a>(table: &'a Table, key: &str) -> Result<&'a [Value]> {
 pub(crate) fn numbers_at(alloc: Global, table: &Table, key: &str) -> Result<Vec<u32>> {
     let mut numbers = Vec::new(alloc);
     for item in items_at(table, key)? {
-        numbers.push(number_of(item)?)?;
+        numbers.push(number_of(key, item)?)?;
     }
     Ok(numbers)
 }
 
-fn pair_of(value: &Value) -> Result<(u32, u32)> {
+fn pair_of(key: &str, value: &Value) -> Result<(u32, u32)> {
     match value {
         Value::Array(items) if items.len() == 2 => {
-            Ok((number_of(&items[0])?, number_of(&items[1])?))
+            Ok((number_of(key, &items[0])?, number_of(key, &items[1])?))
         }
-        _ => bail!("a pair of numbers is wanted"),
+        _ => bail!("{key} has an item that is no pair of numbers"),
     }
 }
 
@@ -74,7 +77,7 @@ fn pair_of(value: &Value) -> Result<(u32, u32)> {
 pub(crate) fn pairs_at(alloc: Global, table: &Table, key: &str) -> Result<Vec<(u32, u32)>> {
     let mut pairs = Vec::new(alloc);
     for item in items_at(table, key)? {
-        pairs.push(pair_of(item)?)?;
+        pairs.push(pair_of(key, item)?)?;
     }
     Ok(pairs)
 }

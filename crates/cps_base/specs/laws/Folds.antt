@@ -1,11 +1,12 @@
--- What a `fold` keeps, by the number of elements so far: std says it of a run of calls.
-use Rattle.std.proofs.Common.{◌≡◌, ℕ, suc, ◌+◌, ◌-◌, ◌<◌, ◌≤◌, List, [], ◌∷◌, map, length, Option, Some, refl, sym, ap, subst, ◌∙◌, arith}
+-- What a `fold` keeps, by the number of elements so far, and what it makes from the last element on: std says it of a run of calls.
+use Rattle.std.proofs.Common.{◌≡◌, ℕ, suc, ◌+◌, ◌-◌, ◌<◌, ◌≤◌, List, [], ◌∷◌, map, length, fold, reverse, Option, Some, refl, sym, ap, subst, ◌∙◌, arith}
 use Rattle.std.specs.Prelude.{slice_get}
 use Rattle.std.specs.List.{FoldsTo, range_with_len}
 use Rattle.std.specs.Iterator.{Drains}
 use Rattle.std.proofs.lemmas.Iterator.{YieldsList, items_from_drains, YieldsList-from_range}
 use Rattle.std.proofs.lemmas.Option.{slice_get-map, slice_get_within, get_or_from_slice_get}
-use Rattle.std.proofs.lemmas.List.{length-map}
+use Rattle.std.proofs.lemmas.List.{length-map, reverse-append}
+use Rattle.std.proofs.lemmas.List.Sums.{fold_push}
 use Rattle.std.specs.Option.{option_map}
 use Rattle.std.specs.declared.ops.Range.{Range}
 use Rattle.std.proofs.iter.Yields.{nat_range_steps}
@@ -62,3 +63,12 @@ module _ {C F : Type 0} {g : Mut F (C × (ℕ × Unit {0})) C} (f : F) {s : Rang
       (more.0, subst (λ n. J n c) (omega arith) more.1)) in
       let long = length-range_with_len from (to - from) in
       subst (λ n. J n r) (omega arith) kept
+
+-- what is made from the last element on, where it is said by the first element and what is made of the others
+pub fold_from_back : {X B : Type 0} (step : B → X → B) (none : B) (answer : List X → B) → answer [] ≡ none
+    → ((x : X) (xs : List X) → answer (x ∷ xs) ≡ step (answer xs) x)
+    → (xs : List X) → fold step none (reverse xs) ≡ answer xs
+fold_from_back step none answer nothing more [] = sym nothing
+fold_from_back step none answer nothing more (x ∷ xs) =
+    ap (fold step none) (reverse-append (x ∷ []) xs) ∙ fold_push step none (reverse xs) x
+    ∙ ap (λ b. step b x) (fold_from_back step none answer nothing more xs) ∙ sym (more x xs)

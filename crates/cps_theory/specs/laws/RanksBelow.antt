@@ -1,5 +1,5 @@
 -- The ranks up to a count: a fold that goes up through them, how many they are, and the greatest of their seconds.
-use Rattle.std.proofs.Common.{◌≡◌, ℕ, zero, suc, ◌+◌, ◌-◌, ◌≤◌, ◌∷◌, arith, sym, ap, ◌∙◌, inl, inr, length, cond, refl, ltb}
+use Rattle.std.proofs.Common.{◌≡◌, ℕ, zero, suc, ◌+◌, ◌≤◌, ◌∷◌, arith, ap, ◌∙◌, inl, inr, length, cond, refl, ltb}
 use Rattle.std.proofs.lemmas.Bool.{cases_eq, lt-ltb, le-ltb}
 use Rattle.std.specs.List.{fold, range_with_len}
 use Rattle.cps_theory.specs.RankLists.{In, IsRank, upto}
@@ -13,10 +13,6 @@ ranks_folded step so_far more n = from n 0 1 n (omega arith) (omega arith)
     from : (m a b c : ℕ) → b ≡ suc a → c ≡ m + a → fold step (so_far a) (range_with_len b m) ≡ so_far c
     from zero a b c e is = ap so_far (omega arith)
     from (suc m) a b c e is = ap (λ x. fold step x (range_with_len (b + 1) m)) (ap (step (so_far a)) e ∙ more a) ∙ from m (suc a) (b + 1) c (omega arith) (omega arith)
-
-pub upto_more : (x : ℕ) → 1 ≤ x → upto (x + 1 - 1) ≡ x ∷ upto (x - 1)
-upto_more zero one = absurd (omega arith)
-upto_more (suc x) one = let a : suc x + 1 - 1 ≡ suc x = omega arith in let b : suc x - 1 ≡ x = omega arith in ap upto a ∙ ap (λ (y : ℕ). suc x ∷ upto y) (sym b)
 
 pub greatest_least : (t : ℕ → ℕ) (n m : ℕ) → ((r : ℕ) → IsRank n r → t r ≤ m) → greatest t n ≤ m
 greatest_least t zero m h = omega arith

@@ -1,4 +1,4 @@
-use Rattle.std.proofs.Common.{◌≡◌, ℕ, Bool, true, false, List, [], ◌+◌, ◌||◌, ◌∷◌, ◌++◌, get_or, map, drop, refl, sym, ap, ap₂, ◌∙◌}
+use Rattle.std.proofs.Common.{◌≡◌, ℕ, Bool, true, false, List, [], ◌+◌, ◌||◌, ◌∷◌, ◌++◌, map, drop, refl, sym, ap, ◌∙◌}
 use Rattle.std.specs.Str.{bytes_eq}
 use Rattle.std.proofs.lemmas.List.{at_drop_all}
 use Rattle.landing_rules.specs.Audit.{has_line, twice, twice_after}
@@ -10,25 +10,23 @@ use Rattle.audit.proofs.SeenNames.{twice_step, seen_step}
 use Rattle.audit.proofs.AtEnd.{at_end}
 use Rattle.audit.proofs.names.twice.Goals as goal
 
-pub loop-i-preserved : goal.loop-i-preserved
-loop-i-preserved c =
+pub loop-line-preserved : goal.loop-line-preserved
+loop-line-preserved c =
     let lines = c.args.lines.now in
-    let i = c.loop-i.i in
-    let l = c.index-lines-i.result in
-    let kept = c.loop-i.invariant in
-    let above = kept.0 in
-    let callsign : List ℕ = (get_or lines i l).callsign in
-    let name : callsign ≡ l.callsign = ap (λ (x : Landing). x.callsign) (sym c.index-lines-i.is) in (
+    let i = c.loop-line.line-index in
+    let l = c.line-item.result in
+    let kept = c.loop-line.invariant in
+    let above = kept.0 in (
       shown_of l ∷ above,
-      λ d. c.in_ok-was_seen.ensures.more d ∙ ap (λ (n : List ℕ). bytes_eq n d || has_name c.loop-i.seen d) name ∙ ap (λ b. bytes_eq l.callsign d || b) (kept.1 d),
-      λ d. seen_step lines i l above d _ c.loop-i-test.true c.index-lines-i.is (kept.2 d),
+      λ d. c.in_ok-was_seen.ensures.more d ∙ ap (λ b. bytes_eq l.callsign d || b) (kept.1 d),
+      λ d. seen_step lines i l above d _ c.loop-line-test.true c.line-item.is (kept.2 d),
       ap (λ x. x ++ twice_after (shown_of l ∷ above) (map shown_of (drop (i + 1) lines))) c.in_ok-note.ensures
-          ∙ twice_step lines i l above (map finding_of c.loop-i.all.items) (repeated c.in_ok-was_seen.was_seen callsign) (twice (map shown_of lines))
-          c.loop-i-test.true c.index-lines-i.is (ap₂ repeated (c.in_ok-was_seen.ensures.was ∙ ap (has_name c.loop-i.seen) name ∙ kept.1 l.callsign) name) kept.3,
+          ∙ twice_step lines i l above (map finding_of c.loop-line.all.items) (repeated c.in_ok-was_seen.was_seen l.callsign) (twice (map shown_of lines))
+          c.loop-line-test.true c.line-item.is (ap (λ b. repeated b l.callsign) (c.in_ok-was_seen.ensures.was ∙ kept.1 l.callsign)) kept.3,
     )
 
-pub loop-i-init : goal.loop-i-init
-loop-i-init c = (
+pub loop-line-init : goal.loop-line-init
+loop-line-init c = (
   [],
   λ d. ap (λ (s : List (List ℕ)). has_name s d) c.requires,
   λ d. refl,
@@ -37,8 +35,8 @@ loop-i-init c = (
 
 pub returns-clause-found : goal.returns-clause-found
 returns-clause-found c =
-    let kept = c.loop-i.invariant in
-    at_end (map finding_of c.loop-i.all.items) (λ ls. twice_after kept.0 (map shown_of ls)) c.args.lines.now c.loop-i.i _ c.loop-i-test.false refl kept.3
+    let kept = c.loop-line.invariant in
+    at_end (map finding_of c.loop-line.all.items) (λ ls. twice_after kept.0 (map shown_of ls)) c.args.lines.now c.loop-line.line-index _ c.loop-line-test.false refl kept.3
 
 or-none : (b : Bool) → b ≡ (b || false)
 or-none true = refl
@@ -46,6 +44,6 @@ or-none false = refl
 
 pub returns-clause-seen : goal.returns-clause-seen
 returns-clause-seen c d =
-    let kept = c.loop-i.invariant in
+    let kept = c.loop-line.invariant in
     let left = λ (ls : List Landing). has_line (map shown_of ls) d in
-    kept.1 d ∙ or-none (has_line kept.0 d) ∙ ap (λ b. has_line kept.0 d || b) (sym (at_drop_all left c.args.lines.now c.loop-i.i c.loop-i-test.false)) ∙ kept.2 d
+    kept.1 d ∙ or-none (has_line kept.0 d) ∙ ap (λ b. has_line kept.0 d || b) (sym (at_drop_all left c.args.lines.now c.loop-line.line-index c.loop-line-test.false)) ∙ kept.2 d

@@ -6,7 +6,7 @@ use Rattle.audit.specs.Findings.{finding_of}
 use Rattle.audit.proofs.rules.late.Given as goal
 
 -- what is found so far, and what is left to find
-abbrev pub invariant-loop-i : goal.invariant-loop-i
-invariant-loop-i l =
-    map finding_of l.all.items ++ flat_map (λ (d : Landing). flat_map (listed_late (map landing_of l.found) d) d.flight.after) (map landing_of (drop l.i l.found))
+abbrev pub invariant-loop-d : goal.invariant-loop-d
+invariant-loop-d l =
+    map finding_of l.all.items ++ flat_map (λ (d : Landing). flat_map (listed_late (map landing_of l.found) d) d.flight.after) (map landing_of (drop l.d-index l.found))
     ≡ late (map landing_of l.found)

@@ -1,4 +1,4 @@
-use Rattle.std.proofs.Common.{Bor, ◌≡◌, ◌<◌, ◌+◌, ◌++◌, List, length, get_or, map, drop, refl, ap, ◌∙◌, arith}
+use Rattle.std.proofs.Common.{Bor, ◌≡◌, ◌<◌, ◌+◌, ◌++◌, List, length, get_or, map, drop, refl, sym, ap, ◌∙◌, arith}
 use Rattle.std.proofs.lemmas.List.{length-map}
 use Rattle.landing_rules.specs.Flights.{Active, Landing}
 use Rattle.landing_rules.specs.Text.{ShownLanding}
@@ -7,13 +7,19 @@ use Rattle.audit.specs.Findings.{finding_of, too_far}
 use Rattle.audit.proofs.Shifting.{seen_at, shift_step, too_far_from}
 use Rattle.audit.proofs.shift.shifted.Goals as goal
 
-pub loop-i-preserved : goal.loop-i-preserved
-loop-i-preserved c =
-    let items = c.in_ok-waiting.waiting.items in
-    let all : List Landing = map (λ (g : Bor (ShownLanding × Active)). landing_of g.now) items in
-    let f : Landing = landing_of c.index.result.now.now in
+abbrev seen : List (Bor (ShownLanding × Active)) → List Landing
+seen gs = map (λ (g : Bor (ShownLanding × Active)). landing_of g.now) gs
+
+pub loop-f-preserved : goal.loop-f-preserved
+loop-f-preserved c =
+    let items : List (Bor (ShownLanding × Active)) = c.deref-f-items.result.now in
+    let all : List Landing = seen items in
+    let done = map finding_of c.loop-f.all.items in
+    let i = c.loop-f.f-index in
+    let x = c.f-item.result in
+    let f : Landing = landing_of x.now in
     let n = length-map items (λ (g : Bor (ShownLanding × Active)). landing_of g.now) in
-    let within : c.loop-i.i < length items = let b = c.loop-i-test.true in let l = c.len-i-end.ensures in let v = c.in_ok-waiting.waiting.ok.0 in omega arith in
-    let is : f ≡ get_or all c.loop-i.i f = seen_at (λ (g : Bor (ShownLanding × Active)). landing_of g.now) items c.loop-i.i c.index.result.now within c.index.ensures in
-    ap (λ x. x ++ too_far_from c.args.k all (drop (c.loop-i.i + 1) all)) c.in_ok-note.ensures
-    ∙ shift_step c.args.k all c.loop-i.i f (map finding_of c.loop-i.all.items) (too_far c.args.k all f) (shifted c.args.k all) (omega (arith, n, within)) is refl c.loop-i.invariant
+    let within : i < length items = c.loop-f-test.true in
+    let is : f ≡ get_or all i f = seen_at (λ (g : Bor (ShownLanding × Active)). landing_of g.now) items i x within c.f-item.is in
+    ap (λ l. l ++ too_far_from c.args.k all (drop (i + 1) all)) (c.in_ok-note.ensures ∙ ap (λ gs. done ++ too_far c.args.k (seen gs) f) (sym c.deref-f-items.ensures.value))
+    ∙ shift_step c.args.k all i f done (too_far c.args.k all f) (shifted c.args.k all) (omega (arith, n, within)) is refl c.loop-f.invariant

@@ -5,7 +5,7 @@ use Rattle.audit.proofs.Shifting.{too_far_from}
 use Rattle.audit.proofs.shift.shifted.Given as goal
 
 -- what is found so far, and what is left to find
-abbrev pub invariant-loop-i : goal.invariant-loop-i
-invariant-loop-i l =
-    map finding_of l.all.items ++ too_far_from l.k (map (λ g. landing_of g.now) l.waiting.items) (drop l.i (map (λ g. landing_of g.now) l.waiting.items))
-    ≡ shifted l.k (map (λ g. landing_of g.now) l.waiting.items)
+abbrev pub invariant-loop-f : goal.invariant-loop-f
+invariant-loop-f l =
+    map finding_of l.all.items ++ too_far_from l.k (map (λ g. landing_of g.now) l.f-items) (drop l.f-index (map (λ g. landing_of g.now) l.f-items))
+    ≡ shifted l.k (map (λ g. landing_of g.now) l.f-items)

@@ -1,11 +1,13 @@
+use Rattle.std.proofs.Common.{sym, ap, ◌∙◌}
 use Rattle.sequencer.specs.Opened.{opened}
+use Rattle.situations.specs.Refused.{opening_fault}
 use Rattle.chart.specs.Held.{found_in}
 use Rattle.chart_main.proofs.Texts.{text_of}
 use Rattle.chart_main.proofs.drawing.draw_opened.Goals as goal
 
 pub returns : goal.returns
 returns c = record {
-  taken = c.in_ok-situation.ensures.openable;
+  taken = ap (opening_fault c.args.aerodrome) (sym c.as_slice.ensures.value) ∙ c.in_ok-situation.ensures.openable;
   prints = text_of (opened c.args.aerodrome c.args.flights.items) c.in_ok-situation.situation c.args.plan.now c.in_ok-drawn.drawn.elements.items (found_in c.in_ok-drawn.drawn)
-      c.new-text.result.items c.append_picture.new.into.items c.new-text.ensures.items c.in_ok-append_picture.ensures.ok c.in_ok-drawn.ensures.elements c.in_ok-drawn.ensures.found c.in_ok-situation.ensures.value;
+      c.new-text.result.items c.append_picture.new.into.items c.new-text.ensures.items c.in_ok-append_picture.ensures.ok c.in_ok-drawn.ensures.elements c.in_ok-drawn.ensures.found (c.in_ok-situation.ensures.value ∙ ap (opened c.args.aerodrome) c.as_slice.ensures.value);
 }

@@ -6,4 +6,4 @@ use Rattle.cps_network.proofs.permit.none_passed.Goals as goal
 pub returns : goal.returns
 returns c = λ all rank from to below above.
     (all_in_range (λ r. passed_at c.args.problem.now r ≡ 0) _ _ _ c.all.result (λ x b q h. search (rules, tests)) c.all.ensures.ran).0 all rank
-    (omega (arith, c.max-first.ensures, c.saturating_sub.ensures, c.most_shift-k.ensures.k, above, from)) (omega (arith, c.min-end.ensures, c.len-n.ensures.value, c.most_shift-k.ensures.k, below, to))
+    (omega (arith, c.reach-first.ensures.first, above, from)) (omega (arith, c.reach-first.ensures.end, below, to))

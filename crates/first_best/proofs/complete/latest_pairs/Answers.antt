@@ -1,9 +1,12 @@
-use Rattle.std.proofs.Common.{◌≡◌, ℕ, ◌+◌, ◌-◌, ◌*◌, ◌<◌, ◌≤◌, length, Option, sym, subst, arith}
+use Rattle.std.proofs.Common.{◌≡◌, ℕ, ◌+◌, ◌-◌, ◌*◌, ◌<◌, ◌≤◌, length, Option, Some, subst, arith}
 use Rattle.std.specs.Prelude.{IfSome}
+use Rattle.landing_rules.specs.Problem.{Problem}
 use Rattle.landing_rules.specs.Rules.{last_second}
-use Rattle.first_best.specs.Completing.{IsLeastOf, IsPairOf}
-use Rattle.first_best.proofs.ScanLemmas.{Scanned, cheaper, no_cheaper, nothing_here, scanned_all, scanned_free}
+use Rattle.first_best.proofs.ScanLemmas.{cheaper, no_cheaper, nothing_here, scanned_all, scanned_free}
 use Rattle.first_best.proofs.complete.latest_pairs.Goals as goal
+
+is_small : (p : Problem) (stage : ℕ) (o : Option ℕ) (cost : ℕ) → IfSome o (λ d. d ≤ 17279900 * (length p.flights - stage)) → o ≡ Some cost → cost ≤ 17279900 * (length p.flights - stage)
+is_small p stage o cost small e = subst (λ (o : Option ℕ). IfSome o (λ d. d ≤ 17279900 * (length p.flights - stage))) e small
 
 pub returns-then-least-eq0 : goal.returns-then-least-eq0
 returns-then-least-eq0 c =
@@ -13,52 +16,39 @@ returns-then-least-eq0 c =
 
 pub loop-second-preserved-in-None : goal.loop-second-preserved-in-None
 loop-second-preserved-in-None c =
-    let p = c.args.problem.now in
-    let nodes = c.args.next.now.nodes in
-    let lists = c.args.next.now.lists in
     let i = c.loop-second.invariant in
-    let second = c.loop-second.second - 1 in
-    let before : c.loop-second.second ≡ second + 1 = omega (arith, c.loop-second-test.true) in
-    let none = subst (λ (o : Option ℕ). IsLeastOf (λ d. IsPairOf p c.args.value c.args.stage c.args.node nodes lists (second, d)) o) c.in-None.is c.cost_of.ensures.least in (
+    let from = c.loop-second.second in
+    let before : from ≡ from - 1 + 1 = omega (arith, c.loop-second-test.true) in (
       i.0,
       i.1,
-      nothing_here p c.args.value c.args.budget c.args.stage c.args.node nodes lists i.0 i.1 second c.loop-second.least c.loop-second.pairs.items
-          (subst (λ (n : ℕ). Scanned p c.args.value c.args.budget c.args.stage c.args.node nodes lists i.0 i.1 n c.loop-second.least c.loop-second.pairs.items) before i.2) none,
+      nothing_here c.args.problem.now c.args.value c.args.budget c.args.stage c.args.node c.args.next.now.nodes c.args.next.now.lists i.0 i.1
+          from (from - 1) c.loop-second.least c.loop-second.pairs.items before i.2 c.cost_of.result c.cost_of.ensures.least c.in-None.is,
     )
 
 pub loop-second-preserved-then-from-least : goal.loop-second-preserved-then-from-least
 loop-second-preserved-then-from-least c =
-    let p = c.args.problem.now in
-    let nodes = c.args.next.now.nodes in
-    let lists = c.args.next.now.lists in
     let i = c.loop-second.invariant in
-    let second = c.loop-second.second - 1 in
+    let from = c.loop-second.second in
     let cost = c.in-Some.cost in
-    let before : c.loop-second.second ≡ second + 1 = omega (arith, c.loop-second-test.true) in
-    let scanned = subst (λ (n : ℕ). Scanned p c.args.value c.args.budget c.args.stage c.args.node nodes lists i.0 i.1 n c.loop-second.least c.loop-second.pairs.items) before i.2 in
-    let found = subst (λ (o : Option ℕ). IsLeastOf (λ d. IsPairOf p c.args.value c.args.stage c.args.node nodes lists (second, d)) o) c.in-Some.is c.cost_of.ensures.least in
-    let small = subst (λ (o : Option ℕ). IfSome o (λ d. d ≤ 17279900 * (length p.flights - c.args.stage))) c.in-Some.is c.cost_of.ensures.small in
+    let before : from ≡ from - 1 + 1 = omega (arith, c.loop-second-test.true) in
     let less : cost < c.loop-second.least = omega (arith, c.if-from-least.true, c.from.ensures) in
-    let in_days : second ≤ last_second = omega (arith, before, c.loop-second.auto.second, c.latest-end.ensures.in_days) in
-    let made = cheaper p c.args.value c.args.budget c.args.stage c.args.node nodes lists i.0 i.1 second c.loop-second.least c.loop-second.pairs.items scanned cost found less in_days small in
+    let in_days : from - 1 ≤ last_second = omega (arith, before, c.loop-second.auto.second, c.latest-end.ensures.in_days) in
+    let made = cheaper c.args.problem.now c.args.value c.args.budget c.args.stage c.args.node c.args.next.now.nodes c.args.next.now.lists i.0 i.1
+    from (from - 1) c.loop-second.least c.loop-second.pairs.items before i.2 c.cost_of.result c.cost_of.ensures.least cost c.in-Some.is less in_days (is_small c.args.problem.now c.args.stage c.cost_of.result cost c.cost_of.ensures.small c.in-Some.is) in
     (i.0, i.1, rw (c.from-least.ensures, c.in_ok-push-in-Some.ensures.items) made)
 
 pub loop-second-preserved : goal.loop-second-preserved
 loop-second-preserved c =
-    let p = c.args.problem.now in
-    let nodes = c.args.next.now.nodes in
-    let lists = c.args.next.now.lists in
     let i = c.loop-second.invariant in
-    let second = c.loop-second.second - 1 in
+    let from = c.loop-second.second in
     let cost = c.in-Some.cost in
-    let before : c.loop-second.second ≡ second + 1 = omega (arith, c.loop-second-test.true) in
-    let scanned = subst (λ (n : ℕ). Scanned p c.args.value c.args.budget c.args.stage c.args.node nodes lists i.0 i.1 n c.loop-second.least c.loop-second.pairs.items) before i.2 in
-    let found = subst (λ (o : Option ℕ). IsLeastOf (λ d. IsPairOf p c.args.value c.args.stage c.args.node nodes lists (second, d)) o) c.in-Some.is c.cost_of.ensures.least in
-    let small = subst (λ (o : Option ℕ). IfSome o (λ d. d ≤ 17279900 * (length p.flights - c.args.stage))) c.in-Some.is c.cost_of.ensures.small in
-    let dear : c.loop-second.least ≤ cost = omega (arith, c.if-from-least.false, c.from.ensures) in (
+    let before : from ≡ from - 1 + 1 = omega (arith, c.loop-second-test.true) in
+    let dear : c.loop-second.least ≤ cost = omega (arith, c.if-from-least.false, c.from.ensures) in
+    let small = is_small c.args.problem.now c.args.stage c.cost_of.result cost c.cost_of.ensures.small c.in-Some.is in (
       i.0,
       i.1,
-      no_cheaper p c.args.value c.args.budget c.args.stage c.args.node nodes lists i.0 i.1 second c.loop-second.least c.loop-second.pairs.items scanned cost found dear
+      no_cheaper c.args.problem.now c.args.value c.args.budget c.args.stage c.args.node c.args.next.now.nodes c.args.next.now.lists i.0 i.1
+          from (from - 1) c.loop-second.least c.loop-second.pairs.items before i.2 c.cost_of.result c.cost_of.ensures.least cost c.in-Some.is dear
           (omega (arith, small, c.len-few.ensures.well_formed.few_flights)),
     )
 

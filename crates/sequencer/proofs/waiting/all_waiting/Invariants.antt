@@ -5,5 +5,5 @@ use Rattle.cps_problem.specs.Seen.{waiting_of}
 use Rattle.sequencer.proofs.waiting.all_waiting.Given as goal
 
 -- the flights so far
-abbrev pub invariant-loop-i : goal.invariant-loop-i
-invariant-loop-i l = AllZip (IsWaitingOf l.closures) (take l.i (map (λ a. a.now) l.ranked.items)) (map waiting_of l.all.items)
+abbrev pub invariant-loop-active : goal.invariant-loop-active
+invariant-loop-active l = AllZip (IsWaitingOf l.closures) (take l.active-index (map (λ a. a.now) l.ranked.items)) (map waiting_of l.all.items)

@@ -3,5 +3,5 @@ use Rattle.situations.specs.Refused.{given}
 use Rattle.situations.proofs.opening_refusal.given.Given as goal
 
 -- those so far, and those that are left
-abbrev pub invariant-loop-i : goal.invariant-loop-i
-invariant-loop-i l = l.all.items ++ given l.active (drop l.i l.frozen) ≡ given l.active l.frozen
+abbrev pub invariant-loop-entry : goal.invariant-loop-entry
+invariant-loop-entry l = l.all.items ++ given l.active (drop l.entry-index l.frozen) ≡ given l.active l.frozen

@@ -6,10 +6,10 @@ use Rattle.arrivals.specs.Seen.{flight_of}
 use Rattle.situations.specs.Opened.{IsKept}
 use Rattle.situations.proofs.situation.all_known.Goals as goal
 
-pub loop-i-preserved : goal.loop-i-preserved
-loop-i-preserved c =
+pub loop-flight-preserved : goal.loop-flight-preserved
+loop-flight-preserved c =
     let fs = c.args.flights.now in
-    All-more (λ f. IsKept (flight_of f)) fs c.loop-i.i c.index-flights-i.result c.loop-i-test.true c.loop-i.invariant (subst (λ g. IsKept (flight_of g)) c.index-flights-i.is c.known.ensures)
+    All-more (λ f. IsKept (flight_of f)) fs c.loop-flight.flight-index c.flight-item.result c.loop-flight-test.true c.loop-flight.invariant (subst (λ g. IsKept (flight_of g)) c.flight-item.is c.known.ensures)
 
 pub returns : goal.returns
-returns c = subst (All (λ f. IsKept (flight_of f))) (take_all c.loop-i.i c.args.flights.now c.loop-i-test.false) c.loop-i.invariant
+returns c = subst (All (λ f. IsKept (flight_of f))) (take_all c.loop-flight.flight-index c.args.flights.now c.loop-flight-test.false) c.loop-flight.invariant

@@ -5,5 +5,5 @@ use Rattle.situations.specs.Opened.{IsKept}
 use Rattle.situations.proofs.situation.all_known.Given as goal
 
 -- those of the flights so far
-abbrev pub invariant-loop-i : goal.invariant-loop-i
-invariant-loop-i l = All (λ f. IsKept (flight_of f)) (take l.i l.flights)
+abbrev pub invariant-loop-flight : goal.invariant-loop-flight
+invariant-loop-flight l = All (λ f. IsKept (flight_of f)) (take l.flight-index l.flights)

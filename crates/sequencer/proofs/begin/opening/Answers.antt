@@ -8,7 +8,7 @@ use Rattle.arrivals.specs.declared.aerodrome.Aerodrome.{Aerodrome}
 use Rattle.arrivals.specs.Aerodromes.{IsInRange, is_delay, most_shift}
 use Rattle.cps_problem.specs.Plans.{IsWithinShift}
 use Rattle.situations.specs.Opened.{aerodrome_of}
-use Rattle.sequencer.proofs.begin.open.Goals as goal
+use Rattle.sequencer.proofs.begin.opening.Goals as goal
 
 -- the shift of an aerodrome's file is one that a planner is asked for
 most_two : (v : ℕ) → most_shift v ≤ 2

@@ -1,2 +1,0 @@
--- Lemmas that crates above cite too: how many outcomes there are.
-pub mod Few
