@@ -1,10 +1,11 @@
 -- Each status by its ending.
-use Rattle.std.proofs.Common.{◌≡◌, inl, inr, ℕ, List, [], ap, append-nil, take, drop, take-append-drop, arith}
+use Rattle.std.proofs.Common.{◌≡◌, ◌≢◌, ◌≤◌, ◌+◌, ◌⊎◌, inl, inr, ℕ, List, [], ap, sym, subst, append-nil, take, drop, take-append-drop, arith}
+use Rattle.endings.specs.declared.ending.Answer.{Answer}
 use Rattle.endings.specs.declared.ending.Answer.TheVariants.{Scheduled, Infeasible, Certified, Accepted, Rejected, Tried, Clean, Broken, Claimed}
 use Rattle.endings.specs.declared.ending.Ending.{Ending}
 use Rattle.endings.specs.declared.ending.Ending.TheVariants.{Answered, Misused, Refused, NotLoaded, NotWritten, TooLong, NoMemory}
-use Rattle.endings.specs.Lines.{status_of}
-use Rattle.cps_top.specs.Outcome.{Outside, Ends}
+use Rattle.endings.specs.Lines.{answer_status, status_of}
+use Rattle.cps_top.specs.Outcome.{Outside, Ends, Serves}
 use Rattle.cps_top.specs.Commands.{files_of}
 use Rattle.endings.specs.Loads.{AsksForSome, StopsAt, Loads}
 use Rattle.cps_outside.specs.FolderState.{FolderState}
@@ -16,117 +17,66 @@ loads_all old new names contents l = λ told. (names, [], append-nil names, l.as
 stops_some : (old new : FolderState) (names : List (List ℕ)) (place : ℕ) → StopsAt old new names place → AsksForSome old new names
 stops_some old new names place s = λ told. (take place names, drop place names, take-append-drop place names, s.asked told)
 
+-- a command that ran ends with none of these: no command, a load that failed, a file that is too long
+abbrev IsOfRun : ℕ → Type 0
+IsOfRun status = (status ≢ 2) × (status ≢ 4) × (status ≢ 6)
+
+answers : (answer : Answer) → IsOfRun (answer_status answer)
+answers Scheduled = (λ e. omega arith, λ e. omega arith, λ e. omega arith)
+answers Infeasible = (λ e. omega arith, λ e. omega arith, λ e. omega arith)
+answers Certified = (λ e. omega arith, λ e. omega arith, λ e. omega arith)
+answers Accepted = (λ e. omega arith, λ e. omega arith, λ e. omega arith)
+answers Rejected = (λ e. omega arith, λ e. omega arith, λ e. omega arith)
+answers Tried = (λ e. omega arith, λ e. omega arith, λ e. omega arith)
+answers Clean = (λ e. omega arith, λ e. omega arith, λ e. omega arith)
+answers Broken = (λ e. omega arith, λ e. omega arith, λ e. omega arith)
+answers Claimed = (λ e. omega arith, λ e. omega arith, λ e. omega arith)
+
+ran : (words : List (List ℕ)) (old new : Outside) (status : ℕ) (ending : Ending) → IsOfRun status → Serves words old new ending → Asks words old new status
+ran words old new status ending other s = record {
+  none = λ e. absurd (other.0 e);
+  some = λ named. loads_all old.folder new.folder (files_of words) s.contents s.loads;
+  all = λ e told. s.loads.asked told;
+  failed = λ e. absurd (other.1 e);
+  too_long = λ e. absurd (other.2 e);
+}
+
+-- the even statuses above 0 say that not all files need have been asked for
+not_all : (half status : ℕ) → 1 ≤ half → status ≡ half + half → (status ≡ 0) ⊎ (status ≡ 1) ⊎ (status ≡ 3) ⊎ (status ≡ 5) ⊎ (status ≡ 7) → ⊥
+not_all half status some even told =
+    elim told [ inl a ↦ omega arith | inr (inl a) ↦ omega arith | inr (inr (inl a)) ↦ omega arith | inr (inr (inr (inl a))) ↦ omega arith | inr (inr (inr (inr a))) ↦ omega arith ]
+
 pub asks : (words : List (List ℕ)) (old new : Outside) (status : ℕ) (ending : Ending) →
     status ≡ status_of ending → Ends words old new ending → Asks words old new status
-asks words old new status (Answered Scheduled) is ends = record {
-  none = λ e. absurd (omega arith);
-  some = λ named. loads_all old.folder new.folder (files_of words) ends.contents ends.loads;
-  all = λ e told. ends.loads.asked told;
-  failed = λ e. absurd (omega arith);
-  too_long = λ e. absurd (omega arith);
-}
-asks words old new status (Answered Infeasible) is ends = record {
-  none = λ e. absurd (omega arith);
-  some = λ named. loads_all old.folder new.folder (files_of words) ends.contents ends.loads;
-  all = λ e told. ends.loads.asked told;
-  failed = λ e. absurd (omega arith);
-  too_long = λ e. absurd (omega arith);
-}
-asks words old new status (Answered Certified) is ends = record {
-  none = λ e. absurd (omega arith);
-  some = λ named. loads_all old.folder new.folder (files_of words) ends.contents ends.loads;
-  all = λ e told. ends.loads.asked told;
-  failed = λ e. absurd (omega arith);
-  too_long = λ e. absurd (omega arith);
-}
-asks words old new status (Answered Accepted) is ends = record {
-  none = λ e. absurd (omega arith);
-  some = λ named. loads_all old.folder new.folder (files_of words) ends.contents ends.loads;
-  all = λ e told. ends.loads.asked told;
-  failed = λ e. absurd (omega arith);
-  too_long = λ e. absurd (omega arith);
-}
-asks words old new status (Answered Rejected) is ends = record {
-  none = λ e. absurd (omega arith);
-  some = λ named. loads_all old.folder new.folder (files_of words) ends.contents ends.loads;
-  all = λ e told. ends.loads.asked told;
-  failed = λ e. absurd (omega arith);
-  too_long = λ e. absurd (omega arith);
-}
-asks words old new status (Answered Tried) is ends = record {
-  none = λ e. absurd (omega arith);
-  some = λ named. loads_all old.folder new.folder (files_of words) ends.contents ends.loads;
-  all = λ e told. ends.loads.asked told;
-  failed = λ e. absurd (omega arith);
-  too_long = λ e. absurd (omega arith);
-}
-asks words old new status (Answered Clean) is ends = record {
-  none = λ e. absurd (omega arith);
-  some = λ named. loads_all old.folder new.folder (files_of words) ends.contents ends.loads;
-  all = λ e told. ends.loads.asked told;
-  failed = λ e. absurd (omega arith);
-  too_long = λ e. absurd (omega arith);
-}
-asks words old new status (Answered Broken) is ends = record {
-  none = λ e. absurd (omega arith);
-  some = λ named. loads_all old.folder new.folder (files_of words) ends.contents ends.loads;
-  all = λ e told. ends.loads.asked told;
-  failed = λ e. absurd (omega arith);
-  too_long = λ e. absurd (omega arith);
-}
-asks words old new status (Answered Claimed) is ends = record {
-  none = λ e. absurd (omega arith);
-  some = λ named. loads_all old.folder new.folder (files_of words) ends.contents ends.loads;
-  all = λ e told. ends.loads.asked told;
-  failed = λ e. absurd (omega arith);
-  too_long = λ e. absurd (omega arith);
-}
+asks words old new status (Answered answer) is ends = ran words old new status (Answered answer) (subst IsOfRun (sym is) (answers answer)) ends
 asks words old new status Misused is ends = record {
   none = λ e. ap (λ o. o.folder) ends.1;
   some = λ named. absurd (named ends.0);
-  all = λ e told. absurd (elim e [ inl a ↦ omega arith | inr (inl a) ↦ omega arith | inr (inr (inl a)) ↦ omega arith | inr (inr (inr (inl a))) ↦ omega arith | inr (inr (inr (inr a))) ↦ omega arith ]);
+  all = λ e told. absurd (not_all 1 status (omega arith) is e);
   failed = λ e. absurd (omega arith);
   too_long = λ e. absurd (omega arith);
 }
-asks words old new status (Refused refusal) is ends = record {
-  none = λ e. absurd (omega arith);
-  some = λ named. loads_all old.folder new.folder (files_of words) ends.contents ends.loads;
-  all = λ e told. ends.loads.asked told;
-  failed = λ e. absurd (omega arith);
-  too_long = λ e. absurd (omega arith);
-}
+asks words old new status (Refused refusal) is ends = ran words old new status (Refused refusal) (λ e. omega arith, λ e. omega arith, λ e. omega arith) ends
 asks words old new status (NotLoaded place) is ends = record {
   none = λ e. absurd (omega arith);
   some = λ named. stops_some old.folder new.folder (files_of words) place ends.loads.stops;
-  all = λ e told. absurd (elim e [ inl a ↦ omega arith | inr (inl a) ↦ omega arith | inr (inr (inl a)) ↦ omega arith | inr (inr (inr (inl a))) ↦ omega arith | inr (inr (inr (inr a))) ↦ omega arith ]);
+  all = λ e told. absurd (not_all 2 status (omega arith) is e);
   failed = λ e. (place, ends.loads);
   too_long = λ e. absurd (omega arith);
 }
-asks words old new status NotWritten is ends = record {
-  none = λ e. absurd (omega arith);
-  some = λ named. loads_all old.folder new.folder (files_of words) ends.contents ends.loads;
-  all = λ e told. ends.loads.asked told;
-  failed = λ e. absurd (omega arith);
-  too_long = λ e. absurd (omega arith);
-}
+asks words old new status NotWritten is ends = ran words old new status NotWritten (λ e. omega arith, λ e. omega arith, λ e. omega arith) ends
 asks words old new status (TooLong place) is ends = record {
   none = λ e. absurd (omega arith);
   some = λ named. stops_some old.folder new.folder (files_of words) place ends.loads.stops;
-  all = λ e told. absurd (elim e [ inl a ↦ omega arith | inr (inl a) ↦ omega arith | inr (inr (inl a)) ↦ omega arith | inr (inr (inr (inl a))) ↦ omega arith | inr (inr (inr (inr a))) ↦ omega arith ]);
+  all = λ e told. absurd (not_all 3 status (omega arith) is e);
   failed = λ e. absurd (omega arith);
   too_long = λ e. (place, ends.loads);
 }
 asks words old new status NoMemory is (inl ends) = record {
   none = λ e. absurd (omega arith);
   some = λ named. ends.loads;
-  all = λ e told. absurd (elim e [ inl a ↦ omega arith | inr (inl a) ↦ omega arith | inr (inr (inl a)) ↦ omega arith | inr (inr (inr (inl a))) ↦ omega arith | inr (inr (inr (inr a))) ↦ omega arith ]);
+  all = λ e told. absurd (not_all 4 status (omega arith) is e);
   failed = λ e. absurd (omega arith);
   too_long = λ e. absurd (omega arith);
 }
-asks words old new status NoMemory is (inr ends) = record {
-  none = λ e. absurd (omega arith);
-  some = λ named. loads_all old.folder new.folder (files_of words) ends.contents ends.loads;
-  all = λ e told. ends.loads.asked told;
-  failed = λ e. absurd (omega arith);
-  too_long = λ e. absurd (omega arith);
-}
+asks words old new status NoMemory is (inr ends) = ran words old new status NoMemory (λ e. omega arith, λ e. omega arith, λ e. omega arith) ends

@@ -96,7 +96,7 @@ impl Bank {
         Ok(())
     }
 
-    /// Adds the flight of a number, 1000 seconds and so many behind the start, that may land for two hours.
+    /// Adds the flight of a number, 1000 seconds and so many behind the start, that may land until second 8199.
     pub fn add_numbered(&mut self, number: u8, passed: u8) -> Result<(), Fail>
         requires { number < 100 }
         ensures { self.new.k ≡ self.old.k }

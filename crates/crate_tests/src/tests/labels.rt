@@ -1,4 +1,4 @@
-// The windows that have no label, or no pair, are left out of a stage.
+// The windows that have no label are left out of a stage; those that have a pair stay.
 ghost use Rattle.std.specs.Prelude.{◌≡◌, length};
 
 use super::is_shared;
@@ -40,7 +40,7 @@ fn left_of_costs(alloc: Global, costs: &mut Costs) -> Result<(usize, usize), All
 }
 
 #[test]
-fn windows_without_a_pair_are_left_out(rt: HostRuntime) -> Result<(), Fail> {
+fn windows_with_a_pair_are_kept(rt: HostRuntime) -> Result<(), Fail> {
     let mut costs = Costs::start(rt.alloc())?;
     is_shared(&costs);
     assert_eq!(rt;

@@ -84,7 +84,7 @@ fn stages_in_common_are_not_counted(rt: HostRuntime) -> Result<(), Fail> {
     Ok(())
 }
 
-// The problem of 60 flights that may land for two hours.
+// The problem of 60 flights that may land until second 8199.
 fn sixty(alloc: Global, k: u8) -> Result<Problem, Fail>
     requires { k ≤ 3 }
     ensures k { IfOk result (λ problem. problem.k ≡ k) }
