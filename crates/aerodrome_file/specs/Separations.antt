@@ -1,9 +1,9 @@
 -- The table of separations in the file.
-use Rattle.std.specs.Prelude.{ℕ, pos, negsuc, List, [], ◌∷◌, min, codes, Option, Some, None, Result, Ok, Err}
+use Rattle.std.specs.Prelude.{ℕ, pos, negsuc, List, [], ◌∷◌, ◌+◌, min, codes, Option, Some, None, Result, Ok, Err}
 use Rattle.toml.specs.Data.{Data, integer, array, table, Items, no_items, item, Members, get_member}
 use Rattle.wake_table.specs.declared.category.Category.{Category}
 use Rattle.wake_table.specs.declared.category.Category.TheVariants.{A, B, C, D, E, F}
-use Rattle.wake_table.specs.Table.{table_of}
+use Rattle.wake_table.specs.Table.{greatest_separation, table_of}
 use Rattle.wake_table.specs.declared.table.TableFault.{TableFault}
 use Rattle.cps_base.specs.Answers.{◌>>=◌}
 use Rattle.aerodrome_file.specs.declared.fault.AeroFault.{AeroFault}
@@ -12,9 +12,9 @@ use Rattle.aerodrome_file.specs.declared.fault.Key.TheVariants as key
 use Rattle.aerodrome_file.specs.declared.fault.Part.TheVariants as part
 use Rattle.aerodrome_file.specs.Keys.{only}
 
--- an entry of the table, where 601 stands for all above 600, and 0 for all below 1
+-- an entry of the table, where one second above the greatest separation stands for all above it, and 0 for all below 1
 abbrev pub second_of : Data → Option ℕ
-second_of (integer (pos n)) = Some (min n 601)
+second_of (integer (pos n)) = Some (min n (greatest_separation + 1))
 second_of (integer (negsuc n)) = Some 0
 second_of d = None
 

@@ -1,5 +1,5 @@
 -- What a chain over the code's lists finds is what the rules find.
-use Rattle.std.proofs.Common.{◌≡◌, Bool, true, false, cond, not, List, [], ◌∷◌, map, filter, refl, sym, ap, ap₂}
+use Rattle.std.proofs.Common.{◌≡◌, Bool, true, false, cond, not, List, [], ◌∷◌, map, filter, refl, sym, ap₂}
 use Rattle.std.proofs.lemmas.Bool.{false≢true}
 use Rattle.landing_rules.specs.Audit as rules
 use Rattle.landing_rules.specs.Audit.{for_failing}
@@ -18,7 +18,3 @@ each_failing seen test made passes found e f (t ∷ ts) = go (test t) (passes (s
     go true false e ih = ap₂ (λ (x : rules.Finding) (l : List rules.Finding). x ∷ l) (f t) ih
     go false true e ih = ih
     go false false e ih = absurd (false≢true e)
-
-pub map_itself : {X : Type 0} (xs : List X) → map (λ x. x) xs ≡ xs
-map_itself [] = refl
-map_itself (x ∷ xs) = ap (λ l. x ∷ l) (map_itself xs)

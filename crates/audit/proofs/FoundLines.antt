@@ -1,8 +1,7 @@
 -- The lines that name active flights: at most all, and the flights are good ones.
-use Rattle.std.proofs.Common.{◌≡◌, ℕ, ◌+◌, ◌<◌, ◌≤◌, Bool, true, false, cond, List, [], ◌∷◌, ◌++◌, length, get_or, map, drop, Some, None, Option, refl, sym, ap, ◌∙◌, append_assoc, arith}
+use Rattle.std.proofs.Common.{◌≡◌, ℕ, ◌+◌, ◌<◌, ◌≤◌, Bool, true, false, cond, List, [], ◌∷◌, ◌++◌, length, get_or, map, drop, Some, None, Option, refl, sym, ap, ◌∙◌, arith}
 use Rattle.std.specs.Prelude.{All, IfSome, find, filter, is_none, is_some, option_map}
 use Rattle.std.specs.List.{cons_option, list_any}
-use Rattle.std.proofs.lemmas.List.{drop_more}
 use Rattle.std.proofs.lemmas.List.Elements.{All-cons, All-head, All-tail}
 use Rattle.landing_rules.specs.Flights.{Active}
 use Rattle.landing_rules.specs.Rules.{waits}
@@ -13,6 +12,7 @@ use Rattle.landing_rules.specs.Audit.{Unknown, landing_of, lines_found, unknown}
 use Rattle.plan_file.specs.Shown.{shown_of}
 use Rattle.plan_file.specs.declared.landing.Landing.{Landing}
 use Rattle.audit.specs.Findings.{HasSmallWeight, one_found}
+use Rattle.audit.specs.shared.Steps.{place_step}
 use Rattle.audit.proofs.SeenNames.{some-find}
 
 abbrev Pair : Type 0
@@ -50,12 +50,8 @@ pub found_step : (active : List Active) (lines : List Landing) (i : ℕ) (l : La
     i < length lines → l ≡ get_or lines i l → more ≡ cons_option (one_found active (shown_of l)) [] → done ++ lines_found active (map shown_of (drop i lines)) ≡ whole →
     (done ++ more) ++ lines_found active (map shown_of (drop (i + 1) lines)) ≡ whole
 found_step active lines i l done more whole lt same e h =
-    let rest = lines_found active (map shown_of (drop (i + 1) lines)) in
-    let here : drop i lines ≡ l ∷ drop (i + 1) lines = drop_more lines i l lt ∙ ap (λ y. y ∷ drop (i + 1) lines) (sym same) in
-    append_assoc done more rest
-    ∙ ap (λ m. done ++ (m ++ rest)) e
-    ∙ ap (λ m. done ++ m) (one (one_found active (shown_of l)))
-    ∙ ap (λ ls. done ++ lines_found active (map shown_of ls)) (sym here) ∙ h
+    let left = λ (ls : List Landing). lines_found active (map shown_of ls) in
+    place_step left left lines i l done more whole lt same (sym (ap (λ m. m ++ left (drop (i + 1) lines)) e ∙ one (one_found active (shown_of l)))) h
   where
     one : (o : Option Pair) → cons_option o [] ++ lines_found active (map shown_of (drop (i + 1) lines)) ≡ cons_option o (lines_found active (map shown_of (drop (i + 1) lines)))
     one None = refl

@@ -6,4 +6,3 @@ pub mod FoundLines
 pub mod Ordering
 pub mod SeenNames
 pub mod Shifting
-pub mod AtEnd

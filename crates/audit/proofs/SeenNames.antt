@@ -1,8 +1,9 @@
 -- Callsigns that were seen, and lines that have one again.
-use Rattle.std.proofs.Common.{◌≡◌, ℕ, ◌+◌, ◌<◌, Bool, true, false, cond, ◌||◌, List, [], ◌∷◌, ◌++◌, length, get_or, map, drop, Some, refl, sym, ap, ap₂, subst, ◌∙◌, append_assoc}
+use Rattle.std.proofs.Common.{◌≡◌, ℕ, ◌+◌, ◌<◌, Bool, true, false, cond, ◌||◌, List, [], ◌∷◌, ◌++◌, length, get_or, map, drop, Some, refl, sym, ap, ap₂, subst, ◌∙◌}
 use Rattle.std.specs.Prelude.{find, is_some}
 use Rattle.std.specs.List.{list_any}
 use Rattle.std.specs.Str.{bytes_eq}
+use Rattle.std.proofs.lemmas.Cmp.{nat_list_eq_equiv}
 use Rattle.std.proofs.lemmas.List.{drop_more}
 use Rattle.std.proofs.lemmas.Slice.Eq.{bytes_eq-Decides}
 use Rattle.indexmap.specs.IndexSet.{insert_key}
@@ -13,22 +14,14 @@ use Rattle.plan_file.specs.Shown.{shown_of}
 use Rattle.plan_file.specs.declared.landing.Landing.{Landing}
 use Rattle.audit.specs.Findings.{repeated}
 use Rattle.audit.specs.Seen.{has_name}
+use Rattle.audit.specs.shared.Steps.{place_step}
 
 abbrev Name : Type 0
 Name = List ℕ
 
-pub same-sym : (c d : Name) → bytes_eq c d ≡ bytes_eq d c
-same-sym c d = go (bytes_eq c d) (bytes_eq d c) refl refl
-  where
-    go : (x y : Bool) → bytes_eq c d ≡ x → bytes_eq d c ≡ y → x ≡ y
-    go true true h k = refl
-    go true false h k = sym ((bytes_eq-Decides d c).1 (sym ((bytes_eq-Decides c d).0 h))) ∙ k
-    go false true h k = sym h ∙ (bytes_eq-Decides c d).1 (sym ((bytes_eq-Decides d c).0 k))
-    go false false h k = refl
-
 pub has-sym : (c : Name) (ks : List Name) → list_any (bytes_eq c) ks ≡ has_name ks c
 has-sym c [] = refl
-has-sym c (k ∷ ks) = ap₂ (λ (a b : Bool). a || b) (same-sym c k) (has-sym c ks)
+has-sym c (k ∷ ks) = ap₂ (λ (a b : Bool). a || b) (nat_list_eq_equiv.symm c k) (has-sym c ks)
 
 or-swap : (a b r : Bool) → ((b || a) || r) ≡ (a || (b || r))
 or-swap true true r = refl
@@ -64,12 +57,9 @@ pub twice_step : (lines : List Landing) (i : ℕ) (l : Landing) (above : List Sh
     i < length lines → l ≡ get_or lines i l → more ≡ repeated (has_line above l.callsign) l.callsign → done ++ twice_after above (map shown_of (drop i lines)) ≡ whole →
     (done ++ more) ++ twice_after (shown_of l ∷ above) (map shown_of (drop (i + 1) lines)) ≡ whole
 twice_step lines i l above done more whole lt same e h =
-    let rest = map shown_of (drop (i + 1) lines) in
-    let here : drop i lines ≡ l ∷ drop (i + 1) lines = drop_more lines i l lt ∙ ap (λ y. y ∷ drop (i + 1) lines) (sym same) in
-    append_assoc done more (twice_after (shown_of l ∷ above) rest)
-    ∙ ap (λ m. done ++ (m ++ twice_after (shown_of l ∷ above) rest)) e
-    ∙ ap (λ m. done ++ m) (one (has_line above l.callsign))
-    ∙ ap (λ ls. done ++ twice_after above (map shown_of ls)) (sym here) ∙ h
+    let rest = twice_after (shown_of l ∷ above) (map shown_of (drop (i + 1) lines)) in
+    place_step (λ ls. twice_after above (map shown_of ls)) (λ ls. twice_after (shown_of l ∷ above) (map shown_of ls)) lines i l done more whole lt same
+    (sym (ap (λ m. m ++ rest) e ∙ one (has_line above l.callsign))) h
   where
     one : (b : Bool) → repeated b l.callsign ++ twice_after (shown_of l ∷ above) (map shown_of (drop (i + 1) lines)) ≡
         cond b (Twice l.callsign ∷ twice_after (shown_of l ∷ above) (map shown_of (drop (i + 1) lines))) (twice_after (shown_of l ∷ above) (map shown_of (drop (i + 1) lines)))

@@ -3,3 +3,4 @@ pub mod Findings
 pub mod Seen
 pub mod Texts
 pub mod Members
+pub mod shared

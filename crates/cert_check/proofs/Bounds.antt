@@ -15,12 +15,13 @@ use Rattle.cps_theory.specs.laws.CertificateSoundness.{final_not_below, none_fin
 use Rattle.cps_theory.specs.laws.ClosedSets.{closed_landings_optimal, closed_landings_infeasible}
 use Rattle.cps_theory.specs.laws.LeastObjective.{feasible_landing_trail}
 use Rattle.landing_joint.specs.RankedProblem.{ranked, first_at, cost_at, value_at}
+use Rattle.landing_joint.specs.shared.FirstBestLists.{costs_rise, value_rises}
 use Rattle.landing_joint.specs.shared.FirstOpen.{is_first_open}
 use Rattle.cps_problem.specs.WellFormed.{IsWellFormed}
 use Rattle.certificate.specs.States.{State}
 use Rattle.cert_check.specs.Landings.{count}
 use Rattle.cert_check.specs.States.{node_of, pairs_of, rules_of, ready, first_missed, missed_from, start_node, is_final, is_final_below}
-use Rattle.cert_check.proofs.Sound.{sound_problem, never_cheaper, value_rises}
+use Rattle.cert_check.proofs.Sound.{sound_problem}
 
 module _ (p : Problem) where
   abbrev opens : ℕ → ℕ → Type 0
@@ -61,11 +62,11 @@ module _ (p : Problem) where
     pub none_below : 1 ≤ count p → (v : ℕ) → element_from (is_final_below p v) 1 ss ≡ None → (t : ℕ → ℕ) → Feasible (ranked p) t → v ≤ value_at p (pair_at (cost_at p) (count p) t)
     none_below some v e t f =
         let x = feasible_landing_trail (ranked p) (cost_at p) (sound_problem p well) t f in
-        subst (λ (q : Pair). v ≤ value_at p q) x.4 (closed_landings_optimal opens (first_at p) (ready p) (cost_at p) (is_first_open p) ready_later (never_cheaper p) (rules_of p) ones lists closed (value_at p) (value_rises p) v
+        subst (λ (q : Pair). v ≤ value_at p q) x.4 (closed_landings_optimal opens (first_at p) (ready p) (cost_at p) (is_first_open p) ready_later (costs_rise p) (rules_of p) ones lists closed (value_at p) (value_rises p) v
         (λ w q at l. elim l [ inl s ↦ absurd (not_start w q some at s) | inr b ↦ final_not_below node_of pairs_of (count p) (value_at p) v ss e w q at b ]) x.0 x.1 (landed_behind x.0 x.2) x.3)
 
     pub none_at_all : 1 ≤ count p → element_from (is_final p) 1 ss ≡ None → (t : ℕ → ℕ) → Feasible (ranked p) t → ⊥
     none_at_all some e t f =
         let x = feasible_landing_trail (ranked p) (cost_at p) (sound_problem p well) t f in
-        closed_landings_infeasible opens (first_at p) (ready p) (cost_at p) (is_first_open p) ready_later (never_cheaper p) (rules_of p) ones lists closed
+        closed_landings_infeasible opens (first_at p) (ready p) (cost_at p) (is_first_open p) ready_later (costs_rise p) (rules_of p) ones lists closed
         (λ w q at l. elim l [ inl s ↦ absurd (not_start w q some at s) | inr b ↦ none_final node_of pairs_of (count p) ss e w q at b ]) x.0 x.1 (landed_behind x.0 x.2) x.3

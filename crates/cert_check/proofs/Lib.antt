@@ -17,6 +17,5 @@ pub mod WholeUnique
 pub mod WholeForm
 pub mod PlacedBits
 pub mod ShownOrder
-pub mod OneSpans
 pub mod OneProblem
 pub mod OneVerdict

@@ -1,7 +1,8 @@
 -- Two problems of one situation have the same flights, and the same ranks must land before others.
-use Rattle.std.proofs.Common.{◌≡◌, ℕ, zero, suc, ◌+◌, ◌<◌, Bool, true, false, List, [], ◌∷◌, length, get_or, Option, refl, sym, ap, subst, ◌∙◌, add-one, arith}
+use Rattle.std.proofs.Common.{◌≡◌, ℕ, zero, suc, ◌+◌, ◌<◌, true, List, [], ◌∷◌, length, get_or, Option, refl, sym, ap, subst, ◌∙◌, add-one, arith}
 use Rattle.std.specs.List.{AllZip}
 use Rattle.std.proofs.Math.Path.{fun_ext}
+use Rattle.std.proofs.lemmas.Bool.Decides.{same_from_decides}
 use Rattle.std.proofs.lemmas.Option.{slice_get-get_or}
 use Rattle.std.proofs.lemmas.Slice.Zip.{AllZip-long}
 use Rattle.wake_table.specs.declared.category.Category.{Category}
@@ -9,7 +10,7 @@ use Rattle.precedence.specs.Pairs.{must_precede}
 use Rattle.landing_rules.specs.declared.objective.Objective.{Objective}
 use Rattle.landing_rules.specs.Flights.{Active, Callsign, Situation, Span, waiting}
 use Rattle.landing_rules.specs.Problem.{Problem, Waiting, IsWaitingOf, IsProblemOf, ArePredecessorsOf, AreBetweenRanks, by_rank}
-use Rattle.cert_check.proofs.OneSpans.{one_spans}
+use Rattle.landing_windows.specs.Runs.{one_spans}
 
 abbrev waiting_from : Callsign → Category → ℕ → ℕ → ℕ → List Span → Waiting
 waiting_from callsign category eta weight passed spans =
@@ -39,11 +40,6 @@ same_flights s p q h k = one_flights s.closures (by_rank (waiting s)) p.flights 
 
 -- ---- which ranks must land before others
 
-same_test : (x y : Bool) → (x ≡ true → y ≡ true) → (y ≡ true → x ≡ true) → x ≡ y
-same_test true y there back = sym (there refl)
-same_test false true there back = back refl
-same_test false false there back = refl
-
 module _ (xs ys : List ℕ) where
   asked_at : (ranked : List Active) (i j : ℕ) → i < length ranked → j < length ranked → ArePredecessorsOf ranked xs → ArePredecessorsOf ranked ys
       → must_precede xs (i + 1) (j + 1) ≡ true → must_precede ys (i + 1) (j + 1) ≡ true
@@ -70,9 +66,9 @@ between_all : (s : Situation) (p : Problem) → IsProblemOf s p → AreBetweenRa
 between_all s p h = subst (λ (n : ℕ). AreBetweenRanks n p.pairs) (AllZip-long (IsWaitingOf s.closures) (by_rank (waiting s)) p.flights h.flights) h.between_ranks
 
 pub same_order : (s : Situation) (p q : Problem) → IsProblemOf s p → IsProblemOf s q → must_precede p.pairs ≡ must_precede q.pairs
-same_order s p q h k = fun_ext λ i. fun_ext λ j. same_test (must_precede p.pairs i j) (must_precede q.pairs i j)
-    (asked p.pairs q.pairs (by_rank (waiting s)) i j (between_all s p h) h.predecessors k.predecessors)
-    (asked q.pairs p.pairs (by_rank (waiting s)) i j (between_all s q k) k.predecessors h.predecessors)
+same_order s p q h k = fun_ext λ i. fun_ext λ j. same_from_decides (must_precede p.pairs i j) (must_precede q.pairs i j)
+    (asked p.pairs q.pairs (by_rank (waiting s)) i j (between_all s p h) h.predecessors k.predecessors, asked q.pairs p.pairs (by_rank (waiting s)) i j (between_all s q k) k.predecessors h.predecessors)
+    (λ e. e, λ e. e)
 
 -- ---- all else
 

@@ -1,7 +1,8 @@
 -- Of pairs whose seconds rise and whose costs fall, the last that is no later is the cheapest.
 use Rattle.std.proofs.Common.{◌≡◌, ℕ, zero, suc, ◌<◌, ◌≤◌, Bool, true, false, ◌&&◌, ◌||◌, leb, List, [], ◌∷◌, length, get_or, refl, sym, ap, ap₂, ◌∙◌, arith, inl, inr}
 use Rattle.std.specs.List.{list_any}
-use Rattle.std.proofs.lemmas.Bool.{cases_lt, le-leb, lt-leb, ltb-true, and_parts}
+use Rattle.std.proofs.lemmas.Bool.{cases_lt, le-leb, lt-leb, ltb-true, and_left, and_parts}
+use Rattle.std.proofs.Math.Bool.{or-false}
 use Rattle.cps_theory.specs.Labels.{Pair, no_worse}
 use Rattle.certificate.specs.States.{rises}
 
@@ -33,14 +34,6 @@ and_yes : (a b : Bool) → a ≡ true → a && b ≡ b
 and_yes true b e = refl
 and_yes false b e = absurd cc
 
-and_no : (a b : Bool) → a ≡ false → a && b ≡ false
-and_no true b e = absurd cc
-and_no false b e = refl
-
-or_no : (a : Bool) → a || false ≡ a
-or_no true = refl
-or_no false = refl
-
 -- a cheaper one behind decides
 or_cheaper : (a b c : ℕ) → b < a → leb a c || leb b c ≡ leb b c
 or_cheaper a b c lt = elim (cases_lt c a) [
@@ -51,7 +44,7 @@ or_cheaper a b c lt = elim (cases_lt c a) [
 -- where all are later, none is no worse
 pub all_later : (ps : List Pair) (q : Pair) → ((k : ℕ) (d : Pair) → k < length ps → leb (get_or ps k d).0 q.0 ≡ false) → list_any (λ o. no_worse o q) ps ≡ false
 all_later [] q high = refl
-all_later (p ∷ ps) q high = ap₂ (λ (x y : Bool). x || y) (and_no (leb p.0 q.0) (leb p.1 q.1) (high zero p (omega arith))) (all_later ps q (λ k d lt. high (suc k) d (omega arith)))
+all_later (p ∷ ps) q high = ap₂ (λ (x y : Bool). x || y) (and_left (leb p.0 q.0) (leb p.1 q.1) (high zero p (omega arith))) (all_later ps q (λ k d lt. high (suc k) d (omega arith)))
 
 -- where the first m + 1 are no later and the others are later, the last of the first decides
 pub last_decides : (ps : List Pair) → rises ps ≡ true → (q : Pair) (m : ℕ) → m < length ps → ((k : ℕ) (d : Pair) → k ≤ m → leb (get_or ps k d).0 q.0 ≡ true) → ((k : ℕ) (d : Pair) → m < k → k < length ps → leb (get_or ps k d).0 q.0 ≡ false) → (d : Pair) → list_any (λ o. no_worse o q) ps ≡ leb (get_or ps m d).1 q.1
@@ -59,7 +52,7 @@ last_decides [] h q m le low high d = absurd (omega arith)
 last_decides (p ∷ ps) h q zero le low high d =
     let here = and_yes (leb p.0 q.0) (leb p.1 q.1) (low zero d (omega arith)) in
     let rest = all_later ps q (λ k e lt. high (suc k) e (omega arith) (omega arith)) in
-    ap₂ (λ (x y : Bool). x || y) here rest ∙ or_no (leb p.1 q.1)
+    ap₂ (λ (x y : Bool). x || y) here rest ∙ or-false (leb p.1 q.1)
 last_decides (p ∷ ps) h q (suc m) le low high d =
     let here = and_yes (leb p.0 q.0) (leb p.1 q.1) (low zero d (omega arith)) in
     let rest = last_decides ps (rest_rises p ps h) q m (omega arith) (λ k e lt. low (suc k) e (omega arith)) (λ k e le lt. high (suc k) e (omega arith) (omega arith)) d in

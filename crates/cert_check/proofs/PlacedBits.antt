@@ -1,9 +1,10 @@
 -- The node of a prefix by the bits of its ranks.
-use Rattle.std.proofs.Common.{◌≡◌, ℕ, zero, suc, ◌+◌, ◌-◌, ◌*◌, ◌<◌, ◌≤◌, ◌^◌, ◌⊎◌, ◌↔◌, inl, inr, Bool, true, false, ◌||◌, leb, eqb, List, ◌∷◌, length, refl, sym, ap, ◌∙◌, arith}
+use Rattle.std.proofs.Common.{◌≡◌, ℕ, zero, suc, ◌+◌, ◌-◌, ◌*◌, ◌<◌, ◌≤◌, ◌^◌, ◌⊎◌, ◌↔◌, inl, inr, Bool, true, ◌||◌, leb, eqb, List, ◌∷◌, length, refl, sym, ap, ◌∙◌, arith}
 use Rattle.std.specs.Prelude.{◌/◌}
 use Rattle.std.specs.Int.{bit_at}
 use Rattle.std.proofs.Math.Nat.{pow-suc, div-div-eq-div-mul}
 use Rattle.std.proofs.lemmas.Bool.{cases_lt, le-leb, eq-eqb, eqb-true, or_left, or_cases, or_right, leb-true}
+use Rattle.std.proofs.lemmas.Bool.Decides.{same_from_decides, Decides-eqb}
 use Rattle.precedence.specs.Pairs.{HasBit}
 use Rattle.cps_theory.specs.RankLists.{In}
 use Rattle.cps_theory.specs.LandingTrail.{last_rank}
@@ -13,14 +14,8 @@ use Rattle.cps_theory.specs.laws.PatternNetwork.{tests_agree, member_in, in_memb
 use Rattle.certificate.specs.Patterns.{bits}
 use Rattle.cert_check.specs.PlacedBits.{is_marked, digits_of}
 
--- two tests that pass alike are one
-alike : (a b : Bool) → (a ≡ true → b ≡ true) → (b ≡ true → a ≡ true) → a ≡ b
-alike true b h k = sym (h refl)
-alike false true h k = k refl
-alike false false h k = refl
-
 member_bit : (rs : List ℕ) (placed r : ℕ) → HasBit placed r ↔ In r rs → is_member r rs ≡ eqb (bit_at placed r) 1
-member_bit rs placed r h = alike (is_member r rs) (eqb (bit_at placed r) 1) (λ e. eq-eqb (bit_at placed r) 1 (h.1 (member_in r rs e))) (λ e. in_member r rs (h.0 (eqb-true (bit_at placed r) 1 e)))
+member_bit rs placed r h = same_from_decides (is_member r rs) (eqb (bit_at placed r) 1) (λ e. h.1 (member_in r rs e), λ e. in_member r rs (h.0 e)) (Decides-eqb (bit_at placed r) 1)
 
 pub pattern_of_bits : (g : OrderRules) (rs : List ℕ) (placed : ℕ) → ((r : ℕ) → 1 ≤ r → HasBit placed r ↔ In r rs) → pattern_node g rs ≡ (length rs, digits_of g.most (length rs) placed, last_rank rs)
 pattern_of_bits g rs placed h =
@@ -62,4 +57,4 @@ digits_are_bits k stage placed marks h =
     ]
 
     same : (y : ℕ) → is_marked k placed y ≡ eqb (bit_at marks y) 1
-    same y = alike (is_marked k placed y) (eqb (bit_at marks y) 1) (to y) (from y)
+    same y = same_from_decides (is_marked k placed y) (eqb (bit_at marks y) 1) (to y, from y) (λ e. e, λ e. e)

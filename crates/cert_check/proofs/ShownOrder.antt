@@ -1,9 +1,10 @@
 -- The landings of a best list in an order of all ranks are shown optimal.
-use Rattle.std.proofs.Common.{◌≡◌, ◌≢◌, ℕ, zero, suc, ◌<◌, inl, inr, Bool, cond, eqb, List, [], ◌∷◌, length, get_or, reverse, refl, sym, ap, ap₂, subst, ◌∙◌, arith}
+use Rattle.std.proofs.Common.{◌≡◌, ◌≢◌, ℕ, zero, suc, ◌<◌, inl, inr, Bool, cond, eqb, List, [], ◌∷◌, length, reverse, refl, sym, ap, subst, ◌∙◌, arith}
 use Rattle.std.specs.Prelude.{All, bytes_eq, count_by}
 use Rattle.std.proofs.lemmas.Bool.{cases_eq, eq-eqb, ne_eqb, cases_order, false_from_ne_true}
 use Rattle.std.proofs.lemmas.List.{length-map, length-reverse, reverse-reverse, get_or-map}
-use Rattle.std.proofs.lemmas.List.Sorted.{IsPermutation-reverse, sum_by-IsPermutation, Contains-permutation}
+use Rattle.std.proofs.lemmas.Grind.{same_number_lists}
+use Rattle.std.proofs.lemmas.List.Sorted.{IsPermutation-reverse, sum_by-IsPermutation}
 use Rattle.std.proofs.lemmas.List.Sums.{sum_by-cons}
 use Rattle.std.proofs.lemmas.Slice.Eq.{bytes_eq-Decides}
 use Rattle.landing_rules.specs.Flights.{Schedule}
@@ -16,18 +17,10 @@ use Rattle.cps_problem.specs.WellFormed.{IsWellFormed}
 use Rattle.cert_check.specs.Landings.{Landings, count, flight, second_of, seconds}
 use Rattle.cert_check.specs.Meaning.{IsShownOptimal}
 use Rattle.cert_check.specs.WholeLaws.{landings_in}
-use Rattle.cert_check.specs.shared.OneList.{all_among, among_contained, contained_among}
+use Rattle.landing_rules.specs.shared.Members.{all_at, member_permutation}
 
 in_reverse : (xs : List ℕ) (x : ℕ) → In x xs → In x (reverse xs)
-in_reverse xs x i =
-    let c = Contains-permutation xs (reverse xs) x (IsPermutation-reverse xs) (among_contained xs x i) in
-    contained_among (reverse xs) x c.0 c.1 c.2
-
-same_lists : (xs ys : List ℕ) → length xs ≡ length ys → ((i : ℕ) → i < length xs → get_or xs i 0 ≡ get_or ys i 0) → xs ≡ ys
-same_lists [] [] long h = refl
-same_lists [] (y ∷ ys) long h = absurd (omega arith)
-same_lists (x ∷ xs) [] long h = absurd (omega arith)
-same_lists (x ∷ xs) (y ∷ ys) long h = ap₂ (λ (z : ℕ) (zs : List ℕ). z ∷ zs) (h 0 (omega arith)) (same_lists xs ys (omega arith) (λ i lt. h (suc i) (omega arith)))
+in_reverse xs x i = member_permutation xs (reverse xs) x (IsPermutation-reverse xs) i
 
 -- a rank that does not stand in a list stands there no times, and one of different ranks once
 none_of : (r : ℕ) (rs : List ℕ) → (In r rs → ⊥) → count_by (λ q. eqb q r) rs ≡ 0
@@ -79,7 +72,7 @@ module _ (p : Problem) (well : IsWellFormed p) where
     ls = landings_in p t order
 
     is_rank : (r : ℕ) → In r order → IsRank (count p) r
-    is_rank r i = all_among (IsRank (count p)) order ranks r i
+    is_rank r i = all_at (IsRank (count p)) order ranks r i
 
     back : (r : ℕ) → In r (reverse order) → In r order
     back r i = subst (λ (rs : List ℕ). In r rs) (reverse-reverse order) (in_reverse (reverse order) r i)
@@ -111,7 +104,7 @@ module _ (p : Problem) (well : IsWellFormed p) where
     unfolding ls
     seconds_are long =
         let all : length (seconds p ls) ≡ count p = length-map p.flights (λ f. second_of ls f.callsign) in
-        same_lists (seconds p ls) t (omega arith) (λ i lt.
+        same_number_lists (seconds p ls) t (omega arith) (λ i lt.
         get_or-map (λ f. second_of ls f.callsign) p.flights i no_waiting 0 (omega arith)
         ∙ second_from order is_rank (suc i) (omega arith, omega arith) (back (suc i) (has_rank (suc i) (omega arith, omega arith))))
 

@@ -1,18 +1,14 @@
 -- What the tests of the landings and of the states say where none of them finds anything.
-use Rattle.std.proofs.Common.{◌≡◌, ℕ, zero, suc, ◌+◌, ◌<◌, ◌≤◌, inl, inr, Bool, true, false, not, ◌&&◌, ◌||◌, leb, ltb, List, [], ◌∷◌, length, Option, Some, None, refl, ap, ◌∙◌, arith}
+use Rattle.std.proofs.Common.{◌≡◌, ℕ, zero, suc, ◌+◌, ◌<◌, ◌≤◌, inl, inr, Bool, true, false, not, ◌&&◌, ◌||◌, leb, ltb, length, Option, Some, None, refl, ap, ◌∙◌, arith}
 use Rattle.std.specs.Prelude.{◌==◌, bytes_eq, count_by, option_map, is_some}
-use Rattle.std.proofs.Math.Nat.{mul-le-mul_left}
 use Rattle.std.proofs.lemmas.List.{length-map}
-use Rattle.std.proofs.lemmas.Bool.{cases_lt, cases_eq, le-leb, lt-ltb, ltb-false, ltb-true, eqb-true, or_parts}
-use Rattle.landing_rules.specs.declared.objective.Objective.{Objective}
-use Rattle.landing_rules.specs.declared.objective.Objective.TheVariants.{Makespan, Delay}
-use Rattle.landing_rules.specs.Problem.{Problem, Waiting}
+use Rattle.std.proofs.lemmas.Bool.{cases_lt, cases_eq, le-leb, lt-ltb, ltb-false, ltb-true, eqb-true, or_parts, not-false}
+use Rattle.landing_rules.specs.Problem.{Problem}
 use Rattle.cps_theory.specs.RankLists.{IsRank, of_rank}
-use Rattle.cps_theory.specs.Labels.{NeverCheaper, NoWorse, Pair}
 use Rattle.cps_theory.specs.Feasible.{Feasible, SoundProblem}
 use Rattle.cps_theory.specs.FirstFound.{first_from, first_pair_from, with_number}
 use Rattle.cps_theory.specs.laws.FirstFound.{from_none, or_none, with_number_none}
-use Rattle.landing_joint.specs.RankedProblem.{no_waiting, ranked, cost_by, cost_at, value_by, value_at, makespan_by}
+use Rattle.landing_joint.specs.RankedProblem.{no_waiting, ranked}
 use Rattle.landing_joint.specs.shared.RankedLists.{place_is, sound_ranked}
 use Rattle.cps_problem.specs.WellFormed.{IsWellFormed}
 use Rattle.certificate.specs.declared.certificate.Claim.TheVariants.{Optimal}
@@ -20,10 +16,6 @@ use Rattle.cert_check.specs.Landings.{Landings, count, flight, second_of, second
 use Rattle.cert_check.specs.Meaning.{AreItsLandings}
 
 -- ---- tests
-
-pub not_false : (a : Bool) → not a ≡ false → a ≡ true
-not_false true e = refl
-not_false false e = absurd (cc)
 
 and_false : (a b : Bool) → a && b ≡ false → a ≡ true → b ≡ false
 and_false true b e p = e
@@ -33,9 +25,9 @@ pub map_none : {A B : Type 0} (f : A → B) (o : Option A) → option_map f o �
 map_none f (Some x) e = absurd (cc)
 map_none f None e = refl
 
-is_none : {A : Type 0} (o : Option A) → is_some o ≡ false → o ≡ None
-is_none (Some x) e = absurd (cc)
-is_none None e = refl
+none_left : {A : Type 0} (o : Option A) → is_some o ≡ false → o ≡ None
+none_left (Some x) e = absurd (cc)
+none_left None e = refl
 
 pair_none : (find : ℕ → Option ℕ) (x m : ℕ) → first_pair_from find x m ≡ None → (y : ℕ) → x ≤ y → y < x + m → find y ≡ None
 pair_none find x zero e y le lt = absurd (omega arith)
@@ -58,10 +50,10 @@ module _ (p : Problem) (ls : Landings) where
   are_its_landings v e =
       let o = or_parts (not (length ls == count p)) (is_some (first_from (is_not_once p ls) 1 (count p))) e in
       record {
-        as_many = eqb-true (length ls) (count p) (not_false (length ls == count p) o.0);
+        as_many = eqb-true (length ls) (count p) (not-false (length ls == count p) o.0);
         each_once = λ r one most.
-            let out = at_rank (is_not_once p ls) (is_none (first_from (is_not_once p ls) 1 (count p)) o.1) r (one, most) in
-            eqb-true (count_by (λ l. bytes_eq l.0 (flight p r).callsign) ls) 1 (not_false (count_by (λ l. bytes_eq l.0 (flight p r).callsign) ls == 1) out);
+            let out = at_rank (is_not_once p ls) (none_left (first_from (is_not_once p ls) 1 (count p)) o.1) r (one, most) in
+            eqb-true (count_by (λ l. bytes_eq l.0 (flight p r).callsign) ls) 1 (not-false (count_by (λ l. bytes_eq l.0 (flight p r).callsign) ls == 1) out);
       }
 
   not_close : (f g : ℕ) → second p ls f ≤ second p ls g → is_close_behind p ls f g ≡ false → second p ls f + (ranked p).apart f g ≤ second p ls g
@@ -73,7 +65,7 @@ module _ (p : Problem) (ls : Landings) where
   -- and keep every rule
   pub are_feasible : IsWellFormed p → first_from (is_shut p ls) 1 (count p) ≡ None → first_from (is_early p ls) 1 (count p) ≡ None → first_pair_from (first_too_close p ls) 1 (count p) ≡ None → first_pair_from (first_out_of_order p ls) 1 (count p) ≡ None → first_from (is_shifted p ls) 1 (count p) ≡ None → Feasible (ranked p) (of_rank 0 (seconds p ls))
   are_feasible h shut early close order shifted = record {
-    opened = λ r q. not_false _ (at_rank (is_shut p ls) shut r q);
+    opened = λ r q. not-false _ (at_rank (is_shut p ls) shut r q);
     started = λ r q. ltb-false (second p ls r) ((ranked p).start r) (at_rank (is_early p ls) early r q);
     separated = λ f g qf qg ne le. elim (cases_lt f g) [
       | inl lt ↦ not_close f g le (not_both f g lt (at_pair (are_too_close p ls) close f g qf qg)).0
@@ -82,7 +74,7 @@ module _ (p : Problem) (ls : Landings) where
         | inr other ↦ not_close f g le (not_both g f (omega arith) (at_pair (are_too_close p ls) close g f qg qf)).1
       ]
     ];
-    in_order = λ f g qf qg b. ltb-true (second p ls f) (second p ls g) (not_false (ltb (second p ls f) (second p ls g)) (and_false ((ranked p).rules.before f g) (not (ltb (second p ls f) (second p ls g))) (at_pair (are_out_of_order p ls) order f g qf qg) b));
+    in_order = λ f g qf qg b. ltb-true (second p ls f) (second p ls g) (not-false (ltb (second p ls f) (second p ls g)) (and_false ((ranked p).rules.before f g) (not (ltb (second p ls f) (second p ls g))) (at_pair (are_out_of_order p ls) order f g qf qg) b));
     not_early = λ r q.
         let o = or_parts (ltb (place p ls r + p.k) r) (ltb (r + p.k) (place p ls r + (flight p r).passed)) (at_rank (is_shifted p ls) shifted r q) in
         let a = ltb-false (place p ls r + p.k) r o.0 in
@@ -104,21 +96,3 @@ module _ (p : Problem) where
 
   pub sound_problem : IsWellFormed p → SoundProblem (ranked p)
   sound_problem h = sound_ranked p h.table (λ q r e. let b = h.between_ranks q r e in (b.0, b.1))
-
-  costs_rise : (o : Objective) (f : Waiting) (t u : ℕ) → t ≤ u → cost_by o f t ≤ cost_by o f u
-  costs_rise Makespan f t u le = omega arith
-  costs_rise Delay f t u le = mul-le-mul_left f.weight (omega arith)
-
-  pub never_cheaper : NeverCheaper (cost_at p)
-  never_cheaper = record { mono = λ r t u le. costs_rise p.objective (flight p r) t u le }
-
-  last_rises : (fs : List Waiting) (t u : ℕ) → t ≤ u → makespan_by fs p t ≤ makespan_by fs p u
-  last_rises [] t u le = omega arith
-  last_rises (f ∷ fs) t u le = le
-
-  values_rise : (o : Objective) (a b : Pair) → NoWorse a b → value_by o p a ≤ value_by o p b
-  values_rise Makespan a b le = last_rises p.flights a.0 b.0 le.0
-  values_rise Delay a b le = let x = le.1 in omega arith
-
-  pub value_rises : (a b : Pair) → NoWorse a b → value_at p a ≤ value_at p b
-  value_rises a b le = values_rise p.objective a b le

@@ -1,21 +1,21 @@
 -- No state of the last stage contradicts what a whole certificate claims: each of its pairs is that of a feasible list.
-use Rattle.std.proofs.Common.{◌≡◌, ℕ, zero, suc, ◌+◌, ◌<◌, inl, inr, Bool, true, false, ◌&&◌, cond, eqb, ltb, List, [], ◌∷◌, length, get_or, max, Some, None, refl, sym, ap, ap₂, ◌∙◌, arith}
+use Rattle.std.proofs.Common.{◌≡◌, ℕ, Bool, true, false, ◌&&◌, cond, eqb, ltb, List, length, get_or, Some, None, refl, sym, ap, ◌∙◌, arith}
 use Rattle.std.specs.Prelude.{All}
 use Rattle.std.specs.List.{list_any}
 use Rattle.std.proofs.lemmas.Bool.{eqb-true, ne_eqb, le-ltb}
 use Rattle.landing_rules.specs.Flights.{Schedule}
 use Rattle.landing_rules.specs.Problem.{Problem, IsFeasibleList, list_objective}
-use Rattle.cps_theory.specs.RankLists.{IsRank, In, of_rank, upto}
+use Rattle.cps_theory.specs.RankLists.{IsRank, of_rank}
 use Rattle.cps_theory.specs.LandingTrail.{ranks}
-use Rattle.cps_theory.specs.Feasible.{Feasible, greatest, total, pair_at, second_in}
+use Rattle.cps_theory.specs.Feasible.{Feasible, pair_at, second_in}
 use Rattle.cps_theory.specs.Labels.{Pair}
 use Rattle.cps_theory.specs.FirstFound.{element_from}
 use Rattle.cps_theory.specs.Patterns.{PatternNode}
 use Rattle.cps_theory.specs.laws.LeastObjective.{landing_trail_feasible}
-use Rattle.cps_theory.specs.laws.RanksBelow.{in_upto}
 use Rattle.landing_joint.specs.RankedProblem.{ranked, cost_at, value_at}
 use Rattle.landing_joint.specs.shared.RankedLists.{feasible_agree, feasible_list}
 use Rattle.landing_joint.specs.shared.BestLists.{list_value}
+use Rattle.landing_joint.specs.shared.FirstBestLists.{list_of, list_of_at, list_of_long, value_agree}
 use Rattle.cps_problem.specs.WellFormed.{IsWellFormed}
 use Rattle.certificate.specs.States.{State}
 use Rattle.certificate.specs.declared.certificate.Claim.TheVariants as claim
@@ -26,47 +26,14 @@ use Rattle.cert_check.specs.Whole.{Attains, IsWholeState}
 use Rattle.cert_check.proofs.Sound.{sound_problem, passed_low}
 use Rattle.cert_check.proofs.WholeStates.{any_not, none_passes}
 
--- ---- a map from ranks to seconds as a list
-
-seconds_from : (ℕ → ℕ) → ℕ → ℕ → Schedule
-seconds_from t i zero = []
-seconds_from t i (suc n) = t i ∷ seconds_from t (suc i) n
-
-as_many : (t : ℕ → ℕ) (i n : ℕ) → length (seconds_from t i n) ≡ n
-unfolding seconds_from
-as_many t i zero = refl
-as_many t i (suc n) = ap suc (as_many t (suc i) n)
-
-second_at : (t : ℕ → ℕ) (i n k : ℕ) → k < n → get_or (seconds_from t i n) k 0 ≡ t (i + k)
-unfolding seconds_from
-second_at t i zero k lt = absurd (omega arith)
-second_at t i (suc n) zero lt = let e : i ≡ i + 0 = omega arith in ap t e
-second_at t i (suc n) (suc k) lt = let e : suc i + k ≡ i + suc k = omega arith in second_at t (suc i) n k (omega arith) ∙ ap t e
-
-of_ranks : (t : ℕ → ℕ) (n r : ℕ) → IsRank n r → of_rank 0 (seconds_from t 1 n) r ≡ t r
-of_ranks t n zero q = absurd (let a = q.0 in omega arith)
-of_ranks t n (suc i) q = let b = q.1 in let e : 1 + i ≡ suc i = omega arith in second_at t 1 n i (omega arith) ∙ ap t e
-
-greatest_agree : (t u : ℕ → ℕ) (n : ℕ) → ((r : ℕ) → IsRank n r → t r ≡ u r) → greatest t n ≡ greatest u n
-greatest_agree t u zero h = refl
-greatest_agree t u (suc n) h = ap₂ max (h (suc n) (omega arith, omega arith)) (greatest_agree t u n (λ r q. let a = q.0 in let b = q.1 in h r (omega arith, omega arith)))
-
-total_agree : (f g : ℕ → ℕ) (rs : List ℕ) → ((r : ℕ) → In r rs → f r ≡ g r) → total f rs ≡ total g rs
-total_agree f g [] h = refl
-total_agree f g (r ∷ rs) h = ap₂ (λ (a b : ℕ). a + b) (h r (inl refl)) (total_agree f g rs (λ x i. h x (inr i)))
-
 module _ (p : Problem) (well : IsWellFormed p) where
   -- a feasible map is a feasible list of its objective
-  pub list_of : (t : ℕ → ℕ) → Feasible (ranked p) t → (u : Schedule) × IsFeasibleList p u × (list_objective p u ≡ value_at p (pair_at (cost_at p) (count p) t))
-  list_of t f =
+  map_listed : (t : ℕ → ℕ) → Feasible (ranked p) t → (u : Schedule) × IsFeasibleList p u × (list_objective p u ≡ value_at p (pair_at (cost_at p) (count p) t))
+  map_listed t f =
       let n = count p in
-      let u = seconds_from t 1 n in
-      let long : length u ≡ length p.flights = as_many t 1 n in
-      let same = λ (r : ℕ) (q : IsRank n r). of_ranks t n r q in
-      let feasible = feasible_agree (ranked p) t (of_rank 0 u) (λ r q. sym (same r q)) f in
-      let last : greatest (of_rank 0 u) n ≡ greatest t n = greatest_agree (of_rank 0 u) t n same in
-      let costs : total (λ r. cost_at p r (of_rank 0 u r)) (upto n) ≡ total (λ r. cost_at p r (t r)) (upto n) = total_agree (λ r. cost_at p r (of_rank 0 u r)) (λ r. cost_at p r (t r)) (upto n) (λ r i. ap (cost_at p r) (same r (in_upto n r i))) in
-      (u, feasible_list p (passed_low p well) u long feasible, list_value p u long ∙ ap₂ (λ (a b : ℕ). value_at p (a, b)) last costs)
+      let u = list_of n t in
+      let long = list_of_long n t in
+      (u, feasible_list p (passed_low p well) u long (feasible_agree (ranked p) t (of_rank 0 u) (λ r q. sym (list_of_at n t r q)) f), list_value p u long ∙ value_agree p (of_rank 0 u) t (list_of_at n t))
 
   -- so a pair that a node of the last stage attains is that of a feasible list
   pub list_from : (w : PatternNode) (q : Pair) → Attains p w q → w.0 ≡ count p → (u : Schedule) × IsFeasibleList p u × (list_objective p u ≡ value_at p q)
@@ -74,7 +41,7 @@ module _ (p : Problem) (well : IsWellFormed p) where
       let xs = a.landings in
       let whole : length (ranks xs) ≡ count p = ap (λ (z : PatternNode). z.0) a.at ∙ at in
       let f = landing_trail_feasible (ranked p) (cost_at p) (sound_problem p well) xs a.legal a.landed whole in
-      let u = list_of (second_in xs) f.0 in
+      let u = map_listed (second_in xs) f.0 in
       (u.0, u.1, u.2 ∙ ap (value_at p) (sym f.1 ∙ a.is))
 
   -- ---- an optimum is claimed
@@ -102,7 +69,7 @@ module _ (p : Problem) (well : IsWellFormed p) where
 
   -- with no flight the list of none is feasible
   some_flight : NothingIsFeasible p → count p ≡ 0 → ⊥
-  some_flight none zero' = let u = list_of (λ r. 0) no_rank in none u.0 u.1
+  some_flight none zero' = let u = map_listed (λ r. 0) no_rank in none u.0 u.1
     where
       out : {A : Type 0} (r : ℕ) → IsRank (count p) r → A
       out r q = absurd (let a = q.0 in let b = q.1 in omega arith)

@@ -1,14 +1,13 @@
 -- States that leave nothing out keep the form of a certificate's, and are few.
-use Rattle.std.proofs.Common.{◌≡◌, ℕ, zero, suc, ◌+◌, ◌*◌, ◌<◌, ◌≤◌, ◌^◌, ◌⊎◌, inl, inr, Bool, true, false, cond, List, [], ◌∷◌, length, refl, sym, ap, subst, ◌∙◌, arith}
+use Rattle.std.proofs.Common.{◌≡◌, ℕ, suc, ◌+◌, ◌*◌, ◌<◌, ◌≤◌, ◌^◌, ◌⊎◌, inl, inr, Bool, true, false, List, [], ◌∷◌, length, refl, sym, ap, subst, ◌∙◌, arith}
 use Rattle.std.specs.Prelude.{All}
 use Rattle.std.specs.List.{list_all}
 use Rattle.std.specs.Ordering.{nat_cmp, bool_cmp, ordering_then}
-use Rattle.std.specs.Cmp.{nat_cmp_is}
 use Rattle.std.specs.Cmp.Lexicographic.{slice_cmp}
 use Rattle.std.specs.declared.cmp.Ordering.{Ordering}
 use Rattle.std.specs.declared.cmp.Ordering.TheVariants.{Less, Equal, Greater}
-use Rattle.std.proofs.Math.Nat.{pow-succ', pow-le-pow_right}
-use Rattle.std.proofs.lemmas.Bool.{cases_lt, cases_eq}
+use Rattle.std.proofs.Math.Nat.{pow-le-pow_right}
+use Rattle.std.proofs.lemmas.Cmp.{ranked}
 use Rattle.landing_rules.specs.Problem.{Problem}
 use Rattle.cps_theory.specs.Separation.{Landing}
 use Rattle.cps_theory.specs.LandingTrail.{ranks}
@@ -18,23 +17,19 @@ use Rattle.cps_theory.specs.Patterns.{IsShaped, PatternNode, pattern_node}
 use Rattle.cps_theory.specs.CertificateClosure.{node_cmp}
 use Rattle.cps_theory.specs.laws.PatternShape.{legal_is_shaped}
 use Rattle.cps_problem.specs.WellFormed.{IsWellFormed}
-use Rattle.certificate.specs.Patterns.{is_pattern_length}
+use Rattle.certificate.specs.Patterns.{is_pattern_length, number_of}
 use Rattle.certificate.specs.States.{State, IsState, AreStates, is_pair}
+use Rattle.certificate.specs.shared.PartsKept.{even_length, number_below}
 use Rattle.cert_check.specs.Landings.{count}
 use Rattle.cert_check.specs.States.{node_of, rules_of}
 use Rattle.cert_check.specs.Whole.{IsWholeState, AreWholeStates}
-use Rattle.cert_check.specs.shared.OneList.{AscendBy, Among, all_among}
+use Rattle.landing_rules.specs.shared.Counting.{Member}
+use Rattle.landing_rules.specs.shared.Members.{all_at}
+use Rattle.landing_rules.specs.shared.OneList.{AscendBy}
 use Rattle.cert_check.proofs.Sound.{sound_problem}
 use Rattle.cert_check.proofs.WholeUnique.{ascending}
 
 -- ---- each state
-
-even_length : (k : ℕ) → k ≤ 3 → is_pattern_length (2 * k) ≡ true
-even_length zero h = refl
-even_length (suc zero) h = refl
-even_length (suc (suc zero)) h = refl
-even_length (suc (suc (suc zero))) h = refl
-even_length (suc (suc (suc (suc k)))) h = absurd (omega arith)
 
 some_pair : (q : Pair) (ps : List Pair) → InPairs q ps → 1 ≤ length ps
 some_pair q [] i = absurd i
@@ -75,44 +70,16 @@ module _ (p : Problem) (well : IsWellFormed p) where
 
 -- ---- how many
 
--- a pattern as a number, its first digit the highest
-number : List Bool → ℕ
-number [] = 0
-number (d ∷ ds) = cond d (2 ^ length ds) 0 + number ds
-
-number_low : (ds : List Bool) → number ds < 2 ^ length ds
-unfolding number
-number_low [] = omega arith
-number_low (true ∷ ds) = let a = number_low ds in let b = pow-succ' 2 (length ds) in omega arith
-number_low (false ∷ ds) = let a = number_low ds in let b = pow-succ' 2 (length ds) in omega arith
-
-nat_less : (m n : ℕ) → nat_cmp m n ≡ Less → m < n
-nat_less m n e = elim (cases_lt m n) [
-  | inl lt ↦ lt
-  | inr le ↦ elim (cases_eq m n) [
-    | inl same ↦ absurd (let h = nat_cmp_is m n Equal same in cc)
-    | inr ne ↦ absurd (let h = nat_cmp_is m n Greater (omega arith) in cc)
-  ]
-]
-
-nat_equal : (m n : ℕ) → nat_cmp m n ≡ Equal → m ≡ n
-nat_equal m n e = elim (cases_lt m n) [
-  | inl lt ↦ absurd (let h = nat_cmp_is m n Less lt in cc)
-  | inr le ↦ elim (cases_eq m n) [ inl same ↦ same | inr ne ↦ absurd (let h = nat_cmp_is m n Greater (omega arith) in cc) ]
-]
-
-number_rises : (xs ys : List Bool) → length xs ≡ length ys → slice_cmp bool_cmp xs ys ≡ Less → number xs < number ys
-unfolding number
+number_rises : (xs ys : List Bool) → length xs ≡ length ys → slice_cmp bool_cmp xs ys ≡ Less → number_of xs < number_of ys
 number_rises [] [] same e = absurd (cc)
 number_rises [] (y ∷ ys) same e = absurd (omega arith)
 number_rises (x ∷ xs) [] same e = absurd (omega arith)
 number_rises (true ∷ xs) (true ∷ ys) same e = let more = number_rises xs ys (omega arith) e in let l : length xs ≡ length ys = omega arith in let b = ap (λ i. 2 ^ i) l in omega arith
 number_rises (false ∷ xs) (false ∷ ys) same e = let more = number_rises xs ys (omega arith) e in omega arith
 number_rises (true ∷ xs) (false ∷ ys) same e = absurd (cc)
-number_rises (false ∷ xs) (true ∷ ys) same e = let a = number_low xs in let l : length xs ≡ length ys = omega arith in let b = ap (λ i. 2 ^ i) l in omega arith
+number_rises (false ∷ xs) (true ∷ ys) same e = let a = number_below xs in let l : length xs ≡ length ys = omega arith in let b = ap (λ i. 2 ^ i) l in omega arith
 
-number_same : (xs ys : List Bool) → length xs ≡ length ys → slice_cmp bool_cmp xs ys ≡ Equal → number xs ≡ number ys
-unfolding number
+number_same : (xs ys : List Bool) → length xs ≡ length ys → slice_cmp bool_cmp xs ys ≡ Equal → number_of xs ≡ number_of ys
 number_same [] [] same e = refl
 number_same [] (y ∷ ys) same e = absurd (omega arith)
 number_same (x ∷ xs) [] same e = absurd (omega arith)
@@ -121,15 +88,15 @@ number_same (false ∷ xs) (false ∷ ys) same e = let more = number_same xs ys 
 number_same (true ∷ xs) (false ∷ ys) same e = absurd (cc)
 number_same (false ∷ xs) (true ∷ ys) same e = absurd (cc)
 
-number_small : (ds : List Bool) → length ds ≤ 6 → number ds < 64
-number_small ds few = let a = number_low ds in let b = power_few (length ds) few in omega arith
+number_small : (ds : List Bool) → length ds ≤ 6 → number_of ds < 64
+number_small ds few = let a = number_below ds in let b = power_few (length ds) few in omega arith
   where
     power_few : (i : ℕ) → i ≤ 6 → 2 ^ i ≤ 64
     power_few i le = let a : 2 ^ i ≤ 2 ^ 6 = pow-le-pow_right (omega arith) le in omega arith
 
 -- a state's stage, pattern and last rank as one number
 code : State → ℕ
-code s = (s.stage * 64 + number s.pattern) * 64 + s.last
+code s = (s.stage * 64 + number_of s.pattern) * 64 + s.last
 
 then_less : (a b : Ordering) → ordering_then a b ≡ Less → (a ≡ Less) ⊎ ((a ≡ Equal) × (b ≡ Less))
 then_less Less b e = inl refl
@@ -156,15 +123,15 @@ module _ (width : ℕ) (narrow : width ≤ 6) where
       let x = h.last in
       let y = k.last in
       elim (then_less (nat_cmp s.stage t.stage) _ e) [
-        | inl lt ↦ (let u = nat_less s.stage t.stage lt in omega arith)
-        | inr r ↦ (let u = nat_equal s.stage t.stage r.0 in elim (then_less (slice_cmp bool_cmp s.pattern t.pattern) (nat_cmp s.last t.last) r.1) [
+        | inl lt ↦ (let u : s.stage < t.stage = ranked s.stage t.stage Less (sym lt) in omega arith)
+        | inr r ↦ (let u : s.stage ≡ t.stage = ranked s.stage t.stage Equal (sym r.0) in elim (then_less (slice_cmp bool_cmp s.pattern t.pattern) (nat_cmp s.last t.last) r.1) [
           | inl lt ↦ (let v = number_rises s.pattern t.pattern same lt in omega arith)
-          | inr q ↦ (let v = number_same s.pattern t.pattern same q.0 in let z = nat_less s.last t.last q.1 in omega arith)
+          | inr q ↦ (let v = number_same s.pattern t.pattern same q.0 in let z : s.last < t.last = ranked s.last t.last Less (sym q.1) in omega arith)
         ])
       ]
 
   -- so many numbers are free from one on
-  few_from : (ss : List State) (least : ℕ) → AscendBy (λ s t. node_cmp (node_of s) (node_of t) ≡ Less) ss → ((s : State) → Among s ss → IsCoded width s × (least ≤ code s)) → least ≤ 249856 → least + length ss ≤ 249856
+  few_from : (ss : List State) (least : ℕ) → AscendBy (λ s t. node_cmp (node_of s) (node_of t) ≡ Less) ss → ((s : State) → Member s ss → IsCoded width s × (least ≤ code s)) → least ≤ 249856 → least + length ss ≤ 249856
   few_from [] least up h le = omega arith
   few_from (s ∷ ss) least up h le =
       let here = h s (inl refl) in
@@ -185,5 +152,5 @@ module _ (p : Problem) (well : IsWellFormed p) where
   pub whole_in_form : (ss : List State) → AreWholeStates p ss → All (λ s. list_all is_pair s.pairs ≡ true) ss → AreStates ss × (length ss < 4294967295)
   whole_in_form ss h pairs =
       let narrow = well.few_places in
-      let few = few_from (2 * p.k) (omega arith) ss 0 (ascending ss h.ascending) (λ s i. (coded s (all_among (IsWholeState p) ss h.each s i), omega arith)) (omega arith) in
+      let few = few_from (2 * p.k) (omega arith) ss 0 (ascending ss h.ascending) (λ s i. (coded s (all_at (IsWholeState p) ss h.each s i), omega arith)) (omega arith) in
       (states_in_form p well ss h.each pairs, omega arith)

@@ -27,6 +27,7 @@ use Rattle.cps_theory.specs.laws.NodeOrder.{node_total}
 use Rattle.cps_theory.specs.laws.PatternNetwork.{pattern_network}
 use Rattle.cps_theory.specs.laws.PatternShape.{legal_is_shaped}
 use Rattle.landing_joint.specs.RankedProblem.{ranked, after_last, start_at, first_at, cost_at}
+use Rattle.landing_joint.specs.shared.FirstBestLists.{costs_rise}
 use Rattle.landing_joint.specs.shared.FirstOpen.{is_first_open}
 use Rattle.cps_problem.specs.WellFormed.{IsWellFormed}
 use Rattle.certificate.specs.States.{State}
@@ -34,7 +35,7 @@ use Rattle.cert_check.specs.Landings.{count, flight}
 use Rattle.cert_check.specs.States.{node_of, pairs_of, rules_of, ready, successor, covers, is_missed, misses, first_missed, missed_from, digit, is_one, is_wrong_digit, is_shaped, is_misshapen, shape_failure}
 use Rattle.cert_check.specs.Whole.{Attains, IsWholeState, AreWholeStates}
 use Rattle.cert_check.proofs.PermitTests.{permits_from}
-use Rattle.cert_check.proofs.Sound.{sound_problem, never_cheaper}
+use Rattle.cert_check.proofs.Sound.{sound_problem}
 
 -- ---- tests of lists
 
@@ -148,7 +149,7 @@ module _ (p : Problem) (well : IsWellFormed p) where
   next_attained : (w : PatternNode) (b q : Pair) (r : ℕ) → Attains p w b → PatternPermits (rules_of p) w r → successor p w.2 b r ≡ Some q → Attains p (pattern_push (rules_of p) w r) q
   next_attained w b q r a m e =
       let same : successor p w.2 b r ≡ next_pair (first_at p) (next_from (ranked p)) (cost_at p) w.2 b r = ap (λ (t : ℕ). option_map (λ (u : ℕ). (u, b.1 + cost_at p r u)) (first_at p r t)) (ready_is w b r a) in
-      attained_next PatternNode opens (first_at p) (next_from (ranked p)) (cost_at p) (Legal (rules_of p)) (pattern_node (rules_of p)) (PatternPermits (rules_of p)) (pattern_push (rules_of p)) pattern_newest (is_first_open p) (next_later (ranked p)) (never_cheaper p) (pattern_network (rules_of p) ones) w b r q a m (sym same ∙ e)
+      attained_next PatternNode opens (first_at p) (next_from (ranked p)) (cost_at p) (Legal (rules_of p)) (pattern_node (rules_of p)) (PatternPermits (rules_of p)) (pattern_push (rules_of p)) pattern_newest (is_first_open p) (next_later (ranked p)) (costs_rise p) (pattern_network (rules_of p) ones) w b r q a m (sym same ∙ e)
 
   -- ---- the states
 

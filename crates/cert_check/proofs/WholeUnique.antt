@@ -14,7 +14,9 @@ use Rattle.cps_theory.specs.laws.Staircases.{staircase_same}
 use Rattle.certificate.specs.States.{State, AreAscending}
 use Rattle.cert_check.specs.States.{node_of}
 use Rattle.cert_check.specs.Whole.{Attains, IsWholeState, AreWholeStates}
-use Rattle.cert_check.specs.shared.OneList.{Among, AscendBy, all_among, contained_among, one_list}
+use Rattle.landing_rules.specs.shared.Counting.{Member}
+use Rattle.landing_rules.specs.shared.Members.{all_at, contains_member}
+use Rattle.landing_rules.specs.shared.OneList.{AscendBy, one_list}
 use Rattle.cert_check.specs.shared.KeptPairs.{rising_staircase}
 
 -- its node comes before the other's
@@ -29,8 +31,8 @@ less_of Greater e = absurd cc
 before_trans : (a b c : State) → Before a b → Before b c → Before a c
 before_trans a b c h k = node_total.trans (node_of a) (node_of b) (node_of c) h k
 
-never_before : (s : State) → Before s s → ⊥
-never_before s e = let same = tied_itself node_total (node_of s) in absurd (cc)
+one_way : (s t : State) → Before s t → Before t s → ⊥
+one_way s t h k = let e = before_trans s t s h k in let same = tied_itself node_total (node_of s) in absurd (cc)
 
 pub ascending : (ss : List State) → AreAscending ss → AscendBy (λ s t. node_cmp (node_of s) (node_of t) ≡ Less) ss
 ascending [] h = tt
@@ -53,14 +55,13 @@ module _ (p : Problem) where
       let pairs = staircase_same s.pairs t.pairs (rising_staircase s.pairs h.rising) (rising_staircase t.pairs k.rising) (moved s t h k e) (moved t s k h (sym e)) in
       ap (λ (w : PatternNode). state_at w s.pairs) e ∙ ap (state_at (node_of t)) pairs
 
-  found : (ss ts : List State) → AreWholeStates p ss → AreWholeStates p ts → (s : State) → Among s ss → Among s ts
+  found : (ss ts : List State) → AreWholeStates p ss → AreWholeStates p ts → (s : State) → Member s ss → Member s ts
   found ss ts h k s i =
-      let here = all_among (IsWholeState p) ss h.each s i in
+      let here = all_at (IsWholeState p) ss h.each s i in
       let t = k.every (node_of s) here.landable.0 here.begun here.landable.1 in
-      let place = t.1 in
-      let among = contained_among ts t.0 place.0 place.1 place.2 in
-      let there = all_among (IsWholeState p) ts k.each t.0 among in
-      subst (λ (x : State). Among x ts) (one_state t.0 s there here t.2) among
+      let among = contains_member ts t.0 t.1 in
+      let there = all_at (IsWholeState p) ts k.each t.0 among in
+      subst (λ (x : State). Member x ts) (one_state t.0 s there here t.2) among
 
   pub whole_is_unique : (ss ts : List State) → AreWholeStates p ss → AreWholeStates p ts → ss ≡ ts
-  whole_is_unique ss ts h k = one_list Before never_before before_trans ss ts (ascending ss h.ascending) (ascending ts k.ascending) (found ss ts h k) (found ts ss k h)
+  whole_is_unique ss ts h k = one_list Before one_way ss ts (ascending ss h.ascending) (ascending ts k.ascending) (found ss ts h k) (found ts ss k h)

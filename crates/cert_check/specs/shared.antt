@@ -1,4 +1,3 @@
--- Lemmas that crates above cite too: lists in one order, states from what is kept of each node, and one state more.
-pub mod OneList
+-- Lemmas that crates above cite too: states from what is kept of each node, and one state more.
 pub mod KeptPairs
 pub mod StateEnds

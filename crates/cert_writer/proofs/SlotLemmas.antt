@@ -6,26 +6,21 @@ use Rattle.std.proofs.lemmas.Nat.{one_shl, shl_whole, pow_pos, div-mul-add}
 use Rattle.std.proofs.lemmas.Nat.Bits.{bit_at_or, bit_at_ones, bit_at_ones_above, bit_at-lt, bit_at-suc}
 use Rattle.precedence.specs.Pairs.{HasBit}
 use Rattle.std.specs.Ordering.{bool_cmp, nat_cmp, ordering_then}
-use Rattle.std.specs.declared.cmp.Ordering.TheVariants.{Less, Equal, Greater}
+use Rattle.std.specs.declared.cmp.Ordering.TheVariants.{Less, Equal}
+use Rattle.std.specs.Cmp.{nat_cmp_is}
 use Rattle.std.specs.Cmp.Lexicographic.{slice_cmp}
-use Rattle.std.proofs.Math.Nat.{pow-suc, div-add-mod', pow-le-pow_right}
-use Rattle.std.proofs.lemmas.Bool.{cases_lt, lt-ltb, le-ltb, eq-eqb}
+use Rattle.std.proofs.Math.Nat.{pow-succ', div-add-mod', pow-le-pow_right}
+use Rattle.std.proofs.lemmas.Bool.{cases_lt}
 use Rattle.cps_theory.specs.Patterns.{PatternNode}
 use Rattle.cps_theory.specs.CertificateClosure.{node_cmp}
-use Rattle.certificate.specs.Patterns.{bits}
-use Rattle.cert_writer.specs.Slots.{number_of, HasNumber, HasSlot}
-
-double : (n : ℕ) → 2 ^ suc n ≡ 2 * 2 ^ n
-double n = let e = pow-suc 2 n in omega (arith, e)
+use Rattle.landing_joint.specs.shared.NodePairs.{node_is}
+use Rattle.certificate.specs.Patterns.{bits, number_of}
+use Rattle.certificate.specs.shared.PartsKept.{number_below}
+use Rattle.cert_writer.specs.Slots.{HasNumber, HasSlot}
 
 pub length_bits : (n ones : ℕ) → length (bits n ones) ≡ n
 length_bits zero ones = refl
 length_bits (suc n) ones = ap suc (length_bits n (ones / 2))
-
-pub number_below : (ds : List Bool) → number_of ds < 2 ^ length ds
-number_below [] = omega arith
-number_below (true ∷ ds) = let a = number_below ds in let e = double (length ds) in omega (arith, a, e)
-number_below (false ∷ ds) = let a = number_below ds in let e = double (length ds) in omega (arith, a, e)
 
 -- digits of one number are one
 pub number_one : (xs ys : List Bool) → length xs ≡ length ys → number_of xs ≡ number_of ys → xs ≡ ys
@@ -85,7 +80,7 @@ turned_more n j rest ones e =
     ap₂ (λ (d : Bool) (ds : List Bool). cond d (2 ^ length ds) 0 + number_of ds) (odd_digit ones (rest % 2) b) tail
     ∙ ap (λ m. cond (eqb (rest % 2) 1) (2 ^ m) 0 + number_of (bits j ones)) (length_bits j ones)
     ∙ ap (λ v. v + number_of (bits j ones)) (digit_value (rest % 2) (2 ^ j) b) in
-    let d = double j in
+    let d = pow-succ' 2 j in
     let split : rest ≡ rest / 2 * 2 + rest % 2 = omega arith in
     let whole : rest * 2 ^ j ≡ (rest / 2 * 2 + rest % 2) * 2 ^ j = ap (λ r. r * 2 ^ j) split in
     let up : rest / 2 * 2 ^ suc j ≡ rest / 2 * (2 * 2 ^ j) = ap (λ m. rest / 2 * m) d in
@@ -94,7 +89,7 @@ turned_more n j rest ones e =
 turned_step : (n j rest ones : ℕ) → (n ≡ rest * 2 ^ j + number_of (bits j ones)) × (ones < 2 ^ j) → (n ≡ rest / 2 * 2 ^ (j + 1) + number_of (bits (j + 1) (ones * 2 + rest % 2))) × (ones * 2 + rest % 2 < 2 ^ (j + 1))
 turned_step n j rest ones h =
     let e : suc j ≡ j + 1 = omega arith in
-    let d = double j in
+    let d = pow-succ' 2 j in
     let b : rest % 2 < 2 = omega arith in
     let low = h.1 in
     let small : ones * 2 + rest % 2 < 2 ^ suc j = omega (arith, d, b, low) in
@@ -105,7 +100,7 @@ zeros_behind : (d ones : ℕ) → reverse_bits_onto d 0 ones ≡ ones * 2 ^ d
 unfolding reverse_bits_onto
 zeros_behind zero ones = omega arith
 zeros_behind (suc d) ones =
-    let up : ones * 2 ^ suc d ≡ ones * (2 * 2 ^ d) = ap (λ m. ones * m) (double d) in
+    let up : ones * 2 ^ suc d ≡ ones * (2 * 2 ^ d) = ap (λ m. ones * m) (pow-succ' 2 d) in
     let rest : (ones * 2 + 0) * 2 ^ d ≡ ones * 2 ^ suc d = omega (arith, up) in
     zeros_behind d (ones * 2 + 0) ∙ rest
 
@@ -121,7 +116,7 @@ turned_onto zero d n j zero ones h low =
     (ones, ap (λ i. reverse_bits_onto i 0 ones) (let none : 0 + d ≡ d = omega arith in none) ∙ zeros_behind d ones, same ∙ ap (λ i. number_of (bits i ones)) e, subst (λ i. ones < 2 ^ i) e h.1)
 turned_onto (suc m) d n j rest ones h low =
     let e : j + 1 + m ≡ j + suc m = omega arith in
-    let t = turned_onto m d n (j + 1) (rest / 2) (ones * 2 + rest % 2) (turned_step n j rest ones h) (let e = double m in omega (arith, low, e)) in
+    let t = turned_onto m d n (j + 1) (rest / 2) (ones * 2 + rest % 2) (turned_step n j rest ones h) (let e = pow-succ' 2 m in omega (arith, low, e)) in
     (t.0, ap (λ i. reverse_bits_onto i rest ones) (let one : suc m + d ≡ suc (m + d) = omega arith in one) ∙ t.1, t.2 ∙ ap (λ i. number_of (bits i t.0)) e, subst (λ i. t.0 < 2 ^ i) e t.3)
 
 pub turned_bits : (k n r : ℕ) → k ≤ 3 → n < 2 ^ (2 * k) → r ≡ reverse_bits w8 (n * 2 ^ 1 % 256)
@@ -145,7 +140,7 @@ turned_bits k n r near low is =
 bits_add : (n q y : ℕ) → bits n (q * 2 ^ n + y) ≡ bits n y
 bits_add zero q y = refl
 bits_add (suc n) q y =
-    let d = double n in
+    let d = pow-succ' 2 n in
     let up : q * 2 ^ suc n ≡ q * (2 * 2 ^ n) = ap (λ m. q * m) d in
     let low : (q * 2 ^ suc n + y) % 2 ≡ y % 2 = omega (arith, up) in
     let high : (q * 2 ^ suc n + y) / 2 ≡ q * 2 ^ n + y / 2 = omega (arith, up) in
@@ -154,7 +149,7 @@ bits_add (suc n) q y =
 bits_one : (n a b : ℕ) → a < 2 ^ n → b < 2 ^ n → bits n a ≡ bits n b → a ≡ b
 bits_one zero a b x y e = omega (arith, x, y)
 bits_one (suc n) a b x y e =
-    let d = double n in
+    let d = pow-succ' 2 n in
     let low = same_digit (a % 2) (b % 2) (omega arith) (omega arith) (head_same e) in
     let high = bits_one n (a / 2) (b / 2) (omega (arith, x, d)) (omega (arith, y, d)) (tail_same e) in
     omega (arith, low, high)
@@ -177,9 +172,6 @@ bits_one (suc n) a b x y e =
     same_digit a (suc (suc b)) x y e = absurd (omega (arith, y))
 
 -- ---- slots
-
-node_is : (m n : ℕ) (ds es : List Bool) (q r : ℕ) → m ≡ n → ds ≡ es → q ≡ r → ◌≡◌ {A = PatternNode} (m, ds, q) (n, es, r)
-node_is m n ds es q r a b c = ap (λ x. (x, ds, q)) a ∙ ap (λ x. (n, x, q)) b ∙ ap (λ x. (n, es, x)) c
 
 pub one_slot : (k : ℕ) (d : PatternNode) (s t : ℕ) → HasSlot k d s → HasSlot k d t → s ≡ t
 one_slot k d s t a b =
@@ -234,12 +226,6 @@ number_near k d few long low high =
 
 -- ---- the order of nodes
 
-cmp_less : (a b : ℕ) → a < b → nat_cmp a b ≡ Less
-cmp_less a b lt = ap (λ (t : Bool). cond t Less (cond (eqb a b) Equal Greater)) (lt-ltb a b lt)
-
-cmp_equal : (a b : ℕ) → a ≡ b → nat_cmp a b ≡ Equal
-cmp_equal a b e = ap₂ (λ (t u : Bool). cond t Less (cond u Equal Greater)) (le-ltb a b (omega (arith, e))) (eq-eqb a b e)
-
 digits_equal : (xs ys : List Bool) → xs ≡ ys → slice_cmp bool_cmp xs ys ≡ Equal
 digits_equal xs ys e = ap (slice_cmp bool_cmp xs) (sym e) ∙ itself xs
   where
@@ -249,11 +235,11 @@ digits_equal xs ys e = ap (slice_cmp bool_cmp xs) (sym e) ∙ itself xs
     itself (false ∷ xs) = itself xs
 
 pub earlier_less : (d e : PatternNode) → d.0 < e.0 → node_cmp d e ≡ Less
-earlier_less d e lt = ap (λ o. ordering_then o (ordering_then (slice_cmp bool_cmp d.1 e.1) (nat_cmp d.2 e.2))) (cmp_less d.0 e.0 lt)
+earlier_less d e lt = ap (λ o. ordering_then o (ordering_then (slice_cmp bool_cmp d.1 e.1) (nat_cmp d.2 e.2))) (sym (nat_cmp_is d.0 e.0 Less lt))
 
 pub lesser_less : (k : ℕ) (d e : PatternNode) (m n : ℕ) → d.0 ≡ e.0 → HasNumber k d m → HasNumber k e n → m < n → node_cmp d e ≡ Less
 lesser_less k d e m n at a b lt =
-    ap (λ o. ordering_then o (ordering_then (slice_cmp bool_cmp d.1 e.1) (nat_cmp d.2 e.2))) (cmp_equal d.0 e.0 at)
+    ap (λ o. ordering_then o (ordering_then (slice_cmp bool_cmp d.1 e.1) (nat_cmp d.2 e.2))) (sym (nat_cmp_is d.0 e.0 Equal at))
     ∙ elim (cases_lt (m / 8) (n / 8)) [
       | inl less ↦ ap (λ o. ordering_then o (nat_cmp d.2 e.2)) (number_less d.1 e.1 (a.digits ∙ sym b.digits) (let x = a.pattern in let y = b.pattern in omega (arith, x, y, less)))
       | inr ge ↦
@@ -261,13 +247,13 @@ lesser_less k d e m n at a b lt =
           let x = a.last in
           let y = b.last in
           ap (λ o. ordering_then o (nat_cmp d.2 e.2)) (digits_equal d.1 e.1 (number_one d.1 e.1 (a.digits ∙ sym b.digits) (a.pattern ∙ same ∙ sym b.pattern)))
-          ∙ cmp_less d.2 e.2 (omega (arith, same, lt, x, y, at))
+          ∙ sym (nat_cmp_is d.2 e.2 Less (omega (arith, same, lt, x, y, at)))
     ]
 
 -- ---- the bits of marks
 
 double_at : (a k : ℕ) → a * 2 ^ suc k / 2 ≡ a * 2 ^ k
-double_at a k = let d : a * 2 ^ suc k ≡ a * (2 * 2 ^ k) = ap (λ m. a * m) (double k) in omega (arith, d)
+double_at a k = let d : a * 2 ^ suc k ≡ a * (2 * 2 ^ k) = ap (λ m. a * m) (pow-succ' 2 k) in omega (arith, d)
 
 shifted_bit : (a k y : ℕ) → k ≤ y → bit_at (a * 2 ^ k) y ≡ bit_at a (y - k)
 shifted_bit a zero y le = let e : a * 2 ^ 0 ≡ a = omega arith in let f : y ≡ y - 0 = omega arith in ap₂ bit_at e f

@@ -9,7 +9,7 @@ use Rattle.cps_theory.specs.Patterns.{PatternNode}
 use Rattle.certificate.specs.States.{State, is_pair}
 use Rattle.cert_check.specs.States.{node_of}
 use Rattle.cert_check.specs.shared.KeptPairs.{HoldsEntries, HoldAllEntries}
-use Rattle.cert_check.specs.shared.OneList.{all_among}
+use Rattle.landing_rules.specs.shared.Members.{all_at}
 use Rattle.cert_check.specs.shared.StateEnds.{IsBefore, ascending_end, node_left, node_end}
 use Rattle.cert_writer.specs.Slots.{HasNumber}
 use Rattle.cert_writer.specs.Written.{ComesBelow, AreWrittenBelow}
@@ -58,7 +58,7 @@ module _ (k : ℕ) (Entry : PatternNode → Pair → Type 0) (stage number : ℕ
       | inl old ↦ node_left ss s d (w.every d q one old e)
       | inr here ↦ node_end ss s d (one_node k (node_of s) d number (at ∙ sym here.0) has here.1)
     ];
-    ascending = ascending_end ss s w.ascending (λ x i. below_before k stage number x (node_of s) at has (all_among (λ t. ComesBelow k stage number (node_of t)) ss w.below x i));
+    ascending = ascending_end ss s w.ascending (λ x i. below_before k stage number x (node_of s) at has (all_at (λ t. ComesBelow k stage number (node_of t)) ss w.below x i));
     below = All-push (λ t. ComesBelow k stage (number + 1) (node_of t)) ss s below_still (inr (at, number, omega arith, has));
     in_range = All-push (λ t. list_all is_pair t.pairs ≡ true) ss s w.in_range pairs;
   }

@@ -1,5 +1,5 @@
 -- The state of a slot.
-use Rattle.std.proofs.Common.{◌≡◌, ℕ, zero, suc, ◌+◌, ◌-◌, ◌*◌, ◌/◌, ◌%◌, ◌<◌, ◌≤◌, ◌^◌, inl, List, [], ◌∷◌, ◌++◌, length, get_or, true, Option, refl, sym, ap, subst, ◌∙◌, arith}
+use Rattle.std.proofs.Common.{◌≡◌, ℕ, ◌+◌, ◌-◌, ◌*◌, ◌/◌, ◌%◌, ◌<◌, ◌≤◌, ◌^◌, inl, List, [], ◌∷◌, ◌++◌, length, get_or, true, Option, refl, sym, ap, subst, ◌∙◌, arith}
 use Rattle.std.specs.Prelude.{ℤ}
 use Rattle.std.specs.List.{list_all}
 use Rattle.std.proofs.lemmas.List.{get_or_default}
@@ -14,22 +14,17 @@ use Rattle.replan.specs.Held.{HeldProblem}
 use Rattle.replan.specs.Readers.{AreStagesOf, stage_in, lists_in}
 use Rattle.certificate.specs.Patterns.{bits, is_pattern_length}
 use Rattle.certificate.specs.States.{State, IsState, is_pair, rises}
+use Rattle.certificate.specs.shared.PartsKept.{even_length}
 use Rattle.cert_check.specs.States.{node_of}
 use Rattle.cert_check.specs.shared.KeptPairs.{HoldsEntries}
 use Rattle.cert_writer.specs.StageEntries.{IsEntry, IsEntryOf}
 use Rattle.cert_writer.specs.Gathered.{AreGathered, HasBetter, HasOnly}
-use Rattle.cert_writer.specs.Slots.{number_of, HasNumber, HasSlot}
+use Rattle.certificate.specs.Patterns.{number_of}
+use Rattle.cert_writer.specs.Slots.{HasNumber, HasSlot}
 use Rattle.cert_writer.specs.Written.{AreWrittenBelow}
 use Rattle.cert_writer.proofs.SlotLemmas.{number_near, number_slot, slot_node, length_bits}
 use Rattle.cert_writer.proofs.GatherLemmas.{window_shape, place_landable}
 use Rattle.cert_writer.proofs.StateLemmas.{no_state, one_state, whole_stage}
-
-even_length : (k : ℕ) → k ≤ 3 → is_pattern_length (2 * k) ≡ true
-even_length zero h = refl
-even_length (suc zero) h = refl
-even_length (suc (suc zero)) h = refl
-even_length (suc (suc (suc zero))) h = refl
-even_length (suc (suc (suc (suc k)))) h = absurd (omega (arith, h))
 
 no_pair : (xs : List Pair) (q : Pair) → length xs ≡ 0 → InPairs q xs → ⊥
 no_pair [] q none i = i

@@ -1,12 +1,7 @@
 -- The nodes of a stage by number, in the order of a certificate; and the slots in which their pairs are put together.
-use Rattle.std.specs.Prelude.{◌≡◌, ℕ, ◌+◌, ◌*◌, ◌/◌, ◌%◌, ◌^◌, ◌<◌, List, [], ◌∷◌, Bool, length, if◌then◌else◌}
+use Rattle.std.specs.Prelude.{◌≡◌, ℕ, ◌+◌, ◌*◌, ◌/◌, ◌%◌, ◌^◌, ◌<◌, length}
 use Rattle.cps_theory.specs.Patterns.{PatternNode}
-use Rattle.certificate.specs.Patterns.{bits}
-
--- digits as a number, digit 1 the highest
-abbrev pub number_of : List Bool → ℕ
-number_of [] = 0
-number_of (d ∷ ds) = (if d then 2 ^ length ds else 0) + number_of ds
+use Rattle.certificate.specs.Patterns.{bits, number_of}
 
 -- the number of a node among those of its stage: by its digits, then by its last rank
 pub record HasNumber (k : ℕ) (d : PatternNode) (number : ℕ) : Type 0 where

@@ -3,8 +3,8 @@
 ghost use Rattle.std.specs.Prelude.{◌≡◌, ℕ, ◌+◌, ◌-◌, ◌*◌, ◌/◌, ◌^◌, ◌<◌, ◌≤◌, ◌⊎◌, ◌↔◌};
 ghost use Rattle.precedence.specs.Pairs.{HasBit};
 ghost use Rattle.cert_check.specs.PlacedBits.{digits_of};
-ghost use Rattle.certificate.specs.Patterns.{bits};
-ghost use Rattle.cert_writer.specs.Slots.{number_of, HasSlot};
+ghost use Rattle.certificate.specs.Patterns.{bits, number_of};
+ghost use Rattle.cert_writer.specs.Slots.{HasSlot};
 
 use cert_check::patterns_are_bits;
 use cps_network::Node;

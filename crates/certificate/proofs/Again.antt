@@ -2,18 +2,19 @@
 use Rattle.std.proofs.Common.{◌≡◌, ℕ, ◌<◌, ◌≤◌, ◌^◌, Bool, true, false, leb, not, List, [], ◌∷◌, ◌++◌, length, map, Some, None, refl, ap, ◌∙◌, arith, inl, inr}
 use Rattle.std.specs.Prelude.{◌==◌, codes, decimal}
 use Rattle.std.specs.List.{list_all}
-use Rattle.std.proofs.lemmas.Bool.{leb-true, lt-ltb}
+use Rattle.std.proofs.lemmas.Bool.{leb-true, lt-ltb, and_from, and_parts}
 use Rattle.std.proofs.lemmas.List.Elements.{All-append, All-cons}
 use Rattle.std.proofs.lemmas.List.{length-map, append-nil}
+use Rattle.landing_rules.specs.Limits.{greatest_value}
 use Rattle.cps_base.specs.Text.{is_callsign}
 use Rattle.text_parts.specs.Parts.{parts}
-use Rattle.text_parts.specs.shared.Printed.{Lacks, and_is, and_true, callsign_lacks, cut, decimal_lacks, decimal_reads, lacks_by, uncut}
+use Rattle.text_parts.specs.shared.Printed.{Lacks, callsign_lacks, cut, decimal_lacks, decimal_reads, lacks_by, uncut}
 use Rattle.certificate.specs.declared.certificate.Claim.{Claim}
 use Rattle.certificate.specs.declared.certificate.Claim.TheVariants.{Optimal, Infeasible}
 use Rattle.certificate.specs.Reading.{IsClaim}
 use Rattle.certificate.specs.Patterns.{is_pattern_length}
 use Rattle.certificate.specs.States.{Pair, State, IsState, is_pair}
-use Rattle.certificate.specs.Lines.{digit_of, is_digit, are_marks, pattern_in, pair_in, pair_by, pairs_in, state_in, state_by, state_from, landing_in, landing_by, claim_in, claim_by}
+use Rattle.certificate.specs.Lines.{digit_of, is_digit, are_pattern_digits, pattern_in, pair_in, pair_by, pairs_in, state_in, state_by, state_from, landing_in, landing_by, claim_in, claim_by}
 use Rattle.certificate.specs.Spelling.{digit_text, pattern_text, pair_text, pairs_text, state_text, landing_text, claim_text}
 
 -- ---- pairs
@@ -57,26 +58,26 @@ digit_back [] = refl
 digit_back (true ∷ ds) = ap (λ (xs : List Bool). true ∷ xs) (digit_back ds)
 digit_back (false ∷ ds) = ap (λ (xs : List Bool). false ∷ xs) (digit_back ds)
 
-all_marks : (ds : List Bool) → list_all is_digit (map digit_text ds) ≡ true
-all_marks [] = refl
-all_marks (true ∷ ds) = all_marks ds
-all_marks (false ∷ ds) = all_marks ds
+all_digits : (ds : List Bool) → list_all is_digit (map digit_text ds) ≡ true
+all_digits [] = refl
+all_digits (true ∷ ds) = all_digits ds
+all_digits (false ∷ ds) = all_digits ds
 
 no_blank : (ds : List Bool) → list_all (λ b. not (b == 32)) (map digit_text ds) ≡ true
 no_blank [] = refl
 no_blank (true ∷ ds) = no_blank ds
 no_blank (false ∷ ds) = no_blank ds
 
-marks_are : (d : Bool) (ds : List Bool) → is_pattern_length (length (d ∷ ds)) ≡ true → are_marks (map digit_text (d ∷ ds)) ≡ true
-marks_are d ds size =
+digits_are : (d : Bool) (ds : List Bool) → is_pattern_length (length (d ∷ ds)) ≡ true → are_pattern_digits (map digit_text (d ∷ ds)) ≡ true
+digits_are d ds size =
     let len = length-map (d ∷ ds) digit_text in
-    and_is _ _ (and_is _ _ (lt-ltb 0 (length (map digit_text (d ∷ ds))) (omega (arith, len))) (ap is_pattern_length len ∙ size)) (all_marks (d ∷ ds))
+    and_from _ _ (and_from _ _ (lt-ltb 0 (length (map digit_text (d ∷ ds))) (omega (arith, len))) (ap is_pattern_length len ∙ size)) (all_digits (d ∷ ds))
 
 pub pattern_reads : (ds : List Bool) → is_pattern_length (length ds) ≡ true → pattern_in (pattern_text ds) ≡ Some ds
 unfolding pattern_in
 pattern_reads [] size = refl
-pattern_reads (true ∷ ds) size = let m = marks_are true ds size in rw (m, digit_back ds) refl
-pattern_reads (false ∷ ds) size = let m = marks_are false ds size in rw (m, digit_back ds) refl
+pattern_reads (true ∷ ds) size = let m = digits_are true ds size in rw (m, digit_back ds) refl
+pattern_reads (false ∷ ds) size = let m = digits_are false ds size in rw (m, digit_back ds) refl
 
 pattern_lacks : (ds : List Bool) → Lacks 32 (pattern_text ds)
 pattern_lacks [] = lacks_by 32 (codes "-") refl
@@ -87,8 +88,8 @@ pattern_lacks (d ∷ ds) = lacks_by 32 (map digit_text (d ∷ ds)) (no_blank (d 
 pub in_ranges : (ps : List Pair) → list_all is_pair ps ≡ true → ArePairs ps
 in_ranges [] e = tt
 in_ranges (p ∷ ps) e =
-    let h = and_true (is_pair p) (list_all is_pair ps) e in
-    let r = and_true (leb p.0 172799) (leb p.1 4294967295) h.0 in
+    let h = and_parts (is_pair p) (list_all is_pair ps) e in
+    let r = and_parts (leb p.0 172799) (leb p.1 4294967295) h.0 in
     (leb-true p.0 172799 r.0, leb-true p.1 4294967295 r.1, in_ranges ps h.1)
 
 state_fields : (s : State) → IsState s → parts 32 (state_text s) ≡ codes "state" ∷ decimal s.stage ∷ pattern_text s.pattern ∷ decimal s.last ∷ map pair_text s.pairs
@@ -109,7 +110,7 @@ state_reads s h =
     let stage_fits : s.stage < 2 ^ 64 = let x = h.stage.1 in omega arith in
     let last_fits : s.last < 2 ^ 64 = let x = h.last.1 in omega arith in
     let some = lt-ltb 0 (length s.pairs) (let x = h.some_pairs in omega arith) in
-    let good = and_is _ _ some h.rising in
+    let good = and_from _ _ some h.rising in
     ap state_by (state_fields s h) ∙ rw (decimal_reads s.stage 1 60 stage_fits h.stage.0 h.stage.1, pattern_reads s.pattern h.pattern, decimal_reads s.last 1 60 last_fits h.last.0 h.last.1, pairs_read s.pairs (in_ranges s.pairs h.pairs)) (rw good refl)
 
 -- ---- landings and claims
@@ -138,4 +139,4 @@ claim_reads (Optimal v) h =
     let fits : v < 2 ^ 64 = omega arith in
     let behind : List ℕ → List (List ℕ) → List (List ℕ) = λ x xs. x ∷ xs in
     ap claim_by (cut 32 (codes "claim") (codes "optimal" ++ 32 ∷ decimal v) (lacks_by 32 (codes "claim") refl) refl ∙ ap (behind (codes "claim")) (cut 32 (codes "optimal") (decimal v) (lacks_by 32 (codes "optimal") refl) refl ∙ ap (behind (codes "optimal")) (uncut 32 (decimal v) (decimal_lacks v 32 fits (inl (omega arith))))))
-    ∙ rw (decimal_reads v 0 8639950000 fits (omega arith) h) refl
+    ∙ rw (decimal_reads v 0 greatest_value fits (omega arith) h) refl

@@ -7,21 +7,22 @@ use Rattle.std.specs.Str.{all_ascii_digits}
 use Rattle.std.specs.Str.Parse.{digits_value}
 use Rattle.std.proofs.lemmas.Str.Parse.{numerals_by_value, tells_all_ascii_digits}
 use Rattle.std.proofs.lemmas.Fmt.{decimal-digits_value}
-use Rattle.std.proofs.lemmas.Bool.{ltb-true, ltb-false}
+use Rattle.std.proofs.lemmas.Bool.{ltb-true, ltb-false, and_parts}
+use Rattle.std.proofs.lemmas.Option.{cond_some}
 use Rattle.std.proofs.lemmas.Grind.{common_steps}
 use Rattle.std.proofs.lemmas.Slice.Eq.{bytes_eq-Decides}
 use Rattle.std.proofs.lemmas.List.Splits.{join_with_byte-slice_split}
+use Rattle.landing_rules.specs.Limits.{greatest_value}
 use Rattle.cps_base.specs.Number.{number_within, is_number}
 use Rattle.cps_base.specs.declared.number.NumberFault.TheVariants.{NotNumber, Below, Above}
 use Rattle.cps_base.specs.Text.{is_callsign}
 use Rattle.text_parts.specs.Parts.{callsign_in, number_in, ok_of, parts}
-use Rattle.text_parts.specs.shared.Printed.{and_true}
 use Rattle.certificate.specs.declared.certificate.Claim.{Claim}
 use Rattle.certificate.specs.declared.certificate.Claim.TheVariants.{Optimal, Infeasible}
 use Rattle.certificate.specs.States.{Pair, State}
-use Rattle.certificate.specs.Lines.{digit_of, is_digit, are_marks, pattern_in, pair_in, pair_by, pairs_in, state_in, state_by, state_from, landing_in, landing_by, claim_in, claim_by}
+use Rattle.certificate.specs.Lines.{digit_of, is_digit, are_pattern_digits, pattern_in, pair_in, pair_by, pairs_in, state_in, state_by, state_from, landing_in, landing_by, claim_in, claim_by}
 use Rattle.certificate.specs.Spelling.{digit_text, pattern_text, pair_text, pairs_text, state_text, landing_text, claim_text}
-use Rattle.certificate.proofs.Valid.{then_some, map_some, passed, passed_then}
+use Rattle.certificate.proofs.Valid.{then_some, map_some, passed_then}
 
 -- the parts of a text, joined, are the text
 pub joined : (mark : ℕ) (text : List ℕ) (fields : List (List ℕ)) → parts mark text ≡ fields → join_with_byte mark fields ≡ text
@@ -34,12 +35,12 @@ same_text a b e = (bytes_eq-Decides a b).0 e
 
 ascii_digits : (text : List ℕ) → list_all is_ascii_digit text ≡ true → all_ascii_digits text ≡ true
 ascii_digits [] e = refl
-ascii_digits (b ∷ text) e = let h = and_true (is_ascii_digit b) (list_all is_ascii_digit text) e in rw h.0 (ascii_digits text h.1)
+ascii_digits (b ∷ text) e = let h = and_parts (is_ascii_digit b) (list_all is_ascii_digit text) e in rw h.0 (ascii_digits text h.1)
 
 numeral : (text : List ℕ) → is_number text ≡ true → digits_value 10 text < 2 ^ 64 → decimal (digits_value 10 text) ≡ text
 numeral text e small =
-    let h = and_true _ (list_all is_ascii_digit text) e in
-    let k = and_true (ltb 0 (length text)) (eqb (length text) 1 || not (eqb (get_or text 0 0) 48)) h.0 in
+    let h = and_parts _ (list_all is_ascii_digit text) e in
+    let k = and_parts (ltb 0 (length text)) (eqb (length text) 1 || not (eqb (get_or text 0 0) 48)) h.0 in
     let some : 0 < length text = ltb-true 0 (length text) k.0 in
     let lead : get_or text 0 0 ≡ 48 → length text ≡ 1 = λ z. let t = k.1 in grind (arith, common_steps) in
     decimal-digits_value (numerals_by_value _ tells_all_ascii_digits) text (ascii_digits text h.1) some lead small
@@ -90,7 +91,7 @@ pairs_printed a (p ∷ ps) xs e =
 digits_printed : (text : List ℕ) → list_all is_digit text ≡ true → map digit_text (map digit_of text) ≡ text
 digits_printed [] e = refl
 digits_printed (b ∷ text) e =
-    let h = and_true (is_digit b) (list_all is_digit text) e in
+    let h = and_parts (is_digit b) (list_all is_digit text) e in
     go (b == 48) (b == 49) refl refl h.0 ∙ ap (λ (t : List ℕ). b ∷ t) (digits_printed text h.1)
   where
     go : (x y : Bool) → (b == 48) ≡ x → (b == 49) ≡ y → x || y ≡ true → digit_text (digit_of b) ∷ map digit_text (map digit_of text) ≡ b ∷ map digit_text (map digit_of text)
@@ -98,18 +99,18 @@ digits_printed (b ∷ text) e =
     go true false p q e = let same : b ≡ 48 = grind (arith, common_steps) in subst (λ (c : ℕ). digit_text (digit_of c) ∷ map digit_text (map digit_of text) ≡ c ∷ map digit_text (map digit_of text)) (sym same) refl
     go false false p q e = absurd cc
 
-some_digits : (text : List ℕ) → are_marks text ≡ true → pattern_text (map digit_of text) ≡ text
+some_digits : (text : List ℕ) → are_pattern_digits text ≡ true → pattern_text (map digit_of text) ≡ text
 some_digits [] e = absurd cc
-some_digits (b ∷ text) e = digits_printed (b ∷ text) (and_true _ (list_all is_digit (b ∷ text)) e).1
+some_digits (b ∷ text) e = digits_printed (b ∷ text) (and_parts _ (list_all is_digit (b ∷ text)) e).1
 
 blank : pattern_text [] ≡ codes "-"
 blank = refl
 
 pub pattern_printed : (text : List ℕ) (ds : List Bool) → pattern_in text ≡ Some ds → pattern_text ds ≡ text
 unfolding pattern_in
-pattern_printed text ds e = go (bytes_eq text (codes "-")) (are_marks text) refl refl e
+pattern_printed text ds e = go (bytes_eq text (codes "-")) (are_pattern_digits text) refl refl e
   where
-    go : (a b : Bool) → bytes_eq text (codes "-") ≡ a → are_marks text ≡ b → cond a (Some []) (cond b (Some (map digit_of text)) None) ≡ Some ds → pattern_text ds ≡ text
+    go : (a b : Bool) → bytes_eq text (codes "-") ≡ a → are_pattern_digits text ≡ b → cond a (Some []) (cond b (Some (map digit_of text)) None) ≡ Some ds → pattern_text ds ≡ text
     go true b p q e = let same : [] ≡ ds = cc in ap pattern_text (sym same) ∙ blank ∙ sym (same_text text (codes "-") p)
     go false false p q e = absurd cc
     go false true p q e = let same : map digit_of text ≡ ds = cc in ap pattern_text (sym same) ∙ some_digits text q
@@ -123,7 +124,7 @@ state_from_printed stage pattern last pairs s e =
     let p = then_some (pattern_in pattern) _ s a.2 in
     let l = then_some (number_in last 1 60) _ s p.2 in
     let xs = then_some (pairs_in pairs) _ s l.2 in
-    let t = passed _ _ s xs.2 in
+    let t = cond_some _ _ s xs.2 in
     ap state_text (sym t.1)
     ∙ rw (number_printed stage 1 60 a.0 (omega arith) a.1, pattern_printed pattern p.0 p.1, number_printed last 1 60 l.0 (omega arith) l.1) (ap (λ (x : List ℕ). codes "state" ++ 32 ∷ (stage ++ 32 ∷ (pattern ++ 32 ∷ x))) (pairs_printed last pairs xs.0 xs.1))
 
@@ -153,7 +154,7 @@ landing_printed line l e = go (parts 32 line) refl e
     go (word ∷ name ∷ second ∷ []) f e =
         let o = passed_then (bytes_eq word (codes "land")) (option_and_then (λ c. option_map (λ t. (c, t)) (number_in second 0 172799)) (callsign_in name)) l e in
         let c = then_some (callsign_in name) (λ c. option_map (λ t. (c, t)) (number_in second 0 172799)) l o.1 in
-        let n = passed (is_callsign name) name c.0 c.1 in
+        let n = cond_some (is_callsign name) name c.0 c.1 in
         let t = map_some (number_in second 0 172799) (λ t. (c.0, t)) l c.2 in
         ap landing_text (sym t.2)
         ∙ ap (λ (x : List ℕ). codes "land" ++ 32 ∷ (x ++ 32 ∷ decimal t.0)) (sym n.1)
@@ -170,8 +171,8 @@ claim_printed line c e = go (parts 32 line) refl e
     go [] f e = absurd cc
     go (a ∷ []) f e = absurd cc
     go (word ∷ kind ∷ []) f e =
-        let o = passed (bytes_eq word (codes "claim") && bytes_eq kind (codes "infeasible")) Infeasible c e in
-        let w = and_true (bytes_eq word (codes "claim")) (bytes_eq kind (codes "infeasible")) o.0 in
+        let o = cond_some (bytes_eq word (codes "claim") && bytes_eq kind (codes "infeasible")) Infeasible c e in
+        let w = and_parts (bytes_eq word (codes "claim")) (bytes_eq kind (codes "infeasible")) o.0 in
         let a = same_text word (codes "claim") w.0 in
         let b = same_text kind (codes "infeasible") w.1 in
         ap claim_text (sym o.1)
@@ -180,11 +181,11 @@ claim_printed line c e = go (parts 32 line) refl e
         ∙ joined 32 line (word ∷ kind ∷ []) f
     go (word ∷ kind ∷ value ∷ []) f e =
         let o = passed_then (bytes_eq word (codes "claim") && bytes_eq kind (codes "optimal")) _ c e in
-        let w = and_true (bytes_eq word (codes "claim")) (bytes_eq kind (codes "optimal")) o.0 in
+        let w = and_parts (bytes_eq word (codes "claim")) (bytes_eq kind (codes "optimal")) o.0 in
         let a = same_text word (codes "claim") w.0 in
         let b = same_text kind (codes "optimal") w.1 in
-        let v = map_some (number_in value 0 8639950000) Optimal c o.1 in
-        let n = number_printed value 0 8639950000 v.0 (omega arith) v.1 in
+        let v = map_some (number_in value 0 greatest_value) Optimal c o.1 in
+        let n = number_printed value 0 greatest_value v.0 (omega arith) v.1 in
         ap claim_text (sym v.2)
         ∙ ap (λ (w : List ℕ). w ++ 32 ∷ (codes "optimal" ++ 32 ∷ decimal v.0)) (sym a)
         ∙ ap (λ (k : List ℕ). word ++ 32 ∷ (k ++ 32 ∷ decimal v.0)) (sym b)

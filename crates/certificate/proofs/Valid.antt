@@ -1,24 +1,25 @@
 -- What a text is read as keeps the ranges and the order.
-use Rattle.std.proofs.Common.{◌≡◌, ℕ, suc, ◌+◌, ◌-◌, ◌<◌, ◌≤◌, Bool, true, false, cond, ltb, leb, not, List, [], ◌∷◌, ◌++◌, length, map, Option, Some, None, Result, Ok, Err, refl, subst, arith, length-append}
+use Rattle.std.proofs.Common.{◌≡◌, ℕ, suc, ◌+◌, ◌-◌, ◌<◌, ◌≤◌, Bool, true, false, cond, ltb, not, List, [], ◌∷◌, ◌++◌, length, map, Option, Some, None, Result, Ok, Err, refl, subst, arith, length-append}
 use Rattle.std.proofs.lemmas.List.{length-map}
 use Rattle.std.specs.Prelude.{◌==◌, option_map, option_and_then, slice_get, bytes_eq, codes}
 use Rattle.std.specs.List.{list_all}
 use Rattle.std.specs.Str.Parse.{digits_value}
-use Rattle.std.proofs.lemmas.Bool.{ltb-false}
+use Rattle.std.proofs.lemmas.Bool.{ltb-false, le-leb, and_from, and_parts}
+use Rattle.std.proofs.lemmas.Option.{cond_some}
 use Rattle.std.proofs.lemmas.Grind.{common_steps}
 use Rattle.cps_base.specs.Answers.{◌>>=◌}
 use Rattle.cps_base.specs.Number.{number_within, is_number}
 use Rattle.cps_base.specs.declared.number.NumberFault.TheVariants.{NotNumber, Below, Above}
 use Rattle.cps_base.specs.Text.{is_callsign}
 use Rattle.text_parts.specs.Parts.{callsign_in, number_in, ok_of, parts}
-use Rattle.text_parts.specs.shared.Printed.{and_is, and_true}
 use Rattle.certificate.specs.declared.certificate.Claim.{Claim}
 use Rattle.certificate.specs.declared.fault.CertFault.{CertFault}
 use Rattle.certificate.specs.declared.fault.CertFault.TheVariants as fault
 use Rattle.certificate.specs.Patterns.{is_pattern_length}
 use Rattle.certificate.specs.States.{Pair, State, IsState, is_pair, rises, comes_behind, follows, AreStates, AreAscending}
-use Rattle.certificate.specs.Lines.{pattern_in, are_marks, digit_of, pair_by, pair_in, pairs_in, state_from, state_by, state_in, landing_by, landing_in}
+use Rattle.certificate.specs.Lines.{pattern_in, are_pattern_digits, digit_of, pair_by, pair_in, pairs_in, state_from, state_by, state_in, landing_by, landing_in}
 use Rattle.certificate.specs.Reading.{Cert, IsClaim, AreLandings, IsCertificate, Body, with_landing, with_state, line_in, lines_in, body_lines}
+use Rattle.certificate.specs.shared.PartsKept.{landings_more}
 
 pub then_some : {A B : Type 0} (o : Option A) (f : A → Option B) (y : B) → option_and_then f o ≡ Some y → (x : A) × (o ≡ Some x) × (f x ≡ Some y)
 then_some (Some x) f y e = (x, refl, e)
@@ -29,10 +30,6 @@ map_some (Some x) f y e = (x, refl, cc)
 map_some None f y e = absurd cc
 
 -- a test that let a value through
-pub passed : {A : Type 0} (b : Bool) (x y : A) → cond b (Some x) None ≡ Some y → (b ≡ true) × (x ≡ y)
-passed true x y e = (refl, cc)
-passed false x y e = absurd cc
-
 pub passed_then : {A : Type 0} (b : Bool) (o : Option A) (y : A) → cond b o None ≡ Some y → (b ≡ true) × (o ≡ Some y)
 passed_then true o y e = (refl, e)
 passed_then false o y e = absurd cc
@@ -51,20 +48,17 @@ number_range text least most n e = go (not (is_number text)) (ltb (digits_value 
         let high = ltb-false most (digits_value 10 text) q in
         (omega arith, omega arith)
 
-le_is : (m n : ℕ) → m ≤ n → leb m n ≡ true
-le_is m n h = grind (arith, common_steps)
-
 pub pattern_size : (text : List ℕ) (ds : List Bool) → pattern_in text ≡ Some ds → is_pattern_length (length ds) ≡ true
 unfolding pattern_in
-pattern_size text ds e = go (bytes_eq text (codes "-")) (are_marks text) refl e
+pattern_size text ds e = go (bytes_eq text (codes "-")) (are_pattern_digits text) refl e
   where
-    go : (a b : Bool) → are_marks text ≡ b → cond a (Some []) (cond b (Some (map digit_of text)) None) ≡ Some ds → is_pattern_length (length ds) ≡ true
+    go : (a b : Bool) → are_pattern_digits text ≡ b → cond a (Some []) (cond b (Some (map digit_of text)) None) ≡ Some ds → is_pattern_length (length ds) ≡ true
     go true b p e = let same : [] ≡ ds = cc in subst (λ (xs : List Bool). is_pattern_length (length xs) ≡ true) same refl
     go false false p e = absurd cc
     go false true p e =
         let same : map digit_of text ≡ ds = cc in
-        let all = and_true _ _ p in
-        let size = and_true _ _ all.0 in
+        let all = and_parts _ _ p in
+        let size = and_parts _ _ all.0 in
         subst (λ (xs : List Bool). is_pattern_length (length xs) ≡ true) same (rw (length-map text digit_of) size.1)
 
 pub pair_range : (text : List ℕ) (p : Pair) → pair_in text ≡ Some p → is_pair p ≡ true
@@ -79,7 +73,7 @@ pair_range text p e = go (parts 58 text) e
         let c = map_some (number_in b 0 4294967295) _ p t.2 in
         let second = number_range a 0 172799 t.0 t.1 in
         let cost = number_range b 0 4294967295 c.0 c.1 in
-        subst (λ (q : Pair). is_pair q ≡ true) c.2 (and_is _ _ (le_is t.0 172799 second.1) (le_is c.0 4294967295 cost.1))
+        subst (λ (q : Pair). is_pair q ≡ true) c.2 (and_from _ _ (le-leb t.0 172799 second.1) (le-leb c.0 4294967295 cost.1))
     go (a ∷ b ∷ d ∷ ps) e = absurd cc
 
 pub pairs_range : (ps : List (List ℕ)) (xs : List Pair) → pairs_in ps ≡ Some xs → list_all is_pair xs ≡ true
@@ -88,7 +82,7 @@ pairs_range [] xs e = let same : [] ≡ xs = cc in subst (λ (ys : List Pair). l
 pairs_range (p ∷ ps) xs e =
     let x = then_some (pair_in p) _ xs e in
     let more = map_some (pairs_in ps) _ xs x.2 in
-    subst (λ (ys : List Pair). list_all is_pair ys ≡ true) more.2 (and_is _ _ (pair_range p x.0 x.1) (pairs_range ps more.0 more.1))
+    subst (λ (ys : List Pair). list_all is_pair ys ≡ true) more.2 (and_from _ _ (pair_range p x.0 x.1) (pairs_range ps more.0 more.1))
 
 state_from_range : (stage pattern last : List ℕ) (pairs : List (List ℕ)) (s : State) → state_from stage pattern last pairs ≡ Some s → IsState s
 unfolding state_from
@@ -97,8 +91,8 @@ state_from_range stage pattern last pairs s e =
     let p = then_some (pattern_in pattern) _ s a.2 in
     let l = then_some (number_in last 1 60) _ s p.2 in
     let xs = then_some (pairs_in pairs) _ s l.2 in
-    let t = passed _ _ s xs.2 in
-    let both = and_true (ltb 0 (length xs.0)) (rises xs.0) t.0 in
+    let t = cond_some _ _ s xs.2 in
+    let both = and_parts (ltb 0 (length xs.0)) (rises xs.0) t.0 in
     let some : 1 ≤ length xs.0 = grind (arith, common_steps, both.0) in
     subst IsState t.1 (record {
       stage = number_range stage 1 60 a.0 a.1;
@@ -131,17 +125,13 @@ landing_range line l e = go (parts 32 line) e
     go (word ∷ name ∷ second ∷ []) e =
         let o = (passed_then _ _ l e).1 in
         let c = then_some (callsign_in name) _ l o in
-        let n = passed (is_callsign name) name c.0 c.1 in
+        let n = cond_some (is_callsign name) name c.0 c.1 in
         let t = map_some (number_in second 0 172799) _ l c.2 in
         let is : is_callsign c.0 ≡ true = subst (λ (x : List ℕ). is_callsign x ≡ true) n.1 n.0 in
         subst (λ (x : List ℕ × ℕ). (is_callsign x.0 ≡ true) × (x.1 ≤ 172799)) t.2 (is, (number_range second 0 172799 t.0 t.1).1)
     go (a ∷ b ∷ d ∷ f ∷ ps) e = absurd cc
 
 -- ---- one more
-
-landings_more : (ls : List (List ℕ × ℕ)) (l : List ℕ × ℕ) → AreLandings ls → is_callsign l.0 ≡ true → l.1 ≤ 172799 → AreLandings (ls ++ l ∷ [])
-landings_more [] l h p q = (p, q, tt)
-landings_more (x ∷ xs) l h p q = (h.0, h.1, landings_more xs l h.2 p q)
 
 states_more : (ss : List State) (s : State) → AreStates ss → IsState s → AreStates (ss ++ s ∷ [])
 states_more [] s h p = (p, tt)

@@ -4,3 +4,4 @@ pub mod States
 pub mod Lines
 pub mod Reading
 pub mod Spelling
+pub mod shared

@@ -1,7 +1,7 @@
 -- What one line of a certificate is.
 use Rattle.std.specs.Prelude.{ℕ, List, [], ◌∷◌, ◌&&◌, ◌||◌, ◌==◌, nat_lt, map, Bool, length, codes, bytes_eq, Option, Some, None, option_and_then, option_map, if◌then◌else◌}
 use Rattle.std.specs.List.{list_all}
-use Rattle.landing_rules.specs.Limits.{most_waiting}
+use Rattle.landing_rules.specs.Limits.{greatest_value, most_waiting}
 use Rattle.landing_rules.specs.Rules.{last_second}
 use Rattle.text_parts.specs.Parts.{callsign_in, number_in, parts}
 use Rattle.certificate.specs.declared.certificate.Claim.{Claim}
@@ -17,13 +17,13 @@ digit_of b = b == 49
 abbrev pub is_digit : ℕ → Bool
 is_digit b = b == 48 || b == 49
 
-abbrev pub are_marks : List ℕ → Bool
-are_marks text = (nat_lt 0 (length text) && is_pattern_length (length text)) && list_all is_digit text
+abbrev pub are_pattern_digits : List ℕ → Bool
+are_pattern_digits text = (nat_lt 0 (length text) && is_pattern_length (length text)) && list_all is_digit text
 
 unfoldable pub pattern_in : List ℕ → Option (List Bool)
 pattern_in text =
     if bytes_eq text (codes "-") then Some []
-    else if are_marks text then Some (map digit_of text)
+    else if are_pattern_digits text then Some (map digit_of text)
     else None
 
 abbrev pub pair_by : List (List ℕ) → Option Pair
@@ -62,9 +62,9 @@ landing_by fields = None
 unfoldable pub landing_in : List ℕ → Option (List ℕ × ℕ)
 landing_in line = landing_by (parts 32 line)
 
--- the value: at most 500 flights of weight 100, each 172,799 seconds late
+-- the value of an optimal plan
 abbrev pub claim_with : List ℕ → Option Claim
-claim_with value = option_map Optimal (number_in value 0 8639950000)
+claim_with value = option_map Optimal (number_in value 0 greatest_value)
 
 unfoldable pub claim_by : List (List ℕ) → Option Claim
 claim_by (word ∷ kind ∷ []) = if bytes_eq word (codes "claim") && bytes_eq kind (codes "infeasible") then Some Infeasible else None

@@ -2,6 +2,7 @@
 use Rattle.std.specs.Prelude.{◌≡◌, ℕ, ◌+◌, ◌<◌, ◌≤◌, List, [], ◌∷◌, ◌++◌, true, ◌==◌, length, codes, bytes_eq, Option, Some, None, Result, Ok, Err, if◌then◌else◌}
 use Rattle.cps_base.specs.Answers.{◌>>=◌, Fails}
 use Rattle.cps_base.specs.Text.{is_callsign}
+use Rattle.landing_rules.specs.Limits.{greatest_value}
 use Rattle.landing_rules.specs.Rules.{last_second}
 use Rattle.certificate.specs.declared.certificate.Claim.{Claim}
 use Rattle.certificate.specs.declared.certificate.Claim.TheVariants.{Optimal, Infeasible}
@@ -16,9 +17,8 @@ pub record Cert : Type 0 where
   pub landings : List (List ℕ × ℕ)
   pub states : List State
 
--- the value: at most 500 flights of weight 100, each 172,799 seconds late
 abbrev pub IsClaim : Claim → Type 0
-IsClaim (Optimal v) = v ≤ 8639950000
+IsClaim (Optimal v) = v ≤ greatest_value
 IsClaim Infeasible = Unit {0}
 
 abbrev pub AreLandings : List (List ℕ × ℕ) → Type 0

@@ -5,28 +5,28 @@ ghost use Rattle.certificate.specs.Patterns.{is_pattern_length};
 ghost use Rattle.certificate.specs.States.{rises, is_pair};
 ghost use Rattle.certificate.specs.Reading.{IsClaim};
 ghost use Rattle.text_parts.specs.Parts.{parts_left, number_in};
-ghost use Rattle.certificate.specs.Lines.{is_digit, are_marks, digit_of, pattern_in, pair_in, pairs_in, state_with, state_from, state_in, landing_in, claim_in};
+ghost use Rattle.certificate.specs.Lines.{is_digit, are_pattern_digits, digit_of, pattern_in, pair_in, pairs_in, state_with, state_from, state_in, landing_in, claim_in};
 
 use crate::certificate::Claim;
 use crate::pattern::Pattern;
 use crate::state::CertState;
 use cps_base::Callsign;
-use landing_rules::MOST_WAITING;
+use landing_rules::{GREATEST_VALUE, MOST_WAITING};
 use landing_windows::LAST_SECOND;
 use std::alloc::{AllocError, Global};
 use text_parts::{first_part, number_in};
 
-fn are_all_marks(text: &[u8]) -> bool
+fn are_all_digits(text: &[u8]) -> bool
     ensures { result ≡ list_all is_digit text.now }
 {
     text.iter().all(|b| *b == b'0' || *b == b'1')
 }
 
-fn are_marks(text: &[u8]) -> bool
-    ensures { result ≡ are_marks text.now }
+fn are_pattern_digits(text: &[u8]) -> bool
+    ensures { result ≡ are_pattern_digits text.now }
 {
     let len = text.len();
-    (len == 2 || len == 4 || len == 6) && are_all_marks(text)
+    (len == 2 || len == 4 || len == 6) && are_all_digits(text)
 }
 
 fn digits_of(text: &[u8]) -> [bool; 6]
@@ -49,7 +49,7 @@ fn pattern_of(text: &[u8]) -> Option<Pattern>
     if text == b"-".as_slice() {
         return Some(Pattern::of(&[]));
     }
-    if !are_marks(text) {
+    if !are_pattern_digits(text) {
         return None;
     }
     let digits = digits_of(text);
@@ -149,7 +149,7 @@ pub(crate) fn claim_of(line: &[u8]) -> Option<Claim>
     if !(word == b"claim".as_slice() && kind == b"optimal".as_slice()) {
         return None;
     }
-    let value = number_in(value, 0, 8_639_950_000)?;
+    let value = number_in(value, 0, GREATEST_VALUE)?;
     Some(Claim::Optimal(value))
 }
 

@@ -8,12 +8,6 @@ tail_read [] x some at = absurd (omega (arith, some))
 tail_read (y ∷ ys) x some at =
     ap (λ z. z ∷ ys) (sym at) ∙ ap (λ zs. x ∷ zs) (sym (take_all (length (y ∷ ys) - 1) ys (omega arith)))
 
--- one element more of what is left
-pub loop_step : {X E : Type 0} (before after : List X → List E) (rest tail : List X) (x : X) (old more new whole : List E) →
-    rest ≡ x ∷ tail → new ≡ old ++ more → before (x ∷ tail) ≡ more ++ after tail → old ++ before rest ≡ whole → new ++ after tail ≡ whole
-loop_step before after rest tail x old more new whole here e g h =
-    ap (λ y. y ++ after tail) e ∙ append_assoc old more (after tail) ∙ ap (λ r. old ++ r) (sym g ∙ sym (ap before here)) ∙ h
-
 -- ---- one behind another
 
 pub then : {X : Type 0} (o a rest : List X) → {v w : List X} → v ≡ o ++ a → w ≡ v ++ rest → w ≡ o ++ (a ++ rest)

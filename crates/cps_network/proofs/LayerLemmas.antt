@@ -1,5 +1,7 @@
 -- The windows of the next stage.
 use Rattle.std.proofs.Common.{◌≡◌, ℕ, ◌+◌, ◌-◌, ◌*◌, ◌<◌, ◌≤◌, List, [], length, arith, ◌∙◌, sym, ap, inl, subst}
+use Rattle.std.proofs.lemmas.List.Elements.{Contains-get_or}
+use Rattle.std.proofs.lemmas.List.{get_or_default}
 use Rattle.std.specs.Prelude.{ℤ, ◌↔◌, Contains}
 use Rattle.std.proofs.lemmas.Int.{ints}
 use Rattle.cps_nodes.specs.Windows.{IsWindow, Accepts, shifted}
@@ -9,10 +11,9 @@ use Rattle.landing_rules.specs.Problem.{Problem}
 use Rattle.cps_network.specs.Lists.{node_at, AreWindows}
 use Rattle.cps_network.specs.Landable.{HoldsCandidates}
 use Rattle.cps_network.specs.Permits.{IsPermitted, IsSuccessor, IsNextOf, NoneWaits, NonePassed, Repeats}
-use Rattle.cps_network.proofs.MergeLemmas.{node_at-default, Contains-node_at}
 
 pub window_at : (width : ℕ) (ws : List (List ℤ)) (x : List ℤ) → AreWindows width ws → Contains ws x → IsWindow width x
-window_at width ws x valid (i, lt, at) = subst (λ (z : List ℤ). IsWindow width z) (node_at-default ws i [] x lt ∙ at) (valid i lt)
+window_at width ws x valid (i, lt, at) = subst (λ (z : List ℤ). IsWindow width z) (get_or_default ws i [] x lt ∙ at) (valid i lt)
 
 -- a successor at one stage is one at another where no rank in reach is out of range or waits for another
 successor_moves : (p : Problem) (a b : ℕ) (xs x : List ℤ) → length xs ≡ 2 * p.k + 1 → p.k ≤ b → b + 1 + p.k ≤ length p.flights → NoneWaits p b → NonePassed p b
@@ -46,7 +47,7 @@ next_repeats p q stage width before earlier after odd valid same less again next
 pub next_valid : (p : Problem) (stage width : ℕ) (before after : List (List ℤ)) → width ≡ 2 * p.k + 1 → LeadOn width → AreWindows width before
     → IsNextOf p stage before after → AreWindows width after
 next_valid p stage width before after odd law valid next i lt =
-    let s : (window : List ℤ) × Contains before window × IsSuccessor p stage window (node_at after i) = (next (node_at after i)).0 (Contains-node_at after i lt) in
+    let s : (window : List ℤ) × Contains before window × IsSuccessor p stage window (node_at after i) = (next (node_at after i)).0 (Contains-get_or after i [] lt) in
     let is : IsPermitted p stage s.0 s.2.0 = s.2.1 in
     subst (λ (z : List ℤ). IsWindow width z) (sym s.2.2) (law.stays s.0 (offset_after stage s.2.0) (window_at width before s.0 valid s.1)
     (record { low = omega (arith, ints, is.late, odd); high = omega (arith, ints, is.early, odd) }) is.accepted)

@@ -10,8 +10,7 @@ use Rattle.cps_nodes.specs.Laws.{FollowRanks, LeadOn, MayFollow, offset_after}
 use Rattle.cps_nodes.specs.Leads.{IsWithin, TailMeetsHead}
 use Rattle.landing_rules.specs.Problem.{Problem}
 use Rattle.cps_problem.specs.Seen.{passed_at}
-use Rattle.cps_network.specs.Permits.{IsPermitted}
-use Rattle.cps_network.specs.Permits.{LeadAlike}
+use Rattle.cps_network.specs.Permits.{IsPermitted, LeadAlike}
 use Rattle.cps_network.proofs.LegalLists.{IsLegal, FollowPrefixes}
 use Rattle.cps_network.proofs.MergeLemmas.{last_or_before}
 use Rattle.cps_network.proofs.StageLemmas.{IsSuccessor-alike}

@@ -2,7 +2,7 @@
 use Rattle.std.proofs.Common.{◌≡◌, ℕ, zero, suc, ◌+◌, ◌-◌, ◌*◌, ◌<◌, ◌≤◌, List, [], ◌∷◌, ◌++◌, length, reverse, get_or, refl, arith, length-append, ◌∙◌, sym, ap, inl, inr, subst, Bool}
 use Rattle.std.specs.Prelude.{ℤ, pos, nat_abs, ◌/◌, ◌+ℤ◌, ◌↔◌, Contains, IsTrue, All}
 use Rattle.std.proofs.lemmas.Int.{ints}
-use Rattle.std.proofs.lemmas.List.{length-reverse}
+use Rattle.std.proofs.lemmas.List.{length-reverse, get_or_past}
 use Rattle.std.proofs.lemmas.List.Elements.{Contains-append_left, Contains-append_right, Contains-append_cases}
 use Rattle.std.proofs.lemmas.Bool.{cases_lt}
 use Rattle.precedence.specs.Pairs.{MustPrecede, must_precede_decides, AreInRange}
@@ -200,17 +200,12 @@ tells_ranks p low follow law rs rank legal one = (
         subst (λ (n : ℕ). IsPlaced (window_of (2 * p.k + 1) (reverse rs)) (pos n) (pos rank) ↔ HasLanded (reverse rs) (pos rank)) (length-reverse rs)
         (follow.places (reverse rs) (pos rank) (subst (λ (k : ℕ). KeepsShift k (reverse rs)) (sym half) (whole_from p (2 * p.k + 1) rs low law l).shift))
 
-past_end : {X : Type 0} (xs : List X) (i : ℕ) (d : X) → length xs ≤ i → get_or xs i d ≡ d
-past_end [] i d h = refl
-past_end (x ∷ xs) zero d h = absurd (omega arith)
-past_end (x ∷ xs) (suc i) d h = past_end xs i d (omega arith)
-
 -- at most k flights passed that of each rank, and none one that is of no flight
 pub passed_low : (p : Problem) → All (λ f. f.passed ≤ p.k) p.flights → (q : ℕ) → passed_at p q ≤ p.k
 passed_low p all zero = omega arith
 passed_low p all (suc i) = elim (cases_lt i (length p.flights)) [
   | inl lt ↦ all i no_waiting lt
-  | inr le ↦ let none : get_or p.flights i no_waiting ≡ no_waiting = past_end p.flights i no_waiting le in omega (arith, ap (λ f. f.passed) none)
+  | inr le ↦ let none : get_or p.flights i no_waiting ≡ no_waiting = get_or_past p.flights i no_waiting le in omega (arith, ap (λ f. f.passed) none)
 ]
 
 pub steps_are_whole : (p : Problem) → StepsAreWhole p

@@ -1,5 +1,6 @@
 -- Sets of placed ranks, as bits.
 use Rattle.std.proofs.Common.{◌≡◌, ℕ, zero, suc, ◌+◌, ◌-◌, ◌*◌, ◌/◌, ◌%◌, ◌^◌, ◌<◌, ◌≤◌, max, length, List, arith, ◌∙◌, sym, ap, inl, inr, subst}
+use Rattle.std.proofs.lemmas.Bool.{cases_lt}
 use Rattle.std.specs.Prelude.{ℤ, pos, ◌+ℤ◌, ◌-ℤ◌, ◌↔◌, ◌⊎◌, bit_or}
 use Rattle.std.specs.Int.{bit_at}
 use Rattle.std.proofs.lemmas.Bool.Decides.{nat_tests}
@@ -9,15 +10,12 @@ use Rattle.std.proofs.lemmas.Nat.Bits.{bit_at_or, bit_at-lt, bit_at_ones, bit_at
 use Rattle.precedence.specs.Pairs.{HasBit}
 use Rattle.cps_nodes.specs.Windows.{IsWindow, IsPlaced, HoldsRank}
 
-below_or_not : (a b : ℕ) → (a < b) ⊎ (b ≤ a)
-below_or_not a b = grind (arith, nat_tests)
-
 -- the low bits are the ranks that are due
 pub due_bits : (stage k rank : ℕ) → stage ≤ 60 → k ≤ stage → HasBit (1 * 2 ^ (stage - k + 1) % 2 ^ 64 - 1) rank ↔ (rank + k ≤ stage)
 due_bits stage k rank few near =
     let whole : 1 * 2 ^ (stage - k + 1) % 2 ^ 64 ≡ 2 ^ (stage - k + 1) = one_shl (stage - k + 1) 64 (omega arith) in
     let is : bit_at (1 * 2 ^ (stage - k + 1) % 2 ^ 64 - 1) rank ≡ bit_at (2 ^ (stage - k + 1) - 1) rank = ap (λ (n : ℕ). bit_at (n - 1) rank) whole in
-    elim (below_or_not rank (stage - k + 1)) [
+    elim (cases_lt rank (stage - k + 1)) [
       | inl low ↦ (λ _. omega arith, λ _. is ∙ bit_at_ones (stage - k + 1) rank low)
       | inr high ↦
           let none : bit_at (2 ^ (stage - k + 1) - 1) rank ≡ 0 = bit_at_ones_above (stage - k + 1) rank high in

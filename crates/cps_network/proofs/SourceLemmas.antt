@@ -1,5 +1,7 @@
 -- The windows that lead to one window stand side by side.
 use Rattle.std.proofs.Common.{◌≡◌, ℕ, Bool, true, false, [], ◌-◌, ◌<◌, ◌≤◌, List, length, drop, take, refl, arith, ◌∙◌, sym, ap, inl, inr, subst}
+use Rattle.std.proofs.lemmas.Bool.{cases_lt}
+use Rattle.std.proofs.lemmas.List.{get_or_default}
 use Rattle.std.specs.Prelude.{ℤ, ◌⊎◌, ◌↔◌, IsTrue, slice_index_or}
 use Rattle.std.proofs.lemmas.Bool.Decides.{nat_tests}
 use Rattle.std.proofs.lemmas.Cmp.{lists_total, int_cmp_total, tied_itself}
@@ -15,7 +17,6 @@ use Rattle.std.proofs.lemmas.Slice.Eq.{slice_eq-Decides}
 use Rattle.std.proofs.lemmas.Bool.Decides.{Decides-int_eq}
 use Rattle.cps_network.specs.Lists.{node_at, IsAscending}
 use Rattle.cps_network.specs.Begins.{BeginAt}
-use Rattle.cps_network.proofs.MergeLemmas.{node_at-default}
 
 total : IsTotalOrder (slice_cmp int_cmp)
 total = lists_total int_cmp_total
@@ -84,9 +85,9 @@ pub IsPartitionedBy-is_below : (before : List (List ℤ)) (node : List ℤ) → 
 IsPartitionedBy-is_below before node up i j d le within passes = elim (same_or_before i j le) [
   | inl same ↦ subst (λ (q : ℕ). is_below node (slice_index_or before q d) ≡ true) (sym same) passes
   | inr less ↦
-      let later : IsBelow (node_at before j) node = subst (λ (x : List ℤ). IsBelow x node) (node_at-default before j d [] within) (IsBelow-true node (slice_index_or before j d) passes) in
+      let later : IsBelow (node_at before j) node = subst (λ (x : List ℤ). IsBelow x node) (get_or_default before j d [] within) (IsBelow-true node (slice_index_or before j d) passes) in
       let earlier : IsBelow (node_at before i) node = IsBelow-earlier (node_at before i) (node_at before j) node (up i j less within) later in
-      subst (λ (x : List ℤ). is_below node x ≡ true) (node_at-default before i [] d (omega (arith, less, within))) (ap is_lt earlier)
+      subst (λ (x : List ℤ). is_below node x ≡ true) (get_or_default before i [] d (omega (arith, less, within))) (ap is_lt earlier)
 ]
 
 -- the range is that of the windows that lead to the node
@@ -98,11 +99,8 @@ pub exact : (before : List (List ℤ)) (node : List ℤ) (from to : ℕ) → IsA
     → (to < length before → TailMeetsHead (node_at before to) node → ⊥)
     → (i : ℕ) → i < length before → TailMeetsHead (node_at before i) node ↔ ((from ≤ i) × (i < to))
 exact before node from to up below above ordered leads stop i within =
-    (λ here. (start here (split i from), end here (split i to)), λ range. leads i range.0 range.1)
+    (λ here. (start here (cases_lt i from), end here (cases_lt i to)), λ range. leads i range.0 range.1)
   where
-    split : (a b : ℕ) → (a < b) ⊎ (b ≤ a)
-    split a b = grind (arith, nat_tests)
-
     start : TailMeetsHead (node_at before i) node → (i < from) ⊎ (from ≤ i) → from ≤ i
     start here (inl lt) = absurd (not_below (node_at before i) node here (below i lt))
     start here (inr le) = le

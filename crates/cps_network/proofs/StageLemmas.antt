@@ -1,5 +1,7 @@
 -- Laws of the windows that extend those of a stage.
 use Rattle.std.proofs.Common.{◌≡◌, ℕ, ◌+◌, ◌-◌, ◌*◌, ◌<◌, ◌≤◌, min, max, List, [], length, get_or, arith, ◌∙◌, sym, ap, inl, inr, subst}
+use Rattle.std.proofs.lemmas.List.Elements.{Contains-get_or}
+use Rattle.std.proofs.lemmas.List.{get_or_default}
 use Rattle.std.specs.Prelude.{ℤ, pos, ◌⊎◌, ◌↔◌, Contains, Option, Some}
 use Rattle.std.specs.Option.{SomeIff}
 use Rattle.std.proofs.lemmas.Int.{ints}
@@ -9,7 +11,7 @@ use Rattle.cps_nodes.specs.Laws.{offset_after}
 use Rattle.landing_rules.specs.Problem.{Problem}
 use Rattle.cps_network.specs.Lists.{node_at}
 use Rattle.cps_network.specs.Permits.{IsPermitted, IsSuccessor}
-use Rattle.cps_network.proofs.MergeLemmas.{last_or_before, node_at-default, Contains-node_at}
+use Rattle.cps_network.proofs.MergeLemmas.{last_or_before}
 
 pub some_is : {T : Type 0} (r : Option T) (P : Type 0) (v x : T) → SomeIff r P v → r ≡ Some x → P × (x ≡ v)
 some_is {T} r P v x h e = subst (λ (q : Option T). SomeIff q P v) e h
@@ -102,11 +104,11 @@ pub successors_all : (p : Problem) (stage : ℕ) (before now : List (List ℤ)) 
     → (x : List ℤ) → Contains now x ↔ ((window : List ℤ) × Contains before window × IsSuccessor p stage window x)
 successors_all p stage before now are x = (
   λ has. let s : (m : ℕ) × (m < length before) × IsSuccessor p stage (node_at before m) x = (are x).0 has in
-      (node_at before s.0, Contains-node_at before s.0 s.1, s.2),
+      (node_at before s.0, Contains-get_or before s.0 [] s.1, s.2),
   λ (window, (m, lt, at), is). (are x).1 (
     m,
     lt,
-    subst (λ (z : List ℤ). IsSuccessor p stage z x) (sym (node_at-default before m [] window lt ∙ at)) is,
+    subst (λ (z : List ℤ). IsSuccessor p stage z x) (sym (get_or_default before m [] window lt ∙ at)) is,
   ),
 )
 
@@ -116,8 +118,8 @@ pub same_at : (p : Problem) (stage : ℕ) (before now : List (List ℤ)) (i : �
     → ((x : List ℤ) → IsSuccessor p stage (node_at before (i - 1)) x → Contains now x)
     → (x : List ℤ) → Contains now x ↔ (Contains now x ⊎ IsSuccessor p stage (node_at before i) x)
 same_at p stage before now i a b some within len alike a_is b_is last x =
-    let at_a : a ≡ node_at before (i - 1) = a_is ∙ node_at-default before (i - 1) a [] (omega arith) in
-    let at_b : b ≡ node_at before i = b_is ∙ node_at-default before i b [] within in (
+    let at_a : a ≡ node_at before (i - 1) = a_is ∙ get_or_default before (i - 1) a [] (omega arith) in
+    let at_b : b ≡ node_at before i = b_is ∙ get_or_default before i b [] within in (
       λ has. inl has,
       λ has. elim has [
         | inl old ↦ old
@@ -130,7 +132,7 @@ pub moved_at : (p : Problem) (stage : ℕ) (before now after : List (List ℤ)) 
     → ((x : List ℤ) → Contains after x ↔ (Contains now x ⊎ IsSuccessor p stage b x))
     → (x : List ℤ) → Contains after x ↔ (Contains now x ⊎ IsSuccessor p stage (node_at before i) x)
 moved_at p stage before now after i b within b_is grew =
-    subst (λ (z : List ℤ). (x : List ℤ) → Contains after x ↔ (Contains now x ⊎ IsSuccessor p stage z x)) (b_is ∙ node_at-default before i b [] within) grew
+    subst (λ (z : List ℤ). (x : List ℤ) → Contains after x ↔ (Contains now x ⊎ IsSuccessor p stage z x)) (b_is ∙ get_or_default before i b [] within) grew
 
 -- the windows of the place before are among those so far
 pub last_added : (p : Problem) (stage : ℕ) (before now : List (List ℤ)) (i : ℕ) → AreSuccessors p stage before now i → 0 < i

@@ -2,13 +2,13 @@
 use Rattle.std.proofs.Common.{◌≡◌, ℕ, ◌+◌, ◌-◌, ◌/◌, ◌*◌, ◌<◌, ◌≤◌, List, [], ◌∷◌, ◌++◌, length, drop, get_or, refl, arith, length-append, replicate, append_assoc, ◌∙◌, sym, ap, ap₂, inl, inr, subst, zero, suc}
 use Rattle.std.specs.Prelude.{ℤ, pos, ◌+ℤ◌, ◌-ℤ◌, ◌≤ℤ◌, ◌⊎◌, Contains}
 use Rattle.std.proofs.lemmas.Int.{ints}
-use Rattle.std.proofs.lemmas.List.{get_or_append_left, get_or-append_right, length-replicate, drop-append-le, drop-drop}
-use Rattle.std.proofs.lemmas.List.Elements.{Contains-append_left, Contains-append_cases}
-use Rattle.std.proofs.lemmas.Bool.Decides.{nat_tests}
+use Rattle.std.proofs.lemmas.List.{get_or_default, get_or_append_left, get_or_push, length-replicate, drop-append-le, drop-drop}
+use Rattle.std.proofs.lemmas.List.Elements.{Contains-append_left, Contains-push_cases}
+use Rattle.std.proofs.lemmas.Bool.{cases_lt}
 use Rattle.cps_nodes.specs.Windows.{IsWidth, HoldsRank, Accepts, offset_at, shifted}
 use Rattle.cps_nodes.specs.Ranks.{KeepsShift, offsets_from, window_of}
 use Rattle.cps_nodes.specs.Laws.{offset_after, FollowRanks}
-use Rattle.cps_nodes.proofs.PrefixLemmas.{HasLanded-from_IsPlaced, IsPlaced-from_HasLanded, length-offsets_from, length-window_of, offset_at-window_of_early, offset_at-window_of, get_or-default, below_or_not}
+use Rattle.cps_nodes.proofs.PrefixLemmas.{HasLanded-from_IsPlaced, IsPlaced-from_HasLanded, length-offsets_from, length-window_of, offset_at-window_of_early, offset_at-window_of}
 
 offsets_from-push : (place : ℕ) (ranks : List ℕ) (r : ℕ) → offsets_from place (ranks ++ r ∷ []) ≡ offsets_from place ranks ++ (pos r -ℤ pos (place + length ranks)) ∷ []
 offsets_from-push place [] r = ap (λ (q : ℕ). (pos r -ℤ pos q) ∷ []) (omega arith)
@@ -30,21 +30,6 @@ window_of-push w ranks r some =
     ∙ drop-append-le (length ranks + 1) (replicate w (pos 0) ++ offsets_from 1 ranks) ((pos r -ℤ pos (1 + length ranks)) ∷ []) long
     ∙ ap (λ (zs : List ℤ). zs ++ (pos r -ℤ pos (1 + length ranks)) ∷ []) (sym (drop-drop 1 (length ranks) (replicate w (pos 0) ++ offsets_from 1 ranks)))
 
-read_old : (ranks : List ℕ) (r i : ℕ) → i < length ranks → get_or (ranks ++ r ∷ []) i 0 ≡ get_or ranks i 0
-read_old ranks r i lt = get_or_append_left ranks (r ∷ []) 0 i lt
-
-read_last : (ranks : List ℕ) (r i : ℕ) → i ≡ length ranks → get_or (ranks ++ r ∷ []) i 0 ≡ r
-read_last ranks r i e =
-    let none : i - length ranks ≡ 0 = omega arith in
-    get_or-append_right ranks (r ∷ []) (length ranks) i 0 refl (omega arith) ∙ ap (λ (q : ℕ). get_or (r ∷ []) q 0) none
-
-only_one : (r x : ℕ) → Contains (r ∷ []) x → x ≡ r
-only_one r x (zero, lt, at) = sym at
-only_one r x (suc i, lt, at) = absurd (omega arith)
-
-last_or_old : (i n : ℕ) → i < n + 1 → (i ≡ n) ⊎ (i < n)
-last_or_old i n h = grind (arith, nat_tests)
-
 -- a window holds the rank of each landing that is at most its width ago
 holds_landing : (w : ℕ) (ranks : List ℕ) (j : ℕ) (rank : ℤ) → j < length ranks → length ranks ≤ j + w
     → rank ≡ pos (get_or ranks j 0) -ℤ pos (1 + length ranks) +ℤ pos w → HoldsRank (window_of w ranks) rank
@@ -58,7 +43,7 @@ landing_held : (w : ℕ) (ranks : List ℕ) (rank : ℤ) → HoldsRank (window_o
     → (rank ≤ℤ (pos w -ℤ pos (1 + length ranks))) ⊎ ((j : ℕ) × (j < length ranks) × (rank ≡ pos (get_or ranks j 0) -ℤ pos (1 + length ranks) +ℤ pos w))
 landing_held w ranks rank (i, lt, e) =
     let len : length (window_of w ranks) ≡ w = length-window_of w ranks in
-    elim (below_or_not (length ranks + i) w) [
+    elim (cases_lt (length ranks + i) w) [
       | inl early ↦
           let z : offset_at (window_of w ranks) i ≡ pos 0 = offset_at-window_of_early w ranks i early in
           inl (omega (arith, ints, e))
@@ -74,23 +59,23 @@ pub Accepts-from_KeepsShift : (most w : ℕ) (ranks : List ℕ) (r : ℕ) → w 
 Accepts-from_KeepsShift most w ranks r odd is =
     let len : length (window_of w ranks) ≡ w = length-window_of w ranks in
     let longer : length (ranks ++ r ∷ []) ≡ length ranks + 1 = length-append ranks (r ∷ []) in
-    let last : get_or (ranks ++ r ∷ []) (length ranks) 0 ≡ r = read_last ranks r (length ranks) refl in
+    let last : get_or (ranks ++ r ∷ []) (length ranks) 0 ≡ r = get_or_push ranks r 0 (length ranks) refl in
     record {
       fresh = λ has. elim (landing_held w ranks _ has) [
         | inl early ↦ omega (arith, ints, is.positive (length ranks) (omega arith))
         | inr (j, lt, e) ↦
-            let old : get_or (ranks ++ r ∷ []) j 0 ≡ get_or ranks j 0 = read_old ranks r j lt in
+            let old : get_or (ranks ++ r ∷ []) j 0 ≡ get_or ranks j 0 = get_or_append_left ranks (r ∷ []) 0 j lt in
             is.differ j (length ranks) lt (omega arith) (omega (arith, ints, e))
       ];
       due = subst (λ (zs : List ℤ). HoldsRank zs (pos (length (window_of w ranks) / 2))) (window_of-push w ranks r (omega arith)) (
-          elim (below_or_not (length ranks) most) [
+          elim (cases_lt (length ranks) most) [
             | inl early ↦
                 let z : offset_at (window_of w (ranks ++ r ∷ [])) most ≡ pos 0 = offset_at-window_of_early w (ranks ++ r ∷ []) most (omega arith) in
                 (most, omega (arith, length-window_of w (ranks ++ r ∷ [])), omega (arith, ints))
             | inr late ↦
                 let stands : Contains (ranks ++ r ∷ []) (length ranks + 1 - most) = is.due (length ranks + 1 - most) (omega arith) (omega arith) in
                 let at : get_or (ranks ++ r ∷ []) stands.0 0 ≡ length ranks + 1 - most =
-                get_or-default (ranks ++ r ∷ []) stands.0 0 _ stands.1 ∙ stands.2 in
+                get_or_default (ranks ++ r ∷ []) stands.0 0 _ stands.1 ∙ stands.2 in
                 let near : get_or (ranks ++ r ∷ []) stands.0 0 ≤ stands.0 + 1 + most = is.early stands.0 stands.1 in
                 holds_landing w (ranks ++ r ∷ []) stands.0 _ stands.1 (omega arith) (omega (arith, ints))
           ]);
@@ -113,32 +98,32 @@ KeepsShift-from_Accepts most w ranks r odd is early late can =
     let some : 0 < r = not_zero most w ranks r odd late can in
     let longer : length (ranks ++ r ∷ []) ≡ length ranks + 1 = length-append ranks (r ∷ []) in
     record {
-      positive = λ i lt. elim (last_or_old i (length ranks) (omega arith)) [
-        | inl e ↦ rw (read_last ranks r i e) some
-        | inr old ↦ rw (read_old ranks r i old) (is.positive i old)
+      positive = λ i lt. elim (cases_lt i (length ranks)) [
+        | inr past ↦ rw (get_or_push ranks r 0 i (omega arith)) some
+        | inl old ↦ rw (get_or_append_left ranks (r ∷ []) 0 i old) (is.positive i old)
       ];
-      early = λ i lt. elim (last_or_old i (length ranks) (omega arith)) [
-        | inl e ↦ rw (read_last ranks r i e) (omega arith)
-        | inr old ↦ rw (read_old ranks r i old) (is.early i old)
+      early = λ i lt. elim (cases_lt i (length ranks)) [
+        | inr past ↦ rw (get_or_push ranks r 0 i (omega arith)) (omega arith)
+        | inl old ↦ rw (get_or_append_left ranks (r ∷ []) 0 i old) (is.early i old)
       ];
-      late = λ i lt. elim (last_or_old i (length ranks) (omega arith)) [
-        | inl e ↦ rw (read_last ranks r i e) (omega arith)
-        | inr old ↦ rw (read_old ranks r i old) (is.late i old)
+      late = λ i lt. elim (cases_lt i (length ranks)) [
+        | inr past ↦ rw (get_or_push ranks r 0 i (omega arith)) (omega arith)
+        | inl old ↦ rw (get_or_append_left ranks (r ∷ []) 0 i old) (is.late i old)
       ];
       differ = λ i j lt within same.
-          let old : get_or (ranks ++ r ∷ []) i 0 ≡ get_or ranks i 0 = read_old ranks r i (omega arith) in
-          elim (last_or_old j (length ranks) (omega arith)) [
-            | inl e ↦
-                let last : get_or (ranks ++ r ∷ []) j 0 ≡ r = read_last ranks r j e in
-                elim (below_or_not (i + w) (length ranks)) [
+          let old : get_or (ranks ++ r ∷ []) i 0 ≡ get_or ranks i 0 = get_or_append_left ranks (r ∷ []) 0 i (omega arith) in
+          elim (cases_lt j (length ranks)) [
+            | inr past ↦
+                let last : get_or (ranks ++ r ∷ []) j 0 ≡ r = get_or_push ranks r 0 j (omega arith) in
+                elim (cases_lt (i + w) (length ranks)) [
                   | inl far ↦ omega (arith, is.early i (omega arith))
                   | inr near ↦ can.fresh (holds_landing w ranks i _ (omega arith) near (omega (arith, ints)))
                 ]
-            | inr before ↦
-                let second : get_or (ranks ++ r ∷ []) j 0 ≡ get_or ranks j 0 = read_old ranks r j before in
+            | inl before ↦
+                let second : get_or (ranks ++ r ∷ []) j 0 ≡ get_or ranks j 0 = get_or_append_left ranks (r ∷ []) 0 j before in
                 is.differ i j lt before (omega arith)
           ];
-      due = λ rank positive passed. elim (below_or_not (rank + most) (length ranks + 1)) [
+      due = λ rank positive passed. elim (cases_lt (rank + most) (length ranks + 1)) [
         | inl long_due ↦ Contains-append_left ranks (r ∷ []) rank (is.due rank positive (omega arith))
         | inr now_due ↦
             let held : HoldsRank (window_of w (ranks ++ r ∷ [])) (pos (length (window_of w ranks) / 2)) =
@@ -147,7 +132,7 @@ KeepsShift-from_Accepts most w ranks r odd is early late can =
               | inl before ↦ absurd (omega (arith, ints, before))
               | inr (j, lt, e) ↦
                   let is_rank : get_or (ranks ++ r ∷ []) j 0 ≡ rank = omega (arith, ints, e) in
-                  (j, lt, get_or-default (ranks ++ r ∷ []) j rank 0 lt ∙ is_rank)
+                  (j, lt, get_or_default (ranks ++ r ∷ []) j rank 0 lt ∙ is_rank)
             ]
       ];
     }
@@ -156,16 +141,16 @@ KeepsShift-from_Accepts most w ranks r odd is early late can =
 pub KeepsShift-front : (most : ℕ) (ranks : List ℕ) (r : ℕ) → KeepsShift most (ranks ++ r ∷ []) → KeepsShift most ranks
 KeepsShift-front most ranks r is =
     let longer : length (ranks ++ r ∷ []) ≡ length ranks + 1 = length-append ranks (r ∷ []) in
-    let last : get_or (ranks ++ r ∷ []) (length ranks) 0 ≡ r = read_last ranks r (length ranks) refl in
+    let last : get_or (ranks ++ r ∷ []) (length ranks) 0 ≡ r = get_or_push ranks r 0 (length ranks) refl in
     record {
-      positive = λ i lt. rw (read_old ranks r i lt) at (is.positive i (omega arith));
+      positive = λ i lt. rw (get_or_append_left ranks (r ∷ []) 0 i lt) at (is.positive i (omega arith));
       differ = λ i j lt within same. is.differ i j lt (omega arith)
-          (read_old ranks r i (omega arith) ∙ same ∙ sym (read_old ranks r j within));
-      early = λ i lt. rw (read_old ranks r i lt) at (is.early i (omega arith));
-      late = λ i lt. rw (read_old ranks r i lt) at (is.late i (omega arith));
-      due = λ rank some passed. elim (Contains-append_cases ranks (r ∷ []) rank (is.due rank some (omega arith))) [
+          (get_or_append_left ranks (r ∷ []) 0 i (omega arith) ∙ same ∙ sym (get_or_append_left ranks (r ∷ []) 0 j within));
+      early = λ i lt. rw (get_or_append_left ranks (r ∷ []) 0 i lt) at (is.early i (omega arith));
+      late = λ i lt. rw (get_or_append_left ranks (r ∷ []) 0 i lt) at (is.late i (omega arith));
+      due = λ rank some passed. elim (Contains-push_cases ranks r rank (is.due rank some (omega arith))) [
         | inl old ↦ old
-        | inr new ↦ absurd (omega (arith, only_one r rank new, is.late (length ranks) (omega arith)))
+        | inr new ↦ absurd (omega (arith, new, is.late (length ranks) (omega arith)))
       ];
     }
 
@@ -183,7 +168,7 @@ pub offset_at-window_of_last : (w : ℕ) (ranks : List ℕ) (r : ℕ) → 0 < w 
 offset_at-window_of_last w ranks r some =
     let longer : length (ranks ++ r ∷ []) ≡ length ranks + 1 = length-append ranks (r ∷ []) in
     offset_at-window_of w (ranks ++ r ∷ []) (w - 1) (length ranks) (omega arith) (omega arith)
-    ∙ ap (λ (n : ℕ). pos n -ℤ pos (1 + length ranks)) (read_last ranks r (length ranks) refl)
+    ∙ ap (λ (n : ℕ). pos n -ℤ pos (1 + length ranks)) (get_or_push ranks r 0 (length ranks) refl)
 
 -- the offset of the next rank, with the summands the other way round
 offset_turned : (n rank : ℕ) → (pos rank -ℤ pos (n + 1)) ≡ (pos rank -ℤ pos (1 + n))
@@ -216,7 +201,7 @@ follow w wide = record {
   goes_on = λ ranks rank. (
     λ is.
         let longer : length (ranks ++ rank ∷ []) ≡ length ranks + 1 = length-append ranks (rank ∷ []) in
-        let last : get_or (ranks ++ rank ∷ []) (length ranks) 0 ≡ rank = read_last ranks rank (length ranks) refl in (
+        let last : get_or (ranks ++ rank ∷ []) (length ranks) 0 ≡ rank = get_or_push ranks rank 0 (length ranks) refl in (
           KeepsShift-front (w / 2) ranks rank is,
           record {
             early = omega (arith, is.early (length ranks) (omega arith));

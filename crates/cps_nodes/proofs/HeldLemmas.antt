@@ -2,8 +2,7 @@
 use Rattle.std.proofs.Common.{◌≡◌, ℕ, ◌+◌, ◌-◌, ◌*◌, ◌/◌, ◌%◌, ◌^◌, ◌<◌, List, length, ◌≤◌, arith, ◌∙◌, sym, ap, inl, inr, subst, zero, suc, shr-shr, mod-lt, pow_pos}
 use Rattle.std.specs.Prelude.{Bool, IsTrue, ◌↔◌, ◌⊎◌, ℤ, pos, ◌+ℤ◌, ◌-ℤ◌, ◌≤ℤ◌, bit_or}
 use Rattle.std.specs.Int.{bit_at, w32}
-use Rattle.std.proofs.lemmas.Bool.{cases_eq}
-use Rattle.std.proofs.lemmas.Bool.Decides.{nat_tests}
+use Rattle.std.proofs.lemmas.Bool.{cases_eq, cases_lt}
 use Rattle.std.proofs.lemmas.Int.{ints}
 use Rattle.std.proofs.lemmas.Nat.Bits.{bit_at_set_same, bit_at_set_other, bit_at-zero, bit_at_above, bit_at_cat_low, bit_at_cat_high}
 use Rattle.std.proofs.lemmas.Nat.{field_of}
@@ -11,7 +10,6 @@ use Rattle.std.proofs.Math.Pow.{mod-mod-pow}
 use Rattle.cps_nodes.specs.Windows.{IsWindow, HoldsRank, offset_at, shifted}
 use Rattle.cps_nodes.specs.Held.{AreHeld}
 use Rattle.cps_nodes.specs.Leads.{IsWithin}
-use Rattle.cps_nodes.proofs.PrefixLemmas.{below_or_not}
 use Rattle.cps_nodes.proofs.WindowLemmas.{offset_at-shifted_below, offset_at-shifted_last, length-shifted}
 
 -- bit 8 + r is set exactly where one of the first places holds rank r
@@ -23,9 +21,6 @@ none_held xs i = (
   λ has. let z : bit_at 0 i ≡ 0 = bit_at-zero i in absurd (omega (arith, has, z)),
   λ (j, lt, e). absurd (omega (arith, lt)),
 )
-
-last_or_before : (i n : ℕ) → i < n + 1 → (i ≡ n) ⊎ (i < n)
-last_or_before i n h = grind (arith, nat_tests)
 
 -- one place more
 pub held_more : (xs : List ℤ) (n bits at : ℕ) → at < 32 → pos at ≡ pos n +ℤ offset_at xs n +ℤ pos 8
@@ -40,11 +35,12 @@ held_more xs n bits at few here are i = elim (cases_eq i at) [
         λ has.
             let old = (are i).0 (sym kept ∙ has) in
             (old.0, omega (arith, old.1), old.2),
-        λ (j, lt, e). kept ∙ elim (last_or_before j n lt) [
-          | inl last ↦
+        λ (j, lt, e). kept ∙ elim (cases_lt j n) [
+          | inr past ↦
+              let last : j ≡ n = omega (arith, lt) in
               let last_holds : pos n +ℤ offset_at xs n ≡ pos i -ℤ pos 8 = subst (λ (m : ℕ). pos m +ℤ offset_at xs m ≡ pos i -ℤ pos 8) last e in
               absurd (other (omega (arith, ints, last_holds, here)))
-          | inr before ↦ (are i).1 (j, before, e)
+          | inl before ↦ (are i).1 (j, before, e)
         ],
       )
 ]
@@ -93,12 +89,12 @@ module _ (w stage bits : ℕ) (xs : List ℤ) (is : IsWindow w xs) (are : AreHel
 
   pub held_late : w + 7 ≤ stage → stage ≤ 60 → (rank : ℕ)
       → (bit_at (bits * 2 ^ (stage - (w + 7)) % 2 ^ 64) rank ≡ 1) ↔ HoldsRank xs (pos rank -ℤ pos stage +ℤ pos (w - 1))
-  held_late late few rank = elim (below_or_not rank 64) [
+  held_late late few rank = elim (cases_lt rank 64) [
     | inr above ↦ untold _ xs _ (bit_at_above _ 64 rank (mod-lt _ (pow_pos 64)) above) (far_above rank few above)
     | inl low ↦
         let kept : bit_at (bits * 2 ^ (stage - (w + 7)) % 2 ^ 64) rank ≡ bit_at (bits * 2 ^ (stage - (w + 7)) + 0) rank =
         bit_at-word (bits * 2 ^ (stage - (w + 7))) rank low in
-        elim (below_or_not rank (stage - (w + 7))) [
+        elim (cases_lt rank (stage - (w + 7))) [
           | inl below ↦ untold _ xs _ (kept ∙ bit_at_cat_low bits (stage - (w + 7)) 0 rank below ∙ bit_at-zero rank) (far_below rank below)
           | inr within ↦
               told _ _ xs _ _ (kept ∙ bit_at_cat_high bits (stage - (w + 7)) 0 rank (pow_pos (stage - (w + 7))) within)
@@ -108,20 +104,18 @@ module _ (w stage bits : ℕ) (xs : List ℤ) (is : IsWindow w xs) (are : AreHel
 
 -- ---- the flight that is due after one landing more
 
-place_is : (i w : ℕ) → i < w → (i + 1 ≡ w) ⊎ (i + 1 < w)
-place_is i w h = grind (arith, nat_tests)
-
 module _ (w : ℕ) (xs : List ℤ) (o : ℤ) (is : IsWindow w xs) where
   some : 0 < length xs
   some = omega (arith, is.len, is.is_width)
 
   -- it lands now, or the window holds it
   due_before : HoldsRank (shifted xs o) (pos (w / 2)) → (o +ℤ pos (w / 2) ≡ pos 0) ⊎ HoldsRank xs (pos (w / 2 + 1))
-  due_before (j, lt, e) = elim (place_is j w (omega (arith, lt, length-shifted xs o some, is.len))) [
-    | inl last ↦
+  due_before (j, lt, e) = elim (cases_lt (j + 1) w) [
+    | inr past ↦
+        let last : j + 1 ≡ w = omega (arith, lt, length-shifted xs o some, is.len) in
         let at : offset_at (shifted xs o) j ≡ o = offset_at-shifted_last xs o j (last ∙ sym is.len) in
         inl (omega (arith, ints, at, e, last, is.is_width))
-    | inr before ↦
+    | inl before ↦
         let at : offset_at (shifted xs o) j ≡ offset_at xs (j + 1) = offset_at-shifted_below xs o j (omega (arith, before, is.len)) in
         inr (j + 1, omega (arith, before, is.len), omega (arith, ints, at, e))
   ]

@@ -2,8 +2,8 @@
 use Rattle.std.proofs.Common.{◌≡◌, ℕ, ◌+◌, ◌-◌, ◌/◌, ◌*◌, ◌<◌, ◌≤◌, List, [], ◌∷◌, ◌++◌, length, get_or, refl, arith, length-append, length-drop, replicate, ◌∙◌, ap, inl, inr, zero, suc}
 use Rattle.std.specs.Prelude.{ℤ, pos, negsuc, ◌-ℤ◌, ◌⊎◌}
 use Rattle.std.proofs.lemmas.Int.{ints}
-use Rattle.std.proofs.lemmas.List.{get_or_append_left, get_or-append_right, get_or-drop, get_or-replicate, length-replicate}
-use Rattle.std.proofs.lemmas.Bool.Decides.{nat_tests}
+use Rattle.std.proofs.lemmas.List.{get_or_default, get_or_append_left, get_or-append_right, get_or-drop, get_or-replicate, length-replicate}
+use Rattle.std.proofs.lemmas.Bool.{cases_lt}
 use Rattle.cps_nodes.specs.Windows.{offset_at, IsPlaced}
 use Rattle.cps_nodes.specs.Ranks.{KeepsShift, offsets_from, window_of, HasLanded}
 
@@ -45,16 +45,6 @@ offset_at-window_of w ranks i j e lt =
     ∙ ap (λ (q : ℕ). get_or (offsets_from 1 ranks) q (pos 0)) at
     ∙ get_or-offsets_from 1 ranks j lt
 
--- a read at another default
-pub get_or-default : (xs : List ℕ) (i d e : ℕ) → i < length xs → get_or xs i d ≡ get_or xs i e
-get_or-default [] i d e h = absurd (omega arith)
-get_or-default (x ∷ xs) zero d e h = refl
-get_or-default (x ∷ xs) (suc i) d e h = get_or-default xs i d e (omega arith)
-
--- of two numbers one is below the other, or not
-pub below_or_not : (a b : ℕ) → (a < b) ⊎ (b ≤ a)
-below_or_not a b = grind (arith, nat_tests)
-
 -- an integer is a natural number, or below 0
 is_natural : (z : ℤ) → ((n : ℕ) × (z ≡ pos n)) ⊎ ((n : ℕ) × (z ≡ negsuc n))
 is_natural (pos n) = inl (n, refl)
@@ -69,7 +59,7 @@ HasLanded-from_IsPlaced most w ranks rank odd is placed =
     elim placed [
       | inl due ↦
           elim (is_natural rank) [
-            | inl natural ↦ elim (below_or_not 0 natural.0) [
+            | inl natural ↦ elim (cases_lt 0 natural.0) [
               | inl some ↦ inr (natural.0, natural.1, is.due natural.0 some (omega (arith, ints, natural.1)))
               | inr none ↦ inl (omega (arith, ints, natural.1))
             ]
@@ -77,7 +67,7 @@ HasLanded-from_IsPlaced most w ranks rank odd is placed =
           ]
       | inr holds ↦
           let i : ℕ = holds.0 in
-          elim (below_or_not (length ranks + holds.0) w) [
+          elim (cases_lt (length ranks + holds.0) w) [
             | inl early ↦
                 let zero_at : offset_at (window_of w ranks) holds.0 ≡ pos 0 = offset_at-window_of_early w ranks holds.0 early in
                 inl (omega (arith, ints, holds.2))
@@ -89,7 +79,7 @@ HasLanded-from_IsPlaced most w ranks rank odd is placed =
                 inr (
                   get_or ranks (length ranks + holds.0 - w) 0,
                   omega (arith, ints, holds.2),
-                  (length ranks + holds.0 - w, lt, get_or-default ranks (length ranks + holds.0 - w) _ 0 lt),
+                  (length ranks + holds.0 - w, lt, get_or_default ranks (length ranks + holds.0 - w) _ 0 lt),
                 )
           ]
     ]
@@ -103,13 +93,13 @@ IsPlaced-from_HasLanded most w ranks rank odd is landed =
     elim landed [
       | inl below ↦
           elim (is_natural rank) [
-            | inl natural ↦ elim (below_or_not (length ranks) most) [
+            | inl natural ↦ elim (cases_lt (length ranks) most) [
               | inl early ↦
                   let at : offset_at (window_of w ranks) (w - 1 - length ranks) ≡ pos 0 = offset_at-window_of_early w ranks (w - 1 - length ranks) (omega arith) in
                   inr (w - 1 - length ranks, omega arith, omega (arith, ints, natural.1))
               | inr late ↦ inl (omega (arith, ints, natural.1))
             ]
-            | inr negative ↦ elim (below_or_not (length ranks + suc negative.0) most) [
+            | inr negative ↦ elim (cases_lt (length ranks + suc negative.0) most) [
               | inl early ↦
                   let at : offset_at (window_of w ranks) (w - 1 - length ranks - suc negative.0) ≡ pos 0 =
                   offset_at-window_of_early w ranks (w - 1 - length ranks - suc negative.0) (omega arith) in
@@ -119,9 +109,9 @@ IsPlaced-from_HasLanded most w ranks rank odd is landed =
           ]
       | inr stands ↦
           let j : ℕ = stands.2.0 in
-          let is_rank : get_or ranks stands.2.0 0 ≡ stands.0 = get_or-default ranks stands.2.0 0 _ stands.2.1 ∙ stands.2.2 in
+          let is_rank : get_or ranks stands.2.0 0 ≡ stands.0 = get_or_default ranks stands.2.0 0 _ stands.2.1 ∙ stands.2.2 in
           let near : get_or ranks stands.2.0 0 ≤ stands.2.0 + 1 + most = is.early stands.2.0 stands.2.1 in
-          elim (below_or_not (stands.2.0 + w) (length ranks)) [
+          elim (cases_lt (stands.2.0 + w) (length ranks)) [
             | inl early ↦ inl (omega (arith, ints, stands.1))
             | inr late ↦
                 let at : offset_at (window_of w ranks) (stands.2.0 + w - length ranks) ≡ pos (get_or ranks stands.2.0 0) -ℤ pos (1 + stands.2.0) =

@@ -1,9 +1,9 @@
 -- Laws of windows as lists of offsets.
 use Rattle.std.proofs.Common.{◌≡◌, ℕ, ◌+◌, ◌-◌, ◌/◌, ◌<◌, List, [], ◌∷◌, length, drop, get_or, arith, length-append, length-drop, replicate, ◌∙◌, sym, ap, inl, inr, subst}
-use Rattle.std.specs.Prelude.{Bool, true, false, IsTrue, ◌↔◌, ℤ, pos, ◌+ℤ◌, ◌≤ℤ◌, ◌⊎◌}
+use Rattle.std.specs.Prelude.{Bool, true, false, IsTrue, ◌↔◌, ℤ, pos, ◌+ℤ◌, ◌≤ℤ◌}
 use Rattle.std.proofs.lemmas.Int.{ints}
 use Rattle.std.proofs.lemmas.List.{get_or_append_left, get_or-append_right, get_or-drop, get_or-replicate, length-replicate}
-use Rattle.std.proofs.lemmas.Bool.Decides.{nat_tests}
+use Rattle.std.proofs.lemmas.Bool.{cases_lt}
 use Rattle.cps_nodes.specs.Windows.{IsWidth, IsWindow, HoldsRank, offset_at, shifted}
 
 -- a window of no landing
@@ -40,10 +40,6 @@ offset_at-shifted_last xs o i h =
 pub length-shifted : (xs : List ℤ) (o : ℤ) → 0 < length xs → length (shifted xs o) ≡ length xs
 length-shifted xs o h = omega (arith, length-append (drop 1 xs) (o ∷ []), length-drop 1 xs)
 
--- the place is the last one, or comes before it
-last_or_before : (i w : ℕ) → i < w → (i + 1 ≡ w) ⊎ (i + 1 < w)
-last_or_before i w h = grind (arith, nat_tests)
-
 -- a window after one more landing, which repeats no flight and leaves none behind
 pub IsWindow-shifted : (w : ℕ) (xs : List ℤ) (o : ℤ) → IsWindow w xs → pos 0 ≤ℤ (o +ℤ pos (w / 2)) → o ≤ℤ pos (w / 2)
     → (HoldsRank xs (pos w +ℤ o) → ⊥) → HoldsRank (shifted xs o) (pos (w / 2)) → IsWindow w (shifted xs o)
@@ -52,21 +48,21 @@ IsWindow-shifted w xs o is low high fresh due =
     record {
       is_width = is.is_width;
       len = length-shifted xs o some ∙ is.len;
-      low = λ i lt. elim (last_or_before i w lt) [
-        | inl e ↦ rw (offset_at-shifted_last xs o i (e ∙ sym is.len)) low
-        | inr n ↦ rw (offset_at-shifted_below xs o i (omega (arith, is.len))) (is.low (i + 1) n)
+      low = λ i lt. elim (cases_lt (i + 1) w) [
+        | inr past ↦ rw (offset_at-shifted_last xs o i (omega (arith, is.len))) low
+        | inl n ↦ rw (offset_at-shifted_below xs o i (omega (arith, is.len))) (is.low (i + 1) n)
       ];
-      high = λ i lt. elim (last_or_before i w lt) [
-        | inl e ↦ rw (offset_at-shifted_last xs o i (e ∙ sym is.len)) high
-        | inr n ↦ rw (offset_at-shifted_below xs o i (omega (arith, is.len))) (is.high (i + 1) n)
+      high = λ i lt. elim (cases_lt (i + 1) w) [
+        | inr past ↦ rw (offset_at-shifted_last xs o i (omega (arith, is.len))) high
+        | inl n ↦ rw (offset_at-shifted_below xs o i (omega (arith, is.len))) (is.high (i + 1) n)
       ];
       differ = λ i j lt lw same.
           let a : offset_at (shifted xs o) i ≡ offset_at xs (i + 1) = offset_at-shifted_below xs o i (omega (arith, is.len)) in
-          elim (last_or_before j w lw) [
-            | inl e ↦
-                let b : offset_at (shifted xs o) j ≡ o = offset_at-shifted_last xs o j (e ∙ sym is.len) in
+          elim (cases_lt (j + 1) w) [
+            | inr past ↦
+                let b : offset_at (shifted xs o) j ≡ o = offset_at-shifted_last xs o j (omega (arith, is.len)) in
                 fresh (i + 1, omega (arith, is.len), omega (arith, ints))
-            | inr n ↦
+            | inl n ↦
                 let b : offset_at (shifted xs o) j ≡ offset_at xs (j + 1) = offset_at-shifted_below xs o j (omega (arith, is.len)) in
                 is.differ (i + 1) (j + 1) (omega arith) n (omega (arith, ints))
           ];

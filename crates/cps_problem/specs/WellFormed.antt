@@ -5,7 +5,7 @@ use Rattle.std.specs.List.{AllAdjacentBelow}
 use Rattle.std.specs.Ordering.{nat_cmp, ordering_then, is_lt}
 use Rattle.std.specs.Cmp.Lexicographic.{slice_cmp}
 use Rattle.wake_table.specs.Table.{IsWakeTable}
-use Rattle.landing_rules.specs.Limits.{greatest_weight, most_waiting}
+use Rattle.landing_rules.specs.Limits.{greatest_value, greatest_weight, most_waiting}
 use Rattle.landing_rules.specs.Rules.{last_second}
 use Rattle.landing_rules.specs.Problem.{Problem, Waiting, AreBetweenRanks}
 
@@ -25,8 +25,8 @@ pub record IsWellFormed (p : Problem) : Type 0 where
   pub estimates : All (λ f. f.eta ≤ last_second) p.flights
   pub weights : All (λ f. (1 ≤ f.weight) × (f.weight ≤ greatest_weight)) p.flights
   pub passed : All (λ f. f.passed ≤ p.k) p.flights
-  -- at most 500 flights of weight 100, each 172,799 seconds late
-  pub base : p.base + 17279900 * length p.flights ≤ 8639950000
+  -- also where each flight has weight 100 and lands 172,799 seconds late
+  pub base : p.base + 17279900 * length p.flights ≤ greatest_value
 
 -- what is asked of the parts of a problem: all of this, but that its table is one, which the table's type keeps
 abbrev pub CanBuild : Problem → Type 0

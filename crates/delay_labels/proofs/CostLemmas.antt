@@ -1,4 +1,3 @@
-use Rattle.cps_network.specs.Landable.{Attains}
 -- How much attained pairs cost at most.
 use Rattle.std.proofs.Common.{◌≡◌, ℕ, zero, suc, ◌-◌, ◌*◌, ◌≤◌, inl, inr, List, [], ◌∷◌, length, get_or, ap, subst, arith, le_trans}
 use Rattle.std.specs.Prelude.{ℤ}
@@ -18,6 +17,7 @@ use Rattle.landing_rules.specs.declared.objective.Objective.TheVariants.{Makespa
 use Rattle.landing_rules.specs.Problem.{Problem, Waiting}
 use Rattle.landing_rules.specs.Rules.{last_second}
 use Rattle.cps_problem.specs.WellFormed.{IsWellFormed}
+use Rattle.cps_network.specs.Landable.{Attains}
 use Rattle.cps_network.specs.Nodes.{Node}
 
 cost_small_by : (o : Objective) (f : Waiting) (t : ℕ) → f.weight ≤ 100 → t ≤ last_second → cost_by o f t ≤ 17279900

@@ -1,5 +1,6 @@
 -- Lists of pairs, and the successors of their pairs.
 use Rattle.std.proofs.Common.{◌≡◌, ℕ, zero, suc, ◌+◌, ◌-◌, ◌<◌, ◌≤◌, ◌⊎◌, inl, inr, List, [], ◌∷◌, ◌++◌, length, take, drop, Option, Some, None, refl, sym, ap, subst, ◌∙◌, arith}
+use Rattle.std.proofs.lemmas.Option.{same_Some}
 use Rattle.std.specs.Prelude.{slice_range}
 use Rattle.std.specs.List.{flat_map}
 use Rattle.std.proofs.lemmas.Bool.{cases_eq}
@@ -20,10 +21,7 @@ some_in (Some x) qs q (inr i) = inr i
 in_some : (o : Option Pair) (qs : List Pair) (q : Pair) → (o ≡ Some q) ⊎ InPairs q qs → InPairs q (some_before o qs)
 in_some None qs q (inl e) = absurd (cc)
 in_some None qs q (inr i) = i
-in_some (Some x) qs q (inl e) = inl (some_same x q e)
-  where
-    some_same : (a b : Pair) → ◌≡◌ {A = Option Pair} (Some a) (Some b) → b ≡ a
-    some_same a b e = cc
+in_some (Some x) qs q (inl e) = inl (sym (same_Some x q e))
 in_some (Some x) qs q (inr i) = inr i
 
 -- each is the successor of one of the pairs

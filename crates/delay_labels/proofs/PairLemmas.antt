@@ -17,6 +17,7 @@ use Rattle.cps_theory.specs.laws.LeastObjective.{next_later}
 use Rattle.cps_theory.specs.laws.NetworkLabels.{kept_next, kept_undominated, undominated_kept}
 use Rattle.cps_theory.specs.laws.Staircases.{staircase_apart, sweep_covers, sweep_staircase, sweep_subset}
 use Rattle.landing_joint.specs.RankedProblem.{ranked, first_at, cost_at}
+use Rattle.landing_joint.specs.shared.FirstBestLists.{costs_rise}
 use Rattle.landing_joint.specs.shared.FirstOpen.{is_first_open}
 use Rattle.landing_rules.specs.Problem.{Problem}
 use Rattle.landing_rules.specs.Rules.{last_second}
@@ -29,7 +30,7 @@ use Rattle.cps_network.specs.Landable.{Attains}
 use Rattle.cps_network.specs.Pairs.{ArePairsOf, AreCosts, GivesPair, list_at, pair_at, successor}
 use Rattle.delay_labels.specs.Parts.{IsInDays}
 use Rattle.delay_labels.specs.Lists.{IsGivenIn, successors_in}
-use Rattle.cps_network.specs.shared.PairSteps.{dearer, in_at, at_in, next_attained}
+use Rattle.cps_network.specs.shared.PairSteps.{in_at, at_in, next_attained}
 use Rattle.cps_network.specs.shared.PairLists.{all_in, in_permuted, permuted_in, sorted_in_order}
 use Rattle.delay_labels.proofs.ListLemmas.{given_in_range, range_gives}
 use Rattle.delay_labels.proofs.CostLemmas.{attained_small}
@@ -158,7 +159,7 @@ module _ (p : Problem) (wf : IsWellFormed p) (w stage : ℕ) (before : List (Lis
   node_kept : (pairs : List Pair) → ((q : Pair) → InPairs q pairs → IsGivenIn p l r lists from to q) → ((q : Pair) → IsGivenIn p l r lists from to q → (o : Pair) × InPairs o pairs × NoWorse o q)
       → Kept (Attains p (suc stage) v) (λ q. InPairs q pairs)
   node_kept pairs made enough =
-      kept_next Node (λ s u. (ranked p).is_open s u ≡ true) (first_at p) (next_from (ranked p)) (cost_at p) (Legal (ranked p).rules) (node_of p.k) (permits p) land latest (is_first_open p) (next_later (ranked p)) (dearer p) range.laws.network
+      kept_next Node (λ s u. (ranked p).is_open s u ≡ true) (first_at p) (next_from (ranked p)) (cost_at p) (Legal (ranked p).rules) (node_of p.k) (permits p) land latest (is_first_open p) (next_later (ranked p)) (costs_rise p) range.laws.network
       Lists (suc stage, v) (λ q. InPairs q pairs)
       (λ e. never (ap (λ (n : Node). n.0) e))
       (λ n s may at. source_kept n (less (ap (λ (m : Node). m.0) at)))

@@ -1,19 +1,21 @@
 -- An order whose flights have all landed as early as they can: these seconds land it, and none do earlier.
-use Rattle.std.proofs.Common.{◌≡◌, ℕ, zero, suc, ◌-◌, ◌≤◌, inl, inr, true, List, [], ◌∷◌, length, get_or, reverse, Some, None, sym, ap, subst, ◌∙◌, arith}
+use Rattle.std.proofs.Common.{◌≡◌, ℕ, suc, ◌-◌, ◌≤◌, true, List, length, get_or, reverse, Some, None, sym, ap, subst, ◌∙◌, arith}
 use Rattle.std.specs.List.{AllZip}
 use Rattle.landing_rules.specs.Flights.{Schedule}
 use Rattle.landing_rules.specs.Problem.{Problem}
 use Rattle.wake_table.specs.Table.{IsWakeTable}
 use Rattle.cps_theory.specs.Separation.{Landing}
-use Rattle.cps_theory.specs.RankLists.{In, of_rank}
+use Rattle.cps_theory.specs.RankLists.{of_rank}
 use Rattle.cps_theory.specs.Feasible.{earliest, next_from, at_seconds}
 use Rattle.cps_theory.specs.laws.OptionSteps.{some_same}
 use Rattle.cps_theory.specs.laws.FeasibleOrder.{ranks_at, at_seconds_agree}
 use Rattle.cps_theory.specs.laws.EarliestLandings.{earliest_lands, earliest_least, NoLater}
 use Rattle.cps_theory.specs.laws.LeastObjective.{next_later}
+use Rattle.cps_theory.specs.laws.TightMaps.{no_later_at}
 use Rattle.landing_joint.specs.RankedProblem.{ranked, first_at}
 use Rattle.landing_joint.specs.shared.FirstOpen.{is_first_open}
 use Rattle.landing_joint.specs.shared.BestLists.{zip_of}
+use Rattle.landing_joint.specs.shared.FirstBestLists.{second_is}
 use Rattle.extract_plan.specs.Orders.{IsWholeOrder, LandsInOrder, EarliestInOrder}
 use Rattle.extract_plan.specs.shared.LandingOrder.{by_seconds, order_lands, trail_lands, in_order, has_ranks}
 
@@ -21,12 +23,8 @@ module _ (p : Problem) (order : List ℕ) (w : IsWholeOrder (length p.flights) o
   abbrev Retimed : Schedule → Type 0
   Retimed t = earliest (first_at p) (next_from (ranked p)) (reverse order) ≡ Some (at_seconds (λ r. get_or t (r - 1) 0) (reverse order))
 
-  by_rank : (t : Schedule) (r : ℕ) → 1 ≤ r → get_or t (r - 1) 0 ≡ of_rank 0 t r
-  by_rank t zero one = absurd (omega arith)
-  by_rank t (suc i) one = let e : suc i - 1 ≡ i = omega arith in ap (λ k. get_or t k 0) e
-
   pub is_earliest : (t : Schedule) → Retimed t → EarliestInOrder p order t
-  is_earliest t e = e ∙ ap Some (at_seconds_agree (λ r. get_or t (r - 1) 0) (of_rank 0 t) (reverse order) (λ r i. by_rank t r (in_order p order w r i).0))
+  is_earliest t e = e ∙ ap Some (at_seconds_agree (λ r. get_or t (r - 1) 0) (of_rank 0 t) (reverse order) (λ r i. second_is t r (in_order p order w r i).0))
 
   pub retimed_lands : IsWakeTable p.table → (t : Schedule) → length t ≡ length p.flights → Retimed t → LandsInOrder p order t
   retimed_lands table t long e =
@@ -39,11 +37,6 @@ module _ (p : Problem) (order : List ℕ) (w : IsWholeOrder (length p.flights) o
 
   pub retimed_none : earliest (first_at p) (next_from (ranked p)) (reverse order) ≡ None → (u : Schedule) → LandsInOrder p order u → ⊥
   retimed_none e u l = let a = any_lands u l in let no : None ≡ Some a.0 = sym e ∙ a.1 in cc
-
-  no_later_at : (t u : ℕ → ℕ) (rs : List ℕ) → NoLater (at_seconds t rs) (at_seconds u rs) → (r : ℕ) → In r rs → t r ≤ u r
-  no_later_at t u [] n r i = absurd i
-  no_later_at t u (x ∷ rs) n r (inl e) = subst (λ z. t z ≤ u z) (sym e) n.1
-  no_later_at t u (x ∷ rs) n r (inr i) = no_later_at t u rs n.2 r i
 
   pub retimed_least : (t : Schedule) → length t ≡ length p.flights → Retimed t → (u : Schedule) → LandsInOrder p order u → AllZip (λ a b. a ≤ b) t u
   retimed_least t long e u l =

@@ -1,6 +1,6 @@
--- A rank's second, and the objective of a schedule by its greatest second or its sum.
-use Rattle.std.proofs.Common.{◌≡◌, ℕ, zero, suc, ◌+◌, ◌-◌, ◌≤◌, false, List, [], ◌∷◌, length, refl, sym, ap, ◌∙◌, arith}
-use Rattle.std.specs.Prelude.{slice_index, nat_eq}
+-- The objective of a schedule by its greatest second or its sum.
+use Rattle.std.proofs.Common.{◌≡◌, ℕ, ◌+◌, false, List, [], ◌∷◌, length, refl, sym, ap, ◌∙◌}
+use Rattle.std.specs.Prelude.{nat_eq}
 use Rattle.std.proofs.lemmas.Bool.{true≢false}
 use Rattle.landing_rules.specs.declared.objective.Objective.{Objective}
 use Rattle.landing_rules.specs.declared.objective.Objective.TheVariants.{Makespan, Delay}
@@ -10,10 +10,6 @@ use Rattle.cps_theory.specs.RankLists.{of_rank, upto}
 use Rattle.cps_theory.specs.Feasible.{greatest, total}
 use Rattle.landing_joint.specs.RankedProblem.{cost_at, value_by, makespan_by}
 use Rattle.landing_joint.specs.shared.BestLists.{list_value}
-
-pub at_rank : (s : Schedule) (r : ℕ) → 1 ≤ r → of_rank 0 s r ≡ slice_index s (r - 1)
-at_rank s zero one = absurd (omega arith)
-at_rank s (suc i) one = let e : i ≡ suc i - 1 = omega arith in ap (slice_index s) e
 
 some_waiting : (fs : List Waiting) (p : Problem) (t : ℕ) → nat_eq (length fs) 0 ≡ false → makespan_by fs p t ≡ t
 some_waiting [] p t e = absurd (true≢false e)

@@ -7,6 +7,8 @@ use Rattle.std.proofs.Math.ListN.{length-set}
 use Rattle.std.proofs.lemmas.Nat.Bits.{bit_at-zero}
 use Rattle.std.specs.Int.{bit_at}
 use Rattle.precedence.specs.Pairs.{HasBit}
+use Rattle.std.proofs.lemmas.Option.{same_Some}
+use Rattle.landing_rules.specs.Limits.{most_waiting}
 use Rattle.landing_rules.specs.Rules.{last_second}
 use Rattle.landing_rules.specs.Problem.{Problem}
 use Rattle.landing_rules.specs.FirstBest.{IsFirstBestList}
@@ -40,10 +42,10 @@ use Rattle.first_best.proofs.UseLemmas.{all_kept}
 module _ (p : Problem) (budget : ℕ) (before : EarlyNode) (cost : ℕ) (nodes : List EarlyNode) (lists : List (List Pair)) where
   -- the least choice of the first nodes, or what comes after every rank
   pub record LeastUpto (j : ℕ) (least : Pair) : Type 0 where
-    pub known : (least ≡ (61, 0)) ⊎ IsChoice p budget before cost nodes lists least.0 least.1
+    pub known : (least ≡ (most_waiting + 1, 0)) ⊎ IsChoice p budget before cost nodes lists least.0 least.1
     pub low : (i t : ℕ) → i < j → LeadsTo before (node_at nodes i) → IsAffordable p budget before cost (node_at nodes i) (list_at lists i) t → least.0 ≤ (node_at nodes i).last
 
-  pub none_upto : LeastUpto 0 (61, 0)
+  pub none_upto : LeastUpto 0 (most_waiting + 1, 0)
   none_upto = record { known = inl refl; low = λ i t lt. absurd (omega (arith, lt)) }
 
   pub one_upto : (j : ℕ) (least : Pair) (found : Option ℕ) → j < length nodes → LeastUpto j least → FindsWay p budget before cost (node_at nodes j) (list_at lists j) found → LeastUpto (j + 1) (lesser_choice least (node_at nodes j).last found)
@@ -259,10 +261,7 @@ module _ (p : Problem) (wf : IsWellFormed p) (v : ℕ) (held : Option HeldProble
 
 module _ (p : Problem) (budget : ℕ) (before : EarlyNode) (cost : ℕ) (after : EarlyNode) (pairs : List Pair) (second : ℕ) (lands : landing_after p before.last before.earliest after.last ≡ Some second) where
   same_second : (t : ℕ) → IsAffordable p budget before cost after pairs t → t ≡ second
-  same_second t a = (let e = sym a.lands ∙ lands in one e)
-    where
-      one : {x y : ℕ} → ◌≡◌ {A = Option ℕ} (Some x) (Some y) → x ≡ y
-      one e = cc
+  same_second t a = same_Some t second (sym a.lands ∙ lands)
 
   pub never_in_time : IsLeastOf (IsCostFrom pairs second) None → (t : ℕ) → IsAffordable p budget before cost after pairs t → ⊥
   never_in_time none t a = none a.pair.1 (a.pair, a.listed, (let e = same_second t a in let l = a.in_time in omega (arith, e, l)), refl)

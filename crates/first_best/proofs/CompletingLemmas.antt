@@ -7,6 +7,7 @@ use Rattle.cps_theory.specs.Feasible.{SoundProblem}
 use Rattle.cps_theory.specs.Labels.{InPairs, Pair}
 use Rattle.cps_theory.specs.LandingTrail.{last_rank, ranks}
 use Rattle.cps_theory.specs.CompletingPairs.{KeptCompleting}
+use Rattle.cps_theory.specs.laws.CompletingPairs.{no_earlier_no_dearer_trans}
 use Rattle.landing_joint.specs.RankedProblem.{ranked, cost_at, landing_after}
 use Rattle.landing_joint.specs.CompletingPairs.{CanLandBy, IsCompletingPair, IsLastPair, IsLegal, IsSuccessorPair}
 use Rattle.landing_joint.specs.shared.RankedLists.{sound_ranked}
@@ -20,7 +21,7 @@ use Rattle.first_best.specs.Uses.{IsWanted, KeepsWanted}
 use Rattle.first_best.specs.Stages.{AreCompleted, IsBehind, StageAhead}
 use Rattle.first_best.specs.Ranges.{IsNextIn}
 use Rattle.first_best.proofs.NodeLemmas.{by_lands, lands_by, leads_on, node_one, on_leads, rank_of}
-use Rattle.first_best.proofs.UseLemmas.{all_kept, no_worse_trans, wanted_next, wanted_room}
+use Rattle.first_best.proofs.UseLemmas.{all_kept, wanted_next, wanted_room}
 
 pub sound_of : (p : Problem) → IsWellFormed p → SoundProblem (ranked p)
 sound_of p wf = sound_ranked p wf.table (λ q r b. let a = wf.between_ranks q r b in (a.0, a.1))
@@ -63,7 +64,7 @@ module _ (p : Problem) (wf : IsWellFormed p) (v : ℕ) (budget : Option ℕ) (st
         let s = each.covers q c in
         let l = s.1 in
         let a = made.cover s.0 (record { opened = last_opened s.0.0 l.opened; reached = by_lands p stage these are j lt rs long of s.0.0 l.reached; low = l.low; end = inl (whole, l.cost_is) }) (room q s.0.1 s.2.1 w) in
-        (a.0, a.1, no_worse_trans a.0 s.0 q a.2 s.2);
+        (a.0, a.1, no_earlier_no_dearer_trans a.0 s.0 q a.2 s.2);
   }
     where
       each : KeptCompleting (IsCompletingPair p v rs) (IsLastPair p v rs)
@@ -142,7 +143,7 @@ module _ (p : Problem) (wf : IsWellFormed p) (v : ℕ) (budget : Option ℕ) (st
           let less : found.1 ≤ a.0.1 = omega (arith, same, cheap) in
           let h = to_pair found (record { opened = s.opened; reached = s.reached; low = s.low; rank = s.rank; second = s.second; pair = o.0; legal = s.legal; lands = s.lands; kept = o.1; in_time = le_trans s.in_time o.2.0; cost_is = refl }) in
           let m = made.cover found h (room q found.1 (le_trans less a.2.1) w) in
-          (m.0, m.1, no_worse_trans m.0 found q m.2 (a.2.0, le_trans less a.2.1));
+          (m.0, m.1, no_earlier_no_dearer_trans m.0 found q m.2 (a.2.0, le_trans less a.2.1));
     }
       where
         each : KeptCompleting (IsCompletingPair p v rs) (IsSuccessorPair p v (IsCompletingPair p v) rs)

@@ -1,9 +1,10 @@
 -- The windows of a stage, put together by node.
-use Rattle.std.proofs.Common.{◌≡◌, ℕ, suc, ◌+◌, ◌-◌, ◌<◌, ◌≤◌, inl, inr, List, [], ◌∷◌, ◌++◌, length, refl, sym, ap, subst, ◌∙◌, arith, length-append}
+use Rattle.std.proofs.Common.{◌≡◌, ℕ, ◌+◌, ◌<◌, ◌≤◌, inl, inr, List, [], ◌∷◌, ◌++◌, length, refl, sym, ap, subst, ◌∙◌, arith, length-append}
 use Rattle.std.specs.Prelude.{ℤ, pos, ◌↔◌}
 use Rattle.std.proofs.lemmas.Bool.{cases_eq, cases_lt}
 use Rattle.std.proofs.lemmas.List.{get_or_default, get_or_append_left, get_or_push}
 use Rattle.precedence.specs.Pairs.{HasBit}
+use Rattle.replan.specs.shared.LastPairs.{last_cheapest}
 use Rattle.landing_rules.specs.Problem.{Problem}
 use Rattle.cps_theory.specs.Separation.{Landing}
 use Rattle.cps_theory.specs.LandingTrail.{cost_of, latest_landing, pair_of, ranks}
@@ -108,22 +109,6 @@ pub first_least : (xs : List Pair) → Staircase xs → (q : Pair) → InPairs q
 first_least [] s q i = absurd i
 first_least (x ∷ xs) s q (inl e) = (let f : q.0 ≡ x.0 = ap (λ (z : Pair). z.0) e in omega (arith, f))
 first_least (x ∷ xs) s q (inr i) = (let a = (s.0 q i).0 in omega (arith, a))
-
-last_of_rest : (x y : Pair) (ys : List Pair) → (pair_at (x ∷ y ∷ ys) (length (x ∷ y ∷ ys) - 1)).1 ≡ (pair_at (y ∷ ys) (length (y ∷ ys) - 1)).1
-last_of_rest x y ys = (let e : length (x ∷ y ∷ ys) - 1 ≡ suc (length (y ∷ ys) - 1) = omega arith in ap (λ (n : ℕ). (pair_at (x ∷ y ∷ ys) n).1) e)
-
--- and the last the cheapest
-pub last_cheapest : (xs : List Pair) → Staircase xs → (q : Pair) → InPairs q xs → (pair_at xs (length xs - 1)).1 ≤ q.1
-last_cheapest [] s q i = absurd i
-last_cheapest (x ∷ []) s q (inl e) = (let f : q.1 ≡ x.1 = ap (λ (z : Pair). z.1) e in omega (arith, f))
-last_cheapest (x ∷ []) s q (inr i) = absurd i
-last_cheapest (x ∷ y ∷ ys) s q (inl e) =
-    let f : q.1 ≡ x.1 = ap (λ (z : Pair). z.1) e in
-    let a = (s.0 y (inl refl)).1 in
-    let b = last_cheapest (y ∷ ys) s.1 y (inl refl) in
-    let c = last_of_rest x y ys in
-    omega (arith, f, a, b, c)
-last_cheapest (x ∷ y ∷ ys) s q (inr i) = (let b = last_cheapest (y ∷ ys) s.1 q i in let c = last_of_rest x y ys in omega (arith, b, c))
 
 some_long : (xs : List Pair) (q : Pair) → InPairs q xs → 0 < length xs
 some_long [] q i = absurd i

@@ -24,9 +24,6 @@ use Rattle.first_best.proofs.NodeLemmas.{node_one}
 pub all_kept : (C : Pair → Type 0) → KeptCompleting C C
 all_kept C = record { completes = λ q c. c; covers = λ q c. (q, c, (le_refl q.0, le_refl q.1)) }
 
-pub no_worse_trans : (a b c : Pair) → NoEarlierNoDearer a b → NoEarlierNoDearer b c → NoEarlierNoDearer a c
-no_worse_trans a b c m n = (le_trans n.0 m.0, le_trans m.1 n.1)
-
 -- those of use are among all
 pub all_useful : (p : Problem) (budget : Option ℕ) (rs : List ℕ) (C Keeps : Pair → Type 0) → KeepsWanted C (IsWanted p None rs) Keeps → KeepsWanted C (IsWanted p budget rs) Keeps
 all_useful p budget rs C Keeps k = record { completes = k.completes; covers = λ q c w. k.covers q c tt }

@@ -1,7 +1,7 @@
 -- Ways from a node to others, and the least cost by them.
 use Rattle.std.proofs.Common.{◌≡◌, ℕ, zero, suc, ◌+◌, ◌<◌, ◌≤◌, inl, inr, List, [], ◌∷◌, ◌++◌, length, Option, Some, None, true, false, ◌&&◌, refl, sym, ap, subst, ◌∙◌, arith}
 use Rattle.std.specs.Prelude.{slice_index_or}
-use Rattle.std.proofs.lemmas.Option.{none-some}
+use Rattle.std.proofs.lemmas.Option.{none-some, same_Some}
 use Rattle.std.proofs.lemmas.Bool.{and_from, cases_eq, cases_lt, false≢true}
 use Rattle.std.proofs.lemmas.List.{get_or_append_left, get_or_push}
 use Rattle.std.proofs.Common.{length-append}
@@ -67,10 +67,7 @@ all_ways node nodes j ways e w = record {
 module _ (p : Problem) (node after : EarlyNode) (pairs : List Pair) (second : ℕ) where
   module _ (landing : ℕ) (lands : landing_after p node.last second after.last ≡ Some landing) where
     same_landing : (c : ℕ) (w : IsWayTo p node after pairs second c) → w.lands_at ≡ landing
-    same_landing c w = (let e = sym w.lands ∙ lands in one e)
-      where
-        one : {x y : ℕ} → ◌≡◌ {A = Option ℕ} (Some x) (Some y) → x ≡ y
-        one e = cc
+    same_landing c w = same_Some w.lands_at landing (sym w.lands ∙ lands)
 
     pub too_late : IsLeastOf (IsCostFrom pairs landing) None → IsLeastOf (IsWayTo p node after pairs second) None
     too_late none c w = none w.pair.1 (w.pair, w.listed, (let e = same_landing c w in let l = w.in_time in omega (arith, e, l)), refl)

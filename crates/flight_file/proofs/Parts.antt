@@ -2,16 +2,11 @@
 use Rattle.std.proofs.Common.{◌≡◌, ℕ, ◌+◌, ◌<◌, List, [], ◌∷◌, length, Ok, Err, Result, ◌++◌, append_assoc, arith, ap, sym, refl}
 use Rattle.cps_base.specs.Answers.{◌>>=◌}
 use Rattle.flight_file.specs.Windows.{window_by, window_in, windows_from}
-use Rattle.std.specs.Prelude.{◌==◌, ◌&&◌, IsTrue, Bool, true, false}
+use Rattle.std.specs.Prelude.{IsTrue}
 use Rattle.std.specs.List.{list_all}
 use Rattle.landing_windows.specs.Windows.{is_in_days}
-use Rattle.std.proofs.lemmas.List.Splits.{length-slice_split}
-use Rattle.text_parts.specs.Parts.{parts}
+use Rattle.std.proofs.lemmas.Bool.{and_parts}
 use Rattle.flight_file.specs.declared.fault.WindowsCause.TheVariants.{Shape}
-
--- a text has a part
-pub has_part : (mark : ℕ) (text : List ℕ) → 0 < length (parts mark text)
-has_part mark text = omega (arith, length-slice_split (λ b. b == mark) text)
 
 -- what was read before, and then the rest
 abbrev pub with_front : {X E : Type 0} → List X → Result (List X) E → Result (List X) E
@@ -32,19 +27,9 @@ pub window_more : (i : ℕ) (front : List (ℕ × ℕ)) (p : List ℕ) (ps : Lis
 unfolding windows_from
 window_more i front p ps w e = rw e (front_more front w (windows_from (i + 1) ps))
 
--- both tests pass
-pub left_of : (a b : Bool) → (a && b) ≡ true → a ≡ true
-left_of true b e = refl
-left_of false b e = absurd (cc e)
-
-pub right_of : (a b : Bool) → (a && b) ≡ true → b ≡ true
-right_of true b e = e
-right_of false b e = absurd (cc e)
-
 -- one window more of the two days
 pub days_more : (front : List (ℕ × ℕ)) (w : ℕ × ℕ) → IsTrue (list_all is_in_days front) → IsTrue (is_in_days w) → IsTrue (list_all is_in_days (front ++ w ∷ []))
 days_more [] w h here = rw here refl
 days_more (v ∷ front) w h here =
-    let first = left_of (is_in_days v) (list_all is_in_days front) h in
-    let more = days_more front w (right_of (is_in_days v) (list_all is_in_days front) h) here in
-    rw (first, more) refl
+    let both = and_parts (is_in_days v) (list_all is_in_days front) h in
+    rw (both.0, days_more front w both.1 here) refl

@@ -1,30 +1,30 @@
 -- Each printed field reads as what was printed.
-use Rattle.std.proofs.Common.{◌≡◌, ℕ, zero, suc, ◌+◌, ◌<◌, ◌≤◌, List, [], ◌∷◌, ◌++◌, true, false, length, get_or, Ok, Err, Some, refl, sym, ap, ◌∙◌, arith, rules, append_assoc, length-append, inl, inr}
+use Rattle.std.proofs.Common.{◌≡◌, ℕ, suc, ◌+◌, ◌<◌, ◌≤◌, List, [], ◌∷◌, ◌++◌, true, false, length, Ok, Err, Some, refl, sym, ap, ◌∙◌, arith, rules, append_assoc, length-append, inl, inr}
 use Rattle.std.specs.Prelude.{◌==◌, ◌^◌, map, decimal, nat_lt}
 use Rattle.std.specs.List.{join_with_byte, list_all}
 use Rattle.std.specs.Char.{is_ascii_digit}
 use Rattle.std.specs.Str.Parse.{digits_value}
-use Rattle.std.proofs.lemmas.Bool.{ne_eqb, cases_Bool}
+use Rattle.std.proofs.lemmas.Bool.{ne_eqb, cases_Bool, and_parts}
 use Rattle.std.proofs.lemmas.Bool.Decides.{nat_tests}
 use Rattle.std.proofs.lemmas.Grind.{common_steps}
 use Rattle.std.proofs.lemmas.List.{append-nil}
-use Rattle.std.proofs.lemmas.Fmt.{digits_decimal, digits_value-decimal, decimal_nonempty, first_decimal, decimal_digit}
+use Rattle.std.proofs.lemmas.Fmt.{digits_decimal, digits_value-decimal}
 use Rattle.std.proofs.lemmas.Str.Parse.{IsNumeralModel, numerals_by_value}
 use Rattle.cps_base.specs.Text.{is_callsign, is_callsign_byte}
-use Rattle.cps_base.specs.Number.{is_number, number_within}
+use Rattle.cps_base.specs.Number.{number_within}
 use Rattle.wake_table.specs.declared.category.Category.{Category}
 use Rattle.wake_table.specs.declared.category.Category.TheVariants.{A, B, C, D, E, F}
 use Rattle.wake_table.specs.Letters.{letter, category_of}
 use Rattle.landing_windows.specs.Windows.{windows_of}
 use Rattle.landing_windows.specs.declared.windows.WindowFault.TheVariants.{TooMany}
 use Rattle.text_parts.specs.Parts.{parts}
+use Rattle.text_parts.specs.shared.Printed.{is_numeral}
 use Rattle.text_parts.specs.shared.Joins.{IsWithout, AreWithout, IsWithout-append, parts-before, parts-one, parts-join}
 use Rattle.csv_records.specs.PlainLaw.{AreHigh, AreHigh-append}
 use Rattle.flight_file.specs.Windows.{second_in, window_in, windows_from, windows_in}
 use Rattle.flight_file.specs.After.{names_from, names_in}
 use Rattle.flight_file.specs.Printed.{window_text, windows_text, names_text}
 use Rattle.flight_file.proofs.Printable.{AreInDays, AreNewNames}
-use Rattle.flight_file.proofs.Parts.{left_of, right_of}
 use Rattle.flight_file.proofs.PrintedParts.{windows_join, names_join, windows_joined, names_joined}
 
 abbrev pub AreDigits : List ℕ → Type 0
@@ -45,35 +45,26 @@ digit_top b e = grind (arith, nat_tests, common_steps)
 pub high_digits : (ds : List ℕ) → AreDigits ds → AreHigh ds
 high_digits [] h = tt
 high_digits (d ∷ ds) h =
-    let low = digit_low d (left_of _ _ h) in
-    (omega (arith, low), high_digits ds (right_of _ _ h))
+    let low = digit_low d (and_parts _ _ h).0 in
+    (omega (arith, low), high_digits ds (and_parts _ _ h).1)
 
 pub digits_without : (mark : ℕ) (ds : List ℕ) → (mark < 48) → AreDigits ds → IsWithout mark ds
 digits_without mark [] m h = tt
 digits_without mark (d ∷ ds) m h =
-    let low = digit_low d (left_of _ _ h) in
-    (ne_eqb d mark (λ e. omega (arith, low, e, m)), digits_without mark ds m (right_of _ _ h))
+    let low = digit_low d (and_parts _ _ h).0 in
+    (ne_eqb d mark (λ e. omega (arith, low, e, m)), digits_without mark ds m (and_parts _ _ h).1)
 
 pub digits_without_top : (mark : ℕ) (ds : List ℕ) → (57 < mark) → AreDigits ds → IsWithout mark ds
 digits_without_top mark [] m h = tt
 digits_without_top mark (d ∷ ds) m h =
-    let top = digit_top d (left_of _ _ h) in
-    (ne_eqb d mark (λ e. omega (arith, top, e, m)), digits_without_top mark ds m (right_of _ _ h))
-
--- a number is spelled as one
-spelled : (n : ℕ) → n < 2 ^ 64 → is_number (decimal n) ≡ true
-spelled zero h = rw (decimal_digit 0 (omega arith)) refl
-spelled (suc n) h =
-    let some : 0 < length (decimal (suc n)) = decimal_nonempty (suc n) h in
-    let first : 48 < get_or (decimal (suc n)) 0 0 = first_decimal (suc n) (omega arith) h in
-    let digits : AreDigits (decimal (suc n)) = decimal_digits (suc n) h in
-    rw digits (grind (arith, nat_tests, common_steps))
+    let top = digit_top d (and_parts _ _ h).0 in
+    (ne_eqb d mark (λ e. omega (arith, top, e, m)), digits_without_top mark ds m (and_parts _ _ h).1)
 
 pub number_read : (n least most : ℕ) → n < 2 ^ 64 → least ≤ n → n ≤ most → number_within (decimal n) least most ≡ Ok n
 unfolding number_within
 number_read n least most h low top =
     let e : digits_value 10 (decimal n) ≡ n = digits_value-decimal own n h in
-    rw (spelled n h, e) (grind (arith, nat_tests, common_steps))
+    rw (is_numeral n h, e) (grind (arith, nat_tests, common_steps))
 
 pub category_read : (c : Category) → category_of (letter c ∷ []) ≡ Some c
 category_read A = refl
@@ -173,14 +164,14 @@ name_mark b e = ne_eqb b 59 (λ same. absurd (cc (rw same at e)))
 
 high_letters : (text : List ℕ) → list_all is_callsign_byte text ≡ true → AreHigh text
 high_letters [] h = tt
-high_letters (b ∷ rest) h = (name_high b (left_of _ _ h), high_letters rest (right_of _ _ h))
+high_letters (b ∷ rest) h = (name_high b (and_parts _ _ h).0, high_letters rest (and_parts _ _ h).1)
 
 letters_without : (text : List ℕ) → list_all is_callsign_byte text ≡ true → IsWithout 59 text
 letters_without [] h = tt
-letters_without (b ∷ rest) h = (name_mark b (left_of _ _ h), letters_without rest (right_of _ _ h))
+letters_without (b ∷ rest) h = (name_mark b (and_parts _ _ h).0, letters_without rest (and_parts _ _ h).1)
 
 pub high_callsign : (text : List ℕ) → is_callsign text ≡ true → AreHigh text
-high_callsign text h = high_letters text (right_of _ _ h)
+high_callsign text h = high_letters text (and_parts _ _ h).1
 
 callsign_some : (text : List ℕ) → is_callsign text ≡ true → 0 < length text
 callsign_some [] h = absurd (cc h)
@@ -188,7 +179,7 @@ callsign_some (b ∷ text) h = omega arith
 
 names_without : (me : List ℕ) (before names : List (List ℕ)) → AreNewNames me before names → AreWithout 59 names
 names_without me before [] h = tt
-names_without me before (n ∷ names) h = (letters_without n (right_of _ _ h.0.0), names_without me (before ++ n ∷ []) names h.1)
+names_without me before (n ∷ names) h = (letters_without n (and_parts _ _ h.0.0).1, names_without me (before ++ n ∷ []) names h.1)
 
 pub high_names : (me : List ℕ) (before names : List (List ℕ)) → AreNewNames me before names → AreHigh (names_join names)
 high_names me before [] h = tt

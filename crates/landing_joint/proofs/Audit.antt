@@ -18,22 +18,22 @@ use Rattle.landing_joint.specs.Numbered.{nobody, numbered, second_of, numbers_of
 use Rattle.landing_joint.specs.AuditLaws.{AuditLaw, ShownPlanIsCleanLaw, shown_block}
 use Rattle.landing_joint.proofs.Numbered.{landing_at, landings_are}
 use Rattle.landing_joint.proofs.Joint.{callsigns_differ}
-use Rattle.landing_joint.proofs.ByNumber.{order_member, member_order, order-moves}
+use Rattle.landing_joint.specs.shared.LandingsInOrder.{order_member, member_order, order_permutes}
 use Rattle.landing_joint.proofs.AuditLists.{append_nil, nil_append, or_else_nil, broken_none, none_broken, Each, each_pair}
 use Rattle.landing_joint.proofs.LandingOrder.{Strict, strict_equal, strict_order, filter_order, rules-moved, cost_order}
 use Rattle.landing_joint.proofs.AuditRules.{rules_kept, kept_rules}
 use Rattle.landing_joint.proofs.AuditLines.{block_landings, find_first, find_some, found_any, line_member, member_line, twice_none, none_twice, second_in, second_at, lines_strict, strict_lines, Found, lines_landings, lines_marks, landings_lines, each_map, each_lines, same_refl, same_true, one_nil}
-use Rattle.landing_joint.proofs.Members.{in_map, map_in, map_member, member_map, member_number}
+use Rattle.landing_joint.proofs.Members.{member_number}
 use Rattle.std.proofs.lemmas.List.{length-map}
-use Rattle.landing_joint.specs.shared.Insertion.{all_at}
+use Rattle.landing_rules.specs.shared.Members.{in_map, map_in, all_at}
 
 module _ (s : Situation) (sound : IsSound s) where
   module _ (t : Schedule) (long : length t ≡ length s.active) where
     of_number : (x : Landing) → Member x (landings s.active t) → (i : ℕ) × In i (numbers_of s.active) × (x ≡ landing_at s.active t i)
-    of_number x m = map_member (landing_at s.active t) (numbers_of s.active) x (subst (Member x) (landings_are s.active t long) m)
+    of_number x m = in_map (landing_at s.active t) (numbers_of s.active) x (subst (Member x) (landings_are s.active t long) m)
 
     number_of : (i : ℕ) → In i (numbers_of s.active) → Member (landing_at s.active t i) (landings s.active t)
-    number_of i m = subst (Member (landing_at s.active t i)) (sym (landings_are s.active t long)) (member_map (landing_at s.active t) (numbers_of s.active) i m)
+    number_of i m = subst (Member (landing_at s.active t i)) (sym (landings_are s.active t long)) (map_in (landing_at s.active t) (numbers_of s.active) i m)
 
     finds : (x : Landing) → Member x (landings s.active t) → Found s x
     finds x m =
@@ -70,7 +70,7 @@ module _ (s : Situation) (sound : IsSound s) where
       let unknown0 : unknown s.active b.plan.landings ≡ [] = none_broken (λ l. list_any (named l.callsign) s.active) (λ (l : ShownLanding). Unknown l.callsign) lines (λ l m. let w = in_map shown_landing S l m in let x = fs w.0 w.1 in ap (λ (z : ShownLanding). list_any (named z.callsign) s.active) w.2 ∙ found_any w.0.flight.callsign s.active x.0 x.1) in
       let twice0 : twice b.plan.landings ≡ [] = none_twice [] lines (λ l m. refl) (each_lines S strict (λ x y i j e. unique t f.0 x y (order_member x Ms i) (order_member y Ms j) e)) in
       let is : block_landings s.active lines ≡ S = lines_landings s S fs in
-      let rules0 : by_rules s (block_landings s.active lines) ≡ [] = ap (by_rules s) is ∙ kept_rules s S (rules-moved s Ms S (order-moves Ms) (filter_order Ms) f.1) in
+      let rules0 : by_rules s (block_landings s.active lines) ≡ [] = ap (by_rules s) is ∙ kept_rules s S (rules-moved s Ms S (order_permutes Ms) (filter_order Ms) f.1) in
       let word0 : other_objective b.objective s.aerodrome.objective ≡ [] = ap (λ c. cond c [] (OtherObjective ∷ [])) (same_refl s.aerodrome.objective) in
       let same : cost s.aerodrome.objective (block_landings s.active lines) ≡ objective s t = ap (cost s.aerodrome.objective) is ∙ cost_order s.aerodrome.objective Ms in
       let value0 : other_value b.plan.value (cost s.aerodrome.objective (block_landings s.active lines)) ≡ [] = ap (λ c. cond c [] (Value (cost s.aerodrome.objective (block_landings s.active lines)) ∷ [])) (eq-eqb (cost s.aerodrome.objective (block_landings s.active lines)) (objective s t) same) in
@@ -165,7 +165,7 @@ module _ (s : Situation) (sound : IsSound s) where
       let k = find_some w.0.callsign s.active w.1 w.3 in
       let n = member_number w.1 s.active k.0 in
       subst (λ (y : Landing). All (λ v. (v.0 ≤ v.1) × (v.1 ≤ last_second)) y.flight.windows) (sym w.4) (subst (λ (y : Active). All (λ v. (v.0 ≤ v.1) × (v.1 ≤ last_second)) y.flight.windows) (sym n.2) (sound.flights n.0 nobody n.1).windows.spans)) r3.0 in
-      let feasible : IsFeasible s t = (length-map s.active F, rules-moved s S Ms (IsPermutation-sym Ms S (order-moves Ms)) (IsPermutation-sym (filter waits Ms) (filter waits S) (filter_order Ms)) (subst (KeepsRules s) E keeps)) in
+      let feasible : IsFeasible s t = (length-map s.active F, rules-moved s S Ms (IsPermutation-sym Ms S (order_permutes Ms)) (IsPermutation-sym (filter waits Ms) (filter waits S) (filter_order Ms)) (subst (KeepsRules s) E keeps)) in
       let word_is : b.objective ≡ s.aerodrome.objective = same_true b.objective s.aerodrome.objective (one_nil (is_objective b.objective s.aerodrome.objective) OtherObjective r4.0) in
       let value_is : cost s.aerodrome.objective L ≡ b.plan.value = eqb-true (cost s.aerodrome.objective L) b.plan.value (one_nil (nat_eq (cost s.aerodrome.objective L) b.plan.value) (Value (cost s.aerodrome.objective L)) r4.1) in
       let total : b.plan.value ≡ objective s t = sym value_is ∙ ap (cost s.aerodrome.objective) E ∙ cost_order s.aerodrome.objective Ms in

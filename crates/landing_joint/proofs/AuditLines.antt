@@ -16,7 +16,7 @@ use Rattle.cps_theory.specs.RankLists.{Distinct, In}
 use Rattle.landing_joint.specs.Numbered.{nobody, numbered}
 use Rattle.landing_joint.proofs.AuditLists.{cons_nil, Each}
 use Rattle.landing_joint.proofs.LandingOrder.{Strict}
-use Rattle.landing_joint.proofs.Members.{found_in, in_map, map_member, none_any}
+use Rattle.landing_rules.specs.shared.Members.{found_in, in_map, none_any}
 
 -- ---- names
 
@@ -156,7 +156,7 @@ landings_lines s (l ∷ ls) h e =
 pub each_map : (R : Landing → Landing → Type 0) (F : ℕ → Landing) (xs : List ℕ) → Distinct xs → ((i j : ℕ) → In i xs → In j xs → i ≢ j → R (F i) (F j)) → Each R (map F xs)
 each_map R F [] d h = tt
 each_map R F (x ∷ xs) d h = (
-  λ y m. let w = map_member F xs y m in subst (R (F x)) (sym w.2) (h x w.0 (inl refl) (inr w.1) (λ e. d.0 (subst (λ z. In z xs) (sym e) w.1))),
+  λ y m. let w = in_map F xs y m in subst (R (F x)) (sym w.2) (h x w.0 (inl refl) (inr w.1) (λ e. d.0 (subst (λ z. In z xs) (sym e) w.1))),
   each_map R F xs d.1 (λ i j mi mj ne. h i j (inr mi) (inr mj) ne),
 )
 

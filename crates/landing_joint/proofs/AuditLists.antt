@@ -7,6 +7,8 @@ use Rattle.std.proofs.lemmas.Slice.Eq.{bytes_eq-Decides}
 use Rattle.std.proofs.lemmas.Bool.{or_cases, or_left, or_right, false≢true, cases_Bool}
 use Rattle.landing_rules.specs.Flights.{Callsign}
 use Rattle.landing_rules.specs.shared.Counting.{Member}
+-- a relation of each element with each later one
+pub use Rattle.landing_rules.specs.shared.OneList.{AscendBy as Each}
 use Rattle.landing_rules.specs.Audit.{Finding, for_failing, for_failing_pairs, or_else}
 
 -- ---- findings
@@ -35,11 +37,6 @@ broken_none holds f (y ∷ ys) e x m = elim (cases_Bool (holds y)) [
 pub none_broken : {X : Type 0} (holds : X → Bool) (f : X → Finding) (xs : List X) → ((x : X) → Member x xs → holds x ≡ true) → for_failing holds f xs ≡ []
 none_broken holds f [] h = refl
 none_broken holds f (y ∷ ys) h = ap (λ b. cond b (for_failing holds f ys) (f y ∷ for_failing holds f ys)) (h y (inl refl)) ∙ none_broken holds f ys (λ x m. h x (inr m))
-
--- a relation of each element with each later one
-abbrev pub Each : {X : Type 0} → (X → X → Type 0) → List X → Type 0
-Each R [] = Unit {0}
-Each {X} R (x ∷ xs) = ((y : X) → Member y xs → R x y) × Each R xs
 
 pub pairs_none : {X : Type 0} (holds : X → X → Bool) (f : X → X → Finding) (xs : List X) → for_failing_pairs holds f xs ≡ [] → Each (λ x y. holds x y ≡ true) xs
 pairs_none holds f [] e = tt

@@ -2,18 +2,17 @@
 use Rattle.std.proofs.Common.{◌≡◌, ℕ, ◌≤◌, ◌⊎◌, inl, inr, List, [], ◌∷◌, ◌++◌, filter, Bool, true, false, not, ◌||◌, nat_le, nat_lt, nat_eq, refl, sym, ap, subst}
 use Rattle.std.specs.Prelude.{unwrap_or, is_none, flat_map, All, IsTrue, MatchOption, Option, Some, None}
 use Rattle.std.specs.Str.{bytes_eq}
-use Rattle.std.specs.List.{list_any}
 use Rattle.std.proofs.lemmas.Slice.Eq.{bytes_eq-Decides}
 use Rattle.std.proofs.lemmas.Bool.{and_parts, and_from, eqb-true, eq-eqb, leb-true, le-leb, ltb-true, lt-ltb, false≢true}
 use Rattle.landing_rules.specs.Flights.{Callsign, Situation, Landing, horizon}
-use Rattle.landing_rules.specs.Rules.{last_second, is_open, is_within, is_shut, waits, rank_among, place, ArePairSeparated, IsPairInPrecedence, IsShiftKept, IsFrozenKept, KeepsRules}
+use Rattle.landing_rules.specs.Rules.{last_second, is_open, waits, rank_among, place, ArePairSeparated, IsPairInPrecedence, IsShiftKept, IsFrozenKept, KeepsRules}
 use Rattle.landing_rules.specs.Testing.{is_pair_separated, is_shift_kept}
 use Rattle.landing_rules.specs.shared.Counting.{Member}
 use Rattle.landing_rules.specs.shared.Tests.{is_pair_separated-Decides, is_shift_kept-Decides}
 use Rattle.landing_rules.specs.Audit.{Closed, Separation, Precedence, Moved, Early, Shift, for_failing, closed, are_apart, unseparated, listed_late, late, moved, early, shifted, by_rules}
-use Rattle.landing_joint.proofs.Joint.{any_low}
+use Rattle.landing_joint.specs.shared.OpenDays.{open_in_days}
 use Rattle.landing_joint.proofs.AuditLists.{append_nil, nil_append, broken_none, none_broken, Each, pairs_none, none_pairs, each_pair, flat_nil, nil_flat, any_member, member_any}
-use Rattle.landing_joint.specs.shared.Insertion.{all_at, all_from}
+use Rattle.landing_rules.specs.shared.Members.{all_at, all_from}
 
 pub frozen_test : (o : Option ℕ) (h x : ℕ) → (is_none o || nat_eq x (unwrap_or o 0)) ≡ true → (not (is_none o) || nat_le h x) ≡ true → MatchOption o (h ≤ x) (λ t. x ≡ t)
 frozen_test None h x a b = leb-true h x b
@@ -34,7 +33,7 @@ rules_kept s all good e =
     let pairs = pairs_none (are_apart s.aerodrome.table) (λ (f g : Landing). Separation f.flight.callsign g.flight.callsign) all b.0 in
     let sep : (f h : Landing) → Member f all → Member h all → ArePairSeparated s.aerodrome.table f h = λ f h i j. separated f h (each_pair (λ x y. are_apart s.aerodrome.table x y ≡ true) all pairs f h i j) in
     record {
-      in_days = all_from (λ f. f.second ≤ last_second) all (λ f m. any_low f.flight.windows f.second (good f m) (and_parts (list_any (is_within f.second) f.flight.windows) (not (list_any (is_shut f.second) s.closures)) (opened f m)).0);
+      in_days = all_from (λ f. f.second ≤ last_second) all (λ f m. open_in_days f.flight.windows s.closures f.second (good f m) (opened f m));
       open_seconds = all_from (λ f. IsTrue (is_open f.flight.windows s.closures f.second)) all opened;
       separated = all_from (λ f. All (ArePairSeparated s.aerodrome.table f) all) all (λ f i. all_from (ArePairSeparated s.aerodrome.table f) all (λ h j. sep f h i j));
       in_precedence = all_from (λ f. All (IsPairInPrecedence f) all) all (λ f i. all_from (IsPairInPrecedence f) all (λ h j l.

@@ -1,13 +1,13 @@
 -- The waiting flights by rank, as numbers.
-use Rattle.std.proofs.Common.{◌≡◌, ℕ, zero, suc, ◌<◌, ◌≤◌, ◌⊎◌, inl, inr, List, [], ◌∷◌, length, get_or, map, cond, Bool, true, false, not, nat_lt, zero-le, arith, refl, sym, ap, ap₂, subst, ◌∙◌}
+use Rattle.std.proofs.Common.{◌≡◌, ℕ, zero, suc, ◌<◌, ◌≤◌, ◌⊎◌, inl, inr, List, [], ◌∷◌, length, get_or, map, cond, Bool, true, false, not, zero-le, arith, refl, sym, ap, ap₂, subst, ◌∙◌}
 use Rattle.std.specs.Prelude.{is_none, unwrap_or, Some, None, IsPermutation, slice_get}
 use Rattle.std.specs.Ordering.{is_lt}
-use Rattle.std.proofs.lemmas.Bool.{cases_Bool, cases_lt, lt-ltb, le-ltb}
+use Rattle.std.proofs.lemmas.Bool.{cases_Bool}
 use Rattle.std.proofs.lemmas.List.Sorted.{IsPermutation-sym}
 use Rattle.wake_table.specs.declared.category.Category.{Category}
 use Rattle.landing_rules.specs.Flights.{Active, Situation, Landing}
 use Rattle.landing_rules.specs.Rules.{arrival_cmp}
-use Rattle.landing_rules.specs.Events.{insert_landing, in_landing_order, frozen_landings}
+use Rattle.landing_rules.specs.Events.{in_landing_order, frozen_landings}
 use Rattle.landing_rules.specs.shared.Counting.{Member}
 use Rattle.landing_rules.specs.Problem as lists'
 use Rattle.landing_rules.specs.Sound.{IsSound}
@@ -18,9 +18,9 @@ use Rattle.landing_joint.proofs.Joint.{comes_is, first_come, frozen_each}
 use Rattle.cps_theory.specs.laws.Members.{filter_in}
 use Rattle.cps_theory.specs.laws.NumberedLists.{numbers_in}
 use Rattle.landing_joint.proofs.Members.{frozen_member}
-use Rattle.landing_joint.specs.shared.Insertion.{all_from, insert_moves, sort_moves, in_moved, member_moved}
-
--- ---- a list by its ranks
+use Rattle.landing_rules.specs.shared.Members.{all_from, member_permutation}
+use Rattle.landing_joint.specs.shared.Insertion.{insert_moves, sort_moves}
+use Rattle.landing_joint.specs.shared.LandingsInOrder.{Rises, order_rises, order_member, member_order}
 
 -- ---- sorting
 
@@ -28,16 +28,16 @@ abbrev earlier : List Active → ℕ → ℕ → Bool
 earlier all j i = is_lt (arrival_cmp (numbered all j).flight (numbered all i).flight)
 
 insert_in : (all : List Active) (i x : ℕ) (js : List ℕ) → In x (insert_number all i js) → (x ≡ i) ⊎ In x js
-insert_in all i x js = in_moved (i ∷ js) (insert_number all i js) (IsPermutation-sym _ _ (insert_moves (earlier all) (insert_number all) (λ y. refl) (λ y z zs. refl) i js)) x
+insert_in all i x js = member_permutation (insert_number all i js) (i ∷ js) x (IsPermutation-sym (i ∷ js) (insert_number all i js) (insert_moves (earlier all) (insert_number all) (λ y. refl) (λ y z zs. refl) i js))
 
-pub sorted_permutes : (all : List Active) (js : List ℕ) → IsPermutation (numbers_by_rank all js) js
+pub sorted_permutes : (all : List Active) (js : List ℕ) → IsPermutation js (numbers_by_rank all js)
 sorted_permutes all = sort_moves (earlier all) (insert_number all) (λ y. refl) (λ y z zs. refl) (numbers_by_rank all) refl (λ y ys. refl)
 
 pub sorted_in : (all : List Active) (x : ℕ) (js : List ℕ) → In x (numbers_by_rank all js) → In x js
-sorted_in all x js = in_moved js (numbers_by_rank all js) (IsPermutation-sym _ _ (sorted_permutes all js)) x
+sorted_in all x js = member_permutation (numbers_by_rank all js) js x (IsPermutation-sym js (numbers_by_rank all js) (sorted_permutes all js))
 
 pub in_sorted : (all : List Active) (x : ℕ) (js : List ℕ) → In x js → In x (numbers_by_rank all js)
-in_sorted all x js = in_moved (numbers_by_rank all js) js (sorted_permutes all js) x
+in_sorted all x js = member_permutation js (numbers_by_rank all js) x (sorted_permutes all js)
 
 -- the flights of the numbers by rank are the flights by rank
 map_insert : (all : List Active) (i : ℕ) (js : List ℕ) → map (numbered all) (insert_number all i js) ≡ lists'.insert_by_rank (numbered all i) (map (numbered all) js)
@@ -71,36 +71,6 @@ slice_map all (j ∷ js) zero d lt = refl
 slice_map all (j ∷ js) (suc i) d lt = slice_map all js i d (omega arith)
 
 -- ---- the last of the frozen
-
-abbrev Rises : List Landing → Type 0
-Rises [] = Unit {0}
-Rises (f ∷ fs) = ((g : Landing) → Member g fs → f.second ≤ g.second) × Rises fs
-
-pub insert-moves : (f : Landing) (fs : List Landing) → IsPermutation (f ∷ fs) (insert_landing f fs)
-insert-moves f fs = IsPermutation-sym _ _ (insert_moves (λ (g h : Landing). nat_lt g.second h.second) insert_landing (λ g. refl) (λ g h hs. refl) f fs)
-
-pub order-moves : (fs : List Landing) → IsPermutation fs (in_landing_order fs)
-order-moves fs = IsPermutation-sym _ _ (sort_moves (λ (g h : Landing). nat_lt g.second h.second) insert_landing (λ g. refl) (λ g h hs. refl) in_landing_order refl (λ g gs. refl) fs)
-
-pub member_insert : (f g : Landing) (fs : List Landing) → Member g (insert_landing f fs) → (g ≡ f) ⊎ Member g fs
-member_insert f g fs = member_moved (f ∷ fs) (insert_landing f fs) (insert-moves f fs) g
-
-rises_insert : (f : Landing) (fs : List Landing) → Rises fs → Rises (insert_landing f fs)
-rises_insert f [] r = (λ g m. absurd m, tt)
-rises_insert f (x ∷ fs) r = elim (cases_lt x.second f.second) [
-  | inl lt ↦ rw (lt-ltb x.second f.second lt) (λ g m. elim (member_insert f g fs m) [ inl q ↦ rw q (omega arith) | inr k ↦ r.0 g k ], rises_insert f fs r.1)
-  | inr le ↦ rw (le-ltb x.second f.second le) (λ g m. elim m [ inl q ↦ rw q le | inr k ↦ (let b = r.0 g k in omega arith) ], r)
-]
-
-pub order_rises : (fs : List Landing) → Rises (in_landing_order fs)
-order_rises [] = tt
-order_rises (f ∷ fs) = rises_insert f (in_landing_order fs) (order_rises fs)
-
-pub order_member : (g : Landing) (fs : List Landing) → Member g (in_landing_order fs) → Member g fs
-order_member g fs = member_moved fs (in_landing_order fs) (order-moves fs) g
-
-pub member_order : (g : Landing) (fs : List Landing) → Member g fs → Member g (in_landing_order fs)
-member_order g fs = member_moved (in_landing_order fs) fs (IsPermutation-sym _ _ (order-moves fs)) g
 
 -- the last of landings in order: there is none, or it is one that no other is later than
 last_rises : (fs : List Landing) → Rises fs → (fs ≡ []) ⊎ ((f : Landing) × Member f fs × (lists'.last_of fs ≡ Some (f.second, f.flight.category)) × ((g : Landing) → Member g fs → g.second ≤ f.second))

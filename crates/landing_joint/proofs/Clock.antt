@@ -1,5 +1,5 @@
 -- A clock event keeps the plan feasible.
-use Rattle.std.proofs.Common.{◌≡◌, ℕ, zero, suc, ◌+◌, ◌-◌, ◌*◌, ◌<◌, ◌≤◌, ◌⊎◌, inl, inr, min, List, [], ◌∷◌, length, get_or, map, filter, cond, Bool, true, false, not, ◌&&◌, nat_le, nat_lt, count_by, unwrap_or, zero-le, arith, refl, sym, ap, ap₂, subst, ◌∙◌}
+use Rattle.std.proofs.Common.{◌≡◌, ℕ, suc, ◌+◌, ◌-◌, ◌*◌, ◌<◌, ◌≤◌, ◌⊎◌, inl, inr, min, List, [], ◌∷◌, length, map, filter, cond, Bool, true, false, not, ◌&&◌, nat_le, nat_lt, count_by, unwrap_or, zero-le, arith, refl, sym, ap, ap₂, subst, ◌∙◌}
 use Rattle.std.specs.Prelude.{All, IsTrue, Option, Some, None, is_none}
 use Rattle.std.proofs.lemmas.Bool.{cases_lt, cases_Bool, and_parts, lt-ltb, ltb-true, false≢true, false_from_ne_true}
 use Rattle.std.specs.Ordering.{is_lt, ordering_then, nat_cmp}
@@ -20,18 +20,13 @@ use Rattle.landing_joint.specs.ClockLaws.{ClockKeepsPlanLaw, ClockShowsPlanLaw, 
 use Rattle.landing_joint.proofs.Numbered.{landing_at, landings_are}
 use Rattle.landing_joint.proofs.Joint.{comes_is, among, all_among, feasible_numbered, numbered_feasible, sound_numbered, first_come, some_of, active_are, list_frozen, callsigns_differ, passed_low}
 use Rattle.cps_theory.specs.laws.NumberedLists.{count_by_map, count_by_agree, map_map, filter_map_is, at_all, in_numbers, numbers_in}
-use Rattle.std.proofs.lemmas.List.{length-map}
+use Rattle.std.proofs.lemmas.List.{length-map, get_or_default}
 use Rattle.landing_joint.specs.shared.FirstBestLists.{numbers_get, numbers_long}
 use Rattle.landing_joint.specs.shared.BestLists.{sum_map}
 use Rattle.cps_theory.specs.laws.WholeObjective.{sum_agree}
-use Rattle.landing_joint.proofs.Members.{fewer_kept}
+use Rattle.landing_rules.specs.shared.Members.{fewer_kept}
 
 -- ---- lists
-
-get_or_any : {X : Type 0} (xs : List X) (i : ℕ) (d e : X) → i < length xs → get_or xs i d ≡ get_or xs i e
-get_or_any [] i d e lt = absurd (omega arith)
-get_or_any (x ∷ xs) zero d e lt = refl
-get_or_any (x ∷ xs) (suc i) d e lt = get_or_any xs i d e (omega arith)
 
 filter_agree : (p q : ℕ → Bool) (xs : List ℕ) → ((x : ℕ) → In x xs → p x ≡ q x) → filter p xs ≡ filter q xs
 filter_agree p q [] h = refl
@@ -172,7 +167,7 @@ module _ (s : Situation) (sound : IsSound s) (t : Schedule) (f : IsFeasible s t)
       omega arith
 
   each_after : (P : Active → Type 0) → ((i : ℕ) → In i (numbers_of s.active) → P (numbered after i)) → All P after
-  each_after P q i d lt = subst P (get_or_any after i nobody d lt) (q i (in_after i lt))
+  each_after P q i d lt = subst P (get_or_default after i nobody d lt) (q i (in_after i lt))
 
   each_frozen_after : (P : Landing → Type 0) → ((i : ℕ) → In i (numbers_of s.active) → second_of t i < h → P (landing (numbered after i) (second_of t i))) → All P (frozen_landings changed)
   each_frozen_after P q = list_frozen P after (λ i lt u e. let m = in_after i lt in let x = frozen_after i m u e in subst (λ v. P (landing (numbered after i) v)) (sym x.0) (q i m x.1))
@@ -183,8 +178,8 @@ module _ (s : Situation) (sound : IsSound s) (t : Schedule) (f : IsFeasible s t)
     callsigns = λ i j d lt ltj e.
         let mi = in_after i (omega arith) in
         let mj = in_after j ltj in
-        let ei = get_or_any after i d nobody (omega arith) in
-        let ej = get_or_any after j d nobody ltj in
+        let ei = get_or_default after i d nobody (omega arith) in
+        let ej = get_or_default after j d nobody ltj in
         callsigns_differ s sound i j mi mj (λ x. omega arith)
         (ap (λ (x : Flight). x.callsign) (sym (same_flight i mi)) ∙ ap (λ (a : Active). a.flight.callsign) (sym ei) ∙ e ∙ ap (λ (a : Active). a.flight.callsign) ej ∙ ap (λ (x : Flight). x.callsign) (same_flight j mj));
     few_active = let a = sound.few_active in let b = length_after in omega arith;

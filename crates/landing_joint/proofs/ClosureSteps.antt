@@ -7,11 +7,13 @@ use Rattle.landing_rules.specs.Flights.{Aerodrome, Landing, Situation, Schedule,
 use Rattle.landing_rules.specs.Rules.{is_open, is_within, is_shut, ArePairSeparated}
 use Rattle.landing_rules.specs.Events.{Close, Reopen, frozen_landings, in_landing_order, refusal, without_first, same_span, situation_after, CoversFrozen, TooManyClosures}
 use Rattle.landing_rules.specs.Sound.{IsSound}
-use Rattle.landing_joint.proofs.Members.{Differ, callsigns, differ_of, none_found, length_push}
+use Rattle.std.proofs.lemmas.List.{length_push}
+use Rattle.landing_joint.proofs.Members.{Differ, callsigns, differ_of}
 use Rattle.landing_joint.proofs.SoundAgain.{kept, sound_again, each_of}
 use Rattle.landing_rules.specs.shared.Counting.{Member}
-use Rattle.landing_joint.proofs.ByNumber.{member_order}
+use Rattle.landing_joint.specs.shared.LandingsInOrder.{member_order}
 use Rattle.std.proofs.lemmas.List.Folds.{list_any-append}
+use Rattle.landing_rules.specs.shared.Members.{none_found}
 
 -- ---- reopen
 

@@ -2,6 +2,8 @@
 use Rattle.std.proofs.Common.{◌≡◌, ◌≢◌, ℕ, zero, suc, ◌<◌, ◌≤◌, inl, inr, List, [], ◌∷◌, length, get_or, map, filter, Bool, true, false, not, nat_lt, zero-le, le_antisymm, arith, refl, sym, ap, subst, ◌∙◌}
 use Rattle.std.specs.Prelude.{Option, Some, None, option_map}
 use Rattle.std.proofs.lemmas.Bool.{cases_eq, cases_Bool}
+use Rattle.std.proofs.lemmas.List.{get_or_default}
+use Rattle.std.proofs.lemmas.List.Elements.{AllZip-get_or}
 use Rattle.wake_table.specs.Table.{IsWakeTable}
 use Rattle.landing_rules.specs.Flights.{Active, Situation, Schedule, Landing, landings, waiting}
 use Rattle.landing_rules.specs.Rules.{IsFeasible, IsBest, IsTight, HaveSameOrder, objective, rank, waits}
@@ -23,9 +25,10 @@ use Rattle.landing_joint.specs.ByNumber.{number_at, joined}
 use Rattle.landing_joint.specs.RankedProblem.{no_waiting, ranked}
 use Rattle.landing_joint.specs.SoundProblem.{IsSoundProblem}
 use Rattle.landing_joint.specs.shared.RankedLists.{list_feasible, sound_ranked}
-use Rattle.landing_joint.specs.shared.BestLists.{zip_of}
-use Rattle.landing_joint.specs.shared.SortedBySeconds.{in_sorted_by, sorted_by_in, sorted_by_ascends, filter_ascends, in_map, map_in, map_ascends, map_one, ascends_same}
-use Rattle.landing_joint.specs.shared.FirstBestLists.{zip_get, zip_same, first_best_list_exists, first_best_list_is_one, no_later_antisym, list_in_landing_order, one_landing_order}
+use Rattle.landing_joint.specs.shared.BestLists.{zip_of, zip_same}
+use Rattle.landing_rules.specs.shared.Members.{in_map, map_in}
+use Rattle.landing_joint.specs.shared.SortedBySeconds.{in_sorted_by, sorted_by_in, sorted_by_ascends, filter_ascends, map_ascends, map_one, ascends_same}
+use Rattle.landing_joint.specs.shared.FirstBestLists.{first_best_list_exists, first_best_list_is_one, no_later_antisym, list_in_landing_order, one_landing_order}
 use Rattle.landing_joint.proofs.Numbered.{landing_at, landings_are}
 use Rattle.landing_joint.proofs.Joint.{all_among, feasible_numbered, first_come, sound_numbered}
 use Rattle.landing_joint.proofs.JoinedSchedule.{joined_in_words, map_agree, rank_is, tight_list_schedule}
@@ -188,10 +191,10 @@ module _ (s : Situation) (sound : IsSound s) (p : lists'.Problem) (of : lists'.I
       let rank_at : (r : ℕ) → IsRank n r → rank_of s sound (number_at s r) ≡ r = λ r q. theory.rank_is (numbered_situation s) (ranked p) (number_at s) (sound_numbered s sound) problem_of r q in
       let by : InLandingOrder n (of_rank 0 v) (map (rank_of s sound) (waiting_by s sound J)) = record {
         ranked = λ x i.
-            let w = in_map (rank_of s sound) x (waiting_by s sound J) i in
+            let w = in_map (rank_of s sound) (waiting_by s sound J) x i in
             let a = problem_of.at_all w.0 (in_waiting_by s sound J w.0 w.1) in
-            subst (IsRank n) (sym (rank_at a.0 a.1) ∙ ap (rank_of s sound) a.2 ∙ w.2) a.1;
-        whole = λ x q. subst (λ z. In z (map (rank_of s sound) (waiting_by s sound J))) (rank_at x q) (map_in (rank_of s sound) (number_at s x) (waiting_by s sound J) (waiting_in_by s sound J (number_at s x) (problem_of.at_in x q)));
+            subst (IsRank n) (sym (rank_at a.0 a.1) ∙ ap (rank_of s sound) a.2 ∙ sym w.2) a.1;
+        whole = λ x q. subst (λ z. In z (map (rank_of s sound) (waiting_by s sound J))) (rank_at x q) (map_in (rank_of s sound) (waiting_by s sound J) (number_at s x) (waiting_in_by s sound J (number_at s x) (problem_of.at_in x q)));
         ascends = map_ascends (second_of J) (of_rank 0 v) (rank_of s sound) (waiting_by s sound J)
             (λ i m. let a = problem_of.at_all i (in_waiting_by s sound J i m) in subst (λ z. of_rank 0 v (rank_of s sound z) ≡ second_of J z) a.2 (ap (of_rank 0 v) (rank_at a.0 a.1) ∙ sym (joint.joined_rank s sound p of v a.0 a.1)))
             (waiting_ascend s sound J fn);
@@ -254,7 +257,7 @@ module _ (s : Situation) (sound : IsSound s) (p : lists'.Problem) (of : lists'.I
         let q : IsRank (length p.flights) (suc i) = (omega arith, omega arith) in
         let b = in_numbers 0 (length s.active) (number_at s (suc i)) (joint.among s sound p of (suc i) q) in
         let n = joint.joined_long s sound p of v in
-        let le : second_of (joined s v) (number_at s (suc i)) ≤ second_of (joined s u) (number_at s (suc i)) = zip_get (joined s v) (joined s u) z (number_at s (suc i)) (omega (arith, b.1, n)) in
+        let le : second_of (joined s v) (number_at s (suc i)) ≤ second_of (joined s u) (number_at s (suc i)) = AllZip-get_or (λ a b. a ≤ b) (joined s v) (joined s u) (number_at s (suc i)) 0 0 z (omega (arith, b.1, n)) in
         let a : second_of (joined s v) (number_at s (suc i)) ≡ get_or v i 0 = joint.joined_rank s sound p of v (suc i) q in
         let c : second_of (joined s u) (number_at s (suc i)) ≡ get_or u i 0 = joint.joined_rank s sound p of u (suc i) q in
         omega (arith, a, c, le));
@@ -286,17 +289,12 @@ module _ (s : Situation) (sound : IsSound s) (p : lists'.Problem) (of : lists'.I
   rank_at : (i : ℕ) (f : lists'.Waiting) → i < length p.flights → f ≡ get_or p.flights i no_waiting → f.passed ≤ p.k
   rank_at i f lt e = let a = passed_low (suc i) (omega arith, omega arith) in let b = ap (λ (w : lists'.Waiting). w.passed) e in omega arith
 
-  same_at : {X : Type 0} (xs : List X) (i : ℕ) (d e : X) → i < length xs → get_or xs i d ≡ get_or xs i e
-  same_at [] i d e lt = absurd (omega arith)
-  same_at (x ∷ xs) zero d e lt = refl
-  same_at (x ∷ xs) (suc i) d e lt = same_at xs i d e (omega arith)
-
   -- the problem of a sound situation is sound
   pub sound_problem : IsSoundProblem p
   sound_problem = record {
     table = subst (λ t. IsWakeTable t) (sym of.table) sound.table;
     between_ranks = of.between_ranks;
-    passed = λ i d lt. rank_at i (get_or p.flights i d) lt (same_at p.flights i d no_waiting lt);
+    passed = λ i d lt. rank_at i (get_or p.flights i d) lt (get_or_default p.flights i d no_waiting lt);
   }
 
 -- ---- of lists alone

@@ -4,13 +4,11 @@ use Rattle.std.proofs.Common.{◌≡◌, ◌≢◌, ℕ, ◌<◌, ◌≤◌, ◌
 use Rattle.std.proofs.lemmas.Bool.{cases_Bool, cases_eq, cases_lt, ltb-true, lt-ltb, le-ltb, and_parts, and_from, false≢true}
 use Rattle.cps_theory.specs.RankLists.{In}
 use Rattle.cps_theory.specs.Freeze.{FirstCome, KeepsShift, frozen_of, overtook, staying_of}
+use Rattle.cps_theory.specs.laws.ShiftAfterFreeze.{not_before_itself}
 use Rattle.cps_theory.specs.laws.Members.{filter_in, in_filter}
 use Rattle.cps_theory.specs.laws.RankCounts.{count, count_filter, count_stricter, count_is, count_none, count_parts, count_split, count_weaker}
 
 module _ (comes_before : ℕ → ℕ → Bool) (order : FirstCome comes_before) where
-  not_before_itself : (f : ℕ) → comes_before f f ≡ false
-  not_before_itself f = elim (cases_Bool (comes_before f f)) [ inl e ↦ order.one_way f f e | inr e ↦ e ]
-
   -- if f does not come before x, whoever comes after f comes after x
   behind_both : (f x y : ℕ) → comes_before f x ≡ false → comes_before f y ≡ true → comes_before x y ≡ true
   behind_both f x y ahead after = elim (cases_eq f x) [
@@ -28,7 +26,7 @@ module _ (comes_before : ℕ → ℕ → Bool) (order : FirstCome comes_before) 
       x,
       inl refl,
       λ y i. elim i [
-        | inl e ↦ subst (λ z. comes_before z x ≡ false) (sym e) (not_before_itself x)
+        | inl e ↦ subst (λ z. comes_before z x ≡ false) (sym e) (not_before_itself comes_before order x)
         | inr j ↦ elim (cases_Bool (comes_before y x)) [
           | inl q ↦ absurd (false≢true (sym (r.2 y j) ∙ order.chain y x r.0 q b))
           | inr q ↦ q
@@ -46,7 +44,7 @@ module _ (comes_before : ℕ → ℕ → Bool) (order : FirstCome comes_before) 
   ]
 
   first_of : (x : ℕ) (xs : List ℕ) → First (x ∷ xs)
-  first_of x [] = (x, inl refl, λ y i. elim i [ inl e ↦ subst (λ z. comes_before z x ≡ false) (sym e) (not_before_itself x) | inr j ↦ absurd j ])
+  first_of x [] = (x, inl refl, λ y i. elim i [ inl e ↦ subst (λ z. comes_before z x ≡ false) (sym e) (not_before_itself comes_before order x) | inr j ↦ absurd j ])
   first_of x (z ∷ zs) = earlier_first x (z ∷ zs) (first_of z zs)
 
   first_in : (x : ℕ) (xs : List ℕ) → In x xs → First xs

@@ -9,10 +9,12 @@ use Rattle.landing_rules.specs.Flights.{Active, Flight, Landing, Situation, Sche
 use Rattle.landing_rules.specs.Rules.{lists}
 use Rattle.landing_rules.specs.Events.{Estimate, Cancel, Add, named, frozen_landings, unknown_or_frozen, refusal, estimated, newcomer, situation_after, Frozen, Duplicate, TooManyFlights, TooManyWaiting, PredecessorOfFrozen}
 use Rattle.landing_rules.specs.Sound.{IsSound, IsGoodFlight, IsGoodEvent}
-use Rattle.landing_joint.proofs.Members.{map_in, Differ, callsigns, in_filter, filter_in, in_map, in_push, in_frozen, frozen_in, differ_of, one_of_name, found_in, none_found, none_any, fewer_filtered, fewer_twice, fewer_kept, length_push}
+use Rattle.std.proofs.lemmas.List.{length_push}
+use Rattle.landing_joint.proofs.Members.{Differ, callsigns, differ_of, one_of_name}
 use Rattle.landing_joint.proofs.SoundAgain.{kept, sound_again, each_of, fewer_frozen}
 use Rattle.landing_rules.specs.shared.Counting.{Member}
 use Rattle.std.proofs.lemmas.List.{length-map}
+use Rattle.landing_rules.specs.shared.Members.{map_in, in_filter, filter_in, in_map, in_push, in_frozen, frozen_in, found_in, none_found, none_any, fewer_filtered, fewer_twice, fewer_kept}
 
 -- ---- cancel
 

@@ -9,19 +9,20 @@ use Rattle.std.proofs.lemmas.Bool.{cases_Bool, false≢true}
 use Rattle.std.proofs.lemmas.Cmp.{tied_itself}
 use Rattle.std.proofs.lemmas.List.Elements.{All-head, All-tail}
 use Rattle.std.proofs.lemmas.Slice.Eq.{bytes_eq-Decides}
+use Rattle.std.proofs.lemmas.Option.{same_Some}
 use Rattle.landing_rules.specs.Flights.{Active, Aerodrome, Callsign, Flight, Schedule, Situation, Span, is_waiting, waiting}
 use Rattle.landing_rules.specs.Rules.{arrival_cmp, lists, IsFeasible}
 use Rattle.landing_rules.specs.Events.{Event, Estimate, Cancel, Add, Close, Reopen, Clock, Refusal, State, Step, Answered, Run, IsPlanShown, estimated, frozen_landings, named, newcomer, refusal, situation_after}
 use Rattle.landing_rules.specs.Sound.{IsSound, IsSoundState, IsGoodEvent}
 use Rattle.landing_rules.specs.shared.Counting.{cases, Member}
-use Rattle.landing_rules.specs.shared.Ranks.{arrival_total}
+use Rattle.landing_rules.specs.shared.Ranks.{arrival_total, level-callsign}
 use Rattle.landing_joint.specs.PassedOver.{waiting_flight, waits_in, is_ahead, stands_ahead, StaysInLine, StaysInLineThrough, ArePassedAtLeast, passing_by_event, passing_flight, passing_in_step, passing_in_run, StepCountsLaw, FewPassLaw, FewPassLaterLaw, IsFirstInLine, FewPassFirstLaw, FewPassAnyoneLaw}
-use Rattle.landing_joint.proofs.Members.{differ_of, in_filter, filter_in, in_map, in_push, none_any, one_of_name}
-use Rattle.landing_joint.proofs.Joint.{level-callsign}
+use Rattle.landing_joint.specs.shared.EventAerodrome.{aerodrome_stays}
+use Rattle.landing_joint.proofs.Members.{differ_of, one_of_name}
 use Rattle.landing_joint.proofs.FlightSteps.{add_parts, estimate_callsign, estimate_frozen, named_is}
 use Rattle.landing_joint.proofs.StepLaws.{event_keeps_sound, step_keeps_sound}
-use Rattle.landing_joint.proofs.PassedOver.{found, is_found, some_flight, same_some, clock_counts, clock_counts_exactly}
-use Rattle.landing_joint.specs.shared.Insertion.{all_at, all_from}
+use Rattle.landing_joint.proofs.PassedOver.{found, is_found, some_flight, clock_counts, clock_counts_exactly}
+use Rattle.landing_rules.specs.shared.Members.{in_filter, filter_in, in_map, in_push, none_any, all_at, all_from}
 
 -- ---- first-come order
 
@@ -171,16 +172,8 @@ event_counted s plan c g (Clock now) sound feasible carry here so_far = clock_co
 
 -- ---- a step, and a run
 
-same_aerodrome : (s : Situation) (plan : Option Schedule) (e : Event) → (situation_after s plan e).aerodrome ≡ s.aerodrome
-same_aerodrome s plan (Estimate c eta windows) = refl
-same_aerodrome s plan (Cancel c) = refl
-same_aerodrome s plan (Add f) = refl
-same_aerodrome s plan (Close span) = refl
-same_aerodrome s plan (Reopen span) = refl
-same_aerodrome s plan (Clock now) = refl
-
 step_aerodrome : (old new : State) (e : Event) (answer : Option Refusal) → Step old e answer new → new.situation.aerodrome ≡ old.situation.aerodrome
-step_aerodrome old new e None step = ap (λ (s : Situation). s.aerodrome) step.effect.changed ∙ same_aerodrome old.situation old.plan e
+step_aerodrome old new e None step = ap (λ (s : Situation). s.aerodrome) step.effect.changed ∙ aerodrome_stays old.situation old.plan e
 step_aerodrome old new e (Some r) step = ap (λ (s : State). s.situation.aerodrome) step.effect
 
 step_counted : (old new : State) (e : Event) (answer : Option Refusal) (c : Callsign) (g : ℕ) → IsSoundState old → IsGoodEvent e → Step old e answer new → old.situation.aerodrome.carry ≡ true → waits_in old.situation c ≡ true → StaysInLine c old.situation new.situation →
@@ -258,7 +251,7 @@ pub few_pass_first : FewPassFirstLaw
 few_pass_first old events answers c f sound carry good run here first rest =
     let s = old.situation in
     let least : ArePassedAtLeast f.passed s c = λ b e. all_from (λ (x : Active). is_lt (arrival_cmp b.flight x.flight) ≡ false → f.passed ≤ x.passed) (waiting s) (λ x m q.
-    let same = ap (λ (z : Active). z.passed) (same_some f b (sym here ∙ e) ∙ alone_ahead s sound.situation c b x e first m q) in
+    let same = ap (λ (z : Active). z.passed) (same_Some f b (sym here ∙ e) ∙ alone_ahead s sound.situation c b x e first m q) in
     omega arith) in
     few_pass_later old events answers c f.passed sound carry good run first.waits (stays_in_line c old answers rest) least
 
@@ -293,7 +286,7 @@ event_exactly s plan (Clock now) c sound feasible carry low ok = clock_exactly s
 
 step_exactly : (old new : State) (e : Event) (answer : Option Refusal) (c : Callsign) → IsSoundState old → Step old e answer new → old.situation.aerodrome.carry ≡ true → old.situation.aerodrome.k ≤ 1 → CountsExactly old e answer new c
 step_exactly old new e (Some r) c sound step carry low f g here later =
-    let same = ap (λ (z : Active). z.passed) (same_some f g (sym here ∙ ap (λ (s : State). waiting_flight s.situation c) (sym step.effect) ∙ later)) in
+    let same = ap (λ (z : Active). z.passed) (same_Some f g (sym here ∙ ap (λ (s : State). waiting_flight s.situation c) (sym step.effect) ∙ later)) in
     omega arith
 step_exactly old new e None c sound step carry low f g here later =
     event_exactly old.situation old.plan e c sound.situation (λ t q. (subst (IsPlanShown old.situation) q sound.shown).0.feasible) carry low (sym step.answered) f g here (ap (λ s. waiting_flight s c) (sym step.effect.changed) ∙ later)

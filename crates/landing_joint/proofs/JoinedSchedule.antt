@@ -1,9 +1,10 @@
 -- The schedule that joins the frozen landings with a list of seconds by rank, in the rules' words and over
 -- numbers; and that a tight list gives a tight schedule.
-use Rattle.std.proofs.Common.{◌≡◌, ℕ, zero, suc, ◌-◌, ◌<◌, ◌≤◌, inl, inr, List, [], ◌∷◌, length, map, filter, cond, count_by, get_or, arith, refl, sym, ap, ap₂, subst, ◌∙◌, zero-le}
+use Rattle.std.proofs.Common.{◌≡◌, ℕ, zero, suc, ◌-◌, ◌≤◌, inl, inr, List, [], ◌∷◌, length, map, filter, cond, count_by, get_or, arith, refl, sym, ap, ap₂, subst, ◌∙◌, zero-le}
 use Rattle.std.specs.Prelude.{Option, Some, None, unwrap_or, is_none}
 use Rattle.std.specs.List.{AllZip}
 use Rattle.std.specs.Ordering.{is_lt}
+use Rattle.std.proofs.lemmas.List.Elements.{AllZip-get_or}
 use Rattle.landing_rules.specs.Flights.{Active, Situation, Schedule, is_waiting, waiting}
 use Rattle.landing_rules.specs.Rules.{arrival_cmp, rank, IsTight, HaveSameOrder}
 use Rattle.landing_rules.specs.Problem as lists'
@@ -12,6 +13,7 @@ use Rattle.cps_theory.specs.RankLists.{In, IsRank, of_rank}
 use Rattle.cps_theory.specs.Freeze.{rank_in}
 use Rattle.cps_theory.specs.laws.Members.{in_filter}
 use Rattle.landing_joint.specs.Numbered.{numbered, second_of, numbers_of, waits_at, comes_before, numbered_situation}
+use Rattle.landing_joint.specs.shared.BestLists.{zip_of}
 use Rattle.landing_joint.specs.ByNumber.{number_at, joined}
 use Rattle.landing_joint.proofs.Joint.{active_are, comes_is}
 use Rattle.landing_joint.proofs.Problem.{joined_frozen, joined_rank, joined_long, each_number, list_gives_schedule, schedule_gives_list, among}
@@ -56,18 +58,6 @@ module _ (s : Situation) (sound : IsSound s) where
       ∙ map_map (lists'.joined_second s v) (numbered s.active) (numbers_of s.active)
       ∙ map_agree (λ i. lists'.joined_second s v (numbered s.active i)) (λ i. cond (waits_at s.active i) (of_rank 0 v (rank_in (comes_before s.active) (numbered_situation s).waiting i)) ((numbered_situation s).frozen_at i)) (numbers_of s.active) (second_is v)
 
-zip_of : (xs ys : List ℕ) → length xs ≡ length ys → ((i : ℕ) → i < length xs → get_or xs i 0 ≤ get_or ys i 0) → AllZip (λ a b. a ≤ b) xs ys
-zip_of [] [] e h = tt
-zip_of [] (y ∷ ys) e h = absurd (omega arith)
-zip_of (x ∷ xs) [] e h = absurd (omega arith)
-zip_of (x ∷ xs) (y ∷ ys) e h = (h 0 (omega arith), zip_of xs ys (omega arith) (λ i lt. h (suc i) (omega arith)))
-
-zip_get : (xs ys : List ℕ) → AllZip (λ a b. a ≤ b) xs ys → (i : ℕ) → i < length xs → get_or xs i 0 ≤ get_or ys i 0
-zip_get [] ys a i lt = absurd (omega arith)
-zip_get (x ∷ xs) [] a i lt = absurd a
-zip_get (x ∷ xs) (y ∷ ys) a zero lt = a.0
-zip_get (x ∷ xs) (y ∷ ys) a (suc i) lt = zip_get xs ys a.1 i (omega arith)
-
 module _ (s : Situation) (sound : IsSound s) (p : lists'.Problem) (of : lists'.IsProblemOf s p) where
   -- the seconds of two ranks, in a list and in the schedule that it gives
   order_kept : (v w : Schedule) → length v ≡ length p.flights → HaveSameOrder (joined s v) (joined s w) → HaveSameOrder v w
@@ -96,7 +86,7 @@ module _ (s : Situation) (sound : IsSound s) (p : lists'.Problem) (of : lists'.I
       waits v w long le (suc i) q =
           let a : second_of (joined s v) (number_at s (suc i)) ≡ get_or v i 0 = joined_rank s sound p of v (suc i) q in
           let b : second_of (joined s w) (number_at s (suc i)) ≡ get_or w i 0 = joined_rank s sound p of w (suc i) q in
-          let c = zip_get v w le i (let z = q.1 in omega arith) in
+          let c = AllZip-get_or (λ a b. a ≤ b) v w i 0 0 le (let z = q.1 in omega arith) in
           omega arith
 
   -- a tight list gives a tight schedule

@@ -1,56 +1,36 @@
 -- A schedule keeps the rules exactly where its map of seconds does over the numbers.
-use Rattle.std.proofs.Common.{◌≡◌, ◌≢◌, ℕ, suc, ◌<◌, ◌≤◌, inl, inr, List, [], ◌∷◌, length, map, filter, true, false, not, nat_le, nat_lt, count_by, unwrap_or, arith, refl, sym, ap, subst, ◌∙◌}
-use Rattle.std.specs.List.{list_any}
+use Rattle.std.proofs.Common.{◌≡◌, ◌≢◌, ℕ, ◌<◌, ◌≤◌, inl, inr, List, [], ◌∷◌, length, map, filter, true, false, not, nat_le, nat_lt, count_by, unwrap_or, arith, refl, sym, ap, subst, ◌∙◌}
 use Rattle.std.specs.Prelude.{filter_map, option_map, All, IsTrue, MatchOption, Option, Some, None, is_none}
-use Rattle.std.proofs.lemmas.Bool.{cases_eq, cases_order, cases_Bool, and_parts, and_from, or_cases, leb-true, le-leb, lt-ltb, le-ltb, ne_eqb, false≢true}
-use Rattle.std.proofs.lemmas.Slice.Eq.{bytes_eq-Decides}
-use Rattle.std.proofs.lemmas.Map.Text.{is_eq-slice_cmp}
+use Rattle.std.proofs.lemmas.Bool.{cases_eq, cases_order, cases_Bool, and_parts, and_from, leb-true, le-leb, false≢true}
 use Rattle.std.specs.declared.cmp.Ordering.{Ordering}
 use Rattle.std.specs.declared.cmp.Ordering.TheVariants.{Less, Equal, Greater}
-use Rattle.std.specs.Ordering.{nat_cmp, ordering_then, ordering_reverse, is_lt, is_eq}
+use Rattle.std.specs.Ordering.{nat_cmp, ordering_then, ordering_reverse, is_lt}
 use Rattle.std.specs.Cmp.{IsTotalOrder}
-use Rattle.std.specs.Cmp.Lexicographic.{slice_cmp}
 use Rattle.std.proofs.lemmas.Cmp.{then_total, on_total, nat_cmp_total, tied_itself}
-use Rattle.landing_rules.specs.Flights.{Flight, Span, Active, Situation, Schedule, Landing, landing, landings, is_waiting, waiting, horizon}
-use Rattle.landing_rules.specs.Rules.{last_second, is_open, is_within, is_shut, lists, arrival_cmp, waits, rank_among, place, ArePairSeparated, IsPairInPrecedence, IsShiftKept, IsFrozenKept, IsFeasible}
+use Rattle.std.proofs.lemmas.Map.Lookups.{exact_unsigned}
+use Rattle.landing_rules.specs.Flights.{Active, Situation, Schedule, Landing, landing, landings, is_waiting, waiting, horizon}
+use Rattle.landing_rules.specs.Rules.{last_second, is_open, lists, arrival_cmp, waits, rank_among, place, ArePairSeparated, IsPairInPrecedence, IsShiftKept, IsFrozenKept, IsFeasible}
 use Rattle.landing_rules.specs.Events.{frozen_landings}
 use Rattle.landing_rules.specs.Sound.{IsSound, ListsNone}
-use Rattle.landing_rules.specs.shared.Ranks.{arrival_total}
-use Rattle.landing_rules.specs.shared.Counting.{cases}
+use Rattle.landing_rules.specs.shared.Ranks.{arrival_total, second_equal, level-callsign}
+use Rattle.landing_rules.specs.shared.Counting.{cases, is_lt-Less}
 use Rattle.cps_theory.specs.RankLists.{In}
 use Rattle.cps_theory.specs.Freeze.{FirstCome, rank_in, place_in}
 use Rattle.cps_theory.specs.NumberedSituation as numbers
 use Rattle.cps_theory.specs.laws.Members.{in_filter, in_append, append_in, distinct_filter, filter_in}
 use Rattle.landing_joint.specs.Numbered.{nobody, numbered, second_of, numbers_of, waits_at, comes_before, numbered_situation}
 use Rattle.landing_joint.proofs.Members as members
-use Rattle.landing_joint.specs.shared.Insertion as insertion
+use Rattle.landing_rules.specs.shared.Members as general
+use Rattle.landing_joint.specs.shared.OpenDays.{open_low}
 use Rattle.landing_joint.proofs.Numbered.{landing_at, landings_are}
 use Rattle.cps_theory.specs.laws.NumberedLists.{count_by_map, count_by_agree, map_map, filter_map_is, all_at, at_all, in_numbers, map_numbers, distinct_numbers}
 
--- ---- lists
-
 -- ---- the order of arrival
-
-second_equal : (r s : Ordering) → ordering_then r s ≡ Equal → s ≡ Equal
-second_equal Less s e = cc
-second_equal Equal s e = e
-second_equal Greater s e = cc
-
--- flights that are level have one callsign
-pub level-callsign : (f g : Flight) → arrival_cmp f g ≡ Equal → f.callsign ≡ g.callsign
-level-callsign f g e =
-    let same : slice_cmp nat_cmp f.callsign g.callsign ≡ Equal = second_equal _ _ e in
-    (bytes_eq-Decides f.callsign g.callsign).0 (sym (is_eq-slice_cmp f.callsign g.callsign) ∙ ap is_eq same)
 
 then_not_equal : (r o : Ordering) → (r ≡ Equal → ⊥) → ordering_then r o ≡ r
 then_not_equal Less o h = refl
 then_not_equal Equal o h = absurd (h refl)
 then_not_equal Greater o h = refl
-
-is_lt-Less : (r : Ordering) → is_lt r ≡ true → r ≡ Less
-is_lt-Less Less h = refl
-is_lt-Less Equal h = cc
-is_lt-Less Greater h = cc
 
 abbrev by_number : List Active → ℕ → ℕ → Ordering
 by_number all i j = ordering_then (arrival_cmp (numbered all i).flight (numbered all j).flight) (nat_cmp i j)
@@ -59,14 +39,7 @@ number_total : (all : List Active) → IsTotalOrder (by_number all)
 number_total all = then_total (on_total (λ (i : ℕ). (numbered all i).flight) arrival_total) nat_cmp_total
 
 number_level : (all : List Active) (i j : ℕ) → by_number all i j ≡ Equal → i ≡ j
-number_level all i j e = level i j (second_equal _ _ e)
-  where
-    level : (a b : ℕ) → nat_cmp a b ≡ Equal → a ≡ b
-    level a b e = elim (cases_order a b) [
-      | inl s ↦ s
-      | inr (inl lt) ↦ absurd (let q : nat_cmp a b ≡ Less = rw (lt-ltb a b lt) in cc)
-      | inr (inr lt) ↦ absurd (let q : nat_cmp a b ≡ Greater = rw (le-ltb a b (omega arith), ne_eqb a b (λ s. omega arith)) in cc)
-    ]
+number_level all i j e = exact_unsigned i j (second_equal _ _ e)
 
 pub first_come : (all : List Active) → FirstCome (comes_before all)
 first_come all = record {
@@ -204,21 +177,10 @@ module _ (s : Situation) (sound : IsSound s) where
 -- ---- the frozen
 
 frozen_list : (P : Landing → Type 0) (all : List Active) → All P (filter_map (λ a. option_map (landing a) a.frozen) all) → (i : ℕ) → i < length all → (u : ℕ) → (numbered all i).frozen ≡ Some u → P (landing (numbered all i) u)
-frozen_list P all h i lt u e = insertion.all_at P _ h (landing (numbered all i) u) (members.frozen_in all (numbered all i) u (members.number_member all i lt) e)
+frozen_list P all h i lt u e = general.all_at P _ h (landing (numbered all i) u) (general.frozen_in all (numbered all i) u (members.number_member all i lt) e)
 
 pub list_frozen : (P : Landing → Type 0) (all : List Active) → ((i : ℕ) → i < length all → (u : ℕ) → (numbered all i).frozen ≡ Some u → P (landing (numbered all i) u)) → All P (filter_map (λ a. option_map (landing a) a.frozen) all)
-list_frozen P all h = insertion.all_from P _ (λ x m. let w = members.frozen_member x all m in subst P (sym w.4) (h w.0 w.1 w.2 w.3))
-
--- an open second lies in the two days
-pub any_low : (ws : List Span) (u : ℕ) → All (λ w. (w.0 ≤ w.1) × (w.1 ≤ last_second)) ws → list_any (is_within u) ws ≡ true → u ≤ last_second
-any_low [] u a e = absurd (false≢true e)
-any_low (w ∷ ws) u a e = elim (or_cases (is_within u w) (list_any (is_within u) ws) e) [
-  | inl x ↦ (let b = and_parts (nat_le w.0 u) (nat_le u w.1) x in let c = leb-true u w.1 b.1 in let q = a 0 w (omega arith) in omega (arith, q.1))
-  | inr x ↦ any_low ws u (λ k d lt. a (suc k) d (omega arith)) x
-]
-
-pub open_low : (windows closures : List Span) (u : ℕ) → All (λ w. (w.0 ≤ w.1) × (w.1 ≤ last_second)) windows → is_open windows closures u ≡ true → nat_le u last_second ≡ true
-open_low windows closures u a e = le-leb u last_second (any_low windows u a (and_parts (list_any (is_within u) windows) (not (list_any (is_shut u) closures)) e).0)
+list_frozen P all h = general.all_from P _ (λ x m. let w = members.frozen_member x all m in subst P (sym w.4) (h w.0 w.1 w.2 w.3))
 
 pub active_are : (all : List Active) → all ≡ map (numbered all) (numbers_of all)
 active_are [] = refl

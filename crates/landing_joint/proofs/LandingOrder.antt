@@ -1,5 +1,5 @@
 -- Landings in the order of their seconds, and what does not hang on their order.
-use Rattle.std.proofs.Common.{◌≡◌, ◌≢◌, ℕ, ◌+◌, ◌<◌, ◌≤◌, inl, inr, List, [], ◌∷◌, get_or, map, filter, cond, Bool, true, false, nat_lt, count_by, arith, refl, sym, ap, ap₂}
+use Rattle.std.proofs.Common.{◌≡◌, ◌≢◌, ℕ, ◌+◌, ◌<◌, ◌≤◌, inl, inr, List, [], ◌∷◌, get_or, map, filter, cond, Bool, true, false, nat_lt, count_by, arith, refl, sym, ap}
 use Rattle.std.specs.Prelude.{All, IsTrue, IsPermutation}
 use Rattle.std.specs.Ordering.{is_lt}
 use Rattle.std.proofs.lemmas.Bool.{cases_Bool, cases_lt, lt-ltb, le-ltb}
@@ -10,7 +10,8 @@ use Rattle.landing_rules.specs.Flights.{Flight, Situation, Landing, horizon}
 use Rattle.landing_rules.specs.Rules.{last_second, is_open, waits, arrival_cmp, rank_among, place, greatest, delay, cost, ArePairSeparated, IsPairInPrecedence, IsShiftKept, IsFrozenKept, KeepsShift, KeepsRules}
 use Rattle.landing_rules.specs.Events.{insert_landing, in_landing_order}
 use Rattle.landing_rules.specs.shared.Counting.{Member}
-use Rattle.landing_joint.proofs.ByNumber.{member_insert, order_member, order-moves}
+use Rattle.landing_rules.specs.shared.OneList.{one_list}
+use Rattle.landing_joint.specs.shared.LandingsInOrder.{member_insert, order_member, order_permutes}
 use Rattle.landing_joint.proofs.AuditLists.{Each}
 
 -- ---- lists strictly rising by second
@@ -19,22 +20,7 @@ abbrev pub Strict : List Landing → Type 0
 Strict fs = Each (λ f g. f.second < g.second) fs
 
 pub strict_equal : (xs ys : List Landing) → Strict xs → Strict ys → ((z : Landing) → Member z xs → Member z ys) → ((z : Landing) → Member z ys → Member z xs) → xs ≡ ys
-strict_equal [] [] d e f g = refl
-strict_equal [] (y ∷ ys) d e f g = absurd (g y (inl refl))
-strict_equal (x ∷ xs) [] d e f g = absurd (f x (inl refl))
-strict_equal (x ∷ xs) (y ∷ ys) d e f g = ap₂ (λ (z : Landing) (zs : List Landing). z ∷ zs) same (strict_equal xs ys d.1 e.1 forth back)
-  where
-    same : x ≡ y
-    same = elim (f x (inl refl)) [
-      | inl s ↦ s
-      | inr i ↦ elim (g y (inl refl)) [ inl s ↦ sym s | inr j ↦ absurd (let a = e.0 x i in let b = d.0 y j in omega arith) ]
-    ]
-
-    forth : (z : Landing) → Member z xs → Member z ys
-    forth z i = elim (f z (inr i)) [ inl s ↦ absurd (let a = d.0 z i in let b = ap (λ (w : Landing). w.second) s in let c = ap (λ (w : Landing). w.second) same in omega arith) | inr j ↦ j ]
-
-    back : (z : Landing) → Member z ys → Member z xs
-    back z i = elim (g z (inr i)) [ inl s ↦ absurd (let a = e.0 z i in let b = ap (λ (w : Landing). w.second) s in let c = ap (λ (w : Landing). w.second) same in omega arith) | inr j ↦ j ]
+strict_equal xs ys d e f g = one_list (λ f g. f.second < g.second) (λ f g a b. omega arith) xs ys d e f g
 
 -- ---- by landing order
 
@@ -111,4 +97,4 @@ greatest_insert f (x ∷ fs) = let h = greatest_insert f fs in elim (cases_Bool 
 pub cost_order : (o : Objective) (fs : List Landing) → cost o (in_landing_order fs) ≡ cost o fs
 cost_order Makespan [] = refl
 cost_order Makespan (f ∷ fs) = let a = greatest_insert f (in_landing_order fs) in let b = cost_order Makespan fs in omega arith
-cost_order Delay fs = sum_by-IsPermutation delay fs (in_landing_order fs) (order-moves fs)
+cost_order Delay fs = sum_by-IsPermutation delay fs (in_landing_order fs) (order_permutes fs)

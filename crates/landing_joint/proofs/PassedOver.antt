@@ -5,6 +5,7 @@ use Rattle.std.specs.Ordering.{is_lt}
 use Rattle.std.proofs.lemmas.Bool.{false≢true, le-ltb}
 use Rattle.std.proofs.lemmas.List.Kept.{AllPairs-filter}
 use Rattle.std.proofs.lemmas.Slice.Eq.{bytes_eq-Decides}
+use Rattle.std.proofs.lemmas.Option.{same_Some}
 use Rattle.landing_rules.specs.Flights.{Active, Callsign, Flight, Schedule, Situation, horizon, is_waiting, landings, waiting}
 use Rattle.landing_rules.specs.Rules.{arrival_cmp, IsFeasible}
 use Rattle.landing_rules.specs.Events.{Clock, named, situation_after}
@@ -15,13 +16,13 @@ use Rattle.cps_theory.specs.NumberedSituation as numbers
 use Rattle.cps_theory.specs.laws.Members.{filter_in, in_filter}
 use Rattle.landing_joint.specs.Numbered.{numbered, second_of, numbers_of, waits_at, comes_before, numbered_situation}
 use Rattle.landing_joint.specs.PassedOver.{waiting_flight, waits_in, count_passing, ArePassedAtLeast, ClockCounts, ClockCountsLaw, ClockCountsExactlyLaw}
-use Rattle.landing_joint.proofs.Members.{Differ, callsigns, differ_of, found_in, none_found, one_of_name, map_member, member_map, cases_option}
+use Rattle.landing_joint.proofs.Members.{Differ, callsigns, differ_of, one_of_name}
 use Rattle.landing_joint.proofs.FlightSteps.{named_is}
 use Rattle.landing_joint.proofs.FirstStays.{bound_overtook, few_overtook_itself, fewer_overtook}
 use Rattle.landing_joint.proofs.Joint.{all_among, comes_is, feasible_numbered, first_come, passed_low}
 use Rattle.landing_joint.proofs.Clock.{at_after, forth_of, late_after, passing_is, same_flight, waiting_after, waiting_before, waiting_changed}
 use Rattle.landing_rules.specs.shared.Counting.{Member}
-use Rattle.landing_joint.specs.shared.Insertion.{all_at, all_from}
+use Rattle.landing_rules.specs.shared.Members.{in_map, map_in, found_in, none_found, cases_option, all_at, all_from}
 
 -- ---- the flight of a name
 
@@ -39,9 +40,6 @@ is_found s sound c f m e = elim (cases_option (waiting_flight s c)) [
 
 pub some_flight : (s : Situation) (c : Callsign) → waits_in s c ≡ true → (f : Active) × (waiting_flight s c ≡ Some f)
 some_flight s c e = elim (cases_option (waiting_flight s c)) [ inl q ↦ absurd (false≢true (sym (ap is_some q) ∙ e)) | inr w ↦ w ]
-
-pub same_some : (a b : Active) → Some a ≡ Some b → a ≡ b
-same_some a b e = cc
 
 -- ---- a clock event, by any feasible plan
 
@@ -97,11 +95,11 @@ module _ (s : Situation) (sound : IsSound s) (t : Schedule) (ok : IsFeasible s t
 
   at_number : (y : Active) → Member y (waiting changed) → (i : ℕ) × In i stay × (y ≡ numbered changed.active i)
   at_number y m =
-      let r = map_member (numbered changed.active) (numbered_situation changed).waiting y (subst (Member y) (waiting_changed s sound t ok now forth) m) in
+      let r = in_map (numbered changed.active) (numbered_situation changed).waiting y (subst (Member y) (waiting_changed s sound t ok now forth) m) in
       (r.0, subst (In r.0) (waiting_after s sound t ok now forth) r.1, r.2)
 
   was_waiting : (i : ℕ) → In i ns.waiting → Member (numbered s.active i) (waiting s)
-  was_waiting i m = subst (Member (numbered s.active i)) (sym (waiting_before s sound t ok now forth)) (member_map (numbered s.active) ns.waiting i m)
+  was_waiting i m = subst (Member (numbered s.active i)) (sym (waiting_before s sound t ok now forth)) (map_in (numbered s.active) ns.waiting i m)
 
   flight_at : (y : Active) (i : ℕ) → In i stay → y ≡ numbered changed.active i → y.flight ≡ (numbered s.active i).flight
   flight_at y i m e = ap (λ (a : Active). a.flight) e ∙ same_flight s sound t ok now forth i (stays i m).0
@@ -168,7 +166,7 @@ module _ (s : Situation) (sound : IsSound s) (t : Schedule) (ok : IsFeasible s t
       counts = record {
         few = (let a = few_numbers g i n.stays least_numbers in let p = passing_are i n in omega arith);
         counted = λ b e. all_from (λ (y : Active). is_lt (arrival_cmp b.flight y.flight) ≡ false → g + passing ≤ y.passed) (waiting changed) (λ y m ahead.
-            let same = same_some b (numbered changed.active i) (sym e ∙ n.is) in
+            let same = same_Some b (numbered changed.active i) (sym e ∙ n.is) in
             counted_each y m (ap (λ (a : Active). is_lt (arrival_cmp a.flight y.flight)) (sym same) ∙ ahead));
       }
 
@@ -184,7 +182,7 @@ module _ (s : Situation) (sound : IsSound s) (t : Schedule) (ok : IsFeasible s t
         let few = few_overtook_itself (comes_before s.active) (first_come s.active) (second_of t) ns.waiting s.aerodrome.k ns.back shifted (λ x m. omega arith) seconds_differ h i (waited i n.1.stays) w.2 in
         let p = passed_low s sound t ok.0 i w.0 in
         let a = counted_after i n.1.stays in
-        let same = ap (λ (z : Active). z.passed) (same_some b (numbered changed.active i) (sym e ∙ n.1.is)) in
+        let same = ap (λ (z : Active). z.passed) (same_Some b (numbered changed.active i) (sym e ∙ n.1.is)) in
         let was = ap (λ (z : Active). z.passed) n.1.was in
         let over_is = passing_are i n.1 in
         omega arith

@@ -3,7 +3,7 @@ use Rattle.std.proofs.Common.{◌≡◌, ℕ, zero, suc, ◌+◌, ◌-◌, ◌*�
 use Rattle.std.specs.Prelude.{filter_map, option_map, unwrap_or, is_none, sum_by, Option, Some, None, IsPermutation}
 use Rattle.std.specs.List.{AllZip, list_any, cons_option, zip}
 use Rattle.std.proofs.lemmas.Bool.{cases_eq, cases_lt, cases_Bool, and_parts, and_from, and_right, not-true}
-use Rattle.std.proofs.lemmas.List.Sorted.{IsPermutation-trans, sum_by-IsPermutation}
+use Rattle.std.proofs.lemmas.List.Sorted.{IsPermutation-sym, IsPermutation-trans, sum_by-IsPermutation}
 use Rattle.wake_table.specs.declared.category.Category.{Category}
 use Rattle.wake_table.specs.Table.{separation}
 use Rattle.landing_rules.specs.declared.objective.Objective.{Objective}
@@ -26,13 +26,15 @@ use Rattle.landing_joint.specs.RankedProblem.{no_waiting, after_last, ranked}
 use Rattle.landing_joint.specs.ByNumber.{numbers_by_rank, number_at, joined}
 use Rattle.landing_joint.specs.shared.RankedLists.{each_at, list_feasible, feasible_list, feasible_agree}
 use Rattle.landing_joint.proofs.Numbered.{landing_at, landings_are}
-use Rattle.landing_joint.proofs.Joint.{active_are, sound_numbered, open_low, feasible_numbered, numbered_feasible}
+use Rattle.landing_joint.proofs.Joint.{active_are, sound_numbered, feasible_numbered, numbered_feasible}
+use Rattle.landing_joint.specs.shared.OpenDays.{open_low}
 use Rattle.landing_joint.proofs.ByNumber.{sorted_in, in_sorted, sorted_permutes, sorted_ordered, map_sorted, slice_map, last_frozen_is}
 use Rattle.cps_theory.specs.laws.ByRank.{ranks_permute, at_in, in_at, ordered_at, get_past, zip_at, zip_long}
 use Rattle.cps_theory.specs.laws.NumberedLists.{map_map, filter_map_is, in_numbers, numbers_in}
 use Rattle.cps_theory.specs.laws.RanksBelow.{in_upto}
 use Rattle.cps_theory.specs.laws.WholeObjective.{sum_agree}
 use Rattle.std.proofs.lemmas.List.{length-map, get_or-map}
+use Rattle.std.proofs.lemmas.Grind.{same_number_lists}
 use Rattle.landing_joint.specs.shared.FirstBestLists.{numbers_get, numbers_long}
 use Rattle.landing_joint.specs.shared.BestLists.{sum_map}
 use Rattle.std.specs.Cmp.{both_ways}
@@ -178,7 +180,7 @@ module _ (s : Situation) (sound : IsSound s) (p : lists'.Problem) (of : lists'.I
         let l = long_is in
         let b = ir.1 in
         ordered_at (comes_before s.active) (length s.active) R (sorted_ordered s sound ns.waiting (λ j m. (in_filter (waits_at s.active) j (numbers_of s.active) m).0) (sound_numbered s sound).differ) q r iq.0 lt (omega arith);
-    permuted = subst (λ n. IsPermutation (map (number_at s) (upto n)) ns.waiting) long_is (IsPermutation-trans (map (number_at s) (upto (length R))) R ns.waiting (ranks_permute (length s.active) R) (sorted_permutes s.active ns.waiting));
+    permuted = subst (λ n. IsPermutation (map (number_at s) (upto n)) ns.waiting) long_is (IsPermutation-trans (map (number_at s) (upto (length R))) R ns.waiting (ranks_permute (length s.active) R) (IsPermutation-sym ns.waiting R (sorted_permutes s.active ns.waiting)));
   }
 
   pub passed_low' : (r : ℕ) → IsRank (length p.flights) r → (fl r).passed ≤ p.k
@@ -225,12 +227,6 @@ module _ (s : Situation) (sound : IsSound s) (p : lists'.Problem) (of : lists'.I
   by_rank_at t zero q = absurd (let a = q.0 in omega arith)
   by_rank_at t (suc i) q = let b = q.1 in numbers_get (λ j. second_of t (at (suc j))) 0 0 (length p.flights) i (omega arith) ∙ ap (λ j. second_of t (at (suc j))) (omega arith)
 
-  list_equal : (xs ys : List ℕ) → length xs ≡ length ys → ((i : ℕ) → i < length xs → get_or xs i 0 ≡ get_or ys i 0) → xs ≡ ys
-  list_equal [] [] e h = refl
-  list_equal [] (y ∷ ys) e h = absurd (omega arith)
-  list_equal (x ∷ xs) [] e h = absurd (omega arith)
-  list_equal (x ∷ xs) (y ∷ ys) e h = ap₂ (λ z zs. z ∷ zs) (h 0 (omega arith)) (list_equal xs ys (omega arith) (λ i lt. h (suc i) (omega arith)))
-
   pub joined_long : (v : Schedule) → length (joined s v) ≡ length s.active
   joined_long v = numbers_long (λ j. cond (waits_at s.active j) (of_rank 0 v (rank_in (comes_before s.active) ns.waiting j)) (ns.frozen_at j)) 0 (length s.active)
 
@@ -252,7 +248,7 @@ module _ (s : Situation) (sound : IsSound s) (p : lists'.Problem) (of : lists'.I
       each_number (λ i. second_of t i ≡ second_of (joined s v) i) (λ r q. sym (joined_rank v r q ∙ by_rank_at t r q)) (λ i m. n.kept i m ∙ sym (joined_frozen v i m)) in (
         v,
         feasible_list p passed_low' v long (feasible_agree (ranked p) (λ r. second_of t (at r)) (of_rank 0 v) (λ r q. sym (by_rank_at t r q)) g),
-        list_equal t (joined s v) (f.0 ∙ sym (joined_long v)) (λ i lt. let e = f.0 in same i (numbers_in 0 (length s.active) i zero-le (omega arith))),
+        same_number_lists t (joined s v) (f.0 ∙ sym (joined_long v)) (λ i lt. let e = f.0 in same i (numbers_in 0 (length s.active) i zero-le (omega arith))),
       )
 
   -- ---- the objectives

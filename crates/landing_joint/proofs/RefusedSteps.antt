@@ -1,25 +1,17 @@
 -- What the refusals are for: after an event that each of them turns away, the situation is not sound, whatever it was before.
-use Rattle.std.proofs.Common.{◌≡◌, ℕ, ◌+◌, ◌≤◌, inl, inr, Bool, true, false, not, ◌||◌, List, [], ◌∷◌, ◌++◌, length, Option, None, refl, sym, ap, subst, ◌∙◌, arith}
+use Rattle.std.proofs.Common.{◌≡◌, ℕ, ◌+◌, ◌≤◌, Bool, true, false, not, ◌||◌, List, [], ◌∷◌, ◌++◌, length, Option, None, refl, sym, ap, subst, ◌∙◌, arith}
 use Rattle.std.specs.List.{list_any}
 use Rattle.std.proofs.lemmas.Bool.{false≢true, and_parts, or_right}
 use Rattle.landing_rules.specs.Flights.{Flight, Landing, Situation, Schedule, Span, is_waiting, waiting}
 use Rattle.landing_rules.specs.Rules.{is_within, is_shut, lists}
 use Rattle.landing_rules.specs.Events.{Add, Close, Clock, frozen_landings, newcomer, situation_after}
 use Rattle.landing_rules.specs.Sound.{IsSound}
-use Rattle.landing_joint.proofs.Members.{filter_in, in_frozen, frozen_in, length_push}
+use Rattle.std.proofs.lemmas.List.{length_push}
 use Rattle.landing_joint.proofs.SoundAgain.{kept}
 use Rattle.landing_joint.proofs.FlightSteps.{waiting_push}
 use Rattle.landing_rules.specs.shared.Counting.{Member}
 use Rattle.std.proofs.lemmas.List.Folds.{list_any-append}
-
-push_in : {X : Type 0} (xs : List X) (y x : X) → Member x xs → Member x (xs ++ y ∷ [])
-push_in [] y x m = absurd m
-push_in (z ∷ xs) y x (inl e) = inl e
-push_in (z ∷ xs) y x (inr m) = inr (push_in xs y x m)
-
-pushed : {X : Type 0} (xs : List X) (y : X) → Member y (xs ++ y ∷ [])
-pushed [] y = inl refl
-pushed (z ∷ xs) y = inr (pushed xs y)
+use Rattle.landing_rules.specs.shared.Members.{append_in, pushed_in, filter_in, in_frozen, frozen_in}
 
 any_last : (p : Span → Bool) (cs : List Span) (c : Span) → p c ≡ true → list_any p (cs ++ c ∷ []) ≡ true
 any_last p cs c e = list_any-append p cs (c ∷ []) ∙ or_right (list_any p cs) (p c || false) (rw e)
@@ -46,8 +38,8 @@ predecessor_of_frozen : (s : Situation) (plan : Option Schedule) (f : Flight) (g
 predecessor_of_frozen s plan f g m listed h =
     let new : Situation = situation_after s plan (Add f) in
     let r = in_frozen s.active g m in
-    let there : Member g (frozen_landings new) = subst (λ z. Member z (frozen_landings new)) (sym r.4) (frozen_in new.active r.0 r.1 (push_in s.active (newcomer f) r.0 r.2) r.3) in
-    let waits : Member (newcomer f) (waiting new) = filter_in is_waiting new.active (newcomer f) (pushed s.active (newcomer f)) refl in
+    let there : Member g (frozen_landings new) = subst (λ z. Member z (frozen_landings new)) (sym r.4) (frozen_in new.active r.0 r.1 (append_in s.active (newcomer f ∷ []) r.0 r.2) r.3) in
+    let waits : Member (newcomer f) (waiting new) = filter_in is_waiting new.active (newcomer f) (pushed_in s.active (newcomer f) (newcomer f) refl) refl in
     false≢true (sym ((kept new h).alone g (newcomer f) there waits) ∙ listed)
 
 -- a clock so far back that a frozen flight would land at its horizon or later

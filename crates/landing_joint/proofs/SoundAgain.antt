@@ -7,7 +7,7 @@ use Rattle.landing_rules.specs.Events.{frozen_landings}
 use Rattle.landing_rules.specs.Sound.{IsSound, IsGoodFlight, ListsNone}
 use Rattle.landing_joint.proofs.Members.{Differ, callsigns, differ_pairs}
 use Rattle.landing_rules.specs.shared.Counting.{Member}
-use Rattle.landing_joint.specs.shared.Insertion.{all_at, all_from}
+use Rattle.landing_rules.specs.shared.Members.{all_at, all_from}
 
 -- what is asked of the frozen landings, one by one
 pub record FrozenKeep (s : Situation) : Type 0 where

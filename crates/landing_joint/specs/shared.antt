@@ -1,7 +1,11 @@
--- Lemmas that crates above cite too, with what they rest on: lists by rank as maps, what is feasible, best and tight there, and first
--- open seconds.
+-- Lemmas that crates above cite too, with what they rest on: lists by rank as maps, what is feasible, best and tight there, first
+-- open seconds, and landings in their order.
 pub mod FirstOpen
+pub mod OpenDays
 pub mod Insertion
+pub mod LandingsInOrder
+pub mod EventAerodrome
+pub mod Pairs
 pub mod RankedLists
 pub mod BestLists
 pub mod SortedBySeconds

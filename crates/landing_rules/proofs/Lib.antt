@@ -1,4 +1,3 @@
 pub mod Costs
 pub mod OfTwo
-pub mod Lines
 pub mod BlockLaw

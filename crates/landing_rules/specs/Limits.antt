@@ -28,3 +28,7 @@ longest_freeze = 7200
 -- weight of a flight
 abbrev pub greatest_weight : ℕ
 greatest_weight = 100
+
+-- value of a plan: 500 flights of weight 100, each 172,799 seconds late
+abbrev pub greatest_value : ℕ
+greatest_value = 8639950000

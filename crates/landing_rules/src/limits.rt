@@ -20,3 +20,6 @@ pub const LONGEST_FREEZE: u32 = 7_200;
 
 /// The greatest weight of a flight.
 pub const GREATEST_WEIGHT: u32 = 100;
+
+/// The greatest value of a plan: 500 flights of weight 100, each 172,799 seconds late.
+pub const GREATEST_VALUE: u64 = 8_639_950_000;

@@ -1,7 +1,7 @@
 -- What the windows of a flight keep.
 use Rattle.std.proofs.Common.{◌≡◌, ℕ, ◌+◌, ◌≤◌, List, [], ◌∷◌, Option, Some, None, Bool, true, false, cond, length, Ok, Err, arith, refl, inl, inr}
-use Rattle.std.specs.Prelude.{◌==◌, ◌&&◌, nat_lt, nat_le}
-use Rattle.std.proofs.lemmas.Bool.{cases_Bool}
+use Rattle.std.specs.Prelude.{◌==◌, nat_lt, nat_le}
+use Rattle.std.proofs.lemmas.Bool.{cases_Bool, and_parts}
 use Rattle.std.proofs.lemmas.Bool.Decides.{nat_tests}
 use Rattle.std.proofs.lemmas.Grind.{common_steps}
 use Rattle.std.specs.List.{list_all}
@@ -23,10 +23,6 @@ not_overlapping : (before : Option ℕ) (first : ℕ) → overlaps before first 
 not_overlapping None first e = omega arith
 not_overlapping (Some last) first e = let over : nat_le first last ≡ false = e in grind (arith, common_steps)
 
-both_true : (a b : Bool) → (a && b) ≡ true → (a ≡ true) × (b ≡ true)
-both_true true b e = (refl, e)
-both_true false b e = absurd (cc e)
-
 pub in_order_of : (i : ℕ) (before : Option ℕ) (ss : List Span) → bad_span i before ss ≡ None → list_all is_in_days ss ≡ true → AreSpansFrom 1 (after_end before) ss
 unfolding bad_span
 in_order_of i before [] e days = tt
@@ -37,9 +33,9 @@ in_order_of i before (s ∷ ss) e days = elim (cases_Bool (nat_lt s.1 s.0)) [
     | inr apart ↦
         let rest : bad_span (i + 1) (Some s.1) ss ≡ None = rw (forward, apart) at e in
         let runs : s.0 ≤ s.1 = grind (arith, common_steps) in
-        let here : is_in_days s ≡ true = (both_true (is_in_days s) _ days).0 in
+        let here : is_in_days s ≡ true = (and_parts (is_in_days s) _ days).0 in
         let ends : s.1 ≤ last_second = grind (arith, common_steps) in
-        (not_overlapping before s.0 apart, runs, ends, in_order_of (i + 1) (Some s.1) ss rest (both_true (is_in_days s) _ days).1)
+        (not_overlapping before s.0 apart, runs, ends, in_order_of (i + 1) (Some s.1) ss rest (and_parts (is_in_days s) _ days).1)
   ]
 ]
 

@@ -1,7 +1,6 @@
 -- A list without the first element that a test passes.
 use Rattle.std.proofs.Common.{◌≡◌, List, [], ◌∷◌, Bool, true, false, cond, refl, inl, inr}
 use Rattle.std.specs.List.{list_any}
-use Rattle.std.specs.Bool.{OnFalse}
 use Rattle.std.proofs.lemmas.Bool.{cases_Bool}
 use Rattle.landing_rules.specs.Flights.{Span}
 use Rattle.landing_rules.specs.Events.{without_first}
@@ -16,7 +15,3 @@ none_without test (x ∷ xs) e = elim (cases_Bool (test x)) [
   | inl here ↦ let contradiction : true ≡ false = rw here at e in absurd (cc contradiction)
   | inr not_here ↦ let rest : list_any test xs ≡ false = rw not_here at e in rw (not_here, none_without test xs rest) refl
 ]
-
-pub on_false : (b : Bool) (P : Type 0) → (b ≡ false → P) → OnFalse b P
-on_false true P f = tt
-on_false false P f = f refl

@@ -1,6 +1,7 @@
 -- What spans in order and closures hold.
-use Rattle.std.proofs.Common.{◌≡◌, ℕ, suc, zero, ◌+◌, ◌-◌, ◌<◌, ◌≤◌, max, List, [], ◌∷◌, ◌++◌, length, slice_index_or, All, true, false, arith, add-one, ap, refl, sym, ◌∙◌, inl, inr}
+use Rattle.std.proofs.Common.{◌≡◌, ℕ, suc, zero, ◌+◌, ◌-◌, ◌<◌, ◌≤◌, max, List, [], ◌∷◌, ◌++◌, length, slice_index_or, get_or, All, true, false, arith, add-one, ap, refl, sym, subst, ◌∙◌, inl, inr}
 use Rattle.std.specs.Prelude.{◌||◌, nat_le}
+use Rattle.std.specs.List.{AllAdjacentBelow}
 use Rattle.std.proofs.Math.Bool.{or-false, and-false}
 use Rattle.std.proofs.lemmas.Bool.{cases_Bool, cases_lt, both_ways, or_from, and_right, le-leb, lt-leb}
 use Rattle.std.proofs.lemmas.Grind.{common_steps}
@@ -176,17 +177,6 @@ pair_eq v w a b = ap (λ x. (x, v.1)) a ∙ ap (λ y. (w.0, y)) b
 holds_first : (w : Span) (ws : List Span) (u : ℕ) → w.0 ≤ u → u ≤ w.1 → opens (w ∷ ws) u ≡ true
 holds_first w ws u a b = rw (within u w a b) refl
 
-differ : (xs ys : List Span) (u : ℕ) → opens xs u ≡ opens ys u → opens xs u ≡ true → opens ys u ≡ false → ⊥
-differ xs ys u same x y = both_ways (opens xs u) (same ∙ y) x
-
--- of two lists of the same seconds neither begins before the other
-not_earlier : (least : ℕ) (v w : Span) (vs ws : List Span) → AreSpansFrom 2 least (v ∷ vs) → AreSpansFrom 2 least (w ∷ ws) →
-    ((t : ℕ) → least ≤ t → opens (v ∷ vs) t ≡ opens (w ∷ ws) t) → w.0 ≤ v.0
-not_earlier least v w vs ws a b same = elim (cases_lt v.0 w.0) [
-  | inl below ↦ absurd (differ (v ∷ vs) (w ∷ ws) v.0 (same v.0 a.0) (holds_first v vs v.0 (omega arith) a.1) (none_before 2 w.0 (w ∷ ws) v.0 (omega arith, b.1, b.2, b.3) below))
-  | inr not_below ↦ not_below
-]
-
 -- just after its first span a list of maximal spans holds no second
 gap_after : (least : ℕ) (v : Span) (vs : List Span) → AreSpansFrom 2 least (v ∷ vs) → opens (v ∷ vs) (v.1 + 1) ≡ false
 gap_after least v vs a = or_from _ _ (not_after (v.1 + 1) v (omega arith)) (none_before 2 (v.1 + 2) vs (v.1 + 1) a.3 (omega arith))
@@ -201,27 +191,91 @@ stops_after spans (w ∷ ws) d t s same a n b e = record {
   ends = sym (same (w.1 + 1) (omega arith)) ∙ gap_after 0 w ws a;
 }
 
--- nor does its first span end before the other's
-not_sooner : (least : ℕ) (v w : Span) (vs ws : List Span) → AreSpansFrom 2 least (v ∷ vs) → AreSpansFrom 2 least (w ∷ ws) →
-    ((t : ℕ) → least ≤ t → opens (v ∷ vs) t ≡ opens (w ∷ ws) t) → v.0 ≡ w.0 → w.1 ≤ v.1
-not_sooner least v w vs ws a b same starts = elim (cases_lt v.1 w.1) [
-  | inl below ↦ absurd (differ (w ∷ ws) (v ∷ vs) (v.1 + 1) (sym (same (v.1 + 1) (omega arith))) (holds_first w ws (v.1 + 1) (omega arith) (omega arith)) (gap_after least v vs a))
-  | inr not_below ↦ not_below
+-- spans from `least` on, each of a second at least, with a second in none of them between two
+abbrev AreApart : ℕ → List Span → Type 0
+AreApart least [] = Unit {0}
+AreApart least (w ∷ ws) = (least ≤ w.0) × (w.0 ≤ w.1) × AreApart (w.1 + 2) ws
+
+in_days_apart : (least : ℕ) (ws : List Span) → AreSpansFrom 2 least ws → AreApart least ws
+in_days_apart least [] a = tt
+in_days_apart least (w ∷ ws) a = (a.0, a.1, in_days_apart (w.1 + 2) ws a.3)
+
+are_apart : (least : ℕ) (ws : List Span) → ((d : Span) → 1 ≤ length ws → least ≤ (get_or ws 0 d).0) → All (λ w. w.0 ≤ w.1) ws
+    → AllAdjacentBelow (λ v w. v.1 + 1 < w.0) ws (length ws) → AreApart least ws
+are_apart least [] first forward apart = tt
+are_apart least (w ∷ ws) first forward apart = (
+  first w (omega arith),
+  forward 0 w (omega arith),
+  are_apart (w.1 + 2) ws (λ d h. let far = apart 0 d (omega arith) in omega arith) (λ k d h. forward (suc k) d (omega arith)) next,
+)
+  where
+    next : AllAdjacentBelow (λ v w. v.1 + 1 < w.0) ws (length ws)
+    next k d h =
+        let number : suc k + 1 ≡ suc (k + 1) = omega arith in
+        subst (λ (n : ℕ). (get_or ws k d).1 + 1 < (get_or (w ∷ ws) n d).0) number (apart (suc k) d (omega arith))
+
+-- they hold no second before
+held_from : (least : ℕ) (ws : List Span) (t : ℕ) → AreApart least ws → opens ws t ≡ true → least ≤ t
+held_from least [] t a e = absurd (cc e)
+held_from least (w ∷ ws) t a e = elim (cases_Bool (is_within t w)) [
+  | inl here ↦ let from : w.0 ≤ t = grind (arith, common_steps) in let low = a.0 in omega arith
+  | inr past ↦
+      let there : opens ws t ≡ true = rw past at e in
+      let later = held_from (w.1 + 2) ws t a.2 there in
+      let low = a.0 in
+      let forward = a.1 in
+      omega arith
 ]
 
-after_first : (v w : Span) (vs ws : List Span) (t : ℕ) → opens (v ∷ vs) t ≡ opens (w ∷ ws) t → v.1 + 2 ≤ t → v.1 ≡ w.1 → opens vs t ≡ opens ws t
-after_first v w vs ws t same h ends =
-    let past_v : is_within t v ≡ false = not_after t v (omega arith) in
-    let past_w : is_within t w ≡ false = not_after t w (omega arith) in
-    let rest : opens vs t ≡ opens ws t = rw (past_v, past_w) at same in rest
+module _ (least : ℕ) (v w : Span) (vs ws : List Span) (a : AreApart least (v ∷ vs)) (b : AreApart least (w ∷ ws))
+    (same : (t : ℕ) → least ≤ t → opens (v ∷ vs) t ≡ opens (w ∷ ws) t) where
+  -- the first span of the one list begins no later than that of the other
+  begins : w.0 ≤ v.0
+  begins =
+      let forward = a.1 in
+      let held : opens (w ∷ ws) v.0 ≡ true = sym (same v.0 a.0) ∙ holds_first v vs v.0 (omega arith) a.1 in
+      held_from w.0 (w ∷ ws) v.0 (omega arith, b.1, b.2) held
+
+  -- nor ends earlier
+  ends : v.0 ≡ w.0 → v.1 ≤ w.1
+  ends e = elim (cases_lt w.1 v.1) [
+    | inl above ↦
+        let low = b.0 in
+        let forward = b.1 in
+        let held : opens (w ∷ ws) (w.1 + 1) ≡ true = sym (same (w.1 + 1) (omega arith)) ∙ holds_first v vs (w.1 + 1) (omega arith) (omega arith) in
+        let there : opens ws (w.1 + 1) ≡ true = rw (not_after (w.1 + 1) w (omega arith)) at held in
+        let later = held_from (w.1 + 2) ws (w.1 + 1) b.2 there in
+        absurd (omega arith)
+    | inr less ↦ less
+  ]
+
+  behind : v.1 ≡ w.1 → (t : ℕ) → v.1 + 2 ≤ t → opens vs t ≡ opens ws t
+  behind e t from =
+      let low = a.0 in
+      let forward = a.1 in
+      let both = same t (omega arith) in
+      let rest : opens vs t ≡ opens ws t = rw (not_after t v (omega arith), not_after t w (omega arith)) at both in
+      rest
+
+same_lists : (least : ℕ) (vs ws : List Span) → AreApart least vs → AreApart least ws → ((t : ℕ) → least ≤ t → opens vs t ≡ opens ws t) → vs ≡ ws
+same_lists least [] [] a b same = refl
+same_lists least [] (w ∷ ws) a b same = absurd (let held : false ≡ true = same w.0 b.0 ∙ holds_first w ws w.0 (omega arith) b.1 in cc held)
+same_lists least (v ∷ vs) [] a b same = absurd (let held : false ≡ true = sym (same v.0 a.0) ∙ holds_first v vs v.0 (omega arith) a.1 in cc held)
+same_lists least (v ∷ vs) (w ∷ ws) a b same =
+    let back = λ (t : ℕ) (from : least ≤ t). sym (same t from) in
+    let low = begins least v w vs ws a b same in
+    let high = begins least w v ws vs b a back in
+    let first : v.0 ≡ w.0 = omega arith in
+    let short = ends least v w vs ws a b same first in
+    let long = ends least w v ws vs b a back (sym first) in
+    let last : v.1 ≡ w.1 = omega arith in
+    let rest = same_lists (v.1 + 2) vs ws a.2 (subst (λ (x : ℕ). AreApart (x + 2) ws) (sym last) b.2) (behind least v w vs ws a b same last) in
+    rw (pair_eq v w first last, rest) refl
 
 pub one_list : (least : ℕ) (xs ys : List Span) → AreSpansFrom 2 least xs → AreSpansFrom 2 least ys → ((t : ℕ) → least ≤ t → opens xs t ≡ opens ys t) → xs ≡ ys
-one_list least [] [] a b same = refl
-one_list least [] (w ∷ ws) a b same = absurd (differ (w ∷ ws) [] w.0 (sym (same w.0 b.0)) (holds_first w ws w.0 (omega arith) b.1) refl)
-one_list least (v ∷ vs) [] a b same = absurd (differ (v ∷ vs) [] v.0 (same v.0 a.0) (holds_first v vs v.0 (omega arith) a.1) refl)
-one_list least (v ∷ vs) (w ∷ ws) a b same =
-    let other : (t : ℕ) → least ≤ t → opens (w ∷ ws) t ≡ opens (v ∷ vs) t = λ t h. sym (same t h) in
-    let starts : v.0 ≡ w.0 = omega (arith, not_earlier least v w vs ws a b same, not_earlier least w v ws vs b a other) in
-    let ends : v.1 ≡ w.1 = omega (arith, not_sooner least v w vs ws a b same starts, not_sooner least w v ws vs b a other (sym starts)) in
-    let rest : vs ≡ ws = one_list (v.1 + 2) vs ws a.3 (rw ends b.3) (λ t h. after_first v w vs ws t (same t (omega arith)) h ends) in
-    rw (pair_eq v w starts ends, rest) refl
+one_list least xs ys a b same = same_lists least xs ys (in_days_apart least xs a) (in_days_apart least ys b) same
+
+-- the longest spans of open seconds are fixed by those seconds
+pub one_spans : (windows closures vs ws : List Span) → AreOpenSpans windows closures vs → AreOpenSpans windows closures ws → vs ≡ ws
+one_spans windows closures vs ws a b =
+    same_lists 0 vs ws (are_apart 0 vs (λ d some. omega arith) a.nonempty a.apart) (are_apart 0 ws (λ d some. omega arith) b.nonempty b.apart) (λ t from. a.same t ∙ sym (b.same t))

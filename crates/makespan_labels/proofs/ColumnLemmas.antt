@@ -1,8 +1,8 @@
 -- Which labels are known, the landable windows that are left where the others go, and the least number of a range.
-use Rattle.std.proofs.Common.{◌≡◌, ℕ, ◌+◌, ◌<◌, ◌≤◌, ◌⊎◌, List, length, Option, Some, None, Bool, true, false, not, refl, sym, ap, subst, ◌∙◌, arith, inl, inr, min, set}
+use Rattle.std.proofs.Common.{◌≡◌, ℕ, ◌+◌, ◌<◌, ◌≤◌, ◌⊎◌, List, length, Option, Some, None, Bool, true, false, refl, sym, ap, subst, ◌∙◌, arith, inl, inr, min, set}
 use Rattle.std.specs.Prelude.{ℤ, slice_index, All, nat_eq, ◌↔◌}
 use Rattle.std.specs.Option.{option_eq}
-use Rattle.std.proofs.lemmas.Bool.{cases_eq, cases_lt, eqb-true, eq-eqb}
+use Rattle.std.proofs.lemmas.Bool.{cases_eq, cases_lt, eqb-true, eq-eqb, both_ways, false_from_ne_true, not-true, not_from_false}
 use Rattle.std.proofs.lemmas.List.{length-set, get_or-set_same, get_or-set_other}
 use Rattle.landing_rules.specs.Problem.{Problem}
 use Rattle.landing_rules.specs.Rules.{last_second}
@@ -44,19 +44,11 @@ entry_least a b x y = elim (min_cases a b) [ inl l ↦ subst IsEntry (sym l.0) x
 
 -- ---- which labels are known
 
-not_true : (b : Bool) → not b ≡ true → b ≡ true → ⊥
-not_true true e f = cc
-not_true false e f = cc
-
-not_from : (b : Bool) → (b ≡ true → ⊥) → not b ≡ true
-not_from true h = absurd (h refl)
-not_from false h = refl
-
 pub known_is : (x : ℕ) → is_known x ≡ true → x ≡ no_label → ⊥
-known_is x b e = not_true (nat_eq x no_label) b (eq-eqb x no_label e)
+known_is x b e = both_ways (nat_eq x no_label) (not-true (nat_eq x no_label) b) (eq-eqb x no_label e)
 
 pub is_known_of : (x : ℕ) → (x ≡ no_label → ⊥) → is_known x ≡ true
-is_known_of x ne = not_from (nat_eq x no_label) (λ b. ne (eqb-true x no_label b))
+is_known_of x ne = not_from_false (nat_eq x no_label) (false_from_ne_true (nat_eq x no_label) (λ b. ne (eqb-true x no_label b)))
 
 entry_known : (x : ℕ) → IsEntry x → is_known x ≡ true → x < no_label
 entry_known x (inl le) b = omega (arith, le)

@@ -1,5 +1,6 @@
 -- The label of a window of the next stage, from the least label of the windows that lead to it.
 use Rattle.std.proofs.Common.{◌≡◌, ℕ, suc, ◌+◌, ◌-◌, ◌<◌, ◌≤◌, List, length, Option, Some, None, sym, ap, subst, ◌∙◌, arith, le_trans, true, false}
+use Rattle.std.proofs.lemmas.Option.{none-some, same_Some}
 use Rattle.std.specs.Prelude.{ℤ, pos, ◌+ℤ◌, slice_index, MatchOption, unwrap_or, nat_eq}
 use Rattle.std.specs.Option.{option_eq}
 use Rattle.cps_nodes.specs.Windows.{offset_at}
@@ -94,11 +95,8 @@ module _ (p : Problem) (w stage : ℕ) (before : List (List ℤ)) (v : List ℤ)
         least = λ t a.
             let j = landing_behind t a in
             let u = j.3 best (least.low j.0 j.1 j.2) in
-            absurd (some_none u.0 (sym u.1 ∙ none));
+            absurd (none-some u.0 (sym none ∙ u.1));
       }
-        where
-          some_none : (x : ℕ) → ◌≡◌ {A = Option ℕ} (Some x) None → ⊥
-          some_none x e = cc
 
       pub label_some : (second : ℕ) → second ≤ last_second → landing_after p l best r ≡ Some second → IsLabel p (suc stage) v second
       label_some second in_days e = record {
@@ -106,13 +104,10 @@ module _ (p : Problem) (w stage : ℕ) (before : List (List ℤ)) (v : List ℤ)
         least = λ t a.
             let j = landing_behind t a in
             let u = j.3 best (least.low j.0 j.1 j.2) in
-            let same : second ≡ u.0 = some_same second u.0 (sym e ∙ u.1) in
+            let same : second ≡ u.0 = same_Some second u.0 (sym e ∙ u.1) in
             let le = u.2 in
             (omega (arith, in_days), omega (arith, same, le));
       }
-        where
-          some_same : (a b : ℕ) → ◌≡◌ {A = Option ℕ} (Some a) (Some b) → a ≡ b
-          some_same a b e = cc
 
     -- ---- the window that gives a label
 

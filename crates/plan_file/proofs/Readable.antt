@@ -5,6 +5,7 @@ use Rattle.std.proofs.lemmas.Grind.{common_steps}
 use Rattle.std.proofs.lemmas.List.{length-map}
 use Rattle.std.proofs.lemmas.List.Elements.{All-head, All-tail}
 use Rattle.std.proofs.lemmas.List.Sums.{sum_by-cons}
+use Rattle.landing_rules.specs.Limits.{greatest_value}
 use Rattle.landing_rules.specs.declared.objective.Objective.{Objective}
 use Rattle.landing_rules.specs.declared.objective.Objective.TheVariants.{Makespan, Delay}
 use Rattle.cps_base.specs.Text.{is_callsign}
@@ -97,7 +98,7 @@ delays_small (a ∷ rest) (x ∷ t) g d =
     let more = delays_small rest t (All-tail (λ (b : Active). IsGoodFlight b.flight) a rest g) (All-tail (λ (f : Landing). f.second ≤ last_second) _ (landings rest t) d) in
     omega (arith, one, more, sum_by-cons delay (landing a x) (landings rest t))
 
-cost_small : (o : Objective) (active : List Active) (t : Schedule) → AreGood active → InDays (landings active t) → length active ≤ 500 → cost o (landings active t) ≤ 8639950000
+cost_small : (o : Objective) (active : List Active) (t : Schedule) → AreGood active → InDays (landings active t) → length active ≤ 500 → cost o (landings active t) ≤ greatest_value
 cost_small Makespan active t g d few = let a = greatest_small (landings active t) d in omega (arith, a)
 cost_small Delay active t g d few = let a = delays_small active t g d in omega (arith, a, few)
 

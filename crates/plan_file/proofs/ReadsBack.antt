@@ -5,6 +5,7 @@ use Rattle.std.proofs.lemmas.Bool.{le-ltb}
 use Rattle.std.proofs.lemmas.List.Elements.{All-append, All-cons}
 use Rattle.cps_base.specs.Answers.{◌>>=◌}
 use Rattle.cps_base.specs.Text.{is_callsign}
+use Rattle.landing_rules.specs.Limits.{greatest_value}
 use Rattle.landing_rules.specs.declared.objective.Objective.{Objective}
 use Rattle.landing_rules.specs.declared.objective.Objective.TheVariants.{Makespan, Delay}
 use Rattle.landing_rules.specs.Text.{ShownLanding, ShownPlan, frozen_word, lines_text, head_words, landing_words, block_text}
@@ -31,20 +32,20 @@ parts_lines (x ∷ xs) h = ap (parts 10) (append_assoc x (10 ∷ []) (lines_text
 
 -- ---- the first line
 
-number_lacks : (n mark : ℕ) → n ≤ 8639950000 → mark < 48 → Lacks mark (decimal n)
+number_lacks : (n mark : ℕ) → n ≤ greatest_value → mark < 48 → Lacks mark (decimal n)
 number_lacks n mark h low = decimal_lacks n mark (omega arith) (inl low)
 
-head_lacks : (o : Objective) (v : ℕ) → v ≤ 8639950000 → Lacks 10 (head_words o v)
+head_lacks : (o : Objective) (v : ℕ) → v ≤ greatest_value → Lacks 10 (head_words o v)
 head_lacks Makespan v h = All-append (λ b. (b == 10) ≡ false) (codes "makespan ") (decimal v) (lacks_by 10 (codes "makespan ") refl) (number_lacks v 10 h (omega arith))
 head_lacks Delay v h = All-append (λ b. (b == 10) ≡ false) (codes "delay ") (decimal v) (lacks_by 10 (codes "delay ") refl) (number_lacks v 10 h (omega arith))
 
-word_fields : (word : List ℕ) (v : ℕ) → Lacks 32 word → v ≤ 8639950000 → parts 32 (word ++ 32 ∷ decimal v) ≡ word ∷ decimal v ∷ []
+word_fields : (word : List ℕ) (v : ℕ) → Lacks 32 word → v ≤ greatest_value → parts 32 (word ++ 32 ∷ decimal v) ≡ word ∷ decimal v ∷ []
 word_fields word v l h = cut 32 word (decimal v) l refl ∙ ap (λ (ys : Lines). word ∷ ys) (uncut 32 (decimal v) (number_lacks v 32 h (omega arith)))
 
-pub head_reads : (o : Objective) (v : ℕ) → v ≤ 8639950000 → head_in (head_words o v) ≡ Some (o, v)
+pub head_reads : (o : Objective) (v : ℕ) → v ≤ greatest_value → head_in (head_words o v) ≡ Some (o, v)
 unfolding head_in head_by
-head_reads Makespan v h = ap head_by (word_fields (codes "makespan") v (lacks_by 32 (codes "makespan") refl) h) ∙ rw (decimal_reads v 0 8639950000 (omega arith) (omega arith) h) refl
-head_reads Delay v h = ap head_by (word_fields (codes "delay") v (lacks_by 32 (codes "delay") refl) h) ∙ rw (decimal_reads v 0 8639950000 (omega arith) (omega arith) h) refl
+head_reads Makespan v h = ap head_by (word_fields (codes "makespan") v (lacks_by 32 (codes "makespan") refl) h) ∙ rw (decimal_reads v 0 greatest_value (omega arith) (omega arith) h) refl
+head_reads Delay v h = ap head_by (word_fields (codes "delay") v (lacks_by 32 (codes "delay") refl) h) ∙ rw (decimal_reads v 0 greatest_value (omega arith) (omega arith) h) refl
 
 -- ---- a landing
 

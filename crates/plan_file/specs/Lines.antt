@@ -1,5 +1,6 @@
 -- What one line of a plan file is.
 use Rattle.std.specs.Prelude.{ℕ, List, [], ◌∷◌, Bool, true, false, codes, bytes_eq, Option, Some, None, option_and_then, option_map, if◌then◌else◌}
+use Rattle.landing_rules.specs.Limits.{greatest_value}
 use Rattle.landing_rules.specs.Rules.{last_second}
 use Rattle.landing_rules.specs.declared.objective.Objective.{Objective}
 use Rattle.landing_rules.specs.declared.objective.Objective.TheVariants.{Makespan, Delay}
@@ -13,9 +14,8 @@ objective_in word =
     else if bytes_eq word (codes "delay") then Some Delay
     else None
 
--- the value: at most 500 flights of weight 100, each 172,799 seconds late
 unfoldable pub head_by : List (List ℕ) → Option (Objective × ℕ)
-head_by (word ∷ value ∷ []) = option_and_then (λ o. option_map (λ v. (o, v)) (number_in value 0 8639950000)) (objective_in word)
+head_by (word ∷ value ∷ []) = option_and_then (λ o. option_map (λ v. (o, v)) (number_in value 0 greatest_value)) (objective_in word)
 head_by fields = None
 
 -- the objective and the number that the first line says

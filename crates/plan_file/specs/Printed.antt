@@ -1,7 +1,7 @@
 -- What is printed of a plan reads back as the plan.
 use Rattle.std.specs.Prelude.{◌≡◌, ◌≤◌, List, [], ◌∷◌, true, length, Some, None, Ok}
 use Rattle.cps_base.specs.Text.{is_callsign}
-use Rattle.landing_rules.specs.Limits.{most_flights}
+use Rattle.landing_rules.specs.Limits.{greatest_value, most_flights}
 use Rattle.landing_rules.specs.Rules.{last_second}
 use Rattle.landing_rules.specs.declared.objective.Objective.{Objective}
 use Rattle.landing_rules.specs.Events.{State}
@@ -16,8 +16,7 @@ AreReadable (f ∷ rest) = (is_callsign f.callsign ≡ true) × (f.second ≤ la
 
 -- at most 500 landings of callsigns, and all numbers in their ranges
 pub record IsReadable (p : ShownPlan) : Type 0 where
-  -- at most 500 flights of weight 100, each 172,799 seconds late
-  pub value : p.value ≤ 8639950000
+  pub value : p.value ≤ greatest_value
   pub few : length p.landings ≤ most_flights
   pub landings : AreReadable p.landings
 

@@ -8,7 +8,7 @@ ghost use Rattle.plan_file.specs.Reading.{GivesLanding, line_in};
 use crate::landing::Landing;
 use crate::plan::PlanFault;
 use cps_base::Callsign;
-use landing_rules::{MOST_FLIGHTS, Objective};
+use landing_rules::{GREATEST_VALUE, MOST_FLIGHTS, Objective};
 use landing_windows::LAST_SECOND;
 use text_parts::{first_part, number_in};
 
@@ -39,7 +39,7 @@ pub(crate) fn head_of(line: &[u8]) -> Option<(Objective, u64)>
         return None;
     }
     let objective = objective_in(word)?;
-    let value = number_in(value, 0, 8_639_950_000)?;
+    let value = number_in(value, 0, GREATEST_VALUE)?;
     Some((objective, value))
 }
 

@@ -1,22 +1,21 @@
 -- The lines of the first landings, and of those behind them.
-use Rattle.std.proofs.Common.{◌≡◌, ℕ, zero, suc, ◌+◌, List, [], ◌∷◌, ◌++◌, Some, None, take, drop, refl, sym, ap, ◌∙◌, append_assoc, add-one}
-use Rattle.std.specs.Prelude.{map, slice_get, OnOk, Result, Ok, Err}
-use Rattle.std.proofs.lemmas.Option.{same_Some}
+use Rattle.std.proofs.Common.{◌≡◌, ℕ, zero, suc, ◌+◌, List, [], ◌∷◌, ◌++◌, Some, take, drop, refl, sym, ap, ◌∙◌, append_assoc}
+use Rattle.std.specs.Prelude.{map, slice_get}
+use Rattle.std.proofs.lemmas.List.{drop_more, take_more}
+use Rattle.std.proofs.lemmas.Option.{slice_get_within, get_or_from_slice_get}
 use Rattle.landing_rules.specs.Text.{ShownLanding, line, lines_text, landing_words}
 
 abbrev pub landing_lines : List ShownLanding → List ℕ
 landing_lines ls = lines_text (map landing_words ls)
 
-rest_is : (ls : List ShownLanding) (i : ℕ) (l : ShownLanding) → slice_get ls i ≡ Some l → drop i ls ≡ l ∷ drop (suc i) ls
-rest_is [] i l e = let none : None ≡ Some l = e in absurd (cc none)
-rest_is (x ∷ xs) zero l e = let same : x ≡ l = same_Some x l e in ap (λ (y : ShownLanding). y ∷ xs) same
-rest_is (x ∷ xs) (suc i) l e = rest_is xs i l e
+rest_is : (ls : List ShownLanding) (i : ℕ) (l : ShownLanding) → slice_get ls i ≡ Some l → drop i ls ≡ l ∷ drop (i + 1) ls
+rest_is ls i l e = drop_more ls i l (slice_get_within ls i l e) ∙ ap (λ (y : ShownLanding). y ∷ drop (i + 1) ls) (get_or_from_slice_get ls i l l e)
 
 -- one line more of those that are left
 pub lines_left : (ls : List ShownLanding) (i : ℕ) (l : ShownLanding) (text : List ℕ) → slice_get ls i ≡ Some l →
     (text ++ line (landing_words l)) ++ landing_lines (drop (i + 1) ls) ≡ text ++ landing_lines (drop i ls)
 lines_left ls i l text e =
-    rw (add-one) (append_assoc text (line (landing_words l)) (landing_lines (drop (suc i) ls)) ∙ ap (λ (r : List ShownLanding). text ++ landing_lines r) (sym (rest_is ls i l e)))
+    append_assoc text (line (landing_words l)) (landing_lines (drop (i + 1) ls)) ∙ ap (λ (r : List ShownLanding). text ++ landing_lines r) (sym (rest_is ls i l e))
 
 -- the lines of the first landings, and then those of the others
 pub lines_split : (ls : List ShownLanding) (i : ℕ) → landing_lines (take i ls) ++ landing_lines (drop i ls) ≡ landing_lines ls
@@ -25,18 +24,11 @@ lines_split [] (suc i) = refl
 lines_split (x ∷ xs) (suc i) =
     append_assoc (line (landing_words x)) (landing_lines (take i xs)) (landing_lines (drop i xs)) ∙ ap (λ (t : List ℕ). line (landing_words x) ++ t) (lines_split xs i)
 
-take_more : (ls : List ShownLanding) (i : ℕ) (l : ShownLanding) → slice_get ls i ≡ Some l → take (suc i) ls ≡ take i ls ++ l ∷ []
-take_more [] i l e = let none : None ≡ Some l = e in absurd (cc none)
-take_more (x ∷ xs) zero l e = let same : x ≡ l = same_Some x l e in ap (λ (y : ShownLanding). y ∷ []) same
-take_more (x ∷ xs) (suc i) l e = ap (λ (r : List ShownLanding). x ∷ r) (take_more xs i l e)
-
 -- one landing more
 pub first_more : (all first : List ShownLanding) (i : ℕ) (l : ShownLanding) → first ≡ take i all → slice_get all i ≡ Some l → first ++ l ∷ [] ≡ take (i + 1) all
-first_more all first i l e at = ap (λ (r : List ShownLanding). r ++ l ∷ []) e ∙ sym (rw (add-one) (take_more all i l at))
-
-pub ok_then : {T E : Type 0} {P Q : Type 0} (r : Result T E) → (P → Q) → OnOk r P → OnOk r Q
-ok_then (Ok v) f p = f p
-ok_then (Err e) f p = p
+first_more all first i l e at =
+    ap (λ (r : List ShownLanding). r ++ l ∷ []) e
+    ∙ ap (λ (y : ShownLanding). take i all ++ y ∷ []) (sym (get_or_from_slice_get all i l l at)) ∙ sym (take_more all i l (slice_get_within all i l at))
 
 -- head, lines kept and lines left
 pub whole_text : (all : List ShownLanding) (n : ℕ) (old head : List ℕ) → ((old ++ head) ++ landing_lines (take n all)) ++ landing_lines (drop n all) ≡ old ++ (head ++ landing_lines all)

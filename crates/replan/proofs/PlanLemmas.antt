@@ -1,6 +1,6 @@
 -- The last stage of a problem tells the least objective of its feasible lists, and an order whose earliest seconds are a best and
 -- tight schedule.
-use Rattle.std.proofs.Common.{◌≡◌, ℕ, zero, suc, ◌+◌, ◌-◌, ◌<◌, ◌≤◌, List, [], ◌∷◌, length, get_or, map, inl, inr, refl, sym, ap, subst, ◌∙◌, arith, le_trans, reverse, drop, take, ◌++◌}
+use Rattle.std.proofs.Common.{◌≡◌, ℕ, ◌+◌, ◌-◌, ◌<◌, ◌≤◌, List, [], ◌∷◌, length, get_or, map, inl, inr, refl, sym, ap, subst, ◌∙◌, arith, le_trans, reverse, drop, take, ◌++◌}
 use Rattle.std.specs.Prelude.{ℤ}
 use Rattle.std.proofs.lemmas.List.{get_or_default, length-reverse}
 use Rattle.landing_rules.specs.declared.objective.Objective.{Objective}
@@ -16,11 +16,12 @@ use Rattle.cps_theory.specs.laws.LeastObjective.{feasible_landing_trail, landing
 use Rattle.landing_joint.specs.RankedProblem.{ranked, cost_at, value_by, value_at, value_of_map, makespan_by}
 use Rattle.landing_joint.specs.shared.RankedLists.{feasible_agree, feasible_list, list_feasible, sound_ranked}
 use Rattle.landing_joint.specs.shared.BestLists.{list_value}
+use Rattle.landing_joint.specs.shared.FirstBestLists.{list_of_at, list_of_long}
 use Rattle.extract_plan.specs.shared.PlannedOrder.{IsPlannedFor, map_value_rises, order_best, order_tight}
 use Rattle.cps_network.specs.Lists.{node_at}
 use Rattle.cps_network.specs.Nodes.{Node, node_of}
 use Rattle.cps_network.specs.Landable.{Attains}
-use Rattle.cps_network.specs.Pairs.{list_at, pair_at}
+use Rattle.cps_network.specs.Pairs.{list_at}
 use Rattle.cps_network.specs.shared.PairSteps.{at_in}
 use Rattle.makespan_labels.specs.shared.LabelPairs.{attains_free}
 use Rattle.replan.specs.LeastValue.{IsLeastPlace, IsWorthNoMore}
@@ -35,25 +36,9 @@ use Rattle.cps_theory.specs.laws.OrderLoops.{front_whole}
 use Rattle.extract_plan.specs.Orders.{IsWholeOrder, LandsInOrder, EarliestInOrder}
 use Rattle.extract_plan.specs.shared.LandingOrder.{in_order, trail_lands}
 use Rattle.replan.specs.Stages.{LandsWithPair}
+use Rattle.replan.specs.shared.LastPairs.{last_cheapest}
 
 -- ---- no feasible list is worth less than the least last pair
-
--- the last pair of a list that falls in cost is its cheapest
-last_cheapest : (pairs : List Pair) → Staircase pairs → (q : Pair) → InPairs q pairs → (last_pair pairs).1 ≤ q.1
-last_cheapest [] s q i = absurd i
-last_cheapest (x ∷ []) s q (inl e) = let f = ap (λ (z : Pair). z.1) e in omega arith
-last_cheapest (x ∷ []) s q (inr i) = absurd i
-last_cheapest (x ∷ (y ∷ pairs)) s q i =
-    let n : length (x ∷ (y ∷ pairs)) - 1 ≡ suc (length (y ∷ pairs) - 1) = omega arith in
-    subst (λ (m : ℕ). (pair_at (x ∷ (y ∷ pairs)) m).1 ≤ q.1) (sym n) (go (λ o j. last_cheapest (y ∷ pairs) s.1 o j) i)
-  where
-    go : ((o : Pair) → InPairs o (y ∷ pairs) → (pair_at (y ∷ pairs) (length (y ∷ pairs) - 1)).1 ≤ o.1) → InPairs q (x ∷ (y ∷ pairs)) → (pair_at (y ∷ pairs) (length (y ∷ pairs) - 1)).1 ≤ q.1
-    go rest (inl e) =
-        let a = rest y (inl refl) in
-        let b = (s.0 y (inl refl)).1 in
-        let f = ap (λ (z : Pair). z.1) e in
-        omega (arith, a, b, f)
-    go rest (inr j) = rest q j
 
 -- where no pair costs anything there is one alone
 only_pair : (pairs : List Pair) → Staircase pairs → ((q : Pair) → InPairs q pairs → q.1 ≡ 0) → (q : Pair) → InPairs q pairs → last_pair pairs ≡ q
@@ -90,21 +75,6 @@ module _ (p : Problem) (is : IsPlannedFor p) (stage : ℕ × List (List ℤ)) (l
       (λ makespan q i. attains_free p makespan stage.0 (node_at stage.1 has.0) q ((are.undominated q).0 i).attained)
       o.0 (map_pair (cost_at p) (length p.flights) (of_rank 0 u)) o.1 o.2 in
       (has.0, (let b = has.1 in omega (arith, held.costs.one_each)), low)
-
--- ---- a list of seconds from landings
-
-get_mapped : (f : ℕ → ℕ) (i n k : ℕ) → k < n → get_or (map f (numbers_from i n)) k 0 ≡ f (i + k)
-get_mapped f i zero k lt = absurd (omega arith)
-get_mapped f i (suc n) zero lt = ap f (let e : i ≡ i + 0 = omega arith in e)
-get_mapped f i (suc n) (suc k) lt = get_mapped f (suc i) n k (omega arith) ∙ ap f (let e : suc i + k ≡ i + suc k = omega arith in e)
-
-pub length_mapped : (f : ℕ → ℕ) (i n : ℕ) → length (map f (numbers_from i n)) ≡ n
-length_mapped f i zero = refl
-length_mapped f i (suc n) = ap suc (length_mapped f (suc i) n)
-
-pub rank_mapped : (f : ℕ → ℕ) (n r : ℕ) → IsRank n r → of_rank 0 (map f (numbers_from 1 n)) r ≡ f r
-rank_mapped f n zero q = absurd (let a = q.0 in omega arith)
-rank_mapped f n (suc i) q = get_mapped f 1 n i (let a = q.1 in omega arith) ∙ ap f (let e : 1 + i ≡ suc i = omega arith in e)
 
 -- ---- what is worth no more has no greater value
 
@@ -150,7 +120,7 @@ module _ (p : Problem) (is : IsPlannedFor p) (stage : ℕ × List (List ℤ)) (l
 
       best_long : length best_seconds ≡ length p.flights
       unfolding best_seconds
-      best_long = length_mapped (second_in attained.landings) 1 (length p.flights)
+      best_long = list_of_long (length p.flights) (second_in attained.landings)
 
       -- some best list has the objective of that pair
       pub least_is_best : (t : Schedule) × IsBestList p t × (list_objective p t ≡ value_at p least_pair)
@@ -159,7 +129,7 @@ module _ (p : Problem) (is : IsPlannedFor p) (stage : ℕ × List (List ℤ)) (l
           let whole : length (ranks attained.landings) ≡ length p.flights = ap (λ (n : Node). n.0) attained.at ∙ last in
           let f = landing_trail_feasible (ranked p) (cost_at p) (sound_ranked p is.table is.between) attained.landings attained.legal attained.landed whole in
           let same : (r : ℕ) → IsRank (length p.flights) r → second_in attained.landings r ≡ of_rank 0 best_seconds r =
-          λ r q. sym (rank_mapped (second_in attained.landings) (length p.flights) r q) in
+          λ r q. sym (list_of_at (length p.flights) (second_in attained.landings) r q) in
           let feasible : IsFeasibleList p best_seconds = feasible_list p is.passed best_seconds best_long
           (feasible_agree (ranked p) (second_in attained.landings) (of_rank 0 best_seconds) same f.0) in
           let low = map_value_rises p (second_in attained.landings) (of_rank 0 best_seconds) (λ r q. let e = same r q in omega (arith, e)) in
@@ -202,14 +172,14 @@ module _ (p : Problem) (is : IsPlannedFor p) (order : List ℕ) (end : Pair) (wh
   seconds = map (second_in lands.0) (numbers_from 1 (length p.flights))
 
   long : length seconds ≡ length p.flights
-  long = length_mapped (second_in lands.0) 1 (length p.flights)
+  long = list_of_long (length p.flights) (second_in lands.0)
 
   -- the landings, as seconds by rank, land in the order
   pub order_lands : LandsInOrder p order seconds
   order_lands =
       let distinct = order_is_whole.distinct in
       let same : at_seconds (of_rank 0 seconds) (reverse order) ≡ at_seconds (second_in lands.0) (reverse order) =
-      at_seconds_agree (of_rank 0 seconds) (second_in lands.0) (reverse order) (λ r i. rank_mapped (second_in lands.0) (length p.flights) r (in_order p order order_is_whole r i)) in
+      at_seconds_agree (of_rank 0 seconds) (second_in lands.0) (reverse order) (λ r i. list_of_at (length p.flights) (second_in lands.0) r (in_order p order order_is_whole r i)) in
       let back : at_seconds (second_in lands.0) (reverse order) ≡ lands.0 =
       ap (at_seconds (second_in lands.0)) (sym lands.1) ∙ at_second_in lands.0 (subst Distinct (sym lands.1) distinct) in
       trail_lands p is.table order seconds order_is_whole long (subst (LandedIn (ranked p)) (sym (same ∙ back)) lands.3)
@@ -228,7 +198,7 @@ module _ (p : Problem) (is : IsPlannedFor p) (order : List ℕ) (end : Pair) (wh
       order_lands,
       (let here = list_value p seconds long in
           let there = list_value p u f.one_each in
-          let a = map_value_rises p (of_rank 0 seconds) (second_in lands.0) (λ r q. let e = rank_mapped (second_in lands.0) (length p.flights) r q in omega (arith, e)) in
+          let a = map_value_rises p (of_rank 0 seconds) (second_in lands.0) (λ r q. let e = list_of_at (length p.flights) (second_in lands.0) r q in omega (arith, e)) in
           let b = subst (λ (e : Pair). value_by p.objective p e ≤ value_by p.objective p (map_pair (cost_at p) (length p.flights) (of_rank 0 u))) (sym pair_is)
           (value_rises p p.objective end (map_pair (cost_at p) (length p.flights) (of_rank 0 u)) (low u f)) in
           omega (arith, here, there, a, b)),

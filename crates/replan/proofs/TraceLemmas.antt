@@ -13,6 +13,7 @@ use Rattle.cps_theory.specs.Network.{Undominated}
 use Rattle.cps_theory.specs.laws.LabelDominance.{next_lands}
 use Rattle.cps_theory.specs.laws.LeastObjective.{next_later}
 use Rattle.landing_joint.specs.RankedProblem.{ranked, first_at, cost_at}
+use Rattle.landing_joint.specs.shared.FirstBestLists.{costs_rise}
 use Rattle.landing_joint.specs.shared.FirstOpen.{is_first_open}
 use Rattle.landing_rules.specs.Problem.{Problem}
 use Rattle.cps_network.specs.Landable.{Attains, IsLandable}
@@ -22,7 +23,7 @@ use Rattle.cps_network.specs.WindowLaws.{WindowLaws}
 use Rattle.cps_network.specs.shared.LegalWindows.{next_last}
 use Rattle.cps_nodes.specs.Windows.{offset_at}
 use Rattle.cps_network.specs.Pairs.{HoldsCosts, GivesPair, list_at, pair_at, successor}
-use Rattle.cps_network.specs.shared.PairSteps.{dearer, at_in}
+use Rattle.cps_network.specs.shared.PairSteps.{at_in}
 use Rattle.replan.specs.Stages.{LabelledStage, stage_at, AreStages, LandsWithPair}
 use Rattle.replan.specs.Labels.{HoldsPairs, last_pair}
 use Rattle.replan.proofs.StageLemmas.{start_only, start_pair, read_stage, held_at}
@@ -52,7 +53,7 @@ completes_pair_more p net before lists v q j index end order source rest xs is =
     let leader : latest (before.0, node_at before.1 j) ≡ last_rank (ranks xs) = ap latest (sym is.at) ∙ net.newest_is (ranks xs) is.legal in
     let e : next_pair (first_at p) (next_from (ranked p)) (cost_at p) (last_rank (ranks xs)) (pair_of (cost_at p) xs) source.rank ≡ Some q =
     ap (λ (l : ℕ). successor p l (pair_of (cost_at p) xs) source.rank) (sym leader) ∙ ap (λ (o : Pair). successor p (latest (before.0, node_at before.1 j)) o source.rank) is.pair ∙ source.lands in
-    let lands = next_lands (λ s t. (ranked p).is_open s t ≡ true) (first_at p) (next_from (ranked p)) (cost_at p) (is_first_open p) (next_later (ranked p)) (dearer p) xs source.rank q is.landed e in
+    let lands = next_lands (λ s t. (ranked p).is_open s t ≡ true) (first_at p) (next_from (ranked p)) (cost_at p) (is_first_open p) (next_later (ranked p)) (costs_rise p) xs source.rank q is.landed e in
     let more : EndsWith p (suc before.0) v q ((source.rank, q.0) ∷ xs) = record {
       legal = net.grows source.rank (ranks xs) is.legal may;
       landed = lands.0;

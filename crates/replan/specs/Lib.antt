@@ -6,3 +6,4 @@ pub mod Kept
 pub mod Readers
 pub mod LeastValue
 pub mod Bound
+pub mod shared

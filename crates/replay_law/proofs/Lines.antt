@@ -1,43 +1,18 @@
 -- Lines that do not begin an answer, with a text behind them that is over or begins one: both texts tell where the lines end.
-use Rattle.std.proofs.Common.{◌≡◌, ◌≢◌, ℕ, List, [], ◌∷◌, ◌++◌, refl, sym, ap, ◌∙◌, append_assoc}
+use Rattle.std.proofs.Common.{◌≡◌, ◌≢◌, List, [], ◌∷◌, ◌++◌, refl, sym, ap, ◌∙◌, append_assoc}
 use Rattle.std.specs.Prelude.{⊤}
 use Rattle.landing_rules.specs.Text.{Bytes, line, lines_text}
-
--- no byte of the text is a line feed
-abbrev pub IsFeedless : Bytes → Type 0
-IsFeedless [] = ⊤
-IsFeedless (b ∷ rest) = (b ≢ 10) × IsFeedless rest
-
-pub feedless_append : (a b : Bytes) → IsFeedless a → IsFeedless b → IsFeedless (a ++ b)
-feedless_append [] b p q = q
-feedless_append (x ∷ a) b p q = (p.0, feedless_append a b p.1 q)
-
-abbrev pub first_or : ℕ → Bytes → ℕ
-first_or d [] = d
-first_or d (x ∷ xs) = x
-
-abbrev pub rest_of : Bytes → Bytes
-rest_of [] = []
-rest_of (x ∷ xs) = xs
+use Rattle.landing_rules.specs.shared.Lines.{IsWithout, first_or, rest_of, cut_same}
 
 -- the same text in front goes
 pub cancel : (a x y : Bytes) → a ++ x ≡ a ++ y → x ≡ y
 cancel [] x y e = e
 cancel (b ∷ a) x y e = cancel a x y (ap rest_of e)
 
-cut_same : (a b x y : Bytes) → IsFeedless a → IsFeedless b → a ++ 10 ∷ x ≡ b ++ 10 ∷ y → (a ≡ b) × (x ≡ y)
-cut_same [] [] x y p q e = (refl, ap rest_of e)
-cut_same [] (c ∷ b) x y p q e = absurd (q.0 (sym (ap (first_or 10) e)))
-cut_same (c ∷ a) [] x y p q e = absurd (p.0 (ap (first_or 10) e))
-cut_same (c ∷ a) (d ∷ b) x y p q e =
-    let head : c ≡ d = ap (first_or 10) e in
-    let more = cut_same a b x y p.1 q.1 (ap rest_of e) in
-    (rw (head, more.0) refl, more.1)
-
 -- lines of a plan: each one line, and none begins with the letter of "event"
 abbrev pub ArePlanLines : List Bytes → Type 0
 ArePlanLines [] = ⊤
-ArePlanLines (l ∷ ls) = (IsFeedless l × (first_or 10 l ≢ 101)) × ArePlanLines ls
+ArePlanLines (l ∷ ls) = (IsWithout 10 l × (first_or 10 l ≢ 101)) × ArePlanLines ls
 
 -- the text is over, or begins with that letter
 abbrev pub EndsPlan : Bytes → Type 0
@@ -55,6 +30,6 @@ lines_same [] [] u v p q s t e = (refl, e)
 lines_same [] (m ∷ ms) u v p q s t e = absurd (q.0.1 (sym (first_line m (lines_text ms) v) ∙ sym (ap (first_or 101) e) ∙ s))
 lines_same (l ∷ ls) [] u v p q s t e = absurd (p.0.1 (sym (first_line l (lines_text ls) u) ∙ ap (first_or 101) e ∙ t))
 lines_same (l ∷ ls) (m ∷ ms) u v p q s t e =
-    let both = cut_same l m (lines_text ls ++ u) (lines_text ms ++ v) p.0.0 q.0.0 (sym (line_first l (lines_text ls) u) ∙ e ∙ line_first m (lines_text ms) v) in
+    let both = cut_same 10 l m (lines_text ls ++ u) (lines_text ms ++ v) p.0.0 q.0.0 (sym (line_first l (lines_text ls) u) ∙ e ∙ line_first m (lines_text ms) v) in
     let more = lines_same ls ms u v p.1 q.1 s t both.1 in
     (rw (both.0, more.0) refl, more.1)

@@ -7,7 +7,8 @@ use Rattle.landing_rules.specs.Sound.{IsSoundState, IsGoodEvent}
 use Rattle.landing_rules.specs.Text.{Bytes, answer_text, answers_text}
 use Rattle.landing_joint.specs.StepLaws.{StepKeepsSoundLaw}
 use Rattle.replay_law.specs.Runs.{TextLaw}
-use Rattle.replay_law.proofs.Lines.{first_or, EndsPlan}
+use Rattle.landing_rules.specs.shared.Lines.{first_or}
+use Rattle.replay_law.proofs.Lines.{EndsPlan}
 use Rattle.replay_law.proofs.Showable.{ShownLaws}
 use Rattle.replay_law.proofs.Steps.{states_same, steps_same}
 

@@ -1,9 +1,9 @@
 -- A sound situation and its plan can be told from what is printed: callsigns are names and differ, and the numbers are
 -- small.
-use Rattle.std.proofs.Common.{◌≡◌, ◌≢◌, ℕ, suc, ◌<◌, List, [], ◌∷◌, Bool, true, false, Option, Some, None, length, refl, sym, arith, inl, inr}
+use Rattle.std.proofs.Common.{◌≡◌, ◌≢◌, ℕ, ◌<◌, List, [], ◌∷◌, true, false, Option, Some, None, length, refl, sym, arith}
 use Rattle.std.specs.Prelude.{◌&&◌, nat_le, option_map, All, AllPairs, bytes_eq}
 use Rattle.std.specs.List.{list_all}
-use Rattle.std.proofs.lemmas.Bool.{cases_Bool}
+use Rattle.std.proofs.lemmas.Bool.{and_parts, false_from_ne_true}
 use Rattle.std.proofs.lemmas.Bool.Decides.{nat_tests}
 use Rattle.std.proofs.lemmas.Grind.{common_steps}
 use Rattle.std.proofs.lemmas.List.Elements.{All-head, All-tail}
@@ -13,16 +13,9 @@ use Rattle.landing_rules.specs.Flights.{Callsign, Active, Situation, Schedule}
 use Rattle.landing_rules.specs.Events.{IsPlanShown}
 use Rattle.landing_rules.specs.Sound.{IsSound}
 use Rattle.landing_rules.specs.Text.{ShownLanding, shown_plan, IsName, AreNamed, IsShowable, BlockLaw}
+use Rattle.landing_joint.specs.shared.Pairs.{pairs_head, pairs_tail}
 use Rattle.plan_file.specs.Printed.{AreReadable, ShownPlanIsReadableLaw}
 use Rattle.replay_law.proofs.PlanTells.{NotNamed, AreNamedApart}
-
-left_of : (a b : Bool) → (a && b) ≡ true → a ≡ true
-left_of true b e = refl
-left_of false b e = absurd (cc e)
-
-right_of : (a b : Bool) → (a && b) ≡ true → b ≡ true
-right_of true b e = e
-right_of false b e = absurd (cc e)
 
 -- ---- callsigns are names
 
@@ -31,10 +24,10 @@ byte_high b e = grind (arith, nat_tests, common_steps)
 
 bytes_name : (c : Callsign) → list_all is_callsign_byte c ≡ true → IsName c
 bytes_name [] h = tt
-bytes_name (b ∷ c) h = (byte_high b (left_of _ _ h), bytes_name c (right_of _ _ h))
+bytes_name (b ∷ c) h = (byte_high b ((and_parts _ _ h).0), bytes_name c ((and_parts _ _ h).1))
 
 callsign_name : (c : Callsign) → is_callsign c ≡ true → IsName c
-callsign_name c h = bytes_name c (right_of (nat_le 2 (length c) && nat_le (length c) 8) _ h)
+callsign_name c h = bytes_name c ((and_parts (nat_le 2 (length c) && nat_le (length c) 8) _ h).1)
 
 -- ---- what is shown of a sound state
 
@@ -55,10 +48,7 @@ plan_showable law s (Some t) h k =
 -- ---- callsigns differ
 
 differs : (a b : Callsign) → a ≢ b → bytes_eq b a ≡ false
-differs a b other = elim (cases_Bool (bytes_eq b a)) [
-  | inl same ↦ absurd (other (sym ((bytes_eq-Decides b a).0 same)))
-  | inr differ ↦ differ
-]
+differs a b other = false_from_ne_true (bytes_eq b a) (λ same. other (sym ((bytes_eq-Decides b a).0 same)))
 
 abbrev Apart : Active → Active → Type 0
 Apart a b = a.flight.callsign ≢ b.flight.callsign
@@ -68,13 +58,7 @@ not_named c [] h = tt
 not_named c (a ∷ rest) h =
     (differs c a.flight.callsign (All-head (λ (b : Active). c ≢ b.flight.callsign) a rest h), not_named c rest (All-tail (λ (b : Active). c ≢ b.flight.callsign) a rest h))
 
-first_apart : (a : Active) (rest : List Active) → AllPairs Apart (a ∷ rest) → All (Apart a) rest
-first_apart a rest h = λ k d lt. h 0 (suc k) d (omega arith) (omega arith)
-
-rest_apart : (a : Active) (rest : List Active) → AllPairs Apart (a ∷ rest) → AllPairs Apart rest
-rest_apart a rest h = λ i j d lt le. h (suc i) (suc j) d (omega arith) (omega arith)
-
 pub named_apart : (active : List Active) → AllPairs Apart active → AreNamedApart active
 named_apart [] h = tt
 named_apart (a ∷ rest) h =
-    (not_named a.flight.callsign rest (first_apart a rest h), named_apart rest (rest_apart a rest h))
+    (not_named a.flight.callsign rest (pairs_head Apart a rest h), named_apart rest (pairs_tail Apart a rest h))

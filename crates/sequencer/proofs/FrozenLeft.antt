@@ -1,23 +1,24 @@
 -- What the frozen flights leave to the waiting ones: the last landing of all, and the delay.
-use Rattle.std.proofs.Common.{◌≡◌, ℕ, ◌+◌, ◌-◌, ◌*◌, ◌<◌, ◌≤◌, Bool, true, false, cond, ◌||◌, List, [], ◌∷◌, length, filter, Option, Some, None, nat_lt, inl, inr, refl, sym, ap, subst, ◌∙◌, arith}
-use Rattle.std.specs.Prelude.{All, MatchOption, ⊤, IsTrue, filter_map, option_map, sum_by, is_none, nat_le}
-use Rattle.std.specs.List.{list_any, cons_option}
+use Rattle.std.proofs.Common.{◌≡◌, ℕ, ◌+◌, ◌-◌, ◌*◌, ◌<◌, ◌≤◌, Bool, true, false, cond, List, [], ◌∷◌, length, filter, Option, Some, None, nat_lt, inl, inr, refl, sym, ap, subst, ◌∙◌, arith}
+use Rattle.std.specs.Prelude.{All, MatchOption, ⊤, IsTrue, filter_map, option_map, sum_by, is_none}
+use Rattle.std.specs.List.{cons_option}
 use Rattle.std.proofs.Math.Nat.{mul-le-mul_right}
-use Rattle.std.proofs.lemmas.Bool.{ltb-false, le-ltb, leb-true, and_parts}
+use Rattle.std.proofs.lemmas.Bool.{ltb-false, le-ltb}
 use Rattle.std.proofs.lemmas.List.Elements.{All-head, All-tail, All-cons, All-nil}
 use Rattle.std.proofs.lemmas.List.Sums.{sum_by-cons}
 use Rattle.wake_table.specs.declared.category.Category.{Category}
 use Rattle.landing_rules.specs.declared.objective.Objective.{Objective}
 use Rattle.landing_rules.specs.declared.objective.Objective.TheVariants.{Makespan, Delay}
 use Rattle.landing_rules.specs.Flights.{Active, Landing, Situation, Span, landing, waiting, is_waiting}
-use Rattle.landing_rules.specs.Rules.{last_second, is_within, is_open, delay}
+use Rattle.landing_rules.specs.Rules.{last_second, is_open, delay}
 use Rattle.landing_rules.specs.Events.{insert_landing, in_landing_order, frozen_landings}
 use Rattle.landing_rules.specs.Problem.{last_of, frozen_cost}
 use Rattle.landing_rules.specs.Sound.{IsSound, IsGoodFlight}
 use Rattle.landing_rules.specs.shared.Counting.{Member}
+use Rattle.landing_joint.specs.shared.LandingsInOrder.{order_rises}
+use Rattle.landing_joint.specs.shared.OpenDays.{open_in_days}
 use Rattle.sequencer.specs.Frozen.{later_at, latest, frozen_delay, delay_of, HasSmallDelay}
 use Rattle.sequencer.proofs.Rising.{Climbs}
-use Rattle.sequencer.proofs.Landings.{order_climbs}
 
 abbrev frozen_of : List Active → List Landing
 frozen_of xs = filter_map (λ a. option_map (landing a) a.frozen) xs
@@ -59,7 +60,7 @@ last_is (x ∷ xs) = go x.frozen (last_is xs)
   where
     go : (o : Option ℕ) → latest xs ≡ last_of (in_landing_order (frozen_of xs)) → later_at x.flight.category o (latest xs) ≡ last_of (in_landing_order (cons_option (option_map (landing x) o) (frozen_of xs)))
     go None ih = ih
-    go (Some t) ih = ap (later_at x.flight.category (Some t)) ih ∙ sym (last_inserted (landing x t) (in_landing_order (frozen_of xs)) (order_climbs (frozen_of xs)))
+    go (Some t) ih = ap (later_at x.flight.category (Some t)) ih ∙ sym (last_inserted (landing x t) (in_landing_order (frozen_of xs)) (order_rises (frozen_of xs)))
 
 abbrev IsLow : ℕ → Option (ℕ × Category) → Type 0
 IsLow h o = MatchOption o ⊤ (λ l. l.0 < h)
@@ -93,21 +94,6 @@ delay_is (x ∷ xs) = sum_by-cons delay_of x xs ∙ go x.frozen (delay_is xs)
     go None ih = omega arith
     go (Some t) ih = ap (λ n. delay (landing x t) + n) ih ∙ sym (sum_by-cons delay (landing x t) (frozen_of xs))
 
--- an open second lies in the two days
-inside : (t : ℕ) (ws : List Span) → All (λ w. (w.0 ≤ w.1) × (w.1 ≤ last_second)) ws → list_any (is_within t) ws ≡ true → t ≤ last_second
-inside t [] all e = absurd (cc)
-inside t (w ∷ ws) all e = go (is_within t w) refl (inside t ws (All-tail (λ (w : Span). (w.0 ≤ w.1) × (w.1 ≤ last_second)) w ws all)) e
-  where
-    go : (b : Bool) → is_within t w ≡ b → (list_any (is_within t) ws ≡ true → t ≤ last_second) → (b || list_any (is_within t) ws) ≡ true → t ≤ last_second
-    go true i ih e =
-        let le = leb-true t w.1 (and_parts (nat_le w.0 t) (nat_le t w.1) i).1 in
-        let last = (All-head (λ (w : Span). (w.0 ≤ w.1) × (w.1 ≤ last_second)) w ws all).1 in
-        omega arith
-    go false i ih e = ih e
-
-pub in_days : (ws closures : List Span) (t : ℕ) → All (λ w. (w.0 ≤ w.1) × (w.1 ≤ last_second)) ws → IsTrue (is_open ws closures t) → t ≤ last_second
-in_days ws closures t all shown = inside t ws all (and_parts _ _ shown).0
-
 abbrev IsOpenLanding : List Span → Landing → Type 0
 IsOpenLanding closures f = IsTrue (is_open f.flight.windows closures f.second)
 
@@ -125,7 +111,7 @@ small_delays closures (x ∷ xs) good shown = go x.frozen refl (small_delays clo
     go None e ih shown = All-cons HasSmallDelay x xs (at None e tt) (ih shown)
     go (Some t) e ih shown =
         let first = All-head (IsOpenLanding closures) (landing x t) (frozen_of xs) shown in
-        All-cons HasSmallDelay x xs (at (Some t) e (in_days x.flight.windows closures t here.windows.spans first)) (ih (All-tail (IsOpenLanding closures) (landing x t) (frozen_of xs) shown))
+        All-cons HasSmallDelay x xs (at (Some t) e (open_in_days x.flight.windows closures t here.windows.spans first)) (ih (All-tail (IsOpenLanding closures) (landing x t) (frozen_of xs) shown))
 
 -- of one flight at most 100 times each second of the two days, and nothing where it waits
 one_low : (a : Active) → HasSmallDelay a → delay_of a + 17279900 * cond {A = ℕ} (is_waiting a) 1 0 ≤ 17279900

@@ -1,5 +1,5 @@
 -- The frozen landings joined with a list by rank: each waiting flight stands in the order, at its rank.
-use Rattle.std.proofs.Common.{◌≡◌, ℕ, ◌+◌, ◌-◌, ◌<◌, ◌≤◌, Bool, true, false, cond, List, [], ◌∷◌, length, get_or, map, filter, inl, inr, refl, sym, ap, ap₂, ◌∙◌, arith, count_by}
+use Rattle.std.proofs.Common.{◌≡◌, ℕ, ◌+◌, ◌-◌, ◌<◌, ◌≤◌, cond, List, [], ◌∷◌, length, get_or, map, refl, sym, ap, ap₂, ◌∙◌, arith, count_by}
 use Rattle.std.specs.Prelude.{All, IsTrue, is_none, unwrap_or}
 use Rattle.std.specs.List.{list_any}
 use Rattle.std.specs.Ordering.{is_lt}
@@ -15,38 +15,20 @@ use Rattle.landing_rules.specs.Problem as problems
 use Rattle.landing_rules.specs.Problem.{IsProblemOf, IsWaitingOf, IsFeasibleList, by_rank, joined, joined_second}
 use Rattle.landing_rules.specs.Sound.{IsSound, IsGoodFlight}
 use Rattle.landing_rules.specs.shared.Counting.{Member}
+use Rattle.landing_rules.specs.shared.Members.{filter_in, map_in, member_at, member_contains, member_permutation}
 use Rattle.landing_joint.specs.RankedProblem.{no_waiting}
+use Rattle.landing_joint.specs.shared.OpenDays.{open_in_days}
 use Rattle.sequencer.specs.Ranked.{arrival_of, arrivals, second_in, IsThere}
 use Rattle.sequencer.proofs.Ranks.{rank_permutes, rank_length}
-use Rattle.sequencer.proofs.Rising.{member_at, member_contains, member_permutation}
 use Rattle.sequencer.proofs.ProblemOf.{zip_all}
-use Rattle.sequencer.proofs.FrozenLeft.{in_days}
 
 -- ---- each waiting flight is there
-
-member_filter : {X : Type 0} (p : X → Bool) (xs : List X) (x : X) → p x ≡ true → Member x xs → Member x (filter p xs)
-member_filter p [] x e m = absurd m
-member_filter p (y ∷ ys) x e (inl same) = go (p y) (ap p (sym same) ∙ e)
-  where
-    go : (b : Bool) → b ≡ true → Member x (cond b (y ∷ filter p ys) (filter p ys))
-    go true t = inl same
-    go false t = absurd (cc)
-member_filter p (y ∷ ys) x e (inr m) = go (p y) (member_filter p ys x e m)
-  where
-    go : (b : Bool) → Member x (filter p ys) → Member x (cond b (y ∷ filter p ys) (filter p ys))
-    go true n = inr n
-    go false n = n
-
-member_mapped : {X Y : Type 0} (f : X → Y) (xs : List X) (x : X) → Member x xs → Member (f x) (map f xs)
-member_mapped f [] x m = absurd m
-member_mapped f (y ∷ ys) x (inl e) = inl (ap f e)
-member_mapped f (y ∷ ys) x (inr m) = inr (member_mapped f ys x m)
 
 pub all_there : (s : Situation) → All (IsThere (arrivals (waiting s))) s.active
 all_there s k d lt none =
     let a : Active = get_or s.active k d in
-    let here : Member a (waiting s) = member_filter is_waiting s.active a (ap is_none none) (member_at s.active k d lt) in
-    member_contains (arrivals (waiting s)) (arrival_of a) (member_mapped arrival_of (by_rank (waiting s)) a (member_permutation (waiting s) (by_rank (waiting s)) a (rank_permutes (waiting s)) here))
+    let here : Member a (waiting s) = filter_in is_waiting s.active a (member_at s.active k d lt) (ap is_none none) in
+    member_contains (arrivals (waiting s)) (arrival_of a) (map_in arrival_of (by_rank (waiting s)) a (member_permutation (waiting s) (by_rank (waiting s)) a (rank_permutes (waiting s)) here))
 
 -- ---- and its rank is its place there
 
@@ -93,7 +75,7 @@ module _ (s : Situation) (p : problems.Problem) (sound : IsSound s) (of : IsProb
       let w = get_or p.flights k no_waiting in
       let days : (u : ℕ) → IsTrue (list_any (is_within u) w.open_spans) → u ≤ last_second =
       zip_all s.closures (λ a. IsGoodFlight a.flight) (λ w. (u : ℕ) → IsTrue (list_any (is_within u) w.open_spans) → u ≤ last_second)
-      (λ a w z g u o. in_days a.flight.windows s.closures u g.windows.spans (sym (z.open_spans.same u) ∙ o)) (by_rank (waiting s)) p.flights of.flights good k no_waiting within in
+      (λ a w z g u o. open_in_days a.flight.windows s.closures u g.windows.spans (sym (z.open_spans.same u) ∙ o)) (by_rank (waiting s)) p.flights of.flights good k no_waiting within in
       let here = days (get_or t k 0) (keeps.open_seconds k w (slice_get-get_or p.flights k no_waiting within)) in
       let same = get_or_default_zero t k d lt in
       omega arith

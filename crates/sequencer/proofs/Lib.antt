@@ -1,7 +1,6 @@
 pub mod Ranks
 pub mod Listed
 pub mod Rising
-pub mod Landings
 pub mod FrozenLeft
 pub mod ProblemOf
 pub mod Joined

@@ -1,13 +1,13 @@
 -- What opens is a sound situation.
 use Rattle.std.proofs.Common.{◌≡◌, ◌≢◌, ℕ, ◌+◌, ◌<◌, ◌≤◌, inl, inr, Bool, true, false, cond, ◌&&◌, ◌||◌, List, [], ◌∷◌, length, map, filter, Option, Some, None, zero, suc, refl, sym, ap, ap₂, subst, ◌∙◌, arith, leb}
-use Rattle.std.specs.Prelude.{All, AllPairs, IsTrue, filter_map, find, option_map, unwrap_or, is_none}
-use Rattle.std.specs.List.{list_any, cons_option}
+use Rattle.std.specs.Prelude.{All, AllPairs, IsTrue, find, option_map, unwrap_or, is_none}
+use Rattle.std.specs.List.{list_any}
 use Rattle.std.specs.Option.{option_or}
 use Rattle.std.specs.Str.{bytes_eq}
-use Rattle.std.proofs.lemmas.Bool.{leb-true, leb-false, le-leb, and_parts, or_parts, false≢true, true≢false}
+use Rattle.std.proofs.lemmas.Bool.{leb-true, leb-false, le-leb, and_parts, false≢true, true≢false}
 use Rattle.std.proofs.lemmas.List.{length-map}
-use Rattle.std.proofs.lemmas.List.Elements.{All-nil, All-cons, All-head, All-tail}
 use Rattle.landing_rules.specs.shared.Counting.{Member}
+use Rattle.landing_rules.specs.shared.Members.{all_at, all_from, in_filter, in_map, filter_map_in, in_frozen, none_found, none_any, fewer_kept}
 use Rattle.landing_rules.specs.shared.Tests.{is_pair_separated-Decides}
 use Rattle.landing_rules.specs.Flights.{Callsign, Flight, Active, Landing, Situation, landing, waiting, is_waiting, horizon, horizon_after}
 use Rattle.landing_rules.specs.Rules.{is_open, lists, ArePairSeparated, IsPairInPrecedence, AreSeparated, AreInPrecedence}
@@ -27,49 +27,6 @@ use Rattle.situations.specs.Opened.{opened, opening_of, CanOpen, HasRanges, IsKe
 use Rattle.situations.specs.Refused.{unless, first_from, unknown_frozen_at, unknown_passed_at, too_many_waiting, opening_fault, name_fault, given_landing, given, closed_at, clash_at, clash_from, is_not_before, lands_late, late_at, rule_fault, AreKept, OpeningLaw, PlainLaw}
 use Rattle.situations.proofs.Apart.{opened_apart}
 use Rattle.situations.proofs.Callsigns.{bytes_eq-true, bytes_eq-refl}
-
--- ---- members
-
-members_all : {X : Type 0} (P : X → Type 0) (xs : List X) → ((x : X) → Member x xs → P x) → All P xs
-members_all P [] h = All-nil P
-members_all P (x ∷ xs) h = All-cons P x xs (h x (inl refl)) (members_all P xs (λ y m. h y (inr m)))
-
-all_member : {X : Type 0} (P : X → Type 0) (xs : List X) → All P xs → (x : X) → Member x xs → P x
-all_member P [] all x m = absurd m
-all_member P (y ∷ ys) all x (inl e) = subst P (sym e) (All-head P y ys all)
-all_member P (y ∷ ys) all x (inr m) = all_member P ys (All-tail P y ys all) x m
-
-of_map : {X Y : Type 0} (f : X → Y) (xs : List X) (y : Y) → Member y (map f xs) → (x : X) × Member x xs × (y ≡ f x)
-of_map f [] y m = absurd m
-of_map f (x ∷ xs) y (inl e) = (x, inl refl, e)
-of_map f (x ∷ xs) y (inr m) = let r = of_map f xs y m in (r.0, inr r.1, r.2)
-
-of_filter : {X : Type 0} (p : X → Bool) (xs : List X) (x : X) → Member x (filter p xs) → Member x xs × (p x ≡ true)
-of_filter p [] x m = absurd m
-of_filter p (y ∷ ys) x m = go (p y) refl m (of_filter p ys x)
-  where
-    go : (b : Bool) → p y ≡ b → Member x (cond b (y ∷ filter p ys) (filter p ys)) → (Member x (filter p ys) → Member x ys × (p x ≡ true)) → Member x (y ∷ ys) × (p x ≡ true)
-    go true e (inl s) ih = (inl s, ap p s ∙ e)
-    go true e (inr k) ih = let r = ih k in (inr r.0, r.1)
-    go false e k ih = let r = ih k in (inr r.0, r.1)
-
-of_filter_map : {X Y : Type 0} (h : X → Option Y) (xs : List X) (y : Y) → Member y (filter_map h xs) → (x : X) × Member x xs × (h x ≡ Some y)
-of_filter_map h [] y m = absurd m
-of_filter_map {X = X} {Y = Y} h (x ∷ xs) y m = go (h x) refl m (of_filter_map h xs y)
-  where
-    go : (o : Option Y) → h x ≡ o → Member y (cons_option o (filter_map h xs)) → (Member y (filter_map h xs) → (z : X) × Member z xs × (h z ≡ Some y)) → (z : X) × Member z (x ∷ xs) × (h z ≡ Some y)
-    go None e k ih = let r = ih k in (r.0, inr r.1, r.2)
-    go (Some w) e (inl s) ih = (x, inl refl, e ∙ ap (λ z. Some z) (sym s))
-    go (Some w) e (inr k) ih = let r = ih k in (r.0, inr r.1, r.2)
-
-in_filter_map : {X Y : Type 0} (h : X → Option Y) (xs : List X) (x : X) (y : Y) → Member x xs → h x ≡ Some y → Member y (filter_map h xs)
-in_filter_map h [] x y m e = absurd m
-in_filter_map {X = X} {Y = Y} h (z ∷ zs) x y (inl s) e = subst (λ o. Member y (cons_option o (filter_map h zs))) (sym (ap h (sym s) ∙ e)) (inl refl)
-in_filter_map {X = X} {Y = Y} h (z ∷ zs) x y (inr m) e = go (h z) (in_filter_map h zs x y m e)
-  where
-    go : (o : Option Y) → Member y (filter_map h zs) → Member y (cons_option o (filter_map h zs))
-    go None ih = ih
-    go (Some w) ih = inr ih
 
 -- ---- what it means that no fault is found
 
@@ -100,16 +57,6 @@ clash_none table p (x ∷ xs) e g h (inr m) (inl t) n =
 clash_none table p (x ∷ xs) e g h (inr m) (inr k) n =
     clash_none table (p + 1) xs (or_none (first_from (clash_at table p x) (p + 1) xs) (clash_from table (p + 1) xs) e).1 g h m k n
 
--- none found, so no element passes
-find_none : {X : Type 0} (p : X → Bool) (xs : List X) → find p xs ≡ None → (x : X) → Member x xs → p x ≡ false
-find_none p [] e x m = absurd m
-find_none p (y ∷ ys) e x m = go (p y) refl e m (λ k. find_none p ys k x)
-  where
-    go : (b : Bool) → p y ≡ b → cond b (Some y) (find p ys) ≡ None → Member x (y ∷ ys) → (find p ys ≡ None → Member x ys → p x ≡ false) → p x ≡ false
-    go true k e m ih = absurd (cc)
-    go false k e (inl s) ih = ap p s ∙ k
-    go false k e (inr r) ih = ih e r
-
 map_none : {X Y : Type 0} (f : X → Y) (o : Option X) → option_map f o ≡ None → o ≡ None
 map_none f None e = refl
 map_none f (Some x) e = absurd (cc)
@@ -121,11 +68,6 @@ any_member {X = X} p (x ∷ xs) e = go (p x) refl e (any_member p xs)
     go : (b : Bool) → p x ≡ b → (b || list_any p xs) ≡ true → (list_any p xs ≡ true → (z : X) × Member z xs × (p z ≡ true)) → (z : X) × Member z (x ∷ xs) × (p z ≡ true)
     go true k e ih = (x, inl refl, k)
     go false k e ih = let r = ih e in (r.0, inr r.1, r.2)
-
-none_member : {X : Type 0} (p : X → Bool) (xs : List X) → list_any p xs ≡ false → (x : X) → Member x xs → p x ≡ false
-none_member p [] e x m = absurd m
-none_member p (y ∷ ys) e x (inl s) = ap p s ∙ (or_parts (p y) (list_any p ys) e).0
-none_member p (y ∷ ys) e x (inr m) = none_member p ys (or_parts (p y) (list_any p ys) e).1 x m
 
 -- ---- entries, and the flights that they name
 
@@ -147,7 +89,7 @@ find_own x (y ∷ ys) apart (inl s) =
     let same : bytes_eq y.flight.callsign x.flight.callsign ≡ true = ap (λ (z : Active). bytes_eq y.flight.callsign z.flight.callsign) s ∙ bytes_eq-refl y.flight.callsign in
     ap (λ b. cond b (Some y) (find (named x.flight.callsign) ys)) same ∙ ap (λ z. Some z) (sym s)
 find_own x (y ∷ ys) apart (inr m) =
-    let n : y.flight.callsign ≢ x.flight.callsign = all_member (Differ y) ys (λ k d lt. apart zero (suc k) d (omega arith) (omega arith)) x m in
+    let n : y.flight.callsign ≢ x.flight.callsign = all_at (Differ y) ys (λ k d lt. apart zero (suc k) d (omega arith) (omega arith)) x m in
     let other : bytes_eq y.flight.callsign x.flight.callsign ≡ false = differ y.flight.callsign x.flight.callsign n in
     ap (λ b. cond b (Some y) (find (named x.flight.callsign) ys)) other
     ∙ find_own x ys (λ i j d l k. apart (suc i) (suc j) d (omega arith) (omega arith)) m
@@ -158,9 +100,6 @@ find_own x (y ∷ ys) apart (inr m) =
         go : (b : Bool) → bytes_eq c d ≡ b → b ≡ false
         go true e = absurd (n (bytes_eq-true c d e))
         go false e = refl
-
-some_same : {X : Type 0} (x y : X) → Some x ≡ Some y → x ≡ y
-some_same x y e = cc
 
 module _ (a : Aerodrome) (fs : List files.Flight) (kept : AreKept a fs) (can : CanOpen a fs) (none : opening_fault a fs ≡ None) where
   abbrev s : Situation
@@ -204,9 +143,9 @@ module _ (a : Aerodrome) (fs : List files.Flight) (kept : AreKept a fs) (can : C
   length_active = length-map (map flight_of fs) made ∙ length-map fs flight_of
 
   each_active : (P : Active → Type 0) → ((f : files.Flight) → Member f fs → P (made (flight_of f))) → All P s.active
-  each_active P h = members_all P s.active (λ x m.
-      let y = of_map made (map flight_of fs) x m in
-      let f = of_map flight_of fs y.0 y.1 in
+  each_active P h = all_from P s.active (λ x m.
+      let y = in_map made (map flight_of fs) x m in
+      let f = in_map flight_of fs y.0 y.1 in
       subst P (sym (y.2 ∙ ap made f.2)) (h f.0 f.1))
 
   apart : AllPairs Differ s.active
@@ -214,15 +153,15 @@ module _ (a : Aerodrome) (fs : List files.Flight) (kept : AreKept a fs) (can : C
 
   good : All (λ (x : Active). IsGoodFlight x.flight) s.active
   good = each_active (λ x. IsGoodFlight x.flight) (λ f m.
-      let h = all_member (λ (f : files.Flight). IsKept (flight_of f)) fs kept.flights f m in
-      let r = all_member HasRanges fs can.flights f m in
+      let h = all_at (λ (f : files.Flight). IsKept (flight_of f)) fs kept.flights f m in
+      let r = all_at HasRanges fs can.flights f m in
       record { callsign = h.callsign; eta = r.eta; weight = r.weight; windows = h.windows; after = h.after })
 
   count_of : (f : files.Flight) (o : Option ℕ) → look_up f.callsign (map (λ (p : PassedCount). (p.callsign, p.count)) a.passed) ≡ o → unwrap_or o 0 ≤ a.k
   count_of f None e = omega arith
   count_of f (Some n) e =
       let p = look_from (λ (p : PassedCount). (p.callsign, p.count)) f.callsign a.passed n e in
-      let h = all_member (λ (p : PassedCount). (1 ≤ p.count) × (p.count ≤ a.k)) a.passed can.aerodrome.passed.counts p.0 p.1 in
+      let h = all_at (λ (p : PassedCount). (1 ≤ p.count) × (p.count ≤ a.k)) a.passed can.aerodrome.passed.counts p.0 p.1 in
       let k : p.0.count ≤ a.k = h.1 in
       let same : p.0.count ≡ n = p.3 in
       omega arith
@@ -247,22 +186,15 @@ module _ (a : Aerodrome) (fs : List files.Flight) (kept : AreKept a fs) (can : C
 
   frozen_of : (f : Landing) → Member f (frozen_landings s) → (x : Active) × Member x s.active × (x.frozen ≡ Some f.second) × (f ≡ landing x f.second)
   frozen_of f m =
-      let r = of_filter_map (λ (x : Active). option_map (landing x) x.frozen) s.active f m in
-      let h = go r.0 r.0.frozen refl r.2 in
-      (r.0, r.1, h.0, h.1)
-    where
-      go : (x : Active) (o : Option ℕ) → x.frozen ≡ o → option_map (landing x) o ≡ Some f → (x.frozen ≡ Some f.second) × (f ≡ landing x f.second)
-      go x None k e = absurd (cc)
-      go x (Some t) k e =
-          let same : landing x t ≡ f = some_same (landing x t) f e in
-          let at : t ≡ f.second = ap (λ (g : Landing). g.second) same in
-          (k ∙ ap (λ z. Some z) at, sym same ∙ ap (landing x) at)
+      let r = in_frozen s.active f m in
+      let at : r.1 ≡ f.second = sym (ap (λ (g : Landing). g.second) r.4) in
+      (r.0, r.2, r.3 ∙ ap (λ z. Some z) at, r.4 ∙ ap (landing r.0) at)
 
   of_file : (f : Landing) → Member f (frozen_landings s) → IsOfFile f
   of_file f m =
       let x = frozen_of f m in
-      let y = of_map made (map flight_of fs) x.0 x.1 in
-      let g = of_map flight_of fs y.0 y.1 in
+      let y = in_map made (map flight_of fs) x.0 x.1 in
+      let g = in_map flight_of fs y.0 y.1 in
       let own : x.0 ≡ made (flight_of g.0) = y.2 ∙ ap made g.2 in
       let looked : look_up g.0.callsign (map (λ (e : FrozenLanding). (e.callsign, e.second)) a.frozen) ≡ Some f.second = sym (ap (λ (z : Active). z.frozen) own) ∙ x.2 in
       let e = look_from (λ (e : FrozenLanding). (e.callsign, e.second)) g.0.callsign a.frozen f.second looked in
@@ -280,19 +212,19 @@ module _ (a : Aerodrome) (fs : List files.Flight) (kept : AreKept a fs) (can : C
         entry = e.0;
         in_file = e.1;
         second = e.3;
-        in_all = in_filter_map (given_landing s.active) a.frozen e.0 f e.1 given_own;
+        in_all = filter_map_in (given_landing s.active) a.frozen e.0 f e.1 given_own;
       }
 
   -- ---- and keep the rules
 
   open_all : All (λ (f : Landing). IsTrue (is_open f.flight.windows a.closures f.second)) (frozen_landings s)
-  open_all = members_all (λ (f : Landing). IsTrue (is_open f.flight.windows a.closures f.second)) (frozen_landings s) (λ f m.
+  open_all = all_from (λ (f : Landing). IsTrue (is_open f.flight.windows a.closures f.second)) (frozen_landings s) (λ f m.
       let h = first_none (closed_at a.closures) 1 all no_closed f (of_file f m).in_all in
       unless_none (is_open f.flight.windows a.closures f.second) (fault.FrozenClosed h.0) h.1)
 
   separated : AreSeparated a.table (frozen_landings s)
-  separated = members_all (λ f. All (ArePairSeparated a.table f) (frozen_landings s)) (frozen_landings s) (λ f m.
-      members_all (ArePairSeparated a.table f) (frozen_landings s) (λ g k n.
+  separated = all_from (λ f. All (ArePairSeparated a.table f) (frozen_landings s)) (frozen_landings s) (λ f m.
+      all_from (ArePairSeparated a.table f) (frozen_landings s) (λ g k n.
       (is_pair_separated-Decides a.table f g).0 (clash_none a.table 1 all no_clash f g (of_file f m).in_all (of_file g k).in_all n) n))
 
   -- one that a frozen flight lists is frozen at an earlier second
@@ -302,14 +234,14 @@ module _ (a : Aerodrome) (fs : List files.Flight) (kept : AreKept a fs) (can : C
       let no = map_none (fault.FrozenPrecedence h.0) (find (lands_late s.active g.second) g.flight.after) h.1 in
       let d = any_member (λ d. bytes_eq d x.flight.callsign) g.flight.after e in
       let is : d.0 ≡ x.flight.callsign = bytes_eq-true d.0 x.flight.callsign d.2 in
-      let early = find_none (lands_late s.active g.second) g.flight.after no d.0 d.1 in
-      let test = none_member (λ (z : Active). named d.0 z && is_not_before g.second z.frozen) s.active early x k in
+      let early = none_found (lands_late s.active g.second) g.flight.after d.0 no d.1 in
+      let test = none_any (λ (z : Active). named d.0 z && is_not_before g.second z.frozen) s.active x early k in
       let same : named d.0 x ≡ true = ap (bytes_eq x.flight.callsign) is ∙ bytes_eq-refl x.flight.callsign in
       sym (ap (λ b. b && is_not_before g.second x.frozen) same) ∙ test
 
   in_precedence : AreInPrecedence (frozen_landings s)
-  in_precedence = members_all (λ f. All (IsPairInPrecedence f) (frozen_landings s)) (frozen_landings s) (λ f m.
-      members_all (IsPairInPrecedence f) (frozen_landings s) (λ g k l.
+  in_precedence = all_from (λ f. All (IsPairInPrecedence f) (frozen_landings s)) (frozen_landings s) (λ f m.
+      all_from (IsPairInPrecedence f) (frozen_landings s) (λ g k l.
       let o = of_file f m in
       let c : f.flight.callsign ≡ o.flight.flight.callsign = ap (λ (z : Landing). z.flight.callsign) o.is in
       let early = earlier g k o.flight o.active (sym (ap (lists g.flight) c) ∙ l) in
@@ -319,9 +251,9 @@ module _ (a : Aerodrome) (fs : List files.Flight) (kept : AreKept a fs) (can : C
       lt a b e = leb-false a b e
 
   alone : All (ListsNone (waiting s)) (frozen_landings s)
-  alone = members_all (ListsNone (waiting s)) (frozen_landings s) (λ f m.
-      members_all (λ (x : Active). lists f.flight x.flight.callsign ≡ false) (waiting s) (λ x k.
-      let w = of_filter is_waiting s.active x k in
+  alone = all_from (ListsNone (waiting s)) (frozen_landings s) (λ f m.
+      all_from (λ (x : Active). lists f.flight x.flight.callsign ≡ false) (waiting s) (λ x k.
+      let w = in_filter is_waiting s.active x k in
       go f m x w.0 w.1 (lists f.flight x.flight.callsign) refl))
     where
       waits_on : (t : ℕ) (o : Option ℕ) → is_none o ≡ true → is_not_before t o ≡ true
@@ -333,13 +265,13 @@ module _ (a : Aerodrome) (fs : List files.Flight) (kept : AreKept a fs) (can : C
       go f m x k w false e = refl
 
   before : All (λ (f : Landing). f.second < horizon s) (frozen_landings s)
-  before = members_all (λ (f : Landing). f.second < horizon s) (frozen_landings s) (λ f m.
+  before = all_from (λ (f : Landing). f.second < horizon s) (frozen_landings s) (λ f m.
       let o = of_file f m in
       subst (λ t. t < horizon s) o.second (go a.clock a.frozen can.aerodrome.frozen o.entry o.in_file))
     where
       go : (clock : Option ℕ) (frozen : List FrozenLanding) → AreFrozenBy clock a.freeze frozen → (e : FrozenLanding) → Member e frozen → e.second < horizon_after clock a.freeze
       go None frozen h e m = absurd (subst (Member e) h m)
-      go (Some now) frozen h e m = (all_member (IsFrozen now a.freeze) frozen h.seconds e m).early
+      go (Some now) frozen h e m = (all_at (IsFrozen now a.freeze) frozen h.seconds e m).early
 
   pub sound : IsSound s
   sound = record {
@@ -363,19 +295,11 @@ opening_sound a fs kept openable = sound a fs kept openable.0 openable.1
 
 -- ---- files without entries
 
-few_pass : {X : Type 0} (p : X → Bool) (xs : List X) → length (filter p xs) ≤ length xs
-few_pass p [] = omega arith
-few_pass p (x ∷ xs) = go (p x) (few_pass p xs)
-  where
-    go : (b : Bool) → length (filter p xs) ≤ length xs → length (cond b (x ∷ filter p xs) (filter p xs)) ≤ suc (length xs)
-    go true le = omega arith
-    go false le = omega arith
-
 pub plain_opening : PlainLaw
 plain_opening a fs no_frozen no_passed few =
     let active = (opened a fs).active in
     let n : length active ≡ length fs = length-map (map flight_of fs) (opening_flight (opening_of a)) ∙ length-map fs flight_of in
-    let wait : length (filter is_waiting active) ≤ 60 = omega (arith, few_pass is_waiting active) in
+    let wait : length (filter is_waiting active) ≤ 60 = omega (arith, fewer_kept is_waiting active) in
     let enough : too_many_waiting active ≡ None = ap (λ b. unless b (fault.TooManyWaiting (length (filter is_waiting active)))) (le-leb (length (filter is_waiting active)) 60 wait) in
     let names : name_fault a active ≡ None =
     ap₂ (λ f p. option_or (first_from (unknown_frozen_at active) 1 f) (option_or (first_from (unknown_passed_at active) 1 p) (too_many_waiting active))) no_frozen no_passed ∙ enough in

@@ -7,13 +7,13 @@ use Rattle.std.proofs.lemmas.List.Elements.{Contains-get_or}
 use Rattle.std.proofs.lemmas.Bool.{cases_eq}
 use Rattle.cps_nodes.specs.Windows.{IsWindow, offset_at, shifted}
 use Rattle.cps_nodes.specs.Leads.{Extends, TailMeetsHead}
-use Rattle.cps_nodes.specs.Laws.{offset_after}
+use Rattle.cps_nodes.specs.Laws.{FollowRanks, LeadOn, offset_after}
 use Rattle.landing_rules.specs.Problem.{Problem}
 use Rattle.cps_network.specs.Groups.{IsGroup}
 use Rattle.cps_network.specs.Landable.{IsLandable, HoldsLandable}
 use Rattle.cps_network.specs.Lists.{node_at}
-use Rattle.cps_network.specs.Nodes.{latest}
-use Rattle.cps_network.specs.Permits.{IsSuccessor, IsNextOf}
+use Rattle.cps_network.specs.Nodes.{IsWindowNetwork, latest}
+use Rattle.cps_network.specs.Permits.{IsSuccessor, IsNextOf, LeadAlike}
 use Rattle.cps_network.specs.WindowLaws.{WindowLaws}
 use Rattle.cps_network.specs.shared.LegalWindows.{valid_after, landable_valid, landable_last, next_last}
 
@@ -165,6 +165,13 @@ module _ (p : Problem) (w stage : ℕ) (before : List (List ℤ)) (v : List ℤ)
       }
 
 -- ---- as the calls have it
+
+-- from the laws one by one
+pub sources_of : (p : Problem) (w : ℕ) (before : ℕ × List (List ℤ)) (v : List ℤ) (from to : ℕ) → w ≡ 2 * p.k + 1 → IsWindowNetwork p → LeadAlike p w → FollowRanks w → LeadOn w
+    → HoldsLandable p before → (x : List ℤ) × Contains before.1 x × IsSuccessor p before.0 x v → to ≤ length before.1
+    → ((j : ℕ) → j < length before.1 → Extends (node_at before.1 j) v ↔ ((from ≤ j) × (j < to))) → Sources p w before.0 before.1 v from to
+sources_of p w before v from to odd network alike ranks leads holds node within exact =
+    record { odd = odd; laws = record { network = network; alike = alike; ranks = ranks; leads = leads }; holds = holds; node = node; within = within; exact = exact }
 
 pub sources_from : (p : Problem) (w : ℕ) (before after : ℕ × List (List ℤ)) (i from to : ℕ) → w ≡ 2 * p.k + 1 → WindowLaws p w → HoldsLandable p before
     → IsNextOf p before.0 before.1 after.1 → i < length after.1 → to ≤ length before.1

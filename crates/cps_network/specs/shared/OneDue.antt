@@ -18,11 +18,12 @@ never_both x y a b = less_greater (sym a ∙ window_cmp_total.antisymm x y ∙ a
     less_greater : ◌≡◌ {A = Ordering} Less Greater → ⊥
     less_greater e = cc
 
-tail_ascends : (x : List ℤ) (xs : List (List ℤ)) → IsAscending (x ∷ xs) → IsAscending xs
+-- without its first an ascending list ascends
+pub tail_ascends : (x : List ℤ) (xs : List (List ℤ)) → IsAscending (x ∷ xs) → IsAscending xs
 tail_ascends x xs up i j lt within = up (suc i) (suc j) (omega arith) (omega arith)
 
 -- an element behind the first is greater than it
-behind_first : (x : List ℤ) (xs : List (List ℤ)) → IsAscending (x ∷ xs) → (z : List ℤ) → Contains xs z → window_cmp x z ≡ Less
+pub behind_first : (x : List ℤ) (xs : List (List ℤ)) → IsAscending (x ∷ xs) → (z : List ℤ) → Contains xs z → window_cmp x z ≡ Less
 behind_first x xs up z (i, lt, at) =
     subst (λ (w : List ℤ). window_cmp x w ≡ Less) (get_or_default xs i [] z lt ∙ at) (up 0 (suc i) (omega arith) (omega arith))
 

@@ -1,44 +1,31 @@
 -- One landing more and one landing back, with the pairs that windows attain.
 use Rattle.std.proofs.Common.{◌≡◌, ℕ, zero, suc, ◌<◌, ◌≤◌, inl, inr, List, [], ◌∷◌, length, Some, true, sym, ap, subst, ◌∙◌, arith}
 use Rattle.std.specs.Prelude.{ℤ}
-use Rattle.std.proofs.Math.Nat.{mul-le-mul_left}
 use Rattle.std.proofs.lemmas.List.{get_or_default}
 use Rattle.cps_nodes.specs.Windows.{shifted}
 use Rattle.cps_nodes.specs.Laws.{offset_after}
-use Rattle.cps_theory.specs.Labels.{InPairs, NeverCheaper, NoWorse, Pair}
+use Rattle.cps_theory.specs.Labels.{InPairs, NoWorse, Pair}
 use Rattle.cps_theory.specs.LegalPrefix.{Legal}
 use Rattle.cps_theory.specs.Feasible.{next_from}
 use Rattle.cps_theory.specs.Network.{Undominated}
-use Rattle.cps_theory.specs.RankLists.{of_rank}
 use Rattle.cps_theory.specs.laws.LabelDominance.{next_covers}
 use Rattle.cps_theory.specs.laws.LeastObjective.{next_later}
 use Rattle.cps_theory.specs.laws.NetworkLabels.{attained_next, attained_source}
-use Rattle.landing_joint.specs.RankedProblem.{no_waiting, ranked, first_at, cost_at, cost_by}
+use Rattle.landing_joint.specs.RankedProblem.{ranked, first_at, cost_at}
+use Rattle.landing_joint.specs.shared.FirstBestLists.{costs_rise}
 use Rattle.landing_joint.specs.shared.FirstOpen.{is_first_open}
-use Rattle.landing_rules.specs.declared.objective.Objective.{Objective}
-use Rattle.landing_rules.specs.declared.objective.Objective.TheVariants.{Makespan, Delay}
-use Rattle.landing_rules.specs.Problem.{Problem, Waiting}
+use Rattle.landing_rules.specs.Problem.{Problem}
 use Rattle.cps_network.specs.Landable.{Attains, IsLandable}
 use Rattle.cps_network.specs.Lists.{node_at}
 use Rattle.cps_network.specs.Nodes.{Node, node_of, permits, land, latest, IsWindowNetwork}
 use Rattle.cps_network.specs.Pairs.{HoldsCosts, GivesPair, list_at, pair_at, successor}
-
--- ---- costs
-
-cost_rises : (o : Objective) (f : Waiting) (t u : ℕ) → t ≤ u → cost_by o f t ≤ cost_by o f u
-cost_rises Makespan f t u le = omega arith
-cost_rises Delay f t u le = mul-le-mul_left f.weight (omega arith)
-
--- a later landing of a flight costs no less
-pub dearer : (p : Problem) → NeverCheaper (cost_at p)
-dearer p = record { mono = λ r t u le. cost_rises p.objective (of_rank no_waiting p.flights r) t u le }
 
 -- ---- the pair behind a pair
 
 module _ (p : Problem) (net : IsWindowNetwork p) where
   pub next_attained : (w : Node) (a : Pair) (r : ℕ) (b : Pair) → Attains p w.0 w.1 a → permits p w r → successor p (latest w) a r ≡ Some b → Attains p (suc w.0) (shifted w.1 (offset_after w.0 r)) b
   next_attained w a r b at may e =
-      attained_next Node (λ s u. (ranked p).is_open s u ≡ true) (first_at p) (next_from (ranked p)) (cost_at p) (Legal (ranked p).rules) (node_of p.k) (permits p) land latest (is_first_open p) (next_later (ranked p)) (dearer p) net
+      attained_next Node (λ s u. (ranked p).is_open s u ≡ true) (first_at p) (next_from (ranked p)) (cost_at p) (Legal (ranked p).rules) (node_of p.k) (permits p) land latest (is_first_open p) (next_later (ranked p)) (costs_rise p) net
       w a r b at may e
 
 -- ---- the pair before a pair
@@ -56,7 +43,7 @@ at_in (x ∷ xs) (suc i) q lt e = inr (at_in xs i q (omega arith) e)
 module _ (p : Problem) (net : IsWindowNetwork p) (before : ℕ × List (List ℤ)) (lists : List (List Pair)) (held : HoldsCosts p before lists) where
   -- an undominated pair of a window of the next stage is the successor of a listed pair
   pub listed_given : (v : List ℤ) (q : Pair) → Undominated (Attains p (suc before.0) v) q → (j : ℕ) × (index : ℕ) × GivesPair p before lists v q j index
-  listed_given v q u = elim (attained_source Node (λ s t. (ranked p).is_open s t ≡ true) (first_at p) (next_from (ranked p)) (cost_at p) (Legal (ranked p).rules) (node_of p.k) (permits p) land latest (is_first_open p) (next_later (ranked p)) (dearer p) net (suc before.0, v) q u.attained) [
+  listed_given v q u = elim (attained_source Node (λ s t. (ranked p).is_open s t ≡ true) (first_at p) (next_from (ranked p)) (cost_at p) (Legal (ranked p).rules) (node_of p.k) (permits p) land latest (is_first_open p) (next_later (ranked p)) (costs_rise p) net (suc before.0, v) q u.attained) [
     | inl z ↦ absurd (never (ap (λ (n : Node). n.0) z.0))
     | inr z ↦ (
         let same : z.0.0 ≡ before.0 = less (ap (λ (n : Node). n.0) z.5) in
@@ -70,7 +57,7 @@ module _ (p : Problem) (net : IsWindowNetwork p) (before : ℕ × List (List ℤ
         let late : next_from (ranked p) (latest (before.0, node_at before.1 has.0)) z.2.0 z.1 ≤ q.0 = subst (λ (n : Node). next_from (ranked p) (latest n) z.2.0 z.1 ≤ q.0) at z.7 in
         let o = (held.costs.pairs has.0 has.1).covers z.2 a in
         let b : Attains p before.0 (node_at before.1 has.0) o.0 = (((held.costs.pairs has.0 has.1).undominated o.0).0 o.1).attained in
-        let c = next_covers (λ s t. (ranked p).is_open s t ≡ true) (first_at p) (next_from (ranked p)) (cost_at p) (is_first_open p) (next_later (ranked p)) (dearer p) (latest (before.0, node_at before.1 has.0)) o.0 z.2 z.1 q.0 o.2 z.6 late in
+        let c = next_covers (λ s t. (ranked p).is_open s t ≡ true) (first_at p) (next_from (ranked p)) (cost_at p) (is_first_open p) (next_later (ranked p)) (costs_rise p) (latest (before.0, node_at before.1 has.0)) o.0 z.2 z.1 q.0 o.2 z.6 late in
         let d : Attains p (suc before.0) v c.0 = subst (λ (y : List ℤ). Attains p (suc before.0) y c.0) (sym next) (next_attained p net (before.0, node_at before.1 has.0) o.0 z.1 c.0 b may c.1) in
         let nw : NoWorse c.0 q = (c.2.0, (let m = c.2.1 in omega (arith, m, z.8))) in
         let e : c.0 ≡ q = u.best c.0 d nw in

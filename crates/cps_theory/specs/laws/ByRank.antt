@@ -1,10 +1,11 @@
 -- Flights by rank, the first of rank 1: a list read by rank is the list again, and keeps its order.
-use Rattle.std.proofs.Common.{◌≡◌, ℕ, zero, suc, ◌<◌, ◌≤◌, inl, inr, Bool, true, ◌&&◌, ◌||◌, List, [], ◌∷◌, ◌++◌, length, map, get_or, refl, sym, ap, ap₂, subst, ◌∙◌, arith}
-use Rattle.std.specs.Prelude.{Contains, IsPermutation, nat_eq}
+use Rattle.std.proofs.Common.{◌≡◌, ℕ, zero, suc, ◌<◌, ◌≤◌, inl, inr, Bool, true, List, [], ◌∷◌, ◌++◌, length, map, get_or, refl, sym, ap, ap₂, subst, ◌∙◌, arith}
+use Rattle.std.specs.Prelude.{IsPermutation}
 use Rattle.std.specs.List.{AllZip}
-use Rattle.std.proofs.lemmas.Bool.{eqb-true, eq-eqb, or_cases, or_left, or_right, and_parts, and_from, false≢true}
+pub use Rattle.std.proofs.lemmas.List.{get_or_past as get_past}
+use Rattle.std.proofs.lemmas.Slice.Zip.{AllZip-long}
 use Rattle.std.proofs.lemmas.List.Sorted.{IsPermutation-refl, IsPermutation-cons, IsPermutation-trans, IsPermutation-to_front}
-use Rattle.cps_theory.specs.RankLists.{In, IsRank, Ordered, has_pair, of_rank, upto}
+use Rattle.cps_theory.specs.RankLists.{In, IsRank, Ordered, of_rank, upto}
 
 at_suc : {X : Type 0} (d x : X) (xs : List X) (r : ℕ) → 1 ≤ r → of_rank d (x ∷ xs) (suc r) ≡ of_rank d xs r
 at_suc d x xs zero one = absurd (omega arith)
@@ -47,29 +48,7 @@ ordered_at before d (x ∷ xs) o (suc zero) (suc (suc r)) one lt le = o.0 (get_o
 ordered_at before d (x ∷ xs) o (suc (suc q)) (suc zero) one lt le = absurd (omega arith)
 ordered_at before d (x ∷ xs) o (suc (suc q)) (suc (suc r)) one lt le = ordered_at before d xs o.1 (suc q) (suc r) (omega arith) (omega arith) (omega arith)
 
--- ---- pairs of a leader and a follower, as a test
-
-pub has_contains : (pairs : List (ℕ × ℕ)) (q r : ℕ) → has_pair pairs q r ≡ true → Contains pairs (q, r)
-has_contains [] q r e = absurd (false≢true e)
-has_contains (x ∷ pairs) q r e = elim (or_cases (nat_eq x.0 q && nat_eq x.1 r) (has_pair pairs q r) e) [
-  | inl h ↦ (let a = and_parts (nat_eq x.0 q) (nat_eq x.1 r) h in (0, omega arith, ap₂ (λ (u v : ℕ). (u, v)) (eqb-true x.0 q a.0) (eqb-true x.1 r a.1)))
-  | inr h ↦ (let c = has_contains pairs q r h in (suc c.0, (let l = c.1 in omega arith), c.2))
-]
-
-pub contains_has : (pairs : List (ℕ × ℕ)) (q r : ℕ) → Contains pairs (q, r) → has_pair pairs q r ≡ true
-contains_has [] q r c = absurd (let l = c.1 in omega arith)
-contains_has (x ∷ pairs) q r c = go c.0 c.1 c.2 (λ d. contains_has pairs q r d)
-  where
-    go : (k : ℕ) → k < length (x ∷ pairs) → get_or (x ∷ pairs) k (q, r) ≡ (q, r) → (Contains pairs (q, r) → has_pair pairs q r ≡ true) → (nat_eq x.0 q && nat_eq x.1 r || has_pair pairs q r) ≡ true
-    go zero l e ih = or_left (nat_eq x.0 q && nat_eq x.1 r) (has_pair pairs q r) (and_from (nat_eq x.0 q) (nat_eq x.1 r) (eq-eqb x.0 q (ap (λ (y : ℕ × ℕ). y.0) e)) (eq-eqb x.1 r (ap (λ (y : ℕ × ℕ). y.1) e)))
-    go (suc k) l e ih = or_right (nat_eq x.0 q && nat_eq x.1 r) (has_pair pairs q r) (ih (k, omega arith, e))
-
 -- ---- reads
-
-pub get_past : {X : Type 0} (xs : List X) (i : ℕ) (d : X) → length xs ≤ i → get_or xs i d ≡ d
-get_past [] i d le = refl
-get_past (x ∷ xs) zero d le = absurd (omega arith)
-get_past (x ∷ xs) (suc i) d le = get_past xs i d (omega arith)
 
 pub zip_at : {X Y : Type 0} (Q : X → Y → Type 0) (xs : List X) (ys : List Y) → AllZip Q xs ys → (i : ℕ) (d : X) (e : Y) → i < length xs → Q (get_or xs i d) (get_or ys i e)
 zip_at Q [] ys a i d e lt = absurd (omega arith)
@@ -78,7 +57,4 @@ zip_at Q (x ∷ xs) (y ∷ ys) a zero d e lt = a.0
 zip_at Q (x ∷ xs) (y ∷ ys) a (suc i) d e lt = zip_at Q xs ys a.1 i d e (omega arith)
 
 pub zip_long : {X Y : Type 0} (Q : X → Y → Type 0) (xs : List X) (ys : List Y) → AllZip Q xs ys → length xs ≡ length ys
-zip_long Q [] [] a = refl
-zip_long Q [] (y ∷ ys) a = absurd a
-zip_long Q (x ∷ xs) [] a = absurd a
-zip_long Q (x ∷ xs) (y ∷ ys) a = ap suc (zip_long Q xs ys a.1)
+zip_long Q xs ys a = sym (AllZip-long Q xs ys a)

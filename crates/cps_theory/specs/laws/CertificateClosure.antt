@@ -1,8 +1,8 @@
 -- Listed states of which no successor pair is missed are closed under successor pairs.
-use Rattle.std.proofs.Common.{◌≡◌, ℕ, ◌+◌, inl, inr, Bool, true, false, not, ◌&&◌, leb, List, [], ◌∷◌, Option, Some, None, refl, sym, ap, subst, ◌∙◌, arith}
+use Rattle.std.proofs.Common.{◌≡◌, ℕ, ◌+◌, inl, inr, Bool, true, false, ◌&&◌, List, [], ◌∷◌, Option, Some, None, refl, sym, ap, subst, ◌∙◌, arith}
 use Rattle.std.specs.List.{list_any}
 use Rattle.std.specs.Ordering.{is_eq}
-use Rattle.std.proofs.lemmas.Bool.{leb-true, or_cases, or_parts, and_parts}
+use Rattle.std.proofs.lemmas.Bool.{or_cases, or_parts, and_parts, not-false}
 use Rattle.cps_theory.specs.Labels.{InPairs, NoWorse, Pair, next_pair, no_worse}
 use Rattle.cps_theory.specs.LegalPrefix.{OrderRules}
 use Rattle.cps_theory.specs.Patterns.{PatternNode, PatternPermits, pattern_newest, pattern_node, pattern_push}
@@ -11,20 +11,17 @@ use Rattle.cps_theory.specs.CertificateClosure.{IsListed, IsListedOrStart, cover
 use Rattle.cps_theory.specs.laws.FirstFound.{from_none, or_none, with_number_none}
 use Rattle.cps_theory.specs.laws.NodeOrder.{node_tie, eq_of}
 use Rattle.cps_theory.specs.laws.PatternTests.{permits_is}
+use Rattle.cps_theory.specs.laws.UndominatedPairs.{no_worse_true}
 
 and_false : (a b : Bool) → a && b ≡ false → a ≡ true → b ≡ false
 and_false true b e p = e
 and_false false b e p = absurd (cc)
 
-not_false : (a : Bool) → not a ≡ false → a ≡ true
-not_false true e = refl
-not_false false e = absurd (cc)
-
-some_no_worse : (q : Pair) (ps : List Pair) → list_any (λ o. no_worse o q) ps ≡ true → (o : Pair) × InPairs o ps × NoWorse o q
-some_no_worse q [] e = absurd (cc)
-some_no_worse q (o ∷ ps) e = elim (or_cases (no_worse o q) (list_any (λ o. no_worse o q) ps) e) [
-  | inl h ↦ let t = and_parts (leb o.0 q.0) (leb o.1 q.1) h in (o, inl refl, (leb-true o.0 q.0 t.0, leb-true o.1 q.1 t.1))
-  | inr h ↦ let m = some_no_worse q ps h in (m.0, inr m.1, m.2)
+no_worse_found : (q : Pair) (ps : List Pair) → list_any (λ o. no_worse o q) ps ≡ true → (o : Pair) × InPairs o ps × NoWorse o q
+no_worse_found q [] e = absurd (cc)
+no_worse_found q (o ∷ ps) e = elim (or_cases (no_worse o q) (list_any (λ o. no_worse o q) ps) e) [
+  | inl h ↦ (o, inl refl, no_worse_true o q h)
+  | inr h ↦ let m = no_worse_found q ps h in (m.0, inr m.1, m.2)
 ]
 
 any_false : (p : Pair → Bool) (b : Pair) (ps : List Pair) → list_any p ps ≡ false → InPairs b ps → p b ≡ false
@@ -39,7 +36,7 @@ module _ {S : Type 0} (node_of : S → PatternNode) (pairs_of : S → List Pair)
   covers_listed w q (s ∷ ss) e = elim (or_cases (covers_at node_of pairs_of w q s) (covers node_of pairs_of ss w q) e) [
     | inl h ↦
         let t = and_parts (is_eq (node_cmp (node_of s) w)) (list_any (λ o. no_worse o q) (pairs_of s)) h in
-        let m = some_no_worse q (pairs_of s) t.1 in
+        let m = no_worse_found q (pairs_of s) t.1 in
         (m.0, inl (node_tie (node_of s) w (eq_of _ t.0), m.1), m.2)
     | inr h ↦ let m = covers_listed w q ss h in (m.0, inr m.1, m.2)
   ]
@@ -53,7 +50,7 @@ module _ {S : Type 0} (node_of : S → PatternNode) (pairs_of : S → List Pair)
         let quiet = and_false (permits_next g w r) (list_any (is_missed node_of pairs_of g first after cost all w r) pairs) out (permits_is g w r m) in
         let kept = any_false (is_missed node_of pairs_of g first after cost all w r) b pairs quiet i in
         let left : is_not_covered node_of pairs_of all (pattern_push g w r) (Some q) ≡ false = ap (is_not_covered node_of pairs_of all (pattern_push g w r)) (sym n) ∙ kept in
-        not_false (covers node_of pairs_of all (pattern_push g w r) q) left
+        not-false (covers node_of pairs_of all (pattern_push g w r) q) left
 
     listed_missed : (i : ℕ) (ss : List S) → missed_from node_of pairs_of g first after cost all i ss ≡ None → (w : PatternNode) (b : Pair) → IsListed node_of pairs_of ss w b → (s : S) × (node_of s ≡ w) × InPairs b (pairs_of s) × (first_missed node_of pairs_of g first after cost all (node_of s) (pairs_of s) ≡ None)
     unfolding missed_from

@@ -34,10 +34,6 @@ no_later_cost cost dearer (x ∷ xs) (y ∷ ys) n =
     let b = subst (λ r. cost x.0 x.1 ≤ cost r y.1) n.0 (dearer.mono x.0 x.1 y.1 n.1) in
     omega arith
 
-pub no_greater_order_refl : (as' : List ℕ) → NoGreaterOrder as' as'
-no_greater_order_refl [] = tt
-no_greater_order_refl (a ∷ as') = inr (refl, no_greater_order_refl as')
-
 pub no_greater_order_antisym : (xs ys : List ℕ) → NoGreaterOrder xs ys → NoGreaterOrder ys xs → xs ≡ ys
 no_greater_order_antisym [] [] a b = refl
 no_greater_order_antisym [] (y ∷ ys) a b = absurd b

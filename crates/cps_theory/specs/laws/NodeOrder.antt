@@ -1,5 +1,5 @@
 -- The order of nodes is total, so a binary search in states in that order finds the one of a node, and what it lists is all that is listed there.
-use Rattle.std.proofs.Common.{◌≡◌, ℕ, zero, suc, ◌+◌, ◌<◌, ◌≤◌, inl, inr, Bool, true, false, ◌||◌, List, [], ◌∷◌, length, get_or, refl, sym, ap, ap₂, subst, ◌∙◌, arith}
+use Rattle.std.proofs.Common.{◌≡◌, ℕ, zero, suc, ◌+◌, ◌<◌, inl, inr, Bool, true, false, ◌||◌, List, [], ◌∷◌, length, get_or, refl, sym, ap, ap₂, subst, ◌∙◌, arith}
 use Rattle.std.specs.List.{list_any}
 use Rattle.std.specs.Ordering.{nat_cmp, bool_cmp, ordering_then, ordering_reverse, ordering_index, is_eq, is_lt}
 use Rattle.std.specs.declared.cmp.Ordering.{Ordering}
@@ -8,7 +8,7 @@ use Rattle.std.specs.Cmp.{nat_cmp_is, IsTotalOrder, bool_cmp_total}
 use Rattle.std.specs.Cmp.Lexicographic.{slice_cmp}
 use Rattle.std.specs.List.Sorted.{IsNonDecreasingBy}
 use Rattle.std.proofs.lemmas.Cmp.{then_total, on_total, nat_cmp_total, lists_total}
-use Rattle.std.proofs.lemmas.List.Sorted.{IsNonDecreasingBy-from_all_adjacent}
+use Rattle.std.proofs.lemmas.List.Sorted.{searchable_from_sorted}
 use Rattle.std.proofs.lemmas.Bool.{cases_lt, cases_eq}
 use Rattle.cps_theory.specs.Labels.{Pair, no_worse}
 use Rattle.cps_theory.specs.Patterns.{PatternNode}
@@ -85,30 +85,16 @@ module _ {S : Type 0} (node_of : S → PatternNode) (pairs_of : S → List Pair)
       let same : node_cmp (node_of s) (node_of t) ≡ node_cmp w (node_of t) = o.congr (node_of s) w (node_of t) eq in
       o.antisymm (node_of t) w ∙ ap ordering_reverse (sym same ∙ lt)
 
-  rising : (s t : S) (w : PatternNode) → node_cmp (node_of s) (node_of t) ≡ Less → ordering_index (to_node w s) ≤ ordering_index (to_node w t)
-  rising s t w lt = go (to_node w t) refl
-    where
-      top : (o : Ordering) → ordering_index o ≤ 2
-      top Less = omega arith
-      top Equal = omega arith
-      top Greater = omega arith
-
-      go : (o : Ordering) → to_node w t ≡ o → ordering_index (to_node w s) ≤ ordering_index (to_node w t)
-      go Less e = let l : to_node w s ≡ Less = node_total.trans (node_of s) (node_of t) w lt e in let a = ap ordering_index l in omega arith
-      go Equal e = let l = before_equal s t w lt e in let a = ap ordering_index l in omega arith
-      go Greater e = let a = ap ordering_index e in let b = top (to_node w s) in omega arith
-
-  adjacent : (w : PatternNode) (ss : List S) → InNodeOrder node_of pairs_of ss → (k : ℕ) (d : S) → k + 1 < length ss → ordering_index (to_node w (get_or ss k d)) ≤ ordering_index (to_node w (get_or ss (k + 1) d))
-  adjacent w [] h k d lt = absurd (omega arith)
-  adjacent w (a ∷ []) h k d lt = absurd (omega arith)
-  adjacent w (a ∷ b ∷ rest) h zero d lt = rising a b w (less_of (node_cmp (node_of a) (node_of b)) h.0)
-  adjacent w (a ∷ b ∷ rest) h (suc k) d lt =
+  adjacent : (ss : List S) → InNodeOrder node_of pairs_of ss → (k : ℕ) (d : S) → k + 1 < length ss → is_lt (node_cmp (node_of (get_or ss (k + 1) d)) (node_of (get_or ss k d))) ≡ false
+  adjacent [] h k d lt = absurd (omega arith)
+  adjacent (a ∷ []) h k d lt = absurd (omega arith)
+  adjacent (a ∷ b ∷ rest) h zero d lt = ap is_lt (node_total.antisymm (node_of b) (node_of a) ∙ ap ordering_reverse (less_of (node_cmp (node_of a) (node_of b)) h.0))
+  adjacent (a ∷ b ∷ rest) h (suc k) d lt =
       let e : suc k + 1 ≡ suc (k + 1) = omega arith in
-      let more = adjacent w (b ∷ rest) h.1 k d (omega arith) in
-      subst (λ (j : ℕ). ordering_index (to_node w (get_or (b ∷ rest) k d)) ≤ ordering_index (to_node w (get_or (a ∷ b ∷ rest) j d))) (sym e) more
+      subst (λ (j : ℕ). is_lt (node_cmp (node_of (get_or (a ∷ b ∷ rest) j d)) (node_of (get_or (b ∷ rest) k d))) ≡ false) (sym e) (adjacent (b ∷ rest) h.1 k d (omega arith))
 
   pub non_decreasing : (w : PatternNode) (ss : List S) → InNodeOrder node_of pairs_of ss → IsNonDecreasingBy (λ s. ordering_index (to_node w s)) ss
-  non_decreasing w ss h = IsNonDecreasingBy-from_all_adjacent (λ s. ordering_index (to_node w s)) ss (λ k d lt. adjacent w ss h k d lt)
+  non_decreasing w ss h = searchable_from_sorted node_total node_of ss w (λ k d a b. adjacent ss h k d b)
 
   -- the first of an ascending list comes before each other
   head_below : (a : S) (rest : List S) → InNodeOrder node_of pairs_of (a ∷ rest) → (k : ℕ) (d : S) → k < length rest → node_cmp (node_of a) (node_of (get_or rest k d)) ≡ Less

@@ -1,5 +1,6 @@
 -- What a chain of optional steps gives, if it gives anything.
 use Rattle.std.proofs.Common.{◌≡◌, Option, Some, None, option_and_then, option_map, refl}
+pub use Rattle.std.proofs.lemmas.Option.{same_Some as some_same}
 
 pub bound : {A B : Type 0} (f : A → Option B) (o : Option A) (b : B) → option_and_then f o ≡ Some b → (a : A) × (o ≡ Some a) × (f a ≡ Some b)
 bound f None b e = cc
@@ -12,6 +13,3 @@ mapped f (Some a) b e = (a, refl, cc)
 pub unmapped : {A B : Type 0} (f : A → B) (o : Option A) → option_map f o ≡ None → o ≡ None
 unmapped f None e = refl
 unmapped f (Some a) e = cc
-
-pub some_same : {A : Type 0} (a b : A) → Some a ≡ Some b → a ≡ b
-some_same a b e = cc

@@ -1,5 +1,5 @@
 -- Counting in a list of ranks: by tests that cover, split or follow one another, behind a filter or a map.
-use Rattle.std.proofs.Common.{◌≡◌, ℕ, zero, suc, ◌+◌, ◌≤◌, ◌⊎◌, inl, inr, List, [], ◌∷◌, cond, Bool, true, false, ◌&&◌, ltb, leb, eqb, max, count_by, arith, refl, sym, ap, ap₂, subst, ◌∙◌, zero-le, ◌<◌, length, map, filter, not, ◌++◌}
+use Rattle.std.proofs.Common.{◌≡◌, ℕ, zero, suc, ◌+◌, ◌≤◌, ◌⊎◌, inl, inr, List, [], ◌∷◌, cond, Bool, true, false, ◌&&◌, ltb, leb, eqb, max, count_by, arith, refl, sym, ap, ap₂, subst, ◌∙◌, zero-le, ◌<◌, length, map, filter, not}
 use Rattle.std.proofs.lemmas.Bool.{cases_lt, cases_eq, cases_Bool, ltb-true, leb-true, eqb-true, le-leb, eq-eqb, and_parts, and_from, false≢true}
 use Rattle.std.proofs.lemmas.List.Sums.{sum_by-cons}
 use Rattle.cps_theory.specs.RankLists.{Distinct, In}
@@ -146,7 +146,3 @@ count_agree p q (x ∷ xs) h = ap₂ (λ b n. cond b 1 0 + n) (h x (inl refl)) (
 pub count_length : (p : ℕ → Bool) (rs : List ℕ) → ((r : ℕ) → In r rs → p r ≡ true) → count p rs ≡ length rs
 count_length p [] h = refl
 count_length p (r ∷ rs) h = let a = at_yes (p r) (h r (inl refl)) in let b = count_length p rs (λ x i. h x (inr i)) in omega arith
-
-pub count-append : (p : ℕ → Bool) (xs ys : List ℕ) → count p (xs ++ ys) ≡ count p xs + count p ys
-count-append p [] ys = omega arith
-count-append p (x ∷ xs) ys = let a = count-append p xs ys in omega arith

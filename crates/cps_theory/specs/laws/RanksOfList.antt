@@ -6,7 +6,7 @@ use Rattle.cps_theory.specs.Feasible.{total}
 use Rattle.cps_theory.specs.laws.Members.{cases_in}
 use Rattle.cps_theory.specs.laws.RankCounts.{count_length, count, count_between}
 
--- what a list of different ranks from 1 to n, as many as n, adds up to does not hang on its order
+-- the list without the first x
 abbrev pub drop_one : ℕ → List ℕ → List ℕ
 drop_one x [] = []
 drop_one x (r ∷ rs) = cond (eqb x r) rs (r ∷ drop_one x rs)

@@ -1,7 +1,7 @@
 -- Earliest landings in a fixed order land it, and are least at every place; where there are none, a flight has no open second left.
-use Rattle.std.proofs.Common.{◌≡◌, ℕ, ◌≤◌, List, [], ◌∷◌, ◌++◌, length, Option, Some, None, option_and_then, option_map, arith, refl, sym, ap, subst, ◌∙◌, le_trans, le_refl}
+use Rattle.std.proofs.Common.{◌≡◌, ℕ, ◌≤◌, List, [], ◌∷◌, Option, Some, None, option_and_then, option_map, refl, sym, ap, subst, ◌∙◌, le_trans, le_refl}
 use Rattle.std.specs.List.{AllZip}
-use Rattle.cps_theory.specs.Retiming.{IsFirstOpen, LandsAt, NeverEarlier, StopsAt, ready_after, retimed}
+use Rattle.cps_theory.specs.Retiming.{IsFirstOpen, LandsAt, NeverEarlier, StopsAt, retimed}
 use Rattle.cps_theory.specs.laws.OptionSteps.{bound, mapped, unmapped}
 
 module _ (Open : ℕ → ℕ → Type 0) (first : ℕ → ℕ → Option ℕ) (after : ℕ → ℕ → ℕ → ℕ) (opens : IsFirstOpen Open first) where
@@ -29,33 +29,6 @@ module _ (Open : ℕ → ℕ → Type 0) (first : ℕ → ℕ → Option ℕ) (a
   pub retimed_none : NeverEarlier after → (ready : ℕ → ℕ) (rs us : List ℕ) → retimed first after ready rs ≡ None → LandsAt Open after ready rs us → ⊥
   retimed_none later ready rs us e l = let r = retimed_least later ready ready (λ q. le_refl (ready q)) rs us l in cc
 
-  -- one more flight, as a loop over the order goes
-  pub retimed_push : (ready : ℕ → ℕ) (rs : List ℕ) (r : ℕ) (ts : List ℕ) → retimed first after ready rs ≡ Some ts → retimed first after ready (rs ++ r ∷ []) ≡ option_map (λ t. ts ++ t ∷ []) (first r (ready_after after ready rs ts r))
-  retimed_push ready [] r [] e = one (first r (ready r))
-    where
-      one : (o : Option ℕ) → option_and_then (λ t. option_map (λ ts. t ∷ ts) (Some [])) o ≡ option_map (λ t. [] ++ t ∷ []) o
-      one None = refl
-      one (Some t) = refl
-  retimed_push ready [] r (t ∷ ts) e = cc
-  retimed_push ready (q ∷ rs) r us e =
-      let f = bound (λ t. option_map (λ ts. t ∷ ts) (retimed first after (after q t) rs)) (first q (ready q)) us e in
-      let m = mapped (λ ts. f.0 ∷ ts) (retimed first after (after q f.0) rs) us f.2 in
-      let rest = retimed_push (after q f.0) rs r m.0 m.1 in
-      let joined = two f.0 m.0 (first r (ready_after after (after q f.0) rs m.0 r)) in
-      subst (λ (vs : List ℕ). retimed first after ready (q ∷ rs ++ r ∷ []) ≡ option_map (λ t. vs ++ t ∷ []) (first r (ready_after after ready (q ∷ rs) vs r))) m.2
-      (ap (λ o. option_and_then (λ t. option_map (λ ts. t ∷ ts) (retimed first after (after q t) (rs ++ r ∷ []))) o) f.1 ∙ ap (option_map (λ ts. f.0 ∷ ts)) rest ∙ joined)
-    where
-      two : (t : ℕ) (ts : List ℕ) (o : Option ℕ) → option_map (λ vs. t ∷ vs) (option_map (λ u. ts ++ u ∷ []) o) ≡ option_map (λ u. t ∷ ts ++ u ∷ []) o
-      two t ts None = refl
-      two t ts (Some u) = refl
-
-  -- a landed order's front is landed
-  pub lands_front : (ready : ℕ → ℕ) (rs us qs vs : List ℕ) → length rs ≡ length us → LandsAt Open after ready (rs ++ qs) (us ++ vs) → LandsAt Open after ready rs us
-  lands_front ready [] [] qs vs e l = tt
-  lands_front ready [] (u ∷ us) qs vs e l = absurd (omega arith)
-  lands_front ready (r ∷ rs) [] qs vs e l = absurd (omega arith)
-  lands_front ready (r ∷ rs) (u ∷ us) qs vs e l = (l.0, l.1, lands_front (after r u) rs us qs vs (omega arith) l.2)
-
   -- the first open second does not fall as the start rises
   pub first_open_mono : (r t t' u' : ℕ) → t ≤ t' → first r t' ≡ Some u' → (u : ℕ) × (first r t ≡ Some u) × (u ≤ u')
   first_open_mono r t t' u' le e = let f = opens.found r t' u' e in opens.least r t u' f.0 (le_trans le f.1)
@@ -80,12 +53,3 @@ module _ (first : ℕ → ℕ → Option ℕ) (after : ℕ → ℕ → ℕ → �
             before = ap (λ o. option_and_then (λ t. option_map (λ ts. t ∷ ts) (retimed first after (after r t) s.front)) o) f ∙ ap (option_map (λ ts. t ∷ ts)) s.before;
             none = s.none;
           }
-
-  pub stops_retimed : (ready : ℕ → ℕ) (front : List ℕ) (r : ℕ) (back ts : List ℕ) → retimed first after ready front ≡ Some ts → first r (ready_after after ready front ts r) ≡ None → retimed first after ready (front ++ r ∷ back) ≡ None
-  stops_retimed ready [] r back [] e n = ap (option_and_then (λ t. option_map (λ ts. t ∷ ts) (retimed first after (after r t) back))) n
-  stops_retimed ready [] r back (t ∷ ts) e n = cc
-  stops_retimed ready (q ∷ front) r back us e n =
-      let f = bound (λ t. option_map (λ ts. t ∷ ts) (retimed first after (after q t) front)) (first q (ready q)) us e in
-      let m = mapped (λ ts. f.0 ∷ ts) (retimed first after (after q f.0) front) us f.2 in
-      let n' = subst (λ (vs : List ℕ). first r (ready_after after ready (q ∷ front) vs r) ≡ None) (sym m.2) n in
-      ap (λ o. option_and_then (λ t. option_map (λ ts. t ∷ ts) (retimed first after (after q t) (front ++ r ∷ back))) o) f.1 ∙ ap (option_map (λ ts. f.0 ∷ ts)) (stops_retimed (after q f.0) front r back m.0 m.1 n')

@@ -6,6 +6,9 @@ use Rattle.cps_theory.specs.Freeze.{FirstCome, KeepsShift, frozen_of, overtook, 
 use Rattle.cps_theory.specs.laws.Members.{distinct_filter, in_filter}
 use Rattle.cps_theory.specs.laws.RankCounts.{count_length, count_map, count_parts, count_split, count_stricter, count_weaker, count, count_is, count_between}
 
+pub not_before_itself : (comes_before : ℕ → ℕ → Bool) → FirstCome comes_before → (f : ℕ) → comes_before f f ≡ false
+not_before_itself comes_before order f = elim (cases_Bool (comes_before f f)) [ inl e ↦ order.one_way f f e | inr e ↦ e ]
+
 module _ (comes_before : ℕ → ℕ → Bool) (order : FirstCome comes_before) (t : ℕ → ℕ) (waiting : List ℕ) (k h : ℕ) (back : ℕ → ℕ) (differ : Distinct waiting) (shift : (f : ℕ) → In f waiting → KeepsShift k back comes_before t waiting f) where
   rank : ℕ → ℕ
   rank f = suc (count (λ g. comes_before g f) waiting)
@@ -21,13 +24,10 @@ module _ (comes_before : ℕ → ℕ → Bool) (order : FirstCome comes_before) 
       let b = count_is (λ g. nat_lt (t g) (t f)) waiting in
       (omega (arith, s.0, a, b), omega (arith, s.1, a, b))
 
-  not_before_itself : (f : ℕ) → comes_before f f ≡ false
-  not_before_itself f = elim (cases_Bool (comes_before f f)) [ inl e ↦ order.one_way f f e | inr e ↦ e ]
-
   rank_rises : (a b : ℕ) → In a waiting → comes_before a b ≡ true → rank a < rank b
   unfolding rank
   rank_rises a b i e =
-      let s = count_stricter (λ g. comes_before g a) (λ g. comes_before g b) a waiting i (not_before_itself a) e (λ x j q. order.chain x a b q e) in
+      let s = count_stricter (λ g. comes_before g a) (λ g. comes_before g b) a waiting i (not_before_itself comes_before order a) e (λ x j q. order.chain x a b q e) in
       omega arith
 
   place_rises : (a b : ℕ) → In a waiting → t a < t b → place a < place b

@@ -2,7 +2,6 @@
 use Rattle.std.proofs.Common.{◌≡◌, ℕ, zero, suc, ◌<◌, ◌≤◌, inl, inr, List, [], ◌∷◌, Option, Some, true, cond, ltb, arith, refl, sym, ap, ap₂, subst, ◌∙◌, le_refl, le_trans, le_antisymm}
 use Rattle.std.proofs.lemmas.Bool.{cases_lt, lt-ltb, le-ltb}
 use Rattle.cps_theory.specs.RankLists.{Distinct, In, IsRank, upto}
-use Rattle.cps_theory.specs.Separation.{Landing}
 use Rattle.cps_theory.specs.Retiming.{IsFirstOpen}
 use Rattle.cps_theory.specs.LandingTrail.{Landed}
 use Rattle.cps_theory.specs.Labels.{NeverCheaper, NoWorse, Pair}
@@ -13,6 +12,7 @@ use Rattle.cps_theory.specs.laws.FrozenFront.{each_fits_distinct}
 use Rattle.cps_theory.specs.laws.LandingOrder.{insert_at, sorted, sorted_in, in_sorted, Descends}
 use Rattle.cps_theory.specs.laws.LeastObjective.{next_later, at_second_in}
 use Rattle.cps_theory.specs.laws.LegalPrefix.{legal_each_fits}
+use Rattle.cps_theory.specs.laws.OptionSteps.{some_same}
 
 same_insert : (t u : ℕ → ℕ) (x : ℕ) (ys : List ℕ) → ((y : ℕ) → In y ys → ltb (t y) (t x) ≡ ltb (u y) (u x)) → insert_at t x ys ≡ insert_at u x ys
 same_insert t u x [] h = refl
@@ -30,7 +30,7 @@ same_sorted (suc n) t u same =
     same_insert t u (suc n) (sorted t n) (λ y i. let q = sorted_in t n y i in let s = same y (suc n) (q.0, omega arith) (omega arith, omega arith) in same_test (t y) (t (suc n)) (u y) (u (suc n)) s.0 s.1)
     ∙ ap (insert_at u (suc n)) (same_sorted n t u (λ f g qf qg. same f g (qf.0, omega arith) (qg.0, omega arith)))
 
-no_later_at : (t u : ℕ → ℕ) (rs : List ℕ) → NoLater (at_seconds t rs) (at_seconds u rs) → (r : ℕ) → In r rs → t r ≤ u r
+pub no_later_at : (t u : ℕ → ℕ) (rs : List ℕ) → NoLater (at_seconds t rs) (at_seconds u rs) → (r : ℕ) → In r rs → t r ≤ u r
 no_later_at t u [] n r i = absurd i
 no_later_at t u (x ∷ rs) n r (inl e) = subst (λ z. t z ≤ u z) (sym e) n.1
 no_later_at t u (x ∷ rs) n r (inr i) = no_later_at t u rs n.2 r i
@@ -79,9 +79,6 @@ module _ (p : RankedProblem) (sound : SoundProblem p) (first : ℕ → ℕ → O
         low t f (λ a b qa qb. (λ h. h, λ h. h)),
         is ∙ ap Some (sym same),
       )
-    where
-      some_same : (a b : List Landing) → Some a ≡ Some b → a ≡ b
-      some_same a b e = cc
 
   greatest_mono : (n : ℕ) (u t : ℕ → ℕ) → ((r : ℕ) → IsRank n r → u r ≤ t r) → greatest u n ≤ greatest t n
   greatest_mono zero u t h = le_refl 0

@@ -17,15 +17,6 @@ without_covers p q (x ∷ qs) i = go (no_worse p x) refl i (without_covers p q q
     go false e (inl s) ih = inr (inl s)
     go false e (inr i) ih = elim (ih i) [ inl l ↦ inl l | inr j ↦ inr (inr j) ]
 
-without_in : (p q : Pair) (qs : List Pair) → InPairs q (without p qs) → InPairs q qs
-without_in p q [] i = i
-without_in p q (x ∷ qs) i = go (no_worse p x) i (without_in p q qs)
-  where
-    go : (b : Bool) → InPairs q (cond b (without p qs) (x ∷ without p qs)) → (InPairs q (without p qs) → InPairs q qs) → (q ≡ x) ⊎ InPairs q qs
-    go true i ih = inr (ih i)
-    go false (inl s) ih = inl s
-    go false (inr i) ih = inr (ih i)
-
 some_in : (p : Pair) (qs : List Pair) → some_no_worse p qs ≡ true → (q : Pair) × InPairs q qs × NoWorse q p
 some_in p [] e = absurd (false≢true e)
 some_in p (x ∷ qs) e = go (no_worse x p) refl e (some_in p qs)

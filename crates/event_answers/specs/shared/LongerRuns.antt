@@ -1,5 +1,6 @@
 -- A run goes on by one step, and so does its text.
-use Rattle.std.proofs.Common.{◌≡◌, ℕ, zero, suc, ◌+◌, ◌<◌, ◌≤◌, List, [], ◌∷◌, ◌++◌, length, map, drop, get_or, drop-cons, add-one, refl, sym, ap, ◌∙◌, arith, append_assoc, append-nil}
+use Rattle.std.proofs.Common.{◌≡◌, ℕ, ◌+◌, ◌<◌, ◌≤◌, List, [], ◌∷◌, ◌++◌, length, map, drop, get_or, refl, sym, ap, ◌∙◌, arith, append_assoc, append-nil}
+use Rattle.std.proofs.lemmas.List.{drop_more, drop_all}
 use Rattle.landing_rules.specs.Events.{Event, State, Step, Answered, Run}
 use Rattle.event_answers.specs.Runs.{last_state}
 use Rattle.landing_rules.specs.Text.{answer_text, answers_text}
@@ -26,10 +27,7 @@ last_state-push s (b ∷ rest) a = last_state-push b.state rest a
 -- ---- events by their place
 
 pub event_at : {X : Type 0} (f : X → Event) (xs : List X) (i : ℕ) (x : X) → i < length xs → x ≡ get_or xs i x → map f (drop i xs) ≡ f x ∷ map f (drop (i + 1) xs)
-event_at f xs i x h e = rw (add-one, drop-cons xs i x) (ap (λ (y : _). f y ∷ map f (drop (suc i) xs)) (sym e))
+event_at f xs i x h e = ap (map f) (drop_more xs i x h) ∙ ap (λ (y : _). f y ∷ map f (drop (i + 1) xs)) (sym e)
 
 pub none_left : {X : Type 0} (f : X → Event) (xs : List X) (i : ℕ) → length xs ≤ i → map f (drop i xs) ≡ []
-none_left f [] zero h = refl
-none_left f [] (suc i) h = refl
-none_left f (x ∷ xs) zero h = absurd (omega arith)
-none_left f (x ∷ xs) (suc i) h = none_left f xs i (omega arith)
+none_left f xs i h = ap (map f) (drop_all i xs h)

@@ -1,27 +1,25 @@
 -- A legal order at its earliest seconds is tight; it is best where each feasible list is matched by seconds of this order
--- that cost no more. With no shift first-come order is the only legal one.
-use Rattle.std.proofs.Common.{◌≡◌, ℕ, zero, suc, ◌<◌, ◌≤◌, inl, inr, true, List, [], ◌∷◌, length, get_or, reverse, refl, sym, ap, ap₂, subst, ◌∙◌, arith}
-use Rattle.std.proofs.Math.Nat.{mul-le-mul_left}
+-- that cost no more.
+use Rattle.std.proofs.Common.{◌≡◌, ℕ, zero, suc, ◌≤◌, inl, inr, true, List, [], ◌∷◌, length, reverse, refl, sym, ap, subst, ◌∙◌, arith}
 use Rattle.std.specs.List.{AllZip}
 use Rattle.std.proofs.lemmas.List.{length-reverse}
 use Rattle.wake_table.specs.Table.{IsWakeTable}
 use Rattle.precedence.specs.Pairs.{must_precede}
-use Rattle.landing_rules.specs.declared.objective.Objective.{Objective}
-use Rattle.landing_rules.specs.declared.objective.Objective.TheVariants.{Makespan, Delay}
 use Rattle.landing_rules.specs.Flights.{Schedule}
-use Rattle.landing_rules.specs.Problem.{Problem, Waiting, IsFeasibleList, IsBestList, IsTightList, list_objective}
+use Rattle.landing_rules.specs.Problem.{Problem, IsFeasibleList, IsBestList, IsTightList, list_objective}
 use Rattle.cps_theory.specs.RankLists.{In, of_rank, IsRank, upto, Distinct}
 use Rattle.cps_theory.specs.LandingTrail.{ranks}
-use Rattle.cps_theory.specs.LegalPrefix.{Legal, OrderRules}
+use Rattle.cps_theory.specs.LegalPrefix.{Legal}
 use Rattle.cps_theory.specs.Feasible.{Tight, earliest, next_from, at_seconds, second_in, greatest, total, pair_at}
 use Rattle.cps_theory.specs.laws.EarliestAndTight.{earliest_tight, agree_at}
 use Rattle.cps_theory.specs.laws.FeasibleOrder.{ranks_at}
 use Rattle.cps_theory.specs.laws.LeastObjective.{at_second_in}
 use Rattle.cps_theory.specs.laws.RanksBelow.{greatest_least, at_most_greatest, in_upto}
-use Rattle.landing_joint.specs.RankedProblem.{no_waiting, ranked, first_at, cost_by, cost_at, value_by, value_of_map, makespan_by}
+use Rattle.landing_joint.specs.RankedProblem.{no_waiting, ranked, first_at, cost_at, value_of_map}
+use Rattle.landing_joint.specs.shared.FirstBestLists.{costs_rise, value_rises}
 use Rattle.landing_joint.specs.shared.FirstOpen.{is_first_open}
 use Rattle.landing_joint.specs.shared.RankedLists.{feasible_agree, sound_ranked}
-use Rattle.landing_joint.specs.shared.BestLists.{list_value, tight_list}
+use Rattle.landing_joint.specs.shared.BestLists.{list_value, tight_list, zip_rank}
 use Rattle.cps_problem.specs.WellFormed.{IsWellFormed}
 use Rattle.extract_plan.specs.Orders.{IsWholeOrder, LandsInOrder, EarliestInOrder}
 use Rattle.extract_plan.specs.shared.LandingOrder.{by_seconds, has_ranks}
@@ -44,47 +42,26 @@ well_formed_planned p wf = record {
     low zero q = absurd (let a = q.0 in omega arith)
     low (suc i) q = wf.passed i no_waiting (let a = q.1 in omega arith)
 
--- ---- costs rise with the seconds
-
-cost_rises : (o : Objective) (f : Waiting) (t u : ℕ) → t ≤ u → cost_by o f t ≤ cost_by o f u
-cost_rises Makespan f t u le = omega arith
-cost_rises Delay f t u le = mul-le-mul_left f.weight (omega arith)
+-- ---- a value rises with the seconds
 
 total_rises : (f g : ℕ → ℕ) (rs : List ℕ) → ((r : ℕ) → In r rs → f r ≤ g r) → total f rs ≤ total g rs
 total_rises f g [] h = omega arith
 total_rises f g (r ∷ rs) h = let a = h r (inl refl) in let b = total_rises f g rs (λ x i. h x (inr i)) in omega arith
 
-value_rises : (o : Objective) (p : Problem) (a b : ℕ × ℕ) → a.0 ≤ b.0 → a.1 ≤ b.1 → value_by o p a ≤ value_by o p b
-value_rises Makespan p a b le ce = go p.flights
-  where
-    go : (fs : List Waiting) → makespan_by fs p a.0 ≤ makespan_by fs p b.0
-    go [] = omega arith
-    go (f ∷ fs) = le
-value_rises Delay p a b le ce = omega arith
-
 pub map_value_rises : (p : Problem) (t u : ℕ → ℕ) → ((r : ℕ) → IsRank (length p.flights) r → t r ≤ u r) → value_of_map p t ≤ value_of_map p u
 map_value_rises p t u h =
-    value_rises p.objective p (pair_at (cost_at p) (length p.flights) t) (pair_at (cost_at p) (length p.flights) u)
-    (greatest_least t (length p.flights) (greatest u (length p.flights)) (λ r q. let a = h r q in let b = at_most_greatest u (length p.flights) r q in omega arith))
-    (total_rises (λ r. cost_at p r (t r)) (λ r. cost_at p r (u r)) (upto (length p.flights)) (λ r i. cost_rises p.objective (of_rank no_waiting p.flights r) (t r) (u r) (h r (in_upto (length p.flights) r i))))
+    value_rises p (pair_at (cost_at p) (length p.flights) t) (pair_at (cost_at p) (length p.flights) u) (
+      greatest_least t (length p.flights) (greatest u (length p.flights)) (λ r q. let a = h r q in let b = at_most_greatest u (length p.flights) r q in omega arith),
+      total_rises (λ r. cost_at p r (t r)) (λ r. cost_at p r (u r)) (upto (length p.flights)) (λ r i. (costs_rise p).mono r (t r) (u r) (h r (in_upto (length p.flights) r i))),
+    )
 
 -- ---- lists
-
-zip_get : (xs ys : List ℕ) → AllZip (λ a b. a ≤ b) xs ys → (i : ℕ) → i < length xs → get_or xs i 0 ≤ get_or ys i 0
-zip_get [] ys a i lt = absurd (omega arith)
-zip_get (x ∷ xs) [] a i lt = absurd a
-zip_get (x ∷ xs) (y ∷ ys) a zero lt = a.0
-zip_get (x ∷ xs) (y ∷ ys) a (suc i) lt = zip_get xs ys a.1 i (omega arith)
-
-rank_get : (n : ℕ) (xs ys : Schedule) → length xs ≡ n → AllZip (λ a b. a ≤ b) xs ys → (r : ℕ) → IsRank n r → of_rank 0 xs r ≤ of_rank 0 ys r
-rank_get n xs ys long z zero q = absurd (let a = q.0 in omega arith)
-rank_get n xs ys long z (suc i) q = zip_get xs ys z i (let a = q.1 in omega arith)
 
 pub list_value_rises : (p : Problem) (v w : Schedule) → length v ≡ length p.flights → length w ≡ length p.flights → AllZip (λ a b. a ≤ b) v w → list_objective p v ≤ list_objective p w
 list_value_rises p v w lv lw z =
     let a = list_value p v lv in
     let b = list_value p w lw in
-    let c = map_value_rises p (of_rank 0 v) (of_rank 0 w) (λ r q. rank_get (length p.flights) v w lv z r q) in
+    let c = map_value_rises p (of_rank 0 v) (of_rank 0 w) (λ r q. zip_rank v w z r (q.0, let b = q.1 in omega arith)) in
     omega arith
 
 -- ---- a planned order
@@ -122,15 +99,3 @@ module _ (p : Problem) (is : IsPlannedFor p) (order : List ℕ) (w : IsWholeOrde
         let b = x.2 in
         omega arith;
   }
-
--- ---- first come, first served
-
--- with no shift a legal prefix has each rank at its own place
-pub only_first_come : (g : OrderRules) → g.most ≡ 0 → ((r : ℕ) → g.back r ≡ 0) → (rs : List ℕ) → Legal g rs → rs ≡ upto (length rs)
-only_first_come g most back [] l = refl
-only_first_come g most back (r ∷ rs) l =
-    let a = l.0.fits.not_early in
-    let b = l.0.fits.not_late in
-    let c = back r in
-    let here : r ≡ suc (length rs) = omega arith in
-    ap₂ (λ (x : ℕ) (xs : List ℕ). x ∷ xs) here (only_first_come g most back rs l.1)

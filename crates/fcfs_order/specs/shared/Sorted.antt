@@ -1,80 +1,31 @@
 -- Ascending arrivals: what a binary search finds in them, and what one more and one less leave.
-use Rattle.std.proofs.Common.{◌≡◌, ℕ, zero, suc, ◌+◌, ◌<◌, ◌≤◌, ◌⊎◌, inl, inr, Bool, true, false, cond, List, [], ◌∷◌, length, get_or, refl, sym, ap, ap₂, subst, ◌∙◌, arith}
+use Rattle.std.proofs.Common.{◌≡◌, ℕ, zero, suc, ◌+◌, ◌<◌, ◌≤◌, inl, inr, Bool, true, false, cond, List, [], ◌∷◌, length, get_or, refl, sym, ap, subst, ◌∙◌, arith}
 use Rattle.std.specs.Prelude.{Contains, count_by}
 use Rattle.std.specs.declared.cmp.Ordering.{Ordering}
 use Rattle.std.specs.declared.cmp.Ordering.TheVariants.{Less, Equal, Greater}
-use Rattle.std.specs.Ordering.{nat_cmp, is_lt, is_eq, ordering_then, ordering_reverse, ordering_index}
-use Rattle.std.specs.Cmp.{IsTotalOrder}
-use Rattle.std.specs.Cmp.Lexicographic.{slice_cmp}
+use Rattle.std.specs.Ordering.{is_lt, is_eq, ordering_reverse, ordering_index}
 use Rattle.std.specs.List.{AllByRecursion, insert, remove, AllWithin}
 use Rattle.std.specs.List.Sorted.{IsStrictlySortedBy, IsNonDecreasingBy}
-use Rattle.std.proofs.lemmas.Bool.{cases_order, lt-ltb}
-use Rattle.std.proofs.lemmas.Cmp.{then_total, on_total, nat_cmp_total, nat_list_cmp_total, tied_itself}
+use Rattle.std.proofs.lemmas.Bool.{cases_order}
+use Rattle.std.proofs.lemmas.Cmp.{tied_itself}
 use Rattle.std.proofs.lemmas.Map.Keys.{Less-from_sorted}
-use Rattle.std.proofs.lemmas.Map.Text.{is_eq-slice_cmp}
-use Rattle.std.proofs.lemmas.Slice.Eq.{bytes_eq-Decides}
+use Rattle.std.proofs.lemmas.List.Sorted.{searchable_from_sorted}
 use Rattle.std.proofs.lemmas.List.Sums.{sum_by-cons}
 use Rattle.landing_rules.specs.Rules.{first_come_cmp}
-use Rattle.landing_rules.specs.shared.Counting.{cases, flipped}
+use Rattle.landing_rules.specs.shared.Counting.{flipped}
+use Rattle.landing_rules.specs.shared.Ranks.{first_come_total, first_come_level}
 use Rattle.fcfs_order.specs.Order.{with_arrival, without}
 
 abbrev Arrival : Type 0
 Arrival = ℕ × List ℕ
 
-pub total : IsTotalOrder first_come_cmp
-total = then_total (on_total (λ (a : Arrival). a.0) nat_cmp_total) (on_total (λ (a : Arrival). a.1) nat_list_cmp_total)
-
-first_equal : (r s : Ordering) → ordering_then r s ≡ Equal → r ≡ Equal
-first_equal Less s e = cc
-first_equal Equal s e = refl
-first_equal Greater s e = cc
-
-second_equal : (r s : Ordering) → ordering_then r s ≡ Equal → s ≡ Equal
-second_equal Less s e = cc
-second_equal Equal s e = e
-second_equal Greater s e = cc
-
-nat_equal : (a b : ℕ) → nat_cmp a b ≡ Equal → a ≡ b
-nat_equal a b e = elim (cases_order a b) [
-  | inl s ↦ s
-  | inr (inl lt) ↦ absurd (let q : nat_cmp a b ≡ Less = rw (lt-ltb a b lt) in cc)
-  | inr (inr lt) ↦ absurd (let o = nat_cmp_total.antisymm a b in let q : nat_cmp b a ≡ Less = rw (lt-ltb b a lt) in cc)
-]
-
--- two arrivals that are level are one
-pub level : (a b : Arrival) → first_come_cmp a b ≡ Equal → a ≡ b
-level a b e =
-    let eta : a.0 ≡ b.0 = nat_equal a.0 b.0 (first_equal _ _ e) in
-    let same : slice_cmp nat_cmp a.1 b.1 ≡ Equal = second_equal _ _ e in
-    let name : a.1 ≡ b.1 = (bytes_eq-Decides a.1 b.1).0 (sym (is_eq-slice_cmp a.1 b.1) ∙ ap is_eq same) in
-    ap₂ (λ (x : ℕ) (y : List ℕ). (x, y)) eta name
-
 pub itself : (a : Arrival) → first_come_cmp a a ≡ Equal
-itself a = tied_itself total a
-
-index_rises : (a b p : Arrival) → first_come_cmp a b ≡ Less → ordering_index (first_come_cmp a p) ≤ ordering_index (first_come_cmp b p)
-index_rises a b p l = go (cases (first_come_cmp b p))
-  where
-    low : first_come_cmp a p ≡ Less → ordering_index (first_come_cmp a p) ≤ ordering_index (first_come_cmp b p)
-    low e = let z = ap ordering_index e in omega arith
-
-    highest : (r : Ordering) → ordering_index r ≤ 2
-    highest Less = omega arith
-    highest Equal = omega arith
-    highest Greater = omega arith
-
-    go : (first_come_cmp b p ≡ Less) ⊎ ((first_come_cmp b p ≡ Equal) ⊎ (first_come_cmp b p ≡ Greater)) → ordering_index (first_come_cmp a p) ≤ ordering_index (first_come_cmp b p)
-    go (inl e) = low (total.trans a b p l e)
-    go (inr (inl e)) = low (subst (λ (x : Arrival). first_come_cmp a x ≡ Less) (level b p e) l)
-    go (inr (inr e)) = let z = ap ordering_index e in let y = highest (first_come_cmp a p) in omega arith
+itself a = tied_itself first_come_total a
 
 -- what a binary search asks
 pub searchable : (xs : List Arrival) (p : Arrival) → IsStrictlySortedBy first_come_cmp xs → IsNonDecreasingBy (λ y. ordering_index (first_come_cmp y p)) xs
-searchable xs p s i j d le within = elim (cases_order i j) [
-  | inl e ↦ (let q = ap (λ k. ordering_index (first_come_cmp (get_or xs k d) p)) e in omega arith)
-  | inr (inl lt) ↦ index_rises (get_or xs i d) (get_or xs j d) p (Less-from_sorted first_come_cmp xs i j d s lt within)
-  | inr (inr gt) ↦ absurd (omega arith)
-]
+searchable xs p s = searchable_from_sorted first_come_total (λ (y : Arrival). y) xs p (λ k d a b.
+    ap is_lt (first_come_total.antisymm (get_or xs (k + 1) d) (get_or xs k d) ∙ ap ordering_reverse (Less-from_sorted first_come_cmp xs k (k + 1) d s (omega arith) b)))
 
 -- ---- one more
 
@@ -96,7 +47,7 @@ all_with a p (x ∷ xs) l h = go (is_lt (first_come_cmp x p)) (all_with a p xs l
 
 all_behind : (p x : Arrival) (xs : List Arrival) → first_come_cmp p x ≡ Less → AllByRecursion (λ y. first_come_cmp x y ≡ Less) xs → AllByRecursion (λ y. first_come_cmp p y ≡ Less) xs
 all_behind p x [] l h = tt
-all_behind p x (y ∷ ys) l h = (total.trans p x y l h.0, all_behind p x ys l h.1)
+all_behind p x (y ∷ ys) l h = (first_come_total.trans p x y l h.0, all_behind p x ys l h.1)
 
 pub ascending_with : (p : Arrival) (xs : List Arrival) → (Contains xs p → ⊥) → IsStrictlySortedBy first_come_cmp xs → IsStrictlySortedBy first_come_cmp (with_arrival p xs)
 unfolding IsStrictlySortedBy
@@ -105,8 +56,8 @@ ascending_with p (x ∷ xs) absent s = go (first_come_cmp x p) refl (ascending_w
   where
     go : (r : Ordering) → first_come_cmp x p ≡ r → IsStrictlySortedBy first_come_cmp (with_arrival p xs) → IsStrictlySortedBy first_come_cmp (cond (is_lt r) (x ∷ with_arrival p xs) (p ∷ x ∷ xs))
     go Less e ih = (all_with x p xs e s.0, ih)
-    go Equal e ih = absurd (absent (0, omega arith, level x p e))
-    go Greater e ih = let l = flipped first_come_cmp total x p e in ((l, all_behind p x xs l s.0), s)
+    go Equal e ih = absurd (absent (0, omega arith, first_come_level x p e))
+    go Greater e ih = let l = flipped first_come_cmp first_come_total x p e in ((l, all_behind p x xs l s.0), s)
 
 -- ---- one less
 
@@ -124,7 +75,7 @@ without_none p (x ∷ xs) absent = go (first_come_cmp x p) refl (without_none p 
   where
     go : (r : Ordering) → first_come_cmp x p ≡ r → without p xs ≡ xs → cond (is_eq r) xs (x ∷ without p xs) ≡ x ∷ xs
     go Less e ih = ap (λ l. x ∷ l) ih
-    go Equal e ih = absurd (absent (0, omega arith, level x p e))
+    go Equal e ih = absurd (absent (0, omega arith, first_come_level x p e))
     go Greater e ih = ap (λ l. x ∷ l) ih
 
 all_without : (a p : Arrival) (xs : List Arrival) → AllByRecursion (λ y. first_come_cmp a y ≡ Less) xs → AllByRecursion (λ y. first_come_cmp a y ≡ Less) (without p xs)
@@ -171,7 +122,7 @@ count_other p x xs r f e = sum_by-cons (λ (a : Arrival). cond (is_lt (first_com
 -- none of those behind one comes before it
 none_before : (p : Arrival) (xs : List Arrival) → AllByRecursion (λ y. first_come_cmp p y ≡ Less) xs → count_by (λ a. is_lt (first_come_cmp a p)) xs ≡ 0
 none_before p [] h = refl
-none_before p (x ∷ xs) h = count_other p x xs Greater refl (total.antisymm x p ∙ ap ordering_reverse h.0) ∙ none_before p xs h.1
+none_before p (x ∷ xs) h = count_other p x xs Greater refl (first_come_total.antisymm x p ∙ ap ordering_reverse h.0) ∙ none_before p xs h.1
 
 -- as many come before one as stand before it
 pub counted_at : (p : Arrival) (xs : List Arrival) (i : ℕ) → IsStrictlySortedBy first_come_cmp xs → i < length xs → get_or xs i p ≡ p → count_by (λ a. is_lt (first_come_cmp a p)) xs ≡ i
@@ -186,7 +137,7 @@ counted_at p (x ∷ xs) (suc i) s lt e =
 -- ---- what a search says
 
 pub found : (p : Arrival) (xs : List Arrival) (i : ℕ) → i < length xs → first_come_cmp (get_or xs i p) p ≡ Equal → get_or xs i p ≡ p
-found p xs i lt e = level (get_or xs i p) p e
+found p xs i lt e = first_come_level (get_or xs i p) p e
 
 pub parted : (p : Arrival) (xs : List Arrival) (i : ℕ) → AllWithin (λ y. first_come_cmp y p ≡ Less) xs 0 i → AllWithin (λ y. first_come_cmp y p ≡ Greater) xs i (length xs) → Contains xs p → ⊥
 parted p xs i low high c = elim (cases_order c.0 i) [

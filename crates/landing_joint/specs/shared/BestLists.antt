@@ -1,7 +1,8 @@
 -- A list of seconds by rank costs what its map does, and is best or tight where its map is.
-use Rattle.std.proofs.Common.{◌≡◌, ℕ, zero, suc, ◌+◌, ◌<◌, ◌≤◌, List, [], ◌∷◌, length, get_or, map, max, arith, refl, sym, ap, ◌∙◌}
+use Rattle.std.proofs.Common.{◌≡◌, ℕ, zero, suc, ◌+◌, ◌<◌, ◌≤◌, List, [], ◌∷◌, length, get_or, map, max, arith, refl, sym, ap, ap₂, ◌∙◌, le_antisymm}
 use Rattle.std.specs.Prelude.{sum_by}
 use Rattle.std.specs.List.{AllZip, zip}
+use Rattle.std.proofs.lemmas.List.Elements.{AllZip-get_or}
 use Rattle.std.proofs.lemmas.List.Sums.{sum_by-cons}
 use Rattle.std.proofs.lemmas.List.Sorted.{sum_by-IsPermutation}
 use Rattle.std.proofs.lemmas.Slice.Zip.{length-zip, get_or-zip}
@@ -76,13 +77,25 @@ module _ (p : lists'.Problem) (v : Schedule) (long : length v ≡ length p.fligh
           ap (λ o. lists'.list_cost o p v) e ∙ ap (λ n. p.base + n) delay_is
           ∙ sym (ap (λ o. value_by o p (greatest (of_rank 0 v) (length p.flights), total (λ r. cost_by o (of_rank no_waiting p.flights r) (of_rank 0 v r)) (upto (length p.flights)))) e)
 
--- ---- best and tight lists
+-- ---- lists that are nowhere later
 
 pub zip_of : (xs ys : List ℕ) → length xs ≡ length ys → ((i : ℕ) → i < length xs → get_or xs i 0 ≤ get_or ys i 0) → AllZip (λ a b. a ≤ b) xs ys
 zip_of [] [] e h = tt
 zip_of [] (y ∷ ys) e h = absurd (omega arith)
 zip_of (x ∷ xs) [] e h = absurd (omega arith)
 zip_of (x ∷ xs) (y ∷ ys) e h = (h 0 (omega arith), zip_of xs ys (omega arith) (λ i lt. h (suc i) (omega arith)))
+
+pub zip_same : (xs ys : List ℕ) → AllZip (λ a b. a ≤ b) xs ys → AllZip (λ a b. a ≤ b) ys xs → xs ≡ ys
+zip_same [] [] a b = refl
+zip_same [] (y ∷ ys) a b = absurd a
+zip_same (x ∷ xs) [] a b = absurd a
+zip_same (x ∷ xs) (y ∷ ys) a b = ap₂ (λ z l. z ∷ l) (le_antisymm a.0 b.0) (zip_same xs ys a.1 b.1)
+
+pub zip_rank : (xs ys : Schedule) → AllZip (λ a b. a ≤ b) xs ys → (r : ℕ) → IsRank (length xs) r → of_rank 0 xs r ≤ of_rank 0 ys r
+zip_rank xs ys a zero q = absurd (let b = q.0 in omega arith)
+zip_rank xs ys a (suc i) q = AllZip-get_or (λ a b. a ≤ b) xs ys i 0 0 a (let b = q.1 in omega arith)
+
+-- ---- best and tight lists
 
 module _ (p : lists'.Problem) (passed : (r : ℕ) → IsRank (length p.flights) r → (of_rank no_waiting p.flights r).passed ≤ p.k) where
   -- a list whose map is best is best

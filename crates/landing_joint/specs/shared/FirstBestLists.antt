@@ -1,13 +1,14 @@
 -- A list of seconds by rank lands its ranks in the order of its map, and is the first best one where its map is. There is a
 -- first best list where one is feasible, and it is one.
-use Rattle.std.proofs.Common.{◌≡◌, ◌≢◌, ℕ, zero, suc, ◌+◌, ◌-◌, ◌<◌, ◌≤◌, inl, inr, List, [], ◌∷◌, length, get_or, map, max, true, add-one, arith, refl, sym, ap, ap₂, subst, ◌∙◌, le_antisymm}
+use Rattle.std.proofs.Common.{◌≡◌, ◌≢◌, ℕ, zero, suc, ◌+◌, ◌-◌, ◌<◌, ◌≤◌, inl, inr, List, [], ◌∷◌, length, get_or, map, max, true, add-one, arith, refl, sym, ap, ap₂, subst, ◌∙◌}
 use Rattle.std.proofs.Math.Nat.{mul-le-mul_left}
-use Rattle.std.specs.List.{AllZip}
 use Rattle.std.specs.declared.cmp.Ordering.{Ordering}
 use Rattle.std.specs.declared.cmp.Ordering.TheVariants.{Less, Equal, Greater}
 use Rattle.std.specs.Ordering.{nat_cmp, ordering_then, ordering_reverse, is_le, is_eq}
+use Rattle.std.specs.Cmp.{nat_cmp_is}
 use Rattle.std.specs.Cmp.Lexicographic.{slice_cmp}
-use Rattle.std.proofs.lemmas.Bool.{lt-ltb, le-ltb, eq-eqb, false≢true}
+use Rattle.std.proofs.lemmas.Bool.{false≢true}
+use Rattle.std.proofs.lemmas.List.{map-id}
 use Rattle.std.proofs.lemmas.Cmp.{nat_list_cmp_total}
 use Rattle.std.proofs.lemmas.Map.Text.{is_eq-slice_cmp}
 use Rattle.std.proofs.lemmas.Slice.Eq.{bytes_eq-Decides}
@@ -29,24 +30,18 @@ use Rattle.cps_theory.specs.laws.OrderBySeconds.{in_order_sorted}
 use Rattle.landing_joint.specs.RankedProblem.{no_waiting, ranked, value_at, value_by, value_of_map, cost_at, cost_by, first_at, makespan_by}
 use Rattle.landing_joint.specs.shared.FirstOpen.{is_first_open}
 use Rattle.landing_joint.specs.shared.RankedLists.{list_feasible, feasible_list, feasible_agree}
-use Rattle.landing_joint.specs.shared.BestLists.{best_list, tight_list, list_value}
+use Rattle.landing_joint.specs.shared.BestLists.{best_list, tight_list, list_value, zip_rank, zip_same}
 use Rattle.landing_joint.specs.shared.SortedBySeconds.{in_sorted_by, sorted_by_in, sorted_by_ascends, map_ascends, ascends_same}
 
 -- ---- orders of ranks
-
-less_is : (a b : ℕ) → a < b → nat_cmp a b ≡ Less
-less_is a b lt = rw (lt-ltb a b lt)
-
-equal_is : (a b : ℕ) → a ≡ b → nat_cmp a b ≡ Equal
-equal_is a b e = rw (le-ltb a b (omega arith), eq-eqb a b e)
 
 -- no greater order comes no later
 pub no_greater_no_later : (xs ys : List ℕ) → NoGreaterOrder xs ys → ComesNoLater xs ys
 no_greater_no_later [] [] n = refl
 no_greater_no_later [] (y ∷ ys) n = refl
 no_greater_no_later (x ∷ xs) [] n = absurd n
-no_greater_no_later (x ∷ xs) (y ∷ ys) (inl lt) = ap (λ o. is_le (ordering_then o (slice_cmp nat_cmp xs ys))) (less_is x y lt)
-no_greater_no_later (x ∷ xs) (y ∷ ys) (inr n) = ap (λ o. is_le (ordering_then o (slice_cmp nat_cmp xs ys))) (equal_is x y n.0) ∙ no_greater_no_later xs ys n.1
+no_greater_no_later (x ∷ xs) (y ∷ ys) (inl lt) = ap (λ o. is_le (ordering_then o (slice_cmp nat_cmp xs ys))) (sym (nat_cmp_is x y Less lt))
+no_greater_no_later (x ∷ xs) (y ∷ ys) (inr n) = ap (λ o. is_le (ordering_then o (slice_cmp nat_cmp xs ys))) (sym (nat_cmp_is x y Equal n.0)) ∙ no_greater_no_later xs ys n.1
 
 -- two orders of which none comes later are one
 pub no_later_antisym : (xs ys : List ℕ) → ComesNoLater xs ys → ComesNoLater ys xs → xs ≡ ys
@@ -66,10 +61,6 @@ ranks_are r (u ∷ us) = ap (λ l. r ∷ l) (ap (λ q. ranks_from q us) (add-one
 pub second_is : (v : Schedule) (r : ℕ) → 1 ≤ r → second_at v r ≡ of_rank 0 v r
 second_is v zero q = absurd (omega arith)
 second_is v (suc i) q = ap (λ k. get_or v k 0) {x = suc i - 1} {y = i} (omega arith)
-
-map_id_of : (rs : List ℕ) → map (λ x. x) rs ≡ rs
-map_id_of [] = refl
-map_id_of (r ∷ rs) = ap (λ l. r ∷ l) (map_id_of rs)
 
 module _ (p : lists'.Problem) (sound : SoundProblem (ranked p)) where
   in_ranks : (v : Schedule) → length v ≡ length p.flights → (r : ℕ) → In r (ranks_from 1 v) → IsRank (length p.flights) r
@@ -97,7 +88,7 @@ module _ (p : lists'.Problem) (sound : SoundProblem (ranked p)) where
       record {
         ranked = λ x i. in_ranks v long x (in_sorted_by t x rs i);
         whole = λ x q. sorted_by_in t x rs (ranks_in v long x q);
-        ascends = subst (Ascends (of_rank 0 v)) (map_id_of (order_of_list v)) (map_ascends t (of_rank 0 v) (λ x. x) (order_of_list v) (λ x i. sym (second_is v x (in_ranks v long x (in_sorted_by t x rs i)).0)) a);
+        ascends = subst (Ascends (of_rank 0 v)) (map-id (order_of_list v)) (map_ascends t (of_rank 0 v) (λ x. x) (order_of_list v) (λ x i. sym (second_is v x (in_ranks v long x (in_sorted_by t x rs i)).0)) a);
       }
 
   -- there is one such order
@@ -140,7 +131,7 @@ value_agree p t u h = ap₂ (λ x y. value_at p (x, y)) (greatest_agree (length 
 
 -- ---- costs and values
 
-cost_rises : (o : Objective) (f : lists'.Waiting) (t u : ℕ) → t ≤ u → cost_by o f t ≤ cost_by o f u
+pub cost_rises : (o : Objective) (f : lists'.Waiting) (t u : ℕ) → t ≤ u → cost_by o f t ≤ cost_by o f u
 cost_rises Makespan f t u le = omega arith
 cost_rises Delay f t u le = mul-le-mul_left f.weight (omega arith)
 
@@ -152,7 +143,7 @@ last_rises : (p : lists'.Problem) (fs : List lists'.Waiting) (t u : ℕ) → t �
 last_rises p [] t u le = omega arith
 last_rises p (f ∷ fs) t u le = le
 
-value_rises_by : (p : lists'.Problem) (o : Objective) (a b : Pair) → NoWorse a b → value_by o p a ≤ value_by o p b
+pub value_rises_by : (p : lists'.Problem) (o : Objective) (a b : Pair) → NoWorse a b → value_by o p a ≤ value_by o p b
 value_rises_by p Makespan a b le = last_rises p p.flights a.0 b.0 le.0
 value_rises_by p Delay a b le = let x = le.1 in omega arith
 
@@ -161,22 +152,6 @@ pub value_rises : (p : lists'.Problem) (a b : Pair) → NoWorse a b → value_at
 value_rises p a b le = value_rises_by p p.objective a b le
 
 -- ---- best and tight lists
-
-pub zip_same : (xs ys : List ℕ) → AllZip (λ a b. a ≤ b) xs ys → AllZip (λ a b. a ≤ b) ys xs → xs ≡ ys
-zip_same [] [] a b = refl
-zip_same [] (y ∷ ys) a b = absurd a
-zip_same (x ∷ xs) [] a b = absurd a
-zip_same (x ∷ xs) (y ∷ ys) a b = ap₂ (λ z l. z ∷ l) (le_antisymm a.0 b.0) (zip_same xs ys a.1 b.1)
-
-pub zip_get : (xs ys : List ℕ) → AllZip (λ a b. a ≤ b) xs ys → (i : ℕ) → i < length xs → get_or xs i 0 ≤ get_or ys i 0
-zip_get [] ys a i lt = absurd (omega arith)
-zip_get (x ∷ xs) [] a i lt = absurd a
-zip_get (x ∷ xs) (y ∷ ys) a zero lt = a.0
-zip_get (x ∷ xs) (y ∷ ys) a (suc i) lt = zip_get xs ys a.1 i (omega arith)
-
-pub zip_rank : (xs ys : Schedule) → AllZip (λ a b. a ≤ b) xs ys → (r : ℕ) → IsRank (length xs) r → of_rank 0 xs r ≤ of_rank 0 ys r
-zip_rank xs ys a zero q = absurd (let b = q.0 in omega arith)
-zip_rank xs ys a (suc i) q = zip_get xs ys a i (let b = q.1 in omega arith)
 
 module _ (p : lists'.Problem) (sound : SoundProblem (ranked p)) (passed : (r : ℕ) → IsRank (length p.flights) r → (of_rank no_waiting p.flights r).passed ≤ p.k) where
   listed : (u : ℕ → ℕ) → Feasible (ranked p) u → lists'.IsFeasibleList p (list_of (length p.flights) u)
@@ -271,7 +246,7 @@ module _ (p : lists'.Problem) (sound : SoundProblem (ranked p)) (passed : (r : �
         least = λ w bw tw qs os oq ow. b.least w bw tw qs os (record {
           ranked = oq.ranked;
           whole = oq.whole;
-          ascends = subst (Ascends u) (map_id_of qs) (map_ascends (of_rank 0 v) u (λ x. x) qs (λ x i. sym (at x (oq.ranked x i))) oq.ascends);
+          ascends = subst (Ascends u) (map-id qs) (map_ascends (of_rank 0 v) u (λ x. x) qs (λ x i. sym (at x (oq.ranked x i))) oq.ascends);
         }) ow;
       })
 

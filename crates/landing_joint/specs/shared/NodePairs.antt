@@ -28,7 +28,7 @@ same_member x rs os h = go (is_member x rs) (is_member x os) refl refl
     go true false e f = absurd (false≢true (sym f ∙ in_member x os (h.0 (member_in x rs e))))
     go false true e f = absurd (false≢true (sym e ∙ in_member x rs (h.1 (member_in x os f))))
 
-node_is : (m n : ℕ) (ds es : List Bool) (q r : ℕ) → m ≡ n → ds ≡ es → q ≡ r → ◌≡◌ {A = PatternNode} (m, ds, q) (n, es, r)
+pub node_is : (m n : ℕ) (ds es : List Bool) (q r : ℕ) → m ≡ n → ds ≡ es → q ≡ r → ◌≡◌ {A = PatternNode} (m, ds, q) (n, es, r)
 node_is m n ds es q r a b c = ap (λ x. (x, ds, q)) a ∙ ap (λ x. (n, x, q)) b ∙ ap (λ x. (n, es, x)) c
 
 module _ (p : Problem) (sound : SoundProblem (ranked p)) where

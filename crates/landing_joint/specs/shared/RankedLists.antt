@@ -53,11 +53,11 @@ module _ (p : lists'.Problem) where
       let d = a ∙ b ∙ c in
       omega arith
 
-  after_of : (o : Option (ℕ × Category)) (c : Category) (u : ℕ) → MatchOption o ⊤ (λ l. l.0 + separation p.table l.1 c ≤ u) → after_last p.table o c ≤ u
+  pub after_of : (o : Option (ℕ × Category)) (c : Category) (u : ℕ) → MatchOption o ⊤ (λ l. l.0 + separation p.table l.1 c ≤ u) → after_last p.table o c ≤ u
   after_of None c u m = zero-le
   after_of (Some l) c u m = m
 
-  of_after : (o : Option (ℕ × Category)) (c : Category) (u : ℕ) → after_last p.table o c ≤ u → MatchOption o ⊤ (λ l. l.0 + separation p.table l.1 c ≤ u)
+  pub of_after : (o : Option (ℕ × Category)) (c : Category) (u : ℕ) → after_last p.table o c ≤ u → MatchOption o ⊤ (λ l. l.0 + separation p.table l.1 c ≤ u)
   of_after None c u m = tt
   of_after (Some l) c u m = m
 

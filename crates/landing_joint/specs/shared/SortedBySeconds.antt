@@ -4,23 +4,24 @@ use Rattle.std.proofs.lemmas.Bool.{cases_Bool, cases_lt, lt-ltb, le-ltb}
 use Rattle.landing_rules.specs.FirstBest.{insert_by, sorted_by}
 use Rattle.cps_theory.specs.RankLists.{In, Distinct}
 use Rattle.cps_theory.specs.FirstBest.{Ascends}
-use Rattle.landing_joint.specs.shared.Insertion.{insert_moves, sort_moves, in_moved}
+use Rattle.landing_rules.specs.shared.Members.{member_permutation, in_map}
+use Rattle.landing_joint.specs.shared.Insertion.{insert_moves, sort_moves}
 use Rattle.std.specs.Prelude.{IsPermutation}
 use Rattle.std.proofs.lemmas.List.Sorted.{IsPermutation-sym}
 use Rattle.cps_theory.specs.laws.Members.{in_filter}
 
 in_inserted : (t : ℕ → ℕ) (r x : ℕ) (rs : List ℕ) → In x (insert_by t r rs) → (x ≡ r) ⊎ In x rs
-in_inserted t r x rs = in_moved (r ∷ rs) (insert_by t r rs) (IsPermutation-sym _ _ (insert_moves (λ y z. nat_lt (t y) (t z)) (insert_by t) (λ y. refl) (λ y z zs. refl) r rs)) x
+in_inserted t r x rs = member_permutation (insert_by t r rs) (r ∷ rs) x (IsPermutation-sym (r ∷ rs) (insert_by t r rs) (insert_moves (λ y z. nat_lt (t y) (t z)) (insert_by t) (λ y. refl) (λ y z zs. refl) r rs))
 
-sorted_by_moves : (t : ℕ → ℕ) (rs : List ℕ) → IsPermutation (sorted_by t rs) rs
+sorted_by_moves : (t : ℕ → ℕ) (rs : List ℕ) → IsPermutation rs (sorted_by t rs)
 sorted_by_moves t = sort_moves (λ y z. nat_lt (t y) (t z)) (insert_by t) (λ y. refl) (λ y z zs. refl) (sorted_by t) refl (λ y ys. refl)
 
 -- sorting keeps the members
 pub in_sorted_by : (t : ℕ → ℕ) (x : ℕ) (rs : List ℕ) → In x (sorted_by t rs) → In x rs
-in_sorted_by t x rs = in_moved rs (sorted_by t rs) (IsPermutation-sym _ _ (sorted_by_moves t rs)) x
+in_sorted_by t x rs = member_permutation (sorted_by t rs) rs x (IsPermutation-sym rs (sorted_by t rs) (sorted_by_moves t rs))
 
 pub sorted_by_in : (t : ℕ → ℕ) (x : ℕ) (rs : List ℕ) → In x rs → In x (sorted_by t rs)
-sorted_by_in t x rs = in_moved (sorted_by t rs) rs (sorted_by_moves t rs) x
+sorted_by_in t x rs = member_permutation rs (sorted_by t rs) x (sorted_by_moves t rs)
 
 ascends_inserted : (t : ℕ → ℕ) (r : ℕ) (rs : List ℕ) → Ascends t rs → ((q : ℕ) → In q rs → t q ≢ t r) → Ascends t (insert_by t r rs)
 ascends_inserted t r [] a ne = (λ y i. absurd i, tt)
@@ -41,21 +42,11 @@ pub filter_ascends : (t : ℕ → ℕ) (p : ℕ → Bool) (rs : List ℕ) → As
 filter_ascends t p [] a = tt
 filter_ascends t p (r ∷ rs) a = let h = filter_ascends t p rs a.1 in elim (cases_Bool (p r)) [ inl e ↦ rw e (λ y i. a.0 y (in_filter p y rs i).0, h) | inr e ↦ rw e h ]
 
-pub in_map : (f : ℕ → ℕ) (y : ℕ) (rs : List ℕ) → In y (map f rs) → (x : ℕ) × In x rs × (f x ≡ y)
-in_map f y [] m = absurd m
-in_map f y (r ∷ rs) (inl e) = (r, inl refl, sym e)
-in_map f y (r ∷ rs) (inr k) = let w = in_map f y rs k in (w.0, inr w.1, w.2)
-
-pub map_in : (f : ℕ → ℕ) (x : ℕ) (rs : List ℕ) → In x rs → In (f x) (map f rs)
-map_in f x [] m = absurd m
-map_in f x (r ∷ rs) (inl e) = inl (ap f e)
-map_in f x (r ∷ rs) (inr k) = inr (map_in f x rs k)
-
 -- other names with the same seconds ascend too
 pub map_ascends : (t u : ℕ → ℕ) (f : ℕ → ℕ) (rs : List ℕ) → ((x : ℕ) → In x rs → u (f x) ≡ t x) → Ascends t rs → Ascends u (map f rs)
 map_ascends t u f [] h a = tt
 map_ascends t u f (r ∷ rs) h a = (
-  λ y i. let w = in_map f y rs i in let x = a.0 w.0 w.1 in let e = h r (inl refl) in let g = h w.0 (inr w.1) in subst (λ z. u (f r) < u z) w.2 (omega arith),
+  λ y i. let w = in_map f rs y i in let x = a.0 w.0 w.1 in let e = h r (inl refl) in let g = h w.0 (inr w.1) in subst (λ z. u (f r) < u z) (sym w.2) (omega arith),
   map_ascends t u f rs (λ x i. h x (inr i)) a.1,
 )
 

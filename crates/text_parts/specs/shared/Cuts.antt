@@ -1,18 +1,15 @@
 -- A text is cut at its first mark.
-use Rattle.std.proofs.Common.{◌≡◌, ℕ, ◌+◌, ◌-◌, ◌<◌, ◌≤◌, List, [], ◌∷◌, false, length, take, drop, Some, None, arith, inl, inr, length-drop}
+use Rattle.std.proofs.Common.{◌≡◌, ℕ, ◌+◌, ◌-◌, ◌<◌, ◌≤◌, List, [], ◌∷◌, false, length, take, drop, Some, None, arith, inl, inr}
 use Rattle.std.specs.Prelude.{◌==◌, position, nat_lt}
 use Rattle.std.specs.List.{position_or_len}
-use Rattle.std.proofs.Math.Seq.{take-length}
 use Rattle.std.proofs.lemmas.Bool.{cases_Bool}
 use Rattle.std.proofs.lemmas.Grind.{common_steps}
 use Rattle.std.proofs.lemmas.Option.{same_Some}
 use Rattle.std.proofs.lemmas.List.Sums.{fails_before_first, count_by-le-length}
 use Rattle.std.proofs.lemmas.List.Elements.{All-from_get_or}
 use Rattle.std.proofs.lemmas.List.Splits.{slice_split_first, slice_split_none, length-slice_split}
+use Rattle.std.proofs.lemmas.List.{take_rest}
 use Rattle.text_parts.specs.Parts.{parts}
-
-rest_is : (k : ℕ) (text : List ℕ) → take (length text - k) (drop k text) ≡ drop k text
-rest_is k text = rw (← length-drop k text) (take-length (drop k text))
 
 pub cut_at : (mark : ℕ) (text : List ℕ) (i : ℕ) → position (λ b. b == mark) text ≡ Some i → parts mark text ≡ take i text ∷ parts mark (take (length text - (i + 1)) (drop (i + 1) text))
 cut_at mark text i found =
@@ -20,7 +17,7 @@ cut_at mark text i found =
       | inl within ↦
           let at : position_or_len (λ b. b == mark) text ≡ i = same_Some _ _ (rw within at found) in
           let below : position_or_len (λ b. b == mark) text < length text = grind (arith, common_steps) in
-          rw rest_is (rw at at (slice_split_first (λ b. b == mark) text 0 below))
+          rw take_rest (rw at at (slice_split_first (λ b. b == mark) text 0 below))
       | inr past ↦ let none : None ≡ Some i = rw past at found in absurd (cc none)
     ]
 

@@ -1,13 +1,13 @@
 -- What is printed reads back: numbers and callsigns, and parts without their mark.
-use Rattle.std.proofs.Common.{◌≡◌, ℕ, zero, suc, ◌<◌, ◌≤◌, ◌^◌, Bool, true, false, cond, ltb, eqb, not, ◌&&◌, ◌||◌, ◌⊎◌, List, [], ◌∷◌, ◌++◌, length, get_or, Some, Ok, Err, refl, ap, subst, arith, inl, inr}
+use Rattle.std.proofs.Common.{◌≡◌, ℕ, zero, suc, ◌<◌, ◌≤◌, ◌^◌, Bool, true, false, cond, ltb, eqb, not, ◌||◌, ◌⊎◌, List, [], ◌∷◌, ◌++◌, length, get_or, Some, Ok, Err, refl, ap, subst, arith, inl, inr}
 use Rattle.std.specs.Prelude.{◌==◌, All, decimal}
 use Rattle.std.specs.List.{list_all}
 use Rattle.std.specs.Char.{is_ascii_digit}
 use Rattle.std.specs.Str.Parse.{digits_value}
 use Rattle.std.specs.Str.Parse.{AllDigits}
 use Rattle.std.proofs.lemmas.Str.Parse.{digit_at}
-use Rattle.std.proofs.lemmas.Grind.{get_or_default_zero}
-use Rattle.std.proofs.lemmas.Bool.{le-leb, le-ltb, lt-ltb, ne_eqb, or_right}
+use Rattle.std.proofs.lemmas.List.{get_or_default}
+use Rattle.std.proofs.lemmas.Bool.{and_from, and_parts, le-leb, le-ltb, lt-ltb, ne_eqb, not-true, or_right}
 use Rattle.cps_base.specs.declared.number.NumberFault.TheVariants.{NotNumber, Below, Above}
 use Rattle.std.proofs.lemmas.Fmt.{decimal_is_IsNumeral, decimal_digit, first_decimal}
 use Rattle.std.proofs.lemmas.List.Splits.{slice_split_at, slice_split_none}
@@ -26,13 +26,6 @@ cut mark a b h e = slice_split_at (λ x. x == mark) a mark b h e
 pub uncut : (mark : ℕ) (a : List ℕ) → Lacks mark a → parts mark a ≡ a ∷ []
 uncut mark a h = slice_split_none (λ x. x == mark) a h
 
-pub and_true : (a b : Bool) → a && b ≡ true → (a ≡ true) × (b ≡ true)
-and_true true b e = (refl, e)
-and_true false b e = absurd (cc)
-
-pub and_is : (a b : Bool) → a ≡ true → b ≡ true → a && b ≡ true
-and_is a b p q = rw (p, q) refl
-
 -- ---- numbers
 
 all_digits : (ds : List ℕ) → AllDigits 10 ds → list_all is_ascii_digit ds ≡ true
@@ -42,13 +35,14 @@ all_digits (d ∷ ds) h =
     let here : is_ascii_digit d ≡ true = rw (le-leb 48 d r.0, le-leb d 57 r.1) refl in
     rw here (all_digits ds h.1)
 
-is_numeral : (n : ℕ) → n < 2 ^ 64 → is_number (decimal n) ≡ true
+-- a number as printed is one as read
+pub is_numeral : (n : ℕ) → n < 2 ^ 64 → is_number (decimal n) ≡ true
 is_numeral n fits =
     let d = decimal_is_IsNumeral n fits in
     let some = lt-ltb 0 (length (decimal n)) d.0.0 in
     let all = all_digits (decimal n) d.0.1 in
     let one : eqb (length (decimal n)) 1 || not (eqb (get_or (decimal n) 0 0) 48) ≡ true = go n fits in
-    and_is _ _ (and_is _ _ some one) all
+    and_from _ _ (and_from _ _ some one) all
   where
     go : (n : ℕ) → n < 2 ^ 64 → eqb (length (decimal n)) 1 || not (eqb (get_or (decimal n) 0 0) 48) ≡ true
     go zero fits = ap (λ (ds : List ℕ). eqb (length ds) 1 || not (eqb (get_or ds 0 0) 48)) (decimal_digit 0 (omega arith))
@@ -68,27 +62,20 @@ decimal_reads n least most fits low high =
 pub decimal_lacks : (n mark : ℕ) → n < 2 ^ 64 → (mark < 48) ⊎ (57 < mark) → Lacks mark (decimal n)
 decimal_lacks n mark fits out =
     let d = decimal_is_IsNumeral n fits in
-    λ k x lt. let r = digit_at (decimal n) k d.0.1 lt in let e = get_or_default (decimal n) k x lt in ne_eqb (get_or (decimal n) k x) mark (λ same. elim out [ inl a ↦ omega (arith, r.0, r.1) | inr a ↦ omega (arith, r.0, r.1) ])
-  where
-    get_or_default : (xs : List ℕ) (k x : ℕ) → k < length xs → get_or xs k x ≡ get_or xs k 0
-    get_or_default xs k x lt = get_or_default_zero xs k x lt
+    λ k x lt. let r = digit_at (decimal n) k d.0.1 lt in let e = get_or_default (decimal n) k x 0 lt in ne_eqb (get_or (decimal n) k x) mark (λ same. elim out [ inl a ↦ omega (arith, r.0, r.1) | inr a ↦ omega (arith, r.0, r.1) ])
 
 -- by a test that computes
 pub lacks_by : (mark : ℕ) (a : List ℕ) → list_all (λ b. not (b == mark)) a ≡ true → Lacks mark a
 lacks_by mark [] e = λ k d lt. absurd (omega arith)
 lacks_by mark (x ∷ a) e =
-    let h = and_true (not (x == mark)) (list_all (λ b. not (b == mark)) a) e in
-    All-cons (λ b. (b == mark) ≡ false) x a (flip (x == mark) h.0) (lacks_by mark a h.1)
-  where
-    flip : (b : Bool) → not b ≡ true → b ≡ false
-    flip true e = absurd (cc)
-    flip false e = refl
+    let h = and_parts (not (x == mark)) (list_all (λ b. not (b == mark)) a) e in
+    All-cons (λ b. (b == mark) ≡ false) x a (not-true (x == mark) h.0) (lacks_by mark a h.1)
 
 -- ---- callsigns
 
 -- a callsign lacks each mark that none of its bytes may be
 pub callsign_lacks : (mark : ℕ) (text : List ℕ) → is_callsign_byte mark ≡ false → is_callsign text ≡ true → Lacks mark text
-callsign_lacks mark text never e = go text (and_true _ (list_all is_callsign_byte text) e).1
+callsign_lacks mark text never e = go text (and_parts _ (list_all is_callsign_byte text) e).1
   where
     other : (b : ℕ) → is_callsign_byte b ≡ true → (b == mark) ≡ false
     other b h = ne_eqb b mark (λ same. let x : is_callsign_byte mark ≡ true = subst (λ (y : ℕ). is_callsign_byte y ≡ true) same h in cc)
@@ -96,5 +83,5 @@ callsign_lacks mark text never e = go text (and_true _ (list_all is_callsign_byt
     go : (text : List ℕ) → list_all is_callsign_byte text ≡ true → Lacks mark text
     go [] e = λ k d lt. absurd (omega arith)
     go (b ∷ text) e =
-        let h = and_true (is_callsign_byte b) (list_all is_callsign_byte text) e in
+        let h = and_parts (is_callsign_byte b) (list_all is_callsign_byte text) e in
         All-cons (λ x. (x == mark) ≡ false) b text (other b h.0) (go text h.1)

@@ -3,7 +3,7 @@ use Rattle.std.specs.List.{cons_option}
 use Rattle.landing_rules.specs.Audit.{lines_found}
 use Rattle.plan_file.specs.Shown.{shown_of}
 use Rattle.audit.proofs.FoundLines.{found_step}
-use Rattle.audit.proofs.AtEnd.{at_end}
+use Rattle.audit.specs.shared.Steps.{at_end}
 use Rattle.audit.proofs.found.lines_found.Goals as goal
 
 pub loop-line-preserved : goal.loop-line-preserved

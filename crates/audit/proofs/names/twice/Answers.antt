@@ -7,7 +7,7 @@ use Rattle.plan_file.specs.declared.landing.Landing.{Landing}
 use Rattle.audit.specs.Findings.{finding_of, repeated}
 use Rattle.audit.specs.Seen.{has_name}
 use Rattle.audit.proofs.SeenNames.{twice_step, seen_step}
-use Rattle.audit.proofs.AtEnd.{at_end}
+use Rattle.audit.specs.shared.Steps.{at_end}
 use Rattle.audit.proofs.names.twice.Goals as goal
 
 pub loop-line-preserved : goal.loop-line-preserved

@@ -3,7 +3,7 @@ use Rattle.std.proofs.Common.{◌+◌, ◌++◌, get_or, map, drop, refl, ap, �
 use Rattle.landing_rules.specs.Audit.{disordered_from}
 use Rattle.plan_file.specs.Shown.{shown_of}
 use Rattle.audit.specs.Findings.{finding_of, out_of_order}
-use Rattle.audit.proofs.AtEnd.{at_end}
+use Rattle.audit.specs.shared.Steps.{at_end}
 use Rattle.audit.proofs.Ordering.{order_step}
 use Rattle.audit.proofs.order.disordered_behind.Goals as goal
 

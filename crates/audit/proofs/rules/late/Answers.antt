@@ -5,7 +5,7 @@ use Rattle.landing_rules.specs.Flights.{Landing}
 use Rattle.landing_rules.specs.Audit.{landing_of, late, listed_late}
 use Rattle.audit.specs.Findings.{finding_of}
 use Rattle.audit.proofs.EachPair.{flat_seen}
-use Rattle.audit.proofs.AtEnd.{at_end}
+use Rattle.audit.specs.shared.Steps.{at_end}
 use Rattle.audit.proofs.rules.late.Goals as goal
 
 pub loop-d-preserved : goal.loop-d-preserved

@@ -4,7 +4,7 @@ use Rattle.landing_rules.specs.Flights.{Landing}
 use Rattle.landing_rules.specs.Audit.{landing_of, are_apart, unseparated, Separation}
 use Rattle.audit.specs.Findings.{finding_of}
 use Rattle.audit.proofs.EachPair.{pairs_more}
-use Rattle.audit.proofs.AtEnd.{at_end}
+use Rattle.audit.specs.shared.Steps.{at_end}
 use Rattle.audit.proofs.rules.unseparated.Goals as goal
 
 pub loop-i-preserved : goal.loop-i-preserved

@@ -4,7 +4,7 @@ use Rattle.std.proofs.lemmas.List.{drop_more}
 use Rattle.landing_rules.specs.Text.{line}
 use Rattle.audit.specs.Findings.{finding_of}
 use Rattle.audit.specs.Texts.{finding_words, findings_text}
-use Rattle.audit.proofs.AtEnd.{at_end}
+use Rattle.audit.specs.shared.Steps.{at_end}
 use Rattle.audit.proofs.text.append_lines.Goals as goal
 
 pub loop-finding-preserved : goal.loop-finding-preserved

@@ -1,4 +1,5 @@
 use Rattle.std.proofs.Common.{◌≤◌, ℕ, rules, sym, subst}
+use Rattle.landing_rules.specs.Limits.{greatest_value}
 use Rattle.landing_rules.specs.Problem.{IsBestList}
 use Rattle.cert_check.specs.Landings.{Landings}
 use Rattle.cert_check.specs.Meaning.{IsShownOptimal}
@@ -18,4 +19,4 @@ returns-in_ok-landings-in-Some-clause-answered c =
 
 pub returns-in_ok-landings-in-Some-clause-claim : goal.returns-in_ok-landings-in-Some-clause-claim
 returns-in_ok-landings-in-Some-clause-claim c =
-    subst (λ (v : ℕ). v ≤ 8639950000) (sym c.value_of-value.ensures) (objective_low c.args.problem.now c.in-Some.schedule.now c.head-well_formed.ensures.well_formed c.seconds_are_in_days.ensures)
+    subst (λ (v : ℕ). v ≤ greatest_value) (sym c.value_of-value.ensures) (objective_low c.args.problem.now c.in-Some.schedule.now c.head-well_formed.ensures.well_formed c.seconds_are_in_days.ensures)

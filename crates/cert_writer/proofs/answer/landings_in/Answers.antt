@@ -1,7 +1,8 @@
 use Rattle.std.proofs.Common.{◌-◌, get_or, arith, sym, subst, refl}
 use Rattle.cps_problem.specs.Seen.{waiting_of}
 use Rattle.certificate.specs.Reading.{AreLandings}
-use Rattle.cert_writer.proofs.AnswerLemmas.{landings_more, listed_more}
+use Rattle.certificate.specs.shared.PartsKept.{landings_more}
+use Rattle.cert_writer.proofs.AnswerLemmas.{listed_more}
 use Rattle.cert_writer.proofs.answer.landings_in.Goals as goal
 
 pub loop-rank-preserved : goal.loop-rank-preserved
@@ -15,5 +16,5 @@ loop-rank-preserved c =
     let after = c.in_ok-push.ensures.items in
     let low = c.requires.seconds (r - 1) 0 (omega (arith, one, most, c.requires.room)) in (
       listed_more p t c.args.order.now c.loop-rank.rank-index c.loop-rank.landings.items c.push.new.self.items r (waiting_of c.flight.result.now) c.second.result c.loop-rank-test.true refl one c.flight.ensures c.second.ensures c.loop-rank.invariant.0 after,
-      subst AreLandings (sym after) (landings_more c.loop-rank.landings.items c.flight.result.now.callsign c.second.result c.loop-rank.invariant.1 c.bytes-known.ensures.callsign (omega (arith, low, c.second.ensures))),
+      subst AreLandings (sym after) (landings_more c.loop-rank.landings.items (c.flight.result.now.callsign, c.second.result) c.loop-rank.invariant.1 c.bytes-known.ensures.callsign (omega (arith, low, c.second.ensures))),
     )

@@ -10,7 +10,7 @@ use Rattle.replan.specs.Held.{HeldProblem}
 use Rattle.replan.specs.Kept.{held_of}
 use Rattle.replan.specs.Readers.{stage_in, lists_in}
 use Rattle.cert_writer.specs.Gathered.{HasBetter, HasOnly, IsInRange}
-use Rattle.cert_writer.specs.Slots.{number_of}
+use Rattle.certificate.specs.Patterns.{number_of}
 use Rattle.cert_writer.specs.Written.{AreWrittenBelow, IsGathered}
 use Rattle.cert_writer.proofs.WriteLemmas.{AreBestAt, stage_held, slot_within, slot_is, found_in, covers_in, none_best, last_known, written_in_form, written_more}
 use Rattle.cert_writer.proofs.states.add_state.Goals as goal

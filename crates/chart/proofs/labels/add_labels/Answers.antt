@@ -3,7 +3,8 @@ use Rattle.audit.specs.Findings.{finding_of}
 use Rattle.chart.specs.declared.element.Element.TheVariants as element
 use Rattle.chart.specs.declared.element.Label.{Label}
 use Rattle.chart.specs.Elements.{label_of, labels_drawn}
-use Rattle.chart.proofs.Steps.{loop_step, tail_read}
+use Rattle.audit.specs.shared.Steps.{loop_step}
+use Rattle.chart.proofs.Steps.{tail_read}
 use Rattle.chart.proofs.labels.add_labels.Goals as goal
 
 pub loop-rest-preserved : goal.loop-rest-preserved

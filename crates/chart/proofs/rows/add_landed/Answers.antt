@@ -2,7 +2,8 @@ use Rattle.std.proofs.Common.{List, [], ◌∷◌, ◌-◌, length, map, take, d
 use Rattle.plan_file.specs.Shown.{shown_of}
 use Rattle.plan_file.specs.declared.landing.Landing.{Landing}
 use Rattle.chart.specs.Rows.{Row, landed_row}
-use Rattle.chart.proofs.Steps.{loop_step, tail_read}
+use Rattle.audit.specs.shared.Steps.{loop_step}
+use Rattle.chart.proofs.Steps.{tail_read}
 use Rattle.chart.proofs.rows.add_landed.Goals as goal
 
 pub loop-rest-preserved : goal.loop-rest-preserved

@@ -1,7 +1,8 @@
 use Rattle.std.proofs.Common.{◌++◌, ◌+◌, ◌-◌, Bool, length, map, take, drop, sym, ap, arith}
 use Rattle.audit.specs.Findings.{finding_of}
 use Rattle.chart.specs.Elements.{row_drawn, rows_drawn}
-use Rattle.chart.proofs.Steps.{loop_step, tail_read}
+use Rattle.audit.specs.shared.Steps.{loop_step}
+use Rattle.chart.proofs.Steps.{tail_read}
 use Rattle.chart.proofs.shapes.add_rows.Goals as goal
 
 pub loop-rest-preserved : goal.loop-rest-preserved

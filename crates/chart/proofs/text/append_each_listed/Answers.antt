@@ -3,7 +3,8 @@ use Rattle.std.specs.Prelude.{flat_map}
 use Rattle.audit.specs.declared.finding.Finding.{Finding}
 use Rattle.audit.specs.Findings.{finding_of}
 use Rattle.chart.specs.Texts.{listed_text}
-use Rattle.chart.proofs.Steps.{loop_step, tail_read}
+use Rattle.audit.specs.shared.Steps.{loop_step}
+use Rattle.chart.proofs.Steps.{tail_read}
 use Rattle.chart.proofs.text.append_each_listed.Goals as goal
 
 pub loop-rest-preserved : goal.loop-rest-preserved

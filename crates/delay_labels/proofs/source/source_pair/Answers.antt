@@ -3,7 +3,7 @@ use Rattle.std.specs.Prelude.{unwrap_or}
 use Rattle.std.proofs.lemmas.Int.{ints}
 use Rattle.std.proofs.lemmas.Iterator.{serves_from_Range}
 use Rattle.cps_network.specs.Lists.{node_at}
-use Rattle.cps_network.specs.shared.LeadingWindows.{Sources, same_rank, in_bytes, some_range, leader_range, rank_range}
+use Rattle.cps_network.specs.shared.LeadingWindows.{same_rank, in_bytes, some_range, leader_range, rank_range, sources_of}
 use Rattle.cps_network.specs.Pairs.{GivesPair, list_at}
 use Rattle.delay_labels.proofs.FoundPairs.{first_from_find_map}
 use Rattle.delay_labels.proofs.PairLemmas.{GivesNone, GivesFirst, listed_small, first_source, given_source}
@@ -12,28 +12,16 @@ use Rattle.delay_labels.proofs.source.source_pair.Goals as goal
 pub node-requires : goal.node-requires
 node-requires g c =
     let p = c.args.problem.now in
-    let s : Sources p g.row.W c.args.before.now.0 c.args.before.now.1 c.args.node.now c.sources-from.result.0 c.sources-from.result.1 = record {
-      odd = c.requires.width;
-      laws = record { network = c.prefix_laws.ensures.network; alike = c.prefix_laws.ensures.sources; ranks = c.window_laws.ensures.ranks; leads = c.window_laws.ensures.leads };
-      holds = c.requires.before.landable;
-      node = given_source p c.args.before.now c.args.labels.now c.args.node.now (c.args.second, c.args.cost) c.requires.given.0 c.requires.given.1 c.requires.given.2;
-      within = c.sources-from.ensures.range.1;
-      exact = c.sources-from.ensures.exact;
-    } in
+    let s = sources_of p g.row.W c.args.before.now c.args.node.now c.sources-from.result.0 c.sources-from.result.1 c.requires.width c.prefix_laws.ensures.network c.prefix_laws.ensures.sources c.window_laws.ensures.ranks c.window_laws.ensures.leads
+    c.requires.before.landable (given_source p c.args.before.now c.args.labels.now c.args.node.now (c.args.second, c.args.cost) c.requires.given.0 c.requires.given.1 c.requires.given.2) c.sources-from.ensures.range.1 c.sources-from.ensures.exact in
     let some = some_range p g.row.W c.args.before.now.0 c.args.before.now.1 c.args.node.now c.sources-from.result.0 c.sources-from.result.1 s in
     (search rules, (search rules, omega (arith, some, c.sources-from.ensures.range)))
 
 pub last_rank-last-requires : goal.last_rank-last-requires
 last_rank-last-requires g c =
     let p = c.args.problem.now in
-    let s : Sources p g.row.W c.args.before.now.0 c.args.before.now.1 c.args.node.now c.sources-from.result.0 c.sources-from.result.1 = record {
-      odd = c.requires.width;
-      laws = record { network = c.prefix_laws.ensures.network; alike = c.prefix_laws.ensures.sources; ranks = c.window_laws.ensures.ranks; leads = c.window_laws.ensures.leads };
-      holds = c.requires.before.landable;
-      node = given_source p c.args.before.now c.args.labels.now c.args.node.now (c.args.second, c.args.cost) c.requires.given.0 c.requires.given.1 c.requires.given.2;
-      within = c.sources-from.ensures.range.1;
-      exact = c.sources-from.ensures.exact;
-    } in
+    let s = sources_of p g.row.W c.args.before.now c.args.node.now c.sources-from.result.0 c.sources-from.result.1 c.requires.width c.prefix_laws.ensures.network c.prefix_laws.ensures.sources c.window_laws.ensures.ranks c.window_laws.ensures.leads
+    c.requires.before.landable (given_source p c.args.before.now c.args.labels.now c.args.node.now (c.args.second, c.args.cost) c.requires.given.0 c.requires.given.1 c.requires.given.2) c.sources-from.ensures.range.1 c.sources-from.ensures.exact in
     let l = leader_range p g.row.W c.args.before.now.0 c.args.before.now.1 c.args.node.now c.sources-from.result.0 c.sources-from.result.1 s in
     let few : length p.flights ≤ 60 = c.head-near.ensures.well_formed.few_flights in
     let e = l.0 in
@@ -43,14 +31,8 @@ last_rank-last-requires g c =
 pub last_rank-rank-requires : goal.last_rank-rank-requires
 last_rank-rank-requires g c =
     let p = c.args.problem.now in
-    let s : Sources p g.row.W c.args.before.now.0 c.args.before.now.1 c.args.node.now c.sources-from.result.0 c.sources-from.result.1 = record {
-      odd = c.requires.width;
-      laws = record { network = c.prefix_laws.ensures.network; alike = c.prefix_laws.ensures.sources; ranks = c.window_laws.ensures.ranks; leads = c.window_laws.ensures.leads };
-      holds = c.requires.before.landable;
-      node = given_source p c.args.before.now c.args.labels.now c.args.node.now (c.args.second, c.args.cost) c.requires.given.0 c.requires.given.1 c.requires.given.2;
-      within = c.sources-from.ensures.range.1;
-      exact = c.sources-from.ensures.exact;
-    } in
+    let s = sources_of p g.row.W c.args.before.now c.args.node.now c.sources-from.result.0 c.sources-from.result.1 c.requires.width c.prefix_laws.ensures.network c.prefix_laws.ensures.sources c.window_laws.ensures.ranks c.window_laws.ensures.leads
+    c.requires.before.landable (given_source p c.args.before.now c.args.labels.now c.args.node.now (c.args.second, c.args.cost) c.requires.given.0 c.requires.given.1 c.requires.given.2) c.sources-from.ensures.range.1 c.sources-from.ensures.exact in
     let k = rank_range p g.row.W c.args.before.now.0 c.args.before.now.1 c.args.node.now c.sources-from.result.0 c.sources-from.result.1 s in
     let few : length p.flights ≤ 60 = c.head-near.ensures.well_formed.few_flights in
     let stage_is : c.number-2.result + 1 ≡ suc c.args.before.now.0 = omega (arith, c.number-2.ensures) in
@@ -61,14 +43,8 @@ last_rank-rank-requires g c =
 pub find_map-requires-clause-callable : goal.find_map-requires-clause-callable
 find_map-requires-clause-callable g c =
     let p = c.args.problem.now in
-    let s : Sources p g.row.W c.args.before.now.0 c.args.before.now.1 c.args.node.now c.sources-from.result.0 c.sources-from.result.1 = record {
-      odd = c.requires.width;
-      laws = record { network = c.prefix_laws.ensures.network; alike = c.prefix_laws.ensures.sources; ranks = c.window_laws.ensures.ranks; leads = c.window_laws.ensures.leads };
-      holds = c.requires.before.landable;
-      node = given_source p c.args.before.now c.args.labels.now c.args.node.now (c.args.second, c.args.cost) c.requires.given.0 c.requires.given.1 c.requires.given.2;
-      within = c.sources-from.ensures.range.1;
-      exact = c.sources-from.ensures.exact;
-    } in
+    let s = sources_of p g.row.W c.args.before.now c.args.node.now c.sources-from.result.0 c.sources-from.result.1 c.requires.width c.prefix_laws.ensures.network c.prefix_laws.ensures.sources c.window_laws.ensures.ranks c.window_laws.ensures.leads
+    c.requires.before.landable (given_source p c.args.before.now c.args.labels.now c.args.node.now (c.args.second, c.args.cost) c.requires.given.0 c.requires.given.1 c.requires.given.2) c.sources-from.ensures.range.1 c.sources-from.ensures.exact in
     let l = leader_range p g.row.W c.args.before.now.0 c.args.before.now.1 c.args.node.now c.sources-from.result.0 c.sources-from.result.1 s in
     let k = rank_range p g.row.W c.args.before.now.0 c.args.before.now.1 c.args.node.now c.sources-from.result.0 c.sources-from.result.1 s in
     let leader_is = same_rank c.node.result (node_at c.args.before.now.1 c.sources-from.result.0) c.number.result c.args.before.now.0 c.last_rank-last.result (g.row.W - 1) c.node.ensures.value c.number.ensures c.last_rank-last.ensures in
@@ -92,14 +68,8 @@ found : (g : _) (c : goal.After-unwrap_or g) → GivesPair c.args.problem.now c.
     → GivesPair c.args.problem.now c.args.before.now c.args.labels.now c.args.node.now (c.args.second, c.args.cost) place index → ⊥)
 found g c =
     let p = c.args.problem.now in
-    let s : Sources p g.row.W c.args.before.now.0 c.args.before.now.1 c.args.node.now c.sources-from.result.0 c.sources-from.result.1 = record {
-      odd = c.requires.width;
-      laws = record { network = c.prefix_laws.ensures.network; alike = c.prefix_laws.ensures.sources; ranks = c.window_laws.ensures.ranks; leads = c.window_laws.ensures.leads };
-      holds = c.requires.before.landable;
-      node = given_source p c.args.before.now c.args.labels.now c.args.node.now (c.args.second, c.args.cost) c.requires.given.0 c.requires.given.1 c.requires.given.2;
-      within = c.sources-from.ensures.range.1;
-      exact = c.sources-from.ensures.exact;
-    } in
+    let s = sources_of p g.row.W c.args.before.now c.args.node.now c.sources-from.result.0 c.sources-from.result.1 c.requires.width c.prefix_laws.ensures.network c.prefix_laws.ensures.sources c.window_laws.ensures.ranks c.window_laws.ensures.leads
+    c.requires.before.landable (given_source p c.args.before.now c.args.labels.now c.args.node.now (c.args.second, c.args.cost) c.requires.given.0 c.requires.given.1 c.requires.given.2) c.sources-from.ensures.range.1 c.sources-from.ensures.exact in
     let leader_is = same_rank c.node.result (node_at c.args.before.now.1 c.sources-from.result.0) c.number.result c.args.before.now.0 c.last_rank-last.result (g.row.W - 1) c.node.ensures.value c.number.ensures c.last_rank-last.ensures in
     let stage_is : c.number-2.result + 1 ≡ suc c.args.before.now.0 = omega (arith, c.number-2.ensures) in
     let rank_is = same_rank c.args.node.now c.args.node.now (c.number-2.result + 1) (suc c.args.before.now.0) c.last_rank-rank.result (g.row.W - 1) refl stage_is c.last_rank-rank.ensures in

@@ -1,7 +1,8 @@
 -- A text with two marks or more is no span.
 use Rattle.std.proofs.Common.{sym}
+use Rattle.text_parts.specs.shared.Cuts.{has_part}
 use Rattle.event_log.specs.Spans.{span_in}
-use Rattle.event_log.proofs.Spans.{too_many, has_part}
+use Rattle.event_log.proofs.Spans.{too_many}
 use Rattle.event_log.proofs.span.read_span.Goals as goal
 
 pub returns-in-Some-more-clause-value : goal.returns-in-Some-more-clause-value

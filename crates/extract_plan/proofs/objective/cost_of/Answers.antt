@@ -1,6 +1,6 @@
 use Rattle.std.proofs.Common.{◌-◌, ◌≤◌, arith, ap, sym, subst, ◌∙◌}
 use Rattle.landing_joint.specs.RankedProblem.{cost_at}
-use Rattle.extract_plan.proofs.Totals.{at_rank}
+use Rattle.landing_joint.specs.shared.FirstBestLists.{second_is}
 use Rattle.extract_plan.proofs.objective.cost_of.Goals as goal
 
 pub returns : goal.returns
@@ -9,6 +9,6 @@ returns c =
     let r = c.args.rank in
     let t : c.second.result ≤ 172799 = subst (λ n. n ≤ 172799) (sym c.second.ensures) (c.requires.seconds (r - 1) 0 (omega (arith, c.requires.rank, c.requires.room))) in
     record {
-      value = c.from.ensures ∙ c.cost.ensures.value ∙ ap (cost_at c.args.problem.now r) (c.second.ensures ∙ sym (at_rank s r c.requires.rank.0));
+      value = c.from.ensures ∙ c.cost.ensures.value ∙ ap (cost_at c.args.problem.now r) (c.second.ensures ∙ second_is s r c.requires.rank.0);
       small = omega (arith, t, c.cost.ensures.small, c.from.ensures);
     }

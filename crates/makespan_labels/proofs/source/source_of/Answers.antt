@@ -5,7 +5,7 @@ use Rattle.std.proofs.lemmas.Int.{ints}
 use Rattle.std.proofs.lemmas.Iterator.{first_from_Range, serves_from_Range}
 use Rattle.landing_joint.specs.RankedProblem.{landing_after}
 use Rattle.cps_network.specs.Lists.{node_at}
-use Rattle.cps_network.specs.shared.LeadingWindows.{Sources, same_rank, in_bytes, some_range, leader_range, rank_range}
+use Rattle.cps_network.specs.shared.LeadingWindows.{same_rank, in_bytes, some_range, leader_range, rank_range, sources_of}
 use Rattle.landing_rules.specs.Rules.{last_second}
 use Rattle.makespan_labels.specs.Columns.{IsEntry}
 use Rattle.makespan_labels.specs.Labels.{no_label, GivesLabel}
@@ -16,28 +16,16 @@ use Rattle.makespan_labels.proofs.source.source_of.Goals as goal
 pub node-requires : goal.node-requires
 node-requires g c =
     let p = c.args.problem.now in
-    let s : Sources p g.row.W c.args.before.now.0 c.args.before.now.1 c.args.node.now c.sources-from.result.0 c.sources-from.result.1 = record {
-      odd = c.requires.width;
-      laws = record { network = c.prefix_laws.ensures.network; alike = c.prefix_laws.ensures.sources; ranks = c.window_laws.ensures.ranks; leads = c.window_laws.ensures.leads };
-      holds = c.requires.before.landable;
-      node = c.requires.node;
-      within = c.sources-from.ensures.range.1;
-      exact = c.sources-from.ensures.exact;
-    } in
+    let s = sources_of p g.row.W c.args.before.now c.args.node.now c.sources-from.result.0 c.sources-from.result.1 c.requires.width c.prefix_laws.ensures.network c.prefix_laws.ensures.sources c.window_laws.ensures.ranks c.window_laws.ensures.leads
+    c.requires.before.landable c.requires.node c.sources-from.ensures.range.1 c.sources-from.ensures.exact in
     let some = some_range p g.row.W c.args.before.now.0 c.args.before.now.1 c.args.node.now c.sources-from.result.0 c.sources-from.result.1 s in
     (search rules, (search rules, omega (arith, some, c.sources-from.ensures.range)))
 
 pub last_rank-leader-requires : goal.last_rank-leader-requires
 last_rank-leader-requires g c =
     let p = c.args.problem.now in
-    let s : Sources p g.row.W c.args.before.now.0 c.args.before.now.1 c.args.node.now c.sources-from.result.0 c.sources-from.result.1 = record {
-      odd = c.requires.width;
-      laws = record { network = c.prefix_laws.ensures.network; alike = c.prefix_laws.ensures.sources; ranks = c.window_laws.ensures.ranks; leads = c.window_laws.ensures.leads };
-      holds = c.requires.before.landable;
-      node = c.requires.node;
-      within = c.sources-from.ensures.range.1;
-      exact = c.sources-from.ensures.exact;
-    } in
+    let s = sources_of p g.row.W c.args.before.now c.args.node.now c.sources-from.result.0 c.sources-from.result.1 c.requires.width c.prefix_laws.ensures.network c.prefix_laws.ensures.sources c.window_laws.ensures.ranks c.window_laws.ensures.leads
+    c.requires.before.landable c.requires.node c.sources-from.ensures.range.1 c.sources-from.ensures.exact in
     let l = leader_range p g.row.W c.args.before.now.0 c.args.before.now.1 c.args.node.now c.sources-from.result.0 c.sources-from.result.1 s in
     let few : length p.flights ≤ 60 = c.head-near.ensures.well_formed.few_flights in
     let e = l.0 in
@@ -47,14 +35,8 @@ last_rank-leader-requires g c =
 pub last_rank-rank-requires : goal.last_rank-rank-requires
 last_rank-rank-requires g c =
     let p = c.args.problem.now in
-    let s : Sources p g.row.W c.args.before.now.0 c.args.before.now.1 c.args.node.now c.sources-from.result.0 c.sources-from.result.1 = record {
-      odd = c.requires.width;
-      laws = record { network = c.prefix_laws.ensures.network; alike = c.prefix_laws.ensures.sources; ranks = c.window_laws.ensures.ranks; leads = c.window_laws.ensures.leads };
-      holds = c.requires.before.landable;
-      node = c.requires.node;
-      within = c.sources-from.ensures.range.1;
-      exact = c.sources-from.ensures.exact;
-    } in
+    let s = sources_of p g.row.W c.args.before.now c.args.node.now c.sources-from.result.0 c.sources-from.result.1 c.requires.width c.prefix_laws.ensures.network c.prefix_laws.ensures.sources c.window_laws.ensures.ranks c.window_laws.ensures.leads
+    c.requires.before.landable c.requires.node c.sources-from.ensures.range.1 c.sources-from.ensures.exact in
     let k = rank_range p g.row.W c.args.before.now.0 c.args.before.now.1 c.args.node.now c.sources-from.result.0 c.sources-from.result.1 s in
     let few : length p.flights ≤ 60 = c.head-near.ensures.well_formed.few_flights in
     let stage_is : c.number-2.result + 1 ≡ suc c.args.before.now.0 = omega (arith, c.number-2.ensures) in
@@ -65,14 +47,8 @@ last_rank-rank-requires g c =
 pub find-requires-clause-callable : goal.find-requires-clause-callable
 find-requires-clause-callable g c =
     let p = c.args.problem.now in
-    let s : Sources p g.row.W c.args.before.now.0 c.args.before.now.1 c.args.node.now c.sources-from.result.0 c.sources-from.result.1 = record {
-      odd = c.requires.width;
-      laws = record { network = c.prefix_laws.ensures.network; alike = c.prefix_laws.ensures.sources; ranks = c.window_laws.ensures.ranks; leads = c.window_laws.ensures.leads };
-      holds = c.requires.before.landable;
-      node = c.requires.node;
-      within = c.sources-from.ensures.range.1;
-      exact = c.sources-from.ensures.exact;
-    } in
+    let s = sources_of p g.row.W c.args.before.now c.args.node.now c.sources-from.result.0 c.sources-from.result.1 c.requires.width c.prefix_laws.ensures.network c.prefix_laws.ensures.sources c.window_laws.ensures.ranks c.window_laws.ensures.leads
+    c.requires.before.landable c.requires.node c.sources-from.ensures.range.1 c.sources-from.ensures.exact in
     let l = leader_range p g.row.W c.args.before.now.0 c.args.before.now.1 c.args.node.now c.sources-from.result.0 c.sources-from.result.1 s in
     let k = rank_range p g.row.W c.args.before.now.0 c.args.before.now.1 c.args.node.now c.sources-from.result.0 c.sources-from.result.1 s in
     let leader_is = same_rank c.node.result (node_at c.args.before.now.1 c.sources-from.result.0) c.number.result c.args.before.now.0 c.last_rank-leader.result (g.row.W - 1) c.node.ensures.value c.number.ensures c.last_rank-leader.ensures in
@@ -99,14 +75,8 @@ found : (g : _) (c : goal.After-unwrap_or g) → GivesLabel c.args.problem.now c
     × ((place : ℕ) → place < unwrap_or c.find.result c.sources-from.result.0 → GivesLabel c.args.problem.now c.args.before.now c.args.labels.now c.args.node.now c.args.label place → ⊥)
 found g c =
     let p = c.args.problem.now in
-    let s : Sources p g.row.W c.args.before.now.0 c.args.before.now.1 c.args.node.now c.sources-from.result.0 c.sources-from.result.1 = record {
-      odd = c.requires.width;
-      laws = record { network = c.prefix_laws.ensures.network; alike = c.prefix_laws.ensures.sources; ranks = c.window_laws.ensures.ranks; leads = c.window_laws.ensures.leads };
-      holds = c.requires.before.landable;
-      node = c.requires.node;
-      within = c.sources-from.ensures.range.1;
-      exact = c.sources-from.ensures.exact;
-    } in
+    let s = sources_of p g.row.W c.args.before.now c.args.node.now c.sources-from.result.0 c.sources-from.result.1 c.requires.width c.prefix_laws.ensures.network c.prefix_laws.ensures.sources c.window_laws.ensures.ranks c.window_laws.ensures.leads
+    c.requires.before.landable c.requires.node c.sources-from.ensures.range.1 c.sources-from.ensures.exact in
     let leader_is = same_rank c.node.result (node_at c.args.before.now.1 c.sources-from.result.0) c.number.result c.args.before.now.0 c.last_rank-leader.result (g.row.W - 1) c.node.ensures.value c.number.ensures c.last_rank-leader.ensures in
     let stage_is : c.number-2.result + 1 ≡ suc c.args.before.now.0 = omega (arith, c.number-2.ensures) in
     let rank_is = same_rank c.args.node.now c.args.node.now (c.number-2.result + 1) (suc c.args.before.now.0) c.last_rank-rank.result (g.row.W - 1) refl stage_is c.last_rank-rank.ensures in

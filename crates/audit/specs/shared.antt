@@ -1,0 +1,2 @@
+-- Lemmas on loops along a list, for crates above too.
+pub mod Steps

@@ -1,0 +1,2 @@
+-- Lemmas that crates above cite too: what the parts of a certificate keep.
+pub mod PartsKept

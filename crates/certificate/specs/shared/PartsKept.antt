@@ -1,0 +1,23 @@
+-- The landings of a certificate with one more, how long a pattern is, and how great its number.
+use Rattle.std.proofs.Common.{◌≡◌, ℕ, zero, suc, ◌*◌, ◌<◌, ◌≤◌, ◌^◌, Bool, true, false, List, [], ◌∷◌, ◌++◌, length, refl, arith}
+use Rattle.std.proofs.Math.Nat.{pow-succ'}
+use Rattle.cps_base.specs.Text.{is_callsign}
+use Rattle.certificate.specs.Patterns.{is_pattern_length, number_of}
+use Rattle.certificate.specs.Reading.{AreLandings}
+
+pub landings_more : (ls : List (List ℕ × ℕ)) (l : List ℕ × ℕ) → AreLandings ls → is_callsign l.0 ≡ true → l.1 ≤ 172799 → AreLandings (ls ++ l ∷ [])
+landings_more [] l h p q = (p, q, tt)
+landings_more (x ∷ xs) l h p q = (h.0, h.1, landings_more xs l h.2 p q)
+
+-- two digits for each place that a flight may be shifted
+pub even_length : (k : ℕ) → k ≤ 3 → is_pattern_length (2 * k) ≡ true
+even_length zero h = refl
+even_length (suc zero) h = refl
+even_length (suc (suc zero)) h = refl
+even_length (suc (suc (suc zero))) h = refl
+even_length (suc (suc (suc (suc k)))) h = absurd (omega arith)
+
+pub number_below : (ds : List Bool) → number_of ds < 2 ^ length ds
+number_below [] = omega arith
+number_below (true ∷ ds) = let a = number_below ds in let e = pow-succ' 2 (length ds) in omega (arith, a, e)
+number_below (false ∷ ds) = let a = number_below ds in let e = pow-succ' 2 (length ds) in omega (arith, a, e)

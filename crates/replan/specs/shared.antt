@@ -1,0 +1,2 @@
+-- Lemmas that crates above cite too: the last pair of a list.
+pub mod LastPairs
