@@ -1,6 +1,7 @@
 -- Over good files and with no fault the text is written whole; a folder that is sure has no fault over them.
 use Rattle.std.proofs.Common.{◌≡◌, inl, inr, ℕ, ◌-◌, ◌≤◌, List, [], ◌∷◌, ◌++◌, length, take, drop, map, Some, None, Option, IsTrue, ap, sym, ◌∙◌, subst, arith, take-append-drop}
 use Rattle.std.specs.List.{AllByRecursion}
+use Rattle.std.proofs.lemmas.Option.{same_Some}
 use Rattle.cps_outside.specs.FolderState.{FolderState}
 use Rattle.cps_top.specs.declared.commands.Command.{Command}
 use Rattle.endings.specs.declared.ending.Refusal.{Refusal}
@@ -11,12 +12,6 @@ use Rattle.endings.specs.Loads.{limit, Loads, FailsAt, IsTooLongAt}
 use Rattle.endings.specs.Lines.{status_of}
 use Rattle.cps_top.specs.Outcome.{Outside, Ends, Serves, Follows}
 use Rattle.cps_top.specs.Statuses.{AreThere, IsComplete, Completes}
-
-some_same : (x y : List ℕ) → Some x ≡ Some y → x ≡ y
-some_same x y e = cc
-
-pub command_same : (x y : Command) → Some x ≡ Some y → x ≡ y
-command_same x y e = cc
 
 head_same : (x y : Option (List ℕ)) (xs ys : List (Option (List ℕ))) → x ∷ xs ≡ y ∷ ys → x ≡ y
 head_same x y xs ys e = cc
@@ -29,7 +24,7 @@ contents_same [] [] e = cc
 contents_same [] (y ∷ ys) e = cc
 contents_same (x ∷ xs) [] e = cc
 contents_same (x ∷ xs) (y ∷ ys) e =
-    let first = some_same x y (head_same (Some x) (Some y) (map Some xs) (map Some ys) e) in
+    let first = same_Some x y (head_same (Some x) (Some y) (map Some xs) (map Some ys) e) in
     let rest = contents_same xs ys (tail_same (Some x) (Some y) (map Some xs) (map Some ys) e) in
     cc
 
@@ -38,7 +33,7 @@ pub serves_at : (words : List (List ℕ)) (old new : Outside) (ending : Ending) 
     command_of words ≡ Some command → IsTrue old.folder.tells → map old.folder.content (files_of words) ≡ map Some contents →
     Serves words old new ending → Follows command contents old.out new.out ending
 serves_at words old new ending command contents named tells told s =
-    let same : s.command ≡ command = command_same s.command command (sym s.named ∙ named) in
+    let same : s.command ≡ command = same_Some s.command command (sym s.named ∙ named) in
     let loads = subst (λ q. Loads old.folder new.folder (files_of words) s.contents) same s.loads in
     let held : s.contents ≡ contents = contents_same s.contents contents (sym (loads.told tells) ∙ told) in
     let follows = subst (λ q. Follows q s.contents old.out new.out ending) same s.follows in

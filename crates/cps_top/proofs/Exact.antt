@@ -3,6 +3,7 @@ use Rattle.std.proofs.Common.{◌≡◌, refl, inl, inr, ℕ, zero, suc, ◌+◌
 use Rattle.std.proofs.lemmas.Bool.{cases_lt}
 use Rattle.std.proofs.lemmas.List.{take-append-le}
 use Rattle.std.specs.List.{AllByRecursion}
+use Rattle.std.proofs.lemmas.Option.{none-some, same_Some}
 use Rattle.cps_top.specs.declared.commands.Command.{Command}
 use Rattle.cps_top.specs.declared.commands.Command.TheVariants.{Plan, Replay, Certify, Check, Effort, Trial, First, WhatIf, Audit}
 use Rattle.endings.specs.declared.ending.Answer.{Answer}
@@ -20,10 +21,7 @@ use Rattle.inquiry_commands.specs.shared.Audited.{not_unaudited}
 use Rattle.certificate_commands.specs.shared.Judged.{not_unchecked}
 use Rattle.inquiry_commands.specs.shared.Tried.{not_untried}
 use Rattle.planning_commands.specs.shared.Begun.{not_refused}
-use Rattle.cps_top.proofs.Complete.{command_same, serves_at, none_too_long, Within, all_within, all_named, all_at, within_fits}
-
-none_some : {refusal : Refusal} → None ≡ Some refusal → ⊥
-none_some e = cc
+use Rattle.cps_top.proofs.Complete.{serves_at, none_too_long, Within, all_within, all_named, all_at, within_fits}
 
 -- no files are both taken and refused
 excludes : (command : Command) (contents : List (List ℕ)) (text : List ℕ) (answer : Answer) (refusal : Refusal) →
@@ -32,47 +30,47 @@ excludes Plan [] text answer refusal admits refuses = absurd admits
 excludes Plan (a ∷ []) text answer refusal admits refuses = absurd admits
 excludes Plan (a ∷ f ∷ c ∷ rest) text answer refusal admits refuses = absurd admits
 excludes Plan (a ∷ f ∷ []) text answer refusal admits refuses =
-    none_some (sym admits.taken ∙ ap₂ refused_by (sym admits.aerodrome_read) (sym admits.flights_read) ∙ refuses)
+    none-some _ (sym admits.taken ∙ ap₂ refused_by (sym admits.aerodrome_read) (sym admits.flights_read) ∙ refuses)
 excludes Certify [] text answer refusal admits refuses = absurd admits
 excludes Certify (a ∷ []) text answer refusal admits refuses = absurd admits
 excludes Certify (a ∷ f ∷ c ∷ rest) text answer refusal admits refuses = absurd admits
 excludes Certify (a ∷ f ∷ []) text answer refusal admits refuses =
-    none_some (sym admits.certifies.certified.judged.taken ∙ ap₂ refused_by (sym admits.aerodrome_read) (sym admits.flights_read) ∙ refuses)
+    none-some _ (sym admits.certifies.certified.judged.taken ∙ ap₂ refused_by (sym admits.aerodrome_read) (sym admits.flights_read) ∙ refuses)
 excludes Replay [] text answer refusal admits refuses = absurd admits
 excludes Replay (a ∷ []) text answer refusal admits refuses = absurd admits
 excludes Replay (a ∷ f ∷ []) text answer refusal admits refuses = absurd admits
 excludes Replay (a ∷ f ∷ e ∷ c ∷ rest) text answer refusal admits refuses = absurd admits
 excludes Replay (a ∷ f ∷ e ∷ []) text answer refusal admits refuses =
-    none_some (sym (not_refused a f e admits.state admits.events admits.begun) ∙ refuses)
+    none-some _ (sym (not_refused a f e admits.state admits.events admits.begun) ∙ refuses)
 excludes Check [] text answer refusal admits refuses = absurd admits
 excludes Check (a ∷ []) text answer refusal admits refuses = absurd admits
 excludes Check (a ∷ f ∷ []) text answer refusal admits refuses = absurd admits
 excludes Check (a ∷ f ∷ e ∷ c ∷ rest) text answer refusal admits refuses = absurd admits
 excludes Check (a ∷ f ∷ c ∷ []) text answer refusal admits refuses =
-    none_some (sym (not_unchecked a f c admits.verdict admits.judges) ∙ refuses)
+    none-some _ (sym (not_unchecked a f c admits.verdict admits.judges) ∙ refuses)
 excludes Effort [] text answer refusal admits refuses = absurd admits
 excludes Effort (a ∷ []) text answer refusal admits refuses = absurd admits
 excludes Effort (a ∷ f ∷ []) text answer refusal admits refuses = absurd admits
 excludes Effort (a ∷ f ∷ e ∷ c ∷ rest) text answer refusal admits refuses = absurd admits
 excludes Effort (a ∷ f ∷ e ∷ []) text answer refusal admits refuses =
-    none_some (sym (not_refused a f e admits.state admits.events admits.begun) ∙ refuses)
+    none-some _ (sym (not_refused a f e admits.state admits.events admits.begun) ∙ refuses)
 excludes Audit [] text answer refusal admits refuses = absurd admits
 excludes Audit (a ∷ []) text answer refusal admits refuses = absurd admits
 excludes Audit (a ∷ f ∷ []) text answer refusal admits refuses = absurd admits
 excludes Audit (a ∷ f ∷ e ∷ c ∷ rest) text answer refusal admits refuses = absurd admits
 excludes Audit (a ∷ f ∷ p ∷ []) text answer refusal admits refuses =
-    none_some (sym (not_unaudited a f p text answer admits) ∙ refuses)
+    none-some _ (sym (not_unaudited a f p text answer admits) ∙ refuses)
 excludes First [] text answer refusal admits refuses = absurd admits
 excludes First (a ∷ []) text answer refusal admits refuses = absurd admits
 excludes First (a ∷ f ∷ c ∷ rest) text answer refusal admits refuses = absurd admits
 excludes First (a ∷ f ∷ []) text answer refusal admits refuses =
-    none_some (sym admits.shows.opened.taken ∙ ap₂ refused_by (sym admits.aerodrome_read) (sym admits.flights_read) ∙ refuses)
+    none-some _ (sym admits.shows.opened.taken ∙ ap₂ refused_by (sym admits.aerodrome_read) (sym admits.flights_read) ∙ refuses)
 excludes WhatIf [] text answer refusal admits refuses = absurd admits
 excludes WhatIf (a ∷ []) text answer refusal admits refuses = absurd admits
 excludes WhatIf (a ∷ f ∷ []) text answer refusal admits refuses = absurd admits
 excludes WhatIf (a ∷ f ∷ e ∷ c ∷ rest) text answer refusal admits refuses = absurd admits
 excludes WhatIf (a ∷ f ∷ t ∷ []) text answer refusal admits refuses =
-    none_some (sym (not_untried a f t text answer admits) ∙ refuses)
+    none-some _ (sym (not_untried a f t text answer admits) ∙ refuses)
 excludes (Trial seed n k) contents text answer refusal admits refuses = absurd refuses
 
 -- nor are they refused where a text was begun
@@ -90,20 +88,20 @@ excludes_begun Effort (a ∷ []) text refusal begins refuses = absurd refuses
 excludes_begun Effort (a ∷ f ∷ []) text refusal begins refuses = absurd refuses
 excludes_begun Effort (a ∷ f ∷ e ∷ c ∷ rest) text refusal begins refuses = absurd refuses
 excludes_begun Effort (a ∷ f ∷ e ∷ []) text refusal begins refuses =
-    none_some (sym (not_refused a f e begins.state begins.events begins.begun) ∙ refuses)
+    none-some _ (sym (not_refused a f e begins.state begins.events begins.begun) ∙ refuses)
 excludes_begun Replay [] text refusal begins refuses = absurd refuses
 excludes_begun Replay (a ∷ []) text refusal begins refuses = absurd refuses
 excludes_begun Replay (a ∷ f ∷ []) text refusal begins refuses = absurd refuses
 excludes_begun Replay (a ∷ f ∷ e ∷ c ∷ rest) text refusal begins refuses = absurd refuses
 excludes_begun Replay (a ∷ f ∷ e ∷ []) text refusal begins refuses =
-    none_some (sym (not_refused a f e begins.state begins.events begins.begun) ∙ refuses)
+    none-some _ (sym (not_refused a f e begins.state begins.events begins.begun) ∙ refuses)
 
 -- a command whose files were loaded has none that is too long
 none_longer : (words : List (List ℕ)) (old new : Outside) (ending : Ending) (command : Command) (before after : List (List ℕ)) (name bytes : List ℕ) →
     command_of words ≡ Some command → IsTrue old.folder.tells → files_of words ≡ (before ++ name ∷ []) ++ after →
     old.folder.content name ≡ Some bytes → limit < length bytes → Serves words old new ending → ⊥
 none_longer words old new ending command before after name bytes named tells split content longer s =
-    let same : s.command ≡ command = command_same s.command command (sym s.named ∙ named) in
+    let same : s.command ≡ command = same_Some s.command command (sym s.named ∙ named) in
     let names : files_of words ≡ (before ++ name ∷ []) ++ after = ap (λ q. files_of words) same ∙ split in
     let all = all_named old.folder.content (files_of words) (subst (AllByRecursion Within) (sym (s.loads.told tells)) (all_within s.contents s.loads.bounded)) in
     let at = all_at (λ n. Within (old.folder.content n)) before name after (subst (AllByRecursion (λ n. Within (old.folder.content n))) names all) in

@@ -1,6 +1,7 @@
 -- From what was begun and written to what is said of traffic.
 use Rattle.std.proofs.Common.{◌≡◌, ℕ, List, None, Some, sym, ap, ◌∙◌}
 use Rattle.std.specs.Prelude.{option_map}
+use Rattle.std.proofs.lemmas.Option.{none-some}
 use Rattle.landing_rules.specs.Text.{plan_shown}
 use Rattle.cps_network.specs.shared.DueSteps.{all_due}
 use Rattle.replan.specs.declared.any_kept.AnyKept.{AnyKept}
@@ -32,12 +33,9 @@ sums made n k nodes aerodrome flights s text answer a_is f_is opened planned pri
   answers = answers;
 }
 
-none_some : {cause : Refusal} → None ≡ Some cause → ⊥
-none_some e = cc
-
 -- files that open are stopped by memory alone
 pub stops_short : (aerodrome : Aerodrome) (flights : List Flight) (ending : Ending) → opening_fault aerodrome flights ≡ None →
     StopsOpened aerodrome flights ending → StopsTrial ending
 stops_short aerodrome flights ending opens =
     stops_by (λ cause. refusal_of aerodrome flights ≡ Some cause) (λ cause. ⊥) ending
-    (λ cause refused. none_some (sym (ap (option_map Opening) opens) ∙ refused))
+    (λ cause refused. none-some _ (sym (ap (option_map Opening) opens) ∙ refused))

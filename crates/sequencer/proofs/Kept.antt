@@ -3,21 +3,13 @@ use Rattle.std.proofs.Common.{◌≡◌, ℕ, Option, None, Some, refl, sym, ap,
 use Rattle.std.proofs.lemmas.Option.{same_Some}
 use Rattle.landing_rules.specs.Flights.{Situation, Schedule}
 use Rattle.landing_rules.specs.Rules.{IsFeasible}
-use Rattle.landing_rules.specs.Events.{Event, Estimate, Cancel, Add, Close, Reopen, Clock, State, IsPlanShown, refusal, situation_after}
+use Rattle.landing_rules.specs.Events.{Event, State, IsPlanShown, refusal, situation_after}
 use Rattle.landing_rules.specs.Problem.{Problem, IsProblemOf}
 use Rattle.landing_rules.specs.Sound.{IsSound, IsSoundState, IsGoodEvent}
 use Rattle.landing_rules.specs.Text.{ShownPlan, plan_shown}
 use Rattle.landing_joint.specs.StepLaws.{EventKeepsSoundLaw}
+use Rattle.landing_joint.specs.shared.EventAerodrome.{aerodrome_stays}
 use Rattle.sequencer.specs.Standing.{IsInStep}
-
--- the aerodrome stays
-aerodrome_stays : (s : Situation) (plan : Option Schedule) (e : Event) → (situation_after s plan e).aerodrome ≡ s.aerodrome
-aerodrome_stays s plan (Estimate c eta windows) = refl
-aerodrome_stays s plan (Cancel c) = refl
-aerodrome_stays s plan (Add f) = refl
-aerodrome_stays s plan (Close span) = refl
-aerodrome_stays s plan (Reopen span) = refl
-aerodrome_stays s plan (Clock now) = refl
 
 feasible_shown : (s : Situation) (plan : Option Schedule) → IsPlanShown s plan → (t : Schedule) → plan ≡ Some t → IsFeasible s t
 feasible_shown s None h t e = let w : None ≡ Some t = e in absurd (cc)
