@@ -1,16 +1,53 @@
 -- A replay goes on by one event, or stops there.
-use Rattle.std.proofs.Common.{◌≡◌, ℕ, ◌+◌, List, [], ◌∷◌, ◌++◌, length, Err, inl, inr, refl, sym, ap, subst, ◌∙◌, arith, append_assoc}
+use Rattle.std.specs.Prelude.{⊤}
+use Rattle.std.proofs.Common.{◌≡◌, ℕ, ◌+◌, List, [], ◌∷◌, ◌++◌, length, Option, Some, None, MatchOption, Result, Ok, Err, OnOk, IfErr, inl, inr, refl, sym, ap, subst, ◌∙◌, arith, append_assoc}
 use Rattle.std.proofs.lemmas.List.{append-nil, length-append}
 use Rattle.cps_outside.specs.SinkState.{SinkState}
-use Rattle.landing_rules.specs.Events.{State, Event, Step, Answered, Run}
+use Rattle.landing_rules.specs.Events.{State, Event, Refusal, Step, Answered, Run}
 use Rattle.landing_rules.specs.Text.{Bytes, answer_text, answers_text, replay_text, begun_text}
+use Rattle.situations.specs.declared.refusal.Refusal as code
+use Rattle.situations.specs.Answers.{refusal_of}
 use Rattle.event_answers.specs.shared.LongerRuns.{Run-push, answers_text-push, last_state-push}
 use Rattle.event_answers.specs.shared.Written.{wrote_nothing, wrote_after, part_after}
 use Rattle.event_answers.specs.declared.stops.Stop.{Stop}
 use Rattle.event_answers.specs.declared.stops.Stop.TheVariants as stop
 use Rattle.event_answers.specs.Runs.{last_state}
 use Rattle.event_answers.specs.Written.{Wrote, WrotePart}
-use Rattle.replays.specs.Runs.{Answers, StepWrites, Opens, PartTells, EventsWrite, ReplayEnds}
+use Rattle.replays.specs.Runs.{PutsText, PutsAnswer, PartTells, EventsWrite, ReplayEnds}
+
+-- one event: its step, and its text
+pub record Answers (old new : State) (i : ℕ) (e : Event) (P : Bytes → Type 0) : Type 0 where
+  pub answer : Option Refusal
+  pub step : Step old e answer new
+  pub written : P (answer_text i answer new)
+
+-- where memory runs out the event's answer is not begun
+abbrev pub StepWrites : State → State → ℕ → Event → SinkState → SinkState → Result (Unit {0}) Stop → Type 0
+StepWrites old new i e from to (Ok u) = Answers old new i e (Wrote from to)
+StepWrites old new i e from to (Err stop.NotWritten) = Answers old new i e (WrotePart from to)
+StepWrites old new i e from to (Err stop.NoMemory) = to ≡ from
+
+-- a step and the put of its answer
+answered : (old new : State) (i : ℕ) (e : Event) (from to : SinkState) (a : Option Refusal) → Step old e a new →
+    (r : Result (Unit {0}) Stop) → PutsText (answer_text i a new) from to r → StepWrites old new i e from to r
+answered old new i e from to a step (Ok u) put = record { answer = a; step = step; written = put }
+answered old new i e from to a step (Err stop.NotWritten) put = record { answer = a; step = step; written = put }
+answered old new i e from to a step (Err stop.NoMemory) put = put
+
+-- an event was refused, or memory ran out
+refused : (old new : State) (i : ℕ) (e : Event) (from to : SinkState) (r : Result (Unit {0}) Stop) (found : Option Refusal) →
+    MatchOption found ⊤ (λ a. Step old e (Some a) new) →
+    MatchOption found ((to ≡ from) × (r ≡ Err stop.NoMemory)) (λ a. PutsText (answer_text i (Some a) new) from to r) →
+    StepWrites old new i e from to r
+refused old new i e from to r None step put = subst (λ (x : Result (Unit {0}) Stop). StepWrites old new i e from to x) (sym put.1) put.0
+refused old new i e from to r (Some a) step put = answered old new i e from to (Some a) step r put
+
+-- an event was tried, and what came of it is put
+pub tried : (old new : State) (i : ℕ) (e : Event) (from to : SinkState) (r : Result (Unit {0}) Stop) (outcome : Result (Unit {0}) code.Refusal) →
+    OnOk outcome (Step old e None new) → IfErr outcome (λ fault. MatchOption (refusal_of fault) ⊤ (λ a. Step old e (Some a) new)) →
+    PutsAnswer new i outcome from to r → StepWrites old new i e from to r
+tried old new i e from to r (Ok u) accepted fault put = answered old new i e from to None accepted r put
+tried old new i e from to r (Err found) accepted fault put = refused old new i e from to r (refusal_of found) fault put
 
 -- what was done of the events, and what is left
 pub record Done (old : State) (events : List Event) (from : SinkState) (i : ℕ) (state : State) (rest : List Event) (to : SinkState) : Type 0 where
@@ -87,7 +124,7 @@ pub unwritten_at_once : (old : State) (events : List Event) (from to : SinkState
 unwritten_at_once old events from to a = record { done = []; rest = events; split = refl; answers = []; run = tt; written = subst (λ (t : Bytes). WrotePart from to t) (sym (append-nil (begun_text old))) a }
 
 -- the opening plan was not written
-pub stops_at_once : (s : Stop) (old new : State) (events : List Event) (from to : SinkState) → Opens old from to (Err s) → ReplayEnds old new events from to (Err s)
+pub stops_at_once : (s : Stop) (old new : State) (events : List Event) (from to : SinkState) → PutsText (begun_text old) from to (Err s) → ReplayEnds old new events from to (Err s)
 stops_at_once stop.NotWritten old new events from to a = unwritten_at_once old events from to a
 stops_at_once stop.NoMemory old new events from to a = inl a
 

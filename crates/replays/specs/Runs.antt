@@ -1,8 +1,10 @@
 -- What a replay writes, by runs of the rules.
-use Rattle.std.specs.Prelude.{◌≡◌, ◌⊎◌, ℕ, List, ◌++◌, Bool, Option, is_some, Result, Ok, Err}
+use Rattle.std.specs.Prelude.{◌≡◌, ◌⊎◌, ℕ, List, ◌++◌, Bool, Some, None, is_some, MatchOption, Result, Ok, Err}
 use Rattle.cps_outside.specs.SinkState.{SinkState}
-use Rattle.landing_rules.specs.Events.{State, Event, Refusal, Step, Answered, Run}
-use Rattle.landing_rules.specs.Text.{Bytes, answer_text, answers_text, replay_text, begun_text}
+use Rattle.landing_rules.specs.Events.{State, Event, Answered, Run}
+use Rattle.landing_rules.specs.Text.{Bytes, answer_text, answers_text, replay_text}
+use Rattle.situations.specs.declared.refusal.Refusal.{Refusal}
+use Rattle.situations.specs.Answers.{refusal_of}
 use Rattle.event_answers.specs.Runs.{last_state}
 use Rattle.event_answers.specs.Written.{Wrote, WrotePart}
 use Rattle.event_answers.specs.declared.stops.Stop.{Stop}
@@ -14,23 +16,19 @@ Puts from to text (Ok u) = Wrote from to text
 Puts from to text (Err stop.NotWritten) = WrotePart from to text
 Puts from to text (Err stop.NoMemory) = ⊥
 
--- the plan of the state in which the replay begins
-abbrev pub Opens : State → SinkState → SinkState → Result (Unit {0}) Stop → Type 0
-Opens state from to (Ok u) = Wrote from to (begun_text state)
-Opens state from to (Err stop.NotWritten) = WrotePart from to (begun_text state)
-Opens state from to (Err stop.NoMemory) = to ≡ from
+-- a text is made and put, or there is no memory for it and nothing is put
+abbrev pub PutsText : Bytes → SinkState → SinkState → Result (Unit {0}) Stop → Type 0
+PutsText text from to (Ok u) = Wrote from to text
+PutsText text from to (Err stop.NotWritten) = WrotePart from to text
+PutsText text from to (Err stop.NoMemory) = to ≡ from
 
--- one event: its step, and its text
-pub record Answers (old new : State) (i : ℕ) (e : Event) (P : Bytes → Type 0) : Type 0 where
-  pub answer : Option Refusal
-  pub step : Step old e answer new
-  pub written : P (answer_text i answer new)
-
--- where memory runs out the event's answer is not begun
-abbrev pub StepWrites : State → State → ℕ → Event → SinkState → SinkState → Result (Unit {0}) Stop → Type 0
-StepWrites old new i e from to (Ok u) = Answers old new i e (Wrote from to)
-StepWrites old new i e from to (Err stop.NotWritten) = Answers old new i e (WrotePart from to)
-StepWrites old new i e from to (Err stop.NoMemory) = to ≡ from
+-- What is put of event i, by what came of it and the state behind it: that it was accepted and the plan, or its refusal. Where
+-- memory ran out it is not answered.
+abbrev pub PutsAnswer : State → ℕ → Result (Unit {0}) Refusal → SinkState → SinkState → Result (Unit {0}) Stop → Type 0
+PutsAnswer state i (Ok u) from to result = PutsText (answer_text i None state) from to result
+PutsAnswer state i (Err refusal) from to result = MatchOption (refusal_of refusal)
+    ((to ≡ from) × (result ≡ Err stop.NoMemory))
+    (λ answer. PutsText (answer_text i (Some answer) state) from to result)
 
 -- a run over these events leads to a state, and its text
 pub record RunTells (old : State) (events : List Event) (new : State) (P : List Answered → Type 0) : Type 0 where

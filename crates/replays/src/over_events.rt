@@ -1,7 +1,7 @@
 ghost use Rattle.std.specs.Prelude.{◌<◌, ◌^◌, All, length, map};
-ghost use Rattle.landing_rules.specs.Sound.{IsGoodEvent};
+ghost use Rattle.landing_rules.specs.Text.{begun_text};
 ghost use Rattle.arrivals.specs.Seen.{event_of, IsGood};
-ghost use Rattle.replays.specs.Runs.{Puts, Opens, StepWrites, EventsWrite, ReplayEnds};
+ghost use Rattle.replays.specs.Runs.{Puts, PutsText, PutsAnswer, EventsWrite, ReplayEnds};
 
 use crate::texts::{accepted, begun, refused};
 use arrivals::Event;
@@ -25,42 +25,32 @@ fn put<S: Sink>(out: &mut S, bytes: &[u8]) -> Result<(), Stop>
     }
 }
 
-// One event: its step, and one put of its answer.
-fn step<P: Planner, R: Threads + Sync, S: Sink, G: Gate + Sync, L: Ledger>(
-    rt: &R,
+// The answer of an event that was tried, in one put.
+fn put_answer<P: Planner, S: Sink>(
     alloc: Global,
-    sequencer: &mut Sequencer<P>,
+    sequencer: &Sequencer<P>,
     number: u32,
-    event: &Event,
+    outcome: Result<(), Refusal>,
     lines: &mut FrozenLines,
     out: &mut S,
-    gate: &G,
-    steps: &mut Steps<L>,
 ) -> Result<(), Stop>
-    requires { IsGoodEvent (event_of event.now) }
-    ensures { StepWrites sequencer.old.state sequencer.new.state number (event_of event.now)
+    ensures { PutsAnswer sequencer.now.state number outcome
         (S.state out.old) (S.state out.new) result }
 {
-    match sequencer.apply(rt, alloc, event, gate, steps) {
-        Ok(()) => {
-            let text = accepted(alloc, &*sequencer, number, lines)?;
-            put(out, text.as_slice())
-        }
-        Err(Refusal::Memory) => Err(Stop::NoMemory),
-        Err(refusal) => {
-            let text = refused(alloc, number, &refusal)?;
-            put(out, text.as_slice())
-        }
-    }
+    let text = match outcome {
+        Ok(()) => accepted(alloc, sequencer, number, lines)?,
+        Err(Refusal::Memory) => return Err(Stop::NoMemory),
+        Err(refusal) => refused(alloc, number, &refusal)?,
+    };
+    put(out, text.as_slice())
 }
 
-// The events, in their order.
+// The events, in their order: of each one step, and one put of its answer.
 fn replay_events<P: Planner, R: Threads + Sync, S: Sink, G: Gate + Sync, L: Ledger>(
     rt: &R,
     alloc: Global,
     sequencer: &mut Sequencer<P>,
     events: &[Event],
-    lines: &mut FrozenLines,
     out: &mut S,
     gate: &G,
     steps: &mut Steps<L>,
@@ -70,11 +60,10 @@ fn replay_events<P: Planner, R: Threads + Sync, S: Sink, G: Gate + Sync, L: Ledg
     ensures { EventsWrite sequencer.old.state sequencer.new.state (map event_of events.now)
         (S.state out.old) (S.state out.new) result }
 {
+    let mut lines = FrozenLines::new(alloc);
     for i in 0..events.len() {
-        let number = i as u32 + 1;
-        step(
-            rt, alloc, sequencer, number, &events[i], lines, out, gate, steps,
-        )?;
+        let outcome = sequencer.apply(rt, alloc, &events[i], gate, steps);
+        put_answer(alloc, &*sequencer, i as u32 + 1, outcome, &mut lines, out)?;
     }
     Ok(())
 }
@@ -83,12 +72,11 @@ fn replay_events<P: Planner, R: Threads + Sync, S: Sink, G: Gate + Sync, L: Ledg
 fn open<P: Planner, S: Sink>(
     alloc: Global,
     sequencer: &Sequencer<P>,
-    lines: &mut FrozenLines,
     out: &mut S,
 ) -> Result<(), Stop>
-    ensures { Opens sequencer.now.state (S.state out.old) (S.state out.new) result }
+    ensures { PutsText (begun_text sequencer.now.state) (S.state out.old) (S.state out.new) result }
 {
-    let text = begun(alloc, sequencer, lines)?;
+    let text = begun(alloc, sequencer)?;
     put(out, text.as_slice())
 }
 
@@ -113,8 +101,7 @@ pub fn replay<P: Planner, R: Threads + Sync, S: Sink, G: Gate + Sync, L: Ledger>
     ensures outcome { ReplayEnds sequencer.old.state sequencer.new.state
         (map event_of events.now) (S.state out.old) (S.state out.new) result }
 {
-    let mut lines = FrozenLines::new(alloc);
-    open(alloc, &*sequencer, &mut lines, out)?;
-    replay_events(rt, alloc, sequencer, events, &mut lines, out, gate, steps)?;
+    open(alloc, &*sequencer, out)?;
+    replay_events(rt, alloc, sequencer, events, out, gate, steps)?;
     Ok(sequencer.plan().is_some())
 }

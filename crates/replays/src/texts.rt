@@ -8,7 +8,7 @@ ghost use Rattle.situations.specs.declared.refusal.Refusal.TheVariants.{Memory};
 use cps_problem::Planner;
 use event_answers::refusal_line;
 use itoa::Buffer;
-use plan_text::FrozenLines;
+use plan_text::{FrozenLines, plan_block};
 use sequencer::Sequencer;
 use situations::Refusal;
 use std::alloc::{AllocError, Global};
@@ -17,12 +17,11 @@ use std::alloc::{AllocError, Global};
 pub(crate) fn begun<P: Planner>(
     alloc: Global,
     sequencer: &Sequencer<P>,
-    lines: &mut FrozenLines,
 ) -> Result<Vec<u8>, AllocError>
     ensures { IfOk result (λ text. text.items ≡ begun_text sequencer.now.state) }
 {
     let mut text = Vec::from_slice(alloc, b"event 0 begun\n")?;
-    lines.plan_block(sequencer.objective(), sequencer.plan(), &mut text)?;
+    plan_block(sequencer.objective(), sequencer.plan(), &mut text)?;
     Ok(text)
 }
 
