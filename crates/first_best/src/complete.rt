@@ -128,17 +128,17 @@ fn latest_pairs(
     stage: u8,
     node: EarlyNode,
     next: &AheadStage,
-    ways: &[usize],
 ) -> Result<Vec<(u32, u32)>, AllocError>
     requires stage { (1 ≤ stage) × (stage ≤ length problem.now.flights) }
     requires node { HasRank problem.now node }
     requires next { IsNextIn problem.now stage next.now }
-    requires ways { AreWaysOf node next.now.nodes ways.now }
     ensures { IfOk result (λ pairs.
         AreFalling problem.now value budget stage node next.now.nodes next.now.lists
         node.earliest pairs.items) }
 {
     let _few = problem.len();
+    let ways = ways_of(alloc, node, next)?;
+    let ways = ways.as_slice();
     let end = latest(problem, stage, node, next, ways) + 1;
     let mut least = limit_of(budget, node.cheapest);
     let mut pairs = Vec::new(alloc);
@@ -175,10 +175,7 @@ fn pairs_of(
     ensures { IfOk result (λ pairs.
         ArePairsOf problem.now value budget stage node next.now.nodes next.now.lists pairs) }
 {
-    let _few = problem.len();
-    let ways = ways_of(alloc, node, next)?;
-    let ways = ways.as_slice();
-    let mut pairs = latest_pairs(alloc, problem, value, budget, stage, node, next, ways)?;
+    let mut pairs = latest_pairs(alloc, problem, value, budget, stage, node, next)?;
     pairs.reverse();
     Ok(PairList::of(pairs))
 }
