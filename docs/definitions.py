@@ -100,7 +100,7 @@ def report(title, name):
             by_file.setdefault(where, []).append(len(FILES[where][1][definition]))
         lines = sum(map(sum, by_file.values()))
         print(f'{title} ({name}): {sum(map(len, by_file.values()))} definitions, {lines} lines, {len(by_file)} files')
-        for where, counts in sorted(by_file.items(), key=lambda item: -sum(item[1])):
+        for where, counts in sorted(by_file.items(), key=lambda item: (-sum(item[1]), item[0])):
             print(f'    {where.removeprefix("Rattle.").replace(".", "/")}: {len(counts)} definitions, {sum(counts)} lines')
 
 
