@@ -8,6 +8,7 @@ mod planner;
 mod problems;
 mod records;
 mod separations;
+mod shown_plans;
 mod stages;
 mod traffic;
 mod windows;

@@ -171,6 +171,14 @@ impl<P: Planner> Sequencer<P> {
         }
     }
 
+    /// The situation on the approach: what the aerodrome fixes, the active flights, the closures that stand, the horizon.
+    pub fn situation(&self) -> &Situation
+        ensures value { result.now ≡ self.now.state.situation }
+        ensures sound { IsSound result.now }
+    {
+        &self.situation
+    }
+
     /// The problem of the situation.
     pub fn problem(&self) -> &Problem
         ensures value { result.now ≡ self.now.problem }
