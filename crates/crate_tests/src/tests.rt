@@ -14,4 +14,5 @@ mod traffic;
 mod windows;
 mod workers;
 
-fn is_shared<T: Send + Sync>(_: &T) {}
+// Compiles only where threads may share and take the type.
+fn assert_send_sync<T: Send + Sync>(_: &T) {}

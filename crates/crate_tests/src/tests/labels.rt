@@ -1,7 +1,7 @@
 // The windows that have no label are left out of a stage; those that have a pair stay.
 ghost use Rattle.std.specs.Prelude.{◌≡◌, length};
 
-use super::is_shared;
+use super::assert_send_sync;
 use cps_network::Stage;
 use delay_labels::Costs;
 use makespan_labels::{Column, NO_LABEL};
@@ -20,7 +20,7 @@ fn left_of_labels(alloc: Global, column: &mut Column) -> Result<(usize, usize), 
 #[test]
 fn windows_without_a_label_are_left_out(rt: HostRuntime) -> Result<(), Fail> {
     let mut column = Column::start(rt.alloc())?;
-    is_shared(&column);
+    assert_send_sync(&column);
     assert_eq!(rt; (column.len(), column.label(0)), (1, 0));
     assert_eq!(rt; left_of_labels(rt.alloc(), &mut column)?, (1, 1));
 
@@ -42,7 +42,7 @@ fn left_of_costs(alloc: Global, costs: &mut Costs) -> Result<(usize, usize), All
 #[test]
 fn windows_with_a_pair_are_kept(rt: HostRuntime) -> Result<(), Fail> {
     let mut costs = Costs::start(rt.alloc())?;
-    is_shared(&costs);
+    assert_send_sync(&costs);
     assert_eq!(rt;
         (costs.len(), costs.count(0), costs.pair(0, 0)),
         (1, 1, (0, 0))

@@ -3,7 +3,7 @@ ghost use Rattle.std.specs.List.{list_all, list_any};
 ghost use Rattle.landing_rules.specs.Rules.{is_open, is_shut, is_within};
 ghost use Rattle.landing_windows.specs.Windows.{is_in_days};
 
-use super::is_shared;
+use super::assert_send_sync;
 use landing_windows::{ClosureFault, Closures, LAST_SECOND, OpenTimes, WindowFault, WindowSet};
 use std::alloc::Global;
 use std::test::Fail;
@@ -110,7 +110,7 @@ fn agree_with_copy(
 ) -> Result<bool, Fail> {
     let set = window_set(windows)?;
     let times = OpenTimes::of(alloc, &set, &closures_of(closures))?;
-    is_shared(&times);
+    assert_send_sync(&times);
     Ok(agrees(windows, closures, &times) && times.copy()? == times)
 }
 

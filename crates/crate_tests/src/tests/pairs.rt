@@ -1,4 +1,4 @@
-use super::is_shared;
+use super::assert_send_sync;
 use precedence::Pairs;
 
 // Two flights before the last one.
@@ -12,7 +12,7 @@ fn two_pairs() -> Pairs {
 #[test]
 fn a_pair_holds_one_way(rt: HostRuntime) {
     let pairs = two_pairs();
-    is_shared(&pairs);
+    assert_send_sync(&pairs);
     let kept = pairs;
     assert!(rt; Pairs::new() == Pairs::new() && kept == pairs && kept != Pairs::new());
     for (first, next, want) in [

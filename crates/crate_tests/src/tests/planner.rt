@@ -2,7 +2,7 @@ ghost use Rattle.std.specs.Prelude.{◌≡◌, ◌≤◌, IfOk};
 ghost use Rattle.cps_problem.specs.Plans.{IsPlannable};
 ghost use Rattle.replan.specs.Kept.{k_of};
 
-use super::is_shared;
+use super::assert_send_sync;
 use crate::bank::Bank;
 use cps_base::{Counted, Steps};
 use cps_outside::FreeGate;
@@ -75,7 +75,7 @@ const PLANNINGS: [(Category, bool, Objective, u64); 7] = [
 #[test]
 fn stages_in_common_are_not_counted(rt: HostRuntime) -> Result<(), Fail> {
     let mut planner = AnyKept::fresh(1);
-    is_shared(&planner);
+    assert_send_sync(&planner);
     for (third, with_last, objective, expected) in PLANNINGS {
         let flights = (third, with_last);
         let value = steps_of(&rt, rt.alloc(), &mut planner, flights, objective)?;

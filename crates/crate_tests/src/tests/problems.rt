@@ -1,7 +1,7 @@
 // The problem of one flight, its copy, and its schedule.
 ghost use Rattle.std.specs.Prelude.{◌≡◌, ◌≤◌, IfOk, length};
 
-use super::is_shared;
+use super::assert_send_sync;
 use cps_base::Callsign;
 use cps_problem::{Head, Objective, Problem, Schedule, Waiting};
 use extract_plan::{blank, retime, value_of};
@@ -63,7 +63,7 @@ fn value_landed(alloc: Global, problem: &Problem, second: u32) -> Result<Option<
 #[test]
 fn a_problem_and_its_copy_land_a_flight(rt: HostRuntime) -> Result<(), Fail> {
     let problem = problem_of_one(rt.alloc())?;
-    is_shared(&problem);
+    assert_send_sync(&problem);
     assert_eq!(rt; value_landed(rt.alloc(), &problem, 1090)?, Some(275));
     let copied = problem.copy()?;
     assert_eq!(rt; problem.first_difference(&copied), 2);

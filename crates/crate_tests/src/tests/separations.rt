@@ -1,6 +1,6 @@
 ghost use Rattle.std.specs.Prelude.{◌<◌};
 
-use super::is_shared;
+use super::assert_send_sync;
 use wake_table::{Category, PairTable, SAMPLE, TableFault};
 
 // The fault of the sample table with two entries changed, each given by leader, follower and seconds.
@@ -34,7 +34,7 @@ fn the_first_fault_in_letter_order_is_named(rt: HostRuntime) {
 // The sample table's separation of this pair.
 fn sample_sep(leader: Category, follower: Category) -> Result<u32, TableFault> {
     let table = PairTable::new(SAMPLE)?;
-    is_shared(&table);
+    assert_send_sync(&table);
     Ok(table.sep(leader, follower))
 }
 

@@ -53,7 +53,9 @@ fn nothing_is_found_in_the_plans_that_are_shown(rt: HostRuntime) -> Result<(), F
     let events = read_events(alloc, EVENTS.as_bytes())?;
     let planner = AnyKept::fresh(aerodrome.k);
     let mut steps = Steps::new(Counted::new());
-    let begun = Sequencer::begin(&rt, alloc, aerodrome, flights, planner, &FreeGate, &mut steps);
+    let begun = Sequencer::begin(
+        &rt, alloc, aerodrome, flights, planner, &FreeGate, &mut steps,
+    );
     let mut sequencer = begun.ok().ok_or("the files open no situation")?;
     assert_eq!(rt; findings(alloc, &sequencer)?, 0);
     for event in events.iter() {

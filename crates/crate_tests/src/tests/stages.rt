@@ -2,7 +2,7 @@
 ghost use Rattle.std.specs.Prelude.{◌≡◌, ◌+◌, ◌*◌, ◌<◌, ◌≤◌, IfOk, length};
 ghost use Rattle.cps_nodes.specs.Windows.{IsWidth};
 
-use super::is_shared;
+use super::assert_send_sync;
 use crate::bank::Bank;
 use cps_network::{Stage, last_rank, next_stage, next_stage_like, sources};
 use cps_problem::{Objective, Problem};
@@ -27,7 +27,7 @@ fn left_of_none(alloc: Global, mut stage: Stage<3>) -> Result<(usize, usize), Al
 #[test]
 fn the_first_stage_has_the_source_alone(rt: HostRuntime) -> Result<(), Fail> {
     let stage: Stage<3> = Stage::start(rt.alloc())?;
-    is_shared(&stage);
+    assert_send_sync(&stage);
     assert_eq!(rt;
         (stage.number(), stage.len(), stage.is_empty()),
         (0, 1, false)
