@@ -1,10 +1,7 @@
 -- What is printed of each finding.
-use Rattle.std.specs.Prelude.{ℕ, List, ◌++◌, codes, decimal, map}
-use Rattle.landing_rules.specs.Text.{lines_text}
+use Rattle.std.specs.Prelude.{List, ◌++◌, codes, decimal, map}
+use Rattle.landing_rules.specs.Text.{Bytes, lines_text}
 use Rattle.landing_rules.specs.Audit.{Finding, Missing, Unknown, Twice, Order, Mark, Closed, Separation, Precedence, Moved, Early, Shift, OtherObjective, Value}
-
-abbrev pub Bytes : Type 0
-Bytes = List ℕ
 
 -- two texts, a blank between them
 abbrev pub spaced : Bytes → Bytes → Bytes

@@ -30,12 +30,13 @@ fn by_rules(
         ≡ by_rules situation.now (map landing_of found.now)) }
 {
     let fixed = situation.fixed();
-    let shifted = shifted(alloc, fixed.k, found)?;
-    let early = joined(early(alloc, situation.horizon(), found)?, shifted)?;
-    let moved = joined(moved(alloc, found)?, early)?;
-    let late = joined(late(alloc, found)?, moved)?;
-    let unseparated = joined(unseparated(alloc, &fixed.table, found)?, late)?;
-    joined(closed(alloc, situation, found)?, unseparated)
+    // From the last rule to the first: each stands before the rest.
+    let rest = shifted(alloc, fixed.k, found)?;
+    let rest = joined(early(alloc, situation.horizon(), found)?, rest)?;
+    let rest = joined(moved(alloc, found)?, rest)?;
+    let rest = joined(late(alloc, found)?, rest)?;
+    let rest = joined(unseparated(alloc, &fixed.table, found)?, rest)?;
+    joined(closed(alloc, situation, found)?, rest)
 }
 
 // What is found where the names are right: of the lines, of the rules and of the first line.
@@ -52,10 +53,11 @@ fn by_line(
         ≡ by_line situation.now (seen_block block.now)) }
 {
     let meant = situation.fixed().objective;
-    let head = by_head(alloc, meant, block.objective, block.value, found)?;
-    let rules = joined(by_rules(alloc, situation, found)?, head)?;
-    let marks = joined(mismarked(alloc, found)?, rules)?;
-    joined(disordered(alloc, block.lines.all())?, marks)
+    // From the last to the first: each stands before the rest.
+    let rest = by_head(alloc, meant, block.objective, block.value, found)?;
+    let rest = joined(by_rules(alloc, situation, found)?, rest)?;
+    let rest = joined(mismarked(alloc, found)?, rest)?;
+    joined(disordered(alloc, block.lines.all())?, rest)
 }
 
 // The findings of a block: of the names, and where they are right of the rest.

@@ -44,8 +44,7 @@ impl Seen {
         ensures more { OnOk result ((c : List ℕ) → has_name self.new c
             ≡ (bytes_eq callsign c || has_name self.old c)) }
     {
-        let was_seen = self.callsigns.contains(&callsign);
-        self.callsigns.insert(callsign)?;
-        Ok(was_seen)
+        let is_new = self.callsigns.insert(callsign)?;
+        Ok(!is_new)
     }
 }

@@ -32,10 +32,10 @@ fn lands_before(g: &Found, f: &Found) -> bool
 }
 
 // 1 plus the number of those that land before f.
-fn place_of(waiting: &Vec<&Found>, f: &Found) -> u32
-    requires { length waiting.now.items ≤ most_flights }
+fn place_of(waiting: &[&Found], f: &Found) -> u32
+    requires { length waiting.now ≤ most_flights }
     ensures value { result
-        ≡ place (map (λ g. landing_of g.now) waiting.now.items) (landing_of f.now) }
+        ≡ place (map (λ g. landing_of g.now) waiting.now) (landing_of f.now) }
     ensures few { result ≤ most_flights + 1 }
 {
     1 + waiting.iter().filter(|g| lands_before(g, f)).count() as u32
@@ -51,20 +51,20 @@ fn comes_before(g: &Found, f: &Found) -> bool
 }
 
 // 1 plus the number of those that come before f.
-fn rank_of(waiting: &Vec<&Found>, f: &Found) -> u32
-    requires { length waiting.now.items ≤ most_flights }
+fn rank_of(waiting: &[&Found], f: &Found) -> u32
+    requires { length waiting.now ≤ most_flights }
     ensures value { result
-        ≡ rank_among (map (λ g. landing_of g.now) waiting.now.items) (landing_of f.now) }
+        ≡ rank_among (map (λ g. landing_of g.now) waiting.now) (landing_of f.now) }
     ensures few { result ≤ most_flights + 1 }
 {
     1 + waiting.iter().filter(|g| comes_before(g, f)).count() as u32
 }
 
 // Whether it lands within k places of its rank, less the flights that passed it before.
-fn is_shift_kept(k: u8, waiting: &Vec<&Found>, f: &Found) -> bool
-    requires { length waiting.now.items ≤ most_flights }
+fn is_shift_kept(k: u8, waiting: &[&Found], f: &Found) -> bool
+    requires { length waiting.now ≤ most_flights }
     ensures { result
-        ≡ is_shift_kept k (map (λ g. landing_of g.now) waiting.now.items) (landing_of f.now) }
+        ≡ is_shift_kept k (map (λ g. landing_of g.now) waiting.now) (landing_of f.now) }
 {
     let place = place_of(waiting, f);
     let rank = rank_of(waiting, f);
@@ -72,11 +72,11 @@ fn is_shift_kept(k: u8, waiting: &Vec<&Found>, f: &Found) -> bool
 }
 
 // Its place and its rank.
-fn shift(waiting: &Vec<&Found>, f: &Found) -> Finding
-    requires { length waiting.now.items ≤ most_flights }
+fn shift(waiting: &[&Found], f: &Found) -> Finding
+    requires { length waiting.now ≤ most_flights }
     ensures { result ≡ code.Shift f.now.1.flight.callsign
-        (place (map (λ g. landing_of g.now) waiting.now.items) (landing_of f.now))
-        (rank_among (map (λ g. landing_of g.now) waiting.now.items) (landing_of f.now)) }
+        (place (map (λ g. landing_of g.now) waiting.now) (landing_of f.now))
+        (rank_among (map (λ g. landing_of g.now) waiting.now) (landing_of f.now)) }
 {
     Finding::Shift(
         f.active.flight.callsign,
@@ -86,10 +86,10 @@ fn shift(waiting: &Vec<&Found>, f: &Found) -> Finding
 }
 
 // Notes a waiting flight too far from its rank.
-fn note(all: &mut Vec<Finding>, k: u8, waiting: &Vec<&Found>, f: &Found) -> Result<(), AllocError>
-    requires { length waiting.now.items ≤ most_flights }
+fn note(all: &mut Vec<Finding>, k: u8, waiting: &[&Found], f: &Found) -> Result<(), AllocError>
+    requires { length waiting.now ≤ most_flights }
     ensures { OnOk result (map finding_of all.new.items ≡ map finding_of all.old.items
-        ++ too_far k (map (λ g. landing_of g.now) waiting.now.items) (landing_of f.now)) }
+        ++ too_far k (map (λ g. landing_of g.now) waiting.now) (landing_of f.now)) }
 {
     if !is_shift_kept(k, waiting, f) {
         all.push(shift(waiting, f))?;

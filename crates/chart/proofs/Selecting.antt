@@ -1,5 +1,5 @@
 -- What a picture holds of one kind of element.
-use Rattle.std.proofs.Common.{◌≡◌, ℕ, ◌+◌, ◌-◌, Bool, true, false, cond, List, [], ◌∷◌, ◌++◌, length, map, refl, ap, ◌∙◌, append-nil}
+use Rattle.std.proofs.Common.{◌≡◌, ℕ, zero, suc, ◌+◌, ◌-◌, Bool, true, false, cond, List, [], ◌∷◌, ◌++◌, length, map, refl, ap, ◌∙◌, append-nil}
 use Rattle.std.specs.Prelude.{Option, Some, None, flat_map, nat_le, ◌==◌}
 use Rattle.std.proofs.lemmas.List.Concat.{flat_map-append}
 use Rattle.landing_rules.specs.Flights.{Callsign, Span, Active, Situation, horizon}
@@ -16,7 +16,7 @@ use Rattle.chart.specs.Places.{spot, step_of, multiple_from, x_of}
 use Rattle.chart.specs.Rows.{Row, rows_of, is_flagged, landed_row, missing_rows, in_order, waiting_row}
 use Rattle.landing_rules.specs.Audit.{has_line}
 use Rattle.chart.specs.Frames.{frame_of, span_of, first_of}
-use Rattle.chart.specs.Elements.{windows_drawn, flight_drawn, delay_drawn, owed_drawn, owed_behind, landing_drawn, row_drawn, rows_drawn, labels_drawn, label_of, closures_drawn, ticks_from, ticks_drawn, twelve, horizon_drawn, horizon_said}
+use Rattle.chart.specs.Elements.{windows_drawn, flight_drawn, delay_drawn, owed_drawn, owed_behind, landing_drawn, row_drawn, rows_drawn, labels_drawn, label_of, closures_drawn, ticks_from, ticks_drawn, most_ticks, horizon_drawn, horizon_said}
 use Rattle.chart.specs.Pictures.{field_drawn, drawn, lines_below}
 use Rattle.chart.specs.Laws.{MarksLaw, WindowsLaw, ClosuresLaw, marks_in, marked, Marked, windows_in, window_bar, window_bars, row_windows, closures_in, block_span}
 
@@ -49,13 +49,13 @@ labels_none g k active rows lines found n [] = refl
 labels_none g k active rows lines found n (r ∷ rest) =
     none_and g _ (labels_drawn active rows lines found (n + 1) rest) (k.label n (label_of active rows (is_flagged lines found r.callsign) r)) (labels_none g k active rows lines found (n + 1) rest)
 
-ticks_none : {Y : Type 0} (g : Element → List Y) → Skips g → (span count step last : ℕ) (counted : List ℕ) (tick : ℕ) →
-    flat_map g (ticks_from span count step last counted tick) ≡ []
-ticks_none g k span count step last [] tick = refl
-ticks_none g k span count step last (i ∷ rest) tick = one (nat_le tick last) (ticks_none g k span count step last rest (tick + step))
+ticks_none : {Y : Type 0} (g : Element → List Y) → Skips g → (span count step last left tick : ℕ) →
+    flat_map g (ticks_from span count step last left tick) ≡ []
+ticks_none g k span count step last zero tick = refl
+ticks_none g k span count step last (suc left) tick = one (nat_le tick last) (ticks_none g k span count step last left (tick + step))
   where
-    one : (b : Bool) → flat_map g (ticks_from span count step last rest (tick + step)) ≡ [] → flat_map g (cond b (element.Tick count (spot span tick) ∷ ticks_from span count step last rest (tick + step)) []) ≡ []
-    one true h = none_and g _ (ticks_from span count step last rest (tick + step)) (k.tick count (spot span tick)) h
+    one : (b : Bool) → flat_map g (ticks_from span count step last left (tick + step)) ≡ [] → flat_map g (cond b (element.Tick count (spot span tick) ∷ ticks_from span count step last left (tick + step)) []) ≡ []
+    one true h = none_and g _ (ticks_from span count step last left (tick + step)) (k.tick count (spot span tick)) h
     one false h = refl
 
 horizon_none : {Y : Type 0} (g : Element → List Y) → Skips g → (span count h : ℕ) → flat_map g (horizon_drawn span count h) ≡ []
@@ -84,7 +84,7 @@ field_kept g k s lines found rows f =
     let drawn_rows = rows_drawn s.aerodrome.table span lines found 0 rows in
     flat_map-append g shut (ticks ++ (line ++ drawn_rows))
     ∙ ap (λ ys. flat_map g shut ++ ys)
-    (pass g ticks (line ++ drawn_rows) (ticks_none g k span n (step_of span) f.last twelve (multiple_from (step_of span) (first_of f)))
+    (pass g ticks (line ++ drawn_rows) (ticks_none g k span n (step_of span) f.last most_ticks (multiple_from (step_of span) (first_of f)))
     ∙ pass g line drawn_rows (horizon_none g k span n (horizon s)))
 
 ends_none : {Y : Type 0} (g : Element → List Y) → Skips g → (n : ℕ) → flat_map g (element.FieldEnd ∷ element.Below n ∷ []) ≡ []

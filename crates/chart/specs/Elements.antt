@@ -1,5 +1,5 @@
 -- The elements of the rows, and those over all rows.
-use Rattle.std.specs.Prelude.{ℕ, ◌+◌, ◌-◌, ◌==◌, Bool, List, [], ◌∷◌, ◌++◌, Option, Some, None, nat_le, if◌then◌else◌}
+use Rattle.std.specs.Prelude.{ℕ, zero, suc, ◌+◌, ◌-◌, ◌==◌, Bool, List, [], ◌∷◌, ◌++◌, Option, Some, None, nat_le, if◌then◌else◌}
 use Rattle.wake_table.specs.declared.category.Category.{Category}
 use Rattle.wake_table.specs.Table.{separation}
 use Rattle.landing_rules.specs.Flights.{Callsign, Span, Active, is_waiting}
@@ -107,19 +107,20 @@ abbrev pub closures_drawn : ℕ → ℕ → List Span → List Element
 closures_drawn span count [] = []
 closures_drawn span count (c ∷ rest) = closure_drawn span count c ∷ closures_drawn span count rest
 
--- ticks from a second on, a step apart, as long as they are not behind the last, and no more than are counted out
-abbrev pub ticks_from : ℕ → ℕ → ℕ → ℕ → List ℕ → ℕ → List Element
-ticks_from span count step last [] tick = []
-ticks_from span count step last (i ∷ rest) tick =
-    if nat_le tick last then element.Tick count (spot span tick) ∷ ticks_from span count step last rest (tick + step) else []
+-- ticks from a second on, a step apart, as long as they are not behind the last, and no more than so many
+abbrev pub ticks_from : ℕ → ℕ → ℕ → ℕ → ℕ → ℕ → List Element
+ticks_from span count step last zero tick = []
+ticks_from span count step last (suc left) tick =
+    if nat_le tick last then element.Tick count (spot span tick) ∷ ticks_from span count step last left (tick + step) else []
 
-abbrev pub twelve : List ℕ
-twelve = 1 ∷ 2 ∷ 3 ∷ 4 ∷ 5 ∷ 6 ∷ 7 ∷ 8 ∷ 9 ∷ 10 ∷ 11 ∷ 12 ∷ []
+-- eleven steps hold the span: from end to end, twelve ticks
+abbrev pub most_ticks : ℕ
+most_ticks = 12
 
 -- a tick at each multiple of the span's step in the frame
 abbrev pub ticks_drawn : ℕ → ℕ → ℕ → ℕ → List Element
 ticks_drawn span count first last =
-    ticks_from span count (step_of span) last twelve (multiple_from (step_of span) first)
+    ticks_from span count (step_of span) last most_ticks (multiple_from (step_of span) first)
 
 abbrev pub horizon_drawn : ℕ → ℕ → ℕ → List Element
 horizon_drawn span count h = if h == 0 then [] else element.Horizon count (spot span h) ∷ []

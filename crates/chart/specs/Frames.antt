@@ -1,7 +1,8 @@
 -- Which seconds a picture shows.
-use Rattle.std.specs.Prelude.{ℕ, ◌-◌, ◌==◌, min, max, List, Option, Some, None, if◌then◌else◌}
+use Rattle.std.specs.Prelude.{ℕ, ◌+◌, ◌-◌, ◌==◌, min, max, List, Option, Some, None, if◌then◌else◌}
 use Rattle.std.specs.List.{fold}
 use Rattle.landing_rules.specs.Flights.{Span, Active}
+use Rattle.landing_rules.specs.Rules.{last_second}
 use Rattle.landing_rules.specs.Text.{ShownLanding}
 use Rattle.chart.specs.declared.frame.Frame.{Frame}
 use Rattle.chart.specs.Rows.{Row}
@@ -35,7 +36,7 @@ abbrev pub with_horizon : Frame → ℕ → Frame
 with_horizon f h = if h == 0 then f else widened f h
 
 abbrev pub empty : Frame
-empty = record { first = 172800; last = 0 }
+empty = record { first = last_second + 1; last = 0 }
 
 -- from the first to the last second of all rows and the horizon
 abbrev pub frame_of : ℕ → List Row → Frame

@@ -1,10 +1,10 @@
 -- The rows of a picture: the landing lines in landing order, and then the active flights without a line.
-use Rattle.std.specs.Prelude.{ℕ, ◌+◌, ◌-◌, Bool, true, false, ◌&&◌, List, [], ◌∷◌, ◌++◌, Option, Some, None, nat_lt, find, map, count_by, slice_get, if◌then◌else◌}
+use Rattle.std.specs.Prelude.{ℕ, ◌+◌, ◌-◌, Bool, true, false, ◌&&◌, List, [], ◌∷◌, ◌++◌, Option, Some, None, nat_lt, find, filter, map, count_by, slice_get, if◌then◌else◌}
 use Rattle.std.specs.Str.{bytes_eq}
 use Rattle.std.specs.List.{list_any}
 use Rattle.std.specs.Ordering.{is_lt}
 use Rattle.landing_rules.specs.Flights.{Callsign, Flight, Active, is_waiting}
-use Rattle.landing_rules.specs.Rules.{arrival_cmp, first_come_cmp}
+use Rattle.landing_rules.specs.Rules.{first_come_cmp, rank}
 use Rattle.landing_rules.specs.Events.{named}
 use Rattle.landing_rules.specs.Text.{ShownLanding}
 use Rattle.landing_rules.specs.Audit.{Finding, Missing, Unknown, Twice, Order, Mark, Closed, Separation, Precedence, Moved, Early, Shift, OtherObjective, Value, has_line}
@@ -51,9 +51,9 @@ rows_of active lines = map (landed_row active) (in_order lines) ++ missing_rows 
 
 -- ---- rank and place
 
--- 1 plus the number of waiting flights that come before f, first come, first served
+-- the rank of f among the waiting flights
 abbrev pub rank_in : List Active → Flight → ℕ
-rank_in active f = 1 + count_by (λ a. is_waiting a && is_lt (arrival_cmp a.flight f)) active
+rank_in active f = rank (map (λ a. a.flight) (filter is_waiting active)) f
 
 abbrev pub waits : Option Active → Bool
 waits None = false

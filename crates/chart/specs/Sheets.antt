@@ -1,8 +1,6 @@
 -- The texts that are the same in every picture: the style, the words above the columns, and the key.
-use Rattle.std.specs.Prelude.{ℕ, List, ◌++◌, codes}
-
-abbrev pub Bytes : Type 0
-Bytes = List ℕ
+use Rattle.std.specs.Prelude.{◌++◌, codes}
+use Rattle.landing_rules.specs.Text.{Bytes}
 
 -- shapes, dashes and hatching tell all apart, so that no colour is needed
 unfoldable pub style_text : Bytes

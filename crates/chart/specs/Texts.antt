@@ -2,7 +2,7 @@
 use Rattle.std.specs.Prelude.{ℕ, ◌+◌, ◌-◌, ◌*◌, ◌/◌, ◌%◌, Bool, List, [], ◌∷◌, ◌++◌, Option, Some, None, nat_lt, codes, decimal, flat_map, if◌then◌else◌}
 use Rattle.wake_table.specs.Letters.{letter}
 use Rattle.wake_table.specs.declared.category.Category.{Category}
-use Rattle.landing_rules.specs.Text.{head_words}
+use Rattle.landing_rules.specs.Text.{Bytes, head_words}
 use Rattle.landing_rules.specs.Flights.{Callsign}
 use Rattle.landing_rules.specs.Audit.{Finding}
 use Rattle.audit.specs.Texts.{findings_text}
@@ -11,7 +11,7 @@ use Rattle.chart.specs.declared.element.Element.TheVariants as element
 use Rattle.chart.specs.declared.element.Label.{Label}
 use Rattle.chart.specs.declared.element.Look.{Look}
 use Rattle.chart.specs.declared.element.Spot.{Spot}
-use Rattle.chart.specs.Sheets.{Bytes, style_text, columns_text, key_text}
+use Rattle.chart.specs.Sheets.{style_text, columns_text, key_text}
 
 -- ---- where a row is, in pixels from above
 

@@ -1,6 +1,6 @@
 // What stands over all rows.
 ghost use Rattle.std.specs.Prelude.{◌≡◌, ◌<◌, ◌≤◌, ◌++◌, OnOk};
-ghost use Rattle.chart.specs.Elements.{closure_drawn, closures_drawn, horizon_drawn, horizon_said, ticks_drawn, ticks_from};
+ghost use Rattle.chart.specs.Elements.{closure_drawn, closures_drawn, horizon_drawn, horizon_said, most_ticks, ticks_drawn, ticks_from};
 
 use crate::Element;
 use crate::places::{multiple_from, spot, step_of};
@@ -34,30 +34,30 @@ pub(crate) fn add_closures(
     Ok(())
 }
 
-// Ticks from a second on, a step apart, as long as they are not behind the last, and no more than are counted out.
+// Eleven steps hold the span: from end to end, twelve ticks.
+const MOST_TICKS: u32 = 12;
+
+// Ticks from a second on, a step apart, as long as they are not behind the last, and no more than MOST_TICKS.
 fn add_ticks_from(
     all: &mut Vec<Element>,
     span: u64,
     count: u32,
     step: u64,
     last: u32,
-    counted: &[u32],
     first: u64,
 ) -> Result<(), AllocError>
     requires some { 1 ≤ span }
     requires near { step ≤ 21600 }
     ensures { OnOk result (all.new.items ≡ all.old.items
-        ++ ticks_from span count step last counted.now first) }
+        ++ ticks_from span count step last most_ticks first) }
 {
     let mut tick = first;
-    let mut rest = counted;
-    while let [_, after @ ..] = rest {
+    for _ in 0..MOST_TICKS {
         if tick > u64::from(last) {
             return Ok(());
         }
         all.push(Element::Tick(count, spot(span, tick)))?;
         tick += step;
-        rest = after;
     }
     Ok(())
 }
@@ -75,8 +75,7 @@ pub(crate) fn add_ticks(
 {
     let step = step_of(span);
     let from = multiple_from(step, u64::from(first));
-    let counted = [1, 2, 3, 4, 5, 6, 7, 8, 9, 10, 11, 12];
-    add_ticks_from(all, span, count, step, last, &counted, from)
+    add_ticks_from(all, span, count, step, last, from)
 }
 
 // The horizon, where it bars any second.

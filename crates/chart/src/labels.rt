@@ -17,10 +17,7 @@ use wake_table::Category;
 fn category_in(active: &Option<Active>) -> Option<Category>
     ensures { result ≡ category_in active.now }
 {
-    match active {
-        None => None,
-        Some(active) => Some(active.flight.category),
-    }
+    active.as_ref().map(|active| active.flight.category)
 }
 
 // The rank of a waiting flight.
@@ -55,10 +52,9 @@ fn place_shown(rows: &[Row], row: &Row) -> Option<u32>
     requires { length rows.now ≤ 1000 }
     ensures { result ≡ place_shown rows.now row.now.active row.now.landing }
 {
-    match &row.active {
-        None => None,
-        Some(active) => place_at(rows, active, &row.landing),
-    }
+    row.active
+        .as_ref()
+        .and_then(|active| place_at(rows, active, &row.landing))
 }
 
 fn label_of(active: &[Active], rows: &[Row], flagged: bool, row: &Row) -> Label

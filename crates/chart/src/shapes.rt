@@ -135,7 +135,8 @@ fn add_owed_behind(
 ) -> Result<(), AllocError>
     requires { 1 ≤ span }
     ensures { OnOk result (all.new.items ≡ all.old.items
-        ++ owed_behind table.now span n (shown_of landing.now) row.now.active next.now.landing next.now.active) }
+        ++ owed_behind table.now span n (shown_of landing.now) row.now.active
+        next.now.landing next.now.active) }
 {
     let Some(leader) = &row.active else {
         return Ok(());

@@ -5,7 +5,7 @@ ghost use Rattle.audit.specs.Findings.{finding_of};
 ghost use Rattle.chart.specs.Sheets.{columns_text, key_text, style_text};
 ghost use Rattle.chart.specs.Texts.{below_text, field_text, listed_text, sheet_head, sheet_text, titled, until_text};
 
-use crate::writing::{append_bottom, append_moment};
+use crate::writing::{append_bottom, append_moment, base_of};
 use appending::append_all;
 use audit::{Finding, append_findings};
 use itoa::Buffer;
@@ -147,10 +147,9 @@ pub(crate) fn append_below(rows: u32, into: &mut Vec<u8>) -> Result<(), AllocErr
     ensures { OnOk result (into.new.items ≡ into.old.items ++ below_text rows) }
 {
     let mut digits = Buffer::new();
-    let base = 76 + 18 * u64::from(rows);
     let pieces = [
         b"<text y='".as_slice(),
-        digits.format(base).as_bytes(),
+        digits.format(base_of(rows)).as_bytes(),
         b"'>\n",
     ];
     append_all(&pieces, into)

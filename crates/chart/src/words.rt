@@ -3,6 +3,7 @@ ghost use Rattle.std.specs.Prelude.{◌≡◌, ◌∷◌, ◌++◌, OnOk, decima
 ghost use Rattle.chart.specs.Texts.{category_cell, label_end, label_head, label_open, label_text, number_cell, shift_between, shift_cell, shift_words};
 
 use crate::Label;
+use crate::writing::base_of;
 use appending::append_all;
 use cps_base::Callsign;
 use itoa::Buffer;
@@ -24,10 +25,9 @@ fn append_label_head(row: u32, callsign: &Callsign, into: &mut Vec<u8>) -> Resul
     ensures { OnOk result (into.new.items ≡ into.old.items ++ label_head row callsign.now) }
 {
     let mut digits = Buffer::new();
-    let base = 76 + 18 * u64::from(row);
     let pieces = [
         b" y='".as_slice(),
-        digits.format(base).as_bytes(),
+        digits.format(base_of(row)).as_bytes(),
         b"'><tspan x='8'>",
         callsign.bytes(),
         b"</tspan>",

@@ -1,6 +1,6 @@
 // The shapes, as text.
 ghost use Rattle.std.specs.Prelude.{◌≡◌, ◌++◌, ◌<◌, OnOk, decimal};
-ghost use Rattle.chart.specs.Texts.{bar_head, bar_text, clock, closure_head, closure_text, flag_text, horizon_head, horizon_text, mark_class, mark_form, mark_text, moment, pin_head, pin_text, square_text, tick_head, tick_text, two, y_of, foot_of, bottom_of, tick_foot};
+ghost use Rattle.chart.specs.Texts.{base_of, bar_head, bar_text, clock, closure_head, closure_text, flag_text, horizon_head, horizon_text, mark_class, mark_form, mark_text, moment, pin_head, pin_text, square_text, tick_head, tick_text, two, y_of, foot_of, bottom_of, tick_foot};
 
 use crate::{Look, Spot};
 use appending::append_all;
@@ -13,6 +13,13 @@ pub(crate) fn y_of(row: u32) -> u64
     ensures { result ≡ y_of row }
 {
     72 + 18 * u64::from(row)
+}
+
+// The line on which its words stand.
+pub(crate) fn base_of(row: u32) -> u64
+    ensures { result ≡ base_of row }
+{
+    76 + 18 * u64::from(row)
 }
 
 // Its lower part, where the separation to the next row is drawn.
