@@ -1,6 +1,6 @@
 -- An effort goes on by one event, or stops there.
 use Rattle.std.proofs.Common.{◌≡◌, ℕ, ◌+◌, ◌*◌, ◌<◌, ◌≤◌, List, [], ◌∷◌, ◌++◌, length, Err, inl, inr, refl, sym, ap, subst, ◌∙◌, arith, append_assoc, append-nil, length-append}
-use Rattle.std.specs.Prelude.{None, Some, Option, Ok, Result, MatchOption, ⊤}
+use Rattle.std.specs.Prelude.{None, Some, Option, MatchOption, ⊤}
 use Rattle.cps_outside.specs.SinkState.{SinkState, GrowsByPart}
 use Rattle.landing_rules.specs.Events.{State, Event, Refusal, Step, Answered, Run}
 use Rattle.landing_rules.specs.Problem.{Problem, IsProblemOf}
@@ -9,7 +9,7 @@ use Rattle.cps_network.specs.Due.{IsDue}
 use Rattle.replan.specs.Kept.{Holds}
 use Rattle.replan.specs.declared.any_kept.AnyKept.{AnyKept}
 use Rattle.event_answers.specs.Runs.{last_state}
-use Rattle.event_answers.specs.Written.{Wrote, WrotePart}
+use Rattle.event_answers.specs.Written.{Wrote, WrotePart, PutsText}
 use Rattle.event_answers.specs.shared.LongerRuns.{Run-push, last_state-push}
 use Rattle.event_answers.specs.shared.Written.{wrote_nothing, wrote_after, part_after}
 use Rattle.event_answers.specs.declared.stops.Stop.{Stop}
@@ -21,7 +21,7 @@ use Rattle.situations.specs.declared.refusal.Refusal as refusals
 use Rattle.situations.specs.declared.refusal.Refusal.TheVariants as refusal
 use Rattle.replan.specs.Bound.{most_steps}
 use Rattle.efforts.specs.Efforts.{Planned, TakesSteps, IsPlanned, Plannings, Effort, answers_of, steps_of, last_problem, begun_line, answer_line, answer_lines, total_line, planned_text}
-use Rattle.efforts.specs.Ends.{Plans, PlansWith, StepPlans, AllPlan, SomePlan, EventsPlan, WritesSteps, EffortTells, EffortEnds}
+use Rattle.efforts.specs.Ends.{Plans, PlansWith, StepPlans, AllPlan, SomePlan, EventsPlan, EffortTells, EffortEnds}
 use Rattle.efforts.proofs.Chains.{answers-push, planned-push, last_problem-push, steps-push, lines-push}
 
 -- what was done of the events, and what is left
@@ -148,17 +148,10 @@ ends old now events from to i total d =
 
 -- ---- a refused event
 
-told_steps : (old new : Standing AnyKept) (i : ℕ) (e : Event) (from to : SinkState) (answer : Refusal) (r : Result ℕ Stop) →
-    Plans old new e (Some answer) 0 → WritesSteps from to (answer_line i (Some answer) 0) 0 r → StepPlans old new i e from to r
-told_steps old new i e from to answer (Ok n) plans w =
-    subst (λ (m : ℕ). PlansWith old new i e m (Wrote from to)) (sym w.0) (record { answer = Some answer; plans = plans; written = w.1 })
-told_steps old new i e from to answer (Err stop.NotWritten) plans w = (0, record { answer = Some answer; plans = plans; written = w })
-told_steps old new i e from to answer (Err stop.NoMemory) plans w = w
-
-refused_by : (o : Option Refusal) (old new : Standing AnyKept) (i : ℕ) (e : Event) (from to : SinkState) (r : Result ℕ Stop) → (o ≡ None → ⊥) →
-    MatchOption o ⊤ (λ answer. Plans old new e (Some answer) 0) → WritesSteps from to (refused_text i o) 0 r → StepPlans old new i e from to r
-refused_by None old new i e from to r never plans w = absurd (never refl)
-refused_by (Some answer) old new i e from to r never plans w = told_steps old new i e from to answer r plans w
+refused_by : (o : Option Refusal) (old new : Standing AnyKept) (i : ℕ) (e : Event) (P : Bytes → Type 0) → (o ≡ None → ⊥) →
+    MatchOption o ⊤ (λ answer. Plans old new e (Some answer) 0) → P (refused_text i o) → PlansWith old new i e 0 P
+refused_by None old new i e P never plans written = absurd (never refl)
+refused_by (Some answer) old new i e P never plans written = record { answer = Some answer; plans = plans; written = written }
 
 none_is_memory : (fault : refusals.Refusal) → refusal_of fault ≡ None → fault ≡ refusal.Memory
 none_is_memory (refusal.UnknownFlight c) e = cc
@@ -173,11 +166,11 @@ none_is_memory refusal.UnknownClosure e = cc
 none_is_memory (refusal.ClockBack second) e = cc
 none_is_memory refusal.Memory e = refl
 
--- the line of a refused event
-pub refused_step : (fault : refusals.Refusal) (old new : Standing AnyKept) (i : ℕ) (e : Event) (from to : SinkState) (text : Bytes) (r : Result ℕ Stop) → (fault ≡ refusal.Memory → ⊥) →
-    MatchOption (refusal_of fault) ⊤ (λ answer. Plans old new e (Some answer) 0) → text ≡ refused_text i (refusal_of fault) → WritesSteps from to text 0 r → StepPlans old new i e from to r
-refused_step fault old new i e from to text r never plans is w =
-    refused_by (refusal_of fault) old new i e from to r (λ none. never (none_is_memory fault none)) plans (subst (λ (t : Bytes). WritesSteps from to t 0 r) is w)
+-- what was written of the line of a refused event
+pub refused_step : (fault : refusals.Refusal) (old new : Standing AnyKept) (i : ℕ) (e : Event) (P : Bytes → Type 0) (text : Bytes) → (fault ≡ refusal.Memory → ⊥) →
+    MatchOption (refusal_of fault) ⊤ (λ answer. Plans old new e (Some answer) 0) → text ≡ refused_text i (refusal_of fault) → P text → PlansWith old new i e 0 P
+refused_step fault old new i e P text never plans is written =
+    refused_by (refusal_of fault) old new i e P (λ none. never (none_is_memory fault none)) plans (subst P is written)
 
 -- ---- with the opening's line before, and the total's behind
 
@@ -202,7 +195,7 @@ whole_of_more from to x y w = λ told. (x, y, refl, w.grew told)
 
 module _ (old : Standing AnyKept) (events : List Event) (opening : ℕ) (of : IsProblemOf old.state.situation old.problem) (opened : IsDue None old.problem opening) where
   -- the opening's line was not written whole
-  pub stops_at_once : (s : Stop) (new : Standing AnyKept) (from to : SinkState) → WritesSteps from to (begun_line opening) opening (Err s) → EffortEnds old.state new.state events from to (Err s)
+  pub stops_at_once : (s : Stop) (new : Standing AnyKept) (from to : SinkState) → PutsText (begun_line opening) from to (Err s) → EffortEnds old.state new.state events from to (Err s)
   stops_at_once stop.NotWritten new from to w = record {
     done = [];
     rest = events;
@@ -234,7 +227,7 @@ module _ (old : Standing AnyKept) (events : List Event) (opening : ℕ) (of : Is
 
   -- and the last line was not
   pub stops_last : (s : Stop) (new : Standing AnyKept) (total : ℕ) (from mid late to : SinkState) → Wrote from mid (begun_line opening) → AllPlan old new events total (Wrote mid late) →
-      WritesSteps late to (total_line (opening + total)) (opening + total) (Err s) → EffortEnds old.state new.state events from to (Err s)
+      PutsText (total_line (opening + total)) late to (Err s) → EffortEnds old.state new.state events from to (Err s)
   stops_last stop.NotWritten new total from mid late to w all last =
       let planned = all.plannings.planned in
       let told : WrotePart late to (total_line (opening + steps_of planned)) = subst (λ (n : ℕ). WrotePart late to (total_line (opening + n))) all.total_is last in

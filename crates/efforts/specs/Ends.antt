@@ -14,12 +14,6 @@ use Rattle.sequencer.specs.Standing.{Standing}
 use Rattle.replan.specs.Bound.{most_steps}
 use Rattle.efforts.specs.Efforts.{TakesSteps, Plannings, Effort, answers_of, steps_of, answer_line, answer_lines, effort_text}
 
--- a line was written that tells these steps; where memory runs out it is not begun
-abbrev pub WritesSteps : SinkState → SinkState → Bytes → ℕ → Result ℕ Stop → Type 0
-WritesSteps from to text steps (Ok n) = (n ≡ steps) × Wrote from to text
-WritesSteps from to text steps (Err stop.NotWritten) = WrotePart from to text
-WritesSteps from to text steps (Err stop.NoMemory) = to ≡ from
-
 -- one event: its step by the rules, and its planning
 pub record Plans (old new : Standing AnyKept) (e : Event) (answer : Option Refusal) (steps : ℕ) : Type 0 where
   pub step : Step old.state e answer new.state

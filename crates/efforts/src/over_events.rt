@@ -5,8 +5,9 @@ ghost use Rattle.cps_network.specs.Due.{IsDue};
 ghost use Rattle.arrivals.specs.Seen.{event_of, IsGood};
 ghost use Rattle.situations.specs.Answers.{refusal_of};
 ghost use Rattle.replan.specs.Kept.{Holds};
+ghost use Rattle.event_answers.specs.Written.{PutsText};
 ghost use Rattle.efforts.specs.Efforts.{begun_line, total_line};
-ghost use Rattle.efforts.specs.Ends.{WritesSteps, Plans, StepPlans, EventsPlan, EffortEnds};
+ghost use Rattle.efforts.specs.Ends.{Plans, StepPlans, EventsPlan, EffortEnds};
 
 use crate::texts::{accepted, begun, refused, total};
 use arrivals::Event;
@@ -18,16 +19,6 @@ use sequencer::Sequencer;
 use situations::Refusal;
 use std::alloc::Global;
 use std::thread::Threads;
-
-// One put of a line that tells these steps.
-fn put<S: Sink>(out: &mut S, bytes: &[u8], steps: u64) -> Result<u64, Stop>
-    ensures { WritesSteps (S.state out.old) (S.state out.new) bytes.now steps result }
-{
-    match out.put(bytes) {
-        Ok(()) => Ok(steps),
-        Err(_) => Err(Stop::NotWritten),
-    }
-}
 
 // The steps of the planning after an event, counted from 0.
 fn plan_event<R: Threads + Sync, G: Gate + Sync>(
@@ -69,12 +60,14 @@ fn step<R: Threads + Sync, S: Sink, G: Gate + Sync>(
     match plan_event(rt, alloc, sequencer, event, gate) {
         Ok(steps) => {
             let text = accepted(alloc, number, steps)?;
-            put(out, text.as_slice(), steps)
+            out.put(text.as_slice())?;
+            Ok(steps)
         }
         Err(Refusal::Memory) => Err(Stop::NoMemory),
         Err(refusal) => {
             let text = refused(alloc, number, &refusal)?;
-            put(out, text.as_slice(), 0)
+            out.put(text.as_slice())?;
+            Ok(0)
         }
     }
 }
@@ -104,19 +97,21 @@ fn plan_events<R: Threads + Sync, S: Sink, G: Gate + Sync>(
 }
 
 // The line of the opening, in one put.
-fn open<S: Sink>(alloc: Global, steps: u64, out: &mut S) -> Result<u64, Stop>
-    ensures { WritesSteps (S.state out.old) (S.state out.new) (begun_line steps) steps result }
+fn open<S: Sink>(alloc: Global, steps: u64, out: &mut S) -> Result<(), Stop>
+    ensures { PutsText (begun_line steps) (S.state out.old) (S.state out.new) result }
 {
     let text = begun(alloc, steps)?;
-    put(out, text.as_slice(), steps)
+    out.put(text.as_slice())?;
+    Ok(())
 }
 
 // The last line, in one put.
-fn close<S: Sink>(alloc: Global, steps: u64, out: &mut S) -> Result<u64, Stop>
-    ensures { WritesSteps (S.state out.old) (S.state out.new) (total_line steps) steps result }
+fn close<S: Sink>(alloc: Global, steps: u64, out: &mut S) -> Result<(), Stop>
+    ensures { PutsText (total_line steps) (S.state out.old) (S.state out.new) result }
 {
     let text = total(alloc, steps)?;
-    put(out, text.as_slice(), steps)
+    out.put(text.as_slice())?;
+    Ok(())
 }
 
 // Whether a plan is shown.
@@ -152,8 +147,8 @@ pub fn effort<R: Threads + Sync, S: Sink, G: Gate + Sync>(
         (S.state out.old) (S.state out.new) result }
 {
     due_is_small(sequencer.problem());
-    let opened = open(alloc, opening, out)?;
+    open(alloc, opening, out)?;
     let steps = plan_events(rt, alloc, sequencer, events, out, gate)?;
-    close(alloc, opened + steps, out)?;
+    close(alloc, opening + steps, out)?;
     Ok(is_planned(sequencer))
 }

@@ -4,5 +4,5 @@
 mod refusal;
 mod stops;
 
-pub use refusal::refusal_line;
+pub use refusal::{append_covered, refusal_line};
 pub use stops::Stop;

@@ -1,7 +1,9 @@
 ghost use Rattle.std.specs.Prelude.{◌≡◌, ◌≢◌, ◌++◌, OnOk};
 ghost use Rattle.appending.specs.Appends.{Appends};
+ghost use Rattle.landing_rules.specs.Events.{CoversFrozen};
+ghost use Rattle.landing_rules.specs.Text.{cause};
 ghost use Rattle.situations.specs.Answers.{refusal_of};
-ghost use Rattle.situations.specs.declared.refusal.Refusal.TheVariants.{Memory, CoversFrozen};
+ghost use Rattle.situations.specs.declared.refusal.Refusal.TheVariants.{Memory};
 ghost use Rattle.event_answers.specs.Refused.{cause_text, refused_text};
 
 use cps_base::Callsign;
@@ -18,10 +20,15 @@ fn append_words(first: &[u8], second: &[u8], into: &mut Vec<u8>) -> Result<(), A
     Ok(())
 }
 
-// The frozen landing that a closure would hold.
-fn append_covered(callsign: &Callsign, second: u32, into: &mut Vec<u8>) -> Result<(), AllocError>
-    ensures { OnOk result (into.new.items ≡ into.old.items ++ cause_text (refusal_of
-        (CoversFrozen callsign.now second))) }
+/// Appends why a closure is refused that would hold a frozen landing: `covers-frozen CALLSIGN SECOND`. After a refusal,
+/// which is want of memory, a part of it may stand there.
+pub fn append_covered(
+    callsign: &Callsign,
+    second: u32,
+    into: &mut Vec<u8>,
+) -> Result<(), AllocError>
+    ensures { OnOk result (into.new.items ≡ into.old.items ++ cause
+        (CoversFrozen callsign.now second)) }
 {
     let mut number = Buffer::new();
     into.extend_from_slice(b"covers-frozen ")?;

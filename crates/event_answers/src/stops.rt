@@ -1,3 +1,4 @@
+use cps_outside::WriteFailed;
 use std::alloc::AllocError;
 
 /// Why a run over events stops before its end.
@@ -17,5 +18,16 @@ impl From<AllocError> for Stop {
 
     fn from(_: AllocError) -> Self {
         Stop::NoMemory
+    }
+}
+
+impl From<WriteFailed> for Stop {
+    ghost use Rattle.std.specs.Prelude.{◌≡◌};
+    ghost use Rattle.event_answers.specs.declared.stops.Stop.TheVariants.{NotWritten};
+
+    ghost from_gives = { λ _ stop. stop ≡ NotWritten };
+
+    fn from(_: WriteFailed) -> Self {
+        Stop::NotWritten
     }
 }

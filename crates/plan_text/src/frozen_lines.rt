@@ -53,7 +53,7 @@ impl FrozenLines {
     }
 
     // Whether the plan begins with these landings.
-    fn begin(&self, plan: &Plan) -> bool
+    fn begins(&self, plan: &Plan) -> bool
         ensures { IsTrue result → self.now ≡ take (length self.now) plan.now.landings }
     {
         self.landings.len() <= plan.len()
@@ -79,6 +79,7 @@ impl FrozenLines {
         if append_landing(&landing, &mut self.text).is_err()
             || self.landings.push(landing).is_err()
         {
+            // not `clear`, which asks that the lines are those of the landings
             self.landings.clear();
             self.text.clear();
             return Err(AllocError);
@@ -105,7 +106,7 @@ impl FrozenLines {
     fn follow(&mut self, plan: &Plan) -> Result<(), AllocError>
         ensures { OnOk result (self.new ≡ take (length self.new) plan.now.landings) }
     {
-        if !self.begin(plan) {
+        if !self.begins(plan) {
             self.clear();
         }
         self.go_on(plan)

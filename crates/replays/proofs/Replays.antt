@@ -1,6 +1,6 @@
 -- A replay goes on by one event, or stops there.
 use Rattle.std.specs.Prelude.{⊤}
-use Rattle.std.proofs.Common.{◌≡◌, ℕ, ◌+◌, List, [], ◌∷◌, ◌++◌, length, Option, Some, None, MatchOption, Result, Ok, Err, OnOk, IfErr, inl, inr, refl, sym, ap, subst, ◌∙◌, arith, append_assoc}
+use Rattle.std.proofs.Common.{◌≡◌, ◌⊎◌, ℕ, ◌+◌, List, [], ◌∷◌, ◌++◌, length, Option, Some, None, MatchOption, Result, Ok, Err, OnOk, IfErr, inl, inr, refl, sym, ap, subst, ◌∙◌, arith, append_assoc}
 use Rattle.std.proofs.lemmas.List.{append-nil, length-append}
 use Rattle.cps_outside.specs.SinkState.{SinkState}
 use Rattle.landing_rules.specs.Events.{State, Event, Refusal, Step, Answered, Run}
@@ -12,8 +12,8 @@ use Rattle.event_answers.specs.shared.Written.{wrote_nothing, wrote_after, part_
 use Rattle.event_answers.specs.declared.stops.Stop.{Stop}
 use Rattle.event_answers.specs.declared.stops.Stop.TheVariants as stop
 use Rattle.event_answers.specs.Runs.{last_state}
-use Rattle.event_answers.specs.Written.{Wrote, WrotePart}
-use Rattle.replays.specs.Runs.{PutsText, PutsAnswer, PartTells, EventsWrite, ReplayEnds}
+use Rattle.event_answers.specs.Written.{Wrote, WrotePart, PutsText}
+use Rattle.replays.specs.Runs.{PutsAnswer, PartTells, EventsWrite, ReplayEnds}
 
 -- one event: its step, and its text
 pub record Answers (old new : State) (i : ℕ) (e : Event) (P : Bytes → Type 0) : Type 0 where
@@ -21,32 +21,23 @@ pub record Answers (old new : State) (i : ℕ) (e : Event) (P : Bytes → Type 0
   pub step : Step old e answer new
   pub written : P (answer_text i answer new)
 
--- where memory runs out the event's answer is not begun
+-- a step and the put of its text, or memory ran out before it had one
 abbrev pub StepWrites : State → State → ℕ → Event → SinkState → SinkState → Result (Unit {0}) Stop → Type 0
-StepWrites old new i e from to (Ok u) = Answers old new i e (Wrote from to)
-StepWrites old new i e from to (Err stop.NotWritten) = Answers old new i e (WrotePart from to)
-StepWrites old new i e from to (Err stop.NoMemory) = to ≡ from
-
--- a step and the put of its answer
-answered : (old new : State) (i : ℕ) (e : Event) (from to : SinkState) (a : Option Refusal) → Step old e a new →
-    (r : Result (Unit {0}) Stop) → PutsText (answer_text i a new) from to r → StepWrites old new i e from to r
-answered old new i e from to a step (Ok u) put = record { answer = a; step = step; written = put }
-answered old new i e from to a step (Err stop.NotWritten) put = record { answer = a; step = step; written = put }
-answered old new i e from to a step (Err stop.NoMemory) put = put
+StepWrites old new i e from to r = Answers old new i e (λ text. PutsText text from to r) ⊎ ((to ≡ from) × (r ≡ Err stop.NoMemory))
 
 -- an event was refused, or memory ran out
 refused : (old new : State) (i : ℕ) (e : Event) (from to : SinkState) (r : Result (Unit {0}) Stop) (found : Option Refusal) →
     MatchOption found ⊤ (λ a. Step old e (Some a) new) →
     MatchOption found ((to ≡ from) × (r ≡ Err stop.NoMemory)) (λ a. PutsText (answer_text i (Some a) new) from to r) →
     StepWrites old new i e from to r
-refused old new i e from to r None step put = subst (λ (x : Result (Unit {0}) Stop). StepWrites old new i e from to x) (sym put.1) put.0
-refused old new i e from to r (Some a) step put = answered old new i e from to (Some a) step r put
+refused old new i e from to r None step put = inr put
+refused old new i e from to r (Some a) step put = inl (record { answer = Some a; step = step; written = put })
 
 -- an event was tried, and what came of it is put
 pub tried : (old new : State) (i : ℕ) (e : Event) (from to : SinkState) (r : Result (Unit {0}) Stop) (outcome : Result (Unit {0}) code.Refusal) →
     OnOk outcome (Step old e None new) → IfErr outcome (λ fault. MatchOption (refusal_of fault) ⊤ (λ a. Step old e (Some a) new)) →
     PutsAnswer new i outcome from to r → StepWrites old new i e from to r
-tried old new i e from to r (Ok u) accepted fault put = answered old new i e from to None accepted r put
+tried old new i e from to r (Ok u) accepted fault put = inl (record { answer = None; step = accepted; written = put })
 tried old new i e from to r (Err found) accepted fault put = refused old new i e from to r (refusal_of found) fault put
 
 -- what was done of the events, and what is left
@@ -72,9 +63,10 @@ longer old state new events from to i e rest P d a =
 text_longer : (i : ℕ) (answers : List Answered) (a : Answered) → i ≡ 1 + length answers → answers_text 1 answers ++ answer_text i a.answer a.state ≡ answers_text 1 (answers ++ a ∷ [])
 text_longer i answers a e = ap (λ (n : ℕ). answers_text 1 answers ++ answer_text n a.answer a.state) e ∙ sym (answers_text-push 1 answers a)
 
-pub goes_on : (old state new : State) (events : List Event) (from to to2 : SinkState) (i : ℕ) (e : Event) (rest : List Event) →
-    Done old events from i state (e ∷ rest) to → Answers state new i e (Wrote to to2) → Done old events from (i + 1) new rest to2
-goes_on old state new events from to to2 i e rest d a =
+pub goes_on : (old state new : State) (events : List Event) (from to to2 : SinkState) (i : ℕ) (e : Event) (rest : List Event) (u : Unit {0}) →
+    Done old events from i state (e ∷ rest) to → StepWrites state new i e to to2 (Ok u) → Done old events from (i + 1) new rest to2
+goes_on old state new events from to to2 i e rest u d (inr none) = absurd (cc none.1)
+goes_on old state new events from to to2 i e rest u d (inl a) =
     let one : Answered = record { answer = a.answer; state = new } in
     record {
       done = d.done ++ e ∷ [];
@@ -103,11 +95,17 @@ pub stops_short : (old state : State) (events : List Event) (from to : SinkState
     Done old events from i state rest to → PartTells old events (λ answers. Wrote from to (answers_text 1 answers))
 stops_short old state events from to i rest d = record { done = d.done; rest = rest; split = d.split; answers = d.answers; run = d.run; written = d.written }
 
+-- where memory ran out nothing was put
+unput : (old new : State) (i : ℕ) (e : Event) (from to : SinkState) → StepWrites old new i e from to (Err stop.NoMemory) → to ≡ from
+unput old new i e from to (inl a) = a.written
+unput old new i e from to (inr none) = none.0
+
 pub stops : (s : Stop) (old state new : State) (events : List Event) (from to to2 : SinkState) (i : ℕ) (e : Event) (rest : List Event) →
     Done old events from i state (e ∷ rest) to → StepWrites state new i e to to2 (Err s) → EventsWrite old new events from to2 (Err s)
-stops stop.NotWritten old state new events from to to2 i e rest d a = stops_unwritten old state new events from to to2 i e rest d a
+stops stop.NotWritten old state new events from to to2 i e rest d (inl a) = stops_unwritten old state new events from to to2 i e rest d a
+stops stop.NotWritten old state new events from to to2 i e rest d (inr none) = absurd (cc none.1)
 stops stop.NoMemory old state new events from to to2 i e rest d a =
-    subst (λ (x : SinkState). PartTells old events (λ answers. Wrote from x (answers_text 1 answers))) (sym a) (stops_short old state events from to i (e ∷ rest) d)
+    subst (λ (x : SinkState). PartTells old events (λ answers. Wrote from x (answers_text 1 answers))) (sym (unput state new i e to to2 a)) (stops_short old state events from to i (e ∷ rest) d)
 
 -- ---- with the opening's text before
 

@@ -2,25 +2,13 @@
 use Rattle.std.specs.Prelude.{◌≡◌, ◌⊎◌, ℕ, List, ◌++◌, Bool, Some, None, is_some, MatchOption, Result, Ok, Err}
 use Rattle.cps_outside.specs.SinkState.{SinkState}
 use Rattle.landing_rules.specs.Events.{State, Event, Answered, Run}
-use Rattle.landing_rules.specs.Text.{Bytes, answer_text, answers_text, replay_text}
+use Rattle.landing_rules.specs.Text.{answer_text, answers_text, replay_text}
 use Rattle.situations.specs.declared.refusal.Refusal.{Refusal}
 use Rattle.situations.specs.Answers.{refusal_of}
 use Rattle.event_answers.specs.Runs.{last_state}
-use Rattle.event_answers.specs.Written.{Wrote, WrotePart}
+use Rattle.event_answers.specs.Written.{Wrote, WrotePart, PutsText}
 use Rattle.event_answers.specs.declared.stops.Stop.{Stop}
 use Rattle.event_answers.specs.declared.stops.Stop.TheVariants as stop
-
--- a text was written whole, or a part of it and a write failed
-abbrev pub Puts : SinkState → SinkState → Bytes → Result (Unit {0}) Stop → Type 0
-Puts from to text (Ok u) = Wrote from to text
-Puts from to text (Err stop.NotWritten) = WrotePart from to text
-Puts from to text (Err stop.NoMemory) = ⊥
-
--- a text is made and put, or there is no memory for it and nothing is put
-abbrev pub PutsText : Bytes → SinkState → SinkState → Result (Unit {0}) Stop → Type 0
-PutsText text from to (Ok u) = Wrote from to text
-PutsText text from to (Err stop.NotWritten) = WrotePart from to text
-PutsText text from to (Err stop.NoMemory) = to ≡ from
 
 -- What is put of event i, by what came of it and the state behind it: that it was accepted and the plan, or its refusal. Where
 -- memory ran out it is not answered.

@@ -1,7 +1,8 @@
 ghost use Rattle.std.specs.Prelude.{◌<◌, ◌^◌, All, length, map};
 ghost use Rattle.landing_rules.specs.Text.{begun_text};
 ghost use Rattle.arrivals.specs.Seen.{event_of, IsGood};
-ghost use Rattle.replays.specs.Runs.{Puts, PutsText, PutsAnswer, EventsWrite, ReplayEnds};
+ghost use Rattle.event_answers.specs.Written.{PutsText};
+ghost use Rattle.replays.specs.Runs.{PutsAnswer, EventsWrite, ReplayEnds};
 
 use crate::texts::{accepted, begun, refused};
 use arrivals::Event;
@@ -15,16 +16,6 @@ use situations::Refusal;
 use std::alloc::Global;
 use std::thread::Threads;
 
-// One put.
-fn put<S: Sink>(out: &mut S, bytes: &[u8]) -> Result<(), Stop>
-    ensures { Puts (S.state out.old) (S.state out.new) bytes.now result }
-{
-    match out.put(bytes) {
-        Ok(()) => Ok(()),
-        Err(_) => Err(Stop::NotWritten),
-    }
-}
-
 // The answer of an event that was tried, in one put.
 fn put_answer<P: Planner, S: Sink>(
     alloc: Global,
@@ -37,12 +28,13 @@ fn put_answer<P: Planner, S: Sink>(
     ensures { PutsAnswer sequencer.now.state number outcome
         (S.state out.old) (S.state out.new) result }
 {
-    let text = match outcome {
+    let answer = match outcome {
         Ok(()) => accepted(alloc, sequencer, number, lines)?,
         Err(Refusal::Memory) => return Err(Stop::NoMemory),
         Err(refusal) => refused(alloc, number, &refusal)?,
     };
-    put(out, text.as_slice())
+    out.put(answer.as_slice())?;
+    Ok(())
 }
 
 // The events, in their order: of each one step, and one put of its answer.
@@ -77,7 +69,8 @@ fn open<P: Planner, S: Sink>(
     ensures { PutsText (begun_text sequencer.now.state) (S.state out.old) (S.state out.new) result }
 {
     let text = begun(alloc, sequencer)?;
-    put(out, text.as_slice())
+    out.put(text.as_slice())?;
+    Ok(())
 }
 
 /// Replays the events from the state of the sequencer: prints its plan, then for each event its answer, and the plan

@@ -1,20 +1,20 @@
 -- The outcomes of trials, from those at each place; closures as events; and when an outcome is no worse.
-use Rattle.std.proofs.Common.{◌≡◌, ℕ, suc, ◌+◌, ◌<◌, ◌≤◌, List, [], ◌∷◌, length, get_or, Option, Some, None, Bool, true, false, refl, ap, arith}
-use Rattle.std.specs.Prelude.{is_some, option_map, nat_le, find, if◌then◌else◌}
+use Rattle.std.proofs.Common.{◌≡◌, ℕ, suc, ◌+◌, ◌<◌, ◌≤◌, List, [], ◌∷◌, length, get_or, Option, Some, None, Bool, true, false, refl, ap, ◌∙◌, arith}
+use Rattle.std.specs.Prelude.{MatchOption, is_some, option_map, nat_le, find, if◌then◌else◌}
 use Rattle.std.specs.List.{AllZip}
 use Rattle.landing_rules.specs.Flights.{Situation, Schedule, Span, Landing}
 use Rattle.landing_rules.specs.Rules.{IsFeasible, IsBest, objective, is_shut}
 use Rattle.landing_rules.specs.Events as rules
 use Rattle.arrivals.specs.declared.aerodrome.Aerodrome as aerodromes
 use Rattle.arrivals.specs.declared.flight.Flight as files
-use Rattle.situations.specs.Answers.{IsAnswer}
+use Rattle.situations.specs.Answers.{IsAnswer, refusal_of}
 use Rattle.situations.specs.declared.refusal.Refusal as code
-use Rattle.situations.specs.declared.refusal.Refusal.TheVariants as code_is
 use Rattle.trial_file.specs.declared.trial.Trial.{Trial}
 use Rattle.whatif.specs.declared.outcome.Outcome.{Outcome}
+use Rattle.whatif.specs.declared.outcome.TrialRefusal.{TrialRefusal}
 use Rattle.whatif.specs.declared.outcome.Outcome.TheVariants.{Value, Infeasible, Refused}
 use Rattle.whatif.specs.Laws.{IsNoWorse}
-use Rattle.whatif.specs.Outcomes.{HasLeast, IsOutcomeOf, IsOutcomeAt, AreOutcomes, closure_refusal, found_refusal}
+use Rattle.whatif.specs.Outcomes.{HasLeast, IsOutcomeOf, IsOutcomeAt, AreOutcomes, closure_refusal}
 
 -- ---- place by place
 
@@ -42,25 +42,14 @@ event_accepted s span e = go (find (λ g. is_shut g.second span) (rules.in_landi
     go None true e = absurd (cc e)
     go None false e = refl
 
-same_refusal : (r q : rules.Refusal) → r ≡ q → closure_refusal (Some r) ≡ closure_refusal (Some q)
-same_refusal r q e = ap (λ (z : rules.Refusal). closure_refusal (Some z)) e
-
--- what the situation answers, as the refusal of a trial
-pub answered : (found : Option code.Refusal) (answer : Option rules.Refusal) → IsAnswer found answer → found_refusal found ≡ closure_refusal answer
-answered None None e = refl
-answered None (Some q) e = absurd (cc e)
-answered (Some r) None e = absurd (cc e)
-answered (Some (code_is.UnknownFlight c)) (Some q) e = same_refusal (rules.UnknownFlight c) q (cc e)
-answered (Some (code_is.Frozen second)) (Some q) e = same_refusal (rules.Frozen second) q (cc e)
-answered (Some (code_is.Duplicate c)) (Some q) e = same_refusal (rules.Duplicate c) q (cc e)
-answered (Some code_is.TooManyFlights) (Some q) e = same_refusal rules.TooManyFlights q (cc e)
-answered (Some code_is.TooManyWaiting) (Some q) e = same_refusal rules.TooManyWaiting q (cc e)
-answered (Some (code_is.PredecessorOfFrozen c)) (Some q) e = same_refusal (rules.PredecessorOfFrozen c) q (cc e)
-answered (Some (code_is.CoversFrozen c second)) (Some q) e = same_refusal (rules.CoversFrozen c second) q (cc e)
-answered (Some code_is.TooManyClosures) (Some q) e = same_refusal rules.TooManyClosures q (cc e)
-answered (Some code_is.UnknownClosure) (Some q) e = same_refusal rules.UnknownClosure q (cc e)
-answered (Some (code_is.ClockBack second)) (Some q) e = same_refusal (rules.ClockBack second) q (cc e)
-answered (Some code_is.Memory) (Some q) e = absurd (cc e)
+-- the refusal from what the situation answers is that from what the rules do
+pub answered : (found : Option code.Refusal) (answer : Option rules.Refusal) (refused : Option TrialRefusal) → IsAnswer found answer →
+    MatchOption found (refused ≡ None) (λ refusal. refused ≡ closure_refusal (refusal_of refusal)) → refused ≡ closure_refusal answer
+answered None None refused e is = is
+answered None (Some q) refused e is = absurd (cc e)
+answered (Some r) None refused e is = absurd (cc e)
+answered (Some r) (Some q) refused e is =
+    let same : refusal_of r ≡ Some q = cc e in is ∙ ap closure_refusal same
 
 -- ---- two situations
 

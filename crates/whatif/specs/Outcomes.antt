@@ -10,8 +10,6 @@ use Rattle.arrivals.specs.declared.passed_list.PassedCount.{PassedCount}
 use Rattle.arrivals.specs.Aerodromes.{is_beyond}
 use Rattle.arrivals.specs.declared.flight.Flight as files
 use Rattle.situations.specs.Opened.{opened}
-use Rattle.situations.specs.declared.refusal.Refusal as code
-use Rattle.situations.specs.declared.refusal.Refusal.TheVariants as found
 use Rattle.trial_file.specs.declared.trial.Trial.{Trial}
 use Rattle.trial_file.specs.declared.trial.Trial.TheVariants.{Shift, Close}
 use Rattle.whatif.specs.declared.outcome.TrialRefusal.{TrialRefusal}
@@ -21,7 +19,7 @@ use Rattle.whatif.specs.declared.outcome.Outcome.TheVariants.{Value, Infeasible,
 
 -- ---- refusals
 
--- the first passed-over count above this limit of shift, where the first one is counted as i
+-- the number of the first passed-over count above this limit of shift, where the first count is number i
 abbrev pub first_above : ℕ → ℕ → List PassedCount → Option ℕ
 first_above k i [] = None
 first_above k i (p ∷ ps) = if nat_lt k p.count then Some i else first_above k (i + 1) ps
@@ -35,12 +33,6 @@ abbrev pub closure_refusal : Option rules.Refusal → Option TrialRefusal
 closure_refusal (Some (rules.CoversFrozen c second)) = Some (CoversFrozen c second)
 closure_refusal (Some rules.TooManyClosures) = Some TooManyClosures
 closure_refusal r = None
-
--- the same of what a situation answers
-abbrev pub found_refusal : Option code.Refusal → Option TrialRefusal
-found_refusal (Some (found.CoversFrozen c second)) = Some (CoversFrozen c second)
-found_refusal (Some found.TooManyClosures) = Some TooManyClosures
-found_refusal r = None
 
 abbrev pub refusal : aerodromes.Aerodrome → List files.Flight → Trial → Option TrialRefusal
 refusal a fs (Shift k) = shift_refusal a k

@@ -1,19 +1,18 @@
 -- What is printed of the outcomes of trials: a line each, the first without a change.
 use Rattle.std.specs.Prelude.{ℕ, ◌+◌, List, [], ◌∷◌, ◌++◌, codes, decimal}
+use Rattle.landing_rules.specs.Events as rules
+use Rattle.landing_rules.specs.Text.{cause}
 use Rattle.whatif.specs.declared.outcome.TrialRefusal.{TrialRefusal}
 use Rattle.whatif.specs.declared.outcome.TrialRefusal.TheVariants.{DelayShift, PassedAbove, CoversFrozen, TooManyClosures}
 use Rattle.whatif.specs.declared.outcome.Outcome.{Outcome}
 use Rattle.whatif.specs.declared.outcome.Outcome.TheVariants.{Value, Infeasible, Refused}
 
--- the frozen landing that the closure would hold
-abbrev pub covered_words : List ℕ → ℕ → List ℕ
-covered_words c second = ((codes "covers-frozen " ++ c) ++ 32 ∷ []) ++ decimal second
-
+-- a closure is refused in the words of its event
 abbrev pub cause_words : TrialRefusal → List ℕ
 cause_words (DelayShift k) = codes "delay-shift " ++ decimal k
 cause_words (PassedAbove i) = codes "passed-above " ++ decimal i
-cause_words (CoversFrozen c second) = covered_words c second
-cause_words TooManyClosures = codes "too-many-closures"
+cause_words (CoversFrozen c second) = cause (rules.CoversFrozen c second)
+cause_words TooManyClosures = cause rules.TooManyClosures
 
 abbrev pub outcome_words : Outcome → List ℕ
 outcome_words (Value v) = decimal v

@@ -5,7 +5,7 @@ use cps_base::Callsign;
 pub enum TrialRefusal {
     /// The objective delay does not take this limit of shift in the version of the aerodrome file.
     DelayShift(u8),
-    /// The first passed-over count of the aerodrome file that is above the limit, counted from 1.
+    /// The number, from 1, of the first of the aerodrome file's passed-over counts that is above the limit.
     PassedAbove(u8),
     /// The closure holds a frozen landing: the flight of the earliest such landing, and its second.
     CoversFrozen(Callsign, u32),

@@ -1,14 +1,15 @@
 // Why a trial is not planned.
-ghost use Rattle.std.specs.Prelude.{◌≡◌, ◌≤◌, Some, length};
+ghost use Rattle.std.specs.Prelude.{◌≡◌, ◌≤◌, length};
 ghost use Rattle.landing_rules.specs.Events as rules;
 ghost use Rattle.landing_rules.specs.Limits.{most_waiting};
-ghost use Rattle.whatif.specs.Outcomes.{first_above, shift_refusal, closure_refusal, found_refusal};
+ghost use Rattle.situations.specs.Answers.{refusal_of};
+ghost use Rattle.whatif.specs.Outcomes.{first_above, shift_refusal, closure_refusal};
 
 use crate::outcome::TrialRefusal;
 use arrivals::{Aerodrome, Event, PassedList, is_beyond};
 use situations::{Refusal, Situation};
 
-// The first passed-over count above the limit of shift, counted from 1.
+// The number, from 1, of the first passed-over count above the limit of shift.
 fn first_above(passed: &PassedList, k: u8) -> Option<u8>
     requires { length passed.now ≤ most_waiting }
     ensures { result ≡ first_above k 1 passed.now }
@@ -28,15 +29,12 @@ pub(crate) fn shift_refusal(aerodrome: &Aerodrome, k: u8) -> Option<TrialRefusal
     if is_beyond(aerodrome.version, k, aerodrome.objective) {
         return Some(TrialRefusal::DelayShift(k));
     }
-    match first_above(&aerodrome.passed, k) {
-        None => None,
-        Some(i) => Some(TrialRefusal::PassedAbove(i)),
-    }
+    first_above(&aerodrome.passed, k).map(|i| TrialRefusal::PassedAbove(i))
 }
 
 // The refusal of a closure, from that of its event.
 fn of_event(found: &Refusal) -> Option<TrialRefusal>
-    ensures { result ≡ found_refusal (Some found.now) }
+    ensures { result ≡ closure_refusal (refusal_of found.now) }
 {
     match found {
         Refusal::CoversFrozen(callsign, second) => {
@@ -51,8 +49,7 @@ fn of_event(found: &Refusal) -> Option<TrialRefusal>
 pub(crate) fn closure_refusal(situation: &Situation, from: u32, to: u32) -> Option<TrialRefusal>
     ensures { result ≡ closure_refusal (rules.refusal situation.now (rules.Close (from, to))) }
 {
-    match situation.refusal(&Event::Close(from, to)) {
-        None => None,
-        Some(refusal) => of_event(&refusal),
-    }
+    situation
+        .refusal(&Event::Close(from, to))
+        .and_then(|refusal| of_event(&refusal))
 }

@@ -144,7 +144,7 @@ pub fn run_trials<R: Threads + Sync, G: Gate + Sync>(
     requires good { All IsGood trials.now }
     requires few { length trials.now ≤ most_trials }
     ensures value { IfOk result (λ v. AreOutcomes aerodrome.now flights.now trials.now v.items) }
-    ensures few { IfOk result (λ v. length v.items ≤ 17) }
+    ensures few { IfOk result (λ v. length v.items ≤ most_trials + 1) }
 {
     let outcome = move |i: usize| -> Result<Outcome, AllocError>
         requires opens { IsOpenable aerodrome.now flights.now }

@@ -1,25 +1,13 @@
 //! What is printed of the outcomes of trials.
 
-ghost use Rattle.std.specs.Prelude.{◌≡◌, ◌++◌, ◌≤◌, length, decimal, OnOk};
+ghost use Rattle.std.specs.Prelude.{◌≡◌, ◌++◌, ◌+◌, ◌≤◌, length, decimal, OnOk};
 ghost use Rattle.trial_file.specs.Trials.{most_trials};
-ghost use Rattle.whatif.specs.Text.{covered_words, cause_words, outcome_words, trial_line, trial_lines, outcomes_text};
+ghost use Rattle.whatif.specs.Text.{cause_words, outcome_words, trial_line, trial_lines, outcomes_text};
 
 use crate::outcome::{Outcome, TrialRefusal};
-use cps_base::Callsign;
+use event_answers::append_covered;
 use itoa::Buffer;
 use std::alloc::AllocError;
-
-// The frozen landing that the closure would hold.
-fn append_covered(callsign: &Callsign, second: u32, into: &mut Vec<u8>) -> Result<(), AllocError>
-    ensures { OnOk result (into.new.items ≡ into.old.items ++ covered_words callsign.now second) }
-{
-    let mut number = Buffer::new();
-    into.extend_from_slice(b"covers-frozen ")?;
-    into.extend_from_slice(callsign.bytes())?;
-    into.push(b' ')?;
-    into.extend_from_slice(number.format(second).as_bytes())?;
-    Ok(())
-}
 
 // A word and a number.
 fn append_number(word: &[u8], number: u8, into: &mut Vec<u8>) -> Result<(), AllocError>
@@ -87,7 +75,7 @@ fn append_trials(outcomes: &[Outcome], into: &mut Vec<u8>) -> Result<(), AllocEr
 /// Appends the outcomes, a line each: `base V` without a change, and then `trial I V` for trial I, where V is the value,
 /// `infeasible`, or `refused CAUSE`. There are at most 17.
 pub fn append_outcomes(outcomes: &[Outcome], into: &mut Vec<u8>) -> Result<(), AllocError>
-    requires { length outcomes.now ≤ 17 }
+    requires { length outcomes.now ≤ most_trials + 1 }
     ensures { OnOk result (into.new.items ≡ into.old.items ++ outcomes_text outcomes.now) }
 {
     let [base, rest @ ..] = outcomes else {

@@ -1,49 +1,42 @@
-use Rattle.std.proofs.Common.{◌≡◌, ◌+◌, ◌≤◌, Err, subst, sym, map, length, arith}
+use Rattle.std.proofs.Common.{◌≡◌, ◌≤◌, subst, sym, map, length, arith}
 use Rattle.std.specs.Prelude.{None}
 use Rattle.std.proofs.lemmas.List.{length-map}
 use Rattle.std.proofs.lemmas.Result.{err_from_is_err_and}
 use Rattle.landing_rules.specs.Problem.{Problem}
 use Rattle.cps_network.specs.Due.{IsDue}
 use Rattle.arrivals.specs.Seen.{event_of}
-use Rattle.event_answers.specs.Written.{Wrote}
 use Rattle.replan.specs.Bound.{most_steps}
-use Rattle.efforts.specs.Efforts.{total_line}
-use Rattle.efforts.specs.Ends.{WritesSteps}
 use Rattle.efforts.proofs.Efforts.{stops_at_once, stops_after, stops_last, ends_whole}
 use Rattle.efforts.proofs.over_events.effort.Goals as goal
 
-pub returns-in_err-opened : goal.returns-in_err-opened
-returns-in_err-opened g c =
+pub returns-in_err-open : goal.returns-in_err-open
+returns-in_err-open g c =
     let p = err_from_is_err_and c.from_residual.result c.from_residual.ensures.1 in
-    rw (p.1, p.2) (stops_at_once c.args.sequencer.now _ c.args.opening c.problem.ensures.problem c.requires.opened c.in_err-opened.field-0.0 c.args.sequencer.now _ _ c.in_err-opened.ensures)
+    rw (p.1, p.2) (stops_at_once c.args.sequencer.now _ c.args.opening c.problem.ensures.problem c.requires.opened c.in_err-open.field-0.0 c.args.sequencer.now _ _ c.in_err-open.ensures)
 
 pub returns-in_err-steps : goal.returns-in_err-steps
 returns-in_err-steps g c =
     let p = err_from_is_err_and c.from_residual-in_err-steps.result c.from_residual-in_err-steps.ensures.1 in
     rw (p.1, p.2) (stops_after c.args.sequencer.now _ c.args.opening c.problem.ensures.problem c.requires.opened c.in_err-steps.field-0.0 c.plan_events.new.sequencer _ _ _
-    c.in_ok-opened.ensures.1 c.in_err-steps.ensures)
+    c.in_ok-open.ensures c.in_err-steps.ensures)
 
-pub overflow_add-opened : goal.overflow_add-opened
-overflow_add-opened g c =
+pub overflow_add-opening : goal.overflow_add-opening
+overflow_add-opening g c =
     let opening : c.args.opening ≤ most_steps = c.due_is_small.ensures None c.args.opening (subst (λ (q : Problem). IsDue None q c.args.opening) (sym c.problem.ensures.value) c.requires.opened) in
-    let same : c.in_ok-opened.opened ≡ c.args.opening = c.in_ok-opened.ensures.0 in
     let all = c.in_ok-steps.ensures.few in
     let many : length (map event_of c.args.events.now) ≡ length c.args.events.now = length-map c.args.events.now event_of in
     let few = c.requires.few in
-    omega (arith, opening, same, all, many, few)
+    omega (arith, opening, all, many, few)
 
 pub returns-in_err-close : goal.returns-in_err-close
 returns-in_err-close g c =
     let p = err_from_is_err_and c.from_residual-in_err-close.result c.from_residual-in_err-close.ensures.1 in
-    let last = subst (λ n. WritesSteps (g.S.Sink.state c.plan_events.new.out) (g.S.Sink.state c.close.new.out) (total_line (n + c.in_ok-steps.steps)) (n + c.in_ok-steps.steps) (Err c.in_err-close.field-0.0))
-    c.in_ok-opened.ensures.0 c.in_err-close.ensures in
     rw (p.1, p.2) (stops_last c.args.sequencer.now _ c.args.opening c.problem.ensures.problem c.requires.opened c.in_err-close.field-0.0 c.plan_events.new.sequencer c.in_ok-steps.steps _ _ _ _
-    c.in_ok-opened.ensures.1 c.in_ok-steps.ensures last)
+    c.in_ok-open.ensures c.in_ok-steps.ensures c.in_err-close.ensures)
 
 pub returns : goal.returns
-returns g c =
-    let told = subst (λ n. Wrote (g.S.Sink.state c.plan_events.new.out) (g.S.Sink.state c.close.new.out) (total_line (n + c.in_ok-steps.steps))) c.in_ok-opened.ensures.0 c.in_ok-close.ensures.1 in (
-      c.is_planned.ensures,
-      ends_whole c.args.sequencer.now _ c.args.opening c.problem.ensures.problem c.requires.opened c.plan_events.new.sequencer c.in_ok-steps.steps _ _ _ _
-          c.in_ok-opened.ensures.1 c.in_ok-steps.ensures told,
-    )
+returns g c = (
+  c.is_planned.ensures,
+  ends_whole c.args.sequencer.now _ c.args.opening c.problem.ensures.problem c.requires.opened c.plan_events.new.sequencer c.in_ok-steps.steps _ _ _ _
+      c.in_ok-open.ensures c.in_ok-steps.ensures c.in_ok-close.ensures,
+)

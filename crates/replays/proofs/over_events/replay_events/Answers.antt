@@ -17,5 +17,5 @@ returns-in_err-put_answer g c =
 pub loop-i-preserved : goal.loop-i-preserved
 loop-i-preserved g c =
     let here = rw (event_at event_of c.args.events.now c.loop-i.i c.index-events-i.result c.loop-i-test.true c.index-events-i.is) at c.loop-i.invariant in
-    goes_on _ _ _ _ _ _ _ _ _ _ here
+    goes_on _ _ _ _ _ _ _ _ _ _ _ here
     (tried _ _ _ _ _ _ _ c.apply-outcome.result c.apply-outcome.ensures.accepted c.apply-outcome.ensures.refused c.in_ok-put_answer.ensures)

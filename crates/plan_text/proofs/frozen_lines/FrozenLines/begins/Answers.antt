@@ -10,7 +10,7 @@ use Rattle.std.proofs.lemmas.Option.{same_Some}
 use Rattle.landing_rules.specs.Text.{ShownLanding}
 use Rattle.plan_file.specs.Shown.{shown_of}
 use Rattle.plan_file.specs.declared.landing.Landing.{Landing}
-use Rattle.plan_text.proofs.frozen_lines.FrozenLines.begin.Goals as goal
+use Rattle.plan_text.proofs.frozen_lines.FrozenLines.begins.Goals as goal
 
 alike : (xs : List Landing) (ls : List ShownLanding) → ((i : ℕ) (d : Landing) → i < length xs → slice_get ls i ≡ Some (shown_of (get_or xs i d))) → map shown_of xs ≡ take (length xs) ls
 alike [] ls each = refl
