@@ -5,7 +5,8 @@ use Rattle.aerodrome_file.specs.Reading.{aerodrome_of}
 use Rattle.arrivals.specs.declared.flight.Flight.{Flight}
 use Rattle.flight_file.specs.Reading.{flights_of}
 use Rattle.endings.specs.declared.ending.Ending.{Ending}
-use Rattle.openings.specs.Plan.{StopsPlan, StopsOpened}
+use Rattle.endings.specs.Refusing.{StopsOpened}
+use Rattle.openings.specs.Plan.{StopsPlan}
 use Rattle.openings.specs.declared.report.Report.{Report}
 use Rattle.openings.specs.shared.Opened.{stops_plan}
 use Rattle.certificate_commands.specs.Certify.{AdmitsCertify, Certifies}

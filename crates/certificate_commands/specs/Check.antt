@@ -1,13 +1,10 @@
 -- What `check` prints over the contents of its three files, and which it refuses.
-use Rattle.std.specs.Prelude.{◌≡◌, ℕ, List, Option, Some, None, Result, Ok, Err}
+use Rattle.std.specs.Prelude.{◌≡◌, ℕ, List, Some, None, Ok}
 use Rattle.landing_rules.specs.Problem.{Problem, IsProblemOf}
 use Rattle.arrivals.specs.declared.aerodrome.Aerodrome.{Aerodrome}
-use Rattle.aerodrome_file.specs.declared.fault.AeroFault.{AeroFault}
 use Rattle.aerodrome_file.specs.Reading.{aerodrome_of}
 use Rattle.arrivals.specs.declared.flight.Flight.{Flight}
-use Rattle.flight_file.specs.declared.fault.FlightFault.{FlightFault}
 use Rattle.flight_file.specs.Reading.{flights_of}
-use Rattle.certificate.specs.declared.fault.CertFault.{CertFault}
 use Rattle.certificate.specs.Reading.{Cert, certificate_of}
 use Rattle.cert_check.specs.Verdict.{verdict_of}
 use Rattle.cert_check.specs.declared.verdict.Verdict.{Verdict}
@@ -17,19 +14,13 @@ use Rattle.endings.specs.declared.ending.Answer.{Answer}
 use Rattle.endings.specs.declared.ending.Ending.{Ending}
 use Rattle.endings.specs.declared.ending.Refusal.{Refusal}
 use Rattle.endings.specs.declared.ending.Refusal.TheVariants as refusal
+use Rattle.endings.specs.Refusing.{refusal_of, refused_by_three, Stops}
 use Rattle.openings.specs.Follows.{FollowsAtOnce}
-use Rattle.openings.specs.Plan.{refusal_of, Stops}
 use Rattle.certificate_commands.specs.Verdicts.{verdict_text, answer_of_verdict, IsTrueOf}
 
--- the first cause, in the order of the files
-abbrev pub unchecked_by : Result Aerodrome AeroFault → Result (List Flight) FlightFault → Result Cert CertFault → Option Refusal
-unchecked_by (Err fault) flights certificate = Some (refusal.Aerodrome fault)
-unchecked_by (Ok aerodrome) (Err fault) certificate = Some (refusal.Flights fault)
-unchecked_by (Ok aerodrome) (Ok flights) (Err fault) = Some (refusal.Certificate fault)
-unchecked_by (Ok aerodrome) (Ok flights) (Ok certificate) = refusal_of aerodrome flights
-
 abbrev pub RefusesCheck : List ℕ → List ℕ → List ℕ → Refusal → Type 0
-RefusesCheck aerodrome flights certificate cause = unchecked_by (aerodrome_of aerodrome) (flights_of flights) (certificate_of certificate) ≡ Some cause
+RefusesCheck aerodrome flights certificate cause =
+    refused_by_three refusal.Certificate (aerodrome_of aerodrome) (flights_of flights) (certificate_of certificate) ≡ Some cause
 
 -- The files are taken. This is the verdict on the certificate for the problem of their opening situation, and what it says
 -- of that situation is true.

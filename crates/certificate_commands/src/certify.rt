@@ -2,7 +2,8 @@ ghost use Rattle.std.specs.Prelude.{MatchResult};
 ghost use Rattle.arrivals.specs.Aerodromes.{IsInRange};
 ghost use Rattle.arrivals.specs.Flights.{AreArrivals};
 ghost use Rattle.certificate_commands.specs.Certify.{AdmitsCertify, Certifies, FollowsCertify, IsCertified};
-ghost use Rattle.openings.specs.Plan.{StopsOpened, StopsPlan};
+ghost use Rattle.endings.specs.Refusing.{StopsOpened};
+ghost use Rattle.openings.specs.Plan.{StopsPlan};
 
 use aerodrome_file::read_aerodrome;
 use arrivals::{Aerodrome, Flight};

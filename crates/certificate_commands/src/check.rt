@@ -2,7 +2,7 @@ ghost use Rattle.std.specs.Prelude.{◌<◌, length, MatchResult};
 ghost use Rattle.arrivals.specs.Aerodromes.{IsInRange};
 ghost use Rattle.arrivals.specs.Flights.{AreArrivals};
 ghost use Rattle.certificate_commands.specs.Check.{AdmitsCheck, FollowsCheck, IsJudged, Judges, StopsCheck};
-ghost use Rattle.openings.specs.Plan.{StopsOpened};
+ghost use Rattle.endings.specs.Refusing.{StopsOpened};
 
 use crate::verdict_lines::{answer, verdict_line};
 use aerodrome_file::read_aerodrome;

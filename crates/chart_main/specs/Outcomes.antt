@@ -1,6 +1,5 @@
 -- How a run ends: its status, the cause of it, and what it wrote.
 use Rattle.std.specs.Prelude.{◌≡◌, ◌≢◌, ◌⊎◌, ℕ, List, [], ◌∷◌, length, Result, Ok, Err}
-use Rattle.cps_outside.specs.declared.sinks.WriteFailed.{WriteFailed}
 use Rattle.cps_outside.specs.Causes.{Rose}
 use Rattle.cps_outside.specs.FolderState.{FolderState}
 use Rattle.cps_outside.specs.SinkState.{SinkState, Grows, GrowsByPart}
@@ -42,11 +41,6 @@ abbrev pub Follows : List (List ℕ) → SinkState → SinkState → Result (Uni
 Follows contents old new (Ok done) = Prints contents old new
 Follows contents old new (Err NotWritten) = PrintsPart contents old new
 Follows contents old new (Err ending) = StopsBefore contents ending × (new ≡ old)
-
--- the end by a put
-abbrev pub done_by : Result (Unit {0}) WriteFailed → Result (Unit {0}) Ending
-done_by (Ok done) = Ok done
-done_by (Err fault) = Err NotWritten
 
 -- The three files were loaded, and what followed.
 pub record Serves (words : List (List ℕ)) (old new : Outside) (end : Result (Unit {0}) Ending) : Type 0 where

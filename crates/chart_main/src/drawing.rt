@@ -1,15 +1,16 @@
 // The picture of three files.
-ghost use Rattle.std.specs.Prelude.{◌≡◌, ◌∷◌, [], MatchResult};
+ghost use Rattle.std.specs.Prelude.{◌∷◌, [], MatchResult};
 ghost use Rattle.arrivals.specs.Aerodromes.{IsInRange};
 ghost use Rattle.arrivals.specs.Flights.{AreArrivals};
 ghost use Rattle.plan_file.specs.Reading.{HasFewLines};
-ghost use Rattle.chart_main.specs.Drawings.{AreDrawn, IsDrawn, StopsFiles, StopsOpened};
-ghost use Rattle.chart_main.specs.Outcomes.{Follows, done_by};
+ghost use Rattle.endings.specs.Refusing.{StopsOpened};
+ghost use Rattle.chart_main.specs.Drawings.{AreDrawn, IsDrawn, StopsFiles};
+ghost use Rattle.chart_main.specs.Outcomes.{Follows};
 
 use aerodrome_file::read_aerodrome;
 use arrivals::{Aerodrome, Flight};
 use chart::{append_picture, picture};
-use cps_outside::{Sink, WriteFailed};
+use cps_outside::Sink;
 use endings::Ending;
 use flight_file::read_flights;
 use plan_file::{PlanText, read_plan};
@@ -52,16 +53,6 @@ fn draw_files(
     draw_opened(alloc, aerodrome, flights, &plan)
 }
 
-// What comes of a put.
-fn written(outcome: Result<(), WriteFailed>) -> Result<(), Ending>
-    ensures { result ≡ done_by outcome }
-{
-    match outcome {
-        Ok(()) => Ok(()),
-        Err(_) => Err(Ending::NotWritten),
-    }
-}
-
 // Writes the picture of the files.
 pub(crate) fn put_picture<S: Sink>(
     alloc: Global,
@@ -73,10 +64,7 @@ pub(crate) fn put_picture<S: Sink>(
     ensures { Follows (aerodrome.now ∷ flights.now ∷ plan.now ∷ [])
         (S.state out.old) (S.state out.new) result }
 {
-    let text = match draw_files(alloc, aerodrome, flights, plan) {
-        Ok(text) => text,
-        Err(ending) => return Err(ending),
-    };
-    let outcome = out.put(text.as_slice());
-    written(outcome)
+    let text = draw_files(alloc, aerodrome, flights, plan)?;
+    out.put(text.as_slice())?;
+    Ok(())
 }

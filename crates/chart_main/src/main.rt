@@ -35,6 +35,7 @@ fn main(rt: HostRuntime) -> ExitCode {
             );
             ExitCode::from(status)
         }
+        // The words could not be taken: 8 for want of memory, 9 for another cause. No line says so.
         Err(e) if e.kind() == ErrorKind::OutOfMemory => ExitCode::from(8),
         Err(_) => ExitCode::from(9),
     }

@@ -20,16 +20,14 @@ fn draw<F: Folder, S: Sink>(
     if words.len() != 3 {
         return Err(Ending::Misused);
     }
-    match load_all(alloc, folder, words) {
-        Err(ending) => Err(ending),
-        Ok(contents) => put_picture(
-            alloc,
-            contents[0].as_slice(),
-            contents[1].as_slice(),
-            contents[2].as_slice(),
-            out,
-        ),
-    }
+    let contents = load_all(alloc, folder, words)?;
+    put_picture(
+        alloc,
+        contents[0].as_slice(),
+        contents[1].as_slice(),
+        contents[2].as_slice(),
+        out,
+    )
 }
 
 // The status of an end: 0 where the picture was written.

@@ -12,7 +12,7 @@ use Rattle.endings.specs.declared.ending.Ending.{Ending}
 use Rattle.endings.specs.declared.ending.Ending.TheVariants.{Answered, Misused, Refused, NotLoaded, NotWritten, TooLong, NoMemory}
 use Rattle.cps_top.specs.Commands.{command_of, files_of, Admits, Begins, Refuses}
 use Rattle.cps_outside.specs.FolderState.{FolderState}
-use Rattle.openings.specs.Plan.{refused_by}
+use Rattle.endings.specs.Refusing.{refused_by}
 use Rattle.endings.specs.Loads.{limit, FailsAt, FailsWithin}
 use Rattle.endings.specs.Lines.{status_of}
 use Rattle.cps_top.specs.Outcome.{Outside, Ends, Serves}
@@ -30,7 +30,7 @@ excludes Plan [] text answer refusal admits refuses = absurd admits
 excludes Plan (a ∷ []) text answer refusal admits refuses = absurd admits
 excludes Plan (a ∷ f ∷ c ∷ rest) text answer refusal admits refuses = absurd admits
 excludes Plan (a ∷ f ∷ []) text answer refusal admits refuses =
-    none-some _ (sym admits.taken ∙ ap₂ refused_by (sym admits.aerodrome_read) (sym admits.flights_read) ∙ refuses)
+    none-some _ (sym admits.shows.opened.taken ∙ ap₂ refused_by (sym admits.aerodrome_read) (sym admits.flights_read) ∙ refuses)
 excludes Certify [] text answer refusal admits refuses = absurd admits
 excludes Certify (a ∷ []) text answer refusal admits refuses = absurd admits
 excludes Certify (a ∷ f ∷ c ∷ rest) text answer refusal admits refuses = absurd admits

@@ -85,7 +85,7 @@ fn work<R: Threads + Sync, F: Folder, S: Sink, G: Gate + Sync>(
 /// each file, in the same order; the refusals of the opening; the plan, and of `replay` and `effort` the events, of `certify`
 /// the certificate, of `check` the verdict on one, of `whatif` the trials, or of `audit` the findings. The first thing that
 /// goes wrong decides the status. That the text of a replay fixes its run, its answers and plans, is the law
-/// `replay_law::text_fixes_the_run`.
+/// `text_fixes_the_replay`.
 ///
 /// | status | comes |
 /// |---|---|

@@ -1,4 +1,4 @@
--- How a run ends where a file is none, or memory runs out.
+-- How a run ends where a file does not read, or memory runs out.
 use Rattle.std.specs.Prelude.{Option, Some, None}
 use Rattle.aerodrome_file.specs.declared.fault.AeroFault.{AeroFault}
 use Rattle.aerodrome_file.specs.declared.fault.AeroFault.TheVariants as aerodrome

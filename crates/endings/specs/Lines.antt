@@ -1,4 +1,5 @@
 -- The statuses, and the lines on the standard error. A line is its pieces, one after another.
+-- A reader's want of memory has a line here as each cause has, but no run writes it: that ends a run by itself (specs/Faults).
 use Rattle.std.specs.Prelude.{◌≡◌, ◌⊎◌, ℕ, List, [], ◌∷◌, ◌++◌, codes, decimal}
 use Rattle.cps_outside.specs.Causes.{Rose}
 use Rattle.cps_outside.specs.SinkState.{SinkState, Grows, GrowsByPart}

@@ -1,4 +1,4 @@
-// The lines for an aerodrome file that is none.
+// The lines for an aerodrome file that does not read as one.
 ghost use Rattle.std.specs.Prelude.{◌≡◌};
 ghost use Rattle.cps_outside.specs.SinkState.{Writes};
 ghost use Rattle.endings.specs.Lines.{letter_text, key_name, key_index, key_line, unknown_line, table_line, closure_line, aerodrome_line};

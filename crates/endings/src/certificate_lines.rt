@@ -1,4 +1,4 @@
-// The lines for a certificate that is none.
+// The lines for a certificate that does not read as one.
 ghost use Rattle.cps_outside.specs.SinkState.{Writes};
 ghost use Rattle.endings.specs.Lines.{certificate_line};
 

@@ -32,19 +32,19 @@ pub enum Answer {
 /// Why the files are not taken.
 #[derive(Clone, Copy)]
 pub enum Refusal {
-    /// The aerodrome file is none.
+    /// The aerodrome file does not read as one: its first fault.
     Aerodrome(AeroFault),
-    /// The flight file is none.
+    /// The flight file does not read as one: its first fault.
     Flights(FlightFault),
-    /// The event log is none.
+    /// The event log does not read as one: its first fault.
     Events(LogFault),
-    /// The certificate is none.
+    /// The certificate does not read as one: its first fault.
     Certificate(CertFault),
-    /// The trial file is none.
+    /// The trial file does not read as one: its first fault.
     Trials(TrialFault),
-    /// The plan file is none.
+    /// The plan file does not read as one: its first fault.
     Plan(PlanFault),
-    /// They open no situation.
+    /// They read, and open no situation.
     Opening(OpeningFault),
 }
 

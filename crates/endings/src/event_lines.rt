@@ -1,4 +1,4 @@
-// The lines for an event log that is none.
+// The lines for an event log that does not read as one.
 ghost use Rattle.std.specs.Prelude.{◌≡◌, decimal};
 ghost use Rattle.cps_outside.specs.SinkState.{Writes};
 ghost use Rattle.event_log.specs.declared.fault.LogCause.TheVariants as log;

@@ -1,7 +1,8 @@
-// How a run ends where a file is none, or memory runs out: each fault by itself, so that `?` passes it on.
+// How a run ends where a file does not read, a put fails or memory runs out: each fault by itself, so that `?` passes it on.
 use crate::{Ending, Refusal};
 use aerodrome_file::AeroFault;
 use certificate::CertFault;
+use cps_outside::WriteFailed;
 use event_log::{LogCause, LogFault};
 use flight_file::{FlightCause, FlightFault};
 use plan_file::PlanFault;
@@ -17,6 +18,17 @@ impl From<AllocError> for Ending {
 
     fn from(_: AllocError) -> Self {
         Ending::NoMemory
+    }
+}
+
+impl From<WriteFailed> for Ending {
+    ghost use Rattle.std.specs.Prelude.{◌≡◌};
+    ghost use Rattle.endings.specs.declared.ending.Ending.TheVariants.{NotWritten};
+
+    ghost from_gives = { λ _ ending. ending ≡ NotWritten };
+
+    fn from(_: WriteFailed) -> Self {
+        Ending::NotWritten
     }
 }
 

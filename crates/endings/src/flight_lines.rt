@@ -1,4 +1,4 @@
-// The lines for a flight file that is none.
+// The lines for a flight file that does not read as one.
 ghost use Rattle.std.specs.Prelude.{◌≡◌, decimal};
 ghost use Rattle.cps_outside.specs.SinkState.{Writes};
 ghost use Rattle.endings.specs.Lines.{number_word, windows_word, windows_part, windows_why, after_word, after_part, cause_line, flights_line};

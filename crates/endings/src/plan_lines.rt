@@ -1,4 +1,4 @@
-// The lines for a plan file that is none.
+// The lines for a plan file that does not read as one.
 ghost use Rattle.cps_outside.specs.SinkState.{Writes};
 ghost use Rattle.endings.specs.Lines.{plan_line};
 

@@ -1,4 +1,4 @@
-// The lines for a trial file that is none.
+// The lines for a trial file that does not read as one.
 ghost use Rattle.std.specs.Prelude.{◌≡◌, decimal};
 ghost use Rattle.cps_outside.specs.SinkState.{Writes};
 ghost use Rattle.trial_file.specs.declared.fault.TrialCause.TheVariants as trial;

@@ -26,11 +26,12 @@ text_is_one law a f text other answer another p q =
     let flights : p.flights ≡ q.flights = same_Some _ _ (ap result_ok (sym p.flights_read ∙ q.flights_read)) in
     let s : p.shows.state.situation ≡ q.shows.state.situation =
     opened_same _ _ _ _ _ _ aerodromes flights p.shows.opened.opens.situation q.shows.opened.opens.situation in
-    let plan : p.shows.plan ≡ q.shows.plan =
-    law p.shows.state.situation p.shows.plan q.shows.plan p.shows.sound p.shows.first
-    (subst (λ (x : Situation). IsFirstPlan x q.shows.plan) (sym s) q.shows.first) in (
-      p.shows.prints ∙ ap₂ (λ (x : Situation) (y : Option Schedule). lines_text (plan_lines (record { situation = x; plan = y }))) s plan ∙ sym q.shows.prints,
-      p.shows.answers ∙ ap answer_of plan ∙ sym q.shows.answers,
+    let plan : p.shows.block.plan ≡ q.shows.block.plan =
+    law p.shows.state.situation p.shows.block.plan q.shows.block.plan p.shows.sound p.shows.block.first
+    (subst (λ (x : Situation). IsFirstPlan x q.shows.block.plan) (sym s) q.shows.block.first) in (
+      p.shows.block.prints ∙ ap₂ (λ (x : Situation) (y : Option Schedule). lines_text (plan_lines (record { situation = x; plan = y }))) s plan
+          ∙ sym q.shows.block.prints,
+      p.shows.block.answers ∙ ap answer_of plan ∙ sym q.shows.block.answers,
     )
 
 -- a first plan costs what a plan costs that may be shown
@@ -45,7 +46,8 @@ pub costs_as_plan : FirstBestObjectiveLaw → FirstCostsAsPlanLaw
 costs_as_plan law a f text other answer another p q =
     let aerodromes : p.aerodrome ≡ q.aerodrome = same_Some _ _ (ap result_ok (sym p.aerodrome_read ∙ q.aerodrome_read)) in
     let flights : p.flights ≡ q.flights = same_Some _ _ (ap result_ok (sym p.flights_read ∙ q.flights_read)) in
-    let s : q.state.situation ≡ p.shows.state.situation =
-    opened_same _ _ _ _ _ _ (sym aerodromes) (sym flights) q.opens.situation p.shows.opened.opens.situation in
-    costs law p.shows.state.situation p.shows.plan q.state.plan p.shows.first (subst (λ (x : Situation). IsPlanShown x q.state.plan) s q.opens.shown)
-    ∙ ap (λ (x : Situation). option_map (objective x) q.state.plan) (sym s)
+    let s : q.shows.state.situation ≡ p.shows.state.situation =
+    opened_same _ _ _ _ _ _ (sym aerodromes) (sym flights) q.shows.opened.opens.situation p.shows.opened.opens.situation in
+    costs law p.shows.state.situation p.shows.block.plan q.shows.state.plan p.shows.block.first
+    (subst (λ (x : Situation). IsPlanShown x q.shows.state.plan) s q.shows.opened.opens.shown)
+    ∙ ap (λ (x : Situation). option_map (objective x) q.shows.state.plan) (sym s)

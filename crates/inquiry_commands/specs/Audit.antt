@@ -1,15 +1,12 @@
 -- What `audit` prints over the contents of its three files, and which it refuses.
-use Rattle.std.specs.Prelude.{◌≡◌, ℕ, List, [], ◌∷◌, codes, Option, Some, None, Result, Ok, Err}
+use Rattle.std.specs.Prelude.{◌≡◌, ℕ, List, [], ◌∷◌, codes, Some, None, Ok}
 use Rattle.landing_rules.specs.Flights.{Situation}
 use Rattle.landing_rules.specs.Text.{line}
 use Rattle.landing_rules.specs.Audit.{Finding, findings}
 use Rattle.arrivals.specs.declared.aerodrome.Aerodrome.{Aerodrome}
-use Rattle.aerodrome_file.specs.declared.fault.AeroFault.{AeroFault}
 use Rattle.aerodrome_file.specs.Reading.{aerodrome_of}
 use Rattle.arrivals.specs.declared.flight.Flight.{Flight}
-use Rattle.flight_file.specs.declared.fault.FlightFault.{FlightFault}
 use Rattle.flight_file.specs.Reading.{flights_of}
-use Rattle.plan_file.specs.declared.plan.PlanFault.{PlanFault}
 use Rattle.plan_file.specs.declared.plan.PlanText.{PlanText}
 use Rattle.plan_file.specs.declared.plan.PlanText.TheVariants as plans
 use Rattle.plan_file.specs.Blocks.{seen_block}
@@ -22,18 +19,11 @@ use Rattle.endings.specs.declared.ending.Answer.TheVariants.{Clean, Broken, Clai
 use Rattle.endings.specs.declared.ending.Ending.{Ending}
 use Rattle.endings.specs.declared.ending.Refusal.{Refusal}
 use Rattle.endings.specs.declared.ending.Refusal.TheVariants as refusal
+use Rattle.endings.specs.Refusing.{refusal_of, refused_by_three, Stops}
 use Rattle.openings.specs.Follows.{FollowsAtOnce}
-use Rattle.openings.specs.Plan.{refusal_of, Stops}
-
--- the first cause, in the order of the files
-abbrev pub unaudited_by : Result Aerodrome AeroFault → Result (List Flight) FlightFault → Result PlanText PlanFault → Option Refusal
-unaudited_by (Err fault) flights plan = Some (refusal.Aerodrome fault)
-unaudited_by (Ok aerodrome) (Err fault) plan = Some (refusal.Flights fault)
-unaudited_by (Ok aerodrome) (Ok flights) (Err fault) = Some (refusal.Plan fault)
-unaudited_by (Ok aerodrome) (Ok flights) (Ok plan) = refusal_of aerodrome flights
 
 abbrev pub RefusesAudit : List ℕ → List ℕ → List ℕ → Refusal → Type 0
-RefusesAudit aerodrome flights plan cause = unaudited_by (aerodrome_of aerodrome) (flights_of flights) (plan_of plan) ≡ Some cause
+RefusesAudit aerodrome flights plan cause = refused_by_three refusal.Plan (aerodrome_of aerodrome) (flights_of flights) (plan_of plan) ≡ Some cause
 
 -- the lines of the findings, or that there is none
 abbrev pub report : List Finding → List ℕ

@@ -16,15 +16,19 @@ use Rattle.endings.specs.declared.ending.Ending.{Ending}
 use Rattle.openings.specs.Follows.{FollowsAtOnce}
 use Rattle.openings.specs.Plan.{AdmitsPlan, RefusesPlan, IsOpened, answer_of}
 
--- The text is the block of a first plan of an opening state of files that are taken.
+-- The text is the block of a first plan of this situation.
+pub record ShowsFirstOf (s : Situation) (text : List ℕ) (answer : Answer) : Type 0 where
+  pub plan : Option Schedule
+  pub first : IsFirstPlan s plan
+  pub prints : text ≡ lines_text (plan_lines (record { situation = s; plan = plan }))
+  pub answers : answer ≡ answer_of plan
+
+-- The same of an opening state of files that are taken.
 pub record ShowsFirst (aerodrome : Aerodrome) (flights : List Flight) (text : List ℕ) (answer : Answer) : Type 0 where
   pub state : State
   pub opened : IsOpened aerodrome flights state
   pub sound : IsSound state.situation
-  pub plan : Option Schedule
-  pub first : IsFirstPlan state.situation plan
-  pub prints : text ≡ lines_text (plan_lines (record { situation = state.situation; plan = plan }))
-  pub answers : answer ≡ answer_of plan
+  pub block : ShowsFirstOf state.situation text answer
 
 -- The files read as an aerodrome and flights, of which the text shows the first plan.
 pub record AdmitsFirst (aerodrome_bytes flight_bytes text : List ℕ) (answer : Answer) : Type 0 where
@@ -47,11 +51,5 @@ FirstTextIsOneLaw = (aerodrome flights text other : List ℕ) (answer another : 
 abbrev pub FirstCostsAsPlanLaw : Type 0
 FirstCostsAsPlanLaw = (aerodrome flights text other : List ℕ) (answer another : Answer)
     → (first : AdmitsFirst aerodrome flights text answer) → (planned : AdmitsPlan aerodrome flights other another)
-    → option_map (objective first.shows.state.situation) first.shows.plan ≡ option_map (objective planned.state.situation) planned.state.plan
-
--- the text is the block of a first plan of this situation
-pub record ShowsFirstOf (s : Situation) (text : List ℕ) (answer : Answer) : Type 0 where
-  pub plan : Option Schedule
-  pub first : IsFirstPlan s plan
-  pub prints : text ≡ lines_text (plan_lines (record { situation = s; plan = plan }))
-  pub answers : answer ≡ answer_of plan
+    → option_map (objective first.shows.state.situation) first.shows.block.plan
+    ≡ option_map (objective planned.shows.state.situation) planned.shows.state.plan

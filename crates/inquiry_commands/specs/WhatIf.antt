@@ -1,12 +1,9 @@
 -- What `whatif` prints over the contents of its three files, and which it refuses.
-use Rattle.std.specs.Prelude.{◌≡◌, ℕ, List, Option, Some, None, Result, Ok, Err}
+use Rattle.std.specs.Prelude.{◌≡◌, ℕ, List, Some, None, Ok}
 use Rattle.arrivals.specs.declared.aerodrome.Aerodrome.{Aerodrome}
-use Rattle.aerodrome_file.specs.declared.fault.AeroFault.{AeroFault}
 use Rattle.aerodrome_file.specs.Reading.{aerodrome_of}
 use Rattle.arrivals.specs.declared.flight.Flight.{Flight}
-use Rattle.flight_file.specs.declared.fault.FlightFault.{FlightFault}
 use Rattle.flight_file.specs.Reading.{flights_of}
-use Rattle.trial_file.specs.declared.fault.TrialFault.{TrialFault}
 use Rattle.whatif.specs.declared.outcome.Outcome.{Outcome}
 use Rattle.trial_file.specs.declared.trial.Trial.{Trial}
 use Rattle.whatif.specs.Outcomes.{AreOutcomes}
@@ -18,18 +15,11 @@ use Rattle.endings.specs.declared.ending.Answer.TheVariants.{Tried}
 use Rattle.endings.specs.declared.ending.Ending.{Ending}
 use Rattle.endings.specs.declared.ending.Refusal.{Refusal}
 use Rattle.endings.specs.declared.ending.Refusal.TheVariants as refusal
+use Rattle.endings.specs.Refusing.{refusal_of, refused_by_three, Stops}
 use Rattle.openings.specs.Follows.{FollowsAtOnce}
-use Rattle.openings.specs.Plan.{refusal_of, Stops}
-
--- the first cause, in the order of the files
-abbrev pub untried_by : Result Aerodrome AeroFault → Result (List Flight) FlightFault → Result (List Trial) TrialFault → Option Refusal
-untried_by (Err fault) flights trials = Some (refusal.Aerodrome fault)
-untried_by (Ok aerodrome) (Err fault) trials = Some (refusal.Flights fault)
-untried_by (Ok aerodrome) (Ok flights) (Err fault) = Some (refusal.Trials fault)
-untried_by (Ok aerodrome) (Ok flights) (Ok trials) = refusal_of aerodrome flights
 
 abbrev pub RefusesWhatIf : List ℕ → List ℕ → List ℕ → Refusal → Type 0
-RefusesWhatIf aerodrome flights trials cause = untried_by (aerodrome_of aerodrome) (flights_of flights) (trials_of trials) ≡ Some cause
+RefusesWhatIf aerodrome flights trials cause = refused_by_three refusal.Trials (aerodrome_of aerodrome) (flights_of flights) (trials_of trials) ≡ Some cause
 
 -- The files are taken, and the text has a line for the outcome as they are and for that of each trial.
 pub record AreTried (aerodrome : Aerodrome) (flights : List Flight) (trials : List Trial) (text : List ℕ) : Type 0 where

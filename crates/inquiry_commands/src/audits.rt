@@ -8,7 +8,7 @@ ghost use Rattle.arrivals.specs.Flights.{AreArrivals};
 ghost use Rattle.landing_rules.specs.Sound.{IsSound};
 ghost use Rattle.plan_file.specs.Reading.{HasFewLines};
 ghost use Rattle.inquiry_commands.specs.Audit.{AdmitsAudit, FollowsAudit, IsAudited, StopsAudit, audit_answer, audit_text, report, report_answer};
-ghost use Rattle.openings.specs.Plan.{StopsOpened};
+ghost use Rattle.endings.specs.Refusing.{StopsOpened};
 
 use aerodrome_file::read_aerodrome;
 use arrivals::{Aerodrome, Flight};

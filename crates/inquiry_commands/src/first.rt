@@ -4,7 +4,8 @@ ghost use Rattle.arrivals.specs.Flights.{AreArrivals};
 ghost use Rattle.landing_rules.specs.Sound.{IsSoundState};
 ghost use Rattle.replan.specs.Kept.{problem_held};
 ghost use Rattle.inquiry_commands.specs.First.{AdmitsFirst, FollowsFirst, ShowsFirst, ShowsFirstOf};
-ghost use Rattle.openings.specs.Plan.{StopsOpened, StopsPlan};
+ghost use Rattle.endings.specs.Refusing.{StopsOpened};
+ghost use Rattle.openings.specs.Plan.{StopsPlan};
 
 use crate::first_plans::first_plan;
 use aerodrome_file::read_aerodrome;

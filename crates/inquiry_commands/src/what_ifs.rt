@@ -2,7 +2,7 @@ ghost use Rattle.std.specs.Prelude.{◌≤◌, All, MatchResult, length};
 ghost use Rattle.arrivals.specs.Aerodromes.{IsInRange};
 ghost use Rattle.arrivals.specs.Flights.{AreArrivals};
 ghost use Rattle.trial_file.specs.Trials.{IsGood, most_trials};
-ghost use Rattle.openings.specs.Plan.{StopsOpened};
+ghost use Rattle.endings.specs.Refusing.{StopsOpened};
 ghost use Rattle.inquiry_commands.specs.WhatIf.{AdmitsWhatIf, AreTried, FollowsWhatIf, StopsWhatIf};
 
 use aerodrome_file::read_aerodrome;

@@ -1,5 +1,5 @@
--- What an aerodrome file and a flight file open, why they are refused, and what `plan` may print of them.
-use Rattle.std.specs.Prelude.{◌≡◌, ⊤, ℕ, Bool, List, map, is_some, option_map, Option, Some, None, Result, Ok, Err, if◌then◌else◌}
+-- What an aerodrome file and a flight file open, and what `plan` may print of them.
+use Rattle.std.specs.Prelude.{◌≡◌, ℕ, Bool, List, map, is_some, Option, Some, None, Ok, if◌then◌else◌}
 use Rattle.landing_rules.specs.Flights.{Schedule}
 use Rattle.landing_rules.specs.Events.{State, IsOpeningState}
 use Rattle.landing_rules.specs.Problem.{IsProblemOf}
@@ -9,32 +9,18 @@ use Rattle.replan.specs.Kept.{Holds}
 use Rattle.replan.specs.declared.any_kept.AnyKept.{AnyKept}
 use Rattle.sequencer.specs.Standing.{Standing}
 use Rattle.arrivals.specs.declared.aerodrome.Aerodrome.{Aerodrome}
-use Rattle.aerodrome_file.specs.declared.fault.AeroFault.{AeroFault}
 use Rattle.aerodrome_file.specs.Reading.{aerodrome_of}
 use Rattle.arrivals.specs.declared.flight.Flight.{Flight}
-use Rattle.flight_file.specs.declared.fault.FlightFault.{FlightFault}
 use Rattle.flight_file.specs.Reading.{flights_of}
 use Rattle.arrivals.specs.Seen.{flight_of}
-use Rattle.situations.specs.Refused.{opening_fault}
 use Rattle.sequencer.specs.Opened.{opening_of}
 use Rattle.endings.specs.declared.ending.Answer as answers
 use Rattle.endings.specs.declared.ending.Answer.TheVariants.{Scheduled, Infeasible}
 use Rattle.endings.specs.declared.ending.Ending.{Ending}
-use Rattle.endings.specs.declared.ending.Ending.TheVariants.{Refused, NoMemory}
-use Rattle.endings.specs.declared.ending.Refusal as refusals
-use Rattle.endings.specs.declared.ending.Refusal.TheVariants as refusal
+use Rattle.endings.specs.declared.ending.Refusal.{Refusal}
+use Rattle.endings.specs.Refusing.{refusal_of, refused_by, Stops}
 
--- why files that read are not taken: they open no situation
-abbrev pub refusal_of : Aerodrome → List Flight → Option refusals.Refusal
-refusal_of aerodrome flights = option_map refusal.Opening (opening_fault aerodrome flights)
-
--- the first cause, in the order of the files
-abbrev pub refused_by : Result Aerodrome AeroFault → Result (List Flight) FlightFault → Option refusals.Refusal
-refused_by (Err fault) flights = Some (refusal.Aerodrome fault)
-refused_by (Ok aerodrome) (Err fault) = Some (refusal.Flights fault)
-refused_by (Ok aerodrome) (Ok flights) = refusal_of aerodrome flights
-
-abbrev pub RefusesPlan : List ℕ → List ℕ → refusals.Refusal → Type 0
+abbrev pub RefusesPlan : List ℕ → List ℕ → Refusal → Type 0
 RefusesPlan aerodrome flights cause = refused_by (aerodrome_of aerodrome) (flights_of flights) ≡ Some cause
 
 -- what is answered where a plan is shown last, or none
@@ -55,28 +41,21 @@ pub record IsPlannedAnew (s : Standing AnyKept) (steps : ℕ) : Type 0 where
   pub held : Holds s.planner s.problem
   pub due : IsDue None s.problem steps
 
--- The files read as an aerodrome and flights that are taken, and the text is the block of an opening state of them.
+-- The text is the block of an opening state of files that are taken.
+pub record ShowsPlan (aerodrome : Aerodrome) (flights : List Flight) (text : List ℕ) (answer : answers.Answer) : Type 0 where
+  pub state : State
+  pub opened : IsOpened aerodrome flights state
+  pub prints : text ≡ lines_text (plan_lines state)
+  pub answers : answer ≡ answer_of state.plan
+
+-- The files read as an aerodrome and flights, of which the text shows the plan.
 pub record AdmitsPlan (aerodrome_bytes flight_bytes text : List ℕ) (answer : answers.Answer) : Type 0 where
   pub aerodrome : Aerodrome
   pub flights : List Flight
   pub aerodrome_read : aerodrome_of aerodrome_bytes ≡ Ok aerodrome
   pub flights_read : flights_of flight_bytes ≡ Ok flights
-  pub taken : refusal_of aerodrome flights ≡ None
-  pub state : State
-  pub opens : IsOpeningState (opening_of aerodrome) (map flight_of flights) state
-  pub prints : text ≡ lines_text (plan_lines state)
-  pub answers : answer ≡ answer_of state.plan
-
--- how a command that refuses for these causes may stop before it writes
-abbrev pub Stops : (refusals.Refusal → Type 0) → Ending → Type 0
-Stops Refuses (Refused cause) = Refuses cause
-Stops Refuses NoMemory = ⊤
-Stops Refuses ending = ⊥
+  pub shows : ShowsPlan aerodrome flights text answer
 
 -- how `plan` may stop before it writes
 abbrev pub StopsPlan : List ℕ → List ℕ → Ending → Type 0
 StopsPlan aerodrome flights = Stops (RefusesPlan aerodrome flights)
-
--- the same over files that are read
-abbrev pub StopsOpened : Aerodrome → List Flight → Ending → Type 0
-StopsOpened aerodrome flights = Stops (λ cause. refusal_of aerodrome flights ≡ Some cause)

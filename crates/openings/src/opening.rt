@@ -1,7 +1,8 @@
 ghost use Rattle.std.specs.Prelude.{IfOk, MatchResult};
 ghost use Rattle.arrivals.specs.Aerodromes.{IsInRange};
 ghost use Rattle.arrivals.specs.Flights.{AreArrivals};
-ghost use Rattle.openings.specs.Plan.{IsOpened, IsPlannedAnew, StopsOpened};
+ghost use Rattle.endings.specs.Refusing.{StopsOpened};
+ghost use Rattle.openings.specs.Plan.{IsOpened, IsPlannedAnew};
 
 use arrivals::{Aerodrome, Flight};
 use cps_base::{Counted, Steps};

@@ -13,8 +13,9 @@ use Rattle.plan_text.specs.Trial.{trial_text}
 use Rattle.endings.specs.declared.ending.Answer.{Answer}
 use Rattle.endings.specs.declared.ending.Refusal.{Refusal}
 use Rattle.endings.specs.declared.ending.Ending.{Ending}
-use Rattle.openings.specs.Plan.{answer_of, refusal_of, IsOpened, IsPlannedAnew, StopsOpened}
-use Rattle.openings.specs.shared.Opened.{stops_by}
+use Rattle.endings.specs.Refusing.{refusal_of, StopsOpened}
+use Rattle.endings.specs.shared.Refusing.{stops_by}
+use Rattle.openings.specs.Plan.{answer_of, IsOpened, IsPlannedAnew}
 use Rattle.endings.specs.declared.ending.Refusal.TheVariants.{Opening}
 use Rattle.situations.specs.Refused.{opening_fault}
 use Rattle.planning_commands.specs.Trial.{Sums, StopsTrial}

@@ -1,18 +1,15 @@
 -- What `replay` prints over the contents of its three files, and which it refuses.
-use Rattle.std.specs.Prelude.{◌≡◌, ℕ, Bool, List, ◌++◌, map, All, Option, Some, None, Result, Ok, Err}
+use Rattle.std.specs.Prelude.{◌≡◌, ℕ, Bool, List, ◌++◌, map, All, Some, None, Result, Ok, Err}
 use Rattle.landing_rules.specs.Events as rules
 use Rattle.landing_rules.specs.Events.{State, Answered, Run, IsOpeningState}
 use Rattle.landing_rules.specs.Sound.{IsSoundState, IsGoodEvent}
 use Rattle.landing_rules.specs.Text.{replay_text}
 use Rattle.arrivals.specs.declared.aerodrome.Aerodrome.{Aerodrome}
-use Rattle.aerodrome_file.specs.declared.fault.AeroFault.{AeroFault}
 use Rattle.aerodrome_file.specs.Reading.{aerodrome_of}
 use Rattle.arrivals.specs.declared.flight.Flight.{Flight}
-use Rattle.flight_file.specs.declared.fault.FlightFault.{FlightFault}
 use Rattle.flight_file.specs.Reading.{flights_of}
 use Rattle.arrivals.specs.Seen.{flight_of, event_of}
 use Rattle.arrivals.specs.declared.event.Event.{Event}
-use Rattle.event_log.specs.declared.fault.LogFault.{LogFault}
 use Rattle.event_log.specs.Reading.{events_of}
 use Rattle.sequencer.specs.Opened.{opening_of}
 use Rattle.event_answers.specs.Runs.{last_state}
@@ -25,17 +22,11 @@ use Rattle.endings.specs.declared.ending.Ending.TheVariants as endings
 use Rattle.endings.specs.declared.ending.Refusal.{Refusal}
 use Rattle.endings.specs.declared.ending.Refusal.TheVariants as refusal
 use Rattle.openings.specs.Follows.{FollowsBy}
-use Rattle.openings.specs.Plan.{refusal_of, answer_by, answer_of, Stops}
-
--- the first cause, in the order of the files
-abbrev pub refused_with : Result Aerodrome AeroFault → Result (List Flight) FlightFault → Result (List Event) LogFault → Option Refusal
-refused_with (Err fault) flights events = Some (refusal.Aerodrome fault)
-refused_with (Ok aerodrome) (Err fault) events = Some (refusal.Flights fault)
-refused_with (Ok aerodrome) (Ok flights) (Err fault) = Some (refusal.Events fault)
-refused_with (Ok aerodrome) (Ok flights) (Ok events) = refusal_of aerodrome flights
+use Rattle.endings.specs.Refusing.{refusal_of, refused_by_three, Stops}
+use Rattle.openings.specs.Plan.{answer_by, answer_of}
 
 abbrev pub RefusesReplay : List ℕ → List ℕ → List ℕ → Refusal → Type 0
-RefusesReplay aerodrome flights events cause = refused_with (aerodrome_of aerodrome) (flights_of flights) (events_of events) ≡ Some cause
+RefusesReplay aerodrome flights events cause = refused_by_three refusal.Events (aerodrome_of aerodrome) (flights_of flights) (events_of events) ≡ Some cause
 
 -- The files read as an aerodrome, flights and a log, and are taken. They have these events, with their numbers in range, and
 -- this opening state, which is sound.

@@ -12,7 +12,8 @@ use Rattle.cps_outside.specs.SinkState.{SinkState}
 use Rattle.endings.specs.declared.ending.Answer.{Answer}
 use Rattle.endings.specs.declared.ending.Ending.{Ending}
 use Rattle.openings.specs.Follows.{FollowsAtOnce}
-use Rattle.openings.specs.Plan.{Stops, answer_of}
+use Rattle.endings.specs.Refusing.{Stops}
+use Rattle.openings.specs.Plan.{answer_of}
 
 -- The text is the summary of an opening state of this traffic, with the number of the candidates of all stages of its
 -- problem.

@@ -2,8 +2,9 @@ ghost use Rattle.std.specs.Prelude.{◌≡◌, IfOk, MatchResult};
 ghost use Rattle.landing_rules.specs.Text.{lines_text, plan_lines};
 ghost use Rattle.arrivals.specs.Aerodromes.{IsInRange};
 ghost use Rattle.arrivals.specs.Flights.{AreArrivals};
-ghost use Rattle.openings.specs.Plan.{answer_of, AdmitsPlan, StopsPlan, StopsOpened};
-ghost use Rattle.planning_commands.specs.Plan.{Shows, FollowsPlan};
+ghost use Rattle.endings.specs.Refusing.{StopsOpened};
+ghost use Rattle.openings.specs.Plan.{answer_of, AdmitsPlan, ShowsPlan, StopsPlan};
+ghost use Rattle.planning_commands.specs.Plan.{FollowsPlan};
 
 use aerodrome_file::read_aerodrome;
 use arrivals::{Aerodrome, Flight};
@@ -47,7 +48,7 @@ fn report_opened<R: Threads + Sync, G: Gate + Sync>(
     requires range { IsInRange aerodrome }
     requires read { AreArrivals flights.items }
     ensures { MatchResult result
-        (λ r. Shows aerodrome flights.items r.text.items r.answer)
+        (λ r. ShowsPlan aerodrome flights.items r.text.items r.answer)
         (StopsOpened aerodrome flights.items) }
 {
     let begun = begin(rt, alloc, aerodrome, flights, gate)?;

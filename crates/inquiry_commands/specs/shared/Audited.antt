@@ -1,13 +1,14 @@
 -- Files whose plan was audited are not refused.
-use Rattle.std.proofs.Common.{◌≡◌, ℕ, List, None, Ok, ap, ◌∙◌}
+use Rattle.std.proofs.Common.{◌≡◌, ℕ, List, None, ◌∙◌}
 use Rattle.aerodrome_file.specs.Reading.{aerodrome_of}
 use Rattle.flight_file.specs.Reading.{flights_of}
 use Rattle.plan_file.specs.Reading.{plan_of}
+use Rattle.endings.specs.Refusing.{refused_by_three}
 use Rattle.endings.specs.declared.ending.Answer.{Answer}
-use Rattle.inquiry_commands.specs.Audit.{AdmitsAudit, unaudited_by}
+use Rattle.endings.specs.declared.ending.Refusal.TheVariants.{Plan}
+use Rattle.endings.specs.shared.Refusing.{refused_as_read}
+use Rattle.inquiry_commands.specs.Audit.{AdmitsAudit}
 
 pub not_unaudited : (a f p text : List ℕ) (answer : Answer) → AdmitsAudit a f p text answer →
-    unaudited_by (aerodrome_of a) (flights_of f) (plan_of p) ≡ None
-not_unaudited a f p text answer h =
-    ap (λ r. unaudited_by r (flights_of f) (plan_of p)) h.aerodrome_read ∙ ap (λ r. unaudited_by (Ok h.aerodrome) r (plan_of p)) h.flights_read
-    ∙ ap (λ r. unaudited_by (Ok h.aerodrome) (Ok h.flights) r) h.plan_read ∙ h.audited.taken
+    refused_by_three Plan (aerodrome_of a) (flights_of f) (plan_of p) ≡ None
+not_unaudited a f p text answer h = refused_as_read Plan _ _ _ _ _ _ h.aerodrome_read h.flights_read h.plan_read ∙ h.audited.taken

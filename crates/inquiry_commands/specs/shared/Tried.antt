@@ -1,13 +1,14 @@
 -- Files whose trials were tried are not refused.
-use Rattle.std.proofs.Common.{◌≡◌, ℕ, List, None, Ok, ap, ◌∙◌}
+use Rattle.std.proofs.Common.{◌≡◌, ℕ, List, None, ◌∙◌}
 use Rattle.aerodrome_file.specs.Reading.{aerodrome_of}
 use Rattle.flight_file.specs.Reading.{flights_of}
 use Rattle.trial_file.specs.Reading.{trials_of}
+use Rattle.endings.specs.Refusing.{refused_by_three}
 use Rattle.endings.specs.declared.ending.Answer.{Answer}
-use Rattle.inquiry_commands.specs.WhatIf.{AdmitsWhatIf, untried_by}
+use Rattle.endings.specs.declared.ending.Refusal.TheVariants.{Trials}
+use Rattle.endings.specs.shared.Refusing.{refused_as_read}
+use Rattle.inquiry_commands.specs.WhatIf.{AdmitsWhatIf}
 
 pub not_untried : (a f t text : List ℕ) (answer : Answer) → AdmitsWhatIf a f t text answer →
-    untried_by (aerodrome_of a) (flights_of f) (trials_of t) ≡ None
-not_untried a f t text answer h =
-    ap (λ r. untried_by r (flights_of f) (trials_of t)) h.aerodrome_read ∙ ap (λ r. untried_by (Ok h.aerodrome) r (trials_of t)) h.flights_read
-    ∙ ap (λ r. untried_by (Ok h.aerodrome) (Ok h.flights) r) h.trials_read ∙ h.tried.taken
+    refused_by_three Trials (aerodrome_of a) (flights_of f) (trials_of t) ≡ None
+not_untried a f t text answer h = refused_as_read Trials _ _ _ _ _ _ h.aerodrome_read h.flights_read h.trials_read ∙ h.tried.taken

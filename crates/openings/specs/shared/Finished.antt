@@ -7,7 +7,7 @@ use Rattle.endings.specs.declared.ending.Ending.TheVariants.{Answered, Misused, 
 use Rattle.endings.specs.declared.ending.Refusal.{Refusal}
 use Rattle.openings.specs.declared.report.Report.{Report}
 use Rattle.openings.specs.Follows.{Finishes, FollowsAtOnce}
-use Rattle.openings.specs.Plan.{Stops}
+use Rattle.endings.specs.Refusing.{Stops}
 
 -- one that stopped before it wrote
 stopped : (Admits : List ℕ → Answer → Type 0) (Refuses : Refusal → Type 0) (old new : SinkState) (ending : Ending) → new ≡ old →

@@ -1,43 +1,13 @@
--- From the fault of an opening, or none, to what is said of the files.
-use Rattle.std.proofs.Common.{◌≡◌, ℕ, List, Option, None, Some, Ok, ap, ap₂, subst, sym, ◌∙◌}
-use Rattle.std.specs.Prelude.{option_map, MatchOption, ⊤}
+-- From files that are read to their bytes.
+use Rattle.std.proofs.Common.{◌≡◌, ℕ, List, Some, Ok, ap₂, ◌∙◌}
 use Rattle.arrivals.specs.declared.aerodrome.Aerodrome.{Aerodrome}
 use Rattle.aerodrome_file.specs.Reading.{aerodrome_of}
 use Rattle.arrivals.specs.declared.flight.Flight.{Flight}
 use Rattle.flight_file.specs.Reading.{flights_of}
-use Rattle.situations.specs.declared.opening_refusal.OpeningFault.{OpeningFault}
-use Rattle.situations.specs.Refused.{opening_fault}
-use Rattle.situations.specs.declared.begin_fault.BeginFault.{BeginFault}
-use Rattle.situations.specs.Begun.{IsRefusedBy, opening_fault_of}
-use Rattle.endings.specs.Faults.{begin_ending, opening_ending}
+use Rattle.endings.specs.Refusing.{refusal_of, refused_by, StopsOpened}
 use Rattle.endings.specs.declared.ending.Ending.{Ending}
-use Rattle.endings.specs.declared.ending.Ending.TheVariants.{Answered, Misused, Refused, NotLoaded, NotWritten, TooLong, NoMemory}
-use Rattle.endings.specs.declared.ending.Refusal.{Refusal}
-use Rattle.endings.specs.declared.ending.Refusal.TheVariants.{Opening}
-use Rattle.openings.specs.Plan.{refusal_of, refused_by, Stops, StopsOpened, StopsPlan}
-
--- files that open a situation are taken
-pub opened_taken : (aerodrome : Aerodrome) (flights : List Flight) → opening_fault aerodrome flights ≡ None → refusal_of aerodrome flights ≡ None
-opened_taken aerodrome flights none = ap (option_map Opening) none
-
--- files that open none are refused for that cause, or memory is short
-pub stops_opened : (aerodrome : Aerodrome) (flights : List Flight) (fault : BeginFault) (ending : Ending) →
-    IsRefusedBy (opening_fault aerodrome flights) fault → ending ≡ begin_ending fault → StopsOpened aerodrome flights ending
-stops_opened aerodrome flights fault ending refused is = subst (StopsOpened aerodrome flights) (sym is) (go (opening_fault_of fault) refused)
-  where
-    go : (found : Option OpeningFault) → MatchOption found ⊤ (λ f. opening_fault aerodrome flights ≡ Some f) → StopsOpened aerodrome flights (opening_ending found)
-    go None h = tt
-    go (Some f) h = ap (option_map Opening) h
-
--- a stop for some causes is one for those that follow from them
-pub stops_by : (P Q : Refusal → Type 0) (ending : Ending) → ((cause : Refusal) → P cause → Q cause) → Stops P ending → Stops Q ending
-stops_by P Q (Refused cause) follows stops = follows cause stops
-stops_by P Q NoMemory follows stops = tt
-stops_by P Q (Answered answer) follows stops = absurd stops
-stops_by P Q Misused follows stops = absurd stops
-stops_by P Q (NotLoaded place) follows stops = absurd stops
-stops_by P Q NotWritten follows stops = absurd stops
-stops_by P Q (TooLong place) follows stops = absurd stops
+use Rattle.endings.specs.shared.Refusing.{stops_by}
+use Rattle.openings.specs.Plan.{StopsPlan}
 
 -- what stops the files that were read stops their bytes
 pub stops_plan : (a f : List ℕ) (aerodrome : Aerodrome) (flights : List Flight) (ending : Ending) →

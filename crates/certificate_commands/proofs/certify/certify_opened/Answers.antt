@@ -1,6 +1,6 @@
 use Rattle.std.proofs.Common.{sym}
 use Rattle.sequencer.specs.Opened.{opened}
-use Rattle.openings.specs.shared.Opened.{opened_taken, stops_opened}
+use Rattle.endings.specs.shared.Refusing.{opened_taken, stops_opened}
 use Rattle.certificate_commands.proofs.TrueVerdicts.{claim_true}
 use Rattle.std.proofs.lemmas.Result.{err_from_is_err_and}
 use Rattle.certificate_commands.proofs.certify.certify_opened.Goals as goal

@@ -1,5 +1,5 @@
 use Rattle.sequencer.specs.Opened.{opened}
-use Rattle.openings.specs.shared.Opened.{opened_taken, stops_opened}
+use Rattle.endings.specs.shared.Refusing.{opened_taken, stops_opened}
 use Rattle.certificate_commands.proofs.TrueVerdicts.{true_of}
 use Rattle.std.proofs.lemmas.Result.{err_from_is_err_and}
 use Rattle.certificate_commands.proofs.check.judge_opened.Goals as goal

@@ -5,7 +5,7 @@ use Rattle.inquiry_commands.specs.Audit.{audit_text, audit_answer}
 use Rattle.situations.specs.Opened.{opened}
 use Rattle.situations.specs.Refused.{opening_fault}
 use Rattle.situations.specs.Begun.{IsRefusedBy}
-use Rattle.openings.specs.shared.Opened.{opened_taken, stops_opened}
+use Rattle.endings.specs.shared.Refusing.{opened_taken, stops_opened}
 use Rattle.inquiry_commands.proofs.audits.report_opened.Goals as goal
 
 pub returns : goal.returns

@@ -5,7 +5,7 @@ use Rattle.landing_rules.specs.Problem.{Problem}
 use Rattle.cps_network.specs.Due.{IsDue}
 use Rattle.replan.specs.Bound.{most_steps}
 use Rattle.std.proofs.lemmas.Result.{err_from_is_err_and}
-use Rattle.openings.specs.shared.Opened.{stops_opened}
+use Rattle.endings.specs.shared.Refusing.{stops_opened}
 use Rattle.openings.proofs.opening.begin.Goals as goal
 
 pub returns-clause-planned : goal.returns-clause-planned
