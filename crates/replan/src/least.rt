@@ -40,7 +40,7 @@ fn least_of<const W: usize>(problem: &Problem, last: &LabelledStage<W>) -> Optio
     }
 }
 
-// The stage after the last one. Where that has each window that extends the one before it, it is often a copy of it.
+// The stage after `last`. Where `last` has every window that extends `earlier`, its candidates are often a copy of `last`.
 fn stage_alone<const W: usize>(
     alloc: Global,
     problem: &Problem,

@@ -15,7 +15,7 @@ use cps_network::{Node, placed_node};
 
 impl<const W: usize> Kept<W> {
     // The number of the last stage.
-    fn last_stage(&self) -> u8
+    fn stage_count(&self) -> u8
         ensures value { result ≡ stages_in self.now }
         ensures few { result ≤ 60 }
         ensures held { MatchOption self.now ⊤ (IsHeld W) }
@@ -27,7 +27,7 @@ impl<const W: usize> Kept<W> {
     }
 
     // How many windows a stage has.
-    fn windows(&self, stage: u8) -> usize
+    fn window_count(&self, stage: u8) -> usize
         requires { IsReadable self.now stage }
         ensures { result ≡ length (stage_in self.now stage).1 }
     {
@@ -41,7 +41,7 @@ impl<const W: usize> Kept<W> {
     }
 
     // The ranks that the window at place i of a stage places, and the last of them.
-    fn placed(&self, stage: u8, i: usize) -> Node
+    fn node(&self, stage: u8, i: usize) -> Node
         requires stage { IsReadable self.now stage }
         requires place { HasPlace self.now stage i }
         ensures placed { TellsPlaced (window_in self.now stage i) stage result.placed }
@@ -93,7 +93,7 @@ impl<const W: usize> Kept<W> {
 impl AnyKept {
     /// How many stages it holds behind stage 0: as many as the problem that it holds has flights, and none with no problem
     /// held. The stages that may be read are 1 to this number.
-    pub fn stages(&self) -> u8
+    pub fn stage_count(&self) -> u8
         ensures value { result ≡ stages_in (held_of self.now) }
         ensures few { result ≤ 60 }
 
@@ -103,23 +103,23 @@ impl AnyKept {
         ensures k { (p : Problem) → problem_held self.now ≡ Some p → p.k ≡ k_of self.now }
     {
         match self {
-            AnyKept::One(kept) => kept.last_stage(),
-            AnyKept::Three(kept) => kept.last_stage(),
-            AnyKept::Five(kept) => kept.last_stage(),
-            AnyKept::Seven(kept) => kept.last_stage(),
+            AnyKept::One(kept) => kept.stage_count(),
+            AnyKept::Three(kept) => kept.stage_count(),
+            AnyKept::Five(kept) => kept.stage_count(),
+            AnyKept::Seven(kept) => kept.stage_count(),
         }
     }
 
     /// How many landable windows a stage has.
-    pub fn size(&self, stage: u8) -> usize
+    pub fn window_count(&self, stage: u8) -> usize
         requires { IsReadable (held_of self.now) stage }
         ensures { result ≡ length (stage_in (held_of self.now) stage).1 }
     {
         match self {
-            AnyKept::One(kept) => kept.windows(stage),
-            AnyKept::Three(kept) => kept.windows(stage),
-            AnyKept::Five(kept) => kept.windows(stage),
-            AnyKept::Seven(kept) => kept.windows(stage),
+            AnyKept::One(kept) => kept.window_count(stage),
+            AnyKept::Three(kept) => kept.window_count(stage),
+            AnyKept::Five(kept) => kept.window_count(stage),
+            AnyKept::Seven(kept) => kept.window_count(stage),
         }
     }
 
@@ -131,15 +131,15 @@ impl AnyKept {
         ensures last { result.last ≡ latest (stage, window_in (held_of self.now) stage i) }
     {
         match self {
-            AnyKept::One(kept) => kept.placed(stage, i),
-            AnyKept::Three(kept) => kept.placed(stage, i),
-            AnyKept::Five(kept) => kept.placed(stage, i),
-            AnyKept::Seven(kept) => kept.placed(stage, i),
+            AnyKept::One(kept) => kept.node(stage, i),
+            AnyKept::Three(kept) => kept.node(stage, i),
+            AnyKept::Five(kept) => kept.node(stage, i),
+            AnyKept::Seven(kept) => kept.node(stage, i),
         }
     }
 
     /// How many pairs of a second and a cost the window at place i of a stage has: one or more, and for the makespan one.
-    pub fn label_count(&self, stage: u8, i: usize) -> usize
+    pub fn pair_count(&self, stage: u8, i: usize) -> usize
         requires stage { IsReadable (held_of self.now) stage }
         requires place { HasPlace (held_of self.now) stage i }
         ensures { result ≡ length (pairs_in (held_of self.now) stage i) }
@@ -154,7 +154,7 @@ impl AnyKept {
 
     /// The pair at index j of the window at place i of a stage: a second, at most 172,799, and a cost, which for the makespan
     /// is 0.
-    pub fn label(&self, stage: u8, i: usize, j: usize) -> (u32, u32)
+    pub fn pair(&self, stage: u8, i: usize, j: usize) -> (u32, u32)
         requires stage { IsReadable (held_of self.now) stage }
         requires place { HasPlace (held_of self.now) stage i }
         requires index { j < length (pairs_in (held_of self.now) stage i) }
