@@ -12,7 +12,7 @@ ghost use Rattle.first_best.specs.Ranges.{HasRank, IsNextIn};
 use crate::budget::limit_of;
 use crate::node::EarlyNode;
 use crate::pairs::PairList;
-use crate::stage::AheadStage;
+use crate::stage::StageAhead;
 use crate::ways::{least_cost, ways_of};
 use cps_problem::{Objective, Problem};
 use landing_windows::LAST_SECOND;
@@ -53,13 +53,13 @@ fn opens_in_days(problem: &Problem, rank: u8)
     let _none = problem.first_open(rank, LAST_SECOND + 1);
 }
 
-// The cost of a node's pair at a second.
+// The least cost of a pair of a node at a second, where it has one.
 fn cost_of(
     problem: &Problem,
     value: u64,
     stage: u8,
     node: EarlyNode,
-    next: &AheadStage,
+    next: &StageAhead,
     ways: &[usize],
     second: u32,
 ) -> Option<u32>
@@ -99,7 +99,7 @@ fn last_open(problem: &Problem, rank: u8) -> u32
 }
 
 // A second behind which no pair of a node is.
-fn latest(problem: &Problem, stage: u8, node: EarlyNode, next: &AheadStage, ways: &[usize]) -> u32
+fn latest(problem: &Problem, stage: u8, node: EarlyNode, next: &StageAhead, ways: &[usize]) -> u32
     requires stage { (1 ≤ stage) × (stage ≤ length problem.now.flights) }
     requires node { HasRank problem.now node }
     requires next { IsNextIn problem.now stage next.now }
@@ -127,7 +127,7 @@ fn latest_pairs(
     budget: Option<u64>,
     stage: u8,
     node: EarlyNode,
-    next: &AheadStage,
+    next: &StageAhead,
 ) -> Result<Vec<(u32, u32)>, AllocError>
     requires stage { (1 ≤ stage) × (stage ≤ length problem.now.flights) }
     requires node { HasRank problem.now node }
@@ -146,13 +146,10 @@ fn latest_pairs(
         if least == 0 {
             return Ok(pairs);
         }
-        match cost_of(problem, value, stage, node, next, ways, second) {
-            None => {}
-            Some(cost) => {
-                if u64::from(cost) < least {
-                    pairs.push((second, cost))?;
-                    least = u64::from(cost);
-                }
+        if let Some(cost) = cost_of(problem, value, stage, node, next, ways, second) {
+            if u64::from(cost) < least {
+                pairs.push((second, cost))?;
+                least = u64::from(cost);
             }
         }
     }
@@ -167,7 +164,7 @@ fn pairs_of(
     budget: Option<u64>,
     stage: u8,
     node: EarlyNode,
-    next: &AheadStage,
+    next: &StageAhead,
 ) -> Result<PairList, AllocError>
     requires stage { (1 ≤ stage) × (stage ≤ length problem.now.flights) }
     requires node { HasRank problem.now node }
@@ -189,7 +186,7 @@ pub(crate) fn complete(
     budget: Option<u64>,
     stage: u8,
     nodes: &[EarlyNode],
-    next: &AheadStage,
+    next: &StageAhead,
 ) -> Result<Vec<PairList>, AllocError>
     requires stage { (1 ≤ stage) × (stage ≤ length problem.now.flights) }
     requires nodes { (j : ℕ) → j < length nodes.now → HasRank problem.now (node_at nodes.now j) }

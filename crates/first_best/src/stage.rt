@@ -14,16 +14,16 @@ use std::marker::Model;
 
 /// The nodes of a stage, the pairs that complete each, and the place of the node of each window.
 #[derive(Drop)]
-pub(crate) struct AheadStage {
+pub(crate) struct StageAhead {
     pub(crate) nodes: Vec<EarlyNode>,
     pub(crate) lists: Vec<PairList>,
     pub(crate) places: Vec<usize>,
 }
 
-impl Model for AheadStage {
-    ghost use Rattle.first_best.specs.Stages.{StageAhead};
+impl Model for StageAhead {
+    ghost use Rattle.first_best.specs.Stages as stages;
 
-    ghost Value = { StageAhead };
+    ghost Value = { stages.StageAhead };
 
     ghost view = { λ s. record {
       nodes = s.nodes.items;
@@ -32,12 +32,12 @@ impl Model for AheadStage {
     } };
 }
 
-impl AheadStage {
+impl StageAhead {
     // The stage without a node.
-    pub(crate) fn empty(alloc: Global) -> AheadStage
+    pub(crate) fn empty(alloc: Global) -> StageAhead
         ensures { result ≡ no_stage }
     {
-        AheadStage {
+        StageAhead {
             nodes: Vec::new(alloc),
             lists: Vec::new(alloc),
             places: Vec::new(alloc),

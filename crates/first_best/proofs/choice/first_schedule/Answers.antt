@@ -14,9 +14,9 @@ loop-done-init c =
 
 pub set-requires : goal.set-requires
 set-requires c =
-    let whole = (c.stages-done-end.ensures.held c.args.problem.now c.requires.held).whole in
+    let whole = (c.stage_count-done-end.ensures.held c.args.problem.now c.requires.held).whole in
     let chosen = chosen_by c.args.problem.now c.window_laws.ensures.well_formed c.args.value (held_of c.args.kept.now) c.args.ahead.now c.requires.ahead c.requires.value c.loop-done.done c.loop-done.before c.loop-done.cost c.loop-done.schedule c.loop-done.invariant
-    (omega (arith, c.loop-done-test.true, c.stages-done-end.ensures.value, whole)) c.least_choice-rank.result c.budget_of-budget.result c.budget_of-budget.ensures c.stage.result.now c.stage.ensures c.least_choice-rank.ensures.least in
+    (omega (arith, c.loop-done-test.true, c.stage_count-done-end.ensures.value, whole)) c.least_choice-rank.result c.budget_of-budget.result c.budget_of-budget.ensures c.stage.result.now c.stage.ensures c.least_choice-rank.ensures.least in
     let fits = chosen.0.legal.0.fits in
     let high = fits.to_count in
     let room = c.loop-done.invariant.room in
@@ -24,9 +24,9 @@ set-requires c =
 
 pub cost-requires-clause-rank : goal.cost-requires-clause-rank
 cost-requires-clause-rank c =
-    let whole = (c.stages-done-end.ensures.held c.args.problem.now c.requires.held).whole in
+    let whole = (c.stage_count-done-end.ensures.held c.args.problem.now c.requires.held).whole in
     let chosen = chosen_by c.args.problem.now c.window_laws.ensures.well_formed c.args.value (held_of c.args.kept.now) c.args.ahead.now c.requires.ahead c.requires.value c.loop-done.done c.loop-done.before c.loop-done.cost c.loop-done.schedule c.loop-done.invariant
-    (omega (arith, c.loop-done-test.true, c.stages-done-end.ensures.value, whole)) c.least_choice-rank.result c.budget_of-budget.result c.budget_of-budget.ensures c.stage.result.now c.stage.ensures c.least_choice-rank.ensures.least in
+    (omega (arith, c.loop-done-test.true, c.stage_count-done-end.ensures.value, whole)) c.least_choice-rank.result c.budget_of-budget.result c.budget_of-budget.ensures c.stage.result.now c.stage.ensures c.least_choice-rank.ensures.least in
     let fits = chosen.0.legal.0.fits in
     (fits.from_one, fits.to_count)
 
@@ -35,18 +35,18 @@ cost-requires-clause-second c = c.least_choice-rank.ensures.in_days
 
 pub with_rank-before-requires : goal.with_rank-before-requires
 with_rank-before-requires c =
-    let whole = (c.stages-done-end.ensures.held c.args.problem.now c.requires.held).whole in
+    let whole = (c.stage_count-done-end.ensures.held c.args.problem.now c.requires.held).whole in
     let chosen = chosen_by c.args.problem.now c.window_laws.ensures.well_formed c.args.value (held_of c.args.kept.now) c.args.ahead.now c.requires.ahead c.requires.value c.loop-done.done c.loop-done.before c.loop-done.cost c.loop-done.schedule c.loop-done.invariant
-    (omega (arith, c.loop-done-test.true, c.stages-done-end.ensures.value, whole)) c.least_choice-rank.result c.budget_of-budget.result c.budget_of-budget.ensures c.stage.result.now c.stage.ensures c.least_choice-rank.ensures.least in
+    (omega (arith, c.loop-done-test.true, c.stage_count-done-end.ensures.value, whole)) c.least_choice-rank.result c.budget_of-budget.result c.budget_of-budget.ensures c.stage.result.now c.stage.ensures c.least_choice-rank.ensures.least in
     let high = chosen.0.legal.0.fits.to_count in
     let few = c.window_laws.ensures.well_formed.few_flights in
     omega (arith, high, few)
 
 pub loop-done-preserved : goal.loop-done-preserved
 loop-done-preserved c =
-    let whole = (c.stages-done-end.ensures.held c.args.problem.now c.requires.held).whole in
+    let whole = (c.stage_count-done-end.ensures.held c.args.problem.now c.requires.held).whole in
     let chosen = chosen_by c.args.problem.now c.window_laws.ensures.well_formed c.args.value (held_of c.args.kept.now) c.args.ahead.now c.requires.ahead c.requires.value c.loop-done.done c.loop-done.before c.loop-done.cost c.loop-done.schedule c.loop-done.invariant
-    (omega (arith, c.loop-done-test.true, c.stages-done-end.ensures.value, whole)) c.least_choice-rank.result c.budget_of-budget.result c.budget_of-budget.ensures c.stage.result.now c.stage.ensures c.least_choice-rank.ensures.least in
+    (omega (arith, c.loop-done-test.true, c.stage_count-done-end.ensures.value, whole)) c.least_choice-rank.result c.budget_of-budget.result c.budget_of-budget.ensures c.stage.result.now c.stage.ensures c.least_choice-rank.ensures.least in
     let p = c.args.problem.now in
     let v = c.args.value in
     let stages = c.args.ahead.now in
@@ -62,6 +62,6 @@ loop-done-preserved c =
 pub returns : goal.returns
 returns c =
     let p = c.args.problem.now in
-    let whole = (c.stages-done-end.ensures.held p c.requires.held).whole in
+    let whole = (c.stage_count-done-end.ensures.held p c.requires.held).whole in
     whole_order p c.window_laws.ensures.well_formed c.args.value (held_of c.args.kept.now) c.args.ahead.now c.requires.ahead c.requires.value c.loop-done.done c.loop-done.before c.loop-done.cost c.loop-done.schedule c.loop-done.invariant
-    (omega (arith, c.loop-done-test.false, c.loop-done.auto.done-end, c.stages-done-end.ensures.value, whole))
+    (omega (arith, c.loop-done-test.false, c.loop-done.auto.done-end, c.stage_count-done-end.ensures.value, whole))

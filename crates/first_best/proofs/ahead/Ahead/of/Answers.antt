@@ -16,7 +16,7 @@ returns-clause-exact c =
     let p = c.args.problem.now in
     let held = held_of c.args.kept.now in
     IfOk-weaker c.stages_ahead.result (IsAheadOf p c.args.value held) (ListsAllCompleting p c.args.value held)
-    (λ s a. all_exact p c.args.value held s a c.window_laws.ensures.network c.window_laws.ensures.tell (c.stages-held.ensures.held p c.requires)) c.stages_ahead.ensures
+    (λ s a. all_exact p c.args.value held s a c.window_laws.ensures.network c.window_laws.ensures.tell (c.stage_count-held.ensures.held p c.requires)) c.stages_ahead.ensures
 
 pub returns-clause-within : goal.returns-clause-within
 returns-clause-within c =

@@ -22,4 +22,4 @@ returns-clause-useful c =
     let held = held_of c.args.kept.now in
     let made = subst (λ (b : ℕ). IfOk c.stages_ahead.result (IsAheadBy p c.args.value (Some b) held)) c.budget_of-budget.ensures c.stages_ahead.ensures in
     IfOk-weaker c.stages_ahead.result (IsAheadWithin p c.args.value held) (ListsAllOfUse p c.args.value held)
-    (λ s a. all_of_use p c.args.value held s a c.window_laws.ensures.network c.window_laws.ensures.tell (c.stages-held.ensures.held p c.requires)) made
+    (λ s a. all_of_use p c.args.value held s a c.window_laws.ensures.network c.window_laws.ensures.tell (c.stage_count-held.ensures.held p c.requires)) made
