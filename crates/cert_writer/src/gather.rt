@@ -37,9 +37,9 @@ pub(crate) fn gather(
     ensures { IfOk result (λ slots. IsGathered problem.now (held_of kept.now) stage slots.items) }
 {
     let k = most_shift(problem);
-    let _held = kept.stages();
+    let _held = kept.stage_count();
     let mut slots = empty_slots(alloc, k)?;
-    for i in 0..kept.size(stage) {
+    for i in 0..kept.window_count(stage) {
         let slot = slot_of(k, stage, kept.node(stage, i));
         slots[slot].join(kept, stage, i)?;
     }

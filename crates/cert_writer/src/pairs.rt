@@ -70,8 +70,8 @@ impl NodePairs {
             (IsOfEither self.old (pairs_in (held_of kept.now) stage i))) }
         ensures in_range { OnOk result (All IsInRange self.old → All IsInRange self.new) }
     {
-        for j in 0..kept.label_count(stage, i) {
-            self.keep(kept.label(stage, i, j))?;
+        for j in 0..kept.pair_count(stage, i) {
+            self.keep(kept.pair(stage, i, j))?;
         }
         Ok(())
     }

@@ -34,7 +34,7 @@ fn add_state(
         states.new.items) }
 {
     let k = most_shift(problem);
-    let _held = kept.stages();
+    let _held = kept.stage_count();
     let ones = turned(k, (number / 8) as u8);
     let offset = (number % 8) as u8;
     let pairs = slots[ones as usize * 8 + offset as usize].best(alloc)?;
@@ -62,7 +62,7 @@ fn add_states(
         states.new.items) }
 {
     let k = most_shift(problem);
-    let _held = kept.stages();
+    let _held = kept.stage_count();
     let slots = gather(alloc, problem, kept, stage)?;
     for number in 0..8usize << (2 * k) {
         add_state(alloc, problem, kept, stage, number, &slots, states)?;
@@ -83,7 +83,7 @@ pub(crate) fn states_of(
     let _near = most_shift(problem);
     stage_laws(problem);
     let mut states = Vec::new(alloc);
-    for stage in 1..kept.stages() + 1 {
+    for stage in 1..kept.stage_count() + 1 {
         add_states(alloc, problem, kept, stage, &mut states)?;
     }
     Ok(states)

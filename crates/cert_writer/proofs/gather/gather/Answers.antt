@@ -17,8 +17,8 @@ slot_of-slot-requires-clause-last c =
     let p = c.args.problem.now in
     let stage = c.args.stage in
     let s = stage_in (held_of c.args.kept.now) stage in
-    let are = c.stages-held.ensures.held p c.requires.held in
-    let lt : c.loop-i.i < length s.1 = omega (arith, c.loop-i-test.true, c.size-i-end.ensures) in
+    let are = c.stage_count-held.ensures.held p c.requires.held in
+    let lt : c.loop-i.i < length s.1 = omega (arith, c.loop-i-test.true, c.window_count-i-end.ensures) in
     node_near p c.requires.laws.placed s (lists_in (held_of c.args.kept.now) stage) (are.pairs stage c.requires.stage.1) stage (are.number stage c.requires.stage.1) c.requires.stage.0 c.loop-i.i c.most_shift-k.result c.node.result.placed c.node.result.last lt
     c.most_shift-k.ensures.k c.node.ensures.placed c.node.ensures.last
 
@@ -28,10 +28,10 @@ loop-i-preserved c =
     let stage = c.args.stage in
     let s = stage_in (held_of c.args.kept.now) stage in
     let lists = lists_in (held_of c.args.kept.now) stage in
-    let are = c.stages-held.ensures.held p c.requires.held in
+    let are = c.stage_count-held.ensures.held p c.requires.held in
     let number = are.number stage c.requires.stage.1 in
     let k = c.most_shift-k.ensures.k in
-    let lt : c.loop-i.i < length s.1 = omega (arith, c.loop-i-test.true, c.size-i-end.ensures) in
+    let lt : c.loop-i.i < length s.1 = omega (arith, c.loop-i-test.true, c.window_count-i-end.ensures) in
     let here : PatternNode = (stage, digits_of c.most_shift-k.result stage c.node.result.placed, c.node.result.last) in
     let has = subst (λ (m : ℕ). HasSlot m here c.slot_of-slot.result) k c.slot_of-slot.ensures in
     let inside = has.within in
@@ -47,5 +47,5 @@ loop-i-preserved c =
 pub returns : goal.returns
 returns c =
     let s = stage_in (held_of c.args.kept.now) c.args.stage in
-    let end : c.loop-i.i ≡ length s.1 = omega (arith, c.loop-i-test.false, c.size-i-end.ensures, c.loop-i.auto.i-end) in
+    let end : c.loop-i.i ≡ length s.1 = omega (arith, c.loop-i-test.false, c.window_count-i-end.ensures, c.loop-i.auto.i-end) in
     subst (λ (n : ℕ). AreGathered c.args.problem.now s (lists_in (held_of c.args.kept.now) c.args.stage) n c.loop-i.slots.items) end c.loop-i.invariant

@@ -54,7 +54,7 @@ pub returns-then-is_empty : goal.returns-then-is_empty
 returns-then-is_empty c =
     let p = c.args.problem.now in
     let held = held_of c.args.kept.now in
-    let stage = stage_held p held c.args.stage c.most_shift-k.ensures.well_formed (c.stages-held.ensures.held p c.requires.held) c.requires.stage in
+    let stage = stage_held p held c.args.stage c.most_shift-k.ensures.well_formed (c.stage_count-held.ensures.held p c.requires.held) c.requires.stage in
     let best = c.in_ok-pairs.pairs.items in
     let are = best_at p held c.args.stage c.args.number c.most_shift-k.result c.turned-ones.result c.args.slots.now.items c.index.result.now best c.most_shift-k.ensures.k
     c.turned-ones.ensures.digits c.turned-ones.ensures.below c.requires.gathered c.index.ensures c.in_ok-pairs.ensures.found c.in_ok-pairs.ensures.covers in
@@ -66,7 +66,7 @@ pub overflow_sub-stage : goal.overflow_sub-stage
 overflow_sub-stage c =
     let p = c.args.problem.now in
     let held = held_of c.args.kept.now in
-    let stage = stage_held p held c.args.stage c.most_shift-k.ensures.well_formed (c.stages-held.ensures.held p c.requires.held) c.requires.stage in
+    let stage = stage_held p held c.args.stage c.most_shift-k.ensures.well_formed (c.stage_count-held.ensures.held p c.requires.held) c.requires.stage in
     let best = c.in_ok-pairs.pairs.items in
     let are = best_at p held c.args.stage c.args.number c.most_shift-k.result c.turned-ones.result c.args.slots.now.items c.index.result.now best c.most_shift-k.ensures.k
     c.turned-ones.ensures.digits c.turned-ones.ensures.below c.requires.gathered c.index.ensures c.in_ok-pairs.ensures.found c.in_ok-pairs.ensures.covers in
@@ -79,7 +79,7 @@ pub new-requires : goal.new-requires
 new-requires c =
     let p = c.args.problem.now in
     let held = held_of c.args.kept.now in
-    let stage = stage_held p held c.args.stage c.most_shift-k.ensures.well_formed (c.stages-held.ensures.held p c.requires.held) c.requires.stage in
+    let stage = stage_held p held c.args.stage c.most_shift-k.ensures.well_formed (c.stage_count-held.ensures.held p c.requires.held) c.requires.stage in
     let best = c.in_ok-pairs.pairs.items in
     let are = best_at p held c.args.stage c.args.number c.most_shift-k.result c.turned-ones.result c.args.slots.now.items c.index.result.now best c.most_shift-k.ensures.k
     c.turned-ones.ensures.digits c.turned-ones.ensures.below c.requires.gathered c.index.ensures c.in_ok-pairs.ensures.found c.in_ok-pairs.ensures.covers in
@@ -92,7 +92,7 @@ pub returns : goal.returns
 returns c =
     let p = c.args.problem.now in
     let held = held_of c.args.kept.now in
-    let stage = stage_held p held c.args.stage c.most_shift-k.ensures.well_formed (c.stages-held.ensures.held p c.requires.held) c.requires.stage in
+    let stage = stage_held p held c.args.stage c.most_shift-k.ensures.well_formed (c.stage_count-held.ensures.held p c.requires.held) c.requires.stage in
     let best = c.in_ok-pairs.pairs.items in
     let are = best_at p held c.args.stage c.args.number c.most_shift-k.result c.turned-ones.result c.args.slots.now.items c.index.result.now best c.most_shift-k.ensures.k
     c.turned-ones.ensures.digits c.turned-ones.ensures.below c.requires.gathered c.index.ensures c.in_ok-pairs.ensures.found c.in_ok-pairs.ensures.covers in

@@ -17,16 +17,16 @@ loop-j-preserved c =
     let list = list_at (lists_in (held_of c.args.kept.now) c.args.stage) c.args.i in
     let inv = c.loop-j.invariant in
     let now = c.in_ok-keep.ensures in
-    let lt : c.loop-j.j < length list = omega (arith, c.loop-j-test.true, c.label_count-j-end.ensures) in (
+    let lt : c.loop-j.j < length list = omega (arith, c.loop-j-test.true, c.pair_count-j-end.ensures) in (
       λ q i. elim (now.found q i) [
         | inl old ↦ inv.0 q old
-        | inr e ↦ inr (subst (λ (x : Pair). InPairs x list) (sym e) (at_in list c.loop-j.j c.label.result lt (sym c.label.ensures.value)))
+        | inr e ↦ inr (subst (λ (x : Pair). InPairs x list) (sym e) (at_in list c.loop-j.j c.pair.result lt (sym c.pair.ensures.value)))
       ],
       λ q i. (let o = inv.1 q i in let n = now.covers o.0 (inl o.1) in (n.0, n.1, no_worse_trans n.0 o.0 q n.2 o.2)),
       λ m less. elim (cases_eq m c.loop-j.j) [
         | inl e ↦
-            let n = now.covers c.label.result (inr refl) in
-            (n.0, n.1, subst (λ (k : ℕ). NoWorse n.0 (pair_at list k)) (sym e) (subst (NoWorse n.0) c.label.ensures.value n.2))
+            let n = now.covers c.pair.result (inr refl) in
+            (n.0, n.1, subst (λ (k : ℕ). NoWorse n.0 (pair_at list k)) (sym e) (subst (NoWorse n.0) c.pair.ensures.value n.2))
         | inr ne ↦
             let o = inv.2 m (omega (arith, less, ne)) in
             let n = now.covers o.0 (inl o.1) in
@@ -43,6 +43,6 @@ returns-clause-covers c = λ q h.
       | inl old ↦ inv.1 q old
       | inr i ↦
           let a = in_at q list i in
-          let o = inv.2 a.0 (let lt = a.1 in omega (arith, lt, c.loop-j-test.false, c.label_count-j-end.ensures)) in
+          let o = inv.2 a.0 (let lt = a.1 in omega (arith, lt, c.loop-j-test.false, c.pair_count-j-end.ensures)) in
           (o.0, o.1, subst (NoWorse o.0) a.2 o.2)
     ]
