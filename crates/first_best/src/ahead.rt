@@ -60,7 +60,7 @@ pub struct Ahead {
 
 impl Model for Ahead {
     ghost use Rattle.std.specs.Prelude.{List};
-    ghost use Rattle.first_best.specs.Stages.{StageAhead};
+    ghost use Rattle.first_best.specs.Completing.{StageAhead};
 
     ghost Value = { List StageAhead };
 

@@ -69,7 +69,7 @@ fn cost_of(
     requires ways { AreWaysOf node next.now.nodes ways.now }
     requires second { (node.earliest ≤ second) × (second ≤ last_second) }
     ensures least { IsLeastOf (λ c.
-        IsPairOf problem.now value stage node next.now.nodes next.now.lists (second, c)) result }
+        IsPairOf problem.now value stage node next.now (second, c)) result }
     ensures small { IfSome result (λ c. c ≤ 17279900 * (length problem.now.flights - stage)) }
 {
     if is_allowed(problem, value, node.last, second) {
@@ -105,7 +105,7 @@ fn latest(problem: &Problem, stage: u8, node: EarlyNode, next: &StageAhead, ways
     requires next { IsNextIn problem.now stage next.now }
     requires ways { AreWaysOf node next.now.nodes ways.now }
     ensures last { (v : ℕ) → (q : Pair)
-        → IsPairOf problem.now v stage node next.now.nodes next.now.lists q
+        → IsPairOf problem.now v stage node next.now q
         → q.0 ≤ result }
     ensures in_days { result ≤ last_second }
 {
@@ -133,8 +133,7 @@ fn latest_pairs(
     requires node { HasRank problem.now node }
     requires next { IsNextIn problem.now stage next.now }
     ensures { IfOk result (λ pairs.
-        AreFalling problem.now value budget stage node next.now.nodes next.now.lists
-        node.earliest pairs.items) }
+        AreFalling problem.now value budget stage node next.now node.earliest pairs.items) }
 {
     let _few = problem.len();
     let ways = ways_of(alloc, node, next)?;
@@ -170,7 +169,7 @@ fn pairs_of(
     requires node { HasRank problem.now node }
     requires next { IsNextIn problem.now stage next.now }
     ensures { IfOk result (λ pairs.
-        ArePairsOf problem.now value budget stage node next.now.nodes next.now.lists pairs) }
+        ArePairsOf problem.now value budget stage node next.now pairs) }
 {
     let mut pairs = latest_pairs(alloc, problem, value, budget, stage, node, next)?;
     pairs.reverse();
@@ -192,7 +191,7 @@ pub(crate) fn complete(
     requires nodes { (j : ℕ) → j < length nodes.now → HasRank problem.now (node_at nodes.now j) }
     requires next { IsNextIn problem.now stage next.now }
     ensures { IfOk result (λ lists. AreListsOf problem.now value budget stage nodes.now
-        next.now.nodes next.now.lists lists.items) }
+        next.now lists.items) }
 {
     let mut lists = Vec::with_capacity(alloc, nodes.len())?;
     for node in nodes {

@@ -3,9 +3,8 @@
 ghost use Rattle.std.specs.Prelude.{◌≡◌, ◌<◌, ◌≤◌, length};
 ghost use Rattle.cps_theory.specs.Labels.{InPairs, Pair};
 ghost use Rattle.cps_network.specs.Pairs.{list_at};
-ghost use Rattle.first_best.specs.Completing.{Rises};
+ghost use Rattle.first_best.specs.Completing.{no_stage, Rises};
 ghost use Rattle.first_best.specs.Nodes.{node_at};
-ghost use Rattle.first_best.specs.Stages.{no_stage};
 
 use crate::node::EarlyNode;
 use crate::pairs::PairList;
@@ -21,9 +20,9 @@ pub(crate) struct StageAhead {
 }
 
 impl Model for StageAhead {
-    ghost use Rattle.first_best.specs.Stages as stages;
+    ghost use Rattle.first_best.specs.Completing as completing;
 
-    ghost Value = { stages.StageAhead };
+    ghost Value = { completing.StageAhead };
 
     ghost view = { λ s. record {
       nodes = s.nodes.items;

@@ -71,7 +71,7 @@ pub(crate) fn least_cost(
     requires ways { AreWaysOf node next.now.nodes ways.now }
     requires second { second ≤ last_second }
     ensures least { IsLeastOf
-        (IsEnd problem.now stage node next.now.nodes next.now.lists second) result }
+        (IsEnd problem.now stage node next.now second) result }
     ensures small { IfSome result (λ c. c ≤ 17279900 * (length problem.now.flights - stage)) }
 {
     if stage == problem.len() {
