@@ -16,9 +16,9 @@ use Rattle.replan.specs.Readers.{AreStagesOf, lists_in, stage_in, window_in}
 use Rattle.first_best.specs.declared.node.EarlyNode.{EarlyNode}
 use Rattle.first_best.specs.Nodes.{node_at, AreNodesOf, IsLandedPrefix}
 use Rattle.first_best.specs.Gathered.{IsGathered, place_at}
-use Rattle.first_best.specs.Stages.{no_stage, pairs_of, stage_of, AreCompleted, HasEachList, IsAheadBy, IsAheadOf, IsAheadWithin, ListsAllCompleting, ListsAllOfUse, StageAhead}
+use Rattle.first_best.specs.Stages.{pairs_of, stage_of, AreCompleted, HasEachList, IsAheadBy, IsAheadOf, IsAheadWithin, ListsAllCompleting, ListsAllOfUse}
 use Rattle.first_best.specs.Uses.{IsWanted, KeepsWanted}
-use Rattle.first_best.specs.Completing.{Rises}
+use Rattle.first_best.specs.Completing.{no_stage, Rises, StageAhead}
 use Rattle.first_best.proofs.GatherLemmas.{gathered_nodes, window_prefix}
 use Rattle.first_best.proofs.PairLemmas.{rises_undominated}
 use Rattle.first_best.proofs.UseLemmas.{all_useful}

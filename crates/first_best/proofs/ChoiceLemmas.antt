@@ -29,9 +29,9 @@ use Rattle.cps_network.specs.Pairs.{list_at}
 use Rattle.replan.specs.Held.{HeldProblem}
 use Rattle.first_best.specs.declared.node.EarlyNode.{EarlyNode}
 use Rattle.first_best.specs.Nodes.{node_at, IsPrefixOf, IsReached, LeadsTo}
-use Rattle.first_best.specs.Completing.{IsCostFrom, IsLeastOf}
+use Rattle.first_best.specs.Completing.{IsCostFrom, IsLeastOf, StageAhead}
 use Rattle.first_best.specs.Choices.{lesser_choice, FindsAffordable, FindsWay, IsAffordable, IsChoice, IsLeastChoice}
-use Rattle.first_best.specs.Stages.{stage_of, AreCompleted, IsAheadWithin, StageAhead}
+use Rattle.first_best.specs.Stages.{stage_of, AreCompleted, IsAheadWithin}
 use Rattle.first_best.specs.Uses.{IsOfUse}
 use Rattle.first_best.proofs.CompletingLemmas.{sound_of}
 use Rattle.first_best.proofs.NodeLemmas.{leads_on, on_leads}

@@ -16,9 +16,9 @@ use Rattle.cps_problem.specs.WellFormed.{IsWellFormed}
 use Rattle.cps_network.specs.Pairs.{list_at}
 use Rattle.first_best.specs.declared.node.EarlyNode.{EarlyNode}
 use Rattle.first_best.specs.Nodes.{node_at, AreNodesOf, IsPrefixOf, IsReached}
-use Rattle.first_best.specs.Completing.{AreInReach, ArePairsOf, AreListsOf, HasRoom, IsEnd, IsPairOf, Rises}
+use Rattle.first_best.specs.Completing.{AreInReach, AreListsOf, ArePairsOf, HasRoom, IsEnd, IsPairOf, Rises, StageAhead}
 use Rattle.first_best.specs.Uses.{IsWanted, KeepsWanted}
-use Rattle.first_best.specs.Stages.{AreCompleted, IsBehind, StageAhead}
+use Rattle.first_best.specs.Stages.{AreCompleted, IsBehind}
 use Rattle.first_best.specs.Ranges.{IsNextIn}
 use Rattle.first_best.proofs.NodeLemmas.{by_lands, lands_by, leads_on, node_one, on_leads, rank_of}
 use Rattle.first_best.proofs.UseLemmas.{all_kept, wanted_next, wanted_room}
@@ -43,7 +43,7 @@ listed_wanted p v budget stage nodes lists c rs b legal long can =
       covers = λ q h w. (let a = (c.kept e.0 rs e.1 legal long of).covers q h w in (a.0, record { place = e.0; within = e.1; of_node = of; listed = a.1 }, a.2));
     }
 
-module _ (p : Problem) (wf : IsWellFormed p) (v : ℕ) (budget : Option ℕ) (stage : ℕ) (these : List EarlyNode) (are : AreNodesOf p stage these) (j : ℕ) (lt : j < length these) (rs : List ℕ) (legal : IsLegal p rs) (long : length rs ≡ stage) (of : IsPrefixOf rs (node_at these j)) (nodes : List EarlyNode) (lists : List (List Pair)) (pairs : List Pair) (made : ArePairsOf p v budget stage (node_at these j) nodes lists pairs) where
+module _ (p : Problem) (wf : IsWellFormed p) (v : ℕ) (budget : Option ℕ) (stage : ℕ) (these : List EarlyNode) (are : AreNodesOf p stage these) (j : ℕ) (lt : j < length these) (rs : List ℕ) (legal : IsLegal p rs) (long : length rs ≡ stage) (of : IsPrefixOf rs (node_at these j)) (next : StageAhead) (pairs : List Pair) (made : ArePairsOf p v budget stage (node_at these j) next pairs) where
   opened_last : (b : ℕ) → (ranked p).is_open (node_at these j).last b ≡ true → (ranked p).is_open (last_rank rs) b ≡ true
   opened_last b o = subst (λ (r : ℕ). (ranked p).is_open r b ≡ true) (sym of.last) o
 
@@ -70,42 +70,42 @@ module _ (p : Problem) (wf : IsWellFormed p) (v : ℕ) (budget : Option ℕ) (st
       each : KeptCompleting (IsCompletingPair p v rs) (IsLastPair p v rs)
       each = last_pairs p (sound_of p wf) v rs legal (IsLastPair p v rs) (long ∙ whole) (record { are = λ q l. l; cover = λ q l. (q, l, (le_refl q.0, le_refl q.1)) })
 
-      free : (b c : ℕ) → IsEnd p stage (node_at these j) nodes lists b c → c ≡ 0
+      free : (b c : ℕ) → IsEnd p stage (node_at these j) next b c → c ≡ 0
       free b c (inl e) = e.1
       free b c (inr e) = absurd (let a = e.0 in omega (arith, a, whole))
 
-  module _ (short : stage < length p.flights) (next : AreCompleted p v budget (stage + 1) nodes lists) where
+  module _ (short : stage < length p.flights) (completed : AreCompleted p v budget (stage + 1) next.nodes next.lists) where
     one_more : (r : ℕ) → length (r ∷ rs) ≡ stage + 1
     one_more r = omega (arith, long)
 
-    reached_next : (m : ℕ) → m < length nodes → IsReached p (suc (length rs)) (node_at nodes m)
-    reached_next m l = subst (λ (s : ℕ). IsReached p s (node_at nodes m)) (let e : stage + 1 ≡ suc (length rs) = omega (arith, long) in e) (next.are_nodes.reached m l)
+    reached_next : (m : ℕ) → m < length next.nodes → IsReached p (suc (length rs)) (node_at next.nodes m)
+    reached_next m l = subst (λ (s : ℕ). IsReached p s (node_at next.nodes m)) (let e : stage + 1 ≡ suc (length rs) = omega (arith, long) in e) (completed.are_nodes.reached m l)
 
-    of_pair : (q : Pair) → IsPairOf p v stage (node_at these j) nodes lists q → IsSuccessorPair p v (IsCompletingPair p v) rs q
+    of_pair : (q : Pair) → IsPairOf p v stage (node_at these j) next q → IsSuccessorPair p v (IsCompletingPair p v) rs q
     of_pair q h = go h.end
       where
-        go : IsEnd p stage (node_at these j) nodes lists q.0 q.1 → IsSuccessorPair p v (IsCompletingPair p v) rs q
+        go : IsEnd p stage (node_at these j) next q.0 q.1 → IsSuccessorPair p v (IsCompletingPair p v) rs q
         go (inl e) = absurd (let a = e.0 in omega (arith, a, short))
         go (inr (_, w)) =
-            let on = leads_on p rs legal (node_at these j) (node_at nodes w.place) of w.leads (reached_next w.place w.within) in
+            let on = leads_on p rs legal (node_at these j) (node_at next.nodes w.place) of w.leads (reached_next w.place w.within) in
             record {
               opened = opened_last q.0 h.opened;
               reached = lands_by p stage these are j lt rs long of q.0 h.reached;
               low = h.low;
-              rank = (node_at nodes w.place).last;
+              rank = (node_at next.nodes w.place).last;
               second = w.way.lands_at;
               pair = w.way.pair;
               legal = on.0;
-              lands = ap (λ (r : ℕ). landing_after p r q.0 (node_at nodes w.place).last) of.last ∙ w.way.lands;
-              kept = (next.kept w.place ((node_at nodes w.place).last ∷ rs) w.within on.0 (one_more (node_at nodes w.place).last) on.1).completes w.way.pair w.way.listed;
+              lands = ap (λ (r : ℕ). landing_after p r q.0 (node_at next.nodes w.place).last) of.last ∙ w.way.lands;
+              kept = (completed.kept w.place ((node_at next.nodes w.place).last ∷ rs) w.within on.0 (one_more (node_at next.nodes w.place).last) on.1).completes w.way.pair w.way.listed;
               in_time = w.way.in_time;
               cost_is = w.way.cost_is;
             }
 
-    to_pair : (q : Pair) → IsSuccessorPair p v (IsListed nodes lists) rs q → IsPairOf p v stage (node_at these j) nodes lists q
+    to_pair : (q : Pair) → IsSuccessorPair p v (IsListed next.nodes next.lists) rs q → IsPairOf p v stage (node_at these j) next q
     to_pair q s =
         let k = s.kept in
-        let same : s.rank ≡ (node_at nodes k.place).last = k.of_node.last in
+        let same : s.rank ≡ (node_at next.nodes k.place).last = k.of_node.last in
         record {
           opened = last_opened q.0 s.opened;
           reached = by_lands p stage these are j lt rs long of q.0 s.reached;
@@ -115,7 +115,7 @@ module _ (p : Problem) (wf : IsWellFormed p) (v : ℕ) (budget : Option ℕ) (st
             record {
               place = k.place;
               within = k.within;
-              leads = on_leads p rs s.rank (node_at these j) (node_at nodes k.place) s.legal of k.of_node;
+              leads = on_leads p rs s.rank (node_at these j) (node_at next.nodes k.place) s.legal of k.of_node;
               way = record {
                 lands_at = s.second;
                 lands = ap (λ (r : ℕ). landing_after p (node_at these j).last q.0 r) (sym same) ∙ ap (λ (r : ℕ). landing_after p r q.0 s.rank) (sym of.last) ∙ s.lands;
@@ -136,7 +136,7 @@ module _ (p : Problem) (wf : IsWellFormed p) (v : ℕ) (budget : Option ℕ) (st
           let a = each.covers q c in
           let s = a.1 in
           let wanted = wanted_next p (sound_of p wf) rs s.rank s.legal budget q a.0 s.pair s.second legal s.lands s.in_time s.cost_is a.2 w in
-          let o = (listed_wanted p v budget (stage + 1) nodes lists next (s.rank ∷ rs) s.pair.0 s.legal (one_more s.rank) s.kept.reached).covers s.pair s.kept wanted in
+          let o = (listed_wanted p v budget (stage + 1) next.nodes next.lists completed (s.rank ∷ rs) s.pair.0 s.legal (one_more s.rank) s.kept.reached).covers s.pair s.kept wanted in
           let same = s.cost_is in
           let cheap = o.2.1 in
           let found : Pair = (a.0.0, cost_at p s.rank s.second + o.0.1) in
@@ -153,7 +153,7 @@ module _ (p : Problem) (wf : IsWellFormed p) (v : ℕ) (budget : Option ℕ) (st
             (record { are = λ q s. s; cover = λ q s. (q, s, (le_refl q.0, le_refl q.1)) })
 
 -- the lists that are made of those of the next stage complete the nodes of a stage
-pub lists_complete : (p : Problem) → IsWellFormed p → (v : ℕ) (budget : Option ℕ) (stage : ℕ) (these : List EarlyNode) (made : List (List Pair)) (next : StageAhead) → AreNodesOf p stage these → IsBehind p v budget stage next → AreListsOf p v budget stage these next.nodes next.lists made → AreCompleted p v budget stage these made
+pub lists_complete : (p : Problem) → IsWellFormed p → (v : ℕ) (budget : Option ℕ) (stage : ℕ) (these : List EarlyNode) (made : List (List Pair)) (next : StageAhead) → AreNodesOf p stage these → IsBehind p v budget stage next → AreListsOf p v budget stage these next made → AreCompleted p v budget stage these made
 lists_complete p wf v budget stage these made next are behind lists = record {
   are_nodes = are;
   one_each = lists.one_each;
@@ -163,8 +163,8 @@ lists_complete p wf v budget stage these made next are behind lists = record {
 }
   where
     kept : (j : ℕ) (rs : List ℕ) → j < length these → IsLegal p rs → length rs ≡ stage → IsPrefixOf rs (node_at these j) → IsBehind p v budget stage next → KeepsWanted (IsCompletingPair p v rs) (IsWanted p budget rs) (λ q. InPairs q (list_at made j))
-    kept j rs lt legal long of (inl last) = last_complete p wf v budget stage these are j lt rs legal long of next.nodes next.lists (list_at made j) (lists.pairs j lt) last.0
-    kept j rs lt legal long of (inr more) = before_complete p wf v budget stage these are j lt rs legal long of next.nodes next.lists (list_at made j) (lists.pairs j lt) more.0 more.1
+    kept j rs lt legal long of (inl last) = last_complete p wf v budget stage these are j lt rs legal long of next (list_at made j) (lists.pairs j lt) last.0
+    kept j rs lt legal long of (inr more) = before_complete p wf v budget stage these are j lt rs legal long of next (list_at made j) (lists.pairs j lt) more.0 more.1
 
     rising : (j : ℕ) → Rises (list_at made j)
     rising j = elim (cases_lt j (length these)) [ inl lt ↦ (lists.pairs j lt).rising | inr ge ↦ subst Rises (sym (get_or_past made j [] (let e = lists.one_each in omega (arith, ge, e)))) tt ]

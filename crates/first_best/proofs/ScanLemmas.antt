@@ -7,20 +7,20 @@ use Rattle.cps_theory.specs.Labels.{InPairs, Pair}
 use Rattle.cps_theory.specs.CompletingPairs.{NoEarlierNoDearer}
 use Rattle.cps_network.specs.shared.PairLists.{in_append, in_left, in_right}
 use Rattle.first_best.specs.declared.node.EarlyNode.{EarlyNode}
-use Rattle.first_best.specs.Completing.{AreFalling, ArePairsOf, HasRoom, IsLeastOf, IsPairOf}
+use Rattle.first_best.specs.Completing.{AreFalling, ArePairsOf, HasRoom, IsLeastOf, IsPairOf, StageAhead}
 use Rattle.first_best.proofs.PairLemmas.{falls_more, falls_rises, in_reversed, reversed_in}
 use Rattle.first_best.proofs.UseLemmas.{room_below}
 
-module _ (p : Problem) (v : ℕ) (budget : Option ℕ) (stage : ℕ) (node : EarlyNode) (nodes : List EarlyNode) (lists : List (List Pair)) (limit : ℕ) (limits : (cost : ℕ) → cost < 4294967296 → HasRoom budget node.cheapest cost → cost < limit) where
+module _ (p : Problem) (v : ℕ) (budget : Option ℕ) (stage : ℕ) (node : EarlyNode) (next : StageAhead) (limit : ℕ) (limits : (cost : ℕ) → cost < 4294967296 → HasRoom budget node.cheapest cost → cost < limit) where
   abbrev pub Is : Pair → Type 0
-  Is q = IsPairOf p v stage node nodes lists q
+  Is q = IsPairOf p v stage node next q
 
   abbrev pub Room : Pair → Type 0
   Room q = HasRoom budget node.cheapest q.1
 
   -- the pairs from a second on for which there is room are found, and the least cost of them, or the limit with none, is this
   pub record Scanned (from least : ℕ) (pairs : List Pair) : Type 0 where
-    pub found : AreFalling p v budget stage node nodes lists from pairs
+    pub found : AreFalling p v budget stage node next from pairs
     pub least_of : (q : Pair) → InPairs q pairs → least ≤ q.1
     pub dear : (c : ℕ) → least ≤ c → c < limit → (o : Pair) × InPairs o pairs × (o.1 ≤ c)
 
@@ -97,7 +97,7 @@ module _ (p : Problem) (v : ℕ) (budget : Option ℕ) (stage : ℕ) (node : Ear
         }
 
   -- where nothing is cheaper, or no second is left, all are found
-  pub scanned_free : (from least : ℕ) (pairs : List Pair) → least ≡ 0 → Scanned from least pairs → AreFalling p v budget stage node nodes lists node.earliest pairs
+  pub scanned_free : (from least : ℕ) (pairs : List Pair) → least ≡ 0 → Scanned from least pairs → AreFalling p v budget stage node next node.earliest pairs
   scanned_free from least pairs free s = record {
     are = λ q i. (let a = s.found.are q i in (a.0, a.0.reached));
     cover = λ q h le r.
@@ -114,7 +114,7 @@ module _ (p : Problem) (v : ℕ) (budget : Option ℕ) (stage : ℕ) (node : Ear
       later : (a b : ℕ) → (a ≤ b) ⊎ (b ≤ a)
       later a b = elim (cases_eq (a - b) 0) [ inl e ↦ inl (omega (arith, e)) | inr ne ↦ inr (omega (arith, ne)) ]
 
-  pub scanned_all : (from least : ℕ) (pairs : List Pair) → from ≤ node.earliest → Scanned from least pairs → AreFalling p v budget stage node nodes lists node.earliest pairs
+  pub scanned_all : (from least : ℕ) (pairs : List Pair) → from ≤ node.earliest → Scanned from least pairs → AreFalling p v budget stage node next node.earliest pairs
   scanned_all from least pairs le s = record {
     are = λ q i. (let a = s.found.are q i in (a.0, a.0.reached));
     cover = λ q h l r. s.found.cover q h (omega (arith, le, l)) r;
@@ -123,8 +123,8 @@ module _ (p : Problem) (v : ℕ) (budget : Option ℕ) (stage : ℕ) (node : Ear
   }
 
 -- the other way round
-pub turned : (p : Problem) (v : ℕ) (budget : Option ℕ) (stage : ℕ) (node : EarlyNode) (nodes : List EarlyNode) (lists : List (List Pair)) (pairs : List Pair) → AreFalling p v budget stage node nodes lists node.earliest pairs → ArePairsOf p v budget stage node nodes lists (reverse pairs)
-turned p v budget stage node nodes lists pairs f = record {
+pub turned : (p : Problem) (v : ℕ) (budget : Option ℕ) (stage : ℕ) (node : EarlyNode) (next : StageAhead) (pairs : List Pair) → AreFalling p v budget stage node next node.earliest pairs → ArePairsOf p v budget stage node next (reverse pairs)
+turned p v budget stage node next pairs f = record {
   are = λ q i. (f.are q (in_reversed pairs q i)).0;
   cover = λ q h r. (let a = f.cover q h h.reached r in (a.0, reversed_in pairs a.0 a.1, a.2));
   rising = falls_rises pairs f.falling;

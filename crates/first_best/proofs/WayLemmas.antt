@@ -14,7 +14,7 @@ use Rattle.landing_joint.specs.shared.FirstOpen.{is_first_open}
 use Rattle.cps_network.specs.Pairs.{list_at}
 use Rattle.first_best.specs.declared.node.EarlyNode.{EarlyNode}
 use Rattle.first_best.specs.Nodes.{node_at, LeadsTo}
-use Rattle.first_best.specs.Completing.{AreWaysOf, IsCostFrom, IsEnd, IsLeastOf, IsPairOf, IsWayTo}
+use Rattle.first_best.specs.Completing.{AreWaysOf, IsCostFrom, IsEnd, IsLeastOf, IsPairOf, IsWayTo, StageAhead}
 use Rattle.first_best.proofs.PairLemmas.{least_from, least_same}
 
 -- ---- the places of the nodes that a node leads to
@@ -108,26 +108,26 @@ module _ (p : Problem) (node after : EarlyNode) (pairs : List Pair) (second : �
 
 -- ---- the least cost
 
-module _ (p : Problem) (stage : ℕ) (node : EarlyNode) (nodes : List EarlyNode) (lists : List (List Pair)) (ways : List ℕ) (second : ℕ) where
+module _ (p : Problem) (stage : ℕ) (node : EarlyNode) (next : StageAhead) (ways : List ℕ) (second : ℕ) where
   abbrev pub IsWayAt : ℕ → ℕ → Type 0
-  IsWayAt i c = IsWayTo p node (node_at nodes (slice_index_or ways i 0)) (list_at lists (slice_index_or ways i 0)) second c
+  IsWayAt i c = IsWayTo p node (node_at next.nodes (slice_index_or ways i 0)) (list_at next.lists (slice_index_or ways i 0)) second c
 
-  pub ways_end : AreWaysOf node nodes ways → stage < length p.flights → (least : Option ℕ) → IsLeastOf (λ c. (i : ℕ) × (i < length ways) × IsWayAt i c) least → IsLeastOf (IsEnd p stage node nodes lists second) least
-  ways_end are short least l = least_same (λ c. (i : ℕ) × (i < length ways) × IsWayAt i c) (IsEnd p stage node nodes lists second) least (λ c. (to c, from c)) l
+  pub ways_end : AreWaysOf node next.nodes ways → stage < length p.flights → (least : Option ℕ) → IsLeastOf (λ c. (i : ℕ) × (i < length ways) × IsWayAt i c) least → IsLeastOf (IsEnd p stage node next second) least
+  ways_end are short least l = least_same (λ c. (i : ℕ) × (i < length ways) × IsWayAt i c) (IsEnd p stage node next second) least (λ c. (to c, from c)) l
     where
-      to : (c : ℕ) → (i : ℕ) × (i < length ways) × IsWayAt i c → IsEnd p stage node nodes lists second c
+      to : (c : ℕ) → (i : ℕ) × (i < length ways) × IsWayAt i c → IsEnd p stage node next second c
       to c (i, lt, w) = inr (short, record { place = slice_index_or ways i 0; within = are.within i lt; leads = are.lead i lt; way = w })
 
-      from : (c : ℕ) → IsEnd p stage node nodes lists second c → (i : ℕ) × (i < length ways) × IsWayAt i c
+      from : (c : ℕ) → IsEnd p stage node next second c → (i : ℕ) × (i < length ways) × IsWayAt i c
       from c (inl h) = absurd (let e = h.0 in omega (arith, e, short))
       from c (inr h) =
           let w = h.1 in
           let a = are.every w.place w.within w.leads in
-          (a.0, a.1, subst (λ (n : ℕ). IsWayTo p node (node_at nodes n) (list_at lists n) second c) (sym a.2) w.way)
+          (a.0, a.1, subst (λ (n : ℕ). IsWayTo p node (node_at next.nodes n) (list_at next.lists n) second c) (sym a.2) w.way)
 
 -- a pair of the node at an open second that the value allows
-pub end_pair : (p : Problem) (v stage : ℕ) (node : EarlyNode) (nodes : List EarlyNode) (lists : List (List Pair)) (second : ℕ) → (ranked p).is_open node.last second ≡ true → node.earliest ≤ second → is_low p v second ≡ true → (least : Option ℕ) → IsLeastOf (IsEnd p stage node nodes lists second) least → IsLeastOf (λ c. IsPairOf p v stage node nodes lists (second, c)) least
-end_pair p v stage node nodes lists second o r l least h = least_same (IsEnd p stage node nodes lists second) (λ c. IsPairOf p v stage node nodes lists (second, c)) least (λ c. (λ e. record { opened = o; reached = r; low = l; end = e }, λ q. q.end)) h
+pub end_pair : (p : Problem) (v stage : ℕ) (node : EarlyNode) (next : StageAhead) (second : ℕ) → (ranked p).is_open node.last second ≡ true → node.earliest ≤ second → is_low p v second ≡ true → (least : Option ℕ) → IsLeastOf (IsEnd p stage node next second) least → IsLeastOf (λ c. IsPairOf p v stage node next (second, c)) least
+end_pair p v stage node next second o r l least h = least_same (IsEnd p stage node next second) (λ c. IsPairOf p v stage node next (second, c)) least (λ c. (λ e. record { opened = o; reached = r; low = l; end = e }, λ q. q.end)) h
 
 -- ---- how late a pair is
 
@@ -143,17 +143,17 @@ way_late p node after pairs second cost most one w late =
     let d = late w.pair w.listed in
     omega (arith, a, b, c, d)
 
-pub pairs_late : (p : Problem) (v stage : ℕ) (node : EarlyNode) (nodes : List EarlyNode) (lists : List (List Pair)) (ways : List ℕ) (most : ℕ) → 1 ≤ node.last → stage < length p.flights → AreWaysOf node nodes ways
-    → ((i : ℕ) → i < length ways → (q : Pair) → InPairs q (list_at lists (slice_index_or ways i 0)) → q.0 ≤ most) → (q : Pair) → IsPairOf p v stage node nodes lists q → q.0 ≤ most
-pairs_late p v stage node nodes lists ways most one short are late q h = go h.end
+pub pairs_late : (p : Problem) (v stage : ℕ) (node : EarlyNode) (next : StageAhead) (ways : List ℕ) (most : ℕ) → 1 ≤ node.last → stage < length p.flights → AreWaysOf node next.nodes ways
+    → ((i : ℕ) → i < length ways → (q : Pair) → InPairs q (list_at next.lists (slice_index_or ways i 0)) → q.0 ≤ most) → (q : Pair) → IsPairOf p v stage node next q → q.0 ≤ most
+pairs_late p v stage node next ways most one short are late q h = go h.end
   where
-    go : IsEnd p stage node nodes lists q.0 q.1 → q.0 ≤ most
+    go : IsEnd p stage node next q.0 q.1 → q.0 ≤ most
     go (inl e) = absurd (let a = e.0 in omega (arith, a, short))
     go (inr e) =
         let w = e.1 in
         let a = are.every w.place w.within w.leads in
-        way_late p node (node_at nodes w.place) (list_at lists w.place) q.0 q.1 most one w.way (subst (λ (n : ℕ). (o : Pair) → InPairs o (list_at lists n) → o.0 ≤ most) a.2 (late a.0 a.1))
+        way_late p node (node_at next.nodes w.place) (list_at next.lists w.place) q.0 q.1 most one w.way (subst (λ (n : ℕ). (o : Pair) → InPairs o (list_at next.lists n) → o.0 ≤ most) a.2 (late a.0 a.1))
 
 -- and none elsewhere
-pub not_allowed : (p : Problem) (v stage : ℕ) (node : EarlyNode) (nodes : List EarlyNode) (lists : List (List Pair)) (second : ℕ) → (is_low p v second && (ranked p).is_open node.last second) ≡ false → IsLeastOf (λ c. IsPairOf p v stage node nodes lists (second, c)) None
-not_allowed p v stage node nodes lists second e c q = false≢true (sym e ∙ and_from (is_low p v second) ((ranked p).is_open node.last second) q.low q.opened)
+pub not_allowed : (p : Problem) (v stage : ℕ) (node : EarlyNode) (next : StageAhead) (second : ℕ) → (is_low p v second && (ranked p).is_open node.last second) ≡ false → IsLeastOf (λ c. IsPairOf p v stage node next (second, c)) None
+not_allowed p v stage node next second e c q = false≢true (sym e ∙ and_from (is_low p v second) ((ranked p).is_open node.last second) q.low q.opened)

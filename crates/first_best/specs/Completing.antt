@@ -10,6 +10,15 @@ use Rattle.cps_network.specs.Pairs.{list_at}
 use Rattle.first_best.specs.declared.node.EarlyNode.{EarlyNode}
 use Rattle.first_best.specs.Nodes.{node_at, LeadsTo}
 
+-- the nodes of a stage, the pairs that complete each, and the place of the node of each window
+pub record StageAhead : Type 0 where
+  pub nodes : List EarlyNode
+  pub lists : List (List Pair)
+  pub places : List ℕ
+
+abbrev pub no_stage : StageAhead
+no_stage = record { nodes = []; lists = []; places = [] }
+
 -- the least number of these, or none where there is none
 abbrev pub IsLeastOf : (ℕ → Type 0) → Option ℕ → Type 0
 IsLeastOf P found = MatchOption found ((c : ℕ) → P c → ⊥) (λ c. P c × ((d : ℕ) → P d → c ≤ d))
@@ -44,12 +53,12 @@ pub record IsWayTo (p : Problem) (node after : EarlyNode) (pairs : List Pair) (s
   pub in_time : lands_at ≤ pair.0
   pub cost_is : cost_at p after.last lands_at + pair.1 ≡ cost
 
--- such a way leads to one of these nodes
-pub record IsWay (p : Problem) (node : EarlyNode) (nodes : List EarlyNode) (lists : List (List Pair)) (second cost : ℕ) : Type 0 where
+-- such a way leads to a node of the next stage
+pub record IsWay (p : Problem) (node : EarlyNode) (next : StageAhead) (second cost : ℕ) : Type 0 where
   pub place : ℕ
-  pub within : place < length nodes
-  pub leads : LeadsTo node (node_at nodes place)
-  pub way : IsWayTo p node (node_at nodes place) (list_at lists place) second cost
+  pub within : place < length next.nodes
+  pub leads : LeadsTo node (node_at next.nodes place)
+  pub way : IsWayTo p node (node_at next.nodes place) (list_at next.lists place) second cost
 
 -- the places of the nodes to which a node leads
 pub record AreWaysOf (node : EarlyNode) (nodes : List EarlyNode) (ways : List ℕ) : Type 0 where
@@ -58,16 +67,16 @@ pub record AreWaysOf (node : EarlyNode) (nodes : List EarlyNode) (ways : List �
   pub every : (j : ℕ) → j < length nodes → LeadsTo node (node_at nodes j) → (i : ℕ) × (i < length ways) × (slice_index_or ways i 0 ≡ j)
 
 -- what is left behind a node whose last flight lands at a second costs this: nothing at the last stage
-abbrev pub IsEnd : Problem → ℕ → EarlyNode → List EarlyNode → List (List Pair) → ℕ → ℕ → Type 0
-IsEnd p stage node nodes lists second cost =
-    ((stage ≡ length p.flights) × (cost ≡ 0)) ⊎ ((stage < length p.flights) × IsWay p node nodes lists second cost)
+abbrev pub IsEnd : Problem → ℕ → EarlyNode → StageAhead → ℕ → ℕ → Type 0
+IsEnd p stage node next second cost =
+    ((stage ≡ length p.flights) × (cost ≡ 0)) ⊎ ((stage < length p.flights) × IsWay p node next second cost)
 
 -- a pair of a node: its last flight lands at an open second at or after the node's earliest, that the value allows
-pub record IsPairOf (p : Problem) (v stage : ℕ) (node : EarlyNode) (nodes : List EarlyNode) (lists : List (List Pair)) (q : Pair) : Type 0 where
+pub record IsPairOf (p : Problem) (v stage : ℕ) (node : EarlyNode) (next : StageAhead) (q : Pair) : Type 0 where
   pub opened : (ranked p).is_open node.last q.0 ≡ true
   pub reached : node.earliest ≤ q.0
   pub low : is_low p v q.0 ≡ true
-  pub end : IsEnd p stage node nodes lists q.0 q.1
+  pub end : IsEnd p stage node next q.0 q.1
 
 -- behind prefixes of which none costs less than this a budget has room for a cost; with no budget there is always room
 abbrev pub HasRoom : Option ℕ → ℕ → ℕ → Type 0
@@ -76,20 +85,20 @@ HasRoom (Some budget) cheapest cost = cheapest + cost ≤ budget
 
 -- pairs of a node that fall, and each of its pairs from a second on for which there is room has one of these at least as late and
 -- at most as dear
-pub record AreFalling (p : Problem) (v : ℕ) (budget : Option ℕ) (stage : ℕ) (node : EarlyNode) (nodes : List EarlyNode) (lists : List (List Pair)) (from : ℕ) (pairs : List Pair) : Type 0 where
-  pub are : (q : Pair) → InPairs q pairs → IsPairOf p v stage node nodes lists q × (from ≤ q.0)
-  pub cover : (q : Pair) → IsPairOf p v stage node nodes lists q → from ≤ q.0 → HasRoom budget node.cheapest q.1 → (o : Pair) × InPairs o pairs × NoEarlierNoDearer o q
+pub record AreFalling (p : Problem) (v : ℕ) (budget : Option ℕ) (stage : ℕ) (node : EarlyNode) (next : StageAhead) (from : ℕ) (pairs : List Pair) : Type 0 where
+  pub are : (q : Pair) → InPairs q pairs → IsPairOf p v stage node next q × (from ≤ q.0)
+  pub cover : (q : Pair) → IsPairOf p v stage node next q → from ≤ q.0 → HasRoom budget node.cheapest q.1 → (o : Pair) × InPairs o pairs × NoEarlierNoDearer o q
   pub falling : Falls pairs
   pub in_reach : AreInReach (length p.flights - stage) pairs
 
 -- pairs of a node that ascend, and each pair of it for which there is room has one of these at least as late and at most as dear
-pub record ArePairsOf (p : Problem) (v : ℕ) (budget : Option ℕ) (stage : ℕ) (node : EarlyNode) (nodes : List EarlyNode) (lists : List (List Pair)) (pairs : List Pair) : Type 0 where
-  pub are : (q : Pair) → InPairs q pairs → IsPairOf p v stage node nodes lists q
-  pub cover : (q : Pair) → IsPairOf p v stage node nodes lists q → HasRoom budget node.cheapest q.1 → (o : Pair) × InPairs o pairs × NoEarlierNoDearer o q
+pub record ArePairsOf (p : Problem) (v : ℕ) (budget : Option ℕ) (stage : ℕ) (node : EarlyNode) (next : StageAhead) (pairs : List Pair) : Type 0 where
+  pub are : (q : Pair) → InPairs q pairs → IsPairOf p v stage node next q
+  pub cover : (q : Pair) → IsPairOf p v stage node next q → HasRoom budget node.cheapest q.1 → (o : Pair) × InPairs o pairs × NoEarlierNoDearer o q
   pub rising : Rises pairs
   pub in_reach : AreInReach (length p.flights - stage) pairs
 
--- a list of pairs for each of the nodes of a stage, from those of the nodes of the next
-pub record AreListsOf (p : Problem) (v : ℕ) (budget : Option ℕ) (stage : ℕ) (these nodes : List EarlyNode) (lists made : List (List Pair)) : Type 0 where
-  pub one_each : length made ≡ length these
-  pub pairs : (j : ℕ) → j < length these → ArePairsOf p v budget stage (node_at these j) nodes lists (list_at made j)
+-- a list of pairs for each of these nodes of a stage, from those of the next stage
+pub record AreListsOf (p : Problem) (v : ℕ) (budget : Option ℕ) (stage : ℕ) (nodes : List EarlyNode) (next : StageAhead) (lists : List (List Pair)) : Type 0 where
+  pub one_each : length lists ≡ length nodes
+  pub pairs : (j : ℕ) → j < length nodes → ArePairsOf p v budget stage (node_at nodes j) next (list_at lists j)

@@ -5,8 +5,7 @@ use Rattle.landing_rules.specs.Rules.{last_second}
 use Rattle.cps_network.specs.Pairs.{list_at}
 use Rattle.first_best.specs.declared.node.EarlyNode.{EarlyNode}
 use Rattle.first_best.specs.Nodes.{node_at}
-use Rattle.first_best.specs.Completing.{AreInReach, Rises}
-use Rattle.first_best.specs.Stages.{StageAhead}
+use Rattle.first_best.specs.Completing.{AreInReach, Rises, StageAhead}
 
 -- the last of a node is a rank
 abbrev pub HasRank : Problem → EarlyNode → Type 0

@@ -13,17 +13,8 @@ use Rattle.replan.specs.Readers.{stage_in, window_in}
 use Rattle.first_best.specs.declared.node.EarlyNode.{EarlyNode}
 use Rattle.first_best.specs.Nodes.{node_at, AreNodesOf, IsLandedPrefix, IsPrefixOf}
 use Rattle.first_best.specs.Gathered.{IsGathered, place_at}
-use Rattle.first_best.specs.Completing.{AreInReach, Rises}
+use Rattle.first_best.specs.Completing.{no_stage, AreInReach, Rises, StageAhead}
 use Rattle.first_best.specs.Uses.{IsOfUse, IsWanted, KeepsWanted}
-
--- the nodes of a stage, the pairs that complete each, and the place of the node of each window
-pub record StageAhead : Type 0 where
-  pub nodes : List EarlyNode
-  pub lists : List (List Pair)
-  pub places : List ℕ
-
-abbrev pub no_stage : StageAhead
-no_stage = record { nodes = []; lists = []; places = [] }
 
 -- stages stand last stage first, behind an empty one
 abbrev pub stage_of : List StageAhead → ℕ → StageAhead

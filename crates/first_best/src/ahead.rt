@@ -10,13 +10,13 @@ use crate::budget::budget_of;
 use crate::complete::complete;
 use crate::gather::gather;
 use crate::laws::window_laws;
-use crate::stage::AheadStage;
+use crate::stage::StageAhead;
 use cps_problem::Problem;
 use replan::AnyKept;
 use std::alloc::{AllocError, Global};
 use std::marker::Model;
 
-// A stage, from the next.
+// A stage with the pairs that complete its nodes, from the next stage.
 fn stage_before(
     alloc: Global,
     problem: &Problem,
@@ -24,8 +24,8 @@ fn stage_before(
     value: u64,
     budget: Option<u64>,
     stage: u8,
-    next: &AheadStage,
-) -> Result<AheadStage, AllocError>
+    next: &StageAhead,
+) -> Result<StageAhead, AllocError>
     requires held { problem_held kept.now ≡ Some problem.now }
     requires stage { (1 ≤ stage) × (stage ≤ length problem.now.flights) }
     requires next { IsBehind problem.now value budget stage next.now }
@@ -38,36 +38,36 @@ fn stage_before(
     let found = gather(alloc, problem, kept, stage)?;
     let nodes = found.0.as_slice();
     let lists = complete(alloc, problem, value, budget, stage, nodes, next)?;
-    Ok(AheadStage {
+    Ok(StageAhead {
         nodes: found.0,
         lists,
         places: found.1,
     })
 }
 
-/// For each node of the held stages of a problem pairs that complete it: all undominated ones, or for each that is of use one at
-/// least as late and at most as dear. A pair is an open second of the node's last flight, at or after the earliest at which a
-/// legal prefix of the node can land it, and a cost: with that flight at this second the other flights can follow in some legal
-/// order, and for the delay cost this together; for the makespan the cost is 0, and no second is above the value. A pair is
-/// undominated where no other is at least as late and at most as dear.
+/// For each node of the held stages of a problem, pairs that complete it: all undominated ones, or for each that is of use one
+/// at least as late and at most as dear. A pair is an open second of the node's last flight, at or after the earliest at which
+/// a legal prefix of the node can land it, and a cost: with that flight at this second the other flights can follow in some
+/// legal order, and for the delay cost this together; for the makespan the cost is 0, and no second is above the value. A pair
+/// is undominated where no other is at least as late and at most as dear.
 ///
 /// The completing pairs are this project's own.
 #[derive(Drop)]
 pub struct Ahead {
-    // The last stage first, behind one without a node.
-    stages: Vec<AheadStage>,
+    // First a stage without a node, then the stages of the problem, the last one first.
+    stages: Vec<StageAhead>,
 }
 
 impl Model for Ahead {
     ghost use Rattle.std.specs.Prelude.{List};
-    ghost use Rattle.first_best.specs.Stages.{StageAhead};
+    ghost use Rattle.first_best.specs.Completing.{StageAhead};
 
     ghost Value = { List StageAhead };
 
     ghost view = { λ a. a.stages.items };
 }
 
-// The pairs of the held stages that are wanted: those of use within a budget, and all with none.
+// The pairs of the held stages that are wanted: those of use within the budget, or all where there is none.
 fn stages_ahead(
     alloc: Global,
     problem: &Problem,
@@ -80,7 +80,7 @@ fn stages_ahead(
 {
     let last = problem.len();
     let mut stages = Vec::with_capacity(alloc, usize::from(last) + 1)?;
-    stages.push(AheadStage::empty(alloc))?;
+    stages.push(StageAhead::empty(alloc))?;
     for done in 0..last {
         let next = &stages[usize::from(done)];
         let stage = stage_before(alloc, problem, kept, value, budget, last - done, next)?;
@@ -135,8 +135,8 @@ impl Ahead {
         stages_ahead(alloc, problem, kept, value, Some(budget))
     }
 
-    // A stage.
-    pub(crate) fn stage(&self, stage: u8) -> &AheadStage
+    // The stage of this number.
+    pub(crate) fn stage(&self, stage: u8) -> &StageAhead
         requires { (1 ≤ stage) × (stage < length self.now) }
         ensures { result.now ≡ stage_of self.now stage }
     {

@@ -18,14 +18,14 @@ use crate::budget::budget_of;
 use crate::laws::window_laws;
 use crate::node::{EarlyNode, leads_to};
 use crate::pairs::PairList;
-use crate::stage::AheadStage;
+use crate::stage::StageAhead;
 use cps_problem::{Problem, Schedule};
 use extract_plan::blank;
 use landing_rules::MOST_WAITING;
 use replan::AnyKept;
 use std::alloc::{AllocError, Global};
 
-// Where the last flight of a node lands behind a prefix, if the order can then be ended within the budget.
+// The second at which the last flight of a node lands behind a prefix, if the order can then be ended within the budget.
 fn affordable(
     problem: &Problem,
     budget: u64,
@@ -50,7 +50,7 @@ fn affordable(
     }
 }
 
-// A choice, or that of a rank found in its place where that is less.
+// The choice `least`, or that of `rank` at the second found, where there is one and the rank is less.
 fn lesser(least: (u8, u32), rank: u8, found: Option<u32>) -> (u8, u32)
     ensures { result ≡ lesser_choice least rank found }
 {
@@ -66,7 +66,7 @@ fn lesser(least: (u8, u32), rank: u8, found: Option<u32>) -> (u8, u32)
     }
 }
 
-// What is found by way of a node, where the prefix leads to it.
+// As `affordable`, where the prefix leads to the node; else none.
 fn found_by(
     problem: &Problem,
     budget: u64,
@@ -90,13 +90,13 @@ fn found_by(
     }
 }
 
-// A choice, or that by way of the node at place j in its place where that is less.
+// The lesser of the choice `least` and that by way of the node at place j, where there is one.
 fn with_node(
     problem: &Problem,
     budget: u64,
     before: EarlyNode,
     cost: u64,
-    stage: &AheadStage,
+    stage: &StageAhead,
     j: usize,
     least: (u8, u32),
 ) -> (u8, u32)
@@ -115,13 +115,13 @@ fn with_node(
     lesser(least, after.last, found)
 }
 
-// The least rank that can come next, where one can, and its second.
+// The least rank that can come next, and its second. Where none can the rank is 61, which is no flight's.
 fn least_choice(
     problem: &Problem,
     budget: u64,
     before: EarlyNode,
     cost: u64,
-    stage: &AheadStage,
+    stage: &StageAhead,
 ) -> (u8, u32)
     requires before { IsPlacedIn problem.now before }
     requires one_each { length stage.now.lists ≡ length stage.now.nodes }
@@ -139,7 +139,7 @@ fn least_choice(
     })
 }
 
-// The node behind another, by a rank that lands at a second.
+// The node to which another leads where this rank lands next, at this second.
 fn with_rank(before: EarlyNode, rank: u8, second: u32) -> EarlyNode
     requires { rank ≤ 60 }
     ensures placed { (x : ℕ) → HasBit result.placed x ↔ (HasBit before.placed x ⊎ (x ≡ rank)) }

@@ -12,7 +12,7 @@ ghost use Rattle.first_best.specs.Ranges.{HasRank, IsNextIn};
 use crate::budget::limit_of;
 use crate::node::EarlyNode;
 use crate::pairs::PairList;
-use crate::stage::AheadStage;
+use crate::stage::StageAhead;
 use crate::ways::{least_cost, ways_of};
 use cps_problem::{Objective, Problem};
 use landing_windows::LAST_SECOND;
@@ -53,13 +53,13 @@ fn opens_in_days(problem: &Problem, rank: u8)
     let _none = problem.first_open(rank, LAST_SECOND + 1);
 }
 
-// The cost of a node's pair at a second.
+// The least cost of a pair of a node at a second, where it has one.
 fn cost_of(
     problem: &Problem,
     value: u64,
     stage: u8,
     node: EarlyNode,
-    next: &AheadStage,
+    next: &StageAhead,
     ways: &[usize],
     second: u32,
 ) -> Option<u32>
@@ -69,7 +69,7 @@ fn cost_of(
     requires ways { AreWaysOf node next.now.nodes ways.now }
     requires second { (node.earliest ≤ second) × (second ≤ last_second) }
     ensures least { IsLeastOf (λ c.
-        IsPairOf problem.now value stage node next.now.nodes next.now.lists (second, c)) result }
+        IsPairOf problem.now value stage node next.now (second, c)) result }
     ensures small { IfSome result (λ c. c ≤ 17279900 * (length problem.now.flights - stage)) }
 {
     if is_allowed(problem, value, node.last, second) {
@@ -99,13 +99,13 @@ fn last_open(problem: &Problem, rank: u8) -> u32
 }
 
 // A second behind which no pair of a node is.
-fn latest(problem: &Problem, stage: u8, node: EarlyNode, next: &AheadStage, ways: &[usize]) -> u32
+fn latest(problem: &Problem, stage: u8, node: EarlyNode, next: &StageAhead, ways: &[usize]) -> u32
     requires stage { (1 ≤ stage) × (stage ≤ length problem.now.flights) }
     requires node { HasRank problem.now node }
     requires next { IsNextIn problem.now stage next.now }
     requires ways { AreWaysOf node next.now.nodes ways.now }
     ensures last { (v : ℕ) → (q : Pair)
-        → IsPairOf problem.now v stage node next.now.nodes next.now.lists q
+        → IsPairOf problem.now v stage node next.now q
         → q.0 ≤ result }
     ensures in_days { result ≤ last_second }
 {
@@ -127,14 +127,13 @@ fn latest_pairs(
     budget: Option<u64>,
     stage: u8,
     node: EarlyNode,
-    next: &AheadStage,
+    next: &StageAhead,
 ) -> Result<Vec<(u32, u32)>, AllocError>
     requires stage { (1 ≤ stage) × (stage ≤ length problem.now.flights) }
     requires node { HasRank problem.now node }
     requires next { IsNextIn problem.now stage next.now }
     ensures { IfOk result (λ pairs.
-        AreFalling problem.now value budget stage node next.now.nodes next.now.lists
-        node.earliest pairs.items) }
+        AreFalling problem.now value budget stage node next.now node.earliest pairs.items) }
 {
     let _few = problem.len();
     let ways = ways_of(alloc, node, next)?;
@@ -146,13 +145,10 @@ fn latest_pairs(
         if least == 0 {
             return Ok(pairs);
         }
-        match cost_of(problem, value, stage, node, next, ways, second) {
-            None => {}
-            Some(cost) => {
-                if u64::from(cost) < least {
-                    pairs.push((second, cost))?;
-                    least = u64::from(cost);
-                }
+        if let Some(cost) = cost_of(problem, value, stage, node, next, ways, second) {
+            if u64::from(cost) < least {
+                pairs.push((second, cost))?;
+                least = u64::from(cost);
             }
         }
     }
@@ -167,13 +163,13 @@ fn pairs_of(
     budget: Option<u64>,
     stage: u8,
     node: EarlyNode,
-    next: &AheadStage,
+    next: &StageAhead,
 ) -> Result<PairList, AllocError>
     requires stage { (1 ≤ stage) × (stage ≤ length problem.now.flights) }
     requires node { HasRank problem.now node }
     requires next { IsNextIn problem.now stage next.now }
     ensures { IfOk result (λ pairs.
-        ArePairsOf problem.now value budget stage node next.now.nodes next.now.lists pairs) }
+        ArePairsOf problem.now value budget stage node next.now pairs) }
 {
     let mut pairs = latest_pairs(alloc, problem, value, budget, stage, node, next)?;
     pairs.reverse();
@@ -189,13 +185,13 @@ pub(crate) fn complete(
     budget: Option<u64>,
     stage: u8,
     nodes: &[EarlyNode],
-    next: &AheadStage,
+    next: &StageAhead,
 ) -> Result<Vec<PairList>, AllocError>
     requires stage { (1 ≤ stage) × (stage ≤ length problem.now.flights) }
     requires nodes { (j : ℕ) → j < length nodes.now → HasRank problem.now (node_at nodes.now j) }
     requires next { IsNextIn problem.now stage next.now }
     ensures { IfOk result (λ lists. AreListsOf problem.now value budget stage nodes.now
-        next.now.nodes next.now.lists lists.items) }
+        next.now lists.items) }
 {
     let mut lists = Vec::with_capacity(alloc, nodes.len())?;
     for node in nodes {

@@ -19,7 +19,7 @@ fn is_same(other: EarlyNode, node: Node) -> bool
     other.placed == node.placed && other.last == node.last
 }
 
-// Where a node stands among others, and how many they are where it does not. It is looked for at one place first.
+// Where a node stands among others, and how many they are where it does not. The place `near` is tried first.
 fn place_of(nodes: &[EarlyNode], node: Node, near: usize) -> usize
     ensures within { result ≤ length nodes.now }
     ensures there { result < length nodes.now → IsSameNode (node_at nodes.now result) node }
@@ -33,7 +33,7 @@ fn place_of(nodes: &[EarlyNode], node: Node, near: usize) -> usize
     place.unwrap_or(nodes.len())
 }
 
-// Puts a node that can be landed at a second, and at a cost, to the others, and answers its place. It is looked for at one place
+// Puts a node that can be landed at a second, and at a cost, to the others, and answers its place. The place `near` is tried
 // first.
 fn add(
     nodes: &mut Vec<EarlyNode>,
@@ -66,7 +66,7 @@ fn add(
     Ok(place)
 }
 
-// What no pair of the window at place i of a stage costs less than: its last one's cost, and for the makespan nothing.
+// At most the cost of each pair of the window at place i of a stage: that of its last one, and 0 for the makespan.
 fn cheapest_in(problem: &Problem, kept: &AnyKept, stage: u8, i: usize) -> u32
     requires stage { IsReadable (held_of kept.now) stage }
     requires place { HasPlace (held_of kept.now) stage i }
@@ -100,7 +100,7 @@ pub(crate) fn gather(
         let cost = cheapest_in(problem, kept, stage, i);
         let place = add(&mut nodes, kept.node(stage, i), second, cost, near)?;
         places.push(place)?;
-        // Windows that stand behind one another are mostly of nodes that do.
+        // Windows next to each other are mostly of one node, or of nodes next to each other.
         near = place + 1;
     }
     Ok((nodes, places))

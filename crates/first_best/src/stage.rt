@@ -3,9 +3,8 @@
 ghost use Rattle.std.specs.Prelude.{◌≡◌, ◌<◌, ◌≤◌, length};
 ghost use Rattle.cps_theory.specs.Labels.{InPairs, Pair};
 ghost use Rattle.cps_network.specs.Pairs.{list_at};
-ghost use Rattle.first_best.specs.Completing.{Rises};
+ghost use Rattle.first_best.specs.Completing.{no_stage, Rises};
 ghost use Rattle.first_best.specs.Nodes.{node_at};
-ghost use Rattle.first_best.specs.Stages.{no_stage};
 
 use crate::node::EarlyNode;
 use crate::pairs::PairList;
@@ -14,16 +13,16 @@ use std::marker::Model;
 
 /// The nodes of a stage, the pairs that complete each, and the place of the node of each window.
 #[derive(Drop)]
-pub(crate) struct AheadStage {
+pub(crate) struct StageAhead {
     pub(crate) nodes: Vec<EarlyNode>,
     pub(crate) lists: Vec<PairList>,
     pub(crate) places: Vec<usize>,
 }
 
-impl Model for AheadStage {
-    ghost use Rattle.first_best.specs.Stages.{StageAhead};
+impl Model for StageAhead {
+    ghost use Rattle.first_best.specs.Completing as completing;
 
-    ghost Value = { StageAhead };
+    ghost Value = { completing.StageAhead };
 
     ghost view = { λ s. record {
       nodes = s.nodes.items;
@@ -32,12 +31,12 @@ impl Model for AheadStage {
     } };
 }
 
-impl AheadStage {
+impl StageAhead {
     // The stage without a node.
-    pub(crate) fn empty(alloc: Global) -> AheadStage
+    pub(crate) fn empty(alloc: Global) -> StageAhead
         ensures { result ≡ no_stage }
     {
-        AheadStage {
+        StageAhead {
             nodes: Vec::new(alloc),
             lists: Vec::new(alloc),
             places: Vec::new(alloc),

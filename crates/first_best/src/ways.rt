@@ -8,7 +8,7 @@ ghost use Rattle.first_best.specs.Completing.{AreWaysOf, IsEnd, IsLeastOf, IsWay
 ghost use Rattle.first_best.specs.Ranges.{HasRank, IsNextIn};
 
 use crate::node::{EarlyNode, leads_to};
-use crate::stage::AheadStage;
+use crate::stage::StageAhead;
 use cps_problem::Problem;
 use std::alloc::{AllocError, Global};
 
@@ -16,7 +16,7 @@ use std::alloc::{AllocError, Global};
 pub(crate) fn ways_of(
     alloc: Global,
     node: EarlyNode,
-    next: &AheadStage,
+    next: &StageAhead,
 ) -> Result<Vec<usize>, AllocError>
     requires { (j : ℕ) → j < length next.now.nodes → (node_at next.now.nodes j).last ≤ 60 }
     ensures { IfOk result (λ ways. AreWaysOf node next.now.nodes ways.items) }
@@ -36,7 +36,7 @@ fn cost_by(
     problem: &Problem,
     stage: u8,
     node: EarlyNode,
-    next: &AheadStage,
+    next: &StageAhead,
     way: usize,
     second: u32,
 ) -> Option<u32>
@@ -61,7 +61,7 @@ pub(crate) fn least_cost(
     problem: &Problem,
     stage: u8,
     node: EarlyNode,
-    next: &AheadStage,
+    next: &StageAhead,
     ways: &[usize],
     second: u32,
 ) -> Option<u32>
@@ -71,7 +71,7 @@ pub(crate) fn least_cost(
     requires ways { AreWaysOf node next.now.nodes ways.now }
     requires second { second ≤ last_second }
     ensures least { IsLeastOf
-        (IsEnd problem.now stage node next.now.nodes next.now.lists second) result }
+        (IsEnd problem.now stage node next.now second) result }
     ensures small { IfSome result (λ c. c ≤ 17279900 * (length problem.now.flights - stage)) }
 {
     if stage == problem.len() {

@@ -4,7 +4,7 @@ use Rattle.std.specs.Prelude.{ℤ, pos, Contains, IsTrue}
 use Rattle.std.proofs.lemmas.Bool.{cases_eq}
 use Rattle.std.proofs.lemmas.List.{get_or_append_left, get_or_push, get_or_default, get_or-take, length-take-le}
 use Rattle.std.proofs.lemmas.List.Elements.{Contains-get_or}
-use Rattle.cps_base.specs.Tally.{raised_by}
+use Rattle.cps_base.specs.Tally.{raised_by, FitsCount}
 use Rattle.cps_theory.specs.Separation.{Landing}
 use Rattle.cps_theory.specs.LandingTrail.{pair_of, ranks}
 use Rattle.cps_theory.specs.Labels.{InPairs, Pair}
@@ -113,6 +113,11 @@ pub has_candidates : (p : Problem) (before after : ℕ × List (List ℤ)) (m : 
 has_candidates p before after m e h each up = rw (← e) (record { candidates = after.1; ascending = up; each = each h; counted = refl })
 
 -- ---- steps
+
+-- no step more leaves a count as it is
+pub raised_by_none : (count : Option ℕ) → FitsCount count → count ≡ raised_by 0 count
+raised_by_none None fits = refl
+raised_by_none (Some n) fits = (let lt = fits n refl in ap Some (omega (arith, lt)))
 
 pub raised_more : (o : Option ℕ) (a b : ℕ) → raised_by b (raised_by a o) ≡ raised_by (a + b) o
 raised_more None a b = refl

@@ -114,8 +114,8 @@ impl Labels {
         }
     }
 
-    // The labels of the stage that follows, from those of this one, and of its windows only the landable ones. It ticks once
-    // a candidate.
+    // The labels of the next stage, from those of this one. Of its candidates `stage` keeps only the landable windows. It ticks
+    // once for each candidate.
     pub(crate) fn next<const W: usize, R: Threads, G: Gate, L: Ledger>(
         &self,
         rt: &R,
@@ -155,7 +155,7 @@ impl Labels {
         }
     }
 
-    // The same as `next` on the caller's thread, and it ticks nothing.
+    // As `next`, but on the caller's thread, and it ticks nothing.
     pub(crate) fn next_alone<const W: usize>(
         &self,
         alloc: Global,

@@ -34,13 +34,11 @@ fn least_of<const W: usize>(problem: &Problem, last: &LabelledStage<W>) -> Optio
     ensures { IsLeastValue problem.now result }
 {
     let _well_formed = problem.head();
-    match least_place(&last.labels) {
-        None => None,
-        Some(place) => Some(value_there(problem, &last.labels, place)),
-    }
+    let place = least_place(&last.labels)?;
+    Some(value_there(problem, &last.labels, place))
 }
 
-// The stage after the last one. Where that has each window that extends the one before it, it is often a copy of it.
+// The stage after `last`. Where `last` has every window that extends `earlier`, its candidates are often a copy of `last`.
 fn stage_alone<const W: usize>(
     alloc: Global,
     problem: &Problem,

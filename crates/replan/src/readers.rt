@@ -15,7 +15,7 @@ use cps_network::{Node, placed_node};
 
 impl<const W: usize> Kept<W> {
     // The number of the last stage.
-    fn last_stage(&self) -> u8
+    fn stages(&self) -> u8
         ensures value { result ≡ stages_in self.now }
         ensures few { result ≤ 60 }
         ensures held { MatchOption self.now ⊤ (IsHeld W) }
@@ -27,7 +27,7 @@ impl<const W: usize> Kept<W> {
     }
 
     // How many windows a stage has.
-    fn windows(&self, stage: u8) -> usize
+    fn size(&self, stage: u8) -> usize
         requires { IsReadable self.now stage }
         ensures { result ≡ length (stage_in self.now stage).1 }
     {
@@ -41,7 +41,7 @@ impl<const W: usize> Kept<W> {
     }
 
     // The ranks that the window at place i of a stage places, and the last of them.
-    fn placed(&self, stage: u8, i: usize) -> Node
+    fn node(&self, stage: u8, i: usize) -> Node
         requires stage { IsReadable self.now stage }
         requires place { HasPlace self.now stage i }
         ensures placed { TellsPlaced (window_in self.now stage i) stage result.placed }
@@ -58,7 +58,7 @@ impl<const W: usize> Kept<W> {
     }
 
     // How many pairs the window at place i of a stage has.
-    fn pair_count(&self, stage: u8, i: usize) -> usize
+    fn label_count(&self, stage: u8, i: usize) -> usize
         requires stage { IsReadable self.now stage }
         requires place { HasPlace self.now stage i }
         ensures { result ≡ length (pairs_in self.now stage i) }
@@ -73,7 +73,7 @@ impl<const W: usize> Kept<W> {
     }
 
     // The pair at index j of the window at place i of a stage.
-    fn pair(&self, stage: u8, i: usize, j: usize) -> (u32, u32)
+    fn label(&self, stage: u8, i: usize, j: usize) -> (u32, u32)
         requires stage { IsReadable self.now stage }
         requires place { HasPlace self.now stage i }
         requires index { j < length (pairs_in self.now stage i) }
@@ -103,10 +103,10 @@ impl AnyKept {
         ensures k { (p : Problem) → problem_held self.now ≡ Some p → p.k ≡ k_of self.now }
     {
         match self {
-            AnyKept::One(kept) => kept.last_stage(),
-            AnyKept::Three(kept) => kept.last_stage(),
-            AnyKept::Five(kept) => kept.last_stage(),
-            AnyKept::Seven(kept) => kept.last_stage(),
+            AnyKept::One(kept) => kept.stages(),
+            AnyKept::Three(kept) => kept.stages(),
+            AnyKept::Five(kept) => kept.stages(),
+            AnyKept::Seven(kept) => kept.stages(),
         }
     }
 
@@ -116,10 +116,10 @@ impl AnyKept {
         ensures { result ≡ length (stage_in (held_of self.now) stage).1 }
     {
         match self {
-            AnyKept::One(kept) => kept.windows(stage),
-            AnyKept::Three(kept) => kept.windows(stage),
-            AnyKept::Five(kept) => kept.windows(stage),
-            AnyKept::Seven(kept) => kept.windows(stage),
+            AnyKept::One(kept) => kept.size(stage),
+            AnyKept::Three(kept) => kept.size(stage),
+            AnyKept::Five(kept) => kept.size(stage),
+            AnyKept::Seven(kept) => kept.size(stage),
         }
     }
 
@@ -131,10 +131,10 @@ impl AnyKept {
         ensures last { result.last ≡ latest (stage, window_in (held_of self.now) stage i) }
     {
         match self {
-            AnyKept::One(kept) => kept.placed(stage, i),
-            AnyKept::Three(kept) => kept.placed(stage, i),
-            AnyKept::Five(kept) => kept.placed(stage, i),
-            AnyKept::Seven(kept) => kept.placed(stage, i),
+            AnyKept::One(kept) => kept.node(stage, i),
+            AnyKept::Three(kept) => kept.node(stage, i),
+            AnyKept::Five(kept) => kept.node(stage, i),
+            AnyKept::Seven(kept) => kept.node(stage, i),
         }
     }
 
@@ -145,10 +145,10 @@ impl AnyKept {
         ensures { result ≡ length (pairs_in (held_of self.now) stage i) }
     {
         match self {
-            AnyKept::One(kept) => kept.pair_count(stage, i),
-            AnyKept::Three(kept) => kept.pair_count(stage, i),
-            AnyKept::Five(kept) => kept.pair_count(stage, i),
-            AnyKept::Seven(kept) => kept.pair_count(stage, i),
+            AnyKept::One(kept) => kept.label_count(stage, i),
+            AnyKept::Three(kept) => kept.label_count(stage, i),
+            AnyKept::Five(kept) => kept.label_count(stage, i),
+            AnyKept::Seven(kept) => kept.label_count(stage, i),
         }
     }
 
@@ -162,10 +162,10 @@ impl AnyKept {
         ensures in_days { result.0 ≤ last_second }
     {
         match self {
-            AnyKept::One(kept) => kept.pair(stage, i, j),
-            AnyKept::Three(kept) => kept.pair(stage, i, j),
-            AnyKept::Five(kept) => kept.pair(stage, i, j),
-            AnyKept::Seven(kept) => kept.pair(stage, i, j),
+            AnyKept::One(kept) => kept.label(stage, i, j),
+            AnyKept::Three(kept) => kept.label(stage, i, j),
+            AnyKept::Five(kept) => kept.label(stage, i, j),
+            AnyKept::Seven(kept) => kept.label(stage, i, j),
         }
     }
 }

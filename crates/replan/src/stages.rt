@@ -7,7 +7,7 @@ ghost use Rattle.cps_network.specs.Landable.{HoldsCandidates};
 ghost use Rattle.cps_network.specs.Lists.{IsAscending};
 ghost use Rattle.cps_network.specs.Permits.{IsNextOf};
 ghost use Rattle.replan.specs.Labels.{HoldsPairs};
-ghost use Rattle.replan.specs.Stages.{AreFormer, AreStages};
+ghost use Rattle.replan.specs.Stages.{stage_at, AreFormer, AreStages};
 
 use crate::former::FormerStage;
 use crate::labels::Labels;
@@ -24,7 +24,7 @@ use std::thread::Threads;
 pub(crate) struct LabelledStage<const W: usize> {
     pub(crate) stage: Stage<W>,
     pub(crate) labels: Labels,
-    // Whether each candidate is landable: then the stage after it may be a copy of it. Of stage 0 it is not said.
+    // Whether each candidate was landable: then the stage after it may be a copy of it. For stage 0 it is left false.
     pub(crate) is_whole: bool,
 }
 
@@ -71,7 +71,8 @@ pub(crate) fn first_stage<const W: usize>(
     Ok(kept)
 }
 
-// The stage after one. Where that has each window that extends the one before it, it is often a copy of it.
+// The candidates of the stage after `before`. Where `before` has every window that extends `earlier` (`is_whole`), they are
+// often a copy of `before`.
 pub(crate) fn stage_after<const W: usize>(
     alloc: Global,
     problem: &Problem,
@@ -96,8 +97,8 @@ pub(crate) fn stage_after<const W: usize>(
     Ok(stage)
 }
 
-// The same. Where a stage that was held follows the same windows, it is a copy of that. Behind more or fewer windows the
-// stage before may still be the one to copy.
+// As `stage_after`, but where the stage that was held under the same number has the same windows as `before`, they are a copy
+// of the one held after it, if that is whole.
 fn stage_again<const W: usize>(
     alloc: Global,
     problem: &Problem,
@@ -129,6 +130,39 @@ fn stage_again<const W: usize>(
     Ok(stage)
 }
 
+// The candidates of the stage after the last of these.
+fn candidates_after<const W: usize>(
+    alloc: Global,
+    problem: &Problem,
+    kept: &[LabelledStage<W>],
+    former: &[FormerStage<W>],
+) -> Result<Stage<W>, AllocError>
+    requires width { W ≡ 2 * problem.now.k + 1 }
+    requires held { AreStages problem.now kept.now }
+    requires some { 0 < length kept.now }
+    requires number { length kept.now ≤ length problem.now.flights }
+    requires former { AreFormer problem.now former.now }
+    ensures number { IfOk result (λ s. s.0 ≡ length kept.now) }
+    ensures ascending { IfOk result (λ s. IsAscending s.1) }
+    ensures exact { IfOk result (λ s. IsNextOf problem.now (length kept.now - 1)
+        (stage_at kept.now (length kept.now - 1)).stage.1 s.1) }
+    ensures candidates { IfOk result (λ s. HoldsCandidates problem.now
+        (stage_at kept.now (length kept.now - 1)).stage s) }
+{
+    let number = kept.len() - 1;
+    let earlier = &kept[number.saturating_sub(1)];
+    let last = &kept[number];
+    let stage = stage_again(
+        alloc,
+        problem,
+        &earlier.stage,
+        &last.stage,
+        last.is_whole,
+        former,
+    )?;
+    Ok(stage)
+}
+
 // One stage more.
 fn add_stage<const W: usize, R: Threads, G: Gate, L: Ledger>(
     rt: &R,
@@ -150,18 +184,9 @@ fn add_stage<const W: usize, R: Threads, G: Gate, L: Ledger>(
         (vec_len kept.old - 1) count × (L.count steps.new ≡ raised_by count
         (L.count steps.old))) }
 {
-    let number = kept.len() - 1;
-    let earlier = &kept[number.saturating_sub(1)];
-    let last = &kept[number];
-    let mut stage = stage_again(
-        alloc,
-        problem,
-        &earlier.stage,
-        &last.stage,
-        last.is_whole,
-        former,
-    )?;
+    let mut stage = candidates_after(alloc, problem, kept, former)?;
     let candidates = stage.len();
+    let last = &kept[kept.len() - 1];
     let labels = last
         .labels
         .next(rt, alloc, problem, &last.stage, &mut stage, gate, steps)?;
@@ -195,7 +220,6 @@ pub(crate) fn fill_stages<const W: usize, R: Threads, G: Gate, L: Ledger>(
         problem.now (length problem.now.flights) due
         × (L.count steps.new ≡ raised_by due (L.count steps.old))) }
 {
-    steps.tick(0);
     let first = kept.len();
     for _stage in first..problem.len() as usize + 1 {
         add_stage(rt, alloc, problem, kept, former, gate, steps)?;

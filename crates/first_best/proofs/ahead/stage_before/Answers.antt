@@ -26,4 +26,4 @@ returns-clause-completed c =
     let next = c.args.next.now in
     let are = held_nodes p (held_of c.args.kept.now) c.window_laws.ensures.network c.window_laws.ensures.tell (c.stages-held.ensures.held p c.requires.held) c.args.stage c.requires.stage.1 found.0.items found.1.items c.in_ok-found.ensures in
     lists_complete p c.window_laws.ensures.well_formed c.args.value c.args.budget c.args.stage found.0.items c.in_ok-lists.lists.items next are c.requires.next
-    (subst (λ (ns : List EarlyNode). AreListsOf p c.args.value c.args.budget c.args.stage ns next.nodes next.lists c.in_ok-lists.lists.items) c.as_slice-nodes.ensures.value c.in_ok-lists.ensures)
+    (subst (λ (ns : List EarlyNode). AreListsOf p c.args.value c.args.budget c.args.stage ns next c.in_ok-lists.lists.items) c.as_slice-nodes.ensures.value c.in_ok-lists.ensures)

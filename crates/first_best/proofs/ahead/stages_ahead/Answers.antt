@@ -1,6 +1,6 @@
 use Rattle.std.proofs.Common.{◌+◌, ◌-◌, List, sym, subst, arith}
 use Rattle.replan.specs.Kept.{held_of}
-use Rattle.first_best.specs.Stages.{StageAhead}
+use Rattle.first_best.specs.Completing.{StageAhead}
 use Rattle.first_best.proofs.AheadLemmas.{all_stages, one_stage, IsAheadFrom}
 use Rattle.first_best.proofs.ahead.stages_ahead.Goals as goal
 

@@ -18,9 +18,9 @@ loop-node-preserved c =
     let long = c.loop-node.invariant.one_each in
     record {
       one_each = ap length is ∙ length-append old (new ∷ []) ∙ ap (λ (n : ℕ). n + 1) long;
-      pairs = λ j lt. subst (λ (ls : List (List Pair)). ArePairsOf p c.args.value c.args.budget c.args.stage (node_at c.args.nodes.now j) next.nodes next.lists (list_at ls j)) (sym is) (elim (cases_eq j i) [
-        | inl e ↦ subst (λ (m : ℕ). ArePairsOf p c.args.value c.args.budget c.args.stage (node_at c.args.nodes.now m) next.nodes next.lists (list_at (old ++ new ∷ []) m)) (sym e)
-            (subst (λ (l : List Pair). ArePairsOf p c.args.value c.args.budget c.args.stage (node_at c.args.nodes.now i) next.nodes next.lists l) (sym (get_or_push old new [] i long)) c.in_ok-pairs_of.ensures)
-        | inr ne ↦ subst (λ (l : List Pair). ArePairsOf p c.args.value c.args.budget c.args.stage (node_at c.args.nodes.now j) next.nodes next.lists l) (sym (get_or_append_left old (new ∷ []) [] j (omega (arith, lt, ne, long)))) (c.loop-node.invariant.pairs j (omega (arith, lt, ne)))
+      pairs = λ j lt. subst (λ (ls : List (List Pair)). ArePairsOf p c.args.value c.args.budget c.args.stage (node_at c.args.nodes.now j) next (list_at ls j)) (sym is) (elim (cases_eq j i) [
+        | inl e ↦ subst (λ (m : ℕ). ArePairsOf p c.args.value c.args.budget c.args.stage (node_at c.args.nodes.now m) next (list_at (old ++ new ∷ []) m)) (sym e)
+            (subst (λ (l : List Pair). ArePairsOf p c.args.value c.args.budget c.args.stage (node_at c.args.nodes.now i) next l) (sym (get_or_push old new [] i long)) c.in_ok-pairs_of.ensures)
+        | inr ne ↦ subst (λ (l : List Pair). ArePairsOf p c.args.value c.args.budget c.args.stage (node_at c.args.nodes.now j) next l) (sym (get_or_append_left old (new ∷ []) [] j (omega (arith, lt, ne, long)))) (c.loop-node.invariant.pairs j (omega (arith, lt, ne)))
       ]);
     }

@@ -37,6 +37,6 @@ returns-clause-last c = λ v q h.
         | inr ne ↦ (let late = held j (omega (arith, below, ne)) o m in omega (arith, late, more))
       ],
     )) in
-    let late = pairs_late p v c.args.stage c.args.node c.args.next.now.nodes lists ways c.fold-latest.result c.requires.node.0 (omega (arith, c.if-stage-len.false, c.len.ensures.value, c.requires.stage.1)) c.requires.ways all q h in
+    let late = pairs_late p v c.args.stage c.args.node c.args.next.now ways c.fold-latest.result c.requires.node.0 (omega (arith, c.if-stage-len.false, c.len.ensures.value, c.requires.stage.1)) c.requires.ways all q h in
     let days = c.last_open-last.ensures.last q.0 h.opened in
     omega (arith, late, days, c.min.ensures)

@@ -34,5 +34,5 @@ returns-clause-least c =
     (YieldsList-from_filter_map _ (λ j. (each j).0) (YieldsList-from_slice ways (cc)) c.filter_map.ensures.closure (λ x r q k.
     let told : IsLeastOf (to x.now) r = search (rules, tests) in
     (search (rules, tests), least_unique (to x.now) r (each x.now).0 told (each x.now).1))) in
-    ways_end p c.args.stage node nodes lists ways c.args.second c.requires.ways (omega (arith, c.len.ensures.value, c.if-stage-len.false, c.requires.stage.1)) c.min.result
+    ways_end p c.args.stage node c.args.next.now ways c.args.second c.requires.ways (omega (arith, c.len.ensures.value, c.if-stage-len.false, c.requires.stage.1)) c.min.result
     (subst (IsLeastOf _) (sym is) (least_of_list 0 to each ways))

@@ -2,14 +2,18 @@ use Rattle.std.proofs.Common.{◌≡◌, ℕ, ◌-◌, length, rules, arith, sub
 use Rattle.std.specs.Prelude.{vec_len}
 use Rattle.cps_network.specs.Due.{HasCandidates, HasCandidatesFrom}
 use Rattle.cps_network.specs.shared.DueSteps.{none_from}
-use Rattle.replan.proofs.StageLemmas.{due_more}
+use Rattle.replan.proofs.StageLemmas.{due_more, raised_by_none}
 use Rattle.replan.proofs.stages.fill_stages.Goals as goal
 
 pub loop-stage-init : goal.loop-stage-init
 loop-stage-init g c = (
   c.requires.held,
   omega (arith, c.len-first.ensures),
-  (0, none_from (vec_len c.args.kept.now) c.args.problem.now (c.len-first.result - 1) (omega (arith, c.len-first.ensures, c.requires.some)), c.tick.ensures),
+  (
+    0,
+    none_from (vec_len c.args.kept.now) c.args.problem.now (c.len-first.result - 1) (omega (arith, c.len-first.ensures, c.requires.some)),
+    raised_by_none _ (g.met.L.Ledger.fits c.args.steps.now),
+  ),
 )
 
 pub add_stage-requires : goal.add_stage-requires

@@ -1,7 +1,7 @@
 use Rattle.std.proofs.Common.{◌≡◌, ◌+◌, ◌*◌, ◌<◌, ◌≤◌, rules, arith, sym, ap, ◌∙◌}
 use Rattle.replan.specs.Held.{HeldProblem}
 use Rattle.replan.proofs.StageLemmas.{read_held}
-use Rattle.replan.proofs.kept.Kept.placed.Goals as goal
+use Rattle.replan.proofs.kept.Kept.node.Goals as goal
 
 pub node-requires : goal.node-requires
 node-requires g c =
