@@ -1,18 +1,13 @@
 -- How a run ends: its status, the cause of it, and what it wrote.
 use Rattle.std.specs.Prelude.{◌≡◌, ◌≢◌, ◌⊎◌, ℕ, List, [], ◌∷◌, length, Result, Ok, Err}
 use Rattle.cps_outside.specs.Causes.{Rose}
-use Rattle.cps_outside.specs.FolderState.{FolderState}
 use Rattle.cps_outside.specs.SinkState.{SinkState, Grows, GrowsByPart}
 use Rattle.endings.specs.Lines.{Says, status_of, line_of}
 use Rattle.endings.specs.Loads.{Loads, FailsAt, IsTooLongAt, AsksForSome}
+use Rattle.endings.specs.Outside.{Outside}
 use Rattle.endings.specs.declared.ending.Ending.{Ending}
 use Rattle.endings.specs.declared.ending.Ending.TheVariants.{Misused, NotLoaded, NotWritten, TooLong, NoMemory}
 use Rattle.chart_main.specs.Drawings.{AreDrawn, StopsFiles}
-
--- the outside but for the standard error
-pub record Outside : Type 0 where
-  pub folder : FolderState
-  pub out : SinkState
 
 -- the text is the picture of these three contents
 abbrev pub Draws : List (List ℕ) → List ℕ → Type 0

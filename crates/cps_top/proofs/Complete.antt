@@ -10,7 +10,8 @@ use Rattle.endings.specs.declared.ending.Ending.TheVariants.{Answered, Misused, 
 use Rattle.cps_top.specs.Commands.{command_of, files_of, Refuses}
 use Rattle.endings.specs.Loads.{limit, Loads, FailsAt, IsTooLongAt}
 use Rattle.endings.specs.Lines.{status_of}
-use Rattle.cps_top.specs.Outcome.{Outside, Ends, Serves, Follows}
+use Rattle.endings.specs.Outside.{Outside}
+use Rattle.cps_top.specs.Outcome.{Ends, Serves, Follows}
 use Rattle.cps_top.specs.Statuses.{AreThere, IsComplete, Completes}
 
 head_same : (x y : Option (List ℕ)) (xs ys : List (Option (List ℕ))) → x ∷ xs ≡ y ∷ ys → x ≡ y

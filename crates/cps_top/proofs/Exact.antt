@@ -15,7 +15,8 @@ use Rattle.cps_outside.specs.FolderState.{FolderState}
 use Rattle.endings.specs.Refusing.{refused_by}
 use Rattle.endings.specs.Loads.{limit, FailsAt, FailsWithin}
 use Rattle.endings.specs.Lines.{status_of}
-use Rattle.cps_top.specs.Outcome.{Outside, Ends, Serves}
+use Rattle.endings.specs.Outside.{Outside}
+use Rattle.cps_top.specs.Outcome.{Ends, Serves}
 use Rattle.cps_top.specs.Statuses.{IsExact}
 use Rattle.inquiry_commands.specs.shared.Audited.{not_unaudited}
 use Rattle.certificate_commands.specs.shared.Judged.{not_unchecked}

@@ -5,7 +5,8 @@ use Rattle.endings.specs.declared.ending.Answer.TheVariants.{Scheduled, Infeasib
 use Rattle.endings.specs.declared.ending.Ending.{Ending}
 use Rattle.endings.specs.declared.ending.Ending.TheVariants.{Answered, Misused, Refused, NotLoaded, NotWritten, TooLong, NoMemory}
 use Rattle.endings.specs.Lines.{answer_status, status_of}
-use Rattle.cps_top.specs.Outcome.{Outside, Ends, Serves}
+use Rattle.endings.specs.Outside.{Outside}
+use Rattle.cps_top.specs.Outcome.{Ends, Serves}
 use Rattle.cps_top.specs.Commands.{files_of}
 use Rattle.endings.specs.Loads.{AsksForSome, StopsAt, Loads}
 use Rattle.cps_outside.specs.FolderState.{FolderState}

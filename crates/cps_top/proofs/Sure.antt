@@ -7,7 +7,8 @@ use Rattle.endings.specs.declared.ending.Ending.{Ending}
 use Rattle.endings.specs.declared.ending.Ending.TheVariants.{NotWritten}
 use Rattle.cps_top.specs.Commands.{files_of}
 use Rattle.endings.specs.Lines.{status_of}
-use Rattle.cps_top.specs.Outcome.{Outside, Ends, Follows}
+use Rattle.endings.specs.Outside.{Outside}
+use Rattle.cps_top.specs.Outcome.{Ends, Follows}
 use Rattle.cps_top.specs.Statuses.{HasRoom, IsSure}
 use Rattle.cps_top.proofs.Complete.{complete_unless, none_fails}
 use Rattle.cps_top.proofs.Exact.{exact}

@@ -6,7 +6,7 @@ use Rattle.cps_outside.specs.SinkState.{Grows}
 use Rattle.cps_top.specs.declared.commands.Command.TheVariants.{Check}
 use Rattle.endings.specs.declared.ending.Answer.{Answer}
 use Rattle.certificate_commands.specs.Certify.{AdmitsCertify}
-use Rattle.cps_top.specs.Outcome.{Outside}
+use Rattle.endings.specs.Outside.{Outside}
 use Rattle.cps_top.specs.Statuses.{AreThere, Completes}
 use Rattle.certificate_commands.specs.Verdicts.{verdict_text}
 

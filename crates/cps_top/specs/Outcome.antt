@@ -5,15 +5,11 @@ use Rattle.cps_outside.specs.SinkState.{SinkState}
 use Rattle.cps_top.specs.declared.commands.Command.{Command}
 use Rattle.endings.specs.Lines.{Says, status_of, line_of}
 use Rattle.endings.specs.Loads.{Loads, FailsAt, IsTooLongAt, AsksForSome}
+use Rattle.endings.specs.Outside.{Outside}
 use Rattle.endings.specs.declared.ending.Ending.{Ending}
 use Rattle.endings.specs.declared.ending.Ending.TheVariants.{Misused, NotLoaded, TooLong, NoMemory}
 use Rattle.openings.specs.Follows.{FollowsBy}
 use Rattle.cps_top.specs.Commands.{command_of, files_of, Admits, Begins, Refuses}
-
--- the outside but for the standard error
-pub record Outside : Type 0 where
-  pub folder : FolderState
-  pub out : SinkState
 
 -- What a command does over the contents of its files, with this ending.
 abbrev pub Follows : Command → List (List ℕ) → SinkState → SinkState → Ending → Type 0

@@ -10,7 +10,7 @@ use Rattle.cps_top.specs.Commands.{command_of, files_of, Admits, Begins, Refuses
 use Rattle.endings.specs.Lines.{answer_status}
 use Rattle.endings.specs.Loads.{limit, FailsAt, IsTooLongAt, AsksForSome, FailsWithin}
 use Rattle.openings.specs.Follows.{Prints}
-use Rattle.cps_top.specs.Outcome.{Outside}
+use Rattle.endings.specs.Outside.{Outside}
 
 -- when each status comes
 pub record Causes (words : List (List ℕ)) (old new : Outside) (status : ℕ) : Type 0 where

@@ -73,6 +73,10 @@ abbrev pub text_of : List (List ℕ) → List ℕ
 text_of [] = []
 text_of (piece ∷ rest) = piece ++ text_of rest
 
+-- these words, a number and the end of the line
+abbrev pub numbered_line : List ℕ → ℕ → List ℕ
+numbered_line words n = text_of (words ∷ decimal n ∷ codes "\n" ∷ [])
+
 -- ---- the aerodrome file
 
 abbrev pub letter_text : Category → List ℕ
@@ -127,10 +131,6 @@ abbrev pub closure_line : ℕ → ClosureFault → List ℕ
 closure_line i closure.Empty = text_of (codes "cps: aerodrome: closure " ∷ decimal i ∷ codes " empty\n" ∷ [])
 closure_line i closure.TooMany = text_of (codes "cps: aerodrome: closure " ∷ decimal i ∷ codes " too-many\n" ∷ [])
 
--- what is wrong with an entry of a list, and its number
-abbrev pub entry_line : List ℕ → ℕ → List ℕ
-entry_line words i = text_of (codes "cps: aerodrome: " ∷ words ∷ decimal i ∷ codes "\n" ∷ [])
-
 abbrev pub aerodrome_line : AeroFault → List ℕ
 aerodrome_line aerodrome.NotToml = text_of (codes "cps: aerodrome: not toml\n" ∷ [])
 aerodrome_line (aerodrome.MissingKey k) = key_line (codes "missing ") k
@@ -141,11 +141,11 @@ aerodrome_line (aerodrome.Table fault) = table_line fault
 aerodrome_line (aerodrome.Closure i fault) = closure_line i fault
 aerodrome_line aerodrome.FrozenTooMany = text_of (codes "cps: aerodrome: frozen too-many\n" ∷ [])
 aerodrome_line aerodrome.FrozenNoClock = text_of (codes "cps: aerodrome: frozen no-clock\n" ∷ [])
-aerodrome_line (aerodrome.FrozenRepeat i) = entry_line (codes "frozen repeat ") i
-aerodrome_line (aerodrome.FrozenLate i) = entry_line (codes "frozen late ") i
+aerodrome_line (aerodrome.FrozenRepeat i) = numbered_line (codes "cps: aerodrome: frozen repeat ") i
+aerodrome_line (aerodrome.FrozenLate i) = numbered_line (codes "cps: aerodrome: frozen late ") i
 aerodrome_line aerodrome.PassedTooMany = text_of (codes "cps: aerodrome: passed too-many\n" ∷ [])
-aerodrome_line (aerodrome.PassedRepeat i) = entry_line (codes "passed repeat ") i
-aerodrome_line (aerodrome.DelayShift k) = text_of (codes "cps: aerodrome: delay shift " ∷ decimal k ∷ codes "\n" ∷ [])
+aerodrome_line (aerodrome.PassedRepeat i) = numbered_line (codes "cps: aerodrome: passed repeat ") i
+aerodrome_line (aerodrome.DelayShift k) = numbered_line (codes "cps: aerodrome: delay shift ") k
 aerodrome_line aerodrome.Memory = text_of (codes "cps: no memory\n" ∷ [])
 
 -- ---- the flight file
@@ -260,14 +260,11 @@ events_line fault = event_line (decimal fault.number) fault.cause
 -- ---- the certificate
 
 abbrev pub certificate_line : CertFault → List ℕ
-certificate_line (certificate.Line n) = text_of (codes "cps: certificate: line " ∷ decimal n ∷ codes "\n" ∷ [])
-certificate_line (certificate.Order n) = text_of (codes "cps: certificate: order " ∷ decimal n ∷ codes "\n" ∷ [])
+certificate_line (certificate.Line n) = numbered_line (codes "cps: certificate: line ") n
+certificate_line (certificate.Order n) = numbered_line (codes "cps: certificate: order ") n
 certificate_line certificate.Memory = text_of (codes "cps: no memory\n" ∷ [])
 
 -- ---- the opening
-
-abbrev pub numbered_line : List ℕ → ℕ → List ℕ
-numbered_line words n = text_of (words ∷ decimal n ∷ codes "\n" ∷ [])
 
 abbrev pub pair_line : ℕ → ℕ → List ℕ
 pair_line i j = text_of (codes "cps: opening: frozen-separation " ∷ decimal i ∷ codes " " ∷ decimal j ∷ codes "\n" ∷ [])
@@ -303,7 +300,7 @@ trials_line fault = trial_line (decimal fault.number) fault.cause
 -- ---- the plan file
 
 abbrev pub plan_line : PlanFault → List ℕ
-plan_line (plan.Line n) = text_of (codes "cps: plan: line " ∷ decimal n ∷ codes "\n" ∷ [])
+plan_line (plan.Line n) = numbered_line (codes "cps: plan: line ") n
 plan_line plan.Memory = text_of (codes "cps: no memory\n" ∷ [])
 
 -- ---- all endings

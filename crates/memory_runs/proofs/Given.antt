@@ -8,7 +8,7 @@ use Rattle.cps_outside.specs.MemorySink.{fresh_sink}
 use Rattle.cps_outside.specs.SinkState.{SinkState}
 use Rattle.cps_top.specs.declared.commands.Command.{Command}
 use Rattle.cps_top.specs.Commands.{Admits}
-use Rattle.cps_top.specs.Outcome.{Outside}
+use Rattle.endings.specs.Outside.{Outside}
 use Rattle.cps_top.specs.Statuses.{IsSure, IsComplete}
 use Rattle.endings.specs.declared.ending.Answer.{Answer}
 use Rattle.endings.specs.Lines.{answer_status}

@@ -5,7 +5,7 @@ use Rattle.cps_outside.specs.MemoryFolder.{fresh_folder}
 use Rattle.cps_outside.specs.MemorySink.{fresh_sink}
 use Rattle.cps_top.specs.declared.commands.Command.{Command}
 use Rattle.cps_top.specs.Commands.{Admits, Refuses}
-use Rattle.cps_top.specs.Outcome.{Outside}
+use Rattle.endings.specs.Outside.{Outside}
 use Rattle.cps_top.specs.Statuses.{AreThere, HasRoom}
 use Rattle.endings.specs.declared.ending.Answer.{Answer}
 use Rattle.endings.specs.declared.ending.Refusal.{Refusal}
