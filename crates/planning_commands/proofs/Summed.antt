@@ -11,7 +11,6 @@ use Rattle.arrivals.specs.declared.flight.Flight.{Flight}
 use Rattle.traffic_gen.specs.Made.{Made}
 use Rattle.plan_text.specs.Trial.{trial_text}
 use Rattle.endings.specs.declared.ending.Answer.{Answer}
-use Rattle.endings.specs.declared.ending.Refusal.{Refusal}
 use Rattle.endings.specs.declared.ending.Ending.{Ending}
 use Rattle.endings.specs.Refusing.{refusal_of, StopsOpened}
 use Rattle.endings.specs.shared.Refusing.{stops_by}
