@@ -15,7 +15,10 @@ pub mod WholeLandings
 pub mod WholeVerdict
 pub mod WholeUnique
 pub mod WholeForm
+pub mod WholeSizes
+pub mod WholePairs
 pub mod PlacedBits
 pub mod ShownOrder
 pub mod OneProblem
 pub mod OneVerdict
+pub mod OneStates

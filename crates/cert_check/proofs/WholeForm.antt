@@ -44,7 +44,7 @@ module _ (p : Problem) (well : IsWellFormed p) where
       let one = legal.0.fits.from_one in
       (subst (IsShaped p.k (count p)) at h, omega arith)
 
-  shape : (s : State) → IsWholeState p s → IsShaped p.k (count p) (node_of s) × (1 ≤ s.last)
+  pub shape : (s : State) → IsWholeState p s → IsShaped p.k (count p) (node_of s) × (1 ≤ s.last)
   shape s h = let a = h.landable.1 in shape_of s a.landings h.begun a.legal a.at
 
   in_form : (s : State) → IsWholeState p s → list_all is_pair s.pairs ≡ true → IsState s
@@ -70,7 +70,7 @@ module _ (p : Problem) (well : IsWellFormed p) where
 
 -- ---- how many
 
-number_rises : (xs ys : List Bool) → length xs ≡ length ys → slice_cmp bool_cmp xs ys ≡ Less → number_of xs < number_of ys
+pub number_rises : (xs ys : List Bool) → length xs ≡ length ys → slice_cmp bool_cmp xs ys ≡ Less → number_of xs < number_of ys
 number_rises [] [] same e = absurd (cc)
 number_rises [] (y ∷ ys) same e = absurd (omega arith)
 number_rises (x ∷ xs) [] same e = absurd (omega arith)
@@ -79,7 +79,7 @@ number_rises (false ∷ xs) (false ∷ ys) same e = let more = number_rises xs y
 number_rises (true ∷ xs) (false ∷ ys) same e = absurd (cc)
 number_rises (false ∷ xs) (true ∷ ys) same e = let a = number_below xs in let l : length xs ≡ length ys = omega arith in let b = ap (λ i. 2 ^ i) l in omega arith
 
-number_same : (xs ys : List Bool) → length xs ≡ length ys → slice_cmp bool_cmp xs ys ≡ Equal → number_of xs ≡ number_of ys
+pub number_same : (xs ys : List Bool) → length xs ≡ length ys → slice_cmp bool_cmp xs ys ≡ Equal → number_of xs ≡ number_of ys
 number_same [] [] same e = refl
 number_same [] (y ∷ ys) same e = absurd (omega arith)
 number_same (x ∷ xs) [] same e = absurd (omega arith)
@@ -98,7 +98,7 @@ number_small ds few = let a = number_below ds in let b = power_few (length ds) f
 code : State → ℕ
 code s = (s.stage * 64 + number_of s.pattern) * 64 + s.last
 
-then_less : (a b : Ordering) → ordering_then a b ≡ Less → (a ≡ Less) ⊎ ((a ≡ Equal) × (b ≡ Less))
+pub then_less : (a b : Ordering) → ordering_then a b ≡ Less → (a ≡ Less) ⊎ ((a ≡ Equal) × (b ≡ Less))
 then_less Less b e = inl refl
 then_less Equal b e = inr (refl, e)
 then_less Greater b e = absurd (cc)

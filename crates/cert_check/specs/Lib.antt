@@ -5,6 +5,7 @@ pub mod Meaning
 pub mod Seen
 pub mod Whole
 pub mod WholeLaws
+pub mod WholeSizes
 pub mod Situations
 pub mod PlacedBits
 pub mod shared

@@ -15,7 +15,8 @@ mod verdict;
 
 pub use judging::judge;
 pub use laws::{
-    best_lists_are_shown, patterns_are_bits, situation_has_one_verdict,
-    whole_certificates_are_accepted, whole_states_are_fixed,
+    best_lists_are_shown, patterns_are_bits, situation_has_one_list_of_states,
+    situation_has_one_verdict, whole_certificates_are_accepted, whole_states_are_few,
+    whole_states_are_fixed,
 };
 pub use verdict::{Reason, Verdict};

@@ -1,3 +1,4 @@
 pub mod Accepting
 pub mod Certified
+pub mod TextLaws
 pub mod TrueVerdicts

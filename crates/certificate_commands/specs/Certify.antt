@@ -1,5 +1,6 @@
 -- What `certify` prints over the contents of its two files. It refuses those that `plan` refuses.
-use Rattle.std.specs.Prelude.{◌≡◌, ◌↔◌, ℕ, List, Ok}
+use Rattle.std.specs.Prelude.{◌≡◌, ◌↔◌, ℕ, List, Ok, Option}
+use Rattle.landing_rules.specs.Flights.{Schedule}
 use Rattle.arrivals.specs.declared.aerodrome.Aerodrome.{Aerodrome}
 use Rattle.aerodrome_file.specs.Reading.{aerodrome_of}
 use Rattle.arrivals.specs.declared.flight.Flight.{Flight}
@@ -9,6 +10,8 @@ use Rattle.certificate.specs.Reading.{Cert, certificate_of}
 use Rattle.certificate.specs.Spelling.{text_of}
 use Rattle.cert_check.specs.Whole.{IsWhole}
 use Rattle.cert_check.specs.WholeLaws.{claimed}
+use Rattle.cert_writer.specs.Answer.{ShowsAnswer}
+use Rattle.cps_problem.specs.Plans.{IsAnswerOf}
 use Rattle.cps_outside.specs.SinkState.{SinkState}
 use Rattle.endings.specs.declared.ending.Answer.{Answer}
 use Rattle.endings.specs.declared.ending.Answer.TheVariants.{Accepted, Certified}
@@ -20,10 +23,14 @@ use Rattle.certificate_commands.specs.Check.{AdmitsCheck, IsJudged, RefusesCheck
 use Rattle.certificate_commands.specs.Verdicts.{verdict_text}
 
 -- The files are taken. This certificate leaves nothing out of the problem of their opening situation, and its verdict is
--- what it claims, which is true of that situation.
+-- what it claims, which is true of that situation. The claim and the landings, in landing order, are those of a best and
+-- tight list of the problem; or nothing is feasible, and they say so.
 pub record IsCertified (aerodrome : Aerodrome) (flights : List Flight) (certificate : Cert) : Type 0 where
   pub judged : IsJudged aerodrome flights certificate (claimed certificate.claim)
   pub whole : IsWhole judged.problem certificate
+  pub answer : Option Schedule
+  pub best : IsAnswerOf judged.problem answer
+  pub shows : ShowsAnswer judged.problem answer certificate.claim certificate.landings
 
 -- The text is that of such a certificate, and reads as it.
 pub record Certifies (aerodrome : Aerodrome) (flights : List Flight) (text : List ℕ) (answer : Answer) : Type 0 where

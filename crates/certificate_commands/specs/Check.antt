@@ -1,11 +1,13 @@
 -- What `check` prints over the contents of its three files, and which it refuses.
 use Rattle.std.specs.Prelude.{◌≡◌, ℕ, List, Some, None, Ok}
 use Rattle.landing_rules.specs.Problem.{Problem, IsProblemOf}
+use Rattle.landing_rules.specs.Sound.{IsSound}
+use Rattle.cps_problem.specs.WellFormed.{IsWellFormed}
 use Rattle.arrivals.specs.declared.aerodrome.Aerodrome.{Aerodrome}
 use Rattle.aerodrome_file.specs.Reading.{aerodrome_of}
 use Rattle.arrivals.specs.declared.flight.Flight.{Flight}
 use Rattle.flight_file.specs.Reading.{flights_of}
-use Rattle.certificate.specs.Reading.{Cert, certificate_of}
+use Rattle.certificate.specs.Reading.{Cert, IsCertificate, certificate_of}
 use Rattle.cert_check.specs.Verdict.{verdict_of}
 use Rattle.cert_check.specs.declared.verdict.Verdict.{Verdict}
 use Rattle.sequencer.specs.Opened.{opened}
@@ -23,13 +25,16 @@ RefusesCheck aerodrome flights certificate cause =
     refused_by_three refusal.Certificate (aerodrome_of aerodrome) (flights_of flights) (certificate_of certificate) ≡ Some cause
 
 -- The files are taken. This is the verdict on the certificate for the problem of their opening situation, and what it says
--- of that situation is true.
+-- of that situation is true. The situation, the problem and the certificate have their numbers in their ranges.
 pub record IsJudged (aerodrome : Aerodrome) (flights : List Flight) (certificate : Cert) (verdict : Verdict) : Type 0 where
   pub taken : refusal_of aerodrome flights ≡ None
   pub problem : Problem
   pub problem_of : IsProblemOf (opened aerodrome flights) problem
   pub verdict_is : verdict ≡ verdict_of problem certificate
   pub true_of : IsTrueOf (opened aerodrome flights) problem certificate.landings verdict
+  pub sound : IsSound (opened aerodrome flights)
+  pub well_formed : IsWellFormed problem
+  pub in_form : IsCertificate certificate
 
 -- The files read as an aerodrome, flights and a certificate, with this verdict.
 pub record Judges (aerodrome_bytes flight_bytes certificate_bytes : List ℕ) (verdict : Verdict) : Type 0 where

@@ -10,7 +10,6 @@ use arrivals::{Aerodrome, Flight};
 use certificate::{Certificate, print_certificate};
 use cps_base::{Silent, Steps};
 use cps_outside::{Gate, Sink};
-use cps_problem::Planner;
 use endings::{Answer, Ending};
 use flight_file::read_flights;
 use landing_joint::laws::problem_stands_for_situation;
@@ -36,10 +35,12 @@ fn certify_opened<R: Threads + Sync, G: Gate + Sync>(
 {
     problem_stands_for_situation();
     let problem = opening_problem(alloc, aerodrome, flights)?;
+    let _well_formed = problem.head();
     let mut planner = AnyKept::fresh(aerodrome.k);
     let mut steps = Steps::new(Silent);
     let schedule = planner.replan(rt, alloc, &problem, gate, &mut steps)?;
     let certificate = cert_writer::certify(alloc, &problem, &planner, schedule.as_ref())?;
+    let _in_form = certificate.claim();
     Ok(certificate)
 }
 

@@ -32,6 +32,8 @@ fn judge_opened(
 {
     problem_stands_for_situation();
     let problem = opening_problem(alloc, aerodrome, flights)?;
+    let _well_formed = problem.head();
+    let _in_form = certificate.claim();
     Ok(judge(&problem, certificate))
 }
 

@@ -8,4 +8,7 @@ mod verdict_lines;
 
 pub use certify::run_certify;
 pub use check::run_check;
-pub use laws::check_accepts_printed_certificates;
+pub use laws::{
+    certificate_texts_are_bounded, check_accepts_printed_certificates,
+    printed_certificates_differ_in_landings_alone,
+};

@@ -1,1 +1,2 @@
--- Lemmas of the outside: none are needed.
+-- Written: writes in a row.
+mod Written

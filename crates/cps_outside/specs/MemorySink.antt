@@ -11,11 +11,12 @@ sink_state sink = record {
   sure = length sink.failing.items == 0;
   room = sink.room;
   faults = sink.faults;
+  puts = sink.puts;
 }
 
 -- before any put, with this room, where these puts are to fail
 abbrev pub fresh_sink : ℕ → List (ℕ × ℕ) → SinkState
-fresh_sink room failing = record { tells = true; written = []; sure = length failing == 0; room = room; faults = 0 }
+fresh_sink room failing = record { tells = true; written = []; sure = length failing == 0; room = room; faults = 0; puts = 0 }
 
 -- the bytes for which it has room
 abbrev pub room_of : MemorySink → ℕ

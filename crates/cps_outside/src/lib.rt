@@ -14,6 +14,6 @@ pub use folders::{Folder, LoadFault};
 pub use gates::{FreeGate, Gate};
 pub use memory_folder::MemoryFolder;
 pub use memory_sink::MemorySink;
-pub use real_folder::{RealFolder, read_pieces};
+pub use real_folder::{OpenedFiles, Opener, RealFolder, SystemFiles, read_pieces};
 pub use real_sink::RealSink;
 pub use sinks::{Sink, WriteFailed};

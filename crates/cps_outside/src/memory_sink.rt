@@ -79,13 +79,14 @@ fn bytes_of_failing(failing: &[(u32, u32)], put: u64) -> Option<u32>
 }
 
 impl Sink for MemorySink {
-    ghost use Rattle.cps_outside.specs.SinkState.{Writes};
+    ghost use Rattle.cps_outside.specs.SinkState.{Writes, CountsPuts};
     ghost use Rattle.cps_outside.specs.MemorySink.{sink_state, room_of, failing_puts_of, puts_of, number_of_put, bytes_taken, takes_all};
 
     ghost state = { sink_state };
 
     fn put(&mut self, bytes: &[u8]) -> Result<(), WriteFailed>
         ensures writes { Writes (sink_state self.old) (sink_state self.new) bytes.now result }
+        ensures counted { CountsPuts 1 (sink_state self.old) (sink_state self.new) }
         ensures fits { (sink_state self.new).faults < 2 ^ 64 }
 
         // It fails exactly where its number is listed or its piece is longer than the room left, and takes so many bytes.

@@ -1,5 +1,5 @@
 -- Over good files and with no fault the text is written whole; a folder that is sure has no fault over them.
-use Rattle.std.proofs.Common.{◌≡◌, inl, inr, ℕ, ◌-◌, ◌≤◌, List, [], ◌∷◌, ◌++◌, length, take, drop, map, Some, None, Option, IsTrue, ap, sym, ◌∙◌, subst, arith, take-append-drop}
+use Rattle.std.proofs.Common.{◌≡◌, ◌≢◌, inl, inr, ℕ, ◌-◌, ◌≤◌, List, [], ◌∷◌, ◌++◌, length, take, drop, map, Some, None, Option, IsTrue, ap, sym, ◌∙◌, subst, arith, take-append-drop}
 use Rattle.std.specs.List.{AllByRecursion}
 use Rattle.std.proofs.lemmas.Option.{same_Some}
 use Rattle.cps_outside.specs.FolderState.{FolderState}
@@ -29,14 +29,21 @@ contents_same (x ∷ xs) (y ∷ ys) e =
     let rest = contents_same xs ys (tail_same (Some x) (Some y) (map Some xs) (map Some ys) e) in
     cc
 
+-- what was loaded is what is there, also of no file
+loaded_same : (old new : FolderState) (ns held contents : List (List ℕ)) → (ns ≢ [] → IsTrue old.tells) → map old.content ns ≡ map Some contents →
+    Loads old new ns held → held ≡ contents
+loaded_same old new [] [] contents tells told loads = contents_same [] contents told
+loaded_same old new [] (c ∷ held) contents tells told loads = let count = loads.count in absurd (omega (arith, count))
+loaded_same old new (n ∷ ns) held contents tells told loads = contents_same held contents (sym (loads.told (tells (λ e. absurd (cc e)))) ∙ told)
+
 -- the command ran over the files that are there
 pub serves_at : (words : List (List ℕ)) (old new : Outside) (ending : Ending) (command : Command) (contents : List (List ℕ)) →
-    command_of words ≡ Some command → IsTrue old.folder.tells → map old.folder.content (files_of words) ≡ map Some contents →
+    command_of words ≡ Some command → (files_of words ≢ [] → IsTrue old.folder.tells) → map old.folder.content (files_of words) ≡ map Some contents →
     Serves words old new ending → Follows command contents old.out new.out ending
 serves_at words old new ending command contents named tells told s =
     let same : s.command ≡ command = same_Some s.command command (sym s.named ∙ named) in
     let loads = subst (λ q. Loads old.folder new.folder (files_of words) s.contents) same s.loads in
-    let held : s.contents ≡ contents = contents_same s.contents contents (sym (loads.told tells) ∙ told) in
+    let held : s.contents ≡ contents = loaded_same old.folder new.folder (files_of words) s.contents contents tells told loads in
     let follows = subst (λ q. Follows q s.contents old.out new.out ending) same s.follows in
     subst (λ q. Follows command q old.out new.out ending) held follows
 
@@ -76,11 +83,16 @@ named_within content ns cs place name told bounded step =
     let split : (take (place - 1) ns ++ name ∷ []) ++ drop place ns ≡ ns = ap (λ q. q ++ drop place ns) (sym step) ∙ take-append-drop place ns in
     all_at (λ n. Within (content n)) (take (place - 1) ns) name (drop place ns) (subst (AllByRecursion (λ n. Within (content n))) (sym split) all)
 
+-- a load that stopped was of some file
+some_names : (ns : List (List ℕ)) (place : ℕ) → 1 ≤ place → place ≤ length ns → ns ≢ []
+some_names [] place first inside = absurd (omega (arith, first, inside))
+some_names (n ∷ ns) place first inside = λ e. absurd (cc e)
+
 -- no file is too long
-pub none_too_long : (old new : FolderState) (ns cs : List (List ℕ)) (place : ℕ) → IsTrue old.tells → map old.content ns ≡ map Some cs →
+pub none_too_long : (old new : FolderState) (ns cs : List (List ℕ)) (place : ℕ) → (ns ≢ [] → IsTrue old.tells) → map old.content ns ≡ map Some cs →
     AllByRecursion (λ b. length b ≤ limit) cs → IsTooLongAt old new ns place → ⊥
 none_too_long old new ns cs place tells told bounded long =
-    let t = long.told tells in
+    let t = long.told (tells (some_names ns place long.stops.first long.stops.inside)) in
     let fits = within_fits t.1 (old.content t.0) t.3 (named_within old.content ns cs place t.0 told bounded t.2) in
     let longer = t.4 in
     omega (arith, fits, longer)
@@ -90,10 +102,10 @@ unfolding Within
 absent_not_within content e within = subst Within e within
 
 -- no load of a folder that is sure failed
-pub none_fails : (old new : FolderState) (ns cs : List (List ℕ)) (place : ℕ) → IsTrue old.tells → IsTrue old.sure → map old.content ns ≡ map Some cs →
+pub none_fails : (old new : FolderState) (ns cs : List (List ℕ)) (place : ℕ) → (ns ≢ [] → IsTrue old.tells) → IsTrue old.sure → map old.content ns ≡ map Some cs →
     AllByRecursion (λ b. length b ≤ limit) cs → FailsAt old new ns place → ⊥
 none_fails old new ns cs place tells sure told bounded fails =
-    let t = fails.absent tells sure in
+    let t = fails.absent (tells (some_names ns place fails.stops.first fails.stops.inside)) sure in
     absent_not_within (old.content t.0) t.2 (named_within old.content ns cs place t.0 told bounded t.1)
 
 -- a run in which no load and no put failed

@@ -10,10 +10,10 @@ use Rattle.endings.specs.declared.ending.Refusal.{Refusal}
 use Rattle.inquiry_commands.specs.Audit.{AdmitsAudit, RefusesAudit}
 use Rattle.certificate_commands.specs.Certify.{AdmitsCertify}
 use Rattle.certificate_commands.specs.Check.{AdmitsCheck, RefusesCheck}
-use Rattle.planning_commands.specs.Effort.{AdmitsEffort, BeginsEffort}
+use Rattle.planning_commands.specs.Effort.{AdmitsEffort, BeginsEffort, effort_puts}
 use Rattle.inquiry_commands.specs.First.{AdmitsFirst}
 use Rattle.openings.specs.Plan.{AdmitsPlan, RefusesPlan}
-use Rattle.planning_commands.specs.Replay.{AdmitsReplay, BeginsReplay, RefusesReplay}
+use Rattle.planning_commands.specs.Replay.{AdmitsReplay, BeginsReplay, RefusesReplay, replay_puts}
 use Rattle.planning_commands.specs.Trial.{AdmitsTrial}
 use Rattle.inquiry_commands.specs.WhatIf.{AdmitsWhatIf, RefusesWhatIf}
 
@@ -83,6 +83,12 @@ Admits WhatIf (aerodrome ∷ flights ∷ trials ∷ []) text answer = AdmitsWhat
 Admits Audit (aerodrome ∷ flights ∷ plan ∷ []) text answer = AdmitsAudit aerodrome flights plan text answer
 Admits (Trial seed n k) [] text answer = AdmitsTrial seed n k text answer
 Admits command contents text answer = ⊥
+
+-- in how many puts it prints a text over these contents: `replay` and `effort` in one for each answer, the others in one
+abbrev pub puts_of : Command → List (List ℕ) → ℕ
+puts_of Replay (aerodrome ∷ flights ∷ events ∷ []) = replay_puts events
+puts_of Effort (aerodrome ∷ flights ∷ events ∷ []) = effort_puts events
+puts_of command contents = 1
 
 -- A text that a command may have begun to print when it stops early.
 abbrev pub Begins : Command → List (List ℕ) → List ℕ → Type 0

@@ -6,7 +6,7 @@ use Rattle.cps_outside.specs.SinkState.{SinkState}
 use Rattle.cps_top.specs.declared.commands.Command.{Command}
 use Rattle.endings.specs.declared.ending.Answer.{Answer}
 use Rattle.endings.specs.declared.ending.Refusal.{Refusal}
-use Rattle.cps_top.specs.Commands.{command_of, files_of, Admits, Begins, Refuses}
+use Rattle.cps_top.specs.Commands.{command_of, files_of, puts_of, Admits, Begins, Refuses}
 use Rattle.endings.specs.Lines.{answer_status}
 use Rattle.endings.specs.Loads.{limit, FailsAt, IsTooLongAt, AsksForSome, FailsWithin}
 use Rattle.openings.specs.Follows.{Prints}
@@ -37,14 +37,15 @@ pub record Asks (words : List (List ℕ)) (old new : Outside) (status : ℕ) : T
 -- a command's files are there, with these contents, and none is too long
 pub record AreThere (words : List (List ℕ)) (old : Outside) (command : Command) (contents : List (List ℕ)) : Type 0 where
   pub named : command_of words ≡ Some command
-  pub tells : IsTrue old.folder.tells
+  -- with no file it asks for no folder that tells
+  pub tells : files_of words ≢ [] → IsTrue old.folder.tells
   pub told : map old.folder.content (files_of words) ≡ map Some contents
   pub bounded : AllByRecursion (λ bytes. length bytes ≤ limit) contents
 
 -- a text was written whole, with the status of its answer, or memory was short
 abbrev pub IsComplete : Command → List (List ℕ) → Outside → Outside → ℕ → Type 0
 IsComplete command contents old new status = (status ≡ 8) ⊎ ((answer : Answer) × (status ≡ answer_status answer)
-    × Prints (λ text. Admits command contents text answer) old.out new.out)
+    × Prints (puts_of command contents) (λ text. Admits command contents text answer) old.out new.out)
 
 -- Over files that are taken, and with no fault, the text is written whole, or memory was short.
 pub record Completes (words : List (List ℕ)) (old new : Outside) (status : ℕ) : Type 0 where

@@ -1,3 +1,4 @@
+mod edge;
 mod first_come;
 mod labels;
 mod numbers;

@@ -1,14 +1,15 @@
 -- Lists of pairs as they are stored, and one list more behind them.
-use Rattle.std.proofs.Common.{◌≡◌, ℕ, zero, suc, ◌-◌, ◌≤◌, List, [], ◌∷◌, ◌++◌, length, take, drop, refl, sym, ap, ap₂, subst, ◌∙◌, arith}
+use Rattle.std.proofs.Common.{◌≡◌, ℕ, zero, suc, ◌+◌, ◌-◌, ◌≤◌, List, [], ◌∷◌, ◌++◌, length, take, drop, map, refl, sym, ap, ap₂, subst, ◌∙◌, arith}
 use Rattle.std.specs.Prelude.{slice_range, All, nat_lt}
 use Rattle.std.proofs.lemmas.Bool.{lt-ltb, le-ltb}
-use Rattle.std.proofs.lemmas.List.{length-append, length-take, length-drop, drop-append-le, take-append-le, drop_at, take_all}
-use Rattle.std.proofs.lemmas.List.Elements.{All-take, All-drop, All-head, All-tail, All-nil, All-append, All-push, All-weaker}
+use Rattle.std.proofs.Math.Seq.{drop-append-add}
+use Rattle.std.proofs.lemmas.List.{length-append, map-append, length-take, length-drop, drop-append-le, take-append-le, drop_at, take_all}
+use Rattle.std.proofs.lemmas.List.Elements.{All-take, All-drop, All-head, All-tail, All-nil, All-append, All-push, All-weaker, All-map}
 use Rattle.cps_theory.specs.Labels.{Pair}
 use Rattle.cps_theory.specs.UndominatedPairs.{sweep}
 use Rattle.cps_theory.specs.laws.Staircases.{sweep_subset}
 use Rattle.cps_network.specs.Pairs.{list_at}
-use Rattle.delay_labels.specs.Parts.{IsInDays, IsPart, lists_of}
+use Rattle.delay_labels.specs.Parts.{IsInDays, IsPart, lists_of, moved_by}
 use Rattle.delay_labels.specs.Lists.{has_some}
 use Rattle.cps_network.specs.shared.PairLists.{all_in, in_all}
 
@@ -74,4 +75,41 @@ module _ (c : ℕ) (pairs after sorted : List Pair) (parts parts' : List (ℕ ×
     subst (All IsInDays) (sym grown) (swept_in_days c pairs sorted a b),
     subst (λ (l : List Pair). All (IsPart (length l)) parts') (sym grown)
         (subst (All (IsPart (length (pairs ++ sweep c sorted)))) (sym part_is) (parts_more (length pairs) (length (pairs ++ sweep c sorted)) parts all (let l = length-append pairs (sweep c sorted) in omega arith))),
+  )
+
+-- ---- the lists of another behind them
+
+module _ (pairs more : List Pair) where
+  moved_part : (a b : ℕ) → slice_range (pairs ++ more) (length pairs + a) (length pairs + b) ≡ slice_range more a b
+  moved_part a b = ap₂ (λ (n : ℕ) (l : List Pair). take n l) (omega arith) (drop-append-add pairs more a)
+
+  moved_lists : (behind : List (ℕ × ℕ)) → lists_of (pairs ++ more) (map (moved_by (length pairs)) behind) ≡ lists_of more behind
+  moved_lists [] = refl
+  moved_lists (x ∷ behind) = ap₂ (λ (l : List Pair) (ls : List (List Pair)). l ∷ ls) (moved_part x.0 x.1) (moved_lists behind)
+
+  pub lists_behind : (parts behind : List (ℕ × ℕ)) → All (IsPart (length pairs)) parts
+      → lists_of (pairs ++ more) (parts ++ map (moved_by (length pairs)) behind) ≡ lists_of pairs parts ++ lists_of more behind
+  lists_behind parts behind all =
+      map-append (λ (part : ℕ × ℕ). slice_range (pairs ++ more) part.0 part.1) parts (map (moved_by (length pairs)) behind)
+      ∙ ap₂ (λ (ls ms : List (List Pair)). ls ++ ms) (lists_grow pairs more parts all) (moved_lists behind)
+
+  pub parts_behind : (parts behind : List (ℕ × ℕ)) → All (IsPart (length pairs)) parts → All (IsPart (length more)) behind → All (IsPart (length (pairs ++ more))) (parts ++ map (moved_by (length pairs)) behind)
+  parts_behind parts behind all those =
+      let long = length-append pairs more in
+      All-append (IsPart (length (pairs ++ more))) parts (map (moved_by (length pairs)) behind)
+      (All-weaker (IsPart (length pairs)) (IsPart (length (pairs ++ more))) (λ x h. (h.0, (let a = h.1 in omega (arith, a, long)))) parts all)
+      (All-map (IsPart (length (pairs ++ more))) (moved_by (length pairs)) behind (All-weaker (IsPart (length more)) (λ x. IsPart (length (pairs ++ more)) (moved_by (length pairs) x)) (λ x h. (let a = h.0 in let b = h.1 in (omega (arith, a), omega (arith, b, long)))) behind those))
+
+-- the lists of another behind them, as they are stored
+module _ (pairs more after : List Pair) (parts behind parts' : List (ℕ × ℕ)) (from : ℕ) (grown : after ≡ pairs ++ more) (begin : from ≡ length pairs) (put : parts' ≡ parts ++ map (moved_by from) behind) (all : All (IsPart (length pairs)) parts) where
+  put_is : parts' ≡ parts ++ map (moved_by (length pairs)) behind
+  put_is = put ∙ ap (λ (n : ℕ). parts ++ map (moved_by n) behind) begin
+
+  pub stored_behind : (lists others : List (List Pair)) → lists_of pairs parts ≡ lists → lists_of more behind ≡ others → lists_of after parts' ≡ lists ++ others
+  stored_behind lists others is those = ap₂ lists_of grown put_is ∙ lists_behind pairs more parts behind all ∙ ap₂ (λ (ls ms : List (List Pair)). ls ++ ms) is those
+
+  pub stored_in : All IsInDays pairs → All IsInDays more → All (IsPart (length more)) behind → All IsInDays after × All (IsPart (length after)) parts'
+  stored_in a b those = (
+    subst (All IsInDays) (sym grown) (All-append IsInDays pairs more a b),
+    subst (λ (l : List Pair). All (IsPart (length l)) parts') (sym grown) (subst (All (IsPart (length (pairs ++ more)))) (sym put_is) (parts_behind pairs more parts behind all those)),
   )

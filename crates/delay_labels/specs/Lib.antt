@@ -1,3 +1,4 @@
 -- The definitions of this crate.
 pub mod Parts
 pub mod Lists
+pub mod Runs

@@ -1,12 +1,12 @@
 //! Lists of pairs of a second and a cost.
 
-ghost use Rattle.std.specs.Prelude.{◌≡◌, ℕ, ◌<◌, List, [], ◌∷◌, ◌++◌, All, length, IfOk, nat_lt};
+ghost use Rattle.std.specs.Prelude.{◌≡◌, ℕ, ◌+◌, ◌^◌, ◌<◌, ◌≤◌, List, [], ◌∷◌, ◌++◌, All, length, map, IfOk, OnOk, nat_lt};
 ghost use Rattle.cps_nodes.specs.Windows.{IsWidth};
 ghost use Rattle.cps_theory.specs.UndominatedPairs.{sweep};
 ghost use Rattle.landing_rules.specs.Problem.{Problem};
 ghost use Rattle.cps_network.specs.Landable.{HasEachLandable};
 ghost use Rattle.cps_network.specs.Pairs.{list_at, pair_at, AreCosts, HoldsCosts};
-ghost use Rattle.delay_labels.specs.Parts.{IsInDays};
+ghost use Rattle.delay_labels.specs.Parts.{IsInDays, moved_by};
 ghost use Rattle.delay_labels.specs.Lists.{known_of};
 
 use crate::merge::keep_falling;
@@ -34,6 +34,21 @@ impl Model for Costs {
 
     ghost invariant = { λ costs. All IsInDays costs.pairs.items
         × All (IsPart (length costs.pairs.items)) costs.parts.items };
+}
+
+// Puts parts behind others, each so many pairs further on.
+fn put_behind(
+    parts: &mut Vec<(usize, usize)>,
+    behind: &[(usize, usize)],
+    by: usize,
+) -> Result<(), AllocError>
+    requires { All (λ part. (part.0 ≤ part.1) × (by + part.1 < 2 ^ 64)) behind.now }
+    ensures { OnOk result (parts.new.items ≡ parts.old.items ++ map (moved_by by) behind.now) }
+{
+    for part in behind {
+        parts.push((by + part.0, by + part.1))?;
+    }
+    Ok(())
 }
 
 impl Costs {
@@ -105,6 +120,28 @@ impl Costs {
         let from = pairs.len();
         keep_falling(sorted, &mut pairs)?;
         parts.push((from, pairs.len()))?;
+        Ok(Costs { pairs, parts })
+    }
+
+    // With the lists of another behind its own.
+    pub(crate) fn with_lists(self, others: Costs) -> Result<Costs, AllocError>
+        ensures { IfOk result (λ costs. costs ≡ self ++ others) }
+    {
+        if self.parts.is_empty() {
+            return Ok(others);
+        }
+        let Costs {
+            mut pairs,
+            mut parts,
+        } = self;
+        let Costs {
+            pairs: mut more,
+            parts: behind,
+        } = others;
+        let count = pairs.len();
+        pairs.append(&mut more)?;
+        let _few = pairs.len();
+        put_behind(&mut parts, &behind, count)?;
         Ok(Costs { pairs, parts })
     }
 

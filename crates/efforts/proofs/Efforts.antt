@@ -1,7 +1,7 @@
 -- An effort goes on by one event, or stops there.
-use Rattle.std.proofs.Common.{◌≡◌, ℕ, ◌+◌, ◌*◌, ◌<◌, ◌≤◌, List, [], ◌∷◌, ◌++◌, length, Err, inl, inr, refl, sym, ap, subst, ◌∙◌, arith, append_assoc, append-nil, length-append}
+use Rattle.std.proofs.Common.{◌≡◌, ℕ, ◌+◌, ◌*◌, ◌^◌, ◌<◌, ◌≤◌, List, [], ◌∷◌, ◌++◌, length, Err, inl, inr, refl, sym, ap, subst, ◌∙◌, arith, append_assoc, append-nil, length-append}
 use Rattle.std.specs.Prelude.{None, Some, Option, MatchOption, ⊤}
-use Rattle.cps_outside.specs.SinkState.{SinkState, GrowsByPart}
+use Rattle.cps_outside.specs.SinkState.{SinkState, GrowsByPart, CountsPuts}
 use Rattle.landing_rules.specs.Events.{State, Event, Refusal, Step, Answered, Run}
 use Rattle.landing_rules.specs.Problem.{Problem, IsProblemOf}
 use Rattle.landing_rules.specs.Text.{Bytes}
@@ -36,10 +36,11 @@ pub record Done (old : Standing AnyKept) (events : List Event) (from : SinkState
   pub as_many : length plannings.planned ≡ length done
   pub total_is : total ≡ steps_of plannings.planned
   pub few : total ≤ length done * most_steps
-  pub written : Wrote from to (answer_lines 1 plannings.planned)
+  pub written : Wrote (length done) from to (answer_lines 1 plannings.planned)
 
-pub begins : (old : Standing AnyKept) (events : List Event) (from : SinkState) → Holds old.planner old.problem → Done old events from 1 old events from 0
-begins old events from held = record {
+pub begins : (old : Standing AnyKept) (events : List Event) (from : SinkState) → Holds old.planner old.problem → from.puts < 2 ^ 64 →
+    Done old events from 1 old events from 0
+begins old events from held fits = record {
   done = [];
   split = refl;
   plannings = record { planned = []; run = tt; steps = tt };
@@ -50,7 +51,7 @@ begins old events from held = record {
   as_many = refl;
   total_is = refl;
   few = omega arith;
-  written = wrote_nothing from;
+  written = wrote_nothing from fits;
 }
 
 -- ---- one event more
@@ -79,10 +80,10 @@ lines_longer : (i : ℕ) (planned : List Planned) (a : Planned) → i ≡ 1 + le
 lines_longer i planned a e = ap (λ (n : ℕ). answer_lines 1 planned ++ answer_line n a.answered.answer a.steps) e ∙ sym (lines-push 1 planned a)
 
 pub goes_on : (old now new : Standing AnyKept) (events : List Event) (from to to2 : SinkState) (i total : ℕ) (e : Event) (rest : List Event) (steps : ℕ) →
-    Done old events from i now (e ∷ rest) to total → PlansWith now new i e steps (Wrote to to2) → Done old events from (i + 1) new rest to2 (total + steps)
+    Done old events from i now (e ∷ rest) to total → PlansWith now new i e steps (Wrote 1 to to2) → Done old events from (i + 1) new rest to2 (total + steps)
 unfolding longer
 goes_on old now new events from to to2 i total e rest steps d a =
-    let one : Planned = one_more new i e now steps (Wrote to to2) a in
+    let one : Planned = one_more new i e now steps (Wrote 1 to to2) a in
     let done_more : length (d.done ++ e ∷ []) ≡ length d.done + 1 = length-append d.done (e ∷ []) in
     let planned_more : length (d.plannings.planned ++ one ∷ []) ≡ length d.plannings.planned + 1 = length-append d.plannings.planned (one ∷ []) in
     let sum_more : steps_of (d.plannings.planned ++ one ∷ []) ≡ steps_of d.plannings.planned + steps = steps-push d.plannings.planned one in
@@ -94,7 +95,7 @@ goes_on old now new events from to to2 i total e rest steps d a =
     record {
       done = d.done ++ e ∷ [];
       split = append_assoc d.done (e ∷ []) rest ∙ d.split;
-      plannings = longer old now new events from to i total e rest steps (Wrote to to2) d a;
+      plannings = longer old now new events from to i total e rest steps (Wrote 1 to to2) d a;
       state = sym (ap (last_state old.state) (answers-push d.plannings.planned one) ∙ last_state-push old.state (answers_of d.plannings.planned) one.answered);
       problem = sym (last_problem-push old.problem d.plannings.planned one);
       held = a.plans.held;
@@ -102,36 +103,39 @@ goes_on old now new events from to to2 i total e rest steps d a =
       as_many = omega (arith, as_many, planned_more, done_more);
       total_is = omega (arith, total_is, sum_more);
       few = rw done_more (omega (arith, so_far, few));
-      written = subst (λ (t : Bytes). Wrote from to2 t) (lines_longer i d.plannings.planned one d.number)
-          (wrote_after from to to2 (answer_lines 1 d.plannings.planned) (answer_line i a.answer steps) d.written a.written);
+      written = subst (λ (n : ℕ). Wrote n from to2 (answer_lines 1 (d.plannings.planned ++ one ∷ []))) (sym done_more)
+          (subst (λ (t : Bytes). Wrote (length d.done + 1) from to2 t) (lines_longer i d.plannings.planned one d.number)
+          (wrote_after (length d.done) 1 from to to2 (answer_lines 1 d.plannings.planned) (answer_line i a.answer steps) d.written a.written));
     }
 
 stops_unwritten : (old now new : Standing AnyKept) (events : List Event) (from to to2 : SinkState) (i total : ℕ) (e : Event) (rest : List Event) (steps : ℕ) →
-    Done old events from i now (e ∷ rest) to total → PlansWith now new i e steps (WrotePart to to2) → SomePlan old events (WrotePart from to2)
+    Done old events from i now (e ∷ rest) to total → PlansWith now new i e steps (WrotePart 1 to to2) →
+    SomePlan old events (λ puts. WrotePart puts from to2)
 unfolding longer
 stops_unwritten old now new events from to to2 i total e rest steps d a =
-    let one : Planned = one_more new i e now steps (WrotePart to to2) a in
+    let one : Planned = one_more new i e now steps (WrotePart 1 to to2) a in
     record {
       done = d.done ++ e ∷ [];
       rest = rest;
       split = append_assoc d.done (e ∷ []) rest ∙ d.split;
-      plannings = longer old now new events from to i total e rest steps (WrotePart to to2) d a;
-      written = subst (λ (t : Bytes). WrotePart from to2 t) (lines_longer i d.plannings.planned one d.number)
-          (part_after from to to2 (answer_lines 1 d.plannings.planned) (answer_line i a.answer steps) d.written a.written);
+      plannings = longer old now new events from to i total e rest steps (WrotePart 1 to to2) d a;
+      written = subst (λ (n : ℕ). WrotePart n from to2 (answer_lines 1 (d.plannings.planned ++ one ∷ []))) (sym (length-append d.done (e ∷ [])))
+          (subst (λ (t : Bytes). WrotePart (length d.done + 1) from to2 t) (lines_longer i d.plannings.planned one d.number)
+          (part_after (length d.done) 1 from to to2 (answer_lines 1 d.plannings.planned) (answer_line i a.answer steps) d.written a.written));
     }
 
 stops_short : (old now : Standing AnyKept) (events : List Event) (from to : SinkState) (i total : ℕ) (rest : List Event) →
-    Done old events from i now rest to total → SomePlan old events (Wrote from to)
+    Done old events from i now rest to total → SomePlan old events (λ puts. Wrote puts from to)
 stops_short old now events from to i total rest d = record { done = d.done; rest = rest; split = d.split; plannings = d.plannings; written = d.written }
 
 pub stops : (s : Stop) (old now new : Standing AnyKept) (events : List Event) (from to to2 : SinkState) (i total : ℕ) (e : Event) (rest : List Event) →
     Done old events from i now (e ∷ rest) to total → StepPlans now new i e to to2 (Err s) → EventsPlan old new events from to2 (Err s)
 stops stop.NotWritten old now new events from to to2 i total e rest d a = stops_unwritten old now new events from to to2 i total e rest a.0 d a.1
 stops stop.NoMemory old now new events from to to2 i total e rest d a =
-    subst (λ (x : SinkState). SomePlan old events (Wrote from x)) (sym a) (stops_short old now events from to i total (e ∷ rest) d)
+    subst (λ (x : SinkState). SomePlan old events (λ puts. Wrote puts from x)) (sym a) (stops_short old now events from to i total (e ∷ rest) d)
 
 pub ends : (old now : Standing AnyKept) (events : List Event) (from to : SinkState) (i total : ℕ) →
-    Done old events from i now [] to total → AllPlan old now events total (Wrote from to)
+    Done old events from i now [] to total → AllPlan old now events total (Wrote (length events) from to)
 ends old now events from to i total d =
     let all : d.done ≡ events = sym (append-nil d.done) ∙ d.split in
     record {
@@ -143,7 +147,7 @@ ends old now events from to i total d =
       last = d.state;
       total_is = d.total_is;
       few = subst (λ (es : List Event). total ≤ length es * most_steps) all d.few;
-      written = d.written;
+      written = subst (λ (es : List Event). Wrote (length es) from to (answer_lines 1 d.plannings.planned)) all d.written;
     }
 
 -- ---- a refused event
@@ -182,16 +186,20 @@ abbrev pub no_plannings : (old : Standing AnyKept) → Plannings old.problem old
 no_plannings old = record { planned = []; run = tt; steps = tt }
 
 -- a first part of a text is a part of it
-part_of_more : (from to : SinkState) (x y : Bytes) → WrotePart from to x → WrotePart from to (x ++ y)
-part_of_more from to x y w = record {
+part_of_more : (puts : ℕ) (from to : SinkState) (x y : Bytes) → WrotePart puts from to x → WrotePart puts from to (x ++ y)
+part_of_more puts from to x y w = record {
   tells = w.tells;
   part = λ told. let p = w.part told in (p.0, p.1 ++ y, sym (append_assoc p.0 p.1 y) ∙ ap (λ (t : Bytes). t ++ y) p.2, p.3);
   failed = w.failed;
   lacked = λ sure. let short : from.room < length x = w.lacked sure in omega (arith, short, length-append x y);
+  counted = w.counted;
 }
 
-whole_of_more : (from to : SinkState) (x y : Bytes) → Wrote from to x → GrowsByPart from to (x ++ y)
-whole_of_more from to x y w = λ told. (x, y, refl, w.grew told)
+whole_of_more : (puts : ℕ) (from to : SinkState) (x y : Bytes) → Wrote puts from to x → GrowsByPart from to (x ++ y) × CountsPuts puts from to
+whole_of_more puts from to x y w = ((λ told. (x, y, refl, w.grew told)), w.counted)
+
+two_more : (n : ℕ) → (1 + n) + 1 ≡ 2 + n
+two_more n = omega arith
 
 module _ (old : Standing AnyKept) (events : List Event) (opening : ℕ) (of : IsProblemOf old.state.situation old.problem) (opened : IsDue None old.problem opening) where
   -- the opening's line was not written whole
@@ -201,43 +209,53 @@ module _ (old : Standing AnyKept) (events : List Event) (opening : ℕ) (of : Is
     rest = events;
     split = refl;
     effort = effort_of old [] opening of opened (no_plannings old);
-    written = part_of_more from to (begun_line opening ++ []) (total_line (opening + 0)) (part_of_more from to (begun_line opening) [] w);
+    written = (1, (omega arith), (omega arith), part_of_more 1 from to (begun_line opening ++ []) (total_line (opening + 0)) (part_of_more 1 from to (begun_line opening) [] w));
   }
   stops_at_once stop.NoMemory new from to w = inl w
 
   -- it was, and an event's line was not
-  pub stops_after : (s : Stop) (new : Standing AnyKept) (from mid to : SinkState) → Wrote from mid (begun_line opening) → EventsPlan old new events mid to (Err s) →
+  pub stops_after : (s : Stop) (new : Standing AnyKept) (from mid to : SinkState) → Wrote 1 from mid (begun_line opening) → EventsPlan old new events mid to (Err s) →
       EffortEnds old.state new.state events from to (Err s)
   stops_after stop.NotWritten new from mid to w some = record {
     done = some.done;
     rest = some.rest;
     split = some.split;
     effort = effort_of old some.done opening of opened some.plannings;
-    written = part_of_more from to (begun_line opening ++ answer_lines 1 some.plannings.planned) (total_line (opening + steps_of some.plannings.planned))
-        (part_after from mid to (begun_line opening) (answer_lines 1 some.plannings.planned) w some.written);
+    written = (
+      1 + length some.done,
+      (omega arith),
+      (omega arith),
+      part_of_more (1 + length some.done) from to (begun_line opening ++ answer_lines 1 some.plannings.planned) (total_line (opening + steps_of some.plannings.planned))
+          (part_after 1 (length some.done) from mid to (begun_line opening) (answer_lines 1 some.plannings.planned) w some.written),
+    );
   }
   stops_after stop.NoMemory new from mid to w some = inr (record {
     done = some.done;
     rest = some.rest;
     split = some.split;
     effort = effort_of old some.done opening of opened some.plannings;
-    written = whole_of_more from to (begun_line opening ++ answer_lines 1 some.plannings.planned) (total_line (opening + steps_of some.plannings.planned))
-        (wrote_after from mid to (begun_line opening) (answer_lines 1 some.plannings.planned) w some.written);
+    written = whole_of_more (1 + length some.done) from to (begun_line opening ++ answer_lines 1 some.plannings.planned) (total_line (opening + steps_of some.plannings.planned))
+        (wrote_after 1 (length some.done) from mid to (begun_line opening) (answer_lines 1 some.plannings.planned) w some.written);
   })
 
   -- and the last line was not
-  pub stops_last : (s : Stop) (new : Standing AnyKept) (total : ℕ) (from mid late to : SinkState) → Wrote from mid (begun_line opening) → AllPlan old new events total (Wrote mid late) →
-      PutsText (total_line (opening + total)) late to (Err s) → EffortEnds old.state new.state events from to (Err s)
+  pub stops_last : (s : Stop) (new : Standing AnyKept) (total : ℕ) (from mid late to : SinkState) → Wrote 1 from mid (begun_line opening) →
+      AllPlan old new events total (Wrote (length events) mid late) → PutsText (total_line (opening + total)) late to (Err s) → EffortEnds old.state new.state events from to (Err s)
   stops_last stop.NotWritten new total from mid late to w all last =
       let planned = all.plannings.planned in
-      let told : WrotePart late to (total_line (opening + steps_of planned)) = subst (λ (n : ℕ). WrotePart late to (total_line (opening + n))) all.total_is last in
+      let told : WrotePart 1 late to (total_line (opening + steps_of planned)) = subst (λ (n : ℕ). WrotePart 1 late to (total_line (opening + n))) all.total_is last in
       record {
         done = events;
         rest = [];
         split = append-nil events;
         effort = effort_of old events opening of opened all.plannings;
-        written = part_after from late to (begun_line opening ++ answer_lines 1 planned) (total_line (opening + steps_of planned))
-            (wrote_after from mid late (begun_line opening) (answer_lines 1 planned) w all.written) told;
+        written = (
+          (1 + length events) + 1,
+          (omega arith),
+          (omega arith),
+          part_after (1 + length events) 1 from late to (begun_line opening ++ answer_lines 1 planned) (total_line (opening + steps_of planned))
+              (wrote_after 1 (length events) from mid late (begun_line opening) (answer_lines 1 planned) w all.written) told,
+        );
       }
   stops_last stop.NoMemory new total from mid late to w all last =
       let planned = all.plannings.planned in
@@ -246,20 +264,22 @@ module _ (old : Standing AnyKept) (events : List Event) (opening : ℕ) (of : Is
         rest = [];
         split = append-nil events;
         effort = effort_of old events opening of opened all.plannings;
-        written = subst (λ (x : SinkState). GrowsByPart from x (planned_text opening planned)) (sym last)
-            (whole_of_more from late (begun_line opening ++ answer_lines 1 planned) (total_line (opening + steps_of planned))
-            (wrote_after from mid late (begun_line opening) (answer_lines 1 planned) w all.written));
+        written = subst (λ (x : SinkState). GrowsByPart from x (planned_text opening planned) × CountsPuts (1 + length events) from x) (sym last)
+            (whole_of_more (1 + length events) from late (begun_line opening ++ answer_lines 1 planned) (total_line (opening + steps_of planned))
+            (wrote_after 1 (length events) from mid late (begun_line opening) (answer_lines 1 planned) w all.written));
       })
 
   -- all was written
-  pub ends_whole : (new : Standing AnyKept) (total : ℕ) (from mid late to : SinkState) → Wrote from mid (begun_line opening) → AllPlan old new events total (Wrote mid late) →
-      Wrote late to (total_line (opening + total)) → EffortTells old.state events new.state (Wrote from to)
+  pub ends_whole : (new : Standing AnyKept) (total : ℕ) (from mid late to : SinkState) → Wrote 1 from mid (begun_line opening) →
+      AllPlan old new events total (Wrote (length events) mid late) →
+      Wrote 1 late to (total_line (opening + total)) → EffortTells old.state events new.state (Wrote (2 + length events) from to)
   ends_whole new total from mid late to w all last =
       let planned = all.plannings.planned in
-      let told : Wrote late to (total_line (opening + steps_of planned)) = subst (λ (n : ℕ). Wrote late to (total_line (opening + n))) all.total_is last in
+      let told : Wrote 1 late to (total_line (opening + steps_of planned)) = subst (λ (n : ℕ). Wrote 1 late to (total_line (opening + n))) all.total_is last in
       record {
         effort = effort_of old events opening of opened all.plannings;
         last = all.last;
-        written = wrote_after from late to (begun_line opening ++ answer_lines 1 planned) (total_line (opening + steps_of planned))
-            (wrote_after from mid late (begun_line opening) (answer_lines 1 planned) w all.written) told;
+        written = subst (λ (n : ℕ). Wrote n from to (planned_text opening planned)) (two_more (length events))
+            (wrote_after (1 + length events) 1 from late to (begun_line opening ++ answer_lines 1 planned) (total_line (opening + steps_of planned))
+            (wrote_after 1 (length events) from mid late (begun_line opening) (answer_lines 1 planned) w all.written) told);
       }

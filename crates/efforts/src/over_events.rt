@@ -1,4 +1,4 @@
-ghost use Rattle.std.specs.Prelude.{◌≡◌, ◌≤◌, All, Some, None, MatchOption, MatchResult, is_some, length, map, ⊤};
+ghost use Rattle.std.specs.Prelude.{◌≡◌, ◌≤◌, ◌<◌, ◌^◌, All, Some, None, MatchOption, MatchResult, is_some, length, map, ⊤};
 ghost use Rattle.landing_rules.specs.Limits.{most_events};
 ghost use Rattle.landing_rules.specs.Sound.{IsGoodEvent};
 ghost use Rattle.cps_network.specs.Due.{IsDue};
@@ -84,6 +84,7 @@ fn plan_events<R: Threads + Sync, S: Sink, G: Gate + Sync>(
     requires good { All IsGood events.now }
     requires few { length events.now ≤ most_events }
     requires held { Holds sequencer.old.planner sequencer.old.problem }
+    requires fits { (S.state out.old).puts < 2 ^ 64 }
     ensures { EventsPlan sequencer.old sequencer.new (map event_of events.now) (S.state out.old)
         (S.state out.new) result }
 {
@@ -122,8 +123,7 @@ fn is_planned(sequencer: &Sequencer<AnyKept>) -> bool
 }
 
 /// Replays the events from the state of the sequencer, and prints how many steps its planning took at the opening, after
-/// each accepted event, and in all. Each line is one put, though no clause says so. It answers whether a plan is shown at
-/// the end.
+/// each accepted event, and in all. Each line is one put. It answers whether a plan is shown at the end.
 ///
 /// `opening` is how many steps the planning of the sequencer's problem took with nothing held, and the planner holds that
 /// problem. It asks that the events' numbers are in their ranges, and that there are at most 2,000. Where it answers a plan,

@@ -94,4 +94,4 @@ says old new x y r is w = let P : List ℕ → Type 0 = λ l. Writes old new l r
 -- what the put of an ending's line says
 pub said : {T E : Type 0} (old new : SinkState) (x : List ℕ) (r : Result T E) → Writes old new x r → Says old new x
 said old new x (Ok u) w = record { tells = w.tells; part = λ told. (x, [], append-nil x, w.ok told); whole = inl w.ok }
-said old new x (Err e) w = record { tells = w.tells; part = w.part; whole = inr w.failed }
+said old new x (Err e) w = record { tells = w.tells; part = w.part; whole = inr (w.failed, w.lacked) }

@@ -2,7 +2,7 @@
 -- A reader's want of memory has a line here as each cause has, but no run writes it: that ends a run by itself (specs/Faults).
 use Rattle.std.specs.Prelude.{◌≡◌, ◌⊎◌, ℕ, List, [], ◌∷◌, ◌++◌, codes, decimal}
 use Rattle.cps_outside.specs.Causes.{Rose}
-use Rattle.cps_outside.specs.SinkState.{SinkState, Grows, GrowsByPart}
+use Rattle.cps_outside.specs.SinkState.{SinkState, Grows, GrowsByPart, LacksRoom}
 use Rattle.wake_table.specs.Letters.{letter}
 use Rattle.wake_table.specs.declared.category.Category.{Category}
 use Rattle.wake_table.specs.declared.table.TableFault.{TableFault}
@@ -324,8 +324,8 @@ line_of NotWritten = text_of (codes "cps: write failed\n" ∷ [])
 line_of (TooLong place) = text_of (codes "cps: file " ∷ decimal place ∷ codes ": too long\n" ∷ [])
 line_of NoMemory = text_of (codes "cps: no memory\n" ∷ [])
 
--- The line was written, whole unless a fault was counted.
+-- The line was written, whole unless a fault was counted, and then, where the sink is sure, for want of room.
 pub record Says (old new : SinkState) (line : List ℕ) : Type 0 where
   pub tells : new.tells ≡ old.tells
   pub part : GrowsByPart old new line
-  pub whole : Grows old new line ⊎ Rose old.faults new.faults
+  pub whole : Grows old new line ⊎ (Rose old.faults new.faults × LacksRoom old line)

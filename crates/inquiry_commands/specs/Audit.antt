@@ -1,8 +1,9 @@
 -- What `audit` prints over the contents of its three files, and which it refuses.
-use Rattle.std.specs.Prelude.{◌≡◌, ℕ, List, [], ◌∷◌, codes, Some, None, Ok}
+use Rattle.std.specs.Prelude.{⊤, ◌≡◌, ◌↔◌, ℕ, List, [], ◌∷◌, codes, Some, None, Ok}
 use Rattle.landing_rules.specs.Flights.{Situation}
 use Rattle.landing_rules.specs.Text.{line}
-use Rattle.landing_rules.specs.Audit.{Finding, findings}
+use Rattle.landing_rules.specs.Audit.{Finding, IsClean, findings}
+use Rattle.landing_rules.specs.Sound.{IsSound}
 use Rattle.arrivals.specs.declared.aerodrome.Aerodrome.{Aerodrome}
 use Rattle.aerodrome_file.specs.Reading.{aerodrome_of}
 use Rattle.arrivals.specs.declared.flight.Flight.{Flight}
@@ -43,11 +44,18 @@ abbrev pub audit_answer : Situation → PlanText → Answer
 audit_answer s plans.Nothing = Claimed
 audit_answer s (plans.Block b) = report_answer (findings s (seen_block b))
 
--- The files are taken, and the text is what is found of the plan in their opening situation.
+-- `ok` is printed of a block exactly where it is that of a feasible schedule
+abbrev pub TellsClean : Situation → PlanText → List ℕ → Type 0
+TellsClean s plans.Nothing text = ⊤
+TellsClean s (plans.Block b) text = (text ≡ line (codes "ok")) ↔ IsClean s (seen_block b)
+
+-- The files are taken, and the text is what is found of the plan in their opening situation, which is sound.
 pub record IsAudited (aerodrome : Aerodrome) (flights : List Flight) (plan : PlanText) (text : List ℕ) (answer : Answer) : Type 0 where
   pub taken : refusal_of aerodrome flights ≡ None
   pub prints : text ≡ audit_text (opened aerodrome flights) plan
   pub answers : answer ≡ audit_answer (opened aerodrome flights) plan
+  pub sound : IsSound (opened aerodrome flights)
+  pub clean : TellsClean (opened aerodrome flights) plan text
 
 -- The files read as an aerodrome, flights and a plan, and this is found.
 pub record AdmitsAudit (aerodrome_bytes flight_bytes plan_bytes text : List ℕ) (answer : Answer) : Type 0 where

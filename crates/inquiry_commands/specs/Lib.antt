@@ -2,5 +2,6 @@
 pub mod Audit
 pub mod First
 pub mod FirstShown
+pub mod TextLaws
 pub mod WhatIf
 pub mod shared

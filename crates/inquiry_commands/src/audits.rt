@@ -1,5 +1,6 @@
-ghost use Rattle.std.specs.Prelude.{◌≡◌, ◌≤◌, IfOk, MatchResult, length, map};
-ghost use Rattle.landing_rules.specs.Audit.{findings};
+ghost use Rattle.std.specs.Prelude.{◌≡◌, ◌≤◌, ◌↔◌, IfOk, MatchResult, codes, length, map};
+ghost use Rattle.landing_rules.specs.Audit.{IsClean, findings};
+ghost use Rattle.landing_rules.specs.Text.{line};
 ghost use Rattle.landing_rules.specs.Limits.{most_flights};
 ghost use Rattle.audit.specs.Findings.{finding_of};
 ghost use Rattle.plan_file.specs.Blocks.{seen_block};
@@ -7,7 +8,7 @@ ghost use Rattle.arrivals.specs.Aerodromes.{IsInRange};
 ghost use Rattle.arrivals.specs.Flights.{AreArrivals};
 ghost use Rattle.landing_rules.specs.Sound.{IsSound};
 ghost use Rattle.plan_file.specs.Reading.{HasFewLines};
-ghost use Rattle.inquiry_commands.specs.Audit.{AdmitsAudit, FollowsAudit, IsAudited, StopsAudit, audit_answer, audit_text, report, report_answer};
+ghost use Rattle.inquiry_commands.specs.Audit.{AdmitsAudit, FollowsAudit, IsAudited, StopsAudit, TellsClean, audit_answer, audit_text, report, report_answer};
 ghost use Rattle.endings.specs.Refusing.{StopsOpened};
 
 use aerodrome_file::read_aerodrome;
@@ -49,6 +50,8 @@ fn report_block(alloc: Global, situation: &Situation, block: &Block) -> Result<R
         report (findings situation.now (seen_block block.now))) }
     ensures answer { IfOk result (λ r. r.answer ≡
         report_answer (findings situation.now (seen_block block.now))) }
+    ensures clean { IfOk result (λ r. (r.text.items ≡ line (codes "ok"))
+        ↔ IsClean situation.now (seen_block block.now)) }
 {
     let found = audit(alloc, situation, block)?;
     let report = report_found(alloc, &found)?;
@@ -61,6 +64,7 @@ fn report_plan(alloc: Global, situation: &Situation, plan: &PlanText) -> Result<
     requires few { HasFewLines plan.now }
     ensures text { IfOk result (λ r. r.text.items ≡ audit_text situation.now plan.now) }
     ensures answer { IfOk result (λ r. r.answer ≡ audit_answer situation.now plan.now) }
+    ensures clean { IfOk result (λ r. TellsClean situation.now plan.now r.text.items) }
 {
     match plan {
         PlanText::Nothing => Ok(Report {

@@ -5,9 +5,11 @@ mod audits;
 mod first;
 mod first_laws;
 mod first_plans;
+mod text_laws;
 mod what_ifs;
 
 pub use audits::run_audit;
 pub use first::run_first;
 pub use first_laws::{first_costs_as_every_plan, first_text_is_one};
+pub use text_laws::{first_texts_are_bounded, what_if_text_is_one};
 pub use what_ifs::run_what_if;

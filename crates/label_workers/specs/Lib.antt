@@ -1,1 +1,3 @@
--- No definition stands here: an entry is an answer of the function that the caller gives.
+-- The definitions of this crate.
+pub mod Pieces
+pub mod shared

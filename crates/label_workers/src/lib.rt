@@ -4,6 +4,8 @@
 
 mod lists;
 mod numbers;
+mod pieces;
 
 pub use lists::{fill_lists, fill_long_lists};
-pub use numbers::{PIECE, fill_numbers};
+pub use numbers::fill_numbers;
+pub use pieces::{PIECE, fill_pieces};

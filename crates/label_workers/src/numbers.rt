@@ -1,14 +1,10 @@
+//! A column filled entry by entry.
+
 ghost use Rattle.std.specs.Prelude.{ℕ, ◌+◌, ◌^◌, ◌<◌, length, slice_index};
 
+use crate::pieces::fill_pieces;
 use cps_outside::Gate;
-use std::thread;
 use std::thread::Threads;
-
-/// How many entries a piece of a column has. The last piece may be shorter.
-pub const PIECE: usize = 1024;
-
-// The most lanes that fill a column at once. A lane is what one thread runs: whole pieces, one after another.
-const LANES: usize = 8;
 
 /// Writes into each entry of the column an answer of `f` for its place, by pieces that may run at once. The piece that
 /// begins at entry i passes the gate as number i / PIECE first. The column has at most 4,294,967,295 entries, and `f`
@@ -23,35 +19,22 @@ pub fn fill_numbers<R: Threads + Sync, G: Gate + Sync, F: Fn(usize) -> u32 + Syn
     requires callable { (i : ℕ) → i < length column.old → F.pre f.now i }
     ensures { (i : ℕ) → i < length column.old → F.post f.now i (slice_index column.new i) }
 {
-    let lane = move |start: usize, part: &mut [u32]|
+    let piece = move |start: usize, part: &mut [u32]|
         requires { (start + length part.now < 2 ^ 32)
             × ((k : ℕ) → k < length part.now → F.pre f.now (start + k)) }
         ensures { (k : ℕ) → k < length part.entry.now
             → F.post f.entry.now (start + k) (slice_index part.exit.now k) }
-    { fill_lane(part, start, gate, f) };
-    let size = lane_of(column.len());
-    thread::for_each_chunk_mut(rt, column, size, &lane);
+    { fill_each(part, start, f) };
+    fill_pieces(rt, column, gate, &piece);
 }
 
-// How many entries a lane has: whole pieces, and so many that at most LANES lanes cover the column.
-fn lane_of(len: usize) -> usize
-    requires { len < 2 ^ 32 }
-    ensures { 0 < result }
-{
-    len.div_ceil(PIECE * LANES).max(1) * PIECE
-}
-
-// The part of a column that begins at entry `start`, piece by piece.
-fn fill_lane<G: Gate, F: Fn(usize) -> u32>(part: &mut [u32], start: usize, gate: &G, f: &F)
+// The entries of a part that begins at entry `start`, one after another.
+fn fill_each<F: Fn(usize) -> u32>(part: &mut [u32], start: usize, f: &F)
     requires few { start + length part.old < 2 ^ 32 }
     requires callable { (k : ℕ) → k < length part.old → F.pre f.now (start + k) }
     ensures { (k : ℕ) → k < length part.old → F.post f.now (start + k) (slice_index part.new k) }
 {
     for k in 0..part.len() {
-        let i = start + k;
-        if i % PIECE == 0 {
-            gate.pass((i / PIECE) as u32);
-        }
-        part[k] = f(i);
+        part[k] = f(start + k);
     }
 }

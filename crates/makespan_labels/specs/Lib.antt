@@ -3,6 +3,7 @@ pub mod Labels
 pub mod Columns
 pub mod Groups
 pub mod Ready
+pub mod Entries
 pub mod Followers
 pub mod LabelPairs
 pub mod shared

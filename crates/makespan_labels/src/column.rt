@@ -1,6 +1,6 @@
 //! A column of labels.
 
-ghost use Rattle.std.specs.Prelude.{◌≡◌, ℕ, ◌<◌, List, [], ◌∷◌, All, length, replicate, slice_index, set, IfOk, OnOk, OnErr};
+ghost use Rattle.std.specs.Prelude.{◌≡◌, ℕ, ◌<◌, List, [], ◌∷◌, All, length, replicate, slice_index, IfOk, OnOk, OnErr};
 ghost use Rattle.cps_nodes.specs.Windows.{IsWidth};
 ghost use Rattle.landing_rules.specs.Problem.{Problem};
 ghost use Rattle.cps_network.specs.Landable.{HasEachLandable};
@@ -17,7 +17,7 @@ pub const NO_LABEL: u32 = u32::MAX;
 /// The labels of the windows of a stage, in the order of its windows: seconds from 0 to 172,799, and `NO_LABEL`.
 #[derive(Drop)]
 pub struct Column {
-    labels: Vec<u32>,
+    pub(crate) entries: Vec<u32>,
 }
 
 impl Model for Column {
@@ -26,9 +26,9 @@ impl Model for Column {
 
     ghost Value = { List ℕ };
 
-    ghost view = { λ column. column.labels.items };
+    ghost view = { λ column. column.entries.items };
 
-    ghost invariant = { λ column. All IsEntry column.labels.items };
+    ghost invariant = { λ column. All IsEntry column.entries.items };
 }
 
 impl Column {
@@ -37,7 +37,7 @@ impl Column {
         ensures { result ≡ [] }
     {
         Column {
-            labels: Vec::new(alloc),
+            entries: Vec::new(alloc),
         }
     }
 
@@ -45,8 +45,8 @@ impl Column {
     pub fn start(alloc: Global) -> Result<Column, AllocError>
         ensures { IfOk result (λ column. column ≡ 0 ∷ []) }
     {
-        let labels = vec![in alloc; 0u32; 1]?;
-        Ok(Column { labels })
+        let entries = vec![in alloc; 0u32; 1]?;
+        Ok(Column { entries })
     }
 
     /// Makes it n entries of `NO_LABEL`. After want of memory it is as it was.
@@ -54,9 +54,8 @@ impl Column {
         ensures made { OnOk result (self.new ≡ replicate n no_label) }
         ensures kept { OnErr result (self.new ≡ self.old) }
     {
-        let alloc = *self.labels.allocator();
-        let labels = vec![in alloc; NO_LABEL; n]?;
-        self.labels = labels;
+        let alloc = *self.entries.allocator();
+        self.entries = vec![in alloc; NO_LABEL; n]?;
         Ok(())
     }
 
@@ -64,7 +63,7 @@ impl Column {
     pub fn len(&self) -> usize
         ensures { result ≡ length self.now }
     {
-        self.labels.len()
+        self.entries.len()
     }
 
     /// The entry at place i, counted from 0.
@@ -73,17 +72,7 @@ impl Column {
         ensures value { result ≡ slice_index self.now i }
         ensures range { IsEntry result }
     {
-        self.labels[i]
-    }
-
-    // Writes the entry at place i.
-    #[inline]
-    pub(crate) fn set(&mut self, i: usize, label: u32)
-        requires within { i < length self.old }
-        requires range { IsEntry label }
-        ensures { self.new ≡ set self.old i label }
-    {
-        self.labels[i] = label;
+        self.entries[i]
     }
 
     /// Keeps the windows and the labels at the places whose label is not `NO_LABEL`, in order.
@@ -99,7 +88,7 @@ impl Column {
             → AreLabels p stage.old self.old → HoldsLabels p stage.new self.new }
     {
         stage.compact(
-            &mut self.labels,
+            &mut self.entries,
             |label: &u32|
                 ensures { result ≡ is_known label.now }
             { *label != NO_LABEL },

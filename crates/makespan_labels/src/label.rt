@@ -1,6 +1,6 @@
 //! The labels of a stage, from those of the stage before.
 
-ghost use Rattle.std.specs.Prelude.{◌≡◌, ◌+◌, ◌*◌, ◌<◌, ◌≤◌, length, IfSome};
+ghost use Rattle.std.specs.Prelude.{◌≡◌, ℕ, ◌+◌, ◌*◌, ◌<◌, ◌≤◌, length, slice_index, IfSome};
 ghost use Rattle.cps_base.specs.Tally.{raised_by};
 ghost use Rattle.cps_nodes.specs.Leads.{Extends};
 ghost use Rattle.cps_network.specs.Landable.{HasEachLandable};
@@ -14,6 +14,7 @@ ghost use Rattle.makespan_labels.specs.Followers.{IsFollower};
 ghost use Rattle.makespan_labels.specs.Groups.{IsLead};
 ghost use Rattle.makespan_labels.specs.Ready.{IsReady};
 ghost use Rattle.makespan_labels.specs.Labels.{IsLabel, AreLabels, HoldsLabels};
+ghost use Rattle.makespan_labels.specs.Entries.{IsLabelAt};
 
 use crate::column::{Column, NO_LABEL};
 use crate::follower::{Follower, follower_of};
@@ -23,6 +24,7 @@ use cps_network::{Stage, last_rank, prefix_laws};
 use cps_nodes::{Window, window_laws};
 use cps_outside::Gate;
 use cps_problem::Problem;
+use label_workers::fill_pieces;
 use std::thread::Threads;
 use wake_table::Category;
 
@@ -84,8 +86,67 @@ fn label_of<const W: usize>(
     }
 }
 
+// Writes the labels of the windows of a stage from place `start` on, as many as the part has entries. The windows that share
+// a tail are looked up once, and each rank that lands last once.
+fn fill_part<const W: usize>(
+    problem: &Problem,
+    before: &Stage<W>,
+    labels: &Column,
+    stage: &Stage<W>,
+    start: usize,
+    part: &mut [u32],
+)
+    requires width { W ≡ 2 * problem.now.k + 1 }
+    requires laws { WindowLaws problem.now W }
+    requires before { HoldsLabels problem.now before.now labels.now }
+    requires number { stage.now.0 ≡ before.now.0 + 1 }
+    requires next { IsNextOf problem.now before.now.0 before.now.1 stage.now.1 }
+    requires within { start + length part.old ≤ length stage.now.1 }
+    ensures { (i : ℕ) → i < length part.old
+        → IsLabelAt problem.now stage.now (start + i) (slice_index part.new i) }
+{
+    let _near = problem.head();
+    let earlier = before.windows();
+    let windows = stage.windows();
+    if part.is_empty() {
+        return;
+    }
+    let mut first = Group::blank();
+    find_group(&mut first, problem, before, earlier, labels, stage, start);
+    let mut groups = [first; 8];
+    let mut followers = [Follower::new(0, Category::A); 8];
+    for i in 0..part.len() {
+        let place = start + i;
+        let window = &windows[place];
+        let run = run_of(window);
+        let leads = earlier[groups[run].from].leads_to(window);
+        turn_to(
+            &mut groups[run],
+            leads,
+            problem,
+            before,
+            earlier,
+            labels,
+            stage,
+            place,
+        );
+        let follower = follower_of(window);
+        let label = label_of(
+            problem,
+            before,
+            labels,
+            stage,
+            place,
+            window,
+            &groups[run],
+            &mut followers[follower],
+        );
+        part[i] = label;
+    }
+}
+
 /// Writes the labels of a stage: for each window the least second at which a legal prefix that ends in it can land its last
-/// flight, or `NO_LABEL` exactly where there is none.
+/// flight, or `NO_LABEL` exactly where there is none. All are written by the caller's thread.
 ///
 /// The stage before holds the landable windows with their labels, and this stage the windows that extend one of them by a
 /// permitted rank.
@@ -107,53 +168,26 @@ pub fn fill_alone<const W: usize>(
     let _near = problem.head();
     prefix_laws::<W>(problem);
     window_laws::<W>();
-    let earlier = before.windows();
-    let windows = stage.windows();
-    if windows.is_empty() {
-        return;
-    }
-    let mut first = Group::blank();
-    find_group(&mut first, problem, before, earlier, labels, stage, 0);
-    let mut groups = [first; 8];
-    let mut followers = [Follower::new(0, Category::A); 8];
-    for i in 0..windows.len() {
-        let window = &windows[i];
-        let run = run_of(window);
-        let leads = earlier[groups[run].from].leads_to(window);
-        turn_to(
-            &mut groups[run],
-            leads,
-            problem,
-            before,
-            earlier,
-            labels,
-            stage,
-            i,
-        );
-        let follower = follower_of(window);
-        let label = label_of(
-            problem,
-            before,
-            labels,
-            stage,
-            i,
-            window,
-            &groups[run],
-            &mut followers[follower],
-        );
-        into.set(i, label);
-    }
+    fill_part(
+        problem,
+        before,
+        labels,
+        stage,
+        0,
+        into.entries.as_mut_slice(),
+    );
 }
 
-/// The same as `fill_alone`, and it ticks once a window.
-pub fn fill<const W: usize, R: Threads, G: Gate, L: Ledger>(
-    _rt: &R,
+/// The same as `fill_alone`, by pieces that may run at once, each behind the gate, and it ticks once a window. The ticks are
+/// the caller's thread's own.
+pub fn fill<const W: usize, R: Threads + Sync, G: Gate + Sync, L: Ledger>(
+    rt: &R,
     problem: &Problem,
     before: &Stage<W>,
     labels: &Column,
     stage: &Stage<W>,
     into: &mut Column,
-    _gate: &G,
+    gate: &G,
     steps: &mut Steps<L>,
 )
     requires width { W ≡ 2 * problem.now.k + 1 }
@@ -165,6 +199,20 @@ pub fn fill<const W: usize, R: Threads, G: Gate, L: Ledger>(
     ensures landable { HasEachLandable problem.now stage.now }
     ensures steps { L.count steps.new ≡ raised_by (length stage.now.1) (L.count steps.old) }
 {
-    fill_alone(problem, before, labels, stage, into);
-    steps.tick(stage.len() as u64);
+    let _near = problem.head();
+    prefix_laws::<W>(problem);
+    window_laws::<W>();
+    let piece = move |start: usize, part: &mut [u32]|
+        requires { (W ≡ 2 * problem.now.k + 1) × WindowLaws problem.now W
+            × HoldsLabels problem.now before.now labels.now
+            × (stage.now.0 ≡ before.now.0 + 1)
+            × IsNextOf problem.now before.now.0 before.now.1 stage.now.1
+            × (start + length part.now ≤ length stage.now.1) }
+        ensures { (i : ℕ) → i < length part.entry.now
+            → IsLabelAt problem.entry.now stage.entry.now (start + i)
+            (slice_index part.exit.now i) }
+    { fill_part(problem, before, labels, stage, start, part) };
+    let windows = stage.len();
+    fill_pieces(rt, into.entries.as_mut_slice(), gate, &piece);
+    steps.tick(windows as u64);
 }

@@ -1,5 +1,5 @@
 -- What a run over given files does.
-use Rattle.std.specs.Prelude.{[], ◌≡◌, ◌⊎◌, ℕ, List, String, Vec}
+use Rattle.std.specs.Prelude.{[], ◌≡◌, ◌⊎◌, ℕ, ◌≤◌, List, length, String, Vec}
 use Rattle.std.specs.declared.alloc.Global.{Global}
 use Rattle.cps_outside.specs.MemoryFolder.{fresh_folder}
 use Rattle.cps_outside.specs.MemorySink.{fresh_sink}
@@ -9,7 +9,8 @@ use Rattle.endings.specs.Outside.{Outside}
 use Rattle.cps_top.specs.Statuses.{AreThere, HasRoom}
 use Rattle.endings.specs.declared.ending.Answer.{Answer}
 use Rattle.endings.specs.declared.ending.Refusal.{Refusal}
-use Rattle.endings.specs.Lines.{answer_status}
+use Rattle.endings.specs.declared.ending.Ending.{Ending}
+use Rattle.endings.specs.Lines.{answer_status, status_of, line_of}
 
 -- these files, and room for so many bytes
 abbrev pub given : List (String Global × Vec ℕ Global) → ℕ → Outside
@@ -24,3 +25,9 @@ pub record Answers (words : List (List ℕ)) (files : List (String Global × Vec
       (status ≡ 8) ⊎ ((answer : Answer) × (status ≡ answer_status answer) × Admits command contents output answer)
   pub refused : (command : Command) (contents : List (List ℕ)) (refusal : Refusal) → AreThere words (given files room) command contents →
       Refuses command contents refusal → (status ≡ 3) ⊎ (status ≡ 8)
+
+-- The run has an ending of this status, and where there is room for its line, this line is what the standard error holds.
+pub record SaysLine (room status : ℕ) (err : List ℕ) : Type 0 where
+  pub ending : Ending
+  pub status_is : status ≡ status_of ending
+  pub line : length (line_of ending) ≤ room → err ≡ line_of ending

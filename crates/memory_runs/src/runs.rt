@@ -2,7 +2,7 @@ ghost use Rattle.std.specs.Prelude.{[], IfOk, map, string_bytes};
 ghost use Rattle.cps_outside.specs.MemoryFolder.{folder_state};
 ghost use Rattle.cps_outside.specs.MemorySink.{sink_state, fresh_sink};
 ghost use Rattle.cps_top.specs.Outcome.{RunsTo};
-ghost use Rattle.memory_runs.specs.Given.{given, Answers};
+ghost use Rattle.memory_runs.specs.Given.{given, Answers, SaysLine};
 
 use cps_outside::{Gate, MemoryFolder, MemorySink};
 use cps_top::run;
@@ -27,7 +27,8 @@ pub struct MemoryRun {
 ///
 /// No load of a file that is given fails, and no put of bytes for which there is room. So, where the files of the command
 /// are given and taken, and the room is enough for each text that it may print, the output is such a text, whole, with
-/// the status of its answer, 0, 1 or 7, or memory ran out, with status 8.
+/// the status of its answer, 0, 1 or 7, or memory ran out, with status 8. Where the room is enough for the line of how the
+/// run ended, the standard error holds that line.
 pub fn run_in_memory<R: Threads + Sync, G: Gate + Sync>(
     rt: &R,
     alloc: Global,
@@ -42,6 +43,7 @@ pub fn run_in_memory<R: Threads + Sync, G: Gate + Sync>(
         (fresh_sink room []) (sink_state r.err) r.status) }
     ensures answers { IfOk result (λ r. Answers (map string_bytes words.now) files.items room
         r.status (sink_state r.out).written) }
+    ensures line { IfOk result (λ r. SaysLine room r.status (sink_state r.err).written) }
 {
     let mut folder = MemoryFolder::new(alloc, files, Vec::new(alloc));
     let mut out = MemorySink::new(alloc, room, Vec::new(alloc))?;

@@ -12,7 +12,8 @@ pub struct Report {
     pub answer: Answer,
 }
 
-/// Puts the text of a report and answers so, or says that the put failed; a command that came to none ends as it did.
+/// Puts the text of a report, in one put, and answers so, or says that the put failed; a command that came to none ends as
+/// it did.
 pub fn print_report<S: Sink>(out: &mut S, report: Result<Report, Ending>) -> Ending
     ensures { Finishes report (S.state out.old) (S.state out.new) result }
 {

@@ -1,5 +1,5 @@
 -- What `effort` prints over the contents of its three files. It refuses those that `replay` refuses.
-use Rattle.std.specs.Prelude.{◌≡◌, ℕ, List, ◌++◌}
+use Rattle.std.specs.Prelude.{◌≡◌, ℕ, ◌+◌, List, ◌++◌}
 use Rattle.landing_rules.specs.Events as rules
 use Rattle.landing_rules.specs.Events.{State}
 use Rattle.efforts.specs.Efforts.{Effort, answers_of, effort_text}
@@ -7,9 +7,10 @@ use Rattle.event_answers.specs.Runs.{last_state}
 use Rattle.cps_outside.specs.SinkState.{SinkState}
 use Rattle.endings.specs.declared.ending.Answer.{Answer}
 use Rattle.endings.specs.declared.ending.Ending.{Ending}
+use Rattle.event_log.specs.Reading.{events_of}
 use Rattle.openings.specs.Follows.{FollowsBy}
 use Rattle.openings.specs.Plan.{answer_of}
-use Rattle.planning_commands.specs.Replay.{IsBegun, RefusesReplay}
+use Rattle.planning_commands.specs.Replay.{IsBegun, RefusesReplay, count_of}
 
 -- The text tells the steps of the plannings of a run of the rules over all events of the log, from an opening state of the
 -- files.
@@ -32,7 +33,11 @@ pub record BeginsEffort (aerodrome flights log text : List ℕ) : Type 0 where
   pub effort : Effort state done
   pub prints : text ≡ effort_text effort
 
+-- the puts of an effort over this log: one of the opening's line, one of each event's, and one of the last
+abbrev pub effort_puts : List ℕ → ℕ
+effort_puts log = 2 + count_of (events_of log)
+
 -- what `effort` does, with this ending
 abbrev pub FollowsEffort : List ℕ → List ℕ → List ℕ → SinkState → SinkState → Ending → Type 0
 FollowsEffort aerodrome flights events =
-    FollowsBy (AdmitsEffort aerodrome flights events) (BeginsEffort aerodrome flights events) (RefusesReplay aerodrome flights events)
+    FollowsBy (effort_puts events) (AdmitsEffort aerodrome flights events) (BeginsEffort aerodrome flights events) (RefusesReplay aerodrome flights events)

@@ -1,5 +1,5 @@
 -- What `replay` prints over the contents of its three files, and which it refuses.
-use Rattle.std.specs.Prelude.{◌≡◌, ℕ, Bool, List, ◌++◌, map, All, Some, None, Result, Ok, Err}
+use Rattle.std.specs.Prelude.{◌≡◌, ℕ, ◌+◌, Bool, List, ◌++◌, length, map, All, Some, None, Result, Ok, Err}
 use Rattle.landing_rules.specs.Events as rules
 use Rattle.landing_rules.specs.Events.{State, Answered, Run, IsOpeningState}
 use Rattle.landing_rules.specs.Sound.{IsSoundState, IsGoodEvent}
@@ -11,6 +11,7 @@ use Rattle.flight_file.specs.Reading.{flights_of}
 use Rattle.arrivals.specs.Seen.{flight_of, event_of}
 use Rattle.arrivals.specs.declared.event.Event.{Event}
 use Rattle.event_log.specs.Reading.{events_of}
+use Rattle.event_log.specs.declared.fault.LogFault.{LogFault}
 use Rattle.sequencer.specs.Opened.{opening_of}
 use Rattle.event_answers.specs.Runs.{last_state}
 use Rattle.event_answers.specs.declared.stops.Stop.{Stop}
@@ -65,10 +66,19 @@ pub record BeginsReplay (aerodrome flights log text : List ℕ) : Type 0 where
   pub run : Run state done answers
   pub prints : text ≡ replay_text state answers
 
+-- how many events a log that reads so has
+abbrev pub count_of : Result (List Event) LogFault → ℕ
+count_of (Ok log) = length log
+count_of (Err fault) = 0
+
+-- the puts of a replay of this log: one of the opening plan, and one of each answer
+abbrev pub replay_puts : List ℕ → ℕ
+replay_puts log = 1 + count_of (events_of log)
+
 -- what `replay` does, with this ending
 abbrev pub FollowsReplay : List ℕ → List ℕ → List ℕ → SinkState → SinkState → Ending → Type 0
 FollowsReplay aerodrome flights events =
-    FollowsBy (AdmitsReplay aerodrome flights events) (BeginsReplay aerodrome flights events) (RefusesReplay aerodrome flights events)
+    FollowsBy (replay_puts events) (AdmitsReplay aerodrome flights events) (BeginsReplay aerodrome flights events) (RefusesReplay aerodrome flights events)
 
 -- how `replay` may stop before it writes
 abbrev pub StopsReplay : List ℕ → List ℕ → List ℕ → Ending → Type 0

@@ -4,3 +4,4 @@ pub mod FormerLemmas
 pub mod TraceLemmas
 pub mod PlanLemmas
 pub mod LeastPlace
+pub mod DueExists

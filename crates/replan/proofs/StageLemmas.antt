@@ -82,12 +82,16 @@ begins p w stage labels o odd e f g = rw (f, e, odd) (record { objective = sym g
 
 -- where it is said to be whole, its windows are all that extend the last of the others
 pub one_more : (p : Problem) (stages after : List LabelledStage) (next : LabelledStage) → AreStages p stages → after ≡ stages ++ next ∷ []
-    → next.stage.0 ≡ length stages → HoldsPairs p next.stage next.labels
+    → next.stage.0 ≡ length stages → IsAscending next.stage.1 → HoldsPairs p next.stage next.labels
     → ((last : ℕ) → last + 1 ≡ length stages → IsTrue next.is_whole → IsNextOf p last (stage_at stages last).stage.1 next.stage.1) → AreStages p after
-one_more p stages after next is e number held whole = rw e (record {
+one_more p stages after next is e number ascending held whole = rw e (record {
   number = λ i lt. elim (cases_eq i (length stages)) [
     | inl same ↦ rw (get_or_push stages next no_stage i (sym same)) (number ∙ sym same)
     | inr old ↦ let below = low i lt old in rw (get_or_append_left stages (next ∷ []) no_stage i below) (is.number i below)
+  ];
+  ascending = λ i lt. elim (cases_eq i (length stages)) [
+    | inl same ↦ rw (get_or_push stages next no_stage i (sym same)) ascending
+    | inr old ↦ let below = low i lt old in rw (get_or_append_left stages (next ∷ []) no_stage i below) (is.ascending i below)
   ];
   held = λ i lt. elim (cases_eq i (length stages)) [
     | inl same ↦ rw (get_or_push stages next no_stage i (sym same)) held
@@ -217,6 +221,9 @@ module _ (p q : Problem) (w : ℕ) (odd : w ≡ 2 * p.k + 1) (laws : WindowLaws 
           number = λ i lt.
               let at : i < count = omega (arith, lt, long) in
               rw (get_or-take count stages i no_stage at) (holds.number i (omega (arith, at, within)));
+          ascending = λ i lt.
+              let at : i < count = omega (arith, lt, long) in
+              rw (get_or-take count stages i no_stage at) (holds.ascending i (omega (arith, at, within)));
           held = λ i lt.
               let at : i < count = omega (arith, lt, long) in
               let here : i < length stages = omega (arith, at, within) in

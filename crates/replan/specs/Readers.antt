@@ -2,7 +2,7 @@
 use Rattle.std.specs.Prelude.{◌≡◌, ℕ, ℤ, ◌-◌, ◌<◌, ◌≤◌, List, [], length, Option, Some, None}
 use Rattle.cps_theory.specs.Labels.{Pair}
 use Rattle.landing_rules.specs.Problem.{Problem}
-use Rattle.cps_network.specs.Lists.{node_at}
+use Rattle.cps_network.specs.Lists.{node_at, IsAscending}
 use Rattle.cps_network.specs.Pairs.{HoldsCosts, list_at}
 use Rattle.replan.specs.Held.{HeldProblem}
 use Rattle.replan.specs.Stages.{stage_at}
@@ -35,8 +35,10 @@ IsReadable held stage = (1 ≤ stage) × (stage ≤ stages_in held)
 abbrev pub HasPlace : Option HeldProblem → ℕ → ℕ → Type 0
 HasPlace held stage i = i < length (stage_in held stage).1
 
--- the stages of a problem are held, each under its number: the landable windows, with exactly the undominated pairs of each
+-- the stages of a problem are held, each under its number: the landable windows, none twice, with exactly the undominated pairs
+-- of each
 pub record AreStagesOf (p : Problem) (held : Option HeldProblem) : Type 0 where
   pub whole : stages_in held ≡ length p.flights
   pub number : (i : ℕ) → i ≤ length p.flights → (stage_in held i).0 ≡ i
+  pub ascending : (i : ℕ) → i ≤ length p.flights → IsAscending (stage_in held i).1
   pub pairs : (i : ℕ) → i ≤ length p.flights → HoldsCosts p (stage_in held i) (lists_in held i)

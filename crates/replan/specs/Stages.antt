@@ -8,6 +8,7 @@ use Rattle.cps_theory.specs.Labels.{Pair}
 use Rattle.cps_theory.specs.LegalPrefix.{Legal}
 use Rattle.cps_theory.specs.ProblemNetwork.{LandedIn}
 use Rattle.landing_joint.specs.RankedProblem.{ranked, cost_at}
+use Rattle.cps_network.specs.Lists.{IsAscending}
 use Rattle.cps_network.specs.Permits.{IsNextOf}
 use Rattle.replan.specs.Labels.{StagePairs, HoldsPairs}
 
@@ -27,9 +28,10 @@ stage_at stages i = slice_index_or stages i no_stage
 abbrev pub AreWholeAsSaid : Problem → ℕ → (ℕ → Bool) → (ℕ → List (List ℤ)) → Type 0
 AreWholeAsSaid p count is_whole windows = (i : ℕ) → 0 < i → i < count → IsTrue (is_whole i) → IsNextOf p (i - 1) (windows (i - 1)) (windows i)
 
--- these are stages of a problem, from stage 0 on: their landable windows with their pairs, whole as said
+-- these are stages of a problem, from stage 0 on: their landable windows, none twice, with their pairs, whole as said
 pub record AreStages (p : Problem) (stages : List LabelledStage) : Type 0 where
   pub number : (i : ℕ) → i < length stages → (stage_at stages i).stage.0 ≡ i
+  pub ascending : (i : ℕ) → i < length stages → IsAscending (stage_at stages i).stage.1
   pub held : (i : ℕ) → i < length stages → HoldsPairs p (stage_at stages i).stage (stage_at stages i).labels
   pub whole : AreWholeAsSaid p (length stages) (λ i. (stage_at stages i).is_whole) (λ i. (stage_at stages i).stage.1)
 

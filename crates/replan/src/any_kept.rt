@@ -52,8 +52,14 @@ impl Planner for AnyKept {
     ghost due_is_one = { λ planner p a b x y. one_due (problem_held planner) p a b x y };
 
     ghost holds = { λ planner p. problem_held planner ≡ Some p };
+}
 
-    fn replan<R: Threads + Sync, G: Gate + Sync, L: Ledger>(
+impl AnyKept {
+    /// A best and tight schedule of the problem, or `None` exactly where no schedule is feasible. It ticks exactly the steps that
+    /// are due. Labels are filled by pieces, each behind the gate.
+    ///
+    /// After want of memory it holds no problem, and may still be used.
+    pub fn replan<R: Threads + Sync, G: Gate + Sync, L: Ledger>(
         &mut self,
         rt: &R,
         alloc: Global,
@@ -66,8 +72,6 @@ impl Planner for AnyKept {
         ensures k { k_of self.new ≡ k_of self.old }
         ensures answer { IfOk result (λ answer. IsAnswerOf problem.now answer) }
         ensures holds { OnOk result (problem_held self.new ≡ Some problem.now) }
-
-        // After want of memory it holds no problem.
         ensures lost { OnErr result (held_of self.new ≡ None) }
         ensures steps { OnOk result ((n : ℕ) × IsDue (problem_held self.old) problem.now n
             × (L.count steps.new ≡ raised_by n (L.count steps.old))) }

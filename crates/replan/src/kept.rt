@@ -40,7 +40,7 @@ impl<const W: usize> Model for Kept<W> {
 
 // All stages of a problem, in place of those that are held. Those that it has in common with the problem held are kept, and
 // the others are given back before new ones are filled, but for their windows where these may be taken again.
-fn all_stages<const W: usize, R: Threads, G: Gate, L: Ledger>(
+fn all_stages<const W: usize, R: Threads + Sync, G: Gate + Sync, L: Ledger>(
     rt: &R,
     alloc: Global,
     problem: &Problem,
@@ -69,7 +69,7 @@ impl<const W: usize> Kept<W> {
     }
 
     // Plans a problem, and holds it in place of the one held before. After want of memory no problem is held.
-    pub(crate) fn replan<R: Threads, G: Gate, L: Ledger>(
+    pub(crate) fn replan<R: Threads + Sync, G: Gate + Sync, L: Ledger>(
         &mut self,
         rt: &R,
         alloc: Global,

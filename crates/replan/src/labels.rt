@@ -116,7 +116,7 @@ impl Labels {
 
     // The labels of the next stage, from those of this one. Of its candidates `stage` keeps only the landable windows. It ticks
     // once for each candidate.
-    pub(crate) fn next<const W: usize, R: Threads, G: Gate, L: Ledger>(
+    pub(crate) fn next<const W: usize, R: Threads + Sync, G: Gate + Sync, L: Ledger>(
         &self,
         rt: &R,
         alloc: Global,

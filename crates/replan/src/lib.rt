@@ -19,5 +19,6 @@ mod trace;
 
 pub use any_kept::AnyKept;
 pub use bound::due_is_small;
+pub use cps_network::Node;
 pub use kept::Kept;
 pub use least::least_value;

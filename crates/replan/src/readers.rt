@@ -97,7 +97,7 @@ impl AnyKept {
         ensures value { result ≡ stages_in (held_of self.now) }
         ensures few { result ≤ 60 }
 
-        // Of the problem that it holds these are the landable windows with their undominated pairs.
+        // Of the problem that it holds these are the landable windows, none twice, with their undominated pairs.
         ensures held { (p : Problem) → problem_held self.now ≡ Some p
             → AreStagesOf p (held_of self.now) }
         ensures k { (p : Problem) → problem_held self.now ≡ Some p → p.k ≡ k_of self.now }

@@ -43,11 +43,13 @@ pub(crate) fn stage_zero<const W: usize>(
 ) -> Result<LabelledStage<W>, AllocError>
     requires width { W ≡ 2 * problem.now.k + 1 }
     ensures held { IfOk result (λ s. HoldsPairs problem.now s.stage s.labels) }
+    ensures ascending { IfOk result (λ s. IsAscending s.stage.1) }
     ensures number { IfOk result (λ s. s.stage.0 ≡ 0) }
     ensures unsaid { IfOk result (λ s. s.is_whole ≡ false) }
 {
     let objective = problem.head().objective;
     let stage = Stage::start(alloc)?;
+    let _ascending = stage.windows();
     let labels = Labels::start(alloc, objective)?;
     Ok(LabelledStage {
         stage,
@@ -164,7 +166,7 @@ fn candidates_after<const W: usize>(
 }
 
 // One stage more.
-fn add_stage<const W: usize, R: Threads, G: Gate, L: Ledger>(
+fn add_stage<const W: usize, R: Threads + Sync, G: Gate + Sync, L: Ledger>(
     rt: &R,
     alloc: Global,
     problem: &Problem,
@@ -191,6 +193,7 @@ fn add_stage<const W: usize, R: Threads, G: Gate, L: Ledger>(
         .labels
         .next(rt, alloc, problem, &last.stage, &mut stage, gate, steps)?;
     let is_whole = stage.len() == candidates;
+    let _ascending = stage.windows();
     kept.push(LabelledStage {
         stage,
         labels,
@@ -200,7 +203,7 @@ fn add_stage<const W: usize, R: Threads, G: Gate, L: Ledger>(
 }
 
 // The stages that follow those that are kept, up to the last.
-pub(crate) fn fill_stages<const W: usize, R: Threads, G: Gate, L: Ledger>(
+pub(crate) fn fill_stages<const W: usize, R: Threads + Sync, G: Gate + Sync, L: Ledger>(
     rt: &R,
     alloc: Global,
     problem: &Problem,

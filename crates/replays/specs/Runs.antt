@@ -1,5 +1,5 @@
 -- What a replay writes, by runs of the rules.
-use Rattle.std.specs.Prelude.{◌≡◌, ◌⊎◌, ℕ, List, ◌++◌, Bool, Some, None, is_some, MatchOption, Result, Ok, Err}
+use Rattle.std.specs.Prelude.{◌≡◌, ◌⊎◌, ℕ, ◌+◌, List, ◌++◌, length, Bool, Some, None, is_some, MatchOption, Result, Ok, Err}
 use Rattle.cps_outside.specs.SinkState.{SinkState}
 use Rattle.landing_rules.specs.Events.{State, Event, Answered, Run}
 use Rattle.landing_rules.specs.Text.{answer_text, answers_text, replay_text}
@@ -34,16 +34,17 @@ pub record PartTells (old : State) (events : List Event) (P : List Answered → 
   pub run : Run old done answers
   pub written : P answers
 
--- the answers of these events
+-- the answers of these events, each in one put
 abbrev pub EventsWrite : State → State → List Event → SinkState → SinkState → Result (Unit {0}) Stop → Type 0
-EventsWrite old new events from to (Ok u) = RunTells old events new (λ answers. Wrote from to (answers_text 1 answers))
-EventsWrite old new events from to (Err stop.NotWritten) = PartTells old events (λ answers. WrotePart from to (answers_text 1 answers))
-EventsWrite old new events from to (Err stop.NoMemory) = PartTells old events (λ answers. Wrote from to (answers_text 1 answers))
+EventsWrite old new events from to (Ok u) = RunTells old events new (λ answers. Wrote (length answers) from to (answers_text 1 answers))
+EventsWrite old new events from to (Err stop.NotWritten) = PartTells old events (λ answers. WrotePart (length answers) from to (answers_text 1 answers))
+EventsWrite old new events from to (Err stop.NoMemory) = PartTells old events (λ answers. Wrote (length answers) from to (answers_text 1 answers))
 
--- The whole replay. At its end a plan is shown or none, in the state to which the run led. Where it stops, a part of the
--- text of a run over the first events was written, or for want of memory nothing or the whole of such a text.
+-- The whole replay: a put of the opening plan, and one of each answer. At its end a plan is shown or none, in the state to which
+-- the run led. Where it stops, a part of the text of a run over the first events was written, or for want of memory nothing or
+-- the whole of such a text.
 abbrev pub ReplayEnds : State → State → List Event → SinkState → SinkState → Result Bool Stop → Type 0
 ReplayEnds old new events from to (Ok planned) =
-    (planned ≡ is_some new.plan) × RunTells old events new (λ answers. Wrote from to (replay_text old answers))
-ReplayEnds old new events from to (Err stop.NotWritten) = PartTells old events (λ answers. WrotePart from to (replay_text old answers))
-ReplayEnds old new events from to (Err stop.NoMemory) = (to ≡ from) ⊎ PartTells old events (λ answers. Wrote from to (replay_text old answers))
+    (planned ≡ is_some new.plan) × RunTells old events new (λ answers. Wrote (1 + length answers) from to (replay_text old answers))
+ReplayEnds old new events from to (Err stop.NotWritten) = PartTells old events (λ answers. WrotePart (1 + length answers) from to (replay_text old answers))
+ReplayEnds old new events from to (Err stop.NoMemory) = (to ≡ from) ⊎ PartTells old events (λ answers. Wrote (1 + length answers) from to (replay_text old answers))

@@ -11,6 +11,7 @@ use cps_outside::{Gate, Sink};
 use cps_problem::Planner;
 use event_answers::Stop;
 use plan_text::FrozenLines;
+use replan::AnyKept;
 use sequencer::Sequencer;
 use situations::Refusal;
 use std::alloc::Global;
@@ -38,10 +39,10 @@ fn put_answer<P: Planner, S: Sink>(
 }
 
 // The events, in their order: of each one step, and one put of its answer.
-fn replay_events<P: Planner, R: Threads + Sync, S: Sink, G: Gate + Sync, L: Ledger>(
+fn replay_events<R: Threads + Sync, S: Sink, G: Gate + Sync, L: Ledger>(
     rt: &R,
     alloc: Global,
-    sequencer: &mut Sequencer<P>,
+    sequencer: &mut Sequencer<AnyKept>,
     events: &[Event],
     out: &mut S,
     gate: &G,
@@ -49,6 +50,7 @@ fn replay_events<P: Planner, R: Threads + Sync, S: Sink, G: Gate + Sync, L: Ledg
 ) -> Result<(), Stop>
     requires good { All IsGood events.now }
     requires few { length events.now < 2 ^ 31 }
+    requires fits { (S.state out.old).puts < 2 ^ 64 }
     ensures { EventsWrite sequencer.old.state sequencer.new.state (map event_of events.now)
         (S.state out.old) (S.state out.new) result }
 {
@@ -74,16 +76,16 @@ fn open<P: Planner, S: Sink>(
 }
 
 /// Replays the events from the state of the sequencer: prints its plan, then for each event its answer, and the plan
-/// after it where it was accepted. Each answer is one put, though no clause says so. It answers whether a plan is shown
+/// after it where it was accepted. The opening plan is one put, and so is each answer. It answers whether a plan is shown
 /// at the end.
 ///
 /// It asks that the events' numbers are in their ranges, and that there are fewer than 2^31. Where it answers a plan, or
 /// none, `out` grew by the text of a run of the rules over all of the events. After a put that failed it grew by a part
 /// of the text of a run over the first of them, and where memory ran out by nothing or by the whole of such a text.
-pub fn replay<P: Planner, R: Threads + Sync, S: Sink, G: Gate + Sync, L: Ledger>(
+pub fn replay<R: Threads + Sync, S: Sink, G: Gate + Sync, L: Ledger>(
     rt: &R,
     alloc: Global,
-    sequencer: &mut Sequencer<P>,
+    sequencer: &mut Sequencer<AnyKept>,
     events: &[Event],
     out: &mut S,
     gate: &G,

@@ -9,7 +9,7 @@ ghost use Rattle.situations.specs.Begun.{IsRefusedBy};
 use crate::problem::problem_of;
 use arrivals::{Aerodrome, Flight};
 use cps_problem::Problem;
-use situations::{BeginFault, Situation, opening_fault};
+use situations::{BeginFault, Situation};
 use std::alloc::Global;
 
 /// The situation that an aerodrome and its flights open: the flights in the order of their file, and the clock second, the
@@ -30,11 +30,11 @@ pub fn opening(
     ensures openable { IfOk result (λ _. opening_fault aerodrome.now flights.now ≡ None) }
     ensures refused { IfErr result (IsRefusedBy (opening_fault aerodrome.now flights.now)) }
 {
-    if let Some(found) = opening_fault(alloc, aerodrome, flights)? {
-        return Err(BeginFault::from(found));
-    }
     let situation = Situation::opening(alloc, aerodrome, flights)?;
-    Ok(situation)
+    match situation.opening_fault(alloc, aerodrome)? {
+        None => Ok(situation),
+        Some(found) => Err(BeginFault::from(found)),
+    }
 }
 
 /// The problem of the opening situation: its waiting flights by rank, and what the frozen ones leave them.

@@ -13,6 +13,7 @@ mod sequencer;
 mod waiting;
 
 pub use begin::{opening, opening_problem};
+pub use plan_file::{Landing, Plan};
 pub use problem::problem_of;
 pub use sequencer::Sequencer;
 pub use situations::{BeginFault, Refusal};

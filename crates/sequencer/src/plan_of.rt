@@ -12,13 +12,13 @@ use cps_problem::{Planner, Problem, Schedule};
 use extract_plan::value_of;
 use landing_joint::laws::problem_stands_for_situation;
 use plan_file::Plan;
-use situations::Situation;
+use situations::View;
 use std::alloc::{AllocError, Global};
 
 // The plan of a feasible list of the problem of a situation.
 fn joined_plan(
     alloc: Global,
-    situation: &Situation,
+    situation: &View<'_>,
     problem: &Problem,
     schedule: &Schedule,
 ) -> Result<Plan, AllocError>
@@ -45,7 +45,8 @@ impl<P: Planner> Sequencer<P> {
             self.now.state.situation schedule.now)) }
     {
         let problem = self.problem();
-        let plan = joined_plan(alloc, &self.situation, problem, schedule)?;
+        let view = self.situation.view();
+        let plan = joined_plan(alloc, &view, problem, schedule)?;
         Ok(plan)
     }
 }

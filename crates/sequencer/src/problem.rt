@@ -12,11 +12,11 @@ use crate::predecessors::pairs_of;
 use crate::waiting::all_waiting;
 use cps_problem::{Head, Objective, Problem};
 use fcfs_order::Order;
-use situations::{Active, Situation};
+use situations::{Active, Situation, View};
 use std::alloc::{AllocError, Global};
 
 // What the frozen landings cost, and 0 for the makespan.
-fn base(situation: &Situation, flights: &[Active]) -> u64
+fn base(situation: &View<'_>, flights: &[Active]) -> u64
     requires flights { flights.now ≡ situation.now.active }
     requires sound { IsSound situation.now }
     ensures { result ≡ frozen_cost situation.now.aerodrome.objective
@@ -29,7 +29,7 @@ fn base(situation: &Situation, flights: &[Active]) -> u64
 }
 
 // What the waiting flights share.
-fn head(situation: &Situation, flights: &[Active]) -> Head
+fn head(situation: &View<'_>, flights: &[Active]) -> Head
     requires flights { flights.now ≡ situation.now.active }
     requires sound { IsSound situation.now }
     ensures fixed { situation.now.aerodrome
@@ -57,7 +57,7 @@ fn head(situation: &Situation, flights: &[Active]) -> Head
 }
 
 // The problem of a sound situation, with the first-come order of its waiting flights.
-pub(crate) fn posed(alloc: Global, situation: &Situation) -> Result<(Problem, Order), AllocError>
+pub(crate) fn posed(alloc: Global, situation: &View<'_>) -> Result<(Problem, Order), AllocError>
     requires { IsSound situation.now }
     ensures problem { IfOk result (λ posed. IsProblemOf situation.now posed.0) }
     ensures order { IfOk result (λ posed. posed.1 ≡ arrivals (waiting situation.now)) }
@@ -77,6 +77,7 @@ pub fn problem_of(alloc: Global, situation: &Situation) -> Result<Problem, Alloc
     requires { IsSound situation.now }
     ensures { IfOk result (IsProblemOf situation.now) }
 {
-    let (problem, _) = posed(alloc, situation)?;
+    let view = situation.view();
+    let (problem, _) = posed(alloc, &view)?;
     Ok(problem)
 }

@@ -7,7 +7,7 @@ ghost use Rattle.sequencer.specs.Ranked.{arrival_of, arrivals, second_in, IsTher
 
 use cps_problem::Schedule;
 use fcfs_order::Order;
-use situations::{Active, Situation};
+use situations::{Active, View};
 use std::alloc::{AllocError, Global};
 
 // The second of a waiting flight.
@@ -57,7 +57,7 @@ fn seconds_of(
 /// The seconds at which the flights land, in order of arrival: the frozen landings joined with a second for each rank.
 pub(crate) fn joined_seconds(
     alloc: Global,
-    situation: &Situation,
+    situation: &View<'_>,
     order: &Order,
     schedule: &Schedule,
 ) -> Result<Vec<u32>, AllocError>

@@ -6,7 +6,9 @@ ghost use Rattle.landing_rules.specs.Problem.{IsProblemOf};
 ghost use Rattle.landing_rules.specs.Sound.{IsSound, IsSoundState, IsGoodEvent};
 ghost use Rattle.landing_rules.specs.Text.{shown_plan, plan_shown};
 ghost use Rattle.arrivals.specs.Seen.{event_of, flight_of};
+ghost use Rattle.cps_network.specs.Due.{IsDue};
 ghost use Rattle.cps_problem.specs.Plans.{IsAnswerOf, IsWithinShift};
+ghost use Rattle.replan.specs.Kept.{k_of, problem_held, Holds};
 ghost use Rattle.sequencer.specs.Ranked.{arrivals};
 ghost use Rattle.situations.specs.Answers.{refusal_of};
 ghost use Rattle.situations.specs.Opened.{CanOpen, opening_of};
@@ -25,7 +27,8 @@ use extract_plan::value_of;
 use fcfs_order::Order;
 use landing_joint::laws::{every_step_keeps_soundness, problem_stands_for_situation};
 use plan_file::Plan;
-use situations::{BeginFault, Refusal, Situation};
+use replan::AnyKept;
+use situations::{BeginFault, Refusal, Situation, View};
 use std::alloc::{AllocError, Global};
 use std::marker::Model;
 use std::thread::Threads;
@@ -80,7 +83,7 @@ fn seconds_of(shown: &Option<Shown>) -> Option<&[u32]>
 // What is shown for a best and tight schedule by rank.
 fn shown_schedule(
     alloc: Global,
-    situation: &Situation,
+    situation: &View<'_>,
     problem: &Problem,
     order: &Order,
     schedule: &Schedule,
@@ -103,7 +106,7 @@ fn shown_schedule(
 // What is shown for the planner's answer.
 fn shown_answer(
     alloc: Global,
-    situation: &Situation,
+    situation: &View<'_>,
     problem: &Problem,
     order: &Order,
     answer: &Option<Schedule>,
@@ -128,16 +131,16 @@ fn shown_answer(
 }
 
 // The problem of a situation, and what is shown for the planner's answer to it.
-fn planned<P: Planner, R: Threads + Sync, G: Gate + Sync, L: Ledger>(
+fn planned<R: Threads + Sync, G: Gate + Sync, L: Ledger>(
     rt: &R,
     alloc: Global,
-    situation: &Situation,
-    planner: &mut P,
+    situation: &View<'_>,
+    planner: &mut AnyKept,
     gate: &G,
     steps: &mut Steps<L>,
 ) -> Result<(Problem, Option<Shown>), AllocError>
     requires sound { IsSound situation.now }
-    requires same_k { situation.now.aerodrome.k ≡ P.k planner.old }
+    requires same_k { situation.now.aerodrome.k ≡ k_of planner.old }
     requires plannable { IsWithinShift situation.now.aerodrome.objective
         situation.now.aerodrome.k }
     ensures problem { IfOk result (λ planned. IsProblemOf situation.now planned.0) }
@@ -148,9 +151,9 @@ fn planned<P: Planner, R: Threads + Sync, G: Gate + Sync, L: Ledger>(
           situation = situation.now;
           plan = option_map (λ p. p.seconds.items) planned.1;
         })) }
-    ensures k { P.k planner.new ≡ P.k planner.old }
-    ensures holds { IfOk result (λ planned. P.holds planner.new planned.0) }
-    ensures steps { IfOk result (λ planned. (n : ℕ) × P.due planner.old planned.0 n
+    ensures k { k_of planner.new ≡ k_of planner.old }
+    ensures holds { IfOk result (λ planned. Holds planner.new planned.0) }
+    ensures steps { IfOk result (λ planned. (n : ℕ) × IsDue (problem_held planner.old) planned.0 n
         × (L.count steps.new ≡ raised_by n (L.count steps.old))) }
 {
     let (problem, order) = posed(alloc, situation)?;
@@ -201,8 +204,10 @@ impl<P: Planner> Sequencer<P> {
     {
         self.situation.fixed().objective
     }
+}
 
-    // Goes on by an accepted event: all is made beside what stands, and takes its place last.
+impl Sequencer<AnyKept> {
+    // Goes on by an accepted event: the situation changes where it stands, and where its plan wants memory it changes back.
     fn advance<R: Threads + Sync, G: Gate + Sync, L: Ledger>(
         &mut self,
         rt: &R,
@@ -215,19 +220,29 @@ impl<P: Planner> Sequencer<P> {
         requires accepted { refusal self.old.state.situation (event_of event.now) ≡ None }
         ensures step { OnOk result (IsAcceptedStep self.old.state (event_of event.now)
             self.new.state) }
-        ensures holds { OnOk result (P.holds self.new.planner self.new.problem) }
-        ensures steps { OnOk result ((n : ℕ) × P.due self.old.planner self.new.problem n
+        ensures holds { OnOk result (Holds self.new.planner self.new.problem) }
+        ensures steps { OnOk result ((n : ℕ) × IsDue (problem_held self.old.planner) self.new.problem n
             × (L.count steps.new ≡ raised_by n (L.count steps.old))) }
         ensures unchanged { OnErr result (self.new.state ≡ self.old.state) }
         ensures same_problem { OnErr result (self.new.problem ≡ self.old.problem) }
     {
         every_step_keeps_soundness();
-        let next = self.situation.after(alloc, seconds_of(&self.shown), event)?;
-        let (problem, shown) = planned(rt, alloc, &next, &mut self.planner, gate, steps)?;
-        self.situation = next;
-        self.shown = shown;
-        self.problem = problem;
-        Ok(())
+        let change = self
+            .situation
+            .change(alloc, seconds_of(&self.shown), event)?;
+        let next = self.situation.view_after(&change);
+        match planned(rt, alloc, &next, &mut self.planner, gate, steps) {
+            Ok((problem, shown)) => {
+                self.situation.keep(change);
+                self.shown = shown;
+                self.problem = problem;
+                Ok(())
+            }
+            Err(fault) => {
+                self.situation.take_back(change);
+                Err(fault)
+            }
+        }
     }
 
     /// Answers an event, and where it is accepted makes one step by it: the situation changes as the rules say, and a
@@ -247,8 +262,8 @@ impl<P: Planner> Sequencer<P> {
         requires { IsGoodEvent (event_of event.now) }
         ensures accepted { OnOk result (Step self.old.state (event_of event.now) None
             self.new.state) }
-        ensures holds { OnOk result (P.holds self.new.planner self.new.problem) }
-        ensures steps { OnOk result ((n : ℕ) × P.due self.old.planner self.new.problem n
+        ensures holds { OnOk result (Holds self.new.planner self.new.problem) }
+        ensures steps { OnOk result ((n : ℕ) × IsDue (problem_held self.old.planner) self.new.problem n
             × (L.count steps.new ≡ raised_by n (L.count steps.old))) }
         ensures refused { IfErr result (λ fault. MatchOption (refusal_of fault) ⊤
             (λ answer. Step self.old.state (event_of event.now) (Some answer) self.new.state)) }
@@ -269,20 +284,21 @@ impl<P: Planner> Sequencer<P> {
         rt: &R,
         alloc: Global,
         situation: Situation,
-        mut planner: P,
+        mut planner: AnyKept,
         gate: &G,
         steps: &mut Steps<L>,
-    ) -> Result<Sequencer<P>, AllocError>
+    ) -> Result<Sequencer<AnyKept>, AllocError>
         requires sound { IsSound situation }
-        requires same_k { situation.aerodrome.k ≡ P.k planner }
+        requires same_k { situation.aerodrome.k ≡ k_of planner }
         requires plannable { IsWithinShift situation.aerodrome.objective situation.aerodrome.k }
         ensures opening { IfOk result (λ s. s.state.situation ≡ situation) }
         ensures shown { IfOk result (λ s. IsPlanShown s.state.situation s.state.plan) }
-        ensures holds { IfOk result (λ s. P.holds s.planner s.problem) }
-        ensures steps { IfOk result (λ s. (n : ℕ) × P.due planner s.problem n
+        ensures holds { IfOk result (λ s. Holds s.planner s.problem) }
+        ensures steps { IfOk result (λ s. (n : ℕ) × IsDue (problem_held planner) s.problem n
             × (L.count steps.new ≡ raised_by n (L.count steps.old))) }
     {
-        let (problem, shown) = planned(rt, alloc, &situation, &mut planner, gate, steps)?;
+        let view = situation.view();
+        let (problem, shown) = planned(rt, alloc, &view, &mut planner, gate, steps)?;
         Ok(Sequencer {
             situation,
             shown,
@@ -302,16 +318,16 @@ impl<P: Planner> Sequencer<P> {
         alloc: Global,
         aerodrome: Aerodrome,
         flights: Vec<Flight>,
-        planner: P,
+        planner: AnyKept,
         gate: &G,
         steps: &mut Steps<L>,
-    ) -> Result<Sequencer<P>, BeginFault>
+    ) -> Result<Sequencer<AnyKept>, BeginFault>
         requires can { CanOpen aerodrome flights.items }
-        requires same_k { aerodrome.k ≡ P.k planner }
+        requires same_k { aerodrome.k ≡ k_of planner }
         ensures opening { IfOk result (λ s. IsOpeningState (opening_of aerodrome)
             (map flight_of flights.items) s.state) }
-        ensures holds { IfOk result (λ s. P.holds s.planner s.problem) }
-        ensures steps { IfOk result (λ s. (n : ℕ) × P.due planner s.problem n
+        ensures holds { IfOk result (λ s. Holds s.planner s.problem) }
+        ensures steps { IfOk result (λ s. (n : ℕ) × IsDue (problem_held planner) s.problem n
             × (L.count steps.new ≡ raised_by n (L.count steps.old))) }
         ensures openable { IfOk result (λ _. opening_fault aerodrome flights.items ≡ None) }
         ensures refused { IfErr result (IsRefusedBy (opening_fault aerodrome flights.items)) }

@@ -1,35 +1,66 @@
 -- Freezing one flight after another freezes each.
-use Rattle.std.proofs.Common.{◌≡◌, ℕ, zero, suc, ◌+◌, ◌<◌, Bool, true, false, cond, ◌&&◌, List, [], ◌∷◌, ◌++◌, length, map, set, take, Option, Some, None, get_or, refl, sym, ap, ◌∙◌, arith}
+use Rattle.std.proofs.Common.{◌≡◌, ℕ, zero, suc, ◌+◌, ◌<◌, Bool, true, false, cond, ◌&&◌, List, [], ◌∷◌, ◌++◌, length, map, set, take, Option, Some, None, get_or, refl, sym, ap, ap₂, ◌∙◌, arith}
 use Rattle.std.specs.Prelude.{nat_lt, zip}
 use Rattle.std.proofs.lemmas.List.Sums.{length-filter}
 use Rattle.std.specs.Prelude.{is_none, min, count_by, filter}
 use Rattle.std.specs.Ordering.{is_lt}
 use Rattle.landing_rules.specs.Rules.{arrival_cmp, first_come_cmp}
-use Rattle.landing_rules.specs.Flights.{Flight, Active, Aerodrome, Landing, landing, landings}
-use Rattle.landing_rules.specs.Events.{after_clock, passed_after, freezes}
+use Rattle.landing_rules.specs.Flights.{Callsign, Flight, Active, Aerodrome, Landing, landing, landings}
+use Rattle.landing_rules.specs.Events.{after_clock, look_up, passed_after, freezes}
 use Rattle.situations.specs.Freezes.{arrival, arrival_if, freezing, behind, count_after, frozen_one, IsFreezeOf}
+use Rattle.situations.specs.Named.{waiting_again}
 use Rattle.situations.specs.declared.freeze.Freeze.{Freeze}
+use Rattle.situations.proofs.Named.{listed, noted}
 
--- the flights after the first i seconds
-abbrev pub freeze_prefix : Freeze → ℕ → List Active → List ℕ → List Active
-freeze_prefix z zero xs ts = xs
-freeze_prefix z (suc i) [] ts = []
-freeze_prefix z (suc i) (x ∷ xs) [] = x ∷ xs
-freeze_prefix z (suc i) (x ∷ xs) (t ∷ ts) = frozen_one z x t ∷ freeze_prefix z i xs ts
+-- ---- one flight after another
 
-pub freeze_prefix-step : (z : Freeze) (i : ℕ) (xs : List Active) (ts : List ℕ) (d : Active) → length xs ≡ length ts → i < length xs →
-    set (freeze_prefix z i xs ts) i (frozen_one z (get_or (freeze_prefix z i xs ts) i d) (get_or ts i 0)) ≡ freeze_prefix z (suc i) xs ts
-freeze_prefix-step z i [] ts d n l = absurd (omega arith)
-freeze_prefix-step z i (x ∷ xs) [] d n l = absurd (omega arith)
-freeze_prefix-step z zero (x ∷ xs) (t ∷ ts) d n l = refl
-freeze_prefix-step z (suc i) (x ∷ xs) (t ∷ ts) d n l = ap (λ r. frozen_one z x t ∷ r) (freeze_prefix-step z i xs ts d (omega arith) (omega arith))
+module _ {B : Type 0} (f : Active → B → Active) where
+  -- the flights after the first i turns
+  abbrev pub turned : ℕ → List Active → List B → List Active
+  turned zero xs ys = xs
+  turned (suc i) [] ys = []
+  turned (suc i) (x ∷ xs) [] = x ∷ xs
+  turned (suc i) (x ∷ xs) (y ∷ ys) = f x y ∷ turned i xs ys
 
-pub freeze_prefix-all : (z : Freeze) (i : ℕ) (xs : List Active) (ts : List ℕ) → length xs ≡ length ts → i ≡ length ts → freeze_prefix z i xs ts ≡ map (λ p. frozen_one z p.0 p.1) (zip xs ts)
-freeze_prefix-all z i [] [] n l = ap (λ j. freeze_prefix z j [] []) l
-freeze_prefix-all z i [] (t ∷ ts) n l = absurd (omega arith)
-freeze_prefix-all z i (x ∷ xs) [] n l = absurd (omega arith)
-freeze_prefix-all z zero (x ∷ xs) (t ∷ ts) n l = absurd (omega arith)
-freeze_prefix-all z (suc i) (x ∷ xs) (t ∷ ts) n l = ap (λ r. frozen_one z x t ∷ r) (freeze_prefix-all z i xs ts (omega arith) (omega arith))
+  pub turned-step : (i : ℕ) (xs : List Active) (ys : List B) (d : Active) (e : B) → length xs ≡ length ys → i < length xs →
+      set (turned i xs ys) i (f (get_or (turned i xs ys) i d) (get_or ys i e)) ≡ turned (suc i) xs ys
+  turned-step i [] ys d e n l = absurd (omega arith)
+  turned-step i (x ∷ xs) [] d e n l = absurd (omega arith)
+  turned-step zero (x ∷ xs) (y ∷ ys) d e n l = refl
+  turned-step (suc i) (x ∷ xs) (y ∷ ys) d e n l = ap (λ r. f x y ∷ r) (turned-step i xs ys d e (omega arith) (omega arith))
+
+  pub turned-all : (i : ℕ) (xs : List Active) (ys : List B) → length xs ≡ length ys → i ≡ length ys → turned i xs ys ≡ map (λ p. f p.0 p.1) (zip xs ys)
+  turned-all i [] [] n l = ap (λ j. turned j [] []) l
+  turned-all i [] (y ∷ ys) n l = absurd (omega arith)
+  turned-all i (x ∷ xs) [] n l = absurd (omega arith)
+  turned-all zero (x ∷ xs) (y ∷ ys) n l = absurd (omega arith)
+  turned-all (suc i) (x ∷ xs) (y ∷ ys) n l = ap (λ r. f x y ∷ r) (turned-all i xs ys (omega arith) (omega arith))
+
+  pub length-turned : (i : ℕ) (xs : List Active) (ys : List B) → length (turned i xs ys) ≡ length xs
+  length-turned zero xs ys = refl
+  length-turned (suc i) [] ys = refl
+  length-turned (suc i) (x ∷ xs) [] = refl
+  length-turned (suc i) (x ∷ xs) (y ∷ ys) = ap suc (length-turned i xs ys)
+
+-- ---- and back
+
+-- the flights that waited wait again, each with its count; a frozen one has not changed
+pub waiting_back : (a : Aerodrome) (h : ℕ) (all : List Landing) (cs : List (Callsign × ℕ)) (xs : List Active) (ts : List ℕ) → length xs ≡ length ts →
+    ((i : ℕ) (d : Active) → i < length xs → look_up (get_or xs i d).flight.callsign cs ≡ noted (get_or xs i d)) → listed waiting_again cs (map (after_clock a h all) (landings xs ts)) ≡ xs
+waiting_back a h all cs [] ts n own = refl
+waiting_back a h all cs (x ∷ xs) [] n own = absurd (omega arith)
+waiting_back a h all cs (x ∷ xs) (t ∷ ts) n own =
+    ap₂ (λ (y : Active) (l : List Active). y ∷ l) (go x.frozen refl (nat_lt t h)) (waiting_back a h all cs xs ts (omega arith) (λ i d lt. own (suc i) d (omega arith)))
+  where
+    again : Active → Active
+    again y = waiting_again (look_up y.flight.callsign cs) y
+
+    go : (o : Option ℕ) → x.frozen ≡ o → (b : Bool) →
+        again (cond (is_none o && b) (record { flight = x.flight; frozen = Some t; passed = 0 })
+        (cond (is_none o) (record { flight = x.flight; frozen = None; passed = passed_after a h all (landing x t) }) (record { flight = x.flight; frozen = o; passed = x.passed }))) ≡ record x { frozen = o }
+    go (Some s) e b = ap (λ p. waiting_again p (record x { frozen = Some s })) (own zero x (omega arith) ∙ ap (λ o. cond (is_none o) (Some x.passed) None) e)
+    go None e true = ap (λ p. waiting_again p (record x { frozen = Some t; passed = 0 })) (own zero x (omega arith) ∙ ap (λ o. cond (is_none o) (Some x.passed) None) e)
+    go None e false = ap (λ p. waiting_again p (record x { frozen = None; passed = passed_after a h all (landing x t) })) (own zero x (omega arith) ∙ ap (λ o. cond (is_none o) (Some x.passed) None) e)
 
 -- ---- what freezes
 

@@ -1,7 +1,9 @@
 pub mod Apart
 pub mod Callsigns
+pub mod Changed
 pub mod Finds
 pub mod Firsts
 pub mod Freezing
-pub mod LastFound
+pub mod Keyed
+pub mod Named
 pub mod OpeningSound

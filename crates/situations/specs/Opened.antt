@@ -1,13 +1,15 @@
 -- The opening situation of an aerodrome and its flights, and what is asked of them.
-use Rattle.std.specs.Prelude.{◌≢◌, ◌≤◌, List, length, map, All, AllPairs, IsTrue}
+use Rattle.std.specs.Prelude.{◌≢◌, ◌≤◌, ℕ, List, length, map, All, AllPairs, IsTrue}
 use Rattle.cps_base.specs.Text.{is_callsign}
-use Rattle.landing_rules.specs.Flights.{Aerodrome, Flight, Situation}
+use Rattle.landing_rules.specs.Flights.{Active, Aerodrome, Callsign, Flight, Situation}
 use Rattle.landing_rules.specs.Limits.{greatest_weight, most_flights}
 use Rattle.landing_rules.specs.Rules.{last_second}
 use Rattle.landing_rules.specs.Sound.{AreGoodWindows}
-use Rattle.landing_rules.specs.Events.{Opening, opening_situation}
+use Rattle.landing_rules.specs.Events.{Opening, newcomer, opening_situation}
 use Rattle.arrivals.specs.declared.aerodrome.Aerodrome as aerodromes
 use Rattle.arrivals.specs.Aerodromes.{IsInRange}
+use Rattle.arrivals.specs.declared.frozen_list.FrozenLanding.{FrozenLanding}
+use Rattle.arrivals.specs.declared.passed_list.PassedCount.{PassedCount}
 use Rattle.arrivals.specs.declared.flight.Flight as files
 use Rattle.arrivals.specs.Seen.{flight_of}
 
@@ -15,14 +17,22 @@ use Rattle.arrivals.specs.Seen.{flight_of}
 abbrev pub aerodrome_of : aerodromes.Aerodrome → Aerodrome
 aerodrome_of a = record { k = a.k; freeze = a.freeze; objective = a.objective; table = a.table; carry = a.carry }
 
+-- what the entries of `frozen` say, by callsign
+abbrev pub seconds_in : List FrozenLanding → List (Callsign × ℕ)
+seconds_in entries = map (λ f. (f.callsign, f.second)) entries
+
+-- what the entries of `passed` say, by callsign
+abbrev pub counts_in : List PassedCount → List (Callsign × ℕ)
+counts_in entries = map (λ p. (p.callsign, p.count)) entries
+
 -- what the file says of the day so far: the clock, the frozen landings, and how many flights passed each
 abbrev pub opening_of : aerodromes.Aerodrome → Opening
 opening_of a = record {
   aerodrome = aerodrome_of a;
   closures = a.closures;
   clock = a.clock;
-  frozen = map (λ f. (f.callsign, f.second)) a.frozen;
-  passed = map (λ p. (p.callsign, p.count)) a.passed;
+  frozen = seconds_in a.frozen;
+  passed = counts_in a.passed;
 }
 
 -- the opening situation: the flights in the order of their file
@@ -45,3 +55,7 @@ pub record CanOpen (a : aerodromes.Aerodrome) (fs : List files.Flight) : Type 0 
   pub few : length fs ≤ most_flights
   pub flights : All HasRanges fs
   pub callsigns : AllPairs (λ f later. f.callsign ≢ later.callsign) fs
+
+-- each flight under its callsign, waiting and with a count of 0
+abbrev pub newcomers : List files.Flight → List (Callsign × Active)
+newcomers fs = map (λ f. (f.callsign, newcomer (flight_of f))) fs

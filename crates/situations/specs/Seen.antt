@@ -1,10 +1,12 @@
 -- What the rules see of a situation, and what is true of each.
-use Rattle.std.specs.Prelude.{◌≢◌, ◌≤◌, List, AllPairs, ⊤, MatchOption}
+use Rattle.std.specs.Prelude.{◌≡◌, ◌≢◌, ◌≤◌, ℕ, List, Option, AllPairs, map, ⊤, MatchOption}
+use Rattle.indexmap.specs.IndexMap.{IndexMap, keys, values}
 use Rattle.landing_rules.specs.Flights as rules
 use Rattle.landing_rules.specs.Limits.{longest_freeze}
 use Rattle.landing_rules.specs.Rules.{last_second}
 use Rattle.situations.specs.declared.situation.Fixed.{Fixed}
 use Rattle.situations.specs.declared.situation.Situation.TheInside.{Inside}
+use Rattle.situations.specs.declared.view.View.TheInside as view
 
 abbrev pub fixed_of : Fixed → rules.Aerodrome
 fixed_of f = record { k = f.k; freeze = f.freeze; objective = f.objective; table = f.table; carry = f.carry }
@@ -13,12 +15,29 @@ fixed_of f = record { k = f.k; freeze = f.freeze; objective = f.objective; table
 abbrev pub AreApart : List rules.Active → Type 0
 AreApart active = AllPairs (λ a later. a.flight.callsign ≢ later.flight.callsign) active
 
-abbrev pub seen : Inside → rules.Situation
-seen s = record { aerodrome = fixed_of s.fixed; active = s.active.items; closures = s.closures; clock = s.clock }
+-- as the rules see these parts
+abbrev pub situation_of : Fixed → List rules.Active → List rules.Span → Option ℕ → rules.Situation
+situation_of f active closures clock = record { aerodrome = fixed_of f; active = active; closures = closures; clock = clock }
 
--- callsigns are apart, and the numbers are in their ranges
+-- each flight stands under its own callsign
+abbrev pub AreKeyed : {S : Type 0} → IndexMap rules.Callsign rules.Active S → Type 0
+AreKeyed m = keys m ≡ map (λ a. a.flight.callsign) (values m)
+
+abbrev pub seen : Inside → rules.Situation
+seen s = situation_of s.fixed (values s.active) s.closures s.clock
+
+-- each flight stands under its own callsign, and the numbers are in their ranges
 pub record IsInStep (s : Inside) : Type 0 where
-  pub apart : AreApart s.active.items
+  pub keyed : AreKeyed s.active
   pub few_places : s.fixed.k ≤ 3
   pub short_freeze : s.fixed.freeze ≤ longest_freeze
   pub clock : MatchOption s.clock ⊤ (λ now. now ≤ last_second)
+
+abbrev pub viewed : view.Inside → rules.Situation
+viewed v = situation_of v.fixed.now v.flights.now v.closures.now v.clock
+
+-- the numbers are in their ranges
+pub record IsViewInStep (v : view.Inside) : Type 0 where
+  pub few_places : v.fixed.now.k ≤ 3
+  pub short_freeze : v.fixed.now.freeze ≤ longest_freeze
+  pub clock : MatchOption v.clock ⊤ (λ now. now ≤ last_second)

@@ -1,6 +1,6 @@
 ghost use Rattle.std.specs.Prelude.{◌≡◌};
 ghost use Rattle.landing_rules.specs.Rules.{lists};
-ghost use Rattle.landing_rules.specs.Events.{named};
+ghost use Rattle.landing_rules.specs.Events.{named, newcomer};
 ghost use Rattle.arrivals.specs.Seen.{flight_of};
 
 use arrivals::Flight;
@@ -54,6 +54,17 @@ fn lists(flight: &Flight, callsign: Callsign) -> bool
 }
 
 impl Active {
+    // The flight, which waits. None has passed it.
+    pub(crate) fn waiting(flight: &Flight) -> Active
+        ensures { result ≡ newcomer (flight_of flight.now) }
+    {
+        Active {
+            flight: flight.copy(),
+            frozen: None,
+            passed: 0,
+        }
+    }
+
     /// Whether it is the flight of the callsign.
     pub fn is_named(&self, callsign: Callsign) -> bool
         ensures { result ≡ named callsign self.now }

@@ -1,79 +1,108 @@
-// What an accepted event changes.
-ghost use Rattle.std.specs.Prelude.{◌≡◌, ◌+◌, ◌<◌, ◌≤◌, ◌++◌, [], ◌∷◌, false, not, None, length, filter, map, option_map, IfSome, IfOk, OnOk};
+// What an accepted event changes, and how that is taken back.
+ghost use Rattle.std.specs.Prelude.{◌≡◌, ◌+◌, ◌-◌, ◌<◌, ◌≤◌, ◌++◌, [], ◌∷◌, true, false, not, None, filter, find, is_some, length, map, option_map, take, IfSome, IfOk, OnErr, OnOk};
 ghost use Rattle.std.specs.List.{list_any};
+ghost use Rattle.indexmap.specs.IndexMap.{move_index};
 ghost use Rattle.landing_rules.specs.Events.{named, estimated, newcomer, without_first, same_span, refusal, situation_after};
 ghost use Rattle.landing_rules.specs.Limits.{most_closures};
 ghost use Rattle.landing_rules.specs.Sound.{IsGoodEvent};
 ghost use Rattle.arrivals.specs.Seen.{event_of, flight_of};
 ghost use Rattle.landing_rules.specs.Rules.{last_second};
-ghost use Rattle.situations.specs.Seen.{AreApart};
+ghost use Rattle.situations.specs.Changes.{after, before, CanGoBack, IsOf};
 
-use crate::{Active, Situation};
+use crate::{Active, Situation, View};
 use arrivals::{Event, Flight};
 use cps_base::Callsign;
-use landing_windows::WindowSet;
+use landing_windows::{Closures, WindowSet};
 use std::alloc::{AllocError, Global};
 
-// The flight has this estimate and these windows.
-fn estimate_one(active: &mut Active, eta: u32, windows: &WindowSet)
-    ensures { active.new ≡ record active.old {
-      flight = record active.old.flight
-          { eta = eta; windows = windows.now };
-    } }
-{
-    active.flight.eta = eta;
-    active.flight.windows = *windows;
-}
-
-// The flight of the callsign has them. It is looked for from the back, since the flights that wait arrived last.
-fn estimate_last(all: &mut [Active], callsign: Callsign, eta: u32, windows: &WindowSet)
-    requires { AreApart all.old }
-    ensures { all.new ≡ map (estimated callsign eta windows.now) all.old }
-{
-    if let Some(place) = all.iter().rposition(|active| active.is_named(callsign)) {
-        estimate_one(&mut all[place], eta, windows);
-    }
+/// An event's change of a situation, which stands there and can still be taken back: what stood before it.
+#[derive(Drop)]
+pub enum Change {
+    /// The flight of the callsign had this estimate and these windows.
+    Estimate(Callsign, u32, WindowSet),
+    /// The flight that stands last is to go. In order of arrival its place was this one, from 0.
+    Cancel(usize),
+    /// The flight that stands last is the new one.
+    Add,
+    /// These closures stood.
+    Closure(Closures),
+    /// The clock stood there, and no plan was shown.
+    Clock(Option<u32>),
+    /// The clock stood there, and these flights waited, each with its count. A frozen flight does not change.
+    Freeze(Option<u32>, Vec<(Callsign, u8)>),
 }
 
 impl Situation {
-    // The flight is no longer active.
-    pub(crate) fn cancel(&mut self, callsign: Callsign)
+    // The flight of the callsign has this estimate and these windows.
+    fn change_estimate(&mut self, callsign: Callsign, eta: u32, windows: &WindowSet) -> Change
+        requires { is_some (find (named callsign) self.old.active) ≡ true }
+        ensures change { IsOf self.old (record self.old {
+          active = map
+              (estimated callsign eta windows.now) self.old.active;
+        }) result self.new }
+    {
+        match self.estimate(callsign, eta, windows) {
+            None => unreachable!(),
+            Some(old) => Change::Estimate(callsign, old.0, old.1),
+        }
+    }
+
+    // The flight that stands last stands at this place.
+    fn move_from_last(&mut self, place: usize)
+        requires { place < length self.old.active }
         ensures { self.new ≡ record self.old {
-          active = filter (λ a. not (named callsign a))
+          active = move_index self.old.active
+              (length self.old.active - 1) place;
+        } }
+    {
+        let last = self.active.len() - 1;
+        self.active.move_index(last, place);
+    }
+
+    // The flight that stands last is active no more.
+    fn drop_last(&mut self)
+        ensures { self.new ≡ record self.old {
+          active = take (length self.old.active - 1)
               self.old.active;
         } }
     {
-        self.active.retain(|a| !a.is_named(callsign));
+        self.active.pop();
     }
 
-    // The flight has this estimate and these windows.
-    pub(crate) fn estimate(&mut self, callsign: Callsign, eta: u32, windows: &WindowSet)
-        ensures { self.new ≡ record self.old {
-          active = map
-              (estimated callsign eta windows.now) self.old.active;
-        } }
+    // The flight is to go.
+    fn change_cancel(&mut self, callsign: Callsign) -> Change
+        requires { is_some (find (named callsign) self.old.active) ≡ true }
+        ensures { IsOf self.old (record self.old {
+          active = filter (λ a. not (named callsign a))
+              self.old.active;
+        }) result self.new }
     {
-        estimate_last(&mut self.active, callsign, eta, windows);
+        match self.active.get_index_of(&callsign) {
+            None => unreachable!(),
+            Some(place) => {
+                let last = self.active.len() - 1;
+                self.active.move_index(place, last);
+                Change::Cancel(place)
+            }
+        }
     }
 
     // The flight is the last to arrive, and waits. None has passed it.
     fn add(&mut self, flight: &Flight) -> Result<(), AllocError>
         requires { list_any (named flight.now.callsign) self.old.active ≡ false }
-        ensures { OnOk result (self.new ≡ record self.old {
+        ensures new { OnOk result (self.new ≡ record self.old {
           active = self.old.active ++ newcomer
               (flight_of flight.now) ∷ [];
         }) }
+        ensures unchanged { OnErr result (self.new ≡ self.old) }
     {
-        self.active.push(Active {
-            flight: flight.copy(),
-            frozen: None,
-            passed: 0,
-        })?;
+        self.active
+            .insert(flight.callsign, Active::waiting(flight))?;
         Ok(())
     }
 
     // The closure stands.
-    pub(crate) fn close(&mut self, from: u32, to: u32)
+    fn close(&mut self, from: u32, to: u32)
         requires good { (from < to) × (to ≤ last_second + 1) }
         requires room { length self.old.closures < most_closures }
         ensures { self.new ≡ record self.old { closures = self.old.closures ++ (from, to) ∷ [] } }
@@ -82,7 +111,7 @@ impl Situation {
     }
 
     // The first equal closure stands no more.
-    pub(crate) fn reopen(&mut self, from: u32, to: u32)
+    fn reopen(&mut self, from: u32, to: u32)
         ensures { self.new ≡ record self.old {
           closures = without_first (same_span (from, to))
               self.old.closures;
@@ -90,74 +119,92 @@ impl Situation {
     {
         self.closures.remove(from, to);
     }
+
+    // These closures stand.
+    fn set_closures(&mut self, closures: Closures)
+        ensures { self.new ≡ record self.old { closures = closures } }
+    {
+        self.closures = closures;
+    }
 }
 
 impl Situation {
-    // The same situation, with a place for a flight that the event adds.
-    fn copy(&self, alloc: Global) -> Result<Situation, AllocError>
-        ensures { IfOk result (λ copied. copied ≡ self.now) }
-    {
-        let mut active = Vec::with_capacity(alloc, self.active.len() + 1)?;
-        active.extend_with_clones(&self.active)?;
-        Ok(Situation {
-            fixed: self.fixed,
-            active,
-            closures: self.closures,
-            clock: self.clock,
-        })
-    }
-
-    // What an accepted event changes. After want of memory some of it may be done.
-    fn change(
+    /// Changes the situation by an accepted event, so that the change can be taken back. The plan shown, if one is, lands
+    /// each flight at a second, in order of arrival; a clock event freezes by it. For want of memory nothing changes.
+    ///
+    /// The flight of a cancellation goes when the change is kept (`keep`); until then it stands last, and the situation after
+    /// the event is what `view_after` shows.
+    pub fn change(
         &mut self,
         alloc: Global,
         plan: Option<&[u32]>,
         event: &Event,
-    ) -> Result<(), AllocError>
+    ) -> Result<Change, AllocError>
         requires whole { IfSome plan (λ p. length p.now ≡ length self.old.active) }
         requires good { IsGoodEvent (event_of event.now) }
         requires accepted { refusal self.old (event_of event.now) ≡ None }
-        ensures { OnOk result (self.new ≡ situation_after self.old (option_map (λ p. p.now)
-            plan.entry) (event_of event.now)) }
+        ensures change { IfOk result (λ change. IsOf self.old
+            (situation_after self.old (option_map (λ p. p.now) plan.entry) (event_of event.now))
+            change self.new) }
+        ensures unchanged { OnErr result (self.new ≡ self.old) }
     {
+        let closures = self.closures;
         match event {
             Event::Estimate(callsign, eta, windows) => {
-                self.estimate(*callsign, *eta, windows);
-                Ok(())
+                Ok(self.change_estimate(*callsign, *eta, windows))
             }
-            Event::Cancel(callsign) => {
-                self.cancel(*callsign);
-                Ok(())
+            Event::Cancel(callsign) => Ok(self.change_cancel(*callsign)),
+            Event::Add(flight) => {
+                self.add(flight)?;
+                Ok(Change::Add)
             }
-            Event::Add(flight) => self.add(flight),
             Event::Close(from, to) => {
                 self.close(*from, *to);
-                Ok(())
+                Ok(Change::Closure(closures))
             }
             Event::Reopen(from, to) => {
                 self.reopen(*from, *to);
-                Ok(())
+                Ok(Change::Closure(closures))
             }
-            Event::Clock(now) => self.pass(alloc, *now, plan),
+            Event::Clock(now) => self.change_clock(alloc, *now, plan),
         }
     }
 
-    /// The situation after an accepted event, made beside this one. The plan shown, if one is, lands each flight at a
-    /// second, in order of arrival; a clock event freezes by it.
-    pub fn after(
-        &self,
-        alloc: Global,
-        plan: Option<&[u32]>,
-        event: &Event,
-    ) -> Result<Situation, AllocError>
-        requires whole { IfSome plan (λ p. length p.now ≡ length self.now.active) }
-        requires good { IsGoodEvent (event_of event.now) }
-        requires accepted { refusal self.now (event_of event.now) ≡ None }
-        ensures { IfOk result (λ next. next ≡ situation_after self.now (option_map (λ p. p.now)
-            plan.entry) (event_of event.now)) }
+    /// The situation after the event of a change that stands.
+    pub fn view_after(&self, change: &Change) -> View<'_>
+        ensures { result ≡ after change.now self.now }
     {
-        let mut next = self.copy(alloc)?;
-        next.change(alloc, plan, event)?;
-        Ok(next)
+        let flights = self.flights();
+        let flights = match change {
+            Change::Cancel(_) => &flights[..flights.len().saturating_sub(1)],
+            _ => flights,
+        };
+        View::of(&self.fixed, flights, &self.closures, self.clock)
+    }
+
+    /// Keeps a change: the situation is the one after the event.
+    pub fn keep(&mut self, change: Change)
+        ensures { self.new ≡ after change self.old }
+    {
+        if let Change::Cancel(_) = change {
+            self.drop_last();
+        }
+    }
+
+    /// Takes a change back: the situation is the one before the event.
+    pub fn take_back(&mut self, change: Change)
+        requires { CanGoBack change self.old }
+        ensures { self.new ≡ before change self.old }
+    {
+        match change {
+            Change::Estimate(callsign, eta, windows) => {
+                self.estimate(callsign, eta, &windows);
+            }
+            Change::Cancel(place) => self.move_from_last(place),
+            Change::Add => self.drop_last(),
+            Change::Closure(closures) => self.set_closures(closures),
+            Change::Clock(clock) => self.set_clock(clock),
+            Change::Freeze(clock, counts) => self.go_back(clock, &counts),
+        }
     }
 }

@@ -1,13 +1,12 @@
 // The frozen landings that an aerodrome file gives, and the rules over them.
-ghost use Rattle.std.specs.Prelude.{◌≡◌, ◌+◌, ◌<◌, ◌≤◌, ◌&&◌, Some, drop, length, find};
+ghost use Rattle.std.specs.Prelude.{◌≡◌, ◌+◌, ◌≤◌, drop, length, find};
 ghost use Rattle.landing_rules.specs.Limits.{most_flights};
 ghost use Rattle.landing_rules.specs.Rules.{is_open};
-ghost use Rattle.landing_rules.specs.Events.{named};
 ghost use Rattle.situations.specs.Refused.{first_from, closed_at, clash_at, clash_from, is_not_before, lands_late, late_at, rule_fault};
 
 use crate::open_seconds::is_open;
 use crate::separation::are_apart;
-use crate::{Active, OpeningFault};
+use crate::{Active, OpeningFault, Situation};
 use arrivals::Aerodrome;
 use cps_base::Callsign;
 use landing_windows::Closures;
@@ -71,22 +70,25 @@ fn first_clash(table: &PairTable, all: &[Given]) -> Option<OpeningFault>
         .find_map(|(i, first)| clash_of(table, i + 1, first, all))
 }
 
-// Whether the flight has the callsign, and waits or is frozen at the second or later.
-fn is_late(active: &Active, callsign: Callsign, second: u32) -> bool
-    ensures { result ≡ (named callsign active.now && is_not_before second active.now.frozen) }
+// Whether the flight waits, or is frozen at the second or later.
+fn is_not_before(active: &Active, second: u32) -> bool
+    ensures { result ≡ is_not_before second active.now.frozen }
 {
-    active.is_named(callsign)
-        && match active.frozen {
-            None => true,
-            Some(at) => second <= at,
-        }
+    match active.frozen {
+        None => true,
+        Some(at) => second <= at,
+    }
 }
 
-// Whether there is such a flight.
-fn lands_late(active: &[Active], second: u32, callsign: Callsign) -> bool
-    ensures { result ≡ lands_late active.now second callsign }
+// Whether the flight of the callsign does so.
+fn lands_late(situation: &Situation, second: u32, callsign: Callsign) -> bool
+    ensures { result ≡ lands_late situation.now.active second callsign }
 {
-    active.iter().any(|a| is_late(a, callsign, second))
+    situation.known_apart();
+    match situation.find(callsign) {
+        None => false,
+        Some(active) => is_not_before(active, second),
+    }
 }
 
 // The flights it lists.
@@ -97,22 +99,23 @@ fn listed(given: &Given) -> &[Callsign]
 }
 
 // The first of its list that does not land before it.
-fn late_listed(active: &[Active], given: &Given) -> Option<Callsign>
-    ensures { result ≡ find (lands_late active.now given.now.second) given.now.flight.after }
+fn late_listed(situation: &Situation, given: &Given) -> Option<Callsign>
+    ensures { result ≡ find (lands_late situation.now.active given.now.second)
+        given.now.flight.after }
 {
     listed(given)
         .iter()
-        .find(|name| lands_late(active, given.second, **name))
+        .find(|name| lands_late(situation, given.second, **name))
         .copied()
 }
 
 // The first landing that is not behind each active flight of its list.
-fn first_late(active: &[Active], all: &[Given]) -> Option<OpeningFault>
+fn first_late(situation: &Situation, all: &[Given]) -> Option<OpeningFault>
     requires { length all.now ≤ most_flights }
-    ensures { result ≡ first_from (late_at active.now) 1 all.now }
+    ensures { result ≡ first_from (late_at situation.now.active) 1 all.now }
 {
     all.iter().enumerate().find_map(|(i, given)| {
-        let callsign = late_listed(active, given)?;
+        let callsign = late_listed(situation, given)?;
         Some(OpeningFault::FrozenPrecedence((i + 1) as u16, callsign))
     })
 }
@@ -120,11 +123,11 @@ fn first_late(active: &[Active], all: &[Given]) -> Option<OpeningFault>
 // What is wrong with the frozen landings.
 pub(crate) fn rule_fault(
     aerodrome: &Aerodrome,
-    active: &[Active],
+    situation: &Situation,
     all: &[Given],
 ) -> Option<OpeningFault>
     requires { length all.now ≤ most_flights }
-    ensures { result ≡ rule_fault aerodrome.now active.now all.now }
+    ensures { result ≡ rule_fault aerodrome.now situation.now.active all.now }
 {
     if let Some(fault) = first_closed(&aerodrome.closures, all) {
         return Some(fault);
@@ -132,5 +135,5 @@ pub(crate) fn rule_fault(
     if let Some(fault) = first_clash(&aerodrome.table, all) {
         return Some(fault);
     }
-    first_late(active, all)
+    first_late(situation, all)
 }

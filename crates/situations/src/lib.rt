@@ -3,6 +3,7 @@
 
 mod active;
 mod begin_fault;
+mod by_callsign;
 mod change;
 mod freeze;
 mod given;
@@ -13,11 +14,14 @@ mod refusal;
 mod refuse;
 mod separation;
 mod situation;
+mod view;
 
 pub use active::Active;
 pub use begin_fault::BeginFault;
+pub use change::Change;
 pub use open_seconds::is_open;
 pub use opening_refusal::{OpeningFault, opening_fault};
 pub use refusal::Refusal;
 pub use separation::are_apart;
 pub use situation::{Fixed, Situation};
+pub use view::View;

@@ -8,10 +8,9 @@ ghost use Rattle.landing_rules.specs.Events.{named, same_span, unknown_or_frozen
 ghost use Rattle.landing_rules.specs.Events as events;
 ghost use Rattle.arrivals.specs.Seen.{flight_of, event_of};
 ghost use Rattle.situations.specs.Answers.{IsAnswer};
-ghost use Rattle.situations.specs.Seen.{AreApart};
 ghost use Rattle.situations.specs.Finds.{first_frozen_listing, earliest_covered, earlier_of};
 
-use crate::opening_refusal::{count_waiting, is_there};
+use crate::opening_refusal::count_waiting;
 use crate::{Active, Refusal, Situation};
 use arrivals::{Event, Flight};
 use cps_base::Callsign;
@@ -124,31 +123,16 @@ fn earlier(
     }
 }
 
-// The flight of the callsign. It is looked for from the back, since the flights that wait arrived last.
-fn find_last(active: &[Active], callsign: Callsign) -> Option<&Active>
-    requires { AreApart active.now }
-    ensures { option_map (λ a. a.now) result ≡ find (named callsign) active.now }
-{
-    active.iter().rev().find(|a| a.is_named(callsign))
-}
-
 impl Situation {
     // Why an event on the named flight is refused.
     fn named_refusal(&self, callsign: Callsign) -> Option<Refusal>
         ensures { IsAnswer result (unknown_or_frozen callsign
             (find (named callsign) self.now.active)) }
     {
-        match find_last(&self.active, callsign) {
+        match self.find(callsign) {
             None => Some(Refusal::UnknownFlight(callsign)),
             Some(active) => frozen_refusal(active),
         }
-    }
-
-    // Whether a flight of this name is active.
-    fn is_active(&self, callsign: Callsign) -> bool
-        ensures { result ≡ list_any (named callsign) self.now.active }
-    {
-        is_there(&self.active, callsign)
     }
 
     // How many flights are active.
@@ -162,14 +146,15 @@ impl Situation {
     fn count_waiting(&self) -> usize
         ensures { result ≡ length (waiting self.now) }
     {
-        count_waiting(&self.active)
+        count_waiting(self.flights())
     }
 
     // The first frozen flight that lists the callsign.
     fn first_frozen_listing(&self, callsign: Callsign) -> Option<Callsign>
         ensures { result ≡ first_frozen_listing callsign self.now.active }
     {
-        match self.active.iter().find(|a| is_frozen_listing(a, callsign)) {
+        let mut flights = self.flights().iter();
+        match flights.find(|a| is_frozen_listing(a, callsign)) {
             None => None,
             Some(active) => Some(active.flight.callsign),
         }
@@ -192,8 +177,8 @@ impl Situation {
     fn earliest_covered(&self, from: u32, to: u32) -> Option<(Callsign, u32)>
         ensures { result ≡ earliest_covered (from, to) self.now.active }
     {
-        let active = self.active.iter().rev();
-        active.fold(None, |found, flight| earlier(flight, from, to, found))
+        let flights = self.flights().iter().rev();
+        flights.fold(None, |found, flight| earlier(flight, from, to, found))
     }
 
     // How many closures stand.

@@ -1,17 +1,22 @@
-ghost use Rattle.std.specs.Prelude.{◌≡◌, ◌≤◌, [], All, IfOk, None, length};
+ghost use Rattle.std.specs.Prelude.{◌≡◌, ◌≤◌, [], All, IfOk, None, length, map};
 ghost use Rattle.wake_table.specs.Table.{IsWakeTable};
 ghost use Rattle.landing_rules.specs.Flights.{horizon};
 ghost use Rattle.landing_rules.specs.Limits.{longest_freeze, most_closures};
 ghost use Rattle.landing_rules.specs.Sound.{IsSound};
 ghost use Rattle.arrivals.specs.Seen.{flight_of};
 ghost use Rattle.arrivals.specs.Aerodromes.{IsInRange};
-ghost use Rattle.situations.specs.Opened.{CanOpen, IsKept, opened};
+ghost use Rattle.landing_rules.specs.Events.{look_up};
+ghost use Rattle.situations.specs.Named.{with_count, with_second};
+ghost use Rattle.situations.specs.Opened.{CanOpen, IsKept, counts_in, opened, seconds_in};
 ghost use Rattle.situations.specs.Refused.{opening_fault};
-ghost use Rattle.situations.specs.Seen.{AreApart, fixed_of};
+ghost use Rattle.indexmap.specs.IndexMap.{values};
+ghost use Rattle.situations.specs.Seen.{AreKeyed, fixed_of};
 
-use crate::Active;
-use crate::opening_refusal::active_of;
-use arrivals::{Aerodrome, Flight};
+use crate::by_callsign::by_callsign;
+use crate::{Active, View};
+use arrivals::{Aerodrome, Flight, FrozenLanding, PassedCount};
+use cps_base::Callsign;
+use indexmap::IndexMap;
 use landing_rules::{MOST_CLOSURES, Objective};
 use landing_windows::Closures;
 use std::alloc::{AllocError, Global};
@@ -33,12 +38,12 @@ pub struct Fixed {
     pub carry: bool,
 }
 
-/// The flights in the system, in order of arrival, the closures that stand, and the last accepted second of
+/// The flights in the system by callsign, in order of arrival, the closures that stand, and the last accepted second of
 /// the clock. Contracts see the rules' own (`landing_rules`, `Situation`).
 #[derive(Drop)]
 pub struct Situation {
     pub(crate) fixed: Fixed,
-    pub(crate) active: Vec<Active>,
+    pub(crate) active: IndexMap<Callsign, Active>,
     pub(crate) closures: Closures,
     pub(crate) clock: Option<u32>,
 }
@@ -56,10 +61,10 @@ impl Model for Situation {
 
 impl Situation {
     // With these flights.
-    fn with(aerodrome: &Aerodrome, active: Vec<Active>) -> Situation
+    fn with(aerodrome: &Aerodrome, active: IndexMap<Callsign, Active>) -> Situation
         requires ranges { IsInRange aerodrome.now }
-        requires apart { AreApart active.items }
-        ensures value { result ≡ record (opened aerodrome.now []) { active = active.items } }
+        requires keyed { AreKeyed active }
+        ensures value { result ≡ record (opened aerodrome.now []) { active = values active } }
         ensures table { IsWakeTable aerodrome.now.table }
         ensures closures { length aerodrome.now.closures ≤ most_closures }
     {
@@ -79,6 +84,34 @@ impl Situation {
         }
     }
 
+    // Each flight is frozen where the first entry of its callsign says.
+    fn freeze_listed(&mut self, entries: &[FrozenLanding])
+        ensures { self.new ≡ record self.old {
+          active = map
+              (λ a. with_second (look_up a.flight.callsign (seconds_in entries.now)) a)
+              self.old.active;
+        } }
+    {
+        for i in (0..entries.len()).rev() {
+            let entry = entries[i];
+            self.set_frozen(entry.callsign, Some(entry.second));
+        }
+    }
+
+    // Each flight has the count that the first entry of its callsign says.
+    fn count_listed(&mut self, entries: &[PassedCount])
+        ensures { self.new ≡ record self.old {
+          active = map
+              (λ a. with_count (look_up a.flight.callsign (counts_in entries.now)) a)
+              self.old.active;
+        } }
+    {
+        for i in (0..entries.len()).rev() {
+            let entry = entries[i];
+            self.set_passed(entry.callsign, entry.count);
+        }
+    }
+
     /// The situation that an aerodrome and its flights open: the flights in the order of their file, each frozen where the
     /// aerodrome's file has it frozen and with the count that it gives, and the clock second of the file. It is asked that
     /// there are at most 500 flights, with callsigns apart, and that all numbers are in their ranges. Where no opening
@@ -93,8 +126,11 @@ impl Situation {
         ensures sound { opening_fault aerodrome.now flights.now ≡ None → IfOk result IsSound }
     {
         all_known(flights);
-        let active = active_of(alloc, aerodrome, flights)?;
-        Ok(Situation::with(aerodrome, active))
+        let active = by_callsign(alloc, flights)?;
+        let mut situation = Situation::with(aerodrome, active);
+        situation.freeze_listed(aerodrome.frozen.entries());
+        situation.count_listed(aerodrome.passed.entries());
+        Ok(situation)
     }
 
     /// What the aerodrome fixes.
@@ -117,7 +153,14 @@ impl Situation {
     pub fn flights(&self) -> &[Active]
         ensures { result.now ≡ self.now.active }
     {
-        &self.active
+        self.active.values().as_slice()
+    }
+
+    /// The situation as planning reads it.
+    pub fn view(&self) -> View<'_>
+        ensures { result ≡ self.now }
+    {
+        View::of(&self.fixed, self.flights(), &self.closures, self.clock)
     }
 
     /// The second before which no waiting flight may land: 0 without a clock second, and else at most 179,999.

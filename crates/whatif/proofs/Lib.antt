@@ -1,3 +1,4 @@
+pub mod OneText
 pub mod OutcomeLemmas
 pub mod ClosureLemmas
 pub mod AboveLemmas

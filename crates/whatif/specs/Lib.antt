@@ -1,4 +1,5 @@
 -- What comes of trials.
 pub mod Outcomes
 pub mod Laws
+pub mod OneText
 pub mod Text

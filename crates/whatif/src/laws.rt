@@ -1,6 +1,7 @@
 //! What holds of the outcomes of trials.
 
 ghost use Rattle.whatif.specs.Laws.{MoreShiftOutcomeLaw, NoClosureOutcomeLaw, InnerClosureOutcomeLaw};
+ghost use Rattle.whatif.specs.OneText.{OutcomesAreOneLaw};
 
 use landing_joint::laws::more_shift_is_never_worse;
 
@@ -16,4 +17,9 @@ pub fn more_shift_gives_no_worse_outcome()
 pub fn closure_gives_no_better_outcome()
     ensures none { NoClosureOutcomeLaw }
     ensures inner { InnerClosureOutcomeLaw }
+{}
+
+/// Two lists of the outcomes of the same trials of the same files are one. The call does nothing: it tells its caller the law.
+pub fn outcomes_are_one()
+    ensures { OutcomesAreOneLaw }
 {}

@@ -7,7 +7,9 @@ mod refusal;
 mod running;
 mod text;
 
-pub use laws::{closure_gives_no_better_outcome, more_shift_gives_no_worse_outcome};
+pub use laws::{
+    closure_gives_no_better_outcome, more_shift_gives_no_worse_outcome, outcomes_are_one,
+};
 pub use outcome::{Outcome, TrialRefusal};
 pub use running::run_trials;
 pub use text::append_outcomes;

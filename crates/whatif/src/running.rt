@@ -83,12 +83,13 @@ fn with_closure(
     ensures { IfOk result (IsOutcomeOf aerodrome.now flights.now (Close from to)) }
 {
     every_step_keeps_soundness();
-    let situation = Situation::opening(alloc, aerodrome, flights)?;
+    let mut situation = Situation::opening(alloc, aerodrome, flights)?;
     if let Some(refusal) = closure_refusal(&situation, from, to) {
         return Ok(Outcome::Refused(refusal));
     }
-    let other = situation.after(alloc, None, &Event::Close(from, to))?;
-    least_of(alloc, &other)
+    let change = situation.change(alloc, None, &Event::Close(from, to))?;
+    situation.keep(change);
+    least_of(alloc, &situation)
 }
 
 // The outcome of a trial.

@@ -1,12 +1,5 @@
-ghost use Rattle.std.specs.Prelude.{◌≤◌, IfOk};
-
-use cps_outside::{
-    Folder, FreeGate, Gate, LoadFault, MemoryFolder, MemorySink, RealFolder, RealSink, Sink,
-    WriteFailed, read_pieces,
-};
+use cps_outside::{Folder, FreeGate, Gate, LoadFault, MemoryFolder, MemorySink, Sink, WriteFailed};
 use std::alloc::{AllocError, Global};
-use std::io;
-use std::io::{ErrorKind, Read, Write};
 use std::test::Fail;
 
 // A folder of two files of one name, in which the second load fails.
@@ -61,60 +54,4 @@ fn puts_in_memory_fail_where_told(rt: HostRuntime) -> Result<(), Fail> {
     }
     FreeGate.pass(0);
     Ok(())
-}
-
-// Gives or takes one byte a turn, and fails at the last turn.
-#[derive(Drop)]
-struct Slow {
-    turns: u32,
-}
-
-impl Slow {
-    fn turn(&mut self, bytes: usize) -> io::Result<usize>
-        ensures { IfOk result (λ n. n ≤ bytes) }
-    {
-        if self.turns == 0 {
-            return Err(io::Error::from(ErrorKind::BrokenPipe));
-        }
-        self.turns -= 1;
-        Ok(bytes.min(1))
-    }
-}
-
-impl Read for Slow {
-    fn read(&mut self, buf: &mut [u8]) -> io::Result<usize> {
-        self.turn(buf.len())
-    }
-}
-
-impl Write for Slow {
-    fn write(&mut self, buf: &[u8]) -> io::Result<usize> {
-        self.turn(buf.len())
-    }
-
-    fn flush(&mut self) -> io::Result<()> {
-        Ok(())
-    }
-}
-
-// What comes of two puts of three bytes, where so many bytes are taken.
-fn two_puts(turns: u32) -> (Result<(), WriteFailed>, Result<(), WriteFailed>) {
-    let mut sink = RealSink::new(Slow { turns });
-    (sink.put(b"abc"), sink.put(b"def"))
-}
-
-// Whether so many bytes and one more are read of a reader that fails after three.
-fn is_read(alloc: Global, most: usize) -> bool {
-    read_pieces(alloc, &mut Slow { turns: 3 }, most).is_ok()
-}
-
-#[test]
-fn a_fault_in_mid_stream_is_told(rt: HostRuntime) {
-    assert_eq!(rt; two_puts(5), (Ok(()), Err(WriteFailed)));
-    assert!(rt; is_read(rt.alloc(), 2) && !is_read(rt.alloc(), 3));
-    let mut folder = RealFolder::new(&rt);
-    assert_eq!(rt;
-        load(&mut folder, "no such file", 9),
-        Err(LoadFault::Failed)
-    );
 }

@@ -6,7 +6,7 @@ use super::assert_send_sync;
 use crate::bank::Bank;
 use cps_base::{Counted, Steps};
 use cps_outside::FreeGate;
-use cps_problem::{Objective, Planner, Problem};
+use cps_problem::{Objective, Problem};
 use replan::AnyKept;
 use std::alloc::Global;
 use std::test::Fail;

@@ -1,15 +1,16 @@
 ghost use Rattle.std.specs.Prelude.{◌<◌, ◌^◌};
 
-use cps_outside::{FreeGate, Gate};
+use cps_outside::Gate;
 use label_workers::{PIECE, fill_lists, fill_long_lists, fill_numbers};
 use std::alloc::{AllocError, Global};
 use std::sync::atomic::{AtomicU64, Ordering};
 use std::test::Fail;
 use std::thread::Threads;
 
-// Holds piece 0 until piece 1 has passed, for so many turns at most.
+// Holds piece 0 until another has passed, for so many turns at most.
 #[derive(Drop)]
 struct Holding {
+    other: u32,
     passed: AtomicU64,
     seen: AtomicU64,
 }
@@ -18,7 +19,7 @@ const TURNS: u32 = 100_000_000;
 
 impl Gate for Holding {
     fn pass(&self, piece: u32) {
-        if piece == 1 {
+        if piece == self.other {
             self.passed.store(1, Ordering::SeqCst);
         }
         if piece == 0 {
@@ -32,8 +33,9 @@ impl Gate for Holding {
     }
 }
 
-fn holds_piece_0() -> Holding {
+fn holds_piece_0_until(other: u32) -> Holding {
     Holding {
+        other,
         passed: AtomicU64::new(0),
         seen: AtomicU64::new(0),
     }
@@ -79,11 +81,16 @@ fn is_filled<R: Threads + Sync, G: Gate + Sync>(
     Ok(are_last_digits(&column))
 }
 
+// How many entries a column has, and the piece at which its second half begins.
+const HALVES: [(u16, u32); 4] = [(1025, 1), (2048, 1), (2049, 2), (5120, 3)];
+
 #[test]
-fn two_pieces_of_a_column_run_beside_each_other(rt: HostRuntime) -> Result<(), Fail> {
-    let gate = holds_piece_0();
-    assert!(rt; is_filled(&rt, rt.alloc(), &gate, 2048)?);
-    assert_eq!(rt; gate.seen.load(Ordering::SeqCst), 1);
+fn the_halves_of_a_column_run_beside_each_other(rt: HostRuntime) -> Result<(), Fail> {
+    for (len, half) in HALVES {
+        let gate = holds_piece_0_until(half);
+        assert!(rt; is_filled(&rt, rt.alloc(), &gate, usize::from(len))?);
+        assert_eq!(rt; gate.seen.load(Ordering::SeqCst), 1);
+    }
     Ok(())
 }
 
@@ -111,9 +118,9 @@ fn are_squares<R: Threads + Sync>(
 }
 
 // Whether eight items are refused where one of them is.
-fn are_refused<R: Threads + Sync>(rt: &R, alloc: Global, least: usize) -> bool {
+fn are_refused<R: Threads + Sync>(rt: &R, alloc: Global, gate: &Counting, least: usize) -> bool {
     let item = |i| if i == 5 { Err(AllocError) } else { Ok(i) };
-    fill_long_lists(rt, alloc, 8, least, &FreeGate, &item).is_err()
+    fill_long_lists(rt, alloc, 8, least, gate, &item).is_err()
 }
 
 #[test]
@@ -122,14 +129,23 @@ fn each_item_is_a_piece(rt: HostRuntime) -> Result<(), Fail> {
         let gate = counts_pieces();
         assert!(rt; are_squares(&rt, rt.alloc(), &gate, least)?);
         assert_eq!(rt; gate.passes.load(Ordering::SeqCst), 8);
-        assert!(rt; are_refused(&rt, rt.alloc(), least));
+        assert!(rt; are_refused(&rt, rt.alloc(), &gate, least));
     }
+    Ok(())
+}
+
+// Where a thread makes one item, one that is refused keeps no other back.
+#[test]
+fn each_item_passes_where_one_is_refused(rt: HostRuntime) -> Result<(), Fail> {
+    let gate = counts_pieces();
+    assert!(rt; are_refused(&rt, rt.alloc(), &gate, 1));
+    assert_eq!(rt; gate.passes.load(Ordering::SeqCst), 8);
     Ok(())
 }
 
 #[test]
 fn two_items_run_beside_each_other(rt: HostRuntime) -> Result<(), Fail> {
-    let gate = holds_piece_0();
+    let gate = holds_piece_0_until(1);
     let items = fill_lists(&rt, rt.alloc(), 2, &gate, &|i| Ok(i))?;
     assert_eq!(rt; gate.seen.load(Ordering::SeqCst), 1);
     assert_eq!(rt; items.as_slice(), [0, 1].as_slice());

@@ -1,21 +1,27 @@
 -- What was written goes on by a text, whole or in part.
-use Rattle.std.proofs.Common.{◌+◌, ◌<◌, ◌≤◌, [], ◌++◌, length, refl, ap, sym, ◌∙◌, arith, append_assoc, length-append}
+use Rattle.std.proofs.Common.{ℕ, ◌+◌, ◌-◌, ◌^◌, min, ◌≡◌, ◌<◌, ◌≤◌, [], ◌++◌, length, refl, ap, sym, ◌∙◌, arith, append_assoc, length-append}
 use Rattle.std.proofs.lemmas.List.{append-nil}
-use Rattle.cps_outside.specs.SinkState.{SinkState}
+use Rattle.cps_outside.specs.SinkState.{SinkState, CountsPuts}
 use Rattle.landing_rules.specs.Text.{Bytes}
 use Rattle.event_answers.specs.Written.{Wrote, WrotePart}
 
-pub wrote_nothing : (old : SinkState) → Wrote old old []
-wrote_nothing old = record {
+-- the puts of both
+counted_both : (m n : ℕ) (old mid new : SinkState) → CountsPuts m old mid → CountsPuts n mid new → CountsPuts (m + n) old new
+counted_both m n old mid new a b = omega (arith, a, b)
+
+-- no put is counted of a count that its type can hold
+pub wrote_nothing : (old : SinkState) → old.puts < 2 ^ 64 → Wrote 0 old old []
+wrote_nothing old fits = record {
   tells = refl;
   sure = refl;
   faults = omega arith;
   grew = λ told. sym (append-nil old.written);
   left = λ sure. omega arith;
+  counted = omega (arith, fits);
 }
 
-pub wrote_after : (old mid new : SinkState) (x y : Bytes) → Wrote old mid x → Wrote mid new y → Wrote old new (x ++ y)
-wrote_after old mid new x y a b = record {
+pub wrote_after : (m n : ℕ) (old mid new : SinkState) (x y : Bytes) → Wrote m old mid x → Wrote n mid new y → Wrote (m + n) old new (x ++ y)
+wrote_after m n old mid new x y a b = record {
   tells = b.tells ∙ a.tells;
   sure = b.sure ∙ a.sure;
   faults = omega (arith, a.faults, b.faults);
@@ -24,10 +30,11 @@ wrote_after old mid new x y a b = record {
       let first : old.room ≤ mid.room + length x = a.left sure in
       let then : mid.room ≤ new.room + length y = b.left (a.sure ∙ sure) in
       omega (arith, first, then, length-append x y);
+  counted = counted_both m n old mid new a.counted b.counted;
 }
 
-pub part_after : (old mid new : SinkState) (x y : Bytes) → Wrote old mid x → WrotePart mid new y → WrotePart old new (x ++ y)
-part_after old mid new x y a b = record {
+pub part_after : (m n : ℕ) (old mid new : SinkState) (x y : Bytes) → Wrote m old mid x → WrotePart n mid new y → WrotePart (m + n) old new (x ++ y)
+part_after m n old mid new x y a b = record {
   tells = b.tells ∙ a.tells;
   part = λ told. let p = b.part (a.tells ∙ told) in (
     x ++ p.0,
@@ -40,4 +47,5 @@ part_after old mid new x y a b = record {
       let first : old.room ≤ mid.room + length x = a.left sure in
       let short : mid.room < length y = b.lacked (a.sure ∙ sure) in
       omega (arith, first, short, length-append x y);
+  counted = counted_both m n old mid new a.counted b.counted;
 }

@@ -1,5 +1,5 @@
 -- A command that prints its report, or none, does what is asked of it.
-use Rattle.std.proofs.Common.{◌≡◌, ℕ, List, Ok, Err, Result, MatchResult, subst, sym, inl}
+use Rattle.std.proofs.Common.{◌≡◌, ℕ, List, Ok, Err, Result, MatchResult, subst, sym, inl, arith}
 use Rattle.cps_outside.specs.SinkState.{SinkState}
 use Rattle.endings.specs.declared.ending.Answer.{Answer}
 use Rattle.endings.specs.declared.ending.Ending.{Ending}
@@ -28,9 +28,10 @@ finished Admits Refuses (Ok r) old new (Answered answer) admits ends = record {
   text = r.text.items;
   admitted = subst (λ (x : Answer). Admits r.text.items x) (sym ends.0) admits;
   grew = ends.1;
+  counted = ends.2;
 }
 finished Admits Refuses (Ok r) old new NotWritten admits ends = (
-  record { text = r.text.items; admitted = ((r.answer, admits), ends.1); grew = ends.0 },
+  record { text = r.text.items; admitted = ((r.answer, admits), ends.1); grew = ends.0; counted = (1, (omega arith), (omega arith), ends.3) },
   ends.2,
 )
 finished Admits Refuses (Ok r) old new Misused admits ends = absurd ends

@@ -4,7 +4,7 @@ use Rattle.landing_rules.specs.Problem.{IsBestList}
 use Rattle.cert_check.specs.Landings.{Landings}
 use Rattle.cert_check.specs.Meaning.{IsShownOptimal}
 use Rattle.cert_check.specs.WholeLaws.{landings_in}
-use Rattle.cert_writer.proofs.AnswerLemmas.{objective_low}
+use Rattle.cert_check.specs.shared.Values.{objective_low}
 use Rattle.cert_writer.proofs.answer.answer_of.Goals as goal
 
 pub returns-in_ok-landings-in-Some-clause-answered : goal.returns-in_ok-landings-in-Some-clause-answered

@@ -1,4 +1,6 @@
-use Rattle.std.proofs.Common.{sym}
+use Rattle.std.proofs.Common.{Option, subst, sym}
+use Rattle.landing_rules.specs.Flights.{Schedule}
+use Rattle.cert_writer.specs.Answer.{ShowsAnswer}
 use Rattle.sequencer.specs.Opened.{opened}
 use Rattle.endings.specs.shared.Refusing.{opened_taken, stops_opened}
 use Rattle.certificate_commands.proofs.TrueVerdicts.{claim_true}
@@ -15,8 +17,15 @@ returns g c = record {
     true_of = claim_true (opened c.args.aerodrome.now c.args.flights.now) c.in_ok-problem.problem c.in_ok-certificate.certificate.landings c.in_ok-certificate.certificate.claim
         c.problem_stands_for_situation.ensures.best c.problem_stands_for_situation.ensures.objectives c.problem_stands_for_situation.ensures.none
         c.in_ok-problem.ensures.sound c.in_ok-problem.ensures.problem c.in_ok-certificate.ensures.whole.answer;
+    sound = c.in_ok-problem.ensures.sound;
+    well_formed = c.head-well_formed.ensures.well_formed;
+    in_form = c.claim-in_form.ensures.certificate;
   };
   whole = c.in_ok-certificate.ensures.whole;
+  answer = c.in_ok-schedule.schedule;
+  best = c.in_ok-schedule.ensures.answer;
+  shows = subst (λ (o : Option Schedule). ShowsAnswer c.in_ok-problem.problem o c.in_ok-certificate.certificate.claim c.in_ok-certificate.certificate.landings)
+      c.as_ref.ensures.value c.in_ok-certificate.ensures.shows;
 }
 
 pub returns-in_err-problem : goal.returns-in_err-problem

@@ -13,6 +13,9 @@ returns c = record {
   true_of = true_of (opened c.args.aerodrome.now c.args.flights.now) c.in_ok-problem.problem c.args.certificate.now.landings c.judge.result
       c.problem_stands_for_situation.ensures.best c.problem_stands_for_situation.ensures.objectives c.problem_stands_for_situation.ensures.none
       c.in_ok-problem.ensures.sound c.in_ok-problem.ensures.problem c.judge.ensures.optimal c.judge.ensures.infeasible;
+  sound = c.in_ok-problem.ensures.sound;
+  well_formed = c.head-well_formed.ensures.well_formed;
+  in_form = c.claim-in_form.ensures.certificate;
 }
 
 pub returns-in_err-problem : goal.returns-in_err-problem

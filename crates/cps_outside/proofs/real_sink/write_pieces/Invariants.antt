@@ -1,6 +1,7 @@
--- Each turn writes some of the bytes that are left.
-use Rattle.std.proofs.Common.{length}
+-- What is gone from the rest was appended.
+use Rattle.std.proofs.Common.{◌≡◌, ℕ, List, ◌++◌}
+use Rattle.std.specs.Io.KnownBytes.{Appends}
 use Rattle.cps_outside.proofs.real_sink.write_pieces.Given as goal
 
-abbrev pub decreases-loop-rest : goal.decreases-loop-rest
-decreases-loop-rest g l = length l.rest
+abbrev pub invariant-loop : goal.invariant-loop
+invariant-loop g l = (done : List ℕ) × (l.fn.bytes ≡ done ++ l.rest) × Appends (g.W.Write.contents l.fn.writer) (g.W.Write.contents l.writer) done

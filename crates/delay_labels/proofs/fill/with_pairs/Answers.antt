@@ -89,7 +89,8 @@ returns g c =
     let leader_is = same_rank c.node.result (node_at c.args.before.now.1 c.sources-from.result.0) c.number.result c.args.before.now.0 c.last_rank-last.result (g.row.W - 1) c.node.ensures.value c.number.ensures c.last_rank-last.ensures in
     let stage_is : c.number-2.result ≡ suc c.args.before.now.0 = omega (arith, c.number-2.ensures, c.requires.number) in
     let rank_is = same_rank c.node-2.result (node_at c.args.stage.now.1 c.args.i) c.number-2.result (suc c.args.before.now.0) c.last_rank-rank.result (g.row.W - 1) c.node-2.ensures.value stage_is c.last_rank-rank.ensures in
-    pairs_here p c.len-few.ensures.well_formed g.row.W c.args.before.now c.args.stage.now (node_at c.args.stage.now.1 c.args.i) c.sources-from.result.0 c.sources-from.result.1 s c.args.labels.now c.args.costs c.in_ok-more.more
+    let r = pairs_here p c.len-few.ensures.well_formed g.row.W c.args.before.now c.args.stage.now (node_at c.args.stage.now.1 c.args.i) c.sources-from.result.0 c.sources-from.result.1 s c.args.labels.now c.args.costs c.in_ok-more.more
     c.requires.before.costs c.len-in_days.ensures.in_days c.last_rank-last.result c.last_rank-rank.result leader_is rank_is c.requires.number (omega (arith, c.sources-from.ensures.range, c.requires.before.costs.one_each))
     c.collect_successors.new.into.items c.sort_unstable.new.self.items c.in_ok-collect_successors.ensures.successors c.sort_unstable.ensures.permutation c.sort_unstable.ensures.sorted c.collect_successors.ensures.in_days
-    (c.in_ok-more.ensures ∙ ap (λ (l : List Pair). c.args.costs ++ sweep 4294967295 l ∷ []) c.as_slice.ensures.value)
+    (c.in_ok-more.ensures ∙ ap (λ (l : List Pair). c.args.costs ++ sweep 4294967295 l ∷ []) c.as_slice.ensures.value) in
+    (r.0, r.1, record { pairs_are = r.2; sources = r.3 })

@@ -6,7 +6,7 @@ use Rattle.efforts.proofs.Efforts.{begins, goes_on, stops, ends}
 use Rattle.efforts.proofs.over_events.plan_events.Goals as goal
 
 pub loop-i-init : goal.loop-i-init
-loop-i-init g c = begins _ _ _ c.requires.held
+loop-i-init g c = begins _ _ _ c.requires.held c.requires.fits
 
 pub returns-in_err-steps : goal.returns-in_err-steps
 returns-in_err-steps g c =

@@ -1,7 +1,8 @@
 use Rattle.std.proofs.Common.{sym, ap, subst, ◌∙◌}
 use Rattle.std.proofs.lemmas.Result.{err_from_is_err_and}
 use Rattle.landing_rules.specs.Flights.{Situation}
-use Rattle.inquiry_commands.specs.Audit.{audit_text, audit_answer}
+use Rattle.inquiry_commands.specs.Audit.{TellsClean, audit_text, audit_answer}
+use Rattle.landing_rules.specs.Sound.{IsSound}
 use Rattle.situations.specs.Opened.{opened}
 use Rattle.situations.specs.Refused.{opening_fault}
 use Rattle.situations.specs.Begun.{IsRefusedBy}
@@ -13,6 +14,8 @@ returns c = record {
   taken = opened_taken c.args.aerodrome c.args.flights.items (ap (opening_fault c.args.aerodrome) (sym c.as_slice.ensures.value) ∙ c.in_ok-situation.ensures.openable);
   prints = c.in_ok-report.ensures.text ∙ ap (λ (s : Situation). audit_text s c.args.plan.now) (c.in_ok-situation.ensures.value ∙ ap (opened c.args.aerodrome) c.as_slice.ensures.value);
   answers = c.in_ok-report.ensures.answer ∙ ap (λ (s : Situation). audit_answer s c.args.plan.now) (c.in_ok-situation.ensures.value ∙ ap (opened c.args.aerodrome) c.as_slice.ensures.value);
+  sound = subst IsSound (c.in_ok-situation.ensures.value ∙ ap (opened c.args.aerodrome) c.as_slice.ensures.value) c.in_ok-situation.ensures.sound;
+  clean = subst (λ (s : Situation). TellsClean s c.args.plan.now c.in_ok-report.report.text.items) (c.in_ok-situation.ensures.value ∙ ap (opened c.args.aerodrome) c.as_slice.ensures.value) c.in_ok-report.ensures.clean;
 }
 
 pub returns-in_err-situation : goal.returns-in_err-situation

@@ -3,7 +3,7 @@ use Rattle.std.proofs.Common.{◌≡◌, ℕ, ◌+◌, ◌-◌, ◌*◌, ◌<◌
 use Rattle.std.specs.Prelude.{IfOk, min}
 use Rattle.std.proofs.lemmas.List.{get_or-map, length-map}
 use Rattle.std.proofs.lemmas.Result.{IfOk-weaker}
-use Rattle.label_workers.proofs.LaneLemmas.{AreLanes, IsLane, all_long, all_each}
+use Rattle.label_workers.specs.shared.Lanes.{AreLanes, IsLane, all_long, all_each}
 use Rattle.label_workers.proofs.lists.fill_long_lists.Given as given
 use Rattle.label_workers.proofs.lists.fill_long_lists.Goals as goal
 

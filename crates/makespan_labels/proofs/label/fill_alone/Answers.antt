@@ -1,73 +1,23 @@
-use Rattle.std.proofs.Common.{◌∙◌, ℕ, ◌<◌, length, length-set, refl, sym, subst, ap, arith, rules}
-use Rattle.std.proofs.lemmas.List.{get_or-set_same}
-use Rattle.std.proofs.lemmas.List.Elements.{All-set}
-use Rattle.cps_network.specs.Lists.{node_at}
-use Rattle.cps_network.specs.WindowLaws.{WindowLaws}
+use Rattle.std.proofs.Common.{◌≡◌, ◌∙◌, ℕ, ◌+◌, ◌++◌, ◌<◌, List, length, take, drop, ap, arith, subst, sym}
+use Rattle.std.specs.Prelude.{slice_index}
+use Rattle.std.proofs.Math.Seq.{take-append_seam}
 use Rattle.cps_network.specs.shared.LandableSteps.{has_next}
-use Rattle.cps_nodes.specs.Leads.{Extends}
-use Rattle.makespan_labels.specs.declared.group.Group.{Group}
-use Rattle.makespan_labels.specs.Followers.{IsFollower}
-use Rattle.makespan_labels.specs.Labels.{IsLabel}
-use Rattle.makespan_labels.specs.Ready.{IsReady}
-use Rattle.makespan_labels.proofs.ColumnLemmas.{set_more}
-use Rattle.makespan_labels.proofs.GroupLemmas.{window_at, extends_there, first_within, not_empty}
+use Rattle.makespan_labels.specs.Entries.{IsLabelAt}
+use Rattle.makespan_labels.specs.Labels.{AreLabels}
 use Rattle.makespan_labels.proofs.label.fill_alone.Goals as goal
-
-pub returns-then-is_empty-clause-landable : goal.returns-then-is_empty-clause-landable
-returns-then-is_empty-clause-landable g c =
-    has_next c.args.problem.now c.prefix_laws.ensures.network c.args.before.now c.args.stage.now c.requires.number c.requires.before.landable c.requires.next
-
-pub find_group-requires : goal.find_group-requires
-find_group-requires g c =
-    let laws : WindowLaws c.args.problem.now g.row.W = record { network = c.prefix_laws.ensures.network; alike = c.prefix_laws.ensures.sources; ranks = c.window_laws.ensures.ranks; leads = c.window_laws.ensures.leads } in
-    let some : 0 < length c.windows-windows.result.now = not_empty _ (sym c.if-is_empty.false ∙ c.is_empty.ensures) in
-    (search rules, (search rules, (c.requires.width, (laws, (c.requires.before, (c.windows-earlier.ensures.windows, (c.requires.next, omega (arith, some, ap length c.windows-windows.ensures.windows))))))))
-
-pub turn_to-requires : goal.turn_to-requires
-turn_to-requires g c =
-    let laws : WindowLaws c.args.problem.now g.row.W = record { network = c.prefix_laws.ensures.network; alike = c.prefix_laws.ensures.sources; ranks = c.window_laws.ensures.ranks; leads = c.window_laws.ensures.leads } in
-    let long = ap length c.windows-windows.ensures.windows in
-    let within : c.loop-i.i < length c.args.stage.now.1 = omega (arith, c.loop-i-test.true, c.loop-i.auto.i-end, long) in
-    let ready = c.loop-i.invariant.2 c.run_of-run.result _ (omega (arith, c.run_of-run.ensures, c.loop-i.invariant.3)) in
-    let from = first_within _ _ _ ready.labelled.group in
-    let there = window_at _ _ _ _ c.windows-windows.ensures.windows within c.index-windows-i.is in
-    let here = window_at _ _ _ _ c.windows-earlier.ensures.windows from c.index-earlier-groups.is in
-    (search rules, (search rules, (c.requires.width, (laws, (c.requires.before, (c.windows-earlier.ensures.windows, (c.requires.next, (within, (ready, λ leads. extends_there _ _ _ _ here there (c.leads_to-leads.ensures.extends.0 leads))))))))))
-
-pub loop-i-init : goal.loop-i-init
-loop-i-init g c =
-    let none : IsFollower c.args.problem.now c.new-followers.result = c.new-followers.ensures.follower c.args.problem.now refl in
-    search (rules, none)
-
-pub label_of-label-requires : goal.label_of-label-requires
-label_of-label-requires g c =
-    let laws : WindowLaws c.args.problem.now g.row.W = record { network = c.prefix_laws.ensures.network; alike = c.prefix_laws.ensures.sources; ranks = c.window_laws.ensures.ranks; leads = c.window_laws.ensures.leads } in
-    let long = ap length c.windows-windows.ensures.windows in
-    let within : c.loop-i.i < length c.args.stage.now.1 = omega (arith, c.loop-i-test.true, c.loop-i.auto.i-end, long) in
-    let window = window_at _ _ _ _ c.windows-windows.ensures.windows within c.index-windows-i.is in
-    let turned = sym (get_or-set_same c.loop-i.groups c.run_of-run.result c.turn_to.new.group _ (omega (arith, c.run_of-run.ensures, c.loop-i.invariant.3))) in
-    let leads = subst (λ (group : Group). Extends (node_at c.args.before.now.1 group.from) (node_at c.args.stage.now.1 c.loop-i.i)) turned c.turn_to.ensures.leads in
-    let follower = c.loop-i.invariant.4 c.follower_of-follower.result _ (omega (arith, c.follower_of-follower.ensures, c.loop-i.invariant.5)) in
-    (search rules, (search rules, (c.requires.width, (laws, (c.requires.before, (c.requires.number, (c.requires.next, (within, (window, (search rules, (leads, follower)))))))))))
-
-pub loop-i-preserved : goal.loop-i-preserved
-loop-i-preserved g c =
-    let long = ap length c.windows-windows.ensures.windows in
-    let within : c.loop-i.i < length c.args.stage.now.1 = omega (arith, c.loop-i-test.true, c.loop-i.auto.i-end, long) in
-    let more = set_more (λ (m label : ℕ). IsLabel c.args.problem.now c.args.stage.now.0 (node_at c.args.stage.now.1 m) label) c.loop-i.into c.set.new.self c.loop-i.i c.label_of-label.result
-    (length c.args.stage.now.1) c.set.ensures within c.loop-i.invariant.0 c.loop-i.invariant.1 c.label_of-label.ensures.label in (
-      more.0,
-      more.1,
-      All-set (IsReady c.args.problem.now g.row.W c.args.before.now c.args.labels.now) c.loop-i.groups _ _ c.turn_to.ensures.group c.loop-i.invariant.2,
-      length-set c.loop-i.groups _ _ ∙ c.loop-i.invariant.3,
-      All-set (IsFollower c.args.problem.now) c.loop-i.followers _ _ c.label_of-label.ensures.follower c.loop-i.invariant.4,
-      length-set c.loop-i.followers _ _ ∙ c.loop-i.invariant.5,
-    )
 
 pub returns-clause-labels : goal.returns-clause-labels
 returns-clause-labels g c =
-    let long = ap length c.windows-windows.ensures.windows in
-    record { one_each = c.loop-i.invariant.0; label = λ m lt. c.loop-i.invariant.1 m (omega (arith, lt, c.loop-i-test.false, c.loop-i.auto.i-end, long)) }
+    let same : length c.fill_part.new.part ≡ length c.as_mut_slice.result.now = c.fill_part.auto.part in
+    let held : c.into.inside.entries.items ≡ c.args.into.now = c.into.view_is in
+    let long : length c.as_mut_slice.result.now ≡ length c.args.stage.now.1 = ap length c.as_mut_slice.ensures.value ∙ ap length held ∙ c.requires.one_each in
+    let here : (i : ℕ) → i < length c.args.stage.now.1 → IsLabelAt c.args.problem.now c.args.stage.now i (slice_index c.fill_part.new.part i) = λ i lt.
+    subst (λ (j : ℕ). IsLabelAt c.args.problem.now c.args.stage.now j (slice_index c.fill_part.new.part i)) {x = 0 + i} {y = i} (omega arith) (c.fill_part.ensures i (omega (arith, lt, long))) in
+    let are : AreLabels c.args.problem.now c.args.stage.now c.fill_part.new.part = record { one_each = same ∙ long; label = λ i lt. (here i lt).label } in
+    let count : c.into.inside.entries.len ≡ length c.fill_part.new.part = sym c.as_mut_slice.ensures.len ∙ sym same in
+    let kept : c.fill_part.new.part ≡ take c.into.inside.entries.len (c.fill_part.new.part ++ drop (length c.fill_part.new.part) c.into.inside.entries.items) =
+    sym (ap (λ (n : ℕ). take n (c.fill_part.new.part ++ drop (length c.fill_part.new.part) c.into.inside.entries.items)) count ∙ take-append_seam c.fill_part.new.part (drop (length c.fill_part.new.part) c.into.inside.entries.items)) in
+    subst (AreLabels c.args.problem.now c.args.stage.now) kept are
 
 pub returns-clause-landable : goal.returns-clause-landable
 returns-clause-landable g c =

@@ -19,14 +19,14 @@ next-requires g c =
     let number = rw c.deref.ensures.value at c.in_ok-stage.ensures.number in
     let exact = rw c.deref.ensures.value at c.in_ok-stage.ensures.exact in
     let long : length c.args.kept.now.items ≡ c.len.result = omega (arith, c.len.ensures) in
-    (search rules, (c.requires.width, (h.0, (omega (arith, number, h.1, lt, c.len.ensures), rw (long, ← e, ← h.1) at exact))))
+    (search rules, (search rules, (search rules, (c.requires.width, (h.0, (omega (arith, number, h.1, lt, c.len.ensures), rw (long, ← e, ← h.1) at exact))))))
 
 pub returns-clause-held : goal.returns-clause-held
 returns-clause-held g c =
     let number = rw c.deref.ensures.value at c.in_ok-stage.ensures.number in
     let exact = rw c.deref.ensures.value at c.in_ok-stage.ensures.exact in
     let left = c.in_ok-labels.ensures.left in
-    one_more c.args.problem.now c.args.kept.now.items c.push.new.self.items _ c.requires.held c.in_ok-push.ensures.items (left.number ∙ number) left.held
+    one_more c.args.problem.now c.args.kept.now.items c.push.new.self.items _ c.requires.held c.in_ok-push.ensures.items (left.number ∙ number) c.windows-ascending.ensures.ascending left.held
     (λ last is whole.
     let f : c.len-2.result ≡ c.len-candidates.result = search (rules, whole) in
     let same : last ≡ length c.args.kept.now.items - 1 = omega (arith, is) in

@@ -1,4 +1,4 @@
-use Rattle.std.proofs.Common.{◌≡◌, ℕ, ◌-◌, length, rules, arith, subst}
+use Rattle.std.proofs.Common.{◌≡◌, ℕ, ◌-◌, ◌<◌, ◌≤◌, length, rules, arith, subst}
 use Rattle.std.specs.Prelude.{vec_len}
 use Rattle.cps_network.specs.Due.{HasCandidates, HasCandidatesFrom}
 use Rattle.cps_network.specs.shared.DueSteps.{none_from}
@@ -18,22 +18,10 @@ loop-stage-init g c = (
 
 pub add_stage-requires : goal.add_stage-requires
 add_stage-requires g c =
-    let long = c.loop-stage.invariant.1 in (
-      search rules,
-      (
-        search rules,
-        (
-          c.requires.width,
-          (
-            c.loop-stage.invariant.0,
-            (
-              omega (arith, long, c.loop-stage.auto, c.len-first.ensures, c.requires.some),
-              (omega (arith, long, c.loop-stage-test.true, c.len.ensures.value), c.requires.former),
-            ),
-          ),
-        ),
-      ),
-    )
+    let long = c.loop-stage.invariant.1 in
+    let some : 0 < vec_len c.loop-stage.kept = omega (arith, long, c.loop-stage.auto, c.len-first.ensures, c.requires.some) in
+    let number : vec_len c.loop-stage.kept ≤ length c.args.problem.now.flights = omega (arith, long, c.loop-stage-test.true, c.len.ensures.value) in
+    (search rules, (search rules, (search rules, (search rules, (c.requires.width, (c.loop-stage.invariant.0, (some, (number, c.requires.former))))))))
 
 pub loop-stage-preserved : goal.loop-stage-preserved
 loop-stage-preserved g c =

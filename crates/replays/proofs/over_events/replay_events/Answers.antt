@@ -5,7 +5,7 @@ use Rattle.event_answers.specs.shared.LongerRuns.{event_at}
 use Rattle.replays.proofs.over_events.replay_events.Goals as goal
 
 pub loop-i-init : goal.loop-i-init
-loop-i-init g c = begins _ _ _
+loop-i-init g c = begins _ _ _ c.requires.fits
 
 pub returns-in_err-put_answer : goal.returns-in_err-put_answer
 returns-in_err-put_answer g c =

@@ -1,20 +1,31 @@
 use Rattle.std.proofs.Common.{◌≡◌, ◌+◌, suc, get_or, set, sym, ap, ◌∙◌, arith}
+use Rattle.std.proofs.lemmas.Option.{get_or_from_slice_get}
+use Rattle.indexmap.specs.IndexMap.{values}
+use Rattle.indexmap.proofs.CallerLemmas.{keys-with_value_at}
 use Rattle.situations.specs.Freezes.{frozen_one}
-use Rattle.situations.proofs.Freezing.{freeze_prefix, freeze_prefix-step, freeze_prefix-all}
+use Rattle.situations.proofs.Freezing.{turned, turned-step, turned-all}
+use Rattle.situations.proofs.Keyed.{values_set}
 use Rattle.situations.proofs.freeze.freeze_each.Goals as goal
 
 pub loop-i-preserved : goal.loop-i-preserved
 loop-i-preserved c =
-    let z = c.args.freeze.now in
-    let old = c.args.active.now in
-    let ts = c.args.seconds.now in
+    let turn = (frozen_one c.args.freeze.now) in
+    let old = values c.args.active.now in
+    let now = values c.loop-i.active in
+    let ys = c.args.seconds.now in
     let i = c.loop-i.i in
-    let a = c.index-active-i.result in
+    let a = c.index_mut.result.now in
+    let y = get_or ys i 0 in
     let m : i + 1 ≡ suc i = omega arith in
     let long = c.requires in
     let within = c.loop-i-test.true in
-    ap (λ x. set c.loop-i.active i x) c.freeze_one.ensures ∙ ap (λ xs. set xs i (frozen_one z (get_or xs i a) (get_or ts i 0))) c.loop-i.invariant
-    ∙ freeze_prefix-step z i old ts a long (omega arith) ∙ ap (λ j. freeze_prefix z j old ts) (sym m)
+    record {
+      flights =
+          values_set c.loop-i.active.entries i c.freeze_one.new.active ∙ ap (set now i) c.freeze_one.ensures
+          ∙ ap (λ x. set now i (turn x y)) (sym (get_or_from_slice_get now i a a c.index_mut.ensures.value)) ∙ ap (λ l. set l i (turn (get_or l i a) y)) c.loop-i.invariant.flights
+          ∙ turned-step turn i old ys a 0 long (omega arith) ∙ ap (λ j. turned turn j old ys) (sym m);
+      keys = keys-with_value_at c.loop-i.active i c.freeze_one.new.active ∙ c.loop-i.invariant.keys;
+    }
 
-pub returns : goal.returns
-returns c = c.loop-i.invariant ∙ freeze_prefix-all c.args.freeze.now c.loop-i.i c.args.active.now c.args.seconds.now c.requires (omega (arith, c.loop-i-test.false, c.loop-i.auto.i-end))
+pub returns-clause-flights : goal.returns-clause-flights
+returns-clause-flights c = c.loop-i.invariant.flights ∙ turned-all (frozen_one c.args.freeze.now) c.loop-i.i (values c.args.active.now) c.args.seconds.now c.requires (omega (arith, c.loop-i-test.false, c.loop-i.auto.i-end))

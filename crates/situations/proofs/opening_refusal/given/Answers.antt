@@ -8,7 +8,7 @@ use Rattle.situations.proofs.opening_refusal.given.Goals.{in-Some+in_ok-push, in
 
 pub loop-entry-preserved : goal.loop-entry-preserved
 loop-entry-preserved c =
-    let active = c.args.active.now in
+    let active = c.args.situation.now.active in
     let all = c.args.frozen.now in
     let i = c.loop-entry.entry-index in
     let entry = c.entry-item.result in
@@ -26,8 +26,8 @@ loop-entry-preserved c =
 
 pub returns-clause-few : goal.returns-clause-few
 returns-clause-few c =
-    let left = given c.args.active.now (drop c.loop-entry.entry-index c.args.frozen.now) in
+    let left = given c.args.situation.now.active (drop c.loop-entry.entry-index c.args.frozen.now) in
     let n = ap length c.loop-entry.invariant in
     let m = length-append c.loop-entry.all.items left in
-    let few = few_given (given_landing c.args.active.now) c.args.frozen.now in
+    let few = few_given (given_landing c.args.situation.now.active) c.args.frozen.now in
     omega (arith, n, m, few)

@@ -10,19 +10,19 @@ use Rattle.makespan_labels.proofs.column.Column.keep_landable.Goals as goal
 pub invariant_of-self : goal.invariant_of-self
 invariant_of-self g c =
     let k = c.compact.ensures.kept in
-    subst (All IsEntry) (sym k.3) (all_kept IsEntry k.0 c.self.inside.labels.items c.self.invariant)
+    subst (All IsEntry) (sym k.3) (all_kept IsEntry k.0 c.self.inside.entries.items c.self.invariant)
 
 pub returns-clause-windows : goal.returns-clause-windows
 returns-clause-windows g c =
     let k = c.compact.ensures.kept in
-    let are : k.0 ≡ map is_known c.self.inside.labels.items = answers_are is_known _ (λ x b r. r.says.met ∙ ap is_known r.shows) _ k.0 k.1 in
+    let are : k.0 ≡ map is_known c.self.inside.entries.items = answers_are is_known _ (λ x b r. r.says.met ∙ ap is_known r.shows) _ k.0 k.1 in
     k.2 ∙ ap (λ (bs : List Bool). kept_where bs c.args.stage.now.1) are ∙ ap (λ (xs : List ℕ). known_of xs c.args.stage.now.1) c.self.view_is
 
 pub returns-clause-labels : goal.returns-clause-labels
 returns-clause-labels g c =
     let k = c.compact.ensures.kept in
-    let are : k.0 ≡ map is_known c.self.inside.labels.items = answers_are is_known _ (λ x b r. r.says.met ∙ ap is_known r.shows) _ k.0 k.1 in
-    k.3 ∙ ap (λ (bs : List Bool). kept_where bs c.self.inside.labels.items) are ∙ ap (λ (xs : List ℕ). known_of xs xs) c.self.view_is
+    let are : k.0 ≡ map is_known c.self.inside.entries.items = answers_are is_known _ (λ x b r. r.says.met ∙ ap is_known r.shows) _ k.0 k.1 in
+    k.3 ∙ ap (λ (bs : List Bool). kept_where bs c.self.inside.entries.items) are ∙ ap (λ (xs : List ℕ). known_of xs xs) c.self.view_is
 
 pub returns-clause-landable : goal.returns-clause-landable
 returns-clause-landable g c = λ p each are.

@@ -8,7 +8,7 @@ use Rattle.replan.proofs.labels.Labels.next.Goals as goal
 pub fill-requires : goal.fill-requires
 fill-requires g c =
     let is : of_column c.in-OfColumn.labels ≡ c.args.self.now = sym (ap pairs_of c.in-OfColumn.is) ∙ c.self.view_is in
-    (search rules, (c.requires.width, (column_held c.args.problem.now c.args.before.now c.args.self.now c.in-OfColumn.labels is c.requires.before, (c.requires.number, (c.requires.next, ap length c.in_ok-reserve-in-OfColumn.ensures.made ∙ length-replicate c.len.result no_label ∙ c.len.ensures.value)))))
+    (search rules, (search rules, (search rules, (c.requires.width, (column_held c.args.problem.now c.args.before.now c.args.self.now c.in-OfColumn.labels is c.requires.before, (c.requires.number, (c.requires.next, ap length c.in_ok-reserve-in-OfColumn.ensures.made ∙ length-replicate c.len.result no_label ∙ c.len.ensures.value)))))))
 
 pub returns-in_ok-reserve-in-OfColumn-clause-left : goal.returns-in_ok-reserve-in-OfColumn-clause-left
 returns-in_ok-reserve-in-OfColumn-clause-left g c =

@@ -1,23 +1,36 @@
-use Rattle.std.proofs.Common.{◌≡◌, ◌≢◌, false, sym, ap, subst, ◌∙◌}
+use Rattle.std.proofs.Common.{◌≡◌, [], ◌∷◌, ◌++◌, sym, ap, subst, ◌∙◌}
 use Rattle.std.specs.List.{list_any}
-use Rattle.std.proofs.lemmas.List.Quantifiers.{all_pairs_push}
-use Rattle.landing_rules.specs.Flights.{Situation}
+use Rattle.std.specs.Map.{values_of}
+use Rattle.std.specs.Str.{bytes_eq}
+use Rattle.indexmap.proofs.CallerLemmas.{insert_entry-new}
+use Rattle.landing_rules.specs.Flights.{Active, Situation}
 use Rattle.landing_rules.specs.Events.{named}
-use Rattle.arrivals.specs.declared.flight.Flight as files
-use Rattle.situations.specs.Seen.{AreApart}
-use Rattle.situations.proofs.Apart.{none_named}
+use Rattle.situations.specs.Seen.{situation_of}
+use Rattle.situations.proofs.Keyed.{Keyed, keyed_pushed, not_there, values_pushed}
 use Rattle.situations.proofs.situation.Situation.add.Goals as goal
+use Rattle.situations.proofs.situation.Situation.add.Goals.{In_ok-insert}
+
+-- the new entry goes last
+last : (c : In_ok-insert) → c.insert.new.self.entries ≡ c.self.inside.active.entries ++ (c.args.flight.now.callsign, c.waiting.result) ∷ []
+last c =
+    let callsign = c.args.flight.now.callsign in
+    let none = ap (λ (s : Situation). list_any (named callsign) s.active) c.self.view_is ∙ c.requires in
+    c.in_ok-insert.ensures.entries ∙ insert_entry-new bytes_eq c.self.inside.active callsign c.waiting.result (not_there callsign c.self.inside.active.entries c.self.invariant.keyed none)
 
 pub invariant_of-self-2 : goal.invariant_of-self-2
 invariant_of-self-2 c =
-    let callsign = c.args.flight.now.callsign in
-    let xs = c.self.inside.active.items in
-    let none : list_any (named callsign) xs ≡ false = ap (λ (s : Situation). list_any (named callsign) s.active) c.self.view_is ∙ c.requires in
-    let name = ap (λ (f : files.Flight). f.callsign) c.copy.ensures in
+    let name = ap (λ (a : Active). a.flight.callsign) c.waiting.ensures in
     record {
-      apart = subst AreApart (sym c.in_ok-push.ensures.items)
-          (all_pairs_push (λ a later. a.flight.callsign ≢ later.flight.callsign) xs _ c.self.invariant.apart (λ k d lt same. none_named callsign xs k d none lt (same ∙ name)));
+      keyed = subst Keyed (sym (last c)) (keyed_pushed c.self.inside.active.entries (c.args.flight.now.callsign, c.waiting.result) c.self.invariant.keyed (sym name));
       few_places = c.self.invariant.few_places;
       short_freeze = c.self.invariant.short_freeze;
       clock = c.self.invariant.clock;
     }
+
+pub returns-clause-new : goal.returns-clause-new
+returns-clause-new c =
+    let d = (goal.at.returns-clause-new c).In_ok-insert in
+    let inside = c.self.inside in
+    rw (← c.self.view_is)
+    (ap (λ l. situation_of inside.fixed l inside.closures inside.clock)
+    (ap values_of (last d) ∙ values_pushed inside.active.entries (c.args.flight.now.callsign, d.waiting.result) ∙ ap (λ (a : Active). values_of inside.active.entries ++ a ∷ []) d.waiting.ensures))

@@ -1,32 +1,30 @@
-use Rattle.std.proofs.Common.{length, map, zip, sym, subst, ap, ◌∙◌}
-use Rattle.std.proofs.lemmas.List.{with_items_is}
-use Rattle.situations.specs.Freezes.{frozen_one, IsFreezeOf}
+use Rattle.std.proofs.Common.{length, sym, ap, subst, ◌∙◌}
+use Rattle.indexmap.specs.IndexMap.{values}
 use Rattle.landing_rules.specs.Flights.{Situation}
-use Rattle.situations.specs.Seen.{AreApart, fixed_of}
-use Rattle.situations.proofs.Apart.{names_frozen, same_names}
+use Rattle.situations.specs.Freezes.{IsFreezeOf}
+use Rattle.situations.specs.Seen.{fixed_of, situation_of}
+use Rattle.situations.proofs.Apart.{names_frozen}
 use Rattle.situations.proofs.Freezing.{frozen_flights}
+use Rattle.situations.proofs.Keyed.{keyed_still}
 use Rattle.situations.proofs.situation.Situation.freeze_by.Goals as goal
 
 pub invariant_of-self : goal.invariant_of-self
 invariant_of-self c =
-    let xs = c.self.inside.active.items in
-    let ts = c.args.seconds.now in
-    let z = c.in_ok-freeze.freeze in
-    let e = with_items_is c.self.inside.active c.freeze_each.new.active (c.freeze_each.auto.active ∙ c.deref_mut.ensures.len) ∙ c.freeze_each.ensures ∙ ap (λ l. map (λ p. frozen_one z p.0 p.1) (zip l ts)) c.deref_mut.ensures.value in
     let long = ap (λ (s : Situation). length s.active) c.self.view_is ∙ sym c.requires in
     record {
-      apart = subst AreApart (sym e) (same_names xs (map (λ p. frozen_one z p.0 p.1) (zip xs ts)) (names_frozen z xs ts long) c.self.invariant.apart);
+      keyed = keyed_still c.self.inside.active.entries c.freeze_each.new.active.entries _ c.freeze_each.ensures.keys c.freeze_each.ensures.flights
+          (names_frozen c.in_ok-freeze.freeze (values c.self.inside.active) c.args.seconds.now long) c.self.invariant.keyed;
       few_places = c.self.invariant.few_places;
       short_freeze = c.self.invariant.short_freeze;
       clock = c.self.invariant.clock;
     }
 
-pub returns : goal.returns
-returns c =
-    let a = fixed_of c.self.inside.fixed in
-    let active = c.self.inside.active.items in
+pub returns-clause-new : goal.returns-clause-new
+returns-clause-new c =
+    let inside = c.self.inside in
+    let a = fixed_of inside.fixed in
+    let active = values inside.active in
     let ts = c.args.seconds.now in
     let z = c.in_ok-freeze.freeze in
-    let of = subst (λ l. IsFreezeOf a c.args.h l ts z) c.deref.ensures.value c.in_ok-freeze.ensures in
-    let e = with_items_is c.self.inside.active c.freeze_each.new.active (c.freeze_each.auto.active ∙ c.deref_mut.ensures.len) ∙ c.freeze_each.ensures ∙ ap (λ l. map (λ p. frozen_one z p.0 p.1) (zip l ts)) c.deref_mut.ensures.value ∙ frozen_flights a c.args.h active ts z of active ts in
-    rw (← c.self.view_is) (ap (λ l. record { aerodrome = a; active = l; closures = c.self.inside.closures; clock = c.self.inside.clock }) e)
+    let of = subst (λ l. IsFreezeOf a c.args.h l ts z) (c.flights.ensures ∙ sym (ap (λ (s : Situation). s.active) c.self.view_is)) c.in_ok-freeze.ensures in
+    rw (← c.self.view_is) (ap (λ l. situation_of inside.fixed l inside.closures inside.clock) (c.freeze_each.ensures.flights ∙ frozen_flights a c.args.h active ts z of active ts))

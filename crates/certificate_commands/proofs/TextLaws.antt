@@ -1,0 +1,193 @@
+-- From the clauses of printed certificates and verdicts to the laws of their texts.
+use Rattle.std.proofs.Common.{◌≡◌, ℕ, ◌+◌, ◌*◌, ◌<◌, ◌≤◌, inl, inr, List, [], ◌∷◌, ◌++◌, length, map, filter, Ok, refl, sym, ap, ap₂, subst, ◌∙◌, arith}
+use Rattle.std.specs.Prelude.{decimal, min}
+use Rattle.std.specs.Ordering.{is_lt}
+use Rattle.std.specs.Result.{result_ok}
+use Rattle.std.proofs.Math.Nat.{mul-le-mul_right}
+use Rattle.std.proofs.lemmas.Bool.{cases_Bool}
+use Rattle.std.proofs.lemmas.Fmt.{length-decimal-le}
+use Rattle.std.proofs.lemmas.List.{length-append, length-map}
+use Rattle.std.proofs.lemmas.List.Sums.{count_by-le-length, length-filter}
+use Rattle.std.proofs.lemmas.Option.{same_Some}
+use Rattle.std.proofs.lemmas.Slice.Zip.{AllZip-long}
+use Rattle.landing_rules.specs.declared.objective.Objective.{Objective}
+use Rattle.landing_rules.specs.Flights.{Active, Situation, is_waiting, waiting}
+use Rattle.landing_rules.specs.Events.{opening_flight}
+use Rattle.landing_rules.specs.Limits.{most_waiting}
+use Rattle.landing_rules.specs.Rules.{arrival_cmp}
+use Rattle.landing_rules.specs.Problem.{IsProblemOf, IsWaitingOf, Problem, by_rank, insert_by_rank}
+use Rattle.arrivals.specs.declared.aerodrome.Aerodrome.{Aerodrome}
+use Rattle.arrivals.specs.declared.flight.Flight.{Flight}
+use Rattle.arrivals.specs.Seen.{flight_of}
+use Rattle.aerodrome_file.specs.Reading.{aerodrome_of}
+use Rattle.flight_file.specs.Reading.{flights_of}
+use Rattle.certificate.specs.declared.certificate.Claim.{Claim}
+use Rattle.certificate.specs.declared.certificate.Claim.TheVariants as claim
+use Rattle.certificate.specs.States.{State}
+use Rattle.certificate.specs.Reading.{Cert}
+use Rattle.certificate.specs.Spelling.{text_of}
+use Rattle.cert_check.specs.Landings.{Landings}
+use Rattle.cert_check.specs.Situations.{OneStatesLaw}
+use Rattle.cert_check.specs.Whole.{IsAnswered}
+use Rattle.cert_check.specs.WholeLaws.{claimed}
+use Rattle.cert_check.specs.WholeSizes.{most_nodes}
+use Rattle.cert_check.specs.declared.verdict.Reason.{Reason}
+use Rattle.cert_check.specs.declared.verdict.Reason.TheVariants.{Closed, Early, Final, Flights, Precedence, Separation, Shape, Shift, Successor, Value}
+use Rattle.cert_check.specs.declared.verdict.Verdict.{Verdict}
+use Rattle.cert_check.specs.declared.verdict.Verdict.TheVariants as verdict
+use Rattle.text_bounds.specs.Certificates.{certificate_bound}
+use Rattle.text_bounds.specs.Counts.{count_in}
+use Rattle.text_bounds.specs.WholeCertificates.{LoadableIsShortLaw, WholeCertificateIsBoundedLaw, most_pairs, whole_bound}
+use Rattle.text_bounds.specs.shared.Reasons.{HasSmallNumbers, IsSmall, verdict_has_small_numbers}
+use Rattle.sequencer.specs.Opened.{opened, opening_of}
+use Rattle.endings.specs.declared.ending.Answer.{Answer}
+use Rattle.certificate_commands.specs.Certify.{AdmitsCertify, IsCertified}
+use Rattle.certificate_commands.specs.Check.{AdmitsCheck}
+use Rattle.certificate_commands.specs.TextLaws.{CertifyIsBoundedLaw, CertifyIsLoadableLaw, CertifyTextsLaw, CheckIsBoundedLaw, DifferInLandingsAlone, certify_bound, certify_bound_of, check_bound}
+use Rattle.certificate_commands.specs.Verdicts.{IsTrueOf, verdict_text}
+
+-- ---- two certificates of one situation
+
+-- what is true of a situation is claimed in one way
+one_claim : (s : Situation) (p q : Problem) (ls ms : Landings) (c d : Claim) → IsTrueOf s p ls (claimed c) → IsTrueOf s q ms (claimed d) → c ≡ d
+one_claim s p q ls ms (claim.Optimal v) (claim.Optimal w) h k =
+    let low = h.best.least _ k.best.feasible in
+    let high = k.best.least _ h.best.feasible in
+    let one = h.objective in
+    let other = k.objective in
+    let same : v ≡ w = omega (arith, low, high, one, other) in
+    ap claim.Optimal same
+one_claim s p q ls ms (claim.Optimal v) claim.Infeasible h k = absurd (k _ h.best.feasible)
+one_claim s p q ls ms claim.Infeasible (claim.Optimal w) h k = absurd (h _ k.best.feasible)
+one_claim s p q ls ms claim.Infeasible claim.Infeasible h k = refl
+
+no_landings : (p : Problem) (c : Claim) (ls : Landings) → c ≡ claim.Infeasible → IsAnswered p c ls → ls ≡ []
+no_landings p c ls none h = (subst (λ (d : Claim). IsAnswered p d ls) none h).0
+
+differ : OneStatesLaw → (aerodrome : Aerodrome) (flights : List Flight) (c d : Cert) (text other : List ℕ) → IsCertified aerodrome flights c → IsCertified aerodrome flights d
+    → text ≡ text_of c → other ≡ text_of d → DifferInLandingsAlone text other
+differ law aerodrome flights c d text other x y first second =
+    let s = opened aerodrome flights in
+    let claims : c.claim ≡ d.claim = one_claim s x.judged.problem y.judged.problem c.landings d.landings c.claim d.claim x.judged.true_of y.judged.true_of in
+    let states : c.states ≡ d.states = law s x.judged.problem y.judged.problem c.states d.states x.judged.problem_of y.judged.problem_of x.whole.states y.whole.states in
+    let with_landings : Landings → Claim → List State → List ℕ = λ ls e ss. text_of (record { claim = e; landings = ls; states = ss }) in
+    let again : other ≡ with_landings d.landings c.claim c.states = second ∙ ap₂ (with_landings d.landings) (sym claims) (sym states) in
+    record {
+      claim = c.claim;
+      states = c.states;
+      landings = c.landings;
+      others = d.landings;
+      first = first;
+      second = again;
+      none = λ e.
+          (let left = no_landings x.judged.problem c.claim c.landings e x.whole.answer in
+          let right = no_landings y.judged.problem d.claim d.landings (sym claims ∙ e) y.whole.answer in
+          first ∙ ap (λ (ls : Landings). with_landings ls c.claim c.states) (left ∙ sym right) ∙ sym again);
+    }
+
+pub certify_texts : OneStatesLaw → CertifyTextsLaw
+certify_texts law a f text other answer another x y =
+    let aerodromes : y.aerodrome ≡ x.aerodrome = same_Some _ _ (ap result_ok (sym y.aerodrome_read ∙ x.aerodrome_read)) in
+    let flights : y.flights ≡ x.flights = same_Some _ _ (ap result_ok (sym y.flights_read ∙ x.flights_read)) in
+    let there = subst (λ (l : List Flight). IsCertified x.aerodrome l y.certifies.certificate) flights
+    (subst (λ (b : Aerodrome). IsCertified b y.flights y.certifies.certificate) aerodromes y.certifies.certified) in (
+      differ law x.aerodrome x.flights x.certifies.certificate y.certifies.certificate text other x.certifies.certified there x.certifies.prints y.certifies.prints,
+      x.certifies.answers ∙ sym y.certifies.answers,
+    )
+
+-- ---- how long a certificate is
+
+length_insert : (a : Active) (as' : List Active) → length (insert_by_rank a as') ≡ length as' + 1
+length_insert a [] = refl
+length_insert a (b ∷ rest) = elim (cases_Bool (is_lt (arrival_cmp b.flight a.flight))) [
+  | inl before ↦ rw before (let more = length_insert a rest in omega (arith, more))
+  | inr behind ↦ rw behind (omega arith)
+]
+
+length_by_rank : (all : List Active) → length (by_rank all) ≡ length all
+length_by_rank [] = refl
+length_by_rank (a ∷ all) = let one = length_insert a (by_rank all) in let rest = length_by_rank all in omega (arith, one, rest)
+
+-- a problem has at most the situation's flights
+few_waiting : (s : Situation) (p : Problem) → IsProblemOf s p → length p.flights ≤ length s.active
+few_waiting s p h =
+    let a = AllZip-long (IsWaitingOf s.closures) (by_rank (waiting s)) p.flights h.flights in
+    let b = length_by_rank (waiting s) in
+    let c = length-filter is_waiting s.active in
+    let d = count_by-le-length is_waiting s.active in
+    omega (arith, a, b, c, d)
+
+bound_rises : (o : Objective) (k n m : ℕ) → n ≤ m → whole_bound o k n ≤ whole_bound o k m
+bound_rises o k n m le =
+    let nodes = mul-le-mul_right (most_nodes k) le in
+    let pairs = mul-le-mul_right (most_pairs o) nodes in
+    omega (arith, le, nodes, pairs)
+
+module _ (law : WholeCertificateIsBoundedLaw) (a f text : List ℕ) (answer : Answer) (x : AdmitsCertify a f text answer) where
+  short : length text ≤ whole_bound x.aerodrome.objective x.aerodrome.k (min most_waiting (length x.flights))
+  short =
+      let judged = x.certifies.certified.judged in
+      let s = opened x.aerodrome x.flights in
+      let p = judged.problem in
+      let whole = law s p x.certifies.certificate judged.sound judged.problem_of judged.well_formed judged.in_form x.certifies.certified.whole in
+      let waiting_few = few_waiting s p judged.problem_of in
+      let all = length-map (map flight_of x.flights) (opening_flight (opening_of x.aerodrome)) in
+      let each = length-map x.flights flight_of in
+      let most = judged.well_formed.few_flights in
+      let rises = bound_rises x.aerodrome.objective x.aerodrome.k (length p.flights) (min most_waiting (length x.flights)) (omega (arith, waiting_few, all, each, most)) in
+      let named : length (text_of x.certifies.certificate) ≤ whole_bound x.aerodrome.objective x.aerodrome.k (length p.flights) =
+      subst (λ (k : ℕ). length (text_of x.certifies.certificate) ≤ whole_bound x.aerodrome.objective k (length p.flights)) judged.problem_of.k
+      (subst (λ (o : Objective). length (text_of x.certifies.certificate) ≤ whole_bound o p.k (length p.flights)) judged.problem_of.objective whole) in
+      let long = ap length x.certifies.prints in
+      omega (arith, named, rises, long)
+
+pub certify_short : WholeCertificateIsBoundedLaw → CertifyIsBoundedLaw
+certify_short law a f text answer x =
+    subst (λ r. length text ≤ certify_bound_of r (count_in (flights_of f))) (sym x.aerodrome_read)
+    (subst (λ r. length text ≤ certify_bound_of (Ok x.aerodrome) (count_in r)) (sym x.flights_read) (short law a f text answer x))
+
+pub certify_loadable : WholeCertificateIsBoundedLaw → LoadableIsShortLaw → CertifyIsLoadableLaw
+certify_loadable law loads a f text answer x few =
+    let bound = short law a f text answer x in
+    let small = loads x.aerodrome.objective x.aerodrome.k (min most_waiting (length x.flights)) few in
+    omega (arith, bound, small)
+
+-- ---- how long a verdict's line is
+
+two : (n : ℕ) → n ≤ 60 → length (decimal n) ≤ 2
+two n le = length-decimal-le 2 n (omega arith) (omega (arith, le)) (omega (arith, le))
+
+ten : (n : ℕ) → n ≤ 9999999999 → length (decimal n) ≤ 10
+ten n le = length-decimal-le 10 n (omega arith) (omega (arith, le)) (omega (arith, le))
+
+-- a number and the end of the line, or two numbers
+one_number : (n : ℕ) → length (decimal n ++ 10 ∷ []) ≡ length (decimal n) + 1
+one_number n = length-append (decimal n) (10 ∷ [])
+
+two_numbers : (n m : ℕ) → length (decimal n ++ 32 ∷ (decimal m ++ 10 ∷ [])) ≡ length (decimal n) + length (decimal m) + 2
+two_numbers n m = let a = length-append (decimal n) (32 ∷ (decimal m ++ 10 ∷ [])) in let b = length-append (decimal m) (10 ∷ []) in omega (arith, a, b)
+
+reason_short : (r : Reason) → HasSmallNumbers r → length (verdict_text (verdict.Rejected r)) ≤ 33
+reason_short Flights h = omega arith
+reason_short (Closed r) h = let a = two r h in let b = one_number r in omega (arith, a, b)
+reason_short (Early r) h = let a = two r h in let b = one_number r in omega (arith, a, b)
+reason_short (Separation r q) h = let a = two r h.0 in let b = two q h.1 in let c = two_numbers r q in omega (arith, a, b, c)
+reason_short (Precedence r q) h = let a = two r h.0 in let b = two q h.1 in let c = two_numbers r q in omega (arith, a, b, c)
+reason_short (Shift r) h = let a = two r h in let b = one_number r in omega (arith, a, b)
+reason_short (Value v) h = let a = ten v (omega (arith, h)) in let b = one_number v in omega (arith, a, b)
+reason_short (Shape i) h = let a = ten i (omega (arith, h)) in let b = one_number i in omega (arith, a, b)
+reason_short (Successor i r) h = let x = h.0 in let a = ten i (omega (arith, x)) in let b = two r h.1 in let c = two_numbers i r in omega (arith, a, b, c)
+reason_short (Final i) h = let a = ten i (omega (arith, h)) in let b = one_number i in omega (arith, a, b)
+
+verdict_short : (v : Verdict) → IsSmall v → length (verdict_text v) ≤ 33
+verdict_short (verdict.Optimal v) h = let a = ten v (omega (arith, h)) in let b = one_number v in omega (arith, a, b)
+verdict_short verdict.Infeasible h = omega arith
+verdict_short (verdict.Rejected r) h = reason_short r h
+
+pub check_short : CheckIsBoundedLaw
+check_short a f c text answer x =
+    let judged = x.judges.judged in
+    let small = subst IsSmall (sym judged.verdict_is) (verdict_has_small_numbers judged.problem judged.well_formed x.judges.certificate judged.in_form) in
+    let line = verdict_short x.verdict small in
+    let long = ap length x.prints in
+    omega (arith, line, long)

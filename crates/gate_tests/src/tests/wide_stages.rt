@@ -1,0 +1,56 @@
+use super::given::text_of;
+use crate::{CountingGate, HoldingGate};
+use cps_outside::{FreeGate, Gate};
+use openings::begin;
+use std::alloc::Global;
+use std::test::Fail;
+use std::thread::Threads;
+use traffic_gen::generate;
+
+const SUMMARY: &str = "flights 60
+k 3
+nodes 1719951
+makespan 9044
+";
+
+// The first stage of more than 1,024 windows in the traffic of seed 7.
+fn first_wide_stage<R: Threads + Sync>(rt: &R, alloc: Global) -> Result<u8, Fail> {
+    let (aerodrome, flights) = generate(alloc, 7, 60, 3)?.into_parts();
+    let begun = begin(rt, alloc, aerodrome, flights, &FreeGate);
+    let (sequencer, _) = begun.ok().ok_or("the traffic opens no situation")?;
+    let planner = sequencer.planner();
+    for stage in 1..planner.stages() + 1 {
+        if planner.size(stage) > 1024 {
+            return Ok(stage);
+        }
+    }
+    Err(Fail::new("no stage is wide"))
+}
+
+// Whether a trial of that traffic prints its summary.
+fn is_summed_up<R: Threads + Sync, G: Gate + Sync>(
+    rt: &R,
+    alloc: Global,
+    gate: &G,
+) -> Result<bool, Fail> {
+    let text = text_of(rt, alloc, &["trial", "7", "60", "3"], Vec::new(alloc), gate)?;
+    Ok(text.as_slice() == SUMMARY.as_bytes())
+}
+
+#[test]
+fn two_pieces_of_a_stage_run_beside_each_other(rt: HostRuntime) -> Result<(), Fail> {
+    let stage = first_wide_stage(&rt, rt.alloc())?;
+    let gate = HoldingGate::behind(u64::from(stage).saturating_sub(1));
+    assert!(rt; is_summed_up(&rt, rt.alloc(), &gate)?);
+    assert!(rt; gate.has_seen());
+    Ok(())
+}
+
+#[test]
+fn the_text_is_the_same_at_every_gate(rt: HostRuntime) -> Result<(), Fail> {
+    assert!(rt; is_summed_up(&rt, rt.alloc(), &FreeGate)?);
+    let gate = CountingGate::new();
+    assert!(rt; is_summed_up(&rt, rt.alloc(), &gate)?);
+    assert!(rt; gate.passes() > 60);
+    Ok(())
+}

@@ -1,0 +1,127 @@
+// The flights in the system by callsign: the map, look-ups, and changes of the flight that has a callsign.
+ghost use Rattle.std.specs.Prelude.{◌≡◌, ◌≢◌, None, Some, AllPairs, IfOk, find, is_some, map, option_map};
+ghost use Rattle.std.specs.List.{list_any};
+ghost use Rattle.landing_rules.specs.Events.{named, estimated};
+ghost use Rattle.situations.specs.Opened.{newcomers};
+ghost use Rattle.situations.specs.Named.{counted, frozen_so};
+ghost use Rattle.situations.specs.Seen.{AreApart};
+
+use crate::{Active, Situation};
+use arrivals::Flight;
+use cps_base::Callsign;
+use indexmap::IndexMap;
+use landing_windows::WindowSet;
+use std::alloc::{AllocError, Global};
+
+/// The flights by callsign, in the order of their file. Each waits, and none has passed it.
+pub(crate) fn by_callsign(
+    alloc: Global,
+    flights: &[Flight],
+) -> Result<IndexMap<Callsign, Active>, AllocError>
+    requires { AllPairs (λ f later. f.callsign ≢ later.callsign) flights.now }
+    ensures { IfOk result (λ active. active.entries ≡ newcomers flights.now) }
+{
+    let mut active = IndexMap::with_capacity(alloc, flights.len())?;
+    for flight in flights {
+        active.insert(flight.callsign, Active::waiting(flight))?;
+    }
+    Ok(active)
+}
+
+// The flight has this estimate and these windows. It gives those that it had.
+fn estimate(active: &mut Active, eta: u32, windows: &WindowSet) -> (u32, WindowSet)
+    ensures new { active.new ≡ record active.old {
+      flight = record active.old.flight
+          { eta = eta; windows = windows.now };
+    } }
+    ensures old { result ≡ (active.old.flight.eta, active.old.flight.windows) }
+{
+    let old = (active.flight.eta, active.flight.windows);
+    active.flight.eta = eta;
+    active.flight.windows = *windows;
+    old
+}
+
+// The flight is frozen at this second, or waits.
+fn set_frozen(active: &mut Active, second: Option<u32>)
+    ensures { active.new ≡ record active.old { frozen = second } }
+{
+    active.frozen = second;
+}
+
+// So many have passed the flight.
+fn set_passed(active: &mut Active, count: u8)
+    ensures { active.new ≡ record active.old { passed = count } }
+{
+    active.passed = count;
+}
+
+impl Situation {
+    /// No callsign stands twice.
+    pub(crate) fn known_apart(&self)
+        ensures { AreApart self.now.active }
+    {
+        let _ = self.active.as_slice();
+    }
+
+    /// The flight of the callsign.
+    pub(crate) fn find(&self, callsign: Callsign) -> Option<&Active>
+        ensures { option_map (λ a. a.now) result ≡ find (named callsign) self.now.active }
+    {
+        self.active.get(&callsign)
+    }
+
+    /// Whether a flight of the callsign is active.
+    pub(crate) fn is_active(&self, callsign: Callsign) -> bool
+        ensures { result ≡ list_any (named callsign) self.now.active }
+    {
+        self.find(callsign).is_some()
+    }
+
+    /// The flight of the callsign has this estimate and these windows. It gives those that it had.
+    pub(crate) fn estimate(
+        &mut self,
+        callsign: Callsign,
+        eta: u32,
+        windows: &WindowSet,
+    ) -> Option<(u32, WindowSet)>
+        ensures new { self.new ≡ record self.old {
+          active = map
+              (estimated callsign eta windows.now) self.old.active;
+        } }
+        ensures old { result ≡ option_map (λ a. (a.flight.eta, a.flight.windows))
+            (find (named callsign) self.old.active) }
+        ensures apart { AreApart self.old.active }
+    {
+        match self.active.get_mut(&callsign) {
+            None => None,
+            Some(active) => Some(estimate(active, eta, windows)),
+        }
+    }
+
+    /// The flight of the callsign is frozen at this second, or waits.
+    pub(crate) fn set_frozen(&mut self, callsign: Callsign, second: Option<u32>)
+        ensures { self.new ≡ record self.old {
+          active = map (frozen_so callsign second)
+              self.old.active;
+        } }
+    {
+        match self.active.get_mut(&callsign) {
+            None => {}
+            Some(active) => set_frozen(active, second),
+        }
+    }
+
+    /// So many have passed the flight of the callsign.
+    pub(crate) fn set_passed(&mut self, callsign: Callsign, count: u8)
+        ensures { self.new ≡ record self.old {
+          active = map (counted callsign count)
+              self.old.active;
+        } }
+    {
+        match self.active.get_mut(&callsign) {
+            None => {}
+            Some(active) => set_passed(active, count),
+        }
+    }
+}

@@ -1,0 +1,4 @@
+mod day;
+mod picture;
+mod refused_memory;
+mod way_back;

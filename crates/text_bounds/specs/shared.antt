@@ -1,0 +1,11 @@
+-- Lemmas that crates above cite too.
+pub mod Lengths
+pub mod Blocks
+pub mod Certificates
+pub mod OpenSeconds
+pub mod WholeCertificates
+pub mod Refusals
+pub mod Replays
+pub mod EventNames
+pub mod Reasons
+pub mod Trials

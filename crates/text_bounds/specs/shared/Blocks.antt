@@ -1,0 +1,87 @@
+-- How long a plan block is.
+use Rattle.std.proofs.Common.{◌≡◌, ℕ, ◌+◌, ◌*◌, ◌≤◌, List, [], ◌∷◌, ◌++◌, length, true, false, Bool, Option, Some, None, inl, inr, refl, arith, ap}
+use Rattle.std.specs.Prelude.{decimal, codes, map, option_map, nat_lt}
+use Rattle.std.proofs.lemmas.Bool.{cases_Bool}
+use Rattle.std.proofs.lemmas.List.{length-append, length-map}
+use Rattle.landing_rules.specs.declared.objective.Objective.{Objective}
+use Rattle.landing_rules.specs.declared.objective.Objective.TheVariants.{Makespan, Delay}
+use Rattle.landing_rules.specs.Flights.{Active, Landing, Schedule, Situation, landings}
+use Rattle.landing_rules.specs.Events.{insert_landing, in_landing_order}
+use Rattle.landing_rules.specs.Text.{ShownLanding, ShownPlan, block_lines, block_text, frozen_word, head_words, landing_words, line, lines_text, objective_word, shown_landing, shown_plan}
+use Rattle.plan_file.specs.Printed.{AreReadable, IsReadable, ShownPlanIsReadableLaw}
+use Rattle.text_bounds.specs.Blocks.{BlockIsBoundedLaw, block_bound}
+use Rattle.text_bounds.specs.shared.Lengths.{callsign_short, second_short, value_short}
+
+word_short : (b : Bool) → length (frozen_word b) ≤ 8
+word_short true = omega arith
+word_short false = omega arith
+
+landing_short : (f : ShownLanding) → length f.callsign ≤ 8 → length (decimal f.second) ≤ 6 → length (line (landing_words f)) ≤ 29
+landing_short f name second =
+    let word = word_short f.frozen in
+    let a = length-append (decimal f.second) (frozen_word f.frozen) in
+    let b = length-append f.callsign (codes " ") in
+    let c = length-append (f.callsign ++ codes " ") (decimal f.second ++ frozen_word f.frozen) in
+    let d = length-append (f.callsign ++ codes " " ++ (decimal f.second ++ frozen_word f.frozen)) (10 ∷ []) in
+    omega (arith, name, second, word, a, b, c, d)
+
+landings_short : (fs : List ShownLanding) → AreReadable fs → length (lines_text (map landing_words fs)) ≤ 29 * length fs
+landings_short [] h = omega arith
+landings_short (f ∷ fs) h =
+    let one = landing_short f (callsign_short f.callsign h.0) (second_short f.second h.1) in
+    let rest = landings_short fs h.2 in
+    let both = length-append (line (landing_words f)) (lines_text (map landing_words fs)) in
+    omega (arith, one, rest, both)
+
+objective_short : (o : Objective) → length (objective_word o) ≤ 9
+objective_short Makespan = omega arith
+objective_short Delay = omega arith
+
+pub head_short : (o : Objective) (v : ℕ) → length (decimal v) ≤ 10 → length (line (head_words o v)) ≤ 20
+head_short o v value =
+    let word = objective_short o in
+    let a = length-append (objective_word o) (decimal v) in
+    let b = length-append (head_words o v) (10 ∷ []) in
+    omega (arith, value, word, a, b)
+
+pub block_short : (o : Objective) (p : ShownPlan) → IsReadable p → length (block_text o (Some p)) ≤ 20 + 29 * length p.landings
+block_short o p h =
+    let head = head_short o p.value (value_short p.value h.value) in
+    let rest = landings_short p.landings h.landings in
+    let both = length-append (line (head_words o p.value)) (lines_text (map landing_words p.landings)) in
+    omega (arith, head, rest, both)
+
+-- ---- as many landings as active flights
+
+length_insert : (f : Landing) (fs : List Landing) → length (insert_landing f fs) ≡ length fs + 1
+length_insert f [] = refl
+length_insert f (g ∷ fs) = elim (cases_Bool (nat_lt g.second f.second)) [
+  | inl later ↦ rw later (let more = length_insert f fs in omega (arith, more))
+  | inr here ↦ rw here (omega arith)
+]
+
+length_order : (fs : List Landing) → length (in_landing_order fs) ≡ length fs
+length_order [] = refl
+length_order (f ∷ fs) = let one = length_insert f (in_landing_order fs) in let rest = length_order fs in omega (arith, one, rest)
+
+pub length_landings : (active : List Active) (t : Schedule) → length (landings active t) ≤ length active
+length_landings [] t = omega arith
+length_landings (a ∷ active) [] = omega arith
+length_landings (a ∷ active) (x ∷ t) = let rest = length_landings active t in omega (arith, rest)
+
+shown_few : (s : Situation) (t : Schedule) → length (shown_plan s t).landings ≤ length s.active
+shown_few s t =
+    let a = length-map (in_landing_order (landings s.active t)) shown_landing in
+    let b = length_order (landings s.active t) in
+    let c = length_landings s.active t in
+    omega (arith, a, b, c)
+
+pub plan_short : ShownPlanIsReadableLaw → BlockIsBoundedLaw
+plan_short law state sound = go state.plan refl
+  where
+    go : (q : Option Schedule) → state.plan ≡ q → length (lines_text (block_lines state.situation.aerodrome.objective (option_map (shown_plan state.situation) q))) ≤ block_bound (length state.situation.active)
+    go None e = omega arith
+    go (Some t) e =
+        let whole = block_short state.situation.aerodrome.objective (shown_plan state.situation t) (law state (shown_plan state.situation t) sound (ap (option_map (shown_plan state.situation)) e)) in
+        let few = shown_few state.situation t in
+        omega (arith, whole, few)

@@ -1,0 +1,32 @@
+-- How long the summary of a trial is.
+use Rattle.std.proofs.Common.{◌≤◌, [], ◌∷◌, ◌++◌, length, take, Option, Some, None, arith}
+use Rattle.std.specs.Prelude.{⊤, MatchOption, codes, decimal}
+use Rattle.std.proofs.lemmas.Fmt.{length-decimal-le}
+use Rattle.std.proofs.lemmas.List.{length-append}
+use Rattle.landing_rules.specs.declared.objective.Objective.{Objective}
+use Rattle.landing_rules.specs.Limits.{greatest_value}
+use Rattle.landing_rules.specs.Text.{ShownPlan, block_lines, head_words, line, lines_text}
+use Rattle.text_bounds.specs.Trials.{TrialIsBoundedLaw}
+use Rattle.text_bounds.specs.shared.Blocks.{head_short}
+use Rattle.text_bounds.specs.shared.Lengths.{value_short}
+
+first_short : (o : Objective) (plan : Option ShownPlan) → MatchOption plan ⊤ (λ p. p.value ≤ greatest_value) → length (lines_text (take 1 (block_lines o plan))) ≤ 20
+first_short o None h = omega arith
+first_short o (Some p) h =
+    let head = head_short o p.value (value_short p.value h) in
+    let all = length-append (line (head_words o p.value)) [] in
+    omega (arith, head, all)
+
+pub trial_short : TrialIsBoundedLaw
+trial_short n k nodes o plan few near small h =
+    let first = first_short o plan h in
+    let a = length-decimal-le 2 n (omega arith) (omega (arith, few)) (omega (arith, few)) in
+    let b = length-decimal-le 1 k (omega arith) (omega (arith, near)) (omega (arith, near)) in
+    let c = length-decimal-le 8 nodes (omega arith) (omega (arith, small)) (omega (arith, small)) in
+    let x = length-append (decimal n) (10 ∷ []) in
+    let y = length-append (decimal k) (10 ∷ []) in
+    let z = length-append (decimal nodes) (10 ∷ []) in
+    let third = length-append (line (codes "nodes " ++ decimal nodes)) (lines_text (take 1 (block_lines o plan))) in
+    let second = length-append (line (codes "k " ++ decimal k)) (line (codes "nodes " ++ decimal nodes) ++ lines_text (take 1 (block_lines o plan))) in
+    let whole = length-append (line (codes "flights " ++ decimal n)) (line (codes "k " ++ decimal k) ++ (line (codes "nodes " ++ decimal nodes) ++ lines_text (take 1 (block_lines o plan)))) in
+    omega (arith, first, a, b, c, x, y, z, third, second, whole)

@@ -1,0 +1,112 @@
+-- How long a certificate is that leaves nothing out: by its landings, its states and their pairs.
+use Rattle.std.proofs.Common.{◌≡◌, ℕ, zero, suc, ◌≤◌, inl, inr, List, [], ◌∷◌, length, get_or, true, refl, sym, ap, subst, ◌∙◌, arith}
+use Rattle.std.specs.Prelude.{All, not}
+use Rattle.std.specs.List.{AllZip, list_any}
+use Rattle.std.proofs.Math.Nat.{mul-le-mul_right}
+use Rattle.std.proofs.lemmas.Bool.{and_parts, cases_lt}
+use Rattle.std.proofs.lemmas.List.Elements.{All-cons, All-filter, All-head, All-tail}
+use Rattle.std.proofs.lemmas.List.{get_or_past}
+use Rattle.std.proofs.lemmas.List.Sums.{sum_by-le}
+use Rattle.landing_rules.specs.declared.objective.Objective.{Objective}
+use Rattle.landing_rules.specs.declared.objective.Objective.TheVariants.{Makespan, Delay}
+use Rattle.landing_rules.specs.Flights.{Active, Situation, Span, waiting, is_waiting}
+use Rattle.landing_rules.specs.Limits.{most_open_seconds}
+use Rattle.landing_rules.specs.Rules.{arrival_cmp, is_shut, is_within}
+use Rattle.landing_rules.specs.Problem.{IsWaitingOf, Problem, Waiting, by_rank, insert_by_rank}
+use Rattle.landing_rules.specs.Sound.{IsSound}
+use Rattle.landing_rules.specs.shared.Members.{all_at, all_from, member_permutation}
+use Rattle.std.specs.Ordering.{is_lt}
+use Rattle.std.specs.Prelude.{IsPermutation}
+use Rattle.std.proofs.lemmas.List.Sorted.{IsPermutation-sym}
+use Rattle.landing_joint.specs.shared.Insertion.{sort_moves}
+use Rattle.landing_joint.specs.RankedProblem.{no_waiting}
+use Rattle.cps_theory.specs.Labels.{InPairs, Pair}
+use Rattle.cps_theory.specs.RankLists.{of_rank}
+use Rattle.certificate.specs.declared.certificate.Claim.{Claim}
+use Rattle.certificate.specs.declared.certificate.Claim.TheVariants as claim
+use Rattle.certificate.specs.States.{State, rises}
+use Rattle.cert_check.specs.Landings.{Landings, count}
+use Rattle.cert_check.specs.Whole.{IsAnswered, IsWholeState}
+use Rattle.cert_check.specs.WholeSizes.{MakespanPairsLaw, PairsAreOpenLaw, WholeStatesAreFewLaw}
+use Rattle.text_bounds.specs.Certificates.{CertificateIsBoundedLaw}
+use Rattle.text_bounds.specs.WholeCertificates.{LoadableIsShortLaw, WholeCertificateIsBoundedLaw, most_pairs}
+use Rattle.text_bounds.specs.shared.OpenSeconds.{pairs_few, seconds_of}
+
+as_many_landings : (p : Problem) (claimed : Claim) (ls : Landings) → IsAnswered p claimed ls → length ls ≤ count p
+as_many_landings p (claim.Optimal v) ls h = let e = h.landings.as_many in omega (arith, e)
+as_many_landings p claim.Infeasible ls h = let e : length ls ≡ 0 = ap length h.0 in omega (arith, e)
+
+-- ---- the open seconds of each waiting flight
+
+-- a waiting flight's windows hold few seconds
+abbrev HasFewSeconds : Active → Type 0
+HasFewSeconds a = seconds_of a.flight.windows ≤ most_open_seconds
+
+rank_permutes : (active : List Active) → IsPermutation active (by_rank active)
+rank_permutes active =
+    sort_moves (λ (b a : Active). is_lt (arrival_cmp b.flight a.flight)) insert_by_rank (λ a. refl) (λ a b bs. refl) by_rank refl (λ a rest. refl) active
+
+few_by_rank : (s : Situation) → IsSound s → All HasFewSeconds (by_rank (waiting s))
+few_by_rank s sound =
+    let all : All HasFewSeconds s.active = λ i a lt. (sound.flights i a lt).windows.seconds in
+    let waits : All HasFewSeconds (waiting s) = All-filter is_waiting HasFewSeconds s.active all in
+    all_from HasFewSeconds (by_rank (waiting s)) (λ a m. all_at HasFewSeconds (waiting s) waits a
+    (member_permutation (by_rank (waiting s)) (waiting s) a (IsPermutation-sym (waiting s) (by_rank (waiting s)) (rank_permutes (waiting s))) m))
+
+-- pairs at such seconds are few
+abbrev HasFewPairs : Waiting → Type 0
+HasFewPairs w = (ps : List Pair) → rises ps ≡ true → ((q : Pair) → InPairs q ps → list_any (is_within q.0) w.open_spans ≡ true) → length ps ≤ most_open_seconds
+
+module _ (closures : List Span) where
+  few_pairs : (a : Active) (w : Waiting) → IsWaitingOf closures a w → HasFewSeconds a → HasFewPairs w
+  few_pairs a w of few ps up each =
+      let inside : (q : Pair) → InPairs q ps → list_any (is_within q.0) a.flight.windows ≡ true = λ q i.
+      (and_parts (list_any (is_within q.0) a.flight.windows) (not (list_any (is_shut q.0) closures)) (sym (of.open_spans.same q.0) ∙ each q i)).0 in
+      let all = pairs_few a.flight.windows ps up inside in
+      omega (arith, all, few)
+
+  few_each : (active : List Active) (ws : List Waiting) → AllZip (IsWaitingOf closures) active ws → All HasFewSeconds active → All HasFewPairs ws
+  few_each [] [] z h = λ i d lt. absurd (omega (arith, lt))
+  few_each [] (w ∷ ws) z h = absurd z
+  few_each (a ∷ active) [] z h = absurd z
+  few_each (a ∷ active) (w ∷ ws) z h =
+      All-cons HasFewPairs w ws (few_pairs a w z.0 (All-head HasFewSeconds a active h)) (few_each active ws z.1 (All-tail HasFewSeconds a active h))
+
+no_pairs : HasFewPairs no_waiting
+no_pairs [] up each = omega arith
+no_pairs (p ∷ ps) up each = absurd (cc (each p (inl refl)))
+
+few_at : (ws : List Waiting) (r : ℕ) → All HasFewPairs ws → HasFewPairs (of_rank no_waiting ws r)
+few_at ws zero h = no_pairs
+few_at ws (suc i) h = elim (cases_lt i (length ws)) [
+  | inl within ↦ h i no_waiting within
+  | inr past ↦ subst HasFewPairs (sym (get_or_past ws i no_waiting past)) no_pairs
+]
+
+-- ---- all states
+
+pairs_by : (o : Objective) (p : Problem) (s : State) → p.objective ≡ o → MakespanPairsLaw → PairsAreOpenLaw → All HasFewPairs p.flights → IsWholeState p s → length s.pairs ≤ most_pairs o
+pairs_by Makespan p s e single seconds few h = single p s e h
+pairs_by Delay p s e single seconds few h = few_at p.flights s.last few s.pairs h.rising (λ q i. seconds p s q h i)
+
+pub whole_short : CertificateIsBoundedLaw → WholeStatesAreFewLaw → MakespanPairsLaw → PairsAreOpenLaw → WholeCertificateIsBoundedLaw
+whole_short bound states single seconds s p c sound of well form whole =
+    let n = length p.flights in
+    let m = most_pairs p.objective in
+    let few = few_each s.closures (by_rank (waiting s)) p.flights of.flights (few_by_rank s sound) in
+    let landings = as_many_landings p c.claim c.landings whole.answer in
+    let count = states p c.states well whole.states in
+    let pairs = sum_by-le (λ (x : State). length x.pairs) m c.states (λ i x lt. pairs_by p.objective p (get_or c.states i x) refl single seconds few (whole.states.each i x lt)) in
+    let more = mul-le-mul_right m count in
+    let text = bound c form in
+    omega (arith, landings, count, pairs, more, text)
+
+pub loadable_short : LoadableIsShortLaw
+loadable_short Makespan zero n h = let few = h.1 in omega (arith, few)
+loadable_short Makespan (suc zero) n h = let few = h.1 in omega (arith, few)
+loadable_short Makespan (suc (suc zero)) n h = let few = h.1 in omega (arith, few)
+loadable_short Makespan (suc (suc (suc k))) n h = let few = h.1 in omega (arith, few)
+loadable_short Delay zero n h = omega (arith, h)
+loadable_short Delay (suc zero) n h = omega (arith, h)
+loadable_short Delay (suc (suc zero)) n h = omega (arith, h)
+loadable_short Delay (suc (suc (suc k))) n h = absurd h

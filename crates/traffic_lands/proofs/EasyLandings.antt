@@ -1,0 +1,163 @@
+-- Landings in first-come order, 180 seconds apart or more, each within its one window, keep the rules.
+use Rattle.std.proofs.Common.{◌≡◌, ℕ, ◌+◌, ◌<◌, ◌≤◌, ◌⊎◌, inl, inr, List, [], ◌∷◌, map, filter, true, false, Bool, cond, None, refl, sym, ap, subst, ◌∙◌, arith}
+use Rattle.std.specs.Prelude.{All, IsTrue, count_by, is_none, bytes_eq, nat_lt}
+use Rattle.std.specs.List.{list_any}
+use Rattle.std.specs.Ordering.{is_lt}
+use Rattle.std.proofs.lemmas.Bool.{le-leb, lt-ltb, le-ltb, ne_eqb}
+use Rattle.std.proofs.lemmas.Cmp.{tied_itself}
+use Rattle.std.proofs.lemmas.List.Sums.{sum_by-cons}
+use Rattle.wake_table.specs.declared.category.Category.{Category}
+use Rattle.wake_table.specs.declared.category.Category.TheVariants.{A, B, C, D, E, F}
+use Rattle.wake_table.specs.Table.{separation}
+use Rattle.landing_rules.specs.Flights.{Flight, Landing, Situation, horizon}
+use Rattle.landing_rules.specs.Rules.{ArePairSeparated, IsFrozenKept, IsPairInPrecedence, IsShiftKept, KeepsRules, arrival_cmp, is_open, last_second, place, rank_among, waits}
+use Rattle.landing_rules.specs.shared.Ranks.{arrival_total}
+use Rattle.landing_rules.specs.shared.Counting.{Member}
+use Rattle.landing_rules.specs.shared.Members.{all_from}
+use Rattle.landing_rules.specs.shared.OneList.{AscendBy}
+use Rattle.traffic_gen.specs.Flights.{window_from}
+use Rattle.traffic_gen.specs.Sample.{sample_table}
+
+-- no separation of the sample table is greater
+pub few_apart : (a b : Category) → separation sample_table a b ≤ 180
+unfolding separation
+few_apart A A = omega arith
+few_apart A B = omega arith
+few_apart A C = omega arith
+few_apart A D = omega arith
+few_apart A E = omega arith
+few_apart A F = omega arith
+few_apart B A = omega arith
+few_apart B B = omega arith
+few_apart B C = omega arith
+few_apart B D = omega arith
+few_apart B E = omega arith
+few_apart B F = omega arith
+few_apart C A = omega arith
+few_apart C B = omega arith
+few_apart C C = omega arith
+few_apart C D = omega arith
+few_apart C E = omega arith
+few_apart C F = omega arith
+few_apart D A = omega arith
+few_apart D B = omega arith
+few_apart D C = omega arith
+few_apart D D = omega arith
+few_apart D E = omega arith
+few_apart D F = omega arith
+few_apart E A = omega arith
+few_apart E B = omega arith
+few_apart E C = omega arith
+few_apart E D = omega arith
+few_apart E E = omega arith
+few_apart E F = omega arith
+few_apart F A = omega arith
+few_apart F B = omega arith
+few_apart F C = omega arith
+few_apart F D = omega arith
+few_apart F E = omega arith
+few_apart F F = omega arith
+
+-- a flight that waits, was passed by none and lists none, within its one window
+pub record IsEasy (f : Landing) : Type 0 where
+  pub waits : f.frozen ≡ None
+  pub unpassed : f.passed ≡ 0
+  pub alone : f.flight.after ≡ []
+  pub window : f.flight.windows ≡ window_from f.flight.eta
+  pub begun : f.flight.eta ≤ f.second
+  pub ended : f.second ≤ f.flight.eta + 7199
+  pub days : f.second ≤ last_second
+
+-- it comes and lands later, and lands 180 seconds later or more
+abbrev pub IsBehind : Landing → Landing → Type 0
+IsBehind f g = (f.flight.eta < g.flight.eta) × (f.second + 180 ≤ g.second)
+
+count_agree : {X : Type 0} (p q : X → Bool) (xs : List X) → ((x : X) → Member x xs → p x ≡ q x) → count_by p xs ≡ count_by q xs
+count_agree p q [] h = refl
+count_agree {X} p q (x ∷ xs) h =
+    let here = h x (inl refl) in
+    let rest = count_agree p q xs (λ y i. h y (inr i)) in
+    let a = sum_by-cons (λ (y : X). cond {A = ℕ} (p y) 1 0) x xs in
+    let b = sum_by-cons (λ (y : X). cond {A = ℕ} (q y) 1 0) x xs in
+    let e : cond {A = ℕ} (p x) 1 0 ≡ cond {A = ℕ} (q x) 1 0 = ap (λ (c : Bool). cond {A = ℕ} c 1 0) here in
+    omega (arith, a, b, e, rest)
+
+count_map : {X Y : Type 0} (p : Y → Bool) (f : X → Y) (xs : List X) → count_by p (map f xs) ≡ count_by (λ x. p (f x)) xs
+count_map p f [] = refl
+count_map {X} {Y} p f (x ∷ xs) =
+    let rest = count_map p f xs in
+    let a = sum_by-cons (λ (y : Y). cond {A = ℕ} (p y) 1 0) (f x) (map f xs) in
+    let b = sum_by-cons (λ (y : X). cond {A = ℕ} (p (f y)) 1 0) x xs in
+    omega (arith, a, b, rest)
+
+-- by estimates alone, where these differ
+earlier_is : (f g : Flight) → f.eta < g.eta → is_lt (arrival_cmp f g) ≡ true
+earlier_is f g lt = rw (lt-ltb f.eta g.eta lt) refl
+
+later_is : (f g : Flight) → g.eta < f.eta → is_lt (arrival_cmp f g) ≡ false
+later_is f g lt = rw (le-ltb f.eta g.eta (omega (arith, lt)), ne_eqb f.eta g.eta (λ e. omega (arith, e, lt))) refl
+
+module _ (fs : List Landing) (easy : (f : Landing) → Member f fs → IsEasy f) (behind : AscendBy IsBehind fs) where
+  all_wait : (gs : List Landing) → ((f : Landing) → Member f gs → IsEasy f) → filter waits gs ≡ gs
+  all_wait [] h = refl
+  all_wait (g ∷ gs) h =
+      let here : waits g ≡ true = ap is_none (h g (inl refl)).waits in
+      let rest = all_wait gs (λ f i. h f (inr i)) in
+      rw (here, rest) refl
+
+  -- of two of them one is behind the other
+  apart : (gs : List Landing) → AscendBy IsBehind gs → (f g : Landing) → Member f gs → Member g gs → (f ≡ g) ⊎ (IsBehind f g ⊎ IsBehind g f)
+  apart [] up f g i j = absurd i
+  apart (x ∷ gs) up f g (inl a) (inl b) = inl (a ∙ sym b)
+  apart (x ∷ gs) up f g (inl a) (inr j) = inr (inl (subst (λ (y : Landing). IsBehind y g) (sym a) (up.0 g j)))
+  apart (x ∷ gs) up f g (inr i) (inl b) = inr (inr (subst (λ (y : Landing). IsBehind y f) (sym b) (up.0 f i)))
+  apart (x ∷ gs) up f g (inr i) (inr j) = apart gs up.1 f g i j
+
+  far : (f g : Landing) → Member f fs → Member g fs → ArePairSeparated sample_table f g
+  far f g i j other le = elim (apart fs behind f g i j) [
+    | inl same ↦ absurd (other (ap (λ (x : Landing). x.flight.callsign) same))
+    | inr (inl b) ↦ (let few = few_apart f.flight.category g.flight.category in let gap = b.1 in omega (arith, few, gap))
+    | inr (inr b) ↦ (let gap = b.1 in absurd (omega (arith, gap, le)))
+  ]
+
+  -- who comes before lands before
+  same_test : (f g : Landing) → Member f fs → Member g fs → is_lt (arrival_cmp g.flight f.flight) ≡ nat_lt g.second f.second
+  same_test f g i j = elim (apart fs behind f g i j) [
+    | inl same ↦ rw same (own g)
+    | inr (inl b) ↦ (let gap = b.1 in later_is g.flight f.flight b.0 ∙ sym (le-ltb g.second f.second (omega (arith, gap))))
+    | inr (inr b) ↦ (let gap = b.1 in earlier_is g.flight f.flight b.0 ∙ sym (lt-ltb g.second f.second (omega (arith, gap))))
+  ]
+    where
+      own : (x : Landing) → is_lt (arrival_cmp x.flight x.flight) ≡ nat_lt x.second x.second
+      own x = ap is_lt (tied_itself arrival_total x.flight) ∙ sym (le-ltb x.second x.second (omega arith))
+
+  same_place : (f : Landing) → Member f fs → rank_among fs f ≡ place fs f
+  same_place f i =
+      let moved = count_map (λ (g : Flight). is_lt (arrival_cmp g f.flight)) (λ (g : Landing). g.flight) fs in
+      let same = count_agree (λ (g : Landing). is_lt (arrival_cmp g.flight f.flight)) (λ (g : Landing). nat_lt g.second f.second) fs (λ g j. same_test f g i j) in
+      omega (arith, moved, same)
+
+  is_opened : (f : Landing) → IsEasy f → is_open f.flight.windows [] f.second ≡ true
+  is_opened f e =
+      let first = le-leb f.flight.eta f.second e.begun in
+      let last = le-leb f.second (f.flight.eta + 7199) e.ended in
+      rw (e.window, first, last) refl
+
+  pub keeps : (k : ℕ) (s : Situation) → s.closures ≡ [] → s.clock ≡ None → s.aerodrome.table ≡ sample_table → s.aerodrome.k ≡ k → KeepsRules s fs
+  keeps k s open_all no_clock table k_is = record {
+    in_days = all_from (λ f. f.second ≤ last_second) fs (λ f i. (easy f i).days);
+    open_seconds = all_from (λ f. IsTrue (is_open f.flight.windows s.closures f.second)) fs (λ f i. rw open_all (is_opened f (easy f i)));
+    separated = all_from (λ f. All (ArePairSeparated s.aerodrome.table f) fs) fs (λ f i. all_from (ArePairSeparated s.aerodrome.table f) fs (λ g j. rw table (far f g i j)));
+    in_precedence = all_from (λ f. All (IsPairInPrecedence f) fs) fs (λ f i. all_from (IsPairInPrecedence f) fs (λ g j. none_first f g (easy g j).alone));
+    shift = rw (all_wait fs easy) (all_from (IsShiftKept s.aerodrome.k fs) fs (λ f i. kept s.aerodrome.k f i));
+    frozen_kept = all_from (IsFrozenKept (horizon s)) fs (λ f i. free f (easy f i).waits);
+  }
+    where
+      none_first : (f g : Landing) → g.flight.after ≡ [] → IsPairInPrecedence f g
+      none_first f g none listed = absurd (let x : IsTrue (list_any (λ d. bytes_eq d f.flight.callsign) []) = subst (λ (names : List (List ℕ)). IsTrue (list_any (λ d. bytes_eq d f.flight.callsign) names)) none listed in cc x)
+
+      kept : (m : ℕ) (f : Landing) → Member f fs → IsShiftKept m fs f
+      kept m f i = let same = same_place f i in let none = (easy f i).unpassed in (omega (arith, same), omega (arith, same, none))
+
+      free : (f : Landing) → f.frozen ≡ None → IsFrozenKept (horizon s) f
+      free f none = rw (none, no_clock) (omega arith)

@@ -1,0 +1,2 @@
+pub mod EasyLandings
+pub mod Made

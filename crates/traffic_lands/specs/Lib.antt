@@ -1,0 +1,2 @@
+-- That traffic can land.
+pub mod Landing
