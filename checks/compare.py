@@ -12,6 +12,7 @@ from pathlib import Path
 
 from audit import findings
 from draw import aerodrome_text, block_text, draw_block, draw_case, events_text, flights_text, trials_text
+from progress import Progress
 
 FILES = 'aerodrome.toml', 'flights.csv'
 
@@ -141,15 +142,20 @@ def check_case(program, folder, seed):
 
 
 def main(program, first=0, count=500):
-    wrong = 0
+    first, count, done, wrong = int(first), int(count), 0, 0
+    progress = Progress()
     with tempfile.TemporaryDirectory() as folder:
-        for seed in range(int(first), int(first) + int(count)):
-            try:
-                check_case(str(Path(program).resolve()), Path(folder), seed)
-            except (Wrong, IndexError, ValueError, subprocess.TimeoutExpired) as fault:
-                wrong += 1
-                print(f'seed {seed}: {fault}')
-    print(f'{count} cases from seed {first}: {wrong} wrong')
+        try:
+            for seed in range(first, first + count):
+                try:
+                    check_case(str(Path(program).resolve()), Path(folder), seed)
+                except (Wrong, IndexError, ValueError, subprocess.TimeoutExpired) as fault:
+                    wrong += 1
+                    print(f'seed {seed}: {fault}', flush=True)
+                done += 1
+                progress.tell(f'{done} of {count} cases, {wrong} wrong so far')
+        finally:
+            print(f'{done} of {count} cases from seed {first}: {wrong} wrong', flush=True)
     return wrong > 0
 
 

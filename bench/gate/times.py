@@ -1,14 +1,16 @@
 #!/usr/bin/env python3
 """Runs `rt ci` and tells where its processor time went: times.py [WORD..], at the top of a checkout.
 
-It looks once a second at every prover that the gate has started and prints, behind what `rt ci` prints, a table with the processor seconds
-of each crate's proof, of its tests' proof and of its edits, and the longest chain of crates that stand on one another. What an
-earlier run kept costs nothing and is not in the table, so a whole one wants `rt ci --anew`, or a machine where nothing is kept.
-Nothing else should prove at the same time: what does takes processors, though it is not counted."""
+It runs the loop of loop.py, looks once a second at every prover that the gate has started and prints, behind what `rt ci` prints, a table
+with the processor seconds of each crate's proof, of its tests' proof and of its edits, the longest chain of crates that stand on one
+another, and the whole in minutes and in loops. Nothing else should prove at the same time: what does takes processors, though it is not
+counted."""
 import os
 import subprocess
 import sys
 import time
+
+import loop
 
 KINDS = 'proof', 'tests', 'edits'
 TICKS = os.sysconf('SC_CLK_TCK')
@@ -68,6 +70,7 @@ def longest_chain(below, seconds):
 
 
 def main(words):
+    turn = loop.seconds()
     begun = time.time()
     gate = subprocess.Popen(['rt', 'ci', *words])
     seen = {}
@@ -85,8 +88,9 @@ def main(words):
     sums = [sum(spent for (_, it), spent in seconds.items() if it == kind) for kind in KINDS]
     print('| all | ' + ' | '.join('%d' % it for it in sums) + ' |')
     length, chain = longest_chain(below, seconds)
-    print(f'\nLongest chain of proofs: {length:.0f} s, {" ".join(chain)}')
-    print(f'Processor time {sum(sums) / 60:.0f} min, wall time {(time.time() - begun) / 60:.0f} min')
+    wall = time.time() - begun
+    for what, spent in (f'Longest chain of proofs ({" ".join(chain)})', length), ('Processor time', sum(sums)), ('Wall time', wall):
+        print(f'{what}: {spent / 60:.1f} min, {spent / turn:.0f} loops of {turn:.2f} s')
     return gate.returncode
 
 

@@ -31,23 +31,25 @@ def main(program, only=None):
     if only not in (None, *files.COMMANDS):
         sys.exit(f'no such kind: {only}')
     program = str(Path(program).resolve())
-    wrong = 0
+    wrong, done = 0, 0
     with tempfile.TemporaryDirectory() as made:
         folder = Path(made)
         (folder / 'aerodrome').write_bytes(files.AERODROME)
         (folder / 'flights').write_bytes(files.FLIGHTS + files.FLIGHT)
-        for kind, name, text, status, line in files.all_files():
-            if only not in (None, kind):
-                continue
-            with open(folder / 'hostile', 'wb') as hostile:
-                hostile.writelines(text)
-            ended, told, seconds, memory = run(program, folder, files.COMMANDS[kind])
-            within = seconds < SECONDS and memory < BYTES
-            good = (ended, told) == (status, line) and (within or name in files.HELD_WHOLE)
-            wrong += not good
-            figures = f'{seconds:.2f} s, {memory / 1e6:.0f} MB, status {ended} {told[:80]}'
-            print(f'{"" if good else "WRONG "}{"" if within else "OVER "}{kind}: {name}: {figures}', flush=True)
-    print(f'{wrong} wrong')
+        try:
+            for kind, name, text, status, line in files.all_files():
+                if only not in (None, kind):
+                    continue
+                with open(folder / 'hostile', 'wb') as hostile:
+                    hostile.writelines(text)
+                ended, told, seconds, memory = run(program, folder, files.COMMANDS[kind])
+                within = seconds < SECONDS and memory < BYTES
+                good = (ended, told) == (status, line) and (within or name in files.HELD_WHOLE)
+                done, wrong = done + 1, wrong + (not good)
+                figures = f'{seconds:.2f} s, {memory / 1e6:.0f} MB, status {ended} {told[:80]}'
+                print(f'{"" if good else "WRONG "}{"" if within else "OVER "}{kind}: {name}: {figures}', flush=True)
+        finally:
+            print(f'{done} hostile files: {wrong} wrong', flush=True)
     return wrong > 0
 
 

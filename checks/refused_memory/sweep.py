@@ -9,6 +9,9 @@ import sys
 import tempfile
 from pathlib import Path
 
+sys.path.append(str(Path(__file__).resolve().parent.parent))
+from progress import Progress
+
 LAST_IN_A_ROW = 40
 
 
@@ -35,15 +38,19 @@ def main(program, folder, *words):
             sys.exit('LD_PRELOAD takes no path with a blank or a colon')
         source = Path(__file__).parent / 'refuse.c'
         subprocess.run(['cc', '-O2', '-shared', '-fPIC', '-o', library, source, '-ldl'], check=True)
-        while in_a_row < LAST_IN_A_ROW:
-            number += 1
-            answer = run(program, folder, words, library, number)
-            refused += answer[2] == 8
-            if not is_right(whole, answer):
-                wrong += 1
-                print(f'{" ".join(words)}: allocation {number}: {answer}')
-            in_a_row = in_a_row + 1 if answer == whole else 0
-    print(f'{" ".join(words)}: {refused} allocations refused, {wrong} wrong answers')
+        progress = Progress()
+        try:
+            while in_a_row < LAST_IN_A_ROW:
+                number += 1
+                answer = run(program, folder, words, library, number)
+                refused += answer[2] == 8
+                if not is_right(whole, answer):
+                    wrong += 1
+                    print(f'{" ".join(words)}: allocation {number}: {answer}', flush=True)
+                in_a_row = in_a_row + 1 if answer == whole else 0
+                progress.tell(f'{" ".join(words)}: {refused} allocations refused, {wrong} wrong answers so far')
+        finally:
+            print(f'{" ".join(words)}: {refused} allocations refused, {wrong} wrong answers', flush=True)
     return wrong > 0 or refused == 0
 
 
