@@ -1,7 +1,7 @@
 // The lines of findings.
 ghost use Rattle.std.specs.Prelude.{◌≡◌, ◌++◌, OnOk, decimal, map};
 ghost use Rattle.landing_rules.specs.Audit.{Shift};
-ghost use Rattle.appending.specs.Appends.{Appends};
+ghost use Rattle.texts.specs.Appends.{Appends};
 ghost use Rattle.landing_rules.specs.Text.{line};
 ghost use Rattle.audit.specs.Findings.{finding_of};
 ghost use Rattle.audit.specs.Texts.{finding_words, findings_text, spaced};

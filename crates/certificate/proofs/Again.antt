@@ -7,8 +7,8 @@ use Rattle.std.proofs.lemmas.List.Elements.{All-append, All-cons}
 use Rattle.std.proofs.lemmas.List.{length-map, append-nil}
 use Rattle.landing_rules.specs.Limits.{greatest_value}
 use Rattle.cps_base.specs.Text.{is_callsign}
-use Rattle.text_parts.specs.Parts.{parts}
-use Rattle.text_parts.specs.shared.Printed.{Lacks, callsign_lacks, cut, decimal_lacks, decimal_reads, lacks_by, uncut}
+use Rattle.texts.specs.Parts.{parts}
+use Rattle.texts.specs.shared.Printed.{Lacks, callsign_lacks, cut, decimal_lacks, decimal_reads, lacks_by, uncut}
 use Rattle.certificate.specs.declared.certificate.Claim.{Claim}
 use Rattle.certificate.specs.declared.certificate.Claim.TheVariants.{Optimal, Infeasible}
 use Rattle.certificate.specs.Reading.{IsClaim}

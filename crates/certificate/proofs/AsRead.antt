@@ -16,7 +16,7 @@ use Rattle.landing_rules.specs.Limits.{greatest_value}
 use Rattle.cps_base.specs.Number.{number_within, is_number}
 use Rattle.cps_base.specs.declared.number.NumberFault.TheVariants.{NotNumber, Below, Above}
 use Rattle.cps_base.specs.Text.{is_callsign}
-use Rattle.text_parts.specs.Parts.{callsign_in, number_in, ok_of, parts}
+use Rattle.texts.specs.Parts.{callsign_in, number_in, ok_of, parts}
 use Rattle.certificate.specs.declared.certificate.Claim.{Claim}
 use Rattle.certificate.specs.declared.certificate.Claim.TheVariants.{Optimal, Infeasible}
 use Rattle.certificate.specs.States.{Pair, State}

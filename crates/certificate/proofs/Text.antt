@@ -4,8 +4,8 @@ use Rattle.std.specs.Prelude.{◌==◌, codes, decimal}
 use Rattle.std.specs.List.{list_all}
 use Rattle.std.proofs.lemmas.List.Elements.{All-append, All-cons}
 use Rattle.cps_base.specs.Text.{is_callsign}
-use Rattle.text_parts.specs.Parts.{parts}
-use Rattle.text_parts.specs.shared.Printed.{Lacks, callsign_lacks, cut, decimal_lacks, lacks_by}
+use Rattle.texts.specs.Parts.{parts}
+use Rattle.texts.specs.shared.Printed.{Lacks, callsign_lacks, cut, decimal_lacks, lacks_by}
 use Rattle.certificate.specs.declared.certificate.Claim.{Claim}
 use Rattle.certificate.specs.declared.certificate.Claim.TheVariants.{Optimal, Infeasible}
 use Rattle.certificate.specs.States.{Pair, State, IsState, AreStates}

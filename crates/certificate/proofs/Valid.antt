@@ -11,7 +11,7 @@ use Rattle.cps_base.specs.Answers.{◌>>=◌}
 use Rattle.cps_base.specs.Number.{number_within, is_number}
 use Rattle.cps_base.specs.declared.number.NumberFault.TheVariants.{NotNumber, Below, Above}
 use Rattle.cps_base.specs.Text.{is_callsign}
-use Rattle.text_parts.specs.Parts.{callsign_in, number_in, ok_of, parts}
+use Rattle.texts.specs.Parts.{callsign_in, number_in, ok_of, parts}
 use Rattle.certificate.specs.declared.certificate.Claim.{Claim}
 use Rattle.certificate.specs.declared.fault.CertFault.{CertFault}
 use Rattle.certificate.specs.declared.fault.CertFault.TheVariants as fault

@@ -8,7 +8,7 @@ use Rattle.certificate.specs.declared.certificate.Claim.{Claim}
 use Rattle.certificate.specs.declared.fault.CertFault.{CertFault}
 use Rattle.certificate.specs.declared.fault.CertFault.TheVariants as fault
 use Rattle.certificate.specs.States.{State, follows}
-use Rattle.text_parts.specs.Parts.{parts}
+use Rattle.texts.specs.Parts.{parts}
 use Rattle.certificate.specs.Lines.{state_in, landing_in, claim_in}
 use Rattle.certificate.specs.Reading.{Cert, Body, with_landing, with_state, line_in, lines_in, body_lines, body_behind, claim_behind, certificate_by, certificate_of, memory_fault}
 use Rattle.certificate.specs.Spelling.{state_text, landing_text, claim_text, landing_lines, state_lines, text_of}

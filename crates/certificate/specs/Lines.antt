@@ -3,7 +3,7 @@ use Rattle.std.specs.Prelude.{ℕ, List, [], ◌∷◌, ◌&&◌, ◌||◌, ◌=
 use Rattle.std.specs.List.{list_all}
 use Rattle.landing_rules.specs.Limits.{greatest_value, most_waiting}
 use Rattle.landing_rules.specs.Rules.{last_second}
-use Rattle.text_parts.specs.Parts.{callsign_in, number_in, parts}
+use Rattle.texts.specs.Parts.{callsign_in, number_in, parts}
 use Rattle.certificate.specs.declared.certificate.Claim.{Claim}
 use Rattle.certificate.specs.declared.certificate.Claim.TheVariants.{Optimal, Infeasible}
 use Rattle.certificate.specs.Patterns.{is_pattern_length}

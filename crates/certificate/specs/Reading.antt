@@ -9,7 +9,7 @@ use Rattle.certificate.specs.declared.certificate.Claim.TheVariants.{Optimal, In
 use Rattle.certificate.specs.declared.fault.CertFault.{CertFault}
 use Rattle.certificate.specs.declared.fault.CertFault.TheVariants as fault
 use Rattle.certificate.specs.States.{State, follows, AreStates, AreAscending}
-use Rattle.text_parts.specs.Parts.{parts}
+use Rattle.texts.specs.Parts.{parts}
 use Rattle.certificate.specs.Lines.{claim_in, landing_in, state_in}
 
 pub record Cert : Type 0 where

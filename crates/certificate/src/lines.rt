@@ -4,7 +4,7 @@ ghost use Rattle.landing_rules.specs.Limits.{most_waiting};
 ghost use Rattle.certificate.specs.Patterns.{is_pattern_length};
 ghost use Rattle.certificate.specs.States.{rises, is_pair};
 ghost use Rattle.certificate.specs.Reading.{IsClaim};
-ghost use Rattle.text_parts.specs.Parts.{parts_left, number_in};
+ghost use Rattle.texts.specs.Parts.{parts_left, number_in};
 ghost use Rattle.certificate.specs.Lines.{is_digit, are_pattern_digits, digit_of, pattern_in, pair_in, pairs_in, state_with, state_from, state_in, landing_in, claim_in};
 
 use crate::certificate::Claim;
@@ -14,7 +14,7 @@ use cps_base::Callsign;
 use landing_rules::{GREATEST_VALUE, MOST_WAITING};
 use landing_windows::LAST_SECOND;
 use std::alloc::{AllocError, Global};
-use text_parts::{first_part, number_in};
+use texts::{first_part, number_in};
 
 fn are_all_digits(text: &[u8]) -> bool
     ensures { result ≡ list_all is_digit text.now }

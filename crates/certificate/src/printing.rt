@@ -1,16 +1,16 @@
 // The text of a certificate.
 ghost use Rattle.std.specs.Prelude.{◌≡◌, ◌++◌, ◌∷◌, Ok, OnOk, codes, decimal};
-ghost use Rattle.appending.specs.Appends.{Appends};
+ghost use Rattle.texts.specs.Appends.{Appends};
 ghost use Rattle.certificate.specs.Reading.{certificate_of};
 ghost use Rattle.certificate.specs.Spelling.{digit_text, pattern_text, pairs_text, state_text, claim_text, landing_lines, state_lines, text_of};
 
 use crate::certificate::{Certificate, Claim};
 use crate::pattern::Pattern;
 use crate::state::CertState;
-use appending::append_all;
 use cps_base::Callsign;
 use itoa::Buffer;
 use std::alloc::AllocError;
+use texts::append_all;
 
 fn digit_byte(digit: bool) -> u8
     ensures { result ≡ digit_text digit }

@@ -1,7 +1,7 @@
 ghost use Rattle.std.specs.Prelude.{◌≡◌, ◌<◌, length, IfOk};
 ghost use Rattle.cps_base.specs.Answers.{Gives};
 ghost use Rattle.certificate.specs.Reading.{memory_fault, Takes, IsClaim, body_lines, certificate_of, line_in};
-ghost use Rattle.text_parts.specs.Parts.{parts};
+ghost use Rattle.texts.specs.Parts.{parts};
 ghost use Rattle.certificate.specs.States.{follows};
 ghost use Rattle.certificate.specs.Spelling.{text_of};
 
@@ -11,7 +11,7 @@ use crate::lines::{claim_of, landing_of, state_of};
 use crate::state::{CertState, comes_before};
 use cps_base::Callsign;
 use std::alloc::Global;
-use text_parts::first_part;
+use texts::first_part;
 
 fn follows(states: &[CertState], state: &CertState) -> bool
     ensures { result ≡ follows states.now state.now }

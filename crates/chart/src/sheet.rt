@@ -6,11 +6,11 @@ ghost use Rattle.chart.specs.Sheets.{columns_text, key_text, style_text};
 ghost use Rattle.chart.specs.Texts.{below_text, field_text, listed_text, sheet_head, sheet_text, titled, until_text};
 
 use crate::writing::{append_bottom, append_moment, base_of};
-use appending::append_all;
 use audit::{Finding, append_findings};
 use itoa::Buffer;
 use landing_rules::Objective;
 use std::alloc::AllocError;
+use texts::append_all;
 
 // Shapes, dashes and hatching tell all apart, so that no colour is needed.
 #[tactic(auto, unfolding(crate::specs::Sheets::style_text))]

@@ -1,6 +1,6 @@
 // The text of a picture.
 ghost use Rattle.std.specs.Prelude.{◌≡◌, ◌++◌, OnOk, Some, flat_map, map, option_map};
-ghost use Rattle.appending.specs.Appends.{Appends};
+ghost use Rattle.texts.specs.Appends.{Appends};
 ghost use Rattle.audit.specs.Findings.{finding_of};
 ghost use Rattle.chart.specs.Held.{found_in};
 ghost use Rattle.chart.specs.Texts.{element_text, elements_text, listed_text, picture_text, verdict_text};

@@ -4,10 +4,10 @@ ghost use Rattle.chart.specs.Texts.{category_cell, label_end, label_head, label_
 
 use crate::Label;
 use crate::writing::base_of;
-use appending::append_all;
 use cps_base::Callsign;
 use itoa::Buffer;
 use std::alloc::AllocError;
+use texts::append_all;
 use wake_table::Category;
 
 fn label_open(flagged: bool) -> &'static [u8]

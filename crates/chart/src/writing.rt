@@ -3,10 +3,10 @@ ghost use Rattle.std.specs.Prelude.{◌≡◌, ◌++◌, ◌<◌, OnOk, decimal}
 ghost use Rattle.chart.specs.Texts.{base_of, bar_head, bar_text, clock, closure_head, closure_text, flag_text, horizon_head, horizon_text, mark_class, mark_form, mark_text, moment, pin_head, pin_text, square_text, tick_head, tick_text, two, y_of, foot_of, bottom_of, tick_foot};
 
 use crate::{Look, Spot};
-use appending::append_all;
 use cps_base::Callsign;
 use itoa::Buffer;
 use std::alloc::AllocError;
+use texts::append_all;
 
 // The middle of a row.
 pub(crate) fn y_of(row: u32) -> u64

@@ -1,5 +1,5 @@
 ghost use Rattle.std.specs.Prelude.{◌≡◌, ◌≢◌, ◌++◌, OnOk};
-ghost use Rattle.appending.specs.Appends.{Appends};
+ghost use Rattle.texts.specs.Appends.{Appends};
 ghost use Rattle.landing_rules.specs.Events.{CoversFrozen};
 ghost use Rattle.landing_rules.specs.Text.{cause};
 ghost use Rattle.situations.specs.Answers.{refusal_of};

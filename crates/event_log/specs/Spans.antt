@@ -2,7 +2,7 @@
 use Rattle.std.specs.Prelude.{ℕ, List, [], ◌∷◌, nat_le, Result, Ok, Err, if◌then◌else◌, ◌+◌}
 use Rattle.cps_base.specs.Answers.{fault_as, ◌>>=◌}
 use Rattle.landing_rules.specs.Rules.{last_second}
-use Rattle.text_parts.specs.Parts.{parts}
+use Rattle.texts.specs.Parts.{parts}
 use Rattle.cps_base.specs.Number.{number_within}
 use Rattle.flight_file.specs.declared.fault.WindowsCause.TheVariants.{Shape, Number}
 use Rattle.event_log.specs.declared.fault.FieldCause.{FieldCause}

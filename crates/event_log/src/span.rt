@@ -6,7 +6,7 @@ use crate::fault::FieldCause;
 use cps_base::read_number;
 use flight_file::WindowsCause;
 use landing_windows::LAST_SECOND;
-use text_parts::first_part;
+use texts::first_part;
 
 // A second of a span.
 fn second_in(text: &[u8], most: u64) -> Result<u32, FieldCause>

@@ -17,9 +17,9 @@ use Rattle.wake_table.specs.declared.category.Category.TheVariants.{A, B, C, D, 
 use Rattle.wake_table.specs.Letters.{letter, category_of}
 use Rattle.landing_windows.specs.Windows.{windows_of}
 use Rattle.landing_windows.specs.declared.windows.WindowFault.TheVariants.{TooMany}
-use Rattle.text_parts.specs.Parts.{parts}
-use Rattle.text_parts.specs.shared.Printed.{is_numeral}
-use Rattle.text_parts.specs.shared.Joins.{IsWithout, AreWithout, IsWithout-append, parts-before, parts-one, parts-join}
+use Rattle.texts.specs.Parts.{parts}
+use Rattle.texts.specs.shared.Printed.{is_numeral}
+use Rattle.texts.specs.shared.Joins.{IsWithout, AreWithout, IsWithout-append, parts-before, parts-one, parts-join}
 use Rattle.csv_records.specs.PlainLaw.{AreHigh, AreHigh-append}
 use Rattle.flight_file.specs.Windows.{second_in, window_in, windows_from, windows_in}
 use Rattle.flight_file.specs.After.{names_from, names_in}

@@ -2,7 +2,7 @@
 use Rattle.std.specs.Prelude.{ℕ, List, [], ◌∷◌, ◌++◌, not, ◌==◌, ◌+◌, nat_lt, length, bytes_eq, Result, Ok, Err, if◌then◌else◌}
 use Rattle.std.specs.List.{list_any}
 use Rattle.cps_base.specs.Answers.{◌>>=◌}
-use Rattle.text_parts.specs.Parts.{parts}
+use Rattle.texts.specs.Parts.{parts}
 use Rattle.cps_base.specs.Text.{is_callsign}
 use Rattle.flight_file.specs.declared.fault.AfterCause.{AfterCause}
 use Rattle.flight_file.specs.declared.fault.AfterCause.TheVariants.{TooMany, Callsign, Itself, Repeat}

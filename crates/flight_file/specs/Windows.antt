@@ -2,7 +2,7 @@
 use Rattle.std.specs.Prelude.{ℕ, List, [], ◌∷◌, ◌==◌, ◌+◌, nat_lt, length, Result, Ok, Err, if◌then◌else◌}
 use Rattle.cps_base.specs.Answers.{fault_as, ◌>>=◌}
 use Rattle.landing_rules.specs.Rules.{last_second}
-use Rattle.text_parts.specs.Parts.{parts}
+use Rattle.texts.specs.Parts.{parts}
 use Rattle.cps_base.specs.Number.{number_within}
 use Rattle.landing_windows.specs.Windows.{windows_of}
 use Rattle.landing_windows.specs.declared.windows.WindowFault.TheVariants as window

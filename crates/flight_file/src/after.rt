@@ -1,12 +1,12 @@
 ghost use Rattle.std.specs.Prelude.{◌≡◌, IfOk, ◌≤◌, [], length};
-ghost use Rattle.text_parts.specs.Parts.{parts};
+ghost use Rattle.texts.specs.Parts.{parts};
 ghost use Rattle.arrivals.specs.Flights.{AreOthers};
 ghost use Rattle.flight_file.specs.After.{names_in, name_in, names_from};
 
 use crate::fault::AfterCause;
 use arrivals::After;
 use cps_base::Callsign;
-use text_parts::{first_part, has_many_parts};
+use texts::{first_part, has_many_parts};
 
 // One more predecessor, part `number`, behind those of the parts before it.
 fn name_in(own: Callsign, number: u8, before: &After, text: &[u8]) -> Result<Callsign, AfterCause>

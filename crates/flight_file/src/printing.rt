@@ -1,6 +1,6 @@
 // The plain spelling of flights.
 ghost use Rattle.std.specs.Prelude.{◌≡◌, ◌++◌, true, Ok, OnOk};
-ghost use Rattle.appending.specs.Appends.{Appends};
+ghost use Rattle.texts.specs.Appends.{Appends};
 ghost use Rattle.csv_records.specs.Plain.{plain_line};
 ghost use Rattle.cps_base.specs.Text.{is_callsign};
 ghost use Rattle.flight_file.specs.Reading.{flights_of};
@@ -8,11 +8,11 @@ ghost use Rattle.arrivals.specs.Flights.{AreArrivals};
 ghost use Rattle.flight_file.specs.Printed.{windows_text, names_text, mark_text, head_text, flight_fields, flights_text};
 ghost use Rattle.flight_file.specs.Kept.{AreCallsigns, IsKept, AreKept};
 
-use appending::append_all;
 use arrivals::Flight;
 use cps_base::Callsign;
 use itoa::Buffer;
 use std::alloc::AllocError;
+use texts::append_all;
 
 // What stands behind a part.
 fn mark(is_last: bool) -> &'static [u8]

@@ -2,14 +2,14 @@ ghost use Rattle.std.specs.Prelude.{◌≡◌, ◌≤◌, IsTrue, length, take, 
 ghost use Rattle.std.specs.List.{list_all};
 ghost use Rattle.cps_base.specs.Answers.{ok_map};
 ghost use Rattle.landing_rules.specs.Rules.{last_second};
-ghost use Rattle.text_parts.specs.Parts.{parts};
+ghost use Rattle.texts.specs.Parts.{parts};
 ghost use Rattle.landing_windows.specs.Windows.{is_in_days};
 ghost use Rattle.flight_file.specs.Windows.{second_in, window_in, windows_from, windows_in};
 
 use crate::fault::WindowsCause;
 use cps_base::read_number;
 use landing_windows::{LAST_SECOND, WindowFault, WindowSet};
-use text_parts::{first_part, has_many_parts};
+use texts::{first_part, has_many_parts};
 
 // The second that a text in part `number` is.
 fn second_in(number: u8, text: &[u8]) -> Result<u32, WindowsCause>

@@ -4,8 +4,8 @@ use Rattle.std.specs.Prelude.{◌==◌}
 use Rattle.std.specs.List.{join_with_byte}
 use Rattle.std.proofs.lemmas.Bool.{eqb-true}
 use Rattle.std.proofs.lemmas.List.Splits.{join_with_byte-slice_split}
-use Rattle.text_parts.specs.Parts.{parts}
-use Rattle.text_parts.specs.shared.Cuts.{has_part}
+use Rattle.texts.specs.Parts.{parts}
+use Rattle.texts.specs.shared.Cuts.{has_part}
 use Rattle.plan_file.specs.declared.plan.PlanFault.TheVariants as fault
 use Rattle.plan_file.specs.declared.plan.PlanText.TheVariants as said
 use Rattle.plan_file.specs.Lines.{head_by, landing_by}

@@ -9,8 +9,8 @@ use Rattle.landing_rules.specs.Limits.{greatest_value}
 use Rattle.landing_rules.specs.declared.objective.Objective.{Objective}
 use Rattle.landing_rules.specs.declared.objective.Objective.TheVariants.{Makespan, Delay}
 use Rattle.landing_rules.specs.Text.{ShownLanding, ShownPlan, frozen_word, lines_text, head_words, landing_words, block_text}
-use Rattle.text_parts.specs.Parts.{parts}
-use Rattle.text_parts.specs.shared.Printed.{Lacks, cut, uncut, decimal_reads, decimal_lacks, lacks_by, callsign_lacks}
+use Rattle.texts.specs.Parts.{parts}
+use Rattle.texts.specs.shared.Printed.{Lacks, cut, uncut, decimal_reads, decimal_lacks, lacks_by, callsign_lacks}
 use Rattle.plan_file.specs.declared.plan.PlanFault.{PlanFault}
 use Rattle.plan_file.specs.declared.plan.PlanFault.TheVariants as fault
 use Rattle.plan_file.specs.declared.plan.PlanText.TheVariants as said

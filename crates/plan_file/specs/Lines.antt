@@ -5,7 +5,7 @@ use Rattle.landing_rules.specs.Rules.{last_second}
 use Rattle.landing_rules.specs.declared.objective.Objective.{Objective}
 use Rattle.landing_rules.specs.declared.objective.Objective.TheVariants.{Makespan, Delay}
 use Rattle.landing_rules.specs.Text.{ShownLanding}
-use Rattle.text_parts.specs.Parts.{parts, number_in, callsign_in}
+use Rattle.texts.specs.Parts.{parts, number_in, callsign_in}
 
 -- the objective that a word names
 abbrev pub objective_in : List ℕ → Option Objective

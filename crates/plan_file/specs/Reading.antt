@@ -10,7 +10,7 @@ use Rattle.plan_file.specs.declared.plan.PlanFault.{PlanFault}
 use Rattle.plan_file.specs.declared.plan.PlanFault.TheVariants as fault
 use Rattle.plan_file.specs.declared.plan.PlanText.{PlanText}
 use Rattle.plan_file.specs.declared.plan.PlanText.TheVariants as said
-use Rattle.text_parts.specs.Parts.{parts}
+use Rattle.texts.specs.Parts.{parts}
 use Rattle.plan_file.specs.Lines.{head_in, landing_in}
 
 abbrev pub or_fault : {A : Type 0} → ℕ → Option A → Result A PlanFault

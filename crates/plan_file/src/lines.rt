@@ -10,7 +10,7 @@ use crate::plan::PlanFault;
 use cps_base::Callsign;
 use landing_rules::{GREATEST_VALUE, MOST_FLIGHTS, Objective};
 use landing_windows::LAST_SECOND;
-use text_parts::{first_part, number_in};
+use texts::{first_part, number_in};
 
 // The objective that a word names.
 fn objective_in(word: &[u8]) -> Option<Objective>

@@ -3,7 +3,7 @@ ghost use Rattle.std.specs.Prelude.{◌≤◌, IfOk, length, map};
 ghost use Rattle.cps_base.specs.Answers.{Gives, GivesAs};
 ghost use Rattle.landing_rules.specs.Limits.{most_flights};
 ghost use Rattle.plan_file.specs.Shown.{shown_of};
-ghost use Rattle.text_parts.specs.Parts.{parts};
+ghost use Rattle.texts.specs.Parts.{parts};
 ghost use Rattle.plan_file.specs.Reading.{body_lines, memory_fault, nothing_behind, plan_of, HasFewLines};
 
 use crate::block::{Block, BlockLines};
@@ -11,7 +11,7 @@ use crate::landing::Landing;
 use crate::lines::{head_of, line_of};
 use crate::plan::{PlanFault, PlanText};
 use std::alloc::Global;
-use text_parts::first_part;
+use texts::first_part;
 
 // The lines from the second on.
 #[tactic(auto, unfolding(crate::specs::Reading::lines_in))]

@@ -1,5 +1,5 @@
 ghost use Rattle.std.specs.Prelude.{◌≡◌, ◌++◌, OnOk, option_map, Some, map, drop};
-ghost use Rattle.appending.specs.Appends.{Appends};
+ghost use Rattle.texts.specs.Appends.{Appends};
 ghost use Rattle.landing_rules.specs.Text.{line, lines_text, block_text, head_words, landing_words, objective_word, frozen_word};
 ghost use Rattle.plan_file.specs.Shown.{shown_of};
 

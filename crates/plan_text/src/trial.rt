@@ -1,5 +1,5 @@
 ghost use Rattle.std.specs.Prelude.{◌≡◌, ◌++◌, OnOk, option_map, take, decimal};
-ghost use Rattle.appending.specs.Appends.{Appends};
+ghost use Rattle.texts.specs.Appends.{Appends};
 ghost use Rattle.landing_rules.specs.Text.{line, block_lines, lines_text};
 ghost use Rattle.plan_text.specs.Trial.{trial_head, trial_text};
 

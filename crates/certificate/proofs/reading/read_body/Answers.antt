@@ -2,9 +2,9 @@ use Rattle.std.proofs.Common.{◌≡◌, length, Err, sym, ap, ◌∙◌, arith}
 use Rattle.std.proofs.lemmas.Grind.{common_steps}
 use Rattle.std.proofs.lemmas.Result.{err_from_is_err_and}
 use Rattle.cps_base.specs.Answers.{Fails}
-use Rattle.text_parts.specs.Parts.{parts}
+use Rattle.texts.specs.Parts.{parts}
 use Rattle.certificate.specs.Reading.{line_in, body_lines, memory_fault, Body}
-use Rattle.text_parts.specs.shared.Cuts.{parts_short, has_part}
+use Rattle.texts.specs.shared.Cuts.{parts_short, has_part}
 use Rattle.certificate.proofs.Valid.{body_is}
 use Rattle.certificate.proofs.Steps.{line_stop_all, line_end, fails_too}
 use Rattle.certificate.proofs.reading.read_body.Goals as goal

@@ -1,6 +1,6 @@
 -- A text with two marks or more is no span.
 use Rattle.std.proofs.Common.{sym}
-use Rattle.text_parts.specs.shared.Cuts.{has_part}
+use Rattle.texts.specs.shared.Cuts.{has_part}
 use Rattle.event_log.specs.Spans.{span_in}
 use Rattle.event_log.proofs.Spans.{too_many}
 use Rattle.event_log.proofs.span.read_span.Goals as goal

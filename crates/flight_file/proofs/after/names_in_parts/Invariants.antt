@@ -1,6 +1,6 @@
 -- The names so far and those of the parts that are left are the names of all parts.
 use Rattle.std.proofs.Common.{◌≡◌, ◌+◌, ◌≤◌, [], length, option_map}
-use Rattle.text_parts.specs.Parts.{parts, parts_left}
+use Rattle.texts.specs.Parts.{parts, parts_left}
 use Rattle.flight_file.specs.After.{names_from}
 use Rattle.flight_file.proofs.after.names_in_parts.Given as goal
 

@@ -3,7 +3,7 @@ use Rattle.std.proofs.Common.{◌≡◌, ◌+◌, ◌≤◌, length, take, optio
 use Rattle.std.specs.Prelude.{IsTrue}
 use Rattle.std.specs.List.{list_all}
 use Rattle.landing_windows.specs.Windows.{is_in_days}
-use Rattle.text_parts.specs.Parts.{parts, parts_left}
+use Rattle.texts.specs.Parts.{parts, parts_left}
 use Rattle.flight_file.specs.Windows.{windows_from}
 use Rattle.flight_file.proofs.Parts.{with_front}
 use Rattle.flight_file.proofs.windows.spans_in.Given as goal

@@ -1,7 +1,7 @@
 -- A part with two marks or more is no window.
 use Rattle.std.proofs.Common.{sym}
 use Rattle.flight_file.specs.Windows.{window_in}
-use Rattle.text_parts.specs.shared.Cuts.{has_part}
+use Rattle.texts.specs.shared.Cuts.{has_part}
 use Rattle.flight_file.proofs.Parts.{too_many}
 use Rattle.flight_file.proofs.windows.window_in.Goals as goal
 

@@ -1,5 +1,5 @@
 use Rattle.std.proofs.Common.{sym}
-use Rattle.text_parts.specs.shared.Cuts.{has_part}
+use Rattle.texts.specs.shared.Cuts.{has_part}
 use Rattle.plan_file.specs.Lines.{head_in}
 use Rattle.plan_file.proofs.LongLines.{head_many}
 use Rattle.plan_file.proofs.lines.head_of.Goals as goal

@@ -1,5 +1,5 @@
 use Rattle.std.proofs.Common.{sym}
-use Rattle.text_parts.specs.shared.Cuts.{has_part}
+use Rattle.texts.specs.shared.Cuts.{has_part}
 use Rattle.plan_file.specs.Lines.{landing_in}
 use Rattle.plan_file.proofs.LongLines.{landing_many}
 use Rattle.plan_file.proofs.lines.landing_of.Goals as goal

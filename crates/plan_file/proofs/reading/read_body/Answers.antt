@@ -1,7 +1,7 @@
 use Rattle.std.proofs.Common.{◌≡◌, Err, inr, map, sym, ◌∙◌}
 use Rattle.std.proofs.lemmas.Result.{err_from_is_err_and}
-use Rattle.text_parts.specs.Parts.{parts}
-use Rattle.text_parts.specs.shared.Cuts.{has_part}
+use Rattle.texts.specs.Parts.{parts}
+use Rattle.texts.specs.shared.Cuts.{has_part}
 use Rattle.plan_file.specs.Shown.{shown_of}
 use Rattle.cps_base.specs.Answers.{Fails}
 use Rattle.plan_file.specs.Reading.{body_lines, memory_fault}

@@ -1,5 +1,5 @@
 use Rattle.std.proofs.Common.{◌≡◌, ◌+◌, ◌≤◌, length, map, option_map}
-use Rattle.text_parts.specs.Parts.{parts, parts_left}
+use Rattle.texts.specs.Parts.{parts, parts_left}
 use Rattle.plan_file.specs.Shown.{shown_of}
 use Rattle.plan_file.specs.Reading.{lines_in, body_lines}
 use Rattle.plan_file.proofs.reading.read_body.Given as goal
