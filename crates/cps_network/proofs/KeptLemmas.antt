@@ -18,7 +18,7 @@ contains_kept (true ∷ bs) (x ∷ xs) y (suc i, lt, at) = let rest : Contains x
 contains_kept (false ∷ bs) (x ∷ xs) y has = let rest : Contains xs y = contains_kept bs xs y has in (suc rest.0, omega (arith, rest.1), rest.2)
 
 -- one more at the front
-longer : (x : List ℤ) (ys : List (List ℤ)) → ((y : List ℤ) → Contains ys y → window_cmp x y ≡ Less) → IsAscending ys → IsAscending (x ∷ ys)
+pub longer : (x : List ℤ) (ys : List (List ℤ)) → ((y : List ℤ) → Contains ys y → window_cmp x y ≡ Less) → IsAscending ys → IsAscending (x ∷ ys)
 longer x ys below up zero zero lt within = absurd (omega arith)
 longer x ys below up zero (suc j) lt within = below (node_at ys j) (Contains-get_or ys j [] (omega arith))
 longer x ys below up (suc i) zero lt within = absurd (omega arith)

@@ -10,38 +10,10 @@ use Rattle.cps_nodes.specs.Leads.{Extends, TailMeetsHead}
 use Rattle.landing_rules.specs.Problem.{Problem}
 use Rattle.cps_network.specs.Lists.{node_at, AreWindows}
 use Rattle.cps_network.specs.Landable.{HoldsCandidates}
-use Rattle.cps_network.specs.Permits.{IsPermitted, IsSuccessor, IsNextOf, NoneWaits, NonePassed, Repeats}
+use Rattle.cps_network.specs.Permits.{IsPermitted, IsSuccessor, IsNextOf}
 
 pub window_at : (width : ℕ) (ws : List (List ℤ)) (x : List ℤ) → AreWindows width ws → Contains ws x → IsWindow width x
 window_at width ws x valid (i, lt, at) = subst (λ (z : List ℤ). IsWindow width z) (get_or_default ws i [] x lt ∙ at) (valid i lt)
-
--- a successor at one stage is one at another where no rank in reach is out of range or waits for another
-successor_moves : (p : Problem) (a b : ℕ) (xs x : List ℤ) → length xs ≡ 2 * p.k + 1 → p.k ≤ b → b + 1 + p.k ≤ length p.flights → NoneWaits p b → NonePassed p b
-    → IsSuccessor p a xs x → IsSuccessor p b xs x
-successor_moves p a b xs x len low high ready free (rank, is, e) =
-    let other : ℕ = rank + b - a in
-    let same : offset_after a rank ≡ offset_after b (rank + b - a) = omega (arith, ints, is.late) in (
-      rank + b - a,
-      record {
-        from_one = omega (arith, is.late);
-        to_count = omega (arith, is.early);
-        early = omega (arith, is.early);
-        late = omega (arith, is.late, free (rank + b - a) (omega (arith, is.late)) (omega (arith, is.early)) (omega (arith, is.early)) (omega (arith, is.late)));
-        accepted = subst (λ (o : ℤ). Accepts xs o) same is.accepted;
-        after = λ first must. inl (omega (arith, ints, len, ready (rank + b - a) (omega (arith, is.late)) (omega (arith, is.early)) (omega (arith, is.early)) (omega (arith, is.late)) first must));
-      },
-      e ∙ ap (shifted xs) same,
-    )
-
-pub next_repeats : (p : Problem) (q stage width : ℕ) (before earlier after : List (List ℤ)) → width ≡ 2 * p.k + 1 → AreWindows width before → before ≡ earlier
-    → q < stage → Repeats p q stage → IsNextOf p q earlier after → IsNextOf p stage before after
-next_repeats p q stage width before earlier after odd valid same less again next x =
-    let next' : Contains after x ↔ ((window : List ℤ) × Contains before window × IsSuccessor p q window x) =
-    subst (λ (ws : List (List ℤ)). Contains after x ↔ ((window : List ℤ) × Contains ws window × IsSuccessor p q window x)) (sym same) (next x) in (
-      λ has. let s : (window : List ℤ) × Contains before window × IsSuccessor p q window x = next'.0 has in
-          (s.0, s.1, successor_moves p q stage s.0 x ((window_at width before s.0 valid s.1).len ∙ odd) (omega (arith, again.from_one)) again.to_count again.ready again.free s.2),
-      λ s. next'.1 (s.0, s.1, successor_moves p stage q s.0 x ((window_at width before s.0 valid s.1).len ∙ odd) again.from_one (omega (arith, again.to_count)) again.earlier_ready again.earlier_free s.2),
-    )
 
 -- the windows of the next stage are windows
 pub next_valid : (p : Problem) (stage width : ℕ) (before after : List (List ℤ)) → width ≡ 2 * p.k + 1 → LeadOn width → AreWindows width before

@@ -12,7 +12,7 @@ use Rattle.landing_rules.specs.Problem.{Problem}
 use Rattle.cps_problem.specs.Seen.{passed_at}
 use Rattle.cps_network.specs.Permits.{IsPermitted, LeadAlike}
 use Rattle.cps_network.proofs.LegalLists.{IsLegal, FollowPrefixes}
-use Rattle.cps_network.proofs.MergeLemmas.{last_or_before}
+use Rattle.cps_network.proofs.ListLemmas.{last_or_before}
 use Rattle.cps_network.proofs.StageLemmas.{IsSuccessor-alike}
 
 pub read_old : (ranks : List ℕ) (r i : ℕ) → i < length ranks → get_or (ranks ++ r ∷ []) i 0 ≡ get_or ranks i 0

@@ -1,10 +1,11 @@
 -- The lemmas of this crate.
 pub mod PlacedLemmas
-pub mod MergeLemmas
+pub mod ListLemmas
 pub mod SourceLemmas
 pub mod StageLemmas
 pub mod LayerLemmas
-pub mod AlikeLemmas
+pub mod RangeTests
+pub mod AgainLemmas
 pub mod LegalLists
 pub mod LegalLemmas
 pub mod CompactLemmas
@@ -12,3 +13,4 @@ pub mod KeptLemmas
 pub mod NetworkLemmas
 pub mod WindowNodes
 pub mod PrefixLandingLemmas
+pub mod LinkLemmas

@@ -21,7 +21,7 @@ use Rattle.cps_network.proofs.LegalLists.{IsLegal, FollowPrefixes}
 use Rattle.cps_network.specs.Nodes.{node_of, permits, land, latest, IsWindowNetwork, StepsAreWhole}
 use Rattle.cps_network.specs.WindowRanks.{TellTheirRanks}
 use Rattle.cps_network.specs.shared.LegalWindows.{reverse_more}
-use Rattle.cps_network.proofs.MergeLemmas.{last_or_before}
+use Rattle.cps_network.proofs.ListLemmas.{last_or_before}
 use Rattle.cps_network.proofs.LegalLemmas.{read_old, read_last, read_at}
 
 only_one : (r x : ℕ) → Contains (r ∷ []) x → x ≡ r

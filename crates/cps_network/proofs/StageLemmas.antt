@@ -11,7 +11,7 @@ use Rattle.cps_nodes.specs.Laws.{offset_after}
 use Rattle.landing_rules.specs.Problem.{Problem}
 use Rattle.cps_network.specs.Lists.{node_at}
 use Rattle.cps_network.specs.Permits.{IsPermitted, IsSuccessor}
-use Rattle.cps_network.proofs.MergeLemmas.{last_or_before}
+use Rattle.cps_network.proofs.ListLemmas.{last_or_before}
 
 pub some_is : {T : Type 0} (r : Option T) (P : Type 0) (v x : T) → SomeIff r P v → r ≡ Some x → P × (x ≡ v)
 some_is {T} r P v x h e = subst (λ (q : Option T). SomeIff q P v) e h

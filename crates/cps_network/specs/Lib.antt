@@ -1,12 +1,13 @@
 -- The definitions of this crate.
 pub mod Lists
-pub mod Firsts
 pub mod Groups
 pub mod Permits
 pub mod Begins
+pub mod Links
 pub mod Compacted
 pub mod Nodes
 pub mod Landable
+pub mod Again
 pub mod Pairs
 pub mod KeptStages
 pub mod Due

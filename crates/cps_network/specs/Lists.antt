@@ -1,5 +1,5 @@
 -- Lists of windows in ascending order.
-use Rattle.std.specs.Prelude.{◌≡◌, ℕ, ℤ, ◌<◌, ◌⊎◌, ◌↔◌, List, [], length, slice_index_or, Contains}
+use Rattle.std.specs.Prelude.{◌≡◌, ℕ, ℤ, ◌<◌, List, [], length, slice_index_or}
 use Rattle.std.specs.declared.cmp.Ordering.TheVariants.{Less}
 use Rattle.cps_nodes.specs.WindowOrder.{window_cmp}
 use Rattle.cps_nodes.specs.Windows.{IsWindow}
@@ -11,10 +11,6 @@ node_at nodes i = slice_index_or nodes i []
 -- each window is below those after it, so none stands twice
 abbrev pub IsAscending : List (List ℤ) → Type 0
 IsAscending nodes = (i j : ℕ) → i < j → j < length nodes → window_cmp (node_at nodes i) (node_at nodes j) ≡ Less
-
--- the windows of both lists, and no others
-abbrev pub IsUnion : List (List ℤ) → List (List ℤ) → List (List ℤ) → Type 0
-IsUnion left right both = (x : List ℤ) → Contains both x ↔ (Contains left x ⊎ Contains right x)
 
 -- each is a window of this width
 abbrev pub AreWindows : ℕ → List (List ℤ) → Type 0

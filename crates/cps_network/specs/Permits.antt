@@ -26,32 +26,6 @@ IsSuccessor p stage xs next = (rank : ℕ) × IsPermitted p stage xs rank × (ne
 abbrev pub IsNextOf : Problem → ℕ → List (List ℤ) → List (List ℤ) → Type 0
 IsNextOf p stage before after = (next : List ℤ) → Contains after next ↔ ((window : List ℤ) × Contains before window × IsSuccessor p stage window next)
 
--- each predecessor of each rank that may land next after a stage is due by then
-abbrev pub NoneWaits : Problem → ℕ → Type 0
-NoneWaits p stage = (rank : ℕ) → 1 ≤ rank → rank ≤ length p.flights → rank ≤ stage + 1 + p.k → stage + 1 ≤ rank + p.k
-    → (first : ℕ) → MustPrecede p.pairs first rank → first + p.k ≤ stage
-
--- no rank that may land next after a stage was passed
-abbrev pub NonePassed : Problem → ℕ → Type 0
-NonePassed p stage = (rank : ℕ) → 1 ≤ rank → rank ≤ length p.flights → rank ≤ stage + 1 + p.k → stage + 1 ≤ rank + p.k → passed_at p rank ≡ 0
-
--- at both stages each rank in reach is one of the problem's, waits for none that is not due, and was not passed
-pub record Repeats (p : Problem) (earlier stage : ℕ) : Type 0 where
-  pub from_one : p.k ≤ earlier
-  pub to_count : stage + 1 + p.k ≤ length p.flights
-  pub earlier_ready : NoneWaits p earlier
-  pub ready : NoneWaits p stage
-  pub earlier_free : NonePassed p earlier
-  pub free : NonePassed p stage
-
--- each rank was passed as often in both problems
-abbrev pub ArePassedAlike : Problem → Problem → Type 0
-ArePassedAlike p q = (rank : ℕ) → 1 ≤ rank → rank ≤ length p.flights → passed_at p rank ≡ passed_at q rank
-
--- any list that is the next of a stage's windows for the one problem is so for the other
-abbrev pub HaveSameSuccessors : Problem → Problem → Type 0
-HaveSameSuccessors p q = (stage : ℕ) (before after : List (List ℤ)) → IsNextOf p stage before after → IsNextOf q stage before after
-
 -- where one window of a stage extends to another by a permitted rank, so does each window that leads to it
 abbrev pub LeadAlike : Problem → ℕ → Type 0
 LeadAlike p width = (stage : ℕ) (xs ys next : List ℤ) → IsWindow width xs → IsWindow width ys

@@ -8,18 +8,17 @@ ghost use Rattle.cps_network.specs.Compacted.{kept_where};
 
 use cps_nodes::Window;
 
-// Whether `accepts` holds of each label.
+// Whether `accepts` holds of each label. It asks for all of them, since a loop that does not stop early costs less.
 pub(crate) fn keeps_all<T: Drop, F: Fn(&T) -> bool>(labels: &Vec<T>, accepts: &F) -> bool
     requires callable { F.IsAlwaysCallable accepts.now }
     ensures { IsTrue result → AllZip (FnReturnsAt F.Fn accepts.now) labels.now.items
         (replicate (vec_len labels.now) true) }
 {
-    labels.iter().all(
-        |label: &T| -> bool
-            requires { F.IsAlwaysCallable accepts.now }
-            ensures { FnReturnsAt F.Fn accepts.entry.now label.now result }
-        { accepts(label) },
-    )
+    let mut all = true;
+    for label in labels {
+        all &= accepts(label);
+    }
+    all
 }
 
 // Keeps the windows and the labels at the places whose label `keep` accepts, in order.

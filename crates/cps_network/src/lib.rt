@@ -3,26 +3,27 @@
 //! The network follows Balakrishnan and Chandran (2010) in outline; its exact form is this project's own.
 #![tactic(auto)]
 
-mod alike;
+mod again;
 mod compact;
 mod last;
 mod laws;
-mod merge;
+mod links;
 mod next;
 mod node;
+mod order;
 mod permit;
-mod runs;
 mod source_range;
 mod stage;
 mod window_list;
 
-pub use alike::permit_alike;
+pub use again::next_stage_again;
 pub use last::last_rank;
 pub use laws::{
     due_is_bounded, kept_stages, node_laws, prefix_laws, prefixes_keep_the_separation,
     windows_tell_their_ranks,
 };
-pub use next::{next_stage, next_stage_again, next_stage_like};
+pub use links::Links;
+pub use next::next_stage;
 pub use node::{Node, placed_node};
 pub use permit::is_permitted;
 pub use source_range::sources;

@@ -6,25 +6,25 @@ ghost use Rattle.cps_nodes.specs.Laws.{offset_after};
 ghost use Rattle.cps_nodes.specs.Windows.{IsWidth, IsPlaced, shifted};
 ghost use Rattle.cps_network.specs.Landable.{HoldsCandidates};
 ghost use Rattle.cps_network.specs.Lists.{IsAscending, AreWindows, node_at};
-ghost use Rattle.cps_network.specs.Permits.{IsPermitted, IsSuccessor, IsNextOf, Repeats};
+ghost use Rattle.cps_network.specs.Permits.{IsPermitted, IsSuccessor, IsNextOf};
 
-use crate::permit::{due_set, most_shift, none_passed, none_waits, placed_set, reach, successor};
-use crate::runs::Runs;
-use crate::source_range::first_source;
+use crate::links::Links;
+use crate::order::in_order;
+use crate::permit::{due_set, most_shift, placed_set, reach, successor};
+use crate::source_range::{first_source, past_below, run_of};
 use crate::stage::Stage;
 use cps_nodes::{ExtendableWindow, Window, window_laws};
-use cps_problem::Problem;
+use cps_problem::{Objective, Problem};
 use std::alloc::{AllocError, Global};
 
 // Adds the window after a landing of a rank, where it is permitted.
 fn add_permitted<const W: usize>(
-    alloc: Global,
     problem: &Problem,
     window: &ExtendableWindow<W>,
     stage: u8,
     rank: u8,
     placed: u64,
-    runs: &mut Runs<W>,
+    after: &mut Vec<Window<W>>,
 ) -> Result<(), AllocError>
     requires width { W ≡ 2 * problem.now.k + 1 }
     requires stage { stage < length problem.now.flights }
@@ -32,14 +32,14 @@ fn add_permitted<const W: usize>(
         stage) (pos first) }
     requires rank { (1 ≤ rank) × (rank ≤ length problem.now.flights) }
     requires reach { (rank ≤ stage + 1 + problem.now.k) × (stage + 1 ≤ rank + problem.now.k) }
-    ensures { OnOk result ((x : _) → Contains runs.new x ↔ (Contains runs.old x
+    ensures { OnOk result ((x : _) → Contains after.new.items x ↔ (Contains after.old.items x
         ⊎ (IsPermitted problem.now stage window.now rank
         × (x ≡ shifted window.now (offset_after stage rank))))) }
 {
     match successor(problem, window, stage, rank, placed) {
         None => Ok(()),
         Some(next) => {
-            runs.add(alloc, next)?;
+            after.push(next)?;
             Ok(())
         }
     }
@@ -47,51 +47,49 @@ fn add_permitted<const W: usize>(
 
 // Adds each window that extends this one by a permitted rank.
 fn add_successors<const W: usize>(
-    alloc: Global,
     problem: &Problem,
     window: &Window<W>,
     stage: u8,
     due: u64,
-    runs: &mut Runs<W>,
+    after: &mut Vec<Window<W>>,
 ) -> Result<(), AllocError>
     requires width { W ≡ 2 * problem.now.k + 1 }
     requires stage { stage < length problem.now.flights }
     requires due { (rank : ℕ) → HasBit due rank ↔ (rank + W / 2 ≤ stage) }
-    ensures { OnOk result ((x : _) → Contains runs.new x ↔ (Contains runs.old x ⊎ IsSuccessor
-        problem.now stage window.now x)) }
+    ensures { OnOk result ((x : _) → Contains after.new.items x ↔ (Contains after.old.items x
+        ⊎ IsSuccessor problem.now stage window.now x)) }
 {
     let (first, end) = reach(problem, stage);
     let extendable = window.extendable();
     let placed = placed_set(&extendable, stage, due);
     for rank in first..end {
-        add_permitted(alloc, problem, &extendable, stage, rank, placed, runs)?;
+        add_permitted(problem, &extendable, stage, rank, placed, after)?;
     }
     Ok(())
 }
 
 // The same for the window at a place, where those of the place before are added.
 fn add_at<const W: usize>(
-    alloc: Global,
     problem: &Problem,
     before: &[Window<W>],
     i: usize,
     stage: u8,
     due: u64,
-    runs: &mut Runs<W>,
+    after: &mut Vec<Window<W>>,
 ) -> Result<(), AllocError>
     requires width { W ≡ 2 * problem.now.k + 1 }
     requires stage { stage < length problem.now.flights }
     requires due { (rank : ℕ) → HasBit due rank ↔ (rank + W / 2 ≤ stage) }
     requires within { i < length before.now }
     requires last { 0 < i → (x : _) → IsSuccessor problem.now stage (node_at before.now (i - 1))
-        x → Contains runs.old x }
-    ensures { OnOk result ((x : _) → Contains runs.new x ↔ (Contains runs.old x ⊎ IsSuccessor
-        problem.now stage (node_at before.now i) x)) }
+        x → Contains after.old.items x }
+    ensures { OnOk result ((x : _) → Contains after.new.items x ↔ (Contains after.old.items x
+        ⊎ IsSuccessor problem.now stage (node_at before.now i) x)) }
 {
     if i > 0 && before[i - 1].shares_tail(&before[i]) {
         return Ok(());
     }
-    add_successors(alloc, problem, &before[i], stage, due, runs)?;
+    add_successors(problem, &before[i], stage, due, after)?;
     Ok(())
 }
 
@@ -113,24 +111,12 @@ fn next_windows<const W: usize>(
     let _few = problem.len();
     window_laws::<W>();
     let due = due_set(stage, k);
-    let mut runs = Runs::new(alloc);
+    let mut gathered = Vec::with_capacity(alloc, before.len())?;
     for i in 0..before.len() {
-        add_at(alloc, problem, before, i, stage, due, &mut runs)?;
+        add_at(problem, before, i, stage, due, &mut gathered)?;
     }
-    let after = runs.into_list(alloc)?;
+    let after = in_order(gathered)?;
     Ok(after)
-}
-
-// The first place, from this one on, whose window's tail is not below the node's head.
-#[inline]
-fn past_below<const W: usize>(before: &[Window<W>], node: &Window<W>, from: usize) -> usize {
-    (from..before.len())
-        .find(
-            |place: &usize| -> bool
-                requires { place.now < length before.now }
-            { !before[*place].is_below(node) },
-        )
-        .unwrap_or(before.len())
 }
 
 // Where the windows that lead to each are likely to begin, for all at once: one cursor for each first offset, which starts
@@ -146,7 +132,7 @@ fn begins<const W: usize>(
     let mut cursors = [0usize; 8];
     let mut begins = Vec::with_capacity(alloc, after.len())?;
     for node in after {
-        let run = node.offset(0).rem_euclid(8) as usize;
+        let run = run_of(node);
         let mut place = cursors[run];
         if place == 0 {
             place = first_source(before, node);
@@ -156,6 +142,73 @@ fn begins<const W: usize>(
         begins.push(place.min(u32::MAX as usize) as u32)?;
     }
     Ok(begins)
+}
+
+// From how many windows on a stage keeps links.
+const LINKED: usize = 32;
+
+// Whether links to so many windows save more than they cost: only the labels for the makespan are found by links.
+fn are_worth_links(problem: &Problem, windows: usize) -> bool {
+    match problem.head().objective {
+        Objective::Makespan => windows >= LINKED,
+        Objective::Delay => false,
+    }
+}
+
+// The stage of these windows, with links from those of the stage before.
+fn linked<const W: usize>(
+    alloc: Global,
+    before: &Stage<W>,
+    windows: Vec<Window<W>>,
+) -> Result<Stage<W>, AllocError>
+    requires width { IsWidth W }
+    requires stage { before.now.0 < 60 }
+    requires ascending { IsAscending windows.items }
+    requires valid { AreWindows W windows.items }
+    ensures { IfOk result (λ s. s ≡ (before.now.0 + 1, windows.entry.items)) }
+{
+    let made = Stage::made(alloc, before.number() + 1, windows, Vec::new(alloc))?;
+    let links = Links::between(alloc, before, &made)?;
+    let stage = made.with_links(alloc, links)?;
+    Ok(stage)
+}
+
+// The stage of these windows, with hints where in the stage before those begin that lead to each.
+fn hinted<const W: usize>(
+    alloc: Global,
+    before: &Stage<W>,
+    windows: Vec<Window<W>>,
+) -> Result<Stage<W>, AllocError>
+    requires width { IsWidth W }
+    requires stage { before.now.0 < 60 }
+    requires ascending { IsAscending windows.items }
+    requires valid { AreWindows W windows.items }
+    ensures { IfOk result (λ s. s ≡ (before.now.0 + 1, windows.entry.items)) }
+{
+    let hints = begins(alloc, before.windows(), &windows)?;
+    let stage = Stage::made(alloc, before.number() + 1, windows, hints)?;
+    Ok(stage)
+}
+
+// The stage of these windows, with what is kept of those of the stage before that lead to each.
+fn stage_of<const W: usize>(
+    alloc: Global,
+    problem: &Problem,
+    before: &Stage<W>,
+    windows: Vec<Window<W>>,
+) -> Result<Stage<W>, AllocError>
+    requires width { IsWidth W }
+    requires stage { before.now.0 < 60 }
+    requires ascending { IsAscending windows.items }
+    requires valid { AreWindows W windows.items }
+    ensures { IfOk result (λ s. s ≡ (before.now.0 + 1, windows.entry.items)) }
+{
+    if are_worth_links(problem, windows.len()) {
+        let stage = linked(alloc, before, windows)?;
+        return Ok(stage);
+    }
+    let stage = hinted(alloc, before, windows)?;
+    Ok(stage)
 }
 
 /// The stage after a stage of a problem: exactly the windows that extend one of it by a permitted rank.
@@ -173,79 +226,6 @@ pub fn next_stage<const W: usize>(
 {
     let _near = problem.head();
     let windows = next_windows(alloc, problem, before.number(), before.windows())?;
-    let hints = begins(alloc, before.windows(), &windows)?;
-    let stage = Stage::made(alloc, before.number() + 1, windows, hints)?;
+    let stage = stage_of(alloc, problem, before, windows)?;
     Ok(stage)
-}
-
-// Whether the same ranks, counted from the next place, may land after two stages that have the same windows: none in reach
-// of either waits for another or was passed.
-fn repeats(problem: &Problem, earlier: u8, stage: u8) -> bool
-    requires stage { stage < length problem.now.flights }
-    requires before { earlier < stage }
-    ensures { IsTrue result → Repeats problem.now earlier stage }
-{
-    let k = most_shift(problem);
-    let n = problem.len();
-    if !none_passed(problem, earlier) || !none_passed(problem, stage) {
-        return false;
-    }
-    earlier >= k && stage + 1 + k <= n && none_waits(problem, earlier) && none_waits(problem, stage)
-}
-
-/// The same as `next_stage`, where an earlier stage and the stage after that are at hand: in the middle of a list the next
-/// stage is often a copy of that one.
-pub fn next_stage_like<const W: usize>(
-    alloc: Global,
-    before: &Stage<W>,
-    problem: &Problem,
-    earlier: &Stage<W>,
-    after: &Stage<W>,
-) -> Result<Stage<W>, AllocError>
-    requires width { W ≡ 2 * problem.now.k + 1 }
-    requires stage { before.now.0 < length problem.now.flights }
-    requires earlier { earlier.now.0 < before.now.0 }
-    requires after { IsNextOf problem.now earlier.now.0 earlier.now.1 after.now.1 }
-    ensures number { IfOk result (λ s. s.0 ≡ before.now.0 + 1) }
-    ensures ascending { IfOk result (λ s. IsAscending s.1) }
-    ensures exact { IfOk result (λ s. IsNextOf problem.now before.now.0 before.now.1 s.1) }
-    ensures candidates { IfOk result (λ s. HoldsCandidates problem.now before.now s) }
-{
-    let _near = problem.head();
-    let _ascending = after.windows();
-    if repeats(problem, earlier.number(), before.number())
-        && before.windows() == earlier.windows()
-    {
-        let next = after.copy_as(alloc, before.number() + 1)?;
-        return Ok(next);
-    }
-    let next = next_stage(alloc, before, problem)?;
-    Ok(next)
-}
-
-/// The same as `next_stage`, where another stage is at hand, and the windows that come after its own in this problem: where
-/// both have the same windows, the next stage shares those.
-pub fn next_stage_again<const W: usize>(
-    alloc: Global,
-    before: &Stage<W>,
-    problem: &Problem,
-    earlier: &Stage<W>,
-    after: &Stage<W>,
-) -> Result<Stage<W>, AllocError>
-    requires width { W ≡ 2 * problem.now.k + 1 }
-    requires stage { before.now.0 < length problem.now.flights }
-    requires after { IsNextOf problem.now before.now.0 earlier.now.1 after.now.1 }
-    ensures number { IfOk result (λ s. s.0 ≡ before.now.0 + 1) }
-    ensures ascending { IfOk result (λ s. IsAscending s.1) }
-    ensures exact { IfOk result (λ s. IsNextOf problem.now before.now.0 before.now.1 s.1) }
-    ensures candidates { IfOk result (λ s. HoldsCandidates problem.now before.now s) }
-{
-    let _near = problem.head();
-    let _ascending = after.windows();
-    if before.windows() == earlier.windows() {
-        let next = after.copy_as(alloc, before.number() + 1)?;
-        return Ok(next);
-    }
-    let next = next_stage(alloc, before, problem)?;
-    Ok(next)
 }

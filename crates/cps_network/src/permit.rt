@@ -6,7 +6,7 @@ ghost use Rattle.cps_nodes.specs.Windows.{IsWindow, IsPlaced, shifted};
 ghost use Rattle.cps_nodes.specs.Ranks.{window_of};
 ghost use Rattle.cps_nodes.specs.Laws.{offset_after};
 ghost use Rattle.cps_problem.specs.Seen.{passed_at};
-ghost use Rattle.cps_network.specs.Permits.{IsPermitted, NoneWaits, NonePassed};
+ghost use Rattle.cps_network.specs.Permits.{IsPermitted};
 ghost use Rattle.cps_theory.specs.LegalPrefix.{IsLegalPrefix};
 ghost use Rattle.landing_joint.specs.RankedProblem.{ranked};
 
@@ -144,23 +144,4 @@ pub fn is_permitted<const W: usize>(
 {
     prefix_laws::<W>(problem);
     permits(problem, window, stage, rank)
-}
-
-// Whether each predecessor of each rank in reach of a stage is due by then, so that no window need be looked at.
-pub(crate) fn none_waits(problem: &Problem, stage: u8) -> bool
-    requires { stage < length problem.now.flights }
-    ensures { IsTrue result → NoneWaits problem.now stage }
-{
-    let due = due_set(stage, most_shift(problem));
-    let (first, end) = reach(problem, stage);
-    (first..end).all(|rank| problem.pairs().all_before(rank, due))
-}
-
-// Whether no rank in reach of a stage was passed.
-pub(crate) fn none_passed(problem: &Problem, stage: u8) -> bool
-    requires { stage < length problem.now.flights }
-    ensures { IsTrue result → NonePassed problem.now stage }
-{
-    let (first, end) = reach(problem, stage);
-    (first..end).all(|rank| problem.passed(rank) == 0)
 }

@@ -24,6 +24,32 @@ pub(crate) fn first_source<const W: usize>(before: &[Window<W>], node: &Window<W
     )
 }
 
+// The first place, from this one on, whose window's tail is not below the node's head.
+#[inline]
+pub(crate) fn past_below<const W: usize>(
+    before: &[Window<W>],
+    node: &Window<W>,
+    from: usize,
+) -> usize {
+    (from..before.len())
+        .find(
+            |place: &usize| -> bool
+                requires { place.now < length before.now }
+            { !before[*place].is_below(node) },
+        )
+        .unwrap_or(before.len())
+}
+
+// Which of eight runs a window belongs to: those with the same first offset. In such a run the windows that lead to each stand in
+// the order of the run.
+#[inline]
+pub(crate) fn run_of<const W: usize>(window: &Window<W>) -> usize
+    requires { IsWidth W }
+    ensures { result < 8 }
+{
+    window.offset(0).rem_euclid(8) as usize
+}
+
 // Whether the windows that lead to a node may begin at this place: the one before it does not lead there.
 fn may_begin_at<const W: usize>(before: &[Window<W>], node: &Window<W>, place: usize) -> bool
     ensures within { IsTrue result → place ≤ length before.now }

@@ -1,6 +1,7 @@
 //! A stage: its number, and its windows in ascending order.
 
-ghost use Rattle.std.specs.Prelude.{◌≡◌, ℕ, ℤ, pos, ◌^◌, ◌<◌, ◌≤◌, ◌↔◌, List, [], ◌∷◌, Bool, length, replicate, IsTrue, IfOk, vec_len};
+ghost use Rattle.std.specs.Prelude.{◌≡◌, ℕ, ℤ, pos, ◌^◌, ◌<◌, ◌≤◌, ◌↔◌, List, [], ◌∷◌, Bool, length, replicate, IsTrue, IfOk, IfSome, vec_len};
+ghost use Rattle.std.specs.Arc.{arc_value};
 ghost use Rattle.std.specs.Fn.{FnReturnsAt};
 ghost use Rattle.std.specs.List.{AllZip};
 ghost use Rattle.cps_nodes.specs.Windows.{IsWidth, IsWindow};
@@ -8,6 +9,7 @@ ghost use Rattle.cps_nodes.specs.Leads.{Extends};
 ghost use Rattle.cps_network.specs.Compacted.{kept_where};
 ghost use Rattle.cps_network.specs.Lists.{IsAscending, AreWindows, node_at};
 
+use crate::links::Links;
 use crate::source_range::sources_near;
 use crate::window_list::WindowList;
 use cps_nodes::{Window, window_laws};
@@ -23,6 +25,8 @@ pub struct Stage<const W: usize> {
     // Where the windows that lead to each are likely to begin in the stage before, as long as none is left out. Only speed
     // rests on it.
     hints: Arc<Vec<u32>, Global>,
+    // The links from the windows of the stage before, where they are worth keeping. They are asked for by both lists.
+    links: Option<Arc<Links<W>, Global>>,
 }
 
 impl<const W: usize> Model for Stage<W> {
@@ -66,7 +70,58 @@ impl<const W: usize> Stage<W> {
             number,
             list,
             hints,
+            links: None,
         })
+    }
+
+    // The same stage, with these links.
+    pub(crate) fn with_links(
+        self,
+        alloc: Global,
+        links: Option<Links<W>>,
+    ) -> Result<Stage<W>, AllocError>
+        ensures { IfOk result (λ s. s ≡ self.entry) }
+    {
+        let kept = match links {
+            None => None,
+            Some(links) => {
+                let kept = Arc::new(alloc, links)?;
+                Some(kept)
+            }
+        };
+        Ok(Stage {
+            number: self.number,
+            list: self.list,
+            hints: self.hints,
+            links: kept,
+        })
+    }
+
+    // The windows in a list that stages may share.
+    pub(crate) fn shared_windows(
+        &self,
+        alloc: Global,
+    ) -> Result<Arc<Vec<Window<W>>, Global>, AllocError>
+        ensures { IfOk result (λ list. (arc_value list).items ≡ self.now.1) }
+    {
+        let list = self.list.shared(alloc)?;
+        Ok(list)
+    }
+
+    /// The links from the windows of a stage to those of this one, where they are kept.
+    pub fn links(&self, before: &Stage<W>) -> Option<&Links<W>>
+        ensures { IfSome result (λ l. (l.now.origin ≡ before.now.1) × (l.now.target ≡ self.now.1)) }
+    {
+        match &self.links {
+            None => None,
+            Some(links) => {
+                if links.origin() == before.windows() && links.target() == self.windows() {
+                    Some(links)
+                } else {
+                    None
+                }
+            }
+        }
     }
 
     /// How many flights have landed by this stage.
@@ -137,15 +192,26 @@ impl<const W: usize> Stage<W> {
     {
         let list = self.list.share(alloc)?;
         let hints = Arc::try_clone(&self.hints)?;
+        let links = match &self.links {
+            None => None,
+            Some(links) => {
+                let links = Arc::try_clone(links)?;
+                Some(links)
+            }
+        };
         Ok(Stage {
             number,
             list,
             hints,
+            links,
         })
     }
 
     // A place at which to look first for the windows that lead to the one at place i.
-    fn hint(&self, i: usize) -> usize {
+    pub(crate) fn hint(&self, i: usize) -> usize {
+        if let Some(links) = &self.links {
+            return links.begin(i);
+        }
         if i < self.hints.len() {
             self.hints[i] as usize
         } else {

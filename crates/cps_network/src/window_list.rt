@@ -1,6 +1,7 @@
 //! A list of windows that stages may share.
 
 ghost use Rattle.std.specs.Prelude.{◌≡◌, ℤ, List, [], Bool, ◌<◌, ◌≤◌, length, vec_len, vec_capacity, IfOk};
+ghost use Rattle.std.specs.Arc.{arc_value};
 ghost use Rattle.std.specs.Fn.{FnReturnsAt};
 ghost use Rattle.std.specs.List.{AllZip};
 ghost use Rattle.cps_nodes.specs.Windows.{IsWidth};
@@ -109,6 +110,19 @@ impl<const W: usize> WindowList<W> {
             own,
             is_own: false,
         })
+    }
+
+    // The windows in a list that stages may share.
+    pub(crate) fn shared(&self, alloc: Global) -> Result<Arc<Vec<Window<W>>, Global>, AllocError>
+        ensures { IfOk result (λ list. (arc_value list).items ≡ self.now) }
+    {
+        if self.is_own {
+            let windows = copied(&self.own)?;
+            let list = Arc::new(alloc, windows)?;
+            return Ok(list);
+        }
+        let list = Arc::try_clone(&self.shared)?;
+        Ok(list)
     }
 
     // The windows in a list that no other has. This one is to be written anew.

@@ -1,22 +1,26 @@
-use Rattle.std.proofs.Common.{◌≡◌, ◌∷◌, [], ◌<◌, ℕ, suc, List, Bool, true, false, length, subst, arith, rules, tests}
-use Rattle.std.specs.Prelude.{⊤, replicate}
-use Rattle.std.specs.Bool.{MatchBool}
+use Rattle.std.proofs.Common.{◌≡◌, ◌+◌, List, Bool, true, length, take, get_or, ap, subst, ◌∙◌, arith}
+use Rattle.std.specs.Prelude.{replicate, vec_len}
 use Rattle.std.specs.Fn.{FnReturnsAt}
-use Rattle.std.specs.List.{AllZip, AllWithin, HoldsAt}
-use Rattle.std.proofs.lemmas.Iterator.{YieldsList-from_slice, cases_from_all}
+use Rattle.std.specs.List.{AllZip}
+use Rattle.std.proofs.lemmas.Bool.{and_parts}
+use Rattle.std.proofs.lemmas.List.{replicate_more, take_all}
+use Rattle.cps_network.proofs.CompactLemmas.{zip_more}
 use Rattle.cps_network.proofs.compact.keeps_all.Goals as goal
 
-each_true : {A : Type 0} (R : A → Bool → Type 0) (xs : List A) → AllWithin (λ x. R x true) xs 0 (length xs) → AllZip R xs (replicate (length xs) true)
-each_true R [] all = tt
-each_true {A} R (x ∷ xs) all = (all 0 x (omega arith) (omega arith), each_true R xs (λ k d low lt. all (suc k) d (omega arith) (omega arith)))
-
-all_true : {A : Type 0} (R : A → Bool → Type 0) (xs : List A) (n : ℕ) (b : Bool) → length xs ≡ n → b ≡ true
-    → MatchBool b (AllWithin (λ x. R x true) xs 0 (length xs)) ((k : ℕ) × (k < length xs) × HoldsAt (λ x. ⊤) xs k) → AllZip R xs (replicate n true)
-all_true {A} R xs n true len is cases = subst (λ (m : ℕ). AllZip R xs (replicate m true)) len (each_true R xs cases)
-all_true {A} R xs n false len is cases = absurd (cc)
+pub loop-label-preserved : goal.loop-label-preserved
+loop-label-preserved g c = λ yes.
+    let says : FnReturnsAt g.F.Fn c.args.accepts.now (get_or c.args.labels.now.items c.loop-label.label-index c.label-item.result) true =
+    subst (λ (b : Bool). FnReturnsAt g.F.Fn c.args.accepts.now (get_or c.args.labels.now.items c.loop-label.label-index c.label-item.result) b) ((and_parts _ _ yes).1) (record {
+      shown = _;
+      shows = c.label-item.is ∙ ap (λ (xs : List _). get_or xs c.loop-label.label-index c.label-item.result) c.deref-label-items.ensures.value;
+      says = record { met = c.accepts-all.ensures };
+    }) in
+    subst (AllZip (FnReturnsAt g.F.Fn c.args.accepts.now) (take (c.loop-label.label-index + 1) c.args.labels.now.items)) (replicate_more c.loop-label.label-index true)
+    (zip_more _ _ _ c.loop-label.label-index true c.label-item.result (omega (arith, c.loop-label-test.true, ap length c.deref-label-items.ensures.value)) (c.loop-label.invariant ((and_parts _ _ yes).0)) says)
 
 pub returns : goal.returns
 returns g c = λ yes.
-    all_true (FnReturnsAt g.F.Fn c.args.accepts.now) c.args.labels.now.items _ c.all.result (cc) yes
-    (cases_from_all _ _ c.all.result (λ x. FnReturnsAt g.F.Fn c.args.accepts.now x true) (λ x. ⊤) c.all.ensures.ran (YieldsList-from_slice c.args.labels.now.items (cc))
-    (λ x q k. (search (rules, tests), search (rules, tests))) (λ x q k. tt))
+    let R = FnReturnsAt g.F.Fn c.args.accepts.now in
+    let end : c.loop-label.label-index ≡ vec_len c.args.labels.now = omega (arith, c.loop-label-test.false, c.loop-label.auto.label-index-end, ap length c.deref-label-items.ensures.value) in
+    subst (λ (zs : List _). AllZip R zs (replicate (vec_len c.args.labels.now) true)) (take_all (vec_len c.args.labels.now) c.args.labels.now.items (omega arith))
+    (subst (λ m. AllZip R (take m c.args.labels.now.items) (replicate m true)) end (c.loop-label.invariant yes))

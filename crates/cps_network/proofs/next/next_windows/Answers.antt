@@ -11,15 +11,12 @@ add_at-requires g c =
     let half : c.most_shift-k.result ≡ g.row.W / 2 = omega (arith, c.requires.width, c.most_shift-k.ensures.k) in (
       search rules,
       (
-        search rules,
+        c.requires.width,
         (
-          c.requires.width,
+          c.requires.stage,
           (
-            c.requires.stage,
-            (
-              λ rank. subst (λ (k : ℕ). HasBit c.due_set-due.result rank ↔ (rank + k ≤ c.args.stage)) half (c.due_set-due.ensures rank),
-              (search rules, λ some. last_added _ _ _ _ _ c.loop-i.invariant some),
-            ),
+            λ rank. subst (λ (k : ℕ). HasBit c.due_set-due.result rank ↔ (rank + k ≤ c.args.stage)) half (c.due_set-due.ensures rank),
+            (search rules, λ some. last_added _ _ _ _ _ c.loop-i.invariant some),
           ),
         ),
       ),
@@ -32,8 +29,8 @@ loop-i-preserved g c = successors_more _ _ _ _ _ _ c.loop-i.invariant c.in_ok-ad
 next_is : (g : _) (c : goal.In_ok-after g) → IsNextOf c.args.problem.now c.args.stage c.args.before.now c.in_ok-after.after.items
 next_is g c = λ x.
     let end : c.loop-i.i ≡ length c.args.before.now = omega arith in
-    let all : AreSuccessors c.args.problem.now c.args.stage c.args.before.now c.loop-i.runs (length c.args.before.now) =
-    subst (λ (m : ℕ). AreSuccessors c.args.problem.now c.args.stage c.args.before.now c.loop-i.runs m) end c.loop-i.invariant in (
+    let all : AreSuccessors c.args.problem.now c.args.stage c.args.before.now c.loop-i.gathered.items (length c.args.before.now) =
+    subst (λ (m : ℕ). AreSuccessors c.args.problem.now c.args.stage c.args.before.now c.loop-i.gathered.items m) end c.loop-i.invariant in (
       λ has. (successors_all _ _ _ _ all x).0 ((c.in_ok-after.ensures.members x).0 has),
       λ has. (c.in_ok-after.ensures.members x).1 ((successors_all _ _ _ _ all x).1 has),
     )
