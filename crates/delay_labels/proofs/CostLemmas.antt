@@ -19,8 +19,9 @@ use Rattle.landing_rules.specs.Rules.{last_second}
 use Rattle.cps_problem.specs.WellFormed.{IsWellFormed}
 use Rattle.cps_network.specs.Landable.{Attains}
 use Rattle.cps_network.specs.Nodes.{Node}
+use Rattle.delay_labels.specs.Bounds.{dearest_landing}
 
-cost_small_by : (o : Objective) (f : Waiting) (t : ℕ) → f.weight ≤ 100 → t ≤ last_second → cost_by o f t ≤ 17279900
+cost_small_by : (o : Objective) (f : Waiting) (t : ℕ) → f.weight ≤ 100 → t ≤ last_second → cost_by o f t ≤ dearest_landing
 cost_small_by Makespan f t light low = omega arith
 cost_small_by Delay f t light low =
     let a : f.weight * (t - f.eta) ≤ 100 * (t - f.eta) = mul-le-mul_right (t - f.eta) light in
@@ -34,7 +35,7 @@ light_at p wf (suc i) = elim (cases_lt i (length p.flights)) [
 ]
 
 module _ (p : Problem) (wf : IsWellFormed p) where
-  cost_small : (r t : ℕ) → t ≤ last_second → cost_at p r t ≤ 17279900
+  cost_small : (r t : ℕ) → t ≤ last_second → cost_at p r t ≤ dearest_landing
   cost_small r t low = cost_small_by p.objective (of_rank no_waiting p.flights r) t (light_at p wf r) low
 
   -- the landing before is earlier
@@ -43,7 +44,7 @@ module _ (p : Problem) (wf : IsWellFormed p) where
   before_low ((zero, u) ∷ xs) r t legal le = absurd (let a = legal.0.fits.from_one in omega arith)
   before_low ((suc l, u) ∷ xs) r t legal le = omega (arith, le)
 
-  trail_small : (xs : List Landing) → Legal (ranked p).rules (ranks xs) → LandedIn (ranked p) xs → (latest_landing xs).1 ≤ last_second → cost_of (cost_at p) xs ≤ 17279900 * length (ranks xs)
+  trail_small : (xs : List Landing) → Legal (ranked p).rules (ranks xs) → LandedIn (ranked p) xs → (latest_landing xs).1 ≤ last_second → cost_of (cost_at p) xs ≤ dearest_landing * length (ranks xs)
   trail_small [] legal landed low = omega arith
   trail_small (x ∷ xs) legal landed low =
       let a = before_low xs x.0 x.1 legal.1 landed.1 in
@@ -52,10 +53,10 @@ module _ (p : Problem) (wf : IsWellFormed p) where
       omega (arith, b, c)
 
   -- an attained pair costs at most so much a flight
-  pub attained_small : (stage : ℕ) (xs : List ℤ) (q : Pair) → Attains p stage xs q → q.0 ≤ last_second → q.1 ≤ 17279900 * stage
+  pub attained_small : (stage : ℕ) (xs : List ℤ) (q : Pair) → Attains p stage xs q → q.0 ≤ last_second → q.1 ≤ dearest_landing * stage
   attained_small stage xs q a low =
       let long : length (ranks a.landings) ≡ stage = ap (λ (n : Node). n.0) a.at in
       let second : (latest_landing a.landings).1 ≡ q.0 = ap (λ (z : Pair). z.0) a.is in
       let cost : cost_of (cost_at p) a.landings ≡ q.1 = ap (λ (z : Pair). z.1) a.is in
       let s = trail_small a.landings a.legal a.landed (omega (arith, second, low)) in
-      subst (λ (n : ℕ). q.1 ≤ 17279900 * n) long (subst (λ (c : ℕ). c ≤ 17279900 * length (ranks a.landings)) cost s)
+      subst (λ (n : ℕ). q.1 ≤ dearest_landing * n) long (subst (λ (c : ℕ). c ≤ dearest_landing * length (ranks a.landings)) cost s)

@@ -1,13 +1,14 @@
 -- Lists of pairs, and the successors of their pairs.
-use Rattle.std.proofs.Common.{◌≡◌, ℕ, zero, suc, ◌+◌, ◌-◌, ◌<◌, ◌≤◌, ◌⊎◌, inl, inr, List, [], ◌∷◌, ◌++◌, length, take, drop, Option, Some, None, refl, sym, ap, subst, ◌∙◌, arith}
+use Rattle.std.proofs.Common.{◌≡◌, ℕ, zero, suc, ◌+◌, ◌-◌, ◌<◌, ◌≤◌, ◌⊎◌, inl, inr, List, [], ◌∷◌, ◌++◌, length, take, drop, Option, Some, None, Bool, cond, append_assoc, refl, sym, ap, subst, ◌∙◌, arith}
 use Rattle.std.proofs.lemmas.Option.{same_Some}
 use Rattle.std.specs.Prelude.{slice_range}
 use Rattle.std.specs.List.{flat_map}
-use Rattle.std.proofs.lemmas.Bool.{cases_eq}
-use Rattle.std.proofs.lemmas.List.{length-take, length-drop, take_more, get_or-take, get_or-drop, flat_map_more, length_push, get_or_push, get_or_append_left}
+use Rattle.std.proofs.lemmas.Bool.{cases_eq, lt-ltb, le-ltb}
+use Rattle.std.proofs.lemmas.List.{at_drop_more, length-take, length-drop, take_more, get_or-take, get_or-drop, flat_map_more, length_push, get_or_push, get_or_append_left}
 use Rattle.landing_rules.specs.Problem.{Problem}
 use Rattle.cps_theory.specs.Labels.{InPairs, Pair}
-use Rattle.cps_network.specs.Pairs.{list_at, successor}
+use Rattle.cps_theory.specs.UndominatedPairs.{InPairOrder, sweep}
+use Rattle.cps_network.specs.Pairs.{list_at, pair_at, successor}
 use Rattle.delay_labels.specs.Lists.{some_before, successors, successors_in, IsGivenIn}
 use Rattle.cps_network.specs.shared.PairLists.{in_append, in_left, in_right}
 
@@ -77,6 +78,42 @@ range_gives p last rank lists from to q within g =
     let e : list_at (slice_range lists from to) (g.0 - from) ≡ list_at lists g.0 = r.1 ∙ ap (list_at lists) n in
     in_flat (successors p last rank) (slice_range lists from to) (g.0 - from) q lt (gives_in p last rank (list_at (slice_range lists from to) (g.0 - from)) g.3 q (subst (InPairs g.3) (sym e) g.4) g.5)
 
+-- ---- one pair more of a list
+
+pub one_more : (p : Problem) (last rank : ℕ) (pairs into more whole : List Pair) (i : ℕ) (q : Pair) → i < length pairs → successor p last (pair_at pairs i) rank ≡ Some q → more ≡ into ++ q ∷ []
+    → into ++ successors p last rank (drop i pairs) ≡ whole → more ++ successors p last rank (drop (i + 1) pairs) ≡ whole
+one_more p last rank pairs into more whole i q lt lands put is =
+    let rest = successors p last rank (drop (i + 1) pairs) in
+    let step : successors p last rank (drop i pairs) ≡ q ∷ rest =
+    at_drop_more (successors p last rank) pairs i (0, 0) lt ∙ ap (λ (o : Option Pair). some_before o rest) lands in
+    ap (λ (l : List Pair). l ++ rest) put ∙ append_assoc into (q ∷ []) rest ∙ ap (λ (l : List Pair). into ++ l) (sym step) ∙ is
+
+pub none_more : (p : Problem) (last rank : ℕ) (pairs into more whole : List Pair) (i : ℕ) → i < length pairs → successor p last (pair_at pairs i) rank ≡ None → more ≡ into
+    → into ++ successors p last rank (drop i pairs) ≡ whole → more ++ successors p last rank (drop (i + 1) pairs) ≡ whole
+none_more p last rank pairs into more whole i lt lands same is =
+    let rest = successors p last rank (drop (i + 1) pairs) in
+    let step : successors p last rank (drop i pairs) ≡ rest =
+    at_drop_more (successors p last rank) pairs i (0, 0) lt ∙ ap (λ (o : Option Pair). some_before o rest) lands in
+    ap (λ (l : List Pair). l ++ rest) same ∙ ap (λ (l : List Pair). into ++ l) (sym step) ∙ is
+
+pub sweep_more : (pairs into more whole : List Pair) (i least : ℕ) → i < length pairs → (pair_at pairs i).1 < least → more ≡ into ++ pair_at pairs i ∷ []
+    → into ++ sweep least (drop i pairs) ≡ whole → more ++ sweep (pair_at pairs i).1 (drop (i + 1) pairs) ≡ whole
+sweep_more pairs into more whole i least lt cheaper put is =
+    let q = pair_at pairs i in
+    let rest = sweep q.1 (drop (i + 1) pairs) in
+    let step : sweep least (drop i pairs) ≡ q ∷ rest =
+    at_drop_more (sweep least) pairs i (0, 0) lt ∙ ap (λ (b : Bool). cond b (q ∷ rest) (sweep least (drop (i + 1) pairs))) (lt-ltb q.1 least cheaper) in
+    ap (λ (l : List Pair). l ++ rest) put ∙ append_assoc into (q ∷ []) rest ∙ ap (λ (l : List Pair). into ++ l) (sym step) ∙ is
+
+pub sweep_past : (pairs into whole : List Pair) (i least : ℕ) → i < length pairs → least ≤ (pair_at pairs i).1
+    → into ++ sweep least (drop i pairs) ≡ whole → into ++ sweep least (drop (i + 1) pairs) ≡ whole
+sweep_past pairs into whole i least lt dear is =
+    let q = pair_at pairs i in
+    let rest = sweep least (drop (i + 1) pairs) in
+    let step : sweep least (drop i pairs) ≡ rest =
+    at_drop_more (sweep least) pairs i (0, 0) lt ∙ ap (λ (b : Bool). cond b (q ∷ sweep q.1 (drop (i + 1) pairs)) rest) (le-ltb q.1 least dear) in
+    ap (λ (l : List Pair). into ++ l) (sym step) ∙ is
+
 -- ---- one list more of a range
 
 pub range_more : (p : Problem) (last rank : ℕ) (into more : List Pair) (lists : List (List Pair)) (from i : ℕ) → from ≤ i → i < length lists
@@ -108,3 +145,25 @@ each_more P lists more pairs i e long old one = (
         )
   ],
 )
+
+-- ---- pairs in order
+
+-- a pair before others in order, the first of which it may precede
+pub order_more : (a b : Pair) (ps : List Pair) → (a.0 < b.0) ⊎ ((a.0 ≡ b.0) × (a.1 ≤ b.1)) → InPairOrder (b ∷ ps) → InPairOrder (a ∷ b ∷ ps)
+order_more a b ps low up = (before, up)
+  where
+    behind : (q : Pair) → (a.0 < b.0) ⊎ ((a.0 ≡ b.0) × (a.1 ≤ b.1)) → (b.0 < q.0) ⊎ ((b.0 ≡ q.0) × (b.1 ≤ q.1)) → (a.0 < q.0) ⊎ ((a.0 ≡ q.0) × (a.1 ≤ q.1))
+    behind q (inl x) (inl y) = inl (omega (arith, x, y))
+    behind q (inl x) (inr y) = inl (let e = y.0 in omega (arith, x, e))
+    behind q (inr x) (inl y) = inl (let e = x.0 in omega (arith, e, y))
+    behind q (inr x) (inr y) = inr (x.0 ∙ y.0, (let c = x.1 in let d = y.1 in omega (arith, c, d)))
+
+    before : (q : Pair) → (q ≡ b) ⊎ InPairs q ps → (a.0 < q.0) ⊎ ((a.0 ≡ q.0) × (a.1 ≤ q.1))
+    before q (inl e) = subst (λ (z : Pair). (a.0 < z.0) ⊎ ((a.0 ≡ z.0) × (a.1 ≤ z.1))) (sym e) low
+    before q (inr i) = behind q low (up.0 q i)
+
+-- the same before what is left of a list
+pub order_at : (a : Pair) (pairs : List Pair) (i : ℕ) → i < length pairs → (a.0 < (pair_at pairs i).0) ⊎ ((a.0 ≡ (pair_at pairs i).0) × (a.1 ≤ (pair_at pairs i).1))
+    → InPairOrder (pair_at pairs i ∷ drop (i + 1) pairs) → InPairOrder (a ∷ drop i pairs)
+order_at a pairs i lt low up =
+    subst (λ (l : List Pair). InPairOrder (a ∷ l)) (sym (at_drop_more (λ (l : List Pair). l) pairs i (0, 0) lt)) (order_more a (pair_at pairs i) (drop (i + 1) pairs) low up)

@@ -1,9 +1,9 @@
 -- The pairs of a window of the next stage, from those of the windows that lead to it.
 use Rattle.std.proofs.Common.{◌≡◌, ℕ, suc, ◌+◌, ◌-◌, ◌<◌, ◌≤◌, ◌⊎◌, inl, inr, List, [], ◌∷◌, ◌++◌, length, get_or, Option, Some, None, true, refl, sym, ap, subst, ◌∙◌, arith}
-use Rattle.std.specs.Prelude.{ℤ, pos, ◌+ℤ◌, Contains, All, MatchOption, unwrap_or}
-use Rattle.std.specs.List.Sorted.{IsPermutation, IsSorted}
-use Rattle.std.specs.Ordering.{nat_cmp, ordering_then}
+use Rattle.std.specs.Prelude.{ℤ, pos, ◌+ℤ◌, Contains, All, IsSome, MatchOption}
+use Rattle.std.specs.List.Sorted.{IsPermutation}
 use Rattle.std.proofs.lemmas.List.Sorted.{All-permutation}
+use Rattle.std.proofs.lemmas.Option.{same_Some}
 use Rattle.std.proofs.lemmas.List.{get_or_default}
 use Rattle.std.proofs.lemmas.List.Elements.{Contains-get_or}
 use Rattle.cps_nodes.specs.Windows.{offset_at, shifted}
@@ -28,19 +28,14 @@ use Rattle.cps_network.specs.Permits.{IsSuccessor}
 use Rattle.cps_network.specs.shared.LeadingWindows.{Sources, successor_at, place_at, rank_of, leader_at, landable_at}
 use Rattle.cps_network.specs.Landable.{Attains}
 use Rattle.cps_network.specs.Pairs.{ArePairsOf, AreCosts, GivesPair, list_at, pair_at, successor}
+use Rattle.delay_labels.specs.Bounds.{beyond_costs, most_before}
 use Rattle.delay_labels.specs.Parts.{IsInDays}
 use Rattle.delay_labels.specs.Lists.{IsGivenIn, successors_in}
+use Rattle.delay_labels.specs.Sources.{GivesNone, IsFirstSource}
 use Rattle.cps_network.specs.shared.PairSteps.{in_at, at_in, next_attained}
-use Rattle.cps_network.specs.shared.PairLists.{all_in, in_permuted, permuted_in, sorted_in_order}
+use Rattle.cps_network.specs.shared.PairLists.{all_in, in_permuted, permuted_in}
 use Rattle.delay_labels.proofs.ListLemmas.{given_in_range, range_gives}
 use Rattle.delay_labels.proofs.CostLemmas.{attained_small}
-
--- no pair of a list has this successor; the first that has it stands at this index
-abbrev pub GivesNone : Problem → ℕ → ℕ → List Pair → Pair → Type 0
-GivesNone p l r pairs q = (i : ℕ) → i < length pairs → successor p l (pair_at pairs i) r ≡ Some q → ⊥
-
-abbrev pub GivesFirst : Problem → ℕ → ℕ → List Pair → Pair → ℕ → Type 0
-GivesFirst p l r pairs q index = (index < length pairs) × (successor p l (pair_at pairs index) r ≡ Some q) × ((i : ℕ) → i < index → successor p l (pair_at pairs i) r ≡ Some q → ⊥)
 
 module _ (p : Problem) (wf : IsWellFormed p) (w stage : ℕ) (before : List (List ℤ)) (v : List ℤ) (from to : ℕ) (range : Sources p w stage before v from to) (lists : List (List Pair)) (are : AreCosts p (stage, before) lists) (days : (i : ℕ) → All IsInDays (list_at lists i)) (l r : ℕ) (leader_is : pos l ≡ pos stage +ℤ offset_at (node_at before from) (w - 1)) (rank_is : pos r ≡ pos (suc stage) +ℤ offset_at v (w - 1)) where
   -- few flights have landed
@@ -57,7 +52,7 @@ module _ (p : Problem) (wf : IsWellFormed p) (w stage : ℕ) (before : List (Lis
   listed_attained j lt o i = (((are.pairs j lt).undominated o).0 i).attained
 
   -- what a listed pair costs leaves room for one landing more
-  pub listed_small : (j : ℕ) → j < length before → All (λ (q : Pair). q.1 ≤ 4277687395) (list_at lists j)
+  pub listed_small : (j : ℕ) → j < length before → All (λ (q : Pair). q.1 ≤ most_before) (list_at lists j)
   listed_small j lt i d within =
       let o : Pair = get_or (list_at lists j) i d in
       let has : InPairs (get_or (list_at lists j) i d) (list_at lists j) = at_in (list_at lists j) i (get_or (list_at lists j) i d) within (get_or_default (list_at lists j) i (0, 0) d within) in
@@ -82,7 +77,7 @@ module _ (p : Problem) (wf : IsWellFormed p) (w stage : ℕ) (before : List (Lis
       subst (λ (y : List ℤ). Attains p (suc stage) y q) (sym g.0.2)
       (next_attained p range.laws.network (stage, node_at before j) o g.0.0 q (listed_attained j lt o i) g.0.1 g.1)
 
-  given_small : (q : Pair) → q.0 ≤ last_second → IsGivenIn p l r lists from to q → q.1 < 4294967295
+  given_small : (q : Pair) → q.0 ≤ last_second → IsGivenIn p l r lists from to q → q.1 < beyond_costs
   given_small q low g = let s = attained_small p wf (suc stage) v q (given_attained q g) low in omega (arith, s, few)
 
   -- which pair of which place gives a successor
@@ -120,22 +115,30 @@ module _ (p : Problem) (wf : IsWellFormed p) (w stage : ℕ) (before : List (Lis
         sym (ap (λ (y : ℕ). successor p y (pair_at (list_at lists j) index) g.rank) lead ∙ ap (λ (y : ℕ). successor p l (pair_at (list_at lists j) index) y) same) ∙ g.lands,
       )
 
-  -- what is found first in the range is the first place and index that give the pair
-  pub first_source : (q : Pair) (j index : ℕ) → GivesPair p (stage, before) lists v q j index → (found : Option (ℕ × ℕ))
-      → MatchOption found ((k : ℕ) → from ≤ k → k < to → GivesNone p l r (list_at lists k) q)
-      (λ y. (k : ℕ) × (from ≤ k) × (k < to) × ((y.0 ≡ k) × GivesFirst p l r (list_at lists k) q y.1) × ((i : ℕ) → from ≤ i → i < k → GivesNone p l r (list_at lists i) q))
-      → GivesPair p (stage, before) lists v q (unwrap_or found (from, 0)).0 (unwrap_or found (from, 0)).1
-      × ((place i : ℕ) → (place < (unwrap_or found (from, 0)).0) ⊎ ((place ≡ (unwrap_or found (from, 0)).0) × (i < (unwrap_or found (from, 0)).1)) → GivesPair p (stage, before) lists v q place i → ⊥)
-  first_source q j index given None none = let g = given_at q j index given in absurd (none j g.0 g.1 index g.2 g.3)
-  first_source q j index given (Some (place, i)) (k, lo, hi, (same, (within, lands, first)), none) = (
-    subst (λ (n : ℕ). GivesPair p (stage, before) lists v q n i) (sym same) (gives_at q k i lo hi within lands),
-    λ n m below other.
-        let g = given_at q n m other in
-        elim below [
-          | inl lt ↦ none n g.0 (omega (arith, lt, same)) m g.2 g.3
-          | inr at ↦ first m at.1 (subst (λ (o : ℕ). successor p l (pair_at (list_at lists o) m) r ≡ Some q) (at.0 ∙ same) g.3)
-        ],
-  )
+  -- where some place and index give the pair, some are found in the range
+  pub source_known : (q : Pair) (j index : ℕ) → GivesPair p (stage, before) lists v q j index → (found : Option (ℕ × ℕ))
+      → MatchOption found ((i : ℕ) → from ≤ i → i < to → GivesNone p l r (list_at lists i) q) (IsFirstSource p l r lists from to q) → IsSome found
+  source_known q j index given None none = let g = given_at q j index given in absurd (none j g.0 g.1 index g.2 g.3)
+  source_known q j index given (Some at) first = refl
+
+  -- what is found is the first place and index that give the pair
+  abbrev IsFirstToGive : Pair → ℕ × ℕ → Type 0
+  IsFirstToGive q at = GivesPair p (stage, before) lists v q at.0 at.1
+      × ((place i : ℕ) → (place < at.0) ⊎ ((place ≡ at.0) × (i < at.1)) → GivesPair p (stage, before) lists v q place i → ⊥)
+
+  pub first_to_give : (q : Pair) (found : Option (ℕ × ℕ)) (at : ℕ × ℕ)
+      → MatchOption found ((i : ℕ) → from ≤ i → i < to → GivesNone p l r (list_at lists i) q) (IsFirstSource p l r lists from to q) → found ≡ Some at → IsFirstToGive q at
+  first_to_give q None at none e = absurd (cc)
+  first_to_give q (Some (place, i)) at (lo, hi, (within, lands, first), none) e =
+      subst (IsFirstToGive q) (same_Some (place, i) at e) (
+        gives_at q place i lo hi within lands,
+        λ n m below other.
+            let g = given_at q n m other in
+            elim below [
+              | inl lt ↦ none n g.0 lt m g.2 g.3
+              | inr at ↦ first m at.1 (subst (λ (o : ℕ). successor p l (pair_at (list_at lists o) m) r ≡ Some q) at.0 g.3)
+            ],
+      )
 
   abbrev Lists : Node → Pair → Type 0
   Lists n q = (j : ℕ) × (j < length before) × (n ≡ (stage, node_at before j)) × InPairs q (list_at lists j)
@@ -195,32 +198,32 @@ module _ (p : Problem) (wf : IsWellFormed p) (w stage : ℕ) (before : List (Lis
 
   -- of the successors in order, those that are cheaper than all before them
   pub swept_pairs : (sorted : List Pair) → InPairOrder sorted → All IsInDays sorted → ((q : Pair) → InPairs q sorted → IsGivenIn p l r lists from to q) → ((q : Pair) → IsGivenIn p l r lists from to q → InPairs q sorted)
-      → ArePairsOf p (suc stage) v (sweep 4294967295 sorted)
+      → ArePairsOf p (suc stage) v (sweep beyond_costs sorted)
   swept_pairs sorted up in_days made all =
-      kept_pairs (sweep 4294967295 sorted)
-      (node_kept (sweep 4294967295 sorted) (λ q i. made q (sweep_subset 4294967295 sorted q i)) (λ q g.
+      kept_pairs (sweep beyond_costs sorted)
+      (node_kept (sweep beyond_costs sorted) (λ q i. made q (sweep_subset beyond_costs sorted q i)) (λ q g.
       let i = all q g in
-      elim (sweep_covers 4294967295 sorted up q i) [
+      elim (sweep_covers beyond_costs sorted up q i) [
         | inl c ↦ c
         | inr high ↦ absurd (let s = given_small q (all_in IsInDays sorted in_days q i) g in omega (arith, s, high))
       ]))
-      (sweep_staircase 4294967295 sorted up)
+      (sweep_staircase beyond_costs sorted up)
 
 -- ---- as the call has it
 
 pub pairs_here : (p : Problem) → IsWellFormed p → (w : ℕ) (before after : ℕ × List (List ℤ)) (v : List ℤ) (from to : ℕ) → Sources p w before.0 before.1 v from to → (lists costs more : List (List Pair)) → AreCosts p before lists
     → ((i : ℕ) → All IsInDays (list_at lists i)) → (l r : ℕ) → pos l ≡ pos before.0 +ℤ offset_at (node_at before.1 from) (w - 1) → pos r ≡ pos (suc before.0) +ℤ offset_at v (w - 1) → after.0 ≡ before.0 + 1 → to ≤ length lists
-    → (found sorted : List Pair) → found ≡ successors_in p l r lists from to → IsPermutation found sorted → IsSorted (λ (x y : Pair). ordering_then (nat_cmp x.0 y.0) (nat_cmp x.1 y.1)) sorted → All IsInDays found → more ≡ costs ++ sweep 4294967295 sorted ∷ []
+    → (found sorted : List Pair) → found ≡ successors_in p l r lists from to → IsPermutation found sorted → InPairOrder sorted → All IsInDays found → more ≡ costs ++ sweep beyond_costs sorted ∷ []
     → (pairs : List Pair) × (more ≡ costs ++ pairs ∷ []) × ArePairsOf p after.0 v pairs × ((q : Pair) → InPairs q pairs → (place : ℕ) × (index : ℕ) × GivesPair p before lists v q place index)
 pairs_here p wf w before after v from to range lists costs more are days l r leader_is rank_is number within found sorted is moved up in_days e =
     let f : suc before.0 ≡ after.0 = omega (arith, number) in
     let made : (q : Pair) → InPairs q sorted → IsGivenIn p l r lists from to q = λ q i. given_in_range p l r lists from to q (subst (InPairs q) is (permuted_in found sorted moved q i)) in
     let all : (q : Pair) → IsGivenIn p l r lists from to q → InPairs q sorted = λ q g. in_permuted found sorted moved q (subst (InPairs q) (sym is) (range_gives p l r lists from to q within g)) in (
-      sweep 4294967295 sorted,
+      sweep beyond_costs sorted,
       e,
-      subst (λ (s : ℕ). ArePairsOf p s v (sweep 4294967295 sorted)) f
-          (swept_pairs p wf w before.0 before.1 v from to range lists are days l r leader_is rank_is sorted (sorted_in_order sorted up) (All-permutation IsInDays found sorted moved in_days) made all),
-      λ q i. given_pair p wf w before.0 before.1 v from to range lists are days l r leader_is rank_is q (made q (sweep_subset 4294967295 sorted q i)),
+      subst (λ (s : ℕ). ArePairsOf p s v (sweep beyond_costs sorted)) f
+          (swept_pairs p wf w before.0 before.1 v from to range lists are days l r leader_is rank_is sorted up (All-permutation IsInDays found sorted moved in_days) made all),
+      λ q i. given_pair p wf w before.0 before.1 v from to range lists are days l r leader_is rank_is q (made q (sweep_subset beyond_costs sorted q i)),
     )
 
 -- the window that a pair comes from

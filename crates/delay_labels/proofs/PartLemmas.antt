@@ -4,14 +4,12 @@ use Rattle.std.specs.Prelude.{slice_range, All, nat_lt}
 use Rattle.std.proofs.lemmas.Bool.{lt-ltb, le-ltb}
 use Rattle.std.proofs.Math.Seq.{drop-append-add}
 use Rattle.std.proofs.lemmas.List.{length-append, map-append, length-take, length-drop, drop-append-le, take-append-le, drop_at, take_all}
-use Rattle.std.proofs.lemmas.List.Elements.{All-take, All-drop, All-head, All-tail, All-nil, All-append, All-push, All-weaker, All-map}
+use Rattle.std.proofs.lemmas.List.Elements.{All-take, All-drop, All-head, All-tail, All-nil, All-append, All-weaker, All-map}
 use Rattle.cps_theory.specs.Labels.{Pair}
 use Rattle.cps_theory.specs.UndominatedPairs.{sweep}
-use Rattle.cps_theory.specs.laws.Staircases.{sweep_subset}
 use Rattle.cps_network.specs.Pairs.{list_at}
 use Rattle.delay_labels.specs.Parts.{IsInDays, IsPart, lists_of, moved_by}
 use Rattle.delay_labels.specs.Lists.{has_some}
-use Rattle.cps_network.specs.shared.PairLists.{all_in, in_all}
 
 -- ---- as they are stored
 
@@ -53,29 +51,14 @@ part_has_some pairs x is = go (slice_range pairs x.0 x.1) (let a = length-take (
     go [] e = le-ltb x.0 x.1 (omega arith)
     go (q ∷ qs) e = lt-ltb x.0 x.1 (omega arith)
 
--- ---- one list more
+-- ---- one list more, as it is stored
 
-swept_in_days : (c : ℕ) (pairs sorted : List Pair) → All IsInDays pairs → All IsInDays sorted → All IsInDays (pairs ++ sweep c sorted)
-swept_in_days c pairs sorted a b = All-append IsInDays pairs (sweep c sorted) a (in_all IsInDays (sweep c sorted) (λ q i. all_in IsInDays sorted b q (sweep_subset c sorted q i)))
-
-parts_more : (n m : ℕ) (parts : List (ℕ × ℕ)) → All (IsPart n) parts → n ≤ m → All (IsPart m) (parts ++ (n, m) ∷ [])
-parts_more n m parts all le =
-    All-push (IsPart m) parts (n, m) (All-weaker (IsPart n) (IsPart m) (λ x h. (h.0, (let a = h.1 in omega arith))) parts all) (le, omega arith)
-
--- one list more, as it is stored
 module _ (c : ℕ) (pairs after sorted : List Pair) (parts parts' : List (ℕ × ℕ)) (from to : ℕ) (grown : after ≡ pairs ++ sweep c sorted) (begin : from ≡ length pairs) (end : to ≡ length after) (more : parts' ≡ parts ++ (from, to) ∷ []) (all : All (IsPart (length pairs)) parts) where
   part_is : parts' ≡ parts ++ (length pairs, length (pairs ++ sweep c sorted)) ∷ []
   part_is = more ∙ ap₂ (λ (a b : ℕ). parts ++ (a, b) ∷ []) begin (end ∙ ap length grown)
 
   pub stored_more : (lists : List (List Pair)) → lists_of pairs parts ≡ lists → lists_of after parts' ≡ lists ++ sweep c sorted ∷ []
   stored_more lists is = ap₂ lists_of grown part_is ∙ lists_more pairs (sweep c sorted) parts all ∙ ap (λ (ls : List (List Pair)). ls ++ sweep c sorted ∷ []) is
-
-  pub stored_within : All IsInDays pairs → All IsInDays sorted → All IsInDays after × All (IsPart (length after)) parts'
-  stored_within a b = (
-    subst (All IsInDays) (sym grown) (swept_in_days c pairs sorted a b),
-    subst (λ (l : List Pair). All (IsPart (length l)) parts') (sym grown)
-        (subst (All (IsPart (length (pairs ++ sweep c sorted)))) (sym part_is) (parts_more (length pairs) (length (pairs ++ sweep c sorted)) parts all (let l = length-append pairs (sweep c sorted) in omega arith))),
-  )
 
 -- ---- the lists of another behind them
 

@@ -6,6 +6,7 @@ ghost use Rattle.cps_theory.specs.UndominatedPairs.{sweep};
 ghost use Rattle.landing_rules.specs.Problem.{Problem};
 ghost use Rattle.cps_network.specs.Landable.{HasEachLandable};
 ghost use Rattle.cps_network.specs.Pairs.{list_at, pair_at, AreCosts, HoldsCosts};
+ghost use Rattle.delay_labels.specs.Bounds.{beyond_costs};
 ghost use Rattle.delay_labels.specs.Parts.{IsInDays, moved_by};
 ghost use Rattle.delay_labels.specs.Lists.{known_of};
 
@@ -52,11 +53,11 @@ fn put_behind(
 }
 
 impl Costs {
-    // No list, with room for so many lists of one pair.
-    pub(crate) fn with_room(alloc: Global, lists: usize) -> Result<Costs, AllocError>
+    // No list, with room for so many lists and so many pairs.
+    pub(crate) fn with_room(alloc: Global, lists: usize, pairs: usize) -> Result<Costs, AllocError>
         ensures { IfOk result (λ costs. costs ≡ []) }
     {
-        let pairs = Vec::with_capacity(alloc, lists)?;
+        let pairs = Vec::with_capacity(alloc, pairs)?;
         let parts = Vec::with_capacity(alloc, lists)?;
         Ok(Costs { pairs, parts })
     }
@@ -98,6 +99,11 @@ impl Costs {
         self.pairs[from + j]
     }
 
+    // How many pairs are stored: those of all lists, and of lists that were left out.
+    pub(crate) fn stored(&self) -> usize {
+        self.pairs.len()
+    }
+
     // The list of the window at place i.
     pub(crate) fn list(&self, i: usize) -> &[(u32, u32)]
         requires { i < length self.now }
@@ -108,19 +114,15 @@ impl Costs {
         &self.pairs[from..to]
     }
 
-    // With one list more: of pairs in order, those that are cheaper than all before them.
-    pub(crate) fn with_list(self, sorted: &[(u32, u32)]) -> Result<Costs, AllocError>
+    // Adds a list: of pairs in order, those that are cheaper than all before them.
+    pub(crate) fn add_list(&mut self, sorted: &[(u32, u32)]) -> Result<(), AllocError>
         requires { All IsInDays sorted.now }
-        ensures { IfOk result (λ costs. costs ≡ self ++ sweep 4294967295 sorted.now ∷ []) }
+        ensures { OnOk result (self.new ≡ self.old ++ sweep beyond_costs sorted.now ∷ []) }
     {
-        let Costs {
-            mut pairs,
-            mut parts,
-        } = self;
-        let from = pairs.len();
-        keep_falling(sorted, &mut pairs)?;
-        parts.push((from, pairs.len()))?;
-        Ok(Costs { pairs, parts })
+        let from = self.pairs.len();
+        keep_falling(sorted, &mut self.pairs)?;
+        self.parts.push((from, self.pairs.len()))?;
+        Ok(())
     }
 
     // With the lists of another behind its own.
@@ -140,6 +142,7 @@ impl Costs {
         } = others;
         let count = pairs.len();
         pairs.append(&mut more)?;
+        // All pairs stand in one Vec, so that the moved parts have places in it.
         let _few = pairs.len();
         put_behind(&mut parts, &behind, count)?;
         Ok(Costs { pairs, parts })

@@ -7,12 +7,13 @@ ghost use Rattle.cps_theory.specs.Labels.{InPairs, Pair};
 ghost use Rattle.cps_network.specs.Landable.{HasEachLandable};
 ghost use Rattle.cps_network.specs.Lists.{node_at};
 ghost use Rattle.cps_network.specs.Permits.{IsNextOf};
-ghost use Rattle.cps_network.specs.WindowLaws.{WindowLaws};
 ghost use Rattle.cps_network.specs.Pairs.{list_at, AreCosts, HoldsCosts, GivesPair};
-ghost use Rattle.delay_labels.specs.Runs.{run_length, IsListOf};
+ghost use Rattle.delay_labels.specs.Followers.{IsFollower};
+ghost use Rattle.delay_labels.specs.Runs.{run_length, IsListOf, IsStageBehind};
 
 use crate::costs::Costs;
-use crate::merge::collect_successors;
+use crate::follower::{Follower, Lead, follower_of};
+use crate::merge::{collect_successors, put_in_order};
 use cps_base::{Ledger, Steps};
 use cps_network::{Stage, last_rank, prefix_laws};
 use cps_nodes::window_laws;
@@ -25,34 +26,50 @@ use std::thread::Threads;
 // How many windows a run has, whose lists one thread makes. The last run may be shorter.
 const RUN: usize = 1024;
 
-// With the list of the window at place i of a stage, from the lists of those that lead to it. `found` is room to work in.
-fn with_pairs<const W: usize>(
-    problem: &Problem,
-    before: &Stage<W>,
-    labels: &Costs,
-    stage: &Stage<W>,
+// From what the lists of a stage are made: the stage before with its pairs.
+#[derive(Clone, Copy)]
+struct Filling<'a, const W: usize> {
+    problem: &'a Problem,
+    before: &'a Stage<W>,
+    labels: &'a Costs,
+    stage: &'a Stage<W>,
+}
+
+// Adds the list of the window at place i of a stage, from the lists of those that lead to it. `found` is room to work in.
+fn add_list<const W: usize>(
+    filling: &Filling<'_, W>,
     i: usize,
-    costs: Costs,
+    follower: &mut Follower,
+    costs: &mut Costs,
     found: &mut Vec<(u32, u32)>,
-) -> Result<Costs, AllocError>
-    requires width { W ≡ 2 * problem.now.k + 1 }
-    requires laws { WindowLaws problem.now W }
-    requires before { HoldsCosts problem.now before.now labels.now }
-    requires number { stage.now.0 ≡ before.now.0 + 1 }
-    requires next { IsNextOf problem.now before.now.0 before.now.1 stage.now.1 }
-    requires within { i < length stage.now.1 }
-    ensures { IfOk result (λ more. (pairs : List Pair) × (more ≡ costs ++ pairs ∷ [])
-        × IsListOf problem.now before.now labels.now stage.now i pairs) }
+) -> Result<(), AllocError>
+    requires behind { IsStageBehind filling.now.problem.now W filling.now.before.now
+        filling.now.labels.now filling.now.stage.now }
+    requires within { i < length filling.now.stage.now.1 }
+    requires follower { IsFollower filling.now.problem.now follower.old }
+    ensures list { OnOk result ((pairs : List Pair) × (costs.new ≡ costs.old ++ pairs ∷ [])
+        × IsListOf filling.now.problem.now filling.now.before.now filling.now.labels.now
+        filling.now.stage.now i pairs) }
+    ensures follower { IsFollower filling.now.problem.now follower.new }
 {
+    let Filling {
+        problem,
+        before,
+        labels,
+        stage,
+    } = *filling;
+    // What their contracts say is needed below: of the problem that it is well formed, of the lists that seconds are in the days.
     let _few = problem.len();
     let _in_days = labels.len();
-    let (from, to) = stage.sources(before, i);
-    let last = last_rank(&before.node(from), before.number());
+    let range = stage.sources(before, i);
+    let last = last_rank(&before.node(range.0), before.number());
     let rank = last_rank(&stage.node(i), stage.number());
-    collect_successors(problem, last, rank, labels, from, to, found)?;
-    found.sort_unstable();
-    let more = costs.with_list(found.as_slice())?;
-    Ok(more)
+    follower.turn_to(problem, rank);
+    let lead = Lead::of(problem, last, rank);
+    collect_successors(problem, lead, follower, labels, range, found)?;
+    put_in_order(found);
+    costs.add_list(found.as_slice())?;
+    Ok(())
 }
 
 // How many runs so many windows have.
@@ -67,31 +84,30 @@ fn run_count(windows: usize) -> usize
 // The lists of so many windows of a stage from a place on, each behind the gate.
 fn fill_run<const W: usize, G: Gate>(
     alloc: Global,
-    problem: &Problem,
-    before: &Stage<W>,
-    labels: &Costs,
-    stage: &Stage<W>,
+    filling: &Filling<'_, W>,
     from: usize,
     count: usize,
     gate: &G,
 ) -> Result<Costs, AllocError>
-    requires width { W ≡ 2 * problem.now.k + 1 }
-    requires laws { WindowLaws problem.now W }
-    requires before { HoldsCosts problem.now before.now labels.now }
-    requires number { stage.now.0 ≡ before.now.0 + 1 }
-    requires next { IsNextOf problem.now before.now.0 before.now.1 stage.now.1 }
-    requires within { from + count ≤ length stage.now.1 }
+    requires behind { IsStageBehind filling.now.problem.now W filling.now.before.now
+        filling.now.labels.now filling.now.stage.now }
+    requires within { from + count ≤ length filling.now.stage.now.1 }
     ensures one_each { IfOk result (λ costs. length costs ≡ count) }
     ensures lists { IfOk result (λ costs. (m : ℕ) → m < count
-        → IsListOf problem.now before.now labels.now stage.now (from + m) (list_at costs m)) }
+        → IsListOf filling.now.problem.now filling.now.before.now filling.now.labels.now
+        filling.now.stage.now (from + m) (list_at costs m)) }
 {
-    let _few = stage.len();
-    let mut costs = Costs::with_room(alloc, count)?;
+    // A stage has so few windows that their places are numbers of the gate.
+    let _few = filling.stage.len();
+    // A stage has about as many pairs as the one before.
+    let mut costs = Costs::with_room(alloc, count, filling.labels.stored())?;
     let mut found = Vec::with_capacity(alloc, 16)?;
+    let mut followers = [Follower::blank(); 8];
     for m in 0..count {
         let i = from + m;
         gate.pass(i as u32);
-        costs = with_pairs(problem, before, labels, stage, i, costs, &mut found)?;
+        let follower = follower_of(&filling.stage.node(i));
+        add_list(filling, i, &mut followers[follower], &mut costs, &mut found)?;
     }
     Ok(costs)
 }
@@ -100,11 +116,68 @@ fn fill_run<const W: usize, G: Gate>(
 fn joined(alloc: Global, runs: Vec<Costs>) -> Result<Costs, AllocError>
     ensures { IfOk result (λ costs. costs ≡ flat_map (λ lists. lists) runs.items) }
 {
-    let mut costs = Costs::with_room(alloc, 0)?;
+    let mut costs = Costs::with_room(alloc, 0, 0)?;
     for run in runs {
         costs = costs.with_lists(run)?;
     }
     Ok(costs)
+}
+
+// The lists of a stage by runs that may be made at once.
+fn fill_runs<const W: usize, R: Threads + Sync, G: Gate + Sync>(
+    rt: &R,
+    alloc: Global,
+    filling: &Filling<'_, W>,
+    gate: &G,
+) -> Result<Costs, AllocError>
+    requires { IsStageBehind filling.now.problem.now W filling.now.before.now
+        filling.now.labels.now filling.now.stage.now }
+    ensures one_each { IfOk result (λ costs. length costs ≡ length filling.now.stage.now.1) }
+    ensures lists { IfOk result (λ costs. (i : ℕ) → i < length filling.now.stage.now.1
+        → IsListOf filling.now.problem.now filling.now.before.now filling.now.labels.now
+        filling.now.stage.now i (list_at costs i)) }
+{
+    let windows = filling.stage.len();
+    let run = move |j: usize| -> Result<Costs, AllocError>
+        requires { IsStageBehind filling.now.problem.now W filling.now.before.now
+            filling.now.labels.now filling.now.stage.now
+            × (j * run_length < windows) × (windows ≡ length filling.now.stage.now.1)
+            × (windows < 2 ^ 32) }
+        ensures { IfOk result (λ costs.
+            (length costs ≡ min run_length (windows - j * run_length))
+            × ((m : ℕ) → m < length costs
+            → IsListOf filling.entry.now.problem.now filling.entry.now.before.now
+            filling.entry.now.labels.now filling.entry.now.stage.now
+            (j * run_length + m) (list_at costs m))) }
+    {
+        let from = j * RUN;
+        let count = RUN.min(windows - from);
+        fill_run(alloc, filling, from, count, gate)
+    };
+    let runs = fill_lists(rt, alloc, run_count(windows), &FreeGate, &run)?;
+    let costs = joined(alloc, runs)?;
+    Ok(costs)
+}
+
+// The lists of a stage. Those of one run are made by the caller's thread.
+fn fill_lists_of<const W: usize, R: Threads + Sync, G: Gate + Sync>(
+    rt: &R,
+    alloc: Global,
+    filling: &Filling<'_, W>,
+    gate: &G,
+) -> Result<Costs, AllocError>
+    requires { IsStageBehind filling.now.problem.now W filling.now.before.now
+        filling.now.labels.now filling.now.stage.now }
+    ensures one_each { IfOk result (λ costs. length costs ≡ length filling.now.stage.now.1) }
+    ensures lists { IfOk result (λ costs. (i : ℕ) → i < length filling.now.stage.now.1
+        → IsListOf filling.now.problem.now filling.now.before.now filling.now.labels.now
+        filling.now.stage.now i (list_at costs i)) }
+{
+    let windows = filling.stage.len();
+    if RUN < windows {
+        return fill_runs(rt, alloc, filling, gate);
+    }
+    fill_run(alloc, filling, 0, windows, gate)
 }
 
 /// The pairs of a stage: for each window the undominated pairs of the second at which a legal prefix that ends in it lands its
@@ -131,17 +204,23 @@ pub fn fill_costs_alone<const W: usize>(
         × GivesPair problem.now before.now labels.now (node_at stage.now.1 i) q place index) }
     ensures landable { HasEachLandable problem.now stage.now }
 {
+    // The problem is well formed, and so the width one of windows.
     let _near = problem.head();
     prefix_laws::<W>(problem);
     window_laws::<W>();
-    let windows = stage.len();
-    let costs = fill_run(alloc, problem, before, labels, stage, 0, windows, &FreeGate)?;
+    let filling = Filling {
+        problem,
+        before,
+        labels,
+        stage,
+    };
+    let costs = fill_run(alloc, &filling, 0, stage.len(), &FreeGate)?;
     Ok(costs)
 }
 
 /// The same as `fill_costs_alone`, by runs of 1,024 windows, the last shorter, that may be made at once, and it ticks once a
-/// window. The window at place i passes the gate as number i before its list is made. The ticks are the caller's thread's own.
-/// Where memory is refused to one run the lists of the others are given back.
+/// window. The caller's thread makes a lone run. The window at place i passes the gate as number i before its list is made. The
+/// ticks are the caller's thread's own. Where memory is refused to one run the lists of the others are given back.
 pub fn fill_costs<const W: usize, R: Threads + Sync, G: Gate + Sync, L: Ledger>(
     rt: &R,
     alloc: Global,
@@ -165,28 +244,17 @@ pub fn fill_costs<const W: usize, R: Threads + Sync, G: Gate + Sync, L: Ledger>(
     ensures steps { OnOk result (L.count steps.new ≡ raised_by (length stage.now.1)
         (L.count steps.old)) }
 {
+    // The problem is well formed, and so the width one of windows.
     let _near = problem.head();
     prefix_laws::<W>(problem);
     window_laws::<W>();
-    let windows = stage.len();
-    let run = move |j: usize| -> Result<Costs, AllocError>
-        requires { (W ≡ 2 * problem.now.k + 1) × WindowLaws problem.now W
-            × HoldsCosts problem.now before.now labels.now
-            × (stage.now.0 ≡ before.now.0 + 1)
-            × IsNextOf problem.now before.now.0 before.now.1 stage.now.1
-            × (j * run_length < windows) × (windows ≡ length stage.now.1) × (windows < 2 ^ 32) }
-        ensures { IfOk result (λ costs.
-            (length costs ≡ min run_length (windows - j * run_length))
-            × ((m : ℕ) → m < length costs
-            → IsListOf problem.entry.now before.entry.now labels.entry.now stage.entry.now
-            (j * run_length + m) (list_at costs m))) }
-    {
-        let from = j * RUN;
-        let count = RUN.min(windows - from);
-        fill_run(alloc, problem, before, labels, stage, from, count, gate)
+    let filling = Filling {
+        problem,
+        before,
+        labels,
+        stage,
     };
-    let runs = fill_lists(rt, alloc, run_count(windows), &FreeGate, &run)?;
-    let costs = joined(alloc, runs)?;
-    steps.tick(windows as u64);
+    let costs = fill_lists_of(rt, alloc, &filling, gate)?;
+    steps.tick(stage.len() as u64);
     Ok(costs)
 }

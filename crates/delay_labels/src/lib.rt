@@ -6,6 +6,7 @@
 
 mod costs;
 mod fill;
+mod follower;
 mod merge;
 mod source;
 

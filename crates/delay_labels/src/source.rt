@@ -2,7 +2,9 @@
 
 ghost use Rattle.std.specs.Prelude.{◌≡◌, ℕ, ◌+◌, ◌*◌, ◌<◌, ◌≤◌, ◌⊎◌, All, length, Some, MatchOption, IsTrue, ◌↔◌};
 ghost use Rattle.cps_network.specs.Pairs.{list_at, pair_at, successor, HoldsCosts, GivesPair};
+ghost use Rattle.delay_labels.specs.Bounds.{most_before};
 ghost use Rattle.delay_labels.specs.Parts.{IsInDays};
+ghost use Rattle.delay_labels.specs.Sources.{GivesNone, IsFirstSource};
 
 use crate::costs::Costs;
 use cps_network::{Stage, last_rank, prefix_laws, sources};
@@ -14,7 +16,7 @@ fn gives(problem: &Problem, last: u8, pair: (u32, u32), rank: u8, wanted: (u32, 
     requires last { last ≤ length problem.now.flights }
     requires rank { (1 ≤ rank) × (rank ≤ length problem.now.flights) }
     requires in_days { IsInDays pair }
-    requires cost { pair.1 ≤ 4277687395 }
+    requires cost { pair.1 ≤ most_before }
     ensures { IsTrue result ↔ (successor problem.now last pair rank ≡ Some wanted) }
 {
     match problem.landing_after(last, pair.0, rank) {
@@ -34,7 +36,7 @@ fn first_giving(
     requires last { last ≤ length problem.now.flights }
     requires rank { (1 ≤ rank) × (rank ≤ length problem.now.flights) }
     requires in_days { All IsInDays pairs.now }
-    requires costs { All (λ q. q.1 ≤ 4277687395) pairs.now }
+    requires costs { All (λ q. q.1 ≤ most_before) pairs.now }
     ensures { MatchOption result
         ((i : ℕ) → i < length pairs.now → successor problem.now last (pair_at pairs.now i) rank
         ≡ Some wanted → ⊥)
@@ -60,7 +62,7 @@ fn first_giving_at(
     requires last { last ≤ length problem.now.flights }
     requires rank { (1 ≤ rank) × (rank ≤ length problem.now.flights) }
     requires place { place < length labels.now }
-    requires costs { All (λ q. q.1 ≤ 4277687395) (list_at labels.now place) }
+    requires costs { All (λ q. q.1 ≤ most_before) (list_at labels.now place) }
     ensures { MatchOption result
         ((i : ℕ) → i < length (list_at labels.now place) → successor problem.now last
         (pair_at (list_at labels.now place) i) rank ≡ Some wanted → ⊥)
@@ -72,6 +74,28 @@ fn first_giving_at(
 {
     let index = first_giving(problem, last, rank, labels.list(place), wanted)?;
     Some((place, index))
+}
+
+// The first place of a range of lists, and the first index of the list there, whose pair has this successor.
+fn first_source(
+    problem: &Problem,
+    last: u8,
+    rank: u8,
+    labels: &Costs,
+    range: (usize, usize),
+    wanted: (u32, u32),
+) -> Option<(usize, usize)>
+    requires last { last ≤ length problem.now.flights }
+    requires rank { (1 ≤ rank) × (rank ≤ length problem.now.flights) }
+    requires range { range.1 ≤ length labels.now }
+    requires costs { (i : ℕ) → range.0 ≤ i → i < range.1
+        → All (λ q. q.1 ≤ most_before) (list_at labels.now i) }
+    ensures { MatchOption result
+        ((i : ℕ) → range.0 ≤ i → i < range.1
+        → GivesNone problem.now last rank (list_at labels.now i) wanted)
+        (IsFirstSource problem.now last rank labels.now range.0 range.1 wanted) }
+{
+    (range.0..range.1).find_map(|i| first_giving_at(problem, last, rank, labels, i, wanted))
 }
 
 /// The first place of a stage, and the first index of the list there, whose pair gives this pair to a window of the next
@@ -96,14 +120,13 @@ pub fn source_pair<const W: usize>(
         → (place < result.0) ⊎ ((place ≡ result.0) × (index < result.1))
         → GivesPair problem.now before.now labels.now node.now (second, cost) place index → ⊥ }
 {
+    // What their contracts say is needed below: of the problem that it is well formed, of the lists that seconds are in the days.
     let _near = problem.head();
     let _in_days = labels.len();
     prefix_laws::<W>(problem);
     window_laws::<W>();
-    let (from, to) = sources(before, node);
-    let last = last_rank(&before.node(from), before.number());
+    let range = sources(before, node);
+    let last = last_rank(&before.node(range.0), before.number());
     let rank = last_rank(node, before.number() + 1);
-    (from..to)
-        .find_map(|i| first_giving_at(problem, last, rank, labels, i, (second, cost)))
-        .unwrap_or((from, 0))
+    first_source(problem, last, rank, labels, range, (second, cost)).unwrap()
 }

@@ -32,6 +32,10 @@ pub fn fill_pieces<R: Threads + Sync, G: Gate + Sync, F: Fn(usize, &mut [u32]) +
     ensures { (i : ℕ) → i < length column.old
         → IsOfPart F.Fn f.now 0 (length column.old) i (slice_index column.new i) }
 {
+    if column.len() <= PIECE {
+        fill_lane(column, 0, gate, f);
+        return;
+    }
     let lane = move |start: usize, part: &mut [u32]|
         requires { (start + length part.now < 2 ^ 32)
             × AcceptsParts F.Fn f.now start (start + length part.now) }

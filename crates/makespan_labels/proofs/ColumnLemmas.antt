@@ -10,7 +10,7 @@ use Rattle.cps_network.specs.Landable.{IsLandable, HasEachLandable}
 use Rattle.cps_network.specs.Lists.{node_at}
 use Rattle.cps_network.specs.shared.KeptPlaces.{one_each_left, each_left, landable_left}
 use Rattle.makespan_labels.specs.Labels.{no_label, IsLabel, AreLabels, HoldsLabels}
-use Rattle.makespan_labels.specs.Columns.{IsEntry, IsLeastOf, is_known, known_of}
+use Rattle.makespan_labels.specs.Columns.{IsEntry, IsLabelOf, IsLeastOf, is_known, known_of}
 use Rattle.makespan_labels.specs.shared.NetworkSteps.{can_land, is_landable}
 
 -- ---- the least of a range
@@ -41,6 +41,10 @@ least_more labels from i least le is = elim (min_cases least (slice_index labels
 
 pub entry_least : (a b : ℕ) → IsEntry a → IsEntry b → IsEntry (min a b)
 entry_least a b x y = elim (min_cases a b) [ inl l ↦ subst IsEntry (sym l.0) x | inr r ↦ subst IsEntry (sym r.0) y ]
+
+pub entry_of : (landing : Option ℕ) (label : ℕ) → IsLabelOf landing label → IsEntry label
+entry_of None label of = inr of.is
+entry_of (Some t) label of = inl (omega (arith, of.is, of.in_days))
 
 -- ---- which labels are known
 

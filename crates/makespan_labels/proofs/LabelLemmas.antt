@@ -1,27 +1,22 @@
 -- The label of a window of the next stage, from the least label of the windows that lead to it.
-use Rattle.std.proofs.Common.{◌≡◌, ℕ, suc, ◌+◌, ◌-◌, ◌<◌, ◌≤◌, List, length, Option, Some, None, sym, ap, subst, ◌∙◌, arith, le_trans, true, false}
+use Rattle.std.proofs.Common.{◌≡◌, ℕ, suc, ◌+◌, ◌-◌, ◌<◌, ◌≤◌, List, length, Option, Some, None, refl, sym, ap, subst, ◌∙◌, arith, le_trans, true, false}
 use Rattle.std.proofs.lemmas.Option.{none-some, same_Some}
 use Rattle.std.specs.Prelude.{ℤ, pos, ◌+ℤ◌, slice_index, MatchOption, unwrap_or, nat_eq}
 use Rattle.std.specs.Option.{option_eq}
 use Rattle.cps_nodes.specs.Windows.{offset_at}
-use Rattle.std.proofs.lemmas.Int.{ints}
-use Rattle.wake_table.specs.declared.category.Category.{Category}
 use Rattle.cps_theory.specs.Feasible.{next_from}
-use Rattle.cps_theory.specs.RankLists.{of_rank}
 use Rattle.cps_theory.specs.laws.LeastObjective.{next_later}
-use Rattle.landing_joint.specs.RankedProblem.{no_waiting, ranked, start_at, landing_after}
+use Rattle.landing_joint.specs.RankedProblem.{ranked, landing_after}
 use Rattle.landing_joint.specs.shared.FirstOpen.{is_first_open}
 use Rattle.landing_rules.specs.Problem.{Problem}
 use Rattle.landing_rules.specs.Rules.{last_second}
 use Rattle.cps_network.specs.Lists.{node_at}
 use Rattle.cps_network.specs.Nodes.{latest}
 use Rattle.cps_network.specs.Permits.{IsSuccessor}
-use Rattle.cps_network.specs.shared.LeadingWindows.{Sources, landable_at, successor_at, place_of, place_at, rank_of, leader_at, leader_range}
-use Rattle.makespan_labels.specs.Columns.{IsEntry, IsLeastOf}
-use Rattle.makespan_labels.specs.Groups.{IsLead}
+use Rattle.cps_network.specs.shared.LeadingWindows.{Sources, landable_at, successor_at, place_of, place_at, rank_of, leader_at}
+use Rattle.makespan_labels.specs.Columns.{IsLabelOf, IsLeastOf}
 use Rattle.makespan_labels.specs.Labels.{no_label, CanLandAt, IsLabel, AreLabels, GivesLabel}
-use Rattle.makespan_labels.proofs.ColumnLemmas.{entry_small, some_from_eq, none_from_eq}
-use Rattle.makespan_labels.proofs.LeadLemmas.{can_started}
+use Rattle.makespan_labels.proofs.ColumnLemmas.{some_from_eq, none_from_eq}
 use Rattle.makespan_labels.specs.shared.NetworkSteps.{can_land, is_landable, ComesFrom, comes_from, lands_next}
 
 module _ (p : Problem) (w stage : ℕ) (before : List (List ℤ)) (v : List ℤ) (from to : ℕ) (range : Sources p w stage before v from to) (labels : List ℕ) (are : AreLabels p (stage, before) labels) where
@@ -30,24 +25,6 @@ module _ (p : Problem) (w stage : ℕ) (before : List (List ℤ)) (v : List ℤ)
   known_at j lo hi =
       let lt : j < length before = omega (arith, hi, range.within) in
       ((are.label j lt).least _ (can_land p stage (node_at before j) (landable_at p w stage before v from to range j lt))).0
-
-  -- the rank that landed last landed with the least label, and may land then as the first
-  pub is_lead : (l : ℕ) → pos l ≡ pos stage +ℤ offset_at (node_at before from) (w - 1) → (best : ℕ) → IsLeastOf labels from to best → IsEntry best → (category : Category)
-      → (1 ≤ l → (of_rank no_waiting p.flights l).category ≡ category) → IsLead p l best category
-  is_lead l leader_is best least entry category is =
-      let k = leader_range p w stage before v from to range in
-      let known : slice_index labels least.place < no_label = known_at least.place least.from_here least.to_there in
-      let lead : latest (stage, node_at before least.place) ≡ l = leader_at p w stage before v from to range l leader_is least.place least.from_here least.to_there in
-      let can : CanLandAt p stage (node_at before least.place) best =
-      subst (CanLandAt p stage (node_at before least.place)) least.is ((are.label least.place (omega (arith, least.to_there, range.within))).attained known) in
-      let e = k.0 in
-      let h = k.1 in
-      record {
-        within = omega (arith, ints, leader_is, e, h);
-        in_days = entry_small best entry (omega (arith, known, least.is));
-        category_is = is;
-        started = λ one. subst (λ (x : ℕ). start_at p x ≤ best) lead (can_started p range.laws.network stage (node_at before least.place) best can (omega (arith, one, lead)));
-      }
 
   module _ (l r : ℕ) (leader_is : pos l ≡ pos stage +ℤ offset_at (node_at before from) (w - 1)) (rank_is : pos r ≡ pos (suc stage) +ℤ offset_at v (w - 1)) where
     -- a landing behind a label of the range is one by the rank that leads on from its window
@@ -108,6 +85,14 @@ module _ (p : Problem) (w stage : ℕ) (before : List (List ℤ)) (v : List ℤ)
             let le = u.2 in
             (omega (arith, in_days), omega (arith, same, le));
       }
+
+      -- the label that the landing gives
+      pub label_behind : (label : ℕ) → IsLabelOf (landing_after p l best r) label → IsLabel p (suc stage) v label
+      label_behind label of = by_landing (landing_after p l best r) refl of
+        where
+          by_landing : (landing : Option ℕ) → landing_after p l best r ≡ landing → IsLabelOf landing label → IsLabel p (suc stage) v label
+          by_landing None e of = subst (IsLabel p (suc stage) v) (sym of.is) (label_none e)
+          by_landing (Some second) e of = subst (IsLabel p (suc stage) v) (sym of.is) (label_some second of.in_days e)
 
     -- ---- the window that gives a label
 

@@ -1,5 +1,5 @@
 -- Columns of labels: their entries, the least of a range, and what is left where the places without a label are left out.
-use Rattle.std.specs.Prelude.{◌≡◌, ℕ, ◌<◌, ◌≤◌, ◌⊎◌, List, Bool, not, nat_eq, map, slice_index}
+use Rattle.std.specs.Prelude.{◌≡◌, ℕ, ◌<◌, ◌≤◌, ◌⊎◌, List, Bool, Option, IfSome, not, nat_eq, map, slice_index, unwrap_or}
 use Rattle.landing_rules.specs.Rules.{last_second}
 use Rattle.cps_network.specs.Compacted.{kept_where}
 use Rattle.makespan_labels.specs.Labels.{no_label}
@@ -7,6 +7,11 @@ use Rattle.makespan_labels.specs.Labels.{no_label}
 -- an entry is a second of the two days, or no label
 abbrev pub IsEntry : ℕ → Type 0
 IsEntry label = (label ≤ last_second) ⊎ (label ≡ no_label)
+
+-- the label that a landing gives: its second, which is in the two days, or no label where there is no landing
+pub record IsLabelOf (landing : Option ℕ) (label : ℕ) : Type 0 where
+  pub is : label ≡ unwrap_or landing no_label
+  pub in_days : IfSome landing (λ t. t ≤ last_second)
 
 -- the least number at the places of a range
 pub record IsLeastOf (labels : List ℕ) (from to least : ℕ) : Type 0 where

@@ -31,6 +31,15 @@ impl Model for Column {
     ghost invariant = { λ column. All IsEntry column.entries.items };
 }
 
+// As many entries of one label.
+#[inline(never)]
+fn entries_of(alloc: Global, label: u32, n: usize) -> Result<Vec<u32>, AllocError>
+    ensures { IfOk result (λ entries. entries.items ≡ replicate n label) }
+{
+    let entries = vec![in alloc; label; n]?;
+    Ok(entries)
+}
+
 impl Column {
     /// The column with no entry.
     pub fn new(alloc: Global) -> Column
@@ -45,7 +54,7 @@ impl Column {
     pub fn start(alloc: Global) -> Result<Column, AllocError>
         ensures { IfOk result (λ column. column ≡ 0 ∷ []) }
     {
-        let entries = vec![in alloc; 0u32; 1]?;
+        let entries = entries_of(alloc, 0, 1)?;
         Ok(Column { entries })
     }
 
@@ -55,7 +64,7 @@ impl Column {
         ensures kept { OnErr result (self.new ≡ self.old) }
     {
         let alloc = *self.entries.allocator();
-        self.entries = vec![in alloc; NO_LABEL; n]?;
+        self.entries = entries_of(alloc, NO_LABEL, n)?;
         Ok(())
     }
 

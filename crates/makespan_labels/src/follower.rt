@@ -1,23 +1,43 @@
 //! The ranks that land last in the windows of a stage, of which there are few, with what their landings need.
 
-ghost use Rattle.std.specs.Prelude.{◌≡◌, ◌*◌, ◌<◌, ◌≤◌, length, IfSome};
+ghost use Rattle.std.specs.Prelude.{◌≡◌, ◌<◌, ◌≤◌, length, slice_index};
 ghost use Rattle.cps_theory.specs.RankLists.{of_rank};
 ghost use Rattle.landing_joint.specs.RankedProblem.{no_waiting, first_at};
 ghost use Rattle.landing_rules.specs.Problem as rules;
-ghost use Rattle.landing_rules.specs.Rules.{last_second};
+ghost use Rattle.makespan_labels.specs.Columns.{IsLabelOf};
 ghost use Rattle.makespan_labels.specs.Followers.{IsFollower};
+ghost use Rattle.wake_table.specs.Letters.{place};
+ghost use Rattle.wake_table.specs.Table.{separation};
+ghost use Rattle.wake_table.specs.declared.category.Category.{Category};
 
+use crate::column::NO_LABEL;
 use cps_nodes::Window;
 use cps_problem::Problem;
-use wake_table::Category;
+use wake_table::{Category, PairTable};
 
-// A rank, its category, and the span of open seconds that was found last for it, when it was ready at `from`.
+// A rank, the separations at which it lands behind each category, and the span of open seconds that was found last for it, when
+// it was ready at `from`. Rank 0 stands for none.
 #[derive(Clone, Copy)]
 pub(crate) struct Follower {
     pub(crate) rank: u8,
-    pub(crate) category: Category,
+    pub(crate) separations: [u32; 6],
     pub(crate) from: u32,
     pub(crate) open: (u32, u32),
+}
+
+// The separations of a follower behind each category, in letter order.
+fn separations_behind(table: &PairTable, follower: Category) -> [u32; 6]
+    ensures { (leader : Category) → slice_index result (place leader)
+        ≡ separation table.now leader follower }
+{
+    [
+        table.sep(Category::A, follower),
+        table.sep(Category::B, follower),
+        table.sep(Category::C, follower),
+        table.sep(Category::D, follower),
+        table.sep(Category::E, follower),
+        table.sep(Category::F, follower),
+    ]
 }
 
 // The ranks that land last in the windows of a stage have different last offsets, which this tells.
@@ -29,22 +49,37 @@ pub(crate) fn follower_of<const W: usize>(window: &Window<W>) -> usize
 }
 
 impl Follower {
-    // A rank with no span yet.
-    pub(crate) fn new(rank: u8, category: Category) -> Follower
-        ensures rank { result.rank ≡ rank }
-        ensures follower { (p : rules.Problem)
-            → (of_rank no_waiting p.flights rank).category ≡ category → IsFollower p result }
+    // None yet.
+    pub(crate) fn none() -> Follower
+        ensures { (p : rules.Problem) → IsFollower p result }
     {
         Follower {
+            rank: 0,
+            separations: [0; 6],
+            from: 1,
+            open: (0, 0),
+        }
+    }
+
+    // A rank with no span yet. It stands apart, so that `turn_to` stays short.
+    #[cold]
+    #[inline(never)]
+    fn new(problem: &Problem, rank: u8) -> Follower
+        requires rank { (1 ≤ rank) × (rank ≤ length problem.now.flights) }
+        ensures rank { result.rank ≡ rank }
+        ensures follower { IsFollower problem.now result }
+    {
+        let category = problem.flight(rank).category;
+        Follower {
             rank,
-            category,
+            separations: separations_behind(&problem.head().table, category),
             from: 1,
             open: (0, 0),
         }
     }
 
     // Makes it that of a rank, unless it is already.
-    #[inline]
+    #[inline(always)]
     pub(crate) fn turn_to(&mut self, problem: &Problem, rank: u8)
         requires rank { (1 ≤ rank) × (rank ≤ length problem.now.flights) }
         requires follower { IsFollower problem.now self.old }
@@ -54,36 +89,50 @@ impl Follower {
         if self.rank == rank {
             return;
         }
-        *self = Follower::new(rank, problem.flight(rank).category);
+        *self = Follower::new(problem, rank);
     }
 
-    // Where its rank lands when it is ready at a second.
-    #[inline]
-    pub(crate) fn first_open(&mut self, problem: &Problem, ready: u32) -> Option<u32>
+    // The separation at which its rank lands behind a flight of a category.
+    #[inline(always)]
+    pub(crate) fn separation_behind(&self, leader: Category) -> u32
+        ensures { (p : rules.Problem) → IsFollower p self.now → 1 ≤ self.now.rank
+            → result ≡ separation p.table leader
+            (of_rank no_waiting p.flights self.now.rank).category }
+    {
+        self.separations[leader as usize]
+    }
+
+    // The label of a window in which its rank lands last, where that is ready at a second: the second at which it lands then, or
+    // `NO_LABEL` where it cannot.
+    #[inline(always)]
+    pub(crate) fn label_at(&mut self, problem: &Problem, ready: u32) -> u32
         requires rank { (1 ≤ self.old.rank) × (self.old.rank ≤ length problem.now.flights) }
         requires follower { IsFollower problem.now self.old }
-        ensures value { result ≡ first_at problem.now self.old.rank ready }
-        ensures in_days { IfSome result (λ t. t ≤ last_second) }
+        ensures label { IsLabelOf (first_at problem.now self.old.rank ready) result }
         ensures follower { IsFollower problem.now self.new }
     {
         if self.from <= ready && ready <= self.open.1 {
-            return Some(ready.max(self.open.0));
+            return ready.max(self.open.0);
         }
-        self.find_open(problem, ready)
+        self.find_label(problem, ready)
     }
 
-    // The same, from the flight's own spans. It stands apart, so that `first_open` stays short.
+    // The same, from the flight's own spans. It stands apart, so that `label_at` stays short.
+    #[cold]
     #[inline(never)]
-    fn find_open(&mut self, problem: &Problem, ready: u32) -> Option<u32>
+    fn find_label(&mut self, problem: &Problem, ready: u32) -> u32
         requires rank { (1 ≤ self.old.rank) × (self.old.rank ≤ length problem.now.flights) }
         requires follower { IsFollower problem.now self.old }
-        ensures value { result ≡ first_at problem.now self.old.rank ready }
-        ensures in_days { IfSome result (λ t. t ≤ last_second) }
+        ensures label { IsLabelOf (first_at problem.now self.old.rank ready) result }
         ensures follower { IsFollower problem.now self.new }
     {
-        let open = problem.open_span(self.rank, ready)?;
-        self.from = ready;
-        self.open = open;
-        Some(open.0)
+        match problem.open_span(self.rank, ready) {
+            None => NO_LABEL,
+            Some(open) => {
+                self.from = ready;
+                self.open = open;
+                open.0
+            }
+        }
     }
 }

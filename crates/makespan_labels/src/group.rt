@@ -1,18 +1,18 @@
 //! Windows of a stage that share a tail, and so lead to the same windows.
 
-ghost use Rattle.std.specs.Prelude.{◌≡◌, ◌+◌, ◌*◌, ◌<◌, ◌≤◌, length, IsTrue};
+ghost use Rattle.std.specs.Prelude.{◌≡◌, ◌<◌, ◌≤◌, length, IsTrue};
 ghost use Rattle.cps_nodes.specs.Leads.{Extends};
+ghost use Rattle.cps_network.specs.Groups.{IsGroup};
 ghost use Rattle.cps_network.specs.Lists.{node_at};
-ghost use Rattle.cps_network.specs.Permits.{IsNextOf};
-ghost use Rattle.cps_network.specs.WindowLaws.{WindowLaws};
 ghost use Rattle.cps_theory.specs.RankLists.{of_rank};
 ghost use Rattle.landing_joint.specs.RankedProblem.{no_waiting};
 ghost use Rattle.makespan_labels.specs.Columns.{IsEntry, IsLeastOf};
+ghost use Rattle.makespan_labels.specs.Labellings.{CanLabel};
 ghost use Rattle.makespan_labels.specs.Ready.{IsReady};
-ghost use Rattle.makespan_labels.specs.Labels.{HoldsLabels};
 
 use crate::column::Column;
-use cps_network::{Stage, last_rank};
+use crate::labelling::Labelling;
+use cps_network::last_rank;
 use cps_nodes::Window;
 use cps_problem::Problem;
 use wake_table::Category;
@@ -68,35 +68,52 @@ fn category_of(problem: &Problem, rank: u8) -> Category
     problem.flight(rank).category
 }
 
-// Makes a group the one that leads to the window at place i of the stage after, where `earlier` are the windows of the stage
-// before. It is written in place, which costs less.
+// The windows at the places of a range of the stage before, which share a tail, as one.
+#[inline]
+pub(crate) fn group_over<const W: usize>(
+    labelling: &Labelling<W>,
+    earlier: &[Window<W>],
+    from: usize,
+    to: usize,
+) -> Group
+    requires can { CanLabel labelling.now.problem.now W labelling.now.before.now
+        labelling.now.labels.now labelling.now.stage.now }
+    requires earlier { earlier.now ≡ labelling.now.before.now.1 }
+    requires range { IsGroup labelling.now.before.now.1 from to }
+    ensures from { result.from ≡ from }
+    ensures ready { IsReady labelling.now.problem.now W labelling.now.before.now
+        labelling.now.labels.now result }
+{
+    // At most 60 flights wait, so the rank fits.
+    let _few = labelling.problem.len();
+    let leader = last_rank(&earlier[from], labelling.before.number());
+    Group {
+        from,
+        least: least_of(labelling.labels, from, to),
+        leader,
+        category: category_of(labelling.problem, leader),
+    }
+}
+
+// Makes a group the one that leads to the window at place i of the stage, where `earlier` are the windows of the stage before.
+// It is written in place, which costs less.
 pub(crate) fn find_group<const W: usize>(
     group: &mut Group,
-    problem: &Problem,
-    before: &Stage<W>,
+    labelling: &Labelling<W>,
     earlier: &[Window<W>],
-    labels: &Column,
-    stage: &Stage<W>,
     i: usize,
 )
-    requires width { W ≡ 2 * problem.now.k + 1 }
-    requires laws { WindowLaws problem.now W }
-    requires before { HoldsLabels problem.now before.now labels.now }
-    requires earlier { earlier.now ≡ before.now.1 }
-    requires next { IsNextOf problem.now before.now.0 before.now.1 stage.now.1 }
-    requires within { i < length stage.now.1 }
-    ensures group { IsReady problem.now W before.now labels.now group.new }
-    ensures leads { Extends (node_at before.now.1 group.new.from) (node_at stage.now.1 i) }
+    requires can { CanLabel labelling.now.problem.now W labelling.now.before.now
+        labelling.now.labels.now labelling.now.stage.now }
+    requires earlier { earlier.now ≡ labelling.now.before.now.1 }
+    requires within { i < length labelling.now.stage.now.1 }
+    ensures group { IsReady labelling.now.problem.now W labelling.now.before.now
+        labelling.now.labels.now group.new }
+    ensures leads { Extends (node_at labelling.now.before.now.1 group.new.from)
+        (node_at labelling.now.stage.now.1 i) }
 {
-    let _few = problem.len();
-    let (from, to) = stage.sources(before, i);
-    let leader = last_rank(&earlier[from], before.number());
-    *group = Group {
-        from,
-        least: least_of(labels, from, to),
-        leader,
-        category: category_of(problem, leader),
-    };
+    let (from, to) = labelling.stage.sources(labelling.before, i);
+    *group = group_over(labelling, earlier, from, to);
 }
 
 // The same, unless the group leads there already.
@@ -104,27 +121,25 @@ pub(crate) fn find_group<const W: usize>(
 pub(crate) fn turn_to<const W: usize>(
     group: &mut Group,
     leads: bool,
-    problem: &Problem,
-    before: &Stage<W>,
+    labelling: &Labelling<W>,
     earlier: &[Window<W>],
-    labels: &Column,
-    stage: &Stage<W>,
     i: usize,
 )
-    requires width { W ≡ 2 * problem.now.k + 1 }
-    requires laws { WindowLaws problem.now W }
-    requires before { HoldsLabels problem.now before.now labels.now }
-    requires earlier { earlier.now ≡ before.now.1 }
-    requires next { IsNextOf problem.now before.now.0 before.now.1 stage.now.1 }
-    requires within { i < length stage.now.1 }
-    requires group { IsReady problem.now W before.now labels.now group.old }
-    requires leads { IsTrue leads
-        → Extends (node_at before.now.1 group.old.from) (node_at stage.now.1 i) }
-    ensures group { IsReady problem.now W before.now labels.now group.new }
-    ensures leads { Extends (node_at before.now.1 group.new.from) (node_at stage.now.1 i) }
+    requires can { CanLabel labelling.now.problem.now W labelling.now.before.now
+        labelling.now.labels.now labelling.now.stage.now }
+    requires earlier { earlier.now ≡ labelling.now.before.now.1 }
+    requires within { i < length labelling.now.stage.now.1 }
+    requires group { IsReady labelling.now.problem.now W labelling.now.before.now
+        labelling.now.labels.now group.old }
+    requires leads { IsTrue leads → Extends (node_at labelling.now.before.now.1 group.old.from)
+        (node_at labelling.now.stage.now.1 i) }
+    ensures group { IsReady labelling.now.problem.now W labelling.now.before.now
+        labelling.now.labels.now group.new }
+    ensures leads { Extends (node_at labelling.now.before.now.1 group.new.from)
+        (node_at labelling.now.stage.now.1 i) }
 {
     if leads {
         return;
     }
-    find_group(group, problem, before, earlier, labels, stage, i);
+    find_group(group, labelling, earlier, i);
 }

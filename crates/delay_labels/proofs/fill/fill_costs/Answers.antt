@@ -1,41 +1,5 @@
--- The lists of the runs are those of the windows, at their places.
-use Rattle.std.proofs.Common.{◌≡◌, ℕ, ◌+◌, ◌*◌, ◌<◌, ◌≤◌, List, [], length, get_or, subst, sym, ap, ◌∙◌, arith}
-use Rattle.std.proofs.lemmas.List.{get_or_default}
-use Rattle.std.specs.List.{flat_map}
-use Rattle.cps_theory.specs.Labels.{Pair}
-use Rattle.cps_network.specs.Pairs.{list_at}
 use Rattle.cps_network.specs.shared.LandableSteps.{has_next}
-use Rattle.label_workers.specs.shared.Lanes.{AreLanes, IsLane, all_long, all_each}
-use Rattle.delay_labels.specs.Runs.{run_length, IsListOf}
-use Rattle.delay_labels.proofs.fill.fill_costs.Given as given
 use Rattle.delay_labels.proofs.fill.fill_costs.Goals as goal
-
-module _ (g : given.Over) (c : goal.After-tick g) where
-  Is : ℕ → List Pair → Type 0
-  Is = IsListOf c.args.problem.now c.args.before.now c.args.labels.now c.args.stage.now
-
-  lanes : AreLanes (λ lists. lists) Is run_length c.len-windows.result 0 c.in_ok-runs.runs.items
-  unfolding Is
-  lanes j d lt =
-      let met = c.in_ok-runs.ensures.each j d (omega (arith, c.in_ok-runs.ensures.len, lt)) in
-      let lists = get_or c.in_ok-runs.runs.items j d in
-      let here : IsLane (λ lists. lists) Is run_length c.len-windows.result (j * run_length) lists =
-      record { len = met.0; each = λ k e inside. subst (Is (j * run_length + k)) (sym (get_or_default lists k e [] inside)) (met.1 k inside) } in
-      subst (λ s. IsLane (λ lists. lists) Is run_length c.len-windows.result s lists) (omega arith) here
-
-  whole : c.len-windows.result ≤ length c.in_ok-runs.runs.items * run_length
-  whole = omega (arith, c.run_count.ensures.whole, c.in_ok-runs.ensures.len)
-
-  pub long : length (flat_map (λ lists. lists) c.in_ok-runs.runs.items) ≡ length c.args.stage.now.1
-  long = all_long (λ lists. lists) Is run_length c.len-windows.result c.in_ok-runs.runs.items whole lanes ∙ c.len-windows.ensures.value
-
-  pub each : (i : ℕ) → i < length c.args.stage.now.1 → IsListOf c.args.problem.now c.args.before.now c.args.labels.now c.args.stage.now i (list_at (flat_map (λ lists. lists) c.in_ok-runs.runs.items) i)
-  unfolding Is
-  each i lt = all_each (λ lists. lists) Is run_length c.len-windows.result c.in_ok-runs.runs.items whole lanes i [] (omega (arith, lt, c.len-windows.ensures.value))
-
-pub returns-in_err-runs-clause-landable : goal.returns-in_err-runs-clause-landable
-returns-in_err-runs-clause-landable g c =
-    has_next c.args.problem.now c.prefix_laws.ensures.network c.args.before.now c.args.stage.now c.requires.number c.requires.before.landable c.requires.next
 
 pub returns-in_err-costs-clause-landable : goal.returns-in_err-costs-clause-landable
 returns-in_err-costs-clause-landable g c =
@@ -47,9 +11,9 @@ returns-clause-landable g c =
 
 pub returns-clause-pairs : goal.returns-clause-pairs
 returns-clause-pairs g c = record {
-  one_each = ap length c.in_ok-costs.ensures ∙ long g c;
-  pairs = λ i lt. (subst (λ ls. IsListOf c.args.problem.now c.args.before.now c.args.labels.now c.args.stage.now i (list_at ls i)) (sym c.in_ok-costs.ensures) (each g c i lt)).pairs_are;
+  one_each = c.in_ok-costs.ensures.one_each;
+  pairs = λ i lt. (c.in_ok-costs.ensures.lists i lt).pairs_are;
 }
 
 pub returns-clause-sources : goal.returns-clause-sources
-returns-clause-sources g c = λ i lt. (subst (λ ls. IsListOf c.args.problem.now c.args.before.now c.args.labels.now c.args.stage.now i (list_at ls i)) (sym c.in_ok-costs.ensures) (each g c i lt)).sources
+returns-clause-sources g c = λ i lt. (c.in_ok-costs.ensures.lists i lt).sources

@@ -14,13 +14,13 @@ returns-clause-landable g c =
 
 pub returns-clause-pairs : goal.returns-clause-pairs
 returns-clause-pairs g c = record {
-  one_each = c.in_ok-costs.ensures.one_each ∙ c.len-windows.ensures.value;
+  one_each = c.in_ok-costs.ensures.one_each ∙ c.len.ensures.value;
   pairs = λ i lt.
       (subst (λ (m : ℕ). IsListOf c.args.problem.now c.args.before.now c.args.labels.now c.args.stage.now m (list_at c.in_ok-costs.costs i)) (omega arith)
-      (c.in_ok-costs.ensures.lists i (omega (arith, lt, c.len-windows.ensures.value)))).pairs_are;
+      (c.in_ok-costs.ensures.lists i (omega (arith, lt, c.len.ensures.value)))).pairs_are;
 }
 
 pub returns-clause-sources : goal.returns-clause-sources
 returns-clause-sources g c = λ i lt.
     (subst (λ (m : ℕ). IsListOf c.args.problem.now c.args.before.now c.args.labels.now c.args.stage.now m (list_at c.in_ok-costs.costs i)) (omega arith)
-    (c.in_ok-costs.ensures.lists i (omega (arith, lt, c.len-windows.ensures.value)))).sources
+    (c.in_ok-costs.ensures.lists i (omega (arith, lt, c.len.ensures.value)))).sources
