@@ -3,16 +3,18 @@ use Rattle.std.proofs.Common.{◌≡◌, ℕ, ◌+◌, ◌-◌, ◌<◌, List, [
 use Rattle.std.specs.Prelude.{ℤ, IsTrue}
 use Rattle.std.proofs.lemmas.List.{get_or-map, get_or_default, length-map, map_more}
 use Rattle.landing_rules.specs.Problem.{Problem}
-use Rattle.cps_network.specs.Permits.{IsNextOf, HaveSameSuccessors}
+use Rattle.cps_network.specs.Permits.{IsNextOf}
 use Rattle.replan.specs.Stages.{LabelledStage, no_stage, stage_at, AreStages, FormerStage, former_of, former_at, AreFormer}
 
--- they are whole as said in each problem in which the same windows follow
-pub former_whole : (p q : Problem) (stages : List LabelledStage) → AreStages p stages → HaveSameSuccessors p q → AreFormer q (map former_of stages)
-former_whole p q stages is alike i some lt said =
-    let here : i < length stages = omega (arith, lt, length-map stages former_of) in
-    let at = get_or-map former_of stages i no_stage (former_of no_stage) here in
-    let before = get_or-map former_of stages (i - 1) no_stage (former_of no_stage) (omega (arith, here)) in
-    rw (at, before) (alike (i - 1) (stage_at stages (i - 1)).stage.1 (stage_at stages i).stage.1 (is.whole i some here (rw at at said)))
+-- they are whole as said
+pub former_whole : (p : Problem) (stages : List LabelledStage) → AreStages p stages → AreFormer p (map former_of stages)
+former_whole p stages is i lt said =
+    let here : i + 1 < length stages = omega (arith, lt, length-map stages former_of) in
+    let at = get_or-map former_of stages (i + 1) no_stage (former_of no_stage) here in
+    let before = get_or-map former_of stages i no_stage (former_of no_stage) (omega (arith, here)) in
+    let back : i + 1 - 1 ≡ i = omega arith in
+    let step : IsNextOf p i (stage_at stages i).stage.1 (stage_at stages (i + 1)).stage.1 = rw back at (is.whole (i + 1) (omega arith) here (rw at at said)) in
+    rw (at, before, is.number i (omega (arith, here))) step
 
 -- one stage more without its pairs
 pub one_shared : (stages : List LabelledStage) (former after : List FormerStage) (i : ℕ) (x y : LabelledStage) (s : ℕ × List (List ℤ)) → i < length stages
@@ -26,9 +28,6 @@ pub read_former : (former : List FormerStage) (i : ℕ) (x y : FormerStage) → 
 read_former former i x y same e lt = same ∙ e ∙ get_or_default former i y (former_of no_stage) lt
 
 -- two of them, where the later one is whole
-pub next_former : (p : Problem) (former : List FormerStage) → AreFormer p former → (s i j : ℕ) (x y : FormerStage) → i ≡ s → j ≡ s + 1 → j < length former
-    → x ≡ former_at former i → y ≡ former_at former j → IsTrue y.is_whole → IsNextOf p s x.stage.1 y.stage.1
-next_former p former are s i j x y same next lt e f whole =
-    let back : s + 1 - 1 ≡ s = omega arith in
-    let step = are (s + 1) (omega arith) (omega (arith, lt, next)) (rw (f, next) at whole) in
-    rw (e, f, same, next) (rw back at step)
+pub next_former : (p : Problem) (former : List FormerStage) → AreFormer p former → (i : ℕ) (x y : FormerStage) → i + 1 < length former
+    → x ≡ former_at former i → y ≡ former_at former (i + 1) → IsTrue y.is_whole → IsNextOf p x.stage.0 x.stage.1 y.stage.1
+next_former p former are i x y lt e f whole = rw (e, f) (are i lt (rw f at whole))

@@ -5,3 +5,7 @@ pub mod TraceLemmas
 pub mod PlanLemmas
 pub mod LeastPlace
 pub mod DueExists
+pub mod MovedNodes
+pub mod TogetherLemmas
+pub mod LeastPairLemmas
+pub mod ReaderLemmas

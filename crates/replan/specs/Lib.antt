@@ -4,6 +4,7 @@ pub mod Stages
 pub mod Held
 pub mod Kept
 pub mod Readers
+pub mod WindowNodes
 pub mod LeastValue
 pub mod Bound
 pub mod shared

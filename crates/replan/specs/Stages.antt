@@ -1,5 +1,5 @@
 -- The stages of a problem with their pairs, and orders that land.
-use Rattle.std.specs.Prelude.{◌≡◌, ℕ, ℤ, ◌-◌, ◌<◌, Bool, false, IsTrue, List, [], length, reverse, slice_index_or}
+use Rattle.std.specs.Prelude.{◌≡◌, ℕ, ℤ, ◌+◌, ◌-◌, ◌<◌, Bool, false, IsTrue, List, [], length, reverse, slice_index_or}
 use Rattle.landing_rules.specs.declared.objective.Objective.TheVariants.{Makespan}
 use Rattle.landing_rules.specs.Problem.{Problem}
 use Rattle.cps_theory.specs.Separation.{Landing}
@@ -47,9 +47,15 @@ former_of s = record { stage = s.stage; is_whole = s.is_whole }
 abbrev pub former_at : List FormerStage → ℕ → FormerStage
 former_at former i = slice_index_or former i (former_of no_stage)
 
--- these are windows of the stages that were held, from stage 0 on, and whole as said in this problem too
+-- a problem with the windows of stages that were held of it
+pub record Former : Type 0 where
+  pub problem : Problem
+  pub stages : List FormerStage
+
+-- of these stages of a problem each that is said to be whole has exactly the windows that extend the one before it
 abbrev pub AreFormer : Problem → List FormerStage → Type 0
-AreFormer p former = AreWholeAsSaid p (length former) (λ i. (former_at former i).is_whole) (λ i. (former_at former i).stage.1)
+AreFormer p former = (i : ℕ) → i + 1 < length former → IsTrue (former_at former (i + 1)).is_whole
+    → IsNextOf p (former_at former i).stage.0 (former_at former i).stage.1 (former_at former (i + 1)).stage.1
 
 -- the order is legal, and its flights can be given seconds that are open and late enough one after another, the last of them
 -- and what they cost together this pair

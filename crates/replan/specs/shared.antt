@@ -1,2 +1,3 @@
--- Lemmas that crates above cite too: the last pair of a list.
+-- Lemmas that crates above cite too: the last pair of a list, and windows of one node.
 pub mod LastPairs
+pub mod OneNode

@@ -5,6 +5,7 @@ ghost use Rattle.cps_network.specs.Due.{IsDueFrom};
 ghost use Rattle.replan.specs.Held.{AreInCommon, problem_of};
 ghost use Rattle.replan.specs.Stages.{AreStages};
 
+use crate::former::{Former, shared};
 use crate::stages::{LabelledStage, first_stage};
 use cps_network::{kept_stages, prefix_laws};
 use cps_nodes::window_laws;
@@ -40,13 +41,14 @@ fn common(held: &Problem, problem: &Problem) -> usize
 }
 
 impl<const W: usize> HeldProblem<W> {
-    // The stages that another problem has in common with this one, where these are more than stage 0. The others are given
-    // back.
-    fn into_common(self, problem: &Problem, count: usize) -> Vec<LabelledStage<W>>
+    // The stages that another problem has in common with this one, where these are more than stage 0, and the problem held. The
+    // other stages are given back.
+    fn into_common(self, problem: &Problem, count: usize) -> (Vec<LabelledStage<W>>, Problem)
         requires more { 1 < count }
         requires common { AreInCommon self.problem problem.now count }
-        ensures held { AreStages problem.now result.items }
-        ensures count { vec_len result ≡ count }
+        ensures held { AreStages problem.now result.0.items }
+        ensures count { vec_len result.0 ≡ count }
+        ensures problem { result.1 ≡ self.entry.problem }
     {
         let _held_ranks = self.problem.head();
         let _ranks = problem.head();
@@ -55,36 +57,69 @@ impl<const W: usize> HeldProblem<W> {
         window_laws::<W>();
         let mut stages = self.stages;
         stages.truncate(count);
-        stages
+        (stages, self.problem)
+    }
+
+    // The problem held. Its stages are given back.
+    fn into_problem(self) -> Problem
+        ensures { result ≡ self.entry.problem }
+    {
+        self.problem
     }
 }
 
-/// The stages from which on a problem is to be filled: those that it has in common with the one that is held, or stage 0.
+/// The stages from which on a problem is to be filled, and what was held before of another.
+#[derive(Drop)]
+pub(crate) struct Begun<const W: usize> {
+    pub(crate) stages: Vec<LabelledStage<W>>,
+    pub(crate) former: Option<Former<W>>,
+}
+
+/// The stages from which on a problem is to be filled: those that it has in common with the one that is held, or stage 0. Of
+/// the others the windows are kept.
 pub(crate) fn begin_stages<const W: usize>(
     alloc: Global,
     problem: &Problem,
     held: Option<HeldProblem<W>>,
-) -> Result<Vec<LabelledStage<W>>, AllocError>
+) -> Result<Begun<W>, AllocError>
     requires width { W ≡ 2 * problem.now.k + 1 }
-    ensures held { IfOk result (λ kept. AreStages problem.now kept.items) }
-    ensures some { IfOk result (λ kept. 0 < vec_len kept) }
-    ensures few { IfOk result (λ kept. vec_len kept ≤ length problem.now.flights + 1) }
-    ensures due { IfOk result (λ kept. IsDueFrom (problem_of held.entry) problem.now
-        (vec_len kept)) }
+    ensures held { IfOk result (λ begun. AreStages problem.now begun.stages.items) }
+    ensures some { IfOk result (λ begun. 0 < vec_len begun.stages) }
+    ensures few { IfOk result (λ begun. vec_len begun.stages ≤ length problem.now.flights + 1) }
+    ensures due { IfOk result (λ begun. IsDueFrom (problem_of held.entry) problem.now
+        (vec_len begun.stages)) }
 {
     match held {
         None => {
             let stages = first_stage(alloc, problem)?;
-            Ok(stages)
+            Ok(Begun {
+                stages,
+                former: None,
+            })
         }
         Some(held) => {
             let count = common(&held.problem, problem);
+            let windows = shared(alloc, &held.stages)?;
             if count > 1 {
-                return Ok(held.into_common(problem, count));
+                let (stages, former) = held.into_common(problem, count);
+                let former = Former {
+                    problem: former,
+                    stages: windows,
+                };
+                return Ok(Begun {
+                    stages,
+                    former: Some(former),
+                });
             }
-            drop(held);
+            let former = Former {
+                problem: held.into_problem(),
+                stages: windows,
+            };
             let stages = first_stage(alloc, problem)?;
-            Ok(stages)
+            Ok(Begun {
+                stages,
+                former: Some(former),
+            })
         }
     }
 }

@@ -7,7 +7,6 @@ ghost use Rattle.cps_problem.specs.Plans.{IsAnswerOf};
 ghost use Rattle.replan.specs.Held.{problem_of};
 ghost use Rattle.replan.specs.Stages.{AreStages};
 
-use crate::former::former_stages;
 use crate::held::{HeldProblem, begin_stages};
 use crate::plan::schedule_of;
 use crate::stages::{LabelledStage, fill_stages};
@@ -39,7 +38,7 @@ impl<const W: usize> Model for Kept<W> {
 }
 
 // All stages of a problem, in place of those that are held. Those that it has in common with the problem held are kept, and
-// the others are given back before new ones are filled, but for their windows where these may be taken again.
+// the others are given back, but for their windows, before new ones are filled.
 fn all_stages<const W: usize, R: Threads + Sync, G: Gate + Sync, L: Ledger>(
     rt: &R,
     alloc: Global,
@@ -54,9 +53,9 @@ fn all_stages<const W: usize, R: Threads + Sync, G: Gate + Sync, L: Ledger>(
     ensures steps { OnOk result ((due : ℕ) × IsDue (problem_of held.entry) problem.now due
         × (L.count steps.new ≡ raised_by due (L.count steps.old))) }
 {
-    let former = former_stages(alloc, &held, problem)?;
-    let mut stages = begin_stages(alloc, problem, held)?;
-    fill_stages(rt, alloc, problem, &mut stages, &former, gate, steps)?;
+    let begun = begin_stages(alloc, problem, held)?;
+    let mut stages = begun.stages;
+    fill_stages(rt, alloc, problem, &mut stages, &begun.former, gate, steps)?;
     Ok(stages)
 }
 

@@ -4,10 +4,12 @@ ghost use Rattle.std.specs.Prelude.{◌≡◌, ◌+◌, ◌*◌, ◌<◌, ◌≤
 ghost use Rattle.cps_base.specs.Tally.{raised_by};
 ghost use Rattle.cps_theory.specs.Network.{Undominated};
 ghost use Rattle.landing_rules.specs.Rules.{last_second};
-ghost use Rattle.cps_network.specs.Landable.{Attains};
-ghost use Rattle.cps_network.specs.Pairs.{GivesPair, list_at, pair_at};
+ghost use Rattle.landing_rules.specs.Problem.{Problem};
+ghost use Rattle.cps_nodes.specs.Windows.{IsWidth};
+ghost use Rattle.cps_network.specs.Landable.{Attains, HasEachLandable};
+ghost use Rattle.cps_network.specs.Pairs.{AreCosts, GivesPair, list_at, pair_at};
 ghost use Rattle.cps_network.specs.Permits.{IsNextOf};
-ghost use Rattle.makespan_labels.specs.Labels.{no_label};
+ghost use Rattle.makespan_labels.specs.Labels.{no_label, AreLabels, HoldsLabels};
 ghost use Rattle.replan.specs.Labels.{AreLandableOf, HoldsPairs, last_pair, worth};
 
 use cps_base::{Ledger, Steps};
@@ -16,7 +18,9 @@ use cps_nodes::Window;
 use cps_outside::Gate;
 use cps_problem::{Objective, Problem};
 use delay_labels::{Costs, fill_costs, fill_costs_alone, source_pair};
-use makespan_labels::{Column, NO_LABEL, fill, fill_alone, source_of};
+use makespan_labels::{
+    Column, NO_LABEL, fill, fill_alone, fill_linked, fill_linked_alone, source_of,
+};
 use std::alloc::{AllocError, Global};
 use std::marker::Model;
 use std::thread::Threads;
@@ -45,6 +49,69 @@ impl Model for Labels {
     ghost view = { λ labels. pairs_of labels.kept };
 }
 
+// The column of a stage, from that of the stage before, with links where the stage keeps them. It is filled by pieces, and ticks
+// once for each window.
+fn column_by_pieces<const W: usize, R: Threads + Sync, G: Gate + Sync, L: Ledger>(
+    rt: &R,
+    alloc: Global,
+    problem: &Problem,
+    before: &Stage<W>,
+    labels: &Column,
+    stage: &Stage<W>,
+    gate: &G,
+    steps: &mut Steps<L>,
+) -> Result<Column, AllocError>
+    requires width { W ≡ 2 * problem.now.k + 1 }
+    requires before { HoldsLabels problem.now before.now labels.now }
+    requires number { stage.now.0 ≡ before.now.0 + 1 }
+    requires next { IsNextOf problem.now before.now.0 before.now.1 stage.now.1 }
+    ensures labels { IfOk result (λ column. AreLabels problem.now stage.now column) }
+    ensures landable { OnOk result (HasEachLandable problem.now stage.now) }
+    ensures steps { OnOk result (L.count steps.new ≡ raised_by (length stage.now.1)
+        (L.count steps.old)) }
+{
+    let mut column = Column::new(alloc);
+    column.reserve(stage.len())?;
+    if before.number() > 0 {
+        if let Some(links) = stage.links(before) {
+            let into = &mut column;
+            fill_linked(
+                rt, alloc, problem, before, labels, stage, links, into, gate, steps,
+            )?;
+            return Ok(column);
+        }
+    }
+    fill(rt, problem, before, labels, stage, &mut column, gate, steps);
+    Ok(column)
+}
+
+// The same on the caller's thread, and it ticks nothing.
+fn column_alone<const W: usize>(
+    alloc: Global,
+    problem: &Problem,
+    before: &Stage<W>,
+    labels: &Column,
+    stage: &Stage<W>,
+) -> Result<Column, AllocError>
+    requires width { W ≡ 2 * problem.now.k + 1 }
+    requires before { HoldsLabels problem.now before.now labels.now }
+    requires number { stage.now.0 ≡ before.now.0 + 1 }
+    requires next { IsNextOf problem.now before.now.0 before.now.1 stage.now.1 }
+    ensures labels { IfOk result (λ column. AreLabels problem.now stage.now column) }
+    ensures landable { OnOk result (HasEachLandable problem.now stage.now) }
+{
+    let mut column = Column::new(alloc);
+    column.reserve(stage.len())?;
+    if before.number() > 0 {
+        if let Some(links) = stage.links(before) {
+            fill_linked_alone(alloc, problem, before, labels, stage, links, &mut column)?;
+            return Ok(column);
+        }
+    }
+    fill_alone(problem, before, labels, stage, &mut column);
+    Ok(column)
+}
+
 impl Labels {
     // The labels of stage 0: one list with the one pair (0, 0), whose second no rule reads as a landing.
     pub(crate) fn start(alloc: Global, objective: Objective) -> Result<Labels, AllocError>
@@ -64,6 +131,34 @@ impl Labels {
                     kept: ByObjective::OfCosts(costs),
                 })
             }
+        }
+    }
+
+    // What is left of a column where the stage keeps its landable windows alone.
+    fn left_of_column<const W: usize>(mut column: Column, stage: &mut Stage<W>) -> Labels
+        requires width { IsWidth W }
+        requires one_each { length column ≡ length stage.old.1 }
+        ensures { (p : Problem) → p.objective ≡ Objective.Makespan
+            → HasEachLandable p stage.old → AreLabels p stage.old column
+            → AreLandableOf p stage.old stage.new result }
+    {
+        column.keep_landable(stage);
+        Labels {
+            kept: ByObjective::OfColumn(column),
+        }
+    }
+
+    // The same of pairs.
+    fn left_of_costs<const W: usize>(mut costs: Costs, stage: &mut Stage<W>) -> Labels
+        requires width { IsWidth W }
+        requires one_each { length costs ≡ length stage.old.1 }
+        ensures { (p : Problem) → p.objective ≡ Objective.Delay
+            → HasEachLandable p stage.old → AreCosts p stage.old costs
+            → AreLandableOf p stage.old stage.new result }
+    {
+        costs.keep_landable(stage);
+        Labels {
+            kept: ByObjective::OfCosts(costs),
         }
     }
 
@@ -137,20 +232,14 @@ impl Labels {
         let _near = problem.head();
         match &self.kept {
             ByObjective::OfColumn(labels) => {
-                let mut column = Column::new(alloc);
-                column.reserve(stage.len())?;
-                fill(rt, problem, before, labels, stage, &mut column, gate, steps);
-                column.keep_landable(stage);
-                Ok(Labels {
-                    kept: ByObjective::OfColumn(column),
-                })
+                let column = column_by_pieces(
+                    rt, alloc, problem, before, labels, stage, gate, steps,
+                )?;
+                Ok(Labels::left_of_column(column, stage))
             }
             ByObjective::OfCosts(labels) => {
-                let mut costs = fill_costs(rt, alloc, problem, before, labels, stage, gate, steps)?;
-                costs.keep_landable(stage);
-                Ok(Labels {
-                    kept: ByObjective::OfCosts(costs),
-                })
+                let costs = fill_costs(rt, alloc, problem, before, labels, stage, gate, steps)?;
+                Ok(Labels::left_of_costs(costs, stage))
             }
         }
     }
@@ -172,20 +261,12 @@ impl Labels {
         let _near = problem.head();
         match &self.kept {
             ByObjective::OfColumn(labels) => {
-                let mut column = Column::new(alloc);
-                column.reserve(stage.len())?;
-                fill_alone(problem, before, labels, stage, &mut column);
-                column.keep_landable(stage);
-                Ok(Labels {
-                    kept: ByObjective::OfColumn(column),
-                })
+                let column = column_alone(alloc, problem, before, labels, stage)?;
+                Ok(Labels::left_of_column(column, stage))
             }
             ByObjective::OfCosts(labels) => {
-                let mut costs = fill_costs_alone(alloc, problem, before, labels, stage)?;
-                costs.keep_landable(stage);
-                Ok(Labels {
-                    kept: ByObjective::OfCosts(costs),
-                })
+                let costs = fill_costs_alone(alloc, problem, before, labels, stage)?;
+                Ok(Labels::left_of_costs(costs, stage))
             }
         }
     }

@@ -12,13 +12,16 @@ mod held;
 mod kept;
 mod labels;
 mod least;
+mod least_pairs;
 mod plan;
 mod readers;
 mod stages;
 mod trace;
+mod window_nodes;
 
 pub use any_kept::AnyKept;
 pub use bound::due_is_small;
 pub use cps_network::Node;
 pub use kept::Kept;
 pub use least::least_value;
+pub use window_nodes::WindowNodes;

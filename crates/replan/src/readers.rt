@@ -1,6 +1,6 @@
 //! What is read of the stages that are held.
 
-ghost use Rattle.std.specs.Prelude.{◌≡◌, ◌<◌, ◌≤◌, length, MatchOption, Some, ⊤};
+ghost use Rattle.std.specs.Prelude.{◌≡◌, ◌<◌, ◌≤◌, length, IfOk, MatchOption, Some, ⊤};
 ghost use Rattle.landing_rules.specs.Problem.{Problem};
 ghost use Rattle.landing_rules.specs.Rules.{last_second};
 ghost use Rattle.cps_network.specs.Nodes.{latest};
@@ -9,9 +9,13 @@ ghost use Rattle.cps_network.specs.WindowRanks.{TellsPlaced};
 ghost use Rattle.replan.specs.Held.{IsHeld};
 ghost use Rattle.replan.specs.Kept.{k_of, held_of, problem_held};
 ghost use Rattle.replan.specs.Readers.{stages_in, stage_in, window_in, pairs_in, IsReadable, HasPlace, AreStagesOf};
+ghost use Rattle.replan.specs.WindowNodes.{AreInDays, AreLeastIn, AreNodesOf, AreNodesOfSome};
 
-use crate::{AnyKept, Kept};
+use crate::least_pairs::least_pairs;
+use crate::window_nodes::{together, together_again};
+use crate::{AnyKept, Kept, WindowNodes};
 use cps_network::{Node, placed_node};
+use std::alloc::{AllocError, Global};
 
 impl<const W: usize> Kept<W> {
     // The number of the last stage.
@@ -85,6 +89,56 @@ impl<const W: usize> Kept<W> {
             Some(held) => {
                 let labelled = &held.stages[stage as usize];
                 labelled.labels.pair(i, j)
+            }
+        }
+    }
+
+    // The windows of a stage, put together by node, where those of another stage are at hand.
+    fn nodes(
+        &self,
+        alloc: Global,
+        stage: u8,
+        former: &WindowNodes,
+    ) -> Result<WindowNodes, AllocError>
+        requires stage { IsReadable self.now stage }
+        requires former { AreNodesOfSome self.now former.now }
+        ensures { IfOk result (AreNodesOf self.now stage) }
+    {
+        match &self.held {
+            None => unreachable!(),
+            Some(held) => {
+                let _few = held.problem.len();
+                let labelled = &held.stages[stage as usize];
+                if former.stage() == 0 {
+                    let nodes = together(alloc, &labelled.stage)?;
+                    return Ok(nodes);
+                }
+                let other = &held.stages[former.stage() as usize];
+                let nodes = together_again(alloc, &labelled.stage, &other.stage, former)?;
+                Ok(nodes)
+            }
+        }
+    }
+
+    // For each node of a stage the least second and the least cost of the pairs of its windows.
+    fn least_pairs(
+        &self,
+        alloc: Global,
+        stage: u8,
+        nodes: &WindowNodes,
+    ) -> Result<Vec<(u32, u32)>, AllocError>
+        requires stage { IsReadable self.now stage }
+        requires nodes { AreNodesOf self.now stage nodes.now }
+        ensures least { IfOk result (λ least. AreLeastIn self.now stage nodes.now least.items) }
+        ensures in_days { IfOk result (λ least. AreInDays least.items) }
+    {
+        match &self.held {
+            None => unreachable!(),
+            Some(held) => {
+                let _few = held.problem.len();
+                let labelled = &held.stages[stage as usize];
+                let least = least_pairs(alloc, &labelled.labels, nodes)?;
+                Ok(least)
             }
         }
     }
@@ -166,6 +220,49 @@ impl AnyKept {
             AnyKept::Three(kept) => kept.label(stage, i, j),
             AnyKept::Five(kept) => kept.label(stage, i, j),
             AnyKept::Seven(kept) => kept.label(stage, i, j),
+        }
+    }
+
+    /// The windows of a stage, put together by node. Where they are the same as those of another stage that were put together
+    /// before, as mostly in the middle of a list, both share them: `former` is what this gave for another stage, or
+    /// `WindowNodes::of_none`.
+    pub fn nodes(
+        &self,
+        alloc: Global,
+        stage: u8,
+        former: &WindowNodes,
+    ) -> Result<WindowNodes, AllocError>
+        requires stage { IsReadable (held_of self.now) stage }
+        requires former { AreNodesOfSome (held_of self.now) former.now }
+        ensures { IfOk result (AreNodesOf (held_of self.now) stage) }
+    {
+        match self {
+            AnyKept::One(kept) => kept.nodes(alloc, stage, former),
+            AnyKept::Three(kept) => kept.nodes(alloc, stage, former),
+            AnyKept::Five(kept) => kept.nodes(alloc, stage, former),
+            AnyKept::Seven(kept) => kept.nodes(alloc, stage, former),
+        }
+    }
+
+    /// For each node of a stage the least second, at most 172,799, and the least cost of the pairs of its windows. No one window
+    /// need have both, and for the makespan each cost is 0.
+    pub fn least_pairs(
+        &self,
+        alloc: Global,
+        stage: u8,
+        nodes: &WindowNodes,
+    ) -> Result<Vec<(u32, u32)>, AllocError>
+        requires stage { IsReadable (held_of self.now) stage }
+        requires nodes { AreNodesOf (held_of self.now) stage nodes.now }
+        ensures least { IfOk result (λ least.
+            AreLeastIn (held_of self.now) stage nodes.now least.items) }
+        ensures in_days { IfOk result (λ least. AreInDays least.items) }
+    {
+        match self {
+            AnyKept::One(kept) => kept.least_pairs(alloc, stage, nodes),
+            AnyKept::Three(kept) => kept.least_pairs(alloc, stage, nodes),
+            AnyKept::Five(kept) => kept.least_pairs(alloc, stage, nodes),
+            AnyKept::Seven(kept) => kept.least_pairs(alloc, stage, nodes),
         }
     }
 }

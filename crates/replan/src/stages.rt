@@ -2,17 +2,18 @@
 
 ghost use Rattle.std.specs.Prelude.{◌≡◌, ℕ, ◌+◌, ◌-◌, ◌*◌, ◌<◌, ◌≤◌, length, vec_len, IfOk, OnOk, IsTrue, false};
 ghost use Rattle.cps_base.specs.Tally.{raised_by};
+ghost use Rattle.cps_network.specs.Again.{IsStageAfter};
 ghost use Rattle.cps_network.specs.Due.{HasCandidates, HasCandidatesFrom};
 ghost use Rattle.cps_network.specs.Landable.{HoldsCandidates};
 ghost use Rattle.cps_network.specs.Lists.{IsAscending};
 ghost use Rattle.cps_network.specs.Permits.{IsNextOf};
 ghost use Rattle.replan.specs.Labels.{HoldsPairs};
-ghost use Rattle.replan.specs.Stages.{stage_at, AreFormer, AreStages};
+ghost use Rattle.replan.specs.Stages.{stage_at, AreStages};
 
-use crate::former::FormerStage;
+use crate::former::Former;
 use crate::labels::Labels;
 use cps_base::{Ledger, Steps};
-use cps_network::{Stage, next_stage, next_stage_again, next_stage_like};
+use cps_network::{Stage, next_stage, next_stage_again};
 use cps_outside::Gate;
 use cps_problem::Problem;
 use std::alloc::{AllocError, Global};
@@ -86,45 +87,34 @@ pub(crate) fn stage_after<const W: usize>(
     requires stage { before.now.0 < length problem.now.flights }
     requires whole { IsTrue is_whole → earlier.now.0 < before.now.0
         → IsNextOf problem.now earlier.now.0 earlier.now.1 before.now.1 }
-    ensures number { IfOk result (λ s. s.0 ≡ before.now.0 + 1) }
-    ensures ascending { IfOk result (λ s. IsAscending s.1) }
-    ensures exact { IfOk result (λ s. IsNextOf problem.now before.now.0 before.now.1 s.1) }
-    ensures candidates { IfOk result (λ s. HoldsCandidates problem.now before.now s) }
+    ensures { IfOk result (IsStageAfter problem.now before.now) }
 {
     if is_whole && earlier.number() < before.number() {
-        let stage = next_stage_like(alloc, before, problem, earlier, before)?;
-        return Ok(stage);
+        if let Some(stage) = next_stage_again(alloc, before, problem, problem, earlier, before)? {
+            return Ok(stage);
+        }
     }
     let stage = next_stage(alloc, before, problem)?;
     Ok(stage)
 }
 
-// As `stage_after`, but where the stage that was held under the same number has the same windows as `before`, they are a copy
-// of the one held after it, if that is whole.
+// As `stage_after`, but they are taken again from what was held, where they may be.
 fn stage_again<const W: usize>(
     alloc: Global,
     problem: &Problem,
     earlier: &Stage<W>,
     before: &Stage<W>,
     is_whole: bool,
-    former: &[FormerStage<W>],
+    former: &Option<Former<W>>,
 ) -> Result<Stage<W>, AllocError>
     requires width { W ≡ 2 * problem.now.k + 1 }
     requires stage { before.now.0 < length problem.now.flights }
     requires whole { IsTrue is_whole → earlier.now.0 < before.now.0
         → IsNextOf problem.now earlier.now.0 earlier.now.1 before.now.1 }
-    requires former { AreFormer problem.now former.now }
-    ensures number { IfOk result (λ s. s.0 ≡ before.now.0 + 1) }
-    ensures ascending { IfOk result (λ s. IsAscending s.1) }
-    ensures exact { IfOk result (λ s. IsNextOf problem.now before.now.0 before.now.1 s.1) }
-    ensures candidates { IfOk result (λ s. HoldsCandidates problem.now before.now s) }
+    ensures { IfOk result (IsStageAfter problem.now before.now) }
 {
-    let number = before.number() as usize;
-    if number + 1 < former.len() {
-        let held = &former[number];
-        let after = &former[number + 1];
-        if after.is_whole && held.stage.len() == before.len() {
-            let stage = next_stage_again(alloc, before, problem, &held.stage, &after.stage)?;
+    if let Some(former) = former {
+        if let Some(stage) = former.next(alloc, problem, before)? {
             return Ok(stage);
         }
     }
@@ -137,13 +127,12 @@ fn candidates_after<const W: usize>(
     alloc: Global,
     problem: &Problem,
     kept: &[LabelledStage<W>],
-    former: &[FormerStage<W>],
+    former: &Option<Former<W>>,
 ) -> Result<Stage<W>, AllocError>
     requires width { W ≡ 2 * problem.now.k + 1 }
     requires held { AreStages problem.now kept.now }
     requires some { 0 < length kept.now }
     requires number { length kept.now ≤ length problem.now.flights }
-    requires former { AreFormer problem.now former.now }
     ensures number { IfOk result (λ s. s.0 ≡ length kept.now) }
     ensures ascending { IfOk result (λ s. IsAscending s.1) }
     ensures exact { IfOk result (λ s. IsNextOf problem.now (length kept.now - 1)
@@ -171,7 +160,7 @@ fn add_stage<const W: usize, R: Threads + Sync, G: Gate + Sync, L: Ledger>(
     alloc: Global,
     problem: &Problem,
     kept: &mut Vec<LabelledStage<W>>,
-    former: &[FormerStage<W>],
+    former: &Option<Former<W>>,
     gate: &G,
     steps: &mut Steps<L>,
 ) -> Result<(), AllocError>
@@ -179,7 +168,6 @@ fn add_stage<const W: usize, R: Threads + Sync, G: Gate + Sync, L: Ledger>(
     requires held { AreStages problem.now kept.old.items }
     requires some { 0 < vec_len kept.old }
     requires number { vec_len kept.old ≤ length problem.now.flights }
-    requires former { AreFormer problem.now former.now }
     ensures held { OnOk result (AreStages problem.now kept.new.items) }
     ensures one { OnOk result (vec_len kept.new ≡ vec_len kept.old + 1) }
     ensures steps { OnOk result ((count : ℕ) × HasCandidates problem.now
@@ -208,7 +196,7 @@ pub(crate) fn fill_stages<const W: usize, R: Threads + Sync, G: Gate + Sync, L: 
     alloc: Global,
     problem: &Problem,
     kept: &mut Vec<LabelledStage<W>>,
-    former: &[FormerStage<W>],
+    former: &Option<Former<W>>,
     gate: &G,
     steps: &mut Steps<L>,
 ) -> Result<(), AllocError>
@@ -216,7 +204,6 @@ pub(crate) fn fill_stages<const W: usize, R: Threads + Sync, G: Gate + Sync, L: 
     requires held { AreStages problem.now kept.old.items }
     requires some { 0 < vec_len kept.old }
     requires few { vec_len kept.old ≤ length problem.now.flights + 1 }
-    requires former { AreFormer problem.now former.now }
     ensures held { OnOk result (AreStages problem.now kept.new.items) }
     ensures all { OnOk result (vec_len kept.new ≡ length problem.now.flights + 1) }
     ensures steps { OnOk result ((due : ℕ) × HasCandidatesFrom (vec_len kept.old)

@@ -4,7 +4,7 @@ ghost use Rattle.cps_nodes.specs.Windows.{IsWidth};
 
 use super::assert_send_sync;
 use crate::bank::Bank;
-use cps_network::{Stage, last_rank, next_stage, next_stage_like, sources};
+use cps_network::{Stage, last_rank, next_stage, next_stage_again, sources};
 use cps_problem::{Objective, Problem};
 use std::alloc::{AllocError, Global};
 use std::test::Fail;
@@ -88,7 +88,7 @@ fn stage_after<const W: usize>(
     Ok(stage)
 }
 
-// Whether both ways of making the stage after a stage, of which one looks at an earlier stage, give the same one.
+// Whether the stage after a stage is the same where it is taken again from that after an earlier one.
 fn have_same_next<const W: usize>(
     alloc: Global,
     problem: &Problem,
@@ -100,9 +100,11 @@ fn have_same_next<const W: usize>(
     requires earlier { earlier.now.0 < stage.now.0 }
 {
     let after = next_stage(alloc, earlier, problem)?;
-    let like = next_stage_like(alloc, stage, problem, earlier, &after)?;
     let next = next_stage(alloc, stage, problem)?;
-    Ok(are_one(&next, &like))
+    match next_stage_again(alloc, stage, problem, problem, earlier, &after)? {
+        None => Ok(true),
+        Some(again) => Ok(are_one(&next, &again)),
+    }
 }
 
 // Whether both ways of making the next stage give the same one, from each stage of a problem on. The first window of the

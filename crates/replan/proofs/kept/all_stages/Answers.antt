@@ -3,5 +3,5 @@ use Rattle.replan.proofs.kept.all_stages.Goals as goal
 
 pub fill_stages-requires : goal.fill_stages-requires
 fill_stages-requires g c =
-    let s = c.in_ok-stages.ensures in
-    (search rules, (search rules, (search rules, (search rules, (c.requires, (s.held, (s.some, (s.few, rw c.deref.ensures.value c.in_ok-former.ensures))))))))
+    let s = c.in_ok-begun.ensures in
+    (search rules, (search rules, (search rules, (search rules, (c.requires, (s.held, (s.some, s.few)))))))

@@ -9,7 +9,7 @@ candidates_after-requires g c =
     let long : length c.args.kept.now.items ≡ vec_len c.args.kept.now = omega arith in
     let r = c.requires in
     let is = c.deref.ensures.value in
-    (search rules, (search rules, (search rules, (r.width, (rw is r.held, (rw (is, long) r.some, (rw (is, long) r.number, r.former)))))))
+    (search rules, (search rules, (search rules, (r.width, (rw is r.held, (rw (is, long) r.some, rw (is, long) r.number))))))
 
 pub next-requires : goal.next-requires
 next-requires g c =

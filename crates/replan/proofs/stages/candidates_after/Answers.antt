@@ -15,7 +15,7 @@ stage_again-requires g c =
           c.requires.width,
           (
             omega (arith, number, c.requires.number, c.requires.some),
-            (whole_at c.args.problem.now _ c.requires.held _ _ _ _ lt c.saturating_sub.ensures f e, c.requires.former),
+            whole_at c.args.problem.now _ c.requires.held _ _ _ _ lt c.saturating_sub.ensures f e,
           ),
         ),
       ),

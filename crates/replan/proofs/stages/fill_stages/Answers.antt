@@ -21,7 +21,7 @@ add_stage-requires g c =
     let long = c.loop-stage.invariant.1 in
     let some : 0 < vec_len c.loop-stage.kept = omega (arith, long, c.loop-stage.auto, c.len-first.ensures, c.requires.some) in
     let number : vec_len c.loop-stage.kept ≤ length c.args.problem.now.flights = omega (arith, long, c.loop-stage-test.true, c.len.ensures.value) in
-    (search rules, (search rules, (search rules, (search rules, (c.requires.width, (c.loop-stage.invariant.0, (some, (number, c.requires.former))))))))
+    (search rules, (search rules, (search rules, (search rules, (c.requires.width, (c.loop-stage.invariant.0, (some, number)))))))
 
 pub loop-stage-preserved : goal.loop-stage-preserved
 loop-stage-preserved g c =
