@@ -19,6 +19,5 @@ pub mod WholeSizes
 pub mod WholePairs
 pub mod PlacedBits
 pub mod ShownOrder
-pub mod OneProblem
 pub mod OneVerdict
 pub mod OneStates

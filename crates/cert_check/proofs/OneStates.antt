@@ -14,7 +14,7 @@ use Rattle.certificate.specs.States.{State}
 use Rattle.cert_check.specs.Situations.{OneStatesLaw}
 use Rattle.cert_check.specs.States.{node_of}
 use Rattle.cert_check.specs.Whole.{AreWholeStates, Attains, IsWholeState}
-use Rattle.cert_check.proofs.OneProblem.{same_but_pairs, same_order, with_pairs}
+use Rattle.cps_problem.specs.shared.OneProblem.{same_but_pairs, same_order, with_pairs}
 use Rattle.cert_check.proofs.WholeUnique.{whole_is_unique}
 
 module _ (p : Problem) (xs : List ℕ) (same : must_precede xs ≡ must_precede p.pairs) where

@@ -25,7 +25,7 @@ use Rattle.cert_check.specs.Landings.{Landings, count, second, seconds, is_shut,
 use Rattle.cert_check.specs.Situations.{OneVerdictLaw}
 use Rattle.cert_check.specs.States.{node_of, pairs_of, ready, shape_failure, final_failure}
 use Rattle.cert_check.specs.Verdict.{with_pair, flights_reason, claim_reason, landing_reason, state_reason, failure, verdict_by, verdict_of}
-use Rattle.cert_check.proofs.OneProblem.{same_but_pairs, same_order, with_pairs}
+use Rattle.cps_problem.specs.shared.OneProblem.{same_but_pairs, same_order, with_pairs}
 
 -- a verdict looks at the pairs by whether a rank must land before another, and in no other way
 module _ (p : Problem) (xs : List ℕ) (same : must_precede xs ≡ must_precede p.pairs) where

@@ -1,24 +1,32 @@
 -- One window more is gathered.
-use Rattle.std.proofs.Common.{◌≡◌, ℕ, zero, suc, ◌+◌, ◌<◌, ◌≤◌, ◌⊎◌, inl, inr, List, [], ◌∷◌, length, set, Bool, refl, sym, ap, ap₂, subst, ◌∙◌, arith}
+use Rattle.std.proofs.Common.{◌≡◌, ℕ, zero, suc, ◌+◌, ◌*◌, ◌^◌, ◌<◌, ◌≤◌, ◌⊎◌, inl, inr, List, [], ◌∷◌, ◌++◌, length, length-append, set, Bool, Option, replicate, refl, sym, ap, ap₂, subst, ◌∙◌, arith}
 use Rattle.std.specs.Prelude.{ℤ, All}
 use Rattle.std.proofs.lemmas.Bool.{cases_eq}
-use Rattle.std.proofs.lemmas.List.{get_or_default}
+use Rattle.std.proofs.lemmas.List.{get_or_append_left, get_or_default, get_or_push}
 use Rattle.landing_rules.specs.Problem.{Problem}
-use Rattle.cps_theory.specs.LandingTrail.{ranks}
+use Rattle.cps_theory.specs.LandingTrail.{cost_of, ranks}
 use Rattle.cps_theory.specs.Labels.{InPairs, NoWorse, Pair}
 use Rattle.cps_theory.specs.LegalPrefix.{Legal}
 use Rattle.cps_theory.specs.Patterns.{IsShaped, PatternNode, pattern_node}
 use Rattle.cps_theory.specs.laws.LabelDominance.{no_worse_trans}
 use Rattle.cps_theory.specs.laws.PatternShape.{legal_is_shaped}
-use Rattle.landing_joint.specs.RankedProblem.{ranked}
+use Rattle.cps_theory.specs.Separation.{Landing}
+use Rattle.landing_joint.specs.RankedProblem.{ranked, no_waiting, cost_at, cost_by}
+use Rattle.landing_rules.specs.declared.objective.Objective.{Objective}
+use Rattle.landing_rules.specs.declared.objective.Objective.TheVariants.{Makespan}
+use Rattle.cps_theory.specs.RankLists.{of_rank}
 use Rattle.cps_network.specs.Landable.{IsLandable}
 use Rattle.cps_network.specs.Lists.{node_at}
 use Rattle.cps_network.specs.Nodes.{Node, latest}
-use Rattle.cps_network.specs.Pairs.{HoldsCosts, list_at}
+use Rattle.cps_network.specs.Pairs.{HoldsCosts, list_at, pair_at}
 use Rattle.cps_network.specs.WindowRanks.{TellsPlaced}
 use Rattle.cert_check.specs.PlacedBits.{digits_of}
+use Rattle.replan.specs.Held.{HeldProblem}
+use Rattle.replan.specs.Readers.{lists_in, stage_in}
+use Rattle.replan.specs.WindowNodes.{told_at, AreLeastIn, AreNodesOf, AreOneNode, IsPairAt, WindowNodes}
+use Rattle.replan.specs.shared.OneNode.{one_tells}
 use Rattle.cert_writer.specs.StageEntries.{IsWindowOf, PlacedTellNodes}
-use Rattle.cert_writer.specs.Gathered.{AreGathered, IsEntryBefore, IsInRange}
+use Rattle.cert_writer.specs.Gathered.{AreGathered, HaveSlots, IsEntryBefore, IsInRange, IsSlotOf}
 use Rattle.cert_writer.specs.Slots.{HasSlot}
 use Rattle.cert_writer.proofs.SlotLemmas.{one_slot, slot_node}
 
@@ -127,4 +135,182 @@ module _ (p : Problem) (stage : ℕ × List (List ℤ)) (lists : List (List Pair
         | inl e ↦ subst (All IsInRange) (sym (ap (list_at (set slots slot list)) e ∙ set_same slots slot list lt)) (ranged (g.in_range slot))
         | inr ne ↦ subst (All IsInRange) (sym (set_other slots slot s list ne)) (g.in_range s)
       ];
+    }
+
+-- ---- slots of nodes that are put together
+
+pub slot_moves : (k stage : ℕ) (xs ys : List ℤ) (slot : ℕ) → AreOneNode stage xs ys → IsSlotOf k stage xs slot → IsSlotOf k stage ys slot
+slot_moves k stage xs ys slot one is = record {
+  placed = is.placed;
+  told = one_tells stage xs ys is.placed one is.told;
+  has = subst (λ (l : ℕ). HasSlot k (stage, digits_of k stage is.placed, l) slot) one.last is.has;
+}
+
+pub one_slot_more : (k stage : ℕ) (list : List (List ℤ)) (firsts : List ℕ) (count : ℕ) (slots : List ℕ) (slot : ℕ) → HaveSlots k stage list firsts count slots
+    → IsSlotOf k stage (node_at list (told_at firsts count)) slot → HaveSlots k stage list firsts (count + 1) (slots ++ slot ∷ [])
+one_slot_more k stage list firsts count slots slot h is = record {
+  long = length-append slots (slot ∷ []) ∙ ap (λ (n : ℕ). n + 1) h.long;
+  each = λ j lt. elim (cases_eq j count) [
+    | inl e ↦
+        let new : told_at (slots ++ slot ∷ []) j ≡ slot = ap (told_at (slots ++ slot ∷ [])) e ∙ get_or_push slots slot 0 count h.long in
+        subst (IsSlotOf k stage (node_at list (told_at firsts j))) (sym new) (subst (λ (i : ℕ). IsSlotOf k stage (node_at list (told_at firsts i)) slot) (sym e) is)
+    | inr ne ↦
+        let l : j < count = omega (arith, lt, ne) in
+        let old : told_at (slots ++ slot ∷ []) j ≡ told_at slots j = get_or_append_left slots (slot ∷ []) 0 j (let a = h.long in omega (arith, l, a)) in
+        subst (IsSlotOf k stage (node_at list (told_at firsts j))) (sym old) (h.each j l)
+  ];
+}
+
+-- the earliest pairs of the first nodes, each in its slot
+pub record AreEarliest (slots : List ℕ) (least : List Pair) (room count : ℕ) (pairs : List (List Pair)) : Type 0 where
+  pub room_is : length pairs ≡ room
+  pub found : (slot : ℕ) (q : Pair) → InPairs q (list_at pairs slot) → (j : ℕ) × (j < count) × (told_at slots j ≡ slot) × (q ≡ pair_at least j)
+  pub covers : (j : ℕ) → j < count → (o : Pair) × InPairs o (list_at pairs (told_at slots j)) × NoWorse o (pair_at least j)
+  pub in_range : (slot : ℕ) → All IsInRange (list_at pairs slot)
+
+none_in : (n slot : ℕ) → list_at (replicate n []) slot ≡ []
+none_in zero slot = refl
+none_in (suc n) zero = refl
+none_in (suc n) (suc slot) = none_in n slot
+
+long_none : (n : ℕ) → length (replicate {A = List Pair} n []) ≡ n
+long_none zero = refl
+long_none (suc n) = ap suc (long_none n)
+
+pub no_earliest : (slots : List ℕ) (least : List Pair) (room : ℕ) → AreEarliest slots least room 0 (replicate room [])
+no_earliest slots least room = record {
+  room_is = long_none room;
+  found = λ slot q i. absurd (subst (InPairs q) (none_in room slot) i);
+  covers = λ j lt. absurd (omega (arith, lt));
+  in_range = λ slot. subst (All IsInRange) (sym (none_in room slot)) (λ k d lt. absurd (omega (arith, lt)));
+}
+
+module _ (slots : List ℕ) (least : List Pair) (room count : ℕ) (pairs : List (List Pair)) (m : AreEarliest slots least room count pairs) (inside : told_at slots count < length pairs) (list : List Pair) (into : (q : Pair) → InPairs q list → InPairs q (list_at pairs (told_at slots count)) ⊎ (q ≡ pair_at least count)) (keeps : (q : Pair) → InPairs q (list_at pairs (told_at slots count)) ⊎ (q ≡ pair_at least count) → (o : Pair) × InPairs o list × NoWorse o q) (ranged : All IsInRange (list_at pairs (told_at slots count)) → All IsInRange list) where
+  abbrev slot : ℕ
+  slot = told_at slots count
+
+  here : (s : ℕ) → s ≡ slot → list_at (set pairs slot list) s ≡ list
+  here s e = ap (list_at (set pairs slot list)) e ∙ set_same pairs slot list inside
+
+  old_found : (q : Pair) (s : ℕ) → InPairs q (list_at pairs s) → (j : ℕ) × (j < count + 1) × (told_at slots j ≡ s) × (q ≡ pair_at least j)
+  old_found q s i = let f = m.found s q i in (f.0, (let a = f.1 in omega (arith, a)), f.2, f.3)
+
+  pub one_earliest : AreEarliest slots least room (count + 1) (set pairs slot list)
+  one_earliest = record {
+    room_is = set_long pairs slot list ∙ m.room_is;
+    found = λ s q i. elim (cases_eq s slot) [
+      | inl e ↦ elim (into q (subst (InPairs q) (here s e) i)) [
+        | inl old ↦ (let f = old_found q slot old in (f.0, f.1, f.2 ∙ sym e, f.3))
+        | inr new ↦ (count, omega arith, sym e, new)
+      ]
+      | inr ne ↦ old_found q s (subst (InPairs q) (set_other pairs slot s list ne) i)
+    ];
+    covers = λ j lt. elim (cases_eq (told_at slots j) slot) [
+      | inl e ↦ elim (cases_eq j count) [
+        | inl this ↦
+            let o = keeps (pair_at least count) (inr refl) in
+            (o.0, subst (InPairs o.0) (sym (here (told_at slots j) e)) o.1, subst (λ (n : ℕ). NoWorse o.0 (pair_at least n)) (sym this) o.2)
+        | inr other ↦
+            let c = m.covers j (omega (arith, lt, other)) in
+            let o = keeps c.0 (inl (subst (λ (n : ℕ). InPairs c.0 (list_at pairs n)) e c.1)) in
+            (o.0, subst (InPairs o.0) (sym (here (told_at slots j) e)) o.1, no_worse_trans o.0 c.0 (pair_at least j) o.2 c.2)
+      ]
+      | inr ne ↦
+          let less : j < count = before j lt ne in
+          let c = m.covers j less in
+          (c.0, subst (InPairs c.0) (sym (set_other pairs slot (told_at slots j) list ne)) c.1, c.2)
+    ];
+    in_range = λ s. elim (cases_eq s slot) [
+      | inl e ↦ subst (All IsInRange) (sym (here s e)) (ranged (m.in_range slot))
+      | inr ne ↦ subst (All IsInRange) (sym (set_other pairs slot s list ne)) (m.in_range s)
+    ];
+  }
+    where
+      before : (j : ℕ) → j < count + 1 → (told_at slots j ≡ slot → ⊥) → j < count
+      before j lt ne = elim (cases_eq j count) [ inl e ↦ absurd (ne (ap (told_at slots) e)) | inr other ↦ omega (arith, lt, other) ]
+
+-- ---- the pairs of a problem of the makespan cost nothing
+
+no_cost : (p : Problem) → p.objective ≡ Makespan → (xs : List Landing) → cost_of (cost_at p) xs ≡ 0
+no_cost p e [] = refl
+no_cost p e (x ∷ xs) =
+    let a = no_cost p e xs in
+    let b : cost_at p x.0 x.1 ≡ 0 = ap (λ (o : Objective). cost_by o (of_rank no_waiting p.flights x.0) x.1) e in
+    omega (arith, a, b)
+
+module _ (p : Problem) (tell : PlacedTellNodes p) (held : Option HeldProblem) (stage : ℕ) (number : (stage_in held stage).0 ≡ stage) (h : HoldsCosts p (stage_in held stage) (lists_in held stage)) (put : WindowNodes) (are : AreNodesOf held stage put) (slots : List ℕ) (hs : HaveSlots p.k stage (stage_in held stage).1 put.firsts (length put.firsts) slots) where
+  abbrev s : ℕ × List (List ℤ)
+  s = stage_in held stage
+
+  abbrev all_lists : List (List Pair)
+  all_lists = lists_in held stage
+
+  -- the slot of a window is that of the first window of its node
+  pub window_slot : (i : ℕ) → i < length s.1 → IsSlotOf p.k stage (node_at s.1 i) (told_at slots (told_at put.places i))
+  window_slot i lt = slot_moves p.k stage (node_at s.1 (told_at put.firsts (told_at put.places i))) (node_at s.1 i) (told_at slots (told_at put.places i)) (are.together.one i lt) (hs.each (told_at put.places i) (are.together.within i lt))
+
+  pub node_of_window : (i : ℕ) → i < length s.1 → PatternNode
+  node_of_window i lt = (stage, digits_of p.k stage (window_slot i lt).placed, latest (stage, node_at s.1 i))
+
+  of_window : (i : ℕ) (lt : i < length s.1) → IsWindowOf p s.0 (node_at s.1 i) (node_of_window i lt)
+  unfolding node_of_window
+  of_window i lt = window_here p tell s stage number i p.k (window_slot i lt).placed (latest (stage, node_at s.1 i)) refl (window_slot i lt).told refl
+
+  has_window : (i : ℕ) (lt : i < length s.1) → HasSlot p.k (node_of_window i lt) (told_at slots (told_at put.places i))
+  unfolding node_of_window
+  has_window i lt = (window_slot i lt).has
+
+  at_window : (i : ℕ) (lt : i < length s.1) → (node_of_window i lt).0 ≡ s.0
+  unfolding node_of_window
+  at_window i _ = sym number
+
+  -- one window more, for any objective
+  pub window_joined : (i : ℕ) (lt : i < length s.1) (pairs : List (List Pair)) → AreGathered p s all_lists i pairs → (list : List Pair)
+      → ((q : Pair) → InPairs q list → InPairs q (list_at pairs (told_at slots (told_at put.places i))) ⊎ InPairs q (list_at all_lists i))
+      → ((q : Pair) → InPairs q (list_at pairs (told_at slots (told_at put.places i))) ⊎ InPairs q (list_at all_lists i) → (o : Pair) × InPairs o list × NoWorse o q)
+      → (All IsInRange (list_at pairs (told_at slots (told_at put.places i))) → All IsInRange list)
+      → AreGathered p s all_lists (i + 1) (set pairs (told_at slots (told_at put.places i)) list)
+  window_joined i lt pairs g list into keeps ranged =
+      more_gathered p s all_lists h i lt pairs g (told_at slots (told_at put.places i)) (node_of_window i lt) (at_window i lt) (has_window i lt) (of_window i lt) list into keeps ranged
+
+  module _ (makespan : p.objective ≡ Makespan) (least : List Pair) (l : AreLeastIn held stage put least) (pairs : List (List Pair)) (m : AreEarliest slots least (8 * 2 ^ (2 * p.k)) (length put.firsts) pairs) where
+    free : (i : ℕ) → i < length s.1 → (q : Pair) → InPairs q (list_at all_lists i) → q.1 ≡ 0
+    free i lt q has = let a = (((h.costs.pairs i lt).undominated q).0 has).attained in ap (λ (z : Pair). z.1) (sym a.is) ∙ no_cost p makespan a.landings
+
+    inside : (j : ℕ) (q : Pair) (is : IsPairAt all_lists put.places j q) → is.window < length s.1
+    inside j q is = let a = is.within in let b = are.together.long in omega (arith, a, b)
+
+    -- the least of a node is a pair of one of its windows
+    least_is : (j : ℕ) → j < length put.firsts → (i : ℕ) × (i < length s.1) × (told_at put.places i ≡ j) × InPairs (pair_at least j) (list_at all_lists i)
+    least_is j lt =
+        let a = (l.each j lt).earliest in
+        let b = (l.each j lt).cheapest in
+        let free_a = free a.1.window (inside j a.0 a.1) a.0 a.1.has in
+        let free_b = free b.1.window (inside j b.0 b.1) b.0 b.1.has in
+        let same : a.0 ≡ pair_at least j = ap₂ (λ (x y : ℕ). (x, y)) a.2 (free_a ∙ sym free_b ∙ b.2) in
+        (a.1.window, inside j a.0 a.1, a.1.of_node, subst (λ (q : Pair). InPairs q (list_at all_lists a.1.window)) same a.1.has)
+
+    pub earliest_gathered : AreGathered p s all_lists (length s.1) pairs
+    earliest_gathered = record {
+      room = m.room_is;
+      found = λ slot q i.
+          let f = m.found slot q i in
+          let w = least_is f.0 f.1 in
+          let at : told_at slots (told_at put.places w.0) ≡ slot = ap (told_at slots) w.2 ∙ f.2 in (
+            node_of_window w.0 w.1,
+            at_window w.0 w.1,
+            subst (HasSlot p.k (node_of_window w.0 w.1)) at (has_window w.0 w.1),
+            (record { place = w.0; within = w.1; node = of_window w.0 w.1; has = subst (λ (x : Pair). InPairs x (list_at all_lists w.0)) (sym f.3) w.3 }, w.1),
+          );
+      covers = λ slot d q same it e.
+          let i = e.0.place in
+          let lt = e.0.within in
+          let j = told_at put.places i in
+          let one = window_node p s.0 (node_at s.1 i) d (node_of_window i lt) (place_landable p s all_lists h i lt) e.0.node (of_window i lt) in
+          let at : slot ≡ told_at slots j = one_slot p.k (node_of_window i lt) slot (told_at slots j) (subst (λ (w : PatternNode). HasSlot p.k w slot) one it) (has_window i lt) in
+          let within = are.together.within i lt in
+          let c = m.covers j within in
+          let pair : IsPairAt all_lists put.places j q = record { window = i; within = (let a = are.together.long in omega (arith, a, lt)); of_node = refl; has = e.0.has } in
+          (c.0, subst (λ (n : ℕ). InPairs c.0 (list_at pairs n)) (sym at) c.1, no_worse_trans c.0 (pair_at least j) q c.2 ((l.each j within).early q pair, (l.each j within).cheap q pair));
+      in_range = m.in_range;
     }

@@ -4,7 +4,12 @@ use Rattle.landing_rules.specs.Problem.{Problem}
 use Rattle.landing_rules.specs.Rules.{last_second}
 use Rattle.cps_theory.specs.Labels.{InPairs, NoWorse, Pair}
 use Rattle.cps_theory.specs.Patterns.{PatternNode}
+use Rattle.cps_network.specs.Lists.{node_at}
+use Rattle.cps_network.specs.Nodes.{latest}
 use Rattle.cps_network.specs.Pairs.{list_at}
+use Rattle.cps_network.specs.WindowRanks.{TellsPlaced}
+use Rattle.cert_check.specs.PlacedBits.{digits_of}
+use Rattle.replan.specs.WindowNodes.{told_at}
 use Rattle.cert_writer.specs.StageEntries.{IsEntry}
 use Rattle.cert_writer.specs.Slots.{HasSlot}
 
@@ -36,3 +41,14 @@ pub record AreGathered (p : Problem) (stage : ℕ × List (List ℤ)) (lists : L
   pub covers : (slot : ℕ) (d : PatternNode) (q : Pair) → d.0 ≡ stage.0 → HasSlot p.k d slot → IsEntryBefore p stage lists count d q
       → (o : Pair) × InPairs o (list_at slots slot) × NoWorse o q
   pub in_range : (slot : ℕ) → All IsInRange (list_at slots slot)
+
+-- a window of a stage has this slot: that of the node of its ranks
+pub record IsSlotOf (k stage : ℕ) (window : List ℤ) (slot : ℕ) : Type 0 where
+  pub placed : ℕ
+  pub told : TellsPlaced window stage placed
+  pub has : HasSlot k (stage, digits_of k stage placed, latest (stage, window)) slot
+
+-- the first nodes of a stage have these slots: those of their first windows
+pub record HaveSlots (k stage : ℕ) (windows : List (List ℤ)) (firsts : List ℕ) (count : ℕ) (slots : List ℕ) : Type 0 where
+  pub long : length slots ≡ count
+  pub each : (j : ℕ) → j < count → IsSlotOf k stage (node_at windows (told_at firsts j)) (told_at slots j)

@@ -39,7 +39,7 @@ impl NodePairs {
 
     // One pair more. Where it is no worse or no better than the last of them, only one of the two stays: so the pairs of the
     // makespan, which cost nothing, take the room of one.
-    fn keep(&mut self, pair: (u32, u32)) -> Result<(), AllocError>
+    pub(crate) fn keep(&mut self, pair: (u32, u32)) -> Result<(), AllocError>
         requires { pair.0 ≤ 172799 }
         ensures found { OnOk result (HasOnly self.new (λ q. InPairs q self.old ⊎ (q ≡ pair))) }
         ensures covers { OnOk result (HasBetter self.new (λ q. InPairs q self.old ⊎ (q ≡ pair))) }

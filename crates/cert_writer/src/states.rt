@@ -3,6 +3,7 @@
 ghost use Rattle.std.specs.Prelude.{◌≡◌, ◌+◌, ◌*◌, ◌^◌, ◌≤◌, ◌<◌, IfOk, OnOk, Some, length};
 ghost use Rattle.cert_check.specs.Whole.{AreWholeStates};
 ghost use Rattle.replan.specs.Kept.{held_of, problem_held};
+ghost use Rattle.replan.specs.WindowNodes.{AreNodesOf};
 ghost use Rattle.cert_writer.specs.Written.{HavePairsInRange, IsGathered, IsWritten, StageLaws};
 
 use crate::gather::gather;
@@ -11,7 +12,7 @@ use crate::pairs::NodePairs;
 use crate::slot::turned;
 use certificate::{CertState, Pattern};
 use cps_problem::Problem;
-use replan::AnyKept;
+use replan::{AnyKept, WindowNodes};
 use std::alloc::{AllocError, Global};
 
 // Writes the state of the node of this number, where it has a pair.
@@ -52,18 +53,20 @@ fn add_states(
     problem: &Problem,
     kept: &AnyKept,
     stage: u8,
+    windows: &WindowNodes,
     states: &mut Vec<CertState>,
 ) -> Result<(), AllocError>
     requires held { problem_held kept.now ≡ Some problem.now }
     requires laws { StageLaws problem.now }
     requires stage { (1 ≤ stage) × (stage ≤ length problem.now.flights) }
+    requires windows { AreNodesOf (held_of kept.now) stage windows.now }
     requires written { IsWritten problem.now (held_of kept.now) stage 0 states.old.items }
     ensures { OnOk result (IsWritten problem.now (held_of kept.now) (stage + 1) 0
         states.new.items) }
 {
     let k = most_shift(problem);
     let _held = kept.stages();
-    let slots = gather(alloc, problem, kept, stage)?;
+    let slots = gather(alloc, problem, kept, stage, windows)?;
     for number in 0..8usize << (2 * k) {
         add_state(alloc, problem, kept, stage, number, &slots, states)?;
     }
@@ -82,9 +85,12 @@ pub(crate) fn states_of(
 {
     let _near = most_shift(problem);
     stage_laws(problem);
+    let mut windows = WindowNodes::of_none(alloc)?;
     let mut states = Vec::new(alloc);
     for stage in 1..kept.stages() + 1 {
-        add_states(alloc, problem, kept, stage, &mut states)?;
+        let put = kept.nodes(alloc, stage, &windows)?;
+        add_states(alloc, problem, kept, stage, &put, &mut states)?;
+        windows = put;
     }
     Ok(states)
 }

@@ -16,7 +16,7 @@ use Rattle.replan.specs.Readers.{AreStagesOf, lists_in, stage_in, window_in}
 use Rattle.first_best.specs.declared.node.EarlyNode.{EarlyNode}
 use Rattle.first_best.specs.Nodes.{node_at, AreNodesOf, IsLandedPrefix}
 use Rattle.first_best.specs.Gathered.{IsGathered, place_at}
-use Rattle.first_best.specs.Stages.{pairs_of, stage_of, AreCompleted, HasEachList, IsAheadBy, IsAheadOf, IsAheadWithin, ListsAllCompleting, ListsAllOfUse}
+use Rattle.first_best.specs.Stages.{pairs_of, stage_of, AreCompleted, HasEachList, IsAheadBy, IsAheadOf, IsAheadWithin, IsBehind, ListsAllCompleting, ListsAllOfUse}
 use Rattle.first_best.specs.Uses.{IsWanted, KeepsWanted}
 use Rattle.first_best.specs.Completing.{no_stage, Rises, StageAhead}
 use Rattle.first_best.proofs.GatherLemmas.{gathered_nodes, window_prefix}
@@ -55,6 +55,16 @@ module _ (p : Problem) (v : ℕ) (budget : Option ℕ) (held : Option HeldProble
       completed = each (λ n t. AreCompleted p v budget n t.nodes t.lists) a.completed completed;
       gathered = each (λ n t. IsGathered held n t.nodes t.places) a.gathered gathered;
     }
+
+  -- the last of them is behind the stage before it
+  pub last_behind : (stage : ℕ) → stage ≡ length p.flights - done → done < length p.flights → (next : StageAhead) → next ≡ at stages done → IsBehind p v budget stage next
+  last_behind stage is lt next e = elim (cases_eq done 0) [
+    | inl none ↦ inl (omega (arith, is, none), e ∙ ap (at stages) none ∙ a.first)
+    | inr some ↦
+        let n : length p.flights + 1 - done ≡ stage + 1 = omega (arith, is, lt) in
+        let c = a.completed done (omega (arith, some)) (omega arith) in
+        inr (omega (arith, is, lt, some), subst (λ (s : StageAhead). AreCompleted p v budget (stage + 1) s.nodes s.lists) (sym e) (subst (λ (m : ℕ). AreCompleted p v budget m (at stages done).nodes (at stages done).lists) n c))
+  ]
 
   pub all_stages : done ≡ length p.flights → IsAheadBy p v budget held stages
   all_stages e = record {

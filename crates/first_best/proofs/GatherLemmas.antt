@@ -1,10 +1,9 @@
 -- The windows of a stage, put together by node.
-use Rattle.std.proofs.Common.{◌≡◌, ℕ, ◌+◌, ◌<◌, ◌≤◌, inl, inr, List, [], ◌∷◌, ◌++◌, length, refl, sym, ap, subst, ◌∙◌, arith, length-append}
+use Rattle.std.proofs.Common.{◌≡◌, ℕ, ◌+◌, ◌-◌, ◌<◌, ◌≤◌, inl, inr, List, [], ◌∷◌, ◌++◌, length, refl, sym, ap, subst, ◌∙◌, arith, length-append, Option}
 use Rattle.std.specs.Prelude.{ℤ, pos, ◌↔◌}
-use Rattle.std.proofs.lemmas.Bool.{cases_eq, cases_lt}
+use Rattle.std.proofs.lemmas.Bool.{cases_eq}
 use Rattle.std.proofs.lemmas.List.{get_or_default, get_or_append_left, get_or_push}
 use Rattle.precedence.specs.Pairs.{HasBit}
-use Rattle.replan.specs.shared.LastPairs.{last_cheapest}
 use Rattle.landing_rules.specs.Problem.{Problem}
 use Rattle.cps_theory.specs.Separation.{Landing}
 use Rattle.cps_theory.specs.LandingTrail.{cost_of, latest_landing, pair_of, ranks}
@@ -18,89 +17,17 @@ use Rattle.cps_network.specs.Landable.{IsLandable}
 use Rattle.cps_network.specs.Lists as windows
 use Rattle.cps_network.specs.Nodes as network
 use Rattle.cps_network.specs.Pairs.{HoldsCosts, list_at, pair_at}
-use Rattle.cps_network.specs.WindowRanks.{TellTheirRanks, TellsPlaced}
+use Rattle.cps_network.specs.WindowRanks.{TellTheirRanks}
 use Rattle.cps_network.specs.shared.PairSteps.{at_in}
-use Rattle.cps_network.specs.declared.node.Node.{Node}
+use Rattle.replan.specs.Held.{HeldProblem}
+use Rattle.replan.specs.Readers.{lists_in, stage_in}
+use Rattle.replan.specs.WindowNodes as together
+use Rattle.replan.specs.WindowNodes.{told_at, AreLeastIn, IsPairAt, WindowNodes}
+use Rattle.replan.specs.shared.LastPairs.{last_cheapest}
+use Rattle.replan.specs.shared.OneNode.{one_set, one_tells, same_one}
 use Rattle.first_best.specs.declared.node.EarlyNode.{EarlyNode}
-use Rattle.first_best.specs.Nodes.{node_at, AreNodesOf, IsLandedPrefix, IsPrefixOf, IsReached}
-use Rattle.first_best.specs.Gathered.{AreGathered, IsAdded, IsSameNode, IsWindowOf, cost_in, place_at, second_of}
-use Rattle.first_best.proofs.NodeLemmas.{one_set}
-
--- ---- one window more
-
-module _ (stage : ℕ × List (List ℤ)) (lists : List (List Pair)) (count : ℕ) (nodes after : List EarlyNode) (places : List ℕ) (g : AreGathered stage lists count nodes places) (node : Node) (second cost place : ℕ) (add : IsAdded nodes after node second cost place) (at : second ≡ second_of lists count) (most : cost ≤ cost_in lists count) (told : IsWindowOf stage.0 (windows.node_at stage.1 count) (node_at after place)) where
-  old_place : (i : ℕ) → i < count → place_at (places ++ place ∷ []) i ≡ place_at places i
-  old_place i lt = get_or_append_left places (place ∷ []) 0 i (let l = g.long in omega (arith, lt, l))
-
-  new_place : place_at (places ++ place ∷ []) count ≡ place
-  new_place = get_or_push places place 0 count g.long
-
-  -- a window of a node stays one of it
-  still : (window : List ℤ) (j : ℕ) → j < length nodes → IsWindowOf stage.0 window (node_at nodes j) → IsWindowOf stage.0 window (node_at after j)
-  still window j lt w =
-      let s = add.same j lt in
-      record {
-        placed = subst (λ (set : ℕ). (rank : ℕ) → HasBit set rank ↔ ((1 ≤ rank) × IsPlaced window (pos stage.0) (pos rank))) (sym s.0) w.placed;
-        last = s.1 ∙ w.last;
-      }
-
-  -- what is said of each old window and of the new one
-  each : (P : ℕ → ℕ → Type 0) → ((i : ℕ) → i < count → P i (place_at places i)) → P count place → (i : ℕ) → i < count + 1 → P i (place_at (places ++ place ∷ []) i)
-  each P old new i lt = elim (cases_eq i count) [
-    | inl e ↦ subst (λ (j : ℕ). P j (place_at (places ++ place ∷ []) j)) (sym e) (subst (P count) (sym new_place) new)
-    | inr ne ↦ (let l : i < count = omega (arith, lt, ne) in subst (P i) (sym (old_place i l)) (old i l))
-  ]
-
-  source_of : (j : ℕ) → j < length after → (i : ℕ) × (i < count + 1) × IsWindowOf stage.0 (windows.node_at stage.1 i) (node_at after j) × ((node_at after j).earliest ≡ second_of lists i)
-  source_of j lt = elim (cases_lt j (length nodes)) [
-    | inl old ↦ elim (add.source j old) [
-      | inl same ↦
-          let s = g.source j old in
-          (s.0, (let l = s.1 in omega (arith, l)), still (windows.node_at stage.1 s.0) j old s.2, same ∙ s.3)
-      | inr new ↦ (count, omega arith, subst (λ (i : ℕ). IsWindowOf stage.0 (windows.node_at stage.1 count) (node_at after i)) (sym new.0) told, new.1 ∙ at)
-    ]
-    | inr ge ↦
-        let f = add.fresh j ge lt in
-        (count, omega arith, subst (λ (i : ℕ). IsWindowOf stage.0 (windows.node_at stage.1 count) (node_at after i)) (sym f.0) told, f.1 ∙ at)
-  ]
-
-  -- an old node is none that is new
-  differs : (i j : ℕ) → i < length nodes → length nodes ≤ j → j < length after → (node_at after i).placed ≡ (node_at after j).placed → (node_at after i).last ≡ (node_at after j).last → ⊥
-  differs i j li ge lj p l =
-      let f = add.fresh j ge lj in
-      let s = add.same i li in
-      let h = subst (λ (m : ℕ). IsSameNode (node_at after m) node) (sym f.0) add.here in
-      f.2 i li (sym s.0 ∙ p ∙ h.0, sym s.1 ∙ l ∙ h.1)
-
-  pub more_gathered : AreGathered stage lists (count + 1) after (places ++ place ∷ [])
-  more_gathered = record {
-    long = length-append places (place ∷ []) ∙ ap (λ (n : ℕ). n + 1) g.long;
-    within = each (λ i m. m < length after) (λ i lt. let a = g.within i lt in let b = add.longer in omega (arith, a, b)) add.within;
-    window = each (λ i m. IsWindowOf stage.0 (windows.node_at stage.1 i) (node_at after m)) (λ i lt. still (windows.node_at stage.1 i) (place_at places i) (g.within i lt) (g.window i lt)) told;
-    low = each (λ i m. (node_at after m).earliest ≤ second_of lists i) (λ i lt. let a = g.low i lt in let b = (add.same (place_at places i) (g.within i lt)).2 in omega (arith, a, b)) (let l = add.low in omega (arith, l, at));
-    cheap = each (λ i m. (node_at after m).cheapest ≤ cost_in lists i) (λ i lt. let a = g.cheap i lt in let b = (add.same (place_at places i) (g.within i lt)).3 in omega (arith, a, b)) (let l = add.cheap in omega (arith, l, most));
-    source = source_of;
-    apart = λ i j li lj p l. elim (cases_lt i (length nodes)) [
-      | inl a ↦ elim (cases_lt j (length nodes)) [
-        | inl b ↦
-            let s = add.same i a in
-            let t = add.same j b in
-            g.apart i j a b (sym s.0 ∙ p ∙ t.0) (sym s.1 ∙ l ∙ t.1)
-        | inr b ↦ absurd (differs i j a b lj p l)
-      ]
-      | inr a ↦ elim (cases_lt j (length nodes)) [
-        | inl b ↦ absurd (differs j i b a li (sym p) (sym l))
-        | inr b ↦ (add.fresh i a li).0 ∙ sym (add.fresh j b lj).0
-      ]
-    ];
-  }
-
--- the node that a window tells
-pub told_by : (stage : ℕ) (at : ℕ) (window : List ℤ) (new : EarlyNode) (node : Node) → at ≡ stage → IsSameNode new node → TellsPlaced window stage node.placed → node.last ≡ network.latest (stage, window) → IsWindowOf at window new
-told_by stage at window new node e same placed last = subst (λ (n : ℕ). IsWindowOf n window new) (sym e) (record {
-  placed = subst (λ (set : ℕ). TellsPlaced window stage set) (sym same.0) placed;
-  last = same.1 ∙ last;
-})
+use Rattle.first_best.specs.Nodes.{no_node, node_at, AreNodesOf, IsLandedPrefix, IsPrefixOf, IsReached}
+use Rattle.first_best.specs.Gathered.{AreGathered, IsWindowOf, cost_in, place_at, second_of}
 
 -- ---- the nodes of the prefixes that land
 
@@ -124,6 +51,108 @@ module _ (p : Problem) (stage : ℕ × List (List ℤ)) (lists : List (List Pair
       let l = landable_at i lt in
       let o = (h.costs.pairs i lt).covers l.0 l.1 in
       some_long (list_at lists i) o.0 o.1
+
+-- ---- the nodes of the windows that are put together
+
+-- each node is that of its first window, with the least second and the least cost
+pub record AreMade (stage : ℕ) (nodes_windows : List (List ℤ)) (firsts : List ℕ) (least : List Pair) (count : ℕ) (nodes : List EarlyNode) : Type 0 where
+  pub long : length nodes ≡ count
+  pub window : (j : ℕ) → j < count → IsWindowOf stage (windows.node_at nodes_windows (told_at firsts j)) (node_at nodes j)
+  pub earliest : (j : ℕ) → j < count → (node_at nodes j).earliest ≡ (pair_at least j).0
+  pub cheapest : (j : ℕ) → j < count → (node_at nodes j).cheapest ≡ (pair_at least j).1
+
+module _ (stage : ℕ) (list : List (List ℤ)) (firsts : List ℕ) (least : List Pair) (count : ℕ) (nodes : List EarlyNode) (m : AreMade stage list firsts least count nodes) (node : EarlyNode) (of : IsWindowOf stage (windows.node_at list (told_at firsts count)) node) (early : node.earliest ≡ (pair_at least count).0) (cheap : node.cheapest ≡ (pair_at least count).1) where
+  each_made : (P : ℕ → EarlyNode → Type 0) → ((j : ℕ) → j < count → P j (node_at nodes j)) → P count node → (j : ℕ) → j < count + 1 → P j (node_at (nodes ++ node ∷ []) j)
+  each_made P old new j lt = elim (cases_eq j count) [
+    | inl e ↦ subst (λ (i : ℕ). P i (node_at (nodes ++ node ∷ []) i)) (sym e) (subst (P count) (sym (get_or_push nodes node no_node count m.long)) new)
+    | inr ne ↦ (let l : j < count = omega (arith, lt, ne) in subst (P j) (sym (get_or_append_left nodes (node ∷ []) no_node j (let o = m.long in omega (arith, l, o)))) (old j l))
+  ]
+
+  pub one_made : AreMade stage list firsts least (count + 1) (nodes ++ node ∷ [])
+  one_made = record {
+    long = length-append nodes (node ∷ []) ∙ ap (λ (n : ℕ). n + 1) m.long;
+    window = each_made (λ j n. IsWindowOf stage (windows.node_at list (told_at firsts j)) n) m.window of;
+    earliest = each_made (λ j n. n.earliest ≡ (pair_at least j).0) m.earliest early;
+    cheapest = each_made (λ j n. n.cheapest ≡ (pair_at least j).1) m.cheapest cheap;
+  }
+
+module _ (p : Problem) (held : Option HeldProblem) (stage : ℕ) (number : (stage_in held stage).0 ≡ stage) (h : HoldsCosts p (stage_in held stage) (lists_in held stage)) (put : WindowNodes) (are : together.AreNodesOf held stage put) (least : List Pair) (l : AreLeastIn held stage put least) (nodes : List EarlyNode) (m : AreMade stage (stage_in held stage).1 put.firsts least (length put.firsts) nodes) where
+  abbrev list : List (List ℤ)
+  list = (stage_in held stage).1
+
+  abbrev lists : List (List Pair)
+  lists = lists_in held stage
+
+  abbrev g : together.ArePutTogether stage list (length list) put.places put.firsts
+  g = are.together
+
+  place_in : (i : ℕ) → i < length list → place_at put.places i < length put.firsts
+  place_in i lt = g.within i lt
+
+  in_places : (i : ℕ) → i < length list → i < length put.places
+  in_places i lt = (let e = g.long in omega (arith, lt, e))
+
+  -- a window tells the node at its place
+  window_told : (i : ℕ) → i < length list → IsWindowOf stage (windows.node_at list i) (node_at nodes (place_at put.places i))
+  window_told i lt =
+      let first = windows.node_at list (told_at put.firsts (place_at put.places i)) in
+      let w = m.window (place_at put.places i) (place_in i lt) in
+      let one = g.one i lt in
+      record {
+        placed = one_tells stage first (windows.node_at list i) (node_at nodes (place_at put.places i)).placed one w.placed;
+        last = w.last ∙ one.last;
+      }
+
+  at_stage : (window : List ℤ) (node : EarlyNode) → IsWindowOf stage window node → IsWindowOf (stage_in held stage).0 window node
+  at_stage window node w = subst (λ (n : ℕ). IsWindowOf n window node) (sym number) w
+
+  first_at : (i : ℕ) → i < length list → IsPairAt lists put.places (place_at put.places i) (pair_at (list_at lists i) 0)
+  first_at i lt = record { window = i; within = in_places i lt; of_node = refl; has = at_in (list_at lists i) 0 (pair_at (list_at lists i) 0) (has_first p (stage_in held stage) lists h i lt) refl }
+
+  last_at : (i : ℕ) → i < length list → IsPairAt lists put.places (place_at put.places i) (pair_at (list_at lists i) (length (list_at lists i) - 1))
+  last_at i lt =
+      let some = has_first p (stage_in held stage) lists h i lt in
+      record { window = i; within = in_places i lt; of_node = refl; has = at_in (list_at lists i) (length (list_at lists i) - 1) (pair_at (list_at lists i) (length (list_at lists i) - 1)) (omega (arith, some)) refl }
+
+  low_at : (i : ℕ) → i < length list → (node_at nodes (place_at put.places i)).earliest ≤ second_of lists i
+  low_at i lt =
+      let e = m.earliest (place_at put.places i) (place_in i lt) in
+      let a = (l.each (place_at put.places i) (place_in i lt)).early (pair_at (list_at lists i) 0) (first_at i lt) in
+      omega (arith, e, a)
+
+  source_at : (j : ℕ) → j < length put.firsts → (i : ℕ) × (i < length list) × IsWindowOf (stage_in held stage).0 (windows.node_at list i) (node_at nodes j) × ((node_at nodes j).earliest ≡ second_of lists i)
+  source_at j lt =
+      let q = (l.each j lt).earliest in
+      let i = q.1.window in
+      let long = g.long in
+      let inside = q.1.within in
+      let within : i < length list = omega (arith, inside, long) in
+      let there = q.1.of_node in
+      let low : (node_at nodes j).earliest ≤ second_of lists i = subst (λ (n : ℕ). (node_at nodes n).earliest ≤ second_of lists i) there (low_at i within) in
+      let first = first_least (list_at lists i) (h.costs.pairs i within).falling q.0 q.1.has in
+      let is = m.earliest j lt in
+      let least_is = q.2 in
+      (i, within, at_stage (windows.node_at list i) (node_at nodes j) (subst (λ (n : ℕ). IsWindowOf stage (windows.node_at list i) (node_at nodes n)) there (window_told i within)), omega (arith, low, first, is, least_is))
+
+  pub all_made : AreGathered (stage_in held stage) lists (length list) nodes put.places
+  all_made = record {
+    long = g.long;
+    within = λ i lt. (let a = place_in i lt in let e = m.long in omega (arith, a, e));
+    window = λ i lt. at_stage (windows.node_at list i) (node_at nodes (place_at put.places i)) (window_told i lt);
+    low = low_at;
+    cheap = λ i lt.
+        let e = m.cheapest (place_at put.places i) (place_in i lt) in
+        let a = (l.each (place_at put.places i) (place_in i lt)).cheap (pair_at (list_at lists i) (length (list_at lists i) - 1)) (last_at i lt) in
+        omega (arith, e, a);
+    source = λ j lt. source_at j (let e = m.long in omega (arith, lt, e));
+    apart = λ i j li lj placed last.
+        let e = m.long in
+        let a : i < length put.firsts = omega (arith, li, e) in
+        let b : j < length put.firsts = omega (arith, lj, e) in
+        let wi = m.window i a in
+        let wj = m.window j b in
+        g.apart i j a b (same_one stage (windows.node_at list (told_at put.firsts i)) (windows.node_at list (told_at put.firsts j)) (node_at nodes i).placed (node_at nodes j).placed wi.placed wj.placed placed (sym wi.last ∙ last ∙ wj.last));
+  }
 
 module _ (p : Problem) (net : network.IsWindowNetwork p) (tell : TellTheirRanks p) (stage : ℕ × List (List ℤ)) (lists : List (List Pair)) (h : HoldsCosts p stage lists) where
   -- a prefix that ends in a window of a node is of the node

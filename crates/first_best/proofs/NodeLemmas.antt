@@ -6,6 +6,7 @@ use Rattle.std.proofs.lemmas.Bool.{cases_eq}
 use Rattle.std.proofs.lemmas.Nat.Bits.{bit_at_set_same, bit_at_set_other, bit_at-lt, same_from_bits}
 use Rattle.precedence.specs.Pairs.{HasBit}
 use Rattle.landing_rules.specs.Problem.{Problem}
+use Rattle.replan.specs.shared.OneNode.{one_set}
 use Rattle.cps_theory.specs.RankLists.{In}
 use Rattle.cps_theory.specs.Separation.{Landing}
 use Rattle.cps_theory.specs.LandingTrail.{ranks}
@@ -14,19 +15,6 @@ use Rattle.first_best.specs.declared.node.EarlyNode.{EarlyNode}
 use Rattle.first_best.specs.Nodes.{node_at, AreNodesOf, IsPrefixOf, IsReached, LeadsTo}
 
 -- ---- bits
-
--- sets with the same numbers are the same
-pub one_set : (a b : ℕ) → ((x : ℕ) → HasBit a x ↔ HasBit b x) → a ≡ b
-one_set a b h = same_from_bits a b (λ i. bit i)
-  where
-    bit : (i : ℕ) → bit_at a i ≡ bit_at b i
-    bit i =
-        let la : bit_at a i < 2 = bit_at-lt a i in
-        let lb : bit_at b i < 2 = bit_at-lt b i in
-        elim (cases_eq (bit_at a i) 1) [
-          | inl e ↦ e ∙ sym ((h i).0 e)
-          | inr ne ↦ elim (cases_eq (bit_at b i) 1) [ inl f ↦ absurd (ne ((h i).1 f)) | inr nf ↦ omega (arith, la, lb, ne, nf) ]
-        ]
 
 -- the set with one number more
 pub set_has : (b l : ℕ) → l < 64 → (x : ℕ) → HasBit (bit_or b (1 * 2 ^ l % 2 ^ 64)) x ↔ (HasBit b x ⊎ (x ≡ l))

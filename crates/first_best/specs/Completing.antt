@@ -37,9 +37,13 @@ Falls (q ∷ qs) = ((o : Pair) → InPairs o qs → (o.0 < q.0) × (o.1 < q.1)) 
 abbrev pub IsCostFrom : List Pair → ℕ → ℕ → Type 0
 IsCostFrom pairs second cost = (q : Pair) × InPairs q pairs × (second ≤ q.0) × (q.1 ≡ cost)
 
--- seconds of the two days, and the costs of so many flights, each at most 100 times 172,799
+-- the most that one flight costs: a weight of 100, and 172,799 seconds of delay
+abbrev pub most_cost : ℕ
+most_cost = 17279900
+
+-- seconds of the two days, and the costs of so many flights
 abbrev pub AreInReach : ℕ → List Pair → Type 0
-AreInReach left pairs = (q : Pair) → InPairs q pairs → (q.0 ≤ last_second) × (q.1 ≤ 17279900 * left)
+AreInReach left pairs = (q : Pair) → InPairs q pairs → (q.0 ≤ last_second) × (q.1 ≤ most_cost * left)
 
 -- ---- ways
 

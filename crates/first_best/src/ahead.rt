@@ -3,6 +3,7 @@
 ghost use Rattle.std.specs.Prelude.{◌≡◌, ◌+◌, ◌-◌, ◌<◌, ◌≤◌, IfOk, Some, length};
 ghost use Rattle.cps_network.specs.Pairs.{pair_at};
 ghost use Rattle.replan.specs.Kept.{held_of, problem_held};
+ghost use Rattle.replan.specs.WindowNodes.{AreNodesOf};
 ghost use Rattle.first_best.specs.Stages.{pairs_of, stage_of, AreCompleted, HasEachList, HasList, IsAheadBy, IsAheadOf, IsAheadWithin, IsBehind, ListsAllCompleting, ListsAllOfUse};
 ghost use Rattle.first_best.specs.Gathered.{IsGathered};
 
@@ -12,7 +13,7 @@ use crate::gather::gather;
 use crate::laws::window_laws;
 use crate::stage::StageAhead;
 use cps_problem::Problem;
-use replan::AnyKept;
+use replan::{AnyKept, WindowNodes};
 use std::alloc::{AllocError, Global};
 use std::marker::Model;
 
@@ -24,10 +25,12 @@ fn stage_before(
     value: u64,
     budget: Option<u64>,
     stage: u8,
+    windows: &WindowNodes,
     next: &StageAhead,
 ) -> Result<StageAhead, AllocError>
     requires held { problem_held kept.now ≡ Some problem.now }
     requires stage { (1 ≤ stage) × (stage ≤ length problem.now.flights) }
+    requires windows { AreNodesOf (held_of kept.now) stage windows.now }
     requires next { IsBehind problem.now value budget stage next.now }
     ensures completed { IfOk result (λ s.
         AreCompleted problem.now value budget stage s.nodes s.lists) }
@@ -35,13 +38,14 @@ fn stage_before(
 {
     window_laws(problem);
     let _held = kept.stages();
-    let found = gather(alloc, problem, kept, stage)?;
-    let nodes = found.0.as_slice();
+    let found = gather(alloc, problem, kept, stage, windows)?;
+    let nodes = found.as_slice();
     let lists = complete(alloc, problem, value, budget, stage, nodes, next)?;
+    let windows = windows.share()?;
     Ok(StageAhead {
-        nodes: found.0,
+        nodes: found,
         lists,
-        places: found.1,
+        windows,
     })
 }
 
@@ -79,12 +83,17 @@ fn stages_ahead(
     ensures { IfOk result (IsAheadBy problem.now value budget (held_of kept.now)) }
 {
     let last = problem.len();
+    let _held = kept.stages();
+    let mut windows = WindowNodes::of_none(alloc)?;
     let mut stages = Vec::with_capacity(alloc, usize::from(last) + 1)?;
-    stages.push(StageAhead::empty(alloc))?;
+    stages.push(StageAhead::empty(alloc)?)?;
     for done in 0..last {
+        let number = last - done;
+        let put = kept.nodes(alloc, number, &windows)?;
         let next = &stages[usize::from(done)];
-        let stage = stage_before(alloc, problem, kept, value, budget, last - done, next)?;
+        let stage = stage_before(alloc, problem, kept, value, budget, number, &put, next)?;
         stages.push(stage)?;
+        windows = put;
     }
     Ok(Ahead { stages })
 }
@@ -149,7 +158,7 @@ impl Ahead {
         ensures { result ≡ length (pairs_of self.now stage i) }
     {
         let stage = self.stage(stage);
-        stage.lists[stage.places[i]].len()
+        stage.lists[stage.windows.places()[i]].len()
     }
 
     /// The pair at index j of the window at place i of a stage: a second and a cost.
@@ -159,6 +168,6 @@ impl Ahead {
         ensures { result ≡ pair_at (pairs_of self.now stage i) j }
     {
         let stage = self.stage(stage);
-        stage.lists[stage.places[i]].pair(j)
+        stage.lists[stage.windows.places()[i]].pair(j)
     }
 }

@@ -8,7 +8,7 @@ ghost use Rattle.landing_rules.specs.FirstBest.{IsFirstBestList};
 ghost use Rattle.landing_joint.specs.CompletingPairs.{IsLeastObjective};
 ghost use Rattle.replan.specs.Kept.{held_of, problem_held};
 ghost use Rattle.first_best.specs.Choices.{lesser_choice, FindsAffordable, FindsWay, IsLeastChoice, IsLesserBy};
-ghost use Rattle.first_best.specs.Completing.{Rises};
+ghost use Rattle.first_best.specs.Completing.{most_cost, Rises};
 ghost use Rattle.first_best.specs.Nodes.{node_at};
 ghost use Rattle.first_best.specs.Ranges.{HasRank, IsPlacedIn};
 ghost use Rattle.first_best.specs.Stages.{IsAheadWithin};
@@ -37,7 +37,7 @@ fn affordable(
     requires before { IsPlacedIn problem.now before }
     requires after { HasRank problem.now after }
     requires rising { Rises pairs.now }
-    requires cost { cost ≤ 17279900 * 60 }
+    requires cost { cost ≤ most_cost * 60 }
     ensures found { FindsAffordable problem.now budget before cost after pairs.now result }
     ensures in_days { IfSome result (λ t. t ≤ last_second) }
 {
@@ -78,7 +78,7 @@ fn found_by(
     requires before { IsPlacedIn problem.now before }
     requires after { HasRank problem.now after }
     requires rising { Rises pairs.now }
-    requires cost { cost ≤ 17279900 * 60 }
+    requires cost { cost ≤ most_cost * 60 }
     ensures found { FindsWay problem.now budget before cost after pairs.now result }
     ensures in_days { IfSome result (λ t. t ≤ last_second) }
 {
@@ -105,7 +105,7 @@ fn with_node(
     requires list { j < length stage.now.lists }
     requires rank { HasRank problem.now (node_at stage.now.nodes j) }
     requires rising { Rises (list_at stage.now.lists j) }
-    requires cost { cost ≤ 17279900 * 60 }
+    requires cost { cost ≤ most_cost * 60 }
     ensures lesser { IsLesserBy problem.now budget before cost
         (node_at stage.now.nodes j) (list_at stage.now.lists j) least result }
     ensures in_days { least.1 ≤ last_second → result.1 ≤ last_second }
@@ -128,7 +128,7 @@ fn least_choice(
     requires ranks { (j : ℕ) → j < length stage.now.nodes
         → HasRank problem.now (node_at stage.now.nodes j) }
     requires rising { (j : ℕ) → Rises (list_at stage.now.lists j) }
-    requires cost { cost ≤ 17279900 * 60 }
+    requires cost { cost ≤ most_cost * 60 }
     ensures least { IsLeastChoice problem.now budget before cost
         stage.now.nodes stage.now.lists result }
     ensures in_days { result.1 ≤ last_second }

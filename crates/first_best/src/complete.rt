@@ -6,7 +6,7 @@ ghost use Rattle.cps_theory.specs.Labels.{Pair};
 ghost use Rattle.landing_joint.specs.RankedProblem.{ranked};
 ghost use Rattle.landing_joint.specs.CompletingPairs.{is_low};
 ghost use Rattle.first_best.specs.Nodes.{node_at};
-ghost use Rattle.first_best.specs.Completing.{AreFalling, AreListsOf, ArePairsOf, AreWaysOf, IsLeastOf, IsPairOf};
+ghost use Rattle.first_best.specs.Completing.{most_cost, AreFalling, AreListsOf, ArePairsOf, AreWaysOf, IsLeastOf, IsPairOf};
 ghost use Rattle.first_best.specs.Ranges.{HasRank, IsNextIn};
 
 use crate::budget::limit_of;
@@ -70,7 +70,7 @@ fn cost_of(
     requires second { (node.earliest ≤ second) × (second ≤ last_second) }
     ensures least { IsLeastOf (λ c.
         IsPairOf problem.now value stage node next.now (second, c)) result }
-    ensures small { IfSome result (λ c. c ≤ 17279900 * (length problem.now.flights - stage)) }
+    ensures small { IfSome result (λ c. c ≤ most_cost * (length problem.now.flights - stage)) }
 {
     if is_allowed(problem, value, node.last, second) {
         least_cost(problem, stage, node, next, ways, second)

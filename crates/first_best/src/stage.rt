@@ -1,6 +1,6 @@
 //! A stage with the pairs that complete its nodes.
 
-ghost use Rattle.std.specs.Prelude.{◌≡◌, ◌<◌, ◌≤◌, length};
+ghost use Rattle.std.specs.Prelude.{◌≡◌, ◌<◌, ◌≤◌, length, IfOk};
 ghost use Rattle.cps_theory.specs.Labels.{InPairs, Pair};
 ghost use Rattle.cps_network.specs.Pairs.{list_at};
 ghost use Rattle.first_best.specs.Completing.{no_stage, Rises};
@@ -8,7 +8,8 @@ ghost use Rattle.first_best.specs.Nodes.{node_at};
 
 use crate::node::EarlyNode;
 use crate::pairs::PairList;
-use std::alloc::Global;
+use replan::WindowNodes;
+use std::alloc::{AllocError, Global};
 use std::marker::Model;
 
 /// The nodes of a stage, the pairs that complete each, and the place of the node of each window.
@@ -16,7 +17,7 @@ use std::marker::Model;
 pub(crate) struct StageAhead {
     pub(crate) nodes: Vec<EarlyNode>,
     pub(crate) lists: Vec<PairList>,
-    pub(crate) places: Vec<usize>,
+    pub(crate) windows: WindowNodes,
 }
 
 impl Model for StageAhead {
@@ -27,20 +28,21 @@ impl Model for StageAhead {
     ghost view = { λ s. record {
       nodes = s.nodes.items;
       lists = s.lists.items;
-      places = s.places.items;
+      places = s.windows.places;
     } };
 }
 
 impl StageAhead {
     // The stage without a node.
-    pub(crate) fn empty(alloc: Global) -> StageAhead
-        ensures { result ≡ no_stage }
+    pub(crate) fn empty(alloc: Global) -> Result<StageAhead, AllocError>
+        ensures { IfOk result (λ s. s ≡ no_stage) }
     {
-        StageAhead {
+        let windows = WindowNodes::of_none(alloc)?;
+        Ok(StageAhead {
             nodes: Vec::new(alloc),
             lists: Vec::new(alloc),
-            places: Vec::new(alloc),
-        }
+            windows,
+        })
     }
 
     // How many nodes it has.

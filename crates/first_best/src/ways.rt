@@ -4,7 +4,7 @@ ghost use Rattle.std.specs.Prelude.{◌≡◌, ℕ, ◌+◌, ◌-◌, ◌*◌, �
 ghost use Rattle.landing_rules.specs.Rules.{last_second};
 ghost use Rattle.cps_network.specs.Pairs.{list_at};
 ghost use Rattle.first_best.specs.Nodes.{node_at};
-ghost use Rattle.first_best.specs.Completing.{AreWaysOf, IsEnd, IsLeastOf, IsWayTo};
+ghost use Rattle.first_best.specs.Completing.{most_cost, AreWaysOf, IsEnd, IsLeastOf, IsWayTo};
 ghost use Rattle.first_best.specs.Ranges.{HasRank, IsNextIn};
 
 use crate::node::{EarlyNode, leads_to};
@@ -48,7 +48,7 @@ fn cost_by(
     requires second { second ≤ last_second }
     ensures least { IsLeastOf (IsWayTo problem.now node
         (node_at next.now.nodes way) (list_at next.now.lists way) second) result }
-    ensures small { IfSome result (λ c. c ≤ 17279900 * (length problem.now.flights - stage)) }
+    ensures small { IfSome result (λ c. c ≤ most_cost * (length problem.now.flights - stage)) }
 {
     let after = next.node(way);
     let landing = problem.landing_after(node.last, second, after.last)?;
@@ -72,7 +72,7 @@ pub(crate) fn least_cost(
     requires second { second ≤ last_second }
     ensures least { IsLeastOf
         (IsEnd problem.now stage node next.now second) result }
-    ensures small { IfSome result (λ c. c ≤ 17279900 * (length problem.now.flights - stage)) }
+    ensures small { IfSome result (λ c. c ≤ most_cost * (length problem.now.flights - stage)) }
 {
     if stage == problem.len() {
         return Some(0);

@@ -1,43 +1,56 @@
-use Rattle.std.proofs.Common.{◌≡◌, ℕ, ◌+◌, List, length, sym, ap, subst, arith}
+use Rattle.std.proofs.Common.{◌≡◌, ℕ, ◌+◌, ◌<◌, List, length, arith, ap, subst, sym, ◌∙◌}
+use Rattle.std.proofs.lemmas.List.{get_or_default}
 use Rattle.cps_theory.specs.Labels.{Pair}
+use Rattle.cps_network.specs.Lists as windows
+use Rattle.cps_network.specs.Nodes.{latest}
+use Rattle.cps_network.specs.Pairs.{pair_at}
+use Rattle.cps_network.specs.WindowRanks.{TellsPlaced}
 use Rattle.replan.specs.Kept.{held_of}
-use Rattle.replan.specs.Readers.{stage_in, lists_in}
-use Rattle.first_best.specs.Nodes.{node_at}
-use Rattle.first_best.specs.Gathered.{AreGathered}
-use Rattle.first_best.proofs.GatherLemmas.{has_first, more_gathered, told_by}
+use Rattle.replan.specs.Readers.{stage_in}
+use Rattle.replan.specs.WindowNodes.{told_at}
+use Rattle.first_best.specs.declared.node.EarlyNode.{EarlyNode}
+use Rattle.first_best.proofs.GatherLemmas.{all_made, one_made, AreMade}
 use Rattle.first_best.proofs.gather.gather.Goals as goal
 
-pub label-second-requires-clause-index : goal.label-second-requires-clause-index
-label-second-requires-clause-index c =
-    let p = c.args.problem.now in
-    let s = stage_in (held_of c.args.kept.now) c.args.stage in
-    let are = c.stages-held.ensures.held p c.requires.held in
-    has_first p s (lists_in (held_of c.args.kept.now) c.args.stage) (are.pairs c.args.stage c.requires.stage.1) c.loop-i.i (omega (arith, c.loop-i-test.true, c.size-i-end.ensures))
+pub node-node-requires-clause-place : goal.node-node-requires-clause-place
+node-node-requires-clause-place c =
+    let n = c.args.windows.now in
+    let long = ap (λ (xs : List ℕ). length xs) c.firsts-firsts.ensures in
+    let same : told_at c.firsts-firsts.result.now c.loop-j.j ≡ told_at n.firsts c.loop-j.j = ap (λ (xs : List ℕ). told_at xs c.loop-j.j) c.firsts-firsts.ensures in
+    let lt = c.requires.windows.together.first c.loop-j.j (omega (arith, c.loop-j-test.true, long)) in
+    omega (arith, same, lt)
 
-pub cheapest_in-cost-requires-clause-some : goal.cheapest_in-cost-requires-clause-some
-cheapest_in-cost-requires-clause-some c =
-    let p = c.args.problem.now in
-    let s = stage_in (held_of c.args.kept.now) c.args.stage in
-    let are = c.stages-held.ensures.held p c.requires.held in
-    has_first p s (lists_in (held_of c.args.kept.now) c.args.stage) (are.pairs c.args.stage c.requires.stage.1) c.loop-i.i (omega (arith, c.loop-i-test.true, c.size-i-end.ensures))
-
-pub loop-i-preserved : goal.loop-i-preserved
-loop-i-preserved c =
-    let p = c.args.problem.now in
-    let s = stage_in (held_of c.args.kept.now) c.args.stage in
-    let lists = lists_in (held_of c.args.kept.now) c.args.stage in
-    let are = c.stages-held.ensures.held p c.requires.held in
-    let number = are.number c.args.stage c.requires.stage.1 in
-    let added = c.in_ok-place.ensures in
-    let after = c.add.new.nodes.items in
-    let place = c.in_ok-place.place in
-    let told = told_by c.args.stage s.0 _ (node_at after place) c.node.result number added.here c.node.ensures.placed c.node.ensures.last in
-    let more = more_gathered s lists c.loop-i.i c.loop-i.nodes.items after c.loop-i.places.items c.loop-i.invariant c.node.result c.label-second.result.0 c.cheapest_in-cost.result place added (ap (λ (q : Pair). q.0) c.label-second.ensures.value)
-    c.cheapest_in-cost.ensures told in
-    subst (λ (ps : List ℕ). AreGathered s lists (c.loop-i.i + 1) after ps) (sym c.in_ok-push.ensures.items) more
+pub loop-j-preserved : goal.loop-j-preserved
+loop-j-preserved c =
+    let held = held_of c.args.kept.now in
+    let stage = c.args.stage in
+    let s = stage_in held stage in
+    let n = c.args.windows.now in
+    let j = c.loop-j.j in
+    let least = c.in_ok-least.least.items in
+    let node = c.node-node.result in
+    let long = ap (λ (xs : List ℕ). length xs) c.firsts-firsts.ensures in
+    let same : told_at c.firsts-firsts.result.now j ≡ told_at n.firsts j = ap (λ (xs : List ℕ). told_at xs j) c.firsts-firsts.ensures in
+    let each = c.in_ok-least.ensures.least.one_each in
+    let found : c.index-found.result.now ≡ pair_at least j = c.index-found.ensures ∙ get_or_default least j c.index-found.result.now (0, 0) (omega (arith, c.loop-j-test.true, long, each)) in
+    let made : EarlyNode = record { placed = node.placed; last = node.last; earliest = c.index-found.result.now.0; cheapest = c.index-found.result.now.1 } in
+    let more = one_made stage s.1 n.firsts least j c.loop-j.nodes.items c.loop-j.invariant made
+    (record {
+      placed = subst (λ (i : ℕ). TellsPlaced (windows.node_at s.1 i) stage node.placed) same c.node-node.ensures.placed;
+      last = c.node-node.ensures.last ∙ ap (λ (i : ℕ). latest (stage, windows.node_at s.1 i)) same;
+    })
+    (ap (λ (q : Pair). q.0) found) (ap (λ (q : Pair). q.1) found) in
+    subst (λ (ns : List EarlyNode). AreMade stage s.1 n.firsts least (j + 1) ns) (sym c.in_ok-push.ensures.items) more
 
 pub returns : goal.returns
 returns c =
-    let s = stage_in (held_of c.args.kept.now) c.args.stage in
-    let end : c.loop-i.i ≡ length s.1 = omega (arith, c.loop-i-test.false, c.size-i-end.ensures, c.loop-i.auto.i-end) in
-    subst (λ (n : ℕ). AreGathered s (lists_in (held_of c.args.kept.now) c.args.stage) n c.loop-i.nodes.items c.loop-i.places.items) end c.loop-i.invariant
+    let p = c.args.problem.now in
+    let held = held_of c.args.kept.now in
+    let stage = c.args.stage in
+    let n = c.args.windows.now in
+    let least = c.in_ok-least.least.items in
+    let are = c.stages-held.ensures.held p c.requires.held in
+    let long = ap (λ (xs : List ℕ). length xs) c.firsts-firsts.ensures in
+    let end : c.loop-j.j ≡ length n.firsts = omega (arith, c.loop-j-test.false, c.loop-j.auto.j-end, long) in
+    all_made p held stage (are.number stage c.requires.stage.1) (are.pairs stage c.requires.stage.1) n c.requires.windows least c.in_ok-least.ensures.least c.loop-j.nodes.items
+    (subst (λ (m : ℕ). AreMade stage (stage_in held stage).1 n.firsts least m c.loop-j.nodes.items) end c.loop-j.invariant)
