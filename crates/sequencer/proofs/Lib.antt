@@ -1,8 +1,10 @@
 pub mod Ranks
+pub mod Places
 pub mod Listed
 pub mod Rising
 pub mod FrozenLeft
 pub mod ProblemOf
 pub mod Joined
 pub mod ShownOrder
+pub mod Fronts
 pub mod Kept

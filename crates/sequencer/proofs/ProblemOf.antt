@@ -21,7 +21,7 @@ use Rattle.cps_problem.specs.declared.problem.Head.{Head}
 use Rattle.cps_problem.specs.Seen.{waiting_of, problem_of}
 use Rattle.cps_problem.specs.WellFormed.{IsWellFormed}
 use Rattle.landing_joint.specs.Numbered.{nobody}
-use Rattle.sequencer.specs.Ranked.{arrival_of, arrivals, rank_cmp}
+use Rattle.sequencer.specs.Ranked.{arrival_of, rank_cmp}
 use Rattle.sequencer.specs.Predecessors.{IsListed}
 use Rattle.sequencer.proofs.Ranks.{apart_permutes, rank_permutes, rank_length, rank_ranked, waiting_apart}
 use Rattle.sequencer.proofs.Listed.{between, predecessors}
@@ -89,7 +89,7 @@ module _ (s : Situation) (h : Head) (ws : List waits.Waiting) (pairs : List ℕ)
   passed_low : All (λ (a : Active). a.passed ≤ s.aerodrome.k) R
   passed_low = All-permutation (λ (a : Active). a.passed ≤ s.aerodrome.k) (waiting s) R (rank_permutes (waiting s)) (All-filter is_waiting (λ (a : Active). a.passed ≤ s.aerodrome.k) s.active sound.passed)
 
-  keys : map key_of (map waiting_of ws) ≡ arrivals (waiting s)
+  keys : map key_of (map waiting_of ws) ≡ map arrival_of R
   keys = zip_keys s.closures R (map waiting_of ws) zip
 
   key_at : (k : ℕ) (d : problems.Waiting) → k < length (map waiting_of ws) → key_of (get_or (map waiting_of ws) k d) ≡ arrival_of (get_or R k nobody)

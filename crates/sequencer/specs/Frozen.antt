@@ -1,9 +1,11 @@
 -- What the frozen flights leave to the waiting ones.
-use Rattle.std.specs.Prelude.{ℕ, ◌≤◌, List, [], ◌∷◌, Option, Some, None, MatchOption, ⊤, nat_lt, if◌then◌else◌}
+use Rattle.std.specs.Prelude.{◌≡◌, ℕ, ◌*◌, ◌≤◌, Bool, true, false, List, [], ◌∷◌, length, map, filter_map, take, Option, option_map, Some, None, MatchOption, ⊤, nat_lt, if◌then◌else◌}
 use Rattle.wake_table.specs.declared.category.Category.{Category}
-use Rattle.landing_rules.specs.Flights.{Active, landing}
+use Rattle.landing_rules.specs.Flights.{Active, Landing, Situation, landing}
 use Rattle.landing_rules.specs.Limits.{greatest_weight}
 use Rattle.landing_rules.specs.Rules.{delay, last_second}
+use Rattle.landing_rules.specs.Events.{Event, Clock, frozen_landings, in_landing_order}
+use Rattle.landing_rules.specs.Text.{ShownLanding, ShownPlan, shown_landing}
 
 abbrev pub later_at : Category → Option ℕ → Option (ℕ × Category) → Option (ℕ × Category)
 later_at c None found = found
@@ -25,7 +27,28 @@ frozen_delay a (Some second) = delay (landing a second)
 abbrev pub delay_of : Active → ℕ
 delay_of a = frozen_delay a a.frozen
 
+-- what a landing costs at most: the greatest weight for each second of the two days
+abbrev pub greatest_delay : ℕ
+greatest_delay = greatest_weight * last_second
+
 -- a weight of at most 100, and a landing within the two days
 pub record HasSmallDelay (a : Active) : Type 0 where
   pub weight : a.flight.weight ≤ greatest_weight
   pub second : MatchOption a.frozen ⊤ (λ t. t ≤ last_second)
+
+-- the landings of the frozen flights among these, in their order
+abbrev pub frozen_of : List Active → List Landing
+frozen_of flights = filter_map (λ a. option_map (landing a) a.frozen) flights
+
+-- the frozen landings as they are shown, in landing order
+abbrev pub frozen_shown : Situation → List ShownLanding
+frozen_shown s = map shown_landing (in_landing_order (frozen_landings s))
+
+-- no event but a clock moves a frozen landing, or freezes one more
+abbrev pub moves_none : Event → Bool
+moves_none (Clock now) = false
+moves_none _ = true
+
+-- the plan's first landings are the frozen ones
+abbrev pub BeginsWithFrozen : Situation → ShownPlan → Type 0
+BeginsWithFrozen s plan = take (length (frozen_shown s)) plan.landings ≡ frozen_shown s

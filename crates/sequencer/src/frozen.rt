@@ -2,7 +2,7 @@
 ghost use Rattle.std.specs.Prelude.{◌≡◌, ◌≤◌, All, Option, length, map, sum_by};
 ghost use Rattle.wake_table.specs.declared.category.Category.{Category};
 ghost use Rattle.landing_rules.specs.Limits.{most_flights};
-ghost use Rattle.sequencer.specs.Frozen.{latest, later_of, delay_of, HasSmallDelay};
+ghost use Rattle.sequencer.specs.Frozen.{delay_of, greatest_delay, later_of, latest, HasSmallDelay};
 
 use situations::Active;
 use wake_table::Category;
@@ -38,7 +38,7 @@ pub(crate) fn last_frozen(flights: &[Active]) -> Option<(u32, Category)>
 fn delay(active: &Active) -> u64
     requires { HasSmallDelay active.now }
     ensures value { result ≡ delay_of active.now }
-    ensures small { result ≤ 17279900 }
+    ensures small { result ≤ greatest_delay }
 {
     match active.frozen {
         None => 0,

@@ -5,8 +5,7 @@ ghost use Rattle.landing_rules.specs.Sound.{IsSound};
 ghost use Rattle.landing_rules.specs.Text.{shown_plan};
 
 use crate::plan::plan_of;
-use crate::problem::posed;
-use crate::seconds::joined_seconds;
+use crate::problem::ranked_places;
 use crate::sequencer::Sequencer;
 use cps_problem::{Planner, Problem, Schedule};
 use extract_plan::value_of;
@@ -29,10 +28,9 @@ fn joined_plan(
         schedule.now)) }
 {
     problem_stands_for_situation();
-    let (_, order) = posed(alloc, situation)?;
-    let seconds = joined_seconds(alloc, situation, &order, schedule)?;
+    let places = ranked_places(alloc, situation)?;
     let value = value_of(problem, schedule);
-    let plan = plan_of(alloc, situation, &seconds, value)?;
+    let plan = plan_of(alloc, situation, None, &places, schedule, value)?;
     Ok(plan)
 }
 

@@ -1,17 +1,16 @@
 // The problem of a situation.
 ghost use Rattle.std.specs.Prelude.{◌≡◌, ◌≤◌, IfOk};
-ghost use Rattle.landing_rules.specs.Flights.{horizon, waiting};
+ghost use Rattle.landing_rules.specs.Flights.{horizon};
 ghost use Rattle.landing_rules.specs.Events.{frozen_landings, in_landing_order};
 ghost use Rattle.landing_rules.specs.Problem.{IsProblemOf, last_of, frozen_cost};
 ghost use Rattle.landing_rules.specs.Sound.{IsSound};
-ghost use Rattle.sequencer.specs.Ranked.{arrivals};
+ghost use Rattle.sequencer.specs.Ranked.{ArePlacesByRank};
 
 use crate::frozen::{frozen_delay, last_frozen};
-use crate::order::{order_of, sort_by_rank, waiting_of};
+use crate::order::{flights_of, places_of, ranked_of};
 use crate::predecessors::pairs_of;
 use crate::waiting::all_waiting;
 use cps_problem::{Head, Objective, Problem};
-use fcfs_order::Order;
 use situations::{Active, Situation, View};
 use std::alloc::{AllocError, Global};
 
@@ -56,20 +55,33 @@ fn head(situation: &View<'_>, flights: &[Active]) -> Head
     }
 }
 
-// The problem of a sound situation, with the first-come order of its waiting flights.
-pub(crate) fn posed(alloc: Global, situation: &View<'_>) -> Result<(Problem, Order), AllocError>
+// The problem of a sound situation, with the places of its waiting flights by rank.
+pub(crate) fn posed(
+    alloc: Global,
+    situation: &View<'_>,
+) -> Result<(Problem, Vec<usize>), AllocError>
     requires { IsSound situation.now }
     ensures problem { IfOk result (λ posed. IsProblemOf situation.now posed.0) }
-    ensures order { IfOk result (λ posed. posed.1 ≡ arrivals (waiting situation.now)) }
+    ensures places { IfOk result (λ posed. ArePlacesByRank situation.now posed.1.items) }
 {
     let flights = situation.flights();
-    let mut ranked = waiting_of(alloc, flights)?;
-    sort_by_rank(&mut ranked);
-    let order = order_of(alloc, &ranked)?;
-    let pairs = pairs_of(&ranked);
+    let ranked = ranked_of(alloc, flights)?;
+    let waiting = flights_of(alloc, &ranked)?;
+    let places = places_of(alloc, &ranked)?;
+    let pairs = pairs_of(&waiting);
     let head = head(situation, flights);
-    let with_times = all_waiting(alloc, &ranked, situation.closures())?;
-    Ok((Problem::build(head, with_times, pairs), order))
+    let with_times = all_waiting(alloc, &waiting, situation.closures())?;
+    Ok((Problem::build(head, with_times, pairs), places))
+}
+
+// The places of the waiting flights of a sound situation by rank.
+pub(crate) fn ranked_places(alloc: Global, situation: &View<'_>) -> Result<Vec<usize>, AllocError>
+    requires { IsSound situation.now }
+    ensures { IfOk result (λ places. ArePlacesByRank situation.now places.items) }
+{
+    let ranked = ranked_of(alloc, situation.flights())?;
+    let places = places_of(alloc, &ranked)?;
+    Ok(places)
 }
 
 /// The problem of a sound situation: its waiting flights by rank, and what the frozen ones leave them.

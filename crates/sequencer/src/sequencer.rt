@@ -1,6 +1,6 @@
-ghost use Rattle.std.specs.Prelude.{◌≡◌, ℕ, Option, Some, None, IfOk, IfErr, OnOk, OnErr, MatchOption, map, option_map, ⊤};
+ghost use Rattle.std.specs.Prelude.{◌≡◌, ℕ, true, Option, Some, None, IfOk, IfErr, OnOk, OnErr, MatchOption, map, option_map, ⊤};
+ghost use Rattle.std.specs.Option.{ForSome};
 ghost use Rattle.cps_base.specs.Tally.{raised_by};
-ghost use Rattle.landing_rules.specs.Flights.{waiting};
 ghost use Rattle.landing_rules.specs.Events.{refusal, IsPlanShown, IsAcceptedStep, IsOpeningState, Step};
 ghost use Rattle.landing_rules.specs.Problem.{IsProblemOf};
 ghost use Rattle.landing_rules.specs.Sound.{IsSound, IsSoundState, IsGoodEvent};
@@ -9,7 +9,8 @@ ghost use Rattle.arrivals.specs.Seen.{event_of, flight_of};
 ghost use Rattle.cps_network.specs.Due.{IsDue};
 ghost use Rattle.cps_problem.specs.Plans.{IsAnswerOf, IsWithinShift};
 ghost use Rattle.replan.specs.Kept.{k_of, problem_held, Holds};
-ghost use Rattle.sequencer.specs.Ranked.{arrivals};
+ghost use Rattle.sequencer.specs.Frozen.{moves_none, BeginsWithFrozen};
+ghost use Rattle.sequencer.specs.Ranked.{ArePlacesByRank};
 ghost use Rattle.situations.specs.Answers.{refusal_of};
 ghost use Rattle.situations.specs.Opened.{CanOpen, opening_of};
 ghost use Rattle.situations.specs.Refused.{opening_fault};
@@ -24,7 +25,6 @@ use cps_base::{Ledger, Steps};
 use cps_outside::Gate;
 use cps_problem::{Objective, Planner, Problem, Schedule};
 use extract_plan::value_of;
-use fcfs_order::Order;
 use landing_joint::laws::{every_step_keeps_soundness, problem_stands_for_situation};
 use plan_file::Plan;
 use replan::AnyKept;
@@ -80,16 +80,29 @@ fn seconds_of(shown: &Option<Shown>) -> Option<&[u32]>
     }
 }
 
+// The plan that is shown, where the event moves no frozen landing.
+fn front_of<'a>(shown: &'a Option<Shown>, event: &Event) -> Option<&'a Plan>
+    ensures { MatchOption (option_map (λ p. p.now) result) ⊤ (λ plan.
+        (moves_none (event_of event.now) ≡ true) × (option_map (λ s. s.plan) shown.now ≡ Some plan)) }
+{
+    match (event, shown) {
+        (Event::Clock(_), _) | (_, None) => None,
+        (_, Some(shown)) => Some(&shown.plan),
+    }
+}
+
 // What is shown for a best and tight schedule by rank.
 fn shown_schedule(
     alloc: Global,
     situation: &View<'_>,
+    front: Option<&Plan>,
     problem: &Problem,
-    order: &Order,
+    places: &[usize],
     schedule: &Schedule,
 ) -> Result<Shown, AllocError>
     requires sound { IsSound situation.now }
-    requires order { order.now ≡ arrivals (waiting situation.now) }
+    requires front { ForSome front (λ plan. BeginsWithFrozen situation.now plan.now) }
+    requires places { ArePlacesByRank situation.now places.now }
     requires problem { IsProblemOf situation.now problem.now }
     requires answer { IsAnswerOf problem.now (Some schedule.now) }
     ensures shown { IfOk result (λ shown. IsPlanShown situation.now (Some shown.seconds.items)) }
@@ -97,9 +110,9 @@ fn shown_schedule(
         shown.seconds.items) }
 {
     problem_stands_for_situation();
-    let seconds = joined_seconds(alloc, situation, order, schedule)?;
+    let seconds = joined_seconds(alloc, situation, places, schedule)?;
     let value = value_of(problem, schedule);
-    let plan = plan_of(alloc, situation, &seconds, value)?;
+    let plan = plan_of(alloc, situation, front, places, schedule, value)?;
     Ok(Shown { seconds, plan })
 }
 
@@ -107,12 +120,14 @@ fn shown_schedule(
 fn shown_answer(
     alloc: Global,
     situation: &View<'_>,
+    front: Option<&Plan>,
     problem: &Problem,
-    order: &Order,
+    places: &[usize],
     answer: &Option<Schedule>,
 ) -> Result<Option<Shown>, AllocError>
     requires sound { IsSound situation.now }
-    requires order { order.now ≡ arrivals (waiting situation.now) }
+    requires front { ForSome front (λ plan. BeginsWithFrozen situation.now plan.now) }
+    requires places { ArePlacesByRank situation.now places.now }
     requires problem { IsProblemOf situation.now problem.now }
     requires answer { IsAnswerOf problem.now answer.now }
     ensures shown { IfOk result (λ shown. IsPlanShown situation.now
@@ -124,7 +139,7 @@ fn shown_answer(
     match answer {
         None => Ok(None),
         Some(schedule) => {
-            let shown = shown_schedule(alloc, situation, problem, order, schedule)?;
+            let shown = shown_schedule(alloc, situation, front, problem, places, schedule)?;
             Ok(Some(shown))
         }
     }
@@ -135,11 +150,13 @@ fn planned<R: Threads + Sync, G: Gate + Sync, L: Ledger>(
     rt: &R,
     alloc: Global,
     situation: &View<'_>,
+    front: Option<&Plan>,
     planner: &mut AnyKept,
     gate: &G,
     steps: &mut Steps<L>,
 ) -> Result<(Problem, Option<Shown>), AllocError>
     requires sound { IsSound situation.now }
+    requires front { ForSome front (λ plan. BeginsWithFrozen situation.now plan.now) }
     requires same_k { situation.now.aerodrome.k ≡ k_of planner.old }
     requires plannable { IsWithinShift situation.now.aerodrome.objective
         situation.now.aerodrome.k }
@@ -156,9 +173,9 @@ fn planned<R: Threads + Sync, G: Gate + Sync, L: Ledger>(
     ensures steps { IfOk result (λ planned. (n : ℕ) × IsDue (problem_held planner.old) planned.0 n
         × (L.count steps.new ≡ raised_by n (L.count steps.old))) }
 {
-    let (problem, order) = posed(alloc, situation)?;
+    let (problem, places) = posed(alloc, situation)?;
     let answer = planner.replan(rt, alloc, &problem, gate, steps)?;
-    let shown = shown_answer(alloc, situation, &problem, &order, &answer)?;
+    let shown = shown_answer(alloc, situation, front, &problem, &places, &answer)?;
     Ok((problem, shown))
 }
 
@@ -231,7 +248,8 @@ impl Sequencer<AnyKept> {
             .situation
             .change(alloc, seconds_of(&self.shown), event)?;
         let next = self.situation.view_after(&change);
-        match planned(rt, alloc, &next, &mut self.planner, gate, steps) {
+        let front = front_of(&self.shown, event);
+        match planned(rt, alloc, &next, front, &mut self.planner, gate, steps) {
             Ok((problem, shown)) => {
                 self.situation.keep(change);
                 self.shown = shown;
@@ -298,7 +316,7 @@ impl Sequencer<AnyKept> {
             × (L.count steps.new ≡ raised_by n (L.count steps.old))) }
     {
         let view = situation.view();
-        let (problem, shown) = planned(rt, alloc, &view, &mut planner, gate, steps)?;
+        let (problem, shown) = planned(rt, alloc, &view, None, &mut planner, gate, steps)?;
         Ok(Sequencer {
             situation,
             shown,

@@ -1,10 +1,6 @@
-use Rattle.std.proofs.Common.{sym, ap, subst, ◌∙◌}
-use Rattle.landing_rules.specs.Rules.{IsFeasible, objective}
+use Rattle.std.proofs.Common.{sym, ◌∙◌}
 use Rattle.sequencer.proofs.Joined.{list_length, list_in_days}
 use Rattle.sequencer.proofs.plan_of.joined_plan.Goals as goal
-
-pub joined_seconds-requires-clause-long : goal.joined_seconds-requires-clause-long
-joined_seconds-requires-clause-long c = list_length c.args.situation.now c.args.problem.now c.requires.sound c.requires.problem c.args.schedule.now c.requires.feasible
 
 pub value_of-value-requires-clause-room : goal.value_of-value-requires-clause-room
 value_of-value-requires-clause-room c = c.requires.feasible.one_each
@@ -12,12 +8,11 @@ value_of-value-requires-clause-room c = c.requires.feasible.one_each
 pub value_of-value-requires-clause-seconds : goal.value_of-value-requires-clause-seconds
 value_of-value-requires-clause-seconds c = list_in_days c.args.situation.now c.args.problem.now c.requires.sound c.requires.problem c.args.schedule.now c.requires.feasible
 
+pub plan_of-requires-clause-long : goal.plan_of-requires-clause-long
+plan_of-requires-clause-long c = list_length c.args.situation.now c.args.problem.now c.requires.sound c.requires.problem c.args.schedule.now c.requires.feasible
+
 pub plan_of-requires-clause-feasible : goal.plan_of-requires-clause-feasible
-plan_of-requires-clause-feasible c =
-    let s = c.args.situation.now in
-    subst (IsFeasible s) (sym c.in_ok-seconds.ensures) (c.problem_stands_for_situation.ensures.feasible s c.args.problem.now c.args.schedule.now c.requires.sound c.requires.problem c.requires.feasible)
+plan_of-requires-clause-feasible c = c.problem_stands_for_situation.ensures.feasible c.args.situation.now c.args.problem.now c.args.schedule.now c.requires.sound c.requires.problem c.requires.feasible
 
 pub plan_of-requires-clause-value : goal.plan_of-requires-clause-value
-plan_of-requires-clause-value c =
-    let s = c.args.situation.now in
-    c.value_of-value.ensures ∙ sym (c.problem_stands_for_situation.ensures.objectives s c.args.problem.now c.args.schedule.now c.requires.sound c.requires.problem c.requires.feasible) ∙ ap (objective s) (sym c.in_ok-seconds.ensures)
+plan_of-requires-clause-value c = c.value_of-value.ensures ∙ sym (c.problem_stands_for_situation.ensures.objectives c.args.situation.now c.args.problem.now c.args.schedule.now c.requires.sound c.requires.problem c.requires.feasible)

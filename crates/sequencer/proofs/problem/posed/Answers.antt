@@ -1,38 +1,28 @@
-use Rattle.std.proofs.Common.{◌≡◌, ℕ, ◌≤◌, length, map, filter, List, sym, ap, subst, ◌∙◌, arith, Bor}
+use Rattle.std.proofs.Common.{◌≡◌, ℕ, map, filter, List, sym, ap, subst, ◌∙◌}
 use Rattle.std.specs.Prelude.{◌↔◌}
 use Rattle.std.specs.List.{AllZip}
-use Rattle.std.proofs.lemmas.List.{length-map}
 use Rattle.precedence.specs.Pairs.{MustPrecede}
-use Rattle.landing_rules.specs.Flights.{Active, Situation, waiting, is_waiting}
-use Rattle.landing_rules.specs.Sound.{IsSound}
+use Rattle.landing_rules.specs.Flights.{Active, waiting, is_waiting}
 use Rattle.landing_rules.specs.Problem.{IsWaitingOf, IsProblemOf, by_rank}
 use Rattle.cps_problem.specs.Seen.{waiting_of}
-use Rattle.sequencer.specs.Ranked.{arrival_of}
+use Rattle.sequencer.specs.declared.order.Placed.{Placed}
 use Rattle.sequencer.specs.Predecessors.{IsListed}
-use Rattle.sequencer.proofs.Ranks.{Apart, rank_length, waiting_apart}
+use Rattle.sequencer.proofs.Places.{by_rank_places, few_ranked}
+use Rattle.sequencer.proofs.Ranks.{Apart}
 use Rattle.sequencer.proofs.ProblemOf.{IsHeadOf, posed, well_formed}
 use Rattle.sequencer.proofs.problem.posed.Goals as goal
 use Rattle.sequencer.proofs.problem.posed.Goals.{In_ok-with_times}
 
-pub sort_by_rank-requires : goal.sort_by_rank-requires
-sort_by_rank-requires c = subst Apart (sym (c.in_ok-ranked.ensures ∙ ap (filter is_waiting) c.flights-flights.ensures)) (waiting_apart c.args.situation.now c.requires.callsigns)
-
-few : (s : Situation) (ranked : List (Bor Active)) (found : List Active) → IsSound s → map (λ a. a.now) ranked ≡ by_rank found → found ≡ waiting s → length ranked ≤ 60
-few s ranked found sound is e =
-    let r = ap (length {A = Active}) (is ∙ ap by_rank e) in
-    let m = rank_length (waiting s) in
-    let n = length-map ranked (λ a. a.now) in
-    let few = sound.few_waiting in
-    omega arith
-
-pub order_of-requires-clause-few : goal.order_of-requires-clause-few
-order_of-requires-clause-few c = few c.args.situation.now c.sort_by_rank.new.waiting.items _ c.requires c.sort_by_rank.ensures.flights (c.in_ok-ranked.ensures ∙ ap (filter is_waiting) c.flights-flights.ensures)
+pub ranked_of-requires : goal.ranked_of-requires
+ranked_of-requires c = subst Apart (sym c.flights-flights.ensures) c.requires.callsigns
 
 pub pairs_of-pairs-requires : goal.pairs_of-pairs-requires
-pairs_of-pairs-requires c = few c.args.situation.now c.sort_by_rank.new.waiting.items _ c.requires c.sort_by_rank.ensures.flights (c.in_ok-ranked.ensures ∙ ap (filter is_waiting) c.flights-flights.ensures)
+pairs_of-pairs-requires c =
+    few_ranked c.args.situation.now (λ a. a.now) c.in_ok-waiting.waiting.items c.requires
+    (c.in_ok-waiting.ensures ∙ ap (map (λ (p : Placed). p.active.now)) c.deref.ensures.value ∙ c.in_ok-ranked.ensures.flights ∙ ap (λ (l : List Active). by_rank (filter is_waiting l)) c.flights-flights.ensures)
 
-ranks : (c : In_ok-with_times) → map (λ a. a.now) c.sort_by_rank.new.waiting.items ≡ by_rank (waiting c.args.situation.now)
-ranks c = c.sort_by_rank.ensures.flights ∙ ap by_rank (c.in_ok-ranked.ensures ∙ ap (filter is_waiting) c.flights-flights.ensures)
+ranks : (c : In_ok-with_times) → map (λ a. a.now) c.in_ok-waiting.waiting.items ≡ by_rank (waiting c.args.situation.now)
+ranks c = c.in_ok-waiting.ensures ∙ ap (map (λ (p : Placed). p.active.now)) c.deref.ensures.value ∙ c.in_ok-ranked.ensures.flights ∙ ap (λ (l : List Active). by_rank (filter is_waiting l)) c.flights-flights.ensures
 
 zip : (c : In_ok-with_times) → AllZip (IsWaitingOf c.args.situation.now.closures) (by_rank (waiting c.args.situation.now)) (map waiting_of c.in_ok-with_times.with_times.items)
 zip c =
@@ -56,5 +46,7 @@ returns-clause-problem c =
     subst (IsProblemOf c.args.situation.now) (sym c.build.ensures)
     (posed c.args.situation.now c.head-head.result c.in_ok-with_times.with_times.items c.pairs_of-pairs.result c.requires (heads d) (zip d) (listed d))
 
-pub returns-clause-order : goal.returns-clause-order
-returns-clause-order c = c.in_ok-order.ensures ∙ ap (map arrival_of) (ranks ((goal.at.returns-clause-order c).In_ok-with_times))
+pub returns-clause-places : goal.returns-clause-places
+returns-clause-places c =
+    by_rank_places c.args.situation.now (λ (p : Placed). p.place) (λ (p : Placed). p.active.now) c.in_ok-ranked.ranked.items c.flights-flights.result.now c.in_ok-places.places.items
+    c.flights-flights.ensures c.in_ok-ranked.ensures.flights c.in_ok-ranked.ensures.places (c.in_ok-places.ensures ∙ ap (map (λ (p : Placed). p.place)) c.deref-2.ensures.value)

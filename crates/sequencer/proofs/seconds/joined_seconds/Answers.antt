@@ -1,25 +1,65 @@
-use Rattle.std.proofs.Common.{length, map, sym, ap, subst, ◌∙◌}
-use Rattle.std.specs.Prelude.{All}
-use Rattle.std.proofs.lemmas.List.{length-map}
-use Rattle.landing_rules.specs.Flights.{waiting}
-use Rattle.landing_rules.specs.Problem.{by_rank}
-use Rattle.sequencer.specs.Ranked.{arrival_of, arrivals, second_in, IsThere}
+use Rattle.std.proofs.Common.{◌≡◌, ℕ, ◌+◌, ◌-◌, ◌≤◌, List, length, get_or, slice_set, take, ap, ◌∙◌, arith}
+use Rattle.std.proofs.lemmas.List.{length-map, take_all}
+use Rattle.std.proofs.lemmas.Option.{slice_get_within}
+use Rattle.landing_rules.specs.Flights.{Situation, waiting}
+use Rattle.landing_rules.specs.Problem.{by_rank, joined, joined_second}
+use Rattle.landing_rules.specs.Sound.{IsSound}
+use Rattle.landing_joint.specs.Numbered.{nobody}
+use Rattle.sequencer.specs.Ranked.{ArePlacesByRank}
 use Rattle.sequencer.proofs.Ranks.{rank_length}
-use Rattle.sequencer.proofs.Joined.{all_there, joined_is}
+use Rattle.sequencer.proofs.Joined.{joined_more, placed_at, places_length}
 use Rattle.sequencer.proofs.seconds.joined_seconds.Goals as goal
 
-pub seconds_of-requires-clause-there : goal.seconds_of-requires-clause-there
-seconds_of-requires-clause-there c =
-    let s = c.args.situation.now in
-    subst (λ o. All (IsThere o) c.flights.result.now) (sym c.requires.order) (subst (All (IsThere (arrivals (waiting s)))) (sym c.flights.ensures) (all_there s))
+count : (s : Situation) (places : List ℕ) → IsSound s → ArePlacesByRank s places → length places ≡ length (waiting s)
+count s places sound at = places_length s sound.callsigns places at ∙ rank_length (waiting s)
 
-pub seconds_of-requires-clause-long : goal.seconds_of-requires-clause-long
-seconds_of-requires-clause-long c =
+pub overflow_cast-index : goal.overflow_cast-index
+overflow_cast-index c =
+    let n = count c.args.situation.now c.args.places.now c.requires.sound c.requires.places in
+    let few = c.requires.sound.few_waiting in
+    let lt = c.loop-index-test.true in
+    omega arith
+
+pub overflow_add-index : goal.overflow_add-index
+overflow_add-index c =
+    let n = count c.args.situation.now c.args.places.now c.requires.sound c.requires.places in
+    let few = c.requires.sound.few_waiting in
+    let lt = c.loop-index-test.true in
+    omega arith
+
+pub second-requires : goal.second-requires
+second-requires c =
+    let n = count c.args.situation.now c.args.places.now c.requires.sound c.requires.places in
+    let long = c.requires.long in
+    let lt = c.loop-index-test.true in
+    (omega arith, omega arith)
+
+pub index_mut-requires : goal.index_mut-requires
+index_mut-requires c =
     let s = c.args.situation.now in
-    ap length c.requires.order ∙ length-map (by_rank (waiting s)) arrival_of ∙ rank_length (waiting s) ∙ sym c.requires.long
+    let i = c.loop-index.index in
+    let places = c.args.places.now in
+    let t = take i c.args.schedule.now in
+    let within = slice_get_within s.active (get_or places i 0) (get_or (by_rank (waiting s)) i nobody) (placed_at s c.requires.sound.callsigns places c.requires.places i nobody c.loop-index-test.true) in
+    let long : length c.loop-index.seconds.items ≡ length s.active = ap (length {A = ℕ}) c.loop-index.invariant ∙ length-map s.active (joined_second s t) in
+    let whole = c.loop-index.seconds.ok.0 in
+    omega arith
+
+pub loop-index-preserved : goal.loop-index-preserved
+loop-index-preserved c =
+    let s = c.args.situation.now in
+    let i = c.loop-index.index in
+    let places = c.args.places.now in
+    let t = c.args.schedule.now in
+    let same : i + 1 - 1 ≡ i = omega arith in
+    ap (slice_set c.loop-index.seconds.items (get_or places i 0)) (c.second.ensures ∙ ap (λ k. get_or t k 0) same)
+    ∙ ap (λ (l : List ℕ). slice_set l (get_or places i 0) (get_or t i 0)) c.loop-index.invariant
+    ∙ joined_more s c.requires.sound.callsigns places c.requires.places t i c.loop-index-test.true
 
 pub returns : goal.returns
 returns c =
     let s = c.args.situation.now in
-    let t = c.args.schedule.now in
-    c.in_ok-seconds.ensures ∙ ap (λ o. map (second_in o t) c.flights.result.now) c.requires.order ∙ ap (map (second_in (arrivals (waiting s)) t)) c.flights.ensures ∙ joined_is s t
+    let n = count s c.args.places.now c.requires.sound c.requires.places in
+    let long = c.requires.long in
+    let past : length c.args.schedule.now ≤ c.loop-index.index = let b = c.loop-index-test.false in omega arith in
+    c.loop-index.invariant ∙ ap (joined s) (take_all c.loop-index.index c.args.schedule.now past)

@@ -1,0 +1,264 @@
+-- The frozen landings stand first in landing order, the waiting ones behind them; and no event but a clock moves a frozen one.
+use Rattle.std.proofs.Common.{◌≡◌, ℕ, zero, suc, ◌+◌, ◌<◌, ◌≤◌, Bool, true, false, cond, not, List, [], ◌∷◌, ◌++◌, length, get_or, map, filter, take, Option, Some, None, inl, inr, ◌⊎◌, refl, sym, ap, ap₂, subst, ◌∙◌, arith}
+use Rattle.std.specs.Prelude.{All, MatchOption, find, option_map, is_none, unwrap_or}
+use Rattle.std.specs.List.{cons_option}
+use Rattle.std.specs.List.Sorted.{IsPermutation}
+use Rattle.std.proofs.lemmas.Bool.{cases_Bool, cases_order, false≢true}
+use Rattle.std.proofs.lemmas.List.{append-nil, get_or_default, get_or-map, length-map, map-append}
+use Rattle.std.proofs.lemmas.List.Elements.{All-head, All-tail, filter_map-append}
+use Rattle.std.proofs.lemmas.List.Sorted.{IsPermutation-append, IsPermutation-filter_both, IsPermutation-map, IsPermutation-sym, IsPermutation-trans, length_permutation}
+use Rattle.std.proofs.lemmas.Slice.Eq.{bytes_eq-Decides}
+use Rattle.std.proofs.lemmas.Grind.{same_number_lists}
+use Rattle.std.proofs.Math.Bool.{not-not}
+use Rattle.std.proofs.Math.Seq.{take-append_seam}
+use Rattle.wake_table.specs.Table.{separation}
+use Rattle.landing_rules.specs.Flights.{Active, Callsign, Landing, Schedule, Situation, Span, horizon, is_waiting, landing, landings, waiting}
+use Rattle.landing_rules.specs.Rules.{IsFeasible, IsFrozenKept, waits}
+use Rattle.landing_rules.specs.Events.{Event, Estimate, Cancel, Add, Close, Reopen, Clock, Frozen, estimated, frozen_landings, in_landing_order, named, newcomer, refusal, situation_after, unknown_or_frozen}
+use Rattle.landing_rules.specs.Problem.{by_rank, joined, joined_second}
+use Rattle.landing_rules.specs.Sound.{IsSound}
+use Rattle.landing_rules.specs.Text.{ShownLanding, shown_landing, shown_plan}
+use Rattle.landing_rules.specs.shared.Counting.{Member}
+use Rattle.landing_rules.specs.shared.Members.{all_at, found_in, in_filter, in_frozen, in_map, member_at, member_contains, member_permutation, none_found}
+use Rattle.landing_joint.specs.Numbered.{nobody}
+use Rattle.landing_joint.specs.shared.LandingsInOrder.{order_member, order_permutes, order_rises}
+use Rattle.sequencer.specs.Frozen.{frozen_of, frozen_shown, moves_none, BeginsWithFrozen}
+use Rattle.sequencer.proofs.Ranks.{Apart, rank_length, rank_permutes}
+use Rattle.sequencer.proofs.Rising.{Climbs, climbs_map, once, one_order}
+use Rattle.sequencer.proofs.Joined.{rank_in, rank_at, ranked_waits}
+use Rattle.sequencer.proofs.ShownOrder.{in_order}
+
+abbrev second : ShownLanding → ℕ
+second l = l.second
+
+-- ---- the frozen landings in landing order
+
+apart_frozen : (xs : List Active) → Apart xs → (i j : ℕ) (d : Landing) → i < j → j < length (frozen_of xs) → (get_or (frozen_of xs) i d).flight.callsign ≡ (get_or (frozen_of xs) j d).flight.callsign → ⊥
+apart_frozen [] apart = λ i j d lt within e. absurd (omega arith)
+apart_frozen (x ∷ xs) apart = go x.frozen (apart_frozen xs (λ i j d lt within. apart (suc i) (suc j) d (omega arith) (omega arith)))
+  where
+    AreOwn : List Landing → Type 0
+    AreOwn fs = (i j : ℕ) (d : Landing) → i < j → j < length fs → (get_or fs i d).flight.callsign ≡ (get_or fs j d).flight.callsign → ⊥
+
+    first : (j : ℕ) (d : Landing) → j < length (frozen_of xs) → x.flight.callsign ≡ (get_or (frozen_of xs) j d).flight.callsign → ⊥
+    first j d within e =
+        let r = in_frozen xs (get_or (frozen_of xs) j d) (member_at (frozen_of xs) j d within) in
+        let c = member_contains xs r.0 r.2 in
+        let l = c.1 in
+        apart 0 (suc c.0) r.0 (omega arith) (omega arith) (e ∙ ap (λ (f : Landing). f.flight.callsign) r.4 ∙ ap (λ (a : Active). a.flight.callsign) (sym c.2))
+
+    go : (o : Option ℕ) → AreOwn (frozen_of xs) → AreOwn (cons_option (option_map (landing x) o) (frozen_of xs))
+    go None ih = ih
+    go (Some t) ih = own
+      where
+        own : AreOwn (landing x t ∷ frozen_of xs)
+        own i zero d lt within e = absurd (omega arith)
+        own zero (suc j) d lt within e = first j d (omega arith) e
+        own (suc i) (suc j) d lt within e = ih i j d (omega arith) (omega arith) e
+
+-- in any order in which their seconds do not fall, the frozen landings are in landing order
+pub frozen_in_order : (s : Situation) → IsSound s → (sorted : List ShownLanding) → IsPermutation (map shown_landing (frozen_landings s)) sorted → Climbs second sorted → sorted ≡ frozen_shown s
+frozen_in_order s sound sorted permuted climbs =
+    one_order second (map shown_landing fs) sorted (frozen_shown s) (once (map second (map shown_landing fs)) differ) permuted
+    (IsPermutation-map shown_landing fs (in_landing_order fs) (order_permutes fs)) climbs (climbs_map shown_landing second (in_landing_order fs) (order_rises fs))
+  where
+    fs : List Landing
+    fs = frozen_landings s
+
+    at : (k : ℕ) (d : Landing) → k < length fs → get_or (map second (map shown_landing fs)) k 0 ≡ (get_or fs k d).second
+    at k d lt = let n = length-map fs shown_landing in get_or-map second (map shown_landing fs) k (shown_landing d) 0 (omega arith) ∙ ap second (get_or-map shown_landing fs k d (shown_landing d) lt)
+
+    differ : (i j : ℕ) → i < j → j < length (map second (map shown_landing fs)) → get_or (map second (map shown_landing fs)) i 0 ≡ get_or (map second (map shown_landing fs)) j 0 → ⊥
+    differ i j lt within e =
+        let n = length-map fs shown_landing in
+        let m = length-map (map shown_landing fs) second in
+        let d : Landing = landing nobody 0 in
+        let f : Landing = get_or fs i d in
+        let g : Landing = get_or fs j d in
+        let same : f.second ≡ g.second = sym (at i d (omega arith)) ∙ e ∙ at j d (omega arith) in
+        let apart : f.second + separation s.aerodrome.table f.flight.category g.flight.category ≤ g.second =
+        sound.frozen_separated i d (omega arith) j d (omega arith) (apart_frozen s.active sound.callsigns i j d lt (omega arith)) (omega arith) in
+        let one = (sound.table.entries f.flight.category g.flight.category).0 in
+        omega arith
+
+-- ---- and behind them the waiting ones
+
+in_append : {X : Type 0} (xs ys : List X) (x : X) → Member x (xs ++ ys) → Member x xs ⊎ Member x ys
+in_append [] ys x m = inr m
+in_append (z ∷ xs) ys x (inl e) = inl (inl e)
+in_append (z ∷ xs) ys x (inr m) = elim (in_append xs ys x m) [ inl k ↦ inl (inr k) | inr k ↦ inr k ]
+
+climbs_append : {X : Type 0} (key : X → ℕ) (xs ys : List X) → Climbs key xs → Climbs key ys → ((x y : X) → Member x xs → Member y ys → key x ≤ key y) → Climbs key (xs ++ ys)
+climbs_append key [] ys c d h = d
+climbs_append key (x ∷ xs) ys c d h = (
+  λ y m. elim (in_append xs ys y m) [ inl k ↦ c.0 y k | inr k ↦ h x y (inl refl) k ],
+  climbs_append key xs ys c.1 d (λ z y k m. h z y (inr k) m),
+)
+
+-- a schedule that keeps the frozen seconds lands the frozen flights at them
+kept_landings : (h : ℕ) (xs : List Active) (ts : Schedule) → length ts ≡ length xs → All (IsFrozenKept h) (landings xs ts) → filter (λ f. not (waits f)) (landings xs ts) ≡ frozen_of xs
+kept_landings h [] [] e keeps = refl
+kept_landings h [] (t ∷ ts) e keeps = absurd (omega arith)
+kept_landings h (x ∷ xs) [] e keeps = absurd (omega arith)
+kept_landings h (x ∷ xs) (t ∷ ts) e keeps =
+    go x.frozen (All-head (IsFrozenKept h) (landing x t) (landings xs ts) keeps) (kept_landings h xs ts (omega arith) (All-tail (IsFrozenKept h) (landing x t) (landings xs ts) keeps))
+  where
+    go : (o : Option ℕ) → MatchOption o (h ≤ t) (λ u. t ≡ u) → filter (λ f. not (waits f)) (landings xs ts) ≡ frozen_of xs →
+        cond (not (is_none o)) (landing x t ∷ filter (λ f. not (waits f)) (landings xs ts)) (filter (λ f. not (waits f)) (landings xs ts)) ≡ cons_option (option_map (landing x) o) (frozen_of xs)
+    go None k ih = ih
+    go (Some u) k ih = ap₂ (λ (f : Landing) (fs : List Landing). f ∷ fs) (ap (landing x) k) ih
+
+length_frozen : (xs : List Active) → length (frozen_of xs) + length (filter is_waiting xs) ≡ length xs
+length_frozen [] = refl
+length_frozen (x ∷ xs) = go x.frozen (length_frozen xs)
+  where
+    go : (o : Option ℕ) → length (frozen_of xs) + length (filter is_waiting xs) ≡ length xs →
+        length (cons_option (option_map (landing x) o) (frozen_of xs)) + length (cond (is_none o) (x ∷ filter is_waiting xs) (filter is_waiting xs)) ≡ length (x ∷ xs)
+    go None ih = omega arith
+    go (Some t) ih = omega arith
+
+module _ (s : Situation) (t : Schedule) (sound : IsSound s) (keeps : IsFeasible s t) where
+  abbrev all : List Landing
+  all = landings s.active t
+
+  before_waiting : (waiting : List ShownLanding) → IsPermutation (map shown_landing (filter waits all)) waiting → (x y : ShownLanding) → Member x (frozen_shown s) → Member y waiting → x.second ≤ y.second
+  before_waiting waiting p x y m n =
+      let r = in_map shown_landing (in_landing_order (frozen_landings s)) x m in
+      let early = all_at (λ (f : Landing). f.second < horizon s) (frozen_landings s) sound.frozen_before r.0 (order_member r.0 (frozen_landings s) r.1) in
+      let q = in_map shown_landing (filter waits all) y (member_permutation waiting (map shown_landing (filter waits all)) y (IsPermutation-sym (map shown_landing (filter waits all)) waiting p) n) in
+      let w = in_filter waits all q.0 q.1 in
+      let late : horizon s ≤ q.0.second = late_of q.0.frozen q.0.second w.1 (all_at (IsFrozenKept (horizon s)) all keeps.1.frozen_kept q.0 w.0) in
+      let a : x.second ≡ r.0.second = ap second r.2 in
+      let b : y.second ≡ q.0.second = ap second q.2 in
+      omega arith
+    where
+      late_of : (o : Option ℕ) (u : ℕ) → is_none o ≡ true → MatchOption o (horizon s ≤ u) (λ v. u ≡ v) → horizon s ≤ u
+      late_of None u e k = k
+      late_of (Some v) u e k = absurd (false≢true e)
+
+  -- the plan of a feasible schedule
+  pub front_first : (waiting : List ShownLanding) → IsPermutation (map shown_landing (filter waits all)) waiting → Climbs second waiting → frozen_shown s ++ waiting ≡ (shown_plan s t).landings
+  front_first waiting p climbs =
+      let fs = frozen_landings s in
+      let held : filter (λ f. not (waits f)) all ≡ fs = kept_landings (horizon s) s.active t keeps.0 keeps.1.frozen_kept in
+      let parts : IsPermutation all (filter (λ f. not (waits f)) all ++ filter waits all) = IsPermutation-filter_both (λ f. not (waits f)) waits (λ f. sym (not-not (waits f))) all in
+      let shown : IsPermutation (map shown_landing all) (map shown_landing fs ++ map shown_landing (filter waits all)) =
+      subst (IsPermutation (map shown_landing all)) (ap (λ fs. map shown_landing (fs ++ filter waits all)) held ∙ map-append shown_landing fs (filter waits all)) (IsPermutation-map shown_landing all (filter (λ f. not (waits f)) all ++ filter waits all) parts) in
+      let each : IsPermutation (map shown_landing fs ++ map shown_landing (filter waits all)) (frozen_shown s ++ waiting) =
+      IsPermutation-append (map shown_landing fs) (frozen_shown s) (map shown_landing (filter waits all)) waiting (IsPermutation-map shown_landing fs (in_landing_order fs) (order_permutes fs)) p in
+      in_order s t sound keeps (map shown_landing all) (frozen_shown s ++ waiting) refl
+      (IsPermutation-trans (map shown_landing all) (map shown_landing fs ++ map shown_landing (filter waits all)) (frozen_shown s ++ waiting) shown each)
+      (climbs_append second (frozen_shown s) waiting (climbs_map shown_landing second (in_landing_order fs) (order_rises fs)) climbs (before_waiting waiting p))
+
+  -- its first landings are the frozen ones
+  pub front_is : BeginsWithFrozen s (shown_plan s t)
+  front_is =
+      let ws = filter waits all in
+      let behind = map shown_landing (in_landing_order ws) in
+      let whole = front_first behind (IsPermutation-map shown_landing ws (in_landing_order ws) (order_permutes ws)) (climbs_map shown_landing second (in_landing_order ws) (order_rises ws)) in
+      ap (take (length (frozen_shown s))) (sym whole) ∙ take-append_seam (frozen_shown s) behind
+
+-- how many they are
+pub frozen_count : (s : Situation) → length (frozen_shown s) + length (waiting s) ≡ length s.active
+frozen_count s =
+    let fs = frozen_landings s in
+    let a = length-map (in_landing_order fs) shown_landing in
+    let b = length_permutation fs (in_landing_order fs) (order_permutes fs) in
+    let c = length_frozen s.active in
+    omega arith
+
+-- ---- the waiting landings of a list by rank
+
+landings_of : (f : Active → ℕ) (xs : List Active) → landings xs (map f xs) ≡ map (λ a. landing a (f a)) xs
+landings_of f [] = refl
+landings_of f (x ∷ xs) = ap (λ l. landing x (f x) ∷ l) (landings_of f xs)
+
+waiting_landings : (f : Active → ℕ) (xs : List Active) → filter waits (map (λ a. landing a (f a)) xs) ≡ map (λ a. landing a (f a)) (filter is_waiting xs)
+waiting_landings f [] = refl
+waiting_landings f (x ∷ xs) = go (is_waiting x) (waiting_landings f xs)
+  where
+    go : (b : Bool) → filter waits (map (λ a. landing a (f a)) xs) ≡ map (λ a. landing a (f a)) (filter is_waiting xs) →
+        cond b (landing x (f x) ∷ filter waits (map (λ a. landing a (f a)) xs)) (filter waits (map (λ a. landing a (f a)) xs)) ≡ map (λ a. landing a (f a)) (cond b (x ∷ filter is_waiting xs) (filter is_waiting xs))
+    go true ih = ap (λ l. landing x (f x) ∷ l) ih
+    go false ih = ih
+
+ranked_seconds : (s : Situation) (u : Schedule) → Apart s.active → length u ≡ length (waiting s) → map (joined_second s u) (by_rank (waiting s)) ≡ u
+ranked_seconds s u apart e =
+    let R : List Active = by_rank (waiting s) in
+    let n = rank_length (waiting s) in
+    let m = length-map R (joined_second s u) in
+    same_number_lists (map (joined_second s u) R) u (omega arith) (λ k lt.
+    let within : k < length R = omega arith in
+    get_or-map (joined_second s u) R k nobody 0 within
+    ∙ ap (λ o. unwrap_or o (get_or u (rank_in s apart (get_or R k nobody)) 0)) (ranked_waits s apart k within) ∙ ap (λ r. get_or u r 0) (rank_at s apart k (get_or R k nobody) within (get_or_default R k (get_or R k nobody) nobody within)))
+
+-- those of the waiting flights where the seconds by rank are joined with the frozen ones
+pub waiting_shown : (s : Situation) (u : Schedule) → IsSound s → length u ≡ length (waiting s) → IsPermutation (map shown_landing (filter waits (landings s.active (joined s u)))) (map shown_landing (landings (by_rank (waiting s)) u))
+waiting_shown s u sound e =
+    let R : List Active = by_rank (waiting s) in
+    let f : Active → ℕ = joined_second s u in
+    let here : filter waits (landings s.active (joined s u)) ≡ map (λ a. landing a (f a)) (waiting s) = ap (filter waits) (landings_of f s.active) ∙ waiting_landings f s.active in
+    let there : map (λ a. landing a (f a)) R ≡ landings R u = sym (landings_of f R) ∙ ap (landings R) (ranked_seconds s u sound.callsigns e) in
+    subst (λ l. IsPermutation (map shown_landing l) (map shown_landing (landings R u))) (sym here)
+    (subst (λ l. IsPermutation (map shown_landing (map (λ a. landing a (f a)) (waiting s))) (map shown_landing l)) there
+    (IsPermutation-map shown_landing (map (λ a. landing a (f a)) (waiting s)) (map (λ a. landing a (f a)) R) (IsPermutation-map (λ a. landing a (f a)) (waiting s) R (rank_permutes (waiting s)))))
+
+-- ---- no event but a clock moves a frozen landing
+
+-- where the event is accepted, each flight of that name waits
+named_waits : (s : Situation) (c : Callsign) → Apart s.active → unknown_or_frozen c (find (named c) s.active) ≡ None → (a : Active) → Member a s.active → named c a ≡ true → a.frozen ≡ None
+named_waits s c apart ok a m e = go (find (named c) s.active) refl ok
+  where
+    one : (b : Active) → Member b s.active → a.flight.callsign ≡ b.flight.callsign → a ≡ b
+    one b n same =
+        let i = member_contains s.active a m in
+        let j = member_contains s.active b n in
+        let li = i.1 in
+        let lj = j.1 in
+        let names : (get_or s.active i.0 a).flight.callsign ≡ (get_or s.active j.0 a).flight.callsign =
+        ap (λ (z : Active). z.flight.callsign) i.2 ∙ same ∙ ap (λ (z : Active). z.flight.callsign) (sym (get_or_default s.active j.0 a b lj ∙ j.2)) in
+        elim (cases_order i.0 j.0) [
+          | inl q ↦ sym i.2 ∙ ap (λ k. get_or s.active k a) q ∙ get_or_default s.active j.0 a b lj ∙ j.2
+          | inr (inl lt) ↦ absurd (apart i.0 j.0 a lt lj names)
+          | inr (inr gt) ↦ absurd (apart j.0 i.0 a gt li (sym names))
+        ]
+
+    is : (b : Active) → named c b ≡ true → b.flight.callsign ≡ c
+    is b q = (bytes_eq-Decides b.flight.callsign c).0 q
+
+    go : (o : Option Active) → find (named c) s.active ≡ o → unknown_or_frozen c o ≡ None → a.frozen ≡ None
+    go None q ok = absurd (false≢true (sym (none_found (named c) s.active a q m) ∙ e))
+    go (Some b) q ok = let r = found_in (named c) s.active b q in ap (λ (z : Active). z.frozen) (one b r.0 (is a e ∙ sym (is b r.1))) ∙ two b.frozen ok
+      where
+        two : (o : Option ℕ) → option_map Frozen o ≡ None → o ≡ None
+        two None ok = refl
+        two (Some t) ok = let w : Some (Frozen t) ≡ None = ok in absurd (cc)
+
+frozen_estimated : (c : Callsign) (eta : ℕ) (windows : List Span) (xs : List Active) → ((a : Active) → Member a xs → named c a ≡ true → a.frozen ≡ None) → frozen_of (map (estimated c eta windows) xs) ≡ frozen_of xs
+frozen_estimated c eta windows [] h = refl
+frozen_estimated c eta windows (x ∷ xs) h = ap₂ (λ (o : Option Landing) (fs : List Landing). cons_option o fs) here (frozen_estimated c eta windows xs (λ a m. h a (inr m)))
+  where
+    with_times : Active
+    with_times = record x { flight = record x.flight { eta = eta; windows = windows } }
+
+    here : option_map (landing (estimated c eta windows x)) (estimated c eta windows x).frozen ≡ option_map (landing x) x.frozen
+    here = elim (cases_Bool (named c x)) [
+      | inl e ↦ (let none = h x (inl refl) e in rw e (ap (option_map (landing with_times)) none ∙ sym (ap (option_map (landing x)) none)))
+      | inr e ↦ rw e refl
+    ]
+
+frozen_cancelled : (c : Callsign) (xs : List Active) → ((a : Active) → Member a xs → named c a ≡ true → a.frozen ≡ None) → frozen_of (filter (λ a. not (named c a)) xs) ≡ frozen_of xs
+frozen_cancelled c [] h = refl
+frozen_cancelled c (x ∷ xs) h = go (named c x) refl (frozen_cancelled c xs (λ a m. h a (inr m)))
+  where
+    go : (b : Bool) → named c x ≡ b → frozen_of (filter (λ a. not (named c a)) xs) ≡ frozen_of xs → frozen_of (cond (not b) (x ∷ filter (λ a. not (named c a)) xs) (filter (λ a. not (named c a)) xs)) ≡ frozen_of (x ∷ xs)
+    go true e ih = ih ∙ sym (ap (λ o. cons_option (option_map (landing x) o) (frozen_of xs)) (h x (inl refl) e))
+    go false e ih = ap (cons_option (option_map (landing x) x.frozen)) ih
+
+pub frozen_stay : (s : Situation) (plan : Option Schedule) (e : Event) → IsSound s → refusal s e ≡ None → moves_none e ≡ true → frozen_shown (situation_after s plan e) ≡ frozen_shown s
+frozen_stay s plan (Estimate c eta windows) sound ok still = ap (λ fs. map shown_landing (in_landing_order fs)) (frozen_estimated c eta windows s.active (named_waits s c sound.callsigns ok))
+frozen_stay s plan (Cancel c) sound ok still = ap (λ fs. map shown_landing (in_landing_order fs)) (frozen_cancelled c s.active (named_waits s c sound.callsigns ok))
+frozen_stay s plan (Add f) sound ok still = ap (λ fs. map shown_landing (in_landing_order fs)) (filter_map-append (λ a. option_map (landing a) a.frozen) s.active (newcomer f ∷ []) ∙ append-nil (frozen_landings s))
+frozen_stay s plan (Close span) sound ok still = refl
+frozen_stay s plan (Reopen span) sound ok still = refl
+frozen_stay s plan (Clock now) sound ok still = absurd (false≢true still)
