@@ -8,11 +8,11 @@ use Rattle.cps_top.specs.declared.commands.Command.{Command}
 use Rattle.cps_top.specs.declared.commands.Command.TheVariants.{Plan, Replay, Certify, Check, Effort, Trial, First, WhatIf, Audit}
 use Rattle.cps_top.specs.Commands.{command_of, trial_of, trial_by, number_of, names_of, files_of, file_count}
 
-named : (b : Bool) (x : Command) (rest : Option Command) (c : Command) (Q : Type 0) → (if b then Some x else rest) ≡ Some c → (b ≡ true → x ≡ c → Q) → (rest ≡ Some c → Q) → Q
+pub named : (b : Bool) (x : Command) (rest : Option Command) (c : Command) (Q : Type 0) → (if b then Some x else rest) ≡ Some c → (b ≡ true → x ≡ c → Q) → (rest ≡ Some c → Q) → Q
 named true x rest c Q e here later = here refl cc
 named false x rest c Q e here later = later e
 
-other : (b : Bool) (rest : Option Command) (c : Command) (Q : Type 0) → (if b then rest else None) ≡ Some c → (rest ≡ Some c → Q) → Q
+pub other : (b : Bool) (rest : Option Command) (c : Command) (Q : Type 0) → (if b then rest else None) ≡ Some c → (rest ≡ Some c → Q) → Q
 other true rest c Q e here = here e
 other false rest c Q e here = absurd (none e)
   where

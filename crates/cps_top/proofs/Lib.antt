@@ -3,5 +3,7 @@ pub mod Complete
 pub mod Counts
 pub mod Exact
 pub mod Followed
+pub mod MostBytes
+pub mod Ranges
 pub mod Statuses
 pub mod Sure

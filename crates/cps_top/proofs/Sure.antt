@@ -5,35 +5,58 @@ use Rattle.cps_outside.specs.SinkState.{SinkState}
 use Rattle.cps_top.specs.declared.commands.Command.{Command}
 use Rattle.endings.specs.declared.ending.Ending.{Ending}
 use Rattle.endings.specs.declared.ending.Ending.TheVariants.{NotWritten}
-use Rattle.cps_top.specs.Commands.{files_of}
+use Rattle.endings.specs.declared.ending.Refusal.{Refusal}
+use Rattle.cps_top.specs.Commands.{IsInRange, Refuses, files_of}
 use Rattle.endings.specs.Lines.{status_of}
 use Rattle.endings.specs.Outside.{Outside}
 use Rattle.cps_top.specs.Outcome.{Ends, Follows}
-use Rattle.cps_top.specs.Statuses.{HasRoom, IsSure}
+use Rattle.cps_top.specs.MostBytes.{TextsAreBoundedLaw}
+use Rattle.cps_top.specs.Statuses.{AreThere, HasRoom, HoldsEach, IsComplete, IsSure}
 use Rattle.cps_top.proofs.Complete.{complete_unless, none_fails}
 use Rattle.cps_top.proofs.Exact.{exact}
+use Rattle.cps_top.proofs.Ranges.{in_range}
 use Rattle.cps_top.proofs.Statuses.{asks}
 
-none_unwritten : (command : Command) (contents : List (List ℕ)) (old new : SinkState) → IsTrue old.sure → HasRoom command contents old →
+none_unwritten : (command : Command) (contents : List (List ℕ)) (old new : SinkState) → IsTrue old.sure
+    → HoldsEach command contents old →
     Follows command contents old new NotWritten → ⊥
 none_unwritten command contents old new sure room unwritten =
     let fits : length unwritten.0.text ≤ old.room = room unwritten.0.text unwritten.0.admitted.0 in
     let longer : old.room < length unwritten.0.text = unwritten.0.admitted.1 sure in
     omega (arith, fits, longer)
 
-pub is_sure : (words : List (List ℕ)) (old new : Outside) (status : ℕ) (ending : Ending) →
+-- room for as many bytes as it prints at most holds each of its texts
+holds_each : TextsAreBoundedLaw → (command : Command) (contents : List (List ℕ)) (sink : SinkState)
+    → IsInRange command → HasRoom command contents sink
+    → HoldsEach command contents sink
+holds_each law command contents sink range room text begins =
+    let short = law command contents text range begins in
+    omega (arith, short, room)
+
+pub is_sure : TextsAreBoundedLaw → (words : List (List ℕ)) (old new : Outside) (status : ℕ) (ending : Ending) →
     status ≡ status_of ending → Ends words old new ending → IsSure words old new status
-is_sure words old new status ending is ends = record {
+is_sure law words old new status ending is ends = record {
   complete = λ command contents there folder taken out room.
-      complete_unless words old new status ending command contents is ends there taken
-      (λ place fails. none_fails old.folder new.folder (files_of words) contents place there.tells folder there.told there.bounded fails)
-      (none_unwritten command contents old.out new.out out room);
+      held command contents there folder taken out (holds_each law command contents old.out
+      (in_range words command there.named) room);
+  held = held;
   refused = λ command contents refusal there folder refuses.
       elim ((exact words old new status ending is ends).refused command contents refusal there refuses) [
         | inl three ↦ inl three
         | inr (inl eight) ↦ inr eight
         | inr (inr four) ↦ (
             let fails = (asks words old new status ending is ends).failed four.0 in
-            absurd (none_fails old.folder new.folder (files_of words) contents fails.0 there.tells folder there.told there.bounded fails.1))
+            absurd (none_fails old.folder new.folder
+            (files_of words) contents fails.0 there.tells folder there.told there.bounded fails.1))
       ];
 }
+  where
+    held : (command : Command) (contents : List (List ℕ)) → AreThere words old command contents → IsTrue old.folder.sure
+        → ((refusal : Refusal) → Refuses command contents refusal → ⊥) → IsTrue old.out.sure
+        → HoldsEach command contents old.out
+        → IsComplete command contents old new status
+    held command contents there folder taken out room =
+        complete_unless words old new status ending command contents is ends there taken
+        (λ place fails. none_fails old.folder new.folder
+        (files_of words) contents place there.tells folder there.told there.bounded fails)
+        (none_unwritten command contents old.out new.out out room)

@@ -7,6 +7,7 @@ use Rattle.cps_top.specs.declared.commands.Command.{Command}
 use Rattle.endings.specs.declared.ending.Answer.{Answer}
 use Rattle.endings.specs.declared.ending.Refusal.{Refusal}
 use Rattle.cps_top.specs.Commands.{command_of, files_of, puts_of, Admits, Begins, Refuses}
+use Rattle.cps_top.specs.MostBytes.{most_bytes}
 use Rattle.endings.specs.Lines.{answer_status}
 use Rattle.endings.specs.Loads.{limit, FailsAt, IsTooLongAt, AsksForSome, FailsWithin}
 use Rattle.openings.specs.Follows.{Prints}
@@ -54,9 +55,13 @@ pub record Completes (words : List (List ℕ)) (old new : Outside) (status : ℕ
       (Rose old.folder.faults new.folder.faults → ⊥) → (Rose old.out.faults new.out.faults → ⊥) →
       IsComplete command contents old new status
 
--- there is room for every text that the command may begin to print over these contents
+-- there is room for as many bytes as the command prints at most over these contents
 abbrev pub HasRoom : Command → List (List ℕ) → SinkState → Type 0
-HasRoom command contents sink = (text : List ℕ) → Begins command contents text → length text ≤ sink.room
+HasRoom command contents sink = most_bytes command contents ≤ sink.room
+
+-- there is room for every text that the command may begin to print over these contents
+abbrev pub HoldsEach : Command → List (List ℕ) → SinkState → Type 0
+HoldsEach command contents sink = (text : List ℕ) → Begins command contents text → length text ≤ sink.room
 
 -- From a folder that is sure: over files that are taken, and into a sink that is sure and has room, the text is written whole,
 -- or memory was short. Files that are refused give status 3, or memory was short.
@@ -64,6 +69,10 @@ pub record IsSure (words : List (List ℕ)) (old new : Outside) (status : ℕ) :
   pub complete : (command : Command) (contents : List (List ℕ)) → AreThere words old command contents → IsTrue old.folder.sure →
       ((refusal : Refusal) → Refuses command contents refusal → ⊥) →
       IsTrue old.out.sure → HasRoom command contents old.out → IsComplete command contents old new status
+  -- the same where the room is known to hold each of these texts
+  pub held : (command : Command) (contents : List (List ℕ)) → AreThere words old command contents →
+      IsTrue old.folder.sure → ((refusal : Refusal) → Refuses command contents refusal → ⊥) →
+      IsTrue old.out.sure → HoldsEach command contents old.out → IsComplete command contents old new status
   pub refused : (command : Command) (contents : List (List ℕ)) (refusal : Refusal) → AreThere words old command contents → IsTrue old.folder.sure →
       Refuses command contents refusal → (status ≡ 3) ⊎ (status ≡ 8)
 

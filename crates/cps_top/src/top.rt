@@ -7,6 +7,7 @@ ghost use Rattle.cps_top.specs.Statuses.{Causes, Asks, Completes, IsExact, IsSur
 
 use crate::Command;
 use crate::commands::{files, read_command};
+use crate::laws::texts_are_bounded;
 use certificate_commands::{run_certify, run_check};
 use cps_outside::{Folder, Gate, Sink};
 use endings::{Ending, load_all, say, status};
@@ -132,6 +133,7 @@ pub fn run<R: Threads + Sync, F: Folder, S: Sink, E: Sink, G: Gate + Sync>(
         record { folder = F.state folder.old; out = S.state out.old }
         record { folder = F.state folder.new; out = S.state out.new } result }
 {
+    texts_are_bounded();
     let ending = work(rt, alloc, words, folder, out, gate);
     let _ = say(err, &ending);
     status(&ending)

@@ -67,6 +67,7 @@ longer old now new events from to i total e rest steps P d a =
     let is : IsPlanned (last_problem old.problem d.plannings.planned) one = record {
       problem_of = a.plans.problem_of;
       steps = subst (λ (q : Problem). TakesSteps q a.answer new.problem steps) d.problem a.plans.takes;
+      few = a.plans.few;
     } in
     record {
       planned = d.plannings.planned ++ one ∷ [];
@@ -179,8 +180,9 @@ refused_step fault old new i e P text never plans is written =
 -- ---- with the opening's line before, and the total's behind
 
 abbrev pub effort_of : (old : Standing AnyKept) (events : List Event) (opening : ℕ) → IsProblemOf old.state.situation old.problem → IsDue None old.problem opening →
-    Plannings old.problem old.state events → Effort old.state events
-effort_of old events opening of opened plannings = record { problem = old.problem; problem_of = of; opening = opening; opened = opened; plannings = plannings }
+    opening ≤ most_steps → Plannings old.problem old.state events → Effort old.state events
+effort_of old events opening of opened few plannings =
+    record { problem = old.problem; problem_of = of; opening = opening; opened = opened; few = few; plannings = plannings }
 
 abbrev pub no_plannings : (old : Standing AnyKept) → Plannings old.problem old.state []
 no_plannings old = record { planned = []; run = tt; steps = tt }
@@ -201,14 +203,15 @@ whole_of_more puts from to x y w = ((λ told. (x, y, refl, w.grew told)), w.coun
 two_more : (n : ℕ) → (1 + n) + 1 ≡ 2 + n
 two_more n = omega arith
 
-module _ (old : Standing AnyKept) (events : List Event) (opening : ℕ) (of : IsProblemOf old.state.situation old.problem) (opened : IsDue None old.problem opening) where
+module _ (old : Standing AnyKept) (events : List Event) (opening : ℕ) (of : IsProblemOf old.state.situation old.problem) (opened : IsDue None old.problem opening)
+    (few : opening ≤ most_steps) where
   -- the opening's line was not written whole
   pub stops_at_once : (s : Stop) (new : Standing AnyKept) (from to : SinkState) → PutsText (begun_line opening) from to (Err s) → EffortEnds old.state new.state events from to (Err s)
   stops_at_once stop.NotWritten new from to w = record {
     done = [];
     rest = events;
     split = refl;
-    effort = effort_of old [] opening of opened (no_plannings old);
+    effort = effort_of old [] opening of opened few (no_plannings old);
     written = (1, (omega arith), (omega arith), part_of_more 1 from to (begun_line opening ++ []) (total_line (opening + 0)) (part_of_more 1 from to (begun_line opening) [] w));
   }
   stops_at_once stop.NoMemory new from to w = inl w
@@ -220,7 +223,7 @@ module _ (old : Standing AnyKept) (events : List Event) (opening : ℕ) (of : Is
     done = some.done;
     rest = some.rest;
     split = some.split;
-    effort = effort_of old some.done opening of opened some.plannings;
+    effort = effort_of old some.done opening of opened few some.plannings;
     written = (
       1 + length some.done,
       (omega arith),
@@ -233,7 +236,7 @@ module _ (old : Standing AnyKept) (events : List Event) (opening : ℕ) (of : Is
     done = some.done;
     rest = some.rest;
     split = some.split;
-    effort = effort_of old some.done opening of opened some.plannings;
+    effort = effort_of old some.done opening of opened few some.plannings;
     written = whole_of_more (1 + length some.done) from to (begun_line opening ++ answer_lines 1 some.plannings.planned) (total_line (opening + steps_of some.plannings.planned))
         (wrote_after 1 (length some.done) from mid to (begun_line opening) (answer_lines 1 some.plannings.planned) w some.written);
   })
@@ -248,7 +251,7 @@ module _ (old : Standing AnyKept) (events : List Event) (opening : ℕ) (of : Is
         done = events;
         rest = [];
         split = append-nil events;
-        effort = effort_of old events opening of opened all.plannings;
+        effort = effort_of old events opening of opened few all.plannings;
         written = (
           (1 + length events) + 1,
           (omega arith),
@@ -263,7 +266,7 @@ module _ (old : Standing AnyKept) (events : List Event) (opening : ℕ) (of : Is
         done = events;
         rest = [];
         split = append-nil events;
-        effort = effort_of old events opening of opened all.plannings;
+        effort = effort_of old events opening of opened few all.plannings;
         written = subst (λ (x : SinkState). GrowsByPart from x (planned_text opening planned) × CountsPuts (1 + length events) from x) (sym last)
             (whole_of_more (1 + length events) from late (begun_line opening ++ answer_lines 1 planned) (total_line (opening + steps_of planned))
             (wrote_after 1 (length events) from mid late (begun_line opening) (answer_lines 1 planned) w all.written));
@@ -277,7 +280,7 @@ module _ (old : Standing AnyKept) (events : List Event) (opening : ℕ) (of : Is
       let planned = all.plannings.planned in
       let told : Wrote 1 late to (total_line (opening + steps_of planned)) = subst (λ (n : ℕ). Wrote 1 late to (total_line (opening + n))) all.total_is last in
       record {
-        effort = effort_of old events opening of opened all.plannings;
+        effort = effort_of old events opening of opened few all.plannings;
         last = all.last;
         written = subst (λ (n : ℕ). Wrote n from to (planned_text opening planned)) (two_more (length events))
             (wrote_after (1 + length events) 1 from late to (begun_line opening ++ answer_lines 1 planned) (total_line (opening + steps_of planned))

@@ -1,9 +1,10 @@
 -- The steps of the plannings of a run of the rules, and their text.
-use Rattle.std.specs.Prelude.{◌≡◌, ⊤, ℕ, ◌+◌, List, [], ◌∷◌, ◌++◌, Option, Some, None, codes, decimal, map, sum_by}
+use Rattle.std.specs.Prelude.{◌≡◌, ◌≤◌, ⊤, ℕ, ◌+◌, List, [], ◌∷◌, ◌++◌, Option, Some, None, codes, decimal, map, sum_by}
 use Rattle.landing_rules.specs.Events.{State, Event, Refusal, Answered, Run}
 use Rattle.landing_rules.specs.Problem.{Problem, IsProblemOf}
 use Rattle.landing_rules.specs.Text.{Bytes, line, accepted_words, refused_words}
 use Rattle.cps_network.specs.Due.{IsDue}
+use Rattle.replan.specs.Bound.{most_steps}
 
 -- ---- the plannings of a run
 
@@ -32,6 +33,7 @@ TakesSteps held (Some refusal) problem steps = (problem ≡ held) × (steps ≡ 
 pub record IsPlanned (held : Problem) (a : Planned) : Type 0 where
   pub problem_of : IsProblemOf a.answered.state.situation a.problem
   pub steps : TakesSteps held a.answered.answer a.problem a.steps
+  pub few : a.steps ≤ most_steps
 
 -- each finds held what the one before it left
 abbrev pub ArePlanned : Problem → List Planned → Type 0
@@ -50,6 +52,7 @@ pub record Effort (state : State) (events : List Event) : Type 0 where
   pub problem_of : IsProblemOf state.situation problem
   pub opening : ℕ
   pub opened : IsDue None problem opening
+  pub few : opening ≤ most_steps
   pub plannings : Plannings problem state events
 
 -- ---- its text

@@ -9,7 +9,7 @@ ghost use Rattle.event_answers.specs.Written.{PutsText};
 ghost use Rattle.efforts.specs.Efforts.{begun_line, total_line};
 ghost use Rattle.efforts.specs.Ends.{Plans, StepPlans, EventsPlan, EffortEnds};
 
-use crate::texts::{accepted, begun, refused, total};
+use crate::lines::{accepted, begun, refused, total};
 use arrivals::Event;
 use cps_base::{Counted, Steps};
 use cps_outside::{Gate, Sink};

@@ -1,5 +1,9 @@
+pub mod AuditLengths
 pub mod AuditLines
 pub mod FirstLaws
 pub mod FirstPlans
 pub mod FirstShown
+pub mod PlanLines
 pub mod TextLaws
+pub mod TextLengths
+pub mod TrialLengths

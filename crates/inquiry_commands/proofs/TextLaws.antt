@@ -1,16 +1,12 @@
 -- From the clauses of printed outcomes and first plans to the laws of their texts.
-use Rattle.std.proofs.Common.{◌≡◌, ℕ, ◌+◌, ◌≤◌, List, length, map, sym, ap, subst, ◌∙◌, arith}
+use Rattle.std.proofs.Common.{◌≡◌, ℕ, ◌+◌, ◌≤◌, List, length, sym, ap, subst, ◌∙◌, arith}
 use Rattle.std.specs.Result.{result_ok}
-use Rattle.std.proofs.lemmas.List.{length-map}
 use Rattle.std.proofs.lemmas.Option.{same_Some}
-use Rattle.landing_rules.specs.Events.{opening_flight, opening_situation}
-use Rattle.landing_rules.specs.Flights.{Situation}
 use Rattle.landing_joint.specs.FirstBestLaws.{FirstPlanIsShownLaw}
 use Rattle.arrivals.specs.declared.aerodrome.Aerodrome.{Aerodrome}
 use Rattle.arrivals.specs.declared.flight.Flight.{Flight}
-use Rattle.arrivals.specs.Seen.{flight_of}
 use Rattle.trial_file.specs.declared.trial.Trial.{Trial}
-use Rattle.sequencer.specs.Opened.{opening_of}
+use Rattle.openings.specs.shared.OpenedFlights.{as_many}
 use Rattle.whatif.specs.OneText.{OutcomesAreOneLaw}
 use Rattle.whatif.specs.Outcomes.{AreOutcomes}
 use Rattle.whatif.specs.Text.{outcomes_text}
@@ -28,14 +24,6 @@ what_if_one law a f t text other answer another x y =
     (subst (λ (b : Aerodrome). AreOutcomes b y.flights y.trials y.tried.outcomes) aerodromes y.tried.are)) in
     let outcomes = law x.aerodrome x.flights x.trials x.tried.outcomes y.tried.outcomes x.tried.are there in
     (x.tried.prints ∙ ap outcomes_text outcomes ∙ sym y.tried.prints, x.answers ∙ sym y.answers)
-
--- as many active flights as the file has
-as_many : (a : Aerodrome) (fs : List Flight) (s : Situation) → s ≡ opening_situation (opening_of a) (map flight_of fs) → length s.active ≡ length fs
-as_many a fs s is =
-    let all = length-map (map flight_of fs) (opening_flight (opening_of a)) in
-    let each = length-map fs flight_of in
-    let same = ap (λ (t : Situation). length t.active) is in
-    omega (arith, all, each, same)
 
 pub first_short : BlockIsBoundedLaw → FirstPlanIsShownLaw → FirstIsBoundedLaw
 first_short law shown a f text answer x =

@@ -1,6 +1,8 @@
 -- What `whatif` prints over the contents of its three files, and which it refuses.
-use Rattle.std.specs.Prelude.{◌≡◌, ℕ, List, Some, None, Ok}
+use Rattle.std.specs.Prelude.{◌≡◌, ◌≤◌, ℕ, List, length, All, Some, None, Ok}
+use Rattle.landing_rules.specs.Sound.{IsSound}
 use Rattle.arrivals.specs.declared.aerodrome.Aerodrome.{Aerodrome}
+use Rattle.arrivals.specs.Aerodromes.{IsInRange}
 use Rattle.aerodrome_file.specs.Reading.{aerodrome_of}
 use Rattle.arrivals.specs.declared.flight.Flight.{Flight}
 use Rattle.flight_file.specs.Reading.{flights_of}
@@ -8,6 +10,8 @@ use Rattle.whatif.specs.declared.outcome.Outcome.{Outcome}
 use Rattle.trial_file.specs.declared.trial.Trial.{Trial}
 use Rattle.whatif.specs.Outcomes.{AreOutcomes}
 use Rattle.trial_file.specs.Reading.{trials_of}
+use Rattle.trial_file.specs.Trials.{IsGood, most_trials}
+use Rattle.sequencer.specs.Opened.{opened}
 use Rattle.whatif.specs.Text.{outcomes_text}
 use Rattle.cps_outside.specs.SinkState.{SinkState}
 use Rattle.endings.specs.declared.ending.Answer.{Answer}
@@ -21,9 +25,14 @@ use Rattle.openings.specs.Follows.{FollowsAtOnce}
 abbrev pub RefusesWhatIf : List ℕ → List ℕ → List ℕ → Refusal → Type 0
 RefusesWhatIf aerodrome flights trials cause = refused_by_three refusal.Trials (aerodrome_of aerodrome) (flights_of flights) (trials_of trials) ≡ Some cause
 
--- The files are taken, and the text has a line for the outcome as they are and for that of each trial.
+-- The files are taken, with their numbers in range and at most 16 trials, and open a sound situation. The text has a line for
+-- the outcome as they are and for that of each trial.
 pub record AreTried (aerodrome : Aerodrome) (flights : List Flight) (trials : List Trial) (text : List ℕ) : Type 0 where
   pub taken : refusal_of aerodrome flights ≡ None
+  pub range : IsInRange aerodrome
+  pub good : All IsGood trials
+  pub few : length trials ≤ most_trials
+  pub sound : IsSound (opened aerodrome flights)
   pub outcomes : List Outcome
   pub are : AreOutcomes aerodrome flights trials outcomes
   pub prints : text ≡ outcomes_text outcomes

@@ -8,10 +8,10 @@ ghost use Rattle.inquiry_commands.specs.WhatIf.{AdmitsWhatIf, AreTried, FollowsW
 use aerodrome_file::read_aerodrome;
 use arrivals::{Aerodrome, Flight};
 use cps_outside::{Gate, Sink};
-use endings::{Answer, Ending, Refusal};
+use endings::{Answer, Ending};
 use flight_file::read_flights;
 use openings::{Report, print_report};
-use situations::opening_fault;
+use sequencer::opening;
 use std::alloc::Global;
 use std::thread::Threads;
 use trial_file::{Trial, read_trials};
@@ -34,9 +34,7 @@ fn try_opened<R: Threads + Sync, G: Gate + Sync>(
         (λ text. AreTried aerodrome.now flights.now trials.now text.items)
         (StopsOpened aerodrome.now flights.now) }
 {
-    if let Some(fault) = opening_fault(alloc, aerodrome, flights)? {
-        return Err(Ending::Refused(Refusal::Opening(fault)));
-    }
+    let _opened = opening(alloc, aerodrome, flights)?;
     let outcomes = run_trials(rt, alloc, aerodrome, flights, trials, gate)?;
     let mut text = Vec::new(alloc);
     append_outcomes(outcomes.as_slice(), &mut text)?;

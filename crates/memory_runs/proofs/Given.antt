@@ -27,6 +27,8 @@ answers : (words : List (List ℕ)) (files : List (String Global × Vec ℕ Glob
     IsSure words (given files room) new status → Answers words files room status new.out.written
 answers words files room status new sure = record {
   complete = λ command contents there taken enough. printed command contents files room status new (sure.complete command contents there refl taken refl enough);
+  held = λ command contents there taken each.
+      printed command contents files room status new (sure.held command contents there refl taken refl each);
   refused = λ command contents refusal there refuses. sure.refused command contents refusal there refl refuses;
 }
 

@@ -6,7 +6,7 @@ use Rattle.cps_outside.specs.MemorySink.{fresh_sink}
 use Rattle.cps_top.specs.declared.commands.Command.{Command}
 use Rattle.cps_top.specs.Commands.{Admits, Refuses}
 use Rattle.endings.specs.Outside.{Outside}
-use Rattle.cps_top.specs.Statuses.{AreThere, HasRoom}
+use Rattle.cps_top.specs.Statuses.{AreThere, HasRoom, HoldsEach}
 use Rattle.endings.specs.declared.ending.Answer.{Answer}
 use Rattle.endings.specs.declared.ending.Refusal.{Refusal}
 use Rattle.endings.specs.declared.ending.Ending.{Ending}
@@ -16,12 +16,16 @@ use Rattle.endings.specs.Lines.{answer_status, status_of, line_of}
 abbrev pub given : List (String Global × Vec ℕ Global) → ℕ → Outside
 given files room = record { folder = fresh_folder files []; out = fresh_sink room [] }
 
--- Over files that are there and taken, and with room for each text that the command may print, the output is such a text and
--- the status that of its answer, 0, 1 or 7, or memory was short. Files that are there and refused give status 3, or memory was
--- short.
+-- Over files that are there and taken, and with room for as many bytes as the command prints at most, the output is a
+-- text that it may print and the status that of its answer, 0, 1 or 7, or memory was short. Files that are there and
+-- refused give status 3, or memory was short.
 pub record Answers (words : List (List ℕ)) (files : List (String Global × Vec ℕ Global)) (room status : ℕ) (output : List ℕ) : Type 0 where
   pub complete : (command : Command) (contents : List (List ℕ)) → AreThere words (given files room) command contents →
       ((refusal : Refusal) → Refuses command contents refusal → ⊥) → HasRoom command contents (fresh_sink room []) →
+      (status ≡ 8) ⊎ ((answer : Answer) × (status ≡ answer_status answer) × Admits command contents output answer)
+  -- the same where the room is known to hold each text that it may begin
+  pub held : (command : Command) (contents : List (List ℕ)) → AreThere words (given files room) command contents →
+      ((refusal : Refusal) → Refuses command contents refusal → ⊥) → HoldsEach command contents (fresh_sink room []) →
       (status ≡ 8) ⊎ ((answer : Answer) × (status ≡ answer_status answer) × Admits command contents output answer)
   pub refused : (command : Command) (contents : List (List ℕ)) (refusal : Refusal) → AreThere words (given files room) command contents →
       Refuses command contents refusal → (status ≡ 3) ⊎ (status ≡ 8)

@@ -25,10 +25,10 @@ pub struct MemoryRun {
 /// Runs the command of these words over these files, with room for `room` bytes of output and as many of the line on the
 /// standard error.
 ///
-/// No load of a file that is given fails, and no put of bytes for which there is room. So, where the files of the command
-/// are given and taken, and the room is enough for each text that it may print, the output is such a text, whole, with
-/// the status of its answer, 0, 1 or 7, or memory ran out, with status 8. Where the room is enough for the line of how the
-/// run ended, the standard error holds that line.
+/// No load of a file that is given fails, and no put of bytes for which there is room. So, where the files of the
+/// command are given and taken, and the room is as many bytes as it prints at most (`cps_top`, `texts_are_bounded`), the
+/// output is a text that it may print, whole, with the status of its answer, 0, 1 or 7, or memory ran out, with status
+/// 8. Where the room is enough for the line of how the run ended, the standard error holds that line.
 pub fn run_in_memory<R: Threads + Sync, G: Gate + Sync>(
     rt: &R,
     alloc: Global,

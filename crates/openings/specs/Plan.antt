@@ -1,10 +1,12 @@
 -- What an aerodrome file and a flight file open, and what `plan` may print of them.
-use Rattle.std.specs.Prelude.{◌≡◌, ℕ, Bool, List, map, is_some, Option, Some, None, Ok, if◌then◌else◌}
+use Rattle.std.specs.Prelude.{◌≡◌, ◌≤◌, ℕ, Bool, List, map, is_some, Option, Some, None, Ok, if◌then◌else◌}
 use Rattle.landing_rules.specs.Flights.{Schedule}
 use Rattle.landing_rules.specs.Events.{State, IsOpeningState}
 use Rattle.landing_rules.specs.Problem.{IsProblemOf}
+use Rattle.landing_rules.specs.Sound.{IsSoundState}
 use Rattle.landing_rules.specs.Text.{lines_text, plan_lines}
 use Rattle.cps_network.specs.Due.{IsDue}
+use Rattle.replan.specs.Bound.{most_steps}
 use Rattle.replan.specs.Kept.{Holds}
 use Rattle.replan.specs.declared.any_kept.AnyKept.{AnyKept}
 use Rattle.sequencer.specs.Standing.{Standing}
@@ -30,16 +32,18 @@ answer_by planned = if planned then Scheduled else Infeasible
 abbrev pub answer_of : Option Schedule → answers.Answer
 answer_of plan = answer_by (is_some plan)
 
--- The files are taken, and this is an opening state of them.
+-- The files are taken, and this is an opening state of them, which is sound.
 pub record IsOpened (aerodrome : Aerodrome) (flights : List Flight) (state : State) : Type 0 where
   pub taken : refusal_of aerodrome flights ≡ None
   pub opens : IsOpeningState (opening_of aerodrome) (map flight_of flights) state
+  pub sound : IsSoundState state
 
--- The planner holds the problem, which was planned in so many steps with nothing held.
+-- The planner holds the problem, which was planned in so many steps with nothing held, at most 49,412,580.
 pub record IsPlannedAnew (s : Standing AnyKept) (steps : ℕ) : Type 0 where
   pub problem_of : IsProblemOf s.state.situation s.problem
   pub held : Holds s.planner s.problem
   pub due : IsDue None s.problem steps
+  pub few : steps ≤ most_steps
 
 -- The text is the block of an opening state of files that are taken.
 pub record ShowsPlan (aerodrome : Aerodrome) (flights : List Flight) (text : List ℕ) (answer : answers.Answer) : Type 0 where

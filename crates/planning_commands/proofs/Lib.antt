@@ -3,4 +3,6 @@ pub mod Replayed
 pub mod ReplayLaws
 pub mod Showing
 pub mod Summed
+pub mod TextLengths
 pub mod Answering
+pub mod TextLaws

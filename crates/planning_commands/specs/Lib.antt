@@ -3,5 +3,7 @@ pub mod Effort
 pub mod Plan
 pub mod Replay
 pub mod ReplayLaws
+pub mod TextLaws
+pub mod TextLengths
 pub mod Trial
 pub mod shared

@@ -1,10 +1,12 @@
 -- What `replay` prints over the contents of its three files, and which it refuses.
-use Rattle.std.specs.Prelude.{◌≡◌, ℕ, ◌+◌, Bool, List, ◌++◌, length, map, All, Some, None, Result, Ok, Err}
+use Rattle.std.specs.Prelude.{◌≡◌, ◌≤◌, ℕ, ◌+◌, Bool, List, ◌++◌, length, map, All, Some, None, Result, Ok, Err}
 use Rattle.landing_rules.specs.Events as rules
 use Rattle.landing_rules.specs.Events.{State, Answered, Run, IsOpeningState}
+use Rattle.landing_rules.specs.Limits.{most_events}
 use Rattle.landing_rules.specs.Sound.{IsSoundState, IsGoodEvent}
 use Rattle.landing_rules.specs.Text.{replay_text}
 use Rattle.arrivals.specs.declared.aerodrome.Aerodrome.{Aerodrome}
+use Rattle.arrivals.specs.Aerodromes.{IsInRange}
 use Rattle.aerodrome_file.specs.Reading.{aerodrome_of}
 use Rattle.arrivals.specs.declared.flight.Flight.{Flight}
 use Rattle.flight_file.specs.Reading.{flights_of}
@@ -29,8 +31,8 @@ use Rattle.openings.specs.Plan.{answer_by, answer_of}
 abbrev pub RefusesReplay : List ℕ → List ℕ → List ℕ → Refusal → Type 0
 RefusesReplay aerodrome flights events cause = refused_by_three refusal.Events (aerodrome_of aerodrome) (flights_of flights) (events_of events) ≡ Some cause
 
--- The files read as an aerodrome, flights and a log, and are taken. They have these events, with their numbers in range, and
--- this opening state, which is sound.
+-- The files read as an aerodrome in its ranges, flights and a log of at most 2,000 events, and are taken. They have these
+-- events, with their numbers in range, and this opening state, which is sound.
 pub record IsBegun (aerodrome_bytes flight_bytes event_bytes : List ℕ) (state : State) (events : List rules.Event) : Type 0 where
   pub aerodrome : Aerodrome
   pub flights : List Flight
@@ -38,6 +40,8 @@ pub record IsBegun (aerodrome_bytes flight_bytes event_bytes : List ℕ) (state 
   pub aerodrome_read : aerodrome_of aerodrome_bytes ≡ Ok aerodrome
   pub flights_read : flights_of flight_bytes ≡ Ok flights
   pub events_read : events_of event_bytes ≡ Ok log
+  pub range : IsInRange aerodrome
+  pub few : length log ≤ most_events
   pub taken : refusal_of aerodrome flights ≡ None
   pub opens : IsOpeningState (opening_of aerodrome) (map flight_of flights) state
   pub sound : IsSoundState state

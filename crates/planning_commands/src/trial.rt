@@ -5,6 +5,7 @@ ghost use Rattle.arrivals.specs.Aerodromes.{IsInRange};
 ghost use Rattle.arrivals.specs.Flights.{AreArrivals};
 ghost use Rattle.plan_text.specs.Trial.{trial_text};
 ghost use Rattle.openings.specs.Plan.{answer_of};
+ghost use Rattle.traffic_lands.specs.Landing.{ShowsPlan};
 ghost use Rattle.planning_commands.specs.Trial.{Sums, AdmitsTrial, FollowsTrial, StopsTrial};
 
 use cps_outside::{Gate, Sink};
@@ -17,6 +18,7 @@ use situations::laws::plain_files_open;
 use std::alloc::{AllocError, Global};
 use std::thread::Threads;
 use traffic_gen::{Traffic, generate};
+use traffic_lands::traffic_can_land;
 
 // The summary of the plan that is shown, over so many candidates.
 fn report_plan<P: Planner>(
@@ -53,7 +55,7 @@ fn report_begun<P: Planner>(
     report_plan(alloc, &begun.0, n, k, begun.1)
 }
 
-// The same for traffic of n flights under the bound k on shifts.
+// The same for traffic of n flights under the bound k on shifts, which has a plan.
 fn report_traffic<R: Threads + Sync, G: Gate + Sync>(
     rt: &R,
     alloc: Global,
@@ -67,6 +69,7 @@ fn report_traffic<R: Threads + Sync, G: Gate + Sync>(
     requires few { length traffic.flights ≤ most_waiting }
     requires none_frozen { traffic.aerodrome.frozen ≡ [] }
     requires none_passed { traffic.aerodrome.passed ≡ [] }
+    requires lands { ShowsPlan traffic }
     ensures { MatchResult result
         (λ r. Sums traffic n k r.text.items r.answer)
         StopsTrial }
@@ -93,12 +96,13 @@ fn report_seed<R: Threads + Sync, G: Gate + Sync>(
         (λ r. AdmitsTrial seed n k r.text.items r.answer)
         StopsTrial }
 {
+    traffic_can_land();
     let traffic = generate(alloc, seed, n, k)?;
     report_traffic(rt, alloc, traffic, n, k, gate)
 }
 
 /// The command `trial`: prints the summary of the traffic of a seed with `n` flights, 1 to 60, under the bound `k` on shifts, 0 to
-/// 3, and answers whether it has a plan.
+/// 3, and answers that it has a plan, as such traffic always has.
 pub fn run_trial<R: Threads + Sync, S: Sink, G: Gate + Sync>(
     rt: &R,
     alloc: Global,

@@ -1,7 +1,7 @@
 //! The replay of an event log: one step of the rules and one put for each event.
 #![tactic(auto)]
 
+mod lines;
 mod over_events;
-mod texts;
 
 pub use over_events::replay;

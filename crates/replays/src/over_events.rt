@@ -4,7 +4,7 @@ ghost use Rattle.arrivals.specs.Seen.{event_of, IsGood};
 ghost use Rattle.event_answers.specs.Written.{PutsText};
 ghost use Rattle.replays.specs.Runs.{PutsAnswer, EventsWrite, ReplayEnds};
 
-use crate::texts::{accepted, begun, refused};
+use crate::lines::{accepted, begun, refused};
 use arrivals::Event;
 use cps_base::{Ledger, Steps};
 use cps_outside::{Gate, Sink};

@@ -1,2 +1,3 @@
 pub mod EasyLandings
 pub mod Made
+pub mod Shown

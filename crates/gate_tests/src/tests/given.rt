@@ -1,7 +1,7 @@
 //! The words and files of the runs.
 
 use cps_outside::Gate;
-use memory_runs::run_in_memory;
+use memory_runs::{MemoryRun, run_in_memory};
 use std::alloc::{AllocError, Global};
 use std::test::Fail;
 use std::thread::Threads;
@@ -30,6 +30,22 @@ fn file(alloc: Global, name: &str, parts: &[&str]) -> Result<(String, Vec<u8>), 
     Ok((String::from_str(alloc, name)?, content))
 }
 
+// A run of these words over these files, with room for so many bytes.
+pub(crate) fn run_of<R: Threads + Sync, G: Gate + Sync>(
+    rt: &R,
+    alloc: Global,
+    words: &[&str],
+    files: Vec<(String, Vec<u8>)>,
+    room: usize,
+    gate: &G,
+) -> Result<MemoryRun, AllocError> {
+    let mut given = Vec::new(alloc);
+    for word in words {
+        given.push(String::from_str(alloc, word)?)?;
+    }
+    run_in_memory(rt, alloc, given.as_slice(), files, room, gate)
+}
+
 // The text that a run of these words prints over these files.
 pub(crate) fn text_of<R: Threads + Sync, G: Gate + Sync>(
     rt: &R,
@@ -38,11 +54,7 @@ pub(crate) fn text_of<R: Threads + Sync, G: Gate + Sync>(
     files: Vec<(String, Vec<u8>)>,
     gate: &G,
 ) -> Result<Vec<u8>, Fail> {
-    let mut given = Vec::new(alloc);
-    for word in words {
-        given.push(String::from_str(alloc, word)?)?;
-    }
-    let run = run_in_memory(rt, alloc, given.as_slice(), files, 1000, gate)?;
+    let run = run_of(rt, alloc, words, files, 1000, gate)?;
     if run.status != 0 {
         return Err(Fail::new("another status"));
     }
@@ -51,15 +63,12 @@ pub(crate) fn text_of<R: Threads + Sync, G: Gate + Sync>(
     Ok(text)
 }
 
-// The text that a command prints over three flights that may be moved by one place, and over a third file.
-pub(crate) fn text_of_three<R: Threads + Sync, G: Gate + Sync>(
-    rt: &R,
+// Three flights that may be moved by one place, and a third file.
+pub(crate) fn three(
     alloc: Global,
-    command: &str,
     objective: &str,
     third: &str,
-    gate: &G,
-) -> Result<Vec<u8>, Fail> {
+) -> Result<Vec<(String, Vec<u8>)>, AllocError> {
     let head = [
         "version = 1\nk = 1\nfreeze = 150\nobjective = \"",
         objective,
@@ -70,6 +79,19 @@ pub(crate) fn text_of_three<R: Threads + Sync, G: Gate + Sync>(
     files.push(file(alloc, "aerodrome", &head)?)?;
     files.push(file(alloc, "flights", &[FLIGHTS])?)?;
     files.push(file(alloc, "third", &[third])?)?;
+    Ok(files)
+}
+
+// The text that a command prints over these.
+pub(crate) fn text_of_three<R: Threads + Sync, G: Gate + Sync>(
+    rt: &R,
+    alloc: Global,
+    command: &str,
+    objective: &str,
+    third: &str,
+    gate: &G,
+) -> Result<Vec<u8>, Fail> {
+    let files = three(alloc, objective, third)?;
     text_of(
         rt,
         alloc,

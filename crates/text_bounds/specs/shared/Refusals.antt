@@ -48,11 +48,11 @@ cause_short UnknownClosure h = omega arith
 cause_short (ClockBack t) h = let a = second_short t h in omega (arith, a)
 
 module _ (s : Situation) (sound : IsSound s) where
-  active_name : (a : Active) → Member a s.active → length a.flight.callsign ≤ 8
+  pub active_name : (a : Active) → Member a s.active → length a.flight.callsign ≤ 8
   active_name a m = callsign_short a.flight.callsign (all_at (λ (b : Active). IsGoodFlight b.flight) s.active sound.flights a m).callsign
 
   -- a frozen flight's second is open
-  frozen_second : (a : Active) (t : ℕ) → Member a s.active → a.frozen ≡ Some t → t ≤ last_second
+  pub frozen_second : (a : Active) (t : ℕ) → Member a s.active → a.frozen ≡ Some t → t ≤ last_second
   frozen_second a t m e =
       let f = frozen_in s.active a t m e in
       let good = all_at (λ (b : Active). IsGoodFlight b.flight) s.active sound.flights a m in

@@ -23,7 +23,7 @@ accepted_short i few =
     let b = length-append (decimal i ++ codes " accepted") (10 ∷ []) in
     omega (arith, number, a, b)
 
-refused_short : (i : ℕ) (r : Refusal) → i < 10000 → length (cause r) ≤ 30 → length (line (refused_words i r)) ≤ 50
+pub refused_short : (i : ℕ) (r : Refusal) → i < 10000 → length (cause r) ≤ 30 → length (line (refused_words i r)) ≤ 50
 refused_short i r few short =
     let number = number_short i few in
     let a = length-append (decimal i) (codes " refused ") in
@@ -90,7 +90,7 @@ module _ (law : BlockIsBoundedLaw) (keeps : StepKeepsSoundLaw) where
       let text = answer_refused law i r new few (refusal_short old.situation h.sound.situation e r h.clock good name (sym step.answered)) in
       omega (arith, text)
 
-  next_tellable : (old new : State) (e : Event) (answer : Option Refusal) → IsTellable old → IsGoodEvent e → Step old e answer new
+  pub next_tellable : (old new : State) (e : Event) (answer : Option Refusal) → IsTellable old → IsGoodEvent e → Step old e answer new
       → IsTellable new × (length new.situation.active ≤ length old.situation.active + 1)
   next_tellable old new e None h good step = (
     record {

@@ -22,6 +22,7 @@ returns-clause-planned g c =
       problem_of = c.problem.ensures.problem;
       held = c.in_ok-sequencer.ensures.holds;
       due = subst (λ (n : ℕ). IsDue None problem n) (sym same) due;
+      few = omega (arith, same, few);
     }
 
 pub returns-in_err-sequencer-clause-opened : goal.returns-in_err-sequencer-clause-opened

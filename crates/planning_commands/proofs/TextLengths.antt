@@ -1,0 +1,202 @@
+-- From the clauses of what these commands print to how long it is.
+use Rattle.std.proofs.Common.{◌≡◌, ℕ, ◌+◌, ◌*◌, ◌<◌, ◌≤◌, List, [], ◌∷◌, ◌++◌, length, Option, Some, None, refl, sym, ap, subst, ◌∙◌, arith}
+use Rattle.std.specs.Prelude.{⊤, All, MatchOption, codes, decimal}
+use Rattle.std.proofs.Math.Nat.{mul-le-mul_left, mul-le-mul_right}
+use Rattle.std.proofs.lemmas.Fmt.{length-decimal-le}
+use Rattle.std.proofs.lemmas.List.{length-append, length-map}
+use Rattle.std.proofs.lemmas.List.Elements.{All-nil, All-cons, All-head, All-tail}
+use Rattle.std.proofs.lemmas.List.Sums.{sum_by-cons}
+use Rattle.landing_rules.specs.Events as rules
+use Rattle.landing_rules.specs.Events.{Refusal, Run, State, Step}
+use Rattle.landing_rules.specs.Flights.{Situation}
+use Rattle.landing_rules.specs.Limits.{greatest_value}
+use Rattle.landing_rules.specs.Problem.{Problem}
+use Rattle.landing_rules.specs.Sound.{IsGoodEvent}
+use Rattle.landing_rules.specs.Text.{ShownPlan, plan_shown}
+use Rattle.landing_joint.specs.StepLaws.{StepKeepsSoundLaw}
+use Rattle.plan_file.specs.Printed.{IsReadable, ShownPlanIsReadableLaw}
+use Rattle.arrivals.specs.Aerodromes.{IsClock}
+use Rattle.arrivals.specs.Seen.{event_of}
+use Rattle.replan.specs.Bound.{most_steps}
+use Rattle.efforts.specs.Efforts.{ArePlanned, Planned, answer_line, answer_lines, answers_of, begun_line, steps_of, total_line}
+use Rattle.text_bounds.specs.Blocks.{BlockIsBoundedLaw, block_bound}
+use Rattle.text_bounds.specs.Counts.{count_in, event_count}
+use Rattle.text_bounds.specs.Replays.{HasShortName, IsInDays, IsTellable, ReplayIsBoundedLaw, answer_bound, most_active, replay_bound}
+use Rattle.text_bounds.specs.Trials.{TrialIsBoundedLaw}
+use Rattle.text_bounds.specs.shared.EventNames.{log_named}
+use Rattle.text_bounds.specs.shared.Lengths.{number_short}
+use Rattle.text_bounds.specs.shared.Refusals.{refusal_short}
+use Rattle.text_bounds.specs.shared.Replays.{next_tellable, refused_short}
+use Rattle.openings.specs.shared.OpenedFlights.{as_many}
+use Rattle.planning_commands.specs.Replay.{IsBegun}
+use Rattle.planning_commands.specs.TextLengths.{EffortTextIsBoundedLaw, PlanTextIsBoundedLaw, ReplayTextIsBoundedLaw, TrialTextIsBoundedLaw, effort_bound}
+
+-- ---- the plan and the summary of a trial
+
+pub plan_text_short : BlockIsBoundedLaw → PlanTextIsBoundedLaw
+plan_text_short law a f text answer x =
+    let state = x.shows.state in
+    let block = law state x.shows.opened.sound in
+    let active = as_many x.aerodrome x.flights state.situation x.shows.opened.opens.situation in
+    let long = ap length x.shows.prints in
+    subst (λ r. length text ≤ block_bound (count_in r)) (sym x.flights_read) (omega (arith, block, active, long))
+
+has_value : (plan : Option ShownPlan) → ((p : ShownPlan) → plan ≡ Some p → IsReadable p)
+    → MatchOption plan ⊤ (λ p. p.value ≤ greatest_value)
+has_value None h = tt
+has_value (Some p) h = (h p refl).value
+
+pub trial_text_short : TrialIsBoundedLaw → ShownPlanIsReadableLaw → TrialTextIsBoundedLaw
+trial_text_short law shown seed n k text answer few near x =
+    let state = x.state in
+    let steps = x.few in
+    let value = has_value (plan_shown state) (λ p e. shown state p x.sound e) in
+    let short = law n k x.nodes state.situation.aerodrome.objective (plan_shown state) few near (omega
+    (arith, steps)) value in
+    let long = ap length x.prints in
+    omega (arith, short, long)
+
+-- ---- what was begun
+
+All-first : {X : Type 0} (P : X → Type 0) (xs ys : List X) → All P (xs ++ ys) → All P xs
+All-first P [] ys h = All-nil P
+All-first P (x ∷ xs) ys h = All-cons P x xs (All-head P x (xs ++ ys) h) (All-first P xs ys (All-tail P x (xs ++ ys) h))
+
+clock_in_days : (clock : Option ℕ) → IsClock clock → IsInDays clock
+clock_in_days None h = tt
+clock_in_days (Some now) h = h
+
+-- the first events of a log that a run began with
+module _ (a f l : List ℕ) (state : State) (events done rest : List rules.Event) (begun : IsBegun a f l state events)
+    (split : done ++ rest ≡ events) where
+  tellable : IsTellable state
+  tellable = record {
+    sound = begun.sound;
+    clock = subst (λ (s : Situation). IsInDays s.clock) (sym begun.opens.situation)
+        (clock_in_days begun.aerodrome.clock begun.range.clock);
+  }
+
+  good : All IsGoodEvent done
+  good = All-first IsGoodEvent done rest (subst (All IsGoodEvent) (sym split) begun.in_range)
+
+  named : All HasShortName done
+  named = All-first HasShortName done rest
+      (subst (All HasShortName) (sym begun.events_are ∙ sym split) (log_named l begun.log begun.events_read))
+
+  few : length done ≤ length begun.log
+  few =
+      let both = length-append done rest in
+      let all = ap length split in
+      let same = ap length begun.events_are in
+      let each = length-map begun.log event_of in
+      omega (arith, both, all, same, each)
+
+  counted : event_count l ≡ length begun.log
+  counted = ap count_in begun.events_read
+
+-- ---- replays
+
+rises : (n d e : ℕ) → d ≤ e → replay_bound n d ≤ replay_bound n e
+rises n d e le =
+    let less : answer_bound (most_active n d) ≤ answer_bound (most_active n e) = omega (arith, le) in
+    let more : d + 1 ≤ e + 1 = omega (arith, le) in
+    let x = mul-le-mul_right (answer_bound (most_active n d)) more in
+    let y = mul-le-mul_left (e + 1) less in
+    omega (arith, x, y)
+
+pub replay_text_short : ReplayIsBoundedLaw → ReplayTextIsBoundedLaw
+replay_text_short law a f l text x =
+    let begun = x.begun in
+    let fits = few a f l x.state x.events x.done x.rest begun x.split in
+    let log = begun.few in
+    let run : length text ≤ replay_bound (length x.state.situation.active) (length x.done) =
+    subst (λ (t : List ℕ). length t ≤ replay_bound (length x.state.situation.active) (length x.done)) (sym x.prints)
+    (law x.state x.done x.answers (tellable a f l x.state x.events x.done x.rest begun x.split)
+    (good a f l x.state x.events x.done x.rest begun x.split) (named a f l x.state x.events x.done x.rest begun x.split)
+    (omega (arith, fits, log)) x.run) in
+    let active = as_many begun.aerodrome begun.flights x.state.situation begun.opens.situation in
+    let by_file : length text ≤ replay_bound (length begun.flights) (length x.done) =
+    subst (λ (n : ℕ). length text ≤ replay_bound n (length x.done)) active run in
+    let more = rises (length begun.flights) (length x.done) (length begun.log) fits in
+    let whole : length text ≤ replay_bound (length begun.flights) (length begun.log) = omega (arith, by_file, more) in
+    subst (λ r. length text ≤ replay_bound (count_in r) (event_count l)) (sym begun.flights_read)
+    (subst (λ (n : ℕ). length text ≤ replay_bound (length begun.flights) n)
+    (sym (counted a f l x.state x.events x.done x.rest begun x.split)) whole)
+
+-- ---- efforts
+
+steps_short : (n : ℕ) → n ≤ most_steps → length (decimal n) ≤ 8
+steps_short n le = length-decimal-le 8 n (omega arith) (omega (arith, le)) (omega (arith, le))
+
+total_short : (n : ℕ) → n < 99999999999 → length (decimal n) ≤ 11
+total_short n lt = length-decimal-le 11 n (omega arith) (omega (arith, lt)) (omega (arith, lt))
+
+accepted_short : (i steps : ℕ) → i < 10000 → steps ≤ most_steps → length (answer_line i None steps) ≤ 50
+accepted_short i steps few small =
+    let number = number_short i few in
+    let digits = steps_short steps small in
+    let w = length-append (decimal i) (codes " accepted") in
+    let x = length-append (decimal i ++ codes " accepted") (codes " steps ") in
+    let y = length-append (decimal i ++ codes " accepted" ++ codes " steps ") (decimal steps) in
+    let z = length-append (decimal i ++ codes " accepted" ++ codes " steps " ++ decimal steps) (10 ∷ []) in
+    omega (arith, number, digits, w, x, y, z)
+
+module _ (law : BlockIsBoundedLaw) (keeps : StepKeepsSoundLaw) where
+  line_short : (old new : State) (e : rules.Event) (answer : Option Refusal) (i steps : ℕ) → IsTellable old
+      → IsGoodEvent e → HasShortName e
+      → i < 10000 → steps ≤ most_steps → Step old e answer new → length (answer_line i answer steps) ≤ 50
+  line_short old new e None i steps h own name few small step = accepted_short i steps few small
+  line_short old new e (Some r) i steps h own name few small step =
+      refused_short i r few (refusal_short old.situation h.sound.situation e r h.clock own name (sym step.answered))
+
+  lines_short : (held : Problem) (old : State) (events : List rules.Event) (planned : List Planned) (i : ℕ)
+      → IsTellable old
+      → All IsGoodEvent events → All HasShortName events → i + length events < 10000
+      → Run old events (answers_of planned)
+      → ArePlanned held planned
+      → (length (answer_lines i planned) ≤ 50 * length events) × (steps_of planned ≤ most_steps * length events)
+  lines_short held old [] [] i h own names few run are = (omega arith, omega arith)
+  lines_short held old [] (a ∷ planned) i h own names few run are = absurd run
+  lines_short held old (e ∷ events) [] i h own names few run are = absurd run
+  lines_short held old (e ∷ events) (a ∷ planned) i h own names few run are =
+      let state = a.answered.state in
+      let here = All-head IsGoodEvent e events own in
+      let small = are.0.few in
+      let next = next_tellable law keeps old state e a.answered.answer h here run.0 in
+      let one = line_short old state e a.answered.answer i a.steps h here (All-head HasShortName e events names)
+      (omega (arith, few)) small run.0 in
+      let rest = lines_short a.problem state events planned (i + 1) next.0 (All-tail IsGoodEvent e events own)
+      (All-tail HasShortName e events names) (omega (arith, few)) run.1 are.1 in
+      let lines = rest.0 in
+      let sums = rest.1 in
+      let both = length-append (answer_line i a.answered.answer a.steps) (answer_lines (i + 1) planned) in
+      let more = sum_by-cons (λ (b : Planned). b.steps) a planned in
+      (omega (arith, one, lines, both), omega (arith, small, sums, more))
+
+  pub effort_text_short : EffortTextIsBoundedLaw
+  effort_text_short a f l text x =
+      let begun = x.begun in
+      let effort = x.effort in
+      let planned = effort.plannings.planned in
+      let fits = few a f l x.state x.events x.done x.rest begun x.split in
+      let log = begun.few in
+      let all = lines_short effort.problem x.state x.done planned 1
+      (tellable a f l x.state x.events x.done x.rest begun x.split)
+      (good a f l x.state x.events x.done x.rest begun x.split)
+      (named a f l x.state x.events x.done x.rest begun x.split)
+      (omega (arith, fits, log)) effort.plannings.run effort.plannings.steps in
+      let lines = all.0 in
+      let sums = all.1 in
+      let opening = effort.few in
+      let first = steps_short effort.opening opening in
+      let total = total_short (effort.opening + steps_of planned) (omega (arith, fits, log, sums, opening)) in
+      let u = length-append (decimal effort.opening) (10 ∷ []) in
+      let v = length-append (decimal (effort.opening + steps_of planned)) (10 ∷ []) in
+      let y = length-append (begun_line effort.opening) (answer_lines 1 planned) in
+      let z = length-append (begun_line effort.opening ++ answer_lines 1 planned) (total_line
+      (effort.opening + steps_of planned)) in
+      let long = ap length x.prints in
+      let whole : length text ≤ effort_bound (length begun.log) = omega
+      (arith, fits, lines, first, total, u, v, y, z, long) in
+      subst (λ (n : ℕ). length text ≤ effort_bound n) (sym
+      (counted a f l x.state x.events x.done x.rest begun x.split)) whole
