@@ -9,11 +9,13 @@ mod memory_sink;
 mod real_folder;
 mod real_sink;
 mod sinks;
+mod sources;
 
 pub use folders::{Folder, LoadFault};
 pub use gates::{FreeGate, Gate};
 pub use memory_folder::MemoryFolder;
 pub use memory_sink::MemorySink;
-pub use real_folder::{OpenedFiles, Opener, RealFolder, SystemFiles, read_pieces};
+pub use real_folder::{OpenedFiles, Opener, RealFolder, SystemFiles};
 pub use real_sink::RealSink;
 pub use sinks::{Sink, WriteFailed};
+pub use sources::{ReaderSource, Source, read_pieces};

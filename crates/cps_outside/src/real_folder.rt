@@ -1,9 +1,9 @@
-ghost use Rattle.std.specs.Prelude.{◌≡◌, ◌≢◌, ◌⊎◌, ◌+◌, ◌≤◌, ◌++◌, [], ◌∷◌, take, IsTrue, IsErrAnd, IfOk, IfErr, IfSome, vec_len};
+ghost use Rattle.std.specs.Prelude.{◌≡◌, ◌⊎◌, ◌+◌, ◌≤◌, ◌++◌, [], ◌∷◌, IsTrue, IsErrAnd, IfOk, vec_len};
 ghost use Rattle.std.specs.IoError.{error_kind};
 ghost use Rattle.cps_outside.specs.OpenerState.{OpenerState, IsAfterOpen, Opens, ReadsFront, system_files};
 ghost use Rattle.cps_outside.specs.Real.{folder_state, folder_over};
 
-use crate::{Folder, LoadFault};
+use crate::{Folder, LoadFault, ReaderSource, read_pieces};
 use std::alloc::Global;
 use std::io::{ErrorKind, Read};
 use std::rt::Files;
@@ -88,23 +88,7 @@ impl<O: Opener> OpenedFiles<O> {
     }
 }
 
-/// The bytes up to the end, or where there are more, one more than `most` of them. An error is the first fault of a read
-/// that was not an interrupt, or that memory is short.
-pub fn read_pieces<F: Read>(alloc: Global, file: &mut F, most: usize) -> io::Result<Vec<u8>>
-    ensures bounded { IfOk result (λ bytes. vec_len bytes ≤ most + 1) }
-    ensures content { IfOk result (λ bytes. IfSome (F.remaining file.old)
-        (λ all. bytes.items ≡ take (most + 1) all)) }
-    ensures retried { IfErr result (λ e. error_kind e ≢ ErrorKind.Interrupted) }
-{
-    let mut bytes = Vec::new(alloc);
-    let limit = most.saturating_add(1);
-    let mut front = file.take(limit as u64);
-    front.read_to_end(&mut bytes)?;
-    bytes.truncate(limit);
-    Ok(bytes)
-}
-
-// The bytes of the file of this name, read so.
+// The first bytes of the file of this name, one more than `most` at most.
 fn read_named<O: Opener>(
     alloc: Global,
     opener: &mut O,
@@ -120,8 +104,8 @@ fn read_named<O: Opener>(
     ensures front { IfOk result (λ bytes. ReadsFront (O.state opener.old) name.now most
         bytes.items) }
 {
-    let mut file = opener.open(name)?;
-    read_pieces(alloc, &mut file, most)
+    let mut source = ReaderSource::new(opener.open(name)?);
+    read_pieces(alloc, &mut source, most)
 }
 
 impl<O: Opener> Folder for OpenedFiles<O> {

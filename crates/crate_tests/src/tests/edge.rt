@@ -2,7 +2,8 @@
 ghost use Rattle.std.specs.Prelude.{◌≤◌, Some, None, IfOk, IsTrue, true, if◌then◌else◌, bytes_eq, map, string_bytes};
 
 use cps_outside::{
-    Folder, LoadFault, OpenedFiles, Opener, RealFolder, RealSink, Sink, WriteFailed, read_pieces,
+    Folder, LoadFault, OpenedFiles, Opener, ReaderSource, RealFolder, RealSink, Sink, WriteFailed,
+    read_pieces,
 };
 use std::alloc::Global;
 use std::io;
@@ -96,7 +97,7 @@ const READS: [(usize, Option<ErrorKind>, usize, Result<&str, ErrorKind>); 6] = [
 #[test]
 fn what_a_slow_reader_has_is_read_to_the_end_or_the_limit(rt: HostRuntime) {
     for (turns, end, most, expected) in READS {
-        let mut file = Slow::new(rt.alloc(), b"abcdef", turns, end);
+        let mut file = ReaderSource::new(Slow::new(rt.alloc(), b"abcdef", turns, end));
         match (read_pieces(rt.alloc(), &mut file, most), expected) {
             (Ok(bytes), Ok(text)) => assert_eq!(rt; bytes.as_slice(), text.as_bytes()),
             (Err(e), Err(kind)) => assert_eq!(rt; e.kind(), kind),
