@@ -2,6 +2,7 @@
 
 ghost use Rattle.std.specs.Prelude.{ℕ, ◌+◌, ◌^◌, ◌<◌, length, slice_index};
 
+use crate::pace::Pace;
 use crate::pieces::fill_pieces;
 use cps_outside::Gate;
 use std::thread::Threads;
@@ -25,7 +26,7 @@ pub fn fill_numbers<R: Threads + Sync, G: Gate + Sync, F: Fn(usize) -> u32 + Syn
         ensures { (k : ℕ) → k < length part.entry.now
             → F.post f.entry.now (start + k) (slice_index part.exit.now k) }
     { fill_each(part, start, f) };
-    fill_pieces(rt, column, gate, &piece);
+    let _next = fill_pieces(rt, column, Pace::new(), gate, &piece);
 }
 
 // The entries of a part that begins at entry `start`, one after another.
