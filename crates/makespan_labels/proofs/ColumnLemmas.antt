@@ -42,6 +42,23 @@ least_more labels from i least le is = elim (min_cases least (slice_index labels
 pub entry_least : (a b : ℕ) → IsEntry a → IsEntry b → IsEntry (min a b)
 entry_least a b x y = elim (min_cases a b) [ inl l ↦ subst IsEntry (sym l.0) x | inr r ↦ subst IsEntry (sym r.0) y ]
 
+least_to : (labels : List ℕ) (from i j least next : ℕ) → j ≡ i + 1 → from ≤ i → next ≡ slice_index labels i → IsLeastOf labels from i least → IsLeastOf labels from j (min least next)
+least_to labels from i j least next e le is held = subst (λ (x : ℕ). IsLeastOf labels from j (min least x)) (sym is)
+    (subst (λ (m : ℕ). IsLeastOf labels from m (min least (slice_index labels i))) (sym e) (least_more labels from i least le held))
+
+-- the least of up to four
+module _ (labels : List ℕ) (from to a : ℕ) (a_is : a ≡ slice_index labels from) where
+  pub least_two : (b : ℕ) → to ≡ from + 2 → b ≡ slice_index labels (from + 1) → IsLeastOf labels from to (min a b)
+  least_two b e b_is = least_to labels from (from + 1) to a b (omega (arith, e)) (omega arith) b_is (least_one labels from a a_is)
+
+module _ (labels : List ℕ) (from to a b c : ℕ) (a_is : a ≡ slice_index labels from) (b_is : b ≡ slice_index labels (from + 1)) (c_is : c ≡ slice_index labels (from + 2)) where
+  pub least_three : to ≡ from + 3 → IsLeastOf labels from to (min (min a b) c)
+  least_three e = least_to labels from (from + 2) to (min a b) c (omega (arith, e)) (omega arith) c_is (least_two labels from (from + 2) a a_is b (omega arith) b_is)
+
+  pub least_four : (d : ℕ) → to ≡ from + 4 → d ≡ slice_index labels (from + 3) → IsLeastOf labels from to (min (min (min a b) c) d)
+  least_four d e d_is = least_to labels from (from + 3) to (min (min a b) c) d (omega (arith, e)) (omega arith) d_is
+      (least_to labels from (from + 2) (from + 3) (min a b) c (omega arith) (omega arith) c_is (least_two labels from (from + 2) a a_is b (omega arith) b_is))
+
 pub entry_of : (landing : Option ℕ) (label : ℕ) → IsLabelOf landing label → IsEntry label
 entry_of None label of = inr of.is
 entry_of (Some t) label of = inl (omega (arith, of.is, of.in_days))

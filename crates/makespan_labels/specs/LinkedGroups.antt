@@ -1,22 +1,35 @@
 -- Groups of windows that links name, and how they lead to the windows of the next stage.
-use Rattle.std.specs.Prelude.{◌≡◌, ℕ, ℤ, ◌<◌, ◌≤◌, List, length, slice_index, slice_index_or, All}
+use Rattle.std.specs.Prelude.{◌≡◌, ℕ, ℤ, ◌<◌, ◌≤◌, List, length, slice_index, slice_index_or}
+use Rattle.wake_table.specs.declared.category.Category.{Category}
 use Rattle.landing_rules.specs.Problem.{Problem}
 use Rattle.cps_nodes.specs.Leads.{Extends}
 use Rattle.cps_network.specs.Links.{range_at}
 use Rattle.cps_network.specs.Lists.{node_at}
-use Rattle.makespan_labels.specs.declared.group.Group.{Group}
-use Rattle.makespan_labels.specs.Ready.{IsReady}
+use Rattle.makespan_labels.specs.Groups.{IsLabelled, IsLead}
 
--- these groups are those of ranges, one each
-pub record AreOverRanges (p : Problem) (width : ℕ) (before : ℕ × List (List ℤ)) (labels : List ℕ) (ranges : List (ℕ × ℕ)) (groups : List Group) : Type 0 where
-  pub one_each : length groups ≡ length ranges
-  pub ready : All (IsReady p width before labels) groups
-  pub begins : (g : ℕ) (d : Group) → g < length groups → (slice_index_or groups g d).from ≡ (range_at ranges g).0
+-- of the group of windows from a place on, this is the least label, and the category of the flight that landed last in them
+pub record IsLeadOver (p : Problem) (width : ℕ) (before : ℕ × List (List ℤ)) (labels : List ℕ) (from least : ℕ) (category : Category) : Type 0 where
+  pub leader : ℕ
+  pub labelled : IsLabelled width before labels from least leader
+  pub lead : IsLead p leader least category
+
+-- the same of each of these ranges
+pub record AreLeads (p : Problem) (width : ℕ) (before : ℕ × List (List ℤ)) (labels : List ℕ) (ranges : List (ℕ × ℕ)) (leasts : List ℕ) (categories : List Category) : Type 0 where
+  pub one_least : length leasts ≡ length ranges
+  pub one_category : length categories ≡ length ranges
+  pub each : (g : ℕ) (d : Category) → g < length ranges → IsLeadOver p width before labels (range_at ranges g).0 (slice_index leasts g) (slice_index_or categories g d)
+
+-- the same of a group that leads to this window, in whose windows a flight has landed
+pub record IsLeadTo (p : Problem) (width : ℕ) (before : ℕ × List (List ℤ)) (labels : List ℕ) (window : List ℤ) (least : ℕ) (category : Category) : Type 0 where
+  pub from : ℕ
+  pub over : IsLeadOver p width before labels from least category
+  pub landed : 1 ≤ over.leader
+  pub leads : Extends (node_at before.1 from) window
 
 -- each of these windows has the place of a group that leads to it, in whose windows a flight has landed
-pub record LeadToEach (p : Problem) (width : ℕ) (before : ℕ × List (List ℤ)) (labels : List ℕ) (windows : List (List ℤ)) (places : List ℕ) (groups : List Group) : Type 0 where
+pub record LeadToEach (p : Problem) (width : ℕ) (before : ℕ × List (List ℤ)) (labels : List ℕ) (windows : List (List ℤ)) (places leasts : List ℕ) (categories : List Category) : Type 0 where
   pub one_each : length places ≡ length windows
-  pub ready : All (IsReady p width before labels) groups
-  pub landed : All (λ group. 1 ≤ group.leader) groups
-  pub within : (i : ℕ) → i < length windows → slice_index places i < length groups
-  pub leads : (i : ℕ) (d : Group) → i < length windows → Extends (node_at before.1 (slice_index_or groups (slice_index places i) d).from) (node_at windows i)
+  pub has_least : (i : ℕ) → i < length windows → slice_index places i < length leasts
+  pub has_category : (i : ℕ) → i < length windows → slice_index places i < length categories
+  pub leads : (i : ℕ) (d : Category) → i < length windows
+      → IsLeadTo p width before labels (node_at windows i) (slice_index leasts (slice_index places i)) (slice_index_or categories (slice_index places i) d)

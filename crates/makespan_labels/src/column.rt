@@ -8,6 +8,7 @@ ghost use Rattle.makespan_labels.specs.Columns.{IsEntry, is_known, known_of};
 ghost use Rattle.makespan_labels.specs.Labels.{no_label, AreLabels, HoldsLabels};
 
 use cps_network::Stage;
+use label_workers::Pace;
 use std::alloc::{AllocError, Global};
 use std::marker::Model;
 
@@ -18,6 +19,8 @@ pub const NO_LABEL: u32 = u32::MAX;
 #[derive(Drop)]
 pub struct Column {
     pub(crate) entries: Vec<u32>,
+    // How the column of the next stage is to be filled.
+    pub(crate) pace: Pace,
 }
 
 impl Model for Column {
@@ -47,6 +50,7 @@ impl Column {
     {
         Column {
             entries: Vec::new(alloc),
+            pace: Pace::new(),
         }
     }
 
@@ -55,7 +59,10 @@ impl Column {
         ensures { IfOk result (λ column. column ≡ 0 ∷ []) }
     {
         let entries = entries_of(alloc, 0, 1)?;
-        Ok(Column { entries })
+        Ok(Column {
+            entries,
+            pace: Pace::new(),
+        })
     }
 
     /// Makes it n entries of `NO_LABEL`. After want of memory it is as it was.

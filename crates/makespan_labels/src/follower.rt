@@ -111,10 +111,14 @@ impl Follower {
         ensures label { IsLabelOf (first_at problem.now self.old.rank ready) result }
         ensures follower { IsFollower problem.now self.new }
     {
-        if self.from <= ready && ready <= self.open.1 {
-            return ready.max(self.open.0);
+        // Two tests that each leave cost less than one of both.
+        if ready < self.from {
+            return self.find_label(problem, ready);
         }
-        self.find_label(problem, ready)
+        if self.open.1 < ready {
+            return self.find_label(problem, ready);
+        }
+        ready.max(self.open.0)
     }
 
     // The same, from the flight's own spans. It stands apart, so that `label_at` stays short.

@@ -27,6 +27,13 @@ pub(crate) struct Group {
     pub(crate) category: Category,
 }
 
+// What a landing behind a group needs: the least of its labels, and the category of the flight that landed last.
+#[derive(Clone, Copy)]
+pub(crate) struct Lead {
+    pub(crate) least: u32,
+    pub(crate) category: Category,
+}
+
 impl Group {
     // No group yet.
     pub(crate) fn blank() -> Group {
@@ -48,13 +55,38 @@ pub(crate) fn run_of<const W: usize>(window: &Window<W>) -> usize
     window.offset(0).rem_euclid(8) as usize
 }
 
-// The least label at the places of a range that is not empty.
-fn least_of(labels: &Column, from: usize, to: usize) -> u32
+// The least label at the places of a range that is not empty, by a loop. It stands apart, so that `least_of` stays short.
+#[inline(never)]
+fn least_of_all(labels: &Column, from: usize, to: usize) -> u32
     requires range { (from < to) × (to ≤ length labels.now) }
     ensures least { IsLeastOf labels.now from to result }
     ensures range { IsEntry result }
 {
     (from + 1..to).fold(labels.label(from), |least, i| least.min(labels.label(i)))
+}
+
+// The least label at the places of a range that is not empty. Most groups have at most k + 1 windows, for which a loop costs
+// more than its work.
+#[inline]
+fn least_of(labels: &Column, from: usize, to: usize) -> u32
+    requires range { (from < to) × (to ≤ length labels.now) }
+    ensures least { IsLeastOf labels.now from to result }
+    ensures range { IsEntry result }
+{
+    match to - from {
+        1 => labels.label(from),
+        2 => labels.label(from).min(labels.label(from + 1)),
+        3 => labels
+            .label(from)
+            .min(labels.label(from + 1))
+            .min(labels.label(from + 2)),
+        4 => labels
+            .label(from)
+            .min(labels.label(from + 1))
+            .min(labels.label(from + 2))
+            .min(labels.label(from + 3)),
+        _ => least_of_all(labels, from, to),
+    }
 }
 
 // The category of the flight of a rank. Rank 0 has none, and A stands for it.

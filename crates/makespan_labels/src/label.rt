@@ -7,6 +7,7 @@ ghost use Rattle.cps_network.specs.Landable.{HasEachLandable};
 ghost use Rattle.cps_network.specs.Lists.{node_at};
 ghost use Rattle.cps_network.specs.Permits.{IsNextOf};
 ghost use Rattle.landing_joint.specs.RankedProblem.{landing_after};
+ghost use Rattle.landing_rules.specs.Rules.{last_second};
 ghost use Rattle.makespan_labels.specs.Columns.{IsLabelOf};
 ghost use Rattle.makespan_labels.specs.Followers.{IsFollower};
 ghost use Rattle.makespan_labels.specs.Groups.{IsLead};
@@ -17,7 +18,7 @@ ghost use Rattle.makespan_labels.specs.Labels.{AreLabels, HoldsLabels};
 
 use crate::column::{Column, NO_LABEL};
 use crate::follower::{Follower, follower_of};
-use crate::group::{Group, find_group, run_of, turn_to};
+use crate::group::{Group, Lead, find_group, run_of, turn_to};
 use crate::labelling::Labelling;
 use cps_base::{Ledger, Steps};
 use cps_network::{Stage, last_rank, prefix_laws};
@@ -42,23 +43,22 @@ fn first_label(problem: &Problem, rank: u8) -> u32
 #[inline(always)]
 pub(crate) fn label_behind_flight(
     problem: &Problem,
-    group: &Group,
+    lead: Lead,
     rank: u8,
     follower: &mut Follower,
 ) -> u32
-    requires lead { IsLead problem.now group.now.leader group.now.least group.now.category }
-    requires flight { 1 ≤ group.now.leader }
+    requires in_days { lead.least ≤ last_second }
     requires rank { (1 ≤ rank) × (rank ≤ length problem.now.flights) }
     requires follower { IsFollower problem.now follower.old }
-    ensures label { IsLabelOf
-        (landing_after problem.now group.now.leader group.now.least rank) result }
+    ensures label { (leader : ℕ) → 1 ≤ leader → IsLead problem.now leader lead.least lead.category
+        → IsLabelOf (landing_after problem.now leader lead.least rank) result }
     ensures follower { IsFollower problem.now follower.new }
 {
     // A separation is at most 600 seconds, so the sum fits.
     let _at_most = problem.head();
     follower.turn_to(problem, rank);
-    let apart = follower.separation_behind(group.category);
-    follower.label_at(problem, group.least + apart)
+    let apart = follower.separation_behind(lead.category);
+    follower.label_at(problem, lead.least + apart)
 }
 
 // The label of a window in which a rank lands behind a group.
@@ -74,7 +74,11 @@ fn label_behind(problem: &Problem, group: &Group, rank: u8, follower: &mut Follo
     if group.leader == 0 {
         return first_label(problem, rank);
     }
-    label_behind_flight(problem, group, rank, follower)
+    let lead = Lead {
+        least: group.least,
+        category: group.category,
+    };
+    label_behind_flight(problem, lead, rank, follower)
 }
 
 // The label of the window at place i of the stage of a number, from the group that leads to it: one landing behind the least.
@@ -214,6 +218,7 @@ pub fn fill<const W: usize, R: Threads + Sync, G: Gate + Sync, L: Ledger>(
             (slice_index part.exit.now i) }
     { fill_part(&labelling, start, part) };
     let windows = stage.len();
-    fill_pieces(rt, into.entries.as_mut_slice(), gate, &piece);
+    let pace = fill_pieces(rt, into.entries.as_mut_slice(), labels.pace, gate, &piece);
+    into.pace = pace;
     steps.tick(windows as u64);
 }

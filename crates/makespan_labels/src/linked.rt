@@ -1,21 +1,21 @@
 //! The labels of a stage whose links from the stage before are kept.
 
-ghost use Rattle.std.specs.Prelude.{◌≡◌, ℕ, ◌+◌, ◌*◌, ◌<◌, ◌≤◌, length, slice_index, IfOk, OnOk, OnErr};
+ghost use Rattle.std.specs.Prelude.{◌≡◌, ℕ, ◌+◌, ◌*◌, ◌<◌, ◌≤◌, length, slice_index, slice_index_or, IfOk, OnOk, OnErr};
 ghost use Rattle.cps_base.specs.Tally.{raised_by};
-ghost use Rattle.cps_nodes.specs.Leads.{Extends};
 ghost use Rattle.cps_network.specs.Landable.{HasEachLandable};
+ghost use Rattle.cps_network.specs.Links.{AreGroups, range_at};
 ghost use Rattle.cps_network.specs.Lists.{node_at};
 ghost use Rattle.cps_network.specs.Permits.{IsNextOf};
 ghost use Rattle.makespan_labels.specs.Entries.{IsLabelAt};
 ghost use Rattle.makespan_labels.specs.Followers.{IsFollower};
 ghost use Rattle.makespan_labels.specs.Labellings.{CanLabel};
 ghost use Rattle.makespan_labels.specs.Labels.{AreLabels, HoldsLabels};
-ghost use Rattle.makespan_labels.specs.LinkedGroups.{AreOverRanges, LeadToEach};
-ghost use Rattle.makespan_labels.specs.Ready.{IsReady};
+ghost use Rattle.makespan_labels.specs.LinkedGroups.{AreLeads, IsLeadOver, IsLeadTo, LeadToEach};
+ghost use Rattle.wake_table.specs.declared.category.Category.{Category};
 
 use crate::column::Column;
 use crate::follower::{Follower, follower_of};
-use crate::group::{Group, group_over};
+use crate::group::{Lead, group_over};
 use crate::label::label_behind_flight;
 use crate::labelling::Labelling;
 use cps_base::{Ledger, Steps};
@@ -26,40 +26,77 @@ use cps_problem::Problem;
 use label_workers::fill_pieces;
 use std::alloc::{AllocError, Global};
 use std::thread::Threads;
+use wake_table::Category;
 
-// The windows at the places of each range of the links, as groups. It stands apart, so that its loop has all registers.
+// What landings behind each range of the links need. Two lists take less room than one of pairs.
+#[derive(Drop)]
+struct Leads {
+    leasts: Vec<u32>,
+    categories: Vec<Category>,
+}
+
+// Writes for each range the least label of its windows, and the category of the flight that landed last in them. It stands
+// apart, so that its loop has all registers.
 #[inline(never)]
-fn groups_of<const W: usize>(
+fn fill_leads<const W: usize>(
+    labelling: &Labelling<W>,
+    ranges: &[(u32, u32)],
+    leasts: &mut [u32],
+    categories: &mut [Category],
+)
+    requires can { CanLabel labelling.now.problem.now W labelling.now.before.now
+        labelling.now.labels.now labelling.now.stage.now }
+    requires groups { AreGroups labelling.now.before.now.1 ranges.now }
+    requires leasts { length leasts.old ≡ length ranges.now }
+    requires categories { length categories.old ≡ length ranges.now }
+    ensures leads { (g : ℕ) (d : Category) → g < length ranges.now
+        → IsLeadOver labelling.now.problem.now W labelling.now.before.now labelling.now.labels.now
+        (range_at ranges.now g).0 (slice_index leasts.new g) (slice_index_or categories.new g d) }
+{
+    // A copy, whose fields no write can touch.
+    let near = *labelling;
+    let earlier = near.before.windows();
+    for i in 0..ranges.len() {
+        let range = &ranges[i];
+        let group = group_over(&near, earlier, range.0 as usize, range.1 as usize);
+        leasts[i] = group.least;
+        categories[i] = group.category;
+    }
+}
+
+// What landings behind each range of the links need.
+fn leads_of<const W: usize>(
     alloc: Global,
     labelling: &Labelling<W>,
     links: &Links<W>,
-) -> Result<Vec<Group>, AllocError>
+) -> Result<Leads, AllocError>
     requires can { CanLabel labelling.now.problem.now W labelling.now.before.now
         labelling.now.labels.now labelling.now.stage.now }
     requires origin { links.now.origin ≡ labelling.now.before.now.1 }
-    ensures { IfOk result (λ groups. AreOverRanges labelling.now.problem.now W
-        labelling.now.before.now labelling.now.labels.now links.now.ranges groups.items) }
+    ensures { IfOk result (λ leads. AreLeads labelling.now.problem.now W
+        labelling.now.before.now labelling.now.labels.now links.now.ranges leads.leasts.items
+        leads.categories.items) }
 {
-    // A copy, whose fields no push can touch.
-    let near = *labelling;
-    let earlier = near.before.windows();
     let ranges = links.ranges();
-    let mut groups = Vec::with_capacity(alloc, ranges.len())?;
-    for range in ranges {
-        let group = group_over(&near, earlier, range.0 as usize, range.1 as usize);
-        groups.push(group)?;
-    }
-    Ok(groups)
+    let mut leasts = vec![in alloc; 0; ranges.len()]?;
+    let mut categories = vec![in alloc; Category::A; ranges.len()]?;
+    fill_leads(
+        labelling,
+        ranges,
+        leasts.as_mut_slice(),
+        categories.as_mut_slice(),
+    );
+    Ok(Leads { leasts, categories })
 }
 
-// The same as `label_of`, where a flight has landed in the windows of the group: none is asked for.
+// The same as `label_of`, where a flight has landed in the windows that lead to this one.
 #[inline(always)]
 fn linked_label_of<const W: usize>(
     labelling: &Labelling<W>,
     number: u8,
     i: usize,
     window: &Window<W>,
-    group: &Group,
+    lead: Lead,
     follower: &mut Follower,
 ) -> u32
     requires can { CanLabel labelling.now.problem.now W labelling.now.before.now
@@ -67,11 +104,8 @@ fn linked_label_of<const W: usize>(
     requires number { number ≡ labelling.now.stage.now.0 }
     requires within { i < length labelling.now.stage.now.1 }
     requires window { window.now ≡ node_at labelling.now.stage.now.1 i }
-    requires group { IsReady labelling.now.problem.now W labelling.now.before.now
-        labelling.now.labels.now group.now }
-    requires flight { 1 ≤ group.now.leader }
-    requires leads { Extends (node_at labelling.now.before.now.1 group.now.from)
-        (node_at labelling.now.stage.now.1 i) }
+    requires lead { IsLeadTo labelling.now.problem.now W labelling.now.before.now
+        labelling.now.labels.now (node_at labelling.now.stage.now.1 i) lead.least lead.category }
     requires follower { IsFollower labelling.now.problem.now follower.old }
     ensures label { IsLabelAt labelling.now.problem.now labelling.now.stage.now i result }
     ensures follower { IsFollower labelling.now.problem.now follower.new }
@@ -79,23 +113,24 @@ fn linked_label_of<const W: usize>(
     // At most 60 flights wait, so the rank fits.
     let _few = labelling.problem.len();
     let rank = last_rank(window, number);
-    label_behind_flight(labelling.problem, group, rank, follower)
+    label_behind_flight(labelling.problem, lead, rank, follower)
 }
 
 // Writes the labels of the windows of a stage from place `start` on, as many as the part has entries. Of each window the place
-// of the group that leads to it is known. It stands apart, so that its loop has all registers.
+// of the range that leads to it is known. It stands apart, so that its loop has all registers.
 #[inline(never)]
 fn fill_linked_part<const W: usize>(
     labelling: &Labelling<W>,
     places: &[u32],
-    groups: &[Group],
+    leasts: &[u32],
+    categories: &[Category],
     start: usize,
     part: &mut [u32],
 )
     requires can { CanLabel labelling.now.problem.now W labelling.now.before.now
         labelling.now.labels.now labelling.now.stage.now }
     requires lead { LeadToEach labelling.now.problem.now W labelling.now.before.now
-        labelling.now.labels.now labelling.now.stage.now.1 places.now groups.now }
+        labelling.now.labels.now labelling.now.stage.now.1 places.now leasts.now categories.now }
     requires within { start + length part.old ≤ length labelling.now.stage.now.1 }
     ensures { (i : ℕ) → i < length part.old
         → IsLabelAt labelling.now.problem.now labelling.now.stage.now (start + i)
@@ -109,16 +144,13 @@ fn fill_linked_part<const W: usize>(
     for i in 0..part.len() {
         let place = start + i;
         let window = &windows[place];
-        let group = &groups[places[place] as usize];
+        let range = places[place] as usize;
+        let lead = Lead {
+            least: leasts[range],
+            category: categories[range],
+        };
         let follower = follower_of(window);
-        part[i] = linked_label_of(
-            &near,
-            number,
-            place,
-            window,
-            group,
-            &mut followers[follower],
-        );
+        part[i] = linked_label_of(&near, number, place, window, lead, &mut followers[follower]);
     }
 }
 
@@ -154,12 +186,13 @@ pub fn fill_linked_alone<const W: usize>(
         labels,
         stage,
     };
-    let groups = groups_of(alloc, &labelling, links)?;
+    let leads = leads_of(alloc, &labelling, links)?;
     let places = links.places();
     fill_linked_part(
         &labelling,
         places,
-        groups.as_slice(),
+        leads.leasts.as_slice(),
+        leads.categories.as_slice(),
         0,
         into.entries.as_mut_slice(),
     );
@@ -204,20 +237,22 @@ pub fn fill_linked<const W: usize, R: Threads + Sync, G: Gate + Sync, L: Ledger>
         labels,
         stage,
     };
-    let found = groups_of(alloc, &labelling, links)?;
-    let groups = found.as_slice();
+    let leads = leads_of(alloc, &labelling, links)?;
+    let leasts = leads.leasts.as_slice();
+    let categories = leads.categories.as_slice();
     let places = links.places();
     let piece = move |start: usize, part: &mut [u32]|
         requires { CanLabel labelling.problem.now W labelling.before.now labelling.labels.now
             labelling.stage.now × LeadToEach labelling.problem.now W labelling.before.now
-            labelling.labels.now labelling.stage.now.1 places.now groups.now
+            labelling.labels.now labelling.stage.now.1 places.now leasts.now categories.now
             × (start + length part.now ≤ length labelling.stage.now.1) }
         ensures { (i : ℕ) → i < length part.entry.now
             → IsLabelAt labelling.entry.problem.now labelling.entry.stage.now (start + i)
             (slice_index part.exit.now i) }
-    { fill_linked_part(&labelling, places, groups, start, part) };
+    { fill_linked_part(&labelling, places, leasts, categories, start, part) };
     let windows = stage.len();
-    fill_pieces(rt, into.entries.as_mut_slice(), gate, &piece);
+    let pace = fill_pieces(rt, into.entries.as_mut_slice(), labels.pace, gate, &piece);
+    into.pace = pace;
     steps.tick(windows as u64);
     Ok(())
 }

@@ -1,29 +1,30 @@
-use Rattle.std.proofs.Common.{◌≡◌, ◌+◌, min, arith, rules, tests, refl, sym, subst}
-use Rattle.std.specs.Prelude.{slice_index}
-use Rattle.cps_base.specs.laws.Folds.{kept_by_fold_of_range}
-use Rattle.makespan_labels.specs.Columns.{IsEntry, IsLeastOf}
-use Rattle.makespan_labels.proofs.ColumnLemmas.{least_one, least_more, entry_least}
+use Rattle.std.proofs.Common.{◌≡◌, ◌+◌, min, arith, rules, tests, subst, sym}
+use Rattle.makespan_labels.specs.Columns.{IsLeastOf}
+use Rattle.makespan_labels.proofs.ColumnLemmas.{least_two, least_three, least_four}
 use Rattle.makespan_labels.proofs.group.least_of.Goals as goal
 
--- what is made of the range is its least, and an entry: turn by turn
-least : (c : goal.After-fold) → IsLeastOf c.args.labels.now c.args.from c.args.to c.fold.result × IsEntry c.fold.result
-least c =
-    let labels = c.args.labels.now in
+pub returns-in-2-clause-least : goal.returns-in-2-clause-least
+returns-in-2-clause-least c =
     let from = c.args.from in
-    kept_by_fold_of_range _ (from + 1) c.args.to (λ i a. IsLeastOf labels from i a × IsEntry a) (omega (arith, c.requires.range)) refl c.fold.ensures.ran
-    (least_one labels from c.label.result c.label.ensures.value, c.label.ensures.range)
-    (λ i a b q lo hi held k.
-    let is : b ≡ min a (slice_index labels i) = search (rules, tests) in
-    let entry : IsEntry (slice_index labels i) = search (rules, tests) in (
-      search (rules, tests),
-      (
-        subst (IsLeastOf labels from (i + 1)) (sym is) (least_more labels from i a (omega (arith, lo)) held.0),
-        subst IsEntry (sym is) (entry_least a (slice_index labels i) held.1 entry),
-      ),
-    ))
+    let is : c.min.result ≡ min c.label-in-2.result c.label-in-2-2.result = search (rules, tests) in
+    let end : c.args.to ≡ from + 2 = omega (arith, c.in-2.is, c.requires.range) in
+    subst (IsLeastOf c.args.labels.now from c.args.to) (sym is)
+    (least_two c.args.labels.now from c.args.to c.label-in-2.result c.label-in-2.ensures.value c.label-in-2-2.result end c.label-in-2-2.ensures.value)
 
-pub returns-clause-least : goal.returns-clause-least
-returns-clause-least c = (least c).0
+pub returns-in-3-clause-least : goal.returns-in-3-clause-least
+returns-in-3-clause-least c =
+    let from = c.args.from in
+    let is : c.min-in-3-2.result ≡ min (min c.label-in-3.result c.label-in-3-2.result) c.label-in-3-3.result = search (rules, tests) in
+    let end : c.args.to ≡ from + 3 = omega (arith, c.in-3.is, c.requires.range) in
+    subst (IsLeastOf c.args.labels.now from c.args.to) (sym is)
+    (least_three c.args.labels.now from c.args.to c.label-in-3.result c.label-in-3-2.result c.label-in-3-3.result
+    c.label-in-3.ensures.value c.label-in-3-2.ensures.value c.label-in-3-3.ensures.value end)
 
-pub returns-clause-range : goal.returns-clause-range
-returns-clause-range c = (least c).1
+pub returns-in-4-clause-least : goal.returns-in-4-clause-least
+returns-in-4-clause-least c =
+    let from = c.args.from in
+    let is : c.min-in-4-3.result ≡ min (min (min c.label-in-4.result c.label-in-4-2.result) c.label-in-4-3.result) c.label-in-4-4.result = search (rules, tests) in
+    let end : c.args.to ≡ from + 4 = omega (arith, c.in-4.is, c.requires.range) in
+    subst (IsLeastOf c.args.labels.now from c.args.to) (sym is)
+    (least_four c.args.labels.now from c.args.to c.label-in-4.result c.label-in-4-2.result c.label-in-4-3.result
+    c.label-in-4.ensures.value c.label-in-4-2.ensures.value c.label-in-4-3.ensures.value c.label-in-4-4.result end c.label-in-4-4.ensures.value)

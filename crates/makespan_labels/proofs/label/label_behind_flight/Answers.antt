@@ -1,4 +1,4 @@
-use Rattle.std.proofs.Common.{◌≡◌, ℕ, ◌+◌, ◌≤◌, Option, refl, ap, subst, sym, ◌∙◌, arith}
+use Rattle.std.proofs.Common.{◌≡◌, ℕ, ◌+◌, ◌≤◌, Option, refl, ap, subst, ◌∙◌, arith}
 use Rattle.wake_table.specs.Table.{separation}
 use Rattle.landing_joint.specs.RankedProblem.{no_waiting, first_at, landing_after}
 use Rattle.cps_theory.specs.RankLists.{of_rank}
@@ -6,25 +6,23 @@ use Rattle.makespan_labels.specs.Columns.{IsLabelOf}
 use Rattle.makespan_labels.proofs.LeadLemmas.{lands_behind}
 use Rattle.makespan_labels.proofs.label.label_behind_flight.Goals as goal
 
-pub overflow_add-group : goal.overflow_add-group
-overflow_add-group c =
+pub overflow_add-lead : goal.overflow_add-lead
+overflow_add-lead c =
     let p = c.args.problem.now in
     let one : 1 ≤ c.turn_to.new.self.rank = omega (arith, c.turn_to.ensures.rank, c.requires.rank) in
     let apart = c.separation_behind-apart.ensures p c.turn_to.ensures.follower one in
-    let most = (c.head-at_most.ensures.well_formed.table.entries c.args.group.now.category (of_rank no_waiting p.flights c.turn_to.new.self.rank).category).1 in
-    let days = c.requires.lead.in_days in
-    omega (arith, apart, most, days)
+    let most = (c.head-at_most.ensures.well_formed.table.entries c.args.lead.category (of_rank no_waiting p.flights c.turn_to.new.self.rank).category).1 in
+    omega (arith, apart, most, c.requires.in_days)
 
 pub returns-clause-label : goal.returns-clause-label
-returns-clause-label c =
+returns-clause-label c leader one is =
     let p = c.args.problem.now in
-    let group = c.args.group.now in
-    let one : 1 ≤ group.leader = c.requires.flight in
+    let lead = c.args.lead in
     let some : 1 ≤ c.turn_to.new.self.rank = omega (arith, c.turn_to.ensures.rank, c.requires.rank) in
-    let apart : c.separation_behind-apart.result ≡ separation p.table group.category (of_rank no_waiting p.flights c.args.rank).category =
-    c.separation_behind-apart.ensures p c.turn_to.ensures.follower some ∙ ap (λ (r : ℕ). separation p.table group.category (of_rank no_waiting p.flights r).category) c.turn_to.ensures.rank in
-    let landing : first_at p c.turn_to.new.self.rank (group.least + c.separation_behind-apart.result) ≡ landing_after p group.leader group.least c.args.rank =
-    ap (λ (r : ℕ). first_at p r (group.least + c.separation_behind-apart.result)) c.turn_to.ensures.rank
-    ∙ lands_behind p group.leader group.least c.args.rank c.separation_behind-apart.result group.category (of_rank no_waiting p.flights c.args.rank).category c.head-at_most.ensures.well_formed.table one (c.requires.lead.started one)
-    (c.requires.lead.category_is one) refl apart in
+    let apart : c.separation_behind-apart.result ≡ separation p.table lead.category (of_rank no_waiting p.flights c.args.rank).category =
+    c.separation_behind-apart.ensures p c.turn_to.ensures.follower some ∙ ap (λ (r : ℕ). separation p.table lead.category (of_rank no_waiting p.flights r).category) c.turn_to.ensures.rank in
+    let landing : first_at p c.turn_to.new.self.rank (lead.least + c.separation_behind-apart.result) ≡ landing_after p leader lead.least c.args.rank =
+    ap (λ (r : ℕ). first_at p r (lead.least + c.separation_behind-apart.result)) c.turn_to.ensures.rank
+    ∙ lands_behind p leader lead.least c.args.rank c.separation_behind-apart.result lead.category (of_rank no_waiting p.flights c.args.rank).category c.head-at_most.ensures.well_formed.table one (is.started one)
+    (is.category_is one) refl apart in
     subst (λ (o : Option ℕ). IsLabelOf o c.label_at.result) landing c.label_at.ensures.label

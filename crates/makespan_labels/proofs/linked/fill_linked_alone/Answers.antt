@@ -18,8 +18,8 @@ fill_linked_part-requires g c =
       number = c.requires.number;
       next = c.requires.next;
     } in
-    let lead = lead_to_each c.args.problem.now g.row.W c.args.before.now c.args.stage.now c.args.labels.now c.args.links.now c.places-places.result.now c.in_ok-groups.groups.items c.as_slice.result.now
-    c.places-places.ensures.links c.requires.origin c.requires.target c.places-places.ensures.value c.as_slice.ensures.value c.in_ok-groups.ensures can c.requires.some in
+    let lead = lead_to_each c.args.problem.now g.row.W c.args.before.now c.args.stage.now c.args.labels.now c.args.links.now c.places-places.result.now c.in_ok-leads.leads.leasts.items c.as_slice.result.now c.in_ok-leads.leads.categories.items c.as_slice-2.result.now
+    c.places-places.ensures.links c.requires.origin c.requires.target c.places-places.ensures.value c.as_slice.ensures.value c.as_slice-2.ensures.value c.in_ok-leads.ensures can c.requires.some in
     let held : c.into.inside.entries.items ≡ c.args.into.now = c.into.view_is in
     let long : length c.as_mut_slice.result.now ≡ length c.args.stage.now.1 = ap length c.as_mut_slice.ensures.value ∙ ap length held ∙ c.requires.one_each in (
       search rules,
