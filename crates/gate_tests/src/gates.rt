@@ -1,5 +1,7 @@
 //! Gates for tests.
 
+ghost use Rattle.std.specs.Prelude.{◌≡◌, ◌↔◌, IsTrue};
+
 use cps_outside::Gate;
 use std::sync::atomic::{AtomicU64, Ordering};
 
@@ -27,6 +29,13 @@ impl Gate for CountingGate {
     fn pass(&self, _piece: u32) {
         self.passes.fetch_add(1, Ordering::SeqCst);
     }
+}
+
+// Whether a piece is the one to hold: piece 0, of the stage that so many come before.
+fn is_held(piece: u32, stage: u64, earlier: u64) -> bool
+    ensures { IsTrue result ↔ ((piece ≡ 0) × (stage ≡ earlier)) }
+{
+    piece == 0 && stage == earlier
 }
 
 // For how many turns of a loop a piece is held at most.
@@ -71,7 +80,12 @@ impl HoldingGate {
 
 impl Gate for HoldingGate {
     fn pass(&self, piece: u32) {
-        if piece == 0 && self.stages.fetch_add(1, Ordering::SeqCst) == self.earlier {
+        let stage = if piece == 0 {
+            self.stages.fetch_add(1, Ordering::SeqCst)
+        } else {
+            self.stages.load(Ordering::SeqCst)
+        };
+        if is_held(piece, stage, self.earlier) {
             self.hold();
         }
         if piece == 1 && self.stages.load(Ordering::SeqCst) >= self.earlier {

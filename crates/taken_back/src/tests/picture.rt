@@ -1,11 +1,9 @@
 // What there is to see of a situation.
+use crate::{Line, line_of};
 use cps_base::Callsign;
-use situations::{Active, Situation};
+use situations::Situation;
 use std::alloc::{AllocError, Global};
 use std::test::Fail;
-
-/// A flight's callsign, estimated second, frozen second and count.
-pub(super) type Line = (Callsign, u32, Option<u32>, u8);
 
 /// The flights in order of arrival, then the windows of each and the closures, and the horizon.
 #[derive(Drop)]
@@ -15,19 +13,9 @@ pub(super) struct Picture {
     horizon: u32,
 }
 
-// The flight in a line.
-fn line(active: &Active) -> Line {
-    (
-        active.flight.callsign,
-        active.flight.eta,
-        active.frozen,
-        active.passed,
-    )
-}
-
 /// The picture of a situation.
 pub(super) fn picture_of(alloc: Global, situation: &Situation) -> Result<Picture, AllocError> {
-    let lines = situation.flights().iter().map(line).collect(alloc)?;
+    let lines = situation.flights().iter().map(line_of).collect(alloc)?;
     let mut spans = Vec::new(alloc);
     for active in situation.flights() {
         spans.extend_from_slice(active.flight.windows.spans())?;
