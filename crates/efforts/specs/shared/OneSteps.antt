@@ -6,7 +6,7 @@ use Rattle.precedence.specs.Pairs.{MustPrecede, must_precede, must_precede_decid
 use Rattle.landing_rules.specs.Flights.{Situation}
 use Rattle.landing_rules.specs.Problem.{Problem, IsProblemOf}
 use Rattle.cps_theory.specs.Feasible.{RankedProblem, next_from}
-use Rattle.cps_theory.specs.FirstDifference.{counts}
+use Rattle.cps_theory.specs.Agreement.{counts}
 use Rattle.cps_theory.specs.Labels.{Pair}
 use Rattle.cps_theory.specs.LegalPrefix.{Legal}
 use Rattle.cps_theory.specs.Network.{Attained}
