@@ -36,6 +36,7 @@ fn plan_event<R: Threads + Sync, G: Gate + Sync>(
         (λ fault. MatchOption (refusal_of fault) ⊤
         (λ answer. Plans sequencer.old sequencer.new (event_of event.now) (Some answer) 0)) }
 {
+    // Before the event the problem is that of the situation.
     let _standing = sequencer.problem();
     let mut steps = Steps::new(Counted::new());
     sequencer.apply(rt, alloc, event, gate, &mut steps)?;

@@ -6,7 +6,7 @@ use Rattle.landing_rules.specs.Problem.{Problem}
 use Rattle.cps_network.specs.Due.{IsDue}
 use Rattle.arrivals.specs.Seen.{event_of}
 use Rattle.replan.specs.Bound.{DueIsSmall, most_steps}
-use Rattle.replays.proofs.Efforts.{stops_at_once, stops_after, stops_last, ends_whole}
+use Rattle.replays.proofs.EffortLemmas.{stops_at_once, stops_after, stops_last, ends_whole}
 use Rattle.replays.proofs.efforts.effort.Goals as goal
 
 opening_few : {p q : Problem} (opening : ℕ) → p ≡ q → IsDue None q opening → DueIsSmall p → opening ≤ most_steps

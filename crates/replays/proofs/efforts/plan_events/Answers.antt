@@ -2,7 +2,7 @@ use Rattle.std.proofs.Common.{arith}
 use Rattle.std.proofs.lemmas.Result.{err_from_is_err_and}
 use Rattle.arrivals.specs.Seen.{event_of}
 use Rattle.replays.proofs.LongerRuns.{event_at, none_left}
-use Rattle.replays.proofs.Efforts.{begins, goes_on, stops, ends}
+use Rattle.replays.proofs.EffortLemmas.{begins, goes_on, stops, ends}
 use Rattle.replays.proofs.efforts.plan_events.Goals as goal
 
 pub loop-i-init : goal.loop-i-init

@@ -1,6 +1,6 @@
 use Rattle.std.proofs.Common.{◌+◌, map, drop}
 use Rattle.arrivals.specs.Seen.{event_of}
-use Rattle.replays.proofs.Efforts.{Done}
+use Rattle.replays.proofs.EffortLemmas.{Done}
 use Rattle.replays.proofs.efforts.plan_events.Given as goal
 
 abbrev pub invariant-loop-i : goal.invariant-loop-i

@@ -2,7 +2,7 @@ use Rattle.std.proofs.Common.{rules, ◌≡◌, ◌∙◌}
 use Rattle.std.proofs.lemmas.Result.{err_from_is_err_and}
 use Rattle.situations.specs.declared.refusal.Refusal.TheVariants.{Memory}
 use Rattle.replays.specs.Written.{Wrote, WrotePart}
-use Rattle.replays.proofs.Efforts.{refused_step}
+use Rattle.replays.proofs.EffortLemmas.{refused_step}
 use Rattle.replays.proofs.efforts.step.Goals as goal
 
 pub returns-in_ok-put-in-Err : goal.returns-in_ok-put-in-Err
