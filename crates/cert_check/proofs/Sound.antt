@@ -36,9 +36,6 @@ pair_none find x (suc m) e y le lt =
     elim (cases_eq y x) [ inl s ↦ ap find s ∙ with_number_none x (find x) o.0 | inr ne ↦ pair_none find (suc x) m o.1 y (omega arith) (omega arith) ]
 
 module _ (p : Problem) (ls : Landings) where
-  n : ℕ
-  n = count p
-
   at_rank : (test : ℕ → Bool) → first_from test 1 (count p) ≡ None → (r : ℕ) → IsRank (count p) r → test r ≡ false
   at_rank test e r q = let a = q.1 in from_none test 1 (count p) e r q.0 (omega arith)
 

@@ -35,9 +35,6 @@ module _ (p : Problem) (ls : Landings) where
       or_from (not (length ls == count p)) (is_some (first_from (is_not_once p ls) 1 (count p))) (ap not (eq-eqb (length ls) (count p) h.as_many)) (ap is_some once)
 
   module _ (f : IsFeasibleList p (seconds p ls)) where
-    t : ℕ → ℕ
-    t = second p ls
-
     abbrev map_feasible : Feasible (ranked p) (of_rank 0 (seconds p ls))
     map_feasible = list_feasible p (seconds p ls) f
 

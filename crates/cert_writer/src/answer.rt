@@ -35,6 +35,7 @@ fn landings_in(
     let mut landings = Vec::with_capacity(alloc, order.len())?;
     for rank in order {
         let callsign = problem.flight(*rank).callsign;
+        // A callsign has the form that a certificate asks of it.
         let _known = callsign.bytes();
         landings.push((callsign, schedule.second(*rank)))?;
     }
@@ -53,6 +54,7 @@ fn landings_of(
         landings.items) }
     ensures in_form { IfOk result (λ landings. AreLandings landings.items) }
 {
+    // At most 60 flights wait, so that the list has few landings.
     let _well_formed = problem.len();
     let mut order = latest_first(alloc, schedule)?;
     order.reverse();
@@ -76,6 +78,7 @@ pub(crate) fn answer_of(
     match schedule {
         None => Ok((Claim::Infeasible, Vec::new(alloc))),
         Some(schedule) => {
+            // The problem is well formed, as the laws ask.
             let _well_formed = problem.head();
             best_lists_are_shown();
             seconds_are_in_days(problem, schedule);

@@ -12,6 +12,7 @@ pub(crate) fn seconds_are_in_days(problem: &Problem, schedule: &Schedule)
     ensures { All (λ t. t ≤ last_second) schedule.now }
 {
     for rank in 1..problem.len() + 1 {
+        // An open second is the first from itself on, and so in the days.
         let _open = problem.first_open(rank, schedule.second(rank));
     }
 }

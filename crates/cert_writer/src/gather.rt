@@ -45,6 +45,7 @@ fn slots_of(
         (length windows.now.firsts) slots.items) }
 {
     let k = most_shift(problem);
+    // The stages that are held are those of the problem.
     let _held = kept.stages();
     let firsts = windows.firsts();
     let mut slots = Vec::with_capacity(alloc, firsts.len())?;
@@ -70,6 +71,7 @@ fn gather_all(
     ensures { IfOk result (λ pairs. IsGathered problem.now (held_of kept.now) stage pairs.items) }
 {
     let k = most_shift(problem);
+    // The stages that are held are those of the problem.
     let _held = kept.stages();
     let slots = slots_of(alloc, problem, kept, stage, windows)?;
     let places = windows.places();
@@ -97,6 +99,7 @@ fn gather_earliest(
     ensures { IfOk result (λ pairs. IsGathered problem.now (held_of kept.now) stage pairs.items) }
 {
     let k = most_shift(problem);
+    // The stages that are held are those of the problem.
     let _held = kept.stages();
     let slots = slots_of(alloc, problem, kept, stage, windows)?;
     let least = kept.least_pairs(alloc, stage, windows)?;

@@ -17,7 +17,6 @@ use std::alloc::{AllocError, Global};
 
 // Writes the state of the node of this number, where it has a pair.
 fn add_state(
-    alloc: Global,
     problem: &Problem,
     kept: &AnyKept,
     stage: u8,
@@ -35,10 +34,11 @@ fn add_state(
         states.new.items) }
 {
     let k = most_shift(problem);
+    // The stages that are held are those of the problem.
     let _held = kept.stages();
     let ones = turned(k, (number / 8) as u8);
     let offset = (number % 8) as u8;
-    let pairs = slots[ones as usize * 8 + offset as usize].best(alloc)?;
+    let pairs = slots[ones as usize * 8 + offset as usize].best(*states.allocator())?;
     if pairs.as_slice().is_empty() {
         return Ok(());
     }
@@ -65,10 +65,11 @@ fn add_states(
         states.new.items) }
 {
     let k = most_shift(problem);
+    // The stages that are held are those of the problem.
     let _held = kept.stages();
     let slots = gather(alloc, problem, kept, stage, windows)?;
     for number in 0..8usize << (2 * k) {
-        add_state(alloc, problem, kept, stage, number, &slots, states)?;
+        add_state(problem, kept, stage, number, &slots, states)?;
     }
     Ok(())
 }
@@ -83,6 +84,7 @@ pub(crate) fn states_of(
     ensures whole { IfOk result (λ states. AreWholeStates problem.now states.items) }
     ensures in_range { IfOk result (λ states. HavePairsInRange states.items) }
 {
+    // The problem is well formed, and k at most 3.
     let _near = most_shift(problem);
     stage_laws(problem);
     let mut windows = WindowNodes::of_none(alloc)?;

@@ -16,6 +16,7 @@ fn stages_keep_their_patterns<const W: usize>(problem: &Problem)
     ensures placed { PlacedTellNodes problem.now }
     ensures end { EndWithFlights problem.now }
 {
+    // The problem is well formed, as the laws ask.
     let _well_formed = problem.head();
     patterns_are_bits();
     prefix_laws::<W>(problem);

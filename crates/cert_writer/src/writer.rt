@@ -38,6 +38,7 @@ pub fn certify(
     ensures shows { IfOk result (λ c. ShowsAnswer problem.now
         (option_map (λ s. s.now) schedule.entry) c.claim c.landings) }
 {
+    // The problem is well formed, as the laws ask.
     let _well_formed = problem.head();
     whole_certificates_are_accepted();
     whole_states_are_fixed();

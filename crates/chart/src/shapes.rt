@@ -100,25 +100,33 @@ fn apart(table: &PairTable, leader: &Active, follower: &Active) -> u64
     u64::from(table.sep(leader.flight.category, follower.flight.category))
 }
 
+// What all rows are drawn by: the table of separations, and the seconds that the picture spans.
+#[derive(Clone, Copy)]
+struct Sheet<'a> {
+    table: &'a PairTable,
+    span: u64,
+}
+
 // The bar from a landing to where the follower may land, where it is active.
 fn add_owed_to(
     all: &mut Vec<Element>,
-    table: &PairTable,
-    span: u64,
+    sheet: &Sheet<'_>,
     n: u32,
     landing: &Landing,
     leader: &Active,
     follower: &Option<Active>,
 ) -> Result<(), AllocError>
-    requires { 1 ≤ span }
+    requires { 1 ≤ sheet.now.span }
     ensures { OnOk result (all.new.items ≡ all.old.items
-        ++ owed_to table.now span n (shown_of landing.now) leader.now follower.now) }
+        ++ owed_to sheet.now.table.now sheet.now.span n (shown_of landing.now)
+        leader.now follower.now) }
 {
     let Some(follower) = follower else {
         return Ok(());
     };
+    let span = sheet.span;
     let from = u64::from(landing.second);
-    let until = from + apart(table, leader, follower);
+    let until = from + apart(sheet.table, leader, follower);
     all.push(Element::Separation(n, landing.callsign, spot(span, from), spot(span, until)))?;
     Ok(())
 }
@@ -126,16 +134,15 @@ fn add_owed_to(
 // The bar from a landing to where the next row's flight may land, where both are active and it lands.
 fn add_owed_behind(
     all: &mut Vec<Element>,
-    table: &PairTable,
-    span: u64,
+    sheet: &Sheet<'_>,
     n: u32,
     row: &Row,
     landing: &Landing,
     next: &Row,
 ) -> Result<(), AllocError>
-    requires { 1 ≤ span }
+    requires { 1 ≤ sheet.now.span }
     ensures { OnOk result (all.new.items ≡ all.old.items
-        ++ owed_behind table.now span n (shown_of landing.now) row.now.active
+        ++ owed_behind sheet.now.table.now sheet.now.span n (shown_of landing.now) row.now.active
         next.now.landing next.now.active) }
 {
     let Some(leader) = &row.active else {
@@ -144,26 +151,26 @@ fn add_owed_behind(
     if next.landing.is_none() {
         return Ok(());
     }
-    add_owed_to(all, table, span, n, landing, leader, &next.active)
+    add_owed_to(all, sheet, n, landing, leader, &next.active)
 }
 
 // The same by the rows behind.
 fn add_owed(
     all: &mut Vec<Element>,
-    table: &PairTable,
-    span: u64,
+    sheet: &Sheet<'_>,
     n: u32,
     row: &Row,
     landing: &Landing,
     rest: &[Row],
 ) -> Result<(), AllocError>
-    requires { 1 ≤ span }
+    requires { 1 ≤ sheet.now.span }
     ensures { OnOk result (all.new.items ≡ all.old.items
-        ++ owed_drawn table.now span n row.now (shown_of landing.now) rest.now) }
+        ++ owed_drawn sheet.now.table.now sheet.now.span n row.now
+        (shown_of landing.now) rest.now) }
 {
     match rest {
         [] => Ok(()),
-        [next, ..] => add_owed_behind(all, table, span, n, row, landing, next),
+        [next, ..] => add_owed_behind(all, sheet, n, row, landing, next),
     }
 }
 
@@ -183,42 +190,41 @@ fn mark(span: u64, n: u32, flagged: bool, landing: &Landing) -> Element
 // The delay, the mark and the separation of a row's landing.
 fn add_landing(
     all: &mut Vec<Element>,
-    table: &PairTable,
-    span: u64,
+    sheet: &Sheet<'_>,
     n: u32,
     flagged: bool,
     row: &Row,
     rest: &[Row],
 ) -> Result<(), AllocError>
-    requires { 1 ≤ span }
+    requires { 1 ≤ sheet.now.span }
     ensures { OnOk result (all.new.items ≡ all.old.items
-        ++ landing_drawn table.now span n flagged row.now rest.now row.now.landing) }
+        ++ landing_drawn sheet.now.table.now sheet.now.span n flagged row.now
+        rest.now row.now.landing) }
 {
     let Some(landing) = &row.landing else {
         return Ok(());
     };
-    add_delay(all, span, n, &row.active, landing)?;
-    add_owed(all, table, span, n, row, landing, rest)?;
-    all.push(mark(span, n, flagged, landing))?;
+    add_delay(all, sheet.span, n, &row.active, landing)?;
+    add_owed(all, sheet, n, row, landing, rest)?;
+    all.push(mark(sheet.span, n, flagged, landing))?;
     Ok(())
 }
 
 // A row.
 fn add_row(
     all: &mut Vec<Element>,
-    table: &PairTable,
-    span: u64,
+    sheet: &Sheet<'_>,
     n: u32,
     flagged: bool,
     row: &Row,
     rest: &[Row],
 ) -> Result<(), AllocError>
-    requires { 1 ≤ span }
+    requires { 1 ≤ sheet.now.span }
     ensures { OnOk result (all.new.items ≡ all.old.items
-        ++ row_drawn table.now span n flagged row.now rest.now) }
+        ++ row_drawn sheet.now.table.now sheet.now.span n flagged row.now rest.now) }
 {
-    add_flight(all, span, n, row.callsign, &row.active)?;
-    add_landing(all, table, span, n, flagged, row, rest)
+    add_flight(all, sheet.span, n, row.callsign, &row.active)?;
+    add_landing(all, sheet, n, flagged, row, rest)
 }
 
 // All rows.
@@ -239,7 +245,7 @@ pub(crate) fn add_rows(
     let mut rest = rows;
     while let [row, after @ ..] = rest {
         let flagged = flags_row(lines, found, row);
-        add_row(all, table, span, n, flagged, row, after)?;
+        add_row(all, &Sheet { table, span }, n, flagged, row, after)?;
         n += 1;
         rest = after;
     }

@@ -1,18 +1,17 @@
 -- What comes next after a stage comes next after another whose ranks in reach wait alike.
 use Rattle.std.proofs.Common.{◌≡◌, ℕ, ◌+◌, ◌-◌, ◌*◌, ◌%◌, ◌^◌, ◌<◌, ◌≤◌, List, length, arith, ◌∙◌, sym, ap, inl, inr, subst}
-use Rattle.std.specs.Prelude.{ℤ, pos, ◌⊎◌, ◌↔◌, Contains, ◌+ℤ◌, ◌-ℤ◌}
+use Rattle.std.specs.Prelude.{ℤ, pos, ◌↔◌, Contains, ◌+ℤ◌, ◌-ℤ◌}
 use Rattle.std.proofs.lemmas.Int.{ints}
 use Rattle.std.proofs.lemmas.Bool.{cases_lt}
 use Rattle.std.proofs.lemmas.Nat.{one_shl}
 use Rattle.std.proofs.lemmas.Nat.Bits.{bit_at_ones, bit_at_ones_above}
 use Rattle.std.specs.Int.{bit_at}
-use Rattle.precedence.specs.Pairs.{HasBit, MustPrecede}
+use Rattle.precedence.specs.Pairs.{HasBit}
 use Rattle.cps_nodes.specs.Windows.{Accepts, IsPlaced, HoldsRank, shifted}
 use Rattle.cps_nodes.specs.Laws.{offset_after}
 use Rattle.landing_rules.specs.Problem.{Problem}
-use Rattle.cps_network.specs.Lists.{AreWindows}
-use Rattle.cps_network.specs.Permits.{IsPermitted, IsSuccessor, IsNextOf}
-use Rattle.cps_network.specs.Again.{AllWaitAlike, AreAsFar, AreInReach, HaveSameNext, WaitAlike, WaitsFor, WaitsForNoMore, WaitsNear, IsReady}
+use Rattle.cps_network.specs.Permits.{IsSuccessor}
+use Rattle.cps_network.specs.Again.{AllWaitAlike, AreAsFar, AreInReach, HaveSameNext, WaitsFor, WaitsForNoMore, WaitsNear}
 use Rattle.cps_network.proofs.LayerLemmas.{window_at}
 
 pub far_back : (p : Problem) (a : ℕ) (q : Problem) (b : ℕ) → AreAsFar p a q b → AreAsFar q b p a
@@ -97,9 +96,6 @@ waits_by_places p q a rank b other far is near each first must = elim (cases_lt 
       inr (there.0, omega (arith, there.1, far.k, waits), there.2)
   | inr due ↦ inl due
 ]
-
-pub waits_for_none : (p q : Problem) (a rank b other : ℕ) → IsReady p a rank → WaitsForNoMore p a rank q b other
-waits_for_none p q a rank b other ready first must = inl (ready first must)
 
 -- the low bits are the numbers below their count
 pub low_bits : (count number : ℕ) → count ≤ 63 → HasBit (1 * 2 ^ count % 2 ^ 64 - 1) number ↔ (number < count)

@@ -1,6 +1,6 @@
 -- The candidates of a problem's stages, and how many of them are due where some of its stages are held already.
 use Rattle.std.specs.Prelude.{◌≡◌, ℕ, ℤ, zero, suc, ◌+◌, ◌*◌, ◌≤◌, ◌↔◌, Bool, true, false, leb, List, length, Option, Some, None, Contains}
-use Rattle.cps_theory.specs.FirstDifference.{counts}
+use Rattle.cps_theory.specs.Agreement.{counts}
 use Rattle.landing_rules.specs.Problem.{Problem}
 use Rattle.cps_problem.specs.FirstDifference.{IsFirstDifference}
 use Rattle.cps_network.specs.Landable.{IsCandidate}

@@ -4,7 +4,7 @@ use Rattle.cps_theory.specs.Separation.{Landing}
 use Rattle.cps_theory.specs.LandingTrail.{pair_of, ranks}
 use Rattle.cps_theory.specs.LegalPrefix.{Legal}
 use Rattle.cps_theory.specs.ProblemNetwork.{LandedIn}
-use Rattle.cps_theory.specs.FirstDifference.{counts}
+use Rattle.cps_theory.specs.Agreement.{counts}
 use Rattle.landing_joint.specs.RankedProblem.{ranked, cost_at}
 use Rattle.landing_rules.specs.Problem.{Problem}
 use Rattle.cps_problem.specs.FirstDifference.{AgreeUpTo, IsFirstDifference, IsWithinBoth}

@@ -1,8 +1,8 @@
 -- Examples of landings: lists of ranks, separation, retiming, landing trails and pairs.
-use Rattle.std.proofs.Common.{◌≡◌, ℕ, zero, suc, ◌+◌, ◌-◌, ◌≤◌, inl, inr, List, [], ◌∷◌, true, false, Option, Some, None, cond, ltb, max, refl, sym, ap, subst, arith}
-use Rattle.cps_theory.specs.RankLists.{Distinct, In, IsRank, Ordered, Shifts, above, below, has_pair, numbers_from, of_rank, upto}
-use Rattle.cps_theory.specs.Separation.{Landing, NeighboursSeparated, Separated, last_of}
-use Rattle.cps_theory.specs.Retiming.{IsFirstOpen, LandsAt, NeverEarlier, StopsAt, ready_after, retimed}
+use Rattle.std.proofs.Common.{◌≡◌, ℕ, ◌+◌, ◌-◌, ◌≤◌, inl, inr, List, [], ◌∷◌, true, false, Option, Some, ltb, max, refl, sym, ap, subst, arith}
+use Rattle.cps_theory.specs.RankLists.{Distinct, In, IsRank, Ordered, above, below, numbers_from, of_rank, upto}
+use Rattle.cps_theory.specs.Separation.{Landing}
+use Rattle.cps_theory.specs.Retiming.{IsFirstOpen, NeverEarlier}
 use Rattle.cps_theory.specs.LandingTrail.{Landed, last_rank, latest_landing, pair_of, ranks}
 use Rattle.cps_theory.specs.Labels.{InPairs, NeverCheaper, NoWorse, Pair, next_pair, no_worse}
 use Rattle.cps_theory.specs.UndominatedPairs.{Covers, InPairOrder, Staircase, add_pair, sweep}
@@ -42,38 +42,6 @@ a_rank = (omega arith, omega arith)
 rising : Ordered ltb (1 ∷ 2 ∷ [])
 rising = ((λ y i. elim i [ inl e ↦ subst (λ z. ltb 1 z ≡ true) (sym e) refl | inr j ↦ absurd j ]), ((λ y i. absurd i), tt))
 
--- ranks 2 and 1, at places 2 and 1
-on_their_places : Shifts 0 (λ r. 0) (λ r. r) (2 ∷ 1 ∷ [])
-on_their_places = (omega arith, omega arith, (omega arith, omega arith, tt))
-
-leader_with_follower : has_pair ((1, 3) ∷ (2, 3) ∷ []) 2 3 ≡ true
-leader_with_follower = refl
-
-follower_with_leader : has_pair ((1, 3) ∷ (2, 3) ∷ []) 3 2 ≡ false
-follower_with_leader = refl
-
--- ---- separation of 60 seconds
-
-late_enough : Separated (λ l f. 60) (1, 1000) (2, 1060)
-late_enough = omega arith
-
-one_after_another : NeighboursSeparated (λ l f. 60) (1, 1000) ((2, 1060) ∷ (3, 1200) ∷ [])
-one_after_another = (omega arith, (omega arith, tt))
-
-last_behind : last_of (1, 1000) ((2, 1060) ∷ (3, 1200) ∷ []) ≡ (3, 1200)
-last_behind = refl
-
--- without the triangle inequality neighbours may keep the separation while the first and the third do not
-abbrev far_follower : ℕ → ℕ → ℕ
-far_follower (suc zero) (suc (suc (suc zero))) = 500
-far_follower l f = 60
-
-neighbours_alone : NeighboursSeparated far_follower (1, 1000) ((2, 1060) ∷ (3, 1120) ∷ [])
-neighbours_alone = (omega arith, (omega arith, tt))
-
-first_and_third : Separated far_follower (1, 1000) (3, 1120) → ⊥
-first_and_third h = absurd (omega arith)
-
 -- ---- retiming; each flight is open from 1000 on, and follows 100 seconds after the one before
 
 abbrev open_from_1000 : ℕ → ℕ → Option ℕ
@@ -87,19 +55,6 @@ first_open = record {
 
 hundred_later : NeverEarlier (λ l t r. t + 100)
 hundred_later = record { mono = λ l t u r le. omega arith }
-
-retimed_two : retimed open_from_1000 (λ l t r. t + 100) (λ r. 0) (2 ∷ 1 ∷ []) ≡ Some (1000 ∷ 1100 ∷ [])
-retimed_two = refl
-
-lands_two : LandsAt (λ r t. 1000 ≤ t) (λ l t r. t + 100) (λ r. 0) (2 ∷ 1 ∷ []) (1000 ∷ 1150 ∷ [])
-lands_two = (omega arith, omega arith, (omega arith, omega arith, tt))
-
-after_two : ready_after (λ l t r. t + 100) (λ r. 0) (2 ∷ 1 ∷ []) (1000 ∷ 1100 ∷ []) 3 ≡ 1200
-after_two = refl
-
--- the second flight has no open second
-stops : StopsAt (λ r t. cond (ltb r 2) (Some t) None) (λ l t r. t + 100) (λ r. 0) (1 ∷ 2 ∷ [])
-stops = record { front = 1 ∷ []; flight = 2; back = []; seconds = 0 ∷ []; order = refl; before = refl; none = refl }
 
 -- ---- a landing trail, the latest first
 

@@ -1,7 +1,7 @@
 mod LandingExamples
 mod NodeExamples
 mod ScheduleExamples
-mod DifferenceExamples
+mod AgreementExamples
 mod SituationExamples
 mod CertificateExamples
 mod NetworkExamples

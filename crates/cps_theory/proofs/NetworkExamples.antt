@@ -1,21 +1,15 @@
 -- Examples of networks: what the nodes of two flights attain, and what the start keeps and completes where nobody waits.
-use Rattle.std.proofs.Common.{max, None, Bool, subst, ◌≤◌, ◌≡◌, ℕ, ◌-◌, inl, inr, List, [], ◌∷◌, true, false, Option, Some, leb, zero-le, refl, sym, ap, arith, ap₂}
+use Rattle.std.proofs.Common.{max, subst, ◌≤◌, ◌≡◌, ℕ, inl, inr, List, [], ◌∷◌, true, false, Option, Some, leb, zero-le, refl, sym, ap, arith}
 use Rattle.std.proofs.lemmas.Bool.{false≢true, leb-true}
 use Rattle.cps_theory.specs.RankLists.{IsRank}
-use Rattle.cps_theory.specs.Separation.{Landing}
-use Rattle.cps_theory.specs.LandingTrail.{pair_of, ranks}
 use Rattle.cps_theory.specs.Labels.{InPairs, Pair}
 use Rattle.cps_theory.specs.LegalPrefix.{Legal}
-use Rattle.cps_theory.specs.Network.{Attained, Undominated}
-use Rattle.cps_theory.specs.Windows.{WindowNode, WindowPermits, window_newest, window_node, window_push}
-use Rattle.cps_theory.specs.StageLabels.{IsLeastLabel, ListedBeside, NextStage, StageKept, no_cost}
 use Rattle.cps_theory.specs.Patterns.{PatternNode, PatternPermits, pattern_newest, pattern_node, pattern_push}
 use Rattle.cps_theory.specs.ClosedSets.{ClosedPairs}
 use Rattle.cps_theory.specs.Feasible.{Feasible, LandsAllRanks, RankedProblem, next_from}
-use Rattle.cps_theory.specs.ProblemNetwork.{AttainedIn, FindsFirstOpen, IsClosedCertificate, IsLabelFrom, IsObjective, KeptIn, LabelIn, LandedIn}
+use Rattle.cps_theory.specs.ProblemNetwork.{FindsFirstOpen, IsClosedCertificate, IsObjective, LandedIn}
 use Rattle.cps_theory.specs.CompletingPairs.{Choice, KeptCompleting, LeastChoices, NoEarlierNoDearer, NoGreaterOrder, OrderWithinBudget, onto}
 use Rattle.cps_theory.specs.FirstBest.{Ascends, BuiltByNodes, CompletesNode, FirstBest, InLandingOrder, ListsCompleting, ReachedIn}
-use Rattle.cps_theory.specs.laws.LeastLabels.{least_from_kept}
 use Rattle.cps_theory.proofs.NodeExamples.{two}
 use Rattle.cps_theory.proofs.ScheduleExamples.{pair_of_flights, in_rank_order}
 
@@ -34,27 +28,8 @@ in_order_legal = (
   ),
 )
 
--- the window of both attains 1060, and with a delay of 60
-window_attains : AttainedIn pair_of_flights (λ r t. t - 1000) (window_node two (2 ∷ 1 ∷ [])) (1060, 60)
-window_attains = record { landings = (2, 1060) ∷ (1, 1000) ∷ []; legal = in_order_legal; landed = (refl, omega arith, (refl, omega arith, tt)); at = refl; is = refl }
-
 pattern_reached : ReachedIn pair_of_flights (pattern_node two (2 ∷ 1 ∷ [])) 1200
 pattern_reached = record { landings = (2, 1060) ∷ (1, 1000) ∷ []; legal = in_order_legal; landed = (refl, omega arith, (refl, omega arith, tt)); at = refl; by = omega arith }
-
--- ---- the start keeps (0, 0), since it is the node of no other prefix
-
-start_attains : (q : Pair) → AttainedIn pair_of_flights (λ r t. 0) (window_node two []) q → (0, 0) ≡ q
-start_attains q a = go a.landings a.at a.is
-  where
-    go : (xs : List Landing) → window_node two (ranks xs) ≡ window_node two [] → pair_of (λ r t. 0) xs ≡ q → (0, 0) ≡ q
-    go [] at is = is
-    go (x ∷ xs) at is = absurd (let e = ap (λ (w : WindowNode). w.0) at in omega arith)
-
-start_keeps : KeptIn pair_of_flights (λ r t. 0) (window_node two []) ((0, 0) ∷ [])
-start_keeps = record {
-  attained = λ q i. elim i [ inl e ↦ record { landings = []; legal = tt; landed = tt; at = refl; is = sym e } | inr j ↦ absurd j ];
-  covers = λ q a. let e = start_attains q a in ((0, 0), inl refl, (let b = ap (λ (z : Pair). z.0) e in omega arith, let b = ap (λ (z : Pair). z.1) e in omega arith));
-}
 
 -- ---- nobody waits
 
@@ -124,18 +99,6 @@ landed_in = (refl, omega arith, (refl, omega arith, tt))
 ascends : Ascends in_rank_order (1 ∷ 2 ∷ [])
 ascends = ((λ y i. elim i [ inl e ↦ (let s = ap in_rank_order e in omega arith) | inr j ↦ absurd j ]), ((λ y i. absurd i), tt))
 
-start_label : LabelIn pair_of_flights (window_node two []) (Some 0)
-start_label = record {
-  attained = λ q at. record { landings = []; legal = tt; landed = tt; at = refl; is = (let z : 0 ≡ q.0 = (let e = at.0 in cc) in ap₂ (λ (a b : ℕ). (a, b)) z (sym at.1)) };
-  covers = λ q a. let e = start_attains q a in ((0, 0), (refl, refl), (let b = ap (λ (z : Pair). z.0) e in omega arith, let b = ap (λ (z : Pair). z.1) e in omega arith));
-}
-
-start_is_least : IsLeastLabel (AttainedIn pair_of_flights no_cost (window_node two [])) (Some 0)
-start_is_least = least_from_kept (Attained (λ r u. leb 1000 u ≡ true) (next_from pair_of_flights) no_cost (Legal two) (window_node two) (window_node two [])) (Some 0) start_label
-
-start_undominated : Undominated (AttainedIn pair_of_flights (λ r t. 0) (window_node two [])) (0, 0)
-start_undominated = record { attained = start_keeps.attained (0, 0) (inl refl); best = λ q a le. sym (start_attains q a) }
-
 abbrev first : ℕ → ℕ → Option ℕ
 first r t = Some (max t 1000)
 
@@ -146,24 +109,6 @@ choose_one = record {
   found = refl;
   can_end = ((1000, 0), inl refl, omega arith, omega arith);
 }
-
--- ---- more of nobody
-
-no_label : IsLabelFrom nobody at_once (λ w. None) (1, []) None
-no_label = record { made = λ t e. absurd (cc); least = λ w r b u m. absurd (let a = m.from_one in let b = m.to_count in omega arith) }
-
-beside : ListedBeside {W = ℕ} (7 ∷ 8 ∷ []) ([] ∷ ((1000, 0) ∷ []) ∷ []) 8 (1000, 0)
-beside = record { place = 1; within = omega arith; is = refl; has = inl refl }
-
-no_next : NextStage at_once (next_from nobody) (λ r t. 0) (WindowPermits nobody.rules) (window_push nobody.rules) (window_newest nobody.rules) (λ w. w.0) 0 [] [] [] []
-no_next = record { made = λ w q at b. absurd (let l = b.within in omega arith); enough = λ w r p q m b. absurd (let l = b.within in omega arith) }
-
-stage_kept : StageKept (λ r u. ◌≡◌ {A = Bool} true true) (next_from nobody) (λ r t. 0) (Legal nobody.rules) (window_node nobody.rules) (λ w. w.0) 1 [] []
-stage_kept w at = record { attained = λ q b. absurd (let l = b.within in omega arith); covers = λ q a. absurd (go a.landings a.legal a.at) }
-  where
-    go : (xs : List Landing) → Legal nobody.rules (ranks xs) → window_node nobody.rules (ranks xs) ≡ w → ⊥
-    go [] l e = absurd (let s = ap (λ (v : WindowNode). v.0) e in omega arith)
-    go (x ∷ xs) l e = absurd (let a = l.0.fits.from_one in let b = l.0.fits.to_count in omega arith)
 
 -- where no second after 0 is allowed, the start keeps one completing pair
 completing_kept : KeptCompleting (CompletesNode nobody (λ r t. 0) (λ t. leb t 0) (pattern_node nobody.rules [])) (λ q. InPairs q ((0, 0) ∷ []))

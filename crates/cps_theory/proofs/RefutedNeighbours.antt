@@ -1,21 +1,12 @@
 -- Neighbours of the laws that are false, each refuted at small values: where a premise is left out or a bound is one too low.
-use Rattle.std.proofs.Common.{◌≡◌, ℕ, ◌+◌, ◌^◌, ◌≤◌, inl, inr, List, [], ◌∷◌, length, false, refl, arith}
+use Rattle.std.proofs.Common.{◌≡◌, ℕ, ◌+◌, ◌^◌, ◌≤◌, List, [], ◌∷◌, length, false, refl, arith}
 use Rattle.std.proofs.lemmas.Bool.{false≢true}
-use Rattle.cps_theory.specs.RankLists.{In, above}
+use Rattle.cps_theory.specs.RankLists.{above}
 use Rattle.cps_theory.specs.Labels.{NoWorse}
 use Rattle.cps_theory.specs.LegalPrefix.{Legal, OrderRules}
-use Rattle.cps_theory.specs.Windows.{IsPlacedByWindow, window}
 use Rattle.cps_theory.specs.UndominatedPairs.{sweep}
 use Rattle.cps_theory.specs.Agreement.{AgreeBelow}
 use Rattle.cps_theory.proofs.NodeExamples.{two, swapped_legal}
-
--- ---- the last k places do not tell what is placed: rank 2 at place 1 is, and the last of two places shows rank 1 alone
-
-two_is_placed : In 2 (1 ∷ 2 ∷ [])
-two_is_placed = inr (inl refl)
-
-last_place_tells_not : IsPlacedByWindow 1 2 (window 1 1 (1 ∷ 2 ∷ [])) 2 → ⊥
-last_place_tells_not h = elim h [ inl le ↦ absurd (omega arith) | inr i ↦ elim i [ inl e ↦ absurd (omega arith) | inr j ↦ j ] ]
 
 -- ---- a prefix of fewer than d places need not stay legal: rank 2 may land first in one problem, and there is no rank 2 in the other
 

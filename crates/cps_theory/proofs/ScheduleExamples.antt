@@ -2,7 +2,7 @@
 use Rattle.std.proofs.Common.{◌≡◌, ◌≢◌, ℕ, zero, suc, ◌+◌, ◌-◌, ◌≤◌, inl, inr, [], ◌∷◌, true, Option, Some, leb, max, refl, arith}
 use Rattle.std.proofs.lemmas.Bool.{cases_lt, false≢true}
 use Rattle.cps_theory.specs.RankLists.{IsRank}
-use Rattle.cps_theory.specs.Feasible.{Feasible, IsBest, RankedProblem, SameOrder, SoundProblem, Tight, at_seconds, earlier, earliest, greatest, next_from, pair_at, second_in, total, with_shift}
+use Rattle.cps_theory.specs.Feasible.{Feasible, IsBest, RankedProblem, SameOrder, SoundProblem, Tight, at_seconds, earlier, earliest, greatest, next_from, pair_at, second_in, total}
 use Rattle.cps_theory.proofs.NodeExamples.{two}
 
 abbrev pub pair_of_flights : RankedProblem
@@ -99,6 +99,3 @@ pair_of_two = refl
 
 same_order : SameOrder 2 in_rank_order in_rank_order
 same_order = λ f g i j. (λ lt. lt, λ lt. lt)
-
-more_shift : (with_shift 2 (λ r. 2) pair_of_flights).rules.most ≡ 2
-more_shift = refl

@@ -5,7 +5,7 @@ use Rattle.std.proofs.lemmas.List.Sorted.{IsPermutation-refl}
 use Rattle.cps_theory.specs.RankLists.{In}
 use Rattle.cps_theory.specs.Feasible.{RankedProblem}
 use Rattle.cps_theory.specs.Freeze.{FirstCome, KeepsShift, frozen_of, overtook, place_in, rank_in, staying_of}
-use Rattle.cps_theory.specs.NumberedSituation.{FeasibleIn, NumberedSituation, ProblemOf, SoundSituation, active, freeze}
+use Rattle.cps_theory.specs.NumberedSituation.{FeasibleIn, NumberedSituation, ProblemOf, SoundSituation, active}
 use Rattle.cps_theory.specs.Objectives.{SameObjectives, latest_in}
 use Rattle.cps_theory.specs.laws.WholeObjective.{same_objectives}
 
@@ -77,9 +77,6 @@ sound_situation = record {
   frozen_in_order = λ f g i j l. absurd (false≢true l);
   none_listed = λ f g i j l. false≢true l;
 }
-
-both_frozen : (freeze landing_of 2000 (λ f. 1) situation).frozen ≡ 5 ∷ 7 ∷ []
-both_frozen = refl
 
 both_active : active situation ≡ 5 ∷ 7 ∷ []
 both_active = refl

@@ -1,5 +1,6 @@
--- What two problems share on their ranks below d: the rules of their order, and open seconds, separation and cost.
-use Rattle.std.specs.Prelude.{◌≡◌, ℕ, suc, ◌<◌, ◌≤◌, true}
+-- What two problems share on their ranks below d: the rules of their order, and open seconds, separation and cost; and which
+-- stages count where d is their first difference.
+use Rattle.std.specs.Prelude.{◌≡◌, ℕ, suc, ◌-◌, ◌<◌, ◌≤◌, Bool, true, ◌||◌, leb, ltb}
 use Rattle.cps_theory.specs.LegalPrefix.{OrderRules}
 
 -- two lists of rules agree below rank d
@@ -15,3 +16,7 @@ pub record SameLandings (d : ℕ) (Open Open' : ℕ → ℕ → Type 0) (after a
   pub same_open : (r t : ℕ) → r < d → Open r t → Open' r t
   pub same_after : (l t r : ℕ) → l < d → r < d → after l t r ≡ after' l t r
   pub same_cost : (r t : ℕ) → r < d → cost r t ≡ cost' r t
+
+-- a stage counts where it does not lie below d - k, or was not held: it is filled again
+abbrev pub counts : ℕ → ℕ → ℕ → ℕ → Bool
+counts d k m p = leb (d - k) p || ltb m p

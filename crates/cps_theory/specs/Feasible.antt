@@ -86,7 +86,3 @@ pub record Tight (p : RankedProblem) (t : ℕ → ℕ) : Type 0 where
 pub record IsBest (p : RankedProblem) (value : (ℕ → ℕ) → ℕ) (t : ℕ → ℕ) : Type 0 where
   pub feasible : Feasible p t
   pub least : (u : ℕ → ℕ) → Feasible p u → value t ≤ value u
-
--- the same problem with other limits of the shift: forward by k places, and back by `back r`
-abbrev pub with_shift : ℕ → (ℕ → ℕ) → RankedProblem → RankedProblem
-with_shift k back p = record p { rules = record p.rules { most = k; back = back } }

@@ -1,6 +1,5 @@
 -- Legal prefixes of landing orders, latest rank first: as a whole, step by step, and by places.
-use Rattle.std.specs.Prelude.{◌≡◌, ℕ, suc, ◌+◌, ◌≤◌, ◌⊎◌, List, [], ◌∷◌, length, Bool, true, ◌≢◌, ◌<◌}
-use Rattle.std.proofs.Common.{get_or}
+use Rattle.std.specs.Prelude.{◌≡◌, ℕ, suc, ◌+◌, ◌≤◌, ◌⊎◌, List, [], ◌∷◌, length, Bool, true}
 use Rattle.cps_theory.specs.RankLists.{In}
 
 -- what the ranks are asked: how many there are, how far a flight may go forward, and back, and what must stand before what
@@ -52,10 +51,3 @@ pub record MayCome (g : OrderRules) (p : ℕ) (Here : ℕ → Type 0) (r : ℕ) 
   pub not_late : suc p ≤ r + g.back r
   pub after : (a : ℕ) → 1 ≤ a → g.before a r ≡ true → Here a
   pub due : (x : ℕ) → 1 ≤ x → x + g.most ≡ suc p → (x ≡ r) ⊎ Here x
-
--- a front of a landing order, as it reads: by places, the earliest first
-pub record KeepsOrderByPlace (g : OrderRules) (order : List ℕ) : Type 0 where
-  pub ranked : (i : ℕ) → i < length order → (1 ≤ get_or order i 0) × (get_or order i 0 ≤ g.count)
-  pub differ : (i j : ℕ) → i < j → j < length order → get_or order i 0 ≢ get_or order j 0
-  pub near : (i : ℕ) → i < length order → (get_or order i 0 ≤ i + 1 + g.most) × (i + 1 ≤ get_or order i 0 + g.back (get_or order i 0))
-  pub in_order : (a j : ℕ) → j < length order → g.before a (get_or order j 0) ≡ true → (i : ℕ) × (i < j) × (get_or order i 0 ≡ a)

@@ -6,9 +6,7 @@ pub mod LandingTrail
 pub mod Labels
 pub mod LegalPrefix
 pub mod Network
-pub mod Windows
 pub mod WindowLists
-pub mod StageLabels
 pub mod UndominatedPairs
 pub mod Patterns
 pub mod ClosedSets
@@ -20,7 +18,6 @@ pub mod ProblemNetwork
 pub mod Freeze
 pub mod NumberedSituation
 pub mod Objectives
-pub mod FirstDifference
 pub mod CompletingPairs
 pub mod FirstBest
 pub mod laws

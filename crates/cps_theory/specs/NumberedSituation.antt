@@ -2,7 +2,7 @@
 use Rattle.std.specs.Prelude.{◌≡◌, ◌≢◌, ℕ, ◌+◌, ◌<◌, ◌≤◌, List, ◌++◌, Bool, true, map, IsPermutation}
 use Rattle.cps_theory.specs.RankLists.{Distinct, In, IsRank, upto}
 use Rattle.cps_theory.specs.Feasible.{RankedProblem}
-use Rattle.cps_theory.specs.Freeze.{FirstCome, KeepsShift, frozen_of, staying_of}
+use Rattle.cps_theory.specs.Freeze.{FirstCome, KeepsShift}
 
 -- of any two of the list, whichever lands first
 abbrev pub AllSeparated : (ℕ → ℕ → ℕ) → (ℕ → ℕ) → List ℕ → Type 0
@@ -34,10 +34,6 @@ pub record FeasibleIn (s : NumberedSituation) (t : ℕ → ℕ) : Type 0 where
   pub separated : AllSeparated s.apart t (active s)
   pub in_order : (f g : ℕ) → In f (active s) → In g (active s) → s.lists f g ≡ true → t f < t g
   pub shifted : (f : ℕ) → In f s.waiting → KeepsShift s.most s.back s.comes_before t s.waiting f
-
--- those that the plan lands before h are frozen there
-abbrev pub freeze : (ℕ → ℕ) → ℕ → (ℕ → ℕ) → NumberedSituation → NumberedSituation
-freeze t h back s = record s { back = back; horizon = h; frozen = s.frozen ++ frozen_of t h s.waiting; waiting = staying_of t h s.waiting; frozen_at = t }
 
 -- what is asked of the situation alone
 pub record SoundSituation (s : NumberedSituation) : Type 0 where

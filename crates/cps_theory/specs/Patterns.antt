@@ -3,7 +3,6 @@ use Rattle.std.specs.Prelude.{◌<◌, count_by, ◌≡◌, ℕ, zero, suc, ◌+
 use Rattle.std.proofs.Common.{leb, eqb, get_or}
 use Rattle.cps_theory.specs.LandingTrail.{last_rank}
 use Rattle.cps_theory.specs.LegalPrefix.{MayCome, OrderRules}
-use Rattle.cps_theory.specs.Windows.{WindowNode, shown, window_newest}
 
 -- a stage, the digits of the ranks from its own less k, plus 1, to its own plus k, and the latest rank
 abbrev pub PatternNode : Type 0
@@ -42,10 +41,6 @@ pattern_push g w r = (suc w.0, tests_from (λ y. eqb y (r + g.most) || get_or w.
 -- the latest rank
 abbrev pub pattern_newest : PatternNode → ℕ
 pattern_newest w = w.2
-
--- the pattern that a window tells
-abbrev pub pattern_of_window : OrderRules → WindowNode → PatternNode
-pattern_of_window g w = (w.0, tests_from (pattern_digit g.most (shown g.most w.0 w.1)) (suc w.0) (2 * g.most), window_newest g w)
 
 -- the shape of a node of n flights: 2k digits of which k are set, ranks below 1 placed and none above n, and the latest rank near its place and placed
 pub record IsShaped (k n : ℕ) (w : PatternNode) : Type 0 where

@@ -1,6 +1,5 @@
 -- Lists of ranks and of numbers of flights: what is in them, whether they differ, and reading them by rank.
-use Rattle.std.specs.List.{list_any}
-use Rattle.std.specs.Prelude.{Bool, true, get_or, nat_eq, ◌&&◌, ℕ, suc, ◌+◌, ◌≤◌, List, [], ◌∷◌, length, count_by, nat_lt, ◌≡◌, zero, ◌⊎◌}
+use Rattle.std.specs.Prelude.{Bool, true, get_or, ℕ, suc, ◌≤◌, List, [], ◌∷◌, count_by, nat_lt, ◌≡◌, zero, ◌⊎◌}
 
 -- the list has x
 abbrev pub In : ℕ → List ℕ → Type 0
@@ -28,11 +27,6 @@ abbrev pub Distinct : List ℕ → Type 0
 Distinct [] = Unit {0}
 Distinct (r ∷ rs) = (In r rs → ⊥) × Distinct rs
 
--- each of these flights, the latest first, keeps the shift rule with these ranks: forward by k places at most, back by `back`
-abbrev pub Shifts : ℕ → (ℕ → ℕ) → (ℕ → ℕ) → List ℕ → Type 0
-Shifts k back rank [] = Unit {0}
-Shifts k back rank (r ∷ rs) = (rank r ≤ suc (length rs) + k) × (suc (length rs) ≤ rank r + back r) × Shifts k back rank rs
-
 -- n numbers from i on
 abbrev pub numbers_from : ℕ → ℕ → List ℕ
 numbers_from i zero = []
@@ -47,7 +41,3 @@ of_rank d xs (suc i) = get_or xs i d
 abbrev pub Ordered : (ℕ → ℕ → Bool) → List ℕ → Type 0
 Ordered before [] = Unit {0}
 Ordered before (x ∷ xs) = ((y : ℕ) → In y xs → before x y ≡ true) × Ordered before xs
-
--- the pairs have this leader with this follower
-abbrev pub has_pair : List (ℕ × ℕ) → ℕ → ℕ → Bool
-has_pair pairs q r = list_any (λ x. nat_eq x.0 q && nat_eq x.1 r) pairs

@@ -1,5 +1,5 @@
--- Lists of different windows, each of n numbers below m.
-use Rattle.std.specs.Prelude.{◌≡◌, ℕ, ◌<◌, ◌⊎◌, List, [], ◌∷◌, length}
+-- Lists of different windows, each of n numbers below m, as offsets raised by k are.
+use Rattle.std.specs.Prelude.{◌≡◌, ℕ, ◌<◌, ◌⊎◌, List, [], ◌∷◌, length, ℤ, pos, ◌+ℤ◌, nat_abs}
 use Rattle.std.specs.List.{AllByRecursion}
 
 -- the list of lists has x
@@ -15,3 +15,7 @@ DistinctLists (x ∷ xs) = (InLists x xs → ⊥) × DistinctLists xs
 -- n numbers below m
 abbrev pub Sized : ℕ → ℕ → List ℕ → Type 0
 Sized m n xs = (length xs ≡ n) × AllByRecursion (λ x. x < m) xs
+
+-- an offset plus k, as a number
+abbrev pub raised : ℕ → ℤ → ℕ
+raised k o = nat_abs (o +ℤ pos k)

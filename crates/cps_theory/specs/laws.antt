@@ -12,7 +12,6 @@ pub mod FeasibleOrder
 pub mod FirstBest
 pub mod FirstBestExists
 pub mod FirstBestObjectives
-pub mod FirstDifference
 pub mod FirstFound
 pub mod FrozenFront
 pub mod FrozenSeparation
@@ -21,12 +20,10 @@ pub mod LabelDominance
 pub mod LandingOrder
 pub mod LastInRange
 pub mod LeastChoices
-pub mod LeastLabels
 pub mod LeastObjective
 pub mod LeastOrder
 pub mod LegalPrefix
 pub mod Members
-pub mod MoreShift
 pub mod NetworkLabels
 pub mod NodeOrder
 pub mod NumberOfWindows
@@ -34,9 +31,7 @@ pub mod NumberedLists
 pub mod OptionSteps
 pub mod OrderBySeconds
 pub mod OrderLoops
-pub mod OrderPlaces
 pub mod PatternNetwork
-pub mod PatternOfWindow
 pub mod PatternShape
 pub mod PatternTests
 pub mod ProblemOfSituation
@@ -44,14 +39,8 @@ pub mod RankCounts
 pub mod Ranges
 pub mod RanksBelow
 pub mod RanksOfList
-pub mod Retiming
-pub mod Separation
 pub mod ShiftAfterFreeze
-pub mod SituationAfterFreeze
 pub mod Staircases
 pub mod TightMaps
 pub mod UndominatedPairs
 pub mod WholeObjective
-pub mod WindowNetwork
-pub mod WindowOffsets
-pub mod WindowTests

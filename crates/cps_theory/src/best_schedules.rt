@@ -6,30 +6,11 @@ ghost use Rattle.cps_theory.specs.Separation.{Landing};
 ghost use Rattle.cps_theory.specs.LandingTrail.{pair_of, ranks};
 ghost use Rattle.cps_theory.specs.Labels.{InPairs, NeverCheaper, Pair};
 ghost use Rattle.cps_theory.specs.LegalPrefix.{Legal};
-ghost use Rattle.cps_theory.specs.Windows.{WindowNode};
 ghost use Rattle.cps_theory.specs.Patterns.{PatternNode, PatternPermits, pattern_newest, pattern_push};
 ghost use Rattle.cps_theory.specs.Feasible.{Feasible, IsBest, RankedProblem, SoundProblem, Tight, earliest, next_from, pair_at, second_in};
-ghost use Rattle.cps_theory.specs.ProblemNetwork.{FindsFirstOpen, IsObjective, KeptIn, LandedIn};
+ghost use Rattle.cps_theory.specs.ProblemNetwork.{FindsFirstOpen, IsObjective, LandedIn};
 ghost use Rattle.cps_theory.specs.CompletingPairs.{KeptCompleting, NoEarlierNoDearer};
 ghost use Rattle.cps_theory.specs.FirstBest.{BuiltByNodes, CompletesNode, FirstBest, ListsCompleting, ReachedIn};
-ghost use Rattle.cps_theory.specs.laws.RankCounts.{count};
-
-/// The least value kept at the last stage bounds every feasible schedule, and each pair kept there is that of
-/// a feasible schedule.
-pub fn last_stage_bounds_all()
-    ensures least { (p : RankedProblem) (cost : ℕ → ℕ → ℕ) → SoundProblem p → (value : Pair → ℕ)
-        → IsObjective value →
-        (lists : WindowNode → List Pair) → ((w : WindowNode) → w.0 ≡ p.rules.count
-        → KeptIn p cost w (lists w)) →
-        (v : ℕ) → ((w : WindowNode) (q : Pair) → w.0 ≡ p.rules.count → InPairs q (lists w)
-        → v ≤ value q) →
-        (t : ℕ → ℕ) → Feasible p t → v ≤ value (pair_at cost p.rules.count t) }
-    ensures attained { (p : RankedProblem) (cost : ℕ → ℕ → ℕ) → SoundProblem p →
-        (lists : WindowNode → List Pair) → ((w : WindowNode) → w.0 ≡ p.rules.count
-        → KeptIn p cost w (lists w)) →
-        (w : WindowNode) (q : Pair) → w.0 ≡ p.rules.count → InPairs q (lists w) →
-        (t : ℕ → ℕ) × Feasible p t × (pair_at cost p.rules.count t ≡ q) }
-{}
 
 /// The seconds of a feasible schedule land a legal order of all flights, and such landings are those of a
 /// feasible schedule.

@@ -9,23 +9,17 @@ ghost use Rattle.cps_theory.specs.Separation.{Landing};
 ghost use Rattle.cps_theory.specs.LandingTrail.{pair_of, ranks};
 ghost use Rattle.cps_theory.specs.Labels.{InPairs, NeverCheaper, NoWorse, Pair, no_worse};
 ghost use Rattle.cps_theory.specs.LegalPrefix.{Legal, OrderRules};
-ghost use Rattle.cps_theory.specs.Network.{Attained, Kept, Network};
-ghost use Rattle.cps_theory.specs.Windows.{WindowNode, window_node};
-ghost use Rattle.cps_theory.specs.Patterns.{IsShaped, PatternNode, PatternPermits, pattern_newest, pattern_node, pattern_of_window, pattern_push};
+ghost use Rattle.cps_theory.specs.Network.{Network};
+ghost use Rattle.cps_theory.specs.Patterns.{IsShaped, PatternNode, PatternPermits, pattern_newest, pattern_node, pattern_push};
 ghost use Rattle.cps_theory.specs.FirstFound.{element_from};
 ghost use Rattle.cps_theory.specs.CertificateClosure.{InNodeOrder, covers, first_missed, is_final, is_final_below, missed_from, node_cmp};
 ghost use Rattle.cps_theory.specs.Feasible.{Feasible, RankedProblem, SoundProblem, next_from, pair_at};
-ghost use Rattle.cps_theory.specs.ProblemNetwork.{FindsFirstOpen, IsClosedCertificate, IsObjective, KeptIn, LandedIn};
-ghost use Rattle.cps_theory.specs.laws.RankCounts.{count};
+ghost use Rattle.cps_theory.specs.ProblemNetwork.{FindsFirstOpen, IsClosedCertificate, IsObjective, LandedIn};
 
-/// The patterns of placed ranks are the nodes of a network too, with the prefixes of the windows; a window
-/// tells its pattern.
+/// The patterns of placed ranks are the nodes of a network of legal prefixes.
 pub fn patterns_are_nodes()
-    ensures network { (g : OrderRules) → ((a r : ℕ) → g.before a r ≡ true → 1 ≤ a) →
+    ensures { (g : OrderRules) → ((a r : ℕ) → g.before a r ≡ true → 1 ≤ a) →
         Network PatternNode (Legal g) (pattern_node g) (PatternPermits g) (pattern_push g) pattern_newest }
-    ensures window { (g : OrderRules) → ((r : ℕ) → g.back r ≤ g.most)
-        → ((a r : ℕ) → g.before a r ≡ true → 1 ≤ a) → (rs : List ℕ) → Legal g rs →
-        pattern_of_window g (window_node g rs) ≡ pattern_node g rs }
 {}
 
 /// The pattern of a legal prefix has the shape that a state of a certificate is to have: k of its 2k digits
@@ -89,24 +83,6 @@ pub fn accepted_certificate_bounds<S>()
         1 ≤ p.rules.count → element_from (is_final node_of pairs_of p.rules.count) 1 states
         ≡ None →
         (t : ℕ → ℕ) → Feasible p t → ⊥ }
-{}
-
-/// What is kept of every window, listed by pattern, is kept of every pattern, and pairs kept of every pattern
-/// are closed under successor pairs.
-pub fn kept_pairs_make_a_certificate()
-    ensures patterns { (p : RankedProblem) (cost : ℕ → ℕ → ℕ) → SoundProblem p →
-        (lists : WindowNode → List Pair) → ((w : WindowNode) → KeptIn p cost w (lists w)) →
-        (d : PatternNode) →
-        Kept (Attained (λ r u. p.is_open r u ≡ true) (next_from p) cost (Legal p.rules)
-        (pattern_node p.rules) d)
-        (λ q. (w : WindowNode) × (pattern_of_window p.rules w ≡ d) × InPairs q (lists w)) }
-    ensures closed { (p : RankedProblem) (cost : ℕ → ℕ → ℕ) → SoundProblem p → NeverCheaper cost →
-        (first : ℕ → ℕ → Option ℕ) → FindsFirstOpen p first →
-        (lists : PatternNode → List Pair) →
-        ((d : PatternNode) → Kept (Attained (λ r u. p.is_open r u ≡ true) (next_from p) cost
-        (Legal p.rules) (pattern_node p.rules) d) (λ q. InPairs q (lists d))) →
-        InPairs (0, 0) (lists (pattern_node p.rules [])) →
-        IsClosedCertificate p first cost lists }
 {}
 
 /// Where the states stand in the order of their nodes, a binary search finds the state of a node, and what it

@@ -3,7 +3,7 @@
 //!
 //! A crate above cites a law in one of two ways:
 //! - in its own definitions and proofs, by the lemma's name below `Rattle.cps_theory.specs.laws`, as
-//!   `use Rattle.cps_theory.specs.laws.Separation.{apart_pairs}`; nothing of `proofs/` is to be named;
+//!   `use Rattle.cps_theory.specs.laws.LeastObjective.{next_later}`; nothing of `proofs/` is to be named;
 //! - in code, by a call of the public function without a body that pins it, whose clauses its proof then has.
 //!
 //! The words: a *rank* is a flight's place in the first-come-first-served order, from 1; a *landing* is a rank with its
@@ -14,10 +14,9 @@
 pub mod best_schedules;
 pub mod certificates;
 pub mod freezing;
-pub mod kept_stages;
 pub mod labels;
+pub mod legal_prefixes;
 pub mod order_loops;
 pub mod retiming;
 pub mod separation;
 pub mod situations;
-pub mod windows;

@@ -4,7 +4,6 @@ ghost use Rattle.std.specs.Prelude.{◌≡◌, ℕ, ◌+◌, ◌-◌, ◌<◌, �
 ghost use Rattle.cps_theory.specs.RankLists.{Distinct};
 ghost use Rattle.cps_theory.specs.Separation.{Landing};
 ghost use Rattle.cps_theory.specs.LandingTrail.{latest_landing};
-ghost use Rattle.cps_theory.specs.LegalPrefix.{EachFits, KeepsOrderByPlace, OrderRules};
 ghost use Rattle.cps_theory.specs.Feasible.{at_seconds, earliest};
 
 /// What a loop over a landing order needs: its front so far, reversed, is a landing trail, and one more
@@ -29,11 +28,4 @@ pub fn one_more_of_an_order()
         (reverse (take (i + 1) order))
         ≡ (get_or order i 0, u) ∷ at_seconds (λ x. get_or into (x - 1) 0)
         (reverse (take i order)) }
-{}
-
-/// A front of an order that keeps the rules place by place is one whose flights each fit behind those before
-/// them.
-pub fn order_by_places()
-    ensures { (g : OrderRules) (order : List ℕ) → KeepsOrderByPlace g order →
-        (i : ℕ) → i ≤ length order → EachFits g (reverse (take i order)) }
 {}

@@ -1,8 +1,8 @@
 //! The problem of a situation.
 
-ghost use Rattle.std.specs.Prelude.{◌≡◌, ◌↔◌, ℕ, ◌≤◌};
+ghost use Rattle.std.specs.Prelude.{◌≡◌, ◌↔◌, ℕ};
 ghost use Rattle.cps_theory.specs.RankLists.{In};
-ghost use Rattle.cps_theory.specs.Feasible.{Feasible, IsBest, RankedProblem, with_shift};
+ghost use Rattle.cps_theory.specs.Feasible.{Feasible, RankedProblem};
 ghost use Rattle.cps_theory.specs.NumberedSituation.{FeasibleIn, NumberedSituation, ProblemOf, SoundSituation};
 ghost use Rattle.cps_theory.specs.Objectives.{SameObjectives};
 
@@ -17,15 +17,4 @@ pub fn problem_of_a_situation()
     ensures objectives { (s : NumberedSituation) (p : RankedProblem) (at : ℕ → ℕ)
         → SoundSituation s → ProblemOf s p at →
         (t : ℕ → ℕ) → FeasibleIn s t → SameObjectives s p at t }
-{}
-
-/// With a greater shift limit each feasible schedule stays feasible, and the least objective is no greater.
-pub fn more_shift_allows_more()
-    ensures feasible { (p : RankedProblem) (k : ℕ) (back : ℕ → ℕ) → p.rules.most ≤ k
-        → ((r : ℕ) → p.rules.back r ≤ back r) →
-        (t : ℕ → ℕ) → Feasible p t → Feasible (with_shift k back p) t }
-    ensures no_worse { (p : RankedProblem) (k : ℕ) (back : ℕ → ℕ) → p.rules.most ≤ k
-        → ((r : ℕ) → p.rules.back r ≤ back r) →
-        (value : (ℕ → ℕ) → ℕ) (t u : ℕ → ℕ) → IsBest p value t
-        → IsBest (with_shift k back p) value u → value u ≤ value t }
 {}

@@ -118,9 +118,6 @@ module _ (p : Problem) (wf : IsWellFormed p) (v : ℕ) (held : Option HeldProble
   -- ---- a choice by the nodes of the next stage is one by completing pairs, of which those of use suffice
 
   module _ (xs : List Landing) (legal : IsLegal p (ranks xs)) (landed : LandedIn (ranked p) xs) (done : ℕ) (long : length xs ≡ done) (short : done < length p.flights) (before : EarlyNode) (of : IsPrefixOf (ranks xs) before) (latest : latest_landing xs ≡ (before.last, before.earliest)) (cost : ℕ) (cost_is : cost_of (cost_at p) xs ≡ cost) where
-    next : StageAhead
-    next = stage_of stages (done + 1)
-
     one_more : (r : ℕ) → length (r ∷ ranks xs) ≡ done + 1
     one_more r = (let e = length_ranks xs in omega (arith, e, long))
 

@@ -1,9 +1,8 @@
 -- The windows of a stage, put together by node.
 use Rattle.std.proofs.Common.{◌≡◌, ℕ, ◌+◌, ◌-◌, ◌<◌, ◌≤◌, inl, inr, List, [], ◌∷◌, ◌++◌, length, refl, sym, ap, subst, ◌∙◌, arith, length-append, Option}
-use Rattle.std.specs.Prelude.{ℤ, pos, ◌↔◌}
+use Rattle.std.specs.Prelude.{ℤ, pos}
 use Rattle.std.proofs.lemmas.Bool.{cases_eq}
 use Rattle.std.proofs.lemmas.List.{get_or_default, get_or_append_left, get_or_push}
-use Rattle.precedence.specs.Pairs.{HasBit}
 use Rattle.landing_rules.specs.Problem.{Problem}
 use Rattle.cps_theory.specs.Separation.{Landing}
 use Rattle.cps_theory.specs.LandingTrail.{cost_of, latest_landing, pair_of, ranks}

@@ -8,7 +8,7 @@ ghost use Rattle.first_best.specs.Stages.{pairs_of, stage_of, AreCompleted, HasE
 ghost use Rattle.first_best.specs.Gathered.{IsGathered};
 
 use crate::budget::budget_of;
-use crate::complete::complete;
+use crate::complete::{Wanted, complete};
 use crate::gather::gather;
 use crate::laws::window_laws;
 use crate::stage::StageAhead;
@@ -20,27 +20,29 @@ use std::marker::Model;
 // A stage with the pairs that complete its nodes, from the next stage.
 fn stage_before(
     alloc: Global,
-    problem: &Problem,
+    wanted: &Wanted<'_>,
     kept: &AnyKept,
-    value: u64,
-    budget: Option<u64>,
-    stage: u8,
     windows: &WindowNodes,
     next: &StageAhead,
 ) -> Result<StageAhead, AllocError>
-    requires held { problem_held kept.now ≡ Some problem.now }
-    requires stage { (1 ≤ stage) × (stage ≤ length problem.now.flights) }
-    requires windows { AreNodesOf (held_of kept.now) stage windows.now }
-    requires next { IsBehind problem.now value budget stage next.now }
+    requires held { problem_held kept.now ≡ Some wanted.now.problem.now }
+    requires stage { (1 ≤ wanted.now.stage)
+        × (wanted.now.stage ≤ length wanted.now.problem.now.flights) }
+    requires windows { AreNodesOf (held_of kept.now) wanted.now.stage windows.now }
+    requires next { IsBehind wanted.now.problem.now wanted.now.value wanted.now.budget
+        wanted.now.stage next.now }
     ensures completed { IfOk result (λ s.
-        AreCompleted problem.now value budget stage s.nodes s.lists) }
-    ensures gathered { IfOk result (λ s. IsGathered (held_of kept.now) stage s.nodes s.places) }
+        AreCompleted wanted.now.problem.now wanted.now.value wanted.now.budget wanted.now.stage
+        s.nodes s.lists) }
+    ensures gathered { IfOk result (λ s.
+        IsGathered (held_of kept.now) wanted.now.stage s.nodes s.places) }
 {
-    window_laws(problem);
+    window_laws(wanted.problem);
+    // The stages that are held are those of the problem.
     let _held = kept.stages();
-    let found = gather(alloc, problem, kept, stage, windows)?;
+    let found = gather(alloc, wanted.problem, kept, wanted.stage, windows)?;
     let nodes = found.as_slice();
-    let lists = complete(alloc, problem, value, budget, stage, nodes, next)?;
+    let lists = complete(alloc, wanted, nodes, next)?;
     let windows = windows.share()?;
     Ok(StageAhead {
         nodes: found,
@@ -83,6 +85,7 @@ fn stages_ahead(
     ensures { IfOk result (IsAheadBy problem.now value budget (held_of kept.now)) }
 {
     let last = problem.len();
+    // The stages that are held are those of the problem.
     let _held = kept.stages();
     let mut windows = WindowNodes::of_none(alloc)?;
     let mut stages = Vec::with_capacity(alloc, usize::from(last) + 1)?;
@@ -91,7 +94,13 @@ fn stages_ahead(
         let number = last - done;
         let put = kept.nodes(alloc, number, &windows)?;
         let next = &stages[usize::from(done)];
-        let stage = stage_before(alloc, problem, kept, value, budget, number, &put, next)?;
+        let wanted = Wanted {
+            problem,
+            value,
+            budget,
+            stage: number,
+        };
+        let stage = stage_before(alloc, &wanted, kept, &put, next)?;
         stages.push(stage)?;
         windows = put;
     }
@@ -117,6 +126,7 @@ impl Ahead {
         ensures within { IfOk result (IsAheadWithin problem.now value (held_of kept.now)) }
     {
         window_laws(problem);
+        // The stages that are held are those of the problem.
         let _held = kept.stages();
         stages_ahead(alloc, problem, kept, value, None)
     }
@@ -139,6 +149,7 @@ impl Ahead {
         ensures useful { IfOk result (ListsAllOfUse problem.now value (held_of kept.now)) }
     {
         window_laws(problem);
+        // The stages that are held are those of the problem.
         let _held = kept.stages();
         let budget = budget_of(problem, value);
         stages_ahead(alloc, problem, kept, value, Some(budget))

@@ -25,22 +25,31 @@ use landing_rules::MOST_WAITING;
 use replan::AnyKept;
 use std::alloc::{AllocError, Global};
 
-// The second at which the last flight of a node lands behind a prefix, if the order can then be ended within the budget.
-fn affordable(
-    problem: &Problem,
+// A prefix whose order is to be ended within a budget: its node, and what it costs.
+#[derive(Clone, Copy)]
+struct Prefix<'a> {
+    problem: &'a Problem,
     budget: u64,
-    before: EarlyNode,
+    node: EarlyNode,
     cost: u64,
-    after: EarlyNode,
-    pairs: &PairList,
-) -> Option<u32>
-    requires before { IsPlacedIn problem.now before }
-    requires after { HasRank problem.now after }
+}
+
+// The second at which the last flight of a node lands behind a prefix, if the order can then be ended within the budget.
+fn affordable(prefix: &Prefix<'_>, after: EarlyNode, pairs: &PairList) -> Option<u32>
+    requires before { IsPlacedIn prefix.now.problem.now prefix.now.node }
+    requires after { HasRank prefix.now.problem.now after }
     requires rising { Rises pairs.now }
-    requires cost { cost ≤ most_cost * 60 }
-    ensures found { FindsAffordable problem.now budget before cost after pairs.now result }
+    requires cost { prefix.now.cost ≤ most_cost * 60 }
+    ensures found { FindsAffordable prefix.now.problem.now prefix.now.budget prefix.now.node
+        prefix.now.cost after pairs.now result }
     ensures in_days { IfSome result (λ t. t ≤ last_second) }
 {
+    let Prefix {
+        problem,
+        budget,
+        node: before,
+        cost,
+    } = *prefix;
     let second = problem.landing_after(before.last, before.earliest, after.last)?;
     let rest = pairs.cost_from(second)?;
     if cost + u64::from(problem.cost(after.last, second)) + u64::from(rest) <= budget {
@@ -67,75 +76,57 @@ fn lesser(least: (u8, u32), rank: u8, found: Option<u32>) -> (u8, u32)
 }
 
 // As `affordable`, where the prefix leads to the node; else none.
-fn found_by(
-    problem: &Problem,
-    budget: u64,
-    before: EarlyNode,
-    cost: u64,
-    after: EarlyNode,
-    pairs: &PairList,
-) -> Option<u32>
-    requires before { IsPlacedIn problem.now before }
-    requires after { HasRank problem.now after }
+fn found_by(prefix: &Prefix<'_>, after: EarlyNode, pairs: &PairList) -> Option<u32>
+    requires before { IsPlacedIn prefix.now.problem.now prefix.now.node }
+    requires after { HasRank prefix.now.problem.now after }
     requires rising { Rises pairs.now }
-    requires cost { cost ≤ most_cost * 60 }
-    ensures found { FindsWay problem.now budget before cost after pairs.now result }
+    requires cost { prefix.now.cost ≤ most_cost * 60 }
+    ensures found { FindsWay prefix.now.problem.now prefix.now.budget prefix.now.node
+        prefix.now.cost after pairs.now result }
     ensures in_days { IfSome result (λ t. t ≤ last_second) }
 {
-    let _few = problem.len();
-    if leads_to(before, after) {
-        affordable(problem, budget, before, cost, after, pairs)
+    // At most 60 flights wait, so that a rank is one of 60.
+    let _few = prefix.problem.len();
+    if leads_to(prefix.node, after) {
+        affordable(prefix, after, pairs)
     } else {
         None
     }
 }
 
 // The lesser of the choice `least` and that by way of the node at place j, where there is one.
-fn with_node(
-    problem: &Problem,
-    budget: u64,
-    before: EarlyNode,
-    cost: u64,
-    stage: &StageAhead,
-    j: usize,
-    least: (u8, u32),
-) -> (u8, u32)
-    requires before { IsPlacedIn problem.now before }
+fn with_node(prefix: &Prefix<'_>, stage: &StageAhead, j: usize, least: (u8, u32)) -> (u8, u32)
+    requires before { IsPlacedIn prefix.now.problem.now prefix.now.node }
     requires node { j < length stage.now.nodes }
     requires list { j < length stage.now.lists }
-    requires rank { HasRank problem.now (node_at stage.now.nodes j) }
+    requires rank { HasRank prefix.now.problem.now (node_at stage.now.nodes j) }
     requires rising { Rises (list_at stage.now.lists j) }
-    requires cost { cost ≤ most_cost * 60 }
-    ensures lesser { IsLesserBy problem.now budget before cost
-        (node_at stage.now.nodes j) (list_at stage.now.lists j) least result }
+    requires cost { prefix.now.cost ≤ most_cost * 60 }
+    ensures lesser { IsLesserBy prefix.now.problem.now prefix.now.budget prefix.now.node
+        prefix.now.cost (node_at stage.now.nodes j) (list_at stage.now.lists j) least result }
     ensures in_days { least.1 ≤ last_second → result.1 ≤ last_second }
 {
     let after = stage.node(j);
-    let found = found_by(problem, budget, before, cost, after, stage.list(j));
+    let found = found_by(prefix, after, stage.list(j));
     lesser(least, after.last, found)
 }
 
 // The least rank that can come next, and its second. Where none can the rank is 61, which is no flight's.
-fn least_choice(
-    problem: &Problem,
-    budget: u64,
-    before: EarlyNode,
-    cost: u64,
-    stage: &StageAhead,
-) -> (u8, u32)
-    requires before { IsPlacedIn problem.now before }
+fn least_choice(prefix: &Prefix<'_>, stage: &StageAhead) -> (u8, u32)
+    requires before { IsPlacedIn prefix.now.problem.now prefix.now.node }
     requires one_each { length stage.now.lists ≡ length stage.now.nodes }
     requires ranks { (j : ℕ) → j < length stage.now.nodes
-        → HasRank problem.now (node_at stage.now.nodes j) }
+        → HasRank prefix.now.problem.now (node_at stage.now.nodes j) }
     requires rising { (j : ℕ) → Rises (list_at stage.now.lists j) }
-    requires cost { cost ≤ most_cost * 60 }
-    ensures least { IsLeastChoice problem.now budget before cost
-        stage.now.nodes stage.now.lists result }
+    requires cost { prefix.now.cost ≤ most_cost * 60 }
+    ensures least { IsLeastChoice prefix.now.problem.now prefix.now.budget prefix.now.node
+        prefix.now.cost stage.now.nodes stage.now.lists result }
     ensures in_days { result.1 ≤ last_second }
 {
-    let _few = problem.len();
+    // At most 60 flights wait, so that 61 is no rank.
+    let _few = prefix.problem.len();
     (0..stage.len()).fold((MOST_WAITING + 1, 0), |least, j| {
-        with_node(problem, budget, before, cost, stage, j, least)
+        with_node(prefix, stage, j, least)
     })
 }
 
@@ -182,7 +173,13 @@ pub fn first_schedule(
     };
     let mut cost = 0u64;
     for done in 0..kept.stages() {
-        let (rank, second) = least_choice(problem, budget, before, cost, ahead.stage(done + 1));
+        let prefix = Prefix {
+            problem,
+            budget,
+            node: before,
+            cost,
+        };
+        let (rank, second) = least_choice(&prefix, ahead.stage(done + 1));
         schedule.set(rank, second);
         cost += u64::from(problem.cost(rank, second));
         before = with_rank(before, rank, second);

@@ -18,6 +18,15 @@ use cps_problem::{Objective, Problem};
 use landing_windows::LAST_SECOND;
 use std::alloc::{AllocError, Global};
 
+// Of a problem the pairs that are wanted of a stage: those at a value for which the budget has room, all where there is none.
+#[derive(Clone, Copy)]
+pub(crate) struct Wanted<'a> {
+    pub(crate) problem: &'a Problem,
+    pub(crate) value: u64,
+    pub(crate) budget: Option<u64>,
+    pub(crate) stage: u8,
+}
+
 // Whether the value allows a landing at a second.
 fn is_low(problem: &Problem, value: u64, second: u32) -> bool
     ensures { result ≡ is_low problem.now value second }
@@ -50,30 +59,32 @@ fn opens_in_days(problem: &Problem, rank: u8)
     requires { (1 ≤ rank) × (rank ≤ length problem.now.flights) }
     ensures { (t : ℕ) → (ranked problem.now).is_open rank t ≡ true → t ≤ last_second }
 {
+    // The first open second from the third day on is none, so no second there is open.
     let _none = problem.first_open(rank, LAST_SECOND + 1);
 }
 
 // The least cost of a pair of a node at a second, where it has one.
 fn cost_of(
-    problem: &Problem,
-    value: u64,
-    stage: u8,
+    wanted: &Wanted<'_>,
     node: EarlyNode,
     next: &StageAhead,
     ways: &[usize],
     second: u32,
 ) -> Option<u32>
-    requires stage { (1 ≤ stage) × (stage ≤ length problem.now.flights) }
-    requires node { HasRank problem.now node }
-    requires next { IsNextIn problem.now stage next.now }
+    requires stage { (1 ≤ wanted.now.stage)
+        × (wanted.now.stage ≤ length wanted.now.problem.now.flights) }
+    requires node { HasRank wanted.now.problem.now node }
+    requires next { IsNextIn wanted.now.problem.now wanted.now.stage next.now }
     requires ways { AreWaysOf node next.now.nodes ways.now }
     requires second { (node.earliest ≤ second) × (second ≤ last_second) }
     ensures least { IsLeastOf (λ c.
-        IsPairOf problem.now value stage node next.now (second, c)) result }
-    ensures small { IfSome result (λ c. c ≤ most_cost * (length problem.now.flights - stage)) }
+        IsPairOf wanted.now.problem.now wanted.now.value wanted.now.stage node
+        next.now (second, c)) result }
+    ensures small { IfSome result (λ c.
+        c ≤ most_cost * (length wanted.now.problem.now.flights - wanted.now.stage)) }
 {
-    if is_allowed(problem, value, node.last, second) {
-        least_cost(problem, stage, node, next, ways, second)
+    if is_allowed(wanted.problem, wanted.value, node.last, second) {
+        least_cost(wanted.problem, wanted.stage, node, next, ways, second)
     } else {
         None
     }
@@ -122,30 +133,30 @@ fn latest(problem: &Problem, stage: u8, node: EarlyNode, next: &StageAhead, ways
 // The pairs of a node for which the budget has room, the latest first.
 fn latest_pairs(
     alloc: Global,
-    problem: &Problem,
-    value: u64,
-    budget: Option<u64>,
-    stage: u8,
+    wanted: &Wanted<'_>,
     node: EarlyNode,
     next: &StageAhead,
 ) -> Result<Vec<(u32, u32)>, AllocError>
-    requires stage { (1 ≤ stage) × (stage ≤ length problem.now.flights) }
-    requires node { HasRank problem.now node }
-    requires next { IsNextIn problem.now stage next.now }
+    requires stage { (1 ≤ wanted.now.stage)
+        × (wanted.now.stage ≤ length wanted.now.problem.now.flights) }
+    requires node { HasRank wanted.now.problem.now node }
+    requires next { IsNextIn wanted.now.problem.now wanted.now.stage next.now }
     ensures { IfOk result (λ pairs.
-        AreFalling problem.now value budget stage node next.now node.earliest pairs.items) }
+        AreFalling wanted.now.problem.now wanted.now.value wanted.now.budget wanted.now.stage
+        node next.now node.earliest pairs.items) }
 {
-    let _few = problem.len();
+    // At most 60 flights wait, so that the costs fit.
+    let _few = wanted.problem.len();
     let ways = ways_of(alloc, node, next)?;
     let ways = ways.as_slice();
-    let end = latest(problem, stage, node, next, ways) + 1;
-    let mut least = limit_of(budget, node.cheapest);
+    let end = latest(wanted.problem, wanted.stage, node, next, ways) + 1;
+    let mut least = limit_of(wanted.budget, node.cheapest);
     let mut pairs = Vec::new(alloc);
     for second in (node.earliest..end).rev() {
         if least == 0 {
             return Ok(pairs);
         }
-        if let Some(cost) = cost_of(problem, value, stage, node, next, ways, second) {
+        if let Some(cost) = cost_of(wanted, node, next, ways, second) {
             if u64::from(cost) < least {
                 pairs.push((second, cost))?;
                 least = u64::from(cost);
@@ -158,20 +169,19 @@ fn latest_pairs(
 // The pairs of a node for which the budget has room, ascending.
 fn pairs_of(
     alloc: Global,
-    problem: &Problem,
-    value: u64,
-    budget: Option<u64>,
-    stage: u8,
+    wanted: &Wanted<'_>,
     node: EarlyNode,
     next: &StageAhead,
 ) -> Result<PairList, AllocError>
-    requires stage { (1 ≤ stage) × (stage ≤ length problem.now.flights) }
-    requires node { HasRank problem.now node }
-    requires next { IsNextIn problem.now stage next.now }
+    requires stage { (1 ≤ wanted.now.stage)
+        × (wanted.now.stage ≤ length wanted.now.problem.now.flights) }
+    requires node { HasRank wanted.now.problem.now node }
+    requires next { IsNextIn wanted.now.problem.now wanted.now.stage next.now }
     ensures { IfOk result (λ pairs.
-        ArePairsOf problem.now value budget stage node next.now pairs) }
+        ArePairsOf wanted.now.problem.now wanted.now.value wanted.now.budget wanted.now.stage
+        node next.now pairs) }
 {
-    let mut pairs = latest_pairs(alloc, problem, value, budget, stage, node, next)?;
+    let mut pairs = latest_pairs(alloc, wanted, node, next)?;
     pairs.reverse();
     Ok(PairList::of(pairs))
 }
@@ -180,22 +190,22 @@ fn pairs_of(
 /// without a node. With no budget it is all pairs.
 pub(crate) fn complete(
     alloc: Global,
-    problem: &Problem,
-    value: u64,
-    budget: Option<u64>,
-    stage: u8,
+    wanted: &Wanted<'_>,
     nodes: &[EarlyNode],
     next: &StageAhead,
 ) -> Result<Vec<PairList>, AllocError>
-    requires stage { (1 ≤ stage) × (stage ≤ length problem.now.flights) }
-    requires nodes { (j : ℕ) → j < length nodes.now → HasRank problem.now (node_at nodes.now j) }
-    requires next { IsNextIn problem.now stage next.now }
-    ensures { IfOk result (λ lists. AreListsOf problem.now value budget stage nodes.now
-        next.now lists.items) }
+    requires stage { (1 ≤ wanted.now.stage)
+        × (wanted.now.stage ≤ length wanted.now.problem.now.flights) }
+    requires nodes { (j : ℕ) → j < length nodes.now
+        → HasRank wanted.now.problem.now (node_at nodes.now j) }
+    requires next { IsNextIn wanted.now.problem.now wanted.now.stage next.now }
+    ensures { IfOk result (λ lists.
+        AreListsOf wanted.now.problem.now wanted.now.value wanted.now.budget wanted.now.stage
+        nodes.now next.now lists.items) }
 {
     let mut lists = Vec::with_capacity(alloc, nodes.len())?;
     for node in nodes {
-        lists.push(pairs_of(alloc, problem, value, budget, stage, *node, next)?)?;
+        lists.push(pairs_of(alloc, wanted, *node, next)?)?;
     }
     Ok(lists)
 }

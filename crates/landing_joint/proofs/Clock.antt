@@ -64,9 +64,6 @@ module _ (s : Situation) (sound : IsSound s) (t : Schedule) (f : IsFeasible s t)
   abbrev changed : Situation
   changed = situation_after s (Some t) (Clock now)
 
-  T : ℕ → ℕ
-  T = second_of t
-
   abbrev ns : numbers.NumberedSituation
   ns = numbered_situation s
 

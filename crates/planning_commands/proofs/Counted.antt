@@ -4,10 +4,10 @@ use Rattle.std.specs.Prelude.{is_some}
 use Rattle.cps_outside.specs.SinkState.{SinkState, CountsPuts}
 use Rattle.landing_rules.specs.Events as rules
 use Rattle.landing_rules.specs.Events.{State}
-use Rattle.efforts.specs.Efforts.{effort_text}
-use Rattle.efforts.specs.Ends.{EffortEnds}
-use Rattle.event_answers.specs.declared.stops.Stop.{Stop}
-use Rattle.event_answers.specs.declared.stops.Stop.TheVariants as stop
+use Rattle.replays.specs.Efforts.{effort_text}
+use Rattle.replays.specs.Ends.{EffortEnds}
+use Rattle.replays.specs.declared.stops.Stop.{Stop}
+use Rattle.replays.specs.declared.stops.Stop.TheVariants as stop
 use Rattle.openings.specs.Plan.{answer_by}
 use Rattle.planning_commands.specs.Effort.{FollowsEffort}
 use Rattle.planning_commands.specs.Replay.{IsBegun, ending_of}

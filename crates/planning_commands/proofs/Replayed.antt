@@ -11,8 +11,8 @@ use Rattle.landing_rules.specs.Text.{replay_text}
 use Rattle.arrivals.specs.declared.event.Event.{Event}
 use Rattle.arrivals.specs.Seen.{event_of, IsGood}
 use Rattle.replays.specs.Runs.{ReplayEnds}
-use Rattle.event_answers.specs.declared.stops.Stop.{Stop}
-use Rattle.event_answers.specs.declared.stops.Stop.TheVariants as stop
+use Rattle.replays.specs.declared.stops.Stop.{Stop}
+use Rattle.replays.specs.declared.stops.Stop.TheVariants as stop
 use Rattle.openings.specs.Follows.{CountsSome}
 use Rattle.openings.specs.Plan.{answer_by}
 use Rattle.event_log.specs.Reading.{events_of}

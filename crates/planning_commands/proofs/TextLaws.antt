@@ -7,10 +7,10 @@ use Rattle.landing_rules.specs.Problem.{IsProblemOf}
 use Rattle.landing_rules.specs.Rules.{IsBest, objective}
 use Rattle.landing_rules.specs.Text.{Bytes, block_lines, head_words, lines_text, shown_plan}
 use Rattle.plan_text.specs.Trial.{trial_head, trial_text}
-use Rattle.efforts.specs.Efforts.{Effort, answers_of, effort_text}
-use Rattle.efforts.specs.OneText.{StepsAreOneLaw}
-use Rattle.efforts.specs.shared.OneSteps.{one_candidates}
-use Rattle.event_answers.specs.Runs.{last_state}
+use Rattle.replays.specs.Efforts.{Effort, answers_of, effort_text}
+use Rattle.replays.specs.OneText.{StepsAreOneLaw}
+use Rattle.replays.specs.shared.OneSteps.{one_candidates}
+use Rattle.replays.specs.Runs.{last_state}
 use Rattle.landing_rules.specs.Events as rules
 use Rattle.traffic_gen.specs.Made.{Made, traffic}
 use Rattle.openings.specs.Plan.{answer_of}

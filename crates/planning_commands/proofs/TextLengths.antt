@@ -18,7 +18,7 @@ use Rattle.plan_file.specs.Printed.{IsReadable, ShownPlanIsReadableLaw}
 use Rattle.arrivals.specs.Aerodromes.{IsClock}
 use Rattle.arrivals.specs.Seen.{event_of}
 use Rattle.replan.specs.Bound.{most_steps}
-use Rattle.efforts.specs.Efforts.{ArePlanned, Planned, answer_line, answer_lines, answers_of, begun_line, steps_of, total_line}
+use Rattle.replays.specs.Efforts.{ArePlanned, Planned, answer_line, answer_lines, answers_of, begun_line, steps_of, total_line}
 use Rattle.text_bounds.specs.Blocks.{BlockIsBoundedLaw, block_bound}
 use Rattle.text_bounds.specs.Counts.{count_in, event_count}
 use Rattle.text_bounds.specs.Replays.{HasShortName, IsInDays, IsTellable, ReplayIsBoundedLaw, answer_bound, most_active, replay_bound}

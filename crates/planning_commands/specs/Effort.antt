@@ -2,8 +2,8 @@
 use Rattle.std.specs.Prelude.{◌≡◌, ℕ, ◌+◌, List, ◌++◌}
 use Rattle.landing_rules.specs.Events as rules
 use Rattle.landing_rules.specs.Events.{State}
-use Rattle.efforts.specs.Efforts.{Effort, answers_of, effort_text}
-use Rattle.event_answers.specs.Runs.{last_state}
+use Rattle.replays.specs.Efforts.{Effort, answers_of, effort_text}
+use Rattle.replays.specs.Runs.{last_state}
 use Rattle.cps_outside.specs.SinkState.{SinkState}
 use Rattle.endings.specs.declared.ending.Answer.{Answer}
 use Rattle.endings.specs.declared.ending.Ending.{Ending}

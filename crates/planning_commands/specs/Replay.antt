@@ -15,9 +15,9 @@ use Rattle.arrivals.specs.declared.event.Event.{Event}
 use Rattle.event_log.specs.Reading.{events_of}
 use Rattle.event_log.specs.declared.fault.LogFault.{LogFault}
 use Rattle.sequencer.specs.Opened.{opening_of}
-use Rattle.event_answers.specs.Runs.{last_state}
-use Rattle.event_answers.specs.declared.stops.Stop.{Stop}
-use Rattle.event_answers.specs.declared.stops.Stop.TheVariants as stop
+use Rattle.replays.specs.Runs.{last_state}
+use Rattle.replays.specs.declared.stops.Stop.{Stop}
+use Rattle.replays.specs.declared.stops.Stop.TheVariants as stop
 use Rattle.cps_outside.specs.SinkState.{SinkState}
 use Rattle.endings.specs.declared.ending.Answer.{Answer}
 use Rattle.endings.specs.declared.ending.Ending.{Ending}

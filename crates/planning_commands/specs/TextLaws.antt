@@ -1,6 +1,6 @@
 -- What the texts of `trial` and `effort` have in common, over its numbers and over the bytes of its files.
 use Rattle.std.specs.Prelude.{◌≡◌, ℕ, List}
-use Rattle.efforts.specs.Efforts.{answers_of}
+use Rattle.replays.specs.Efforts.{answers_of}
 use Rattle.endings.specs.declared.ending.Answer.{Answer}
 use Rattle.planning_commands.specs.Effort.{AdmitsEffort}
 use Rattle.planning_commands.specs.Trial.{AdmitsTrial}

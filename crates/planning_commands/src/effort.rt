@@ -26,7 +26,7 @@ pub fn run_effort<R: Threads + Sync, S: Sink, G: Gate + Sync>(
         Ok(begun) => begun,
         Err(ending) => return ending,
     };
-    let ended = efforts::effort(
+    let ended = replays::effort(
         rt,
         alloc,
         &mut sequencer,

@@ -2,7 +2,7 @@
 
 ghost use Rattle.planning_commands.specs.TextLaws.{EffortTextIsOneLaw, TrialTextIsOneLaw};
 
-use efforts::steps_are_one;
+use replays::steps_are_one;
 
 /// Two texts that `trial` may print for the same three numbers are one, with one answer: the text is a function of the numbers. The
 /// call does nothing: it tells its caller the law.

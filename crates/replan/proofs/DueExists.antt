@@ -9,7 +9,7 @@ use Rattle.std.specs.Cmp.Lexicographic.{pointwise}
 use Rattle.std.proofs.lemmas.Slice.Eq.{slice_eq-Decides}
 use Rattle.std.proofs.lemmas.Bool.Decides.{Decides-int_eq}
 use Rattle.landing_rules.specs.Problem.{Problem}
-use Rattle.cps_theory.specs.FirstDifference.{counts}
+use Rattle.cps_theory.specs.Agreement.{counts}
 use Rattle.cps_theory.specs.Separation.{Landing}
 use Rattle.cps_theory.specs.LandingTrail.{pair_of, ranks}
 use Rattle.cps_theory.specs.LegalPrefix.{Legal}

@@ -7,13 +7,12 @@ use Rattle.landing_rules.specs.Events.{State, Event, Refusal, Step, Answered, Ru
 use Rattle.landing_rules.specs.Text.{Bytes, answer_text, answers_text, replay_text, begun_text}
 use Rattle.situations.specs.declared.refusal.Refusal as code
 use Rattle.situations.specs.Answers.{refusal_of}
-use Rattle.event_answers.specs.shared.LongerRuns.{Run-push, answers_text-push, last_state-push}
-use Rattle.event_answers.specs.shared.Written.{wrote_nothing, wrote_after, part_after}
-use Rattle.event_answers.specs.declared.stops.Stop.{Stop}
-use Rattle.event_answers.specs.declared.stops.Stop.TheVariants as stop
-use Rattle.event_answers.specs.Runs.{last_state}
-use Rattle.event_answers.specs.Written.{Wrote, WrotePart, PutsText}
-use Rattle.replays.specs.Runs.{PutsAnswer, PartTells, EventsWrite, ReplayEnds}
+use Rattle.replays.proofs.LongerRuns.{Run-push, answers_text-push, last_state-push}
+use Rattle.replays.proofs.Written.{wrote_nothing, wrote_after, part_after}
+use Rattle.replays.specs.declared.stops.Stop.{Stop}
+use Rattle.replays.specs.declared.stops.Stop.TheVariants as stop
+use Rattle.replays.specs.Runs.{EventsWrite, PartTells, PutsAnswer, ReplayEnds, last_state}
+use Rattle.replays.specs.Written.{Wrote, WrotePart, PutsText}
 
 -- one event: its step, and its text
 pub record Answers (old new : State) (i : ℕ) (e : Event) (P : Bytes → Type 0) : Type 0 where

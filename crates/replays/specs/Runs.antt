@@ -1,14 +1,18 @@
 -- What a replay writes, by runs of the rules.
-use Rattle.std.specs.Prelude.{◌≡◌, ◌⊎◌, ℕ, ◌+◌, List, ◌++◌, length, Bool, Some, None, is_some, MatchOption, Result, Ok, Err}
+use Rattle.std.specs.Prelude.{◌≡◌, ◌⊎◌, ℕ, ◌+◌, List, [], ◌∷◌, ◌++◌, length, Bool, Some, None, is_some, MatchOption, Result, Ok, Err}
 use Rattle.cps_outside.specs.SinkState.{SinkState}
 use Rattle.landing_rules.specs.Events.{State, Event, Answered, Run}
 use Rattle.landing_rules.specs.Text.{answer_text, answers_text, replay_text}
 use Rattle.situations.specs.declared.refusal.Refusal.{Refusal}
 use Rattle.situations.specs.Answers.{refusal_of}
-use Rattle.event_answers.specs.Runs.{last_state}
-use Rattle.event_answers.specs.Written.{Wrote, WrotePart, PutsText}
-use Rattle.event_answers.specs.declared.stops.Stop.{Stop}
-use Rattle.event_answers.specs.declared.stops.Stop.TheVariants as stop
+use Rattle.replays.specs.Written.{Wrote, WrotePart, PutsText}
+use Rattle.replays.specs.declared.stops.Stop.{Stop}
+use Rattle.replays.specs.declared.stops.Stop.TheVariants as stop
+
+-- the state in which a run ends
+abbrev pub last_state : State → List Answered → State
+last_state state [] = state
+last_state state (a ∷ rest) = last_state a.state rest
 
 -- What is put of event i, by what came of it and the state behind it: that it was accepted and the plan, or its refusal. Where
 -- memory ran out it is not answered.

@@ -1,14 +1,13 @@
 // The text of the opening and of one answer.
 ghost use Rattle.std.specs.Prelude.{◌≡◌, ◌≢◌, IfOk, None};
 ghost use Rattle.landing_rules.specs.Text.{answer_text, begun_text};
-ghost use Rattle.event_answers.specs.Refused.{refused_text};
+ghost use Rattle.plan_text.specs.Refused.{refused_text};
 ghost use Rattle.situations.specs.Answers.{refusal_of};
 ghost use Rattle.situations.specs.declared.refusal.Refusal.TheVariants.{Memory};
 
 use cps_problem::Planner;
-use event_answers::refusal_line;
 use itoa::Buffer;
-use plan_text::{FrozenLines, plan_block};
+use plan_text::{FrozenLines, plan_block, refusal_line};
 use sequencer::Sequencer;
 use situations::Refusal;
 use std::alloc::{AllocError, Global};

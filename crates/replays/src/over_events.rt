@@ -1,15 +1,15 @@
 ghost use Rattle.std.specs.Prelude.{◌<◌, ◌^◌, All, length, map};
 ghost use Rattle.landing_rules.specs.Text.{begun_text};
 ghost use Rattle.arrivals.specs.Seen.{event_of, IsGood};
-ghost use Rattle.event_answers.specs.Written.{PutsText};
+ghost use Rattle.replays.specs.Written.{PutsText};
 ghost use Rattle.replays.specs.Runs.{PutsAnswer, EventsWrite, ReplayEnds};
 
 use crate::lines::{accepted, begun, refused};
+use crate::stops::Stop;
 use arrivals::Event;
 use cps_base::{Ledger, Steps};
 use cps_outside::{Gate, Sink};
 use cps_problem::Planner;
-use event_answers::Stop;
 use plan_text::FrozenLines;
 use replan::AnyKept;
 use sequencer::Sequencer;

@@ -5,8 +5,8 @@ ghost use Rattle.trial_file.specs.Trials.{most_trials};
 ghost use Rattle.whatif.specs.Text.{cause_words, outcome_words, trial_line, trial_lines, outcomes_text};
 
 use crate::outcome::{Outcome, TrialRefusal};
-use event_answers::append_covered;
 use itoa::Buffer;
+use plan_text::append_covered;
 use std::alloc::AllocError;
 
 // A word and a number.

@@ -5,13 +5,12 @@ use crate::cases::{Outcome, check_keys};
 use crate::fields::{needed_text, numbers_at, pairs_at};
 use crate::files::files_of;
 use anyhow::{Result, bail};
-use case_outcomes::{Outputs, failing_folder, failing_sink};
 use cps_outside::FreeGate;
 use cps_top::run;
-use memory_runs::{MemoryRun, run_in_memory};
 use std::alloc::Global;
 use std::thread::Threads;
 use toml::{Table, Value};
+use worked_runs::{MemoryRun, Outputs, failing_folder, failing_sink, run_in_memory};
 
 // The most bytes that a case writes.
 const ROOM: usize = 8_000_000;

@@ -9,8 +9,7 @@ use Rattle.std.specs.declared.cmp.Ordering.TheVariants.{Less, Greater}
 use Rattle.std.specs.Ordering.{ordering_reverse}
 use Rattle.cps_nodes.specs.Windows.{IsWidth, IsWindow, offset_at}
 use Rattle.cps_nodes.specs.WindowOrder.{window_cmp, window_cmp_total}
-use Rattle.cps_theory.specs.WindowLists.{DistinctLists, InLists, Sized}
-use Rattle.cps_theory.specs.laws.WindowOffsets.{raised}
+use Rattle.cps_theory.specs.WindowLists.{DistinctLists, InLists, Sized, raised}
 use Rattle.cps_theory.specs.laws.NumberOfWindows.{few_lists}
 use Rattle.cps_network.specs.Lists.{IsAscending, AreWindows, node_at}
 

@@ -4,8 +4,7 @@ use Rattle.std.specs.Prelude.{ℤ, true}
 use Rattle.cps_theory.specs.Labels.{Pair}
 use Rattle.cps_theory.specs.LandingTrail.{ranks}
 use Rattle.cps_theory.specs.Feasible.{next_from}
-use Rattle.cps_theory.specs.laws.FirstDifference.{uncounted}
-use Rattle.cps_theory.specs.laws.KeptStages.{agree_landed, agree_legal, low_ranks}
+use Rattle.cps_theory.specs.laws.KeptStages.{agree_landed, agree_legal, low_ranks, uncounted}
 use Rattle.cps_theory.specs.laws.LegalPrefix.{legal_each_fits}
 use Rattle.landing_joint.specs.RankedProblem.{ranked, cost_at}
 use Rattle.landing_rules.specs.Problem.{Problem, AreBetweenRanks}

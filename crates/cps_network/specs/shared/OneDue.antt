@@ -6,7 +6,7 @@ use Rattle.std.specs.declared.cmp.Ordering.{Ordering}
 use Rattle.std.specs.declared.cmp.Ordering.TheVariants.{Less, Greater}
 use Rattle.std.specs.Ordering.{ordering_reverse}
 use Rattle.landing_rules.specs.Problem.{Problem}
-use Rattle.cps_theory.specs.FirstDifference.{counts}
+use Rattle.cps_theory.specs.Agreement.{counts}
 use Rattle.cps_nodes.specs.WindowOrder.{window_cmp, window_cmp_total}
 use Rattle.cps_problem.specs.shared.OneDifference.{one_first_difference}
 use Rattle.cps_network.specs.Due.{HasCandidates, HasCandidatesIf, HasCandidatesWhere, IsDue}

@@ -109,9 +109,6 @@ module _ (p : RankedProblem) (t : ℕ → ℕ) (sound : SoundProblem p) where
     apart_seconds : (a b : ℕ) → IsRank p.rules.count a → IsRank p.rules.count b → a ≢ b → t a ≢ t b
     apart_seconds a b qa qb ne e = let s = f.separated a b qa qb ne (omega arith) in let o = sound.positive a b in omega arith
 
-    order : List ℕ
-    order = sorted t p.rules.count
-
     descends : Descends t (sorted t p.rules.count)
     descends = sorted_descends t p.rules.count apart_seconds
 

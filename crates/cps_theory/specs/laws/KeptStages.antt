@@ -1,14 +1,12 @@
--- Early prefixes stay legal, and attain the same pairs, where two problems agree on the low ranks.
-use Rattle.std.proofs.Common.{◌≡◌, ℕ, ◌+◌, ◌<◌, ◌≤◌, inl, inr, List, [], ◌∷◌, length, arith, refl, sym, ap, ap₂, subst, ◌∙◌}
+-- Early prefixes stay legal, and land at the same seconds, where two problems agree on the low ranks; stages that do not count.
+use Rattle.std.proofs.Common.{◌≡◌, ℕ, ◌+◌, ◌-◌, ◌<◌, ◌≤◌, false, leb, ltb, inl, inr, List, [], ◌∷◌, length, arith, refl, ap, ap₂, subst}
 use Rattle.std.specs.List.{AllByRecursion}
-use Rattle.std.proofs.lemmas.Bool.{cases_lt}
+use Rattle.std.proofs.lemmas.Bool.{cases_lt, leb-false, ltb-false, or_parts}
 use Rattle.cps_theory.specs.RankLists.{In}
 use Rattle.cps_theory.specs.Separation.{Landing}
 use Rattle.cps_theory.specs.LandingTrail.{Landed, latest_landing, pair_of, ranks}
-use Rattle.cps_theory.specs.Labels.{Pair}
 use Rattle.cps_theory.specs.LegalPrefix.{EachFits, Legal, OrderRules}
-use Rattle.cps_theory.specs.Network.{Attained}
-use Rattle.cps_theory.specs.Agreement.{AgreeBelow, SameLandings}
+use Rattle.cps_theory.specs.Agreement.{AgreeBelow, SameLandings, counts}
 use Rattle.cps_theory.specs.laws.LegalPrefix.{legal_each_fits}
 
 -- a prefix of p places holds no rank above p + k
@@ -59,24 +57,8 @@ agree_landed d Open Open' after after' cost cost' same pos (x ∷ xs) low l =
     last_low [] a = pos
     last_low (y ∷ ys) a = a.0
 
--- so a node of a stage below d - k attains the same pairs in both
-pub agree_attained : (W : Type 0) (d : ℕ) (g g' : OrderRules) (Open Open' : ℕ → ℕ → Type 0) (after after' : ℕ → ℕ → ℕ → ℕ) (cost cost' : ℕ → ℕ → ℕ) (node : List ℕ → W) → AgreeBelow d g g' → SameLandings d Open Open' after after' cost cost' → 0 < d → (w : W) (p : Pair) (a : Attained Open after cost (Legal g) node w p) → length (ranks a.landings) + g.most < d → Attained Open' after' cost' (Legal g') node w p
-agree_attained W d g g' Open Open' after after' cost cost' node agree same pos w p a lt =
-    let l = agree_landed d Open Open' after after' cost cost' same pos a.landings (low_ranks g d (ranks a.landings) (legal_each_fits g (ranks a.landings) a.legal) lt) a.landed in
-    record {
-      landings = a.landings;
-      legal = agree_legal d g g' agree (ranks a.landings) a.legal lt;
-      landed = l.0;
-      at = a.at;
-      is = sym l.1 ∙ a.is;
-    }
-
--- agreement up to d is agreement up to less
-pub agree_lower : (d e : ℕ) (g g' : OrderRules) → e ≤ d → AgreeBelow d g g' → AgreeBelow e g g'
-agree_lower d e g g' le a = record {
-  same_most = a.same_most;
-  there = let b = a.there in omega arith;
-  same_back = λ r lt. a.same_back r (omega arith);
-  same_before = λ x r lx lr. a.same_before x r (omega arith) (omega arith);
-  same_above = λ x r hx lr b. elim (cases_lt x d) [ inl lt ↦ (x, hx, a.same_before x r lt (omega arith) b) | inr ge ↦ let h = a.same_above x r ge (omega arith) b in (h.0, let c = h.1 in omega arith, h.2) ];
-}
+-- a stage that does not count was held, and lies below d - k
+pub uncounted : (d k m p : ℕ) → counts d k m p ≡ false → (p + k < d) × (p ≤ m)
+uncounted d k m p e =
+    let o = or_parts (leb (d - k) p) (ltb m p) e in
+    (let a = leb-false (d - k) p o.0 in omega arith, ltb-false m p o.1)

@@ -1,5 +1,5 @@
 -- The least value kept at the last stage is the least of all feasible schedules; a closed certificate bounds them all.
-use Rattle.std.proofs.Common.{◌≡◌, ℕ, zero, suc, ◌≤◌, inl, List, [], ◌∷◌, length, Option, true, cond, arith, refl, sym, ap, ap₂, subst, ◌∙◌, le_refl, le_trans, le_antisymm}
+use Rattle.std.proofs.Common.{◌≡◌, ℕ, zero, suc, ◌≤◌, inl, List, [], ◌∷◌, length, Option, true, cond, arith, refl, sym, ap, ap₂, subst, ◌∙◌, le_refl, le_antisymm}
 use Rattle.std.proofs.lemmas.Bool.{eq-eqb, ne_eqb}
 use Rattle.cps_theory.specs.RankLists.{Distinct, In}
 use Rattle.cps_theory.specs.Separation.{Landing}
@@ -7,7 +7,6 @@ use Rattle.cps_theory.specs.Retiming.{IsFirstOpen, NeverEarlier}
 use Rattle.cps_theory.specs.LandingTrail.{Landed, latest_landing, pair_of, ranks}
 use Rattle.cps_theory.specs.Labels.{NeverCheaper, NoWorse, Pair}
 use Rattle.cps_theory.specs.LegalPrefix.{Legal}
-use Rattle.cps_theory.specs.Network.{Attained, Kept}
 use Rattle.cps_theory.specs.Patterns.{PatternNode, PatternPermits, pattern_newest, pattern_node, pattern_push}
 use Rattle.cps_theory.specs.ClosedSets.{ClosedNodes}
 use Rattle.cps_theory.specs.Feasible.{Feasible, LandsAllRanks, RankedProblem, SoundProblem, at_seconds, greatest, next_from, pair_at, second_in}
@@ -57,23 +56,6 @@ module _ (p : RankedProblem) (cost : ℕ → ℕ → ℕ) (sound : SoundProblem 
       (lands_feasible p (second_in xs) sound (ranks xs) l, ap (pair_of cost) (sym e) ∙ pair_all (second_in xs) (ranks xs) l)
 
   module _ (value : Pair → ℕ) (mono : (a b : Pair) → NoWorse a b → value a ≤ value b) where
-    -- the planner: what is kept at the last stage bounds every feasible map, and each kept pair is some feasible map's
-    module _ (W : Type 0) (node : List ℕ → W) (stage : W → ℕ) (staged : (rs : List ℕ) → stage (node rs) ≡ length rs) (Keeps : W → Pair → Type 0) (kept : (w : W) → stage w ≡ p.rules.count → Kept (Attained (λ r u. p.is_open r u ≡ true) (next_from p) cost (Legal p.rules) node w) (Keeps w)) where
-      pub least_objective : (v : ℕ) → ((w : W) (q : Pair) → stage w ≡ p.rules.count → Keeps w q → v ≤ value q) → (t : ℕ → ℕ) → Feasible p t → v ≤ value (pair_at cost p.rules.count t)
-      least_objective v low t f =
-          let x = feasible_landing_trail t f in
-          let w = node (ranks x.0) in
-          let at = staged (ranks x.0) ∙ x.3 in
-          let c = (kept w at).covers (pair_of cost x.0) (record { landings = x.0; legal = x.1; landed = x.2; at = refl; is = refl }) in
-          subst (λ q. v ≤ value q) x.4 (le_trans (low w c.0 at c.1) (mono c.0 (pair_of cost x.0) c.2))
-
-      pub kept_feasible : (w : W) (q : Pair) → stage w ≡ p.rules.count → Keeps w q → (t : ℕ → ℕ) × Feasible p t × (pair_at cost p.rules.count t ≡ q)
-      kept_feasible w q at k =
-          let a = (kept w at).attained q k in
-          let whole : length (ranks a.landings) ≡ p.rules.count = sym (staged (ranks a.landings)) ∙ ap stage a.at ∙ at in
-          let f = landing_trail_feasible a.landings a.legal a.landed whole in
-          (second_in a.landings, f.0, sym f.1 ∙ a.is)
-
     -- the checker: what holds for a closed certificate holds for every feasible map
     module _ (first : ℕ → ℕ → Option ℕ) (opens : IsFirstOpen (λ r u. p.is_open r u ≡ true) first) (dearer : NeverCheaper cost) (Lists : PatternNode → Pair → Type 0) (c : ClosedNodes first (next_from p) cost (PatternPermits p.rules) (pattern_push p.rules) pattern_newest (pattern_node p.rules []) Lists) where
       ones : (a r : ℕ) → p.rules.before a r ≡ true → 1 ≤ a

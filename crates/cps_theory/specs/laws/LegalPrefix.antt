@@ -1,9 +1,8 @@
 -- A window and its stage tell what is placed, and a prefix is legal as a whole exactly where it is step by step.
-use Rattle.std.proofs.Common.{◌≡◌, ℕ, zero, suc, ◌+◌, ◌-◌, ◌*◌, ◌≤◌, ◌⊎◌, ◌↔◌, inl, inr, List, [], ◌∷◌, length, take, arith, refl, ap₂}
-use Rattle.std.proofs.lemmas.Bool.{cases_lt, cases_eq}
+use Rattle.std.proofs.Common.{ℕ, suc, ◌+◌, ◌≤◌, ◌↔◌, inl, inr, List, [], ◌∷◌, length, arith}
+use Rattle.std.proofs.lemmas.Bool.{cases_eq}
 use Rattle.cps_theory.specs.RankLists.{In}
 use Rattle.cps_theory.specs.LegalPrefix.{EachFits, IsLegalPrefix, Legal, NoneDue, OrderRules}
-use Rattle.cps_theory.specs.Windows.{IsPlacedByWindow, shown, window}
 
 module _ (g : OrderRules) where
   -- a rank that is in stands near a place
@@ -16,37 +15,6 @@ module _ (g : OrderRules) where
   in_from_one x [] p i = absurd i
   in_from_one x (r ∷ rs) p (inl e) = let a = p.0.from_one in let b = p.0.to_count in omega arith
   in_from_one x (r ∷ rs) p (inr i) = in_from_one x rs p.1 i
-
-  -- one that is not due later stands among the last places
-  pub in_last : (m x : ℕ) (rs : List ℕ) → EachFits g rs → In x rs → length rs + g.most ≤ x + m → In x (take (suc m) rs)
-  in_last m x [] p i le = absurd i
-  in_last m x (r ∷ rs) p (inl e) le = inl e
-  in_last zero x (r ∷ rs) p (inr i) le = absurd (omega (arith, in_below x rs p.1 i))
-  in_last (suc m) x (r ∷ rs) p (inr i) le = inr (in_last m x rs p.1 i (omega arith))
-
-  pub in_take : (m x : ℕ) (rs : List ℕ) → In x (take m rs) → In x rs
-  in_take (suc m) x (r ∷ rs) (inl e) = inl e
-  in_take (suc m) x (r ∷ rs) (inr i) = inr (in_take m x rs i)
-  in_take zero x rs i = absurd i
-  in_take (suc m) x [] i = absurd i
-
-  -- what is placed shows among the last 2k + 1 places, or is far enough back
-  pub placed_by_last : (x : ℕ) (rs : List ℕ) → IsLegalPrefix g rs → 1 ≤ x → In x rs ↔ ((x + g.most ≤ length rs) ⊎ In x (take (suc (2 * g.most)) rs))
-  placed_by_last x rs p one = (λ i. elim (cases_lt (length rs) (x + g.most)) [ inl lt ↦ inr (in_last (2 * g.most) x rs p.placed i (omega arith)) | inr le ↦ inl le ], λ h. elim h [ inl le ↦ p.none_due x one le | inr i ↦ in_take (suc (2 * g.most)) x rs i ])
-
-  -- the window shows the last places
-  pub shown_window : ((r : ℕ) → g.back r ≤ g.most) → (m : ℕ) (rs : List ℕ) → EachFits g rs → shown g.most (length rs) (window g.most m rs) ≡ take m rs
-  shown_window low zero [] p = refl
-  shown_window low zero (r ∷ rs) p = refl
-  shown_window low (suc m) [] p = refl
-  shown_window low (suc m) (r ∷ rs) p =
-      let a = p.0.not_late in
-      let b = low r in
-      let e : r + g.most - suc (length rs) + suc (length rs) - g.most ≡ r = omega arith in
-      ap₂ ◌∷◌ e (shown_window low m rs p.1)
-
-  pub placed_by_window : ((r : ℕ) → g.back r ≤ g.most) → (x : ℕ) (rs : List ℕ) → IsLegalPrefix g rs → 1 ≤ x → In x rs ↔ IsPlacedByWindow g.most (length rs) (window g.most (suc (2 * g.most)) rs) x
-  placed_by_window low x rs p one = rw (shown_window low (suc (2 * g.most)) rs p.placed) (placed_by_last x rs p one)
 
   -- step by step is the same as by the whole
   pub legal_each_fits : (rs : List ℕ) → Legal g rs → EachFits g rs

@@ -1,5 +1,5 @@
 -- The pairs of a node from those kept of its sources: a successor of an attained pair is attained, and each attained pair has a source.
-use Rattle.std.proofs.Common.{◌≡◌, ℕ, ◌+◌, ◌≤◌, List, [], ◌∷◌, Option, Some, arith, refl, sym, ap, subst, ◌∙◌, le_trans, le_antisymm, ap₂, ◌⊎◌, inl, inr}
+use Rattle.std.proofs.Common.{◌≡◌, ℕ, ◌+◌, ◌≤◌, List, [], ◌∷◌, Option, Some, arith, refl, sym, ap, subst, ◌∙◌, le_antisymm, ap₂, ◌⊎◌, inl, inr}
 use Rattle.cps_theory.specs.Separation.{Landing}
 use Rattle.cps_theory.specs.Retiming.{IsFirstOpen, NeverEarlier}
 use Rattle.cps_theory.specs.LandingTrail.{Landed, cost_of, last_rank, latest_landing, pair_of, ranks}
@@ -21,10 +21,6 @@ kept_undominated Attains Keeps k anti p kept = record {
 
 pub undominated_kept : (Attains Keeps : Pair → Type 0) → Kept Attains Keeps → (p : Pair) → Undominated Attains p → Keeps p
 undominated_kept Attains Keeps k p u = let c = k.covers p u.attained in subst Keeps (u.best c.0 (k.attained c.0 c.1) c.2) c.1
-
--- the least value of the kept pairs is the least of the attained ones
-pub least_kept : (Attains Keeps : Pair → Type 0) → Kept Attains Keeps → (value : Pair → ℕ) → ((p q : Pair) → NoWorse p q → value p ≤ value q) → (v : ℕ) → ((p : Pair) → Keeps p → v ≤ value p) → (q : Pair) → Attains q → v ≤ value q
-least_kept Attains Keeps k value mono v least q a = let c = k.covers q a in le_trans (least c.0 c.1) (mono c.0 q c.2)
 
 module _ (W : Type 0) (Open : ℕ → ℕ → Type 0) (first : ℕ → ℕ → Option ℕ) (after : ℕ → ℕ → ℕ → ℕ) (cost : ℕ → ℕ → ℕ) (Legal : List ℕ → Type 0) (node : List ℕ → W) (Permitted : W → ℕ → Type 0) (push : W → ℕ → W) (newest : W → ℕ) (opens : IsFirstOpen Open first) (later : NeverEarlier after) (dearer : NeverCheaper cost) (net : Network W Legal node Permitted push newest) where
   abbrev Attains : W → Pair → Type 0

@@ -1,12 +1,10 @@
 -- There are at most m ^ n different lists of n numbers below m, so a stage has at most (2k + 1) ^ (2k + 1) windows.
-use Rattle.std.proofs.Common.{◌≡◌, ℕ, zero, suc, ◌+◌, ◌*◌, ◌^◌, ◌<◌, ◌≤◌, inl, inr, List, [], ◌∷◌, length, map, arith, refl, sym, ap, ap₂, subst, ◌∙◌}
+use Rattle.std.proofs.Common.{◌≡◌, ℕ, suc, ◌+◌, ◌*◌, ◌^◌, ◌<◌, ◌≤◌, inl, inr, List, [], ◌∷◌, length, map, arith, refl, sym, ap, ap₂, subst, ◌∙◌}
 use Rattle.std.proofs.Math.Nat.{pow-succ', pow-zero}
 use Rattle.std.proofs.lemmas.Nat.{mul-add-lt}
 use Rattle.std.proofs.lemmas.Bool.{cases_order}
 use Rattle.std.specs.List.{AllByRecursion}
 use Rattle.cps_theory.specs.RankLists.{Distinct, In, IsRank}
-use Rattle.cps_theory.specs.LegalPrefix.{EachFits, OrderRules}
-use Rattle.cps_theory.specs.Windows.{window}
 use Rattle.cps_theory.specs.WindowLists.{DistinctLists, InLists, Sized}
 use Rattle.cps_theory.specs.laws.RanksOfList.{few_ranks}
 
@@ -59,12 +57,3 @@ pub few_lists : (m n : ℕ) (ws : List (List ℕ)) → AllByRecursion (Sized m n
 few_lists m n ws a d =
     let f = few_ranks (m ^ n) (map (λ x. suc (as_number m x)) ws) (distinct_numbers m n ws a d) (λ x i. in_range m n x ws a i) in
     subst (λ k. k ≤ m ^ n) (length-numbers m ws) f
-
--- a window of a legal prefix is such a list
-pub window_sized : (g : OrderRules) → ((r : ℕ) → g.back r ≤ g.most) → (m : ℕ) (rs : List ℕ) → EachFits g rs → Sized (suc (2 * g.most)) m (window g.most m rs)
-window_sized g low zero rs p = (refl, tt)
-window_sized g low (suc m) [] p = let w = window_sized g low m [] p in (ap suc w.0, (omega arith, w.1))
-window_sized g low (suc m) (r ∷ rs) p =
-    let w = window_sized g low m rs p.1 in
-    let a = p.0.not_early in
-    (ap suc w.0, (omega arith, w.1))

@@ -2,11 +2,10 @@
 use Rattle.std.proofs.Common.{◌≡◌, ℕ, zero, suc, ◌+◌, ◌-◌, ◌*◌, ◌<◌, ◌≤◌, ◌⊎◌, ◌↔◌, inl, inr, List, [], ◌∷◌, length, get_or, arith, refl, sym, ap, ap₂, ◌∙◌, Bool, true, false, ◌||◌, eqb, leb}
 use Rattle.std.proofs.lemmas.Bool.{cases_lt, cases_Bool, cases_eq, eqb-true, eq-eqb, ne_eqb, le-leb, lt-leb, or_cases, or_left, or_right, false≢true}
 use Rattle.cps_theory.specs.RankLists.{In, above, below}
-use Rattle.cps_theory.specs.LegalPrefix.{Legal, OrderRules}
+use Rattle.cps_theory.specs.LegalPrefix.{Legal, MayCome, MayFollow, OrderRules}
 use Rattle.cps_theory.specs.Network.{Network}
 use Rattle.cps_theory.specs.Patterns.{IsPlacedByPattern, PatternNode, PatternPermits, is_member, pattern_digit, pattern_newest, pattern_node, pattern_push, tests_from}
 use Rattle.cps_theory.specs.laws.LegalPrefix.{legal_each_fits, legal_none_due, in_below}
-use Rattle.cps_theory.specs.laws.WindowNetwork.{may_come, is_next}
 
 pub get_or-tests : (t : ℕ → Bool) (y m i : ℕ) → i < m → get_or (tests_from t y m) i false ≡ t (y + i)
 get_or-tests t y zero i lt = absurd (omega arith)
@@ -41,6 +40,31 @@ not_member x rs h = elim (cases_Bool (is_member x rs)) [ inl t ↦ absurd (h (me
 -- above the ranks below 1 a digit is membership
 pub digit_member : (k x : ℕ) (rs : List ℕ) → 1 ≤ x → pattern_digit k rs (x + k) ≡ is_member x rs
 digit_member k x rs one = let e : x + k - k ≡ x = omega arith in ap₂ ◌||◌ (lt-leb (x + k) k (omega arith)) (ap (λ y. is_member y rs) e)
+
+-- what may come next by the prefix, and by any account of what is placed that is right from rank 1 on
+may_come : (g : OrderRules) (rs : List ℕ) (Here : ℕ → Type 0) → ((x : ℕ) → 1 ≤ x → In x rs ↔ Here x) → (r : ℕ) → MayFollow g rs r → MayCome g (length rs) Here r
+may_come g rs Here same r n = record {
+  from_one = n.fits.from_one;
+  to_count = n.fits.to_count;
+  is_new = λ h. n.fits.is_new ((same r n.fits.from_one).1 h);
+  not_early = n.fits.not_early;
+  not_late = n.fits.not_late;
+  after = λ a one b. (same a one).0 (n.fits.after a b);
+  due = λ x one e. elim (n.due x one e) [ inl e' ↦ inl e' | inr i ↦ inr ((same x one).0 i) ];
+}
+
+is_next : (g : OrderRules) → ((a r : ℕ) → g.before a r ≡ true → 1 ≤ a) → (rs : List ℕ) (Here : ℕ → Type 0) → ((x : ℕ) → 1 ≤ x → In x rs ↔ Here x) → (r : ℕ) → MayCome g (length rs) Here r → MayFollow g rs r
+is_next g ones rs Here same r m = record {
+  fits = record {
+    from_one = m.from_one;
+    to_count = m.to_count;
+    is_new = λ i. m.is_new ((same r m.from_one).0 i);
+    not_early = m.not_early;
+    not_late = m.not_late;
+    after = λ a b. (same a (ones a r b)).1 (m.after a (ones a r b) b);
+  };
+  due = λ x one e. elim (m.due x one e) [ inl e' ↦ inl e' | inr h ↦ inr ((same x one).1 h) ];
+}
 
 module _ (g : OrderRules) (ones : (a r : ℕ) → g.before a r ≡ true → 1 ≤ a) where
   pub same : (rs : List ℕ) → Legal g rs → (x : ℕ) → 1 ≤ x → In x rs ↔ IsPlacedByPattern g (pattern_node g rs) x

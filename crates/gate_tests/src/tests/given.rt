@@ -1,10 +1,10 @@
 //! The words and files of the runs.
 
 use cps_outside::Gate;
-use memory_runs::{MemoryRun, run_in_memory};
 use std::alloc::{AllocError, Global};
 use std::test::Fail;
 use std::thread::Threads;
+use worked_runs::{MemoryRun, run_in_memory};
 
 const TABLE: &str = "
 [table]

@@ -109,9 +109,6 @@ module _ (p : Problem) (well : IsWellFormed p) where
   ranks_found : (test : ℕ → Bool) → IfFound Few (first_from test 1 (count p))
   ranks_found test = first_found test 1 (count p) most_waiting (let few = well.few_flights in omega (arith, few))
 
-  rank_pairs_found : (find : ℕ → ℕ → Bool) → IfFound (AreBelow most_waiting most_waiting) (first_pair_from (λ r. first_from (find r) 1 (count p)) 1 (count p))
-  rank_pairs_found find = pairs_found (λ r. first_from (find r) 1 (count p)) 1 (count p) most_waiting most_waiting (let few = well.few_flights in omega (arith, few)) (λ r. ranks_found (find r))
-
   value_found : (v : ℕ) (ls : Landings) → AreLandings ls → IfFound HasSmallNumbers (value_reason p v ls)
   value_found v ls h = elim (cases_Bool (list_objective p (seconds p ls) == v)) [
     | inl same ↦ rw same tt

@@ -9,7 +9,7 @@ use Rattle.first_best.proofs.complete.complete.Goals as goal
 
 pub loop-node-preserved : goal.loop-node-preserved
 loop-node-preserved c =
-    let p = c.args.problem.now in
+    let p = c.args.wanted.now.problem.now in
     let next = c.args.next.now in
     let old = c.loop-node.lists.items in
     let new = c.in_ok-pairs_of.field-0 in
@@ -18,9 +18,9 @@ loop-node-preserved c =
     let long = c.loop-node.invariant.one_each in
     record {
       one_each = ap length is ∙ length-append old (new ∷ []) ∙ ap (λ (n : ℕ). n + 1) long;
-      pairs = λ j lt. subst (λ (ls : List (List Pair)). ArePairsOf p c.args.value c.args.budget c.args.stage (node_at c.args.nodes.now j) next (list_at ls j)) (sym is) (elim (cases_eq j i) [
-        | inl e ↦ subst (λ (m : ℕ). ArePairsOf p c.args.value c.args.budget c.args.stage (node_at c.args.nodes.now m) next (list_at (old ++ new ∷ []) m)) (sym e)
-            (subst (λ (l : List Pair). ArePairsOf p c.args.value c.args.budget c.args.stage (node_at c.args.nodes.now i) next l) (sym (get_or_push old new [] i long)) c.in_ok-pairs_of.ensures)
-        | inr ne ↦ subst (λ (l : List Pair). ArePairsOf p c.args.value c.args.budget c.args.stage (node_at c.args.nodes.now j) next l) (sym (get_or_append_left old (new ∷ []) [] j (omega (arith, lt, ne, long)))) (c.loop-node.invariant.pairs j (omega (arith, lt, ne)))
+      pairs = λ j lt. subst (λ (ls : List (List Pair)). ArePairsOf p c.args.wanted.now.value c.args.wanted.now.budget c.args.wanted.now.stage (node_at c.args.nodes.now j) next (list_at ls j)) (sym is) (elim (cases_eq j i) [
+        | inl e ↦ subst (λ (m : ℕ). ArePairsOf p c.args.wanted.now.value c.args.wanted.now.budget c.args.wanted.now.stage (node_at c.args.nodes.now m) next (list_at (old ++ new ∷ []) m)) (sym e)
+            (subst (λ (l : List Pair). ArePairsOf p c.args.wanted.now.value c.args.wanted.now.budget c.args.wanted.now.stage (node_at c.args.nodes.now i) next l) (sym (get_or_push old new [] i long)) c.in_ok-pairs_of.ensures)
+        | inr ne ↦ subst (λ (l : List Pair). ArePairsOf p c.args.wanted.now.value c.args.wanted.now.budget c.args.wanted.now.stage (node_at c.args.nodes.now j) next l) (sym (get_or_append_left old (new ∷ []) [] j (omega (arith, lt, ne, long)))) (c.loop-node.invariant.pairs j (omega (arith, lt, ne)))
       ]);
     }

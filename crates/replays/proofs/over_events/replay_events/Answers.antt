@@ -1,7 +1,7 @@
 use Rattle.std.proofs.lemmas.Result.{err_from_is_err_and}
 use Rattle.arrivals.specs.Seen.{event_of}
 use Rattle.replays.proofs.Replays.{begins, goes_on, stops, tried}
-use Rattle.event_answers.specs.shared.LongerRuns.{event_at}
+use Rattle.replays.proofs.LongerRuns.{event_at}
 use Rattle.replays.proofs.over_events.replay_events.Goals as goal
 
 pub loop-i-init : goal.loop-i-init

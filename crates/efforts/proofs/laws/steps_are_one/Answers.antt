@@ -1,5 +1,0 @@
-use Rattle.efforts.proofs.OneText.{steps_one}
-use Rattle.efforts.proofs.laws.steps_are_one.Goals as goal
-
-pub returns : goal.returns
-returns c = steps_one

@@ -1,8 +1,0 @@
-use Rattle.std.proofs.Common.{◌+◌, map, drop}
-use Rattle.arrivals.specs.Seen.{event_of}
-use Rattle.efforts.proofs.Efforts.{Done}
-use Rattle.efforts.proofs.over_events.plan_events.Given as goal
-
-abbrev pub invariant-loop-i : goal.invariant-loop-i
-invariant-loop-i g l =
-    Done l.fn.sequencer (map event_of l.fn.events) (g.S.Sink.state l.fn.out) (l.i + 1) l.sequencer (map event_of (drop l.i l.events)) (g.S.Sink.state l.out) l.total

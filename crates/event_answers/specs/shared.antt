@@ -1,3 +1,0 @@
--- Lemmas that crates above cite too.
-pub mod LongerRuns
-pub mod Written
