@@ -143,8 +143,12 @@ impl FrozenLines {
             return into.extend_from_slice(b"infeasible\n");
         };
         self.follow(plan)?;
-        let mut text = Vec::with_capacity(*into.allocator(), room(plan))?;
+        // the plan is not copied behind `into`, which is mostly short, but `into` before the plan
+        let room = into.len().saturating_add(room(plan));
+        let mut text = Vec::with_capacity(*into.allocator(), room)?;
+        text.extend_from_slice(into.as_slice())?;
         self.append(objective, plan, &mut text)?;
-        into.extend_from_slice(text.as_slice())
+        *into = text;
+        Ok(())
     }
 }
