@@ -2,9 +2,9 @@
 #![tactic(auto)]
 
 mod block;
-mod frozen_lines;
+mod kept_text;
 mod trial;
 
 pub use block::plan_block;
-pub use frozen_lines::FrozenLines;
+pub use kept_text::KeptText;
 pub use trial::trial_summary;
