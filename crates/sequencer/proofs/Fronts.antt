@@ -27,7 +27,8 @@ use Rattle.landing_joint.specs.shared.LandingsInOrder.{order_member, order_permu
 use Rattle.sequencer.specs.Frozen.{frozen_of, frozen_shown, frozen_there, BeginsWithFrozen}
 use Rattle.sequencer.proofs.Ranks.{Apart, rank_length, rank_permutes}
 use Rattle.sequencer.proofs.Rising.{Climbs, climbs_map, once, one_order}
-use Rattle.sequencer.proofs.Joined.{rank_in, rank_at, ranked_waits}
+use Rattle.sequencer.specs.Ranked.{ArePlacesByRank}
+use Rattle.sequencer.proofs.Joined.{places_length, rank_in, rank_at, ranked_waits}
 use Rattle.sequencer.proofs.ShownOrder.{in_order}
 
 abbrev second : ShownLanding → ℕ
@@ -58,6 +59,16 @@ apart_frozen (x ∷ xs) apart = go x.frozen (apart_frozen xs (λ i j d lt within
         own zero (suc j) d lt within e = first j d (omega arith) e
         own (suc i) (suc j) d lt within e = ih i j d (omega arith) (omega arith) e
 
+-- no two land at one second
+pub seconds_apart : (s : Situation) → IsSound s → (i j : ℕ) (d : Landing) → i < j → j < length (frozen_landings s) → (get_or (frozen_landings s) i d).second ≡ (get_or (frozen_landings s) j d).second → ⊥
+seconds_apart s sound i j d lt within same =
+    let f : Landing = get_or (frozen_landings s) i d in
+    let g : Landing = get_or (frozen_landings s) j d in
+    let apart : f.second + separation s.aerodrome.table f.flight.category g.flight.category ≤ g.second =
+    sound.frozen_separated i d (omega arith) j d (omega arith) (apart_frozen s.active sound.callsigns i j d lt (omega arith)) (omega arith) in
+    let one = (sound.table.entries f.flight.category g.flight.category).0 in
+    omega arith
+
 -- in any order in which their seconds do not fall, the frozen landings are in landing order
 pub frozen_in_order : (s : Situation) → IsSound s → (sorted : List ShownLanding) → IsPermutation (map shown_landing (frozen_landings s)) sorted → Climbs second sorted → sorted ≡ frozen_shown s
 frozen_in_order s sound sorted permuted climbs =
@@ -75,13 +86,7 @@ frozen_in_order s sound sorted permuted climbs =
         let n = length-map fs shown_landing in
         let m = length-map (map shown_landing fs) second in
         let d : Landing = landing nobody 0 in
-        let f : Landing = get_or fs i d in
-        let g : Landing = get_or fs j d in
-        let same : f.second ≡ g.second = sym (at i d (omega arith)) ∙ e ∙ at j d (omega arith) in
-        let apart : f.second + separation s.aerodrome.table f.flight.category g.flight.category ≤ g.second =
-        sound.frozen_separated i d (omega arith) j d (omega arith) (apart_frozen s.active sound.callsigns i j d lt (omega arith)) (omega arith) in
-        let one = (sound.table.entries f.flight.category g.flight.category).0 in
-        omega arith
+        seconds_apart s sound i j d lt (omega arith) (sym (at i d (omega arith)) ∙ e ∙ at j d (omega arith))
 
 -- ---- and behind them the waiting ones
 
@@ -168,6 +173,9 @@ frozen_count s =
     let b = length_permutation fs (in_landing_order fs) (order_permutes fs) in
     let c = length_frozen s.active in
     omega arith
+
+pub frozen_and_placed : (s : Situation) (places : List ℕ) → IsSound s → ArePlacesByRank s places → length (frozen_shown s) + length places ≡ length s.active
+frozen_and_placed s places sound at = let a = places_length s sound.callsigns places at in let b = rank_length (waiting s) in let c = frozen_count s in omega arith
 
 -- ---- the waiting landings of a list by rank
 

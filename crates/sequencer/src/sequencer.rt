@@ -174,7 +174,7 @@ fn planned<R: Threads + Sync, G: Gate + Sync, L: Ledger>(
     ensures steps { IfOk result (λ planned. (n : ℕ) × IsDue (problem_held planner.old) planned.0 n
         × (L.count steps.new ≡ raised_by n (L.count steps.old))) }
 {
-    let (problem, places) = posed(alloc, situation)?;
+    let (problem, places) = posed(alloc, situation, front)?;
     let answer = planner.replan(rt, alloc, &problem, gate, steps)?;
     let shown = shown_answer(alloc, situation, front, &problem, &places, &answer)?;
     Ok((problem, shown))
