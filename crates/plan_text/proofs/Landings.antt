@@ -29,8 +29,3 @@ pub first_more : (all first : List ShownLanding) (i : ℕ) (l : ShownLanding) �
 first_more all first i l e at =
     ap (λ (r : List ShownLanding). r ++ l ∷ []) e
     ∙ ap (λ (y : ShownLanding). take i all ++ y ∷ []) (sym (get_or_from_slice_get all i l l at)) ∙ sym (take_more all i l (slice_get_within all i l at))
-
--- head, lines kept and lines left
-pub whole_text : (all : List ShownLanding) (n : ℕ) (old head : List ℕ) → ((old ++ head) ++ landing_lines (take n all)) ++ landing_lines (drop n all) ≡ old ++ (head ++ landing_lines all)
-whole_text all n old head =
-    append_assoc (old ++ head) (landing_lines (take n all)) (landing_lines (drop n all)) ∙ ap (λ (t : List ℕ). (old ++ head) ++ t) (lines_split all n) ∙ append_assoc old head (landing_lines all)

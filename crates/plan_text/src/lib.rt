@@ -2,11 +2,11 @@
 #![tactic(auto)]
 
 mod block;
-mod frozen_lines;
+mod kept_text;
 mod refusal;
 mod trial;
 
 pub use block::plan_block;
-pub use frozen_lines::FrozenLines;
+pub use kept_text::KeptText;
 pub use refusal::{append_covered, refusal_line};
 pub use trial::trial_summary;

@@ -1,13 +1,14 @@
 // The text of the opening and of one answer.
-ghost use Rattle.std.specs.Prelude.{◌≡◌, ◌≢◌, IfOk, None};
+ghost use Rattle.std.specs.Prelude.{◌≡◌, ◌≢◌, IfOk, OnOk, None};
 ghost use Rattle.landing_rules.specs.Text.{answer_text, begun_text};
+ghost use Rattle.plan_text.specs.Kept.{written_text};
 ghost use Rattle.plan_text.specs.Refused.{refused_text};
 ghost use Rattle.situations.specs.Answers.{refusal_of};
 ghost use Rattle.situations.specs.declared.refusal.Refusal.TheVariants.{Memory};
 
 use cps_problem::Planner;
 use itoa::Buffer;
-use plan_text::{FrozenLines, plan_block, refusal_line};
+use plan_text::{KeptText, plan_block, refusal_line};
 use sequencer::Sequencer;
 use situations::Refusal;
 use std::alloc::{AllocError, Global};
@@ -24,21 +25,21 @@ pub(crate) fn begun<P: Planner>(
     Ok(text)
 }
 
-// What is said of an accepted event and the state after it.
-pub(crate) fn accepted<P: Planner>(
+// Writes what is said of an accepted event and the state after it.
+pub(crate) fn write_accepted<P: Planner>(
     alloc: Global,
     sequencer: &Sequencer<P>,
     number: u32,
-    lines: &mut FrozenLines,
-) -> Result<Vec<u8>, AllocError>
-    ensures { IfOk result (λ text. text.items ≡ answer_text number None sequencer.now.state) }
+    answer: &mut KeptText,
+) -> Result<(), AllocError>
+    ensures { OnOk result (written_text answer.new ≡ answer_text number None sequencer.now.state) }
 {
     let mut buffer = Buffer::new();
-    let mut text = Vec::from_slice(alloc, b"event ")?;
-    text.extend_from_slice(buffer.format(number).as_bytes())?;
-    text.extend_from_slice(b" accepted\n")?;
-    lines.plan_block(sequencer.objective(), sequencer.plan(), &mut text)?;
-    Ok(text)
+    let mut head = Vec::with_capacity(alloc, 64)?;
+    head.extend_from_slice(b"event ")?;
+    head.extend_from_slice(buffer.format(number).as_bytes())?;
+    head.extend_from_slice(b" accepted\n")?;
+    answer.write(head, sequencer.objective(), sequencer.plan())
 }
 
 // What is said of a refused event.

@@ -4,13 +4,13 @@ ghost use Rattle.arrivals.specs.Seen.{event_of, IsGood};
 ghost use Rattle.replays.specs.Written.{PutsText};
 ghost use Rattle.replays.specs.Runs.{PutsAnswer, EventsWrite, ReplayEnds};
 
-use crate::lines::{accepted, begun, refused};
+use crate::lines::{begun, refused, write_accepted};
 use crate::stops::Stop;
 use arrivals::Event;
 use cps_base::{Ledger, Steps};
 use cps_outside::{Gate, Sink};
 use cps_problem::Planner;
-use plan_text::FrozenLines;
+use plan_text::KeptText;
 use replan::AnyKept;
 use sequencer::Sequencer;
 use situations::Refusal;
@@ -23,18 +23,23 @@ fn put_answer<P: Planner, S: Sink>(
     sequencer: &Sequencer<P>,
     number: u32,
     outcome: Result<(), Refusal>,
-    lines: &mut FrozenLines,
+    answer: &mut KeptText,
     out: &mut S,
 ) -> Result<(), Stop>
     ensures { PutsAnswer sequencer.now.state number outcome
         (S.state out.old) (S.state out.new) result }
 {
-    let answer = match outcome {
-        Ok(()) => accepted(alloc, sequencer, number, lines)?,
+    match outcome {
+        Ok(()) => {
+            write_accepted(alloc, sequencer, number, answer)?;
+            out.put(answer.text())?;
+        }
         Err(Refusal::Memory) => return Err(Stop::NoMemory),
-        Err(refusal) => refused(alloc, number, &refusal)?,
-    };
-    out.put(answer.as_slice())?;
+        Err(refusal) => {
+            let text = refused(alloc, number, &refusal)?;
+            out.put(text.as_slice())?;
+        }
+    }
     Ok(())
 }
 
@@ -54,10 +59,10 @@ fn replay_events<R: Threads + Sync, S: Sink, G: Gate + Sync, L: Ledger>(
     ensures { EventsWrite sequencer.old.state sequencer.new.state (map event_of events.now)
         (S.state out.old) (S.state out.new) result }
 {
-    let mut lines = FrozenLines::new(alloc);
+    let mut answer = KeptText::new(alloc);
     for i in 0..events.len() {
         let outcome = sequencer.apply(rt, alloc, &events[i], gate, steps);
-        put_answer(alloc, &*sequencer, i as u32 + 1, outcome, &mut lines, out)?;
+        put_answer(alloc, &*sequencer, i as u32 + 1, outcome, &mut answer, out)?;
     }
     Ok(())
 }

@@ -1,31 +1,34 @@
--- The frozen landings stand first in landing order, the waiting ones behind them; and no event but a clock moves a frozen one.
+-- The frozen landings stand first in landing order, the waiting ones behind them; and what an event freezes, it freezes where the plan shown lands it.
 use Rattle.std.proofs.Common.{◌≡◌, ℕ, zero, suc, ◌+◌, ◌<◌, ◌≤◌, Bool, true, false, cond, not, List, [], ◌∷◌, ◌++◌, length, get_or, map, filter, take, Option, Some, None, inl, inr, ◌⊎◌, refl, sym, ap, ap₂, subst, ◌∙◌, arith}
-use Rattle.std.specs.Prelude.{All, MatchOption, find, option_map, is_none, unwrap_or}
+use Rattle.std.specs.Prelude.{All, MatchOption, find, option_map, is_none, nat_lt, slice_get, unwrap_or}
 use Rattle.std.specs.List.{cons_option}
 use Rattle.std.specs.List.Sorted.{IsPermutation}
 use Rattle.std.proofs.lemmas.Bool.{cases_Bool, cases_order, false≢true}
-use Rattle.std.proofs.lemmas.List.{append-nil, get_or_default, get_or-map, length-map, map-append}
+use Rattle.std.proofs.lemmas.List.{append-nil, get_or_default, get_or-map, length-map, map-append, take-map}
 use Rattle.std.proofs.lemmas.List.Elements.{All-head, All-tail, filter_map-append}
 use Rattle.std.proofs.lemmas.List.Sorted.{IsPermutation-append, IsPermutation-filter_both, IsPermutation-map, IsPermutation-sym, IsPermutation-trans, length_permutation}
+use Rattle.std.proofs.lemmas.Option.{same_Some}
 use Rattle.std.proofs.lemmas.Slice.Eq.{bytes_eq-Decides}
 use Rattle.std.proofs.lemmas.Grind.{same_number_lists}
 use Rattle.std.proofs.Math.Bool.{not-not}
 use Rattle.std.proofs.Math.Seq.{take-append_seam}
 use Rattle.wake_table.specs.Table.{separation}
-use Rattle.landing_rules.specs.Flights.{Active, Callsign, Landing, Schedule, Situation, Span, horizon, is_waiting, landing, landings, waiting}
+use Rattle.landing_rules.specs.Flights.{Active, Aerodrome, Callsign, Landing, Schedule, Situation, Span, horizon, is_waiting, landing, landings, waiting}
 use Rattle.landing_rules.specs.Rules.{IsFeasible, IsFrozenKept, waits}
-use Rattle.landing_rules.specs.Events.{Event, Estimate, Cancel, Add, Close, Reopen, Clock, Frozen, estimated, frozen_landings, in_landing_order, named, newcomer, refusal, situation_after, unknown_or_frozen}
+use Rattle.landing_rules.specs.Events.{Event, Estimate, Cancel, Add, Close, Reopen, Clock, Frozen, after_clock, estimated, freezes, frozen_landings, in_landing_order, insert_landing, named, newcomer, passed_after, refusal, situation_after, unknown_or_frozen}
 use Rattle.landing_rules.specs.Problem.{by_rank, joined, joined_second}
 use Rattle.landing_rules.specs.Sound.{IsSound}
 use Rattle.landing_rules.specs.Text.{ShownLanding, shown_landing, shown_plan}
 use Rattle.landing_rules.specs.shared.Counting.{Member}
 use Rattle.landing_rules.specs.shared.Members.{all_at, found_in, in_filter, in_frozen, in_map, member_at, member_contains, member_permutation, none_found}
+use Rattle.landing_joint.specs.ClockLaws.{ClockKeepsPlanLaw}
 use Rattle.landing_joint.specs.Numbered.{nobody}
 use Rattle.landing_joint.specs.shared.LandingsInOrder.{order_member, order_permutes, order_rises}
-use Rattle.sequencer.specs.Frozen.{frozen_of, frozen_shown, moves_none, BeginsWithFrozen}
+use Rattle.sequencer.specs.Frozen.{frozen_of, frozen_shown, frozen_there, BeginsWithFrozen}
 use Rattle.sequencer.proofs.Ranks.{Apart, rank_length, rank_permutes}
 use Rattle.sequencer.proofs.Rising.{Climbs, climbs_map, once, one_order}
-use Rattle.sequencer.proofs.Joined.{rank_in, rank_at, ranked_waits}
+use Rattle.sequencer.specs.Ranked.{ArePlacesByRank}
+use Rattle.sequencer.proofs.Joined.{places_length, rank_in, rank_at, ranked_waits}
 use Rattle.sequencer.proofs.ShownOrder.{in_order}
 
 abbrev second : ShownLanding → ℕ
@@ -56,6 +59,16 @@ apart_frozen (x ∷ xs) apart = go x.frozen (apart_frozen xs (λ i j d lt within
         own zero (suc j) d lt within e = first j d (omega arith) e
         own (suc i) (suc j) d lt within e = ih i j d (omega arith) (omega arith) e
 
+-- no two land at one second
+pub seconds_apart : (s : Situation) → IsSound s → (i j : ℕ) (d : Landing) → i < j → j < length (frozen_landings s) → (get_or (frozen_landings s) i d).second ≡ (get_or (frozen_landings s) j d).second → ⊥
+seconds_apart s sound i j d lt within same =
+    let f : Landing = get_or (frozen_landings s) i d in
+    let g : Landing = get_or (frozen_landings s) j d in
+    let apart : f.second + separation s.aerodrome.table f.flight.category g.flight.category ≤ g.second =
+    sound.frozen_separated i d (omega arith) j d (omega arith) (apart_frozen s.active sound.callsigns i j d lt (omega arith)) (omega arith) in
+    let one = (sound.table.entries f.flight.category g.flight.category).0 in
+    omega arith
+
 -- in any order in which their seconds do not fall, the frozen landings are in landing order
 pub frozen_in_order : (s : Situation) → IsSound s → (sorted : List ShownLanding) → IsPermutation (map shown_landing (frozen_landings s)) sorted → Climbs second sorted → sorted ≡ frozen_shown s
 frozen_in_order s sound sorted permuted climbs =
@@ -73,13 +86,7 @@ frozen_in_order s sound sorted permuted climbs =
         let n = length-map fs shown_landing in
         let m = length-map (map shown_landing fs) second in
         let d : Landing = landing nobody 0 in
-        let f : Landing = get_or fs i d in
-        let g : Landing = get_or fs j d in
-        let same : f.second ≡ g.second = sym (at i d (omega arith)) ∙ e ∙ at j d (omega arith) in
-        let apart : f.second + separation s.aerodrome.table f.flight.category g.flight.category ≤ g.second =
-        sound.frozen_separated i d (omega arith) j d (omega arith) (apart_frozen s.active sound.callsigns i j d lt (omega arith)) (omega arith) in
-        let one = (sound.table.entries f.flight.category g.flight.category).0 in
-        omega arith
+        seconds_apart s sound i j d lt (omega arith) (sym (at i d (omega arith)) ∙ e ∙ at j d (omega arith))
 
 -- ---- and behind them the waiting ones
 
@@ -151,7 +158,7 @@ module _ (s : Situation) (t : Schedule) (sound : IsSound s) (keeps : IsFeasible 
       (climbs_append second (frozen_shown s) waiting (climbs_map shown_landing second (in_landing_order fs) (order_rises fs)) climbs (before_waiting waiting p))
 
   -- its first landings are the frozen ones
-  pub front_is : BeginsWithFrozen s (shown_plan s t)
+  front_is : take (length (frozen_shown s)) (shown_plan s t).landings ≡ frozen_shown s
   front_is =
       let ws = filter waits all in
       let behind = map shown_landing (in_landing_order ws) in
@@ -166,6 +173,9 @@ frozen_count s =
     let b = length_permutation fs (in_landing_order fs) (order_permutes fs) in
     let c = length_frozen s.active in
     omega arith
+
+pub frozen_and_placed : (s : Situation) (places : List ℕ) → IsSound s → ArePlacesByRank s places → length (frozen_shown s) + length places ≡ length s.active
+frozen_and_placed s places sound at = let a = places_length s sound.callsigns places at in let b = rank_length (waiting s) in let c = frozen_count s in omega arith
 
 -- ---- the waiting landings of a list by rank
 
@@ -255,10 +265,102 @@ frozen_cancelled c (x ∷ xs) h = go (named c x) refl (frozen_cancelled c xs (λ
     go true e ih = ih ∙ sym (ap (λ o. cons_option (option_map (landing x) o) (frozen_of xs)) (h x (inl refl) e))
     go false e ih = ap (cons_option (option_map (landing x) x.frozen)) ih
 
-pub frozen_stay : (s : Situation) (plan : Option Schedule) (e : Event) → IsSound s → refusal s e ≡ None → moves_none e ≡ true → frozen_shown (situation_after s plan e) ≡ frozen_shown s
-frozen_stay s plan (Estimate c eta windows) sound ok still = ap (λ fs. map shown_landing (in_landing_order fs)) (frozen_estimated c eta windows s.active (named_waits s c sound.callsigns ok))
-frozen_stay s plan (Cancel c) sound ok still = ap (λ fs. map shown_landing (in_landing_order fs)) (frozen_cancelled c s.active (named_waits s c sound.callsigns ok))
-frozen_stay s plan (Add f) sound ok still = ap (λ fs. map shown_landing (in_landing_order fs)) (filter_map-append (λ a. option_map (landing a) a.frozen) s.active (newcomer f ∷ []) ∙ append-nil (frozen_landings s))
-frozen_stay s plan (Close span) sound ok still = refl
-frozen_stay s plan (Reopen span) sound ok still = refl
-frozen_stay s plan (Clock now) sound ok still = absurd (false≢true still)
+-- ---- a landing, frozen where it stands
+
+pub there_at : (ls : List ShownLanding) (i : ℕ) (l : ShownLanding) → slice_get ls i ≡ Some l → slice_get (map frozen_there ls) i ≡ Some (frozen_there l)
+there_at [] i l e = let w : None ≡ Some l = e in absurd (cc)
+there_at (x ∷ xs) zero l e = ap (λ y. Some (frozen_there y)) (same_Some x l e)
+there_at (x ∷ xs) (suc i) l e = there_at xs i l e
+
+-- a frozen one stays as it is
+there_still : (fs : List Landing) → ((f : Landing) → Member f fs → waits f ≡ false) → map frozen_there (map shown_landing fs) ≡ map shown_landing fs
+there_still [] h = refl
+there_still (f ∷ fs) h = ap₂ (λ (l : ShownLanding) (ls : List ShownLanding). l ∷ ls)
+    (ap (λ b. (let l : ShownLanding = record { callsign = f.flight.callsign; second = f.second; frozen = b } in l)) (sym (ap not (h f (inl refl)))))
+    (there_still fs (λ g m. h g (inr m)))
+
+frozen_still : (s : Situation) → map frozen_there (frozen_shown s) ≡ frozen_shown s
+frozen_still s = there_still (in_landing_order (frozen_landings s)) stands
+  where
+    stands : (f : Landing) → Member f (in_landing_order (frozen_landings s)) → waits f ≡ false
+    stands f m = let r = in_frozen s.active f (order_member f (frozen_landings s) m) in ap (λ (g : Landing). waits g) r.4 ∙ ap is_none r.3
+
+begins : (s : Situation) (t : Schedule) → IsSound s → IsFeasible s t → BeginsWithFrozen s (shown_plan s t)
+begins s t sound keeps = ap (map frozen_there) (front_is s t sound keeps) ∙ frozen_still s
+
+-- ---- what a clock event freezes, it freezes where the plan lands it
+
+module _ (g : Landing → Landing) (same : (f : Landing) → (g f).second ≡ f.second) where
+  insert_map : (f : Landing) (fs : List Landing) → insert_landing (g f) (map g fs) ≡ map g (insert_landing f fs)
+  insert_map f [] = refl
+  insert_map f (x ∷ xs) =
+      ap₂ (λ (a b : ℕ). cond (nat_lt a b) (g x ∷ insert_landing (g f) (map g xs)) (g f ∷ g x ∷ map g xs)) (same x) (same f) ∙ go (nat_lt x.second f.second) (insert_map f xs)
+    where
+      go : (b : Bool) → insert_landing (g f) (map g xs) ≡ map g (insert_landing f xs) →
+          cond b (g x ∷ insert_landing (g f) (map g xs)) (g f ∷ g x ∷ map g xs) ≡ map g (cond b (x ∷ insert_landing f xs) (f ∷ x ∷ xs))
+      go true ih = ap (λ l. g x ∷ l) ih
+      go false ih = refl
+
+  order_map : (fs : List Landing) → in_landing_order (map g fs) ≡ map g (in_landing_order fs)
+  order_map [] = refl
+  order_map (f ∷ fs) = ap (insert_landing (g f)) (order_map fs) ∙ insert_map f (in_landing_order fs)
+
+  there_map : ((f : Landing) → (g f).flight.callsign ≡ f.flight.callsign) → (fs : List Landing) → map frozen_there (map shown_landing (map g fs)) ≡ map frozen_there (map shown_landing fs)
+  there_map names [] = refl
+  there_map names (f ∷ fs) = ap₂ (λ (l : ShownLanding) (ls : List ShownLanding). l ∷ ls)
+      (ap₂ (λ (c : Callsign) (n : ℕ). (let l : ShownLanding = record { callsign = c; second = n; frozen = true } in l)) (names f) (same f))
+      (there_map names fs)
+
+landings_after : (g : Landing → Active) (xs : List Active) (ts : Schedule) → landings (map g (landings xs ts)) ts ≡ map (λ f. landing (g f) f.second) (landings xs ts)
+landings_after g [] [] = refl
+landings_after g [] (t ∷ ts) = refl
+landings_after g (x ∷ xs) [] = refl
+landings_after g (x ∷ xs) (t ∷ ts) = ap (λ l. landing (g (landing x t)) t ∷ l) (landings_after g xs ts)
+
+same_name : (a : Aerodrome) (h : ℕ) (all : List Landing) (f : Landing) → (after_clock a h all f).flight.callsign ≡ f.flight.callsign
+same_name a h all f = go (freezes h f) (waits f)
+  where
+    freezing : Active
+    freezing = record { flight = f.flight; frozen = Some f.second; passed = 0 }
+
+    passing : Active
+    passing = record { flight = f.flight; frozen = None; passed = passed_after a h all f }
+
+    staying : Active
+    staying = record { flight = f.flight; frozen = f.frozen; passed = f.passed }
+
+    go : (b c : Bool) → (cond b freezing (cond c passing staying)).flight.callsign ≡ f.flight.callsign
+    go true c = refl
+    go false true = refl
+    go false false = refl
+
+clock_begins : ClockKeepsPlanLaw → (s : Situation) (t : Schedule) (now : ℕ) → IsSound s → IsFeasible s t → refusal s (Clock now) ≡ None → IsSound (situation_after s (Some t) (Clock now)) →
+    BeginsWithFrozen (situation_after s (Some t) (Clock now)) (shown_plan s t)
+clock_begins law s t now sound keeps ok next_sound =
+    let next = situation_after s (Some t) (Clock now) in
+    let h = now + s.aerodrome.freeze in
+    let all = landings s.active t in
+    let g : Landing → Landing = λ f. landing (after_clock s.aerodrome h all f) f.second in
+    let n = length (frozen_shown next) in
+    let same : map frozen_there (shown_plan next t).landings ≡ map frozen_there (shown_plan s t).landings =
+    ap (λ fs. map frozen_there (map shown_landing (in_landing_order fs))) (landings_after (after_clock s.aerodrome h all) s.active t)
+    ∙ ap (λ fs. map frozen_there (map shown_landing fs)) (order_map g (λ f. refl) all)
+    ∙ there_map g (λ f. refl) (same_name s.aerodrome h all) (in_landing_order all) in
+    sym (take-map frozen_there n (shown_plan s t).landings) ∙ ap (take n) (sym same) ∙ take-map frozen_there n (shown_plan next t).landings
+    ∙ begins next t next_sound (law s t now sound keeps ok).feasible
+
+-- no other event moves a frozen landing, or freezes one more
+still : (s next : Situation) (t : Schedule) → frozen_landings next ≡ frozen_landings s → BeginsWithFrozen s (shown_plan s t) → BeginsWithFrozen next (shown_plan s t)
+still s next t same h =
+    subst (λ fs. map frozen_there (take (length (map shown_landing (in_landing_order fs))) (shown_plan s t).landings) ≡ map shown_landing (in_landing_order fs)) (sym same) h
+
+-- the plan shown begins with the frozen landings of the next situation
+pub next_begins : ClockKeepsPlanLaw → (s : Situation) (t : Schedule) (e : Event) → IsSound s → IsFeasible s t → refusal s e ≡ None → IsSound (situation_after s (Some t) e) →
+    BeginsWithFrozen (situation_after s (Some t) e) (shown_plan s t)
+next_begins law s t (Estimate c eta windows) sound keeps ok next = still s (record s { active = map (estimated c eta windows) s.active }) t (frozen_estimated c eta windows s.active (named_waits s c sound.callsigns ok)) (begins s t sound keeps)
+next_begins law s t (Cancel c) sound keeps ok next = still s (record s { active = filter (λ a. not (named c a)) s.active }) t (frozen_cancelled c s.active (named_waits s c sound.callsigns ok)) (begins s t sound keeps)
+next_begins law s t (Add f) sound keeps ok next =
+    still s (record s { active = s.active ++ newcomer f ∷ [] }) t (filter_map-append (λ a. option_map (landing a) a.frozen) s.active (newcomer f ∷ []) ∙ append-nil (frozen_landings s)) (begins s t sound keeps)
+next_begins law s t (Close span) sound keeps ok next = begins s t sound keeps
+next_begins law s t (Reopen span) sound keeps ok next = begins s t sound keeps
+next_begins law s t (Clock now) sound keeps ok next = clock_begins law s t now sound keeps ok next

@@ -1,5 +1,5 @@
 -- What an event leaves is in step again.
-use Rattle.std.proofs.Common.{◌≡◌, ℕ, true, Option, None, Some, sym, ap, subst, ◌∙◌}
+use Rattle.std.proofs.Common.{◌≡◌, ℕ, Option, None, Some, sym, ap, subst, ◌∙◌}
 use Rattle.std.specs.Prelude.{option_map}
 use Rattle.std.proofs.lemmas.Option.{same_Some}
 use Rattle.landing_rules.specs.Flights.{Situation, Schedule}
@@ -8,11 +8,12 @@ use Rattle.landing_rules.specs.Events.{Event, State, IsPlanShown, refusal, situa
 use Rattle.landing_rules.specs.Problem.{Problem, IsProblemOf}
 use Rattle.landing_rules.specs.Sound.{IsSound, IsSoundState, IsGoodEvent}
 use Rattle.landing_rules.specs.Text.{ShownPlan, plan_shown, shown_plan}
+use Rattle.landing_joint.specs.ClockLaws.{ClockKeepsPlanLaw}
 use Rattle.landing_joint.specs.StepLaws.{EventKeepsSoundLaw}
 use Rattle.landing_joint.specs.shared.EventAerodrome.{aerodrome_stays}
-use Rattle.sequencer.specs.Frozen.{moves_none, BeginsWithFrozen}
+use Rattle.sequencer.specs.Frozen.{BeginsWithFrozen}
 use Rattle.sequencer.specs.Standing.{IsInStep}
-use Rattle.sequencer.proofs.Fronts.{front_is, frozen_stay}
+use Rattle.sequencer.proofs.Fronts.{next_begins}
 
 feasible_shown : (s : Situation) (plan : Option Schedule) → IsPlanShown s plan → (t : Schedule) → plan ≡ Some t → IsFeasible s t
 feasible_shown s None h t e = let w : None ≡ Some t = e in absurd (cc)
@@ -35,11 +36,12 @@ next_in_step law old plan p k e next schedule shown q j h good accepted is of be
       plannable = rw a h.plannable;
     }
 
--- where the event moves no frozen landing, the plan shown begins with those of the next situation
-pub next_front : (old : State) (shown : Option ShownPlan) (p : Problem) (k : ℕ) (e : Event) (next : Situation) (plan : ShownPlan) → IsInStep old shown p k → refusal old.situation e ≡ None →
-    next ≡ situation_after old.situation old.plan e → moves_none e ≡ true → shown ≡ Some plan → BeginsWithFrozen next plan
-next_front old shown p k e next plan h accepted is still seen = rw (is, frozen_stay old.situation old.plan e h.sound.situation accepted still) (front old.plan h.sound.shown (sym h.shown ∙ seen))
+-- the plan shown begins with the frozen landings of the next situation
+pub next_front : ClockKeepsPlanLaw → (old : State) (shown : Option ShownPlan) (p : Problem) (k : ℕ) (e : Event) (next : Situation) (plan : ShownPlan) → IsInStep old shown p k → refusal old.situation e ≡ None →
+    next ≡ situation_after old.situation old.plan e → IsSound next → shown ≡ Some plan → BeginsWithFrozen next plan
+next_front law old shown p k e next plan h accepted is sound seen = rw is (front old.plan h.sound.shown (sym h.shown ∙ seen) (subst IsSound is sound))
   where
-    front : (t : Option Schedule) → IsPlanShown old.situation t → option_map (shown_plan old.situation) t ≡ Some plan → BeginsWithFrozen old.situation plan
-    front None best e = let w : None ≡ Some plan = e in absurd (cc)
-    front (Some t) best e = subst (BeginsWithFrozen old.situation) (same_Some (shown_plan old.situation t) plan e) (front_is old.situation t h.sound.situation best.0.feasible)
+    front : (t : Option Schedule) → IsPlanShown old.situation t → option_map (shown_plan old.situation) t ≡ Some plan → IsSound (situation_after old.situation t e) → BeginsWithFrozen (situation_after old.situation t e) plan
+    front None best e sound = let w : None ≡ Some plan = e in absurd (cc)
+    front (Some t) best q sound =
+        subst (BeginsWithFrozen (situation_after old.situation (Some t) e)) (same_Some (shown_plan old.situation t) plan q) (next_begins law old.situation t e h.sound.situation best.0.feasible accepted sound)

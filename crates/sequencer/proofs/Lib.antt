@@ -1,5 +1,6 @@
 pub mod Ranks
 pub mod Places
+pub mod LastFrozen
 pub mod Listed
 pub mod Rising
 pub mod FrozenLeft

@@ -1,10 +1,10 @@
 -- What the frozen flights leave to the waiting ones.
-use Rattle.std.specs.Prelude.{◌≡◌, ℕ, ◌*◌, ◌≤◌, Bool, true, false, List, [], ◌∷◌, length, map, filter_map, take, Option, option_map, Some, None, MatchOption, ⊤, nat_lt, if◌then◌else◌}
+use Rattle.std.specs.Prelude.{◌≡◌, ℕ, ◌*◌, ◌≤◌, true, List, [], ◌∷◌, length, map, filter_map, take, Option, option_map, Some, None, MatchOption, ⊤, nat_lt, if◌then◌else◌}
 use Rattle.wake_table.specs.declared.category.Category.{Category}
 use Rattle.landing_rules.specs.Flights.{Active, Landing, Situation, landing}
 use Rattle.landing_rules.specs.Limits.{greatest_weight}
 use Rattle.landing_rules.specs.Rules.{delay, last_second}
-use Rattle.landing_rules.specs.Events.{Event, Clock, frozen_landings, in_landing_order}
+use Rattle.landing_rules.specs.Events.{frozen_landings, in_landing_order}
 use Rattle.landing_rules.specs.Text.{ShownLanding, ShownPlan, shown_landing}
 
 abbrev pub later_at : Category → Option ℕ → Option (ℕ × Category) → Option (ℕ × Category)
@@ -44,11 +44,10 @@ frozen_of flights = filter_map (λ a. option_map (landing a) a.frozen) flights
 abbrev pub frozen_shown : Situation → List ShownLanding
 frozen_shown s = map shown_landing (in_landing_order (frozen_landings s))
 
--- no event but a clock moves a frozen landing, or freezes one more
-abbrev pub moves_none : Event → Bool
-moves_none (Clock now) = false
-moves_none _ = true
+-- the landing, frozen where it stands
+abbrev pub frozen_there : ShownLanding → ShownLanding
+frozen_there l = record l { frozen = true }
 
--- the plan's first landings are the frozen ones
+-- the plan's first landings, frozen where they stand, are the frozen ones
 abbrev pub BeginsWithFrozen : Situation → ShownPlan → Type 0
-BeginsWithFrozen s plan = take (length (frozen_shown s)) plan.landings ≡ frozen_shown s
+BeginsWithFrozen s plan = map frozen_there (take (length (frozen_shown s)) plan.landings) ≡ frozen_shown s

@@ -1,10 +1,15 @@
 // What the frozen flights leave to the waiting ones.
-ghost use Rattle.std.specs.Prelude.{◌≡◌, ◌≤◌, All, Option, length, map, sum_by};
+ghost use Rattle.std.specs.Prelude.{◌≡◌, ◌≤◌, All, IsTrue, Option, Some, length, map, option_map, sum_by};
+ghost use Rattle.std.specs.Option.{ForSome};
 ghost use Rattle.wake_table.specs.declared.category.Category.{Category};
 ghost use Rattle.landing_rules.specs.Limits.{most_flights};
-ghost use Rattle.sequencer.specs.Frozen.{delay_of, greatest_delay, later_of, latest, HasSmallDelay};
+ghost use Rattle.landing_rules.specs.Events.{frozen_landings, in_landing_order};
+ghost use Rattle.landing_rules.specs.Problem.{last_of};
+ghost use Rattle.landing_rules.specs.Sound.{IsSound};
+ghost use Rattle.sequencer.specs.Frozen.{delay_of, frozen_shown, greatest_delay, later_of, latest, BeginsWithFrozen, HasSmallDelay};
 
-use situations::Active;
+use plan_file::Plan;
+use situations::{Active, View};
 use wake_table::Category;
 
 // The later of the flight, where it is frozen, and the one found behind it.
@@ -24,14 +29,60 @@ fn later(active: &Active, found: Option<(u32, Category)>) -> Option<(u32, Catego
     }
 }
 
-/// The frozen flight that lands last, by its second and category.
-pub(crate) fn last_frozen(flights: &[Active]) -> Option<(u32, Category)>
+// The frozen flight that lands last, by its second and category.
+fn latest(flights: &[Active]) -> Option<(u32, Category)>
     ensures { result ≡ latest flights.now }
 {
     flights
         .iter()
         .rev()
         .fold(None, |found, active| later(active, found))
+}
+
+// Whether the flight is frozen at the second.
+fn is_frozen_at(active: &Active, second: u32) -> bool
+    ensures yes { IsTrue result → active.now.frozen ≡ Some second }
+    ensures no { active.now.frozen ≡ Some second → IsTrue result }
+{
+    match active.frozen {
+        None => false,
+        Some(at) => at == second,
+    }
+}
+
+// The frozen flight that lands last, at this second. It is looked for from the back, since it mostly arrived late.
+fn latest_at(situation: &View<'_>, second: u32) -> Option<(u32, Category)>
+    requires sound { IsSound situation.now }
+    requires second { option_map (λ l. l.0) (last_of (in_landing_order (frozen_landings
+        situation.now))) ≡ Some second }
+    ensures { result ≡ last_of (in_landing_order (frozen_landings situation.now)) }
+{
+    let flights = situation.flights();
+    for i in (0..flights.len()).rev() {
+        let active = &flights[i];
+        if is_frozen_at(active, second) {
+            return Some((second, active.flight.category));
+        }
+    }
+    None
+}
+
+/// The frozen flight that lands last, by its second and category. A plan may be given that begins with the frozen landings,
+/// so many.
+pub(crate) fn last_frozen(
+    situation: &View<'_>,
+    front: Option<&Plan>,
+    count: usize,
+) -> Option<(u32, Category)>
+    requires sound { IsSound situation.now }
+    requires front { ForSome front (λ plan. BeginsWithFrozen situation.now plan.now) }
+    requires count { count ≡ length (frozen_shown situation.now) }
+    ensures { result ≡ last_of (in_landing_order (frozen_landings situation.now)) }
+{
+    match front {
+        Some(plan) if count > 0 => latest_at(situation, plan.line(count - 1).second),
+        _ => latest(situation.flights()),
+    }
 }
 
 // What the flight's frozen landing costs, and 0 where it waits.

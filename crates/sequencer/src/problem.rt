@@ -1,9 +1,11 @@
 // The problem of a situation.
 ghost use Rattle.std.specs.Prelude.{◌≡◌, ◌≤◌, IfOk};
+ghost use Rattle.std.specs.Option.{ForSome};
 ghost use Rattle.landing_rules.specs.Flights.{horizon};
-ghost use Rattle.landing_rules.specs.Events.{frozen_landings, in_landing_order};
-ghost use Rattle.landing_rules.specs.Problem.{IsProblemOf, last_of, frozen_cost};
+ghost use Rattle.landing_rules.specs.Events.{frozen_landings};
+ghost use Rattle.landing_rules.specs.Problem.{IsProblemOf, frozen_cost};
 ghost use Rattle.landing_rules.specs.Sound.{IsSound};
+ghost use Rattle.sequencer.specs.Frozen.{BeginsWithFrozen};
 ghost use Rattle.sequencer.specs.Ranked.{ArePlacesByRank};
 
 use crate::frozen::{frozen_delay, last_frozen};
@@ -11,8 +13,10 @@ use crate::order::{flights_of, places_of, ranked_of};
 use crate::predecessors::pairs_of;
 use crate::waiting::all_waiting;
 use cps_problem::{Head, Objective, Problem};
+use plan_file::Plan;
 use situations::{Active, Situation, View};
 use std::alloc::{AllocError, Global};
+use wake_table::Category;
 
 // What the frozen landings cost, and 0 for the makespan.
 fn base(situation: &View<'_>, flights: &[Active]) -> u64
@@ -28,7 +32,7 @@ fn base(situation: &View<'_>, flights: &[Active]) -> u64
 }
 
 // What the waiting flights share.
-fn head(situation: &View<'_>, flights: &[Active]) -> Head
+fn head(situation: &View<'_>, flights: &[Active], last: Option<(u32, Category)>) -> Head
     requires flights { flights.now ≡ situation.now.active }
     requires sound { IsSound situation.now }
     ensures fixed { situation.now.aerodrome
@@ -38,7 +42,7 @@ fn head(situation: &View<'_>, flights: &[Active]) -> Head
           objective = result.objective;
         } }
     ensures horizon { result.horizon ≡ horizon situation.now }
-    ensures last { result.last ≡ last_of (in_landing_order (frozen_landings situation.now)) }
+    ensures last { result.last ≡ last }
     ensures base { result.base ≡ frozen_cost situation.now.aerodrome.objective
         (frozen_landings situation.now) }
     ensures few_places { result.k ≤ 3 }
@@ -50,17 +54,20 @@ fn head(situation: &View<'_>, flights: &[Active]) -> Head
         k: fixed.k,
         objective: fixed.objective,
         horizon: situation.horizon(),
-        last: last_frozen(flights),
+        last,
         base: base(situation, flights),
     }
 }
 
-// The problem of a sound situation, with the places of its waiting flights by rank.
+// The problem of a sound situation, with the places of its waiting flights by rank. A plan may be given that begins with
+// the frozen landings.
 pub(crate) fn posed(
     alloc: Global,
     situation: &View<'_>,
+    front: Option<&Plan>,
 ) -> Result<(Problem, Vec<usize>), AllocError>
-    requires { IsSound situation.now }
+    requires sound { IsSound situation.now }
+    requires front { ForSome front (λ plan. BeginsWithFrozen situation.now plan.now) }
     ensures problem { IfOk result (λ posed. IsProblemOf situation.now posed.0) }
     ensures places { IfOk result (λ posed. ArePlacesByRank situation.now posed.1.items) }
 {
@@ -69,7 +76,8 @@ pub(crate) fn posed(
     let waiting = flights_of(alloc, &ranked)?;
     let places = places_of(alloc, &ranked)?;
     let pairs = pairs_of(&waiting);
-    let head = head(situation, flights);
+    let last = last_frozen(situation, front, flights.len() - places.len());
+    let head = head(situation, flights, last);
     let with_times = all_waiting(alloc, &waiting, situation.closures())?;
     Ok((Problem::build(head, with_times, pairs), places))
 }
@@ -90,6 +98,6 @@ pub fn problem_of(alloc: Global, situation: &Situation) -> Result<Problem, Alloc
     ensures { IfOk result (IsProblemOf situation.now) }
 {
     let view = situation.view();
-    let (problem, _) = posed(alloc, &view)?;
+    let (problem, _) = posed(alloc, &view, None)?;
     Ok(problem)
 }

@@ -9,7 +9,7 @@ ghost use Rattle.arrivals.specs.Seen.{event_of, flight_of};
 ghost use Rattle.cps_network.specs.Due.{IsDue};
 ghost use Rattle.cps_problem.specs.Plans.{IsAnswerOf, IsWithinShift};
 ghost use Rattle.replan.specs.Kept.{k_of, problem_held, Holds};
-ghost use Rattle.sequencer.specs.Frozen.{moves_none, BeginsWithFrozen};
+ghost use Rattle.sequencer.specs.Frozen.{BeginsWithFrozen};
 ghost use Rattle.sequencer.specs.Ranked.{ArePlacesByRank};
 ghost use Rattle.situations.specs.Answers.{refusal_of};
 ghost use Rattle.situations.specs.Opened.{CanOpen, opening_of};
@@ -25,7 +25,9 @@ use cps_base::{Ledger, Steps};
 use cps_outside::Gate;
 use cps_problem::{Objective, Planner, Problem, Schedule};
 use extract_plan::value_of;
-use landing_joint::laws::{every_step_keeps_soundness, problem_stands_for_situation};
+use landing_joint::laws::{
+    clock_keeps_plans, every_step_keeps_soundness, problem_stands_for_situation,
+};
 use plan_file::Plan;
 use replan::AnyKept;
 use situations::{BeginFault, Refusal, Situation, View};
@@ -80,14 +82,13 @@ fn seconds_of(shown: &Option<Shown>) -> Option<&[u32]>
     }
 }
 
-// The plan that is shown, where the event moves no frozen landing.
-fn front_of<'a>(shown: &'a Option<Shown>, event: &Event) -> Option<&'a Plan>
-    ensures { MatchOption (option_map (λ p. p.now) result) ⊤ (λ plan.
-        (moves_none (event_of event.now) ≡ true) × (option_map (λ s. s.plan) shown.now ≡ Some plan)) }
+// The plan that is shown.
+fn plan_in(shown: &Option<Shown>) -> Option<&Plan>
+    ensures { option_map (λ p. p.now) result ≡ option_map (λ s. s.plan) shown.now }
 {
-    match (event, shown) {
-        (Event::Clock(_), _) | (_, None) => None,
-        (_, Some(shown)) => Some(&shown.plan),
+    match shown {
+        None => None,
+        Some(shown) => Some(&shown.plan),
     }
 }
 
@@ -173,7 +174,7 @@ fn planned<R: Threads + Sync, G: Gate + Sync, L: Ledger>(
     ensures steps { IfOk result (λ planned. (n : ℕ) × IsDue (problem_held planner.old) planned.0 n
         × (L.count steps.new ≡ raised_by n (L.count steps.old))) }
 {
-    let (problem, places) = posed(alloc, situation)?;
+    let (problem, places) = posed(alloc, situation, front)?;
     let answer = planner.replan(rt, alloc, &problem, gate, steps)?;
     let shown = shown_answer(alloc, situation, front, &problem, &places, &answer)?;
     Ok((problem, shown))
@@ -244,11 +245,12 @@ impl Sequencer<AnyKept> {
         ensures same_problem { OnErr result (self.new.problem ≡ self.old.problem) }
     {
         every_step_keeps_soundness();
+        clock_keeps_plans();
         let change = self
             .situation
             .change(alloc, seconds_of(&self.shown), event)?;
         let next = self.situation.view_after(&change);
-        let front = front_of(&self.shown, event);
+        let front = plan_in(&self.shown);
         match planned(rt, alloc, &next, front, &mut self.planner, gate, steps) {
             Ok((problem, shown)) => {
                 self.situation.keep(change);

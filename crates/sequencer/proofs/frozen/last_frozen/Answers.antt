@@ -1,11 +1,29 @@
-use Rattle.std.proofs.Common.{None, refl, ◌∙◌, rules}
-use Rattle.std.proofs.lemmas.Iterator.Adapters.{YieldsList-from_rev_slice}
-use Rattle.std.proofs.lemmas.Iterator.Consumers.{fold_from_yields_List}
-use Rattle.cps_base.specs.laws.Folds.{fold_from_back}
-use Rattle.sequencer.specs.Frozen.{latest, later_of}
+use Rattle.std.proofs.Common.{◌≡◌, ◌-◌, suc, length, take, ap, ◌∙◌, arith}
+use Rattle.std.proofs.lemmas.List.{length-map, length-take}
+use Rattle.landing_rules.specs.Text.{ShownLanding}
+use Rattle.plan_file.specs.Shown.{shown_of}
+use Rattle.sequencer.specs.Frozen.{frozen_shown, frozen_there, latest}
+use Rattle.sequencer.proofs.FrozenLeft.{last_is}
+use Rattle.sequencer.proofs.LastFrozen.{front_last}
 use Rattle.sequencer.proofs.frozen.last_frozen.Goals as goal
 
-pub returns : goal.returns
-returns c =
-    fold_from_yields_List _ (λ found a. later_of a found) None _ c.fold.ensures.ran (YieldsList-from_rev_slice c.args.flights.now (cc)) (λ found x r q k. search rules)
-    ∙ fold_from_back (λ found a. later_of a found) None latest refl (λ x xs. refl) c.args.flights.now
+pub line-requires : goal.line-requires
+line-requires c =
+    let s = c.args.situation.now in
+    let ls = c.in-Some.plan.now.landings in
+    let e = ap (length {A = ShownLanding}) (c.requires.front c.in-Some.plan c.in-Some.is) in
+    let l = length-map (take (length (frozen_shown s)) ls) frozen_there in
+    let m = length-take (length (frozen_shown s)) ls in
+    let n = c.requires.count in
+    let some = c.if-count-gt0.true in
+    omega arith
+
+pub latest_at-requires-clause-second : goal.latest_at-requires-clause-second
+latest_at-requires-clause-second c =
+    let n = c.requires.count in
+    let some = c.if-count-gt0.true in
+    let long : suc (c.args.count - 1) ≡ length (frozen_shown c.args.situation.now) = omega arith in
+    front_last c.args.situation.now c.in-Some.plan.now (c.args.count - 1) (shown_of c.line.result) (c.requires.front c.in-Some.plan c.in-Some.is) long c.line.ensures
+
+pub returns-in_default : goal.returns-in_default
+returns-in_default c = c.latest.ensures ∙ ap latest c.flights.ensures ∙ last_is c.args.situation.now.active

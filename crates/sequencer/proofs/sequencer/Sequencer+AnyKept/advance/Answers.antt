@@ -1,12 +1,9 @@
-use Rattle.std.proofs.Common.{◌≡◌, true, Some, sym, ap, subst, ◌∙◌}
-use Rattle.std.specs.Prelude.{option_map, ⊤}
-use Rattle.std.proofs.lemmas.Option.{MatchOption-at_some}
-use Rattle.landing_rules.specs.Text.{ShownPlan}
+use Rattle.std.proofs.Common.{sym, ap, subst, ◌∙◌}
+use Rattle.std.specs.Prelude.{option_map}
 use Rattle.landing_rules.specs.Events.{IsPlanShown, refusal, situation_after}
 use Rattle.arrivals.specs.Seen.{event_of}
 use Rattle.sequencer.specs.declared.sequencer.Shown.{Shown}
 use Rattle.replan.specs.Kept.{k_of}
-use Rattle.sequencer.specs.Frozen.{moves_none}
 use Rattle.sequencer.specs.Standing.{IsInStep}
 use Rattle.sequencer.proofs.Kept.{next_sound, next_front, next_in_step}
 use Rattle.sequencer.proofs.sequencer.Sequencer+AnyKept.advance.Goals as goal
@@ -21,12 +18,11 @@ planned-requires-clause-sound g c = λ lives within.
 pub planned-requires-clause-front : goal.planned-requires-clause-front
 planned-requires-clause-front g c = λ lives within plan is.
     let e = event_of c.args.event.now in
-    let Found : ShownPlan → Type 0 = λ p. (moves_none e ≡ true) × (option_map (λ (s : Shown). s.plan) c.self.inside.shown ≡ Some p) in
-    let found = MatchOption-at_some ⊤ Found plan.now (ap (option_map (λ p. p.now)) is) c.front_of-front.ensures in
-    next_front _ _ c.self.inside.problem _ e c.view_after-next.result plan.now c.self.invariant
-    (ap (λ v. refusal v.state.situation e) c.self.view_is ∙ c.requires.accepted)
-    (c.view_after-next.ensures ∙ c.in_ok-change.ensures.change.next_is ∙ ap (λ p. situation_after c.self.inside.situation p e) c.seconds_of.ensures)
-    found.0 found.1
+    let accepted = ap (λ v. refusal v.state.situation e) c.self.view_is ∙ c.requires.accepted in
+    let after = c.view_after-next.ensures ∙ c.in_ok-change.ensures.change.next_is ∙ ap (λ p. situation_after c.self.inside.situation p e) c.seconds_of.ensures in
+    next_front c.clock_keeps_plans.ensures.keeps _ _ c.self.inside.problem _ e c.view_after-next.result plan.now c.self.invariant accepted after
+    (next_sound c.every_step_keeps_soundness.ensures.situation _ e c.view_after-next.result c.self.invariant.sound c.requires.good accepted after)
+    (sym c.plan_in-front.ensures ∙ ap (option_map (λ p. p.now)) is)
 
 pub invariant_of-self-in-Ok : goal.invariant_of-self-in-Ok
 invariant_of-self-in-Ok g c =
