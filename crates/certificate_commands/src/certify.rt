@@ -35,11 +35,13 @@ fn certify_opened<R: Threads + Sync, G: Gate + Sync>(
 {
     problem_stands_for_situation();
     let problem = opening_problem(alloc, aerodrome, flights)?;
+    // The problem is well formed.
     let _well_formed = problem.head();
     let mut planner = AnyKept::fresh(aerodrome.k);
     let mut steps = Steps::new(Silent);
     let schedule = planner.replan(rt, alloc, &problem, gate, &mut steps)?;
     let certificate = cert_writer::certify(alloc, &problem, &planner, schedule.as_ref())?;
+    // The certificate has its form.
     let _in_form = certificate.claim();
     Ok(certificate)
 }

@@ -32,6 +32,7 @@ fn judge_opened(
 {
     problem_stands_for_situation();
     let problem = opening_problem(alloc, aerodrome, flights)?;
+    // The problem is well formed, and the certificate has its form.
     let _well_formed = problem.head();
     let _in_form = certificate.claim();
     Ok(judge(&problem, certificate))

@@ -11,8 +11,8 @@ use crate::laws::texts_are_bounded;
 use certificate_commands::{run_certify, run_check};
 use cps_outside::{Folder, Gate, Sink};
 use endings::{Ending, load_all, say, status};
-use inquiry_commands::{run_audit, run_first, run_what_if};
-use planning_commands::{run_effort, run_plan, run_replay, run_trial};
+use inquiry_commands::{TrialFiles, run_audit, run_first, run_what_if};
+use planning_commands::{LogFiles, TrialNumbers, run_effort, run_plan, run_replay, run_trial};
 use std::alloc::Global;
 use std::thread::Threads;
 
@@ -46,16 +46,28 @@ fn perform<R: Threads + Sync, S: Sink, G: Gate + Sync>(
     let flights = file(contents, 1);
     // The events, the certificate, the trials or the plan.
     let third = file(contents, 2);
+    let log = LogFiles {
+        aerodrome,
+        flights,
+        events: third,
+    };
+    let trials = TrialFiles {
+        aerodrome,
+        flights,
+        trials: third,
+    };
     match command {
         Command::Plan => run_plan(rt, alloc, aerodrome, flights, out, gate),
-        Command::Replay => run_replay(rt, alloc, aerodrome, flights, third, out, gate),
+        Command::Replay => run_replay(rt, alloc, &log, out, gate),
         Command::Certify => run_certify(rt, alloc, aerodrome, flights, out, gate),
         Command::Check => run_check(alloc, aerodrome, flights, third, out),
-        Command::Effort => run_effort(rt, alloc, aerodrome, flights, third, out, gate),
+        Command::Effort => run_effort(rt, alloc, &log, out, gate),
         Command::First => run_first(rt, alloc, aerodrome, flights, out, gate),
-        Command::WhatIf => run_what_if(rt, alloc, aerodrome, flights, third, out, gate),
+        Command::WhatIf => run_what_if(rt, alloc, &trials, out, gate),
         Command::Audit => run_audit(alloc, aerodrome, flights, third, out),
-        Command::Trial { seed, n, k } => run_trial(rt, alloc, seed, n, k, out, gate),
+        Command::Trial { seed, n, k } => {
+            run_trial(rt, alloc, TrialNumbers { seed, n, k }, out, gate)
+        }
     }
 }
 

@@ -27,6 +27,7 @@ fn report_plan(alloc: Global, sequencer: &Sequencer<AnyKept>) -> Result<Report, 
         ShowsFirstOf sequencer.now.state.situation r.text.items r.answer) }
     ensures sound { OnOk result (IsSoundState sequencer.now.state) }
 {
+    // The problem is that of the situation, which is sound.
     let _sound = sequencer.problem();
     let plan = first_plan(alloc, sequencer)?;
     let mut text = Vec::new(alloc);

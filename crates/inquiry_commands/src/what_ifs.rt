@@ -34,6 +34,7 @@ fn try_opened<R: Threads + Sync, G: Gate + Sync>(
         (λ text. AreTried aerodrome.now flights.now trials.now text.items)
         (StopsOpened aerodrome.now flights.now) }
 {
+    // Where the files open no situation, this is how the command ends; else their situation is sound.
     let _opened = opening(alloc, aerodrome, flights)?;
     let outcomes = run_trials(rt, alloc, aerodrome, flights, trials, gate)?;
     let mut text = Vec::new(alloc);
@@ -41,22 +42,32 @@ fn try_opened<R: Threads + Sync, G: Gate + Sync>(
     Ok(text)
 }
 
+/// The bytes of the files of trials.
+#[derive(Clone, Copy)]
+pub struct TrialFiles<'a> {
+    /// The aerodrome file.
+    pub aerodrome: &'a [u8],
+    /// The flight file.
+    pub flights: &'a [u8],
+    /// The trial file.
+    pub trials: &'a [u8],
+}
+
 // The same for the bytes of the files.
 fn report_files<R: Threads + Sync, G: Gate + Sync>(
     rt: &R,
     alloc: Global,
-    aerodrome: &[u8],
-    flights: &[u8],
-    trials: &[u8],
+    files: &TrialFiles<'_>,
     gate: &G,
 ) -> Result<Report, Ending>
     ensures { MatchResult result
-        (λ r. AdmitsWhatIf aerodrome.now flights.now trials.now r.text.items r.answer)
-        (StopsWhatIf aerodrome.now flights.now trials.now) }
+        (λ r. AdmitsWhatIf files.now.aerodrome.now files.now.flights.now files.now.trials.now
+        r.text.items r.answer)
+        (StopsWhatIf files.now.aerodrome.now files.now.flights.now files.now.trials.now) }
 {
-    let aerodrome = read_aerodrome(alloc, aerodrome)?;
-    let flights = read_flights(alloc, flights)?;
-    let trials = read_trials(alloc, trials)?;
+    let aerodrome = read_aerodrome(alloc, files.aerodrome)?;
+    let flights = read_flights(alloc, files.flights)?;
+    let trials = read_trials(alloc, files.trials)?;
     let text = try_opened(
         rt,
         alloc,
@@ -75,15 +86,13 @@ fn report_files<R: Threads + Sync, G: Gate + Sync>(
 pub fn run_what_if<R: Threads + Sync, S: Sink, G: Gate + Sync>(
     rt: &R,
     alloc: Global,
-    aerodrome: &[u8],
-    flights: &[u8],
-    trials: &[u8],
+    files: &TrialFiles<'_>,
     out: &mut S,
     gate: &G,
 ) -> Ending
-    ensures { FollowsWhatIf aerodrome.now flights.now trials.now
+    ensures { FollowsWhatIf files.now.aerodrome.now files.now.flights.now files.now.trials.now
         (S.state out.old) (S.state out.new) result }
 {
-    let report = report_files(rt, alloc, aerodrome, flights, trials, gate);
+    let report = report_files(rt, alloc, files, gate);
     print_report(out, report)
 }

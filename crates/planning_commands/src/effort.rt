@@ -1,6 +1,6 @@
 ghost use Rattle.planning_commands.specs.Effort.{FollowsEffort};
 
-use crate::replay::{begin_files, ending_of};
+use crate::replay::{LogFiles, begin_files, ending_of};
 use cps_outside::{Gate, Sink};
 use endings::Ending;
 use std::alloc::Global;
@@ -11,18 +11,14 @@ use std::thread::Threads;
 pub fn run_effort<R: Threads + Sync, S: Sink, G: Gate + Sync>(
     rt: &R,
     alloc: Global,
-    aerodrome: &[u8],
-    flights: &[u8],
-    events: &[u8],
+    files: &LogFiles<'_>,
     out: &mut S,
     gate: &G,
 ) -> Ending
-    ensures { FollowsEffort aerodrome.now flights.now events.now
+    ensures { FollowsEffort files.now.aerodrome.now files.now.flights.now files.now.events.now
         (S.state out.old) (S.state out.new) result }
 {
-    let (mut sequencer, events, opening) = match begin_files(
-        rt, alloc, aerodrome, flights, events, gate,
-    ) {
+    let (mut sequencer, events, opening) = match begin_files(rt, alloc, files, gate) {
         Ok(begun) => begun,
         Err(ending) => return ending,
     };

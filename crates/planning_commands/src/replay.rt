@@ -18,28 +18,38 @@ use sequencer::Sequencer;
 use std::alloc::Global;
 use std::thread::Threads;
 
+/// The bytes of the files of a replay.
+#[derive(Clone, Copy)]
+pub struct LogFiles<'a> {
+    /// The aerodrome file.
+    pub aerodrome: &'a [u8],
+    /// The flight file.
+    pub flights: &'a [u8],
+    /// The event log.
+    pub events: &'a [u8],
+}
+
 // The sequencer that the files begin, the events of the log, and the steps of the opening plan; or why the files are not
 // taken.
 #[tactic(auto, using(crate::proofs::Replayed::events_in_range))]
 pub(crate) fn begin_files<R: Threads + Sync, G: Gate + Sync>(
     rt: &R,
     alloc: Global,
-    aerodrome: &[u8],
-    flights: &[u8],
-    events: &[u8],
+    files: &LogFiles<'_>,
     gate: &G,
 ) -> Result<(Sequencer<AnyKept>, Vec<Event>, u64), Ending>
     ensures begun { MatchResult result
-        (λ begun. IsBegun aerodrome.now flights.now events.now
+        (λ begun. IsBegun files.now.aerodrome.now files.now.flights.now files.now.events.now
         begun.0.state (map event_of begun.1.items)
         × (All IsGood begun.1.items) × (vec_len begun.1 ≤ most_events))
-        (StopsReplay aerodrome.now flights.now events.now) }
+        (StopsReplay files.now.aerodrome.now files.now.flights.now files.now.events.now) }
     ensures planned { IfOk result (λ begun. IsPlannedAnew begun.0 begun.2) }
 {
-    let aerodrome = read_aerodrome(alloc, aerodrome)?;
-    let flights = read_flights(alloc, flights)?;
-    let events = read_events(alloc, events)?;
+    let aerodrome = read_aerodrome(alloc, files.aerodrome)?;
+    let flights = read_flights(alloc, files.flights)?;
+    let events = read_events(alloc, files.events)?;
     let (sequencer, steps) = begin(rt, alloc, aerodrome, flights, gate)?;
+    // The state is sound, and the problem that of its situation.
     let _sound = sequencer.problem();
     Ok((sequencer, events, steps))
 }
@@ -60,18 +70,14 @@ pub(crate) fn ending_of(replayed: Result<bool, Stop>) -> Ending
 pub fn run_replay<R: Threads + Sync, S: Sink, G: Gate + Sync>(
     rt: &R,
     alloc: Global,
-    aerodrome: &[u8],
-    flights: &[u8],
-    events: &[u8],
+    files: &LogFiles<'_>,
     out: &mut S,
     gate: &G,
 ) -> Ending
-    ensures { FollowsReplay aerodrome.now flights.now events.now
+    ensures { FollowsReplay files.now.aerodrome.now files.now.flights.now files.now.events.now
         (S.state out.old) (S.state out.new) result }
 {
-    let (mut sequencer, events, _) = match begin_files(
-        rt, alloc, aerodrome, flights, events, gate,
-    ) {
+    let (mut sequencer, events, _) = match begin_files(rt, alloc, files, gate) {
         Ok(begun) => begun,
         Err(ending) => return ending,
     };

@@ -81,41 +81,50 @@ fn report_traffic<R: Threads + Sync, G: Gate + Sync>(
     Ok(report)
 }
 
+/// The numbers of a trial.
+#[derive(Clone, Copy)]
+pub struct TrialNumbers {
+    /// The seed of its traffic.
+    pub seed: u64,
+    /// How many flights it has, 1 to 60.
+    pub n: u8,
+    /// The bound on shifts, 0 to 3.
+    pub k: u8,
+}
+
 // The same for the traffic of a seed.
 fn report_seed<R: Threads + Sync, G: Gate + Sync>(
     rt: &R,
     alloc: Global,
-    seed: u64,
-    n: u8,
-    k: u8,
+    numbers: TrialNumbers,
     gate: &G,
 ) -> Result<Report, Ending>
-    requires count { (1 ≤ n) × (n ≤ most_waiting) }
-    requires shifts { k ≤ 3 }
+    requires count { (1 ≤ numbers.n) × (numbers.n ≤ most_waiting) }
+    requires shifts { numbers.k ≤ 3 }
     ensures { MatchResult result
-        (λ r. AdmitsTrial seed n k r.text.items r.answer)
+        (λ r. AdmitsTrial numbers.seed numbers.n numbers.k r.text.items r.answer)
         StopsTrial }
 {
     traffic_can_land();
+    let TrialNumbers { seed, n, k } = numbers;
     let traffic = generate(alloc, seed, n, k)?;
     report_traffic(rt, alloc, traffic, n, k, gate)
 }
 
-/// The command `trial`: prints the summary of the traffic of a seed with `n` flights, 1 to 60, under the bound `k` on shifts, 0 to
-/// 3, and answers that it has a plan, as such traffic always has.
+/// The command `trial`: prints the summary of the traffic of these numbers, and answers that it has a plan, as such traffic always
+/// has.
 pub fn run_trial<R: Threads + Sync, S: Sink, G: Gate + Sync>(
     rt: &R,
     alloc: Global,
-    seed: u64,
-    n: u8,
-    k: u8,
+    numbers: TrialNumbers,
     out: &mut S,
     gate: &G,
 ) -> Ending
-    requires count { (1 ≤ n) × (n ≤ most_waiting) }
-    requires shifts { k ≤ 3 }
-    ensures { FollowsTrial seed n k (S.state out.old) (S.state out.new) result }
+    requires count { (1 ≤ numbers.n) × (numbers.n ≤ most_waiting) }
+    requires shifts { numbers.k ≤ 3 }
+    ensures { FollowsTrial numbers.seed numbers.n numbers.k
+        (S.state out.old) (S.state out.new) result }
 {
-    let report = report_seed(rt, alloc, seed, n, k, gate);
+    let report = report_seed(rt, alloc, numbers, gate);
     print_report(out, report)
 }
