@@ -1,5 +1,6 @@
 -- The frozen landing that is last, found by its second.
-use Rattle.std.proofs.Common.{◌≡◌, ℕ, zero, suc, ◌<◌, List, [], ◌∷◌, length, get_or, map, take, Option, Some, None, inl, inr, refl, sym, ap, ap₂, subst, ◌∙◌, arith}
+use Rattle.std.proofs.Common.{◌≡◌, ℕ, zero, suc, ◌<◌, List, [], ◌∷◌, length, get_or, map, take, Option, Some, None}
+use Rattle.std.proofs.Common.{inl, inr, refl, sym, ap, ap₂, subst, ◌∙◌, arith}
 use Rattle.std.specs.Prelude.{option_map, slice_get}
 use Rattle.std.proofs.lemmas.Bool.{cases_order}
 use Rattle.std.proofs.lemmas.List.{get_or_default, length-map}
@@ -21,7 +22,8 @@ second_of o = option_map (λ l. l.0) o
 
 -- ---- its second is that of the last one shown
 
-last_at : (all : List Landing) (n : ℕ) (l : ShownLanding) → slice_get (map shown_landing all) n ≡ Some l → suc n ≡ length all → second_of (last_of all) ≡ Some l.second
+last_at : (all : List Landing) (n : ℕ) (l : ShownLanding) → slice_get (map shown_landing all) n ≡ Some l
+    → suc n ≡ length all → second_of (last_of all) ≡ Some l.second
 last_at [] n l e long = absurd (omega arith)
 last_at (f ∷ []) zero l e long = ap (λ (k : ShownLanding). Some k.second) (same_Some (shown_landing f) l e)
 last_at (f ∷ []) (suc n) l e long = absurd (omega arith)
@@ -34,17 +36,20 @@ in_first (suc k) n [] lt = refl
 in_first (suc k) zero (x ∷ xs) lt = refl
 in_first (suc k) (suc n) (x ∷ xs) lt = in_first k n xs (omega arith)
 
-pub front_last : (s : Situation) (plan : ShownPlan) (n : ℕ) (l : ShownLanding) → BeginsWithFrozen s plan → suc n ≡ length (frozen_shown s) → slice_get plan.landings n ≡ Some l →
+pub front_last : (s : Situation) (plan : ShownPlan) (n : ℕ) (l : ShownLanding) → BeginsWithFrozen s plan
+    → suc n ≡ length (frozen_shown s) → slice_get plan.landings n ≡ Some l →
     second_of (last_of (in_landing_order (frozen_landings s))) ≡ Some l.second
 front_last s plan n l begins long e =
     let all = in_landing_order (frozen_landings s) in
     let k = length (frozen_shown s) in
     let m = length-map all shown_landing in
-    last_at all n (frozen_there l) (subst (λ ls. slice_get ls n ≡ Some (frozen_there l)) begins (there_at (take k plan.landings) n l (in_first k n plan.landings (omega arith) ∙ e))) (omega arith)
+    last_at all n (frozen_there l) (subst (λ ls. slice_get ls n ≡ Some (frozen_there l)) begins
+    (there_at (take k plan.landings) n l (in_first k n plan.landings (omega arith) ∙ e))) (omega arith)
 
 -- ---- the flight of that second
 
-last_member : (all : List Landing) (l : ℕ × Category) → last_of all ≡ Some l → (f : Landing) × Member f all × ((f.second, f.flight.category) ≡ l)
+last_member : (all : List Landing) (l : ℕ × Category) → last_of all ≡ Some l → (f : Landing)
+    × Member f all × ((f.second, f.flight.category) ≡ l)
 last_member [] l e = let w : None ≡ Some l = e in absurd (cc)
 last_member (f ∷ []) l e = (f, inl refl, same_Some (f.second, f.flight.category) l e)
 last_member (f ∷ g ∷ rest) l e = let r = last_member (g ∷ rest) l e in (r.0, inr r.1, r.2)
@@ -55,11 +60,17 @@ pub last_frozen_at : (s : Situation) (l : ℕ × Category) → last_of (in_landi
 last_frozen_at s l e =
     let r = last_member (in_landing_order (frozen_landings s)) l e in
     let b = in_frozen s.active r.0 (order_member r.0 (frozen_landings s) r.1) in
-    let at : b.1 ≡ l.0 = ap (λ (f : Landing). f.second) (sym b.4) ∙ ap (λ (p : ℕ × Category). p.0) r.2 in
-    (b.0, b.2, b.3 ∙ ap (λ (t : ℕ). Some t) at, ap (λ (f : Landing). f.flight.category) (sym b.4) ∙ ap (λ (p : ℕ × Category). p.1) r.2)
+    let at : b.1 ≡ l.0 = ap (λ (f : Landing). f.second) (sym b.4) ∙ ap (λ (p : ℕ × Category). p.0) r.2 in (
+      b.0,
+      b.2,
+      b.3 ∙ ap (λ (t : ℕ). Some t) at,
+      ap (λ (f : Landing). f.flight.category) (sym b.4)
+          ∙ ap (λ (p : ℕ × Category). p.1) r.2,
+    )
 
 -- and no other is
-one_at : (s : Situation) → IsSound s → (a b : Active) (m : ℕ) → Member a s.active → Member b s.active → a.frozen ≡ Some m → b.frozen ≡ Some m → a.flight.category ≡ b.flight.category
+one_at : (s : Situation) → IsSound s → (a b : Active) (m : ℕ) → Member a s.active → Member b s.active
+    → a.frozen ≡ Some m → b.frozen ≡ Some m → a.flight.category ≡ b.flight.category
 one_at s sound a b m ma mb fa fb =
     let fs = frozen_landings s in
     let f = landing a m in
@@ -69,18 +80,21 @@ one_at s sound a b m ma mb fa fb =
     let li = i.1 in
     let lj = j.1 in
     let at : get_or fs j.0 f ≡ g = get_or_default fs j.0 f g lj ∙ j.2 in
-    let same : (get_or fs i.0 f).second ≡ (get_or fs j.0 f).second = ap (λ (x : Landing). x.second) i.2 ∙ ap (λ (x : Landing). x.second) (sym at) in
+    let same : (get_or fs i.0 f).second ≡ (get_or fs j.0 f).second =
+    ap (λ (x : Landing). x.second) i.2 ∙ ap (λ (x : Landing). x.second) (sym at) in
     elim (cases_order i.0 j.0) [
       | inl q ↦ ap (λ (x : Landing). x.flight.category) (sym i.2 ∙ ap (λ k. get_or fs k f) q ∙ at)
       | inr (inl lt) ↦ absurd (seconds_apart s sound i.0 j.0 f lt lj same)
       | inr (inr gt) ↦ absurd (seconds_apart s sound j.0 i.0 f gt li (sym same))
     ]
 
-pub found_last : (s : Situation) → IsSound s → (m : ℕ) (a : Active) → second_of (last_of (in_landing_order (frozen_landings s))) ≡ Some m → Member a s.active → a.frozen ≡ Some m →
+pub found_last : (s : Situation) → IsSound s → (m : ℕ) (a : Active)
+    → second_of (last_of (in_landing_order (frozen_landings s))) ≡ Some m → Member a s.active → a.frozen ≡ Some m →
     Some (m, a.flight.category) ≡ last_of (in_landing_order (frozen_landings s))
 found_last s sound m a e ma fa = go (last_of (in_landing_order (frozen_landings s))) refl e
   where
-    go : (o : Option (ℕ × Category)) → last_of (in_landing_order (frozen_landings s)) ≡ o → second_of o ≡ Some m → Some (m, a.flight.category) ≡ o
+    go : (o : Option (ℕ × Category)) → last_of (in_landing_order (frozen_landings s)) ≡ o → second_of o ≡ Some m
+        → Some (m, a.flight.category) ≡ o
     go None q e = let w : None ≡ Some m = e in absurd (cc)
     go (Some l) q e =
         let b = last_frozen_at s l q in
@@ -89,9 +103,11 @@ found_last s sound m a e ma fa = go (last_of (in_landing_order (frozen_landings 
         ap₂ (λ (t : ℕ) (c : Category). Some (t, c)) (sym at) same
 
 -- some flight is frozen there
-pub some_last : (s : Situation) (m : ℕ) → second_of (last_of (in_landing_order (frozen_landings s))) ≡ Some m → (a : Active) × Member a s.active × (a.frozen ≡ Some m)
+pub some_last : (s : Situation) (m : ℕ) → second_of (last_of (in_landing_order (frozen_landings s))) ≡ Some m
+    → (a : Active) × Member a s.active × (a.frozen ≡ Some m)
 some_last s m e = go (last_of (in_landing_order (frozen_landings s))) refl e
   where
-    go : (o : Option (ℕ × Category)) → last_of (in_landing_order (frozen_landings s)) ≡ o → second_of o ≡ Some m → (a : Active) × Member a s.active × (a.frozen ≡ Some m)
+    go : (o : Option (ℕ × Category)) → last_of (in_landing_order (frozen_landings s)) ≡ o → second_of o ≡ Some m
+        → (a : Active) × Member a s.active × (a.frozen ≡ Some m)
     go None q e = let w : None ≡ Some m = e in absurd (cc)
     go (Some l) q e = let b = last_frozen_at s l q in (b.0, b.1, b.2 ∙ ap (λ (t : ℕ). Some t) (same_Some l.0 m e))

@@ -15,4 +15,5 @@ loop-i-preserved c =
     let m = c.min-most.ensures in
     ap (map landing_of) (take_more xs i l (omega arith)) ∙ map-append landing_of (take i xs) (get_or xs i l ∷ [])
     ∙ ap (λ (y : ShownLanding). map landing_of (take i xs) ++ y ∷ []) (c.is_same.ensures (search rules))
-    ∙ first_more c.args.plan.now.landings (map landing_of (take i xs)) i (shown_of c.line.result) c.loop-i.invariant c.line.ensures
+    ∙ first_more c.args.plan.now.landings (map landing_of (take i xs)) i
+    (shown_of c.line.result) c.loop-i.invariant c.line.ensures

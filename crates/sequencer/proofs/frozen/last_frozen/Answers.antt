@@ -23,7 +23,8 @@ latest_at-requires-clause-second c =
     let n = c.requires.count in
     let some = c.if-count-gt0.true in
     let long : suc (c.args.count - 1) ≡ length (frozen_shown c.args.situation.now) = omega arith in
-    front_last c.args.situation.now c.in-Some.plan.now (c.args.count - 1) (shown_of c.line.result) (c.requires.front c.in-Some.plan c.in-Some.is) long c.line.ensures
+    front_last c.args.situation.now c.in-Some.plan.now (c.args.count - 1) (shown_of c.line.result)
+    (c.requires.front c.in-Some.plan c.in-Some.is) long c.line.ensures
 
 pub returns-in_default : goal.returns-in_default
 returns-in_default c = c.latest.ensures ∙ ap latest c.flights.ensures ∙ last_is c.args.situation.now.active

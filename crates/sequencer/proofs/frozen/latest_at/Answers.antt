@@ -17,7 +17,8 @@ loop-i-preserved c = λ j d le lt e.
     elim (cases_order j (i - 1)) [
       | inl q ↦ (
           let here : a.frozen ≡ Some c.args.second =
-          ap (λ (x : Active). x.frozen) (c.index-flights-i.is ∙ get_or_default flights (i - 1) a d (omega arith) ∙ ap (λ k. get_or flights k d) (sym q)) ∙ e in
+          ap (λ (x : Active). x.frozen) (c.index-flights-i.is ∙ get_or_default flights (i - 1) a d (omega arith)
+          ∙ ap (λ k. get_or flights k d) (sym q)) ∙ e in
           absurd (false≢true (sym c.if-is_frozen_at.false ∙ c.is_frozen_at.ensures.no here)))
       | inr (inl low) ↦ absurd (omega arith)
       | inr (inr high) ↦ c.loop-i.invariant j d (omega arith) lt e
@@ -32,9 +33,11 @@ returns-then-is_frozen_at c =
     let some = c.loop-i-test.true in
     let within = c.loop-i.auto.i in
     let here : Member a s.active =
-    subst (Member a) c.flights-flights.ensures (subst (λ x. Member x flights) (sym c.index-flights-i.is) (member_at flights (i - 1) a (omega arith))) in
+    subst (Member a) c.flights-flights.ensures (subst (λ x. Member x flights) (sym c.index-flights-i.is)
+    (member_at flights (i - 1) a (omega arith))) in
     ap (λ (x : Active). Some (c.args.second, x.flight.category)) c.active.view_is
-    ∙ found_last s c.requires.sound c.args.second a c.requires.second here (c.is_frozen_at.ensures.yes c.if-is_frozen_at.true)
+    ∙ found_last s c.requires.sound c.args.second a c.requires.second here
+    (c.is_frozen_at.ensures.yes c.if-is_frozen_at.true)
 
 pub returns : goal.returns
 returns c =
@@ -44,4 +47,6 @@ returns c =
     let none = c.loop-i-test.false in
     let lt = k.1 in
     let long = ap (length {A = Active}) c.flights-flights.ensures in
-    absurd (c.loop-i.invariant k.0 b.0 (omega arith) (omega arith) (ap (λ (x : Active). x.frozen) (ap (λ (l : List Active). get_or l k.0 b.0) c.flights-flights.ensures ∙ k.2) ∙ b.2))
+    absurd (c.loop-i.invariant k.0 b.0 (omega arith) (omega arith)
+    (ap (λ (x : Active). x.frozen) (ap (λ (l : List Active). get_or l k.0 b.0) c.flights-flights.ensures ∙ k.2)
+    ∙ b.2))

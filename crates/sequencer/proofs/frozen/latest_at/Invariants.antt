@@ -4,4 +4,5 @@ use Rattle.sequencer.proofs.frozen.latest_at.Given as goal
 
 -- none of those looked at is frozen at the second
 abbrev pub invariant-loop-i : goal.invariant-loop-i
-invariant-loop-i l = (j : ℕ) (d : Active) → l.i ≤ j → j < length l.flights → (get_or l.flights j d).frozen ≡ Some l.second → ⊥
+invariant-loop-i l = (j : ℕ) (d : Active) → l.i ≤ j → j < length l.flights
+    → (get_or l.flights j d).frozen ≡ Some l.second → ⊥

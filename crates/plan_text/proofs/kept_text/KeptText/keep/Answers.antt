@@ -21,7 +21,8 @@ invariant_of-self c =
     let ls = c.self.inside.lines.items in
     let text = c.self.inside.text.items in
     let e = c.end_of.result in
-    let end : e ≡ length (of_lines (take c.args.count ls)) = c.end_of.ensures ∙ ap (λ l. length (of_lines (take c.args.count l))) c.deref.ensures.value in
+    let end : e ≡ length (of_lines (take c.args.count ls)) =
+    c.end_of.ensures ∙ ap (λ l. length (of_lines (take c.args.count l))) c.deref.ensures.value in
     let short = first_short ls c.args.count in
     let all = ap (length {A = ℕ}) c.self.invariant.lines in
     let within = c.self.invariant.head in
@@ -30,7 +31,8 @@ invariant_of-self c =
     let same = ap (length {A = ℕ}) c.truncate-2.ensures.items in
     record {
       head = omega arith;
-      lines = ap (drop h) c.truncate-2.ensures.items ∙ drop_first h e text ∙ ap₂ (λ (n : ℕ) (t : Bytes). take n t) end c.self.invariant.lines ∙ first_lines ls c.args.count
+      lines = ap (drop h) c.truncate-2.ensures.items ∙ drop_first h e text
+          ∙ ap₂ (λ (n : ℕ) (t : Bytes). take n t) end c.self.invariant.lines ∙ first_lines ls c.args.count
           ∙ ap of_lines (sym c.truncate.ensures.items);
       ends = subst (EndAt 0) (sym c.truncate.ensures.items) (ends_first 0 ls c.args.count c.self.invariant.ends);
     }
@@ -39,5 +41,7 @@ pub returns : goal.returns
 returns c =
     let h = c.self.inside.head in
     ap₂ (λ (b : Bytes) (l : List ShownLanding). (let w : Written = record { head = b; landings = l } in w))
-    (ap (take h) c.truncate-2.ensures.items ∙ take_first h c.end_of.result c.self.inside.text.items ∙ ap (λ (w : Written). w.head) c.self.view_is)
-    (ap (map landing_of) c.truncate.ensures.items ∙ sym (take-map landing_of c.args.count c.self.inside.lines.items) ∙ ap (λ (w : Written). take c.args.count w.landings) c.self.view_is)
+    (ap (take h) c.truncate-2.ensures.items ∙ take_first h c.end_of.result c.self.inside.text.items
+    ∙ ap (λ (w : Written). w.head) c.self.view_is)
+    (ap (map landing_of) c.truncate.ensures.items ∙ sym (take-map landing_of c.args.count c.self.inside.lines.items)
+    ∙ ap (λ (w : Written). take c.args.count w.landings) c.self.view_is)

@@ -16,7 +16,8 @@ invariant_of-self c =
     let l : Line = record { landing = c.args.landing; end = c.saturating_sub-end.result } in
     let text : c.append_landing.new.into.items ≡ old ++ w = search rules in
     let lines : c.push.new.self.items ≡ ls ++ l ∷ [] = search rules in
-    let behind : drop h (old ++ w) ≡ of_lines ls ++ w = drop_grown h old w c.self.invariant.head ∙ ap (λ t. t ++ w) c.self.invariant.lines in
+    let behind : drop h (old ++ w) ≡ of_lines ls ++ w = drop_grown h old w c.self.invariant.head
+    ∙ ap (λ t. t ++ w) c.self.invariant.lines in
     let within = c.self.invariant.head in
     let grown = length-append old w in
     let long = length_behind h (old ++ w) (omega arith) in
