@@ -90,7 +90,7 @@ pub(crate) fn stage_after<const W: usize>(
     ensures { IfOk result (IsStageAfter problem.now before.now) }
 {
     if is_whole && earlier.number() < before.number() {
-        if let Some(stage) = next_stage_again(alloc, before, problem, problem, earlier, before)? {
+        if let Some(stage) = next_stage_again(before, problem, problem, earlier, before)? {
             return Ok(stage);
         }
     }
@@ -114,7 +114,7 @@ fn stage_again<const W: usize>(
     ensures { IfOk result (IsStageAfter problem.now before.now) }
 {
     if let Some(former) = former {
-        if let Some(stage) = former.next(alloc, problem, before)? {
+        if let Some(stage) = former.next(problem, before)? {
             return Ok(stage);
         }
     }
