@@ -1,6 +1,6 @@
 //! The labels of a stage, for either objective.
 
-ghost use Rattle.std.specs.Prelude.{◌≡◌, ◌+◌, ◌*◌, ◌<◌, ◌≤◌, [], ◌∷◌, length, IfOk, OnOk};
+ghost use Rattle.std.specs.Prelude.{◌≡◌, ◌+◌, ◌*◌, ◌<◌, ◌≤◌, [], ◌∷◌, length, IfOk, IfSome, OnOk};
 ghost use Rattle.cps_base.specs.Tally.{raised_by};
 ghost use Rattle.cps_theory.specs.Network.{Undominated};
 ghost use Rattle.landing_rules.specs.Rules.{last_second};
@@ -10,7 +10,9 @@ ghost use Rattle.cps_network.specs.Landable.{Attains, HasEachLandable};
 ghost use Rattle.cps_network.specs.Pairs.{AreCosts, GivesPair, list_at, pair_at};
 ghost use Rattle.cps_network.specs.Permits.{IsNextOf};
 ghost use Rattle.makespan_labels.specs.Labels.{no_label, AreLabels, HoldsLabels};
+ghost use Rattle.makespan_labels.specs.LabelPairs.{column_pairs};
 ghost use Rattle.replan.specs.Labels.{AreLandableOf, HoldsPairs, last_pair, worth};
+ghost use Rattle.replan.specs.WindowNodes.{extremes};
 
 use cps_base::{Ledger, Steps};
 use cps_network::{Stage, prefix_laws};
@@ -200,6 +202,28 @@ impl Labels {
         match &self.kept {
             ByObjective::OfColumn(column) => (column.label(i), 0),
             ByObjective::OfCosts(costs) => costs.pair(i, j),
+        }
+    }
+
+    // The second of the first pair of the list at place i, and the cost of the last one.
+    #[inline]
+    pub(crate) fn extremes(&self, i: usize) -> (u32, u32)
+        requires place { i < length self.now.lists }
+        requires some { 0 < length (list_at self.now.lists i) }
+        ensures value { result ≡ extremes (list_at self.now.lists i) }
+        ensures in_days { result.0 ≤ last_second }
+    {
+        let last = self.count(i) - 1;
+        (self.pair(i, 0).0, self.pair(i, last).1)
+    }
+
+    // The column, for the makespan.
+    pub(crate) fn column(&self) -> Option<&Column>
+        ensures { IfSome result (λ column. self.now.lists ≡ column_pairs column.now) }
+    {
+        match &self.kept {
+            ByObjective::OfColumn(column) => Some(column),
+            ByObjective::OfCosts(_) => None,
         }
     }
 
