@@ -1,6 +1,6 @@
 -- To keep some places of a list in place, step by step.
-use Rattle.std.proofs.Common.{◌≡◌, ℕ, zero, ◌+◌, ◌<◌, ◌≤◌, List, [], ◌∷◌, ◌++◌, length, drop, take, get_or, refl, arith, length-append, length-set, append-nil, add-one, ◌∙◌, sym, ap, ap₂, inl, inr, subst, suc}
-use Rattle.std.specs.Prelude.{Bool, true, false, ◌⊎◌, replicate}
+use Rattle.std.proofs.Common.{◌≡◌, ℕ, zero, ◌+◌, ◌<◌, ◌≤◌, List, [], ◌∷◌, ◌++◌, length, drop, take, get_or, refl, arith, length-append, length-set, append-nil, add-one, ◌∙◌, sym, ap, ap₂, inl, inr, subst, suc, Vec, Global}
+use Rattle.std.specs.Prelude.{Bool, true, false, ◌⊎◌, replicate, Result, Ok, Err, IsOk, OnErr}
 use Rattle.std.specs.List.{AllZip, swap}
 use Rattle.std.proofs.Math.ListN.{set}
 use Rattle.std.proofs.Math.Seq.{take-suc, take-suc-set}
@@ -114,3 +114,22 @@ all_as_they_were zero [] le = refl
 all_as_they_were zero (x ∷ xs) le = absurd (omega arith)
 all_as_they_were (suc n) [] le = refl
 all_as_they_were {A} (suc n) (x ∷ xs) le = ap (λ (zs : List A). x ∷ zs) (all_as_they_were n xs (omega arith))
+
+-- ---- where what holds a list is as it was, or a clone of it
+
+as_cloned : {A : Type 0} (R : A → A → Type 0) (xs ys : List A) → ((x y : A) → R x y → y ≡ x) → AllZip R xs ys → ys ≡ xs
+as_cloned R [] [] same all = refl
+as_cloned R [] (y ∷ ys) same all = absurd all
+as_cloned R (x ∷ xs) [] same all = absurd all
+as_cloned {A} R (x ∷ xs) (y ∷ ys) same all = ap₂ (λ (z : A) (zs : List A). z ∷ zs) (same x y all.0) (as_cloned R xs ys same all.1)
+
+pub same_or_cloned : {A : Type 0} (R : A → A → Type 0) {X : Type 0} (old new : Vec A Global) → ((x y : A) → R x y → y ≡ x)
+    → (new ≡ old) ⊎ (AllZip R old.items new.items × X) → new.items ≡ old.items
+same_or_cloned R old new same (inl e) = ap (λ (v : Vec _ Global). v.items) e
+same_or_cloned R old new same (inr c) = as_cloned R old.items new.items same c.0
+
+pub err_says : {T E Y : Type 0} (r : Result T E) (e : E) → r ≡ Err e → OnErr r Y → Y
+err_says {T} {E} {Y} r e is said = subst (λ (s : Result T E). OnErr s Y) is said
+
+pub is_ok : {T E : Type 0} (r : Result T E) (x : T) → r ≡ Ok x → IsOk r
+is_ok {T} {E} r x is = subst (λ (s : Result T E). IsOk s) (sym is) refl

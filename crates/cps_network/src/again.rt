@@ -9,7 +9,7 @@ ghost use Rattle.cps_network.specs.Permits.{IsNextOf};
 use crate::permit::{due_set, most_shift, reach};
 use crate::stage::Stage;
 use cps_problem::Problem;
-use std::alloc::{AllocError, Global};
+use std::alloc::AllocError;
 
 // The ranks that can have landed by a stage, as bits: those at most stage + k.
 fn landed_set(stage: u8, k: u8) -> u64
@@ -136,7 +136,6 @@ fn have_same_next(held: &Problem, a: u8, problem: &Problem, b: u8) -> bool
 /// The stage after a stage of a problem, where it is seen to have the windows of the stage after another one, of this or of
 /// another problem, and so shares those. Else none.
 pub fn next_stage_again<const W: usize>(
-    alloc: Global,
     before: &Stage<W>,
     problem: &Problem,
     held: &Problem,
@@ -153,7 +152,7 @@ pub fn next_stage_again<const W: usize>(
     if have_same_next(held, earlier.number(), problem, before.number())
         && before.windows() == earlier.windows()
     {
-        let next = after.copy_as(alloc, before.number() + 1)?;
+        let next = after.copy_as(before.number() + 1)?;
         return Ok(Some(next));
     }
     Ok(None)

@@ -14,7 +14,6 @@ mod order;
 mod permit;
 mod source_range;
 mod stage;
-mod window_list;
 
 pub use again::next_stage_again;
 pub use last::last_rank;
@@ -26,5 +25,5 @@ pub use links::Links;
 pub use next::next_stage;
 pub use node::{Node, placed_node};
 pub use permit::is_permitted;
-pub use source_range::sources;
+pub use source_range::{run_of, sources};
 pub use stage::Stage;

@@ -126,8 +126,8 @@ impl<const W: usize> Links<W> {
         ensures { IfOk result (λ found. IfSome found (λ links.
             (links.origin ≡ before.now.1) × (links.target ≡ after.now.1))) }
     {
-        let origin = before.shared_windows(alloc)?;
-        let target = after.shared_windows(alloc)?;
+        let origin = before.shared_windows()?;
+        let target = after.shared_windows()?;
         let earlier = before.windows();
         // So few that each place is a u32.
         let _few = before.len();
@@ -165,18 +165,6 @@ impl<const W: usize> Links<W> {
         ensures { result.now ≡ self.now.target }
     {
         self.target.as_slice()
-    }
-
-    // Where the windows that lead to the one at place i begin, and 0 where there is none at i.
-    pub(crate) fn begin(&self, i: usize) -> usize {
-        if i >= self.places.len() {
-            return 0;
-        }
-        let place = self.places[i] as usize;
-        if place >= self.ranges.len() {
-            return 0;
-        }
-        self.ranges[place].0 as usize
     }
 
     /// The half-open ranges of the windows that share a tail, by their places in the first list.

@@ -1,6 +1,6 @@
 //! The stage after a stage.
 
-ghost use Rattle.std.specs.Prelude.{◌≡◌, ℕ, pos, ◌+◌, ◌-◌, ◌*◌, ◌/◌, ◌<◌, ◌≤◌, ◌⊎◌, ◌↔◌, length, IsTrue, IfOk, OnOk, Contains};
+ghost use Rattle.std.specs.Prelude.{◌≡◌, ℕ, pos, ◌+◌, ◌-◌, ◌*◌, ◌/◌, ◌<◌, ◌≤◌, ◌⊎◌, ◌↔◌, length, IfOk, OnOk, Contains};
 ghost use Rattle.precedence.specs.Pairs.{HasBit};
 ghost use Rattle.cps_nodes.specs.Laws.{offset_after};
 ghost use Rattle.cps_nodes.specs.Windows.{IsWidth, IsPlaced, shifted};
@@ -11,7 +11,6 @@ ghost use Rattle.cps_network.specs.Permits.{IsPermitted, IsSuccessor, IsNextOf};
 use crate::links::Links;
 use crate::order::in_order;
 use crate::permit::{due_set, most_shift, placed_set, reach, successor};
-use crate::source_range::{first_source, past_below, run_of};
 use crate::stage::Stage;
 use cps_nodes::{ExtendableWindow, Window, window_laws};
 use cps_problem::{Objective, Problem};
@@ -119,31 +118,6 @@ fn next_windows<const W: usize>(
     Ok(after)
 }
 
-// Where the windows that lead to each are likely to begin, for all at once: one cursor for each first offset, which starts
-// where the first such windows begin.
-fn begins<const W: usize>(
-    alloc: Global,
-    before: &[Window<W>],
-    after: &[Window<W>],
-) -> Result<Vec<u32>, AllocError>
-    requires width { IsWidth W }
-    requires ascending { IsAscending before.now }
-{
-    let mut cursors = [0usize; 8];
-    let mut begins = Vec::with_capacity(alloc, after.len())?;
-    for node in after {
-        let run = run_of(node);
-        let mut place = cursors[run];
-        if place == 0 {
-            place = first_source(before, node);
-        }
-        place = past_below(before, node, place);
-        cursors[run] = place;
-        begins.push(place.min(u32::MAX as usize) as u32)?;
-    }
-    Ok(begins)
-}
-
 // From how many windows on a stage keeps links.
 const LINKED: usize = 32;
 
@@ -167,30 +141,13 @@ fn linked<const W: usize>(
     requires valid { AreWindows W windows.items }
     ensures { IfOk result (λ s. s ≡ (before.now.0 + 1, windows.entry.items)) }
 {
-    let made = Stage::made(alloc, before.number() + 1, windows, Vec::new(alloc))?;
+    let made = Stage::made(alloc, before.number() + 1, windows)?;
     let links = Links::between(alloc, before, &made)?;
     let stage = made.with_links(alloc, links)?;
     Ok(stage)
 }
 
-// The stage of these windows, with hints where in the stage before those begin that lead to each.
-fn hinted<const W: usize>(
-    alloc: Global,
-    before: &Stage<W>,
-    windows: Vec<Window<W>>,
-) -> Result<Stage<W>, AllocError>
-    requires width { IsWidth W }
-    requires stage { before.now.0 < 60 }
-    requires ascending { IsAscending windows.items }
-    requires valid { AreWindows W windows.items }
-    ensures { IfOk result (λ s. s ≡ (before.now.0 + 1, windows.entry.items)) }
-{
-    let hints = begins(alloc, before.windows(), &windows)?;
-    let stage = Stage::made(alloc, before.number() + 1, windows, hints)?;
-    Ok(stage)
-}
-
-// The stage of these windows, with what is kept of those of the stage before that lead to each.
+// The stage of these windows, with links from those of the stage before where they are worth keeping.
 fn stage_of<const W: usize>(
     alloc: Global,
     problem: &Problem,
@@ -207,7 +164,7 @@ fn stage_of<const W: usize>(
         let stage = linked(alloc, before, windows)?;
         return Ok(stage);
     }
-    let stage = hinted(alloc, before, windows)?;
+    let stage = Stage::made(alloc, before.number() + 1, windows)?;
     Ok(stage)
 }
 

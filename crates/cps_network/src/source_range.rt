@@ -9,7 +9,7 @@ use crate::stage::Stage;
 use cps_nodes::{Window, window_laws};
 
 // The first place whose window's tail is not below the node's head.
-pub(crate) fn first_source<const W: usize>(before: &[Window<W>], node: &Window<W>) -> usize
+fn first_source<const W: usize>(before: &[Window<W>], node: &Window<W>) -> usize
     requires width { IsWidth W }
     requires ascending { IsAscending before.now }
     ensures within { result ≤ length before.now }
@@ -40,13 +40,33 @@ pub(crate) fn past_below<const W: usize>(
         .unwrap_or(before.len())
 }
 
-// Which of eight runs a window belongs to: those with the same first offset. In such a run the windows that lead to each stand in
-// the order of the run.
+// How many places are looked at before all are searched.
+const FEW: usize = 8;
+
+// The first of a few places, from this one on, whose window's tail is not below the node's head, or the place behind them.
 #[inline]
-pub(crate) fn run_of<const W: usize>(window: &Window<W>) -> usize
-    requires { IsWidth W }
+pub(crate) fn near_begin<const W: usize>(
+    before: &[Window<W>],
+    node: &Window<W>,
+    near: usize,
+) -> usize {
+    let end = before.len().min(near.saturating_add(FEW));
+    (near..end)
+        .find(
+            |place: &usize| -> bool
+                requires { place.now < length before.now }
+            { !before[*place].is_below(node) },
+        )
+        .unwrap_or(end)
+}
+
+/// Which of eight runs a window belongs to: those with the same first offset. In such a run the windows that lead to each stand
+/// in the order of the run.
+#[inline]
+pub fn run_of<const W: usize>(window: &Window<W>) -> usize
     ensures { result < 8 }
 {
+    let _valid = window.last();
     window.offset(0).rem_euclid(8) as usize
 }
 

@@ -1,6 +1,6 @@
 //! A stage: its number, and its windows in ascending order.
 
-ghost use Rattle.std.specs.Prelude.{◌≡◌, ℕ, ℤ, pos, ◌^◌, ◌<◌, ◌≤◌, ◌↔◌, List, [], ◌∷◌, Bool, length, replicate, IsTrue, IfOk, IfSome, vec_len};
+ghost use Rattle.std.specs.Prelude.{◌≡◌, ℕ, ℤ, pos, ◌^◌, ◌<◌, ◌≤◌, ◌↔◌, List, [], ◌∷◌, Bool, length, replicate, IsTrue, IfOk, IfSome, OnOk, OnErr, vec_len};
 ghost use Rattle.std.specs.Arc.{arc_value};
 ghost use Rattle.std.specs.Fn.{FnReturnsAt};
 ghost use Rattle.std.specs.List.{AllZip};
@@ -9,9 +9,9 @@ ghost use Rattle.cps_nodes.specs.Leads.{Extends};
 ghost use Rattle.cps_network.specs.Compacted.{kept_where};
 ghost use Rattle.cps_network.specs.Lists.{IsAscending, AreWindows, node_at};
 
+use crate::compact::{compact_all, keeps_all};
 use crate::links::Links;
-use crate::source_range::sources_near;
-use crate::window_list::WindowList;
+use crate::source_range::{near_begin, sources_near};
 use cps_nodes::{Window, window_laws};
 use std::alloc::{AllocError, Global};
 use std::marker::Model;
@@ -21,23 +21,23 @@ use std::sync::Arc;
 #[derive(Drop)]
 pub struct Stage<const W: usize> {
     number: u8,
-    list: WindowList<W>,
-    // Where the windows that lead to each are likely to begin in the stage before, as long as none is left out. Only speed
-    // rests on it.
-    hints: Arc<Vec<u32>, Global>,
+    // A list that other stages may have too, until some of it is left out here.
+    windows: Arc<Vec<Window<W>>, Global>,
     // The links from the windows of the stage before, where they are worth keeping. They are asked for by both lists.
     links: Option<Arc<Links<W>, Global>>,
 }
 
 impl<const W: usize> Model for Stage<W> {
     ghost use Rattle.std.specs.Prelude.{ℕ, ℤ, List};
+    ghost use Rattle.std.specs.Arc.{arc_value};
     ghost use Rattle.cps_network.specs.Lists.{IsAscending, AreWindows};
 
     ghost Value = { ℕ × List (List ℤ) };
 
-    ghost view = { λ s. (s.number, s.list) };
+    ghost view = { λ s. (s.number, (arc_value s.windows).items) };
 
-    ghost invariant = { λ s. IsAscending s.list × AreWindows W s.list };
+    ghost invariant = { λ s. IsAscending (arc_value s.windows).items
+        × AreWindows W (arc_value s.windows).items };
 }
 
 impl<const W: usize> Stage<W> {
@@ -49,7 +49,7 @@ impl<const W: usize> Stage<W> {
         window_laws::<W>();
         let mut windows = Vec::new(alloc);
         windows.push(Window::source())?;
-        let start = Stage::made(alloc, 0, windows, Vec::new(alloc))?;
+        let start = Stage::made(alloc, 0, windows)?;
         Ok(start)
     }
 
@@ -58,18 +58,15 @@ impl<const W: usize> Stage<W> {
         alloc: Global,
         number: u8,
         windows: Vec<Window<W>>,
-        hints: Vec<u32>,
     ) -> Result<Stage<W>, AllocError>
         requires ascending { IsAscending windows.items }
         requires valid { AreWindows W windows.items }
         ensures { IfOk result (λ s. s ≡ (number, windows.entry.items)) }
     {
-        let list = WindowList::new(alloc, windows)?;
-        let hints = Arc::new(alloc, hints)?;
+        let windows = Arc::new(alloc, windows)?;
         Ok(Stage {
             number,
-            list,
-            hints,
+            windows,
             links: None,
         })
     }
@@ -91,20 +88,16 @@ impl<const W: usize> Stage<W> {
         };
         Ok(Stage {
             number: self.number,
-            list: self.list,
-            hints: self.hints,
+            windows: self.windows,
             links: kept,
         })
     }
 
     // The windows in a list that stages may share.
-    pub(crate) fn shared_windows(
-        &self,
-        alloc: Global,
-    ) -> Result<Arc<Vec<Window<W>>, Global>, AllocError>
+    pub(crate) fn shared_windows(&self) -> Result<Arc<Vec<Window<W>>, Global>, AllocError>
         ensures { IfOk result (λ list. (arc_value list).items ≡ self.now.1) }
     {
-        let list = self.list.shared(alloc)?;
+        let list = Arc::try_clone(&self.windows)?;
         Ok(list)
     }
 
@@ -137,14 +130,14 @@ impl<const W: usize> Stage<W> {
         ensures few { length self.now.1 ≤ W ^ W }
         ensures below { length self.now.1 ≤ 823543 }
     {
-        self.list.len()
+        self.windows.len()
     }
 
     /// Whether the stage has no window.
     pub fn is_empty(&self) -> bool
         ensures { IsTrue result ↔ (self.now.1 ≡ []) }
     {
-        self.list.len() == 0
+        self.windows.is_empty()
     }
 
     /// The window at place i of the stage, counted from 0.
@@ -153,20 +146,32 @@ impl<const W: usize> Stage<W> {
         ensures valid { IsWindow W result }
         ensures value { result ≡ node_at self.now.1 i }
     {
-        self.list.windows()[i]
+        self.windows[i]
     }
 
-    /// Keeps the windows and the labels at the places whose label `keep` accepts, in order.
-    pub fn compact<T: Drop, F: Fn(&T) -> bool>(&mut self, labels: &mut Vec<T>, keep: F)
+    /// Keeps the windows and the labels at the places whose label `keep` accepts, in order. Other stages that share the windows
+    /// keep them all. It wants memory only where a window goes that others have too, and after want of it nothing has changed.
+    pub fn compact<T: Drop, F: Fn(&T) -> bool>(
+        &mut self,
+        labels: &mut Vec<T>,
+        keep: F,
+    ) -> Result<(), AllocError>
         requires width { IsWidth W }
         requires one_each { vec_len labels.old ≡ length self.old.1 }
         requires callable { F.IsAlwaysCallable keep }
         ensures number { self.new.0 ≡ self.old.0 }
-        ensures kept { (answers : List Bool) × AllZip (FnReturnsAt F.Fn keep) labels.old.items
-            answers × (self.new.1 ≡ kept_where answers self.old.1)
-            × (labels.new.items ≡ kept_where answers labels.old.items) }
+        ensures kept { OnOk result ((answers : List Bool)
+            × AllZip (FnReturnsAt F.Fn keep) labels.old.items answers
+            × (self.new.1 ≡ kept_where answers self.old.1)
+            × (labels.new.items ≡ kept_where answers labels.old.items)) }
+        ensures unchanged { OnErr result ((self.new ≡ self.old) × (labels.new ≡ labels.old)) }
     {
-        self.list.compact(labels, &keep);
+        if keeps_all(labels, &keep) {
+            return Ok(());
+        }
+        let windows = Arc::make_mut(&mut self.windows)?;
+        compact_all(windows, labels, &keep);
+        Ok(())
     }
 
     /// The windows, in ascending order.
@@ -175,23 +180,22 @@ impl<const W: usize> Stage<W> {
         ensures ascending { IsAscending self.now.1 }
         ensures valid { AreWindows W self.now.1 }
     {
-        self.list.windows()
+        self.windows.as_slice()
     }
 
     /// The same stage once more; its windows are shared.
-    pub fn share(&self, alloc: Global) -> Result<Stage<W>, AllocError>
+    pub fn share(&self) -> Result<Stage<W>, AllocError>
         ensures { IfOk result (λ s. s ≡ self.now) }
     {
-        let same = self.copy_as(alloc, self.number)?;
+        let same = self.copy_as(self.number)?;
         Ok(same)
     }
 
     // The same windows under another number.
-    pub(crate) fn copy_as(&self, alloc: Global, number: u8) -> Result<Stage<W>, AllocError>
+    pub(crate) fn copy_as(&self, number: u8) -> Result<Stage<W>, AllocError>
         ensures { IfOk result (λ s. s ≡ (number, self.now.1)) }
     {
-        let list = self.list.share(alloc)?;
-        let hints = Arc::try_clone(&self.hints)?;
+        let windows = Arc::try_clone(&self.windows)?;
         let links = match &self.links {
             None => None,
             Some(links) => {
@@ -201,27 +205,14 @@ impl<const W: usize> Stage<W> {
         };
         Ok(Stage {
             number,
-            list,
-            hints,
+            windows,
             links,
         })
     }
 
-    // A place at which to look first for the windows that lead to the one at place i.
-    pub(crate) fn hint(&self, i: usize) -> usize {
-        if let Some(links) = &self.links {
-            return links.begin(i);
-        }
-        if i < self.hints.len() {
-            self.hints[i] as usize
-        } else {
-            0
-        }
-    }
-
-    /// The half-open range of the windows of the stage before that lead to the window at place i. It is found without a
-    /// search where this stage was made from that one.
-    pub fn sources(&self, before: &Stage<W>, i: usize) -> (usize, usize)
+    /// The half-open range of the windows of the stage before that lead to the window at place i. It is found without a search
+    /// where it begins at the place `near` or a few behind.
+    pub fn sources(&self, before: &Stage<W>, i: usize, near: usize) -> (usize, usize)
         requires width { IsWidth W }
         requires within { i < length self.now.1 }
         ensures range { (result.0 ≤ result.1) × (result.1 ≤ length before.now.1) }
@@ -230,6 +221,8 @@ impl<const W: usize> Stage<W> {
             ↔ ((result.0 ≤ j) × (j < result.1)) }
     {
         window_laws::<W>();
-        sources_near(before.windows(), &self.node(i), self.hint(i))
+        let node = self.node(i);
+        let earlier = before.windows();
+        sources_near(earlier, &node, near_begin(earlier, &node, near))
     }
 }

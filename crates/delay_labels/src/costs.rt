@@ -1,6 +1,6 @@
 //! Lists of pairs of a second and a cost.
 
-ghost use Rattle.std.specs.Prelude.{◌≡◌, ℕ, ◌+◌, ◌^◌, ◌<◌, ◌≤◌, List, [], ◌∷◌, ◌++◌, All, length, map, IfOk, OnOk, nat_lt};
+ghost use Rattle.std.specs.Prelude.{◌≡◌, ℕ, ◌+◌, ◌^◌, ◌<◌, ◌≤◌, List, [], ◌∷◌, ◌++◌, All, length, map, IfOk, OnOk, OnErr, nat_lt};
 ghost use Rattle.cps_nodes.specs.Windows.{IsWidth};
 ghost use Rattle.cps_theory.specs.UndominatedPairs.{sweep};
 ghost use Rattle.landing_rules.specs.Problem.{Problem};
@@ -148,23 +148,26 @@ impl Costs {
         Ok(Costs { pairs, parts })
     }
 
-    /// Keeps the windows and the lists at the places whose list is not empty, in order.
-    pub fn keep_landable<const W: usize>(&mut self, stage: &mut Stage<W>)
+    /// Keeps the windows and the lists at the places whose list is not empty, in order. It wants memory only where a window
+    /// goes that other stages share, and after want of it nothing has changed.
+    pub fn keep_landable<const W: usize>(&mut self, stage: &mut Stage<W>) -> Result<(), AllocError>
         requires width { IsWidth W }
         requires one_each { length self.old ≡ length stage.old.1 }
         ensures number { stage.new.0 ≡ stage.old.0 }
-        ensures windows { stage.new.1 ≡ known_of self.old stage.old.1 }
-        ensures lists { self.new ≡ known_of self.old self.old }
+        ensures windows { OnOk result (stage.new.1 ≡ known_of self.old stage.old.1) }
+        ensures lists { OnOk result (self.new ≡ known_of self.old self.old) }
+        ensures unchanged { OnErr result ((stage.new ≡ stage.old) × (self.new ≡ self.old)) }
 
         // What is left are the landable windows, where none was missing.
-        ensures landable { (p : Problem) → HasEachLandable p stage.old
-            → AreCosts p stage.old self.old → HoldsCosts p stage.new self.new }
+        ensures landable { OnOk result ((p : Problem) → HasEachLandable p stage.old
+            → AreCosts p stage.old self.old → HoldsCosts p stage.new self.new) }
     {
         stage.compact(
             &mut self.parts,
             |part: &(usize, usize)|
                 ensures { result ≡ nat_lt part.now.0 part.now.1 }
             { part.0 < part.1 },
-        );
+        )?;
+        Ok(())
     }
 }

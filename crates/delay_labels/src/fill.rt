@@ -15,7 +15,7 @@ use crate::costs::Costs;
 use crate::follower::{Follower, Lead, follower_of};
 use crate::merge::{collect_successors, put_in_order};
 use cps_base::{Ledger, Steps};
-use cps_network::{Stage, last_rank, prefix_laws};
+use cps_network::{Stage, last_rank, prefix_laws, run_of};
 use cps_nodes::window_laws;
 use cps_outside::{FreeGate, Gate};
 use cps_problem::Problem;
@@ -35,10 +35,12 @@ struct Filling<'a, const W: usize> {
     stage: &'a Stage<W>,
 }
 
-// Adds the list of the window at place i of a stage, from the lists of those that lead to it. `found` is room to work in.
+// Adds the list of the window at place i of a stage, from the lists of those that lead to it, which are looked for from `near`
+// on. `found` is room to work in.
 fn add_list<const W: usize>(
     filling: &Filling<'_, W>,
     i: usize,
+    near: &mut usize,
     follower: &mut Follower,
     costs: &mut Costs,
     found: &mut Vec<(u32, u32)>,
@@ -61,7 +63,8 @@ fn add_list<const W: usize>(
     // What their contracts say is needed below: of the problem that it is well formed, of the lists that seconds are in the days.
     let _few = problem.len();
     let _in_days = labels.len();
-    let range = stage.sources(before, i);
+    let range = stage.sources(before, i, *near);
+    *near = range.0;
     let last = last_rank(&before.node(range.0), before.number());
     let rank = last_rank(&stage.node(i), stage.number());
     follower.turn_to(problem, rank);
@@ -102,12 +105,15 @@ fn fill_run<const W: usize, G: Gate>(
     // A stage has about as many pairs as the one before.
     let mut costs = Costs::with_room(alloc, count, filling.labels.stored())?;
     let mut found = Vec::with_capacity(alloc, 16)?;
+    let mut near = [0; 8];
     let mut followers = [Follower::blank(); 8];
     for m in 0..count {
         let i = from + m;
         gate.pass(i as u32);
-        let follower = follower_of(&filling.stage.node(i));
-        add_list(filling, i, &mut followers[follower], &mut costs, &mut found)?;
+        let node = filling.stage.node(i);
+        let run = run_of(&node);
+        let follower = &mut followers[follower_of(&node)];
+        add_list(filling, i, &mut near[run], follower, &mut costs, &mut found)?;
     }
     Ok(costs)
 }

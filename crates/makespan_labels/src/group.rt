@@ -46,15 +46,6 @@ impl Group {
     }
 }
 
-// Windows with the same head stand near each other among those with the same first offset, which this tells.
-#[inline]
-pub(crate) fn run_of<const W: usize>(window: &Window<W>) -> usize
-    ensures { result < 8 }
-{
-    let _valid = window.last();
-    window.offset(0).rem_euclid(8) as usize
-}
-
 // The least label at the places of a range that is not empty, by a loop. It stands apart, so that `least_of` stays short.
 #[inline(never)]
 fn least_of_all(labels: &Column, from: usize, to: usize) -> u32
@@ -128,7 +119,7 @@ pub(crate) fn group_over<const W: usize>(
 }
 
 // Makes a group the one that leads to the window at place i of the stage, where `earlier` are the windows of the stage before.
-// It is written in place, which costs less.
+// It is looked for behind the group that it was. It is written in place, which costs less.
 pub(crate) fn find_group<const W: usize>(
     group: &mut Group,
     labelling: &Labelling<W>,
@@ -144,7 +135,7 @@ pub(crate) fn find_group<const W: usize>(
     ensures leads { Extends (node_at labelling.now.before.now.1 group.new.from)
         (node_at labelling.now.stage.now.1 i) }
 {
-    let (from, to) = labelling.stage.sources(labelling.before, i);
+    let (from, to) = labelling.stage.sources(labelling.before, i, group.from);
     *group = group_over(labelling, earlier, from, to);
 }
 

@@ -18,10 +18,10 @@ ghost use Rattle.makespan_labels.specs.Labels.{AreLabels, HoldsLabels};
 
 use crate::column::{Column, NO_LABEL};
 use crate::follower::{Follower, follower_of};
-use crate::group::{Group, Lead, find_group, run_of, turn_to};
+use crate::group::{Group, Lead, find_group, turn_to};
 use crate::labelling::Labelling;
 use cps_base::{Ledger, Steps};
-use cps_network::{Stage, last_rank, prefix_laws};
+use cps_network::{Stage, last_rank, prefix_laws, run_of};
 use cps_nodes::{Window, window_laws};
 use cps_outside::Gate;
 use cps_problem::Problem;

@@ -1,13 +1,19 @@
 -- The least of the pairs of each node, a window at a time.
-use Rattle.std.proofs.Common.{◌≡◌, ℕ, zero, suc, ◌+◌, ◌-◌, ◌<◌, ◌≤◌, ◌⊎◌, inl, inr, List, [], ◌∷◌, ◌++◌, length, map, set, min, refl, sym, ap, subst, ◌∙◌, arith}
+use Rattle.std.proofs.Common.{◌≡◌, ℕ, zero, suc, ◌+◌, ◌-◌, ◌<◌, ◌≤◌, ◌⊎◌, inl, inr, List, [], ◌∷◌, ◌++◌, length, map, set, take, drop, min, Bool, true, false, refl, sym, ap, ap₂, subst, ◌∙◌, arith}
+use Rattle.std.specs.Prelude.{nat_lt, slice_index}
 use Rattle.std.proofs.lemmas.Bool.{cases_eq}
+use Rattle.std.proofs.Math.Seq.{take-append_seam}
+use Rattle.std.proofs.lemmas.List.{length-map}
 use Rattle.cps_theory.specs.Labels.{InPairs, Pair}
 use Rattle.cps_theory.specs.UndominatedPairs.{Staircase}
 use Rattle.cps_network.specs.Pairs.{list_at, pair_at}
 use Rattle.cps_network.specs.shared.PairSteps.{at_in}
+use Rattle.makespan_labels.specs.Labels.{no_label}
+use Rattle.makespan_labels.specs.LabelPairs.{label_pairs, column_pairs, pair_if}
+use Rattle.makespan_labels.specs.shared.LabelPairs.{list_of_label}
 use Rattle.replan.specs.Labels.{last_pair}
 use Rattle.replan.specs.shared.LastPairs.{last_cheapest}
-use Rattle.replan.specs.WindowNodes.{extremes, lesser, told_at, AreLeast, AreLeastOf, AreLeastUpto, HaveLeast, IsPairAt, WindowNodes}
+use Rattle.replan.specs.WindowNodes.{extremes, lesser, told_at, AreLeastOf, AreLeastUpto, HaveLeast, WindowNodes}
 
 -- ---- of one list
 
@@ -34,6 +40,12 @@ set_long : (xs : List Pair) (i : ℕ) (y : Pair) → length (set xs i y) ≡ len
 set_long [] i y = refl
 set_long (x ∷ xs) zero y = refl
 set_long (x ∷ xs) (suc i) y = ap suc (set_long xs i y)
+
+min_right : (a b : ℕ) {c : ℕ} → b ≡ c → c < a → min a b ≡ c
+min_right a b e lt = grind (arith, e, lt)
+
+min_none : (a b : ℕ) → a ≡ 0 → min a b ≡ 0
+min_none a b e = grind (arith, e)
 
 min_is : (a b : ℕ) → (min a b ≡ a) × (a ≤ b) ⊎ (min a b ≡ b) × (b ≤ a)
 min_is a b = grind arith
@@ -112,6 +124,89 @@ module _ (lists : List (List Pair)) (places firsts : List ℕ) (count : ℕ) (le
       | inr ne ↦ (let s = a.cheapest j inside in (s.0, s.1, s.2, ap (λ (z : Pair). z.1) (set_other least place j new ne) ∙ s.3))
     ];
   }
+
+  -- where the next window lowers nothing
+  pub none_lower : (pair_at least place).0 ≤ here.0 → (pair_at least place).1 ≤ here.1 → AreLeastUpto lists places firsts (count + 1) least
+  none_lower early cheap = record {
+    one_each = a.one_each;
+    early = λ i less. elim (cases_eq i count) [
+      | inl e ↦ subst (λ (m : ℕ). (pair_at least (told_at places m)).0 ≤ (extremes (list_at lists m)).0) (sym e) early
+      | inr ne ↦ a.early i (omega (arith, less, ne))
+    ];
+    cheap = λ i less. elim (cases_eq i count) [
+      | inl e ↦ subst (λ (m : ℕ). (pair_at least (told_at places m)).1 ≤ (extremes (list_at lists m)).1) (sym e) cheap
+      | inr ne ↦ a.cheap i (omega (arith, less, ne))
+    ];
+    earliest = a.earliest;
+    cheapest = a.cheapest;
+  }
+
+-- ---- where all are written through a slice
+
+pub as_written : (part items : List Pair) (n : ℕ) → n ≡ length part → take n (part ++ drop (length part) items) ≡ part
+as_written part items n e = ap (λ (m : ℕ). take m (part ++ drop (length part) items)) e ∙ take-append_seam part (drop (length part) items)
+
+-- ---- of a column, where nothing costs anything
+
+cost_of_label : (known : Bool) (label : ℕ) → (extremes (pair_if known label)).1 ≡ 0
+cost_of_label true label = refl
+cost_of_label false label = refl
+
+second_of_label : (known : Bool) (label : ℕ) → 0 < length (pair_if known label) → (extremes (pair_if known label)).0 ≡ label
+second_of_label true label some = refl
+second_of_label false label some = absurd (omega (arith, some))
+
+module _ (column : List ℕ) (i : ℕ) (lt : i < length column) where
+  pub column_cost : (extremes (list_at (column_pairs column) i)).1 ≡ 0
+  column_cost = ap (λ (qs : List Pair). (extremes qs).1) (list_of_label column i lt) ∙ cost_of_label (nat_lt (slice_index column i) no_label) (slice_index column i)
+
+  pub column_second : 0 < length (list_at (column_pairs column) i) → (extremes (list_at (column_pairs column) i)).0 ≡ slice_index column i
+  column_second some =
+      let is = list_of_label column i lt in
+      ap (λ (qs : List Pair). (extremes qs).0) is
+      ∙ second_of_label (nat_lt (slice_index column i) no_label) (slice_index column i) (subst (λ (qs : List Pair). 0 < length qs) is some)
+
+module _ (column : List ℕ) (nodes : WindowNodes) (h : HaveLeast (column_pairs column) nodes) (count : ℕ) (least : List Pair)
+    (a : AreLeastUpto (column_pairs column) nodes.places nodes.firsts count least) where
+  lists : List (List Pair)
+  lists = column_pairs column
+
+  inside : (i : ℕ) → i < length nodes.places → i < length column
+  inside i lt = let l = h.long in let m = length-map column label_pairs in omega (arith, lt, l, m)
+
+  -- so far each costs nothing
+  pub free_so_far : (j : ℕ) → j < length nodes.firsts → (pair_at least j).1 ≡ 0
+  free_so_far j lt = let s = a.cheapest j lt in s.3 ∙ column_cost column s.0 (inside s.0 s.1)
+
+  module _ (lt : count < length nodes.places) where
+    abbrev pub label : ℕ
+    label = slice_index column count
+
+    second : (extremes (list_at (column_pairs column) count)).0 ≡ label
+    second = column_second column count (inside count lt) (h.some count (let l = h.long in omega (arith, lt, l)))
+
+    cost : (extremes (list_at (column_pairs column) count)).1 ≡ 0
+    cost = column_cost column count (inside count lt)
+
+    within : told_at nodes.places count < length nodes.firsts
+    within = h.within count lt
+
+    -- a label that is less takes the place
+    pub less_label : label < (pair_at least (told_at nodes.places count)).0
+        → AreLeastUpto (column_pairs column) nodes.places nodes.firsts (count + 1) (set least (told_at nodes.places count) (label, 0))
+    less_label less =
+        let free = free_so_far (told_at nodes.places count) within in
+        let one = one_least (column_pairs column) nodes.places nodes.firsts count least a lt within in
+        let new : lesser (pair_at least (told_at nodes.places count)) (extremes (list_at (column_pairs column) count)) ≡ (label, 0) =
+        ap₂ (λ (x y : ℕ). (x, y)) (min_right _ _ second less) (min_none _ _ free) in
+        subst (λ (q : Pair). AreLeastUpto (column_pairs column) nodes.places nodes.firsts (count + 1) (set least (told_at nodes.places count) q)) new one
+
+    -- and any other changes nothing
+    pub other_label : (pair_at least (told_at nodes.places count)).0 ≤ label
+        → AreLeastUpto (column_pairs column) nodes.places nodes.firsts (count + 1) least
+    other_label le =
+        let free = free_so_far (told_at nodes.places count) within in
+        none_lower (column_pairs column) nodes.places nodes.firsts count least a lt within (omega (arith, le, second)) (omega (arith, free))
 
 -- ---- seconds of the two days
 

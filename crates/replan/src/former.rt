@@ -34,7 +34,7 @@ pub(crate) fn shared<const W: usize>(
 {
     let mut former = Vec::with_capacity(alloc, stages.len())?;
     for labelled in stages {
-        let stage = labelled.stage.share(alloc)?;
+        let stage = labelled.stage.share()?;
         former.push(FormerStage {
             stage,
             is_whole: labelled.is_whole,
@@ -65,7 +65,6 @@ impl<const W: usize> Former<W> {
     // The stage after a stage of a problem, where it is taken again from the one behind this place of those that were held.
     fn next_at(
         &self,
-        alloc: Global,
         problem: &Problem,
         before: &Stage<W>,
         place: usize,
@@ -82,14 +81,7 @@ impl<const W: usize> Former<W> {
         if !after.is_whole || earlier.stage.len() != before.len() {
             return Ok(None);
         }
-        let next = next_stage_again(
-            alloc,
-            before,
-            problem,
-            &self.problem,
-            &earlier.stage,
-            &after.stage,
-        )?;
+        let next = next_stage_again(before, problem, &self.problem, &earlier.stage, &after.stage)?;
         Ok(next)
     }
 
@@ -97,7 +89,6 @@ impl<const W: usize> Former<W> {
     /// from the one that is as far from the last.
     pub(crate) fn next(
         &self,
-        alloc: Global,
         problem: &Problem,
         before: &Stage<W>,
     ) -> Result<Option<Stage<W>>, AllocError>
@@ -106,7 +97,7 @@ impl<const W: usize> Former<W> {
         ensures { IfOk result (λ next. IfSome next (IsStageAfter problem.now before.now)) }
     {
         let number = before.number() as usize;
-        if let Some(next) = self.next_at(alloc, problem, before, number)? {
+        if let Some(next) = self.next_at(problem, before, number)? {
             return Ok(Some(next));
         }
         let from_last = (problem.len() - before.number()) as usize;
@@ -114,7 +105,7 @@ impl<const W: usize> Former<W> {
         if last < from_last || last - from_last == number {
             return Ok(None);
         }
-        let next = self.next_at(alloc, problem, before, last - from_last)?;
+        let next = self.next_at(problem, before, last - from_last)?;
         Ok(next)
     }
 }

@@ -6,7 +6,7 @@ ghost use Rattle.replan.specs.Held.{AreInCommon, problem_of};
 ghost use Rattle.replan.specs.Stages.{AreStages};
 
 use crate::former::{Former, shared};
-use crate::stages::{LabelledStage, first_stage};
+use crate::stages::{LabelledStage, first_stage, put_first};
 use cps_network::{kept_stages, prefix_laws};
 use cps_nodes::window_laws;
 use cps_problem::Problem;
@@ -60,11 +60,22 @@ impl<const W: usize> HeldProblem<W> {
         (stages, self.problem)
     }
 
-    // The problem held. Its stages are given back.
-    fn into_problem(self) -> Problem
-        ensures { result ≡ self.entry.problem }
+    // Stage 0 of another problem, where it has no other in common with this one, and the problem held. The stages are given back,
+    // but for the room that they stood in.
+    fn into_first(
+        self,
+        alloc: Global,
+        problem: &Problem,
+    ) -> Result<(Vec<LabelledStage<W>>, Problem), AllocError>
+        requires { W ≡ 2 * problem.now.k + 1 }
+        ensures held { IfOk result (λ first. AreStages problem.now first.0.items) }
+        ensures one { IfOk result (λ first. vec_len first.0 ≡ 1) }
+        ensures problem { IfOk result (λ first. first.1 ≡ self.entry.problem) }
     {
-        self.problem
+        let mut stages = self.stages;
+        stages.clear();
+        put_first(alloc, problem, &mut stages)?;
+        Ok((stages, self.problem))
     }
 }
 
@@ -111,11 +122,11 @@ pub(crate) fn begin_stages<const W: usize>(
                     former: Some(former),
                 });
             }
+            let (stages, former) = held.into_first(alloc, problem)?;
             let former = Former {
-                problem: held.into_problem(),
+                problem: former,
                 stages: windows,
             };
-            let stages = first_stage(alloc, problem)?;
             Ok(Begun {
                 stages,
                 former: Some(former),

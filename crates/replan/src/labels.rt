@@ -1,6 +1,6 @@
 //! The labels of a stage, for either objective.
 
-ghost use Rattle.std.specs.Prelude.{◌≡◌, ◌+◌, ◌*◌, ◌<◌, ◌≤◌, [], ◌∷◌, length, IfOk, OnOk};
+ghost use Rattle.std.specs.Prelude.{◌≡◌, ◌+◌, ◌*◌, ◌<◌, ◌≤◌, [], ◌∷◌, length, IfOk, IfSome, OnOk};
 ghost use Rattle.cps_base.specs.Tally.{raised_by};
 ghost use Rattle.cps_theory.specs.Network.{Undominated};
 ghost use Rattle.landing_rules.specs.Rules.{last_second};
@@ -10,7 +10,9 @@ ghost use Rattle.cps_network.specs.Landable.{Attains, HasEachLandable};
 ghost use Rattle.cps_network.specs.Pairs.{AreCosts, GivesPair, list_at, pair_at};
 ghost use Rattle.cps_network.specs.Permits.{IsNextOf};
 ghost use Rattle.makespan_labels.specs.Labels.{no_label, AreLabels, HoldsLabels};
+ghost use Rattle.makespan_labels.specs.LabelPairs.{column_pairs};
 ghost use Rattle.replan.specs.Labels.{AreLandableOf, HoldsPairs, last_pair, worth};
+ghost use Rattle.replan.specs.WindowNodes.{extremes};
 
 use cps_base::{Ledger, Steps};
 use cps_network::{Stage, prefix_laws};
@@ -135,31 +137,37 @@ impl Labels {
     }
 
     // What is left of a column where the stage keeps its landable windows alone.
-    fn left_of_column<const W: usize>(mut column: Column, stage: &mut Stage<W>) -> Labels
+    fn left_of_column<const W: usize>(
+        mut column: Column,
+        stage: &mut Stage<W>,
+    ) -> Result<Labels, AllocError>
         requires width { IsWidth W }
         requires one_each { length column ≡ length stage.old.1 }
-        ensures { (p : Problem) → p.objective ≡ Objective.Makespan
+        ensures { IfOk result (λ labels. (p : Problem) → p.objective ≡ Objective.Makespan
             → HasEachLandable p stage.old → AreLabels p stage.old column
-            → AreLandableOf p stage.old stage.new result }
+            → AreLandableOf p stage.old stage.new labels) }
     {
-        column.keep_landable(stage);
-        Labels {
+        column.keep_landable(stage)?;
+        Ok(Labels {
             kept: ByObjective::OfColumn(column),
-        }
+        })
     }
 
     // The same of pairs.
-    fn left_of_costs<const W: usize>(mut costs: Costs, stage: &mut Stage<W>) -> Labels
+    fn left_of_costs<const W: usize>(
+        mut costs: Costs,
+        stage: &mut Stage<W>,
+    ) -> Result<Labels, AllocError>
         requires width { IsWidth W }
         requires one_each { length costs ≡ length stage.old.1 }
-        ensures { (p : Problem) → p.objective ≡ Objective.Delay
+        ensures { IfOk result (λ labels. (p : Problem) → p.objective ≡ Objective.Delay
             → HasEachLandable p stage.old → AreCosts p stage.old costs
-            → AreLandableOf p stage.old stage.new result }
+            → AreLandableOf p stage.old stage.new labels) }
     {
-        costs.keep_landable(stage);
-        Labels {
+        costs.keep_landable(stage)?;
+        Ok(Labels {
             kept: ByObjective::OfCosts(costs),
-        }
+        })
     }
 
     // How many lists there are.
@@ -194,6 +202,28 @@ impl Labels {
         match &self.kept {
             ByObjective::OfColumn(column) => (column.label(i), 0),
             ByObjective::OfCosts(costs) => costs.pair(i, j),
+        }
+    }
+
+    // The second of the first pair of the list at place i, and the cost of the last one.
+    #[inline]
+    pub(crate) fn extremes(&self, i: usize) -> (u32, u32)
+        requires place { i < length self.now.lists }
+        requires some { 0 < length (list_at self.now.lists i) }
+        ensures value { result ≡ extremes (list_at self.now.lists i) }
+        ensures in_days { result.0 ≤ last_second }
+    {
+        let last = self.count(i) - 1;
+        (self.pair(i, 0).0, self.pair(i, last).1)
+    }
+
+    // The column, for the makespan.
+    pub(crate) fn column(&self) -> Option<&Column>
+        ensures { IfSome result (λ column. self.now.lists ≡ column_pairs column.now) }
+    {
+        match &self.kept {
+            ByObjective::OfColumn(column) => Some(column),
+            ByObjective::OfCosts(_) => None,
         }
     }
 
@@ -235,11 +265,13 @@ impl Labels {
                 let column = column_by_pieces(
                     rt, alloc, problem, before, labels, stage, gate, steps,
                 )?;
-                Ok(Labels::left_of_column(column, stage))
+                let left = Labels::left_of_column(column, stage)?;
+                Ok(left)
             }
             ByObjective::OfCosts(labels) => {
                 let costs = fill_costs(rt, alloc, problem, before, labels, stage, gate, steps)?;
-                Ok(Labels::left_of_costs(costs, stage))
+                let left = Labels::left_of_costs(costs, stage)?;
+                Ok(left)
             }
         }
     }
@@ -262,11 +294,13 @@ impl Labels {
         match &self.kept {
             ByObjective::OfColumn(labels) => {
                 let column = column_alone(alloc, problem, before, labels, stage)?;
-                Ok(Labels::left_of_column(column, stage))
+                let left = Labels::left_of_column(column, stage)?;
+                Ok(left)
             }
             ByObjective::OfCosts(labels) => {
                 let costs = fill_costs_alone(alloc, problem, before, labels, stage)?;
-                Ok(Labels::left_of_costs(costs, stage))
+                let left = Labels::left_of_costs(costs, stage)?;
+                Ok(left)
             }
         }
     }

@@ -1,6 +1,6 @@
 //! The stages of a problem.
 
-ghost use Rattle.std.specs.Prelude.{◌≡◌, ℕ, ◌+◌, ◌-◌, ◌*◌, ◌<◌, ◌≤◌, length, vec_len, IfOk, OnOk, IsTrue, false};
+ghost use Rattle.std.specs.Prelude.{◌≡◌, ℕ, ◌+◌, ◌-◌, ◌*◌, ◌<◌, ◌≤◌, [], length, vec_len, IfOk, OnOk, IsTrue, false};
 ghost use Rattle.cps_base.specs.Tally.{raised_by};
 ghost use Rattle.cps_network.specs.Again.{IsStageAfter};
 ghost use Rattle.cps_network.specs.Due.{HasCandidates, HasCandidatesFrom};
@@ -59,6 +59,22 @@ pub(crate) fn stage_zero<const W: usize>(
     })
 }
 
+// Puts stage 0 of a problem where no stage is.
+pub(crate) fn put_first<const W: usize>(
+    alloc: Global,
+    problem: &Problem,
+    stages: &mut Vec<LabelledStage<W>>,
+) -> Result<(), AllocError>
+    requires width { W ≡ 2 * problem.now.k + 1 }
+    requires none { stages.old.items ≡ [] }
+    ensures held { OnOk result (AreStages problem.now stages.new.items) }
+    ensures one { OnOk result (vec_len stages.new ≡ 1) }
+{
+    let first = stage_zero(alloc, problem)?;
+    stages.push(first)?;
+    Ok(())
+}
+
 // The stages from which on a problem is filled where it has none in common with another: stage 0 alone.
 pub(crate) fn first_stage<const W: usize>(
     alloc: Global,
@@ -68,9 +84,8 @@ pub(crate) fn first_stage<const W: usize>(
     ensures held { IfOk result (λ kept. AreStages problem.now kept.items) }
     ensures one { IfOk result (λ kept. vec_len kept ≡ 1) }
 {
-    let first = stage_zero(alloc, problem)?;
     let mut kept = Vec::with_capacity(alloc, problem.len() as usize + 1)?;
-    kept.push(first)?;
+    put_first(alloc, problem, &mut kept)?;
     Ok(kept)
 }
 
@@ -90,7 +105,7 @@ pub(crate) fn stage_after<const W: usize>(
     ensures { IfOk result (IsStageAfter problem.now before.now) }
 {
     if is_whole && earlier.number() < before.number() {
-        if let Some(stage) = next_stage_again(alloc, before, problem, problem, earlier, before)? {
+        if let Some(stage) = next_stage_again(before, problem, problem, earlier, before)? {
             return Ok(stage);
         }
     }
@@ -114,7 +129,7 @@ fn stage_again<const W: usize>(
     ensures { IfOk result (IsStageAfter problem.now before.now) }
 {
     if let Some(former) = former {
-        if let Some(stage) = former.next(alloc, problem, before)? {
+        if let Some(stage) = former.next(problem, before)? {
             return Ok(stage);
         }
     }

@@ -20,7 +20,7 @@ fn sources_of_rank_2(stage: &Stage<3>) -> Option<(usize, usize)>
 // How many windows and labels are left of a stage where each of its windows is left out.
 fn left_of_none(alloc: Global, mut stage: Stage<3>) -> Result<(usize, usize), AllocError> {
     let mut labels = vec![in alloc; 7u32; stage.len()]?;
-    stage.compact(&mut labels, |label| *label > 7);
+    stage.compact(&mut labels, |label| *label > 7)?;
     Ok((stage.len(), labels.len()))
 }
 
@@ -34,7 +34,7 @@ fn the_first_stage_has_the_source_alone(rt: HostRuntime) -> Result<(), Fail> {
     );
     assert_eq!(rt; last_rank(&stage.node(0), stage.number()), 0);
     assert_eq!(rt; sources_of_rank_2(&stage), Some((0, 1)));
-    assert_eq!(rt; stage.sources(&stage, 0), (0, 1));
+    assert_eq!(rt; stage.sources(&stage, 0, 0), (0, 1));
     assert_eq!(rt; left_of_none(rt.alloc(), stage)?, (0, 0));
     Ok(())
 }
@@ -60,7 +60,7 @@ fn leave_out_first<const W: usize>(alloc: Global, stage: &mut Stage<W>) -> Resul
     if !labels.is_empty() {
         labels[0] = 0;
     }
-    stage.compact(&mut labels, |label| *label > 0);
+    stage.compact(&mut labels, |label| *label > 0)?;
     Ok(())
 }
 
@@ -101,7 +101,7 @@ fn have_same_next<const W: usize>(
 {
     let after = next_stage(alloc, earlier, problem)?;
     let next = next_stage(alloc, stage, problem)?;
-    match next_stage_again(alloc, stage, problem, problem, earlier, &after)? {
+    match next_stage_again(stage, problem, problem, earlier, &after)? {
         None => Ok(true),
         Some(again) => Ok(are_one(&next, &again)),
     }

@@ -14,7 +14,7 @@ loop-m-init g c =
 pub add_list-requires : goal.add_list-requires
 add_list-requires g c =
     let within : c.args.from + c.loop-m.m < length c.args.filling.now.stage.now.1 = omega (arith, c.loop-m-test.true, c.loop-m.auto.m-end, c.requires.within) in
-    let follower = c.loop-m.invariant.2 c.follower_of-follower.result _ (omega (arith, c.follower_of-follower.ensures, c.loop-m.invariant.3)) in
+    let follower = c.loop-m.invariant.2 c.follower_of.result _ (omega (arith, c.follower_of.ensures, c.loop-m.invariant.3)) in
     (search rules, (c.requires.behind, (within, follower)))
 
 pub loop-m-preserved : goal.loop-m-preserved
@@ -27,4 +27,5 @@ loop-m-preserved g c =
       more.1,
       All-set (IsFollower c.args.filling.now.problem.now) c.loop-m.followers _ _ c.add_list.ensures.follower inv.2,
       length-set c.loop-m.followers _ _ ∙ inv.3,
+      length-set c.loop-m.near _ _ ∙ inv.4,
     )

@@ -8,4 +8,4 @@ use Rattle.delay_labels.proofs.fill.fill_run.Given as goal
 
 abbrev pub invariant-loop-m : goal.invariant-loop-m
 invariant-loop-m g l = (length l.costs ≡ l.m) × ((k : ℕ) → k < l.m → IsListOf l.filling.problem.now l.filling.before.now l.filling.labels.now l.filling.stage.now (l.from + k) (list_at l.costs k))
-    × All (IsFollower l.filling.problem.now) l.followers × (length l.followers ≡ 8)
+    × All (IsFollower l.filling.problem.now) l.followers × (length l.followers ≡ 8) × (length l.near ≡ 8)

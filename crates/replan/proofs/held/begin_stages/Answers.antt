@@ -35,6 +35,6 @@ invariant_of-former g c =
 
 pub invariant_of-former-in-Some : goal.invariant_of-former-in-Some
 invariant_of-former-in-Some g c =
-    let same : c.held.inside.problem ≡ c.into_problem.result = ap (λ (h : HeldProblem). h.problem) c.held.view_is ∙ sym c.into_problem.ensures in
+    let same : c.held.inside.problem ≡ c.in_ok-stages-in-Some.former = ap (λ (h : HeldProblem). h.problem) c.held.view_is ∙ sym c.in_ok-stages-in-Some.ensures.problem in
     subst (λ (p : Problem). AreFormer p c.in_ok-windows-in-Some.windows.items) same
     (rw (c.in_ok-windows-in-Some.ensures, c.deref.ensures.value) (former_whole c.held.inside.problem c.held.inside.stages.items c.held.invariant.held))

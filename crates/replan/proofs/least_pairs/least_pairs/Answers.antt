@@ -1,44 +1,33 @@
-use Rattle.std.proofs.Common.{◌≡◌, ℕ, ◌+◌, ◌<◌, List, length, arith, ap, ap₂, subst, sym, ◌∙◌}
-use Rattle.std.specs.Prelude.{slice_set}
-use Rattle.std.proofs.lemmas.List.{get_or_default}
-use Rattle.landing_rules.specs.Rules.{last_second}
+use Rattle.std.proofs.Common.{◌≡◌, ◌∙◌, List, length, sym, subst}
 use Rattle.cps_theory.specs.Labels.{Pair}
-use Rattle.cps_network.specs.Pairs.{list_at, pair_at}
-use Rattle.replan.specs.WindowNodes.{extremes, lesser, told_at, AreLeastUpto}
-use Rattle.replan.proofs.LeastPairLemmas.{all_least, days_set, first_leasts, one_least}
+use Rattle.replan.specs.WindowNodes.{AreLeastOf, AreLeastUpto, HaveLeast}
+use Rattle.replan.proofs.LeastPairLemmas.{all_least, as_written, first_leasts}
 use Rattle.replan.proofs.least_pairs.least_pairs.Goals as goal
 
-pub loop-i-init : goal.loop-i-init
-loop-i-init c = (first_leasts c.args.labels.now.lists c.args.nodes.now c.requires c.in_ok-least.least.items c.in_ok-least.ensures.first, c.in_ok-least.ensures.in_days)
-
-pub loop-i-preserved : goal.loop-i-preserved
-loop-i-preserved c =
-    let lists = c.args.labels.now.lists in
+pub lower_to_labels-requires-clause-begun : goal.lower_to_labels-requires-clause-begun
+lower_to_labels-requires-clause-begun c =
     let n = c.args.nodes.now in
-    let i = c.loop-i.i in
-    let least = c.loop-i.least.items in
-    let long = ap (λ (xs : List ℕ). length xs) c.places-places.ensures in
-    let lt : i < length n.places = omega (arith, c.loop-i-test.true, long) in
-    let within = c.requires.within i lt in
-    let place = told_at n.places i in
-    let same : told_at c.places-places.result.now i ≡ place = ap (λ (xs : List ℕ). told_at xs i) c.places-places.ensures in
-    let all = c.loop-i.invariant.0.one_each in
-    let before : c.index-before.result.now ≡ pair_at least place =
-    c.index-before.ensures ∙ get_or_default least (told_at c.places-places.result.now i) c.index-before.result.now (0, 0) (omega (arith, same, within, all)) ∙ ap (pair_at least) same in
-    let value : c.lesser.result ≡ lesser (pair_at least place) (extremes (list_at lists i)) = c.lesser.ensures ∙ ap₂ lesser before c.extremes.ensures.value in
-    let more = one_least lists n.places n.firsts i least c.loop-i.invariant.0 lt within in
-    let is = ap (λ (q : Pair). q.0) value in
-    let days = c.loop-i.invariant.1 place in (
-      subst (λ (m : ℕ). AreLeastUpto lists n.places n.firsts (i + 1) (slice_set least m c.lesser.result)) (sym same)
-          (subst (λ (q : Pair). AreLeastUpto lists n.places n.firsts (i + 1) (slice_set least place q)) (sym value) more),
-      days_set least (told_at c.places-places.result.now i) c.lesser.result last_second c.loop-i.invariant.1 (omega (arith, is, days)),
-    )
+    subst (λ (ls : List (List Pair)). AreLeastUpto ls n.places n.firsts 0 c.as_mut_slice.result.now) c.in-Some.ensures
+    (first_leasts c.args.labels.now.lists n c.requires c.as_mut_slice.result.now (c.as_mut_slice.ensures.value ∙ c.in_ok-least.ensures.first))
+
+pub lower_to_pairs-requires-clause-begun : goal.lower_to_pairs-requires-clause-begun
+lower_to_pairs-requires-clause-begun c =
+    first_leasts c.args.labels.now.lists c.args.nodes.now c.requires c.as_mut_slice-2.result.now (c.as_mut_slice-2.ensures.value ∙ c.in_ok-least.ensures.first)
+
+pub returns-in-Some-clause-least : goal.returns-in-Some-clause-least
+returns-in-Some-clause-least c =
+    let n = c.args.nodes.now in
+    let is = c.in-Some.ensures in
+    let have : HaveLeast _ n = subst (λ (ls : List (List Pair)). HaveLeast ls n) is c.requires in
+    let new = c.lower_to_labels.new.least in
+    let least = all_least _ n have new c.lower_to_labels.ensures.least in
+    let count : c.in_ok-least.least.len ≡ length new = sym c.as_mut_slice.ensures.len ∙ sym c.lower_to_labels.auto.least in
+    subst (AreLeastOf c.args.labels.now.lists n) (sym (as_written new c.in_ok-least.least.items c.in_ok-least.least.len count))
+    (subst (λ (ls : List (List Pair)). AreLeastOf ls n new) (sym is) least)
 
 pub returns-clause-least : goal.returns-clause-least
 returns-clause-least c =
-    let lists = c.args.labels.now.lists in
-    let n = c.args.nodes.now in
-    let least = c.loop-i.least.items in
-    let long = ap (λ (xs : List ℕ). length xs) c.places-places.ensures in
-    let end : c.loop-i.i ≡ length n.places = omega (arith, c.loop-i-test.false, c.loop-i.auto.i-end, long) in
-    all_least lists n c.requires least (subst (λ (m : ℕ). AreLeastUpto lists n.places n.firsts m least) end c.loop-i.invariant.0)
+    let new = c.lower_to_pairs.new.least in
+    let count : c.in_ok-least.least.len ≡ length new = sym c.as_mut_slice-2.ensures.len ∙ sym c.lower_to_pairs.auto.least in
+    subst (AreLeastOf c.args.labels.now.lists c.args.nodes.now) (sym (as_written new c.in_ok-least.least.items c.in_ok-least.least.len count))
+    (all_least c.args.labels.now.lists c.args.nodes.now c.requires new c.lower_to_pairs.ensures.least)

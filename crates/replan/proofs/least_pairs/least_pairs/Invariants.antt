@@ -1,5 +1,0 @@
-use Rattle.replan.specs.WindowNodes.{AreInDays, AreLeastUpto}
-use Rattle.replan.proofs.least_pairs.least_pairs.Given as goal
-
-abbrev pub invariant-loop-i : goal.invariant-loop-i
-invariant-loop-i l = AreLeastUpto l.labels.lists l.nodes.places l.nodes.firsts l.i l.least.items × AreInDays l.least.items
