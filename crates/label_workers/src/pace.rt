@@ -1,15 +1,22 @@
 //! Whether threads come early enough to be worth starting. No clause speaks of it, and no label hangs on it.
 
+use cps_outside::Gate;
+use std::hint::spin_loop;
 use std::sync::atomic::{AtomicU64, Ordering};
 
-// How many pieces a lane has at least, where what it showed of threads is heeded: a shorter one ends before any thread begins.
-const TELLING: usize = 8;
+// How many pieces a column has at least, where it shows whether two threads gain: a lane of a shorter one may end before any
+// thread begins.
+const TELLING: u64 = 16;
 
-// For how many columns a pace rests.
-const REST: u8 = 32;
+// How often a lane that has ended looks whether the other has: for some tens of microseconds, in which a thread begins and
+// fills a piece where processors are free.
+const LOOKS: u32 = 5000;
 
-/// Whether the next wide column is filled by two threads. After a column whose second thread began late, as it does where
-/// processors are busy, or slow to wake, the caller's thread fills some columns alone.
+// For how many columns a pace rests: more than a planning has stages.
+const REST: u8 = 64;
+
+/// Whether the next wide column is filled by two threads. After a column whose one half was late, as it is where processors are
+/// busy, or slow to wake, the caller's thread fills the next 64 columns alone.
 #[derive(Clone, Copy)]
 pub struct Pace {
     rest: u8,
@@ -34,41 +41,59 @@ impl Pace {
     }
 }
 
-// How the lanes of a column come along.
+// The gate of the two lanes of a column, which sees how they come along.
 #[derive(Drop)]
-pub(crate) struct Progress {
-    // How many pieces a lane has.
-    lane: usize,
-    filled: AtomicU64,
+pub(crate) struct Watch<'a, G> {
+    gate: &'a G,
+    pieces: u64,
+    passed: AtomicU64,
     late: AtomicU64,
 }
 
-impl Progress {
-    // No lane has begun.
-    pub(crate) fn of(lane: usize) -> Progress {
-        Progress {
-            lane,
-            filled: AtomicU64::new(0),
+impl<'a, G: Gate> Gate for Watch<'a, G> {
+    fn pass(&self, piece: u32) {
+        self.gate.pass(piece);
+        self.passed.fetch_add(1, Ordering::SeqCst);
+    }
+}
+
+impl<'a, G> Watch<'a, G> {
+    // None of so many pieces has passed the gate.
+    pub(crate) fn new(gate: &'a G, pieces: u64) -> Watch<'a, G> {
+        Watch {
+            gate,
+            pieces,
+            passed: AtomicU64::new(0),
             late: AtomicU64::new(0),
         }
     }
 
-    // A lane begins. It is late where the other has filled more than a quarter of a lane.
-    pub(crate) fn begin(&self) {
-        let filled = self.filled.load(Ordering::SeqCst);
-        if self.lane >= TELLING && filled > (self.lane / 4) as u64 {
+    // A lane ends. The other is late where more than an eighth of a lane is left to it, since then a thread costs more than it
+    // gains, or where it does not come to its last piece soon.
+    pub(crate) fn end(&self) {
+        let left = self
+            .pieces
+            .saturating_sub(self.passed.load(Ordering::SeqCst));
+        let gains = self.pieces < TELLING || left <= self.pieces / 16;
+        if !gains || !self.ends_soon() {
             self.late.store(1, Ordering::SeqCst);
         }
     }
 
-    // A piece is filled.
-    pub(crate) fn advance(&self) {
-        self.filled.fetch_add(1, Ordering::SeqCst);
+    // Whether all pieces have passed after so many looks at most.
+    fn ends_soon(&self) -> bool {
+        for _ in 0..LOOKS {
+            if self.passed.load(Ordering::SeqCst) >= self.pieces {
+                return true;
+            }
+            spin_loop();
+        }
+        false
     }
 
     // The pace that the lanes have shown.
     pub(crate) fn pace(&self) -> Pace {
-        let is_late = self.late.load(Ordering::SeqCst) == 1;
+        let is_late = self.late.load(Ordering::SeqCst) > 0;
         Pace {
             rest: if is_late { REST } else { 0 },
         }

@@ -4,7 +4,7 @@ ghost use Rattle.std.specs.Prelude.{◌≡◌, ℕ, ◌+◌, ◌^◌, ◌<◌, �
 ghost use Rattle.std.specs.Fork.{AcceptsAt, ChangesAt};
 ghost use Rattle.label_workers.specs.Pieces.{AcceptsParts, IsOfPart};
 
-use crate::pace::{Pace, Progress};
+use crate::pace::{Pace, Watch};
 use cps_outside::Gate;
 use std::thread;
 use std::thread::Threads;
@@ -18,9 +18,11 @@ const LANES: usize = 2;
 
 /// Has `f` write the entries of a column, by pieces that may run at once: `f` is called with the place at which a piece
 /// begins, and with the piece. The piece that begins at entry i passes the gate as number i / PIECE first. The column has at
-/// most 4,294,967,295 entries, and `f` may be called with each part of it. A column of one piece is filled by the caller's
-/// thread, and so is each at whose turn the pace is to rest. Any other is filled in two halves of whole pieces, the first no
-/// shorter, and the pieces of a half one after another. The answer is the pace for the next column.
+/// most 4,294,967,295 entries, and `f` may be called with each part of it.
+///
+/// The caller's thread alone fills a column of one piece, and each of the 64 columns behind one whose one half was late. Any
+/// other is filled in two halves of whole pieces, the first no shorter, by two threads, and the pieces of a half one after
+/// another. The pace says which it is, and the answer is the pace for the next column.
 ///
 /// Each entry is as a call of `f` for its place left it.
 pub fn fill_pieces<R: Threads + Sync, G: Gate + Sync, F: Fn(usize, &mut [u32]) + Sync>(
@@ -35,22 +37,21 @@ pub fn fill_pieces<R: Threads + Sync, G: Gate + Sync, F: Fn(usize, &mut [u32]) +
     ensures { (i : ℕ) → i < length column.old
         → IsOfPart F.Fn f.now 0 (length column.old) i (slice_index column.new i) }
 {
-    let progress = Progress::of(lane_of(column.len()) / PIECE);
     if column.len() <= PIECE || pace.rests() {
-        fill_lane(column, 0, gate, f, &progress);
+        fill_lane(column, 0, gate, f);
         return pace.rested();
     }
-    fill_lanes(rt, column, gate, f, &progress);
-    progress.pace()
+    let watch = Watch::new(gate, column.len().div_ceil(PIECE) as u64);
+    fill_lanes(rt, column, &watch, f);
+    watch.pace()
 }
 
 // The lanes of a column, which may run at once.
 fn fill_lanes<R: Threads + Sync, G: Gate + Sync, F: Fn(usize, &mut [u32]) + Sync>(
     rt: &R,
     column: &mut [u32],
-    gate: &G,
+    watch: &Watch<'_, G>,
     f: &F,
-    progress: &Progress,
 )
     requires few { length column.old < 2 ^ 32 }
     requires callable { AcceptsParts F.Fn f.now 0 (length column.old) }
@@ -64,8 +65,8 @@ fn fill_lanes<R: Threads + Sync, G: Gate + Sync, F: Fn(usize, &mut [u32]) + Sync
             → IsOfPart F.Fn f.entry.now start (start + length part.entry.now) (start + k)
             (slice_index part.exit.now k) }
     {
-        progress.begin();
-        fill_lane(part, start, gate, f, progress)
+        fill_lane(part, start, watch, f);
+        watch.end();
     };
     let size = lane_of(column.len());
     thread::for_each_chunk_mut(rt, column, size, &lane);
@@ -108,13 +109,7 @@ fn fill_piece<F: Fn(usize, &mut [u32])>(
 }
 
 // The part of a column that begins at entry `start`, piece by piece, each behind the gate.
-fn fill_lane<G: Gate, F: Fn(usize, &mut [u32])>(
-    part: &mut [u32],
-    start: usize,
-    gate: &G,
-    f: &F,
-    progress: &Progress,
-)
+fn fill_lane<G: Gate, F: Fn(usize, &mut [u32])>(part: &mut [u32], start: usize, gate: &G, f: &F)
     requires few { start + length part.old < 2 ^ 32 }
     requires callable { AcceptsParts F.Fn f.now start (start + length part.old) }
     ensures { (k : ℕ) → k < length part.old
@@ -126,6 +121,5 @@ fn fill_lane<G: Gate, F: Fn(usize, &mut [u32])>(
         let from = piece * PIECE;
         gate.pass(((start + from) / PIECE) as u32);
         fill_piece(part, from, len.min(from + PIECE), start, f);
-        progress.advance();
     }
 }
