@@ -5,7 +5,7 @@ use Rattle.cps_theory.specs.Separation.{Landing}
 use Rattle.cps_theory.specs.Retiming.{NeverEarlier}
 use Rattle.cps_theory.specs.LandingTrail.{Landed, latest_landing}
 use Rattle.cps_theory.specs.Labels.{Pair}
-use Rattle.cps_theory.specs.Feasible.{Feasible, next_from, pair_at}
+use Rattle.cps_theory.specs.Feasible.{Feasible, next_from, second_and_cost}
 use Rattle.cps_theory.specs.FirstFound.{element_from}
 use Rattle.cps_theory.specs.Patterns.{PatternNode, PatternPermits, pattern_newest, pattern_node, pattern_push}
 use Rattle.cps_theory.specs.ClosedSets.{ClosedNodes}
@@ -59,7 +59,7 @@ module _ (p : Problem) where
     not_start : (w : PatternNode) (q : Pair) → 1 ≤ count p → w.0 ≡ count p → (w ≡ pattern_node (rules_of p) []) × (q ≡ (0, 0)) → ⊥
     not_start w q some at s = let z = ap (λ (d : PatternNode). d.0) s.0 in absurd (omega arith)
 
-    pub none_below : 1 ≤ count p → (v : ℕ) → element_from (is_final_below p v) 1 ss ≡ None → (t : ℕ → ℕ) → Feasible (ranked p) t → v ≤ value_at p (pair_at (cost_at p) (count p) t)
+    pub none_below : 1 ≤ count p → (v : ℕ) → element_from (is_final_below p v) 1 ss ≡ None → (t : ℕ → ℕ) → Feasible (ranked p) t → v ≤ value_at p (second_and_cost (cost_at p) (count p) t)
     none_below some v e t f =
         let x = feasible_landing_trail (ranked p) (cost_at p) (sound_problem p well) t f in
         subst (λ (q : Pair). v ≤ value_at p q) x.4 (closed_landings_optimal opens (first_at p) (ready p) (cost_at p) (is_first_open p) ready_later (costs_rise p) (rules_of p) ones lists closed (value_at p) (value_rises p) v

@@ -7,7 +7,7 @@ use Rattle.landing_rules.specs.Flights.{Schedule}
 use Rattle.landing_rules.specs.Problem.{Problem, IsFeasibleList, list_objective}
 use Rattle.cps_theory.specs.RankLists.{IsRank, of_rank}
 use Rattle.cps_theory.specs.LandingTrail.{ranks}
-use Rattle.cps_theory.specs.Feasible.{Feasible, pair_at, second_in}
+use Rattle.cps_theory.specs.Feasible.{Feasible, second_and_cost, second_in}
 use Rattle.cps_theory.specs.Labels.{Pair}
 use Rattle.cps_theory.specs.FirstFound.{element_from}
 use Rattle.cps_theory.specs.Patterns.{PatternNode}
@@ -28,7 +28,7 @@ use Rattle.cert_check.proofs.WholeStates.{any_not, none_passes}
 
 module _ (p : Problem) (well : IsWellFormed p) where
   -- a feasible map is a feasible list of its objective
-  map_listed : (t : ℕ → ℕ) → Feasible (ranked p) t → (u : Schedule) × IsFeasibleList p u × (list_objective p u ≡ value_at p (pair_at (cost_at p) (count p) t))
+  map_listed : (t : ℕ → ℕ) → Feasible (ranked p) t → (u : Schedule) × IsFeasibleList p u × (list_objective p u ≡ value_at p (second_and_cost (cost_at p) (count p) t))
   map_listed t f =
       let n = count p in
       let u = list_of n t in

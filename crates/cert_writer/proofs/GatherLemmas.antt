@@ -26,7 +26,7 @@ use Rattle.replan.specs.Readers.{lists_in, stage_in}
 use Rattle.replan.specs.WindowNodes.{told_at, AreLeastIn, AreNodesOf, AreOneNode, IsPairAt, WindowNodes}
 use Rattle.replan.specs.shared.OneNode.{one_tells}
 use Rattle.cert_writer.specs.StageEntries.{IsWindowOf, PlacedTellNodes}
-use Rattle.cert_writer.specs.Gathered.{AreGathered, HaveSlots, IsEntryBefore, IsInRange, IsSlotOf}
+use Rattle.cert_writer.specs.Gathered.{AreGathered, HaveSlots, IsEntryBefore, IsPairInRange, IsSlotOf}
 use Rattle.cert_writer.specs.Slots.{HasSlot}
 use Rattle.cert_writer.proofs.SlotLemmas.{one_slot, slot_node}
 
@@ -85,7 +85,7 @@ set_long (x ∷ xs) zero y = refl
 set_long (x ∷ xs) (suc i) y = ap suc (set_long xs i y)
 
 module _ (p : Problem) (stage : ℕ × List (List ℤ)) (lists : List (List Pair)) where
-  module _ (h : HoldsCosts p stage lists) (count : ℕ) (within : count < length stage.1) (slots : List (List Pair)) (g : AreGathered p stage lists count slots) (slot : ℕ) (here : PatternNode) (at : here.0 ≡ stage.0) (has : HasSlot p.k here slot) (of : IsWindowOf p stage.0 (node_at stage.1 count) here) (list : List Pair) (into : (q : Pair) → InPairs q list → InPairs q (list_at slots slot) ⊎ InPairs q (list_at lists count)) (keeps : (q : Pair) → InPairs q (list_at slots slot) ⊎ InPairs q (list_at lists count) → (o : Pair) × InPairs o list × NoWorse o q) (ranged : All IsInRange (list_at slots slot) → All IsInRange list) where
+  module _ (h : HoldsCosts p stage lists) (count : ℕ) (within : count < length stage.1) (slots : List (List Pair)) (g : AreGathered p stage lists count slots) (slot : ℕ) (here : PatternNode) (at : here.0 ≡ stage.0) (has : HasSlot p.k here slot) (of : IsWindowOf p stage.0 (node_at stage.1 count) here) (list : List Pair) (into : (q : Pair) → InPairs q list → InPairs q (list_at slots slot) ⊎ InPairs q (list_at lists count)) (keeps : (q : Pair) → InPairs q (list_at slots slot) ⊎ InPairs q (list_at lists count) → (o : Pair) × InPairs o list × NoWorse o q) (ranged : All IsPairInRange (list_at slots slot) → All IsPairInRange list) where
     lt : slot < length slots
     lt = let a = has.within in let b = g.room in omega (arith, a, b)
 
@@ -132,8 +132,8 @@ module _ (p : Problem) (stage : ℕ × List (List ℤ)) (lists : List (List Pair
             (c.0, subst (InPairs c.0) (sym (set_other slots slot s list ne)) c.1, c.2)
       ];
       in_range = λ s. elim (cases_eq s slot) [
-        | inl e ↦ subst (All IsInRange) (sym (ap (list_at (set slots slot list)) e ∙ set_same slots slot list lt)) (ranged (g.in_range slot))
-        | inr ne ↦ subst (All IsInRange) (sym (set_other slots slot s list ne)) (g.in_range s)
+        | inl e ↦ subst (All IsPairInRange) (sym (ap (list_at (set slots slot list)) e ∙ set_same slots slot list lt)) (ranged (g.in_range slot))
+        | inr ne ↦ subst (All IsPairInRange) (sym (set_other slots slot s list ne)) (g.in_range s)
       ];
     }
 
@@ -166,7 +166,7 @@ pub record AreEarliest (slots : List ℕ) (least : List Pair) (room count : ℕ)
   pub room_is : length pairs ≡ room
   pub found : (slot : ℕ) (q : Pair) → InPairs q (list_at pairs slot) → (j : ℕ) × (j < count) × (told_at slots j ≡ slot) × (q ≡ pair_at least j)
   pub covers : (j : ℕ) → j < count → (o : Pair) × InPairs o (list_at pairs (told_at slots j)) × NoWorse o (pair_at least j)
-  pub in_range : (slot : ℕ) → All IsInRange (list_at pairs slot)
+  pub in_range : (slot : ℕ) → All IsPairInRange (list_at pairs slot)
 
 none_in : (n slot : ℕ) → list_at (replicate n []) slot ≡ []
 none_in zero slot = refl
@@ -182,10 +182,10 @@ no_earliest slots least room = record {
   room_is = long_none room;
   found = λ slot q i. absurd (subst (InPairs q) (none_in room slot) i);
   covers = λ j lt. absurd (omega (arith, lt));
-  in_range = λ slot. subst (All IsInRange) (sym (none_in room slot)) (λ k d lt. absurd (omega (arith, lt)));
+  in_range = λ slot. subst (All IsPairInRange) (sym (none_in room slot)) (λ k d lt. absurd (omega (arith, lt)));
 }
 
-module _ (slots : List ℕ) (least : List Pair) (room count : ℕ) (pairs : List (List Pair)) (m : AreEarliest slots least room count pairs) (inside : told_at slots count < length pairs) (list : List Pair) (into : (q : Pair) → InPairs q list → InPairs q (list_at pairs (told_at slots count)) ⊎ (q ≡ pair_at least count)) (keeps : (q : Pair) → InPairs q (list_at pairs (told_at slots count)) ⊎ (q ≡ pair_at least count) → (o : Pair) × InPairs o list × NoWorse o q) (ranged : All IsInRange (list_at pairs (told_at slots count)) → All IsInRange list) where
+module _ (slots : List ℕ) (least : List Pair) (room count : ℕ) (pairs : List (List Pair)) (m : AreEarliest slots least room count pairs) (inside : told_at slots count < length pairs) (list : List Pair) (into : (q : Pair) → InPairs q list → InPairs q (list_at pairs (told_at slots count)) ⊎ (q ≡ pair_at least count)) (keeps : (q : Pair) → InPairs q (list_at pairs (told_at slots count)) ⊎ (q ≡ pair_at least count) → (o : Pair) × InPairs o list × NoWorse o q) (ranged : All IsPairInRange (list_at pairs (told_at slots count)) → All IsPairInRange list) where
   abbrev slot : ℕ
   slot = told_at slots count
 
@@ -221,8 +221,8 @@ module _ (slots : List ℕ) (least : List Pair) (room count : ℕ) (pairs : List
           (c.0, subst (InPairs c.0) (sym (set_other pairs slot (told_at slots j) list ne)) c.1, c.2)
     ];
     in_range = λ s. elim (cases_eq s slot) [
-      | inl e ↦ subst (All IsInRange) (sym (here s e)) (ranged (m.in_range slot))
-      | inr ne ↦ subst (All IsInRange) (sym (set_other pairs slot s list ne)) (m.in_range s)
+      | inl e ↦ subst (All IsPairInRange) (sym (here s e)) (ranged (m.in_range slot))
+      | inr ne ↦ subst (All IsPairInRange) (sym (set_other pairs slot s list ne)) (m.in_range s)
     ];
   }
     where
@@ -268,7 +268,7 @@ module _ (p : Problem) (tell : PlacedTellNodes p) (held : Option HeldProblem) (s
   pub window_joined : (i : ℕ) (lt : i < length s.1) (pairs : List (List Pair)) → AreGathered p s all_lists i pairs → (list : List Pair)
       → ((q : Pair) → InPairs q list → InPairs q (list_at pairs (told_at slots (told_at put.places i))) ⊎ InPairs q (list_at all_lists i))
       → ((q : Pair) → InPairs q (list_at pairs (told_at slots (told_at put.places i))) ⊎ InPairs q (list_at all_lists i) → (o : Pair) × InPairs o list × NoWorse o q)
-      → (All IsInRange (list_at pairs (told_at slots (told_at put.places i))) → All IsInRange list)
+      → (All IsPairInRange (list_at pairs (told_at slots (told_at put.places i))) → All IsPairInRange list)
       → AreGathered p s all_lists (i + 1) (set pairs (told_at slots (told_at put.places i)) list)
   window_joined i lt pairs g list into keeps ranged =
       more_gathered p s all_lists h i lt pairs g (told_at slots (told_at put.places i)) (node_of_window i lt) (at_window i lt) (has_window i lt) (of_window i lt) list into keeps ranged

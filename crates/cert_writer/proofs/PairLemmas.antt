@@ -12,7 +12,7 @@ use Rattle.cps_theory.specs.UndominatedPairs.{sweep}
 use Rattle.cps_theory.specs.laws.Staircases.{sweep_covers, sweep_staircase, sweep_subset}
 use Rattle.certificate.specs.States.{is_pair, rises}
 use Rattle.cert_check.specs.shared.KeptPairs.{staircase_rises}
-use Rattle.cert_writer.specs.Gathered.{IsInRange}
+use Rattle.cert_writer.specs.Gathered.{IsPairInRange}
 use Rattle.cps_network.specs.shared.PairLists.{all_in, in_all, in_permuted, permuted_in, sorted_in_order}
 use Rattle.cps_network.specs.Pairs.{pair_at}
 use Rattle.cps_network.specs.shared.PairSteps.{at_in}
@@ -49,24 +49,24 @@ read_same xs i x lt e = get_or_default xs i (0, 0) x lt ∙ sym e
 
 -- ---- the best of pairs
 
-ranged_all : (xs : List Pair) → All IsInRange xs → list_all is_pair xs ≡ true
+ranged_all : (xs : List Pair) → All IsPairInRange xs → list_all is_pair xs ≡ true
 ranged_all [] h = refl
 ranged_all (x ∷ xs) h =
-    let r = All-head IsInRange x xs h in
-    and_from (is_pair x) (list_all is_pair xs) (and_from (leb x.0 172799) (leb x.1 4294967295) (le-leb x.0 172799 r.0) (le-leb x.1 4294967295 r.1)) (ranged_all xs (All-tail IsInRange x xs h))
+    let r = All-head IsPairInRange x xs h in
+    and_from (is_pair x) (list_all is_pair xs) (and_from (leb x.0 172799) (leb x.1 4294967295) (le-leb x.0 172799 r.0) (le-leb x.1 4294967295 r.1)) (ranged_all xs (All-tail IsPairInRange x xs h))
 
 module _ (mine sorted best : List Pair) (moved : IsPermutation mine sorted) (up : IsSorted (λ (x y : Pair). ordering_then (nat_cmp x.0 y.0) (nat_cmp x.1 y.1)) sorted) (is : best ≡ sweep 4294967296 sorted) where
   pub best_found : (q : Pair) → InPairs q best → InPairs q mine
   best_found q i = permuted_in mine sorted moved q (sweep_subset 4294967296 sorted q (subst (InPairs q) is i))
 
-  pub best_covers : All IsInRange mine → (q : Pair) → InPairs q mine → (o : Pair) × InPairs o best × NoWorse o q
+  pub best_covers : All IsPairInRange mine → (q : Pair) → InPairs q mine → (o : Pair) × InPairs o best × NoWorse o q
   best_covers ranged q i = elim (sweep_covers 4294967296 sorted (sorted_in_order sorted up) q (in_permuted mine sorted moved q i)) [
     | inl h ↦ (h.0, subst (InPairs h.0) (sym is) h.1, h.2)
-    | inr le ↦ absurd (let a = (all_in IsInRange mine ranged q i).1 in omega (arith, a, le))
+    | inr le ↦ absurd (let a = (all_in IsPairInRange mine ranged q i).1 in omega (arith, a, le))
   ]
 
   pub best_rises : rises best ≡ true
   best_rises = subst (λ l. rises l ≡ true) (sym is) (staircase_rises (sweep 4294967296 sorted) (sweep_staircase 4294967296 sorted (sorted_in_order sorted up)))
 
-  pub best_ranged : All IsInRange mine → list_all is_pair best ≡ true
-  best_ranged ranged = ranged_all best (in_all IsInRange best (λ q i. all_in IsInRange mine ranged q (best_found q i)))
+  pub best_ranged : All IsPairInRange mine → list_all is_pair best ≡ true
+  best_ranged ranged = ranged_all best (in_all IsPairInRange best (λ q i. all_in IsPairInRange mine ranged q (best_found q i)))

@@ -14,8 +14,8 @@ use Rattle.cert_writer.specs.StageEntries.{IsEntry}
 use Rattle.cert_writer.specs.Slots.{HasSlot}
 
 -- a pair's second is one of the two days, and its cost a number of a certificate
-abbrev pub IsInRange : Pair → Type 0
-IsInRange q = (q.0 ≤ last_second) × (q.1 ≤ 4294967295)
+abbrev pub IsPairInRange : Pair → Type 0
+IsPairInRange q = (q.0 ≤ last_second) × (q.1 ≤ 4294967295)
 
 -- a list has such pairs alone; and of each such pair one that is no later and no dearer
 abbrev pub HasOnly : List Pair → (Pair → Type 0) → Type 0
@@ -40,7 +40,7 @@ pub record AreGathered (p : Problem) (stage : ℕ × List (List ℤ)) (lists : L
       → (d : PatternNode) × (d.0 ≡ stage.0) × HasSlot p.k d slot × IsEntryBefore p stage lists count d q
   pub covers : (slot : ℕ) (d : PatternNode) (q : Pair) → d.0 ≡ stage.0 → HasSlot p.k d slot → IsEntryBefore p stage lists count d q
       → (o : Pair) × InPairs o (list_at slots slot) × NoWorse o q
-  pub in_range : (slot : ℕ) → All IsInRange (list_at slots slot)
+  pub in_range : (slot : ℕ) → All IsPairInRange (list_at slots slot)
 
 -- a window of a stage has this slot: that of the node of its ranks
 pub record IsSlotOf (k stage : ℕ) (window : List ℤ) (slot : ℕ) : Type 0 where

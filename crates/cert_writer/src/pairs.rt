@@ -7,7 +7,7 @@ ghost use Rattle.replan.specs.Kept.{held_of};
 ghost use Rattle.replan.specs.Readers.{pairs_in, IsReadable, HasPlace};
 ghost use Rattle.std.specs.List.{list_all};
 ghost use Rattle.certificate.specs.States.{is_pair, rises};
-ghost use Rattle.cert_writer.specs.Gathered.{HasBetter, HasOnly, IsInRange, IsOfEither};
+ghost use Rattle.cert_writer.specs.Gathered.{HasBetter, HasOnly, IsPairInRange, IsOfEither};
 
 use replan::AnyKept;
 use std::alloc::{AllocError, Global};
@@ -43,7 +43,7 @@ impl NodePairs {
         requires { pair.0 ≤ 172799 }
         ensures found { OnOk result (HasOnly self.new (λ q. InPairs q self.old ⊎ (q ≡ pair))) }
         ensures covers { OnOk result (HasBetter self.new (λ q. InPairs q self.old ⊎ (q ≡ pair))) }
-        ensures in_range { OnOk result (All IsInRange self.old → All IsInRange self.new) }
+        ensures in_range { OnOk result (All IsPairInRange self.old → All IsPairInRange self.new) }
     {
         let len = self.pairs.len();
         if len > 0 {
@@ -68,7 +68,7 @@ impl NodePairs {
             (IsOfEither self.old (pairs_in (held_of kept.now) stage i))) }
         ensures covers { OnOk result (HasBetter self.new
             (IsOfEither self.old (pairs_in (held_of kept.now) stage i))) }
-        ensures in_range { OnOk result (All IsInRange self.old → All IsInRange self.new) }
+        ensures in_range { OnOk result (All IsPairInRange self.old → All IsPairInRange self.new) }
     {
         for j in 0..kept.label_count(stage, i) {
             self.keep(kept.label(stage, i, j))?;
@@ -78,7 +78,7 @@ impl NodePairs {
 
     // Those that no other is better than, ascending in second and falling in cost.
     pub(crate) fn best(&self, alloc: Global) -> Result<Vec<(u32, u32)>, AllocError>
-        requires { All IsInRange self.now }
+        requires { All IsPairInRange self.now }
         ensures found { IfOk result (λ best. HasOnly best.items (λ q. InPairs q self.now)) }
         ensures covers { IfOk result (λ best. HasBetter best.items (λ q. InPairs q self.now)) }
         ensures rising { IfOk result (λ best. rises best.items ≡ true) }

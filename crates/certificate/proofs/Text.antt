@@ -10,7 +10,7 @@ use Rattle.certificate.specs.declared.certificate.Claim.{Claim}
 use Rattle.certificate.specs.declared.certificate.Claim.TheVariants.{Optimal, Infeasible}
 use Rattle.certificate.specs.States.{Pair, State, IsState, AreStates}
 use Rattle.certificate.specs.Reading.{Cert, IsClaim, AreLandings, IsCertificate, claim_behind, body_behind, body_lines, certificate_by, certificate_of}
-use Rattle.certificate.specs.Spelling.{digit_text, pattern_text, pair_text, pairs_text, state_text, landing_text, claim_text, landing_lines, state_lines, text_of}
+use Rattle.certificate.specs.Spelling.{digit_text, pattern_text, pair_text, pairs_text, state_text, landing_text, claim_text, landing_lines, state_lines, certificate_text}
 use Rattle.certificate.proofs.Again.{in_ranges, ArePairs, claim_reads}
 use Rattle.certificate.proofs.Whole.{lines_all, body_back}
 
@@ -73,7 +73,7 @@ as_lines c [] (s ∷ ss) x e = e
 as_lines c (l ∷ ls) ss x e = e
 
 -- reading what is printed gives the certificate again
-pub reads_back : (c : Cert) → IsCertificate c → certificate_of (text_of c) ≡ Ok c
+pub reads_back : (c : Cert) → IsCertificate c → certificate_of (certificate_text c) ≡ Ok c
 unfolding certificate_of certificate_by
 reads_back c h =
     let body = landing_lines c.landings ++ state_lines c.states in

@@ -11,7 +11,7 @@ use Rattle.certificate.specs.States.{State, follows}
 use Rattle.texts.specs.Parts.{parts}
 use Rattle.certificate.specs.Lines.{state_in, landing_in, claim_in}
 use Rattle.certificate.specs.Reading.{Cert, Body, with_landing, with_state, line_in, lines_in, body_lines, body_behind, claim_behind, certificate_by, certificate_of, memory_fault}
-use Rattle.certificate.specs.Spelling.{state_text, landing_text, claim_text, landing_lines, state_lines, text_of}
+use Rattle.certificate.specs.Spelling.{state_text, landing_text, claim_text, landing_lines, state_lines, certificate_text}
 use Rattle.certificate.proofs.Valid.{bind_ok, done}
 use Rattle.certificate.proofs.AsRead.{joined, same_text, state_printed, landing_printed, claim_printed}
 
@@ -75,7 +75,7 @@ lines_printed n c b line (next ∷ rest) x e =
     )
 
 -- what is read prints back as the text
-pub prints_back : (bytes : List ℕ) (c : Cert) → certificate_of bytes ≡ Ok c → text_of c ≡ bytes
+pub prints_back : (bytes : List ℕ) (c : Cert) → certificate_of bytes ≡ Ok c → certificate_text c ≡ bytes
 unfolding certificate_of certificate_by
 prints_back bytes c e = head (parts 10 bytes) refl e
   where
@@ -106,6 +106,6 @@ prints_back bytes c e = head (parts 10 bytes) refl e
         by false p e = absurd cc
         by true p e = claim first rest p f e
 
-pub prints_if_read : (bytes : List ℕ) (r : Result Cert CertFault) → Gives memory_fault r (certificate_of bytes) → IfOk r (λ c. text_of c ≡ bytes)
+pub prints_if_read : (bytes : List ℕ) (r : Result Cert CertFault) → Gives memory_fault r (certificate_of bytes) → IfOk r (λ c. certificate_text c ≡ bytes)
 prints_if_read bytes (Ok c) g = prints_back bytes c g
 prints_if_read bytes (Err e) g = tt

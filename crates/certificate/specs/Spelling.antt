@@ -38,5 +38,5 @@ abbrev pub state_lines : List State → List ℕ
 state_lines [] = []
 state_lines (s ∷ ss) = state_text s ++ 10 ∷ state_lines ss
 
-abbrev pub text_of : Cert → List ℕ
-text_of c = codes "certificate 1" ++ 10 ∷ (claim_text c.claim ++ 10 ∷ (landing_lines c.landings ++ state_lines c.states))
+abbrev pub certificate_text : Cert → List ℕ
+certificate_text c = codes "certificate 1" ++ 10 ∷ (claim_text c.claim ++ 10 ∷ (landing_lines c.landings ++ state_lines c.states))

@@ -2,7 +2,7 @@
 ghost use Rattle.std.specs.Prelude.{◌≡◌, ◌++◌, ◌∷◌, Ok, OnOk, codes, decimal};
 ghost use Rattle.texts.specs.Appends.{Appends};
 ghost use Rattle.certificate.specs.Reading.{certificate_of};
-ghost use Rattle.certificate.specs.Spelling.{digit_text, pattern_text, pairs_text, state_text, claim_text, landing_lines, state_lines, text_of};
+ghost use Rattle.certificate.specs.Spelling.{digit_text, pattern_text, pairs_text, state_text, claim_text, landing_lines, state_lines, certificate_text};
 
 use crate::certificate::{Certificate, Claim};
 use crate::pattern::Pattern;
@@ -125,8 +125,8 @@ fn append_head(certificate: &Certificate, into: &mut Vec<u8>) -> Result<(), Allo
 /// the certificate.
 #[tactic(auto, using(crate::proofs::Text::reads_back))]
 pub fn print_certificate(certificate: &Certificate, into: &mut Vec<u8>) -> Result<(), AllocError>
-    ensures appends { Appends into.old.items into.new.items (text_of certificate.now) result }
-    ensures reads { certificate_of (text_of certificate.now) ≡ Ok certificate.now }
+    ensures appends { Appends into.old.items into.new.items (certificate_text certificate.now) result }
+    ensures reads { certificate_of (certificate_text certificate.now) ≡ Ok certificate.now }
 {
     let states = certificate.states();
     let mut text = Vec::new(*into.allocator());

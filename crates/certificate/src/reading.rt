@@ -3,7 +3,7 @@ ghost use Rattle.cps_base.specs.Answers.{Gives};
 ghost use Rattle.certificate.specs.Reading.{memory_fault, Takes, IsClaim, body_lines, certificate_of, line_in};
 ghost use Rattle.texts.specs.Parts.{parts};
 ghost use Rattle.certificate.specs.States.{follows};
-ghost use Rattle.certificate.specs.Spelling.{text_of};
+ghost use Rattle.certificate.specs.Spelling.{certificate_text};
 
 use crate::certificate::{Certificate, Claim};
 use crate::fault::CertFault;
@@ -102,7 +102,7 @@ fn certificate_in(alloc: Global, bytes: &[u8]) -> Result<Certificate, CertFault>
 pub fn read_certificate(alloc: Global, bytes: &[u8]) -> Result<Certificate, CertFault>
     requires { length bytes.now < 4294967295 }
     ensures value { Gives memory_fault result (certificate_of bytes.now) }
-    ensures prints { IfOk result (λ certificate. text_of certificate ≡ bytes.now) }
+    ensures prints { IfOk result (λ certificate. certificate_text certificate ≡ bytes.now) }
 {
     certificate_in(alloc, bytes)
 }

@@ -25,7 +25,7 @@ use Rattle.certificate.specs.declared.certificate.Claim.{Claim}
 use Rattle.certificate.specs.declared.certificate.Claim.TheVariants as claim
 use Rattle.certificate.specs.States.{State}
 use Rattle.certificate.specs.Reading.{Cert}
-use Rattle.certificate.specs.Spelling.{text_of}
+use Rattle.certificate.specs.Spelling.{certificate_text}
 use Rattle.cert_check.specs.Landings.{Landings}
 use Rattle.cert_check.specs.Situations.{OneStatesLaw}
 use Rattle.cert_check.specs.Whole.{IsAnswered}
@@ -65,12 +65,12 @@ no_landings : (p : Problem) (c : Claim) (ls : Landings) → c ≡ claim.Infeasib
 no_landings p c ls none h = (subst (λ (d : Claim). IsAnswered p d ls) none h).0
 
 differ : OneStatesLaw → (aerodrome : Aerodrome) (flights : List Flight) (c d : Cert) (text other : List ℕ) → IsCertified aerodrome flights c → IsCertified aerodrome flights d
-    → text ≡ text_of c → other ≡ text_of d → DifferInLandingsAlone text other
+    → text ≡ certificate_text c → other ≡ certificate_text d → DifferInLandingsAlone text other
 differ law aerodrome flights c d text other x y first second =
     let s = opened aerodrome flights in
     let claims : c.claim ≡ d.claim = one_claim s x.judged.problem y.judged.problem c.landings d.landings c.claim d.claim x.judged.true_of y.judged.true_of in
     let states : c.states ≡ d.states = law s x.judged.problem y.judged.problem c.states d.states x.judged.problem_of y.judged.problem_of x.whole.states y.whole.states in
-    let with_landings : Landings → Claim → List State → List ℕ = λ ls e ss. text_of (record { claim = e; landings = ls; states = ss }) in
+    let with_landings : Landings → Claim → List State → List ℕ = λ ls e ss. certificate_text (record { claim = e; landings = ls; states = ss }) in
     let again : other ≡ with_landings d.landings c.claim c.states = second ∙ ap₂ (with_landings d.landings) (sym claims) (sym states) in
     record {
       claim = c.claim;
@@ -135,9 +135,9 @@ module _ (law : WholeCertificateIsBoundedLaw) (a f text : List ℕ) (answer : An
       let each = length-map x.flights flight_of in
       let most = judged.well_formed.few_flights in
       let rises = bound_rises x.aerodrome.objective x.aerodrome.k (length p.flights) (min most_waiting (length x.flights)) (omega (arith, waiting_few, all, each, most)) in
-      let named : length (text_of x.certifies.certificate) ≤ whole_bound x.aerodrome.objective x.aerodrome.k (length p.flights) =
-      subst (λ (k : ℕ). length (text_of x.certifies.certificate) ≤ whole_bound x.aerodrome.objective k (length p.flights)) judged.problem_of.k
-      (subst (λ (o : Objective). length (text_of x.certifies.certificate) ≤ whole_bound o p.k (length p.flights)) judged.problem_of.objective whole) in
+      let named : length (certificate_text x.certifies.certificate) ≤ whole_bound x.aerodrome.objective x.aerodrome.k (length p.flights) =
+      subst (λ (k : ℕ). length (certificate_text x.certifies.certificate) ≤ whole_bound x.aerodrome.objective k (length p.flights)) judged.problem_of.k
+      (subst (λ (o : Objective). length (certificate_text x.certifies.certificate) ≤ whole_bound o p.k (length p.flights)) judged.problem_of.objective whole) in
       let long = ap length x.certifies.prints in
       omega (arith, named, rises, long)
 

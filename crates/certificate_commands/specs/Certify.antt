@@ -7,7 +7,7 @@ use Rattle.arrivals.specs.declared.flight.Flight.{Flight}
 use Rattle.flight_file.specs.Reading.{flights_of}
 use Rattle.certificate.specs.declared.certificate.Claim.{Claim}
 use Rattle.certificate.specs.Reading.{Cert, certificate_of}
-use Rattle.certificate.specs.Spelling.{text_of}
+use Rattle.certificate.specs.Spelling.{certificate_text}
 use Rattle.cert_check.specs.Whole.{IsWhole}
 use Rattle.cert_check.specs.WholeLaws.{claimed}
 use Rattle.cert_writer.specs.Answer.{ShowsAnswer}
@@ -16,7 +16,7 @@ use Rattle.cps_outside.specs.SinkState.{SinkState}
 use Rattle.endings.specs.declared.ending.Answer.{Answer}
 use Rattle.endings.specs.declared.ending.Answer.TheVariants.{Accepted, Certified}
 use Rattle.endings.specs.declared.ending.Ending.{Ending}
-use Rattle.endings.specs.declared.ending.Refusal.{Refusal}
+use Rattle.endings.specs.declared.ending.FilesFault.{FilesFault}
 use Rattle.openings.specs.Follows.{FollowsAtOnce}
 use Rattle.openings.specs.Plan.{RefusesPlan}
 use Rattle.certificate_commands.specs.Check.{AdmitsCheck, IsJudged, RefusesCheck}
@@ -36,7 +36,7 @@ pub record IsCertified (aerodrome : Aerodrome) (flights : List Flight) (certific
 pub record Certifies (aerodrome : Aerodrome) (flights : List Flight) (text : List ℕ) (answer : Answer) : Type 0 where
   pub certificate : Cert
   pub certified : IsCertified aerodrome flights certificate
-  pub prints : text ≡ text_of certificate
+  pub prints : text ≡ certificate_text certificate
   pub reads : certificate_of text ≡ Ok certificate
   pub answers : answer ≡ Certified
 
@@ -54,7 +54,7 @@ FollowsCertify aerodrome flights = FollowsAtOnce (AdmitsCertify aerodrome flight
 
 -- `check` takes this text as a certificate for the files, and answers it by the line of this claim and in no other way.
 pub record IsAccepted (aerodrome flights text : List ℕ) (claim : Claim) : Type 0 where
-  pub taken : (cause : Refusal) → RefusesCheck aerodrome flights text cause → ⊥
+  pub taken : (cause : FilesFault) → RefusesCheck aerodrome flights text cause → ⊥
   pub answered : (line : List ℕ) (told : Answer) → AdmitsCheck aerodrome flights text line told ↔ ((line ≡ verdict_text (claimed claim)) × (told ≡ Accepted))
 
 -- A text that `certify` may print for two files is accepted with what it claims, for the same files.

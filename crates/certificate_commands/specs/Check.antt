@@ -14,13 +14,13 @@ use Rattle.sequencer.specs.Opened.{opened}
 use Rattle.cps_outside.specs.SinkState.{SinkState}
 use Rattle.endings.specs.declared.ending.Answer.{Answer}
 use Rattle.endings.specs.declared.ending.Ending.{Ending}
-use Rattle.endings.specs.declared.ending.Refusal.{Refusal}
-use Rattle.endings.specs.declared.ending.Refusal.TheVariants as refusal
+use Rattle.endings.specs.declared.ending.FilesFault.{FilesFault}
+use Rattle.endings.specs.declared.ending.FilesFault.TheVariants as refusal
 use Rattle.endings.specs.Refusing.{refusal_of, refused_by_three, Stops}
 use Rattle.openings.specs.Follows.{FollowsAtOnce}
 use Rattle.certificate_commands.specs.Verdicts.{verdict_text, answer_of_verdict, IsTrueOf}
 
-abbrev pub RefusesCheck : List ℕ → List ℕ → List ℕ → Refusal → Type 0
+abbrev pub RefusesCheck : List ℕ → List ℕ → List ℕ → FilesFault → Type 0
 RefusesCheck aerodrome flights certificate cause =
     refused_by_three refusal.Certificate (aerodrome_of aerodrome) (flights_of flights) (certificate_of certificate) ≡ Some cause
 

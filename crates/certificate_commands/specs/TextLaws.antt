@@ -7,7 +7,7 @@ use Rattle.landing_rules.specs.Limits.{most_waiting}
 use Rattle.certificate.specs.declared.certificate.Claim.{Claim}
 use Rattle.certificate.specs.declared.certificate.Claim.TheVariants.{Infeasible}
 use Rattle.certificate.specs.States.{State}
-use Rattle.certificate.specs.Spelling.{text_of}
+use Rattle.certificate.specs.Spelling.{certificate_text}
 use Rattle.cert_check.specs.Landings.{Landings}
 use Rattle.text_bounds.specs.Counts.{flight_count}
 use Rattle.text_bounds.specs.WholeCertificates.{IsLoadable, whole_bound}
@@ -22,8 +22,8 @@ pub record DifferInLandingsAlone (text other : List ℕ) : Type 0 where
   pub states : List State
   pub landings : Landings
   pub others : Landings
-  pub first : text ≡ text_of (record { claim = claim; landings = landings; states = states })
-  pub second : other ≡ text_of (record { claim = claim; landings = others; states = states })
+  pub first : text ≡ certificate_text (record { claim = claim; landings = landings; states = states })
+  pub second : other ≡ certificate_text (record { claim = claim; landings = others; states = states })
   pub none : claim ≡ Infeasible → text ≡ other
 
 -- two texts that `certify` may print for the same files

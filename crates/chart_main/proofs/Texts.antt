@@ -11,7 +11,7 @@ use Rattle.arrivals.specs.declared.flight.Flight.{Flight}
 use Rattle.flight_file.specs.Reading.{flights_of}
 use Rattle.plan_file.specs.Reading.{plan_of}
 use Rattle.endings.specs.declared.ending.Ending.{Ending}
-use Rattle.endings.specs.declared.ending.Refusal.TheVariants as refusal
+use Rattle.endings.specs.declared.ending.FilesFault.TheVariants as refusal
 use Rattle.endings.specs.Refusing.{Stops, StopsOpened}
 use Rattle.endings.specs.shared.Refusing.{refused_as_read}
 use Rattle.landing_rules.specs.Flights.{Situation}

@@ -5,7 +5,7 @@ use Rattle.std.proofs.lemmas.Int.{ints}
 use Rattle.std.proofs.lemmas.List.{get_or_append_left, get_or-append_right}
 use Rattle.precedence.specs.Pairs.{MustPrecede, AreInRange}
 use Rattle.cps_nodes.specs.Windows.{IsWindow}
-use Rattle.cps_nodes.specs.Ranks.{KeepsShift, window_of}
+use Rattle.cps_nodes.specs.Ranks.{RanksKeepShift, window_of}
 use Rattle.cps_nodes.specs.Laws.{FollowRanks, LeadOn, MayFollow, offset_after}
 use Rattle.cps_nodes.specs.Leads.{IsWithin, TailMeetsHead}
 use Rattle.landing_rules.specs.Problem.{Problem}
@@ -30,11 +30,11 @@ read_at (x ∷ xs) zero d e h = refl
 read_at (x ∷ xs) (suc i) d e h = read_at xs i d e (omega arith)
 
 -- what the windows say of lists of ranks, at the problem's k
-at_k : (p : Problem) (w : ℕ) (ranks : List ℕ) → w ≡ 2 * p.k + 1 → KeepsShift (w / 2) ranks → KeepsShift p.k ranks
-at_k p w ranks odd is = let half : w / 2 ≡ p.k = omega arith in subst (λ (k : ℕ). KeepsShift k ranks) half is
+at_k : (p : Problem) (w : ℕ) (ranks : List ℕ) → w ≡ 2 * p.k + 1 → RanksKeepShift (w / 2) ranks → RanksKeepShift p.k ranks
+at_k p w ranks odd is = let half : w / 2 ≡ p.k = omega arith in subst (λ (k : ℕ). RanksKeepShift k ranks) half is
 
-at_half : (p : Problem) (w : ℕ) (ranks : List ℕ) → w ≡ 2 * p.k + 1 → KeepsShift p.k ranks → KeepsShift (w / 2) ranks
-at_half p w ranks odd is = let half : p.k ≡ w / 2 = omega arith in subst (λ (k : ℕ). KeepsShift k ranks) half is
+at_half : (p : Problem) (w : ℕ) (ranks : List ℕ) → w ≡ 2 * p.k + 1 → RanksKeepShift p.k ranks → RanksKeepShift (w / 2) ranks
+at_half p w ranks odd is = let half : p.k ≡ w / 2 = omega arith in subst (λ (k : ℕ). RanksKeepShift k ranks) half is
 
 none_legal : (p : Problem) (w : ℕ) → w ≡ 2 * p.k + 1 → FollowRanks w → IsLegal p []
 none_legal p w odd law = record {
@@ -64,7 +64,7 @@ last_permitted : (p : Problem) (w : ℕ) (ranks : List ℕ) (rank : ℕ) → w �
 last_permitted p w ranks rank odd law is =
     let longer : length (ranks ++ rank ∷ []) ≡ length ranks + 1 = length-append ranks (rank ∷ []) in
     let last : get_or (ranks ++ rank ∷ []) (length ranks) 0 ≡ rank = read_last ranks rank (length ranks) refl in
-    let step : KeepsShift (w / 2) ranks × MayFollow (w / 2) (window_of w ranks) (length ranks) rank =
+    let step : RanksKeepShift (w / 2) ranks × MayFollow (w / 2) (window_of w ranks) (length ranks) rank =
     (law.goes_on ranks rank).0 (at_half p w (ranks ++ rank ∷ []) odd is.shift) in
     record {
       from_one = omega (arith, is.shift.positive (length ranks) (omega arith));
@@ -85,7 +85,7 @@ longer_legal : (p : Problem) (w : ℕ) (ranks : List ℕ) (rank : ℕ) → w ≡
 longer_legal p w ranks rank odd range law is may =
     let longer : length (ranks ++ rank ∷ []) ≡ length ranks + 1 = length-append ranks (rank ∷ []) in
     let last : get_or (ranks ++ rank ∷ []) (length ranks) 0 ≡ rank = read_last ranks rank (length ranks) refl in
-    let keeps : KeepsShift (w / 2) ranks = at_half p w ranks odd is.shift in
+    let keeps : RanksKeepShift (w / 2) ranks = at_half p w ranks odd is.shift in
     record {
       shift = at_k p w (ranks ++ rank ∷ []) odd ((law.goes_on ranks rank).1 (
         keeps,

@@ -1,7 +1,7 @@
 -- Legal prefixes as lists of ranks in landing order, and how windows follow them.
 use Rattle.std.specs.Prelude.{◌≡◌, ℕ, ◌+◌, ◌<◌, ◌≤◌, ◌↔◌, List, [], ◌∷◌, ◌++◌, length, slice_index}
 use Rattle.precedence.specs.Pairs.{MustPrecede}
-use Rattle.cps_nodes.specs.Ranks.{KeepsShift, window_of}
+use Rattle.cps_nodes.specs.Ranks.{RanksKeepShift, window_of}
 use Rattle.cps_nodes.specs.Laws.{offset_after}
 use Rattle.cps_nodes.specs.Windows.{shifted}
 use Rattle.landing_rules.specs.Problem.{Problem}
@@ -11,7 +11,7 @@ use Rattle.cps_network.specs.Permits.{IsPermitted}
 -- a legal prefix as a list of ranks in landing order: different ranks from 1 to n, each at most k from its place, with each rank listed that is k
 -- below the length or further, with none further behind its place than the flights that passed it leave, and with all predecessors of a listed rank before it
 pub record IsLegal (p : Problem) (ranks : List ℕ) : Type 0 where
-  pub shift : KeepsShift p.k ranks
+  pub shift : RanksKeepShift p.k ranks
   pub to_count : (i : ℕ) → i < length ranks → slice_index ranks i ≤ length p.flights
   pub late : (i : ℕ) → i < length ranks → i + 1 + passed_at p (slice_index ranks i) ≤ slice_index ranks i + p.k
   pub after : (j first : ℕ) → j < length ranks → MustPrecede p.pairs first (slice_index ranks j) → (i : ℕ) × (i < j) × (slice_index ranks i ≡ first)

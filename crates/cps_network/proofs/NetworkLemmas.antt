@@ -7,7 +7,7 @@ use Rattle.std.proofs.lemmas.List.Elements.{Contains-append_left, Contains-appen
 use Rattle.std.proofs.lemmas.Bool.{cases_lt}
 use Rattle.precedence.specs.Pairs.{MustPrecede, must_precede_decides, AreInRange}
 use Rattle.cps_nodes.specs.Windows.{IsPlaced, offset_at, shifted}
-use Rattle.cps_nodes.specs.Ranks.{HasLanded, KeepsShift, window_of}
+use Rattle.cps_nodes.specs.Ranks.{HasLanded, RanksKeepShift, window_of}
 use Rattle.cps_nodes.specs.Laws.{FollowRanks, offset_after}
 use Rattle.cps_theory.specs.RankLists.{In}
 use Rattle.cps_theory.specs.LandingTrail.{last_rank}
@@ -55,7 +55,7 @@ zero_at (suc w) zero = refl
 zero_at (suc w) (suc i) = zero_at w i
 
 -- the shift rule with one rank more
-keeps_more : (p : Problem) (rs : List ℕ) (r : ℕ) → KeepsShift p.k (reverse rs) → MayFollow (ranked p).rules rs r → KeepsShift p.k (reverse rs ++ r ∷ [])
+keeps_more : (p : Problem) (rs : List ℕ) (r : ℕ) → RanksKeepShift p.k (reverse rs) → MayFollow (ranked p).rules rs r → RanksKeepShift p.k (reverse rs ++ r ∷ [])
 keeps_more p rs r is next =
     let len : length (reverse rs) ≡ length rs = length-reverse rs in
     let longer : length (reverse rs ++ r ∷ []) ≡ length (reverse rs) + 1 = length-append (reverse rs) (r ∷ []) in
@@ -198,7 +198,7 @@ tells_ranks p low follow law rs rank legal one = (
     here : Legal (ranked p).rules rs → IsPlaced (node_of p.k rs).1 (pos (length rs)) (pos rank) ↔ HasLanded (reverse rs) (pos rank)
     here l =
         subst (λ (n : ℕ). IsPlaced (window_of (2 * p.k + 1) (reverse rs)) (pos n) (pos rank) ↔ HasLanded (reverse rs) (pos rank)) (length-reverse rs)
-        (follow.places (reverse rs) (pos rank) (subst (λ (k : ℕ). KeepsShift k (reverse rs)) (sym half) (whole_from p (2 * p.k + 1) rs low law l).shift))
+        (follow.places (reverse rs) (pos rank) (subst (λ (k : ℕ). RanksKeepShift k (reverse rs)) (sym half) (whole_from p (2 * p.k + 1) rs low law l).shift))
 
 -- at most k flights passed that of each rank, and none one that is of no flight
 pub passed_low : (p : Problem) → All (λ f. f.passed ≤ p.k) p.flights → (q : ℕ) → passed_at p q ≤ p.k

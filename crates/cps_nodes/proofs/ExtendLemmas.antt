@@ -6,7 +6,7 @@ use Rattle.std.proofs.lemmas.List.{get_or_default, get_or_append_left, get_or_pu
 use Rattle.std.proofs.lemmas.List.Elements.{Contains-append_left, Contains-push_cases}
 use Rattle.std.proofs.lemmas.Bool.{cases_lt}
 use Rattle.cps_nodes.specs.Windows.{IsWidth, HoldsRank, Accepts, offset_at, shifted}
-use Rattle.cps_nodes.specs.Ranks.{KeepsShift, offsets_from, window_of}
+use Rattle.cps_nodes.specs.Ranks.{RanksKeepShift, offsets_from, window_of}
 use Rattle.cps_nodes.specs.Laws.{offset_after, FollowRanks}
 use Rattle.cps_nodes.proofs.PrefixLemmas.{HasLanded-from_IsPlaced, IsPlaced-from_HasLanded, length-offsets_from, length-window_of, offset_at-window_of_early, offset_at-window_of}
 
@@ -54,7 +54,7 @@ landing_held w ranks rank (i, lt, e) =
     ]
 
 -- a list of landings that goes on is accepted by its window
-pub Accepts-from_KeepsShift : (most w : ℕ) (ranks : List ℕ) (r : ℕ) → w ≡ 2 * most + 1 → KeepsShift most (ranks ++ r ∷ [])
+pub Accepts-from_KeepsShift : (most w : ℕ) (ranks : List ℕ) (r : ℕ) → w ≡ 2 * most + 1 → RanksKeepShift most (ranks ++ r ∷ [])
     → Accepts (window_of w ranks) (pos r -ℤ pos (1 + length ranks))
 Accepts-from_KeepsShift most w ranks r odd is =
     let len : length (window_of w ranks) ≡ w = length-window_of w ranks in
@@ -90,9 +90,9 @@ not_zero most w ranks zero odd late can =
 not_zero most w ranks (suc r) odd late can = omega arith
 
 -- and what its window accepts goes on
-pub KeepsShift-from_Accepts : (most w : ℕ) (ranks : List ℕ) (r : ℕ) → w ≡ 2 * most + 1 → KeepsShift most ranks
+pub KeepsShift-from_Accepts : (most w : ℕ) (ranks : List ℕ) (r : ℕ) → w ≡ 2 * most + 1 → RanksKeepShift most ranks
     → r ≤ length ranks + 1 + most → length ranks + 1 ≤ r + most
-    → Accepts (window_of w ranks) (pos r -ℤ pos (1 + length ranks)) → KeepsShift most (ranks ++ r ∷ [])
+    → Accepts (window_of w ranks) (pos r -ℤ pos (1 + length ranks)) → RanksKeepShift most (ranks ++ r ∷ [])
 KeepsShift-from_Accepts most w ranks r odd is early late can =
     let len : length (window_of w ranks) ≡ w = length-window_of w ranks in
     let some : 0 < r = not_zero most w ranks r odd late can in
@@ -138,7 +138,7 @@ KeepsShift-from_Accepts most w ranks r odd is early late can =
     }
 
 -- without its last rank a list keeps the shift rule
-pub KeepsShift-front : (most : ℕ) (ranks : List ℕ) (r : ℕ) → KeepsShift most (ranks ++ r ∷ []) → KeepsShift most ranks
+pub KeepsShift-front : (most : ℕ) (ranks : List ℕ) (r : ℕ) → RanksKeepShift most (ranks ++ r ∷ []) → RanksKeepShift most ranks
 KeepsShift-front most ranks r is =
     let longer : length (ranks ++ r ∷ []) ≡ length ranks + 1 = length-append ranks (r ∷ []) in
     let last : get_or (ranks ++ r ∷ []) (length ranks) 0 ≡ r = get_or_push ranks r 0 (length ranks) refl in
@@ -154,7 +154,7 @@ KeepsShift-front most ranks r is =
       ];
     }
 
-pub KeepsShift-none : (most : ℕ) → KeepsShift most []
+pub KeepsShift-none : (most : ℕ) → RanksKeepShift most []
 KeepsShift-none most = record {
   positive = λ i lt. absurd (omega arith);
   differ = λ i j lt within same. absurd (omega (arith, within));
@@ -176,8 +176,8 @@ offset_turned n rank = ap (λ (m : ℕ). pos rank -ℤ pos m) (omega arith)
 
 -- a window accepts the next rank, and is then that of the longer list
 pub accepted_ranks : (w : ℕ) (xs : List ℤ) (ranks : List ℕ) (rank : ℕ) (o : ℤ) → IsWidth w → pos 0 ≤ℤ (o +ℤ pos (w / 2)) → o ≤ℤ pos (w / 2)
-    → KeepsShift (w / 2) ranks → xs ≡ window_of w ranks → o ≡ pos rank -ℤ pos (length ranks + 1)
-    → Accepts xs o → KeepsShift (w / 2) (ranks ++ rank ∷ []) × (shifted xs o ≡ window_of w (ranks ++ rank ∷ []))
+    → RanksKeepShift (w / 2) ranks → xs ≡ window_of w ranks → o ≡ pos rank -ℤ pos (length ranks + 1)
+    → Accepts xs o → RanksKeepShift (w / 2) (ranks ++ rank ∷ []) × (shifted xs o ≡ window_of w (ranks ++ rank ∷ []))
 accepted_ranks w xs ranks rank o wide low high is at e can =
     let turned : o ≡ pos rank -ℤ pos (1 + length ranks) = e ∙ offset_turned (length ranks) rank in
     let here : Accepts (window_of w ranks) (pos rank -ℤ pos (1 + length ranks)) =
@@ -188,7 +188,7 @@ accepted_ranks w xs ranks rank o wide low high is at e can =
 
 -- a list that goes on is accepted
 pub ranks_accepted : (w : ℕ) (xs : List ℤ) (ranks : List ℕ) (rank : ℕ) (o : ℤ) → IsWidth w → xs ≡ window_of w ranks → o ≡ pos rank -ℤ pos (length ranks + 1)
-    → KeepsShift (w / 2) (ranks ++ rank ∷ []) → Accepts xs o
+    → RanksKeepShift (w / 2) (ranks ++ rank ∷ []) → Accepts xs o
 ranks_accepted w xs ranks rank o wide at e is =
     let turned : o ≡ pos rank -ℤ pos (1 + length ranks) = e ∙ offset_turned (length ranks) rank in
     let here : Accepts (window_of w ranks) (pos rank -ℤ pos (1 + length ranks)) = Accepts-from_KeepsShift (w / 2) w ranks rank (omega (arith, wide)) is in

@@ -5,7 +5,7 @@ use Rattle.std.proofs.lemmas.Int.{ints}
 use Rattle.std.proofs.lemmas.List.{get_or_default, get_or_append_left, get_or-append_right, get_or-drop, get_or-replicate, length-replicate}
 use Rattle.std.proofs.lemmas.Bool.{cases_lt}
 use Rattle.cps_nodes.specs.Windows.{offset_at, IsPlaced}
-use Rattle.cps_nodes.specs.Ranks.{KeepsShift, offsets_from, window_of, HasLanded}
+use Rattle.cps_nodes.specs.Ranks.{RanksKeepShift, offsets_from, window_of, HasLanded}
 
 pub length-offsets_from : (place : ℕ) (ranks : List ℕ) → length (offsets_from place ranks) ≡ length ranks
 length-offsets_from place [] = refl
@@ -51,7 +51,7 @@ is_natural (pos n) = inl (n, refl)
 is_natural (negsuc n) = inr (n, refl)
 
 -- what the window places has landed
-pub HasLanded-from_IsPlaced : (most w : ℕ) (ranks : List ℕ) (rank : ℤ) → w ≡ 2 * most + 1 → KeepsShift most ranks
+pub HasLanded-from_IsPlaced : (most w : ℕ) (ranks : List ℕ) (rank : ℤ) → w ≡ 2 * most + 1 → RanksKeepShift most ranks
     → IsPlaced (window_of w ranks) (pos (length ranks)) rank → HasLanded ranks rank
 HasLanded-from_IsPlaced most w ranks rank odd is placed =
     let half : length (window_of w ranks) / 2 ≡ most = omega (arith, length-window_of w ranks) in
@@ -85,7 +85,7 @@ HasLanded-from_IsPlaced most w ranks rank odd is placed =
     ]
 
 -- what has landed is placed by the window
-pub IsPlaced-from_HasLanded : (most w : ℕ) (ranks : List ℕ) (rank : ℤ) → w ≡ 2 * most + 1 → KeepsShift most ranks
+pub IsPlaced-from_HasLanded : (most w : ℕ) (ranks : List ℕ) (rank : ℤ) → w ≡ 2 * most + 1 → RanksKeepShift most ranks
     → HasLanded ranks rank → IsPlaced (window_of w ranks) (pos (length ranks)) rank
 IsPlaced-from_HasLanded most w ranks rank odd is landed =
     let half : length (window_of w ranks) / 2 ≡ most = omega (arith, length-window_of w ranks) in

@@ -3,7 +3,7 @@ use Rattle.std.specs.Prelude.{◌≡◌, ℕ, ℤ, pos, ◌+◌, ◌<◌, ◌≤
 
 -- a list of ranks keeps the shift rule so far: the ranks are different, from 1 on, each at most k from its place, and each
 -- rank that is k below the length, or further, is listed
-pub record KeepsShift (k : ℕ) (ranks : List ℕ) : Type 0 where
+pub record RanksKeepShift (k : ℕ) (ranks : List ℕ) : Type 0 where
   pub positive : (i : ℕ) → i < length ranks → 0 < slice_index ranks i
   pub differ : (i j : ℕ) → i < j → j < length ranks → slice_index ranks i ≡ slice_index ranks j → ⊥
   pub early : (i : ℕ) → i < length ranks → slice_index ranks i ≤ i + 1 + k

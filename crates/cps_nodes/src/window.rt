@@ -7,7 +7,7 @@ ghost use Rattle.std.specs.Cmp.Lexicographic.{pointwise};
 ghost use Rattle.cps_nodes.specs.Digits.{digit_offset, offsets_of, order_key};
 ghost use Rattle.cps_nodes.specs.Held.{AreHeld, IsDueHeldUpto};
 ghost use Rattle.cps_nodes.specs.Leads.{Extends, IsBelow, GoOnAlike, TailMeetsHead};
-ghost use Rattle.cps_nodes.specs.Ranks.{KeepsShift, HasLanded, window_of};
+ghost use Rattle.cps_nodes.specs.Ranks.{RanksKeepShift, HasLanded, window_of};
 ghost use Rattle.cps_nodes.specs.WindowOrder.{window_cmp};
 ghost use Rattle.cps_nodes.specs.Windows.{IsWidth, IsWindow, HoldsRank, Accepts, offset_at, shifted, IsPlaced};
 
@@ -225,7 +225,7 @@ impl<const W: usize> Window<W> {
         ensures offsets { IsTrue result ↔ IsPlaced self.now stage rank }
 
         // For every list of ranks with this window: exactly its ranks are placed, and those below 1.
-        ensures ranks { (ranks : List ℕ) → KeepsShift (W / 2) ranks
+        ensures ranks { (ranks : List ℕ) → RanksKeepShift (W / 2) ranks
             → self.now ≡ window_of W ranks → stage ≡ pos (length ranks)
             → (IsTrue result ↔ HasLanded ranks rank) }
     {
@@ -315,9 +315,9 @@ impl<const W: usize> ExtendableWindow<W> {
         ensures next_valid { IfSome result (λ next. IsWindow W next) }
 
         // For every list of ranks with this window: it goes on by a rank exactly where the rank's offset is accepted.
-        ensures ranks { (ranks : List ℕ) → (rank : ℕ) → KeepsShift (W / 2) ranks
+        ensures ranks { (ranks : List ℕ) → (rank : ℕ) → RanksKeepShift (W / 2) ranks
             → self.now ≡ window_of W ranks → offset ≡ pos rank -ℤ pos (length ranks + 1)
-            → SomeIff result (KeepsShift (W / 2) (ranks ++ rank ∷ []))
+            → SomeIff result (RanksKeepShift (W / 2) (ranks ++ rank ∷ []))
             (window_of W (ranks ++ rank ∷ [])) }
     {
         let window = self.window;

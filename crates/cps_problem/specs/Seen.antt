@@ -9,8 +9,8 @@ use Rattle.cps_problem.specs.declared.problem.Head.{Head}
 abbrev pub waiting_of : Waiting → rules.Waiting
 waiting_of w = record { callsign = w.callsign; category = w.category; eta = w.eta; weight = w.weight; passed = w.passed; open_spans = w.times }
 
-abbrev pub problem_of : Head → List Waiting → List ℕ → rules.Problem
-problem_of head waiting pairs = record {
+abbrev pub seen_problem : Head → List Waiting → List ℕ → rules.Problem
+seen_problem head waiting pairs = record {
   table = head.table;
   k = head.k;
   objective = head.objective;

@@ -1,5 +1,5 @@
 ghost use Rattle.std.specs.Prelude.{◌≡◌, ◌-◌, ◌≤◌, IfOk, Some, length, nat_eq, slice_get};
-ghost use Rattle.cps_problem.specs.Seen.{waiting_of, problem_of};
+ghost use Rattle.cps_problem.specs.Seen.{waiting_of, seen_problem};
 ghost use Rattle.cps_problem.specs.WellFormed.{CanBuild, IsWellFormed};
 
 use cps_base::Callsign;
@@ -73,8 +73,8 @@ impl Problem {
     /// passed each; the last frozen landing is before the horizon, which is at most 179,999; the base plus 17,279,900 for each
     /// flight is at most 8,639,950,000.
     pub fn build(head: Head, waiting: Vec<Waiting>, pairs: Pairs) -> Problem
-        requires { CanBuild (problem_of head waiting.items pairs) }
-        ensures { result ≡ problem_of head waiting.items pairs }
+        requires { CanBuild (seen_problem head waiting.items pairs) }
+        ensures { result ≡ seen_problem head waiting.items pairs }
     {
         let _is_table = head.table.sep(Category::A, Category::A);
         Problem {

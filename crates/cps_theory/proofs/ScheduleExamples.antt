@@ -2,7 +2,7 @@
 use Rattle.std.proofs.Common.{◌≡◌, ◌≢◌, ℕ, zero, suc, ◌+◌, ◌-◌, ◌≤◌, inl, inr, [], ◌∷◌, true, Option, Some, leb, max, refl, arith}
 use Rattle.std.proofs.lemmas.Bool.{cases_lt, false≢true}
 use Rattle.cps_theory.specs.RankLists.{IsRank}
-use Rattle.cps_theory.specs.Feasible.{Feasible, IsBest, RankedProblem, SameOrder, SoundProblem, Tight, at_seconds, earlier, earliest, greatest, next_from, pair_at, second_in, total}
+use Rattle.cps_theory.specs.Feasible.{Feasible, IsBest, RankedProblem, SameOrder, SoundProblem, Tight, at_seconds, earlier, earliest, greatest, next_from, second_and_cost, second_in, total}
 use Rattle.cps_theory.proofs.NodeExamples.{two}
 
 abbrev pub pair_of_flights : RankedProblem
@@ -94,7 +94,7 @@ earlier_than_two = refl
 total_of_two : total (λ r. in_rank_order r - 1000) (2 ∷ 1 ∷ []) ≡ 60
 total_of_two = refl
 
-pair_of_two : pair_at (λ r t. t - 1000) 2 in_rank_order ≡ (1060, 60)
+pair_of_two : second_and_cost (λ r t. t - 1000) 2 in_rank_order ≡ (1060, 60)
 pair_of_two = refl
 
 same_order : SameOrder 2 in_rank_order in_rank_order

@@ -4,7 +4,7 @@ use Rattle.std.proofs.lemmas.Bool.{cases_eq, le-ltb, ltb-false, false≢true, lt
 use Rattle.std.proofs.lemmas.List.Sorted.{IsPermutation-refl}
 use Rattle.cps_theory.specs.RankLists.{In}
 use Rattle.cps_theory.specs.Feasible.{RankedProblem}
-use Rattle.cps_theory.specs.Freeze.{FirstCome, KeepsShift, frozen_of, overtook, place_in, rank_in, staying_of}
+use Rattle.cps_theory.specs.Freeze.{FirstCome, KeepsCountedShift, frozen_of, overtook, place_in, rank_in, staying_of}
 use Rattle.cps_theory.specs.NumberedSituation.{FeasibleIn, NumberedSituation, ProblemOf, SoundSituation, active}
 use Rattle.cps_theory.specs.Objectives.{SameObjectives, latest_in}
 use Rattle.cps_theory.specs.laws.WholeObjective.{same_objectives}
@@ -19,7 +19,7 @@ seven_waits_second = refl
 seven_ranks_first : rank_in ltb (7 ∷ 9 ∷ []) 7 ≡ 1
 seven_ranks_first = refl
 
-keeps_shift : KeepsShift 1 (λ f. 1) ltb plan (7 ∷ 9 ∷ []) 7
+keeps_shift : KeepsCountedShift 1 (λ f. 1) ltb plan (7 ∷ 9 ∷ []) 7
 keeps_shift = (let e : place_in plan (7 ∷ 9 ∷ []) 7 ≡ 2 = refl in let r : rank_in ltb (7 ∷ 9 ∷ []) 7 ≡ 1 = refl in omega arith, let e : place_in plan (7 ∷ 9 ∷ []) 7 ≡ 2 = refl in let r : rank_in ltb (7 ∷ 9 ∷ []) 7 ≡ 1 = refl in omega arith)
 
 -- it was passed over once, so that the next time it may not go back
@@ -63,7 +63,7 @@ feasible_situation = record {
       (two_of (λ g. 5 ≢ g → 980 ≤ landing_of g → 1040 ≤ landing_of g) (λ ne le. absurd (ne refl)) (λ ne le. omega arith) g j)
       (two_of (λ g. 7 ≢ g → 1040 ≤ landing_of g → 1100 ≤ landing_of g) (λ ne le. absurd (omega arith)) (λ ne le. absurd (ne refl)) g j) f i;
   in_order = λ f g i j l. absurd (false≢true l);
-  shifted = one_of (λ f. KeepsShift 1 (λ f. 1) ltb landing_of (7 ∷ []) f) 7 (let e : place_in landing_of (7 ∷ []) 7 ≡ 1 = refl in let r : rank_in ltb (7 ∷ []) 7 ≡ 1 = refl in omega arith, let e : place_in landing_of (7 ∷ []) 7 ≡ 1 = refl in let r : rank_in ltb (7 ∷ []) 7 ≡ 1 = refl in omega arith);
+  shifted = one_of (λ f. KeepsCountedShift 1 (λ f. 1) ltb landing_of (7 ∷ []) f) 7 (let e : place_in landing_of (7 ∷ []) 7 ≡ 1 = refl in let r : rank_in ltb (7 ∷ []) 7 ≡ 1 = refl in omega arith, let e : place_in landing_of (7 ∷ []) 7 ≡ 1 = refl in let r : rank_in ltb (7 ∷ []) 7 ≡ 1 = refl in omega arith);
 }
 
 sound_situation : SoundSituation situation

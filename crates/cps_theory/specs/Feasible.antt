@@ -70,8 +70,8 @@ total f [] = 0
 total f (r ∷ rs) = f r + total f rs
 
 -- the greatest second of a map, and what it costs
-abbrev pub pair_at : (ℕ → ℕ → ℕ) → ℕ → (ℕ → ℕ) → ℕ × ℕ
-pair_at cost n t = (greatest t n, total (λ r. cost r (t r)) (upto n))
+abbrev pub second_and_cost : (ℕ → ℕ → ℕ) → ℕ → (ℕ → ℕ) → ℕ × ℕ
+second_and_cost cost n t = (greatest t n, total (λ r. cost r (t r)) (upto n))
 
 -- two maps land the ranks up to n in one order
 abbrev pub SameOrder : ℕ → (ℕ → ℕ) → (ℕ → ℕ) → Type 0

@@ -2,7 +2,7 @@
 use Rattle.std.specs.Prelude.{◌≡◌, ◌≢◌, ℕ, ◌+◌, ◌<◌, ◌≤◌, List, ◌++◌, Bool, true, map, IsPermutation}
 use Rattle.cps_theory.specs.RankLists.{Distinct, In, IsRank, upto}
 use Rattle.cps_theory.specs.Feasible.{RankedProblem}
-use Rattle.cps_theory.specs.Freeze.{FirstCome, KeepsShift}
+use Rattle.cps_theory.specs.Freeze.{FirstCome, KeepsCountedShift}
 
 -- of any two of the list, whichever lands first
 abbrev pub AllSeparated : (ℕ → ℕ → ℕ) → (ℕ → ℕ) → List ℕ → Type 0
@@ -33,7 +33,7 @@ pub record FeasibleIn (s : NumberedSituation) (t : ℕ → ℕ) : Type 0 where
   pub opened : (f : ℕ) → In f (active s) → s.is_open f (t f) ≡ true
   pub separated : AllSeparated s.apart t (active s)
   pub in_order : (f g : ℕ) → In f (active s) → In g (active s) → s.lists f g ≡ true → t f < t g
-  pub shifted : (f : ℕ) → In f s.waiting → KeepsShift s.most s.back s.comes_before t s.waiting f
+  pub shifted : (f : ℕ) → In f s.waiting → KeepsCountedShift s.most s.back s.comes_before t s.waiting f
 
 -- what is asked of the situation alone
 pub record SoundSituation (s : NumberedSituation) : Type 0 where

@@ -7,7 +7,7 @@ ghost use Rattle.cps_theory.specs.LandingTrail.{pair_of, ranks};
 ghost use Rattle.cps_theory.specs.Labels.{InPairs, NeverCheaper, Pair};
 ghost use Rattle.cps_theory.specs.LegalPrefix.{Legal};
 ghost use Rattle.cps_theory.specs.Patterns.{PatternNode, PatternPermits, pattern_newest, pattern_push};
-ghost use Rattle.cps_theory.specs.Feasible.{Feasible, IsBest, RankedProblem, SoundProblem, Tight, earliest, next_from, pair_at, second_in};
+ghost use Rattle.cps_theory.specs.Feasible.{Feasible, IsBest, RankedProblem, SoundProblem, Tight, earliest, next_from, second_and_cost, second_in};
 ghost use Rattle.cps_theory.specs.ProblemNetwork.{FindsFirstOpen, IsObjective, LandedIn};
 ghost use Rattle.cps_theory.specs.CompletingPairs.{KeptCompleting, NoEarlierNoDearer};
 ghost use Rattle.cps_theory.specs.FirstBest.{BuiltByNodes, CompletesNode, FirstBest, ListsCompleting, ReachedIn};
@@ -19,11 +19,11 @@ pub fn legal_landings_are_feasible()
         → Feasible p t →
         (xs : List Landing) × Legal p.rules (ranks xs) × LandedIn p xs
         × (length (ranks xs) ≡ p.rules.count)
-        × (pair_of cost xs ≡ pair_at cost p.rules.count t) }
+        × (pair_of cost xs ≡ second_and_cost cost p.rules.count t) }
     ensures feasible { (p : RankedProblem) (cost : ℕ → ℕ → ℕ) → SoundProblem p →
         (xs : List Landing) → Legal p.rules (ranks xs) → LandedIn p xs → length (ranks xs)
         ≡ p.rules.count →
-        Feasible p (second_in xs) × (pair_of cost xs ≡ pair_at cost p.rules.count (second_in xs)) }
+        Feasible p (second_in xs) × (pair_of cost xs ≡ second_and_cost cost p.rules.count (second_in xs)) }
 {}
 
 /// Of a feasible schedule of least value, the earliest landings in its order are best and tight.
@@ -32,10 +32,10 @@ pub fn least_is_best_and_tight()
         → FindsFirstOpen p first →
         (cost : ℕ → ℕ → ℕ) → NeverCheaper cost → (value : Pair → ℕ) → IsObjective value →
         (t : ℕ → ℕ) → Feasible p t →
-        ((u : ℕ → ℕ) → Feasible p u → value (pair_at cost p.rules.count t)
-        ≤ value (pair_at cost p.rules.count u)) →
-        (u : ℕ → ℕ) × IsBest p (λ v. value (pair_at cost p.rules.count v)) u × Tight p u
-        × (value (pair_at cost p.rules.count u) ≡ value (pair_at cost p.rules.count t)) }
+        ((u : ℕ → ℕ) → Feasible p u → value (second_and_cost cost p.rules.count t)
+        ≤ value (second_and_cost cost p.rules.count u)) →
+        (u : ℕ → ℕ) × IsBest p (λ v. value (second_and_cost cost p.rules.count v)) u × Tight p u
+        × (value (second_and_cost cost p.rules.count u) ≡ value (second_and_cost cost p.rules.count t)) }
 {}
 
 /// The completing pairs of a node that is not of the last stage, from those kept of its successors.
@@ -68,7 +68,7 @@ pub fn feasible_has_first_best()
         → FindsFirstOpen p first →
         (cost : ℕ → ℕ → ℕ) → NeverCheaper cost → (value : Pair → ℕ) → IsObjective value →
         (t : ℕ → ℕ) → Feasible p t →
-        (u : ℕ → ℕ) × FirstBest p (λ v. value (pair_at cost p.rules.count v)) u }
+        (u : ℕ → ℕ) × FirstBest p (λ v. value (second_and_cost cost p.rules.count v)) u }
 {}
 
 /// Taking at each place the least rank that can still be completed builds the first best schedule, and there
@@ -78,20 +78,20 @@ pub fn least_choices_are_first_best()
         → FindsFirstOpen p first →
         (v : ℕ) (lists : PatternNode → List Pair)
         → ListsCompleting p (λ x u. 0) (λ t. nat_le t v) lists →
-        ((u : ℕ → ℕ) → Feasible p u → v ≤ (pair_at (λ x t. 0) p.rules.count u).0) →
+        ((u : ℕ → ℕ) → Feasible p u → v ≤ (second_and_cost (λ x t. 0) p.rules.count u).0) →
         (zs : List Landing) → Legal p.rules (ranks zs) → length (ranks zs) ≡ p.rules.count →
         BuiltByNodes p first (λ x t. 0) lists 0 zs →
-        FirstBest p (λ u. (pair_at (λ x t. 0) p.rules.count u).0) (second_in zs)
+        FirstBest p (λ u. (second_and_cost (λ x t. 0) p.rules.count u).0) (second_in zs)
         × (earliest first (next_from p) (ranks zs) ≡ Some zs) }
     ensures delay { (p : RankedProblem) → SoundProblem p → (first : ℕ → ℕ → Option ℕ)
         → FindsFirstOpen p first →
         (cost : ℕ → ℕ → ℕ) → NeverCheaper cost →
         (base budget : ℕ) (lists : PatternNode → List Pair)
         → ListsCompleting p cost (λ t. true) lists →
-        ((u : ℕ → ℕ) → Feasible p u → base + budget ≤ base + (pair_at cost p.rules.count u).1) →
+        ((u : ℕ → ℕ) → Feasible p u → base + budget ≤ base + (second_and_cost cost p.rules.count u).1) →
         (zs : List Landing) → Legal p.rules (ranks zs) → length (ranks zs) ≡ p.rules.count →
         BuiltByNodes p first cost lists budget zs →
-        FirstBest p (λ u. base + (pair_at cost p.rules.count u).1) (second_in zs)
+        FirstBest p (λ u. base + (second_and_cost cost p.rules.count u).1) (second_in zs)
         × (earliest first (next_from p) (ranks zs) ≡ Some zs) }
     ensures unique { (p : RankedProblem) → SoundProblem p → (value : (ℕ → ℕ) → ℕ) (t u : ℕ → ℕ) →
         FirstBest p value t → FirstBest p value u →

@@ -13,7 +13,7 @@ ghost use Rattle.cps_theory.specs.Network.{Network};
 ghost use Rattle.cps_theory.specs.Patterns.{IsShaped, PatternNode, PatternPermits, pattern_newest, pattern_node, pattern_push};
 ghost use Rattle.cps_theory.specs.FirstFound.{element_from};
 ghost use Rattle.cps_theory.specs.CertificateClosure.{InNodeOrder, covers, first_missed, is_final, is_final_below, missed_from, node_cmp};
-ghost use Rattle.cps_theory.specs.Feasible.{Feasible, RankedProblem, SoundProblem, next_from, pair_at};
+ghost use Rattle.cps_theory.specs.Feasible.{Feasible, RankedProblem, SoundProblem, next_from, second_and_cost};
 ghost use Rattle.cps_theory.specs.ProblemNetwork.{FindsFirstOpen, IsClosedCertificate, IsObjective, LandedIn};
 
 /// The patterns of placed ranks are the nodes of a network of legal prefixes.
@@ -50,7 +50,7 @@ pub fn closed_certificate_bounds()
         (value : Pair → ℕ) → IsObjective value →
         (v : ℕ) → ((w : PatternNode) (q : Pair) → w.0 ≡ p.rules.count → InPairs q (lists w)
         → v ≤ value q) →
-        (t : ℕ → ℕ) → Feasible p t → v ≤ value (pair_at cost p.rules.count t) }
+        (t : ℕ → ℕ) → Feasible p t → v ≤ value (second_and_cost cost p.rules.count t) }
     ensures infeasible { (p : RankedProblem) (cost : ℕ → ℕ → ℕ) → SoundProblem p
         → NeverCheaper cost →
         (first : ℕ → ℕ → Option ℕ) → FindsFirstOpen p first →
@@ -72,7 +72,7 @@ pub fn accepted_certificate_bounds<S>()
         missed_from node_of pairs_of p.rules first (next_from p) cost states 1 states ≡ None →
         (value : Pair → ℕ) → IsObjective value → 1 ≤ p.rules.count → (v : ℕ) →
         element_from (is_final_below node_of pairs_of p.rules.count value v) 1 states ≡ None →
-        (t : ℕ → ℕ) → Feasible p t → v ≤ value (pair_at cost p.rules.count t) }
+        (t : ℕ → ℕ) → Feasible p t → v ≤ value (second_and_cost cost p.rules.count t) }
     ensures infeasible { (node_of : S → PatternNode) (pairs_of : S → List Pair)
         (p : RankedProblem) (cost : ℕ → ℕ → ℕ) → SoundProblem p →
         (first : ℕ → ℕ → Option ℕ) → FindsFirstOpen p first → NeverCheaper cost

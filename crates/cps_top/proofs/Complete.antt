@@ -4,7 +4,7 @@ use Rattle.std.specs.List.{AllByRecursion}
 use Rattle.std.proofs.lemmas.Option.{same_Some}
 use Rattle.cps_outside.specs.FolderState.{FolderState}
 use Rattle.cps_top.specs.declared.commands.Command.{Command}
-use Rattle.endings.specs.declared.ending.Refusal.{Refusal}
+use Rattle.endings.specs.declared.ending.FilesFault.{FilesFault}
 use Rattle.endings.specs.declared.ending.Ending.{Ending}
 use Rattle.endings.specs.declared.ending.Ending.TheVariants.{Answered, Misused, Refused, NotLoaded, NotWritten, TooLong, NoMemory}
 use Rattle.cps_top.specs.Commands.{command_of, files_of, Refuses}
@@ -110,7 +110,7 @@ none_fails old new ns cs place tells sure told bounded fails =
 
 -- a run in which no load and no put failed
 pub complete_unless : (words : List (List ℕ)) (old new : Outside) (status : ℕ) (ending : Ending) (command : Command) (contents : List (List ℕ)) →
-    status ≡ status_of ending → Ends words old new ending → AreThere words old command contents → ((refusal : Refusal) → Refuses command contents refusal → ⊥) →
+    status ≡ status_of ending → Ends words old new ending → AreThere words old command contents → ((refusal : FilesFault) → Refuses command contents refusal → ⊥) →
     ((place : ℕ) → FailsAt old.folder new.folder (files_of words) place → ⊥) → (Follows command contents old.out new.out NotWritten → ⊥) →
     IsComplete command contents old new status
 complete_unless words old new status (Answered answer) command contents is ends good taken load put =

@@ -7,7 +7,7 @@ use Rattle.std.proofs.lemmas.Option.{none-some, same_Some}
 use Rattle.cps_top.specs.declared.commands.Command.{Command}
 use Rattle.cps_top.specs.declared.commands.Command.TheVariants.{Plan, Replay, Certify, Check, Effort, Trial, First, WhatIf, Audit}
 use Rattle.endings.specs.declared.ending.Answer.{Answer}
-use Rattle.endings.specs.declared.ending.Refusal.{Refusal}
+use Rattle.endings.specs.declared.ending.FilesFault.{FilesFault}
 use Rattle.endings.specs.declared.ending.Ending.{Ending}
 use Rattle.endings.specs.declared.ending.Ending.TheVariants.{Answered, Misused, Refused, NotLoaded, NotWritten, TooLong, NoMemory}
 use Rattle.cps_top.specs.Commands.{command_of, files_of, Admits, Begins, Refuses}
@@ -25,7 +25,7 @@ use Rattle.planning_commands.specs.shared.Begun.{not_refused}
 use Rattle.cps_top.proofs.Complete.{serves_at, none_too_long, Within, all_within, all_named, all_at, within_fits}
 
 -- no files are both taken and refused
-excludes : (command : Command) (contents : List (List ℕ)) (text : List ℕ) (answer : Answer) (refusal : Refusal) →
+excludes : (command : Command) (contents : List (List ℕ)) (text : List ℕ) (answer : Answer) (refusal : FilesFault) →
     Admits command contents text answer → Refuses command contents refusal → ⊥
 excludes Plan [] text answer refusal admits refuses = absurd admits
 excludes Plan (a ∷ []) text answer refusal admits refuses = absurd admits
@@ -75,7 +75,7 @@ excludes WhatIf (a ∷ f ∷ t ∷ []) text answer refusal admits refuses =
 excludes (Trial seed n k) contents text answer refusal admits refuses = absurd refuses
 
 -- nor are they refused where a text was begun
-excludes_begun : (command : Command) (contents : List (List ℕ)) (text : List ℕ) (refusal : Refusal) →
+excludes_begun : (command : Command) (contents : List (List ℕ)) (text : List ℕ) (refusal : FilesFault) →
     Begins command contents text → Refuses command contents refusal → ⊥
 excludes_begun Plan contents text refusal begins refuses = excludes Plan contents text begins.0 refusal begins.1 refuses
 excludes_begun Certify contents text refusal begins refuses = excludes Certify contents text begins.0 refusal begins.1 refuses

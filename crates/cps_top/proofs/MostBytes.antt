@@ -5,7 +5,7 @@ use Rattle.inquiry_commands.specs.TextLaws.{AuditIsBoundedLaw, FirstIsBoundedLaw
 use Rattle.planning_commands.specs.TextLengths.{EffortTextIsBoundedLaw, PlanTextIsBoundedLaw, ReplayTextIsBoundedLaw, TrialTextIsBoundedLaw}
 use Rattle.cps_top.specs.declared.commands.Command.{Command}
 use Rattle.cps_top.specs.declared.commands.Command.TheVariants.{Plan, Replay, Certify, Check, Effort, Trial, First, WhatIf, Audit}
-use Rattle.cps_top.specs.Commands.{Begins, IsInRange}
+use Rattle.cps_top.specs.Commands.{Begins, IsCommandInRange}
 use Rattle.cps_top.specs.MostBytes.{TextsAreBoundedLaw, most_bytes}
 
 -- the bound of each command

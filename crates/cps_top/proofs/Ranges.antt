@@ -8,7 +8,7 @@ use Rattle.cps_base.specs.declared.number.NumberFault.{NumberFault}
 use Rattle.text_bounds.specs.shared.Numbers.{within}
 use Rattle.cps_top.specs.declared.commands.Command.{Command}
 use Rattle.cps_top.specs.declared.commands.Command.TheVariants.{Plan, Replay, Certify, Check, Effort, Trial, First, WhatIf, Audit}
-use Rattle.cps_top.specs.Commands.{IsInRange, command_of, number_of, trial_by, trial_of}
+use Rattle.cps_top.specs.Commands.{IsCommandInRange, command_of, number_of, trial_by, trial_of}
 use Rattle.cps_top.proofs.Counts.{named, other}
 
 number_in_range : (word : List ℕ) (least most n : ℕ) → number_of word least most ≡ Some n → (least ≤ n) × (n ≤ most)
@@ -21,15 +21,15 @@ number_in_range word least most n e = go (number_within word least most) (λ m h
 
 numbers_in_range : (a b d : Option ℕ) (c : Command) → ((n : ℕ) → b ≡ Some n → (1 ≤ n) × (n ≤ 60))
     → ((k : ℕ) → d ≡ Some k → (0 ≤ k) × (k ≤ 3))
-    → trial_by a b d ≡ Some c → IsInRange c
+    → trial_by a b d ≡ Some c → IsCommandInRange c
 numbers_in_range (Some s) (Some n) (Some k) c few near e =
     let same : Trial s n k ≡ c = same_Some _ c e in
-    subst IsInRange same ((few n refl).0, (few n refl).1, (near k refl).1)
+    subst IsCommandInRange same ((few n refl).0, (few n refl).1, (near k refl).1)
 numbers_in_range (Some s) (Some n) None c few near e = absurd (cc e)
 numbers_in_range (Some s) None d c few near e = absurd (cc e)
 numbers_in_range None b d c few near e = absurd (cc e)
 
-trial_in_range : (rest : List (List ℕ)) (c : Command) → trial_of rest ≡ Some c → IsInRange c
+trial_in_range : (rest : List (List ℕ)) (c : Command) → trial_of rest ≡ Some c → IsCommandInRange c
 trial_in_range [] c e = absurd (cc e)
 trial_in_range (s ∷ []) c e = absurd (cc e)
 trial_in_range (s ∷ n ∷ []) c e = absurd (cc e)
@@ -38,23 +38,23 @@ trial_in_range (s ∷ n ∷ k ∷ []) c e =
     (λ m is. number_in_range n 1 60 m is) (λ m is. number_in_range k 0 3 m is) e
 trial_in_range (s ∷ n ∷ k ∷ x ∷ more) c e = absurd (cc e)
 
-pub in_range : (words : List (List ℕ)) (c : Command) → command_of words ≡ Some c → IsInRange c
+pub in_range : (words : List (List ℕ)) (c : Command) → command_of words ≡ Some c → IsCommandInRange c
 in_range [] c e = absurd (cc e)
 in_range (word ∷ rest) c e =
-    named (bytes_eq word (codes "plan") && (length rest == 2)) Plan _ c (IsInRange c) e
-    (λ t s. subst IsInRange s tt) (λ e.
-    named (bytes_eq word (codes "replay") && (length rest == 3)) Replay _ c (IsInRange c) e
-    (λ t s. subst IsInRange s tt) (λ e.
-    named (bytes_eq word (codes "certify") && (length rest == 2)) Certify _ c (IsInRange c) e
-    (λ t s. subst IsInRange s tt) (λ e.
-    named (bytes_eq word (codes "check") && (length rest == 3)) Check _ c (IsInRange c) e
-    (λ t s. subst IsInRange s tt) (λ e.
-    named (bytes_eq word (codes "effort") && (length rest == 3)) Effort _ c (IsInRange c) e
-    (λ t s. subst IsInRange s tt) (λ e.
-    named (bytes_eq word (codes "first") && (length rest == 2)) First _ c (IsInRange c) e
-    (λ t s. subst IsInRange s tt) (λ e.
-    named (bytes_eq word (codes "whatif") && (length rest == 3)) WhatIf _ c (IsInRange c) e
-    (λ t s. subst IsInRange s tt) (λ e.
-    named (bytes_eq word (codes "audit") && (length rest == 3)) Audit _ c (IsInRange c) e
-    (λ t s. subst IsInRange s tt) (λ e.
-    other (bytes_eq word (codes "trial")) (trial_of rest) c (IsInRange c) e (λ e. trial_in_range rest c e)))))))))
+    named (bytes_eq word (codes "plan") && (length rest == 2)) Plan _ c (IsCommandInRange c) e
+    (λ t s. subst IsCommandInRange s tt) (λ e.
+    named (bytes_eq word (codes "replay") && (length rest == 3)) Replay _ c (IsCommandInRange c) e
+    (λ t s. subst IsCommandInRange s tt) (λ e.
+    named (bytes_eq word (codes "certify") && (length rest == 2)) Certify _ c (IsCommandInRange c) e
+    (λ t s. subst IsCommandInRange s tt) (λ e.
+    named (bytes_eq word (codes "check") && (length rest == 3)) Check _ c (IsCommandInRange c) e
+    (λ t s. subst IsCommandInRange s tt) (λ e.
+    named (bytes_eq word (codes "effort") && (length rest == 3)) Effort _ c (IsCommandInRange c) e
+    (λ t s. subst IsCommandInRange s tt) (λ e.
+    named (bytes_eq word (codes "first") && (length rest == 2)) First _ c (IsCommandInRange c) e
+    (λ t s. subst IsCommandInRange s tt) (λ e.
+    named (bytes_eq word (codes "whatif") && (length rest == 3)) WhatIf _ c (IsCommandInRange c) e
+    (λ t s. subst IsCommandInRange s tt) (λ e.
+    named (bytes_eq word (codes "audit") && (length rest == 3)) Audit _ c (IsCommandInRange c) e
+    (λ t s. subst IsCommandInRange s tt) (λ e.
+    other (bytes_eq word (codes "trial")) (trial_of rest) c (IsCommandInRange c) e (λ e. trial_in_range rest c e)))))))))

@@ -5,8 +5,8 @@ use Rattle.cps_outside.specs.SinkState.{SinkState}
 use Rattle.cps_top.specs.declared.commands.Command.{Command}
 use Rattle.endings.specs.declared.ending.Ending.{Ending}
 use Rattle.endings.specs.declared.ending.Ending.TheVariants.{NotWritten}
-use Rattle.endings.specs.declared.ending.Refusal.{Refusal}
-use Rattle.cps_top.specs.Commands.{IsInRange, Refuses, files_of}
+use Rattle.endings.specs.declared.ending.FilesFault.{FilesFault}
+use Rattle.cps_top.specs.Commands.{IsCommandInRange, Refuses, files_of}
 use Rattle.endings.specs.Lines.{status_of}
 use Rattle.endings.specs.Outside.{Outside}
 use Rattle.cps_top.specs.Outcome.{Ends, Follows}
@@ -27,7 +27,7 @@ none_unwritten command contents old new sure room unwritten =
 
 -- room for as many bytes as it prints at most holds each of its texts
 holds_each : TextsAreBoundedLaw → (command : Command) (contents : List (List ℕ)) (sink : SinkState)
-    → IsInRange command → HasRoom command contents sink
+    → IsCommandInRange command → HasRoom command contents sink
     → HoldsEach command contents sink
 holds_each law command contents sink range room text begins =
     let short = law command contents text range begins in
@@ -52,7 +52,7 @@ is_sure law words old new status ending is ends = record {
 }
   where
     held : (command : Command) (contents : List (List ℕ)) → AreThere words old command contents → IsTrue old.folder.sure
-        → ((refusal : Refusal) → Refuses command contents refusal → ⊥) → IsTrue old.out.sure
+        → ((refusal : FilesFault) → Refuses command contents refusal → ⊥) → IsTrue old.out.sure
         → HoldsEach command contents old.out
         → IsComplete command contents old new status
     held command contents there folder taken out room =

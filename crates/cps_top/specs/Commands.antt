@@ -6,7 +6,7 @@ use Rattle.landing_rules.specs.Limits.{most_waiting}
 use Rattle.cps_top.specs.declared.commands.Command.{Command}
 use Rattle.cps_top.specs.declared.commands.Command.TheVariants.{Plan, Replay, Certify, Check, Effort, Trial, First, WhatIf, Audit}
 use Rattle.endings.specs.declared.ending.Answer.{Answer}
-use Rattle.endings.specs.declared.ending.Refusal.{Refusal}
+use Rattle.endings.specs.declared.ending.FilesFault.{FilesFault}
 use Rattle.inquiry_commands.specs.Audit.{AdmitsAudit, RefusesAudit}
 use Rattle.certificate_commands.specs.Certify.{AdmitsCertify}
 use Rattle.certificate_commands.specs.Check.{AdmitsCheck, RefusesCheck}
@@ -55,9 +55,9 @@ abbrev pub files_of : List (List ℕ) → List (List ℕ)
 files_of words = unwrap_or (option_map (λ command. names_of command words) (command_of words)) []
 
 -- what is asked of its numbers
-abbrev pub IsInRange : Command → Type 0
-IsInRange (Trial seed n k) = (1 ≤ n) × (n ≤ most_waiting) × (k ≤ 3)
-IsInRange command = ⊤
+abbrev pub IsCommandInRange : Command → Type 0
+IsCommandInRange (Trial seed n k) = (1 ≤ n) × (n ≤ most_waiting) × (k ≤ 3)
+IsCommandInRange command = ⊤
 
 -- how many files it has
 abbrev pub file_count : Command → ℕ
@@ -97,7 +97,7 @@ Begins Effort (aerodrome ∷ flights ∷ events ∷ []) text = BeginsEffort aero
 Begins command contents text = (answer : Answer) × Admits command contents text answer
 
 -- Over these contents of its files a command is refused, for this cause.
-abbrev pub Refuses : Command → List (List ℕ) → Refusal → Type 0
+abbrev pub Refuses : Command → List (List ℕ) → FilesFault → Type 0
 Refuses Plan (aerodrome ∷ flights ∷ []) refusal = RefusesPlan aerodrome flights refusal
 Refuses Replay (aerodrome ∷ flights ∷ events ∷ []) refusal = RefusesReplay aerodrome flights events refusal
 Refuses Certify (aerodrome ∷ flights ∷ []) refusal = RefusesPlan aerodrome flights refusal

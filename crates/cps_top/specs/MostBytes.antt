@@ -9,7 +9,7 @@ use Rattle.inquiry_commands.specs.TextLaws.{audit_bound, line_count}
 use Rattle.planning_commands.specs.TextLengths.{effort_bound}
 use Rattle.cps_top.specs.declared.commands.Command.{Command}
 use Rattle.cps_top.specs.declared.commands.Command.TheVariants.{Plan, Replay, Certify, Check, Effort, Trial, First, WhatIf, Audit}
-use Rattle.cps_top.specs.Commands.{Begins, IsInRange}
+use Rattle.cps_top.specs.Commands.{Begins, IsCommandInRange}
 
 -- by how many flights, events, trials and landing lines these hold
 abbrev pub most_bytes : Command → List (List ℕ) → ℕ
@@ -26,6 +26,6 @@ most_bytes command contents = 0
 
 -- each text that a command may begin to print has at most so many
 abbrev pub TextsAreBoundedLaw : Type 0
-TextsAreBoundedLaw = (command : Command) (contents : List (List ℕ)) (text : List ℕ) → IsInRange command
+TextsAreBoundedLaw = (command : Command) (contents : List (List ℕ)) (text : List ℕ) → IsCommandInRange command
     → Begins command contents text
     → length text ≤ most_bytes command contents

@@ -5,7 +5,7 @@ use Rattle.cps_outside.specs.Causes.{RoseBy, Rose}
 use Rattle.cps_outside.specs.SinkState.{SinkState}
 use Rattle.cps_top.specs.declared.commands.Command.{Command}
 use Rattle.endings.specs.declared.ending.Answer.{Answer}
-use Rattle.endings.specs.declared.ending.Refusal.{Refusal}
+use Rattle.endings.specs.declared.ending.FilesFault.{FilesFault}
 use Rattle.cps_top.specs.Commands.{command_of, files_of, puts_of, Admits, Begins, Refuses}
 use Rattle.cps_top.specs.MostBytes.{most_bytes}
 use Rattle.endings.specs.Lines.{answer_status}
@@ -51,7 +51,7 @@ IsComplete command contents old new status = (status ≡ 8) ⊎ ((answer : Answe
 -- Over files that are taken, and with no fault, the text is written whole, or memory was short.
 pub record Completes (words : List (List ℕ)) (old new : Outside) (status : ℕ) : Type 0 where
   pub complete : (command : Command) (contents : List (List ℕ)) → AreThere words old command contents →
-      ((refusal : Refusal) → Refuses command contents refusal → ⊥) →
+      ((refusal : FilesFault) → Refuses command contents refusal → ⊥) →
       (Rose old.folder.faults new.folder.faults → ⊥) → (Rose old.out.faults new.out.faults → ⊥) →
       IsComplete command contents old new status
 
@@ -67,19 +67,19 @@ HoldsEach command contents sink = (text : List ℕ) → Begins command contents 
 -- or memory was short. Files that are refused give status 3, or memory was short.
 pub record IsSure (words : List (List ℕ)) (old new : Outside) (status : ℕ) : Type 0 where
   pub complete : (command : Command) (contents : List (List ℕ)) → AreThere words old command contents → IsTrue old.folder.sure →
-      ((refusal : Refusal) → Refuses command contents refusal → ⊥) →
+      ((refusal : FilesFault) → Refuses command contents refusal → ⊥) →
       IsTrue old.out.sure → HasRoom command contents old.out → IsComplete command contents old new status
   -- the same where the room is known to hold each of these texts
   pub held : (command : Command) (contents : List (List ℕ)) → AreThere words old command contents →
-      IsTrue old.folder.sure → ((refusal : Refusal) → Refuses command contents refusal → ⊥) →
+      IsTrue old.folder.sure → ((refusal : FilesFault) → Refuses command contents refusal → ⊥) →
       IsTrue old.out.sure → HoldsEach command contents old.out → IsComplete command contents old new status
-  pub refused : (command : Command) (contents : List (List ℕ)) (refusal : Refusal) → AreThere words old command contents → IsTrue old.folder.sure →
+  pub refused : (command : Command) (contents : List (List ℕ)) (refusal : FilesFault) → AreThere words old command contents → IsTrue old.folder.sure →
       Refuses command contents refusal → (status ≡ 3) ⊎ (status ≡ 8)
 
 -- Files that are refused give status 3, unless a load failed, and one that is too long gives 6, unless its load or an
 -- earlier one failed; or memory was short.
 pub record IsExact (words : List (List ℕ)) (old new : Outside) (status : ℕ) : Type 0 where
-  pub refused : (command : Command) (contents : List (List ℕ)) (refusal : Refusal) → AreThere words old command contents →
+  pub refused : (command : Command) (contents : List (List ℕ)) (refusal : FilesFault) → AreThere words old command contents →
       Refuses command contents refusal → (status ≡ 3) ⊎ (status ≡ 8) ⊎ ((status ≡ 4) × Rose old.folder.faults new.folder.faults)
   pub too_long : (command : Command) (before after : List (List ℕ)) (name bytes : List ℕ) → command_of words ≡ Some command →
       IsTrue old.folder.tells → files_of words ≡ (before ++ name ∷ []) ++ after →

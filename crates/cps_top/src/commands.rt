@@ -1,5 +1,5 @@
 ghost use Rattle.std.specs.Prelude.{◌≡◌, ◌==◌, ◌&&◌, Some, IfSome, ◌≤◌, bytes_eq, length, map, string_bytes};
-ghost use Rattle.cps_top.specs.Commands.{IsInRange, command_of, file_count, files_of, number_of, trial_of};
+ghost use Rattle.cps_top.specs.Commands.{IsCommandInRange, command_of, file_count, files_of, number_of, trial_of};
 
 use cps_base::read_number;
 use landing_rules::MOST_WAITING;
@@ -39,7 +39,7 @@ fn number(word: &str, least: u64, most: u64) -> Option<u64>
 // The trial of these numbers.
 fn read_trial(words: &[String]) -> Option<Command>
     ensures value { result ≡ trial_of (map string_bytes words.now) }
-    ensures range { IfSome result IsInRange }
+    ensures range { IfSome result IsCommandInRange }
 {
     let [seed, n, k] = words else {
         return None;
@@ -60,7 +60,7 @@ fn fits(word: &str, rest: &[String], name: &str, files: usize) -> bool
 // The command that these words fit.
 pub(crate) fn read_command(words: &[String]) -> Option<Command>
     ensures value { result ≡ command_of (map string_bytes words.now) }
-    ensures range { IfSome result IsInRange }
+    ensures range { IfSome result IsCommandInRange }
 {
     let [word, rest @ ..] = words else {
         return None;

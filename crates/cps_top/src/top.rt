@@ -1,6 +1,6 @@
 ghost use Rattle.std.specs.Prelude.{◌≡◌, ◌≤◌, [], length, map, slice_get, string_bytes, unwrap_or, vec_items};
 ghost use Rattle.std.specs.List.{AllByRecursion};
-ghost use Rattle.cps_top.specs.Commands.{IsInRange, file_count};
+ghost use Rattle.cps_top.specs.Commands.{IsCommandInRange, file_count};
 ghost use Rattle.endings.specs.Loads.{limit};
 ghost use Rattle.cps_top.specs.Outcome.{Follows, Ends, RunsTo};
 ghost use Rattle.cps_top.specs.Statuses.{Causes, Asks, Completes, IsExact, IsSure};
@@ -35,7 +35,7 @@ fn perform<R: Threads + Sync, S: Sink, G: Gate + Sync>(
     out: &mut S,
     gate: &G,
 ) -> Ending
-    requires numbers { IsInRange command }
+    requires numbers { IsCommandInRange command }
     requires count { length contents.now ≡ file_count command }
     requires bounded { AllByRecursion (λ bytes. length bytes ≤ limit)
         (map vec_items contents.now) }

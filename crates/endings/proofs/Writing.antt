@@ -6,7 +6,7 @@ use Rattle.std.proofs.lemmas.List.{take_more, get_or-map, length-map}
 use Rattle.std.proofs.lemmas.Result.{IfErr-at_err, IfOk-at_ok}
 use Rattle.cps_outside.specs.Causes.{Rose}
 use Rattle.cps_outside.specs.SinkState.{SinkState, Grows, GrowsByPart, LeavesRoom, LacksRoom, Writes}
-use Rattle.endings.specs.Lines.{Says, text_of}
+use Rattle.endings.specs.Lines.{Says, line_text}
 
 -- this was written, with no failure
 pub record Written (old new : SinkState) (text : List ℕ) : Type 0 where
@@ -16,16 +16,16 @@ pub record Written (old new : SinkState) (text : List ℕ) : Type 0 where
   pub grew : Grows old new text
   pub left : LeavesRoom old new text
 
-text_append : (xs ys : List (List ℕ)) → text_of (xs ++ ys) ≡ text_of xs ++ text_of ys
+text_append : (xs ys : List (List ℕ)) → line_text (xs ++ ys) ≡ line_text xs ++ line_text ys
 text_append [] ys = refl
-text_append (x ∷ xs) ys = ap (λ t. x ++ t) (text_append xs ys) ∙ sym (append_assoc x (text_of xs) (text_of ys))
+text_append (x ∷ xs) ys = ap (λ t. x ++ t) (text_append xs ys) ∙ sym (append_assoc x (line_text xs) (line_text ys))
 
-text_more : (xs : List (List ℕ)) (y : List ℕ) → text_of (xs ++ y ∷ []) ≡ text_of xs ++ y
-text_more xs y = text_append xs (y ∷ []) ∙ ap (λ t. text_of xs ++ t) (append-nil y)
+text_more : (xs : List (List ℕ)) (y : List ℕ) → line_text (xs ++ y ∷ []) ≡ line_text xs ++ y
+text_more xs y = text_append xs (y ∷ []) ∙ ap (λ t. line_text xs ++ t) (append-nil y)
 
 -- one put more
 pub written_more : {T E : Type 0} (old mid new : SinkState) (xs ys : List (List ℕ)) (y : List ℕ) (r : Result T E) (u : T) →
-    r ≡ Ok u → ys ≡ xs ++ y ∷ [] → Written old mid (text_of xs) → Writes mid new y r → Written old new (text_of ys)
+    r ≡ Ok u → ys ≡ xs ++ y ∷ [] → Written old mid (line_text xs) → Writes mid new y r → Written old new (line_text ys)
 written_more old mid new xs ys y r u is step a b =
     let grew : Grows mid new y = IfOk-at_ok (λ _. Grows mid new y) is b.ok in
     let left : LeavesRoom mid new y = IfOk-at_ok (λ _. LeavesRoom mid new y) is b.left in
@@ -33,24 +33,24 @@ written_more old mid new xs ys y r u is step a b =
       tells = b.tells ∙ a.tells;
       sure = b.sure ∙ a.sure;
       faults = omega (arith, a.faults, b.faults);
-      grew = λ told. grew (a.tells ∙ told) ∙ ap (λ w. w ++ y) (a.grew told) ∙ append_assoc old.written (text_of xs) y
-          ∙ ap (λ t. old.written ++ t) (sym (ap text_of step ∙ text_more xs y));
+      grew = λ told. grew (a.tells ∙ told) ∙ ap (λ w. w ++ y) (a.grew told) ∙ append_assoc old.written (line_text xs) y
+          ∙ ap (λ t. old.written ++ t) (sym (ap line_text step ∙ text_more xs y));
       left = λ sure.
-          let first : old.room ≤ mid.room + length (text_of xs) = a.left sure in
+          let first : old.room ≤ mid.room + length (line_text xs) = a.left sure in
           let then : mid.room ≤ new.room + length y = left (a.sure ∙ sure) in
-          let together : length (text_of ys) ≡ length (text_of xs) + length y = ap length (ap text_of step ∙ text_more xs y) ∙ length-append (text_of xs) y in
+          let together : length (line_text ys) ≡ length (line_text xs) + length y = ap length (ap line_text step ∙ text_more xs y) ∙ length-append (line_text xs) y in
           omega (arith, first, then, together);
     }
 
 -- a put that failed ends it
 pub written_part : {T E V F : Type 0} (old mid new : SinkState) (xs all rest : List (List ℕ)) (y : List ℕ) (r : Result T E) (e : E) (s : Result V F) →
-    r ≡ Err e → IsErr s → all ≡ (xs ++ y ∷ []) ++ rest → Written old mid (text_of xs) → Writes mid new y r → Writes old new (text_of all) s
+    r ≡ Err e → IsErr s → all ≡ (xs ++ y ∷ []) ++ rest → Written old mid (line_text xs) → Writes mid new y r → Writes old new (line_text all) s
 written_part old mid new xs all rest y r e (Ok v) is wrong step a b = cc
 written_part old mid new xs all rest y r e (Err f) is wrong step a b =
     let part : GrowsByPart mid new y = IfErr-at_err (λ _. GrowsByPart mid new y) is b.part in
     let failed : Rose mid.faults new.faults = IfErr-at_err (λ _. Rose mid.faults new.faults) is b.failed in
     let lacked : LacksRoom mid y = IfErr-at_err (λ _. LacksRoom mid y) is b.lacked in
-    let text : text_of all ≡ (text_of xs ++ y) ++ text_of rest = ap text_of step ∙ text_append (xs ++ y ∷ []) rest ∙ ap (λ t. t ++ text_of rest) (text_more xs y) in
+    let text : line_text all ≡ (line_text xs ++ y) ++ line_text rest = ap line_text step ∙ text_append (xs ++ y ∷ []) rest ∙ ap (λ t. t ++ line_text rest) (text_more xs y) in
     record {
       tells = b.tells ∙ a.tells;
       sure = b.sure ∙ a.sure;
@@ -59,16 +59,16 @@ written_part old mid new xs all rest y r e (Err f) is wrong step a b =
       left = tt;
       failed = omega (arith, a.faults, failed);
       lacked = λ sure.
-          let first : old.room ≤ mid.room + length (text_of xs) = a.left sure in
+          let first : old.room ≤ mid.room + length (line_text xs) = a.left sure in
           let short : mid.room < length y = lacked (a.sure ∙ sure) in
-          let together = ap length text ∙ length-append (text_of xs ++ y) (text_of rest) in
-          omega (arith, first, short, together, length-append (text_of xs) y);
+          let together = ap length text ∙ length-append (line_text xs ++ y) (line_text rest) in
+          omega (arith, first, short, together, length-append (line_text xs) y);
       part = λ told. let p = part (a.tells ∙ told) in (
-        text_of xs ++ p.0,
-        p.1 ++ text_of rest,
-        append_assoc (text_of xs) p.0 (p.1 ++ text_of rest) ∙ ap (λ l. text_of xs ++ l) (sym (append_assoc p.0 p.1 (text_of rest)) ∙ ap (λ l. l ++ text_of rest) p.2)
-            ∙ sym (append_assoc (text_of xs) y (text_of rest)) ∙ sym text,
-        p.3 ∙ ap (λ w. w ++ p.0) (a.grew told) ∙ append_assoc old.written (text_of xs) p.0,
+        line_text xs ++ p.0,
+        p.1 ++ line_text rest,
+        append_assoc (line_text xs) p.0 (p.1 ++ line_text rest) ∙ ap (λ l. line_text xs ++ l) (sym (append_assoc p.0 p.1 (line_text rest)) ∙ ap (λ l. l ++ line_text rest) p.2)
+            ∙ sym (append_assoc (line_text xs) y (line_text rest)) ∙ sym text,
+        p.3 ∙ ap (λ w. w ++ p.0) (a.grew told) ∙ append_assoc old.written (line_text xs) p.0,
       );
     }
 

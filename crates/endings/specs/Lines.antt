@@ -43,8 +43,8 @@ use Rattle.plan_file.specs.declared.plan.PlanFault.{PlanFault}
 use Rattle.plan_file.specs.declared.plan.PlanFault.TheVariants as plan
 use Rattle.endings.specs.declared.ending.Answer.{Answer}
 use Rattle.endings.specs.declared.ending.Answer.TheVariants.{Scheduled, Infeasible, Certified, Accepted, Rejected, Tried, Clean, Broken, Claimed}
-use Rattle.endings.specs.declared.ending.Refusal.{Refusal}
-use Rattle.endings.specs.declared.ending.Refusal.TheVariants.{Aerodrome, Flights, Events, Certificate, Trials, Plan, Opening}
+use Rattle.endings.specs.declared.ending.FilesFault.{FilesFault}
+use Rattle.endings.specs.declared.ending.FilesFault.TheVariants.{Aerodrome, Flights, Events, Certificate, Trials, Plan, Opening}
 use Rattle.endings.specs.declared.ending.Ending.{Ending}
 use Rattle.endings.specs.declared.ending.Ending.TheVariants.{Answered, Misused, Refused, NotLoaded, NotWritten, TooLong, NoMemory}
 
@@ -69,13 +69,13 @@ status_of (TooLong place) = 6
 status_of NoMemory = 8
 
 -- the pieces, one after another
-abbrev pub text_of : List (List ℕ) → List ℕ
-text_of [] = []
-text_of (piece ∷ rest) = piece ++ text_of rest
+abbrev pub line_text : List (List ℕ) → List ℕ
+line_text [] = []
+line_text (piece ∷ rest) = piece ++ line_text rest
 
 -- these words, a number and the end of the line
 abbrev pub numbered_line : List ℕ → ℕ → List ℕ
-numbered_line words n = text_of (words ∷ decimal n ∷ codes "\n" ∷ [])
+numbered_line words n = line_text (words ∷ decimal n ∷ codes "\n" ∷ [])
 
 -- ---- the aerodrome file
 
@@ -112,41 +112,41 @@ key_index (key.PassedCount i) = decimal i
 key_index k = []
 
 abbrev pub key_line : List ℕ → Key → List ℕ
-key_line word k = text_of (codes "cps: aerodrome: " ∷ word ∷ key_name k ∷ key_index k ∷ codes "\n" ∷ [])
+key_line word k = line_text (codes "cps: aerodrome: " ∷ word ∷ key_name k ∷ key_index k ∷ codes "\n" ∷ [])
 
 abbrev pub unknown_line : Part → List ℕ → List ℕ
-unknown_line part.Top text = text_of (codes "cps: aerodrome: unknown key " ∷ text ∷ codes "\n" ∷ [])
-unknown_line part.Table text = text_of (codes "cps: aerodrome: unknown key table " ∷ text ∷ codes "\n" ∷ [])
-unknown_line (part.Closure i) text = text_of (codes "cps: aerodrome: unknown key closure " ∷ decimal i ∷ codes " " ∷ text ∷ codes "\n" ∷ [])
-unknown_line (part.Frozen i) text = text_of (codes "cps: aerodrome: unknown key frozen " ∷ decimal i ∷ codes " " ∷ text ∷ codes "\n" ∷ [])
-unknown_line (part.Passed i) text = text_of (codes "cps: aerodrome: unknown key passed " ∷ decimal i ∷ codes " " ∷ text ∷ codes "\n" ∷ [])
+unknown_line part.Top text = line_text (codes "cps: aerodrome: unknown key " ∷ text ∷ codes "\n" ∷ [])
+unknown_line part.Table text = line_text (codes "cps: aerodrome: unknown key table " ∷ text ∷ codes "\n" ∷ [])
+unknown_line (part.Closure i) text = line_text (codes "cps: aerodrome: unknown key closure " ∷ decimal i ∷ codes " " ∷ text ∷ codes "\n" ∷ [])
+unknown_line (part.Frozen i) text = line_text (codes "cps: aerodrome: unknown key frozen " ∷ decimal i ∷ codes " " ∷ text ∷ codes "\n" ∷ [])
+unknown_line (part.Passed i) text = line_text (codes "cps: aerodrome: unknown key passed " ∷ decimal i ∷ codes " " ∷ text ∷ codes "\n" ∷ [])
 
 abbrev pub table_line : TableFault → List ℕ
 table_line (table.OutOfRange leader follower) =
-    text_of (codes "cps: aerodrome: table range " ∷ letter_text leader ∷ codes " " ∷ letter_text follower ∷ codes "\n" ∷ [])
+    line_text (codes "cps: aerodrome: table range " ∷ letter_text leader ∷ codes " " ∷ letter_text follower ∷ codes "\n" ∷ [])
 table_line (table.Triangle a b c) =
-    text_of (codes "cps: aerodrome: table triangle " ∷ letter_text a ∷ codes " " ∷ letter_text b ∷ codes " " ∷ letter_text c ∷ codes "\n" ∷ [])
+    line_text (codes "cps: aerodrome: table triangle " ∷ letter_text a ∷ codes " " ∷ letter_text b ∷ codes " " ∷ letter_text c ∷ codes "\n" ∷ [])
 
 abbrev pub closure_line : ℕ → ClosureFault → List ℕ
-closure_line i closure.Empty = text_of (codes "cps: aerodrome: closure " ∷ decimal i ∷ codes " empty\n" ∷ [])
-closure_line i closure.TooMany = text_of (codes "cps: aerodrome: closure " ∷ decimal i ∷ codes " too-many\n" ∷ [])
+closure_line i closure.Empty = line_text (codes "cps: aerodrome: closure " ∷ decimal i ∷ codes " empty\n" ∷ [])
+closure_line i closure.TooMany = line_text (codes "cps: aerodrome: closure " ∷ decimal i ∷ codes " too-many\n" ∷ [])
 
 abbrev pub aerodrome_line : AeroFault → List ℕ
-aerodrome_line aerodrome.NotToml = text_of (codes "cps: aerodrome: not toml\n" ∷ [])
+aerodrome_line aerodrome.NotToml = line_text (codes "cps: aerodrome: not toml\n" ∷ [])
 aerodrome_line (aerodrome.MissingKey k) = key_line (codes "missing ") k
 aerodrome_line (aerodrome.UnknownKey part text) = unknown_line part text
 aerodrome_line (aerodrome.WrongKind k) = key_line (codes "kind ") k
 aerodrome_line (aerodrome.OutOfRange k) = key_line (codes "range ") k
 aerodrome_line (aerodrome.Table fault) = table_line fault
 aerodrome_line (aerodrome.Closure i fault) = closure_line i fault
-aerodrome_line aerodrome.FrozenTooMany = text_of (codes "cps: aerodrome: frozen too-many\n" ∷ [])
-aerodrome_line aerodrome.FrozenNoClock = text_of (codes "cps: aerodrome: frozen no-clock\n" ∷ [])
+aerodrome_line aerodrome.FrozenTooMany = line_text (codes "cps: aerodrome: frozen too-many\n" ∷ [])
+aerodrome_line aerodrome.FrozenNoClock = line_text (codes "cps: aerodrome: frozen no-clock\n" ∷ [])
 aerodrome_line (aerodrome.FrozenRepeat i) = numbered_line (codes "cps: aerodrome: frozen repeat ") i
 aerodrome_line (aerodrome.FrozenLate i) = numbered_line (codes "cps: aerodrome: frozen late ") i
-aerodrome_line aerodrome.PassedTooMany = text_of (codes "cps: aerodrome: passed too-many\n" ∷ [])
+aerodrome_line aerodrome.PassedTooMany = line_text (codes "cps: aerodrome: passed too-many\n" ∷ [])
 aerodrome_line (aerodrome.PassedRepeat i) = numbered_line (codes "cps: aerodrome: passed repeat ") i
 aerodrome_line (aerodrome.DelayShift k) = numbered_line (codes "cps: aerodrome: delay shift ") k
-aerodrome_line aerodrome.Memory = text_of (codes "cps: no memory\n" ∷ [])
+aerodrome_line aerodrome.Memory = line_text (codes "cps: no memory\n" ∷ [])
 
 -- ---- the flight file
 
@@ -205,7 +205,7 @@ cause_pieces flight.TooMany = codes ": too-many\n" ∷ []
 cause_pieces flight.Memory = codes ": memory\n" ∷ []
 
 abbrev pub cause_line : List ℕ → FlightCause → List ℕ
-cause_line number cause = text_of (codes "cps: flights: record " ∷ number ∷ cause_pieces cause)
+cause_line number cause = line_text (codes "cps: flights: record " ∷ number ∷ cause_pieces cause)
 
 abbrev pub flights_line : FlightFault → List ℕ
 flights_line fault = cause_line (decimal fault.number) fault.cause
@@ -252,7 +252,7 @@ event_pieces log.TooMany = codes ": too-many\n" ∷ []
 event_pieces log.Memory = codes ": memory\n" ∷ []
 
 abbrev pub event_line : List ℕ → LogCause → List ℕ
-event_line number cause = text_of (codes "cps: events: record " ∷ number ∷ event_pieces cause)
+event_line number cause = line_text (codes "cps: events: record " ∷ number ∷ event_pieces cause)
 
 abbrev pub events_line : LogFault → List ℕ
 events_line fault = event_line (decimal fault.number) fault.cause
@@ -262,15 +262,15 @@ events_line fault = event_line (decimal fault.number) fault.cause
 abbrev pub certificate_line : CertFault → List ℕ
 certificate_line (certificate.Line n) = numbered_line (codes "cps: certificate: line ") n
 certificate_line (certificate.Order n) = numbered_line (codes "cps: certificate: order ") n
-certificate_line certificate.Memory = text_of (codes "cps: no memory\n" ∷ [])
+certificate_line certificate.Memory = line_text (codes "cps: no memory\n" ∷ [])
 
 -- ---- the opening
 
 abbrev pub pair_line : ℕ → ℕ → List ℕ
-pair_line i j = text_of (codes "cps: opening: frozen-separation " ∷ decimal i ∷ codes " " ∷ decimal j ∷ codes "\n" ∷ [])
+pair_line i j = line_text (codes "cps: opening: frozen-separation " ∷ decimal i ∷ codes " " ∷ decimal j ∷ codes "\n" ∷ [])
 
 abbrev pub precedence_line : ℕ → List ℕ → List ℕ
-precedence_line i callsign = text_of (codes "cps: opening: frozen-precedence " ∷ decimal i ∷ codes " " ∷ callsign ∷ codes "\n" ∷ [])
+precedence_line i callsign = line_text (codes "cps: opening: frozen-precedence " ∷ decimal i ∷ codes " " ∷ callsign ∷ codes "\n" ∷ [])
 
 abbrev pub opening_line : OpeningFault → List ℕ
 opening_line (opening.UnknownFrozen i) = numbered_line (codes "cps: opening: unknown-frozen ") i
@@ -292,7 +292,7 @@ trial_pieces trial.TooMany = codes ": too-many\n" ∷ []
 trial_pieces trial.Memory = codes ": memory\n" ∷ []
 
 abbrev pub trial_line : List ℕ → TrialCause → List ℕ
-trial_line number cause = text_of (codes "cps: trials: record " ∷ number ∷ trial_pieces cause)
+trial_line number cause = line_text (codes "cps: trials: record " ∷ number ∷ trial_pieces cause)
 
 abbrev pub trials_line : TrialFault → List ℕ
 trials_line fault = trial_line (decimal fault.number) fault.cause
@@ -301,11 +301,11 @@ trials_line fault = trial_line (decimal fault.number) fault.cause
 
 abbrev pub plan_line : PlanFault → List ℕ
 plan_line (plan.Line n) = numbered_line (codes "cps: plan: line ") n
-plan_line plan.Memory = text_of (codes "cps: no memory\n" ∷ [])
+plan_line plan.Memory = line_text (codes "cps: no memory\n" ∷ [])
 
 -- ---- all endings
 
-abbrev pub refusal_line : Refusal → List ℕ
+abbrev pub refusal_line : FilesFault → List ℕ
 refusal_line (Aerodrome fault) = aerodrome_line fault
 refusal_line (Flights fault) = flights_line fault
 refusal_line (Events fault) = events_line fault
@@ -316,13 +316,13 @@ refusal_line (Plan fault) = plan_line fault
 
 -- the line on the standard error, or nothing
 abbrev pub line_of : Ending → List ℕ
-line_of (Answered answer) = text_of []
-line_of Misused = text_of (codes "cps: usage\n" ∷ [])
+line_of (Answered answer) = line_text []
+line_of Misused = line_text (codes "cps: usage\n" ∷ [])
 line_of (Refused refusal) = refusal_line refusal
-line_of (NotLoaded place) = text_of (codes "cps: file " ∷ decimal place ∷ codes ": failed\n" ∷ [])
-line_of NotWritten = text_of (codes "cps: write failed\n" ∷ [])
-line_of (TooLong place) = text_of (codes "cps: file " ∷ decimal place ∷ codes ": too long\n" ∷ [])
-line_of NoMemory = text_of (codes "cps: no memory\n" ∷ [])
+line_of (NotLoaded place) = line_text (codes "cps: file " ∷ decimal place ∷ codes ": failed\n" ∷ [])
+line_of NotWritten = line_text (codes "cps: write failed\n" ∷ [])
+line_of (TooLong place) = line_text (codes "cps: file " ∷ decimal place ∷ codes ": too long\n" ∷ [])
+line_of NoMemory = line_text (codes "cps: no memory\n" ∷ [])
 
 -- The line was written, whole unless a fault was counted, and then, where the sink is sure, for want of room.
 pub record Says (old new : SinkState) (line : List ℕ) : Type 0 where

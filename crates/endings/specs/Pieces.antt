@@ -8,7 +8,7 @@ use Rattle.event_log.specs.declared.fault.LogCause.{LogCause}
 use Rattle.event_log.specs.declared.fault.LogCause.TheVariants as log
 use Rattle.trial_file.specs.declared.fault.TrialCause.{TrialCause}
 use Rattle.trial_file.specs.declared.fault.TrialCause.TheVariants as trial
-use Rattle.endings.specs.Lines.{text_of, number_word, windows_word, windows_part, windows_why, after_word, after_part}
+use Rattle.endings.specs.Lines.{line_text, number_word, windows_word, windows_part, windows_why, after_word, after_part}
 
 -- what stands behind the number of a closure
 abbrev pub closure_word : ClosureFault → List ℕ
@@ -65,4 +65,4 @@ trial_words trial.Memory = codes ": memory\n"
 
 -- a line of words, a number and more words
 abbrev pub between_line : List ℕ → ℕ → List ℕ → List ℕ
-between_line before n after = text_of (before ∷ decimal n ∷ after ∷ [])
+between_line before n after = line_text (before ∷ decimal n ∷ after ∷ [])

@@ -7,28 +7,28 @@ use Rattle.flight_file.specs.declared.fault.FlightFault.{FlightFault}
 use Rattle.situations.specs.Refused.{opening_fault}
 use Rattle.endings.specs.declared.ending.Ending.{Ending}
 use Rattle.endings.specs.declared.ending.Ending.TheVariants.{Refused, NoMemory}
-use Rattle.endings.specs.declared.ending.Refusal as refusals
-use Rattle.endings.specs.declared.ending.Refusal.TheVariants as refusal
+use Rattle.endings.specs.declared.ending.FilesFault as refusals
+use Rattle.endings.specs.declared.ending.FilesFault.TheVariants as refusal
 
 -- why files that read are not taken: they open no situation
-abbrev pub refusal_of : Aerodrome → List Flight → Option refusals.Refusal
+abbrev pub refusal_of : Aerodrome → List Flight → Option refusals.FilesFault
 refusal_of aerodrome flights = option_map refusal.Opening (opening_fault aerodrome flights)
 
 -- the first cause, in the order of the files
-abbrev pub refused_by : Result Aerodrome AeroFault → Result (List Flight) FlightFault → Option refusals.Refusal
+abbrev pub refused_by : Result Aerodrome AeroFault → Result (List Flight) FlightFault → Option refusals.FilesFault
 refused_by (Err fault) flights = Some (refusal.Aerodrome fault)
 refused_by (Ok aerodrome) (Err fault) = Some (refusal.Flights fault)
 refused_by (Ok aerodrome) (Ok flights) = refusal_of aerodrome flights
 
 -- the same with a third file, whose fault is a refusal of this kind
-abbrev pub refused_by_three : {T F : Type 0} → (F → refusals.Refusal) → Result Aerodrome AeroFault → Result (List Flight) FlightFault → Result T F → Option refusals.Refusal
+abbrev pub refused_by_three : {T F : Type 0} → (F → refusals.FilesFault) → Result Aerodrome AeroFault → Result (List Flight) FlightFault → Result T F → Option refusals.FilesFault
 refused_by_three kind (Err fault) flights third = Some (refusal.Aerodrome fault)
 refused_by_three kind (Ok aerodrome) (Err fault) third = Some (refusal.Flights fault)
 refused_by_three kind (Ok aerodrome) (Ok flights) (Err fault) = Some (kind fault)
 refused_by_three kind (Ok aerodrome) (Ok flights) (Ok third) = refusal_of aerodrome flights
 
 -- how a run that refuses for these causes may stop before it writes
-abbrev pub Stops : (refusals.Refusal → Type 0) → Ending → Type 0
+abbrev pub Stops : (refusals.FilesFault → Type 0) → Ending → Type 0
 Stops Refuses (Refused cause) = Refuses cause
 Stops Refuses NoMemory = ⊤
 Stops Refuses ending = ⊥

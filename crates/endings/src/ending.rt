@@ -31,7 +31,7 @@ pub enum Answer {
 
 /// Why the files are not taken.
 #[derive(Clone, Copy)]
-pub enum Refusal {
+pub enum FilesFault {
     /// The aerodrome file does not read as one: its first fault.
     Aerodrome(AeroFault),
     /// The flight file does not read as one: its first fault.
@@ -56,7 +56,7 @@ pub enum Ending {
     /// The words fit no command.
     Misused,
     /// All files were loaded, and they are not taken.
-    Refused(Refusal),
+    Refused(FilesFault),
     /// The load of this number, from 1, failed.
     NotLoaded(u32),
     /// A put failed.

@@ -1,5 +1,5 @@
 // How a run ends where a file does not read, a put fails or memory runs out: each fault by itself, so that `?` passes it on.
-use crate::{Ending, Refusal};
+use crate::{Ending, FilesFault};
 use aerodrome_file::AeroFault;
 use certificate::CertFault;
 use cps_outside::WriteFailed;
@@ -41,7 +41,7 @@ impl From<AeroFault> for Ending {
     fn from(fault: AeroFault) -> Self {
         match fault {
             AeroFault::Memory => Ending::NoMemory,
-            fault => Ending::Refused(Refusal::Aerodrome(fault)),
+            fault => Ending::Refused(FilesFault::Aerodrome(fault)),
         }
     }
 }
@@ -55,7 +55,7 @@ impl From<FlightFault> for Ending {
     fn from(fault: FlightFault) -> Self {
         match fault.cause {
             FlightCause::Memory => Ending::NoMemory,
-            _ => Ending::Refused(Refusal::Flights(fault)),
+            _ => Ending::Refused(FilesFault::Flights(fault)),
         }
     }
 }
@@ -69,7 +69,7 @@ impl From<LogFault> for Ending {
     fn from(fault: LogFault) -> Self {
         match fault.cause {
             LogCause::Memory => Ending::NoMemory,
-            _ => Ending::Refused(Refusal::Events(fault)),
+            _ => Ending::Refused(FilesFault::Events(fault)),
         }
     }
 }
@@ -83,7 +83,7 @@ impl From<CertFault> for Ending {
     fn from(fault: CertFault) -> Self {
         match fault {
             CertFault::Memory => Ending::NoMemory,
-            fault => Ending::Refused(Refusal::Certificate(fault)),
+            fault => Ending::Refused(FilesFault::Certificate(fault)),
         }
     }
 }
@@ -97,7 +97,7 @@ impl From<TrialFault> for Ending {
     fn from(fault: TrialFault) -> Self {
         match fault.cause {
             TrialCause::Memory => Ending::NoMemory,
-            _ => Ending::Refused(Refusal::Trials(fault)),
+            _ => Ending::Refused(FilesFault::Trials(fault)),
         }
     }
 }
@@ -111,7 +111,7 @@ impl From<PlanFault> for Ending {
     fn from(fault: PlanFault) -> Self {
         match fault {
             PlanFault::Memory => Ending::NoMemory,
-            fault => Ending::Refused(Refusal::Plan(fault)),
+            fault => Ending::Refused(FilesFault::Plan(fault)),
         }
     }
 }
@@ -124,7 +124,7 @@ impl From<BeginFault> for Ending {
 
     fn from(fault: BeginFault) -> Self {
         match fault {
-            BeginFault::Opening(fault) => Ending::Refused(Refusal::Opening(fault)),
+            BeginFault::Opening(fault) => Ending::Refused(FilesFault::Opening(fault)),
             BeginFault::Memory => Ending::NoMemory,
         }
     }

@@ -13,6 +13,6 @@ mod opening_lines;
 mod plan_lines;
 mod trial_lines;
 
-pub use ending::{Answer, Ending, Refusal};
+pub use ending::{Answer, Ending, FilesFault};
 pub use lines::{say, status};
 pub use loads::{LIMIT, load_all};

@@ -1,7 +1,7 @@
 // The statuses and the lines on the standard error. A line is written piece by piece and takes no memory.
 ghost use Rattle.std.specs.Prelude.{◌≡◌, map};
 ghost use Rattle.cps_outside.specs.SinkState.{Writes};
-ghost use Rattle.endings.specs.Lines.{Says, status_of, line_of, text_of, numbered_line, refusal_line};
+ghost use Rattle.endings.specs.Lines.{Says, status_of, line_of, line_text, numbered_line, refusal_line};
 ghost use Rattle.endings.specs.Pieces.{between_line};
 
 use crate::aerodrome_lines::say_aerodrome;
@@ -11,7 +11,7 @@ use crate::flight_lines::say_flights;
 use crate::opening_lines::say_opening;
 use crate::plan_lines::say_plan;
 use crate::trial_lines::say_trials;
-use crate::{Answer, Ending, Refusal};
+use crate::{Answer, Ending, FilesFault};
 use cps_outside::{Sink, WriteFailed};
 use itoa::Buffer;
 
@@ -36,7 +36,7 @@ pub fn status(ending: &Ending) -> u8
 // Puts the pieces in their order. The first put that fails is the last.
 pub(crate) fn put_all<E: Sink>(err: &mut E, pieces: &[&[u8]]) -> Result<(), WriteFailed>
     ensures { Writes (E.state err.old) (E.state err.new)
-        (text_of (map (λ piece. piece.now) pieces.now)) result }
+        (line_text (map (λ piece. piece.now) pieces.now)) result }
 {
     for piece in pieces {
         err.put(piece)?;
@@ -70,17 +70,17 @@ pub(crate) fn say_number<E: Sink>(
     say_between(err, words, n, b"\n")
 }
 
-fn say_refusal<E: Sink>(err: &mut E, refusal: &Refusal) -> Result<(), WriteFailed>
+fn say_refusal<E: Sink>(err: &mut E, refusal: &FilesFault) -> Result<(), WriteFailed>
     ensures { Writes (E.state err.old) (E.state err.new) (refusal_line refusal.now) result }
 {
     match refusal {
-        Refusal::Aerodrome(fault) => say_aerodrome(err, fault),
-        Refusal::Flights(fault) => say_flights(err, fault),
-        Refusal::Events(fault) => say_events(err, fault),
-        Refusal::Certificate(fault) => say_certificate(err, fault),
-        Refusal::Opening(fault) => say_opening(err, fault),
-        Refusal::Trials(fault) => say_trials(err, fault),
-        Refusal::Plan(fault) => say_plan(err, fault),
+        FilesFault::Aerodrome(fault) => say_aerodrome(err, fault),
+        FilesFault::Flights(fault) => say_flights(err, fault),
+        FilesFault::Events(fault) => say_events(err, fault),
+        FilesFault::Certificate(fault) => say_certificate(err, fault),
+        FilesFault::Opening(fault) => say_opening(err, fault),
+        FilesFault::Trials(fault) => say_trials(err, fault),
+        FilesFault::Plan(fault) => say_plan(err, fault),
     }
 }
 

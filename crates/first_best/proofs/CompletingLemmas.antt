@@ -16,7 +16,7 @@ use Rattle.cps_problem.specs.WellFormed.{IsWellFormed}
 use Rattle.cps_network.specs.Pairs.{list_at}
 use Rattle.first_best.specs.declared.node.EarlyNode.{EarlyNode}
 use Rattle.first_best.specs.Nodes.{node_at, AreNodesOf, IsPrefixOf, IsReached}
-use Rattle.first_best.specs.Completing.{AreInReach, AreListsOf, ArePairsOf, HasRoom, IsEnd, IsPairOf, Rises, StageAhead}
+use Rattle.first_best.specs.Completing.{AreInReach, AreListsOf, ArePairsOf, IsWithinBudget, IsEnd, IsPairOf, Rises, StageAhead}
 use Rattle.first_best.specs.Uses.{IsWanted, KeepsWanted}
 use Rattle.first_best.specs.Stages.{AreCompleted, IsBehind}
 use Rattle.first_best.specs.Ranges.{IsNextIn}
@@ -51,7 +51,7 @@ module _ (p : Problem) (wf : IsWellFormed p) (v : ℕ) (budget : Option ℕ) (st
   last_opened b o = subst (λ (r : ℕ). (ranked p).is_open r b ≡ true) of.last o
 
   -- there is room for what costs no more than a pair that is wanted
-  room : (q : Pair) (cost : ℕ) → cost ≤ q.1 → IsWanted p budget rs q → HasRoom budget (node_at these j).cheapest cost
+  room : (q : Pair) (cost : ℕ) → cost ≤ q.1 → IsWanted p budget rs q → IsWithinBudget budget (node_at these j).cheapest cost
   room = wanted_room p budget rs (node_at these j) (λ xs l o. are.cheap j xs lt (record { legal = l.legal; landed = l.landed; long = l.long ∙ long }) o) of
 
   -- at the last stage

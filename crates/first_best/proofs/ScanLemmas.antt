@@ -7,16 +7,16 @@ use Rattle.cps_theory.specs.Labels.{InPairs, Pair}
 use Rattle.cps_theory.specs.CompletingPairs.{NoEarlierNoDearer}
 use Rattle.cps_network.specs.shared.PairLists.{in_append, in_left, in_right}
 use Rattle.first_best.specs.declared.node.EarlyNode.{EarlyNode}
-use Rattle.first_best.specs.Completing.{AreFalling, ArePairsOf, HasRoom, IsLeastOf, IsPairOf, StageAhead}
+use Rattle.first_best.specs.Completing.{AreFalling, ArePairsOf, IsWithinBudget, IsLeastOf, IsPairOf, StageAhead}
 use Rattle.first_best.proofs.PairLemmas.{falls_more, falls_rises, in_reversed, reversed_in}
 use Rattle.first_best.proofs.UseLemmas.{room_below}
 
-module _ (p : Problem) (v : ℕ) (budget : Option ℕ) (stage : ℕ) (node : EarlyNode) (next : StageAhead) (limit : ℕ) (limits : (cost : ℕ) → cost < 4294967296 → HasRoom budget node.cheapest cost → cost < limit) where
+module _ (p : Problem) (v : ℕ) (budget : Option ℕ) (stage : ℕ) (node : EarlyNode) (next : StageAhead) (limit : ℕ) (limits : (cost : ℕ) → cost < 4294967296 → IsWithinBudget budget node.cheapest cost → cost < limit) where
   abbrev pub Is : Pair → Type 0
   Is q = IsPairOf p v stage node next q
 
   abbrev pub Room : Pair → Type 0
-  Room q = HasRoom budget node.cheapest q.1
+  Room q = IsWithinBudget budget node.cheapest q.1
 
   -- the pairs from a second on for which there is room are found, and the least cost of them, or the limit with none, is this
   pub record Scanned (from least : ℕ) (pairs : List Pair) : Type 0 where

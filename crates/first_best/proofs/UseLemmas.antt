@@ -16,7 +16,7 @@ use Rattle.landing_joint.specs.shared.FirstOpen.{is_first_open}
 use Rattle.landing_joint.specs.shared.NodePairs.{net, one_pattern}
 use Rattle.first_best.specs.declared.node.EarlyNode.{EarlyNode}
 use Rattle.first_best.specs.Nodes.{IsLandedPrefix, IsPrefixOf}
-use Rattle.first_best.specs.Completing.{HasRoom}
+use Rattle.first_best.specs.Completing.{IsWithinBudget}
 use Rattle.first_best.specs.Uses.{IsWanted, KeepsWanted}
 use Rattle.first_best.proofs.NodeLemmas.{node_one}
 
@@ -65,13 +65,13 @@ module _ (p : Problem) (sound : SoundProblem (ranked p)) (rs : List ℕ) (r : �
 -- ---- room
 
 -- there is room for what costs no more
-pub room_below : (budget : Option ℕ) (cheapest c d : ℕ) → c ≤ d → HasRoom budget cheapest d → HasRoom budget cheapest c
+pub room_below : (budget : Option ℕ) (cheapest c d : ℕ) → c ≤ d → IsWithinBudget budget cheapest d → IsWithinBudget budget cheapest c
 room_below None cheapest c d le h = tt
 room_below (Some budget) cheapest c d le h = omega (arith, le, h)
 
 -- and for what is of use
 pub wanted_room : (p : Problem) (budget : Option ℕ) (rs : List ℕ) (node : EarlyNode) → ((xs : List Landing) → IsLandedPrefix p (length rs) xs → IsPrefixOf (ranks xs) node → node.cheapest ≤ cost_of (cost_at p) xs) → IsPrefixOf rs node
-    → (q : Pair) (cost : ℕ) → cost ≤ q.1 → IsWanted p budget rs q → HasRoom budget node.cheapest cost
+    → (q : Pair) (cost : ℕ) → cost ≤ q.1 → IsWanted p budget rs q → IsWithinBudget budget node.cheapest cost
 wanted_room p None rs node cheap of q cost le w = tt
 wanted_room p (Some budget) rs node cheap of q cost le w =
     let a = cheap w.landings (record { legal = w.legal; landed = w.landed; long = w.one_node.stage }) (node_one rs (ranks w.landings) node w.one_node of) in

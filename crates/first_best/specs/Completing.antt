@@ -83,22 +83,22 @@ pub record IsPairOf (p : Problem) (v stage : ℕ) (node : EarlyNode) (next : Sta
   pub end : IsEnd p stage node next q.0 q.1
 
 -- behind prefixes of which none costs less than this a budget has room for a cost; with no budget there is always room
-abbrev pub HasRoom : Option ℕ → ℕ → ℕ → Type 0
-HasRoom None cheapest cost = Unit {0}
-HasRoom (Some budget) cheapest cost = cheapest + cost ≤ budget
+abbrev pub IsWithinBudget : Option ℕ → ℕ → ℕ → Type 0
+IsWithinBudget None cheapest cost = Unit {0}
+IsWithinBudget (Some budget) cheapest cost = cheapest + cost ≤ budget
 
 -- pairs of a node that fall, and each of its pairs from a second on for which there is room has one of these at least as late and
 -- at most as dear
 pub record AreFalling (p : Problem) (v : ℕ) (budget : Option ℕ) (stage : ℕ) (node : EarlyNode) (next : StageAhead) (from : ℕ) (pairs : List Pair) : Type 0 where
   pub are : (q : Pair) → InPairs q pairs → IsPairOf p v stage node next q × (from ≤ q.0)
-  pub cover : (q : Pair) → IsPairOf p v stage node next q → from ≤ q.0 → HasRoom budget node.cheapest q.1 → (o : Pair) × InPairs o pairs × NoEarlierNoDearer o q
+  pub cover : (q : Pair) → IsPairOf p v stage node next q → from ≤ q.0 → IsWithinBudget budget node.cheapest q.1 → (o : Pair) × InPairs o pairs × NoEarlierNoDearer o q
   pub falling : Falls pairs
   pub in_reach : AreInReach (length p.flights - stage) pairs
 
 -- pairs of a node that ascend, and each pair of it for which there is room has one of these at least as late and at most as dear
 pub record ArePairsOf (p : Problem) (v : ℕ) (budget : Option ℕ) (stage : ℕ) (node : EarlyNode) (next : StageAhead) (pairs : List Pair) : Type 0 where
   pub are : (q : Pair) → InPairs q pairs → IsPairOf p v stage node next q
-  pub cover : (q : Pair) → IsPairOf p v stage node next q → HasRoom budget node.cheapest q.1 → (o : Pair) × InPairs o pairs × NoEarlierNoDearer o q
+  pub cover : (q : Pair) → IsPairOf p v stage node next q → IsWithinBudget budget node.cheapest q.1 → (o : Pair) × InPairs o pairs × NoEarlierNoDearer o q
   pub rising : Rises pairs
   pub in_reach : AreInReach (length p.flights - stage) pairs
 

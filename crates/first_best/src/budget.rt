@@ -2,7 +2,7 @@
 
 ghost use Rattle.std.specs.Prelude.{◌≡◌, ℕ, ◌^◌, ◌<◌};
 ghost use Rattle.landing_joint.specs.CompletingPairs.{budget_of};
-ghost use Rattle.first_best.specs.Completing.{HasRoom};
+ghost use Rattle.first_best.specs.Completing.{IsWithinBudget};
 
 use cps_problem::{Objective, Problem};
 
@@ -18,7 +18,7 @@ pub(crate) fn budget_of(problem: &Problem, value: u64) -> u64
 
 // Each cost for which a budget has room is below this, behind prefixes of which none costs less than `cheapest`.
 pub(crate) fn limit_of(budget: Option<u64>, cheapest: u32) -> u64
-    ensures { (cost : ℕ) → cost < 2 ^ 32 → HasRoom budget cheapest cost → cost < result }
+    ensures { (cost : ℕ) → cost < 2 ^ 32 → IsWithinBudget budget cheapest cost → cost < result }
 {
     match budget {
         None => 1u64 << 32,

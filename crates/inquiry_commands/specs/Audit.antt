@@ -18,12 +18,12 @@ use Rattle.cps_outside.specs.SinkState.{SinkState}
 use Rattle.endings.specs.declared.ending.Answer.{Answer}
 use Rattle.endings.specs.declared.ending.Answer.TheVariants.{Clean, Broken, Claimed}
 use Rattle.endings.specs.declared.ending.Ending.{Ending}
-use Rattle.endings.specs.declared.ending.Refusal.{Refusal}
-use Rattle.endings.specs.declared.ending.Refusal.TheVariants as refusal
+use Rattle.endings.specs.declared.ending.FilesFault.{FilesFault}
+use Rattle.endings.specs.declared.ending.FilesFault.TheVariants as refusal
 use Rattle.endings.specs.Refusing.{refusal_of, refused_by_three, Stops}
 use Rattle.openings.specs.Follows.{FollowsAtOnce}
 
-abbrev pub RefusesAudit : List ℕ → List ℕ → List ℕ → Refusal → Type 0
+abbrev pub RefusesAudit : List ℕ → List ℕ → List ℕ → FilesFault → Type 0
 RefusesAudit aerodrome flights plan cause = refused_by_three refusal.Plan (aerodrome_of aerodrome) (flights_of flights) (plan_of plan) ≡ Some cause
 
 -- the lines of the findings, or that there is none

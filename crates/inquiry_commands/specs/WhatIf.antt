@@ -17,12 +17,12 @@ use Rattle.cps_outside.specs.SinkState.{SinkState}
 use Rattle.endings.specs.declared.ending.Answer.{Answer}
 use Rattle.endings.specs.declared.ending.Answer.TheVariants.{Tried}
 use Rattle.endings.specs.declared.ending.Ending.{Ending}
-use Rattle.endings.specs.declared.ending.Refusal.{Refusal}
-use Rattle.endings.specs.declared.ending.Refusal.TheVariants as refusal
+use Rattle.endings.specs.declared.ending.FilesFault.{FilesFault}
+use Rattle.endings.specs.declared.ending.FilesFault.TheVariants as refusal
 use Rattle.endings.specs.Refusing.{refusal_of, refused_by_three, Stops}
 use Rattle.openings.specs.Follows.{FollowsAtOnce}
 
-abbrev pub RefusesWhatIf : List ℕ → List ℕ → List ℕ → Refusal → Type 0
+abbrev pub RefusesWhatIf : List ℕ → List ℕ → List ℕ → FilesFault → Type 0
 RefusesWhatIf aerodrome flights trials cause = refused_by_three refusal.Trials (aerodrome_of aerodrome) (flights_of flights) (trials_of trials) ≡ Some cause
 
 -- The files are taken, with their numbers in range and at most 16 trials, and open a sound situation. The text has a line for

@@ -3,7 +3,7 @@
 use Rattle.std.proofs.Common.{◌≡◌, ◌≢◌, ℕ, ◌<◌, ◌≤◌, ◌&&◌, ◌∙◌, inl, inr, List, [], ◌∷◌, Bool, true, false, not, nat_lt, arith, refl, sym, ap, subst}
 use Rattle.std.proofs.lemmas.Bool.{cases_Bool, cases_eq, cases_lt, ltb-true, lt-ltb, le-ltb, and_parts, and_from, false≢true}
 use Rattle.cps_theory.specs.RankLists.{In}
-use Rattle.cps_theory.specs.Freeze.{FirstCome, KeepsShift, frozen_of, overtook, staying_of}
+use Rattle.cps_theory.specs.Freeze.{FirstCome, KeepsCountedShift, frozen_of, overtook, staying_of}
 use Rattle.cps_theory.specs.laws.ShiftAfterFreeze.{not_before_itself}
 use Rattle.cps_theory.specs.laws.Members.{filter_in, in_filter}
 use Rattle.cps_theory.specs.laws.RankCounts.{count, count_filter, count_stricter, count_is, count_none, count_parts, count_split, count_weaker}
@@ -51,7 +51,7 @@ module _ (comes_before : ℕ → ℕ → Bool) (order : FirstCome comes_before) 
   first_in x [] i = absurd i
   first_in x (z ∷ zs) i = first_of z zs
 
-  module _ (t : ℕ → ℕ) (waiting : List ℕ) (k h : ℕ) (back : ℕ → ℕ) (shift : (f : ℕ) → In f waiting → KeepsShift k back comes_before t waiting f) where
+  module _ (t : ℕ → ℕ) (waiting : List ℕ) (k h : ℕ) (back : ℕ → ℕ) (shift : (f : ℕ) → In f waiting → KeepsCountedShift k back comes_before t waiting f) where
     stays : (f : ℕ) → In f (staying_of t h waiting) → In f waiting × (h ≤ t f)
     stays f i =
         let w = in_filter (λ x. not (nat_lt (t x) h)) f waiting i in
@@ -101,7 +101,7 @@ module _ (comes_before : ℕ → ℕ → Bool) (order : FirstCome comes_before) 
 
   -- ---- where none may go back by more than one place
 
-  module _ (t : ℕ → ℕ) (waiting : List ℕ) (k : ℕ) (back : ℕ → ℕ) (shift : (f : ℕ) → In f waiting → KeepsShift k back comes_before t waiting f) (one : (f : ℕ) → In f waiting → back f ≤ 1) (apart : (f g : ℕ) → In f waiting → In g waiting → f ≢ g → t f ≢ t g) where
+  module _ (t : ℕ → ℕ) (waiting : List ℕ) (k : ℕ) (back : ℕ → ℕ) (shift : (f : ℕ) → In f waiting → KeepsCountedShift k back comes_before t waiting f) (one : (f : ℕ) → In f waiting → back f ≤ 1) (apart : (f g : ℕ) → In f waiting → In g waiting → f ≢ g → t f ≢ t g) where
     staying : (h f : ℕ) → In f waiting → h ≤ t f → In f (staying_of t h waiting)
     staying h f i le = filter_in (λ x. not (nat_lt (t x) h)) f waiting i (ap not (le-ltb (t f) h le))
 

@@ -11,7 +11,7 @@ use Rattle.landing_rules.specs.Rules.{arrival_cmp, IsFeasible}
 use Rattle.landing_rules.specs.Events.{Clock, named, situation_after}
 use Rattle.landing_rules.specs.Sound.{IsSound}
 use Rattle.cps_theory.specs.RankLists.{In}
-use Rattle.cps_theory.specs.Freeze.{KeepsShift, overtook, staying_of}
+use Rattle.cps_theory.specs.Freeze.{KeepsCountedShift, overtook, staying_of}
 use Rattle.cps_theory.specs.NumberedSituation as numbers
 use Rattle.cps_theory.specs.laws.Members.{filter_in, in_filter}
 use Rattle.landing_joint.specs.Numbered.{numbered, second_of, numbers_of, waits_at, comes_before, numbered_situation}
@@ -59,7 +59,7 @@ module _ (s : Situation) (sound : IsSound s) (t : Schedule) (ok : IsFeasible s t
   abbrev over : ℕ → ℕ
   over i = overtook (comes_before s.active) (second_of t) h ns.waiting i
 
-  shifted : (i : ℕ) → In i ns.waiting → KeepsShift s.aerodrome.k ns.back (comes_before s.active) (second_of t) ns.waiting i
+  shifted : (i : ℕ) → In i ns.waiting → KeepsCountedShift s.aerodrome.k ns.back (comes_before s.active) (second_of t) ns.waiting i
   shifted = (feasible_numbered s sound t ok.0 ok).shifted
 
   stays : (i : ℕ) → In i stay → In i (numbers_of s.active) × (waits_at s.active i ≡ true) × (h ≤ second_of t i)

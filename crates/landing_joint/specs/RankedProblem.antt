@@ -12,7 +12,7 @@ use Rattle.landing_rules.specs.Flights.{Span}
 use Rattle.landing_rules.specs.Rules.{is_within}
 use Rattle.landing_rules.specs.Problem.{Waiting, Problem, last_frozen}
 use Rattle.cps_theory.specs.RankLists.{of_rank}
-use Rattle.cps_theory.specs.Feasible.{RankedProblem, pair_at, next_from}
+use Rattle.cps_theory.specs.Feasible.{RankedProblem, second_and_cost, next_from}
 
 abbrev pub no_waiting : Waiting
 no_waiting = record { callsign = []; category = A; eta = 0; weight = 0; passed = 0; open_spans = [] }
@@ -82,4 +82,4 @@ value_at p pair = value_by p.objective p pair
 
 -- the objective of a map from ranks to seconds
 abbrev pub value_of_map : Problem → (ℕ → ℕ) → ℕ
-value_of_map p t = value_at p (pair_at (cost_at p) (length p.flights) t)
+value_of_map p t = value_at p (second_and_cost (cost_at p) (length p.flights) t)

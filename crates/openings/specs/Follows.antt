@@ -5,7 +5,7 @@ use Rattle.cps_outside.specs.SinkState.{SinkState, Grows, GrowsByPart, LacksRoom
 use Rattle.endings.specs.declared.ending.Answer.{Answer}
 use Rattle.endings.specs.declared.ending.Ending.{Ending}
 use Rattle.endings.specs.declared.ending.Ending.TheVariants.{Answered, Refused, NotWritten, NoMemory}
-use Rattle.endings.specs.declared.ending.Refusal.{Refusal}
+use Rattle.endings.specs.declared.ending.FilesFault.{FilesFault}
 use Rattle.openings.specs.declared.report.Report.{Report}
 
 -- A text that P admits was written whole, in so many puts.
@@ -29,7 +29,7 @@ pub record PrintsPart (puts : ℕ) (P : List ℕ → Type 0) (old new : SinkStat
 -- What a command does that may print the texts that Admits says, in so many puts and with these answers, may have begun to print
 -- those of Begins when it stops early, and refuses for the causes of Refuses, with this ending. Into a sink that is sure, it fails to
 -- write only a text for which there was no room.
-abbrev pub FollowsBy : ℕ → (List ℕ → Answer → Type 0) → (List ℕ → Type 0) → (Refusal → Type 0) → SinkState → SinkState → Ending → Type 0
+abbrev pub FollowsBy : ℕ → (List ℕ → Answer → Type 0) → (List ℕ → Type 0) → (FilesFault → Type 0) → SinkState → SinkState → Ending → Type 0
 FollowsBy puts Admits Begins Refuses old new (Answered answer) = Prints puts (λ text. Admits text answer) old new
 FollowsBy puts Admits Begins Refuses old new (Refused refusal) = Refuses refusal × (new ≡ old)
 FollowsBy puts Admits Begins Refuses old new NotWritten = PrintsPart puts (λ text. Begins text × LacksRoom old text) old new × Rose old.faults new.faults
@@ -37,7 +37,7 @@ FollowsBy puts Admits Begins Refuses old new NoMemory = (new ≡ old) ⊎ Prints
 FollowsBy puts Admits Begins Refuses old new ending = ⊥
 
 -- The same of a command that prints its text in one put, and begins to print none but one that it may print.
-abbrev pub FollowsAtOnce : (List ℕ → Answer → Type 0) → (Refusal → Type 0) → SinkState → SinkState → Ending → Type 0
+abbrev pub FollowsAtOnce : (List ℕ → Answer → Type 0) → (FilesFault → Type 0) → SinkState → SinkState → Ending → Type 0
 FollowsAtOnce Admits Refuses = FollowsBy 1 Admits (λ text. (answer : Answer) × Admits text answer) Refuses
 
 -- A command that came to this report, or ended so without one, ends so: it answers with the report's text written whole, or wrote a

@@ -19,10 +19,10 @@ use Rattle.sequencer.specs.Opened.{opening_of}
 use Rattle.endings.specs.declared.ending.Answer as answers
 use Rattle.endings.specs.declared.ending.Answer.TheVariants.{Scheduled, Infeasible}
 use Rattle.endings.specs.declared.ending.Ending.{Ending}
-use Rattle.endings.specs.declared.ending.Refusal.{Refusal}
+use Rattle.endings.specs.declared.ending.FilesFault.{FilesFault}
 use Rattle.endings.specs.Refusing.{refusal_of, refused_by, Stops}
 
-abbrev pub RefusesPlan : List ℕ → List ℕ → Refusal → Type 0
+abbrev pub RefusesPlan : List ℕ → List ℕ → FilesFault → Type 0
 RefusesPlan aerodrome flights cause = refused_by (aerodrome_of aerodrome) (flights_of flights) ≡ Some cause
 
 -- what is answered where a plan is shown last, or none

@@ -19,7 +19,7 @@ use Rattle.endings.specs.declared.ending.Ending.{Ending}
 use Rattle.endings.specs.Refusing.{refusal_of, StopsOpened}
 use Rattle.endings.specs.shared.Refusing.{stops_by}
 use Rattle.openings.specs.Plan.{answer_by, answer_of, IsOpened, IsPlannedAnew}
-use Rattle.endings.specs.declared.ending.Refusal.TheVariants.{Opening}
+use Rattle.endings.specs.declared.ending.FilesFault.TheVariants.{Opening}
 use Rattle.situations.specs.Refused.{opening_fault}
 use Rattle.planning_commands.specs.Trial.{Sums, StopsTrial}
 

@@ -22,13 +22,13 @@ use Rattle.cps_outside.specs.SinkState.{SinkState}
 use Rattle.endings.specs.declared.ending.Answer.{Answer}
 use Rattle.endings.specs.declared.ending.Ending.{Ending}
 use Rattle.endings.specs.declared.ending.Ending.TheVariants as endings
-use Rattle.endings.specs.declared.ending.Refusal.{Refusal}
-use Rattle.endings.specs.declared.ending.Refusal.TheVariants as refusal
+use Rattle.endings.specs.declared.ending.FilesFault.{FilesFault}
+use Rattle.endings.specs.declared.ending.FilesFault.TheVariants as refusal
 use Rattle.openings.specs.Follows.{FollowsBy}
 use Rattle.endings.specs.Refusing.{refusal_of, refused_by_three, Stops}
 use Rattle.openings.specs.Plan.{answer_by, answer_of}
 
-abbrev pub RefusesReplay : List ℕ → List ℕ → List ℕ → Refusal → Type 0
+abbrev pub RefusesReplay : List ℕ → List ℕ → List ℕ → FilesFault → Type 0
 RefusesReplay aerodrome flights events cause = refused_by_three refusal.Events (aerodrome_of aerodrome) (flights_of flights) (events_of events) ≡ Some cause
 
 -- The files read as an aerodrome in its ranges, flights and a log of at most 2,000 events, and are taken. They have these

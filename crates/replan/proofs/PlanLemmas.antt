@@ -10,7 +10,7 @@ use Rattle.landing_rules.specs.Problem.{Problem, Waiting, IsFeasibleList, IsBest
 use Rattle.cps_theory.specs.RankLists.{of_rank, IsRank, numbers_from, In, Distinct}
 use Rattle.cps_theory.specs.LandingTrail.{ranks}
 use Rattle.cps_theory.specs.Labels.{InPairs, NoWorse, Pair}
-use Rattle.cps_theory.specs.Feasible.{second_in, pair_at as map_pair, at_seconds}
+use Rattle.cps_theory.specs.Feasible.{second_in, second_and_cost as map_pair, at_seconds}
 use Rattle.cps_theory.specs.UndominatedPairs.{Staircase}
 use Rattle.cps_theory.specs.laws.LeastObjective.{feasible_landing_trail, landing_trail_feasible, at_second_in}
 use Rattle.landing_joint.specs.RankedProblem.{ranked, cost_at, value_by, value_at, value_of_map, makespan_by}

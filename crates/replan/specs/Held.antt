@@ -22,5 +22,5 @@ abbrev pub AreInCommon : Problem → Problem → ℕ → Type 0
 AreInCommon held p count = (d : ℕ) × IsFirstDifference held p d × (count ≡ d - p.k)
 
 -- the problem that is held, where there is one
-abbrev pub problem_of : Option HeldProblem → Option Problem
-problem_of held = option_map (λ (h : HeldProblem). h.problem) held
+abbrev pub held_problem : Option HeldProblem → Option Problem
+held_problem held = option_map (λ (h : HeldProblem). h.problem) held

@@ -1,7 +1,7 @@
 -- What a planner for any k holds.
 use Rattle.std.specs.Prelude.{◌≡◌, ℕ, Option, Some}
 use Rattle.landing_rules.specs.Problem.{Problem}
-use Rattle.replan.specs.Held.{HeldProblem, problem_of}
+use Rattle.replan.specs.Held.{HeldProblem, held_problem}
 use Rattle.replan.specs.declared.any_kept.AnyKept.{AnyKept}
 use Rattle.replan.specs.declared.any_kept.AnyKept.TheVariants.{One, Three, Five, Seven}
 
@@ -20,7 +20,7 @@ held_of (Seven kept) = kept
 
 -- the problem that was planned last
 abbrev pub problem_held : AnyKept → Option Problem
-problem_held planner = problem_of (held_of planner)
+problem_held planner = held_problem (held_of planner)
 
 -- the planner holds this problem
 abbrev pub Holds : AnyKept → Problem → Type 0

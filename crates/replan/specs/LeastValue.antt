@@ -3,7 +3,7 @@ use Rattle.std.specs.Prelude.{◌≡◌, ℕ, ◌<◌, ◌≤◌, length, Option
 use Rattle.landing_rules.specs.Flights.{Schedule}
 use Rattle.landing_rules.specs.Problem.{Problem, IsFeasibleList, IsBestList, list_objective}
 use Rattle.cps_theory.specs.RankLists.{of_rank}
-use Rattle.cps_theory.specs.Feasible.{pair_at}
+use Rattle.cps_theory.specs.Feasible.{second_and_cost}
 use Rattle.cps_theory.specs.Labels.{Pair}
 use Rattle.cps_network.specs.Pairs.{list_at}
 use Rattle.landing_joint.specs.RankedProblem.{cost_at}
@@ -21,4 +21,4 @@ IsLeastPlace labels place = (place < length labels.lists)
 
 -- no feasible list is worth less than this pair
 abbrev pub IsWorthNoMore : Problem → Pair → Type 0
-IsWorthNoMore p q = (u : Schedule) → IsFeasibleList p u → worth p.objective q ≤ worth p.objective (pair_at (cost_at p) (length p.flights) (of_rank 0 u))
+IsWorthNoMore p q = (u : Schedule) → IsFeasibleList p u → worth p.objective q ≤ worth p.objective (second_and_cost (cost_at p) (length p.flights) (of_rank 0 u))

@@ -2,7 +2,7 @@
 
 ghost use Rattle.cps_network.specs.Nodes.{IsWindowNetwork};
 ghost use Rattle.replan.specs.Bound.{DueIsSmall, HasCounts, HasDue};
-ghost use Rattle.replan.specs.Held.{problem_of};
+ghost use Rattle.replan.specs.Held.{held_problem};
 ghost use Rattle.replan.specs.Kept.{problem_held};
 
 use crate::{AnyKept, Kept};
@@ -45,7 +45,7 @@ fn counts_exist(problem: &Problem)
 impl<const W: usize> Kept<W> {
     // Some number of steps is due for the problem.
     fn due_exists(&self, problem: &Problem)
-        ensures { HasDue (problem_of self.now) problem.now }
+        ensures { HasDue (held_problem self.now) problem.now }
     {
         counts_exist(problem);
         match &self.held {

@@ -2,7 +2,7 @@
 
 ghost use Rattle.std.specs.Prelude.{◌≡◌, ◌+◌, ◌-◌, ◌*◌, ◌<◌, ◌≤◌, length, vec_len, IfOk};
 ghost use Rattle.cps_network.specs.Due.{IsDueFrom};
-ghost use Rattle.replan.specs.Held.{AreInCommon, problem_of};
+ghost use Rattle.replan.specs.Held.{AreInCommon, held_problem};
 ghost use Rattle.replan.specs.Stages.{AreStages};
 
 use crate::former::{Former, shared};
@@ -97,7 +97,7 @@ pub(crate) fn begin_stages<const W: usize>(
     ensures held { IfOk result (λ begun. AreStages problem.now begun.stages.items) }
     ensures some { IfOk result (λ begun. 0 < vec_len begun.stages) }
     ensures few { IfOk result (λ begun. vec_len begun.stages ≤ length problem.now.flights + 1) }
-    ensures due { IfOk result (λ begun. IsDueFrom (problem_of held.entry) problem.now
+    ensures due { IfOk result (λ begun. IsDueFrom (held_problem held.entry) problem.now
         (vec_len begun.stages)) }
 {
     match held {

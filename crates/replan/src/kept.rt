@@ -4,7 +4,7 @@ ghost use Rattle.std.specs.Prelude.{◌≡◌, ℕ, ◌+◌, ◌*◌, length, ve
 ghost use Rattle.cps_base.specs.Tally.{raised_by};
 ghost use Rattle.cps_network.specs.Due.{IsDue};
 ghost use Rattle.cps_problem.specs.Plans.{IsAnswerOf};
-ghost use Rattle.replan.specs.Held.{problem_of};
+ghost use Rattle.replan.specs.Held.{held_problem};
 ghost use Rattle.replan.specs.Stages.{AreStages};
 
 use crate::held::{HeldProblem, begin_stages};
@@ -50,7 +50,7 @@ fn all_stages<const W: usize, R: Threads + Sync, G: Gate + Sync, L: Ledger>(
     requires { W ≡ 2 * problem.now.k + 1 }
     ensures held { IfOk result (λ kept. AreStages problem.now kept.items) }
     ensures all { IfOk result (λ kept. vec_len kept ≡ length problem.now.flights + 1) }
-    ensures steps { OnOk result ((due : ℕ) × IsDue (problem_of held.entry) problem.now due
+    ensures steps { OnOk result ((due : ℕ) × IsDue (held_problem held.entry) problem.now due
         × (L.count steps.new ≡ raised_by due (L.count steps.old))) }
 {
     let begun = begin_stages(alloc, problem, held)?;
@@ -78,9 +78,9 @@ impl<const W: usize> Kept<W> {
     ) -> Result<Option<Schedule>, AllocError>
         requires { W ≡ 2 * problem.now.k + 1 }
         ensures answer { IfOk result (IsAnswerOf problem.now) }
-        ensures holds { OnOk result (problem_of self.new ≡ Some problem.now) }
+        ensures holds { OnOk result (held_problem self.new ≡ Some problem.now) }
         ensures lost { OnErr result (self.new ≡ None) }
-        ensures steps { OnOk result ((due : ℕ) × IsDue (problem_of self.old) problem.now due
+        ensures steps { OnOk result ((due : ℕ) × IsDue (held_problem self.old) problem.now due
             × (L.count steps.new ≡ raised_by due (L.count steps.old))) }
     {
         let held = self.held.take();

@@ -18,7 +18,7 @@ use Rattle.landing_rules.specs.Problem.{IsWaitingOf, IsProblemOf, by_rank, last_
 use Rattle.landing_rules.specs.Sound.{IsSound, IsGoodFlight}
 use Rattle.cps_problem.specs.declared.problem.Waiting as waits
 use Rattle.cps_problem.specs.declared.problem.Head.{Head}
-use Rattle.cps_problem.specs.Seen.{waiting_of, problem_of}
+use Rattle.cps_problem.specs.Seen.{waiting_of, seen_problem}
 use Rattle.cps_problem.specs.WellFormed.{IsWellFormed}
 use Rattle.landing_joint.specs.Numbered.{nobody}
 use Rattle.sequencer.specs.Ranked.{arrival_of, rank_cmp}
@@ -67,7 +67,7 @@ module _ (s : Situation) (h : Head) (ws : List waits.Waiting) (pairs : List ℕ)
   table_is : h.table ≡ s.aerodrome.table
   table_is = sym (ap (λ (a : Aerodrome). a.table) of.fixed)
 
-  pub posed : IsProblemOf s (problem_of h ws pairs)
+  pub posed : IsProblemOf s (seen_problem h ws pairs)
   posed = record {
     table = table_is;
     k = sym (ap (λ (a : Aerodrome). a.k) of.fixed);
@@ -97,7 +97,7 @@ module _ (s : Situation) (h : Head) (ws : List waits.Waiting) (pairs : List ℕ)
       let n = each_rank in
       sym (get_or-map key_of (map waiting_of ws) k d (key_of d) lt) ∙ ap (λ l. get_or l k (key_of d)) keys ∙ get_or-map arrival_of R k nobody (key_of d) (omega arith)
 
-  pub well_formed : h.k ≤ 3 → h.horizon ≤ 179999 → IsWellFormed (problem_of h ws pairs)
+  pub well_formed : h.k ≤ 3 → h.horizon ≤ 179999 → IsWellFormed (seen_problem h ws pairs)
   well_formed few near = record {
     table = subst IsWakeTable (sym table_is) sound.table;
     few_places = few;

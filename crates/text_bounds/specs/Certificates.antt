@@ -2,7 +2,7 @@
 use Rattle.std.specs.Prelude.{ℕ, ◌+◌, ◌*◌, ◌≤◌, List, length, sum_by}
 use Rattle.certificate.specs.States.{State}
 use Rattle.certificate.specs.Reading.{Cert, IsCertificate}
-use Rattle.certificate.specs.Spelling.{text_of}
+use Rattle.certificate.specs.Spelling.{certificate_text}
 
 -- how many pairs the states have together
 abbrev pub pair_count : List State → ℕ
@@ -14,4 +14,4 @@ certificate_bound landings states pairs = 39 + 21 * landings + 19 * states + 18 
 
 abbrev pub CertificateIsBoundedLaw : Type 0
 CertificateIsBoundedLaw = (c : Cert) → IsCertificate c →
-    length (text_of c) ≤ certificate_bound (length c.landings) (length c.states) (pair_count c.states)
+    length (certificate_text c) ≤ certificate_bound (length c.landings) (length c.states) (pair_count c.states)

@@ -8,7 +8,7 @@ use Rattle.landing_rules.specs.Problem.{IsProblemOf, Problem}
 use Rattle.landing_rules.specs.Sound.{IsSound}
 use Rattle.cps_problem.specs.WellFormed.{IsWellFormed}
 use Rattle.certificate.specs.Reading.{Cert, IsCertificate}
-use Rattle.certificate.specs.Spelling.{text_of}
+use Rattle.certificate.specs.Spelling.{certificate_text}
 use Rattle.cert_check.specs.Whole.{IsWhole}
 use Rattle.cert_check.specs.WholeSizes.{most_nodes}
 use Rattle.text_bounds.specs.Certificates.{certificate_bound}
@@ -24,7 +24,7 @@ whole_bound o k n = certificate_bound n (n * most_nodes k) (n * most_nodes k * m
 
 abbrev pub WholeCertificateIsBoundedLaw : Type 0
 WholeCertificateIsBoundedLaw = (s : Situation) (p : Problem) (c : Cert) → IsSound s → IsProblemOf s p → IsWellFormed p → IsCertificate c → IsWhole p c
-    → length (text_of c) ≤ whole_bound p.objective p.k (length p.flights)
+    → length (certificate_text c) ≤ whole_bound p.objective p.k (length p.flights)
 
 -- with so many waiting flights each certificate is one that `check` loads: for the makespan always, for delay always with no
 -- shift, with up to 32 flights with a shift of one place, and with up to 7 with a shift of two

@@ -8,7 +8,7 @@ use Rattle.cps_top.specs.Commands.{Admits, Refuses}
 use Rattle.endings.specs.Outside.{Outside}
 use Rattle.cps_top.specs.Statuses.{AreThere, HasRoom, HoldsEach}
 use Rattle.endings.specs.declared.ending.Answer.{Answer}
-use Rattle.endings.specs.declared.ending.Refusal.{Refusal}
+use Rattle.endings.specs.declared.ending.FilesFault.{FilesFault}
 use Rattle.endings.specs.declared.ending.Ending.{Ending}
 use Rattle.endings.specs.Lines.{answer_status, status_of, line_of}
 
@@ -21,13 +21,13 @@ given files room = record { folder = fresh_folder files []; out = fresh_sink roo
 -- refused give status 3, or memory was short.
 pub record Answers (words : List (List ℕ)) (files : List (String Global × Vec ℕ Global)) (room status : ℕ) (output : List ℕ) : Type 0 where
   pub complete : (command : Command) (contents : List (List ℕ)) → AreThere words (given files room) command contents →
-      ((refusal : Refusal) → Refuses command contents refusal → ⊥) → HasRoom command contents (fresh_sink room []) →
+      ((refusal : FilesFault) → Refuses command contents refusal → ⊥) → HasRoom command contents (fresh_sink room []) →
       (status ≡ 8) ⊎ ((answer : Answer) × (status ≡ answer_status answer) × Admits command contents output answer)
   -- the same where the room is known to hold each text that it may begin
   pub held : (command : Command) (contents : List (List ℕ)) → AreThere words (given files room) command contents →
-      ((refusal : Refusal) → Refuses command contents refusal → ⊥) → HoldsEach command contents (fresh_sink room []) →
+      ((refusal : FilesFault) → Refuses command contents refusal → ⊥) → HoldsEach command contents (fresh_sink room []) →
       (status ≡ 8) ⊎ ((answer : Answer) × (status ≡ answer_status answer) × Admits command contents output answer)
-  pub refused : (command : Command) (contents : List (List ℕ)) (refusal : Refusal) → AreThere words (given files room) command contents →
+  pub refused : (command : Command) (contents : List (List ℕ)) (refusal : FilesFault) → AreThere words (given files room) command contents →
       Refuses command contents refusal → (status ≡ 3) ⊎ (status ≡ 8)
 
 -- The run has an ending of this status, and where there is room for its line, this line is what the standard error holds.

@@ -5,7 +5,7 @@ use Rattle.flight_file.specs.Reading.{flights_of}
 use Rattle.certificate.specs.Reading.{certificate_of}
 use Rattle.cert_check.specs.declared.verdict.Verdict.{Verdict}
 use Rattle.endings.specs.Refusing.{refused_by_three}
-use Rattle.endings.specs.declared.ending.Refusal.TheVariants.{Certificate}
+use Rattle.endings.specs.declared.ending.FilesFault.TheVariants.{Certificate}
 use Rattle.endings.specs.shared.Refusing.{refused_as_read}
 use Rattle.certificate_commands.specs.Check.{Judges}
 

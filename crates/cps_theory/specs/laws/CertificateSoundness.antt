@@ -8,7 +8,7 @@ use Rattle.cps_theory.specs.Labels.{InPairs, NeverCheaper, NoWorse, Pair}
 use Rattle.cps_theory.specs.Patterns.{PatternNode, pattern_node}
 use Rattle.cps_theory.specs.FirstFound.{element_from}
 use Rattle.cps_theory.specs.CertificateClosure.{IsListed, IsListedOrStart, first_missed, is_final, is_final_below, missed_from}
-use Rattle.cps_theory.specs.Feasible.{Feasible, RankedProblem, SoundProblem, next_from, pair_at}
+use Rattle.cps_theory.specs.Feasible.{Feasible, RankedProblem, SoundProblem, next_from, second_and_cost}
 use Rattle.cps_theory.specs.laws.CertificateClosure.{closure_closed}
 use Rattle.cps_theory.specs.laws.LeastObjective.{closed_certificate_optimal, closed_certificate_infeasible}
 
@@ -53,7 +53,7 @@ module _ {S : Type 0} (node_of : S → PatternNode) (pairs_of : S → List Pair)
 
   -- ---- for a problem, the states of which miss no successor pair, whatever else they list
   module _ (p : RankedProblem) (cost : ℕ → ℕ → ℕ) (sound : SoundProblem p) (first : ℕ → ℕ → Option ℕ) (opens : IsFirstOpen (λ r u. p.is_open r u ≡ true) first) (dearer : NeverCheaper cost) (ss : List S) (from_start : first_missed node_of pairs_of p.rules first (next_from p) cost ss (pattern_node p.rules []) ((0, 0) ∷ []) ≡ None) (from_states : missed_from node_of pairs_of p.rules first (next_from p) cost ss 1 ss ≡ None) where
-    pub accepted_optimal : (value : Pair → ℕ) → ((a b : Pair) → NoWorse a b → value a ≤ value b) → 1 ≤ p.rules.count → (v : ℕ) → element_from (is_final_below node_of pairs_of p.rules.count value v) 1 ss ≡ None → (t : ℕ → ℕ) → Feasible p t → v ≤ value (pair_at cost p.rules.count t)
+    pub accepted_optimal : (value : Pair → ℕ) → ((a b : Pair) → NoWorse a b → value a ≤ value b) → 1 ≤ p.rules.count → (v : ℕ) → element_from (is_final_below node_of pairs_of p.rules.count value v) 1 ss ≡ None → (t : ℕ → ℕ) → Feasible p t → v ≤ value (second_and_cost cost p.rules.count t)
     accepted_optimal value mono some v e t f =
         closed_certificate_optimal p cost sound value mono first opens dearer (IsListedOrStart node_of pairs_of p.rules ss) (closure_closed node_of pairs_of p.rules first (next_from p) cost ss from_start from_states) v
         (λ w q at l. elim l [ inl s ↦ (let z = ap (λ (d : PatternNode). d.0) s.0 in absurd (omega arith)) | inr b ↦ final_not_below p.rules.count value v ss e w q at b ]) t f

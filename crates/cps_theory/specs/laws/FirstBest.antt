@@ -8,7 +8,7 @@ use Rattle.cps_theory.specs.Labels.{NeverCheaper, Pair}
 use Rattle.cps_theory.specs.LegalPrefix.{Legal}
 use Rattle.cps_theory.specs.Network.{Network}
 use Rattle.cps_theory.specs.Patterns.{PatternPermits, pattern_node}
-use Rattle.cps_theory.specs.Feasible.{Feasible, RankedProblem, SoundProblem, at_seconds, earliest, next_from, pair_at, second_in}
+use Rattle.cps_theory.specs.Feasible.{Feasible, RankedProblem, SoundProblem, at_seconds, earliest, next_from, second_and_cost, second_in}
 use Rattle.cps_theory.specs.CompletingPairs.{AllLow, Choice, Completes, KeptCompleting, LeastChoices, NoGreaterOrder, OrderWithinBudget, onto}
 use Rattle.cps_theory.specs.FirstBest.{BuiltByLeastChoices, FirstBest}
 use Rattle.cps_theory.specs.laws.Continuations.{onto_twice, no_greater_order_antisym, no_later_low, no_later_cost}
@@ -107,7 +107,7 @@ module _ (p : RankedProblem) (sound : SoundProblem p) (first : ℕ → ℕ → O
         good_goes_on W (λ r t. p.is_open r t ≡ true) first (next_from p) cost (Legal p.rules) node Permitted push newest opens (next_later p) dearer net (λ w. stage w ≡ p.rules.count) closed Low lower Keeps kept budget (ranks zs) zs (built_earliest zs b l) (λ e. short (sym (staged (ranks zs)) ∙ e)) g.0 g.1
 
     -- a whole landing trail of least choices, whose landings are the earliest, makes the first best schedule
-    pub built_first : (value : Pair → ℕ) (v : ℕ) → ((xs : List Landing) → Legal p.rules (ranks xs) → Landed (λ r u. p.is_open r u ≡ true) (next_from p) xs → length (ranks xs) ≡ p.rules.count → value (pair_of cost xs) ≤ v → AllLow Low xs × (cost_of cost xs ≤ budget)) → ((xs : List Landing) → Legal p.rules (ranks xs) → Landed (λ r u. p.is_open r u ≡ true) (next_from p) xs → length (ranks xs) ≡ p.rules.count → AllLow Low xs → cost_of cost xs ≤ budget → value (pair_of cost xs) ≤ v) → ((u : ℕ → ℕ) → Feasible p u → v ≤ value (pair_at cost p.rules.count u)) → (zs : List Landing) → Legal p.rules (ranks zs) → length (ranks zs) ≡ p.rules.count → BuiltByLeastChoices W first (next_from p) cost node Permitted push newest Keeps budget zs → FirstBest p (λ u. value (pair_at cost p.rules.count u)) (second_in zs) × (earliest first (next_from p) (ranks zs) ≡ Some zs)
+    pub built_first : (value : Pair → ℕ) (v : ℕ) → ((xs : List Landing) → Legal p.rules (ranks xs) → Landed (λ r u. p.is_open r u ≡ true) (next_from p) xs → length (ranks xs) ≡ p.rules.count → value (pair_of cost xs) ≤ v → AllLow Low xs × (cost_of cost xs ≤ budget)) → ((xs : List Landing) → Legal p.rules (ranks xs) → Landed (λ r u. p.is_open r u ≡ true) (next_from p) xs → length (ranks xs) ≡ p.rules.count → AllLow Low xs → cost_of cost xs ≤ budget → value (pair_of cost xs) ≤ v) → ((u : ℕ → ℕ) → Feasible p u → v ≤ value (second_and_cost cost p.rules.count u)) → (zs : List Landing) → Legal p.rules (ranks zs) → length (ranks zs) ≡ p.rules.count → BuiltByLeastChoices W first (next_from p) cost node Permitted push newest Keeps budget zs → FirstBest p (λ u. value (second_and_cost cost p.rules.count u)) (second_in zs) × (earliest first (next_from p) (ranks zs) ≡ Some zs)
     built_first value v within back least zs legal whole built =
         let n = p.rules.count in
         let g = built_greedy zs built legal [] (staged (ranks zs) ∙ whole) in
@@ -121,7 +121,7 @@ module _ (p : RankedProblem) (sound : SoundProblem p) (first : ℕ → ℕ → O
         let landed = (earliest_lands (λ r u. p.is_open r u ≡ true) first (next_from p) opens rs zs e).0 in
         let tf = landing_trail_feasible p cost sound zs legal landed whole in
         let v_zs : value (pair_of cost zs) ≤ v = back zs legal landed whole (subst (AllLow Low) landings_is good.low) (subst (λ (xs : List Landing). cost_of cost xs ≤ budget) landings_is good.cheap) in
-        let v_t : value (pair_at cost n t) ≤ v = subst (λ q. value q ≤ v) tf.1 v_zs in (
+        let v_t : value (second_and_cost cost n t) ≤ v = subst (λ q. value q ≤ v) tf.1 v_zs in (
           record {
             best = record { feasible = tf.0; least = λ u fu. le_trans v_t (least u fu) };
             tight = et.0;

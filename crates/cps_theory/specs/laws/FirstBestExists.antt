@@ -6,7 +6,7 @@ use Rattle.cps_theory.specs.Retiming.{IsFirstOpen}
 use Rattle.cps_theory.specs.LandingTrail.{latest_landing, pair_of, ranks}
 use Rattle.cps_theory.specs.Labels.{NeverCheaper, NoWorse, Pair}
 use Rattle.cps_theory.specs.LegalPrefix.{Legal}
-use Rattle.cps_theory.specs.Feasible.{Feasible, RankedProblem, SoundProblem, Tight, at_seconds, earliest, next_from, pair_at, second_in}
+use Rattle.cps_theory.specs.Feasible.{Feasible, RankedProblem, SoundProblem, Tight, at_seconds, earliest, next_from, second_and_cost, second_in}
 use Rattle.cps_theory.specs.CompletingPairs.{NoGreaterOrder, onto}
 use Rattle.cps_theory.specs.FirstBest.{FirstBest}
 use Rattle.cps_theory.specs.laws.Continuations.{no_later_cost, onto_twice}
@@ -85,7 +85,7 @@ module _ (p : RankedProblem) (sound : SoundProblem p) (first : ℕ → ℕ → O
   -- the order of a feasible map lands at its earliest seconds, which are worth no more
   record Ordered (t : ℕ → ℕ) : Type 0 where
     pub lands : LandsEarliest (sorted t p.rules.count)
-    pub cheap : worth (sorted t p.rules.count) ≤ value (pair_at cost p.rules.count t)
+    pub cheap : worth (sorted t p.rules.count) ≤ value (second_and_cost cost p.rules.count t)
 
   sorted_ranks : (t : ℕ → ℕ) → AreRanks p.rules.count p.rules.count (sorted t p.rules.count)
   sorted_ranks t = record { long = length-sorted t p.rules.count; ranked = sorted_in t p.rules.count }
@@ -110,14 +110,14 @@ module _ (p : RankedProblem) (sound : SoundProblem p) (first : ℕ → ℕ → O
       }
 
   -- the value of a tight map is what its order is worth
-  tight_worth : (t : ℕ → ℕ) → Tight p t → worth (sorted t p.rules.count) ≡ value (pair_at cost p.rules.count t)
+  tight_worth : (t : ℕ → ℕ) → Tight p t → worth (sorted t p.rules.count) ≡ value (second_and_cost cost p.rules.count t)
   unfolding worth
   tight_worth t tight =
       let rs = sorted t p.rules.count in
       ap worth_of (tight_earliest p sound first opens t tight) ∙ ap value (pair_all p cost sound t rs (feasible_lands p t sound tight.feasible))
 
   -- the earliest landings of the first of the cheapest orders
-  built : LeastEnd p.rules.count LandsEarliest decide_lands Before before_total before_chain p.rules.count (λ rs. rs) → (u : ℕ → ℕ) × FirstBest p (λ v. value (pair_at cost p.rules.count v)) u
+  built : LeastEnd p.rules.count LandsEarliest decide_lands Before before_total before_chain p.rules.count (λ rs. rs) → (u : ℕ → ℕ) × FirstBest p (λ v. value (second_and_cost cost p.rules.count v)) u
   unfolding Before worth
   built a =
       let n = p.rules.count in
@@ -130,7 +130,7 @@ module _ (p : RankedProblem) (sound : SoundProblem p) (first : ℕ → ℕ → O
       let et = earliest_tight p sound first opens zs legal whole (ap (earliest first (next_from p)) lands.1 ∙ is) in
       let tf = landing_trail_feasible p cost sound zs legal lands.0 whole in
       let u = second_in zs in
-      let worth_is : worth rs ≡ value (pair_at cost n u) = ap worth_of is ∙ ap value tf.1 in (
+      let worth_is : worth rs ≡ value (second_and_cost cost n u) = ap worth_of is ∙ ap value tf.1 in (
         u,
         record {
           best = record {
@@ -157,7 +157,7 @@ module _ (p : RankedProblem) (sound : SoundProblem p) (first : ℕ → ℕ → O
       )
 
   -- where a map is feasible there is a first best one
-  pub first_best_exists : (t : ℕ → ℕ) → Feasible p t → (u : ℕ → ℕ) × FirstBest p (λ v. value (pair_at cost p.rules.count v)) u
+  pub first_best_exists : (t : ℕ → ℕ) → Feasible p t → (u : ℕ → ℕ) × FirstBest p (λ v. value (second_and_cost cost p.rules.count v)) u
   first_best_exists t f = elim (least_end p.rules.count LandsEarliest decide_lands Before before_total before_chain p.rules.count (λ rs. rs)) [
     | inl a ↦ built a
     | inr none ↦ absurd (none (sorted t p.rules.count) (sorted_ranks t) (feasible_ordered t f).lands)

@@ -9,7 +9,7 @@ use Rattle.cps_theory.specs.Labels.{NeverCheaper, NoWorse, Pair}
 use Rattle.cps_theory.specs.LegalPrefix.{Legal}
 use Rattle.cps_theory.specs.Patterns.{PatternNode, PatternPermits, pattern_newest, pattern_node, pattern_push}
 use Rattle.cps_theory.specs.ClosedSets.{ClosedNodes}
-use Rattle.cps_theory.specs.Feasible.{Feasible, LandsAllRanks, RankedProblem, SoundProblem, at_seconds, greatest, next_from, pair_at, second_in}
+use Rattle.cps_theory.specs.Feasible.{Feasible, LandsAllRanks, RankedProblem, SoundProblem, at_seconds, greatest, next_from, second_and_cost, second_in}
 use Rattle.cps_theory.specs.laws.ClosedSets.{closed_landings_optimal, closed_landings_infeasible}
 use Rattle.cps_theory.specs.laws.FeasibleOrder.{at_seconds_agree, ranks_at, lands_feasible, feasible_lands, cost_all, last_greatest}
 use Rattle.cps_theory.specs.laws.FrozenFront.{each_fits_distinct}
@@ -34,7 +34,7 @@ at_second_in (x ∷ xs) d =
 
 module _ (p : RankedProblem) (cost : ℕ → ℕ → ℕ) (sound : SoundProblem p) where
   -- the pair of a whole order is that of the map
-  pub pair_all : (t : ℕ → ℕ) (rs : List ℕ) → LandsAllRanks p t rs → pair_of cost (at_seconds t rs) ≡ pair_at cost p.rules.count t
+  pub pair_all : (t : ℕ → ℕ) (rs : List ℕ) → LandsAllRanks p t rs → pair_of cost (at_seconds t rs) ≡ second_and_cost cost p.rules.count t
   pair_all t rs l = ap₂ (λ a b. (a, b)) (le_antisymm (low rs l) (greatest_least t p.rules.count (latest_landing (at_seconds t rs)).1 (last_greatest p t sound rs l))) (cost_all p t sound cost rs l)
     where
       low : (rs : List ℕ) → LandsAllRanks p t rs → (latest_landing (at_seconds t rs)).1 ≤ greatest t p.rules.count
@@ -42,14 +42,14 @@ module _ (p : RankedProblem) (cost : ℕ → ℕ → ℕ) (sound : SoundProblem 
       low (r ∷ rs) l = at_most_greatest t p.rules.count r (in_from_one p.rules r (r ∷ rs) (legal_each_fits p.rules (r ∷ rs) l.legal) (inl refl))
 
   -- feasible seconds make a landed legal order of all flights, with their pair
-  pub feasible_landing_trail : (t : ℕ → ℕ) → Feasible p t → (xs : List Landing) × Legal p.rules (ranks xs) × Landed (λ r u. p.is_open r u ≡ true) (next_from p) xs × (length (ranks xs) ≡ p.rules.count) × (pair_of cost xs ≡ pair_at cost p.rules.count t)
+  pub feasible_landing_trail : (t : ℕ → ℕ) → Feasible p t → (xs : List Landing) × Legal p.rules (ranks xs) × Landed (λ r u. p.is_open r u ≡ true) (next_from p) xs × (length (ranks xs) ≡ p.rules.count) × (pair_of cost xs ≡ second_and_cost cost p.rules.count t)
   feasible_landing_trail t f =
       let rs = sorted t p.rules.count in
       let l = feasible_lands p t sound f in
       (at_seconds t rs, subst (Legal p.rules) (sym (ranks_at t rs)) l.legal, l.landed, ap length (ranks_at t rs) ∙ l.whole, pair_all t rs l)
 
   -- and such an order makes feasible seconds
-  pub landing_trail_feasible : (xs : List Landing) → Legal p.rules (ranks xs) → Landed (λ r u. p.is_open r u ≡ true) (next_from p) xs → length (ranks xs) ≡ p.rules.count → Feasible p (second_in xs) × (pair_of cost xs ≡ pair_at cost p.rules.count (second_in xs))
+  pub landing_trail_feasible : (xs : List Landing) → Legal p.rules (ranks xs) → Landed (λ r u. p.is_open r u ≡ true) (next_from p) xs → length (ranks xs) ≡ p.rules.count → Feasible p (second_in xs) × (pair_of cost xs ≡ second_and_cost cost p.rules.count (second_in xs))
   landing_trail_feasible xs legal landed whole =
       let e = at_second_in xs (each_fits_distinct p.rules (ranks xs) (legal_each_fits p.rules (ranks xs) legal)) in
       let l : LandsAllRanks p (second_in xs) (ranks xs) = record { legal = legal; whole = whole; landed = subst (Landed (λ r u. p.is_open r u ≡ true) (next_from p)) (sym e) landed } in
@@ -61,7 +61,7 @@ module _ (p : RankedProblem) (cost : ℕ → ℕ → ℕ) (sound : SoundProblem 
       ones : (a r : ℕ) → p.rules.before a r ≡ true → 1 ≤ a
       ones a r b = (sound.ranked a r b).0
 
-      pub closed_certificate_optimal : (v : ℕ) → ((w : PatternNode) (q : Pair) → w.0 ≡ p.rules.count → Lists w q → v ≤ value q) → (t : ℕ → ℕ) → Feasible p t → v ≤ value (pair_at cost p.rules.count t)
+      pub closed_certificate_optimal : (v : ℕ) → ((w : PatternNode) (q : Pair) → w.0 ≡ p.rules.count → Lists w q → v ≤ value q) → (t : ℕ → ℕ) → Feasible p t → v ≤ value (second_and_cost cost p.rules.count t)
       closed_certificate_optimal v final t f =
           let x = feasible_landing_trail t f in
           subst (λ q. v ≤ value q) x.4 (closed_landings_optimal (λ r u. p.is_open r u ≡ true) first (next_from p) cost opens (next_later p) dearer p.rules ones Lists c value mono v final x.0 x.1 x.2 x.3)

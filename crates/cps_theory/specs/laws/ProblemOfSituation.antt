@@ -5,7 +5,7 @@ use Rattle.std.proofs.lemmas.List.Sorted.{sum_by-IsPermutation}
 use Rattle.std.proofs.lemmas.List.Sums.{sum_by-cons}
 use Rattle.cps_theory.specs.RankLists.{In, IsRank, upto}
 use Rattle.cps_theory.specs.Feasible.{Feasible, RankedProblem, earlier, total}
-use Rattle.cps_theory.specs.Freeze.{KeepsShift, place_in, rank_in}
+use Rattle.cps_theory.specs.Freeze.{KeepsCountedShift, place_in, rank_in}
 use Rattle.cps_theory.specs.NumberedSituation.{AllSeparated, FeasibleIn, NumberedSituation, ProblemOf, SoundSituation, active}
 use Rattle.cps_theory.specs.laws.FrozenSeparation.{joined_apart}
 use Rattle.cps_theory.specs.laws.Members.{in_append, append_in}
@@ -94,7 +94,7 @@ module _ (s : NumberedSituation) (p : RankedProblem) (at : ℕ → ℕ) (sound :
         let w = of.at_all x i in
         let a = f.not_early w.0 w.1 in
         let b = f.not_late w.0 w.1 in
-        subst (KeepsShift s.most s.back s.comes_before t s.waiting) w.2 (omega (arith, rank_is w.0 w.1, place_is t w.0, of.most_is), omega (arith, rank_is w.0 w.1, place_is t w.0, of.back_is w.0));
+        subst (KeepsCountedShift s.most s.back s.comes_before t s.waiting) w.2 (omega (arith, rank_is w.0 w.1, place_is t w.0, of.most_is), omega (arith, rank_is w.0 w.1, place_is t w.0, of.back_is w.0));
   }
     where
       only : s.frozen ≡ [] → (a : ℕ) → In a (active s) → In a s.waiting

@@ -2,14 +2,14 @@
 use Rattle.std.proofs.Common.{◌≡◌, ◌≢◌, ℕ, suc, ◌+◌, ◌-◌, ◌<◌, ◌≤◌, inl, inr, List, [], ◌∷◌, map, Bool, true, false, ◌&&◌, ltb, leb, max, nat_lt, arith, refl, ap}
 use Rattle.std.proofs.lemmas.Bool.{cases_Bool, ltb-true, lt-ltb, le-ltb, le-leb, and_from}
 use Rattle.cps_theory.specs.RankLists.{Distinct, In}
-use Rattle.cps_theory.specs.Freeze.{FirstCome, KeepsShift, frozen_of, overtook, staying_of}
+use Rattle.cps_theory.specs.Freeze.{FirstCome, KeepsCountedShift, frozen_of, overtook, staying_of}
 use Rattle.cps_theory.specs.laws.Members.{distinct_filter, in_filter}
 use Rattle.cps_theory.specs.laws.RankCounts.{count_length, count_map, count_parts, count_split, count_stricter, count_weaker, count, count_is, count_between}
 
 pub not_before_itself : (comes_before : ℕ → ℕ → Bool) → FirstCome comes_before → (f : ℕ) → comes_before f f ≡ false
 not_before_itself comes_before order f = elim (cases_Bool (comes_before f f)) [ inl e ↦ order.one_way f f e | inr e ↦ e ]
 
-module _ (comes_before : ℕ → ℕ → Bool) (order : FirstCome comes_before) (t : ℕ → ℕ) (waiting : List ℕ) (k h : ℕ) (back : ℕ → ℕ) (differ : Distinct waiting) (shift : (f : ℕ) → In f waiting → KeepsShift k back comes_before t waiting f) where
+module _ (comes_before : ℕ → ℕ → Bool) (order : FirstCome comes_before) (t : ℕ → ℕ) (waiting : List ℕ) (k h : ℕ) (back : ℕ → ℕ) (differ : Distinct waiting) (shift : (f : ℕ) → In f waiting → KeepsCountedShift k back comes_before t waiting f) where
   rank : ℕ → ℕ
   rank f = suc (count (λ g. comes_before g f) waiting)
 
@@ -68,7 +68,7 @@ module _ (comes_before : ℕ → ℕ → Bool) (order : FirstCome comes_before) 
       omega arith
 
   -- so a flight that stays keeps the rule, also if it may go back less by as many as overtook it
-  pub stays_shifted : (f : ℕ) → In f waiting → h ≤ t f → KeepsShift k (λ g. back g - overtook comes_before t h waiting g) comes_before t (staying_of t h waiting) f
+  pub stays_shifted : (f : ℕ) → In f waiting → h ≤ t f → KeepsCountedShift k (λ g. back g - overtook comes_before t h waiting g) comes_before t (staying_of t h waiting) f
   unfolding rank place
   stays_shifted f i at =
       let early = λ (g : ℕ). nat_lt (t g) h in

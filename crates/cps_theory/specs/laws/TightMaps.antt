@@ -5,7 +5,7 @@ use Rattle.cps_theory.specs.RankLists.{Distinct, In, IsRank, upto}
 use Rattle.cps_theory.specs.Retiming.{IsFirstOpen}
 use Rattle.cps_theory.specs.LandingTrail.{Landed}
 use Rattle.cps_theory.specs.Labels.{NeverCheaper, NoWorse, Pair}
-use Rattle.cps_theory.specs.Feasible.{Feasible, IsBest, LandsAllRanks, RankedProblem, SameOrder, SoundProblem, Tight, at_seconds, earliest, greatest, next_from, pair_at, second_in, total}
+use Rattle.cps_theory.specs.Feasible.{Feasible, IsBest, LandsAllRanks, RankedProblem, SameOrder, SoundProblem, Tight, at_seconds, earliest, greatest, next_from, second_and_cost, second_in, total}
 use Rattle.cps_theory.specs.laws.EarliestLandings.{NoLater, earliest_lands, earliest_least}
 use Rattle.cps_theory.specs.laws.FeasibleOrder.{ranks_at, lands_feasible, feasible_lands, landed_descends}
 use Rattle.cps_theory.specs.laws.FrozenFront.{each_fits_distinct}
@@ -92,11 +92,11 @@ module _ (p : RankedProblem) (sound : SoundProblem p) (first : ℕ → ℕ → O
       omega arith
 
   -- of a feasible schedule of least value, the earliest landings in its order are a best and tight schedule
-  pub best_and_tight : (cost : ℕ → ℕ → ℕ) → NeverCheaper cost → (value : Pair → ℕ) → ((a b : Pair) → NoWorse a b → value a ≤ value b) → (t : ℕ → ℕ) → Feasible p t → ((u : ℕ → ℕ) → Feasible p u → value (pair_at cost p.rules.count t) ≤ value (pair_at cost p.rules.count u)) → (u : ℕ → ℕ) × IsBest p (λ v. value (pair_at cost p.rules.count v)) u × Tight p u × (value (pair_at cost p.rules.count u) ≡ value (pair_at cost p.rules.count t))
+  pub best_and_tight : (cost : ℕ → ℕ → ℕ) → NeverCheaper cost → (value : Pair → ℕ) → ((a b : Pair) → NoWorse a b → value a ≤ value b) → (t : ℕ → ℕ) → Feasible p t → ((u : ℕ → ℕ) → Feasible p u → value (second_and_cost cost p.rules.count t) ≤ value (second_and_cost cost p.rules.count u)) → (u : ℕ → ℕ) × IsBest p (λ v. value (second_and_cost cost p.rules.count v)) u × Tight p u × (value (second_and_cost cost p.rules.count u) ≡ value (second_and_cost cost p.rules.count t))
   best_and_tight cost dearer value mono t f least =
       let n = p.rules.count in
       let w = tighten t f in
-      let le = mono (pair_at cost n w.0) (pair_at cost n t) (greatest_mono n w.0 t w.3, total_mono cost dearer n w.0 t w.3) in
+      let le = mono (second_and_cost cost n w.0) (second_and_cost cost n t) (greatest_mono n w.0 t w.3, total_mono cost dearer n w.0 t w.3) in
       (w.0, record { feasible = w.1.feasible; least = λ u fu. le_trans le (least u fu) }, w.1, le_antisymm le (least w.0 w.1.feasible))
 
 -- an order has at most one tight map

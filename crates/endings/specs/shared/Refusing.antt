@@ -13,11 +13,11 @@ use Rattle.endings.specs.Faults.{begin_ending, opening_ending}
 use Rattle.endings.specs.Refusing.{refusal_of, refused_by_three, Stops, StopsOpened}
 use Rattle.endings.specs.declared.ending.Ending.{Ending}
 use Rattle.endings.specs.declared.ending.Ending.TheVariants.{Answered, Misused, Refused, NotLoaded, NotWritten, TooLong, NoMemory}
-use Rattle.endings.specs.declared.ending.Refusal.{Refusal}
-use Rattle.endings.specs.declared.ending.Refusal.TheVariants.{Opening}
+use Rattle.endings.specs.declared.ending.FilesFault.{FilesFault}
+use Rattle.endings.specs.declared.ending.FilesFault.TheVariants.{Opening}
 
 -- three files that read are refused for what they open, or not at all
-pub refused_as_read : {T F : Type 0} (kind : F → Refusal) (a : Result Aerodrome AeroFault) (f : Result (List Flight) FlightFault) (t : Result T F) →
+pub refused_as_read : {T F : Type 0} (kind : F → FilesFault) (a : Result Aerodrome AeroFault) (f : Result (List Flight) FlightFault) (t : Result T F) →
     (aerodrome : Aerodrome) (flights : List Flight) (third : T) → a ≡ Ok aerodrome → f ≡ Ok flights → t ≡ Ok third →
     refused_by_three kind a f t ≡ refusal_of aerodrome flights
 refused_as_read kind a f t aerodrome flights third a_read f_read t_read =
@@ -38,7 +38,7 @@ stops_opened aerodrome flights fault ending refused is = subst (StopsOpened aero
     go (Some f) h = ap (option_map Opening) h
 
 -- a stop for some causes is one for those that follow from them
-pub stops_by : (P Q : Refusal → Type 0) (ending : Ending) → ((cause : Refusal) → P cause → Q cause) → Stops P ending → Stops Q ending
+pub stops_by : (P Q : FilesFault → Type 0) (ending : Ending) → ((cause : FilesFault) → P cause → Q cause) → Stops P ending → Stops Q ending
 stops_by P Q (Refused cause) follows stops = follows cause stops
 stops_by P Q NoMemory follows stops = tt
 stops_by P Q (Answered answer) follows stops = absurd stops

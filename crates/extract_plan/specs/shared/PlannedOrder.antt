@@ -10,7 +10,7 @@ use Rattle.landing_rules.specs.Problem.{Problem, IsFeasibleList, IsBestList, IsT
 use Rattle.cps_theory.specs.RankLists.{In, of_rank, IsRank, upto, Distinct}
 use Rattle.cps_theory.specs.LandingTrail.{ranks}
 use Rattle.cps_theory.specs.LegalPrefix.{Legal}
-use Rattle.cps_theory.specs.Feasible.{Tight, earliest, next_from, at_seconds, second_in, greatest, total, pair_at}
+use Rattle.cps_theory.specs.Feasible.{Tight, earliest, next_from, at_seconds, second_in, greatest, total, second_and_cost}
 use Rattle.cps_theory.specs.laws.EarliestAndTight.{earliest_tight, agree_at}
 use Rattle.cps_theory.specs.laws.FeasibleOrder.{ranks_at}
 use Rattle.cps_theory.specs.laws.LeastObjective.{at_second_in}
@@ -50,7 +50,7 @@ total_rises f g (r ∷ rs) h = let a = h r (inl refl) in let b = total_rises f g
 
 pub map_value_rises : (p : Problem) (t u : ℕ → ℕ) → ((r : ℕ) → IsRank (length p.flights) r → t r ≤ u r) → value_of_map p t ≤ value_of_map p u
 map_value_rises p t u h =
-    value_rises p (pair_at (cost_at p) (length p.flights) t) (pair_at (cost_at p) (length p.flights) u) (
+    value_rises p (second_and_cost (cost_at p) (length p.flights) t) (second_and_cost (cost_at p) (length p.flights) u) (
       greatest_least t (length p.flights) (greatest u (length p.flights)) (λ r q. let a = h r q in let b = at_most_greatest u (length p.flights) r q in omega arith),
       total_rises (λ r. cost_at p r (t r)) (λ r. cost_at p r (u r)) (upto (length p.flights)) (λ r i. (costs_rise p).mono r (t r) (u r) (h r (in_upto (length p.flights) r i))),
     )

@@ -5,7 +5,7 @@ use Rattle.flight_file.specs.Reading.{flights_of}
 use Rattle.plan_file.specs.Reading.{plan_of}
 use Rattle.endings.specs.Refusing.{refused_by_three}
 use Rattle.endings.specs.declared.ending.Answer.{Answer}
-use Rattle.endings.specs.declared.ending.Refusal.TheVariants.{Plan}
+use Rattle.endings.specs.declared.ending.FilesFault.TheVariants.{Plan}
 use Rattle.endings.specs.shared.Refusing.{refused_as_read}
 use Rattle.inquiry_commands.specs.Audit.{AdmitsAudit}
 

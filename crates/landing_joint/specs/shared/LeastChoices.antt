@@ -10,7 +10,7 @@ use Rattle.cps_theory.specs.Separation.{Landing}
 use Rattle.cps_theory.specs.LandingTrail.{cost_of, latest_landing, pair_of, ranks}
 use Rattle.cps_theory.specs.Labels.{Pair}
 use Rattle.cps_theory.specs.Patterns.{PatternNode, PatternPermits, pattern_newest, pattern_node, pattern_push}
-use Rattle.cps_theory.specs.Feasible.{Feasible, SoundProblem, at_seconds, next_from, pair_at, second_in}
+use Rattle.cps_theory.specs.Feasible.{Feasible, SoundProblem, at_seconds, next_from, second_and_cost, second_in}
 use Rattle.cps_theory.specs.ProblemNetwork.{LandedIn}
 use Rattle.cps_theory.specs.CompletingPairs.{AllLow, Choice, KeptCompleting, NoEarlierNoDearer}
 use Rattle.cps_theory.specs.FirstBest.{BuiltByLeastChoices, CompletesNode}
@@ -39,7 +39,7 @@ module _ (p : lists'.Problem) (sound : SoundProblem (ranked p)) (passed : (r : �
   at_value : (q : Pair) × (value_at p q ≡ v)
   at_value =
       let a = value_is.attained in
-      (pair_at (cost_at p) (length p.flights) (of_rank 0 a.0), sym (list_value p a.0 a.1.one_each) ∙ a.2)
+      (second_and_cost (cost_at p) (length p.flights) (of_rank 0 a.0), sym (list_value p a.0 a.1.one_each) ∙ a.2)
 
   no_less : (u : ℕ → ℕ) → Feasible (ranked p) u → v ≤ value_of_map p u
   no_less u f =

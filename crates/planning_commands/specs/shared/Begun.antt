@@ -6,7 +6,7 @@ use Rattle.aerodrome_file.specs.Reading.{aerodrome_of}
 use Rattle.flight_file.specs.Reading.{flights_of}
 use Rattle.event_log.specs.Reading.{events_of}
 use Rattle.endings.specs.Refusing.{refused_by_three}
-use Rattle.endings.specs.declared.ending.Refusal.TheVariants.{Events}
+use Rattle.endings.specs.declared.ending.FilesFault.TheVariants.{Events}
 use Rattle.endings.specs.shared.Refusing.{refused_as_read}
 use Rattle.planning_commands.specs.Replay.{IsBegun}
 

@@ -6,7 +6,7 @@ use Rattle.cps_network.specs.Pairs.{list_at}
 use Rattle.replan.specs.Kept.{held_of}
 use Rattle.replan.specs.Readers.{stage_in, lists_in}
 use Rattle.replan.specs.WindowNodes.{told_at}
-use Rattle.cert_writer.specs.Gathered.{AreGathered, IsInRange}
+use Rattle.cert_writer.specs.Gathered.{AreGathered, IsPairInRange}
 use Rattle.cert_writer.proofs.GatherLemmas.{window_joined, window_slot}
 use Rattle.cert_writer.proofs.gather.gather_all.Goals as goal
 
@@ -41,7 +41,7 @@ loop-i-preserved c =
     let more = window_joined p c.requires.laws.placed held stage number costs n c.requires.windows slots hs i lt pairs c.loop-i.invariant new
     (subst (λ (l : List Pair). (q : Pair) → InPairs q new → InPairs q l ⊎ InPairs q (list_at lists i)) old c.in_ok-join.ensures.found)
     (subst (λ (l : List Pair). (q : Pair) → InPairs q l ⊎ InPairs q (list_at lists i) → (o : Pair) × InPairs o new × NoWorse o q) old c.in_ok-join.ensures.covers)
-    (subst (λ (l : List Pair). All IsInRange l → All IsInRange new) old c.in_ok-join.ensures.in_range) in
+    (subst (λ (l : List Pair). All IsPairInRange l → All IsPairInRange new) old c.in_ok-join.ensures.in_range) in
     subst (λ (m : ℕ). AreGathered p s lists (i + 1) (set pairs m new)) (sym slot) more
 
 pub returns : goal.returns

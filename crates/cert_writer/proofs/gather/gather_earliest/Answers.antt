@@ -5,7 +5,7 @@ use Rattle.cps_theory.specs.Labels.{InPairs, NoWorse, Pair}
 use Rattle.cps_network.specs.Pairs.{list_at, pair_at}
 use Rattle.replan.specs.Kept.{held_of}
 use Rattle.replan.specs.WindowNodes.{told_at}
-use Rattle.cert_writer.specs.Gathered.{IsInRange}
+use Rattle.cert_writer.specs.Gathered.{IsPairInRange}
 use Rattle.cert_writer.proofs.GatherLemmas.{earliest_gathered, no_earliest, one_earliest, AreEarliest}
 use Rattle.cert_writer.proofs.gather.gather_earliest.Goals as goal
 
@@ -42,7 +42,7 @@ loop-j-preserved c =
     (subst (λ (e : Pair). (q : Pair) → InPairs q new → InPairs q c.index_mut.result.now ⊎ (q ≡ e)) earliest c.in_ok-keep.ensures.found))
     (subst (λ (l : List Pair). (q : Pair) → InPairs q l ⊎ (q ≡ pair_at least j) → (o : Pair) × InPairs o new × NoWorse o q) old
     (subst (λ (e : Pair). (q : Pair) → InPairs q c.index_mut.result.now ⊎ (q ≡ e) → (o : Pair) × InPairs o new × NoWorse o q) earliest c.in_ok-keep.ensures.covers))
-    (subst (λ (l : List Pair). All IsInRange l → All IsInRange new) old c.in_ok-keep.ensures.in_range) in
+    (subst (λ (l : List Pair). All IsPairInRange l → All IsPairInRange new) old c.in_ok-keep.ensures.in_range) in
     subst (λ (m : ℕ). AreEarliest slots least room (j + 1) (set pairs m new)) (sym slot) more
 
 pub returns : goal.returns

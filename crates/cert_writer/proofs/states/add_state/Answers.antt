@@ -9,7 +9,7 @@ use Rattle.cert_writer.specs.StageEntries.{IsEntryOf}
 use Rattle.replan.specs.Held.{HeldProblem}
 use Rattle.replan.specs.Kept.{held_of}
 use Rattle.replan.specs.Readers.{stage_in, lists_in}
-use Rattle.cert_writer.specs.Gathered.{HasBetter, HasOnly, IsInRange}
+use Rattle.cert_writer.specs.Gathered.{HasBetter, HasOnly, IsPairInRange}
 use Rattle.certificate.specs.Patterns.{number_of}
 use Rattle.cert_writer.specs.Written.{AreWrittenBelow, IsGathered}
 use Rattle.cert_writer.proofs.WriteLemmas.{AreBestAt, stage_held, slot_within, slot_is, found_in, covers_in, none_best, last_known, written_in_form, written_more}
@@ -48,7 +48,7 @@ best-requires c =
     let slot = ones * 8 + c.args.number % 8 in
     let low = subst (λ (m : ℕ). ones < 2 ^ (2 * m)) c.most_shift-k.ensures.k c.turned-ones.ensures.below in
     let within = slot_within p.k c.args.number ones (length slots) low c.requires.gathered.room in
-    subst (λ (l : List Pair). All IsInRange l) (sym (slot_is slots slot within c.index.result.now c.index.ensures)) (c.requires.gathered.in_range slot)
+    subst (λ (l : List Pair). All IsPairInRange l) (sym (slot_is slots slot within c.index.result.now c.index.ensures)) (c.requires.gathered.in_range slot)
 
 pub returns-then-is_empty : goal.returns-then-is_empty
 returns-then-is_empty c =

@@ -1,14 +1,14 @@
 use Rattle.std.proofs.Common.{◌≡◌, ℕ, List, [], ◌∷◌, ap, ap₂, sym, ◌∙◌}
 use Rattle.std.specs.Prelude.{codes}
-use Rattle.endings.specs.Lines.{text_of, letter_text, table_line}
+use Rattle.endings.specs.Lines.{line_text, letter_text, table_line}
 use Rattle.endings.proofs.Writing.{says}
 use Rattle.endings.proofs.aerodrome_lines.say_table.Goals as goal
 
 abbrev range : List ℕ → List ℕ → List ℕ
-range a b = text_of (codes "cps: aerodrome: table range " ∷ a ∷ codes " " ∷ b ∷ codes "\n" ∷ [])
+range a b = line_text (codes "cps: aerodrome: table range " ∷ a ∷ codes " " ∷ b ∷ codes "\n" ∷ [])
 
 abbrev triangle : List ℕ → List ℕ → List ℕ → List ℕ
-triangle a b c = text_of (codes "cps: aerodrome: table triangle " ∷ a ∷ codes " " ∷ b ∷ codes " " ∷ c ∷ codes "\n" ∷ [])
+triangle a b c = line_text (codes "cps: aerodrome: table triangle " ∷ a ∷ codes " " ∷ b ∷ codes " " ∷ c ∷ codes "\n" ∷ [])
 
 pub returns-in-OutOfRange : goal.returns-in-OutOfRange
 returns-in-OutOfRange g c = says _ _ _ _ _ (ap₂ range c.letter.ensures c.letter-in-OutOfRange.ensures ∙ ap table_line (sym c.in-OutOfRange.is)) c.put_all.ensures

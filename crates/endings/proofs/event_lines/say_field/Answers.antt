@@ -1,13 +1,13 @@
 use Rattle.std.proofs.Common.{◌≡◌, ℕ, List, [], ◌∷◌, ap, ap₂, ◌∙◌, decimal}
 use Rattle.std.specs.Prelude.{codes}
-use Rattle.endings.specs.Lines.{text_of, column_word, field_word, field_part, field_why}
+use Rattle.endings.specs.Lines.{line_text, column_word, field_word, field_part, field_why}
 use Rattle.endings.proofs.Writing.{says}
 use Rattle.endings.proofs.event_lines.say_field.Goals as goal
 
 -- the line by its texts
 abbrev field_line : List ℕ → List ℕ → List ℕ → List ℕ → List ℕ → List ℕ
 field_line n column word part why =
-    text_of (codes "cps: events: record " ∷ n ∷ codes ": " ∷ column ∷ codes " " ∷ word ∷ part ∷ why ∷ codes "\n" ∷ [])
+    line_text (codes "cps: events: record " ∷ n ∷ codes ": " ∷ column ∷ codes " " ∷ word ∷ part ∷ why ∷ codes "\n" ∷ [])
 
 pub returns : goal.returns
 returns g c =

@@ -2,14 +2,14 @@ use Rattle.std.proofs.Common.{◌≡◌, ℕ, List, [], ◌∷◌, refl, ap, ap�
 use Rattle.std.specs.Prelude.{codes}
 use Rattle.flight_file.specs.declared.fault.FlightCause.{FlightCause}
 use Rattle.flight_file.specs.declared.fault.FlightCause.TheVariants as flight
-use Rattle.endings.specs.Lines.{cause_line, text_of}
+use Rattle.endings.specs.Lines.{cause_line, line_text}
 use Rattle.endings.specs.Pieces.{cause_words, cause_word, cause_part, cause_why}
 use Rattle.endings.proofs.Writing.{says}
 use Rattle.endings.proofs.flight_lines.say_cause.Goals as goal
 
 -- the line by its texts
 abbrev record_line : List ℕ → List ℕ → List ℕ → List ℕ → List ℕ → List ℕ
-record_line n words word part why = text_of (codes "cps: flights: record " ∷ n ∷ words ∷ word ∷ part ∷ why ∷ codes "\n" ∷ [])
+record_line n words word part why = line_text (codes "cps: flights: record " ∷ n ∷ words ∷ word ∷ part ∷ why ∷ codes "\n" ∷ [])
 
 by_pieces : (n : List ℕ) (cause : FlightCause) → record_line n (cause_words cause) (cause_word cause) (cause_part cause) (cause_why cause) ≡ cause_line n cause
 by_pieces n flight.Header = refl

@@ -1,12 +1,12 @@
 use Rattle.std.proofs.Common.{◌≡◌, ℕ, List, [], ◌∷◌, ap₂, ◌∙◌, decimal}
 use Rattle.std.specs.Prelude.{codes}
-use Rattle.endings.specs.Lines.{text_of, field_word, field_part, field_why}
+use Rattle.endings.specs.Lines.{line_text, field_word, field_part, field_why}
 use Rattle.endings.proofs.Writing.{says}
 use Rattle.endings.proofs.trial_lines.say_value.Goals as goal
 
 -- the line by its texts
 abbrev value_line : List ℕ → List ℕ → List ℕ → List ℕ → List ℕ
-value_line n word part why = text_of (codes "cps: trials: record " ∷ n ∷ codes ": value " ∷ word ∷ part ∷ why ∷ codes "\n" ∷ [])
+value_line n word part why = line_text (codes "cps: trials: record " ∷ n ∷ codes ": value " ∷ word ∷ part ∷ why ∷ codes "\n" ∷ [])
 
 pub returns : goal.returns
 returns g c =

@@ -12,7 +12,7 @@ use Rattle.wake_table.specs.declared.category.Category.{Category}
 use Rattle.landing_rules.specs.Problem as rules
 use Rattle.cps_problem.specs.WellFormed.{ComesBefore, IsWellFormed}
 use Rattle.std.proofs.lemmas.List.{length-map}
-use Rattle.cps_problem.specs.Seen.{problem_of, waiting_of}
+use Rattle.cps_problem.specs.Seen.{seen_problem, waiting_of}
 use Rattle.crate_tests.proofs.bank.Bank.problem.Goals as goal
 
 comes_before : (f g : rules.Waiting) → f.eta < g.eta → ComesBefore f g
@@ -43,7 +43,7 @@ well_formed p table few horizon last base ranks count ordered ranges = record {
 pub build-requires : goal.build-requires
 build-requires c = λ table.
     let count : length (map waiting_of c.args.self.waiting.items) ≡ length c.args.self.waiting.items = length-map c.args.self.waiting.items waiting_of in
-    well_formed (problem_of (record { table = c.in_ok-table.table; k = c.args.self.k; objective = c.args.objective; horizon = 0; last = None; base = 0 }) c.args.self.waiting.items c.one_pair.result)
+    well_formed (seen_problem (record { table = c.in_ok-table.table; k = c.args.self.k; objective = c.args.objective; horizon = 0; last = None; base = 0 }) c.args.self.waiting.items c.one_pair.result)
     table c.args.self.near refl refl refl
     (λ i j must. let pair = c.one_pair.ensures i j must in (
       pair.0,
