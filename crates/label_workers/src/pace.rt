@@ -1,6 +1,5 @@
 //! Whether threads come early enough to be worth starting. No clause speaks of it, and no label hangs on it.
 
-use cps_outside::Gate;
 use std::hint::spin_loop;
 use std::sync::atomic::{AtomicU64, Ordering};
 
@@ -41,49 +40,45 @@ impl Pace {
     }
 }
 
-// The gate of the two lanes of a column, which sees how they come along.
+// How the two lanes of a column come along.
 #[derive(Drop)]
-pub(crate) struct Watch<'a, G> {
-    gate: &'a G,
+pub(crate) struct Progress {
     pieces: u64,
-    passed: AtomicU64,
+    filled: AtomicU64,
     late: AtomicU64,
 }
 
-impl<'a, G: Gate> Gate for Watch<'a, G> {
-    fn pass(&self, piece: u32) {
-        self.gate.pass(piece);
-        self.passed.fetch_add(1, Ordering::SeqCst);
-    }
-}
-
-impl<'a, G> Watch<'a, G> {
-    // None of so many pieces has passed the gate.
-    pub(crate) fn new(gate: &'a G, pieces: u64) -> Watch<'a, G> {
-        Watch {
-            gate,
+impl Progress {
+    // None of so many pieces is filled.
+    pub(crate) fn of(pieces: u64) -> Progress {
+        Progress {
             pieces,
-            passed: AtomicU64::new(0),
+            filled: AtomicU64::new(0),
             late: AtomicU64::new(0),
         }
     }
 
+    // A piece is filled.
+    pub(crate) fn advance(&self) {
+        self.filled.fetch_add(1, Ordering::SeqCst);
+    }
+
     // A lane ends. The other is late where more than an eighth of a lane is left to it, since then a thread costs more than it
-    // gains, or where it does not come to its last piece soon.
+    // gains, or where it does not end soon.
     pub(crate) fn end(&self) {
         let left = self
             .pieces
-            .saturating_sub(self.passed.load(Ordering::SeqCst));
+            .saturating_sub(self.filled.load(Ordering::SeqCst));
         let gains = self.pieces < TELLING || left <= self.pieces / 16;
         if !gains || !self.ends_soon() {
             self.late.store(1, Ordering::SeqCst);
         }
     }
 
-    // Whether all pieces have passed after so many looks at most.
+    // Whether all pieces are filled after so many looks at most.
     fn ends_soon(&self) -> bool {
         for _ in 0..LOOKS {
-            if self.passed.load(Ordering::SeqCst) >= self.pieces {
+            if self.filled.load(Ordering::SeqCst) >= self.pieces {
                 return true;
             }
             spin_loop();

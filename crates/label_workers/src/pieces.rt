@@ -4,7 +4,7 @@ ghost use Rattle.std.specs.Prelude.{◌≡◌, ℕ, ◌+◌, ◌^◌, ◌<◌, �
 ghost use Rattle.std.specs.Fork.{AcceptsAt, ChangesAt};
 ghost use Rattle.label_workers.specs.Pieces.{AcceptsParts, IsOfPart};
 
-use crate::pace::{Pace, Watch};
+use crate::pace::{Pace, Progress};
 use cps_outside::Gate;
 use std::thread;
 use std::thread::Threads;
@@ -38,20 +38,21 @@ pub fn fill_pieces<R: Threads + Sync, G: Gate + Sync, F: Fn(usize, &mut [u32]) +
         → IsOfPart F.Fn f.now 0 (length column.old) i (slice_index column.new i) }
 {
     if column.len() <= PIECE || pace.rests() {
-        fill_lane(column, 0, gate, f);
+        fill_lane(column, 0, gate, f, None);
         return pace.rested();
     }
-    let watch = Watch::new(gate, column.len().div_ceil(PIECE) as u64);
-    fill_lanes(rt, column, &watch, f);
-    watch.pace()
+    let progress = Progress::of(column.len().div_ceil(PIECE) as u64);
+    fill_lanes(rt, column, gate, f, &progress);
+    progress.pace()
 }
 
 // The lanes of a column, which may run at once.
 fn fill_lanes<R: Threads + Sync, G: Gate + Sync, F: Fn(usize, &mut [u32]) + Sync>(
     rt: &R,
     column: &mut [u32],
-    watch: &Watch<'_, G>,
+    gate: &G,
     f: &F,
+    progress: &Progress,
 )
     requires few { length column.old < 2 ^ 32 }
     requires callable { AcceptsParts F.Fn f.now 0 (length column.old) }
@@ -65,8 +66,8 @@ fn fill_lanes<R: Threads + Sync, G: Gate + Sync, F: Fn(usize, &mut [u32]) + Sync
             → IsOfPart F.Fn f.entry.now start (start + length part.entry.now) (start + k)
             (slice_index part.exit.now k) }
     {
-        fill_lane(part, start, watch, f);
-        watch.end();
+        fill_lane(part, start, gate, f, Some(progress));
+        progress.end();
     };
     let size = lane_of(column.len());
     thread::for_each_chunk_mut(rt, column, size, &lane);
@@ -108,8 +109,15 @@ fn fill_piece<F: Fn(usize, &mut [u32])>(
     call_at(&mut part[from..to], start + from, f);
 }
 
-// The part of a column that begins at entry `start`, piece by piece, each behind the gate.
-fn fill_lane<G: Gate, F: Fn(usize, &mut [u32])>(part: &mut [u32], start: usize, gate: &G, f: &F)
+// The part of a column that begins at entry `start`, piece by piece, each behind the gate. The progress is that of a column of
+// two lanes.
+fn fill_lane<G: Gate, F: Fn(usize, &mut [u32])>(
+    part: &mut [u32],
+    start: usize,
+    gate: &G,
+    f: &F,
+    progress: Option<&Progress>,
+)
     requires few { start + length part.old < 2 ^ 32 }
     requires callable { AcceptsParts F.Fn f.now start (start + length part.old) }
     ensures { (k : ℕ) → k < length part.old
@@ -121,5 +129,8 @@ fn fill_lane<G: Gate, F: Fn(usize, &mut [u32])>(part: &mut [u32], start: usize, 
         let from = piece * PIECE;
         gate.pass(((start + from) / PIECE) as u32);
         fill_piece(part, from, len.min(from + PIECE), start, f);
+        if let Some(progress) = progress {
+            progress.advance();
+        }
     }
 }
