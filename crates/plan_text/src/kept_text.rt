@@ -1,4 +1,4 @@
-ghost use Rattle.std.specs.Prelude.{◌≡◌, ◌≤◌, ◌<◌, ◌++◌, [], ◌∷◌, OnOk, IsTrue, drop, option_map, length, map, take};
+ghost use Rattle.std.specs.Prelude.{◌≡◌, ◌≤◌, ◌++◌, [], ◌∷◌, OnOk, IsTrue, drop, option_map, length, map, take};
 ghost use Rattle.landing_rules.specs.Text.{block_text, landing_words, lines_text};
 ghost use Rattle.plan_file.specs.Shown.{shown_of};
 ghost use Rattle.plan_text.specs.Kept.{landing_of, written_text, EndAt};

@@ -1,4 +1,4 @@
-ghost use Rattle.std.specs.Prelude.{◌≡◌, ℕ, true, Option, Some, None, IfOk, IfErr, OnOk, OnErr, MatchOption, map, option_map, ⊤};
+ghost use Rattle.std.specs.Prelude.{◌≡◌, ℕ, Option, Some, None, IfOk, IfErr, OnOk, OnErr, MatchOption, map, option_map, ⊤};
 ghost use Rattle.std.specs.Option.{ForSome};
 ghost use Rattle.cps_base.specs.Tally.{raised_by};
 ghost use Rattle.landing_rules.specs.Events.{refusal, IsPlanShown, IsAcceptedStep, IsOpeningState, Step};
