@@ -1,5 +1,6 @@
 -- One frozen landing or one count more, behind others.
-use Rattle.std.proofs.Common.{◌≡◌, ℕ, ◌<◌, ◌≤◌, List, length, get_or, take, drop, ◌+◌, ◌-◌, ap, refl, ◌∙◌, Ok, true, false, ◌++◌, ◌∷◌, [], arith, length-append}
+use Rattle.std.proofs.Common.{◌≡◌, ℕ, ◌<◌, ◌≤◌, List, length, get_or, take, drop, ◌+◌, ◌-◌, ap, refl, ◌∙◌, Ok, true}
+use Rattle.std.proofs.Common.{false, ◌++◌, ◌∷◌, [], arith, length-append}
 use Rattle.std.proofs.lemmas.List.Folds.{list_any_at}
 use Rattle.std.proofs.lemmas.List.Elements.{All-push}
 use Rattle.std.proofs.lemmas.List.Quantifiers.{all_pairs_push}
@@ -14,29 +15,39 @@ use Rattle.arrivals.specs.Aerodromes.{IsFrozen, AreFrozen, ArePassed}
 use Rattle.aerodrome_file.specs.Frozen.{has_frozen, frozen_of, frozen_from}
 use Rattle.aerodrome_file.specs.Passed.{has_passed, passed_of, passed_from}
 
-pub frozen_more : (clock freeze : ℕ) (fs : List FrozenLanding) (f : FrozenLanding) → AreFrozen clock freeze fs → IsFrozen clock freeze f → has_frozen fs f.callsign ≡ false → length fs < 500 → AreFrozen clock freeze (fs ++ f ∷ [])
+pub frozen_more : (clock freeze : ℕ) (fs : List FrozenLanding) (f : FrozenLanding) → AreFrozen clock freeze fs
+    → IsFrozen clock freeze f → has_frozen fs f.callsign ≡ false → length fs < 500
+    → AreFrozen clock freeze (fs ++ f ∷ [])
 frozen_more clock freeze fs f are here new room = record {
   few = omega (arith, length-append fs (f ∷ []));
   seconds = All-push (IsFrozen clock freeze) fs f are.seconds here;
   callsigns = all_pairs_push (λ g later. g.callsign ≢ later.callsign) fs f are.callsigns (λ k d below same.
-      let alike : bytes_eq (get_or fs k d).callsign f.callsign ≡ true = (bytes_eq-Decides (get_or fs k d).callsign f.callsign).1 same in
-      let some : has_frozen fs f.callsign ≡ true = list_any_at (λ g. bytes_eq g.callsign f.callsign) fs k d below alike in
+      let alike : bytes_eq (get_or fs k d).callsign f.callsign ≡ true =
+      (bytes_eq-Decides (get_or fs k d).callsign f.callsign).1 same in
+      let some : has_frozen fs f.callsign ≡ true =
+      list_any_at (λ g. bytes_eq g.callsign f.callsign) fs k d below alike in
       absurd (cc));
 }
 
-pub passed_more : (k : ℕ) (ps : List PassedCount) (p : PassedCount) → ArePassed k ps → (1 ≤ p.count) × (p.count ≤ k) → has_passed ps p.callsign ≡ false → length ps < 60 → ArePassed k (ps ++ p ∷ [])
+pub passed_more : (k : ℕ) (ps : List PassedCount) (p : PassedCount) → ArePassed k ps → (1 ≤ p.count) × (p.count ≤ k)
+    → has_passed ps p.callsign ≡ false → length ps < 60 → ArePassed k (ps ++ p ∷ [])
 passed_more k ps p are here new room = record {
   few = omega (arith, length-append ps (p ∷ []));
   counts = All-push (λ q. (1 ≤ q.count) × (q.count ≤ k)) ps p are.counts here;
   callsigns = all_pairs_push (λ q later. q.callsign ≢ later.callsign) ps p are.callsigns (λ i d below same.
-      let alike : bytes_eq (get_or ps i d).callsign p.callsign ≡ true = (bytes_eq-Decides (get_or ps i d).callsign p.callsign).1 same in
-      let some : has_passed ps p.callsign ≡ true = list_any_at (λ q. bytes_eq q.callsign p.callsign) ps i d below alike in
+      let alike : bytes_eq (get_or ps i d).callsign p.callsign ≡ true =
+      (bytes_eq-Decides (get_or ps i d).callsign p.callsign).1 same in
+      let some : has_passed ps p.callsign ≡ true =
+      list_any_at (λ q. bytes_eq q.callsign p.callsign) ps i d below alike in
       absurd (cc));
 }
 
 -- the first of the tables that are left joins those before
-pub frozen_step : (i : ℕ) (clock freeze : ℕ) (before : List FrozenLanding) (vs : List Value) (v : Value) (e : FrozenLanding) → v ≡ get_or vs 0 v → 0 < length vs → Ok e ≡ frozen_of i clock freeze before (view v)
-    → frozen_from (i + 1) clock freeze (before ++ e ∷ []) (items_view (take (length vs - 1) (drop 1 vs))) ≡ frozen_from i clock freeze before (items_view vs)
+pub frozen_step : (i : ℕ) (clock freeze : ℕ) (before : List FrozenLanding) (vs : List Value)
+    (v : Value) (e : FrozenLanding) → v ≡ get_or vs 0 v → 0 < length vs
+    → Ok e ≡ frozen_of i clock freeze before (view v)
+    → frozen_from (i + 1) clock freeze (before ++ e ∷ [])
+    (items_view (take (length vs - 1) (drop 1 vs))) ≡ frozen_from i clock freeze before (items_view vs)
 unfolding frozen_from
 frozen_step i clock freeze before [] v e first some given = absurd (omega (arith, some))
 frozen_step i clock freeze before (w ∷ vs) v e first some given =
@@ -45,8 +56,10 @@ frozen_step i clock freeze before (w ∷ vs) v e first some given =
     ap (λ us. frozen_from (i + 1) clock freeze (before ++ e ∷ []) (items_view us)) rest ∙ rw (← here) refl
 
 -- the first of the tables that are left joins those before
-pub passed_step : (i : ℕ) (k : ℕ) (before : List PassedCount) (vs : List Value) (v : Value) (e : PassedCount) → v ≡ get_or vs 0 v → 0 < length vs → Ok e ≡ passed_of i k before (view v)
-    → passed_from (i + 1) k (before ++ e ∷ []) (items_view (take (length vs - 1) (drop 1 vs))) ≡ passed_from i k before (items_view vs)
+pub passed_step : (i : ℕ) (k : ℕ) (before : List PassedCount) (vs : List Value) (v : Value) (e : PassedCount)
+    → v ≡ get_or vs 0 v → 0 < length vs → Ok e ≡ passed_of i k before (view v)
+    → passed_from (i + 1) k (before ++ e ∷ []) (items_view (take (length vs - 1) (drop 1 vs))) ≡ passed_from i k before
+    (items_view vs)
 unfolding passed_from
 passed_step i k before [] v e first some given = absurd (omega (arith, some))
 passed_step i k before (w ∷ vs) v e first some given =

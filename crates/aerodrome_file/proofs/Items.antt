@@ -9,7 +9,8 @@ use Rattle.aerodrome_file.specs.Separations.{six_of}
 use Rattle.aerodrome_file.specs.Closures.{are_tables, items_length}
 use Rattle.aerodrome_file.specs.declared.fault.AeroFault.{AeroFault}
 
-pub six_items : (vs : List Value) (a b c d e f : Value) → length vs ≡ 6 → a ≡ get_or vs 0 a → b ≡ get_or vs 1 b → c ≡ get_or vs 2 c → d ≡ get_or vs 3 d → e ≡ get_or vs 4 e → f ≡ get_or vs 5 f
+pub six_items : (vs : List Value) (a b c d e f : Value) → length vs ≡ 6 → a ≡ get_or vs 0 a
+    → b ≡ get_or vs 1 b → c ≡ get_or vs 2 c → d ≡ get_or vs 3 d → e ≡ get_or vs 4 e → f ≡ get_or vs 5 f
     → vs ≡ a ∷ b ∷ c ∷ d ∷ e ∷ f ∷ []
 six_items [] a b c d e f n p q r s t u = absurd (omega (arith, n))
 six_items (v ∷ []) a b c d e f n p q r s t u = absurd (omega (arith, n))
@@ -39,7 +40,8 @@ pub tables_view : (vs : List Value) → are_tables (items_view vs) ≡ list_all 
 tables_view [] = refl
 tables_view (v ∷ vs) = go (view v) (tables_view vs)
   where
-    go : (d : Data) → are_tables (items_view vs) ≡ list_all is_table vs → are_tables (item d (items_view vs)) ≡ (is_some (as_table d) && list_all is_table vs)
+    go : (d : Data) → are_tables (items_view vs) ≡ list_all is_table vs
+        → are_tables (item d (items_view vs)) ≡ (is_some (as_table d) && list_all is_table vs)
     go (table ms) ih = ih
     go (string s) ih = refl
     go (integer n) ih = refl

@@ -1,5 +1,6 @@
 -- What a version does not have is absent.
-use Rattle.std.proofs.Common.{◌≡◌, zero, suc, ℕ, pos, ◌<◌, ◌≤◌, List, [], true, false, Option, Some, None, Ok, inl, inr, refl, arith}
+use Rattle.std.proofs.Common.{◌≡◌, zero, suc, ℕ, pos, ◌<◌, ◌≤◌, List, [], true, false, Option, Some, None, Ok, inl}
+use Rattle.std.proofs.Common.{inr, refl, arith}
 use Rattle.std.specs.Prelude.{codes, ◌==◌, ◌&&◌, nat_le, nat_lt}
 use Rattle.std.specs.Ordering.{nat_cmp}
 use Rattle.std.proofs.Common.{Ordering}
@@ -23,7 +24,8 @@ use Rattle.aerodrome_file.specs.Passed.{passed_in}
 use Rattle.arrivals.specs.Aerodromes.{is_delay, most_shift, is_beyond}
 
 -- a key that a part does not have is at no value
-pub only_absent : (v : ℕ) (p : Part) (k : List ℕ) (ms : Members) → only v p ms ≡ Ok (tt {0}) → is_known v p k ≡ false → get_member k ms ≡ None
+pub only_absent : (v : ℕ) (p : Part) (k : List ℕ) (ms : Members) → only v p ms ≡ Ok (tt {0})
+    → is_known v p k ≡ false → get_member k ms ≡ None
 unfolding only
 only_absent v p k no_members e unknown = refl
 only_absent v p k (member l d ms) e unknown =
@@ -34,7 +36,8 @@ only_absent v p k (member l d ms) e unknown =
           by (slice_cmp nat_cmp k l) refl known (only_absent v p k ms rest unknown)
     ]
   where
-    by : (o : Ordering) → slice_cmp nat_cmp k l ≡ o → is_known v p l ≡ true → get_member k ms ≡ None → match_ordering o (get_member k ms) (Some d) (get_member k ms) ≡ None
+    by : (o : Ordering) → slice_cmp nat_cmp k l ≡ o → is_known v p l ≡ true → get_member k ms ≡ None
+        → match_ordering o (get_member k ms) (Some d) (get_member k ms) ≡ None
     by Less c known absent = absent
     by Greater c known absent = absent
     by Equal c known absent =
@@ -97,7 +100,8 @@ unfolding clock_in
 no_clock None clock e absent = cc e
 no_clock (Some d) clock e absent = absurd (cc absent)
 
-pub none_frozen : (clock : Option ℕ) (freeze : ℕ) (d : Option Data) (fs : List FrozenLanding) → frozen_in clock freeze d ≡ Ok fs → d ≡ None → fs ≡ []
+pub none_frozen : (clock : Option ℕ) (freeze : ℕ) (d : Option Data) (fs : List FrozenLanding)
+    → frozen_in clock freeze d ≡ Ok fs → d ≡ None → fs ≡ []
 unfolding frozen_in
 none_frozen clock freeze None fs e absent = cc e
 none_frozen clock freeze (Some d) fs e absent = absurd (cc absent)

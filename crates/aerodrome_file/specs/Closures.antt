@@ -1,5 +1,6 @@
 -- The closures in the file.
-use Rattle.std.specs.Prelude.{ℕ, List, [], ◌∷◌, suc, Bool, true, false, not, ◌+◌, nat_le, nat_lt, codes, Option, Some, None, Result, Ok, Err, if◌then◌else◌}
+use Rattle.std.specs.Prelude.{ℕ, List, [], ◌∷◌, suc, Bool, true, false, not, ◌+◌, nat_le, nat_lt, codes, Option, Some}
+use Rattle.std.specs.Prelude.{None, Result, Ok, Err, if◌then◌else◌}
 use Rattle.toml.specs.Data.{Data, array, table, Items, no_items, item, Members, get_member}
 use Rattle.cps_base.specs.Answers.{◌>>=◌}
 use Rattle.landing_rules.specs.Limits.{most_closures}

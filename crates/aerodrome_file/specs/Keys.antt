@@ -1,5 +1,6 @@
 -- The keys that each part of the file has.
-use Rattle.std.specs.Prelude.{List, ℕ, Bool, ◌&&◌, ◌||◌, nat_le, is_some, codes, bytes_eq, Result, Ok, Err, if◌then◌else◌}
+use Rattle.std.specs.Prelude.{List, ℕ, Bool, ◌&&◌, ◌||◌, nat_le, is_some, codes, bytes_eq, Result, Ok, Err}
+use Rattle.std.specs.Prelude.{if◌then◌else◌}
 use Rattle.toml.specs.Data.{Members, no_members, member}
 use Rattle.wake_table.specs.Letters.{category_of}
 use Rattle.aerodrome_file.specs.declared.fault.AeroFault.{AeroFault}
@@ -11,7 +12,8 @@ use Rattle.aerodrome_file.specs.KeyText.{key_text}
 -- of the document in each version
 abbrev pub is_first_key : List ℕ → Bool
 is_first_key k =
-    ((((bytes_eq k (codes "version") || bytes_eq k (codes "k")) || bytes_eq k (codes "freeze")) || bytes_eq k (codes "objective"))
+    ((((bytes_eq k (codes "version") || bytes_eq k (codes "k")) || bytes_eq k (codes "freeze"))
+    || bytes_eq k (codes "objective"))
     || bytes_eq k (codes "table")) || bytes_eq k (codes "closures")
 
 -- of the document in a version

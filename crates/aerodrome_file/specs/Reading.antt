@@ -1,5 +1,6 @@
 -- The aerodrome that a text is, or its first fault, over the table that `toml` reads.
-use Rattle.std.specs.Prelude.{ℕ, List, ◌==◌, length, codes, bytes_eq, Option, Some, None, Result, Ok, Err, if◌then◌else◌}
+use Rattle.std.specs.Prelude.{ℕ, List, ◌==◌, length, codes, bytes_eq, Option, Some, None, Result, Ok, Err}
+use Rattle.std.specs.Prelude.{if◌then◌else◌}
 use Rattle.std.specs.Str.Lossy.{utf8_valid_len}
 use Rattle.toml.specs.Data.{Data, string, Members, get_member}
 use Rattle.toml.specs.Parse.{parse_document}

@@ -25,7 +25,8 @@ and_then None f = None
 -- the entries of a row of exactly six integers
 unfoldable pub six_of : Items → Option (List ℕ)
 six_of (item a (item b (item c (item d (item e (item f no_items)))))) =
-    and_then (second_of a) (λ a. and_then (second_of b) (λ b. and_then (second_of c) (λ c. and_then (second_of d) (λ d. and_then (second_of e) (λ e.
+    and_then (second_of a) (λ a. and_then (second_of b)
+    (λ b. and_then (second_of c) (λ c. and_then (second_of d) (λ d. and_then (second_of e) (λ e.
     and_then (second_of f) (λ f. Some (a ∷ b ∷ c ∷ d ∷ e ∷ f ∷ [])))))))
 six_of ds = None
 

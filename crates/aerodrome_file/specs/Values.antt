@@ -1,5 +1,6 @@
 -- The values at the keys of the file.
-use Rattle.std.specs.Prelude.{ℕ, List, ℤ, pos, negsuc, ◌&&◌, nat_le, codes, Option, Some, None, Result, Ok, Err, if◌then◌else◌}
+use Rattle.std.specs.Prelude.{ℕ, List, ℤ, pos, negsuc, ◌&&◌, nat_le, codes, Option, Some, None, Result, Ok, Err}
+use Rattle.std.specs.Prelude.{if◌then◌else◌}
 use Rattle.toml.specs.Data.{Data, string, integer, Members, get_member}
 use Rattle.cps_base.specs.Answers.{◌>>=◌}
 use Rattle.cps_base.specs.Text.{is_callsign}
@@ -41,7 +42,8 @@ callsign_at k text = if is_callsign text then Ok text else Err (fault.OutOfRange
 -- the integer of a key, from least to most
 abbrev pub number_in : Key → ℕ → ℕ → Option Data → Result ℕ AeroFault
 number_in k least most None = Err (fault.MissingKey k)
-number_in k least most (Some (integer (pos n))) = if nat_le least n && nat_le n most then Ok n else Err (fault.OutOfRange k)
+number_in k least most (Some (integer (pos n))) = if nat_le least n && nat_le n most then Ok n
+    else Err (fault.OutOfRange k)
 number_in k least most (Some (integer (negsuc n))) = Err (fault.OutOfRange k)
 number_in k least most (Some d) = Err (fault.WrongKind k)
 

@@ -1,5 +1,6 @@
 -- The aerodromes that a file can give. Tables and closures are good ones by their types.
-use Rattle.std.specs.Prelude.{◌≡◌, ◌≢◌, ◌≤◌, ◌<◌, ℕ, List, [], Bool, true, false, ◌==◌, ◌&&◌, ◌+◌, nat_lt, length, Option, Some, None, All, AllPairs, if◌then◌else◌}
+use Rattle.std.specs.Prelude.{◌≡◌, ◌≢◌, ◌≤◌, ◌<◌, ℕ, List, [], Bool, true, false, ◌==◌, ◌&&◌, ◌+◌, nat_lt, length}
+use Rattle.std.specs.Prelude.{Option, Some, None, All, AllPairs, if◌then◌else◌}
 use Rattle.landing_rules.specs.Limits.{longest_freeze, most_flights, most_waiting}
 use Rattle.landing_rules.specs.Rules.{last_second}
 use Rattle.landing_rules.specs.declared.objective.Objective.{Objective}

@@ -7,7 +7,15 @@ use Rattle.arrivals.specs.declared.event.Event.{Event}
 use Rattle.arrivals.specs.declared.event.Event.TheVariants.{Estimate, Cancel, Add, Close, Reopen, Clock}
 
 abbrev pub flight_of : Flight → flights.Flight
-flight_of f = record { callsign = f.callsign; category = f.category; eta = f.eta; weight = f.weight; windows = f.windows; after = f.after }
+flight_of f = record {
+  callsign = f.callsign;
+  category = f.category;
+  eta = f.eta;
+  weight =
+      f.weight;
+  windows = f.windows;
+  after = f.after;
+}
 
 abbrev pub event_of : Event → rules.Event
 event_of (Estimate callsign eta windows) = rules.Estimate callsign eta windows

@@ -12,5 +12,7 @@ none_shown : (xs : List Finding) → map finding_of xs ≡ [] → xs ≡ []
 none_shown [] h = refl
 none_shown (x ∷ xs) h = absurd (cc)
 
-pub clean_exactly : (s : Situation) (b : Block) (xs : List Finding) → AuditLaw → IsSound s → map finding_of xs ≡ findings s b → (xs ≡ []) ↔ IsClean s b
-clean_exactly s b xs law sound h = ((λ e. (law s b sound).0 (sym h ∙ ap (map finding_of) e)), (λ k. none_shown xs (h ∙ (law s b sound).1 k)))
+pub clean_exactly : (s : Situation) (b : Block) (xs : List Finding) → AuditLaw → IsSound s
+    → map finding_of xs ≡ findings s b → (xs ≡ []) ↔ IsClean s b
+clean_exactly s b xs law sound h =
+    ((λ e. (law s b sound).0 (sym h ∙ ap (map finding_of) e)), (λ k. none_shown xs (h ∙ (law s b sound).1 k)))

@@ -6,14 +6,18 @@ use Rattle.landing_rules.specs.Audit.{for_failing}
 use Rattle.audit.specs.declared.finding.Finding.{Finding}
 use Rattle.audit.specs.Findings.{finding_of}
 
-pub each_failing : {T X : Type 0} (seen : T → X) (test : T → Bool) (made : T → Finding) (passes : X → Bool) (found : X → rules.Finding) →
+pub each_failing : {T X : Type 0} (seen : T → X) (test : T → Bool) (made : T → Finding) (passes : X
+    → Bool) (found : X → rules.Finding) →
     ((t : T) → test t ≡ not (passes (seen t))) → ((t : T) → finding_of (made t) ≡ found (seen t)) →
     (ts : List T) → map finding_of (map made (filter test ts)) ≡ for_failing passes found (map seen ts)
 each_failing seen test made passes found e f [] = refl
-each_failing seen test made passes found e f (t ∷ ts) = go (test t) (passes (seen t)) (e t) (each_failing seen test made passes found e f ts)
+each_failing seen test made passes found e f (t ∷ ts) =
+    go (test t) (passes (seen t)) (e t) (each_failing seen test made passes found e f ts)
   where
-    go : (b c : Bool) → b ≡ not c → map finding_of (map made (filter test ts)) ≡ for_failing passes found (map seen ts) →
-        map finding_of (map made (cond b (t ∷ filter test ts) (filter test ts))) ≡ cond c (for_failing passes found (map seen ts)) (found (seen t) ∷ for_failing passes found (map seen ts))
+    go : (b c : Bool) → b ≡ not c → map finding_of (map made (filter test ts)) ≡ for_failing passes found (map seen ts)
+        →
+        map finding_of (map made (cond b (t ∷ filter test ts) (filter test ts))) ≡ cond c
+        (for_failing passes found (map seen ts)) (found (seen t) ∷ for_failing passes found (map seen ts))
     go true true e ih = absurd (false≢true (sym e))
     go true false e ih = ap₂ (λ (x : rules.Finding) (l : List rules.Finding). x ∷ l) (f t) ih
     go false true e ih = ih

@@ -1,5 +1,6 @@
 -- Callsigns that were seen, and lines that have one again.
-use Rattle.std.proofs.Common.{◌≡◌, ℕ, ◌+◌, ◌<◌, Bool, true, false, cond, ◌||◌, List, [], ◌∷◌, ◌++◌, length, get_or, map, drop, Some, refl, sym, ap, ap₂, subst, ◌∙◌}
+use Rattle.std.proofs.Common.{◌≡◌, ℕ, ◌+◌, ◌<◌, Bool, true, false, cond, ◌||◌, List, [], ◌∷◌, ◌++◌, length, get_or}
+use Rattle.std.proofs.Common.{map, drop, Some, refl, sym, ap, ap₂, subst, ◌∙◌}
 use Rattle.std.specs.Prelude.{find, is_some}
 use Rattle.std.specs.List.{list_any}
 use Rattle.std.specs.Str.{bytes_eq}
@@ -44,25 +45,31 @@ pub has-insert : (ks : List Name) (k c : Name) → has_name (insert_key bytes_eq
 has-insert ks k c = go (list_any (bytes_eq k) ks) refl
   where
     there : (b : Bool) → bytes_eq k c ≡ b → list_any (bytes_eq k) ks ≡ true → has_name ks c ≡ (b || has_name ks c)
-    there true e h = let same : k ≡ c = (bytes_eq-Decides k c).0 e in subst (λ (d : Name). has_name ks d ≡ true) same (sym (has-sym k ks) ∙ h)
+    there true e h = let same : k ≡ c =
+        (bytes_eq-Decides k c).0 e in subst (λ (d : Name). has_name ks d ≡ true) same (sym (has-sym k ks) ∙ h)
     there false e h = refl
 
-    go : (b : Bool) → list_any (bytes_eq k) ks ≡ b → has_name (cond b ks (ks ++ k ∷ [])) c ≡ (bytes_eq k c || has_name ks c)
+    go : (b : Bool) → list_any (bytes_eq k) ks ≡ b
+        → has_name (cond b ks (ks ++ k ∷ [])) c ≡ (bytes_eq k c || has_name ks c)
     go true h = there (bytes_eq k c) refl h ∙ ap (λ b. b || has_name ks c) refl
     go false h = has-push ks k c
 
 -- ---- the lines above, and one more
 
-pub twice_step : (lines : List Landing) (i : ℕ) (l : Landing) (above : List ShownLanding) (done more whole : List Finding) →
-    i < length lines → l ≡ get_or lines i l → more ≡ repeated (has_line above l.callsign) l.callsign → done ++ twice_after above (map shown_of (drop i lines)) ≡ whole →
+pub twice_step : (lines : List Landing) (i : ℕ) (l : Landing) (above : List ShownLanding)
+    (done more whole : List Finding) →
+    i < length lines → l ≡ get_or lines i l → more ≡ repeated (has_line above l.callsign) l.callsign
+    → done ++ twice_after above (map shown_of (drop i lines)) ≡ whole →
     (done ++ more) ++ twice_after (shown_of l ∷ above) (map shown_of (drop (i + 1) lines)) ≡ whole
 twice_step lines i l above done more whole lt same e h =
     let rest = twice_after (shown_of l ∷ above) (map shown_of (drop (i + 1) lines)) in
-    place_step (λ ls. twice_after above (map shown_of ls)) (λ ls. twice_after (shown_of l ∷ above) (map shown_of ls)) lines i l done more whole lt same
+    place_step (λ ls. twice_after above (map shown_of ls))
+    (λ ls. twice_after (shown_of l ∷ above) (map shown_of ls)) lines i l done more whole lt same
     (sym (ap (λ m. m ++ rest) e ∙ one (has_line above l.callsign))) h
   where
     one : (b : Bool) → repeated b l.callsign ++ twice_after (shown_of l ∷ above) (map shown_of (drop (i + 1) lines)) ≡
-        cond b (Twice l.callsign ∷ twice_after (shown_of l ∷ above) (map shown_of (drop (i + 1) lines))) (twice_after (shown_of l ∷ above) (map shown_of (drop (i + 1) lines)))
+        cond b (Twice l.callsign ∷ twice_after (shown_of l ∷ above) (map shown_of (drop (i + 1) lines)))
+        (twice_after (shown_of l ∷ above) (map shown_of (drop (i + 1) lines)))
     one true = refl
     one false = refl
 
@@ -71,7 +78,8 @@ pub seen_step : (lines : List Landing) (i : ℕ) (l : Landing) (above : List Sho
     (has_line (shown_of l ∷ above) c || has_line (map shown_of (drop (i + 1) lines)) c) ≡ whole
 seen_step lines i l above c whole lt same h =
     let rest = map shown_of (drop (i + 1) lines) in
-    let here : drop i lines ≡ l ∷ drop (i + 1) lines = drop_more lines i l lt ∙ ap (λ y. y ∷ drop (i + 1) lines) (sym same) in
+    let here : drop i lines ≡ l ∷ drop (i + 1) lines =
+    drop_more lines i l lt ∙ ap (λ y. y ∷ drop (i + 1) lines) (sym same) in
     or-swap (has_line above c) (bytes_eq l.callsign c) (has_line rest c)
     ∙ ap (λ ls. has_line above c || has_line (map shown_of ls) c) (sym here) ∙ h
 

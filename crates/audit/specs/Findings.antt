@@ -35,7 +35,8 @@ out_of_order i before t = if nat_lt before t then [] else rules.Order i ∷ []
 
 -- what is found of a waiting flight, by its place and its rank
 abbrev pub too_far : ℕ → List Landing → Landing → List rules.Finding
-too_far k waiting f = if is_shift_kept k waiting f then [] else rules.Shift f.flight.callsign (place waiting f) (rank_among waiting f) ∷ []
+too_far k waiting f = if is_shift_kept k waiting f then [] else rules.Shift f.flight.callsign
+    (place waiting f) (rank_among waiting f) ∷ []
 
 -- so that the costs of 500 lines have a sum of 64 bits
 abbrev pub HasSmallWeight : ShownLanding × Active → Type 0

@@ -4,14 +4,16 @@ use Rattle.std.specs.List.{Contains}
 use Rattle.landing_rules.specs.Audit.{Finding, for_failing, for_failing_pairs}
 
 -- an element that fails the test, and of which this is the finding
-pub record Breaks {X : Type 0} (passes : X → Bool) (finding : X → Finding) (xs : List X) (found : Finding) : Type 0 where
+pub record Breaks {X : Type 0} (passes : X → Bool) (finding : X → Finding) (xs : List X)
+    (found : Finding) : Type 0 where
   pub element : X
   pub there : Contains xs element
   pub fails : passes element ≡ false
   pub gives : finding element ≡ found
 
 -- two elements, the first above the second, that fail the test, and of which this is the finding
-pub record BreakTogether {X : Type 0} (pass : X → X → Bool) (finding : X → X → Finding) (xs : List X) (found : Finding) : Type 0 where
+pub record BreakTogether {X : Type 0} (pass : X → X → Bool) (finding : X → X → Finding) (xs : List X)
+    (found : Finding) : Type 0 where
   pub above : ℕ
   pub below : ℕ
   pub order : above < below

@@ -1,7 +1,8 @@
 -- What is printed of each finding.
 use Rattle.std.specs.Prelude.{List, ◌++◌, codes, decimal, map}
 use Rattle.landing_rules.specs.Text.{Bytes, lines_text}
-use Rattle.landing_rules.specs.Audit.{Finding, Missing, Unknown, Twice, Order, Mark, Closed, Separation, Precedence, Moved, Early, Shift, OtherObjective, Value}
+use Rattle.landing_rules.specs.Audit.{Finding, Missing, Unknown, Twice, Order, Mark, Closed, Separation, Precedence}
+use Rattle.landing_rules.specs.Audit.{Moved, Early, Shift, OtherObjective, Value}
 
 -- two texts, a blank between them
 abbrev pub spaced : Bytes → Bytes → Bytes

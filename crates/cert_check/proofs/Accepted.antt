@@ -1,5 +1,6 @@
 -- What an accepted certificate means.
-use Rattle.std.proofs.Common.{◌≡◌, ℕ, ◌≤◌, inl, inr, Bool, true, false, cond, List, [], ◌∷◌, length, Option, Some, None, refl, ap, subst, arith}
+use Rattle.std.proofs.Common.{◌≡◌, ℕ, ◌≤◌, inl, inr, Bool, true, false, cond, List, [], ◌∷◌, length, Option, Some}
+use Rattle.std.proofs.Common.{None, refl, ap, subst, arith}
 use Rattle.std.specs.Prelude.{◌==◌, option_map}
 use Rattle.std.specs.Option.{option_or}
 use Rattle.std.proofs.lemmas.List.{length-map}
@@ -17,11 +18,15 @@ use Rattle.certificate.specs.declared.certificate.Claim.TheVariants as claim
 use Rattle.certificate.specs.States.{State}
 use Rattle.certificate.specs.Reading.{Cert}
 use Rattle.cert_check.specs.declared.verdict.Reason.{Reason}
-use Rattle.cert_check.specs.declared.verdict.Reason.TheVariants.{Flights, Closed, Early, Separation, Precedence, Shift, Value, Shape, Successor, Final}
+use Rattle.cert_check.specs.declared.verdict.Reason.TheVariants.{Flights, Closed, Early, Separation, Precedence, Shift}
+use Rattle.cert_check.specs.declared.verdict.Reason.TheVariants.{Value, Shape, Successor, Final}
 use Rattle.cert_check.specs.declared.verdict.Verdict.TheVariants as verdict
-use Rattle.cert_check.specs.Landings.{Landings, count, second_of, seconds, are_not_flights, is_shut, is_early, first_too_close, first_out_of_order, is_shifted}
-use Rattle.cert_check.specs.States.{first_missed, missed_from, start_node, successor_failure, shape_failure, is_final, final_failure}
-use Rattle.cert_check.specs.Verdict.{with_pair, flights_reason, value_reason, landing_reason, claim_reason, state_reason, failure, verdict_by, verdict_of}
+use Rattle.cert_check.specs.Landings.{Landings, count, second_of, seconds, are_not_flights, is_shut, is_early}
+use Rattle.cert_check.specs.Landings.{first_too_close, first_out_of_order, is_shifted}
+use Rattle.cert_check.specs.States.{first_missed, missed_from, start_node, successor_failure, shape_failure, is_final}
+use Rattle.cert_check.specs.States.{final_failure}
+use Rattle.cert_check.specs.Verdict.{with_pair, flights_reason, value_reason, landing_reason, claim_reason}
+use Rattle.cert_check.specs.Verdict.{state_reason, failure, verdict_by, verdict_of}
 use Rattle.cert_check.specs.Meaning.{IsShownOptimal, NothingIsFeasible}
 use Rattle.cert_check.proofs.Bounds.{none_below, none_at_all}
 use Rattle.cert_check.proofs.Sound.{map_none, are_its_landings, are_feasible, passed_low}
@@ -49,8 +54,14 @@ unfolding state_reason
 states_hold p c ss e =
     let a = or_none (option_map Shape (shape_failure p ss)) _ e in
     let b = or_none (with_pair Successor (successor_failure p ss)) (option_map Final (final_failure p c ss)) a.1 in
-    let s = or_none (with_number 0 (first_missed p ss (start_node p) ((0, 0) ∷ []))) (missed_from p ss 1 ss) (pair_none Successor (successor_failure p ss) b.0) in
-    record { from_start = with_number_none 0 (first_missed p ss (start_node p) ((0, 0) ∷ [])) s.0; from_states = s.1; final = map_none Final (final_failure p c ss) b.1 }
+    let s = or_none (with_number 0 (first_missed p ss (start_node p) ((0, 0) ∷ []))) (missed_from p ss 1 ss)
+    (pair_none Successor (successor_failure p ss) b.0) in
+    record {
+      from_start = with_number_none 0 (first_missed p ss (start_node p) ((0, 0) ∷ [])) s.0;
+      from_states =
+          s.1;
+      final = map_none Final (final_failure p c ss) b.1;
+    }
 
 -- what the landings leave
 record LandingsHold (p : Problem) (v : ℕ) (ls : Landings) : Type 0 where
@@ -75,28 +86,36 @@ landings_hold p v ls e =
       close = pair_none Separation _ c.0;
       order = pair_none Precedence _ d.0;
       shifted = map_none Shift _ f.0;
-      value = eqb-true (list_objective p (seconds p ls)) v (when_none (list_objective p (seconds p ls) == v) (Value (list_objective p (seconds p ls))) f.1);
+      value = eqb-true (list_objective p (seconds p ls)) v
+          (when_none (list_objective p (seconds p ls) == v) (Value (list_objective p (seconds p ls))) f.1);
     }
 
 -- with no flight there is one list
-only_list : (p : Problem) (u w : Schedule) → count p ≡ 0 → length u ≡ count p → length w ≡ count p → list_objective p u ≡ list_objective p w
+only_list : (p : Problem) (u w : Schedule) → count p ≡ 0 → length u ≡ count p → length w ≡ count p
+    → list_objective p u ≡ list_objective p w
 only_list p [] [] none a b = refl
 only_list p [] (y ∷ w) none a b = absurd (omega arith)
 only_list p (x ∷ u) w none a b = absurd (omega arith)
 
-no_smaller : (p : Problem) (v : ℕ) (ls : Landings) (ss : List State) → IsWellFormed p → StatesHold p (claim.Optimal v) ss → list_objective p (seconds p ls) ≡ v → (u : Schedule) → IsFeasibleList p u → list_objective p (seconds p ls) ≤ list_objective p u
+no_smaller : (p : Problem) (v : ℕ) (ls : Landings) (ss : List State) → IsWellFormed p
+    → StatesHold p (claim.Optimal v) ss → list_objective p (seconds p ls) ≡ v → (u : Schedule)
+    → IsFeasibleList p u → list_objective p (seconds p ls) ≤ list_objective p u
 no_smaller p v ls ss h s value u f = elim (cases_eq (count p) 0) [
-  | inl none ↦ (let same = only_list p u (seconds p ls) none f.one_each (length-map p.flights (λ w. second_of ls w.callsign)) in omega arith)
+  | inl none ↦ (let same = only_list p u (seconds p ls) none f.one_each
+      (length-map p.flights (λ w. second_of ls w.callsign)) in omega arith)
   | inr some ↦
-      (let least = none_below p h ss s.from_start s.from_states (omega arith) v s.final (of_rank 0 u) (list_feasible p u f) in
+      (let least = none_below p h ss s.from_start s.from_states (omega arith) v s.final (of_rank 0 u)
+      (list_feasible p u f) in
       let is = list_value p u f.one_each in
       omega arith)
 ]
 
-optimal : (p : Problem) (v : ℕ) (ls : Landings) (ss : List State) → IsWellFormed p → failure p (record { claim = claim.Optimal v; landings = ls; states = ss }) ≡ None → IsShownOptimal p ls v
+optimal : (p : Problem) (v : ℕ) (ls : Landings) (ss : List State) → IsWellFormed p
+    → failure p (record { claim = claim.Optimal v; landings = ls; states = ss }) ≡ None → IsShownOptimal p ls v
 unfolding failure
 optimal p v ls ss h e =
-    let a = or_none (flights_reason p (claim.Optimal v) ls) (option_or (claim_reason p (claim.Optimal v) ls) (state_reason p (claim.Optimal v) ss)) e in
+    let a = or_none (flights_reason p (claim.Optimal v) ls)
+    (option_or (claim_reason p (claim.Optimal v) ls) (state_reason p (claim.Optimal v) ss)) e in
     let b = or_none (claim_reason p (claim.Optimal v) ls) (state_reason p (claim.Optimal v) ss) a.1 in
     let k = landings_hold p v ls b.0 in
     let s = states_hold p (claim.Optimal v) ss b.1 in
@@ -104,21 +123,25 @@ optimal p v ls ss h e =
     record {
       landings = are_its_landings p ls v (unless_none (are_not_flights p (claim.Optimal v) ls) Flights a.0);
       best = record {
-        feasible = feasible_list p (passed_low p h) (seconds p ls) long (are_feasible p ls h k.shut k.early k.close k.order k.shifted);
+        feasible = feasible_list p (passed_low p h) (seconds p ls) long
+            (are_feasible p ls h k.shut k.early k.close k.order k.shifted);
         least = no_smaller p v ls ss h s k.value;
       };
       value = k.value;
     }
 
-infeasible : (p : Problem) (ls : Landings) (ss : List State) → IsWellFormed p → failure p (record { claim = claim.Infeasible; landings = ls; states = ss }) ≡ None → NothingIsFeasible p
+infeasible : (p : Problem) (ls : Landings) (ss : List State) → IsWellFormed p
+    → failure p (record { claim = claim.Infeasible; landings = ls; states = ss }) ≡ None → NothingIsFeasible p
 unfolding failure
 infeasible p ls ss h e t f =
-    let a = or_none (flights_reason p claim.Infeasible ls) (option_or (claim_reason p claim.Infeasible ls) (state_reason p claim.Infeasible ss)) e in
+    let a = or_none (flights_reason p claim.Infeasible ls)
+    (option_or (claim_reason p claim.Infeasible ls) (state_reason p claim.Infeasible ss)) e in
     let b = or_none (claim_reason p claim.Infeasible ls) (state_reason p claim.Infeasible ss) a.1 in
     let s = states_hold p claim.Infeasible ss b.1 in
     go (count p == 0) refl s.final s
   where
-    go : (b : Bool) → (count p == 0) ≡ b → cond b (Some 0) (element_from (is_final p) 1 ss) ≡ None → StatesHold p claim.Infeasible ss → ⊥
+    go : (b : Bool) → (count p == 0) ≡ b → cond b (Some 0) (element_from (is_final p) 1 ss) ≡ None
+        → StatesHold p claim.Infeasible ss → ⊥
     go true z e s = absurd (cc)
     go false z e s =
         elim (cases_eq (count p) 0) [
@@ -128,26 +151,32 @@ infeasible p ls ss h e t f =
 
 -- ---- by the verdict
 
-by_optimal : (c : Claim) (o : Option Reason) (v : ℕ) → verdict_by c o ≡ verdict.Optimal v → (c ≡ claim.Optimal v) × (o ≡ None)
+by_optimal : (c : Claim) (o : Option Reason) (v : ℕ) → verdict_by c o ≡ verdict.Optimal v
+    → (c ≡ claim.Optimal v) × (o ≡ None)
 by_optimal (claim.Optimal w) None v e = (let s : w ≡ v = cc in ap claim.Optimal s, refl)
 by_optimal claim.Infeasible None v e = absurd (cc)
 by_optimal (claim.Optimal w) (Some r) v e = absurd (cc)
 by_optimal claim.Infeasible (Some r) v e = absurd (cc)
 
-by_infeasible : (c : Claim) (o : Option Reason) → verdict_by c o ≡ verdict.Infeasible → (c ≡ claim.Infeasible) × (o ≡ None)
+by_infeasible : (c : Claim) (o : Option Reason) → verdict_by c o ≡ verdict.Infeasible
+    → (c ≡ claim.Infeasible) × (o ≡ None)
 by_infeasible (claim.Optimal w) None e = absurd (cc)
 by_infeasible claim.Infeasible None e = (refl, refl)
 by_infeasible (claim.Optimal w) (Some r) e = absurd (cc)
 by_infeasible claim.Infeasible (Some r) e = absurd (cc)
 
-pub judged_optimal : (p : Problem) (c : Cert) → IsWellFormed p → (v : ℕ) → verdict_of p c ≡ verdict.Optimal v → IsShownOptimal p c.landings v
+pub judged_optimal : (p : Problem) (c : Cert) → IsWellFormed p → (v : ℕ) → verdict_of p c ≡ verdict.Optimal v
+    → IsShownOptimal p c.landings v
 unfolding verdict_of
 judged_optimal p c h v e =
     let b = by_optimal c.claim (failure p c) v e in
-    optimal p v c.landings c.states h (subst (λ (x : Claim). failure p (record { claim = x; landings = c.landings; states = c.states }) ≡ None) b.0 b.1)
+    optimal p v c.landings c.states h
+    (subst (λ (x : Claim). failure p (record { claim = x; landings = c.landings; states = c.states }) ≡ None) b.0 b.1)
 
-pub judged_infeasible : (p : Problem) (c : Cert) → IsWellFormed p → verdict_of p c ≡ verdict.Infeasible → NothingIsFeasible p
+pub judged_infeasible : (p : Problem) (c : Cert) → IsWellFormed p → verdict_of p c ≡ verdict.Infeasible
+    → NothingIsFeasible p
 unfolding verdict_of
 judged_infeasible p c h e =
     let b = by_infeasible c.claim (failure p c) e in
-    infeasible p c.landings c.states h (subst (λ (x : Claim). failure p (record { claim = x; landings = c.landings; states = c.states }) ≡ None) b.0 b.1)
+    infeasible p c.landings c.states h
+    (subst (λ (x : Claim). failure p (record { claim = x; landings = c.landings; states = c.states }) ≡ None) b.0 b.1)

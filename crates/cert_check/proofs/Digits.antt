@@ -1,5 +1,6 @@
 -- Digits as the bits of a number, one more at the front.
-use Rattle.std.proofs.Common.{◌≡◌, ℕ, zero, suc, ◌+◌, ◌*◌, ◌≤◌, ◌^◌, Bool, true, false, cond, List, ◌∷◌, sym, ap, ap₂, ◌∙◌, arith}
+use Rattle.std.proofs.Common.{◌≡◌, ℕ, zero, suc, ◌+◌, ◌*◌, ◌≤◌, ◌^◌, Bool, true, false, cond, List, ◌∷◌, sym, ap, ap₂}
+use Rattle.std.proofs.Common.{◌∙◌, arith}
 use Rattle.std.specs.Prelude.{◌/◌, ◌%◌, ◌==◌}
 use Rattle.std.proofs.Math.Nat.{pow-succ'}
 use Rattle.std.proofs.lemmas.Bool.{eq-eqb, ne_eqb}
@@ -32,7 +33,9 @@ more_bits i n b =
     ap (λ j. bits j (2 * n + cond b 1 0)) e ∙ ap₂ (λ (c : Bool) (m : ℕ). c ∷ bits i m) (bit n b) (half n b)
 
 -- one more digit before those from y on
-pub more_digits : (t : ℕ → Bool) (i y z n : ℕ) (b : Bool) → bits i n ≡ tests_from t z i → z ≡ suc y → b ≡ t y → bits (i + 1) (2 * n + cond b 1 0) ≡ tests_from t y (i + 1)
+pub more_digits : (t : ℕ → Bool) (i y z n : ℕ) (b : Bool) → bits i n ≡ tests_from t z i → z ≡ suc y
+    → b ≡ t y → bits (i + 1) (2 * n + cond b 1 0) ≡ tests_from t y (i + 1)
 more_digits t i y z n b h next is =
     let e : i + 1 ≡ suc i = omega arith in
-    more_bits i n b ∙ ap₂ (λ (c : Bool) (ds : List Bool). c ∷ ds) is (h ∙ ap (λ x. tests_from t x i) next) ∙ sym (ap (tests_from t y) e)
+    more_bits i n b ∙ ap₂ (λ (c : Bool) (ds : List Bool). c ∷ ds) is (h ∙ ap (λ x. tests_from t x i) next)
+    ∙ sym (ap (tests_from t y) e)

@@ -1,5 +1,5 @@
--- The states that leave nothing out are one for a situation: what a node attains asks of the pairs of ranks only whether a rank must
--- land before another.
+-- The states that leave nothing out are one for a situation: what a node attains asks of the pairs of ranks only
+-- whether a rank must land before another.
 use Rattle.std.proofs.Common.{◌≡◌, ℕ, List, Bool, true, ◌-◌, length, subst, sym}
 use Rattle.precedence.specs.Pairs.{must_precede}
 use Rattle.landing_rules.specs.Problem.{Problem}
@@ -24,7 +24,13 @@ module _ (p : Problem) (xs : List ℕ) (same : must_precede xs ≡ must_precede 
   -- the problem by rank, by that test
   abbrev ranked_by : (ℕ → ℕ → Bool) → RankedProblem
   ranked_by before = record {
-    rules = record { count = length p.flights; most = p.k; back = λ r. p.k - (of_rank no_waiting p.flights r).passed; before = before };
+    rules = record {
+      count = length p.flights;
+      most = p.k;
+      back =
+          λ r. p.k - (of_rank no_waiting p.flights r).passed;
+      before = before;
+    };
     is_open = (ranked p).is_open;
     start = start_at p;
     apart = apart_at p;
@@ -32,7 +38,8 @@ module _ (p : Problem) (xs : List ℕ) (same : must_precede xs ≡ must_precede 
 
   abbrev attains_by : (ℕ → ℕ → Bool) → PatternNode → Pair → Type 0
   attains_by before w x =
-      Attained (λ r u. (ranked p).is_open r u ≡ true) (next_from (ranked_by before)) (cost_at p) (Legal (ranked_by before).rules) (pattern_node (ranked_by before).rules) w x
+      Attained (λ r u. (ranked p).is_open r u ≡ true) (next_from (ranked_by before)) (cost_at p)
+      (Legal (ranked_by before).rules) (pattern_node (ranked_by before).rules) w x
 
   there : (w : PatternNode) (x : Pair) → Attains q w x → Attains p w x
   there w x = subst (λ (before : ℕ → ℕ → Bool). attains_by before w x) same
@@ -50,7 +57,10 @@ module _ (p : Problem) (xs : List ℕ) (same : must_precede xs ≡ must_precede 
   state_there s h = record {
     begun = h.begun;
     landable = (h.landable.0, there (node_of s) h.landable.0 h.landable.1);
-    undominated = λ x. (λ i. undominated_there (node_of s) x ((h.undominated x).0 i), λ u. (h.undominated x).1 (undominated_back (node_of s) x u));
+    undominated = λ x. (
+      λ i. undominated_there (node_of s) x ((h.undominated x).0 i),
+      λ u. (h.undominated x).1 (undominated_back (node_of s) x u),
+    );
     covers = λ x a. h.covers x (back (node_of s) x a);
     rising = h.rising;
   }
@@ -64,5 +74,6 @@ module _ (p : Problem) (xs : List ℕ) (same : must_precede xs ≡ must_precede 
 
 pub one_states : OneStatesLaw
 one_states s p q ss ts h k wp wq =
-    let moved : AreWholeStates (with_pairs q p.pairs) ss = subst (λ (x : Problem). AreWholeStates x ss) (same_but_pairs s p q h k) wp in
+    let moved : AreWholeStates (with_pairs q p.pairs) ss =
+    subst (λ (x : Problem). AreWholeStates x ss) (same_but_pairs s p q h k) wp in
     whole_is_unique q ss ts (states_there q p.pairs (same_order s p q h k) ss moved) wq

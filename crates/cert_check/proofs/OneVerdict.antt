@@ -1,5 +1,6 @@
 -- The verdict on a certificate is one for a situation.
-use Rattle.std.proofs.Common.{◌≡◌, ℕ, List, [], ◌∷◌, length, Option, Some, None, Bool, not, ◌&&◌, ◌-◌, refl, ap, ap₂, ◌∙◌}
+use Rattle.std.proofs.Common.{◌≡◌, ℕ, List, [], ◌∷◌, length, Option, Some, None, Bool, not, ◌&&◌, ◌-◌, refl, ap, ap₂}
+use Rattle.std.proofs.Common.{◌∙◌}
 use Rattle.std.specs.Prelude.{◌==◌, nat_lt, option_map, if◌then◌else◌}
 use Rattle.std.specs.Option.{option_or}
 use Rattle.std.proofs.Math.Path.{fun_ext}
@@ -20,11 +21,13 @@ use Rattle.certificate.specs.declared.certificate.Claim.TheVariants as claim
 use Rattle.certificate.specs.States.{State}
 use Rattle.certificate.specs.Reading.{Cert}
 use Rattle.cert_check.specs.declared.verdict.Reason.{Reason}
-use Rattle.cert_check.specs.declared.verdict.Reason.TheVariants.{Closed, Early, Separation, Precedence, Shift, Value, Shape, Successor, Final}
+use Rattle.cert_check.specs.declared.verdict.Reason.TheVariants.{Closed, Early, Separation, Precedence, Shift, Value}
+use Rattle.cert_check.specs.declared.verdict.Reason.TheVariants.{Shape, Successor, Final}
 use Rattle.cert_check.specs.Landings.{Landings, count, second, seconds, is_shut, is_early, first_too_close, is_shifted}
 use Rattle.cert_check.specs.Situations.{OneVerdictLaw}
 use Rattle.cert_check.specs.States.{node_of, pairs_of, ready, shape_failure, final_failure}
-use Rattle.cert_check.specs.Verdict.{with_pair, flights_reason, claim_reason, landing_reason, state_reason, failure, verdict_by, verdict_of}
+use Rattle.cert_check.specs.Verdict.{with_pair, flights_reason, claim_reason, landing_reason, state_reason, failure}
+use Rattle.cert_check.specs.Verdict.{verdict_by, verdict_of}
 use Rattle.cps_problem.specs.shared.OneProblem.{same_but_pairs, same_order, with_pairs}
 
 -- a verdict looks at the pairs by whether a rank must land before another, and in no other way
@@ -55,7 +58,9 @@ module _ (p : Problem) (xs : List ℕ) (same : must_precede xs ≡ must_precede 
       option_or (option_map Closed (first_from (is_shut p ls) 1 (count p)))
       (option_or (option_map Early (first_from (is_early p ls) 1 (count p)))
       (option_or (with_pair Separation (first_pair_from (first_too_close p ls) 1 (count p)))
-      (option_or (with_pair Precedence (first_pair_from (λ r. first_from (λ o. before r o && not (nat_lt (second p ls r) (second p ls o))) 1 (count p)) 1 (count p)))
+      (option_or (with_pair Precedence
+      (first_pair_from (λ r. first_from (λ o. before r o && not (nat_lt (second p ls r) (second p ls o))) 1
+      (count p)) 1 (count p)))
       (option_or (option_map Shift (first_from (is_shifted p ls) 1 (count p)))
       (if n == v then None else Some (Value n))))))
 
@@ -69,19 +74,27 @@ module _ (p : Problem) (xs : List ℕ) (same : must_precede xs ≡ must_precede 
 
   same_final : (c : Claim) (ss : List State) → final_failure q c ss ≡ final_failure p c ss
   same_final (claim.Optimal v) ss =
-      ap (λ (value : Pair → ℕ). element_from (closure.is_final_below node_of pairs_of (count p) value v) 1 ss) (fun_ext (same_value p.objective))
+      ap (λ (value : Pair → ℕ). element_from (closure.is_final_below node_of pairs_of (count p) value v) 1 ss)
+      (fun_ext (same_value p.objective))
   same_final claim.Infeasible ss = refl
 
   -- the rules of an order, by that test
   abbrev rules_by : (ℕ → ℕ → Bool) → OrderRules
-  rules_by before = record { count = length p.flights; most = p.k; back = λ r. p.k - (of_rank no_waiting p.flights r).passed; before = before }
+  rules_by before = record {
+    count = length p.flights;
+    most = p.k;
+    back =
+        λ r. p.k - (of_rank no_waiting p.flights r).passed;
+    before = before;
+  }
 
   -- which states fail first, by these rules
   abbrev state_by : List State → OrderRules → Option ℕ → Option Reason
   state_by ss g final =
       option_or (option_map Shape (shape_failure p ss))
       (option_or (with_pair Successor (option_or
-      (with_number 0 (closure.first_missed node_of pairs_of g (first_at p) (ready p) (cost_at p) ss (pattern_node g []) ((0, 0) ∷ [])))
+      (with_number 0 (closure.first_missed node_of pairs_of g (first_at p) (ready p) (cost_at p) ss
+      (pattern_node g []) ((0, 0) ∷ [])))
       (closure.missed_from node_of pairs_of g (first_at p) (ready p) (cost_at p) ss 1 ss)))
       (option_map Final final))
 
@@ -92,12 +105,15 @@ module _ (p : Problem) (xs : List ℕ) (same : must_precede xs ≡ must_precede 
   same_failure : (c : Cert) → failure q c ≡ failure p c
   unfolding failure
   same_failure c =
-      ap₂ (λ (a b : Option Reason). option_or a (option_or b (state_reason q c.claim c.states))) (same_listed c.claim c.landings) (same_claims c.claim c.landings)
-      ∙ ap (λ (b : Option Reason). option_or (flights_reason p c.claim c.landings) (option_or (claim_reason p c.claim c.landings) b)) (same_states c.claim c.states)
+      ap₂ (λ (a b : Option Reason). option_or a (option_or b (state_reason q c.claim c.states)))
+      (same_listed c.claim c.landings) (same_claims c.claim c.landings)
+      ∙ ap (λ (b : Option Reason). option_or (flights_reason p c.claim c.landings)
+      (option_or (claim_reason p c.claim c.landings) b)) (same_states c.claim c.states)
 
   pub same_verdict : (c : Cert) → verdict_of q c ≡ verdict_of p c
   unfolding verdict_of
   same_verdict c = ap (verdict_by c.claim) (same_failure c)
 
 pub one_verdict : OneVerdictLaw
-one_verdict s p q c h k = ap (λ (x : Problem). verdict_of x c) (same_but_pairs s p q h k) ∙ same_verdict q p.pairs (same_order s p q h k) c
+one_verdict s p q c h k = ap (λ (x : Problem). verdict_of x c) (same_but_pairs s p q h k)
+    ∙ same_verdict q p.pairs (same_order s p q h k) c

@@ -1,5 +1,6 @@
 -- Of pairs whose seconds rise and whose costs fall, the last that is no later is the cheapest.
-use Rattle.std.proofs.Common.{◌≡◌, ℕ, zero, suc, ◌<◌, ◌≤◌, Bool, true, false, ◌&&◌, ◌||◌, leb, List, [], ◌∷◌, length, get_or, refl, sym, ap, ap₂, ◌∙◌, arith, inl, inr}
+use Rattle.std.proofs.Common.{◌≡◌, ℕ, zero, suc, ◌<◌, ◌≤◌, Bool, true, false, ◌&&◌, ◌||◌, leb, List, [], ◌∷◌, length}
+use Rattle.std.proofs.Common.{get_or, refl, sym, ap, ap₂, ◌∙◌, arith, inl, inr}
 use Rattle.std.specs.List.{list_any}
 use Rattle.std.proofs.lemmas.Bool.{cases_lt, le-leb, lt-leb, ltb-true, and_left, and_parts}
 use Rattle.std.proofs.Math.Bool.{or-false}
@@ -11,9 +12,11 @@ rest_rises p [] h = refl
 rest_rises p (q ∷ ps) h = (and_parts _ _ h).1
 
 -- each later pair is later and cheaper
-behind : (p : Pair) (ps : List Pair) → rises (p ∷ ps) ≡ true → (k : ℕ) (d : Pair) → k < length ps → (p.0 < (get_or ps k d).0) × ((get_or ps k d).1 < p.1)
+behind : (p : Pair) (ps : List Pair) → rises (p ∷ ps) ≡ true → (k : ℕ) (d : Pair) → k < length ps
+    → (p.0 < (get_or ps k d).0) × ((get_or ps k d).1 < p.1)
 behind p [] h k d lt = absurd (omega arith)
-behind p (q ∷ ps) h zero d lt = let t = and_parts _ _ (and_parts _ _ h).0 in (ltb-true p.0 q.0 t.0, ltb-true q.1 p.1 t.1)
+behind p (q ∷ ps) h zero d lt = let t = and_parts _ _ (and_parts _ _ h).0 in
+    (ltb-true p.0 q.0 t.0, ltb-true q.1 p.1 t.1)
 behind p (q ∷ ps) h (suc k) d lt =
     let t = and_parts _ _ (and_parts _ _ h).0 in
     let a = ltb-true p.0 q.0 t.0 in
@@ -23,7 +26,8 @@ behind p (q ∷ ps) h (suc k) d lt =
     let y = m.1 in
     (omega arith, omega arith)
 
-pub seconds_rise : (ps : List Pair) → rises ps ≡ true → (i j : ℕ) (d : Pair) → i ≤ j → j < length ps → (get_or ps i d).0 ≤ (get_or ps j d).0
+pub seconds_rise : (ps : List Pair) → rises ps ≡ true → (i j : ℕ) (d : Pair) → i ≤ j → j < length ps
+    → (get_or ps i d).0 ≤ (get_or ps j d).0
 seconds_rise [] h i j d le lt = absurd (omega arith)
 seconds_rise (p ∷ ps) h zero zero d le lt = omega arith
 seconds_rise (p ∷ ps) h zero (suc j) d le lt = let m = (behind p ps h j d (omega arith)).0 in omega arith
@@ -42,12 +46,18 @@ or_cheaper a b c lt = elim (cases_lt c a) [
 ]
 
 -- where all are later, none is no worse
-pub all_later : (ps : List Pair) (q : Pair) → ((k : ℕ) (d : Pair) → k < length ps → leb (get_or ps k d).0 q.0 ≡ false) → list_any (λ o. no_worse o q) ps ≡ false
+pub all_later : (ps : List Pair) (q : Pair) → ((k : ℕ) (d : Pair) → k < length ps → leb (get_or ps k d).0 q.0 ≡ false)
+    → list_any (λ o. no_worse o q) ps ≡ false
 all_later [] q high = refl
-all_later (p ∷ ps) q high = ap₂ (λ (x y : Bool). x || y) (and_left (leb p.0 q.0) (leb p.1 q.1) (high zero p (omega arith))) (all_later ps q (λ k d lt. high (suc k) d (omega arith)))
+all_later (p ∷ ps) q high = ap₂ (λ (x y : Bool). x || y)
+    (and_left (leb p.0 q.0) (leb p.1 q.1) (high zero p (omega arith)))
+    (all_later ps q (λ k d lt. high (suc k) d (omega arith)))
 
 -- where the first m + 1 are no later and the others are later, the last of the first decides
-pub last_decides : (ps : List Pair) → rises ps ≡ true → (q : Pair) (m : ℕ) → m < length ps → ((k : ℕ) (d : Pair) → k ≤ m → leb (get_or ps k d).0 q.0 ≡ true) → ((k : ℕ) (d : Pair) → m < k → k < length ps → leb (get_or ps k d).0 q.0 ≡ false) → (d : Pair) → list_any (λ o. no_worse o q) ps ≡ leb (get_or ps m d).1 q.1
+pub last_decides : (ps : List Pair) → rises ps ≡ true → (q : Pair) (m : ℕ) → m < length ps
+    → ((k : ℕ) (d : Pair) → k ≤ m → leb (get_or ps k d).0 q.0 ≡ true)
+    → ((k : ℕ) (d : Pair) → m < k → k < length ps → leb (get_or ps k d).0 q.0 ≡ false) → (d : Pair)
+    → list_any (λ o. no_worse o q) ps ≡ leb (get_or ps m d).1 q.1
 last_decides [] h q m le low high d = absurd (omega arith)
 last_decides (p ∷ ps) h q zero le low high d =
     let here = and_yes (leb p.0 q.0) (leb p.1 q.1) (low zero d (omega arith)) in
@@ -55,5 +65,6 @@ last_decides (p ∷ ps) h q zero le low high d =
     ap₂ (λ (x y : Bool). x || y) here rest ∙ or-false (leb p.1 q.1)
 last_decides (p ∷ ps) h q (suc m) le low high d =
     let here = and_yes (leb p.0 q.0) (leb p.1 q.1) (low zero d (omega arith)) in
-    let rest = last_decides ps (rest_rises p ps h) q m (omega arith) (λ k e lt. low (suc k) e (omega arith)) (λ k e le lt. high (suc k) e (omega arith) (omega arith)) d in
+    let rest = last_decides ps (rest_rises p ps h) q m (omega arith) (λ k e lt. low (suc k) e (omega arith))
+    (λ k e le lt. high (suc k) e (omega arith) (omega arith)) d in
     ap₂ (λ (x y : Bool). x || y) here rest ∙ or_cheaper p.1 (get_or ps m d).1 q.1 (behind p ps h m d (omega arith)).1

@@ -1,5 +1,6 @@
 -- The node of a prefix by the bits of its ranks.
-use Rattle.std.proofs.Common.{◌≡◌, ℕ, zero, suc, ◌+◌, ◌-◌, ◌*◌, ◌<◌, ◌≤◌, ◌^◌, ◌⊎◌, ◌↔◌, inl, inr, Bool, true, ◌||◌, leb, eqb, List, ◌∷◌, length, refl, sym, ap, ◌∙◌, arith}
+use Rattle.std.proofs.Common.{◌≡◌, ℕ, zero, suc, ◌+◌, ◌-◌, ◌*◌, ◌<◌, ◌≤◌, ◌^◌, ◌⊎◌, ◌↔◌, inl, inr, Bool, true, ◌||◌}
+use Rattle.std.proofs.Common.{leb, eqb, List, ◌∷◌, length, refl, sym, ap, ◌∙◌, arith}
 use Rattle.std.specs.Prelude.{◌/◌}
 use Rattle.std.specs.Int.{bit_at}
 use Rattle.std.proofs.Math.Nat.{pow-suc, div-div-eq-div-mul}
@@ -15,15 +16,18 @@ use Rattle.certificate.specs.Patterns.{bits}
 use Rattle.cert_check.specs.PlacedBits.{is_marked, digits_of}
 
 member_bit : (rs : List ℕ) (placed r : ℕ) → HasBit placed r ↔ In r rs → is_member r rs ≡ eqb (bit_at placed r) 1
-member_bit rs placed r h = same_from_decides (is_member r rs) (eqb (bit_at placed r) 1) (λ e. h.1 (member_in r rs e), λ e. in_member r rs (h.0 e)) (Decides-eqb (bit_at placed r) 1)
+member_bit rs placed r h = same_from_decides (is_member r rs) (eqb (bit_at placed r) 1)
+    (λ e. h.1 (member_in r rs e), λ e. in_member r rs (h.0 e)) (Decides-eqb (bit_at placed r) 1)
 
-pub pattern_of_bits : (g : OrderRules) (rs : List ℕ) (placed : ℕ) → ((r : ℕ) → 1 ≤ r → HasBit placed r ↔ In r rs) → pattern_node g rs ≡ (length rs, digits_of g.most (length rs) placed, last_rank rs)
+pub pattern_of_bits : (g : OrderRules) (rs : List ℕ) (placed : ℕ) → ((r : ℕ) → 1 ≤ r → HasBit placed r ↔ In r rs)
+    → pattern_node g rs ≡ (length rs, digits_of g.most (length rs) placed, last_rank rs)
 pattern_of_bits g rs placed h =
     let k = g.most in
     ap (λ (ds : List Bool). (length rs, ds, last_rank rs))
     (tests_agree (pattern_digit k rs) (is_marked k placed) (suc (length rs)) (2 * k) (λ y le lt. elim (cases_lt k y) [
       | inl above ↦ ap (λ (b : Bool). leb y k || b) (member_bit rs placed (y - k) (h (y - k) (omega arith)))
-      | inr below ↦ or_left (leb y k) (is_member (y - k) rs) (le-leb y k below) ∙ sym (or_left (leb y k) (eqb (bit_at placed (y - k)) 1) (le-leb y k below))
+      | inr below ↦ or_left (leb y k) (is_member (y - k) rs) (le-leb y k below)
+          ∙ sym (or_left (leb y k) (eqb (bit_at placed (y - k)) 1) (le-leb y k below))
     ]))
 
 -- ---- as the bits of a number
@@ -33,9 +37,12 @@ half_more n y = div-div-eq-div-mul n (2 ^ y) 2 ∙ ap (λ (d : ℕ). n / d) (sym
 
 bits_are_tests : (n y m : ℕ) → bits m (n / 2 ^ y) ≡ tests_from (λ i. eqb (bit_at n i) 1) y m
 bits_are_tests n y zero = refl
-bits_are_tests n y (suc m) = ap (λ (ds : List Bool). eqb (bit_at n y) 1 ∷ ds) (ap (bits m) (half_more n y) ∙ bits_are_tests n (suc y) m)
+bits_are_tests n y (suc m) =
+    ap (λ (ds : List Bool). eqb (bit_at n y) 1 ∷ ds) (ap (bits m) (half_more n y) ∙ bits_are_tests n (suc y) m)
 
-pub digits_are_bits : (k stage placed marks : ℕ) → ((y : ℕ) → HasBit marks y ↔ ((y ≤ k) ⊎ ((k < y) × HasBit placed (y - k)))) → digits_of k stage placed ≡ bits (2 * k) (marks / 2 ^ (stage + 1))
+pub digits_are_bits : (k stage placed marks : ℕ)
+    → ((y : ℕ) → HasBit marks y ↔ ((y ≤ k) ⊎ ((k < y) × HasBit placed (y - k))))
+    → digits_of k stage placed ≡ bits (2 * k) (marks / 2 ^ (stage + 1))
 digits_are_bits k stage placed marks h =
     let e : stage + 1 ≡ suc stage = omega arith in
     tests_agree (is_marked k placed) (λ i. eqb (bit_at marks i) 1) (suc stage) (2 * k) (λ y le lt. same y)

@@ -1,5 +1,6 @@
 -- The landings of a best list in an order of all ranks are shown optimal.
-use Rattle.std.proofs.Common.{◌≡◌, ◌≢◌, ℕ, zero, suc, ◌<◌, inl, inr, Bool, cond, eqb, List, [], ◌∷◌, length, reverse, refl, sym, ap, subst, ◌∙◌, arith}
+use Rattle.std.proofs.Common.{◌≡◌, ◌≢◌, ℕ, zero, suc, ◌<◌, inl, inr, Bool, cond, eqb, List, [], ◌∷◌, length, reverse}
+use Rattle.std.proofs.Common.{refl, sym, ap, subst, ◌∙◌, arith}
 use Rattle.std.specs.Prelude.{All, bytes_eq, count_by}
 use Rattle.std.proofs.lemmas.Bool.{cases_eq, eq-eqb, ne_eqb, cases_order, false_from_ne_true}
 use Rattle.std.proofs.lemmas.List.{length-map, length-reverse, reverse-reverse, get_or-map}
@@ -64,10 +65,12 @@ module _ (p : Problem) (well : IsWellFormed p) where
   same_name : (q r : ℕ) → IsRank (count p) q → IsRank (count p) r → bytes_eq (name q) (name r) ≡ eqb q r
   same_name q r a b = elim (cases_eq q r) [
     | inl e ↦ (bytes_eq-Decides (name q) (name r)).1 (ap name e) ∙ sym (eq-eqb q r e)
-    | inr ne ↦ false_from_ne_true (bytes_eq (name q) (name r)) (λ t. differ q r a b ne ((bytes_eq-Decides (name q) (name r)).0 t)) ∙ sym (ne_eqb q r ne)
+    | inr ne ↦ false_from_ne_true (bytes_eq (name q) (name r))
+        (λ t. differ q r a b ne ((bytes_eq-Decides (name q) (name r)).0 t)) ∙ sym (ne_eqb q r ne)
   ]
 
-  module _ (t : Schedule) (order : List ℕ) (as_many : length order ≡ count p) (ranks : All (IsRank (count p)) order) (distinct : Distinct (reverse order)) where
+  module _ (t : Schedule) (order : List ℕ) (as_many : length order ≡ count p) (ranks : All (IsRank (count p)) order)
+      (distinct : Distinct (reverse order)) where
     ls : Landings
     ls = landings_in p t order
 
@@ -78,7 +81,8 @@ module _ (p : Problem) (well : IsWellFormed p) where
     back r i = subst (λ (rs : List ℕ). In r rs) (reverse-reverse order) (in_reverse (reverse order) r i)
 
     has_rank : (r : ℕ) → IsRank (count p) r → In r (reverse order)
-    has_rank r q = all_ranks (count p) (reverse order) distinct (λ x i. is_rank x (back x i)) (length-reverse order ∙ as_many) r q
+    has_rank r q = all_ranks (count p) (reverse order) distinct (λ x i. is_rank x (back x i))
+        (length-reverse order ∙ as_many) r q
 
     once : (r : ℕ) → IsRank (count p) r → count_by (λ l. bytes_eq l.0 (flight p r).callsign) ls ≡ 1
     unfolding ls name
@@ -88,12 +92,16 @@ module _ (p : Problem) (well : IsWellFormed p) where
         ∙ sym (sum_by-IsPermutation (λ x. cond (eqb x r) 1 0) order (reverse order) (IsPermutation-reverse order))
         ∙ once_of r (reverse order) distinct (has_rank r q)
 
-    second_from : (rs : List ℕ) → ((x : ℕ) → In x rs → IsRank (count p) x) → (r : ℕ) → IsRank (count p) r → In r rs → second_of (landings_in p t rs) (flight p r).callsign ≡ of_rank 0 t r
+    second_from : (rs : List ℕ) → ((x : ℕ) → In x rs → IsRank (count p) x) → (r : ℕ) → IsRank (count p) r
+        → In r rs → second_of (landings_in p t rs) (flight p r).callsign ≡ of_rank 0 t r
     unfolding name
     second_from [] h r q i = absurd i
     second_from (x ∷ rs) h r q i = elim (cases_eq x r) [
-      | inl e ↦ ap (λ (b : Bool). cond b (of_rank 0 t x) (second_of (landings_in p t rs) (name r))) (same_name x r (h x (inl refl)) q ∙ eq-eqb x r e) ∙ ap (of_rank 0 t) e
-      | inr ne ↦ ap (λ (b : Bool). cond b (of_rank 0 t x) (second_of (landings_in p t rs) (name r))) (same_name x r (h x (inl refl)) q ∙ ne_eqb x r ne) ∙ second_from rs (λ y j. h y (inr j)) r q (later x r rs i ne)
+      | inl e ↦ ap (λ (b : Bool). cond b (of_rank 0 t x) (second_of (landings_in p t rs) (name r)))
+          (same_name x r (h x (inl refl)) q ∙ eq-eqb x r e) ∙ ap (of_rank 0 t) e
+      | inr ne ↦ ap (λ (b : Bool). cond b (of_rank 0 t x) (second_of (landings_in p t rs) (name r)))
+          (same_name x r (h x (inl refl)) q ∙ ne_eqb x r ne)
+          ∙ second_from rs (λ y j. h y (inr j)) r q (later x r rs i ne)
     ]
       where
         later : (x r : ℕ) (rs : List ℕ) → In r (x ∷ rs) → (x ≡ r → ⊥) → In r rs
@@ -106,14 +114,19 @@ module _ (p : Problem) (well : IsWellFormed p) where
         let all : length (seconds p ls) ≡ count p = length-map p.flights (λ f. second_of ls f.callsign) in
         same_number_lists (seconds p ls) t (omega arith) (λ i lt.
         get_or-map (λ f. second_of ls f.callsign) p.flights i no_waiting 0 (omega arith)
-        ∙ second_from order is_rank (suc i) (omega arith, omega arith) (back (suc i) (has_rank (suc i) (omega arith, omega arith))))
+        ∙ second_from order is_rank (suc i) (omega arith, omega arith)
+        (back (suc i) (has_rank (suc i) (omega arith, omega arith))))
 
     pub best_order_shown : IsBestList p t → IsShownOptimal p (landings_in p t order) (list_objective p t)
     unfolding ls
     best_order_shown best =
         let same = seconds_are best.feasible.one_each in
         record {
-          landings = record { as_many = length-map order (λ r. ((flight p r).callsign, of_rank 0 t r)) ∙ as_many; each_once = λ r one most. once r (one, most) };
+          landings = record {
+            as_many = length-map order (λ r. ((flight p r).callsign, of_rank 0 t r))
+                ∙ as_many;
+            each_once = λ r one most. once r (one, most);
+          };
           best = subst (IsBestList p) (sym same) best;
           value = ap (list_objective p) same;
         }

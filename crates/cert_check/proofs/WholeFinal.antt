@@ -1,5 +1,6 @@
 -- No state of the last stage contradicts what a whole certificate claims: each of its pairs is that of a feasible list.
-use Rattle.std.proofs.Common.{◌≡◌, ℕ, Bool, true, false, ◌&&◌, cond, eqb, ltb, List, length, get_or, Some, None, refl, sym, ap, ◌∙◌, arith}
+use Rattle.std.proofs.Common.{◌≡◌, ℕ, Bool, true, false, ◌&&◌, cond, eqb, ltb, List, length, get_or, Some, None, refl}
+use Rattle.std.proofs.Common.{sym, ap, ◌∙◌, arith}
 use Rattle.std.specs.Prelude.{All}
 use Rattle.std.specs.List.{list_any}
 use Rattle.std.proofs.lemmas.Bool.{eqb-true, ne_eqb, le-ltb}
@@ -28,15 +29,22 @@ use Rattle.cert_check.proofs.WholeStates.{any_not, none_passes}
 
 module _ (p : Problem) (well : IsWellFormed p) where
   -- a feasible map is a feasible list of its objective
-  map_listed : (t : ℕ → ℕ) → Feasible (ranked p) t → (u : Schedule) × IsFeasibleList p u × (list_objective p u ≡ value_at p (second_and_cost (cost_at p) (count p) t))
+  map_listed : (t : ℕ → ℕ) → Feasible (ranked p) t → (u : Schedule) × IsFeasibleList p u
+      × (list_objective p u ≡ value_at p (second_and_cost (cost_at p) (count p) t))
   map_listed t f =
       let n = count p in
       let u = list_of n t in
-      let long = list_of_long n t in
-      (u, feasible_list p (passed_low p well) u long (feasible_agree (ranked p) t (of_rank 0 u) (λ r q. sym (list_of_at n t r q)) f), list_value p u long ∙ value_agree p (of_rank 0 u) t (list_of_at n t))
+      let long = list_of_long n t in (
+        u,
+        feasible_list p (passed_low p well) u long
+            (feasible_agree (ranked p) t (of_rank 0 u) (λ r q. sym (list_of_at n t r q)) f),
+        list_value p u long
+            ∙ value_agree p (of_rank 0 u) t (list_of_at n t),
+      )
 
   -- so a pair that a node of the last stage attains is that of a feasible list
-  pub list_from : (w : PatternNode) (q : Pair) → Attains p w q → w.0 ≡ count p → (u : Schedule) × IsFeasibleList p u × (list_objective p u ≡ value_at p q)
+  pub list_from : (w : PatternNode) (q : Pair) → Attains p w q → w.0 ≡ count p → (u : Schedule)
+      × IsFeasibleList p u × (list_objective p u ≡ value_at p q)
   list_from w q a at =
       let xs = a.landings in
       let whole : length (ranks xs) ≡ count p = ap (λ (z : PatternNode). z.0) a.at ∙ at in
@@ -46,7 +54,8 @@ module _ (p : Problem) (well : IsWellFormed p) where
 
   -- ---- an optimum is claimed
 
-  not_below : (v : ℕ) (ls : Landings) → IsShownOptimal p ls v → (s : State) → IsWholeState p s → is_final_below p v s ≡ false
+  not_below : (v : ℕ) (ls : Landings) → IsShownOptimal p ls v → (s : State) → IsWholeState p s
+      → is_final_below p v s ≡ false
   not_below v ls shown s h = go (eqb s.stage (count p)) refl
     where
       go : (b : Bool) → eqb s.stage (count p) ≡ b → b && list_any (λ q. ltb (value_at p q) v) s.pairs ≡ false
@@ -59,13 +68,16 @@ module _ (p : Problem) (well : IsWellFormed p) where
           let value = u.2 in
           le-ltb (value_at p q) v (omega arith))
 
-  pub optimal_final : (v : ℕ) (ls : Landings) → IsShownOptimal p ls v → (ss : List State) → All (IsWholeState p) ss → final_failure p (claim.Optimal v) ss ≡ None
-  optimal_final v ls shown ss h = none_passes (is_final_below p v) 1 ss (λ k d lt. not_below v ls shown (get_or ss k d) (h k d lt))
+  pub optimal_final : (v : ℕ) (ls : Landings) → IsShownOptimal p ls v → (ss : List State) → All (IsWholeState p) ss
+      → final_failure p (claim.Optimal v) ss ≡ None
+  optimal_final v ls shown ss h =
+      none_passes (is_final_below p v) 1 ss (λ k d lt. not_below v ls shown (get_or ss k d) (h k d lt))
 
   -- ---- nothing is feasible
 
   not_final : NothingIsFeasible p → (s : State) → IsWholeState p s → is_final p s ≡ false
-  not_final none s h = ne_eqb s.stage (count p) (λ at. let u = list_from (node_of s) h.landable.0 h.landable.1 at in none u.0 u.1)
+  not_final none s h = ne_eqb s.stage (count p) (λ at. let u =
+      list_from (node_of s) h.landable.0 h.landable.1 at in none u.0 u.1)
 
   -- with no flight the list of none is feasible
   some_flight : NothingIsFeasible p → count p ≡ 0 → ⊥
@@ -84,7 +96,8 @@ module _ (p : Problem) (well : IsWellFormed p) where
         not_late = λ r q. out r q;
       }
 
-  pub infeasible_final : NothingIsFeasible p → (ss : List State) → All (IsWholeState p) ss → final_failure p claim.Infeasible ss ≡ None
+  pub infeasible_final : NothingIsFeasible p → (ss : List State) → All (IsWholeState p) ss
+      → final_failure p claim.Infeasible ss ≡ None
   infeasible_final none ss h =
       ap (λ (b : Bool). cond b (Some 0) (element_from (is_final p) 1 ss)) (ne_eqb (count p) 0 (some_flight none))
       ∙ none_passes (is_final p) 1 ss (λ k d lt. not_final none (get_or ss k d) (h k d lt))

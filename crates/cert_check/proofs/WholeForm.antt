@@ -1,5 +1,6 @@
 -- States that leave nothing out keep the form of a certificate's, and are few.
-use Rattle.std.proofs.Common.{◌≡◌, ℕ, suc, ◌+◌, ◌*◌, ◌<◌, ◌≤◌, ◌^◌, ◌⊎◌, inl, inr, Bool, true, false, List, [], ◌∷◌, length, refl, sym, ap, subst, ◌∙◌, arith}
+use Rattle.std.proofs.Common.{◌≡◌, ℕ, suc, ◌+◌, ◌*◌, ◌<◌, ◌≤◌, ◌^◌, ◌⊎◌, inl, inr, Bool, true, false, List, [], ◌∷◌}
+use Rattle.std.proofs.Common.{length, refl, sym, ap, subst, ◌∙◌, arith}
 use Rattle.std.specs.Prelude.{All}
 use Rattle.std.specs.List.{list_all}
 use Rattle.std.specs.Ordering.{nat_cmp, bool_cmp, ordering_then}
@@ -36,7 +37,8 @@ some_pair q [] i = absurd i
 some_pair q (x ∷ ps) i = omega arith
 
 module _ (p : Problem) (well : IsWellFormed p) where
-  shape_of : (s : State) (xs : List Landing) → 1 ≤ s.stage → Legal (rules_of p) (ranks xs) → pattern_node (rules_of p) (ranks xs) ≡ node_of s → IsShaped p.k (count p) (node_of s) × (1 ≤ s.last)
+  shape_of : (s : State) (xs : List Landing) → 1 ≤ s.stage → Legal (rules_of p) (ranks xs)
+      → pattern_node (rules_of p) (ranks xs) ≡ node_of s → IsShaped p.k (count p) (node_of s) × (1 ≤ s.last)
   shape_of s [] begun legal at = absurd (let e = ap (λ (z : PatternNode). z.0) at in omega arith)
   shape_of s (x ∷ xs) begun legal at =
       let h = legal_is_shaped (rules_of p) (λ r. (sound_problem p well).low r) x.0 (ranks xs) legal in
@@ -64,26 +66,36 @@ module _ (p : Problem) (well : IsWellFormed p) where
         rising = h.rising;
       }
 
-  states_in_form : (ss : List State) → All (IsWholeState p) ss → All (λ s. list_all is_pair s.pairs ≡ true) ss → AreStates ss
+  states_in_form : (ss : List State) → All (IsWholeState p) ss → All (λ s. list_all is_pair s.pairs ≡ true) ss
+      → AreStates ss
   states_in_form [] h k = tt
-  states_in_form (s ∷ ss) h k = (in_form s (h 0 s (omega arith)) (k 0 s (omega arith)), states_in_form ss (λ i d lt. h (suc i) d (omega arith)) (λ i d lt. k (suc i) d (omega arith)))
+  states_in_form (s ∷ ss) h k = (
+    in_form s (h 0 s (omega arith)) (k 0 s (omega arith)),
+    states_in_form ss (λ i d lt. h (suc i) d (omega arith))
+        (λ i d lt. k (suc i) d (omega arith)),
+  )
 
 -- ---- how many
 
-pub number_rises : (xs ys : List Bool) → length xs ≡ length ys → slice_cmp bool_cmp xs ys ≡ Less → number_of xs < number_of ys
+pub number_rises : (xs ys : List Bool) → length xs ≡ length ys → slice_cmp bool_cmp xs ys ≡ Less
+    → number_of xs < number_of ys
 number_rises [] [] same e = absurd (cc)
 number_rises [] (y ∷ ys) same e = absurd (omega arith)
 number_rises (x ∷ xs) [] same e = absurd (omega arith)
-number_rises (true ∷ xs) (true ∷ ys) same e = let more = number_rises xs ys (omega arith) e in let l : length xs ≡ length ys = omega arith in let b = ap (λ i. 2 ^ i) l in omega arith
+number_rises (true ∷ xs) (true ∷ ys) same e = let more = number_rises xs ys (omega arith) e in
+    let l : length xs ≡ length ys = omega arith in let b = ap (λ i. 2 ^ i) l in omega arith
 number_rises (false ∷ xs) (false ∷ ys) same e = let more = number_rises xs ys (omega arith) e in omega arith
 number_rises (true ∷ xs) (false ∷ ys) same e = absurd (cc)
-number_rises (false ∷ xs) (true ∷ ys) same e = let a = number_below xs in let l : length xs ≡ length ys = omega arith in let b = ap (λ i. 2 ^ i) l in omega arith
+number_rises (false ∷ xs) (true ∷ ys) same e = let a = number_below xs in let l : length xs ≡ length ys =
+    omega arith in let b = ap (λ i. 2 ^ i) l in omega arith
 
-pub number_same : (xs ys : List Bool) → length xs ≡ length ys → slice_cmp bool_cmp xs ys ≡ Equal → number_of xs ≡ number_of ys
+pub number_same : (xs ys : List Bool) → length xs ≡ length ys → slice_cmp bool_cmp xs ys ≡ Equal
+    → number_of xs ≡ number_of ys
 number_same [] [] same e = refl
 number_same [] (y ∷ ys) same e = absurd (omega arith)
 number_same (x ∷ xs) [] same e = absurd (omega arith)
-number_same (true ∷ xs) (true ∷ ys) same e = let more = number_same xs ys (omega arith) e in let l : length xs ≡ length ys = omega arith in let b = ap (λ i. 2 ^ i) l in omega arith
+number_same (true ∷ xs) (true ∷ ys) same e = let more = number_same xs ys (omega arith) e in
+    let l : length xs ≡ length ys = omega arith in let b = ap (λ i. 2 ^ i) l in omega arith
 number_same (false ∷ xs) (false ∷ ys) same e = let more = number_same xs ys (omega arith) e in omega arith
 number_same (true ∷ xs) (false ∷ ys) same e = absurd (cc)
 number_same (false ∷ xs) (true ∷ ys) same e = absurd (cc)
@@ -112,9 +124,11 @@ record IsCoded (width : ℕ) (s : State) : Type 0 where
 module _ (width : ℕ) (narrow : width ≤ 6) where
   code_low : (s : State) → IsCoded width s → code s < 249856
   unfolding code
-  code_low s h = let a = h.stage in let b = number_small s.pattern (let d = h.digits in omega arith) in let c = h.last in omega arith
+  code_low s h = let a = h.stage in let b = number_small s.pattern (let d = h.digits in omega arith) in let c =
+      h.last in omega arith
 
-  code_rises : (s t : State) → IsCoded width s → IsCoded width t → node_cmp (node_of s) (node_of t) ≡ Less → code s < code t
+  code_rises : (s t : State) → IsCoded width s → IsCoded width t → node_cmp (node_of s) (node_of t) ≡ Less
+      → code s < code t
   unfolding code
   code_rises s t h k e =
       let same : length s.pattern ≡ length t.pattern = h.digits ∙ sym k.digits in
@@ -124,19 +138,23 @@ module _ (width : ℕ) (narrow : width ≤ 6) where
       let y = k.last in
       elim (then_less (nat_cmp s.stage t.stage) _ e) [
         | inl lt ↦ (let u : s.stage < t.stage = ranked s.stage t.stage Less (sym lt) in omega arith)
-        | inr r ↦ (let u : s.stage ≡ t.stage = ranked s.stage t.stage Equal (sym r.0) in elim (then_less (slice_cmp bool_cmp s.pattern t.pattern) (nat_cmp s.last t.last) r.1) [
-          | inl lt ↦ (let v = number_rises s.pattern t.pattern same lt in omega arith)
-          | inr q ↦ (let v = number_same s.pattern t.pattern same q.0 in let z : s.last < t.last = ranked s.last t.last Less (sym q.1) in omega arith)
-        ])
+        | inr r ↦ (let u : s.stage ≡ t.stage = ranked s.stage t.stage Equal (sym r.0) in
+            elim (then_less (slice_cmp bool_cmp s.pattern t.pattern) (nat_cmp s.last t.last) r.1) [
+              | inl lt ↦ (let v = number_rises s.pattern t.pattern same lt in omega arith)
+              | inr q ↦ (let v = number_same s.pattern t.pattern same q.0 in let z : s.last < t.last =
+                  ranked s.last t.last Less (sym q.1) in omega arith)
+            ])
       ]
 
   -- so many numbers are free from one on
-  few_from : (ss : List State) (least : ℕ) → AscendBy (λ s t. node_cmp (node_of s) (node_of t) ≡ Less) ss → ((s : State) → Member s ss → IsCoded width s × (least ≤ code s)) → least ≤ 249856 → least + length ss ≤ 249856
+  few_from : (ss : List State) (least : ℕ) → AscendBy (λ s t. node_cmp (node_of s) (node_of t) ≡ Less) ss
+      → ((s : State) → Member s ss → IsCoded width s × (least ≤ code s)) → least ≤ 249856 → least + length ss ≤ 249856
   few_from [] least up h le = omega arith
   few_from (s ∷ ss) least up h le =
       let here = h s (inl refl) in
       let low = code_low s here.0 in
-      let more = few_from ss (suc (code s)) up.1 (λ t i. ((h t (inr i)).0, code_rises s t here.0 (h t (inr i)).0 (up.0 t i))) (omega arith) in
+      let more = few_from ss (suc (code s)) up.1
+      (λ t i. ((h t (inr i)).0, code_rises s t here.0 (h t (inr i)).0 (up.0 t i))) (omega arith) in
       let at = here.1 in
       omega arith
 
@@ -149,8 +167,10 @@ module _ (p : Problem) (well : IsWellFormed p) where
       let latest = w.latest in
       record { stage = omega arith; digits = w.digits; last = omega arith }
 
-  pub whole_in_form : (ss : List State) → AreWholeStates p ss → All (λ s. list_all is_pair s.pairs ≡ true) ss → AreStates ss × (length ss < 4294967295)
+  pub whole_in_form : (ss : List State) → AreWholeStates p ss → All (λ s. list_all is_pair s.pairs ≡ true) ss
+      → AreStates ss × (length ss < 4294967295)
   whole_in_form ss h pairs =
       let narrow = well.few_places in
-      let few = few_from (2 * p.k) (omega arith) ss 0 (ascending ss h.ascending) (λ s i. (coded s (all_at (IsWholeState p) ss h.each s i), omega arith)) (omega arith) in
+      let few = few_from (2 * p.k) (omega arith) ss 0 (ascending ss h.ascending)
+      (λ s i. (coded s (all_at (IsWholeState p) ss h.each s i), omega arith)) (omega arith) in
       (states_in_form p well ss h.each pairs, omega arith)

@@ -1,4 +1,5 @@
--- What the pairs of a state come from: landings of the makespan cost nothing, and the last of them is at an open second.
+-- What the pairs of a state come from: landings of the makespan cost nothing, and the last of them is at an open
+-- second.
 use Rattle.std.proofs.Common.{◌≡◌, ℕ, ◌<◌, ◌≤◌, inl, inr, List, [], ◌∷◌, length, true, refl, sym, ap, subst, ◌∙◌, arith}
 use Rattle.std.specs.Prelude.{◌&&◌, nat_lt}
 use Rattle.std.proofs.lemmas.Bool.{and_parts}
@@ -44,13 +45,15 @@ makespan_pairs p s e h = go s.pairs h.rising (λ q i. costless q ((h.undominated
 
 module _ (p : Problem) (s : State) (q : Pair) where
   -- the last landing of a prefix of this node
-  opened : (xs : List Landing) → 1 ≤ s.stage → Landed (λ r u. (ranked p).is_open r u ≡ true) (next_from (ranked p)) xs → pattern_node (rules_of p) (ranks xs) ≡ node_of s
+  opened : (xs : List Landing) → 1 ≤ s.stage → Landed (λ r u. (ranked p).is_open r u ≡ true) (next_from (ranked p)) xs
+      → pattern_node (rules_of p) (ranks xs) ≡ node_of s
       → pair_of (cost_at p) xs ≡ q → (ranked p).is_open s.last q.0 ≡ true
   opened [] begun landed at is = absurd (let e = ap (λ (z : PatternNode). z.0) at in omega (arith, e, begun))
   opened (x ∷ xs) begun landed at is =
       let last : x.0 ≡ s.last = ap (λ (z : PatternNode). z.2) at in
       let second : x.1 ≡ q.0 = ap (λ (z : Pair). z.0) is in
-      subst (λ (t : ℕ). (ranked p).is_open s.last t ≡ true) second (subst (λ (r : ℕ). (ranked p).is_open r x.1 ≡ true) last landed.0)
+      subst (λ (t : ℕ). (ranked p).is_open s.last t ≡ true) second
+      (subst (λ (r : ℕ). (ranked p).is_open r x.1 ≡ true) last landed.0)
 
 pub pairs_open : PairsAreOpenLaw
 pairs_open p s q h i =

@@ -1,6 +1,8 @@
--- The states of a stage are numbered by their digits and then by their last rank. Of these numbers few are those of a state, and a
--- state has at least as many of them before it as there are states before it.
-use Rattle.std.proofs.Common.{◌≡◌, ℕ, zero, suc, ◌+◌, ◌-◌, ◌*◌, ◌/◌, ◌%◌, ◌<◌, ◌≤◌, ◌^◌, inl, inr, List, [], ◌∷◌, length, get_or, true, false, Bool, cond, ◌&&◌, ◌||◌, leb, eqb, refl, sym, ap, subst, ◌∙◌, arith}
+-- The states of a stage are numbered by their digits and then by their last rank. Of these numbers few are those of a
+-- state, and a state has at least as many of them before it as there are states before it.
+use Rattle.std.proofs.Common.{◌≡◌, ℕ, zero, suc, ◌+◌, ◌-◌, ◌*◌, ◌/◌, ◌%◌, ◌<◌, ◌≤◌, ◌^◌, inl, inr, List, [], ◌∷◌}
+use Rattle.std.proofs.Common.{length, get_or, true, false, Bool, cond, ◌&&◌, ◌||◌, leb, eqb, refl, sym, ap, subst, ◌∙◌}
+use Rattle.std.proofs.Common.{arith}
 use Rattle.std.specs.Prelude.{count_by}
 use Rattle.std.specs.Ordering.{nat_cmp, bool_cmp}
 use Rattle.std.specs.Cmp.Lexicographic.{slice_cmp}
@@ -43,7 +45,8 @@ count_head d ds = sum_by-cons (λ (x : Bool). cond x 1 0) d ds
 ones_are : (ds : List Bool) → ones_in (length ds) (number_of ds) ≡ count_by (λ d. d) ds
 ones_are [] = refl
 ones_are (true ∷ ds) =
-    let high : leb (2 ^ length ds) (2 ^ length ds + number_of ds) ≡ true = le-leb (2 ^ length ds) (2 ^ length ds + number_of ds) (omega arith) in
+    let high : leb (2 ^ length ds) (2 ^ length ds + number_of ds) ≡ true =
+    le-leb (2 ^ length ds) (2 ^ length ds + number_of ds) (omega arith) in
     let rest : 2 ^ length ds + number_of ds - 2 ^ length ds ≡ number_of ds = omega arith in
     let more = ones_are ds in
     rw (high, rest, more, count_head true ds) refl
@@ -58,7 +61,8 @@ digit_is [] j = refl
 digit_is (true ∷ ds) zero = le-leb (2 ^ length ds) (2 ^ length ds + number_of ds) (omega arith)
 digit_is (false ∷ ds) zero = lt-leb (2 ^ length ds) (0 + number_of ds) (let low = number_below ds in omega (arith, low))
 digit_is (true ∷ ds) (suc j) =
-    let high : leb (2 ^ length ds) (2 ^ length ds + number_of ds) ≡ true = le-leb (2 ^ length ds) (2 ^ length ds + number_of ds) (omega arith) in
+    let high : leb (2 ^ length ds) (2 ^ length ds + number_of ds) ≡ true =
+    le-leb (2 ^ length ds) (2 ^ length ds + number_of ds) (omega arith) in
     let rest : 2 ^ length ds + number_of ds - 2 ^ length ds ≡ number_of ds = omega arith in
     let more = digit_is ds j in
     rw (high, rest, more) refl
@@ -82,7 +86,8 @@ passing t (suc c) = passing t c + cond (t c) 1 0
 module _ (t : ℕ → Bool) where
   passing_on : (c more : ℕ) → passing t c ≤ passing t (c + more)
   passing_on c zero = let same : c + 0 ≡ c = omega arith in rw same (omega arith)
-  passing_on c (suc more) = let a = passing_on c more in let same : c + suc more ≡ suc (c + more) = omega arith in rw same (omega (arith, a))
+  passing_on c (suc more) = let a = passing_on c more in let same : c + suc more ≡ suc (c + more) =
+      omega arith in rw same (omega (arith, a))
 
   passing_more : (c d : ℕ) → t c ≡ true → c < d → passing t c + 1 ≤ passing t d
   passing_more c d here lt =
@@ -115,27 +120,33 @@ module _ (k n : ℕ) (narrow : k ≤ 3) where
   number_low s h =
       let a = h.near.0 in
       let b = h.near.1 in
-      let low : number_of s.pattern < 2 ^ (2 * k) = subst (λ (x : ℕ). number_of s.pattern < 2 ^ x) h.digits (number_below s.pattern) in
+      let low : number_of s.pattern < 2 ^ (2 * k) =
+      subst (λ (x : ℕ). number_of s.pattern < 2 ^ x) h.digits (number_below s.pattern) in
       omega (arith, a, b, low)
 
   -- its last rank is placed: it is below the digits, or its digit is 1
-  last_there : (s : State) → Shaped k n s → (eqb (s.last + k - s.stage) 0 || digit_in (2 * k) (number_of s.pattern) (s.last + k - s.stage - 1)) ≡ true
+  last_there : (s : State) → Shaped k n s
+      → (eqb (s.last + k - s.stage) 0 || digit_in (2 * k) (number_of s.pattern) (s.last + k - s.stage - 1)) ≡ true
   last_there s h = elim h.latest_placed [
-    | inl low ↦ or_left (eqb (s.last + k - s.stage) 0) (digit_in (2 * k) (number_of s.pattern) (s.last + k - s.stage - 1)) (eq-eqb (s.last + k - s.stage) 0 (omega (arith, low)))
+    | inl low ↦ or_left (eqb (s.last + k - s.stage) 0)
+        (digit_in (2 * k) (number_of s.pattern) (s.last + k - s.stage - 1))
+        (eq-eqb (s.last + k - s.stage) 0 (omega (arith, low)))
     | inr set ↦
         let place : s.last + k - s.stage - 1 ≡ s.last + k - suc s.stage = omega arith in
         let there : digit_in (2 * k) (number_of s.pattern) (s.last + k - s.stage - 1) ≡ true =
         ap (λ (x : ℕ). digit_in (2 * k) (number_of s.pattern) x) place
         ∙ ap (λ (x : ℕ). digit_in x (number_of s.pattern) (s.last + k - suc s.stage)) (sym h.digits)
         ∙ digit_is s.pattern (s.last + k - suc s.stage) ∙ set in
-        or_right (eqb (s.last + k - s.stage) 0) (digit_in (2 * k) (number_of s.pattern) (s.last + k - s.stage - 1)) there
+        or_right (eqb (s.last + k - s.stage) 0) (digit_in (2 * k) (number_of s.pattern) (s.last + k - s.stage - 1))
+        there
   ]
 
   number_is : (s : State) → Shaped k n s → is_of_state k (number k s) ≡ true
   number_is s h =
       let two = parts s h in
       let ones : eqb (ones_in (2 * k) (number_of s.pattern)) k ≡ true =
-      eq-eqb (ones_in (2 * k) (number_of s.pattern)) k (ap (λ (x : ℕ). ones_in x (number_of s.pattern)) (sym h.digits) ∙ ones_are s.pattern ∙ h.ones) in
+      eq-eqb (ones_in (2 * k) (number_of s.pattern)) k (ap (λ (x : ℕ). ones_in x (number_of s.pattern)) (sym h.digits)
+      ∙ ones_are s.pattern ∙ h.ones) in
       let there = last_there s h in
       rw (two.0, two.1) (and_from _ _ ones there)
 
@@ -151,7 +162,8 @@ module _ (k n : ℕ) (narrow : k ≤ 3) where
   within : (s : State) → Shaped k n s → before s + 1 ≤ (n + 1) * most_nodes k
   within s h =
       let few = few_below s h in
-      let stage = mul-le-mul_right (most_nodes k) (let le = h.stage in let x : s.stage + 1 ≤ n + 1 = omega (arith, le) in x) in
+      let stage = mul-le-mul_right (most_nodes k) (let le = h.stage in let x : s.stage + 1 ≤ n + 1 =
+      omega (arith, le) in x) in
       omega (arith, few, stage)
 
   later_stage : (s t : State) → Shaped k n s → s.stage < t.stage → before s + 1 ≤ before t
@@ -166,7 +178,8 @@ module _ (k n : ℕ) (narrow : k ≤ 3) where
       let stage = ap (λ (x : ℕ). x * most_nodes k) e in
       omega (arith, more, stage)
 
-  rises : (s t : State) → Shaped k n s → Shaped k n t → node_cmp (node_of s) (node_of t) ≡ Less → before s + 1 ≤ before t
+  rises : (s t : State) → Shaped k n s → Shaped k n t → node_cmp (node_of s) (node_of t) ≡ Less
+      → before s + 1 ≤ before t
   rises s t h j e =
       let same : length s.pattern ≡ length t.pattern = h.digits ∙ sym j.digits in
       let a = h.near.1 in
@@ -174,27 +187,36 @@ module _ (k n : ℕ) (narrow : k ≤ 3) where
       let c = j.near.0 in
       elim (then_less (nat_cmp s.stage t.stage) _ e) [
         | inl lt ↦ later_stage s t h (ranked s.stage t.stage Less (sym lt))
-        | inr r ↦ (let u : s.stage ≡ t.stage = ranked s.stage t.stage Equal (sym r.0) in same_stage s t h u (elim (then_less (slice_cmp bool_cmp s.pattern t.pattern) (nat_cmp s.last t.last) r.1) [
-          | inl lt ↦ (let v = number_rises s.pattern t.pattern same lt in omega (arith, v, a, b, c, u))
-          | inr q ↦ (let v = number_same s.pattern t.pattern same q.0 in let z : s.last < t.last = ranked s.last t.last Less (sym q.1) in omega (arith, v, z, a, b, c, u))
-        ]))
+        | inr r ↦ (let u : s.stage ≡ t.stage = ranked s.stage t.stage Equal (sym r.0) in
+            same_stage s t h u (elim (then_less (slice_cmp bool_cmp s.pattern t.pattern) (nat_cmp s.last t.last) r.1) [
+              | inl lt ↦ (let v = number_rises s.pattern t.pattern same lt in omega (arith, v, a, b, c, u))
+              | inr q ↦ (let v = number_same s.pattern t.pattern same q.0 in let z : s.last < t.last =
+                  ranked s.last t.last Less (sym q.1) in omega (arith, v, z, a, b, c, u))
+            ]))
       ]
 
-  few_from : (ss : List State) (least : ℕ) → AscendBy (λ s t. node_cmp (node_of s) (node_of t) ≡ Less) ss → ((s : State) → Member s ss → Shaped k n s × (least ≤ before s))
+  few_from : (ss : List State) (least : ℕ) → AscendBy (λ s t. node_cmp (node_of s) (node_of t) ≡ Less) ss
+      → ((s : State) → Member s ss → Shaped k n s × (least ≤ before s))
       → least ≤ (n + 1) * most_nodes k → least + length ss ≤ (n + 1) * most_nodes k
   few_from [] least up h le = omega (arith, le)
   few_from (s ∷ ss) least up h le =
       let here = h s (inl refl) in
       let top = within s here.0 in
       let at = here.1 in
-      let more = few_from ss (suc (before s)) up.1 (λ t i. ((h t (inr i)).0, (let x = rises s t here.0 (h t (inr i)).0 (up.0 t i) in omega (arith, x)))) (omega (arith, top)) in
+      let more = few_from ss (suc (before s)) up.1
+      (λ t i. ((h t (inr i)).0, (let x = rises s t here.0 (h t (inr i)).0 (up.0 t i) in omega (arith, x))))
+      (omega (arith, top)) in
       omega (arith, more, at)
 
 pub few_states : WholeStatesAreFewLaw
 few_states p ss well h =
     let n = count p in
-    let shaped : (s : State) → Member s ss → Shaped p.k n s = λ s i. (shape p well s (all_at (IsWholeState p) ss h.each s i)).0 in
+    let shaped : (s : State) → Member s ss → Shaped p.k n s =
+    λ s i. (shape p well s (all_at (IsWholeState p) ss h.each s i)).0 in
     let begun : (s : State) → Member s ss → most_nodes p.k ≤ before p.k n well.few_places s = λ s i.
-    (let one = (all_at (IsWholeState p) ss h.each s i).begun in let m = mul-le-mul_right (most_nodes p.k) one in omega (arith, m)) in
-    let all = few_from p.k n well.few_places ss (most_nodes p.k) (ascending ss h.ascending) (λ s i. (shaped s i, begun s i)) (let m = mul-le-mul_right (most_nodes p.k) (let x : 1 ≤ n + 1 = omega arith in x) in omega (arith, m)) in
+    (let one = (all_at (IsWholeState p) ss h.each s i).begun in let m =
+    mul-le-mul_right (most_nodes p.k) one in omega (arith, m)) in
+    let all = few_from p.k n well.few_places ss (most_nodes p.k) (ascending ss h.ascending)
+    (λ s i. (shaped s i, begun s i)) (let m = mul-le-mul_right (most_nodes p.k) (let x : 1 ≤ n + 1 =
+    omega arith in x) in omega (arith, m)) in
     omega (arith, all)

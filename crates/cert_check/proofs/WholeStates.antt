@@ -1,5 +1,7 @@
 -- The states of a whole certificate miss no successor, and have their shape.
-use Rattle.std.proofs.Common.{◌≡◌, ℕ, zero, suc, ◌+◌, ◌-◌, ◌*◌, ◌<◌, ◌≤◌, inl, inr, Bool, true, false, not, ◌&&◌, leb, ltb, List, [], ◌∷◌, length, get_or, Option, Some, None, refl, sym, ap, ap₂, subst, ◌∙◌, arith}
+use Rattle.std.proofs.Common.{◌≡◌, ℕ, zero, suc, ◌+◌, ◌-◌, ◌*◌, ◌<◌, ◌≤◌, inl, inr, Bool, true, false, not, ◌&&◌, leb}
+use Rattle.std.proofs.Common.{ltb, List, [], ◌∷◌, length, get_or, Option, Some, None, refl, sym, ap, ap₂, subst, ◌∙◌}
+use Rattle.std.proofs.Common.{arith}
 use Rattle.std.specs.Prelude.{All, count_by, option_map, is_none}
 use Rattle.std.specs.List.{list_any}
 use Rattle.std.specs.Ordering.{is_eq}
@@ -32,7 +34,9 @@ use Rattle.landing_joint.specs.shared.FirstOpen.{is_first_open}
 use Rattle.cps_problem.specs.WellFormed.{IsWellFormed}
 use Rattle.certificate.specs.States.{State}
 use Rattle.cert_check.specs.Landings.{count, flight}
-use Rattle.cert_check.specs.States.{node_of, pairs_of, rules_of, ready, successor, covers, is_missed, misses, first_missed, missed_from, digit, is_one, is_wrong_digit, is_shaped, is_misshapen, shape_failure}
+use Rattle.cert_check.specs.States.{node_of, pairs_of, rules_of, ready, successor, covers, is_missed, misses}
+use Rattle.cert_check.specs.States.{first_missed, missed_from, digit, is_one, is_wrong_digit, is_shaped, is_misshapen}
+use Rattle.cert_check.specs.States.{shape_failure}
 use Rattle.cert_check.specs.Whole.{Attains, IsWholeState, AreWholeStates}
 use Rattle.cert_check.proofs.PermitTests.{permits_from}
 use Rattle.cert_check.proofs.Sound.{sound_problem}
@@ -46,25 +50,34 @@ any_not f (b ∷ ps) h = or_from (f b) (list_any f ps) (h b (inl refl)) (any_not
 any_no_worse : (q o : Pair) (ps : List Pair) → InPairs o ps → NoWorse o q → list_any (λ x. no_worse x q) ps ≡ true
 any_no_worse q o [] i le = absurd i
 any_no_worse q o (x ∷ ps) (inl e) le =
-    or_left (no_worse x q) (list_any (λ y. no_worse y q) ps) (ap (λ (y : Pair). no_worse y q) (sym e) ∙ and_from (leb o.0 q.0) (leb o.1 q.1) (le-leb o.0 q.0 le.0) (le-leb o.1 q.1 le.1))
-any_no_worse q o (x ∷ ps) (inr i) le = or_right (no_worse x q) (list_any (λ y. no_worse y q) ps) (any_no_worse q o ps i le)
+    or_left (no_worse x q) (list_any (λ y. no_worse y q) ps) (ap (λ (y : Pair). no_worse y q) (sym e)
+    ∙ and_from (leb o.0 q.0) (leb o.1 q.1) (le-leb o.0 q.0 le.0) (le-leb o.1 q.1 le.1))
+any_no_worse q o (x ∷ ps) (inr i) le =
+    or_right (no_worse x q) (list_any (λ y. no_worse y q) ps) (any_no_worse q o ps i le)
 
-pub none_passes : {S : Type 0} (test : S → Bool) (i : ℕ) (ss : List S) → All (λ s. test s ≡ false) ss → element_from test i ss ≡ None
+pub none_passes : {S : Type 0} (test : S → Bool) (i : ℕ) (ss : List S) → All (λ s. test s ≡ false) ss
+    → element_from test i ss ≡ None
 unfolding element_from
 none_passes test i [] h = refl
-none_passes test i (s ∷ ss) h = rw (h 0 s (omega arith)) (none_passes test (i + 1) ss (λ k d lt. h (suc k) d (omega arith)))
+none_passes test i (s ∷ ss) h =
+    rw (h 0 s (omega arith)) (none_passes test (i + 1) ss (λ k d lt. h (suc k) d (omega arith)))
 
 -- ---- what covers
 
-covers_at : (w : PatternNode) (q o : Pair) (s : State) → node_of s ≡ w → InPairs o s.pairs → NoWorse o q → closure.covers_at node_of pairs_of w q s ≡ true
+covers_at : (w : PatternNode) (q o : Pair) (s : State) → node_of s ≡ w → InPairs o s.pairs
+    → NoWorse o q → closure.covers_at node_of pairs_of w q s ≡ true
 covers_at w q o s e i le =
-    and_from (is_eq (node_cmp (node_of s) w)) (list_any (λ x. no_worse x q) s.pairs) (ap (λ (z : PatternNode). is_eq (node_cmp z w)) e ∙ ap is_eq (tied_itself node_total w)) (any_no_worse q o s.pairs i le)
+    and_from (is_eq (node_cmp (node_of s) w)) (list_any (λ x. no_worse x q) s.pairs)
+    (ap (λ (z : PatternNode). is_eq (node_cmp z w)) e ∙ ap is_eq (tied_itself node_total w))
+    (any_no_worse q o s.pairs i le)
 
-covers_by : (w : PatternNode) (q o : Pair) (ss : List State) (k : ℕ) (s : State) → k < length ss → get_or ss k s ≡ s → node_of s ≡ w → InPairs o s.pairs → NoWorse o q → covers ss w q ≡ true
+covers_by : (w : PatternNode) (q o : Pair) (ss : List State) (k : ℕ) (s : State) → k < length ss
+    → get_or ss k s ≡ s → node_of s ≡ w → InPairs o s.pairs → NoWorse o q → covers ss w q ≡ true
 unfolding closure.covers
 covers_by w q o [] k s lt e at i le = absurd (omega arith)
 covers_by w q o (t ∷ ss) zero s lt e at i le =
-    or_left (closure.covers_at node_of pairs_of w q t) (covers ss w q) (ap (closure.covers_at node_of pairs_of w q) e ∙ covers_at w q o s at i le)
+    or_left (closure.covers_at node_of pairs_of w q t) (covers ss w q) (ap (closure.covers_at node_of pairs_of w q) e
+    ∙ covers_at w q o s at i le)
 covers_by w q o (t ∷ ss) (suc k) s lt e at i le =
     or_right (closure.covers_at node_of pairs_of w q t) (covers ss w q) (covers_by w q o ss k s (omega arith) e at i le)
 
@@ -92,7 +105,8 @@ module _ (k n : ℕ) (w : PatternNode) (h : IsShaped k n w) where
           ap (λ i. get_or w.1 i false) (sym at) ∙ h.above_count (w.0 + j) (omega arith) (omega arith) lt
 
   no_wrong_digit : (j : ℕ) → 1 ≤ j → j < 1 + 2 * k → is_wrong_digit k n w j ≡ false
-  no_wrong_digit j one lt = or_from (leb (w.0 + j) k && not (digit w.1 j)) (ltb (n + k) (w.0 + j) && digit w.1 j) (low_digit j one (omega arith)) (high_digit j one (omega arith))
+  no_wrong_digit j one lt = or_from (leb (w.0 + j) k && not (digit w.1 j)) (ltb (n + k) (w.0 + j) && digit w.1 j)
+      (low_digit j one (omega arith)) (high_digit j one (omega arith))
 
   last_placed : is_placed_by_pattern k w w.2 ≡ true
   unfolding is_placed_by_pattern
@@ -104,7 +118,10 @@ module _ (k n : ℕ) (w : PatternNode) (h : IsShaped k n w) where
   pub shaped_is : is_shaped k n w ≡ true
   unfolding is_shaped
   shaped_is =
-      and_from _ _ (and_from _ _ (and_from _ _ (and_from _ _ (and_from _ _ (and_from _ _ (le-leb w.0 n h.stage) (eq-eqb (length w.1) (2 * k) h.digits)) (eq-eqb (count_by is_one w.1) k h.ones))
+      and_from _ _ (and_from _ _
+      (and_from _ _ (and_from _ _
+      (and_from _ _ (and_from _ _ (le-leb w.0 n h.stage) (eq-eqb (length w.1) (2 * k) h.digits))
+      (eq-eqb (count_by is_one w.1) k h.ones))
       (ap is_none (none_from (is_wrong_digit k n w) 1 (2 * k) no_wrong_digit))) (le-leb w.2 n h.latest))
       (and_from _ _ (le-leb w.0 (w.2 + k) h.near.0) (le-leb w.2 (w.0 + k) h.near.1))) last_placed
 
@@ -120,20 +137,24 @@ module _ (p : Problem) (well : IsWellFormed p) where
 
   -- ---- when the next may land
 
-  last_apart : (o : Option (ℕ × Category)) (a b : Category) → after_last p.table o b ≤ after_last p.table o a + separation p.table a b
+  last_apart : (o : Option (ℕ × Category)) (a b : Category)
+      → after_last p.table o b ≤ after_last p.table o a + separation p.table a b
   last_apart None a b = omega arith
   last_apart (Some l) a b = let t = well.table.triangle l.1 a b in omega arith
 
   -- what the last frozen flight asks of the next, a landing behind it keeps
   ready_behind : (l u r : ℕ) → start_at p l ≤ u → ready p l u r ≡ next_from (ranked p) l u r
   ready_behind zero u r le = refl
-  ready_behind (suc l) u r le = let t = last_apart p.last (flight p (suc l)).category (flight p r).category in omega arith
+  ready_behind (suc l) u r le = let t =
+      last_apart p.last (flight p (suc l)).category (flight p r).category in omega arith
 
   started : (l t r u : ℕ) → next_from (ranked p) l t r ≤ u → start_at p r ≤ u
   started zero t r u le = le
   started (suc l) t r u le = omega arith
 
-  ready_after : (xs : List Landing) → Landed opens (next_from (ranked p)) xs → (r : ℕ) → ready p (latest_landing xs).0 (latest_landing xs).1 r ≡ next_from (ranked p) (latest_landing xs).0 (latest_landing xs).1 r
+  ready_after : (xs : List Landing) → Landed opens (next_from (ranked p)) xs → (r : ℕ)
+      → ready p (latest_landing xs).0 (latest_landing xs).1 r ≡ next_from (ranked p) (latest_landing xs).0
+      (latest_landing xs).1 r
   ready_after [] h r = refl
   ready_after (x ∷ xs) h r = ready_behind x.0 x.1 r (started (latest_landing xs).0 (latest_landing xs).1 x.0 x.1 h.1)
 
@@ -142,21 +163,28 @@ module _ (p : Problem) (well : IsWellFormed p) where
       let xs = a.landings in
       let l : (latest_landing xs).0 ≡ w.2 = sym (last_ranks xs) ∙ ap (λ (z : PatternNode). z.2) a.at in
       let t : (latest_landing xs).1 ≡ b.0 = ap (λ (z : Pair). z.0) a.is in
-      ap₂ (λ i u. ready p i u r) (sym l) (sym t) ∙ ready_after xs a.landed r ∙ ap₂ (λ i u. next_from (ranked p) i u r) l t
+      ap₂ (λ i u. ready p i u r) (sym l) (sym t) ∙ ready_after xs a.landed r
+      ∙ ap₂ (λ i u. next_from (ranked p) i u r) l t
 
   -- ---- successors
 
-  next_attained : (w : PatternNode) (b q : Pair) (r : ℕ) → Attains p w b → PatternPermits (rules_of p) w r → successor p w.2 b r ≡ Some q → Attains p (pattern_push (rules_of p) w r) q
+  next_attained : (w : PatternNode) (b q : Pair) (r : ℕ) → Attains p w b → PatternPermits (rules_of p) w r
+      → successor p w.2 b r ≡ Some q → Attains p (pattern_push (rules_of p) w r) q
   next_attained w b q r a m e =
-      let same : successor p w.2 b r ≡ next_pair (first_at p) (next_from (ranked p)) (cost_at p) w.2 b r = ap (λ (t : ℕ). option_map (λ (u : ℕ). (u, b.1 + cost_at p r u)) (first_at p r t)) (ready_is w b r a) in
-      attained_next PatternNode opens (first_at p) (next_from (ranked p)) (cost_at p) (Legal (rules_of p)) (pattern_node (rules_of p)) (PatternPermits (rules_of p)) (pattern_push (rules_of p)) pattern_newest (is_first_open p) (next_later (ranked p)) (costs_rise p) (pattern_network (rules_of p) ones) w b r q a m (sym same ∙ e)
+      let same : successor p w.2 b r ≡ next_pair (first_at p) (next_from (ranked p)) (cost_at p) w.2 b r =
+      ap (λ (t : ℕ). option_map (λ (u : ℕ). (u, b.1 + cost_at p r u)) (first_at p r t)) (ready_is w b r a) in
+      attained_next PatternNode opens (first_at p) (next_from (ranked p)) (cost_at p) (Legal (rules_of p))
+      (pattern_node (rules_of p)) (PatternPermits (rules_of p)) (pattern_push (rules_of p)) pattern_newest
+      (is_first_open p) (next_later (ranked p)) (costs_rise p) (pattern_network (rules_of p) ones) w b r q a m
+      (sym same ∙ e)
 
   -- ---- the states
 
   attained_listed : (s : State) → IsWholeState p s → (b : Pair) → InPairs b s.pairs → Attains p (node_of s) b
   attained_listed s h b i = ((h.undominated b).0 i).attained
 
-  shape_from : (s : State) (xs : List Landing) → 1 ≤ s.stage → Legal (rules_of p) (ranks xs) → pattern_node (rules_of p) (ranks xs) ≡ node_of s → is_misshapen p s ≡ false
+  shape_from : (s : State) (xs : List Landing) → 1 ≤ s.stage → Legal (rules_of p) (ranks xs)
+      → pattern_node (rules_of p) (ranks xs) ≡ node_of s → is_misshapen p s ≡ false
   shape_from s [] begun legal at = absurd (let e = ap (λ (z : PatternNode). z.0) at in omega arith)
   shape_from s (x ∷ xs) begun legal at =
       let h = legal_is_shaped (rules_of p) (λ r. (sound_problem p well).low r) x.0 (ranks xs) legal in
@@ -177,23 +205,29 @@ module _ (p : Problem) (well : IsWellFormed p) where
         let o = h.covers q (subst (λ (z : PatternNode). Attains p z q) (sym s.2) a) in
         covers_by w q o.0 ss i.0 s.0 i.1 i.2 s.2 o.1 o.2
 
-    not_missed : (w : PatternNode) (b : Pair) (r : ℕ) → Attains p w b → PatternPermits (rules_of p) w r → is_missed p ss w r b ≡ false
+    not_missed : (w : PatternNode) (b : Pair) (r : ℕ) → Attains p w b → PatternPermits (rules_of p) w r
+        → is_missed p ss w r b ≡ false
     not_missed w b r a m = go (successor p w.2 b r) refl
       where
-        go : (o : Option Pair) → successor p w.2 b r ≡ o → closure.is_not_covered node_of pairs_of ss (pattern_push (rules_of p) w r) o ≡ false
+        go : (o : Option Pair) → successor p w.2 b r ≡ o
+            → closure.is_not_covered node_of pairs_of ss (pattern_push (rules_of p) w r) o ≡ false
         go None e = refl
         go (Some q) e = ap not (covered (pattern_push (rules_of p) w r) q (omega arith) (next_attained w b q r a m e))
 
-    misses_none : (w : PatternNode) (pairs : List Pair) → ((b : Pair) → InPairs b pairs → Attains p w b) → (r : ℕ) → IsRank (count p) r → misses p ss w pairs r ≡ false
+    misses_none : (w : PatternNode) (pairs : List Pair) → ((b : Pair) → InPairs b pairs → Attains p w b)
+        → (r : ℕ) → IsRank (count p) r → misses p ss w pairs r ≡ false
     misses_none w pairs a r rank = go (permits_next (rules_of p) w r) refl
       where
         go : (t : Bool) → permits_next (rules_of p) w r ≡ t → t && list_any (is_missed p ss w r) pairs ≡ false
         go false e = refl
-        go true e = any_not (is_missed p ss w r) pairs (λ b i. not_missed w b r (a b i) (permits_from (rules_of p) between w r rank e))
+        go true e = any_not (is_missed p ss w r) pairs
+            (λ b i. not_missed w b r (a b i) (permits_from (rules_of p) between w r rank e))
 
-    first_missed_none : (w : PatternNode) (pairs : List Pair) → ((b : Pair) → InPairs b pairs → Attains p w b) → first_missed p ss w pairs ≡ None
+    first_missed_none : (w : PatternNode) (pairs : List Pair) → ((b : Pair) → InPairs b pairs → Attains p w b)
+        → first_missed p ss w pairs ≡ None
     unfolding closure.first_missed
-    first_missed_none w pairs a = none_from (misses p ss w pairs) 1 (count p) (λ r one lt. misses_none w pairs a r (one, omega arith))
+    first_missed_none w pairs a =
+        none_from (misses p ss w pairs) 1 (count p) (λ r one lt. misses_none w pairs a r (one, omega arith))
 
     pub start_misses_none : first_missed p ss (pattern_node (rules_of p) []) ((0, 0) ∷ []) ≡ None
     start_misses_none = first_missed_none (pattern_node (rules_of p) []) ((0, 0) ∷ []) at_start
@@ -206,4 +240,6 @@ module _ (p : Problem) (well : IsWellFormed p) where
     unfolding closure.missed_from
     states_miss_none i [] h = refl
     states_miss_none i (s ∷ rest) h =
-        ap (λ (o : Option ℕ). option_or (with_number i o) (missed_from p ss (i + 1) rest)) (first_missed_none (node_of s) s.pairs (attained_listed s (h 0 s (omega arith)))) ∙ states_miss_none (i + 1) rest (λ k d lt. h (suc k) d (omega arith))
+        ap (λ (o : Option ℕ). option_or (with_number i o) (missed_from p ss (i + 1) rest))
+        (first_missed_none (node_of s) s.pairs (attained_listed s (h 0 s (omega arith))))
+        ∙ states_miss_none (i + 1) rest (λ k d lt. h (suc k) d (omega arith))

@@ -47,12 +47,15 @@ abbrev state_at : PatternNode → List Pair → State
 state_at w ps = record { stage = w.0; pattern = w.1; last = w.2; pairs = ps }
 
 module _ (p : Problem) where
-  moved : (s t : State) → IsWholeState p s → IsWholeState p t → node_of s ≡ node_of t → (q : Pair) → InPairs q s.pairs → InPairs q t.pairs
-  moved s t h k e q i = (k.undominated q).1 (subst (λ (w : PatternNode). Undominated (Attains p w) q) e ((h.undominated q).0 i))
+  moved : (s t : State) → IsWholeState p s → IsWholeState p t → node_of s ≡ node_of t → (q : Pair)
+      → InPairs q s.pairs → InPairs q t.pairs
+  moved s t h k e q i = (k.undominated q).1 (subst (λ (w : PatternNode). Undominated (Attains p w) q) e
+      ((h.undominated q).0 i))
 
   one_state : (s t : State) → IsWholeState p s → IsWholeState p t → node_of s ≡ node_of t → s ≡ t
   one_state s t h k e =
-      let pairs = staircase_same s.pairs t.pairs (rising_staircase s.pairs h.rising) (rising_staircase t.pairs k.rising) (moved s t h k e) (moved t s k h (sym e)) in
+      let pairs = staircase_same s.pairs t.pairs (rising_staircase s.pairs h.rising) (rising_staircase t.pairs k.rising)
+      (moved s t h k e) (moved t s k h (sym e)) in
       ap (λ (w : PatternNode). state_at w s.pairs) e ∙ ap (state_at (node_of t)) pairs
 
   found : (ss ts : List State) → AreWholeStates p ss → AreWholeStates p ts → (s : State) → Member s ss → Member s ts
@@ -64,4 +67,5 @@ module _ (p : Problem) where
       subst (λ (x : State). Member x ts) (one_state t.0 s there here t.2) among
 
   pub whole_is_unique : (ss ts : List State) → AreWholeStates p ss → AreWholeStates p ts → ss ≡ ts
-  whole_is_unique ss ts h k = one_list Before one_way ss ts (ascending ss h.ascending) (ascending ts k.ascending) (found ss ts h k) (found ts ss k h)
+  whole_is_unique ss ts h k = one_list Before one_way ss ts (ascending ss h.ascending) (ascending ts k.ascending)
+      (found ss ts h k) (found ts ss k h)

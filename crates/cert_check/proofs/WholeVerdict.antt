@@ -20,17 +20,21 @@ use Rattle.cert_check.proofs.WholeLandings.{no_reason}
 
 module _ (p : Problem) (well : IsWellFormed p) where
   none_missed : (ss : List State) → AreWholeStates p ss → successor_failure p ss ≡ None
-  none_missed ss h = ap₂ (λ (a : Option ℕ) (b : Option (ℕ × ℕ)). option_or (with_number 0 a) b) (start_misses_none p well ss h) (states_miss_none p well ss h 1 ss h.each)
+  none_missed ss h = ap₂ (λ (a : Option ℕ) (b : Option (ℕ × ℕ)). option_or (with_number 0 a) b)
+      (start_misses_none p well ss h) (states_miss_none p well ss h 1 ss h.each)
 
-  final_none : (c : Claim) (ls : Landings) (ss : List State) → IsAnswered p c ls → AreWholeStates p ss → final_failure p c ss ≡ None
+  final_none : (c : Claim) (ls : Landings) (ss : List State) → IsAnswered p c ls → AreWholeStates p ss
+      → final_failure p c ss ≡ None
   final_none (claim.Optimal v) ls ss a h = optimal_final p well v ls a ss h.each
   final_none claim.Infeasible ls ss a h = infeasible_final p well a.1 ss h.each
 
-  states_pass : (c : Claim) (ls : Landings) (ss : List State) → IsAnswered p c ls → AreWholeStates p ss → state_reason p c ss ≡ None
+  states_pass : (c : Claim) (ls : Landings) (ss : List State) → IsAnswered p c ls → AreWholeStates p ss
+      → state_reason p c ss ≡ None
   unfolding state_reason
   states_pass c ls ss a h = rw (none_misshapen p well ss h.each, none_missed ss h, final_none c ls ss a h) refl
 
-  landings_pass : (c : Claim) (ls : Landings) → IsAnswered p c ls → (flights_reason p c ls ≡ None) × (claim_reason p c ls ≡ None)
+  landings_pass : (c : Claim) (ls : Landings) → IsAnswered p c ls → (flights_reason p c ls ≡ None)
+      × (claim_reason p c ls ≡ None)
   landings_pass (claim.Optimal v) ls a = no_reason p ls v a
   landings_pass claim.Infeasible ls a = (ap (flights_reason p claim.Infeasible) a.0, refl)
 

@@ -1,5 +1,6 @@
 -- The listed landings as a list of seconds by rank, and what it breaks first.
-use Rattle.std.specs.Prelude.{ℕ, ◌+◌, ◌&&◌, ◌||◌, ◌==◌, not, List, [], ◌∷◌, length, map, Bool, nat_le, nat_lt, bytes_eq, count_by, Option, is_some, if◌then◌else◌}
+use Rattle.std.specs.Prelude.{ℕ, ◌+◌, ◌&&◌, ◌||◌, ◌==◌, not, List, [], ◌∷◌, length, map, Bool, nat_le, nat_lt}
+use Rattle.std.specs.Prelude.{bytes_eq, count_by, Option, is_some, if◌then◌else◌}
 use Rattle.std.specs.List.{list_any}
 use Rattle.precedence.specs.Pairs.{must_precede}
 use Rattle.landing_rules.specs.Flights.{Schedule}
@@ -53,7 +54,8 @@ is_early p ls r = nat_lt (second p ls r) (start_at p r)
 
 -- rank q lands with rank r or behind it, and too close
 abbrev pub is_close_behind : Problem → Landings → ℕ → ℕ → Bool
-is_close_behind p ls r q = nat_le (second p ls r) (second p ls q) && nat_lt (second p ls q) (second p ls r + apart_at p r q)
+is_close_behind p ls r q = nat_le (second p ls r) (second p ls q)
+    && nat_lt (second p ls q) (second p ls r + apart_at p r q)
 
 -- two ranks, the lower one first, land too close to one another
 abbrev pub are_too_close : Problem → Landings → ℕ → ℕ → Bool
@@ -73,7 +75,7 @@ first_out_of_order p ls r = first_from (are_out_of_order p ls r) 1 (count p)
 abbrev pub place : Problem → Landings → ℕ → ℕ
 place p ls r = place_in (seconds p ls) (second p ls r)
 
--- a rank lands further ahead of its rank than the shift allows, or further behind it than the shift less the flights that
--- passed it
+-- a rank lands further ahead of its rank than the shift allows, or further behind it than the shift less the flights
+-- that passed it
 abbrev pub is_shifted : Problem → Landings → ℕ → Bool
 is_shifted p ls r = nat_lt (place p ls r + p.k) r || nat_lt (r + p.k) (place p ls r + (flight p r).passed)

@@ -1,5 +1,6 @@
 -- The node of a prefix by the set of its ranks, kept as the bits of one number.
-use Rattle.std.specs.Prelude.{◌≡◌, ℕ, suc, ◌+◌, ◌-◌, ◌*◌, ◌/◌, ◌<◌, ◌≤◌, ◌^◌, ◌⊎◌, ◌↔◌, ◌||◌, List, length, Bool, nat_le, nat_eq}
+use Rattle.std.specs.Prelude.{◌≡◌, ℕ, suc, ◌+◌, ◌-◌, ◌*◌, ◌/◌, ◌<◌, ◌≤◌, ◌^◌, ◌⊎◌, ◌↔◌, ◌||◌, List, length, Bool}
+use Rattle.std.specs.Prelude.{nat_le, nat_eq}
 use Rattle.std.specs.Int.{bit_at}
 use Rattle.precedence.specs.Pairs.{HasBit}
 use Rattle.cps_theory.specs.RankLists.{In}
@@ -23,5 +24,6 @@ PatternOfBitsLaw = (g : OrderRules) (rs : List ℕ) (placed : ℕ) → ((r : ℕ
 
 -- the digits of a stage are the bits behind it of the number that has bit `y` where rank `y - k` is placed or below 1
 abbrev pub DigitsAreBitsLaw : Type 0
-DigitsAreBitsLaw = (k stage placed marks : ℕ) → ((y : ℕ) → HasBit marks y ↔ ((y ≤ k) ⊎ ((k < y) × HasBit placed (y - k))))
+DigitsAreBitsLaw = (k stage placed marks : ℕ)
+    → ((y : ℕ) → HasBit marks y ↔ ((y ≤ k) ⊎ ((k < y) × HasBit placed (y - k))))
     → digits_of k stage placed ≡ bits (2 * k) (marks / 2 ^ (stage + 1))

@@ -1,6 +1,7 @@
 -- The states of a certificate as nodes with their pairs: the shape of a state, what the states miss, and which of them
 -- contradict a claim.
-use Rattle.std.specs.Prelude.{ℕ, zero, suc, max, ◌+◌, ◌-◌, ◌*◌, ◌&&◌, ◌||◌, ◌==◌, not, List, [], ◌∷◌, length, get_or, Bool, false, nat_le, nat_lt, Option, Some, is_none, count_by, if◌then◌else◌}
+use Rattle.std.specs.Prelude.{ℕ, zero, suc, max, ◌+◌, ◌-◌, ◌*◌, ◌&&◌, ◌||◌, ◌==◌, not, List, [], ◌∷◌, length, get_or}
+use Rattle.std.specs.Prelude.{Bool, false, nat_le, nat_lt, Option, Some, is_none, count_by, if◌then◌else◌}
 use Rattle.std.specs.Option.{option_or}
 use Rattle.landing_rules.specs.Problem.{Problem}
 use Rattle.cps_theory.specs.Labels.{Pair, next_pair}
@@ -35,11 +36,12 @@ digit pattern j = get_or pattern (j - 1) false
 abbrev pub is_wrong_digit : ℕ → ℕ → PatternNode → ℕ → Bool
 is_wrong_digit k n w j = (nat_le (w.0 + j) k && not (digit w.1 j)) || (nat_lt (n + k) (w.0 + j) && digit w.1 j)
 
--- of n flights with shift k: the stage is up to n; of the 2k digits k are 1, and none is wrong; the last rank is a rank,
--- within k of its place, and placed
+-- of n flights with shift k: the stage is up to n; of the 2k digits k are 1, and none is wrong; the last rank is a
+-- rank, within k of its place, and placed
 unfoldable pub is_shaped : ℕ → ℕ → PatternNode → Bool
 is_shaped k n w =
-    (((((nat_le w.0 n && length w.1 == 2 * k) && count_by is_one w.1 == k) && is_none (first_from (is_wrong_digit k n w) 1 (2 * k)))
+    (((((nat_le w.0 n && length w.1 == 2 * k) && count_by is_one w.1 == k)
+    && is_none (first_from (is_wrong_digit k n w) 1 (2 * k)))
     && nat_le w.2 n) && (nat_le w.0 (w.2 + k) && nat_le w.2 (w.0 + k))) && is_placed_by_pattern k w w.2
 
 abbrev pub is_misshapen : Problem → State → Bool
@@ -73,7 +75,8 @@ misses p ss w pairs r = closure.misses node_of pairs_of (rules_of p) (first_at p
 
 -- the least rank that is missed at a node with these pairs; the first such state from number i on, with that rank
 abbrev pub first_missed : Problem → List State → PatternNode → List Pair → Option ℕ
-first_missed p ss w pairs = closure.first_missed node_of pairs_of (rules_of p) (first_at p) (ready p) (cost_at p) ss w pairs
+first_missed p ss w pairs =
+    closure.first_missed node_of pairs_of (rules_of p) (first_at p) (ready p) (cost_at p) ss w pairs
 
 abbrev pub missed_from : Problem → List State → ℕ → List State → Option (ℕ × ℕ)
 missed_from p ss i rest = closure.missed_from node_of pairs_of (rules_of p) (first_at p) (ready p) (cost_at p) ss i rest
@@ -83,7 +86,8 @@ abbrev pub start_node : Problem → PatternNode
 start_node p = pattern_node (rules_of p) []
 
 abbrev pub successor_failure : Problem → List State → Option (ℕ × ℕ)
-successor_failure p ss = option_or (with_number 0 (first_missed p ss (start_node p) ((0, 0) ∷ []))) (missed_from p ss 1 ss)
+successor_failure p ss = option_or (with_number 0 (first_missed p ss (start_node p) ((0, 0) ∷ [])))
+    (missed_from p ss 1 ss)
 
 -- ---- the first state of its kind
 

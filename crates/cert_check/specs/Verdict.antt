@@ -8,10 +8,12 @@ use Rattle.certificate.specs.declared.certificate.Claim.TheVariants as claim
 use Rattle.certificate.specs.States.{State}
 use Rattle.certificate.specs.Reading.{Cert}
 use Rattle.cert_check.specs.declared.verdict.Reason.{Reason}
-use Rattle.cert_check.specs.declared.verdict.Reason.TheVariants.{Flights, Closed, Early, Separation, Precedence, Shift, Value, Shape, Successor, Final}
+use Rattle.cert_check.specs.declared.verdict.Reason.TheVariants.{Flights, Closed, Early, Separation, Precedence, Shift}
+use Rattle.cert_check.specs.declared.verdict.Reason.TheVariants.{Value, Shape, Successor, Final}
 use Rattle.cert_check.specs.declared.verdict.Verdict.{Verdict}
 use Rattle.cert_check.specs.declared.verdict.Verdict.TheVariants as verdict
-use Rattle.cert_check.specs.Landings.{Landings, count, seconds, are_not_flights, is_shut, is_early, first_too_close, first_out_of_order, is_shifted}
+use Rattle.cert_check.specs.Landings.{Landings, count, seconds, are_not_flights, is_shut, is_early, first_too_close}
+use Rattle.cert_check.specs.Landings.{first_out_of_order, is_shifted}
 use Rattle.cert_check.specs.States.{shape_failure, successor_failure, final_failure}
 
 abbrev pub with_pair : {A : Type 0} → (ℕ → ℕ → A) → Option (ℕ × ℕ) → Option A
@@ -24,7 +26,8 @@ flights_reason p c ls = if are_not_flights p c ls then Some Flights else None
 
 -- their objective is not the claimed one
 abbrev pub value_reason : Problem → ℕ → Landings → Option Reason
-value_reason p v ls = if list_objective p (seconds p ls) == v then None else Some (Value (list_objective p (seconds p ls)))
+value_reason p v ls = if list_objective p (seconds p ls) == v then None
+    else Some (Value (list_objective p (seconds p ls)))
 
 -- the first rule that the landings break, for a claimed optimum
 unfoldable pub landing_reason : Problem → ℕ → Landings → Option Reason
@@ -49,7 +52,8 @@ state_reason p c ss =
 
 -- the first condition that fails
 unfoldable pub failure : Problem → Cert → Option Reason
-failure p c = option_or (flights_reason p c.claim c.landings) (option_or (claim_reason p c.claim c.landings) (state_reason p c.claim c.states))
+failure p c = option_or (flights_reason p c.claim c.landings)
+    (option_or (claim_reason p c.claim c.landings) (state_reason p c.claim c.states))
 
 -- what is claimed, where none fails
 abbrev pub verdict_by : Claim → Option Reason → Verdict

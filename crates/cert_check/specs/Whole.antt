@@ -1,5 +1,5 @@
--- A certificate that leaves nothing out: the states are those where some prefix lands, each with exactly the undominated pairs,
--- and the landings are a best list, or there is none where nothing is feasible.
+-- A certificate that leaves nothing out: the states are those where some prefix lands, each with exactly the
+-- undominated pairs, and the landings are a best list, or there is none where nothing is feasible.
 use Rattle.std.specs.Prelude.{◌≡◌, ◌≤◌, ◌↔◌, List, [], true, All, Contains}
 use Rattle.landing_rules.specs.Problem.{Problem}
 use Rattle.cps_theory.specs.Feasible.{next_from}
@@ -16,13 +16,14 @@ use Rattle.cert_check.specs.Landings.{Landings}
 use Rattle.cert_check.specs.Meaning.{IsShownOptimal, NothingIsFeasible}
 use Rattle.cert_check.specs.States.{node_of, rules_of}
 
--- a legal prefix of this stage, placed set and last rank can land at open seconds that are late enough one after another, the
--- last of them at this second and all of them at this cost
+-- a legal prefix of this stage, placed set and last rank can land at open seconds that are late enough one after
+-- another, the last of them at this second and all of them at this cost
 abbrev pub Attains : Problem → PatternNode → Pair → Type 0
-Attains p w q = Attained (λ r u. (ranked p).is_open r u ≡ true) (next_from (ranked p)) (cost_at p) (Legal (rules_of p)) (pattern_node (rules_of p)) w q
+Attains p w q = Attained (λ r u. (ranked p).is_open r u ≡ true) (next_from (ranked p)) (cost_at p)
+    (Legal (rules_of p)) (pattern_node (rules_of p)) w q
 
--- a state behind the start where some prefix lands, with exactly the undominated pairs that such prefixes land with; each of
--- these has one that is no later and no dearer; the seconds rise and the costs fall
+-- a state behind the start where some prefix lands, with exactly the undominated pairs that such prefixes land with;
+-- each of these has one that is no later and no dearer; the seconds rise and the costs fall
 pub record IsWholeState (p : Problem) (s : State) : Type 0 where
   pub begun : 1 ≤ s.stage
   pub landable : (q : Pair) × Attains p (node_of s) q

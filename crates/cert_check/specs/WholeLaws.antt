@@ -28,10 +28,11 @@ claimed claim.Infeasible = verdict.Infeasible
 abbrev pub WholeIsAcceptedLaw : Type 0
 WholeIsAcceptedLaw = (p : Problem) (c : Cert) → IsWellFormed p → IsWhole p c → verdict_of p c ≡ claimed c.claim
 
--- pairs of which each is attained, and of which each attained pair has one that is no later and no dearer, are exactly the
--- undominated ones, where their seconds rise and their costs fall
+-- pairs of which each is attained, and of which each attained pair has one that is no later and no dearer, are exactly
+-- the undominated ones, where their seconds rise and their costs fall
 abbrev pub KeptIsWholeLaw : Type 0
-KeptIsWholeLaw = (p : Problem) (s : State) → 1 ≤ s.stage → 1 ≤ length s.pairs → Kept (Attains p (node_of s)) (λ q. InPairs q s.pairs)
+KeptIsWholeLaw = (p : Problem) (s : State) → 1 ≤ s.stage → 1 ≤ length s.pairs
+    → Kept (Attains p (node_of s)) (λ q. InPairs q s.pairs)
     → rises s.pairs ≡ true → IsWholeState p s
 
 -- a problem has one list of states that leaves nothing out
@@ -40,7 +41,8 @@ WholeIsUniqueLaw = (p : Problem) (ss ts : List State) → AreWholeStates p ss �
 
 -- its states keep the form of a certificate's, where their pairs are in range
 abbrev pub WholeIsInFormLaw : Type 0
-WholeIsInFormLaw = (p : Problem) (ss : List State) → IsWellFormed p → AreWholeStates p ss → All (λ s. list_all is_pair s.pairs ≡ true) ss
+WholeIsInFormLaw = (p : Problem) (ss : List State) → IsWellFormed p → AreWholeStates p ss
+    → All (λ s. list_all is_pair s.pairs ≡ true) ss
     → AreStates ss × (length ss < 4294967295)
 
 -- the landings of an order of ranks at the seconds of a list

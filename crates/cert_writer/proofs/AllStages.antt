@@ -10,11 +10,16 @@ use Rattle.cert_check.specs.Whole.{Attains}
 use Rattle.cert_check.specs.shared.KeptPairs.{entries_are_whole}
 use Rattle.cert_writer.specs.StageEntries.{IsEntryOf, EntriesKeepNodes, EndWithFlights, AreStagesWith, StagesMakeStates}
 
-module _ (p : Problem) (end : EndWithFlights p) (entries : EntriesKeepNodes p) (stages : ℕ → ℕ × List (List ℤ)) (lists : ℕ → List (List Pair)) (are : AreStagesWith p stages lists) where
+module _ (p : Problem) (end : EndWithFlights p) (entries : EntriesKeepNodes p) (stages : ℕ
+    → ℕ × List (List ℤ)) (lists : ℕ → List (List Pair)) (are : AreStagesWith p stages lists) where
   -- behind the last stage there is no node
   keep_all : (d : PatternNode) → 1 ≤ d.0 → Kept (Attains p d) (IsEntryOf p stages lists d)
   keep_all d one = elim (cases_lt (length p.flights) d.0) [
-    | inl past ↦ record { attained = λ q e. absurd (let a = e.0 in omega arith); covers = λ q a. absurd (let b = end d q a in omega arith) }
+    | inl past ↦ record {
+      attained = λ q e. absurd (let a = e.0 in omega arith);
+      covers =
+          λ q a. absurd (let b = end d q a in omega arith);
+    }
     | inr low ↦
         let here = are d.0 one low in
         let at : d.0 ≡ (stages d.0).0 = omega (arith, here.0) in
@@ -23,4 +28,5 @@ module _ (p : Problem) (end : EndWithFlights p) (entries : EntriesKeepNodes p) (
   ]
 
 pub stages_make_states : (p : Problem) → EndWithFlights p → EntriesKeepNodes p → StagesMakeStates p
-stages_make_states p end entries stages lists ss are all = entries_are_whole p (IsEntryOf p stages lists) (keep_all p end entries stages lists are) ss all
+stages_make_states p end entries stages lists ss are all =
+    entries_are_whole p (IsEntryOf p stages lists) (keep_all p end entries stages lists are) ss all

@@ -1,5 +1,6 @@
 -- Lists of pairs with one pair more.
-use Rattle.std.proofs.Common.{◌≡◌, ℕ, zero, suc, ◌<◌, ◌⊎◌, inl, inr, List, [], ◌∷◌, length, set, get_or, true, leb, refl, sym, subst, ◌∙◌, le_refl, arith}
+use Rattle.std.proofs.Common.{◌≡◌, ℕ, zero, suc, ◌<◌, ◌⊎◌, inl, inr, List, [], ◌∷◌, length, set, get_or, true, leb}
+use Rattle.std.proofs.Common.{refl, sym, subst, ◌∙◌, le_refl, arith}
 use Rattle.std.specs.Prelude.{All}
 use Rattle.std.proofs.lemmas.List.{get_or_default}
 use Rattle.cps_theory.specs.Labels.{InPairs, NoWorse, Pair}
@@ -53,20 +54,26 @@ ranged_all : (xs : List Pair) → All IsPairInRange xs → list_all is_pair xs �
 ranged_all [] h = refl
 ranged_all (x ∷ xs) h =
     let r = All-head IsPairInRange x xs h in
-    and_from (is_pair x) (list_all is_pair xs) (and_from (leb x.0 172799) (leb x.1 4294967295) (le-leb x.0 172799 r.0) (le-leb x.1 4294967295 r.1)) (ranged_all xs (All-tail IsPairInRange x xs h))
+    and_from (is_pair x) (list_all is_pair xs) (and_from (leb x.0 172799) (leb x.1 4294967295)
+    (le-leb x.0 172799 r.0) (le-leb x.1 4294967295 r.1)) (ranged_all xs (All-tail IsPairInRange x xs h))
 
-module _ (mine sorted best : List Pair) (moved : IsPermutation mine sorted) (up : IsSorted (λ (x y : Pair). ordering_then (nat_cmp x.0 y.0) (nat_cmp x.1 y.1)) sorted) (is : best ≡ sweep 4294967296 sorted) where
+module _ (mine sorted best : List Pair) (moved : IsPermutation mine sorted)
+    (up : IsSorted (λ (x y : Pair). ordering_then (nat_cmp x.0 y.0) (nat_cmp x.1 y.1)) sorted)
+    (is : best ≡ sweep 4294967296 sorted) where
   pub best_found : (q : Pair) → InPairs q best → InPairs q mine
   best_found q i = permuted_in mine sorted moved q (sweep_subset 4294967296 sorted q (subst (InPairs q) is i))
 
   pub best_covers : All IsPairInRange mine → (q : Pair) → InPairs q mine → (o : Pair) × InPairs o best × NoWorse o q
-  best_covers ranged q i = elim (sweep_covers 4294967296 sorted (sorted_in_order sorted up) q (in_permuted mine sorted moved q i)) [
-    | inl h ↦ (h.0, subst (InPairs h.0) (sym is) h.1, h.2)
-    | inr le ↦ absurd (let a = (all_in IsPairInRange mine ranged q i).1 in omega (arith, a, le))
-  ]
+  best_covers ranged q i = elim (sweep_covers 4294967296 sorted (sorted_in_order sorted up) q
+      (in_permuted mine sorted moved q i)) [
+        | inl h ↦ (h.0, subst (InPairs h.0) (sym is) h.1, h.2)
+        | inr le ↦ absurd (let a = (all_in IsPairInRange mine ranged q i).1 in omega (arith, a, le))
+      ]
 
   pub best_rises : rises best ≡ true
-  best_rises = subst (λ l. rises l ≡ true) (sym is) (staircase_rises (sweep 4294967296 sorted) (sweep_staircase 4294967296 sorted (sorted_in_order sorted up)))
+  best_rises = subst (λ l. rises l ≡ true) (sym is)
+      (staircase_rises (sweep 4294967296 sorted) (sweep_staircase 4294967296 sorted (sorted_in_order sorted up)))
 
   pub best_ranged : All IsPairInRange mine → list_all is_pair best ≡ true
-  best_ranged ranged = ranged_all best (in_all IsPairInRange best (λ q i. all_in IsPairInRange mine ranged q (best_found q i)))
+  best_ranged ranged = ranged_all best
+      (in_all IsPairInRange best (λ q i. all_in IsPairInRange mine ranged q (best_found q i)))

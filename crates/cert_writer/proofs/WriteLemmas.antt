@@ -1,5 +1,6 @@
 -- The state of a slot.
-use Rattle.std.proofs.Common.{◌≡◌, ℕ, ◌+◌, ◌-◌, ◌*◌, ◌/◌, ◌%◌, ◌<◌, ◌≤◌, ◌^◌, inl, List, [], ◌∷◌, ◌++◌, length, get_or, true, Option, refl, sym, ap, subst, ◌∙◌, arith}
+use Rattle.std.proofs.Common.{◌≡◌, ℕ, ◌+◌, ◌-◌, ◌*◌, ◌/◌, ◌%◌, ◌<◌, ◌≤◌, ◌^◌, inl, List, [], ◌∷◌, ◌++◌, length, get_or}
+use Rattle.std.proofs.Common.{true, Option, refl, sym, ap, subst, ◌∙◌, arith}
 use Rattle.std.specs.Prelude.{ℤ}
 use Rattle.std.specs.List.{list_all}
 use Rattle.std.proofs.lemmas.List.{get_or_default}
@@ -35,20 +36,24 @@ no_pair (x ∷ xs) q none i = omega (arith, none)
 pub slot_within : (k number ones room : ℕ) → ones < 2 ^ (2 * k) → room ≡ 8 * 2 ^ (2 * k) → ones * 8 + number % 8 < room
 slot_within k number ones room low all = let few : number % 8 < 8 = omega arith in omega (arith, low, all, few)
 
-module _ (slots : List (List Pair)) (slot : ℕ) (within : slot < length slots) (now : List Pair) (is : now ≡ get_or slots slot now) where
+module _ (slots : List (List Pair)) (slot : ℕ) (within : slot < length slots) (now : List Pair)
+    (is : now ≡ get_or slots slot now) where
   pub slot_is : now ≡ list_at slots slot
   slot_is = is ∙ get_or_default slots slot now [] within
 
-  pub found_in : (best : List Pair) → HasOnly best (λ q. InPairs q now) → HasOnly best (λ q. InPairs q (list_at slots slot))
+  pub found_in : (best : List Pair) → HasOnly best (λ q. InPairs q now)
+      → HasOnly best (λ q. InPairs q (list_at slots slot))
   found_in best h q i = subst (InPairs q) slot_is (h q i)
 
-  pub covers_in : (best : List Pair) → HasBetter best (λ q. InPairs q now) → HasBetter best (λ q. InPairs q (list_at slots slot))
+  pub covers_in : (best : List Pair) → HasBetter best (λ q. InPairs q now)
+      → HasBetter best (λ q. InPairs q (list_at slots slot))
   covers_in best h q i = h q (subst (InPairs q) (sym slot_is) i)
 
 -- ---- the stage
 
 -- a stage of a well-formed problem, under its number, with the undominated pairs of its windows
-pub record IsHeld (p : Problem) (stages : ℕ → ℕ × List (List ℤ)) (lists : ℕ → List (List Pair)) (stage : ℕ) : Type 0 where
+pub record IsHeld (p : Problem) (stages : ℕ → ℕ × List (List ℤ)) (lists : ℕ → List (List Pair))
+    (stage : ℕ) : Type 0 where
   pub well_formed : IsWellFormed p
   pub begun : 1 ≤ stage
   pub within : stage ≤ length p.flights
@@ -58,17 +63,20 @@ pub record IsHeld (p : Problem) (stages : ℕ → ℕ × List (List ℤ)) (lists
 -- each stage of a problem that a planner holds is
 pub stage_held : (p : Problem) (held : Option HeldProblem) (stage : ℕ) → IsWellFormed p → AreStagesOf p held
     → (1 ≤ stage) × (stage ≤ length p.flights) → IsHeld p (stage_in held) (lists_in held) stage
-stage_held p held stage wf are s = record { well_formed = wf; begun = s.0; within = s.1; number = are.number stage s.1; costs = are.pairs stage s.1 }
+stage_held p held stage wf are s =
+    record { well_formed = wf; begun = s.0; within = s.1; number = are.number stage s.1; costs = are.pairs stage s.1 }
 
 -- these are the best pairs of the slot of a node's number, where the slots have the pairs of the stage
-pub record AreBestAt (p : Problem) (stages : ℕ → ℕ × List (List ℤ)) (lists : ℕ → List (List Pair)) (stage number ones : ℕ) (slots : List (List Pair)) (best : List Pair) : Type 0 where
+pub record AreBestAt (p : Problem) (stages : ℕ → ℕ × List (List ℤ)) (lists : ℕ → List (List Pair))
+    (stage number ones : ℕ) (slots : List (List Pair)) (best : List Pair) : Type 0 where
   pub turned : number_of (bits (2 * p.k) ones) ≡ number / 8
   pub low : ones < 2 ^ (2 * p.k)
   pub gathered : AreGathered p (stages stage) (lists stage) (length (stages stage).1) slots
   pub found : HasOnly best (λ q. InPairs q (list_at slots (ones * 8 + number % 8)))
   pub covers : HasBetter best (λ q. InPairs q (list_at slots (ones * 8 + number % 8)))
 
-module _ (p : Problem) (stages : ℕ → ℕ × List (List ℤ)) (lists : ℕ → List (List Pair)) (stage : ℕ) (held : IsHeld p stages lists stage) where
+module _ (p : Problem) (stages : ℕ → ℕ × List (List ℤ)) (lists : ℕ → List (List Pair)) (stage : ℕ)
+    (held : IsHeld p stages lists stage) where
   abbrev pub Entry : PatternNode → Pair → Type 0
   Entry = IsEntryOf p stages lists
 
@@ -76,29 +84,43 @@ module _ (p : Problem) (stages : ℕ → ℕ × List (List ℤ)) (lists : ℕ �
   entry_here d q at e = subst (λ i. IsEntry p (stages i) (lists i) d q) at e.1
 
   here_entry : (d : PatternNode) (q : Pair) → d.0 ≡ stage → IsEntry p (stages stage) (lists stage) d q → Entry d q
-  here_entry d q at e = (let most = held.within in omega (arith, at, most), subst (λ i. IsEntry p (stages i) (lists i) d q) (sym at) e)
+  here_entry d q at e = (
+    let most =
+        held.within in omega (arith, at, most),
+    subst (λ i. IsEntry p (stages i) (lists i) d q) (sym at) e,
+  )
 
-  shape_here : (d : PatternNode) (q : Pair) → IsEntry p (stages stage) (lists stage) d q → IsShaped p.k (length p.flights) d × (1 ≤ d.2)
-  shape_here d q e = window_shape p (stages stage).0 (node_at (stages stage).1 e.place) d (let number_is = held.number in let one = held.begun in omega (arith, number_is, one)) (place_landable p (stages stage) (lists stage) held.costs e.place e.within) e.node
+  shape_here : (d : PatternNode) (q : Pair) → IsEntry p (stages stage) (lists stage) d q
+      → IsShaped p.k (length p.flights) d × (1 ≤ d.2)
+  shape_here d q e = window_shape p (stages stage).0 (node_at (stages stage).1 e.place) d
+      (let number_is = held.number in let one = held.begun in omega (arith, number_is, one))
+      (place_landable p (stages stage) (lists stage) held.costs e.place e.within) e.node
 
   -- all nodes of the stage with entries have a number
-  pub entry_number : (d : PatternNode) (q : Pair) → d.0 ≡ stage → Entry d q → (n : ℕ) × (n < 8 * 2 ^ (2 * p.k)) × HasNumber p.k d n
-  entry_number d q at e = let s = (shape_here d q (entry_here d q at e)).0 in number_near p.k d held.well_formed.few_places s.digits s.near.0 s.near.1
+  pub entry_number : (d : PatternNode) (q : Pair) → d.0 ≡ stage → Entry d q → (n : ℕ) × (n < 8 * 2 ^ (2 * p.k))
+      × HasNumber p.k d n
+  entry_number d q at e = let s = (shape_here d q (entry_here d q at e)).0 in
+      number_near p.k d held.well_formed.few_places s.digits s.near.0 s.near.1
 
-  module _ (number ones : ℕ) (slots : List (List Pair)) (best : List Pair) (are : AreBestAt p stages lists stage number ones slots best) where
+  module _ (number ones : ℕ) (slots : List (List Pair)) (best : List Pair)
+      (are : AreBestAt p stages lists stage number ones slots best) where
     abbrev slot : ℕ
     slot = ones * 8 + number % 8
 
     -- each entry of the number's node has one of these that is no worse
-    best_covers : (d : PatternNode) (q : Pair) → d.0 ≡ stage → HasNumber p.k d number → Entry d q → (o : Pair) × InPairs o best × NoWorse o q
+    best_covers : (d : PatternNode) (q : Pair) → d.0 ≡ stage → HasNumber p.k d number → Entry d q
+        → (o : Pair) × InPairs o best × NoWorse o q
     best_covers d q at has e =
         let here = entry_here d q at e in
-        let c = are.gathered.covers slot d q (at ∙ sym held.number) (number_slot p.k d number ones has are.turned are.low) (here, here.within) in
+        let c = are.gathered.covers slot d q (at ∙ sym held.number)
+        (number_slot p.k d number ones has are.turned are.low) (here, here.within) in
         let o = are.covers c.0 c.1 in
         (o.0, o.1, no_worse_trans o.0 c.0 q o.2 c.2)
 
-    pub none_best : (ss : List State) → AreWrittenBelow p.k Entry stage number ss → length best ≡ 0 → AreWrittenBelow p.k Entry stage (number + 1) ss
-    none_best ss w none = no_state p.k Entry stage number ss w (λ d q at has e. let c = best_covers d q at has e in no_pair best c.0 none c.1)
+    pub none_best : (ss : List State) → AreWrittenBelow p.k Entry stage number ss → length best ≡ 0
+        → AreWrittenBelow p.k Entry stage (number + 1) ss
+    none_best ss w none = no_state p.k Entry stage number ss w (λ d q at has e. let c =
+        best_covers d q at has e in no_pair best c.0 none c.1)
 
     -- each of them is an entry of one node of the slot
     node_of_best : (q : Pair) → InPairs q best → (d : PatternNode) × (d.0 ≡ stage) × HasSlot p.k d slot × Entry d q
@@ -138,7 +160,13 @@ module _ (p : Problem) (stages : ℕ → ℕ × List (List ℤ)) (lists : ℕ �
           record { pattern = ap (bits (2 * p.k)) (sym high); last = omega (arith, rest, known); within = n.2.within }
 
       written_number : HasNumber p.k (node_of written) number
-      written_number = let known = last_known in record { digits = length_bits (2 * p.k) ones; pattern = are.turned; last = omega (arith, known) }
+      written_number = let known =
+          last_known in record {
+            digits = length_bits (2 * p.k) ones;
+            pattern = are.turned;
+            last =
+                omega (arith, known);
+          }
 
       best_entry : (q : Pair) → InPairs q best → Entry (node_of written) q
       best_entry q i =
@@ -154,12 +182,15 @@ module _ (p : Problem) (stages : ℕ → ℕ × List (List ℤ)) (lists : ℕ �
         rising = up;
       }
 
-      pub written_more : (ss : List State) → AreWrittenBelow p.k Entry stage number ss → rises best ≡ true → list_all is_pair best ≡ true → AreWrittenBelow p.k Entry stage (number + 1) (ss ++ written ∷ [])
-      written_more ss w up ranged = one_state p.k Entry stage number ss w written refl written_number (written_holds up) ranged
+      pub written_more : (ss : List State) → AreWrittenBelow p.k Entry stage number ss → rises best ≡ true
+          → list_all is_pair best ≡ true → AreWrittenBelow p.k Entry stage (number + 1) (ss ++ written ∷ [])
+      written_more ss w up ranged =
+          one_state p.k Entry stage number ss w written refl written_number (written_holds up) ranged
 
       pub written_in_form : rises best ≡ true → list_all is_pair best ≡ true → IsState written
       written_in_form up ranged =
-          let s = shape_here (node_of written) (first some).0 (entry_here (node_of written) (first some).0 refl (best_entry (first some).0 (first some).1)) in
+          let s = shape_here (node_of written) (first some).0
+          (entry_here (node_of written) (first some).0 refl (best_entry (first some).0 (first some).1)) in
           let few = held.well_formed.few_flights in
           let most = held.within in
           let latest = s.0.latest in
@@ -173,5 +204,6 @@ module _ (p : Problem) (stages : ℕ → ℕ × List (List ℤ)) (lists : ℕ �
           }
 
   -- the stage with all numbers
-  pub stage_written : (ss : List State) → AreWrittenBelow p.k Entry stage (8 * 2 ^ (2 * p.k)) ss → AreWrittenBelow p.k Entry (stage + 1) 0 ss
+  pub stage_written : (ss : List State) → AreWrittenBelow p.k Entry stage (8 * 2 ^ (2 * p.k)) ss
+      → AreWrittenBelow p.k Entry (stage + 1) 0 ss
   stage_written ss w = whole_stage p.k Entry stage (8 * 2 ^ (2 * p.k)) ss w entry_number

@@ -32,13 +32,15 @@ IsOfEither left right q = InPairs q left ⊎ InPairs q right
 abbrev pub IsEntryBefore : Problem → ℕ × List (List ℤ) → List (List Pair) → ℕ → PatternNode → Pair → Type 0
 IsEntryBefore p stage lists count d q = (e : IsEntry p stage lists d q) × (e.place < count)
 
--- the slots have pairs of the first windows alone, each those of its node; and of each such pair one that is no later and no
--- dearer
-pub record AreGathered (p : Problem) (stage : ℕ × List (List ℤ)) (lists : List (List Pair)) (count : ℕ) (slots : List (List Pair)) : Type 0 where
+-- the slots have pairs of the first windows alone, each those of its node; and of each such pair one that is no later
+-- and no dearer
+pub record AreGathered (p : Problem) (stage : ℕ × List (List ℤ)) (lists : List (List Pair))
+    (count : ℕ) (slots : List (List Pair)) : Type 0 where
   pub room : length slots ≡ 8 * 2 ^ (2 * p.k)
   pub found : (slot : ℕ) (q : Pair) → InPairs q (list_at slots slot)
       → (d : PatternNode) × (d.0 ≡ stage.0) × HasSlot p.k d slot × IsEntryBefore p stage lists count d q
-  pub covers : (slot : ℕ) (d : PatternNode) (q : Pair) → d.0 ≡ stage.0 → HasSlot p.k d slot → IsEntryBefore p stage lists count d q
+  pub covers : (slot : ℕ) (d : PatternNode) (q : Pair) → d.0 ≡ stage.0 → HasSlot p.k d slot
+      → IsEntryBefore p stage lists count d q
       → (o : Pair) × InPairs o (list_at slots slot) × NoWorse o q
   pub in_range : (slot : ℕ) → All IsPairInRange (list_at slots slot)
 
@@ -49,6 +51,7 @@ pub record IsSlotOf (k stage : ℕ) (window : List ℤ) (slot : ℕ) : Type 0 wh
   pub has : HasSlot k (stage, digits_of k stage placed, latest (stage, window)) slot
 
 -- the first nodes of a stage have these slots: those of their first windows
-pub record HaveSlots (k stage : ℕ) (windows : List (List ℤ)) (firsts : List ℕ) (count : ℕ) (slots : List ℕ) : Type 0 where
+pub record HaveSlots (k stage : ℕ) (windows : List (List ℤ)) (firsts : List ℕ) (count : ℕ)
+    (slots : List ℕ) : Type 0 where
   pub long : length slots ≡ count
   pub each : (j : ℕ) → j < count → IsSlotOf k stage (node_at windows (told_at firsts j)) (told_at slots j)

@@ -1,5 +1,5 @@
--- The windows of a stage with their pairs, as entries of the nodes of a certificate: a node has the pairs of all windows that
--- belong to it.
+-- The windows of a stage with their pairs, as entries of the nodes of a certificate: a node has the pairs of all
+-- windows that belong to it.
 use Rattle.std.specs.Prelude.{◌≡◌, ℕ, ℤ, ◌<◌, ◌≤◌, List, length}
 use Rattle.landing_rules.specs.Problem.{Problem}
 use Rattle.cps_theory.specs.Labels.{InPairs, Pair}
@@ -18,10 +18,12 @@ use Rattle.cert_check.specs.shared.KeptPairs.{HoldAllEntries}
 
 -- the window of a stage belongs to the node: each legal prefix that ends in it has this node
 abbrev pub IsWindowOf : Problem → ℕ → List ℤ → PatternNode → Type 0
-IsWindowOf p stage xs d = (rs : List ℕ) → Legal (ranked p).rules rs → node_of p.k rs ≡ (stage, xs) → pattern_node (ranked p).rules rs ≡ d
+IsWindowOf p stage xs d = (rs : List ℕ) → Legal (ranked p).rules rs → node_of p.k rs ≡ (stage, xs)
+    → pattern_node (ranked p).rules rs ≡ d
 
 -- some window of the stage belongs to this node, and its list has this pair
-pub record IsEntry (p : Problem) (stage : ℕ × List (List ℤ)) (lists : List (List Pair)) (d : PatternNode) (q : Pair) : Type 0 where
+pub record IsEntry (p : Problem) (stage : ℕ × List (List ℤ)) (lists : List (List Pair)) (d : PatternNode)
+    (q : Pair) : Type 0 where
   pub place : ℕ
   pub within : place < length stage.1
   pub node : IsWindowOf p stage.0 (node_at stage.1 place) d
@@ -49,9 +51,11 @@ IsEntryOf p stages lists d q = (d.0 ≤ length p.flights) × IsEntry p (stages d
 
 -- each stage behind the start has its number, and these are its landable windows with their pairs
 abbrev pub AreStagesWith : Problem → (ℕ → ℕ × List (List ℤ)) → (ℕ → List (List Pair)) → Type 0
-AreStagesWith p stages lists = (i : ℕ) → 1 ≤ i → i ≤ length p.flights → ((stages i).0 ≡ i) × HoldsCosts p (stages i) (lists i)
+AreStagesWith p stages lists =
+    (i : ℕ) → 1 ≤ i → i ≤ length p.flights → ((stages i).0 ≡ i) × HoldsCosts p (stages i) (lists i)
 
 -- states that hold all entries of the stages leave nothing out
 abbrev pub StagesMakeStates : Problem → Type 0
-StagesMakeStates p = (stages : ℕ → ℕ × List (List ℤ)) (lists : ℕ → List (List Pair)) (ss : List State) → AreStagesWith p stages lists
+StagesMakeStates p = (stages : ℕ → ℕ × List (List ℤ)) (lists : ℕ → List (List Pair)) (ss : List State)
+    → AreStagesWith p stages lists
     → HoldAllEntries (IsEntryOf p stages lists) ss → AreWholeStates p ss

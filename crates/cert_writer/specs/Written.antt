@@ -19,15 +19,16 @@ abbrev pub ComesBelow : ℕ → ℕ → ℕ → PatternNode → Type 0
 ComesBelow k stage number d = (d.0 < stage) ⊎ ((d.0 ≡ stage) × (n : ℕ) × (n < number) × HasNumber k d n)
 
 -- the states of the entries' nodes below this number of the stage, and no others
-pub record AreWrittenBelow (k : ℕ) (Entry : PatternNode → Pair → Type 0) (stage number : ℕ) (ss : List State) : Type 0 where
+pub record AreWrittenBelow (k : ℕ) (Entry : PatternNode → Pair → Type 0) (stage number : ℕ)
+    (ss : List State) : Type 0 where
   pub each : All (HoldsEntries Entry) ss
   pub every : (d : PatternNode) (q : Pair) → 1 ≤ d.0 → ComesBelow k stage number d → Entry d q → HasNode ss d
   pub ascending : AreAscending ss
   pub below : All (λ s. ComesBelow k stage number (node_of s)) ss
   pub in_range : All (λ s. list_all is_pair s.pairs ≡ true) ss
 
--- what the writer rests on: the windows of a problem tell the nodes of certificates, and states that hold all their pairs leave
--- nothing out
+-- what the writer rests on: the windows of a problem tell the nodes of certificates, and states that hold all their
+-- pairs leave nothing out
 pub record StageLaws (p : Problem) : Type 0 where
   pub entries : EntriesKeepNodes p
   pub placed : PlacedTellNodes p
@@ -37,7 +38,8 @@ pub record StageLaws (p : Problem) : Type 0 where
 
 -- the pairs of all windows of a stage, by slot
 abbrev pub IsGathered : Problem → Option HeldProblem → ℕ → List (List Pair) → Type 0
-IsGathered p held stage slots = AreGathered p (stage_in held stage) (lists_in held stage) (length (stage_in held stage).1) slots
+IsGathered p held stage slots =
+    AreGathered p (stage_in held stage) (lists_in held stage) (length (stage_in held stage).1) slots
 
 -- the states below this number of a stage
 abbrev pub IsWritten : Problem → Option HeldProblem → ℕ → ℕ → List State → Type 0

@@ -1,5 +1,6 @@
 -- What is printed reads back.
-use Rattle.std.proofs.Common.{◌≡◌, ℕ, ◌<◌, ◌≤◌, ◌^◌, Bool, true, false, leb, not, List, [], ◌∷◌, ◌++◌, length, map, Some, None, refl, ap, ◌∙◌, arith, inl, inr}
+use Rattle.std.proofs.Common.{◌≡◌, ℕ, ◌<◌, ◌≤◌, ◌^◌, Bool, true, false, leb, not, List, [], ◌∷◌, ◌++◌, length, map}
+use Rattle.std.proofs.Common.{Some, None, refl, ap, ◌∙◌, arith, inl, inr}
 use Rattle.std.specs.Prelude.{◌==◌, codes, decimal}
 use Rattle.std.specs.List.{list_all}
 use Rattle.std.proofs.lemmas.Bool.{leb-true, lt-ltb, and_from, and_parts}
@@ -14,8 +15,10 @@ use Rattle.certificate.specs.declared.certificate.Claim.TheVariants.{Optimal, In
 use Rattle.certificate.specs.Reading.{IsClaim}
 use Rattle.certificate.specs.Patterns.{is_pattern_length}
 use Rattle.certificate.specs.States.{Pair, State, IsState, is_pair}
-use Rattle.certificate.specs.Lines.{digit_of, is_digit, are_pattern_digits, pattern_in, pair_in, pair_by, pairs_in, state_in, state_by, state_from, landing_in, landing_by, claim_in, claim_by}
-use Rattle.certificate.specs.Spelling.{digit_text, pattern_text, pair_text, pairs_text, state_text, landing_text, claim_text}
+use Rattle.certificate.specs.Lines.{digit_of, is_digit, are_pattern_digits, pattern_in, pair_in, pair_by, pairs_in}
+use Rattle.certificate.specs.Lines.{state_in, state_by, state_from, landing_in, landing_by, claim_in, claim_by}
+use Rattle.certificate.specs.Spelling.{digit_text, pattern_text, pair_text, pairs_text, state_text, landing_text}
+use Rattle.certificate.specs.Spelling.{claim_text}
 
 -- ---- pairs
 
@@ -26,8 +29,13 @@ pair_reads p a b =
     let fits1 : p.1 < 2 ^ 64 = omega arith in
     let first = cut 58 (decimal p.0) (decimal p.1) (decimal_lacks p.0 58 fits0 (inr (omega arith))) refl in
     let second = uncut 58 (decimal p.1) (decimal_lacks p.1 58 fits1 (inr (omega arith))) in
-    let fields : parts 58 (pair_text p) ≡ decimal p.0 ∷ decimal p.1 ∷ [] = first ∙ ap (λ (ps : List (List ℕ)). decimal p.0 ∷ ps) second in
-    ap pair_by fields ∙ rw (decimal_reads p.0 0 172799 fits0 (omega arith) a, decimal_reads p.1 0 4294967295 fits1 (omega arith) b) refl
+    let fields : parts 58 (pair_text p) ≡ decimal p.0 ∷ decimal p.1 ∷ [] =
+    first ∙ ap (λ (ps : List (List ℕ)). decimal p.0 ∷ ps) second in
+    ap pair_by fields ∙ rw (
+      decimal_reads p.0 0 172799 fits0 (omega arith) a,
+      decimal_reads p.1 0 4294967295 fits1
+          (omega arith) b,
+    ) refl
 
 -- ---- a line of fields
 
@@ -36,15 +44,18 @@ pair_lacks p a b =
     let fits0 : p.0 < 2 ^ 64 = omega arith in
     let fits1 : p.1 < 2 ^ 64 = omega arith in
     let test : ℕ → Type 0 = λ b. (b == 32) ≡ false in
-    All-append test (decimal p.0) (58 ∷ decimal p.1) (decimal_lacks p.0 32 fits0 (inl (omega arith))) (All-cons test 58 (decimal p.1) refl (decimal_lacks p.1 32 fits1 (inl (omega arith))))
+    All-append test (decimal p.0) (58 ∷ decimal p.1) (decimal_lacks p.0 32 fits0 (inl (omega arith)))
+    (All-cons test 58 (decimal p.1) refl (decimal_lacks p.1 32 fits1 (inl (omega arith))))
 
 abbrev pub ArePairs : List Pair → Type 0
 ArePairs [] = Unit {0}
 ArePairs (p ∷ ps) = (p.0 ≤ 172799) × (p.1 ≤ 4294967295) × ArePairs ps
 
-pub fields_of : (a : List ℕ) (ps : List Pair) → Lacks 32 a → ArePairs ps → parts 32 (a ++ pairs_text ps) ≡ a ∷ map pair_text ps
+pub fields_of : (a : List ℕ) (ps : List Pair) → Lacks 32 a → ArePairs ps
+    → parts 32 (a ++ pairs_text ps) ≡ a ∷ map pair_text ps
 fields_of a [] h k = ap (parts 32) (append-nil a) ∙ uncut 32 a h
-fields_of a (p ∷ ps) h k = cut 32 a (pair_text p ++ pairs_text ps) h refl ∙ ap (λ (xs : List (List ℕ)). a ∷ xs) (fields_of (pair_text p) ps (pair_lacks p k.0 k.1) k.2)
+fields_of a (p ∷ ps) h k = cut 32 a (pair_text p ++ pairs_text ps) h refl
+    ∙ ap (λ (xs : List (List ℕ)). a ∷ xs) (fields_of (pair_text p) ps (pair_lacks p k.0 k.1) k.2)
 
 pub pairs_read : (ps : List Pair) → ArePairs ps → pairs_in (map pair_text ps) ≡ Some ps
 unfolding pairs_in
@@ -68,10 +79,12 @@ no_blank [] = refl
 no_blank (true ∷ ds) = no_blank ds
 no_blank (false ∷ ds) = no_blank ds
 
-digits_are : (d : Bool) (ds : List Bool) → is_pattern_length (length (d ∷ ds)) ≡ true → are_pattern_digits (map digit_text (d ∷ ds)) ≡ true
+digits_are : (d : Bool) (ds : List Bool) → is_pattern_length (length (d ∷ ds)) ≡ true
+    → are_pattern_digits (map digit_text (d ∷ ds)) ≡ true
 digits_are d ds size =
     let len = length-map (d ∷ ds) digit_text in
-    and_from _ _ (and_from _ _ (lt-ltb 0 (length (map digit_text (d ∷ ds))) (omega (arith, len))) (ap is_pattern_length len ∙ size)) (all_digits (d ∷ ds))
+    and_from _ _ (and_from _ _ (lt-ltb 0 (length (map digit_text (d ∷ ds))) (omega (arith, len)))
+    (ap is_pattern_length len ∙ size)) (all_digits (d ∷ ds))
 
 pub pattern_reads : (ds : List Bool) → is_pattern_length (length ds) ≡ true → pattern_in (pattern_text ds) ≡ Some ds
 unfolding pattern_in
@@ -92,16 +105,23 @@ in_ranges (p ∷ ps) e =
     let r = and_parts (leb p.0 172799) (leb p.1 4294967295) h.0 in
     (leb-true p.0 172799 r.0, leb-true p.1 4294967295 r.1, in_ranges ps h.1)
 
-state_fields : (s : State) → IsState s → parts 32 (state_text s) ≡ codes "state" ∷ decimal s.stage ∷ pattern_text s.pattern ∷ decimal s.last ∷ map pair_text s.pairs
+state_fields : (s : State) → IsState s → parts 32 (state_text s) ≡ codes "state" ∷ decimal s.stage
+    ∷ pattern_text s.pattern ∷ decimal s.last ∷ map pair_text s.pairs
 state_fields s h =
     let stage_fits : s.stage < 2 ^ 64 = let x = h.stage.1 in omega arith in
     let last_fits : s.last < 2 ^ 64 = let x = h.last.1 in omega arith in
-    let word = cut 32 (codes "state") (decimal s.stage ++ 32 ∷ (pattern_text s.pattern ++ 32 ∷ (decimal s.last ++ pairs_text s.pairs))) (lacks_by 32 (codes "state") refl) refl in
-    let stage = cut 32 (decimal s.stage) (pattern_text s.pattern ++ 32 ∷ (decimal s.last ++ pairs_text s.pairs)) (decimal_lacks s.stage 32 stage_fits (inl (omega arith))) refl in
-    let pattern = cut 32 (pattern_text s.pattern) (decimal s.last ++ pairs_text s.pairs) (pattern_lacks s.pattern) refl in
-    let last = fields_of (decimal s.last) s.pairs (decimal_lacks s.last 32 last_fits (inl (omega arith))) (in_ranges s.pairs h.pairs) in
+    let word = cut 32 (codes "state") (decimal s.stage
+    ++ 32 ∷ (pattern_text s.pattern ++ 32 ∷ (decimal s.last ++ pairs_text s.pairs)))
+    (lacks_by 32 (codes "state") refl) refl in
+    let stage = cut 32 (decimal s.stage) (pattern_text s.pattern ++ 32 ∷ (decimal s.last ++ pairs_text s.pairs))
+    (decimal_lacks s.stage 32 stage_fits (inl (omega arith))) refl in
+    let pattern = cut 32 (pattern_text s.pattern) (decimal s.last ++ pairs_text s.pairs)
+    (pattern_lacks s.pattern) refl in
+    let last = fields_of (decimal s.last) s.pairs (decimal_lacks s.last 32 last_fits (inl (omega arith)))
+    (in_ranges s.pairs h.pairs) in
     let behind : List ℕ → List (List ℕ) → List (List ℕ) = λ x xs. x ∷ xs in
-    word ∙ ap (behind (codes "state")) (stage ∙ ap (behind (decimal s.stage)) (pattern ∙ ap (behind (pattern_text s.pattern)) last))
+    word ∙ ap (behind (codes "state")) (stage ∙ ap (behind (decimal s.stage)) (pattern
+    ∙ ap (behind (pattern_text s.pattern)) last))
 
 -- a state that is printed reads back
 pub state_reads : (s : State) → IsState s → state_in (state_text s) ≡ Some s
@@ -111,15 +131,25 @@ state_reads s h =
     let last_fits : s.last < 2 ^ 64 = let x = h.last.1 in omega arith in
     let some = lt-ltb 0 (length s.pairs) (let x = h.some_pairs in omega arith) in
     let good = and_from _ _ some h.rising in
-    ap state_by (state_fields s h) ∙ rw (decimal_reads s.stage 1 60 stage_fits h.stage.0 h.stage.1, pattern_reads s.pattern h.pattern, decimal_reads s.last 1 60 last_fits h.last.0 h.last.1, pairs_read s.pairs (in_ranges s.pairs h.pairs)) (rw good refl)
+    ap state_by (state_fields s h)
+    ∙ rw (
+      decimal_reads s.stage 1 60 stage_fits h.stage.0 h.stage.1,
+      pattern_reads s.pattern h.pattern,
+      decimal_reads s.last 1 60 last_fits h.last.0 h.last.1,
+      pairs_read s.pairs (in_ranges s.pairs h.pairs),
+    )
+    (rw good refl)
 
 -- ---- landings and claims
 
-landing_fields : (l : List ℕ × ℕ) → is_callsign l.0 ≡ true → l.1 ≤ 172799 → parts 32 (landing_text l) ≡ codes "land" ∷ l.0 ∷ decimal l.1 ∷ []
+landing_fields : (l : List ℕ × ℕ) → is_callsign l.0 ≡ true → l.1 ≤ 172799
+    → parts 32 (landing_text l) ≡ codes "land" ∷ l.0 ∷ decimal l.1 ∷ []
 landing_fields l c t =
     let fits : l.1 < 2 ^ 64 = omega arith in
     let behind : List ℕ → List (List ℕ) → List (List ℕ) = λ x xs. x ∷ xs in
-    cut 32 (codes "land") (l.0 ++ 32 ∷ decimal l.1) (lacks_by 32 (codes "land") refl) refl ∙ ap (behind (codes "land")) (cut 32 l.0 (decimal l.1) (callsign_lacks 32 l.0 refl c) refl ∙ ap (behind l.0) (uncut 32 (decimal l.1) (decimal_lacks l.1 32 fits (inl (omega arith)))))
+    cut 32 (codes "land") (l.0 ++ 32 ∷ decimal l.1) (lacks_by 32 (codes "land") refl) refl
+    ∙ ap (behind (codes "land")) (cut 32 l.0 (decimal l.1) (callsign_lacks 32 l.0 refl c) refl
+    ∙ ap (behind l.0) (uncut 32 (decimal l.1) (decimal_lacks l.1 32 fits (inl (omega arith)))))
 
 -- a landing that is printed reads back, and is no state
 pub landing_reads : (l : List ℕ × ℕ) → is_callsign l.0 ≡ true → l.1 ≤ 172799 → landing_in (landing_text l) ≡ Some l
@@ -134,9 +164,13 @@ landing_no_state l c t = ap state_by (landing_fields l c t)
 
 pub claim_reads : (c : Claim) → IsClaim c → claim_in (claim_text c) ≡ Some c
 unfolding claim_in claim_by
-claim_reads Infeasible h = ap claim_by (cut 32 (codes "claim") (codes "infeasible") (lacks_by 32 (codes "claim") refl) refl ∙ ap (λ (xs : List (List ℕ)). codes "claim" ∷ xs) (uncut 32 (codes "infeasible") (lacks_by 32 (codes "infeasible") refl)))
+claim_reads Infeasible h = ap claim_by (cut 32 (codes "claim") (codes "infeasible")
+    (lacks_by 32 (codes "claim") refl) refl ∙ ap (λ (xs : List (List ℕ)). codes "claim" ∷ xs)
+    (uncut 32 (codes "infeasible") (lacks_by 32 (codes "infeasible") refl)))
 claim_reads (Optimal v) h =
     let fits : v < 2 ^ 64 = omega arith in
     let behind : List ℕ → List (List ℕ) → List (List ℕ) = λ x xs. x ∷ xs in
-    ap claim_by (cut 32 (codes "claim") (codes "optimal" ++ 32 ∷ decimal v) (lacks_by 32 (codes "claim") refl) refl ∙ ap (behind (codes "claim")) (cut 32 (codes "optimal") (decimal v) (lacks_by 32 (codes "optimal") refl) refl ∙ ap (behind (codes "optimal")) (uncut 32 (decimal v) (decimal_lacks v 32 fits (inl (omega arith))))))
+    ap claim_by (cut 32 (codes "claim") (codes "optimal" ++ 32 ∷ decimal v) (lacks_by 32 (codes "claim") refl) refl
+    ∙ ap (behind (codes "claim")) (cut 32 (codes "optimal") (decimal v) (lacks_by 32 (codes "optimal") refl) refl
+    ∙ ap (behind (codes "optimal")) (uncut 32 (decimal v) (decimal_lacks v 32 fits (inl (omega arith))))))
     ∙ rw (decimal_reads v 0 greatest_value fits (omega arith) h) refl

@@ -1,5 +1,7 @@
 -- What a text reads as prints back as the text.
-use Rattle.std.proofs.Common.{◌≡◌, ℕ, ◌<◌, ◌^◌, Bool, true, false, cond, ltb, eqb, not, ◌&&◌, ◌||◌, List, [], ◌∷◌, ◌++◌, length, get_or, map, Some, None, Ok, Err, refl, sym, ap, subst, ◌∙◌, arith, append-nil}
+use Rattle.std.proofs.Common.{◌≡◌, ℕ, ◌<◌, ◌^◌, Bool, true, false, cond, ltb, eqb, not, ◌&&◌, ◌||◌, List, [], ◌∷◌}
+use Rattle.std.proofs.Common.{◌++◌, length, get_or, map, Some, None, Ok, Err, refl, sym, ap, subst, ◌∙◌, arith}
+use Rattle.std.proofs.Common.{append-nil}
 use Rattle.std.specs.Prelude.{◌==◌, codes, decimal, bytes_eq, option_map, option_and_then}
 use Rattle.std.specs.List.{list_all, join_with_byte}
 use Rattle.std.specs.Char.{is_ascii_digit}
@@ -20,12 +22,15 @@ use Rattle.texts.specs.Parts.{callsign_in, number_in, ok_of, parts}
 use Rattle.certificate.specs.declared.certificate.Claim.{Claim}
 use Rattle.certificate.specs.declared.certificate.Claim.TheVariants.{Optimal, Infeasible}
 use Rattle.certificate.specs.States.{Pair, State}
-use Rattle.certificate.specs.Lines.{digit_of, is_digit, are_pattern_digits, pattern_in, pair_in, pair_by, pairs_in, state_in, state_by, state_from, landing_in, landing_by, claim_in, claim_by}
-use Rattle.certificate.specs.Spelling.{digit_text, pattern_text, pair_text, pairs_text, state_text, landing_text, claim_text}
+use Rattle.certificate.specs.Lines.{digit_of, is_digit, are_pattern_digits, pattern_in, pair_in, pair_by, pairs_in}
+use Rattle.certificate.specs.Lines.{state_in, state_by, state_from, landing_in, landing_by, claim_in, claim_by}
+use Rattle.certificate.specs.Spelling.{digit_text, pattern_text, pair_text, pairs_text, state_text, landing_text}
+use Rattle.certificate.specs.Spelling.{claim_text}
 use Rattle.certificate.proofs.Valid.{then_some, map_some, passed_then}
 
 -- the parts of a text, joined, are the text
-pub joined : (mark : ℕ) (text : List ℕ) (fields : List (List ℕ)) → parts mark text ≡ fields → join_with_byte mark fields ≡ text
+pub joined : (mark : ℕ) (text : List ℕ) (fields : List (List ℕ)) → parts mark text ≡ fields
+    → join_with_byte mark fields ≡ text
 joined mark text fields e = ap (join_with_byte mark) (sym e) ∙ join_with_byte-slice_split mark text
 
 pub same_text : (a b : List ℕ) → bytes_eq a b ≡ true → a ≡ b
@@ -35,9 +40,11 @@ same_text a b e = (bytes_eq-Decides a b).0 e
 
 ascii_digits : (text : List ℕ) → list_all is_ascii_digit text ≡ true → all_ascii_digits text ≡ true
 ascii_digits [] e = refl
-ascii_digits (b ∷ text) e = let h = and_parts (is_ascii_digit b) (list_all is_ascii_digit text) e in rw h.0 (ascii_digits text h.1)
+ascii_digits (b ∷ text) e = let h =
+    and_parts (is_ascii_digit b) (list_all is_ascii_digit text) e in rw h.0 (ascii_digits text h.1)
 
-numeral : (text : List ℕ) → is_number text ≡ true → digits_value 10 text < 2 ^ 64 → decimal (digits_value 10 text) ≡ text
+numeral : (text : List ℕ) → is_number text ≡ true → digits_value 10 text < 2 ^ 64
+    → decimal (digits_value 10 text) ≡ text
 numeral text e small =
     let h = and_parts _ (list_all is_ascii_digit text) e in
     let k = and_parts (ltb 0 (length text)) (eqb (length text) 1 || not (eqb (get_or text 0 0) 48)) h.0 in
@@ -45,11 +52,15 @@ numeral text e small =
     let lead : get_or text 0 0 ≡ 48 → length text ≡ 1 = λ z. let t = k.1 in grind (arith, common_steps) in
     decimal-digits_value (numerals_by_value _ tells_all_ascii_digits) text (ascii_digits text h.1) some lead small
 
-pub number_printed : (text : List ℕ) (least most n : ℕ) → most < 2 ^ 64 → number_in text least most ≡ Some n → decimal n ≡ text
+pub number_printed : (text : List ℕ) (least most n : ℕ) → most < 2 ^ 64 → number_in text least most ≡ Some n
+    → decimal n ≡ text
 unfolding number_in number_within
-number_printed text least most n fits e = go (is_number text) (ltb (digits_value 10 text) least) (ltb most (digits_value 10 text)) refl refl e
+number_printed text least most n fits e =
+    go (is_number text) (ltb (digits_value 10 text) least) (ltb most (digits_value 10 text)) refl refl e
   where
-    go : (a b c : Bool) → is_number text ≡ a → ltb most (digits_value 10 text) ≡ c → ok_of (cond (not a) (Err NotNumber) (cond b (Err Below) (cond c (Err Above) (Ok (digits_value 10 text))))) ≡ Some n → decimal n ≡ text
+    go : (a b c : Bool) → is_number text ≡ a → ltb most (digits_value 10 text) ≡ c
+        → ok_of (cond (not a) (Err NotNumber)
+        (cond b (Err Below) (cond c (Err Above) (Ok (digits_value 10 text))))) ≡ Some n → decimal n ≡ text
     go false b c p q e = absurd cc
     go true true c p q e = absurd cc
     go true false true p q e = absurd cc
@@ -76,15 +87,18 @@ pair_printed text p e = go (parts 58 text) refl e
     go (a ∷ b ∷ d ∷ ps) f e = absurd cc
 
 -- the parts behind a first one
-pub pairs_printed : (a : List ℕ) (ps : List (List ℕ)) (xs : List Pair) → pairs_in ps ≡ Some xs → a ++ pairs_text xs ≡ join_with_byte 32 (a ∷ ps)
+pub pairs_printed : (a : List ℕ) (ps : List (List ℕ)) (xs : List Pair) → pairs_in ps ≡ Some xs
+    → a ++ pairs_text xs ≡ join_with_byte 32 (a ∷ ps)
 unfolding pairs_in
-pairs_printed a [] xs e = let same : [] ≡ xs = cc in ap (λ (ys : List Pair). a ++ pairs_text ys) (sym same) ∙ append-nil a
+pairs_printed a [] xs e = let same : [] ≡ xs = cc in ap (λ (ys : List Pair). a ++ pairs_text ys) (sym same)
+    ∙ append-nil a
 pairs_printed a (p ∷ ps) xs e =
     let x = then_some (pair_in p) _ xs e in
     let more = map_some (pairs_in ps) _ xs x.2 in
     let first = pair_printed p x.0 x.1 in
     let rest = pairs_printed p ps more.0 more.1 in
-    ap (λ (ys : List Pair). a ++ pairs_text ys) (sym more.2) ∙ ap (λ (t : List ℕ). a ++ 32 ∷ (t ++ pairs_text more.0)) first ∙ ap (λ (t : List ℕ). a ++ 32 ∷ t) rest
+    ap (λ (ys : List Pair). a ++ pairs_text ys) (sym more.2)
+    ∙ ap (λ (t : List ℕ). a ++ 32 ∷ (t ++ pairs_text more.0)) first ∙ ap (λ (t : List ℕ). a ++ 32 ∷ t) rest
 
 -- ---- patterns
 
@@ -94,9 +108,16 @@ digits_printed (b ∷ text) e =
     let h = and_parts (is_digit b) (list_all is_digit text) e in
     go (b == 48) (b == 49) refl refl h.0 ∙ ap (λ (t : List ℕ). b ∷ t) (digits_printed text h.1)
   where
-    go : (x y : Bool) → (b == 48) ≡ x → (b == 49) ≡ y → x || y ≡ true → digit_text (digit_of b) ∷ map digit_text (map digit_of text) ≡ b ∷ map digit_text (map digit_of text)
-    go x true p q e = let same : b ≡ 49 = grind (arith, common_steps) in subst (λ (c : ℕ). digit_text (digit_of c) ∷ map digit_text (map digit_of text) ≡ c ∷ map digit_text (map digit_of text)) (sym same) refl
-    go true false p q e = let same : b ≡ 48 = grind (arith, common_steps) in subst (λ (c : ℕ). digit_text (digit_of c) ∷ map digit_text (map digit_of text) ≡ c ∷ map digit_text (map digit_of text)) (sym same) refl
+    go : (x y : Bool) → (b == 48) ≡ x → (b == 49) ≡ y → x || y ≡ true
+        → digit_text (digit_of b) ∷ map digit_text (map digit_of text) ≡ b ∷ map digit_text (map digit_of text)
+    go x true p q e = let same : b ≡ 49 = grind (arith, common_steps) in subst
+        (λ (c : ℕ). digit_text (digit_of c) ∷ map digit_text (map digit_of text) ≡ c
+        ∷ map digit_text (map digit_of text))
+        (sym same) refl
+    go true false p q e = let same : b ≡ 48 = grind (arith, common_steps) in subst
+        (λ (c : ℕ). digit_text (digit_of c) ∷ map digit_text (map digit_of text) ≡ c
+        ∷ map digit_text (map digit_of text))
+        (sym same) refl
     go false false p q e = absurd cc
 
 some_digits : (text : List ℕ) → are_pattern_digits text ≡ true → pattern_text (map digit_of text) ≡ text
@@ -110,14 +131,17 @@ pub pattern_printed : (text : List ℕ) (ds : List Bool) → pattern_in text ≡
 unfolding pattern_in
 pattern_printed text ds e = go (bytes_eq text (codes "-")) (are_pattern_digits text) refl refl e
   where
-    go : (a b : Bool) → bytes_eq text (codes "-") ≡ a → are_pattern_digits text ≡ b → cond a (Some []) (cond b (Some (map digit_of text)) None) ≡ Some ds → pattern_text ds ≡ text
+    go : (a b : Bool) → bytes_eq text (codes "-") ≡ a → are_pattern_digits text ≡ b
+        → cond a (Some []) (cond b (Some (map digit_of text)) None) ≡ Some ds → pattern_text ds ≡ text
     go true b p q e = let same : [] ≡ ds = cc in ap pattern_text (sym same) ∙ blank ∙ sym (same_text text (codes "-") p)
     go false false p q e = absurd cc
     go false true p q e = let same : map digit_of text ≡ ds = cc in ap pattern_text (sym same) ∙ some_digits text q
 
 -- ---- lines
 
-state_from_printed : (stage pattern last : List ℕ) (pairs : List (List ℕ)) (s : State) → state_from stage pattern last pairs ≡ Some s → state_text s ≡ codes "state" ++ 32 ∷ join_with_byte 32 (stage ∷ pattern ∷ last ∷ pairs)
+state_from_printed : (stage pattern last : List ℕ) (pairs : List (List ℕ)) (s : State)
+    → state_from stage pattern last pairs ≡ Some s → state_text s ≡ codes "state"
+    ++ 32 ∷ join_with_byte 32 (stage ∷ pattern ∷ last ∷ pairs)
 unfolding state_from
 state_from_printed stage pattern last pairs s e =
     let a = then_some (number_in stage 1 60) _ s e in
@@ -126,7 +150,13 @@ state_from_printed stage pattern last pairs s e =
     let xs = then_some (pairs_in pairs) _ s l.2 in
     let t = cond_some _ _ s xs.2 in
     ap state_text (sym t.1)
-    ∙ rw (number_printed stage 1 60 a.0 (omega arith) a.1, pattern_printed pattern p.0 p.1, number_printed last 1 60 l.0 (omega arith) l.1) (ap (λ (x : List ℕ). codes "state" ++ 32 ∷ (stage ++ 32 ∷ (pattern ++ 32 ∷ x))) (pairs_printed last pairs xs.0 xs.1))
+    ∙ rw (
+      number_printed stage 1 60 a.0 (omega arith) a.1,
+      pattern_printed pattern p.0 p.1,
+      number_printed last 1 60 l.0
+          (omega arith) l.1,
+    ) (ap (λ (x : List ℕ). codes "state" ++ 32 ∷ (stage ++ 32 ∷ (pattern ++ 32 ∷ x)))
+    (pairs_printed last pairs xs.0 xs.1))
 
 pub state_printed : (line : List ℕ) (s : State) → state_in line ≡ Some s → state_text s ≡ line
 unfolding state_in state_by
@@ -140,7 +170,8 @@ state_printed line s e = go (parts 32 line) refl e
     go (word ∷ stage ∷ pattern ∷ last ∷ pairs) f e =
         let o = passed_then _ _ s e in
         state_from_printed stage pattern last pairs s o.1
-        ∙ ap (λ (w : List ℕ). w ++ 32 ∷ join_with_byte 32 (stage ∷ pattern ∷ last ∷ pairs)) (sym (same_text word (codes "state") o.0))
+        ∙ ap (λ (w : List ℕ). w ++ 32 ∷ join_with_byte 32 (stage ∷ pattern ∷ last ∷ pairs))
+        (sym (same_text word (codes "state") o.0))
         ∙ joined 32 line (word ∷ stage ∷ pattern ∷ last ∷ pairs) f
 
 pub landing_printed : (line : List ℕ) (l : List ℕ × ℕ) → landing_in line ≡ Some l → landing_text l ≡ line
@@ -152,13 +183,15 @@ landing_printed line l e = go (parts 32 line) refl e
     go (a ∷ []) f e = absurd cc
     go (a ∷ b ∷ []) f e = absurd cc
     go (word ∷ name ∷ second ∷ []) f e =
-        let o = passed_then (bytes_eq word (codes "land")) (option_and_then (λ c. option_map (λ t. (c, t)) (number_in second 0 172799)) (callsign_in name)) l e in
+        let o = passed_then (bytes_eq word (codes "land"))
+        (option_and_then (λ c. option_map (λ t. (c, t)) (number_in second 0 172799)) (callsign_in name)) l e in
         let c = then_some (callsign_in name) (λ c. option_map (λ t. (c, t)) (number_in second 0 172799)) l o.1 in
         let n = cond_some (is_callsign name) name c.0 c.1 in
         let t = map_some (number_in second 0 172799) (λ t. (c.0, t)) l c.2 in
         ap landing_text (sym t.2)
         ∙ ap (λ (x : List ℕ). codes "land" ++ 32 ∷ (x ++ 32 ∷ decimal t.0)) (sym n.1)
-        ∙ ap (λ (x : List ℕ). codes "land" ++ 32 ∷ (name ++ 32 ∷ x)) (number_printed second 0 172799 t.0 (omega arith) t.1)
+        ∙ ap (λ (x : List ℕ). codes "land" ++ 32 ∷ (name ++ 32 ∷ x))
+        (number_printed second 0 172799 t.0 (omega arith) t.1)
         ∙ ap (λ (w : List ℕ). w ++ 32 ∷ (name ++ 32 ∷ second)) (sym (same_text word (codes "land") o.0))
         ∙ joined 32 line (word ∷ name ∷ second ∷ []) f
     go (a ∷ b ∷ d ∷ g ∷ ps) f e = absurd cc

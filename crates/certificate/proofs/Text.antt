@@ -1,5 +1,6 @@
 -- The text of a certificate is cut into its lines, and reads back.
-use Rattle.std.proofs.Common.{◌≡◌, ℕ, ◌<◌, ◌≤◌, ◌^◌, Bool, true, false, not, List, [], ◌∷◌, ◌++◌, map, Option, Ok, refl, ap, ◌∙◌, arith, inl, append_assoc}
+use Rattle.std.proofs.Common.{◌≡◌, ℕ, ◌<◌, ◌≤◌, ◌^◌, Bool, true, false, not, List, [], ◌∷◌, ◌++◌, map, Option, Ok}
+use Rattle.std.proofs.Common.{refl, ap, ◌∙◌, arith, inl, append_assoc}
 use Rattle.std.specs.Prelude.{◌==◌, codes, decimal}
 use Rattle.std.specs.List.{list_all}
 use Rattle.std.proofs.lemmas.List.Elements.{All-append, All-cons}
@@ -9,8 +10,10 @@ use Rattle.texts.specs.shared.Printed.{Lacks, callsign_lacks, cut, decimal_lacks
 use Rattle.certificate.specs.declared.certificate.Claim.{Claim}
 use Rattle.certificate.specs.declared.certificate.Claim.TheVariants.{Optimal, Infeasible}
 use Rattle.certificate.specs.States.{Pair, State, IsState, AreStates}
-use Rattle.certificate.specs.Reading.{Cert, IsClaim, AreLandings, IsCertificate, claim_behind, body_behind, body_lines, certificate_by, certificate_of}
-use Rattle.certificate.specs.Spelling.{digit_text, pattern_text, pair_text, pairs_text, state_text, landing_text, claim_text, landing_lines, state_lines, certificate_text}
+use Rattle.certificate.specs.Reading.{Cert, IsClaim, AreLandings, IsCertificate, claim_behind, body_behind, body_lines}
+use Rattle.certificate.specs.Reading.{certificate_by, certificate_of}
+use Rattle.certificate.specs.Spelling.{digit_text, pattern_text, pair_text, pairs_text, state_text, landing_text}
+use Rattle.certificate.specs.Spelling.{claim_text, landing_lines, state_lines, certificate_text}
 use Rattle.certificate.proofs.Again.{in_ranges, ArePairs, claim_reads}
 use Rattle.certificate.proofs.Whole.{lines_all, body_back}
 
@@ -29,7 +32,8 @@ pair p a b = join 58 (decimal p.0) (decimal p.1) refl (number p.0 (omega arith))
 
 pairs : (ps : List Pair) → ArePairs ps → Lacks 10 (pairs_text ps)
 pairs [] k = λ i d lt. absurd (omega arith)
-pairs (p ∷ ps) k = All-cons test 32 (pair_text p ++ pairs_text ps) refl (All-append test (pair_text p) (pairs_text ps) (pair p k.0 k.1) (pairs ps k.2))
+pairs (p ∷ ps) k = All-cons test 32 (pair_text p ++ pairs_text ps) refl
+    (All-append test (pair_text p) (pairs_text ps) (pair p k.0 k.1) (pairs ps k.2))
 
 no_end : (ds : List Bool) → list_all (λ b. not (b == 10)) (map digit_text ds) ≡ true
 no_end [] = refl
@@ -44,30 +48,41 @@ state_lacks : (s : State) → IsState s → Lacks 10 (state_text s)
 state_lacks s h =
     let a : s.stage < 2 ^ 64 = let x = h.stage.1 in omega arith in
     let b : s.last < 2 ^ 64 = let x = h.last.1 in omega arith in
-    join 32 (codes "state") (decimal s.stage ++ 32 ∷ (pattern_text s.pattern ++ 32 ∷ (decimal s.last ++ pairs_text s.pairs))) refl (lacks_by 10 (codes "state") refl)
-    (join 32 (decimal s.stage) (pattern_text s.pattern ++ 32 ∷ (decimal s.last ++ pairs_text s.pairs)) refl (number s.stage a)
+    join 32 (codes "state") (decimal s.stage
+    ++ 32 ∷ (pattern_text s.pattern ++ 32 ∷ (decimal s.last ++ pairs_text s.pairs))) refl
+    (lacks_by 10 (codes "state") refl)
+    (join 32 (decimal s.stage) (pattern_text s.pattern ++ 32 ∷ (decimal s.last ++ pairs_text s.pairs)) refl
+    (number s.stage a)
     (join 32 (pattern_text s.pattern) (decimal s.last ++ pairs_text s.pairs) refl (pattern_line s.pattern)
-    (All-append test (decimal s.last) (pairs_text s.pairs) (number s.last b) (pairs s.pairs (in_ranges s.pairs h.pairs)))))
+    (All-append test (decimal s.last) (pairs_text s.pairs) (number s.last b)
+    (pairs s.pairs (in_ranges s.pairs h.pairs)))))
 
 landing_lacks : (l : List ℕ × ℕ) → is_callsign l.0 ≡ true → l.1 ≤ 172799 → Lacks 10 (landing_text l)
-landing_lacks l c t = join 32 (codes "land") (l.0 ++ 32 ∷ decimal l.1) refl (lacks_by 10 (codes "land") refl) (join 32 l.0 (decimal l.1) refl (callsign_lacks 10 l.0 refl c) (number l.1 (omega arith)))
+landing_lacks l c t = join 32 (codes "land") (l.0 ++ 32 ∷ decimal l.1) refl (lacks_by 10 (codes "land") refl)
+    (join 32 l.0 (decimal l.1) refl (callsign_lacks 10 l.0 refl c) (number l.1 (omega arith)))
 
 claim_lacks : (c : Claim) → IsClaim c → Lacks 10 (claim_text c)
 claim_lacks Infeasible h = lacks_by 10 (codes "claim infeasible") refl
-claim_lacks (Optimal v) h = join 32 (codes "claim") (codes "optimal" ++ 32 ∷ decimal v) refl (lacks_by 10 (codes "claim") refl) (join 32 (codes "optimal") (decimal v) refl (lacks_by 10 (codes "optimal") refl) (number v (omega arith)))
+claim_lacks (Optimal v) h = join 32 (codes "claim") (codes "optimal" ++ 32 ∷ decimal v) refl
+    (lacks_by 10 (codes "claim") refl) (join 32 (codes "optimal") (decimal v) refl (lacks_by 10 (codes "optimal") refl)
+    (number v (omega arith)))
 
 state_parts : (ss : List State) → AreStates ss → parts 10 (state_lines ss) ≡ map state_text ss ++ [] ∷ []
 state_parts [] h = refl
-state_parts (s ∷ ss) h = cut 10 (state_text s) (state_lines ss) (state_lacks s h.0) refl ∙ ap (λ (xs : List (List ℕ)). state_text s ∷ xs) (state_parts ss h.1)
+state_parts (s ∷ ss) h = cut 10 (state_text s) (state_lines ss) (state_lacks s h.0) refl
+    ∙ ap (λ (xs : List (List ℕ)). state_text s ∷ xs) (state_parts ss h.1)
 
-body_parts : (ls : List (List ℕ × ℕ)) (ss : List State) → AreLandings ls → AreStates ss → parts 10 (landing_lines ls ++ state_lines ss) ≡ map landing_text ls ++ (map state_text ss ++ [] ∷ [])
+body_parts : (ls : List (List ℕ × ℕ)) (ss : List State) → AreLandings ls → AreStates ss
+    → parts 10 (landing_lines ls ++ state_lines ss) ≡ map landing_text ls ++ (map state_text ss ++ [] ∷ [])
 body_parts [] ss hl h = state_parts ss h
 body_parts (l ∷ ls) ss hl h =
     ap (parts 10) (append_assoc (landing_text l) (10 ∷ landing_lines ls) (state_lines ss))
     ∙ cut 10 (landing_text l) (landing_lines ls ++ state_lines ss) (landing_lacks l hl.0 hl.1) refl
     ∙ ap (λ (xs : List (List ℕ)). landing_text l ∷ xs) (body_parts ls ss hl.2 h)
 
-as_lines : (c : Claim) (ls : List (List ℕ × ℕ)) (ss : List State) (x : Cert) → lines_all 3 c ([], []) (map landing_text ls ++ (map state_text ss ++ [] ∷ [])) ≡ Ok x → body_lines c (map landing_text ls ++ (map state_text ss ++ [] ∷ [])) ≡ Ok x
+as_lines : (c : Claim) (ls : List (List ℕ × ℕ)) (ss : List State) (x : Cert)
+    → lines_all 3 c ([], []) (map landing_text ls ++ (map state_text ss ++ [] ∷ [])) ≡ Ok x
+    → body_lines c (map landing_text ls ++ (map state_text ss ++ [] ∷ [])) ≡ Ok x
 as_lines c [] [] x e = e
 as_lines c [] (s ∷ ss) x e = e
 as_lines c (l ∷ ls) ss x e = e
@@ -78,8 +93,11 @@ unfolding certificate_of certificate_by
 reads_back c h =
     let body = landing_lines c.landings ++ state_lines c.states in
     let lines = map landing_text c.landings ++ (map state_text c.states ++ [] ∷ []) in
-    let head = cut 10 (codes "certificate 1") (claim_text c.claim ++ 10 ∷ body) (lacks_by 10 (codes "certificate 1") refl) refl in
+    let head = cut 10 (codes "certificate 1") (claim_text c.claim ++ 10 ∷ body)
+    (lacks_by 10 (codes "certificate 1") refl) refl in
     let second = cut 10 (claim_text c.claim) body (claim_lacks c.claim h.claim) refl in
     let rest = body_parts c.landings c.states h.landings h.states in
-    let last : body_lines c.claim lines ≡ Ok c = as_lines c.claim c.landings c.states c (body_back 3 c.claim [] c.landings c.states h.landings h.states h.ascending) in
-    ap certificate_by head ∙ ap claim_behind (second ∙ ap (λ (xs : List (List ℕ)). claim_text c.claim ∷ xs) rest) ∙ ap (λ (o : Option Claim). body_behind o lines) (claim_reads c.claim h.claim) ∙ last
+    let last : body_lines c.claim lines ≡ Ok c = as_lines c.claim c.landings c.states c
+    (body_back 3 c.claim [] c.landings c.states h.landings h.states h.ascending) in
+    ap certificate_by head ∙ ap claim_behind (second ∙ ap (λ (xs : List (List ℕ)). claim_text c.claim ∷ xs) rest)
+    ∙ ap (λ (o : Option Claim). body_behind o lines) (claim_reads c.claim h.claim) ∙ last

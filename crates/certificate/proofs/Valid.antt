@@ -1,5 +1,6 @@
 -- What a text is read as keeps the ranges and the order.
-use Rattle.std.proofs.Common.{◌≡◌, ℕ, suc, ◌+◌, ◌-◌, ◌<◌, ◌≤◌, Bool, true, false, cond, ltb, not, List, [], ◌∷◌, ◌++◌, length, map, Option, Some, None, Result, Ok, Err, refl, subst, arith, length-append}
+use Rattle.std.proofs.Common.{◌≡◌, ℕ, suc, ◌+◌, ◌-◌, ◌<◌, ◌≤◌, Bool, true, false, cond, ltb, not, List, [], ◌∷◌, ◌++◌}
+use Rattle.std.proofs.Common.{length, map, Option, Some, None, Result, Ok, Err, refl, subst, arith, length-append}
 use Rattle.std.proofs.lemmas.List.{length-map}
 use Rattle.std.specs.Prelude.{◌==◌, option_map, option_and_then, slice_get, bytes_eq, codes}
 use Rattle.std.specs.List.{list_all}
@@ -16,16 +17,21 @@ use Rattle.certificate.specs.declared.certificate.Claim.{Claim}
 use Rattle.certificate.specs.declared.fault.CertFault.{CertFault}
 use Rattle.certificate.specs.declared.fault.CertFault.TheVariants as fault
 use Rattle.certificate.specs.Patterns.{is_pattern_length}
-use Rattle.certificate.specs.States.{Pair, State, IsState, is_pair, rises, comes_behind, follows, AreStates, AreAscending}
-use Rattle.certificate.specs.Lines.{pattern_in, are_pattern_digits, digit_of, pair_by, pair_in, pairs_in, state_from, state_by, state_in, landing_by, landing_in}
-use Rattle.certificate.specs.Reading.{Cert, IsClaim, AreLandings, IsCertificate, Body, with_landing, with_state, line_in, lines_in, body_lines}
+use Rattle.certificate.specs.States.{Pair, State, IsState, is_pair, rises, comes_behind, follows, AreStates}
+use Rattle.certificate.specs.States.{AreAscending}
+use Rattle.certificate.specs.Lines.{pattern_in, are_pattern_digits, digit_of, pair_by, pair_in, pairs_in, state_from}
+use Rattle.certificate.specs.Lines.{state_by, state_in, landing_by, landing_in}
+use Rattle.certificate.specs.Reading.{Cert, IsClaim, AreLandings, IsCertificate, Body, with_landing, with_state}
+use Rattle.certificate.specs.Reading.{line_in, lines_in, body_lines}
 use Rattle.certificate.specs.shared.PartsKept.{landings_more}
 
-pub then_some : {A B : Type 0} (o : Option A) (f : A → Option B) (y : B) → option_and_then f o ≡ Some y → (x : A) × (o ≡ Some x) × (f x ≡ Some y)
+pub then_some : {A B : Type 0} (o : Option A) (f : A → Option B) (y : B) → option_and_then f o ≡ Some y
+    → (x : A) × (o ≡ Some x) × (f x ≡ Some y)
 then_some (Some x) f y e = (x, refl, e)
 then_some None f y e = absurd cc
 
-pub map_some : {A B : Type 0} (o : Option A) (f : A → B) (y : B) → option_map f o ≡ Some y → (x : A) × (o ≡ Some x) × (f x ≡ y)
+pub map_some : {A B : Type 0} (o : Option A) (f : A → B) (y : B) → option_map f o ≡ Some y
+    → (x : A) × (o ≡ Some x) × (f x ≡ y)
 map_some (Some x) f y e = (x, refl, cc)
 map_some None f y e = absurd cc
 
@@ -36,9 +42,12 @@ passed_then false o y e = absurd cc
 
 pub number_range : (text : List ℕ) (least most n : ℕ) → number_in text least most ≡ Some n → (least ≤ n) × (n ≤ most)
 unfolding number_in number_within
-number_range text least most n e = go (not (is_number text)) (ltb (digits_value 10 text) least) (ltb most (digits_value 10 text)) refl refl e
+number_range text least most n e =
+    go (not (is_number text)) (ltb (digits_value 10 text) least) (ltb most (digits_value 10 text)) refl refl e
   where
-    go : (a b c : Bool) → ltb (digits_value 10 text) least ≡ b → ltb most (digits_value 10 text) ≡ c → ok_of (cond a (Err NotNumber) (cond b (Err Below) (cond c (Err Above) (Ok (digits_value 10 text))))) ≡ Some n → (least ≤ n) × (n ≤ most)
+    go : (a b c : Bool) → ltb (digits_value 10 text) least ≡ b → ltb most (digits_value 10 text) ≡ c
+        → ok_of (cond a (Err NotNumber) (cond b (Err Below) (cond c (Err Above) (Ok (digits_value 10 text))))) ≡ Some n
+        → (least ≤ n) × (n ≤ most)
     go true b c p q e = absurd cc
     go false true c p q e = absurd cc
     go false false true p q e = absurd cc
@@ -52,8 +61,10 @@ pub pattern_size : (text : List ℕ) (ds : List Bool) → pattern_in text ≡ So
 unfolding pattern_in
 pattern_size text ds e = go (bytes_eq text (codes "-")) (are_pattern_digits text) refl e
   where
-    go : (a b : Bool) → are_pattern_digits text ≡ b → cond a (Some []) (cond b (Some (map digit_of text)) None) ≡ Some ds → is_pattern_length (length ds) ≡ true
-    go true b p e = let same : [] ≡ ds = cc in subst (λ (xs : List Bool). is_pattern_length (length xs) ≡ true) same refl
+    go : (a b : Bool) → are_pattern_digits text ≡ b
+        → cond a (Some []) (cond b (Some (map digit_of text)) None) ≡ Some ds → is_pattern_length (length ds) ≡ true
+    go true b p e = let same : [] ≡ ds =
+        cc in subst (λ (xs : List Bool). is_pattern_length (length xs) ≡ true) same refl
     go false false p e = absurd cc
     go false true p e =
         let same : map digit_of text ≡ ds = cc in
@@ -73,7 +84,8 @@ pair_range text p e = go (parts 58 text) e
         let c = map_some (number_in b 0 4294967295) _ p t.2 in
         let second = number_range a 0 172799 t.0 t.1 in
         let cost = number_range b 0 4294967295 c.0 c.1 in
-        subst (λ (q : Pair). is_pair q ≡ true) c.2 (and_from _ _ (le-leb t.0 172799 second.1) (le-leb c.0 4294967295 cost.1))
+        subst (λ (q : Pair). is_pair q ≡ true) c.2
+        (and_from _ _ (le-leb t.0 172799 second.1) (le-leb c.0 4294967295 cost.1))
     go (a ∷ b ∷ d ∷ ps) e = absurd cc
 
 pub pairs_range : (ps : List (List ℕ)) (xs : List Pair) → pairs_in ps ≡ Some xs → list_all is_pair xs ≡ true
@@ -82,9 +94,11 @@ pairs_range [] xs e = let same : [] ≡ xs = cc in subst (λ (ys : List Pair). l
 pairs_range (p ∷ ps) xs e =
     let x = then_some (pair_in p) _ xs e in
     let more = map_some (pairs_in ps) _ xs x.2 in
-    subst (λ (ys : List Pair). list_all is_pair ys ≡ true) more.2 (and_from _ _ (pair_range p x.0 x.1) (pairs_range ps more.0 more.1))
+    subst (λ (ys : List Pair). list_all is_pair ys ≡ true) more.2
+    (and_from _ _ (pair_range p x.0 x.1) (pairs_range ps more.0 more.1))
 
-state_from_range : (stage pattern last : List ℕ) (pairs : List (List ℕ)) (s : State) → state_from stage pattern last pairs ≡ Some s → IsState s
+state_from_range : (stage pattern last : List ℕ) (pairs : List (List ℕ)) (s : State)
+    → state_from stage pattern last pairs ≡ Some s → IsState s
 unfolding state_from
 state_from_range stage pattern last pairs s e =
     let a = then_some (number_in stage 1 60) _ s e in
@@ -114,7 +128,8 @@ state_range line s e = go (parts 32 line) e
     go (a ∷ b ∷ d ∷ []) e = absurd cc
     go (word ∷ stage ∷ pattern ∷ last ∷ pairs) e = state_from_range stage pattern last pairs s (passed_then _ _ s e).1
 
-pub landing_range : (line : List ℕ) (l : List ℕ × ℕ) → landing_in line ≡ Some l → (is_callsign l.0 ≡ true) × (l.1 ≤ 172799)
+pub landing_range : (line : List ℕ) (l : List ℕ × ℕ) → landing_in line ≡ Some l
+    → (is_callsign l.0 ≡ true) × (l.1 ≤ 172799)
 unfolding landing_in landing_by
 landing_range line l e = go (parts 32 line) e
   where
@@ -128,7 +143,8 @@ landing_range line l e = go (parts 32 line) e
         let n = cond_some (is_callsign name) name c.0 c.1 in
         let t = map_some (number_in second 0 172799) _ l c.2 in
         let is : is_callsign c.0 ≡ true = subst (λ (x : List ℕ). is_callsign x ≡ true) n.1 n.0 in
-        subst (λ (x : List ℕ × ℕ). (is_callsign x.0 ≡ true) × (x.1 ≤ 172799)) t.2 (is, (number_range second 0 172799 t.0 t.1).1)
+        subst (λ (x : List ℕ × ℕ). (is_callsign x.0 ≡ true) × (x.1 ≤ 172799)) t.2
+        (is, (number_range second 0 172799 t.0 t.1).1)
     go (a ∷ b ∷ d ∷ f ∷ ps) e = absurd cc
 
 -- ---- one more
@@ -143,14 +159,16 @@ ascending_more (a ∷ []) s h f = (f, tt)
 ascending_more (a ∷ b ∷ rest) s h f = (h.0, ascending_more (b ∷ rest) s h.1 (last_is f))
   where
     last_is : follows (a ∷ b ∷ rest) s ≡ true → follows (b ∷ rest) s ≡ true
-    last_is f = let e : length (a ∷ b ∷ rest) - 1 ≡ suc (length (b ∷ rest) - 1) = omega arith in subst (λ (k : ℕ). comes_behind (slice_get (a ∷ b ∷ rest) k) s ≡ true) e f
+    last_is f = let e : length (a ∷ b ∷ rest) - 1 ≡ suc (length (b ∷ rest) - 1) =
+        omega arith in subst (λ (k : ℕ). comes_behind (slice_get (a ∷ b ∷ rest) k) s ≡ true) e f
 
 record IsBody (b : Body) : Type 0 where
   landings : AreLandings b.0
   states : AreStates b.1
   ascending : AreAscending b.1
 
-pub bind_ok : {A B : Type 0} (r : Result A CertFault) (f : A → Result B CertFault) (y : B) → (r >>= f) ≡ Ok y → (x : A) × (r ≡ Ok x) × (f x ≡ Ok y)
+pub bind_ok : {A B : Type 0} (r : Result A CertFault) (f : A → Result B CertFault) (y : B)
+    → (r >>= f) ≡ Ok y → (x : A) × (r ≡ Ok x) × (f x ≡ Ok y)
 bind_ok (Ok x) f y e = (x, refl, e)
 bind_ok (Err d) f y e = absurd cc
 
@@ -159,28 +177,50 @@ done true x y f e = (refl, cc)
 done false x y f e = absurd cc
 
 -- one line adds one landing or one state, and keeps the order
-line_keeps : (n : ℕ) (b : Body) (line : List ℕ) (b' : Body) → line_in n b line ≡ Ok b' → IsBody b → IsBody b' × (length b'.1 ≤ suc (length b.1))
+line_keeps : (n : ℕ) (b : Body) (line : List ℕ) (b' : Body) → line_in n b line ≡ Ok b' → IsBody b
+    → IsBody b' × (length b'.1 ≤ suc (length b.1))
 unfolding line_in
 line_keeps n b line b' e h = go (state_in line) refl e
   where
-    go_landing : (o : Option (List ℕ × ℕ)) → landing_in line ≡ o → with_landing n b o ≡ Ok b' → IsBody b' × (length b'.1 ≤ suc (length b.1))
+    go_landing : (o : Option (List ℕ × ℕ)) → landing_in line ≡ o → with_landing n b o ≡ Ok b'
+        → IsBody b' × (length b'.1 ≤ suc (length b.1))
     go_landing None p e = absurd cc
     go_landing (Some l) p e =
         let d = done (length b.1 == 0) (b.0 ++ l ∷ [], b.1) b' (fault.Line n) e in
         let r = landing_range line l p in
-        subst (λ (x : Body). IsBody x × (length x.1 ≤ suc (length b.1))) d.1 (record { landings = landings_more b.0 l h.landings r.0 r.1; states = h.states; ascending = h.ascending }, omega arith)
+        subst (λ (x : Body). IsBody x × (length x.1 ≤ suc (length b.1))) d.1 (
+          record { landings = landings_more b.0 l h.landings r.0 r.1; states = h.states; ascending = h.ascending },
+          omega arith,
+        )
 
-    go : (o : Option State) → state_in line ≡ o → with_state n b line o ≡ Ok b' → IsBody b' × (length b'.1 ≤ suc (length b.1))
+    go : (o : Option State) → state_in line ≡ o → with_state n b line o ≡ Ok b'
+        → IsBody b' × (length b'.1 ≤ suc (length b.1))
     go None p e = go_landing (landing_in line) refl e
     go (Some s) p e =
         let d = done (follows b.1 s) (b.0, b.1 ++ s ∷ []) b' (fault.Order n) e in
-        subst (λ (x : Body). IsBody x × (length x.1 ≤ suc (length b.1))) d.1 (record { landings = h.landings; states = states_more b.1 s h.states (state_range line s p); ascending = ascending_more b.1 s h.ascending d.0 }, omega (arith, length-append b.1 (s ∷ [])))
+        subst (λ (x : Body). IsBody x × (length x.1 ≤ suc (length b.1))) d.1 (
+          record {
+            landings = h.landings;
+            states = states_more b.1 s h.states (state_range line s p);
+            ascending =
+                ascending_more b.1 s h.ascending d.0;
+          },
+          omega (arith, length-append b.1 (s ∷ [])),
+        )
 
-lines_keep : (n : ℕ) (c : Claim) (b : Body) (line : List ℕ) (rest : List (List ℕ)) (x : Cert) → IsClaim c → IsBody b → length b.1 + length rest < 4294967295 → lines_in n c b line rest ≡ Ok x → IsCertificate x
+lines_keep : (n : ℕ) (c : Claim) (b : Body) (line : List ℕ) (rest : List (List ℕ)) (x : Cert)
+    → IsClaim c → IsBody b → length b.1 + length rest < 4294967295 → lines_in n c b line rest ≡ Ok x → IsCertificate x
 unfolding lines_in
 lines_keep n c b line [] x is h few e =
     let d = done (length line == 0) (record { claim = c; landings = b.0; states = b.1 }) x (fault.Line n) e in
-    subst IsCertificate d.1 (record { claim = is; landings = h.landings; states = h.states; ascending = h.ascending; few = omega arith })
+    subst IsCertificate d.1 (record {
+      claim = is;
+      landings = h.landings;
+      states = h.states;
+      ascending =
+          h.ascending;
+      few = omega arith;
+    })
 lines_keep n c b line (next ∷ rest) x is h few e =
     let more = bind_ok (line_in n b line) _ x e in
     let k = line_keeps n b line more.0 more.1 h in
@@ -188,6 +228,8 @@ lines_keep n c b line (next ∷ rest) x is h few e =
     lines_keep (n + 1) c more.0 next rest x is k.0 fits more.2
 
 -- what is read is a certificate
-pub body_is : (c : Claim) (rest : List (List ℕ)) (x : Cert) → IsClaim c → length rest ≤ 4294967295 → body_lines c rest ≡ Ok x → IsCertificate x
+pub body_is : (c : Claim) (rest : List (List ℕ)) (x : Cert) → IsClaim c → length rest ≤ 4294967295
+    → body_lines c rest ≡ Ok x → IsCertificate x
 body_is c [] x is few e = absurd cc
-body_is c (line ∷ rest) x is few e = lines_keep 3 c ([], []) line rest x is (record { landings = tt; states = tt; ascending = tt }) (omega arith) e
+body_is c (line ∷ rest) x is few e =
+    lines_keep 3 c ([], []) line rest x is (record { landings = tt; states = tt; ascending = tt }) (omega arith) e

@@ -1,5 +1,6 @@
 -- What one line of a certificate is.
-use Rattle.std.specs.Prelude.{ℕ, List, [], ◌∷◌, ◌&&◌, ◌||◌, ◌==◌, nat_lt, map, Bool, length, codes, bytes_eq, Option, Some, None, option_and_then, option_map, if◌then◌else◌}
+use Rattle.std.specs.Prelude.{ℕ, List, [], ◌∷◌, ◌&&◌, ◌||◌, ◌==◌, nat_lt, map, Bool, length, codes, bytes_eq, Option}
+use Rattle.std.specs.Prelude.{Some, None, option_and_then, option_map, if◌then◌else◌}
 use Rattle.std.specs.List.{list_all}
 use Rattle.landing_rules.specs.Limits.{greatest_value, most_waiting}
 use Rattle.landing_rules.specs.Rules.{last_second}
@@ -27,7 +28,8 @@ pattern_in text =
     else None
 
 abbrev pub pair_by : List (List ℕ) → Option Pair
-pair_by (second ∷ cost ∷ []) = option_and_then (λ t. option_map (λ c. (t, c)) (number_in cost 0 4294967295)) (number_in second 0 last_second)
+pair_by (second ∷ cost ∷ []) =
+    option_and_then (λ t. option_map (λ c. (t, c)) (number_in cost 0 4294967295)) (number_in second 0 last_second)
 pair_by fields = None
 
 unfoldable pub pair_in : List ℕ → Option Pair
@@ -39,14 +41,18 @@ pairs_in (p ∷ ps) = option_and_then (λ x. option_map (λ xs. x ∷ xs) (pairs
 
 abbrev pub state_with : ℕ → List Bool → ℕ → List Pair → Option State
 state_with stage pattern last pairs =
-    if nat_lt 0 (length pairs) && rises pairs then Some (record { stage = stage; pattern = pattern; last = last; pairs = pairs }) else None
+    if nat_lt 0 (length pairs) && rises pairs
+    then Some (record { stage = stage; pattern = pattern; last = last; pairs = pairs }) else None
 
 unfoldable pub state_from : List ℕ → List ℕ → List ℕ → List (List ℕ) → Option State
 state_from stage pattern last pairs =
-    option_and_then (λ a. option_and_then (λ p. option_and_then (λ l. option_and_then (state_with a p l) (pairs_in pairs)) (number_in last 1 most_waiting)) (pattern_in pattern)) (number_in stage 1 most_waiting)
+    option_and_then (λ a. option_and_then
+    (λ p. option_and_then (λ l. option_and_then (state_with a p l) (pairs_in pairs)) (number_in last 1 most_waiting))
+    (pattern_in pattern)) (number_in stage 1 most_waiting)
 
 unfoldable pub state_by : List (List ℕ) → Option State
-state_by (word ∷ stage ∷ pattern ∷ last ∷ pairs) = if bytes_eq word (codes "state") then state_from stage pattern last pairs else None
+state_by (word ∷ stage ∷ pattern ∷ last ∷ pairs) =
+    if bytes_eq word (codes "state") then state_from stage pattern last pairs else None
 state_by fields = None
 
 -- the state that a line says
@@ -55,7 +61,9 @@ state_in line = state_by (parts 32 line)
 
 unfoldable pub landing_by : List (List ℕ) → Option (List ℕ × ℕ)
 landing_by (word ∷ callsign ∷ second ∷ []) =
-    if bytes_eq word (codes "land") then option_and_then (λ c. option_map (λ t. (c, t)) (number_in second 0 last_second)) (callsign_in callsign) else None
+    if bytes_eq word (codes "land")
+    then option_and_then (λ c. option_map (λ t. (c, t)) (number_in second 0 last_second)) (callsign_in callsign)
+    else None
 landing_by fields = None
 
 -- the landing that a line says
@@ -67,8 +75,10 @@ abbrev pub claim_with : List ℕ → Option Claim
 claim_with value = option_map Optimal (number_in value 0 greatest_value)
 
 unfoldable pub claim_by : List (List ℕ) → Option Claim
-claim_by (word ∷ kind ∷ []) = if bytes_eq word (codes "claim") && bytes_eq kind (codes "infeasible") then Some Infeasible else None
-claim_by (word ∷ kind ∷ value ∷ []) = if bytes_eq word (codes "claim") && bytes_eq kind (codes "optimal") then claim_with value else None
+claim_by (word ∷ kind ∷ []) = if bytes_eq word (codes "claim") && bytes_eq kind (codes "infeasible")
+    then Some Infeasible else None
+claim_by (word ∷ kind ∷ value ∷ []) = if bytes_eq word (codes "claim") && bytes_eq kind (codes "optimal")
+    then claim_with value else None
 claim_by fields = None
 
 -- the claim that a line says

@@ -1,5 +1,6 @@
 -- The certificate that a text is, or the first fault of its first line that has one.
-use Rattle.std.specs.Prelude.{◌≡◌, ℕ, ◌+◌, ◌<◌, ◌≤◌, List, [], ◌∷◌, ◌++◌, true, ◌==◌, length, codes, bytes_eq, Option, Some, None, Result, Ok, Err, if◌then◌else◌}
+use Rattle.std.specs.Prelude.{◌≡◌, ℕ, ◌+◌, ◌<◌, ◌≤◌, List, [], ◌∷◌, ◌++◌, true, ◌==◌, length, codes, bytes_eq, Option}
+use Rattle.std.specs.Prelude.{Some, None, Result, Ok, Err, if◌then◌else◌}
 use Rattle.cps_base.specs.Answers.{◌>>=◌, Fails}
 use Rattle.cps_base.specs.Text.{is_callsign}
 use Rattle.landing_rules.specs.Limits.{greatest_value}
@@ -50,7 +51,8 @@ line_in n b line = with_state n b line (state_in line)
 
 -- the certificate of the lines from line n on, behind what was read before; behind the last line feed nothing stands
 unfoldable pub lines_in : ℕ → Claim → Body → List ℕ → List (List ℕ) → Result Cert CertFault
-lines_in n c b line [] = if length line == 0 then Ok (record { claim = c; landings = b.0; states = b.1 }) else Err (fault.Line n)
+lines_in n c b line [] = if length line == 0 then Ok (record { claim = c; landings = b.0; states = b.1 })
+    else Err (fault.Line n)
 lines_in n c b line (next ∷ rest) = line_in n b line >>= (λ more. lines_in (n + 1) c more next rest)
 
 abbrev pub body_lines : Claim → List (List ℕ) → Result Cert CertFault

@@ -21,7 +21,8 @@ pairs_text [] = []
 pairs_text (p ∷ ps) = 32 ∷ (pair_text p ++ pairs_text ps)
 
 abbrev pub state_text : State → List ℕ
-state_text s = codes "state" ++ 32 ∷ (decimal s.stage ++ 32 ∷ (pattern_text s.pattern ++ 32 ∷ (decimal s.last ++ pairs_text s.pairs)))
+state_text s = codes "state"
+    ++ 32 ∷ (decimal s.stage ++ 32 ∷ (pattern_text s.pattern ++ 32 ∷ (decimal s.last ++ pairs_text s.pairs)))
 
 abbrev pub landing_text : List ℕ × ℕ → List ℕ
 landing_text l = codes "land" ++ 32 ∷ (l.0 ++ 32 ∷ decimal l.1)
@@ -39,4 +40,5 @@ state_lines [] = []
 state_lines (s ∷ ss) = state_text s ++ 10 ∷ state_lines ss
 
 abbrev pub certificate_text : Cert → List ℕ
-certificate_text c = codes "certificate 1" ++ 10 ∷ (claim_text c.claim ++ 10 ∷ (landing_lines c.landings ++ state_lines c.states))
+certificate_text c = codes "certificate 1"
+    ++ 10 ∷ (claim_text c.claim ++ 10 ∷ (landing_lines c.landings ++ state_lines c.states))

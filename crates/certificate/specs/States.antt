@@ -1,5 +1,6 @@
 -- What a certificate holds, and in which order.
-use Rattle.std.specs.Prelude.{◌≡◌, ℕ, ◌≤◌, ◌-◌, ◌&&◌, List, [], ◌∷◌, Bool, true, length, nat_le, nat_lt, Option, Some, None, slice_get}
+use Rattle.std.specs.Prelude.{◌≡◌, ℕ, ◌≤◌, ◌-◌, ◌&&◌, List, [], ◌∷◌, Bool, true, length, nat_le, nat_lt, Option, Some}
+use Rattle.std.specs.Prelude.{None, slice_get}
 use Rattle.std.specs.List.{list_all}
 use Rattle.std.specs.Ordering.{nat_cmp, bool_cmp, ordering_then, is_lt}
 use Rattle.std.specs.declared.cmp.Ordering.{Ordering}
@@ -41,7 +42,8 @@ pub record IsState (s : State) : Type 0 where
 
 -- by stage, then by pattern, then by last rank
 abbrev pub state_cmp : State → State → Ordering
-state_cmp a b = ordering_then (nat_cmp a.stage b.stage) (ordering_then (slice_cmp bool_cmp a.pattern b.pattern) (nat_cmp a.last b.last))
+state_cmp a b = ordering_then (nat_cmp a.stage b.stage)
+    (ordering_then (slice_cmp bool_cmp a.pattern b.pattern) (nat_cmp a.last b.last))
 
 abbrev pub comes_before : State → State → Bool
 comes_before a b = is_lt (state_cmp a b)

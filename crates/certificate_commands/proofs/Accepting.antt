@@ -19,7 +19,8 @@ use Rattle.certificate_commands.specs.Verdicts.{answer_of_verdict, verdict_text}
 use Rattle.certificate_commands.specs.shared.Judged.{not_unchecked}
 
 -- a certificate is judged in one way for the files of one situation
-one_judged : OneVerdictLaw → (aerodrome : Aerodrome) (flights : List Flight) (c : Cert) (v w : Verdict) → IsJudged aerodrome flights c v
+one_judged : OneVerdictLaw → (aerodrome : Aerodrome) (flights : List Flight) (c : Cert) (v w : Verdict)
+    → IsJudged aerodrome flights c v
     → IsJudged aerodrome flights c w → v ≡ w
 one_judged law aerodrome flights c v w j k =
     j.verdict_is ∙ law (opened aerodrome flights) j.problem k.problem c j.problem_of k.problem_of ∙ sym k.verdict_is
@@ -27,9 +28,11 @@ one_judged law aerodrome flights c v w j k =
 -- and so are the bytes
 one_verdict : OneVerdictLaw → (a f c : List ℕ) (v w : Verdict) → Judges a f c v → Judges a f c w → v ≡ w
 one_verdict law a f c v w x y =
-    let aerodromes : y.aerodrome ≡ x.aerodrome = same_Some _ _ (ap result_ok (sym y.aerodrome_read ∙ x.aerodrome_read)) in
+    let aerodromes : y.aerodrome ≡ x.aerodrome =
+    same_Some _ _ (ap result_ok (sym y.aerodrome_read ∙ x.aerodrome_read)) in
     let flights : y.flights ≡ x.flights = same_Some _ _ (ap result_ok (sym y.flights_read ∙ x.flights_read)) in
-    let certificates : y.certificate ≡ x.certificate = same_Some _ _ (ap result_ok (sym y.certificate_read ∙ x.certificate_read)) in
+    let certificates : y.certificate ≡ x.certificate =
+    same_Some _ _ (ap result_ok (sym y.certificate_read ∙ x.certificate_read)) in
     let there = subst (λ (d : Cert). IsJudged x.aerodrome x.flights d w) certificates
     (subst (λ (l : List Flight). IsJudged x.aerodrome l y.certificate w) flights
     (subst (λ (b : Aerodrome). IsJudged b y.flights y.certificate w) aerodromes y.judged)) in
@@ -73,6 +76,7 @@ printed_accepted law a f text answer printed =
       taken = λ cause refused. let none = sym (not_unchecked a f text there.verdict there.judges) ∙ refused in cc none;
       answered = λ other told. (
         λ here. text_is_one law a f text other line told Accepted here there,
-        λ same. subst (λ (x : List ℕ). AdmitsCheck a f text x told) (sym same.0) (subst (λ (x : Answer). AdmitsCheck a f text line x) (sym same.1) there),
+        λ same. subst (λ (x : List ℕ). AdmitsCheck a f text x told) (sym same.0)
+            (subst (λ (x : Answer). AdmitsCheck a f text line x) (sym same.1) there),
       );
     }

@@ -23,4 +23,5 @@ certified_of_bytes (Ok report) a f aerodrome flights a_read f_read certifies = r
   flights_read = f_read;
   certifies = certifies;
 }
-certified_of_bytes (Err ending) a f aerodrome flights a_read f_read stops = stops_plan a f aerodrome flights ending a_read f_read stops
+certified_of_bytes (Err ending) a f aerodrome flights a_read f_read stops =
+    stops_plan a f aerodrome flights ending a_read f_read stops

@@ -1,5 +1,6 @@
 -- From the clauses of printed certificates and verdicts to the laws of their texts.
-use Rattle.std.proofs.Common.{◌≡◌, ℕ, ◌+◌, ◌*◌, ◌<◌, ◌≤◌, inl, inr, List, [], ◌∷◌, ◌++◌, length, map, filter, Ok, refl, sym, ap, ap₂, subst, ◌∙◌, arith}
+use Rattle.std.proofs.Common.{◌≡◌, ℕ, ◌+◌, ◌*◌, ◌<◌, ◌≤◌, inl, inr, List, [], ◌∷◌, ◌++◌, length, map, filter, Ok, refl}
+use Rattle.std.proofs.Common.{sym, ap, ap₂, subst, ◌∙◌, arith}
 use Rattle.std.specs.Prelude.{decimal, min}
 use Rattle.std.specs.Ordering.{is_lt}
 use Rattle.std.specs.Result.{result_ok}
@@ -32,24 +33,29 @@ use Rattle.cert_check.specs.Whole.{IsAnswered}
 use Rattle.cert_check.specs.WholeLaws.{claimed}
 use Rattle.cert_check.specs.WholeSizes.{most_nodes}
 use Rattle.cert_check.specs.declared.verdict.Reason.{Reason}
-use Rattle.cert_check.specs.declared.verdict.Reason.TheVariants.{Closed, Early, Final, Flights, Precedence, Separation, Shape, Shift, Successor, Value}
+use Rattle.cert_check.specs.declared.verdict.Reason.TheVariants.{Closed, Early, Final, Flights, Precedence, Separation}
+use Rattle.cert_check.specs.declared.verdict.Reason.TheVariants.{Shape, Shift, Successor, Value}
 use Rattle.cert_check.specs.declared.verdict.Verdict.{Verdict}
 use Rattle.cert_check.specs.declared.verdict.Verdict.TheVariants as verdict
 use Rattle.text_bounds.specs.Certificates.{certificate_bound}
 use Rattle.text_bounds.specs.Counts.{count_in}
-use Rattle.text_bounds.specs.WholeCertificates.{LoadableIsShortLaw, WholeCertificateIsBoundedLaw, most_pairs, whole_bound}
+use Rattle.text_bounds.specs.WholeCertificates.{LoadableIsShortLaw, WholeCertificateIsBoundedLaw, most_pairs}
+use Rattle.text_bounds.specs.WholeCertificates.{whole_bound}
 use Rattle.text_bounds.specs.shared.Reasons.{HasSmallNumbers, IsSmall, verdict_has_small_numbers}
 use Rattle.sequencer.specs.Opened.{opened, opening_of}
 use Rattle.endings.specs.declared.ending.Answer.{Answer}
 use Rattle.certificate_commands.specs.Certify.{AdmitsCertify, IsCertified}
 use Rattle.certificate_commands.specs.Check.{AdmitsCheck}
-use Rattle.certificate_commands.specs.TextLaws.{CertifyIsBoundedLaw, CertifyIsLoadableLaw, CertifyTextsLaw, CheckIsBoundedLaw, DifferInLandingsAlone, certify_bound, certify_bound_of, check_bound}
+use Rattle.certificate_commands.specs.TextLaws.{CertifyIsBoundedLaw, CertifyIsLoadableLaw, CertifyTextsLaw}
+use Rattle.certificate_commands.specs.TextLaws.{CheckIsBoundedLaw, DifferInLandingsAlone, certify_bound}
+use Rattle.certificate_commands.specs.TextLaws.{certify_bound_of, check_bound}
 use Rattle.certificate_commands.specs.Verdicts.{IsTrueOf, verdict_text}
 
 -- ---- two certificates of one situation
 
 -- what is true of a situation is claimed in one way
-one_claim : (s : Situation) (p q : Problem) (ls ms : Landings) (c d : Claim) → IsTrueOf s p ls (claimed c) → IsTrueOf s q ms (claimed d) → c ≡ d
+one_claim : (s : Situation) (p q : Problem) (ls ms : Landings) (c d : Claim) → IsTrueOf s p ls (claimed c)
+    → IsTrueOf s q ms (claimed d) → c ≡ d
 one_claim s p q ls ms (claim.Optimal v) (claim.Optimal w) h k =
     let low = h.best.least _ k.best.feasible in
     let high = k.best.least _ h.best.feasible in
@@ -64,14 +70,19 @@ one_claim s p q ls ms claim.Infeasible claim.Infeasible h k = refl
 no_landings : (p : Problem) (c : Claim) (ls : Landings) → c ≡ claim.Infeasible → IsAnswered p c ls → ls ≡ []
 no_landings p c ls none h = (subst (λ (d : Claim). IsAnswered p d ls) none h).0
 
-differ : OneStatesLaw → (aerodrome : Aerodrome) (flights : List Flight) (c d : Cert) (text other : List ℕ) → IsCertified aerodrome flights c → IsCertified aerodrome flights d
+differ : OneStatesLaw → (aerodrome : Aerodrome) (flights : List Flight) (c d : Cert) (text other : List ℕ)
+    → IsCertified aerodrome flights c → IsCertified aerodrome flights d
     → text ≡ certificate_text c → other ≡ certificate_text d → DifferInLandingsAlone text other
 differ law aerodrome flights c d text other x y first second =
     let s = opened aerodrome flights in
-    let claims : c.claim ≡ d.claim = one_claim s x.judged.problem y.judged.problem c.landings d.landings c.claim d.claim x.judged.true_of y.judged.true_of in
-    let states : c.states ≡ d.states = law s x.judged.problem y.judged.problem c.states d.states x.judged.problem_of y.judged.problem_of x.whole.states y.whole.states in
-    let with_landings : Landings → Claim → List State → List ℕ = λ ls e ss. certificate_text (record { claim = e; landings = ls; states = ss }) in
-    let again : other ≡ with_landings d.landings c.claim c.states = second ∙ ap₂ (with_landings d.landings) (sym claims) (sym states) in
+    let claims : c.claim ≡ d.claim = one_claim s x.judged.problem y.judged.problem c.landings
+    d.landings c.claim d.claim x.judged.true_of y.judged.true_of in
+    let states : c.states ≡ d.states = law s x.judged.problem y.judged.problem c.states d.states
+    x.judged.problem_of y.judged.problem_of x.whole.states y.whole.states in
+    let with_landings : Landings → Claim → List State → List ℕ =
+    λ ls e ss. certificate_text (record { claim = e; landings = ls; states = ss }) in
+    let again : other ≡ with_landings d.landings c.claim c.states =
+    second ∙ ap₂ (with_landings d.landings) (sym claims) (sym states) in
     record {
       claim = c.claim;
       states = c.states;
@@ -87,11 +98,13 @@ differ law aerodrome flights c d text other x y first second =
 
 pub certify_texts : OneStatesLaw → CertifyTextsLaw
 certify_texts law a f text other answer another x y =
-    let aerodromes : y.aerodrome ≡ x.aerodrome = same_Some _ _ (ap result_ok (sym y.aerodrome_read ∙ x.aerodrome_read)) in
+    let aerodromes : y.aerodrome ≡ x.aerodrome =
+    same_Some _ _ (ap result_ok (sym y.aerodrome_read ∙ x.aerodrome_read)) in
     let flights : y.flights ≡ x.flights = same_Some _ _ (ap result_ok (sym y.flights_read ∙ x.flights_read)) in
     let there = subst (λ (l : List Flight). IsCertified x.aerodrome l y.certifies.certificate) flights
     (subst (λ (b : Aerodrome). IsCertified b y.flights y.certifies.certificate) aerodromes y.certifies.certified) in (
-      differ law x.aerodrome x.flights x.certifies.certificate y.certifies.certificate text other x.certifies.certified there x.certifies.prints y.certifies.prints,
+      differ law x.aerodrome x.flights x.certifies.certificate y.certifies.certificate text
+          other x.certifies.certified there x.certifies.prints y.certifies.prints,
       x.certifies.answers ∙ sym y.certifies.answers,
     )
 
@@ -106,7 +119,8 @@ length_insert a (b ∷ rest) = elim (cases_Bool (is_lt (arrival_cmp b.flight a.f
 
 length_by_rank : (all : List Active) → length (by_rank all) ≡ length all
 length_by_rank [] = refl
-length_by_rank (a ∷ all) = let one = length_insert a (by_rank all) in let rest = length_by_rank all in omega (arith, one, rest)
+length_by_rank (a ∷ all) = let one = length_insert a (by_rank all) in let rest =
+    length_by_rank all in omega (arith, one, rest)
 
 -- a problem has at most the situation's flights
 few_waiting : (s : Situation) (p : Problem) → IsProblemOf s p → length p.flights ≤ length s.active
@@ -123,28 +137,35 @@ bound_rises o k n m le =
     let pairs = mul-le-mul_right (most_pairs o) nodes in
     omega (arith, le, nodes, pairs)
 
-module _ (law : WholeCertificateIsBoundedLaw) (a f text : List ℕ) (answer : Answer) (x : AdmitsCertify a f text answer) where
+module _ (law : WholeCertificateIsBoundedLaw) (a f text : List ℕ) (answer : Answer)
+    (x : AdmitsCertify a f text answer) where
   short : length text ≤ whole_bound x.aerodrome.objective x.aerodrome.k (min most_waiting (length x.flights))
   short =
       let judged = x.certifies.certified.judged in
       let s = opened x.aerodrome x.flights in
       let p = judged.problem in
-      let whole = law s p x.certifies.certificate judged.sound judged.problem_of judged.well_formed judged.in_form x.certifies.certified.whole in
+      let whole = law s p x.certifies.certificate judged.sound judged.problem_of judged.well_formed
+      judged.in_form x.certifies.certified.whole in
       let waiting_few = few_waiting s p judged.problem_of in
       let all = length-map (map flight_of x.flights) (opening_flight (opening_of x.aerodrome)) in
       let each = length-map x.flights flight_of in
       let most = judged.well_formed.few_flights in
-      let rises = bound_rises x.aerodrome.objective x.aerodrome.k (length p.flights) (min most_waiting (length x.flights)) (omega (arith, waiting_few, all, each, most)) in
-      let named : length (certificate_text x.certifies.certificate) ≤ whole_bound x.aerodrome.objective x.aerodrome.k (length p.flights) =
-      subst (λ (k : ℕ). length (certificate_text x.certifies.certificate) ≤ whole_bound x.aerodrome.objective k (length p.flights)) judged.problem_of.k
-      (subst (λ (o : Objective). length (certificate_text x.certifies.certificate) ≤ whole_bound o p.k (length p.flights)) judged.problem_of.objective whole) in
+      let rises = bound_rises x.aerodrome.objective x.aerodrome.k (length p.flights)
+      (min most_waiting (length x.flights)) (omega (arith, waiting_few, all, each, most)) in
+      let named : length (certificate_text x.certifies.certificate) ≤ whole_bound x.aerodrome.objective x.aerodrome.k
+      (length p.flights) =
+      subst (λ (k : ℕ). length (certificate_text x.certifies.certificate) ≤ whole_bound x.aerodrome.objective k
+      (length p.flights)) judged.problem_of.k
+      (subst (λ (o : Objective). length (certificate_text x.certifies.certificate) ≤ whole_bound o p.k
+      (length p.flights)) judged.problem_of.objective whole) in
       let long = ap length x.certifies.prints in
       omega (arith, named, rises, long)
 
 pub certify_short : WholeCertificateIsBoundedLaw → CertifyIsBoundedLaw
 certify_short law a f text answer x =
     subst (λ r. length text ≤ certify_bound_of r (count_in (flights_of f))) (sym x.aerodrome_read)
-    (subst (λ r. length text ≤ certify_bound_of (Ok x.aerodrome) (count_in r)) (sym x.flights_read) (short law a f text answer x))
+    (subst (λ r. length text ≤ certify_bound_of (Ok x.aerodrome) (count_in r)) (sym x.flights_read)
+    (short law a f text answer x))
 
 pub certify_loadable : WholeCertificateIsBoundedLaw → LoadableIsShortLaw → CertifyIsLoadableLaw
 certify_loadable law loads a f text answer x few =
@@ -164,19 +185,24 @@ ten n le = length-decimal-le 10 n (omega arith) (omega (arith, le)) (omega (arit
 one_number : (n : ℕ) → length (decimal n ++ 10 ∷ []) ≡ length (decimal n) + 1
 one_number n = length-append (decimal n) (10 ∷ [])
 
-two_numbers : (n m : ℕ) → length (decimal n ++ 32 ∷ (decimal m ++ 10 ∷ [])) ≡ length (decimal n) + length (decimal m) + 2
-two_numbers n m = let a = length-append (decimal n) (32 ∷ (decimal m ++ 10 ∷ [])) in let b = length-append (decimal m) (10 ∷ []) in omega (arith, a, b)
+two_numbers : (n m : ℕ) → length (decimal n ++ 32 ∷ (decimal m ++ 10 ∷ [])) ≡ length (decimal n) + length
+    (decimal m) + 2
+two_numbers n m = let a = length-append (decimal n) (32 ∷ (decimal m ++ 10 ∷ [])) in let b =
+    length-append (decimal m) (10 ∷ []) in omega (arith, a, b)
 
 reason_short : (r : Reason) → HasSmallNumbers r → length (verdict_text (verdict.Rejected r)) ≤ 33
 reason_short Flights h = omega arith
 reason_short (Closed r) h = let a = two r h in let b = one_number r in omega (arith, a, b)
 reason_short (Early r) h = let a = two r h in let b = one_number r in omega (arith, a, b)
-reason_short (Separation r q) h = let a = two r h.0 in let b = two q h.1 in let c = two_numbers r q in omega (arith, a, b, c)
-reason_short (Precedence r q) h = let a = two r h.0 in let b = two q h.1 in let c = two_numbers r q in omega (arith, a, b, c)
+reason_short (Separation r q) h = let a = two r h.0 in let b = two q h.1 in let c =
+    two_numbers r q in omega (arith, a, b, c)
+reason_short (Precedence r q) h = let a = two r h.0 in let b = two q h.1 in let c =
+    two_numbers r q in omega (arith, a, b, c)
 reason_short (Shift r) h = let a = two r h in let b = one_number r in omega (arith, a, b)
 reason_short (Value v) h = let a = ten v (omega (arith, h)) in let b = one_number v in omega (arith, a, b)
 reason_short (Shape i) h = let a = ten i (omega (arith, h)) in let b = one_number i in omega (arith, a, b)
-reason_short (Successor i r) h = let x = h.0 in let a = ten i (omega (arith, x)) in let b = two r h.1 in let c = two_numbers i r in omega (arith, a, b, c)
+reason_short (Successor i r) h = let x = h.0 in let a = ten i (omega (arith, x)) in let b =
+    two r h.1 in let c = two_numbers i r in omega (arith, a, b, c)
 reason_short (Final i) h = let a = ten i (omega (arith, h)) in let b = one_number i in omega (arith, a, b)
 
 verdict_short : (v : Verdict) → IsSmall v → length (verdict_text v) ≤ 33
@@ -187,7 +213,8 @@ verdict_short (verdict.Rejected r) h = reason_short r h
 pub check_short : CheckIsBoundedLaw
 check_short a f c text answer x =
     let judged = x.judges.judged in
-    let small = subst IsSmall (sym judged.verdict_is) (verdict_has_small_numbers judged.problem judged.well_formed x.judges.certificate judged.in_form) in
+    let small = subst IsSmall (sym judged.verdict_is)
+    (verdict_has_small_numbers judged.problem judged.well_formed x.judges.certificate judged.in_form) in
     let line = verdict_short x.verdict small in
     let long = ap length x.prints in
     omega (arith, line, long)

@@ -16,7 +16,8 @@ use Rattle.certificate_commands.specs.Verdicts.{IsTrueOf}
 
 -- a verdict on the problem of a sound situation is true of the situation
 pub true_of : (s : Situation) (p : Problem) (ls : Landings) (v : Verdict) → BestListLaw → SameObjectiveLaw → NoListLaw →
-    IsSound s → IsProblemOf s p → ((n : ℕ) → v ≡ verdict.Optimal n → IsShownOptimal p ls n) → (v ≡ verdict.Infeasible → NothingIsFeasible p) →
+    IsSound s → IsProblemOf s p → ((n : ℕ) → v ≡ verdict.Optimal n → IsShownOptimal p ls n)
+    → (v ≡ verdict.Infeasible → NothingIsFeasible p) →
     IsTrueOf s p ls v
 true_of s p ls (verdict.Optimal n) best same none sound of optimal infeasible =
     let shown : IsShownOptimal p ls n = optimal n refl in
@@ -28,7 +29,8 @@ true_of s p ls verdict.Infeasible best same none sound of optimal infeasible = n
 true_of s p ls (verdict.Rejected reason) best same none sound of optimal infeasible = tt
 
 -- a claim with its answer is true of the situation
-pub claim_true : (s : Situation) (p : Problem) (ls : Landings) (c : Claim) → BestListLaw → SameObjectiveLaw → NoListLaw → IsSound s → IsProblemOf s p →
+pub claim_true : (s : Situation) (p : Problem) (ls : Landings) (c : Claim) → BestListLaw → SameObjectiveLaw
+    → NoListLaw → IsSound s → IsProblemOf s p →
     IsAnswered p c ls → IsTrueOf s p ls (claimed c)
 claim_true s p ls (claim.Optimal v) best same none sound of shown = record {
   best = best s p (seconds p ls) sound of shown.best;

@@ -22,9 +22,9 @@ use Rattle.openings.specs.Plan.{RefusesPlan}
 use Rattle.certificate_commands.specs.Check.{AdmitsCheck, IsJudged, RefusesCheck}
 use Rattle.certificate_commands.specs.Verdicts.{verdict_text}
 
--- The files are taken. This certificate leaves nothing out of the problem of their opening situation, and its verdict is
--- what it claims, which is true of that situation. The claim and the landings, in landing order, are those of a best and
--- tight list of the problem; or nothing is feasible, and they say so.
+-- The files are taken. This certificate leaves nothing out of the problem of their opening situation, and its verdict
+-- is what it claims, which is true of that situation. The claim and the landings, in landing order, are those of a best
+-- and tight list of the problem; or nothing is feasible, and they say so.
 pub record IsCertified (aerodrome : Aerodrome) (flights : List Flight) (certificate : Cert) : Type 0 where
   pub judged : IsJudged aerodrome flights certificate (claimed certificate.claim)
   pub whole : IsWhole judged.problem certificate
@@ -55,9 +55,11 @@ FollowsCertify aerodrome flights = FollowsAtOnce (AdmitsCertify aerodrome flight
 -- `check` takes this text as a certificate for the files, and answers it by the line of this claim and in no other way.
 pub record IsAccepted (aerodrome flights text : List ℕ) (claim : Claim) : Type 0 where
   pub taken : (cause : FilesFault) → RefusesCheck aerodrome flights text cause → ⊥
-  pub answered : (line : List ℕ) (told : Answer) → AdmitsCheck aerodrome flights text line told ↔ ((line ≡ verdict_text (claimed claim)) × (told ≡ Accepted))
+  pub answered : (line : List ℕ) (told : Answer) → AdmitsCheck aerodrome flights text line told
+      ↔ ((line ≡ verdict_text (claimed claim)) × (told ≡ Accepted))
 
 -- A text that `certify` may print for two files is accepted with what it claims, for the same files.
 abbrev pub PrintedIsAcceptedLaw : Type 0
-PrintedIsAcceptedLaw = (aerodrome flights text : List ℕ) (answer : Answer) (printed : AdmitsCertify aerodrome flights text answer) →
+PrintedIsAcceptedLaw = (aerodrome flights text : List ℕ) (answer : Answer)
+    (printed : AdmitsCertify aerodrome flights text answer) →
     IsAccepted aerodrome flights text printed.certifies.certificate.claim

@@ -22,11 +22,13 @@ use Rattle.certificate_commands.specs.Verdicts.{verdict_text, answer_of_verdict,
 
 abbrev pub RefusesCheck : List ℕ → List ℕ → List ℕ → FilesFault → Type 0
 RefusesCheck aerodrome flights certificate cause =
-    refused_by_three refusal.Certificate (aerodrome_of aerodrome) (flights_of flights) (certificate_of certificate) ≡ Some cause
+    refused_by_three refusal.Certificate (aerodrome_of aerodrome) (flights_of flights)
+    (certificate_of certificate) ≡ Some cause
 
--- The files are taken. This is the verdict on the certificate for the problem of their opening situation, and what it says
--- of that situation is true. The situation, the problem and the certificate have their numbers in their ranges.
-pub record IsJudged (aerodrome : Aerodrome) (flights : List Flight) (certificate : Cert) (verdict : Verdict) : Type 0 where
+-- The files are taken. This is the verdict on the certificate for the problem of their opening situation, and what it
+-- says of that situation is true. The situation, the problem and the certificate have their numbers in their ranges.
+pub record IsJudged (aerodrome : Aerodrome) (flights : List Flight) (certificate : Cert)
+    (verdict : Verdict) : Type 0 where
   pub taken : refusal_of aerodrome flights ≡ None
   pub problem : Problem
   pub problem_of : IsProblemOf (opened aerodrome flights) problem
@@ -56,7 +58,8 @@ pub record AdmitsCheck (aerodrome flights certificate text : List ℕ) (answer :
 -- Two texts that `check` may print for the same files are one, with one answer.
 abbrev pub CheckTextIsOneLaw : Type 0
 CheckTextIsOneLaw = (aerodrome flights certificate text other : List ℕ) (answer another : Answer)
-    → AdmitsCheck aerodrome flights certificate text answer → AdmitsCheck aerodrome flights certificate other another → (text ≡ other) × (answer ≡ another)
+    → AdmitsCheck aerodrome flights certificate text answer → AdmitsCheck aerodrome flights certificate other another
+    → (text ≡ other) × (answer ≡ another)
 
 -- what `check` does, with this ending
 abbrev pub FollowsCheck : List ℕ → List ℕ → List ℕ → SinkState → SinkState → Ending → Type 0

@@ -1,4 +1,5 @@
--- What the texts of `certify` and `check` have in common, and how many bytes they have at most, over the bytes of their files.
+-- What the texts of `certify` and `check` have in common, and how many bytes they have at most, over the bytes of their
+-- files.
 use Rattle.std.specs.Prelude.{◌≡◌, ℕ, ◌≤◌, ◌<◌, min, List, length, Result, Ok, Err}
 use Rattle.arrivals.specs.declared.aerodrome.Aerodrome.{Aerodrome}
 use Rattle.aerodrome_file.specs.Reading.{aerodrome_of}
@@ -15,8 +16,8 @@ use Rattle.endings.specs.declared.ending.Answer.{Answer}
 use Rattle.certificate_commands.specs.Certify.{AdmitsCertify}
 use Rattle.certificate_commands.specs.Check.{AdmitsCheck}
 
--- the texts are of one claim and of one list of states, and differ in their landing lines alone; where the claim is that nothing is
--- feasible they are one
+-- the texts are of one claim and of one list of states, and differ in their landing lines alone; where the claim is
+-- that nothing is feasible they are one
 pub record DifferInLandingsAlone (text other : List ℕ) : Type 0 where
   pub claim : Claim
   pub states : List State
@@ -28,7 +29,8 @@ pub record DifferInLandingsAlone (text other : List ℕ) : Type 0 where
 
 -- two texts that `certify` may print for the same files
 abbrev pub CertifyTextsLaw : Type 0
-CertifyTextsLaw = (aerodrome flights text other : List ℕ) (answer another : Answer) → AdmitsCertify aerodrome flights text answer
+CertifyTextsLaw = (aerodrome flights text other : List ℕ) (answer another : Answer)
+    → AdmitsCertify aerodrome flights text answer
     → AdmitsCertify aerodrome flights other another → DifferInLandingsAlone text other × (answer ≡ another)
 
 -- ---- lengths
@@ -46,12 +48,16 @@ abbrev pub check_bound : ℕ
 check_bound = 33
 
 abbrev pub CertifyIsBoundedLaw : Type 0
-CertifyIsBoundedLaw = (aerodrome flights text : List ℕ) (answer : Answer) → AdmitsCertify aerodrome flights text answer → length text ≤ certify_bound aerodrome flights
+CertifyIsBoundedLaw = (aerodrome flights text : List ℕ) (answer : Answer) → AdmitsCertify aerodrome flights text answer
+    → length text ≤ certify_bound aerodrome flights
 
 abbrev pub CheckIsBoundedLaw : Type 0
-CheckIsBoundedLaw = (aerodrome flights certificate text : List ℕ) (answer : Answer) → AdmitsCheck aerodrome flights certificate text answer → length text ≤ check_bound
+CheckIsBoundedLaw = (aerodrome flights certificate text : List ℕ) (answer : Answer)
+    → AdmitsCheck aerodrome flights certificate text answer → length text ≤ check_bound
 
 -- of so many flights each certificate is one that `check` loads
 abbrev pub CertifyIsLoadableLaw : Type 0
-CertifyIsLoadableLaw = (aerodrome flights text : List ℕ) (answer : Answer) → (printed : AdmitsCertify aerodrome flights text answer)
-    → IsLoadable printed.aerodrome.objective printed.aerodrome.k (min most_waiting (length printed.flights)) → length text < 16777216
+CertifyIsLoadableLaw = (aerodrome flights text : List ℕ) (answer : Answer)
+    → (printed : AdmitsCertify aerodrome flights text answer)
+    → IsLoadable printed.aerodrome.objective printed.aerodrome.k (min most_waiting (length printed.flights))
+    → length text < 16777216

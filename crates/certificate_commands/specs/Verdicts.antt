@@ -5,7 +5,8 @@ use Rattle.landing_rules.specs.Rules.{IsFeasible, IsBest, objective}
 use Rattle.landing_rules.specs.Problem.{Problem, joined}
 use Rattle.cert_check.specs.Landings.{Landings, seconds}
 use Rattle.cert_check.specs.declared.verdict.Reason.{Reason}
-use Rattle.cert_check.specs.declared.verdict.Reason.TheVariants.{Flights, Closed, Early, Separation, Precedence, Shift, Value, Shape, Successor, Final}
+use Rattle.cert_check.specs.declared.verdict.Reason.TheVariants.{Flights, Closed, Early, Separation, Precedence, Shift}
+use Rattle.cert_check.specs.declared.verdict.Reason.TheVariants.{Value, Shape, Successor, Final}
 use Rattle.cert_check.specs.declared.verdict.Verdict.{Verdict}
 use Rattle.cert_check.specs.declared.verdict.Verdict.TheVariants as verdict
 use Rattle.endings.specs.declared.ending.Answer.{Answer}

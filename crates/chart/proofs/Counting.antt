@@ -1,5 +1,6 @@
 -- How many rows a picture has.
-use Rattle.std.proofs.Common.{◌≡◌, ◌+◌, ◌≤◌, Bool, true, false, cond, List, [], ◌∷◌, length, map, refl, arith, length-append}
+use Rattle.std.proofs.Common.{◌≡◌, ◌+◌, ◌≤◌, Bool, true, false, cond, List, [], ◌∷◌, length, map, refl, arith}
+use Rattle.std.proofs.Common.{length-append}
 use Rattle.std.proofs.lemmas.List.{length-map}
 use Rattle.landing_rules.specs.Flights.{Active}
 use Rattle.landing_rules.specs.Text.{ShownLanding}
@@ -10,7 +11,8 @@ one_more : (l : ShownLanding) (xs : List ShownLanding) → length (insert_line l
 one_more l [] = refl
 one_more l (m ∷ rest) = place (is_above m l) (one_more l rest)
   where
-    place : (b : Bool) → length (insert_line l rest) ≡ length rest + 1 → length (cond b (m ∷ insert_line l rest) (l ∷ m ∷ rest)) ≡ length (m ∷ rest) + 1
+    place : (b : Bool) → length (insert_line l rest) ≡ length rest + 1
+        → length (cond b (m ∷ insert_line l rest) (l ∷ m ∷ rest)) ≡ length (m ∷ rest) + 1
     place true e = omega (arith, e)
     place false e = omega arith
 
@@ -22,12 +24,14 @@ few_missing : (lines : List ShownLanding) (active : List Active) → length (mis
 few_missing lines [] = omega arith
 few_missing lines (a ∷ rest) = one (has_line lines a.flight.callsign) (few_missing lines rest)
   where
-    one : (b : Bool) → length (missing_rows lines rest) ≤ length rest → length (cond b (missing_rows lines rest) (waiting_row a ∷ missing_rows lines rest)) ≤ length (a ∷ rest)
+    one : (b : Bool) → length (missing_rows lines rest) ≤ length rest
+        → length (cond b (missing_rows lines rest) (waiting_row a ∷ missing_rows lines rest)) ≤ length (a ∷ rest)
     one true h = omega (arith, h)
     one false h = omega (arith, h)
 
 -- no more than lines and flights
-pub few_rows : (active : List Active) (lines : List ShownLanding) → length (rows_of active lines) ≤ length lines + length active
+pub few_rows : (active : List Active) (lines : List ShownLanding)
+    → length (rows_of active lines) ≤ length lines + length active
 few_rows active lines =
     let sorted = in_order lines in
     let n = all_counted [] lines in

@@ -6,7 +6,8 @@ use Rattle.landing_rules.specs.Flights.{Span, Active}
 use Rattle.landing_rules.specs.Text.{ShownLanding}
 use Rattle.chart.specs.declared.frame.Frame.{Frame}
 use Rattle.chart.specs.Rows.{Row}
-use Rattle.chart.specs.Frames.{empty, frame_of, widened, with_active, with_horizon, with_landing, with_row, with_rows, with_windows}
+use Rattle.chart.specs.Frames.{empty, frame_of, widened, with_active, with_horizon, with_landing, with_row, with_rows}
+use Rattle.chart.specs.Frames.{with_windows}
 use Rattle.chart.specs.Laws.{FrameLaw, Holds, HoldsFlight, HoldsLanding, HoldsRow, HoldsWindow}
 
 -- the seconds from the first to the last
@@ -44,14 +45,17 @@ landing_wider f (Some l) = one_wider f l.second
 
 active_wider : (f : Frame) (a : Option Active) → Wider f (with_active f a)
 active_wider f None = itself f
-active_wider f (Some a) = chain f (widened f a.flight.eta) (with_windows (widened f a.flight.eta) a.flight.windows) (one_wider f a.flight.eta) (windows_wider (widened f a.flight.eta) a.flight.windows)
+active_wider f (Some a) = chain f (widened f a.flight.eta) (with_windows (widened f a.flight.eta) a.flight.windows)
+    (one_wider f a.flight.eta) (windows_wider (widened f a.flight.eta) a.flight.windows)
 
 row_wider : (f : Frame) (r : Row) → Wider f (with_row f r)
-row_wider f r = chain f (with_landing f r.landing) (with_row f r) (landing_wider f r.landing) (active_wider (with_landing f r.landing) r.active)
+row_wider f r = chain f (with_landing f r.landing) (with_row f r) (landing_wider f r.landing)
+    (active_wider (with_landing f r.landing) r.active)
 
 rows_wider : (f : Frame) (rows : List Row) → Wider f (with_rows f rows)
 rows_wider f [] = itself f
-rows_wider f (r ∷ rest) = chain f (with_row f r) (with_rows (with_row f r) rest) (row_wider f r) (rows_wider (with_row f r) rest)
+rows_wider f (r ∷ rest) =
+    chain f (with_row f r) (with_rows (with_row f r) rest) (row_wider f r) (rows_wider (with_row f r) rest)
 
 horizon_wider : (f : Frame) (h : ℕ) → Wider f (with_horizon f h)
 horizon_wider f h = one (h == 0)
@@ -74,21 +78,35 @@ windows_held f g [] w = tt
 windows_held f g (v ∷ rest) w =
     let a = widened f v.0 in
     let b = widened a v.1 in
-    let far = chain b (with_windows b rest) g (windows_wider b rest) w in
-    ((inside g v.0 (still a g v.0 (chain a b g (one_wider a v.1) far) (one_held f v.0)), inside g v.1 (still b g v.1 far (one_held a v.1))), windows_held b g rest w)
+    let far = chain b (with_windows b rest) g (windows_wider b rest) w in (
+      (
+        inside g v.0 (still a g v.0 (chain a b g (one_wider a v.1) far) (one_held f v.0)),
+        inside g v.1
+            (still b g v.1 far (one_held a v.1)),
+      ),
+      windows_held b g rest w,
+    )
 
 flight_held : (f g : Frame) (a : Option Active) → Wider (with_active f a) g → HoldsFlight g a
 flight_held f g None w = tt
 flight_held f g (Some a) w =
-    let e = widened f a.flight.eta in
-    (inside g a.flight.eta (still e g a.flight.eta (chain e (with_windows e a.flight.windows) g (windows_wider e a.flight.windows) w) (one_held f a.flight.eta)), windows_held e g a.flight.windows w)
+    let e = widened f a.flight.eta in (
+      inside g a.flight.eta (still e g a.flight.eta
+          (chain e (with_windows e a.flight.windows) g (windows_wider e a.flight.windows) w) (one_held f a.flight.eta)),
+      windows_held e g a.flight.windows w,
+    )
 
 rows_held : (f g : Frame) (rows : List Row) → Wider (with_rows f rows) g → AllByRecursion (HoldsRow g) rows
 rows_held f g [] w = tt
 rows_held f g (r ∷ rest) w =
     let l = with_landing f r.landing in
-    let far = chain (with_row f r) (with_rows (with_row f r) rest) g (rows_wider (with_row f r) rest) w in
-    ((landing_held f g r.landing (chain l (with_row f r) g (active_wider l r.active) far), flight_held l g r.active far), rows_held (with_row f r) g rest w)
+    let far = chain (with_row f r) (with_rows (with_row f r) rest) g (rows_wider (with_row f r) rest) w in (
+      (
+        landing_held f g r.landing (chain l (with_row f r) g (active_wider l r.active) far),
+        flight_held l g r.active far,
+      ),
+      rows_held (with_row f r) g rest w,
+    )
 
 pub all_in_frame : FrameLaw
 all_in_frame h rows = rows_held empty (frame_of h rows) rows (horizon_wider (with_rows empty rows) h)

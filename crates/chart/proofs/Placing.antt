@@ -16,5 +16,6 @@ pub apart : ApartLaw
 apart span t u some far =
     let below : t * 920 / span * span ≤ t * 920 = div-mul-le_self (t * 920) span in
     let more : (t * 920 / span + 1) * span ≤ t * 920 + span = one_more (t * 920 / span) (t * 920) span below in
-    let right : t * 920 / span + 1 ≤ u * 920 / span = le-div (t * 920 / span + 1) (u * 920) span (omega (arith, some)) (omega (arith, more, far, some)) in
+    let right : t * 920 / span + 1 ≤ u * 920 / span =
+    le-div (t * 920 / span + 1) (u * 920) span (omega (arith, some)) (omega (arith, more, far, some)) in
     omega (arith, right)

@@ -1,5 +1,6 @@
 -- The elements of the rows, and those over all rows.
-use Rattle.std.specs.Prelude.{ℕ, zero, suc, ◌+◌, ◌-◌, ◌==◌, Bool, List, [], ◌∷◌, ◌++◌, Option, Some, None, nat_le, if◌then◌else◌}
+use Rattle.std.specs.Prelude.{ℕ, zero, suc, ◌+◌, ◌-◌, ◌==◌, Bool, List, [], ◌∷◌, ◌++◌, Option, Some, None, nat_le}
+use Rattle.std.specs.Prelude.{if◌then◌else◌}
 use Rattle.wake_table.specs.declared.category.Category.{Category}
 use Rattle.wake_table.specs.Table.{separation}
 use Rattle.landing_rules.specs.Flights.{Callsign, Span, Active, is_waiting}
@@ -28,13 +29,16 @@ abbrev pub delay_drawn : ℕ → ℕ → Option Active → ShownLanding → List
 delay_drawn span n None l = []
 delay_drawn span n (Some a) l = element.Delay n l.callsign (spot span a.flight.eta) (spot span l.second) ∷ []
 
--- the bar from a landing to where the next in landing order may land: the leader's row of the table, the follower's column
+-- the bar from a landing to where the next in landing order may land: the leader's row of the table, the follower's
+-- column
 abbrev pub owed_to : List (List ℕ) → ℕ → ℕ → ShownLanding → Active → Option Active → List Element
 owed_to table span n l a None = []
 owed_to table span n l a (Some b) =
-    element.Separation n l.callsign (spot span l.second) (spot span (l.second + separation table a.flight.category b.flight.category)) ∷ []
+    element.Separation n l.callsign (spot span l.second)
+    (spot span (l.second + separation table a.flight.category b.flight.category)) ∷ []
 
-abbrev pub owed_behind : List (List ℕ) → ℕ → ℕ → ShownLanding → Option Active → Option ShownLanding → Option Active → List Element
+abbrev pub owed_behind : List (List ℕ) → ℕ → ℕ → ShownLanding → Option Active → Option ShownLanding
+    → Option Active → List Element
 owed_behind table span n l None next b = []
 owed_behind table span n l (Some a) None b = []
 owed_behind table span n l (Some a) (Some m) b = owed_to table span n l a b
@@ -44,7 +48,8 @@ owed_drawn table span n r l [] = []
 owed_drawn table span n r l (next ∷ rest) = owed_behind table span n l r.active next.landing next.active
 
 abbrev pub mark_drawn : ℕ → ℕ → Bool → ShownLanding → Element
-mark_drawn span n flagged l = element.Mark n l.callsign (spot span l.second) (record { frozen = l.frozen; flagged = flagged })
+mark_drawn span n flagged l =
+    element.Mark n l.callsign (spot span l.second) (record { frozen = l.frozen; flagged = flagged })
 
 -- the delay, the mark and the separation of a landing, by the rows behind it
 abbrev pub landing_drawn : List (List ℕ) → ℕ → ℕ → Bool → Row → List Row → Option ShownLanding → List Element
@@ -95,7 +100,8 @@ label_of active rows flagged r = record {
 abbrev pub labels_drawn : List Active → List Row → List ShownLanding → List Finding → ℕ → List Row → List Element
 labels_drawn active rows lines found n [] = []
 labels_drawn active rows lines found n (r ∷ rest) =
-    element.Label n (label_of active rows (is_flagged lines found r.callsign) r) ∷ labels_drawn active rows lines found (n + 1) rest
+    element.Label n (label_of active rows (is_flagged lines found r.callsign) r)
+    ∷ labels_drawn active rows lines found (n + 1) rest
 
 -- ---- over so many rows
 
@@ -111,7 +117,8 @@ closures_drawn span count (c ∷ rest) = closure_drawn span count c ∷ closures
 abbrev pub ticks_from : ℕ → ℕ → ℕ → ℕ → ℕ → ℕ → List Element
 ticks_from span count step last zero tick = []
 ticks_from span count step last (suc left) tick =
-    if nat_le tick last then element.Tick count (spot span tick) ∷ ticks_from span count step last left (tick + step) else []
+    if nat_le tick last then element.Tick count (spot span tick) ∷ ticks_from span count step last left (tick + step)
+    else []
 
 -- eleven steps hold the span: from end to end, twelve ticks
 abbrev pub most_ticks : ℕ

@@ -1,5 +1,6 @@
 -- What holds of every picture.
-use Rattle.std.specs.Prelude.{◌≡◌, ⊤, ℕ, ◌-◌, ◌*◌, ◌<◌, ◌≤◌, Bool, List, [], ◌∷◌, Option, Some, None, count_by, flat_map, map}
+use Rattle.std.specs.Prelude.{◌≡◌, ⊤, ℕ, ◌-◌, ◌*◌, ◌<◌, ◌≤◌, Bool, List, [], ◌∷◌, Option, Some, None, count_by}
+use Rattle.std.specs.Prelude.{flat_map, map}
 use Rattle.std.specs.List.{AllByRecursion}
 use Rattle.landing_rules.specs.Flights.{Callsign, Span, Active, Situation, horizon}
 use Rattle.landing_rules.specs.Text.{ShownLanding}
@@ -37,7 +38,8 @@ OrderLaw = (lines : List ShownLanding) → NeverFalls (in_order lines)
 
 -- and each line stands there as often as in the plan
 abbrev pub SameLinesLaw : Type 0
-SameLinesLaw = (test : ShownLanding → Bool) (lines : List ShownLanding) → count_by test (in_order lines) ≡ count_by test lines
+SameLinesLaw = (test : ShownLanding → Bool) (lines : List ShownLanding)
+    → count_by test (in_order lines) ≡ count_by test lines
 
 -- ---- the frame
 
@@ -109,7 +111,8 @@ row_windows span r = window_bars span r.callsign r.active
 -- each window of each row is a bar from the place of its first second to that of its last
 abbrev pub WindowsLaw : Type 0
 WindowsLaw = (s : Situation) (b : Block) →
-    flat_map windows_in (elements_of s (plans.Block b)) ≡ flat_map (row_windows (block_span s b)) (rows_of s.active b.lines)
+    flat_map windows_in (elements_of s (plans.Block b)) ≡ flat_map (row_windows (block_span s b))
+    (rows_of s.active b.lines)
 
 abbrev pub closures_in : Element → List (Spot × Spot)
 closures_in (element.Closure rows from to) = (from, to) ∷ []

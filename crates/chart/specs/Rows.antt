@@ -1,5 +1,6 @@
 -- The rows of a picture: the landing lines in landing order, and then the active flights without a line.
-use Rattle.std.specs.Prelude.{ℕ, ◌+◌, ◌-◌, Bool, true, false, ◌&&◌, List, [], ◌∷◌, ◌++◌, Option, Some, None, nat_lt, find, filter, map, count_by, slice_get, if◌then◌else◌}
+use Rattle.std.specs.Prelude.{ℕ, ◌+◌, ◌-◌, Bool, true, false, ◌&&◌, List, [], ◌∷◌, ◌++◌, Option, Some, None, nat_lt}
+use Rattle.std.specs.Prelude.{find, filter, map, count_by, slice_get, if◌then◌else◌}
 use Rattle.std.specs.Str.{bytes_eq}
 use Rattle.std.specs.List.{list_any}
 use Rattle.std.specs.Ordering.{is_lt}
@@ -7,7 +8,8 @@ use Rattle.landing_rules.specs.Flights.{Callsign, Flight, Active, is_waiting}
 use Rattle.landing_rules.specs.Rules.{first_come_cmp, rank}
 use Rattle.landing_rules.specs.Events.{named}
 use Rattle.landing_rules.specs.Text.{ShownLanding}
-use Rattle.landing_rules.specs.Audit.{Finding, Missing, Unknown, Twice, Order, Mark, Closed, Separation, Precedence, Moved, Early, Shift, OtherObjective, Value, has_line}
+use Rattle.landing_rules.specs.Audit.{Finding, Missing, Unknown, Twice, Order, Mark, Closed, Separation, Precedence}
+use Rattle.landing_rules.specs.Audit.{Moved, Early, Shift, OtherObjective, Value, has_line}
 
 -- a callsign, the active flight of that name, and the landing that the plan has for it
 pub record Row : Type 0 where

@@ -1,5 +1,6 @@
 -- The text of each element.
-use Rattle.std.specs.Prelude.{ℕ, ◌+◌, ◌-◌, ◌*◌, ◌/◌, ◌%◌, Bool, List, [], ◌∷◌, ◌++◌, Option, Some, None, nat_lt, codes, decimal, flat_map, if◌then◌else◌}
+use Rattle.std.specs.Prelude.{ℕ, ◌+◌, ◌-◌, ◌*◌, ◌/◌, ◌%◌, Bool, List, [], ◌∷◌, ◌++◌, Option, Some, None, nat_lt, codes}
+use Rattle.std.specs.Prelude.{decimal, flat_map, if◌then◌else◌}
 use Rattle.wake_table.specs.Letters.{letter}
 use Rattle.wake_table.specs.declared.category.Category.{Category}
 use Rattle.landing_rules.specs.Text.{Bytes, head_words}
@@ -104,7 +105,8 @@ number_cell x (Some n) = codes "<tspan x='" ++ (x ++ (codes "'>" ++ (decimal n +
 -- how many places later than its rank a flight lands, with its sign
 unfoldable pub shift_words : ℕ → ℕ → Bytes
 shift_words rank place =
-    if nat_lt rank place then 43 ∷ decimal (place - rank) else if nat_lt place rank then 45 ∷ decimal (rank - place) else codes "0"
+    if nat_lt rank place then 43 ∷ decimal (place - rank) else if nat_lt place rank then 45 ∷ decimal (rank - place)
+    else codes "0"
 
 abbrev pub shift_between : ℕ → ℕ → Bytes
 shift_between rank place = codes "<tspan x='171'>" ++ (shift_words rank place ++ codes "</tspan>")
@@ -130,7 +132,8 @@ label_text row l =
 
 unfoldable pub closure_head : ℕ → ℕ → ℕ → Bytes
 closure_head rows from to =
-    codes "<path class='c' d='M" ++ (decimal from ++ (codes " 60H" ++ (decimal to ++ (codes "V" ++ (decimal (bottom_of rows)
+    codes "<path class='c' d='M"
+    ++ (decimal from ++ (codes " 60H" ++ (decimal to ++ (codes "V" ++ (decimal (bottom_of rows)
     ++ (codes "H" ++ (decimal from ++ codes "z'><title>closed ")))))))
 
 abbrev pub closure_text : ℕ → Spot → Spot → Bytes
@@ -153,7 +156,8 @@ tick_text rows at =
 
 abbrev pub horizon_head : ℕ → ℕ → Bytes
 horizon_head rows x =
-    codes "<path class='h' d='M" ++ (decimal x ++ (codes " 60V" ++ (decimal (bottom_of rows) ++ codes "'><title>horizon ")))
+    codes "<path class='h' d='M"
+    ++ (decimal x ++ (codes " 60V" ++ (decimal (bottom_of rows) ++ codes "'><title>horizon ")))
 
 abbrev pub horizon_text : ℕ → Spot → Bytes
 horizon_text rows at = horizon_head rows at.x ++ (moment at.second ++ shape_end)
@@ -169,7 +173,8 @@ abbrev pub sheet_text : ℕ → Bytes
 sheet_text lines = sheet_head lines ++ (style_text ++ (columns_text ++ key_text))
 
 abbrev pub titled : Bytes → Bytes
-titled words = codes "<title>" ++ (words ++ (codes "</title><text class='t' x='8' y='22'>" ++ (words ++ codes "</text>\n")))
+titled words = codes "<title>"
+    ++ (words ++ (codes "</title><text class='t' x='8' y='22'>" ++ (words ++ codes "</text>\n")))
 
 abbrev pub until_text : ℕ → Bytes
 until_text second = codes "<text x='8' y='40'>horizon " ++ (moment second ++ codes "</text>\n")

@@ -37,4 +37,5 @@ pub record AreDrawn (aerodrome_bytes flight_bytes plan_bytes text : List ℕ) : 
 -- how it may stop before it writes
 abbrev pub StopsFiles : List ℕ → List ℕ → List ℕ → Ending → Type 0
 StopsFiles aerodrome flights plan =
-    Stops (λ cause. refused_by_three refusal.Plan (aerodrome_of aerodrome) (flights_of flights) (plan_of plan) ≡ Some cause)
+    Stops (λ cause. refused_by_three refusal.Plan (aerodrome_of aerodrome) (flights_of flights)
+    (plan_of plan) ≡ Some cause)

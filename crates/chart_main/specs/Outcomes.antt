@@ -49,7 +49,8 @@ abbrev pub Ends : List (List ℕ) → Outside → Outside → Result (Unit {0}) 
 Ends words old new (Err Misused) = (length words ≢ 3) × (new ≡ old)
 Ends words old new (Err (NotLoaded place)) = FailsAt old.folder new.folder words place × (new.out ≡ old.out)
 Ends words old new (Err (TooLong place)) = IsTooLongAt old.folder new.folder words place × (new.out ≡ old.out)
-Ends words old new (Err NoMemory) = (AsksForSome old.folder new.folder words × (new.out ≡ old.out)) ⊎ Serves words old new (Err NoMemory)
+Ends words old new (Err NoMemory) =
+    (AsksForSome old.folder new.folder words × (new.out ≡ old.out)) ⊎ Serves words old new (Err NoMemory)
 Ends words old new end = Serves words old new end
 
 -- 0 where the picture was written, and else that of the ending

@@ -1,5 +1,7 @@
 -- To keep some places of a list in place, step by step.
-use Rattle.std.proofs.Common.{◌≡◌, ℕ, zero, ◌+◌, ◌<◌, ◌≤◌, List, [], ◌∷◌, ◌++◌, length, drop, take, get_or, refl, arith, length-append, length-set, append-nil, add-one, ◌∙◌, sym, ap, ap₂, inl, inr, subst, suc, Vec, Global}
+use Rattle.std.proofs.Common.{◌≡◌, ℕ, zero, ◌+◌, ◌<◌, ◌≤◌, List, [], ◌∷◌, ◌++◌, length, drop, take, get_or, refl}
+use Rattle.std.proofs.Common.{arith, length-append, length-set, append-nil, add-one, ◌∙◌, sym, ap, ap₂, inl, inr}
+use Rattle.std.proofs.Common.{subst, suc, Vec, Global}
 use Rattle.std.specs.Prelude.{Bool, true, false, ◌⊎◌, replicate, Result, Ok, Err, IsOk, OnErr}
 use Rattle.std.specs.List.{AllZip, swap}
 use Rattle.std.proofs.Math.ListN.{set}
@@ -26,29 +28,36 @@ kept_where-push (c ∷ bs) [] b x e = absurd (omega arith)
 kept_where-push (true ∷ bs) (y ∷ xs) b x e = ap (λ (zs : List _). y ∷ zs) (kept_where-push bs xs b x (omega arith))
 kept_where-push (false ∷ bs) (y ∷ xs) b x e = kept_where-push bs xs b x (omega arith)
 
-pub zip_push : {A B : Type 0} (R : A → B → Type 0) (xs : List A) (ys : List B) (x : A) (y : B) → AllZip R xs ys → R x y → AllZip R (xs ++ x ∷ []) (ys ++ y ∷ [])
+pub zip_push : {A B : Type 0} (R : A → B → Type 0) (xs : List A) (ys : List B) (x : A) (y : B)
+    → AllZip R xs ys → R x y → AllZip R (xs ++ x ∷ []) (ys ++ y ∷ [])
 zip_push R [] [] x y all one = (one, all)
 zip_push R [] (v ∷ ys) x y all one = absurd all
 zip_push R (u ∷ xs) [] x y all one = absurd all
 zip_push R (u ∷ xs) (v ∷ ys) x y all one = (all.0, zip_push R xs ys x y all.1 one)
 
 -- the answers so far, with one more
-pub zip_more : {A : Type 0} (R : A → Bool → Type 0) (old : List A) (answers : List Bool) (i : ℕ) (b : Bool) (d : A) → i < length old
+pub zip_more : {A : Type 0} (R : A → Bool → Type 0) (old : List A) (answers : List Bool) (i : ℕ) (b : Bool) (d : A)
+    → i < length old
     → AllZip R (take i old) answers → R (get_or old i d) b → AllZip R (take (i + 1) old) (answers ++ b ∷ [])
 zip_more {A} R old answers i b d lt all one =
-    subst (λ (zs : List A). AllZip R zs (answers ++ b ∷ [])) (sym (ap (λ (n : ℕ). take n old) (add-one i) ∙ take-suc old i d lt)) (zip_push R (take i old) answers (get_or old i d) b all one)
+    subst (λ (zs : List A). AllZip R zs (answers ++ b ∷ []))
+    (sym (ap (λ (n : ℕ). take n old) (add-one i) ∙ take-suc old i d lt))
+    (zip_push R (take i old) answers (get_or old i d) b all one)
 
 -- what stands at the next place is as it was
-pub next_same : {A : Type 0} (old now : List A) (answers : List Bool) (kept i : ℕ) (d : A) → IsCompacting old now answers kept i → get_or now i d ≡ get_or old i d
+pub next_same : {A : Type 0} (old now : List A) (answers : List Bool) (kept i : ℕ) (d : A)
+    → IsCompacting old now answers kept i → get_or now i d ≡ get_or old i d
 next_same {A} old now answers kept i d is =
     let z : i + 0 ≡ i = omega arith in
-    ap (λ (n : ℕ). get_or now n d) (sym z) ∙ sym (get_or-drop i now 0 d) ∙ ap (λ (zs : List A). get_or zs 0 d) is.rest ∙ get_or-drop i old 0 d ∙ ap (λ (n : ℕ). get_or old n d) z
+    ap (λ (n : ℕ). get_or now n d) (sym z) ∙ sym (get_or-drop i now 0 d) ∙ ap (λ (zs : List A). get_or zs 0 d) is.rest
+    ∙ get_or-drop i old 0 d ∙ ap (λ (n : ℕ). get_or old n d) z
 
 rest_more : {A : Type 0} (old now : List A) (i : ℕ) → drop i now ≡ drop i old → drop (i + 1) now ≡ drop (i + 1) old
 rest_more {A} old now i e = sym (drop-drop 1 i now) ∙ ap (λ (zs : List A). drop 1 zs) e ∙ drop-drop 1 i old
 
 -- a place that is not kept
-pub skipped : {A : Type 0} (old now : List A) (answers : List Bool) (kept i : ℕ) (d : A) → i < length old → IsCompacting old now answers kept i
+pub skipped : {A : Type 0} (old now : List A) (answers : List Bool) (kept i : ℕ) (d : A) → i < length old
+    → IsCompacting old now answers kept i
     → IsCompacting old now (answers ++ false ∷ []) kept (i + 1)
 skipped {A} old now answers kept i d lt is =
     let here : length answers ≡ length (take i old) = is.long ∙ sym (length-take-le i old is.end) in
@@ -57,8 +66,10 @@ skipped {A} old now answers kept i d lt is =
       end = omega arith;
       len = is.len;
       long = length-append answers (false ∷ []) ∙ omega (arith, is.long);
-      front = is.front ∙ sym (append-nil (kept_where answers (take i old))) ∙ sym (kept_where-push answers (take i old) false (get_or old i d) here)
-          ∙ ap (kept_where (answers ++ false ∷ [])) (sym (ap (λ (n : ℕ). take n old) (add-one i) ∙ take-suc old i d lt));
+      front = is.front ∙ sym (append-nil (kept_where answers (take i old)))
+          ∙ sym (kept_where-push answers (take i old) false (get_or old i d) here)
+          ∙ ap (kept_where (answers ++ false ∷ []))
+          (sym (ap (λ (n : ℕ). take n old) (add-one i) ∙ take-suc old i d lt));
       rest = rest_more old now i is.rest;
     }
 
@@ -66,28 +77,35 @@ split : (a b : ℕ) → a ≤ b → (a < b) ⊎ (a ≡ b)
 split a b h = grind (arith, nat_tests)
 
 -- the front after a swap
-front_swapped : {A : Type 0} (now : List A) (kept i : ℕ) (d : A) → kept ≤ i → i < length now → take (suc kept) (swap now kept i) ≡ take kept now ++ get_or now i d ∷ []
+front_swapped : {A : Type 0} (now : List A) (kept i : ℕ) (d : A) → kept ≤ i → i < length now
+    → take (suc kept) (swap now kept i) ≡ take kept now ++ get_or now i d ∷ []
 front_swapped {A} now kept i d le lt =
-    let is : set (set now kept (get_or now i d)) i (get_or now kept d) ≡ swap now kept i = swap_is now kept i d (omega arith) lt in
+    let is : set (set now kept (get_or now i d)) i (get_or now kept d) ≡ swap now kept i =
+    swap_is now kept i d (omega arith) lt in
     ap (take (suc kept)) (sym is) ∙ elim (split kept i le) [
-      | inl less ↦ take-set-le (suc kept) (set now kept (get_or now i d)) i (get_or now kept d) (omega arith) ∙ take-suc-set now kept (get_or now i d) (omega arith)
+      | inl less ↦ take-set-le (suc kept) (set now kept (get_or now i d)) i (get_or now kept d) (omega arith)
+          ∙ take-suc-set now kept (get_or now i d) (omega arith)
       | inr same ↦
           ap (λ (n : ℕ). take (suc n) (set (set now kept (get_or now i d)) i (get_or now kept d))) same
-          ∙ take-suc-set (set now kept (get_or now i d)) i (get_or now kept d) (omega (arith, length-set now kept (get_or now i d)))
+          ∙ take-suc-set (set now kept (get_or now i d)) i (get_or now kept d)
+          (omega (arith, length-set now kept (get_or now i d)))
           ∙ ap₂ (λ (zs : List A) (z : A). zs ++ z ∷ [])
           (ap (λ (n : ℕ). take n (set now kept (get_or now i d))) (sym same) ∙ take-set now kept (get_or now i d))
           (ap (λ (n : ℕ). get_or now n d) same)
     ]
 
-rest_swapped : {A : Type 0} (now : List A) (kept i : ℕ) (d : A) → kept ≤ i → i < length now → drop (i + 1) (swap now kept i) ≡ drop (i + 1) now
+rest_swapped : {A : Type 0} (now : List A) (kept i : ℕ) (d : A) → kept ≤ i → i < length now
+    → drop (i + 1) (swap now kept i) ≡ drop (i + 1) now
 rest_swapped {A} now kept i d le lt =
-    let is : set (set now kept (get_or now i d)) i (get_or now kept d) ≡ swap now kept i = swap_is now kept i d (omega arith) lt in
+    let is : set (set now kept (get_or now i d)) i (get_or now kept d) ≡ swap now kept i =
+    swap_is now kept i d (omega arith) lt in
     ap (drop (i + 1)) (sym is)
     ∙ drop-set-lt (i + 1) (set now kept (get_or now i d)) i (get_or now kept d) (omega arith)
     ∙ drop-set-lt (i + 1) now kept (get_or now i d) (omega arith)
 
 -- a place that is kept, and is brought to the front
-pub brought : {A : Type 0} (old now after : List A) (answers : List Bool) (kept i : ℕ) (d : A) → i < length old → IsCompacting old now answers kept i
+pub brought : {A : Type 0} (old now after : List A) (answers : List Bool) (kept i : ℕ) (d : A)
+    → i < length old → IsCompacting old now answers kept i
     → after ≡ swap now kept i → IsCompacting old after (answers ++ true ∷ []) (kept + 1) (i + 1)
 brought {A} old now after answers kept i d lt is e =
     let here : length answers ≡ length (take i old) = is.long ∙ sym (length-take-le i old is.end) in
@@ -105,7 +123,15 @@ brought {A} old now after answers kept i d lt is e =
     }
 
 pub IsCompacting-start : {A : Type 0} (old : List A) → IsCompacting old old [] 0 0
-IsCompacting-start old = record { within = omega arith; end = omega arith; len = refl; long = refl; front = refl; rest = refl }
+IsCompacting-start old = record {
+  within = omega arith;
+  end = omega arith;
+  len = refl;
+  long =
+      refl;
+  front = refl;
+  rest = refl;
+}
 
 -- ---- where each place is kept
 
@@ -121,9 +147,11 @@ as_cloned : {A : Type 0} (R : A → A → Type 0) (xs ys : List A) → ((x y : A
 as_cloned R [] [] same all = refl
 as_cloned R [] (y ∷ ys) same all = absurd all
 as_cloned R (x ∷ xs) [] same all = absurd all
-as_cloned {A} R (x ∷ xs) (y ∷ ys) same all = ap₂ (λ (z : A) (zs : List A). z ∷ zs) (same x y all.0) (as_cloned R xs ys same all.1)
+as_cloned {A} R (x ∷ xs) (y ∷ ys) same all =
+    ap₂ (λ (z : A) (zs : List A). z ∷ zs) (same x y all.0) (as_cloned R xs ys same all.1)
 
-pub same_or_cloned : {A : Type 0} (R : A → A → Type 0) {X : Type 0} (old new : Vec A Global) → ((x y : A) → R x y → y ≡ x)
+pub same_or_cloned : {A : Type 0} (R : A → A → Type 0) {X : Type 0} (old new : Vec A Global)
+    → ((x y : A) → R x y → y ≡ x)
     → (new ≡ old) ⊎ (AllZip R old.items new.items × X) → new.items ≡ old.items
 same_or_cloned R old new same (inl e) = ap (λ (v : Vec _ Global). v.items) e
 same_or_cloned R old new same (inr c) = as_cloned R old.items new.items same c.0

@@ -14,11 +14,14 @@ contains_kept : (bs : List Bool) (xs : List (List ℤ)) (y : List ℤ) → Conta
 contains_kept [] xs y (i, lt, at) = absurd (omega (arith, lt))
 contains_kept (b ∷ bs) [] y (i, lt, at) = absurd (omega (arith, lt))
 contains_kept (true ∷ bs) (x ∷ xs) y (zero, lt, at) = (zero, omega arith, at)
-contains_kept (true ∷ bs) (x ∷ xs) y (suc i, lt, at) = let rest : Contains xs y = contains_kept bs xs y (i, omega (arith, lt), at) in (suc rest.0, omega (arith, rest.1), rest.2)
-contains_kept (false ∷ bs) (x ∷ xs) y has = let rest : Contains xs y = contains_kept bs xs y has in (suc rest.0, omega (arith, rest.1), rest.2)
+contains_kept (true ∷ bs) (x ∷ xs) y (suc i, lt, at) = let rest : Contains xs y =
+    contains_kept bs xs y (i, omega (arith, lt), at) in (suc rest.0, omega (arith, rest.1), rest.2)
+contains_kept (false ∷ bs) (x ∷ xs) y has = let rest : Contains xs y =
+    contains_kept bs xs y has in (suc rest.0, omega (arith, rest.1), rest.2)
 
 -- one more at the front
-pub longer : (x : List ℤ) (ys : List (List ℤ)) → ((y : List ℤ) → Contains ys y → window_cmp x y ≡ Less) → IsAscending ys → IsAscending (x ∷ ys)
+pub longer : (x : List ℤ) (ys : List (List ℤ)) → ((y : List ℤ) → Contains ys y → window_cmp x y ≡ Less)
+    → IsAscending ys → IsAscending (x ∷ ys)
 longer x ys below up zero zero lt within = absurd (omega arith)
 longer x ys below up zero (suc j) lt within = below (node_at ys j) (Contains-get_or ys j [] (omega arith))
 longer x ys below up (suc i) zero lt within = absurd (omega arith)
@@ -28,10 +31,14 @@ pub IsAscending-kept : (bs : List Bool) (xs : List (List ℤ)) → IsAscending x
 IsAscending-kept [] xs up = λ i j lt within. absurd (omega (arith, within))
 IsAscending-kept (b ∷ bs) [] up = λ i j lt within. absurd (omega (arith, within))
 IsAscending-kept (true ∷ bs) (x ∷ xs) up =
-    longer x (kept_where bs xs) (λ y has. behind_first x xs up y (contains_kept bs xs y has)) (IsAscending-kept bs xs (tail_ascends x xs up))
+    longer x (kept_where bs xs) (λ y has. behind_first x xs up y (contains_kept bs xs y has))
+    (IsAscending-kept bs xs (tail_ascends x xs up))
 IsAscending-kept (false ∷ bs) (x ∷ xs) up = IsAscending-kept bs xs (tail_ascends x xs up)
 
-pub AreWindows-kept : (width : ℕ) (bs : List Bool) (xs : List (List ℤ)) → AreWindows width xs → AreWindows width (kept_where bs xs)
+pub AreWindows-kept : (width : ℕ) (bs : List Bool) (xs : List (List ℤ)) → AreWindows width xs
+    → AreWindows width (kept_where bs xs)
 AreWindows-kept width bs xs are i lt =
-    let has : Contains xs (node_at (kept_where bs xs) i) = contains_kept bs xs (node_at (kept_where bs xs) i) (Contains-get_or (kept_where bs xs) i [] lt) in
-    subst (λ (z : List ℤ). IsWindow width z) (get_or_default xs has.0 [] (node_at (kept_where bs xs) i) has.1 ∙ has.2) (are has.0 has.1)
+    let has : Contains xs (node_at (kept_where bs xs) i) =
+    contains_kept bs xs (node_at (kept_where bs xs) i) (Contains-get_or (kept_where bs xs) i [] lt) in
+    subst (λ (z : List ℤ). IsWindow width z) (get_or_default xs has.0 [] (node_at (kept_where bs xs) i) has.1 ∙ has.2)
+    (are has.0 has.1)

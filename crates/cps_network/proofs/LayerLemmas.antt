@@ -13,23 +13,30 @@ use Rattle.cps_network.specs.Landable.{HoldsCandidates}
 use Rattle.cps_network.specs.Permits.{IsPermitted, IsSuccessor, IsNextOf}
 
 pub window_at : (width : ℕ) (ws : List (List ℤ)) (x : List ℤ) → AreWindows width ws → Contains ws x → IsWindow width x
-window_at width ws x valid (i, lt, at) = subst (λ (z : List ℤ). IsWindow width z) (get_or_default ws i [] x lt ∙ at) (valid i lt)
+window_at width ws x valid (i, lt, at) =
+    subst (λ (z : List ℤ). IsWindow width z) (get_or_default ws i [] x lt ∙ at) (valid i lt)
 
 -- the windows of the next stage are windows
-pub next_valid : (p : Problem) (stage width : ℕ) (before after : List (List ℤ)) → width ≡ 2 * p.k + 1 → LeadOn width → AreWindows width before
+pub next_valid : (p : Problem) (stage width : ℕ) (before after : List (List ℤ)) → width ≡ 2 * p.k + 1
+    → LeadOn width → AreWindows width before
     → IsNextOf p stage before after → AreWindows width after
 next_valid p stage width before after odd law valid next i lt =
-    let s : (window : List ℤ) × Contains before window × IsSuccessor p stage window (node_at after i) = (next (node_at after i)).0 (Contains-get_or after i [] lt) in
+    let s : (window : List ℤ) × Contains before window × IsSuccessor p stage window (node_at after i) =
+    (next (node_at after i)).0 (Contains-get_or after i [] lt) in
     let is : IsPermitted p stage s.0 s.2.0 = s.2.1 in
-    subst (λ (z : List ℤ). IsWindow width z) (sym s.2.2) (law.stays s.0 (offset_after stage s.2.0) (window_at width before s.0 valid s.1)
+    subst (λ (z : List ℤ). IsWindow width z) (sym s.2.2)
+    (law.stays s.0 (offset_after stage s.2.0) (window_at width before s.0 valid s.1)
     (record { low = omega (arith, ints, is.late, odd); high = omega (arith, ints, is.early, odd) }) is.accepted)
 
 -- the same, for numbers and windows that are written otherwise
-pub next_at : (p : Problem) (a b : ℕ) (xs ys us vs : List (List ℤ)) → IsNextOf p a xs us → a ≡ b → xs ≡ ys → us ≡ vs → IsNextOf p b ys vs
-next_at p a b xs ys us vs next e f h = subst (λ (q : ℕ). IsNextOf p q ys vs) e (subst (λ (zs : List (List ℤ)). IsNextOf p a zs vs) f (subst (λ (zs : List (List ℤ)). IsNextOf p a xs zs) h next))
+pub next_at : (p : Problem) (a b : ℕ) (xs ys us vs : List (List ℤ)) → IsNextOf p a xs us → a ≡ b
+    → xs ≡ ys → us ≡ vs → IsNextOf p b ys vs
+next_at p a b xs ys us vs next e f h = subst (λ (q : ℕ). IsNextOf p q ys vs) e
+    (subst (λ (zs : List (List ℤ)). IsNextOf p a zs vs) f (subst (λ (zs : List (List ℤ)). IsNextOf p a xs zs) h next))
 
 -- a range of the windows whose tail is the head of a window is that of those that lead to it
-pub extends_exact : (w : ℕ) (before : List (List ℤ)) (node : List ℤ) (from to : ℕ) → LeadOn w → AreWindows w before → IsWindow w node
+pub extends_exact : (w : ℕ) (before : List (List ℤ)) (node : List ℤ) (from to : ℕ) → LeadOn w
+    → AreWindows w before → IsWindow w node
     → ((i : ℕ) → i < length before → TailMeetsHead (node_at before i) node ↔ ((from ≤ i) × (i < to)))
     → (i : ℕ) → i < length before → Extends (node_at before i) node ↔ ((from ≤ i) × (i < to))
 extends_exact w before node from to law valid is exact i lt = (
@@ -38,8 +45,10 @@ extends_exact w before node from to law valid is exact i lt = (
 )
 
 -- where the stage before holds the landable windows, the next holds the candidates
-pub candidates : (p : Problem) (before after : ℕ × List (List ℤ)) → IsNextOf p before.0 before.1 after.1 → HoldsCandidates p before after
+pub candidates : (p : Problem) (before after : ℕ × List (List ℤ)) → IsNextOf p before.0 before.1 after.1
+    → HoldsCandidates p before after
 candidates p before after next holds x = (
-  λ has. let s : (window : List ℤ) × Contains before.1 window × IsSuccessor p before.0 window x = (next x).0 has in (s.0, (holds s.0).0 s.1, s.2),
+  λ has. let s : (window : List ℤ) × Contains before.1 window × IsSuccessor p before.0 window x =
+      (next x).0 has in (s.0, (holds s.0).0 s.1, s.2),
   λ (xs, landable, is). (next x).1 (xs, (holds xs).1 landable, is),
 )

@@ -1,5 +1,6 @@
 -- Legal prefixes and permitted ranks: to be permitted step by step is to be legal as a whole.
-use Rattle.std.proofs.Common.{◌≡◌, ℕ, ◌+◌, ◌-◌, ◌*◌, ◌/◌, ◌<◌, ◌≤◌, List, [], ◌∷◌, ◌++◌, length, get_or, refl, arith, length-append, ◌∙◌, sym, ap, inl, inr, subst, zero, suc}
+use Rattle.std.proofs.Common.{◌≡◌, ℕ, ◌+◌, ◌-◌, ◌*◌, ◌/◌, ◌<◌, ◌≤◌, List, [], ◌∷◌, ◌++◌, length, get_or, refl, arith}
+use Rattle.std.proofs.Common.{length-append, ◌∙◌, sym, ap, inl, inr, subst, zero, suc}
 use Rattle.std.specs.Prelude.{ℤ, pos}
 use Rattle.std.proofs.lemmas.Int.{ints}
 use Rattle.std.proofs.lemmas.List.{get_or_append_left, get_or-append_right}
@@ -30,10 +31,12 @@ read_at (x ∷ xs) zero d e h = refl
 read_at (x ∷ xs) (suc i) d e h = read_at xs i d e (omega arith)
 
 -- what the windows say of lists of ranks, at the problem's k
-at_k : (p : Problem) (w : ℕ) (ranks : List ℕ) → w ≡ 2 * p.k + 1 → RanksKeepShift (w / 2) ranks → RanksKeepShift p.k ranks
+at_k : (p : Problem) (w : ℕ) (ranks : List ℕ) → w ≡ 2 * p.k + 1 → RanksKeepShift (w / 2) ranks
+    → RanksKeepShift p.k ranks
 at_k p w ranks odd is = let half : w / 2 ≡ p.k = omega arith in subst (λ (k : ℕ). RanksKeepShift k ranks) half is
 
-at_half : (p : Problem) (w : ℕ) (ranks : List ℕ) → w ≡ 2 * p.k + 1 → RanksKeepShift p.k ranks → RanksKeepShift (w / 2) ranks
+at_half : (p : Problem) (w : ℕ) (ranks : List ℕ) → w ≡ 2 * p.k + 1 → RanksKeepShift p.k ranks
+    → RanksKeepShift (w / 2) ranks
 at_half p w ranks odd is = let half : p.k ≡ w / 2 = omega arith in subst (λ (k : ℕ). RanksKeepShift k ranks) half is
 
 none_legal : (p : Problem) (w : ℕ) → w ≡ 2 * p.k + 1 → FollowRanks w → IsLegal p []
@@ -45,7 +48,8 @@ none_legal p w odd law = record {
 }
 
 -- a legal prefix without its last rank is legal
-front_legal : (p : Problem) (w : ℕ) (ranks : List ℕ) (rank : ℕ) → w ≡ 2 * p.k + 1 → FollowRanks w → IsLegal p (ranks ++ rank ∷ []) → IsLegal p ranks
+front_legal : (p : Problem) (w : ℕ) (ranks : List ℕ) (rank : ℕ) → w ≡ 2 * p.k + 1 → FollowRanks w
+    → IsLegal p (ranks ++ rank ∷ []) → IsLegal p ranks
 front_legal p w ranks rank odd law is =
     let longer : length (ranks ++ rank ∷ []) ≡ length ranks + 1 = length-append ranks (rank ∷ []) in
     record {
@@ -54,12 +58,14 @@ front_legal p w ranks rank odd law is =
       late = λ i lt. rw (read_old ranks rank i lt) at (is.late i (omega arith));
       after = λ j first lt must.
           let before : (i : ℕ) × (i < j) × (get_or (ranks ++ rank ∷ []) i 0 ≡ first) =
-          is.after j first (omega arith) (subst (λ (r : ℕ). MustPrecede p.pairs first r) (sym (read_old ranks rank j lt)) must) in
+          is.after j first (omega arith) (subst (λ (r : ℕ). MustPrecede p.pairs first r)
+          (sym (read_old ranks rank j lt)) must) in
           (before.0, before.1, sym (read_old ranks rank before.0 (omega (arith, before.1, lt))) ∙ before.2);
     }
 
 -- and its last rank is permitted after the window of the others
-last_permitted : (p : Problem) (w : ℕ) (ranks : List ℕ) (rank : ℕ) → w ≡ 2 * p.k + 1 → FollowRanks w → IsLegal p (ranks ++ rank ∷ [])
+last_permitted : (p : Problem) (w : ℕ) (ranks : List ℕ) (rank : ℕ) → w ≡ 2 * p.k + 1 → FollowRanks w
+    → IsLegal p (ranks ++ rank ∷ [])
     → IsPermitted p (length ranks) (window_of w ranks) rank
 last_permitted p w ranks rank odd law is =
     let longer : length (ranks ++ rank ∷ []) ≡ length ranks + 1 = length-append ranks (rank ∷ []) in
@@ -74,13 +80,16 @@ last_permitted p w ranks rank odd law is =
       accepted = step.1.accepted;
       after = λ first must.
           let before : (i : ℕ) × (i < length ranks) × (get_or (ranks ++ rank ∷ []) i 0 ≡ first) =
-          is.after (length ranks) first (omega arith) (subst (λ (r : ℕ). MustPrecede p.pairs first r) (sym last) must) in
-          let at : get_or ranks before.0 first ≡ first = read_at ranks before.0 first 0 before.1 ∙ sym (read_old ranks rank before.0 before.1) ∙ before.2 in
+          is.after (length ranks) first (omega arith)
+          (subst (λ (r : ℕ). MustPrecede p.pairs first r) (sym last) must) in
+          let at : get_or ranks before.0 first ≡ first =
+          read_at ranks before.0 first 0 before.1 ∙ sym (read_old ranks rank before.0 before.1) ∙ before.2 in
           (law.places ranks (pos first) step.0).1 (inr (first, refl, (before.0, before.1, at)));
     }
 
 -- a rank that is permitted after the window of a legal prefix makes a longer one
-longer_legal : (p : Problem) (w : ℕ) (ranks : List ℕ) (rank : ℕ) → w ≡ 2 * p.k + 1 → AreInRange p.pairs → FollowRanks w → IsLegal p ranks
+longer_legal : (p : Problem) (w : ℕ) (ranks : List ℕ) (rank : ℕ) → w ≡ 2 * p.k + 1 → AreInRange p.pairs
+    → FollowRanks w → IsLegal p ranks
     → IsPermitted p (length ranks) (window_of w ranks) rank → IsLegal p (ranks ++ rank ∷ [])
 longer_legal p w ranks rank odd range law is may =
     let longer : length (ranks ++ rank ∷ []) ≡ length ranks + 1 = length-append ranks (rank ∷ []) in
@@ -105,7 +114,8 @@ longer_legal p w ranks rank odd range law is may =
       ];
       after = λ j first lt must. elim (last_or_before j (length ranks) (omega arith)) [
         | inl e ↦
-            let must_last : MustPrecede p.pairs first rank = subst (λ (r : ℕ). MustPrecede p.pairs first r) (read_last ranks rank j e) must in
+            let must_last : MustPrecede p.pairs first rank =
+            subst (λ (r : ℕ). MustPrecede p.pairs first r) (read_last ranks rank j e) must in
             elim ((law.places ranks (pos first) keeps).0 (may.after first must_last)) [
               | inl below ↦ absurd (omega (arith, ints, below, (range first rank must_last).0))
               | inr (r, same, (i, within, at)) ↦
@@ -135,8 +145,11 @@ follow_prefixes p w odd range law = record {
 -- windows that lead to one window have the same offsets from the second on
 pub lead_alike : (p : Problem) (w : ℕ) → w ≡ 2 * p.k + 1 → LeadOn w → LeadAlike p w
 lead_alike p w odd law stage xs ys next a b meets (rank, is, at) =
-    let within : IsWithin (pos (w / 2)) (offset_after stage rank) = record { low = omega (arith, ints, is.late, odd); high = omega (arith, ints, is.early, odd) } in
-    let valid : IsWindow w next = subst (λ (z : List ℤ). IsWindow w z) (sym at) (law.stays xs (offset_after stage rank) a within is.accepted) in
-    let own : IsWithin (pos (length xs / 2)) (offset_after stage rank) = subst (λ (n : ℕ). IsWithin (pos (n / 2)) (offset_after stage rank)) (sym a.len) within in
+    let within : IsWithin (pos (w / 2)) (offset_after stage rank) =
+    record { low = omega (arith, ints, is.late, odd); high = omega (arith, ints, is.early, odd) } in
+    let valid : IsWindow w next =
+    subst (λ (z : List ℤ). IsWindow w z) (sym at) (law.stays xs (offset_after stage rank) a within is.accepted) in
+    let own : IsWithin (pos (length xs / 2)) (offset_after stage rank) =
+    subst (λ (n : ℕ). IsWithin (pos (n / 2)) (offset_after stage rank)) (sym a.len) within in
     let head : TailMeetsHead xs next = (law.meets xs next a valid).0 (offset_after stage rank, own, is.accepted, at) in
     IsSuccessor-alike p stage xs ys next (a.len ∙ odd) (law.alike xs ys a b (head ∙ sym meets)) (rank, is, at)

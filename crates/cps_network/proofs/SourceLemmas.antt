@@ -1,5 +1,6 @@
 -- The windows that lead to one window stand side by side.
-use Rattle.std.proofs.Common.{◌≡◌, ℕ, Bool, true, false, [], ◌-◌, ◌<◌, ◌≤◌, List, length, drop, take, refl, arith, ◌∙◌, sym, ap, inl, inr, subst}
+use Rattle.std.proofs.Common.{◌≡◌, ℕ, Bool, true, false, [], ◌-◌, ◌<◌, ◌≤◌, List, length, drop, take, refl, arith, ◌∙◌}
+use Rattle.std.proofs.Common.{sym, ap, inl, inr, subst}
 use Rattle.std.proofs.lemmas.Bool.{cases_lt}
 use Rattle.std.proofs.lemmas.List.{get_or_default}
 use Rattle.std.specs.Prelude.{ℤ, ◌⊎◌, ◌↔◌, IsTrue, slice_index_or}
@@ -22,13 +23,16 @@ total : IsTotalOrder (slice_cmp int_cmp)
 total = lists_total int_cmp_total
 
 tie_is_same : (xs ys : List ℤ) → slice_cmp int_cmp xs ys ≡ Equal → xs ≡ ys
-tie_is_same xs ys e = (slice_eq-Decides Decides-int_eq xs ys (pointwise int_eq xs ys) refl).0 (lists_ties int_cmp (λ a b. refl) xs ys ∙ ap is_eq e)
+tie_is_same xs ys e = (slice_eq-Decides Decides-int_eq xs ys (pointwise int_eq xs ys) refl).0
+    (lists_ties int_cmp (λ a b. refl) xs ys ∙ ap is_eq e)
 
 -- the tails of ascending windows do not fall
-tails_rise : (x y : List ℤ) → window_cmp x y ≡ Less → (slice_cmp int_cmp (drop 1 x) (drop 1 y) ≡ Less) ⊎ (drop 1 x ≡ drop 1 y)
+tails_rise : (x y : List ℤ) → window_cmp x y ≡ Less → (slice_cmp int_cmp (drop 1 x) (drop 1 y) ≡ Less)
+    ⊎ (drop 1 x ≡ drop 1 y)
 tails_rise x y h = go (slice_cmp int_cmp (drop 1 x) (drop 1 y)) refl h
   where
-    go : (o : Ordering) → slice_cmp int_cmp (drop 1 x) (drop 1 y) ≡ o → ordering_then o (slice_cmp int_cmp (take 1 x) (take 1 y)) ≡ Less
+    go : (o : Ordering) → slice_cmp int_cmp (drop 1 x) (drop 1 y) ≡ o
+        → ordering_then o (slice_cmp int_cmp (take 1 x) (take 1 y)) ≡ Less
         → (slice_cmp int_cmp (drop 1 x) (drop 1 y) ≡ Less) ⊎ (drop 1 x ≡ drop 1 y)
     go Less e h = inl e
     go Equal e h = inr (tie_is_same (drop 1 x) (drop 1 y) e)
@@ -45,11 +49,13 @@ IsBelow-earlier x y z up below = elim (tails_rise x y up) [
 pub not_below : (x z : List ℤ) → TailMeetsHead x z → IsBelow x z → ⊥
 not_below x z leads below =
     let tie : slice_cmp int_cmp (drop 1 x) (take (length z - 1) z) ≡ Equal =
-    subst (λ (t : List ℤ). slice_cmp int_cmp t (take (length z - 1) z) ≡ Equal) (sym leads) (tied_itself total (take (length z - 1) z)) in
+    subst (λ (t : List ℤ). slice_cmp int_cmp t (take (length z - 1) z) ≡ Equal) (sym leads)
+    (tied_itself total (take (length z - 1) z)) in
     cc
 
 -- nothing after a window that is past those that lead to another leads to it
-pub none_after : (x y z : List ℤ) → window_cmp x y ≡ Less → (IsBelow x z → ⊥) → (TailMeetsHead x z → ⊥) → TailMeetsHead y z → ⊥
+pub none_after : (x y z : List ℤ) → window_cmp x y ≡ Less → (IsBelow x z → ⊥) → (TailMeetsHead x z → ⊥)
+    → TailMeetsHead y z → ⊥
 none_after x y z up not_under not_leads leads = elim (tails_rise x y up) [
   | inl less ↦ not_under (subst (λ (t : List ℤ). slice_cmp int_cmp (drop 1 x) t ≡ Less) leads less)
   | inr same ↦ not_leads (same ∙ leads)
@@ -70,8 +76,10 @@ IsBelow-true node window passes = less (slice_cmp int_cmp (drop 1 window) (take 
     less Equal e = absurd cc
     less Greater e = absurd cc
 
-pub is_below-from : (node window : List ℤ) (answer : Bool) → (IsTrue answer ↔ IsBelow window node) → answer ≡ is_below node window
-is_below-from node window answer says = same answer (slice_cmp int_cmp (drop 1 window) (take (length node - 1) node)) says
+pub is_below-from : (node window : List ℤ) (answer : Bool) → (IsTrue answer ↔ IsBelow window node)
+    → answer ≡ is_below node window
+is_below-from node window answer says =
+    same answer (slice_cmp int_cmp (drop 1 window) (take (length node - 1) node)) says
   where
     same : (b : Bool) (o : Ordering) → (IsTrue b ↔ (o ≡ Less)) → b ≡ is_lt o
     same b Less h = h.1 refl
@@ -81,13 +89,17 @@ is_below-from node window answer says = same answer (slice_cmp int_cmp (drop 1 w
     same false Greater h = refl
 
 -- of ascending windows those below a node stand before the others
-pub IsPartitionedBy-is_below : (before : List (List ℤ)) (node : List ℤ) → IsAscending before → IsPartitionedBy (is_below node) before
+pub IsPartitionedBy-is_below : (before : List (List ℤ)) (node : List ℤ) → IsAscending before
+    → IsPartitionedBy (is_below node) before
 IsPartitionedBy-is_below before node up i j d le within passes = elim (same_or_before i j le) [
   | inl same ↦ subst (λ (q : ℕ). is_below node (slice_index_or before q d) ≡ true) (sym same) passes
   | inr less ↦
-      let later : IsBelow (node_at before j) node = subst (λ (x : List ℤ). IsBelow x node) (get_or_default before j d [] within) (IsBelow-true node (slice_index_or before j d) passes) in
-      let earlier : IsBelow (node_at before i) node = IsBelow-earlier (node_at before i) (node_at before j) node (up i j less within) later in
-      subst (λ (x : List ℤ). is_below node x ≡ true) (get_or_default before i [] d (omega (arith, less, within))) (ap is_lt earlier)
+      let later : IsBelow (node_at before j) node = subst (λ (x : List ℤ). IsBelow x node)
+      (get_or_default before j d [] within) (IsBelow-true node (slice_index_or before j d) passes) in
+      let earlier : IsBelow (node_at before i) node =
+      IsBelow-earlier (node_at before i) (node_at before j) node (up i j less within) later in
+      subst (λ (x : List ℤ). is_below node x ≡ true) (get_or_default before i [] d (omega (arith, less, within)))
+      (ap is_lt earlier)
 ]
 
 -- the range is that of the windows that lead to the node
@@ -108,24 +120,34 @@ exact before node from to up below above ordered leads stop i within =
     end : TailMeetsHead (node_at before i) node → (i < to) ⊎ (to ≤ i) → i < to
     end here (inl lt) = lt
     end here (inr le) = elim (same_or_before to i le) [
-      | inl same ↦ absurd (stop (omega arith) (subst (λ (q : ℕ). TailMeetsHead (node_at before q) node) (sym same) here))
-      | inr less ↦ absurd (none_after (node_at before to) (node_at before i) node (up to i less within) (above to ordered (omega arith)) (stop (omega arith)) here)
+      | inl same ↦ absurd (stop (omega arith) (subst (λ (q : ℕ). TailMeetsHead (node_at before q) node)
+          (sym same) here))
+      | inr less ↦ absurd (none_after (node_at before to) (node_at before i) node (up to i less within)
+          (above to ordered (omega arith)) (stop (omega arith)) here)
     ]
 
 -- where the windows that lead to a node begin at a place, all before are below and none from there on is
-pub below_before : (before : List (List ℤ)) (node : List ℤ) (place : ℕ) → IsAscending before → BeginAt before node place → (i : ℕ) → i < place → IsBelow (node_at before i) node
+pub below_before : (before : List (List ℤ)) (node : List ℤ) (place : ℕ) → IsAscending before
+    → BeginAt before node place → (i : ℕ) → i < place → IsBelow (node_at before i) node
 below_before before node place up is i lt =
-    let last : IsBelow (node_at before (place - 1)) node = elim (tails_rise (node_at before (place - 1)) (node_at before place) (up (place - 1) place (omega (arith, lt)) is.within)) [
-      | inl less ↦ subst (λ (t : List ℤ). slice_cmp int_cmp (drop 1 (node_at before (place - 1))) t ≡ Less) is.leads less
+    let last : IsBelow (node_at before (place - 1)) node =
+    elim (tails_rise (node_at before (place - 1)) (node_at before place)
+    (up (place - 1) place (omega (arith, lt)) is.within)) [
+      | inl less ↦ subst (λ (t : List ℤ). slice_cmp int_cmp (drop 1 (node_at before (place - 1))) t ≡ Less)
+          is.leads less
       | inr same ↦ absurd (is.first (omega (arith, lt)) (same ∙ is.leads))
     ] in
     elim (same_or_before i (place - 1) (omega (arith, lt))) [
       | inl e ↦ subst (λ (q : ℕ). IsBelow (node_at before q) node) (sym e) last
-      | inr less ↦ IsBelow-earlier (node_at before i) (node_at before (place - 1)) node (up i (place - 1) less (omega (arith, is.within))) last
+      | inr less ↦ IsBelow-earlier (node_at before i) (node_at before (place - 1)) node
+          (up i (place - 1) less (omega (arith, is.within))) last
     ]
 
-pub none_from : (before : List (List ℤ)) (node : List ℤ) (place : ℕ) → IsAscending before → BeginAt before node place → (i : ℕ) → place ≤ i → i < length before → IsBelow (node_at before i) node → ⊥
+pub none_from : (before : List (List ℤ)) (node : List ℤ) (place : ℕ) → IsAscending before → BeginAt before node place
+    → (i : ℕ) → place ≤ i → i < length before → IsBelow (node_at before i) node → ⊥
 none_from before node place up is i le within below = elim (same_or_before place i le) [
-  | inl e ↦ not_below (node_at before place) node is.leads (subst (λ (q : ℕ). IsBelow (node_at before q) node) (sym e) below)
-  | inr less ↦ not_below (node_at before place) node is.leads (IsBelow-earlier (node_at before place) (node_at before i) node (up place i less within) below)
+  | inl e ↦ not_below (node_at before place) node is.leads
+      (subst (λ (q : ℕ). IsBelow (node_at before q) node) (sym e) below)
+  | inr less ↦ not_below (node_at before place) node is.leads
+      (IsBelow-earlier (node_at before place) (node_at before i) node (up place i less within) below)
 ]

@@ -1,5 +1,6 @@
 -- Laws of the windows that extend those of a stage.
-use Rattle.std.proofs.Common.{◌≡◌, ℕ, ◌+◌, ◌-◌, ◌*◌, ◌<◌, ◌≤◌, min, max, List, [], length, get_or, arith, ◌∙◌, sym, ap, inl, inr, subst}
+use Rattle.std.proofs.Common.{◌≡◌, ℕ, ◌+◌, ◌-◌, ◌*◌, ◌<◌, ◌≤◌, min, max, List, [], length, get_or, arith, ◌∙◌, sym, ap}
+use Rattle.std.proofs.Common.{inl, inr, subst}
 use Rattle.std.proofs.lemmas.List.Elements.{Contains-get_or}
 use Rattle.std.proofs.lemmas.List.{get_or_default}
 use Rattle.std.specs.Prelude.{ℤ, pos, ◌⊎◌, ◌↔◌, Contains, Option, Some}
@@ -42,13 +43,24 @@ alike_back xs ys len alike = record {
 -- the windows of start, and the permitted extensions of a window by the ranks below one
 abbrev pub AreAdded : Problem → ℕ → List ℤ → List (List ℤ) → List (List ℤ) → ℕ → Type 0
 AreAdded p stage window start now rank = (x : List ℤ) →
-    Contains now x ↔ (Contains start x ⊎ ((m : ℕ) × (m < rank) × IsPermitted p stage window m × (x ≡ shifted window (offset_after stage m))))
+    Contains now x ↔ (Contains start x ⊎ ((m : ℕ) × (m < rank) × IsPermitted p stage window m
+    × (x ≡ shifted window (offset_after stage m))))
 
-pub added_start : (p : Problem) (stage : ℕ) (window : List ℤ) (start : List (List ℤ)) (rank : ℕ) → rank ≤ max (stage + 1 - p.k) 1 → AreAdded p stage window start start rank
-added_start p stage window start rank low x = (λ has. inl has, λ has. elim has [ inl old ↦ old | inr (m, lt, is, e) ↦ absurd (omega (arith, lt, is.from_one, is.late)) ])
+pub added_start : (p : Problem) (stage : ℕ) (window : List ℤ) (start : List (List ℤ)) (rank : ℕ)
+    → rank ≤ max (stage + 1 - p.k) 1 → AreAdded p stage window start start rank
+added_start p stage window start rank low x = (
+  λ has. inl has,
+  λ has. elim has [
+    | inl old ↦ old
+    | inr (m, lt, is, e) ↦ absurd
+        (omega (arith, lt, is.from_one, is.late))
+  ],
+)
 
-pub added_step : (p : Problem) (stage : ℕ) (window : List ℤ) (start now after : List (List ℤ)) (rank : ℕ) → AreAdded p stage window start now rank
-    → ((x : List ℤ) → Contains after x ↔ (Contains now x ⊎ (IsPermitted p stage window rank × (x ≡ shifted window (offset_after stage rank)))))
+pub added_step : (p : Problem) (stage : ℕ) (window : List ℤ) (start now after : List (List ℤ)) (rank : ℕ)
+    → AreAdded p stage window start now rank
+    → ((x : List ℤ) → Contains after x
+    ↔ (Contains now x ⊎ (IsPermitted p stage window rank × (x ≡ shifted window (offset_after stage rank)))))
     → AreAdded p stage window start after (rank + 1)
 added_step p stage window start now after rank are grew x = (
   λ has. elim ((grew x).0 has) [
@@ -67,16 +79,23 @@ added_step p stage window start now after rank are grew x = (
   ],
 )
 
-pub added_all : (p : Problem) (stage : ℕ) (window : List ℤ) (start now : List (List ℤ)) (rank : ℕ) → min (stage + 1 + p.k) (length p.flights) < rank
-    → AreAdded p stage window start now rank → (x : List ℤ) → Contains now x ↔ (Contains start x ⊎ IsSuccessor p stage window x)
+pub added_all : (p : Problem) (stage : ℕ) (window : List ℤ) (start now : List (List ℤ)) (rank : ℕ)
+    → min (stage + 1 + p.k) (length p.flights) < rank
+    → AreAdded p stage window start now rank → (x : List ℤ) → Contains now x
+    ↔ (Contains start x ⊎ IsSuccessor p stage window x)
 added_all p stage window start now rank high are x = (
   λ has. elim ((are x).0 has) [ inl old ↦ inl old | inr (m, lt, is, e) ↦ inr (m, is, e) ],
-  λ has. elim has [ inl old ↦ (are x).1 (inl old) | inr (m, is, e) ↦ (are x).1 (inr (m, omega (arith, is.early, is.to_count), is, e)) ],
+  λ has. elim has [
+    | inl old ↦ (are x).1 (inl old)
+    | inr (m, is, e) ↦
+        (are x).1 (inr (m, omega (arith, is.early, is.to_count), is, e))
+  ],
 )
 
 -- one window is added where it is permitted
 pub grown : (r : Option (List ℤ)) (P : Type 0) (v y : List ℤ) (now after : List (List ℤ)) → SomeIff r P v → r ≡ Some y
-    → ((x : List ℤ) → Contains after x ↔ (Contains now x ⊎ (x ≡ y))) → (x : List ℤ) → Contains after x ↔ (Contains now x ⊎ (P × (x ≡ v)))
+    → ((x : List ℤ) → Contains after x ↔ (Contains now x ⊎ (x ≡ y))) → (x : List ℤ)
+    → Contains after x ↔ (Contains now x ⊎ (P × (x ≡ v)))
 grown r P v y now after h e grew x =
     let both : P × (y ≡ v) = some_is r P v y h e in (
       λ has. elim ((grew x).0 has) [ inl old ↦ inl old | inr same ↦ inr (both.0, same ∙ both.1) ],
@@ -85,13 +104,17 @@ grown r P v y now after h e grew x =
 
 -- the windows that extend one of the first i
 abbrev pub AreSuccessors : Problem → ℕ → List (List ℤ) → List (List ℤ) → ℕ → Type 0
-AreSuccessors p stage before now i = (x : List ℤ) → Contains now x ↔ ((m : ℕ) × (m < i) × IsSuccessor p stage (node_at before m) x)
+AreSuccessors p stage before now i =
+    (x : List ℤ) → Contains now x ↔ ((m : ℕ) × (m < i) × IsSuccessor p stage (node_at before m) x)
 
-pub successors_more : (p : Problem) (stage : ℕ) (before now after : List (List ℤ)) (i : ℕ) → AreSuccessors p stage before now i
-    → ((x : List ℤ) → Contains after x ↔ (Contains now x ⊎ IsSuccessor p stage (node_at before i) x)) → AreSuccessors p stage before after (i + 1)
+pub successors_more : (p : Problem) (stage : ℕ) (before now after : List (List ℤ)) (i : ℕ)
+    → AreSuccessors p stage before now i
+    → ((x : List ℤ) → Contains after x ↔ (Contains now x ⊎ IsSuccessor p stage (node_at before i) x))
+    → AreSuccessors p stage before after (i + 1)
 successors_more p stage before now after i are grew x = (
   λ has. elim ((grew x).0 has) [
-    | inl old ↦ let s : (m : ℕ) × (m < i) × IsSuccessor p stage (node_at before m) x = (are x).0 old in (s.0, omega (arith, s.1), s.2)
+    | inl old ↦ let s : (m : ℕ) × (m < i) × IsSuccessor p stage (node_at before m) x =
+        (are x).0 old in (s.0, omega (arith, s.1), s.2)
     | inr new ↦ (i, omega arith, new)
   ],
   λ (m, lt, is). elim (last_or_before m i lt) [
@@ -100,7 +123,8 @@ successors_more p stage before now after i are grew x = (
   ],
 )
 
-pub successors_all : (p : Problem) (stage : ℕ) (before now : List (List ℤ)) → AreSuccessors p stage before now (length before)
+pub successors_all : (p : Problem) (stage : ℕ) (before now : List (List ℤ))
+    → AreSuccessors p stage before now (length before)
     → (x : List ℤ) → Contains now x ↔ ((window : List ℤ) × Contains before window × IsSuccessor p stage window x)
 successors_all p stage before now are x = (
   λ has. let s : (m : ℕ) × (m < length before) × IsSuccessor p stage (node_at before m) x = (are x).0 has in
@@ -113,7 +137,8 @@ successors_all p stage before now are x = (
 )
 
 -- where those of the place before are added, those of a window with the same tail are
-pub same_at : (p : Problem) (stage : ℕ) (before now : List (List ℤ)) (i : ℕ) (a b : List ℤ) → 0 < i → i < length before → length b ≡ 2 * p.k + 1 → GoOnAlike b a
+pub same_at : (p : Problem) (stage : ℕ) (before now : List (List ℤ)) (i : ℕ) (a b : List ℤ)
+    → 0 < i → i < length before → length b ≡ 2 * p.k + 1 → GoOnAlike b a
     → a ≡ get_or before (i - 1) a → b ≡ get_or before i b
     → ((x : List ℤ) → IsSuccessor p stage (node_at before (i - 1)) x → Contains now x)
     → (x : List ℤ) → Contains now x ↔ (Contains now x ⊎ IsSuccessor p stage (node_at before i) x)
@@ -128,13 +153,16 @@ same_at p stage before now i a b some within len alike a_is b_is last x =
       ],
     )
 
-pub moved_at : (p : Problem) (stage : ℕ) (before now after : List (List ℤ)) (i : ℕ) (b : List ℤ) → i < length before → b ≡ get_or before i b
+pub moved_at : (p : Problem) (stage : ℕ) (before now after : List (List ℤ)) (i : ℕ) (b : List ℤ)
+    → i < length before → b ≡ get_or before i b
     → ((x : List ℤ) → Contains after x ↔ (Contains now x ⊎ IsSuccessor p stage b x))
     → (x : List ℤ) → Contains after x ↔ (Contains now x ⊎ IsSuccessor p stage (node_at before i) x)
 moved_at p stage before now after i b within b_is grew =
-    subst (λ (z : List ℤ). (x : List ℤ) → Contains after x ↔ (Contains now x ⊎ IsSuccessor p stage z x)) (b_is ∙ get_or_default before i b [] within) grew
+    subst (λ (z : List ℤ). (x : List ℤ) → Contains after x ↔ (Contains now x ⊎ IsSuccessor p stage z x))
+    (b_is ∙ get_or_default before i b [] within) grew
 
 -- the windows of the place before are among those so far
-pub last_added : (p : Problem) (stage : ℕ) (before now : List (List ℤ)) (i : ℕ) → AreSuccessors p stage before now i → 0 < i
+pub last_added : (p : Problem) (stage : ℕ) (before now : List (List ℤ)) (i : ℕ) → AreSuccessors p stage before now i
+    → 0 < i
     → (x : List ℤ) → IsSuccessor p stage (node_at before (i - 1)) x → Contains now x
 last_added p stage before now i are some x is = (are x).1 (i - 1, omega arith, is)

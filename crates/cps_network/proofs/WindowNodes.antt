@@ -11,7 +11,8 @@ use Rattle.cps_network.specs.Nodes.{Node, node_of, latest, IsWindowNetwork, Wind
 use Rattle.cps_network.specs.WindowRanks.{TellTheirRanks}
 
 module _ (p : Problem) (net : IsWindowNetwork p) (tells : TellTheirRanks p) where
-  placed_alike : (rs os : List ℕ) → Legal (ranked p).rules rs → Legal (ranked p).rules os → node_of p.k rs ≡ node_of p.k os → (x : ℕ) → In x rs → In x os
+  placed_alike : (rs os : List ℕ) → Legal (ranked p).rules rs → Legal (ranked p).rules os
+      → node_of p.k rs ≡ node_of p.k os → (x : ℕ) → In x rs → In x os
   placed_alike rs os l m e x i =
       let one = (in_from_one (ranked p).rules x rs (legal_each_fits (ranked p).rules rs l) i).0 in
       (tells os x m one).0 (subst (λ (n : Node). IsPlaced n.1 (pos n.0) (pos x)) e ((tells rs x l one).1 i))

@@ -1,4 +1,5 @@
--- Where the windows that come after a stage come again after another, of the same problem or of one that differs elsewhere.
+-- Where the windows that come after a stage come again after another, of the same problem or of one that differs
+-- elsewhere.
 use Rattle.std.specs.Prelude.{◌≡◌, ℕ, ℤ, ◌+◌, ◌-◌, ◌*◌, ◌<◌, ◌≤◌, ◌⊎◌, ◌↔◌, List, length, min}
 use Rattle.precedence.specs.Pairs.{MustPrecede}
 use Rattle.landing_rules.specs.Problem.{Problem}
@@ -7,8 +8,8 @@ use Rattle.cps_network.specs.Landable.{HoldsCandidates}
 use Rattle.cps_network.specs.Lists.{IsAscending, AreWindows}
 use Rattle.cps_network.specs.Permits.{IsNextOf}
 
--- the stage after a stage of a problem: exactly the windows that extend one of it by a permitted rank, none twice, which are the
--- candidates where it holds the landable ones
+-- the stage after a stage of a problem: exactly the windows that extend one of it by a permitted rank, none twice,
+-- which are the candidates where it holds the landable ones
 pub record IsStageAfter (p : Problem) (before after : ℕ × List (List ℤ)) : Type 0 where
   pub number : after.0 ≡ before.0 + 1
   pub ascending : IsAscending after.1
@@ -17,7 +18,8 @@ pub record IsStageAfter (p : Problem) (before after : ℕ × List (List ℤ)) : 
 
 -- what comes next after windows of a stage of one problem comes next after the same windows of a stage of another
 abbrev pub HaveSameNext : Problem → ℕ → Problem → ℕ → Type 0
-HaveSameNext p a q b = (before after : List (List ℤ)) → AreWindows (2 * q.k + 1) before → IsNextOf p a before after → IsNextOf q b before after
+HaveSameNext p a q b = (before after : List (List ℤ)) → AreWindows (2 * q.k + 1) before → IsNextOf p a before after
+    → IsNextOf q b before after
 
 -- stages of two problems of one k are as far from the first flight and from the last, where these are in reach of them
 pub record AreAsFar (p : Problem) (a : ℕ) (q : Problem) (b : ℕ) : Type 0 where

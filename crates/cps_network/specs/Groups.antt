@@ -6,4 +6,5 @@ use Rattle.cps_network.specs.Lists.{node_at}
 pub record IsGroup (before : List (List ℤ)) (from to : ℕ) : Type 0 where
   pub some : from < to
   pub within : to ≤ length before
-  pub exact : (j : ℕ) → j < length before → (drop 1 (node_at before j) ≡ drop 1 (node_at before from)) ↔ ((from ≤ j) × (j < to))
+  pub exact : (j : ℕ) → j < length before → (drop 1 (node_at before j) ≡ drop 1 (node_at before from))
+      ↔ ((from ≤ j) × (j < to))

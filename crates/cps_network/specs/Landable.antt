@@ -9,10 +9,12 @@ use Rattle.landing_rules.specs.Problem.{Problem}
 use Rattle.cps_network.specs.Nodes.{node_of}
 use Rattle.cps_network.specs.Permits.{IsSuccessor}
 
--- a window of a stage attains a pair of a second and a cost: a legal prefix ends in it whose flights can land at seconds that
--- are open and late enough one after another, the last of them this second, and what these landings cost adds up to this cost
+-- a window of a stage attains a pair of a second and a cost: a legal prefix ends in it whose flights can land at
+-- seconds that are open and late enough one after another, the last of them this second, and what these landings cost
+-- adds up to this cost
 abbrev pub Attains : Problem → ℕ → List ℤ → Pair → Type 0
-Attains p stage xs q = Attained (λ r u. (ranked p).is_open r u ≡ true) (next_from (ranked p)) (cost_at p) (Legal (ranked p).rules) (node_of p.k) (stage, xs) q
+Attains p stage xs q = Attained (λ r u. (ranked p).is_open r u ≡ true) (next_from (ranked p))
+    (cost_at p) (Legal (ranked p).rules) (node_of p.k) (stage, xs) q
 
 -- a window of a stage is landable: it attains some pair
 abbrev pub IsLandable : Problem → ℕ → List ℤ → Type 0
@@ -32,4 +34,5 @@ IsCandidate p stage next = (xs : List ℤ) × IsLandable p stage xs × IsSuccess
 
 -- from the landable windows of a stage come exactly the candidates of the next
 abbrev pub HoldsCandidates : Problem → ℕ × List (List ℤ) → ℕ × List (List ℤ) → Type 0
-HoldsCandidates p before after = HoldsLandable p before → (next : List ℤ) → Contains after.1 next ↔ IsCandidate p before.0 next
+HoldsCandidates p before after = HoldsLandable p before → (next : List ℤ) → Contains after.1 next
+    ↔ IsCandidate p before.0 next

@@ -23,10 +23,11 @@ AreGroups windows ranges = (g : ℕ) → g < length ranges → IsGroup windows (
 abbrev pub front_of : List (List ℤ) → ℕ × ℕ → List ℤ
 front_of windows range = node_at windows range.0
 
--- each range is that of all windows that share one tail, and each window of the second list has the place of a range whose
--- windows lead to it
+-- each range is that of all windows that share one tail, and each window of the second list has the place of a range
+-- whose windows lead to it
 pub record AreLinks (l : Links) : Type 0 where
   pub one_each : length l.places ≡ length l.target
   pub groups : AreGroups l.origin l.ranges
   pub within : (i : ℕ) → i < length l.target → slice_index l.places i < length l.ranges
-  pub leads : (i : ℕ) → i < length l.target → Extends (front_of l.origin (range_at l.ranges (slice_index l.places i))) (node_at l.target i)
+  pub leads : (i : ℕ) → i < length l.target → Extends (front_of l.origin (range_at l.ranges (slice_index l.places i)))
+      (node_at l.target i)

@@ -40,4 +40,5 @@ StepsAreWhole p = (ranks : List ℕ) → Legal (ranked p).rules ranks ↔ IsLega
 
 -- legal prefixes of one stage and window are of one node: they place the same ranks, and the same one last
 abbrev pub WindowsTellNodes : Problem → Type 0
-WindowsTellNodes p = (rs os : List ℕ) → Legal (ranked p).rules rs → Legal (ranked p).rules os → node_of p.k rs ≡ node_of p.k os → AreOneNode rs os
+WindowsTellNodes p = (rs os : List ℕ) → Legal (ranked p).rules rs → Legal (ranked p).rules os
+    → node_of p.k rs ≡ node_of p.k os → AreOneNode rs os

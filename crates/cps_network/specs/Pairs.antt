@@ -13,8 +13,8 @@ use Rattle.cps_network.specs.Lists.{node_at}
 use Rattle.cps_network.specs.Nodes.{latest}
 use Rattle.cps_network.specs.Permits.{IsPermitted}
 
--- the pairs of a window of a stage: exactly the undominated ones that it attains, of which each that it attains has one that is
--- no later and no dearer; they ascend in second and fall in cost
+-- the pairs of a window of a stage: exactly the undominated ones that it attains, of which each that it attains has one
+-- that is no later and no dearer; they ascend in second and fall in cost
 pub record ArePairsOf (p : Problem) (stage : ℕ) (xs : List ℤ) (pairs : List Pair) : Type 0 where
   pub undominated : (q : Pair) → InPairs q pairs ↔ Undominated (Attains p stage xs) q
   pub covers : (q : Pair) → Attains p stage xs q → (o : Pair) × InPairs o pairs × NoWorse o q
@@ -41,12 +41,14 @@ pub record HoldsCosts (p : Problem) (stage : ℕ × List (List ℤ)) (lists : Li
 abbrev pub successor : Problem → ℕ → Pair → ℕ → Option Pair
 successor p last q rank = next_pair (first_at p) (next_from (ranked p)) (cost_at p) last q rank
 
--- the window at a place of a stage leads to a window of the next by a permitted rank, by which the successor of the pair at an
--- index of its list is this pair
-pub record GivesPair (p : Problem) (before : ℕ × List (List ℤ)) (lists : List (List Pair)) (node : List ℤ) (pair : Pair) (place index : ℕ) : Type 0 where
+-- the window at a place of a stage leads to a window of the next by a permitted rank, by which the successor of the
+-- pair at an index of its list is this pair
+pub record GivesPair (p : Problem) (before : ℕ × List (List ℤ)) (lists : List (List Pair))
+    (node : List ℤ) (pair : Pair) (place index : ℕ) : Type 0 where
   pub within : place < length before.1
   pub listed : index < length (list_at lists place)
   pub rank : ℕ
   pub permitted : IsPermitted p before.0 (node_at before.1 place) rank
   pub next : node ≡ shifted (node_at before.1 place) (offset_after before.0 rank)
-  pub lands : successor p (latest (before.0, node_at before.1 place)) (pair_at (list_at lists place) index) rank ≡ Some pair
+  pub lands : successor p (latest (before.0, node_at before.1 place))
+      (pair_at (list_at lists place) index) rank ≡ Some pair

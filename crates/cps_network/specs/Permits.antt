@@ -8,8 +8,8 @@ use Rattle.cps_nodes.specs.Leads.{TailMeetsHead}
 use Rattle.landing_rules.specs.Problem.{Problem}
 use Rattle.cps_problem.specs.Seen.{passed_at}
 
--- a rank is permitted after a window of a stage: it is 1 to n, it lands at most k places before its own, and at most k less the
--- flights that passed it behind it; the window accepts its offset, and each of its predecessors is placed
+-- a rank is permitted after a window of a stage: it is 1 to n, it lands at most k places before its own, and at most k
+-- less the flights that passed it behind it; the window accepts its offset, and each of its predecessors is placed
 pub record IsPermitted (p : Problem) (stage : ℕ) (xs : List ℤ) (rank : ℕ) : Type 0 where
   pub from_one : 1 ≤ rank
   pub to_count : rank ≤ length p.flights
@@ -24,7 +24,8 @@ IsSuccessor p stage xs next = (rank : ℕ) × IsPermitted p stage xs rank × (ne
 
 -- the windows that extend one of a stage by a permitted rank, and no others
 abbrev pub IsNextOf : Problem → ℕ → List (List ℤ) → List (List ℤ) → Type 0
-IsNextOf p stage before after = (next : List ℤ) → Contains after next ↔ ((window : List ℤ) × Contains before window × IsSuccessor p stage window next)
+IsNextOf p stage before after = (next : List ℤ) → Contains after next
+    ↔ ((window : List ℤ) × Contains before window × IsSuccessor p stage window next)
 
 -- where one window of a stage extends to another by a permitted rank, so does each window that leads to it
 abbrev pub LeadAlike : Problem → ℕ → Type 0

@@ -28,10 +28,11 @@ IsAfterFrozen p x = MatchOption p.last ⊤ (λ l. l.0 + separation p.table l.1 (
 
 -- it keeps the separation after an earlier one
 abbrev pub IsSeparatedFrom : Problem → Landing → Landing → Type 0
-IsSeparatedFrom p later earlier = earlier.1 + separation p.table (category_of p earlier.0) (category_of p later.0) ≤ later.1
+IsSeparatedFrom p later earlier =
+    earlier.1 + separation p.table (category_of p earlier.0) (category_of p later.0) ≤ later.1
 
--- a prefix, the latest landing first, lands with these seconds: each is open for its flight, at or after the horizon, and
--- keeps the separation after the last frozen landing and after every earlier one of the prefix
+-- a prefix, the latest landing first, lands with these seconds: each is open for its flight, at or after the horizon,
+-- and keeps the separation after the last frozen landing and after every earlier one of the prefix
 pub record LandsWith (p : Problem) (landings : List Landing) : Type 0 where
   pub opened : All (IsOpenLanding p) landings
   pub from_horizon : All (λ x. p.horizon ≤ x.1) landings
@@ -43,8 +44,8 @@ abbrev pub NeighboursSuffice : Problem → Type 0
 NeighboursSuffice p = (landings : List Landing) → Legal (ranked p).rules (ranks landings)
     → LandedIn (ranked p) landings ↔ LandsWith p landings
 
--- a legal prefix ends in this window of a stage and lands with seconds of which this is the pair: the last of them, and what
--- these landings cost together
+-- a legal prefix ends in this window of a stage and lands with seconds of which this is the pair: the last of them, and
+-- what these landings cost together
 pub record LandsInWindow (p : Problem) (stage : ℕ) (xs : List ℤ) (q : Pair) : Type 0 where
   pub landings : List Landing
   pub legal : Legal (ranked p).rules (ranks landings)

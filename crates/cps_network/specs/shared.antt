@@ -1,5 +1,5 @@
--- Lemmas that crates above cite too: places that are kept, windows of legal prefixes, those that lead to a window, how few a
--- stage has, stages that two problems have in common, what is due, and lists of pairs.
+-- Lemmas that crates above cite too: places that are kept, windows of legal prefixes, those that lead to a window, how
+-- few a stage has, stages that two problems have in common, what is due, and lists of pairs.
 pub mod KeptPlaces
 pub mod LegalWindows
 pub mod LeadingWindows

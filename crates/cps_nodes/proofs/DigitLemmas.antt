@@ -1,5 +1,7 @@
 -- Offsets as digits of numbers: the tail and the head of a window, its order, and one landing more.
-use Rattle.std.proofs.Common.{◌≡◌, ℕ, zero, suc, ◌+◌, ◌-◌, ◌*◌, ◌/◌, ◌%◌, ◌^◌, ◌<◌, ◌≤◌, List, [], ◌∷◌, ◌++◌, drop, take, replicate, refl, ap, ap₂, sym, subst, ◌∙◌, arith, mul-le-mul_right, suc-mul, shr-shr, mod-lt, pow_pos, mod-eq_of_lt, pow-add}
+use Rattle.std.proofs.Common.{◌≡◌, ℕ, zero, suc, ◌+◌, ◌-◌, ◌*◌, ◌/◌, ◌%◌, ◌^◌, ◌<◌, ◌≤◌, List, [], ◌∷◌, ◌++◌, drop}
+use Rattle.std.proofs.Common.{take, replicate, refl, ap, ap₂, sym, subst, ◌∙◌, arith, mul-le-mul_right, suc-mul}
+use Rattle.std.proofs.Common.{shr-shr, mod-lt, pow_pos, mod-eq_of_lt, pow-add}
 use Rattle.std.specs.Prelude.{ℤ, pos, negsuc, nat_abs, ◌-ℤ◌, ◌<ℤ◌, ◌≤ℤ◌, ◌==◌}
 use Rattle.std.proofs.lemmas.Int.{ints}
 use Rattle.std.proofs.lemmas.Nat.{field_of, shr_below}
@@ -12,7 +14,8 @@ use Rattle.std.specs.Cmp.{nat_cmp_is, ranks, int_ranks, unsigned_tied}
 use Rattle.std.specs.Cmp.Lexicographic.{slice_cmp, pointwise, lists_ties}
 use Rattle.cps_nodes.specs.Windows.{offset_at, shifted}
 use Rattle.cps_nodes.specs.WindowOrder.{window_cmp}
-use Rattle.cps_nodes.specs.Digits.{digit_offset, offsets_of, order_key, number_of, length-offsets_of, mod-digit, number-offsets_of}
+use Rattle.cps_nodes.specs.Digits.{digit_offset, offsets_of, order_key, number_of, length-offsets_of, mod-digit}
+use Rattle.cps_nodes.specs.Digits.{number-offsets_of}
 
 -- ---- the order
 
@@ -35,10 +38,12 @@ same_digit a b p m n e = by (nat_cmp m n) (ranks m n)
 -- the higher digit decides before the lower ones
 digits_compare : (a b p m n : ℕ) → m < p → n < p
     → ordering_then (int_cmp (pos a -ℤ pos 8) (pos b -ℤ pos 8)) (nat_cmp m n) ≡ nat_cmp (a * p + m) (b * p + n)
-digits_compare a b p m n l r = by (int_cmp (pos a -ℤ pos 8) (pos b -ℤ pos 8)) (int_ranks (pos a -ℤ pos 8) (pos b -ℤ pos 8))
+digits_compare a b p m n l r =
+    by (int_cmp (pos a -ℤ pos 8) (pos b -ℤ pos 8)) (int_ranks (pos a -ℤ pos 8) (pos b -ℤ pos 8))
   where
     by : (o : Ordering)
-        → MatchOrdering o ((pos a -ℤ pos 8) <ℤ (pos b -ℤ pos 8)) ((pos a -ℤ pos 8) ≡ (pos b -ℤ pos 8)) ((pos b -ℤ pos 8) <ℤ (pos a -ℤ pos 8))
+        → MatchOrdering o ((pos a -ℤ pos 8) <ℤ (pos b -ℤ pos 8)) ((pos a -ℤ pos 8) ≡ (pos b -ℤ pos 8))
+        ((pos b -ℤ pos 8) <ℤ (pos a -ℤ pos 8))
         → ordering_then o (nat_cmp m n) ≡ nat_cmp (a * p + m) (b * p + n)
     by Less h = nat_cmp_is _ _ Less (below a b p m n (omega (arith, ints, h)) l)
     by Equal h = same_digit a b p m n (omega (arith, ints, h))
@@ -49,8 +54,10 @@ pub slice_cmp-offsets_of : (width m n : ℕ)
     → slice_cmp int_cmp (offsets_of width m) (offsets_of width n) ≡ nat_cmp (m % 2 ^ (4 * width)) (n % 2 ^ (4 * width))
 slice_cmp-offsets_of zero m n = nat_cmp_is (m % 2 ^ (4 * 0)) (n % 2 ^ (4 * 0)) Equal (omega arith)
 slice_cmp-offsets_of (suc width) m n =
-    ap (λ (o : Ordering). ordering_then (int_cmp (digit_offset m width) (digit_offset n width)) o) (slice_cmp-offsets_of width m n)
-    ∙ digits_compare (m / 2 ^ (4 * width) % 16) (n / 2 ^ (4 * width) % 16) (2 ^ (4 * width)) (m % 2 ^ (4 * width)) (n % 2 ^ (4 * width))
+    ap (λ (o : Ordering). ordering_then (int_cmp (digit_offset m width) (digit_offset n width)) o)
+    (slice_cmp-offsets_of width m n)
+    ∙ digits_compare (m / 2 ^ (4 * width) % 16) (n / 2 ^ (4 * width) % 16) (2 ^ (4 * width))
+    (m % 2 ^ (4 * width)) (n % 2 ^ (4 * width))
     (mod-lt m (pow_pos (4 * width))) (mod-lt n (pow_pos (4 * width)))
     ∙ ap₂ nat_cmp (sym (mod-digit m width)) (sym (mod-digit n width))
 
@@ -64,7 +71,8 @@ digit_offset-mod i more number =
     ∙ field_of number (4 * more + 4) (4 * i))
     ∙ ap (λ (d : ℕ). pos d -ℤ pos 8) (mod-mod-pow (number / 2 ^ (4 * i)) (4 * more) 4)
 
-offsets_of-mod : (width more number : ℕ) → offsets_of width (number % 2 ^ (4 * (width + more))) ≡ offsets_of width number
+offsets_of-mod : (width more number : ℕ)
+    → offsets_of width (number % 2 ^ (4 * (width + more))) ≡ offsets_of width number
 offsets_of-mod zero more number = refl
 offsets_of-mod (suc width) more number =
     let first : digit_offset (number % 2 ^ (4 * (suc width + more))) width ≡ digit_offset number width =
@@ -74,7 +82,8 @@ offsets_of-mod (suc width) more number =
     ap₂ (λ (x : ℤ) (xs : List ℤ). x ∷ xs) first others
 
 -- the offsets without the last are those of the digits without the lowest
-offsets_of-push : (width number : ℕ) → offsets_of width (number / 16) ++ digit_offset number 0 ∷ [] ≡ offsets_of (suc width) number
+offsets_of-push : (width number : ℕ) → offsets_of width (number / 16)
+    ++ digit_offset number 0 ∷ [] ≡ offsets_of (suc width) number
 offsets_of-push zero number = refl
 offsets_of-push (suc width) number =
     let first : digit_offset (number / 16) width ≡ digit_offset number (suc width) =
@@ -82,14 +91,16 @@ offsets_of-push (suc width) number =
     shr-shr number 4 (4 * width) ∙ ap (λ (e : ℕ). number / 2 ^ e) (omega arith)) in
     ap₂ (λ (x : ℤ) (xs : List ℤ). x ∷ xs) first (offsets_of-push width number)
 
-pub tail-offsets_of : (width number : ℕ) → 0 < width → drop 1 (offsets_of width number) ≡ offsets_of (width - 1) (number % 2 ^ (4 * (width - 1)))
+pub tail-offsets_of : (width number : ℕ) → 0 < width
+    → drop 1 (offsets_of width number) ≡ offsets_of (width - 1) (number % 2 ^ (4 * (width - 1)))
 tail-offsets_of zero number some = absurd (omega arith)
 tail-offsets_of (suc width) number some =
     let all : offsets_of width (number % 2 ^ (4 * width)) ≡ offsets_of width number =
     ap (λ (e : ℕ). offsets_of width (number % 2 ^ (4 * e))) (omega arith) ∙ offsets_of-mod width 0 number in
     sym all ∙ ap (λ (e : ℕ). offsets_of e (number % 2 ^ (4 * e))) (omega arith)
 
-pub head-offsets_of : (width number : ℕ) → 0 < width → take (width - 1) (offsets_of width number) ≡ offsets_of (width - 1) (number / 16)
+pub head-offsets_of : (width number : ℕ) → 0 < width
+    → take (width - 1) (offsets_of width number) ≡ offsets_of (width - 1) (number / 16)
 head-offsets_of zero number some = absurd (omega arith)
 head-offsets_of (suc width) number some =
     let front : offsets_of width (number / 16) ≡ take width (offsets_of (suc width) number) =
@@ -103,13 +114,15 @@ head_lt width number some few =
     shr_below number (4 * (width - 1)) 4 (subst (λ (e : ℕ). number < 2 ^ e) (omega arith) few)
 
 -- numbers of so many digits that stand for the same offsets are one
-pub same-offsets_of : (width m n : ℕ) → m < 2 ^ (4 * width) → n < 2 ^ (4 * width) → offsets_of width m ≡ offsets_of width n → m ≡ n
+pub same-offsets_of : (width m n : ℕ) → m < 2 ^ (4 * width) → n < 2 ^ (4 * width)
+    → offsets_of width m ≡ offsets_of width n → m ≡ n
 same-offsets_of width m n l r e =
     sym (mod-eq_of_lt l) ∙ sym (number-offsets_of width m) ∙ ap number_of e ∙ number-offsets_of width n ∙ mod-eq_of_lt r
 
 -- ---- one offset
 
-pub offset_at-offsets_of : (width number i : ℕ) → i < width → offset_at (offsets_of width number) i ≡ digit_offset number (width - 1 - i)
+pub offset_at-offsets_of : (width number i : ℕ) → i < width
+    → offset_at (offsets_of width number) i ≡ digit_offset number (width - 1 - i)
 offset_at-offsets_of zero number i lt = absurd (omega arith)
 offset_at-offsets_of (suc width) number zero lt = ap (digit_offset number) (omega arith)
 offset_at-offsets_of (suc width) number (suc i) lt =
@@ -123,20 +136,24 @@ abs_is (pos n) low = refl
 abs_is (negsuc n) low = absurd (omega (arith, ints, low))
 
 pub shifted-offsets_of : (width number digit : ℕ) → 0 < width → digit < 16
-    → offsets_of width (number % 2 ^ (4 * (width - 1)) * 16 + digit) ≡ shifted (offsets_of width number) (pos digit -ℤ pos 8)
+    → offsets_of width (number % 2 ^ (4 * (width - 1)) * 16 + digit) ≡ shifted (offsets_of width number)
+    (pos digit -ℤ pos 8)
 shifted-offsets_of zero number digit some small = absurd (omega arith)
 shifted-offsets_of (suc width) number digit some small =
     let tail : ℕ = number % 2 ^ (4 * (suc width - 1)) in
     let e : offsets_of width (number % 2 ^ (4 * (suc width - 1))) ≡ drop 1 (offsets_of (suc width) number) =
-    ap (λ (n : ℕ). offsets_of n (number % 2 ^ (4 * (suc width - 1)))) (omega arith) ∙ sym (tail-offsets_of (suc width) number some) in
+    ap (λ (n : ℕ). offsets_of n (number % 2 ^ (4 * (suc width - 1)))) (omega arith)
+    ∙ sym (tail-offsets_of (suc width) number some) in
     sym (offsets_of-push width (number % 2 ^ (4 * (suc width - 1)) * 16 + digit))
     ∙ ap₂ (λ (n d : ℕ). offsets_of width n ++ (pos d -ℤ pos 8) ∷ []) (omega arith) (omega arith)
     ∙ ap (λ (xs : List ℤ). xs ++ (pos digit -ℤ pos 8) ∷ []) e
 
-pub shifted_lt : (width number digit : ℕ) → 0 < width → digit < 16 → number % 2 ^ (4 * (width - 1)) * 16 + digit < 2 ^ (4 * width)
+pub shifted_lt : (width number digit : ℕ) → 0 < width → digit < 16
+    → number % 2 ^ (4 * (width - 1)) * 16 + digit < 2 ^ (4 * width)
 shifted_lt width number digit some small =
     let tail : number % 2 ^ (4 * (width - 1)) < 2 ^ (4 * (width - 1)) = mod-lt number (pow_pos (4 * (width - 1))) in
-    let whole : 2 ^ (4 * width) ≡ 2 ^ (4 * (width - 1)) * 16 = ap (λ (e : ℕ). 2 ^ e) (omega arith) ∙ pow-add 2 (4 * (width - 1)) 4 in
+    let whole : 2 ^ (4 * width) ≡ 2 ^ (4 * (width - 1)) * 16 =
+    ap (λ (e : ℕ). 2 ^ e) (omega arith) ∙ pow-add 2 (4 * (width - 1)) 4 in
     omega arith
 
 -- ---- before the first landing
@@ -157,9 +174,11 @@ zeros zero few = refl
 zeros (suc width) few =
     ap₂ (λ (d : ℕ) (xs : List ℤ). (pos d -ℤ pos 8) ∷ xs) (eights width (omega arith)) (zeros width (omega arith))
 
-pub offsets_of-source : (width : ℕ) → width < 9 → offsets_of width (2290649224 % 2 ^ (4 * width)) ≡ replicate width (pos 0)
+pub offsets_of-source : (width : ℕ) → width < 9
+    → offsets_of width (2290649224 % 2 ^ (4 * width)) ≡ replicate width (pos 0)
 offsets_of-source width few =
-    ap (λ (e : ℕ). offsets_of width (2290649224 % 2 ^ (4 * e))) (omega arith) ∙ offsets_of-mod width 0 2290649224 ∙ zeros width few
+    ap (λ (e : ℕ). offsets_of width (2290649224 % 2 ^ (4 * e))) (omega arith) ∙ offsets_of-mod width 0 2290649224
+    ∙ zeros width few
 
 -- ---- equality and the order of windows
 
@@ -174,7 +193,8 @@ int_cmp_digits : (a b : ℕ) → int_cmp (pos a -ℤ pos 8) (pos b -ℤ pos 8) �
 int_cmp_digits a b = by (int_cmp (pos a -ℤ pos 8) (pos b -ℤ pos 8)) (int_ranks (pos a -ℤ pos 8) (pos b -ℤ pos 8))
   where
     by : (o : Ordering)
-        → MatchOrdering o ((pos a -ℤ pos 8) <ℤ (pos b -ℤ pos 8)) ((pos a -ℤ pos 8) ≡ (pos b -ℤ pos 8)) ((pos b -ℤ pos 8) <ℤ (pos a -ℤ pos 8))
+        → MatchOrdering o ((pos a -ℤ pos 8) <ℤ (pos b -ℤ pos 8)) ((pos a -ℤ pos 8) ≡ (pos b -ℤ pos 8))
+        ((pos b -ℤ pos 8) <ℤ (pos a -ℤ pos 8))
         → o ≡ nat_cmp a b
     by Less h = nat_cmp_is a b Less (omega (arith, ints, h))
     by Equal h = nat_cmp_is a b Equal (omega (arith, ints, h))
@@ -187,16 +207,19 @@ then_Equal Greater = refl
 
 -- the tails decide before the first digits
 keys_compare : (a b c d : ℕ) → c < 16 → d < 16
-    → ordering_then (nat_cmp a b) (ordering_then (int_cmp (pos c -ℤ pos 8) (pos d -ℤ pos 8)) Equal) ≡ nat_cmp (a * 16 + c) (b * 16 + d)
+    → ordering_then (nat_cmp a b) (ordering_then (int_cmp (pos c -ℤ pos 8) (pos d -ℤ pos 8)) Equal) ≡ nat_cmp
+    (a * 16 + c) (b * 16 + d)
 keys_compare a b c d l r =
-    ap₂ ordering_then (sym (int_cmp_digits a b)) (then_Equal (int_cmp (pos c -ℤ pos 8) (pos d -ℤ pos 8)) ∙ int_cmp_digits c d)
+    ap₂ ordering_then (sym (int_cmp_digits a b)) (then_Equal (int_cmp (pos c -ℤ pos 8) (pos d -ℤ pos 8))
+    ∙ int_cmp_digits c d)
     ∙ digits_compare a b 16 c d l r
 
 pub window_cmp-offsets_of : (width m n : ℕ) → 0 < width → m < 2 ^ (4 * width) → n < 2 ^ (4 * width)
     → window_cmp (offsets_of width m) (offsets_of width n) ≡ nat_cmp (order_key width m) (order_key width n)
 window_cmp-offsets_of zero m n some l r = absurd (omega arith)
 window_cmp-offsets_of (suc width) m n some l r =
-    ap (λ (o : Ordering). ordering_then o (ordering_then (int_cmp (digit_offset m width) (digit_offset n width)) Equal)) (slice_cmp-offsets_of width m n)
+    ap (λ (o : Ordering). ordering_then o (ordering_then (int_cmp (digit_offset m width) (digit_offset n width)) Equal))
+    (slice_cmp-offsets_of width m n)
     ∙ keys_compare (m % 2 ^ (4 * width)) (n % 2 ^ (4 * width)) (m / 2 ^ (4 * width) % 16) (n / 2 ^ (4 * width) % 16)
     (mod-lt (m / 2 ^ (4 * width)) (omega arith)) (mod-lt (n / 2 ^ (4 * width)) (omega arith))
     ∙ ap₂ nat_cmp (key m l) (key n r)

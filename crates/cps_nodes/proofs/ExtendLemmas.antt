@@ -1,34 +1,49 @@
 -- A list of landings goes on exactly where its window accepts the next one.
-use Rattle.std.proofs.Common.{◌≡◌, ℕ, ◌+◌, ◌-◌, ◌/◌, ◌*◌, ◌<◌, ◌≤◌, List, [], ◌∷◌, ◌++◌, length, drop, get_or, refl, arith, length-append, replicate, append_assoc, ◌∙◌, sym, ap, ap₂, inl, inr, subst, zero, suc}
+use Rattle.std.proofs.Common.{◌≡◌, ℕ, ◌+◌, ◌-◌, ◌/◌, ◌*◌, ◌<◌, ◌≤◌, List, [], ◌∷◌, ◌++◌, length, drop, get_or, refl}
+use Rattle.std.proofs.Common.{arith, length-append, replicate, append_assoc, ◌∙◌, sym, ap, ap₂, inl, inr, subst, zero}
+use Rattle.std.proofs.Common.{suc}
 use Rattle.std.specs.Prelude.{ℤ, pos, ◌+ℤ◌, ◌-ℤ◌, ◌≤ℤ◌, ◌⊎◌, Contains}
 use Rattle.std.proofs.lemmas.Int.{ints}
-use Rattle.std.proofs.lemmas.List.{get_or_default, get_or_append_left, get_or_push, length-replicate, drop-append-le, drop-drop}
+use Rattle.std.proofs.lemmas.List.{get_or_default, get_or_append_left, get_or_push, length-replicate, drop-append-le}
+use Rattle.std.proofs.lemmas.List.{drop-drop}
 use Rattle.std.proofs.lemmas.List.Elements.{Contains-append_left, Contains-push_cases}
 use Rattle.std.proofs.lemmas.Bool.{cases_lt}
 use Rattle.cps_nodes.specs.Windows.{IsWidth, HoldsRank, Accepts, offset_at, shifted}
 use Rattle.cps_nodes.specs.Ranks.{RanksKeepShift, offsets_from, window_of}
 use Rattle.cps_nodes.specs.Laws.{offset_after, FollowRanks}
-use Rattle.cps_nodes.proofs.PrefixLemmas.{HasLanded-from_IsPlaced, IsPlaced-from_HasLanded, length-offsets_from, length-window_of, offset_at-window_of_early, offset_at-window_of}
+use Rattle.cps_nodes.proofs.PrefixLemmas.{HasLanded-from_IsPlaced, IsPlaced-from_HasLanded, length-offsets_from}
+use Rattle.cps_nodes.proofs.PrefixLemmas.{length-window_of, offset_at-window_of_early, offset_at-window_of}
 
-offsets_from-push : (place : ℕ) (ranks : List ℕ) (r : ℕ) → offsets_from place (ranks ++ r ∷ []) ≡ offsets_from place ranks ++ (pos r -ℤ pos (place + length ranks)) ∷ []
+offsets_from-push : (place : ℕ) (ranks : List ℕ) (r : ℕ)
+    → offsets_from place (ranks ++ r ∷ []) ≡ offsets_from place ranks ++ (pos r -ℤ pos (place + length ranks)) ∷ []
 offsets_from-push place [] r = ap (λ (q : ℕ). (pos r -ℤ pos q) ∷ []) (omega arith)
 offsets_from-push place (x ∷ ranks) r =
     ap (λ (zs : List ℤ). (pos x -ℤ pos place) ∷ zs) (offsets_from-push (place + 1) ranks r
     ∙ ap (λ (q : ℕ). offsets_from (place + 1) ranks ++ (pos r -ℤ pos q) ∷ []) (omega arith))
 
 -- one landing more shifts the window
-pub window_of-push : (w : ℕ) (ranks : List ℕ) (r : ℕ) → 0 < w → window_of w (ranks ++ r ∷ []) ≡ shifted (window_of w ranks) (pos r -ℤ pos (1 + length ranks))
+pub window_of-push : (w : ℕ) (ranks : List ℕ) (r : ℕ) → 0 < w
+    → window_of w (ranks ++ r ∷ []) ≡ shifted (window_of w ranks) (pos r -ℤ pos (1 + length ranks))
 window_of-push w ranks r some =
     let all : List ℤ = replicate w (pos 0) ++ offsets_from 1 ranks in
     let x : ℤ = pos r -ℤ pos (1 + length ranks) in
     let long : length ranks + 1 ≤ length (replicate w (pos 0) ++ offsets_from 1 ranks) =
-    omega (arith, length-append (replicate w (pos 0)) (offsets_from 1 ranks), length-replicate w (pos 0), length-offsets_from 1 ranks) in
+    omega (
+      arith,
+      length-append (replicate w (pos 0)) (offsets_from 1 ranks),
+      length-replicate w
+          (pos 0),
+      length-offsets_from 1 ranks,
+    ) in
     let len : length (ranks ++ r ∷ []) ≡ length ranks + 1 = length-append ranks (r ∷ []) in
     ap (λ (n : ℕ). drop n (replicate w (pos 0) ++ offsets_from 1 (ranks ++ r ∷ []))) len
     ∙ ap (λ (zs : List ℤ). drop (length ranks + 1) (replicate w (pos 0) ++ zs)) (offsets_from-push 1 ranks r)
-    ∙ ap (drop (length ranks + 1)) (sym (append_assoc (replicate w (pos 0)) (offsets_from 1 ranks) ((pos r -ℤ pos (1 + length ranks)) ∷ [])))
-    ∙ drop-append-le (length ranks + 1) (replicate w (pos 0) ++ offsets_from 1 ranks) ((pos r -ℤ pos (1 + length ranks)) ∷ []) long
-    ∙ ap (λ (zs : List ℤ). zs ++ (pos r -ℤ pos (1 + length ranks)) ∷ []) (sym (drop-drop 1 (length ranks) (replicate w (pos 0) ++ offsets_from 1 ranks)))
+    ∙ ap (drop (length ranks + 1))
+    (sym (append_assoc (replicate w (pos 0)) (offsets_from 1 ranks) ((pos r -ℤ pos (1 + length ranks)) ∷ [])))
+    ∙ drop-append-le (length ranks + 1) (replicate w (pos 0) ++ offsets_from 1 ranks)
+    ((pos r -ℤ pos (1 + length ranks)) ∷ []) long
+    ∙ ap (λ (zs : List ℤ). zs ++ (pos r -ℤ pos (1 + length ranks)) ∷ [])
+    (sym (drop-drop 1 (length ranks) (replicate w (pos 0) ++ offsets_from 1 ranks)))
 
 -- a window holds the rank of each landing that is at most its width ago
 holds_landing : (w : ℕ) (ranks : List ℕ) (j : ℕ) (rank : ℤ) → j < length ranks → length ranks ≤ j + w
@@ -40,7 +55,8 @@ holds_landing w ranks j rank lt late e =
 
 -- what a window holds is a landing or a place before the first
 landing_held : (w : ℕ) (ranks : List ℕ) (rank : ℤ) → HoldsRank (window_of w ranks) rank
-    → (rank ≤ℤ (pos w -ℤ pos (1 + length ranks))) ⊎ ((j : ℕ) × (j < length ranks) × (rank ≡ pos (get_or ranks j 0) -ℤ pos (1 + length ranks) +ℤ pos w))
+    → (rank ≤ℤ (pos w -ℤ pos (1 + length ranks)))
+    ⊎ ((j : ℕ) × (j < length ranks) × (rank ≡ pos (get_or ranks j 0) -ℤ pos (1 + length ranks) +ℤ pos w))
 landing_held w ranks rank (i, lt, e) =
     let len : length (window_of w ranks) ≡ w = length-window_of w ranks in
     elim (cases_lt (length ranks + i) w) [
@@ -48,13 +64,15 @@ landing_held w ranks rank (i, lt, e) =
           let z : offset_at (window_of w ranks) i ≡ pos 0 = offset_at-window_of_early w ranks i early in
           inl (omega (arith, ints, e))
       | inr late ↦
-          let at : offset_at (window_of w ranks) i ≡ pos (get_or ranks (length ranks + i - w) 0) -ℤ pos (1 + (length ranks + i - w)) =
+          let at : offset_at (window_of w ranks) i ≡ pos (get_or ranks (length ranks + i - w) 0) -ℤ pos
+          (1 + (length ranks + i - w)) =
           offset_at-window_of w ranks i (length ranks + i - w) (omega arith) (omega (arith, lt)) in
           inr (length ranks + i - w, omega (arith, lt), omega (arith, ints, e))
     ]
 
 -- a list of landings that goes on is accepted by its window
-pub Accepts-from_KeepsShift : (most w : ℕ) (ranks : List ℕ) (r : ℕ) → w ≡ 2 * most + 1 → RanksKeepShift most (ranks ++ r ∷ [])
+pub Accepts-from_KeepsShift : (most w : ℕ) (ranks : List ℕ) (r : ℕ) → w ≡ 2 * most + 1
+    → RanksKeepShift most (ranks ++ r ∷ [])
     → Accepts (window_of w ranks) (pos r -ℤ pos (1 + length ranks))
 Accepts-from_KeepsShift most w ranks r odd is =
     let len : length (window_of w ranks) ≡ w = length-window_of w ranks in
@@ -67,13 +85,16 @@ Accepts-from_KeepsShift most w ranks r odd is =
             let old : get_or (ranks ++ r ∷ []) j 0 ≡ get_or ranks j 0 = get_or_append_left ranks (r ∷ []) 0 j lt in
             is.differ j (length ranks) lt (omega arith) (omega (arith, ints, e))
       ];
-      due = subst (λ (zs : List ℤ). HoldsRank zs (pos (length (window_of w ranks) / 2))) (window_of-push w ranks r (omega arith)) (
+      due = subst (λ (zs : List ℤ). HoldsRank zs (pos (length (window_of w ranks) / 2)))
+          (window_of-push w ranks r (omega arith)) (
           elim (cases_lt (length ranks) most) [
             | inl early ↦
-                let z : offset_at (window_of w (ranks ++ r ∷ [])) most ≡ pos 0 = offset_at-window_of_early w (ranks ++ r ∷ []) most (omega arith) in
+                let z : offset_at (window_of w (ranks ++ r ∷ [])) most ≡ pos 0 =
+                offset_at-window_of_early w (ranks ++ r ∷ []) most (omega arith) in
                 (most, omega (arith, length-window_of w (ranks ++ r ∷ [])), omega (arith, ints))
             | inr late ↦
-                let stands : Contains (ranks ++ r ∷ []) (length ranks + 1 - most) = is.due (length ranks + 1 - most) (omega arith) (omega arith) in
+                let stands : Contains (ranks ++ r ∷ []) (length ranks + 1 - most) =
+                is.due (length ranks + 1 - most) (omega arith) (omega arith) in
                 let at : get_or (ranks ++ r ∷ []) stands.0 0 ≡ length ranks + 1 - most =
                 get_or_default (ranks ++ r ∷ []) stands.0 0 _ stands.1 ∙ stands.2 in
                 let near : get_or (ranks ++ r ∷ []) stands.0 0 ≤ stands.0 + 1 + most = is.early stands.0 stands.1 in
@@ -85,8 +106,14 @@ Accepts-from_KeepsShift most w ranks r odd is =
 not_zero : (most w : ℕ) (ranks : List ℕ) (r : ℕ) → w ≡ 2 * most + 1 → length ranks + 1 ≤ r + most
     → Accepts (window_of w ranks) (pos r -ℤ pos (1 + length ranks)) → 0 < r
 not_zero most w ranks zero odd late can =
-    let z : offset_at (window_of w ranks) (w - 1 - length ranks) ≡ pos 0 = offset_at-window_of_early w ranks (w - 1 - length ranks) (omega arith) in
-    absurd (can.fresh (w - 1 - length ranks, omega (arith, length-window_of w ranks), omega (arith, ints, length-window_of w ranks)))
+    let z : offset_at (window_of w ranks) (w - 1 - length ranks) ≡ pos 0 =
+    offset_at-window_of_early w ranks (w - 1 - length ranks) (omega arith) in
+    absurd (can.fresh (
+      w - 1 - length ranks,
+      omega (arith, length-window_of w ranks),
+      omega
+          (arith, ints, length-window_of w ranks),
+    ))
 not_zero most w ranks (suc r) odd late can = omega arith
 
 -- and what its window accepts goes on
@@ -111,7 +138,8 @@ KeepsShift-from_Accepts most w ranks r odd is early late can =
         | inl old ↦ rw (get_or_append_left ranks (r ∷ []) 0 i old) (is.late i old)
       ];
       differ = λ i j lt within same.
-          let old : get_or (ranks ++ r ∷ []) i 0 ≡ get_or ranks i 0 = get_or_append_left ranks (r ∷ []) 0 i (omega arith) in
+          let old : get_or (ranks ++ r ∷ []) i 0 ≡ get_or ranks i 0 =
+          get_or_append_left ranks (r ∷ []) 0 i (omega arith) in
           elim (cases_lt j (length ranks)) [
             | inr past ↦
                 let last : get_or (ranks ++ r ∷ []) j 0 ≡ r = get_or_push ranks r 0 j (omega arith) in
@@ -120,14 +148,16 @@ KeepsShift-from_Accepts most w ranks r odd is early late can =
                   | inr near ↦ can.fresh (holds_landing w ranks i _ (omega arith) near (omega (arith, ints)))
                 ]
             | inl before ↦
-                let second : get_or (ranks ++ r ∷ []) j 0 ≡ get_or ranks j 0 = get_or_append_left ranks (r ∷ []) 0 j before in
+                let second : get_or (ranks ++ r ∷ []) j 0 ≡ get_or ranks j 0 =
+                get_or_append_left ranks (r ∷ []) 0 j before in
                 is.differ i j lt before (omega arith)
           ];
       due = λ rank positive passed. elim (cases_lt (rank + most) (length ranks + 1)) [
         | inl long_due ↦ Contains-append_left ranks (r ∷ []) rank (is.due rank positive (omega arith))
         | inr now_due ↦
             let held : HoldsRank (window_of w (ranks ++ r ∷ [])) (pos (length (window_of w ranks) / 2)) =
-            subst (λ (zs : List ℤ). HoldsRank zs (pos (length (window_of w ranks) / 2))) (sym (window_of-push w ranks r (omega arith))) can.due in
+            subst (λ (zs : List ℤ). HoldsRank zs (pos (length (window_of w ranks) / 2)))
+            (sym (window_of-push w ranks r (omega arith))) can.due in
             elim (landing_held w (ranks ++ r ∷ []) _ held) [
               | inl before ↦ absurd (omega (arith, ints, before))
               | inr (j, lt, e) ↦
@@ -138,14 +168,16 @@ KeepsShift-from_Accepts most w ranks r odd is early late can =
     }
 
 -- without its last rank a list keeps the shift rule
-pub KeepsShift-front : (most : ℕ) (ranks : List ℕ) (r : ℕ) → RanksKeepShift most (ranks ++ r ∷ []) → RanksKeepShift most ranks
+pub KeepsShift-front : (most : ℕ) (ranks : List ℕ) (r : ℕ) → RanksKeepShift most (ranks ++ r ∷ [])
+    → RanksKeepShift most ranks
 KeepsShift-front most ranks r is =
     let longer : length (ranks ++ r ∷ []) ≡ length ranks + 1 = length-append ranks (r ∷ []) in
     let last : get_or (ranks ++ r ∷ []) (length ranks) 0 ≡ r = get_or_push ranks r 0 (length ranks) refl in
     record {
       positive = λ i lt. rw (get_or_append_left ranks (r ∷ []) 0 i lt) at (is.positive i (omega arith));
       differ = λ i j lt within same. is.differ i j lt (omega arith)
-          (get_or_append_left ranks (r ∷ []) 0 i (omega arith) ∙ same ∙ sym (get_or_append_left ranks (r ∷ []) 0 j within));
+          (get_or_append_left ranks (r ∷ []) 0 i (omega arith) ∙ same
+          ∙ sym (get_or_append_left ranks (r ∷ []) 0 j within));
       early = λ i lt. rw (get_or_append_left ranks (r ∷ []) 0 i lt) at (is.early i (omega arith));
       late = λ i lt. rw (get_or_append_left ranks (r ∷ []) 0 i lt) at (is.late i (omega arith));
       due = λ rank some passed. elim (Contains-push_cases ranks r rank (is.due rank some (omega arith))) [
@@ -164,7 +196,8 @@ KeepsShift-none most = record {
 }
 
 -- the offset of the last rank
-pub offset_at-window_of_last : (w : ℕ) (ranks : List ℕ) (r : ℕ) → 0 < w → offset_at (window_of w (ranks ++ r ∷ [])) (w - 1) ≡ pos r -ℤ pos (1 + length ranks)
+pub offset_at-window_of_last : (w : ℕ) (ranks : List ℕ) (r : ℕ) → 0 < w
+    → offset_at (window_of w (ranks ++ r ∷ [])) (w - 1) ≡ pos r -ℤ pos (1 + length ranks)
 offset_at-window_of_last w ranks r some =
     let longer : length (ranks ++ r ∷ []) ≡ length ranks + 1 = length-append ranks (r ∷ []) in
     offset_at-window_of w (ranks ++ r ∷ []) (w - 1) (length ranks) (omega arith) (omega arith)
@@ -175,23 +208,27 @@ offset_turned : (n rank : ℕ) → (pos rank -ℤ pos (n + 1)) ≡ (pos rank -�
 offset_turned n rank = ap (λ (m : ℕ). pos rank -ℤ pos m) (omega arith)
 
 -- a window accepts the next rank, and is then that of the longer list
-pub accepted_ranks : (w : ℕ) (xs : List ℤ) (ranks : List ℕ) (rank : ℕ) (o : ℤ) → IsWidth w → pos 0 ≤ℤ (o +ℤ pos (w / 2)) → o ≤ℤ pos (w / 2)
+pub accepted_ranks : (w : ℕ) (xs : List ℤ) (ranks : List ℕ) (rank : ℕ) (o : ℤ) → IsWidth w
+    → pos 0 ≤ℤ (o +ℤ pos (w / 2)) → o ≤ℤ pos (w / 2)
     → RanksKeepShift (w / 2) ranks → xs ≡ window_of w ranks → o ≡ pos rank -ℤ pos (length ranks + 1)
     → Accepts xs o → RanksKeepShift (w / 2) (ranks ++ rank ∷ []) × (shifted xs o ≡ window_of w (ranks ++ rank ∷ []))
 accepted_ranks w xs ranks rank o wide low high is at e can =
     let turned : o ≡ pos rank -ℤ pos (1 + length ranks) = e ∙ offset_turned (length ranks) rank in
     let here : Accepts (window_of w ranks) (pos rank -ℤ pos (1 + length ranks)) =
     subst (λ (z : ℤ). Accepts (window_of w ranks) z) turned (subst (λ (ys : List ℤ). Accepts ys o) at can) in (
-      KeepsShift-from_Accepts (w / 2) w ranks rank (omega (arith, wide)) is (omega (arith, ints)) (omega (arith, ints)) here,
+      KeepsShift-from_Accepts (w / 2) w ranks rank (omega (arith, wide)) is (omega (arith, ints))
+          (omega (arith, ints)) here,
       ap₂ shifted at turned ∙ sym (window_of-push w ranks rank (omega (arith, wide))),
     )
 
 -- a list that goes on is accepted
-pub ranks_accepted : (w : ℕ) (xs : List ℤ) (ranks : List ℕ) (rank : ℕ) (o : ℤ) → IsWidth w → xs ≡ window_of w ranks → o ≡ pos rank -ℤ pos (length ranks + 1)
+pub ranks_accepted : (w : ℕ) (xs : List ℤ) (ranks : List ℕ) (rank : ℕ) (o : ℤ) → IsWidth w
+    → xs ≡ window_of w ranks → o ≡ pos rank -ℤ pos (length ranks + 1)
     → RanksKeepShift (w / 2) (ranks ++ rank ∷ []) → Accepts xs o
 ranks_accepted w xs ranks rank o wide at e is =
     let turned : o ≡ pos rank -ℤ pos (1 + length ranks) = e ∙ offset_turned (length ranks) rank in
-    let here : Accepts (window_of w ranks) (pos rank -ℤ pos (1 + length ranks)) = Accepts-from_KeepsShift (w / 2) w ranks rank (omega (arith, wide)) is in
+    let here : Accepts (window_of w ranks) (pos rank -ℤ pos (1 + length ranks)) =
+    Accepts-from_KeepsShift (w / 2) w ranks rank (omega (arith, wide)) is in
     subst (λ (ys : List ℤ). Accepts ys o) (sym at) (subst (λ (z : ℤ). Accepts (window_of w ranks) z) (sym turned) here)
 
 -- windows of a width follow the lists of ranks
@@ -201,21 +238,25 @@ follow w wide = record {
   goes_on = λ ranks rank. (
     λ is.
         let longer : length (ranks ++ rank ∷ []) ≡ length ranks + 1 = length-append ranks (rank ∷ []) in
-        let last : get_or (ranks ++ rank ∷ []) (length ranks) 0 ≡ rank = get_or_push ranks rank 0 (length ranks) refl in (
+        let last : get_or (ranks ++ rank ∷ []) (length ranks) 0 ≡ rank =
+        get_or_push ranks rank 0 (length ranks) refl in (
           KeepsShift-front (w / 2) ranks rank is,
           record {
             early = omega (arith, is.early (length ranks) (omega arith));
             late = omega (arith, is.late (length ranks) (omega arith));
-            accepted = ranks_accepted w (window_of w ranks) ranks rank (offset_after (length ranks) rank) wide refl refl is;
+            accepted = ranks_accepted w (window_of w ranks) ranks rank
+                (offset_after (length ranks) rank) wide refl refl is;
           },
         ),
     λ (is, may). (accepted_ranks w (window_of w ranks) ranks rank (offset_after (length ranks) rank) wide
         (omega (arith, ints, may.late)) (omega (arith, ints, may.early)) is refl refl may.accepted).0,
   );
-  shifts = λ ranks rank. window_of-push w ranks rank (omega (arith, wide)) ∙ ap (shifted (window_of w ranks)) (sym (offset_turned (length ranks) rank));
+  shifts = λ ranks rank. window_of-push w ranks rank (omega (arith, wide))
+      ∙ ap (shifted (window_of w ranks)) (sym (offset_turned (length ranks) rank));
   wide = λ ranks. length-window_of w ranks;
   last = λ ranks rank.
-      let at : offset_at (window_of w (ranks ++ rank ∷ [])) (w - 1) ≡ pos rank -ℤ pos (1 + length ranks) = offset_at-window_of_last w ranks rank (omega (arith, wide)) in
+      let at : offset_at (window_of w (ranks ++ rank ∷ [])) (w - 1) ≡ pos rank -ℤ pos (1 + length ranks) =
+      offset_at-window_of_last w ranks rank (omega (arith, wide)) in
       omega (arith, ints, at);
   places = λ ranks rank is. (
     HasLanded-from_IsPlaced (w / 2) w ranks rank (omega (arith, wide)) is,

@@ -1,10 +1,12 @@
 -- The ranks that a window holds, as bits, and which flight is due after one landing more.
-use Rattle.std.proofs.Common.{◌≡◌, ℕ, ◌+◌, ◌-◌, ◌*◌, ◌/◌, ◌%◌, ◌^◌, ◌<◌, List, length, ◌≤◌, arith, ◌∙◌, sym, ap, inl, inr, subst, zero, suc, shr-shr, mod-lt, pow_pos}
+use Rattle.std.proofs.Common.{◌≡◌, ℕ, ◌+◌, ◌-◌, ◌*◌, ◌/◌, ◌%◌, ◌^◌, ◌<◌, List, length, ◌≤◌, arith, ◌∙◌, sym, ap, inl}
+use Rattle.std.proofs.Common.{inr, subst, zero, suc, shr-shr, mod-lt, pow_pos}
 use Rattle.std.specs.Prelude.{Bool, IsTrue, ◌↔◌, ◌⊎◌, ℤ, pos, ◌+ℤ◌, ◌-ℤ◌, ◌≤ℤ◌, bit_or}
 use Rattle.std.specs.Int.{bit_at, w32}
 use Rattle.std.proofs.lemmas.Bool.{cases_eq, cases_lt}
 use Rattle.std.proofs.lemmas.Int.{ints}
-use Rattle.std.proofs.lemmas.Nat.Bits.{bit_at_set_same, bit_at_set_other, bit_at-zero, bit_at_above, bit_at_cat_low, bit_at_cat_high}
+use Rattle.std.proofs.lemmas.Nat.Bits.{bit_at_set_same, bit_at_set_other, bit_at-zero, bit_at_above, bit_at_cat_low}
+use Rattle.std.proofs.lemmas.Nat.Bits.{bit_at_cat_high}
 use Rattle.std.proofs.lemmas.Nat.{field_of}
 use Rattle.std.proofs.Math.Pow.{mod-mod-pow}
 use Rattle.cps_nodes.specs.Windows.{IsWindow, HoldsRank, offset_at, shifted}
@@ -28,17 +30,20 @@ pub held_more : (xs : List ℤ) (n bits at : ℕ) → at < 32 → pos at ≡ pos
 held_more xs n bits at few here are i = elim (cases_eq i at) [
   | inl same ↦ (
     λ _. (n, omega arith, omega (arith, ints, same, here)),
-    λ _. subst (λ (m : ℕ). bit_at (bit_or bits (1 * 2 ^ at % 2 ^ 32)) m ≡ 1) (sym same) (bit_at_set_same w32 bits at few),
+    λ _. subst (λ (m : ℕ). bit_at (bit_or bits (1 * 2 ^ at % 2 ^ 32)) m ≡ 1) (sym same)
+        (bit_at_set_same w32 bits at few),
   )
   | inr other ↦
-      let kept : bit_at (bit_or bits (1 * 2 ^ at % 2 ^ 32)) i ≡ bit_at bits i = bit_at_set_other w32 bits at few i other in (
+      let kept : bit_at (bit_or bits (1 * 2 ^ at % 2 ^ 32)) i ≡ bit_at bits i =
+      bit_at_set_other w32 bits at few i other in (
         λ has.
             let old = (are i).0 (sym kept ∙ has) in
             (old.0, omega (arith, old.1), old.2),
         λ (j, lt, e). kept ∙ elim (cases_lt j n) [
           | inr past ↦
               let last : j ≡ n = omega (arith, lt) in
-              let last_holds : pos n +ℤ offset_at xs n ≡ pos i -ℤ pos 8 = subst (λ (m : ℕ). pos m +ℤ offset_at xs m ≡ pos i -ℤ pos 8) last e in
+              let last_holds : pos n +ℤ offset_at xs n ≡ pos i -ℤ pos 8 =
+              subst (λ (m : ℕ). pos m +ℤ offset_at xs m ≡ pos i -ℤ pos 8) last e in
               absurd (other (omega (arith, ints, last_holds, here)))
           | inl before ↦ (are i).1 (j, before, e)
         ],
@@ -50,11 +55,13 @@ pub held_all : (xs : List ℤ) (n bits : ℕ) → n ≡ length xs → AreHeldUpt
 held_all xs n bits e are = subst (λ (m : ℕ). AreHeldUpto xs m bits) e are
 
 -- what the test of a bit says of the rank that it stands for
-pub held_tested : (b : Bool) (xs : List ℤ) (bits at : ℕ) (rank : ℤ) → (IsTrue b ↔ (bit_at bits at ≡ 1)) → pos at ≡ rank +ℤ pos 8
+pub held_tested : (b : Bool) (xs : List ℤ) (bits at : ℕ) (rank : ℤ) → (IsTrue b ↔ (bit_at bits at ≡ 1))
+    → pos at ≡ rank +ℤ pos 8
     → AreHeld xs bits → IsTrue b ↔ HoldsRank xs rank
 held_tested b xs bits at rank test is are =
     let same : (pos at -ℤ pos 8) ≡ rank = omega (arith, ints, is) in
-    let here : (bit_at bits at ≡ 1) ↔ HoldsRank xs rank = subst (λ (r : ℤ). (bit_at bits at ≡ 1) ↔ HoldsRank xs r) same (are at) in
+    let here : (bit_at bits at ≡ 1) ↔ HoldsRank xs rank =
+    subst (λ (r : ℤ). (bit_at bits at ≡ 1) ↔ HoldsRank xs r) same (are at) in
     (λ yes. here.0 (test.0 yes), λ holds. test.1 (here.1 holds))
 
 -- ---- the same ranks at a stage
@@ -77,25 +84,30 @@ bit_at-word n i low =
     ap (λ (e : ℕ). bit_at (n % 2 ^ e) i) cut ∙ bit_at-mod n (63 - i) i ∙ ap (λ (m : ℕ). bit_at m i) same
 
 module _ (w stage bits : ℕ) (xs : List ℤ) (is : IsWindow w xs) (are : AreHeld xs bits) where
-  pub held_early : stage < w + 7 → (rank : ℕ) → (bit_at (bits / 2 ^ (w + 7 - stage)) rank ≡ 1) ↔ HoldsRank xs (pos rank -ℤ pos stage +ℤ pos (w - 1))
+  pub held_early : stage < w + 7 → (rank : ℕ) → (bit_at (bits / 2 ^ (w + 7 - stage)) rank ≡ 1)
+      ↔ HoldsRank xs (pos rank -ℤ pos stage +ℤ pos (w - 1))
   held_early early rank =
-      told _ _ xs _ _ (ap (λ (n : ℕ). n % 2) (shr-shr bits (w + 7 - stage) rank)) (omega (arith, ints, is.is_width)) (are (w + 7 - stage + rank))
+      told _ _ xs _ _ (ap (λ (n : ℕ). n % 2) (shr-shr bits (w + 7 - stage) rank)) (omega (arith, ints, is.is_width))
+      (are (w + 7 - stage + rank))
 
   far_below : (rank : ℕ) → rank < stage - (w + 7) → HoldsRank xs (pos rank -ℤ pos stage +ℤ pos (w - 1)) → ⊥
   far_below rank below (i, lt, e) = omega (arith, ints, is.low i (omega (arith, lt, is.len)), is.is_width, e, below)
 
   far_above : (rank : ℕ) → stage ≤ 60 → 64 ≤ rank → HoldsRank xs (pos rank -ℤ pos stage +ℤ pos (w - 1)) → ⊥
-  far_above rank few above (i, lt, e) = omega (arith, ints, is.high i (omega (arith, lt, is.len)), is.is_width, lt, is.len, e, above, few)
+  far_above rank few above (i, lt, e) =
+      omega (arith, ints, is.high i (omega (arith, lt, is.len)), is.is_width, lt, is.len, e, above, few)
 
   pub held_late : w + 7 ≤ stage → stage ≤ 60 → (rank : ℕ)
       → (bit_at (bits * 2 ^ (stage - (w + 7)) % 2 ^ 64) rank ≡ 1) ↔ HoldsRank xs (pos rank -ℤ pos stage +ℤ pos (w - 1))
   held_late late few rank = elim (cases_lt rank 64) [
     | inr above ↦ untold _ xs _ (bit_at_above _ 64 rank (mod-lt _ (pow_pos 64)) above) (far_above rank few above)
     | inl low ↦
-        let kept : bit_at (bits * 2 ^ (stage - (w + 7)) % 2 ^ 64) rank ≡ bit_at (bits * 2 ^ (stage - (w + 7)) + 0) rank =
+        let kept : bit_at (bits * 2 ^ (stage - (w + 7)) % 2 ^ 64) rank ≡ bit_at
+        (bits * 2 ^ (stage - (w + 7)) + 0) rank =
         bit_at-word (bits * 2 ^ (stage - (w + 7))) rank low in
         elim (cases_lt rank (stage - (w + 7))) [
-          | inl below ↦ untold _ xs _ (kept ∙ bit_at_cat_low bits (stage - (w + 7)) 0 rank below ∙ bit_at-zero rank) (far_below rank below)
+          | inl below ↦ untold _ xs _ (kept ∙ bit_at_cat_low bits (stage - (w + 7)) 0 rank below ∙ bit_at-zero rank)
+              (far_below rank below)
           | inr within ↦
               told _ _ xs _ _ (kept ∙ bit_at_cat_high bits (stage - (w + 7)) 0 rank (pow_pos (stage - (w + 7))) within)
               (omega (arith, ints, is.is_width)) (are (rank - (stage - (w + 7))))
@@ -116,7 +128,8 @@ module _ (w : ℕ) (xs : List ℤ) (o : ℤ) (is : IsWindow w xs) where
         let at : offset_at (shifted xs o) j ≡ o = offset_at-shifted_last xs o j (last ∙ sym is.len) in
         inl (omega (arith, ints, at, e, last, is.is_width))
     | inl before ↦
-        let at : offset_at (shifted xs o) j ≡ offset_at xs (j + 1) = offset_at-shifted_below xs o j (omega (arith, before, is.len)) in
+        let at : offset_at (shifted xs o) j ≡ offset_at xs (j + 1) =
+        offset_at-shifted_below xs o j (omega (arith, before, is.len)) in
         inr (j + 1, omega (arith, before, is.len), omega (arith, ints, at, e))
   ]
 
@@ -139,7 +152,8 @@ module _ (w : ℕ) (xs : List ℤ) (o : ℤ) (is : IsWindow w xs) where
   highest_held highest most held within = (λ _. due_stays held, λ _. omega (arith, ints, within.high, most))
 
   -- and else the lowest alone
-  pub highest_lands : (highest : ℤ) → highest +ℤ pos (w / 2) ≡ pos 0 → (HoldsRank xs (pos (w / 2 + 1)) → ⊥) → IsWithin (pos (w / 2)) o
+  pub highest_lands : (highest : ℤ) → highest +ℤ pos (w / 2) ≡ pos 0 → (HoldsRank xs (pos (w / 2 + 1)) → ⊥)
+      → IsWithin (pos (w / 2)) o
       → (o ≤ℤ highest) ↔ HoldsRank (shifted xs o) (pos (w / 2))
   highest_lands highest lowest none within = (
     λ low. due_lands (omega (arith, ints, low, lowest, within.low)),

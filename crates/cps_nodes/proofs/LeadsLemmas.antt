@@ -1,5 +1,6 @@
 -- One window leads to another exactly where some accepted landing extends it to that one.
-use Rattle.std.proofs.Common.{◌≡◌, ℕ, ◌+◌, ◌-◌, ◌/◌, ◌<◌, List, [], ◌∷◌, ◌++◌, length, drop, take, get_or, refl, arith, length-append, length-drop, ◌∙◌, sym, ap, subst, zero, suc}
+use Rattle.std.proofs.Common.{◌≡◌, ℕ, ◌+◌, ◌-◌, ◌/◌, ◌<◌, List, [], ◌∷◌, ◌++◌, length, drop, take, get_or, refl, arith}
+use Rattle.std.proofs.Common.{length-append, length-drop, ◌∙◌, sym, ap, subst, zero, suc}
 use Rattle.std.specs.Prelude.{ℤ, pos, ◌+ℤ◌, ◌≤ℤ◌}
 use Rattle.std.proofs.lemmas.Int.{ints}
 use Rattle.std.proofs.lemmas.List.{get_or-drop, get_or-take}
@@ -11,13 +12,16 @@ front_and_last : (ys : List ℤ) → 0 < length ys → ys ≡ take (length ys - 
 front_and_last [] h = absurd (omega arith)
 front_and_last (y ∷ []) h = refl
 front_and_last (y ∷ (z ∷ ys)) h =
-    let rest : z ∷ ys ≡ take (length (z ∷ ys) - 1) (z ∷ ys) ++ offset_at (z ∷ ys) (length (z ∷ ys) - 1) ∷ [] = front_and_last (z ∷ ys) (omega arith) in
+    let rest : z ∷ ys ≡ take (length (z ∷ ys) - 1) (z ∷ ys) ++ offset_at (z ∷ ys) (length (z ∷ ys) - 1) ∷ [] =
+    front_and_last (z ∷ ys) (omega arith) in
     let n : length (y ∷ (z ∷ ys)) - 1 ≡ suc (length (z ∷ ys) - 1) = omega arith in
-    subst (λ (m : ℕ). y ∷ (z ∷ ys) ≡ take m (y ∷ (z ∷ ys)) ++ offset_at (y ∷ (z ∷ ys)) m ∷ []) (sym n) (ap (λ (zs : List ℤ). y ∷ zs) rest)
+    subst (λ (m : ℕ). y ∷ (z ∷ ys) ≡ take m (y ∷ (z ∷ ys)) ++ offset_at (y ∷ (z ∷ ys)) m ∷ [])
+    (sym n) (ap (λ (zs : List ℤ). y ∷ zs) rest)
 
 pub TailMeetsHead-from_Extends : (xs ys : List ℤ) → Extends xs ys → TailMeetsHead xs ys
 TailMeetsHead-from_Extends xs ys (o, within, can, e) =
-    let n : length (shifted xs o) - 1 ≡ length (drop 1 xs) = omega (arith, length-append (drop 1 xs) (o ∷ []), length-drop 1 xs) in
+    let n : length (shifted xs o) - 1 ≡ length (drop 1 xs) =
+    omega (arith, length-append (drop 1 xs) (o ∷ []), length-drop 1 xs) in
     subst (λ (zs : List ℤ). drop 1 xs ≡ take (length zs - 1) zs) (sym e)
     (subst (λ (m : ℕ). drop 1 xs ≡ take m (drop 1 xs ++ o ∷ [])) (sym n) (sym (whole (drop 1 xs) (o ∷ []))))
   where
@@ -25,20 +29,24 @@ TailMeetsHead-from_Extends xs ys (o, within, can, e) =
     whole [] vs = refl
     whole (u ∷ us) vs = ap (λ (zs : List ℤ). u ∷ zs) (whole us vs)
 
-pub Extends-from_TailMeetsHead : (w : ℕ) (xs ys : List ℤ) → IsWindow w xs → IsWindow w ys → TailMeetsHead xs ys → Extends xs ys
+pub Extends-from_TailMeetsHead : (w : ℕ) (xs ys : List ℤ) → IsWindow w xs → IsWindow w ys → TailMeetsHead xs ys
+    → Extends xs ys
 Extends-from_TailMeetsHead w xs ys a b leads =
     let o : ℤ = offset_at ys (w - 1) in
     let last : length ys - 1 ≡ w - 1 = ap (λ (n : ℕ). n - 1) b.len in
-    let split : ys ≡ take (length ys - 1) ys ++ offset_at ys (length ys - 1) ∷ [] = front_and_last ys (omega (arith, b.len, b.is_width)) in
+    let split : ys ≡ take (length ys - 1) ys ++ offset_at ys (length ys - 1) ∷ [] =
+    front_and_last ys (omega (arith, b.len, b.is_width)) in
     let is : ys ≡ shifted xs (offset_at ys (w - 1)) =
-    split ∙ ap (λ (zs : List ℤ). zs ++ offset_at ys (length ys - 1) ∷ []) (sym leads) ∙ ap (λ (n : ℕ). drop 1 xs ++ offset_at ys n ∷ []) last in
+    split ∙ ap (λ (zs : List ℤ). zs ++ offset_at ys (length ys - 1) ∷ []) (sym leads)
+    ∙ ap (λ (n : ℕ). drop 1 xs ++ offset_at ys n ∷ []) last in
     let low : pos 0 ≤ℤ (offset_at ys (w - 1) +ℤ pos (w / 2)) = b.low (w - 1) (omega (arith, b.is_width)) in
     let high : offset_at ys (w - 1) ≤ℤ pos (w / 2) = b.high (w - 1) (omega (arith, b.is_width)) in (
       offset_at ys (w - 1),
       record { low = rw a.len low; high = rw a.len high },
       record {
         fresh = fresh low;
-        due = subst (λ (zs : List ℤ). HoldsRank zs (pos (length xs / 2))) is (subst (λ (n : ℕ). HoldsRank ys (pos (n / 2))) (sym a.len) b.due);
+        due = subst (λ (zs : List ℤ). HoldsRank zs (pos (length xs / 2))) is
+            (subst (λ (n : ℕ). HoldsRank ys (pos (n / 2))) (sym a.len) b.due);
       },
       is,
     )
@@ -49,5 +57,6 @@ Extends-from_TailMeetsHead w xs ys a b leads =
         let one : offset_at xs (suc i) ≡ offset_at xs (1 + i) = ap (λ (j : ℕ). offset_at xs j) (omega arith) in
         let before : i < length ys - 1 = omega (arith, a.len, b.len) in
         let moved : offset_at xs (1 + i) ≡ offset_at ys i =
-        sym (get_or-drop 1 xs i (pos 0)) ∙ ap (λ (zs : List ℤ). get_or zs i (pos 0)) leads ∙ get_or-take (length ys - 1) ys i (pos 0) before in
+        sym (get_or-drop 1 xs i (pos 0)) ∙ ap (λ (zs : List ℤ). get_or zs i (pos 0)) leads
+        ∙ get_or-take (length ys - 1) ys i (pos 0) before in
         b.differ i (w - 1) (omega (arith, b.len)) (omega (arith, b.is_width)) (omega (arith, ints, e, a.len))

@@ -1,8 +1,10 @@
 -- Laws of the windows of lists of landings.
-use Rattle.std.proofs.Common.{◌≡◌, ℕ, ◌+◌, ◌-◌, ◌/◌, ◌*◌, ◌<◌, ◌≤◌, List, [], ◌∷◌, ◌++◌, length, get_or, refl, arith, length-append, length-drop, replicate, ◌∙◌, ap, inl, inr, zero, suc}
+use Rattle.std.proofs.Common.{◌≡◌, ℕ, ◌+◌, ◌-◌, ◌/◌, ◌*◌, ◌<◌, ◌≤◌, List, [], ◌∷◌, ◌++◌, length, get_or, refl, arith}
+use Rattle.std.proofs.Common.{length-append, length-drop, replicate, ◌∙◌, ap, inl, inr, zero, suc}
 use Rattle.std.specs.Prelude.{ℤ, pos, negsuc, ◌-ℤ◌, ◌⊎◌}
 use Rattle.std.proofs.lemmas.Int.{ints}
-use Rattle.std.proofs.lemmas.List.{get_or_default, get_or_append_left, get_or-append_right, get_or-drop, get_or-replicate, length-replicate}
+use Rattle.std.proofs.lemmas.List.{get_or_default, get_or_append_left, get_or-append_right, get_or-drop}
+use Rattle.std.proofs.lemmas.List.{get_or-replicate, length-replicate}
 use Rattle.std.proofs.lemmas.Bool.{cases_lt}
 use Rattle.cps_nodes.specs.Windows.{offset_at, IsPlaced}
 use Rattle.cps_nodes.specs.Ranks.{RanksKeepShift, offsets_from, window_of, HasLanded}
@@ -16,7 +18,8 @@ pub get_or-offsets_from : (place : ℕ) (ranks : List ℕ) (i : ℕ) → i < len
 get_or-offsets_from place [] i h = absurd (omega arith)
 get_or-offsets_from place (r ∷ ranks) zero h = omega (arith, ints)
 get_or-offsets_from place (r ∷ ranks) (suc i) h =
-    get_or-offsets_from (place + 1) ranks i (omega arith) ∙ ap (λ (q : ℕ). pos (get_or ranks i 0) -ℤ pos q) (omega arith)
+    get_or-offsets_from (place + 1) ranks i (omega arith)
+    ∙ ap (λ (q : ℕ). pos (get_or ranks i 0) -ℤ pos q) (omega arith)
 
 pub length-window_of : (w : ℕ) (ranks : List ℕ) → length (window_of w ranks) ≡ w
 length-window_of w ranks = omega (
@@ -28,7 +31,8 @@ length-window_of w ranks = omega (
 )
 
 -- before the first landing stands 0
-pub offset_at-window_of_early : (w : ℕ) (ranks : List ℕ) (i : ℕ) → length ranks + i < w → offset_at (window_of w ranks) i ≡ pos 0
+pub offset_at-window_of_early : (w : ℕ) (ranks : List ℕ) (i : ℕ) → length ranks + i < w
+    → offset_at (window_of w ranks) i ≡ pos 0
 offset_at-window_of_early w ranks i h =
     let lt : length ranks + i < length (replicate w (pos 0)) = omega (arith, length-replicate w (pos 0)) in
     get_or-drop (length ranks) (replicate w (pos 0) ++ offsets_from 1 ranks) i (pos 0)
@@ -41,7 +45,8 @@ pub offset_at-window_of : (w : ℕ) (ranks : List ℕ) (i j : ℕ) → length ra
 offset_at-window_of w ranks i j e lt =
     let at : length ranks + i - w ≡ j = omega arith in
     get_or-drop (length ranks) (replicate w (pos 0) ++ offsets_from 1 ranks) i (pos 0)
-    ∙ get_or-append_right (replicate w (pos 0)) (offsets_from 1 ranks) w (length ranks + i) (pos 0) (length-replicate w (pos 0)) (omega arith)
+    ∙ get_or-append_right (replicate w (pos 0)) (offsets_from 1 ranks) w (length ranks + i)
+    (pos 0) (length-replicate w (pos 0)) (omega arith)
     ∙ ap (λ (q : ℕ). get_or (offsets_from 1 ranks) q (pos 0)) at
     ∙ get_or-offsets_from 1 ranks j lt
 
@@ -69,12 +74,14 @@ HasLanded-from_IsPlaced most w ranks rank odd is placed =
           let i : ℕ = holds.0 in
           elim (cases_lt (length ranks + holds.0) w) [
             | inl early ↦
-                let zero_at : offset_at (window_of w ranks) holds.0 ≡ pos 0 = offset_at-window_of_early w ranks holds.0 early in
+                let zero_at : offset_at (window_of w ranks) holds.0 ≡ pos 0 =
+                offset_at-window_of_early w ranks holds.0 early in
                 inl (omega (arith, ints, holds.2))
             | inr late ↦
                 let j : ℕ = length ranks + holds.0 - w in
                 let lt : length ranks + holds.0 - w < length ranks = omega (arith, holds.1) in
-                let at : offset_at (window_of w ranks) holds.0 ≡ pos (get_or ranks (length ranks + holds.0 - w) 0) -ℤ pos (1 + (length ranks + holds.0 - w)) =
+                let at : offset_at (window_of w ranks) holds.0 ≡ pos
+                (get_or ranks (length ranks + holds.0 - w) 0) -ℤ pos (1 + (length ranks + holds.0 - w)) =
                 offset_at-window_of w ranks holds.0 (length ranks + holds.0 - w) (omega arith) lt in
                 inr (
                   get_or ranks (length ranks + holds.0 - w) 0,
@@ -95,7 +102,8 @@ IsPlaced-from_HasLanded most w ranks rank odd is landed =
           elim (is_natural rank) [
             | inl natural ↦ elim (cases_lt (length ranks) most) [
               | inl early ↦
-                  let at : offset_at (window_of w ranks) (w - 1 - length ranks) ≡ pos 0 = offset_at-window_of_early w ranks (w - 1 - length ranks) (omega arith) in
+                  let at : offset_at (window_of w ranks) (w - 1 - length ranks) ≡ pos 0 =
+                  offset_at-window_of_early w ranks (w - 1 - length ranks) (omega arith) in
                   inr (w - 1 - length ranks, omega arith, omega (arith, ints, natural.1))
               | inr late ↦ inl (omega (arith, ints, natural.1))
             ]
@@ -109,12 +117,14 @@ IsPlaced-from_HasLanded most w ranks rank odd is landed =
           ]
       | inr stands ↦
           let j : ℕ = stands.2.0 in
-          let is_rank : get_or ranks stands.2.0 0 ≡ stands.0 = get_or_default ranks stands.2.0 0 _ stands.2.1 ∙ stands.2.2 in
+          let is_rank : get_or ranks stands.2.0 0 ≡ stands.0 =
+          get_or_default ranks stands.2.0 0 _ stands.2.1 ∙ stands.2.2 in
           let near : get_or ranks stands.2.0 0 ≤ stands.2.0 + 1 + most = is.early stands.2.0 stands.2.1 in
           elim (cases_lt (stands.2.0 + w) (length ranks)) [
             | inl early ↦ inl (omega (arith, ints, stands.1))
             | inr late ↦
-                let at : offset_at (window_of w ranks) (stands.2.0 + w - length ranks) ≡ pos (get_or ranks stands.2.0 0) -ℤ pos (1 + stands.2.0) =
+                let at : offset_at (window_of w ranks) (stands.2.0 + w - length ranks) ≡ pos
+                (get_or ranks stands.2.0 0) -ℤ pos (1 + stands.2.0) =
                 offset_at-window_of w ranks (stands.2.0 + w - length ranks) stands.2.0 (omega arith) stands.2.1 in
                 inr (stands.2.0 + w - length ranks, omega (arith, stands.2.1), omega (arith, ints, stands.1))
           ]

@@ -1,5 +1,6 @@
 -- The first offset of a window tells nothing of what may land next.
-use Rattle.std.proofs.Common.{◌≡◌, ℕ, ◌+◌, ◌-◌, ◌/◌, List, [], ◌∷◌, ◌++◌, length, drop, get_or, arith, ◌∙◌, sym, ap, inl, inr, subst, zero, suc}
+use Rattle.std.proofs.Common.{◌≡◌, ℕ, ◌+◌, ◌-◌, ◌/◌, List, [], ◌∷◌, ◌++◌, length, drop, get_or, arith, ◌∙◌, sym, ap}
+use Rattle.std.proofs.Common.{inl, inr, subst, zero, suc}
 use Rattle.std.specs.Prelude.{ℤ, pos, ◌+ℤ◌, ◌-ℤ◌, ◌≤ℤ◌, ◌⊎◌}
 use Rattle.std.proofs.lemmas.Int.{ints}
 use Rattle.std.proofs.lemmas.List.{get_or-drop}
@@ -36,7 +37,8 @@ Accepts-same_tail w xs ys o a b e low can =
       due = rw (← same, ← shifted-same_tail xs ys o e) can.due;
     }
 
-pub IsPlaced-same_tail : (w : ℕ) (xs ys : List ℤ) (stage rank : ℤ) → IsWindow w xs → IsWindow w ys → drop 1 xs ≡ drop 1 ys
+pub IsPlaced-same_tail : (w : ℕ) (xs ys : List ℤ) (stage rank : ℤ) → IsWindow w xs → IsWindow w ys
+    → drop 1 xs ≡ drop 1 ys
     → IsPlaced xs stage rank → IsPlaced ys stage rank
 IsPlaced-same_tail w xs ys stage rank a b e placed =
     let same : length xs ≡ length ys = a.len ∙ sym b.len in
@@ -49,11 +51,16 @@ IsPlaced-same_tail w xs ys stage rank a b e placed =
     ]
 
 -- two windows with the same offsets from the second on go on alike
-pub GoOnAlike-same_tail : (w : ℕ) (xs ys : List ℤ) → IsWindow w xs → IsWindow w ys → drop 1 xs ≡ drop 1 ys → GoOnAlike xs ys
+pub GoOnAlike-same_tail : (w : ℕ) (xs ys : List ℤ) → IsWindow w xs → IsWindow w ys → drop 1 xs ≡ drop 1 ys
+    → GoOnAlike xs ys
 GoOnAlike-same_tail w xs ys a b e = record {
   accepts = λ o low.
       let near : pos 0 ≤ℤ (o +ℤ pos (w / 2)) = rw (← a.len) low in
       (Accepts-same_tail w xs ys o a b e near, Accepts-same_tail w ys xs o b a (sym e) near);
   next = λ o. shifted-same_tail xs ys o e;
-  placed = λ stage rank. (IsPlaced-same_tail w xs ys stage rank a b e, IsPlaced-same_tail w ys xs stage rank b a (sym e));
+  placed = λ stage rank. (
+    IsPlaced-same_tail w xs ys stage rank a b e,
+    IsPlaced-same_tail w ys xs stage rank b a
+        (sym e),
+  );
 }

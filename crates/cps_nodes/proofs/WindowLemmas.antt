@@ -1,8 +1,10 @@
 -- Laws of windows as lists of offsets.
-use Rattle.std.proofs.Common.{◌≡◌, ℕ, ◌+◌, ◌-◌, ◌/◌, ◌<◌, List, [], ◌∷◌, length, drop, get_or, arith, length-append, length-drop, replicate, ◌∙◌, sym, ap, inl, inr, subst}
+use Rattle.std.proofs.Common.{◌≡◌, ℕ, ◌+◌, ◌-◌, ◌/◌, ◌<◌, List, [], ◌∷◌, length, drop, get_or, arith, length-append}
+use Rattle.std.proofs.Common.{length-drop, replicate, ◌∙◌, sym, ap, inl, inr, subst}
 use Rattle.std.specs.Prelude.{Bool, true, false, IsTrue, ◌↔◌, ℤ, pos, ◌+ℤ◌, ◌≤ℤ◌}
 use Rattle.std.proofs.lemmas.Int.{ints}
-use Rattle.std.proofs.lemmas.List.{get_or_append_left, get_or-append_right, get_or-drop, get_or-replicate, length-replicate}
+use Rattle.std.proofs.lemmas.List.{get_or_append_left, get_or-append_right, get_or-drop, get_or-replicate}
+use Rattle.std.proofs.lemmas.List.{length-replicate}
 use Rattle.std.proofs.lemmas.Bool.{cases_lt}
 use Rattle.cps_nodes.specs.Windows.{IsWidth, IsWindow, HoldsRank, offset_at, shifted}
 
@@ -25,10 +27,12 @@ IsWindow-source w h = record {
 }
 
 -- one landing more: the offset at a place is the old one a place later
-pub offset_at-shifted_below : (xs : List ℤ) (o : ℤ) (i : ℕ) → i + 1 < length xs → offset_at (shifted xs o) i ≡ offset_at xs (i + 1)
+pub offset_at-shifted_below : (xs : List ℤ) (o : ℤ) (i : ℕ) → i + 1 < length xs
+    → offset_at (shifted xs o) i ≡ offset_at xs (i + 1)
 offset_at-shifted_below xs o i h =
     let n : i < length (drop 1 xs) = omega (arith, length-drop 1 xs) in
-    get_or_append_left (drop 1 xs) (o ∷ []) (pos 0) i n ∙ get_or-drop 1 xs i (pos 0) ∙ ap (λ (j : ℕ). get_or xs j (pos 0)) (omega arith)
+    get_or_append_left (drop 1 xs) (o ∷ []) (pos 0) i n ∙ get_or-drop 1 xs i (pos 0)
+    ∙ ap (λ (j : ℕ). get_or xs j (pos 0)) (omega arith)
 
 -- and the last one is the new one
 pub offset_at-shifted_last : (xs : List ℤ) (o : ℤ) (i : ℕ) → i + 1 ≡ length xs → offset_at (shifted xs o) i ≡ o
@@ -57,13 +61,15 @@ IsWindow-shifted w xs o is low high fresh due =
         | inl n ↦ rw (offset_at-shifted_below xs o i (omega (arith, is.len))) (is.high (i + 1) n)
       ];
       differ = λ i j lt lw same.
-          let a : offset_at (shifted xs o) i ≡ offset_at xs (i + 1) = offset_at-shifted_below xs o i (omega (arith, is.len)) in
+          let a : offset_at (shifted xs o) i ≡ offset_at xs (i + 1) =
+          offset_at-shifted_below xs o i (omega (arith, is.len)) in
           elim (cases_lt (j + 1) w) [
             | inr past ↦
                 let b : offset_at (shifted xs o) j ≡ o = offset_at-shifted_last xs o j (omega (arith, is.len)) in
                 fresh (i + 1, omega (arith, is.len), omega (arith, ints))
             | inl n ↦
-                let b : offset_at (shifted xs o) j ≡ offset_at xs (j + 1) = offset_at-shifted_below xs o j (omega (arith, is.len)) in
+                let b : offset_at (shifted xs o) j ≡ offset_at xs (j + 1) =
+                offset_at-shifted_below xs o j (omega (arith, is.len)) in
                 is.differ (i + 1) (j + 1) (omega arith) n (omega (arith, ints))
           ];
       due = due;

@@ -1,5 +1,7 @@
--- The offsets of a window as one number: its digits in base 16, each 8 more than an offset, that of the first offset the highest.
-use Rattle.std.specs.Prelude.{◌≡◌, ℕ, ℤ, pos, zero, suc, ◌+◌, ◌-◌, ◌*◌, ◌/◌, ◌%◌, ◌^◌, ◌<◌, ◌+ℤ◌, ◌-ℤ◌, List, [], ◌∷◌, length, nat_abs}
+-- The offsets of a window as one number: its digits in base 16, each 8 more than an offset, that of the first offset
+-- the highest.
+use Rattle.std.specs.Prelude.{◌≡◌, ℕ, ℤ, pos, zero, suc, ◌+◌, ◌-◌, ◌*◌, ◌/◌, ◌%◌, ◌^◌, ◌<◌, ◌+ℤ◌, ◌-ℤ◌, List, [], ◌∷◌}
+use Rattle.std.specs.Prelude.{length, nat_abs}
 use Rattle.std.proofs.Common.{refl, ap, ap₂, sym, ◌∙◌, arith, mod-eq_of_lt}
 use Rattle.std.proofs.lemmas.Int.{ints}
 use Rattle.std.proofs.lemmas.Nat.{mod-pow-add}
@@ -42,7 +44,8 @@ pub number-offsets_of : (width number : ℕ) → number_of (offsets_of width num
 number-offsets_of zero number = omega arith
 number-offsets_of (suc width) number =
     let e : (digit_offset number width +ℤ pos 8) ≡ pos (number / 2 ^ (4 * width) % 16) = omega (arith, ints) in
-    ap₂ (λ (d n : ℕ). d * 2 ^ (4 * n) + number_of (offsets_of width number)) (ap nat_abs e) (length-offsets_of width number)
+    ap₂ (λ (d n : ℕ). d * 2 ^ (4 * n) + number_of (offsets_of width number)) (ap nat_abs e)
+    (length-offsets_of width number)
     ∙ ap (λ (n : ℕ). (number / 2 ^ (4 * width) % 16) * 2 ^ (4 * width) + n) (number-offsets_of width number)
     ∙ sym (mod-digit number width)
 

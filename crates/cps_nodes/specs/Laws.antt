@@ -1,5 +1,6 @@
 -- What windows say of every list of ranks that keeps the shift rule, and of one another.
-use Rattle.std.specs.Prelude.{◌≡◌, ℕ, ℤ, pos, ◌+◌, ◌-◌, ◌/◌, ◌≤◌, ◌+ℤ◌, ◌-ℤ◌, ◌↔◌, List, [], ◌∷◌, ◌++◌, length, drop, replicate}
+use Rattle.std.specs.Prelude.{◌≡◌, ℕ, ℤ, pos, ◌+◌, ◌-◌, ◌/◌, ◌≤◌, ◌+ℤ◌, ◌-ℤ◌, ◌↔◌, List, [], ◌∷◌, ◌++◌, length, drop}
+use Rattle.std.specs.Prelude.{replicate}
 use Rattle.cps_nodes.specs.Leads.{IsWithin, Extends, GoOnAlike, TailMeetsHead}
 use Rattle.cps_nodes.specs.Windows.{IsWindow, Accepts, IsPlaced, offset_at, shifted}
 use Rattle.cps_nodes.specs.Ranks.{RanksKeepShift, HasLanded, window_of}
@@ -19,16 +20,21 @@ pub record MayFollow (k : ℕ) (xs : List ℤ) (landed rank : ℕ) : Type 0 wher
 pub record FollowRanks (width : ℕ) : Type 0 where
   pub none : RanksKeepShift (width / 2) []
   pub goes_on : (ranks : List ℕ) (rank : ℕ)
-      → RanksKeepShift (width / 2) (ranks ++ rank ∷ []) ↔ (RanksKeepShift (width / 2) ranks × MayFollow (width / 2) (window_of width ranks) (length ranks) rank)
-  pub shifts : (ranks : List ℕ) (rank : ℕ) → window_of width (ranks ++ rank ∷ []) ≡ shifted (window_of width ranks) (offset_after (length ranks) rank)
+      → RanksKeepShift (width / 2) (ranks ++ rank ∷ [])
+      ↔ (RanksKeepShift (width / 2) ranks × MayFollow (width / 2) (window_of width ranks) (length ranks) rank)
+  pub shifts : (ranks : List ℕ) (rank : ℕ) → window_of width (ranks ++ rank ∷ []) ≡ shifted
+      (window_of width ranks) (offset_after (length ranks) rank)
   pub wide : (ranks : List ℕ) → length (window_of width ranks) ≡ width
-  pub last : (ranks : List ℕ) (rank : ℕ) → pos (length ranks + 1) +ℤ offset_at (window_of width (ranks ++ rank ∷ [])) (width - 1) ≡ pos rank
-  pub places : (ranks : List ℕ) (rank : ℤ) → RanksKeepShift (width / 2) ranks → IsPlaced (window_of width ranks) (pos (length ranks)) rank ↔ HasLanded ranks rank
+  pub last : (ranks : List ℕ) (rank : ℕ) → pos (length ranks + 1) +ℤ offset_at (window_of width (ranks ++ rank ∷ []))
+      (width - 1) ≡ pos rank
+  pub places : (ranks : List ℕ) (rank : ℤ) → RanksKeepShift (width / 2) ranks
+      → IsPlaced (window_of width ranks) (pos (length ranks)) rank ↔ HasLanded ranks rank
 
--- windows of a width lead on: zeros are a window, an accepted landing gives a window, one window extends to another exactly
--- where its tail is the other's head, and windows with the same offsets from the second on go on alike
+-- windows of a width lead on: zeros are a window, an accepted landing gives a window, one window extends to another
+-- exactly where its tail is the other's head, and windows with the same offsets from the second on go on alike
 pub record LeadOn (width : ℕ) : Type 0 where
   pub source : IsWindow width (replicate width (pos 0))
-  pub stays : (xs : List ℤ) (offset : ℤ) → IsWindow width xs → IsWithin (pos (width / 2)) offset → Accepts xs offset → IsWindow width (shifted xs offset)
+  pub stays : (xs : List ℤ) (offset : ℤ) → IsWindow width xs → IsWithin (pos (width / 2)) offset
+      → Accepts xs offset → IsWindow width (shifted xs offset)
   pub meets : (xs ys : List ℤ) → IsWindow width xs → IsWindow width ys → Extends xs ys ↔ TailMeetsHead xs ys
   pub alike : (xs ys : List ℤ) → IsWindow width xs → IsWindow width ys → drop 1 xs ≡ drop 1 ys → GoOnAlike xs ys

@@ -1,8 +1,9 @@
 -- Lists of ranks in landing order, and the windows at their ends.
-use Rattle.std.specs.Prelude.{◌≡◌, ℕ, ℤ, pos, ◌+◌, ◌<◌, ◌≤◌, ◌⊎◌, ◌-ℤ◌, ◌≤ℤ◌, List, [], ◌∷◌, ◌++◌, length, drop, slice_index, replicate, Contains}
+use Rattle.std.specs.Prelude.{◌≡◌, ℕ, ℤ, pos, ◌+◌, ◌<◌, ◌≤◌, ◌⊎◌, ◌-ℤ◌, ◌≤ℤ◌, List, [], ◌∷◌, ◌++◌, length, drop}
+use Rattle.std.specs.Prelude.{slice_index, replicate, Contains}
 
--- a list of ranks keeps the shift rule so far: the ranks are different, from 1 on, each at most k from its place, and each
--- rank that is k below the length, or further, is listed
+-- a list of ranks keeps the shift rule so far: the ranks are different, from 1 on, each at most k from its place, and
+-- each rank that is k below the length, or further, is listed
 pub record RanksKeepShift (k : ℕ) (ranks : List ℕ) : Type 0 where
   pub positive : (i : ℕ) → i < length ranks → 0 < slice_index ranks i
   pub differ : (i j : ℕ) → i < j → j < length ranks → slice_index ranks i ≡ slice_index ranks j → ⊥

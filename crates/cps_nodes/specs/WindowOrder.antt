@@ -12,7 +12,8 @@ abbrev pub window_cmp : List ℤ → List ℤ → Ordering
 window_cmp = then_cmp (on (drop 1) (slice_cmp int_cmp)) (on (take 1) (slice_cmp int_cmp))
 
 pub window_cmp_total : IsTotalOrder window_cmp
-window_cmp_total = then_total (on_total (drop 1) (lists_total int_cmp_total)) (on_total (take 1) (lists_total int_cmp_total))
+window_cmp_total = then_total (on_total (drop 1) (lists_total int_cmp_total))
+    (on_total (take 1) (lists_total int_cmp_total))
 
 -- both parts tie exactly where both answers do
 both_tie : (a b : Ordering) → (is_eq b && is_eq a) ≡ is_eq (ordering_then a (ordering_then b Equal))
@@ -32,4 +33,5 @@ window_ties [] (y ∷ []) = refl
 window_ties [] (y ∷ (z ∷ ys)) = refl
 window_ties (x ∷ []) [] = refl
 window_ties (x ∷ (z ∷ xs)) [] = refl
-window_ties (x ∷ xs) (y ∷ ys) = ap (λ (b : Bool). int_eq x y && b) (lists_ties int_cmp (λ a b. refl) xs ys) ∙ both_tie (slice_cmp int_cmp xs ys) (int_cmp x y)
+window_ties (x ∷ xs) (y ∷ ys) = ap (λ (b : Bool). int_eq x y && b) (lists_ties int_cmp (λ a b. refl) xs ys)
+    ∙ both_tie (slice_cmp int_cmp xs ys) (int_cmp x y)

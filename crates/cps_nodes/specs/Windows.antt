@@ -1,5 +1,6 @@
 -- Windows as lists of offsets: what a window is, which landings it accepts, and which ranks it places.
-use Rattle.std.specs.Prelude.{◌≡◌, ℕ, ℤ, pos, ◌-◌, ◌/◌, ◌%◌, ◌<◌, ◌⊎◌, ◌+ℤ◌, ◌-ℤ◌, ◌≤ℤ◌, List, [], ◌∷◌, ◌++◌, length, drop, slice_index_or}
+use Rattle.std.specs.Prelude.{◌≡◌, ℕ, ℤ, pos, ◌-◌, ◌/◌, ◌%◌, ◌<◌, ◌⊎◌, ◌+ℤ◌, ◌-ℤ◌, ◌≤ℤ◌, List, [], ◌∷◌, ◌++◌, length}
+use Rattle.std.specs.Prelude.{drop, slice_index_or}
 
 -- one of 1, 3, 5, 7
 abbrev pub IsWidth : ℕ → Type 0
@@ -13,7 +14,8 @@ offset_at xs i = slice_index_or xs i (pos 0)
 abbrev pub HoldsRank : List ℤ → ℤ → Type 0
 HoldsRank xs rank = (i : ℕ) × (i < length xs) × (pos i +ℤ offset_at xs i ≡ rank)
 
--- the offsets of a window: each is -k to k, their ranks differ, and the rank that is due by the last place is among them
+-- the offsets of a window: each is -k to k, their ranks differ, and the rank that is due by the last place is among
+-- them
 pub record IsWindow (width : ℕ) (xs : List ℤ) : Type 0 where
   pub is_width : IsWidth width
   pub len : length xs ≡ width

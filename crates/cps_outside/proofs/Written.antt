@@ -1,9 +1,11 @@
 -- Writes in a row.
-use Rattle.std.proofs.Common.{◌≡◌, ℕ, ◌-◌, List, [], ◌++◌, length, take, drop, Option, Some, None, sym, ap, ◌∙◌, append_assoc, append-nil, take-append-drop}
+use Rattle.std.proofs.Common.{◌≡◌, ℕ, ◌-◌, List, [], ◌++◌, length, take, drop, Option, Some, None, sym, ap, ◌∙◌}
+use Rattle.std.proofs.Common.{append_assoc, append-nil, take-append-drop}
 use Rattle.std.proofs.lemmas.List.{take_rest}
 use Rattle.std.specs.Io.KnownBytes.{Appends, Keeps}
 
-pub appends_then : (a b c : Option (List ℕ)) (first then : List ℕ) → Appends a b first → Appends b c then → Appends a c (first ++ then)
+pub appends_then : (a b c : Option (List ℕ)) (first then : List ℕ) → Appends a b first → Appends b c then
+    → Appends a c (first ++ then)
 appends_then None b c first then p q = tt
 appends_then (Some x) None c first then p q = absurd p
 appends_then (Some x) (Some y) None first then p q = absurd q
@@ -20,7 +22,8 @@ appends_nothing None = tt
 appends_nothing (Some x) = sym (append-nil x)
 
 -- the loop's step: so many bytes more are gone from the rest
-pub moved : (all done rest : List ℕ) (n : ℕ) → all ≡ done ++ rest → all ≡ (done ++ take n rest) ++ take (length rest - n) (drop n rest)
+pub moved : (all done rest : List ℕ) (n : ℕ) → all ≡ done ++ rest → all ≡ (done ++ take n rest)
+    ++ take (length rest - n) (drop n rest)
 moved all done rest n e =
     e ∙ ap (λ l. done ++ l) (sym (take-append-drop n rest)) ∙ sym (append_assoc done (take n rest) (drop n rest))
     ∙ ap (λ l. (done ++ take n rest) ++ l) (sym (take_rest rest n))

@@ -1,5 +1,5 @@
--- FolderState, OpenerState, SinkState and Causes: what the traits promise. SourceFaults, Appended and Real: what is known over
--- any source, opener and writer. MemoryFolder, MemorySink and FailingPuts: what those in memory do exactly.
+-- FolderState, OpenerState, SinkState and Causes: what the traits promise. SourceFaults, Appended and Real: what is
+-- known over any source, opener and writer. MemoryFolder, MemorySink and FailingPuts: what those in memory do exactly.
 pub mod Causes
 pub mod FolderState
 pub mod OpenerState

@@ -1,5 +1,6 @@
 -- What a sink in memory shows of itself, and how many bytes it takes.
-use Rattle.std.specs.Prelude.{ℕ, ◌+◌, ◌-◌, ◌^◌, ◌==◌, min, nat_le, List, [], length, Bool, true, ◌&&◌, Option, is_none, unwrap_or}
+use Rattle.std.specs.Prelude.{ℕ, ◌+◌, ◌-◌, ◌^◌, ◌==◌, min, nat_le, List, [], length, Bool, true, ◌&&◌, Option, is_none}
+use Rattle.std.specs.Prelude.{unwrap_or}
 use Rattle.cps_outside.specs.SinkState.{SinkState}
 use Rattle.cps_outside.specs.FailingPuts.{bytes_of_failing}
 use Rattle.cps_outside.specs.declared.memory_sink.MemorySink.{MemorySink}
@@ -16,7 +17,8 @@ sink_state sink = record {
 
 -- before any put, with this room, where these puts are to fail
 abbrev pub fresh_sink : ℕ → List (ℕ × ℕ) → SinkState
-fresh_sink room failing = record { tells = true; written = []; sure = length failing == 0; room = room; faults = 0; puts = 0 }
+fresh_sink room failing =
+    record { tells = true; written = []; sure = length failing == 0; room = room; faults = 0; puts = 0 }
 
 -- the bytes for which it has room
 abbrev pub room_of : MemorySink → ℕ

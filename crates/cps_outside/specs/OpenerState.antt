@@ -20,8 +20,10 @@ pub record IsAfterOpen (old new : OpenerState) : Type 0 where
 
 -- a file of this name was opened, of which so much is known to be left
 abbrev pub Opens : OpenerState → List ℕ → Option (List ℕ) → Type 0
-Opens old name remaining = IsTrue old.tells → (bytes : List ℕ) × (old.content name ≡ Some bytes) × (remaining ≡ Some bytes)
+Opens old name remaining = IsTrue old.tells → (bytes : List ℕ) × (old.content name ≡ Some bytes)
+    × (remaining ≡ Some bytes)
 
 -- the bytes of this name, or where there are more, one more than `most` of them
 abbrev pub ReadsFront : OpenerState → List ℕ → ℕ → List ℕ → Type 0
-ReadsFront old name most bytes = IsTrue old.tells → (all : List ℕ) × (old.content name ≡ Some all) × (bytes ≡ take (most + 1) all)
+ReadsFront old name most bytes = IsTrue old.tells → (all : List ℕ) × (old.content name ≡ Some all)
+    × (bytes ≡ take (most + 1) all)

@@ -42,8 +42,8 @@ pub record AgreeUpTo (p q : Problem) (r : ℕ) : Type 0 where
 abbrev pub IsWithinBoth : Problem → Problem → ℕ → Type 0
 IsWithinBoth p q r = (r ≤ length p.flights + 1) × (r ≤ length q.flights + 1)
 
--- the greatest of these numbers, from 1 on, up to which two problems agree. Where their heads differ they agree up to none,
--- and it is 1
+-- the greatest of these numbers, from 1 on, up to which two problems agree. Where their heads differ they agree up to
+-- none, and it is 1
 pub record IsFirstDifference (p q : Problem) (r : ℕ) : Type 0 where
   pub from_one : 1 ≤ r
   pub within : IsWithinBoth p q r

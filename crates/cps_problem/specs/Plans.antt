@@ -15,4 +15,5 @@ IsPlannable p = IsWithinShift p.objective p.k
 
 -- a best and tight list, or none where no list is feasible
 abbrev pub IsAnswerOf : Problem → Option Schedule → Type 0
-IsAnswerOf p answer = MatchOption answer ((t : Schedule) → IsFeasibleList p t → ⊥) (λ t. IsBestList p t × IsTightList p t)
+IsAnswerOf p answer = MatchOption answer ((t : Schedule) → IsFeasibleList p t → ⊥) (λ t. IsBestList p t
+    × IsTightList p t)

@@ -7,7 +7,15 @@ use Rattle.cps_problem.specs.declared.problem.Waiting.{Waiting}
 use Rattle.cps_problem.specs.declared.problem.Head.{Head}
 
 abbrev pub waiting_of : Waiting → rules.Waiting
-waiting_of w = record { callsign = w.callsign; category = w.category; eta = w.eta; weight = w.weight; passed = w.passed; open_spans = w.times }
+waiting_of w = record {
+  callsign = w.callsign;
+  category = w.category;
+  eta = w.eta;
+  weight =
+      w.weight;
+  passed = w.passed;
+  open_spans = w.times;
+}
 
 abbrev pub seen_problem : Head → List Waiting → List ℕ → rules.Problem
 seen_problem head waiting pairs = record {

@@ -1,5 +1,7 @@
--- Examples of networks: what the nodes of two flights attain, and what the start keeps and completes where nobody waits.
-use Rattle.std.proofs.Common.{max, subst, ◌≤◌, ◌≡◌, ℕ, inl, inr, List, [], ◌∷◌, true, false, Option, Some, leb, zero-le, refl, sym, ap, arith}
+-- Examples of networks: what the nodes of two flights attain, and what the start keeps and completes where nobody
+-- waits.
+use Rattle.std.proofs.Common.{max, subst, ◌≤◌, ◌≡◌, ℕ, inl, inr, List, [], ◌∷◌, true, false, Option, Some, leb}
+use Rattle.std.proofs.Common.{zero-le, refl, sym, ap, arith}
 use Rattle.std.proofs.lemmas.Bool.{false≢true, leb-true}
 use Rattle.cps_theory.specs.RankLists.{IsRank}
 use Rattle.cps_theory.specs.Labels.{InPairs, Pair}
@@ -8,20 +10,39 @@ use Rattle.cps_theory.specs.Patterns.{PatternNode, PatternPermits, pattern_newes
 use Rattle.cps_theory.specs.ClosedSets.{ClosedPairs}
 use Rattle.cps_theory.specs.Feasible.{Feasible, LandsAllRanks, RankedProblem, next_from}
 use Rattle.cps_theory.specs.ProblemNetwork.{FindsFirstOpen, IsClosedCertificate, IsObjective, LandedIn}
-use Rattle.cps_theory.specs.CompletingPairs.{Choice, KeptCompleting, LeastChoices, NoEarlierNoDearer, NoGreaterOrder, OrderWithinBudget, onto}
-use Rattle.cps_theory.specs.FirstBest.{Ascends, BuiltByNodes, CompletesNode, FirstBest, InLandingOrder, ListsCompleting, ReachedIn}
+use Rattle.cps_theory.specs.CompletingPairs.{Choice, KeptCompleting, LeastChoices, NoEarlierNoDearer, NoGreaterOrder}
+use Rattle.cps_theory.specs.CompletingPairs.{OrderWithinBudget, onto}
+use Rattle.cps_theory.specs.FirstBest.{Ascends, BuiltByNodes, CompletesNode, FirstBest, InLandingOrder}
+use Rattle.cps_theory.specs.FirstBest.{ListsCompleting, ReachedIn}
 use Rattle.cps_theory.proofs.NodeExamples.{two}
 use Rattle.cps_theory.proofs.ScheduleExamples.{pair_of_flights, in_rank_order}
 
 in_order_legal : Legal two (2 ∷ 1 ∷ [])
 in_order_legal = (
   record {
-    fits = record { from_one = omega arith; to_count = omega arith; is_new = λ i. elim i [ inl e ↦ absurd (omega arith) | inr j ↦ j ]; not_early = omega arith; not_late = omega arith; after = λ a b. absurd (false≢true b) };
+    fits = record {
+      from_one = omega arith;
+      to_count = omega arith;
+      is_new =
+          λ i. elim i [ inl e ↦ absurd (omega arith) | inr j ↦ j ];
+      not_early = omega arith;
+      not_late = omega arith;
+      after =
+          λ a b. absurd (false≢true b);
+    };
     due = λ x one e. inr (inl (omega arith));
   },
   (
     record {
-      fits = record { from_one = omega arith; to_count = omega arith; is_new = λ i. i; not_early = omega arith; not_late = omega arith; after = λ a b. absurd (false≢true b) };
+      fits = record {
+        from_one = omega arith;
+        to_count = omega arith;
+        is_new =
+            λ i. i;
+        not_early = omega arith;
+        not_late = omega arith;
+        after = λ a b. absurd (false≢true b);
+      };
       due = λ x one e. absurd (omega arith);
     },
     tt,
@@ -29,12 +50,25 @@ in_order_legal = (
 )
 
 pattern_reached : ReachedIn pair_of_flights (pattern_node two (2 ∷ 1 ∷ [])) 1200
-pattern_reached = record { landings = (2, 1060) ∷ (1, 1000) ∷ []; legal = in_order_legal; landed = (refl, omega arith, (refl, omega arith, tt)); at = refl; by = omega arith }
+pattern_reached = record {
+  landings = (2, 1060) ∷ (1, 1000) ∷ [];
+  legal = in_order_legal;
+  landed =
+      (refl, omega arith, (refl, omega arith, tt));
+  at = refl;
+  by = omega arith;
+}
 
 -- ---- nobody waits
 
 abbrev nobody : RankedProblem
-nobody = record { rules = record { count = 0; most = 1; back = λ r. 1; before = λ a r. false }; is_open = λ r u. true; start = λ r. 0; apart = λ q r. 60 }
+nobody = record {
+  rules = record { count = 0; most = 1; back = λ r. 1; before = λ a r. false };
+  is_open =
+      λ r u. true;
+  start = λ r. 0;
+  apart = λ q r. 60;
+}
 
 abbrev at_once : ℕ → ℕ → Option ℕ
 at_once r t = Some t
@@ -43,19 +77,45 @@ no_rank : (r : ℕ) → IsRank 0 r → ⊥
 no_rank r i = absurd (let a = i.0 in let b = i.1 in omega arith)
 
 finds_open : FindsFirstOpen nobody at_once
-finds_open = record { found = λ r t u e. (refl, let s : t ≡ u = cc in omega arith); least = λ r t v o le. (t, refl, le) }
+finds_open = record {
+  found = λ r t u e. (refl, let s : t ≡ u = cc in omega arith);
+  least =
+      λ r t v o le. (t, refl, le);
+}
 
 closed_certificate : IsClosedCertificate nobody at_once (λ r t. 0) (λ w. (0, 0) ∷ [])
-closed_certificate = record { start = inl refl; step = λ w r p q l m e. absurd (let a = m.from_one in let b = m.to_count in omega arith) }
+closed_certificate = record {
+  start = inl refl;
+  step =
+      λ w r p q l m e. absurd (let a = m.from_one in let b = m.to_count in omega arith);
+}
 
 closed_pairs : ClosedPairs at_once (next_from nobody) (λ r t. 0) (Legal nobody.rules) (λ rs q. InPairs q ((0, 0) ∷ []))
-closed_pairs = record { start = inl refl; step = λ r rs l p q i e. absurd (let a = l.0.fits.from_one in let b = l.0.fits.to_count in omega arith) }
+closed_pairs = record {
+  start = inl refl;
+  step =
+      λ r rs l p q i e. absurd (let a = l.0.fits.from_one in let b = l.0.fits.to_count in omega arith);
+}
 
 last_second_is_objective : IsObjective (λ q. q.0)
 last_second_is_objective = λ a b le. le.0
 
 start_completes : CompletesNode nobody (λ r t. 0) (λ t. true) (pattern_node nobody.rules []) (0, 0)
-start_completes = record { opened = refl; reached = record { landings = []; legal = tt; landed = tt; at = refl; by = zero-le }; low = refl; rest = []; follows = refl; cost_is = refl }
+start_completes = record {
+  opened = refl;
+  reached = record {
+    landings = [];
+    legal = tt;
+    landed =
+        tt;
+    at = refl;
+    by = zero-le;
+  };
+  low = refl;
+  rest = [];
+  follows = refl;
+  cost_is = refl;
+}
 
 lists_completing : ListsCompleting nobody (λ r t. 0) (λ t. true) (λ w. [])
 lists_completing = λ rs r l. absurd (let a = l.0.fits.from_one in let b = l.0.fits.to_count in omega arith)
@@ -64,7 +124,16 @@ built_of_none : BuiltByNodes nobody at_once (λ r t. 0) (λ w. []) 0 []
 built_of_none = tt
 
 feasible_none : (t : ℕ → ℕ) → Feasible nobody t
-feasible_none t = record { opened = λ r i. absurd (no_rank r i); started = λ r i. absurd (no_rank r i); separated = λ f g i. absurd (no_rank f i); in_order = λ f g i. absurd (no_rank f i); not_early = λ r i. absurd (no_rank r i); not_late = λ r i. absurd (no_rank r i) }
+feasible_none t = record {
+  opened = λ r i. absurd (no_rank r i);
+  started = λ r i. absurd (no_rank r i);
+  separated =
+      λ f g i. absurd (no_rank f i);
+  in_order = λ f g i. absurd (no_rank f i);
+  not_early =
+      λ r i. absurd (no_rank r i);
+  not_late = λ r i. absurd (no_rank r i);
+}
 
 first_best_none : (t : ℕ → ℕ) → FirstBest nobody (λ u. 0) t
 first_best_none t = record {
@@ -97,31 +166,64 @@ landed_in : LandedIn pair_of_flights ((2, 1060) ∷ (1, 1000) ∷ [])
 landed_in = (refl, omega arith, (refl, omega arith, tt))
 
 ascends : Ascends in_rank_order (1 ∷ 2 ∷ [])
-ascends = ((λ y i. elim i [ inl e ↦ (let s = ap in_rank_order e in omega arith) | inr j ↦ absurd j ]), ((λ y i. absurd i), tt))
+ascends = (
+  (λ y i. elim i [ inl e ↦ (let s = ap in_rank_order e in omega arith) | inr j ↦ absurd j ]),
+  ((λ y i. absurd i), tt),
+)
 
 abbrev first : ℕ → ℕ → Option ℕ
 first r t = Some (max t 1000)
 
 -- rank 1 may be chosen first, where a kept pair lets the rest land by 1000
-choose_one : Choice PatternNode first (next_from pair_of_flights) (λ r t. 0) (PatternPermits two) (pattern_push two) pattern_newest (λ w q. InPairs q ((1000, 0) ∷ [])) 0 (pattern_node two []) (0, 0) 1 1000
+choose_one : Choice PatternNode first (next_from pair_of_flights) (λ r t. 0) (PatternPermits two)
+    (pattern_push two) pattern_newest (λ w q. InPairs q ((1000, 0) ∷ [])) 0 (pattern_node two []) (0, 0) 1 1000
 choose_one = record {
-  permitted = record { from_one = omega arith; to_count = omega arith; is_new = λ h. elim h [ inl le ↦ absurd (omega arith) | inr e ↦ absurd (false≢true e) ]; not_early = omega arith; not_late = omega arith; after = λ a one b. absurd (false≢true b); due = λ x one e. absurd (omega arith) };
+  permitted = record {
+    from_one = omega arith;
+    to_count = omega arith;
+    is_new =
+        λ h. elim h [ inl le ↦ absurd (omega arith) | inr e ↦ absurd (false≢true e) ];
+    not_early = omega arith;
+    not_late =
+        omega arith;
+    after = λ a one b. absurd (false≢true b);
+    due = λ x one e. absurd (omega arith);
+  };
   found = refl;
   can_end = ((1000, 0), inl refl, omega arith, omega arith);
 }
 
 -- where no second after 0 is allowed, the start keeps one completing pair
-completing_kept : KeptCompleting (CompletesNode nobody (λ r t. 0) (λ t. leb t 0) (pattern_node nobody.rules [])) (λ q. InPairs q ((0, 0) ∷ []))
+completing_kept : KeptCompleting (CompletesNode nobody (λ r t. 0) (λ t. leb t 0) (pattern_node nobody.rules []))
+    (λ q. InPairs q ((0, 0) ∷ []))
 completing_kept = record {
   completes = λ q i. elim i [
-    | inl e ↦ subst (λ (z : Pair). CompletesNode nobody (λ r t. 0) (λ t. leb t 0) (pattern_node nobody.rules []) z) (sym e) (record { opened = refl; reached = record { landings = []; legal = tt; landed = tt; at = refl; by = zero-le }; low = refl; rest = []; follows = refl; cost_is = refl })
+    | inl e ↦ subst (λ (z : Pair). CompletesNode nobody (λ r t. 0) (λ t. leb t 0) (pattern_node nobody.rules []) z)
+        (sym e) (record {
+          opened = refl;
+          reached = record {
+            landings = [];
+            legal = tt;
+            landed =
+                tt;
+            at = refl;
+            by = zero-le;
+          };
+          low = refl;
+          rest = [];
+          follows = refl;
+          cost_is = refl;
+        })
     | inr j ↦ absurd j
   ];
   covers = λ q c. ((0, 0), inl refl, (leb-true q.0 0 c.low, zero-le));
 }
 
-no_choices : LeastChoices PatternNode at_once (next_from nobody) (λ r t. 0) (PatternPermits nobody.rules) (pattern_push nobody.rules) pattern_newest (λ w. w.0 ≡ 0) (λ w q. InPairs q []) 0 (pattern_node nobody.rules []) (0, 0) []
+no_choices : LeastChoices PatternNode at_once (next_from nobody) (λ r t. 0) (PatternPermits nobody.rules)
+    (pattern_push nobody.rules) pattern_newest (λ w. w.0 ≡ 0) (λ w q. InPairs q []) 0 (pattern_node nobody.rules [])
+    (0, 0) []
 no_choices = refl
 
-order_of_none : OrderWithinBudget at_once (next_from nobody) (λ r t. 0) (Legal nobody.rules) (pattern_node nobody.rules) (λ w. w.0 ≡ 0) (λ t. t ≤ 0) 0 []
+order_of_none : OrderWithinBudget at_once (next_from nobody) (λ r t. 0) (Legal nobody.rules)
+    (pattern_node nobody.rules) (λ w. w.0 ≡ 0) (λ t. t ≤ 0) 0 []
 order_of_none = record { legal = tt; final = refl; landings = []; earliest_is = refl; low = tt; cheap = omega arith }

@@ -13,12 +13,29 @@ two = record { count = 2; most = 1; back = λ r. 1; before = λ a r. false }
 
 -- rank 2 lands first
 swapped_fits : FitsBehind two [] 2
-swapped_fits = record { from_one = omega arith; to_count = omega arith; is_new = λ i. i; not_early = omega arith; not_late = omega arith; after = λ a b. absurd (false≢true b) }
+swapped_fits = record {
+  from_one = omega arith;
+  to_count = omega arith;
+  is_new =
+      λ i. i;
+  not_early = omega arith;
+  not_late = omega arith;
+  after = λ a b. absurd (false≢true b);
+}
 
 pub swapped_legal : Legal two (1 ∷ 2 ∷ [])
 swapped_legal = (
   record {
-    fits = record { from_one = omega arith; to_count = omega arith; is_new = λ i. elim i [ inl e ↦ absurd (omega arith) | inr j ↦ j ]; not_early = omega arith; not_late = omega arith; after = λ a b. absurd (false≢true b) };
+    fits = record {
+      from_one = omega arith;
+      to_count = omega arith;
+      is_new =
+          λ i. elim i [ inl e ↦ absurd (omega arith) | inr j ↦ j ];
+      not_early = omega arith;
+      not_late = omega arith;
+      after =
+          λ a b. absurd (false≢true b);
+    };
     due = λ x one e. inl (omega arith);
   },
   (record { fits = swapped_fits; due = λ x one e. absurd (omega arith) }, tt),
@@ -32,7 +49,10 @@ abbrev swapped : List ℕ
 swapped = 2 ∷ 1 ∷ []
 
 window_lists : DistinctLists ((0 ∷ []) ∷ (1 ∷ []) ∷ [])
-window_lists = ((λ i. elim i [ inl e ↦ (let a = ap (λ l. get_or l 0 7) e in absurd (omega arith)) | inr j ↦ j ]), ((λ i. i), tt))
+window_lists = (
+  (λ i. elim i [ inl e ↦ (let a = ap (λ l. get_or l 0 7) e in absurd (omega arith)) | inr j ↦ j ]),
+  ((λ i. i), tt),
+)
 
 window_is_sized : Sized 3 1 (2 ∷ [])
 window_is_sized = (refl, (omega arith, tt))

@@ -1,4 +1,5 @@
--- Neighbours of the laws that are false, each refuted at small values: where a premise is left out or a bound is one too low.
+-- Neighbours of the laws that are false, each refuted at small values: where a premise is left out or a bound is one
+-- too low.
 use Rattle.std.proofs.Common.{◌≡◌, ℕ, ◌+◌, ◌^◌, ◌≤◌, List, [], ◌∷◌, length, false, refl, arith}
 use Rattle.std.proofs.lemmas.Bool.{false≢true}
 use Rattle.cps_theory.specs.RankLists.{above}
@@ -8,13 +9,21 @@ use Rattle.cps_theory.specs.UndominatedPairs.{sweep}
 use Rattle.cps_theory.specs.Agreement.{AgreeBelow}
 use Rattle.cps_theory.proofs.NodeExamples.{two, swapped_legal}
 
--- ---- a prefix of fewer than d places need not stay legal: rank 2 may land first in one problem, and there is no rank 2 in the other
+-- ---- a prefix of fewer than d places need not stay legal: rank 2 may land first in one problem, and there is no rank
+-- 2 in the other
 
 abbrev one : OrderRules
 one = record { count = 1; most = 1; back = λ r. 1; before = λ a r. false }
 
 agree_below_two : AgreeBelow 2 two one
-agree_below_two = record { same_most = refl; there = omega arith; same_back = λ r lt. refl; same_before = λ a r la lr b. absurd (false≢true b); same_above = λ a r da lr b. absurd (false≢true b) }
+agree_below_two = record {
+  same_most = refl;
+  there = omega arith;
+  same_back = λ r lt. refl;
+  same_before =
+      λ a r la lr b. absurd (false≢true b);
+  same_above = λ a r da lr b. absurd (false≢true b);
+}
 
 second_first : Legal two (2 ∷ [])
 second_first = swapped_legal.1

@@ -1,8 +1,11 @@
--- Examples of schedules: two flights that may land from 1000 on, 60 seconds apart, and their feasible, tight, best and first best schedules.
-use Rattle.std.proofs.Common.{◌≡◌, ◌≢◌, ℕ, zero, suc, ◌+◌, ◌-◌, ◌≤◌, inl, inr, [], ◌∷◌, true, Option, Some, leb, max, refl, arith}
+-- Examples of schedules: two flights that may land from 1000 on, 60 seconds apart, and their feasible, tight, best and
+-- first best schedules.
+use Rattle.std.proofs.Common.{◌≡◌, ◌≢◌, ℕ, zero, suc, ◌+◌, ◌-◌, ◌≤◌, inl, inr, [], ◌∷◌, true, Option, Some, leb, max}
+use Rattle.std.proofs.Common.{refl, arith}
 use Rattle.std.proofs.lemmas.Bool.{cases_lt, false≢true}
 use Rattle.cps_theory.specs.RankLists.{IsRank}
-use Rattle.cps_theory.specs.Feasible.{Feasible, IsBest, RankedProblem, SameOrder, SoundProblem, Tight, at_seconds, earlier, earliest, greatest, next_from, second_and_cost, second_in, total}
+use Rattle.cps_theory.specs.Feasible.{Feasible, IsBest, RankedProblem, SameOrder, SoundProblem, Tight, at_seconds}
+use Rattle.cps_theory.specs.Feasible.{earlier, earliest, greatest, next_from, second_and_cost, second_in, total}
 use Rattle.cps_theory.proofs.NodeExamples.{two}
 
 abbrev pub pair_of_flights : RankedProblem
@@ -26,18 +29,30 @@ feasible_two = record {
   started = each_of_two (λ r. 1000 ≤ in_rank_order r) (omega arith) (omega arith);
   separated = λ f g i j ne le. pairs f i g j ne le;
   in_order = λ f g i j b. absurd (false≢true b);
-  not_early = each_of_two (λ r. r ≤ suc (earlier 2 in_rank_order r) + 1) (omega arith) (let e : earlier 2 in_rank_order 2 ≡ 1 = refl in omega arith);
-  not_late = each_of_two (λ r. suc (earlier 2 in_rank_order r) ≤ r + 1) (let e : earlier 2 in_rank_order 1 ≡ 0 = refl in omega arith) (let e : earlier 2 in_rank_order 2 ≡ 1 = refl in omega arith);
+  not_early = each_of_two (λ r. r ≤ suc (earlier 2 in_rank_order r) + 1) (omega arith)
+      (let e : earlier 2 in_rank_order 2 ≡ 1 = refl in omega arith);
+  not_late = each_of_two (λ r. suc (earlier 2 in_rank_order r) ≤ r + 1) (let e : earlier 2 in_rank_order 1 ≡ 0 =
+      refl in omega arith) (let e : earlier 2 in_rank_order 2 ≡ 1 = refl in omega arith);
 }
   where
-    pairs : (f : ℕ) → IsRank 2 f → (g : ℕ) → IsRank 2 g → f ≢ g → in_rank_order f ≤ in_rank_order g → in_rank_order f + 60 ≤ in_rank_order g
-    pairs f i g j = each_of_two (λ f. f ≢ g → in_rank_order f ≤ in_rank_order g → in_rank_order f + 60 ≤ in_rank_order g)
-        (each_of_two (λ g. 1 ≢ g → 1000 ≤ in_rank_order g → 1060 ≤ in_rank_order g) (λ ne le. absurd (ne refl)) (λ ne le. omega arith) g j)
-        (each_of_two (λ g. 2 ≢ g → 1060 ≤ in_rank_order g → 1120 ≤ in_rank_order g) (λ ne le. absurd (omega arith)) (λ ne le. absurd (ne refl)) g j)
+    pairs : (f : ℕ) → IsRank 2 f → (g : ℕ) → IsRank 2 g → f ≢ g → in_rank_order f ≤ in_rank_order g
+        → in_rank_order f + 60 ≤ in_rank_order g
+    pairs f i g j = each_of_two (λ f. f ≢ g → in_rank_order f ≤ in_rank_order g
+        → in_rank_order f + 60 ≤ in_rank_order g)
+        (each_of_two (λ g. 1 ≢ g → 1000 ≤ in_rank_order g → 1060 ≤ in_rank_order g) (λ ne le. absurd (ne refl))
+        (λ ne le. omega arith) g j)
+        (each_of_two (λ g. 2 ≢ g → 1060 ≤ in_rank_order g → 1120 ≤ in_rank_order g) (λ ne le. absurd (omega arith))
+        (λ ne le. absurd (ne refl)) g j)
         f i
 
 sound_two : SoundProblem pair_of_flights
-sound_two = record { triangle = λ a b c. omega arith; positive = λ a b. omega arith; ranked = λ a r b. absurd (false≢true b); low = λ r. omega arith }
+sound_two = record {
+  triangle = λ a b c. omega arith;
+  positive = λ a b. omega arith;
+  ranked =
+      λ a r b. absurd (false≢true b);
+  low = λ r. omega arith;
+}
 
 first_rank : IsRank 2 1
 first_rank = (omega arith, omega arith)
@@ -64,7 +79,8 @@ best_two = record {
       let one = f.started 1 first_rank in
       let two' = f.started 2 second_rank in
       elim (cases_lt (u 1) (u 2)) [
-        | inl lt ↦ (let s = f.separated 1 2 first_rank second_rank (λ e. absurd (omega arith)) (omega arith) in omega arith)
+        | inl lt ↦ (let s = f.separated 1 2 first_rank second_rank (λ e. absurd (omega arith)) (omega arith) in
+            omega arith)
         | inr le ↦ (let s = f.separated 2 1 second_rank first_rank (λ e. absurd (omega arith)) le in omega arith)
       ];
 }

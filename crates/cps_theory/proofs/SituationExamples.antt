@@ -20,7 +20,12 @@ seven_ranks_first : rank_in ltb (7 ∷ 9 ∷ []) 7 ≡ 1
 seven_ranks_first = refl
 
 keeps_shift : KeepsCountedShift 1 (λ f. 1) ltb plan (7 ∷ 9 ∷ []) 7
-keeps_shift = (let e : place_in plan (7 ∷ 9 ∷ []) 7 ≡ 2 = refl in let r : rank_in ltb (7 ∷ 9 ∷ []) 7 ≡ 1 = refl in omega arith, let e : place_in plan (7 ∷ 9 ∷ []) 7 ≡ 2 = refl in let r : rank_in ltb (7 ∷ 9 ∷ []) 7 ≡ 1 = refl in omega arith)
+keeps_shift = (
+  let e : place_in plan (7 ∷ 9 ∷ []) 7 ≡ 2 = refl in let r : rank_in ltb (7 ∷ 9 ∷ []) 7 ≡ 1 =
+      refl in omega arith,
+  let e : place_in plan (7 ∷ 9 ∷ []) 7 ≡ 2 = refl in let r : rank_in ltb (7 ∷ 9 ∷ []) 7 ≡ 1 =
+      refl in omega arith,
+)
 
 -- it was passed over once, so that the next time it may not go back
 frozen_nine : frozen_of plan 1100 (7 ∷ 9 ∷ []) ≡ 9 ∷ []
@@ -36,12 +41,25 @@ by_number : FirstCome ltb
 by_number = record {
   one_way = λ a b e. le-ltb b a (let l = ltb-true a b e in omega arith);
   chain = λ a b c e f. lt-ltb a c (let l = ltb-true a b e in let m = ltb-true b c f in omega arith);
-  total = λ a b ne e. lt-ltb b a (let l = ltb-false a b e in elim (cases_eq a b) [ inl s ↦ absurd (ne s) | inr ne' ↦ omega arith ]);
+  total = λ a b ne e. lt-ltb b a (let l =
+      ltb-false a b e in elim (cases_eq a b) [ inl s ↦ absurd (ne s) | inr ne' ↦ omega arith ]);
 }
 
 -- one flight waits, and lands 60 seconds or more after the frozen flight 5
 abbrev situation : NumberedSituation
-situation = record { most = 1; back = λ f. 1; horizon = 1000; frozen = 5 ∷ []; waiting = 7 ∷ []; frozen_at = λ f. 980; is_open = λ f t. true; apart = λ f g. 60; lists = λ f g. false; comes_before = ltb }
+situation = record {
+  most = 1;
+  back = λ f. 1;
+  horizon = 1000;
+  frozen = 5 ∷ [];
+  waiting = 7 ∷ [];
+  frozen_at =
+      λ f. 980;
+  is_open = λ f t. true;
+  apart = λ f g. 60;
+  lists = λ f g. false;
+  comes_before = ltb;
+}
 
 abbrev landing_of : ℕ → ℕ
 landing_of f = cond (ltb f 6) 980 1040
@@ -60,10 +78,17 @@ feasible_situation = record {
   behind = one_of (λ f. 1000 ≤ landing_of f) 7 (omega arith);
   opened = λ f i. refl;
   separated = λ f g i j. two_of (λ f. f ≢ g → landing_of f ≤ landing_of g → landing_of f + 60 ≤ landing_of g)
-      (two_of (λ g. 5 ≢ g → 980 ≤ landing_of g → 1040 ≤ landing_of g) (λ ne le. absurd (ne refl)) (λ ne le. omega arith) g j)
-      (two_of (λ g. 7 ≢ g → 1040 ≤ landing_of g → 1100 ≤ landing_of g) (λ ne le. absurd (omega arith)) (λ ne le. absurd (ne refl)) g j) f i;
+      (two_of (λ g. 5 ≢ g → 980 ≤ landing_of g → 1040 ≤ landing_of g) (λ ne le. absurd (ne refl))
+      (λ ne le. omega arith) g j)
+      (two_of (λ g. 7 ≢ g → 1040 ≤ landing_of g → 1100 ≤ landing_of g) (λ ne le. absurd (omega arith))
+      (λ ne le. absurd (ne refl)) g j) f i;
   in_order = λ f g i j l. absurd (false≢true l);
-  shifted = one_of (λ f. KeepsCountedShift 1 (λ f. 1) ltb landing_of (7 ∷ []) f) 7 (let e : place_in landing_of (7 ∷ []) 7 ≡ 1 = refl in let r : rank_in ltb (7 ∷ []) 7 ≡ 1 = refl in omega arith, let e : place_in landing_of (7 ∷ []) 7 ≡ 1 = refl in let r : rank_in ltb (7 ∷ []) 7 ≡ 1 = refl in omega arith);
+  shifted = one_of (λ f. KeepsCountedShift 1 (λ f. 1) ltb landing_of (7 ∷ []) f) 7 (
+    let e : place_in landing_of (7 ∷ []) 7 ≡ 1 = refl in let r : rank_in ltb (7 ∷ []) 7 ≡ 1 =
+        refl in omega arith,
+    let e : place_in landing_of (7 ∷ []) 7 ≡ 1 = refl in let r : rank_in ltb (7 ∷ []) 7 ≡ 1 =
+        refl in omega arith,
+  );
 }
 
 sound_situation : SoundSituation situation
@@ -87,7 +112,13 @@ latest_of_both = refl
 -- ---- its problem: one flight, from 60 seconds after the frozen landing on
 
 abbrev problem : RankedProblem
-problem = record { rules = record { count = 1; most = 1; back = λ r. 1; before = λ a r. false }; is_open = λ r u. true; start = λ r. 1040; apart = λ q r. 60 }
+problem = record {
+  rules = record { count = 1; most = 1; back = λ r. 1; before = λ a r. false };
+  is_open =
+      λ r u. true;
+  start = λ r. 1040;
+  apart = λ q r. 60;
+}
 
 problem_is : ProblemOf situation problem (λ r. 7)
 problem_is = record {

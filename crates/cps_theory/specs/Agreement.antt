@@ -1,5 +1,5 @@
--- What two problems share on their ranks below d: the rules of their order, and open seconds, separation and cost; and which
--- stages count where d is their first difference.
+-- What two problems share on their ranks below d: the rules of their order, and open seconds, separation and cost; and
+-- which stages count where d is their first difference.
 use Rattle.std.specs.Prelude.{◌≡◌, ℕ, suc, ◌-◌, ◌<◌, ◌≤◌, Bool, true, ◌||◌, leb, ltb}
 use Rattle.cps_theory.specs.LegalPrefix.{OrderRules}
 
@@ -12,7 +12,8 @@ pub record AgreeBelow (d : ℕ) (g g' : OrderRules) : Type 0 where
   pub same_above : (a r : ℕ) → d ≤ a → r < d → g'.before a r ≡ true → (b : ℕ) × (d ≤ b) × (g.before b r ≡ true)
 
 -- and so do what is open, what separates, and what landings cost
-pub record SameLandings (d : ℕ) (Open Open' : ℕ → ℕ → Type 0) (after after' : ℕ → ℕ → ℕ → ℕ) (cost cost' : ℕ → ℕ → ℕ) : Type 0 where
+pub record SameLandings (d : ℕ) (Open Open' : ℕ → ℕ → Type 0) (after after' : ℕ → ℕ → ℕ → ℕ) (cost cost' : ℕ
+    → ℕ → ℕ) : Type 0 where
   pub same_open : (r t : ℕ) → r < d → Open r t → Open' r t
   pub same_after : (l t r : ℕ) → l < d → r < d → after l t r ≡ after' l t r
   pub same_cost : (r t : ℕ) → r < d → cost r t ≡ cost' r t

@@ -1,5 +1,6 @@
 -- The listed states of a certificate, as tests: what they cover, and which successor pair they miss first.
-use Rattle.std.specs.Prelude.{◌≡◌, ℕ, suc, ◌+◌, ◌-◌, ◌⊎◌, ◌&&◌, ◌||◌, ◌==◌, not, List, [], ◌∷◌, get_or, Bool, true, false, nat_le, nat_lt, Option, Some, None, is_none}
+use Rattle.std.specs.Prelude.{◌≡◌, ℕ, suc, ◌+◌, ◌-◌, ◌⊎◌, ◌&&◌, ◌||◌, ◌==◌, not, List, [], ◌∷◌, get_or, Bool, true}
+use Rattle.std.specs.Prelude.{false, nat_le, nat_lt, Option, Some, None, is_none}
 use Rattle.std.specs.Option.{option_or}
 use Rattle.std.specs.List.{list_any}
 use Rattle.std.specs.Ordering.{nat_cmp, bool_cmp, ordering_then, is_eq, is_lt}
@@ -26,12 +27,14 @@ is_missing_predecessor g w r a = g.before a r && not (is_placed_by_pattern g.mos
 
 -- after r, the rank that no later place could take is placed
 abbrev pub leaves_none_due : OrderRules → PatternNode → ℕ → Bool
-leaves_none_due g w r = nat_le (suc w.0) g.most || (suc w.0 - g.most == r || is_placed_by_pattern g.most w (suc w.0 - g.most))
+leaves_none_due g w r = nat_le (suc w.0) g.most
+    || (suc w.0 - g.most == r || is_placed_by_pattern g.most w (suc w.0 - g.most))
 
 -- rank r may come next
 unfoldable pub permits_next : OrderRules → PatternNode → ℕ → Bool
 permits_next g w r =
-    (((nat_le r (suc w.0 + g.most) && nat_le (suc w.0) (r + g.back r)) && not (is_placed_by_pattern g.most w r)) && leaves_none_due g w r)
+    (((nat_le r (suc w.0 + g.most) && nat_le (suc w.0) (r + g.back r)) && not (is_placed_by_pattern g.most w r))
+    && leaves_none_due g w r)
     && is_none (first_from (is_missing_predecessor g w r) 1 g.count)
 
 -- ---- what is listed; a state has a node and pairs

@@ -1,5 +1,7 @@
--- A problem by rank, and its feasible, tight and best schedules, said pair by pair over whole maps from ranks to seconds.
-use Rattle.std.specs.Prelude.{◌≡◌, ◌≢◌, ℕ, zero, suc, ◌+◌, ◌<◌, ◌≤◌, List, [], ◌∷◌, length, count_by, nat_lt, Bool, true, max, Option, Some, option_and_then, option_map}
+-- A problem by rank, and its feasible, tight and best schedules, said pair by pair over whole maps from ranks to
+-- seconds.
+use Rattle.std.specs.Prelude.{◌≡◌, ◌≢◌, ℕ, zero, suc, ◌+◌, ◌<◌, ◌≤◌, List, [], ◌∷◌, length, count_by, nat_lt, Bool}
+use Rattle.std.specs.Prelude.{true, max, Option, Some, option_and_then, option_map}
 use Rattle.std.proofs.Common.{cond, eqb}
 use Rattle.cps_theory.specs.RankLists.{IsRank, upto}
 use Rattle.cps_theory.specs.Separation.{Landing}
@@ -17,11 +19,13 @@ pub record RankedProblem : Type 0 where
 abbrev pub earlier : ℕ → (ℕ → ℕ) → ℕ → ℕ
 earlier n t r = count_by (λ q. nat_lt (t q) (t r)) (upto n)
 
--- feasible: each rank lands at an open second, not before its start, any two are separated, each behind its predecessors, and each near its place
+-- feasible: each rank lands at an open second, not before its start, any two are separated, each behind its
+-- predecessors, and each near its place
 pub record Feasible (p : RankedProblem) (t : ℕ → ℕ) : Type 0 where
   pub opened : (r : ℕ) → IsRank p.rules.count r → p.is_open r (t r) ≡ true
   pub started : (r : ℕ) → IsRank p.rules.count r → p.start r ≤ t r
-  pub separated : (f g : ℕ) → IsRank p.rules.count f → IsRank p.rules.count g → f ≢ g → t f ≤ t g → t f + p.apart f g ≤ t g
+  pub separated : (f g : ℕ) → IsRank p.rules.count f → IsRank p.rules.count g → f ≢ g → t f ≤ t g
+      → t f + p.apart f g ≤ t g
   pub in_order : (f g : ℕ) → IsRank p.rules.count f → IsRank p.rules.count g → p.rules.before f g ≡ true → t f < t g
   pub not_early : (r : ℕ) → IsRank p.rules.count r → r ≤ suc (earlier p.rules.count t r) + p.rules.most
   pub not_late : (r : ℕ) → IsRank p.rules.count r → suc (earlier p.rules.count t r) ≤ r + p.rules.back r
@@ -52,7 +56,9 @@ pub record LandsAllRanks (p : RankedProblem) (t : ℕ → ℕ) (rs : List ℕ) :
 -- each flight of the order, latest first, at its first open second
 abbrev pub earliest : (ℕ → ℕ → Option ℕ) → (ℕ → ℕ → ℕ → ℕ) → List ℕ → Option (List Landing)
 earliest first after [] = Some []
-earliest first after (r ∷ rs) = option_and_then (λ xs. option_map (λ t. (r, t) ∷ xs) (first r (after (latest_landing xs).0 (latest_landing xs).1 r))) (earliest first after rs)
+earliest first after (r ∷ rs) = option_and_then
+    (λ xs. option_map (λ t. (r, t) ∷ xs) (first r (after (latest_landing xs).0 (latest_landing xs).1 r)))
+    (earliest first after rs)
 
 -- the second of a rank in a list of landings
 abbrev pub second_in : List Landing → ℕ → ℕ

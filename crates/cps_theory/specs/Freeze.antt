@@ -11,7 +11,8 @@ place_in t waiting f = suc (count_by (λ g. nat_lt (t g) (t f)) waiting)
 
 -- the rule for one flight, which may go forward by k places and back by `back f`
 abbrev pub KeepsCountedShift : ℕ → (ℕ → ℕ) → (ℕ → ℕ → Bool) → (ℕ → ℕ) → List ℕ → ℕ → Type 0
-KeepsCountedShift k back comes_before t waiting f = (rank_in comes_before waiting f ≤ place_in t waiting f + k) × (place_in t waiting f ≤ rank_in comes_before waiting f + back f)
+KeepsCountedShift k back comes_before t waiting f = (rank_in comes_before waiting f ≤ place_in t waiting f + k)
+    × (place_in t waiting f ≤ rank_in comes_before waiting f + back f)
 
 -- those that land before h
 abbrev pub frozen_of : (ℕ → ℕ) → ℕ → List ℕ → List ℕ

@@ -16,7 +16,8 @@ ranks (x ∷ xs) = x.0 ∷ ranks xs
 -- each second is open, and not before what the landing before it allows; `after 0` is what the start allows
 abbrev pub Landed : (ℕ → ℕ → Type 0) → (ℕ → ℕ → ℕ → ℕ) → List Landing → Type 0
 Landed Open after [] = Unit {0}
-Landed Open after (x ∷ xs) = Open x.0 x.1 × (after (latest_landing xs).0 (latest_landing xs).1 x.0 ≤ x.1) × Landed Open after xs
+Landed Open after (x ∷ xs) = Open x.0 x.1 × (after (latest_landing xs).0 (latest_landing xs).1 x.0 ≤ x.1)
+    × Landed Open after xs
 
 -- what the landings cost together
 abbrev pub cost_of : (ℕ → ℕ → ℕ) → List Landing → ℕ

@@ -2,7 +2,8 @@
 use Rattle.std.specs.Prelude.{◌≡◌, ℕ, suc, ◌+◌, ◌≤◌, ◌⊎◌, List, [], ◌∷◌, length, Bool, true}
 use Rattle.cps_theory.specs.RankLists.{In}
 
--- what the ranks are asked: how many there are, how far a flight may go forward, and back, and what must stand before what
+-- what the ranks are asked: how many there are, how far a flight may go forward, and back, and what must stand before
+-- what
 pub record OrderRules : Type 0 where
   pub count : ℕ
   pub most : ℕ
@@ -27,7 +28,8 @@ EachFits g (r ∷ rs) = FitsBehind g rs r × EachFits g rs
 abbrev pub NoneDue : OrderRules → List ℕ → Type 0
 NoneDue g rs = (x : ℕ) → 1 ≤ x → x + g.most ≤ length rs → In x rs
 
--- a legal prefix: different ranks from 1 to the count, each near its place and behind its predecessors, with no rank left out that is due
+-- a legal prefix: different ranks from 1 to the count, each near its place and behind its predecessors, with no rank
+-- left out that is due
 pub record IsLegalPrefix (g : OrderRules) (rs : List ℕ) : Type 0 where
   pub placed : EachFits g rs
   pub none_due : NoneDue g rs

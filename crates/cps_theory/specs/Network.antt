@@ -5,7 +5,8 @@ use Rattle.cps_theory.specs.LandingTrail.{Landed, last_rank, pair_of, ranks}
 use Rattle.cps_theory.specs.Labels.{NoWorse, Pair}
 
 -- a node says which ranks may come next, and which of them came last
-pub record Network (W : Type 0) (Legal : List ℕ → Type 0) (node : List ℕ → W) (Permitted : W → ℕ → Type 0) (push : W → ℕ → W) (newest : W → ℕ) : Type 0 where
+pub record Network (W : Type 0) (Legal : List ℕ → Type 0) (node : List ℕ → W) (Permitted : W
+    → ℕ → Type 0) (push : W → ℕ → W) (newest : W → ℕ) : Type 0 where
   pub empty : Legal []
   pub grows : (r : ℕ) (rs : List ℕ) → Legal rs → Permitted (node rs) r → Legal (r ∷ rs)
   pub shrinks : (r : ℕ) (rs : List ℕ) → Legal (r ∷ rs) → Legal rs × Permitted (node rs) r
@@ -13,7 +14,8 @@ pub record Network (W : Type 0) (Legal : List ℕ → Type 0) (node : List ℕ �
   pub newest_is : (rs : List ℕ) → Legal rs → newest (node rs) ≡ last_rank rs
 
 -- a legal prefix of this node lands with this last second and this cost
-pub record Attained {W : Type 0} (Open : ℕ → ℕ → Type 0) (after : ℕ → ℕ → ℕ → ℕ) (cost : ℕ → ℕ → ℕ) (Legal : List ℕ → Type 0) (node : List ℕ → W) (w : W) (p : Pair) : Type 0 where
+pub record Attained {W : Type 0} (Open : ℕ → ℕ → Type 0) (after : ℕ → ℕ → ℕ → ℕ) (cost : ℕ
+    → ℕ → ℕ) (Legal : List ℕ → Type 0) (node : List ℕ → W) (w : W) (p : Pair) : Type 0 where
   pub landings : List Landing
   pub legal : Legal (ranks landings)
   pub landed : Landed Open after landings

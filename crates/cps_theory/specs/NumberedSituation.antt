@@ -1,4 +1,5 @@
--- A situation whose flights are numbers: its feasible schedules over whole maps, a freeze of it, and its problem by rank.
+-- A situation whose flights are numbers: its feasible schedules over whole maps, a freeze of it, and its problem by
+-- rank.
 use Rattle.std.specs.Prelude.{◌≡◌, ◌≢◌, ℕ, ◌+◌, ◌<◌, ◌≤◌, List, ◌++◌, Bool, true, map, IsPermutation}
 use Rattle.cps_theory.specs.RankLists.{Distinct, In, IsRank, upto}
 use Rattle.cps_theory.specs.Feasible.{RankedProblem}
@@ -26,7 +27,8 @@ pub record NumberedSituation : Type 0 where
 abbrev pub active : NumberedSituation → List ℕ
 active s = s.frozen ++ s.waiting
 
--- feasible: the frozen flights keep their seconds, the waiting ones land from the horizon on and keep the shift rule, all at open seconds, separated and in precedence
+-- feasible: the frozen flights keep their seconds, the waiting ones land from the horizon on and keep the shift rule,
+-- all at open seconds, separated and in precedence
 pub record FeasibleIn (s : NumberedSituation) (t : ℕ → ℕ) : Type 0 where
   pub kept : (f : ℕ) → In f s.frozen → t f ≡ s.frozen_at f
   pub behind : (f : ℕ) → In f s.waiting → s.horizon ≤ t f
@@ -52,12 +54,18 @@ pub record ProblemOf (s : NumberedSituation) (p : RankedProblem) (at : ℕ → �
   pub back_is : (r : ℕ) → p.rules.back r ≡ s.back (at r)
   pub open_is : (r u : ℕ) → p.is_open r u ≡ s.is_open (at r) u
   pub apart_is : (q r : ℕ) → p.apart q r ≡ s.apart (at q) (at r)
-  pub before_is : (q r : ℕ) → IsRank p.rules.count q → IsRank p.rules.count r → p.rules.before q r ≡ s.lists (at q) (at r)
+  pub before_is : (q r : ℕ) → IsRank p.rules.count q → IsRank p.rules.count r
+      → p.rules.before q r ≡ s.lists (at q) (at r)
   -- the start is the horizon, and what the last frozen one allows
-  pub start_low : (r t : ℕ) → p.start r ≤ t → (s.horizon ≤ t) × ((x : ℕ) → In x s.frozen → ((f : ℕ) → In f s.frozen → s.frozen_at f ≤ s.frozen_at x) → s.frozen_at x + s.apart x (at r) ≤ t)
-  pub start_high : (r t : ℕ) → s.horizon ≤ t → ((x : ℕ) → In x s.frozen → ((f : ℕ) → In f s.frozen → s.frozen_at f ≤ s.frozen_at x) → s.frozen_at x + s.apart x (at r) ≤ t) → p.start r ≤ t
+  pub start_low : (r t : ℕ) → p.start r ≤ t → (s.horizon ≤ t)
+      × ((x : ℕ) → In x s.frozen → ((f : ℕ) → In f s.frozen → s.frozen_at f ≤ s.frozen_at x)
+      → s.frozen_at x + s.apart x (at r) ≤ t)
+  pub start_high : (r t : ℕ) → s.horizon ≤ t
+      → ((x : ℕ) → In x s.frozen → ((f : ℕ) → In f s.frozen → s.frozen_at f ≤ s.frozen_at x)
+      → s.frozen_at x + s.apart x (at r) ≤ t) → p.start r ≤ t
   -- the waiting flights by rank
   pub at_in : (r : ℕ) → IsRank p.rules.count r → In (at r) s.waiting
   pub at_all : (f : ℕ) → In f s.waiting → (r : ℕ) × IsRank p.rules.count r × (at r ≡ f)
-  pub at_order : (q r : ℕ) → IsRank p.rules.count q → IsRank p.rules.count r → q < r → s.comes_before (at q) (at r) ≡ true
+  pub at_order : (q r : ℕ) → IsRank p.rules.count q → IsRank p.rules.count r → q < r
+      → s.comes_before (at q) (at r) ≡ true
   pub permuted : IsPermutation (map at (upto p.rules.count)) s.waiting

@@ -13,4 +13,5 @@ latest_in t (f ∷ fs) = max (t f) (latest_in t fs)
 pub record SameObjectives (s : NumberedSituation) (p : RankedProblem) (at : ℕ → ℕ) (t : ℕ → ℕ) : Type 0 where
   pub none_waits : p.rules.count ≡ 0 → latest_in t (active s) ≡ latest_in s.frozen_at s.frozen
   pub some_wait : 1 ≤ p.rules.count → latest_in t (active s) ≡ greatest (λ r. t (at r)) p.rules.count
-  pub delays : (cost : ℕ → ℕ → ℕ) → sum_by (λ f. cost f (t f)) (active s) ≡ sum_by (λ f. cost f (s.frozen_at f)) s.frozen + total (λ r. cost (at r) (t (at r))) (upto p.rules.count)
+  pub delays : (cost : ℕ → ℕ → ℕ) → sum_by (λ f. cost f (t f)) (active s) ≡ sum_by
+      (λ f. cost f (s.frozen_at f)) s.frozen + total (λ r. cost (at r) (t (at r))) (upto p.rules.count)

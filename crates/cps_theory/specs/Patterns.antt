@@ -1,5 +1,6 @@
 -- A prefix by the pattern of the placed ranks round its stage and its latest rank: a certificate's node.
-use Rattle.std.specs.Prelude.{◌<◌, count_by, ◌≡◌, ℕ, zero, suc, ◌+◌, ◌-◌, ◌*◌, ◌≤◌, ◌⊎◌, List, [], ◌∷◌, length, Bool, true, false, ◌||◌}
+use Rattle.std.specs.Prelude.{◌<◌, count_by, ◌≡◌, ℕ, zero, suc, ◌+◌, ◌-◌, ◌*◌, ◌≤◌, ◌⊎◌, List, [], ◌∷◌, length, Bool}
+use Rattle.std.specs.Prelude.{true, false, ◌||◌}
 use Rattle.std.proofs.Common.{leb, eqb, get_or}
 use Rattle.cps_theory.specs.LandingTrail.{last_rank}
 use Rattle.cps_theory.specs.LegalPrefix.{MayCome, OrderRules}
@@ -36,13 +37,19 @@ PatternPermits g w r = MayCome g w.0 (IsPlacedByPattern g w) r
 
 -- the node when rank r has come next
 abbrev pub pattern_push : OrderRules → PatternNode → ℕ → PatternNode
-pattern_push g w r = (suc w.0, tests_from (λ y. eqb y (r + g.most) || get_or w.1 (y - suc w.0) false) (suc (suc w.0)) (2 * g.most), r)
+pattern_push g w r = (
+  suc w.0,
+  tests_from (λ y. eqb y (r + g.most) || get_or w.1 (y - suc w.0) false)
+      (suc (suc w.0)) (2 * g.most),
+  r,
+)
 
 -- the latest rank
 abbrev pub pattern_newest : PatternNode → ℕ
 pattern_newest w = w.2
 
--- the shape of a node of n flights: 2k digits of which k are set, ranks below 1 placed and none above n, and the latest rank near its place and placed
+-- the shape of a node of n flights: 2k digits of which k are set, ranks below 1 placed and none above n, and the latest
+-- rank near its place and placed
 pub record IsShaped (k n : ℕ) (w : PatternNode) : Type 0 where
   pub stage : w.0 ≤ n
   pub digits : length w.1 ≡ 2 * k

@@ -1,4 +1,5 @@
--- The network of a ranked problem: what its nodes attain and keep, by window and by pattern, and a closed certificate of it.
+-- The network of a ranked problem: what its nodes attain and keep, by window and by pattern, and a closed certificate
+-- of it.
 use Rattle.std.specs.Prelude.{◌≡◌, ℕ, ◌≤◌, List, [], Option, true}
 use Rattle.cps_theory.specs.Separation.{Landing}
 use Rattle.cps_theory.specs.Retiming.{IsFirstOpen}
@@ -18,7 +19,8 @@ LandedIn p xs = Landed (λ r u. p.is_open r u ≡ true) (next_from p) xs
 
 -- the listed pairs are closed under successor pairs
 abbrev pub IsClosedCertificate : RankedProblem → (ℕ → ℕ → Option ℕ) → (ℕ → ℕ → ℕ) → (PatternNode → List Pair) → Type 0
-IsClosedCertificate p first cost lists = ClosedNodes first (next_from p) cost (PatternPermits p.rules) (pattern_push p.rules) pattern_newest (pattern_node p.rules []) (λ w q. InPairs q (lists w))
+IsClosedCertificate p first cost lists = ClosedNodes first (next_from p) cost (PatternPermits p.rules)
+    (pattern_push p.rules) pattern_newest (pattern_node p.rules []) (λ w q. InPairs q (lists w))
 
 -- a value of pairs that no pair no worse exceeds
 abbrev pub IsObjective : (Pair → ℕ) → Type 0

@@ -6,6 +6,7 @@ pub record IsFirstOpen (Open : ℕ → ℕ → Type 0) (first : ℕ → ℕ → 
   pub found : (r t u : ℕ) → first r t ≡ Some u → Open r u × (t ≤ u)
   pub least : (r t v : ℕ) → Open r v → t ≤ v → (u : ℕ) × (first r t ≡ Some u) × (u ≤ v)
 
--- `after l t r` is the earliest second at which `r` may land once `l` has landed at `t`; a later landing never makes it earlier
+-- `after l t r` is the earliest second at which `r` may land once `l` has landed at `t`; a later landing never makes it
+-- earlier
 pub record NeverEarlier (after : ℕ → ℕ → ℕ → ℕ) : Type 0 where
   pub mono : (l t u r : ℕ) → t ≤ u → after l t r ≤ after l u r

@@ -1,4 +1,5 @@
--- Lists of pairs without those that another is no worse than: kept by insertion, or swept from a sorted list into a staircase.
+-- Lists of pairs without those that another is no worse than: kept by insertion, or swept from a sorted list into a
+-- staircase.
 use Rattle.std.specs.Prelude.{◌≡◌, ℕ, ◌<◌, ◌≤◌, ◌⊎◌, List, [], ◌∷◌, Bool, true, false}
 use Rattle.std.proofs.Common.{cond, ltb}
 use Rattle.cps_theory.specs.Labels.{InPairs, NoWorse, Pair, no_worse}

@@ -14,5 +14,9 @@ runs_accepted law words old new status a f text answer printed there done unfail
       | inr ended ↦
           let prints = ended.2 in
           let same = (accepted.answered prints.text ended.0).0 prints.admitted in
-          inr (ended.1 ∙ ap answer_status same.1, subst (λ (line : List ℕ). Grows old.out new.out line) same.0 prints.grew)
+          inr (
+            ended.1 ∙ ap answer_status same.1,
+            subst
+                (λ (line : List ℕ). Grows old.out new.out line) same.0 prints.grew,
+          )
     ]

@@ -2,9 +2,11 @@
 use Rattle.std.proofs.Common.{ℕ, ◌<◌, ◌≤◌, List, [], ◌∷◌, length, arith}
 use Rattle.certificate_commands.specs.TextLaws.{CertifyIsBoundedLaw, CheckIsBoundedLaw}
 use Rattle.inquiry_commands.specs.TextLaws.{AuditIsBoundedLaw, FirstIsBoundedLaw, WhatIfIsBoundedLaw}
-use Rattle.planning_commands.specs.TextLengths.{EffortTextIsBoundedLaw, PlanTextIsBoundedLaw, ReplayTextIsBoundedLaw, TrialTextIsBoundedLaw}
+use Rattle.planning_commands.specs.TextLengths.{EffortTextIsBoundedLaw, PlanTextIsBoundedLaw, ReplayTextIsBoundedLaw}
+use Rattle.planning_commands.specs.TextLengths.{TrialTextIsBoundedLaw}
 use Rattle.cps_top.specs.declared.commands.Command.{Command}
-use Rattle.cps_top.specs.declared.commands.Command.TheVariants.{Plan, Replay, Certify, Check, Effort, Trial, First, WhatIf, Audit}
+use Rattle.cps_top.specs.declared.commands.Command.TheVariants.{Plan, Replay, Certify, Check, Effort, Trial, First}
+use Rattle.cps_top.specs.declared.commands.Command.TheVariants.{WhatIf, Audit}
 use Rattle.cps_top.specs.Commands.{Begins, IsCommandInRange}
 use Rattle.cps_top.specs.MostBytes.{TextsAreBoundedLaw, most_bytes}
 

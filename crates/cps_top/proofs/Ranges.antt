@@ -7,7 +7,8 @@ use Rattle.cps_base.specs.Number.{number_within}
 use Rattle.cps_base.specs.declared.number.NumberFault.{NumberFault}
 use Rattle.text_bounds.specs.shared.Numbers.{within}
 use Rattle.cps_top.specs.declared.commands.Command.{Command}
-use Rattle.cps_top.specs.declared.commands.Command.TheVariants.{Plan, Replay, Certify, Check, Effort, Trial, First, WhatIf, Audit}
+use Rattle.cps_top.specs.declared.commands.Command.TheVariants.{Plan, Replay, Certify, Check, Effort, Trial, First}
+use Rattle.cps_top.specs.declared.commands.Command.TheVariants.{WhatIf, Audit}
 use Rattle.cps_top.specs.Commands.{IsCommandInRange, command_of, number_of, trial_by, trial_of}
 use Rattle.cps_top.proofs.Counts.{named, other}
 
@@ -57,4 +58,5 @@ in_range (word ∷ rest) c e =
     (λ t s. subst IsCommandInRange s tt) (λ e.
     named (bytes_eq word (codes "audit") && (length rest == 3)) Audit _ c (IsCommandInRange c) e
     (λ t s. subst IsCommandInRange s tt) (λ e.
-    other (bytes_eq word (codes "trial")) (trial_of rest) c (IsCommandInRange c) e (λ e. trial_in_range rest c e)))))))))
+    other (bytes_eq word (codes "trial")) (trial_of rest) c (IsCommandInRange c) e
+    (λ e. trial_in_range rest c e)))))))))

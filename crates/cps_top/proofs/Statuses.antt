@@ -1,9 +1,12 @@
 -- Each status by its ending.
-use Rattle.std.proofs.Common.{◌≡◌, ◌≢◌, ◌≤◌, ◌+◌, ◌⊎◌, inl, inr, ℕ, List, [], ap, sym, subst, append-nil, take, drop, take-append-drop, arith}
+use Rattle.std.proofs.Common.{◌≡◌, ◌≢◌, ◌≤◌, ◌+◌, ◌⊎◌, inl, inr, ℕ, List, [], ap, sym, subst, append-nil, take, drop}
+use Rattle.std.proofs.Common.{take-append-drop, arith}
 use Rattle.endings.specs.declared.ending.Answer.{Answer}
-use Rattle.endings.specs.declared.ending.Answer.TheVariants.{Scheduled, Infeasible, Certified, Accepted, Rejected, Tried, Clean, Broken, Claimed}
+use Rattle.endings.specs.declared.ending.Answer.TheVariants.{Scheduled, Infeasible, Certified, Accepted, Rejected}
+use Rattle.endings.specs.declared.ending.Answer.TheVariants.{Tried, Clean, Broken, Claimed}
 use Rattle.endings.specs.declared.ending.Ending.{Ending}
-use Rattle.endings.specs.declared.ending.Ending.TheVariants.{Answered, Misused, Refused, NotLoaded, NotWritten, TooLong, NoMemory}
+use Rattle.endings.specs.declared.ending.Ending.TheVariants.{Answered, Misused, Refused, NotLoaded, NotWritten}
+use Rattle.endings.specs.declared.ending.Ending.TheVariants.{TooLong, NoMemory}
 use Rattle.endings.specs.Lines.{answer_status, status_of}
 use Rattle.endings.specs.Outside.{Outside}
 use Rattle.cps_top.specs.Outcome.{Ends, Serves}
@@ -12,11 +15,14 @@ use Rattle.endings.specs.Loads.{AsksForSome, StopsAt, Loads}
 use Rattle.cps_outside.specs.FolderState.{FolderState}
 use Rattle.cps_top.specs.Statuses.{Asks}
 
-loads_all : (old new : FolderState) (names contents : List (List ℕ)) → Loads old new names contents → AsksForSome old new names
+loads_all : (old new : FolderState) (names contents : List (List ℕ)) → Loads old new names contents
+    → AsksForSome old new names
 loads_all old new names contents l = λ told. (names, [], append-nil names, l.asked told)
 
-stops_some : (old new : FolderState) (names : List (List ℕ)) (place : ℕ) → StopsAt old new names place → AsksForSome old new names
-stops_some old new names place s = λ told. (take place names, drop place names, take-append-drop place names, s.asked told)
+stops_some : (old new : FolderState) (names : List (List ℕ)) (place : ℕ) → StopsAt old new names place
+    → AsksForSome old new names
+stops_some old new names place s =
+    λ told. (take place names, drop place names, take-append-drop place names, s.asked told)
 
 -- a command that ran ends with none of these: no command, a load that failed, a file that is too long
 abbrev IsOfRun : ℕ → Type 0
@@ -33,7 +39,8 @@ answers Clean = (λ e. omega arith, λ e. omega arith, λ e. omega arith)
 answers Broken = (λ e. omega arith, λ e. omega arith, λ e. omega arith)
 answers Claimed = (λ e. omega arith, λ e. omega arith, λ e. omega arith)
 
-ran : (words : List (List ℕ)) (old new : Outside) (status : ℕ) (ending : Ending) → IsOfRun status → Serves words old new ending → Asks words old new status
+ran : (words : List (List ℕ)) (old new : Outside) (status : ℕ) (ending : Ending) → IsOfRun status
+    → Serves words old new ending → Asks words old new status
 ran words old new status ending other s = record {
   none = λ e. absurd (other.0 e);
   some = λ named. loads_all old.folder new.folder (files_of words) s.contents s.loads;
@@ -43,13 +50,22 @@ ran words old new status ending other s = record {
 }
 
 -- the even statuses above 0 say that not all files need have been asked for
-not_all : (half status : ℕ) → 1 ≤ half → status ≡ half + half → (status ≡ 0) ⊎ (status ≡ 1) ⊎ (status ≡ 3) ⊎ (status ≡ 5) ⊎ (status ≡ 7) → ⊥
+not_all : (half status : ℕ) → 1 ≤ half → status ≡ half + half → (status ≡ 0) ⊎ (status ≡ 1)
+    ⊎ (status ≡ 3) ⊎ (status ≡ 5) ⊎ (status ≡ 7) → ⊥
 not_all half status some even told =
-    elim told [ inl a ↦ omega arith | inr (inl a) ↦ omega arith | inr (inr (inl a)) ↦ omega arith | inr (inr (inr (inl a))) ↦ omega arith | inr (inr (inr (inr a))) ↦ omega arith ]
+    elim told [
+      | inl a ↦ omega arith
+      | inr (inl a) ↦ omega arith
+      | inr (inr (inl a)) ↦
+          omega arith
+      | inr (inr (inr (inl a))) ↦ omega arith
+      | inr (inr (inr (inr a))) ↦ omega arith
+    ]
 
 pub asks : (words : List (List ℕ)) (old new : Outside) (status : ℕ) (ending : Ending) →
     status ≡ status_of ending → Ends words old new ending → Asks words old new status
-asks words old new status (Answered answer) is ends = ran words old new status (Answered answer) (subst IsOfRun (sym is) (answers answer)) ends
+asks words old new status (Answered answer) is ends =
+    ran words old new status (Answered answer) (subst IsOfRun (sym is) (answers answer)) ends
 asks words old new status Misused is ends = record {
   none = λ e. ap (λ o. o.folder) ends.1;
   some = λ named. absurd (named ends.0);
@@ -57,7 +73,8 @@ asks words old new status Misused is ends = record {
   failed = λ e. absurd (omega arith);
   too_long = λ e. absurd (omega arith);
 }
-asks words old new status (Refused refusal) is ends = ran words old new status (Refused refusal) (λ e. omega arith, λ e. omega arith, λ e. omega arith) ends
+asks words old new status (Refused refusal) is ends =
+    ran words old new status (Refused refusal) (λ e. omega arith, λ e. omega arith, λ e. omega arith) ends
 asks words old new status (NotLoaded place) is ends = record {
   none = λ e. absurd (omega arith);
   some = λ named. stops_some old.folder new.folder (files_of words) place ends.loads.stops;
@@ -65,7 +82,8 @@ asks words old new status (NotLoaded place) is ends = record {
   failed = λ e. (place, ends.loads);
   too_long = λ e. absurd (omega arith);
 }
-asks words old new status NotWritten is ends = ran words old new status NotWritten (λ e. omega arith, λ e. omega arith, λ e. omega arith) ends
+asks words old new status NotWritten is ends =
+    ran words old new status NotWritten (λ e. omega arith, λ e. omega arith, λ e. omega arith) ends
 asks words old new status (TooLong place) is ends = record {
   none = λ e. absurd (omega arith);
   some = λ named. stops_some old.folder new.folder (files_of words) place ends.loads.stops;
@@ -80,4 +98,5 @@ asks words old new status NoMemory is (inl ends) = record {
   failed = λ e. absurd (omega arith);
   too_long = λ e. absurd (omega arith);
 }
-asks words old new status NoMemory is (inr ends) = ran words old new status NoMemory (λ e. omega arith, λ e. omega arith, λ e. omega arith) ends
+asks words old new status NoMemory is (inr ends) =
+    ran words old new status NoMemory (λ e. omega arith, λ e. omega arith, λ e. omega arith) ends

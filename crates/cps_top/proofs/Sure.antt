@@ -1,5 +1,5 @@
--- From a folder that is sure no load of files that are there fails, and into a sink that is sure no text fails for which there
--- is room.
+-- From a folder that is sure no load of files that are there fails, and into a sink that is sure no text fails for
+-- which there is room.
 use Rattle.std.proofs.Common.{◌≡◌, inl, inr, ℕ, ◌<◌, ◌≤◌, List, length, IsTrue, arith}
 use Rattle.cps_outside.specs.SinkState.{SinkState}
 use Rattle.cps_top.specs.declared.commands.Command.{Command}

@@ -1,10 +1,12 @@
 -- The commands: how their words read, and what each admits over the contents of its files.
-use Rattle.std.specs.Prelude.{ℕ, ◌&&◌, ◌==◌, ◌≤◌, ⊤, List, [], ◌∷◌, length, drop, codes, bytes_eq, Option, Some, None, option_map, unwrap_or, if◌then◌else◌}
+use Rattle.std.specs.Prelude.{ℕ, ◌&&◌, ◌==◌, ◌≤◌, ⊤, List, [], ◌∷◌, length, drop, codes, bytes_eq, Option, Some, None}
+use Rattle.std.specs.Prelude.{option_map, unwrap_or, if◌then◌else◌}
 use Rattle.std.specs.Result.{result_ok}
 use Rattle.cps_base.specs.Number.{number_within}
 use Rattle.landing_rules.specs.Limits.{most_waiting}
 use Rattle.cps_top.specs.declared.commands.Command.{Command}
-use Rattle.cps_top.specs.declared.commands.Command.TheVariants.{Plan, Replay, Certify, Check, Effort, Trial, First, WhatIf, Audit}
+use Rattle.cps_top.specs.declared.commands.Command.TheVariants.{Plan, Replay, Certify, Check, Effort, Trial, First}
+use Rattle.cps_top.specs.declared.commands.Command.TheVariants.{WhatIf, Audit}
 use Rattle.endings.specs.declared.ending.Answer.{Answer}
 use Rattle.endings.specs.declared.ending.FilesFault.{FilesFault}
 use Rattle.inquiry_commands.specs.Audit.{AdmitsAudit, RefusesAudit}
@@ -76,7 +78,8 @@ abbrev pub Admits : Command → List (List ℕ) → List ℕ → Answer → Type
 Admits Plan (aerodrome ∷ flights ∷ []) text answer = AdmitsPlan aerodrome flights text answer
 Admits Replay (aerodrome ∷ flights ∷ events ∷ []) text answer = AdmitsReplay aerodrome flights events text answer
 Admits Certify (aerodrome ∷ flights ∷ []) text answer = AdmitsCertify aerodrome flights text answer
-Admits Check (aerodrome ∷ flights ∷ certificate ∷ []) text answer = AdmitsCheck aerodrome flights certificate text answer
+Admits Check (aerodrome ∷ flights ∷ certificate ∷ []) text answer =
+    AdmitsCheck aerodrome flights certificate text answer
 Admits Effort (aerodrome ∷ flights ∷ events ∷ []) text answer = AdmitsEffort aerodrome flights events text answer
 Admits First (aerodrome ∷ flights ∷ []) text answer = AdmitsFirst aerodrome flights text answer
 Admits WhatIf (aerodrome ∷ flights ∷ trials ∷ []) text answer = AdmitsWhatIf aerodrome flights trials text answer
@@ -84,7 +87,8 @@ Admits Audit (aerodrome ∷ flights ∷ plan ∷ []) text answer = AdmitsAudit a
 Admits (Trial seed n k) [] text answer = AdmitsTrial seed n k text answer
 Admits command contents text answer = ⊥
 
--- in how many puts it prints a text over these contents: `replay` and `effort` in one for each answer, the others in one
+-- in how many puts it prints a text over these contents: `replay` and `effort` in one for each answer, the others in
+-- one
 abbrev pub puts_of : Command → List (List ℕ) → ℕ
 puts_of Replay (aerodrome ∷ flights ∷ events ∷ []) = replay_puts events
 puts_of Effort (aerodrome ∷ flights ∷ events ∷ []) = effort_puts events

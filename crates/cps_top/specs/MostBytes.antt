@@ -8,7 +8,8 @@ use Rattle.certificate_commands.specs.TextLaws.{certify_bound, check_bound}
 use Rattle.inquiry_commands.specs.TextLaws.{audit_bound, line_count}
 use Rattle.planning_commands.specs.TextLengths.{effort_bound}
 use Rattle.cps_top.specs.declared.commands.Command.{Command}
-use Rattle.cps_top.specs.declared.commands.Command.TheVariants.{Plan, Replay, Certify, Check, Effort, Trial, First, WhatIf, Audit}
+use Rattle.cps_top.specs.declared.commands.Command.TheVariants.{Plan, Replay, Certify, Check, Effort, Trial, First}
+use Rattle.cps_top.specs.declared.commands.Command.TheVariants.{WhatIf, Audit}
 use Rattle.cps_top.specs.Commands.{Begins, IsCommandInRange}
 
 -- by how many flights, events, trials and landing lines these hold

@@ -13,7 +13,8 @@ use Rattle.cps_top.specs.Commands.{command_of, files_of, puts_of, Admits, Begins
 
 -- What a command does over the contents of its files, with this ending.
 abbrev pub Follows : Command → List (List ℕ) → SinkState → SinkState → Ending → Type 0
-Follows command contents = FollowsBy (puts_of command contents) (Admits command contents) (Begins command contents) (Refuses command contents)
+Follows command contents =
+    FollowsBy (puts_of command contents) (Admits command contents) (Begins command contents) (Refuses command contents)
 
 -- The words name a command, whose files were loaded and which then ran.
 pub record Serves (words : List (List ℕ)) (old new : Outside) (ending : Ending) : Type 0 where
@@ -24,7 +25,8 @@ pub record Serves (words : List (List ℕ)) (old new : Outside) (ending : Ending
   pub follows : Follows command contents old.out new.out ending
 
 -- The words name a command, the loads of whose files end so, and `out` is as it was.
-pub record StopsLoading (words : List (List ℕ)) (old new : Outside) (P : FolderState → FolderState → List (List ℕ) → Type 0) : Type 0 where
+pub record StopsLoading (words : List (List ℕ)) (old new : Outside) (P : FolderState → FolderState
+    → List (List ℕ) → Type 0) : Type 0 where
   pub command : Command
   pub named : command_of words ≡ Some command
   pub loads : P old.folder new.folder (files_of words)

@@ -1,5 +1,6 @@
 -- What each status of the program says.
-use Rattle.std.specs.Prelude.{[], ◌∷◌, ◌++◌, ◌<◌, ◌≡◌, ◌⊎◌, ◌↔◌, ℕ, ◌+◌, ◌≢◌, ◌≤◌, List, length, map, Some, None, IsTrue}
+use Rattle.std.specs.Prelude.{[], ◌∷◌, ◌++◌, ◌<◌, ◌≡◌, ◌⊎◌, ◌↔◌, ℕ, ◌+◌, ◌≢◌, ◌≤◌, List, length, map, Some, None}
+use Rattle.std.specs.Prelude.{IsTrue}
 use Rattle.std.specs.List.{AllByRecursion}
 use Rattle.cps_outside.specs.Causes.{RoseBy, Rose}
 use Rattle.cps_outside.specs.SinkState.{SinkState}
@@ -36,7 +37,8 @@ pub record Asks (words : List (List ℕ)) (old new : Outside) (status : ℕ) : T
   pub too_long : status ≡ 6 → (place : ℕ) × IsTooLongAt old.folder new.folder (files_of words) place
 
 -- a command's files are there, with these contents, and none is too long
-pub record AreThere (words : List (List ℕ)) (old : Outside) (command : Command) (contents : List (List ℕ)) : Type 0 where
+pub record AreThere (words : List (List ℕ)) (old : Outside) (command : Command)
+    (contents : List (List ℕ)) : Type 0 where
   pub named : command_of words ≡ Some command
   -- with no file it asks for no folder that tells
   pub tells : files_of words ≢ [] → IsTrue old.folder.tells
@@ -63,25 +65,30 @@ HasRoom command contents sink = most_bytes command contents ≤ sink.room
 abbrev pub HoldsEach : Command → List (List ℕ) → SinkState → Type 0
 HoldsEach command contents sink = (text : List ℕ) → Begins command contents text → length text ≤ sink.room
 
--- From a folder that is sure: over files that are taken, and into a sink that is sure and has room, the text is written whole,
--- or memory was short. Files that are refused give status 3, or memory was short.
+-- From a folder that is sure: over files that are taken, and into a sink that is sure and has room, the text is written
+-- whole, or memory was short. Files that are refused give status 3, or memory was short.
 pub record IsSure (words : List (List ℕ)) (old new : Outside) (status : ℕ) : Type 0 where
-  pub complete : (command : Command) (contents : List (List ℕ)) → AreThere words old command contents → IsTrue old.folder.sure →
+  pub complete : (command : Command) (contents : List (List ℕ)) → AreThere words old command contents
+      → IsTrue old.folder.sure →
       ((refusal : FilesFault) → Refuses command contents refusal → ⊥) →
       IsTrue old.out.sure → HasRoom command contents old.out → IsComplete command contents old new status
   -- the same where the room is known to hold each of these texts
   pub held : (command : Command) (contents : List (List ℕ)) → AreThere words old command contents →
       IsTrue old.folder.sure → ((refusal : FilesFault) → Refuses command contents refusal → ⊥) →
       IsTrue old.out.sure → HoldsEach command contents old.out → IsComplete command contents old new status
-  pub refused : (command : Command) (contents : List (List ℕ)) (refusal : FilesFault) → AreThere words old command contents → IsTrue old.folder.sure →
+  pub refused : (command : Command) (contents : List (List ℕ)) (refusal : FilesFault)
+      → AreThere words old command contents → IsTrue old.folder.sure →
       Refuses command contents refusal → (status ≡ 3) ⊎ (status ≡ 8)
 
 -- Files that are refused give status 3, unless a load failed, and one that is too long gives 6, unless its load or an
 -- earlier one failed; or memory was short.
 pub record IsExact (words : List (List ℕ)) (old new : Outside) (status : ℕ) : Type 0 where
-  pub refused : (command : Command) (contents : List (List ℕ)) (refusal : FilesFault) → AreThere words old command contents →
-      Refuses command contents refusal → (status ≡ 3) ⊎ (status ≡ 8) ⊎ ((status ≡ 4) × Rose old.folder.faults new.folder.faults)
-  pub too_long : (command : Command) (before after : List (List ℕ)) (name bytes : List ℕ) → command_of words ≡ Some command →
+  pub refused : (command : Command) (contents : List (List ℕ)) (refusal : FilesFault)
+      → AreThere words old command contents →
+      Refuses command contents refusal → (status ≡ 3) ⊎ (status ≡ 8)
+      ⊎ ((status ≡ 4) × Rose old.folder.faults new.folder.faults)
+  pub too_long : (command : Command) (before after : List (List ℕ)) (name bytes : List ℕ)
+      → command_of words ≡ Some command →
       IsTrue old.folder.tells → files_of words ≡ (before ++ name ∷ []) ++ after →
       old.folder.content name ≡ Some bytes → limit < length bytes →
       (status ≡ 6) ⊎ (status ≡ 8) ⊎ ((status ≡ 4) × FailsWithin old.folder new.folder (before ++ name ∷ []))

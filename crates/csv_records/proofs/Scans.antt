@@ -1,5 +1,6 @@
 -- Where the first record of a text ends, and how many fields it has, from one byte to the next.
-use Rattle.std.proofs.Common.{◌≡◌, ℕ, ◌+◌, ◌<◌, ◌≤◌, Bool, List, [], ◌∷◌, ◌++◌, true, false, length, drop, get_or, Option, Some, None, refl, sym, ap, ◌∙◌, arith, length-append}
+use Rattle.std.proofs.Common.{◌≡◌, ℕ, ◌+◌, ◌<◌, ◌≤◌, Bool, List, [], ◌∷◌, ◌++◌, true, false, length, drop, get_or}
+use Rattle.std.proofs.Common.{Option, Some, None, refl, sym, ap, ◌∙◌, arith, length-append}
 use Rattle.std.proofs.lemmas.Option.{same_Some}
 use Rattle.std.proofs.lemmas.Grind.{common_steps}
 use Rattle.std.proofs.lemmas.List.{drop_more}
@@ -45,7 +46,8 @@ shows place.QuoteSeen c = grind (arith, common_steps)
 
 -- the first record is what is read of the text left, from a place inside or before it, behind so many fields
 abbrev pub IsAt : Option Read → Place → ℕ → List ℕ → Type 0
-IsAt o p ended left = (fields : Fields) × (f : List ℕ) × (o ≡ next_record default_config (state_of p) fields f left) × (length fields ≡ ended)
+IsAt o p ended left = (fields : Fields) × (f : List ℕ) × (o ≡ next_record default_config (state_of p) fields f left)
+    × (length fields ≡ ended)
 
 more : (fields : Fields) (f : List ℕ) → length (fields ++ f ∷ []) ≡ length fields + 1
 more fields f = length-append fields (f ∷ [])
@@ -56,18 +58,24 @@ After o p ended rest (turn.GoesOn next) = IsAt o next ended rest × (is_inside p
 After o p ended rest turn.EndsField = IsAt o place.FieldStart (ended + 1) rest
 After o p ended rest turn.EndsRecord = (q : Read) × (o ≡ Some q) × (length q.0 ≡ ended + 1) × (q.2 ≡ rest)
 
-after : (o : Option Read) (p : Place) (ended c : ℕ) (rest : List ℕ) → IsAt o p ended (c ∷ rest) → After o p ended rest (turn_of (step default_config (state_of p) c))
+after : (o : Option Read) (p : Place) (ended c : ℕ) (rest : List ℕ) → IsAt o p ended (c ∷ rest)
+    → After o p ended rest (turn_of (step default_config (state_of p) c))
 unfolding next_record ShowsStep Shows After
-after o p ended c rest (fields, f, is, len) = by (step default_config (state_of p) c).0 (step default_config (state_of p) c).1 refl refl (shows p c)
+after o p ended c rest (fields, f, is, len) =
+    by (step default_config (state_of p) c).0 (step default_config (state_of p) c).1 refl refl (shows p c)
   where
-    by : (s : State) (a : Action) → (step default_config (state_of p) c).0 ≡ s → (step default_config (state_of p) c).1 ≡ a → Shows p (step default_config (state_of p) c).0 (step default_config (state_of p) c).1
+    by : (s : State) (a : Action) → (step default_config (state_of p) c).0 ≡ s
+        → (step default_config (state_of p) c).1 ≡ a
+        → Shows p (step default_config (state_of p) c).0 (step default_config (state_of p) c).1
         → After o p ended rest (turn_by (step default_config (state_of p) c).0 (step default_config (state_of p) c).1)
     by s act.Skip es ea h =
-        let shown : (state_of (place_of s) ≡ s) × (is_inside p ≡ true → is_inside (place_of s) ≡ true) = rw (es, ea) at h in
+        let shown : (state_of (place_of s) ≡ s) × (is_inside p ≡ true → is_inside (place_of s) ≡ true) =
+        rw (es, ea) at h in
         let same : o ≡ next_record default_config s fields f rest = rw (es, ea) at is in
         rw (es, ea) ((fields, f, rw shown.0 same, len), shown.1)
     by s act.Copy es ea h =
-        let shown : (state_of (place_of s) ≡ s) × (is_inside p ≡ true → is_inside (place_of s) ≡ true) = rw (es, ea) at h in
+        let shown : (state_of (place_of s) ≡ s) × (is_inside p ≡ true → is_inside (place_of s) ≡ true) =
+        rw (es, ea) at h in
         let same : o ≡ next_record default_config s fields (f ++ c ∷ []) rest = rw (es, ea) at is in
         rw (es, ea) ((fields, f ++ c ∷ [], rw shown.0 same, len), shown.1)
     by s act.EndField es ea h =
@@ -79,21 +87,26 @@ after o p ended c rest (fields, f, is, len) = by (step default_config (state_of 
         rw (es, ea) ((fields ++ f ∷ [], s, rest), same, more fields f ∙ ap (λ n. n + 1) len, refl)
 
 -- inside a record there is one, with a field more than have ended
-gives : (o : Option Read) (p : Place) (ended : ℕ) (left : List ℕ) → is_inside p ≡ true → IsAt o p ended left → (q : Read) × (o ≡ Some q) × (ended < length q.0)
+gives : (o : Option Read) (p : Place) (ended : ℕ) (left : List ℕ) → is_inside p ≡ true → IsAt o p ended left
+    → (q : Read) × (o ≡ Some q) × (ended < length q.0)
 unfolding next_record After
-gives o p ended [] inside (fields, f, is, len) = ((fields ++ f ∷ [], st.StartRecord, []), is ∙ at_end p inside, omega (arith, len, more fields f))
+gives o p ended [] inside (fields, f, is, len) =
+    ((fields ++ f ∷ [], st.StartRecord, []), is ∙ at_end p inside, omega (arith, len, more fields f))
   where
-    at_end : (p : Place) → is_inside p ≡ true → next_record default_config (state_of p) fields f [] ≡ Some (fields ++ f ∷ [], st.StartRecord, [])
+    at_end : (p : Place) → is_inside p ≡ true
+        → next_record default_config (state_of p) fields f [] ≡ Some (fields ++ f ∷ [], st.StartRecord, [])
     at_end place.Between i = absurd (cc i)
     at_end place.FieldStart i = refl
     at_end place.Plain i = refl
     at_end place.Quoted i = refl
     at_end place.QuoteSeen i = refl
 gives o p ended (c ∷ rest) inside at =
-    by (turn_of (step default_config (state_of p) c)) (after o p ended c rest at) (λ next h. gives o next ended rest (h.1 inside) h.0) (λ h. gives o place.FieldStart (ended + 1) rest refl h)
+    by (turn_of (step default_config (state_of p) c)) (after o p ended c rest at)
+    (λ next h. gives o next ended rest (h.1 inside) h.0) (λ h. gives o place.FieldStart (ended + 1) rest refl h)
   where
     by : (t : Turn) → After o p ended rest t
-        → ((next : Place) → IsAt o next ended rest × (is_inside p ≡ true → is_inside next ≡ true) → (q : Read) × (o ≡ Some q) × (ended < length q.0))
+        → ((next : Place) → IsAt o next ended rest × (is_inside p ≡ true → is_inside next ≡ true)
+        → (q : Read) × (o ≡ Some q) × (ended < length q.0))
         → (IsAt o place.FieldStart (ended + 1) rest → (q : Read) × (o ≡ Some q) × (ended + 1 < length q.0))
         → (q : Read) × (o ≡ Some q) × (ended < length q.0)
     by (turn.GoesOn next) h on field = on next h
@@ -108,44 +121,59 @@ IsScanned text p ended i = IsAt (first_of text) p ended (drop i text)
 abbrev pub IsTurn : List ℕ → Place → ℕ → Turn → Type 0
 IsTurn text p i t = t ≡ turn_of (step default_config (state_of p) (get_or text i 0))
 
-turned : (text : List ℕ) (p : Place) (ended i : ℕ) (t : Turn) → i < length text → IsScanned text p ended i → IsTurn text p i t → After (first_of text) p ended (drop (i + 1) text) t
+turned : (text : List ℕ) (p : Place) (ended i : ℕ) (t : Turn) → i < length text → IsScanned text p ended i
+    → IsTurn text p i t → After (first_of text) p ended (drop (i + 1) text) t
 turned text p ended i t below at same =
     let here : drop i text ≡ get_or text i 0 ∷ drop (i + 1) text = drop_more text i 0 below in
     let now : IsAt (first_of text) p ended (get_or text i 0 ∷ drop (i + 1) text) = rw here at at in
     rw same (after (first_of text) p ended (get_or text i 0) (drop (i + 1) text) now)
 
-pub scan_goes_on : (text : List ℕ) (p next : Place) (ended i : ℕ) → i < length text → IsScanned text p ended i → IsTurn text p i (turn.GoesOn next) → IsScanned text next ended (i + 1)
+pub scan_goes_on : (text : List ℕ) (p next : Place) (ended i : ℕ) → i < length text → IsScanned text p ended i
+    → IsTurn text p i (turn.GoesOn next) → IsScanned text next ended (i + 1)
 unfolding After
 scan_goes_on text p next ended i below at same = (turned text p ended i (turn.GoesOn next) below at same).0
 
-pub scan_field : (text : List ℕ) (p : Place) (ended i : ℕ) → i < length text → IsScanned text p ended i → IsTurn text p i turn.EndsField → IsScanned text place.FieldStart (ended + 1) (i + 1)
+pub scan_field : (text : List ℕ) (p : Place) (ended i : ℕ) → i < length text → IsScanned text p ended i
+    → IsTurn text p i turn.EndsField → IsScanned text place.FieldStart (ended + 1) (i + 1)
 unfolding After
 scan_field text p ended i below at same = turned text p ended i turn.EndsField below at same
 
 -- a field more than may be has begun
-pub scan_wide : (text : List ℕ) (most ended i : ℕ) → most ≤ ended → IsScanned text place.FieldStart ended i → IsEnd most text None
+pub scan_wide : (text : List ℕ) (most ended i : ℕ) → most ≤ ended → IsScanned text place.FieldStart ended i
+    → IsEnd most text None
 scan_wide text most ended i over at =
     let (q, is, above) = gives (first_of text) place.FieldStart ended (drop i text) refl at in
     (q, is, omega (arith, above, over))
 
 -- the record ends at this byte
-pub scan_ends : (text : List ℕ) (p : Place) (most ended i : ℕ) → i < length text → ended < most → IsScanned text p ended i → IsTurn text p i turn.EndsRecord → IsEnd most text (Some (i + 1))
+pub scan_ends : (text : List ℕ) (p : Place) (most ended i : ℕ) → i < length text → ended < most
+    → IsScanned text p ended i → IsTurn text p i turn.EndsRecord → IsEnd most text (Some (i + 1))
 unfolding After
 scan_ends text p most ended i below few at same =
-    let (q, has, len, rest) = turned text p ended i turn.EndsRecord below at same in
-    (omega (arith, below), λ r has2. let one : q ≡ r = same_Some q r (sym has ∙ has2) in rw (← one) (omega (arith, len, few), rest))
+    let (q, has, len, rest) = turned text p ended i turn.EndsRecord below at same in (
+      omega (arith, below),
+      λ r has2. let one : q ≡ r =
+          same_Some q r (sym has ∙ has2) in rw (← one) (omega (arith, len, few), rest),
+    )
 
 -- the end of the text
-at_end : (p : Place) (fields : Fields) (f : List ℕ) (q : Read) → next_record default_config (state_of p) fields f [] ≡ Some q → (length q.0 ≡ length fields + 1) × (q.2 ≡ [])
+at_end : (p : Place) (fields : Fields) (f : List ℕ) (q : Read)
+    → next_record default_config (state_of p) fields f [] ≡ Some q → (length q.0 ≡ length fields + 1) × (q.2 ≡ [])
 unfolding next_record
 at_end place.Between fields f q e = let none : None ≡ Some q = e in absurd (cc none)
-at_end place.FieldStart fields f q e = let same = same_Some (fields ++ f ∷ [], st.StartRecord, []) q e in rw (← same) (more fields f, refl)
-at_end place.Plain fields f q e = let same = same_Some (fields ++ f ∷ [], st.StartRecord, []) q e in rw (← same) (more fields f, refl)
-at_end place.Quoted fields f q e = let same = same_Some (fields ++ f ∷ [], st.StartRecord, []) q e in rw (← same) (more fields f, refl)
-at_end place.QuoteSeen fields f q e = let same = same_Some (fields ++ f ∷ [], st.StartRecord, []) q e in rw (← same) (more fields f, refl)
+at_end place.FieldStart fields f q e = let same =
+    same_Some (fields ++ f ∷ [], st.StartRecord, []) q e in rw (← same) (more fields f, refl)
+at_end place.Plain fields f q e = let same =
+    same_Some (fields ++ f ∷ [], st.StartRecord, []) q e in rw (← same) (more fields f, refl)
+at_end place.Quoted fields f q e = let same =
+    same_Some (fields ++ f ∷ [], st.StartRecord, []) q e in rw (← same) (more fields f, refl)
+at_end place.QuoteSeen fields f q e = let same =
+    same_Some (fields ++ f ∷ [], st.StartRecord, []) q e in rw (← same) (more fields f, refl)
 
-pub scan_over : (text : List ℕ) (p : Place) (most ended i : ℕ) → ended < most → i ≡ length text → IsScanned text p ended i → IsEnd most text (Some (length text))
-scan_over text p most ended i few over (fields, f, is, len) = (omega arith, λ q has. known q (at_end p fields f q (by has)))
+pub scan_over : (text : List ℕ) (p : Place) (most ended i : ℕ) → ended < most → i ≡ length text
+    → IsScanned text p ended i → IsEnd most text (Some (length text))
+scan_over text p most ended i few over (fields, f, is, len) =
+    (omega arith, λ q has. known q (at_end p fields f q (by has)))
   where
     none : drop i text ≡ []
     none = rw over (drop-length text)
@@ -153,5 +181,6 @@ scan_over text p most ended i few over (fields, f, is, len) = (omega arith, λ q
     by : {q : Read} → first_of text ≡ Some q → next_record default_config (state_of p) fields f [] ≡ Some q
     by has = rw none at (sym is ∙ has)
 
-    known : (q : Read) → (length q.0 ≡ length fields + 1) × (q.2 ≡ []) → (length q.0 ≤ most) × (q.2 ≡ drop (length text) text)
+    known : (q : Read) → (length q.0 ≡ length fields + 1) × (q.2 ≡ []) → (length q.0 ≤ most)
+        × (q.2 ≡ drop (length text) text)
     known q e = (omega (arith, e.0, len, few), e.1 ∙ sym (drop-length text))

@@ -46,5 +46,6 @@ first_of text = next_record default_config st.StartRecord [] [] text
 
 -- the first record of a text has at most so many fields and ends there, or there is none; or it has more fields
 abbrev pub IsEnd : ℕ → List ℕ → Option ℕ → Type 0
-IsEnd most text (Some n) = (n ≤ length text) × ((q : Read) → first_of text ≡ Some q → (length q.0 ≤ most) × (q.2 ≡ drop n text))
+IsEnd most text (Some n) =
+    (n ≤ length text) × ((q : Read) → first_of text ≡ Some q → (length q.0 ≤ most) × (q.2 ≡ drop n text))
 IsEnd most text None = (q : Read) × (first_of text ≡ Some q) × (most < length q.0)

@@ -15,23 +15,28 @@ use Rattle.delay_labels.proofs.PartLemmas.{part_has_some}
 
 -- ---- as the lists are stored
 
-map_kept : {A B : Type 0} (f : A → B) (bs : List Bool) (xs : List A) → map f (kept_where bs xs) ≡ kept_where bs (map f xs)
+map_kept : {A B : Type 0} (f : A → B) (bs : List Bool) (xs : List A)
+    → map f (kept_where bs xs) ≡ kept_where bs (map f xs)
 map_kept f [] xs = refl
 map_kept f (b ∷ bs) [] = refl
 map_kept f (true ∷ bs) (x ∷ xs) = ap (λ (l : List _). f x ∷ l) (map_kept f bs xs)
 map_kept f (false ∷ bs) (x ∷ xs) = map_kept f bs xs
 
 -- the parts that have a pair are those whose list has one
-pub parts_have : (pairs : List Pair) (parts : List (ℕ × ℕ)) → All (IsPart (length pairs)) parts → map (λ (x : ℕ × ℕ). nat_lt x.0 x.1) parts ≡ map has_some (lists_of pairs parts)
+pub parts_have : (pairs : List Pair) (parts : List (ℕ × ℕ)) → All (IsPart (length pairs)) parts
+    → map (λ (x : ℕ × ℕ). nat_lt x.0 x.1) parts ≡ map has_some (lists_of pairs parts)
 parts_have pairs [] all = refl
 parts_have pairs (x ∷ parts) all =
-    ap₂ (λ (c : Bool) (cs : List Bool). c ∷ cs) (part_has_some pairs x (All-head (IsPart (length pairs)) x parts all)) (parts_have pairs parts (All-tail (IsPart (length pairs)) x parts all))
+    ap₂ (λ (c : Bool) (cs : List Bool). c ∷ cs) (part_has_some pairs x (All-head (IsPart (length pairs)) x parts all))
+    (parts_have pairs parts (All-tail (IsPart (length pairs)) x parts all))
 
-pub lists_kept : (pairs : List Pair) (parts : List (ℕ × ℕ)) (bs : List Bool) (after : List (ℕ × ℕ)) (lists : List (List Pair)) → after ≡ kept_where bs parts → bs ≡ map has_some (lists_of pairs parts)
+pub lists_kept : (pairs : List Pair) (parts : List (ℕ × ℕ)) (bs : List Bool) (after : List (ℕ × ℕ))
+    (lists : List (List Pair)) → after ≡ kept_where bs parts → bs ≡ map has_some (lists_of pairs parts)
     → lists_of pairs parts ≡ lists → lists_of pairs after ≡ known_of lists lists
 lists_kept pairs parts bs after lists e are is =
     ap (lists_of pairs) e ∙ map_kept (λ (part : ℕ × ℕ). slice_range pairs part.0 part.1) bs parts
-    ∙ ap (λ (cs : List Bool). kept_where cs (lists_of pairs parts)) are ∙ ap (λ (ls : List (List Pair)). known_of ls ls) is
+    ∙ ap (λ (cs : List Bool). kept_where cs (lists_of pairs parts)) are
+    ∙ ap (λ (ls : List (List Pair)). known_of ls ls) is
 
 -- ---- which lists have a pair
 
@@ -45,8 +50,10 @@ pair_some (x ∷ qs) q i = refl
 
 -- ---- the landable windows are left
 
-module _ (p : Problem) (stage : ℕ) (windows : List (List ℤ)) (lists : List (List Pair)) (each : HasEachLandable p (stage, windows)) (are : AreCosts p (stage, windows) lists) where
-  some_landable : (i : ℕ) → i < length windows → (has_some (list_at lists i) ≡ true) ↔ IsLandable p stage (node_at windows i)
+module _ (p : Problem) (stage : ℕ) (windows : List (List ℤ)) (lists : List (List Pair))
+    (each : HasEachLandable p (stage, windows)) (are : AreCosts p (stage, windows) lists) where
+  some_landable : (i : ℕ) → i < length windows → (has_some (list_at lists i) ≡ true)
+      ↔ IsLandable p stage (node_at windows i)
   some_landable i lt = (
     λ has. let q = some_pair (list_at lists i) has in (q.0, (((are.pairs i lt).undominated q.0).0 q.1).attained),
     λ l. let o = (are.pairs i lt).covers l.0 l.1 in pair_some (list_at lists i) o.0 o.1,
@@ -57,6 +64,7 @@ module _ (p : Problem) (stage : ℕ) (windows : List (List ℤ)) (lists : List (
     landable = landable_left has_some [] windows lists are.one_each p stage each some_landable;
     costs = record {
       one_each = one_each_left has_some [] windows lists are.one_each;
-      pairs = each_left has_some [] windows lists are.one_each (λ (xs : List ℤ) (qs : List Pair). ArePairsOf p stage xs qs) are.pairs;
+      pairs = each_left has_some [] windows lists are.one_each
+          (λ (xs : List ℤ) (qs : List Pair). ArePairsOf p stage xs qs) are.pairs;
     };
   }

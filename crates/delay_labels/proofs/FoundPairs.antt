@@ -1,5 +1,7 @@
--- What `find_map` over a range gives, where only a relation is known of the answers: the first number that has one, and which.
-use Rattle.std.proofs.Common.{◌≡◌, ℕ, ◌+◌, ◌-◌, ◌<◌, ◌≤◌, true, List, map, take, length, Option, Some, None, refl, sym, ap, subst, ◌∙◌, arith}
+-- What `find_map` over a range gives, where only a relation is known of the answers: the first number that has one, and
+-- which.
+use Rattle.std.proofs.Common.{◌≡◌, ℕ, ◌+◌, ◌-◌, ◌<◌, ◌≤◌, true, List, map, take, length, Option, Some, None, refl, sym}
+use Rattle.std.proofs.Common.{ap, subst, ◌∙◌, arith}
 use Rattle.std.specs.Prelude.{IsSomeAnd, IfSome, MatchOption, slice_get, slice_index_or}
 use Rattle.std.specs.List.{range_with_len}
 use Rattle.std.specs.declared.ops.Range.{Range}
@@ -13,30 +15,49 @@ use Rattle.std.proofs.lemmas.Option.{slice_get-get_or}
 use denote.Param.Members.{Mut, Called}
 
 -- the numbers of a range so far, each in turn
-number_at : (xs : List ℕ) (from n i k : ℕ) → from + i ≡ k → map (λ x. x) xs ≡ take (length xs) (range_with_len from n) → i < length xs → (slice_get xs i ≡ Some k) × (i < n)
+number_at : (xs : List ℕ) (from n i k : ℕ) → from + i ≡ k → map (λ x. x) xs ≡ take (length xs) (range_with_len from n)
+    → i < length xs → (slice_get xs i ≡ Some k) × (i < n)
 number_at xs from n i k at is lt =
-    let few : i < n = omega (arith, lt, ap length is, length-map xs (λ x. x), length-take (length xs) (range_with_len from n), length-range_with_len from n) in
-    (slice_get-get_or xs i 0 lt ∙ ap Some (ap (λ l. slice_index_or l i 0) (sym (map-id xs) ∙ is) ∙ get_or-take (length xs) (range_with_len from n) i 0 lt ∙ get_or-range_with_len from n i 0 few ∙ at), few)
+    let few : i < n = omega (
+      arith,
+      lt,
+      ap length is,
+      length-map xs (λ x. x),
+      length-take (length xs)
+          (range_with_len from n),
+      length-range_with_len from n,
+    ) in (
+      slice_get-get_or xs i 0 lt ∙ ap Some (ap (λ l. slice_index_or l i 0) (sym (map-id xs) ∙ is)
+          ∙ get_or-take (length xs) (range_with_len from n) i 0 lt ∙ get_or-range_with_len from n i 0 few ∙ at),
+      few,
+    )
 
 module _ {C F : Type 0} {g : Mut F (ℕ × Unit {0}) (Option C)} (f : F) (Yes : ℕ → C → Type 0) (No : ℕ → Type 0)
-    (some : (x : ℕ) (y : C) (q : F) → Called g f (x, tt) (Some y) q → (q ≡ f) × Yes x y) (none : (x : ℕ) (q : F) → Called g f (x, tt) None q → (q ≡ f) × No x) where
+    (some : (x : ℕ) (y : C) (q : F) → Called g f (x, tt) (Some y) q → (q ≡ f) × Yes x y) (none : (x : ℕ) (q : F)
+    → Called g f (x, tt) None q → (q ≡ f) × No x) where
   stays : (x : ℕ) (r : Option C) (q : F) → Called g f (x, tt) r q → q ≡ f
   stays x None q k = (none x q k).0
   stays x (Some y) q k = (some x y q k).0
 
   pub first_from_find_map : {s : Range ℕ} (from to : ℕ) → s ≡ record { start = from; end = to } → (r : Option C)
-      → SomeRun nat_range_steps s (λ p. MatchOption r ((p.whole ≡ true) × AllItemsGive p g f None) (λ y. (i : ℕ) × (i < p.len) × (p.len ≡ i + 1) × IsFirstToGive p g f (Some y) None i))
-      → MatchOption r ((k : ℕ) → from ≤ k → k < to → No k) (λ y. (k : ℕ) × (from ≤ k) × (k < to) × Yes k y × ((j : ℕ) → from ≤ j → j < k → No j))
+      → SomeRun nat_range_steps s (λ p. MatchOption r ((p.whole ≡ true) × AllItemsGive p g f None)
+      (λ y. (i : ℕ) × (i < p.len) × (p.len ≡ i + 1) × IsFirstToGive p g f (Some y) None i))
+      → MatchOption r ((k : ℕ) → from ≤ k → k < to → No k) (λ y. (k : ℕ) × (from ≤ k) × (k < to)
+      × Yes k y × ((j : ℕ) → from ≤ j → j < k → No j))
   unfolding YieldsRun
   first_from_find_map from to is None (p, at, told) =
       let gave = p.gave in
       let road = YieldsList-at at (YieldsList-from_range from to (to - from) is refl) in
-      let all : map (λ x. x) p.items ≡ range_with_len from (to - from) = items_from_drains p.items (gave.0.0, gave.0.1, λ _. gave.0.2 told.0) road in
-      let long : length p.items ≡ to - from = sym (length-map p.items (λ x. x)) ∙ ap length all ∙ length-range_with_len from (to - from) in
+      let all : map (λ x. x) p.items ≡ range_with_len from (to - from) =
+      items_from_drains p.items (gave.0.0, gave.0.1, λ _. gave.0.2 told.0) road in
+      let long : length p.items ≡ to - from = sym (length-map p.items (λ x. x)) ∙ ap length all
+      ∙ length-range_with_len from (to - from) in
       let silent = told.1 (λ a r q k. stays a.0 r q k) in
       λ k lo hi.
-      let here = number_at p.items from (to - from) (k - from) k (omega (arith, lo)) (YieldsList-so_far road p.items gave.0.0 gave.0.1) (omega (arith, long, lo, hi)) in
-      (none k f (subst (λ o. IfSome o (λ x. Called g f (x, tt) None f)) (gave.1 (k - from) ∙ here.0) (silent (k - from)))).1
+      let here = number_at p.items from (to - from) (k - from) k (omega (arith, lo))
+      (YieldsList-so_far road p.items gave.0.0 gave.0.1) (omega (arith, long, lo, hi)) in
+      (none k f (subst (λ o. IfSome o (λ x. Called g f (x, tt) None f)) (gave.1 (k - from) ∙ here.0)
+      (silent (k - from)))).1
   first_from_find_map from to is (Some y) (p, at, told) =
       let gave = p.gave in
       let road = YieldsList-at at (YieldsList-from_range from to (to - from) is refl) in
@@ -45,12 +66,15 @@ module _ {C F : Type 0} {g : Mut F (ℕ × Unit {0}) (Option C)} (f : F) (Yes : 
       let first = told.3 (λ a r q k. stays a.0 r q k) in
       let place = told.0 in
       let here = number_at p.items from (to - from) place (from + place) refl so_far (omega (arith, long, told.1)) in
-      let gives : Called g f (from + place, tt) (Some y) f = subst (λ o. IsSomeAnd o (λ x. Called g f (x, tt) (Some y) f)) (gave.1 place ∙ here.0) first.0 in (
+      let gives : Called g f (from + place, tt) (Some y) f =
+      subst (λ o. IsSomeAnd o (λ x. Called g f (x, tt) (Some y) f)) (gave.1 place ∙ here.0) first.0 in (
         from + place,
         omega arith,
         omega (arith, here.1),
         (some (from + place) y f gives).1,
         λ j lo hi.
-            let there = number_at p.items from (to - from) (j - from) j (omega (arith, lo)) so_far (omega (arith, long, told.1, lo, hi)) in
-            (none j f (subst (λ o. IsSomeAnd o (λ x. Called g f (x, tt) None f)) (gave.1 (j - from) ∙ there.0) (first.1 (j - from) (omega (arith, lo, hi))))).1,
+            let there = number_at p.items from (to - from) (j - from) j (omega (arith, lo)) so_far
+            (omega (arith, long, told.1, lo, hi)) in
+            (none j f (subst (λ o. IsSomeAnd o (λ x. Called g f (x, tt) None f)) (gave.1 (j - from) ∙ there.0)
+            (first.1 (j - from) (omega (arith, lo, hi))))).1,
       )

@@ -1,10 +1,12 @@
 -- Lists of pairs, and the successors of their pairs.
-use Rattle.std.proofs.Common.{◌≡◌, ℕ, zero, suc, ◌+◌, ◌-◌, ◌<◌, ◌≤◌, ◌⊎◌, inl, inr, List, [], ◌∷◌, ◌++◌, length, take, drop, Option, Some, None, Bool, cond, append_assoc, refl, sym, ap, subst, ◌∙◌, arith}
+use Rattle.std.proofs.Common.{◌≡◌, ℕ, zero, suc, ◌+◌, ◌-◌, ◌<◌, ◌≤◌, ◌⊎◌, inl, inr, List, [], ◌∷◌, ◌++◌, length, take}
+use Rattle.std.proofs.Common.{drop, Option, Some, None, Bool, cond, append_assoc, refl, sym, ap, subst, ◌∙◌, arith}
 use Rattle.std.proofs.lemmas.Option.{same_Some}
 use Rattle.std.specs.Prelude.{slice_range}
 use Rattle.std.specs.List.{flat_map}
 use Rattle.std.proofs.lemmas.Bool.{cases_eq, lt-ltb, le-ltb}
-use Rattle.std.proofs.lemmas.List.{at_drop_more, length-take, length-drop, take_more, get_or-take, get_or-drop, flat_map_more, length_push, get_or_push, get_or_append_left}
+use Rattle.std.proofs.lemmas.List.{at_drop_more, length-take, length-drop, take_more, get_or-take, get_or-drop}
+use Rattle.std.proofs.lemmas.List.{flat_map_more, length_push, get_or_push, get_or_append_left}
 use Rattle.landing_rules.specs.Problem.{Problem}
 use Rattle.cps_theory.specs.Labels.{InPairs, Pair}
 use Rattle.cps_theory.specs.UndominatedPairs.{InPairOrder, sweep}
@@ -26,46 +28,55 @@ in_some (Some x) qs q (inl e) = inl (sym (same_Some x q e))
 in_some (Some x) qs q (inr i) = inr i
 
 -- each is the successor of one of the pairs
-pub given_by : (p : Problem) (last rank : ℕ) (pairs : List Pair) (q : Pair) → InPairs q (successors p last rank pairs) → (o : Pair) × InPairs o pairs × (successor p last o rank ≡ Some q)
+pub given_by : (p : Problem) (last rank : ℕ) (pairs : List Pair) (q : Pair) → InPairs q (successors p last rank pairs)
+    → (o : Pair) × InPairs o pairs × (successor p last o rank ≡ Some q)
 given_by p last rank [] q i = absurd i
 given_by p last rank (x ∷ pairs) q i = elim (some_in (successor p last x rank) (successors p last rank pairs) q i) [
   | inl e ↦ (x, inl refl, e)
   | inr j ↦ (let a = given_by p last rank pairs q j in (a.0, inr a.1, a.2))
 ]
 
-pub gives_in : (p : Problem) (last rank : ℕ) (pairs : List Pair) (o q : Pair) → InPairs o pairs → successor p last o rank ≡ Some q → InPairs q (successors p last rank pairs)
+pub gives_in : (p : Problem) (last rank : ℕ) (pairs : List Pair) (o q : Pair) → InPairs o pairs
+    → successor p last o rank ≡ Some q → InPairs q (successors p last rank pairs)
 gives_in p last rank [] o q i e = absurd i
 gives_in p last rank (x ∷ pairs) o q (inl s) e =
-    in_some (successor p last x rank) (successors p last rank pairs) q (inl (ap (λ (z : Pair). successor p last z rank) (sym s) ∙ e))
-gives_in p last rank (x ∷ pairs) o q (inr i) e = in_some (successor p last x rank) (successors p last rank pairs) q (inr (gives_in p last rank pairs o q i e))
+    in_some (successor p last x rank) (successors p last rank pairs) q
+    (inl (ap (λ (z : Pair). successor p last z rank) (sym s) ∙ e))
+gives_in p last rank (x ∷ pairs) o q (inr i) e =
+    in_some (successor p last x rank) (successors p last rank pairs) q (inr (gives_in p last rank pairs o q i e))
 
 -- and of lists
-flat_in : (f : List Pair → List Pair) (lists : List (List Pair)) (q : Pair) → InPairs q (flat_map f lists) → (i : ℕ) × (i < length lists) × InPairs q (f (list_at lists i))
+flat_in : (f : List Pair → List Pair) (lists : List (List Pair)) (q : Pair) → InPairs q (flat_map f lists)
+    → (i : ℕ) × (i < length lists) × InPairs q (f (list_at lists i))
 flat_in f [] q i = absurd i
 flat_in f (l ∷ lists) q i = elim (in_append q (f l) (flat_map f lists) i) [
   | inl a ↦ (0, omega arith, a)
   | inr b ↦ (let r = flat_in f lists q b in (suc r.0, (let lt = r.1 in omega arith), r.2))
 ]
 
-in_flat : (f : List Pair → List Pair) (lists : List (List Pair)) (i : ℕ) (q : Pair) → i < length lists → InPairs q (f (list_at lists i)) → InPairs q (flat_map f lists)
+in_flat : (f : List Pair → List Pair) (lists : List (List Pair)) (i : ℕ) (q : Pair) → i < length lists
+    → InPairs q (f (list_at lists i)) → InPairs q (flat_map f lists)
 in_flat f [] i q lt h = absurd (omega arith)
 in_flat f (l ∷ lists) zero q lt h = in_left q (f l) (flat_map f lists) h
 in_flat f (l ∷ lists) (suc i) q lt h = in_right q (f l) (flat_map f lists) (in_flat f lists i q (omega arith) h)
 
-range_at : (lists : List (List Pair)) (from to i : ℕ) → i < length (slice_range lists from to) → (from + i < to) × (list_at (slice_range lists from to) i ≡ list_at lists (from + i))
+range_at : (lists : List (List Pair)) (from to i : ℕ) → i < length (slice_range lists from to)
+    → (from + i < to) × (list_at (slice_range lists from to) i ≡ list_at lists (from + i))
 range_at lists from to i lt =
     let a = length-take (to - from) (drop from lists) in
     let lt' : i < to - from = omega arith in
     (omega arith, get_or-take (to - from) (drop from lists) i [] lt' ∙ get_or-drop from lists i [])
 
-pub given_in_range : (p : Problem) (last rank : ℕ) (lists : List (List Pair)) (from to : ℕ) (q : Pair) → InPairs q (successors_in p last rank lists from to) → IsGivenIn p last rank lists from to q
+pub given_in_range : (p : Problem) (last rank : ℕ) (lists : List (List Pair)) (from to : ℕ) (q : Pair)
+    → InPairs q (successors_in p last rank lists from to) → IsGivenIn p last rank lists from to q
 given_in_range p last rank lists from to q i =
     let f = flat_in (successors p last rank) (slice_range lists from to) q i in
     let r = range_at lists from to f.0 f.1 in
     let g = given_by p last rank (list_at (slice_range lists from to) f.0) q f.2 in
     (from + f.0, omega arith, r.0, g.0, subst (InPairs g.0) r.1 g.1, g.2)
 
-pub range_gives : (p : Problem) (last rank : ℕ) (lists : List (List Pair)) (from to : ℕ) (q : Pair) → to ≤ length lists → IsGivenIn p last rank lists from to q → InPairs q (successors_in p last rank lists from to)
+pub range_gives : (p : Problem) (last rank : ℕ) (lists : List (List Pair)) (from to : ℕ) (q : Pair)
+    → to ≤ length lists → IsGivenIn p last rank lists from to q → InPairs q (successors_in p last rank lists from to)
 range_gives p last rank lists from to q within g =
     let place = g.0 in
     let low = g.1 in
@@ -76,34 +87,44 @@ range_gives p last rank lists from to q within g =
     let r = range_at lists from to (g.0 - from) lt in
     let n : from + (g.0 - from) ≡ g.0 = omega (arith, low) in
     let e : list_at (slice_range lists from to) (g.0 - from) ≡ list_at lists g.0 = r.1 ∙ ap (list_at lists) n in
-    in_flat (successors p last rank) (slice_range lists from to) (g.0 - from) q lt (gives_in p last rank (list_at (slice_range lists from to) (g.0 - from)) g.3 q (subst (InPairs g.3) (sym e) g.4) g.5)
+    in_flat (successors p last rank) (slice_range lists from to) (g.0 - from) q lt
+    (gives_in p last rank (list_at (slice_range lists from to) (g.0 - from)) g.3 q
+    (subst (InPairs g.3) (sym e) g.4) g.5)
 
 -- ---- one pair more of a list
 
-pub one_more : (p : Problem) (last rank : ℕ) (pairs into more whole : List Pair) (i : ℕ) (q : Pair) → i < length pairs → successor p last (pair_at pairs i) rank ≡ Some q → more ≡ into ++ q ∷ []
-    → into ++ successors p last rank (drop i pairs) ≡ whole → more ++ successors p last rank (drop (i + 1) pairs) ≡ whole
+pub one_more : (p : Problem) (last rank : ℕ) (pairs into more whole : List Pair) (i : ℕ) (q : Pair)
+    → i < length pairs → successor p last (pair_at pairs i) rank ≡ Some q → more ≡ into ++ q ∷ []
+    → into ++ successors p last rank (drop i pairs) ≡ whole
+    → more ++ successors p last rank (drop (i + 1) pairs) ≡ whole
 one_more p last rank pairs into more whole i q lt lands put is =
     let rest = successors p last rank (drop (i + 1) pairs) in
     let step : successors p last rank (drop i pairs) ≡ q ∷ rest =
     at_drop_more (successors p last rank) pairs i (0, 0) lt ∙ ap (λ (o : Option Pair). some_before o rest) lands in
-    ap (λ (l : List Pair). l ++ rest) put ∙ append_assoc into (q ∷ []) rest ∙ ap (λ (l : List Pair). into ++ l) (sym step) ∙ is
+    ap (λ (l : List Pair). l ++ rest) put ∙ append_assoc into (q ∷ []) rest
+    ∙ ap (λ (l : List Pair). into ++ l) (sym step) ∙ is
 
-pub none_more : (p : Problem) (last rank : ℕ) (pairs into more whole : List Pair) (i : ℕ) → i < length pairs → successor p last (pair_at pairs i) rank ≡ None → more ≡ into
-    → into ++ successors p last rank (drop i pairs) ≡ whole → more ++ successors p last rank (drop (i + 1) pairs) ≡ whole
+pub none_more : (p : Problem) (last rank : ℕ) (pairs into more whole : List Pair) (i : ℕ) → i < length pairs
+    → successor p last (pair_at pairs i) rank ≡ None → more ≡ into
+    → into ++ successors p last rank (drop i pairs) ≡ whole
+    → more ++ successors p last rank (drop (i + 1) pairs) ≡ whole
 none_more p last rank pairs into more whole i lt lands same is =
     let rest = successors p last rank (drop (i + 1) pairs) in
     let step : successors p last rank (drop i pairs) ≡ rest =
     at_drop_more (successors p last rank) pairs i (0, 0) lt ∙ ap (λ (o : Option Pair). some_before o rest) lands in
     ap (λ (l : List Pair). l ++ rest) same ∙ ap (λ (l : List Pair). into ++ l) (sym step) ∙ is
 
-pub sweep_more : (pairs into more whole : List Pair) (i least : ℕ) → i < length pairs → (pair_at pairs i).1 < least → more ≡ into ++ pair_at pairs i ∷ []
+pub sweep_more : (pairs into more whole : List Pair) (i least : ℕ) → i < length pairs → (pair_at pairs i).1 < least
+    → more ≡ into ++ pair_at pairs i ∷ []
     → into ++ sweep least (drop i pairs) ≡ whole → more ++ sweep (pair_at pairs i).1 (drop (i + 1) pairs) ≡ whole
 sweep_more pairs into more whole i least lt cheaper put is =
     let q = pair_at pairs i in
     let rest = sweep q.1 (drop (i + 1) pairs) in
     let step : sweep least (drop i pairs) ≡ q ∷ rest =
-    at_drop_more (sweep least) pairs i (0, 0) lt ∙ ap (λ (b : Bool). cond b (q ∷ rest) (sweep least (drop (i + 1) pairs))) (lt-ltb q.1 least cheaper) in
-    ap (λ (l : List Pair). l ++ rest) put ∙ append_assoc into (q ∷ []) rest ∙ ap (λ (l : List Pair). into ++ l) (sym step) ∙ is
+    at_drop_more (sweep least) pairs i (0, 0) lt
+    ∙ ap (λ (b : Bool). cond b (q ∷ rest) (sweep least (drop (i + 1) pairs))) (lt-ltb q.1 least cheaper) in
+    ap (λ (l : List Pair). l ++ rest) put ∙ append_assoc into (q ∷ []) rest
+    ∙ ap (λ (l : List Pair). into ++ l) (sym step) ∙ is
 
 pub sweep_past : (pairs into whole : List Pair) (i least : ℕ) → i < length pairs → least ≤ (pair_at pairs i).1
     → into ++ sweep least (drop i pairs) ≡ whole → into ++ sweep least (drop (i + 1) pairs) ≡ whole
@@ -111,19 +132,23 @@ sweep_past pairs into whole i least lt dear is =
     let q = pair_at pairs i in
     let rest = sweep least (drop (i + 1) pairs) in
     let step : sweep least (drop i pairs) ≡ rest =
-    at_drop_more (sweep least) pairs i (0, 0) lt ∙ ap (λ (b : Bool). cond b (q ∷ sweep q.1 (drop (i + 1) pairs)) rest) (le-ltb q.1 least dear) in
+    at_drop_more (sweep least) pairs i (0, 0) lt ∙ ap (λ (b : Bool). cond b (q ∷ sweep q.1 (drop (i + 1) pairs)) rest)
+    (le-ltb q.1 least dear) in
     ap (λ (l : List Pair). into ++ l) (sym step) ∙ is
 
 -- ---- one list more of a range
 
-pub range_more : (p : Problem) (last rank : ℕ) (into more : List Pair) (lists : List (List Pair)) (from i : ℕ) → from ≤ i → i < length lists
-    → into ≡ successors_in p last rank lists from i → more ≡ into ++ successors p last rank (list_at lists i) → more ≡ successors_in p last rank lists from (i + 1)
+pub range_more : (p : Problem) (last rank : ℕ) (into more : List Pair) (lists : List (List Pair)) (from i : ℕ)
+    → from ≤ i → i < length lists
+    → into ≡ successors_in p last rank lists from i → more ≡ into ++ successors p last rank (list_at lists i)
+    → more ≡ successors_in p last rank lists from (i + 1)
 range_more p last rank into more lists from i low lt is e =
     let n : (i + 1) - from ≡ (i - from) + 1 = omega (arith, low) in
     let b = length-drop from lists in
     let t : take ((i + 1) - from) (drop from lists) ≡ take (i - from) (drop from lists) ++ list_at lists i ∷ [] =
     ap (λ (m : ℕ). take m (drop from lists)) n ∙ take_more (drop from lists) (i - from) [] (omega (arith, b, lt, low))
-    ∙ ap (λ (l : List Pair). take (i - from) (drop from lists) ++ l ∷ []) (get_or-drop from lists (i - from) [] ∙ ap (list_at lists) (from_more from i low)) in
+    ∙ ap (λ (l : List Pair). take (i - from) (drop from lists) ++ l ∷ []) (get_or-drop from lists (i - from) []
+    ∙ ap (list_at lists) (from_more from i low)) in
     e ∙ ap (λ (l : List Pair). l ++ successors p last rank (list_at lists i)) is
     ∙ flat_map_more (successors p last rank) [] (take (i - from) (drop from lists)) (list_at lists i)
     ∙ ap (flat_map (successors p last rank)) (sym t)
@@ -133,15 +158,18 @@ range_more p last rank into more lists from i low lt is e =
 
 -- ---- one list more behind others
 
-pub each_more : (P : ℕ → List Pair → Type 0) (lists more : List (List Pair)) (pairs : List Pair) (i : ℕ) → more ≡ lists ++ pairs ∷ [] → length lists ≡ i → ((m : ℕ) → m < i → P m (list_at lists m)) → P i pairs
+pub each_more : (P : ℕ → List Pair → Type 0) (lists more : List (List Pair)) (pairs : List Pair) (i : ℕ)
+    → more ≡ lists ++ pairs ∷ [] → length lists ≡ i → ((m : ℕ) → m < i → P m (list_at lists m)) → P i pairs
     → (length more ≡ i + 1) × ((m : ℕ) → m < i + 1 → P m (list_at more m))
 each_more P lists more pairs i e long old one = (
   ap length e ∙ length_push lists pairs ∙ ap (λ (n : ℕ). n + 1) long,
   λ m lt. elim (cases_eq m i) [
-    | inl same ↦ subst (P m) (sym (ap (λ (ls : List (List Pair)). list_at ls m) e ∙ get_or_push lists pairs [] m (long ∙ sym same))) (subst (λ (n : ℕ). P n pairs) (sym same) one)
+    | inl same ↦ subst (P m) (sym (ap (λ (ls : List (List Pair)). list_at ls m) e
+        ∙ get_or_push lists pairs [] m (long ∙ sym same))) (subst (λ (n : ℕ). P n pairs) (sym same) one)
     | inr other ↦ (
         let low : m < i = omega (arith, other, lt) in
-        subst (P m) (sym (ap (λ (ls : List (List Pair)). list_at ls m) e ∙ get_or_append_left lists (pairs ∷ []) [] m (omega (arith, low, long)))) (old m low)
+        subst (P m) (sym (ap (λ (ls : List (List Pair)). list_at ls m) e
+        ∙ get_or_append_left lists (pairs ∷ []) [] m (omega (arith, low, long)))) (old m low)
         )
   ],
 )
@@ -149,10 +177,12 @@ each_more P lists more pairs i e long old one = (
 -- ---- pairs in order
 
 -- a pair before others in order, the first of which it may precede
-pub order_more : (a b : Pair) (ps : List Pair) → (a.0 < b.0) ⊎ ((a.0 ≡ b.0) × (a.1 ≤ b.1)) → InPairOrder (b ∷ ps) → InPairOrder (a ∷ b ∷ ps)
+pub order_more : (a b : Pair) (ps : List Pair) → (a.0 < b.0) ⊎ ((a.0 ≡ b.0) × (a.1 ≤ b.1))
+    → InPairOrder (b ∷ ps) → InPairOrder (a ∷ b ∷ ps)
 order_more a b ps low up = (before, up)
   where
-    behind : (q : Pair) → (a.0 < b.0) ⊎ ((a.0 ≡ b.0) × (a.1 ≤ b.1)) → (b.0 < q.0) ⊎ ((b.0 ≡ q.0) × (b.1 ≤ q.1)) → (a.0 < q.0) ⊎ ((a.0 ≡ q.0) × (a.1 ≤ q.1))
+    behind : (q : Pair) → (a.0 < b.0) ⊎ ((a.0 ≡ b.0) × (a.1 ≤ b.1)) → (b.0 < q.0) ⊎ ((b.0 ≡ q.0) × (b.1 ≤ q.1))
+        → (a.0 < q.0) ⊎ ((a.0 ≡ q.0) × (a.1 ≤ q.1))
     behind q (inl x) (inl y) = inl (omega (arith, x, y))
     behind q (inl x) (inr y) = inl (let e = y.0 in omega (arith, x, e))
     behind q (inr x) (inl y) = inl (let e = x.0 in omega (arith, e, y))
@@ -163,7 +193,9 @@ order_more a b ps low up = (before, up)
     before q (inr i) = behind q low (up.0 q i)
 
 -- the same before what is left of a list
-pub order_at : (a : Pair) (pairs : List Pair) (i : ℕ) → i < length pairs → (a.0 < (pair_at pairs i).0) ⊎ ((a.0 ≡ (pair_at pairs i).0) × (a.1 ≤ (pair_at pairs i).1))
+pub order_at : (a : Pair) (pairs : List Pair) (i : ℕ) → i < length pairs → (a.0 < (pair_at pairs i).0)
+    ⊎ ((a.0 ≡ (pair_at pairs i).0) × (a.1 ≤ (pair_at pairs i).1))
     → InPairOrder (pair_at pairs i ∷ drop (i + 1) pairs) → InPairOrder (a ∷ drop i pairs)
 order_at a pairs i lt low up =
-    subst (λ (l : List Pair). InPairOrder (a ∷ l)) (sym (at_drop_more (λ (l : List Pair). l) pairs i (0, 0) lt)) (order_more a (pair_at pairs i) (drop (i + 1) pairs) low up)
+    subst (λ (l : List Pair). InPairOrder (a ∷ l)) (sym (at_drop_more (λ (l : List Pair). l) pairs i (0, 0) lt))
+    (order_more a (pair_at pairs i) (drop (i + 1) pairs) low up)

@@ -1,5 +1,6 @@
 -- The pairs of a window of the next stage, from those of the windows that lead to it.
-use Rattle.std.proofs.Common.{◌≡◌, ℕ, suc, ◌+◌, ◌-◌, ◌<◌, ◌≤◌, ◌⊎◌, inl, inr, List, [], ◌∷◌, ◌++◌, length, get_or, Option, Some, None, true, refl, sym, ap, subst, ◌∙◌, arith}
+use Rattle.std.proofs.Common.{◌≡◌, ℕ, suc, ◌+◌, ◌-◌, ◌<◌, ◌≤◌, ◌⊎◌, inl, inr, List, [], ◌∷◌, ◌++◌, length, get_or}
+use Rattle.std.proofs.Common.{Option, Some, None, true, refl, sym, ap, subst, ◌∙◌, arith}
 use Rattle.std.specs.Prelude.{ℤ, pos, ◌+ℤ◌, Contains, All, IsSome, MatchOption}
 use Rattle.std.specs.List.Sorted.{IsPermutation}
 use Rattle.std.proofs.lemmas.List.Sorted.{All-permutation}
@@ -37,7 +38,11 @@ use Rattle.cps_network.specs.shared.PairLists.{all_in, in_permuted, permuted_in}
 use Rattle.delay_labels.proofs.ListLemmas.{given_in_range, range_gives}
 use Rattle.delay_labels.proofs.CostLemmas.{attained_small}
 
-module _ (p : Problem) (wf : IsWellFormed p) (w stage : ℕ) (before : List (List ℤ)) (v : List ℤ) (from to : ℕ) (range : Sources p w stage before v from to) (lists : List (List Pair)) (are : AreCosts p (stage, before) lists) (days : (i : ℕ) → All IsInDays (list_at lists i)) (l r : ℕ) (leader_is : pos l ≡ pos stage +ℤ offset_at (node_at before from) (w - 1)) (rank_is : pos r ≡ pos (suc stage) +ℤ offset_at v (w - 1)) where
+module _ (p : Problem) (wf : IsWellFormed p) (w stage : ℕ) (before : List (List ℤ)) (v : List ℤ)
+    (from to : ℕ) (range : Sources p w stage before v from to) (lists : List (List Pair))
+    (are : AreCosts p (stage, before) lists) (days : (i : ℕ) → All IsInDays (list_at lists i))
+    (l r : ℕ) (leader_is : pos l ≡ pos stage +ℤ offset_at (node_at before from) (w - 1))
+    (rank_is : pos r ≡ pos (suc stage) +ℤ offset_at v (w - 1)) where
   -- few flights have landed
   pub few : suc stage ≤ 63
   few =
@@ -48,15 +53,18 @@ module _ (p : Problem) (wf : IsWellFormed p) (w stage : ℕ) (before : List (Lis
       let d = wf.few_flights in
       omega (arith, a, b, c, d)
 
-  listed_attained : (j : ℕ) → j < length before → (o : Pair) → InPairs o (list_at lists j) → Attains p stage (node_at before j) o
+  listed_attained : (j : ℕ) → j < length before → (o : Pair) → InPairs o (list_at lists j)
+      → Attains p stage (node_at before j) o
   listed_attained j lt o i = (((are.pairs j lt).undominated o).0 i).attained
 
   -- what a listed pair costs leaves room for one landing more
   pub listed_small : (j : ℕ) → j < length before → All (λ (q : Pair). q.1 ≤ most_before) (list_at lists j)
   listed_small j lt i d within =
       let o : Pair = get_or (list_at lists j) i d in
-      let has : InPairs (get_or (list_at lists j) i d) (list_at lists j) = at_in (list_at lists j) i (get_or (list_at lists j) i d) within (get_or_default (list_at lists j) i (0, 0) d within) in
-      let s = attained_small p wf stage (node_at before j) (get_or (list_at lists j) i d) (listed_attained j lt (get_or (list_at lists j) i d) has) (days j i d within) in
+      let has : InPairs (get_or (list_at lists j) i d) (list_at lists j) = at_in (list_at lists j) i
+      (get_or (list_at lists j) i d) within (get_or_default (list_at lists j) i (0, 0) d within) in
+      let s = attained_small p wf stage (node_at before j) (get_or (list_at lists j) i d)
+      (listed_attained j lt (get_or (list_at lists j) i d) has) (days j i d within) in
       omega (arith, s, few)
 
   -- the successors of the listed pairs of the range are those of the network
@@ -65,8 +73,10 @@ module _ (p : Problem) (wf : IsWellFormed p) (w stage : ℕ) (before : List (Lis
   gives j lo hi o q i e =
       let lt : j < length before = omega (arith, hi, range.within) in
       let s = successor_at p w stage before v from to range j lo hi in
-      let same : s.0 ≡ r = rank_of p w stage before v from to range r rank_is (node_at before j) (landable_at p w stage before v from to range j lt) s in
-      let lead : latest (stage, node_at before j) ≡ l = leader_at p w stage before v from to range l leader_is j lo hi in
+      let same : s.0 ≡ r = rank_of p w stage before v from to range r rank_is (node_at before j)
+      (landable_at p w stage before v from to range j lt) s in
+      let lead : latest (stage, node_at before j) ≡ l =
+      leader_at p w stage before v from to range l leader_is j lo hi in
       (s, ap (λ (y : ℕ). successor p y o s.0) lead ∙ ap (λ (y : ℕ). successor p l o y) same ∙ e)
 
   -- a successor of a listed pair is attained
@@ -81,7 +91,8 @@ module _ (p : Problem) (wf : IsWellFormed p) (w stage : ℕ) (before : List (Lis
   given_small q low g = let s = attained_small p wf (suc stage) v q (given_attained q g) low in omega (arith, s, few)
 
   -- which pair of which place gives a successor
-  pub given_pair : (q : Pair) → IsGivenIn p l r lists from to q → (place : ℕ) × (index : ℕ) × GivesPair p (stage, before) lists v q place index
+  pub given_pair : (q : Pair) → IsGivenIn p l r lists from to q → (place : ℕ) × (index : ℕ)
+      × GivesPair p (stage, before) lists v q place index
   given_pair q (j, lo, hi, o, i, e) =
       let at = in_at o (list_at lists j) i in
       let g = gives j lo hi o q i e in (
@@ -98,36 +109,54 @@ module _ (p : Problem) (wf : IsWellFormed p) (w stage : ℕ) (before : List (Lis
       )
 
   -- which places and indices give a pair
-  pub gives_at : (q : Pair) (j index : ℕ) → from ≤ j → j < to → index < length (list_at lists j) → successor p l (pair_at (list_at lists j) index) r ≡ Some q → GivesPair p (stage, before) lists v q j index
+  pub gives_at : (q : Pair) (j index : ℕ) → from ≤ j → j < to → index < length (list_at lists j)
+      → successor p l (pair_at (list_at lists j) index) r ≡ Some q → GivesPair p (stage, before) lists v q j index
   gives_at q j index lo hi lt e =
-      let g = gives j lo hi (pair_at (list_at lists j) index) q (at_in (list_at lists j) index (pair_at (list_at lists j) index) lt refl) e in
-      record { within = omega (arith, hi, range.within); listed = lt; rank = g.0.0; permitted = g.0.1; next = g.0.2; lands = g.1 }
+      let g = gives j lo hi (pair_at (list_at lists j) index) q
+      (at_in (list_at lists j) index (pair_at (list_at lists j) index) lt refl) e in
+      record {
+        within = omega (arith, hi, range.within);
+        listed = lt;
+        rank = g.0.0;
+        permitted =
+            g.0.1;
+        next = g.0.2;
+        lands = g.1;
+      }
 
-  pub given_at : (q : Pair) (j index : ℕ) → GivesPair p (stage, before) lists v q j index → (from ≤ j) × (j < to) × (index < length (list_at lists j)) × (successor p l (pair_at (list_at lists j) index) r ≡ Some q)
+  pub given_at : (q : Pair) (j index : ℕ) → GivesPair p (stage, before) lists v q j index
+      → (from ≤ j) × (j < to) × (index < length (list_at lists j))
+      × (successor p l (pair_at (list_at lists j) index) r ≡ Some q)
   given_at q j index g =
       let x : IsSuccessor p stage (node_at before j) v = (g.rank, g.permitted, g.next) in
       let found = place_at p w stage before v from to range j g.within x in
-      let same : g.rank ≡ r = rank_of p w stage before v from to range r rank_is (node_at before j) (landable_at p w stage before v from to range j g.within) x in
-      let lead : latest (stage, node_at before j) ≡ l = leader_at p w stage before v from to range l leader_is j found.0 found.1 in (
+      let same : g.rank ≡ r = rank_of p w stage before v from to range r rank_is (node_at before j)
+      (landable_at p w stage before v from to range j g.within) x in
+      let lead : latest (stage, node_at before j) ≡ l =
+      leader_at p w stage before v from to range l leader_is j found.0 found.1 in (
         found.0,
         found.1,
         g.listed,
-        sym (ap (λ (y : ℕ). successor p y (pair_at (list_at lists j) index) g.rank) lead ∙ ap (λ (y : ℕ). successor p l (pair_at (list_at lists j) index) y) same) ∙ g.lands,
+        sym (ap (λ (y : ℕ). successor p y (pair_at (list_at lists j) index) g.rank) lead
+            ∙ ap (λ (y : ℕ). successor p l (pair_at (list_at lists j) index) y) same) ∙ g.lands,
       )
 
   -- where some place and index give the pair, some are found in the range
   pub source_known : (q : Pair) (j index : ℕ) → GivesPair p (stage, before) lists v q j index → (found : Option (ℕ × ℕ))
-      → MatchOption found ((i : ℕ) → from ≤ i → i < to → GivesNone p l r (list_at lists i) q) (IsFirstSource p l r lists from to q) → IsSome found
+      → MatchOption found ((i : ℕ) → from ≤ i → i < to → GivesNone p l r (list_at lists i) q)
+      (IsFirstSource p l r lists from to q) → IsSome found
   source_known q j index given None none = let g = given_at q j index given in absurd (none j g.0 g.1 index g.2 g.3)
   source_known q j index given (Some at) first = refl
 
   -- what is found is the first place and index that give the pair
   abbrev IsFirstToGive : Pair → ℕ × ℕ → Type 0
   IsFirstToGive q at = GivesPair p (stage, before) lists v q at.0 at.1
-      × ((place i : ℕ) → (place < at.0) ⊎ ((place ≡ at.0) × (i < at.1)) → GivesPair p (stage, before) lists v q place i → ⊥)
+      × ((place i : ℕ) → (place < at.0) ⊎ ((place ≡ at.0) × (i < at.1)) → GivesPair p (stage, before) lists v q place i
+      → ⊥)
 
   pub first_to_give : (q : Pair) (found : Option (ℕ × ℕ)) (at : ℕ × ℕ)
-      → MatchOption found ((i : ℕ) → from ≤ i → i < to → GivesNone p l r (list_at lists i) q) (IsFirstSource p l r lists from to q) → found ≡ Some at → IsFirstToGive q at
+      → MatchOption found ((i : ℕ) → from ≤ i → i < to → GivesNone p l r (list_at lists i) q)
+      (IsFirstSource p l r lists from to q) → found ≡ Some at → IsFirstToGive q at
   first_to_give q None at none e = absurd (cc)
   first_to_give q (Some (place, i)) at (lo, hi, (within, lands, first), none) e =
       subst (IsFirstToGive q) (same_Some (place, i) at e) (
@@ -136,7 +165,8 @@ module _ (p : Problem) (wf : IsWellFormed p) (w stage : ℕ) (before : List (Lis
             let g = given_at q n m other in
             elim below [
               | inl lt ↦ none n g.0 lt m g.2 g.3
-              | inr at ↦ first m at.1 (subst (λ (o : ℕ). successor p l (pair_at (list_at lists o) m) r ≡ Some q) at.0 g.3)
+              | inr at ↦ first m at.1 (subst (λ (o : ℕ). successor p l (pair_at (list_at lists o) m) r ≡ Some q)
+                  at.0 g.3)
             ],
       )
 
@@ -144,7 +174,8 @@ module _ (p : Problem) (wf : IsWellFormed p) (w stage : ℕ) (before : List (Lis
   Lists n q = (j : ℕ) × (j < length before) × (n ≡ (stage, node_at before j)) × InPairs q (list_at lists j)
 
   abbrev Here : Node → Pair → Type 0
-  Here n q = Attained (λ s u. (ranked p).is_open s u ≡ true) (next_from (ranked p)) (cost_at p) (Legal (ranked p).rules) (node_of p.k) n q
+  Here n q = Attained (λ s u. (ranked p).is_open s u ≡ true) (next_from (ranked p)) (cost_at p)
+      (Legal (ranked p).rules) (node_of p.k) n q
 
   source_kept : (n : Node) → n.0 ≡ stage → Kept (Here n) (Lists n)
   source_kept n at = record {
@@ -159,18 +190,28 @@ module _ (p : Problem) (wf : IsWellFormed p) (w stage : ℕ) (before : List (Lis
   }
 
   -- lists of which each pair is a successor, and each successor has one no later and no dearer
-  node_kept : (pairs : List Pair) → ((q : Pair) → InPairs q pairs → IsGivenIn p l r lists from to q) → ((q : Pair) → IsGivenIn p l r lists from to q → (o : Pair) × InPairs o pairs × NoWorse o q)
+  node_kept : (pairs : List Pair) → ((q : Pair) → InPairs q pairs → IsGivenIn p l r lists from to q)
+      → ((q : Pair) → IsGivenIn p l r lists from to q → (o : Pair) × InPairs o pairs × NoWorse o q)
       → Kept (Attains p (suc stage) v) (λ q. InPairs q pairs)
   node_kept pairs made enough =
-      kept_next Node (λ s u. (ranked p).is_open s u ≡ true) (first_at p) (next_from (ranked p)) (cost_at p) (Legal (ranked p).rules) (node_of p.k) (permits p) land latest (is_first_open p) (next_later (ranked p)) (costs_rise p) range.laws.network
+      kept_next Node (λ s u. (ranked p).is_open s u ≡ true) (first_at p) (next_from (ranked p))
+      (cost_at p) (Legal (ranked p).rules) (node_of p.k) (permits p) land latest (is_first_open p)
+      (next_later (ranked p)) (costs_rise p) range.laws.network
       Lists (suc stage, v) (λ q. InPairs q pairs)
       (λ e. never (ap (λ (n : Node). n.0) e))
       (λ n s may at. source_kept n (less (ap (λ (m : Node). m.0) at)))
       (λ q i.
       let g = made q i in
       let lt : g.0 < length before = let h = g.2 in omega (arith, h, range.within) in
-      let x = gives g.0 g.1 g.2 g.3 q g.4 g.5 in
-      ((stage, node_at before g.0), x.0.0, g.3, x.0.1, ap (λ (y : List ℤ). (suc stage, y)) (sym x.0.2), (g.0, lt, refl, g.4), x.1))
+      let x = gives g.0 g.1 g.2 g.3 q g.4 g.5 in (
+        (stage, node_at before g.0),
+        x.0.0,
+        g.3,
+        x.0.1,
+        ap (λ (y : List ℤ). (suc stage, y)) (sym x.0.2),
+        (g.0, lt, refl, g.4),
+        x.1,
+      ))
       (λ n s o q may at k e. enough q (given_of n s o q may at k e))
     where
       never : 0 ≡ suc stage → ⊥
@@ -179,25 +220,44 @@ module _ (p : Problem) (wf : IsWellFormed p) (w stage : ℕ) (before : List (Lis
       less : {a b : ℕ} → suc a ≡ suc b → a ≡ b
       less {a} {b} e = omega arith
 
-      given_of : (n : Node) (s : ℕ) (o q : Pair) → permits p n s → land n s ≡ (suc stage, v) → Lists n o → successor p (latest n) o s ≡ Some q → IsGivenIn p l r lists from to q
+      given_of : (n : Node) (s : ℕ) (o q : Pair) → permits p n s → land n s ≡ (suc stage, v)
+          → Lists n o → successor p (latest n) o s ≡ Some q → IsGivenIn p l r lists from to q
       given_of n s o q may at (j, lt, is, i) e =
           let may' : permits p (stage, node_at before j) s = subst (λ (m : Node). permits p m s) is may in
-          let next : v ≡ shifted (node_at before j) (offset_after stage s) = sym (ap (λ (m : Node). m.1) at) ∙ ap (λ (m : Node). (land m s).1) is in
+          let next : v ≡ shifted (node_at before j) (offset_after stage s) =
+          sym (ap (λ (m : Node). m.1) at) ∙ ap (λ (m : Node). (land m s).1) is in
           let x : IsSuccessor p stage (node_at before j) v = (s, may', next) in
           let found = place_at p w stage before v from to range j lt x in
-          let same : s ≡ r = rank_of p w stage before v from to range r rank_is (node_at before j) (landable_at p w stage before v from to range j lt) x in
-          let lead : latest n ≡ l = ap latest is ∙ leader_at p w stage before v from to range l leader_is j found.0 found.1 in
-          (j, found.0, found.1, o, i, sym (ap (λ (y : ℕ). successor p y o s) lead ∙ ap (λ (y : ℕ). successor p l o y) same) ∙ e)
+          let same : s ≡ r = rank_of p w stage before v from to range r rank_is (node_at before j)
+          (landable_at p w stage before v from to range j lt) x in
+          let lead : latest n ≡ l =
+          ap latest is ∙ leader_at p w stage before v from to range l leader_is j found.0 found.1 in (
+            j,
+            found.0,
+            found.1,
+            o,
+            i,
+            sym (ap (λ (y : ℕ). successor p y o s) lead
+                ∙ ap (λ (y : ℕ). successor p l o y) same) ∙ e,
+          )
 
-  kept_pairs : (pairs : List Pair) → Kept (Attains p (suc stage) v) (λ q. InPairs q pairs) → Staircase pairs → ArePairsOf p (suc stage) v pairs
+  kept_pairs : (pairs : List Pair) → Kept (Attains p (suc stage) v) (λ q. InPairs q pairs)
+      → Staircase pairs → ArePairsOf p (suc stage) v pairs
   kept_pairs pairs kept falling = record {
-    undominated = λ q. (kept_undominated (Attains p (suc stage) v) (λ (z : Pair). InPairs z pairs) kept (staircase_apart pairs falling) q, undominated_kept (Attains p (suc stage) v) (λ (z : Pair). InPairs z pairs) kept q);
+    undominated = λ q. (
+      kept_undominated (Attains p (suc stage) v) (λ (z : Pair). InPairs z pairs) kept
+          (staircase_apart pairs falling) q,
+      undominated_kept (Attains p (suc stage) v)
+          (λ (z : Pair). InPairs z pairs) kept q,
+    );
     covers = kept.covers;
     falling = falling;
   }
 
   -- of the successors in order, those that are cheaper than all before them
-  pub swept_pairs : (sorted : List Pair) → InPairOrder sorted → All IsInDays sorted → ((q : Pair) → InPairs q sorted → IsGivenIn p l r lists from to q) → ((q : Pair) → IsGivenIn p l r lists from to q → InPairs q sorted)
+  pub swept_pairs : (sorted : List Pair) → InPairOrder sorted → All IsInDays sorted
+      → ((q : Pair) → InPairs q sorted → IsGivenIn p l r lists from to q)
+      → ((q : Pair) → IsGivenIn p l r lists from to q → InPairs q sorted)
       → ArePairsOf p (suc stage) v (sweep beyond_costs sorted)
   swept_pairs sorted up in_days made all =
       kept_pairs (sweep beyond_costs sorted)
@@ -211,22 +271,35 @@ module _ (p : Problem) (wf : IsWellFormed p) (w stage : ℕ) (before : List (Lis
 
 -- ---- as the call has it
 
-pub pairs_here : (p : Problem) → IsWellFormed p → (w : ℕ) (before after : ℕ × List (List ℤ)) (v : List ℤ) (from to : ℕ) → Sources p w before.0 before.1 v from to → (lists costs more : List (List Pair)) → AreCosts p before lists
-    → ((i : ℕ) → All IsInDays (list_at lists i)) → (l r : ℕ) → pos l ≡ pos before.0 +ℤ offset_at (node_at before.1 from) (w - 1) → pos r ≡ pos (suc before.0) +ℤ offset_at v (w - 1) → after.0 ≡ before.0 + 1 → to ≤ length lists
-    → (found sorted : List Pair) → found ≡ successors_in p l r lists from to → IsPermutation found sorted → InPairOrder sorted → All IsInDays found → more ≡ costs ++ sweep beyond_costs sorted ∷ []
-    → (pairs : List Pair) × (more ≡ costs ++ pairs ∷ []) × ArePairsOf p after.0 v pairs × ((q : Pair) → InPairs q pairs → (place : ℕ) × (index : ℕ) × GivesPair p before lists v q place index)
-pairs_here p wf w before after v from to range lists costs more are days l r leader_is rank_is number within found sorted is moved up in_days e =
+pub pairs_here : (p : Problem) → IsWellFormed p → (w : ℕ) (before after : ℕ × List (List ℤ)) (v : List ℤ) (from to : ℕ)
+    → Sources p w before.0 before.1 v from to → (lists costs more : List (List Pair)) → AreCosts p before lists
+    → ((i : ℕ) → All IsInDays (list_at lists i)) → (l r : ℕ)
+    → pos l ≡ pos before.0 +ℤ offset_at (node_at before.1 from) (w - 1)
+    → pos r ≡ pos (suc before.0) +ℤ offset_at v (w - 1) → after.0 ≡ before.0 + 1 → to ≤ length lists
+    → (found sorted : List Pair) → found ≡ successors_in p l r lists from to → IsPermutation found sorted
+    → InPairOrder sorted → All IsInDays found → more ≡ costs ++ sweep beyond_costs sorted ∷ []
+    → (pairs : List Pair) × (more ≡ costs ++ pairs ∷ []) × ArePairsOf p after.0 v pairs
+    × ((q : Pair) → InPairs q pairs → (place : ℕ) × (index : ℕ) × GivesPair p before lists v q place index)
+pairs_here p wf w before after v from to range lists costs more are days l r leader_is rank_is
+    number within found sorted is moved up in_days e =
     let f : suc before.0 ≡ after.0 = omega (arith, number) in
-    let made : (q : Pair) → InPairs q sorted → IsGivenIn p l r lists from to q = λ q i. given_in_range p l r lists from to q (subst (InPairs q) is (permuted_in found sorted moved q i)) in
-    let all : (q : Pair) → IsGivenIn p l r lists from to q → InPairs q sorted = λ q g. in_permuted found sorted moved q (subst (InPairs q) (sym is) (range_gives p l r lists from to q within g)) in (
+    let made : (q : Pair) → InPairs q sorted → IsGivenIn p l r lists from to q =
+    λ q i. given_in_range p l r lists from to q (subst (InPairs q) is (permuted_in found sorted moved q i)) in
+    let all : (q : Pair) → IsGivenIn p l r lists from to q → InPairs q sorted =
+    λ q g. in_permuted found sorted moved q
+    (subst (InPairs q) (sym is) (range_gives p l r lists from to q within g)) in (
       sweep beyond_costs sorted,
       e,
       subst (λ (s : ℕ). ArePairsOf p s v (sweep beyond_costs sorted)) f
-          (swept_pairs p wf w before.0 before.1 v from to range lists are days l r leader_is rank_is sorted up (All-permutation IsInDays found sorted moved in_days) made all),
-      λ q i. given_pair p wf w before.0 before.1 v from to range lists are days l r leader_is rank_is q (made q (sweep_subset beyond_costs sorted q i)),
+          (swept_pairs p wf w before.0 before.1 v from to range lists are days l r leader_is rank_is sorted up
+          (All-permutation IsInDays found sorted moved in_days) made all),
+      λ q i. given_pair p wf w before.0 before.1 v from to range lists are days l r leader_is rank_is q
+          (made q (sweep_subset beyond_costs sorted q i)),
     )
 
 -- the window that a pair comes from
-pub given_source : (p : Problem) (before : ℕ × List (List ℤ)) (lists : List (List Pair)) (v : List ℤ) (q : Pair) (j index : ℕ) → GivesPair p before lists v q j index
+pub given_source : (p : Problem) (before : ℕ × List (List ℤ)) (lists : List (List Pair)) (v : List ℤ)
+    (q : Pair) (j index : ℕ) → GivesPair p before lists v q j index
     → (x : List ℤ) × Contains before.1 x × IsSuccessor p before.0 x v
-given_source p before lists v q j index g = (node_at before.1 j, Contains-get_or before.1 j [] g.within, (g.rank, g.permitted, g.next))
+given_source p before lists v q j index g =
+    (node_at before.1 j, Contains-get_or before.1 j [] g.within, (g.rank, g.permitted, g.next))

@@ -8,8 +8,9 @@ use Rattle.landing_rules.specs.Rules.{last_second}
 use Rattle.delay_labels.specs.declared.follower.Follower.{Follower}
 use Rattle.delay_labels.specs.declared.follower.Lead.{Lead}
 
--- what is known of a rank is so: from when on it may land as the first, and what its landings cost; and when it is ready at a
--- second from `from` to the end of the span, it lands then or at the span's first second. Of rank 0, no flight, little is asked
+-- what is known of a rank is so: from when on it may land as the first, and what its landings cost; and when it is
+-- ready at a second from `from` to the end of the span, it lands then or at the span's first second. Of rank 0, no
+-- flight, little is asked
 pub record IsFollower (p : Problem) (follower : Follower) : Type 0 where
   pub start_is : 1 ≤ follower.rank → start_at p follower.rank ≡ follower.start
   pub cost_is : 1 ≤ follower.rank → (t : ℕ) → cost_at p follower.rank t ≡ follower.weight * (t - follower.eta)

@@ -30,4 +30,5 @@ successors_in p last rank lists from to = flat_map (successors p last rank) (sli
 
 -- the pair is the successor, by a rank behind another, of a pair of one of the lists of a range
 abbrev pub IsGivenIn : Problem → ℕ → ℕ → List (List Pair) → ℕ → ℕ → Pair → Type 0
-IsGivenIn p last rank lists from to q = (place : ℕ) × (from ≤ place) × (place < to) × (o : Pair) × InPairs o (list_at lists place) × (successor p last o rank ≡ Some q)
+IsGivenIn p last rank lists from to q = (place : ℕ) × (from ≤ place) × (place < to) × (o : Pair)
+    × InPairs o (list_at lists place) × (successor p last o rank ≡ Some q)

@@ -1,4 +1,5 @@
--- Where a pair of the next stage comes from: the first place of a range of lists, and the first index of the list there.
+-- Where a pair of the next stage comes from: the first place of a range of lists, and the first index of the list
+-- there.
 use Rattle.std.specs.Prelude.{◌≡◌, ℕ, ◌<◌, ◌≤◌, List, length, Some}
 use Rattle.cps_theory.specs.Labels.{Pair}
 use Rattle.landing_rules.specs.Problem.{Problem}
@@ -15,5 +16,6 @@ GivesFirst p last rank pairs q index = (index < length pairs) × (successor p la
 
 -- of the lists of a range this is the first place whose list has such a pair, and the first index of one there
 abbrev pub IsFirstSource : Problem → ℕ → ℕ → List (List Pair) → ℕ → ℕ → Pair → ℕ × ℕ → Type 0
-IsFirstSource p last rank lists from to q at = (from ≤ at.0) × (at.0 < to) × GivesFirst p last rank (list_at lists at.0) q at.1
+IsFirstSource p last rank lists from to q at =
+    (from ≤ at.0) × (at.0 < to) × GivesFirst p last rank (list_at lists at.0) q at.1
     × ((i : ℕ) → from ≤ i → i < at.0 → GivesNone p last rank (list_at lists i) q)

@@ -1,5 +1,7 @@
 -- One load more.
-use Rattle.std.proofs.Common.{◌≡◌, ◌⊎◌, inl, inr, ℕ, ◌+◌, ◌-◌, ◌<◌, ◌≤◌, List, [], ◌∷◌, ◌++◌, length, take, drop, map, Some, String, Global, string_bytes, IsTrue, ap, sym, subst, ◌∙◌, arith, append_assoc, take-append-drop, length-append}
+use Rattle.std.proofs.Common.{◌≡◌, ◌⊎◌, inl, inr, ℕ, ◌+◌, ◌-◌, ◌<◌, ◌≤◌, List, [], ◌∷◌, ◌++◌, length, take, drop, map}
+use Rattle.std.proofs.Common.{Some, String, Global, string_bytes, IsTrue, ap, sym, subst, ◌∙◌, arith, append_assoc}
+use Rattle.std.proofs.Common.{take-append-drop, length-append}
 use Rattle.std.specs.List.{AllByRecursion}
 use Rattle.std.proofs.lemmas.List.{map-append, take_all, take_more, get_or-map, length-map}
 use Rattle.std.specs.Prelude.{slice_index_or}
@@ -7,23 +9,27 @@ use Rattle.cps_outside.specs.Causes.{Rose}
 use Rattle.cps_outside.specs.FolderState.{FolderState, IsAfterLoad, IsAbsent, Gives, Exceeds}
 use Rattle.endings.specs.Loads.{limit, Loads, StopsAt, FailsAt, IsTooLongAt, AsksForSome}
 
-pub all-append : {X : Type 0} (P : X → Type 0) (xs : List X) (y : X) → AllByRecursion P xs → P y → AllByRecursion P (xs ++ y ∷ [])
+pub all-append : {X : Type 0} (P : X → Type 0) (xs : List X) (y : X) → AllByRecursion P xs
+    → P y → AllByRecursion P (xs ++ y ∷ [])
 all-append P [] y all last = (last, tt)
 all-append P (x ∷ xs) y all last = (all.0, all-append P xs y all.1 last)
 
 -- the names up to the next one
-pub next_name : (names : List (String Global)) (i : ℕ) (s : String Global) (t : List ℕ) → i < length names → s ≡ slice_index_or names i s → t ≡ string_bytes s →
+pub next_name : (names : List (String Global)) (i : ℕ) (s : String Global) (t : List ℕ) → i < length names
+    → s ≡ slice_index_or names i s → t ≡ string_bytes s →
     take (i + 1) (map string_bytes names) ≡ take i (map string_bytes names) ++ t ∷ []
 next_name names i s t lt is same =
     let inside : i < length (map string_bytes names) = grind (arith, length-map) in
-    let at : slice_index_or (map string_bytes names) i t ≡ t = get_or-map string_bytes names i s t lt ∙ ap string_bytes (sym is) ∙ sym same in
+    let at : slice_index_or (map string_bytes names) i t ≡ t =
+    get_or-map string_bytes names i s t lt ∙ ap string_bytes (sym is) ∙ sym same in
     take_more (map string_bytes names) i t inside ∙ ap (λ n. take i (map string_bytes names) ++ n ∷ []) at
 
 pub is_name : (names : List (String Global)) (i : ℕ) → i < length names → i < length (map string_bytes names)
 is_name names i lt = grind (arith, length-map)
 
 -- no name is left
-pub all_loaded : (old new : FolderState) (names : List (String Global)) (cs : List (List ℕ)) (i : ℕ) → length names ≤ i →
+pub all_loaded : (old new : FolderState) (names : List (String Global)) (cs : List (List ℕ)) (i : ℕ)
+    → length names ≤ i →
     Loads old new (take i (map string_bytes names)) cs → Loads old new (map string_bytes names) cs
 all_loaded old new names cs i end l =
     let last : length (map string_bytes names) ≤ i = grind (arith, length-map) in
@@ -43,13 +49,16 @@ loads_more old mid new ns cs i name bytes l a step asks gives = record {
   sure = a.sure ∙ l.sure;
   faults = omega (arith, l.faults, a.faults);
   taken = omega (arith, l.taken, a.taken);
-  asked = λ told. asks (l.tells ∙ told) ∙ ap (λ q. q ++ name ∷ []) (l.asked told) ∙ append_assoc old.asked (take i ns) (name ∷ []) ∙ ap (λ q. old.asked ++ q) (sym step);
+  asked = λ told. asks (l.tells ∙ told) ∙ ap (λ q. q ++ name ∷ []) (l.asked told)
+      ∙ append_assoc old.asked (take i ns) (name ∷ []) ∙ ap (λ q. old.asked ++ q) (sym step);
   told = λ told.
       let before = l.told told in
       let here : old.content name ≡ Some bytes = ap (λ f. f name) (sym l.content) ∙ gives.told (l.tells ∙ told) in
       ap (λ q. map old.content q) step ∙ map-append old.content (take i ns) (name ∷ [])
-      ∙ ap (λ q. q ++ old.content name ∷ []) before ∙ ap (λ q. map Some cs ++ q ∷ []) here ∙ sym (map-append Some cs (bytes ∷ []));
-  count = length-append cs (bytes ∷ []) ∙ ap (λ n. n + 1) l.count ∙ sym (length-append (take i ns) (name ∷ [])) ∙ ap length (sym step);
+      ∙ ap (λ q. q ++ old.content name ∷ []) before ∙ ap (λ q. map Some cs ++ q ∷ []) here
+      ∙ sym (map-append Some cs (bytes ∷ []));
+  count = length-append cs (bytes ∷ []) ∙ ap (λ n. n + 1) l.count ∙ sym (length-append (take i ns) (name ∷ []))
+      ∙ ap length (sym step);
   bounded = all-append (λ b. length b ≤ limit) cs bytes l.bounded gives.bounded;
 }
 
@@ -64,23 +73,30 @@ stops old mid new ns cs i name lt l step asks =
       contents = cs;
       earlier = λ told. ap (λ k. map old.content (take k ns)) (sym back) ∙ l.told told;
       bounded = l.bounded;
-      asked = λ told. asks (l.tells ∙ told) ∙ ap (λ q. q ++ name ∷ []) (l.asked told) ∙ append_assoc old.asked (take i ns) (name ∷ []) ∙ ap (λ q. old.asked ++ q) (sym step);
+      asked = λ told. asks (l.tells ∙ told) ∙ ap (λ q. q ++ name ∷ []) (l.asked told)
+          ∙ append_assoc old.asked (take i ns) (name ∷ []) ∙ ap (λ q. old.asked ++ q) (sym step);
     }
 
 pub fails_next : (old mid new : FolderState) (ns cs : List (List ℕ)) (i : ℕ) (name : List ℕ) → i < length ns →
     Loads old mid (take i ns) cs → take (i + 1) ns ≡ take i ns ++ name ∷ [] →
-    (IsTrue mid.tells → new.asked ≡ mid.asked ++ name ∷ []) → Rose mid.faults new.faults → IsAbsent mid name → FailsAt old new ns (i + 1)
+    (IsTrue mid.tells → new.asked ≡ mid.asked ++ name ∷ []) → Rose mid.faults new.faults → IsAbsent mid name
+    → FailsAt old new ns (i + 1)
 fails_next old mid new ns cs i name lt l step asks rose absent =
     let back : i ≡ i + 1 - 1 = omega arith in record {
       stops = stops old mid new ns cs i name lt l step asks;
       cause = omega (arith, l.faults, rose);
-      absent = λ told sure.
-          (name, step ∙ ap (λ k. take k ns ++ name ∷ []) back, ap (λ f. f name) (sym l.content) ∙ absent (l.tells ∙ told) (l.sure ∙ sure));
+      absent = λ told sure. (
+        name,
+        step ∙ ap (λ k. take k ns ++ name ∷ []) back,
+        ap (λ f. f name) (sym l.content)
+            ∙ absent (l.tells ∙ told) (l.sure ∙ sure),
+      );
     }
 
 pub too_long_next : (old mid new : FolderState) (ns cs : List (List ℕ)) (i : ℕ) (name : List ℕ) → i < length ns →
     Loads old mid (take i ns) cs → take (i + 1) ns ≡ take i ns ++ name ∷ [] →
-    (IsTrue mid.tells → new.asked ≡ mid.asked ++ name ∷ []) → Exceeds mid new name limit → IsTooLongAt old new ns (i + 1)
+    (IsTrue mid.tells → new.asked ≡ mid.asked ++ name ∷ []) → Exceeds mid new name limit
+    → IsTooLongAt old new ns (i + 1)
 too_long_next old mid new ns cs i name lt l step asks exceeds =
     let back : i ≡ i + 1 - 1 = omega arith in record {
       stops = stops old mid new ns cs i name lt l step asks;
@@ -99,7 +115,8 @@ asks_next old mid new ns cs i name l step asks told =
         take (i + 1) ns,
         drop (i + 1) ns,
         take-append-drop (i + 1) ns,
-        more ∙ ap (λ q. q ++ name ∷ []) (l.asked told) ∙ append_assoc old.asked (take i ns) (name ∷ []) ∙ ap (λ q. old.asked ++ q) (sym step),
+        more ∙ ap (λ q. q ++ name ∷ []) (l.asked told) ∙ append_assoc old.asked (take i ns) (name ∷ [])
+            ∙ ap (λ q. old.asked ++ q) (sym step),
       )
       | inr same ↦ (take i ns, drop i ns, take-append-drop i ns, same ∙ l.asked told)
     ]

@@ -1,5 +1,7 @@
 -- Several puts in a row.
-use Rattle.std.proofs.Common.{◌≡◌, refl, ℕ, ◌+◌, ◌<◌, ◌≤◌, List, [], ◌∷◌, ◌++◌, Ok, Err, Result, IsErr, inl, inr, ap, sym, ◌∙◌, subst, arith, append_assoc, append-nil, take, drop, map, length, take-append-drop, length-append}
+use Rattle.std.proofs.Common.{◌≡◌, refl, ℕ, ◌+◌, ◌<◌, ◌≤◌, List, [], ◌∷◌, ◌++◌, Ok, Err, Result, IsErr, inl, inr, ap}
+use Rattle.std.proofs.Common.{sym, ◌∙◌, subst, arith, append_assoc, append-nil, take, drop, map, length}
+use Rattle.std.proofs.Common.{take-append-drop, length-append}
 use Rattle.std.specs.Prelude.{get_or}
 use Rattle.std.specs.Borrow.{Bor}
 use Rattle.std.proofs.lemmas.List.{take_more, get_or-map, length-map}
@@ -24,7 +26,8 @@ text_more : (xs : List (List ℕ)) (y : List ℕ) → line_text (xs ++ y ∷ [])
 text_more xs y = text_append xs (y ∷ []) ∙ ap (λ t. line_text xs ++ t) (append-nil y)
 
 -- one put more
-pub written_more : {T E : Type 0} (old mid new : SinkState) (xs ys : List (List ℕ)) (y : List ℕ) (r : Result T E) (u : T) →
+pub written_more : {T E : Type 0} (old mid new : SinkState) (xs ys : List (List ℕ)) (y : List ℕ)
+    (r : Result T E) (u : T) →
     r ≡ Ok u → ys ≡ xs ++ y ∷ [] → Written old mid (line_text xs) → Writes mid new y r → Written old new (line_text ys)
 written_more old mid new xs ys y r u is step a b =
     let grew : Grows mid new y = IfOk-at_ok (λ _. Grows mid new y) is b.ok in
@@ -38,19 +41,23 @@ written_more old mid new xs ys y r u is step a b =
       left = λ sure.
           let first : old.room ≤ mid.room + length (line_text xs) = a.left sure in
           let then : mid.room ≤ new.room + length y = left (a.sure ∙ sure) in
-          let together : length (line_text ys) ≡ length (line_text xs) + length y = ap length (ap line_text step ∙ text_more xs y) ∙ length-append (line_text xs) y in
+          let together : length (line_text ys) ≡ length (line_text xs) + length y =
+          ap length (ap line_text step ∙ text_more xs y) ∙ length-append (line_text xs) y in
           omega (arith, first, then, together);
     }
 
 -- a put that failed ends it
-pub written_part : {T E V F : Type 0} (old mid new : SinkState) (xs all rest : List (List ℕ)) (y : List ℕ) (r : Result T E) (e : E) (s : Result V F) →
-    r ≡ Err e → IsErr s → all ≡ (xs ++ y ∷ []) ++ rest → Written old mid (line_text xs) → Writes mid new y r → Writes old new (line_text all) s
+pub written_part : {T E V F : Type 0} (old mid new : SinkState) (xs all rest : List (List ℕ))
+    (y : List ℕ) (r : Result T E) (e : E) (s : Result V F) →
+    r ≡ Err e → IsErr s → all ≡ (xs ++ y ∷ []) ++ rest → Written old mid (line_text xs) → Writes mid new y r
+    → Writes old new (line_text all) s
 written_part old mid new xs all rest y r e (Ok v) is wrong step a b = cc
 written_part old mid new xs all rest y r e (Err f) is wrong step a b =
     let part : GrowsByPart mid new y = IfErr-at_err (λ _. GrowsByPart mid new y) is b.part in
     let failed : Rose mid.faults new.faults = IfErr-at_err (λ _. Rose mid.faults new.faults) is b.failed in
     let lacked : LacksRoom mid y = IfErr-at_err (λ _. LacksRoom mid y) is b.lacked in
-    let text : line_text all ≡ (line_text xs ++ y) ++ line_text rest = ap line_text step ∙ text_append (xs ++ y ∷ []) rest ∙ ap (λ t. t ++ line_text rest) (text_more xs y) in
+    let text : line_text all ≡ (line_text xs ++ y) ++ line_text rest =
+    ap line_text step ∙ text_append (xs ++ y ∷ []) rest ∙ ap (λ t. t ++ line_text rest) (text_more xs y) in
     record {
       tells = b.tells ∙ a.tells;
       sure = b.sure ∙ a.sure;
@@ -66,7 +73,9 @@ written_part old mid new xs all rest y r e (Err f) is wrong step a b =
       part = λ told. let p = part (a.tells ∙ told) in (
         line_text xs ++ p.0,
         p.1 ++ line_text rest,
-        append_assoc (line_text xs) p.0 (p.1 ++ line_text rest) ∙ ap (λ l. line_text xs ++ l) (sym (append_assoc p.0 p.1 (line_text rest)) ∙ ap (λ l. l ++ line_text rest) p.2)
+        append_assoc (line_text xs) p.0 (p.1 ++ line_text rest)
+            ∙ ap (λ l. line_text xs ++ l) (sym (append_assoc p.0 p.1 (line_text rest))
+            ∙ ap (λ l. l ++ line_text rest) p.2)
             ∙ sym (append_assoc (line_text xs) y (line_text rest)) ∙ sym text,
         p.3 ∙ ap (λ w. w ++ p.0) (a.grew told) ∙ append_assoc old.written (line_text xs) p.0,
       );
@@ -81,14 +90,17 @@ pub next_piece : (pieces : List (Bor (List ℕ))) (i : ℕ) (d : Bor (List ℕ))
     take (i + 1) (bytes_of pieces) ≡ take i (bytes_of pieces) ++ (get_or pieces i d).now ∷ []
 next_piece pieces i d lt =
     let inside : i < length (bytes_of pieces) = grind (arith, length-map) in
-    take_more (bytes_of pieces) i [] inside ∙ ap (λ n. take i (bytes_of pieces) ++ n ∷ []) (get_or-map (λ (p : Bor (List ℕ)). p.now) pieces i d [] lt)
+    take_more (bytes_of pieces) i [] inside ∙ ap (λ n. take i (bytes_of pieces) ++ n ∷ [])
+    (get_or-map (λ (p : Bor (List ℕ)). p.now) pieces i d [] lt)
 
 pub all_pieces : (pieces : List (Bor (List ℕ))) (i : ℕ) (d : Bor (List ℕ)) → i < length pieces →
     bytes_of pieces ≡ (take i (bytes_of pieces) ++ (get_or pieces i d).now ∷ []) ++ drop (i + 1) (bytes_of pieces)
-all_pieces pieces i d lt = sym (take-append-drop (i + 1) (bytes_of pieces)) ∙ ap (λ l. l ++ drop (i + 1) (bytes_of pieces)) (next_piece pieces i d lt)
+all_pieces pieces i d lt = sym (take-append-drop (i + 1) (bytes_of pieces))
+    ∙ ap (λ l. l ++ drop (i + 1) (bytes_of pieces)) (next_piece pieces i d lt)
 
 -- the same text under another name
-pub says : {T E : Type 0} (old new : SinkState) (x y : List ℕ) (r : Result T E) → x ≡ y → Writes old new x r → Writes old new y r
+pub says : {T E : Type 0} (old new : SinkState) (x y : List ℕ) (r : Result T E) → x ≡ y → Writes old new x r
+    → Writes old new y r
 says old new x y r is w = let P : List ℕ → Type 0 = λ l. Writes old new l r in subst P is w
 
 -- what the put of an ending's line says

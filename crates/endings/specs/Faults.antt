@@ -20,7 +20,8 @@ use Rattle.trial_file.specs.declared.fault.TrialCause.TheVariants as trial
 use Rattle.trial_file.specs.declared.fault.TrialFault.{TrialFault}
 use Rattle.endings.specs.declared.ending.Ending.{Ending}
 use Rattle.endings.specs.declared.ending.Ending.TheVariants.{Refused, NoMemory}
-use Rattle.endings.specs.declared.ending.FilesFault.TheVariants.{Aerodrome, Flights, Events, Certificate, Trials, Plan, Opening}
+use Rattle.endings.specs.declared.ending.FilesFault.TheVariants.{Aerodrome, Flights, Events, Certificate, Trials, Plan}
+use Rattle.endings.specs.declared.ending.FilesFault.TheVariants.{Opening}
 
 abbrev pub aerodrome_ending : AeroFault → Ending
 aerodrome_ending aerodrome.Memory = NoMemory

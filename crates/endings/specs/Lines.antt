@@ -1,5 +1,6 @@
 -- The statuses, and the lines on the standard error. A line is its pieces, one after another.
--- A reader's want of memory has a line here as each cause has, but no run writes it: that ends a run by itself (specs/Faults).
+-- A reader's want of memory has a line here as each cause has, but no run writes it: that ends a run by itself
+-- (specs/Faults).
 use Rattle.std.specs.Prelude.{◌≡◌, ◌⊎◌, ℕ, List, [], ◌∷◌, ◌++◌, codes, decimal}
 use Rattle.cps_outside.specs.Causes.{Rose}
 use Rattle.cps_outside.specs.SinkState.{SinkState, Grows, GrowsByPart, LacksRoom}
@@ -42,11 +43,14 @@ use Rattle.trial_file.specs.declared.fault.TrialFault.{TrialFault}
 use Rattle.plan_file.specs.declared.plan.PlanFault.{PlanFault}
 use Rattle.plan_file.specs.declared.plan.PlanFault.TheVariants as plan
 use Rattle.endings.specs.declared.ending.Answer.{Answer}
-use Rattle.endings.specs.declared.ending.Answer.TheVariants.{Scheduled, Infeasible, Certified, Accepted, Rejected, Tried, Clean, Broken, Claimed}
+use Rattle.endings.specs.declared.ending.Answer.TheVariants.{Scheduled, Infeasible, Certified, Accepted, Rejected}
+use Rattle.endings.specs.declared.ending.Answer.TheVariants.{Tried, Clean, Broken, Claimed}
 use Rattle.endings.specs.declared.ending.FilesFault.{FilesFault}
-use Rattle.endings.specs.declared.ending.FilesFault.TheVariants.{Aerodrome, Flights, Events, Certificate, Trials, Plan, Opening}
+use Rattle.endings.specs.declared.ending.FilesFault.TheVariants.{Aerodrome, Flights, Events, Certificate, Trials, Plan}
+use Rattle.endings.specs.declared.ending.FilesFault.TheVariants.{Opening}
 use Rattle.endings.specs.declared.ending.Ending.{Ending}
-use Rattle.endings.specs.declared.ending.Ending.TheVariants.{Answered, Misused, Refused, NotLoaded, NotWritten, TooLong, NoMemory}
+use Rattle.endings.specs.declared.ending.Ending.TheVariants.{Answered, Misused, Refused, NotLoaded, NotWritten}
+use Rattle.endings.specs.declared.ending.Ending.TheVariants.{TooLong, NoMemory}
 
 abbrev pub answer_status : Answer → ℕ
 answer_status Scheduled = 0
@@ -117,15 +121,20 @@ key_line word k = line_text (codes "cps: aerodrome: " ∷ word ∷ key_name k �
 abbrev pub unknown_line : Part → List ℕ → List ℕ
 unknown_line part.Top text = line_text (codes "cps: aerodrome: unknown key " ∷ text ∷ codes "\n" ∷ [])
 unknown_line part.Table text = line_text (codes "cps: aerodrome: unknown key table " ∷ text ∷ codes "\n" ∷ [])
-unknown_line (part.Closure i) text = line_text (codes "cps: aerodrome: unknown key closure " ∷ decimal i ∷ codes " " ∷ text ∷ codes "\n" ∷ [])
-unknown_line (part.Frozen i) text = line_text (codes "cps: aerodrome: unknown key frozen " ∷ decimal i ∷ codes " " ∷ text ∷ codes "\n" ∷ [])
-unknown_line (part.Passed i) text = line_text (codes "cps: aerodrome: unknown key passed " ∷ decimal i ∷ codes " " ∷ text ∷ codes "\n" ∷ [])
+unknown_line (part.Closure i) text =
+    line_text (codes "cps: aerodrome: unknown key closure " ∷ decimal i ∷ codes " " ∷ text ∷ codes "\n" ∷ [])
+unknown_line (part.Frozen i) text =
+    line_text (codes "cps: aerodrome: unknown key frozen " ∷ decimal i ∷ codes " " ∷ text ∷ codes "\n" ∷ [])
+unknown_line (part.Passed i) text =
+    line_text (codes "cps: aerodrome: unknown key passed " ∷ decimal i ∷ codes " " ∷ text ∷ codes "\n" ∷ [])
 
 abbrev pub table_line : TableFault → List ℕ
 table_line (table.OutOfRange leader follower) =
-    line_text (codes "cps: aerodrome: table range " ∷ letter_text leader ∷ codes " " ∷ letter_text follower ∷ codes "\n" ∷ [])
+    line_text (codes "cps: aerodrome: table range " ∷ letter_text leader ∷ codes " " ∷ letter_text follower
+    ∷ codes "\n" ∷ [])
 table_line (table.Triangle a b c) =
-    line_text (codes "cps: aerodrome: table triangle " ∷ letter_text a ∷ codes " " ∷ letter_text b ∷ codes " " ∷ letter_text c ∷ codes "\n" ∷ [])
+    line_text (codes "cps: aerodrome: table triangle " ∷ letter_text a ∷ codes " " ∷ letter_text b
+    ∷ codes " " ∷ letter_text c ∷ codes "\n" ∷ [])
 
 abbrev pub closure_line : ℕ → ClosureFault → List ℕ
 closure_line i closure.Empty = line_text (codes "cps: aerodrome: closure " ∷ decimal i ∷ codes " empty\n" ∷ [])
@@ -198,7 +207,8 @@ cause_pieces flight.Callsign = codes ": callsign\n" ∷ []
 cause_pieces flight.Category = codes ": category\n" ∷ []
 cause_pieces (flight.Eta fault) = codes ": eta " ∷ number_word fault ∷ codes "\n" ∷ []
 cause_pieces (flight.Weight fault) = codes ": weight " ∷ number_word fault ∷ codes "\n" ∷ []
-cause_pieces (flight.Windows cause) = codes ": windows " ∷ windows_word cause ∷ windows_part cause ∷ windows_why cause ∷ codes "\n" ∷ []
+cause_pieces (flight.Windows cause) =
+    codes ": windows " ∷ windows_word cause ∷ windows_part cause ∷ windows_why cause ∷ codes "\n" ∷ []
 cause_pieces (flight.After cause) = codes ": after " ∷ after_word cause ∷ after_part cause ∷ codes "\n" ∷ []
 cause_pieces flight.Duplicate = codes ": duplicate\n" ∷ []
 cause_pieces flight.TooMany = codes ": too-many\n" ∷ []
@@ -241,7 +251,8 @@ field_why cause = []
 
 -- what follows the number of the record
 abbrev pub field_pieces : Col → FieldCause → List (List ℕ)
-field_pieces c cause = codes ": " ∷ column_word c ∷ codes " " ∷ field_word cause ∷ field_part cause ∷ field_why cause ∷ codes "\n" ∷ []
+field_pieces c cause = codes ": " ∷ column_word c ∷ codes " " ∷ field_word cause ∷ field_part cause
+    ∷ field_why cause ∷ codes "\n" ∷ []
 
 abbrev pub event_pieces : LogCause → List (List ℕ)
 event_pieces log.Header = codes ": header\n" ∷ []
@@ -267,10 +278,12 @@ certificate_line certificate.Memory = line_text (codes "cps: no memory\n" ∷ []
 -- ---- the opening
 
 abbrev pub pair_line : ℕ → ℕ → List ℕ
-pair_line i j = line_text (codes "cps: opening: frozen-separation " ∷ decimal i ∷ codes " " ∷ decimal j ∷ codes "\n" ∷ [])
+pair_line i j = line_text (codes "cps: opening: frozen-separation " ∷ decimal i ∷ codes " "
+    ∷ decimal j ∷ codes "\n" ∷ [])
 
 abbrev pub precedence_line : ℕ → List ℕ → List ℕ
-precedence_line i callsign = line_text (codes "cps: opening: frozen-precedence " ∷ decimal i ∷ codes " " ∷ callsign ∷ codes "\n" ∷ [])
+precedence_line i callsign =
+    line_text (codes "cps: opening: frozen-precedence " ∷ decimal i ∷ codes " " ∷ callsign ∷ codes "\n" ∷ [])
 
 abbrev pub opening_line : OpeningFault → List ℕ
 opening_line (opening.UnknownFrozen i) = numbered_line (codes "cps: opening: unknown-frozen ") i
@@ -287,7 +300,8 @@ abbrev pub trial_pieces : TrialCause → List (List ℕ)
 trial_pieces trial.Header = codes ": header\n" ∷ []
 trial_pieces trial.FieldCount = codes ": fields\n" ∷ []
 trial_pieces trial.Kind = codes ": kind\n" ∷ []
-trial_pieces (trial.Value cause) = codes ": value " ∷ field_word cause ∷ field_part cause ∷ field_why cause ∷ codes "\n" ∷ []
+trial_pieces (trial.Value cause) =
+    codes ": value " ∷ field_word cause ∷ field_part cause ∷ field_why cause ∷ codes "\n" ∷ []
 trial_pieces trial.TooMany = codes ": too-many\n" ∷ []
 trial_pieces trial.Memory = codes ": memory\n" ∷ []
 

@@ -47,7 +47,8 @@ pub record IsTooLongAt (old new : FolderState) (names : List (List ℕ)) (place 
   pub stops : StopsAt old new names place
   pub cause : RoseBy (limit + 1) old.taken new.taken
   pub told : IsTrue old.tells → (name : List ℕ) × (bytes : List ℕ)
-      × (take place names ≡ take (place - 1) names ++ name ∷ []) × (old.content name ≡ Some bytes) × (limit < length bytes)
+      × (take place names ≡ take (place - 1) names ++ name ∷ []) × (old.content name ≡ Some bytes)
+      × (limit < length bytes)
 
 -- some of the files were asked for, the first of them first
 abbrev pub AsksForSome : FolderState → FolderState → List (List ℕ) → Type 0

@@ -21,7 +21,8 @@ refused_by (Ok aerodrome) (Err fault) = Some (refusal.Flights fault)
 refused_by (Ok aerodrome) (Ok flights) = refusal_of aerodrome flights
 
 -- the same with a third file, whose fault is a refusal of this kind
-abbrev pub refused_by_three : {T F : Type 0} → (F → refusals.FilesFault) → Result Aerodrome AeroFault → Result (List Flight) FlightFault → Result T F → Option refusals.FilesFault
+abbrev pub refused_by_three : {T F : Type 0} → (F → refusals.FilesFault) → Result Aerodrome AeroFault
+    → Result (List Flight) FlightFault → Result T F → Option refusals.FilesFault
 refused_by_three kind (Err fault) flights third = Some (refusal.Aerodrome fault)
 refused_by_three kind (Ok aerodrome) (Err fault) third = Some (refusal.Flights fault)
 refused_by_three kind (Ok aerodrome) (Ok flights) (Err fault) = Some (kind fault)

@@ -26,7 +26,8 @@ in_within before (r ∷ rs) = elim (cases_Bool (nat_lt 7 (length r))) [
   | inr few ↦ rw few (both (added before (event_in (length before) r)) (λ events. in_within events rs))
 ]
   where
-    both : (o : Result (List Event) LogFault) → ((events : List Event) → events_in events (within 7 rs) ≡ events_in events rs)
+    both : (o : Result (List Event) LogFault)
+        → ((events : List Event) → events_in events (within 7 rs) ≡ events_in events rs)
         → (o >>= (λ events. events_in events (within 7 rs))) ≡ (o >>= (λ events. events_in events rs))
     both (Ok events) same = same events
     both (Err e) same = refl

@@ -7,7 +7,8 @@ use Rattle.arrivals.specs.declared.event.Event.TheVariants.{Estimate, Cancel, Ad
 use Rattle.event_log.specs.declared.fault.Col.TheVariants.{Callsign, Category, Eta, Weight, Windows, After}
 use Rattle.event_log.specs.declared.fault.LogCause.{LogCause}
 use Rattle.event_log.specs.declared.fault.LogCause.TheVariants.{Kind}
-use Rattle.event_log.specs.Columns.{empty_in, callsign_in, category_in, second_in, weight_in, windows_at, names_at, span_at}
+use Rattle.event_log.specs.Columns.{empty_in, callsign_in, category_in, second_in, weight_in, windows_at, names_at}
+use Rattle.event_log.specs.Columns.{span_at}
 
 unfoldable pub estimate_in : Fields → Result Event LogCause
 estimate_in r = do
@@ -37,7 +38,15 @@ add_in r = do
   weight ← weight_in r
   windows ← windows_at r
   after ← names_at callsign r
-  Ok (Add (record { callsign = callsign; category = category; eta = eta; weight = weight; windows = windows; after = after }))
+  Ok (Add (record {
+    callsign = callsign;
+    category = category;
+    eta = eta;
+    weight = weight;
+    windows =
+        windows;
+    after = after;
+  }))
 
 unfoldable pub close_in : Fields → Result Event LogCause
 close_in r = do

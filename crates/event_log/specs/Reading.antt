@@ -1,5 +1,6 @@
 -- The events of a log, or the first fault of its first record that has one, over the records that `csv` reads.
-use Rattle.std.specs.Prelude.{ℕ, List, [], ◌∷◌, ◌++◌, Bool, not, ◌==◌, ◌&&◌, ◌+◌, nat_le, length, codes, bytes_eq, Result, Ok, Err, if◌then◌else◌}
+use Rattle.std.specs.Prelude.{ℕ, List, [], ◌∷◌, ◌++◌, Bool, not, ◌==◌, ◌&&◌, ◌+◌, nat_le, length, codes, bytes_eq}
+use Rattle.std.specs.Prelude.{Result, Ok, Err, if◌then◌else◌}
 use Rattle.cps_base.specs.Answers.{◌>>=◌}
 use Rattle.landing_rules.specs.Limits.{most_events}
 use Rattle.csv_records.specs.Rows.{Fields, field, records_of}
@@ -12,8 +13,10 @@ use Rattle.event_log.specs.Kinds.{event_by}
 -- exactly the fields `kind,callsign,category,eta,weight,windows,after`
 unfoldable pub is_header : Fields → Bool
 is_header r =
-    ((((((length r == 7 && bytes_eq (field r 0) (codes "kind")) && bytes_eq (field r 1) (codes "callsign")) && bytes_eq (field r 2) (codes "category"))
-    && bytes_eq (field r 3) (codes "eta")) && bytes_eq (field r 4) (codes "weight")) && bytes_eq (field r 5) (codes "windows"))
+    ((((((length r == 7 && bytes_eq (field r 0) (codes "kind")) && bytes_eq (field r 1) (codes "callsign"))
+    && bytes_eq (field r 2) (codes "category"))
+    && bytes_eq (field r 3) (codes "eta")) && bytes_eq (field r 4) (codes "weight"))
+    && bytes_eq (field r 5) (codes "windows"))
     && bytes_eq (field r 6) (codes "after")
 
 -- the event that a record is, behind n events

@@ -17,7 +17,8 @@ forward from to = if nat_le to from then Err EmptySpan else Ok (from, to)
 
 -- the text, cut at each `-`
 abbrev pub span_by : List (List ℕ) → Result (ℕ × ℕ) FieldCause
-span_by (first ∷ last ∷ []) = second_in first last_second >>= (λ from. second_in last (last_second + 1) >>= (λ to. forward from to))
+span_by (first ∷ last ∷ []) =
+    second_in first last_second >>= (λ from. second_in last (last_second + 1) >>= (λ to. forward from to))
 span_by ps = Err (Windows (Shape 1))
 
 -- the span that a text is, `from-to`: its first second, and the first second behind it

@@ -15,14 +15,24 @@ some_waiting : (fs : List Waiting) (p : Problem) (t : ℕ) → nat_eq (length fs
 some_waiting [] p t e = absurd (true≢false e)
 some_waiting (f ∷ fs) p t e = refl
 
-pub makespan_value : (p : Problem) (s : Schedule) → p.objective ≡ Makespan → length s ≡ length p.flights → nat_eq (length p.flights) 0 ≡ false → greatest (of_rank 0 s) (length s) ≡ list_objective p s
+pub makespan_value : (p : Problem) (s : Schedule) → p.objective ≡ Makespan → length s ≡ length p.flights
+    → nat_eq (length p.flights) 0 ≡ false → greatest (of_rank 0 s) (length s) ≡ list_objective p s
 makespan_value p s o long some =
     ap (greatest (of_rank 0 s)) long ∙ sym (some_waiting p.flights p (greatest (of_rank 0 s) (length p.flights)) some)
-    ∙ sym (ap (λ (x : Objective). value_by x p (greatest (of_rank 0 s) (length p.flights), total (λ r. cost_at p r (of_rank 0 s r)) (upto (length p.flights)))) o)
+    ∙ sym (ap (λ (x : Objective). value_by x p (
+      greatest (of_rank 0 s) (length p.flights),
+      total
+          (λ r. cost_at p r (of_rank 0 s r)) (upto (length p.flights)),
+    )) o)
     ∙ sym (list_value p s long)
 
-pub delay_value : (p : Problem) (s : Schedule) (costs : ℕ) → p.objective ≡ Delay → length s ≡ length p.flights → costs ≡ total (λ r. cost_at p r (of_rank 0 s r)) (upto (length p.flights)) → p.base + costs ≡ list_objective p s
+pub delay_value : (p : Problem) (s : Schedule) (costs : ℕ) → p.objective ≡ Delay → length s ≡ length p.flights
+    → costs ≡ total (λ r. cost_at p r (of_rank 0 s r)) (upto (length p.flights)) → p.base + costs ≡ list_objective p s
 delay_value p s costs o long e =
     ap (λ n. p.base + n) e
-    ∙ sym (ap (λ (x : Objective). value_by x p (greatest (of_rank 0 s) (length p.flights), total (λ r. cost_at p r (of_rank 0 s r)) (upto (length p.flights)))) o)
+    ∙ sym (ap (λ (x : Objective). value_by x p (
+      greatest (of_rank 0 s) (length p.flights),
+      total
+          (λ r. cost_at p r (of_rank 0 s r)) (upto (length p.flights)),
+    )) o)
     ∙ sym (list_value p s long)

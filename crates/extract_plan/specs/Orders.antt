@@ -23,4 +23,5 @@ pub record LandsInOrder (p : Problem) (order : List ℕ) (t : Schedule) : Type 0
 
 -- each flight of the order at its first open second behind the one before it
 abbrev pub EarliestInOrder : Problem → List ℕ → Schedule → Type 0
-EarliestInOrder p order t = earliest (first_at p) (next_from (ranked p)) (reverse order) ≡ Some (at_seconds (of_rank 0 t) (reverse order))
+EarliestInOrder p order t =
+    earliest (first_at p) (next_from (ranked p)) (reverse order) ≡ Some (at_seconds (of_rank 0 t) (reverse order))

@@ -1,5 +1,6 @@
 -- Orders of least choices, by the pairs of the nodes.
-use Rattle.std.proofs.Common.{◌≡◌, ℕ, zero, suc, ◌+◌, ◌-◌, ◌*◌, ◌<◌, ◌≤◌, ◌⊎◌, inl, inr, List, [], ◌∷◌, length, set, get_or, cond, Bool, Option, Some, None, refl, sym, ap, ap₂, subst, ◌∙◌, le_trans, arith}
+use Rattle.std.proofs.Common.{◌≡◌, ℕ, zero, suc, ◌+◌, ◌-◌, ◌*◌, ◌<◌, ◌≤◌, ◌⊎◌, inl, inr, List, [], ◌∷◌, length, set}
+use Rattle.std.proofs.Common.{get_or, cond, Bool, Option, Some, None, refl, sym, ap, ap₂, subst, ◌∙◌, le_trans, arith}
 use Rattle.std.specs.Prelude.{◌↔◌, slice_set, replicate, IfSome}
 use Rattle.std.proofs.lemmas.Bool.{cases_eq, cases_lt, eq-eqb, lt-ltb, le-ltb, ne_eqb}
 use Rattle.std.proofs.lemmas.List.{ext_get_or, get_or-set_same, get_or-set_other, get_or-replicate}
@@ -20,7 +21,8 @@ use Rattle.cps_theory.specs.ProblemNetwork.{LandedIn}
 use Rattle.cps_theory.specs.Labels.{Pair}
 use Rattle.cps_theory.specs.LandingTrail.{cost_of, latest_landing, ranks}
 use Rattle.landing_joint.specs.RankedProblem.{no_waiting, ranked, cost_at, landing_after}
-use Rattle.landing_joint.specs.CompletingPairs.{AreCompletingPairs, AreLeastChoices, CanChoose, IsCompletingPair, IsLeastObjective, IsLegal, budget_of, seconds_by_rank}
+use Rattle.landing_joint.specs.CompletingPairs.{AreCompletingPairs, AreLeastChoices, CanChoose, IsCompletingPair}
+use Rattle.landing_joint.specs.CompletingPairs.{IsLeastObjective, IsLegal, budget_of, seconds_by_rank}
 use Rattle.landing_joint.specs.shared.FirstOpen.{is_first_open}
 use Rattle.landing_joint.specs.shared.FirstBestLists.{list_of_at, list_of_long}
 use Rattle.landing_joint.specs.shared.LeastChoices.{choice_found, choices_first_best}
@@ -39,46 +41,65 @@ use Rattle.first_best.proofs.UseLemmas.{all_kept}
 
 -- ---- the least of the choices by the first nodes
 
-module _ (p : Problem) (budget : ℕ) (before : EarlyNode) (cost : ℕ) (nodes : List EarlyNode) (lists : List (List Pair)) where
+module _ (p : Problem) (budget : ℕ) (before : EarlyNode) (cost : ℕ) (nodes : List EarlyNode)
+    (lists : List (List Pair)) where
   -- the least choice of the first nodes, or what comes after every rank
   pub record LeastUpto (j : ℕ) (least : Pair) : Type 0 where
     pub known : (least ≡ (most_waiting + 1, 0)) ⊎ IsChoice p budget before cost nodes lists least.0 least.1
-    pub low : (i t : ℕ) → i < j → LeadsTo before (node_at nodes i) → IsAffordable p budget before cost (node_at nodes i) (list_at lists i) t → least.0 ≤ (node_at nodes i).last
+    pub low : (i t : ℕ) → i < j → LeadsTo before (node_at nodes i)
+        → IsAffordable p budget before cost (node_at nodes i) (list_at lists i) t → least.0 ≤ (node_at nodes i).last
 
   pub none_upto : LeastUpto 0 (most_waiting + 1, 0)
   none_upto = record { known = inl refl; low = λ i t lt. absurd (omega (arith, lt)) }
 
-  pub one_upto : (j : ℕ) (least : Pair) (found : Option ℕ) → j < length nodes → LeastUpto j least → FindsWay p budget before cost (node_at nodes j) (list_at lists j) found → LeastUpto (j + 1) (lesser_choice least (node_at nodes j).last found)
+  pub one_upto : (j : ℕ) (least : Pair) (found : Option ℕ) → j < length nodes → LeastUpto j least
+      → FindsWay p budget before cost (node_at nodes j) (list_at lists j) found
+      → LeastUpto (j + 1) (lesser_choice least (node_at nodes j).last found)
   one_upto j least None lt u f = record {
     known = u.known;
     low = λ i t l leads a. elim (cases_eq i j) [
-      | inl e ↦ absurd (f t (subst (λ (n : ℕ). LeadsTo before (node_at nodes n)) e leads) (subst (λ (n : ℕ). IsAffordable p budget before cost (node_at nodes n) (list_at lists n) t) e a))
+      | inl e ↦ absurd (f t (subst (λ (n : ℕ). LeadsTo before (node_at nodes n)) e leads)
+          (subst (λ (n : ℕ). IsAffordable p budget before cost (node_at nodes n) (list_at lists n) t) e a))
       | inr ne ↦ u.low i t (omega (arith, l, ne)) leads a
     ];
   }
   one_upto j least (Some s) lt u f = elim (cases_lt (node_at nodes j).last least.0) [
-    | inl less ↦ subst (LeastUpto (j + 1)) (sym (ap (λ (b : Bool). cond b ((node_at nodes j).last, s) least) (lt-ltb (node_at nodes j).last least.0 less))) (record {
-      known = inr (record { place = j; within = lt; last = refl; leads = f.0; affordable = f.1 });
-      low = λ i t l leads a. elim (cases_eq i j) [
-        | inl e ↦ (let same : (node_at nodes i).last ≡ (node_at nodes j).last = ap (λ (n : ℕ). (node_at nodes n).last) e in omega (arith, same))
-        | inr ne ↦ (let b = u.low i t (omega (arith, l, ne)) leads a in omega (arith, b, less))
-      ];
-    })
-    | inr more ↦ subst (LeastUpto (j + 1)) (sym (ap (λ (b : Bool). cond b ((node_at nodes j).last, s) least) (le-ltb (node_at nodes j).last least.0 more))) (record {
-      known = u.known;
-      low = λ i t l leads a. elim (cases_eq i j) [
-        | inl e ↦ (let same : (node_at nodes i).last ≡ (node_at nodes j).last = ap (λ (n : ℕ). (node_at nodes n).last) e in omega (arith, same, more))
-        | inr ne ↦ u.low i t (omega (arith, l, ne)) leads a
-      ];
-    })
+    | inl less ↦ subst (LeastUpto (j + 1))
+        (sym (ap (λ (b : Bool). cond b ((node_at nodes j).last, s) least) (lt-ltb (node_at nodes j).last least.0 less)))
+        (record {
+          known = inr (record { place = j; within = lt; last = refl; leads = f.0; affordable = f.1 });
+          low = λ i t l leads a. elim (cases_eq i j) [
+            | inl e ↦ (let same : (node_at nodes i).last ≡ (node_at nodes j).last =
+                ap (λ (n : ℕ). (node_at nodes n).last) e in omega (arith, same))
+            | inr ne ↦ (let b = u.low i t (omega (arith, l, ne)) leads a in omega (arith, b, less))
+          ];
+        })
+    | inr more ↦ subst (LeastUpto (j + 1))
+        (sym (ap (λ (b : Bool). cond b ((node_at nodes j).last, s) least) (le-ltb (node_at nodes j).last least.0 more)))
+        (record {
+          known = u.known;
+          low = λ i t l leads a. elim (cases_eq i j) [
+            | inl e ↦ (let same : (node_at nodes i).last ≡ (node_at nodes j).last =
+                ap (λ (n : ℕ). (node_at nodes n).last) e in omega (arith, same, more))
+            | inr ne ↦ u.low i t (omega (arith, l, ne)) leads a
+          ];
+        })
   ]
 
-  pub least_upto : (j : ℕ) (least : Pair) → j ≡ length nodes → ((i : ℕ) → i < length nodes → (node_at nodes i).last ≤ 60) → LeastUpto j least → IsLeastChoice p budget before cost nodes lists least
+  pub least_upto : (j : ℕ) (least : Pair) → j ≡ length nodes
+      → ((i : ℕ) → i < length nodes → (node_at nodes i).last ≤ 60) → LeastUpto j least
+      → IsLeastChoice p budget before cost nodes lists least
   least_upto j least e few u r t c =
       let low = u.low c.place t (let w = c.within in omega (arith, w, e)) c.leads c.affordable in
       let last = c.last in
-      let most = few c.place c.within in
-      (elim u.known [ inl none ↦ absurd (let z : least.0 ≡ 61 = ap (λ (q : Pair). q.0) none in omega (arith, z, low, most)) | inr known ↦ known ], omega (arith, low, last))
+      let most = few c.place c.within in (
+        elim u.known [
+          | inl none ↦ absurd (let z : least.0 ≡ 61 =
+              ap (λ (q : Pair). q.0) none in omega (arith, z, low, most))
+          | inr known ↦ known
+        ],
+        omega (arith, low, last),
+      )
 
 -- ---- the order so far
 
@@ -96,7 +117,8 @@ pub record IsOrder (p : Problem) (v : ℕ) (done : ℕ) (before : EarlyNode) (co
   pub early : before.earliest ≤ last_second
   pub small : cost ≤ 17279900 * done
 
-module _ (p : Problem) (wf : IsWellFormed p) (v : ℕ) (held : Option HeldProblem) (stages : List StageAhead) (a : IsAheadWithin p v held stages) where
+module _ (p : Problem) (wf : IsWellFormed p) (v : ℕ) (held : Option HeldProblem) (stages : List StageAhead)
+    (a : IsAheadWithin p v held stages) where
   all_complete : AreCompletingPairs p v (IsCompletingPair p v)
   all_complete x xs legal landed = all_kept (IsCompletingPair p v (ranks (x ∷ xs)))
 
@@ -108,8 +130,12 @@ module _ (p : Problem) (wf : IsWellFormed p) (v : ℕ) (held : Option HeldProble
   choices_legal [] c = tt
   choices_legal (x ∷ xs) c = c.0.legal
 
-  choice_landed : (xs : List Landing) (r t : ℕ) → LandedIn (ranked p) xs → CanChoose p v (IsCompletingPair p v) xs r t → LandedIn (ranked p) ((r, t) ∷ xs)
-  choice_landed xs r t landed c = (let f = (is_first_open p).found r (next_from (ranked p) (latest_landing xs).0 (latest_landing xs).1 r) t c.lands in (f.0, f.1, landed))
+  choice_landed : (xs : List Landing) (r t : ℕ) → LandedIn (ranked p) xs → CanChoose p v (IsCompletingPair p v) xs r t
+      → LandedIn (ranked p) ((r, t) ∷ xs)
+  choice_landed xs r t landed c =
+      (let f = (is_first_open p).found r (next_from (ranked p) (latest_landing xs).0 (latest_landing xs).1 r)
+      t c.lands in
+      (f.0, f.1, landed))
 
   pub choices_landed : (xs : List Landing) → AreLeastChoices p v (IsCompletingPair p v) xs → LandedIn (ranked p) xs
   choices_landed [] c = tt
@@ -117,27 +143,35 @@ module _ (p : Problem) (wf : IsWellFormed p) (v : ℕ) (held : Option HeldProble
 
   -- ---- a choice by the nodes of the next stage is one by completing pairs, of which those of use suffice
 
-  module _ (xs : List Landing) (legal : IsLegal p (ranks xs)) (landed : LandedIn (ranked p) xs) (done : ℕ) (long : length xs ≡ done) (short : done < length p.flights) (before : EarlyNode) (of : IsPrefixOf (ranks xs) before) (latest : latest_landing xs ≡ (before.last, before.earliest)) (cost : ℕ) (cost_is : cost_of (cost_at p) xs ≡ cost) where
+  module _ (xs : List Landing) (legal : IsLegal p (ranks xs)) (landed : LandedIn (ranked p) xs)
+      (done : ℕ) (long : length xs ≡ done) (short : done < length p.flights) (before : EarlyNode)
+      (of : IsPrefixOf (ranks xs) before) (latest : latest_landing xs ≡ (before.last, before.earliest))
+      (cost : ℕ) (cost_is : cost_of (cost_at p) xs ≡ cost) where
     one_more : (r : ℕ) → length (r ∷ ranks xs) ≡ done + 1
     one_more r = (let e = length_ranks xs in omega (arith, e, long))
 
-    completed : AreCompleted p v (Some (budget_of p v)) (done + 1) (stage_of stages (done + 1)).nodes (stage_of stages (done + 1)).lists
+    completed : AreCompleted p v (Some (budget_of p v)) (done + 1) (stage_of stages (done + 1)).nodes
+        (stage_of stages (done + 1)).lists
     completed = a.completed (done + 1) (omega arith) (omega (arith, short))
 
     abbrev IsNext : ℕ → ℕ → Type 0
-    IsNext r t = IsChoice p (budget_of p v) before cost (stage_of stages (done + 1)).nodes (stage_of stages (done + 1)).lists r t
+    IsNext r t = IsChoice p (budget_of p v) before cost (stage_of stages (done + 1)).nodes
+        (stage_of stages (done + 1)).lists r t
 
     pub to_choose : (r t : ℕ) → IsNext r t → CanChoose p v (IsCompletingPair p v) xs r t
     to_choose r t c =
         let nodes = (stage_of stages (done + 1)).nodes in
         let after = node_at nodes c.place in
         let f = c.affordable in
-        let on = leads_on p (ranks xs) legal before after of c.leads (subst (λ (s : ℕ). IsReached p s after) (let e = length_ranks xs in let g : done + 1 ≡ suc (length (ranks xs)) = omega (arith, e, long) in g) (completed.are_nodes.reached c.place c.within)) in
+        let on = leads_on p (ranks xs) legal before after of c.leads
+        (subst (λ (s : ℕ). IsReached p s after) (let e = length_ranks xs in let g : done + 1 ≡ suc
+        (length (ranks xs)) = omega (arith, e, long) in g) (completed.are_nodes.reached c.place c.within)) in
         subst (λ (n : ℕ). CanChoose p v (IsCompletingPair p v) xs n t) c.last (record {
           legal = on.0;
           lands = ap (λ (l : Landing). landing_after p l.0 l.1 after.last) latest ∙ f.lands;
           pair = f.pair;
-          kept = (completed.kept c.place (after.last ∷ ranks xs) c.within on.0 (one_more after.last) on.1).completes f.pair f.listed;
+          kept = (completed.kept c.place (after.last ∷ ranks xs) c.within on.0 (one_more after.last) on.1).completes
+              f.pair f.listed;
           in_time = f.in_time;
           cheap = (let h = f.cheap in omega (arith, h, cost_is));
         })
@@ -147,7 +181,20 @@ module _ (p : Problem) (wf : IsWellFormed p) (v : ℕ) (held : Option HeldProble
         let more = (r, t) ∷ xs in
         let land = choice_landed xs r t landed c in
         let e = completed.are_nodes.every more (record { legal = c.legal; landed = land; long = one_more r }) in
-        let of_use : IsOfUse p (budget_of p v) (r ∷ ranks xs) c.pair = record { landings = more; legal = c.legal; landed = land; one_node = record { stage = refl; placed = λ x. (λ i. i, λ i. i); latest = refl }; by = c.in_time; cheap = c.cheap } in
+        let of_use : IsOfUse p (budget_of p v) (r ∷ ranks xs) c.pair =
+        record {
+          landings = more;
+          legal = c.legal;
+          landed = land;
+          one_node = record {
+            stage = refl;
+            placed =
+                λ x. (λ i. i, λ i. i);
+            latest = refl;
+          };
+          by = c.in_time;
+          cheap = c.cheap;
+        } in
         let o = (completed.kept e.0 (r ∷ ranks xs) e.1 c.legal (one_more r) e.2).covers c.pair c.kept of_use in
         let after = node_at (stage_of stages (done + 1)).nodes e.0 in
         let same : r ≡ after.last = e.2.last in
@@ -158,7 +205,8 @@ module _ (p : Problem) (wf : IsWellFormed p) (v : ℕ) (held : Option HeldProble
           last = sym same;
           leads = on_leads p (ranks xs) r before after c.legal of e.2;
           affordable = record {
-            lands = ap (λ (l : Landing). landing_after p l.0 l.1 after.last) (sym latest) ∙ ap (λ (n : ℕ). landing_after p (latest_landing xs).0 (latest_landing xs).1 n) (sym same) ∙ c.lands;
+            lands = ap (λ (l : Landing). landing_after p l.0 l.1 after.last) (sym latest)
+                ∙ ap (λ (n : ℕ). landing_after p (latest_landing xs).0 (latest_landing xs).1 n) (sym same) ∙ c.lands;
             pair = o.0;
             listed = o.1;
             in_time = le_trans c.in_time o.2.0;
@@ -166,12 +214,17 @@ module _ (p : Problem) (wf : IsWellFormed p) (v : ℕ) (held : Option HeldProble
           };
         }
 
-  pub no_order : (schedule : Schedule) → schedule ≡ replicate (length p.flights) 0 → length schedule ≡ length p.flights → IsOrder p v 0 (record { placed = 0; last = 0; earliest = 0; cheapest = 0 }) 0 schedule
+  pub no_order : (schedule : Schedule) → schedule ≡ replicate (length p.flights) 0 → length schedule ≡ length p.flights
+      → IsOrder p v 0 (record { placed = 0; last = 0; earliest = 0; cheapest = 0 }) 0 schedule
   no_order schedule blank room = record {
     landings = [];
     choices = tt;
     long = refl;
-    of_node = record { placed = λ x. (λ h. absurd (let z : bit_at 0 x ≡ 0 = bit_at-zero x in omega (arith, h, z)), λ i. absurd i); last = refl };
+    of_node = record {
+      placed =
+          λ x. (λ h. absurd (let z : bit_at 0 x ≡ 0 = bit_at-zero x in omega (arith, h, z)), λ i. absurd i);
+      last = refl;
+    };
     latest = refl;
     cost_is = refl;
     seconds = zeros;
@@ -183,34 +236,50 @@ module _ (p : Problem) (wf : IsWellFormed p) (v : ℕ) (held : Option HeldProble
     where
       zeros : (r : ℕ) → IsRank (length p.flights) r → of_rank 0 schedule r ≡ 0
       zeros zero q = absurd (let b = q.0 in omega (arith, b))
-      zeros (suc i) q = ap (λ (t : Schedule). get_or t i 0) blank ∙ get_or-replicate (length p.flights) i 0 0 (let b = q.1 in omega (arith, b))
+      zeros (suc i) q = ap (λ (t : Schedule). get_or t i 0) blank ∙ get_or-replicate (length p.flights) i 0 0 (let b =
+          q.1 in omega (arith, b))
 
   passed_at : (r : ℕ) → IsRank (length p.flights) r → (of_rank no_waiting p.flights r).passed ≤ p.k
   passed_at zero q = absurd (let b = q.0 in omega (arith, b))
   passed_at (suc i) q = wf.passed i no_waiting (let b = q.1 in omega (arith, b))
 
-  module _ (value_is : IsLeastObjective p v) (done : ℕ) (before : EarlyNode) (cost : ℕ) (schedule : Schedule) (o : IsOrder p v done before cost schedule) where
+  module _ (value_is : IsLeastObjective p v) (done : ℕ) (before : EarlyNode) (cost : ℕ) (schedule : Schedule)
+      (o : IsOrder p v done before cost schedule) where
     -- the least choice of the nodes of the next stage is one, and none is less
-    pub next_choice : done < length p.flights → (least : Pair) → IsLeastChoice p (budget_of p v) before cost (stage_of stages (done + 1)).nodes (stage_of stages (done + 1)).lists least
-        → CanChoose p v (IsCompletingPair p v) o.landings least.0 least.1 × ((r t : ℕ) → CanChoose p v (IsCompletingPair p v) o.landings r t → least.0 ≤ r)
+    pub next_choice : done < length p.flights → (least : Pair)
+        → IsLeastChoice p (budget_of p v) before cost (stage_of stages (done + 1)).nodes
+        (stage_of stages (done + 1)).lists least
+        → CanChoose p v (IsCompletingPair p v) o.landings least.0 least.1
+        × ((r t : ℕ) → CanChoose p v (IsCompletingPair p v) o.landings r t → least.0 ≤ r)
     next_choice short least is =
         let xs = o.landings in
         let legal = choices_legal xs o.choices in
         let landed = choices_landed xs o.choices in
         let into = from_choose xs legal landed done o.long short before o.of_node o.latest cost o.cost_is in
-        let c = choice_found p (sound_of p wf) passed_at v value_is (IsCompletingPair p v) all_complete xs o.choices (let l = o.long in omega (arith, short, l)) in (
-          to_choose xs legal landed done o.long short before o.of_node o.latest cost o.cost_is least.0 least.1 (is c.0 c.1 (into c.0 c.1 c.2)).0,
+        let c = choice_found p (sound_of p wf) passed_at v value_is (IsCompletingPair p v) all_complete xs o.choices
+        (let l = o.long in omega (arith, short, l)) in (
+          to_choose xs legal landed done o.long short before o.of_node o.latest cost o.cost_is least.0 least.1
+              (is c.0 c.1 (into c.0 c.1 c.2)).0,
           λ r t d. (is r t (into r t d)).1,
         )
 
     -- the same as the code finds it
-    pub chosen_by : done < length p.flights → (least : Pair) (budget : ℕ) → budget ≡ budget_of p v → (stage : StageAhead) → stage ≡ stage_of stages (done + 1) → IsLeastChoice p budget before cost stage.nodes stage.lists least
-        → CanChoose p v (IsCompletingPair p v) o.landings least.0 least.1 × ((r t : ℕ) → CanChoose p v (IsCompletingPair p v) o.landings r t → least.0 ≤ r)
+    pub chosen_by : done < length p.flights → (least : Pair) (budget : ℕ) → budget ≡ budget_of p v
+        → (stage : StageAhead) → stage ≡ stage_of stages (done + 1)
+        → IsLeastChoice p budget before cost stage.nodes stage.lists least
+        → CanChoose p v (IsCompletingPair p v) o.landings least.0 least.1
+        × ((r t : ℕ) → CanChoose p v (IsCompletingPair p v) o.landings r t → least.0 ≤ r)
     chosen_by short least budget b stage s is =
-        next_choice short least (subst (λ (t : StageAhead). IsLeastChoice p (budget_of p v) before cost t.nodes t.lists least) s (subst (λ (n : ℕ). IsLeastChoice p n before cost stage.nodes stage.lists least) b is))
+        next_choice short least (subst
+        (λ (t : StageAhead). IsLeastChoice p (budget_of p v) before cost t.nodes t.lists least) s
+        (subst (λ (n : ℕ). IsLeastChoice p n before cost stage.nodes stage.lists least) b is))
 
-    pub one_landing : (r t : ℕ) → CanChoose p v (IsCompletingPair p v) o.landings r t → ((q u : ℕ) → CanChoose p v (IsCompletingPair p v) o.landings q u → r ≤ q) → t ≤ last_second → (after : EarlyNode) → ((x : ℕ) → HasBit after.placed x ↔ (HasBit before.placed x ⊎ (x ≡ r))) → after.last ≡ r → after.earliest ≡ t
-        → (price : ℕ) → price ≡ cost_at p r t → price ≤ 17279900 → IsOrder p v (done + 1) after (cost + price) (slice_set schedule (r - 1) t)
+    pub one_landing : (r t : ℕ) → CanChoose p v (IsCompletingPair p v) o.landings r t
+        → ((q u : ℕ) → CanChoose p v (IsCompletingPair p v) o.landings q u → r ≤ q) → t ≤ last_second
+        → (after : EarlyNode) → ((x : ℕ) → HasBit after.placed x ↔ (HasBit before.placed x ⊎ (x ≡ r)))
+        → after.last ≡ r → after.earliest ≡ t
+        → (price : ℕ) → price ≡ cost_at p r t → price ≤ 17279900
+        → IsOrder p v (done + 1) after (cost + price) (slice_set schedule (r - 1) t)
     one_landing r t can least days after placed last earliest price is few = record {
       landings = (r, t) ∷ o.landings;
       choices = (can, least, o.choices);
@@ -231,20 +300,27 @@ module _ (p : Problem) (wf : IsWellFormed p) (v : ℕ) (held : Option HeldProble
       small = (let b = o.small in omega (arith, b, few));
     }
       where
-        seconds : (q : ℕ) → IsRank (length p.flights) q → of_rank 0 (slice_set schedule (r - 1) t) q ≡ second_in ((r, t) ∷ o.landings) q
+        seconds : (q : ℕ) → IsRank (length p.flights) q
+            → of_rank 0 (slice_set schedule (r - 1) t) q ≡ second_in ((r, t) ∷ o.landings) q
         seconds zero q = absurd (let b = q.0 in omega (arith, b))
         seconds (suc i) q = elim (cases_eq (suc i) r) [
           | inl e ↦
               let at : r - 1 ≡ i = omega (arith, e) in
               let within = q.1 in
               let room = o.room in
-              ap (λ (n : ℕ). get_or (set schedule n t) i 0) at ∙ get_or-set_same schedule i t 0 (omega (arith, within, room)) ∙ sym (ap (λ (b : Bool). cond b t (second_in o.landings (suc i))) (eq-eqb (suc i) r e))
-          | inr ne ↦ get_or-set_other schedule (r - 1) i t 0 (λ e. ne (let one = can.legal.0.fits.from_one in omega (arith, e, one))) ∙ o.seconds (suc i) q ∙ sym (ap (λ (b : Bool). cond b t (second_in o.landings (suc i))) (ne_eqb (suc i) r ne))
+              ap (λ (n : ℕ). get_or (set schedule n t) i 0) at
+              ∙ get_or-set_same schedule i t 0 (omega (arith, within, room))
+              ∙ sym (ap (λ (b : Bool). cond b t (second_in o.landings (suc i))) (eq-eqb (suc i) r e))
+          | inr ne ↦ get_or-set_other schedule (r - 1) i t 0
+              (λ e. ne (let one = can.legal.0.fits.from_one in omega (arith, e, one))) ∙ o.seconds (suc i) q
+              ∙ sym (ap (λ (b : Bool). cond b t (second_in o.landings (suc i))) (ne_eqb (suc i) r ne))
         ]
 
     -- with all landings it is the first best list
     pub whole_order : done ≡ length p.flights → IsFirstBestList p schedule
-    whole_order e = subst (IsFirstBestList p) (sym same) (choices_first_best p (sound_of p wf) passed_at v value_is (IsCompletingPair p v) all_complete o.landings o.choices (o.long ∙ e))
+    whole_order e = subst (IsFirstBestList p) (sym same)
+        (choices_first_best p (sound_of p wf) passed_at v value_is
+        (IsCompletingPair p v) all_complete o.landings o.choices (o.long ∙ e))
       where
         at : (i : ℕ) → i < length schedule → get_or schedule i 0 ≡ get_or (seconds_by_rank p o.landings) i 0
         at i lt =
@@ -252,18 +328,29 @@ module _ (p : Problem) (wf : IsWellFormed p) (v : ℕ) (held : Option HeldProble
             o.seconds (suc i) q ∙ sym (list_of_at (length p.flights) (second_in o.landings) (suc i) q)
 
         same : schedule ≡ seconds_by_rank p o.landings
-        same = ext_get_or 0 schedule (seconds_by_rank p o.landings) (o.room ∙ sym (list_of_long (length p.flights) (second_in o.landings))) at
+        same = ext_get_or 0 schedule (seconds_by_rank p o.landings) (o.room
+            ∙ sym (list_of_long (length p.flights) (second_in o.landings))) at
 
 -- ---- one node
 
-module _ (p : Problem) (budget : ℕ) (before : EarlyNode) (cost : ℕ) (after : EarlyNode) (pairs : List Pair) (second : ℕ) (lands : landing_after p before.last before.earliest after.last ≡ Some second) where
+module _ (p : Problem) (budget : ℕ) (before : EarlyNode) (cost : ℕ) (after : EarlyNode) (pairs : List Pair)
+    (second : ℕ) (lands : landing_after p before.last before.earliest after.last ≡ Some second) where
   same_second : (t : ℕ) → IsAffordable p budget before cost after pairs t → t ≡ second
   same_second t a = same_Some t second (sym a.lands ∙ lands)
 
-  pub never_in_time : IsLeastOf (IsCostFrom pairs second) None → (t : ℕ) → IsAffordable p budget before cost after pairs t → ⊥
-  never_in_time none t a = none a.pair.1 (a.pair, a.listed, (let e = same_second t a in let l = a.in_time in omega (arith, e, l)), refl)
+  pub never_in_time : IsLeastOf (IsCostFrom pairs second) None → (t : ℕ)
+      → IsAffordable p budget before cost after pairs t → ⊥
+  never_in_time none t a = none a.pair.1 (
+    a.pair,
+    a.listed,
+    (let e = same_second t a in let l =
+        a.in_time in omega (arith, e, l)),
+    refl,
+  )
 
-  pub too_dear : (rest : ℕ) → IsLeastOf (IsCostFrom pairs second) (Some rest) → budget < cost + cost_at p after.last second + rest → (t : ℕ) → IsAffordable p budget before cost after pairs t → ⊥
+  pub too_dear : (rest : ℕ) → IsLeastOf (IsCostFrom pairs second) (Some rest)
+      → budget < cost + cost_at p after.last second + rest → (t : ℕ) → IsAffordable p budget before cost after pairs t
+      → ⊥
   too_dear rest least over t a =
       let e = same_second t a in
       let l = a.in_time in
@@ -272,13 +359,18 @@ module _ (p : Problem) (budget : ℕ) (before : EarlyNode) (cost : ℕ) (after :
       let cheap = a.cheap in
       omega (arith, b, price, cheap, over)
 
-pub with_way : (p : Problem) (budget : ℕ) (before : EarlyNode) (cost : ℕ) (after : EarlyNode) (pairs : List Pair) → LeadsTo before after → (found : Option ℕ) → FindsAffordable p budget before cost after pairs found → FindsWay p budget before cost after pairs found
+pub with_way : (p : Problem) (budget : ℕ) (before : EarlyNode) (cost : ℕ) (after : EarlyNode) (pairs : List Pair)
+    → LeadsTo before after → (found : Option ℕ) → FindsAffordable p budget before cost after pairs found
+    → FindsWay p budget before cost after pairs found
 with_way p budget before cost after pairs leads None f = λ t l a. f t a
 with_way p budget before cost after pairs leads (Some t) f = (leads, f)
 
-pub lesser_days : (most : ℕ) (least : Pair) (rank : ℕ) (found : Option ℕ) → least.1 ≤ most → IfSome found (λ t. t ≤ most) → (lesser_choice least rank found).1 ≤ most
+pub lesser_days : (most : ℕ) (least : Pair) (rank : ℕ) (found : Option ℕ) → least.1 ≤ most
+    → IfSome found (λ t. t ≤ most) → (lesser_choice least rank found).1 ≤ most
 lesser_days most least rank None l f = l
 lesser_days most least rank (Some t) l f = elim (cases_lt rank least.0) [
-  | inl less ↦ subst (λ (q : Pair). q.1 ≤ most) (sym (ap (λ (b : Bool). cond b (rank, t) least) (lt-ltb rank least.0 less))) f
-  | inr more ↦ subst (λ (q : Pair). q.1 ≤ most) (sym (ap (λ (b : Bool). cond b (rank, t) least) (le-ltb rank least.0 more))) l
+  | inl less ↦ subst (λ (q : Pair). q.1 ≤ most)
+      (sym (ap (λ (b : Bool). cond b (rank, t) least) (lt-ltb rank least.0 less))) f
+  | inr more ↦ subst (λ (q : Pair). q.1 ≤ most)
+      (sym (ap (λ (b : Bool). cond b (rank, t) least) (le-ltb rank least.0 more))) l
 ]

@@ -1,5 +1,6 @@
 -- The windows of a stage, put together by node.
-use Rattle.std.proofs.Common.{◌≡◌, ℕ, ◌+◌, ◌-◌, ◌<◌, ◌≤◌, inl, inr, List, [], ◌∷◌, ◌++◌, length, refl, sym, ap, subst, ◌∙◌, arith, length-append, Option}
+use Rattle.std.proofs.Common.{◌≡◌, ℕ, ◌+◌, ◌-◌, ◌<◌, ◌≤◌, inl, inr, List, [], ◌∷◌, ◌++◌, length, refl, sym, ap, subst}
+use Rattle.std.proofs.Common.{◌∙◌, arith, length-append, Option}
 use Rattle.std.specs.Prelude.{ℤ, pos}
 use Rattle.std.proofs.lemmas.Bool.{cases_eq}
 use Rattle.std.proofs.lemmas.List.{get_or_default, get_or_append_left, get_or_push}
@@ -42,7 +43,8 @@ some_long (x ∷ xs) q i = omega arith
 
 module _ (p : Problem) (stage : ℕ × List (List ℤ)) (lists : List (List Pair)) (h : HoldsCosts p stage lists) where
   landable_at : (i : ℕ) → i < length stage.1 → IsLandable p stage.0 (windows.node_at stage.1 i)
-  landable_at i lt = (h.landable (windows.node_at stage.1 i)).0 (i, lt, get_or_default stage.1 i (windows.node_at stage.1 i) [] lt)
+  landable_at i lt = (h.landable (windows.node_at stage.1 i)).0
+      (i, lt, get_or_default stage.1 i (windows.node_at stage.1 i) [] lt)
 
   -- each window has a pair
   pub has_first : (i : ℕ) → i < length stage.1 → 0 < length (list_at lists i)
@@ -54,17 +56,25 @@ module _ (p : Problem) (stage : ℕ × List (List ℤ)) (lists : List (List Pair
 -- ---- the nodes of the windows that are put together
 
 -- each node is that of its first window, with the least second and the least cost
-pub record AreMade (stage : ℕ) (nodes_windows : List (List ℤ)) (firsts : List ℕ) (least : List Pair) (count : ℕ) (nodes : List EarlyNode) : Type 0 where
+pub record AreMade (stage : ℕ) (nodes_windows : List (List ℤ)) (firsts : List ℕ) (least : List Pair)
+    (count : ℕ) (nodes : List EarlyNode) : Type 0 where
   pub long : length nodes ≡ count
-  pub window : (j : ℕ) → j < count → IsWindowOf stage (windows.node_at nodes_windows (told_at firsts j)) (node_at nodes j)
+  pub window : (j : ℕ) → j < count → IsWindowOf stage (windows.node_at nodes_windows (told_at firsts j))
+      (node_at nodes j)
   pub earliest : (j : ℕ) → j < count → (node_at nodes j).earliest ≡ (pair_at least j).0
   pub cheapest : (j : ℕ) → j < count → (node_at nodes j).cheapest ≡ (pair_at least j).1
 
-module _ (stage : ℕ) (list : List (List ℤ)) (firsts : List ℕ) (least : List Pair) (count : ℕ) (nodes : List EarlyNode) (m : AreMade stage list firsts least count nodes) (node : EarlyNode) (of : IsWindowOf stage (windows.node_at list (told_at firsts count)) node) (early : node.earliest ≡ (pair_at least count).0) (cheap : node.cheapest ≡ (pair_at least count).1) where
-  each_made : (P : ℕ → EarlyNode → Type 0) → ((j : ℕ) → j < count → P j (node_at nodes j)) → P count node → (j : ℕ) → j < count + 1 → P j (node_at (nodes ++ node ∷ []) j)
+module _ (stage : ℕ) (list : List (List ℤ)) (firsts : List ℕ) (least : List Pair) (count : ℕ)
+    (nodes : List EarlyNode) (m : AreMade stage list firsts least count nodes) (node : EarlyNode)
+    (of : IsWindowOf stage (windows.node_at list (told_at firsts count)) node)
+    (early : node.earliest ≡ (pair_at least count).0) (cheap : node.cheapest ≡ (pair_at least count).1) where
+  each_made : (P : ℕ → EarlyNode → Type 0) → ((j : ℕ) → j < count → P j (node_at nodes j))
+      → P count node → (j : ℕ) → j < count + 1 → P j (node_at (nodes ++ node ∷ []) j)
   each_made P old new j lt = elim (cases_eq j count) [
-    | inl e ↦ subst (λ (i : ℕ). P i (node_at (nodes ++ node ∷ []) i)) (sym e) (subst (P count) (sym (get_or_push nodes node no_node count m.long)) new)
-    | inr ne ↦ (let l : j < count = omega (arith, lt, ne) in subst (P j) (sym (get_or_append_left nodes (node ∷ []) no_node j (let o = m.long in omega (arith, l, o)))) (old j l))
+    | inl e ↦ subst (λ (i : ℕ). P i (node_at (nodes ++ node ∷ []) i)) (sym e)
+        (subst (P count) (sym (get_or_push nodes node no_node count m.long)) new)
+    | inr ne ↦ (let l : j < count = omega (arith, lt, ne) in subst (P j)
+        (sym (get_or_append_left nodes (node ∷ []) no_node j (let o = m.long in omega (arith, l, o)))) (old j l))
   ]
 
   pub one_made : AreMade stage list firsts least (count + 1) (nodes ++ node ∷ [])
@@ -75,7 +85,11 @@ module _ (stage : ℕ) (list : List (List ℤ)) (firsts : List ℕ) (least : Lis
     cheapest = each_made (λ j n. n.cheapest ≡ (pair_at least j).1) m.cheapest cheap;
   }
 
-module _ (p : Problem) (held : Option HeldProblem) (stage : ℕ) (number : (stage_in held stage).0 ≡ stage) (h : HoldsCosts p (stage_in held stage) (lists_in held stage)) (put : WindowNodes) (are : together.AreNodesOf held stage put) (least : List Pair) (l : AreLeastIn held stage put least) (nodes : List EarlyNode) (m : AreMade stage (stage_in held stage).1 put.firsts least (length put.firsts) nodes) where
+module _ (p : Problem) (held : Option HeldProblem) (stage : ℕ) (number : (stage_in held stage).0 ≡ stage)
+    (h : HoldsCosts p (stage_in held stage) (lists_in held stage)) (put : WindowNodes)
+    (are : together.AreNodesOf held stage put) (least : List Pair) (l : AreLeastIn held stage put least)
+    (nodes : List EarlyNode) (m : AreMade stage (stage_in held stage).1 put.firsts least
+    (length put.firsts) nodes) where
   abbrev list : List (List ℤ)
   list = (stage_in held stage).1
 
@@ -92,26 +106,43 @@ module _ (p : Problem) (held : Option HeldProblem) (stage : ℕ) (number : (stag
   in_places i lt = (let e = g.long in omega (arith, lt, e))
 
   -- a window tells the node at its place
-  window_told : (i : ℕ) → i < length list → IsWindowOf stage (windows.node_at list i) (node_at nodes (place_at put.places i))
+  window_told : (i : ℕ) → i < length list
+      → IsWindowOf stage (windows.node_at list i) (node_at nodes (place_at put.places i))
   window_told i lt =
       let first = windows.node_at list (told_at put.firsts (place_at put.places i)) in
       let w = m.window (place_at put.places i) (place_in i lt) in
       let one = g.one i lt in
       record {
-        placed = one_tells stage first (windows.node_at list i) (node_at nodes (place_at put.places i)).placed one w.placed;
+        placed = one_tells stage first (windows.node_at list i)
+            (node_at nodes (place_at put.places i)).placed one w.placed;
         last = w.last ∙ one.last;
       }
 
-  at_stage : (window : List ℤ) (node : EarlyNode) → IsWindowOf stage window node → IsWindowOf (stage_in held stage).0 window node
+  at_stage : (window : List ℤ) (node : EarlyNode) → IsWindowOf stage window node
+      → IsWindowOf (stage_in held stage).0 window node
   at_stage window node w = subst (λ (n : ℕ). IsWindowOf n window node) (sym number) w
 
   first_at : (i : ℕ) → i < length list → IsPairAt lists put.places (place_at put.places i) (pair_at (list_at lists i) 0)
-  first_at i lt = record { window = i; within = in_places i lt; of_node = refl; has = at_in (list_at lists i) 0 (pair_at (list_at lists i) 0) (has_first p (stage_in held stage) lists h i lt) refl }
+  first_at i lt = record {
+    window = i;
+    within = in_places i lt;
+    of_node = refl;
+    has =
+        at_in (list_at lists i) 0 (pair_at (list_at lists i) 0) (has_first p (stage_in held stage) lists h i lt) refl;
+  }
 
-  last_at : (i : ℕ) → i < length list → IsPairAt lists put.places (place_at put.places i) (pair_at (list_at lists i) (length (list_at lists i) - 1))
+  last_at : (i : ℕ) → i < length list → IsPairAt lists put.places (place_at put.places i)
+      (pair_at (list_at lists i) (length (list_at lists i) - 1))
   last_at i lt =
       let some = has_first p (stage_in held stage) lists h i lt in
-      record { window = i; within = in_places i lt; of_node = refl; has = at_in (list_at lists i) (length (list_at lists i) - 1) (pair_at (list_at lists i) (length (list_at lists i) - 1)) (omega (arith, some)) refl }
+      record {
+        window = i;
+        within = in_places i lt;
+        of_node = refl;
+        has = at_in (list_at lists i)
+            (length (list_at lists i) - 1) (pair_at (list_at lists i) (length (list_at lists i) - 1))
+            (omega (arith, some)) refl;
+      }
 
   low_at : (i : ℕ) → i < length list → (node_at nodes (place_at put.places i)).earliest ≤ second_of lists i
   low_at i lt =
@@ -119,7 +150,9 @@ module _ (p : Problem) (held : Option HeldProblem) (stage : ℕ) (number : (stag
       let a = (l.each (place_at put.places i) (place_in i lt)).early (pair_at (list_at lists i) 0) (first_at i lt) in
       omega (arith, e, a)
 
-  source_at : (j : ℕ) → j < length put.firsts → (i : ℕ) × (i < length list) × IsWindowOf (stage_in held stage).0 (windows.node_at list i) (node_at nodes j) × ((node_at nodes j).earliest ≡ second_of lists i)
+  source_at : (j : ℕ) → j < length put.firsts → (i : ℕ) × (i < length list)
+      × IsWindowOf (stage_in held stage).0 (windows.node_at list i) (node_at nodes j)
+      × ((node_at nodes j).earliest ≡ second_of lists i)
   source_at j lt =
       let q = (l.each j lt).earliest in
       let i = q.1.window in
@@ -127,11 +160,18 @@ module _ (p : Problem) (held : Option HeldProblem) (stage : ℕ) (number : (stag
       let inside = q.1.within in
       let within : i < length list = omega (arith, inside, long) in
       let there = q.1.of_node in
-      let low : (node_at nodes j).earliest ≤ second_of lists i = subst (λ (n : ℕ). (node_at nodes n).earliest ≤ second_of lists i) there (low_at i within) in
+      let low : (node_at nodes j).earliest ≤ second_of lists i =
+      subst (λ (n : ℕ). (node_at nodes n).earliest ≤ second_of lists i) there (low_at i within) in
       let first = first_least (list_at lists i) (h.costs.pairs i within).falling q.0 q.1.has in
       let is = m.earliest j lt in
-      let least_is = q.2 in
-      (i, within, at_stage (windows.node_at list i) (node_at nodes j) (subst (λ (n : ℕ). IsWindowOf stage (windows.node_at list i) (node_at nodes n)) there (window_told i within)), omega (arith, low, first, is, least_is))
+      let least_is = q.2 in (
+        i,
+        within,
+        at_stage (windows.node_at list i) (node_at nodes j)
+            (subst (λ (n : ℕ). IsWindowOf stage (windows.node_at list i) (node_at nodes n)) there
+            (window_told i within)),
+        omega (arith, low, first, is, least_is),
+      )
 
   pub all_made : AreGathered (stage_in held stage) lists (length list) nodes put.places
   all_made = record {
@@ -141,7 +181,8 @@ module _ (p : Problem) (held : Option HeldProblem) (stage : ℕ) (number : (stag
     low = low_at;
     cheap = λ i lt.
         let e = m.cheapest (place_at put.places i) (place_in i lt) in
-        let a = (l.each (place_at put.places i) (place_in i lt)).cheap (pair_at (list_at lists i) (length (list_at lists i) - 1)) (last_at i lt) in
+        let a = (l.each (place_at put.places i) (place_in i lt)).cheap
+        (pair_at (list_at lists i) (length (list_at lists i) - 1)) (last_at i lt) in
         omega (arith, e, a);
     source = λ j lt. source_at j (let e = m.long in omega (arith, lt, e));
     apart = λ i j li lj placed last.
@@ -150,29 +191,44 @@ module _ (p : Problem) (held : Option HeldProblem) (stage : ℕ) (number : (stag
         let b : j < length put.firsts = omega (arith, lj, e) in
         let wi = m.window i a in
         let wj = m.window j b in
-        g.apart i j a b (same_one stage (windows.node_at list (told_at put.firsts i)) (windows.node_at list (told_at put.firsts j)) (node_at nodes i).placed (node_at nodes j).placed wi.placed wj.placed placed (sym wi.last ∙ last ∙ wj.last));
+        g.apart i j a b (same_one stage (windows.node_at list (told_at put.firsts i))
+        (windows.node_at list (told_at put.firsts j)) (node_at nodes i).placed
+        (node_at nodes j).placed wi.placed wj.placed placed (sym wi.last ∙ last ∙ wj.last));
   }
 
-module _ (p : Problem) (net : network.IsWindowNetwork p) (tell : TellTheirRanks p) (stage : ℕ × List (List ℤ)) (lists : List (List Pair)) (h : HoldsCosts p stage lists) where
+module _ (p : Problem) (net : network.IsWindowNetwork p) (tell : TellTheirRanks p) (stage : ℕ × List (List ℤ))
+    (lists : List (List Pair)) (h : HoldsCosts p stage lists) where
   -- a prefix that ends in a window of a node is of the node
-  pub window_prefix : (rs : List ℕ) (window : List ℤ) (node : EarlyNode) → Legal (ranked p).rules rs → network.node_of p.k rs ≡ (stage.0, window) → IsWindowOf stage.0 window node → IsPrefixOf rs node
+  pub window_prefix : (rs : List ℕ) (window : List ℤ) (node : EarlyNode) → Legal (ranked p).rules rs
+      → network.node_of p.k rs ≡ (stage.0, window) → IsWindowOf stage.0 window node → IsPrefixOf rs node
   window_prefix rs window node legal at w = record {
     placed = λ x. (
-      λ b. (let a = (w.placed x).0 b in (tell rs x legal a.0).0 (subst (λ (n : network.Node). IsPlaced n.1 (pos n.0) (pos x)) (sym at) a.1)),
-      λ i. (let one = (in_from_one (ranked p).rules x rs (legal_each_fits (ranked p).rules rs legal) i).0 in (w.placed x).1 (one, subst (λ (n : network.Node). IsPlaced n.1 (pos n.0) (pos x)) at ((tell rs x legal one).1 i))),
+      λ b. (let a = (w.placed x).0 b in
+          (tell rs x legal a.0).0 (subst (λ (n : network.Node). IsPlaced n.1 (pos n.0) (pos x)) (sym at) a.1)),
+      λ i. (let one = (in_from_one (ranked p).rules x rs (legal_each_fits (ranked p).rules rs legal) i).0 in
+          (w.placed x).1 (
+            one,
+            subst (λ (n : network.Node). IsPlaced n.1 (pos n.0) (pos x)) at
+                ((tell rs x legal one).1 i),
+          )),
     );
     last = sym (net.newest_is rs legal) ∙ ap network.latest at ∙ sym w.last;
   }
 
   -- the window of a prefix that lands stands at some place; its first pair is no later, and its last one no dearer
-  pub place_of_prefix : (xs : List Landing) → IsLandedPrefix p stage.0 xs → (i : ℕ) × (i < length stage.1) × (network.node_of p.k (ranks xs) ≡ (stage.0, windows.node_at stage.1 i)) × (second_of lists i ≤ (latest_landing xs).1) × (cost_in lists i ≤ cost_of (cost_at p) xs)
+  pub place_of_prefix : (xs : List Landing) → IsLandedPrefix p stage.0 xs → (i : ℕ) × (i < length stage.1)
+      × (network.node_of p.k (ranks xs) ≡ (stage.0, windows.node_at stage.1 i))
+      × (second_of lists i ≤ (latest_landing xs).1) × (cost_in lists i ≤ cost_of (cost_at p) xs)
   place_of_prefix xs l =
       let window = (network.node_of p.k (ranks xs)).1 in
       let there : network.node_of p.k (ranks xs) ≡ (stage.0, window) = ap (λ (n : ℕ). (n, window)) l.long in
       let q = pair_of (cost_at p) xs in
-      let place = (h.landable window).1 (q, record { landings = xs; legal = l.legal; landed = l.landed; at = there; is = refl }) in
-      let same : window ≡ windows.node_at stage.1 place.0 = sym (get_or_default stage.1 place.0 [] window place.1 ∙ place.2) in
-      let at : network.node_of p.k (ranks xs) ≡ (stage.0, windows.node_at stage.1 place.0) = there ∙ ap (λ (w : List ℤ). (stage.0, w)) same in
+      let place = (h.landable window).1
+      (q, record { landings = xs; legal = l.legal; landed = l.landed; at = there; is = refl }) in
+      let same : window ≡ windows.node_at stage.1 place.0 =
+      sym (get_or_default stage.1 place.0 [] window place.1 ∙ place.2) in
+      let at : network.node_of p.k (ranks xs) ≡ (stage.0, windows.node_at stage.1 place.0) =
+      there ∙ ap (λ (w : List ℤ). (stage.0, w)) same in
       let kept = h.costs.pairs place.0 place.1 in
       let o = kept.covers q (record { landings = xs; legal = l.legal; landed = l.landed; at = at; is = refl }) in
       let first = first_least (list_at lists place.0) kept.falling o.0 o.1 in
@@ -187,7 +243,8 @@ module _ (p : Problem) (net : network.IsWindowNetwork p) (tell : TellTheirRanks 
     reached_at j lt =
         let s = g.source j lt in
         let list = list_at lists s.0 in
-        let a = (((h.costs.pairs s.0 s.1).undominated (pair_at list 0)).0 (at_in list 0 (pair_at list 0) (has_first p stage lists h s.0 s.1) refl)).attained in
+        let a = (((h.costs.pairs s.0 s.1).undominated (pair_at list 0)).0
+        (at_in list 0 (pair_at list 0) (has_first p stage lists h s.0 s.1) refl)).attained in
         record {
           landings = a.landings;
           prefix = record { legal = a.legal; landed = a.landed; long = ap (λ (n : network.Node). n.0) a.at };
@@ -196,14 +253,18 @@ module _ (p : Problem) (net : network.IsWindowNetwork p) (tell : TellTheirRanks 
         }
 
     -- a landed prefix of a node has its window among those of the node
-    window_of : (j : ℕ) (xs : List Landing) → j < length nodes → IsLandedPrefix p stage.0 xs → IsPrefixOf (ranks xs) (node_at nodes j)
-        → (i : ℕ) × (i < length stage.1) × (place_at places i ≡ j) × (second_of lists i ≤ (latest_landing xs).1) × (cost_in lists i ≤ cost_of (cost_at p) xs)
+    window_of : (j : ℕ) (xs : List Landing) → j < length nodes → IsLandedPrefix p stage.0 xs
+        → IsPrefixOf (ranks xs) (node_at nodes j)
+        → (i : ℕ) × (i < length stage.1) × (place_at places i ≡ j) × (second_of lists i ≤ (latest_landing xs).1)
+        × (cost_in lists i ≤ cost_of (cost_at p) xs)
     window_of j xs lt l of =
         let i = place_of_prefix xs l in
         let m = place_at places i.0 in
-        let other = window_prefix (ranks xs) (windows.node_at stage.1 i.0) (node_at nodes m) l.legal i.2 (g.window i.0 i.1) in
+        let other = window_prefix (ranks xs) (windows.node_at stage.1 i.0) (node_at nodes m) l.legal i.2
+        (g.window i.0 i.1) in
         let same : m ≡ j = g.apart m j (g.within i.0 i.1) lt
-        (one_set (node_at nodes m).placed (node_at nodes j).placed (λ x. (λ b. (of.placed x).1 ((other.placed x).0 b), λ b. (other.placed x).1 ((of.placed x).0 b))))
+        (one_set (node_at nodes m).placed (node_at nodes j).placed
+        (λ x. (λ b. (of.placed x).1 ((other.placed x).0 b), λ b. (other.placed x).1 ((of.placed x).0 b))))
         (sym other.last ∙ of.last) in
         (i.0, i.1, same, i.3, i.4)
 
@@ -213,16 +274,22 @@ module _ (p : Problem) (net : network.IsWindowNetwork p) (tell : TellTheirRanks 
       least = λ j xs lt l of.
           let i = window_of j xs lt l of in
           let low = g.low i.0 i.1 in
-          let is : (node_at nodes (place_at places i.0)).earliest ≡ (node_at nodes j).earliest = ap (λ (n : ℕ). (node_at nodes n).earliest) i.2 in
+          let is : (node_at nodes (place_at places i.0)).earliest ≡ (node_at nodes j).earliest =
+          ap (λ (n : ℕ). (node_at nodes n).earliest) i.2 in
           let le = i.3 in
           omega (arith, low, is, le);
       cheap = λ j xs lt l of.
           let i = window_of j xs lt l of in
           let low = g.cheap i.0 i.1 in
-          let is : (node_at nodes (place_at places i.0)).cheapest ≡ (node_at nodes j).cheapest = ap (λ (n : ℕ). (node_at nodes n).cheapest) i.2 in
+          let is : (node_at nodes (place_at places i.0)).cheapest ≡ (node_at nodes j).cheapest =
+          ap (λ (n : ℕ). (node_at nodes n).cheapest) i.2 in
           let le = i.4 in
           omega (arith, low, is, le);
       every = λ xs l.
-          let i = place_of_prefix xs l in
-          (place_at places i.0, g.within i.0 i.1, window_prefix (ranks xs) (windows.node_at stage.1 i.0) (node_at nodes (place_at places i.0)) l.legal i.2 (g.window i.0 i.1));
+          let i = place_of_prefix xs l in (
+            place_at places i.0,
+            g.within i.0 i.1,
+            window_prefix (ranks xs) (windows.node_at stage.1 i.0)
+                (node_at nodes (place_at places i.0)) l.legal i.2 (g.window i.0 i.1),
+          );
     }

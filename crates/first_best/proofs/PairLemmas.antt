@@ -1,5 +1,6 @@
 -- Lists of pairs that rise or fall, and least costs.
-use Rattle.std.proofs.Common.{◌≡◌, ℕ, suc, ◌-◌, ◌<◌, ◌≤◌, ◌⊎◌, inl, inr, zero, List, [], ◌∷◌, ◌++◌, length, reverse, refl, sym, ap, subst, ◌∙◌, ltb, arith}
+use Rattle.std.proofs.Common.{◌≡◌, ℕ, suc, ◌-◌, ◌<◌, ◌≤◌, ◌⊎◌, inl, inr, zero, List, [], ◌∷◌, ◌++◌, length, reverse}
+use Rattle.std.proofs.Common.{refl, sym, ap, subst, ◌∙◌, ltb, arith}
 use Rattle.std.specs.Prelude.{◌↔◌, Option, Some, None, filter_map, fold, min, slice_index_or}
 use Rattle.std.specs.List.{cons_option, reduce}
 use Rattle.std.specs.List.Sorted.{IsPartitionedBy}
@@ -15,7 +16,8 @@ use Rattle.cps_network.specs.shared.PairSteps.{at_in, in_at}
 use Rattle.first_best.specs.Completing.{Falls, IsCostFrom, IsLeastOf, Rises}
 
 -- of pairs that rise none is at least as late and at most as dear as another
-pub rises_apart : (xs : List Pair) → Rises xs → (q o : Pair) → InPairs q xs → InPairs o xs → NoEarlierNoDearer q o → q ≡ o
+pub rises_apart : (xs : List Pair) → Rises xs → (q o : Pair) → InPairs q xs → InPairs o xs
+    → NoEarlierNoDearer q o → q ≡ o
 rises_apart [] r q o i j n = absurd i
 rises_apart (x ∷ xs) r q o (inl e) (inl f) n = e ∙ sym f
 rises_apart (x ∷ xs) r q o (inl e) (inr j) n =
@@ -31,7 +33,8 @@ rises_apart (x ∷ xs) r q o (inr i) (inl f) n =
 rises_apart (x ∷ xs) r q o (inr i) (inr j) n = rises_apart xs r.1 q o i j n
 
 -- completing pairs that rise are the undominated ones
-pub rises_undominated : (C : Pair → Type 0) (xs : List Pair) → Rises xs → KeptCompleting C (λ q. InPairs q xs) → (q : Pair) → InPairs q xs ↔ UndominatedCompleting C q
+pub rises_undominated : (C : Pair → Type 0) (xs : List Pair) → Rises xs → KeptCompleting C (λ q. InPairs q xs)
+    → (q : Pair) → InPairs q xs ↔ UndominatedCompleting C q
 rises_undominated C xs r k q = (
   λ i. completing_undominated C (λ o. InPairs o xs) k (rises_apart xs r) q i,
   λ u. undominated_completing C (λ o. InPairs o xs) k q u,
@@ -39,22 +42,32 @@ rises_undominated C xs r k q = (
 
 -- ---- one more, and the other way round
 
-pub falls_more : (xs : List Pair) (q : Pair) → Falls xs → ((o : Pair) → InPairs o xs → (q.0 < o.0) × (q.1 < o.1)) → Falls (xs ++ q ∷ [])
+pub falls_more : (xs : List Pair) (q : Pair) → Falls xs → ((o : Pair) → InPairs o xs → (q.0 < o.0) × (q.1 < o.1))
+    → Falls (xs ++ q ∷ [])
 falls_more [] q f h = (λ o i. absurd i, tt)
 falls_more (x ∷ xs) q f h = (
   λ o i. elim (in_append o xs (q ∷ []) i) [
     | inl a ↦ f.0 o a
-    | inr b ↦ elim b [ inl e ↦ subst (λ (z : Pair). (z.0 < x.0) × (z.1 < x.1)) (sym e) (h x (inl refl)) | inr none ↦ absurd none ]
+    | inr b ↦ elim b [
+      | inl e ↦ subst (λ (z : Pair). (z.0 < x.0) × (z.1 < x.1)) (sym e) (h x (inl refl))
+      | inr none ↦
+          absurd none
+    ]
   ],
   falls_more xs q f.1 (λ o i. h o (inr i)),
 )
 
-pub rises_more : (xs : List Pair) (q : Pair) → Rises xs → ((o : Pair) → InPairs o xs → (o.0 < q.0) × (o.1 < q.1)) → Rises (xs ++ q ∷ [])
+pub rises_more : (xs : List Pair) (q : Pair) → Rises xs → ((o : Pair) → InPairs o xs → (o.0 < q.0) × (o.1 < q.1))
+    → Rises (xs ++ q ∷ [])
 rises_more [] q f h = (λ o i. absurd i, tt)
 rises_more (x ∷ xs) q f h = (
   λ o i. elim (in_append o xs (q ∷ []) i) [
     | inl a ↦ f.0 o a
-    | inr b ↦ elim b [ inl e ↦ subst (λ (z : Pair). (x.0 < z.0) × (x.1 < z.1)) (sym e) (h x (inl refl)) | inr none ↦ absurd none ]
+    | inr b ↦ elim b [
+      | inl e ↦ subst (λ (z : Pair). (x.0 < z.0) × (x.1 < z.1)) (sym e) (h x (inl refl))
+      | inr none ↦
+          absurd none
+    ]
   ],
   rises_more xs q f.1 (λ o i. h o (inr i)),
 )
@@ -72,11 +85,13 @@ in_reversed (x ∷ xs) q i = elim (in_append q (reverse xs) (x ∷ []) (subst (I
 pub reversed_in : (xs : List Pair) (q : Pair) → InPairs q xs → InPairs q (reverse xs)
 reversed_in [] q i = i
 reversed_in (x ∷ xs) q (inl e) = subst (InPairs q) (sym (reverse_front x xs)) (in_right q (reverse xs) (x ∷ []) (inl e))
-reversed_in (x ∷ xs) q (inr i) = subst (InPairs q) (sym (reverse_front x xs)) (in_left q (reverse xs) (x ∷ []) (reversed_in xs q i))
+reversed_in (x ∷ xs) q (inr i) =
+    subst (InPairs q) (sym (reverse_front x xs)) (in_left q (reverse xs) (x ∷ []) (reversed_in xs q i))
 
 pub falls_rises : (xs : List Pair) → Falls xs → Rises (reverse xs)
 falls_rises [] f = tt
-falls_rises (x ∷ xs) f = subst Rises (sym (reverse_front x xs)) (rises_more (reverse xs) x (falls_rises xs f.1) (λ o i. f.0 o (in_reversed xs o i)))
+falls_rises (x ∷ xs) f = subst Rises (sym (reverse_front x xs))
+    (rises_more (reverse xs) x (falls_rises xs f.1) (λ o i. f.0 o (in_reversed xs o i)))
 
 -- ---- least costs
 
@@ -84,7 +99,8 @@ pub least_same : (P Q : ℕ → Type 0) (o : Option ℕ) → ((c : ℕ) → P c 
 least_same P Q None h l = λ c q. l c ((h c).1 q)
 least_same P Q (Some x) h l = ((h x).0 l.0, λ d q. l.1 d ((h d).1 q))
 
-pub least_either : (P Q : ℕ → Type 0) (a b : Option ℕ) → IsLeastOf P a → IsLeastOf Q b → IsLeastOf (λ c. P c ⊎ Q c) (earlier_of a b)
+pub least_either : (P Q : ℕ → Type 0) (a b : Option ℕ) → IsLeastOf P a → IsLeastOf Q b
+    → IsLeastOf (λ c. P c ⊎ Q c) (earlier_of a b)
 least_either P Q None None l m = λ c h. elim h [ inl x ↦ l c x | inr y ↦ m c y ]
 least_either P Q None (Some y) l m = (inr m.0, λ d h. elim h [ inl x ↦ absurd (l d x) | inr z ↦ m.1 d z ])
 least_either P Q (Some x) None l m = (inl l.0, λ d h. elim h [ inl z ↦ l.1 d z | inr z ↦ absurd (m d z) ])
@@ -124,7 +140,8 @@ module _ {A : Type 0} (d : A) (W : A → ℕ → Type 0) (each : (x : A) → (o 
   least_of_list [] = λ c n. (let lt = n.1 in absurd (omega (arith, lt)))
   least_of_list (x ∷ xs) =
       rw (reduce_min (each x).0 (filter_map (λ y. (each y).0) xs))
-      (least_same (λ c. W x c ⊎ IsAtSome xs c) (IsAtSome (x ∷ xs)) (earlier_of (each x).0 (least_at xs)) (λ c. (to c, from c)) (least_either (W x) (IsAtSome xs) (each x).0 (least_at xs) (each x).1 (least_of_list xs)))
+      (least_same (λ c. W x c ⊎ IsAtSome xs c) (IsAtSome (x ∷ xs)) (earlier_of (each x).0 (least_at xs))
+      (λ c. (to c, from c)) (least_either (W x) (IsAtSome xs) (each x).0 (least_at xs) (each x).1 (least_of_list xs)))
     where
       to : (c : ℕ) → W x c ⊎ IsAtSome xs c → IsAtSome (x ∷ xs) c
       to c (inl w) = (0, omega arith, w)
@@ -146,7 +163,11 @@ module _ (second : ℕ) where
   ]
 
   pub least_from : (xs : List Pair) → (o : Option ℕ) × IsLeastOf (IsCostFrom xs second) o
-  least_from xs = (least, least_same IsAt (IsCostFrom xs second) least (λ c. (to c, from c)) (least_of_list (0, 0) IsCostOf least_of_pair xs))
+  least_from xs = (
+    least,
+    least_same IsAt (IsCostFrom xs second) least (λ c. (to c, from c))
+        (least_of_list (0, 0) IsCostOf least_of_pair xs),
+  )
     where
       least : Option ℕ
       least = least_at (0, 0) IsCostOf least_of_pair xs
@@ -158,11 +179,13 @@ module _ (second : ℕ) where
       to c (i, lt, h) = (pair_at xs i, at_in xs i (pair_at xs i) lt refl, h.0, h.1)
 
       from : (c : ℕ) → IsCostFrom xs second c → IsAt c
-      from c (q, listed, late, is) = (let a = in_at q xs listed in (a.0, a.1, subst (λ (o : Pair). IsCostOf o c) (sym a.2) (late, is)))
+      from c (q, listed, late, is) =
+          (let a = in_at q xs listed in (a.0, a.1, subst (λ (o : Pair). IsCostOf o c) (sym a.2) (late, is)))
 
 -- ---- by places
 
-pub rises_at : (xs : List Pair) → Rises xs → (i j : ℕ) → i < j → j < length xs → ((pair_at xs i).0 < (pair_at xs j).0) × ((pair_at xs i).1 < (pair_at xs j).1)
+pub rises_at : (xs : List Pair) → Rises xs → (i j : ℕ) → i < j → j < length xs → ((pair_at xs i).0 < (pair_at xs j).0)
+    × ((pair_at xs i).1 < (pair_at xs j).1)
 rises_at [] r i j lt l = absurd (omega (arith, l))
 rises_at (x ∷ xs) r i zero lt l = absurd (omega (arith, lt))
 rises_at (x ∷ xs) r zero (suc j) lt l = r.0 (pair_at xs j) (at_in xs j (pair_at xs j) (omega (arith, l)) refl)
@@ -174,12 +197,15 @@ last_most xs r q i =
     let at : (pair_at xs a.0).0 ≡ q.0 = ap (λ (z : Pair). z.0) a.2 in
     let within = a.1 in
     elim (cases_eq a.0 (length xs - 1)) [
-      | inl e ↦ (let same : (pair_at xs a.0).0 ≡ (pair_at xs (length xs - 1)).0 = ap (λ (n : ℕ). (pair_at xs n).0) e in omega (arith, at, same))
-      | inr ne ↦ (let less = (rises_at xs r a.0 (length xs - 1) (omega (arith, within, ne)) (omega (arith, within))).0 in omega (arith, at, less))
+      | inl e ↦ (let same : (pair_at xs a.0).0 ≡ (pair_at xs (length xs - 1)).0 =
+          ap (λ (n : ℕ). (pair_at xs n).0) e in omega (arith, at, same))
+      | inr ne ↦ (let less = (rises_at xs r a.0 (length xs - 1) (omega (arith, within, ne))
+          (omega (arith, within))).0 in omega (arith, at, less))
     ]
 
 -- the first pair at or after a second is the cheapest of those
-pub cost_found : (xs : List Pair) → Rises xs → (second j : ℕ) → j < length xs → second ≤ (pair_at xs j).0 → ((i : ℕ) → i < j → (pair_at xs i).0 < second) → IsLeastOf (IsCostFrom xs second) (Some (pair_at xs j).1)
+pub cost_found : (xs : List Pair) → Rises xs → (second j : ℕ) → j < length xs → second ≤ (pair_at xs j).0
+    → ((i : ℕ) → i < j → (pair_at xs i).0 < second) → IsLeastOf (IsCostFrom xs second) (Some (pair_at xs j).1)
 cost_found xs r second j lt late below = (
   (pair_at xs j, at_in xs j (pair_at xs j) lt refl, late, refl),
   λ d h.
@@ -191,13 +217,15 @@ cost_found xs r second j lt late below = (
       elim (cases_lt a.0 j) [
         | inl less ↦ (let b = below a.0 less in absurd (omega (arith, b, at, le)))
         | inr more ↦ elim (cases_eq a.0 j) [
-          | inl e ↦ (let same : (pair_at xs a.0).1 ≡ (pair_at xs j).1 = ap (λ (n : ℕ). (pair_at xs n).1) e in omega (arith, same, is, cost))
+          | inl e ↦ (let same : (pair_at xs a.0).1 ≡ (pair_at xs j).1 =
+              ap (λ (n : ℕ). (pair_at xs n).1) e in omega (arith, same, is, cost))
           | inr ne ↦ (let b = (rises_at xs r j a.0 (omega (arith, more, ne)) a.1).1 in omega (arith, b, is, cost))
         ]
       ],
 )
 
-pub none_found : (xs : List Pair) (second j : ℕ) → length xs ≤ j → ((i : ℕ) → i < j → (pair_at xs i).0 < second) → IsLeastOf (IsCostFrom xs second) None
+pub none_found : (xs : List Pair) (second j : ℕ) → length xs ≤ j → ((i : ℕ) → i < j → (pair_at xs i).0 < second)
+    → IsLeastOf (IsCostFrom xs second) None
 none_found xs second j le below = λ c h.
     let a = in_at h.0 xs h.1 in
     let at : (pair_at xs a.0).0 ≡ h.0.0 = ap (λ (z : Pair). z.0) a.2 in
@@ -213,5 +241,6 @@ rises_split xs r second i j d le lt up = elim (cases_eq i j) [
   | inr ne ↦
       let less = (rises_at xs r i j (omega (arith, le, ne)) lt).0 in
       let below = ltb-true (pair_at xs j).0 second (rw (get_or_default xs j d (0, 0) lt) at up) in
-      rw (get_or_default xs i d (0, 0) (omega (arith, le, lt))) (lt-ltb (pair_at xs i).0 second (omega (arith, less, below)))
+      rw (get_or_default xs i d (0, 0) (omega (arith, le, lt)))
+      (lt-ltb (pair_at xs i).0 second (omega (arith, less, below)))
 ]

@@ -1,5 +1,6 @@
 -- The pairs of a node, found from the latest second on.
-use Rattle.std.proofs.Common.{◌≡◌, ℕ, ◌+◌, ◌-◌, ◌*◌, ◌<◌, ◌≤◌, ◌⊎◌, inl, inr, List, [], ◌∷◌, ◌++◌, length, reverse, Option, Some, None, refl, sym, ap, subst, le_refl, arith}
+use Rattle.std.proofs.Common.{◌≡◌, ℕ, ◌+◌, ◌-◌, ◌*◌, ◌<◌, ◌≤◌, ◌⊎◌, inl, inr, List, [], ◌∷◌, ◌++◌, length, reverse}
+use Rattle.std.proofs.Common.{Option, Some, None, refl, sym, ap, subst, le_refl, arith}
 use Rattle.std.proofs.lemmas.Bool.{cases_eq}
 use Rattle.landing_rules.specs.Rules.{last_second}
 use Rattle.landing_rules.specs.Problem.{Problem}
@@ -11,14 +12,17 @@ use Rattle.first_best.specs.Completing.{AreFalling, ArePairsOf, IsWithinBudget, 
 use Rattle.first_best.proofs.PairLemmas.{falls_more, falls_rises, in_reversed, reversed_in}
 use Rattle.first_best.proofs.UseLemmas.{room_below}
 
-module _ (p : Problem) (v : ℕ) (budget : Option ℕ) (stage : ℕ) (node : EarlyNode) (next : StageAhead) (limit : ℕ) (limits : (cost : ℕ) → cost < 4294967296 → IsWithinBudget budget node.cheapest cost → cost < limit) where
+module _ (p : Problem) (v : ℕ) (budget : Option ℕ) (stage : ℕ) (node : EarlyNode) (next : StageAhead)
+    (limit : ℕ) (limits : (cost : ℕ) → cost < 4294967296 → IsWithinBudget budget node.cheapest cost
+    → cost < limit) where
   abbrev pub Is : Pair → Type 0
   Is q = IsPairOf p v stage node next q
 
   abbrev pub Room : Pair → Type 0
   Room q = IsWithinBudget budget node.cheapest q.1
 
-  -- the pairs from a second on for which there is room are found, and the least cost of them, or the limit with none, is this
+  -- the pairs from a second on for which there is room are found, and the least cost of them, or the limit with none,
+  -- is this
   pub record Scanned (from least : ℕ) (pairs : List Pair) : Type 0 where
     pub found : AreFalling p v budget stage node next from pairs
     pub least_of : (q : Pair) → InPairs q pairs → least ≤ q.1
@@ -43,7 +47,8 @@ module _ (p : Problem) (v : ℕ) (budget : Option ℕ) (stage : ℕ) (node : Ear
     at_second : (q : Pair) → q.0 ≡ second → Is q → Is (second, q.1)
     at_second q e h = subst (λ (n : ℕ). Is (n, q.1)) e h
 
-    kept : ((q : Pair) → Is q → q.0 ≡ second → Room q → (o : Pair) × InPairs o pairs × NoEarlierNoDearer o q) → Scanned second least pairs
+    kept : ((q : Pair) → Is q → q.0 ≡ second → Room q → (o : Pair) × InPairs o pairs × NoEarlierNoDearer o q)
+        → Scanned second least pairs
     kept here = record {
       found = record {
         are = earlier_are;
@@ -66,7 +71,8 @@ module _ (p : Problem) (v : ℕ) (budget : Option ℕ) (stage : ℕ) (node : Ear
         let f = d.2 in
         (d.0, d.1, (omega (arith, b, e), omega (arith, a, f))))
 
-    pub cheaper : (cost : ℕ) → cost_here ≡ Some cost → cost < least → second ≤ last_second → cost ≤ 17279900 * (length p.flights - stage) → Scanned second cost (pairs ++ (second, cost) ∷ [])
+    pub cheaper : (cost : ℕ) → cost_here ≡ Some cost → cost < least → second ≤ last_second
+        → cost ≤ 17279900 * (length p.flights - stage) → Scanned second cost (pairs ++ (second, cost) ∷ [])
     cheaper cost is lt in_days small =
         let l = is_least (Some cost) is in
         let here = in_right (second, cost) pairs ((second, cost) ∷ []) (inl refl) in
@@ -74,7 +80,11 @@ module _ (p : Problem) (v : ℕ) (budget : Option ℕ) (stage : ℕ) (node : Ear
           found = record {
             are = λ q i. elim (in_append q pairs ((second, cost) ∷ []) i) [
               | inl a ↦ earlier_are q a
-              | inr b ↦ elim b [ inl e ↦ subst (λ (o : Pair). Is o × (second ≤ o.0)) (sym e) (l.0, le_refl second) | inr none ↦ absurd none ]
+              | inr b ↦ elim b [
+                | inl e ↦ subst (λ (o : Pair). Is o × (second ≤ o.0)) (sym e)
+                    (l.0, le_refl second)
+                | inr none ↦ absurd none
+              ]
             ];
             cover = λ q h le r. elim (split q le) [
               | inl e ↦ (let a = l.1 q.1 (at_second q e h) in ((second, cost), here, (omega (arith, e), a)))
@@ -86,18 +96,27 @@ module _ (p : Problem) (v : ℕ) (budget : Option ℕ) (stage : ℕ) (node : Ear
                 (omega (arith, a), omega (arith, b, lt)));
             in_reach = λ q i. elim (in_append q pairs ((second, cost) ∷ []) i) [
               | inl a ↦ s.found.in_reach q a
-              | inr b ↦ elim b [ inl e ↦ subst (λ (o : Pair). (o.0 ≤ last_second) × (o.1 ≤ 17279900 * (length p.flights - stage))) (sym e) (in_days, small) | inr none ↦ absurd none ]
+              | inr b ↦ elim b [
+                | inl e ↦ subst (λ (o : Pair). (o.0 ≤ last_second)
+                    × (o.1 ≤ 17279900 * (length p.flights - stage))) (sym e) (in_days, small)
+                | inr none ↦ absurd none
+              ]
             ];
           };
           least_of = λ q i. elim (in_append q pairs ((second, cost) ∷ []) i) [
             | inl a ↦ (let b = s.least_of q a in omega (arith, b, lt))
-            | inr b ↦ elim b [ inl e ↦ (let f : q.1 ≡ cost = ap (λ (z : Pair). z.1) e in omega (arith, f)) | inr none ↦ absurd none ]
+            | inr b ↦ elim b [
+              | inl e ↦ (let f : q.1 ≡ cost = ap (λ (z : Pair). z.1) e in omega (arith, f))
+              | inr none ↦
+                  absurd none
+            ]
           ];
           dear = λ c le fits. ((second, cost), here, le);
         }
 
   -- where nothing is cheaper, or no second is left, all are found
-  pub scanned_free : (from least : ℕ) (pairs : List Pair) → least ≡ 0 → Scanned from least pairs → AreFalling p v budget stage node next node.earliest pairs
+  pub scanned_free : (from least : ℕ) (pairs : List Pair) → least ≡ 0 → Scanned from least pairs
+      → AreFalling p v budget stage node next node.earliest pairs
   scanned_free from least pairs free s = record {
     are = λ q i. (let a = s.found.are q i in (a.0, a.0.reached));
     cover = λ q h le r.
@@ -105,7 +124,8 @@ module _ (p : Problem) (v : ℕ) (budget : Option ℕ) (stage : ℕ) (node : Ear
         let d = s.dear 0 (omega (arith, free)) none in
         elim (later from q.0) [
           | inl le ↦ s.found.cover q h le r
-          | inr le ↦ (let a = (s.found.are d.0 d.1).1 in let b = d.2 in (d.0, d.1, (omega (arith, a, le), omega (arith, b))))
+          | inr le ↦ (let a = (s.found.are d.0 d.1).1 in let b =
+              d.2 in (d.0, d.1, (omega (arith, a, le), omega (arith, b))))
         ];
     falling = s.found.falling;
     in_reach = s.found.in_reach;
@@ -114,7 +134,8 @@ module _ (p : Problem) (v : ℕ) (budget : Option ℕ) (stage : ℕ) (node : Ear
       later : (a b : ℕ) → (a ≤ b) ⊎ (b ≤ a)
       later a b = elim (cases_eq (a - b) 0) [ inl e ↦ inl (omega (arith, e)) | inr ne ↦ inr (omega (arith, ne)) ]
 
-  pub scanned_all : (from least : ℕ) (pairs : List Pair) → from ≤ node.earliest → Scanned from least pairs → AreFalling p v budget stage node next node.earliest pairs
+  pub scanned_all : (from least : ℕ) (pairs : List Pair) → from ≤ node.earliest → Scanned from least pairs
+      → AreFalling p v budget stage node next node.earliest pairs
   scanned_all from least pairs le s = record {
     are = λ q i. (let a = s.found.are q i in (a.0, a.0.reached));
     cover = λ q h l r. s.found.cover q h (omega (arith, le, l)) r;
@@ -123,7 +144,9 @@ module _ (p : Problem) (v : ℕ) (budget : Option ℕ) (stage : ℕ) (node : Ear
   }
 
 -- the other way round
-pub turned : (p : Problem) (v : ℕ) (budget : Option ℕ) (stage : ℕ) (node : EarlyNode) (next : StageAhead) (pairs : List Pair) → AreFalling p v budget stage node next node.earliest pairs → ArePairsOf p v budget stage node next (reverse pairs)
+pub turned : (p : Problem) (v : ℕ) (budget : Option ℕ) (stage : ℕ) (node : EarlyNode) (next : StageAhead)
+    (pairs : List Pair) → AreFalling p v budget stage node next node.earliest pairs
+    → ArePairsOf p v budget stage node next (reverse pairs)
 turned p v budget stage node next pairs f = record {
   are = λ q i. (f.are q (in_reversed pairs q i)).0;
   cover = λ q h r. (let a = f.cover q h h.reached r in (a.0, reversed_in pairs a.0 a.1, a.2));

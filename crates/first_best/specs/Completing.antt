@@ -1,5 +1,6 @@
 -- The pairs by which a node can still be completed, from those of the nodes that it leads to.
-use Rattle.std.specs.Prelude.{◌≡◌, ℕ, ◌+◌, ◌-◌, ◌*◌, ◌<◌, ◌≤◌, ◌⊎◌, List, [], ◌∷◌, length, slice_index_or, true, Option, Some, None, MatchOption}
+use Rattle.std.specs.Prelude.{◌≡◌, ℕ, ◌+◌, ◌-◌, ◌*◌, ◌<◌, ◌≤◌, ◌⊎◌, List, [], ◌∷◌, length, slice_index_or, true}
+use Rattle.std.specs.Prelude.{Option, Some, None, MatchOption}
 use Rattle.landing_rules.specs.Rules.{last_second}
 use Rattle.landing_rules.specs.Problem.{Problem}
 use Rattle.cps_theory.specs.Labels.{InPairs, Pair}
@@ -47,8 +48,8 @@ AreInReach left pairs = (q : Pair) → InPairs q pairs → (q.0 ≤ last_second)
 
 -- ---- ways
 
--- behind a node whose last flight lands at a second, the last flight of another node lands as a pair of it allows, and with those
--- that follow costs this
+-- behind a node whose last flight lands at a second, the last flight of another node lands as a pair of it allows, and
+-- with those that follow costs this
 pub record IsWayTo (p : Problem) (node after : EarlyNode) (pairs : List Pair) (second cost : ℕ) : Type 0 where
   pub lands_at : ℕ
   pub lands : landing_after p node.last second after.last ≡ Some lands_at
@@ -68,7 +69,8 @@ pub record IsWay (p : Problem) (node : EarlyNode) (next : StageAhead) (second co
 pub record AreWaysOf (node : EarlyNode) (nodes : List EarlyNode) (ways : List ℕ) : Type 0 where
   pub within : (i : ℕ) → i < length ways → slice_index_or ways i 0 < length nodes
   pub lead : (i : ℕ) → i < length ways → LeadsTo node (node_at nodes (slice_index_or ways i 0))
-  pub every : (j : ℕ) → j < length nodes → LeadsTo node (node_at nodes j) → (i : ℕ) × (i < length ways) × (slice_index_or ways i 0 ≡ j)
+  pub every : (j : ℕ) → j < length nodes → LeadsTo node (node_at nodes j) → (i : ℕ) × (i < length ways)
+      × (slice_index_or ways i 0 ≡ j)
 
 -- what is left behind a node whose last flight lands at a second costs this: nothing at the last stage
 abbrev pub IsEnd : Problem → ℕ → EarlyNode → StageAhead → ℕ → ℕ → Type 0
@@ -87,22 +89,28 @@ abbrev pub IsWithinBudget : Option ℕ → ℕ → ℕ → Type 0
 IsWithinBudget None cheapest cost = Unit {0}
 IsWithinBudget (Some budget) cheapest cost = cheapest + cost ≤ budget
 
--- pairs of a node that fall, and each of its pairs from a second on for which there is room has one of these at least as late and
--- at most as dear
-pub record AreFalling (p : Problem) (v : ℕ) (budget : Option ℕ) (stage : ℕ) (node : EarlyNode) (next : StageAhead) (from : ℕ) (pairs : List Pair) : Type 0 where
+-- pairs of a node that fall, and each of its pairs from a second on for which there is room has one of these at least
+-- as late and at most as dear
+pub record AreFalling (p : Problem) (v : ℕ) (budget : Option ℕ) (stage : ℕ) (node : EarlyNode)
+    (next : StageAhead) (from : ℕ) (pairs : List Pair) : Type 0 where
   pub are : (q : Pair) → InPairs q pairs → IsPairOf p v stage node next q × (from ≤ q.0)
-  pub cover : (q : Pair) → IsPairOf p v stage node next q → from ≤ q.0 → IsWithinBudget budget node.cheapest q.1 → (o : Pair) × InPairs o pairs × NoEarlierNoDearer o q
+  pub cover : (q : Pair) → IsPairOf p v stage node next q → from ≤ q.0 → IsWithinBudget budget node.cheapest q.1
+      → (o : Pair) × InPairs o pairs × NoEarlierNoDearer o q
   pub falling : Falls pairs
   pub in_reach : AreInReach (length p.flights - stage) pairs
 
--- pairs of a node that ascend, and each pair of it for which there is room has one of these at least as late and at most as dear
-pub record ArePairsOf (p : Problem) (v : ℕ) (budget : Option ℕ) (stage : ℕ) (node : EarlyNode) (next : StageAhead) (pairs : List Pair) : Type 0 where
+-- pairs of a node that ascend, and each pair of it for which there is room has one of these at least as late and at
+-- most as dear
+pub record ArePairsOf (p : Problem) (v : ℕ) (budget : Option ℕ) (stage : ℕ) (node : EarlyNode)
+    (next : StageAhead) (pairs : List Pair) : Type 0 where
   pub are : (q : Pair) → InPairs q pairs → IsPairOf p v stage node next q
-  pub cover : (q : Pair) → IsPairOf p v stage node next q → IsWithinBudget budget node.cheapest q.1 → (o : Pair) × InPairs o pairs × NoEarlierNoDearer o q
+  pub cover : (q : Pair) → IsPairOf p v stage node next q → IsWithinBudget budget node.cheapest q.1
+      → (o : Pair) × InPairs o pairs × NoEarlierNoDearer o q
   pub rising : Rises pairs
   pub in_reach : AreInReach (length p.flights - stage) pairs
 
 -- a list of pairs for each of these nodes of a stage, from those of the next stage
-pub record AreListsOf (p : Problem) (v : ℕ) (budget : Option ℕ) (stage : ℕ) (nodes : List EarlyNode) (next : StageAhead) (lists : List (List Pair)) : Type 0 where
+pub record AreListsOf (p : Problem) (v : ℕ) (budget : Option ℕ) (stage : ℕ) (nodes : List EarlyNode)
+    (next : StageAhead) (lists : List (List Pair)) : Type 0 where
   pub one_each : length lists ≡ length nodes
   pub pairs : (j : ℕ) → j < length nodes → ArePairsOf p v budget stage (node_at nodes j) next (list_at lists j)

@@ -26,17 +26,22 @@ second_of lists i = (pair_at (list_at lists i) 0).0
 abbrev pub cost_in : List (List Pair) → ℕ → ℕ
 cost_in lists i = (pair_at (list_at lists i) (length (list_at lists i) - 1)).1
 
--- the first windows of a stage are put together: each has its node, which is as early as the earliest of its windows and no
--- dearer than any, and no node stands twice
-pub record AreGathered (stage : ℕ × List (List ℤ)) (lists : List (List Pair)) (count : ℕ) (nodes : List EarlyNode) (places : List ℕ) : Type 0 where
+-- the first windows of a stage are put together: each has its node, which is as early as the earliest of its windows
+-- and no dearer than any, and no node stands twice
+pub record AreGathered (stage : ℕ × List (List ℤ)) (lists : List (List Pair)) (count : ℕ) (nodes : List EarlyNode)
+    (places : List ℕ) : Type 0 where
   pub long : length places ≡ count
   pub within : (i : ℕ) → i < count → place_at places i < length nodes
   pub window : (i : ℕ) → i < count → IsWindowOf stage.0 (windows.node_at stage.1 i) (node_at nodes (place_at places i))
   pub low : (i : ℕ) → i < count → (node_at nodes (place_at places i)).earliest ≤ second_of lists i
   pub cheap : (i : ℕ) → i < count → (node_at nodes (place_at places i)).cheapest ≤ cost_in lists i
-  pub source : (j : ℕ) → j < length nodes → (i : ℕ) × (i < count) × IsWindowOf stage.0 (windows.node_at stage.1 i) (node_at nodes j) × ((node_at nodes j).earliest ≡ second_of lists i)
-  pub apart : (i j : ℕ) → i < length nodes → j < length nodes → (node_at nodes i).placed ≡ (node_at nodes j).placed → (node_at nodes i).last ≡ (node_at nodes j).last → i ≡ j
+  pub source : (j : ℕ) → j < length nodes → (i : ℕ) × (i < count)
+      × IsWindowOf stage.0 (windows.node_at stage.1 i) (node_at nodes j)
+      × ((node_at nodes j).earliest ≡ second_of lists i)
+  pub apart : (i j : ℕ) → i < length nodes → j < length nodes → (node_at nodes i).placed ≡ (node_at nodes j).placed
+      → (node_at nodes i).last ≡ (node_at nodes j).last → i ≡ j
 
 -- all windows of a stage that is held
 abbrev pub IsGathered : Option HeldProblem → ℕ → List EarlyNode → List ℕ → Type 0
-IsGathered held stage nodes places = AreGathered (stage_in held stage) (lists_in held stage) (length (stage_in held stage).1) nodes places
+IsGathered held stage nodes places =
+    AreGathered (stage_in held stage) (lists_in held stage) (length (stage_in held stage).1) nodes places

@@ -1,4 +1,5 @@
--- The nodes of a stage: the ranks that a prefix has placed, the last of them, how early it can be landed, and how cheaply.
+-- The nodes of a stage: the ranks that a prefix has placed, the last of them, how early it can be landed, and how
+-- cheaply.
 use Rattle.std.specs.Prelude.{◌≡◌, ℕ, ◌<◌, ◌≤◌, ◌⊎◌, ◌↔◌, List, length, slice_index_or}
 use Rattle.precedence.specs.Pairs.{HasBit}
 use Rattle.landing_rules.specs.Problem.{Problem}
@@ -34,15 +35,18 @@ pub record IsReached (p : Problem) (stage : ℕ) (node : EarlyNode) : Type 0 whe
   pub of_node : IsPrefixOf (ranks landings) node
   pub earliest : (latest_landing landings).1 ≡ node.earliest
 
--- the nodes of a stage: each has its landed prefixes, of which none is earlier or costs less than it says, and each landed prefix
--- has its node
+-- the nodes of a stage: each has its landed prefixes, of which none is earlier or costs less than it says, and each
+-- landed prefix has its node
 pub record AreNodesOf (p : Problem) (stage : ℕ) (nodes : List EarlyNode) : Type 0 where
   pub reached : (j : ℕ) → j < length nodes → IsReached p stage (node_at nodes j)
-  pub least : (j : ℕ) (xs : List Landing) → j < length nodes → IsLandedPrefix p stage xs → IsPrefixOf (ranks xs) (node_at nodes j)
+  pub least : (j : ℕ) (xs : List Landing) → j < length nodes → IsLandedPrefix p stage xs
+      → IsPrefixOf (ranks xs) (node_at nodes j)
       → (node_at nodes j).earliest ≤ (latest_landing xs).1
-  pub cheap : (j : ℕ) (xs : List Landing) → j < length nodes → IsLandedPrefix p stage xs → IsPrefixOf (ranks xs) (node_at nodes j)
+  pub cheap : (j : ℕ) (xs : List Landing) → j < length nodes → IsLandedPrefix p stage xs
+      → IsPrefixOf (ranks xs) (node_at nodes j)
       → (node_at nodes j).cheapest ≤ cost_of (cost_at p) xs
-  pub every : (xs : List Landing) → IsLandedPrefix p stage xs → (j : ℕ) × (j < length nodes) × IsPrefixOf (ranks xs) (node_at nodes j)
+  pub every : (xs : List Landing) → IsLandedPrefix p stage xs → (j : ℕ) × (j < length nodes)
+      × IsPrefixOf (ranks xs) (node_at nodes j)
 
 -- a node places one rank more than another: its last
 pub record LeadsTo (before after : EarlyNode) : Type 0 where

@@ -24,19 +24,22 @@ stage_of stages stage = slice_index_or stages (length stages - stage) no_stage
 abbrev pub pairs_of : List StageAhead → ℕ → ℕ → List Pair
 pairs_of stages stage i = list_at (stage_of stages stage).lists (place_at (stage_of stages stage).places i)
 
--- these pairs complete the nodes of a stage: for each prefix of a node they are among its completing pairs, and each completing
--- pair that is wanted has one of these at least as late and at most as dear
-pub record AreCompleted (p : Problem) (v : ℕ) (budget : Option ℕ) (stage : ℕ) (nodes : List EarlyNode) (lists : List (List Pair)) : Type 0 where
+-- these pairs complete the nodes of a stage: for each prefix of a node they are among its completing pairs, and each
+-- completing pair that is wanted has one of these at least as late and at most as dear
+pub record AreCompleted (p : Problem) (v : ℕ) (budget : Option ℕ) (stage : ℕ) (nodes : List EarlyNode)
+    (lists : List (List Pair)) : Type 0 where
   pub are_nodes : AreNodesOf p stage nodes
   pub one_each : length lists ≡ length nodes
-  pub kept : (j : ℕ) (rs : List ℕ) → j < length nodes → IsLegal p rs → length rs ≡ stage → IsPrefixOf rs (node_at nodes j)
+  pub kept : (j : ℕ) (rs : List ℕ) → j < length nodes → IsLegal p rs → length rs ≡ stage
+      → IsPrefixOf rs (node_at nodes j)
       → KeepsWanted (IsCompletingPair p v rs) (IsWanted p budget rs) (λ q. InPairs q (list_at lists j))
   pub rising : (j : ℕ) → Rises (list_at lists j)
   pub in_reach : (j : ℕ) → AreInReach (length p.flights - stage) (list_at lists j)
 
 -- behind a stage stands the next, and behind the last one without a node
 abbrev pub IsBehind : Problem → ℕ → Option ℕ → ℕ → StageAhead → Type 0
-IsBehind p v budget stage next = ((stage ≡ length p.flights) × (next ≡ no_stage)) ⊎ ((stage < length p.flights) × AreCompleted p v budget (stage + 1) next.nodes next.lists)
+IsBehind p v budget stage next = ((stage ≡ length p.flights) × (next ≡ no_stage))
+    ⊎ ((stage < length p.flights) × AreCompleted p v budget (stage + 1) next.nodes next.lists)
 
 -- ---- all stages
 
@@ -47,11 +50,15 @@ pub record HasList (stages : List StageAhead) (stage i : ℕ) : Type 0 where
   pub place : i < length (stage_of stages stage).places
   pub list : place_at (stage_of stages stage).places i < length (stage_of stages stage).lists
 
--- of each stage of the problem that is held these are the nodes, with the pairs that complete them, of which some are wanted
-pub record IsAheadBy (p : Problem) (v : ℕ) (budget : Option ℕ) (held : Option HeldProblem) (stages : List StageAhead) : Type 0 where
+-- of each stage of the problem that is held these are the nodes, with the pairs that complete them, of which some are
+-- wanted
+pub record IsAheadBy (p : Problem) (v : ℕ) (budget : Option ℕ) (held : Option HeldProblem)
+    (stages : List StageAhead) : Type 0 where
   pub whole : length stages ≡ length p.flights + 1
-  pub completed : (s : ℕ) → 1 ≤ s → s ≤ length p.flights → AreCompleted p v budget s (stage_of stages s).nodes (stage_of stages s).lists
-  pub gathered : (s : ℕ) → 1 ≤ s → s ≤ length p.flights → IsGathered held s (stage_of stages s).nodes (stage_of stages s).places
+  pub completed : (s : ℕ) → 1 ≤ s → s ≤ length p.flights
+      → AreCompleted p v budget s (stage_of stages s).nodes (stage_of stages s).lists
+  pub gathered : (s : ℕ) → 1 ≤ s → s ≤ length p.flights
+      → IsGathered held s (stage_of stages s).nodes (stage_of stages s).places
 
 -- all of them are wanted
 abbrev pub IsAheadOf : Problem → ℕ → Option HeldProblem → List StageAhead → Type 0
@@ -62,24 +69,30 @@ abbrev pub IsAheadWithin : Problem → ℕ → Option HeldProblem → List Stage
 IsAheadWithin p v held stages = IsAheadBy p v (Some (budget_of p v)) held stages
 
 -- the pairs of the window of a landed prefix are exactly the undominated ones that complete its node, ascending in both
-pub record IsExact (p : Problem) (v : ℕ) (held : Option HeldProblem) (stages : List StageAhead) (s i : ℕ) (xs : List Landing) : Type 0 where
-  pub undominated : (q : Pair) → InPairs q (pairs_of stages s i) ↔ UndominatedCompleting (IsCompletingPair p v (ranks xs)) q
+pub record IsExact (p : Problem) (v : ℕ) (held : Option HeldProblem) (stages : List StageAhead)
+    (s i : ℕ) (xs : List Landing) : Type 0 where
+  pub undominated : (q : Pair) → InPairs q (pairs_of stages s i)
+      ↔ UndominatedCompleting (IsCompletingPair p v (ranks xs)) q
   pub rising : Rises (pairs_of stages s i)
 
 abbrev pub ListsAllCompleting : Problem → ℕ → Option HeldProblem → List StageAhead → Type 0
-ListsAllCompleting p v held stages = (s i : ℕ) (xs : List Landing) → 1 ≤ s → s ≤ length p.flights → i < length (stage_in held s).1
+ListsAllCompleting p v held stages =
+    (s i : ℕ) (xs : List Landing) → 1 ≤ s → s ≤ length p.flights → i < length (stage_in held s).1
     → IsLandedPrefix p s xs → node_of p.k (ranks xs) ≡ (s, window_in held s i) → IsExact p v held stages s i xs
 
--- the pairs of the window of a landed prefix complete its node, ascending in both, and each that does and is of use has one of
--- these at least as late and at most as dear
+-- the pairs of the window of a landed prefix complete its node, ascending in both, and each that does and is of use has
+-- one of these at least as late and at most as dear
 pub record HasAllOfUse (p : Problem) (v : ℕ) (stages : List StageAhead) (s i : ℕ) (xs : List Landing) : Type 0 where
-  pub kept : KeepsWanted (IsCompletingPair p v (ranks xs)) (IsOfUse p (budget_of p v) (ranks xs)) (λ q. InPairs q (pairs_of stages s i))
+  pub kept : KeepsWanted (IsCompletingPair p v (ranks xs)) (IsOfUse p (budget_of p v) (ranks xs))
+      (λ q. InPairs q (pairs_of stages s i))
   pub rising : Rises (pairs_of stages s i)
 
 abbrev pub ListsAllOfUse : Problem → ℕ → Option HeldProblem → List StageAhead → Type 0
-ListsAllOfUse p v held stages = (s i : ℕ) (xs : List Landing) → 1 ≤ s → s ≤ length p.flights → i < length (stage_in held s).1
+ListsAllOfUse p v held stages =
+    (s i : ℕ) (xs : List Landing) → 1 ≤ s → s ≤ length p.flights → i < length (stage_in held s).1
     → IsLandedPrefix p s xs → node_of p.k (ranks xs) ≡ (s, window_in held s i) → HasAllOfUse p v stages s i xs
 
 -- each window of the stages held has a list
 abbrev pub HasEachList : Problem → Option HeldProblem → List StageAhead → Type 0
-HasEachList p held stages = (s i : ℕ) → 1 ≤ s → s ≤ length p.flights → i < length (stage_in held s).1 → HasList stages s i
+HasEachList p held stages = (s i : ℕ) → 1 ≤ s → s ≤ length p.flights → i < length (stage_in held s).1
+    → HasList stages s i

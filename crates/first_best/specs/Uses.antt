@@ -9,8 +9,8 @@ use Rattle.cps_theory.specs.CompletingPairs.{NoEarlierNoDearer}
 use Rattle.landing_joint.specs.RankedProblem.{ranked, cost_at}
 use Rattle.landing_joint.specs.CompletingPairs.{AreOneNode, IsLegal}
 
--- some legal prefix of the node of rs lands its last flight at or before the pair's second, and with the pair's cost it costs no
--- more than the budget
+-- some legal prefix of the node of rs lands its last flight at or before the pair's second, and with the pair's cost it
+-- costs no more than the budget
 pub record IsOfUse (p : Problem) (budget : ℕ) (rs : List ℕ) (q : Pair) : Type 0 where
   pub landings : List Landing
   pub legal : IsLegal p (ranks landings)
@@ -24,8 +24,8 @@ abbrev pub IsWanted : Problem → Option ℕ → List ℕ → Pair → Type 0
 IsWanted p None rs q = Unit {0}
 IsWanted p (Some budget) rs q = IsOfUse p budget rs q
 
--- the kept pairs of a node: each completes it, and each that does and is wanted has a kept one at least as late and at most as
--- dear
+-- the kept pairs of a node: each completes it, and each that does and is wanted has a kept one at least as late and at
+-- most as dear
 pub record KeepsWanted (Completing Wanted Keeps : Pair → Type 0) : Type 0 where
   pub completes : (q : Pair) → Keeps q → Completing q
   pub covers : (q : Pair) → Completing q → Wanted q → (o : Pair) × Keeps o × NoEarlierNoDearer o q

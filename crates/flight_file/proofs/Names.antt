@@ -1,5 +1,6 @@
 -- Callsigns that differ, by the test of their bytes and as such; and one more name or flight behind others.
-use Rattle.std.proofs.Common.{◌≡◌, ◌≢◌, ℕ, ◌<◌, List, length, get_or, true, false, ◌+◌, ◌++◌, ◌∷◌, [], arith, inl, inr, sym, refl, length-append, Result, Ok, Err}
+use Rattle.std.proofs.Common.{◌≡◌, ◌≢◌, ℕ, ◌<◌, List, length, get_or, true, false, ◌+◌, ◌++◌, ◌∷◌, [], arith, inl, inr}
+use Rattle.std.proofs.Common.{sym, refl, length-append, Result, Ok, Err}
 use Rattle.std.specs.Prelude.{All, bytes_eq}
 use Rattle.std.specs.List.{list_any}
 use Rattle.std.proofs.lemmas.Bool.{cases_Bool}
@@ -25,21 +26,24 @@ unlike a b other =
 pub unlike_text : (a b : List ℕ) → bytes_eq a b ≡ false → a ≢ b
 unlike_text a b differ same = let alike : bytes_eq a b ≡ true = (bytes_eq-Decides a b).1 same in absurd (cc)
 
-pub none_alike : (name : List ℕ) (earlier : List (List ℕ)) → list_any (bytes_eq name) earlier ≡ false → All (λ e. e ≢ name) earlier
+pub none_alike : (name : List ℕ) (earlier : List (List ℕ)) → list_any (bytes_eq name) earlier ≡ false
+    → All (λ e. e ≢ name) earlier
 none_alike name earlier none k d below same =
     let alike : bytes_eq name (get_or earlier k d) ≡ true = (bytes_eq-Decides name (get_or earlier k d)).1 (sym same) in
     let some : list_any (bytes_eq name) earlier ≡ true = list_any_at (bytes_eq name) earlier k d below alike in
     absurd (cc)
 
 -- one predecessor more
-pub others_more : (own : List ℕ) (names : List (List ℕ)) (name : List ℕ) → AreOthers own names → name ≢ own → All (λ earlier. earlier ≢ name) names → AreOthers own (names ++ name ∷ [])
+pub others_more : (own : List ℕ) (names : List (List ℕ)) (name : List ℕ) → AreOthers own names
+    → name ≢ own → All (λ earlier. earlier ≢ name) names → AreOthers own (names ++ name ∷ [])
 others_more own names name others other new = record {
   other = All-push (λ n. n ≢ own) names name others.other other;
   once = all_pairs_push (λ n later. n ≢ later) names name others.once new;
 }
 
 -- a part that names a predecessor names another flight, and none of those before
-name_new : (own : List ℕ) (i : ℕ) (before : List (List ℕ)) (text name : List ℕ) → name_in own i before text ≡ Ok name → (name ≢ own) × All (λ earlier. earlier ≢ name) before
+name_new : (own : List ℕ) (i : ℕ) (before : List (List ℕ)) (text name : List ℕ) → name_in own i before text ≡ Ok name
+    → (name ≢ own) × All (λ earlier. earlier ≢ name) before
 name_new own i before text name e =
     elim (cases_Bool (is_callsign text)) [
       | inr none ↦ absurd (cc (rw none at e))
@@ -56,24 +60,32 @@ name_new own i before text name e =
     ]
 
 -- the predecessors that parts name are others
-pub names_given : (own : List ℕ) (i : ℕ) (before parts names : List (List ℕ)) → names_from own i before parts ≡ Ok names → AreOthers own before → AreOthers own names
+pub names_given : (own : List ℕ) (i : ℕ) (before parts names : List (List ℕ)) → names_from own i before parts ≡ Ok names
+    → AreOthers own before → AreOthers own names
 unfolding names_from
 names_given own i before [] names e h = let same : before ≡ names = cc in rw (← same) h
-names_given own i before (p ∷ ps) names e h = by (name_in own i before p) refl e (λ c. names_given own (i + 1) (before ++ c ∷ []) ps names)
+names_given own i before (p ∷ ps) names e h =
+    by (name_in own i before p) refl e (λ c. names_given own (i + 1) (before ++ c ∷ []) ps names)
   where
-    by : (r : Result (List ℕ) AfterCause) → name_in own i before p ≡ r → (r >>= (λ c. names_from own (i + 1) (before ++ c ∷ []) ps)) ≡ Ok names
-        → ((c : List ℕ) → names_from own (i + 1) (before ++ c ∷ []) ps ≡ Ok names → AreOthers own (before ++ c ∷ []) → AreOthers own names)
+    by : (r : Result (List ℕ) AfterCause) → name_in own i before p ≡ r
+        → (r >>= (λ c. names_from own (i + 1) (before ++ c ∷ []) ps)) ≡ Ok names
+        → ((c : List ℕ) → names_from own (i + 1) (before ++ c ∷ []) ps ≡ Ok names → AreOthers own (before ++ c ∷ [])
+        → AreOthers own names)
         → AreOthers own names
-    by (Ok c) named rest more = let new = name_new own i before p c named in more c rest (others_more own before c h new.0 new.1)
+    by (Ok c) named rest more = let new =
+        name_new own i before p c named in more c rest (others_more own before c h new.0 new.1)
     by (Err x) named rest more = absurd (cc rest)
 
 -- one flight more
-pub flights_more : (fs : List Flight) (f : Flight) → AreArrivals fs → IsArrival f → has_callsign fs f.callsign ≡ false → length fs < 500 → AreArrivals (fs ++ f ∷ [])
+pub flights_more : (fs : List Flight) (f : Flight) → AreArrivals fs → IsArrival f → has_callsign fs f.callsign ≡ false
+    → length fs < 500 → AreArrivals (fs ++ f ∷ [])
 flights_more fs f can here new room = record {
   few = omega (arith, length-append fs (f ∷ []));
   flights = All-push IsArrival fs f can.flights here;
   callsigns = all_pairs_push (λ g later. g.callsign ≢ later.callsign) fs f can.callsigns (λ k d below same.
-      let alike : bytes_eq (get_or fs k d).callsign f.callsign ≡ true = (bytes_eq-Decides (get_or fs k d).callsign f.callsign).1 same in
-      let some : has_callsign fs f.callsign ≡ true = list_any_at (λ g. bytes_eq g.callsign f.callsign) fs k d below alike in
+      let alike : bytes_eq (get_or fs k d).callsign f.callsign ≡ true =
+      (bytes_eq-Decides (get_or fs k d).callsign f.callsign).1 same in
+      let some : has_callsign fs f.callsign ≡ true =
+      list_any_at (λ g. bytes_eq g.callsign f.callsign) fs k d below alike in
       absurd (cc));
 }

@@ -1,5 +1,6 @@
 -- What the parts of a field are, one after the other.
-use Rattle.std.proofs.Common.{◌≡◌, ℕ, ◌+◌, ◌<◌, List, [], ◌∷◌, length, Ok, Err, Result, ◌++◌, append_assoc, arith, ap, sym, refl}
+use Rattle.std.proofs.Common.{◌≡◌, ℕ, ◌+◌, ◌<◌, List, [], ◌∷◌, length, Ok, Err, Result, ◌++◌, append_assoc, arith, ap}
+use Rattle.std.proofs.Common.{sym, refl}
 use Rattle.cps_base.specs.Answers.{◌>>=◌}
 use Rattle.flight_file.specs.Windows.{window_by, window_in, windows_from}
 use Rattle.std.specs.Prelude.{IsTrue}
@@ -19,16 +20,20 @@ too_many i a b [] h = absurd (omega (arith, h))
 too_many i a b (p ∷ ps) h = refl
 
 -- one more window, a part that is none, and the end
-front_more : {X E : Type 0} (front : List X) (x : X) (r : Result (List X) E) → with_front front (r >>= (λ xs. Ok (x ∷ xs))) ≡ with_front (front ++ x ∷ []) r
+front_more : {X E : Type 0} (front : List X) (x : X) (r : Result (List X) E)
+    → with_front front (r >>= (λ xs. Ok (x ∷ xs))) ≡ with_front (front ++ x ∷ []) r
 front_more front x (Ok xs) = ap Ok (sym (append_assoc front (x ∷ []) xs))
 front_more front x (Err e) = refl
 
-pub window_more : (i : ℕ) (front : List (ℕ × ℕ)) (p : List ℕ) (ps : List (List ℕ)) (w : ℕ × ℕ) → window_in i p ≡ Ok w → with_front front (windows_from i (p ∷ ps)) ≡ with_front (front ++ w ∷ []) (windows_from (i + 1) ps)
+pub window_more : (i : ℕ) (front : List (ℕ × ℕ)) (p : List ℕ) (ps : List (List ℕ)) (w : ℕ × ℕ)
+    → window_in i p ≡ Ok w → with_front front (windows_from i (p ∷ ps)) ≡ with_front (front ++ w ∷ [])
+    (windows_from (i + 1) ps)
 unfolding windows_from
 window_more i front p ps w e = rw e (front_more front w (windows_from (i + 1) ps))
 
 -- one window more of the two days
-pub days_more : (front : List (ℕ × ℕ)) (w : ℕ × ℕ) → IsTrue (list_all is_in_days front) → IsTrue (is_in_days w) → IsTrue (list_all is_in_days (front ++ w ∷ []))
+pub days_more : (front : List (ℕ × ℕ)) (w : ℕ × ℕ) → IsTrue (list_all is_in_days front) → IsTrue (is_in_days w)
+    → IsTrue (list_all is_in_days (front ++ w ∷ []))
 days_more [] w h here = rw here refl
 days_more (v ∷ front) w h here =
     let both = and_parts (is_in_days v) (list_all is_in_days front) h in

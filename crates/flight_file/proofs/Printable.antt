@@ -1,5 +1,6 @@
 -- Flights that a file can give, one by one: each keeps what its types keep, and its callsign is new.
-use Rattle.std.proofs.Common.{◌≡◌, ◌≢◌, ℕ, suc, ◌≤◌, List, [], ◌∷◌, ◌++◌, true, false, length, Ok, sym, arith, append_assoc, length-append}
+use Rattle.std.proofs.Common.{◌≡◌, ◌≢◌, ℕ, suc, ◌≤◌, List, [], ◌∷◌, ◌++◌, true, false, length, Ok, sym, arith}
+use Rattle.std.proofs.Common.{append_assoc, length-append}
 use Rattle.std.specs.Prelude.{⊤, All, AllPairs, bytes_eq}
 use Rattle.std.specs.List.{list_any}
 use Rattle.std.proofs.Math.ListN.{get_or-append}
@@ -21,7 +22,8 @@ AreInDays (w ∷ ws) = ((w.0 ≤ 172799) × (w.1 ≤ 172799)) × AreInDays ws
 abbrev pub AreNewNames : List ℕ → List (List ℕ) → List (List ℕ) → Type 0
 AreNewNames own before [] = ⊤
 AreNewNames own before (n ∷ names) =
-    ((is_callsign n ≡ true) × (bytes_eq n own ≡ false) × (list_any (bytes_eq n) before ≡ false)) × AreNewNames own (before ++ n ∷ []) names
+    ((is_callsign n ≡ true) × (bytes_eq n own ≡ false) × (list_any (bytes_eq n) before ≡ false))
+    × AreNewNames own (before ++ n ∷ []) names
 
 pub record IsPrintable (f : Flight) : Type 0 where
   pub callsign : is_callsign f.callsign ≡ true
@@ -34,7 +36,8 @@ pub record IsPrintable (f : Flight) : Type 0 where
 
 abbrev pub ArePrintable : List Flight → List Flight → Type 0
 ArePrintable before [] = ⊤
-ArePrintable before (f ∷ fs) = IsPrintable f × (has_callsign before f.callsign ≡ false) × ArePrintable (before ++ f ∷ []) fs
+ArePrintable before (f ∷ fs) = IsPrintable f × (has_callsign before f.callsign ≡ false)
+    × ArePrintable (before ++ f ∷ []) fs
 
 in_days : (ws : List (ℕ × ℕ)) → All (λ w. (w.0 ≤ w.1) × (w.1 ≤ 172799)) ws → AreInDays ws
 in_days [] h = tt
@@ -43,20 +46,24 @@ in_days (w ∷ ws) h =
     ((omega (arith, here), here.1), in_days ws (λ k d below. h (suc k) d (omega arith)))
 
 -- an element that differs from each later one differs from the one behind it
-apart : {X : Type 0} (key : X → List ℕ) (before : List X) (x : X) (xs : List X) → AllPairs (λ a b. key a ≢ key b) (before ++ x ∷ xs) → All (λ b. key b ≢ key x) before
+apart : {X : Type 0} (key : X → List ℕ) (before : List X) (x : X) (xs : List X)
+    → AllPairs (λ a b. key a ≢ key b) (before ++ x ∷ xs) → All (λ b. key b ≢ key x) before
 apart key before x xs pairs k d below =
     let differ = pairs k (length before) d below (omega (arith, length-append before (x ∷ xs))) in
     rw (get_or-append before (x ∷ xs) d k below, get_or-append_seam before x xs d) at differ
 
-new_names : (own : List ℕ) (before names : List (List ℕ)) → AreCallsigns names → All (λ name. name ≢ own) names → AllPairs (λ name later. name ≢ later) (before ++ names) → AreNewNames own before names
+new_names : (own : List ℕ) (before names : List (List ℕ)) → AreCallsigns names → All (λ name. name ≢ own) names
+    → AllPairs (λ name later. name ≢ later) (before ++ names) → AreNewNames own before names
 new_names own before [] calls differ pairs = tt
 new_names own before (n ∷ names) calls differ pairs = (
   (
     calls.0,
     unlike n own (differ 0 n (omega arith)),
-    list_any_none (bytes_eq n) before (λ k d below. unlike n _ (λ same. apart (λ name. name) before n names pairs k d below (sym same))),
+    list_any_none (bytes_eq n) before
+        (λ k d below. unlike n _ (λ same. apart (λ name. name) before n names pairs k d below (sym same))),
   ),
-  new_names own (before ++ n ∷ []) names calls.1 (λ k d below. differ (suc k) d (omega arith)) (rw (append_assoc before (n ∷ []) names) pairs),
+  new_names own (before ++ n ∷ []) names calls.1 (λ k d below. differ (suc k) d (omega arith))
+      (rw (append_assoc before (n ∷ []) names) pairs),
 )
 
 printable : (f : Flight) → IsArrival f → IsKept f → IsPrintable f
@@ -70,12 +77,15 @@ printable f can kept = record {
   few_after = kept.few;
 }
 
-all_printable : (before flights : List Flight) → All IsArrival flights → AreKept flights → AllPairs (λ f later. f.callsign ≢ later.callsign) (before ++ flights) → ArePrintable before flights
+all_printable : (before flights : List Flight) → All IsArrival flights → AreKept flights
+    → AllPairs (λ f later. f.callsign ≢ later.callsign) (before ++ flights) → ArePrintable before flights
 all_printable before [] can kept pairs = tt
 all_printable before (f ∷ flights) can kept pairs = (
   printable f (can 0 f (omega arith)) kept.0,
-  list_any_none (λ g. bytes_eq g.callsign f.callsign) before (λ k d below. unlike _ f.callsign (apart (λ g. g.callsign) before f flights pairs k d below)),
-  all_printable (before ++ f ∷ []) flights (λ k d below. can (suc k) d (omega arith)) kept.1 (rw (append_assoc before (f ∷ []) flights) pairs),
+  list_any_none (λ g. bytes_eq g.callsign f.callsign) before
+      (λ k d below. unlike _ f.callsign (apart (λ g. g.callsign) before f flights pairs k d below)),
+  all_printable (before ++ f ∷ []) flights (λ k d below. can (suc k) d (omega arith)) kept.1
+      (rw (append_assoc before (f ∷ []) flights) pairs),
 )
 
 pub are_printable : (flights : List Flight) → AreArrivals flights → AreKept flights → ArePrintable [] flights

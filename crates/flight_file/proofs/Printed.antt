@@ -1,5 +1,6 @@
 -- The plain spelling of flights reads as these flights.
-use Rattle.std.proofs.Common.{◌≡◌, ◌+◌, ◌<◌, ◌≤◌, List, [], ◌∷◌, ◌++◌, true, false, length, Ok, refl, sym, ap, ◌∙◌, arith, append_assoc, length-append}
+use Rattle.std.proofs.Common.{◌≡◌, ◌+◌, ◌<◌, ◌≤◌, List, [], ◌∷◌, ◌++◌, true, false, length, Ok, refl, sym, ap, ◌∙◌}
+use Rattle.std.proofs.Common.{arith, append_assoc, length-append}
 use Rattle.std.specs.Prelude.{map, decimal, nat_le}
 use Rattle.std.proofs.lemmas.Bool.Decides.{nat_tests}
 use Rattle.std.proofs.lemmas.Grind.{common_steps}
@@ -15,10 +16,13 @@ use Rattle.flight_file.specs.Printed.{header, flight_fields, flights_text, names
 use Rattle.arrivals.specs.Flights.{AreArrivals}
 use Rattle.flight_file.specs.Kept.{AreKept}
 use Rattle.flight_file.proofs.Printable.{IsPrintable, ArePrintable, are_printable}
-use Rattle.flight_file.proofs.PrintedFields.{number_read, category_read, high_letter, decimal_digits, high_digits, windows_text_read, high_windows_text, names_text_read, high_names_text, high_callsign}
+use Rattle.flight_file.proofs.PrintedFields.{number_read, category_read, high_letter, decimal_digits, high_digits}
+use Rattle.flight_file.proofs.PrintedFields.{windows_text_read, high_windows_text, names_text_read, high_names_text}
+use Rattle.flight_file.proofs.PrintedFields.{high_callsign}
 
 -- one record
-flight_read : (fs : List Flight) (f : Flight) → IsPrintable f → has_callsign fs f.callsign ≡ false → length fs < 500 → flight_in fs (flight_fields f) ≡ Ok f
+flight_read : (fs : List Flight) (f : Flight) → IsPrintable f → has_callsign fs f.callsign ≡ false
+    → length fs < 500 → flight_in fs (flight_fields f) ≡ Ok f
 unfolding flight_in flight_by
 flight_read fs f h other room =
     let count : nat_le 500 (length fs) ≡ false = grind (arith, nat_tests, common_steps) in
@@ -34,7 +38,8 @@ flight_read fs f h other room =
     ) refl
 
 -- the records behind the header
-rows_read : (fs gs : List Flight) → ArePrintable fs gs → length fs + length gs ≤ 500 → flights_in fs (map flight_fields gs) ≡ Ok (fs ++ gs)
+rows_read : (fs gs : List Flight) → ArePrintable fs gs → length fs + length gs ≤ 500
+    → flights_in fs (map flight_fields gs) ≡ Ok (fs ++ gs)
 unfolding flights_in
 rows_read fs [] h room = ap Ok (sym (append-nil fs))
 rows_read fs (g ∷ gs) h room =
@@ -80,5 +85,6 @@ unfolding flights_by
 read_printed fs can kept =
     let h : ArePrintable [] fs = are_printable fs can kept in
     let rows = header ∷ map flight_fields fs in
-    let read : records_of (plain_text rows) ≡ rows = records_of-plain rows (header_plain, rows_plain [] fs h) (no_mark (map flight_fields fs)) in
+    let read : records_of (plain_text rows) ≡ rows =
+    records_of-plain rows (header_plain, rows_plain [] fs h) (no_mark (map flight_fields fs)) in
     rw (read, header_read) (rows_read [] fs h (omega (arith, can.few)))

@@ -1,5 +1,6 @@
 -- Each printed field reads as what was printed.
-use Rattle.std.proofs.Common.{◌≡◌, ℕ, suc, ◌+◌, ◌<◌, ◌≤◌, List, [], ◌∷◌, ◌++◌, true, false, length, Ok, Err, Some, refl, sym, ap, ◌∙◌, arith, rules, append_assoc, length-append, inl, inr}
+use Rattle.std.proofs.Common.{◌≡◌, ℕ, suc, ◌+◌, ◌<◌, ◌≤◌, List, [], ◌∷◌, ◌++◌, true, false, length, Ok, Err, Some}
+use Rattle.std.proofs.Common.{refl, sym, ap, ◌∙◌, arith, rules, append_assoc, length-append, inl, inr}
 use Rattle.std.specs.Prelude.{◌==◌, ◌^◌, map, decimal, nat_lt}
 use Rattle.std.specs.List.{join_with_byte, list_all}
 use Rattle.std.specs.Char.{is_ascii_digit}
@@ -94,7 +95,8 @@ window_read i w a b =
     let last : AreDigits (decimal w.1) = decimal_digits w.1 (omega arith) in
     let cut : parts 45 (window_text w) ≡ decimal w.0 ∷ decimal w.1 ∷ [] =
     parts-before 45 (decimal w.0) (decimal w.1) (digits_without 45 (decimal w.0) (omega arith) first) refl
-    ∙ ap (λ (t : List (List ℕ)). decimal w.0 ∷ t) (parts-one 45 (decimal w.1) (digits_without 45 (decimal w.1) (omega arith) last)) in
+    ∙ ap (λ (t : List (List ℕ)). decimal w.0 ∷ t)
+    (parts-one 45 (decimal w.1) (digits_without 45 (decimal w.1) (omega arith) last)) in
     rw (cut, second_read i w.0 a, second_read i w.1 b) refl
 
 windows_read : (i : ℕ) (ws : List (ℕ × ℕ)) → AreInDays ws → windows_from i (map window_text ws) ≡ Ok ws
@@ -106,10 +108,14 @@ windows_without : (ws : List (ℕ × ℕ)) → AreInDays ws → AreWithout 59 (m
 windows_without [] h = tt
 windows_without (w ∷ ws) h =
     let first : AreDigits (decimal w.0) = decimal_digits w.0 (omega arith) in
-    let last : AreDigits (decimal w.1) = decimal_digits w.1 (omega arith) in
-    (IsWithout-append 59 (decimal w.0) (45 ∷ decimal w.1) (digits_without_top 59 (decimal w.0) (omega arith) first) (refl, digits_without_top 59 (decimal w.1) (omega arith) last), windows_without ws h.1)
+    let last : AreDigits (decimal w.1) = decimal_digits w.1 (omega arith) in (
+      IsWithout-append 59 (decimal w.0) (45 ∷ decimal w.1) (digits_without_top 59 (decimal w.0) (omega arith) first)
+          (refl, digits_without_top 59 (decimal w.1) (omega arith) last),
+      windows_without ws h.1,
+    )
 
-pub high_join : (p : List ℕ) (ps : List (List ℕ)) → AreHigh p → AreHigh (join_with_byte 59 ps) → AreHigh (join_with_byte 59 (p ∷ ps))
+pub high_join : (p : List ℕ) (ps : List (List ℕ)) → AreHigh p → AreHigh (join_with_byte 59 ps)
+    → AreHigh (join_with_byte 59 (p ∷ ps))
 high_join p [] h more = h
 high_join p (q ∷ ps) h more = AreHigh-append p (59 ∷ join_with_byte 59 (q ∷ ps)) h (omega arith, more)
 
@@ -118,7 +124,9 @@ high_windows [] h = tt
 high_windows (w ∷ ws) h =
     let first : AreDigits (decimal w.0) = decimal_digits w.0 (omega arith) in
     let last : AreDigits (decimal w.1) = decimal_digits w.1 (omega arith) in
-    high_join (window_text w) (map window_text ws) (AreHigh-append (decimal w.0) (45 ∷ decimal w.1) (high_digits _ first) (omega arith, high_digits _ last)) (high_windows ws h.1)
+    high_join (window_text w) (map window_text ws)
+    (AreHigh-append (decimal w.0) (45 ∷ decimal w.1) (high_digits _ first) (omega arith, high_digits _ last))
+    (high_windows ws h.1)
 
 -- a text that has a part with a byte has one
 join_some : (p : List ℕ) (ps : List (List ℕ)) → 0 < length p → 0 < length (join_with_byte 59 (p ∷ ps))
@@ -150,8 +158,10 @@ unfolding windows_in windows_of
 windows_in_read [] e h = absurd (cc e)
 windows_in_read (w ∷ ws) e h =
     let some = not_empty (windows_join (w ∷ ws)) (join_some (window_text w) (map window_text ws) (windows_some w)) in
-    let cut : parts 59 (windows_join (w ∷ ws)) ≡ map window_text (w ∷ ws) = parts-join 59 (window_text w) (map window_text ws) (windows_without (w ∷ ws) h) refl in
-    let few : nat_lt 4 (length (map window_text (w ∷ ws))) ≡ false = rw (length_windows (w ∷ ws)) (few_windows (w ∷ ws) e) in
+    let cut : parts 59 (windows_join (w ∷ ws)) ≡ map window_text (w ∷ ws) =
+    parts-join 59 (window_text w) (map window_text ws) (windows_without (w ∷ ws) h) refl in
+    let few : nat_lt 4 (length (map window_text (w ∷ ws))) ≡ false =
+    rw (length_windows (w ∷ ws)) (few_windows (w ∷ ws) e) in
     rw (some, cut, few, windows_read 1 (w ∷ ws) h, e) refl
 
 -- ---- names
@@ -179,36 +189,44 @@ callsign_some (b ∷ text) h = omega arith
 
 names_without : (me : List ℕ) (before names : List (List ℕ)) → AreNewNames me before names → AreWithout 59 names
 names_without me before [] h = tt
-names_without me before (n ∷ names) h = (letters_without n (and_parts _ _ h.0.0).1, names_without me (before ++ n ∷ []) names h.1)
+names_without me before (n ∷ names) h =
+    (letters_without n (and_parts _ _ h.0.0).1, names_without me (before ++ n ∷ []) names h.1)
 
 pub high_names : (me : List ℕ) (before names : List (List ℕ)) → AreNewNames me before names → AreHigh (names_join names)
 high_names me before [] h = tt
-high_names me before (n ∷ names) h = high_join n names (high_callsign n h.0.0) (high_names me (before ++ n ∷ []) names h.1)
+high_names me before (n ∷ names) h =
+    high_join n names (high_callsign n h.0.0) (high_names me (before ++ n ∷ []) names h.1)
 
-names_read : (me : List ℕ) (i : ℕ) (before names : List (List ℕ)) → AreNewNames me before names → names_from me i before names ≡ Ok (before ++ names)
+names_read : (me : List ℕ) (i : ℕ) (before names : List (List ℕ)) → AreNewNames me before names
+    → names_from me i before names ≡ Ok (before ++ names)
 unfolding names_from
 names_read me i before [] h = ap Ok (sym (append-nil before))
 names_read me i before (n ∷ names) h =
-    rw (h.0.0, h.0.1, h.0.2) (names_read me (i + 1) (before ++ n ∷ []) names h.1 ∙ ap Ok (append_assoc before (n ∷ []) names))
+    rw (h.0.0, h.0.1, h.0.2) (names_read me (i + 1) (before ++ n ∷ []) names h.1
+    ∙ ap Ok (append_assoc before (n ∷ []) names))
 
-pub names_in_read : (me : List ℕ) (names : List (List ℕ)) → AreNewNames me [] names → length names ≤ 4 → names_in me (names_join names) ≡ Ok names
+pub names_in_read : (me : List ℕ) (names : List (List ℕ)) → AreNewNames me [] names → length names ≤ 4
+    → names_in me (names_join names) ≡ Ok names
 unfolding names_in
 names_in_read me [] h few = refl
 names_in_read me (n ∷ names) h few =
     let some = not_empty (names_join (n ∷ names)) (join_some n names (callsign_some n h.0.0)) in
-    let cut : parts 59 (names_join (n ∷ names)) ≡ n ∷ names = parts-join 59 n names (names_without me [] (n ∷ names) h) refl in
+    let cut : parts 59 (names_join (n ∷ names)) ≡ n ∷ names =
+    parts-join 59 n names (names_without me [] (n ∷ names) h) refl in
     let count : nat_lt 4 (length (n ∷ names)) ≡ false = grind (arith, nat_tests, common_steps) in
     rw (some, cut, count) (names_read me 1 [] (n ∷ names) h)
 
 -- ---- as they are printed
 
-pub windows_text_read : (ws : List (ℕ × ℕ)) → windows_of ws ≡ Ok ws → AreInDays ws → windows_in (windows_text ws) ≡ Ok ws
+pub windows_text_read : (ws : List (ℕ × ℕ)) → windows_of ws ≡ Ok ws → AreInDays ws
+    → windows_in (windows_text ws) ≡ Ok ws
 windows_text_read ws e h = rw (windows_joined ws) (windows_in_read ws e h)
 
 pub high_windows_text : (ws : List (ℕ × ℕ)) → AreInDays ws → AreHigh (windows_text ws)
 high_windows_text ws h = rw (windows_joined ws) (high_windows ws h)
 
-pub names_text_read : (me : List ℕ) (names : List (List ℕ)) → AreNewNames me [] names → length names ≤ 4 → names_in me (names_text names) ≡ Ok names
+pub names_text_read : (me : List ℕ) (names : List (List ℕ)) → AreNewNames me [] names → length names ≤ 4
+    → names_in me (names_text names) ≡ Ok names
 names_text_read me names h few = rw (names_joined names) (names_in_read me names h few)
 
 pub high_names_text : (me : List ℕ) (names : List (List ℕ)) → AreNewNames me [] names → AreHigh (names_text names)

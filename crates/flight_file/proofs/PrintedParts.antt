@@ -20,13 +20,17 @@ not_last x xs = ne_eqb (length (x ∷ xs)) 0 (λ z. omega (arith, z))
 pub names_joined : (names : List (List ℕ)) → names_text names ≡ names_join names
 names_joined [] = refl
 names_joined (n ∷ []) = append-nil (n ++ []) ∙ append-nil n
-names_joined (n ∷ m ∷ ns) = rw (not_last m ns) (append_assoc n (59 ∷ []) (names_text (m ∷ ns)) ∙ ap (λ (t : List ℕ). n ++ (59 ∷ t)) (names_joined (m ∷ ns)))
+names_joined (n ∷ m ∷ ns) = rw (not_last m ns) (append_assoc n (59 ∷ []) (names_text (m ∷ ns))
+    ∙ ap (λ (t : List ℕ). n ++ (59 ∷ t)) (names_joined (m ∷ ns)))
 
 pub windows_joined : (ws : List (ℕ × ℕ)) → windows_text ws ≡ windows_join ws
 windows_joined [] = refl
 windows_joined (w ∷ []) = append-nil (window_text w ++ []) ∙ append-nil (window_text w)
-windows_joined (w ∷ v ∷ ws) = rw (not_last v ws) (append_assoc (window_text w) (59 ∷ []) (windows_text (v ∷ ws)) ∙ ap (λ (t : List ℕ). window_text w ++ (59 ∷ t)) (windows_joined (v ∷ ws)))
+windows_joined (w ∷ v ∷ ws) = rw (not_last v ws) (append_assoc (window_text w) (59 ∷ []) (windows_text (v ∷ ws))
+    ∙ ap (λ (t : List ℕ). window_text w ++ (59 ∷ t)) (windows_joined (v ∷ ws)))
 
 -- a line is its first four fields and then the others
-pub line_joined : (into : List ℕ) (f : Flight) → ((((into ++ head_text f) ++ windows_text f.windows) ++ 44 ∷ []) ++ names_text f.after) ++ 10 ∷ [] ≡ into ++ plain_line (flight_fields f)
+pub line_joined : (into : List ℕ) (f : Flight)
+    → ((((into ++ head_text f) ++ windows_text f.windows) ++ 44 ∷ []) ++ names_text f.after)
+    ++ 10 ∷ [] ≡ into ++ plain_line (flight_fields f)
 line_joined into f = simp append_assoc

@@ -10,7 +10,8 @@ use Rattle.flight_file.specs.declared.fault.FlightFault.{FlightFault}
 use Rattle.arrivals.specs.declared.flight.Flight.{Flight}
 use Rattle.flight_file.specs.Reading.{is_header, flight_in, added, flights_in, flights_by}
 
-wide_flight : (before : List Flight) (r : Fields) → nat_lt 6 (length r) ≡ true → flight_in before r ≡ Err cause.FieldCount
+wide_flight : (before : List Flight) (r : Fields) → nat_lt 6 (length r) ≡ true
+    → flight_in before r ≡ Err cause.FieldCount
 unfolding flight_in
 wide_flight before r wide = grind (arith, common_steps)
 
@@ -26,7 +27,8 @@ in_within before (r ∷ rs) = elim (cases_Bool (nat_lt 6 (length r))) [
   | inr few ↦ rw few (both (added before (flight_in before r)) (λ flights. in_within flights rs))
 ]
   where
-    both : (o : Result (List Flight) FlightFault) → ((flights : List Flight) → flights_in flights (within 6 rs) ≡ flights_in flights rs)
+    both : (o : Result (List Flight) FlightFault)
+        → ((flights : List Flight) → flights_in flights (within 6 rs) ≡ flights_in flights rs)
         → (o >>= (λ flights. flights_in flights (within 6 rs))) ≡ (o >>= (λ flights. flights_in flights rs))
     both (Ok flights) same = same flights
     both (Err e) same = refl

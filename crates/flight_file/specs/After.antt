@@ -1,5 +1,6 @@
 -- The predecessors that a field names, or its first fault.
-use Rattle.std.specs.Prelude.{ℕ, List, [], ◌∷◌, ◌++◌, not, ◌==◌, ◌+◌, nat_lt, length, bytes_eq, Result, Ok, Err, if◌then◌else◌}
+use Rattle.std.specs.Prelude.{ℕ, List, [], ◌∷◌, ◌++◌, not, ◌==◌, ◌+◌, nat_lt, length, bytes_eq, Result, Ok, Err}
+use Rattle.std.specs.Prelude.{if◌then◌else◌}
 use Rattle.std.specs.List.{list_any}
 use Rattle.cps_base.specs.Answers.{◌>>=◌}
 use Rattle.texts.specs.Parts.{parts}

@@ -30,7 +30,8 @@ header = codes "callsign" ∷ codes "category" ∷ codes "eta" ∷ codes "weight
 
 -- the six fields of a flight
 abbrev pub flight_fields : Flight → Fields
-flight_fields f = f.callsign ∷ (letter f.category ∷ []) ∷ decimal f.eta ∷ decimal f.weight ∷ windows_text f.windows ∷ names_text f.after ∷ []
+flight_fields f = f.callsign ∷ (letter f.category ∷ []) ∷ decimal f.eta ∷ decimal f.weight
+    ∷ windows_text f.windows ∷ names_text f.after ∷ []
 
 -- the first four of them, each with its comma
 abbrev pub head_text : Flight → List ℕ

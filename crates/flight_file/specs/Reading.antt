@@ -1,5 +1,6 @@
 -- The flights of a file, or the first fault of its first record that has one, over the records that `csv` reads.
-use Rattle.std.specs.Prelude.{ℕ, List, [], ◌∷◌, ◌++◌, Bool, not, ◌==◌, ◌&&◌, ◌+◌, nat_le, length, codes, bytes_eq, Option, Some, None, Result, Ok, Err, if◌then◌else◌}
+use Rattle.std.specs.Prelude.{ℕ, List, [], ◌∷◌, ◌++◌, Bool, not, ◌==◌, ◌&&◌, ◌+◌, nat_le, length, codes, bytes_eq}
+use Rattle.std.specs.Prelude.{Option, Some, None, Result, Ok, Err, if◌then◌else◌}
 use Rattle.std.specs.List.{list_any}
 use Rattle.cps_base.specs.Answers.{fault_as, ◌>>=◌}
 use Rattle.landing_rules.specs.Limits.{greatest_weight, most_flights}
@@ -20,7 +21,8 @@ use Rattle.flight_file.specs.After.{names_in}
 unfoldable pub is_header : Fields → Bool
 is_header r =
     (((((length r == 6 && bytes_eq (field r 0) (codes "callsign")) && bytes_eq (field r 1) (codes "category"))
-    && bytes_eq (field r 2) (codes "eta")) && bytes_eq (field r 3) (codes "weight")) && bytes_eq (field r 4) (codes "windows"))
+    && bytes_eq (field r 2) (codes "eta")) && bytes_eq (field r 3) (codes "weight"))
+    && bytes_eq (field r 4) (codes "windows"))
     && bytes_eq (field r 5) (codes "after")
 
 abbrev pub callsign_in : List ℕ → Result (List ℕ) FlightCause
@@ -44,7 +46,15 @@ flight_by before callsign category eta weight windows after = do
   names ← fault_as cause.After (names_in name after)
   if has_callsign before name then Err cause.Duplicate
       else if nat_le most_flights (length before) then Err cause.TooMany
-      else Ok (record { callsign = name; category = letter; eta = second; weight = worth; windows = spans; after = names })
+      else Ok (record {
+        callsign = name;
+        category = letter;
+        eta = second;
+        weight = worth;
+        windows =
+            spans;
+        after = names;
+      })
 
 -- the flight that a record is, behind the flights before it
 unfoldable pub flight_in : List Flight → Fields → Result Flight FlightCause

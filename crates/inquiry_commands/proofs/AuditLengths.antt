@@ -1,6 +1,8 @@
 -- How long the lines of all findings are.
-use Rattle.std.proofs.Common.{◌≡◌, ℕ, suc, ◌+◌, ◌*◌, ◌<◌, ◌≤◌, inl, inr, List, [], ◌∷◌, ◌++◌, length, map, filter, if◌then◌else◌, true, false, Bool, Option, Some, None, refl, sym, ap, subst, ◌∙◌, arith}
-use Rattle.std.specs.Prelude.{◌==◌, ⊤, All, MatchOption, ◌||◌, not, bytes_eq, codes, count_by, decimal, filter_map, find, flat_map, nat_lt, option_map, unwrap_or}
+use Rattle.std.proofs.Common.{◌≡◌, ℕ, suc, ◌+◌, ◌*◌, ◌<◌, ◌≤◌, inl, inr, List, [], ◌∷◌, ◌++◌, length, map, filter}
+use Rattle.std.proofs.Common.{if◌then◌else◌, true, false, Bool, Option, Some, None, refl, sym, ap, subst, ◌∙◌, arith}
+use Rattle.std.specs.Prelude.{◌==◌, ⊤, All, MatchOption, ◌||◌, not, bytes_eq, codes, count_by, decimal, filter_map}
+use Rattle.std.specs.Prelude.{find, flat_map, nat_lt, option_map, unwrap_or}
 use Rattle.std.proofs.Math.Nat.{mul-le-mul_left, mul-le-mul_right}
 use Rattle.std.proofs.lemmas.Bool.{cases_Bool}
 use Rattle.std.proofs.lemmas.Fmt.{length-decimal-le}
@@ -12,7 +14,13 @@ use Rattle.std.specs.List.{list_any}
 use Rattle.std.specs.Ordering.{is_lt}
 use Rattle.cps_base.specs.Text.{is_callsign}
 use Rattle.landing_rules.specs.declared.objective.Objective.{Objective}
-use Rattle.landing_rules.specs.Audit.{Block, Finding, Missing, Unknown, Twice, Order, Mark, Closed, Separation, Precedence, Moved, Early, Shift, OtherObjective, Value, are_apart, by_head, by_line, by_name, by_rules, closed, disordered, disordered_from, early, findings, for_failing, for_failing_pairs, has_line, is_before, is_kept, is_late_enough, is_marked, is_objective, landing_of, late, lines_found, listed_late, mismarked, missing, moved, or_else, other_objective, other_value, shifted, twice, twice_after, unknown, unseparated}
+use Rattle.landing_rules.specs.Audit.{Block, Finding, Missing, Unknown, Twice, Order, Mark, Closed, Separation}
+use Rattle.landing_rules.specs.Audit.{Precedence, Moved, Early, Shift, OtherObjective, Value, are_apart, by_head}
+use Rattle.landing_rules.specs.Audit.{by_line, by_name, by_rules, closed, disordered, disordered_from, early, findings}
+use Rattle.landing_rules.specs.Audit.{for_failing, for_failing_pairs, has_line, is_before, is_kept, is_late_enough}
+use Rattle.landing_rules.specs.Audit.{is_marked, is_objective, landing_of, late, lines_found, listed_late, mismarked}
+use Rattle.landing_rules.specs.Audit.{missing, moved, or_else, other_objective, other_value, shifted, twice}
+use Rattle.landing_rules.specs.Audit.{twice_after, unknown, unseparated}
 use Rattle.landing_rules.specs.Events.{named}
 use Rattle.landing_rules.specs.Flights.{Active, Callsign, Flight, Landing, Situation, horizon, landing}
 use Rattle.landing_rules.specs.Limits.{greatest_value, greatest_weight, most_flights}

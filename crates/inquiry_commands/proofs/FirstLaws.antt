@@ -17,19 +17,23 @@ use Rattle.openings.specs.Plan.{answer_of}
 use Rattle.inquiry_commands.specs.First.{FirstTextIsOneLaw, FirstCostsAsPlanLaw}
 
 opened_same : (a b : Aerodrome) (f g : List Flight) (s t : Situation) → a ≡ b → f ≡ g →
-    s ≡ opening_situation (opening_of a) (map flight_of f) → t ≡ opening_situation (opening_of b) (map flight_of g) → s ≡ t
-opened_same a b f g s t a_is f_is one other = one ∙ ap₂ (λ x y. opening_situation (opening_of x) (map flight_of y)) a_is f_is ∙ sym other
+    s ≡ opening_situation (opening_of a) (map flight_of f) → t ≡ opening_situation (opening_of b) (map flight_of g)
+    → s ≡ t
+opened_same a b f g s t a_is f_is one other =
+    one ∙ ap₂ (λ x y. opening_situation (opening_of x) (map flight_of y)) a_is f_is ∙ sym other
 
 pub text_is_one : FirstPlanIsOneLaw → FirstTextIsOneLaw
 text_is_one law a f text other answer another p q =
-    let aerodromes : p.aerodrome ≡ q.aerodrome = same_Some _ _ (ap result_ok (sym p.aerodrome_read ∙ q.aerodrome_read)) in
+    let aerodromes : p.aerodrome ≡ q.aerodrome =
+    same_Some _ _ (ap result_ok (sym p.aerodrome_read ∙ q.aerodrome_read)) in
     let flights : p.flights ≡ q.flights = same_Some _ _ (ap result_ok (sym p.flights_read ∙ q.flights_read)) in
     let s : p.shows.state.situation ≡ q.shows.state.situation =
     opened_same _ _ _ _ _ _ aerodromes flights p.shows.opened.opens.situation q.shows.opened.opens.situation in
     let plan : p.shows.block.plan ≡ q.shows.block.plan =
     law p.shows.state.situation p.shows.block.plan q.shows.block.plan p.shows.sound p.shows.block.first
     (subst (λ (x : Situation). IsFirstPlan x q.shows.block.plan) (sym s) q.shows.block.first) in (
-      p.shows.block.prints ∙ ap₂ (λ (x : Situation) (y : Option Schedule). lines_text (plan_lines (record { situation = x; plan = y }))) s plan
+      p.shows.block.prints ∙ ap₂ (λ (x : Situation) (y : Option Schedule). lines_text
+          (plan_lines (record { situation = x; plan = y }))) s plan
           ∙ sym q.shows.block.prints,
       p.shows.block.answers ∙ ap answer_of plan ∙ sym q.shows.block.answers,
     )
@@ -44,10 +48,12 @@ costs law s (Some t) (Some u) a b = ap Some (law s t u a b.0)
 
 pub costs_as_plan : FirstBestObjectiveLaw → FirstCostsAsPlanLaw
 costs_as_plan law a f text other answer another p q =
-    let aerodromes : p.aerodrome ≡ q.aerodrome = same_Some _ _ (ap result_ok (sym p.aerodrome_read ∙ q.aerodrome_read)) in
+    let aerodromes : p.aerodrome ≡ q.aerodrome =
+    same_Some _ _ (ap result_ok (sym p.aerodrome_read ∙ q.aerodrome_read)) in
     let flights : p.flights ≡ q.flights = same_Some _ _ (ap result_ok (sym p.flights_read ∙ q.flights_read)) in
     let s : q.shows.state.situation ≡ p.shows.state.situation =
-    opened_same _ _ _ _ _ _ (sym aerodromes) (sym flights) q.shows.opened.opens.situation p.shows.opened.opens.situation in
+    opened_same _ _ _ _ _ _ (sym aerodromes) (sym flights) q.shows.opened.opens.situation
+    p.shows.opened.opens.situation in
     costs law p.shows.state.situation p.shows.block.plan q.shows.state.plan p.shows.block.first
     (subst (λ (x : Situation). IsPlanShown x q.shows.state.plan) s q.shows.opened.opens.shown)
     ∙ ap (λ (x : Situation). option_map (objective x) q.shows.state.plan) (sym s)

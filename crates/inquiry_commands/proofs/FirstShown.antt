@@ -23,4 +23,5 @@ first_of_bytes (Ok report) a f aerodrome flights a_read f_read shows = record {
   flights_read = f_read;
   shows = shows;
 }
-first_of_bytes (Err ending) a f aerodrome flights a_read f_read stops = stops_plan a f aerodrome flights ending a_read f_read stops
+first_of_bytes (Err ending) a f aerodrome flights a_read f_read stops =
+    stops_plan a f aerodrome flights ending a_read f_read stops

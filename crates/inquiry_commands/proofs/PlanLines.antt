@@ -1,5 +1,6 @@
 -- The landing lines of a plan file are at most 500, and hold callsigns and seconds of the two days.
-use Rattle.std.proofs.Common.{◌≡◌, ℕ, ◌+◌, ◌≤◌, inl, inr, List, [], ◌∷◌, ◌++◌, length, true, Bool, arith, Option, Some, None, Result, Ok, Err, refl, ap, subst}
+use Rattle.std.proofs.Common.{◌≡◌, ℕ, ◌+◌, ◌≤◌, inl, inr, List, [], ◌∷◌, ◌++◌, length, true, Bool, arith, Option, Some}
+use Rattle.std.proofs.Common.{None, Result, Ok, Err, refl, ap, subst}
 use Rattle.std.specs.Prelude.{All, bytes_eq, codes, nat_lt, option_and_then, option_map, ◌==◌}
 use Rattle.std.specs.Result.{result_ok}
 use Rattle.std.proofs.lemmas.Bool.{cases_Bool}
@@ -17,7 +18,8 @@ use Rattle.plan_file.specs.declared.plan.PlanFault.{PlanFault}
 use Rattle.plan_file.specs.declared.plan.PlanText.{PlanText}
 use Rattle.plan_file.specs.declared.plan.PlanText.TheVariants as said
 use Rattle.plan_file.specs.Lines.{landing_by, landing_from, landing_in, landing_with, mark_in}
-use Rattle.plan_file.specs.Reading.{body_lines, line_in, lines_in, nothing_behind, or_fault, plan_behind, plan_by, plan_of, plan_with}
+use Rattle.plan_file.specs.Reading.{body_lines, line_in, lines_in, nothing_behind, or_fault, plan_behind, plan_by}
+use Rattle.plan_file.specs.Reading.{plan_of, plan_with}
 use Rattle.landing_rules.specs.declared.objective.Objective.{Objective}
 use Rattle.plan_file.specs.Lines.{head_in}
 use Rattle.texts.specs.Parts.{callsign_in, number_in, parts}
@@ -54,7 +56,8 @@ from_told callsign second mark l e =
     let c = bind_some _ (callsign_in callsign) l e in
     let t = bind_some _ (number_in second 0 last_second) l c.2 in
     let f = map_some (landing_with c.0 t.0) (mark_in mark) l t.2 in
-    let made : IsTold (landing_with c.0 t.0 f.0) = record { callsign = named callsign c.0 c.1; second = in_most second 0 last_second t.0 t.1 } in
+    let made : IsTold (landing_with c.0 t.0 f.0) =
+    record { callsign = named callsign c.0 c.1; second = in_most second 0 last_second t.0 t.1 } in
     subst IsTold f.1 made
 
 by_told : (fields : List (List ℕ)) (l : ShownLanding) → landing_by fields ≡ Some l → IsTold l

@@ -16,7 +16,8 @@ use Rattle.inquiry_commands.specs.TextLaws.{FirstIsBoundedLaw, WhatIfTextIsOneLa
 
 pub what_if_one : OutcomesAreOneLaw → WhatIfTextIsOneLaw
 what_if_one law a f t text other answer another x y =
-    let aerodromes : y.aerodrome ≡ x.aerodrome = same_Some _ _ (ap result_ok (sym y.aerodrome_read ∙ x.aerodrome_read)) in
+    let aerodromes : y.aerodrome ≡ x.aerodrome =
+    same_Some _ _ (ap result_ok (sym y.aerodrome_read ∙ x.aerodrome_read)) in
     let flights : y.flights ≡ x.flights = same_Some _ _ (ap result_ok (sym y.flights_read ∙ x.flights_read)) in
     let trials : y.trials ≡ x.trials = same_Some _ _ (ap result_ok (sym y.trials_read ∙ x.trials_read)) in
     let there = subst (λ (ts : List Trial). AreOutcomes x.aerodrome x.flights ts y.tried.outcomes) trials
@@ -29,7 +30,8 @@ pub first_short : BlockIsBoundedLaw → FirstPlanIsShownLaw → FirstIsBoundedLa
 first_short law shown a f text answer x =
     let s = x.shows.state.situation in
     let plan = x.shows.block.plan in
-    let block = law (record { situation = s; plan = plan }) (record { situation = x.shows.sound; shown = shown s plan x.shows.block.first }) in
+    let block = law (record { situation = s; plan = plan })
+    (record { situation = x.shows.sound; shown = shown s plan x.shows.block.first }) in
     let active = as_many x.aerodrome x.flights s x.shows.opened.opens.situation in
     let long = ap length x.shows.block.prints in
     subst (λ r. length text ≤ block_bound (count_in r)) (sym x.flights_read) (omega (arith, block, active, long))

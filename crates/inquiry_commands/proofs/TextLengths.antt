@@ -12,7 +12,8 @@ use Rattle.text_bounds.specs.Counts.{count_in, flight_count}
 use Rattle.text_bounds.specs.Trials.{outcomes_bound}
 use Rattle.openings.specs.shared.OpenedFlights.{as_many}
 use Rattle.inquiry_commands.specs.Audit.{audit_text, report}
-use Rattle.inquiry_commands.specs.TextLaws.{AuditIsBoundedLaw, WhatIfIsBoundedLaw, audit_bound, line_count, line_count_of}
+use Rattle.inquiry_commands.specs.TextLaws.{AuditIsBoundedLaw, WhatIfIsBoundedLaw, audit_bound, line_count}
+use Rattle.inquiry_commands.specs.TextLaws.{line_count_of}
 use Rattle.inquiry_commands.proofs.AuditLengths.{findings_short}
 use Rattle.inquiry_commands.proofs.PlanLines.{AreTold, plan_told}
 use Rattle.inquiry_commands.proofs.TrialLengths.{outcomes_short}
@@ -20,7 +21,8 @@ use Rattle.inquiry_commands.proofs.TrialLengths.{outcomes_short}
 pub what_if_short : WhatIfIsBoundedLaw
 what_if_short a f t text answer x =
     let tried = x.tried in
-    let lines = outcomes_short x.aerodrome x.flights tried.range tried.sound x.trials tried.outcomes tried.good tried.few tried.are in
+    let lines = outcomes_short x.aerodrome x.flights tried.range tried.sound x.trials tried.outcomes
+    tried.good tried.few tried.are in
     let long = ap length tried.prints in
     subst (λ r. length text ≤ outcomes_bound (count_in r)) (sym x.trials_read) (omega (arith, lines, long))
 

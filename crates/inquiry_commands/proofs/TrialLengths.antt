@@ -1,5 +1,6 @@
 -- How long the lines of outcomes are.
-use Rattle.std.proofs.Common.{◌≡◌, ℕ, ◌+◌, ◌*◌, ◌<◌, ◌≤◌, inl, inr, List, [], ◌∷◌, ◌++◌, length, Option, Some, None, refl, sym, ap, subst, arith}
+use Rattle.std.proofs.Common.{◌≡◌, ℕ, ◌+◌, ◌*◌, ◌<◌, ◌≤◌, inl, inr, List, [], ◌∷◌, ◌++◌, length, Option, Some, None}
+use Rattle.std.proofs.Common.{refl, sym, ap, subst, arith}
 use Rattle.std.specs.Prelude.{All, decimal, nat_lt, option_map}
 use Rattle.std.specs.List.{AllZip}
 use Rattle.std.proofs.lemmas.Bool.{cases_Bool}
@@ -22,7 +23,8 @@ use Rattle.whatif.specs.declared.outcome.TrialRefusal.{TrialRefusal}
 use Rattle.whatif.specs.declared.outcome.TrialRefusal.TheVariants as refused
 use Rattle.whatif.specs.declared.outcome.Outcome.{Outcome}
 use Rattle.whatif.specs.declared.outcome.Outcome.TheVariants.{Value, Infeasible, Refused}
-use Rattle.whatif.specs.Outcomes.{AreOutcomes, HasLeast, IsOutcomeBy, IsOutcomeOf, changed, closure_refusal, first_above, refusal, shift_refusal}
+use Rattle.whatif.specs.Outcomes.{AreOutcomes, HasLeast, IsOutcomeBy, IsOutcomeOf, changed, closure_refusal}
+use Rattle.whatif.specs.Outcomes.{first_above, refusal, shift_refusal}
 use Rattle.whatif.specs.Text.{cause_words, outcome_words, outcomes_text, trial_line, trial_lines}
 use Rattle.text_bounds.specs.Replays.{IsInDays}
 use Rattle.text_bounds.specs.Trials.{outcomes_bound}

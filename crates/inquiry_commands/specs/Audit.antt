@@ -24,7 +24,8 @@ use Rattle.endings.specs.Refusing.{refusal_of, refused_by_three, Stops}
 use Rattle.openings.specs.Follows.{FollowsAtOnce}
 
 abbrev pub RefusesAudit : List ℕ → List ℕ → List ℕ → FilesFault → Type 0
-RefusesAudit aerodrome flights plan cause = refused_by_three refusal.Plan (aerodrome_of aerodrome) (flights_of flights) (plan_of plan) ≡ Some cause
+RefusesAudit aerodrome flights plan cause =
+    refused_by_three refusal.Plan (aerodrome_of aerodrome) (flights_of flights) (plan_of plan) ≡ Some cause
 
 -- the lines of the findings, or that there is none
 abbrev pub report : List Finding → List ℕ
@@ -50,7 +51,8 @@ TellsClean s plans.Nothing text = ⊤
 TellsClean s (plans.Block b) text = (text ≡ line (codes "ok")) ↔ IsClean s (seen_block b)
 
 -- The files are taken, and the text is what is found of the plan in their opening situation, which is sound.
-pub record IsAudited (aerodrome : Aerodrome) (flights : List Flight) (plan : PlanText) (text : List ℕ) (answer : Answer) : Type 0 where
+pub record IsAudited (aerodrome : Aerodrome) (flights : List Flight) (plan : PlanText) (text : List ℕ)
+    (answer : Answer) : Type 0 where
   pub taken : refusal_of aerodrome flights ≡ None
   pub prints : text ≡ audit_text (opened aerodrome flights) plan
   pub answers : answer ≡ audit_answer (opened aerodrome flights) plan
@@ -69,7 +71,8 @@ pub record AdmitsAudit (aerodrome_bytes flight_bytes plan_bytes text : List ℕ)
 
 -- what `audit` does, with this ending
 abbrev pub FollowsAudit : List ℕ → List ℕ → List ℕ → SinkState → SinkState → Ending → Type 0
-FollowsAudit aerodrome flights plan = FollowsAtOnce (AdmitsAudit aerodrome flights plan) (RefusesAudit aerodrome flights plan)
+FollowsAudit aerodrome flights plan =
+    FollowsAtOnce (AdmitsAudit aerodrome flights plan) (RefusesAudit aerodrome flights plan)
 
 -- how `audit` may stop before it writes
 abbrev pub StopsAudit : List ℕ → List ℕ → List ℕ → Ending → Type 0

@@ -45,7 +45,8 @@ FollowsFirst aerodrome flights = FollowsAtOnce (AdmitsFirst aerodrome flights) (
 -- two texts that `first` may print for the same files are one, with one answer
 abbrev pub FirstTextIsOneLaw : Type 0
 FirstTextIsOneLaw = (aerodrome flights text other : List ℕ) (answer another : Answer)
-    → AdmitsFirst aerodrome flights text answer → AdmitsFirst aerodrome flights other another → (text ≡ other) × (answer ≡ another)
+    → AdmitsFirst aerodrome flights text answer → AdmitsFirst aerodrome flights other another
+    → (text ≡ other) × (answer ≡ another)
 
 -- and its plan costs what the plan that `plan` may print for them costs
 abbrev pub FirstCostsAsPlanLaw : Type 0

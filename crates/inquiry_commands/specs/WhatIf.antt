@@ -23,10 +23,11 @@ use Rattle.endings.specs.Refusing.{refusal_of, refused_by_three, Stops}
 use Rattle.openings.specs.Follows.{FollowsAtOnce}
 
 abbrev pub RefusesWhatIf : List ℕ → List ℕ → List ℕ → FilesFault → Type 0
-RefusesWhatIf aerodrome flights trials cause = refused_by_three refusal.Trials (aerodrome_of aerodrome) (flights_of flights) (trials_of trials) ≡ Some cause
+RefusesWhatIf aerodrome flights trials cause =
+    refused_by_three refusal.Trials (aerodrome_of aerodrome) (flights_of flights) (trials_of trials) ≡ Some cause
 
--- The files are taken, with their numbers in range and at most 16 trials, and open a sound situation. The text has a line for
--- the outcome as they are and for that of each trial.
+-- The files are taken, with their numbers in range and at most 16 trials, and open a sound situation. The text has a
+-- line for the outcome as they are and for that of each trial.
 pub record AreTried (aerodrome : Aerodrome) (flights : List Flight) (trials : List Trial) (text : List ℕ) : Type 0 where
   pub taken : refusal_of aerodrome flights ≡ None
   pub range : IsInRange aerodrome
@@ -50,7 +51,8 @@ pub record AdmitsWhatIf (aerodrome_bytes flight_bytes trial_bytes text : List �
 
 -- what `whatif` does, with this ending
 abbrev pub FollowsWhatIf : List ℕ → List ℕ → List ℕ → SinkState → SinkState → Ending → Type 0
-FollowsWhatIf aerodrome flights trials = FollowsAtOnce (AdmitsWhatIf aerodrome flights trials) (RefusesWhatIf aerodrome flights trials)
+FollowsWhatIf aerodrome flights trials =
+    FollowsAtOnce (AdmitsWhatIf aerodrome flights trials) (RefusesWhatIf aerodrome flights trials)
 
 -- how `whatif` may stop before it writes
 abbrev pub StopsWhatIf : List ℕ → List ℕ → List ℕ → Ending → Type 0

@@ -3,10 +3,13 @@ use Rattle.std.specs.Prelude.{◌≡◌, ℕ, ◌+◌, ◌<◌, ◌≤◌, List,
 use Rattle.std.specs.Fn.{Shared}
 use denote.Ref.{MutBor}
 
-module _ {F : Type 0} (g : Shared F (ℕ × (MutBor (List ℕ) × Unit {0})) ((Unit {0}) × (MutBor (List ℕ) × Unit {0}))) (f : F) (from to : ℕ) where
-  -- f may be called with the place at which a part begins, and with that part, wherever it lies between these two places
+module _ {F : Type 0} (g : Shared F (ℕ × (MutBor (List ℕ) × Unit {0})) ((Unit {0}) × (MutBor (List ℕ) × Unit {0})))
+    (f : F) (from to : ℕ) where
+  -- f may be called with the place at which a part begins, and with that part, wherever it lies between these two
+  -- places
   abbrev pub AcceptsParts : Type 0
-  AcceptsParts = (start : ℕ) (part : MutBor (List ℕ)) → from ≤ start → start + length part.now ≤ to → g.pre f (start, (part, tt))
+  AcceptsParts = (start : ℕ) (part : MutBor (List ℕ)) → from ≤ start → start + length part.now ≤ to
+      → g.pre f (start, (part, tt))
 
   -- a call of f with a part between these two places, which holds place i, leaves this number there
   pub record IsOfPart (i number : ℕ) : Type 0 where

@@ -1,25 +1,34 @@
 -- A clock event keeps the plan feasible.
-use Rattle.std.proofs.Common.{◌≡◌, ℕ, suc, ◌+◌, ◌-◌, ◌*◌, ◌<◌, ◌≤◌, ◌⊎◌, inl, inr, min, List, [], ◌∷◌, length, map, filter, cond, Bool, true, false, not, ◌&&◌, nat_le, nat_lt, count_by, unwrap_or, zero-le, arith, refl, sym, ap, ap₂, subst, ◌∙◌}
+use Rattle.std.proofs.Common.{◌≡◌, ℕ, suc, ◌+◌, ◌-◌, ◌*◌, ◌<◌, ◌≤◌, ◌⊎◌, inl, inr, min, List, [], ◌∷◌, length, map}
+use Rattle.std.proofs.Common.{filter, cond, Bool, true, false, not, ◌&&◌, nat_le, nat_lt, count_by, unwrap_or, zero-le}
+use Rattle.std.proofs.Common.{arith, refl, sym, ap, ap₂, subst, ◌∙◌}
 use Rattle.std.specs.Prelude.{All, IsTrue, Option, Some, None, is_none}
 use Rattle.std.proofs.lemmas.Bool.{cases_lt, cases_Bool, and_parts, lt-ltb, ltb-true, false≢true, false_from_ne_true}
 use Rattle.std.specs.Ordering.{is_lt, ordering_then, nat_cmp}
 use Rattle.wake_table.specs.Table.{separation}
 use Rattle.landing_rules.specs.declared.objective.Objective.{Objective}
 use Rattle.landing_rules.specs.declared.objective.Objective.TheVariants.{Makespan, Delay}
-use Rattle.landing_rules.specs.Flights.{Flight, Active, Situation, Schedule, Landing, landing, landings, is_waiting, waiting, horizon, horizon_after}
-use Rattle.landing_rules.specs.Rules.{last_second, is_open, lists, arrival_cmp, ArePairSeparated, IsPairInPrecedence, greatest, delay, cost, objective, IsFeasible}
-use Rattle.landing_rules.specs.Events.{Clock, frozen_landings, freezes, after_clock, clock_back, ClockBack, situation_after, IsPlanShown}
+use Rattle.landing_rules.specs.Flights.{Flight, Active, Situation, Schedule, Landing, landing, landings, is_waiting}
+use Rattle.landing_rules.specs.Flights.{waiting, horizon, horizon_after}
+use Rattle.landing_rules.specs.Rules.{last_second, is_open, lists, arrival_cmp, ArePairSeparated, IsPairInPrecedence}
+use Rattle.landing_rules.specs.Rules.{greatest, delay, cost, objective, IsFeasible}
+use Rattle.landing_rules.specs.Events.{Clock, frozen_landings, freezes, after_clock, clock_back, ClockBack}
+use Rattle.landing_rules.specs.Events.{situation_after, IsPlanShown}
 use Rattle.landing_rules.specs.Sound.{IsGoodFlight, ListsNone, IsSound}
 use Rattle.cps_theory.specs.RankLists.{In, numbers_from}
 use Rattle.cps_theory.specs.Freeze.{rank_in, place_in, staying_of, overtook}
 use Rattle.cps_theory.specs.NumberedSituation as numbers
 use Rattle.cps_theory.specs.laws.Members.{in_filter, filter_in}
 use Rattle.cps_theory.specs.laws.ShiftAfterFreeze.{stays_shifted}
-use Rattle.landing_joint.specs.Numbered.{nobody, numbered, second_of, numbers_of, waits_at, comes_before, numbered_situation}
+use Rattle.landing_joint.specs.Numbered.{nobody, numbered, second_of, numbers_of, waits_at, comes_before}
+use Rattle.landing_joint.specs.Numbered.{numbered_situation}
 use Rattle.landing_joint.specs.ClockLaws.{ClockKeepsPlanLaw, ClockShowsPlanLaw, ClockKeepsSoundLaw}
 use Rattle.landing_joint.proofs.Numbered.{landing_at, landings_are}
-use Rattle.landing_joint.proofs.Joint.{comes_is, among, all_among, feasible_numbered, numbered_feasible, sound_numbered, first_come, some_of, active_are, list_frozen, callsigns_differ, passed_low}
-use Rattle.cps_theory.specs.laws.NumberedLists.{count_by_map, count_by_agree, map_map, filter_map_is, at_all, in_numbers, numbers_in}
+use Rattle.landing_joint.proofs.Joint.{comes_is, among, all_among, feasible_numbered, numbered_feasible}
+use Rattle.landing_joint.proofs.Joint.{sound_numbered, first_come, some_of, active_are, list_frozen, callsigns_differ}
+use Rattle.landing_joint.proofs.Joint.{passed_low}
+use Rattle.cps_theory.specs.laws.NumberedLists.{count_by_map, count_by_agree, map_map, filter_map_is, at_all}
+use Rattle.cps_theory.specs.laws.NumberedLists.{in_numbers, numbers_in}
 use Rattle.std.proofs.lemmas.List.{length-map, get_or_default}
 use Rattle.landing_joint.specs.shared.FirstBestLists.{numbers_get, numbers_long}
 use Rattle.landing_joint.specs.shared.BestLists.{sum_map}
@@ -34,9 +43,11 @@ filter_agree p q (x ∷ xs) h = ap₂ (λ b l. cond b (x ∷ l) l) (h x (inl ref
 
 filter_twice : (p q : ℕ → Bool) (xs : List ℕ) → filter p (filter q xs) ≡ filter (λ x. q x && p x) xs
 filter_twice p q [] = refl
-filter_twice p q (x ∷ xs) = elim (cases_Bool (q x)) [ inl e ↦ rw (e, filter_twice p q xs) | inr e ↦ rw (e, filter_twice p q xs) ]
+filter_twice p q (x ∷ xs) =
+    elim (cases_Bool (q x)) [ inl e ↦ rw (e, filter_twice p q xs) | inr e ↦ rw (e, filter_twice p q xs) ]
 
--- what the clock makes of a landing: of its flight, its second, how many passed it before and after, whether it is before the horizon, and whether counts are carried
+-- what the clock makes of a landing: of its flight, its second, how many passed it before and after, whether it is
+-- before the horizon, and whether counts are carried
 pub record Froze (fl : Flight) (fr : Option ℕ) (pa sec m : ℕ) (d c : Bool) (a : Active) : Type 0 where
   pub flight : a.flight ≡ fl
   pub waits : is_none a.frozen ≡ (is_none fr && not d)
@@ -45,13 +56,49 @@ pub record Froze (fl : Flight) (fr : Option ℕ) (pa sec m : ℕ) (d c : Bool) (
   pub passed : (a.passed ≡ pa) ⊎ ((a.passed ≡ 0) ⊎ ((c ≡ true) × (a.passed ≡ m)))
   pub counted : c ≡ true → is_none fr ≡ true → d ≡ false → a.passed ≡ m
 
-froze : (fl : Flight) (fr : Option ℕ) (pa sec m : ℕ) (d c : Bool) → Froze fl fr pa sec m d c (cond (is_none fr && d) (record { flight = fl; frozen = Some sec; passed = 0 }) (cond (is_none fr) (record { flight = fl; frozen = None; passed = cond c m pa }) (record { flight = fl; frozen = fr; passed = pa })))
-froze fl (Some v) pa sec m d c = record { flight = refl; waits = refl; second = λ e x. absurd (false≢true x); was = λ e. refl; passed = inl refl; counted = λ q x e. absurd (false≢true x) }
-froze fl None pa sec m true c = record { flight = refl; waits = refl; second = λ e x. refl; was = λ e. absurd (false≢true (sym e)); passed = inr (inl refl); counted = λ q x e. absurd (false≢true (sym e)) }
-froze fl None pa sec m false true = record { flight = refl; waits = refl; second = λ e x. absurd (false≢true (sym e)); was = λ e. refl; passed = inr (inr (refl, refl)); counted = λ q x e. refl }
-froze fl None pa sec m false false = record { flight = refl; waits = refl; second = λ e x. absurd (false≢true (sym e)); was = λ e. refl; passed = inl refl; counted = λ q x e. absurd (false≢true q) }
+froze : (fl : Flight) (fr : Option ℕ) (pa sec m : ℕ) (d c : Bool)
+    → Froze fl fr pa sec m d c (cond (is_none fr && d) (record { flight = fl; frozen = Some sec; passed = 0 })
+    (cond (is_none fr) (record { flight = fl; frozen = None; passed = cond c m pa })
+    (record { flight = fl; frozen = fr; passed = pa })))
+froze fl (Some v) pa sec m d c = record {
+  flight = refl;
+  waits = refl;
+  second = λ e x. absurd (false≢true x);
+  was =
+      λ e. refl;
+  passed = inl refl;
+  counted = λ q x e. absurd (false≢true x);
+}
+froze fl None pa sec m true c = record {
+  flight = refl;
+  waits = refl;
+  second = λ e x. refl;
+  was =
+      λ e. absurd (false≢true (sym e));
+  passed = inr (inl refl);
+  counted = λ q x e. absurd (false≢true (sym e));
+}
+froze fl None pa sec m false true = record {
+  flight = refl;
+  waits = refl;
+  second =
+      λ e x. absurd (false≢true (sym e));
+  was = λ e. refl;
+  passed = inr (inr (refl, refl));
+  counted = λ q x e. refl;
+}
+froze fl None pa sec m false false = record {
+  flight = refl;
+  waits = refl;
+  second =
+      λ e x. absurd (false≢true (sym e));
+  was = λ e. refl;
+  passed = inl refl;
+  counted = λ q x e. absurd (false≢true q);
+}
 
-module _ (s : Situation) (sound : IsSound s) (t : Schedule) (f : IsFeasible s t) (now : ℕ) (forth : horizon s ≤ now + s.aerodrome.freeze) where
+module _ (s : Situation) (sound : IsSound s) (t : Schedule) (f : IsFeasible s t) (now : ℕ)
+    (forth : horizon s ≤ now + s.aerodrome.freeze) where
   abbrev h : ℕ
   h = now + s.aerodrome.freeze
 
@@ -68,46 +115,66 @@ module _ (s : Situation) (sound : IsSound s) (t : Schedule) (f : IsFeasible s t)
   ns = numbered_situation s
 
   after_is : after ≡ map (λ i. after_clock s.aerodrome h all (landing_at s.active t i)) (numbers_of s.active)
-  after_is = ap (map (after_clock s.aerodrome h all)) (landings_are s.active t f.0) ∙ map_map (after_clock s.aerodrome h all) (landing_at s.active t) (numbers_of s.active)
+  after_is = ap (map (after_clock s.aerodrome h all)) (landings_are s.active t f.0)
+      ∙ map_map (after_clock s.aerodrome h all) (landing_at s.active t) (numbers_of s.active)
 
   pub length_after : length after ≡ length s.active
-  length_after = ap length after_is ∙ numbers_long (λ i. after_clock s.aerodrome h all (landing_at s.active t i)) 0 (length s.active)
+  length_after = ap length after_is ∙ numbers_long (λ i. after_clock s.aerodrome h all (landing_at s.active t i)) 0
+      (length s.active)
 
   -- so the numbers stay
   pub numbers_after : numbers_of after ≡ numbers_of s.active
   numbers_after = ap (numbers_from 0) length_after
 
   abbrev count_passing : ℕ → ℕ
-  count_passing i = count_by (λ (g : Landing). is_lt (arrival_cmp (numbered s.active i).flight g.flight)) (filter (freezes h) all)
+  count_passing i = count_by (λ (g : Landing). is_lt (arrival_cmp (numbered s.active i).flight g.flight))
+      (filter (freezes h) all)
 
-  pub at_after : (i : ℕ) → In i (numbers_of s.active) → Froze (numbered s.active i).flight (numbered s.active i).frozen (numbered s.active i).passed (second_of t i) (min s.aerodrome.k ((numbered s.active i).passed + count_passing i)) (nat_lt (second_of t i) h) s.aerodrome.carry (numbered after i)
+  pub at_after : (i : ℕ) → In i (numbers_of s.active)
+      → Froze (numbered s.active i).flight (numbered s.active i).frozen (numbered s.active i).passed
+      (second_of t i) (min s.aerodrome.k ((numbered s.active i).passed + count_passing i))
+      (nat_lt (second_of t i) h) s.aerodrome.carry (numbered after i)
   at_after i m =
       let b = in_numbers 0 (length s.active) i m in
       let e : numbered after i ≡ after_clock s.aerodrome h all (landing_at s.active t i) =
-      ap (λ l. numbered l i) after_is ∙ numbers_get (λ j. after_clock s.aerodrome h all (landing_at s.active t j)) nobody 0 (length s.active) i (omega (arith, b.1)) ∙ ap (λ j. after_clock s.aerodrome h all (landing_at s.active t j)) (omega arith) in
-      subst (λ a. Froze (numbered s.active i).flight (numbered s.active i).frozen (numbered s.active i).passed (second_of t i) (min s.aerodrome.k ((numbered s.active i).passed + count_passing i)) (nat_lt (second_of t i) h) s.aerodrome.carry a) (sym e)
-      (froze (numbered s.active i).flight (numbered s.active i).frozen (numbered s.active i).passed (second_of t i) (min s.aerodrome.k ((numbered s.active i).passed + count_passing i)) (nat_lt (second_of t i) h) s.aerodrome.carry)
+      ap (λ l. numbered l i) after_is
+      ∙ numbers_get (λ j. after_clock s.aerodrome h all (landing_at s.active t j)) nobody 0
+      (length s.active) i (omega (arith, b.1)) ∙ ap (λ j. after_clock s.aerodrome h all (landing_at s.active t j))
+      (omega arith) in
+      subst (λ a. Froze (numbered s.active i).flight (numbered s.active i).frozen (numbered s.active i).passed
+      (second_of t i) (min s.aerodrome.k ((numbered s.active i).passed + count_passing i))
+      (nat_lt (second_of t i) h) s.aerodrome.carry a) (sym e)
+      (froze (numbered s.active i).flight (numbered s.active i).frozen (numbered s.active i).passed
+      (second_of t i) (min s.aerodrome.k ((numbered s.active i).passed + count_passing i))
+      (nat_lt (second_of t i) h) s.aerodrome.carry)
 
   -- those that wait after it are those that stay
-  waits_after : (i : ℕ) → In i (numbers_of s.active) → waits_at after i ≡ (waits_at s.active i && not (nat_lt (second_of t i) h))
+  waits_after : (i : ℕ) → In i (numbers_of s.active)
+      → waits_at after i ≡ (waits_at s.active i && not (nat_lt (second_of t i) h))
   waits_after i m = (at_after i m).waits
 
   pub waiting_after : (numbered_situation changed).waiting ≡ staying_of (second_of t) h ns.waiting
   waiting_after =
-      ap (filter (waits_at after)) numbers_after ∙ filter_agree (waits_at after) (λ i. waits_at s.active i && not (nat_lt (second_of t i) h)) (numbers_of s.active) waits_after
+      ap (filter (waits_at after)) numbers_after ∙ filter_agree (waits_at after) (λ i. waits_at s.active i
+      && not (nat_lt (second_of t i) h)) (numbers_of s.active) waits_after
       ∙ sym (filter_twice (λ i. not (nat_lt (second_of t i) h)) (waits_at s.active) (numbers_of s.active))
 
   -- as many pass a flight as overtake it by number
-  pub passing_is : (i : ℕ) → In i (numbers_of s.active) → count_passing i ≡ overtook (comes_before s.active) (second_of t) h ns.waiting i
+  pub passing_is : (i : ℕ) → In i (numbers_of s.active)
+      → count_passing i ≡ overtook (comes_before s.active) (second_of t) h ns.waiting i
   passing_is i m =
       let fl = (numbered s.active i).flight in
       let L = landing_at s.active t in
       let N = numbers_of s.active in
       let front = filter (λ j. waits_at s.active j && nat_lt (second_of t j) h) N in
-      let a : filter (freezes h) all ≡ map L front = ap (filter (freezes h)) (landings_are s.active t f.0) ∙ filter_map_is (freezes h) L N in
-      ap (count_by (λ (g : Landing). is_lt (arrival_cmp fl g.flight))) a ∙ count_by_map (λ (g : Landing). is_lt (arrival_cmp fl g.flight)) L front
-      ∙ count_by_agree (λ j. is_lt (arrival_cmp fl (numbered s.active j).flight)) (λ j. comes_before s.active i j) front (λ j k. sym (comes_is s sound i j m (in_filter (λ x. waits_at s.active x && nat_lt (second_of t x) h) j N k).0))
-      ∙ ap (count_by (λ j. comes_before s.active i j)) (sym (filter_twice (λ j. nat_lt (second_of t j) h) (waits_at s.active) N))
+      let a : filter (freezes h) all ≡ map L front = ap (filter (freezes h)) (landings_are s.active t f.0)
+      ∙ filter_map_is (freezes h) L N in
+      ap (count_by (λ (g : Landing). is_lt (arrival_cmp fl g.flight))) a
+      ∙ count_by_map (λ (g : Landing). is_lt (arrival_cmp fl g.flight)) L front
+      ∙ count_by_agree (λ j. is_lt (arrival_cmp fl (numbered s.active j).flight)) (λ j. comes_before s.active i j) front
+      (λ j k. sym (comes_is s sound i j m (in_filter (λ x. waits_at s.active x && nat_lt (second_of t x) h) j N k).0))
+      ∙ ap (count_by (λ j. comes_before s.active i j))
+      (sym (filter_twice (λ j. nat_lt (second_of t j) h) (waits_at s.active) N))
 
   -- ---- the situation stays sound
 
@@ -121,11 +188,13 @@ module _ (s : Situation) (sound : IsSound s) (t : Schedule) (f : IsFeasible s t)
   in_after i lt = let e = length_after in numbers_in 0 (length s.active) i zero-le (omega arith)
 
   -- what is frozen after it is frozen at its second of the plan, before the horizon
-  frozen_after : (i : ℕ) → In i (numbers_of s.active) → (u : ℕ) → (numbered after i).frozen ≡ Some u → (u ≡ second_of t i) × (second_of t i < h)
+  frozen_after : (i : ℕ) → In i (numbers_of s.active) → (u : ℕ) → (numbered after i).frozen ≡ Some u
+      → (u ≡ second_of t i) × (second_of t i < h)
   frozen_after i m u e = elim (cases_Bool (is_none (numbered s.active i).frozen)) [
     | inl w ↦
         (let gone : is_none (numbered after i).frozen ≡ false = ap is_none e in
-        let lt : nat_lt (second_of t i) h ≡ true = early (is_none (numbered s.active i).frozen) (nat_lt (second_of t i) h) w (sym gone ∙ (at_after i m).waits) in
+        let lt : nat_lt (second_of t i) h ≡ true = early (is_none (numbered s.active i).frozen)
+        (nat_lt (second_of t i) h) w (sym gone ∙ (at_after i m).waits) in
         (some_same u (second_of t i) (sym e ∙ (at_after i m).second gone w), ltb-true (second_of t i) h lt))
     | inr w ↦
         (let o : (numbered s.active i).frozen ≡ Some u = sym ((at_after i m).was w) ∙ e in
@@ -144,21 +213,32 @@ module _ (s : Situation) (sound : IsSound s) (t : Schedule) (f : IsFeasible s t)
       early true false p q = q
       early false b p q = absurd (false≢true p)
 
-  pub late_after : (i : ℕ) → In i (numbered_situation changed).waiting → In i (numbers_of s.active) × (waits_at s.active i ≡ true) × (h ≤ second_of t i)
+  pub late_after : (i : ℕ) → In i (numbered_situation changed).waiting → In i (numbers_of s.active)
+      × (waits_at s.active i ≡ true) × (h ≤ second_of t i)
   late_after i m =
       let w = in_filter (λ x. not (nat_lt (second_of t x) h)) i ns.waiting (subst (In i) waiting_after m) in
-      let v = in_filter (waits_at s.active) i (numbers_of s.active) w.0 in
-      (v.0, v.1, elim (cases_lt (second_of t i) h) [ inl lt ↦ absurd (false≢true (sym (ap not (lt-ltb (second_of t i) h lt)) ∙ w.1)) | inr le ↦ le ])
+      let v = in_filter (waits_at s.active) i (numbers_of s.active) w.0 in (
+        v.0,
+        v.1,
+        elim (cases_lt (second_of t i) h) [
+          | inl lt ↦ absurd
+              (false≢true (sym (ap not (lt-ltb (second_of t i) h lt)) ∙ w.1))
+          | inr le ↦ le
+        ],
+      )
 
   pub waiting_changed : waiting changed ≡ map (numbered after) (numbered_situation changed).waiting
-  waiting_changed = ap (filter is_waiting) (active_are after) ∙ filter_map_is is_waiting (numbered after) (numbers_of after)
+  waiting_changed = ap (filter is_waiting) (active_are after)
+      ∙ filter_map_is is_waiting (numbered after) (numbers_of after)
 
   pub waiting_before : waiting s ≡ map (numbered s.active) ns.waiting
-  waiting_before = ap (filter is_waiting) (active_are s.active) ∙ filter_map_is is_waiting (numbered s.active) (numbers_of s.active)
+  waiting_before = ap (filter is_waiting) (active_are s.active)
+      ∙ filter_map_is is_waiting (numbered s.active) (numbers_of s.active)
 
   pub few_after : length (waiting changed) ≤ length (waiting s)
   few_after =
-      let a = ap length waiting_changed ∙ length-map (numbered_situation changed).waiting (numbered after) ∙ ap length waiting_after in
+      let a = ap length waiting_changed ∙ length-map (numbered_situation changed).waiting (numbered after)
+      ∙ ap length waiting_after in
       let b = ap length waiting_before ∙ length-map ns.waiting (numbered s.active) in
       let c = fewer_kept (λ x. not (nat_lt (second_of t x) h)) ns.waiting in
       omega arith
@@ -166,8 +246,10 @@ module _ (s : Situation) (sound : IsSound s) (t : Schedule) (f : IsFeasible s t)
   each_after : (P : Active → Type 0) → ((i : ℕ) → In i (numbers_of s.active) → P (numbered after i)) → All P after
   each_after P q i d lt = subst P (get_or_default after i nobody d lt) (q i (in_after i lt))
 
-  each_frozen_after : (P : Landing → Type 0) → ((i : ℕ) → In i (numbers_of s.active) → second_of t i < h → P (landing (numbered after i) (second_of t i))) → All P (frozen_landings changed)
-  each_frozen_after P q = list_frozen P after (λ i lt u e. let m = in_after i lt in let x = frozen_after i m u e in subst (λ v. P (landing (numbered after i) v)) (sym x.0) (q i m x.1))
+  each_frozen_after : (P : Landing → Type 0) → ((i : ℕ) → In i (numbers_of s.active) → second_of t i < h
+      → P (landing (numbered after i) (second_of t i))) → All P (frozen_landings changed)
+  each_frozen_after P q = list_frozen P after (λ i lt u e. let m = in_after i lt in let x =
+      frozen_after i m u e in subst (λ v. P (landing (numbered after i) v)) (sym x.0) (q i m x.1))
 
   pub sound_after : IsSound changed
   sound_after = record {
@@ -178,30 +260,58 @@ module _ (s : Situation) (sound : IsSound s) (t : Schedule) (f : IsFeasible s t)
         let ei = get_or_default after i d nobody (omega arith) in
         let ej = get_or_default after j d nobody ltj in
         callsigns_differ s sound i j mi mj (λ x. omega arith)
-        (ap (λ (x : Flight). x.callsign) (sym (same_flight i mi)) ∙ ap (λ (a : Active). a.flight.callsign) (sym ei) ∙ e ∙ ap (λ (a : Active). a.flight.callsign) ej ∙ ap (λ (x : Flight). x.callsign) (same_flight j mj));
+        (ap (λ (x : Flight). x.callsign) (sym (same_flight i mi)) ∙ ap (λ (a : Active). a.flight.callsign) (sym ei)
+        ∙ e ∙ ap (λ (a : Active). a.flight.callsign) ej ∙ ap (λ (x : Flight). x.callsign) (same_flight j mj));
     few_active = let a = sound.few_active in let b = length_after in omega arith;
     few_waiting = let a = sound.few_waiting in let b = few_after in omega arith;
     few_closures = sound.few_closures;
-    flights = each_after (λ a. IsGoodFlight a.flight) (λ i m. let b = in_numbers 0 (length s.active) i m in subst IsGoodFlight (sym (same_flight i m)) (sound.flights i nobody (omega (arith, b.1))));
-    passed = each_after (λ a. a.passed ≤ s.aerodrome.k) (λ i m. let o = passed_low s sound t f.0 i m in elim (at_after i m).passed [ inl e ↦ omega arith | inr x ↦ elim x [ inl e ↦ omega arith | inr y ↦ (let e = y.1 in omega arith) ] ]);
+    flights = each_after (λ a. IsGoodFlight a.flight) (λ i m. let b = in_numbers 0 (length s.active) i m in
+        subst IsGoodFlight (sym (same_flight i m)) (sound.flights i nobody (omega (arith, b.1))));
+    passed = each_after (λ a. a.passed ≤ s.aerodrome.k) (λ i m. let o = passed_low s sound t f.0 i m in
+        elim (at_after i m).passed [
+          | inl e ↦ omega arith
+          | inr x ↦ elim x [
+            | inl e ↦ omega arith
+            | inr y ↦
+                (let e = y.1 in omega arith)
+          ]
+        ]);
     no_carry = λ c. each_after (λ a. a.passed ≡ 0) (λ i m.
         let b = in_numbers 0 (length s.active) i m in
         let o : (numbered s.active i).passed ≡ 0 = sound.no_carry c i nobody (omega (arith, b.1)) in
-        elim (at_after i m).passed [ inl e ↦ e ∙ o | inr x ↦ elim x [ inl e ↦ e | inr y ↦ absurd (false≢true (sym c ∙ y.0)) ] ]);
+        elim (at_after i m).passed [
+          | inl e ↦ e
+              ∙ o
+          | inr x ↦ elim x [ inl e ↦ e | inr y ↦ absurd (false≢true (sym c ∙ y.0)) ]
+        ]);
     frozen_open = each_frozen_after (λ g. IsTrue (is_open g.flight.windows s.closures g.second)) (λ i m lt.
-        subst (λ (x : Flight). is_open x.windows s.closures (second_of t i) ≡ true) (sym (same_flight i m)) (and_parts (nat_le (second_of t i) last_second) (is_open (numbered s.active i).flight.windows s.closures (second_of t i)) (fn.opened i (all_among s sound i m))).1);
-    frozen_separated = each_frozen_after (λ g. All (ArePairSeparated s.aerodrome.table g) (frozen_landings changed)) (λ i m lt. each_frozen_after (ArePairSeparated s.aerodrome.table (landing (numbered after i) (second_of t i))) (λ j k lt'. λ ne le.
-        subst (λ (y : Flight). second_of t i + separation s.aerodrome.table (numbered after i).flight.category y.category ≤ second_of t j) (sym (same_flight j k))
-        (subst (λ (x : Flight). second_of t i + separation s.aerodrome.table x.category (numbered s.active j).flight.category ≤ second_of t j) (sym (same_flight i m))
-        (fn.separated i j (all_among s sound i m) (all_among s sound j k) (λ e. ne (ap (λ x. (numbered after x).flight.callsign) e)) le))));
-    frozen_in_precedence = each_frozen_after (λ g. All (IsPairInPrecedence g) (frozen_landings changed)) (λ i m lt. each_frozen_after (IsPairInPrecedence (landing (numbered after i) (second_of t i))) (λ j k lt'. λ l.
-        fn.in_order i j (all_among s sound i m) (all_among s sound j k) (ap₂ (λ (y : Flight) (x : Flight). lists y x.callsign) (sym (same_flight j k)) (sym (same_flight i m)) ∙ l)));
+        subst (λ (x : Flight). is_open x.windows s.closures (second_of t i) ≡ true) (sym (same_flight i m))
+        (and_parts (nat_le (second_of t i) last_second)
+        (is_open (numbered s.active i).flight.windows s.closures (second_of t i))
+        (fn.opened i (all_among s sound i m))).1);
+    frozen_separated = each_frozen_after (λ g. All (ArePairSeparated s.aerodrome.table g) (frozen_landings changed))
+        (λ i m lt. each_frozen_after (ArePairSeparated s.aerodrome.table (landing (numbered after i) (second_of t i)))
+        (λ j k lt'. λ ne le.
+        subst (λ (y : Flight). second_of t i + separation s.aerodrome.table
+        (numbered after i).flight.category y.category ≤ second_of t j) (sym (same_flight j k))
+        (subst (λ (x : Flight). second_of t i + separation s.aerodrome.table x.category
+        (numbered s.active j).flight.category ≤ second_of t j) (sym (same_flight i m))
+        (fn.separated i j (all_among s sound i m) (all_among s sound j k)
+        (λ e. ne (ap (λ x. (numbered after x).flight.callsign) e)) le))));
+    frozen_in_precedence = each_frozen_after (λ g. All (IsPairInPrecedence g) (frozen_landings changed))
+        (λ i m lt. each_frozen_after (IsPairInPrecedence (landing (numbered after i) (second_of t i))) (λ j k lt'. λ l.
+        fn.in_order i j (all_among s sound i m) (all_among s sound j k)
+        (ap₂ (λ (y : Flight) (x : Flight). lists y x.callsign) (sym (same_flight j k)) (sym (same_flight i m)) ∙ l)));
     frozen_before = each_frozen_after (λ g. g.second < h) (λ i m lt. lt);
     frozen_alone = each_frozen_after (ListsNone (waiting changed)) (λ i m lt.
-        subst (All (λ a. lists (numbered after i).flight a.flight.callsign ≡ false)) (sym waiting_changed) (at_all (λ a. lists (numbered after i).flight a.flight.callsign ≡ false) (numbered after) (numbered_situation changed).waiting (λ j k.
+        subst (All (λ a. lists (numbered after i).flight a.flight.callsign ≡ false)) (sym waiting_changed)
+        (at_all (λ a. lists (numbered after i).flight a.flight.callsign ≡ false) (numbered after)
+        (numbered_situation changed).waiting (λ j k.
         let w = late_after j k in
         false_from_ne_true (lists (numbered after i).flight (numbered after j).flight.callsign) (λ l.
-        let o = fn.in_order j i (all_among s sound j w.0) (all_among s sound i m) (ap₂ (λ (y : Flight) (x : Flight). lists y x.callsign) (sym (same_flight i m)) (sym (same_flight j w.0)) ∙ l) in
+        let o = fn.in_order j i (all_among s sound j w.0) (all_among s sound i m)
+        (ap₂ (λ (y : Flight) (x : Flight). lists y x.callsign) (sym (same_flight i m)) (sym (same_flight j w.0))
+        ∙ l) in
         let le = w.2 in
         omega arith))));
   }
@@ -211,42 +321,65 @@ module _ (s : Situation) (sound : IsSound s) (t : Schedule) (f : IsFeasible s t)
   after_among : (i : ℕ) → In i (numbers.active (numbered_situation changed)) → In i (numbers_of s.active)
   after_among i m = subst (In i) numbers_after (among changed sound_after i m)
 
-  less_back : (i : ℕ) → In i (numbers_of s.active) → ns.back i - overtook (comes_before s.active) (second_of t) h ns.waiting i ≤ s.aerodrome.k - (numbered after i).passed
+  less_back : (i : ℕ) → In i (numbers_of s.active)
+      → ns.back i - overtook (comes_before s.active) (second_of t) h ns.waiting i ≤ s.aerodrome.k -
+      (numbered after i).passed
   less_back i m =
       let p = passing_is i m in
       let o = passed_low s sound t f.0 i m in
-      elim (at_after i m).passed [ inl e ↦ omega arith | inr x ↦ elim x [ inl e ↦ omega arith | inr y ↦ (let e = y.1 in omega arith) ] ]
+      elim (at_after i m).passed [
+        | inl e ↦ omega arith
+        | inr x ↦ elim x [
+          | inl e ↦ omega arith
+          | inr y ↦
+              (let e = y.1 in omega arith)
+        ]
+      ]
 
-  pub comes_after : (i j : ℕ) → In i (numbers_of s.active) → In j (numbers_of s.active) → comes_before after i j ≡ comes_before s.active i j
-  comes_after i j mi mj = ap₂ (λ (x : Flight) (y : Flight). is_lt (ordering_then (arrival_cmp x y) (nat_cmp i j))) (same_flight i mi) (same_flight j mj)
+  pub comes_after : (i j : ℕ) → In i (numbers_of s.active) → In j (numbers_of s.active)
+      → comes_before after i j ≡ comes_before s.active i j
+  comes_after i j mi mj = ap₂ (λ (x : Flight) (y : Flight). is_lt (ordering_then (arrival_cmp x y) (nat_cmp i j)))
+      (same_flight i mi) (same_flight j mj)
 
-  rank_after : (i : ℕ) → In i (numbers_of s.active) → rank_in (comes_before after) (numbered_situation changed).waiting i ≡ rank_in (comes_before s.active) (staying_of (second_of t) h ns.waiting) i
-  rank_after i m = ap suc (count_by_agree (λ g. comes_before after g i) (λ g. comes_before s.active g i) (numbered_situation changed).waiting (λ g k. comes_after g i (late_after g k).0 m) ∙ ap (count_by (λ g. comes_before s.active g i)) waiting_after)
+  rank_after : (i : ℕ) → In i (numbers_of s.active)
+      → rank_in (comes_before after) (numbered_situation changed).waiting i ≡ rank_in (comes_before s.active)
+      (staying_of (second_of t) h ns.waiting) i
+  rank_after i m = ap suc (count_by_agree (λ g. comes_before after g i) (λ g. comes_before s.active g i)
+      (numbered_situation changed).waiting (λ g k. comes_after g i (late_after g k).0 m)
+      ∙ ap (count_by (λ g. comes_before s.active g i)) waiting_after)
 
-  place_after : (i : ℕ) → place_in (second_of t) (numbered_situation changed).waiting i ≡ place_in (second_of t) (staying_of (second_of t) h ns.waiting) i
+  place_after : (i : ℕ) → place_in (second_of t) (numbered_situation changed).waiting i ≡ place_in
+      (second_of t) (staying_of (second_of t) h ns.waiting) i
   place_after i = ap (λ l. place_in (second_of t) l i) waiting_after
 
   after_numbered : numbers.FeasibleIn (numbered_situation changed) (second_of t)
   after_numbered = record {
     kept = λ i m.
         let w = in_filter (λ x. not (waits_at after x)) i (numbers_of after) m in
-        sym (frozen_after i (subst (In i) numbers_after w.0) (unwrap_or (numbered after i).frozen 0) (some_of (numbered after i).frozen w.1)).0;
+        sym (frozen_after i (subst (In i) numbers_after w.0) (unwrap_or (numbered after i).frozen 0)
+        (some_of (numbered after i).frozen w.1)).0;
     behind = λ i m. (late_after i m).2;
-    opened = λ i m. let a = after_among i m in subst (λ (x : Flight). (nat_le (second_of t i) last_second && is_open x.windows s.closures (second_of t i)) ≡ true) (sym (same_flight i a)) (fn.opened i (all_among s sound i a));
+    opened = λ i m. let a = after_among i m in subst
+        (λ (x : Flight). (nat_le (second_of t i) last_second && is_open x.windows s.closures (second_of t i)) ≡ true)
+        (sym (same_flight i a)) (fn.opened i (all_among s sound i a));
     separated = λ i j mi mj ne le.
         let a = after_among i mi in
         let b = after_among j mj in
-        subst (λ (y : Flight). second_of t i + separation s.aerodrome.table (numbered after i).flight.category y.category ≤ second_of t j) (sym (same_flight j b))
-        (subst (λ (x : Flight). second_of t i + separation s.aerodrome.table x.category (numbered s.active j).flight.category ≤ second_of t j) (sym (same_flight i a))
+        subst (λ (y : Flight). second_of t i + separation s.aerodrome.table
+        (numbered after i).flight.category y.category ≤ second_of t j) (sym (same_flight j b))
+        (subst (λ (x : Flight). second_of t i + separation s.aerodrome.table x.category
+        (numbered s.active j).flight.category ≤ second_of t j) (sym (same_flight i a))
         (fn.separated i j (all_among s sound i a) (all_among s sound j b) ne le));
     in_order = λ i j mi mj l.
         let a = after_among i mi in
         let b = after_among j mj in
-        fn.in_order i j (all_among s sound i a) (all_among s sound j b) (ap₂ (λ (y : Flight) (x : Flight). lists y x.callsign) (sym (same_flight j b)) (sym (same_flight i a)) ∙ l);
+        fn.in_order i j (all_among s sound i a) (all_among s sound j b)
+        (ap₂ (λ (y : Flight) (x : Flight). lists y x.callsign) (sym (same_flight j b)) (sym (same_flight i a)) ∙ l);
     shifted = λ i m.
         let w = late_after i m in
         let v : In i ns.waiting = filter_in (waits_at s.active) i (numbers_of s.active) w.0 w.1 in
-        let k = stays_shifted (comes_before s.active) (first_come s.active) (second_of t) ns.waiting s.aerodrome.k h ns.back (sound_numbered s sound).differ fn.shifted i v w.2 in
+        let k = stays_shifted (comes_before s.active) (first_come s.active)
+        (second_of t) ns.waiting s.aerodrome.k h ns.back (sound_numbered s sound).differ fn.shifted i v w.2 in
         let r = rank_after i w.0 in
         let p = place_after i in
         let b = less_back i w.0 in
@@ -257,19 +390,29 @@ module _ (s : Situation) (sound : IsSound s) (t : Schedule) (f : IsFeasible s t)
   feasible_after = numbered_feasible changed sound_after t (f.0 ∙ sym length_after) after_numbered
 
   pub objective_after : objective changed t ≡ objective s t
-  objective_after = ap (cost s.aerodrome.objective) (landings_are after t (f.0 ∙ sym length_after) ∙ ap (map (landing_at after t)) numbers_after) ∙ go s.aerodrome.objective ∙ ap (cost s.aerodrome.objective) (sym (landings_are s.active t f.0))
+  objective_after = ap (cost s.aerodrome.objective) (landings_are after t (f.0 ∙ sym length_after)
+      ∙ ap (map (landing_at after t)) numbers_after) ∙ go s.aerodrome.objective
+      ∙ ap (cost s.aerodrome.objective) (sym (landings_are s.active t f.0))
     where
-      go : (o : Objective) → cost o (map (landing_at after t) (numbers_of s.active)) ≡ cost o (map (landing_at s.active t) (numbers_of s.active))
-      go Makespan = ap greatest (map_map (λ (g : Landing). g.second) (landing_at after t) (numbers_of s.active) ∙ sym (map_map (λ (g : Landing). g.second) (landing_at s.active t) (numbers_of s.active)))
+      go : (o : Objective) → cost o (map (landing_at after t) (numbers_of s.active)) ≡ cost o
+          (map (landing_at s.active t) (numbers_of s.active))
+      go Makespan = ap greatest (map_map (λ (g : Landing). g.second) (landing_at after t) (numbers_of s.active)
+          ∙ sym (map_map (λ (g : Landing). g.second) (landing_at s.active t) (numbers_of s.active)))
       go Delay = sum_map delay (landing_at after t) (numbers_of s.active)
-          ∙ sum_agree (λ i. delay (landing_at after t i)) (λ i. delay (landing_at s.active t i)) (numbers_of s.active) (λ i m. ap (λ (x : Flight). x.weight * (second_of t i - x.eta)) (same_flight i m))
+          ∙ sum_agree (λ i. delay (landing_at after t i)) (λ i. delay (landing_at s.active t i))
+          (numbers_of s.active) (λ i m. ap (λ (x : Flight). x.weight * (second_of t i - x.eta)) (same_flight i m))
           ∙ sym (sum_map delay (landing_at s.active t) (numbers_of s.active))
 
 -- ---- the laws
 
-pub forth_of : (clock : Option ℕ) (now freeze : ℕ) → clock_back clock now ≡ None → horizon_after clock freeze ≤ now + freeze
+pub forth_of : (clock : Option ℕ) (now freeze : ℕ) → clock_back clock now ≡ None
+    → horizon_after clock freeze ≤ now + freeze
 forth_of None now freeze e = zero-le
-forth_of (Some last) now freeze e = elim (cases_lt now last) [ inl lt ↦ (let w : Some (ClockBack last) ≡ None = rw (lt-ltb now last lt) at e in absurd (cc)) | inr le ↦ omega arith ]
+forth_of (Some last) now freeze e = elim (cases_lt now last) [
+  | inl lt ↦ (let w : Some (ClockBack last) ≡ None =
+      rw (lt-ltb now last lt) at e in absurd (cc))
+  | inr le ↦ omega arith
+]
 
 pub clock_keeps_plan : ClockKeepsPlanLaw
 clock_keeps_plan s t now sound f e =
@@ -281,17 +424,21 @@ clock_shows_plan old new now t sound shown e step =
     let s = old.situation in
     let before : IsPlanShown s (Some t) = subst (IsPlanShown s) shown sound.shown in
     let kept = clock_keeps_plan s t now sound.situation before.0.feasible e in
-    let is : new.situation ≡ situation_after s (Some t) (Clock now) = step.changed ∙ ap (λ p. situation_after s p (Clock now)) shown in
+    let is : new.situation ≡ situation_after s (Some t) (Clock now) =
+    step.changed ∙ ap (λ p. situation_after s p (Clock now)) shown in
     let there : IsFeasible new.situation t = subst (λ x. IsFeasible x t) (sym is) kept.feasible in
     let same : objective new.situation t ≡ objective s t = ap (λ x. objective x t) is ∙ kept.objective in
     go new.plan refl step.shown there same
   where
-    go : (p : Option Schedule) → new.plan ≡ p → IsPlanShown new.situation p → IsFeasible new.situation t → objective new.situation t ≡ objective old.situation t → (u : Schedule) × (new.plan ≡ Some u) × (objective new.situation u ≤ objective old.situation t)
+    go : (p : Option Schedule) → new.plan ≡ p → IsPlanShown new.situation p → IsFeasible new.situation t
+        → objective new.situation t ≡ objective old.situation t → (u : Schedule) × (new.plan ≡ Some u)
+        × (objective new.situation u ≤ objective old.situation t)
     go None q x there same = absurd (x t there)
     go (Some u) q x there same = (u, q, let a = x.0.least t there in omega arith)
 
 -- with no plan shown the situation stays as it is, but for its horizon
-sound_alone : (s : Situation) (now : ℕ) → IsSound s → horizon s ≤ now + s.aerodrome.freeze → IsSound (situation_after s None (Clock now))
+sound_alone : (s : Situation) (now : ℕ) → IsSound s → horizon s ≤ now + s.aerodrome.freeze
+    → IsSound (situation_after s None (Clock now))
 sound_alone s now sound forth = record {
   table = sound.table;
   callsigns = sound.callsigns;
@@ -310,4 +457,5 @@ sound_alone s now sound forth = record {
 
 pub clock_keeps_sound : ClockKeepsSoundLaw
 clock_keeps_sound s None now sound f e = sound_alone s now sound (forth_of s.clock now s.aerodrome.freeze e)
-clock_keeps_sound s (Some t) now sound f e = sound_after s sound t (f t refl) now (forth_of s.clock now s.aerodrome.freeze e)
+clock_keeps_sound s (Some t) now sound f e =
+    sound_after s sound t (f t refl) now (forth_of s.clock now s.aerodrome.freeze e)

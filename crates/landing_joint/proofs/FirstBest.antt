@@ -1,5 +1,6 @@
 -- The first best list of a problem gives the first best schedule of its situation, and there is at most one.
-use Rattle.std.proofs.Common.{◌≡◌, ◌≢◌, ℕ, zero, suc, ◌<◌, ◌≤◌, inl, inr, List, [], ◌∷◌, length, get_or, map, filter, Bool, true, false, not, nat_lt, zero-le, le_antisymm, arith, refl, sym, ap, subst, ◌∙◌}
+use Rattle.std.proofs.Common.{◌≡◌, ◌≢◌, ℕ, zero, suc, ◌<◌, ◌≤◌, inl, inr, List, [], ◌∷◌, length, get_or, map, filter}
+use Rattle.std.proofs.Common.{Bool, true, false, not, nat_lt, zero-le, le_antisymm, arith, refl, sym, ap, subst, ◌∙◌}
 use Rattle.std.specs.Prelude.{Option, Some, None, option_map}
 use Rattle.std.proofs.lemmas.Bool.{cases_eq, cases_Bool}
 use Rattle.std.proofs.lemmas.List.{get_or_default}
@@ -9,7 +10,8 @@ use Rattle.landing_rules.specs.Flights.{Active, Situation, Schedule, Landing, la
 use Rattle.landing_rules.specs.Rules.{IsFeasible, IsBest, IsTight, HaveSameOrder, objective, rank, waits}
 use Rattle.landing_rules.specs.Events.{insert_landing, in_landing_order, IsPlanShown}
 use Rattle.landing_rules.specs.Problem as lists'
-use Rattle.landing_rules.specs.FirstBest.{ComesNoLater, IsFirstBest, IsFirstPlan, IsFirstBestList, IsFirstList, order_of, order_of_list, insert_by, sorted_by}
+use Rattle.landing_rules.specs.FirstBest.{ComesNoLater, IsFirstBest, IsFirstPlan, IsFirstBestList, IsFirstList}
+use Rattle.landing_rules.specs.FirstBest.{order_of, order_of_list, insert_by, sorted_by}
 use Rattle.landing_rules.specs.Sound.{IsSound}
 use Rattle.cps_theory.specs.RankLists.{In, IsRank, of_rank}
 use Rattle.cps_theory.specs.Freeze.{rank_in}
@@ -27,21 +29,31 @@ use Rattle.landing_joint.specs.SoundProblem.{IsSoundProblem}
 use Rattle.landing_joint.specs.shared.RankedLists.{list_feasible, sound_ranked}
 use Rattle.landing_joint.specs.shared.BestLists.{zip_of, zip_same}
 use Rattle.landing_rules.specs.shared.Members.{in_map, map_in}
-use Rattle.landing_joint.specs.shared.SortedBySeconds.{in_sorted_by, sorted_by_in, sorted_by_ascends, filter_ascends, map_ascends, map_one, ascends_same}
-use Rattle.landing_joint.specs.shared.FirstBestLists.{first_best_list_exists, first_best_list_is_one, no_later_antisym, list_in_landing_order, one_landing_order}
+use Rattle.landing_joint.specs.shared.SortedBySeconds.{in_sorted_by, sorted_by_in, sorted_by_ascends, filter_ascends}
+use Rattle.landing_joint.specs.shared.SortedBySeconds.{map_ascends, map_one, ascends_same}
+use Rattle.landing_joint.specs.shared.FirstBestLists.{first_best_list_exists, first_best_list_is_one, no_later_antisym}
+use Rattle.landing_joint.specs.shared.FirstBestLists.{list_in_landing_order, one_landing_order}
 use Rattle.landing_joint.proofs.Numbered.{landing_at, landings_are}
 use Rattle.landing_joint.proofs.Joint.{all_among, feasible_numbered, first_come, sound_numbered}
 use Rattle.landing_joint.proofs.JoinedSchedule.{joined_in_words, map_agree, rank_is, tight_list_schedule}
 use Rattle.landing_joint.proofs.Problem as joint
 
 -- landings in order are those of the numbers in order
-order_insert : (all : List Active) (t : Schedule) (i : ℕ) (js : List ℕ) → insert_landing (landing_at all t i) (map (landing_at all t) js) ≡ map (landing_at all t) (insert_by (second_of t) i js)
+order_insert : (all : List Active) (t : Schedule) (i : ℕ) (js : List ℕ)
+    → insert_landing (landing_at all t i) (map (landing_at all t) js) ≡ map (landing_at all t)
+    (insert_by (second_of t) i js)
 order_insert all t i [] = refl
-order_insert all t i (j ∷ js) = elim (cases_Bool (nat_lt (second_of t j) (second_of t i))) [ inl e ↦ rw e (ap (λ l. landing_at all t j ∷ l) (order_insert all t i js)) | inr e ↦ rw e ]
+order_insert all t i (j ∷ js) = elim (cases_Bool (nat_lt (second_of t j) (second_of t i))) [
+  | inl e ↦
+      rw e (ap (λ l. landing_at all t j ∷ l) (order_insert all t i js))
+  | inr e ↦ rw e
+]
 
-order_numbers : (all : List Active) (t : Schedule) (js : List ℕ) → in_landing_order (map (landing_at all t) js) ≡ map (landing_at all t) (sorted_by (second_of t) js)
+order_numbers : (all : List Active) (t : Schedule) (js : List ℕ)
+    → in_landing_order (map (landing_at all t) js) ≡ map (landing_at all t) (sorted_by (second_of t) js)
 order_numbers all t [] = refl
-order_numbers all t (j ∷ js) = ap (insert_landing (landing_at all t j)) (order_numbers all t js) ∙ order_insert all t j (sorted_by (second_of t) js)
+order_numbers all t (j ∷ js) = ap (insert_landing (landing_at all t j)) (order_numbers all t js)
+    ∙ order_insert all t j (sorted_by (second_of t) js)
 
 module _ (s : Situation) (sound : IsSound s) where
   abbrev ns : numbers.NumberedSituation
@@ -62,7 +74,8 @@ module _ (s : Situation) (sound : IsSound s) where
   waiting_in_by : (t : Schedule) (i : ℕ) → In i ns.waiting → In i (waiting_by t)
   waiting_in_by t i m =
       let w = in_filter (waits_at s.active) i (numbers_of s.active) m in
-      filter_in (waits_at s.active) i (sorted_by (second_of t) (numbers_of s.active)) (sorted_by_in (second_of t) i (numbers_of s.active) w.0) w.1
+      filter_in (waits_at s.active) i (sorted_by (second_of t) (numbers_of s.active))
+      (sorted_by_in (second_of t) i (numbers_of s.active) w.0) w.1
 
   -- the order of ranks is that of these numbers
   order_is : (t : Schedule) → length t ≡ length s.active → order_of s t ≡ map rank_of (waiting_by t)
@@ -72,10 +85,13 @@ module _ (s : Situation) (sound : IsSound s) where
       let L = landing_at s.active t in
       let xs = sorted_by (second_of t) (numbers_of s.active) in
       let a : filter waits (in_landing_order (landings s.active t)) ≡ map L (waiting_by t) =
-      ap (λ l. filter waits (in_landing_order l)) (landings_are s.active t long) ∙ ap (filter waits) (order_numbers s.active t (numbers_of s.active)) ∙ filter_map_is waits L xs in
+      ap (λ l. filter waits (in_landing_order l)) (landings_are s.active t long)
+      ∙ ap (filter waits) (order_numbers s.active t (numbers_of s.active)) ∙ filter_map_is waits L xs in
       ap (map (λ (f : Landing). rank W f.flight)) a
       ∙ map_map (λ (f : Landing). rank W f.flight) L (waiting_by t)
-      ∙ map_agree (λ i. rank W (numbered s.active i).flight) (λ i. rank_in (comes_before s.active) ns.waiting i) (waiting_by t) (λ i m. rank_is s sound i (in_filter (waits_at s.active) i (numbers_of s.active) (in_waiting_by t i m)).0)
+      ∙ map_agree (λ i. rank W (numbered s.active i).flight) (λ i. rank_in (comes_before s.active) ns.waiting i)
+      (waiting_by t) (λ i m. rank_is s sound i (in_filter (waits_at s.active) i (numbers_of s.active)
+      (in_waiting_by t i m)).0)
 
   -- different waiting flights have different ranks
   rank_below : (i j : ℕ) → In i ns.waiting → comes_before s.active i j ≡ true → rank_of i < rank_of j
@@ -84,7 +100,8 @@ module _ (s : Situation) (sound : IsSound s) where
       let c = first_come s.active in
       let before : ℕ → ℕ → Bool = comes_before s.active in
       let itself : before i i ≡ false = elim (cases_Bool (before i i)) [ inl t ↦ c.one_way i i t | inr f ↦ f ] in
-      let lt = count_stricter (λ g. before g i) (λ g. before g j) i ns.waiting m itself e (λ g k h. c.chain g i j h e) in
+      let lt = count_stricter (λ g. before g i) (λ g. before g j) i ns.waiting m itself e
+      (λ g k h. c.chain g i j h e) in
       let a = count_is (λ g. before g i) ns.waiting in
       let b = count_is (λ g. before g j) ns.waiting in
       omega arith
@@ -99,18 +116,23 @@ module _ (s : Situation) (sound : IsSound s) where
   ]
 
   -- no two land at one second
-  seconds_differ : (t : Schedule) → numbers.FeasibleIn ns (second_of t) → (i j : ℕ) → In i (numbers_of s.active) → In j (numbers_of s.active) → i ≢ j → second_of t i ≢ second_of t j
+  seconds_differ : (t : Schedule) → numbers.FeasibleIn ns (second_of t) → (i j : ℕ) → In i (numbers_of s.active)
+      → In j (numbers_of s.active) → i ≢ j → second_of t i ≢ second_of t j
   seconds_differ t f i j mi mj ne e =
       let a = f.separated i j (all_among s sound i mi) (all_among s sound j mj) ne (omega arith) in
       let b = (sound.table.entries (numbered s.active i).flight.category (numbered s.active j).flight.category).0 in
       omega arith
 
   waiting_ascend : (t : Schedule) → numbers.FeasibleIn ns (second_of t) → Ascends (second_of t) (waiting_by t)
-  waiting_ascend t f = filter_ascends (second_of t) (waits_at s.active) (sorted_by (second_of t) (numbers_of s.active)) (sorted_by_ascends (second_of t) (numbers_of s.active) (distinct_numbers 0 (length s.active)) (seconds_differ t f))
+  waiting_ascend t f = filter_ascends (second_of t) (waits_at s.active) (sorted_by (second_of t) (numbers_of s.active))
+      (sorted_by_ascends (second_of t) (numbers_of s.active) (distinct_numbers 0 (length s.active))
+      (seconds_differ t f))
 
   -- where the waiting flights land in the same order, all do
-  all_same : (t u : Schedule) → numbers.FeasibleIn ns (second_of t) → numbers.FeasibleIn ns (second_of u) → ((i j : ℕ) → In i ns.waiting → In j ns.waiting → second_of t i < second_of t j → second_of u i < second_of u j)
-      → (i j : ℕ) → In i (numbers_of s.active) → In j (numbers_of s.active) → second_of t i < second_of t j → second_of u i < second_of u j
+  all_same : (t u : Schedule) → numbers.FeasibleIn ns (second_of t) → numbers.FeasibleIn ns (second_of u)
+      → ((i j : ℕ) → In i ns.waiting → In j ns.waiting → second_of t i < second_of t j → second_of u i < second_of u j)
+      → (i j : ℕ) → In i (numbers_of s.active) → In j (numbers_of s.active) → second_of t i < second_of t j
+      → second_of u i < second_of u j
   all_same t u f g same i j mi mj lt = elim (cases_Bool (waits_at s.active i)) [
     | inl wi ↦ elim (cases_Bool (waits_at s.active j)) [
       | inl wj ↦ same i j (waits i mi wi) (waits j mj wj) lt
@@ -141,7 +163,8 @@ module _ (s : Situation) (sound : IsSound s) where
       rests : (x : ℕ) → In x (numbers_of s.active) → waits_at s.active x ≡ false → In x (numbered_situation s).frozen
       rests x m e = filter_in (λ y. not (waits_at s.active y)) x (numbers_of s.active) m (ap not e)
 
-  all_in_order : (t u : Schedule) → length t ≡ length s.active → numbers.FeasibleIn ns (second_of t) → numbers.FeasibleIn ns (second_of u)
+  all_in_order : (t u : Schedule) → length t ≡ length s.active → numbers.FeasibleIn ns (second_of t)
+      → numbers.FeasibleIn ns (second_of u)
       → ((i j : ℕ) → In i ns.waiting → In j ns.waiting → second_of t i < second_of t j → second_of u i < second_of u j)
       → ((i j : ℕ) → In i ns.waiting → In j ns.waiting → second_of u i < second_of u j → second_of t i < second_of t j)
       → HaveSameOrder t u
@@ -155,12 +178,16 @@ module _ (s : Situation) (sound : IsSound s) where
   order_tells t u ft fu e =
       let f = feasible_numbered s sound t ft.0 ft in
       let g = feasible_numbered s sound u fu.0 fu in
-      let one : waiting_by t ≡ waiting_by u = map_one rank_of (waiting_by t) (waiting_by u) (λ i j mi mj. ranks_one i j (in_waiting_by t i mi) (in_waiting_by u j mj)) (sym (order_is t ft.0) ∙ e ∙ order_is u fu.0) in
+      let one : waiting_by t ≡ waiting_by u = map_one rank_of (waiting_by t) (waiting_by u)
+      (λ i j mi mj. ranks_one i j (in_waiting_by t i mi) (in_waiting_by u j mj)) (sym (order_is t ft.0)
+      ∙ e ∙ order_is u fu.0) in
       let at = waiting_ascend t f in
       let au = subst (Ascends (second_of u)) (sym one) (waiting_ascend u g) in
       all_in_order t u ft.0 f g
-      (λ i j mi mj. ascends_same (second_of t) (second_of u) (waiting_by t) at au i j (waiting_in_by t i mi) (waiting_in_by t j mj))
-      (λ i j mi mj. ascends_same (second_of u) (second_of t) (waiting_by t) au at i j (waiting_in_by t i mi) (waiting_in_by t j mj))
+      (λ i j mi mj. ascends_same (second_of t) (second_of u) (waiting_by t) at au i j (waiting_in_by t i mi)
+      (waiting_in_by t j mj))
+      (λ i j mi mj. ascends_same (second_of u) (second_of t) (waiting_by t) au at i j (waiting_in_by t i mi)
+      (waiting_in_by t j mj))
 
   -- there is at most one first best schedule
   pub first_best_is_one : (t u : Schedule) → IsFirstBest s t → IsFirstBest s u → t ≡ u
@@ -171,13 +198,15 @@ module _ (s : Situation) (sound : IsSound s) where
       zip_same t u (a.tight.earliest u b.tight.feasible o) (b.tight.earliest t a.tight.feasible o')
 
 -- a first best schedule costs what every best one does
-pub first_best_objective : (s : Situation) (t u : Schedule) → IsFirstBest s t → IsBest s u → objective s t ≡ objective s u
+pub first_best_objective : (s : Situation) (t u : Schedule) → IsFirstBest s t → IsBest s u
+    → objective s t ≡ objective s u
 first_best_objective s t u a b = le_antisymm (a.best.least u b.feasible) (b.least t a.best.feasible)
 
 module _ (s : Situation) (sound : IsSound s) (p : lists'.Problem) (of : lists'.IsProblemOf s p) where
   -- what the theory asks of the problem
   pub problem_sound : SoundProblem (ranked p)
-  problem_sound = sound_ranked p (subst (λ t. IsWakeTable t) (sym of.table) sound.table) (λ q r e. let b = of.between_ranks q r e in (b.0, b.1))
+  problem_sound = sound_ranked p (subst (λ t. IsWakeTable t) (sym of.table) sound.table) (λ q r e. let b =
+      of.between_ranks q r e in (b.0, b.1))
 
   -- the order of a list is that of the schedule that it gives
   pub joined_order : (v : Schedule) → lists'.IsFeasibleList p v → order_of s (joined s v) ≡ order_of_list v
@@ -188,18 +217,24 @@ module _ (s : Situation) (sound : IsSound s) (p : lists'.Problem) (of : lists'.I
       let g = joint.list_gives_schedule s sound p of v f in
       let long = joint.joined_long s sound p of v in
       let fn = feasible_numbered s sound J long g in
-      let rank_at : (r : ℕ) → IsRank n r → rank_of s sound (number_at s r) ≡ r = λ r q. theory.rank_is (numbered_situation s) (ranked p) (number_at s) (sound_numbered s sound) problem_of r q in
+      let rank_at : (r : ℕ) → IsRank n r → rank_of s sound (number_at s r) ≡ r =
+      λ r q. theory.rank_is (numbered_situation s) (ranked p) (number_at s) (sound_numbered s sound) problem_of r q in
       let by : InLandingOrder n (of_rank 0 v) (map (rank_of s sound) (waiting_by s sound J)) = record {
         ranked = λ x i.
             let w = in_map (rank_of s sound) (waiting_by s sound J) x i in
             let a = problem_of.at_all w.0 (in_waiting_by s sound J w.0 w.1) in
             subst (IsRank n) (sym (rank_at a.0 a.1) ∙ ap (rank_of s sound) a.2 ∙ sym w.2) a.1;
-        whole = λ x q. subst (λ z. In z (map (rank_of s sound) (waiting_by s sound J))) (rank_at x q) (map_in (rank_of s sound) (waiting_by s sound J) (number_at s x) (waiting_in_by s sound J (number_at s x) (problem_of.at_in x q)));
+        whole = λ x q. subst (λ z. In z (map (rank_of s sound) (waiting_by s sound J))) (rank_at x q)
+            (map_in (rank_of s sound) (waiting_by s sound J) (number_at s x)
+            (waiting_in_by s sound J (number_at s x) (problem_of.at_in x q)));
         ascends = map_ascends (second_of J) (of_rank 0 v) (rank_of s sound) (waiting_by s sound J)
-            (λ i m. let a = problem_of.at_all i (in_waiting_by s sound J i m) in subst (λ z. of_rank 0 v (rank_of s sound z) ≡ second_of J z) a.2 (ap (of_rank 0 v) (rank_at a.0 a.1) ∙ sym (joint.joined_rank s sound p of v a.0 a.1)))
+            (λ i m. let a = problem_of.at_all i (in_waiting_by s sound J i m) in subst
+            (λ z. of_rank 0 v (rank_of s sound z) ≡ second_of J z) a.2 (ap (of_rank 0 v) (rank_at a.0 a.1)
+            ∙ sym (joint.joined_rank s sound p of v a.0 a.1)))
             (waiting_ascend s sound J fn);
       } in
-      order_is s sound J long ∙ one_landing_order p problem_sound (of_rank 0 v) (list_feasible p v f) (map (rank_of s sound) (waiting_by s sound J)) (order_of_list v) by (list_in_landing_order p problem_sound v f)
+      order_is s sound J long ∙ one_landing_order p problem_sound (of_rank 0 v) (list_feasible p v f)
+      (map (rank_of s sound) (waiting_by s sound J)) (order_of_list v) by (list_in_landing_order p problem_sound v f)
     where
       problem_of : numbers.ProblemOf (numbered_situation s) (ranked p) (number_at s)
       problem_of = joint.problem_of s sound p of
@@ -216,27 +251,36 @@ module _ (s : Situation) (sound : IsSound s) (p : lists'.Problem) (of : lists'.I
   }
 
   -- lists that land in one order give schedules that do
-  order_given : (v w : Schedule) → lists'.IsFeasibleList p v → lists'.IsFeasibleList p w → HaveSameOrder v w → HaveSameOrder (joined s v) (joined s w)
+  order_given : (v w : Schedule) → lists'.IsFeasibleList p v → lists'.IsFeasibleList p w → HaveSameOrder v w
+      → HaveSameOrder (joined s v) (joined s w)
   order_given v w f g same =
       let long = joint.joined_long s sound p of v in
       all_in_order s sound (joined s v) (joined s w) long
       (feasible_numbered s sound (joined s v) long (joint.list_gives_schedule s sound p of v f))
-      (feasible_numbered s sound (joined s w) (joint.joined_long s sound p of w) (joint.list_gives_schedule s sound p of w g))
+      (feasible_numbered s sound (joined s w) (joint.joined_long s sound p of w)
+      (joint.list_gives_schedule s sound p of w g))
       (λ i j mi mj. two v w (λ q r iq ir lt. (by_rank f.one_each same q r iq ir).0 lt) i j mi mj)
       (λ i j mi mj. two w v (λ q r iq ir lt. (by_rank f.one_each same q r iq ir).1 lt) i j mi mj)
     where
-      by_rank : length v ≡ length p.flights → HaveSameOrder v w → (q r : ℕ) → IsRank (length p.flights) q → IsRank (length p.flights) r → (of_rank 0 v q < of_rank 0 v r → of_rank 0 w q < of_rank 0 w r) × (of_rank 0 w q < of_rank 0 w r → of_rank 0 v q < of_rank 0 v r)
+      by_rank : length v ≡ length p.flights → HaveSameOrder v w → (q r : ℕ) → IsRank (length p.flights) q
+          → IsRank (length p.flights) r → (of_rank 0 v q < of_rank 0 v r → of_rank 0 w q < of_rank 0 w r)
+          × (of_rank 0 w q < of_rank 0 w r → of_rank 0 v q < of_rank 0 v r)
       by_rank long o zero r iq ir = absurd (let a = iq.0 in omega arith)
       by_rank long o (suc i) zero iq ir = absurd (let a = ir.0 in omega arith)
-      by_rank long o (suc i) (suc j) iq ir = let a = iq.1 in let b = ir.1 in let x = o i j (omega arith) (omega arith) in (x.0, x.1)
+      by_rank long o (suc i) (suc j) iq ir = let a = iq.1 in let b = ir.1 in let x =
+          o i j (omega arith) (omega arith) in (x.0, x.1)
 
-      two : (x y : Schedule) → ((q r : ℕ) → IsRank (length p.flights) q → IsRank (length p.flights) r → of_rank 0 x q < of_rank 0 x r → of_rank 0 y q < of_rank 0 y r)
-          → (i j : ℕ) → In i (numbered_situation s).waiting → In j (numbered_situation s).waiting → second_of (joined s x) i < second_of (joined s x) j → second_of (joined s y) i < second_of (joined s y) j
+      two : (x y : Schedule) → ((q r : ℕ) → IsRank (length p.flights) q → IsRank (length p.flights) r
+          → of_rank 0 x q < of_rank 0 x r → of_rank 0 y q < of_rank 0 y r)
+          → (i j : ℕ) → In i (numbered_situation s).waiting → In j (numbered_situation s).waiting
+          → second_of (joined s x) i < second_of (joined s x) j → second_of (joined s y) i < second_of (joined s y) j
       two x y h i j mi mj =
           let a = (joint.problem_of s sound p of).at_all i mi in
           let b = (joint.problem_of s sound p of).at_all j mj in
-          subst (λ z. second_of (joined s x) z < second_of (joined s x) j → second_of (joined s y) z < second_of (joined s y) j) a.2
-          (subst (λ z. second_of (joined s x) (number_at s a.0) < second_of (joined s x) z → second_of (joined s y) (number_at s a.0) < second_of (joined s y) z) b.2
+          subst (λ z. second_of (joined s x) z < second_of (joined s x) j
+          → second_of (joined s y) z < second_of (joined s y) j) a.2
+          (subst (λ z. second_of (joined s x) (number_at s a.0) < second_of (joined s x) z
+          → second_of (joined s y) (number_at s a.0) < second_of (joined s y) z) b.2
           (λ lt.
           let xa = joint.joined_rank s sound p of x a.0 a.1 in
           let xb = joint.joined_rank s sound p of x b.0 b.1 in
@@ -257,9 +301,12 @@ module _ (s : Situation) (sound : IsSound s) (p : lists'.Problem) (of : lists'.I
         let q : IsRank (length p.flights) (suc i) = (omega arith, omega arith) in
         let b = in_numbers 0 (length s.active) (number_at s (suc i)) (joint.among s sound p of (suc i) q) in
         let n = joint.joined_long s sound p of v in
-        let le : second_of (joined s v) (number_at s (suc i)) ≤ second_of (joined s u) (number_at s (suc i)) = AllZip-get_or (λ a b. a ≤ b) (joined s v) (joined s u) (number_at s (suc i)) 0 0 z (omega (arith, b.1, n)) in
-        let a : second_of (joined s v) (number_at s (suc i)) ≡ get_or v i 0 = joint.joined_rank s sound p of v (suc i) q in
-        let c : second_of (joined s u) (number_at s (suc i)) ≡ get_or u i 0 = joint.joined_rank s sound p of u (suc i) q in
+        let le : second_of (joined s v) (number_at s (suc i)) ≤ second_of (joined s u) (number_at s (suc i)) =
+        AllZip-get_or (λ a b. a ≤ b) (joined s v) (joined s u) (number_at s (suc i)) 0 0 z (omega (arith, b.1, n)) in
+        let a : second_of (joined s v) (number_at s (suc i)) ≡ get_or v i 0 =
+        joint.joined_rank s sound p of v (suc i) q in
+        let c : second_of (joined s u) (number_at s (suc i)) ≡ get_or u i 0 =
+        joint.joined_rank s sound p of u (suc i) q in
         omega (arith, a, c, le));
   }
 
@@ -280,14 +327,16 @@ module _ (s : Situation) (sound : IsSound s) (p : lists'.Problem) (of : lists'.I
   passed_low r q = joint.passed_low' s sound p of r q
 
   -- where a schedule is feasible there is a first best one
-  pub first_best_schedule_exists : (t : Schedule) → IsFeasible s t → (v : Schedule) × IsFirstBestList p v × IsFirstBest s (joined s v)
+  pub first_best_schedule_exists : (t : Schedule) → IsFeasible s t → (v : Schedule) × IsFirstBestList p v
+      × IsFirstBest s (joined s v)
   first_best_schedule_exists t f =
       let w = joint.schedule_gives_list s sound p of t f in
       let v = first_best_list_exists p problem_sound passed_low w.0 w.1 in
       (v.0, v.1, first_best_schedule v.0 v.1)
 
   rank_at : (i : ℕ) (f : lists'.Waiting) → i < length p.flights → f ≡ get_or p.flights i no_waiting → f.passed ≤ p.k
-  rank_at i f lt e = let a = passed_low (suc i) (omega arith, omega arith) in let b = ap (λ (w : lists'.Waiting). w.passed) e in omega arith
+  rank_at i f lt e = let a = passed_low (suc i) (omega arith, omega arith) in let b =
+      ap (λ (w : lists'.Waiting). w.passed) e in omega arith
 
   -- the problem of a sound situation is sound
   pub sound_problem : IsSoundProblem p
@@ -315,7 +364,8 @@ module _ (p : lists'.Problem) (is : IsSoundProblem p) where
 
 -- ---- plans
 
-pub first_plan_is_one : (s : Situation) (plan other : Option Schedule) → IsSound s → IsFirstPlan s plan → IsFirstPlan s other → plan ≡ other
+pub first_plan_is_one : (s : Situation) (plan other : Option Schedule) → IsSound s → IsFirstPlan s plan
+    → IsFirstPlan s other → plan ≡ other
 first_plan_is_one s None None sound a b = refl
 first_plan_is_one s None (Some u) sound a b = absurd (a u b.best.feasible)
 first_plan_is_one s (Some t) None sound a b = absurd (b t a.best.feasible)
@@ -325,6 +375,8 @@ pub first_plan_is_shown : (s : Situation) (plan : Option Schedule) → IsFirstPl
 first_plan_is_shown s None a = a
 first_plan_is_shown s (Some t) a = (a.best, a.tight)
 
-pub first_list_gives_plan : (s : Situation) (p : lists'.Problem) (list : Option Schedule) → IsSound s → lists'.IsProblemOf s p → IsFirstList p list → IsFirstPlan s (option_map (lists'.joined s) list)
+pub first_list_gives_plan : (s : Situation) (p : lists'.Problem) (list : Option Schedule) → IsSound s
+    → lists'.IsProblemOf s p → IsFirstList p list → IsFirstPlan s (option_map (lists'.joined s) list)
 first_list_gives_plan s p None sound of a = λ t f. let w = joint.schedule_gives_list s sound p of t f in a w.0 w.1
-first_list_gives_plan s p (Some v) sound of a = subst (IsFirstBest s) (sym (joined_in_words s sound v)) (first_best_schedule s sound p of v a)
+first_list_gives_plan s p (Some v) sound of a =
+    subst (IsFirstBest s) (sym (joined_in_words s sound v)) (first_best_schedule s sound p of v a)

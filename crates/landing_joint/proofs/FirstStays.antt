@@ -1,12 +1,15 @@
 -- Of the flights that stay when the front of a plan freezes, the first in first-come order: whoever comes before it
 -- freezes, so its own leave to go back bounds how many behind it freeze, and so behind each that stays.
-use Rattle.std.proofs.Common.{◌≡◌, ◌≢◌, ℕ, ◌<◌, ◌≤◌, ◌&&◌, ◌∙◌, inl, inr, List, [], ◌∷◌, Bool, true, false, not, nat_lt, arith, refl, sym, ap, subst}
-use Rattle.std.proofs.lemmas.Bool.{cases_Bool, cases_eq, cases_lt, ltb-true, lt-ltb, le-ltb, and_parts, and_from, false≢true}
+use Rattle.std.proofs.Common.{◌≡◌, ◌≢◌, ℕ, ◌<◌, ◌≤◌, ◌&&◌, ◌∙◌, inl, inr, List, [], ◌∷◌, Bool, true, false, not}
+use Rattle.std.proofs.Common.{nat_lt, arith, refl, sym, ap, subst}
+use Rattle.std.proofs.lemmas.Bool.{cases_Bool, cases_eq, cases_lt, ltb-true, lt-ltb, le-ltb, and_parts, and_from}
+use Rattle.std.proofs.lemmas.Bool.{false≢true}
 use Rattle.cps_theory.specs.RankLists.{In}
 use Rattle.cps_theory.specs.Freeze.{FirstCome, KeepsCountedShift, frozen_of, overtook, staying_of}
 use Rattle.cps_theory.specs.laws.ShiftAfterFreeze.{not_before_itself}
 use Rattle.cps_theory.specs.laws.Members.{filter_in, in_filter}
-use Rattle.cps_theory.specs.laws.RankCounts.{count, count_filter, count_stricter, count_is, count_none, count_parts, count_split, count_weaker}
+use Rattle.cps_theory.specs.laws.RankCounts.{count, count_filter, count_stricter, count_is, count_none, count_parts}
+use Rattle.cps_theory.specs.laws.RankCounts.{count_split, count_weaker}
 
 module _ (comes_before : ℕ → ℕ → Bool) (order : FirstCome comes_before) where
   -- if f does not come before x, whoever comes after f comes after x
@@ -44,30 +47,49 @@ module _ (comes_before : ℕ → ℕ → Bool) (order : FirstCome comes_before) 
   ]
 
   first_of : (x : ℕ) (xs : List ℕ) → First (x ∷ xs)
-  first_of x [] = (x, inl refl, λ y i. elim i [ inl e ↦ subst (λ z. comes_before z x ≡ false) (sym e) (not_before_itself comes_before order x) | inr j ↦ absurd j ])
+  first_of x [] = (
+    x,
+    inl refl,
+    λ y i. elim i [
+      | inl e ↦ subst (λ z. comes_before z x ≡ false) (sym e)
+          (not_before_itself comes_before order x)
+      | inr j ↦ absurd j
+    ],
+  )
   first_of x (z ∷ zs) = earlier_first x (z ∷ zs) (first_of z zs)
 
   first_in : (x : ℕ) (xs : List ℕ) → In x xs → First xs
   first_in x [] i = absurd i
   first_in x (z ∷ zs) i = first_of z zs
 
-  module _ (t : ℕ → ℕ) (waiting : List ℕ) (k h : ℕ) (back : ℕ → ℕ) (shift : (f : ℕ) → In f waiting → KeepsCountedShift k back comes_before t waiting f) where
+  module _ (t : ℕ → ℕ) (waiting : List ℕ) (k h : ℕ) (back : ℕ → ℕ) (shift : (f : ℕ) → In f waiting
+      → KeepsCountedShift k back comes_before t waiting f) where
     stays : (f : ℕ) → In f (staying_of t h waiting) → In f waiting × (h ≤ t f)
     stays f i =
-        let w = in_filter (λ x. not (nat_lt (t x) h)) f waiting i in
-        (w.0, elim (cases_lt (t f) h) [ inl lt ↦ absurd (false≢true (sym (ap not (lt-ltb (t f) h lt)) ∙ w.1)) | inr le ↦ le ])
+        let w = in_filter (λ x. not (nat_lt (t x) h)) f waiting i in (
+          w.0,
+          elim (cases_lt (t f) h) [
+            | inl lt ↦ absurd (false≢true (sym (ap not (lt-ltb (t f) h lt)) ∙ w.1))
+            | inr le ↦
+                le
+          ],
+        )
 
     -- as many freeze behind f as behind one that stands no further back, or fewer
-    pub fewer_overtook : (f x : ℕ) → comes_before f x ≡ false → overtook comes_before t h waiting f ≤ overtook comes_before t h waiting x
+    pub fewer_overtook : (f x : ℕ) → comes_before f x ≡ false
+        → overtook comes_before t h waiting f ≤ overtook comes_before t h waiting x
     fewer_overtook f x ahead =
         let froze = frozen_of t h waiting in
         let a = count_is (λ g. comes_before f g) froze in
         let b = count_is (λ g. comes_before x g) froze in
-        let w = count_weaker (λ g. comes_before f g) (λ g. comes_before x g) froze (λ y i e. behind_both f x y ahead e) in
+        let w = count_weaker (λ g. comes_before f g) (λ g. comes_before x g) froze
+        (λ y i e. behind_both f x y ahead e) in
         omega arith
 
     -- those behind the first that stays are no more than it may go back
-    few_overtook_first : (m : ℕ) → In m (staying_of t h waiting) → ((y : ℕ) → In y (staying_of t h waiting) → comes_before y m ≡ false) → overtook comes_before t h waiting m ≤ back m
+    few_overtook_first : (m : ℕ) → In m (staying_of t h waiting)
+        → ((y : ℕ) → In y (staying_of t h waiting) → comes_before y m ≡ false)
+        → overtook comes_before t h waiting m ≤ back m
     few_overtook_first m i first =
         let early = λ (g : ℕ). nat_lt (t g) h in
         let froze = frozen_of t h waiting in
@@ -91,7 +113,8 @@ module _ (comes_before : ℕ → ℕ → Bool) (order : FirstCome comes_before) 
         omega (arith, s.1)
 
     -- so for each that stays there is one that stands no further back and bounds those that freeze behind it
-    pub bound_overtook : (f : ℕ) → In f (staying_of t h waiting) → (m : ℕ) × In m (staying_of t h waiting) × (comes_before f m ≡ false) × (overtook comes_before t h waiting f ≤ back m)
+    pub bound_overtook : (f : ℕ) → In f (staying_of t h waiting) → (m : ℕ) × In m (staying_of t h waiting)
+        × (comes_before f m ≡ false) × (overtook comes_before t h waiting f ≤ back m)
     bound_overtook f i =
         let r = first_in f (staying_of t h waiting) i in
         let ahead = r.2 f i in
@@ -101,24 +124,32 @@ module _ (comes_before : ℕ → ℕ → Bool) (order : FirstCome comes_before) 
 
   -- ---- where none may go back by more than one place
 
-  module _ (t : ℕ → ℕ) (waiting : List ℕ) (k : ℕ) (back : ℕ → ℕ) (shift : (f : ℕ) → In f waiting → KeepsCountedShift k back comes_before t waiting f) (one : (f : ℕ) → In f waiting → back f ≤ 1) (apart : (f g : ℕ) → In f waiting → In g waiting → f ≢ g → t f ≢ t g) where
+  module _ (t : ℕ → ℕ) (waiting : List ℕ) (k : ℕ) (back : ℕ → ℕ) (shift : (f : ℕ) → In f waiting
+      → KeepsCountedShift k back comes_before t waiting f) (one : (f : ℕ) → In f waiting
+      → back f ≤ 1) (apart : (f g : ℕ)
+      → In f waiting → In g waiting → f ≢ g → t f ≢ t g) where
     staying : (h f : ℕ) → In f waiting → h ≤ t f → In f (staying_of t h waiting)
     staying h f i le = filter_in (λ x. not (nat_lt (t x) h)) f waiting i (ap not (le-ltb (t f) h le))
 
-    overtook_is : (h f : ℕ) → overtook comes_before t h waiting f ≡ count (λ g. nat_lt (t g) h && comes_before f g) waiting
-    overtook_is h f = count_is (λ g. comes_before f g) (frozen_of t h waiting) ∙ count_filter (λ g. comes_before f g) (λ g. nat_lt (t g) h) waiting
+    overtook_is : (h f : ℕ) → overtook comes_before t h waiting f ≡ count (λ g. nat_lt (t g) h
+        && comes_before f g) waiting
+    overtook_is h f = count_is (λ g. comes_before f g) (frozen_of t h waiting)
+        ∙ count_filter (λ g. comes_before f g) (λ g. nat_lt (t g) h) waiting
 
     -- those behind f that land before h land before m too, behind m; and so does f, if it is another
-    module _ (h f m : ℕ) (i : In f waiting) (j : In m waiting) (stays_f : h ≤ t f) (later : t f ≤ t m) (ahead : comes_before f m ≡ false) where
+    module _ (h f m : ℕ) (i : In f waiting) (j : In m waiting) (stays_f : h ≤ t f) (later : t f ≤ t m)
+        (ahead : comes_before f m ≡ false) where
       among : (g : ℕ) → (nat_lt (t g) h && comes_before f g) ≡ true → (nat_lt (t g) (t m) && comes_before m g) ≡ true
       among g e =
           let p = and_parts (nat_lt (t g) h) (comes_before f g) e in
           let lt = ltb-true (t g) h p.0 in
-          and_from (nat_lt (t g) (t m)) (comes_before m g) (lt-ltb (t g) (t m) (omega arith)) (behind_both f m g ahead p.1)
+          and_from (nat_lt (t g) (t m)) (comes_before m g) (lt-ltb (t g) (t m) (omega arith))
+          (behind_both f m g ahead p.1)
 
       as_many : overtook comes_before t h waiting f ≤ overtook comes_before t (t m) waiting m
       as_many =
-          let w = count_weaker (λ g. nat_lt (t g) h && comes_before f g) (λ g. nat_lt (t g) (t m) && comes_before m g) waiting (λ g n e. among g e) in
+          let w = count_weaker (λ g. nat_lt (t g) h && comes_before f g) (λ g. nat_lt (t g) (t m)
+          && comes_before m g) waiting (λ g n e. among g e) in
           let a = overtook_is h f in
           let b = overtook_is (t m) m in
           omega arith
@@ -126,9 +157,12 @@ module _ (comes_before : ℕ → ℕ → Bool) (order : FirstCome comes_before) 
       more : f ≢ m → overtook comes_before t h waiting f < overtook comes_before t (t m) waiting m
       more ne =
           let apart' = apart f m i j ne in
-          let out : (nat_lt (t f) h && comes_before f f) ≡ false = ap (λ b. b && comes_before f f) (le-ltb (t f) h stays_f) in
-          let within = and_from (nat_lt (t f) (t m)) (comes_before m f) (lt-ltb (t f) (t m) (omega arith)) (order.total f m ne ahead) in
-          let w = count_stricter (λ g. nat_lt (t g) h && comes_before f g) (λ g. nat_lt (t g) (t m) && comes_before m g) f waiting i out within (λ g n e. among g e) in
+          let out : (nat_lt (t f) h && comes_before f f) ≡ false =
+          ap (λ b. b && comes_before f f) (le-ltb (t f) h stays_f) in
+          let within = and_from (nat_lt (t f) (t m)) (comes_before m f) (lt-ltb (t f) (t m) (omega arith))
+          (order.total f m ne ahead) in
+          let w = count_stricter (λ g. nat_lt (t g) h && comes_before f g) (λ g. nat_lt (t g) (t m)
+          && comes_before m g) f waiting i out within (λ g n e. among g e) in
           let a = overtook_is h f in
           let b = overtook_is (t m) m in
           omega arith
@@ -141,7 +175,9 @@ module _ (comes_before : ℕ → ℕ → Bool) (order : FirstCome comes_before) 
         let m = r.0 in
         let at = stays t waiting k (t f) back shift m r.1 in
         let later = at.1 in
-        let few = few_overtook_first t waiting k (t m) back shift m (staying (t m) m at.0 (omega arith)) (λ y n. r.2 y (let w = stays t waiting k (t m) back shift y n in let x = w.1 in staying (t f) y w.0 (omega arith))) in
+        let few = few_overtook_first t waiting k (t m) back shift m (staying (t m) m at.0 (omega arith))
+        (λ y n. r.2 y (let w = stays t waiting k (t m) back shift y n in let x =
+        w.1 in staying (t f) y w.0 (omega arith))) in
         let low = one m at.0 in
         elim (cases_eq f m) [
           | inl e ↦ (let a = as_many h f m i at.0 le later (r.2 f f_in) in let b = ap back e in omega arith)

@@ -1,34 +1,44 @@
 -- The events of one flight keep a situation sound: it is cancelled, estimated again or added.
-use Rattle.std.proofs.Common.{◌≡◌, ℕ, suc, ◌<◌, ◌≤◌, inl, inr, Bool, true, false, cond, not, List, [], ◌∷◌, ◌++◌, length, map, filter, Option, Some, None, refl, sym, ap, subst, ◌∙◌, arith}
+use Rattle.std.proofs.Common.{◌≡◌, ℕ, suc, ◌<◌, ◌≤◌, inl, inr, Bool, true, false, cond, not, List, [], ◌∷◌, ◌++◌}
+use Rattle.std.proofs.Common.{length, map, filter, Option, Some, None, refl, sym, ap, subst, ◌∙◌, arith}
 use Rattle.std.specs.Prelude.{◌≢◌, option_map, find, is_none, nat_le, if◌then◌else◌}
 use Rattle.std.specs.List.{list_any}
 use Rattle.std.proofs.lemmas.Bool.{false≢true, cases_Bool, cases_lt, le-leb, lt-leb}
 use Rattle.std.proofs.lemmas.Slice.Eq.{bytes_eq-Decides}
 use Rattle.std.proofs.lemmas.List.Kept.{AllPairs-filter}
-use Rattle.landing_rules.specs.Flights.{Active, Flight, Landing, Situation, Schedule, Callsign, Span, landing, is_waiting, waiting}
+use Rattle.landing_rules.specs.Flights.{Active, Flight, Landing, Situation, Schedule, Callsign, Span, landing}
+use Rattle.landing_rules.specs.Flights.{is_waiting, waiting}
 use Rattle.landing_rules.specs.Rules.{lists}
-use Rattle.landing_rules.specs.Events.{Estimate, Cancel, Add, named, frozen_landings, unknown_or_frozen, refusal, estimated, newcomer, situation_after, Frozen, Duplicate, TooManyFlights, TooManyWaiting, PredecessorOfFrozen}
+use Rattle.landing_rules.specs.Events.{Estimate, Cancel, Add, named, frozen_landings, unknown_or_frozen, refusal}
+use Rattle.landing_rules.specs.Events.{estimated, newcomer, situation_after, Frozen, Duplicate, TooManyFlights}
+use Rattle.landing_rules.specs.Events.{TooManyWaiting, PredecessorOfFrozen}
 use Rattle.landing_rules.specs.Sound.{IsSound, IsGoodFlight, IsGoodEvent}
 use Rattle.std.proofs.lemmas.List.{length_push}
 use Rattle.landing_joint.proofs.Members.{Differ, callsigns, differ_of, one_of_name}
 use Rattle.landing_joint.proofs.SoundAgain.{kept, sound_again, each_of, fewer_frozen}
 use Rattle.landing_rules.specs.shared.Counting.{Member}
 use Rattle.std.proofs.lemmas.List.{length-map}
-use Rattle.landing_rules.specs.shared.Members.{map_in, in_filter, filter_in, in_map, in_push, in_frozen, frozen_in, found_in, none_found, none_any, fewer_filtered, fewer_twice, fewer_kept}
+use Rattle.landing_rules.specs.shared.Members.{map_in, in_filter, filter_in, in_map, in_push, in_frozen, frozen_in}
+use Rattle.landing_rules.specs.shared.Members.{found_in, none_found, none_any, fewer_filtered, fewer_twice, fewer_kept}
 
 -- ---- cancel
 
-pub cancelled : (s : Situation) (plan : Option Schedule) (c : Callsign) → IsSound s → IsSound (situation_after s plan (Cancel c))
+pub cancelled : (s : Situation) (plan : Option Schedule) (c : Callsign) → IsSound s
+    → IsSound (situation_after s plan (Cancel c))
 cancelled s plan c h =
     let new : Situation = situation_after s plan (Cancel c) in
     let test : Active → Bool = λ a. not (named c a) in
     sound_again s new h refl
-    (differ_of new.active (AllPairs-filter (λ (a b : Active). a.flight.callsign ≢ b.flight.callsign) test s.active h.callsigns))
-    (let l = fewer_kept test s.active in omega (arith, h.few_active)) (let l = fewer_twice is_waiting test s.active in omega (arith, h.few_waiting)) h.few_closures
+    (differ_of new.active (AllPairs-filter (λ (a b : Active). a.flight.callsign ≢ b.flight.callsign)
+    test s.active h.callsigns))
+    (let l = fewer_kept test s.active in omega (arith, h.few_active)) (let l =
+    fewer_twice is_waiting test s.active in omega (arith, h.few_waiting)) h.few_closures
     (λ a m. each_of s h a (in_filter test s.active a m).0)
     (fewer_frozen s new h refl refl (omega arith)
-    (λ f m. let r = in_frozen new.active f m in subst (λ z. Member z (frozen_landings s)) (sym r.4) (frozen_in s.active r.0 r.1 (in_filter test s.active r.0 r.2).0 r.3))
-    (λ a m. let r = in_filter is_waiting new.active a m in (a, filter_in is_waiting s.active a (in_filter test s.active a r.0).0 r.1, refl)))
+    (λ f m. let r = in_frozen new.active f m in subst (λ z. Member z (frozen_landings s)) (sym r.4)
+    (frozen_in s.active r.0 r.1 (in_filter test s.active r.0 r.2).0 r.3))
+    (λ a m. let r = in_filter is_waiting new.active a m in
+    (a, filter_in is_waiting s.active a (in_filter test s.active a r.0).0 r.1, refl)))
 
 -- ---- estimate
 
@@ -36,60 +46,98 @@ pub named_is : (c : Callsign) (a : Active) → named c a ≡ true → a.flight.c
 named_is c a e = (bytes_eq-Decides a.flight.callsign c).0 e
 
 -- where the event is accepted, each flight of that name waits
-named_waits : (s : Situation) (c : Callsign) → IsSound s → unknown_or_frozen c (find (named c) s.active) ≡ None → (a : Active) → Member a s.active → named c a ≡ true → a.frozen ≡ None
+named_waits : (s : Situation) (c : Callsign) → IsSound s → unknown_or_frozen c (find (named c) s.active) ≡ None
+    → (a : Active) → Member a s.active → named c a ≡ true → a.frozen ≡ None
 named_waits s c h ok a m e = go (find (named c) s.active) refl ok
   where
     go : (o : Option Active) → find (named c) s.active ≡ o → unknown_or_frozen c o ≡ None → a.frozen ≡ None
     go None q ok = absurd (false≢true (sym (none_found (named c) s.active a q m) ∙ e))
     go (Some b) q ok =
         let r = found_in (named c) s.active b q in
-        let one = one_of_name s.active a b (differ_of s.active h.callsigns) m r.0 (named_is c a e ∙ sym (named_is c b r.1)) in
+        let one = one_of_name s.active a b (differ_of s.active h.callsigns) m r.0 (named_is c a e
+        ∙ sym (named_is c b r.1)) in
         ap (λ (z : Active). z.frozen) one ∙ two b.frozen ok
       where
         two : (o : Option ℕ) → option_map Frozen o ≡ None → o ≡ None
         two None ok = refl
         two (Some t) ok = let w : Some (Frozen t) ≡ None = ok in absurd (cc)
 
-pub estimate_callsign : (c : Callsign) (eta : ℕ) (windows : List Span) (a : Active) → (estimated c eta windows a).flight.callsign ≡ a.flight.callsign
+pub estimate_callsign : (c : Callsign) (eta : ℕ) (windows : List Span) (a : Active)
+    → (estimated c eta windows a).flight.callsign ≡ a.flight.callsign
 estimate_callsign c eta windows a = elim (cases_Bool (named c a)) [ inl e ↦ rw e | inr e ↦ rw e ]
 
-pub estimate_frozen : (c : Callsign) (eta : ℕ) (windows : List Span) (a : Active) → (estimated c eta windows a).frozen ≡ a.frozen
+pub estimate_frozen : (c : Callsign) (eta : ℕ) (windows : List Span) (a : Active)
+    → (estimated c eta windows a).frozen ≡ a.frozen
 estimate_frozen c eta windows a = elim (cases_Bool (named c a)) [ inl e ↦ rw e | inr e ↦ rw e ]
 
-callsigns_mapped : (f : Active → Active) → ((a : Active) → (f a).flight.callsign ≡ a.flight.callsign) → (xs : List Active) → callsigns (map f xs) ≡ callsigns xs
+callsigns_mapped : (f : Active → Active) → ((a : Active) → (f a).flight.callsign ≡ a.flight.callsign)
+    → (xs : List Active) → callsigns (map f xs) ≡ callsigns xs
 callsigns_mapped f h [] = refl
-callsigns_mapped f h (x ∷ xs) = ap (λ c. c ∷ callsigns (map f xs)) (h x) ∙ ap (λ l. x.flight.callsign ∷ l) (callsigns_mapped f h xs)
+callsigns_mapped f h (x ∷ xs) = ap (λ c. c ∷ callsigns (map f xs)) (h x)
+    ∙ ap (λ l. x.flight.callsign ∷ l) (callsigns_mapped f h xs)
 
-pub re_estimated : (s : Situation) (plan : Option Schedule) (c : Callsign) (eta : ℕ) (windows : List Span) → IsSound s → IsGoodEvent (Estimate c eta windows) → refusal s (Estimate c eta windows) ≡ None → IsSound (situation_after s plan (Estimate c eta windows))
+pub re_estimated : (s : Situation) (plan : Option Schedule) (c : Callsign) (eta : ℕ) (windows : List Span)
+    → IsSound s → IsGoodEvent (Estimate c eta windows) → refusal s (Estimate c eta windows) ≡ None
+    → IsSound (situation_after s plan (Estimate c eta windows))
 re_estimated s plan c eta windows h good ok =
     let new : Situation = situation_after s plan (Estimate c eta windows) in
     let f : Active → Active = estimated c eta windows in
-    let wait : (a : Active) → is_waiting (f a) ≡ true → is_waiting a ≡ true = λ a e. ap is_none (sym (estimate_frozen c eta windows a)) ∙ e in
+    let wait : (a : Active) → is_waiting (f a) ≡ true → is_waiting a ≡ true =
+    λ a e. ap is_none (sym (estimate_frozen c eta windows a)) ∙ e in
     sound_again s new h refl
-    (subst Differ (sym (callsigns_mapped f (estimate_callsign c eta windows) s.active)) (differ_of s.active h.callsigns))
-    (let l = length-map s.active f in omega (arith, h.few_active)) (let l = fewer_filtered is_waiting is_waiting f s.active wait in omega (arith, h.few_waiting)) h.few_closures
-    (λ a m. let r = in_map f s.active a m in subst (λ (z : Active). IsGoodFlight z.flight × (z.passed ≤ s.aerodrome.k) × (s.aerodrome.carry ≡ false → z.passed ≡ 0)) (sym r.2) (well r.0 (each_of s h r.0 r.1)))
+    (subst Differ (sym (callsigns_mapped f (estimate_callsign c eta windows) s.active))
+    (differ_of s.active h.callsigns))
+    (let l = length-map s.active f in omega (arith, h.few_active)) (let l =
+    fewer_filtered is_waiting is_waiting f s.active wait in omega (arith, h.few_waiting)) h.few_closures
+    (λ a m. let r = in_map f s.active a m in subst (λ (z : Active). IsGoodFlight z.flight × (z.passed ≤ s.aerodrome.k)
+    × (s.aerodrome.carry ≡ false → z.passed ≡ 0)) (sym r.2) (well r.0 (each_of s h r.0 r.1)))
     (fewer_frozen s new h refl refl (omega arith)
     (λ g m. let r = in_frozen new.active g m in let q = in_map f s.active r.0 r.2 in
-    let was : q.0.frozen ≡ Some r.1 = sym (estimate_frozen c eta windows q.0) ∙ ap (λ (z : Active). z.frozen) (sym q.2) ∙ r.3 in
+    let was : q.0.frozen ≡ Some r.1 = sym (estimate_frozen c eta windows q.0) ∙ ap (λ (z : Active). z.frozen) (sym q.2)
+    ∙ r.3 in
     let same : r.0 ≡ q.0 = q.2 ∙ still q.0 q.1 r.1 was in
-    subst (λ z. Member z (frozen_landings s)) (ap (λ z. landing z r.1) (sym same) ∙ sym r.4) (frozen_in s.active q.0 r.1 q.1 was))
-    (λ a m. let r = in_filter is_waiting new.active a m in let q = in_map f s.active a r.0 in
-    (q.0, filter_in is_waiting s.active q.0 q.1 (wait q.0 (ap is_waiting (sym q.2) ∙ r.1)), ap (λ (z : Active). z.flight.callsign) q.2 ∙ estimate_callsign c eta windows q.0)))
+    subst (λ z. Member z (frozen_landings s)) (ap (λ z. landing z r.1) (sym same) ∙ sym r.4)
+    (frozen_in s.active q.0 r.1 q.1 was))
+    (λ a m. let r = in_filter is_waiting new.active a m in let q = in_map f s.active a r.0 in (
+      q.0,
+      filter_in is_waiting s.active q.0 q.1 (wait q.0 (ap is_waiting (sym q.2) ∙ r.1)),
+      ap
+          (λ (z : Active). z.flight.callsign) q.2 ∙ estimate_callsign c eta windows q.0,
+    )))
   where
-    well : (a : Active) → IsGoodFlight a.flight × (a.passed ≤ s.aerodrome.k) × (s.aerodrome.carry ≡ false → a.passed ≡ 0) → IsGoodFlight (estimated c eta windows a).flight × ((estimated c eta windows a).passed ≤ s.aerodrome.k) × (s.aerodrome.carry ≡ false → (estimated c eta windows a).passed ≡ 0)
+    well : (a : Active) → IsGoodFlight a.flight × (a.passed ≤ s.aerodrome.k)
+        × (s.aerodrome.carry ≡ false → a.passed ≡ 0) → IsGoodFlight (estimated c eta windows a).flight
+        × ((estimated c eta windows a).passed ≤ s.aerodrome.k)
+        × (s.aerodrome.carry ≡ false → (estimated c eta windows a).passed ≡ 0)
     well a w = elim (cases_Bool (named c a)) [
-      | inl e ↦ rw e (record { callsign = w.0.callsign; eta = good.0; weight = w.0.weight; windows = good.1; after = w.0.after }, w.1, w.2)
+      | inl e ↦ rw e (
+        record {
+          callsign = w.0.callsign;
+          eta = good.0;
+          weight = w.0.weight;
+          windows =
+              good.1;
+          after = w.0.after;
+        },
+        w.1,
+        w.2,
+      )
       | inr e ↦ rw e w
     ]
 
     still : (a : Active) → Member a s.active → (t : ℕ) → a.frozen ≡ Some t → estimated c eta windows a ≡ a
-    still a m t e = elim (cases_Bool (named c a)) [ inl q ↦ (let w : None ≡ Some t = sym (named_waits s c h ok a m q) ∙ e in absurd (cc)) | inr q ↦ rw q ]
+    still a m t e = elim (cases_Bool (named c a)) [
+      | inl q ↦ (let w : None ≡ Some t =
+          sym (named_waits s c h ok a m q) ∙ e in absurd (cc))
+      | inr q ↦ rw q
+    ]
 
 -- ---- add
 
 pub add_parts : (there : Bool) (flights wait : ℕ) (found : Option Landing) (c : Callsign) →
-    (if there then Some (Duplicate c) else (if nat_le 500 flights then Some TooManyFlights else (if nat_le 60 wait then Some TooManyWaiting else option_map (λ (g : Landing). PredecessorOfFrozen g.flight.callsign) found))) ≡ None →
+    (if there then Some (Duplicate c) else (if nat_le 500 flights then Some TooManyFlights
+    else (if nat_le 60 wait then Some TooManyWaiting
+    else option_map (λ (g : Landing). PredecessorOfFrozen g.flight.callsign) found))) ≡ None →
     (there ≡ false) × (flights < 500) × (wait < 60) × (found ≡ None)
 add_parts true flights wait found c e = let w : Some (Duplicate c) ≡ None = e in absurd (cc)
 add_parts false flights wait None c e = elim (cases_lt flights 500) [
@@ -101,16 +149,20 @@ add_parts false flights wait None c e = elim (cases_lt flights 500) [
 ]
 add_parts false flights wait (Some g) c e = absurd (some_none (nat_le 500 flights) (nat_le 60 wait) e)
   where
-    some_none : (a b : Bool) → cond a (Some TooManyFlights) (cond b (Some TooManyWaiting) (Some (PredecessorOfFrozen g.flight.callsign))) ≡ None → ⊥
+    some_none : (a b : Bool) → cond a (Some TooManyFlights)
+        (cond b (Some TooManyWaiting) (Some (PredecessorOfFrozen g.flight.callsign))) ≡ None → ⊥
     some_none true b e = let w : Some TooManyFlights ≡ None = e in cc
     some_none false true e = let w : Some TooManyWaiting ≡ None = e in cc
     some_none false false e = let w : Some (PredecessorOfFrozen g.flight.callsign) ≡ None = e in cc
 
-pub waiting_push : (xs : List Active) (f : Flight) → length (filter is_waiting (xs ++ newcomer f ∷ [])) ≡ suc (length (filter is_waiting xs))
+pub waiting_push : (xs : List Active) (f : Flight)
+    → length (filter is_waiting (xs ++ newcomer f ∷ [])) ≡ suc (length (filter is_waiting xs))
 waiting_push [] f = refl
-waiting_push (x ∷ xs) f = let h = waiting_push xs f in elim (cases_Bool (is_waiting x)) [ inl e ↦ rw e (omega arith) | inr e ↦ rw e h ]
+waiting_push (x ∷ xs) f = let h =
+    waiting_push xs f in elim (cases_Bool (is_waiting x)) [ inl e ↦ rw e (omega arith) | inr e ↦ rw e h ]
 
-differ_push : (xs : List Active) (a : Active) → Differ (callsigns xs) → ((x : Active) → Member x xs → x.flight.callsign ≢ a.flight.callsign) → Differ (callsigns (xs ++ a ∷ []))
+differ_push : (xs : List Active) (a : Active) → Differ (callsigns xs)
+    → ((x : Active) → Member x xs → x.flight.callsign ≢ a.flight.callsign) → Differ (callsigns (xs ++ a ∷ []))
 differ_push [] a d h = (λ c m. absurd m, tt)
 differ_push (x ∷ xs) a d h = (
   λ c m. let r = in_map (λ (a : Active). a.flight.callsign) (xs ++ a ∷ []) c m in λ e. elim (in_push xs a r.0 r.1) [
@@ -120,10 +172,12 @@ differ_push (x ∷ xs) a d h = (
   differ_push xs a d.1 (λ y m. h y (inr m)),
 )
 
-pub added : (s : Situation) (plan : Option Schedule) (f : Flight) → IsSound s → IsGoodEvent (Add f) → refusal s (Add f) ≡ None → IsSound (situation_after s plan (Add f))
+pub added : (s : Situation) (plan : Option Schedule) (f : Flight) → IsSound s → IsGoodEvent (Add f)
+    → refusal s (Add f) ≡ None → IsSound (situation_after s plan (Add f))
 added s plan f h good ok =
     let new : Situation = situation_after s plan (Add f) in
-    let p = add_parts (list_any (named f.callsign) s.active) (length s.active) (length (waiting s)) (find (λ g. lists g.flight f.callsign) (frozen_landings s)) f.callsign ok in
+    let p = add_parts (list_any (named f.callsign) s.active) (length s.active) (length (waiting s))
+    (find (λ g. lists g.flight f.callsign) (frozen_landings s)) f.callsign ok in
     let k = kept s h in
     let was : (g : Landing) → Member g (frozen_landings new) → Member g (frozen_landings s) = λ g m.
     let r = in_frozen new.active g m in
@@ -132,11 +186,15 @@ added s plan f h good ok =
       | inr e ↦ let w : None ≡ Some r.1 = ap (λ (z : Active). z.frozen) (sym e) ∙ r.3 in absurd (cc)
     ] in
     sound_again s new h refl
-    (differ_push s.active (newcomer f) (differ_of s.active h.callsigns) (λ x m e. let n = none_any (named f.callsign) s.active x p.0 m in let y = (bytes_eq-Decides x.flight.callsign f.callsign).1 e in false≢true (sym n ∙ y)))
-    (let l = length_push s.active (newcomer f) in omega (arith, p.1)) (let l = waiting_push s.active f in omega (arith, p.2)) h.few_closures
+    (differ_push s.active (newcomer f) (differ_of s.active h.callsigns)
+    (λ x m e. let n = none_any (named f.callsign) s.active x p.0 m in let y =
+    (bytes_eq-Decides x.flight.callsign f.callsign).1 e in false≢true (sym n ∙ y)))
+    (let l = length_push s.active (newcomer f) in omega (arith, p.1)) (let l =
+    waiting_push s.active f in omega (arith, p.2)) h.few_closures
     (λ a m. elim (in_push s.active (newcomer f) a m) [
       | inl q ↦ each_of s h a q
-      | inr e ↦ subst (λ (z : Active). IsGoodFlight z.flight × (z.passed ≤ s.aerodrome.k) × (s.aerodrome.carry ≡ false → z.passed ≡ 0)) (sym e) (good, omega arith, λ q. refl)
+      | inr e ↦ subst (λ (z : Active). IsGoodFlight z.flight × (z.passed ≤ s.aerodrome.k)
+          × (s.aerodrome.carry ≡ false → z.passed ≡ 0)) (sym e) (good, omega arith, λ q. refl)
     ])
     (record {
       opened = λ g m. k.opened g (was g m);
@@ -145,6 +203,7 @@ added s plan f h good ok =
       before = λ g m. k.before g (was g m);
       alone = λ g a m n. let r = in_filter is_waiting new.active a n in elim (in_push s.active (newcomer f) a r.0) [
         | inl q ↦ k.alone g a (was g m) (filter_in is_waiting s.active a q r.1)
-        | inr e ↦ ap (λ (z : Active). lists g.flight z.flight.callsign) e ∙ none_found (λ g. lists g.flight f.callsign) (frozen_landings s) g p.3 (was g m)
+        | inr e ↦ ap (λ (z : Active). lists g.flight z.flight.callsign) e
+            ∙ none_found (λ g. lists g.flight f.callsign) (frozen_landings s) g p.3 (was g m)
       ];
     })

@@ -1,6 +1,7 @@
 -- The schedule that joins the frozen landings with a list of seconds by rank, in the rules' words and over
 -- numbers; and that a tight list gives a tight schedule.
-use Rattle.std.proofs.Common.{◌≡◌, ℕ, zero, suc, ◌-◌, ◌≤◌, inl, inr, List, [], ◌∷◌, length, map, filter, cond, count_by, get_or, arith, refl, sym, ap, ap₂, subst, ◌∙◌, zero-le}
+use Rattle.std.proofs.Common.{◌≡◌, ℕ, zero, suc, ◌-◌, ◌≤◌, inl, inr, List, [], ◌∷◌, length, map, filter, cond}
+use Rattle.std.proofs.Common.{count_by, get_or, arith, refl, sym, ap, ap₂, subst, ◌∙◌, zero-le}
 use Rattle.std.specs.Prelude.{Option, Some, None, unwrap_or, is_none}
 use Rattle.std.specs.List.{AllZip}
 use Rattle.std.specs.Ordering.{is_lt}
@@ -16,36 +17,47 @@ use Rattle.landing_joint.specs.Numbered.{numbered, second_of, numbers_of, waits_
 use Rattle.landing_joint.specs.shared.BestLists.{zip_of}
 use Rattle.landing_joint.specs.ByNumber.{number_at, joined}
 use Rattle.landing_joint.proofs.Joint.{active_are, comes_is}
-use Rattle.landing_joint.proofs.Problem.{joined_frozen, joined_rank, joined_long, each_number, list_gives_schedule, schedule_gives_list, among}
-use Rattle.cps_theory.specs.laws.NumberedLists.{count_by_map, count_by_agree, map_map, filter_map_is, in_numbers, numbers_in}
+use Rattle.landing_joint.proofs.Problem.{joined_frozen, joined_rank, joined_long, each_number, list_gives_schedule}
+use Rattle.landing_joint.proofs.Problem.{schedule_gives_list, among}
+use Rattle.cps_theory.specs.laws.NumberedLists.{count_by_map, count_by_agree, map_map, filter_map_is, in_numbers}
+use Rattle.cps_theory.specs.laws.NumberedLists.{numbers_in}
 
 pub map_agree : {X : Type 0} (f g : ℕ → X) (xs : List ℕ) → ((i : ℕ) → In i xs → f i ≡ g i) → map f xs ≡ map g xs
 map_agree f g [] h = refl
 map_agree f g (x ∷ xs) h = ap₂ (λ y l. y ∷ l) (h x (inl refl)) (map_agree f g xs (λ i m. h i (inr m)))
 
 module _ (s : Situation) (sound : IsSound s) where
-  waiting_are : map (λ (b : Active). b.flight) (waiting s) ≡ map (λ i. (numbered s.active i).flight) (numbered_situation s).waiting
+  waiting_are : map (λ (b : Active). b.flight) (waiting s) ≡ map (λ i. (numbered s.active i).flight)
+      (numbered_situation s).waiting
   waiting_are =
-      ap (λ l. map (λ (b : Active). b.flight) l) (ap (filter is_waiting) (active_are s.active) ∙ filter_map_is is_waiting (numbered s.active) (numbers_of s.active))
+      ap (λ l. map (λ (b : Active). b.flight) l) (ap (filter is_waiting) (active_are s.active)
+      ∙ filter_map_is is_waiting (numbered s.active) (numbers_of s.active))
       ∙ map_map (λ (b : Active). b.flight) (numbered s.active) (numbered_situation s).waiting
 
   -- the rank of a flight among the waiting flights
-  pub rank_is : (i : ℕ) → In i (numbers_of s.active) → rank (map (λ (b : Active). b.flight) (waiting s)) (numbered s.active i).flight ≡ rank_in (comes_before s.active) (numbered_situation s).waiting i
+  pub rank_is : (i : ℕ) → In i (numbers_of s.active)
+      → rank (map (λ (b : Active). b.flight) (waiting s)) (numbered s.active i).flight ≡ rank_in
+      (comes_before s.active) (numbered_situation s).waiting i
   rank_is i m =
       let w = (numbered_situation s).waiting in
       let f = (numbered s.active i).flight in
-      let e : count_by (λ g. is_lt (arrival_cmp g f)) (map (λ (b : Active). b.flight) (waiting s)) ≡ count_by (λ j. comes_before s.active j i) w =
-      ap (count_by (λ g. is_lt (arrival_cmp g f))) waiting_are ∙ count_by_map (λ g. is_lt (arrival_cmp g f)) (λ j. (numbered s.active j).flight) w
-      ∙ count_by_agree (λ j. is_lt (arrival_cmp (numbered s.active j).flight f)) (λ j. comes_before s.active j i) w (λ j k. sym (comes_is s sound j i (in_filter (waits_at s.active) j (numbers_of s.active) k).0 m)) in
+      let e : count_by (λ g. is_lt (arrival_cmp g f)) (map (λ (b : Active). b.flight) (waiting s)) ≡ count_by
+      (λ j. comes_before s.active j i) w =
+      ap (count_by (λ g. is_lt (arrival_cmp g f))) waiting_are
+      ∙ count_by_map (λ g. is_lt (arrival_cmp g f)) (λ j. (numbered s.active j).flight) w
+      ∙ count_by_agree (λ j. is_lt (arrival_cmp (numbered s.active j).flight f)) (λ j. comes_before s.active j i) w
+      (λ j k. sym (comes_is s sound j i (in_filter (waits_at s.active) j (numbers_of s.active) k).0 m)) in
       omega arith
 
   second_by : (v : Schedule) (r n : ℕ) → r ≡ suc n → get_or v (r - 1) 0 ≡ of_rank 0 v (suc n)
   second_by v r n e = ap (λ k. get_or v k 0) (omega arith)
 
   second_is : (v : Schedule) (i : ℕ) → In i (numbers_of s.active) → lists'.joined_second s v (numbered s.active i) ≡
-      cond (waits_at s.active i) (of_rank 0 v (rank_in (comes_before s.active) (numbered_situation s).waiting i)) ((numbered_situation s).frozen_at i)
+      cond (waits_at s.active i) (of_rank 0 v (rank_in (comes_before s.active) (numbered_situation s).waiting i))
+      ((numbered_situation s).frozen_at i)
   second_is v i m = go (numbered s.active i).frozen
-      (second_by v (rank (map (λ (b : Active). b.flight) (waiting s)) (numbered s.active i).flight) (count_by (λ g. comes_before s.active g i) (numbered_situation s).waiting) (rank_is i m))
+      (second_by v (rank (map (λ (b : Active). b.flight) (waiting s)) (numbered s.active i).flight)
+      (count_by (λ g. comes_before s.active g i) (numbered_situation s).waiting) (rank_is i m))
     where
       go : (o : Option ℕ) {x y : ℕ} → x ≡ y → unwrap_or o x ≡ cond (is_none o) y (unwrap_or o 0)
       go None e = e
@@ -56,11 +68,15 @@ module _ (s : Situation) (sound : IsSound s) where
   joined_in_words v =
       ap (map (lists'.joined_second s v)) (active_are s.active)
       ∙ map_map (lists'.joined_second s v) (numbered s.active) (numbers_of s.active)
-      ∙ map_agree (λ i. lists'.joined_second s v (numbered s.active i)) (λ i. cond (waits_at s.active i) (of_rank 0 v (rank_in (comes_before s.active) (numbered_situation s).waiting i)) ((numbered_situation s).frozen_at i)) (numbers_of s.active) (second_is v)
+      ∙ map_agree (λ i. lists'.joined_second s v (numbered s.active i))
+      (λ i. cond (waits_at s.active i)
+      (of_rank 0 v (rank_in (comes_before s.active) (numbered_situation s).waiting i))
+      ((numbered_situation s).frozen_at i)) (numbers_of s.active) (second_is v)
 
 module _ (s : Situation) (sound : IsSound s) (p : lists'.Problem) (of : lists'.IsProblemOf s p) where
   -- the seconds of two ranks, in a list and in the schedule that it gives
-  order_kept : (v w : Schedule) → length v ≡ length p.flights → HaveSameOrder (joined s v) (joined s w) → HaveSameOrder v w
+  order_kept : (v w : Schedule) → length v ≡ length p.flights → HaveSameOrder (joined s v) (joined s w)
+      → HaveSameOrder v w
   order_kept v w long same i j li lj =
       let qi : IsRank (length p.flights) (suc i) = (omega arith, omega arith) in
       let qj : IsRank (length p.flights) (suc j) = (omega arith, omega arith) in
@@ -71,17 +87,26 @@ module _ (s : Situation) (sound : IsSound s) (p : lists'.Problem) (of : lists'.I
       let vi : second_of (joined s v) (number_at s (suc i)) ≡ get_or v i 0 = joined_rank s sound p of v (suc i) qi in
       let vj : second_of (joined s v) (number_at s (suc j)) ≡ get_or v j 0 = joined_rank s sound p of v (suc j) qj in
       let wi : second_of (joined s w) (number_at s (suc i)) ≡ get_or w i 0 = joined_rank s sound p of w (suc i) qi in
-      let wj : second_of (joined s w) (number_at s (suc j)) ≡ get_or w j 0 = joined_rank s sound p of w (suc j) qj in
-      (λ lt. let a = o.0 (omega (arith, vi, vj, lt)) in omega (arith, wi, wj, a), λ lt. let a = o.1 (omega (arith, wi, wj, lt)) in omega (arith, vi, vj, a))
+      let wj : second_of (joined s w) (number_at s (suc j)) ≡ get_or w j 0 = joined_rank s sound p of w (suc j) qj in (
+        λ lt. let a = o.0 (omega (arith, vi, vj, lt)) in omega (arith, wi, wj, a),
+        λ lt. let a =
+            o.1 (omega (arith, wi, wj, lt)) in omega (arith, vi, vj, a),
+      )
 
-  earlier_kept : (v w : Schedule) → length v ≡ length p.flights → AllZip (λ a b. a ≤ b) v w → AllZip (λ a b. a ≤ b) (joined s v) (joined s w)
+  earlier_kept : (v w : Schedule) → length v ≡ length p.flights → AllZip (λ a b. a ≤ b) v w
+      → AllZip (λ a b. a ≤ b) (joined s v) (joined s w)
   earlier_kept v w long le =
       let nv = joined_long s sound p of v in
       let nw = joined_long s sound p of w in
-      let each = each_number s sound p of (λ i. second_of (joined s v) i ≤ second_of (joined s w) i) (waits v w long le) (λ i m. let a = joined_frozen s sound p of v i m in let b = joined_frozen s sound p of w i m in omega arith) in
-      zip_of (joined s v) (joined s w) (omega arith) (λ i lt. each i (numbers_in 0 (length s.active) i zero-le (omega arith)))
+      let each = each_number s sound p of (λ i. second_of (joined s v) i ≤ second_of (joined s w) i)
+      (waits v w long le) (λ i m. let a = joined_frozen s sound p of v i m in let b =
+      joined_frozen s sound p of w i m in omega arith) in
+      zip_of (joined s v) (joined s w) (omega arith)
+      (λ i lt. each i (numbers_in 0 (length s.active) i zero-le (omega arith)))
     where
-      waits : (v w : Schedule) → length v ≡ length p.flights → AllZip (λ a b. a ≤ b) v w → (r : ℕ) → IsRank (length p.flights) r → second_of (joined s v) (number_at s r) ≤ second_of (joined s w) (number_at s r)
+      waits : (v w : Schedule) → length v ≡ length p.flights → AllZip (λ a b. a ≤ b) v w → (r : ℕ)
+          → IsRank (length p.flights) r → second_of (joined s v) (number_at s r) ≤ second_of
+          (joined s w) (number_at s r)
       waits v w long le zero q = absurd (let a = q.0 in omega arith)
       waits v w long le (suc i) q =
           let a : second_of (joined s v) (number_at s (suc i)) ≡ get_or v i 0 = joined_rank s sound p of v (suc i) q in
@@ -96,5 +121,6 @@ module _ (s : Situation) (sound : IsSound s) (p : lists'.Problem) (of : lists'.I
     earliest = λ u f o.
         let w = schedule_gives_list s sound p of u f in
         let same : HaveSameOrder (joined s v) (joined s w.0) = subst (λ x. HaveSameOrder (joined s v) x) w.2 o in
-        subst (λ x. AllZip (λ a b. a ≤ b) (joined s v) x) (sym w.2) (earlier_kept v w.0 t.feasible.one_each (t.earliest w.0 w.1 (order_kept v w.0 t.feasible.one_each same)));
+        subst (λ x. AllZip (λ a b. a ≤ b) (joined s v) x) (sym w.2)
+        (earlier_kept v w.0 t.feasible.one_each (t.earliest w.0 w.1 (order_kept v w.0 t.feasible.one_each same)));
   }

@@ -1,13 +1,17 @@
 -- Landings in the order of their seconds, and what does not hang on their order.
-use Rattle.std.proofs.Common.{◌≡◌, ◌≢◌, ℕ, ◌+◌, ◌<◌, ◌≤◌, inl, inr, List, [], ◌∷◌, get_or, map, filter, cond, Bool, true, false, nat_lt, count_by, arith, refl, sym, ap}
+use Rattle.std.proofs.Common.{◌≡◌, ◌≢◌, ℕ, ◌+◌, ◌<◌, ◌≤◌, inl, inr, List, [], ◌∷◌, get_or, map, filter, cond, Bool}
+use Rattle.std.proofs.Common.{true, false, nat_lt, count_by, arith, refl, sym, ap}
 use Rattle.std.specs.Prelude.{All, IsTrue, IsPermutation}
 use Rattle.std.specs.Ordering.{is_lt}
 use Rattle.std.proofs.lemmas.Bool.{cases_Bool, cases_lt, lt-ltb, le-ltb}
-use Rattle.std.proofs.lemmas.List.Sorted.{IsPermutation-refl, IsPermutation-cons, IsPermutation-trans, IsPermutation-swap, IsPermutation-map, All-permutation, sum_by-IsPermutation}
+use Rattle.std.proofs.lemmas.List.Sorted.{IsPermutation-refl, IsPermutation-cons, IsPermutation-trans}
+use Rattle.std.proofs.lemmas.List.Sorted.{IsPermutation-swap, IsPermutation-map, All-permutation, sum_by-IsPermutation}
 use Rattle.landing_rules.specs.declared.objective.Objective.{Objective}
 use Rattle.landing_rules.specs.declared.objective.Objective.TheVariants.{Makespan, Delay}
 use Rattle.landing_rules.specs.Flights.{Flight, Situation, Landing, horizon}
-use Rattle.landing_rules.specs.Rules.{last_second, is_open, waits, arrival_cmp, rank_among, place, greatest, delay, cost, ArePairSeparated, IsPairInPrecedence, IsShiftKept, IsFrozenKept, KeepsShift, KeepsRules}
+use Rattle.landing_rules.specs.Rules.{last_second, is_open, waits, arrival_cmp, rank_among, place, greatest, delay}
+use Rattle.landing_rules.specs.Rules.{cost, ArePairSeparated, IsPairInPrecedence, IsShiftKept, IsFrozenKept}
+use Rattle.landing_rules.specs.Rules.{KeepsShift, KeepsRules}
 use Rattle.landing_rules.specs.Events.{insert_landing, in_landing_order}
 use Rattle.landing_rules.specs.shared.Counting.{Member}
 use Rattle.landing_rules.specs.shared.OneList.{one_list}
@@ -19,43 +23,68 @@ use Rattle.landing_joint.proofs.AuditLists.{Each}
 abbrev pub Strict : List Landing → Type 0
 Strict fs = Each (λ f g. f.second < g.second) fs
 
-pub strict_equal : (xs ys : List Landing) → Strict xs → Strict ys → ((z : Landing) → Member z xs → Member z ys) → ((z : Landing) → Member z ys → Member z xs) → xs ≡ ys
+pub strict_equal : (xs ys : List Landing) → Strict xs → Strict ys → ((z : Landing) → Member z xs → Member z ys)
+    → ((z : Landing) → Member z ys → Member z xs) → xs ≡ ys
 strict_equal xs ys d e f g = one_list (λ f g. f.second < g.second) (λ f g a b. omega arith) xs ys d e f g
 
 -- ---- by landing order
 
 -- landings of different seconds are strictly rising in their order
-pub strict_insert : (f : Landing) (fs : List Landing) → Strict fs → ((g : Landing) → Member g fs → g.second ≢ f.second) → Strict (insert_landing f fs)
+pub strict_insert : (f : Landing) (fs : List Landing) → Strict fs → ((g : Landing) → Member g fs → g.second ≢ f.second)
+    → Strict (insert_landing f fs)
 strict_insert f [] e ne = (λ y m. absurd m, tt)
 strict_insert f (x ∷ fs) e ne = elim (cases_lt x.second f.second) [
-  | inl lt ↦ rw (lt-ltb x.second f.second lt) (λ y m. elim (member_insert f y fs m) [ inl s ↦ rw s lt | inr k ↦ e.0 y k ], strict_insert f fs e.1 (λ g m. ne g (inr m)))
-  | inr le ↦ rw (le-ltb x.second f.second le) (let c = ne x (inl refl) in λ y m. elim m [ inl s ↦ rw s (omega arith) | inr k ↦ (let b = e.0 y k in omega arith) ], e)
+  | inl lt ↦ rw (lt-ltb x.second f.second lt) (
+    λ y m. elim (member_insert f y fs m) [ inl s ↦ rw s lt | inr k ↦ e.0 y k ],
+    strict_insert f fs e.1
+        (λ g m. ne g (inr m)),
+  )
+  | inr le ↦ rw (le-ltb x.second f.second le) (
+    let c =
+        ne x (inl refl) in λ y m. elim m [ inl s ↦ rw s (omega arith) | inr k ↦ (let b = e.0 y k in omega arith) ],
+    e,
+  )
 ]
 
 pub strict_order : (fs : List Landing) → Each (λ f g. f.second ≢ g.second) fs → Strict (in_landing_order fs)
 strict_order [] e = tt
-strict_order (f ∷ fs) e = strict_insert f (in_landing_order fs) (strict_order fs e.1) (λ g m q. e.0 g (order_member g fs m) (sym q))
+strict_order (f ∷ fs) e =
+    strict_insert f (in_landing_order fs) (strict_order fs e.1) (λ g m q. e.0 g (order_member g fs m) (sym q))
 
 -- ---- the rules and the objective do not hang on the order of landings
 
-pub filter_insert : (f : Landing) (fs : List Landing) → IsPermutation (filter waits (f ∷ fs)) (filter waits (insert_landing f fs))
+pub filter_insert : (f : Landing) (fs : List Landing)
+    → IsPermutation (filter waits (f ∷ fs)) (filter waits (insert_landing f fs))
 filter_insert f [] = IsPermutation-refl (filter waits (f ∷ []))
 filter_insert f (g ∷ fs) = go (nat_lt g.second f.second) (filter_insert f fs)
   where
-    by : (c d : Bool) → IsPermutation (cond c (f ∷ filter waits fs) (filter waits fs)) (filter waits (insert_landing f fs)) → IsPermutation (cond c (f ∷ cond d (g ∷ filter waits fs) (filter waits fs)) (cond d (g ∷ filter waits fs) (filter waits fs))) (cond d (g ∷ filter waits (insert_landing f fs)) (filter waits (insert_landing f fs)))
-    by true true h = IsPermutation-trans (f ∷ g ∷ filter waits fs) (g ∷ f ∷ filter waits fs) (g ∷ filter waits (insert_landing f fs)) (IsPermutation-swap (f ∷ g ∷ filter waits fs) (g ∷ f ∷ filter waits fs) 0 1 (omega arith) (omega arith) refl) (IsPermutation-cons g (f ∷ filter waits fs) (filter waits (insert_landing f fs)) h)
+    by : (c d : Bool) → IsPermutation (cond c (f ∷ filter waits fs) (filter waits fs))
+        (filter waits (insert_landing f fs))
+        → IsPermutation (cond c (f ∷ cond d (g ∷ filter waits fs) (filter waits fs))
+        (cond d (g ∷ filter waits fs) (filter waits fs)))
+        (cond d (g ∷ filter waits (insert_landing f fs)) (filter waits (insert_landing f fs)))
+    by true true h = IsPermutation-trans (f ∷ g ∷ filter waits fs) (g ∷ f ∷ filter waits fs)
+        (g ∷ filter waits (insert_landing f fs)) (IsPermutation-swap (f ∷ g ∷ filter waits fs)
+        (g ∷ f ∷ filter waits fs) 0 1 (omega arith) (omega arith) refl)
+        (IsPermutation-cons g (f ∷ filter waits fs) (filter waits (insert_landing f fs)) h)
     by true false h = h
     by false true h = IsPermutation-cons g (filter waits fs) (filter waits (insert_landing f fs)) h
     by false false h = h
 
-    go : (b : Bool) → IsPermutation (filter waits (f ∷ fs)) (filter waits (insert_landing f fs)) → IsPermutation (filter waits (f ∷ g ∷ fs)) (filter waits (cond b (g ∷ insert_landing f fs) (f ∷ g ∷ fs)))
+    go : (b : Bool) → IsPermutation (filter waits (f ∷ fs)) (filter waits (insert_landing f fs))
+        → IsPermutation (filter waits (f ∷ g ∷ fs)) (filter waits (cond b (g ∷ insert_landing f fs) (f ∷ g ∷ fs)))
     go true h = by (waits f) (waits g) h
     go false h = IsPermutation-refl (filter waits (f ∷ g ∷ fs))
 
 pub filter_order : (fs : List Landing) → IsPermutation (filter waits fs) (filter waits (in_landing_order fs))
 filter_order [] = IsPermutation-refl []
-filter_order (f ∷ fs) = IsPermutation-trans (filter waits (f ∷ fs)) (filter waits (f ∷ in_landing_order fs)) (filter waits (insert_landing f (in_landing_order fs)))
-    (elim (cases_Bool (waits f)) [ inl e ↦ rw e (IsPermutation-cons f _ _ (filter_order fs)) | inr e ↦ rw e (filter_order fs) ]) (filter_insert f (in_landing_order fs))
+filter_order (f ∷ fs) = IsPermutation-trans (filter waits (f ∷ fs)) (filter waits (f ∷ in_landing_order fs))
+    (filter waits (insert_landing f (in_landing_order fs)))
+    (elim (cases_Bool (waits f)) [
+      | inl e ↦ rw e (IsPermutation-cons f _ _ (filter_order fs))
+      | inr e ↦
+          rw e (filter_order fs)
+    ]) (filter_insert f (in_landing_order fs))
 
 -- how many pass a test doesn't hang on the order
 pub count-moved : {X : Type 0} (p : X → Bool) (xs ys : List X) → IsPermutation xs ys → count_by p xs ≡ count_by p ys
@@ -67,7 +96,8 @@ place-moved xs ys h f = ap (λ n. 1 + n) (count-moved (λ g. nat_lt g.second f.s
 pub rank-moved : (xs ys : List Landing) → IsPermutation xs ys → (f : Landing) → rank_among xs f ≡ rank_among ys f
 rank-moved xs ys h f =
     let flight : Landing → Flight = λ g. g.flight in
-    ap (λ n. 1 + n) (count-moved (λ g. is_lt (arrival_cmp g f.flight)) (map flight xs) (map flight ys) (IsPermutation-map flight xs ys h))
+    ap (λ n. 1 + n) (count-moved (λ g. is_lt (arrival_cmp g f.flight)) (map flight xs) (map flight ys)
+    (IsPermutation-map flight xs ys h))
 
 pub shift-moved : (k : ℕ) (xs ys : List Landing) → IsPermutation xs ys → KeepsShift k xs → KeepsShift k ys
 shift-moved k xs ys h a = All-permutation (IsShiftKept k ys) xs ys h (λ i d lt.
@@ -77,10 +107,13 @@ shift-moved k xs ys h a = All-permutation (IsShiftKept k ys) xs ys h (λ i d lt.
     let r = rank-moved xs ys h f in
     (omega (arith, kept.0, p, r), omega (arith, kept.1, p, r)))
 
-pub pairs-moved : (R : Landing → Landing → Type 0) (xs ys : List Landing) → IsPermutation xs ys → All (λ f. All (R f) xs) xs → All (λ f. All (R f) ys) ys
-pairs-moved R xs ys h a = All-permutation (λ f. All (R f) ys) xs ys h (λ k d lt. All-permutation (R (get_or xs k d)) xs ys h (a k d lt))
+pub pairs-moved : (R : Landing → Landing → Type 0) (xs ys : List Landing) → IsPermutation xs ys
+    → All (λ f. All (R f) xs) xs → All (λ f. All (R f) ys) ys
+pairs-moved R xs ys h a =
+    All-permutation (λ f. All (R f) ys) xs ys h (λ k d lt. All-permutation (R (get_or xs k d)) xs ys h (a k d lt))
 
-pub rules-moved : (s : Situation) (xs ys : List Landing) → IsPermutation xs ys → IsPermutation (filter waits xs) (filter waits ys) → KeepsRules s xs → KeepsRules s ys
+pub rules-moved : (s : Situation) (xs ys : List Landing) → IsPermutation xs ys
+    → IsPermutation (filter waits xs) (filter waits ys) → KeepsRules s xs → KeepsRules s ys
 rules-moved s xs ys h w r = record {
   in_days = All-permutation (λ f. f.second ≤ last_second) xs ys h r.in_days;
   open_seconds = All-permutation (λ f. IsTrue (is_open f.flight.windows s.closures f.second)) xs ys h r.open_seconds;
@@ -90,11 +123,15 @@ rules-moved s xs ys h w r = record {
   frozen_kept = All-permutation (IsFrozenKept (horizon s)) xs ys h r.frozen_kept;
 }
 
-pub greatest_insert : (f : Landing) (fs : List Landing) → greatest (map (λ (g : Landing). g.second) (insert_landing f fs)) ≡ greatest (map (λ (g : Landing). g.second) (f ∷ fs))
+pub greatest_insert : (f : Landing) (fs : List Landing)
+    → greatest (map (λ (g : Landing). g.second) (insert_landing f fs)) ≡ greatest
+    (map (λ (g : Landing). g.second) (f ∷ fs))
 greatest_insert f [] = refl
-greatest_insert f (x ∷ fs) = let h = greatest_insert f fs in elim (cases_Bool (nat_lt x.second f.second)) [ inl e ↦ rw e (omega arith) | inr e ↦ rw e ]
+greatest_insert f (x ∷ fs) = let h =
+    greatest_insert f fs in elim (cases_Bool (nat_lt x.second f.second)) [ inl e ↦ rw e (omega arith) | inr e ↦ rw e ]
 
 pub cost_order : (o : Objective) (fs : List Landing) → cost o (in_landing_order fs) ≡ cost o fs
 cost_order Makespan [] = refl
-cost_order Makespan (f ∷ fs) = let a = greatest_insert f (in_landing_order fs) in let b = cost_order Makespan fs in omega arith
+cost_order Makespan (f ∷ fs) = let a = greatest_insert f (in_landing_order fs) in let b =
+    cost_order Makespan fs in omega arith
 cost_order Delay fs = sum_by-IsPermutation delay fs (in_landing_order fs) (order_permutes fs)

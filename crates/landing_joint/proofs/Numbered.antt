@@ -10,7 +10,9 @@ use Rattle.cps_theory.specs.laws.NumberedLists.{map_numbers}
 abbrev pub landing_at : List Active → Schedule → ℕ → Landing
 landing_at all t i = landing (numbered all i) (second_of t i)
 
-pub landings_are : (all : List Active) (t : Schedule) → length t ≡ length all → landings all t ≡ map (landing_at all t) (numbers_of all)
+pub landings_are : (all : List Active) (t : Schedule) → length t ≡ length all
+    → landings all t ≡ map (landing_at all t) (numbers_of all)
 landings_are [] t e = refl
 landings_are (a ∷ all) [] e = absurd (omega arith)
-landings_are (a ∷ all) (u ∷ t) e = ap (λ l. landing a u ∷ l) (landings_are all t (omega arith) ∙ sym (map_numbers (landing_at (a ∷ all) (u ∷ t)) 0 (length all)))
+landings_are (a ∷ all) (u ∷ t) e = ap (λ l. landing a u ∷ l) (landings_are all t (omega arith)
+    ∙ sym (map_numbers (landing_at (a ∷ all) (u ∷ t)) 0 (length all)))

@@ -1,12 +1,14 @@
 -- With the carry a flight is passed by at most k flights, as long as nobody new comes to stand ahead of it.
-use Rattle.std.proofs.Common.{◌≡◌, ℕ, ◌+◌, ◌≤◌, inl, inr, min, true, false, List, Some, refl, sym, ap, ap₂, subst, ◌∙◌, arith}
+use Rattle.std.proofs.Common.{◌≡◌, ℕ, ◌+◌, ◌≤◌, inl, inr, min, true, false, List, Some, refl, sym, ap, ap₂, subst, ◌∙◌}
+use Rattle.std.proofs.Common.{arith}
 use Rattle.std.specs.Prelude.{◌≢◌, is_some}
 use Rattle.std.specs.Ordering.{is_lt}
 use Rattle.std.proofs.lemmas.Bool.{false≢true, le-ltb}
 use Rattle.std.proofs.lemmas.List.Kept.{AllPairs-filter}
 use Rattle.std.proofs.lemmas.Slice.Eq.{bytes_eq-Decides}
 use Rattle.std.proofs.lemmas.Option.{same_Some}
-use Rattle.landing_rules.specs.Flights.{Active, Callsign, Flight, Schedule, Situation, horizon, is_waiting, landings, waiting}
+use Rattle.landing_rules.specs.Flights.{Active, Callsign, Flight, Schedule, Situation, horizon, is_waiting, landings}
+use Rattle.landing_rules.specs.Flights.{waiting}
 use Rattle.landing_rules.specs.Rules.{arrival_cmp, IsFeasible}
 use Rattle.landing_rules.specs.Events.{Clock, named, situation_after}
 use Rattle.landing_rules.specs.Sound.{IsSound}
@@ -15,35 +17,47 @@ use Rattle.cps_theory.specs.Freeze.{KeepsCountedShift, overtook, staying_of}
 use Rattle.cps_theory.specs.NumberedSituation as numbers
 use Rattle.cps_theory.specs.laws.Members.{filter_in, in_filter}
 use Rattle.landing_joint.specs.Numbered.{numbered, second_of, numbers_of, waits_at, comes_before, numbered_situation}
-use Rattle.landing_joint.specs.PassedOver.{waiting_flight, waits_in, count_passing, ArePassedAtLeast, ClockCounts, ClockCountsLaw, ClockCountsExactlyLaw}
+use Rattle.landing_joint.specs.PassedOver.{waiting_flight, waits_in, count_passing, ArePassedAtLeast, ClockCounts}
+use Rattle.landing_joint.specs.PassedOver.{ClockCountsLaw, ClockCountsExactlyLaw}
 use Rattle.landing_joint.proofs.Members.{Differ, callsigns, differ_of, one_of_name}
 use Rattle.landing_joint.proofs.FlightSteps.{named_is}
 use Rattle.landing_joint.proofs.FirstStays.{bound_overtook, few_overtook_itself, fewer_overtook}
 use Rattle.landing_joint.proofs.Joint.{all_among, comes_is, feasible_numbered, first_come, passed_low}
-use Rattle.landing_joint.proofs.Clock.{at_after, forth_of, late_after, passing_is, same_flight, waiting_after, waiting_before, waiting_changed}
+use Rattle.landing_joint.proofs.Clock.{at_after, forth_of, late_after, passing_is, same_flight, waiting_after}
+use Rattle.landing_joint.proofs.Clock.{waiting_before, waiting_changed}
 use Rattle.landing_rules.specs.shared.Counting.{Member}
 use Rattle.landing_rules.specs.shared.Members.{in_map, map_in, found_in, none_found, cases_option, all_at, all_from}
 
 -- ---- the flight of a name
 
-pub found : (s : Situation) (c : Callsign) (f : Active) → waiting_flight s c ≡ Some f → Member f (waiting s) × (f.flight.callsign ≡ c)
+pub found : (s : Situation) (c : Callsign) (f : Active) → waiting_flight s c ≡ Some f
+    → Member f (waiting s) × (f.flight.callsign ≡ c)
 found s c f e = let r = found_in (named c) (waiting s) f e in (r.0, named_is c f r.1)
 
 pub names_waiting : (s : Situation) → IsSound s → Differ (callsigns (waiting s))
-names_waiting s sound = differ_of (waiting s) (AllPairs-filter (λ (a b : Active). a.flight.callsign ≢ b.flight.callsign) is_waiting s.active sound.callsigns)
+names_waiting s sound = differ_of (waiting s)
+    (AllPairs-filter (λ (a b : Active). a.flight.callsign ≢ b.flight.callsign) is_waiting s.active sound.callsigns)
 
-pub is_found : (s : Situation) → IsSound s → (c : Callsign) (f : Active) → Member f (waiting s) → f.flight.callsign ≡ c → waiting_flight s c ≡ Some f
+pub is_found : (s : Situation) → IsSound s → (c : Callsign) (f : Active) → Member f (waiting s)
+    → f.flight.callsign ≡ c → waiting_flight s c ≡ Some f
 is_found s sound c f m e = elim (cases_option (waiting_flight s c)) [
-  | inl q ↦ absurd (false≢true (sym (none_found (named c) (waiting s) f q m) ∙ (bytes_eq-Decides f.flight.callsign c).1 e))
-  | inr w ↦ (let r = found s c w.0 w.1 in w.1 ∙ ap Some (one_of_name (waiting s) w.0 f (names_waiting s sound) r.0 m (r.1 ∙ sym e)))
+  | inl q ↦ absurd (false≢true (sym (none_found (named c) (waiting s) f q m)
+      ∙ (bytes_eq-Decides f.flight.callsign c).1 e))
+  | inr w ↦ (let r = found s c w.0 w.1 in w.1
+      ∙ ap Some (one_of_name (waiting s) w.0 f (names_waiting s sound) r.0 m (r.1 ∙ sym e)))
 ]
 
 pub some_flight : (s : Situation) (c : Callsign) → waits_in s c ≡ true → (f : Active) × (waiting_flight s c ≡ Some f)
-some_flight s c e = elim (cases_option (waiting_flight s c)) [ inl q ↦ absurd (false≢true (sym (ap is_some q) ∙ e)) | inr w ↦ w ]
+some_flight s c e = elim (cases_option (waiting_flight s c)) [
+  | inl q ↦ absurd
+      (false≢true (sym (ap is_some q) ∙ e))
+  | inr w ↦ w
+]
 
 -- ---- a clock event, by any feasible plan
 
-module _ (s : Situation) (sound : IsSound s) (t : Schedule) (ok : IsFeasible s t) (now : ℕ) (forth : horizon s ≤ now + s.aerodrome.freeze) (carry : s.aerodrome.carry ≡ true) where
+module _ (s : Situation) (sound : IsSound s) (t : Schedule) (ok : IsFeasible s t) (now : ℕ)
+    (forth : horizon s ≤ now + s.aerodrome.freeze) (carry : s.aerodrome.carry ≡ true) where
   abbrev h : ℕ
   h = now + s.aerodrome.freeze
 
@@ -59,7 +73,8 @@ module _ (s : Situation) (sound : IsSound s) (t : Schedule) (ok : IsFeasible s t
   abbrev over : ℕ → ℕ
   over i = overtook (comes_before s.active) (second_of t) h ns.waiting i
 
-  shifted : (i : ℕ) → In i ns.waiting → KeepsCountedShift s.aerodrome.k ns.back (comes_before s.active) (second_of t) ns.waiting i
+  shifted : (i : ℕ) → In i ns.waiting → KeepsCountedShift s.aerodrome.k ns.back (comes_before s.active)
+      (second_of t) ns.waiting i
   shifted = (feasible_numbered s sound t ok.0 ok).shifted
 
   stays : (i : ℕ) → In i stay → In i (numbers_of s.active) × (waits_at s.active i ≡ true) × (h ≤ second_of t i)
@@ -69,37 +84,44 @@ module _ (s : Situation) (sound : IsSound s) (t : Schedule) (ok : IsFeasible s t
   waited i m = let w = stays i m in filter_in (waits_at s.active) i (numbers_of s.active) w.0 w.1
 
   -- whoever stays counts those that overtook it
-  counted_after : (i : ℕ) → In i stay → (numbered changed.active i).passed ≡ min s.aerodrome.k ((numbered s.active i).passed + over i)
+  counted_after : (i : ℕ) → In i stay → (numbered changed.active i).passed ≡ min s.aerodrome.k
+      ((numbered s.active i).passed + over i)
   counted_after i m =
       let w = stays i m in
       (at_after s sound t ok now forth i w.0).counted carry w.1 (le-ltb (second_of t i) h w.2)
       ∙ ap (λ n. min s.aerodrome.k ((numbered s.active i).passed + n)) (passing_is s sound t ok now forth i w.0)
 
   -- by number, where each that does not stand behind i was passed g times
-  module _ (g : ℕ) (i : ℕ) (m : In i stay) (least : (x : ℕ) → In x ns.waiting → comes_before s.active i x ≡ false → g ≤ (numbered s.active x).passed) where
+  module _ (g : ℕ) (i : ℕ) (m : In i stay) (least : (x : ℕ) → In x ns.waiting → comes_before s.active i x ≡ false
+      → g ≤ (numbered s.active x).passed) where
     few_numbers : g + over i ≤ s.aerodrome.k
     few_numbers =
-        let r = bound_overtook (comes_before s.active) (first_come s.active) (second_of t) ns.waiting s.aerodrome.k h ns.back shifted i m in
+        let r = bound_overtook (comes_before s.active) (first_come s.active)
+        (second_of t) ns.waiting s.aerodrome.k h ns.back shifted i m in
         let p = passed_low s sound t ok.0 r.0 (stays r.0 r.1).0 in
         let l = least r.0 (waited r.0 r.1) r.2 in
         let b = r.3 in
         omega arith
 
-    counted_numbers : (x : ℕ) → In x stay → comes_before s.active i x ≡ false → g + over i ≤ (numbered changed.active x).passed
+    counted_numbers : (x : ℕ) → In x stay → comes_before s.active i x ≡ false
+        → g + over i ≤ (numbered changed.active x).passed
     counted_numbers x n ahead =
         let few = few_numbers in
         let l = least x (waited x n) ahead in
-        let o = fewer_overtook (comes_before s.active) (first_come s.active) (second_of t) ns.waiting s.aerodrome.k h ns.back shifted i x ahead in
+        let o = fewer_overtook (comes_before s.active) (first_come s.active)
+        (second_of t) ns.waiting s.aerodrome.k h ns.back shifted i x ahead in
         let e = counted_after x n in
         omega arith
 
   at_number : (y : Active) → Member y (waiting changed) → (i : ℕ) × In i stay × (y ≡ numbered changed.active i)
   at_number y m =
-      let r = in_map (numbered changed.active) (numbered_situation changed).waiting y (subst (Member y) (waiting_changed s sound t ok now forth) m) in
+      let r = in_map (numbered changed.active) (numbered_situation changed).waiting y
+      (subst (Member y) (waiting_changed s sound t ok now forth) m) in
       (r.0, subst (In r.0) (waiting_after s sound t ok now forth) r.1, r.2)
 
   was_waiting : (i : ℕ) → In i ns.waiting → Member (numbered s.active i) (waiting s)
-  was_waiting i m = subst (Member (numbered s.active i)) (sym (waiting_before s sound t ok now forth)) (map_in (numbered s.active) ns.waiting i m)
+  was_waiting i m = subst (Member (numbered s.active i)) (sym (waiting_before s sound t ok now forth))
+      (map_in (numbered s.active) ns.waiting i m)
 
   flight_at : (y : Active) (i : ℕ) → In i stay → y ≡ numbered changed.active i → y.flight ≡ (numbered s.active i).flight
   flight_at y i m e = ap (λ (a : Active). a.flight) e ∙ same_flight s sound t ok now forth i (stays i m).0
@@ -133,30 +155,37 @@ module _ (s : Situation) (sound : IsSound s) (t : Schedule) (ok : IsFeasible s t
           n.0,
           record {
             stays = n.1;
-            was = one_of_name (waiting s) f (numbered s.active n.0) (names_waiting s sound) was.0 (was_waiting n.0 (waited n.0 n.1)) (was.1 ∙ sym same);
+            was = one_of_name (waiting s) f (numbered s.active n.0) (names_waiting s sound) was.0
+                (was_waiting n.0 (waited n.0 n.1)) (was.1 ∙ sym same);
             is = b.1 ∙ ap Some n.2;
           },
         )
 
     passing_are : (i : ℕ) → Named i → passing ≡ over i
-    passing_are i n = ap (λ (a : Active). count_passing h (landings s.active t) a.flight) n.was ∙ passing_is s sound t ok now forth i (stays i n.stays).0
+    passing_are i n = ap (λ (a : Active). count_passing h (landings s.active t) a.flight) n.was
+        ∙ passing_is s sound t ok now forth i (stays i n.stays).0
 
     module _ (g : ℕ) (least : ArePassedAtLeast g s c) (i : ℕ) (n : Named i) where
       -- who does not stand behind by number does not by arrival
-      behind_are : (x : ℕ) → In x ns.waiting → comes_before s.active i x ≡ is_lt (arrival_cmp f.flight (numbered s.active x).flight)
+      behind_are : (x : ℕ) → In x ns.waiting
+          → comes_before s.active i x ≡ is_lt (arrival_cmp f.flight (numbered s.active x).flight)
       behind_are x m =
           comes_is s sound i x (stays i n.stays).0 (in_filter (waits_at s.active) x (numbers_of s.active) m).0
           ∙ ap (λ (a : Active). is_lt (arrival_cmp a.flight (numbered s.active x).flight)) (sym n.was)
 
       least_numbers : (x : ℕ) → In x ns.waiting → comes_before s.active i x ≡ false → g ≤ (numbered s.active x).passed
-      least_numbers x m ahead = all_at (λ (x : Active). is_lt (arrival_cmp f.flight x.flight) ≡ false → g ≤ x.passed) (waiting s) (least f here) (numbered s.active x) (was_waiting x m) (sym (behind_are x m) ∙ ahead)
+      least_numbers x m ahead = all_at (λ (x : Active). is_lt (arrival_cmp f.flight x.flight) ≡ false
+          → g ≤ x.passed) (waiting s) (least f here) (numbered s.active x) (was_waiting x m)
+          (sym (behind_are x m) ∙ ahead)
 
-      counted_each : (y : Active) → Member y (waiting changed) → is_lt (arrival_cmp (numbered changed.active i).flight y.flight) ≡ false → g + passing ≤ y.passed
+      counted_each : (y : Active) → Member y (waiting changed)
+          → is_lt (arrival_cmp (numbered changed.active i).flight y.flight) ≡ false → g + passing ≤ y.passed
       counted_each y m ahead =
           let x = at_number y m in
           let a = flight_at (numbered changed.active i) i n.stays refl ∙ ap (λ (b : Active). b.flight) (sym n.was) in
           let b = flight_at y x.0 x.1 x.2 in
-          let not_behind = behind_are x.0 (waited x.0 x.1) ∙ ap₂ (λ p q. is_lt (arrival_cmp p q)) (sym a) (sym b) ∙ ahead in
+          let not_behind = behind_are x.0 (waited x.0 x.1) ∙ ap₂ (λ p q. is_lt (arrival_cmp p q)) (sym a) (sym b)
+          ∙ ahead in
           let few = counted_numbers g i n.stays least_numbers x.0 x.1 not_behind in
           let p = passing_are i n in
           let e = ap (λ (z : Active). z.passed) x.2 in
@@ -165,7 +194,8 @@ module _ (s : Situation) (sound : IsSound s) (t : Schedule) (ok : IsFeasible s t
       counts : ClockCounts s t now c f g
       counts = record {
         few = (let a = few_numbers g i n.stays least_numbers in let p = passing_are i n in omega arith);
-        counted = λ b e. all_from (λ (y : Active). is_lt (arrival_cmp b.flight y.flight) ≡ false → g + passing ≤ y.passed) (waiting changed) (λ y m ahead.
+        counted = λ b e. all_from (λ (y : Active). is_lt (arrival_cmp b.flight y.flight) ≡ false
+            → g + passing ≤ y.passed) (waiting changed) (λ y m ahead.
             let same = same_Some b (numbered changed.active i) (sym e ∙ n.is) in
             counted_each y m (ap (λ (a : Active). is_lt (arrival_cmp a.flight y.flight)) (sym same) ∙ ahead));
       }
@@ -174,12 +204,15 @@ module _ (s : Situation) (sound : IsSound s) (t : Schedule) (ok : IsFeasible s t
     clock_counts_at g least = let n = named_number in counts g least n.0 n.1
 
     -- where k is at most 1, its own leave to go back bounds those that pass it, so that its count tells them
-    pub counts_exactly : s.aerodrome.k ≤ 1 → (b : Active) → waiting_flight changed c ≡ Some b → b.passed ≡ f.passed + passing
+    pub counts_exactly : s.aerodrome.k ≤ 1 → (b : Active) → waiting_flight changed c ≡ Some b
+        → b.passed ≡ f.passed + passing
     counts_exactly low b e =
         let n = named_number in
         let i = n.0 in
         let w = stays i n.1.stays in
-        let few = few_overtook_itself (comes_before s.active) (first_come s.active) (second_of t) ns.waiting s.aerodrome.k ns.back shifted (λ x m. omega arith) seconds_differ h i (waited i n.1.stays) w.2 in
+        let few = few_overtook_itself (comes_before s.active) (first_come s.active)
+        (second_of t) ns.waiting s.aerodrome.k ns.back shifted (λ x m. omega arith) seconds_differ h i
+        (waited i n.1.stays) w.2 in
         let p = passed_low s sound t ok.0 i w.0 in
         let a = counted_after i n.1.stays in
         let same = ap (λ (z : Active). z.passed) (same_Some b (numbered changed.active i) (sym e ∙ n.1.is)) in
@@ -188,8 +221,10 @@ module _ (s : Situation) (sound : IsSound s) (t : Schedule) (ok : IsFeasible s t
         omega arith
 
 pub clock_counts : ClockCountsLaw
-clock_counts s t now c f g sound carry ok e here later least = clock_counts_at s sound t ok now (forth_of s.clock now s.aerodrome.freeze e) carry c f here later g least
+clock_counts s t now c f g sound carry ok e here later least =
+    clock_counts_at s sound t ok now (forth_of s.clock now s.aerodrome.freeze e) carry c f here later g least
 
 pub clock_counts_exactly : ClockCountsExactlyLaw
 clock_counts_exactly s t now c f g sound carry low ok e here later =
-    counts_exactly s sound t ok now (forth_of s.clock now s.aerodrome.freeze e) carry c f here (ap is_some later) low g later
+    counts_exactly s sound t ok now (forth_of s.clock now s.aerodrome.freeze e) carry c f here
+    (ap is_some later) low g later

@@ -1,5 +1,7 @@
 -- The problem of a situation is a problem of the theory, and its feasible lists are the feasible maps.
-use Rattle.std.proofs.Common.{◌≡◌, ℕ, zero, suc, ◌+◌, ◌-◌, ◌*◌, ◌<◌, ◌≤◌, ◌⊎◌, inl, inr, List, [], ◌∷◌, length, get_or, map, filter, cond, Bool, false, not, ◌&&◌, nat_le, zero-le, le_antisymm, add-one, arith, refl, sym, ap, ap₂, subst, ◌∙◌}
+use Rattle.std.proofs.Common.{◌≡◌, ℕ, zero, suc, ◌+◌, ◌-◌, ◌*◌, ◌<◌, ◌≤◌, ◌⊎◌, inl, inr, List, [], ◌∷◌, length, get_or}
+use Rattle.std.proofs.Common.{map, filter, cond, Bool, false, not, ◌&&◌, nat_le, zero-le, le_antisymm, add-one, arith}
+use Rattle.std.proofs.Common.{refl, sym, ap, ap₂, subst, ◌∙◌}
 use Rattle.std.specs.Prelude.{filter_map, option_map, unwrap_or, is_none, sum_by, Option, Some, None, IsPermutation}
 use Rattle.std.specs.List.{AllZip, list_any, cons_option, zip}
 use Rattle.std.proofs.lemmas.Bool.{cases_eq, cases_lt, cases_Bool, and_parts, and_from, and_right, not-true}
@@ -9,7 +11,8 @@ use Rattle.wake_table.specs.Table.{separation}
 use Rattle.landing_rules.specs.declared.objective.Objective.{Objective}
 use Rattle.landing_rules.specs.declared.objective.Objective.TheVariants.{Makespan, Delay}
 use Rattle.landing_rules.specs.Flights.{Landing, landing, Active, Situation, Schedule, is_waiting, waiting}
-use Rattle.landing_rules.specs.Rules.{is_within, is_open, last_second, greatest, delay, cost, objective, IsFeasible, IsBest}
+use Rattle.landing_rules.specs.Rules.{is_within, is_open, last_second, greatest, delay, cost, objective, IsFeasible}
+use Rattle.landing_rules.specs.Rules.{IsBest}
 use Rattle.landing_rules.specs.Events.{frozen_landings}
 use Rattle.std.proofs.lemmas.List.Sums.{sum_by-cons}
 use Rattle.std.proofs.lemmas.Slice.Zip.{length-zip, get_or-zip}
@@ -21,14 +24,16 @@ use Rattle.cps_theory.specs.NumberedSituation as numbers
 use Rattle.cps_theory.specs.Freeze.{rank_in}
 use Rattle.cps_theory.specs.laws.Members.{in_filter, filter_in}
 use Rattle.cps_theory.specs.laws.ProblemOfSituation.{rank_is, problem_feasible, feasible_problem}
-use Rattle.landing_joint.specs.Numbered.{nobody, numbered, second_of, numbers_of, waits_at, comes_before, numbered_situation}
+use Rattle.landing_joint.specs.Numbered.{nobody, numbered, second_of, numbers_of, waits_at, comes_before}
+use Rattle.landing_joint.specs.Numbered.{numbered_situation}
 use Rattle.landing_joint.specs.RankedProblem.{no_waiting, after_last, ranked}
 use Rattle.landing_joint.specs.ByNumber.{numbers_by_rank, number_at, joined}
 use Rattle.landing_joint.specs.shared.RankedLists.{each_at, list_feasible, feasible_list, feasible_agree}
 use Rattle.landing_joint.proofs.Numbered.{landing_at, landings_are}
 use Rattle.landing_joint.proofs.Joint.{active_are, sound_numbered, feasible_numbered, numbered_feasible}
 use Rattle.landing_joint.specs.shared.OpenDays.{open_low}
-use Rattle.landing_joint.proofs.ByNumber.{sorted_in, in_sorted, sorted_permutes, sorted_ordered, map_sorted, slice_map, last_frozen_is}
+use Rattle.landing_joint.proofs.ByNumber.{sorted_in, in_sorted, sorted_permutes, sorted_ordered, map_sorted, slice_map}
+use Rattle.landing_joint.proofs.ByNumber.{last_frozen_is}
 use Rattle.cps_theory.specs.laws.ByRank.{ranks_permute, at_in, in_at, ordered_at, get_past, zip_at, zip_long}
 use Rattle.cps_theory.specs.laws.NumberedLists.{map_map, filter_map_is, in_numbers, numbers_in}
 use Rattle.cps_theory.specs.laws.RanksBelow.{in_upto}
@@ -39,24 +44,46 @@ use Rattle.landing_joint.specs.shared.FirstBestLists.{numbers_get, numbers_long}
 use Rattle.landing_joint.specs.shared.BestLists.{sum_map}
 use Rattle.std.specs.Cmp.{both_ways}
 
-sum_parts : (g : ℕ → ℕ) (p : ℕ → Bool) (xs : List ℕ) → sum_by g xs ≡ sum_by g (filter (λ x. not (p x)) xs) + sum_by g (filter p xs)
+sum_parts : (g : ℕ → ℕ) (p : ℕ → Bool) (xs : List ℕ)
+    → sum_by g xs ≡ sum_by g (filter (λ x. not (p x)) xs) + sum_by g (filter p xs)
 sum_parts g p [] = omega arith
-sum_parts g p (x ∷ xs) = let h = sum_parts g p xs in elim (cases_Bool (p x)) [ inl e ↦ rw e (omega (arith, sum_by-cons g)) | inr e ↦ rw e (omega (arith, sum_by-cons g)) ]
+sum_parts g p (x ∷ xs) = let h = sum_parts g p xs in
+    elim (cases_Bool (p x)) [
+      | inl e ↦ rw e (omega (arith, sum_by-cons g))
+      | inr e ↦
+          rw e (omega (arith, sum_by-cons g))
+    ]
 
-filter_numbers : (p : ℕ → Bool) (b n : ℕ) → filter p (numbers_from (suc b) n) ≡ map suc (filter (λ i. p (suc i)) (numbers_from b n))
+filter_numbers : (p : ℕ → Bool) (b n : ℕ) → filter p (numbers_from (suc b) n) ≡ map suc
+    (filter (λ i. p (suc i)) (numbers_from b n))
 filter_numbers p b zero = refl
-filter_numbers p b (suc n) = let h = filter_numbers p (suc b) n in elim (cases_Bool (p (suc b))) [ inl e ↦ rw e (ap (λ l. suc b ∷ l) h) | inr e ↦ rw e h ]
+filter_numbers p b (suc n) = let h =
+    filter_numbers p (suc b) n in elim (cases_Bool (p (suc b))) [
+      | inl e ↦ rw e (ap (λ l. suc b ∷ l) h)
+      | inr e ↦
+          rw e h
+    ]
 
 -- the frozen landings are those of the frozen numbers
-frozen_are : (all : List Active) → filter_map (λ a. option_map (landing a) a.frozen) all ≡ map (λ i. landing (numbered all i) (unwrap_or (numbered all i).frozen 0)) (filter (λ i. not (waits_at all i)) (numbers_of all))
+frozen_are : (all : List Active) → filter_map (λ a. option_map (landing a) a.frozen) all ≡ map
+    (λ i. landing (numbered all i) (unwrap_or (numbered all i).frozen 0))
+    (filter (λ i. not (waits_at all i)) (numbers_of all))
 frozen_are [] = refl
 frozen_are (a ∷ all) =
     let L = λ (i : ℕ). landing (numbered (a ∷ all) i) (unwrap_or (numbered (a ∷ all) i).frozen 0) in
-    let rest : filter_map (λ b. option_map (landing b) b.frozen) all ≡ map L (filter (λ i. not (waits_at (a ∷ all) i)) (numbers_from 1 (length all))) =
-    frozen_are all ∙ sym (ap (map L) (filter_numbers (λ i. not (waits_at (a ∷ all) i)) 0 (length all)) ∙ map_map L suc (filter (λ i. not (waits_at all i)) (numbers_of all))) in
+    let rest : filter_map (λ b. option_map (landing b) b.frozen) all ≡ map L
+    (filter (λ i. not (waits_at (a ∷ all) i)) (numbers_from 1 (length all))) =
+    frozen_are all ∙ sym (ap (map L) (filter_numbers (λ i. not (waits_at (a ∷ all) i)) 0 (length all))
+    ∙ map_map L suc (filter (λ i. not (waits_at all i)) (numbers_of all))) in
     go a.frozen refl rest
   where
-    go : (o : Option ℕ) → a.frozen ≡ o → filter_map (λ b. option_map (landing b) b.frozen) all ≡ map (λ i. landing (numbered (a ∷ all) i) (unwrap_or (numbered (a ∷ all) i).frozen 0)) (filter (λ i. not (waits_at (a ∷ all) i)) (numbers_from 1 (length all))) → cons_option (option_map (landing a) o) (filter_map (λ b. option_map (landing b) b.frozen) all) ≡ map (λ i. landing (numbered (a ∷ all) i) (unwrap_or (numbered (a ∷ all) i).frozen 0)) (cond (not (is_none o)) (0 ∷ filter (λ i. not (waits_at (a ∷ all) i)) (numbers_from 1 (length all))) (filter (λ i. not (waits_at (a ∷ all) i)) (numbers_from 1 (length all))))
+    go : (o : Option ℕ) → a.frozen ≡ o → filter_map (λ b. option_map (landing b) b.frozen) all ≡ map
+        (λ i. landing (numbered (a ∷ all) i) (unwrap_or (numbered (a ∷ all) i).frozen 0))
+        (filter (λ i. not (waits_at (a ∷ all) i)) (numbers_from 1 (length all)))
+        → cons_option (option_map (landing a) o) (filter_map (λ b. option_map (landing b) b.frozen) all) ≡ map
+        (λ i. landing (numbered (a ∷ all) i) (unwrap_or (numbered (a ∷ all) i).frozen 0))
+        (cond (not (is_none o)) (0 ∷ filter (λ i. not (waits_at (a ∷ all) i)) (numbers_from 1 (length all)))
+        (filter (λ i. not (waits_at (a ∷ all) i)) (numbers_from 1 (length all))))
     go None q e = e
     go (Some u) q e = ap₂ (λ (x : Landing) (l : List Landing). x ∷ l) (ap (λ o. landing a (unwrap_or o 0)) (sym q)) e
 
@@ -74,13 +101,15 @@ module _ (s : Situation) (sound : IsSound s) (p : lists'.Problem) (of : lists'.I
   fl r = of_rank no_waiting p.flights r
 
   ranked_is : lists'.by_rank (waiting s) ≡ map (numbered s.active) R
-  ranked_is = ap lists'.by_rank (ap (filter is_waiting) (active_are s.active) ∙ filter_map_is is_waiting (numbered s.active) (numbers_of s.active)) ∙ sym (map_sorted s.active ns.waiting)
+  ranked_is = ap lists'.by_rank (ap (filter is_waiting) (active_are s.active)
+      ∙ filter_map_is is_waiting (numbered s.active) (numbers_of s.active)) ∙ sym (map_sorted s.active ns.waiting)
 
   zipped : AllZip (lists'.IsWaitingOf s.closures) (map (numbered s.active) R) p.flights
   zipped = subst (λ l. AllZip (lists'.IsWaitingOf s.closures) l p.flights) ranked_is of.flights
 
   long_is : length R ≡ length p.flights
-  long_is = sym (length-map R (numbered s.active)) ∙ zip_long (lists'.IsWaitingOf s.closures) (map (numbered s.active) R) p.flights zipped
+  long_is = sym (length-map R (numbered s.active)) ∙ zip_long (lists'.IsWaitingOf s.closures)
+      (map (numbered s.active) R) p.flights zipped
 
   waiting_of : (r : ℕ) → IsRank (length p.flights) r → lists'.IsWaitingOf s.closures (numbered s.active (at r)) (fl r)
   waiting_of zero q = absurd (let a = q.0 in omega arith)
@@ -89,17 +118,25 @@ module _ (s : Situation) (sound : IsSound s) (p : lists'.Problem) (of : lists'.I
       let b = q.1 in
       let lt : i < length R = omega arith in
       let m = length-map R (numbered s.active) in
-      subst (λ a. lists'.IsWaitingOf s.closures a (fl (suc i))) (get_or-map (numbered s.active) R i (length s.active) nobody lt) (zip_at (lists'.IsWaitingOf s.closures) (map (numbered s.active) R) p.flights zipped i nobody no_waiting (omega arith))
+      subst (λ a. lists'.IsWaitingOf s.closures a (fl (suc i)))
+      (get_or-map (numbered s.active) R i (length s.active) nobody lt)
+      (zip_at (lists'.IsWaitingOf s.closures) (map (numbered s.active) R) p.flights zipped i nobody no_waiting
+      (omega arith))
 
   rank_cases : (r : ℕ) → IsRank (length p.flights) r ⊎ ((numbered s.active (at r) ≡ nobody) × (fl r ≡ no_waiting))
   rank_cases zero = inr (get_past s.active (length s.active) nobody (omega arith), refl)
   rank_cases (suc i) = elim (cases_lt i (length p.flights)) [
     | inl lt ↦ inl (omega arith, omega arith)
-    | inr le ↦ (let l = long_is in inr (ap (numbered s.active) (get_past R i (length s.active) (omega arith)) ∙ get_past s.active (length s.active) nobody (omega arith), get_past p.flights i no_waiting le))
+    | inr le ↦ (let l = long_is in inr (
+      ap (numbered s.active) (get_past R i (length s.active) (omega arith))
+          ∙ get_past s.active (length s.active) nobody (omega arith),
+      get_past p.flights i no_waiting le,
+    ))
   ]
 
   in_waiting : (r : ℕ) → IsRank (length p.flights) r → In (at r) ns.waiting
-  in_waiting r q = let l = long_is in let b = q.1 in sorted_in s.active (at r) ns.waiting (at_in (length s.active) R r q.0 (omega arith))
+  in_waiting r q = let l = long_is in let b =
+      q.1 in sorted_in s.active (at r) ns.waiting (at_in (length s.active) R r q.0 (omega arith))
 
   pub among : (r : ℕ) → IsRank (length p.flights) r → In (at r) (numbers_of s.active)
   among r q = (in_filter (waits_at s.active) (at r) (numbers_of s.active) (in_waiting r q)).0
@@ -116,17 +153,24 @@ module _ (s : Situation) (sound : IsSound s) (p : lists'.Problem) (of : lists'.I
     | inr e ↦ ap (λ (w : lists'.Waiting). w.passed) e.1 ∙ sym (ap (λ (a : Active). a.passed) e.0)
   ]
 
-  open_is : (r u : ℕ) → list_any (is_within u) (fl r).open_spans ≡ (nat_le u last_second && is_open (numbered s.active (at r)).flight.windows s.closures u)
+  open_is : (r u : ℕ) → list_any (is_within u) (fl r).open_spans ≡ (nat_le u last_second
+      && is_open (numbered s.active (at r)).flight.windows s.closures u)
   open_is r u = elim (rank_cases r) [
     | inl q ↦
         (let b = in_numbers 0 (length s.active) (at r) (among r q) in
         let good = (sound.flights (at r) nobody (omega (arith, b.1))).windows.spans in
         let o = is_open (numbered s.active (at r)).flight.windows s.closures u in
-        (waiting_of r q).open_spans.same u ∙ both_ways o (nat_le u last_second && o) (λ e. and_from (nat_le u last_second) o (open_low (numbered s.active (at r)).flight.windows s.closures u good e) e) (λ e. (and_parts (nat_le u last_second) o e).1))
-    | inr e ↦ ap (λ (w : lists'.Waiting). list_any (is_within u) w.open_spans) e.1 ∙ sym (ap (λ (a : Active). nat_le u last_second && is_open a.flight.windows s.closures u) e.0 ∙ and_right (nat_le u last_second) false refl)
+        (waiting_of r q).open_spans.same u ∙ both_ways o (nat_le u last_second && o)
+        (λ e. and_from (nat_le u last_second) o
+        (open_low (numbered s.active (at r)).flight.windows s.closures u good e) e)
+        (λ e. (and_parts (nat_le u last_second) o e).1))
+    | inr e ↦ ap (λ (w : lists'.Waiting). list_any (is_within u) w.open_spans) e.1
+        ∙ sym (ap (λ (a : Active). nat_le u last_second && is_open a.flight.windows s.closures u) e.0
+        ∙ and_right (nat_le u last_second) false refl)
   ]
 
-  before_is : (q r : ℕ) → IsRank (length p.flights) q → IsRank (length p.flights) r → must_precede p.pairs q r ≡ ns.lists (at q) (at r)
+  before_is : (q r : ℕ) → IsRank (length p.flights) q → IsRank (length p.flights) r
+      → must_precede p.pairs q r ≡ ns.lists (at q) (at r)
   before_is zero r iq ir = absurd (let a = iq.0 in omega arith)
   before_is (suc i) zero iq ir = absurd (let a = ir.0 in omega arith)
   before_is (suc i) (suc j) iq ir =
@@ -134,19 +178,35 @@ module _ (s : Situation) (sound : IsSound s) (p : lists'.Problem) (of : lists'.I
       let a = iq.1 in
       let b = ir.1 in
       let listed = subst (λ l. lists'.ArePredecessorsOf l p.pairs) ranked_is of.predecessors in
-      let c = listed i j (numbered s.active (at (suc i))) (numbered s.active (at (suc j))) (slice_map s.active R i (length s.active) (omega arith)) (slice_map s.active R j (length s.active) (omega arith)) in
-      subst (λ x. must_precede p.pairs x (suc j) ≡ ns.lists (at (suc i)) (at (suc j))) (add-one i) (subst (λ y. must_precede p.pairs (i + 1) y ≡ ns.lists (at (suc i)) (at (suc j))) (add-one j) c)
+      let c = listed i j (numbered s.active (at (suc i))) (numbered s.active (at (suc j)))
+      (slice_map s.active R i (length s.active) (omega arith))
+      (slice_map s.active R j (length s.active) (omega arith)) in
+      subst (λ x. must_precede p.pairs x (suc j) ≡ ns.lists (at (suc i)) (at (suc j))) (add-one i)
+      (subst (λ y. must_precede p.pairs (i + 1) y ≡ ns.lists (at (suc i)) (at (suc j))) (add-one j) c)
 
   apart_is : (q r : ℕ) → separation p.table (fl q).category (fl r).category ≡ ns.apart (at q) (at r)
-  apart_is q r = ap (λ t. separation t (fl q).category (fl r).category) of.table ∙ ap₂ (λ (x y : Category). separation s.aerodrome.table x y) (category_is q) (category_is r)
+  apart_is q r = ap (λ t. separation t (fl q).category (fl r).category) of.table
+      ∙ ap₂ (λ (x y : Category). separation s.aerodrome.table x y) (category_is q) (category_is r)
 
-  start_of : (r : ℕ) → ((p.last ≡ None) × ((i : ℕ) → In i ns.frozen → ⊥)) ⊎ ((i : ℕ) × In i ns.frozen × (after_last p.table p.last (fl r).category ≡ ns.frozen_at i + ns.apart i (at r)) × ((j : ℕ) → In j ns.frozen → ns.frozen_at j ≤ ns.frozen_at i))
+  start_of : (r : ℕ) → ((p.last ≡ None) × ((i : ℕ) → In i ns.frozen → ⊥))
+      ⊎ ((i : ℕ) × In i ns.frozen × (after_last p.table p.last (fl r).category ≡ ns.frozen_at i + ns.apart i (at r))
+      × ((j : ℕ) → In j ns.frozen → ns.frozen_at j ≤ ns.frozen_at i))
   start_of r = elim (last_frozen_is s sound) [
     | inl e ↦ inl (of.last ∙ e.0, e.1)
-    | inr w ↦ inr (w.0, w.1, ap₂ (λ t o. after_last t o (fl r).category) of.table (of.last ∙ w.2) ∙ ap (λ (c : Category). ns.frozen_at w.0 + separation s.aerodrome.table (numbered s.active w.0).flight.category c) (category_is r), w.3)
+    | inr w ↦ inr (
+      w.0,
+      w.1,
+      ap₂ (λ t o. after_last t o (fl r).category) of.table (of.last ∙ w.2)
+          ∙ ap (λ (c : Category). ns.frozen_at w.0 + separation s.aerodrome.table
+          (numbered s.active w.0).flight.category c)
+          (category_is r),
+      w.3,
+    )
   ]
 
-  one_latest : (x i : ℕ) → In x ns.frozen → In i ns.frozen → ((f : ℕ) → In f ns.frozen → ns.frozen_at f ≤ ns.frozen_at x) → ((f : ℕ) → In f ns.frozen → ns.frozen_at f ≤ ns.frozen_at i) → x ≡ i
+  one_latest : (x i : ℕ) → In x ns.frozen → In i ns.frozen
+      → ((f : ℕ) → In f ns.frozen → ns.frozen_at f ≤ ns.frozen_at x)
+      → ((f : ℕ) → In f ns.frozen → ns.frozen_at f ≤ ns.frozen_at i) → x ≡ i
   one_latest x i mx mi lx li = elim (cases_eq x i) [
     | inl e ↦ e
     | inr ne ↦ absurd
@@ -167,7 +227,8 @@ module _ (s : Situation) (sound : IsSound s) (p : lists'.Problem) (of : lists'.I
       (let a = of.horizon in omega arith),
       λ x i late. elim (start_of r) [
         | inl e ↦ absurd (e.1 x i)
-        | inr w ↦ subst (λ z. ns.frozen_at z + ns.apart z (at r) ≤ t) (sym (one_latest x w.0 i w.1 late w.3)) (let a = w.2 in omega arith)
+        | inr w ↦ subst (λ z. ns.frozen_at z + ns.apart z (at r) ≤ t) (sym (one_latest x w.0 i w.1 late w.3)) (let a =
+            w.2 in omega arith)
       ],
     );
     start_high = λ r t low late. elim (start_of r) [
@@ -175,12 +236,17 @@ module _ (s : Situation) (sound : IsSound s) (p : lists'.Problem) (of : lists'.I
       | inr w ↦ (let a = of.horizon in let b = w.2 in let c = late w.0 w.1 w.3 in omega arith)
     ];
     at_in = in_waiting;
-    at_all = λ f i. let w = in_at (length s.active) R f (in_sorted s.active f ns.waiting i) in let l = long_is in (w.0, (w.1.0, let b = w.1.1 in omega arith), w.2);
+    at_all = λ f i. let w = in_at (length s.active) R f (in_sorted s.active f ns.waiting i) in let l =
+        long_is in (w.0, (w.1.0, let b = w.1.1 in omega arith), w.2);
     at_order = λ q r iq ir lt.
         let l = long_is in
         let b = ir.1 in
-        ordered_at (comes_before s.active) (length s.active) R (sorted_ordered s sound ns.waiting (λ j m. (in_filter (waits_at s.active) j (numbers_of s.active) m).0) (sound_numbered s sound).differ) q r iq.0 lt (omega arith);
-    permuted = subst (λ n. IsPermutation (map (number_at s) (upto n)) ns.waiting) long_is (IsPermutation-trans (map (number_at s) (upto (length R))) R ns.waiting (ranks_permute (length s.active) R) (IsPermutation-sym ns.waiting R (sorted_permutes s.active ns.waiting)));
+        ordered_at (comes_before s.active) (length s.active) R
+        (sorted_ordered s sound ns.waiting (λ j m. (in_filter (waits_at s.active) j (numbers_of s.active) m).0)
+        (sound_numbered s sound).differ) q r iq.0 lt (omega arith);
+    permuted = subst (λ n. IsPermutation (map (number_at s) (upto n)) ns.waiting) long_is
+        (IsPermutation-trans (map (number_at s) (upto (length R))) R ns.waiting (ranks_permute (length s.active) R)
+        (IsPermutation-sym ns.waiting R (sorted_permutes s.active ns.waiting)));
   }
 
   pub passed_low' : (r : ℕ) → IsRank (length p.flights) r → (fl r).passed ≤ p.k
@@ -193,10 +259,14 @@ module _ (s : Situation) (sound : IsSound s) (p : lists'.Problem) (of : lists'.I
 
   -- ---- joined with the frozen
 
-  pub joined_at : (v : Schedule) (i : ℕ) → In i (numbers_of s.active) → second_of (joined s v) i ≡ cond (waits_at s.active i) (of_rank 0 v (rank_in (comes_before s.active) ns.waiting i)) (ns.frozen_at i)
+  pub joined_at : (v : Schedule) (i : ℕ) → In i (numbers_of s.active)
+      → second_of (joined s v) i ≡ cond (waits_at s.active i)
+      (of_rank 0 v (rank_in (comes_before s.active) ns.waiting i))
+      (ns.frozen_at i)
   joined_at v i m =
       let b = in_numbers 0 (length s.active) i m in
-      let F = λ (j : ℕ). cond (waits_at s.active j) (of_rank 0 v (rank_in (comes_before s.active) ns.waiting j)) (ns.frozen_at j) in
+      let F = λ (j : ℕ). cond (waits_at s.active j) (of_rank 0 v (rank_in (comes_before s.active) ns.waiting j))
+      (ns.frozen_at j) in
       numbers_get F 0 0 (length s.active) i (omega (arith, b.1)) ∙ ap F (omega arith)
 
   pub joined_frozen : (v : Schedule) (i : ℕ) → In i ns.frozen → second_of (joined s v) i ≡ ns.frozen_at i
@@ -207,55 +277,70 @@ module _ (s : Situation) (sound : IsSound s) (p : lists'.Problem) (of : lists'.I
   pub joined_rank : (v : Schedule) (r : ℕ) → IsRank (length p.flights) r → second_of (joined s v) (at r) ≡ of_rank 0 v r
   joined_rank v r q =
       let w = in_filter (waits_at s.active) (at r) (numbers_of s.active) (in_waiting r q) in
-      joined_at v (at r) w.0 ∙ ap (λ b. cond b (of_rank 0 v (rank_in (comes_before s.active) ns.waiting (at r))) (ns.frozen_at (at r))) w.1
+      joined_at v (at r) w.0 ∙ ap (λ b. cond b (of_rank 0 v (rank_in (comes_before s.active) ns.waiting (at r)))
+      (ns.frozen_at (at r))) w.1
       ∙ ap (of_rank 0 v) (rank_is ns (ranked p) (number_at s) (sound_numbered s sound) problem_of r q)
 
   -- a feasible list gives a feasible schedule
   pub list_gives_schedule : (v : Schedule) → lists'.IsFeasibleList p v → IsFeasible s (joined s v)
   list_gives_schedule v f =
       let T = second_of (joined s v) in
-      let g = feasible_agree (ranked p) (of_rank 0 v) (λ r. T (at r)) (λ r q. sym (joined_rank v r q)) (list_feasible p v f) in
-      let long = numbers_long (λ j. cond (waits_at s.active j) (of_rank 0 v (rank_in (comes_before s.active) ns.waiting j)) (ns.frozen_at j)) 0 (length s.active) in
-      numbered_feasible s sound (joined s v) long (feasible_problem ns (ranked p) (number_at s) (sound_numbered s sound) problem_of T (joined_frozen v) g)
+      let g = feasible_agree (ranked p) (of_rank 0 v) (λ r. T (at r)) (λ r q. sym (joined_rank v r q))
+      (list_feasible p v f) in
+      let long = numbers_long (λ j. cond (waits_at s.active j)
+      (of_rank 0 v (rank_in (comes_before s.active) ns.waiting j)) (ns.frozen_at j)) 0 (length s.active) in
+      numbered_feasible s sound (joined s v) long (feasible_problem ns (ranked p) (number_at s)
+      (sound_numbered s sound) problem_of T (joined_frozen v) g)
 
   -- ---- and back
 
   abbrev seconds_by_rank : Schedule → Schedule
   seconds_by_rank t = map (λ i. second_of t (at (suc i))) (numbers_from 0 (length p.flights))
 
-  by_rank_at : (t : Schedule) (r : ℕ) → IsRank (length p.flights) r → of_rank 0 (seconds_by_rank t) r ≡ second_of t (at r)
+  by_rank_at : (t : Schedule) (r : ℕ) → IsRank (length p.flights) r
+      → of_rank 0 (seconds_by_rank t) r ≡ second_of t (at r)
   by_rank_at t zero q = absurd (let a = q.0 in omega arith)
-  by_rank_at t (suc i) q = let b = q.1 in numbers_get (λ j. second_of t (at (suc j))) 0 0 (length p.flights) i (omega arith) ∙ ap (λ j. second_of t (at (suc j))) (omega arith)
+  by_rank_at t (suc i) q = let b = q.1 in numbers_get (λ j. second_of t (at (suc j))) 0 0 (length p.flights) i
+      (omega arith) ∙ ap (λ j. second_of t (at (suc j))) (omega arith)
 
   pub joined_long : (v : Schedule) → length (joined s v) ≡ length s.active
-  joined_long v = numbers_long (λ j. cond (waits_at s.active j) (of_rank 0 v (rank_in (comes_before s.active) ns.waiting j)) (ns.frozen_at j)) 0 (length s.active)
+  joined_long v = numbers_long
+      (λ j. cond (waits_at s.active j) (of_rank 0 v (rank_in (comes_before s.active) ns.waiting j)) (ns.frozen_at j)) 0
+      (length s.active)
 
   -- what holds of a number that waits, by its rank, and of a frozen one, holds of each
-  pub each_number : (P : ℕ → Type 0) → ((r : ℕ) → IsRank (length p.flights) r → P (at r)) → ((i : ℕ) → In i ns.frozen → P i) → (i : ℕ) → In i (numbers_of s.active) → P i
+  pub each_number : (P : ℕ → Type 0) → ((r : ℕ) → IsRank (length p.flights) r → P (at r))
+      → ((i : ℕ) → In i ns.frozen → P i) → (i : ℕ) → In i (numbers_of s.active) → P i
   each_number P w f i m = elim (cases_Bool (waits_at s.active i)) [
-    | inl e ↦ (let x = problem_of.at_all i (filter_in (waits_at s.active) i (numbers_of s.active) m e) in subst P x.2 (w x.0 x.1))
+    | inl e ↦ (let x = problem_of.at_all i (filter_in (waits_at s.active) i (numbers_of s.active) m e) in
+        subst P x.2 (w x.0 x.1))
     | inr e ↦ f i (filter_in (λ x. not (waits_at s.active x)) i (numbers_of s.active) m (ap not e))
   ]
 
   -- a feasible schedule is its frozen landings joined with a feasible list
-  pub schedule_gives_list : (t : Schedule) → IsFeasible s t → (v : Schedule) × lists'.IsFeasibleList p v × (t ≡ joined s v)
+  pub schedule_gives_list : (t : Schedule) → IsFeasible s t → (v : Schedule) × lists'.IsFeasibleList p v
+      × (t ≡ joined s v)
   schedule_gives_list t f =
       let v = seconds_by_rank t in
       let n = feasible_numbered s sound t f.0 f in
       let g = problem_feasible ns (ranked p) (number_at s) (sound_numbered s sound) problem_of (second_of t) n in
       let long : length v ≡ length p.flights = numbers_long (λ i. second_of t (at (suc i))) 0 (length p.flights) in
       let same : (i : ℕ) → In i (numbers_of s.active) → second_of t i ≡ second_of (joined s v) i =
-      each_number (λ i. second_of t i ≡ second_of (joined s v) i) (λ r q. sym (joined_rank v r q ∙ by_rank_at t r q)) (λ i m. n.kept i m ∙ sym (joined_frozen v i m)) in (
+      each_number (λ i. second_of t i ≡ second_of (joined s v) i) (λ r q. sym (joined_rank v r q ∙ by_rank_at t r q))
+      (λ i m. n.kept i m ∙ sym (joined_frozen v i m)) in (
         v,
-        feasible_list p passed_low' v long (feasible_agree (ranked p) (λ r. second_of t (at r)) (of_rank 0 v) (λ r q. sym (by_rank_at t r q)) g),
-        same_number_lists t (joined s v) (f.0 ∙ sym (joined_long v)) (λ i lt. let e = f.0 in same i (numbers_in 0 (length s.active) i zero-le (omega arith))),
+        feasible_list p passed_low' v long (feasible_agree (ranked p) (λ r. second_of t (at r))
+            (of_rank 0 v) (λ r q. sym (by_rank_at t r q)) g),
+        same_number_lists t (joined s v) (f.0 ∙ sym (joined_long v)) (λ i lt. let e =
+            f.0 in same i (numbers_in 0 (length s.active) i zero-le (omega arith))),
       )
 
   -- ---- the objectives
 
   greatest_bound : (xs : List ℕ) (m : ℕ) → ((i : ℕ) → i < length xs → get_or xs i 0 ≤ m) → greatest xs ≤ m
   greatest_bound [] m h = zero-le
-  greatest_bound (x ∷ xs) m h = let a = h 0 (omega arith) in let b = greatest_bound xs m (λ i lt. h (suc i) (omega arith)) in omega arith
+  greatest_bound (x ∷ xs) m h = let a = h 0 (omega arith) in let b =
+      greatest_bound xs m (λ i lt. h (suc i) (omega arith)) in omega arith
 
   greatest_at : (xs : List ℕ) (i : ℕ) → i < length xs → get_or xs i 0 ≤ greatest xs
   greatest_at [] i lt = absurd (omega arith)
@@ -275,7 +360,8 @@ module _ (s : Situation) (sound : IsSound s) (p : lists'.Problem) (of : lists'.I
     T : ℕ → ℕ
     T = second_of (joined s v)
 
-    makespan_some : (x : ℕ) (xs : List ℕ) → v ≡ x ∷ xs → greatest (map (second_of (joined s v)) (numbers_of s.active)) ≡ greatest v
+    makespan_some : (x : ℕ) (xs : List ℕ) → v ≡ x ∷ xs
+        → greatest (map (second_of (joined s v)) (numbers_of s.active)) ≡ greatest v
     makespan_some x xs e =
         let long = f.one_each in
         let some = ap length e in
@@ -284,7 +370,8 @@ module _ (s : Situation) (sound : IsSound s) (p : lists'.Problem) (of : lists'.I
         let late : p.horizon ≤ of_rank 0 v 1 = each_at p v (λ r w a. p.horizon ≤ a) f.late 1 one in
         let hz = of.horizon in
         le_antisymm
-        (map_bound (second_of (joined s v)) (numbers_of s.active) (greatest v) (each_number (λ i. second_of (joined s v) i ≤ greatest v)
+        (map_bound (second_of (joined s v)) (numbers_of s.active) (greatest v)
+        (each_number (λ i. second_of (joined s v) i ≤ greatest v)
         (λ r q. let a = joined_rank v r q in let b = at_greatest r q in omega arith)
         (λ i m. let a = joined_frozen v i m in let b = (sound_numbered s sound).frozen_before i m in omega arith)))
         (greatest_bound v (greatest (map (second_of (joined s v)) (numbers_of s.active))) (λ i lt.
@@ -303,27 +390,36 @@ module _ (s : Situation) (sound : IsSound s) (p : lists'.Problem) (of : lists'.I
         let none = ap length e in
         elim (last_frozen_is s sound) [
           | inl x ↦ le_antisymm
-              (map_bound (second_of (joined s v)) (numbers_of s.active) (lists'.last_frozen p.last) (each_number (λ i. second_of (joined s v) i ≤ lists'.last_frozen p.last) (λ r q. absurd (let a = q.0 in let b = q.1 in omega arith)) (λ i m. absurd (x.1 i m))))
+              (map_bound (second_of (joined s v)) (numbers_of s.active) (lists'.last_frozen p.last)
+              (each_number (λ i. second_of (joined s v) i ≤ lists'.last_frozen p.last)
+              (λ r q. absurd (let a = q.0 in let b = q.1 in omega arith)) (λ i m. absurd (x.1 i m))))
               (let a = ap lists'.last_frozen (of.last ∙ x.0) in omega arith)
           | inr x ↦
               (let last : lists'.last_frozen p.last ≡ ns.frozen_at x.0 = ap lists'.last_frozen (of.last ∙ x.2) in
               let j = joined_frozen v x.0 x.1 in
-              let m = map_at (second_of (joined s v)) (numbers_of s.active) x.0 (in_filter (λ y. not (waits_at s.active y)) x.0 (numbers_of s.active) x.1).0 in
+              let m = map_at (second_of (joined s v)) (numbers_of s.active) x.0
+              (in_filter (λ y. not (waits_at s.active y)) x.0 (numbers_of s.active) x.1).0 in
               le_antisymm
-              (map_bound (second_of (joined s v)) (numbers_of s.active) (lists'.last_frozen p.last) (each_number (λ i. second_of (joined s v) i ≤ lists'.last_frozen p.last) (λ r q. absurd (let a = q.0 in let b = q.1 in omega arith)) (λ i k. let a = joined_frozen v i k in let b = x.3 i k in omega arith)))
+              (map_bound (second_of (joined s v)) (numbers_of s.active) (lists'.last_frozen p.last)
+              (each_number (λ i. second_of (joined s v) i ≤ lists'.last_frozen p.last)
+              (λ r q. absurd (let a = q.0 in let b = q.1 in omega arith)) (λ i k. let a =
+              joined_frozen v i k in let b = x.3 i k in omega arith)))
               (omega arith))
         ]
 
     -- ---- the delay
 
-    delay_all : sum_by delay (map (landing_at s.active (joined s v)) (numbers_of s.active)) ≡ sum_by delay (frozen_landings s) + sum_by lists'.list_delay (zip p.flights v)
+    delay_all : sum_by delay (map (landing_at s.active (joined s v)) (numbers_of s.active)) ≡ sum_by delay
+        (frozen_landings s) + sum_by lists'.list_delay (zip p.flights v)
     delay_all =
         let D = λ (i : ℕ). delay (landing_at s.active (joined s v) i) in
         let N = numbers_of s.active in
         let parts : sum_by D N ≡ sum_by D ns.frozen + sum_by D ns.waiting = sum_parts D (waits_at s.active) N in
         let froze : sum_by D ns.frozen ≡ sum_by delay (frozen_landings s) =
-        sum_agree D (λ i. delay (landing (numbered s.active i) (ns.frozen_at i))) ns.frozen (λ i m. ap (λ u. delay (landing (numbered s.active i) u)) (joined_frozen v i m))
-        ∙ sym (sum_map delay (λ i. landing (numbered s.active i) (ns.frozen_at i)) ns.frozen) ∙ ap (sum_by delay) (sym (frozen_are s.active)) in
+        sum_agree D (λ i. delay (landing (numbered s.active i) (ns.frozen_at i))) ns.frozen
+        (λ i m. ap (λ u. delay (landing (numbered s.active i) u)) (joined_frozen v i m))
+        ∙ sym (sum_map delay (λ i. landing (numbered s.active i) (ns.frozen_at i)) ns.frozen)
+        ∙ ap (sum_by delay) (sym (frozen_are s.active)) in
         let d : lists'.Waiting × ℕ = (no_waiting, 0) in
         let z = zip p.flights v in
         let n = length p.flights in
@@ -331,28 +427,39 @@ module _ (s : Situation) (sound : IsSound s) (p : lists'.Problem) (of : lists'.I
         let waits : sum_by D ns.waiting ≡ sum_by (λ r. D (at r)) (upto n) =
         sum_by-IsPermutation D (map at (upto n)) ns.waiting problem_of.permuted ∙ sum_map D at (upto n) in
         let listed : sum_by lists'.list_delay z ≡ sum_by (λ r. lists'.list_delay (of_rank d z r)) (upto n) =
-        sum_by-IsPermutation lists'.list_delay (map (of_rank d z) (upto (length z))) z (ranks_permute d z) ∙ ap (λ k. sum_by lists'.list_delay (map (of_rank d z) (upto k))) long ∙ sum_map lists'.list_delay (of_rank d z) (upto n) in
-        let same : sum_by (λ r. D (at r)) (upto n) ≡ sum_by (λ r. lists'.list_delay (of_rank d z r)) (upto n) = sum_agree (λ r. D (at r)) (λ r. lists'.list_delay (of_rank d z r)) (upto n) (λ r i. one r (in_upto n r i)) in
+        sum_by-IsPermutation lists'.list_delay (map (of_rank d z) (upto (length z))) z (ranks_permute d z)
+        ∙ ap (λ k. sum_by lists'.list_delay (map (of_rank d z) (upto k))) long
+        ∙ sum_map lists'.list_delay (of_rank d z) (upto n) in
+        let same : sum_by (λ r. D (at r)) (upto n) ≡ sum_by (λ r. lists'.list_delay (of_rank d z r)) (upto n) =
+        sum_agree (λ r. D (at r)) (λ r. lists'.list_delay (of_rank d z r)) (upto n) (λ r i. one r (in_upto n r i)) in
         sum_map delay (landing_at s.active (joined s v)) N ∙ parts ∙ ap₂ ◌+◌ froze (waits ∙ same ∙ sym listed)
       where
-        one : (r : ℕ) → IsRank (length p.flights) r → delay (landing_at s.active (joined s v) (at r)) ≡ lists'.list_delay (of_rank (no_waiting, 0) (zip p.flights v) r)
+        one : (r : ℕ) → IsRank (length p.flights) r
+            → delay (landing_at s.active (joined s v) (at r)) ≡ lists'.list_delay
+            (of_rank (no_waiting, 0) (zip p.flights v) r)
         one zero q = absurd (let a = q.0 in omega arith)
         one (suc i) q =
             let w = waiting_of (suc i) q in
             let b = q.1 in
             let l = f.one_each in
-            ap₂ (λ (u : ℕ) (w : ℕ). (numbered s.active (at (suc i))).flight.weight * (u - w)) (joined_rank v (suc i) q) (sym w.eta)
+            ap₂ (λ (u : ℕ) (w : ℕ). (numbered s.active (at (suc i))).flight.weight * (u - w))
+            (joined_rank v (suc i) q) (sym w.eta)
             ∙ ap (λ k. k * (of_rank 0 v (suc i) - (fl (suc i)).eta)) (sym w.weight)
             ∙ ap lists'.list_delay (sym (get_or-zip p.flights v i (no_waiting, 0) (omega arith) (omega arith)))
 
     pub same_objective : objective s (joined s v) ≡ lists'.list_objective p v
-    same_objective = ap (cost s.aerodrome.objective) (landings_are s.active (joined s v) (joined_long v)) ∙ go s.aerodrome.objective of.objective of.base
+    same_objective = ap (cost s.aerodrome.objective) (landings_are s.active (joined s v) (joined_long v))
+        ∙ go s.aerodrome.objective of.objective of.base
       where
-        go : (o : Objective) → p.objective ≡ o → p.base ≡ lists'.frozen_cost o (frozen_landings s) → cost o (map (landing_at s.active (joined s v)) (numbers_of s.active)) ≡ lists'.list_cost p.objective p v
-        go Delay e b = delay_all ∙ ap (λ k. k + sum_by lists'.list_delay (zip p.flights v)) (sym b) ∙ ap (λ o. lists'.list_cost o p v) (sym e)
-        go Makespan e b = ap greatest (map_map (λ (g : Landing). g.second) (landing_at s.active (joined s v)) (numbers_of s.active)) ∙ by v refl ∙ ap (λ o. lists'.list_cost o p v) (sym e)
+        go : (o : Objective) → p.objective ≡ o → p.base ≡ lists'.frozen_cost o (frozen_landings s)
+            → cost o (map (landing_at s.active (joined s v)) (numbers_of s.active)) ≡ lists'.list_cost p.objective p v
+        go Delay e b = delay_all ∙ ap (λ k. k + sum_by lists'.list_delay (zip p.flights v)) (sym b)
+            ∙ ap (λ o. lists'.list_cost o p v) (sym e)
+        go Makespan e b = ap greatest (map_map (λ (g : Landing). g.second) (landing_at s.active (joined s v))
+            (numbers_of s.active)) ∙ by v refl ∙ ap (λ o. lists'.list_cost o p v) (sym e)
           where
-            by : (xs : List ℕ) → v ≡ xs → greatest (map (second_of (joined s v)) (numbers_of s.active)) ≡ lists'.list_cost Makespan p v
+            by : (xs : List ℕ) → v ≡ xs
+                → greatest (map (second_of (joined s v)) (numbers_of s.active)) ≡ lists'.list_cost Makespan p v
             by [] q = makespan_none q ∙ sym (ap (lists'.list_cost Makespan p) q)
             by (x ∷ xs) q = makespan_some x xs q ∙ ap greatest q ∙ sym (ap (lists'.list_cost Makespan p) q)
 

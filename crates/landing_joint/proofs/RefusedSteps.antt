@@ -1,5 +1,7 @@
--- What the refusals are for: after an event that each of them turns away, the situation is not sound, whatever it was before.
-use Rattle.std.proofs.Common.{◌≡◌, ℕ, ◌+◌, ◌≤◌, Bool, true, false, not, ◌||◌, List, [], ◌∷◌, ◌++◌, length, Option, None, refl, sym, ap, subst, ◌∙◌, arith}
+-- What the refusals are for: after an event that each of them turns away, the situation is not sound, whatever it was
+-- before.
+use Rattle.std.proofs.Common.{◌≡◌, ℕ, ◌+◌, ◌≤◌, Bool, true, false, not, ◌||◌, List, [], ◌∷◌, ◌++◌, length, Option}
+use Rattle.std.proofs.Common.{None, refl, sym, ap, subst, ◌∙◌, arith}
 use Rattle.std.specs.List.{list_any}
 use Rattle.std.proofs.lemmas.Bool.{false≢true, and_parts, or_right}
 use Rattle.landing_rules.specs.Flights.{Flight, Landing, Situation, Schedule, Span, is_waiting, waiting}
@@ -17,31 +19,40 @@ any_last : (p : Span → Bool) (cs : List Span) (c : Span) → p c ≡ true → 
 any_last p cs c e = list_any-append p cs (c ∷ []) ∙ or_right (list_any p cs) (p c || false) (rw e)
 
 -- the 501st flight, the 61st that waits, the 33rd closure
-flight_501 : (s : Situation) (plan : Option Schedule) (f : Flight) → 500 ≤ length s.active → IsSound (situation_after s plan (Add f)) → ⊥
+flight_501 : (s : Situation) (plan : Option Schedule) (f : Flight) → 500 ≤ length s.active
+    → IsSound (situation_after s plan (Add f)) → ⊥
 flight_501 s plan f many h = absurd (let l = length_push s.active (newcomer f) in let few = h.few_active in omega arith)
 
-waiting_61 : (s : Situation) (plan : Option Schedule) (f : Flight) → 60 ≤ length (waiting s) → IsSound (situation_after s plan (Add f)) → ⊥
+waiting_61 : (s : Situation) (plan : Option Schedule) (f : Flight) → 60 ≤ length (waiting s)
+    → IsSound (situation_after s plan (Add f)) → ⊥
 waiting_61 s plan f many h = absurd (let l = waiting_push s.active f in let few = h.few_waiting in omega arith)
 
-closure_33 : (s : Situation) (plan : Option Schedule) (span : Span) → 32 ≤ length s.closures → IsSound (situation_after s plan (Close span)) → ⊥
+closure_33 : (s : Situation) (plan : Option Schedule) (span : Span) → 32 ≤ length s.closures
+    → IsSound (situation_after s plan (Close span)) → ⊥
 closure_33 s plan span many h = absurd (let l = length_push s.closures span in let few = h.few_closures in omega arith)
 
 -- a closure over the second of a frozen flight
-covered_landing : (s : Situation) (plan : Option Schedule) (span : Span) (g : Landing) → Member g (frozen_landings s) → is_shut g.second span ≡ true → IsSound (situation_after s plan (Close span)) → ⊥
+covered_landing : (s : Situation) (plan : Option Schedule) (span : Span) (g : Landing) → Member g (frozen_landings s)
+    → is_shut g.second span ≡ true → IsSound (situation_after s plan (Close span)) → ⊥
 covered_landing s plan span g m shut h =
     let new : Situation = situation_after s plan (Close span) in
-    let free = (and_parts (list_any (is_within g.second) g.flight.windows) (not (list_any (is_shut g.second) new.closures)) ((kept new h).opened g m)).1 in
+    let free = (and_parts (list_any (is_within g.second) g.flight.windows)
+    (not (list_any (is_shut g.second) new.closures)) ((kept new h).opened g m)).1 in
     false≢true (sym (ap not (any_last (is_shut g.second) s.closures span shut)) ∙ free)
 
 -- a flight that a frozen one lists
-predecessor_of_frozen : (s : Situation) (plan : Option Schedule) (f : Flight) (g : Landing) → Member g (frozen_landings s) → lists g.flight f.callsign ≡ true → IsSound (situation_after s plan (Add f)) → ⊥
+predecessor_of_frozen : (s : Situation) (plan : Option Schedule) (f : Flight) (g : Landing)
+    → Member g (frozen_landings s) → lists g.flight f.callsign ≡ true → IsSound (situation_after s plan (Add f)) → ⊥
 predecessor_of_frozen s plan f g m listed h =
     let new : Situation = situation_after s plan (Add f) in
     let r = in_frozen s.active g m in
-    let there : Member g (frozen_landings new) = subst (λ z. Member z (frozen_landings new)) (sym r.4) (frozen_in new.active r.0 r.1 (append_in s.active (newcomer f ∷ []) r.0 r.2) r.3) in
-    let waits : Member (newcomer f) (waiting new) = filter_in is_waiting new.active (newcomer f) (pushed_in s.active (newcomer f) (newcomer f) refl) refl in
+    let there : Member g (frozen_landings new) = subst (λ z. Member z (frozen_landings new))
+    (sym r.4) (frozen_in new.active r.0 r.1 (append_in s.active (newcomer f ∷ []) r.0 r.2) r.3) in
+    let waits : Member (newcomer f) (waiting new) =
+    filter_in is_waiting new.active (newcomer f) (pushed_in s.active (newcomer f) (newcomer f) refl) refl in
     false≢true (sym ((kept new h).alone g (newcomer f) there waits) ∙ listed)
 
 -- a clock so far back that a frozen flight would land at its horizon or later
-clock_far_back : (s : Situation) (now : ℕ) (g : Landing) → Member g (frozen_landings s) → now + s.aerodrome.freeze ≤ g.second → IsSound (situation_after s None (Clock now)) → ⊥
+clock_far_back : (s : Situation) (now : ℕ) (g : Landing) → Member g (frozen_landings s)
+    → now + s.aerodrome.freeze ≤ g.second → IsSound (situation_after s None (Clock now)) → ⊥
 clock_far_back s now g m le h = absurd (let b = (kept (situation_after s None (Clock now)) h).before g m in omega arith)

@@ -10,7 +10,8 @@ use Rattle.landing_joint.specs.Numbered.{numbered, numbers_of, waits_at, comes_b
 -- the numbers of the waiting flights by rank, sorted as the flights are
 abbrev pub insert_number : List Active → ℕ → List ℕ → List ℕ
 insert_number all i [] = i ∷ []
-insert_number all i (j ∷ rest) = if is_lt (arrival_cmp (numbered all j).flight (numbered all i).flight) then j ∷ insert_number all i rest else i ∷ j ∷ rest
+insert_number all i (j ∷ rest) = if is_lt (arrival_cmp (numbered all j).flight (numbered all i).flight)
+    then j ∷ insert_number all i rest else i ∷ j ∷ rest
 
 abbrev pub numbers_by_rank : List Active → List ℕ → List ℕ
 numbers_by_rank all [] = []
@@ -21,4 +22,7 @@ number_at s r = of_rank (length s.active) (numbers_by_rank s.active (numbered_si
 
 -- the frozen landings joined with a list of seconds by rank
 abbrev pub joined : Situation → Schedule → Schedule
-joined s v = map (λ i. cond (waits_at s.active i) (of_rank 0 v (rank_in (comes_before s.active) (numbered_situation s).waiting i)) ((numbered_situation s).frozen_at i)) (numbers_of s.active)
+joined s v = map (λ i. cond (waits_at s.active i)
+    (of_rank 0 v (rank_in (comes_before s.active) (numbered_situation s).waiting i))
+    ((numbered_situation s).frozen_at i))
+    (numbers_of s.active)

@@ -1,5 +1,5 @@
--- What may still follow a prefix of a landing order: the pairs of a last second and a cost that complete its node, and orders of
--- least choices. Prefixes and their landings stand latest first.
+-- What may still follow a prefix of a landing order: the pairs of a last second and a cost that complete its node, and
+-- orders of least choices. Prefixes and their landings stand latest first.
 use Rattle.std.specs.Prelude.{◌≡◌, ℕ, ◌+◌, ◌-◌, ◌≤◌, ◌↔◌, Bool, true, List, [], ◌∷◌, length, map, Some, nat_le}
 use Rattle.landing_rules.specs.declared.objective.Objective.{Objective}
 use Rattle.landing_rules.specs.declared.objective.Objective.TheVariants.{Makespan, Delay}
@@ -58,9 +58,11 @@ pub record CanLandBy (p : Problem) (rs : List ℕ) (b : ℕ) : Type 0 where
 -- behind a prefix whose last flight lands at b, these landings, the earliest first, end a legal order of all flights
 abbrev pub EndsOrder : Problem → ℕ → List ℕ → ℕ → List Landing → Type 0
 EndsOrder p v rs b [] = length rs ≡ length p.flights
-EndsOrder p v rs b (y ∷ ys) = IsLegal p (y.0 ∷ rs) × ((ranked p).is_open y.0 y.1 ≡ true) × (next_from (ranked p) (last_rank rs) b y.0 ≤ y.1) × (is_low p v y.1 ≡ true) × EndsOrder p v (y.0 ∷ rs) y.1 ys
+EndsOrder p v rs b (y ∷ ys) = IsLegal p (y.0 ∷ rs) × ((ranked p).is_open y.0 y.1 ≡ true)
+    × (next_from (ranked p) (last_rank rs) b y.0 ≤ y.1) × (is_low p v y.1 ≡ true) × EndsOrder p v (y.0 ∷ rs) y.1 ys
 
--- with its last flight at the pair's second the node can be ended, and the flights not placed cost the pair's cost together
+-- with its last flight at the pair's second the node can be ended, and the flights not placed cost the pair's cost
+-- together
 pub record IsCompletingPair (p : Problem) (v : ℕ) (rs : List ℕ) (q : Pair) : Type 0 where
   pub opened : (ranked p).is_open (last_rank rs) q.0 ≡ true
   pub reached : CanLandBy p rs q.0
@@ -69,14 +71,16 @@ pub record IsCompletingPair (p : Problem) (v : ℕ) (rs : List ℕ) (q : Pair) :
   pub ends : EndsOrder p v rs q.0 rest
   pub cost_is : cost_of (cost_at p) rest ≡ q.1
 
--- of each prefix that can land, the kept pairs complete its node, and each pair that does has a kept one at least as late and
--- at most as dear
+-- of each prefix that can land, the kept pairs complete its node, and each pair that does has a kept one at least as
+-- late and at most as dear
 abbrev pub AreCompletingPairs : Problem → ℕ → (List ℕ → Pair → Type 0) → Type 0
-AreCompletingPairs p v Keeps = (x : Landing) (xs : List Landing) → IsLegal p (ranks (x ∷ xs)) → LandedIn (ranked p) (x ∷ xs) → KeptCompleting (IsCompletingPair p v (ranks (x ∷ xs))) (Keeps (ranks (x ∷ xs)))
+AreCompletingPairs p v Keeps = (x : Landing) (xs : List Landing) → IsLegal p (ranks (x ∷ xs))
+    → LandedIn (ranked p) (x ∷ xs) → KeptCompleting (IsCompletingPair p v (ranks (x ∷ xs))) (Keeps (ranks (x ∷ xs)))
 
--- a pair of a prefix by its successors: at an open second by which its node can land, with a next rank at its first second
--- behind it, and a kept pair of that rank's node for which this second is not too late
-pub record IsSuccessorPair (p : Problem) (v : ℕ) (Keeps : List ℕ → Pair → Type 0) (rs : List ℕ) (q : Pair) : Type 0 where
+-- a pair of a prefix by its successors: at an open second by which its node can land, with a next rank at its first
+-- second behind it, and a kept pair of that rank's node for which this second is not too late
+pub record IsSuccessorPair (p : Problem) (v : ℕ) (Keeps : List ℕ → Pair → Type 0) (rs : List ℕ)
+    (q : Pair) : Type 0 where
   pub opened : (ranked p).is_open (last_rank rs) q.0 ≡ true
   pub reached : CanLandBy p rs q.0
   pub low : is_low p v q.0 ≡ true
@@ -115,7 +119,8 @@ pub record CanChoose (p : Problem) (v : ℕ) (Keeps : List ℕ → Pair → Type
 -- each landing is that of the least rank that can be chosen behind those before it
 abbrev pub AreLeastChoices : Problem → ℕ → (List ℕ → Pair → Type 0) → List Landing → Type 0
 AreLeastChoices p v Keeps [] = Unit {0}
-AreLeastChoices p v Keeps (x ∷ xs) = CanChoose p v Keeps xs x.0 x.1 × ((r t : ℕ) → CanChoose p v Keeps xs r t → x.0 ≤ r) × AreLeastChoices p v Keeps xs
+AreLeastChoices p v Keeps (x ∷ xs) = CanChoose p v Keeps xs x.0 x.1 × ((r t : ℕ) → CanChoose p v Keeps xs r t → x.0 ≤ r)
+    × AreLeastChoices p v Keeps xs
 
 -- the seconds of landings, by rank
 abbrev pub seconds_by_rank : Problem → List Landing → Schedule

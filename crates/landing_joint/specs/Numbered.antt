@@ -10,7 +10,11 @@ use Rattle.cps_theory.specs.RankLists.{numbers_from}
 
 -- what stands past the last flight
 abbrev pub nobody : Active
-nobody = record { flight = record { callsign = []; category = A; eta = 0; weight = 0; windows = []; after = [] }; frozen = None; passed = 0 }
+nobody = record {
+  flight = record { callsign = []; category = A; eta = 0; weight = 0; windows = []; after = [] };
+  frozen = None;
+  passed = 0;
+}
 
 abbrev pub numbered : List Active → ℕ → Active
 numbered all i = get_or all i nobody
@@ -38,7 +42,8 @@ numbered_situation s = record {
   waiting = filter (waits_at s.active) (numbers_of s.active);
   frozen_at = λ i. unwrap_or (numbered s.active i).frozen 0;
   is_open = λ i u. nat_le u last_second && is_open (numbered s.active i).flight.windows s.closures u;
-  apart = λ i j. separation s.aerodrome.table (numbered s.active i).flight.category (numbered s.active j).flight.category;
+  apart = λ i j. separation s.aerodrome.table (numbered s.active i).flight.category
+      (numbered s.active j).flight.category;
   lists = λ i j. lists (numbered s.active j).flight (numbered s.active i).flight.callsign;
   comes_before = comes_before s.active;
 }

@@ -13,7 +13,8 @@ light callsign eta = one_window callsign F eta (eta, 3000)
 abbrev pub line : Situation
 line = record {
   aerodrome = record (sample 2 Makespan) { carry = true };
-  active = newcomer (light (codes "X1") 1000) ∷ newcomer (light (codes "Y1") 1001) ∷ newcomer (light (codes "Y2") 1002) ∷ [];
+  active = newcomer (light (codes "X1") 1000) ∷ newcomer (light (codes "Y1") 1001) ∷ newcomer (light (codes "Y2") 1002)
+      ∷ [];
   closures = [];
   clock = None;
 }

@@ -1,10 +1,12 @@
 -- The carry over a whole wait: while a flight waits and nobody comes to stand ahead of it who did not before, at
 -- most k flights behind it freeze, all clock events together.
-use Rattle.std.specs.Prelude.{◌≡◌, ℕ, ◌+◌, ◌≤◌, ⊤, Bool, true, false, List, [], ◌∷◌, Option, Some, None, IsTrue, All, filter, find, count_by, is_some}
+use Rattle.std.specs.Prelude.{◌≡◌, ℕ, ◌+◌, ◌≤◌, ⊤, Bool, true, false, List, [], ◌∷◌, Option, Some, None, IsTrue, All}
+use Rattle.std.specs.Prelude.{filter, find, count_by, is_some}
 use Rattle.std.specs.Ordering.{is_lt}
 use Rattle.landing_rules.specs.Flights.{Callsign, Flight, Active, Situation, Schedule, Landing, landings, waiting}
 use Rattle.landing_rules.specs.Rules.{arrival_cmp, IsFeasible}
-use Rattle.landing_rules.specs.Events.{Event, Clock, Refusal, named, freezes, State, Step, Answered, Run, refusal, situation_after}
+use Rattle.landing_rules.specs.Events.{Event, Clock, Refusal, named, freezes, State, Step, Answered, Run, refusal}
+use Rattle.landing_rules.specs.Events.{situation_after}
 use Rattle.landing_rules.specs.Sound.{IsSound, IsSoundState, IsGoodEvent}
 
 -- ---- who waits, and who stands ahead
@@ -34,7 +36,8 @@ pub record StaysInLine (c : Callsign) (old new : Situation) : Type 0 where
 -- the same through each step of a run
 abbrev pub StaysInLineThrough : Callsign → State → List Answered → Type 0
 StaysInLineThrough c old [] = ⊤
-StaysInLineThrough c old (a ∷ answers) = StaysInLine c old.situation a.state.situation × StaysInLineThrough c a.state answers
+StaysInLineThrough c old (a ∷ answers) = StaysInLine c old.situation a.state.situation
+    × StaysInLineThrough c a.state answers
 
 -- ---- how many pass a flight
 
@@ -63,7 +66,8 @@ passing_in_step old e (Some r) c = 0
 
 -- by all the steps of a run
 abbrev pub passing_in_run : State → List Event → List Answered → Callsign → ℕ
-passing_in_run old (e ∷ events) (a ∷ answers) c = passing_in_step old e a.answer c + passing_in_run a.state events answers c
+passing_in_run old (e ∷ events) (a ∷ answers) c =
+    passing_in_step old e a.answer c + passing_in_run a.state events answers c
 passing_in_run old [] answers c = 0
 passing_in_run old (e ∷ events) [] c = 0
 
@@ -71,36 +75,47 @@ passing_in_run old (e ∷ events) [] c = 0
 
 -- each waiting flight that does not stand behind the one named c was passed at least g times
 abbrev pub ArePassedAtLeast : ℕ → Situation → Callsign → Type 0
-ArePassedAtLeast g s c = (f : Active) → waiting_flight s c ≡ Some f → All (λ x. is_lt (arrival_cmp f.flight x.flight) ≡ false → g ≤ x.passed) (waiting s)
+ArePassedAtLeast g s c = (f : Active) → waiting_flight s c ≡ Some f
+    → All (λ x. is_lt (arrival_cmp f.flight x.flight) ≡ false → g ≤ x.passed) (waiting s)
 
 -- where so many passed already, by any feasible plan a clock event freezes so few flights behind f that they are at
 -- most k together; and each of those flights that waits on was passed by so many more
 pub record ClockCounts (s : Situation) (t : Schedule) (now : ℕ) (c : Callsign) (f : Active) (g : ℕ) : Type 0 where
   pub few : g + count_passing (now + s.aerodrome.freeze) (landings s.active t) f.flight ≤ s.aerodrome.k
-  pub counted : ArePassedAtLeast (g + count_passing (now + s.aerodrome.freeze) (landings s.active t) f.flight) (situation_after s (Some t) (Clock now)) c
+  pub counted : ArePassedAtLeast (g + count_passing (now + s.aerodrome.freeze) (landings s.active t) f.flight)
+      (situation_after s (Some t) (Clock now)) c
 
 abbrev pub ClockCountsLaw : Type 0
-ClockCountsLaw = (s : Situation) (t : Schedule) (now : ℕ) (c : Callsign) (f : Active) (g : ℕ) → IsSound s → s.aerodrome.carry ≡ true → IsFeasible s t → refusal s (Clock now) ≡ None →
-    waiting_flight s c ≡ Some f → IsTrue (waits_in (situation_after s (Some t) (Clock now)) c) → ArePassedAtLeast g s c → ClockCounts s t now c f g
+ClockCountsLaw = (s : Situation) (t : Schedule) (now : ℕ) (c : Callsign) (f : Active) (g : ℕ)
+    → IsSound s → s.aerodrome.carry ≡ true → IsFeasible s t → refusal s (Clock now) ≡ None →
+    waiting_flight s c ≡ Some f → IsTrue (waits_in (situation_after s (Some t) (Clock now)) c)
+    → ArePassedAtLeast g s c → ClockCounts s t now c f g
 
 -- so through any step, whatever the event and its answer
-pub record StepCounts (old : State) (e : Event) (answer : Option Refusal) (new : State) (c : Callsign) (g : ℕ) : Type 0 where
+pub record StepCounts (old : State) (e : Event) (answer : Option Refusal) (new : State) (c : Callsign)
+    (g : ℕ) : Type 0 where
   pub few : g + passing_in_step old e answer c ≤ old.situation.aerodrome.k
   pub counted : ArePassedAtLeast (g + passing_in_step old e answer c) new.situation c
 
 abbrev pub StepCountsLaw : Type 0
-StepCountsLaw = (old new : State) (e : Event) (answer : Option Refusal) (c : Callsign) (g : ℕ) → IsSoundState old → old.situation.aerodrome.carry ≡ true → IsGoodEvent e → Step old e answer new →
-    IsTrue (waits_in old.situation c) → StaysInLine c old.situation new.situation → ArePassedAtLeast g old.situation c → StepCounts old e answer new c g
+StepCountsLaw = (old new : State) (e : Event) (answer : Option Refusal) (c : Callsign) (g : ℕ)
+    → IsSoundState old → old.situation.aerodrome.carry ≡ true → IsGoodEvent e → Step old e answer new →
+    IsTrue (waits_in old.situation c) → StaysInLine c old.situation new.situation → ArePassedAtLeast g old.situation c
+    → StepCounts old e answer new c g
 
 -- with the carry, a flight that stays in line through a run is passed by at most k flights
 abbrev pub FewPassLaw : Type 0
-FewPassLaw = (old : State) (events : List Event) (answers : List Answered) (c : Callsign) → IsSoundState old → old.situation.aerodrome.carry ≡ true → All IsGoodEvent events → Run old events answers →
-    IsTrue (waits_in old.situation c) → StaysInLineThrough c old answers → passing_in_run old events answers c ≤ old.situation.aerodrome.k
+FewPassLaw = (old : State) (events : List Event) (answers : List Answered) (c : Callsign) → IsSoundState old
+    → old.situation.aerodrome.carry ≡ true → All IsGoodEvent events → Run old events answers →
+    IsTrue (waits_in old.situation c) → StaysInLineThrough c old answers
+    → passing_in_run old events answers c ≤ old.situation.aerodrome.k
 
 -- and by fewer, where each that does not stand behind it was passed by g already
 abbrev pub FewPassLaterLaw : Type 0
-FewPassLaterLaw = (old : State) (events : List Event) (answers : List Answered) (c : Callsign) (g : ℕ) → IsSoundState old → old.situation.aerodrome.carry ≡ true → All IsGoodEvent events → Run old events answers →
-    IsTrue (waits_in old.situation c) → StaysInLineThrough c old answers → ArePassedAtLeast g old.situation c → g + passing_in_run old events answers c ≤ old.situation.aerodrome.k
+FewPassLaterLaw = (old : State) (events : List Event) (answers : List Answered) (c : Callsign) (g : ℕ)
+    → IsSoundState old → old.situation.aerodrome.carry ≡ true → All IsGoodEvent events → Run old events answers →
+    IsTrue (waits_in old.situation c) → StaysInLineThrough c old answers → ArePassedAtLeast g old.situation c
+    → g + passing_in_run old events answers c ≤ old.situation.aerodrome.k
 
 -- the flight waits, and nobody stands ahead of it
 pub record IsFirstInLine (c : Callsign) (s : Situation) : Type 0 where
@@ -110,17 +125,25 @@ pub record IsFirstInLine (c : Callsign) (s : Situation) : Type 0 where
 -- so of a flight that is first in first-come order before and after each step: those that passed it before and those
 -- of the run are at most k together
 abbrev pub FewPassFirstLaw : Type 0
-FewPassFirstLaw = (old : State) (events : List Event) (answers : List Answered) (c : Callsign) (f : Active) → IsSoundState old → old.situation.aerodrome.carry ≡ true → All IsGoodEvent events → Run old events answers →
-    waiting_flight old.situation c ≡ Some f → IsFirstInLine c old.situation → All (λ a. IsFirstInLine c a.state.situation) answers → f.passed + passing_in_run old events answers c ≤ old.situation.aerodrome.k
+FewPassFirstLaw = (old : State) (events : List Event) (answers : List Answered) (c : Callsign) (f : Active)
+    → IsSoundState old → old.situation.aerodrome.carry ≡ true → All IsGoodEvent events → Run old events answers →
+    waiting_flight old.situation c ≡ Some f → IsFirstInLine c old.situation
+    → All (λ a. IsFirstInLine c a.state.situation) answers
+    → f.passed + passing_in_run old events answers c ≤ old.situation.aerodrome.k
 
 -- ---- where k is at most 1
 
 -- by any feasible plan a clock event raises the count of a flight that waits on by those that pass it
 abbrev pub ClockCountsExactlyLaw : Type 0
-ClockCountsExactlyLaw = (s : Situation) (t : Schedule) (now : ℕ) (c : Callsign) (f g : Active) → IsSound s → s.aerodrome.carry ≡ true → s.aerodrome.k ≤ 1 → IsFeasible s t → refusal s (Clock now) ≡ None →
-    waiting_flight s c ≡ Some f → waiting_flight (situation_after s (Some t) (Clock now)) c ≡ Some g → g.passed ≡ f.passed + count_passing (now + s.aerodrome.freeze) (landings s.active t) f.flight
+ClockCountsExactlyLaw = (s : Situation) (t : Schedule) (now : ℕ) (c : Callsign) (f g : Active)
+    → IsSound s → s.aerodrome.carry ≡ true → s.aerodrome.k ≤ 1 → IsFeasible s t → refusal s (Clock now) ≡ None →
+    waiting_flight s c ≡ Some f → waiting_flight (situation_after s (Some t) (Clock now)) c ≡ Some g
+    → g.passed ≡ f.passed + count_passing (now + s.aerodrome.freeze) (landings s.active t) f.flight
 
 -- so a flight that stays waiting through a run is passed by at most k flights, whoever comes to stand ahead of it
 abbrev pub FewPassAnyoneLaw : Type 0
-FewPassAnyoneLaw = (old : State) (events : List Event) (answers : List Answered) (c : Callsign) (f : Active) → IsSoundState old → old.situation.aerodrome.carry ≡ true → old.situation.aerodrome.k ≤ 1 → All IsGoodEvent events → Run old events answers →
-    waiting_flight old.situation c ≡ Some f → All (λ a. IsTrue (waits_in a.state.situation c)) answers → f.passed + passing_in_run old events answers c ≤ old.situation.aerodrome.k
+FewPassAnyoneLaw = (old : State) (events : List Event) (answers : List Answered) (c : Callsign) (f : Active)
+    → IsSoundState old → old.situation.aerodrome.carry ≡ true → old.situation.aerodrome.k ≤ 1
+    → All IsGoodEvent events → Run old events answers →
+    waiting_flight old.situation c ≡ Some f → All (λ a. IsTrue (waits_in a.state.situation c)) answers
+    → f.passed + passing_in_run old events answers c ≤ old.situation.aerodrome.k

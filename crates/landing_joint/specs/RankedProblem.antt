@@ -1,6 +1,7 @@
 -- A problem by rank as the theory sees it: the rules of an order, where each rank may land, from when on, and
 -- how far apart; and what a list of seconds costs there.
-use Rattle.std.specs.Prelude.{ℕ, ◌+◌, ◌-◌, ◌*◌, ◌&&◌, max, min, nat_le, List, [], ◌∷◌, length, Option, Some, None, if◌then◌else◌}
+use Rattle.std.specs.Prelude.{ℕ, ◌+◌, ◌-◌, ◌*◌, ◌&&◌, max, min, nat_le, List, [], ◌∷◌, length, Option, Some, None}
+use Rattle.std.specs.Prelude.{if◌then◌else◌}
 use Rattle.std.specs.List.{list_any}
 use Rattle.wake_table.specs.declared.category.Category.{Category}
 use Rattle.wake_table.specs.declared.category.Category.TheVariants.{A}
@@ -32,7 +33,13 @@ apart_at p q r = separation p.table (of_rank no_waiting p.flights q).category (o
 -- the problem as the theory sees it
 abbrev pub ranked : Problem → RankedProblem
 ranked p = record {
-  rules = record { count = length p.flights; most = p.k; back = λ r. p.k - (of_rank no_waiting p.flights r).passed; before = must_precede p.pairs };
+  rules = record {
+    count = length p.flights;
+    most = p.k;
+    back =
+        λ r. p.k - (of_rank no_waiting p.flights r).passed;
+    before = must_precede p.pairs;
+  };
   is_open = λ r u. list_any (is_within u) (of_rank no_waiting p.flights r).open_spans;
   start = start_at p;
   apart = apart_at p;

@@ -1,5 +1,5 @@
--- What the laws of problems ask of one: a table that keeps its rules, pairs between ranks alone, and flights that were not
--- passed too often. The problem of a sound situation is such.
+-- What the laws of problems ask of one: a table that keeps its rules, pairs between ranks alone, and flights that were
+-- not passed too often. The problem of a sound situation is such.
 use Rattle.std.specs.Prelude.{◌≤◌, length, All}
 use Rattle.wake_table.specs.Table.{IsWakeTable}
 use Rattle.landing_rules.specs.Problem.{Problem, AreBetweenRanks}

@@ -1,5 +1,5 @@
--- Lemmas that crates above cite too, with what they rest on: lists by rank as maps, what is feasible, best and tight there, first
--- open seconds, and landings in their order.
+-- Lemmas that crates above cite too, with what they rest on: lists by rank as maps, what is feasible, best and tight
+-- there, first open seconds, and landings in their order.
 pub mod FirstOpen
 pub mod OpenDays
 pub mod Insertion

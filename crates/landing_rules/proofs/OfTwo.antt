@@ -22,12 +22,15 @@ best_of_two s t n f h = record {
 }
 
 pub tight_of_two : (s : Situation) (t : Schedule) → length s.active ≡ 2 → is_feasible s t ≡ true →
-    ((a b : ℕ) → is_feasible s (a ∷ b ∷ []) ≡ true → HaveSameOrder t (a ∷ b ∷ []) → AllZip (λ x y. x ≤ y) t (a ∷ b ∷ [])) → IsTight s t
+    ((a b : ℕ) → is_feasible s (a ∷ b ∷ []) ≡ true → HaveSameOrder t (a ∷ b ∷ [])
+    → AllZip (λ x y. x ≤ y) t (a ∷ b ∷ [])) → IsTight s t
 tight_of_two s t n f h = record {
   feasible = (is_feasible-Decides s t).0 f;
   earliest = λ u feasible order. of_two (λ u. IsFeasible s u → HaveSameOrder t u → AllZip (λ x y. x ≤ y) t u)
       (λ a b g o. h a b ((is_feasible-Decides s (a ∷ b ∷ [])).1 g) o) u (feasible.0 ∙ n) feasible order;
 }
 
-pub none_of_two : (s : Situation) → length s.active ≡ 2 → ((a b : ℕ) → is_feasible s (a ∷ b ∷ []) ≡ true → ⊥) → (u : Schedule) → IsFeasible s u → ⊥
-none_of_two s n h u feasible = of_two (λ u. IsFeasible s u → ⊥) (λ a b g. h a b ((is_feasible-Decides s (a ∷ b ∷ [])).1 g)) u (feasible.0 ∙ n) feasible
+pub none_of_two : (s : Situation) → length s.active ≡ 2 → ((a b : ℕ) → is_feasible s (a ∷ b ∷ []) ≡ true → ⊥)
+    → (u : Schedule) → IsFeasible s u → ⊥
+none_of_two s n h u feasible = of_two (λ u. IsFeasible s u
+    → ⊥) (λ a b g. h a b ((is_feasible-Decides s (a ∷ b ∷ [])).1 g)) u (feasible.0 ∙ n) feasible

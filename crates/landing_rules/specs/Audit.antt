@@ -1,5 +1,6 @@
 -- Every rule that a plan block breaks in a situation, in a fixed order.
-use Rattle.std.specs.Prelude.{◌≡◌, ℕ, ◌+◌, ◌==◌, ◌&&◌, ◌||◌, Bool, true, false, not, if◌then◌else◌, List, [], ◌∷◌, ◌++◌, nat_lt, nat_le, filter, filter_map, map, find, option_map, unwrap_or, flat_map}
+use Rattle.std.specs.Prelude.{◌≡◌, ℕ, ◌+◌, ◌==◌, ◌&&◌, ◌||◌, Bool, true, false, not, if◌then◌else◌, List, [], ◌∷◌}
+use Rattle.std.specs.Prelude.{◌++◌, nat_lt, nat_le, filter, filter_map, map, find, option_map, unwrap_or, flat_map}
 use Rattle.std.specs.Str.{bytes_eq}
 use Rattle.std.specs.List.{list_any}
 use Rattle.landing_rules.specs.declared.objective.Objective.{Objective}
@@ -57,11 +58,13 @@ has_line lines c = list_any (λ l. bytes_eq l.callsign c) lines
 
 -- each active flight without a line, in order of arrival
 abbrev pub missing : List Active → List ShownLanding → List Finding
-missing active lines = for_failing (λ a. has_line lines a.flight.callsign) (λ (a : Active). Missing a.flight.callsign) active
+missing active lines = for_failing (λ a. has_line lines a.flight.callsign)
+    (λ (a : Active). Missing a.flight.callsign) active
 
 -- each line that names no active flight
 abbrev pub unknown : List Active → List ShownLanding → List Finding
-unknown active lines = for_failing (λ l. list_any (named l.callsign) active) (λ (l : ShownLanding). Unknown l.callsign) lines
+unknown active lines = for_failing (λ l. list_any (named l.callsign) active)
+    (λ (l : ShownLanding). Unknown l.callsign) lines
 
 -- each line whose callsign an earlier line has, where those seen stand above
 abbrev pub twice_after : List ShownLanding → List ShownLanding → List Finding
@@ -105,7 +108,8 @@ landing_of x = landing x.1 x.0.second
 
 -- each landing at a second that is not open
 abbrev pub closed : Situation → List Landing → List Finding
-closed s all = for_failing (λ f. is_open f.flight.windows s.closures f.second) (λ (f : Landing). Closed f.flight.callsign f.second) all
+closed s all = for_failing (λ f. is_open f.flight.windows s.closures f.second)
+    (λ (f : Landing). Closed f.flight.callsign f.second) all
 
 -- two landings are the table's time apart, whichever is the earlier
 abbrev pub are_apart : List (List ℕ) → Landing → Landing → Bool
@@ -113,7 +117,8 @@ are_apart table f g = is_pair_separated table f g && is_pair_separated table g f
 
 -- each two lines, neighbours or not, that are not the table's time apart
 abbrev pub unseparated : List (List ℕ) → List Landing → List Finding
-unseparated table all = for_failing_pairs (are_apart table) (λ (f g : Landing). Separation f.flight.callsign g.flight.callsign) all
+unseparated table all = for_failing_pairs (are_apart table)
+    (λ (f g : Landing). Separation f.flight.callsign g.flight.callsign) all
 
 -- a landing is before d, or is not the one named c
 abbrev pub is_before : Landing → Callsign → Landing → Bool
@@ -145,7 +150,8 @@ early h all = for_failing (is_late_enough h) (λ (f : Landing). Early f.flight.c
 
 -- each waiting flight too far from its rank, with its place and its rank
 abbrev pub shifted : ℕ → List Landing → List Finding
-shifted k waiting = for_failing (is_shift_kept k waiting) (λ (f : Landing). Shift f.flight.callsign (place waiting f) (rank_among waiting f)) waiting
+shifted k waiting = for_failing (is_shift_kept k waiting)
+    (λ (f : Landing). Shift f.flight.callsign (place waiting f) (rank_among waiting f)) waiting
 
 abbrev pub by_rules : Situation → List Landing → List Finding
 by_rules s all =
@@ -176,7 +182,8 @@ by_head s b all =
 abbrev pub by_line : Situation → Block → List Finding
 by_line s b =
     let found = lines_found s.active b.plan.landings in
-    disordered b.plan.landings ++ (mismarked found ++ (by_rules s (map landing_of found) ++ by_head s b (map landing_of found)))
+    disordered b.plan.landings
+    ++ (mismarked found ++ (by_rules s (map landing_of found) ++ by_head s b (map landing_of found)))
 
 -- the first findings, or the others where there are none
 abbrev pub or_else : List Finding → List Finding → List Finding

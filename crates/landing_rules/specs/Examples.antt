@@ -22,7 +22,8 @@ abbrev pub sample : ℕ → Objective → Aerodrome
 sample k objective = record { k = k; freeze = 150; objective = objective; table = sample_table; carry = false }
 
 abbrev pub one_window : List ℕ → Category → ℕ → Span → Flight
-one_window callsign category eta window = record { callsign = callsign; category = category; eta = eta; weight = 1; windows = window ∷ []; after = [] }
+one_window callsign category eta window =
+    record { callsign = callsign; category = category; eta = eta; weight = 1; windows = window ∷ []; after = [] }
 
 abbrev pub opened : ℕ → List Flight → Situation
 opened k flights = record { aerodrome = sample k Makespan; active = map newcomer flights; closures = []; clock = None }
@@ -68,12 +69,29 @@ f2 = one_window (codes "F2") F 1000 (1000, 2000)
 
 -- the pair, opened at 900 with F1 frozen at 1010
 abbrev pub opened_at_900 : Situation
-opened_at_900 = opening_situation (record { aerodrome = sample 1 Makespan; closures = []; clock = Some 900; frozen = (codes "F1", 1010) ∷ []; passed = [] })
+opened_at_900 = opening_situation
+    (record {
+      aerodrome = sample 1 Makespan;
+      closures = [];
+      clock = Some 900;
+      frozen =
+          (codes "F1", 1010) ∷ [];
+      passed = [];
+    })
     (a1 (1000, 2000) ∷ f1 (1010, 2000) ∷ [])
 
 -- five flights, where the last three must follow in turn
 abbrev pub weighted : List ℕ → Category → ℕ → ℕ → List (List ℕ) → Flight
-weighted callsign category eta weight after = record { callsign = callsign; category = category; eta = eta; weight = weight; windows = (eta, 2000) ∷ []; after = after }
+weighted callsign category eta weight after =
+    record {
+      callsign = callsign;
+      category = category;
+      eta = eta;
+      weight = weight;
+      windows =
+          (eta, 2000) ∷ [];
+      after = after;
+    }
 
 abbrev pub five : Situation
 five = record {
@@ -110,6 +128,7 @@ delay_block_of_five value fourth fifth = record {
   plan = record {
     value = value;
     landings =
-        waiting_line (codes "A1") 1000 ∷ waiting_line (codes "F1") 1180 ∷ waiting_line (codes "B1") 1240 ∷ fourth ∷ fifth ∷ [];
+        waiting_line (codes "A1") 1000 ∷ waiting_line (codes "F1") 1180 ∷ waiting_line (codes "B1") 1240
+        ∷ fourth ∷ fifth ∷ [];
   };
 }

@@ -1,6 +1,7 @@
 -- The first best schedule: of the best and tight ones, the one whose waiting flights land in the least order of ranks.
 -- The same for lists of seconds by rank. This project's own.
-use Rattle.std.specs.Prelude.{ℕ, ◌+◌, ◌-◌, List, [], ◌∷◌, slice_index, nat_lt, Option, IsTrue, MatchOption, filter, map, if◌then◌else◌}
+use Rattle.std.specs.Prelude.{ℕ, ◌+◌, ◌-◌, List, [], ◌∷◌, slice_index, nat_lt, Option, IsTrue, MatchOption, filter}
+use Rattle.std.specs.Prelude.{map, if◌then◌else◌}
 use Rattle.std.specs.Ordering.{nat_cmp, is_le}
 use Rattle.std.specs.Cmp.Lexicographic.{slice_cmp}
 use Rattle.landing_rules.specs.Flights.{Situation, Schedule, landings, waiting}
@@ -16,7 +17,8 @@ ComesNoLater a b = IsTrue (is_le (slice_cmp nat_cmp a b))
 
 -- the ranks of the waiting flights, in landing order
 abbrev pub order_of : Situation → Schedule → List ℕ
-order_of s t = map (λ f. rank (map (λ a. a.flight) (waiting s)) f.flight) (filter waits (in_landing_order (landings s.active t)))
+order_of s t = map (λ f. rank (map (λ a. a.flight) (waiting s)) f.flight)
+    (filter waits (in_landing_order (landings s.active t)))
 
 -- best and tight, and no other such schedule lands in a lesser order of ranks
 pub record IsFirstBest (s : Situation) (t : Schedule) : Type 0 where

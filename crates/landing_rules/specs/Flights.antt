@@ -22,8 +22,8 @@ pub record Flight : Type 0 where
   pub windows : List Span
   pub after : List Callsign
 
--- a flight in the system: the second at which it is frozen, if it is, and, with the carry, how many flights behind it in
--- first-come order were frozen ahead of it, counted up to k
+-- a flight in the system: the second at which it is frozen, if it is, and, with the carry, how many flights behind it
+-- in first-come order were frozen ahead of it, counted up to k
 pub record Active : Type 0 where
   pub flight : Flight
   pub frozen : Option ℕ

@@ -1,7 +1,9 @@
 -- The problem of a situation: the waiting flights by rank, and what the frozen ones leave them. A list
 -- of seconds by rank is feasible, best or tight for it as a schedule is for the situation.
 -- This project's own form; the rules that it restates are those of Rules.antt.
-use Rattle.std.specs.Prelude.{◌≡◌, ◌≢◌, ℕ, ◌+◌, ◌-◌, ◌*◌, ◌<◌, ◌≤◌, List, [], ◌∷◌, Option, Some, None, length, slice_get, slice_index, nat_lt, IsTrue, MatchOption, All, map, unwrap_or, count_by, sum_by, if◌then◌else◌, ⊤}
+use Rattle.std.specs.Prelude.{◌≡◌, ◌≢◌, ℕ, ◌+◌, ◌-◌, ◌*◌, ◌<◌, ◌≤◌, List, [], ◌∷◌, Option, Some, None, length}
+use Rattle.std.specs.Prelude.{slice_get, slice_index, nat_lt, IsTrue, MatchOption, All, map, unwrap_or, count_by}
+use Rattle.std.specs.Prelude.{sum_by, if◌then◌else◌, ⊤}
 use Rattle.std.specs.List.{list_any, AllZip, AllAdjacentBelow, zip}
 use Rattle.std.specs.Ordering.{is_lt}
 use Rattle.wake_table.specs.declared.category.Category.{Category}
@@ -50,7 +52,8 @@ pub record IsFeasibleList (p : Problem) (t : Schedule) : Type 0 where
   -- each lands at the horizon or later
   pub late : EachWaiting p t (λ r f a. p.horizon ≤ a)
   pub after_last : EachWaiting p t (λ r f a. MatchOption p.last ⊤ (λ l. l.0 + separation p.table l.1 f.category ≤ a))
-  pub separated : EachWaiting p t (λ r f a. EachWaiting p t (λ q g b. r ≢ q → a ≤ b → a + separation p.table f.category g.category ≤ b))
+  pub separated : EachWaiting p t (λ r f a. EachWaiting p t (λ q g b. r ≢ q → a ≤ b
+      → a + separation p.table f.category g.category ≤ b))
   pub in_precedence : EachWaiting p t (λ r f a. EachWaiting p t (λ q g b. IsTrue (must_precede p.pairs r q) → a < b))
   pub shift : EachWaiting p t (λ r f a. (r ≤ place_in t a + p.k) × (place_in t a + f.passed ≤ r + p.k))
 

@@ -2,7 +2,9 @@
 -- After Balakrishnan and Chandran (2010) in outline: one landing second a flight, windows, separation by
 -- leader and follower, precedence, at most k places from first-come order, and both objectives. This
 -- project's own: whole seconds and their range, closures, ties by callsign, frozen landings, tightness.
-use Rattle.std.specs.Prelude.{◌≡◌, ◌≢◌, ℕ, ◌+◌, ◌-◌, ◌*◌, ◌<◌, ◌≤◌, ◌↔◌, max, Bool, ◌&&◌, not, List, [], ◌∷◌, length, slice_index, nat_lt, nat_le, IsTrue, MatchOption, All, filter, map, count_by, sum_by, is_none}
+use Rattle.std.specs.Prelude.{◌≡◌, ◌≢◌, ℕ, ◌+◌, ◌-◌, ◌*◌, ◌<◌, ◌≤◌, ◌↔◌, max, Bool, ◌&&◌, not, List, [], ◌∷◌, length}
+use Rattle.std.specs.Prelude.{slice_index, nat_lt, nat_le, IsTrue, MatchOption, All, filter, map, count_by, sum_by}
+use Rattle.std.specs.Prelude.{is_none}
 use Rattle.std.specs.Str.{bytes_eq}
 use Rattle.std.specs.List.{list_any, AllZip}
 use Rattle.std.specs.declared.cmp.Ordering.{Ordering}
@@ -65,7 +67,8 @@ place all f = 1 + count_by (λ g. nat_lt g.second f.second) all
 abbrev pub rank_among : List Landing → Landing → ℕ
 rank_among all f = rank (map (λ g. g.flight) all) f.flight
 
--- no flight lands more than k places from its rank; each flight that passed it before leaves one place less for others to pass it
+-- no flight lands more than k places from its rank; each flight that passed it before leaves one place less for others
+-- to pass it
 abbrev pub IsShiftKept : ℕ → List Landing → Landing → Type 0
 IsShiftKept k all f = (rank_among all f ≤ place all f + k) × (place all f + f.passed ≤ rank_among all f + k)
 
@@ -114,7 +117,8 @@ pub record IsBest (s : Situation) (t : Schedule) : Type 0 where
 
 -- the flights land in the same order
 abbrev pub HaveSameOrder : Schedule → Schedule → Type 0
-HaveSameOrder t u = (i j : ℕ) → i < length t → j < length t → (slice_index t i < slice_index t j) ↔ (slice_index u i < slice_index u j)
+HaveSameOrder t u = (i j : ℕ) → i < length t → j < length t → (slice_index t i < slice_index t j)
+    ↔ (slice_index u i < slice_index u j)
 
 -- no feasible schedule in the same order lands any flight earlier
 pub record IsTight (s : Situation) (t : Schedule) : Type 0 where

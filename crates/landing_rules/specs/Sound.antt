@@ -8,7 +8,8 @@ use Rattle.wake_table.specs.Table.{IsWakeTable}
 use Rattle.landing_rules.specs.Flights.{Span, Flight, Active, Situation, Landing, waiting, horizon}
 use Rattle.landing_rules.specs.Limits.{greatest_weight, most_closures, most_flights, most_open_seconds, most_waiting}
 use Rattle.landing_rules.specs.Rules.{last_second, is_open, lists, AreSeparated, AreInPrecedence}
-use Rattle.landing_rules.specs.Events.{Event, Estimate, Cancel, Add, Close, Reopen, Clock, State, IsPlanShown, frozen_landings}
+use Rattle.landing_rules.specs.Events.{Event, Estimate, Cancel, Add, Close, Reopen, Clock, State, IsPlanShown}
+use Rattle.landing_rules.specs.Events.{frozen_landings}
 
 -- one to four windows, in order and apart, within the two days, of at most 7,200 seconds together
 pub record AreGoodWindows (windows : List Span) : Type 0 where

@@ -1,5 +1,6 @@
 -- The rules of a schedule as a test that computes.
-use Rattle.std.specs.Prelude.{ℕ, ◌+◌, ◌==◌, Bool, ◌&&◌, ◌||◌, not, List, Option, Some, None, length, nat_lt, nat_le, filter}
+use Rattle.std.specs.Prelude.{ℕ, ◌+◌, ◌==◌, Bool, ◌&&◌, ◌||◌, not, List, Option, Some, None, length, nat_lt, nat_le}
+use Rattle.std.specs.Prelude.{filter}
 use Rattle.std.specs.Str.{bytes_eq}
 use Rattle.std.specs.List.{list_all}
 use Rattle.wake_table.specs.Table.{separation}
@@ -15,7 +16,8 @@ abbrev pub is_pair_in_precedence : Landing → Landing → Bool
 is_pair_in_precedence f g = not (lists g.flight f.flight.callsign) || nat_lt f.second g.second
 
 abbrev pub is_shift_kept : ℕ → List Landing → Landing → Bool
-is_shift_kept k all f = nat_le (rank_among all f) (place all f + k) && nat_le (place all f + f.passed) (rank_among all f + k)
+is_shift_kept k all f = nat_le (rank_among all f) (place all f + k)
+    && nat_le (place all f + f.passed) (rank_among all f + k)
 
 abbrev pub keeps_frozen : ℕ → ℕ → Option ℕ → Bool
 keeps_frozen h second None = nat_le h second

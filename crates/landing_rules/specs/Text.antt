@@ -1,10 +1,13 @@
 -- What a plan and a run print, as lines and as bytes.
-use Rattle.std.specs.Prelude.{◌≡◌, ℕ, ◌+◌, ◌<◌, ◌^◌, Bool, not, List, [], ◌∷◌, ◌++◌, Option, Some, None, codes, decimal, flat_map, map, option_map, if◌then◌else◌}
+use Rattle.std.specs.Prelude.{◌≡◌, ℕ, ◌+◌, ◌<◌, ◌^◌, Bool, not, List, [], ◌∷◌, ◌++◌, Option, Some, None, codes}
+use Rattle.std.specs.Prelude.{decimal, flat_map, map, option_map, if◌then◌else◌}
 use Rattle.landing_rules.specs.declared.objective.Objective.{Objective}
 use Rattle.landing_rules.specs.declared.objective.Objective.TheVariants.{Makespan, Delay}
 use Rattle.landing_rules.specs.Flights.{Callsign, Situation, Schedule, Landing, landings}
 use Rattle.landing_rules.specs.Rules.{waits, objective}
-use Rattle.landing_rules.specs.Events.{Refusal, UnknownFlight, Frozen, Duplicate, TooManyFlights, TooManyWaiting, PredecessorOfFrozen, CoversFrozen, TooManyClosures, UnknownClosure, ClockBack, in_landing_order, State, Answered}
+use Rattle.landing_rules.specs.Events.{Refusal, UnknownFlight, Frozen, Duplicate, TooManyFlights, TooManyWaiting}
+use Rattle.landing_rules.specs.Events.{PredecessorOfFrozen, CoversFrozen, TooManyClosures, UnknownClosure, ClockBack}
+use Rattle.landing_rules.specs.Events.{in_landing_order, State, Answered}
 
 abbrev pub Bytes : Type 0
 Bytes = List ℕ
@@ -118,4 +121,5 @@ IsShowable (Some p) = (p.value < 2 ^ 64) × AreNamed p.landings
 
 -- two plans with the same block are the same
 abbrev pub BlockLaw : Type 0
-BlockLaw = (o : Objective) (p q : Option ShownPlan) → IsShowable p → IsShowable q → block_text o p ≡ block_text o q → p ≡ q
+BlockLaw = (o : Objective) (p q : Option ShownPlan) → IsShowable p → IsShowable q → block_text o p ≡ block_text o q
+    → p ≡ q

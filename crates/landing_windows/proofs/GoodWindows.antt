@@ -1,5 +1,6 @@
 -- What the windows of a flight keep.
-use Rattle.std.proofs.Common.{◌≡◌, ℕ, ◌+◌, ◌≤◌, List, [], ◌∷◌, Option, Some, None, Bool, true, false, cond, length, Ok, Err, arith, refl, inl, inr}
+use Rattle.std.proofs.Common.{◌≡◌, ℕ, ◌+◌, ◌≤◌, List, [], ◌∷◌, Option, Some, None, Bool, true, false, cond, length, Ok}
+use Rattle.std.proofs.Common.{Err, arith, refl, inl, inr}
 use Rattle.std.specs.Prelude.{◌==◌, nat_lt, nat_le}
 use Rattle.std.proofs.lemmas.Bool.{cases_Bool, and_parts}
 use Rattle.std.proofs.lemmas.Bool.Decides.{nat_tests}
@@ -23,7 +24,8 @@ not_overlapping : (before : Option ℕ) (first : ℕ) → overlaps before first 
 not_overlapping None first e = omega arith
 not_overlapping (Some last) first e = let over : nat_le first last ≡ false = e in grind (arith, common_steps)
 
-pub in_order_of : (i : ℕ) (before : Option ℕ) (ss : List Span) → bad_span i before ss ≡ None → list_all is_in_days ss ≡ true → AreSpansFrom 1 (after_end before) ss
+pub in_order_of : (i : ℕ) (before : Option ℕ) (ss : List Span) → bad_span i before ss ≡ None
+    → list_all is_in_days ss ≡ true → AreSpansFrom 1 (after_end before) ss
 unfolding bad_span
 in_order_of i before [] e days = tt
 in_order_of i before (s ∷ ss) e days = elim (cases_Bool (nat_lt s.1 s.0)) [
@@ -34,8 +36,13 @@ in_order_of i before (s ∷ ss) e days = elim (cases_Bool (nat_lt s.1 s.0)) [
         let rest : bad_span (i + 1) (Some s.1) ss ≡ None = rw (forward, apart) at e in
         let runs : s.0 ≤ s.1 = grind (arith, common_steps) in
         let here : is_in_days s ≡ true = (and_parts (is_in_days s) _ days).0 in
-        let ends : s.1 ≤ last_second = grind (arith, common_steps) in
-        (not_overlapping before s.0 apart, runs, ends, in_order_of (i + 1) (Some s.1) ss rest (and_parts (is_in_days s) _ days).1)
+        let ends : s.1 ≤ last_second = grind (arith, common_steps) in (
+          not_overlapping before s.0 apart,
+          runs,
+          ends,
+          in_order_of (i + 1) (Some s.1) ss rest
+              (and_parts (is_in_days s) _ days).1,
+        )
   ]
 ]
 
@@ -46,7 +53,8 @@ pub record Passed (ws : List Span) : Type 0 where
   pub in_order : bad_span 1 None ws ≡ None
   pub short : seconds_in ws ≤ 7200
 
-no_fault : (ws : List Span) (fault : Option WindowFault) (b : Bool) → fault_or fault (cond b (Err TooLong) (Ok ws)) ≡ Ok ws → (fault ≡ None) × (b ≡ false)
+no_fault : (ws : List Span) (fault : Option WindowFault) (b : Bool)
+    → fault_or fault (cond b (Err TooLong) (Ok ws)) ≡ Ok ws → (fault ≡ None) × (b ≡ false)
 no_fault ws (Some x) b e = absurd (cc e)
 no_fault ws None true e = absurd (cc e)
 no_fault ws None false e = (refl, refl)
@@ -58,7 +66,8 @@ passed ws e = elim (cases_Bool (length ws == 0)) [
   | inr some ↦ elim (cases_Bool (nat_lt 4 (length ws))) [
     | inl many ↦ let none : Err TooMany ≡ Ok ws = rw (some, many) at e in absurd (cc none)
     | inr few ↦
-        let rest : fault_or (bad_span 1 None ws) (cond (nat_lt 7200 (seconds_in ws)) (Err TooLong) (Ok ws)) ≡ Ok ws = rw (some, few) at e in
+        let rest : fault_or (bad_span 1 None ws) (cond (nat_lt 7200 (seconds_in ws)) (Err TooLong) (Ok ws)) ≡ Ok ws =
+        rw (some, few) at e in
         let both = no_fault ws (bad_span 1 None ws) (nat_lt 7200 (seconds_in ws)) rest in
         let short = both.1 in
         record {

@@ -13,5 +13,6 @@ pub none_without : (test : Span → Bool) (xs : List Span) → list_any test xs 
 none_without test [] e = refl
 none_without test (x ∷ xs) e = elim (cases_Bool (test x)) [
   | inl here ↦ let contradiction : true ≡ false = rw here at e in absurd (cc contradiction)
-  | inr not_here ↦ let rest : list_any test xs ≡ false = rw not_here at e in rw (not_here, none_without test xs rest) refl
+  | inr not_here ↦ let rest : list_any test xs ≡ false =
+      rw not_here at e in rw (not_here, none_without test xs rest) refl
 ]

@@ -12,4 +12,5 @@ IsClosure c = (c.0 < c.1) × (c.1 ≤ last_second + 1)
 
 -- why a closure is not added to others: it is empty, else as many as may stand do
 abbrev pub adding : List Span → ℕ → ℕ → Result (Unit {0}) ClosureFault
-adding pairs from to = if nat_le to from then Err Empty else if nat_le most_closures (length pairs) then Err TooMany else Ok tt
+adding pairs from to = if nat_le to from then Err Empty else if nat_le most_closures (length pairs)
+    then Err TooMany else Ok tt

@@ -1,5 +1,6 @@
 -- What spans in order and closures hold.
-use Rattle.std.proofs.Common.{◌≡◌, ℕ, suc, zero, ◌+◌, ◌-◌, ◌<◌, ◌≤◌, max, List, [], ◌∷◌, ◌++◌, length, slice_index_or, get_or, All, true, false, arith, add-one, ap, refl, sym, subst, ◌∙◌, inl, inr}
+use Rattle.std.proofs.Common.{◌≡◌, ℕ, suc, zero, ◌+◌, ◌-◌, ◌<◌, ◌≤◌, max, List, [], ◌∷◌, ◌++◌, length, slice_index_or}
+use Rattle.std.proofs.Common.{get_or, All, true, false, arith, add-one, ap, refl, sym, subst, ◌∙◌, inl, inr}
 use Rattle.std.specs.Prelude.{◌||◌, nat_le}
 use Rattle.std.specs.List.{AllAdjacentBelow}
 use Rattle.std.proofs.Math.Bool.{or-false, and-false}
@@ -9,7 +10,8 @@ use Rattle.std.proofs.lemmas.List.Elements.{All-nil, All-cons, All-weaker}
 use Rattle.landing_rules.specs.Flights.{Span}
 use Rattle.landing_rules.specs.Rules.{last_second, is_within, is_open}
 use Rattle.landing_rules.specs.Problem.{AreOpenSpans}
-use Rattle.landing_windows.specs.Spans.{opens, shuts, is_runway_open, AreSpansFrom, AreInOrder, AreMaximal, AreSecondsOf, IsLeastFrom, IsStopFrom, IsShutUntil, IsFirstShut}
+use Rattle.landing_windows.specs.Spans.{opens, shuts, is_runway_open, AreSpansFrom, AreInOrder, AreMaximal}
+use Rattle.landing_windows.specs.Spans.{AreSecondsOf, IsLeastFrom, IsStopFrom, IsShutUntil, IsFirstShut}
 
 pub within : (u : ℕ) (w : Span) → w.0 ≤ u → u ≤ w.1 → is_within u w ≡ true
 within u w a b = grind (arith, common_steps)
@@ -30,7 +32,8 @@ none_before gap least (w ∷ ws) u a b =
     or_from _ _ (not_before u w (omega arith)) (none_before gap (w.1 + gap) ws u a.3 (omega arith))
 
 -- spans in order hold no second before the first of them
-pub none_before_first : (gap : ℕ) (w : Span) (ws : List Span) (u : ℕ) → AreSpansFrom gap 0 (w ∷ ws) → u < w.0 → opens (w ∷ ws) u ≡ false
+pub none_before_first : (gap : ℕ) (w : Span) (ws : List Span) (u : ℕ) → AreSpansFrom gap 0 (w ∷ ws)
+    → u < w.0 → opens (w ∷ ws) u ≡ false
 none_before_first gap w ws u a b = none_before gap w.0 (w ∷ ws) u (omega arith, a.1, a.2, a.3) b
 
 pub from_lower : (gap m n : ℕ) (ws : List Span) → AreSpansFrom gap m ws → n ≤ m → AreSpansFrom gap n ws
@@ -39,13 +42,15 @@ from_lower gap m n (w ∷ ws) a b = (omega arith, a.1, a.2, a.3)
 
 pub closer : (gap least : ℕ) (ws : List Span) → AreSpansFrom (gap + 1) least ws → AreSpansFrom gap least ws
 closer gap least [] a = tt
-closer gap least (w ∷ ws) a = (a.0, a.1, a.2, from_lower gap (w.1 + (gap + 1)) (w.1 + gap) ws (closer gap (w.1 + (gap + 1)) ws a.3) (omega arith))
+closer gap least (w ∷ ws) a =
+    (a.0, a.1, a.2, from_lower gap (w.1 + (gap + 1)) (w.1 + gap) ws (closer gap (w.1 + (gap + 1)) ws a.3) (omega arith))
 
 pub maximal_in_order : (ws : List Span) → AreMaximal ws → AreInOrder ws
 maximal_in_order ws a = closer 1 0 ws a
 
 -- no span holds a second past the two days
-pub opens_in_days : (gap least : ℕ) (ws : List Span) (u : ℕ) → AreSpansFrom gap least ws → opens ws u ≡ true → u ≤ last_second
+pub opens_in_days : (gap least : ℕ) (ws : List Span) (u : ℕ) → AreSpansFrom gap least ws → opens ws u ≡ true
+    → u ≤ last_second
 opens_in_days gap least [] u a e = absurd (cc e)
 opens_in_days gap least (w ∷ ws) u a e = elim (cases_Bool (is_within u w)) [
   | inl here ↦ let below : u ≤ w.1 = is_within_last u w here in omega arith
@@ -65,17 +70,20 @@ pub end_later : (end later : ℕ) (ws : List Span) → EndBefore end ws → end 
 end_later end later [] a b = tt
 end_later end later (w ∷ ws) a b = (omega arith, end_later end later ws a.1 b)
 
-pub end_one_more : (end : ℕ) (ws : List Span) (w : Span) → EndBefore end ws → w.1 + 2 ≤ end → EndBefore end (ws ++ w ∷ [])
+pub end_one_more : (end : ℕ) (ws : List Span) (w : Span) → EndBefore end ws → w.1 + 2 ≤ end
+    → EndBefore end (ws ++ w ∷ [])
 end_one_more end [] w a b = (b, tt)
 end_one_more end (v ∷ ws) w a b = (a.0, end_one_more end ws w a.1 b)
 
 pub maximal_one_more : (least end : ℕ) (ws : List Span) (w : Span) → AreSpansFrom 2 least ws → EndBefore end ws →
     least ≤ w.0 → end ≤ w.0 → w.0 ≤ w.1 → w.1 ≤ last_second → AreSpansFrom 2 least (ws ++ w ∷ [])
 maximal_one_more least end [] w a b p q r s = (p, r, s, tt)
-maximal_one_more least end (v ∷ ws) w a b p q r s = (a.0, a.1, a.2, maximal_one_more (v.1 + 2) end ws w a.3 b.1 (omega arith) q r s)
+maximal_one_more least end (v ∷ ws) w a b p q r s =
+    (a.0, a.1, a.2, maximal_one_more (v.1 + 2) end ws w a.3 b.1 (omega arith) q r s)
 
 -- where the least span that ends at t or later begins, or t itself, is the least second held
-pub least_within : (spans rest : List Span) (d : Span) (t s : ℕ) → ((u : ℕ) → t ≤ u → opens rest u ≡ opens spans u) → AreInOrder rest → 1 ≤ length rest →
+pub least_within : (spans rest : List Span) (d : Span) (t s : ℕ) → ((u : ℕ) → t ≤ u → opens rest u ≡ opens spans u)
+    → AreInOrder rest → 1 ≤ length rest →
     t ≤ (slice_index_or rest 0 d).1 → s ≡ max t (slice_index_or rest 0 d).0 → IsLeastFrom (opens spans) t s
 least_within spans [] d t s same a n b e = absurd (omega arith)
 least_within spans (w ∷ ws) d t s same a n b e =
@@ -97,10 +105,12 @@ pub record IsOneMore (old : List Span) (first last : ℕ) (new : List Span) : Ty
   pub same : (u : ℕ) → opens new u ≡ (opens old u || is_within u (first, last))
 
 -- a run from an open second on holds that second
-pub run_holds : (closures : List Span) (from most stop : ℕ) → shuts closures from ≡ false → from < most → IsFirstShut closures from most stop → from < stop
+pub run_holds : (closures : List Span) (from most stop : ℕ) → shuts closures from ≡ false → from < most
+    → IsFirstShut closures from most stop → from < stop
 run_holds closures from most stop e h s = elim (cases_lt from stop) [
   | inl some ↦ some
-  | inr none ↦ let after = s.after in let at : stop ≡ from = omega arith in absurd (both_ways (shuts closures from) e (rw at at (s.shut (omega arith))))
+  | inr none ↦ let after = s.after in let at : stop ≡ from =
+      omega arith in absurd (both_ways (shuts closures from) e (rw at at (s.shut (omega arith))))
 ]
 
 -- the spans hold exactly the open seconds before `from`, and each ends before it
@@ -109,17 +119,20 @@ pub record IsOpenUpTo (closures : List Span) (from : ℕ) (spans : List Span) : 
   pub maximal : AreMaximal spans
   pub before : EndBefore (from + 1) spans
 
-pub shut_on : (closures spans : List Span) (from end : ℕ) → IsOpenUpTo closures from spans → IsShutUntil closures from end → IsOpenUpTo closures end spans
+pub shut_on : (closures spans : List Span) (from end : ℕ) → IsOpenUpTo closures from spans
+    → IsShutUntil closures from end → IsOpenUpTo closures end spans
 shut_on closures spans from end k shut = record {
   same = λ u below. elim (cases_lt u from) [
     | inl early ↦ k.same u early
-    | inr late ↦ rw (none_after (from + 1) spans u k.before (omega arith), shut.shut u late below) (sym (and-false (nat_le u last_second)))
+    | inr late ↦ rw (none_after (from + 1) spans u k.before (omega arith), shut.shut u late below)
+        (sym (and-false (nat_le u last_second)))
   ];
   maximal = k.maximal;
   before = let after = shut.after in end_later (from + 1) (end + 1) spans k.before (omega arith);
 }
 
-pub open_on : (closures spans new : List Span) (from stop : ℕ) → IsOpenUpTo closures from spans → IsFirstShut closures from (last_second + 1) stop → from < stop →
+pub open_on : (closures spans new : List Span) (from stop : ℕ) → IsOpenUpTo closures from spans
+    → IsFirstShut closures from (last_second + 1) stop → from < stop →
     IsOneMore spans from (stop - 1) new → IsOpenUpTo closures stop new
 open_on closures spans new from stop k run some more = record {
   same = λ u below. more.same u ∙ elim (cases_lt u from) [
@@ -127,13 +140,20 @@ open_on closures spans new from stop k run some more = record {
     | inr late ↦
         let most = run.within in
         let day : nat_le u last_second ≡ true = le-leb u last_second (omega arith) in
-        rw (none_after (from + 1) spans u k.before (omega arith), within u (from, stop - 1) late (omega arith), day, run.least u late below) refl
+        rw (
+          none_after (from + 1) spans u k.before (omega arith),
+          within u (from, stop - 1) late
+              (omega arith),
+          day,
+          run.least u late below,
+        ) refl
   ];
   maximal = more.maximal;
   before = more.before (stop + 1) (omega arith) (omega arith);
 }
 
-pub all_open : (closures spans : List Span) (from : ℕ) → IsOpenUpTo closures from spans → last_second < from → AreSecondsOf (is_runway_open closures) spans
+pub all_open : (closures spans : List Span) (from : ℕ) → IsOpenUpTo closures from spans → last_second < from
+    → AreSecondsOf (is_runway_open closures) spans
 all_open closures spans from k ended = record {
   maximal = k.maximal;
   same = λ u. elim (cases_lt u from) [
@@ -146,9 +166,11 @@ all_open closures spans from k ended = record {
 
 -- ---- what the rules ask of spans
 
-pub all_forward : (gap least : ℕ) (ws : List Span) → AreSpansFrom gap least ws → All (λ w. (w.0 ≤ w.1) × (w.1 ≤ last_second)) ws
+pub all_forward : (gap least : ℕ) (ws : List Span) → AreSpansFrom gap least ws
+    → All (λ w. (w.0 ≤ w.1) × (w.1 ≤ last_second)) ws
 all_forward gap least [] a = All-nil (λ w. (w.0 ≤ w.1) × (w.1 ≤ last_second))
-all_forward gap least (w ∷ ws) a = All-cons (λ w. (w.0 ≤ w.1) × (w.1 ≤ last_second)) w ws (a.1, a.2) (all_forward gap (w.1 + gap) ws a.3)
+all_forward gap least (w ∷ ws) a =
+    All-cons (λ w. (w.0 ≤ w.1) × (w.1 ≤ last_second)) w ws (a.1, a.2) (all_forward gap (w.1 + gap) ws a.3)
 
 adjacent : (gap least : ℕ) (ws : List Span) → AreSpansFrom gap least ws → (k : ℕ) (d : Span) → suc k < length ws →
     (slice_index_or ws k d).1 + gap ≤ (slice_index_or ws (suc k) d).0
@@ -161,10 +183,12 @@ pub next_apart : (gap least : ℕ) (ws : List Span) → AreSpansFrom gap least w
     (slice_index_or ws k d).1 + gap ≤ (slice_index_or ws (k + 1) d).0
 next_apart gap least ws a k d h = rw (add-one k) (adjacent gap least ws a k d (omega arith))
 
-pub are_open_spans : (windows closures spans : List Span) → AreMaximal spans → ((t : ℕ) → opens spans t ≡ is_open windows closures t) →
+pub are_open_spans : (windows closures spans : List Span) → AreMaximal spans
+    → ((t : ℕ) → opens spans t ≡ is_open windows closures t) →
     AreOpenSpans windows closures spans
 are_open_spans windows closures spans a same = record {
-  nonempty = All-weaker (λ w. (w.0 ≤ w.1) × (w.1 ≤ last_second)) (λ w. w.0 ≤ w.1) (λ w p. p.0) spans (all_forward 2 0 spans a);
+  nonempty = All-weaker (λ w. (w.0 ≤ w.1) × (w.1 ≤ last_second)) (λ w. w.0 ≤ w.1) (λ w p. p.0) spans
+      (all_forward 2 0 spans a);
   apart = λ k d h. let far = next_apart 2 0 spans a k d h in omega arith;
   same = same;
 }
@@ -179,11 +203,14 @@ holds_first w ws u a b = rw (within u w a b) refl
 
 -- just after its first span a list of maximal spans holds no second
 gap_after : (least : ℕ) (v : Span) (vs : List Span) → AreSpansFrom 2 least (v ∷ vs) → opens (v ∷ vs) (v.1 + 1) ≡ false
-gap_after least v vs a = or_from _ _ (not_after (v.1 + 1) v (omega arith)) (none_before 2 (v.1 + 2) vs (v.1 + 1) a.3 (omega arith))
+gap_after least v vs a = or_from _ _ (not_after (v.1 + 1) v (omega arith))
+    (none_before 2 (v.1 + 2) vs (v.1 + 1) a.3 (omega arith))
 
 -- the span that holds the least second ends just before one that none holds
-pub stops_after : (spans rest : List Span) (d : Span) (t s : ℕ) → ((u : ℕ) → t ≤ u → opens rest u ≡ opens spans u) → AreMaximal rest → 1 ≤ length rest →
-    t ≤ (slice_index_or rest 0 d).1 → s ≡ max t (slice_index_or rest 0 d).0 → IsStopFrom (opens spans) s ((slice_index_or rest 0 d).1 + 1)
+pub stops_after : (spans rest : List Span) (d : Span) (t s : ℕ) → ((u : ℕ) → t ≤ u → opens rest u ≡ opens spans u)
+    → AreMaximal rest → 1 ≤ length rest →
+    t ≤ (slice_index_or rest 0 d).1 → s ≡ max t (slice_index_or rest 0 d).0
+    → IsStopFrom (opens spans) s ((slice_index_or rest 0 d).1 + 1)
 stops_after spans [] d t s same a n b e = absurd (omega arith)
 stops_after spans (w ∷ ws) d t s same a n b e = record {
   after = (let runs = a.1 in omega arith);
@@ -200,13 +227,15 @@ in_days_apart : (least : ℕ) (ws : List Span) → AreSpansFrom 2 least ws → A
 in_days_apart least [] a = tt
 in_days_apart least (w ∷ ws) a = (a.0, a.1, in_days_apart (w.1 + 2) ws a.3)
 
-are_apart : (least : ℕ) (ws : List Span) → ((d : Span) → 1 ≤ length ws → least ≤ (get_or ws 0 d).0) → All (λ w. w.0 ≤ w.1) ws
+are_apart : (least : ℕ) (ws : List Span) → ((d : Span) → 1 ≤ length ws → least ≤ (get_or ws 0 d).0)
+    → All (λ w. w.0 ≤ w.1) ws
     → AllAdjacentBelow (λ v w. v.1 + 1 < w.0) ws (length ws) → AreApart least ws
 are_apart least [] first forward apart = tt
 are_apart least (w ∷ ws) first forward apart = (
   first w (omega arith),
   forward 0 w (omega arith),
-  are_apart (w.1 + 2) ws (λ d h. let far = apart 0 d (omega arith) in omega arith) (λ k d h. forward (suc k) d (omega arith)) next,
+  are_apart (w.1 + 2) ws (λ d h. let far = apart 0 d (omega arith) in omega arith)
+      (λ k d h. forward (suc k) d (omega arith)) next,
 )
   where
     next : AllAdjacentBelow (λ v w. v.1 + 1 < w.0) ws (length ws)
@@ -242,7 +271,8 @@ module _ (least : ℕ) (v w : Span) (vs ws : List Span) (a : AreApart least (v �
     | inl above ↦
         let low = b.0 in
         let forward = b.1 in
-        let held : opens (w ∷ ws) (w.1 + 1) ≡ true = sym (same (w.1 + 1) (omega arith)) ∙ holds_first v vs (w.1 + 1) (omega arith) (omega arith) in
+        let held : opens (w ∷ ws) (w.1 + 1) ≡ true = sym (same (w.1 + 1) (omega arith))
+        ∙ holds_first v vs (w.1 + 1) (omega arith) (omega arith) in
         let there : opens ws (w.1 + 1) ≡ true = rw (not_after (w.1 + 1) w (omega arith)) at held in
         let later = held_from (w.1 + 2) ws (w.1 + 1) b.2 there in
         absurd (omega arith)
@@ -257,10 +287,13 @@ module _ (least : ℕ) (v w : Span) (vs ws : List Span) (a : AreApart least (v �
       let rest : opens vs t ≡ opens ws t = rw (not_after t v (omega arith), not_after t w (omega arith)) at both in
       rest
 
-same_lists : (least : ℕ) (vs ws : List Span) → AreApart least vs → AreApart least ws → ((t : ℕ) → least ≤ t → opens vs t ≡ opens ws t) → vs ≡ ws
+same_lists : (least : ℕ) (vs ws : List Span) → AreApart least vs → AreApart least ws
+    → ((t : ℕ) → least ≤ t → opens vs t ≡ opens ws t) → vs ≡ ws
 same_lists least [] [] a b same = refl
-same_lists least [] (w ∷ ws) a b same = absurd (let held : false ≡ true = same w.0 b.0 ∙ holds_first w ws w.0 (omega arith) b.1 in cc held)
-same_lists least (v ∷ vs) [] a b same = absurd (let held : false ≡ true = sym (same v.0 a.0) ∙ holds_first v vs v.0 (omega arith) a.1 in cc held)
+same_lists least [] (w ∷ ws) a b same =
+    absurd (let held : false ≡ true = same w.0 b.0 ∙ holds_first w ws w.0 (omega arith) b.1 in cc held)
+same_lists least (v ∷ vs) [] a b same =
+    absurd (let held : false ≡ true = sym (same v.0 a.0) ∙ holds_first v vs v.0 (omega arith) a.1 in cc held)
 same_lists least (v ∷ vs) (w ∷ ws) a b same =
     let back = λ (t : ℕ) (from : least ≤ t). sym (same t from) in
     let low = begins least v w vs ws a b same in
@@ -269,13 +302,17 @@ same_lists least (v ∷ vs) (w ∷ ws) a b same =
     let short = ends least v w vs ws a b same first in
     let long = ends least w v ws vs b a back (sym first) in
     let last : v.1 ≡ w.1 = omega arith in
-    let rest = same_lists (v.1 + 2) vs ws a.2 (subst (λ (x : ℕ). AreApart (x + 2) ws) (sym last) b.2) (behind least v w vs ws a b same last) in
+    let rest = same_lists (v.1 + 2) vs ws a.2 (subst (λ (x : ℕ). AreApart (x + 2) ws) (sym last) b.2)
+    (behind least v w vs ws a b same last) in
     rw (pair_eq v w first last, rest) refl
 
-pub one_list : (least : ℕ) (xs ys : List Span) → AreSpansFrom 2 least xs → AreSpansFrom 2 least ys → ((t : ℕ) → least ≤ t → opens xs t ≡ opens ys t) → xs ≡ ys
+pub one_list : (least : ℕ) (xs ys : List Span) → AreSpansFrom 2 least xs → AreSpansFrom 2 least ys
+    → ((t : ℕ) → least ≤ t → opens xs t ≡ opens ys t) → xs ≡ ys
 one_list least xs ys a b same = same_lists least xs ys (in_days_apart least xs a) (in_days_apart least ys b) same
 
 -- the longest spans of open seconds are fixed by those seconds
-pub one_spans : (windows closures vs ws : List Span) → AreOpenSpans windows closures vs → AreOpenSpans windows closures ws → vs ≡ ws
+pub one_spans : (windows closures vs ws : List Span) → AreOpenSpans windows closures vs
+    → AreOpenSpans windows closures ws → vs ≡ ws
 one_spans windows closures vs ws a b =
-    same_lists 0 vs ws (are_apart 0 vs (λ d some. omega arith) a.nonempty a.apart) (are_apart 0 ws (λ d some. omega arith) b.nonempty b.apart) (λ t from. a.same t ∙ sym (b.same t))
+    same_lists 0 vs ws (are_apart 0 vs (λ d some. omega arith) a.nonempty a.apart)
+    (are_apart 0 ws (λ d some. omega arith) b.nonempty b.apart) (λ t from. a.same t ∙ sym (b.same t))

@@ -1,5 +1,6 @@
 -- Lists of closed spans of seconds, and the least second at or after another that a test passes.
-use Rattle.std.specs.Prelude.{⊤, ◌≡◌, ℕ, ◌+◌, ◌<◌, ◌≤◌, Bool, true, false, ◌&&◌, not, nat_le, List, [], ◌∷◌, Option, Some, None, MatchOption}
+use Rattle.std.specs.Prelude.{⊤, ◌≡◌, ℕ, ◌+◌, ◌<◌, ◌≤◌, Bool, true, false, ◌&&◌, not, nat_le, List, [], ◌∷◌, Option}
+use Rattle.std.specs.Prelude.{Some, None, MatchOption}
 use Rattle.std.specs.List.{list_any}
 use Rattle.landing_rules.specs.Flights.{Span}
 use Rattle.landing_rules.specs.Rules.{last_second, is_within, is_shut}
@@ -16,7 +17,8 @@ shuts closures t = list_any (is_shut t) closures
 abbrev pub is_runway_open : List Span → ℕ → Bool
 is_runway_open closures t = nat_le t last_second && not (shuts closures t)
 
--- spans of the two days in order: the first begins at `least` or later, and each next `gap` seconds after an end or later
+-- spans of the two days in order: the first begins at `least` or later, and each next `gap` seconds after an end or
+-- later
 abbrev pub AreSpansFrom : ℕ → ℕ → List Span → Type 0
 AreSpansFrom gap least [] = ⊤
 AreSpansFrom gap least (w ∷ ws) = (least ≤ w.0) × (w.0 ≤ w.1) × (w.1 ≤ last_second) × AreSpansFrom gap (w.1 + gap) ws
@@ -56,7 +58,8 @@ pub record IsStopFrom (test : ℕ → Bool) (from stop : ℕ) : Type 0 where
 
 -- the least second at or after `from` that passes, and the last one up to which every second from it on does
 abbrev pub SpanFrom : (ℕ → Bool) → ℕ → Option Span → Type 0
-SpanFrom test from answer = MatchOption answer (NoneFrom test from) (λ span. IsLeastFrom test from span.0 × IsStopFrom test span.0 (span.1 + 1))
+SpanFrom test from answer =
+    MatchOption answer (NoneFrom test from) (λ span. IsLeastFrom test from span.0 × IsStopFrom test span.0 (span.1 + 1))
 
 -- a closure shuts t, and shuts every second up to the end given
 pub record IsShutUntil (closures : List Span) (t end : ℕ) : Type 0 where
@@ -77,7 +80,8 @@ IsNotLater a (Some y) = MatchOption a ⊥ (λ x. x ≤ y)
 
 -- the first second from s is not later than that from t where s is not later than t
 abbrev pub NeverFallsLaw : Type 0
-NeverFallsLaw = (test : ℕ → Bool) (s t : ℕ) (a b : Option ℕ) → FirstFrom test s a → FirstFrom test t b → s ≤ t → IsNotLater a b
+NeverFallsLaw = (test : ℕ → Bool) (s t : ℕ) (a b : Option ℕ) → FirstFrom test s a → FirstFrom test t b
+    → s ≤ t → IsNotLater a b
 
 -- equal open seconds have equal lists of spans
 abbrev pub OneListLaw : Type 0

@@ -1,5 +1,6 @@
 -- What the windows of a flight are, and the first fault of spans that are none.
-use Rattle.std.specs.Prelude.{ℕ, zero, suc, List, [], ◌∷◌, Bool, false, ◌==◌, ◌+◌, ◌-◌, ◌&&◌, nat_le, nat_lt, length, slice_index_or, sum_by, Option, Some, None, Result, Ok, Err, if◌then◌else◌}
+use Rattle.std.specs.Prelude.{ℕ, zero, suc, List, [], ◌∷◌, Bool, false, ◌==◌, ◌+◌, ◌-◌, ◌&&◌, nat_le, nat_lt, length}
+use Rattle.std.specs.Prelude.{slice_index_or, sum_by, Option, Some, None, Result, Ok, Err, if◌then◌else◌}
 use Rattle.std.specs.Option.{option_or}
 use Rattle.landing_rules.specs.Flights.{Span}
 use Rattle.landing_rules.specs.Limits.{most_open_seconds}
@@ -17,7 +18,8 @@ overlaps (Some last) first = nat_le first last
 
 -- what is wrong with a span, by its number and the second where the span before it ends
 abbrev pub span_fault : ℕ → Option ℕ → Span → Option WindowFault
-span_fault i before s = if nat_lt s.1 s.0 then Some (Backward i) else if overlaps before s.0 then Some (Overlap i) else None
+span_fault i before s = if nat_lt s.1 s.0 then Some (Backward i) else if overlaps before s.0
+    then Some (Overlap i) else None
 
 -- the first span, counted from i, that runs backward or does not start after the second where the span before it ended
 unfoldable pub bad_span : ℕ → Option ℕ → List Span → Option WindowFault
@@ -42,4 +44,5 @@ unfoldable pub windows_of : List Span → Result (List Span) WindowFault
 windows_of spans =
     if length spans == 0 then Err Empty
     else if nat_lt 4 (length spans) then Err TooMany
-    else fault_or (bad_span 1 None spans) (if nat_lt most_open_seconds (seconds_in spans) then Err TooLong else Ok spans)
+    else fault_or (bad_span 1 None spans) (if nat_lt most_open_seconds (seconds_in spans) then Err TooLong
+    else Ok spans)

@@ -1,5 +1,7 @@
--- Windows of a stage that share a tail: the same rank landed last in each, and may land at the least of their labels as the first.
-use Rattle.std.proofs.Common.{◌≡◌, ℕ, suc, ◌-◌, ◌*◌, ◌+◌, ◌<◌, ◌≤◌, List, [], ◌∷◌, length, drop, refl, subst, sym, ap, ◌∙◌, arith, inl, inr}
+-- Windows of a stage that share a tail: the same rank landed last in each, and may land at the least of their labels as
+-- the first.
+use Rattle.std.proofs.Common.{◌≡◌, ℕ, suc, ◌-◌, ◌*◌, ◌+◌, ◌<◌, ◌≤◌, List, [], ◌∷◌, length, drop, refl, subst, sym, ap}
+use Rattle.std.proofs.Common.{◌∙◌, arith, inl, inr}
 use Rattle.std.specs.Prelude.{ℤ, pos, ◌+ℤ◌, slice_index}
 use Rattle.std.proofs.lemmas.Int.{ints}
 use Rattle.std.proofs.lemmas.List.Elements.{Contains-get_or}
@@ -29,15 +31,19 @@ offset_tail [] i = refl
 offset_tail (x ∷ xs) i = refl
 
 -- windows with the same offsets from the second on end alike
-same_end : (w : ℕ) (x y : List ℤ) → IsWindow w x → IsWindow w y → drop 1 x ≡ drop 1 y → offset_at x (w - 1) ≡ offset_at y (w - 1)
+same_end : (w : ℕ) (x y : List ℤ) → IsWindow w x → IsWindow w y → drop 1 x ≡ drop 1 y
+    → offset_at x (w - 1) ≡ offset_at y (w - 1)
 same_end w x y a b e = elim (cases_eq w 1) [
   | inl one ↦
-      let p : offset_at x (w - 1) ≡ pos 0 = omega (arith, ints, a.low (w - 1) (omega arith), a.high (w - 1) (omega arith)) in
-      let q : offset_at y (w - 1) ≡ pos 0 = omega (arith, ints, b.low (w - 1) (omega arith), b.high (w - 1) (omega arith)) in
+      let p : offset_at x (w - 1) ≡ pos 0 =
+      omega (arith, ints, a.low (w - 1) (omega arith), a.high (w - 1) (omega arith)) in
+      let q : offset_at y (w - 1) ≡ pos 0 =
+      omega (arith, ints, b.low (w - 1) (omega arith), b.high (w - 1) (omega arith)) in
       p ∙ sym q
   | inr more ↦
       let n : w - 1 ≡ suc (w - 2) = omega (arith, a.is_width) in
-      ap (offset_at x) n ∙ offset_tail x (w - 2) ∙ ap (λ (l : List ℤ). offset_at l (w - 2)) e ∙ sym (offset_tail y (w - 2)) ∙ ap (offset_at y) (sym n)
+      ap (offset_at x) n ∙ offset_tail x (w - 2) ∙ ap (λ (l : List ℤ). offset_at l (w - 2)) e
+      ∙ sym (offset_tail y (w - 2)) ∙ ap (offset_at y) (sym n)
 ]
 
 rank_flight : (p : Problem) (rs : List ℕ) → Legal (ranked p).rules rs → 0 < length rs → 1 ≤ last_rank rs
@@ -45,48 +51,63 @@ rank_flight p [] legal some = absurd (omega (arith, some))
 rank_flight p (r ∷ rs) legal some = legal.0.fits.from_one
 
 -- behind a first landing a landable window has a latest rank
-landable_flight : (p : Problem) → IsWindowNetwork p → (stage : ℕ) (x : List ℤ) → IsLandable p stage x → 0 < stage → 1 ≤ latest (stage, x)
+landable_flight : (p : Problem) → IsWindowNetwork p → (stage : ℕ) (x : List ℤ) → IsLandable p stage x
+    → 0 < stage → 1 ≤ latest (stage, x)
 landable_flight p net stage x l some =
-    let is : latest (stage, x) ≡ last_rank (ranks l.1.landings) = ap latest (sym l.1.at) ∙ net.newest_is (ranks l.1.landings) l.1.legal in
+    let is : latest (stage, x) ≡ last_rank (ranks l.1.landings) =
+    ap latest (sym l.1.at) ∙ net.newest_is (ranks l.1.landings) l.1.legal in
     let long : length (ranks l.1.landings) ≡ stage = ap (λ (n : Node). n.0) l.1.at in
     let one = rank_flight p (ranks l.1.landings) l.1.legal (omega (arith, long, some)) in
     omega (arith, is, one)
 
-module _ (p : Problem) (w stage : ℕ) (before : List (List ℤ)) (labels : List ℕ) (odd : w ≡ 2 * p.k + 1) (laws : WindowLaws p w) (held : HoldsLabels p (stage, before) labels) (from to : ℕ) (group : IsGroup before from to) where
+module _ (p : Problem) (w stage : ℕ) (before : List (List ℤ)) (labels : List ℕ) (odd : w ≡ 2 * p.k + 1)
+    (laws : WindowLaws p w) (held : HoldsLabels p (stage, before) labels) (from to : ℕ)
+    (group : IsGroup before from to) where
   landable_in : (j : ℕ) → j < length before → IsLandable p stage (node_at before j)
   landable_in j lt = (held.landable (node_at before j)).0 (Contains-get_or before j [] lt)
 
   -- the rank that landed last in the first
-  pub group_leader : (pos stage +ℤ offset_at (node_at before from) (w - 1) ≡ pos (latest (stage, node_at before from))) × (latest (stage, node_at before from) ≤ length p.flights)
-  group_leader = landable_last p w odd laws stage (node_at before from) (landable_in from (omega (arith, group.some, group.within)))
+  pub group_leader : (pos stage +ℤ offset_at (node_at before from) (w - 1) ≡ pos (latest (stage, node_at before from)))
+      × (latest (stage, node_at before from) ≤ length p.flights)
+  group_leader = landable_last p w odd laws stage (node_at before from)
+      (landable_in from (omega (arith, group.some, group.within)))
 
   -- which is one of the flights', where some have landed
   pub leader_flight : (l : ℕ) → pos l ≡ pos stage +ℤ offset_at (node_at before from) (w - 1) → 0 < stage → 1 ≤ l
   leader_flight l is some =
-      let one = landable_flight p laws.network stage (node_at before from) (landable_in from (omega (arith, group.some, group.within))) some in
+      let one = landable_flight p laws.network stage (node_at before from)
+      (landable_in from (omega (arith, group.some, group.within))) some in
       let k = group_leader in
       let e = k.0 in
       omega (arith, ints, is, e, one)
 
-  leader_in : (l : ℕ) → pos l ≡ pos stage +ℤ offset_at (node_at before from) (w - 1) → (j : ℕ) → from ≤ j → j < to → latest (stage, node_at before j) ≡ l
+  leader_in : (l : ℕ) → pos l ≡ pos stage +ℤ offset_at (node_at before from) (w - 1) → (j : ℕ)
+      → from ≤ j → j < to → latest (stage, node_at before j) ≡ l
   leader_in l is j lo hi =
       let lt : j < length before = omega (arith, hi, group.within) in
       let first : from < length before = omega (arith, group.some, group.within) in
       let a = (landable_last p w odd laws stage (node_at before j) (landable_in j lt)).0 in
       let e : offset_at (node_at before j) (w - 1) ≡ offset_at (node_at before from) (w - 1) =
-      same_end w (node_at before j) (node_at before from) (landable_valid p w odd laws stage (node_at before j) (landable_in j lt)) (landable_valid p w odd laws stage (node_at before from) (landable_in from first))
+      same_end w (node_at before j) (node_at before from)
+      (landable_valid p w odd laws stage (node_at before j) (landable_in j lt))
+      (landable_valid p w odd laws stage (node_at before from) (landable_in from first))
       ((group.exact j lt).1 (lo, hi)) in
       omega (arith, ints, a, e, is)
 
   -- the rank that landed last landed with the least label, and may land then as the first
-  pub group_lead : (l : ℕ) → pos l ≡ pos stage +ℤ offset_at (node_at before from) (w - 1) → (best : ℕ) → IsLeastOf labels from to best → IsEntry best → (category : Category)
+  pub group_lead : (l : ℕ) → pos l ≡ pos stage +ℤ offset_at (node_at before from) (w - 1) → (best : ℕ)
+      → IsLeastOf labels from to best → IsEntry best → (category : Category)
       → (1 ≤ l → (of_rank no_waiting p.flights l).category ≡ category) → IsLead p l best category
   group_lead l leader_is best least entry category is =
       let lt : least.place < length before = omega (arith, least.to_there, group.within) in
-      let known : slice_index labels least.place < no_label = ((held.labelled.label least.place lt).least _ (can_land p stage (node_at before least.place) (landable_in least.place lt))).0 in
-      let lead : latest (stage, node_at before least.place) ≡ l = leader_in l leader_is least.place least.from_here least.to_there in
+      let known : slice_index labels least.place < no_label =
+      ((held.labelled.label least.place lt).least _
+      (can_land p stage (node_at before least.place) (landable_in least.place lt))).0 in
+      let lead : latest (stage, node_at before least.place) ≡ l =
+      leader_in l leader_is least.place least.from_here least.to_there in
       let can : CanLandAt p stage (node_at before least.place) best =
-      subst (CanLandAt p stage (node_at before least.place)) least.is ((held.labelled.label least.place lt).attained known) in
+      subst (CanLandAt p stage (node_at before least.place)) least.is
+      ((held.labelled.label least.place lt).attained known) in
       let k = group_leader in
       let e = k.0 in
       let h = k.1 in
@@ -94,5 +115,6 @@ module _ (p : Problem) (w stage : ℕ) (before : List (List ℤ)) (labels : List
         within = omega (arith, ints, leader_is, e, h);
         in_days = entry_small best entry (omega (arith, known, least.is));
         category_is = is;
-        started = λ one. subst (λ (x : ℕ). start_at p x ≤ best) lead (can_started p laws.network stage (node_at before least.place) best can (omega (arith, one, lead)));
+        started = λ one. subst (λ (x : ℕ). start_at p x ≤ best) lead
+            (can_started p laws.network stage (node_at before least.place) best can (omega (arith, one, lead)));
       }

@@ -7,8 +7,10 @@ use Rattle.std.proofs.lemmas.Bool.{false≢true}
 use Rattle.cps_network.specs.Groups.{IsGroup}
 use Rattle.cps_network.specs.Lists.{node_at}
 
-pub window_at : (slice windows : List (List ℤ)) (i : ℕ) (x : List ℤ) → slice ≡ windows → i < length windows → x ≡ get_or slice i x → x ≡ node_at windows i
-window_at slice windows i x e lt is = is ∙ ap (λ (zs : List (List ℤ)). get_or zs i x) e ∙ sym (get_or_default windows i [] x lt)
+pub window_at : (slice windows : List (List ℤ)) (i : ℕ) (x : List ℤ) → slice ≡ windows → i < length windows
+    → x ≡ get_or slice i x → x ≡ node_at windows i
+window_at slice windows i x e lt is = is ∙ ap (λ (zs : List (List ℤ)). get_or zs i x) e
+    ∙ sym (get_or_default windows i [] x lt)
 
 pub extends_there : (x y v w : List ℤ) → x ≡ y → v ≡ w → Extends x v → Extends y w
 extends_there x y v w e f leads = subst (λ (z : List ℤ). Extends y z) f (subst (λ (z : List ℤ). Extends z v) e leads)

@@ -8,10 +8,13 @@ use Rattle.makespan_labels.specs.Columns.{IsEntry}
 use Rattle.makespan_labels.specs.Entries.{IsLabelAt}
 use Rattle.makespan_labels.specs.Labels.{AreLabels}
 
-pub as_written : {A : Type 0} (part items : List A) (n : ℕ) → n ≡ length part → take n (part ++ drop (length part) items) ≡ part
-as_written part items n e = ap (λ (m : ℕ). take m (part ++ drop (length part) items)) e ∙ take-append_seam part (drop (length part) items)
+pub as_written : {A : Type 0} (part items : List A) (n : ℕ) → n ≡ length part
+    → take n (part ++ drop (length part) items) ≡ part
+as_written part items n e = ap (λ (m : ℕ). take m (part ++ drop (length part) items)) e
+    ∙ take-append_seam part (drop (length part) items)
 
-module _ (p : Problem) (stage : ℕ × List (List ℤ)) (part : List ℕ) (long : length part ≡ length stage.1) (at : (i : ℕ) → i < length part → IsLabelAt p stage i (slice_index part i)) where
+module _ (p : Problem) (stage : ℕ × List (List ℤ)) (part : List ℕ) (long : length part ≡ length stage.1) (at : (i : ℕ)
+    → i < length part → IsLabelAt p stage i (slice_index part i)) where
   pub entries_written : All IsEntry part
   entries_written k d lt = subst IsEntry (get_or_default part k 0 d lt) (at k lt).entry
 

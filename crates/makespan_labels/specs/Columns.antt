@@ -1,5 +1,7 @@
--- Columns of labels: their entries, the least of a range, and what is left where the places without a label are left out.
-use Rattle.std.specs.Prelude.{◌≡◌, ℕ, ◌<◌, ◌≤◌, ◌⊎◌, List, Bool, Option, IfSome, not, nat_eq, map, slice_index, unwrap_or}
+-- Columns of labels: their entries, the least of a range, and what is left where the places without a label are left
+-- out.
+use Rattle.std.specs.Prelude.{◌≡◌, ℕ, ◌<◌, ◌≤◌, ◌⊎◌, List, Bool, Option, IfSome, not, nat_eq, map, slice_index}
+use Rattle.std.specs.Prelude.{unwrap_or}
 use Rattle.landing_rules.specs.Rules.{last_second}
 use Rattle.cps_network.specs.Compacted.{kept_where}
 use Rattle.makespan_labels.specs.Labels.{no_label}

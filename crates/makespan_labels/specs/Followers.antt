@@ -10,10 +10,12 @@ use Rattle.cps_problem.specs.OpenSpans.{LandsWithin}
 use Rattle.cps_theory.specs.RankLists.{of_rank}
 use Rattle.makespan_labels.specs.declared.follower.Follower.{Follower}
 
--- of a rank from 1 on: it has the separations behind each category, in letter order. When the rank is ready at a second from `from` to the end of the span, it lands then or at the
--- span's first second
+-- of a rank from 1 on: it has the separations behind each category, in letter order. When the rank is ready at a second
+-- from `from` to the end of the span, it lands then or at the span's first second
 pub record IsFollower (p : Problem) (follower : Follower) : Type 0 where
-  pub separations : 1 ≤ follower.rank → (leader : Category) → slice_index follower.separations (place leader) ≡ separation p.table leader (of_rank no_waiting p.flights follower.rank).category
+  pub separations : 1 ≤ follower.rank → (leader : Category)
+      → slice_index follower.separations (place leader) ≡ separation p.table leader
+      (of_rank no_waiting p.flights follower.rank).category
   pub lands : LandsWithin (first_at p follower.rank) follower.from follower.open
   pub runs : follower.open.0 ≤ follower.open.1
   pub in_days : follower.open.1 ≤ last_second

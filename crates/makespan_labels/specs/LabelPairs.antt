@@ -1,4 +1,5 @@
--- Labels as lists of pairs: for the makespan no landing costs anything, so a window has one pair, its label and the cost 0.
+-- Labels as lists of pairs: for the makespan no landing costs anything, so a window has one pair, its label and the
+-- cost 0.
 use Rattle.std.specs.Prelude.{ℕ, List, [], ◌∷◌, Bool, true, false, nat_lt, map}
 use Rattle.cps_theory.specs.Labels.{Pair}
 use Rattle.makespan_labels.specs.Labels.{no_label}

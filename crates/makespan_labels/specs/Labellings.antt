@@ -5,9 +5,10 @@ use Rattle.cps_network.specs.Permits.{IsNextOf}
 use Rattle.cps_network.specs.WindowLaws.{WindowLaws}
 use Rattle.makespan_labels.specs.Labels.{HoldsLabels}
 
--- a stage can be labelled from the stage before it: that one holds the landable windows with their labels, and the windows of
--- this one are those that extend one of them by a permitted rank
-pub record CanLabel (p : Problem) (width : ℕ) (before : ℕ × List (List ℤ)) (labels : List ℕ) (stage : ℕ × List (List ℤ)) : Type 0 where
+-- a stage can be labelled from the stage before it: that one holds the landable windows with their labels, and the
+-- windows of this one are those that extend one of them by a permitted rank
+pub record CanLabel (p : Problem) (width : ℕ) (before : ℕ × List (List ℤ)) (labels : List ℕ)
+    (stage : ℕ × List (List ℤ)) : Type 0 where
   pub odd : width ≡ 2 * p.k + 1
   pub laws : WindowLaws p width
   pub held : HoldsLabels p before labels

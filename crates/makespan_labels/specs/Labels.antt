@@ -13,8 +13,8 @@ use Rattle.cps_network.specs.Permits.{IsPermitted}
 abbrev pub no_label : ℕ
 no_label = 4294967295
 
--- a window of a stage attains this second with some cost: a legal prefix ends in it whose flights can be given seconds that are
--- open and late enough one after another, the last of them t
+-- a window of a stage attains this second with some cost: a legal prefix ends in it whose flights can be given seconds
+-- that are open and late enough one after another, the last of them t
 abbrev pub CanLandAt : Problem → ℕ → List ℤ → ℕ → Type 0
 CanLandAt p stage xs t = (cost : ℕ) × Attains p stage xs (t, cost)
 
@@ -37,9 +37,10 @@ pub record HoldsLabels (p : Problem) (stage : ℕ × List (List ℤ)) (labels : 
   pub landable : HoldsLandable p stage
   pub labelled : AreLabels p stage labels
 
--- the window at a place of a stage leads to a window of the next by a permitted rank, which lands at this second behind the
--- label of that place
-pub record GivesLabel (p : Problem) (before : ℕ × List (List ℤ)) (labels : List ℕ) (node : List ℤ) (label place : ℕ) : Type 0 where
+-- the window at a place of a stage leads to a window of the next by a permitted rank, which lands at this second behind
+-- the label of that place
+pub record GivesLabel (p : Problem) (before : ℕ × List (List ℤ)) (labels : List ℕ) (node : List ℤ)
+    (label place : ℕ) : Type 0 where
   pub within : place < length before.1
   pub rank : ℕ
   pub permitted : IsPermitted p before.0 (node_at before.1 place) rank

@@ -7,29 +7,36 @@ use Rattle.cps_network.specs.Links.{range_at}
 use Rattle.cps_network.specs.Lists.{node_at}
 use Rattle.makespan_labels.specs.Groups.{IsLabelled, IsLead}
 
--- of the group of windows from a place on, this is the least label, and the category of the flight that landed last in them
-pub record IsLeadOver (p : Problem) (width : ℕ) (before : ℕ × List (List ℤ)) (labels : List ℕ) (from least : ℕ) (category : Category) : Type 0 where
+-- of the group of windows from a place on, this is the least label, and the category of the flight that landed last in
+-- them
+pub record IsLeadOver (p : Problem) (width : ℕ) (before : ℕ × List (List ℤ)) (labels : List ℕ)
+    (from least : ℕ) (category : Category) : Type 0 where
   pub leader : ℕ
   pub labelled : IsLabelled width before labels from least leader
   pub lead : IsLead p leader least category
 
 -- the same of each of these ranges
-pub record AreLeads (p : Problem) (width : ℕ) (before : ℕ × List (List ℤ)) (labels : List ℕ) (ranges : List (ℕ × ℕ)) (leasts : List ℕ) (categories : List Category) : Type 0 where
+pub record AreLeads (p : Problem) (width : ℕ) (before : ℕ × List (List ℤ)) (labels : List ℕ)
+    (ranges : List (ℕ × ℕ)) (leasts : List ℕ) (categories : List Category) : Type 0 where
   pub one_least : length leasts ≡ length ranges
   pub one_category : length categories ≡ length ranges
-  pub each : (g : ℕ) (d : Category) → g < length ranges → IsLeadOver p width before labels (range_at ranges g).0 (slice_index leasts g) (slice_index_or categories g d)
+  pub each : (g : ℕ) (d : Category) → g < length ranges
+      → IsLeadOver p width before labels (range_at ranges g).0 (slice_index leasts g) (slice_index_or categories g d)
 
 -- the same of a group that leads to this window, in whose windows a flight has landed
-pub record IsLeadTo (p : Problem) (width : ℕ) (before : ℕ × List (List ℤ)) (labels : List ℕ) (window : List ℤ) (least : ℕ) (category : Category) : Type 0 where
+pub record IsLeadTo (p : Problem) (width : ℕ) (before : ℕ × List (List ℤ)) (labels : List ℕ)
+    (window : List ℤ) (least : ℕ) (category : Category) : Type 0 where
   pub from : ℕ
   pub over : IsLeadOver p width before labels from least category
   pub landed : 1 ≤ over.leader
   pub leads : Extends (node_at before.1 from) window
 
 -- each of these windows has the place of a group that leads to it, in whose windows a flight has landed
-pub record LeadToEach (p : Problem) (width : ℕ) (before : ℕ × List (List ℤ)) (labels : List ℕ) (windows : List (List ℤ)) (places leasts : List ℕ) (categories : List Category) : Type 0 where
+pub record LeadToEach (p : Problem) (width : ℕ) (before : ℕ × List (List ℤ)) (labels : List ℕ)
+    (windows : List (List ℤ)) (places leasts : List ℕ) (categories : List Category) : Type 0 where
   pub one_each : length places ≡ length windows
   pub has_least : (i : ℕ) → i < length windows → slice_index places i < length leasts
   pub has_category : (i : ℕ) → i < length windows → slice_index places i < length categories
   pub leads : (i : ℕ) (d : Category) → i < length windows
-      → IsLeadTo p width before labels (node_at windows i) (slice_index leasts (slice_index places i)) (slice_index_or categories (slice_index places i) d)
+      → IsLeadTo p width before labels (node_at windows i) (slice_index leasts (slice_index places i))
+      (slice_index_or categories (slice_index places i) d)

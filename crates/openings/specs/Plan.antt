@@ -46,7 +46,8 @@ pub record IsPlannedAnew (s : Standing AnyKept) (steps : ℕ) : Type 0 where
   pub few : steps ≤ most_steps
 
 -- The text is the block of an opening state of files that are taken.
-pub record ShowsPlan (aerodrome : Aerodrome) (flights : List Flight) (text : List ℕ) (answer : answers.Answer) : Type 0 where
+pub record ShowsPlan (aerodrome : Aerodrome) (flights : List Flight) (text : List ℕ)
+    (answer : answers.Answer) : Type 0 where
   pub state : State
   pub opened : IsOpened aerodrome flights state
   pub prints : text ≡ lines_text (plan_lines state)

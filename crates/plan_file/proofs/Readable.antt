@@ -1,5 +1,6 @@
 -- The plan that a sound state shows has its callsigns and numbers in the ranges of a printed plan.
-use Rattle.std.proofs.Common.{◌≡◌, ℕ, suc, ◌*◌, ◌-◌, ◌≤◌, Bool, true, false, cond, List, [], ◌∷◌, Option, Some, None, length, map, refl, ap, subst, ◌∙◌, arith}
+use Rattle.std.proofs.Common.{◌≡◌, ℕ, suc, ◌*◌, ◌-◌, ◌≤◌, Bool, true, false, cond, List, [], ◌∷◌, Option, Some, None}
+use Rattle.std.proofs.Common.{length, map, refl, ap, subst, ◌∙◌, arith}
 use Rattle.std.specs.Prelude.{All, nat_lt, option_map, sum_by}
 use Rattle.std.proofs.lemmas.Grind.{common_steps}
 use Rattle.std.proofs.lemmas.List.{length-map}
@@ -47,14 +48,16 @@ AreGood active = All (λ (a : Active). IsGoodFlight a.flight) active
 abbrev InDays : List Landing → Type 0
 InDays all = All (λ (f : Landing). f.second ≤ last_second) all
 
-told_landings : (active : List Active) (t : Schedule) → AreGood active → InDays (landings active t) → AreTold (landings active t)
+told_landings : (active : List Active) (t : Schedule) → AreGood active → InDays (landings active t)
+    → AreTold (landings active t)
 told_landings [] t g d = tt
 told_landings (a ∷ rest) [] g d = tt
 told_landings (a ∷ rest) (x ∷ t) g d =
     let own : IsGoodFlight a.flight = All-head (λ (b : Active). IsGoodFlight b.flight) a rest g in
     let here : x ≤ last_second = All-head (λ (f : Landing). f.second ≤ last_second) _ (landings rest t) d in (
       (own.callsign, here),
-      told_landings rest t (All-tail (λ (b : Active). IsGoodFlight b.flight) a rest g) (All-tail (λ (f : Landing). f.second ≤ last_second) _ (landings rest t) d),
+      told_landings rest t (All-tail (λ (b : Active). IsGoodFlight b.flight) a rest g)
+          (All-tail (λ (f : Landing). f.second ≤ last_second) _ (landings rest t) d),
     )
 
 -- ---- how many there are
@@ -63,7 +66,8 @@ one_more : (f : Landing) (fs : List Landing) → length (insert_landing f fs) �
 one_more f [] = refl
 one_more f (g ∷ fs) = go (nat_lt g.second f.second) (one_more f fs)
   where
-    go : (b : Bool) → length (insert_landing f fs) ≡ suc (length fs) → length (cond b (g ∷ insert_landing f fs) (f ∷ g ∷ fs)) ≡ suc (length (g ∷ fs))
+    go : (b : Bool) → length (insert_landing f fs) ≡ suc (length fs)
+        → length (cond b (g ∷ insert_landing f fs) (f ∷ g ∷ fs)) ≡ suc (length (g ∷ fs))
     go true ih = ap suc ih
     go false ih = refl
 
@@ -88,22 +92,27 @@ greatest_small (f ∷ fs) d =
 product_small : (w s : ℕ) → w ≤ 100 → s ≤ 172799 → w * s ≤ 17279900
 product_small w s p q = grind (arith, common_steps)
 
-delays_small : (active : List Active) (t : Schedule) → AreGood active → InDays (landings active t) → sum_by delay (landings active t) ≤ 17279900 * length active
+delays_small : (active : List Active) (t : Schedule) → AreGood active → InDays (landings active t)
+    → sum_by delay (landings active t) ≤ 17279900 * length active
 delays_small [] t g d = omega arith
 delays_small (a ∷ rest) [] g d = omega arith
 delays_small (a ∷ rest) (x ∷ t) g d =
     let own : IsGoodFlight a.flight = All-head (λ (b : Active). IsGoodFlight b.flight) a rest g in
     let here : x ≤ last_second = All-head (λ (f : Landing). f.second ≤ last_second) _ (landings rest t) d in
-    let one : a.flight.weight * (x - a.flight.eta) ≤ 17279900 = product_small a.flight.weight (x - a.flight.eta) own.weight.1 (omega (arith, here)) in
-    let more = delays_small rest t (All-tail (λ (b : Active). IsGoodFlight b.flight) a rest g) (All-tail (λ (f : Landing). f.second ≤ last_second) _ (landings rest t) d) in
+    let one : a.flight.weight * (x - a.flight.eta) ≤ 17279900 =
+    product_small a.flight.weight (x - a.flight.eta) own.weight.1 (omega (arith, here)) in
+    let more = delays_small rest t (All-tail (λ (b : Active). IsGoodFlight b.flight) a rest g)
+    (All-tail (λ (f : Landing). f.second ≤ last_second) _ (landings rest t) d) in
     omega (arith, one, more, sum_by-cons delay (landing a x) (landings rest t))
 
-cost_small : (o : Objective) (active : List Active) (t : Schedule) → AreGood active → InDays (landings active t) → length active ≤ 500 → cost o (landings active t) ≤ greatest_value
+cost_small : (o : Objective) (active : List Active) (t : Schedule) → AreGood active → InDays (landings active t)
+    → length active ≤ 500 → cost o (landings active t) ≤ greatest_value
 cost_small Makespan active t g d few = let a = greatest_small (landings active t) d in omega (arith, a)
 cost_small Delay active t g d few = let a = delays_small active t g d in omega (arith, a, few)
 
 -- what is shown of a sound situation
-plan_readable : (s : Situation) (t : Option Schedule) (p : ShownPlan) → IsSound s → IsPlanShown s t → option_map (shown_plan s) t ≡ Some p → IsReadable p
+plan_readable : (s : Situation) (t : Option Schedule) (p : ShownPlan) → IsSound s → IsPlanShown s t
+    → option_map (shown_plan s) t ≡ Some p → IsReadable p
 plan_readable s None p h k e = absurd (cc)
 plan_readable s (Some t) p h k e =
     let days = k.0.feasible.1.in_days in
@@ -115,7 +124,8 @@ plan_readable s (Some t) p h k e =
     subst IsReadable same (record {
       value = cost_small s.aerodrome.objective s.active t h.flights days h.few_active;
       few = omega arith;
-      landings = readable (in_landing_order (landings s.active t)) (told_order (landings s.active t) (told_landings s.active t h.flights days));
+      landings = readable (in_landing_order (landings s.active t))
+          (told_order (landings s.active t) (told_landings s.active t h.flights days));
     })
 
 pub shown_readable : (state : State) (p : ShownPlan) → IsSoundState state → plan_shown state ≡ Some p → IsReadable p

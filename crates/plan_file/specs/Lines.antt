@@ -1,5 +1,6 @@
 -- What one line of a plan file is.
-use Rattle.std.specs.Prelude.{ℕ, List, [], ◌∷◌, Bool, true, false, codes, bytes_eq, Option, Some, None, option_and_then, option_map, if◌then◌else◌}
+use Rattle.std.specs.Prelude.{ℕ, List, [], ◌∷◌, Bool, true, false, codes, bytes_eq, Option, Some, None}
+use Rattle.std.specs.Prelude.{option_and_then, option_map, if◌then◌else◌}
 use Rattle.landing_rules.specs.Limits.{greatest_value}
 use Rattle.landing_rules.specs.Rules.{last_second}
 use Rattle.landing_rules.specs.declared.objective.Objective.{Objective}
@@ -15,7 +16,8 @@ objective_in word =
     else None
 
 unfoldable pub head_by : List (List ℕ) → Option (Objective × ℕ)
-head_by (word ∷ value ∷ []) = option_and_then (λ o. option_map (λ v. (o, v)) (number_in value 0 greatest_value)) (objective_in word)
+head_by (word ∷ value ∷ []) =
+    option_and_then (λ o. option_map (λ v. (o, v)) (number_in value 0 greatest_value)) (objective_in word)
 head_by fields = None
 
 -- the objective and the number that the first line says
@@ -34,10 +36,12 @@ landing_with c t f = record { callsign = c; second = t; frozen = f }
 
 unfoldable pub landing_from : List ℕ → List ℕ → List ℕ → Option ShownLanding
 landing_from callsign second mark =
-    option_and_then (λ c. option_and_then (λ t. option_map (landing_with c t) (mark_in mark)) (number_in second 0 last_second)) (callsign_in callsign)
+    option_and_then (λ c. option_and_then (λ t. option_map (landing_with c t) (mark_in mark))
+    (number_in second 0 last_second)) (callsign_in callsign)
 
 unfoldable pub landing_by : List (List ℕ) → Option ShownLanding
-landing_by (word ∷ callsign ∷ second ∷ mark ∷ []) = if bytes_eq word (codes "land") then landing_from callsign second mark else None
+landing_by (word ∷ callsign ∷ second ∷ mark ∷ []) =
+    if bytes_eq word (codes "land") then landing_from callsign second mark else None
 landing_by fields = None
 
 -- the landing that a line says

@@ -22,7 +22,8 @@ pub record IsReadable (p : ShownPlan) : Type 0 where
 
 -- the block of a plan reads back as its objective, its number and its landings
 abbrev pub PlanReadsBackLaw : Type 0
-PlanReadsBackLaw = (o : Objective) (p : ShownPlan) → IsReadable p → plan_of (block_text o (Some p)) ≡ plan_with (o, p.value) p.landings
+PlanReadsBackLaw = (o : Objective) (p : ShownPlan) → IsReadable p
+    → plan_of (block_text o (Some p)) ≡ plan_with (o, p.value) p.landings
 
 -- the block of no plan reads back as none
 abbrev pub NoPlanReadsBackLaw : Type 0

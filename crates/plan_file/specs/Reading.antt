@@ -1,5 +1,6 @@
 -- The plan that a text is, or its first line that is not of its form.
-use Rattle.std.specs.Prelude.{◌≡◌, ℕ, ◌+◌, ◌≤◌, List, [], ◌∷◌, ◌++◌, ◌==◌, nat_lt, length, codes, bytes_eq, Option, Some, None, Result, Ok, Err, if◌then◌else◌}
+use Rattle.std.specs.Prelude.{◌≡◌, ℕ, ◌+◌, ◌≤◌, List, [], ◌∷◌, ◌++◌, ◌==◌, nat_lt, length, codes, bytes_eq, Option}
+use Rattle.std.specs.Prelude.{Some, None, Result, Ok, Err, if◌then◌else◌}
 use Rattle.cps_base.specs.Answers.{◌>>=◌}
 use Rattle.landing_rules.specs.Limits.{most_flights}
 use Rattle.landing_rules.specs.declared.objective.Objective.{Objective}
@@ -46,7 +47,8 @@ nothing_behind (line ∷ next ∷ rest) = Err (fault.Line 2)
 
 unfoldable pub plan_by : List (List ℕ) → Result PlanText PlanFault
 plan_by [] = Err (fault.Line 1)
-plan_by (line ∷ rest) = if bytes_eq line (codes "infeasible") then nothing_behind rest else plan_behind (head_in line) rest
+plan_by (line ∷ rest) = if bytes_eq line (codes "infeasible") then nothing_behind rest
+    else plan_behind (head_in line) rest
 
 -- the plan that a text is
 unfoldable pub plan_of : List ℕ → Result PlanText PlanFault

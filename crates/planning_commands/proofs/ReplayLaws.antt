@@ -14,22 +14,30 @@ use Rattle.landing_joint.specs.StepLaws.{StepKeepsSoundLaw, RunKeepsSoundLaw}
 use Rattle.replay_law.specs.Runs.{IsRunOf, TextLaw}
 use Rattle.arrivals.specs.Seen.{flight_of, event_of}
 use Rattle.sequencer.specs.Opened.{opening_of}
-use Rattle.planning_commands.specs.ReplayLaws.{TextFixesReplayLaw, ReplayIsSoundLaw, ClockIsNoDearerLaw, FewPassReplayLaw, EachStep, IsNoDearerAfterClock}
+use Rattle.planning_commands.specs.ReplayLaws.{TextFixesReplayLaw, ReplayIsSoundLaw, ClockIsNoDearerLaw}
+use Rattle.planning_commands.specs.ReplayLaws.{FewPassReplayLaw, EachStep, IsNoDearerAfterClock}
 
 -- a whole run is one over as many events as there are
-whole_run : (o : Opening) (flights : List Flight) (events : List Event) (s : State) (xs : List Answered) → IsOpeningState o flights s → Run s events xs →
+whole_run : (o : Opening) (flights : List Flight) (events : List Event) (s : State) (xs : List Answered)
+    → IsOpeningState o flights s → Run s events xs →
     IsRunOf o flights events (length events) s xs
-whole_run o flights events s xs opens run = record { opened = opens; steps = subst (λ es. Run s es xs) (sym (take-length events)) run }
+whole_run o flights events s xs opens run =
+    record { opened = opens; steps = subst (λ es. Run s es xs) (sym (take-length events)) run }
 
 pub printed_same : TextLaw → TextFixesReplayLaw
 printed_same law a f l text x y p q =
-    let one : opening_of p.begun.aerodrome ≡ opening_of q.begun.aerodrome = ap opening_of (same_Some _ _ (ap result_ok (sym p.begun.aerodrome_read ∙ q.begun.aerodrome_read))) in
-    let flights : map flight_of p.begun.flights ≡ map flight_of q.begun.flights = ap (map flight_of) (same_Some _ _ (ap result_ok (sym p.begun.flights_read ∙ q.begun.flights_read))) in
-    let log : map event_of p.begun.log ≡ map event_of q.begun.log = ap (map event_of) (same_Some _ _ (ap result_ok (sym p.begun.events_read ∙ q.begun.events_read))) in
+    let one : opening_of p.begun.aerodrome ≡ opening_of q.begun.aerodrome =
+    ap opening_of (same_Some _ _ (ap result_ok (sym p.begun.aerodrome_read ∙ q.begun.aerodrome_read))) in
+    let flights : map flight_of p.begun.flights ≡ map flight_of q.begun.flights =
+    ap (map flight_of) (same_Some _ _ (ap result_ok (sym p.begun.flights_read ∙ q.begun.flights_read))) in
+    let log : map event_of p.begun.log ≡ map event_of q.begun.log =
+    ap (map event_of) (same_Some _ _ (ap result_ok (sym p.begun.events_read ∙ q.begun.events_read))) in
     let events : p.events ≡ q.events = p.begun.events_are ∙ log ∙ sym q.begun.events_are in
     let opens : IsOpeningState (opening_of p.begun.aerodrome) (map flight_of p.begun.flights) q.state =
-    subst (λ o. IsOpeningState o (map flight_of p.begun.flights) q.state) (sym one) (subst (λ fs. IsOpeningState (opening_of q.begun.aerodrome) fs q.state) (sym flights) q.begun.opens) in
-    law (opening_of p.begun.aerodrome) (map flight_of p.begun.flights) p.events (length p.events) (length p.events) p.state q.state p.answers q.answers
+    subst (λ o. IsOpeningState o (map flight_of p.begun.flights) q.state) (sym one)
+    (subst (λ fs. IsOpeningState (opening_of q.begun.aerodrome) fs q.state) (sym flights) q.begun.opens) in
+    law (opening_of p.begun.aerodrome) (map flight_of p.begun.flights) p.events (length p.events)
+    (length p.events) p.state q.state p.answers q.answers
     (subst IsSound p.begun.opens.situation p.begun.sound.situation) p.begun.in_range
     (whole_run _ _ p.events p.state p.answers p.begun.opens p.run)
     (whole_run _ _ p.events q.state q.answers opens (subst (λ es. Run q.state es q.answers) (sym events) q.run))
@@ -39,25 +47,31 @@ pub printed_sound : RunKeepsSoundLaw → ReplayIsSoundLaw
 printed_sound law a f l text x p = (p.begun.sound, law p.state p.events p.answers p.begun.sound p.begun.in_range p.run)
 
 -- one step
-no_dearer : ClockShowsPlanLaw → (old : State) (e : Event) (a : Answered) → IsSoundState old → Step old e a.answer a.state → IsNoDearerAfterClock old e a
+no_dearer : ClockShowsPlanLaw → (old : State) (e : Event) (a : Answered) → IsSoundState old
+    → Step old e a.answer a.state → IsNoDearerAfterClock old e a
 no_dearer law old e a sound step now t is accepted shown =
-    let by : Step old (Clock now) None a.state = subst (λ (answer : Option Refusal). Step old (Clock now) answer a.state) accepted (subst (λ (event : Event). Step old event a.answer a.state) is step) in
+    let by : Step old (Clock now) None a.state = subst
+    (λ (answer : Option Refusal). Step old (Clock now) answer a.state) accepted
+    (subst (λ (event : Event). Step old event a.answer a.state) is step) in
     law old a.state now t sound shown (sym by.answered) by.effect
 
 -- each step of a run from a sound state
-steps_no_dearer : ClockShowsPlanLaw → StepKeepsSoundLaw → (old : State) (events : List Event) (answers : List Answered) → IsSoundState old → All IsGoodEvent events → Run old events answers →
+steps_no_dearer : ClockShowsPlanLaw → StepKeepsSoundLaw → (old : State) (events : List Event) (answers : List Answered)
+    → IsSoundState old → All IsGoodEvent events → Run old events answers →
     EachStep IsNoDearerAfterClock old events answers
 steps_no_dearer law keeps old [] [] sound good run = tt
 steps_no_dearer law keeps old (e ∷ events) [] sound good run = absurd run
 steps_no_dearer law keeps old [] (a ∷ answers) sound good run = absurd run
 steps_no_dearer law keeps old (e ∷ events) (a ∷ answers) sound good run = (
   no_dearer law old e a sound run.0,
-  steps_no_dearer law keeps a.state events answers (keeps old a.state e a.answer sound (All-head IsGoodEvent e events good) run.0)
+  steps_no_dearer law keeps a.state events answers
+      (keeps old a.state e a.answer sound (All-head IsGoodEvent e events good) run.0)
       (All-tail IsGoodEvent e events good) run.1,
 )
 
 pub printed_no_dearer : ClockShowsPlanLaw → StepKeepsSoundLaw → ClockIsNoDearerLaw
-printed_no_dearer law keeps a f l text x p = steps_no_dearer law keeps p.state p.events p.answers p.begun.sound p.begun.in_range p.run
+printed_no_dearer law keeps a f l text x p =
+    steps_no_dearer law keeps p.state p.events p.answers p.begun.sound p.begun.in_range p.run
 
 pub printed_few_pass : FewPassLaw → FewPassReplayLaw
 printed_few_pass law a f l text x p c carry waits stays =

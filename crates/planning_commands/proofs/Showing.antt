@@ -22,4 +22,5 @@ of_bytes (Ok report) a f aerodrome flights a_read f_read shows = record {
   flights_read = f_read;
   shows = shows;
 }
-of_bytes (Err ending) a f aerodrome flights a_read f_read stops = stops_plan a f aerodrome flights ending a_read f_read stops
+of_bytes (Err ending) a f aerodrome flights a_read f_read stops =
+    stops_plan a f aerodrome flights ending a_read f_read stops

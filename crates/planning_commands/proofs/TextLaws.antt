@@ -48,7 +48,8 @@ sums_one made n k text other answer another x y =
     let problem : IsProblemOf y.state.situation x.problem =
     subst (λ (s : Situation). IsProblemOf s x.problem) one x.problem_of in
     let nodes : x.nodes ≡ y.nodes =
-    one_candidates y.state.situation x.problem y.problem problem y.problem_of x.nodes y.nodes x.candidates y.candidates in
+    one_candidates y.state.situation x.problem y.problem problem y.problem_of x.nodes y.nodes
+    x.candidates y.candidates in
     let shown : IsPlanShown y.state.situation x.state.plan =
     subst (λ (s : Situation). IsPlanShown s x.state.plan) one x.opens.shown in (
       x.prints
@@ -67,7 +68,8 @@ trial_one seed n k = sums_one (traffic seed n k) n k
 
 -- of runs from states that are one
 one_effort : StepsAreOneLaw → (state other : State) → state ≡ other → (events others : List rules.Event)
-    (x : Effort state events) (y : Effort other others) → answers_of x.plannings.planned ≡ answers_of y.plannings.planned → effort_text x ≡ effort_text y
+    (x : Effort state events) (y : Effort other others)
+    → answers_of x.plannings.planned ≡ answers_of y.plannings.planned → effort_text x ≡ effort_text y
 one_effort law state other same events others x =
     subst (λ (s : State). (y : Effort s others) → answers_of x.plannings.planned ≡ answers_of y.plannings.planned
     → effort_text x ≡ effort_text y) same

@@ -1,5 +1,6 @@
 -- From the clauses of what these commands print to how long it is.
-use Rattle.std.proofs.Common.{◌≡◌, ℕ, ◌+◌, ◌*◌, ◌<◌, ◌≤◌, List, [], ◌∷◌, ◌++◌, length, Option, Some, None, refl, sym, ap, subst, ◌∙◌, arith}
+use Rattle.std.proofs.Common.{◌≡◌, ℕ, ◌+◌, ◌*◌, ◌<◌, ◌≤◌, List, [], ◌∷◌, ◌++◌, length, Option, Some, None, refl, sym}
+use Rattle.std.proofs.Common.{ap, subst, ◌∙◌, arith}
 use Rattle.std.specs.Prelude.{⊤, All, MatchOption, codes, decimal}
 use Rattle.std.proofs.Math.Nat.{mul-le-mul_left, mul-le-mul_right}
 use Rattle.std.proofs.lemmas.Fmt.{length-decimal-le}
@@ -18,10 +19,12 @@ use Rattle.plan_file.specs.Printed.{IsReadable, ShownPlanIsReadableLaw}
 use Rattle.arrivals.specs.Aerodromes.{IsClock}
 use Rattle.arrivals.specs.Seen.{event_of}
 use Rattle.replan.specs.Bound.{most_steps}
-use Rattle.replays.specs.Efforts.{ArePlanned, Planned, answer_line, answer_lines, answers_of, begun_line, steps_of, total_line}
+use Rattle.replays.specs.Efforts.{ArePlanned, Planned, answer_line, answer_lines, answers_of, begun_line, steps_of}
+use Rattle.replays.specs.Efforts.{total_line}
 use Rattle.text_bounds.specs.Blocks.{BlockIsBoundedLaw, block_bound}
 use Rattle.text_bounds.specs.Counts.{count_in, event_count}
-use Rattle.text_bounds.specs.Replays.{HasShortName, IsInDays, IsTellable, ReplayIsBoundedLaw, answer_bound, most_active, replay_bound}
+use Rattle.text_bounds.specs.Replays.{HasShortName, IsInDays, IsTellable, ReplayIsBoundedLaw, answer_bound}
+use Rattle.text_bounds.specs.Replays.{most_active, replay_bound}
 use Rattle.text_bounds.specs.Trials.{TrialIsBoundedLaw}
 use Rattle.text_bounds.specs.shared.EventNames.{log_named}
 use Rattle.text_bounds.specs.shared.Lengths.{number_short}
@@ -29,7 +32,8 @@ use Rattle.text_bounds.specs.shared.Refusals.{refusal_short}
 use Rattle.text_bounds.specs.shared.Replays.{next_tellable, refused_short}
 use Rattle.openings.specs.shared.OpenedFlights.{as_many}
 use Rattle.planning_commands.specs.Replay.{IsBegun}
-use Rattle.planning_commands.specs.TextLengths.{EffortTextIsBoundedLaw, PlanTextIsBoundedLaw, ReplayTextIsBoundedLaw, TrialTextIsBoundedLaw, effort_bound}
+use Rattle.planning_commands.specs.TextLengths.{EffortTextIsBoundedLaw, PlanTextIsBoundedLaw, ReplayTextIsBoundedLaw}
+use Rattle.planning_commands.specs.TextLengths.{TrialTextIsBoundedLaw, effort_bound}
 
 -- ---- the plan and the summary of a trial
 

@@ -12,8 +12,8 @@ use Rattle.openings.specs.Follows.{FollowsBy}
 use Rattle.openings.specs.Plan.{answer_of}
 use Rattle.planning_commands.specs.Replay.{IsBegun, RefusesReplay, count_of}
 
--- The text tells the steps of the plannings of a run of the rules over all events of the log, from an opening state of the
--- files.
+-- The text tells the steps of the plannings of a run of the rules over all events of the log, from an opening state of
+-- the files.
 pub record AdmitsEffort (aerodrome flights log text : List ℕ) (answer : Answer) : Type 0 where
   pub state : State
   pub events : List rules.Event
@@ -40,4 +40,5 @@ effort_puts log = 2 + count_of (events_of log)
 -- what `effort` does, with this ending
 abbrev pub FollowsEffort : List ℕ → List ℕ → List ℕ → SinkState → SinkState → Ending → Type 0
 FollowsEffort aerodrome flights events =
-    FollowsBy (effort_puts events) (AdmitsEffort aerodrome flights events) (BeginsEffort aerodrome flights events) (RefusesReplay aerodrome flights events)
+    FollowsBy (effort_puts events) (AdmitsEffort aerodrome flights events) (BeginsEffort aerodrome flights events)
+    (RefusesReplay aerodrome flights events)

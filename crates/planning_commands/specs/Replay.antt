@@ -29,11 +29,13 @@ use Rattle.endings.specs.Refusing.{refusal_of, refused_by_three, Stops}
 use Rattle.openings.specs.Plan.{answer_by, answer_of}
 
 abbrev pub RefusesReplay : List ℕ → List ℕ → List ℕ → FilesFault → Type 0
-RefusesReplay aerodrome flights events cause = refused_by_three refusal.Events (aerodrome_of aerodrome) (flights_of flights) (events_of events) ≡ Some cause
+RefusesReplay aerodrome flights events cause =
+    refused_by_three refusal.Events (aerodrome_of aerodrome) (flights_of flights) (events_of events) ≡ Some cause
 
--- The files read as an aerodrome in its ranges, flights and a log of at most 2,000 events, and are taken. They have these
--- events, with their numbers in range, and this opening state, which is sound.
-pub record IsBegun (aerodrome_bytes flight_bytes event_bytes : List ℕ) (state : State) (events : List rules.Event) : Type 0 where
+-- The files read as an aerodrome in its ranges, flights and a log of at most 2,000 events, and are taken. They have
+-- these events, with their numbers in range, and this opening state, which is sound.
+pub record IsBegun (aerodrome_bytes flight_bytes event_bytes : List ℕ) (state : State)
+    (events : List rules.Event) : Type 0 where
   pub aerodrome : Aerodrome
   pub flights : List Flight
   pub log : List Event
@@ -82,7 +84,8 @@ replay_puts log = 1 + count_of (events_of log)
 -- what `replay` does, with this ending
 abbrev pub FollowsReplay : List ℕ → List ℕ → List ℕ → SinkState → SinkState → Ending → Type 0
 FollowsReplay aerodrome flights events =
-    FollowsBy (replay_puts events) (AdmitsReplay aerodrome flights events) (BeginsReplay aerodrome flights events) (RefusesReplay aerodrome flights events)
+    FollowsBy (replay_puts events) (AdmitsReplay aerodrome flights events) (BeginsReplay aerodrome flights events)
+    (RefusesReplay aerodrome flights events)
 
 -- how `replay` may stop before it writes
 abbrev pub StopsReplay : List ℕ → List ℕ → List ℕ → Ending → Type 0

@@ -8,9 +8,11 @@ use Rattle.landing_joint.specs.PassedOver.{StaysInLineThrough, passing_in_run, w
 use Rattle.endings.specs.declared.ending.Answer.{Answer}
 use Rattle.planning_commands.specs.Replay.{AdmitsReplay}
 
--- two replays of the same files with the same text have the same opening state, and the same answers and states after it
+-- two replays of the same files with the same text have the same opening state, and the same answers and states after
+-- it
 abbrev pub TextFixesReplayLaw : Type 0
-TextFixesReplayLaw = (aerodrome flights log text : List ℕ) (x y : Answer) (a : AdmitsReplay aerodrome flights log text x) (b : AdmitsReplay aerodrome flights log text y)
+TextFixesReplayLaw = (aerodrome flights log text : List ℕ) (x y : Answer)
+    (a : AdmitsReplay aerodrome flights log text x) (b : AdmitsReplay aerodrome flights log text y)
     → (a.state ≡ b.state) × (a.answers ≡ b.answers)
 
 -- every state of a printed replay is sound: its plan is best and tight, or there is none and nothing is feasible
@@ -33,9 +35,11 @@ abbrev pub ClockIsNoDearerLaw : Type 0
 ClockIsNoDearerLaw = (aerodrome flights log text : List ℕ) (x : Answer) (a : AdmitsReplay aerodrome flights log text x)
     → EachStep IsNoDearerAfterClock a.state a.events a.answers
 
--- with the carry, a flight that waits through a printed replay while nobody new comes to stand ahead of it is passed by at most
--- k flights: these stand behind it and freeze while it waits on
+-- with the carry, a flight that waits through a printed replay while nobody new comes to stand ahead of it is passed by
+-- at most k flights: these stand behind it and freeze while it waits on
 abbrev pub FewPassReplayLaw : Type 0
-FewPassReplayLaw = (aerodrome flights log text : List ℕ) (x : Answer) (a : AdmitsReplay aerodrome flights log text x) (c : Callsign)
-    → a.state.situation.aerodrome.carry ≡ true → IsTrue (waits_in a.state.situation c) → StaysInLineThrough c a.state a.answers
+FewPassReplayLaw = (aerodrome flights log text : List ℕ) (x : Answer) (a : AdmitsReplay aerodrome flights log text x)
+    (c : Callsign)
+    → a.state.situation.aerodrome.carry ≡ true → IsTrue (waits_in a.state.situation c)
+    → StaysInLineThrough c a.state a.answers
     → passing_in_run a.state a.events a.answers c ≤ a.state.situation.aerodrome.k

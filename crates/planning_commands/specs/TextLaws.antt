@@ -12,7 +12,8 @@ TrialTextIsOneLaw = (seed n k : ℕ) (text other : List ℕ) (answer another : A
 
 -- the run of the one has the opening state, the answers and the states after it of the run of the other
 pub record HaveOneRun {aerodrome flights log text other : List ℕ} {answer another : Answer}
-    (x : AdmitsEffort aerodrome flights log text answer) (y : AdmitsEffort aerodrome flights log other another) : Type 0 where
+    (x : AdmitsEffort aerodrome flights log text answer)
+    (y : AdmitsEffort aerodrome flights log other another) : Type 0 where
   pub state : x.state ≡ y.state
   pub answers : answers_of x.effort.plannings.planned ≡ answers_of y.effort.plannings.planned
 

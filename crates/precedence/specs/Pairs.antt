@@ -15,12 +15,14 @@ MustPrecede pairs first next = HasBit (slice_index pairs next) first
 abbrev pub must_precede : List ℕ → ℕ → ℕ → Bool
 must_precede pairs first next = nat_eq (bit_at (slice_index pairs next) first) 1
 
-pub must_precede_decides : (pairs : List ℕ) (first next : ℕ) → IsTrue (must_precede pairs first next) ↔ MustPrecede pairs first next
+pub must_precede_decides : (pairs : List ℕ) (first next : ℕ) → IsTrue (must_precede pairs first next)
+    ↔ MustPrecede pairs first next
 must_precede_decides pairs first next = Decides-eqb (bit_at (slice_index pairs next) first) 1
 
 -- each pair is of ranks from 1 to 60
 abbrev pub AreInRange : List ℕ → Type 0
-AreInRange pairs = (first next : ℕ) → MustPrecede pairs first next → (1 ≤ first) × (first ≤ 60) × (1 ≤ next) × (next ≤ 60)
+AreInRange pairs = (first next : ℕ) → MustPrecede pairs first next → (1 ≤ first) × (first ≤ 60)
+    × (1 ≤ next) × (next ≤ 60)
 
 -- a place for each rank up to 60, and one for 0 that stays empty
 pub record ArePairs (pairs : List ℕ) : Type 0 where

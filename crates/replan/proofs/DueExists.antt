@@ -1,5 +1,6 @@
 -- What is due of a problem exists: the candidates of each stage can be listed in order.
-use Rattle.std.proofs.Common.{◌≡◌, ℕ, zero, suc, ◌+◌, ◌<◌, ◌≤◌, ◌⊎◌, inl, inr, Bool, true, false, List, [], ◌∷◌, ◌++◌, length, get_or, map, Option, Some, None, refl, sym, ap, subst, ◌∙◌, arith}
+use Rattle.std.proofs.Common.{◌≡◌, ℕ, zero, suc, ◌+◌, ◌<◌, ◌≤◌, ◌⊎◌, inl, inr, Bool, true, false, List, [], ◌∷◌, ◌++◌}
+use Rattle.std.proofs.Common.{length, get_or, map, Option, Some, None, refl, sym, ap, subst, ◌∙◌, arith}
 use Rattle.std.specs.Prelude.{ℤ, Contains}
 use Rattle.std.proofs.lemmas.Bool.{cases_eq}
 use Rattle.std.specs.declared.cmp.Ordering.{Ordering}
@@ -68,7 +69,8 @@ rising_ascends [] up i j lt within = absurd (omega (arith, within))
 rising_ascends (x ∷ xs) up zero zero lt within = absurd (omega (arith, lt))
 rising_ascends (x ∷ xs) up zero (suc j) lt within = up.0 (node_at xs j) (among_at xs j [] (omega (arith, within)))
 rising_ascends (x ∷ xs) up (suc i) zero lt within = absurd (omega (arith, lt))
-rising_ascends (x ∷ xs) up (suc i) (suc j) lt within = rising_ascends xs up.1 i j (omega (arith, lt)) (omega (arith, within))
+rising_ascends (x ∷ xs) up (suc i) (suc j) lt within =
+    rising_ascends xs up.1 i j (omega (arith, lt)) (omega (arith, within))
 
 same_from_tie : (x y : List ℤ) → window_cmp x y ≡ Equal → x ≡ y
 same_from_tie x y e = (slice_eq-Decides Decides-int_eq x y (pointwise int_eq x y) refl).0 (window_ties x y ∙ ap is_eq e)
@@ -82,26 +84,58 @@ record WithOne (z : List ℤ) (xs : List (List ℤ)) : Type 0 where
   pub only : (y : List ℤ) → Among y list → (y ≡ z) ⊎ Among y xs
 
 with_one : (z : List ℤ) (xs : List (List ℤ)) → Rising xs → WithOne z xs
-with_one z [] up = record { list = z ∷ []; rising = (λ y m. absurd m, tt); old = λ y m. absurd m; new = inl refl; only = λ y m. m }
+with_one z [] up = record {
+  list = z ∷ [];
+  rising = (λ y m. absurd m, tt);
+  old = λ y m. absurd m;
+  new = inl refl;
+  only =
+      λ y m. m;
+}
 with_one z (x ∷ xs) up = go (with_one z xs up.1) (window_cmp z x) refl
   where
     go : WithOne z xs → (o : Ordering) → window_cmp z x ≡ o → WithOne z (x ∷ xs)
     go rest Less e = record {
       list = z ∷ x ∷ xs;
-      rising = (λ y m. elim m [ inl is ↦ subst (λ (w : List ℤ). window_cmp z w ≡ Less) (sym is) e | inr k ↦ window_cmp_total.trans z x y e (up.0 y k) ], up);
+      rising = (
+        λ y m. elim m [
+          | inl is ↦ subst (λ (w : List ℤ). window_cmp z w ≡ Less) (sym is) e
+          | inr k ↦
+              window_cmp_total.trans z x y e (up.0 y k)
+        ],
+        up,
+      );
       old = λ y m. inr m;
       new = inl refl;
       only = λ y m. m;
     }
-    go rest Equal e = record { list = x ∷ xs; rising = up; old = λ y m. m; new = inl (same_from_tie z x e); only = λ y m. inr m }
+    go rest Equal e = record {
+      list = x ∷ xs;
+      rising = up;
+      old = λ y m. m;
+      new = inl (same_from_tie z x e);
+      only =
+          λ y m. inr m;
+    }
     go rest Greater e =
         let low : window_cmp x z ≡ Less = window_cmp_total.antisymm x z ∙ ap ordering_reverse e in
         record {
           list = x ∷ rest.list;
-          rising = (λ y m. elim (rest.only y m) [ inl is ↦ subst (λ (w : List ℤ). window_cmp x w ≡ Less) (sym is) low | inr k ↦ up.0 y k ], rest.rising);
+          rising = (
+            λ y m. elim (rest.only y m) [
+              | inl is ↦ subst (λ (w : List ℤ). window_cmp x w ≡ Less)
+                  (sym is) low
+              | inr k ↦ up.0 y k
+            ],
+            rest.rising,
+          );
           old = λ y m. elim m [ inl is ↦ inl is | inr k ↦ inr (rest.old y k) ];
           new = inr rest.new;
-          only = λ y m. elim m [ inl is ↦ inr (inl is) | inr k ↦ elim (rest.only y k) [ inl is ↦ inl is | inr l ↦ inr (inr l) ] ];
+          only = λ y m. elim m [
+            | inl is ↦ inr (inl is)
+            | inr k ↦
+                elim (rest.only y k) [ inl is ↦ inl is | inr l ↦ inr (inr l) ]
+          ];
         }
 
 -- ---- the windows of the orders of a list for which something holds that can be decided
@@ -122,7 +156,11 @@ module _ (P : List ℕ → Type 0) (decide : (rs : List ℕ) → Decided (P rs))
         record {
           list = more.list;
           rising = more.rising;
-          each = λ rs m has. elim m [ inl e ↦ subst (λ (q : List ℕ). Among (window q) more.list) (sym e) more.new | inr k ↦ more.old (window rs) (rest.each rs k has) ];
+          each = λ rs m has. elim m [
+            | inl e ↦ subst (λ (q : List ℕ). Among (window q) more.list)
+                (sym e) more.new
+            | inr k ↦ more.old (window rs) (rest.each rs k has)
+          ];
           only = λ y m. elim (more.only y m) [ inl e ↦ (os, is, e) | inr k ↦ rest.only y k ];
         }
     | inr never ↦
@@ -145,17 +183,21 @@ abbrev all_orders : ℕ → ℕ → List (List ℕ)
 all_orders n zero = [] ∷ []
 all_orders n (suc m) = heads n (all_orders n m)
 
-among_map : (r : ℕ) (orders : List (List ℕ)) (rs : List ℕ) → Among rs orders → Among (r ∷ rs) (map (λ (os : List ℕ). r ∷ os) orders)
+among_map : (r : ℕ) (orders : List (List ℕ)) (rs : List ℕ) → Among rs orders
+    → Among (r ∷ rs) (map (λ (os : List ℕ). r ∷ os) orders)
 among_map r [] rs m = absurd m
 among_map r (os ∷ orders) rs (inl e) = inl (ap (λ (l : List ℕ). r ∷ l) e)
 among_map r (os ∷ orders) rs (inr m) = inr (among_map r orders rs m)
 
-among_heads : (n r : ℕ) (orders : List (List ℕ)) (rs : List ℕ) → 1 ≤ r → r ≤ n → Among rs orders → Among (r ∷ rs) (heads n orders)
+among_heads : (n r : ℕ) (orders : List (List ℕ)) (rs : List ℕ) → 1 ≤ r → r ≤ n → Among rs orders
+    → Among (r ∷ rs) (heads n orders)
 among_heads zero r orders rs one le m = absurd (omega (arith, one, le))
 among_heads (suc n) r orders rs one le m = elim (cases_eq r (suc n)) [
   | inl e ↦ among_left (map (λ (os : List ℕ). suc n ∷ os) orders) (heads n orders) (r ∷ rs)
-      (subst (λ (x : ℕ). Among (x ∷ rs) (map (λ (os : List ℕ). suc n ∷ os) orders)) (sym e) (among_map (suc n) orders rs m))
-  | inr other ↦ among_right (map (λ (os : List ℕ). suc n ∷ os) orders) (heads n orders) (r ∷ rs) (among_heads n r orders rs one (omega (arith, le, other)) m)
+      (subst (λ (x : ℕ). Among (x ∷ rs) (map (λ (os : List ℕ). suc n ∷ os) orders)) (sym e)
+      (among_map (suc n) orders rs m))
+  | inr other ↦ among_right (map (λ (os : List ℕ). suc n ∷ os) orders) (heads n orders) (r ∷ rs)
+      (among_heads n r orders rs one (omega (arith, le, other)) m)
 ]
 
 -- ---- the candidates of a stage
@@ -164,7 +206,8 @@ module _ (p : Problem) (wf : IsWellFormed p) (net : IsWindowNetwork p) where
   legal_order : (rs : List ℕ) → Legal (ranked p).rules rs → Among rs (all_orders (length p.flights) (length rs))
   legal_order [] legal = inl refl
   legal_order (r ∷ rs) legal =
-      among_heads (length p.flights) r (all_orders (length p.flights) (length rs)) rs legal.0.fits.from_one legal.0.fits.to_count (legal_order rs legal.1)
+      among_heads (length p.flights) r (all_orders (length p.flights) (length rs)) rs legal.0.fits.from_one
+      legal.0.fits.to_count (legal_order rs legal.1)
 
   Lands : List ℕ → Type 0
   Lands rs = (landings : List Landing) × (earliest (first_at p) (next_from (ranked p)) rs ≡ Some landings)
@@ -185,7 +228,8 @@ module _ (p : Problem) (wf : IsWellFormed p) (net : IsWindowNetwork p) where
   decide_before : (stage : ℕ) (rs : List ℕ) → Decided (LandsBefore stage rs)
   decide_before stage [] = inr (λ h. absurd h)
   decide_before stage (r ∷ rs) =
-      with_decided (decide_legal (ranked p).rules (λ q x e. let b = wf.between_ranks q x e in (b.0, b.1)) (r ∷ rs)) (λ legal.
+      with_decided (decide_legal (ranked p).rules (λ q x e. let b = wf.between_ranks q x e in (b.0, b.1)) (r ∷ rs))
+      (λ legal.
       with_decided (decide_lands rs) (λ lands.
       with_decided (cases_eq (length rs) stage) (λ long. inl (legal, lands, long)) (λ h. h.2)) (λ h. h.1)) (λ h. h.0)
 
@@ -197,19 +241,32 @@ module _ (p : Problem) (wf : IsWellFormed p) (net : IsWindowNetwork p) where
   is_candidate stage [] h = absurd h
   is_candidate stage (r ∷ rs) (legal, lands, long) =
       let before = net.shrinks r rs legal in
-      let l = earliest_lands (λ x u. (ranked p).is_open x u ≡ true) (first_at p) (next_from (ranked p)) (is_first_open p) rs lands.0 lands.1 in
+      let l = earliest_lands (λ x u. (ranked p).is_open x u ≡ true) (first_at p) (next_from (ranked p))
+      (is_first_open p) rs lands.0 lands.1 in
       subst (λ (s : ℕ). IsCandidate p s (window (r ∷ rs))) long (
         window rs,
-        (pair_of (cost_at p) lands.0, record { landings = lands.0; legal = subst (Legal (ranked p).rules) (sym l.1) before.0; landed = l.0; at = ap (node_of p.k) l.1; is = refl }),
+        (
+          pair_of (cost_at p) lands.0,
+          record {
+            landings = lands.0;
+            legal = subst (Legal (ranked p).rules) (sym l.1) before.0;
+            landed =
+                l.0;
+            at = ap (node_of p.k) l.1;
+            is = refl;
+          },
+        ),
         (r, before.1, ap (λ (w : Node). w.1) (net.pushes r rs before.0)),
       )
 
-  each_candidate : (stage : ℕ) (next : List ℤ) → IsCandidate p stage next → (rs : List ℕ) × Among rs (all_orders (length p.flights) (suc stage)) × LandsBefore stage rs × (window rs ≡ next)
+  each_candidate : (stage : ℕ) (next : List ℤ) → IsCandidate p stage next → (rs : List ℕ)
+      × Among rs (all_orders (length p.flights) (suc stage)) × LandsBefore stage rs × (window rs ≡ next)
   unfolding Lands window
   each_candidate stage next (xs, (q, a), (r, permitted, is)) =
       let rs = ranks a.landings in
       let legal = net.grows r rs a.legal (subst (λ (w : Node). permits p w r) (sym a.at) permitted) in
-      let e = earliest_least (λ x u. (ranked p).is_open x u ≡ true) (first_at p) (next_from (ranked p)) (is_first_open p) (next_later (ranked p)) a.landings a.landed in
+      let e = earliest_least (λ x u. (ranked p).is_open x u ≡ true) (first_at p) (next_from (ranked p))
+      (is_first_open p) (next_later (ranked p)) a.landings a.landed in
       let long : length rs ≡ stage = ap (λ (w : Node). w.0) a.at in (
         r ∷ rs,
         subst (λ (s : ℕ). Among (r ∷ rs) (all_orders (length p.flights) (suc s))) long (legal_order (r ∷ rs) legal),
@@ -225,8 +282,10 @@ module _ (p : Problem) (wf : IsWellFormed p) (net : IsWindowNetwork p) where
           candidates = all.list;
           ascending = rising_ascends all.list all.rising;
           each = λ xs. (
-            λ has. (let o = all.only xs (contains_among all.list xs has) in subst (IsCandidate p stage) (sym o.2) (is_candidate stage o.0 o.1)),
-            λ c. (let o = each_candidate stage xs c in among_contains all.list xs (subst (λ (w : List ℤ). Among w all.list) o.3 (all.each o.0 o.1 o.2))),
+            λ has. (let o = all.only xs (contains_among all.list xs has) in subst (IsCandidate p stage)
+                (sym o.2) (is_candidate stage o.0 o.1)),
+            λ c. (let o = each_candidate stage xs c in among_contains all.list xs
+                (subst (λ (w : List ℤ). Among w all.list) o.3 (all.each o.0 o.1 o.2))),
           );
           counted = refl;
         },
@@ -249,4 +308,6 @@ pub due_alone : (p : Problem) → HasCounts p → HasDue None p
 due_alone p counted = where_exists (counts 1 p.k 0) p (length p.flights) counted
 
 pub due_beside : (held p : Problem) (d : ℕ) → HasCounts p → IsFirstDifference held p d → HasDue (Some held) p
-due_beside held p d counted is = (let due = where_exists (counts d p.k (length held.flights)) p (length p.flights) counted in (due.0, (d, is, due.1)))
+due_beside held p d counted is =
+    (let due = where_exists (counts d p.k (length held.flights)) p (length p.flights) counted in
+    (due.0, (d, is, due.1)))

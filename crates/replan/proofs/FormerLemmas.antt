@@ -4,7 +4,8 @@ use Rattle.std.specs.Prelude.{ℤ, IsTrue}
 use Rattle.std.proofs.lemmas.List.{get_or-map, get_or_default, length-map, map_more}
 use Rattle.landing_rules.specs.Problem.{Problem}
 use Rattle.cps_network.specs.Permits.{IsNextOf}
-use Rattle.replan.specs.Stages.{LabelledStage, no_stage, stage_at, AreStages, FormerStage, former_of, former_at, AreFormer}
+use Rattle.replan.specs.Stages.{LabelledStage, no_stage, stage_at, AreStages, FormerStage, former_of, former_at}
+use Rattle.replan.specs.Stages.{AreFormer}
 
 -- they are whole as said
 pub former_whole : (p : Problem) (stages : List LabelledStage) → AreStages p stages → AreFormer p (map former_of stages)
@@ -13,21 +14,27 @@ former_whole p stages is i lt said =
     let at = get_or-map former_of stages (i + 1) no_stage (former_of no_stage) here in
     let before = get_or-map former_of stages i no_stage (former_of no_stage) (omega (arith, here)) in
     let back : i + 1 - 1 ≡ i = omega arith in
-    let step : IsNextOf p i (stage_at stages i).stage.1 (stage_at stages (i + 1)).stage.1 = rw back at (is.whole (i + 1) (omega arith) here (rw at at said)) in
+    let step : IsNextOf p i (stage_at stages i).stage.1 (stage_at stages (i + 1)).stage.1 =
+    rw back at (is.whole (i + 1) (omega arith) here (rw at at said)) in
     rw (at, before, is.number i (omega (arith, here))) step
 
 -- one stage more without its pairs
-pub one_shared : (stages : List LabelledStage) (former after : List FormerStage) (i : ℕ) (x y : LabelledStage) (s : ℕ × List (List ℤ)) → i < length stages
-    → former ≡ map former_of (take i stages) → x ≡ y → y ≡ get_or stages i y → s ≡ x.stage → after ≡ former ++ record { stage = s; is_whole = x.is_whole } ∷ []
+pub one_shared : (stages : List LabelledStage) (former after : List FormerStage) (i : ℕ) (x y : LabelledStage)
+    (s : ℕ × List (List ℤ)) → i < length stages
+    → former ≡ map former_of (take i stages) → x ≡ y → y ≡ get_or stages i y → s ≡ x.stage
+    → after ≡ former ++ record { stage = s; is_whole = x.is_whole } ∷ []
     → after ≡ map former_of (take (i + 1) stages)
 one_shared stages former after i x y s lt before same e shared added =
     let here = same ∙ e ∙ get_or_default stages i y no_stage lt in
     rw (map_more former_of stages i no_stage lt, ← here, ← before, ← shared) added
 
-pub read_former : (former : List FormerStage) (i : ℕ) (x y : FormerStage) → x ≡ y → y ≡ get_or former i y → i < length former → x ≡ former_at former i
+pub read_former : (former : List FormerStage) (i : ℕ) (x y : FormerStage) → x ≡ y → y ≡ get_or former i y
+    → i < length former → x ≡ former_at former i
 read_former former i x y same e lt = same ∙ e ∙ get_or_default former i y (former_of no_stage) lt
 
 -- two of them, where the later one is whole
-pub next_former : (p : Problem) (former : List FormerStage) → AreFormer p former → (i : ℕ) (x y : FormerStage) → i + 1 < length former
-    → x ≡ former_at former i → y ≡ former_at former (i + 1) → IsTrue y.is_whole → IsNextOf p x.stage.0 x.stage.1 y.stage.1
+pub next_former : (p : Problem) (former : List FormerStage) → AreFormer p former → (i : ℕ) (x y : FormerStage)
+    → i + 1 < length former
+    → x ≡ former_at former i → y ≡ former_at former (i + 1) → IsTrue y.is_whole
+    → IsNextOf p x.stage.0 x.stage.1 y.stage.1
 next_former p former are i x y lt e f whole = rw (e, f) (are i lt (rw f at whole))

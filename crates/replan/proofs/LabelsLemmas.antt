@@ -28,7 +28,8 @@ of_column column = record { objective = Makespan; lists = column_pairs column }
 abbrev pub of_costs : List (List Pair) → StagePairs
 of_costs found = record { objective = Delay; lists = found }
 
-module _ (p : Problem) (stage : ℕ × List (List ℤ)) (self : StagePairs) (column : List ℕ) (is : of_column column ≡ self) where
+module _ (p : Problem) (stage : ℕ × List (List ℤ)) (self : StagePairs) (column : List ℕ)
+    (is : of_column column ≡ self) where
   pub column_makespan : HoldsPairs p stage self → p.objective ≡ Makespan
   column_makespan h = sym (subst (HoldsPairs p stage) (sym is) h).objective
 
@@ -37,25 +38,35 @@ module _ (p : Problem) (stage : ℕ × List (List ℤ)) (self : StagePairs) (col
 
 -- ---- where a pair comes from
 
-module _ (p : Problem) (net : IsWindowNetwork p) (before : ℕ × List (List ℤ)) (node : List ℤ) (q : Pair) (u : Undominated (Attains p (before.0 + 1) node) q) where
+module _ (p : Problem) (net : IsWindowNetwork p) (before : ℕ × List (List ℤ)) (node : List ℤ)
+    (q : Pair) (u : Undominated (Attains p (before.0 + 1) node) q) where
   next_is : before.0 + 1 ≡ suc before.0
   next_is = omega arith
 
-  pub pair_given : (lists : List (List Pair)) → HoldsCosts p before lists → (j : ℕ) × (index : ℕ) × GivesPair p before lists node q j index
-  pair_given lists held = listed_given p net before lists held node q (subst (λ (n : ℕ). Undominated (Attains p n node) q) next_is u)
+  pub pair_given : (lists : List (List Pair)) → HoldsCosts p before lists → (j : ℕ) × (index : ℕ)
+      × GivesPair p before lists node q j index
+  pair_given lists held = listed_given p net before lists held node q
+      (subst (λ (n : ℕ). Undominated (Attains p n node) q) next_is u)
 
-  pub node_given : (lists : List (List Pair)) → HoldsCosts p before lists → (xs : List ℤ) × Contains before.1 xs × IsSuccessor p before.0 xs node
+  pub node_given : (lists : List (List Pair)) → HoldsCosts p before lists → (xs : List ℤ) × Contains before.1 xs
+      × IsSuccessor p before.0 xs node
   node_given lists held =
-      let given = (pair_given lists held).2 in
-      (node_at before.1 (pair_given lists held).0, Contains-get_or before.1 (pair_given lists held).0 [] given.within, (given.rank, given.permitted, given.next))
+      let given = (pair_given lists held).2 in (
+        node_at before.1 (pair_given lists held).0,
+        Contains-get_or before.1 (pair_given lists held).0 [] given.within,
+        (given.rank, given.permitted, given.next),
+      )
 
   module _ (self : StagePairs) (column : List ℕ) (is : of_column column ≡ self) (holds : HoldsPairs p before self) where
-    pub column_gives : (place : ℕ) → GivesLabel p before column node q.0 place → GivesPair p before self.lists node q place 0
+    pub column_gives : (place : ℕ) → GivesLabel p before column node q.0 place
+        → GivesPair p before self.lists node q place 0
     column_gives place gives =
         let makespan = column_makespan p before self column is holds in
         let free : q ≡ (q.0, 0) = ap (λ (c : ℕ). (q.0, c)) (attains_free p makespan (before.0 + 1) node q u.attained) in
-        let one : GivesPair p before (column_pairs column) node (q.0, 0) place 0 = gives_pair p makespan before column node q.0 place (column_held p before self column is holds) gives in
-        subst (λ (ls : StagePairs). GivesPair p before ls.lists node q place 0) is (subst (λ (o : Pair). GivesPair p before (column_pairs column) node o place 0) (sym free) one)
+        let one : GivesPair p before (column_pairs column) node (q.0, 0) place 0 =
+        gives_pair p makespan before column node q.0 place (column_held p before self column is holds) gives in
+        subst (λ (ls : StagePairs). GivesPair p before ls.lists node q place 0) is
+        (subst (λ (o : Pair). GivesPair p before (column_pairs column) node o place 0) (sym free) one)
 
 -- ---- what is left of the candidates
 
@@ -73,7 +84,8 @@ kept_all (b ∷ bs) [] k = refl
 kept_all (true ∷ bs) (x ∷ xs) k = ap (λ (l : List _). x ∷ l) (kept_all bs xs (omega (arith, k)))
 kept_all (false ∷ bs) (x ∷ xs) k = let h = kept_short bs xs in absurd (omega (arith, k, h))
 
-module _ (p : Problem) (before after : ℕ × List (List ℤ)) (number : after.0 ≡ before.0) (each : HasEachLandable p before) where
+module _ (p : Problem) (before after : ℕ × List (List ℤ)) (number : after.0 ≡ before.0)
+    (each : HasEachLandable p before) where
   pub column_left : (column left : List ℕ) → p.objective ≡ Makespan → AreLabels p before column
       → ((q : Problem) → HasEachLandable q before → AreLabels q before column → HoldsLabels q after left)
       → after.1 ≡ columns.known_of column before.1 → AreLandableOf p before after (of_column left)

@@ -1,6 +1,7 @@
--- The last stage of a problem tells the least objective of its feasible lists, and an order whose earliest seconds are a best and
--- tight schedule.
-use Rattle.std.proofs.Common.{◌≡◌, ℕ, ◌+◌, ◌-◌, ◌<◌, ◌≤◌, List, [], ◌∷◌, length, get_or, map, inl, inr, refl, sym, ap, subst, ◌∙◌, arith, le_trans, reverse, drop, take, ◌++◌}
+-- The last stage of a problem tells the least objective of its feasible lists, and an order whose earliest seconds are
+-- a best and tight schedule.
+use Rattle.std.proofs.Common.{◌≡◌, ℕ, ◌+◌, ◌-◌, ◌<◌, ◌≤◌, List, [], ◌∷◌, length, get_or, map, inl, inr, refl, sym, ap}
+use Rattle.std.proofs.Common.{subst, ◌∙◌, arith, le_trans, reverse, drop, take, ◌++◌}
 use Rattle.std.specs.Prelude.{ℤ}
 use Rattle.std.proofs.lemmas.List.{get_or_default, length-reverse}
 use Rattle.landing_rules.specs.declared.objective.Objective.{Objective}
@@ -41,7 +42,8 @@ use Rattle.replan.specs.shared.LastPairs.{last_cheapest}
 -- ---- no feasible list is worth less than the least last pair
 
 -- where no pair costs anything there is one alone
-only_pair : (pairs : List Pair) → Staircase pairs → ((q : Pair) → InPairs q pairs → q.1 ≡ 0) → (q : Pair) → InPairs q pairs → last_pair pairs ≡ q
+only_pair : (pairs : List Pair) → Staircase pairs → ((q : Pair) → InPairs q pairs → q.1 ≡ 0)
+    → (q : Pair) → InPairs q pairs → last_pair pairs ≡ q
 only_pair [] s free q i = absurd i
 only_pair (x ∷ []) s free q (inl e) = sym e
 only_pair (x ∷ []) s free q (inr i) = absurd i
@@ -50,7 +52,8 @@ only_pair (x ∷ (y ∷ pairs)) s free q i =
     let b = free x (inl refl) in
     absurd (omega (arith, a, b))
 
-least_worth : (o : Objective) (pairs : List Pair) → Staircase pairs → (o ≡ Makespan → (q : Pair) → InPairs q pairs → q.1 ≡ 0) → (a q : Pair) → InPairs a pairs → NoWorse a q
+least_worth : (o : Objective) (pairs : List Pair) → Staircase pairs
+    → (o ≡ Makespan → (q : Pair) → InPairs q pairs → q.1 ≡ 0) → (a q : Pair) → InPairs a pairs → NoWorse a q
     → worth o (last_pair pairs) ≤ worth o q
 least_worth Makespan pairs s free a q i le =
     let e = ap (λ (z : Pair). z.0) (only_pair pairs s (free refl) a i) in
@@ -58,19 +61,29 @@ least_worth Makespan pairs s free a q i le =
     omega (arith, e, l)
 least_worth Delay pairs s free a q i le = le_trans (last_cheapest pairs s a i) le.1
 
-module _ (p : Problem) (is : IsPlannedFor p) (stage : ℕ × List (List ℤ)) (labels : StagePairs) (last : stage.0 ≡ length p.flights) (holds : HoldsPairs p stage labels) where
+module _ (p : Problem) (is : IsPlannedFor p) (stage : ℕ × List (List ℤ)) (labels : StagePairs)
+    (last : stage.0 ≡ length p.flights) (holds : HoldsPairs p stage labels) where
   -- a feasible list lands in some window of the last stage, worth no less than its last pair
   bounds : (u : Schedule) → IsFeasibleList p u
-      → (i : ℕ) × (i < length labels.lists) × (worth p.objective (last_pair (list_at labels.lists i)) ≤ worth p.objective (map_pair (cost_at p) (length p.flights) (of_rank 0 u)))
+      → (i : ℕ) × (i < length labels.lists)
+      × (worth p.objective (last_pair (list_at labels.lists i)) ≤ worth p.objective
+      (map_pair (cost_at p) (length p.flights) (of_rank 0 u)))
   bounds u f =
       let held = holds.held in
-      let x = feasible_landing_trail (ranked p) (cost_at p) (sound_ranked p is.table is.between) (of_rank 0 u) (list_feasible p u f) in
-      let at : node_of p.k (ranks x.0) ≡ (stage.0, (node_of p.k (ranks x.0)).1) = ap (λ (q : ℕ). (q, (node_of p.k (ranks x.0)).1)) (x.3 ∙ sym last) in
-      let a : Attains p stage.0 (node_of p.k (ranks x.0)).1 (map_pair (cost_at p) (length p.flights) (of_rank 0 u)) = record { landings = x.0; legal = x.1; landed = x.2; at = at; is = x.4 } in
-      let has = (held.landable (node_of p.k (ranks x.0)).1).1 (map_pair (cost_at p) (length p.flights) (of_rank 0 u), a) in
-      let it : node_at stage.1 has.0 ≡ (node_of p.k (ranks x.0)).1 = get_or_default stage.1 has.0 [] (node_of p.k (ranks x.0)).1 has.1 ∙ has.2 in
+      let x = feasible_landing_trail (ranked p) (cost_at p) (sound_ranked p is.table is.between)
+      (of_rank 0 u) (list_feasible p u f) in
+      let at : node_of p.k (ranks x.0) ≡ (stage.0, (node_of p.k (ranks x.0)).1) =
+      ap (λ (q : ℕ). (q, (node_of p.k (ranks x.0)).1)) (x.3 ∙ sym last) in
+      let a : Attains p stage.0 (node_of p.k (ranks x.0)).1 (map_pair (cost_at p) (length p.flights) (of_rank 0 u)) =
+      record { landings = x.0; legal = x.1; landed = x.2; at = at; is = x.4 } in
+      let has = (held.landable (node_of p.k (ranks x.0)).1).1
+      (map_pair (cost_at p) (length p.flights) (of_rank 0 u), a) in
+      let it : node_at stage.1 has.0 ≡ (node_of p.k (ranks x.0)).1 =
+      get_or_default stage.1 has.0 [] (node_of p.k (ranks x.0)).1 has.1 ∙ has.2 in
       let are = held.costs.pairs has.0 has.1 in
-      let o = are.covers (map_pair (cost_at p) (length p.flights) (of_rank 0 u)) (subst (λ (y : List ℤ). Attains p stage.0 y (map_pair (cost_at p) (length p.flights) (of_rank 0 u))) (sym it) a) in
+      let o = are.covers (map_pair (cost_at p) (length p.flights) (of_rank 0 u))
+      (subst (λ (y : List ℤ). Attains p stage.0 y (map_pair (cost_at p) (length p.flights) (of_rank 0 u)))
+      (sym it) a) in
       let low = least_worth p.objective (list_at labels.lists has.0) are.falling
       (λ makespan q i. attains_free p makespan stage.0 (node_at stage.1 has.0) q ((are.undominated q).0 i).attained)
       o.0 (map_pair (cost_at p) (length p.flights) (of_rank 0 u)) o.1 o.2 in
@@ -88,7 +101,8 @@ value_rises p Delay a b le = omega (arith, le)
 
 -- ---- the least value of the last stage
 
-module _ (p : Problem) (is : IsPlannedFor p) (stage : ℕ × List (List ℤ)) (labels : StagePairs) (last : stage.0 ≡ length p.flights) (holds : HoldsPairs p stage labels) where
+module _ (p : Problem) (is : IsPlannedFor p) (stage : ℕ × List (List ℤ)) (labels : StagePairs)
+    (last : stage.0 ≡ length p.flights) (holds : HoldsPairs p stage labels) where
   -- without a window no list is feasible
   pub none_feasible : length labels.lists ≡ 0 → (u : Schedule) → IsFeasibleList p u → ⊥
   none_feasible none u f =
@@ -101,8 +115,10 @@ module _ (p : Problem) (is : IsPlannedFor p) (stage : ℕ × List (List ℤ)) (l
     no_more u f =
         let b = bounds p is stage labels last holds u f in
         let le = b.2 in
-        let here : worth p.objective (last_pair (list_at labels.lists place)) ≤ worth p.objective (last_pair (list_at labels.lists b.0)) =
-        subst (λ (o : Objective). worth o (last_pair (list_at labels.lists place)) ≤ worth o (last_pair (list_at labels.lists b.0))) holds.objective (least.1 b.0 b.1) in
+        let here : worth p.objective (last_pair (list_at labels.lists place)) ≤ worth p.objective
+        (last_pair (list_at labels.lists b.0)) =
+        subst (λ (o : Objective). worth o (last_pair (list_at labels.lists place)) ≤ worth o
+        (last_pair (list_at labels.lists b.0))) holds.objective (least.1 b.0 b.1) in
         omega (arith, le, here)
 
     abbrev pub least_pair : Pair
@@ -112,7 +128,8 @@ module _ (p : Problem) (is : IsPlannedFor p) (stage : ℕ × List (List ℤ)) (l
       attained : Attains p stage.0 (node_at stage.1 place) least_pair
       attained =
           let here : place < length stage.1 = let l = least.0 in omega (arith, l, holds.held.costs.one_each) in
-          let has : InPairs least_pair (list_at labels.lists place) = at_in (list_at labels.lists place) (length (list_at labels.lists place) - 1) least_pair (omega (arith, some)) refl in
+          let has : InPairs least_pair (list_at labels.lists place) = at_in (list_at labels.lists place)
+          (length (list_at labels.lists place) - 1) least_pair (omega (arith, some)) refl in
           (((holds.held.costs.pairs place here).undominated least_pair).0 has).attained
 
       best_seconds : Schedule
@@ -127,22 +144,28 @@ module _ (p : Problem) (is : IsPlannedFor p) (stage : ℕ × List (List ℤ)) (l
       unfolding best_seconds
       least_is_best =
           let whole : length (ranks attained.landings) ≡ length p.flights = ap (λ (n : Node). n.0) attained.at ∙ last in
-          let f = landing_trail_feasible (ranked p) (cost_at p) (sound_ranked p is.table is.between) attained.landings attained.legal attained.landed whole in
+          let f = landing_trail_feasible (ranked p) (cost_at p)
+          (sound_ranked p is.table is.between) attained.landings attained.legal attained.landed whole in
           let same : (r : ℕ) → IsRank (length p.flights) r → second_in attained.landings r ≡ of_rank 0 best_seconds r =
           λ r q. sym (list_of_at (length p.flights) (second_in attained.landings) r q) in
           let feasible : IsFeasibleList p best_seconds = feasible_list p is.passed best_seconds best_long
           (feasible_agree (ranked p) (second_in attained.landings) (of_rank 0 best_seconds) same f.0) in
-          let low = map_value_rises p (second_in attained.landings) (of_rank 0 best_seconds) (λ r q. let e = same r q in omega (arith, e)) in
-          let high = map_value_rises p (of_rank 0 best_seconds) (second_in attained.landings) (λ r q. let e = same r q in omega (arith, e)) in
-          let of_pair : value_of_map p (second_in attained.landings) ≡ value_at p least_pair = ap (value_at p) (sym f.1 ∙ attained.is) in
+          let low = map_value_rises p (second_in attained.landings) (of_rank 0 best_seconds) (λ r q. let e =
+          same r q in omega (arith, e)) in
+          let high = map_value_rises p (of_rank 0 best_seconds) (second_in attained.landings) (λ r q. let e =
+          same r q in omega (arith, e)) in
+          let of_pair : value_of_map p (second_in attained.landings) ≡ value_at p least_pair =
+          ap (value_at p) (sym f.1 ∙ attained.is) in
           let of_list = list_value p best_seconds best_long in
-          let value : list_objective p best_seconds ≡ value_at p least_pair = omega (arith, low, high, of_pair, of_list) in (
+          let value : list_objective p best_seconds ≡ value_at p least_pair =
+          omega (arith, low, high, of_pair, of_list) in (
             best_seconds,
             record {
               feasible = feasible;
               least = λ u g.
                   let there = list_value p u g.one_each in
-                  let le = value_rises p p.objective least_pair (map_pair (cost_at p) (length p.flights) (of_rank 0 u)) (no_more u g) in
+                  let le = value_rises p p.objective least_pair (map_pair (cost_at p) (length p.flights) (of_rank 0 u))
+                  (no_more u g) in
                   omega (arith, value, there, le);
             },
             value,
@@ -150,13 +173,15 @@ module _ (p : Problem) (is : IsPlannedFor p) (stage : ℕ × List (List ℤ)) (l
 
 in_reverse : (order : List ℕ) (k d : ℕ) → k < length order → In (get_or order k d) (reverse order)
 in_reverse order k d lt =
-    subst (In (get_or order k d)) (sym (front_whole order k d lt)) (in_behind (reverse (drop (k + 1) order)) (get_or order k d) (reverse (take k order)))
+    subst (In (get_or order k d)) (sym (front_whole order k d lt))
+    (in_behind (reverse (drop (k + 1) order)) (get_or order k d) (reverse (take k order)))
   where
     in_behind : (xs : List ℕ) (x : ℕ) (ys : List ℕ) → In x (xs ++ x ∷ ys)
     in_behind [] x ys = inl refl
     in_behind (z ∷ xs) x ys = inr (in_behind xs x ys)
 
-module _ (p : Problem) (is : IsPlannedFor p) (order : List ℕ) (end : Pair) (whole : length order ≡ length p.flights) (lands : LandsWithPair p order end) where
+module _ (p : Problem) (is : IsPlannedFor p) (order : List ℕ) (end : Pair) (whole : length order ≡ length p.flights)
+    (lands : LandsWithPair p order end) where
   legal : Legal (ranked p).rules (reverse order)
   legal = subst (Legal (ranked p).rules) lands.1 lands.2
 
@@ -164,8 +189,10 @@ module _ (p : Problem) (is : IsPlannedFor p) (order : List ℕ) (end : Pair) (wh
   order_is_whole = record {
     whole = whole;
     ranks = λ k d lt.
-        in_from_one (ranked p).rules (get_or order k d) (reverse order) (legal_each_fits (ranked p).rules (reverse order) legal) (in_reverse order k d lt);
-    distinct = each_fits_distinct (ranked p).rules (reverse order) (legal_each_fits (ranked p).rules (reverse order) legal);
+        in_from_one (ranked p).rules (get_or order k d) (reverse order)
+        (legal_each_fits (ranked p).rules (reverse order) legal) (in_reverse order k d lt);
+    distinct = each_fits_distinct (ranked p).rules (reverse order)
+        (legal_each_fits (ranked p).rules (reverse order) legal);
   }
 
   abbrev pub seconds : Schedule
@@ -179,18 +206,22 @@ module _ (p : Problem) (is : IsPlannedFor p) (order : List ℕ) (end : Pair) (wh
   order_lands =
       let distinct = order_is_whole.distinct in
       let same : at_seconds (of_rank 0 seconds) (reverse order) ≡ at_seconds (second_in lands.0) (reverse order) =
-      at_seconds_agree (of_rank 0 seconds) (second_in lands.0) (reverse order) (λ r i. list_of_at (length p.flights) (second_in lands.0) r (in_order p order order_is_whole r i)) in
+      at_seconds_agree (of_rank 0 seconds) (second_in lands.0) (reverse order)
+      (λ r i. list_of_at (length p.flights) (second_in lands.0) r (in_order p order order_is_whole r i)) in
       let back : at_seconds (second_in lands.0) (reverse order) ≡ lands.0 =
-      ap (at_seconds (second_in lands.0)) (sym lands.1) ∙ at_second_in lands.0 (subst Distinct (sym lands.1) distinct) in
+      ap (at_seconds (second_in lands.0)) (sym lands.1)
+      ∙ at_second_in lands.0 (subst Distinct (sym lands.1) distinct) in
       trail_lands p is.table order seconds order_is_whole long (subst (LandedIn (ranked p)) (sym (same ∙ back)) lands.3)
 
   -- they land last at the pair's second, and cost what it says
   pair_is : map_pair (cost_at p) (length p.flights) (second_in lands.0) ≡ end
   pair_is =
-      let f = landing_trail_feasible (ranked p) (cost_at p) (sound_ranked p is.table is.between) lands.0 lands.2 lands.3 (ap length lands.1 ∙ length-reverse order ∙ whole) in
+      let f = landing_trail_feasible (ranked p) (cost_at p) (sound_ranked p is.table is.between) lands.0 lands.2 lands.3
+      (ap length lands.1 ∙ length-reverse order ∙ whole) in
       sym f.1 ∙ lands.4
 
-  pub plan_best : (v : Schedule) → length v ≡ length p.flights → EarliestInOrder p order v → ((x : Schedule) → LandsInOrder p order x → AllZip (λ a b. a ≤ b) v x)
+  pub plan_best : (v : Schedule) → length v ≡ length p.flights → EarliestInOrder p order v
+      → ((x : Schedule) → LandsInOrder p order x → AllZip (λ a b. a ≤ b) v x)
       → IsWorthNoMore p end → IsBestList p v × IsTightList p v
   plan_best v room earliest least low = (
     order_best p is order order_is_whole legal v room earliest least (λ u f. (
@@ -198,8 +229,10 @@ module _ (p : Problem) (is : IsPlannedFor p) (order : List ℕ) (end : Pair) (wh
       order_lands,
       (let here = list_value p seconds long in
           let there = list_value p u f.one_each in
-          let a = map_value_rises p (of_rank 0 seconds) (second_in lands.0) (λ r q. let e = list_of_at (length p.flights) (second_in lands.0) r q in omega (arith, e)) in
-          let b = subst (λ (e : Pair). value_by p.objective p e ≤ value_by p.objective p (map_pair (cost_at p) (length p.flights) (of_rank 0 u))) (sym pair_is)
+          let a = map_value_rises p (of_rank 0 seconds) (second_in lands.0) (λ r q. let e =
+          list_of_at (length p.flights) (second_in lands.0) r q in omega (arith, e)) in
+          let b = subst (λ (e : Pair). value_by p.objective p e ≤ value_by p.objective p
+          (map_pair (cost_at p) (length p.flights) (of_rank 0 u))) (sym pair_is)
           (value_rises p p.objective end (map_pair (cost_at p) (length p.flights) (of_rank 0 u)) (low u f)) in
           omega (arith, here, there, a, b)),
     )),

@@ -1,5 +1,6 @@
 -- What is read of a problem that is held.
-use Rattle.std.proofs.Common.{◌≡◌, ℕ, ◌+◌, ◌-◌, ◌<◌, ◌≤◌, List, length, get_or, Option, Some, sym, ap, subst, ◌∙◌, arith}
+use Rattle.std.proofs.Common.{◌≡◌, ℕ, ◌+◌, ◌-◌, ◌<◌, ◌≤◌, List, length, get_or, Option, Some, sym, ap, subst, ◌∙◌}
+use Rattle.std.proofs.Common.{arith}
 use Rattle.std.specs.Prelude.{ℤ}
 use Rattle.landing_rules.specs.Problem.{Problem}
 use Rattle.replan.specs.Held.{HeldProblem, IsHeld}
@@ -17,8 +18,10 @@ pub record IsReadAt (p : Problem) (held : Option HeldProblem) (i : ℕ) (x : Lab
   pub pairs : HoldsPairs p x.stage x.labels
   pub to_last : i ≤ length p.flights
 
-pub read_at : (w : ℕ) (p : Problem) (held : Option HeldProblem) (h : HeldProblem) (stages : List LabelledStage) (i : ℕ) (x y : LabelledStage) → held ≡ Some h
-    → h.stages ≡ stages → x ≡ y → y ≡ get_or stages i y → IsReadable held i → IsHeld w (record { problem = p; stages = stages }) → IsReadAt p held i x
+pub read_at : (w : ℕ) (p : Problem) (held : Option HeldProblem) (h : HeldProblem) (stages : List LabelledStage)
+    (i : ℕ) (x y : LabelledStage) → held ≡ Some h
+    → h.stages ≡ stages → x ≡ y → y ≡ get_or stages i y → IsReadable held i
+    → IsHeld w (record { problem = p; stages = stages }) → IsReadAt p held i x
 read_at w p held h stages i x y e f same at readable is =
     let both = read_held held h stages i x y e f same at readable in
     let some : 1 ≤ i = readable.0 in
@@ -29,9 +32,12 @@ read_at w p held h stages i x y e f same at readable is =
     record { stage = both.0; lists = both.1; number = here.1; pairs = here.0; to_last = omega (arith, lt, whole) }
 
 module _ (p : Problem) (held : Option HeldProblem) (i : ℕ) (x : LabelledStage) (r : IsReadAt p held i x) where
-  pub read_nodes : (n : WindowNodes) → AreNodesOf held i n → ArePutTogether x.stage.0 x.stage.1 (length x.stage.1) n.places n.firsts
-  read_nodes n are = subst (λ (s : ℕ × List (List ℤ)). ArePutTogether x.stage.0 s.1 (length s.1) n.places n.firsts) (sym r.stage)
-      (subst (λ (s : ℕ). ArePutTogether s (stage_in held i).1 (length (stage_in held i).1) n.places n.firsts) (sym r.number) are.together)
+  pub read_nodes : (n : WindowNodes) → AreNodesOf held i n
+      → ArePutTogether x.stage.0 x.stage.1 (length x.stage.1) n.places n.firsts
+  read_nodes n are = subst (λ (s : ℕ × List (List ℤ)). ArePutTogether x.stage.0 s.1 (length s.1) n.places n.firsts)
+      (sym r.stage)
+      (subst (λ (s : ℕ). ArePutTogether s (stage_in held i).1 (length (stage_in held i).1) n.places n.firsts)
+      (sym r.number) are.together)
 
   pub have_least : (n : WindowNodes) → AreNodesOf held i n → HaveLeast x.labels.lists n
   have_least n are =

@@ -1,5 +1,7 @@
 -- Stage 0 with its pair, one stage more, and what is kept of the stages of a problem for another.
-use Rattle.std.proofs.Common.{◌≡◌, ℕ, zero, suc, ◌+◌, ◌*◌, ◌<◌, ◌≤◌, List, [], ◌∷◌, ◌++◌, length, get_or, replicate, length-append, refl, sym, ap, subst, ◌∙◌, arith, inl, inr, zero-le, Option, Some, None, ◌-◌, take}
+use Rattle.std.proofs.Common.{◌≡◌, ℕ, zero, suc, ◌+◌, ◌*◌, ◌<◌, ◌≤◌, List, [], ◌∷◌, ◌++◌, length, get_or, replicate}
+use Rattle.std.proofs.Common.{length-append, refl, sym, ap, subst, ◌∙◌, arith, inl, inr, zero-le, Option, Some, None}
+use Rattle.std.proofs.Common.{◌-◌, take}
 use Rattle.std.specs.Prelude.{ℤ, pos, Contains, IsTrue}
 use Rattle.std.proofs.lemmas.Bool.{cases_eq}
 use Rattle.std.proofs.lemmas.List.{get_or_append_left, get_or_push, get_or_default, get_or-take, length-take-le}
@@ -41,7 +43,14 @@ start_only p v l =
     subst (λ (xs : List Landing). node_of p.k (ranks xs) ≡ (0, v)) none l.1.at
 
 start_attains : (p : Problem) → Attains p 0 (replicate (2 * p.k + 1) (pos 0)) (0, 0)
-start_attains p = record { landings = []; legal = tt; landed = tt; at = ap (λ (w : List ℤ). (0, w)) (source_is p); is = refl }
+start_attains p = record {
+  landings = [];
+  legal = tt;
+  landed = tt;
+  at = ap (λ (w : List ℤ). (0, w)) (source_is p);
+  is =
+      refl;
+}
 
 -- nothing but (0, 0) is attained there
 pub start_pair : (p : Problem) (v : List ℤ) (q : Pair) → Attains p 0 v q → (0, 0) ≡ q
@@ -66,7 +75,8 @@ start_costs p = record {
     }
     only q (inr i) = absurd i
 
-    pairs : (i : ℕ) → i < 1 → ArePairsOf p 0 (node_at (replicate (2 * p.k + 1) (pos 0) ∷ []) i) (list_at (((0, 0) ∷ []) ∷ []) i)
+    pairs : (i : ℕ) → i < 1 → ArePairsOf p 0 (node_at (replicate (2 * p.k + 1) (pos 0) ∷ []) i)
+        (list_at (((0, 0) ∷ []) ∷ []) i)
     pairs zero lt = record {
       undominated = λ q. (only q, λ u. inl (sym (start_pair p (replicate (2 * p.k + 1) (pos 0)) q u.attained)));
       covers = λ q a. ((0, 0), inl refl, (zero-le, zero-le));
@@ -74,28 +84,34 @@ start_costs p = record {
     }
     pairs (suc i) lt = absurd (omega arith)
 
-pub begins : (p : Problem) (w : ℕ) (stage : ℕ × List (List ℤ)) (labels : StagePairs) (o : Objective) → w ≡ 2 * p.k + 1 → stage ≡ (0, replicate w (pos 0) ∷ [])
+pub begins : (p : Problem) (w : ℕ) (stage : ℕ × List (List ℤ)) (labels : StagePairs) (o : Objective)
+    → w ≡ 2 * p.k + 1 → stage ≡ (0, replicate w (pos 0) ∷ [])
     → labels ≡ record { objective = o; lists = ((0, 0) ∷ []) ∷ [] } → p.objective ≡ o → HoldsPairs p stage labels
 begins p w stage labels o odd e f g = rw (f, e, odd) (record { objective = sym g; held = start_costs p })
 
 -- ---- one stage more
 
 -- where it is said to be whole, its windows are all that extend the last of the others
-pub one_more : (p : Problem) (stages after : List LabelledStage) (next : LabelledStage) → AreStages p stages → after ≡ stages ++ next ∷ []
+pub one_more : (p : Problem) (stages after : List LabelledStage) (next : LabelledStage) → AreStages p stages
+    → after ≡ stages ++ next ∷ []
     → next.stage.0 ≡ length stages → IsAscending next.stage.1 → HoldsPairs p next.stage next.labels
-    → ((last : ℕ) → last + 1 ≡ length stages → IsTrue next.is_whole → IsNextOf p last (stage_at stages last).stage.1 next.stage.1) → AreStages p after
+    → ((last : ℕ) → last + 1 ≡ length stages → IsTrue next.is_whole
+    → IsNextOf p last (stage_at stages last).stage.1 next.stage.1) → AreStages p after
 one_more p stages after next is e number ascending held whole = rw e (record {
   number = λ i lt. elim (cases_eq i (length stages)) [
     | inl same ↦ rw (get_or_push stages next no_stage i (sym same)) (number ∙ sym same)
-    | inr old ↦ let below = low i lt old in rw (get_or_append_left stages (next ∷ []) no_stage i below) (is.number i below)
+    | inr old ↦ let below = low i lt old in rw (get_or_append_left stages (next ∷ []) no_stage i below)
+        (is.number i below)
   ];
   ascending = λ i lt. elim (cases_eq i (length stages)) [
     | inl same ↦ rw (get_or_push stages next no_stage i (sym same)) ascending
-    | inr old ↦ let below = low i lt old in rw (get_or_append_left stages (next ∷ []) no_stage i below) (is.ascending i below)
+    | inr old ↦ let below = low i lt old in rw (get_or_append_left stages (next ∷ []) no_stage i below)
+        (is.ascending i below)
   ];
   held = λ i lt. elim (cases_eq i (length stages)) [
     | inl same ↦ rw (get_or_push stages next no_stage i (sym same)) held
-    | inr old ↦ let below = low i lt old in rw (get_or_append_left stages (next ∷ []) no_stage i below) (is.held i below)
+    | inr old ↦ let below = low i lt old in rw (get_or_append_left stages (next ∷ []) no_stage i below)
+        (is.held i below)
   ];
   whole = λ i some lt said.
       let back : i - 1 < length stages = omega (arith, some, lt, length-append stages (next ∷ [])) in
@@ -113,8 +129,10 @@ one_more p stages after next is e number ascending held whole = rw e (record {
     low : (i : ℕ) → i < length (stages ++ next ∷ []) → (i ≡ length stages → ⊥) → i < length stages
     low i lt old = omega (arith, old, lt, length-append stages (next ∷ []))
 
-pub has_candidates : (p : Problem) (before after : ℕ × List (List ℤ)) (m : ℕ) → before.0 ≡ m → HoldsLandable p before → HoldsCandidates p before after → IsAscending after.1 → HasCandidates p m (length after.1)
-has_candidates p before after m e h each up = rw (← e) (record { candidates = after.1; ascending = up; each = each h; counted = refl })
+pub has_candidates : (p : Problem) (before after : ℕ × List (List ℤ)) (m : ℕ) → before.0 ≡ m
+    → HoldsLandable p before → HoldsCandidates p before after → IsAscending after.1 → HasCandidates p m (length after.1)
+has_candidates p before after m e h each up =
+    rw (← e) (record { candidates = after.1; ascending = up; each = each h; counted = refl })
 
 -- ---- steps
 
@@ -128,33 +146,41 @@ raised_more None a b = refl
 raised_more (Some n) a b = ap Some (omega arith)
 
 -- one stage more, from a number on
-pub due_more : (first : ℕ) (p : Problem) (i : ℕ) (o r s : Option ℕ) → first ≤ i → 0 < i → (due : ℕ) × HasCandidatesFrom first p (i - 1) due × (r ≡ raised_by due o) → (count : ℕ) × HasCandidates p (i - 1) count × (s ≡ raised_by count r)
+pub due_more : (first : ℕ) (p : Problem) (i : ℕ) (o r s : Option ℕ) → first ≤ i → 0 < i
+    → (due : ℕ) × HasCandidatesFrom first p (i - 1) due × (r ≡ raised_by due o) → (count : ℕ)
+    × HasCandidates p (i - 1) count × (s ≡ raised_by count r)
     → (due : ℕ) × HasCandidatesFrom first p (i + 1 - 1) due × (s ≡ raised_by due o)
 due_more first p i o r s le some (due, from, e) (count, has, f) =
     let n : suc (i - 1) ≡ i + 1 - 1 = omega arith in (
       due + count,
-      subst (λ (m : ℕ). HasCandidatesFrom first p m (due + count)) n (more_from first p (i - 1) due count (omega arith) from has),
+      subst (λ (m : ℕ). HasCandidatesFrom first p m (due + count)) n
+          (more_from first p (i - 1) due count (omega arith) from has),
       f ∙ ap (raised_by count) e ∙ raised_more o due count,
     )
 
 -- ---- what is read of the stages
 
-pub read_stage : (stages : List LabelledStage) (i : ℕ) (x y : LabelledStage) → x ≡ y → y ≡ get_or stages i y → i < length stages → x ≡ stage_at stages i
+pub read_stage : (stages : List LabelledStage) (i : ℕ) (x y : LabelledStage) → x ≡ y → y ≡ get_or stages i y
+    → i < length stages → x ≡ stage_at stages i
 read_stage stages i x y same e lt = same ∙ e ∙ get_or_default stages i y no_stage lt
 
-pub held_at : (p : Problem) (stages : List LabelledStage) → AreStages p stages → (i : ℕ) (x : LabelledStage) → x ≡ stage_at stages i → i < length stages
+pub held_at : (p : Problem) (stages : List LabelledStage) → AreStages p stages → (i : ℕ) (x : LabelledStage)
+    → x ≡ stage_at stages i → i < length stages
     → HoldsPairs p x.stage x.labels × (x.stage.0 ≡ i)
 held_at p stages is i x e lt = rw e (is.held i lt, is.number i lt)
 
-pub read_held : (held : Option HeldProblem) (h : HeldProblem) (stages : List LabelledStage) (i : ℕ) (x y : LabelledStage) → held ≡ Some h
-    → h.stages ≡ stages → x ≡ y → y ≡ get_or stages i y → IsReadable held i → (x.stage ≡ stage_in held i) × (x.labels.lists ≡ lists_in held i)
+pub read_held : (held : Option HeldProblem) (h : HeldProblem) (stages : List LabelledStage)
+    (i : ℕ) (x y : LabelledStage) → held ≡ Some h
+    → h.stages ≡ stages → x ≡ y → y ≡ get_or stages i y → IsReadable held i → (x.stage ≡ stage_in held i)
+    × (x.labels.lists ≡ lists_in held i)
 read_held held h stages i x y e f same at (some, most) =
     let low : i ≤ length stages - 1 = rw (e, f) at most in
     let is = read_stage stages i x y same at (omega (arith, some, low)) in
     rw (e, f) (ap (λ (s : LabelledStage). s.stage) is, ap (λ (s : LabelledStage). s.labels.lists) is)
 
 -- each kept list has a pair
-pub list_some : (p : Problem) (stage : ℕ × List (List ℤ)) (lists : List (List Pair)) → HoldsCosts p stage lists → (i : ℕ) → i < length stage.1 → 0 < length (list_at lists i)
+pub list_some : (p : Problem) (stage : ℕ × List (List ℤ)) (lists : List (List Pair)) → HoldsCosts p stage lists
+    → (i : ℕ) → i < length stage.1 → 0 < length (list_at lists i)
 list_some p stage lists h i lt =
     let l = (h.landable (node_at stage.1 i)).0 (Contains-get_or stage.1 i [] lt) in
     let o = (h.costs.pairs i lt).covers l.0 l.1 in
@@ -185,15 +211,18 @@ last_read p stages holds whole n last read same f e =
       one_each = h.0.held.costs.one_each ∙ ap (λ (s : LabelledStage). length s.stage.1) at;
       number = h.1 ∙ same;
       held = h.0;
-      some = λ i inside. list_some p last.stage last.labels.lists h.0.held i (omega (arith, inside, h.0.held.costs.one_each));
+      some = λ i inside. list_some p last.stage last.labels.lists h.0.held i
+          (omega (arith, inside, h.0.held.costs.one_each));
     }
 
 -- ---- the stage after the last
 
 -- the last two stages, where the last one is whole
-pub whole_at : (p : Problem) (stages : List LabelledStage) → AreStages p stages → (i last : ℕ) (earlier before : LabelledStage) → last < length stages → i ≡ last - 1
+pub whole_at : (p : Problem) (stages : List LabelledStage) → AreStages p stages
+    → (i last : ℕ) (earlier before : LabelledStage) → last < length stages → i ≡ last - 1
     → earlier ≡ stage_at stages i → before ≡ stage_at stages last
-    → IsTrue before.is_whole → earlier.stage.0 < before.stage.0 → IsNextOf p earlier.stage.0 earlier.stage.1 before.stage.1
+    → IsTrue before.is_whole → earlier.stage.0 < before.stage.0
+    → IsNextOf p earlier.stage.0 earlier.stage.1 before.stage.1
 whole_at p stages is i last earlier before n back e f whole lt =
     let here = (held_at p stages is last before f n).1 in
     let there = (held_at p stages is i earlier e (omega (arith, n, back))).1 in
@@ -201,15 +230,18 @@ whole_at p stages is i last earlier before n back e f whole lt =
 
 -- ---- stages in common
 
-module _ (p q : Problem) (w : ℕ) (odd : w ≡ 2 * p.k + 1) (laws : WindowLaws p w) (bp : AreBetweenRanks (length p.flights) p.pairs) (bq : AreBetweenRanks (length q.flights) q.pairs) where
-  module _ (stages : List LabelledStage) (count : ℕ) (holds : AreStages p stages) (early : EarlyStagesAreKept p q) (common : AreInCommon p q count) (more : 1 < count) (within : count ≤ length stages) where
+module _ (p q : Problem) (w : ℕ) (odd : w ≡ 2 * p.k + 1) (laws : WindowLaws p w)
+    (bp : AreBetweenRanks (length p.flights) p.pairs) (bq : AreBetweenRanks (length q.flights) q.pairs) where
+  module _ (stages : List LabelledStage) (count : ℕ) (holds : AreStages p stages) (early : EarlyStagesAreKept p q)
+      (common : AreInCommon p q count) (more : 1 < count) (within : count ≤ length stages) where
     long : length (take count stages) ≡ count
     long = length-take-le count stages within
 
     valid : (i : ℕ) → i < length stages → AreWindows w (stage_at stages i).stage.1
     valid i lt j inside =
         let at = stage_at stages i in
-        landable_valid p w odd laws at.stage.0 (node_at at.stage.1 j) (((holds.held i lt).held.landable (node_at at.stage.1 j)).0 (Contains-get_or at.stage.1 j [] inside))
+        landable_valid p w odd laws at.stage.0 (node_at at.stage.1 j)
+        (((holds.held i lt).held.landable (node_at at.stage.1 j)).0 (Contains-get_or at.stage.1 j [] inside))
 
     pub stages_in_common : AreStages q (take count stages)
     stages_in_common =
@@ -228,19 +260,27 @@ module _ (p q : Problem) (w : ℕ) (odd : w ≡ 2 * p.k + 1) (laws : WindowLaws 
               let at : i < count = omega (arith, lt, long) in
               let here : i < length stages = omega (arith, at, within) in
               let was = holds.held i here in
-              let kept = early common.0 is.within agree (stage_at stages i).stage.0 (let n = holds.number i here in omega (arith, n, e, at, same)) in
+              let kept = early common.0 is.within agree (stage_at stages i).stage.0 (let n =
+              holds.number i here in omega (arith, n, e, at, same)) in
               rw (get_or-take count stages i no_stage at)
-              (record { objective = was.objective ∙ agree.head.objective; held = kept_costs p q (stage_at stages i).stage _ kept was.held });
+              (record {
+                objective = was.objective ∙ agree.head.objective;
+                held =
+                    kept_costs p q (stage_at stages i).stage _ kept was.held;
+              });
           whole = λ i some lt said.
               let at : i < count = omega (arith, lt, long) in
-              rw (get_or-take count stages i no_stage at, get_or-take count stages (i - 1) no_stage (omega (arith, at))) (
-              kept_next p q common.0 is.within agree bp bq w odd (i - 1) (stage_at stages (i - 1)).stage.1 (stage_at stages i).stage.1 (omega (arith, e, at, some, same))
+              rw (get_or-take count stages i no_stage at, get_or-take count stages (i - 1) no_stage (omega (arith, at)))
+              (
+              kept_next p q common.0 is.within agree bp bq w odd (i - 1) (stage_at stages (i - 1)).stage.1
+              (stage_at stages i).stage.1 (omega (arith, e, at, some, same))
               (valid (i - 1) (omega (arith, at, within)))
               (holds.whole i some (omega (arith, at, within)) (rw (get_or-take count stages i no_stage at) at said)));
         }
 
 -- they are no more than are held
-pub few_in_common : (p q : Problem) (count : ℕ) (stages : List LabelledStage) → AreInCommon p q count → length stages ≡ length p.flights + 1 → count ≤ length stages
+pub few_in_common : (p q : Problem) (count : ℕ) (stages : List LabelledStage) → AreInCommon p q count
+    → length stages ≡ length p.flights + 1 → count ≤ length stages
 few_in_common p q count stages (d, is, e) whole = let a = is.within.0 in omega (arith, a, e, whole)
 
 -- nor more than the other problem has
@@ -248,5 +288,7 @@ pub fits_in_common : (p q : Problem) (count : ℕ) → AreInCommon p q count →
 fits_in_common p q count (d, is, e) = let a = is.within.1 in omega (arith, a, e)
 
 -- what is due are the stages that follow
-pub due_after_common : (p q : Problem) (count first : ℕ) → AreInCommon p q count → count ≤ first → (1 < first → first ≤ count) → IsDueFrom (Some p) q first
-due_after_common p q count first (d, is, e) low high = due_with_held p q d first is (omega arith) (λ more. let a = high more in omega arith)
+pub due_after_common : (p q : Problem) (count first : ℕ) → AreInCommon p q count → count ≤ first
+    → (1 < first → first ≤ count) → IsDueFrom (Some p) q first
+due_after_common p q count first (d, is, e) low high =
+    due_with_held p q d first is (omega arith) (λ more. let a = high more in omega arith)

@@ -1,4 +1,5 @@
--- The labels of a stage, for either objective: for each window the list of its undominated pairs of a second and a cost.
+-- The labels of a stage, for either objective: for each window the list of its undominated pairs of a second and a
+-- cost.
 use Rattle.std.specs.Prelude.{◌≡◌, ℕ, ℤ, ◌-◌, List, length}
 use Rattle.landing_rules.specs.declared.objective.Objective.{Objective}
 use Rattle.landing_rules.specs.declared.objective.Objective.TheVariants.{Makespan, Delay}

@@ -17,8 +17,11 @@ IsLeastValue p (Some v) = (t : Schedule) × IsBestList p t × (list_objective p 
 -- the last pair of the list at this place is worth no more than that of another
 abbrev pub IsLeastPlace : StagePairs → ℕ → Type 0
 IsLeastPlace labels place = (place < length labels.lists)
-    × ((i : ℕ) → i < length labels.lists → worth labels.objective (last_pair (list_at labels.lists place)) ≤ worth labels.objective (last_pair (list_at labels.lists i)))
+    × ((i : ℕ) → i < length labels.lists
+    → worth labels.objective (last_pair (list_at labels.lists place)) ≤ worth labels.objective
+    (last_pair (list_at labels.lists i)))
 
 -- no feasible list is worth less than this pair
 abbrev pub IsWorthNoMore : Problem → Pair → Type 0
-IsWorthNoMore p q = (u : Schedule) → IsFeasibleList p u → worth p.objective q ≤ worth p.objective (second_and_cost (cost_at p) (length p.flights) (of_rank 0 u))
+IsWorthNoMore p q = (u : Schedule) → IsFeasibleList p u
+    → worth p.objective q ≤ worth p.objective (second_and_cost (cost_at p) (length p.flights) (of_rank 0 u))

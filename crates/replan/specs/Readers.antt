@@ -35,8 +35,8 @@ IsReadable held stage = (1 ≤ stage) × (stage ≤ stages_in held)
 abbrev pub HasPlace : Option HeldProblem → ℕ → ℕ → Type 0
 HasPlace held stage i = i < length (stage_in held stage).1
 
--- the stages of a problem are held, each under its number: the landable windows, none twice, with exactly the undominated pairs
--- of each
+-- the stages of a problem are held, each under its number: the landable windows, none twice, with exactly the
+-- undominated pairs of each
 pub record AreStagesOf (p : Problem) (held : Option HeldProblem) : Type 0 where
   pub whole : stages_in held ≡ length p.flights
   pub number : (i : ℕ) → i ≤ length p.flights → (stage_in held i).0 ≡ i

@@ -24,9 +24,11 @@ no_stage = record { stage = (0, []); labels = record { objective = Makespan; lis
 abbrev pub stage_at : List LabelledStage → ℕ → LabelledStage
 stage_at stages i = slice_index_or stages i no_stage
 
--- of so many stages, from stage 0 on, each later one that is said to be whole has exactly the windows that extend the one before
+-- of so many stages, from stage 0 on, each later one that is said to be whole has exactly the windows that extend the
+-- one before
 abbrev pub AreWholeAsSaid : Problem → ℕ → (ℕ → Bool) → (ℕ → List (List ℤ)) → Type 0
-AreWholeAsSaid p count is_whole windows = (i : ℕ) → 0 < i → i < count → IsTrue (is_whole i) → IsNextOf p (i - 1) (windows (i - 1)) (windows i)
+AreWholeAsSaid p count is_whole windows =
+    (i : ℕ) → 0 < i → i < count → IsTrue (is_whole i) → IsNextOf p (i - 1) (windows (i - 1)) (windows i)
 
 -- these are stages of a problem, from stage 0 on: their landable windows, none twice, with their pairs, whole as said
 pub record AreStages (p : Problem) (stages : List LabelledStage) : Type 0 where
@@ -57,8 +59,9 @@ abbrev pub AreFormer : Problem → List FormerStage → Type 0
 AreFormer p former = (i : ℕ) → i + 1 < length former → IsTrue (former_at former (i + 1)).is_whole
     → IsNextOf p (former_at former i).stage.0 (former_at former i).stage.1 (former_at former (i + 1)).stage.1
 
--- the order is legal, and its flights can be given seconds that are open and late enough one after another, the last of them
--- and what they cost together this pair
+-- the order is legal, and its flights can be given seconds that are open and late enough one after another, the last of
+-- them and what they cost together this pair
 abbrev pub LandsWithPair : Problem → List ℕ → Pair → Type 0
-LandsWithPair p order q = (landings : List Landing) × (ranks landings ≡ reverse order) × Legal (ranked p).rules (ranks landings) × LandedIn (ranked p) landings
+LandsWithPair p order q = (landings : List Landing) × (ranks landings ≡ reverse order)
+    × Legal (ranked p).rules (ranks landings) × LandedIn (ranked p) landings
     × (pair_of (cost_at p) landings ≡ q)

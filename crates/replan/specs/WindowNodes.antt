@@ -1,5 +1,6 @@
 -- The windows of a stage, put together by node.
-use Rattle.std.specs.Prelude.{◌≡◌, ℕ, ℤ, pos, ◌<◌, ◌≤◌, ◌⊎◌, ◌↔◌, [], ◌∷◌, ◌++◌, List, length, min, slice_index_or, Option}
+use Rattle.std.specs.Prelude.{◌≡◌, ℕ, ℤ, pos, ◌<◌, ◌≤◌, ◌⊎◌, ◌↔◌, [], ◌∷◌, ◌++◌, List, length, min, slice_index_or}
+use Rattle.std.specs.Prelude.{Option}
 use Rattle.landing_rules.specs.Rules.{last_second}
 use Rattle.cps_nodes.specs.Windows.{IsPlaced}
 use Rattle.cps_theory.specs.Labels.{InPairs, Pair}
@@ -32,13 +33,15 @@ renumbered nodes stage = record nodes { stage = stage }
 abbrev pub told_at : List ℕ → ℕ → ℕ
 told_at places i = slice_index_or places i 0
 
--- the first windows of a stage are put together: each stands with the first window of its node, and no node stands twice
+-- the first windows of a stage are put together: each stands with the first window of its node, and no node stands
+-- twice
 pub record ArePutTogether (stage : ℕ) (windows : List (List ℤ)) (count : ℕ) (places firsts : List ℕ) : Type 0 where
   pub long : length places ≡ count
   pub within : (i : ℕ) → i < count → told_at places i < length firsts
   pub first : (j : ℕ) → j < length firsts → told_at firsts j < count
   pub own : (j : ℕ) → j < length firsts → told_at places (told_at firsts j) ≡ j
-  pub one : (i : ℕ) → i < count → AreOneNode stage (node_at windows (told_at firsts (told_at places i))) (node_at windows i)
+  pub one : (i : ℕ) → i < count → AreOneNode stage (node_at windows (told_at firsts (told_at places i)))
+      (node_at windows i)
   pub apart : (i j : ℕ) → i < length firsts → j < length firsts
       → AreOneNode stage (node_at windows (told_at firsts i)) (node_at windows (told_at firsts j)) → i ≡ j
 
@@ -66,7 +69,8 @@ AreSame a b = (a.placed ≡ b.placed) × (a.last ≡ b.last)
 -- each node that was seen is that of its first window
 pub record AreSeen (stage : ℕ) (windows : List (List ℤ)) (firsts : List ℕ) (nodes : List Node) : Type 0 where
   pub one_each : length nodes ≡ length firsts
-  pub placed : (j : ℕ) → j < length firsts → TellsPlaced (node_at windows (told_at firsts j)) stage (seen_at nodes j).placed
+  pub placed : (j : ℕ) → j < length firsts → TellsPlaced (node_at windows (told_at firsts j)) stage
+      (seen_at nodes j).placed
   pub last : (j : ℕ) → j < length firsts → (seen_at nodes j).last ≡ latest (stage, node_at windows (told_at firsts j))
 
 -- the node was seen at this place
@@ -91,7 +95,8 @@ pub record IsPut (nodes seen : List Node) (firsts first : List ℕ) (node : Node
   pub one_first : first ≡ firsts ++ i ∷ []
 
 abbrev pub IsKeptOrPut : List Node → List Node → List ℕ → List ℕ → Node → ℕ → ℕ → Type 0
-IsKeptOrPut nodes seen firsts first node i place = IsKept nodes seen firsts first node place ⊎ IsPut nodes seen firsts first node i place
+IsKeptOrPut nodes seen firsts first node i place = IsKept nodes seen firsts first node place
+    ⊎ IsPut nodes seen firsts first node i place
 
 -- ---- the least of the pairs of a node
 
@@ -132,8 +137,8 @@ AreInDays pairs = (j : ℕ) → (pair_at pairs j).0 ≤ last_second
 
 -- ---- while they are found
 
--- each window has its node, each node its first window, and each list a pair, of which the first is the earliest and the last the
--- cheapest
+-- each window has its node, each node its first window, and each list a pair, of which the first is the earliest and
+-- the last the cheapest
 pub record HaveLeast (lists : List (List Pair)) (nodes : WindowNodes) : Type 0 where
   pub long : length nodes.places ≡ length lists
   pub within : (i : ℕ) → i < length nodes.places → told_at nodes.places i < length nodes.firsts
@@ -143,7 +148,8 @@ pub record HaveLeast (lists : List (List Pair)) (nodes : WindowNodes) : Type 0 w
   pub falling : (i : ℕ) → i < length lists → Staircase (list_at lists i)
 
 -- of the first windows none is earlier or cheaper, and each node has one that is as early and one as cheap
-pub record AreLeastUpto (lists : List (List Pair)) (places firsts : List ℕ) (count : ℕ) (least : List Pair) : Type 0 where
+pub record AreLeastUpto (lists : List (List Pair)) (places firsts : List ℕ) (count : ℕ)
+    (least : List Pair) : Type 0 where
   pub one_each : length least ≡ length firsts
   pub early : (i : ℕ) → i < count → (pair_at least (told_at places i)).0 ≤ (extremes (list_at lists i)).0
   pub cheap : (i : ℕ) → i < count → (pair_at least (told_at places i)).1 ≤ (extremes (list_at lists i)).1

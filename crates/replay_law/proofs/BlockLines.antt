@@ -3,8 +3,10 @@ use Rattle.std.proofs.Common.{◌≡◌, List, [], ◌∷◌, ◌++◌, Option, 
 use Rattle.std.specs.Prelude.{map, codes}
 use Rattle.landing_rules.specs.declared.objective.Objective.{Objective}
 use Rattle.landing_rules.specs.declared.objective.Objective.TheVariants.{Makespan, Delay}
-use Rattle.landing_rules.specs.Text.{Bytes, lines_text, ShownLanding, ShownPlan, objective_word, landing_words, block_lines, block_text, AreNamed, IsShowable, BlockLaw}
-use Rattle.landing_rules.specs.shared.Lines.{IsWithout-append, decimal_without, all_without, objective_without, landing_line}
+use Rattle.landing_rules.specs.Text.{Bytes, lines_text, ShownLanding, ShownPlan, objective_word, landing_words}
+use Rattle.landing_rules.specs.Text.{block_lines, block_text, AreNamed, IsShowable, BlockLaw}
+use Rattle.landing_rules.specs.shared.Lines.{IsWithout-append, decimal_without, all_without, objective_without}
+use Rattle.landing_rules.specs.shared.Lines.{landing_line}
 use Rattle.replay_law.proofs.Lines.{ArePlanLines, EndsPlan, lines_same}
 
 -- ---- the lines of a block
@@ -15,13 +17,27 @@ landing_lines (f ∷ fs) h = ((landing_line f h.0.0 h.0.1, (λ e. omega (arith, 
 
 block_are_lines : (o : Objective) (p : Option ShownPlan) → IsShowable p → ArePlanLines (block_lines o p)
 block_are_lines o None h = ((all_without 10 (codes "infeasible") refl, (λ e. omega (arith, e))), tt)
-block_are_lines Makespan (Some p) h =
-    ((IsWithout-append 10 (objective_word Makespan) _ (objective_without Makespan) (decimal_without 10 p.value (omega arith) h.0), (λ e. omega (arith, e))), landing_lines p.landings h.1)
-block_are_lines Delay (Some p) h =
-    ((IsWithout-append 10 (objective_word Delay) _ (objective_without Delay) (decimal_without 10 p.value (omega arith) h.0), (λ e. omega (arith, e))), landing_lines p.landings h.1)
+block_are_lines Makespan (Some p) h = (
+  (
+    IsWithout-append 10 (objective_word Makespan) _ (objective_without Makespan)
+        (decimal_without 10 p.value (omega arith) h.0),
+    (λ e. omega (arith, e)),
+  ),
+  landing_lines p.landings h.1,
+)
+block_are_lines Delay (Some p) h = (
+  (
+    IsWithout-append 10 (objective_word Delay) _ (objective_without Delay)
+        (decimal_without 10 p.value (omega arith) h.0),
+    (λ e. omega (arith, e)),
+  ),
+  landing_lines p.landings h.1,
+)
 
 -- two blocks with what comes behind them
-pub block_same : BlockLaw → (o : Objective) (p q : Option ShownPlan) (u v : Bytes) → IsShowable p → IsShowable q → EndsPlan u → EndsPlan v → block_text o p ++ u ≡ block_text o q ++ v → (p ≡ q) × (u ≡ v)
+pub block_same : BlockLaw → (o : Objective) (p q : Option ShownPlan) (u v : Bytes) → IsShowable p
+    → IsShowable q → EndsPlan u → EndsPlan v → block_text o p ++ u ≡ block_text o q ++ v → (p ≡ q) × (u ≡ v)
 block_same law o p q u v a b s t e =
-    let lines = lines_same (block_lines o p) (block_lines o q) u v (block_are_lines o p a) (block_are_lines o q b) s t e in
+    let lines = lines_same (block_lines o p) (block_lines o q) u v (block_are_lines o p a)
+    (block_are_lines o q b) s t e in
     (law o p q a b (ap lines_text lines.0), lines.1)

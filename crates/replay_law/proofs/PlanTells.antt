@@ -1,5 +1,6 @@
 -- The landings that are shown, in their order, tell the second of each flight, where the callsigns differ.
-use Rattle.std.proofs.Common.{◌≡◌, ℕ, List, [], ◌∷◌, true, false, Option, Some, None, length, refl, sym, ap, ◌∙◌, arith, inl, inr}
+use Rattle.std.proofs.Common.{◌≡◌, ℕ, List, [], ◌∷◌, true, false, Option, Some, None, length, refl, sym, ap, ◌∙◌}
+use Rattle.std.proofs.Common.{arith, inl, inr}
 use Rattle.std.specs.Prelude.{map, nat_lt, ⊤, bytes_eq, if◌then◌else◌}
 use Rattle.std.proofs.lemmas.Bool.{cases_Bool}
 use Rattle.std.proofs.lemmas.Option.{same_Some}
@@ -24,7 +25,8 @@ abbrev AreApart : List Landing → Type 0
 AreApart [] = ⊤
 AreApart (f ∷ fs) = NotAmong f.flight.callsign fs × AreApart fs
 
-not_in_insert : (c : Callsign) (f : Landing) (fs : List Landing) → bytes_eq f.flight.callsign c ≡ false → NotAmong c fs → NotAmong c (insert_landing f fs)
+not_in_insert : (c : Callsign) (f : Landing) (fs : List Landing) → bytes_eq f.flight.callsign c ≡ false
+    → NotAmong c fs → NotAmong c (insert_landing f fs)
 not_in_insert c f [] h n = (h, tt)
 not_in_insert c f (g ∷ fs) h n = elim (cases_Bool (nat_lt g.second f.second)) [
   | inl later ↦ rw later (n.0, not_in_insert c f fs h n.1)
@@ -35,7 +37,8 @@ not_in_order : (c : Callsign) (fs : List Landing) → NotAmong c fs → NotAmong
 not_in_order c [] n = tt
 not_in_order c (f ∷ fs) n = not_in_insert c f (in_landing_order fs) n.0 (not_in_order c fs n.1)
 
-in_insert : (c : Callsign) (f : Landing) (fs : List Landing) → (bytes_eq f.flight.callsign c ≡ true → NotAmong c fs) → second_in c (insert_landing f fs) ≡ second_in c (f ∷ fs)
+in_insert : (c : Callsign) (f : Landing) (fs : List Landing) → (bytes_eq f.flight.callsign c ≡ true → NotAmong c fs)
+    → second_in c (insert_landing f fs) ≡ second_in c (f ∷ fs)
 in_insert c f [] h = refl
 in_insert c f (g ∷ fs) h = elim (cases_Bool (nat_lt g.second f.second)) [
   | inr here ↦ rw here refl
@@ -82,7 +85,8 @@ apart_landings (a ∷ rest) [] h = tt
 apart_landings (a ∷ rest) (x ∷ t) h = (not_landing a.flight.callsign rest t h.0, apart_landings rest t h.1)
 
 -- schedules that give each callsign the same second are the same
-same_seconds : (active : List Active) (t u : Schedule) → AreNamedApart active → length t ≡ length active → length u ≡ length active →
+same_seconds : (active : List Active) (t u : Schedule) → AreNamedApart active → length t ≡ length active
+    → length u ≡ length active →
     ((c : Callsign) → second_in c (landings active t) ≡ second_in c (landings active u)) → t ≡ u
 same_seconds [] [] [] h m n e = refl
 same_seconds [] [] (y ∷ u) h m n e = absurd (omega (arith, n))
@@ -90,19 +94,26 @@ same_seconds [] (x ∷ t) u h m n e = absurd (omega (arith, m))
 same_seconds (a ∷ rest) [] u h m n e = absurd (omega (arith, m))
 same_seconds (a ∷ rest) (x ∷ t) [] h m n e = absurd (omega (arith, n))
 same_seconds (a ∷ rest) (x ∷ t) (y ∷ u) h m n e =
-    let own : bytes_eq a.flight.callsign a.flight.callsign ≡ true = (bytes_eq-Decides a.flight.callsign a.flight.callsign).1 refl in
+    let own : bytes_eq a.flight.callsign a.flight.callsign ≡ true =
+    (bytes_eq-Decides a.flight.callsign a.flight.callsign).1 refl in
     let head : x ≡ y = same_Some x y (rw own at (e a.flight.callsign)) in
-    let tails : (c : Callsign) → second_in c (landings rest t) ≡ second_in c (landings rest u) = λ c. elim (cases_Bool (bytes_eq a.flight.callsign c)) [
+    let tails : (c : Callsign) → second_in c (landings rest t) ≡ second_in c (landings rest u) =
+    λ c. elim (cases_Bool (bytes_eq a.flight.callsign c)) [
       | inl mine ↦
-          none_in c (landings rest t) (same_among a.flight.callsign c (landings rest t) mine (not_landing a.flight.callsign rest t h.0))
-          ∙ sym (none_in c (landings rest u) (same_among a.flight.callsign c (landings rest u) mine (not_landing a.flight.callsign rest u h.0)))
+          none_in c (landings rest t) (same_among a.flight.callsign c (landings rest t) mine
+          (not_landing a.flight.callsign rest t h.0))
+          ∙ sym (none_in c (landings rest u) (same_among a.flight.callsign c (landings rest u) mine
+          (not_landing a.flight.callsign rest u h.0)))
       | inr other ↦ rw other at (e c)
     ] in
     rw (head, same_seconds rest t u h.1 (omega (arith, m)) (omega (arith, n)) tails) refl
 
 -- the landings that are shown tell the schedule
-pub landings_tell : (active : List Active) (t u : Schedule) → AreNamedApart active → length t ≡ length active → length u ≡ length active →
-    map shown_landing (in_landing_order (landings active t)) ≡ map shown_landing (in_landing_order (landings active u)) → t ≡ u
+pub landings_tell : (active : List Active) (t u : Schedule) → AreNamedApart active → length t ≡ length active
+    → length u ≡ length active →
+    map shown_landing (in_landing_order (landings active t)) ≡ map shown_landing (in_landing_order (landings active u))
+    → t ≡ u
 landings_tell active t u h m n e =
     same_seconds active t u h m n (λ c.
-    sym (in_order c (landings active t) (apart_landings active t h)) ∙ ap (second_of c) e ∙ in_order c (landings active u) (apart_landings active u h))
+    sym (in_order c (landings active t) (apart_landings active t h)) ∙ ap (second_of c) e
+    ∙ in_order c (landings active u) (apart_landings active u h))

@@ -1,6 +1,7 @@
 -- A sound situation and its plan can be told from what is printed: callsigns are names and differ, and the numbers are
 -- small.
-use Rattle.std.proofs.Common.{◌≡◌, ◌≢◌, ℕ, ◌<◌, List, [], ◌∷◌, true, false, Option, Some, None, length, refl, sym, arith}
+use Rattle.std.proofs.Common.{◌≡◌, ◌≢◌, ℕ, ◌<◌, List, [], ◌∷◌, true, false, Option, Some, None, length, refl, sym}
+use Rattle.std.proofs.Common.{arith}
 use Rattle.std.specs.Prelude.{◌&&◌, nat_le, option_map, All, AllPairs, bytes_eq}
 use Rattle.std.specs.List.{list_all}
 use Rattle.std.proofs.lemmas.Bool.{and_parts, false_from_ne_true}
@@ -39,7 +40,8 @@ named : (fs : List ShownLanding) → AreReadable fs → AreNamed fs
 named [] h = tt
 named (f ∷ fs) h = ((callsign_name f.callsign h.0, omega (arith, h.1)), named fs h.2)
 
-pub plan_showable : ShownPlanIsReadableLaw → (s : Situation) (p : Option Schedule) → IsSound s → IsPlanShown s p → IsShowable (option_map (shown_plan s) p)
+pub plan_showable : ShownPlanIsReadableLaw → (s : Situation) (p : Option Schedule) → IsSound s
+    → IsPlanShown s p → IsShowable (option_map (shown_plan s) p)
 plan_showable law s None h k = tt
 plan_showable law s (Some t) h k =
     let r = law (record { situation = s; plan = Some t }) (shown_plan s t) (record { situation = h; shown = k }) refl in
@@ -53,10 +55,14 @@ differs a b other = false_from_ne_true (bytes_eq b a) (λ same. other (sym ((byt
 abbrev Apart : Active → Active → Type 0
 Apart a b = a.flight.callsign ≢ b.flight.callsign
 
-not_named : (c : Callsign) (active : List Active) → All (λ (b : Active). c ≢ b.flight.callsign) active → NotNamed c active
+not_named : (c : Callsign) (active : List Active) → All (λ (b : Active). c ≢ b.flight.callsign) active
+    → NotNamed c active
 not_named c [] h = tt
-not_named c (a ∷ rest) h =
-    (differs c a.flight.callsign (All-head (λ (b : Active). c ≢ b.flight.callsign) a rest h), not_named c rest (All-tail (λ (b : Active). c ≢ b.flight.callsign) a rest h))
+not_named c (a ∷ rest) h = (
+  differs c a.flight.callsign (All-head (λ (b : Active). c ≢ b.flight.callsign) a rest h),
+  not_named c rest
+      (All-tail (λ (b : Active). c ≢ b.flight.callsign) a rest h),
+)
 
 pub named_apart : (active : List Active) → AllPairs Apart active → AreNamedApart active
 named_apart [] h = tt

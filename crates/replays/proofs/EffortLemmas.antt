@@ -1,5 +1,6 @@
 -- An effort goes on by one event, or stops there.
-use Rattle.std.proofs.Common.{◌≡◌, ℕ, ◌+◌, ◌*◌, ◌^◌, ◌<◌, ◌≤◌, List, [], ◌∷◌, ◌++◌, length, Err, inl, inr, refl, sym, ap, subst, ◌∙◌, arith, append_assoc, append-nil, length-append}
+use Rattle.std.proofs.Common.{◌≡◌, ℕ, ◌+◌, ◌*◌, ◌^◌, ◌<◌, ◌≤◌, List, [], ◌∷◌, ◌++◌, length, Err, inl, inr, refl, sym}
+use Rattle.std.proofs.Common.{ap, subst, ◌∙◌, arith, append_assoc, append-nil, length-append}
 use Rattle.std.specs.Prelude.{None, Some, Option, MatchOption, ⊤}
 use Rattle.cps_outside.specs.SinkState.{SinkState, GrowsByPart, CountsPuts}
 use Rattle.landing_rules.specs.Events.{State, Event, Refusal, Step, Answered, Run}
@@ -20,12 +21,14 @@ use Rattle.situations.specs.Answers.{refusal_of}
 use Rattle.situations.specs.declared.refusal.Refusal as refusals
 use Rattle.situations.specs.declared.refusal.Refusal.TheVariants as refusal
 use Rattle.replan.specs.Bound.{most_steps}
-use Rattle.replays.specs.Efforts.{Planned, TakesSteps, IsPlanned, Plannings, Effort, answers_of, steps_of, last_problem, begun_line, answer_line, answer_lines, total_line, planned_text}
+use Rattle.replays.specs.Efforts.{Planned, TakesSteps, IsPlanned, Plannings, Effort, answers_of, steps_of}
+use Rattle.replays.specs.Efforts.{last_problem, begun_line, answer_line, answer_lines, total_line, planned_text}
 use Rattle.replays.specs.Ends.{Plans, PlansWith, StepPlans, AllPlan, SomePlan, EventsPlan, EffortTells, EffortEnds}
 use Rattle.replays.proofs.Chains.{answers-push, planned-push, last_problem-push, steps-push, lines-push}
 
 -- what was done of the events, and what is left
-pub record Done (old : Standing AnyKept) (events : List Event) (from : SinkState) (i : ℕ) (now : Standing AnyKept) (rest : List Event) (to : SinkState) (total : ℕ) : Type 0 where
+pub record Done (old : Standing AnyKept) (events : List Event) (from : SinkState) (i : ℕ) (now : Standing AnyKept)
+    (rest : List Event) (to : SinkState) (total : ℕ) : Type 0 where
   pub done : List Event
   pub split : done ++ rest ≡ events
   pub plannings : Plannings old.problem old.state done
@@ -38,7 +41,8 @@ pub record Done (old : Standing AnyKept) (events : List Event) (from : SinkState
   pub few : total ≤ length done * most_steps
   pub written : Wrote (length done) from to (answer_lines 1 plannings.planned)
 
-pub begins : (old : Standing AnyKept) (events : List Event) (from : SinkState) → Holds old.planner old.problem → from.puts < 2 ^ 64 →
+pub begins : (old : Standing AnyKept) (events : List Event) (from : SinkState) → Holds old.planner old.problem
+    → from.puts < 2 ^ 64 →
     Done old events from 1 old events from 0
 begins old events from held fits = record {
   done = [];
@@ -56,14 +60,23 @@ begins old events from held fits = record {
 
 -- ---- one event more
 
-abbrev pub one_more : (new : Standing AnyKept) (i : ℕ) (e : Event) (now : Standing AnyKept) (steps : ℕ) (P : Bytes → Type 0) → PlansWith now new i e steps P → Planned
-one_more new i e now steps P a = record { answered = record { answer = a.answer; state = new.state }; problem = new.problem; steps = steps }
+abbrev pub one_more : (new : Standing AnyKept) (i : ℕ) (e : Event) (now : Standing AnyKept) (steps : ℕ) (P : Bytes
+    → Type 0) → PlansWith now new i e steps P → Planned
+one_more new i e now steps P a = record {
+  answered = record { answer = a.answer; state = new.state };
+  problem =
+      new.problem;
+  steps = steps;
+}
 
-pub longer : (old now new : Standing AnyKept) (events : List Event) (from to : SinkState) (i total : ℕ) (e : Event) (rest : List Event) (steps : ℕ) (P : Bytes → Type 0)
-    (d : Done old events from i now (e ∷ rest) to total) (a : PlansWith now new i e steps P) → Plannings old.problem old.state (d.done ++ e ∷ [])
+pub longer : (old now new : Standing AnyKept) (events : List Event) (from to : SinkState) (i total : ℕ)
+    (e : Event) (rest : List Event) (steps : ℕ) (P : Bytes → Type 0)
+    (d : Done old events from i now (e ∷ rest) to total) (a : PlansWith now new i e steps P)
+    → Plannings old.problem old.state (d.done ++ e ∷ [])
 longer old now new events from to i total e rest steps P d a =
     let one : Planned = one_more new i e now steps P a in
-    let step : Step (last_state old.state (answers_of d.plannings.planned)) e a.answer new.state = subst (λ (s : State). Step s e a.answer new.state) d.state a.plans.step in
+    let step : Step (last_state old.state (answers_of d.plannings.planned)) e a.answer new.state =
+    subst (λ (s : State). Step s e a.answer new.state) d.state a.plans.step in
     let is : IsPlanned (last_problem old.problem d.plannings.planned) one = record {
       problem_of = a.plans.problem_of;
       steps = subst (λ (q : Problem). TakesSteps q a.answer new.problem steps) d.problem a.plans.takes;
@@ -71,23 +84,29 @@ longer old now new events from to i total e rest steps P d a =
     } in
     record {
       planned = d.plannings.planned ++ one ∷ [];
-      run = subst (λ (all : List Answered). Run old.state (d.done ++ e ∷ []) all) (sym (answers-push d.plannings.planned one))
+      run = subst (λ (all : List Answered). Run old.state (d.done ++ e ∷ []) all)
+          (sym (answers-push d.plannings.planned one))
           (Run-push old.state d.done (answers_of d.plannings.planned) e one.answered d.plannings.run step);
       steps = planned-push old.problem d.plannings.planned one d.plannings.steps is;
     }
 
 lines_longer : (i : ℕ) (planned : List Planned) (a : Planned) → i ≡ 1 + length planned →
     answer_lines 1 planned ++ answer_line i a.answered.answer a.steps ≡ answer_lines 1 (planned ++ a ∷ [])
-lines_longer i planned a e = ap (λ (n : ℕ). answer_lines 1 planned ++ answer_line n a.answered.answer a.steps) e ∙ sym (lines-push 1 planned a)
+lines_longer i planned a e = ap (λ (n : ℕ). answer_lines 1 planned ++ answer_line n a.answered.answer a.steps) e
+    ∙ sym (lines-push 1 planned a)
 
-pub goes_on : (old now new : Standing AnyKept) (events : List Event) (from to to2 : SinkState) (i total : ℕ) (e : Event) (rest : List Event) (steps : ℕ) →
-    Done old events from i now (e ∷ rest) to total → PlansWith now new i e steps (Wrote 1 to to2) → Done old events from (i + 1) new rest to2 (total + steps)
+pub goes_on : (old now new : Standing AnyKept) (events : List Event) (from to to2 : SinkState)
+    (i total : ℕ) (e : Event) (rest : List Event) (steps : ℕ) →
+    Done old events from i now (e ∷ rest) to total → PlansWith now new i e steps (Wrote 1 to to2)
+    → Done old events from (i + 1) new rest to2 (total + steps)
 unfolding longer
 goes_on old now new events from to to2 i total e rest steps d a =
     let one : Planned = one_more new i e now steps (Wrote 1 to to2) a in
     let done_more : length (d.done ++ e ∷ []) ≡ length d.done + 1 = length-append d.done (e ∷ []) in
-    let planned_more : length (d.plannings.planned ++ one ∷ []) ≡ length d.plannings.planned + 1 = length-append d.plannings.planned (one ∷ []) in
-    let sum_more : steps_of (d.plannings.planned ++ one ∷ []) ≡ steps_of d.plannings.planned + steps = steps-push d.plannings.planned one in
+    let planned_more : length (d.plannings.planned ++ one ∷ []) ≡ length d.plannings.planned + 1 =
+    length-append d.plannings.planned (one ∷ []) in
+    let sum_more : steps_of (d.plannings.planned ++ one ∷ []) ≡ steps_of d.plannings.planned + steps =
+    steps-push d.plannings.planned one in
     let so_far = d.few in
     let few = a.plans.few in
     let number = d.number in
@@ -97,7 +116,8 @@ goes_on old now new events from to to2 i total e rest steps d a =
       done = d.done ++ e ∷ [];
       split = append_assoc d.done (e ∷ []) rest ∙ d.split;
       plannings = longer old now new events from to i total e rest steps (Wrote 1 to to2) d a;
-      state = sym (ap (last_state old.state) (answers-push d.plannings.planned one) ∙ last_state-push old.state (answers_of d.plannings.planned) one.answered);
+      state = sym (ap (last_state old.state) (answers-push d.plannings.planned one)
+          ∙ last_state-push old.state (answers_of d.plannings.planned) one.answered);
       problem = sym (last_problem-push old.problem d.plannings.planned one);
       held = a.plans.held;
       number = omega (arith, number, planned_more);
@@ -106,10 +126,12 @@ goes_on old now new events from to to2 i total e rest steps d a =
       few = rw done_more (omega (arith, so_far, few));
       written = subst (λ (n : ℕ). Wrote n from to2 (answer_lines 1 (d.plannings.planned ++ one ∷ []))) (sym done_more)
           (subst (λ (t : Bytes). Wrote (length d.done + 1) from to2 t) (lines_longer i d.plannings.planned one d.number)
-          (wrote_after (length d.done) 1 from to to2 (answer_lines 1 d.plannings.planned) (answer_line i a.answer steps) d.written a.written));
+          (wrote_after (length d.done) 1 from to to2 (answer_lines 1 d.plannings.planned)
+          (answer_line i a.answer steps) d.written a.written));
     }
 
-stops_unwritten : (old now new : Standing AnyKept) (events : List Event) (from to to2 : SinkState) (i total : ℕ) (e : Event) (rest : List Event) (steps : ℕ) →
+stops_unwritten : (old now new : Standing AnyKept) (events : List Event) (from to to2 : SinkState)
+    (i total : ℕ) (e : Event) (rest : List Event) (steps : ℕ) →
     Done old events from i now (e ∷ rest) to total → PlansWith now new i e steps (WrotePart 1 to to2) →
     SomePlan old events (λ puts. WrotePart puts from to2)
 unfolding longer
@@ -120,20 +142,29 @@ stops_unwritten old now new events from to to2 i total e rest steps d a =
       rest = rest;
       split = append_assoc d.done (e ∷ []) rest ∙ d.split;
       plannings = longer old now new events from to i total e rest steps (WrotePart 1 to to2) d a;
-      written = subst (λ (n : ℕ). WrotePart n from to2 (answer_lines 1 (d.plannings.planned ++ one ∷ []))) (sym (length-append d.done (e ∷ [])))
-          (subst (λ (t : Bytes). WrotePart (length d.done + 1) from to2 t) (lines_longer i d.plannings.planned one d.number)
-          (part_after (length d.done) 1 from to to2 (answer_lines 1 d.plannings.planned) (answer_line i a.answer steps) d.written a.written));
+      written = subst (λ (n : ℕ). WrotePart n from to2 (answer_lines 1 (d.plannings.planned ++ one ∷ [])))
+          (sym (length-append d.done (e ∷ [])))
+          (subst (λ (t : Bytes). WrotePart (length d.done + 1) from to2 t)
+          (lines_longer i d.plannings.planned one d.number)
+          (part_after (length d.done) 1 from to to2 (answer_lines 1 d.plannings.planned)
+          (answer_line i a.answer steps) d.written a.written));
     }
 
-stops_short : (old now : Standing AnyKept) (events : List Event) (from to : SinkState) (i total : ℕ) (rest : List Event) →
+stops_short : (old now : Standing AnyKept) (events : List Event) (from to : SinkState) (i total : ℕ) (rest : List Event)
+    →
     Done old events from i now rest to total → SomePlan old events (λ puts. Wrote puts from to)
-stops_short old now events from to i total rest d = record { done = d.done; rest = rest; split = d.split; plannings = d.plannings; written = d.written }
+stops_short old now events from to i total rest d =
+    record { done = d.done; rest = rest; split = d.split; plannings = d.plannings; written = d.written }
 
-pub stops : (s : Stop) (old now new : Standing AnyKept) (events : List Event) (from to to2 : SinkState) (i total : ℕ) (e : Event) (rest : List Event) →
-    Done old events from i now (e ∷ rest) to total → StepPlans now new i e to to2 (Err s) → EventsPlan old new events from to2 (Err s)
-stops stop.NotWritten old now new events from to to2 i total e rest d a = stops_unwritten old now new events from to to2 i total e rest a.0 d a.1
+pub stops : (s : Stop) (old now new : Standing AnyKept) (events : List Event) (from to to2 : SinkState)
+    (i total : ℕ) (e : Event) (rest : List Event) →
+    Done old events from i now (e ∷ rest) to total → StepPlans now new i e to to2 (Err s)
+    → EventsPlan old new events from to2 (Err s)
+stops stop.NotWritten old now new events from to to2 i total e rest d a =
+    stops_unwritten old now new events from to to2 i total e rest a.0 d a.1
 stops stop.NoMemory old now new events from to to2 i total e rest d a =
-    subst (λ (x : SinkState). SomePlan old events (λ puts. Wrote puts from x)) (sym a) (stops_short old now events from to i total (e ∷ rest) d)
+    subst (λ (x : SinkState). SomePlan old events (λ puts. Wrote puts from x)) (sym a)
+    (stops_short old now events from to i total (e ∷ rest) d)
 
 pub ends : (old now : Standing AnyKept) (events : List Event) (from to : SinkState) (i total : ℕ) →
     Done old events from i now [] to total → AllPlan old now events total (Wrote (length events) from to)
@@ -148,15 +179,18 @@ ends old now events from to i total d =
       last = d.state;
       total_is = d.total_is;
       few = subst (λ (es : List Event). total ≤ length es * most_steps) all d.few;
-      written = subst (λ (es : List Event). Wrote (length es) from to (answer_lines 1 d.plannings.planned)) all d.written;
+      written = subst (λ (es : List Event). Wrote (length es) from to (answer_lines 1 d.plannings.planned))
+          all d.written;
     }
 
 -- ---- a refused event
 
-refused_by : (o : Option Refusal) (old new : Standing AnyKept) (i : ℕ) (e : Event) (P : Bytes → Type 0) → (o ≡ None → ⊥) →
+refused_by : (o : Option Refusal) (old new : Standing AnyKept) (i : ℕ) (e : Event) (P : Bytes → Type 0)
+    → (o ≡ None → ⊥) →
     MatchOption o ⊤ (λ answer. Plans old new e (Some answer) 0) → P (refused_text i o) → PlansWith old new i e 0 P
 refused_by None old new i e P never plans written = absurd (never refl)
-refused_by (Some answer) old new i e P never plans written = record { answer = Some answer; plans = plans; written = written }
+refused_by (Some answer) old new i e P never plans written =
+    record { answer = Some answer; plans = plans; written = written }
 
 none_is_memory : (fault : refusals.Refusal) → refusal_of fault ≡ None → fault ≡ refusal.Memory
 none_is_memory (refusal.UnknownFlight c) e = cc
@@ -172,52 +206,75 @@ none_is_memory (refusal.ClockBack second) e = cc
 none_is_memory refusal.Memory e = refl
 
 -- what was written of the line of a refused event
-pub refused_step : (fault : refusals.Refusal) (old new : Standing AnyKept) (i : ℕ) (e : Event) (P : Bytes → Type 0) (text : Bytes) → (fault ≡ refusal.Memory → ⊥) →
-    MatchOption (refusal_of fault) ⊤ (λ answer. Plans old new e (Some answer) 0) → text ≡ refused_text i (refusal_of fault) → P text → PlansWith old new i e 0 P
+pub refused_step : (fault : refusals.Refusal) (old new : Standing AnyKept) (i : ℕ) (e : Event) (P : Bytes
+    → Type 0) (text : Bytes) → (fault ≡ refusal.Memory → ⊥) →
+    MatchOption (refusal_of fault) ⊤ (λ answer. Plans old new e (Some answer) 0)
+    → text ≡ refused_text i (refusal_of fault) → P text → PlansWith old new i e 0 P
 refused_step fault old new i e P text never plans is written =
     refused_by (refusal_of fault) old new i e P (λ none. never (none_is_memory fault none)) plans (subst P is written)
 
 -- ---- with the opening's line before, and the total's behind
 
-abbrev pub effort_of : (old : Standing AnyKept) (events : List Event) (opening : ℕ) → IsProblemOf old.state.situation old.problem → IsDue None old.problem opening →
+abbrev pub effort_of : (old : Standing AnyKept) (events : List Event) (opening : ℕ)
+    → IsProblemOf old.state.situation old.problem → IsDue None old.problem opening →
     opening ≤ most_steps → Plannings old.problem old.state events → Effort old.state events
 effort_of old events opening of opened few plannings =
-    record { problem = old.problem; problem_of = of; opening = opening; opened = opened; few = few; plannings = plannings }
+    record {
+      problem = old.problem;
+      problem_of = of;
+      opening = opening;
+      opened = opened;
+      few =
+          few;
+      plannings = plannings;
+    }
 
 abbrev pub no_plannings : (old : Standing AnyKept) → Plannings old.problem old.state []
 no_plannings old = record { planned = []; run = tt; steps = tt }
 
 -- a first part of a text is a part of it
-part_of_more : (puts : ℕ) (from to : SinkState) (x y : Bytes) → WrotePart puts from to x → WrotePart puts from to (x ++ y)
+part_of_more : (puts : ℕ) (from to : SinkState) (x y : Bytes) → WrotePart puts from to x
+    → WrotePart puts from to (x ++ y)
 part_of_more puts from to x y w = record {
   tells = w.tells;
-  part = λ told. let p = w.part told in (p.0, p.1 ++ y, sym (append_assoc p.0 p.1 y) ∙ ap (λ (t : Bytes). t ++ y) p.2, p.3);
+  part = λ told. let p = w.part told in
+      (p.0, p.1 ++ y, sym (append_assoc p.0 p.1 y) ∙ ap (λ (t : Bytes). t ++ y) p.2, p.3);
   failed = w.failed;
   lacked = λ sure. let short : from.room < length x = w.lacked sure in omega (arith, short, length-append x y);
   counted = w.counted;
 }
 
-whole_of_more : (puts : ℕ) (from to : SinkState) (x y : Bytes) → Wrote puts from to x → GrowsByPart from to (x ++ y) × CountsPuts puts from to
+whole_of_more : (puts : ℕ) (from to : SinkState) (x y : Bytes) → Wrote puts from to x
+    → GrowsByPart from to (x ++ y) × CountsPuts puts from to
 whole_of_more puts from to x y w = ((λ told. (x, y, refl, w.grew told)), w.counted)
 
 two_more : (n : ℕ) → (1 + n) + 1 ≡ 2 + n
 two_more n = omega arith
 
-module _ (old : Standing AnyKept) (events : List Event) (opening : ℕ) (of : IsProblemOf old.state.situation old.problem) (opened : IsDue None old.problem opening)
+module _ (old : Standing AnyKept) (events : List Event) (opening : ℕ) (of : IsProblemOf old.state.situation old.problem)
+    (opened : IsDue None old.problem opening)
     (few : opening ≤ most_steps) where
   -- the opening's line was not written whole
-  pub stops_at_once : (s : Stop) (new : Standing AnyKept) (from to : SinkState) → PutsText (begun_line opening) from to (Err s) → EffortEnds old.state new.state events from to (Err s)
+  pub stops_at_once : (s : Stop) (new : Standing AnyKept) (from to : SinkState)
+      → PutsText (begun_line opening) from to (Err s) → EffortEnds old.state new.state events from to (Err s)
   stops_at_once stop.NotWritten new from to w = record {
     done = [];
     rest = events;
     split = refl;
     effort = effort_of old [] opening of opened few (no_plannings old);
-    written = (1, (omega arith), (omega arith), part_of_more 1 from to (begun_line opening ++ []) (total_line (opening + 0)) (part_of_more 1 from to (begun_line opening) [] w));
+    written = (
+      1,
+      (omega arith),
+      (omega arith),
+      part_of_more 1 from to (begun_line opening ++ [])
+          (total_line (opening + 0)) (part_of_more 1 from to (begun_line opening) [] w),
+    );
   }
   stops_at_once stop.NoMemory new from to w = inl w
 
   -- it was, and an event's line was not
-  pub stops_after : (s : Stop) (new : Standing AnyKept) (from mid to : SinkState) → Wrote 1 from mid (begun_line opening) → EventsPlan old new events mid to (Err s) →
+  pub stops_after : (s : Stop) (new : Standing AnyKept) (from mid to : SinkState)
+      → Wrote 1 from mid (begun_line opening) → EventsPlan old new events mid to (Err s) →
       EffortEnds old.state new.state events from to (Err s)
   stops_after stop.NotWritten new from mid to w some = record {
     done = some.done;
@@ -228,8 +285,10 @@ module _ (old : Standing AnyKept) (events : List Event) (opening : ℕ) (of : Is
       1 + length some.done,
       (omega arith),
       (omega arith),
-      part_of_more (1 + length some.done) from to (begun_line opening ++ answer_lines 1 some.plannings.planned) (total_line (opening + steps_of some.plannings.planned))
-          (part_after 1 (length some.done) from mid to (begun_line opening) (answer_lines 1 some.plannings.planned) w some.written),
+      part_of_more (1 + length some.done) from to (begun_line opening ++ answer_lines 1 some.plannings.planned)
+          (total_line (opening + steps_of some.plannings.planned))
+          (part_after 1 (length some.done) from mid to (begun_line opening)
+          (answer_lines 1 some.plannings.planned) w some.written),
     );
   }
   stops_after stop.NoMemory new from mid to w some = inr (record {
@@ -237,16 +296,22 @@ module _ (old : Standing AnyKept) (events : List Event) (opening : ℕ) (of : Is
     rest = some.rest;
     split = some.split;
     effort = effort_of old some.done opening of opened few some.plannings;
-    written = whole_of_more (1 + length some.done) from to (begun_line opening ++ answer_lines 1 some.plannings.planned) (total_line (opening + steps_of some.plannings.planned))
-        (wrote_after 1 (length some.done) from mid to (begun_line opening) (answer_lines 1 some.plannings.planned) w some.written);
+    written = whole_of_more (1 + length some.done) from to (begun_line opening ++ answer_lines 1 some.plannings.planned)
+        (total_line (opening + steps_of some.plannings.planned))
+        (wrote_after 1 (length some.done) from mid to (begun_line opening)
+        (answer_lines 1 some.plannings.planned) w some.written);
   })
 
   -- and the last line was not
-  pub stops_last : (s : Stop) (new : Standing AnyKept) (total : ℕ) (from mid late to : SinkState) → Wrote 1 from mid (begun_line opening) →
-      AllPlan old new events total (Wrote (length events) mid late) → PutsText (total_line (opening + total)) late to (Err s) → EffortEnds old.state new.state events from to (Err s)
+  pub stops_last : (s : Stop) (new : Standing AnyKept) (total : ℕ) (from mid late to : SinkState)
+      → Wrote 1 from mid (begun_line opening) →
+      AllPlan old new events total (Wrote (length events) mid late)
+      → PutsText (total_line (opening + total)) late to (Err s)
+      → EffortEnds old.state new.state events from to (Err s)
   stops_last stop.NotWritten new total from mid late to w all last =
       let planned = all.plannings.planned in
-      let told : WrotePart 1 late to (total_line (opening + steps_of planned)) = subst (λ (n : ℕ). WrotePart 1 late to (total_line (opening + n))) all.total_is last in
+      let told : WrotePart 1 late to (total_line (opening + steps_of planned)) =
+      subst (λ (n : ℕ). WrotePart 1 late to (total_line (opening + n))) all.total_is last in
       record {
         done = events;
         rest = [];
@@ -256,8 +321,10 @@ module _ (old : Standing AnyKept) (events : List Event) (opening : ℕ) (of : Is
           (1 + length events) + 1,
           (omega arith),
           (omega arith),
-          part_after (1 + length events) 1 from late to (begun_line opening ++ answer_lines 1 planned) (total_line (opening + steps_of planned))
-              (wrote_after 1 (length events) from mid late (begun_line opening) (answer_lines 1 planned) w all.written) told,
+          part_after (1 + length events) 1 from late to (begun_line opening ++ answer_lines 1 planned)
+              (total_line (opening + steps_of planned))
+              (wrote_after 1 (length events) from mid late (begun_line opening) (answer_lines 1 planned) w all.written)
+              told,
         );
       }
   stops_last stop.NoMemory new total from mid late to w all last =
@@ -267,22 +334,29 @@ module _ (old : Standing AnyKept) (events : List Event) (opening : ℕ) (of : Is
         rest = [];
         split = append-nil events;
         effort = effort_of old events opening of opened few all.plannings;
-        written = subst (λ (x : SinkState). GrowsByPart from x (planned_text opening planned) × CountsPuts (1 + length events) from x) (sym last)
-            (whole_of_more (1 + length events) from late (begun_line opening ++ answer_lines 1 planned) (total_line (opening + steps_of planned))
+        written = subst (λ (x : SinkState). GrowsByPart from x (planned_text opening planned)
+            × CountsPuts (1 + length events) from x) (sym last)
+            (whole_of_more (1 + length events) from late (begun_line opening ++ answer_lines 1 planned)
+            (total_line (opening + steps_of planned))
             (wrote_after 1 (length events) from mid late (begun_line opening) (answer_lines 1 planned) w all.written));
       })
 
   -- all was written
-  pub ends_whole : (new : Standing AnyKept) (total : ℕ) (from mid late to : SinkState) → Wrote 1 from mid (begun_line opening) →
+  pub ends_whole : (new : Standing AnyKept) (total : ℕ) (from mid late to : SinkState)
+      → Wrote 1 from mid (begun_line opening) →
       AllPlan old new events total (Wrote (length events) mid late) →
-      Wrote 1 late to (total_line (opening + total)) → EffortTells old.state events new.state (Wrote (2 + length events) from to)
+      Wrote 1 late to (total_line (opening + total))
+      → EffortTells old.state events new.state (Wrote (2 + length events) from to)
   ends_whole new total from mid late to w all last =
       let planned = all.plannings.planned in
-      let told : Wrote 1 late to (total_line (opening + steps_of planned)) = subst (λ (n : ℕ). Wrote 1 late to (total_line (opening + n))) all.total_is last in
+      let told : Wrote 1 late to (total_line (opening + steps_of planned)) =
+      subst (λ (n : ℕ). Wrote 1 late to (total_line (opening + n))) all.total_is last in
       record {
         effort = effort_of old events opening of opened few all.plannings;
         last = all.last;
         written = subst (λ (n : ℕ). Wrote n from to (planned_text opening planned)) (two_more (length events))
-            (wrote_after (1 + length events) 1 from late to (begun_line opening ++ answer_lines 1 planned) (total_line (opening + steps_of planned))
-            (wrote_after 1 (length events) from mid late (begun_line opening) (answer_lines 1 planned) w all.written) told);
+            (wrote_after (1 + length events) 1 from late to (begun_line opening ++ answer_lines 1 planned)
+            (total_line (opening + steps_of planned))
+            (wrote_after 1 (length events) from mid late (begun_line opening) (answer_lines 1 planned) w all.written)
+            told);
       }

@@ -1,10 +1,12 @@
 -- The steps of the plannings of a run are one list, whichever problems of its situations were planned.
-use Rattle.std.proofs.Common.{◌≡◌, ℕ, ◌+◌, List, [], ◌∷◌, ◌++◌, Option, None, Some, refl, sym, ap, ap₂, subst, ◌∙◌, arith}
+use Rattle.std.proofs.Common.{◌≡◌, ℕ, ◌+◌, List, [], ◌∷◌, ◌++◌, Option, None, Some, refl, sym, ap, ap₂, subst, ◌∙◌}
+use Rattle.std.proofs.Common.{arith}
 use Rattle.std.proofs.lemmas.List.Sums.{sum_by-cons}
 use Rattle.landing_rules.specs.Events.{Answered, Refusal}
 use Rattle.landing_rules.specs.Flights.{Situation}
 use Rattle.landing_rules.specs.Problem.{Problem, IsProblemOf}
-use Rattle.replays.specs.Efforts.{ArePlanned, IsPlanned, Planned, TakesSteps, answer_line, answer_lines, answers_of, begun_line, steps_of, total_line}
+use Rattle.replays.specs.Efforts.{ArePlanned, IsPlanned, Planned, TakesSteps, answer_line, answer_lines, answers_of}
+use Rattle.replays.specs.Efforts.{begun_line, steps_of, total_line}
 use Rattle.replays.specs.OneText.{StepsAreOneLaw}
 use Rattle.replays.specs.shared.OneSteps.{one_begun, one_step}
 
@@ -35,8 +37,10 @@ one_planned s held other h i x y a b e =
     x.answered.answer x.steps y.steps a.steps taken
 
 -- the steps of all, and their lines
-one_lines : (s : Situation) (held other : Problem) → IsProblemOf s held → IsProblemOf s other → (n : ℕ) (xs ys : List Planned)
-    → ArePlanned held xs → ArePlanned other ys → answers_of xs ≡ answers_of ys → (answer_lines n xs ≡ answer_lines n ys) × (steps_of xs ≡ steps_of ys)
+one_lines : (s : Situation) (held other : Problem) → IsProblemOf s held → IsProblemOf s other
+    → (n : ℕ) (xs ys : List Planned)
+    → ArePlanned held xs → ArePlanned other ys → answers_of xs ≡ answers_of ys → (answer_lines n xs ≡ answer_lines n ys)
+    × (steps_of xs ≡ steps_of ys)
 one_lines s held other h i n [] [] a b e = (refl, refl)
 one_lines s held other h i n [] (y ∷ ys) a b e = absurd (no_answer _ _ e)
 one_lines s held other h i n (x ∷ xs) [] a b e = absurd (no_answer _ _ (sym e))

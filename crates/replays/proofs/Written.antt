@@ -1,12 +1,14 @@
 -- What was written goes on by a text, whole or in part.
-use Rattle.std.proofs.Common.{ℕ, ◌+◌, ◌-◌, ◌^◌, ◌<◌, ◌≤◌, [], ◌++◌, length, refl, ap, sym, ◌∙◌, arith, append_assoc, length-append}
+use Rattle.std.proofs.Common.{ℕ, ◌+◌, ◌-◌, ◌^◌, ◌<◌, ◌≤◌, [], ◌++◌, length, refl, ap, sym, ◌∙◌, arith, append_assoc}
+use Rattle.std.proofs.Common.{length-append}
 use Rattle.std.proofs.lemmas.List.{append-nil}
 use Rattle.cps_outside.specs.SinkState.{SinkState, CountsPuts}
 use Rattle.landing_rules.specs.Text.{Bytes}
 use Rattle.replays.specs.Written.{Wrote, WrotePart}
 
 -- the puts of both
-counted_both : (m n : ℕ) (old mid new : SinkState) → CountsPuts m old mid → CountsPuts n mid new → CountsPuts (m + n) old new
+counted_both : (m n : ℕ) (old mid new : SinkState) → CountsPuts m old mid → CountsPuts n mid new
+    → CountsPuts (m + n) old new
 counted_both m n old mid new a b = omega (arith, a, b)
 
 -- no put is counted of a count that its type can hold
@@ -20,7 +22,8 @@ wrote_nothing old fits = record {
   counted = omega (arith, fits);
 }
 
-pub wrote_after : (m n : ℕ) (old mid new : SinkState) (x y : Bytes) → Wrote m old mid x → Wrote n mid new y → Wrote (m + n) old new (x ++ y)
+pub wrote_after : (m n : ℕ) (old mid new : SinkState) (x y : Bytes) → Wrote m old mid x → Wrote n mid new y
+    → Wrote (m + n) old new (x ++ y)
 wrote_after m n old mid new x y a b = record {
   tells = b.tells ∙ a.tells;
   sure = b.sure ∙ a.sure;
@@ -33,7 +36,8 @@ wrote_after m n old mid new x y a b = record {
   counted = counted_both m n old mid new a.counted b.counted;
 }
 
-pub part_after : (m n : ℕ) (old mid new : SinkState) (x y : Bytes) → Wrote m old mid x → WrotePart n mid new y → WrotePart (m + n) old new (x ++ y)
+pub part_after : (m n : ℕ) (old mid new : SinkState) (x y : Bytes) → Wrote m old mid x → WrotePart n mid new y
+    → WrotePart (m + n) old new (x ++ y)
 part_after m n old mid new x y a b = record {
   tells = b.tells ∙ a.tells;
   part = λ told. let p = b.part (a.tells ∙ told) in (

@@ -25,7 +25,8 @@ abbrev pub last_problem : Problem → List Planned → Problem
 last_problem held [] = held
 last_problem held (a ∷ rest) = last_problem a.problem rest
 
--- after an accepted event what is due for the problem then, where that before the event is held; a refused one plans nothing
+-- after an accepted event what is due for the problem then, where that before the event is held; a refused one plans
+-- nothing
 abbrev pub TakesSteps : Problem → Option Refusal → Problem → ℕ → Type 0
 TakesSteps held None problem steps = IsDue (Some held) problem steps
 TakesSteps held (Some refusal) problem steps = (problem ≡ held) × (steps ≡ 0)

@@ -12,7 +12,8 @@ use Rattle.replays.specs.declared.stops.Stop.{Stop}
 use Rattle.replays.specs.declared.stops.Stop.TheVariants as stop
 use Rattle.sequencer.specs.Standing.{Standing}
 use Rattle.replan.specs.Bound.{most_steps}
-use Rattle.replays.specs.Efforts.{TakesSteps, Plannings, Effort, answers_of, steps_of, answer_line, answer_lines, effort_text}
+use Rattle.replays.specs.Efforts.{TakesSteps, Plannings, Effort, answers_of, steps_of, answer_line, answer_lines}
+use Rattle.replays.specs.Efforts.{effort_text}
 
 -- one event: its step by the rules, and its planning
 pub record Plans (old new : Standing AnyKept) (e : Event) (answer : Option Refusal) (steps : ℕ) : Type 0 where
@@ -51,7 +52,8 @@ pub record SomePlan (old : Standing AnyKept) (events : List Event) (P : ℕ → 
   pub written : P (length done) (answer_lines 1 plannings.planned)
 
 -- each line is one put
-abbrev pub EventsPlan : Standing AnyKept → Standing AnyKept → List Event → SinkState → SinkState → Result ℕ Stop → Type 0
+abbrev pub EventsPlan : Standing AnyKept → Standing AnyKept → List Event → SinkState → SinkState
+    → Result ℕ Stop → Type 0
 EventsPlan old new events from to (Ok total) = AllPlan old new events total (Wrote (length events) from to)
 EventsPlan old new events from to (Err stop.NotWritten) = SomePlan old events (λ puts. WrotePart puts from to)
 EventsPlan old new events from to (Err stop.NoMemory) = SomePlan old events (λ puts. Wrote puts from to)
@@ -72,10 +74,11 @@ pub record EffortPartTells (old : State) (events : List Event) (P : ℕ → Byte
   pub effort : Effort old done
   pub written : P (length done) (effort_text effort)
 
--- The opening's line, that of each event and the last are one put each. At the end a plan is shown or none, in the state to which the
--- run led. Where it stops, nothing was written or a part of the text of a run over the first events.
+-- The opening's line, that of each event and the last are one put each. At the end a plan is shown or none, in the
+-- state to which the run led. Where it stops, nothing was written or a part of the text of a run over the first events.
 abbrev pub EffortEnds : State → State → List Event → SinkState → SinkState → Result Bool Stop → Type 0
-EffortEnds old new events from to (Ok planned) = (planned ≡ is_some new.plan) × EffortTells old events new (Wrote (2 + length events) from to)
+EffortEnds old new events from to (Ok planned) =
+    (planned ≡ is_some new.plan) × EffortTells old events new (Wrote (2 + length events) from to)
 EffortEnds old new events from to (Err stop.NotWritten) = EffortPartTells old events
     (λ n text. (puts : ℕ) × (1 ≤ puts) × (puts ≤ 2 + n) × WrotePart puts from to text)
 EffortEnds old new events from to (Err stop.NoMemory) = (to ≡ from) ⊎ EffortPartTells old events

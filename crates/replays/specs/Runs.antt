@@ -1,5 +1,6 @@
 -- What a replay writes, by runs of the rules.
-use Rattle.std.specs.Prelude.{◌≡◌, ◌⊎◌, ℕ, ◌+◌, List, [], ◌∷◌, ◌++◌, length, Bool, Some, None, is_some, MatchOption, Result, Ok, Err}
+use Rattle.std.specs.Prelude.{◌≡◌, ◌⊎◌, ℕ, ◌+◌, List, [], ◌∷◌, ◌++◌, length, Bool, Some, None, is_some, MatchOption}
+use Rattle.std.specs.Prelude.{Result, Ok, Err}
 use Rattle.cps_outside.specs.SinkState.{SinkState}
 use Rattle.landing_rules.specs.Events.{State, Event, Answered, Run}
 use Rattle.landing_rules.specs.Text.{answer_text, answers_text, replay_text}
@@ -14,8 +15,8 @@ abbrev pub last_state : State → List Answered → State
 last_state state [] = state
 last_state state (a ∷ rest) = last_state a.state rest
 
--- What is put of event i, by what came of it and the state behind it: that it was accepted and the plan, or its refusal. Where
--- memory ran out it is not answered.
+-- What is put of event i, by what came of it and the state behind it: that it was accepted and the plan, or its
+-- refusal. Where memory ran out it is not answered.
 abbrev pub PutsAnswer : State → ℕ → Result (Unit {0}) Refusal → SinkState → SinkState → Result (Unit {0}) Stop → Type 0
 PutsAnswer state i (Ok u) from to result = PutsText (answer_text i None state) from to result
 PutsAnswer state i (Err refusal) from to result = MatchOption (refusal_of refusal)
@@ -40,15 +41,21 @@ pub record PartTells (old : State) (events : List Event) (P : List Answered → 
 
 -- the answers of these events, each in one put
 abbrev pub EventsWrite : State → State → List Event → SinkState → SinkState → Result (Unit {0}) Stop → Type 0
-EventsWrite old new events from to (Ok u) = RunTells old events new (λ answers. Wrote (length answers) from to (answers_text 1 answers))
-EventsWrite old new events from to (Err stop.NotWritten) = PartTells old events (λ answers. WrotePart (length answers) from to (answers_text 1 answers))
-EventsWrite old new events from to (Err stop.NoMemory) = PartTells old events (λ answers. Wrote (length answers) from to (answers_text 1 answers))
+EventsWrite old new events from to (Ok u) =
+    RunTells old events new (λ answers. Wrote (length answers) from to (answers_text 1 answers))
+EventsWrite old new events from to (Err stop.NotWritten) =
+    PartTells old events (λ answers. WrotePart (length answers) from to (answers_text 1 answers))
+EventsWrite old new events from to (Err stop.NoMemory) =
+    PartTells old events (λ answers. Wrote (length answers) from to (answers_text 1 answers))
 
--- The whole replay: a put of the opening plan, and one of each answer. At its end a plan is shown or none, in the state to which
--- the run led. Where it stops, a part of the text of a run over the first events was written, or for want of memory nothing or
--- the whole of such a text.
+-- The whole replay: a put of the opening plan, and one of each answer. At its end a plan is shown or none, in the state
+-- to which the run led. Where it stops, a part of the text of a run over the first events was written, or for want of
+-- memory nothing or the whole of such a text.
 abbrev pub ReplayEnds : State → State → List Event → SinkState → SinkState → Result Bool Stop → Type 0
 ReplayEnds old new events from to (Ok planned) =
-    (planned ≡ is_some new.plan) × RunTells old events new (λ answers. Wrote (1 + length answers) from to (replay_text old answers))
-ReplayEnds old new events from to (Err stop.NotWritten) = PartTells old events (λ answers. WrotePart (1 + length answers) from to (replay_text old answers))
-ReplayEnds old new events from to (Err stop.NoMemory) = (to ≡ from) ⊎ PartTells old events (λ answers. Wrote (1 + length answers) from to (replay_text old answers))
+    (planned ≡ is_some new.plan)
+    × RunTells old events new (λ answers. Wrote (1 + length answers) from to (replay_text old answers))
+ReplayEnds old new events from to (Err stop.NotWritten) =
+    PartTells old events (λ answers. WrotePart (1 + length answers) from to (replay_text old answers))
+ReplayEnds old new events from to (Err stop.NoMemory) =
+    (to ≡ from) ⊎ PartTells old events (λ answers. Wrote (1 + length answers) from to (replay_text old answers))

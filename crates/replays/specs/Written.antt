@@ -15,7 +15,8 @@ pub record Wrote (puts : ℕ) (old new : SinkState) (text : Bytes) : Type 0 wher
   pub left : LeavesRoom old new text
   pub counted : CountsPuts puts old new
 
--- a part of a text was written, and the last of so many puts failed; where the sink is sure there was no room for the text
+-- a part of a text was written, and the last of so many puts failed; where the sink is sure there was no room for the
+-- text
 pub record WrotePart (puts : ℕ) (old new : SinkState) (text : Bytes) : Type 0 where
   pub tells : new.tells ≡ old.tells
   pub part : GrowsByPart old new text

@@ -1,26 +1,34 @@
--- The frozen landings stand first in landing order, the waiting ones behind them; and what an event freezes, it freezes where the plan shown lands it.
-use Rattle.std.proofs.Common.{◌≡◌, ℕ, zero, suc, ◌+◌, ◌<◌, ◌≤◌, Bool, true, false, cond, not, List, [], ◌∷◌, ◌++◌, length, get_or, map, filter, take, Option, Some, None, inl, inr, ◌⊎◌, refl, sym, ap, ap₂, subst, ◌∙◌, arith}
+-- The frozen landings stand first in landing order, the waiting ones behind them; and what an event freezes, it freezes
+-- where the plan shown lands it.
+use Rattle.std.proofs.Common.{◌≡◌, ℕ, zero, suc, ◌+◌, ◌<◌, ◌≤◌, Bool, true, false, cond, not, List, [], ◌∷◌, ◌++◌}
+use Rattle.std.proofs.Common.{length, get_or, map, filter, take, Option, Some, None, inl, inr, ◌⊎◌, refl, sym, ap, ap₂}
+use Rattle.std.proofs.Common.{subst, ◌∙◌, arith}
 use Rattle.std.specs.Prelude.{All, MatchOption, find, option_map, is_none, nat_lt, slice_get, unwrap_or}
 use Rattle.std.specs.List.{cons_option}
 use Rattle.std.specs.List.Sorted.{IsPermutation}
 use Rattle.std.proofs.lemmas.Bool.{cases_Bool, cases_order, false≢true}
 use Rattle.std.proofs.lemmas.List.{append-nil, get_or_default, get_or-map, length-map, map-append, take-map}
 use Rattle.std.proofs.lemmas.List.Elements.{All-head, All-tail, filter_map-append}
-use Rattle.std.proofs.lemmas.List.Sorted.{IsPermutation-append, IsPermutation-filter_both, IsPermutation-map, IsPermutation-sym, IsPermutation-trans, length_permutation}
+use Rattle.std.proofs.lemmas.List.Sorted.{IsPermutation-append, IsPermutation-filter_both, IsPermutation-map}
+use Rattle.std.proofs.lemmas.List.Sorted.{IsPermutation-sym, IsPermutation-trans, length_permutation}
 use Rattle.std.proofs.lemmas.Option.{same_Some}
 use Rattle.std.proofs.lemmas.Slice.Eq.{bytes_eq-Decides}
 use Rattle.std.proofs.lemmas.Grind.{same_number_lists}
 use Rattle.std.proofs.Math.Bool.{not-not}
 use Rattle.std.proofs.Math.Seq.{take-append_seam}
 use Rattle.wake_table.specs.Table.{separation}
-use Rattle.landing_rules.specs.Flights.{Active, Aerodrome, Callsign, Landing, Schedule, Situation, Span, horizon, is_waiting, landing, landings, waiting}
+use Rattle.landing_rules.specs.Flights.{Active, Aerodrome, Callsign, Landing, Schedule, Situation, Span, horizon}
+use Rattle.landing_rules.specs.Flights.{is_waiting, landing, landings, waiting}
 use Rattle.landing_rules.specs.Rules.{IsFeasible, IsFrozenKept, waits}
-use Rattle.landing_rules.specs.Events.{Event, Estimate, Cancel, Add, Close, Reopen, Clock, Frozen, after_clock, estimated, freezes, frozen_landings, in_landing_order, insert_landing, named, newcomer, passed_after, refusal, situation_after, unknown_or_frozen}
+use Rattle.landing_rules.specs.Events.{Event, Estimate, Cancel, Add, Close, Reopen, Clock, Frozen, after_clock}
+use Rattle.landing_rules.specs.Events.{estimated, freezes, frozen_landings, in_landing_order, insert_landing, named}
+use Rattle.landing_rules.specs.Events.{newcomer, passed_after, refusal, situation_after, unknown_or_frozen}
 use Rattle.landing_rules.specs.Problem.{by_rank, joined, joined_second}
 use Rattle.landing_rules.specs.Sound.{IsSound}
 use Rattle.landing_rules.specs.Text.{ShownLanding, shown_landing, shown_plan}
 use Rattle.landing_rules.specs.shared.Counting.{Member}
-use Rattle.landing_rules.specs.shared.Members.{all_at, found_in, in_filter, in_frozen, in_map, member_at, member_contains, member_permutation, none_found}
+use Rattle.landing_rules.specs.shared.Members.{all_at, found_in, in_filter, in_frozen, in_map, member_at}
+use Rattle.landing_rules.specs.shared.Members.{member_contains, member_permutation, none_found}
 use Rattle.landing_joint.specs.ClockLaws.{ClockKeepsPlanLaw}
 use Rattle.landing_joint.specs.Numbered.{nobody}
 use Rattle.landing_joint.specs.shared.LandingsInOrder.{order_member, order_permutes, order_rises}
@@ -36,19 +44,24 @@ second l = l.second
 
 -- ---- the frozen landings in landing order
 
-apart_frozen : (xs : List Active) → Apart xs → (i j : ℕ) (d : Landing) → i < j → j < length (frozen_of xs) → (get_or (frozen_of xs) i d).flight.callsign ≡ (get_or (frozen_of xs) j d).flight.callsign → ⊥
+apart_frozen : (xs : List Active) → Apart xs → (i j : ℕ) (d : Landing) → i < j → j < length (frozen_of xs)
+    → (get_or (frozen_of xs) i d).flight.callsign ≡ (get_or (frozen_of xs) j d).flight.callsign → ⊥
 apart_frozen [] apart = λ i j d lt within e. absurd (omega arith)
-apart_frozen (x ∷ xs) apart = go x.frozen (apart_frozen xs (λ i j d lt within. apart (suc i) (suc j) d (omega arith) (omega arith)))
+apart_frozen (x ∷ xs) apart =
+    go x.frozen (apart_frozen xs (λ i j d lt within. apart (suc i) (suc j) d (omega arith) (omega arith)))
   where
     AreOwn : List Landing → Type 0
-    AreOwn fs = (i j : ℕ) (d : Landing) → i < j → j < length fs → (get_or fs i d).flight.callsign ≡ (get_or fs j d).flight.callsign → ⊥
+    AreOwn fs = (i j : ℕ) (d : Landing) → i < j → j < length fs
+        → (get_or fs i d).flight.callsign ≡ (get_or fs j d).flight.callsign → ⊥
 
-    first : (j : ℕ) (d : Landing) → j < length (frozen_of xs) → x.flight.callsign ≡ (get_or (frozen_of xs) j d).flight.callsign → ⊥
+    first : (j : ℕ) (d : Landing) → j < length (frozen_of xs)
+        → x.flight.callsign ≡ (get_or (frozen_of xs) j d).flight.callsign → ⊥
     first j d within e =
         let r = in_frozen xs (get_or (frozen_of xs) j d) (member_at (frozen_of xs) j d within) in
         let c = member_contains xs r.0 r.2 in
         let l = c.1 in
-        apart 0 (suc c.0) r.0 (omega arith) (omega arith) (e ∙ ap (λ (f : Landing). f.flight.callsign) r.4 ∙ ap (λ (a : Active). a.flight.callsign) (sym c.2))
+        apart 0 (suc c.0) r.0 (omega arith) (omega arith) (e ∙ ap (λ (f : Landing). f.flight.callsign) r.4
+        ∙ ap (λ (a : Active). a.flight.callsign) (sym c.2))
 
     go : (o : Option ℕ) → AreOwn (frozen_of xs) → AreOwn (cons_option (option_map (landing x) o) (frozen_of xs))
     go None ih = ih
@@ -60,28 +73,35 @@ apart_frozen (x ∷ xs) apart = go x.frozen (apart_frozen xs (λ i j d lt within
         own (suc i) (suc j) d lt within e = ih i j d (omega arith) (omega arith) e
 
 -- no two land at one second
-pub seconds_apart : (s : Situation) → IsSound s → (i j : ℕ) (d : Landing) → i < j → j < length (frozen_landings s) → (get_or (frozen_landings s) i d).second ≡ (get_or (frozen_landings s) j d).second → ⊥
+pub seconds_apart : (s : Situation) → IsSound s → (i j : ℕ) (d : Landing) → i < j → j < length (frozen_landings s)
+    → (get_or (frozen_landings s) i d).second ≡ (get_or (frozen_landings s) j d).second → ⊥
 seconds_apart s sound i j d lt within same =
     let f : Landing = get_or (frozen_landings s) i d in
     let g : Landing = get_or (frozen_landings s) j d in
     let apart : f.second + separation s.aerodrome.table f.flight.category g.flight.category ≤ g.second =
-    sound.frozen_separated i d (omega arith) j d (omega arith) (apart_frozen s.active sound.callsigns i j d lt (omega arith)) (omega arith) in
+    sound.frozen_separated i d (omega arith) j d (omega arith)
+    (apart_frozen s.active sound.callsigns i j d lt (omega arith)) (omega arith) in
     let one = (sound.table.entries f.flight.category g.flight.category).0 in
     omega arith
 
 -- in any order in which their seconds do not fall, the frozen landings are in landing order
-pub frozen_in_order : (s : Situation) → IsSound s → (sorted : List ShownLanding) → IsPermutation (map shown_landing (frozen_landings s)) sorted → Climbs second sorted → sorted ≡ frozen_shown s
+pub frozen_in_order : (s : Situation) → IsSound s → (sorted : List ShownLanding)
+    → IsPermutation (map shown_landing (frozen_landings s)) sorted → Climbs second sorted → sorted ≡ frozen_shown s
 frozen_in_order s sound sorted permuted climbs =
-    one_order second (map shown_landing fs) sorted (frozen_shown s) (once (map second (map shown_landing fs)) differ) permuted
-    (IsPermutation-map shown_landing fs (in_landing_order fs) (order_permutes fs)) climbs (climbs_map shown_landing second (in_landing_order fs) (order_rises fs))
+    one_order second (map shown_landing fs) sorted (frozen_shown s)
+    (once (map second (map shown_landing fs)) differ) permuted
+    (IsPermutation-map shown_landing fs (in_landing_order fs) (order_permutes fs)) climbs
+    (climbs_map shown_landing second (in_landing_order fs) (order_rises fs))
   where
     fs : List Landing
     fs = frozen_landings s
 
     at : (k : ℕ) (d : Landing) → k < length fs → get_or (map second (map shown_landing fs)) k 0 ≡ (get_or fs k d).second
-    at k d lt = let n = length-map fs shown_landing in get_or-map second (map shown_landing fs) k (shown_landing d) 0 (omega arith) ∙ ap second (get_or-map shown_landing fs k d (shown_landing d) lt)
+    at k d lt = let n = length-map fs shown_landing in get_or-map second (map shown_landing fs) k
+        (shown_landing d) 0 (omega arith) ∙ ap second (get_or-map shown_landing fs k d (shown_landing d) lt)
 
-    differ : (i j : ℕ) → i < j → j < length (map second (map shown_landing fs)) → get_or (map second (map shown_landing fs)) i 0 ≡ get_or (map second (map shown_landing fs)) j 0 → ⊥
+    differ : (i j : ℕ) → i < j → j < length (map second (map shown_landing fs))
+        → get_or (map second (map shown_landing fs)) i 0 ≡ get_or (map second (map shown_landing fs)) j 0 → ⊥
     differ i j lt within e =
         let n = length-map fs shown_landing in
         let m = length-map (map shown_landing fs) second in
@@ -95,7 +115,8 @@ in_append [] ys x m = inr m
 in_append (z ∷ xs) ys x (inl e) = inl (inl e)
 in_append (z ∷ xs) ys x (inr m) = elim (in_append xs ys x m) [ inl k ↦ inl (inr k) | inr k ↦ inr k ]
 
-climbs_append : {X : Type 0} (key : X → ℕ) (xs ys : List X) → Climbs key xs → Climbs key ys → ((x y : X) → Member x xs → Member y ys → key x ≤ key y) → Climbs key (xs ++ ys)
+climbs_append : {X : Type 0} (key : X → ℕ) (xs ys : List X) → Climbs key xs → Climbs key ys
+    → ((x y : X) → Member x xs → Member y ys → key x ≤ key y) → Climbs key (xs ++ ys)
 climbs_append key [] ys c d h = d
 climbs_append key (x ∷ xs) ys c d h = (
   λ y m. elim (in_append xs ys y m) [ inl k ↦ c.0 y k | inr k ↦ h x y (inl refl) k ],
@@ -103,15 +124,19 @@ climbs_append key (x ∷ xs) ys c d h = (
 )
 
 -- a schedule that keeps the frozen seconds lands the frozen flights at them
-kept_landings : (h : ℕ) (xs : List Active) (ts : Schedule) → length ts ≡ length xs → All (IsFrozenKept h) (landings xs ts) → filter (λ f. not (waits f)) (landings xs ts) ≡ frozen_of xs
+kept_landings : (h : ℕ) (xs : List Active) (ts : Schedule) → length ts ≡ length xs
+    → All (IsFrozenKept h) (landings xs ts) → filter (λ f. not (waits f)) (landings xs ts) ≡ frozen_of xs
 kept_landings h [] [] e keeps = refl
 kept_landings h [] (t ∷ ts) e keeps = absurd (omega arith)
 kept_landings h (x ∷ xs) [] e keeps = absurd (omega arith)
 kept_landings h (x ∷ xs) (t ∷ ts) e keeps =
-    go x.frozen (All-head (IsFrozenKept h) (landing x t) (landings xs ts) keeps) (kept_landings h xs ts (omega arith) (All-tail (IsFrozenKept h) (landing x t) (landings xs ts) keeps))
+    go x.frozen (All-head (IsFrozenKept h) (landing x t) (landings xs ts) keeps)
+    (kept_landings h xs ts (omega arith) (All-tail (IsFrozenKept h) (landing x t) (landings xs ts) keeps))
   where
-    go : (o : Option ℕ) → MatchOption o (h ≤ t) (λ u. t ≡ u) → filter (λ f. not (waits f)) (landings xs ts) ≡ frozen_of xs →
-        cond (not (is_none o)) (landing x t ∷ filter (λ f. not (waits f)) (landings xs ts)) (filter (λ f. not (waits f)) (landings xs ts)) ≡ cons_option (option_map (landing x) o) (frozen_of xs)
+    go : (o : Option ℕ) → MatchOption o (h ≤ t) (λ u. t ≡ u)
+        → filter (λ f. not (waits f)) (landings xs ts) ≡ frozen_of xs →
+        cond (not (is_none o)) (landing x t ∷ filter (λ f. not (waits f)) (landings xs ts))
+        (filter (λ f. not (waits f)) (landings xs ts)) ≡ cons_option (option_map (landing x) o) (frozen_of xs)
     go None k ih = ih
     go (Some u) k ih = ap₂ (λ (f : Landing) (fs : List Landing). f ∷ fs) (ap (landing x) k) ih
 
@@ -120,7 +145,8 @@ length_frozen [] = refl
 length_frozen (x ∷ xs) = go x.frozen (length_frozen xs)
   where
     go : (o : Option ℕ) → length (frozen_of xs) + length (filter is_waiting xs) ≡ length xs →
-        length (cons_option (option_map (landing x) o) (frozen_of xs)) + length (cond (is_none o) (x ∷ filter is_waiting xs) (filter is_waiting xs)) ≡ length (x ∷ xs)
+        length (cons_option (option_map (landing x) o) (frozen_of xs)) + length
+        (cond (is_none o) (x ∷ filter is_waiting xs) (filter is_waiting xs)) ≡ length (x ∷ xs)
     go None ih = omega arith
     go (Some t) ih = omega arith
 
@@ -128,13 +154,18 @@ module _ (s : Situation) (t : Schedule) (sound : IsSound s) (keeps : IsFeasible 
   abbrev all : List Landing
   all = landings s.active t
 
-  before_waiting : (waiting : List ShownLanding) → IsPermutation (map shown_landing (filter waits all)) waiting → (x y : ShownLanding) → Member x (frozen_shown s) → Member y waiting → x.second ≤ y.second
+  before_waiting : (waiting : List ShownLanding) → IsPermutation (map shown_landing (filter waits all)) waiting
+      → (x y : ShownLanding) → Member x (frozen_shown s) → Member y waiting → x.second ≤ y.second
   before_waiting waiting p x y m n =
       let r = in_map shown_landing (in_landing_order (frozen_landings s)) x m in
-      let early = all_at (λ (f : Landing). f.second < horizon s) (frozen_landings s) sound.frozen_before r.0 (order_member r.0 (frozen_landings s) r.1) in
-      let q = in_map shown_landing (filter waits all) y (member_permutation waiting (map shown_landing (filter waits all)) y (IsPermutation-sym (map shown_landing (filter waits all)) waiting p) n) in
+      let early = all_at (λ (f : Landing). f.second < horizon s) (frozen_landings s) sound.frozen_before r.0
+      (order_member r.0 (frozen_landings s) r.1) in
+      let q = in_map shown_landing (filter waits all) y
+      (member_permutation waiting (map shown_landing (filter waits all)) y
+      (IsPermutation-sym (map shown_landing (filter waits all)) waiting p) n) in
       let w = in_filter waits all q.0 q.1 in
-      let late : horizon s ≤ q.0.second = late_of q.0.frozen q.0.second w.1 (all_at (IsFrozenKept (horizon s)) all keeps.1.frozen_kept q.0 w.0) in
+      let late : horizon s ≤ q.0.second =
+      late_of q.0.frozen q.0.second w.1 (all_at (IsFrozenKept (horizon s)) all keeps.1.frozen_kept q.0 w.0) in
       let a : x.second ≡ r.0.second = ap second r.2 in
       let b : y.second ≡ q.0.second = ap second q.2 in
       omega arith
@@ -144,25 +175,35 @@ module _ (s : Situation) (t : Schedule) (sound : IsSound s) (keeps : IsFeasible 
       late_of (Some v) u e k = absurd (false≢true e)
 
   -- the plan of a feasible schedule
-  pub front_first : (waiting : List ShownLanding) → IsPermutation (map shown_landing (filter waits all)) waiting → Climbs second waiting → frozen_shown s ++ waiting ≡ (shown_plan s t).landings
+  pub front_first : (waiting : List ShownLanding) → IsPermutation (map shown_landing (filter waits all)) waiting
+      → Climbs second waiting → frozen_shown s ++ waiting ≡ (shown_plan s t).landings
   front_first waiting p climbs =
       let fs = frozen_landings s in
-      let held : filter (λ f. not (waits f)) all ≡ fs = kept_landings (horizon s) s.active t keeps.0 keeps.1.frozen_kept in
-      let parts : IsPermutation all (filter (λ f. not (waits f)) all ++ filter waits all) = IsPermutation-filter_both (λ f. not (waits f)) waits (λ f. sym (not-not (waits f))) all in
+      let held : filter (λ f. not (waits f)) all ≡ fs =
+      kept_landings (horizon s) s.active t keeps.0 keeps.1.frozen_kept in
+      let parts : IsPermutation all (filter (λ f. not (waits f)) all ++ filter waits all) =
+      IsPermutation-filter_both (λ f. not (waits f)) waits (λ f. sym (not-not (waits f))) all in
       let shown : IsPermutation (map shown_landing all) (map shown_landing fs ++ map shown_landing (filter waits all)) =
-      subst (IsPermutation (map shown_landing all)) (ap (λ fs. map shown_landing (fs ++ filter waits all)) held ∙ map-append shown_landing fs (filter waits all)) (IsPermutation-map shown_landing all (filter (λ f. not (waits f)) all ++ filter waits all) parts) in
-      let each : IsPermutation (map shown_landing fs ++ map shown_landing (filter waits all)) (frozen_shown s ++ waiting) =
-      IsPermutation-append (map shown_landing fs) (frozen_shown s) (map shown_landing (filter waits all)) waiting (IsPermutation-map shown_landing fs (in_landing_order fs) (order_permutes fs)) p in
+      subst (IsPermutation (map shown_landing all)) (ap (λ fs. map shown_landing (fs ++ filter waits all)) held
+      ∙ map-append shown_landing fs (filter waits all))
+      (IsPermutation-map shown_landing all (filter (λ f. not (waits f)) all ++ filter waits all) parts) in
+      let each : IsPermutation (map shown_landing fs ++ map shown_landing (filter waits all))
+      (frozen_shown s ++ waiting) =
+      IsPermutation-append (map shown_landing fs) (frozen_shown s) (map shown_landing (filter waits all)) waiting
+      (IsPermutation-map shown_landing fs (in_landing_order fs) (order_permutes fs)) p in
       in_order s t sound keeps (map shown_landing all) (frozen_shown s ++ waiting) refl
-      (IsPermutation-trans (map shown_landing all) (map shown_landing fs ++ map shown_landing (filter waits all)) (frozen_shown s ++ waiting) shown each)
-      (climbs_append second (frozen_shown s) waiting (climbs_map shown_landing second (in_landing_order fs) (order_rises fs)) climbs (before_waiting waiting p))
+      (IsPermutation-trans (map shown_landing all) (map shown_landing fs ++ map shown_landing (filter waits all))
+      (frozen_shown s ++ waiting) shown each)
+      (climbs_append second (frozen_shown s) waiting
+      (climbs_map shown_landing second (in_landing_order fs) (order_rises fs)) climbs (before_waiting waiting p))
 
   -- its first landings are the frozen ones
   front_is : take (length (frozen_shown s)) (shown_plan s t).landings ≡ frozen_shown s
   front_is =
       let ws = filter waits all in
       let behind = map shown_landing (in_landing_order ws) in
-      let whole = front_first behind (IsPermutation-map shown_landing ws (in_landing_order ws) (order_permutes ws)) (climbs_map shown_landing second (in_landing_order ws) (order_rises ws)) in
+      let whole = front_first behind (IsPermutation-map shown_landing ws (in_landing_order ws) (order_permutes ws))
+      (climbs_map shown_landing second (in_landing_order ws) (order_rises ws)) in
       ap (take (length (frozen_shown s))) (sym whole) ∙ take-append_seam (frozen_shown s) behind
 
 -- how many they are
@@ -174,8 +215,10 @@ frozen_count s =
     let c = length_frozen s.active in
     omega arith
 
-pub frozen_and_placed : (s : Situation) (places : List ℕ) → IsSound s → ArePlacesByRank s places → length (frozen_shown s) + length places ≡ length s.active
-frozen_and_placed s places sound at = let a = places_length s sound.callsigns places at in let b = rank_length (waiting s) in let c = frozen_count s in omega arith
+pub frozen_and_placed : (s : Situation) (places : List ℕ) → IsSound s → ArePlacesByRank s places
+    → length (frozen_shown s) + length places ≡ length s.active
+frozen_and_placed s places sound at = let a = places_length s sound.callsigns places at in let b =
+    rank_length (waiting s) in let c = frozen_count s in omega arith
 
 -- ---- the waiting landings of a list by rank
 
@@ -183,16 +226,20 @@ landings_of : (f : Active → ℕ) (xs : List Active) → landings xs (map f xs)
 landings_of f [] = refl
 landings_of f (x ∷ xs) = ap (λ l. landing x (f x) ∷ l) (landings_of f xs)
 
-waiting_landings : (f : Active → ℕ) (xs : List Active) → filter waits (map (λ a. landing a (f a)) xs) ≡ map (λ a. landing a (f a)) (filter is_waiting xs)
+waiting_landings : (f : Active → ℕ) (xs : List Active)
+    → filter waits (map (λ a. landing a (f a)) xs) ≡ map (λ a. landing a (f a)) (filter is_waiting xs)
 waiting_landings f [] = refl
 waiting_landings f (x ∷ xs) = go (is_waiting x) (waiting_landings f xs)
   where
     go : (b : Bool) → filter waits (map (λ a. landing a (f a)) xs) ≡ map (λ a. landing a (f a)) (filter is_waiting xs) →
-        cond b (landing x (f x) ∷ filter waits (map (λ a. landing a (f a)) xs)) (filter waits (map (λ a. landing a (f a)) xs)) ≡ map (λ a. landing a (f a)) (cond b (x ∷ filter is_waiting xs) (filter is_waiting xs))
+        cond b (landing x (f x) ∷ filter waits (map (λ a. landing a (f a)) xs))
+        (filter waits (map (λ a. landing a (f a)) xs)) ≡ map (λ a. landing a (f a))
+        (cond b (x ∷ filter is_waiting xs) (filter is_waiting xs))
     go true ih = ap (λ l. landing x (f x) ∷ l) ih
     go false ih = ih
 
-ranked_seconds : (s : Situation) (u : Schedule) → Apart s.active → length u ≡ length (waiting s) → map (joined_second s u) (by_rank (waiting s)) ≡ u
+ranked_seconds : (s : Situation) (u : Schedule) → Apart s.active → length u ≡ length (waiting s)
+    → map (joined_second s u) (by_rank (waiting s)) ≡ u
 ranked_seconds s u apart e =
     let R : List Active = by_rank (waiting s) in
     let n = rank_length (waiting s) in
@@ -200,23 +247,31 @@ ranked_seconds s u apart e =
     same_number_lists (map (joined_second s u) R) u (omega arith) (λ k lt.
     let within : k < length R = omega arith in
     get_or-map (joined_second s u) R k nobody 0 within
-    ∙ ap (λ o. unwrap_or o (get_or u (rank_in s apart (get_or R k nobody)) 0)) (ranked_waits s apart k within) ∙ ap (λ r. get_or u r 0) (rank_at s apart k (get_or R k nobody) within (get_or_default R k (get_or R k nobody) nobody within)))
+    ∙ ap (λ o. unwrap_or o (get_or u (rank_in s apart (get_or R k nobody)) 0)) (ranked_waits s apart k within)
+    ∙ ap (λ r. get_or u r 0) (rank_at s apart k (get_or R k nobody) within
+    (get_or_default R k (get_or R k nobody) nobody within)))
 
 -- those of the waiting flights where the seconds by rank are joined with the frozen ones
-pub waiting_shown : (s : Situation) (u : Schedule) → IsSound s → length u ≡ length (waiting s) → IsPermutation (map shown_landing (filter waits (landings s.active (joined s u)))) (map shown_landing (landings (by_rank (waiting s)) u))
+pub waiting_shown : (s : Situation) (u : Schedule) → IsSound s → length u ≡ length (waiting s)
+    → IsPermutation (map shown_landing (filter waits (landings s.active (joined s u))))
+    (map shown_landing (landings (by_rank (waiting s)) u))
 waiting_shown s u sound e =
     let R : List Active = by_rank (waiting s) in
     let f : Active → ℕ = joined_second s u in
-    let here : filter waits (landings s.active (joined s u)) ≡ map (λ a. landing a (f a)) (waiting s) = ap (filter waits) (landings_of f s.active) ∙ waiting_landings f s.active in
-    let there : map (λ a. landing a (f a)) R ≡ landings R u = sym (landings_of f R) ∙ ap (landings R) (ranked_seconds s u sound.callsigns e) in
+    let here : filter waits (landings s.active (joined s u)) ≡ map (λ a. landing a (f a)) (waiting s) =
+    ap (filter waits) (landings_of f s.active) ∙ waiting_landings f s.active in
+    let there : map (λ a. landing a (f a)) R ≡ landings R u =
+    sym (landings_of f R) ∙ ap (landings R) (ranked_seconds s u sound.callsigns e) in
     subst (λ l. IsPermutation (map shown_landing l) (map shown_landing (landings R u))) (sym here)
     (subst (λ l. IsPermutation (map shown_landing (map (λ a. landing a (f a)) (waiting s))) (map shown_landing l)) there
-    (IsPermutation-map shown_landing (map (λ a. landing a (f a)) (waiting s)) (map (λ a. landing a (f a)) R) (IsPermutation-map (λ a. landing a (f a)) (waiting s) R (rank_permutes (waiting s)))))
+    (IsPermutation-map shown_landing (map (λ a. landing a (f a)) (waiting s)) (map (λ a. landing a (f a)) R)
+    (IsPermutation-map (λ a. landing a (f a)) (waiting s) R (rank_permutes (waiting s)))))
 
 -- ---- no event but a clock moves a frozen landing
 
 -- where the event is accepted, each flight of that name waits
-named_waits : (s : Situation) (c : Callsign) → Apart s.active → unknown_or_frozen c (find (named c) s.active) ≡ None → (a : Active) → Member a s.active → named c a ≡ true → a.frozen ≡ None
+named_waits : (s : Situation) (c : Callsign) → Apart s.active → unknown_or_frozen c (find (named c) s.active) ≡ None
+    → (a : Active) → Member a s.active → named c a ≡ true → a.frozen ≡ None
 named_waits s c apart ok a m e = go (find (named c) s.active) refl ok
   where
     one : (b : Active) → Member b s.active → a.flight.callsign ≡ b.flight.callsign → a ≡ b
@@ -226,7 +281,8 @@ named_waits s c apart ok a m e = go (find (named c) s.active) refl ok
         let li = i.1 in
         let lj = j.1 in
         let names : (get_or s.active i.0 a).flight.callsign ≡ (get_or s.active j.0 a).flight.callsign =
-        ap (λ (z : Active). z.flight.callsign) i.2 ∙ same ∙ ap (λ (z : Active). z.flight.callsign) (sym (get_or_default s.active j.0 a b lj ∙ j.2)) in
+        ap (λ (z : Active). z.flight.callsign) i.2 ∙ same
+        ∙ ap (λ (z : Active). z.flight.callsign) (sym (get_or_default s.active j.0 a b lj ∙ j.2)) in
         elim (cases_order i.0 j.0) [
           | inl q ↦ sym i.2 ∙ ap (λ k. get_or s.active k a) q ∙ get_or_default s.active j.0 a b lj ∙ j.2
           | inr (inl lt) ↦ absurd (apart i.0 j.0 a lt lj names)
@@ -238,52 +294,65 @@ named_waits s c apart ok a m e = go (find (named c) s.active) refl ok
 
     go : (o : Option Active) → find (named c) s.active ≡ o → unknown_or_frozen c o ≡ None → a.frozen ≡ None
     go None q ok = absurd (false≢true (sym (none_found (named c) s.active a q m) ∙ e))
-    go (Some b) q ok = let r = found_in (named c) s.active b q in ap (λ (z : Active). z.frozen) (one b r.0 (is a e ∙ sym (is b r.1))) ∙ two b.frozen ok
+    go (Some b) q ok = let r = found_in (named c) s.active b q in ap (λ (z : Active). z.frozen)
+        (one b r.0 (is a e ∙ sym (is b r.1))) ∙ two b.frozen ok
       where
         two : (o : Option ℕ) → option_map Frozen o ≡ None → o ≡ None
         two None ok = refl
         two (Some t) ok = let w : Some (Frozen t) ≡ None = ok in absurd (cc)
 
-frozen_estimated : (c : Callsign) (eta : ℕ) (windows : List Span) (xs : List Active) → ((a : Active) → Member a xs → named c a ≡ true → a.frozen ≡ None) → frozen_of (map (estimated c eta windows) xs) ≡ frozen_of xs
+frozen_estimated : (c : Callsign) (eta : ℕ) (windows : List Span) (xs : List Active)
+    → ((a : Active) → Member a xs → named c a ≡ true → a.frozen ≡ None)
+    → frozen_of (map (estimated c eta windows) xs) ≡ frozen_of xs
 frozen_estimated c eta windows [] h = refl
-frozen_estimated c eta windows (x ∷ xs) h = ap₂ (λ (o : Option Landing) (fs : List Landing). cons_option o fs) here (frozen_estimated c eta windows xs (λ a m. h a (inr m)))
+frozen_estimated c eta windows (x ∷ xs) h = ap₂ (λ (o : Option Landing) (fs : List Landing). cons_option o fs) here
+    (frozen_estimated c eta windows xs (λ a m. h a (inr m)))
   where
     with_times : Active
     with_times = record x { flight = record x.flight { eta = eta; windows = windows } }
 
-    here : option_map (landing (estimated c eta windows x)) (estimated c eta windows x).frozen ≡ option_map (landing x) x.frozen
+    here : option_map (landing (estimated c eta windows x)) (estimated c eta windows x).frozen ≡ option_map
+        (landing x) x.frozen
     here = elim (cases_Bool (named c x)) [
-      | inl e ↦ (let none = h x (inl refl) e in rw e (ap (option_map (landing with_times)) none ∙ sym (ap (option_map (landing x)) none)))
+      | inl e ↦ (let none = h x (inl refl) e in rw e (ap (option_map (landing with_times)) none
+          ∙ sym (ap (option_map (landing x)) none)))
       | inr e ↦ rw e refl
     ]
 
-frozen_cancelled : (c : Callsign) (xs : List Active) → ((a : Active) → Member a xs → named c a ≡ true → a.frozen ≡ None) → frozen_of (filter (λ a. not (named c a)) xs) ≡ frozen_of xs
+frozen_cancelled : (c : Callsign) (xs : List Active) → ((a : Active) → Member a xs → named c a ≡ true → a.frozen ≡ None)
+    → frozen_of (filter (λ a. not (named c a)) xs) ≡ frozen_of xs
 frozen_cancelled c [] h = refl
 frozen_cancelled c (x ∷ xs) h = go (named c x) refl (frozen_cancelled c xs (λ a m. h a (inr m)))
   where
-    go : (b : Bool) → named c x ≡ b → frozen_of (filter (λ a. not (named c a)) xs) ≡ frozen_of xs → frozen_of (cond (not b) (x ∷ filter (λ a. not (named c a)) xs) (filter (λ a. not (named c a)) xs)) ≡ frozen_of (x ∷ xs)
+    go : (b : Bool) → named c x ≡ b → frozen_of (filter (λ a. not (named c a)) xs) ≡ frozen_of xs
+        → frozen_of (cond (not b) (x ∷ filter (λ a. not (named c a)) xs) (filter (λ a. not (named c a)) xs)) ≡ frozen_of
+        (x ∷ xs)
     go true e ih = ih ∙ sym (ap (λ o. cons_option (option_map (landing x) o) (frozen_of xs)) (h x (inl refl) e))
     go false e ih = ap (cons_option (option_map (landing x) x.frozen)) ih
 
 -- ---- a landing, frozen where it stands
 
-pub there_at : (ls : List ShownLanding) (i : ℕ) (l : ShownLanding) → slice_get ls i ≡ Some l → slice_get (map frozen_there ls) i ≡ Some (frozen_there l)
+pub there_at : (ls : List ShownLanding) (i : ℕ) (l : ShownLanding) → slice_get ls i ≡ Some l
+    → slice_get (map frozen_there ls) i ≡ Some (frozen_there l)
 there_at [] i l e = let w : None ≡ Some l = e in absurd (cc)
 there_at (x ∷ xs) zero l e = ap (λ y. Some (frozen_there y)) (same_Some x l e)
 there_at (x ∷ xs) (suc i) l e = there_at xs i l e
 
 -- a frozen one stays as it is
-there_still : (fs : List Landing) → ((f : Landing) → Member f fs → waits f ≡ false) → map frozen_there (map shown_landing fs) ≡ map shown_landing fs
+there_still : (fs : List Landing) → ((f : Landing) → Member f fs → waits f ≡ false)
+    → map frozen_there (map shown_landing fs) ≡ map shown_landing fs
 there_still [] h = refl
 there_still (f ∷ fs) h = ap₂ (λ (l : ShownLanding) (ls : List ShownLanding). l ∷ ls)
-    (ap (λ b. (let l : ShownLanding = record { callsign = f.flight.callsign; second = f.second; frozen = b } in l)) (sym (ap not (h f (inl refl)))))
+    (ap (λ b. (let l : ShownLanding = record { callsign = f.flight.callsign; second = f.second; frozen = b } in l))
+    (sym (ap not (h f (inl refl)))))
     (there_still fs (λ g m. h g (inr m)))
 
 frozen_still : (s : Situation) → map frozen_there (frozen_shown s) ≡ frozen_shown s
 frozen_still s = there_still (in_landing_order (frozen_landings s)) stands
   where
     stands : (f : Landing) → Member f (in_landing_order (frozen_landings s)) → waits f ≡ false
-    stands f m = let r = in_frozen s.active f (order_member f (frozen_landings s) m) in ap (λ (g : Landing). waits g) r.4 ∙ ap is_none r.3
+    stands f m = let r = in_frozen s.active f (order_member f (frozen_landings s) m) in
+        ap (λ (g : Landing). waits g) r.4 ∙ ap is_none r.3
 
 begins : (s : Situation) (t : Schedule) → IsSound s → IsFeasible s t → BeginsWithFrozen s (shown_plan s t)
 begins s t sound keeps = ap (map frozen_there) (front_is s t sound keeps) ∙ frozen_still s
@@ -294,10 +363,12 @@ module _ (g : Landing → Landing) (same : (f : Landing) → (g f).second ≡ f.
   insert_map : (f : Landing) (fs : List Landing) → insert_landing (g f) (map g fs) ≡ map g (insert_landing f fs)
   insert_map f [] = refl
   insert_map f (x ∷ xs) =
-      ap₂ (λ (a b : ℕ). cond (nat_lt a b) (g x ∷ insert_landing (g f) (map g xs)) (g f ∷ g x ∷ map g xs)) (same x) (same f) ∙ go (nat_lt x.second f.second) (insert_map f xs)
+      ap₂ (λ (a b : ℕ). cond (nat_lt a b) (g x ∷ insert_landing (g f) (map g xs)) (g f ∷ g x ∷ map g xs))
+      (same x) (same f) ∙ go (nat_lt x.second f.second) (insert_map f xs)
     where
       go : (b : Bool) → insert_landing (g f) (map g xs) ≡ map g (insert_landing f xs) →
-          cond b (g x ∷ insert_landing (g f) (map g xs)) (g f ∷ g x ∷ map g xs) ≡ map g (cond b (x ∷ insert_landing f xs) (f ∷ x ∷ xs))
+          cond b (g x ∷ insert_landing (g f) (map g xs)) (g f ∷ g x ∷ map g xs) ≡ map g
+          (cond b (x ∷ insert_landing f xs) (f ∷ x ∷ xs))
       go true ih = ap (λ l. g x ∷ l) ih
       go false ih = refl
 
@@ -305,19 +376,23 @@ module _ (g : Landing → Landing) (same : (f : Landing) → (g f).second ≡ f.
   order_map [] = refl
   order_map (f ∷ fs) = ap (insert_landing (g f)) (order_map fs) ∙ insert_map f (in_landing_order fs)
 
-  there_map : ((f : Landing) → (g f).flight.callsign ≡ f.flight.callsign) → (fs : List Landing) → map frozen_there (map shown_landing (map g fs)) ≡ map frozen_there (map shown_landing fs)
+  there_map : ((f : Landing) → (g f).flight.callsign ≡ f.flight.callsign) → (fs : List Landing)
+      → map frozen_there (map shown_landing (map g fs)) ≡ map frozen_there (map shown_landing fs)
   there_map names [] = refl
   there_map names (f ∷ fs) = ap₂ (λ (l : ShownLanding) (ls : List ShownLanding). l ∷ ls)
-      (ap₂ (λ (c : Callsign) (n : ℕ). (let l : ShownLanding = record { callsign = c; second = n; frozen = true } in l)) (names f) (same f))
+      (ap₂ (λ (c : Callsign) (n : ℕ). (let l : ShownLanding = record { callsign = c; second = n; frozen = true } in l))
+      (names f) (same f))
       (there_map names fs)
 
-landings_after : (g : Landing → Active) (xs : List Active) (ts : Schedule) → landings (map g (landings xs ts)) ts ≡ map (λ f. landing (g f) f.second) (landings xs ts)
+landings_after : (g : Landing → Active) (xs : List Active) (ts : Schedule)
+    → landings (map g (landings xs ts)) ts ≡ map (λ f. landing (g f) f.second) (landings xs ts)
 landings_after g [] [] = refl
 landings_after g [] (t ∷ ts) = refl
 landings_after g (x ∷ xs) [] = refl
 landings_after g (x ∷ xs) (t ∷ ts) = ap (λ l. landing (g (landing x t)) t ∷ l) (landings_after g xs ts)
 
-same_name : (a : Aerodrome) (h : ℕ) (all : List Landing) (f : Landing) → (after_clock a h all f).flight.callsign ≡ f.flight.callsign
+same_name : (a : Aerodrome) (h : ℕ) (all : List Landing) (f : Landing)
+    → (after_clock a h all f).flight.callsign ≡ f.flight.callsign
 same_name a h all f = go (freezes h f) (waits f)
   where
     freezing : Active
@@ -334,7 +409,8 @@ same_name a h all f = go (freezes h f) (waits f)
     go false true = refl
     go false false = refl
 
-clock_begins : ClockKeepsPlanLaw → (s : Situation) (t : Schedule) (now : ℕ) → IsSound s → IsFeasible s t → refusal s (Clock now) ≡ None → IsSound (situation_after s (Some t) (Clock now)) →
+clock_begins : ClockKeepsPlanLaw → (s : Situation) (t : Schedule) (now : ℕ) → IsSound s → IsFeasible s t
+    → refusal s (Clock now) ≡ None → IsSound (situation_after s (Some t) (Clock now)) →
     BeginsWithFrozen (situation_after s (Some t) (Clock now)) (shown_plan s t)
 clock_begins law s t now sound keeps ok next_sound =
     let next = situation_after s (Some t) (Clock now) in
@@ -343,24 +419,35 @@ clock_begins law s t now sound keeps ok next_sound =
     let g : Landing → Landing = λ f. landing (after_clock s.aerodrome h all f) f.second in
     let n = length (frozen_shown next) in
     let same : map frozen_there (shown_plan next t).landings ≡ map frozen_there (shown_plan s t).landings =
-    ap (λ fs. map frozen_there (map shown_landing (in_landing_order fs))) (landings_after (after_clock s.aerodrome h all) s.active t)
+    ap (λ fs. map frozen_there (map shown_landing (in_landing_order fs)))
+    (landings_after (after_clock s.aerodrome h all) s.active t)
     ∙ ap (λ fs. map frozen_there (map shown_landing fs)) (order_map g (λ f. refl) all)
     ∙ there_map g (λ f. refl) (same_name s.aerodrome h all) (in_landing_order all) in
-    sym (take-map frozen_there n (shown_plan s t).landings) ∙ ap (take n) (sym same) ∙ take-map frozen_there n (shown_plan next t).landings
+    sym (take-map frozen_there n (shown_plan s t).landings) ∙ ap (take n) (sym same)
+    ∙ take-map frozen_there n (shown_plan next t).landings
     ∙ begins next t next_sound (law s t now sound keeps ok).feasible
 
 -- no other event moves a frozen landing, or freezes one more
-still : (s next : Situation) (t : Schedule) → frozen_landings next ≡ frozen_landings s → BeginsWithFrozen s (shown_plan s t) → BeginsWithFrozen next (shown_plan s t)
+still : (s next : Situation) (t : Schedule) → frozen_landings next ≡ frozen_landings s
+    → BeginsWithFrozen s (shown_plan s t) → BeginsWithFrozen next (shown_plan s t)
 still s next t same h =
-    subst (λ fs. map frozen_there (take (length (map shown_landing (in_landing_order fs))) (shown_plan s t).landings) ≡ map shown_landing (in_landing_order fs)) (sym same) h
+    subst (λ fs. map frozen_there (take (length (map shown_landing (in_landing_order fs)))
+    (shown_plan s t).landings) ≡ map shown_landing (in_landing_order fs)) (sym same) h
 
 -- the plan shown begins with the frozen landings of the next situation
-pub next_begins : ClockKeepsPlanLaw → (s : Situation) (t : Schedule) (e : Event) → IsSound s → IsFeasible s t → refusal s e ≡ None → IsSound (situation_after s (Some t) e) →
+pub next_begins : ClockKeepsPlanLaw → (s : Situation) (t : Schedule) (e : Event) → IsSound s
+    → IsFeasible s t → refusal s e ≡ None → IsSound (situation_after s (Some t) e) →
     BeginsWithFrozen (situation_after s (Some t) e) (shown_plan s t)
-next_begins law s t (Estimate c eta windows) sound keeps ok next = still s (record s { active = map (estimated c eta windows) s.active }) t (frozen_estimated c eta windows s.active (named_waits s c sound.callsigns ok)) (begins s t sound keeps)
-next_begins law s t (Cancel c) sound keeps ok next = still s (record s { active = filter (λ a. not (named c a)) s.active }) t (frozen_cancelled c s.active (named_waits s c sound.callsigns ok)) (begins s t sound keeps)
+next_begins law s t (Estimate c eta windows) sound keeps ok next = still s
+    (record s { active = map (estimated c eta windows) s.active }) t
+    (frozen_estimated c eta windows s.active (named_waits s c sound.callsigns ok)) (begins s t sound keeps)
+next_begins law s t (Cancel c) sound keeps ok next = still s
+    (record s { active = filter (λ a. not (named c a)) s.active }) t
+    (frozen_cancelled c s.active (named_waits s c sound.callsigns ok)) (begins s t sound keeps)
 next_begins law s t (Add f) sound keeps ok next =
-    still s (record s { active = s.active ++ newcomer f ∷ [] }) t (filter_map-append (λ a. option_map (landing a) a.frozen) s.active (newcomer f ∷ []) ∙ append-nil (frozen_landings s)) (begins s t sound keeps)
+    still s (record s { active = s.active ++ newcomer f ∷ [] }) t
+    (filter_map-append (λ a. option_map (landing a) a.frozen) s.active (newcomer f ∷ [])
+    ∙ append-nil (frozen_landings s)) (begins s t sound keeps)
 next_begins law s t (Close span) sound keeps ok next = begins s t sound keeps
 next_begins law s t (Reopen span) sound keeps ok next = begins s t sound keeps
 next_begins law s t (Clock now) sound keeps ok next = clock_begins law s t now sound keeps ok next

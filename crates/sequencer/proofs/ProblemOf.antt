@@ -1,5 +1,6 @@
 -- What was made of a sound situation's flights by rank is its problem, and is well formed.
-use Rattle.std.proofs.Common.{◌≡◌, ℕ, zero, suc, ◌+◌, ◌<◌, ◌≤◌, List, [], ◌∷◌, length, map, get_or, refl, sym, ap, ap₂, subst, ◌∙◌, arith}
+use Rattle.std.proofs.Common.{◌≡◌, ℕ, zero, suc, ◌+◌, ◌<◌, ◌≤◌, List, [], ◌∷◌, length, map, get_or, refl, sym, ap, ap₂}
+use Rattle.std.proofs.Common.{subst, ◌∙◌, arith}
 use Rattle.std.specs.Prelude.{All, ◌↔◌, MatchOption, ⊤}
 use Rattle.std.specs.List.{AllZip}
 use Rattle.std.specs.Ordering.{is_lt}
@@ -33,19 +34,24 @@ key_of w = (w.eta, w.callsign)
 -- ---- it is well formed
 
 module _ (closures : List Span) where
-  pub zip_all : (R : Active → Type 0) (Q : problems.Waiting → Type 0) → ((a : Active) (w : problems.Waiting) → IsWaitingOf closures a w → R a → Q w) →
-      (xs : List Active) (ys : List problems.Waiting) → AllZip (IsWaitingOf closures) xs ys → All R xs → (k : ℕ) (d : problems.Waiting) → k < length ys → Q (get_or ys k d)
+  pub zip_all : (R : Active → Type 0) (Q : problems.Waiting → Type 0)
+      → ((a : Active) (w : problems.Waiting) → IsWaitingOf closures a w → R a → Q w) →
+      (xs : List Active) (ys : List problems.Waiting) → AllZip (IsWaitingOf closures) xs ys
+      → All R xs → (k : ℕ) (d : problems.Waiting) → k < length ys → Q (get_or ys k d)
   zip_all R Q h [] [] z all k d lt = absurd (omega arith)
   zip_all R Q h [] (y ∷ ys) z all k d lt = absurd z
   zip_all R Q h (x ∷ xs) [] z all k d lt = absurd z
   zip_all R Q h (x ∷ xs) (y ∷ ys) z all zero d lt = h x y z.0 (all 0 x (omega arith))
-  zip_all R Q h (x ∷ xs) (y ∷ ys) z all (suc k) d lt = zip_all R Q h xs ys z.1 (λ k d l. all (suc k) d (omega arith)) k d (omega arith)
+  zip_all R Q h (x ∷ xs) (y ∷ ys) z all (suc k) d lt =
+      zip_all R Q h xs ys z.1 (λ k d l. all (suc k) d (omega arith)) k d (omega arith)
 
-  pub zip_keys : (xs : List Active) (ys : List problems.Waiting) → AllZip (IsWaitingOf closures) xs ys → map key_of ys ≡ map arrival_of xs
+  pub zip_keys : (xs : List Active) (ys : List problems.Waiting) → AllZip (IsWaitingOf closures) xs ys
+      → map key_of ys ≡ map arrival_of xs
   zip_keys [] [] z = refl
   zip_keys [] (y ∷ ys) z = absurd z
   zip_keys (x ∷ xs) [] z = absurd z
-  zip_keys (x ∷ xs) (y ∷ ys) z = ap₂ (λ (p : ℕ × List ℕ) (l : List (ℕ × List ℕ)). p ∷ l) (ap₂ (λ (e : ℕ) (n : List ℕ). (e, n)) z.0.eta z.0.callsign) (zip_keys xs ys z.1)
+  zip_keys (x ∷ xs) (y ∷ ys) z = ap₂ (λ (p : ℕ × List ℕ) (l : List (ℕ × List ℕ)). p ∷ l)
+      (ap₂ (λ (e : ℕ) (n : List ℕ). (e, n)) z.0.eta z.0.callsign) (zip_keys xs ys z.1)
 
 -- ---- the problem of a sound situation
 
@@ -57,7 +63,8 @@ pub record IsHeadOf (s : Situation) (h : Head) : Type 0 where
   pub base : h.base ≡ frozen_cost s.aerodrome.objective (frozen_landings s)
 
 module _ (s : Situation) (h : Head) (ws : List waits.Waiting) (pairs : List ℕ) (sound : IsSound s) (of : IsHeadOf s h)
-    (zip : AllZip (IsWaitingOf s.closures) (by_rank (waiting s)) (map waiting_of ws)) (is : (i j : ℕ) → MustPrecede pairs i j ↔ IsListed (by_rank (waiting s)) i j) where
+    (zip : AllZip (IsWaitingOf s.closures) (by_rank (waiting s)) (map waiting_of ws)) (is : (i j : ℕ)
+    → MustPrecede pairs i j ↔ IsListed (by_rank (waiting s)) i j) where
   abbrev R : List Active
   R = by_rank (waiting s)
 
@@ -84,18 +91,22 @@ module _ (s : Situation) (h : Head) (ws : List waits.Waiting) (pairs : List ℕ)
   long = each_rank ∙ rank_length (waiting s)
 
   good : All (λ (a : Active). IsGoodFlight a.flight) R
-  good = All-permutation (λ (a : Active). IsGoodFlight a.flight) (waiting s) R (rank_permutes (waiting s)) (All-filter is_waiting (λ (a : Active). IsGoodFlight a.flight) s.active sound.flights)
+  good = All-permutation (λ (a : Active). IsGoodFlight a.flight) (waiting s) R (rank_permutes (waiting s))
+      (All-filter is_waiting (λ (a : Active). IsGoodFlight a.flight) s.active sound.flights)
 
   passed_low : All (λ (a : Active). a.passed ≤ s.aerodrome.k) R
-  passed_low = All-permutation (λ (a : Active). a.passed ≤ s.aerodrome.k) (waiting s) R (rank_permutes (waiting s)) (All-filter is_waiting (λ (a : Active). a.passed ≤ s.aerodrome.k) s.active sound.passed)
+  passed_low = All-permutation (λ (a : Active). a.passed ≤ s.aerodrome.k) (waiting s) R (rank_permutes (waiting s))
+      (All-filter is_waiting (λ (a : Active). a.passed ≤ s.aerodrome.k) s.active sound.passed)
 
   keys : map key_of (map waiting_of ws) ≡ map arrival_of R
   keys = zip_keys s.closures R (map waiting_of ws) zip
 
-  key_at : (k : ℕ) (d : problems.Waiting) → k < length (map waiting_of ws) → key_of (get_or (map waiting_of ws) k d) ≡ arrival_of (get_or R k nobody)
+  key_at : (k : ℕ) (d : problems.Waiting) → k < length (map waiting_of ws)
+      → key_of (get_or (map waiting_of ws) k d) ≡ arrival_of (get_or R k nobody)
   key_at k d lt =
       let n = each_rank in
-      sym (get_or-map key_of (map waiting_of ws) k d (key_of d) lt) ∙ ap (λ l. get_or l k (key_of d)) keys ∙ get_or-map arrival_of R k nobody (key_of d) (omega arith)
+      sym (get_or-map key_of (map waiting_of ws) k d (key_of d) lt) ∙ ap (λ l. get_or l k (key_of d)) keys
+      ∙ get_or-map arrival_of R k nobody (key_of d) (omega arith)
 
   pub well_formed : h.k ≤ 3 → h.horizon ≤ 179999 → IsWellFormed (seen_problem h ws pairs)
   well_formed few near = record {
@@ -104,17 +115,26 @@ module _ (s : Situation) (h : Head) (ws : List waits.Waiting) (pairs : List ℕ)
     few_flights = omega (arith, long, sound.few_waiting);
     in_order = λ k d lt.
         let n = each_rank in
-        ap is_lt (ap₂ first_come_cmp (key_at k d (omega arith)) (key_at (k + 1) d lt) ∙ Less-from_sorted rank_cmp R k (k + 1) nobody (rank_ranked (waiting s) (waiting_apart s sound.callsigns)) (omega arith) (omega arith));
+        ap is_lt (ap₂ first_come_cmp (key_at k d (omega arith)) (key_at (k + 1) d lt)
+        ∙ Less-from_sorted rank_cmp R k (k + 1) nobody (rank_ranked (waiting s) (waiting_apart s sound.callsigns))
+        (omega arith) (omega arith));
     callsigns = λ i j d lt within e.
         let n = each_rank in
-        apart_permutes (waiting s) R (rank_permutes (waiting s)) (waiting_apart s sound.callsigns) i j nobody lt (omega arith)
-        (sym (ap (λ (p : ℕ × List ℕ). p.1) (key_at i d (omega arith))) ∙ e ∙ ap (λ (p : ℕ × List ℕ). p.1) (key_at j d within));
+        apart_permutes (waiting s) R (rank_permutes (waiting s)) (waiting_apart s sound.callsigns) i j nobody lt
+        (omega arith)
+        (sym (ap (λ (p : ℕ × List ℕ). p.1) (key_at i d (omega arith))) ∙ e
+        ∙ ap (λ (p : ℕ × List ℕ). p.1) (key_at j d within));
     between_ranks = posed.between_ranks;
-    last_before = subst (λ o. MatchOption o ⊤ (λ l. l.0 < h.horizon)) (sym of.last) (subst (λ n. MatchOption (last_of (in_landing_order (frozen_landings s))) ⊤ (λ l. l.0 < n)) (sym of.horizon) (last_low (horizon s) s.active sound.frozen_before));
+    last_before = subst (λ o. MatchOption o ⊤ (λ l. l.0 < h.horizon)) (sym of.last)
+        (subst (λ n. MatchOption (last_of (in_landing_order (frozen_landings s))) ⊤ (λ l. l.0 < n))
+        (sym of.horizon) (last_low (horizon s) s.active sound.frozen_before));
     near_horizon = near;
-    estimates = zip_all s.closures (λ x. IsGoodFlight x.flight) (λ w. w.eta ≤ last_second) (λ x w z g. rw z.eta g.eta) R (map waiting_of ws) zip good;
-    weights = zip_all s.closures (λ x. IsGoodFlight x.flight) (λ w. (1 ≤ w.weight) × (w.weight ≤ 100)) (λ x w z g. rw z.weight g.weight) R (map waiting_of ws) zip good;
-    passed = zip_all s.closures (λ x. x.passed ≤ s.aerodrome.k) (λ w. w.passed ≤ h.k) (λ x w z low. let k = posed.k in let e = z.passed in omega (arith, low, k, e)) R (map waiting_of ws) zip passed_low;
+    estimates = zip_all s.closures (λ x. IsGoodFlight x.flight) (λ w. w.eta ≤ last_second)
+        (λ x w z g. rw z.eta g.eta) R (map waiting_of ws) zip good;
+    weights = zip_all s.closures (λ x. IsGoodFlight x.flight) (λ w. (1 ≤ w.weight) × (w.weight ≤ 100))
+        (λ x w z g. rw z.weight g.weight) R (map waiting_of ws) zip good;
+    passed = zip_all s.closures (λ x. x.passed ≤ s.aerodrome.k) (λ w. w.passed ≤ h.k) (λ x w z low. let k =
+        posed.k in let e = z.passed in omega (arith, low, k, e)) R (map waiting_of ws) zip passed_low;
     base =
         let b = base_low s sound in
         let e = of.base in

@@ -1,5 +1,6 @@
 -- What the frozen flights leave to the waiting ones.
-use Rattle.std.specs.Prelude.{◌≡◌, ℕ, ◌*◌, ◌≤◌, true, List, [], ◌∷◌, length, map, filter_map, take, Option, option_map, Some, None, MatchOption, ⊤, nat_lt, if◌then◌else◌}
+use Rattle.std.specs.Prelude.{◌≡◌, ℕ, ◌*◌, ◌≤◌, true, List, [], ◌∷◌, length, map, filter_map, take, Option, option_map}
+use Rattle.std.specs.Prelude.{Some, None, MatchOption, ⊤, nat_lt, if◌then◌else◌}
 use Rattle.wake_table.specs.declared.category.Category.{Category}
 use Rattle.landing_rules.specs.Flights.{Active, Landing, Situation, landing}
 use Rattle.landing_rules.specs.Limits.{greatest_weight}

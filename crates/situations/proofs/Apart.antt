@@ -1,5 +1,6 @@
 -- Callsigns that are apart stay so, and what changes a flight leaves its callsign.
-use Rattle.std.proofs.Common.{◌≡◌, ◌≢◌, ℕ, zero, suc, ◌<◌, Bool, true, false, cond, List, [], ◌∷◌, length, map, zip, get_or, Some, refl, sym, ap, ◌∙◌, arith}
+use Rattle.std.proofs.Common.{◌≡◌, ◌≢◌, ℕ, zero, suc, ◌<◌, Bool, true, false, cond, List, [], ◌∷◌, length, map, zip}
+use Rattle.std.proofs.Common.{get_or, Some, refl, sym, ap, ◌∙◌, arith}
 use Rattle.std.specs.Prelude.{◌&&◌, AllPairs, nat_lt}
 use Rattle.std.proofs.lemmas.List.{length-map, get_or-map}
 use Rattle.landing_rules.specs.Flights.{Active, Callsign, Flight, Span, is_waiting}
@@ -29,13 +30,17 @@ module _ (c : Callsign) (g : Active → Active) where
   other a e = ap (λ b. cond b (g a) a) e
 
   -- flights of other callsigns stay
-  pub others : (xs : List Active) → ((j : ℕ) (d : Active) → j < length xs → named c (get_or xs j d) ≡ false) → map at_named xs ≡ xs
+  pub others : (xs : List Active) → ((j : ℕ) (d : Active) → j < length xs → named c (get_or xs j d) ≡ false)
+      → map at_named xs ≡ xs
   others [] none = refl
-  others (x ∷ xs) none = ap (λ y. y ∷ map at_named xs) (other x (none zero x (omega arith))) ∙ ap (λ l. x ∷ l) (others xs (λ j d lt. none (suc j) d (omega arith)))
+  others (x ∷ xs) none = ap (λ y. y ∷ map at_named xs) (other x (none zero x (omega arith)))
+      ∙ ap (λ l. x ∷ l) (others xs (λ j d lt. none (suc j) d (omega arith)))
 
-  pub names_kept : ((a : Active) → name_of a ≡ name_of (g a)) → (xs : List Active) → map name_of xs ≡ map name_of (map at_named xs)
+  pub names_kept : ((a : Active) → name_of a ≡ name_of (g a)) → (xs : List Active)
+      → map name_of xs ≡ map name_of (map at_named xs)
   names_kept keeps [] = refl
-  names_kept keeps (x ∷ xs) = ap (λ l. name_of x ∷ l) (names_kept keeps xs) ∙ ap (λ n. n ∷ map name_of (map at_named xs)) (go (named c x))
+  names_kept keeps (x ∷ xs) = ap (λ l. name_of x ∷ l) (names_kept keeps xs)
+      ∙ ap (λ n. n ∷ map name_of (map at_named xs)) (go (named c x))
     where
       go : (b : Bool) → name_of x ≡ name_of (cond b (g x) x)
       go true = keeps x
@@ -46,23 +51,36 @@ with_estimate eta windows a = record a { flight = record a.flight { eta = eta; w
 
 -- ---- a clock event
 
-pub names_frozen : (z : Freeze) (xs : List Active) (ts : List ℕ) → length xs ≡ length ts → map name_of xs ≡ map name_of (map (λ p. frozen_one z p.0 p.1) (zip xs ts))
+pub names_frozen : (z : Freeze) (xs : List Active) (ts : List ℕ) → length xs ≡ length ts
+    → map name_of xs ≡ map name_of (map (λ p. frozen_one z p.0 p.1) (zip xs ts))
 names_frozen z [] ts n = refl
 names_frozen z (x ∷ xs) [] n = absurd (omega arith)
 names_frozen z (x ∷ xs) (t ∷ ts) n =
-    ap (λ l. x.flight.callsign ∷ l) (names_frozen z xs ts (omega arith)) ∙ ap (λ m. m ∷ map name_of (map (λ p. frozen_one z p.0 p.1) (zip xs ts))) (same (is_waiting x && nat_lt t z.h) (is_waiting x))
+    ap (λ l. x.flight.callsign ∷ l) (names_frozen z xs ts (omega arith))
+    ∙ ap (λ m. m ∷ map name_of (map (λ p. frozen_one z p.0 p.1) (zip xs ts)))
+    (same (is_waiting x && nat_lt t z.h) (is_waiting x))
   where
-    same : (b w : Bool) → x.flight.callsign ≡ (cond b (record x { frozen = Some t; passed = 0 }) (cond w (record x { passed = count_after z x }) x)).flight.callsign
+    same : (b w : Bool) → x.flight.callsign ≡ (cond b (record x { frozen = Some t; passed = 0 })
+        (cond w (record x { passed = count_after z x }) x)).flight.callsign
     same true w = refl
     same false true = refl
     same false false = refl
 
 -- ---- the opening
 
-pub opened_apart : (a : Aerodrome) (fs : List files.Flight) → AllPairs (λ f later. f.callsign ≢ later.callsign) fs → AreApart (opened a fs).active
+pub opened_apart : (a : Aerodrome) (fs : List files.Flight) → AllPairs (λ f later. f.callsign ≢ later.callsign) fs
+    → AreApart (opened a fs).active
 opened_apart a fs apart i j d lt le same =
     let n : length (opened a fs).active ≡ length fs = length-map (map flight_of fs) made ∙ length-map fs flight_of in
-    let g : files.Flight = record { callsign = d.flight.callsign; category = d.flight.category; eta = d.flight.eta; weight = d.flight.weight; windows = d.flight.windows; after = d.flight.after } in
+    let g : files.Flight = record {
+      callsign = d.flight.callsign;
+      category = d.flight.category;
+      eta =
+          d.flight.eta;
+      weight = d.flight.weight;
+      windows = d.flight.windows;
+      after = d.flight.after;
+    } in
     let name : (k : ℕ) → k < length fs → (get_or (opened a fs).active k d).flight.callsign ≡ (get_or fs k g).callsign =
     λ k lk. ap name_of (at k lk) ∙ ap (λ (z : Flight). z.callsign) (get_or-map flight_of fs k g d.flight lk) in
     apart i j g lt (omega arith) (sym (name i (omega arith)) ∙ same ∙ name j (omega arith))

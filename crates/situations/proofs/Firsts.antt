@@ -1,5 +1,6 @@
 -- What stands first in a list.
-use Rattle.std.proofs.Common.{◌≡◌, ℕ, suc, ◌+◌, ◌≤◌, Bool, true, false, not, cond, arith, List, [], ◌∷◌, ◌++◌, length, map, drop, Option, Some, None, refl, sym, ap, ◌∙◌, append_assoc}
+use Rattle.std.proofs.Common.{◌≡◌, ℕ, suc, ◌+◌, ◌≤◌, Bool, true, false, not, cond, arith, List, [], ◌∷◌, ◌++◌, length}
+use Rattle.std.proofs.Common.{map, drop, Option, Some, None, refl, sym, ap, ◌∙◌, append_assoc}
 use Rattle.std.specs.Prelude.{find, filter_map, position, option_map}
 use Rattle.std.specs.List.{cons_option, position_from, enumerate_from}
 use Rattle.std.specs.Option.{option_or}
@@ -16,20 +17,28 @@ use Rattle.situations.specs.Refused.{unless, first_from, clash_at, clash_from}
 
 -- the first element that fails its test, where the first one is at place n, gives the first fault
 module _ {X : Type 0} (ok : X → Bool) (fault : ℕ → OpeningFault) where
-  from_place : (n k : ℕ) (xs : List X) → option_map (λ i. fault (i + n)) (position_from (λ x. not (ok x)) k xs) ≡ first_from (λ i x. unless (ok x) (fault i)) (k + n) xs
+  from_place : (n k : ℕ) (xs : List X)
+      → option_map (λ i. fault (i + n)) (position_from (λ x. not (ok x)) k xs) ≡ first_from
+      (λ i x. unless (ok x) (fault i)) (k + n) xs
   from_place n k [] = refl
   from_place n k (x ∷ xs) = go (ok x) (from_place n (k + 1) xs)
     where
-      go : (b : Bool) → option_map (λ i. fault (i + n)) (position_from (λ y. not (ok y)) (k + 1) xs) ≡ first_from (λ i y. unless (ok y) (fault i)) (k + 1 + n) xs →
-          option_map (λ i. fault (i + n)) (cond (not b) (Some k) (position_from (λ y. not (ok y)) (k + 1) xs)) ≡ option_or (unless b (fault (k + n))) (first_from (λ i y. unless (ok y) (fault i)) (k + n + 1) xs)
+      go : (b : Bool) → option_map (λ i. fault (i + n)) (position_from (λ y. not (ok y)) (k + 1) xs) ≡ first_from
+          (λ i y. unless (ok y) (fault i)) (k + 1 + n) xs →
+          option_map (λ i. fault (i + n))
+          (cond (not b) (Some k) (position_from (λ y. not (ok y)) (k + 1) xs)) ≡ option_or
+          (unless b (fault (k + n))) (first_from (λ i y. unless (ok y) (fault i)) (k + n + 1) xs)
       go true ih = ih ∙ ap (λ m. first_from (λ i y. unless (ok y) (fault i)) m xs) (omega arith)
       go false ih = refl
 
-  pub first_place : (n : ℕ) (xs : List X) (at : Option ℕ) → at ≡ position (λ x. not (ok x)) xs → option_map (λ i. fault (i + n)) at ≡ first_from (λ i x. unless (ok x) (fault i)) n xs
-  first_place n xs at e = ap (option_map (λ i. fault (i + n))) (e ∙ position_from-zero (λ x. not (ok x)) xs) ∙ from_place n 0 xs ∙ ap (λ m. first_from (λ i x. unless (ok x) (fault i)) m xs) (omega arith)
+  pub first_place : (n : ℕ) (xs : List X) (at : Option ℕ) → at ≡ position (λ x. not (ok x)) xs
+      → option_map (λ i. fault (i + n)) at ≡ first_from (λ i x. unless (ok x) (fault i)) n xs
+  first_place n xs at e = ap (option_map (λ i. fault (i + n))) (e ∙ position_from-zero (λ x. not (ok x)) xs)
+      ∙ from_place n 0 xs ∙ ap (λ m. first_from (λ i x. unless (ok x) (fault i)) m xs) (omega arith)
 
 -- the first answer along the elements with their numbers from 0 is the first fault with their places from 1
-pub first_numbered : {X : Type 0} (fault_at : ℕ → X → Option OpeningFault) (n : ℕ) (xs : List X) → first_answer (λ p. fault_at (p.0 + 1) p.1) (enumerate_from n xs) ≡ first_from fault_at (n + 1) xs
+pub first_numbered : {X : Type 0} (fault_at : ℕ → X → Option OpeningFault) (n : ℕ) (xs : List X)
+    → first_answer (λ p. fault_at (p.0 + 1) p.1) (enumerate_from n xs) ≡ first_from fault_at (n + 1) xs
 unfolding first_answer
 first_numbered fault_at n [] = refl
 first_numbered fault_at n (x ∷ xs) = ap (λ o. option_or (fault_at (n + 1) x) o) (first_numbered fault_at (n + 1) xs)
@@ -38,31 +47,38 @@ first_numbered fault_at n (x ∷ xs) = ap (λ o. option_or (fault_at (n + 1) x) 
 abbrev pub clash_behind : List (List ℕ) → List Landing → ℕ × Landing → Option OpeningFault
 clash_behind table all g = first_from (clash_at table (g.0 + 1) g.1) (g.0 + 2) (drop (g.0 + 1) all)
 
-pub first_clashing : (table : List (List ℕ)) (all : List Landing) (n : ℕ) (xs : List Landing) → drop n all ≡ xs → first_answer (clash_behind table all) (enumerate_from n xs) ≡ clash_from table (n + 1) xs
+pub first_clashing : (table : List (List ℕ)) (all : List Landing) (n : ℕ) (xs : List Landing)
+    → drop n all ≡ xs → first_answer (clash_behind table all) (enumerate_from n xs) ≡ clash_from table (n + 1) xs
 unfolding first_answer
 first_clashing table all n [] e = refl
 first_clashing table all n (x ∷ xs) e =
     let rest : drop (n + 1) all ≡ xs = sym (drop-drop 1 n all) ∙ ap (drop 1) e in
     let two : n + 2 ≡ n + 1 + 1 = omega arith in
-    ap (λ m. option_or (first_from (clash_at table (n + 1) x) m (drop (n + 1) all)) (first_answer (clash_behind table all) (enumerate_from (n + 1) xs))) two
+    ap (λ m. option_or (first_from (clash_at table (n + 1) x) m (drop (n + 1) all))
+    (first_answer (clash_behind table all) (enumerate_from (n + 1) xs))) two
     ∙ rw (rest, first_clashing table all (n + 1) xs rest) refl
 
 -- ---- an entry by its callsign
 
-pub looked_up : {X : Type 0} (name : X → Callsign) (number : X → ℕ) (c : Callsign) (xs : List X) → option_map number (find (λ x. bytes_eq (name x) c) xs) ≡ look_up c (map (λ x. (name x, number x)) xs)
+pub looked_up : {X : Type 0} (name : X → Callsign) (number : X → ℕ) (c : Callsign) (xs : List X)
+    → option_map number (find (λ x. bytes_eq (name x) c) xs) ≡ look_up c (map (λ x. (name x, number x)) xs)
 looked_up name number c [] = refl
 looked_up name number c (x ∷ xs) = go (bytes_eq (name x) c) (looked_up name number c xs)
   where
-    go : (b : Bool) → option_map number (find (λ y. bytes_eq (name y) c) xs) ≡ look_up c (map (λ y. (name y, number y)) xs) →
-        option_map number (cond b (Some x) (find (λ y. bytes_eq (name y) c) xs)) ≡ cond b (Some (number x)) (look_up c (map (λ y. (name y, number y)) xs))
+    go : (b : Bool) → option_map number (find (λ y. bytes_eq (name y) c) xs) ≡ look_up c
+        (map (λ y. (name y, number y)) xs) →
+        option_map number (cond b (Some x) (find (λ y. bytes_eq (name y) c) xs)) ≡ cond b (Some (number x))
+        (look_up c (map (λ y. (name y, number y)) xs))
     go true ih = refl
     go false ih = ih
 
 -- ---- the landings that entries give
 
-module _ {X Y : Type 0} (h : X → Option Y) (xs : List X) (i : ℕ) (x : X) (done whole : List Y) (here : drop i xs ≡ x ∷ drop (i + 1) xs) (e : done ++ filter_map h (drop i xs) ≡ whole) where
+module _ {X Y : Type 0} (h : X → Option Y) (xs : List X) (i : ℕ) (x : X) (done whole : List Y)
+    (here : drop i xs ≡ x ∷ drop (i + 1) xs) (e : done ++ filter_map h (drop i xs) ≡ whole) where
   given_step : (o : Option Y) → h x ≡ o → done ++ cons_option o (filter_map h (drop (i + 1) xs)) ≡ whole
-  given_step o k = ap (λ o. done ++ cons_option o (filter_map h (drop (i + 1) xs))) (sym k) ∙ ap (λ l. done ++ l) (sym (ap (filter_map h) here)) ∙ e
+  given_step o k = ap (λ o. done ++ cons_option o (filter_map h (drop (i + 1) xs))) (sym k)
+      ∙ ap (λ l. done ++ l) (sym (ap (filter_map h) here)) ∙ e
 
   pub given_more : (y : Y) → h x ≡ Some y → (done ++ y ∷ []) ++ filter_map h (drop (i + 1) xs) ≡ whole
   given_more y k = append_assoc done (y ∷ []) (filter_map h (drop (i + 1) xs)) ∙ given_step (Some y) k
@@ -74,6 +90,7 @@ pub few_given : {X Y : Type 0} (h : X → Option Y) (xs : List X) → length (fi
 few_given h [] = omega arith
 few_given {Y = Y} h (x ∷ xs) = go (h x) (few_given h xs)
   where
-    go : (o : Option Y) → length (filter_map h xs) ≤ length xs → length (cons_option o (filter_map h xs)) ≤ suc (length xs)
+    go : (o : Option Y) → length (filter_map h xs) ≤ length xs
+        → length (cons_option o (filter_map h xs)) ≤ suc (length xs)
     go None le = omega arith
     go (Some y) le = omega arith

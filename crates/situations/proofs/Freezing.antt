@@ -1,5 +1,6 @@
 -- Freezing one flight after another freezes each.
-use Rattle.std.proofs.Common.{◌≡◌, ℕ, zero, suc, ◌+◌, ◌<◌, Bool, true, false, cond, ◌&&◌, List, [], ◌∷◌, ◌++◌, length, map, set, take, Option, Some, None, get_or, refl, sym, ap, ap₂, ◌∙◌, arith}
+use Rattle.std.proofs.Common.{◌≡◌, ℕ, zero, suc, ◌+◌, ◌<◌, Bool, true, false, cond, ◌&&◌, List, [], ◌∷◌, ◌++◌, length}
+use Rattle.std.proofs.Common.{map, set, take, Option, Some, None, get_or, refl, sym, ap, ap₂, ◌∙◌, arith}
 use Rattle.std.specs.Prelude.{nat_lt, zip}
 use Rattle.std.proofs.lemmas.List.Sums.{length-filter}
 use Rattle.std.specs.Prelude.{is_none, min, count_by, filter}
@@ -22,14 +23,17 @@ module _ {B : Type 0} (f : Active → B → Active) where
   turned (suc i) (x ∷ xs) [] = x ∷ xs
   turned (suc i) (x ∷ xs) (y ∷ ys) = f x y ∷ turned i xs ys
 
-  pub turned-step : (i : ℕ) (xs : List Active) (ys : List B) (d : Active) (e : B) → length xs ≡ length ys → i < length xs →
+  pub turned-step : (i : ℕ) (xs : List Active) (ys : List B) (d : Active) (e : B) → length xs ≡ length ys
+      → i < length xs →
       set (turned i xs ys) i (f (get_or (turned i xs ys) i d) (get_or ys i e)) ≡ turned (suc i) xs ys
   turned-step i [] ys d e n l = absurd (omega arith)
   turned-step i (x ∷ xs) [] d e n l = absurd (omega arith)
   turned-step zero (x ∷ xs) (y ∷ ys) d e n l = refl
-  turned-step (suc i) (x ∷ xs) (y ∷ ys) d e n l = ap (λ r. f x y ∷ r) (turned-step i xs ys d e (omega arith) (omega arith))
+  turned-step (suc i) (x ∷ xs) (y ∷ ys) d e n l =
+      ap (λ r. f x y ∷ r) (turned-step i xs ys d e (omega arith) (omega arith))
 
-  pub turned-all : (i : ℕ) (xs : List Active) (ys : List B) → length xs ≡ length ys → i ≡ length ys → turned i xs ys ≡ map (λ p. f p.0 p.1) (zip xs ys)
+  pub turned-all : (i : ℕ) (xs : List Active) (ys : List B) → length xs ≡ length ys → i ≡ length ys
+      → turned i xs ys ≡ map (λ p. f p.0 p.1) (zip xs ys)
   turned-all i [] [] n l = ap (λ j. turned j [] []) l
   turned-all i [] (y ∷ ys) n l = absurd (omega arith)
   turned-all i (x ∷ xs) [] n l = absurd (omega arith)
@@ -45,45 +49,67 @@ module _ {B : Type 0} (f : Active → B → Active) where
 -- ---- and back
 
 -- the flights that waited wait again, each with its count; a frozen one has not changed
-pub waiting_back : (a : Aerodrome) (h : ℕ) (all : List Landing) (cs : List (Callsign × ℕ)) (xs : List Active) (ts : List ℕ) → length xs ≡ length ts →
-    ((i : ℕ) (d : Active) → i < length xs → look_up (get_or xs i d).flight.callsign cs ≡ noted (get_or xs i d)) → listed waiting_again cs (map (after_clock a h all) (landings xs ts)) ≡ xs
+pub waiting_back : (a : Aerodrome) (h : ℕ) (all : List Landing) (cs : List (Callsign × ℕ))
+    (xs : List Active) (ts : List ℕ) → length xs ≡ length ts →
+    ((i : ℕ) (d : Active) → i < length xs → look_up (get_or xs i d).flight.callsign cs ≡ noted (get_or xs i d))
+    → listed waiting_again cs (map (after_clock a h all) (landings xs ts)) ≡ xs
 waiting_back a h all cs [] ts n own = refl
 waiting_back a h all cs (x ∷ xs) [] n own = absurd (omega arith)
 waiting_back a h all cs (x ∷ xs) (t ∷ ts) n own =
-    ap₂ (λ (y : Active) (l : List Active). y ∷ l) (go x.frozen refl (nat_lt t h)) (waiting_back a h all cs xs ts (omega arith) (λ i d lt. own (suc i) d (omega arith)))
+    ap₂ (λ (y : Active) (l : List Active). y ∷ l) (go x.frozen refl (nat_lt t h))
+    (waiting_back a h all cs xs ts (omega arith) (λ i d lt. own (suc i) d (omega arith)))
   where
     again : Active → Active
     again y = waiting_again (look_up y.flight.callsign cs) y
 
     go : (o : Option ℕ) → x.frozen ≡ o → (b : Bool) →
         again (cond (is_none o && b) (record { flight = x.flight; frozen = Some t; passed = 0 })
-        (cond (is_none o) (record { flight = x.flight; frozen = None; passed = passed_after a h all (landing x t) }) (record { flight = x.flight; frozen = o; passed = x.passed }))) ≡ record x { frozen = o }
-    go (Some s) e b = ap (λ p. waiting_again p (record x { frozen = Some s })) (own zero x (omega arith) ∙ ap (λ o. cond (is_none o) (Some x.passed) None) e)
-    go None e true = ap (λ p. waiting_again p (record x { frozen = Some t; passed = 0 })) (own zero x (omega arith) ∙ ap (λ o. cond (is_none o) (Some x.passed) None) e)
-    go None e false = ap (λ p. waiting_again p (record x { frozen = None; passed = passed_after a h all (landing x t) })) (own zero x (omega arith) ∙ ap (λ o. cond (is_none o) (Some x.passed) None) e)
+        (cond (is_none o) (record { flight = x.flight; frozen = None; passed = passed_after a h all (landing x t) })
+        (record { flight = x.flight; frozen = o; passed = x.passed }))) ≡ record x { frozen = o }
+    go (Some s) e b = ap (λ p. waiting_again p (record x { frozen = Some s })) (own zero x (omega arith)
+        ∙ ap (λ o. cond (is_none o) (Some x.passed) None) e)
+    go None e true = ap (λ p. waiting_again p (record x { frozen = Some t; passed = 0 }))
+        (own zero x (omega arith) ∙ ap (λ o. cond (is_none o) (Some x.passed) None) e)
+    go None e false = ap (λ p. waiting_again p
+        (record x { frozen = None; passed = passed_after a h all (landing x t) })) (own zero x (omega arith)
+        ∙ ap (λ o. cond (is_none o) (Some x.passed) None) e)
 
 -- ---- what freezes
 
 -- one more flight
-pub freezing-more : (h i : ℕ) (active : List Active) (ts : List ℕ) (d : Active) → length active ≡ length ts → i < length ts →
-    freezing h (take i active) (take i ts) ++ arrival_if h (landing (get_or active i d) (get_or ts i 0)) ≡ freezing h (take (suc i) active) (take (suc i) ts)
+pub freezing-more : (h i : ℕ) (active : List Active) (ts : List ℕ) (d : Active) → length active ≡ length ts
+    → i < length ts →
+    freezing h (take i active) (take i ts) ++ arrival_if h (landing (get_or active i d) (get_or ts i 0)) ≡ freezing h
+    (take (suc i) active) (take (suc i) ts)
 freezing-more h i [] ts d n l = absurd (omega arith)
 freezing-more h i (a ∷ active) [] d n l = absurd (omega arith)
 freezing-more h zero (a ∷ active) (t ∷ ts) d n l = go (freezes h (landing a t))
   where
-    go : (b : Bool) → cond b (arrival a.flight ∷ []) [] ≡ map (λ (g : Landing). arrival g.flight) (cond b (landing a t ∷ []) [])
+    go : (b : Bool) → cond b (arrival a.flight ∷ []) [] ≡ map (λ (g : Landing). arrival g.flight)
+        (cond b (landing a t ∷ []) [])
     go true = refl
     go false = refl
-freezing-more h (suc i) (a ∷ active) (t ∷ ts) d n l = go (freezes h (landing a t)) (freezing-more h i active ts d (omega arith) (omega arith))
+freezing-more h (suc i) (a ∷ active) (t ∷ ts) d n l =
+    go (freezes h (landing a t)) (freezing-more h i active ts d (omega arith) (omega arith))
   where
-    go : (b : Bool) → freezing h (take i active) (take i ts) ++ arrival_if h (landing (get_or active i d) (get_or ts i 0)) ≡ freezing h (take (suc i) active) (take (suc i) ts) →
-        map (λ (g : Landing). arrival g.flight) (cond b (landing a t ∷ filter (freezes h) (landings (take i active) (take i ts))) (filter (freezes h) (landings (take i active) (take i ts)))) ++ arrival_if h (landing (get_or active i d) (get_or ts i 0))
-        ≡ map (λ (g : Landing). arrival g.flight) (cond b (landing a t ∷ filter (freezes h) (landings (take (suc i) active) (take (suc i) ts))) (filter (freezes h) (landings (take (suc i) active) (take (suc i) ts))))
+    go : (b : Bool) → freezing h (take i active) (take i ts)
+        ++ arrival_if h (landing (get_or active i d) (get_or ts i 0)) ≡ freezing h (take (suc i) active)
+        (take (suc i) ts)
+        →
+        map (λ (g : Landing). arrival g.flight)
+        (cond b (landing a t ∷ filter (freezes h) (landings (take i active) (take i ts)))
+        (filter (freezes h) (landings (take i active) (take i ts))))
+        ++ arrival_if h (landing (get_or active i d) (get_or ts i 0))
+        ≡ map (λ (g : Landing). arrival g.flight)
+        (cond b (landing a t ∷ filter (freezes h) (landings (take (suc i) active) (take (suc i) ts)))
+        (filter (freezes h) (landings (take (suc i) active) (take (suc i) ts))))
     go true ih = ap (λ l. arrival a.flight ∷ l) ih
     go false ih = ih
 
-pub freezing-step : (h i : ℕ) (active : List Active) (ts : List ℕ) (a : Active) (now new : List (ℕ × List ℕ)) → length active ≡ length ts → i < length ts → a ≡ get_or active i a →
-    now ≡ freezing h (take i active) (take i ts) → new ≡ now ++ arrival_if h (landing a (get_or ts i 0)) → new ≡ freezing h (take (i + 1) active) (take (i + 1) ts)
+pub freezing-step : (h i : ℕ) (active : List Active) (ts : List ℕ) (a : Active) (now new : List (ℕ × List ℕ))
+    → length active ≡ length ts → i < length ts → a ≡ get_or active i a →
+    now ≡ freezing h (take i active) (take i ts) → new ≡ now ++ arrival_if h (landing a (get_or ts i 0))
+    → new ≡ freezing h (take (i + 1) active) (take (i + 1) ts)
 freezing-step h i active ts a now new n l at e set =
     let m : i + 1 ≡ suc i = omega arith in
     set ∙ ap (λ l. l ++ arrival_if h (landing a (get_or ts i 0))) e
@@ -99,49 +125,69 @@ abbrev stays : Flight → Option ℕ → ℕ → Active
 stays f o p = record { flight = f; frozen = o; passed = p }
 
 parts : (t n m : ℕ) → n ≡ m → (f : Flight) (o : Option ℕ) (p : ℕ) (b : Bool) →
-    cond (is_none o && b) (froze t f) (cond (is_none o) (stays f o n) (stays f o p)) ≡ cond (is_none o && b) (froze t f) (cond (is_none o) (stays f None m) (stays f o p))
+    cond (is_none o && b) (froze t f) (cond (is_none o) (stays f o n) (stays f o p)) ≡ cond
+    (is_none o && b) (froze t f) (cond (is_none o) (stays f None m) (stays f o p))
 parts t n m e f (Some s) p b = refl
 parts t n m e f None p true = refl
 parts t n m e f None p false = ap (stays f None) e
 
-kept-map : (test : ℕ × List ℕ → Bool) (all : List Landing) → length (filter test (map (λ (g : Landing). arrival g.flight) all)) ≡ length (filter (λ (g : Landing). test (arrival g.flight)) all)
+kept-map : (test : ℕ × List ℕ → Bool) (all : List Landing)
+    → length (filter test (map (λ (g : Landing). arrival g.flight) all)) ≡ length
+    (filter (λ (g : Landing). test (arrival g.flight)) all)
 kept-map test [] = refl
 kept-map test (g ∷ all) = go (test (arrival g.flight)) (kept-map test all)
   where
-    go : (b : Bool) → length (filter test (map (λ (g : Landing). arrival g.flight) all)) ≡ length (filter (λ (g : Landing). test (arrival g.flight)) all) →
-        length (cond b (arrival g.flight ∷ filter test (map (λ (g : Landing). arrival g.flight) all)) (filter test (map (λ (g : Landing). arrival g.flight) all)))
-        ≡ length (cond b (g ∷ filter (λ (g : Landing). test (arrival g.flight)) all) (filter (λ (g : Landing). test (arrival g.flight)) all))
+    go : (b : Bool) → length (filter test (map (λ (g : Landing). arrival g.flight) all)) ≡ length
+        (filter (λ (g : Landing). test (arrival g.flight)) all) →
+        length (cond b (arrival g.flight ∷ filter test (map (λ (g : Landing). arrival g.flight) all))
+        (filter test (map (λ (g : Landing). arrival g.flight) all)))
+        ≡ length (cond b (g ∷ filter (λ (g : Landing). test (arrival g.flight)) all)
+        (filter (λ (g : Landing). test (arrival g.flight)) all))
     go true ih = ap suc ih
     go false ih = ih
 
-count-map : (test : ℕ × List ℕ → Bool) (all : List Landing) → count_by test (map (λ (g : Landing). arrival g.flight) all) ≡ count_by (λ (g : Landing). test (arrival g.flight)) all
+count-map : (test : ℕ × List ℕ → Bool) (all : List Landing)
+    → count_by test (map (λ (g : Landing). arrival g.flight) all) ≡ count_by
+    (λ (g : Landing). test (arrival g.flight)) all
 count-map test all =
-    sym (length-filter test (map (λ (g : Landing). arrival g.flight) all)) ∙ kept-map test all ∙ length-filter (λ (g : Landing). test (arrival g.flight)) all
+    sym (length-filter test (map (λ (g : Landing). arrival g.flight) all)) ∙ kept-map test all
+    ∙ length-filter (λ (g : Landing). test (arrival g.flight)) all
 
 -- the count that the rules give
-count_is : (a : Aerodrome) (h : ℕ) (active : List Active) (ts : List ℕ) (z : Freeze) → IsFreezeOf a h active ts z → (x : Active) (t : ℕ) → count_after z x ≡ passed_after a h (landings active ts) (landing x t)
+count_is : (a : Aerodrome) (h : ℕ) (active : List Active) (ts : List ℕ) (z : Freeze) → IsFreezeOf a h active ts z
+    → (x : Active) (t : ℕ) → count_after z x ≡ passed_after a h (landings active ts) (landing x t)
 count_is a h active ts z of x t = go a.carry refl
   where
     others : List Landing
     others = filter (freezes h) (landings active ts)
 
     go : (b : Bool) → a.carry ≡ b →
-        count_after z x ≡ cond a.carry (min a.k (x.passed + count_by (λ (g : Landing). is_lt (arrival_cmp x.flight g.flight)) others)) x.passed
+        count_after z x ≡ cond a.carry
+        (min a.k (x.passed + count_by (λ (g : Landing). is_lt (arrival_cmp x.flight g.flight)) others)) x.passed
     go false e = rw (of.carry, e) refl
     go true e =
         let same : z.freezing.items ≡ map (λ (g : Landing). arrival g.flight) others = of.freezing (of.carry ∙ e) in
-        let n : behind z.freezing.items x ≡ count_by (λ (g : Landing). is_lt (arrival_cmp x.flight g.flight)) others = ap (λ l. behind l x) same ∙ count-map (λ g. is_lt (first_come_cmp (arrival x.flight) g)) others in
-        rw (of.carry, e) (ap (λ m. min z.k (x.passed + m)) n ∙ ap (λ k. min k (x.passed + count_by (λ (g : Landing). is_lt (arrival_cmp x.flight g.flight)) others)) of.most)
+        let n : behind z.freezing.items x ≡ count_by (λ (g : Landing). is_lt (arrival_cmp x.flight g.flight)) others =
+        ap (λ l. behind l x) same ∙ count-map (λ g. is_lt (first_come_cmp (arrival x.flight) g)) others in
+        rw (of.carry, e) (ap (λ m. min z.k (x.passed + m)) n
+        ∙ ap (λ k. min k (x.passed + count_by (λ (g : Landing). is_lt (arrival_cmp x.flight g.flight)) others))
+        of.most)
 
 -- what a clock event makes of a flight
-one_after : (a : Aerodrome) (h : ℕ) (active : List Active) (ts : List ℕ) (z : Freeze) → IsFreezeOf a h active ts z → (x : Active) (t : ℕ) → frozen_one z x t ≡ after_clock a h (landings active ts) (landing x t)
+one_after : (a : Aerodrome) (h : ℕ) (active : List Active) (ts : List ℕ) (z : Freeze) → IsFreezeOf a h active ts z
+    → (x : Active) (t : ℕ) → frozen_one z x t ≡ after_clock a h (landings active ts) (landing x t)
 one_after a h active ts z of x t =
-    parts t (count_after z x) (passed_after a h (landings active ts) (landing x t)) (count_is a h active ts z of x t) x.flight x.frozen x.passed (nat_lt t z.h)
-    ∙ ap (λ n. cond (is_none x.frozen && nat_lt t n) (froze t x.flight) (cond (is_none x.frozen) (stays x.flight None (passed_after a h (landings active ts) (landing x t))) (stays x.flight x.frozen x.passed))) of.horizon
+    parts t (count_after z x) (passed_after a h (landings active ts) (landing x t))
+    (count_is a h active ts z of x t) x.flight x.frozen x.passed (nat_lt t z.h)
+    ∙ ap (λ n. cond (is_none x.frozen && nat_lt t n) (froze t x.flight)
+    (cond (is_none x.frozen) (stays x.flight None (passed_after a h (landings active ts) (landing x t)))
+    (stays x.flight x.frozen x.passed))) of.horizon
 
-pub frozen_flights : (a : Aerodrome) (h : ℕ) (active : List Active) (all : List ℕ) (z : Freeze) → IsFreezeOf a h active all z → (xs : List Active) (ts : List ℕ) →
+pub frozen_flights : (a : Aerodrome) (h : ℕ) (active : List Active) (all : List ℕ) (z : Freeze)
+    → IsFreezeOf a h active all z → (xs : List Active) (ts : List ℕ) →
     map (λ p. frozen_one z p.0 p.1) (zip xs ts) ≡ map (after_clock a h (landings active all)) (landings xs ts)
 frozen_flights a h active all z of [] ts = refl
 frozen_flights a h active all z of (x ∷ xs) [] = refl
 frozen_flights a h active all z of (x ∷ xs) (t ∷ ts) =
-    ap (λ l. frozen_one z x t ∷ l) (frozen_flights a h active all z of xs ts) ∙ ap (λ v. v ∷ map (after_clock a h (landings active all)) (landings xs ts)) (one_after a h active all z of x t)
+    ap (λ l. frozen_one z x t ∷ l) (frozen_flights a h active all z of xs ts)
+    ∙ ap (λ v. v ∷ map (after_clock a h (landings active all)) (landings xs ts)) (one_after a h active all z of x t)

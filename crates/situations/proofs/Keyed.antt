@@ -1,12 +1,15 @@
 -- What a look-up by callsign finds, and what a change of the map makes of the flights in order of arrival.
-use Rattle.std.proofs.Common.{◌≡◌, ◌≢◌, ℕ, zero, suc, ◌+◌, ◌-◌, ◌<◌, Bool, true, false, cond, not, List, [], ◌∷◌, ◌++◌, ◌||◌, ◌&&◌, length, map, filter, take, drop, set, get_or, insert, remove, slice_get, Option, Some, None, is_some, refl, sym, ap, ap₂, ◌∙◌, arith}
+use Rattle.std.proofs.Common.{◌≡◌, ◌≢◌, ℕ, zero, suc, ◌+◌, ◌-◌, ◌<◌, Bool, true, false, cond, not, List, [], ◌∷◌, ◌++◌}
+use Rattle.std.proofs.Common.{◌||◌, ◌&&◌, length, map, filter, take, drop, set, get_or, insert, remove, slice_get}
+use Rattle.std.proofs.Common.{Option, Some, None, is_some, refl, sym, ap, ap₂, ◌∙◌, arith}
 use Rattle.std.specs.Prelude.{AllPairs, find, unwrap_or}
 use Rattle.std.specs.List.{IsDistinct, list_any}
 use Rattle.std.specs.Option.{option_map_or}
 use Rattle.std.specs.Map.{keys_of, values_of, lookup, set_value}
 use Rattle.std.specs.Str.{bytes_eq}
 use Rattle.std.proofs.lemmas.Bool.{false≢true}
-use Rattle.std.proofs.lemmas.List.{get_or-map, get_or-take, length-map, length-take, length_push, map-append, take_at, take_more}
+use Rattle.std.proofs.lemmas.List.{get_or-map, get_or-take, length-map, length-take, length_push, map-append, take_at}
+use Rattle.std.proofs.lemmas.List.{take_more}
 use Rattle.std.proofs.lemmas.List.Edits.{length-remove}
 use Rattle.std.proofs.lemmas.Map.Keys.{apart_from_distinct}
 use Rattle.std.proofs.lemmas.Option.{slice_get_within, get_or_from_slice_get, same_Some}
@@ -54,7 +57,8 @@ pub is_found : (c : Callsign) (xs : List Active) → is_some (find (named c) xs)
 is_found c [] = refl
 is_found c (x ∷ xs) = go (named c x) (is_found c xs)
   where
-    go : (b : Bool) → is_some (find (named c) xs) ≡ list_any (named c) xs → is_some (cond b (Some x) (find (named c) xs)) ≡ (b || list_any (named c) xs)
+    go : (b : Bool) → is_some (find (named c) xs) ≡ list_any (named c) xs
+        → is_some (cond b (Some x) (find (named c) xs)) ≡ (b || list_any (named c) xs)
     go true ih = refl
     go false ih = ih
 
@@ -63,15 +67,18 @@ none_from_some None e = refl
 none_from_some (Some x) e = absurd (false≢true (sym e))
 
 -- where no flight has the callsign, the key is not there
-pub not_there : (c : Callsign) (es : List Entry) → Keyed es → list_any (named c) (values_of es) ≡ false → lookup (bytes_eq c) es ≡ None
-not_there c es h none = none_from_some (lookup (bytes_eq c) es) (ap is_some (looked_up c es h) ∙ is_found c (values_of es) ∙ none)
+pub not_there : (c : Callsign) (es : List Entry) → Keyed es → list_any (named c) (values_of es) ≡ false
+    → lookup (bytes_eq c) es ≡ None
+not_there c es h none = none_from_some (lookup (bytes_eq c) es) (ap is_some (looked_up c es h)
+    ∙ is_found c (values_of es) ∙ none)
 
 -- a flight that is found has the callsign
 pub found_named : (c : Callsign) (xs : List Active) (a : Active) → find (named c) xs ≡ Some a → named c a ≡ true
 found_named c [] a e = let w : None ≡ Some a = e in absurd (cc)
 found_named c (x ∷ xs) a e = go (named c x) refl e (found_named c xs a)
   where
-    go : (b : Bool) → named c x ≡ b → cond b (Some x) (find (named c) xs) ≡ Some a → (find (named c) xs ≡ Some a → named c a ≡ true) → named c a ≡ true
+    go : (b : Bool) → named c x ≡ b → cond b (Some x) (find (named c) xs) ≡ Some a
+        → (find (named c) xs ≡ Some a → named c a ≡ true) → named c a ≡ true
     go true n f ih = ap (named c) (sym (same_Some x a f)) ∙ n
     go false n f ih = ih f
 
@@ -87,32 +94,41 @@ keyed_apart es keyed distinct i j d lt le same =
     λ k lk. ap (λ l. get_or l k (name_of d)) keyed ∙ get_or-map name_of vs k d (name_of d) lk in
     let one = at i (omega arith) in
     let two = at j le in
-    let differ : bytes_eq (get_or (keys_of es) i (name_of d)) (get_or (keys_of es) j (name_of d)) ≡ false = apart_from_distinct bytes_eq (keys_of es) i j (name_of d) distinct lt (omega arith) in
-    false≢true (sym differ ∙ ap (λ k. bytes_eq k (get_or (keys_of es) j (name_of d))) (one ∙ same ∙ sym two) ∙ bytes_eq-refl (get_or (keys_of es) j (name_of d)))
+    let differ : bytes_eq (get_or (keys_of es) i (name_of d)) (get_or (keys_of es) j (name_of d)) ≡ false =
+    apart_from_distinct bytes_eq (keys_of es) i j (name_of d) distinct lt (omega arith) in
+    false≢true (sym differ ∙ ap (λ k. bytes_eq k (get_or (keys_of es) j (name_of d))) (one ∙ same ∙ sym two)
+    ∙ bytes_eq-refl (get_or (keys_of es) j (name_of d)))
 
 -- the others of a list have another callsign than the first
-pub none_behind : (c : Callsign) (x : Active) (xs : List Active) → AreApart (x ∷ xs) → named c x ≡ true → (j : ℕ) (d : Active) → j < length xs → named c (get_or xs j d) ≡ false
+pub none_behind : (c : Callsign) (x : Active) (xs : List Active) → AreApart (x ∷ xs) → named c x ≡ true
+    → (j : ℕ) (d : Active) → j < length xs → named c (get_or xs j d) ≡ false
 none_behind c x xs apart is j d lt = go (named c (get_or xs j d)) refl
   where
     go : (b : Bool) → named c (get_or xs j d) ≡ b → b ≡ false
-    go true e = absurd (apart zero (suc j) d (omega arith) (omega arith) (bytes_eq-true x.flight.callsign c is ∙ sym (bytes_eq-true (get_or xs j d).flight.callsign c e)))
+    go true e = absurd (apart zero (suc j) d (omega arith) (omega arith) (bytes_eq-true x.flight.callsign c is
+        ∙ sym (bytes_eq-true (get_or xs j d).flight.callsign c e)))
     go false e = refl
 
 -- whether the flight of the callsign passes a test, where callsigns are apart
-pub any_named : (c : Callsign) (test : Active → Bool) (xs : List Active) → AreApart xs → option_map_or test (find (named c) xs) false ≡ list_any (λ a. named c a && test a) xs
+pub any_named : (c : Callsign) (test : Active → Bool) (xs : List Active) → AreApart xs
+    → option_map_or test (find (named c) xs) false ≡ list_any (λ a. named c a && test a) xs
 any_named c test [] apart = refl
 any_named c test (x ∷ xs) apart = go (named c x) refl (any_named c test xs (tail_apart x xs apart))
   where
-    none : (ys : List Active) → ((j : ℕ) (d : Active) → j < length ys → named c (get_or ys j d) ≡ false) → false ≡ list_any (λ a. named c a && test a) ys
+    none : (ys : List Active) → ((j : ℕ) (d : Active) → j < length ys → named c (get_or ys j d) ≡ false)
+        → false ≡ list_any (λ a. named c a && test a) ys
     none [] h = refl
-    none (y ∷ ys) h = none ys (λ j d lt. h (suc j) d (omega arith)) ∙ ap (λ b. (b && test y) || list_any (λ a. named c a && test a) ys) (sym (h zero y (omega arith)))
+    none (y ∷ ys) h = none ys (λ j d lt. h (suc j) d (omega arith))
+        ∙ ap (λ b. (b && test y) || list_any (λ a. named c a && test a) ys) (sym (h zero y (omega arith)))
 
     or : (b : Bool) → false ≡ list_any (λ a. named c a && test a) xs → b ≡ (b || list_any (λ a. named c a && test a) xs)
     or true h = refl
     or false h = h
 
-    go : (b : Bool) → named c x ≡ b → option_map_or test (find (named c) xs) false ≡ list_any (λ a. named c a && test a) xs →
-        option_map_or test (cond b (Some x) (find (named c) xs)) false ≡ ((b && test x) || list_any (λ a. named c a && test a) xs)
+    go : (b : Bool) → named c x ≡ b → option_map_or test (find (named c) xs) false ≡ list_any
+        (λ a. named c a && test a) xs →
+        option_map_or test (cond b (Some x) (find (named c) xs)) false ≡ ((b && test x)
+        || list_any (λ a. named c a && test a) xs)
     go true e ih = or (test x) (none xs (none_behind c x xs apart e))
     go false e ih = ih
 
@@ -124,18 +140,23 @@ module _ (c : Callsign) (g : Active → Active) where
   none_named [] n = refl
   none_named (x ∷ xs) n = go (named c x) refl n (none_named xs)
     where
-      go : (b : Bool) → named c x ≡ b → cond b (Some x) (find (named c) xs) ≡ None → (find (named c) xs ≡ None → map (at_named c g) xs ≡ xs) → map (at_named c g) (x ∷ xs) ≡ x ∷ xs
+      go : (b : Bool) → named c x ≡ b → cond b (Some x) (find (named c) xs) ≡ None
+          → (find (named c) xs ≡ None → map (at_named c g) xs ≡ xs) → map (at_named c g) (x ∷ xs) ≡ x ∷ xs
       go true e f ih = let w : Some x ≡ None = f in absurd (cc)
       go false e f ih = ap (λ y. y ∷ map (at_named c g) xs) (other c g x e) ∙ ap (λ l. x ∷ l) (ih f)
 
   -- the entry of the callsign has the new value, and no other flight has that callsign
-  one_set : (a : Active) (es : List Entry) → Keyed es → AreApart (values_of es) → lookup (bytes_eq c) es ≡ Some a → values_of (set_value (bytes_eq c) es (g a)) ≡ map (at_named c g) (values_of es)
+  one_set : (a : Active) (es : List Entry) → Keyed es → AreApart (values_of es) → lookup (bytes_eq c) es ≡ Some a
+      → values_of (set_value (bytes_eq c) es (g a)) ≡ map (at_named c g) (values_of es)
   one_set a [] h apart n = let w : None ≡ Some a = n in absurd (cc)
-  one_set a (e ∷ es) h apart n = go (bytes_eq c e.0) refl n (one_set a es (tail_keyed e es h) (tail_apart e.1 (values_of es) apart))
+  one_set a (e ∷ es) h apart n =
+      go (bytes_eq c e.0) refl n (one_set a es (tail_keyed e es h) (tail_apart e.1 (values_of es) apart))
     where
       go : (b : Bool) → bytes_eq c e.0 ≡ b → cond b (Some e.1) (lookup (bytes_eq c) es) ≡ Some a →
-          (lookup (bytes_eq c) es ≡ Some a → values_of (set_value (bytes_eq c) es (g a)) ≡ map (at_named c g) (values_of es)) →
-          values_of (cond b ((e.0, g a) ∷ es) (e ∷ set_value (bytes_eq c) es (g a))) ≡ map (at_named c g) (values_of (e ∷ es))
+          (lookup (bytes_eq c) es ≡ Some a → values_of (set_value (bytes_eq c) es (g a)) ≡ map
+          (at_named c g) (values_of es)) →
+          values_of (cond b ((e.0, g a) ∷ es) (e ∷ set_value (bytes_eq c) es (g a))) ≡ map
+          (at_named c g) (values_of (e ∷ es))
       go true k f ih =
           let is : named c e.1 ≡ true = keyed_named c e es h ∙ k in
           let same : e.1 ≡ a = same_Some e.1 a f in
@@ -147,54 +168,71 @@ module _ (c : Callsign) (g : Active → Active) where
           ap (λ l. e.1 ∷ l) (ih f) ∙ ap (λ y. y ∷ map (at_named c g) (values_of es)) (sym (other c g e.1 not))
 
   -- the flights of a map where the value under the callsign has changed
-  pub changed_one : (es fs : List Entry) (a : Active) (x : Active) → Keyed es → IsDistinct bytes_eq (keys_of es) → lookup (bytes_eq c) es ≡ Some a → x ≡ g a → fs ≡ set_value (bytes_eq c) es x →
+  pub changed_one : (es fs : List Entry) (a : Active) (x : Active) → Keyed es → IsDistinct bytes_eq (keys_of es)
+      → lookup (bytes_eq c) es ≡ Some a → x ≡ g a → fs ≡ set_value (bytes_eq c) es x →
       values_of fs ≡ map (at_named c g) (values_of es)
-  changed_one es fs a x h distinct n new e = ap values_of e ∙ ap (λ v. values_of (set_value (bytes_eq c) es v)) new ∙ one_set a es h (keyed_apart es h distinct) n
+  changed_one es fs a x h distinct n new e = ap values_of e ∙ ap (λ v. values_of (set_value (bytes_eq c) es v)) new
+      ∙ one_set a es h (keyed_apart es h distinct) n
 
 -- the estimate that it had gives the flight back
-pub estimated_back : (c : Callsign) (eta : ℕ) (windows : List Span) (xs : List Active) (a : Active) → AreApart xs → find (named c) xs ≡ Some a →
+pub estimated_back : (c : Callsign) (eta : ℕ) (windows : List Span) (xs : List Active) (a : Active)
+    → AreApart xs → find (named c) xs ≡ Some a →
     map (estimated c a.flight.eta a.flight.windows) (map (estimated c eta windows) xs) ≡ xs
 estimated_back c eta windows [] a apart f = refl
-estimated_back c eta windows (x ∷ xs) a apart f = go (named c x) refl f (estimated_back c eta windows xs a (tail_apart x xs apart))
+estimated_back c eta windows (x ∷ xs) a apart f =
+    go (named c x) refl f (estimated_back c eta windows xs a (tail_apart x xs apart))
   where
     back : Active → Active
     back y = estimated c a.flight.eta a.flight.windows y
 
-    go : (b : Bool) → named c x ≡ b → cond b (Some x) (find (named c) xs) ≡ Some a → (find (named c) xs ≡ Some a → map back (map (estimated c eta windows) xs) ≡ xs) →
+    go : (b : Bool) → named c x ≡ b → cond b (Some x) (find (named c) xs) ≡ Some a
+        → (find (named c) xs ≡ Some a → map back (map (estimated c eta windows) xs) ≡ xs) →
         back (estimated c eta windows x) ∷ map back (map (estimated c eta windows) xs) ≡ x ∷ xs
     go true e g ih =
         let same : x ≡ a = same_Some x a g in
         let none = none_behind c x xs apart e in
         let head : back (estimated c eta windows x) ≡ x =
-        ap (λ b. back (cond b (with_estimate eta windows x) x)) e ∙ ap (λ b. cond b (with_estimate a.flight.eta a.flight.windows (with_estimate eta windows x)) (with_estimate eta windows x)) e
+        ap (λ b. back (cond b (with_estimate eta windows x) x)) e
+        ∙ ap (λ b. cond b (with_estimate a.flight.eta a.flight.windows (with_estimate eta windows x))
+        (with_estimate eta windows x)) e
         ∙ ap (λ v. with_estimate v.flight.eta v.flight.windows (with_estimate eta windows x)) (sym same) in
         ap (λ y. y ∷ map back (map (estimated c eta windows) xs)) head
-        ∙ ap (λ l. x ∷ map back l) (others c (with_estimate eta windows) xs none) ∙ ap (λ l. x ∷ l) (others c (with_estimate a.flight.eta a.flight.windows) xs none)
+        ∙ ap (λ l. x ∷ map back l) (others c (with_estimate eta windows) xs none)
+        ∙ ap (λ l. x ∷ l) (others c (with_estimate a.flight.eta a.flight.windows) xs none)
     go false e g ih =
         ap (λ y. back y ∷ map back (map (estimated c eta windows) xs)) (other c (with_estimate eta windows) x e)
-        ∙ ap (λ y. y ∷ map back (map (estimated c eta windows) xs)) (other c (with_estimate a.flight.eta a.flight.windows) x e) ∙ ap (λ l. x ∷ l) (ih g)
+        ∙ ap (λ y. y ∷ map back (map (estimated c eta windows) xs))
+        (other c (with_estimate a.flight.eta a.flight.windows) x e) ∙ ap (λ l. x ∷ l) (ih g)
 
 -- ---- a flight less
 
-none_gone : (c : Callsign) (xs : List Active) → ((j : ℕ) (d : Active) → j < length xs → named c (get_or xs j d) ≡ false) → xs ≡ filter (λ a. not (named c a)) xs
+none_gone : (c : Callsign) (xs : List Active) → ((j : ℕ) (d : Active) → j < length xs → named c (get_or xs j d) ≡ false)
+    → xs ≡ filter (λ a. not (named c a)) xs
 none_gone c [] none = refl
 none_gone c (x ∷ xs) none =
-    ap (λ l. x ∷ l) (none_gone c xs (λ j d lt. none (suc j) d (omega arith))) ∙ ap (λ b. cond (not b) (x ∷ filter (λ a. not (named c a)) xs) (filter (λ a. not (named c a)) xs)) (sym (none zero x (omega arith)))
+    ap (λ l. x ∷ l) (none_gone c xs (λ j d lt. none (suc j) d (omega arith)))
+    ∙ ap (λ b. cond (not b) (x ∷ filter (λ a. not (named c a)) xs) (filter (λ a. not (named c a)) xs))
+    (sym (none zero x (omega arith)))
 
 -- the list without its flight of the callsign
-pub one_gone : (c : Callsign) (xs : List Active) (i : ℕ) (a : Active) → AreApart xs → slice_get xs i ≡ Some a → named c a ≡ true → remove xs i ≡ filter (λ a. not (named c a)) xs
+pub one_gone : (c : Callsign) (xs : List Active) (i : ℕ) (a : Active) → AreApart xs → slice_get xs i ≡ Some a
+    → named c a ≡ true → remove xs i ≡ filter (λ a. not (named c a)) xs
 one_gone c [] i a apart at is = absurd (let lt = slice_get_within [] i a at in omega arith)
 one_gone c (x ∷ xs) zero a apart at is =
     let same : x ≡ a = same_Some x a at in
     let yes : named c x ≡ true = ap (named c) same ∙ is in
-    none_gone c xs (none_behind c x xs apart yes) ∙ ap (λ b. cond (not b) (x ∷ filter (λ a. not (named c a)) xs) (filter (λ a. not (named c a)) xs)) (sym yes)
+    none_gone c xs (none_behind c x xs apart yes)
+    ∙ ap (λ b. cond (not b) (x ∷ filter (λ a. not (named c a)) xs) (filter (λ a. not (named c a)) xs)) (sym yes)
 one_gone c (x ∷ xs) (suc i) a apart at is =
     let lt = slice_get_within (x ∷ xs) (suc i) a at in
     let here : get_or (x ∷ xs) (suc i) a ≡ a = get_or_from_slice_get (x ∷ xs) (suc i) a a at in
-    ap (λ l. x ∷ l) (one_gone c xs i a (tail_apart x xs apart) at is) ∙ ap (λ b. cond (not b) (x ∷ filter (λ a. not (named c a)) xs) (filter (λ a. not (named c a)) xs)) (sym (no lt here (named c x) refl))
+    ap (λ l. x ∷ l) (one_gone c xs i a (tail_apart x xs apart) at is)
+    ∙ ap (λ b. cond (not b) (x ∷ filter (λ a. not (named c a)) xs) (filter (λ a. not (named c a)) xs))
+    (sym (no lt here (named c x) refl))
   where
     no : suc i < length (x ∷ xs) → get_or (x ∷ xs) (suc i) a ≡ a → (b : Bool) → named c x ≡ b → named c x ≡ false
-    no lt here true e = absurd (apart zero (suc i) a (omega arith) lt (bytes_eq-true x.flight.callsign c e ∙ sym (bytes_eq-true a.flight.callsign c is) ∙ ap name_of (sym here)))
+    no lt here true e = absurd (apart zero (suc i) a (omega arith) lt (bytes_eq-true x.flight.callsign c e
+        ∙ sym (bytes_eq-true a.flight.callsign c is) ∙ ap name_of (sym here)))
     no lt here false e = e
 
 -- what was taken out goes in again
@@ -223,7 +261,8 @@ module _ {X : Type 0} (xs : List X) (i : ℕ) (x : X) (at : slice_get xs i ≡ S
       let lt = slice_get_within xs i x at in
       let n = length-remove xs i lt in
       let m : length (remove xs i ++ x ∷ []) - 1 ≡ length (remove xs i) = omega (arith, length_push (remove xs i) x) in
-      ap (λ l. move_index l (length l - 1) i) moved ∙ ap (λ k. move_index (remove xs i ++ x ∷ []) k i) m ∙ push_moved (remove xs i) x i (omega arith) ∙ put_back xs i x at
+      ap (λ l. move_index l (length l - 1) i) moved ∙ ap (λ k. move_index (remove xs i ++ x ∷ []) k i) m
+      ∙ push_moved (remove xs i) x i (omega arith) ∙ put_back xs i x at
 
   pub moved_long : length (move_index xs i (length xs - 1)) ≡ length xs
   moved_long =
@@ -244,20 +283,24 @@ values_set (e ∷ es) (suc i) a = ap (λ l. e.1 ∷ l) (values_set es i a)
 pub keyed_pushed : (es : List Entry) (e : Entry) → Keyed es → e.0 ≡ name_of e.1 → Keyed (es ++ e ∷ [])
 keyed_pushed es e h k =
     map-append (λ (e : Entry). e.0) es (e ∷ []) ∙ (λ j. h j ++ k j ∷ [])
-    ∙ sym (ap (map name_of) (map-append (λ (e : Entry). e.1) es (e ∷ [])) ∙ map-append name_of (values_of es) (e.1 ∷ []))
+    ∙ sym (ap (map name_of) (map-append (λ (e : Entry). e.1) es (e ∷ []))
+    ∙ map-append name_of (values_of es) (e.1 ∷ []))
 
 pub values_pushed : (es : List Entry) (e : Entry) → values_of (es ++ e ∷ []) ≡ values_of es ++ e.1 ∷ []
 values_pushed es e = map-append (λ (e : Entry). e.1) es (e ∷ [])
 
-pub values_moved : (es fs : List Entry) (a b : ℕ) → fs ≡ move_index es a b → values_of fs ≡ move_index (values_of es) a b
+pub values_moved : (es fs : List Entry) (a b : ℕ) → fs ≡ move_index es a b
+    → values_of fs ≡ move_index (values_of es) a b
 values_moved es fs a b e = ap values_of e ∙ map-move (λ (e : Entry). e.1) es a b
 
 pub keyed_moved : (es fs : List Entry) (a b : ℕ) → fs ≡ move_index es a b → Keyed es → Keyed fs
 keyed_moved es fs a b e h =
-    ap keys_of e ∙ map-move (λ (e : Entry). e.0) es a b ∙ ap (λ l. move_index l a b) h ∙ sym (map-move name_of (values_of es) a b) ∙ sym (ap (map name_of) (values_moved es fs a b e))
+    ap keys_of e ∙ map-move (λ (e : Entry). e.0) es a b ∙ ap (λ l. move_index l a b) h
+    ∙ sym (map-move name_of (values_of es) a b) ∙ sym (ap (map name_of) (values_moved es fs a b e))
 
 -- where the keys stay, and the flights keep their callsigns
-pub keyed_still : (es fs : List Entry) (xs : List Active) → keys_of fs ≡ keys_of es → values_of fs ≡ xs → map name_of (values_of es) ≡ map name_of xs → Keyed es → Keyed fs
+pub keyed_still : (es fs : List Entry) (xs : List Active) → keys_of fs ≡ keys_of es → values_of fs ≡ xs
+    → map name_of (values_of es) ≡ map name_of xs → Keyed es → Keyed fs
 keyed_still es fs xs k v names h = k ∙ h ∙ names ∙ sym (ap (map name_of) v)
 
 pub some_from : {X : Type 0} (o : Option X) → is_some o ≡ true → (x : X) × (o ≡ Some x)
@@ -267,20 +310,24 @@ some_from (Some x) e = (x, refl)
 -- ---- the opening
 
 -- the entry of a callsign that none of these flights has is not there
-none_there : (c : Callsign) (d : files.Flight) (fs : List files.Flight) → ((j : ℕ) → j < length fs → (get_or fs j d).callsign ≢ c) → lookup (bytes_eq c) (newcomers fs) ≡ None
+none_there : (c : Callsign) (d : files.Flight) (fs : List files.Flight)
+    → ((j : ℕ) → j < length fs → (get_or fs j d).callsign ≢ c) → lookup (bytes_eq c) (newcomers fs) ≡ None
 none_there c d [] h = refl
 none_there c d (g ∷ fs) h = go (bytes_eq c g.callsign) refl (none_there c d fs (λ j lt. h (suc j) (omega arith)))
   where
-    go : (b : Bool) → bytes_eq c g.callsign ≡ b → lookup (bytes_eq c) (newcomers fs) ≡ None → cond b (Some (newcomer (flight_of g))) (lookup (bytes_eq c) (newcomers fs)) ≡ None
+    go : (b : Bool) → bytes_eq c g.callsign ≡ b → lookup (bytes_eq c) (newcomers fs) ≡ None
+        → cond b (Some (newcomer (flight_of g))) (lookup (bytes_eq c) (newcomers fs)) ≡ None
     go true e ih = absurd (h zero (omega arith) (sym (bytes_eq-true c g.callsign e)))
     go false e ih = ih
 
 module _ (fs : List files.Flight) (i : ℕ) (f : files.Flight) (lt : i < length fs) (is : f ≡ get_or fs i f) where
-  pub not_yet : AllPairs (λ f later. f.callsign ≢ later.callsign) fs → lookup (bytes_eq f.callsign) (newcomers (take i fs)) ≡ None
+  pub not_yet : AllPairs (λ f later. f.callsign ≢ later.callsign) fs
+      → lookup (bytes_eq f.callsign) (newcomers (take i fs)) ≡ None
   not_yet apart =
       none_there f.callsign f (take i fs)
       (λ j within same. let n = length-take i fs in
-      apart j i f (omega arith) lt (ap (λ (g : files.Flight). g.callsign) (sym (get_or-take i fs j f (omega arith))) ∙ same ∙ ap (λ (g : files.Flight). g.callsign) is))
+      apart j i f (omega arith) lt (ap (λ (g : files.Flight). g.callsign) (sym (get_or-take i fs j f (omega arith)))
+      ∙ same ∙ ap (λ (g : files.Flight). g.callsign) is))
 
   pub one_more : newcomers (take i fs) ++ (f.callsign, newcomer (flight_of f)) ∷ [] ≡ newcomers (take (i + 1) fs)
   one_more =
@@ -293,25 +340,34 @@ newcomers_keyed (f ∷ fs) = ap (λ l. f.callsign ∷ l) (newcomers_keyed fs)
 
 -- the flights with what the entries say
 pub all_opened : (a : Aerodrome) (fs : List files.Flight) →
-    map (λ x. with_count (look_up x.flight.callsign (counts_in a.passed)) x) (map (λ x. with_second (look_up x.flight.callsign (seconds_in a.frozen)) x) (values_of (newcomers fs))) ≡ (opened a fs).active
+    map (λ x. with_count (look_up x.flight.callsign (counts_in a.passed)) x)
+    (map (λ x. with_second (look_up x.flight.callsign (seconds_in a.frozen)) x)
+    (values_of (newcomers fs))) ≡ (opened a fs).active
 all_opened a [] = refl
-all_opened a (f ∷ fs) = ap₂ (λ (y : Active) (l : List Active). y ∷ l) (go (look_up f.callsign (seconds_in a.frozen)) (look_up f.callsign (counts_in a.passed)) refl refl) (all_opened a fs)
+all_opened a (f ∷ fs) = ap₂ (λ (y : Active) (l : List Active). y ∷ l)
+    (go (look_up f.callsign (seconds_in a.frozen)) (look_up f.callsign (counts_in a.passed)) refl refl)
+    (all_opened a fs)
   where
-    two : (o p : Option ℕ) → with_count p (with_second o (newcomer (flight_of f))) ≡ record { flight = flight_of f; frozen = o; passed = unwrap_or p 0 }
+    two : (o p : Option ℕ) → with_count p (with_second o (newcomer (flight_of f))) ≡ record
+        { flight = flight_of f; frozen = o; passed = unwrap_or p 0 }
     two None None = refl
     two None (Some n) = refl
     two (Some t) None = refl
     two (Some t) (Some n) = refl
 
     go : (o p : Option ℕ) → look_up f.callsign (seconds_in a.frozen) ≡ o → look_up f.callsign (counts_in a.passed) ≡ p →
-        with_count (look_up (with_second (look_up f.callsign (seconds_in a.frozen)) (newcomer (flight_of f))).flight.callsign (counts_in a.passed)) (with_second (look_up f.callsign (seconds_in a.frozen)) (newcomer (flight_of f)))
+        with_count (look_up (with_second (look_up f.callsign (seconds_in a.frozen))
+        (newcomer (flight_of f))).flight.callsign (counts_in a.passed))
+        (with_second (look_up f.callsign (seconds_in a.frozen)) (newcomer (flight_of f)))
         ≡ opening_flight (opening_of a) (flight_of f)
     go o p e k =
-        ap (λ w. with_count (look_up (with_second w (newcomer (flight_of f))).flight.callsign (counts_in a.passed)) (with_second w (newcomer (flight_of f)))) e
+        ap (λ w. with_count (look_up (with_second w (newcomer (flight_of f))).flight.callsign (counts_in a.passed))
+        (with_second w (newcomer (flight_of f)))) e
         ∙ same o ∙ ap (λ q. with_count q (with_second o (newcomer (flight_of f)))) k ∙ two o p
         ∙ (λ j. record { flight = flight_of f; frozen = sym e j; passed = unwrap_or (sym k j) 0 })
       where
-        same : (o : Option ℕ) → with_count (look_up (with_second o (newcomer (flight_of f))).flight.callsign (counts_in a.passed)) (with_second o (newcomer (flight_of f)))
+        same : (o : Option ℕ) → with_count (look_up (with_second o (newcomer (flight_of f))).flight.callsign
+            (counts_in a.passed)) (with_second o (newcomer (flight_of f)))
             ≡ with_count (look_up f.callsign (counts_in a.passed)) (with_second o (newcomer (flight_of f)))
         same None = refl
         same (Some t) = refl

@@ -1,5 +1,6 @@
 -- What is changed by a list of callsigns, one entry after another.
-use Rattle.std.proofs.Common.{◌≡◌, ℕ, ◌<◌, Bool, true, false, cond, List, [], ◌∷◌, map, length, get_or, Option, Some, None, refl, sym, ap, ◌∙◌, arith, zero, suc}
+use Rattle.std.proofs.Common.{◌≡◌, ℕ, ◌<◌, Bool, true, false, cond, List, [], ◌∷◌, map, length, get_or, Option, Some}
+use Rattle.std.proofs.Common.{None, refl, sym, ap, ◌∙◌, arith, zero, suc}
 use Rattle.std.specs.Prelude.{filter}
 use Rattle.std.specs.Str.{bytes_eq}
 use Rattle.landing_rules.specs.Flights.{Active, Callsign, Situation, is_waiting}
@@ -18,28 +19,36 @@ use Rattle.situations.proofs.Keyed.{none_behind}
 abbrev pub listed : (Option ℕ → Active → Active) → List (Callsign × ℕ) → List Active → List Active
 listed f es xs = map (λ a. f (look_up a.flight.callsign es) a) xs
 
-pub none_listed : (f : Option ℕ → Active → Active) → ((a : Active) → f None a ≡ a) → (xs : List Active) → xs ≡ listed f [] xs
+pub none_listed : (f : Option ℕ → Active → Active) → ((a : Active) → f None a ≡ a) → (xs : List Active)
+    → xs ≡ listed f [] xs
 none_listed f stays [] = refl
 none_listed f stays (x ∷ xs) = ap (λ l. x ∷ l) (none_listed f stays xs) ∙ ap (λ y. y ∷ listed f [] xs) (sym (stays x))
 
 -- one entry more, ahead of the others
-module _ (f : Option ℕ → Active → Active) (c : Callsign) (n : ℕ) (one : Active → Active) (first : (o : Option ℕ) (a : Active) → one (f o a) ≡ f (cond (named c a) (Some n) o) a) where
+module _ (f : Option ℕ → Active → Active) (c : Callsign) (n : ℕ) (one : Active → Active)
+    (first : (o : Option ℕ) (a : Active) → one (f o a) ≡ f (cond (named c a) (Some n) o) a) where
   pub listed_more : (es : List (Callsign × ℕ)) (xs : List Active) → map one (listed f es xs) ≡ listed f ((c, n) ∷ es) xs
   listed_more es [] = refl
   listed_more es (x ∷ xs) =
-      ap (λ y. y ∷ map one (listed f es xs)) (first (look_up x.flight.callsign es) x ∙ ap (λ b. f (cond b (Some n) (look_up x.flight.callsign es)) x) (bytes_eq-sym x.flight.callsign c))
+      ap (λ y. y ∷ map one (listed f es xs)) (first (look_up x.flight.callsign es) x
+      ∙ ap (λ b. f (cond b (Some n) (look_up x.flight.callsign es)) x) (bytes_eq-sym x.flight.callsign c))
       ∙ ap (λ l. f (look_up x.flight.callsign ((c, n) ∷ es)) x ∷ l) (listed_more es xs)
 
   -- and so of a situation
-  pub once_more : (es es' : List (Callsign × ℕ)) (s now new : Situation) → es' ≡ (c, n) ∷ es → now ≡ record s { active = listed f es s.active } → new ≡ record now { active = map one now.active } →
+  pub once_more : (es es' : List (Callsign × ℕ)) (s now new : Situation) → es' ≡ (c, n) ∷ es
+      → now ≡ record s { active = listed f es s.active } → new ≡ record now { active = map one now.active } →
       new ≡ record s { active = listed f es' s.active }
   once_more es es' s now new here e set =
-      set ∙ ap (λ (v : Situation). record v { active = map one v.active }) e ∙ ap (λ l. record s { active = l }) (listed_more es s.active ∙ ap (λ l. listed f l s.active) (sym here))
+      set ∙ ap (λ (v : Situation). record v { active = map one v.active }) e
+      ∙ ap (λ l. record s { active = l }) (listed_more es s.active ∙ ap (λ l. listed f l s.active) (sym here))
 
-pub no_more : (f : Option ℕ → Active → Active) → ((a : Active) → f None a ≡ a) → (es : List (Callsign × ℕ)) (s : Situation) → es ≡ [] → s ≡ record s { active = listed f es s.active }
-no_more f stays es s e = ap (λ l. record s { active = l }) (none_listed f stays s.active ∙ ap (λ l. listed f l s.active) (sym e))
+pub no_more : (f : Option ℕ → Active → Active) → ((a : Active) → f None a ≡ a)
+    → (es : List (Callsign × ℕ)) (s : Situation) → es ≡ [] → s ≡ record s { active = listed f es s.active }
+no_more f stays es s e = ap (λ l. record s { active = l }) (none_listed f stays s.active
+    ∙ ap (λ l. listed f l s.active) (sym e))
 
-pub second_first : (c : Callsign) (n : ℕ) (o : Option ℕ) (a : Active) → frozen_so c (Some n) (with_second o a) ≡ with_second (cond (named c a) (Some n) o) a
+pub second_first : (c : Callsign) (n : ℕ) (o : Option ℕ) (a : Active)
+    → frozen_so c (Some n) (with_second o a) ≡ with_second (cond (named c a) (Some n) o) a
 second_first c n None a = go (named c a)
   where
     go : (b : Bool) → cond b (record a { frozen = Some n }) a ≡ with_second (cond b (Some n) None) a
@@ -47,11 +56,13 @@ second_first c n None a = go (named c a)
     go false = refl
 second_first c n (Some t) a = go (named c a)
   where
-    go : (b : Bool) → cond b (record a { frozen = Some n }) (record a { frozen = Some t }) ≡ with_second (cond b (Some n) (Some t)) a
+    go : (b : Bool) → cond b (record a { frozen = Some n }) (record a { frozen = Some t }) ≡ with_second
+        (cond b (Some n) (Some t)) a
     go true = refl
     go false = refl
 
-pub count_first : (c : Callsign) (n : ℕ) (o : Option ℕ) (a : Active) → counted c n (with_count o a) ≡ with_count (cond (named c a) (Some n) o) a
+pub count_first : (c : Callsign) (n : ℕ) (o : Option ℕ) (a : Active)
+    → counted c n (with_count o a) ≡ with_count (cond (named c a) (Some n) o) a
 count_first c n None a = go (named c a)
   where
     go : (b : Bool) → cond b (record a { passed = n }) a ≡ with_count (cond b (Some n) None) a
@@ -59,19 +70,25 @@ count_first c n None a = go (named c a)
     go false = refl
 count_first c n (Some t) a = go (named c a)
   where
-    go : (b : Bool) → cond b (record a { passed = n }) (record a { passed = t }) ≡ with_count (cond b (Some n) (Some t)) a
+    go : (b : Bool) → cond b (record a { passed = n }) (record a { passed = t }) ≡ with_count
+        (cond b (Some n) (Some t)) a
     go true = refl
     go false = refl
 
-pub again_first : (c : Callsign) (n : ℕ) (o : Option ℕ) (a : Active) → counted c n (frozen_so c None (waiting_again o a)) ≡ waiting_again (cond (named c a) (Some n) o) a
+pub again_first : (c : Callsign) (n : ℕ) (o : Option ℕ) (a : Active)
+    → counted c n (frozen_so c None (waiting_again o a)) ≡ waiting_again (cond (named c a) (Some n) o) a
 again_first c n o a = first o (named c a) refl
   where
     -- once for the second and once for the count
-    both : (x : Active) (b : Bool) → named c x ≡ b → counted c n (frozen_so c None x) ≡ cond b (record x { frozen = None; passed = n }) x
-    both x true e = ap (λ t. counted c n (cond t (record x { frozen = None }) x)) e ∙ ap (λ t. cond t (record x { frozen = None; passed = n }) (record x { frozen = None })) e
-    both x false e = ap (λ t. counted c n (cond t (record x { frozen = None }) x)) e ∙ ap (λ t. cond t (record x { passed = n }) x) e
+    both : (x : Active) (b : Bool) → named c x ≡ b
+        → counted c n (frozen_so c None x) ≡ cond b (record x { frozen = None; passed = n }) x
+    both x true e = ap (λ t. counted c n (cond t (record x { frozen = None }) x)) e
+        ∙ ap (λ t. cond t (record x { frozen = None; passed = n }) (record x { frozen = None })) e
+    both x false e = ap (λ t. counted c n (cond t (record x { frozen = None }) x)) e
+        ∙ ap (λ t. cond t (record x { passed = n }) x) e
 
-    then : (o : Option ℕ) (b : Bool) → cond b (record (waiting_again o a) { frozen = None; passed = n }) (waiting_again o a) ≡ waiting_again (cond b (Some n) o) a
+    then : (o : Option ℕ) (b : Bool) → cond b (record (waiting_again o a) { frozen = None; passed = n })
+        (waiting_again o a) ≡ waiting_again (cond b (Some n) o) a
     then None true = refl
     then None false = refl
     then (Some t) true = refl
@@ -81,8 +98,10 @@ again_first c n o a = first o (named c a) refl
     same None = refl
     same (Some t) = refl
 
-    first : (o : Option ℕ) (b : Bool) → named c a ≡ b → counted c n (frozen_so c None (waiting_again o a)) ≡ waiting_again (cond (named c a) (Some n) o) a
-    first o b e = both (waiting_again o a) b (same o ∙ e) ∙ then o b ∙ ap (λ t. waiting_again (cond t (Some n) o) a) (sym e)
+    first : (o : Option ℕ) (b : Bool) → named c a ≡ b
+        → counted c n (frozen_so c None (waiting_again o a)) ≡ waiting_again (cond (named c a) (Some n) o) a
+    first o b e = both (waiting_again o a) b (same o ∙ e) ∙ then o b
+        ∙ ap (λ t. waiting_again (cond t (Some n) o) a) (sym e)
 
 -- ---- the flights that waited
 
@@ -90,23 +109,29 @@ abbrev pub noted : Active → Option ℕ
 noted a = cond (is_waiting a) (Some a.passed) None
 
 -- none of the counts is that of a callsign that no flight has
-none_counted : (c : Callsign) (xs : List Active) → ((j : ℕ) (d : Active) → j < length xs → named c (get_or xs j d) ≡ false) → look_up c (counts_of xs) ≡ None
+none_counted : (c : Callsign) (xs : List Active)
+    → ((j : ℕ) (d : Active) → j < length xs → named c (get_or xs j d) ≡ false) → look_up c (counts_of xs) ≡ None
 none_counted c [] none = refl
 none_counted c (x ∷ xs) none = go (is_waiting x) (none_counted c xs (λ j d lt. none (suc j) d (omega arith)))
   where
-    go : (b : Bool) → look_up c (counts_of xs) ≡ None → look_up c (map (λ a. (a.flight.callsign, a.passed)) (cond b (x ∷ filter is_waiting xs) (filter is_waiting xs))) ≡ None
+    go : (b : Bool) → look_up c (counts_of xs) ≡ None
+        → look_up c (map (λ a. (a.flight.callsign, a.passed))
+        (cond b (x ∷ filter is_waiting xs) (filter is_waiting xs))) ≡ None
     go true ih = ap (λ t. cond t (Some x.passed) (look_up c (counts_of xs))) (none zero x (omega arith)) ∙ ih
     go false ih = ih
 
 -- each flight that waits has its own count, and the others have none
-pub own_count : (xs : List Active) → AreApart xs → (i : ℕ) (d : Active) → i < length xs → look_up (get_or xs i d).flight.callsign (counts_of xs) ≡ noted (get_or xs i d)
+pub own_count : (xs : List Active) → AreApart xs → (i : ℕ) (d : Active) → i < length xs
+    → look_up (get_or xs i d).flight.callsign (counts_of xs) ≡ noted (get_or xs i d)
 own_count [] apart i d lt = absurd (omega arith)
 own_count (x ∷ xs) apart zero d lt = go (is_waiting x) refl
   where
     own : named x.flight.callsign x ≡ true
     own = bytes_eq-refl x.flight.callsign
 
-    go : (b : Bool) → is_waiting x ≡ b → look_up x.flight.callsign (map (λ a. (a.flight.callsign, a.passed)) (cond b (x ∷ filter is_waiting xs) (filter is_waiting xs))) ≡ cond b (Some x.passed) None
+    go : (b : Bool) → is_waiting x ≡ b
+        → look_up x.flight.callsign (map (λ a. (a.flight.callsign, a.passed))
+        (cond b (x ∷ filter is_waiting xs) (filter is_waiting xs))) ≡ cond b (Some x.passed) None
     go true e = ap (λ t. cond t (Some x.passed) (look_up x.flight.callsign (counts_of xs))) own
     go false e = none_counted x.flight.callsign xs (none_behind x.flight.callsign x xs apart own)
 own_count (x ∷ xs) apart (suc i) d lt = go (is_waiting x) (own_count xs (tail_apart x xs apart) i d (omega arith))
@@ -119,8 +144,10 @@ own_count (x ∷ xs) apart (suc i) d lt = go (is_waiting x) (own_count xs (tail_
     other false e = refl
 
     go : (b : Bool) → look_up y.flight.callsign (counts_of xs) ≡ noted y →
-        look_up y.flight.callsign (map (λ a. (a.flight.callsign, a.passed)) (cond b (x ∷ filter is_waiting xs) (filter is_waiting xs))) ≡ noted y
-    go true ih = ap (λ t. cond t (Some x.passed) (look_up y.flight.callsign (counts_of xs))) (other (bytes_eq x.flight.callsign y.flight.callsign) refl) ∙ ih
+        look_up y.flight.callsign (map (λ a. (a.flight.callsign, a.passed))
+        (cond b (x ∷ filter is_waiting xs) (filter is_waiting xs))) ≡ noted y
+    go true ih = ap (λ t. cond t (Some x.passed) (look_up y.flight.callsign (counts_of xs)))
+        (other (bytes_eq x.flight.callsign y.flight.callsign) refl) ∙ ih
     go false ih = ih
 
 -- ---- the opening

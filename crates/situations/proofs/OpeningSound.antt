@@ -1,5 +1,7 @@
 -- What opens is a sound situation.
-use Rattle.std.proofs.Common.{◌≡◌, ◌≢◌, ℕ, ◌+◌, ◌<◌, ◌≤◌, inl, inr, Bool, true, false, cond, ◌&&◌, ◌||◌, List, [], ◌∷◌, length, map, filter, Option, Some, None, zero, suc, refl, sym, ap, ap₂, subst, ◌∙◌, arith, leb}
+use Rattle.std.proofs.Common.{◌≡◌, ◌≢◌, ℕ, ◌+◌, ◌<◌, ◌≤◌, inl, inr, Bool, true, false, cond, ◌&&◌, ◌||◌, List, [], ◌∷◌}
+use Rattle.std.proofs.Common.{length, map, filter, Option, Some, None, zero, suc, refl, sym, ap, ap₂, subst, ◌∙◌}
+use Rattle.std.proofs.Common.{arith, leb}
 use Rattle.std.specs.Prelude.{All, AllPairs, IsTrue, find, option_map, unwrap_or, is_none}
 use Rattle.std.specs.List.{list_any}
 use Rattle.std.specs.Option.{option_or}
@@ -7,10 +9,13 @@ use Rattle.std.specs.Str.{bytes_eq}
 use Rattle.std.proofs.lemmas.Bool.{leb-true, leb-false, le-leb, and_parts, false≢true, true≢false}
 use Rattle.std.proofs.lemmas.List.{length-map}
 use Rattle.landing_rules.specs.shared.Counting.{Member}
-use Rattle.landing_rules.specs.shared.Members.{all_at, all_from, in_filter, in_map, filter_map_in, in_frozen, none_found, none_any, fewer_kept}
+use Rattle.landing_rules.specs.shared.Members.{all_at, all_from, in_filter, in_map, filter_map_in, in_frozen}
+use Rattle.landing_rules.specs.shared.Members.{none_found, none_any, fewer_kept}
 use Rattle.landing_rules.specs.shared.Tests.{is_pair_separated-Decides}
-use Rattle.landing_rules.specs.Flights.{Callsign, Flight, Active, Landing, Situation, landing, waiting, is_waiting, horizon, horizon_after}
-use Rattle.landing_rules.specs.Rules.{is_open, lists, ArePairSeparated, IsPairInPrecedence, AreSeparated, AreInPrecedence}
+use Rattle.landing_rules.specs.Flights.{Callsign, Flight, Active, Landing, Situation, landing, waiting, is_waiting}
+use Rattle.landing_rules.specs.Flights.{horizon, horizon_after}
+use Rattle.landing_rules.specs.Rules.{is_open, lists, ArePairSeparated, IsPairInPrecedence, AreSeparated}
+use Rattle.landing_rules.specs.Rules.{AreInPrecedence}
 use Rattle.landing_rules.specs.Events.{named, look_up, opening_flight, frozen_landings}
 use Rattle.landing_rules.specs.Audit.{are_apart}
 use Rattle.landing_rules.specs.Testing.{is_pair_separated}
@@ -24,7 +29,9 @@ use Rattle.arrivals.specs.Seen.{flight_of}
 use Rattle.situations.specs.declared.opening_refusal.OpeningFault.{OpeningFault}
 use Rattle.situations.specs.declared.opening_refusal.OpeningFault.TheVariants as fault
 use Rattle.situations.specs.Opened.{opened, opening_of, CanOpen, HasRanges, IsKept}
-use Rattle.situations.specs.Refused.{unless, first_from, unknown_frozen_at, unknown_passed_at, too_many_waiting, opening_fault, name_fault, given_landing, given, closed_at, clash_at, clash_from, is_not_before, lands_late, late_at, rule_fault, AreKept, OpeningLaw, PlainLaw}
+use Rattle.situations.specs.Refused.{unless, first_from, unknown_frozen_at, unknown_passed_at, too_many_waiting}
+use Rattle.situations.specs.Refused.{opening_fault, name_fault, given_landing, given, closed_at, clash_at, clash_from}
+use Rattle.situations.specs.Refused.{is_not_before, lands_late, late_at, rule_fault, AreKept, OpeningLaw, PlainLaw}
 use Rattle.situations.proofs.Apart.{opened_apart}
 use Rattle.situations.proofs.Callsigns.{bytes_eq-true, bytes_eq-refl}
 
@@ -38,24 +45,35 @@ unless_none : (b : Bool) (f : OpeningFault) → unless b f ≡ None → b ≡ tr
 unless_none true f e = refl
 unless_none false f e = absurd (cc)
 
-first_none : {X : Type 0} (fault_at : ℕ → X → Option OpeningFault) (p : ℕ) (xs : List X) → first_from fault_at p xs ≡ None → (x : X) → Member x xs → (q : ℕ) × (fault_at q x ≡ None)
+first_none : {X : Type 0} (fault_at : ℕ → X → Option OpeningFault) (p : ℕ) (xs : List X)
+    → first_from fault_at p xs ≡ None → (x : X) → Member x xs → (q : ℕ) × (fault_at q x ≡ None)
 first_none fault_at p [] e x m = absurd m
-first_none fault_at p (y ∷ ys) e x (inl s) = (p, ap (fault_at p) s ∙ (or_none (fault_at p y) (first_from fault_at (p + 1) ys) e).0)
-first_none fault_at p (y ∷ ys) e x (inr m) = first_none fault_at (p + 1) ys (or_none (fault_at p y) (first_from fault_at (p + 1) ys) e).1 x m
+first_none fault_at p (y ∷ ys) e x (inl s) =
+    (p, ap (fault_at p) s ∙ (or_none (fault_at p y) (first_from fault_at (p + 1) ys) e).0)
+first_none fault_at p (y ∷ ys) e x (inr m) =
+    first_none fault_at (p + 1) ys (or_none (fault_at p y) (first_from fault_at (p + 1) ys) e).1 x m
 
-clash_none : (table : List (List ℕ)) (p : ℕ) (xs : List Landing) → clash_from table p xs ≡ None → (g h : Landing) → Member g xs → Member h xs → g.flight.callsign ≢ h.flight.callsign → is_pair_separated table g h ≡ true
+clash_none : (table : List (List ℕ)) (p : ℕ) (xs : List Landing) → clash_from table p xs ≡ None
+    → (g h : Landing) → Member g xs → Member h xs → g.flight.callsign ≢ h.flight.callsign
+    → is_pair_separated table g h ≡ true
 clash_none table p [] e g h m k n = absurd m
-clash_none table p (x ∷ xs) e g h (inl s) (inl t) n = absurd (n (ap (λ (z : Landing). z.flight.callsign) s ∙ sym (ap (λ (z : Landing). z.flight.callsign) t)))
+clash_none table p (x ∷ xs) e g h (inl s) (inl t) n =
+    absurd (n (ap (λ (z : Landing). z.flight.callsign) s ∙ sym (ap (λ (z : Landing). z.flight.callsign) t)))
 clash_none table p (x ∷ xs) e g h (inl s) (inr k) n =
-    let firsts = first_none (clash_at table p x) (p + 1) xs (or_none (first_from (clash_at table p x) (p + 1) xs) (clash_from table (p + 1) xs) e).0 h k in
-    let both = and_parts (is_pair_separated table x h) (is_pair_separated table h x) (unless_none (are_apart table x h) (fault.FrozenSeparation p firsts.0) firsts.1) in
+    let firsts = first_none (clash_at table p x) (p + 1) xs
+    (or_none (first_from (clash_at table p x) (p + 1) xs) (clash_from table (p + 1) xs) e).0 h k in
+    let both = and_parts (is_pair_separated table x h) (is_pair_separated table h x)
+    (unless_none (are_apart table x h) (fault.FrozenSeparation p firsts.0) firsts.1) in
     ap (λ z. is_pair_separated table z h) s ∙ both.0
 clash_none table p (x ∷ xs) e g h (inr m) (inl t) n =
-    let firsts = first_none (clash_at table p x) (p + 1) xs (or_none (first_from (clash_at table p x) (p + 1) xs) (clash_from table (p + 1) xs) e).0 g m in
-    let both = and_parts (is_pair_separated table x g) (is_pair_separated table g x) (unless_none (are_apart table x g) (fault.FrozenSeparation p firsts.0) firsts.1) in
+    let firsts = first_none (clash_at table p x) (p + 1) xs
+    (or_none (first_from (clash_at table p x) (p + 1) xs) (clash_from table (p + 1) xs) e).0 g m in
+    let both = and_parts (is_pair_separated table x g) (is_pair_separated table g x)
+    (unless_none (are_apart table x g) (fault.FrozenSeparation p firsts.0) firsts.1) in
     ap (λ z. is_pair_separated table g z) t ∙ both.1
 clash_none table p (x ∷ xs) e g h (inr m) (inr k) n =
-    clash_none table (p + 1) xs (or_none (first_from (clash_at table p x) (p + 1) xs) (clash_from table (p + 1) xs) e).1 g h m k n
+    clash_none table (p + 1) xs (or_none (first_from (clash_at table p x) (p + 1) xs) (clash_from table (p + 1) xs) e).1
+    g h m k n
 
 map_none : {X Y : Type 0} (f : X → Y) (o : Option X) → option_map f o ≡ None → o ≡ None
 map_none f None e = refl
@@ -65,31 +83,37 @@ any_member : {X : Type 0} (p : X → Bool) (xs : List X) → list_any p xs ≡ t
 any_member p [] e = absurd (false≢true e)
 any_member {X = X} p (x ∷ xs) e = go (p x) refl e (any_member p xs)
   where
-    go : (b : Bool) → p x ≡ b → (b || list_any p xs) ≡ true → (list_any p xs ≡ true → (z : X) × Member z xs × (p z ≡ true)) → (z : X) × Member z (x ∷ xs) × (p z ≡ true)
+    go : (b : Bool) → p x ≡ b → (b || list_any p xs) ≡ true
+        → (list_any p xs ≡ true → (z : X) × Member z xs × (p z ≡ true)) → (z : X) × Member z (x ∷ xs) × (p z ≡ true)
     go true k e ih = (x, inl refl, k)
     go false k e ih = let r = ih e in (r.0, inr r.1, r.2)
 
 -- ---- entries, and the flights that they name
 
-look_from : {X : Type 0} (seen : X → Callsign × ℕ) (c : Callsign) (xs : List X) (t : ℕ) → look_up c (map seen xs) ≡ Some t → (x : X) × Member x xs × ((seen x).0 ≡ c) × ((seen x).1 ≡ t)
+look_from : {X : Type 0} (seen : X → Callsign × ℕ) (c : Callsign) (xs : List X) (t : ℕ)
+    → look_up c (map seen xs) ≡ Some t → (x : X) × Member x xs × ((seen x).0 ≡ c) × ((seen x).1 ≡ t)
 look_from seen c [] t e = absurd (cc)
 look_from {X = X} seen c (x ∷ xs) t e = go (bytes_eq (seen x).0 c) refl e (look_from seen c xs t)
   where
     go : (b : Bool) → bytes_eq (seen x).0 c ≡ b → cond b (Some (seen x).1) (look_up c (map seen xs)) ≡ Some t →
-        (look_up c (map seen xs) ≡ Some t → (z : X) × Member z xs × ((seen z).0 ≡ c) × ((seen z).1 ≡ t)) → (z : X) × Member z (x ∷ xs) × ((seen z).0 ≡ c) × ((seen z).1 ≡ t)
+        (look_up c (map seen xs) ≡ Some t → (z : X) × Member z xs × ((seen z).0 ≡ c) × ((seen z).1 ≡ t))
+        → (z : X) × Member z (x ∷ xs) × ((seen z).0 ≡ c) × ((seen z).1 ≡ t)
     go true k e ih = (x, inl refl, bytes_eq-true (seen x).0 c k, cc)
     go false k e ih = let r = ih e in (r.0, inr r.1, r.2, r.3)
 
 abbrev Differ : Active → Active → Type 0
 Differ x y = x.flight.callsign ≢ y.flight.callsign
 
-find_own : (x : Active) (xs : List Active) → AllPairs Differ xs → Member x xs → find (named x.flight.callsign) xs ≡ Some x
+find_own : (x : Active) (xs : List Active) → AllPairs Differ xs → Member x xs
+    → find (named x.flight.callsign) xs ≡ Some x
 find_own x [] apart m = absurd m
 find_own x (y ∷ ys) apart (inl s) =
-    let same : bytes_eq y.flight.callsign x.flight.callsign ≡ true = ap (λ (z : Active). bytes_eq y.flight.callsign z.flight.callsign) s ∙ bytes_eq-refl y.flight.callsign in
+    let same : bytes_eq y.flight.callsign x.flight.callsign ≡ true =
+    ap (λ (z : Active). bytes_eq y.flight.callsign z.flight.callsign) s ∙ bytes_eq-refl y.flight.callsign in
     ap (λ b. cond b (Some y) (find (named x.flight.callsign) ys)) same ∙ ap (λ z. Some z) (sym s)
 find_own x (y ∷ ys) apart (inr m) =
-    let n : y.flight.callsign ≢ x.flight.callsign = all_at (Differ y) ys (λ k d lt. apart zero (suc k) d (omega arith) (omega arith)) x m in
+    let n : y.flight.callsign ≢ x.flight.callsign =
+    all_at (Differ y) ys (λ k d lt. apart zero (suc k) d (omega arith) (omega arith)) x m in
     let other : bytes_eq y.flight.callsign x.flight.callsign ≡ false = differ y.flight.callsign x.flight.callsign n in
     ap (λ b. cond b (Some y) (find (named x.flight.callsign) ys)) other
     ∙ find_own x ys (λ i j d l k. apart (suc i) (suc j) d (omega arith) (omega arith)) m
@@ -101,7 +125,8 @@ find_own x (y ∷ ys) apart (inr m) =
         go true e = absurd (n (bytes_eq-true c d e))
         go false e = refl
 
-module _ (a : Aerodrome) (fs : List files.Flight) (kept : AreKept a fs) (can : CanOpen a fs) (none : opening_fault a fs ≡ None) where
+module _ (a : Aerodrome) (fs : List files.Flight) (kept : AreKept a fs) (can : CanOpen a fs)
+    (none : opening_fault a fs ≡ None) where
   abbrev s : Situation
   s = opened a fs
 
@@ -121,15 +146,19 @@ module _ (a : Aerodrome) (fs : List files.Flight) (kept : AreKept a fs) (can : C
 
   few_wait : length (waiting s) ≤ 60
   few_wait =
-      let unknown = (or_none (first_from (unknown_frozen_at s.active) 1 a.frozen) (option_or (first_from (unknown_passed_at s.active) 1 a.passed) (too_many_waiting s.active)) by_name).1 in
+      let unknown = (or_none (first_from (unknown_frozen_at s.active) 1 a.frozen)
+      (option_or (first_from (unknown_passed_at s.active) 1 a.passed) (too_many_waiting s.active)) by_name).1 in
       let wait = (or_none (first_from (unknown_passed_at s.active) 1 a.passed) (too_many_waiting s.active) unknown).1 in
-      leb-true (length (waiting s)) 60 (unless_none (leb (length (waiting s)) 60) (fault.TooManyWaiting (length (waiting s))) wait)
+      leb-true (length (waiting s)) 60 (unless_none (leb (length (waiting s)) 60)
+      (fault.TooManyWaiting (length (waiting s))) wait)
 
   no_closed : first_from (closed_at a.closures) 1 all ≡ None
-  no_closed = (or_none (first_from (closed_at a.closures) 1 all) (option_or (clash_from a.table 1 all) (first_from (late_at s.active) 1 all)) by_rule).0
+  no_closed = (or_none (first_from (closed_at a.closures) 1 all)
+      (option_or (clash_from a.table 1 all) (first_from (late_at s.active) 1 all)) by_rule).0
 
   rest : option_or (clash_from a.table 1 all) (first_from (late_at s.active) 1 all) ≡ None
-  rest = (or_none (first_from (closed_at a.closures) 1 all) (option_or (clash_from a.table 1 all) (first_from (late_at s.active) 1 all)) by_rule).1
+  rest = (or_none (first_from (closed_at a.closures) 1 all)
+      (option_or (clash_from a.table 1 all) (first_from (late_at s.active) 1 all)) by_rule).1
 
   no_clash : clash_from a.table 1 all ≡ None
   no_clash = (or_none (clash_from a.table 1 all) (first_from (late_at s.active) 1 all) rest).0
@@ -157,20 +186,25 @@ module _ (a : Aerodrome) (fs : List files.Flight) (kept : AreKept a fs) (can : C
       let r = all_at HasRanges fs can.flights f m in
       record { callsign = h.callsign; eta = r.eta; weight = r.weight; windows = h.windows; after = h.after })
 
-  count_of : (f : files.Flight) (o : Option ℕ) → look_up f.callsign (map (λ (p : PassedCount). (p.callsign, p.count)) a.passed) ≡ o → unwrap_or o 0 ≤ a.k
+  count_of : (f : files.Flight) (o : Option ℕ)
+      → look_up f.callsign (map (λ (p : PassedCount). (p.callsign, p.count)) a.passed) ≡ o → unwrap_or o 0 ≤ a.k
   count_of f None e = omega arith
   count_of f (Some n) e =
       let p = look_from (λ (p : PassedCount). (p.callsign, p.count)) f.callsign a.passed n e in
-      let h = all_at (λ (p : PassedCount). (1 ≤ p.count) × (p.count ≤ a.k)) a.passed can.aerodrome.passed.counts p.0 p.1 in
+      let h = all_at (λ (p : PassedCount). (1 ≤ p.count)
+      × (p.count ≤ a.k)) a.passed can.aerodrome.passed.counts p.0 p.1 in
       let k : p.0.count ≤ a.k = h.1 in
       let same : p.0.count ≡ n = p.3 in
       omega arith
 
   counted : All (λ (x : Active). x.passed ≤ a.k) s.active
-  counted = each_active (λ x. x.passed ≤ a.k) (λ f m. count_of f (look_up f.callsign (map (λ (p : PassedCount). (p.callsign, p.count)) a.passed)) refl)
+  counted = each_active (λ x. x.passed ≤ a.k)
+      (λ f m. count_of f (look_up f.callsign (map (λ (p : PassedCount). (p.callsign, p.count)) a.passed)) refl)
 
   uncounted : a.carry ≡ false → All (λ (x : Active). x.passed ≡ 0) s.active
-  uncounted e = each_active (λ x. x.passed ≡ 0) (λ f m. ap (λ l. unwrap_or (look_up f.callsign (map (λ (p : PassedCount). (p.callsign, p.count)) l)) 0) (can.aerodrome.none_passed e))
+  uncounted e = each_active (λ x. x.passed ≡ 0)
+      (λ f m. ap (λ l. unwrap_or (look_up f.callsign (map (λ (p : PassedCount). (p.callsign, p.count)) l)) 0)
+      (can.aerodrome.none_passed e))
 
   -- ---- the frozen landings are those of the file
 
@@ -184,7 +218,8 @@ module _ (a : Aerodrome) (fs : List files.Flight) (kept : AreKept a fs) (can : C
     second : entry.second ≡ f.second
     in_all : Member f all
 
-  frozen_of : (f : Landing) → Member f (frozen_landings s) → (x : Active) × Member x s.active × (x.frozen ≡ Some f.second) × (f ≡ landing x f.second)
+  frozen_of : (f : Landing) → Member f (frozen_landings s) → (x : Active) × Member x s.active
+      × (x.frozen ≡ Some f.second) × (f ≡ landing x f.second)
   frozen_of f m =
       let r = in_frozen s.active f m in
       let at : r.1 ≡ f.second = sym (ap (λ (g : Landing). g.second) r.4) in
@@ -196,7 +231,8 @@ module _ (a : Aerodrome) (fs : List files.Flight) (kept : AreKept a fs) (can : C
       let y = in_map made (map flight_of fs) x.0 x.1 in
       let g = in_map flight_of fs y.0 y.1 in
       let own : x.0 ≡ made (flight_of g.0) = y.2 ∙ ap made g.2 in
-      let looked : look_up g.0.callsign (map (λ (e : FrozenLanding). (e.callsign, e.second)) a.frozen) ≡ Some f.second = sym (ap (λ (z : Active). z.frozen) own) ∙ x.2 in
+      let looked : look_up g.0.callsign (map (λ (e : FrozenLanding). (e.callsign, e.second)) a.frozen) ≡ Some f.second =
+      sym (ap (λ (z : Active). z.frozen) own) ∙ x.2 in
       let e = look_from (λ (e : FrozenLanding). (e.callsign, e.second)) g.0.callsign a.frozen f.second looked in
       let named_own : e.0.callsign ≡ x.0.flight.callsign = e.2 ∙ sym (ap (λ (z : Active). z.flight.callsign) own) in
       let given_own : given_landing s.active e.0 ≡ Some f =
@@ -218,17 +254,20 @@ module _ (a : Aerodrome) (fs : List files.Flight) (kept : AreKept a fs) (can : C
   -- ---- and keep the rules
 
   open_all : All (λ (f : Landing). IsTrue (is_open f.flight.windows a.closures f.second)) (frozen_landings s)
-  open_all = all_from (λ (f : Landing). IsTrue (is_open f.flight.windows a.closures f.second)) (frozen_landings s) (λ f m.
+  open_all = all_from (λ (f : Landing). IsTrue (is_open f.flight.windows a.closures f.second))
+      (frozen_landings s) (λ f m.
       let h = first_none (closed_at a.closures) 1 all no_closed f (of_file f m).in_all in
       unless_none (is_open f.flight.windows a.closures f.second) (fault.FrozenClosed h.0) h.1)
 
   separated : AreSeparated a.table (frozen_landings s)
   separated = all_from (λ f. All (ArePairSeparated a.table f) (frozen_landings s)) (frozen_landings s) (λ f m.
       all_from (ArePairSeparated a.table f) (frozen_landings s) (λ g k n.
-      (is_pair_separated-Decides a.table f g).0 (clash_none a.table 1 all no_clash f g (of_file f m).in_all (of_file g k).in_all n) n))
+      (is_pair_separated-Decides a.table f g).0 (clash_none a.table 1 all no_clash f g (of_file f m).in_all
+      (of_file g k).in_all n) n))
 
   -- one that a frozen flight lists is frozen at an earlier second
-  earlier : (g : Landing) → Member g (frozen_landings s) → (x : Active) → Member x s.active → lists g.flight x.flight.callsign ≡ true → is_not_before g.second x.frozen ≡ false
+  earlier : (g : Landing) → Member g (frozen_landings s) → (x : Active) → Member x s.active
+      → lists g.flight x.flight.callsign ≡ true → is_not_before g.second x.frozen ≡ false
   earlier g m x k e =
       let h = first_none (late_at s.active) 1 all no_late g (of_file g m).in_all in
       let no = map_none (fault.FrozenPrecedence h.0) (find (lands_late s.active g.second) g.flight.after) h.1 in
@@ -260,7 +299,8 @@ module _ (a : Aerodrome) (fs : List files.Flight) (kept : AreKept a fs) (can : C
       waits_on t None e = refl
       waits_on t (Some z) e = absurd (false≢true e)
 
-      go : (f : Landing) → Member f (frozen_landings s) → (x : Active) → Member x s.active → is_waiting x ≡ true → (b : Bool) → lists f.flight x.flight.callsign ≡ b → b ≡ false
+      go : (f : Landing) → Member f (frozen_landings s) → (x : Active) → Member x s.active
+          → is_waiting x ≡ true → (b : Bool) → lists f.flight x.flight.callsign ≡ b → b ≡ false
       go f m x k w true e = absurd (true≢false (sym (waits_on f.second x.frozen w) ∙ earlier f m x k e))
       go f m x k w false e = refl
 
@@ -269,7 +309,8 @@ module _ (a : Aerodrome) (fs : List files.Flight) (kept : AreKept a fs) (can : C
       let o = of_file f m in
       subst (λ t. t < horizon s) o.second (go a.clock a.frozen can.aerodrome.frozen o.entry o.in_file))
     where
-      go : (clock : Option ℕ) (frozen : List FrozenLanding) → AreFrozenBy clock a.freeze frozen → (e : FrozenLanding) → Member e frozen → e.second < horizon_after clock a.freeze
+      go : (clock : Option ℕ) (frozen : List FrozenLanding) → AreFrozenBy clock a.freeze frozen
+          → (e : FrozenLanding) → Member e frozen → e.second < horizon_after clock a.freeze
       go None frozen h e m = absurd (subst (Member e) h m)
       go (Some now) frozen h e m = (all_at (IsFrozen now a.freeze) frozen h.seconds e m).early
 
@@ -298,9 +339,13 @@ opening_sound a fs kept openable = sound a fs kept openable.0 openable.1
 pub plain_opening : PlainLaw
 plain_opening a fs no_frozen no_passed few =
     let active = (opened a fs).active in
-    let n : length active ≡ length fs = length-map (map flight_of fs) (opening_flight (opening_of a)) ∙ length-map fs flight_of in
+    let n : length active ≡ length fs = length-map (map flight_of fs) (opening_flight (opening_of a))
+    ∙ length-map fs flight_of in
     let wait : length (filter is_waiting active) ≤ 60 = omega (arith, fewer_kept is_waiting active) in
-    let enough : too_many_waiting active ≡ None = ap (λ b. unless b (fault.TooManyWaiting (length (filter is_waiting active)))) (le-leb (length (filter is_waiting active)) 60 wait) in
+    let enough : too_many_waiting active ≡ None =
+    ap (λ b. unless b (fault.TooManyWaiting (length (filter is_waiting active))))
+    (le-leb (length (filter is_waiting active)) 60 wait) in
     let names : name_fault a active ≡ None =
-    ap₂ (λ f p. option_or (first_from (unknown_frozen_at active) 1 f) (option_or (first_from (unknown_passed_at active) 1 p) (too_many_waiting active))) no_frozen no_passed ∙ enough in
+    ap₂ (λ f p. option_or (first_from (unknown_frozen_at active) 1 f)
+    (option_or (first_from (unknown_passed_at active) 1 p) (too_many_waiting active))) no_frozen no_passed ∙ enough in
     ap₂ option_or names (ap (λ f. rule_fault a active (given active f)) no_frozen)

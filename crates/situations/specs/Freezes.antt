@@ -1,5 +1,6 @@
 -- What a clock event makes of the entries, one by one.
-use Rattle.std.specs.Prelude.{◌≡◌, ℕ, ◌+◌, min, true, List, [], ◌∷◌, ◌&&◌, Some, map, filter, count_by, nat_lt, if◌then◌else◌}
+use Rattle.std.specs.Prelude.{◌≡◌, ℕ, ◌+◌, min, true, List, [], ◌∷◌, ◌&&◌, Some, map, filter, count_by, nat_lt}
+use Rattle.std.specs.Prelude.{if◌then◌else◌}
 use Rattle.std.specs.Ordering.{is_lt}
 use Rattle.landing_rules.specs.Flights.{Callsign, Flight, Active, Aerodrome, Schedule, Landing, landings, is_waiting}
 use Rattle.landing_rules.specs.Rules.{first_come_cmp}

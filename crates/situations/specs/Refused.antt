@@ -1,5 +1,6 @@
 -- Why an aerodrome file and its flights open no situation: the first test that fails, and where.
-use Rattle.std.specs.Prelude.{◌≡◌, ℕ, ◌+◌, ◌≤◌, Bool, true, ◌&&◌, List, [], ◌∷◌, Option, Some, None, All, length, nat_le, filter, filter_map, find, option_map, if◌then◌else◌}
+use Rattle.std.specs.Prelude.{◌≡◌, ℕ, ◌+◌, ◌≤◌, Bool, true, ◌&&◌, List, [], ◌∷◌, Option, Some, None, All, length}
+use Rattle.std.specs.Prelude.{nat_le, filter, filter_map, find, option_map, if◌then◌else◌}
 use Rattle.std.specs.Option.{option_or}
 use Rattle.std.specs.List.{list_any}
 use Rattle.wake_table.specs.Table.{IsWakeTable}
@@ -45,7 +46,8 @@ unknown_passed_at active i entry = unless (is_waiting_there active entry.callsig
 -- at most 60 flights are not frozen
 abbrev pub too_many_waiting : List Active → Option OpeningFault
 too_many_waiting active =
-    unless (nat_le (length (filter is_waiting active)) most_waiting) (fault.TooManyWaiting (length (filter is_waiting active)))
+    unless (nat_le (length (filter is_waiting active)) most_waiting)
+    (fault.TooManyWaiting (length (filter is_waiting active)))
 
 abbrev pub name_fault : aerodromes.Aerodrome → List Active → Option OpeningFault
 name_fault a active =
@@ -107,7 +109,8 @@ IsOpenable a fs = CanOpen a fs × (opening_fault a fs ≡ None)
 
 -- files without entries open where at most 60 flights are there
 abbrev pub PlainLaw : Type 0
-PlainLaw = (a : aerodromes.Aerodrome) (fs : List files.Flight) → a.frozen ≡ [] → a.passed ≡ [] → length fs ≤ most_waiting → opening_fault a fs ≡ None
+PlainLaw = (a : aerodromes.Aerodrome) (fs : List files.Flight) → a.frozen ≡ [] → a.passed ≡ []
+    → length fs ≤ most_waiting → opening_fault a fs ≡ None
 
 -- what the types of the table, the closures and the flights keep
 pub record AreKept (a : aerodromes.Aerodrome) (fs : List files.Flight) : Type 0 where
@@ -117,4 +120,5 @@ pub record AreKept (a : aerodromes.Aerodrome) (fs : List files.Flight) : Type 0 
 
 -- what opens is a situation that a run can be in
 abbrev pub OpeningLaw : Type 0
-OpeningLaw = (a : aerodromes.Aerodrome) (fs : List files.Flight) → AreKept a fs → IsOpenable a fs → IsSound (opened a fs)
+OpeningLaw = (a : aerodromes.Aerodrome) (fs : List files.Flight) → AreKept a fs → IsOpenable a fs
+    → IsSound (opened a fs)

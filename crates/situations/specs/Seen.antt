@@ -17,7 +17,8 @@ AreApart active = AllPairs (λ a later. a.flight.callsign ≢ later.flight.calls
 
 -- as the rules see these parts
 abbrev pub situation_of : Fixed → List rules.Active → List rules.Span → Option ℕ → rules.Situation
-situation_of f active closures clock = record { aerodrome = fixed_of f; active = active; closures = closures; clock = clock }
+situation_of f active closures clock =
+    record { aerodrome = fixed_of f; active = active; closures = closures; clock = clock }
 
 -- each flight stands under its own callsign
 abbrev pub AreKeyed : {S : Type 0} → IndexMap rules.Callsign rules.Active S → Type 0

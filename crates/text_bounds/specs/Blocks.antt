@@ -10,4 +10,5 @@ block_bound flights = 20 + 29 * flights
 
 -- the block of a state's plan
 abbrev pub BlockIsBoundedLaw : Type 0
-BlockIsBoundedLaw = (state : State) → IsSoundState state → length (lines_text (plan_lines state)) ≤ block_bound (length state.situation.active)
+BlockIsBoundedLaw = (state : State) → IsSoundState state
+    → length (lines_text (plan_lines state)) ≤ block_bound (length state.situation.active)

@@ -8,7 +8,8 @@ use Rattle.certificate.specs.Spelling.{certificate_text}
 abbrev pub pair_count : List State → ℕ
 pair_count states = sum_by (λ (s : State). length s.pairs) states
 
--- the first two lines have at most 39 bytes, the line of a landing 21, that of a state 19 and 18 more for each of its pairs
+-- the first two lines have at most 39 bytes, the line of a landing 21, that of a state 19 and 18 more for each of its
+-- pairs
 abbrev pub certificate_bound : ℕ → ℕ → ℕ → ℕ
 certificate_bound landings states pairs = 39 + 21 * landings + 19 * states + 18 * pairs
 

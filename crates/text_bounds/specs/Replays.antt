@@ -38,6 +38,7 @@ pub record IsTellable (state : State) : Type 0 where
   pub clock : IsInDays state.situation.clock
 
 abbrev pub ReplayIsBoundedLaw : Type 0
-ReplayIsBoundedLaw = (opening : State) (events : List Event) (answers : List Answered) → IsTellable opening → All IsGoodEvent events → All HasShortName events
+ReplayIsBoundedLaw = (opening : State) (events : List Event) (answers : List Answered) → IsTellable opening
+    → All IsGoodEvent events → All HasShortName events
     → length events ≤ most_events → Run opening events answers
     → length (replay_text opening answers) ≤ replay_bound (length opening.situation.active) (length events)

@@ -23,11 +23,12 @@ abbrev pub whole_bound : Objective → ℕ → ℕ → ℕ
 whole_bound o k n = certificate_bound n (n * most_nodes k) (n * most_nodes k * most_pairs o)
 
 abbrev pub WholeCertificateIsBoundedLaw : Type 0
-WholeCertificateIsBoundedLaw = (s : Situation) (p : Problem) (c : Cert) → IsSound s → IsProblemOf s p → IsWellFormed p → IsCertificate c → IsWhole p c
+WholeCertificateIsBoundedLaw = (s : Situation) (p : Problem) (c : Cert) → IsSound s → IsProblemOf s p
+    → IsWellFormed p → IsCertificate c → IsWhole p c
     → length (certificate_text c) ≤ whole_bound p.objective p.k (length p.flights)
 
--- with so many waiting flights each certificate is one that `check` loads: for the makespan always, for delay always with no
--- shift, with up to 32 flights with a shift of one place, and with up to 7 with a shift of two
+-- with so many waiting flights each certificate is one that `check` loads: for the makespan always, for delay always
+-- with no shift, with up to 32 flights with a shift of one place, and with up to 7 with a shift of two
 abbrev pub IsLoadable : Objective → ℕ → ℕ → Type 0
 IsLoadable Makespan k n = (k ≤ 3) × (n ≤ most_waiting)
 IsLoadable Delay zero n = n ≤ most_waiting

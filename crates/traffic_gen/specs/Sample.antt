@@ -14,7 +14,8 @@ sample_table =
     ∷ (60 ∷ 60 ∷ 60 ∷ 60 ∷ 60 ∷ 60 ∷ [])
     ∷ []
 
--- nothing is frozen ahead of the clock, the last landing is made least, the runway has no closure, and the day begins with it
+-- nothing is frozen ahead of the clock, the last landing is made least, the runway has no closure, and the day begins
+-- with it
 abbrev pub aerodrome_with : ℕ → Aerodrome
 aerodrome_with k = record {
   version = 1;

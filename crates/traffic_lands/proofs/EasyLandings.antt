@@ -1,5 +1,6 @@
 -- Landings in first-come order, 180 seconds apart or more, each within its one window, keep the rules.
-use Rattle.std.proofs.Common.{◌≡◌, ℕ, ◌+◌, ◌<◌, ◌≤◌, ◌⊎◌, inl, inr, List, [], ◌∷◌, map, filter, true, false, Bool, cond, None, refl, sym, ap, subst, ◌∙◌, arith}
+use Rattle.std.proofs.Common.{◌≡◌, ℕ, ◌+◌, ◌<◌, ◌≤◌, ◌⊎◌, inl, inr, List, [], ◌∷◌, map, filter, true, false, Bool}
+use Rattle.std.proofs.Common.{cond, None, refl, sym, ap, subst, ◌∙◌, arith}
 use Rattle.std.specs.Prelude.{All, IsTrue, count_by, is_none, bytes_eq, nat_lt}
 use Rattle.std.specs.List.{list_any}
 use Rattle.std.specs.Ordering.{is_lt}
@@ -10,7 +11,8 @@ use Rattle.wake_table.specs.declared.category.Category.{Category}
 use Rattle.wake_table.specs.declared.category.Category.TheVariants.{A, B, C, D, E, F}
 use Rattle.wake_table.specs.Table.{separation}
 use Rattle.landing_rules.specs.Flights.{Flight, Landing, Situation, horizon}
-use Rattle.landing_rules.specs.Rules.{ArePairSeparated, IsFrozenKept, IsPairInPrecedence, IsShiftKept, KeepsRules, arrival_cmp, is_open, last_second, place, rank_among, waits}
+use Rattle.landing_rules.specs.Rules.{ArePairSeparated, IsFrozenKept, IsPairInPrecedence, IsShiftKept, KeepsRules}
+use Rattle.landing_rules.specs.Rules.{arrival_cmp, is_open, last_second, place, rank_among, waits}
 use Rattle.landing_rules.specs.shared.Ranks.{arrival_total}
 use Rattle.landing_rules.specs.shared.Counting.{Member}
 use Rattle.landing_rules.specs.shared.Members.{all_from}
@@ -72,7 +74,8 @@ pub record IsEasy (f : Landing) : Type 0 where
 abbrev pub IsBehind : Landing → Landing → Type 0
 IsBehind f g = (f.flight.eta < g.flight.eta) × (f.second + 180 ≤ g.second)
 
-count_agree : {X : Type 0} (p q : X → Bool) (xs : List X) → ((x : X) → Member x xs → p x ≡ q x) → count_by p xs ≡ count_by q xs
+count_agree : {X : Type 0} (p q : X → Bool) (xs : List X) → ((x : X) → Member x xs → p x ≡ q x)
+    → count_by p xs ≡ count_by q xs
 count_agree p q [] h = refl
 count_agree {X} p q (x ∷ xs) h =
     let here = h x (inl refl) in
@@ -106,7 +109,8 @@ module _ (fs : List Landing) (easy : (f : Landing) → Member f fs → IsEasy f)
       rw (here, rest) refl
 
   -- of two of them one is behind the other
-  apart : (gs : List Landing) → AscendBy IsBehind gs → (f g : Landing) → Member f gs → Member g gs → (f ≡ g) ⊎ (IsBehind f g ⊎ IsBehind g f)
+  apart : (gs : List Landing) → AscendBy IsBehind gs → (f g : Landing) → Member f gs → Member g gs
+      → (f ≡ g) ⊎ (IsBehind f g ⊎ IsBehind g f)
   apart [] up f g i j = absurd i
   apart (x ∷ gs) up f g (inl a) (inl b) = inl (a ∙ sym b)
   apart (x ∷ gs) up f g (inl a) (inr j) = inr (inl (subst (λ (y : Landing). IsBehind y g) (sym a) (up.0 g j)))
@@ -116,16 +120,20 @@ module _ (fs : List Landing) (easy : (f : Landing) → Member f fs → IsEasy f)
   far : (f g : Landing) → Member f fs → Member g fs → ArePairSeparated sample_table f g
   far f g i j other le = elim (apart fs behind f g i j) [
     | inl same ↦ absurd (other (ap (λ (x : Landing). x.flight.callsign) same))
-    | inr (inl b) ↦ (let few = few_apart f.flight.category g.flight.category in let gap = b.1 in omega (arith, few, gap))
+    | inr (inl b) ↦ (let few = few_apart f.flight.category g.flight.category in let gap =
+        b.1 in omega (arith, few, gap))
     | inr (inr b) ↦ (let gap = b.1 in absurd (omega (arith, gap, le)))
   ]
 
   -- who comes before lands before
-  same_test : (f g : Landing) → Member f fs → Member g fs → is_lt (arrival_cmp g.flight f.flight) ≡ nat_lt g.second f.second
+  same_test : (f g : Landing) → Member f fs → Member g fs
+      → is_lt (arrival_cmp g.flight f.flight) ≡ nat_lt g.second f.second
   same_test f g i j = elim (apart fs behind f g i j) [
     | inl same ↦ rw same (own g)
-    | inr (inl b) ↦ (let gap = b.1 in later_is g.flight f.flight b.0 ∙ sym (le-ltb g.second f.second (omega (arith, gap))))
-    | inr (inr b) ↦ (let gap = b.1 in earlier_is g.flight f.flight b.0 ∙ sym (lt-ltb g.second f.second (omega (arith, gap))))
+    | inr (inl b) ↦ (let gap = b.1 in later_is g.flight f.flight b.0
+        ∙ sym (le-ltb g.second f.second (omega (arith, gap))))
+    | inr (inr b) ↦ (let gap = b.1 in earlier_is g.flight f.flight b.0
+        ∙ sym (lt-ltb g.second f.second (omega (arith, gap))))
   ]
     where
       own : (x : Landing) → is_lt (arrival_cmp x.flight x.flight) ≡ nat_lt x.second x.second
@@ -134,7 +142,8 @@ module _ (fs : List Landing) (easy : (f : Landing) → Member f fs → IsEasy f)
   same_place : (f : Landing) → Member f fs → rank_among fs f ≡ place fs f
   same_place f i =
       let moved = count_map (λ (g : Flight). is_lt (arrival_cmp g f.flight)) (λ (g : Landing). g.flight) fs in
-      let same = count_agree (λ (g : Landing). is_lt (arrival_cmp g.flight f.flight)) (λ (g : Landing). nat_lt g.second f.second) fs (λ g j. same_test f g i j) in
+      let same = count_agree (λ (g : Landing). is_lt (arrival_cmp g.flight f.flight))
+      (λ (g : Landing). nat_lt g.second f.second) fs (λ g j. same_test f g i j) in
       omega (arith, moved, same)
 
   is_opened : (f : Landing) → IsEasy f → is_open f.flight.windows [] f.second ≡ true
@@ -143,21 +152,28 @@ module _ (fs : List Landing) (easy : (f : Landing) → Member f fs → IsEasy f)
       let last = le-leb f.second (f.flight.eta + 7199) e.ended in
       rw (e.window, first, last) refl
 
-  pub keeps : (k : ℕ) (s : Situation) → s.closures ≡ [] → s.clock ≡ None → s.aerodrome.table ≡ sample_table → s.aerodrome.k ≡ k → KeepsRules s fs
+  pub keeps : (k : ℕ) (s : Situation) → s.closures ≡ [] → s.clock ≡ None → s.aerodrome.table ≡ sample_table
+      → s.aerodrome.k ≡ k → KeepsRules s fs
   keeps k s open_all no_clock table k_is = record {
     in_days = all_from (λ f. f.second ≤ last_second) fs (λ f i. (easy f i).days);
-    open_seconds = all_from (λ f. IsTrue (is_open f.flight.windows s.closures f.second)) fs (λ f i. rw open_all (is_opened f (easy f i)));
-    separated = all_from (λ f. All (ArePairSeparated s.aerodrome.table f) fs) fs (λ f i. all_from (ArePairSeparated s.aerodrome.table f) fs (λ g j. rw table (far f g i j)));
-    in_precedence = all_from (λ f. All (IsPairInPrecedence f) fs) fs (λ f i. all_from (IsPairInPrecedence f) fs (λ g j. none_first f g (easy g j).alone));
+    open_seconds = all_from (λ f. IsTrue (is_open f.flight.windows s.closures f.second)) fs
+        (λ f i. rw open_all (is_opened f (easy f i)));
+    separated = all_from (λ f. All (ArePairSeparated s.aerodrome.table f) fs) fs
+        (λ f i. all_from (ArePairSeparated s.aerodrome.table f) fs (λ g j. rw table (far f g i j)));
+    in_precedence = all_from (λ f. All (IsPairInPrecedence f) fs) fs
+        (λ f i. all_from (IsPairInPrecedence f) fs (λ g j. none_first f g (easy g j).alone));
     shift = rw (all_wait fs easy) (all_from (IsShiftKept s.aerodrome.k fs) fs (λ f i. kept s.aerodrome.k f i));
     frozen_kept = all_from (IsFrozenKept (horizon s)) fs (λ f i. free f (easy f i).waits);
   }
     where
       none_first : (f g : Landing) → g.flight.after ≡ [] → IsPairInPrecedence f g
-      none_first f g none listed = absurd (let x : IsTrue (list_any (λ d. bytes_eq d f.flight.callsign) []) = subst (λ (names : List (List ℕ)). IsTrue (list_any (λ d. bytes_eq d f.flight.callsign) names)) none listed in cc x)
+      none_first f g none listed = absurd (let x : IsTrue (list_any (λ d. bytes_eq d f.flight.callsign) []) =
+          subst (λ (names : List (List ℕ)). IsTrue (list_any (λ d. bytes_eq d f.flight.callsign) names)) none listed in
+          cc x)
 
       kept : (m : ℕ) (f : Landing) → Member f fs → IsShiftKept m fs f
-      kept m f i = let same = same_place f i in let none = (easy f i).unpassed in (omega (arith, same), omega (arith, same, none))
+      kept m f i = let same = same_place f i in let none =
+          (easy f i).unpassed in (omega (arith, same), omega (arith, same, none))
 
       free : (f : Landing) → f.frozen ≡ None → IsFrozenKept (horizon s) f
       free f none = rw (none, no_clock) (omega arith)

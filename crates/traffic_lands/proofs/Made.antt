@@ -1,5 +1,6 @@
 -- Each flight that a state makes lands 120 seconds later after its estimate than the one before it.
-use Rattle.std.proofs.Common.{◌≡◌, ℕ, zero, suc, ◌+◌, ◌-◌, ◌*◌, ◌<◌, ◌≤◌, inl, inr, List, [], ◌∷◌, length, map, refl, sym, ap, subst, ◌∙◌, arith}
+use Rattle.std.proofs.Common.{◌≡◌, ℕ, zero, suc, ◌+◌, ◌-◌, ◌*◌, ◌<◌, ◌≤◌, inl, inr, List, [], ◌∷◌, length, map, refl}
+use Rattle.std.proofs.Common.{sym, ap, subst, ◌∙◌, arith}
 use Rattle.landing_rules.specs.Events.{Opening, opening_flight}
 use Rattle.landing_rules.specs.Flights.{Active, Landing, Schedule, landing, landings}
 use Rattle.landing_rules.specs.shared.Counting.{Member}
@@ -23,11 +24,13 @@ second number before x = before + 60 + drawn 60 (next x) + 120 * (number - 1)
 
 abbrev seconds_from : ℕ → ℕ → ℕ → ℕ → Schedule
 seconds_from zero number before x = []
-seconds_from (suc n) number before x = second number before x ∷ seconds_from n (number + 1) (before + 60 + drawn 60 (next x)) (after_three x)
+seconds_from (suc n) number before x =
+    second number before x ∷ seconds_from n (number + 1) (before + 60 + drawn 60 (next x)) (after_three x)
 
 length-seconds : (n number before x : ℕ) → length (seconds_from n number before x) ≡ n
 length-seconds zero number before x = refl
-length-seconds (suc n) number before x = ap suc (length-seconds n (number + 1) (before + 60 + drawn 60 (next x)) (after_three x))
+length-seconds (suc n) number before x =
+    ap suc (length-seconds n (number + 1) (before + 60 + drawn 60 (next x)) (after_three x))
 
 module _ (k : ℕ) where
   abbrev opening : Opening
@@ -42,7 +45,8 @@ module _ (k : ℕ) where
   length-active : (n number before x : ℕ) → length (active_from n number before x) ≡ n
   unfolding flights_from
   length-active zero number before x = refl
-  length-active (suc n) number before x = ap suc (length-active n (number + 1) (before + 60 + drawn 60 (next x)) (after_three x))
+  length-active (suc n) number before x =
+      ap suc (length-active n (number + 1) (before + 60 + drawn 60 (next x)) (after_three x))
 
   abbrev first : ℕ → ℕ → ℕ → Landing
   first number before x = landing (opening_flight opening (flight_of (flight number before x))) (second number before x)
@@ -65,20 +69,25 @@ module _ (k : ℕ) where
         days = omega (arith, few, early, below);
       }
 
-  all_easy : (n number before x : ℕ) → number + n ≤ 61 → before + 119 * n ≤ 20000 → (f : Landing) → Member f (landed n number before x) → IsEasy f
+  all_easy : (n number before x : ℕ) → number + n ≤ 61 → before + 119 * n ≤ 20000 → (f : Landing)
+      → Member f (landed n number before x) → IsEasy f
   unfolding flights_from
   all_easy zero number before x few early f i = absurd i
-  all_easy (suc n) number before x few early f (inl e) = subst IsEasy (sym e) (first_easy number before x (omega (arith, few)) (omega (arith, early)))
+  all_easy (suc n) number before x few early f (inl e) =
+      subst IsEasy (sym e) (first_easy number before x (omega (arith, few)) (omega (arith, early)))
   all_easy (suc n) number before x few early f (inr i) =
       let below = drawn_below 60 (next x) (omega arith) in
-      all_easy n (number + 1) (before + 60 + drawn 60 (next x)) (after_three x) (omega (arith, few)) (omega (arith, early, below)) f i
+      all_easy n (number + 1) (before + 60 + drawn 60 (next x)) (after_three x) (omega (arith, few))
+      (omega (arith, early, below)) f i
 
   -- those from a number on
-  all_later : (n number before x : ℕ) → (f : Landing) → Member f (landed n number before x) → (before + 60 ≤ f.flight.eta) × (before + 60 + 120 * (number - 1) ≤ f.second)
+  all_later : (n number before x : ℕ) → (f : Landing) → Member f (landed n number before x)
+      → (before + 60 ≤ f.flight.eta) × (before + 60 + 120 * (number - 1) ≤ f.second)
   unfolding flights_from
   all_later zero number before x f i = absurd i
   all_later (suc n) number before x f (inl e) =
-      let eta : f.flight.eta ≡ before + 60 + drawn 60 (next x) = ap (λ (g : Landing). g.flight.eta) e ∙ first_eta number before x in
+      let eta : f.flight.eta ≡ before + 60 + drawn 60 (next x) =
+      ap (λ (g : Landing). g.flight.eta) e ∙ first_eta number before x in
       let at : f.second ≡ second number before x = ap (λ (g : Landing). g.second) e in
       (omega (arith, eta), omega (arith, at))
   all_later (suc n) number before x f (inr i) =
@@ -105,7 +114,8 @@ lands seed n k few = (
   seconds_from n 1 3600 seed,
   (
     length-seconds n 1 3600 seed ∙ sym (length-active k n 1 3600 seed),
-    keeps (landed k n 1 3600 seed) (all_easy k n 1 3600 seed (omega (arith, few)) (omega (arith, few))) (ascends k n 1 3600 seed (omega arith))
+    keeps (landed k n 1 3600 seed) (all_easy k n 1 3600 seed (omega (arith, few)) (omega (arith, few)))
+        (ascends k n 1 3600 seed (omega arith))
         k (opened (traffic seed n k).aerodrome (traffic seed n k).flights) refl refl refl refl,
   ),
 )

@@ -26,7 +26,8 @@ in_within before (r ∷ rs) = elim (cases_Bool (nat_lt 2 (length r))) [
   | inr few ↦ rw few (both (added before (trial_in (length before) r)) (λ trials. in_within trials rs))
 ]
   where
-    both : (o : Result (List Trial) TrialFault) → ((trials : List Trial) → trials_in trials (within 2 rs) ≡ trials_in trials rs)
+    both : (o : Result (List Trial) TrialFault)
+        → ((trials : List Trial) → trials_in trials (within 2 rs) ≡ trials_in trials rs)
         → (o >>= (λ trials. trials_in trials (within 2 rs))) ≡ (o >>= (λ trials. trials_in trials rs))
     both (Ok trials) same = same trials
     both (Err e) same = refl

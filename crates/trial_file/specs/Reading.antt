@@ -1,5 +1,6 @@
 -- The trials of a file, or the first fault of its first record that has one, over the records that `csv` reads.
-use Rattle.std.specs.Prelude.{ℕ, List, [], ◌∷◌, ◌++◌, Bool, not, ◌==◌, ◌&&◌, ◌+◌, nat_le, length, codes, bytes_eq, Result, Ok, Err, if◌then◌else◌}
+use Rattle.std.specs.Prelude.{ℕ, List, [], ◌∷◌, ◌++◌, Bool, not, ◌==◌, ◌&&◌, ◌+◌, nat_le, length, codes, bytes_eq}
+use Rattle.std.specs.Prelude.{Result, Ok, Err, if◌then◌else◌}
 use Rattle.cps_base.specs.Answers.{fault_as, ok_map, ◌>>=◌}
 use Rattle.csv_records.specs.Rows.{Fields, field, records_of}
 use Rattle.cps_base.specs.Number.{number_within}

@@ -7,14 +7,20 @@ use Rattle.arrivals.specs.declared.passed_list.PassedCount.{PassedCount}
 use Rattle.whatif.specs.Outcomes.{first_above}
 
 module _ (k : ℕ) where
-  from_place : (i : ℕ) (ps : List PassedCount) → option_map (λ j. j + 1) (position_from (λ (p : PassedCount). nat_lt k p.count) i ps) ≡ first_above k (i + 1) ps
+  from_place : (i : ℕ) (ps : List PassedCount)
+      → option_map (λ j. j + 1) (position_from (λ (p : PassedCount). nat_lt k p.count) i ps) ≡ first_above k (i + 1) ps
   from_place i [] = refl
   from_place i (p ∷ ps) = go (nat_lt k p.count) (from_place (i + 1) ps)
     where
-      go : (b : Bool) → option_map (λ j. j + 1) (position_from (λ (q : PassedCount). nat_lt k q.count) (i + 1) ps) ≡ first_above k (i + 1 + 1) ps →
-          option_map (λ j. j + 1) (cond b (Some i) (position_from (λ (q : PassedCount). nat_lt k q.count) (i + 1) ps)) ≡ (if b then Some (i + 1) else first_above k (i + 1 + 1) ps)
+      go : (b : Bool) → option_map (λ j. j + 1) (position_from (λ (q : PassedCount). nat_lt k q.count)
+          (i + 1) ps) ≡ first_above k (i + 1 + 1) ps →
+          option_map (λ j. j + 1) (cond b (Some i)
+          (position_from (λ (q : PassedCount). nat_lt k q.count) (i + 1) ps)) ≡ (if b then Some (i + 1)
+          else first_above k (i + 1 + 1) ps)
       go true ih = refl
       go false ih = ih
 
-  pub above_place : (ps : List PassedCount) (at : Option ℕ) → at ≡ position (λ (p : PassedCount). nat_lt k p.count) ps → option_map (λ j. j + 1) at ≡ first_above k 1 ps
-  above_place ps at e = ap (option_map (λ j. j + 1)) (e ∙ position_from-zero (λ (p : PassedCount). nat_lt k p.count) ps) ∙ from_place 0 ps
+  pub above_place : (ps : List PassedCount) (at : Option ℕ) → at ≡ position (λ (p : PassedCount). nat_lt k p.count) ps
+      → option_map (λ j. j + 1) at ≡ first_above k 1 ps
+  above_place ps at e = ap (option_map (λ j. j + 1)) (e ∙ position_from-zero (λ (p : PassedCount). nat_lt k p.count) ps)
+      ∙ from_place 0 ps

@@ -10,9 +10,11 @@ use Rattle.replan.specs.LeastValue.{IsLeastValue}
 use Rattle.whatif.specs.declared.outcome.Outcome.TheVariants.{Value}
 use Rattle.whatif.specs.Outcomes.{HasLeast}
 
-pub plannable : (s : Situation) (p : Problem) → IsProblemOf s p → IsWithinShift s.aerodrome.objective s.aerodrome.k → IsPlannable p
+pub plannable : (s : Situation) (p : Problem) → IsProblemOf s p → IsWithinShift s.aerodrome.objective s.aerodrome.k
+    → IsPlannable p
 plannable s p is h =
-    subst (λ (k : ℕ). IsWithinShift p.objective k) (sym is.k) (subst (λ (o : Objective). IsWithinShift o s.aerodrome.k) (sym is.objective) h)
+    subst (λ (k : ℕ). IsWithinShift p.objective k) (sym is.k)
+    (subst (λ (o : Objective). IsWithinShift o s.aerodrome.k) (sym is.objective) h)
 
 module _ (s : Situation) (p : Problem) (sound : IsSound s) (is : IsProblemOf s p) where
   pub least_some : BestListLaw → SameObjectiveLaw → (v : ℕ) → IsLeastValue p (Some v) → HasLeast s (Value v)

@@ -32,17 +32,20 @@ one_outcome s None x y h k = one_least s x y h k
 one_outcome s (Some r) x y h k = h ∙ sym k
 
 module _ (a : Aerodrome) (fs : List Flight) where
-  one_each : (trials : List Trial) (xs ys : List Outcome) → AllZip (IsOutcomeOf a fs) trials xs → AllZip (IsOutcomeOf a fs) trials ys → xs ≡ ys
+  one_each : (trials : List Trial) (xs ys : List Outcome) → AllZip (IsOutcomeOf a fs) trials xs
+      → AllZip (IsOutcomeOf a fs) trials ys → xs ≡ ys
   one_each [] [] [] h k = refl
   one_each [] [] (y ∷ ys) h k = absurd k
   one_each [] (x ∷ xs) ys h k = absurd h
   one_each (t ∷ ts) [] ys h k = absurd h
   one_each (t ∷ ts) (x ∷ xs) [] h k = absurd k
   one_each (t ∷ ts) (x ∷ xs) (y ∷ ys) h k =
-      ap₂ (λ (o : Outcome) (os : List Outcome). o ∷ os) (one_outcome (changed (opened a fs) t) (refusal a fs t) x y h.0 k.0) (one_each ts xs ys h.1 k.1)
+      ap₂ (λ (o : Outcome) (os : List Outcome). o ∷ os)
+      (one_outcome (changed (opened a fs) t) (refusal a fs t) x y h.0 k.0) (one_each ts xs ys h.1 k.1)
 
 pub outcomes_one : OutcomesAreOneLaw
 outcomes_one a fs trials [] ys h k = absurd h
 outcomes_one a fs trials (x ∷ xs) [] h k = absurd k
 outcomes_one a fs trials (x ∷ xs) (y ∷ ys) h k =
-    ap₂ (λ (o : Outcome) (os : List Outcome). o ∷ os) (one_least (opened a fs) x y h.0 k.0) (one_each a fs trials xs ys h.1 k.1)
+    ap₂ (λ (o : Outcome) (os : List Outcome). o ∷ os) (one_least (opened a fs) x y h.0 k.0)
+    (one_each a fs trials xs ys h.1 k.1)

@@ -1,5 +1,6 @@
 -- An aerodrome with another limit of shift that is not refused opens too.
-use Rattle.std.proofs.Common.{◌≡◌, ℕ, zero, suc, ◌+◌, ◌≤◌, List, [], ◌∷◌, Option, Some, None, Bool, true, false, refl, sym, subst, arith}
+use Rattle.std.proofs.Common.{◌≡◌, ℕ, zero, suc, ◌+◌, ◌≤◌, List, [], ◌∷◌, Option, Some, None, Bool, true, false, refl}
+use Rattle.std.proofs.Common.{sym, subst, arith}
 use Rattle.std.specs.Prelude.{All, ◌&&◌, nat_lt, option_map, if◌then◌else◌, Result, Ok, Err, IfOk}
 use Rattle.landing_rules.specs.declared.objective.Objective.{Objective}
 use Rattle.landing_rules.specs.declared.objective.Objective.TheVariants.{Makespan, Delay}
@@ -16,7 +17,8 @@ use Rattle.whatif.specs.declared.outcome.TrialRefusal.{TrialRefusal}
 use Rattle.whatif.specs.declared.outcome.TrialRefusal.TheVariants.{DelayShift, PassedAbove}
 use Rattle.whatif.specs.Outcomes.{first_above, shift_refusal, HasLeast, IsOutcomeBy, IsOutcomeOf}
 
-neither : (k : ℕ) (b : Bool) (o : Option ℕ) → (if b then Some (DelayShift k) else option_map PassedAbove o) ≡ None → (b ≡ false) × (o ≡ None)
+neither : (k : ℕ) (b : Bool) (o : Option ℕ) → (if b then Some (DelayShift k) else option_map PassedAbove o) ≡ None
+    → (b ≡ false) × (o ≡ None)
 neither k true o e = absurd (cc e)
 neither k false None e = (refl, refl)
 neither k false (Some i) e = absurd (cc e)
@@ -25,7 +27,8 @@ not_beyond : (o : Objective) (m k : ℕ) → (is_delay o && nat_lt m k) ≡ fals
 not_beyond Makespan m k e d = absurd (cc d)
 not_beyond Delay m k e d = grind (arith, e)
 
-not_above : (k n : ℕ) (p : PassedCount) (rest : Option ℕ) → (if nat_lt k p.count then Some n else rest) ≡ None → (p.count ≤ k) × (rest ≡ None)
+not_above : (k n : ℕ) (p : PassedCount) (rest : Option ℕ) → (if nat_lt k p.count then Some n else rest) ≡ None
+    → (p.count ≤ k) × (rest ≡ None)
 not_above k n p rest e = go (nat_lt k p.count) refl e
   where
     go : (b : Bool) → nat_lt k p.count ≡ b → (if b then Some n else rest) ≡ None → (p.count ≤ k) × (rest ≡ None)
@@ -35,9 +38,11 @@ not_above k n p rest e = go (nat_lt k p.count) refl e
 none_above : (k n : ℕ) (ps : List PassedCount) → first_above k n ps ≡ None → All (λ (p : PassedCount). p.count ≤ k) ps
 none_above k n [] e i d lt = absurd (omega (arith, lt))
 none_above k n (p ∷ ps) e zero d lt = (not_above k n p (first_above k (n + 1) ps) e).0
-none_above k n (p ∷ ps) e (suc i) d lt = none_above k (n + 1) ps (not_above k n p (first_above k (n + 1) ps) e).1 i d (omega (arith, lt))
+none_above k n (p ∷ ps) e (suc i) d lt =
+    none_above k (n + 1) ps (not_above k n p (first_above k (n + 1) ps) e).1 i d (omega (arith, lt))
 
-module _ (a : aerodromes.Aerodrome) (fs : List files.Flight) (k : ℕ) (few : k ≤ 3) (accepted : shift_refusal a k ≡ None) where
+module _ (a : aerodromes.Aerodrome) (fs : List files.Flight) (k : ℕ) (few : k ≤ 3)
+    (accepted : shift_refusal a k ≡ None) where
   in_range : IsInRange a → IsInRange (record a { k = k })
   in_range r =
       let both = neither k (is_beyond a.version k a.objective) (first_above k 1 a.passed) accepted in
@@ -59,13 +64,22 @@ module _ (a : aerodromes.Aerodrome) (fs : List files.Flight) (k : ℕ) (few : k 
         none_passed = r.none_passed;
       }
 
-  pub shifted_opens : (other : aerodromes.Aerodrome) → other ≡ a → IsOpenable a fs → IsOpenable (record other { k = k }) fs
+  pub shifted_opens : (other : aerodromes.Aerodrome) → other ≡ a → IsOpenable a fs
+      → IsOpenable (record other { k = k }) fs
   shifted_opens other e opens =
-      let may : CanOpen (record a { k = k }) fs = record { aerodrome = in_range opens.0.aerodrome; few = opens.0.few; flights = opens.0.flights; callsigns = opens.0.callsigns } in
+      let may : CanOpen (record a { k = k }) fs =
+      record {
+        aerodrome = in_range opens.0.aerodrome;
+        few = opens.0.few;
+        flights = opens.0.flights;
+        callsigns =
+            opens.0.callsigns;
+      } in
       subst (λ (z : aerodromes.Aerodrome). IsOpenable (record z { k = k }) fs) (sym e) (may, opens.1)
 
   -- what comes of it is the outcome of the trial
-  pub shifted_outcome : {E : Type 0} (other : aerodromes.Aerodrome) → other ≡ a → (r : Result Outcome E) → IfOk r (HasLeast (opened (record other { k = k }) fs)) → IfOk r (IsOutcomeOf a fs (Shift k))
+  pub shifted_outcome : {E : Type 0} (other : aerodromes.Aerodrome) → other ≡ a → (r : Result Outcome E)
+      → IfOk r (HasLeast (opened (record other { k = k }) fs)) → IfOk r (IsOutcomeOf a fs (Shift k))
   shifted_outcome other e (Err z) h = tt
   shifted_outcome other e (Ok o) h =
       subst (λ (r : Option TrialRefusal). IsOutcomeBy (with_shift k (opened a fs)) r o) (sym accepted)

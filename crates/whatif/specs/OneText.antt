@@ -8,4 +8,5 @@ use Rattle.whatif.specs.Outcomes.{AreOutcomes}
 
 -- two lists of the outcomes of the same trials of the same files are one
 abbrev pub OutcomesAreOneLaw : Type 0
-OutcomesAreOneLaw = (a : Aerodrome) (fs : List Flight) (trials : List Trial) (xs ys : List Outcome) → AreOutcomes a fs trials xs → AreOutcomes a fs trials ys → xs ≡ ys
+OutcomesAreOneLaw = (a : Aerodrome) (fs : List Flight) (trials : List Trial) (xs ys : List Outcome)
+    → AreOutcomes a fs trials xs → AreOutcomes a fs trials ys → xs ≡ ys

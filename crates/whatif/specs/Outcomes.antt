@@ -1,5 +1,6 @@
 -- What comes of a trial: its first refusal, or else the least objective of the opening situation with the change.
-use Rattle.std.specs.Prelude.{◌≡◌, ℕ, zero, suc, ◌+◌, List, [], ◌∷◌, Option, Some, None, Result, IfOk, nat_lt, option_map, get_or, if◌then◌else◌}
+use Rattle.std.specs.Prelude.{◌≡◌, ℕ, zero, suc, ◌+◌, List, [], ◌∷◌, Option, Some, None, Result, IfOk, nat_lt}
+use Rattle.std.specs.Prelude.{option_map, get_or, if◌then◌else◌}
 use Rattle.std.specs.List.{AllZip}
 use Rattle.landing_rules.specs.Flights.{Situation, Schedule}
 use Rattle.landing_rules.specs.Rules.{IsFeasible, IsBest, objective}
@@ -13,7 +14,8 @@ use Rattle.situations.specs.Opened.{opened}
 use Rattle.trial_file.specs.declared.trial.Trial.{Trial}
 use Rattle.trial_file.specs.declared.trial.Trial.TheVariants.{Shift, Close}
 use Rattle.whatif.specs.declared.outcome.TrialRefusal.{TrialRefusal}
-use Rattle.whatif.specs.declared.outcome.TrialRefusal.TheVariants.{DelayShift, PassedAbove, CoversFrozen, TooManyClosures}
+use Rattle.whatif.specs.declared.outcome.TrialRefusal.TheVariants.{DelayShift, PassedAbove, CoversFrozen}
+use Rattle.whatif.specs.declared.outcome.TrialRefusal.TheVariants.{TooManyClosures}
 use Rattle.whatif.specs.declared.outcome.Outcome.{Outcome}
 use Rattle.whatif.specs.declared.outcome.Outcome.TheVariants.{Value, Infeasible, Refused}
 
@@ -26,7 +28,8 @@ first_above k i (p ∷ ps) = if nat_lt k p.count then Some i else first_above k 
 
 -- delay does not take the limit of shift, or a flight was passed more often than it allows
 abbrev pub shift_refusal : aerodromes.Aerodrome → ℕ → Option TrialRefusal
-shift_refusal a k = if is_beyond a.version k a.objective then Some (DelayShift k) else option_map PassedAbove (first_above k 1 a.passed)
+shift_refusal a k = if is_beyond a.version k a.objective then Some (DelayShift k)
+    else option_map PassedAbove (first_above k 1 a.passed)
 
 -- a closure is refused as the event of that closure is
 abbrev pub closure_refusal : Option rules.Refusal → Option TrialRefusal
@@ -70,5 +73,6 @@ IsOutcomeAt a fs trials zero outcome = HasLeast (opened a fs) outcome
 IsOutcomeAt a fs trials (suc i) outcome = (trial : Trial) → IsOutcomeOf a fs (get_or trials i trial) outcome
 
 -- an answer for a place is the outcome there, unless memory ran out
-abbrev pub IsAnswerAt : {E : Type 0} → aerodromes.Aerodrome → List files.Flight → List Trial → ℕ → Result Outcome E → Type 0
+abbrev pub IsAnswerAt : {E : Type 0} → aerodromes.Aerodrome → List files.Flight → List Trial
+    → ℕ → Result Outcome E → Type 0
 IsAnswerAt a fs trials i answer = IfOk answer (IsOutcomeAt a fs trials i)

@@ -3,7 +3,8 @@ use Rattle.std.specs.Prelude.{ℕ, ◌+◌, List, [], ◌∷◌, ◌++◌, codes
 use Rattle.landing_rules.specs.Events as rules
 use Rattle.landing_rules.specs.Text.{cause}
 use Rattle.whatif.specs.declared.outcome.TrialRefusal.{TrialRefusal}
-use Rattle.whatif.specs.declared.outcome.TrialRefusal.TheVariants.{DelayShift, PassedAbove, CoversFrozen, TooManyClosures}
+use Rattle.whatif.specs.declared.outcome.TrialRefusal.TheVariants.{DelayShift, PassedAbove, CoversFrozen}
+use Rattle.whatif.specs.declared.outcome.TrialRefusal.TheVariants.{TooManyClosures}
 use Rattle.whatif.specs.declared.outcome.Outcome.{Outcome}
 use Rattle.whatif.specs.declared.outcome.Outcome.TheVariants.{Value, Infeasible, Refused}
 

@@ -19,18 +19,22 @@ given files room = record { folder = fresh_folder files []; out = fresh_sink roo
 -- Over files that are there and taken, and with room for as many bytes as the command prints at most, the output is a
 -- text that it may print and the status that of its answer, 0, 1 or 7, or memory was short. Files that are there and
 -- refused give status 3, or memory was short.
-pub record Answers (words : List (List ℕ)) (files : List (String Global × Vec ℕ Global)) (room status : ℕ) (output : List ℕ) : Type 0 where
+pub record Answers (words : List (List ℕ)) (files : List (String Global × Vec ℕ Global)) (room status : ℕ)
+    (output : List ℕ) : Type 0 where
   pub complete : (command : Command) (contents : List (List ℕ)) → AreThere words (given files room) command contents →
       ((refusal : FilesFault) → Refuses command contents refusal → ⊥) → HasRoom command contents (fresh_sink room []) →
       (status ≡ 8) ⊎ ((answer : Answer) × (status ≡ answer_status answer) × Admits command contents output answer)
   -- the same where the room is known to hold each text that it may begin
   pub held : (command : Command) (contents : List (List ℕ)) → AreThere words (given files room) command contents →
-      ((refusal : FilesFault) → Refuses command contents refusal → ⊥) → HoldsEach command contents (fresh_sink room []) →
+      ((refusal : FilesFault) → Refuses command contents refusal → ⊥) → HoldsEach command contents (fresh_sink room [])
+      →
       (status ≡ 8) ⊎ ((answer : Answer) × (status ≡ answer_status answer) × Admits command contents output answer)
-  pub refused : (command : Command) (contents : List (List ℕ)) (refusal : FilesFault) → AreThere words (given files room) command contents →
+  pub refused : (command : Command) (contents : List (List ℕ)) (refusal : FilesFault)
+      → AreThere words (given files room) command contents →
       Refuses command contents refusal → (status ≡ 3) ⊎ (status ≡ 8)
 
--- The run has an ending of this status, and where there is room for its line, this line is what the standard error holds.
+-- The run has an ending of this status, and where there is room for its line, this line is what the standard error
+-- holds.
 pub record SaysLine (room status : ℕ) (err : List ℕ) : Type 0 where
   pub ending : Ending
   pub status_is : status ≡ status_of ending

@@ -20,7 +20,7 @@ IsShown (Some head) _ outputs written = BeginsWith head written
 IsShown None (Some tail) outputs written = EndsWith tail written
 IsShown None None outputs written = IsOneOf outputs.whole.now (option_copied outputs.other) written
 
--- an output is one of those that are shown: where they say how it begins, it begins so; else where they say how it ends, it ends
--- so; else it is the whole output, or the other one
+-- an output is one of those that are shown: where they say how it begins, it begins so; else where they say how it
+-- ends, it ends so; else it is the whole output, or the other one
 abbrev pub IsOutputOf : Outputs → List ℕ → Type 0
 IsOutputOf outputs written = IsShown (option_copied outputs.begins) (option_copied outputs.ends) outputs written

@@ -1,5 +1,6 @@
 -- What keeps the pairs of each node, as the entries of windows do, makes the states that leave nothing out.
-use Rattle.std.proofs.Common.{◌≡◌, ◌<◌, ◌≤◌, inl, inr, true, ltb, ◌&&◌, List, [], ◌∷◌, length, get_or, refl, sym, subst, arith}
+use Rattle.std.proofs.Common.{◌≡◌, ◌<◌, ◌≤◌, inl, inr, true, ltb, ◌&&◌, List, [], ◌∷◌, length, get_or, refl, sym}
+use Rattle.std.proofs.Common.{subst, arith}
 use Rattle.std.specs.Prelude.{All}
 use Rattle.std.proofs.lemmas.Bool.{and_from, and_parts, lt-ltb, ltb-true}
 use Rattle.landing_rules.specs.Problem.{Problem}
@@ -23,36 +24,48 @@ rising_staircase (a ∷ b ∷ ps) h =
     let s = and_parts _ _ t.0 in
     let x = ltb-true a.0 b.0 s.0 in
     let y = ltb-true b.1 a.1 s.1 in
-    let rest = rising_staircase (b ∷ ps) t.1 in
-    (λ c i. elim i [ inl e ↦ subst (λ (z : Pair). (a.0 < z.0) × (z.1 < a.1)) (sym e) (x, y) | inr j ↦ (let m = rest.0 c j in let u = m.0 in let v = m.1 in (omega arith, omega arith)) ], rest)
+    let rest = rising_staircase (b ∷ ps) t.1 in (
+      λ c i. elim i [
+        | inl e ↦ subst (λ (z : Pair). (a.0 < z.0) × (z.1 < a.1)) (sym e) (x, y)
+        | inr j ↦
+            (let m = rest.0 c j in let u = m.0 in let v = m.1 in (omega arith, omega arith))
+      ],
+      rest,
+    )
 
 pub staircase_rises : (ps : List Pair) → Staircase ps → rises ps ≡ true
 staircase_rises [] h = refl
 staircase_rises (a ∷ []) h = refl
 staircase_rises (a ∷ b ∷ ps) h =
     let m = h.0 b (inl refl) in
-    and_from (ltb a.0 b.0 && ltb b.1 a.1) (rises (b ∷ ps)) (and_from (ltb a.0 b.0) (ltb b.1 a.1) (lt-ltb a.0 b.0 m.0) (lt-ltb b.1 a.1 m.1)) (staircase_rises (b ∷ ps) h.1)
+    and_from (ltb a.0 b.0 && ltb b.1 a.1) (rises (b ∷ ps))
+    (and_from (ltb a.0 b.0) (ltb b.1 a.1) (lt-ltb a.0 b.0 m.0) (lt-ltb b.1 a.1 m.1)) (staircase_rises (b ∷ ps) h.1)
 
 first_pair : (ps : List Pair) → 1 ≤ length ps → (q : Pair) × InPairs q ps
 first_pair [] h = absurd (omega arith)
 first_pair (q ∷ ps) h = (q, inl refl)
 
 -- kept pairs of which none is worse than another are the undominated ones
-pub kept_is_whole : (p : Problem) (s : State) → 1 ≤ s.stage → 1 ≤ length s.pairs → Kept (Attains p (node_of s)) (λ q. InPairs q s.pairs) → rises s.pairs ≡ true → IsWholeState p s
+pub kept_is_whole : (p : Problem) (s : State) → 1 ≤ s.stage → 1 ≤ length s.pairs
+    → Kept (Attains p (node_of s)) (λ q. InPairs q s.pairs) → rises s.pairs ≡ true → IsWholeState p s
 kept_is_whole p s begun some kept rising =
     let q = first_pair s.pairs some in
     let anti = staircase_apart s.pairs (rising_staircase s.pairs rising) in
     record {
       begun = begun;
       landable = (q.0, kept.attained q.0 q.1);
-      undominated = λ x. (kept_undominated (Attains p (node_of s)) (λ q. InPairs q s.pairs) kept anti x, undominated_kept (Attains p (node_of s)) (λ q. InPairs q s.pairs) kept x);
+      undominated = λ x. (
+        kept_undominated (Attains p (node_of s)) (λ q. InPairs q s.pairs) kept anti x,
+        undominated_kept (Attains p (node_of s)) (λ q. InPairs q s.pairs) kept x,
+      );
       covers = kept.covers;
       rising = rising;
     }
 
 -- ---- states from entries
 
--- a state behind the start has pairs that are entries of its node, and for each entry one that is no later and no dearer
+-- a state behind the start has pairs that are entries of its node, and for each entry one that is no later and no
+-- dearer
 pub record HoldsEntries (Entry : PatternNode → Pair → Type 0) (s : State) : Type 0 where
   pub begun : 1 ≤ s.stage
   pub some : 1 ≤ length s.pairs
@@ -66,13 +79,15 @@ pub record HoldAllEntries (Entry : PatternNode → Pair → Type 0) (ss : List S
   pub every : (d : PatternNode) (q : Pair) → 1 ≤ d.0 → Entry d q → HasNode ss d
   pub ascending : AreAscending ss
 
-module _ (p : Problem) (Entry : PatternNode → Pair → Type 0) (keeps : (d : PatternNode) → 1 ≤ d.0 → Kept (Attains p d) (Entry d)) where
+module _ (p : Problem) (Entry : PatternNode → Pair → Type 0) (keeps : (d : PatternNode) → 1 ≤ d.0
+    → Kept (Attains p d) (Entry d)) where
   holds_whole : (s : State) → HoldsEntries Entry s → IsWholeState p s
   holds_whole s h =
       let k = keeps (node_of s) h.begun in
       kept_is_whole p s h.begun h.some (record {
         attained = λ q i. k.attained q (h.found q i);
-        covers = λ q a. let e = k.covers q a in let o = h.covers e.0 e.1 in (o.0, o.1, no_worse_trans o.0 e.0 q o.2 e.2);
+        covers = λ q a. let e = k.covers q a in let o =
+            h.covers e.0 e.1 in (o.0, o.1, no_worse_trans o.0 e.0 q o.2 e.2);
       }) h.rising
 
   pub entries_are_whole : (ss : List State) → HoldAllEntries Entry ss → AreWholeStates p ss

@@ -15,7 +15,8 @@ abbrev pub IsBefore : State → PatternNode → Type 0
 IsBefore s d = node_cmp (node_of s) d ≡ Less
 
 -- it keeps the order where its node comes behind all others
-pub ascending_end : (ss : List State) (s : State) → AreAscending ss → ((x : State) → Member x ss → IsBefore x (node_of s)) → AreAscending (ss ++ s ∷ [])
+pub ascending_end : (ss : List State) (s : State) → AreAscending ss
+    → ((x : State) → Member x ss → IsBefore x (node_of s)) → AreAscending (ss ++ s ∷ [])
 ascending_end [] s h k = tt
 ascending_end (a ∷ []) s h k = (ap is_lt (k a (inl refl)), tt)
 ascending_end (a ∷ b ∷ ss) s h k = (h.0, ascending_end (b ∷ ss) s h.1 (λ x i. k x (inr i)))

@@ -11,4 +11,5 @@ use Rattle.certificate_commands.specs.Check.{Judges}
 
 pub not_unchecked : (a f c : List ℕ) (v : Verdict) → Judges a f c v →
     refused_by_three Certificate (aerodrome_of a) (flights_of f) (certificate_of c) ≡ None
-not_unchecked a f c v j = refused_as_read Certificate _ _ _ _ _ _ j.aerodrome_read j.flights_read j.certificate_read ∙ j.judged.taken
+not_unchecked a f c v j = refused_as_read Certificate _ _ _ _ _ _ j.aerodrome_read j.flights_read j.certificate_read
+    ∙ j.judged.taken

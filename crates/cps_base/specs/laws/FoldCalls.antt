@@ -14,7 +14,8 @@ use Rattle.cps_base.specs.laws.Folds.{number_at}
 use Rattle.std.specs.declared.ops.Range.{Range}
 use denote.Param.Members.{Mut, Called}
 
-module _ {A B C F S : Type 0} {steps : S → Option A → S → Type 0} {v : A → B} {s : S} {all : List B} {g : Mut F (C × (A × Unit {0})) C} {f : F} {init : C} where
+module _ {A B C F S : Type 0} {steps : S → Option A → S → Type 0} {v : A → B} {s : S} {all : List B}
+    {g : Mut F (C × (A × Unit {0})) C} {f : F} {init : C} where
   -- at each place of a list, whatever it has made so far
   pub fold_may_call : YieldsList steps v s all
       → ((a : C) (x : A) (b : C) (q : F) → Called g f (a, (x, tt)) b q → q ≡ f)
@@ -26,9 +27,11 @@ module _ {A B C F S : Type 0} {steps : S → Option A → S → Type 0} {v : A �
       steps (λ p x. Takes g p.0 (p.1, (x, tt))) s (f, init) refl
       (λ xs t p x u yields step at.
       let turn = YieldsList-turn road xs t yields (Some x) u x refl step in
-      subst (λ h. Takes g h (p.1, (x, tt))) (sym at) (takes (length xs) p.1 x (slice_get_read all (length all) (length xs) (v x) refl turn.0 turn.1)))
+      subst (λ h. Takes g h (p.1, (x, tt))) (sym at)
+      (takes (length xs) p.1 x (slice_get_read all (length all) (length xs) (v x) refl turn.0 turn.1)))
 
-module _ {C F : Type 0} {g : Mut F (C × (ℕ × Unit {0})) C} {f : F} {init : C} (s : Range ℕ) (n : ℕ) (is : s ≡ record { start = 0; end = n }) where
+module _ {C F : Type 0} {g : Mut F (C × (ℕ × Unit {0})) C} {f : F} {init : C} (s : Range ℕ)
+    (n : ℕ) (is : s ≡ record { start = 0; end = n }) where
   -- only with what it can have made by the number of turns so far: J holds of both
   pub fold_of_range_may_call_keeping : (J : ℕ → C → Type 0) → J 0 init
       → ((k x : ℕ) (a b : C) (q : F) → J k a → Called g f (a, (x, tt)) b q → (q ≡ f) × J (k + 1) b)
@@ -42,11 +45,14 @@ module _ {C F : Type 0} {g : Mut F (C × (ℕ × Unit {0})) C} {f : F} {init : C
       nat_range_steps (λ p x. Takes g p.0 (p.1, (x, tt))) s (f, init) (refl, held)
       (λ xs t p x u yields step at.
       let turn = YieldsList-turn (YieldsList-from_range 0 n n is (omega arith)) xs t yields (Some x) u x refl step in
-      let here = number_at 0 n (length xs) x (slice_get_read (range_with_len 0 n) (length (range_with_len 0 n)) (length xs) x refl turn.0 turn.1) in
-      subst (λ h. Takes g h (p.1, (x, tt))) (sym at.0) (subst (λ m. Takes g f (p.1, (m, tt))) (omega (arith, here)) (takes (length xs) p.1 here.1 at.1)))
+      let here = number_at 0 n (length xs) x (slice_get_read (range_with_len 0 n) (length (range_with_len 0 n))
+      (length xs) x refl turn.0 turn.1) in
+      subst (λ h. Takes g h (p.1, (x, tt))) (sym at.0)
+      (subst (λ m. Takes g f (p.1, (m, tt))) (omega (arith, here)) (takes (length xs) p.1 here.1 at.1)))
 
   -- at each number, whatever it has made so far
   pub fold_of_range_may_call : ((a : C) (x : ℕ) (b : C) (q : F) → Called g f (a, (x, tt)) b q → q ≡ f)
       → ((k : ℕ) (a : C) → k < n → Takes g f (a, (k, tt)))
       → CallableInFold nat_range_steps g s f init
-  fold_of_range_may_call same takes = fold_of_range_may_call_keeping (λ k a. Unit {0}) tt (λ k x a b q held called. (same a x b q called, tt)) (λ k a lt held. takes k a lt)
+  fold_of_range_may_call same takes = fold_of_range_may_call_keeping (λ k a. Unit {0}) tt
+      (λ k x a b q held called. (same a x b q called, tt)) (λ k a lt held. takes k a lt)

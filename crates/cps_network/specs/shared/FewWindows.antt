@@ -1,5 +1,6 @@
 -- A stage has few windows: at most w ^ w different ones of w offsets each.
-use Rattle.std.proofs.Common.{◌≡◌, ℕ, suc, ◌/◌, ◌%◌, ◌^◌, ◌<◌, ◌≤◌, inl, inr, List, [], ◌∷◌, length, map, refl, sym, ap, ap₂, subst, ◌∙◌, arith}
+use Rattle.std.proofs.Common.{◌≡◌, ℕ, suc, ◌/◌, ◌%◌, ◌^◌, ◌<◌, ◌≤◌, inl, inr, List, [], ◌∷◌, length, map, refl, sym}
+use Rattle.std.proofs.Common.{ap, ap₂, subst, ◌∙◌, arith}
 use Rattle.std.specs.Prelude.{ℤ, pos, ◌+ℤ◌, ◌-ℤ◌, ◌≤ℤ◌}
 use Rattle.std.specs.List.{AllByRecursion}
 use Rattle.std.proofs.lemmas.Int.{ints}
@@ -63,17 +64,22 @@ not_below_itself x e = less_greater (sym e ∙ window_cmp_total.antisymm x x ∙
     less_greater f = cc
 
 -- the window at whose place a list holds what another window tells
-place_in : (w : ℕ) (x : List ℤ) (xs : List (List ℤ)) → IsWindow w x → AreWindows w xs → InLists (map (raised (w / 2)) x) (map (map (raised (w / 2))) xs) → (i : ℕ) × (i < length xs) × (node_at xs i ≡ x)
+place_in : (w : ℕ) (x : List ℤ) (xs : List (List ℤ)) → IsWindow w x → AreWindows w xs
+    → InLists (map (raised (w / 2)) x) (map (map (raised (w / 2))) xs) → (i : ℕ) × (i < length xs) × (node_at xs i ≡ x)
 place_in w x [] v vs i = absurd i
-place_in w x (y ∷ ys) v vs (inl e) = (0, omega arith, sym (same_raised (w / 2) x y (window_near w x v) (window_near w y (vs 0 (omega arith))) e))
-place_in w x (y ∷ ys) v vs (inr i) = let a = place_in w x ys v (λ j lt. vs (suc j) (omega arith)) i in (suc a.0, (let b = a.1 in omega arith), a.2)
+place_in w x (y ∷ ys) v vs (inl e) =
+    (0, omega arith, sym (same_raised (w / 2) x y (window_near w x v) (window_near w y (vs 0 (omega arith))) e))
+place_in w x (y ∷ ys) v vs (inr i) = let a = place_in w x ys v (λ j lt. vs (suc j) (omega arith)) i in
+    (suc a.0, (let b = a.1 in omega arith), a.2)
 
-different : (w : ℕ) (xs : List (List ℤ)) → IsAscending xs → AreWindows w xs → DistinctLists (map (map (raised (w / 2))) xs)
+different : (w : ℕ) (xs : List (List ℤ)) → IsAscending xs → AreWindows w xs
+    → DistinctLists (map (map (raised (w / 2))) xs)
 different w [] up vs = tt
 different w (x ∷ xs) up vs = (
   λ i.
       let a = place_in w x xs (vs 0 (omega arith)) (λ j lt. vs (suc j) (omega arith)) i in
-      not_below_itself x (subst (λ (y : List ℤ). window_cmp x y ≡ Less) a.2 (up 0 (suc a.0) (omega arith) (let b = a.1 in omega arith))),
+      not_below_itself x (subst (λ (y : List ℤ). window_cmp x y ≡ Less) a.2 (up 0 (suc a.0) (omega arith) (let b =
+      a.1 in omega arith))),
   different w xs (λ i j lt within. up (suc i) (suc j) (omega arith) (omega arith)) (λ j lt. vs (suc j) (omega arith)),
 )
 
@@ -81,7 +87,8 @@ all_sized : (w : ℕ) (xs : List (List ℤ)) → AreWindows w xs → AllByRecurs
 all_sized w [] vs = tt
 all_sized w (x ∷ xs) vs = (window_sized w x (vs 0 (omega arith)), all_sized w xs (λ j lt. vs (suc j) (omega arith)))
 
-pub few_windows : (w : ℕ) (windows : List (List ℤ)) → IsAscending windows → AreWindows w windows → length windows ≤ w ^ w
+pub few_windows : (w : ℕ) (windows : List (List ℤ)) → IsAscending windows → AreWindows w windows
+    → length windows ≤ w ^ w
 few_windows w windows up vs =
     subst (λ (n : ℕ). n ≤ w ^ w) (length_map (map (raised (w / 2))) windows)
     (few_lists w w (map (map (raised (w / 2))) windows) (all_sized w windows vs) (different w windows up vs))
@@ -93,12 +100,14 @@ power_low w is = elim (cases_eq w 1) [
     | inl e ↦ subst (λ (x : ℕ). x ^ x ≤ 823543) (sym e) (omega arith)
     | inr not_three ↦ elim (cases_eq w 5) [
       | inl e ↦ subst (λ (x : ℕ). x ^ x ≤ 823543) (sym e) (omega arith)
-      | inr not_five ↦ subst (λ (x : ℕ). x ^ x ≤ 823543) {x = 7} {y = w} (let a = is.0 in let b = is.1 in omega arith) (omega arith)
+      | inr not_five ↦ subst (λ (x : ℕ). x ^ x ≤ 823543) {x = 7} {y = w} (let a = is.0 in let b =
+          is.1 in omega arith) (omega arith)
     ]
   ]
 ]
 
-pub number_low : (w : ℕ) (windows : List (List ℤ)) → IsAscending windows → AreWindows w windows → length windows ≤ 823543
+pub number_low : (w : ℕ) (windows : List (List ℤ)) → IsAscending windows → AreWindows w windows
+    → length windows ≤ 823543
 number_low w [] up vs = omega arith
 number_low w (x ∷ xs) up vs =
     let a = few_windows w (x ∷ xs) up vs in

@@ -14,15 +14,18 @@ use Rattle.cps_network.specs.Lists.{AreWindows}
 use Rattle.cps_network.specs.Permits.{IsPermitted, IsSuccessor, IsNextOf}
 
 -- no window of a stage places a rank that even the greatest shift does not reach
-none_above : (w k : ℕ) (xs : List ℤ) (stage rank : ℕ) → w ≡ 2 * k + 1 → IsWindow w xs → stage + k < rank → IsPlaced xs (pos stage) (pos rank) → ⊥
+none_above : (w k : ℕ) (xs : List ℤ) (stage rank : ℕ) → w ≡ 2 * k + 1 → IsWindow w xs → stage + k < rank
+    → IsPlaced xs (pos stage) (pos rank) → ⊥
 none_above w k xs stage rank odd valid far (inl due) = omega (arith, ints, due, far)
 none_above w k xs stage rank odd valid far (inr (i, lt, is)) =
     let long = valid.len in
     let high = valid.high i (omega (arith, lt, long)) in
     omega (arith, ints, lt, is, long, high, odd, far)
 
-module _ (p q : Problem) (d : ℕ) (within : IsWithinBoth p q d) (agree : AgreeUpTo p q d) (between : AreBetweenRanks (length q.flights) q.pairs) (w : ℕ) (odd : w ≡ 2 * p.k + 1) where
-  pub permitted_alike : (stage : ℕ) → suc stage + p.k < d → (xs : List ℤ) → IsWindow w xs → (rank : ℕ) → IsPermitted p stage xs rank → IsPermitted q stage xs rank
+module _ (p q : Problem) (d : ℕ) (within : IsWithinBoth p q d) (agree : AgreeUpTo p q d)
+    (between : AreBetweenRanks (length q.flights) q.pairs) (w : ℕ) (odd : w ≡ 2 * p.k + 1) where
+  pub permitted_alike : (stage : ℕ) → suc stage + p.k < d → (xs : List ℤ) → IsWindow w xs → (rank : ℕ)
+      → IsPermitted p stage xs rank → IsPermitted q stage xs rank
   permitted_alike stage early xs valid rank may =
       let same = agree.head.k in
       let low : rank < d = let a = may.early in omega (arith, a, early) in
@@ -31,38 +34,53 @@ module _ (p q : Problem) (d : ℕ) (within : IsWithinBoth p q d) (agree : AgreeU
         from_one = may.from_one;
         to_count = (let a = within.1 in omega (arith, a, low));
         early = (let a = may.early in omega (arith, a, same));
-        late = (let a = may.late in omega (arith, a, same, ap (λ (f : Waiting). f.passed) (same_flight p q d within agree rank low)));
+        late = (let a = may.late in omega (
+          arith,
+          a,
+          same,
+          ap (λ (f : Waiting). f.passed)
+              (same_flight p q d within agree rank low),
+        ));
         accepted = may.accepted;
         after = λ first must.
             let test : must_precede q.pairs first rank ≡ true = (must_precede_decides q.pairs first rank).1 must in
             let one = (between first rank test).0 in
             elim (cases_lt first d) [
-              | inl below ↦ may.after first ((must_precede_decides p.pairs first rank).0 (here.below first one below ∙ test))
+              | inl below ↦ may.after first ((must_precede_decides p.pairs first rank).0
+                  (here.below first one below ∙ test))
               | inr above ↦ (
                   let other = here.from.1 (first, above, test) in
-                  absurd (none_above w p.k xs stage other.0 odd valid (let a = other.1 in omega (arith, a, early)) (may.after other.0 ((must_precede_decides p.pairs other.0 rank).0 other.2)))
+                  absurd (none_above w p.k xs stage other.0 odd valid (let a = other.1 in omega (arith, a, early))
+                  (may.after other.0 ((must_precede_decides p.pairs other.0 rank).0 other.2)))
                   )
             ];
       }
 
-  pub successor_alike : (stage : ℕ) → suc stage + p.k < d → (xs next : List ℤ) → IsWindow w xs → IsSuccessor p stage xs next → IsSuccessor q stage xs next
+  pub successor_alike : (stage : ℕ) → suc stage + p.k < d → (xs next : List ℤ) → IsWindow w xs
+      → IsSuccessor p stage xs next → IsSuccessor q stage xs next
   successor_alike stage early xs next valid (rank, may, e) = (rank, permitted_alike stage early xs valid rank may, e)
 
 -- in both directions
-module _ (p q : Problem) (d : ℕ) (within : IsWithinBoth p q d) (agree : AgreeUpTo p q d) (bp : AreBetweenRanks (length p.flights) p.pairs) (bq : AreBetweenRanks (length q.flights) q.pairs) (w : ℕ) (odd : w ≡ 2 * p.k + 1) where
+module _ (p q : Problem) (d : ℕ) (within : IsWithinBoth p q d) (agree : AgreeUpTo p q d)
+    (bp : AreBetweenRanks (length p.flights) p.pairs) (bq : AreBetweenRanks (length q.flights) q.pairs)
+    (w : ℕ) (odd : w ≡ 2 * p.k + 1) where
   odd_there : w ≡ 2 * q.k + 1
   odd_there = let same = agree.head.k in omega (arith, odd, same)
 
-  there : (stage : ℕ) → suc stage + p.k < d → (xs next : List ℤ) → IsWindow w xs → IsSuccessor p stage xs next → IsSuccessor q stage xs next
+  there : (stage : ℕ) → suc stage + p.k < d → (xs next : List ℤ) → IsWindow w xs → IsSuccessor p stage xs next
+      → IsSuccessor q stage xs next
   there = successor_alike p q d within agree bq w odd
 
-  back : (stage : ℕ) → suc stage + p.k < d → (xs next : List ℤ) → IsWindow w xs → IsSuccessor q stage xs next → IsSuccessor p stage xs next
+  back : (stage : ℕ) → suc stage + p.k < d → (xs next : List ℤ) → IsWindow w xs → IsSuccessor q stage xs next
+      → IsSuccessor p stage xs next
   back stage early xs next valid s =
       let same = agree.head.k in
-      successor_alike q p d (within.1, within.0) (agree_back p q d agree) bp w odd_there stage (omega (arith, early, same)) xs next valid s
+      successor_alike q p d (within.1, within.0) (agree_back p q d agree) bp w odd_there stage
+      (omega (arith, early, same)) xs next valid s
 
   -- the windows that extend those of an early stage
-  pub kept_next : (stage : ℕ) (before after : List (List ℤ)) → suc stage + p.k < d → AreWindows w before → IsNextOf p stage before after → IsNextOf q stage before after
+  pub kept_next : (stage : ℕ) (before after : List (List ℤ)) → suc stage + p.k < d → AreWindows w before
+      → IsNextOf p stage before after → IsNextOf q stage before after
   kept_next stage before after early valid next = λ x. (
     λ has. let a = (next x).0 has in (a.0, a.1, there stage early a.0 x (valid_in a.0 a.1) a.2),
     λ a. (next x).1 (a.0, a.1, back stage early a.0 x (valid_in a.0 a.1) a.2),

@@ -10,13 +10,15 @@ use Rattle.cps_network.specs.Lists.{node_at}
 use Rattle.cps_network.specs.Pairs.{ArePairsOf, HoldsCosts, list_at}
 use Rattle.cps_network.specs.shared.KeptStages.{attains_there}
 
-undominated_there : (p q : Problem) (stage : ℕ) → LandAlike p q stage → LandAlike q p stage → (xs : List ℤ) (pair : Pair) → Undominated (Attains p stage xs) pair → Undominated (Attains q stage xs) pair
+undominated_there : (p q : Problem) (stage : ℕ) → LandAlike p q stage → LandAlike q p stage
+    → (xs : List ℤ) (pair : Pair) → Undominated (Attains p stage xs) pair → Undominated (Attains q stage xs) pair
 undominated_there p q stage there back xs pair u = record {
   attained = attains_there p q stage there xs pair u.attained;
   best = λ other a no_worse. u.best other (attains_there q p stage back xs other a) no_worse;
 }
 
-same_pairs : (p q : Problem) (stage : ℕ) → HaveStageInCommon p q stage → (xs : List ℤ) (pairs : List Pair) → ArePairsOf p stage xs pairs → ArePairsOf q stage xs pairs
+same_pairs : (p q : Problem) (stage : ℕ) → HaveStageInCommon p q stage → (xs : List ℤ) (pairs : List Pair)
+    → ArePairsOf p stage xs pairs → ArePairsOf q stage xs pairs
 same_pairs p q stage common xs pairs are = record {
   undominated = λ pair.
       let a = are.undominated pair in (
@@ -27,7 +29,8 @@ same_pairs p q stage common xs pairs are = record {
   falling = are.falling;
 }
 
-pub kept_costs : (p q : Problem) (stage : ℕ × List (List ℤ)) (lists : List (List Pair)) → HaveStageInCommon p q stage.0 → HoldsCosts p stage lists → HoldsCosts q stage lists
+pub kept_costs : (p q : Problem) (stage : ℕ × List (List ℤ)) (lists : List (List Pair)) → HaveStageInCommon p q stage.0
+    → HoldsCosts p stage lists → HoldsCosts q stage lists
 kept_costs p q stage lists common held = record {
   landable = λ xs.
       let a = held.landable xs in

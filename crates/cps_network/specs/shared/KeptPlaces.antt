@@ -1,5 +1,6 @@
 -- What is left of a stage and its labels where a test says at which places they are kept.
-use Rattle.std.proofs.Common.{◌≡◌, ℕ, zero, suc, ◌<◌, List, [], ◌∷◌, length, get_or, map, Bool, true, false, refl, sym, ap, ap₂, subst, ◌∙◌, arith}
+use Rattle.std.proofs.Common.{◌≡◌, ℕ, zero, suc, ◌<◌, List, [], ◌∷◌, length, get_or, map, Bool, true, false, refl, sym}
+use Rattle.std.proofs.Common.{ap, ap₂, subst, ◌∙◌, arith}
 use Rattle.std.specs.Prelude.{ℤ, Contains, All, ◌↔◌}
 use Rattle.std.specs.List.{AllZip}
 use Rattle.std.proofs.lemmas.List.{get_or_default, get_or-map}
@@ -8,7 +9,8 @@ use Rattle.cps_network.specs.Compacted.{kept_where}
 use Rattle.cps_network.specs.Landable.{IsLandable, HoldsLandable, HasEachLandable}
 use Rattle.cps_network.specs.Lists.{node_at}
 
-pub length_kept : {A B : Type 0} (bs : List Bool) (xs : List A) (ys : List B) → length xs ≡ length ys → length (kept_where bs xs) ≡ length (kept_where bs ys)
+pub length_kept : {A B : Type 0} (bs : List Bool) (xs : List A) (ys : List B) → length xs ≡ length ys
+    → length (kept_where bs xs) ≡ length (kept_where bs ys)
 length_kept [] xs ys e = refl
 length_kept (b ∷ bs) [] [] e = refl
 length_kept (b ∷ bs) [] (y ∷ ys) e = absurd (omega arith)
@@ -24,40 +26,59 @@ pub record ComesAt {A B : Type 0} (bs : List Bool) (xs : List A) (ys : List B) (
   pub left : get_or (kept_where bs xs) i d ≡ get_or xs place d
   pub right : get_or (kept_where bs ys) i e ≡ get_or ys place e
 
-later : {A B : Type 0} (b : Bool) (bs : List Bool) (x : A) (xs : List A) (y : B) (ys : List B) (d : A) (e : B) (i j : ℕ) → (c : ComesAt bs xs ys d e i)
-    → get_or (kept_where (b ∷ bs) (x ∷ xs)) j d ≡ get_or (kept_where bs xs) i d → get_or (kept_where (b ∷ bs) (y ∷ ys)) j e ≡ get_or (kept_where bs ys) i e
+later : {A B : Type 0} (b : Bool) (bs : List Bool) (x : A) (xs : List A) (y : B) (ys : List B) (d : A) (e : B) (i j : ℕ)
+    → (c : ComesAt bs xs ys d e i)
+    → get_or (kept_where (b ∷ bs) (x ∷ xs)) j d ≡ get_or (kept_where bs xs) i d
+    → get_or (kept_where (b ∷ bs) (y ∷ ys)) j e ≡ get_or (kept_where bs ys) i e
     → ComesAt (b ∷ bs) (x ∷ xs) (y ∷ ys) d e j
-later b bs x xs y ys d e i j c l r = record { place = suc c.place; within = (let w = c.within in omega arith); kept = c.kept; left = l ∙ c.left; right = r ∙ c.right }
+later b bs x xs y ys d e i j c l r = record {
+  place = suc c.place;
+  within =
+      (let w = c.within in omega arith);
+  kept = c.kept;
+  left = l ∙ c.left;
+  right = r ∙ c.right;
+}
 
-pub comes_at : {A B : Type 0} (bs : List Bool) (xs : List A) (ys : List B) (d : A) (e : B) (i : ℕ) → length xs ≡ length ys → i < length (kept_where bs xs) → ComesAt bs xs ys d e i
+pub comes_at : {A B : Type 0} (bs : List Bool) (xs : List A) (ys : List B) (d : A) (e : B) (i : ℕ)
+    → length xs ≡ length ys → i < length (kept_where bs xs) → ComesAt bs xs ys d e i
 comes_at [] xs ys d e i long lt = absurd (omega arith)
 comes_at (b ∷ bs) [] ys d e i long lt = absurd (omega arith)
 comes_at (b ∷ bs) (x ∷ xs) [] d e i long lt = absurd (omega arith)
-comes_at (true ∷ bs) (x ∷ xs) (y ∷ ys) d e zero long lt = record { place = 0; within = omega arith; kept = refl; left = refl; right = refl }
-comes_at (true ∷ bs) (x ∷ xs) (y ∷ ys) d e (suc i) long lt = later true bs x xs y ys d e i (suc i) (comes_at bs xs ys d e i (omega arith) (omega arith)) refl refl
-comes_at (false ∷ bs) (x ∷ xs) (y ∷ ys) d e i long lt = later false bs x xs y ys d e i i (comes_at bs xs ys d e i (omega arith) lt) refl refl
+comes_at (true ∷ bs) (x ∷ xs) (y ∷ ys) d e zero long lt =
+    record { place = 0; within = omega arith; kept = refl; left = refl; right = refl }
+comes_at (true ∷ bs) (x ∷ xs) (y ∷ ys) d e (suc i) long lt =
+    later true bs x xs y ys d e i (suc i) (comes_at bs xs ys d e i (omega arith) (omega arith)) refl refl
+comes_at (false ∷ bs) (x ∷ xs) (y ∷ ys) d e i long lt =
+    later false bs x xs y ys d e i i (comes_at bs xs ys d e i (omega arith) lt) refl refl
 
-pub stays_in : {A : Type 0} (bs : List Bool) (xs : List A) (j : ℕ) (x : A) → j < length xs → get_or bs j false ≡ true → get_or xs j x ≡ x → Contains (kept_where bs xs) x
+pub stays_in : {A : Type 0} (bs : List Bool) (xs : List A) (j : ℕ) (x : A) → j < length xs
+    → get_or bs j false ≡ true → get_or xs j x ≡ x → Contains (kept_where bs xs) x
 stays_in bs [] j x lt b e = absurd (omega arith)
 stays_in [] (y ∷ xs) j x lt b e = absurd (cc)
 stays_in (true ∷ bs) (y ∷ xs) zero x lt b e = (0, omega arith, e)
 stays_in (false ∷ bs) (y ∷ xs) zero x lt b e = absurd (cc)
-stays_in (true ∷ bs) (y ∷ xs) (suc j) x lt b e = let c = stays_in bs xs j x (omega arith) b e in (suc c.0, (let l = c.1 in omega arith), c.2)
+stays_in (true ∷ bs) (y ∷ xs) (suc j) x lt b e = let c = stays_in bs xs j x (omega arith) b e in
+    (suc c.0, (let l = c.1 in omega arith), c.2)
 stays_in (false ∷ bs) (y ∷ xs) (suc j) x lt b e = stays_in bs xs j x (omega arith) b e
 
 pub all_kept : {A : Type 0} (P : A → Type 0) (bs : List Bool) (xs : List A) → All P xs → All P (kept_where bs xs)
 all_kept P bs xs all i d lt = let c = comes_at bs xs xs d d i refl lt in subst P (sym c.left) (all c.place d c.within)
 
 -- the answers of a test, one for each entry
-pub answers_are : {A : Type 0} (test : A → Bool) (Says : A → Bool → Type 0) → ((x : A) (b : Bool) → Says x b → b ≡ test x) → (xs : List A) (bs : List Bool) → AllZip Says xs bs → bs ≡ map test xs
+pub answers_are : {A : Type 0} (test : A → Bool) (Says : A → Bool → Type 0)
+    → ((x : A) (b : Bool) → Says x b → b ≡ test x) → (xs : List A) (bs : List Bool) → AllZip Says xs bs
+    → bs ≡ map test xs
 answers_are test Says h [] [] z = refl
 answers_are test Says h [] (b ∷ bs) z = absurd z
 answers_are test Says h (x ∷ xs) [] z = absurd z
-answers_are test Says h (x ∷ xs) (b ∷ bs) z = ap₂ (λ (c : Bool) (cs : List Bool). c ∷ cs) (h x b z.0) (answers_are test Says h xs bs z.1)
+answers_are test Says h (x ∷ xs) (b ∷ bs) z =
+    ap₂ (λ (c : Bool) (cs : List Bool). c ∷ cs) (h x b z.0) (answers_are test Says h xs bs z.1)
 
 -- ---- the windows and the labels at the places whose label passes a test
 
-module _ {A : Type 0} (test : A → Bool) (d : A) (windows : List (List ℤ)) (labels : List A) (one_each : length labels ≡ length windows) where
+module _ {A : Type 0} (test : A → Bool) (d : A) (windows : List (List ℤ)) (labels : List A)
+    (one_each : length labels ≡ length windows) where
   answer_at : (i : ℕ) → i < length windows → get_or (map test labels) i false ≡ test (get_or labels i d)
   answer_at i lt = get_or-map test labels i d false (omega (arith, lt, one_each))
 
@@ -68,7 +89,8 @@ module _ {A : Type 0} (test : A → Bool) (d : A) (windows : List (List ℤ)) (l
   one_each_left = length_kept (map test labels) labels windows one_each
 
   -- what holds of each window and its label, holds of those that are left
-  pub each_left : (P : List ℤ → A → Type 0) → ((i : ℕ) → i < length windows → P (node_at windows i) (get_or labels i d)) → (i : ℕ) → i < length (kept_where (map test labels) windows)
+  pub each_left : (P : List ℤ → A → Type 0) → ((i : ℕ) → i < length windows → P (node_at windows i) (get_or labels i d))
+      → (i : ℕ) → i < length (kept_where (map test labels) windows)
       → P (node_at (kept_where (map test labels) windows) i) (get_or (kept_where (map test labels) labels) i d)
   each_left P all i lt =
       let c = comes i lt in
@@ -76,25 +98,30 @@ module _ {A : Type 0} (test : A → Bool) (d : A) (windows : List (List ℤ)) (l
       (subst (λ (xs : List ℤ). P xs (get_or labels c.place d)) (sym c.left) (all c.place c.within))
 
   -- where no landable window is missing, and the labels of the landable ones alone pass, those are left
-  module _ (p : Problem) (stage : ℕ) (each : HasEachLandable p (stage, windows)) (passes : (i : ℕ) → i < length windows → (test (get_or labels i d) ≡ true) ↔ IsLandable p stage (node_at windows i)) where
+  module _ (p : Problem) (stage : ℕ) (each : HasEachLandable p (stage, windows)) (passes : (i : ℕ)
+      → i < length windows → (test (get_or labels i d) ≡ true) ↔ IsLandable p stage (node_at windows i)) where
     kept_landable : (xs : List ℤ) → Contains (kept_where (map test labels) windows) xs → IsLandable p stage xs
     kept_landable xs (i, lt, at) =
         let c = comes i lt in
-        let it : node_at windows c.place ≡ xs = sym c.left ∙ get_or_default (kept_where (map test labels) windows) i [] xs lt ∙ at in
+        let it : node_at windows c.place ≡ xs =
+        sym c.left ∙ get_or_default (kept_where (map test labels) windows) i [] xs lt ∙ at in
         subst (IsLandable p stage) it ((passes c.place c.within).0 (sym (answer_at c.place c.within) ∙ c.kept))
 
     landable_kept : (xs : List ℤ) → IsLandable p stage xs → Contains (kept_where (map test labels) windows) xs
     landable_kept xs l =
         let has = each xs l in
         let it : node_at windows has.0 ≡ xs = get_or_default windows has.0 [] xs has.1 ∙ has.2 in
-        stays_in (map test labels) windows has.0 xs has.1 (answer_at has.0 has.1 ∙ (passes has.0 has.1).1 (subst (IsLandable p stage) (sym it) l)) has.2
+        stays_in (map test labels) windows has.0 xs has.1 (answer_at has.0 has.1
+        ∙ (passes has.0 has.1).1 (subst (IsLandable p stage) (sym it) l)) has.2
 
     pub landable_left : HoldsLandable p (stage, kept_where (map test labels) windows)
     landable_left = λ xs. (kept_landable xs, landable_kept xs)
 
 -- what holds of a stage and its labels, where they are written otherwise
-pub holds_as : {A : Type 0} (Holds : ℕ × List (List ℤ) → List A → Type 0) (s : ℕ) (stage : ℕ × List (List ℤ)) (windows : List (List ℤ)) (labels after : List A) → stage.0 ≡ s → stage.1 ≡ windows → after ≡ labels
+pub holds_as : {A : Type 0} (Holds : ℕ × List (List ℤ) → List A → Type 0) (s : ℕ) (stage : ℕ × List (List ℤ))
+    (windows : List (List ℤ)) (labels after : List A) → stage.0 ≡ s → stage.1 ≡ windows → after ≡ labels
     → Holds (s, windows) labels → Holds stage after
 holds_as {A} Holds s stage windows labels after e f h is =
     subst (λ (ls : List A). Holds stage ls) (sym h)
-    (subst (λ (q : ℕ). Holds (q, stage.1) labels) (sym e) (subst (λ (ws : List (List ℤ)). Holds (s, ws) labels) (sym f) is))
+    (subst (λ (q : ℕ). Holds (q, stage.1) labels) (sym e)
+    (subst (λ (ws : List (List ℤ)). Holds (s, ws) labels) (sym f) is))

@@ -13,7 +13,8 @@ use Rattle.cps_network.specs.Nodes.{Node, node_of, permits, land, IsWindowNetwor
 use Rattle.cps_network.specs.Permits.{IsSuccessor, IsNextOf}
 
 module _ (p : Problem) (net : IsWindowNetwork p) where
-  landing_back : (stage : ℕ) (v : List ℤ) (xs : List Landing) → Legal (ranked p).rules (ranks xs) → LandedIn (ranked p) xs → node_of p.k (ranks xs) ≡ (suc stage, v)
+  landing_back : (stage : ℕ) (v : List ℤ) (xs : List Landing) → Legal (ranked p).rules (ranks xs)
+      → LandedIn (ranked p) xs → node_of p.k (ranks xs) ≡ (suc stage, v)
       → (x : List ℤ) × IsLandable p stage x × IsSuccessor p stage x v
   landing_back stage v [] legal landed at = absurd (never (ap (λ (n : Node). n.0) at))
     where
@@ -22,7 +23,8 @@ module _ (p : Problem) (net : IsWindowNetwork p) where
   landing_back stage v (y ∷ xs) legal landed at =
       let s = net.shrinks y.0 (ranks xs) legal in
       let long : length (ranks xs) ≡ stage = less (ap (λ (n : Node). n.0) at) in
-      let here : node_of p.k (ranks xs) ≡ (stage, window_of (2 * p.k + 1) (reverse (ranks xs))) = ap (λ (q : ℕ). (q, window_of (2 * p.k + 1) (reverse (ranks xs)))) long in (
+      let here : node_of p.k (ranks xs) ≡ (stage, window_of (2 * p.k + 1) (reverse (ranks xs))) =
+      ap (λ (q : ℕ). (q, window_of (2 * p.k + 1) (reverse (ranks xs)))) long in (
         window_of (2 * p.k + 1) (reverse (ranks xs)),
         (pair_of (cost_at p) xs, record { landings = xs; legal = s.0; landed = landed.2; at = here; is = refl }),
         (
@@ -35,11 +37,13 @@ module _ (p : Problem) (net : IsWindowNetwork p) where
       less : {a b : ℕ} → suc a ≡ suc b → a ≡ b
       less {a} {b} e = omega arith
 
-  pub landable_source : (stage : ℕ) (v : List ℤ) → IsLandable p (suc stage) v → (x : List ℤ) × IsLandable p stage x × IsSuccessor p stage x v
+  pub landable_source : (stage : ℕ) (v : List ℤ) → IsLandable p (suc stage) v → (x : List ℤ)
+      × IsLandable p stage x × IsSuccessor p stage x v
   landable_source stage v l = landing_back stage v l.1.landings l.1.legal l.1.landed l.1.at
 
   -- where the stage before has the landable windows, each landable window of the next stage is there
-  pub has_next : (before after : ℕ × List (List ℤ)) → after.0 ≡ before.0 + 1 → HoldsLandable p before → IsNextOf p before.0 before.1 after.1 → HasEachLandable p after
+  pub has_next : (before after : ℕ × List (List ℤ)) → after.0 ≡ before.0 + 1 → HoldsLandable p before
+      → IsNextOf p before.0 before.1 after.1 → HasEachLandable p after
   has_next before after e holds next xs l =
       let f : after.0 ≡ suc before.0 = omega arith in
       let s = landable_source before.0 xs (subst (λ (q : ℕ). IsLandable p q xs) f l) in

@@ -1,5 +1,6 @@
 -- The windows that lead to a window of the next stage: they stand side by side, and land one rank behind one other.
-use Rattle.std.proofs.Common.{◌≡◌, ℕ, suc, ◌+◌, ◌-◌, ◌*◌, ◌<◌, ◌≤◌, List, [], ◌∷◌, length, drop, refl, sym, ap, subst, ◌∙◌, arith, inl, inr}
+use Rattle.std.proofs.Common.{◌≡◌, ℕ, suc, ◌+◌, ◌-◌, ◌*◌, ◌<◌, ◌≤◌, List, [], ◌∷◌, length, drop, refl, sym, ap, subst}
+use Rattle.std.proofs.Common.{◌∙◌, arith, inl, inr}
 use Rattle.std.specs.Prelude.{ℤ, pos, ◌+ℤ◌, ◌≤ℤ◌, ◌↔◌, Contains}
 use Rattle.std.proofs.lemmas.Int.{ints}
 use Rattle.std.proofs.lemmas.List.{get_or_default}
@@ -22,15 +23,19 @@ offset_tail [] i = refl
 offset_tail (x ∷ xs) i = refl
 
 -- windows with the same offsets from the second on end alike
-same_last : (w : ℕ) (x y : List ℤ) → IsWindow w x → IsWindow w y → drop 1 x ≡ drop 1 y → offset_at x (w - 1) ≡ offset_at y (w - 1)
+same_last : (w : ℕ) (x y : List ℤ) → IsWindow w x → IsWindow w y → drop 1 x ≡ drop 1 y
+    → offset_at x (w - 1) ≡ offset_at y (w - 1)
 same_last w x y a b e = elim (cases_eq w 1) [
   | inl one ↦
-      let p : offset_at x (w - 1) ≡ pos 0 = omega (arith, ints, a.low (w - 1) (omega arith), a.high (w - 1) (omega arith)) in
-      let q : offset_at y (w - 1) ≡ pos 0 = omega (arith, ints, b.low (w - 1) (omega arith), b.high (w - 1) (omega arith)) in
+      let p : offset_at x (w - 1) ≡ pos 0 =
+      omega (arith, ints, a.low (w - 1) (omega arith), a.high (w - 1) (omega arith)) in
+      let q : offset_at y (w - 1) ≡ pos 0 =
+      omega (arith, ints, b.low (w - 1) (omega arith), b.high (w - 1) (omega arith)) in
       p ∙ sym q
   | inr more ↦
       let n : w - 1 ≡ suc (w - 2) = omega (arith, a.is_width) in
-      ap (offset_at x) n ∙ offset_tail x (w - 2) ∙ ap (λ (l : List ℤ). offset_at l (w - 2)) e ∙ sym (offset_tail y (w - 2)) ∙ ap (offset_at y) (sym n)
+      ap (offset_at x) n ∙ offset_tail x (w - 2) ∙ ap (λ (l : List ℤ). offset_at l (w - 2)) e
+      ∙ sym (offset_tail y (w - 2)) ∙ ap (offset_at y) (sym n)
 ]
 
 -- the range of the windows that lead to a window of the next stage
@@ -42,7 +47,8 @@ pub record Sources (p : Problem) (w stage : ℕ) (before : List (List ℤ)) (v :
   pub within : to ≤ length before
   pub exact : (j : ℕ) → j < length before → Extends (node_at before j) v ↔ ((from ≤ j) × (j < to))
 
-module _ (p : Problem) (w stage : ℕ) (before : List (List ℤ)) (v : List ℤ) (from to : ℕ) (range : Sources p w stage before v from to) where
+module _ (p : Problem) (w stage : ℕ) (before : List (List ℤ)) (v : List ℤ) (from to : ℕ)
+    (range : Sources p w stage before v from to) where
   odd : w ≡ 2 * p.k + 1
   odd = range.odd
 
@@ -69,30 +75,43 @@ module _ (p : Problem) (w stage : ℕ) (before : List (List ℤ)) (v : List ℤ)
 
   extends_of : (x : List ℤ) → IsLandable p stage x → IsSuccessor p stage x v → Extends x v
   extends_of x l s =
-      let wide = (landable_valid p w odd laws stage x l).len in
-      (offset_after stage s.0, record { low = omega (arith, ints, s.1.late, odd, wide); high = omega (arith, ints, s.1.early, odd, wide) }, s.1.accepted, s.2)
+      let wide = (landable_valid p w odd laws stage x l).len in (
+        offset_after stage s.0,
+        record {
+          low = omega (arith, ints, s.1.late, odd, wide);
+          high =
+              omega (arith, ints, s.1.early, odd, wide);
+        },
+        s.1.accepted,
+        s.2,
+      )
 
   node_valid : IsWindow w v
   node_valid =
       let l = landable_of node.0 node.1 in
-      subst (IsWindow w) (sym node.2.2) (valid_after p w odd laws node.0 stage node.2.0 (landable_valid p w odd laws stage node.0 l) node.2.1)
+      subst (IsWindow w) (sym node.2.2) (valid_after p w odd laws node.0 stage node.2.0
+      (landable_valid p w odd laws stage node.0 l) node.2.1)
 
   meets_at : (j : ℕ) → from ≤ j → j < to → TailMeetsHead (node_at before j) v
   meets_at j lo hi =
       let lt : j < length before = omega (arith, hi, within) in
-      (laws.leads.meets (node_at before j) v (landable_valid p w odd laws stage (node_at before j) (landable_at j lt)) node_valid).0 ((exact j lt).1 (lo, hi))
+      (laws.leads.meets (node_at before j) v (landable_valid p w odd laws stage (node_at before j)
+      (landable_at j lt)) node_valid).0 ((exact j lt).1 (lo, hi))
 
   pub successor_at : (j : ℕ) → from ≤ j → j < to → IsSuccessor p stage (node_at before j) v
   successor_at j lo hi =
       let lt : j < length before = omega (arith, hi, within) in
-      laws.alike stage node.0 (node_at before j) v (landable_valid p w odd laws stage node.0 (landable_of node.0 node.1))
+      laws.alike stage node.0 (node_at before j) v
+      (landable_valid p w odd laws stage node.0 (landable_of node.0 node.1))
       (landable_valid p w odd laws stage (node_at before j) (landable_at j lt)) (meets_at j lo hi) node.2
 
   -- each window that leads to it is in the range
-  pub place_of : (x : List ℤ) → Contains before x → IsSuccessor p stage x v → (j : ℕ) × (from ≤ j) × (j < to) × (node_at before j ≡ x)
+  pub place_of : (x : List ℤ) → Contains before x → IsSuccessor p stage x v → (j : ℕ) × (from ≤ j)
+      × (j < to) × (node_at before j ≡ x)
   place_of x (i, lt, at) s =
       let it : node_at before i ≡ x = get_or_default before i [] x lt ∙ at in
-      let found = (exact i lt).0 (subst (λ (y : List ℤ). Extends y v) (sym it) (extends_of x (landable_of x (i, lt, at)) s)) in
+      let found = (exact i lt).0 (subst (λ (y : List ℤ). Extends y v) (sym it)
+      (extends_of x (landable_of x (i, lt, at)) s)) in
       (i, found.0, found.1, it)
 
   pub place_at : (j : ℕ) → j < length before → IsSuccessor p stage (node_at before j) v → (from ≤ j) × (j < to)
@@ -102,51 +121,74 @@ module _ (p : Problem) (w stage : ℕ) (before : List (List ℤ)) (v : List ℤ)
   some_range = let j = place_of node.0 node.1 node.2 in omega (arith, j.1, j.2)
 
   -- the rank that lands last in it
-  pub rank_of : (r : ℕ) → pos r ≡ pos (suc stage) +ℤ offset_at v (w - 1) → (x : List ℤ) → IsLandable p stage x → (s : IsSuccessor p stage x v) → s.0 ≡ r
+  pub rank_of : (r : ℕ) → pos r ≡ pos (suc stage) +ℤ offset_at v (w - 1) → (x : List ℤ) → IsLandable p stage x
+      → (s : IsSuccessor p stage x v) → s.0 ≡ r
   rank_of r is x l s =
-      let a : pos (suc stage) +ℤ offset_at (shifted x (offset_after stage s.0)) (w - 1) ≡ pos s.0 = next_last p w odd laws stage x s.0 l s.1 in
-      let b : offset_at v (w - 1) ≡ offset_at (shifted x (offset_after stage s.0)) (w - 1) = ap (λ (y : List ℤ). offset_at y (w - 1)) s.2 in
+      let a : pos (suc stage) +ℤ offset_at (shifted x (offset_after stage s.0)) (w - 1) ≡ pos s.0 =
+      next_last p w odd laws stage x s.0 l s.1 in
+      let b : offset_at v (w - 1) ≡ offset_at (shifted x (offset_after stage s.0)) (w - 1) =
+      ap (λ (y : List ℤ). offset_at y (w - 1)) s.2 in
       omega (arith, ints, a, b, is)
 
-  pub rank_range : (pos 1 ≤ℤ (pos (suc stage) +ℤ offset_at v (w - 1))) × ((pos (suc stage) +ℤ offset_at v (w - 1)) ≤ℤ pos (length p.flights))
+  pub rank_range : (pos 1 ≤ℤ (pos (suc stage) +ℤ offset_at v (w - 1)))
+      × ((pos (suc stage) +ℤ offset_at v (w - 1)) ≤ℤ pos (length p.flights))
   rank_range =
       let l = landable_of node.0 node.1 in
-      let a : pos (suc stage) +ℤ offset_at (shifted node.0 (offset_after stage node.2.0)) (w - 1) ≡ pos node.2.0 = next_last p w odd laws stage node.0 node.2.0 l node.2.1 in
-      let b : offset_at v (w - 1) ≡ offset_at (shifted node.0 (offset_after stage node.2.0)) (w - 1) = ap (λ (y : List ℤ). offset_at y (w - 1)) node.2.2 in
+      let a : pos (suc stage) +ℤ offset_at (shifted node.0 (offset_after stage node.2.0)) (w - 1) ≡ pos node.2.0 =
+      next_last p w odd laws stage node.0 node.2.0 l node.2.1 in
+      let b : offset_at v (w - 1) ≡ offset_at (shifted node.0 (offset_after stage node.2.0)) (w - 1) =
+      ap (λ (y : List ℤ). offset_at y (w - 1)) node.2.2 in
       let lo = node.2.1.from_one in
       let hi = node.2.1.to_count in
       (omega (arith, ints, a, b, lo), omega (arith, ints, a, b, hi))
 
   -- the rank that landed last before it is the same in each window of the range
-  pub leader_range : (pos stage +ℤ offset_at (node_at before from) (w - 1) ≡ pos (latest (stage, node_at before from))) × (latest (stage, node_at before from) ≤ length p.flights)
-  leader_range = let s = some_range in landable_last p w odd laws stage (node_at before from) (landable_at from (omega (arith, s, within)))
+  pub leader_range : (pos stage +ℤ offset_at (node_at before from) (w - 1) ≡ pos (latest (stage, node_at before from)))
+      × (latest (stage, node_at before from) ≤ length p.flights)
+  leader_range = let s = some_range in landable_last p w odd laws stage (node_at before from)
+      (landable_at from (omega (arith, s, within)))
 
-  pub leader_at : (l : ℕ) → pos l ≡ pos stage +ℤ offset_at (node_at before from) (w - 1) → (j : ℕ) → from ≤ j → j < to → latest (stage, node_at before j) ≡ l
+  pub leader_at : (l : ℕ) → pos l ≡ pos stage +ℤ offset_at (node_at before from) (w - 1) → (j : ℕ)
+      → from ≤ j → j < to → latest (stage, node_at before j) ≡ l
   leader_at l is j lo hi =
       let s = some_range in
       let lt : j < length before = omega (arith, hi, within) in
       let first : from < length before = omega (arith, s, within) in
       let a = (landable_last p w odd laws stage (node_at before j) (landable_at j lt)).0 in
       let e : offset_at (node_at before j) (w - 1) ≡ offset_at (node_at before from) (w - 1) =
-      same_last w (node_at before j) (node_at before from) (landable_valid p w odd laws stage (node_at before j) (landable_at j lt)) (landable_valid p w odd laws stage (node_at before from) (landable_at from first))
+      same_last w (node_at before j) (node_at before from)
+      (landable_valid p w odd laws stage (node_at before j) (landable_at j lt))
+      (landable_valid p w odd laws stage (node_at before from) (landable_at from first))
       (meets_at j lo hi ∙ sym (meets_at from (omega arith) s)) in
       omega (arith, ints, a, e, is)
 
   -- they are those that share a tail
   pub sources_group : IsGroup before from to
-  sources_group = record { some = some_range; within = within; exact = λ j lt. (λ e. shares j lt e, λ r. meets_at j r.0 r.1 ∙ sym (meets_at from (omega arith) some_range)) }
+  sources_group = record {
+    some = some_range;
+    within = within;
+    exact =
+        λ j lt. (λ e. shares j lt e, λ r. meets_at j r.0 r.1 ∙ sym (meets_at from (omega arith) some_range));
+  }
     where
-      shares : (j : ℕ) → j < length before → drop 1 (node_at before j) ≡ drop 1 (node_at before from) → (from ≤ j) × (j < to)
+      shares : (j : ℕ) → j < length before → drop 1 (node_at before j) ≡ drop 1 (node_at before from)
+          → (from ≤ j) × (j < to)
       shares j lt e =
-          (exact j lt).0 ((laws.leads.meets (node_at before j) v (landable_valid p w odd laws stage (node_at before j) (landable_at j lt)) node_valid).1 (e ∙ meets_at from (omega arith) some_range))
+          (exact j lt).0 ((laws.leads.meets (node_at before j) v
+          (landable_valid p w odd laws stage (node_at before j) (landable_at j lt)) node_valid).1
+          (e ∙ meets_at from (omega arith) some_range))
 
 -- windows that share a tail are all that lead to a window to which the first of them leads
-module _ (p : Problem) (w stage : ℕ) (before : List (List ℤ)) (v : List ℤ) (from to : ℕ) (odd : w ≡ 2 * p.k + 1) (laws : WindowLaws p w) (holds : HoldsLandable p (stage, before)) (node : (x : List ℤ) × Contains before x × IsSuccessor p stage x v) (group : IsGroup before from to) where
+module _ (p : Problem) (w stage : ℕ) (before : List (List ℤ)) (v : List ℤ) (from to : ℕ) (odd : w ≡ 2 * p.k + 1)
+    (laws : WindowLaws p w) (holds : HoldsLandable p (stage, before)) (node : (x : List ℤ) × Contains before x
+    × IsSuccessor p stage x v) (group : IsGroup before from to) where
   valid_at : (j : ℕ) → j < length before → IsWindow w (node_at before j)
-  valid_at j lt = landable_valid p w odd laws stage (node_at before j) ((holds (node_at before j)).0 (Contains-get_or before j [] lt))
+  valid_at j lt = landable_valid p w odd laws stage (node_at before j)
+      ((holds (node_at before j)).0 (Contains-get_or before j [] lt))
 
   next_valid : IsWindow w v
-  next_valid = subst (IsWindow w) (sym node.2.2) (valid_after p w odd laws node.0 stage node.2.0 (landable_valid p w odd laws stage node.0 ((holds node.0).0 node.1)) node.2.1)
+  next_valid = subst (IsWindow w) (sym node.2.2) (valid_after p w odd laws node.0 stage node.2.0
+      (landable_valid p w odd laws stage node.0 ((holds node.0).0 node.1)) node.2.1)
 
   meets : (j : ℕ) → j < length before → Extends (node_at before j) v ↔ TailMeetsHead (node_at before j) v
   meets j lt = laws.leads.meets (node_at before j) v (valid_at j lt) next_valid
@@ -161,35 +203,64 @@ module _ (p : Problem) (w stage : ℕ) (before : List (List ℤ)) (v : List ℤ)
         holds = holds;
         node = node;
         within = group.within;
-        exact = λ j lt. (λ e. (group.exact j lt).0 ((meets j lt).0 e ∙ sym head), λ r. (meets j lt).1 ((group.exact j lt).1 r ∙ head));
+        exact = λ j lt. (
+          λ e. (group.exact j lt).0 ((meets j lt).0 e ∙ sym head),
+          λ r. (meets j lt).1 ((group.exact j lt).1 r ∙ head),
+        );
       }
 
 -- ---- as the calls have it
 
 -- from the laws one by one
-pub sources_of : (p : Problem) (w : ℕ) (before : ℕ × List (List ℤ)) (v : List ℤ) (from to : ℕ) → w ≡ 2 * p.k + 1 → IsWindowNetwork p → LeadAlike p w → FollowRanks w → LeadOn w
+pub sources_of : (p : Problem) (w : ℕ) (before : ℕ × List (List ℤ)) (v : List ℤ) (from to : ℕ)
+    → w ≡ 2 * p.k + 1 → IsWindowNetwork p → LeadAlike p w → FollowRanks w → LeadOn w
     → HoldsLandable p before → (x : List ℤ) × Contains before.1 x × IsSuccessor p before.0 x v → to ≤ length before.1
-    → ((j : ℕ) → j < length before.1 → Extends (node_at before.1 j) v ↔ ((from ≤ j) × (j < to))) → Sources p w before.0 before.1 v from to
+    → ((j : ℕ) → j < length before.1 → Extends (node_at before.1 j) v ↔ ((from ≤ j) × (j < to)))
+    → Sources p w before.0 before.1 v from to
 sources_of p w before v from to odd network alike ranks leads holds node within exact =
-    record { odd = odd; laws = record { network = network; alike = alike; ranks = ranks; leads = leads }; holds = holds; node = node; within = within; exact = exact }
+    record {
+      odd = odd;
+      laws = record { network = network; alike = alike; ranks = ranks; leads = leads };
+      holds =
+          holds;
+      node = node;
+      within = within;
+      exact = exact;
+    }
 
-pub sources_from : (p : Problem) (w : ℕ) (before after : ℕ × List (List ℤ)) (i from to : ℕ) → w ≡ 2 * p.k + 1 → WindowLaws p w → HoldsLandable p before
+pub sources_from : (p : Problem) (w : ℕ) (before after : ℕ × List (List ℤ)) (i from to : ℕ)
+    → w ≡ 2 * p.k + 1 → WindowLaws p w → HoldsLandable p before
     → IsNextOf p before.0 before.1 after.1 → i < length after.1 → to ≤ length before.1
-    → ((j : ℕ) → j < length before.1 → Extends (node_at before.1 j) (node_at after.1 i) ↔ ((from ≤ j) × (j < to))) → Sources p w before.0 before.1 (node_at after.1 i) from to
+    → ((j : ℕ) → j < length before.1 → Extends (node_at before.1 j) (node_at after.1 i) ↔ ((from ≤ j) × (j < to)))
+    → Sources p w before.0 before.1 (node_at after.1 i) from to
 sources_from p w before after i from to odd laws holds next lt within exact =
-    record { odd = odd; laws = laws; holds = holds; node = (next (node_at after.1 i)).0 (Contains-get_or after.1 i [] lt); within = within; exact = exact }
+    record {
+      odd = odd;
+      laws = laws;
+      holds = holds;
+      node =
+          (next (node_at after.1 i)).0 (Contains-get_or after.1 i [] lt);
+      within = within;
+      exact = exact;
+    }
 
-pub group_sources_from : (p : Problem) (w : ℕ) (before after : ℕ × List (List ℤ)) (i from to : ℕ) → w ≡ 2 * p.k + 1 → WindowLaws p w → HoldsLandable p before
-    → IsNextOf p before.0 before.1 after.1 → i < length after.1 → IsGroup before.1 from to → Extends (node_at before.1 from) (node_at after.1 i)
+pub group_sources_from : (p : Problem) (w : ℕ) (before after : ℕ × List (List ℤ)) (i from to : ℕ)
+    → w ≡ 2 * p.k + 1 → WindowLaws p w → HoldsLandable p before
+    → IsNextOf p before.0 before.1 after.1 → i < length after.1 → IsGroup before.1 from to
+    → Extends (node_at before.1 from) (node_at after.1 i)
     → Sources p w before.0 before.1 (node_at after.1 i) from to
 group_sources_from p w before after i from to odd laws holds next lt group leads =
-    group_sources p w before.0 before.1 (node_at after.1 i) from to odd laws holds ((next (node_at after.1 i)).0 (Contains-get_or after.1 i [] lt)) group leads
+    group_sources p w before.0 before.1 (node_at after.1 i) from to odd laws holds
+    ((next (node_at after.1 i)).0 (Contains-get_or after.1 i [] lt)) group leads
 
 -- the last rank of a window that is written otherwise
-pub same_rank : (x y : List ℤ) (n m l j : ℕ) → x ≡ y → n ≡ m → pos l ≡ pos n +ℤ offset_at x j → pos l ≡ pos m +ℤ offset_at y j
-same_rank x y n m l j e f is = is ∙ ap (λ (k : ℕ). pos k +ℤ offset_at x j) f ∙ ap (λ (z : List ℤ). pos m +ℤ offset_at z j) e
+pub same_rank : (x y : List ℤ) (n m l j : ℕ) → x ≡ y → n ≡ m → pos l ≡ pos n +ℤ offset_at x j
+    → pos l ≡ pos m +ℤ offset_at y j
+same_rank x y n m l j e f is = is ∙ ap (λ (k : ℕ). pos k +ℤ offset_at x j) f
+    ∙ ap (λ (z : List ℤ). pos m +ℤ offset_at z j) e
 
-pub in_bytes : (x y : List ℤ) (n m j c : ℕ) → x ≡ y → n ≡ m → c ≤ 60 → (pos 0 ≤ℤ (pos m +ℤ offset_at y j)) → ((pos m +ℤ offset_at y j) ≤ℤ pos c)
+pub in_bytes : (x y : List ℤ) (n m j c : ℕ) → x ≡ y → n ≡ m → c ≤ 60 → (pos 0 ≤ℤ (pos m +ℤ offset_at y j))
+    → ((pos m +ℤ offset_at y j) ≤ℤ pos c)
     → (pos 0 ≤ℤ (pos n +ℤ offset_at x j)) × ((pos n +ℤ offset_at x j) ≤ℤ pos 60)
 in_bytes x y n m j c e f few low high =
     let o : offset_at x j ≡ offset_at y j = ap (λ (z : List ℤ). offset_at z j) e in

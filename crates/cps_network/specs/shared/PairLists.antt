@@ -1,5 +1,6 @@
 -- Lists of pairs: what they have, in whatever order, and pairs in order.
-use Rattle.std.proofs.Common.{◌≡◌, ℕ, suc, ◌+◌, ◌<◌, ◌≤◌, ◌⊎◌, inl, inr, List, [], ◌∷◌, ◌++◌, length, get_or, Bool, true, false, cond, refl, sym, ap, ap₂, subst, ◌∙◌, arith}
+use Rattle.std.proofs.Common.{◌≡◌, ℕ, suc, ◌+◌, ◌<◌, ◌≤◌, ◌⊎◌, inl, inr, List, [], ◌∷◌, ◌++◌, length, get_or, Bool}
+use Rattle.std.proofs.Common.{true, false, cond, refl, sym, ap, ap₂, subst, ◌∙◌, arith}
 use Rattle.std.specs.Prelude.{Contains, All, nat_eq}
 use Rattle.std.specs.List.Sorted.{IsPermutation, IsSorted}
 use Rattle.std.specs.Ordering.{nat_cmp, ordering_then, is_lt}
@@ -51,18 +52,23 @@ nat_cmp_less : (a b : ℕ) → a < b → nat_cmp a b ≡ Less
 nat_cmp_less a b lt = ap (λ (t : Bool). cond t Less (cond (nat_eq a b) Equal Greater)) (lt-ltb a b lt)
 
 nat_cmp_equal : (a b : ℕ) → a ≡ b → nat_cmp a b ≡ Equal
-nat_cmp_equal a b e = ap₂ (λ (t u : Bool). cond t Less (cond u Equal Greater)) (le-ltb a b (omega (arith, e))) (eq-eqb a b e)
+nat_cmp_equal a b e = ap₂ (λ (t u : Bool). cond t Less (cond u Equal Greater)) (le-ltb a b (omega (arith, e)))
+    (eq-eqb a b e)
 
 -- what the test of one pair before another says
-not_below : (a b : Pair) → is_lt (ordering_then (nat_cmp b.0 a.0) (nat_cmp b.1 a.1)) ≡ false → (a.0 < b.0) ⊎ ((a.0 ≡ b.0) × (a.1 ≤ b.1))
+not_below : (a b : Pair) → is_lt (ordering_then (nat_cmp b.0 a.0) (nat_cmp b.1 a.1)) ≡ false
+    → (a.0 < b.0) ⊎ ((a.0 ≡ b.0) × (a.1 ≤ b.1))
 not_below a b e = elim (cases_lt a.0 b.0) [
   | inl lt ↦ inl lt
   | inr ge ↦ elim (cases_lt b.0 a.0) [
-    | inl lt ↦ absurd (true_false (sym (ap (λ (o : Ordering). is_lt (ordering_then o (nat_cmp b.1 a.1))) (nat_cmp_less b.0 a.0 lt)) ∙ e))
+    | inl lt ↦ absurd (true_false
+        (sym (ap (λ (o : Ordering). is_lt (ordering_then o (nat_cmp b.1 a.1))) (nat_cmp_less b.0 a.0 lt)) ∙ e))
     | inr ge' ↦ (
         let same : a.0 ≡ b.0 = omega (arith, ge, ge') in
         elim (cases_lt b.1 a.1) [
-          | inl lt ↦ absurd (true_false (sym (ap₂ (λ (o o' : Ordering). is_lt (ordering_then o o')) (nat_cmp_equal b.0 a.0 (sym same)) (nat_cmp_less b.1 a.1 lt)) ∙ e))
+          | inl lt ↦ absurd (true_false
+              (sym (ap₂ (λ (o o' : Ordering). is_lt (ordering_then o o')) (nat_cmp_equal b.0 a.0 (sym same))
+              (nat_cmp_less b.1 a.1 lt)) ∙ e))
           | inr le ↦ inr (same, le)
         ]
         )
@@ -75,7 +81,8 @@ not_below a b e = elim (cases_lt a.0 b.0) [
 abbrev Later : Pair → Pair → Type 0
 Later a b = (a.0 < b.0) ⊎ ((a.0 ≡ b.0) × (a.1 ≤ b.1))
 
-in_order : (xs : List Pair) → ((j m : ℕ) → m ≡ suc j → m < length xs → Later (pair_at xs j) (pair_at xs m)) → InPairOrder xs
+in_order : (xs : List Pair) → ((j m : ℕ) → m ≡ suc j → m < length xs → Later (pair_at xs j) (pair_at xs m))
+    → InPairOrder xs
 in_order [] h = tt
 in_order (x ∷ []) h = (λ q i. absurd i, tt)
 in_order (x ∷ (y ∷ ys)) h =
@@ -92,8 +99,10 @@ in_order (x ∷ (y ∷ ys)) h =
     through (inr a) q (inl b) = inl (let c = a.0 in omega arith)
     through (inr a) q (inr b) = inr (a.0 ∙ b.0, (let c = a.1 in let d = b.1 in omega arith))
 
-pub sorted_in_order : (xs : List Pair) → IsSorted (λ (x y : Pair). ordering_then (nat_cmp x.0 y.0) (nat_cmp x.1 y.1)) xs → InPairOrder xs
+pub sorted_in_order : (xs : List Pair) → IsSorted (λ (x y : Pair). ordering_then (nat_cmp x.0 y.0) (nat_cmp x.1 y.1)) xs
+    → InPairOrder xs
 sorted_in_order xs up = in_order xs (λ j m e lt.
     let n : j + 1 ≡ m = omega arith in
     not_below (pair_at xs j) (pair_at xs m)
-    (subst (λ (i : ℕ). is_lt (ordering_then (nat_cmp (pair_at xs i).0 (pair_at xs j).0) (nat_cmp (pair_at xs i).1 (pair_at xs j).1)) ≡ false) n (up j (0, 0) (omega arith) (omega arith))))
+    (subst (λ (i : ℕ). is_lt (ordering_then (nat_cmp (pair_at xs i).0 (pair_at xs j).0)
+    (nat_cmp (pair_at xs i).1 (pair_at xs j).1)) ≡ false) n (up j (0, 0) (omega arith) (omega arith))))

@@ -1,10 +1,12 @@
 -- Flights by rank, the first of rank 1: a list read by rank is the list again, and keeps its order.
-use Rattle.std.proofs.Common.{◌≡◌, ℕ, zero, suc, ◌<◌, ◌≤◌, inl, inr, Bool, true, List, [], ◌∷◌, ◌++◌, length, map, get_or, refl, sym, ap, ap₂, subst, ◌∙◌, arith}
+use Rattle.std.proofs.Common.{◌≡◌, ℕ, zero, suc, ◌<◌, ◌≤◌, inl, inr, Bool, true, List, [], ◌∷◌, ◌++◌, length, map}
+use Rattle.std.proofs.Common.{get_or, refl, sym, ap, ap₂, subst, ◌∙◌, arith}
 use Rattle.std.specs.Prelude.{IsPermutation}
 use Rattle.std.specs.List.{AllZip}
 pub use Rattle.std.proofs.lemmas.List.{get_or_past as get_past}
 use Rattle.std.proofs.lemmas.Slice.Zip.{AllZip-long}
-use Rattle.std.proofs.lemmas.List.Sorted.{IsPermutation-refl, IsPermutation-cons, IsPermutation-trans, IsPermutation-to_front}
+use Rattle.std.proofs.lemmas.List.Sorted.{IsPermutation-refl, IsPermutation-cons, IsPermutation-trans}
+use Rattle.std.proofs.lemmas.List.Sorted.{IsPermutation-to_front}
 use Rattle.cps_theory.specs.RankLists.{In, IsRank, Ordered, of_rank, upto}
 
 at_suc : {X : Type 0} (d x : X) (xs : List X) (r : ℕ) → 1 ≤ r → of_rank d (x ∷ xs) (suc r) ≡ of_rank d xs r
@@ -24,9 +26,12 @@ ranks_permute d [] = IsPermutation-refl []
 ranks_permute d (x ∷ xs) =
     let n = length xs in
     let e : map (of_rank d (x ∷ xs)) (upto (suc n)) ≡ map (of_rank d xs) (upto n) ++ x ∷ [] =
-    upto_last (of_rank d (x ∷ xs)) n ∙ ap (λ l. l ++ x ∷ []) (map_upto (λ r. of_rank d (x ∷ xs) (suc r)) (of_rank d xs) n (at_suc d x xs)) in
+    upto_last (of_rank d (x ∷ xs)) n
+    ∙ ap (λ l. l ++ x ∷ []) (map_upto (λ r. of_rank d (x ∷ xs) (suc r)) (of_rank d xs) n (at_suc d x xs)) in
     subst (λ l. IsPermutation l (x ∷ xs)) (sym e)
-    (IsPermutation-trans (map (of_rank d xs) (upto n) ++ x ∷ []) (x ∷ map (of_rank d xs) (upto n)) (x ∷ xs) (IsPermutation-to_front (map (of_rank d xs) (upto n)) x) (IsPermutation-cons x (map (of_rank d xs) (upto n)) xs (ranks_permute d xs)))
+    (IsPermutation-trans (map (of_rank d xs) (upto n) ++ x ∷ []) (x ∷ map (of_rank d xs) (upto n))
+    (x ∷ xs) (IsPermutation-to_front (map (of_rank d xs) (upto n)) x)
+    (IsPermutation-cons x (map (of_rank d xs) (upto n)) xs (ranks_permute d xs)))
 
 pub at_in : (d : ℕ) (xs : List ℕ) (r : ℕ) → 1 ≤ r → r ≤ length xs → In (of_rank d xs r) xs
 at_in d xs zero one le = absurd (omega arith)
@@ -37,20 +42,25 @@ at_in d (x ∷ xs) (suc (suc i)) one le = inr (at_in d xs (suc i) (omega arith) 
 pub in_at : (d : ℕ) (xs : List ℕ) (x : ℕ) → In x xs → (r : ℕ) × IsRank (length xs) r × (of_rank d xs r ≡ x)
 in_at d [] x i = absurd i
 in_at d (y ∷ xs) x (inl e) = (1, (omega arith, omega arith), sym e)
-in_at d (y ∷ xs) x (inr i) = let w = in_at d xs x i in (suc w.0, (omega arith, (let a = w.1.1 in omega arith)), at_suc d y xs w.0 w.1.0 ∙ w.2)
+in_at d (y ∷ xs) x (inr i) = let w =
+    in_at d xs x i in (suc w.0, (omega arith, (let a = w.1.1 in omega arith)), at_suc d y xs w.0 w.1.0 ∙ w.2)
 
-pub ordered_at : (before : ℕ → ℕ → Bool) (d : ℕ) (xs : List ℕ) → Ordered before xs → (q r : ℕ) → 1 ≤ q → q < r → r ≤ length xs → before (of_rank d xs q) (of_rank d xs r) ≡ true
+pub ordered_at : (before : ℕ → ℕ → Bool) (d : ℕ) (xs : List ℕ) → Ordered before xs → (q r : ℕ)
+    → 1 ≤ q → q < r → r ≤ length xs → before (of_rank d xs q) (of_rank d xs r) ≡ true
 ordered_at before d xs o zero r one lt le = absurd (omega arith)
 ordered_at before d xs o (suc q) zero one lt le = absurd (omega arith)
 ordered_at before d [] o (suc q) (suc r) one lt le = absurd (omega arith)
 ordered_at before d (x ∷ xs) o (suc zero) (suc zero) one lt le = absurd (omega arith)
-ordered_at before d (x ∷ xs) o (suc zero) (suc (suc r)) one lt le = o.0 (get_or xs r d) (at_in d xs (suc r) (omega arith) (omega arith))
+ordered_at before d (x ∷ xs) o (suc zero) (suc (suc r)) one lt le =
+    o.0 (get_or xs r d) (at_in d xs (suc r) (omega arith) (omega arith))
 ordered_at before d (x ∷ xs) o (suc (suc q)) (suc zero) one lt le = absurd (omega arith)
-ordered_at before d (x ∷ xs) o (suc (suc q)) (suc (suc r)) one lt le = ordered_at before d xs o.1 (suc q) (suc r) (omega arith) (omega arith) (omega arith)
+ordered_at before d (x ∷ xs) o (suc (suc q)) (suc (suc r)) one lt le =
+    ordered_at before d xs o.1 (suc q) (suc r) (omega arith) (omega arith) (omega arith)
 
 -- ---- reads
 
-pub zip_at : {X Y : Type 0} (Q : X → Y → Type 0) (xs : List X) (ys : List Y) → AllZip Q xs ys → (i : ℕ) (d : X) (e : Y) → i < length xs → Q (get_or xs i d) (get_or ys i e)
+pub zip_at : {X Y : Type 0} (Q : X → Y → Type 0) (xs : List X) (ys : List Y) → AllZip Q xs ys
+    → (i : ℕ) (d : X) (e : Y) → i < length xs → Q (get_or xs i d) (get_or ys i e)
 zip_at Q [] ys a i d e lt = absurd (omega arith)
 zip_at Q (x ∷ xs) [] a i d e lt = absurd a
 zip_at Q (x ∷ xs) (y ∷ ys) a zero d e lt = a.0

@@ -1,5 +1,6 @@
 -- Listed states of which no successor pair is missed are closed under successor pairs.
-use Rattle.std.proofs.Common.{◌≡◌, ℕ, ◌+◌, inl, inr, Bool, true, false, ◌&&◌, List, [], ◌∷◌, Option, Some, None, refl, sym, ap, subst, ◌∙◌, arith}
+use Rattle.std.proofs.Common.{◌≡◌, ℕ, ◌+◌, inl, inr, Bool, true, false, ◌&&◌, List, [], ◌∷◌, Option, Some, None, refl}
+use Rattle.std.proofs.Common.{sym, ap, subst, ◌∙◌, arith}
 use Rattle.std.specs.List.{list_any}
 use Rattle.std.specs.Ordering.{is_eq}
 use Rattle.std.proofs.lemmas.Bool.{or_cases, or_parts, and_parts, not-false}
@@ -7,7 +8,8 @@ use Rattle.cps_theory.specs.Labels.{InPairs, NoWorse, Pair, next_pair, no_worse}
 use Rattle.cps_theory.specs.LegalPrefix.{OrderRules}
 use Rattle.cps_theory.specs.Patterns.{PatternNode, PatternPermits, pattern_newest, pattern_node, pattern_push}
 use Rattle.cps_theory.specs.ClosedSets.{ClosedNodes}
-use Rattle.cps_theory.specs.CertificateClosure.{IsListed, IsListedOrStart, covers, covers_at, first_missed, is_missed, is_not_covered, missed_from, misses, node_cmp, permits_next}
+use Rattle.cps_theory.specs.CertificateClosure.{IsListed, IsListedOrStart, covers, covers_at, first_missed, is_missed}
+use Rattle.cps_theory.specs.CertificateClosure.{is_not_covered, missed_from, misses, node_cmp, permits_next}
 use Rattle.cps_theory.specs.laws.FirstFound.{from_none, or_none, with_number_none}
 use Rattle.cps_theory.specs.laws.NodeOrder.{node_tie, eq_of}
 use Rattle.cps_theory.specs.laws.PatternTests.{permits_is}
@@ -17,7 +19,8 @@ and_false : (a b : Bool) → a && b ≡ false → a ≡ true → b ≡ false
 and_false true b e p = e
 and_false false b e p = absurd (cc)
 
-no_worse_found : (q : Pair) (ps : List Pair) → list_any (λ o. no_worse o q) ps ≡ true → (o : Pair) × InPairs o ps × NoWorse o q
+no_worse_found : (q : Pair) (ps : List Pair) → list_any (λ o. no_worse o q) ps ≡ true
+    → (o : Pair) × InPairs o ps × NoWorse o q
 no_worse_found q [] e = absurd (cc)
 no_worse_found q (o ∷ ps) e = elim (or_cases (no_worse o q) (list_any (λ o. no_worse o q) ps) e) [
   | inl h ↦ (o, inl refl, no_worse_true o q h)
@@ -30,7 +33,8 @@ any_false p b (o ∷ ps) e (inl s) = ap p s ∙ (or_parts (p o) (list_any p ps) 
 any_false p b (o ∷ ps) e (inr i) = any_false p b ps (or_parts (p o) (list_any p ps) e).1 i
 
 module _ {S : Type 0} (node_of : S → PatternNode) (pairs_of : S → List Pair) where
-  pub covers_listed : (w : PatternNode) (q : Pair) (ss : List S) → covers node_of pairs_of ss w q ≡ true → (o : Pair) × IsListed node_of pairs_of ss w o × NoWorse o q
+  pub covers_listed : (w : PatternNode) (q : Pair) (ss : List S) → covers node_of pairs_of ss w q ≡ true
+      → (o : Pair) × IsListed node_of pairs_of ss w o × NoWorse o q
   unfolding covers
   covers_listed w q [] e = absurd (cc)
   covers_listed w q (s ∷ ss) e = elim (or_cases (covers_at node_of pairs_of w q s) (covers node_of pairs_of ss w q) e) [
@@ -43,38 +47,59 @@ module _ {S : Type 0} (node_of : S → PatternNode) (pairs_of : S → List Pair)
 
   module _ (g : OrderRules) (first : ℕ → ℕ → Option ℕ) (after : ℕ → ℕ → ℕ → ℕ) (cost : ℕ → ℕ → ℕ) (all : List S) where
     -- a node of which nothing is missed: each permitted successor of its pairs is covered
-    none_missed : (w : PatternNode) (pairs : List Pair) → first_missed node_of pairs_of g first after cost all w pairs ≡ None → (r : ℕ) (b q : Pair) → PatternPermits g w r → InPairs b pairs → next_pair first after cost w.2 b r ≡ Some q → covers node_of pairs_of all (pattern_push g w r) q ≡ true
+    none_missed : (w : PatternNode) (pairs : List Pair)
+        → first_missed node_of pairs_of g first after cost all w pairs ≡ None → (r : ℕ) (b q : Pair)
+        → PatternPermits g w r → InPairs b pairs → next_pair first after cost w.2 b r ≡ Some q
+        → covers node_of pairs_of all (pattern_push g w r) q ≡ true
     unfolding first_missed
     none_missed w pairs e r b q m i n =
-        let out : misses node_of pairs_of g first after cost all w pairs r ≡ false = from_none (misses node_of pairs_of g first after cost all w pairs) 1 g.count e r m.from_one (let t = m.to_count in omega arith) in
-        let quiet = and_false (permits_next g w r) (list_any (is_missed node_of pairs_of g first after cost all w r) pairs) out (permits_is g w r m) in
+        let out : misses node_of pairs_of g first after cost all w pairs r ≡ false = from_none
+        (misses node_of pairs_of g first after cost all w pairs) 1 g.count e r m.from_one (let t =
+        m.to_count in omega arith) in
+        let quiet = and_false (permits_next g w r)
+        (list_any (is_missed node_of pairs_of g first after cost all w r) pairs) out (permits_is g w r m) in
         let kept = any_false (is_missed node_of pairs_of g first after cost all w r) b pairs quiet i in
-        let left : is_not_covered node_of pairs_of all (pattern_push g w r) (Some q) ≡ false = ap (is_not_covered node_of pairs_of all (pattern_push g w r)) (sym n) ∙ kept in
+        let left : is_not_covered node_of pairs_of all (pattern_push g w r) (Some q) ≡ false =
+        ap (is_not_covered node_of pairs_of all (pattern_push g w r)) (sym n) ∙ kept in
         not-false (covers node_of pairs_of all (pattern_push g w r) q) left
 
-    listed_missed : (i : ℕ) (ss : List S) → missed_from node_of pairs_of g first after cost all i ss ≡ None → (w : PatternNode) (b : Pair) → IsListed node_of pairs_of ss w b → (s : S) × (node_of s ≡ w) × InPairs b (pairs_of s) × (first_missed node_of pairs_of g first after cost all (node_of s) (pairs_of s) ≡ None)
+    listed_missed : (i : ℕ) (ss : List S) → missed_from node_of pairs_of g first after cost all i ss ≡ None
+        → (w : PatternNode) (b : Pair) → IsListed node_of pairs_of ss w b → (s : S) × (node_of s ≡ w)
+        × InPairs b (pairs_of s) × (first_missed node_of pairs_of g first after cost all (node_of s)
+        (pairs_of s) ≡ None)
     unfolding missed_from
     listed_missed i [] e w b l = absurd l
     listed_missed i (s ∷ ss) e w b (inl h) = (s, h.0, h.1, with_number_none i _ (or_none _ _ e).0)
     listed_missed i (s ∷ ss) e w b (inr l) = listed_missed (i + 1) ss (or_none _ _ e).1 w b l
 
     -- where nothing is missed, what is listed is closed under successor pairs
-    pub closure_closed : first_missed node_of pairs_of g first after cost all (pattern_node g []) ((0, 0) ∷ []) ≡ None → missed_from node_of pairs_of g first after cost all 1 all ≡ None → ClosedNodes first after cost (PatternPermits g) (pattern_push g) pattern_newest (pattern_node g []) (IsListedOrStart node_of pairs_of g all)
+    pub closure_closed : first_missed node_of pairs_of g first after cost all (pattern_node g []) ((0, 0) ∷ []) ≡ None
+        → missed_from node_of pairs_of g first after cost all 1 all ≡ None
+        → ClosedNodes first after cost (PatternPermits g) (pattern_push g) pattern_newest (pattern_node g [])
+        (IsListedOrStart node_of pairs_of g all)
     closure_closed from_start from_states = record {
       start = inl (refl, refl);
       step = λ w r p q l m e. elim l [
         | inl s ↦
             let m' = subst (λ (z : PatternNode). PatternPermits g z r) s.0 m in
-            let e' = subst (λ (z : PatternNode). next_pair first after cost z.2 (0, 0) r ≡ Some q) s.0 (subst (λ (z : Pair). next_pair first after cost w.2 z r ≡ Some q) s.1 e) in
+            let e' = subst (λ (z : PatternNode). next_pair first after cost z.2 (0, 0) r ≡ Some q) s.0
+            (subst (λ (z : Pair). next_pair first after cost w.2 z r ≡ Some q) s.1 e) in
             let c = none_missed (pattern_node g []) ((0, 0) ∷ []) from_start r (0, 0) q m' (inl refl) e' in
-            let o = covers_listed (pattern_push g (pattern_node g []) r) q all c in
-            (o.0, inr (subst (λ (z : PatternNode). IsListed node_of pairs_of all (pattern_push g z r) o.0) (sym s.0) o.1), o.2)
+            let o = covers_listed (pattern_push g (pattern_node g []) r) q all c in (
+              o.0,
+              inr (subst (λ (z : PatternNode). IsListed node_of pairs_of all (pattern_push g z r) o.0)
+                  (sym s.0) o.1),
+              o.2,
+            )
         | inr b ↦
             let k = listed_missed 1 all from_states w p b in
             let m' = subst (λ (z : PatternNode). PatternPermits g z r) (sym k.1) m in
             let e' = subst (λ (z : PatternNode). next_pair first after cost z.2 p r ≡ Some q) (sym k.1) e in
             let c = none_missed (node_of k.0) (pairs_of k.0) k.3 r p q m' k.2 e' in
-            let o = covers_listed (pattern_push g (node_of k.0) r) q all c in
-            (o.0, inr (subst (λ (z : PatternNode). IsListed node_of pairs_of all (pattern_push g z r) o.0) k.1 o.1), o.2)
+            let o = covers_listed (pattern_push g (node_of k.0) r) q all c in (
+              o.0,
+              inr (subst (λ (z : PatternNode). IsListed node_of pairs_of all (pattern_push g z r) o.0) k.1 o.1),
+              o.2,
+            )
       ];
     }

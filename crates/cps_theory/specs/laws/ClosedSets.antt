@@ -11,11 +11,17 @@ use Rattle.cps_theory.specs.ClosedSets.{ClosedNodes}
 use Rattle.cps_theory.specs.laws.LabelDominance.{closed_covers}
 use Rattle.cps_theory.specs.laws.PatternNetwork.{pattern_network}
 
-module _ (Open : ℕ → ℕ → Type 0) (first : ℕ → ℕ → Option ℕ) (after : ℕ → ℕ → ℕ → ℕ) (cost : ℕ → ℕ → ℕ) (opens : IsFirstOpen Open first) (later : NeverEarlier after) (dearer : NeverCheaper cost) where
+module _ (Open : ℕ → ℕ → Type 0) (first : ℕ → ℕ → Option ℕ) (after : ℕ → ℕ → ℕ → ℕ) (cost : ℕ
+    → ℕ → ℕ) (opens : IsFirstOpen Open first) (later : NeverEarlier after) (dearer : NeverCheaper cost) where
   -- over any nodes, what is closed under successors covers every landed legal prefix
-  pub closed_nodes_cover : (W : Type 0) (Legal : List ℕ → Type 0) (node : List ℕ → W) (Permitted : W → ℕ → Type 0) (push : W → ℕ → W) (newest : W → ℕ) → Network W Legal node Permitted push newest → (Lists : W → Pair → Type 0) → ClosedNodes first after cost Permitted push newest (node []) Lists → (xs : List Landing) → Legal (ranks xs) → Landed Open after xs → (p : Pair) × Lists (node (ranks xs)) p × NoWorse p (pair_of cost xs)
+  pub closed_nodes_cover : (W : Type 0) (Legal : List ℕ → Type 0) (node : List ℕ → W) (Permitted : W
+      → ℕ → Type 0) (push : W → ℕ → W) (newest : W → ℕ) → Network W Legal node Permitted push newest
+      → (Lists : W → Pair → Type 0) → ClosedNodes first after cost Permitted push newest (node []) Lists
+      → (xs : List Landing) → Legal (ranks xs) → Landed Open after xs → (p : Pair) × Lists (node (ranks xs)) p
+      × NoWorse p (pair_of cost xs)
   closed_nodes_cover W Legal node Permitted push newest net Lists c =
-      closed_covers Open first after cost opens later dearer Legal (λ r rs l. (net.shrinks r rs l).0) (λ rs p. Lists (node rs) p)
+      closed_covers Open first after cost opens later dearer Legal (λ r rs l. (net.shrinks r rs l).0)
+      (λ rs p. Lists (node rs) p)
       (record {
         start = c.start;
         step = λ r rs legal p q listed e.
@@ -25,15 +31,23 @@ module _ (Open : ℕ → ℕ → Type 0) (first : ℕ → ℕ → Option ℕ) (a
             (o.0, subst (λ w. Lists w o.0) (sym (net.pushes r rs s.0)) o.1, o.2);
       })
 
-  module _ (g : OrderRules) (ones : (a r : ℕ) → g.before a r ≡ true → 1 ≤ a) (Lists : PatternNode → Pair → Type 0) (c : ClosedNodes first after cost (PatternPermits g) (pattern_push g) pattern_newest (pattern_node g []) Lists) where
+  module _ (g : OrderRules) (ones : (a r : ℕ) → g.before a r ≡ true → 1 ≤ a) (Lists : PatternNode
+      → Pair → Type 0) (c : ClosedNodes first after cost (PatternPermits g) (pattern_push g) pattern_newest
+      (pattern_node g []) Lists) where
     -- no whole landing is below the claim, if no listed pair of the last stage is
-    pub closed_landings_optimal : (value : Pair → ℕ) → ((p q : Pair) → NoWorse p q → value p ≤ value q) → (v : ℕ) → ((w : PatternNode) (p : Pair) → w.0 ≡ g.count → Lists w p → v ≤ value p) → (xs : List Landing) → Legal g (ranks xs) → Landed Open after xs → length (ranks xs) ≡ g.count → v ≤ value (pair_of cost xs)
+    pub closed_landings_optimal : (value : Pair → ℕ) → ((p q : Pair) → NoWorse p q → value p ≤ value q)
+        → (v : ℕ) → ((w : PatternNode) (p : Pair) → w.0 ≡ g.count → Lists w p → v ≤ value p)
+        → (xs : List Landing) → Legal g (ranks xs) → Landed Open after xs → length (ranks xs) ≡ g.count
+        → v ≤ value (pair_of cost xs)
     closed_landings_optimal value mono v final xs legal landed whole =
-        let k = closed_nodes_cover PatternNode (Legal g) (pattern_node g) (PatternPermits g) (pattern_push g) pattern_newest (pattern_network g ones) Lists c xs legal landed in
+        let k = closed_nodes_cover PatternNode (Legal g) (pattern_node g) (PatternPermits g)
+        (pattern_push g) pattern_newest (pattern_network g ones) Lists c xs legal landed in
         le_trans (final (pattern_node g (ranks xs)) k.0 whole k.1) (mono k.0 (pair_of cost xs) k.2)
 
     -- nothing lands at all, if the last stage has no state
-    pub closed_landings_infeasible : ((w : PatternNode) (p : Pair) → w.0 ≡ g.count → Lists w p → ⊥) → (xs : List Landing) → Legal g (ranks xs) → Landed Open after xs → length (ranks xs) ≡ g.count → ⊥
+    pub closed_landings_infeasible : ((w : PatternNode) (p : Pair) → w.0 ≡ g.count → Lists w p → ⊥)
+        → (xs : List Landing) → Legal g (ranks xs) → Landed Open after xs → length (ranks xs) ≡ g.count → ⊥
     closed_landings_infeasible none xs legal landed whole =
-        let k = closed_nodes_cover PatternNode (Legal g) (pattern_node g) (PatternPermits g) (pattern_push g) pattern_newest (pattern_network g ones) Lists c xs legal landed in
+        let k = closed_nodes_cover PatternNode (Legal g) (pattern_node g) (PatternPermits g)
+        (pattern_push g) pattern_newest (pattern_network g ones) Lists c xs legal landed in
         none (pattern_node g (ranks xs)) k.0 whole k.1

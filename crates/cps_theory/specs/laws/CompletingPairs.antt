@@ -1,18 +1,22 @@
 -- The completing pairs of a node from those of its successors; undominated ones lose nothing.
-use Rattle.std.proofs.Common.{◌≡◌, ℕ, ◌+◌, ◌≤◌, List, [], ◌∷◌, Option, Some, arith, refl, sym, ap, ap₂, subst, ◌∙◌, le_refl, le_trans, le_antisymm}
+use Rattle.std.proofs.Common.{◌≡◌, ℕ, ◌+◌, ◌≤◌, List, [], ◌∷◌, Option, Some, arith, refl, sym, ap, ap₂, subst, ◌∙◌}
+use Rattle.std.proofs.Common.{le_refl, le_trans, le_antisymm}
 use Rattle.cps_theory.specs.Separation.{Landing}
 use Rattle.cps_theory.specs.Retiming.{IsFirstOpen, NeverEarlier}
 use Rattle.cps_theory.specs.LandingTrail.{Landed, cost_of, latest_landing, ranks}
 use Rattle.cps_theory.specs.Labels.{NeverCheaper, Pair}
 use Rattle.cps_theory.specs.Network.{Network}
-use Rattle.cps_theory.specs.CompletingPairs.{AllLow, Completes, Follows, KeptCompleting, NoEarlierNoDearer, Reached, UndominatedCompleting, onto}
+use Rattle.cps_theory.specs.CompletingPairs.{AllLow, Completes, Follows, KeptCompleting, NoEarlierNoDearer, Reached}
+use Rattle.cps_theory.specs.CompletingPairs.{UndominatedCompleting, onto}
 use Rattle.cps_theory.specs.laws.LabelDominance.{last_ranks}
 
 pub no_earlier_no_dearer_trans : (p q r : Pair) → NoEarlierNoDearer p q → NoEarlierNoDearer q r → NoEarlierNoDearer p r
 no_earlier_no_dearer_trans p q r h k = (le_trans k.0 h.0, le_trans h.1 k.1)
 
 -- where no kept pair is worse than another, the kept pairs are the undominated ones
-pub completing_undominated : (Completing Keeps : Pair → Type 0) → KeptCompleting Completing Keeps → ((p q : Pair) → Keeps p → Keeps q → NoEarlierNoDearer p q → p ≡ q) → (p : Pair) → Keeps p → UndominatedCompleting Completing p
+pub completing_undominated : (Completing Keeps : Pair → Type 0) → KeptCompleting Completing Keeps
+    → ((p q : Pair) → Keeps p → Keeps q → NoEarlierNoDearer p q → p ≡ q) → (p : Pair) → Keeps p
+    → UndominatedCompleting Completing p
 completing_undominated Completing Keeps k anti p kept = record {
   completes = k.completes p kept;
   best = λ q a le.
@@ -23,10 +27,17 @@ completing_undominated Completing Keeps k anti p kept = record {
       ap₂ (λ x y. (x, y)) (le_antisymm first le.0) (le_antisymm le.1 second);
 }
 
-pub undominated_completing : (Completing Keeps : Pair → Type 0) → KeptCompleting Completing Keeps → (p : Pair) → UndominatedCompleting Completing p → Keeps p
-undominated_completing Completing Keeps k p u = let c = k.covers p u.completes in subst Keeps (u.best c.0 (k.completes c.0 c.1) c.2) c.1
+pub undominated_completing : (Completing Keeps : Pair → Type 0) → KeptCompleting Completing Keeps
+    → (p : Pair) → UndominatedCompleting Completing p → Keeps p
+undominated_completing Completing Keeps k p u = let c =
+    k.covers p u.completes in subst Keeps (u.best c.0 (k.completes c.0 c.1) c.2) c.1
 
-module _ (W : Type 0) (Open : ℕ → ℕ → Type 0) (first : ℕ → ℕ → Option ℕ) (after : ℕ → ℕ → ℕ → ℕ) (cost : ℕ → ℕ → ℕ) (Legal : List ℕ → Type 0) (node : List ℕ → W) (Permitted : W → ℕ → Type 0) (push : W → ℕ → W) (newest : W → ℕ) (opens : IsFirstOpen Open first) (later : NeverEarlier after) (dearer : NeverCheaper cost) (net : Network W Legal node Permitted push newest) (Final : W → Type 0) (closed : (rs : List ℕ) (r : ℕ) → Legal rs → Final (node rs) → Permitted (node rs) r → ⊥) (Low : ℕ → Type 0) (lower : (t u : ℕ) → t ≤ u → Low u → Low t) where
+module _ (W : Type 0) (Open : ℕ → ℕ → Type 0) (first : ℕ → ℕ → Option ℕ) (after : ℕ → ℕ → ℕ
+    → ℕ) (cost : ℕ → ℕ → ℕ) (Legal : List ℕ → Type 0) (node : List ℕ → W) (Permitted : W → ℕ
+    → Type 0) (push : W → ℕ → W) (newest : W → ℕ) (opens : IsFirstOpen Open first) (later : NeverEarlier after)
+    (dearer : NeverCheaper cost) (net : Network W Legal node Permitted push newest) (Final : W
+    → Type 0) (closed : (rs : List ℕ) (r : ℕ) → Legal rs → Final (node rs) → Permitted (node rs) r
+    → ⊥) (Low : ℕ → Type 0) (lower : (t u : ℕ) → t ≤ u → Low u → Low t) where
   abbrev Follow : W → ℕ → List Landing → Type 0
   Follow w b ys = Follows W Open after Permitted push newest Final Low w b ys
 
@@ -45,9 +56,11 @@ module _ (W : Type 0) (Open : ℕ → ℕ → Type 0) (first : ℕ → ℕ → O
   newest_push w b r x p =
       let rs = ranks x.landings in
       let p' = subst (λ v. Permitted v r) (sym x.at) p in
-      sym (ap newest (net.pushes r rs x.legal ∙ ap (λ v. push v r) x.at)) ∙ net.newest_is (r ∷ rs) (net.grows r rs x.legal p')
+      sym (ap newest (net.pushes r rs x.legal ∙ ap (λ v. push v r) x.at))
+      ∙ net.newest_is (r ∷ rs) (net.grows r rs x.legal p')
 
-  pub reached_push : (w : W) (b r t : ℕ) → Reached Open after Legal node w b → Permitted w r → Open r t → after (newest w) b r ≤ t → Reached Open after Legal node (push w r) t
+  pub reached_push : (w : W) (b r t : ℕ) → Reached Open after Legal node w b → Permitted w r
+      → Open r t → after (newest w) b r ≤ t → Reached Open after Legal node (push w r) t
   reached_push w b r t x p o le =
       let rs = ranks x.landings in
       let p' = subst (λ v. Permitted v r) (sym x.at) p in
@@ -55,20 +68,39 @@ module _ (W : Type 0) (Open : ℕ → ℕ → Type 0) (first : ℕ → ℕ → O
       record {
         landings = (r, t) ∷ x.landings;
         legal = net.grows r rs x.legal p';
-        landed = (o, le_trans (later.mono (latest_landing x.landings).0 (latest_landing x.landings).1 b r x.by) (subst (λ k. after k b r ≤ t) l le), x.landed);
+        landed = (
+          o,
+          le_trans (later.mono (latest_landing x.landings).0 (latest_landing x.landings).1 b r x.by)
+              (subst (λ k. after k b r ≤ t) l le),
+          x.landed,
+        );
         at = net.pushes r rs x.legal ∙ ap (λ v. push v r) x.at;
         by = le_refl t;
       }
 
   -- a final node is completed with nothing, at any of its seconds
-  pub completing_final : (w : W) → Final w → (New : Pair → Type 0) → ((q : Pair) → New q → Open (newest w) q.0 × Reached Open after Legal node w q.0 × Low q.0 × (q.1 ≡ 0)) → ((b : ℕ) → Open (newest w) b → Reached Open after Legal node w b → Low b → (q : Pair) × New q × (b ≤ q.0)) → KeptCompleting (Complete w) New
+  pub completing_final : (w : W) → Final w → (New : Pair → Type 0)
+      → ((q : Pair) → New q → Open (newest w) q.0 × Reached Open after Legal node w q.0 × Low q.0 × (q.1 ≡ 0))
+      → ((b : ℕ) → Open (newest w) b → Reached Open after Legal node w b → Low b → (q : Pair) × New q × (b ≤ q.0))
+      → KeptCompleting (Complete w) New
   completing_final w f New made enough = record {
-    completes = λ q n. let m = made q n in record { opened = m.0; reached = m.1; low = m.2; rest = []; follows = f; cost_is = sym m.3 };
-    covers = λ q c. let e = enough q.0 c.opened c.reached c.low in let z = (made e.0 e.1).3 in (e.0, e.1, (e.2, omega arith));
+    completes = λ q n. let m =
+        made q n in record { opened = m.0; reached = m.1; low = m.2; rest = []; follows = f; cost_is = sym m.3 };
+    covers = λ q c. let e = enough q.0 c.opened c.reached c.low in let z =
+        (made e.0 e.1).3 in (e.0, e.1, (e.2, omega arith));
   }
 
-  -- another node's, from the kept pairs of its successors: at each second b, with each rank at its first second after b, and a kept pair that this second is not too late for
-  pub completing_next : (Keeps : W → Pair → Type 0) (w : W) (New : Pair → Type 0) → (Final w → ⊥) → ((r : ℕ) → Permitted w r → KeptCompleting (Complete (push w r)) (Keeps (push w r))) → ((q : Pair) → New q → Open (newest w) q.0 × Reached Open after Legal node w q.0 × Low q.0 × ((r : ℕ) × (x : ℕ) × (o : Pair) × Permitted w r × (first r (after (newest w) q.0 r) ≡ Some x) × Keeps (push w r) o × (x ≤ o.0) × (cost r x + o.1 ≡ q.1))) → ((b r x : ℕ) (o : Pair) → Open (newest w) b → Reached Open after Legal node w b → Low b → Permitted w r → first r (after (newest w) b r) ≡ Some x → Keeps (push w r) o → x ≤ o.0 → (q : Pair) × New q × NoEarlierNoDearer q (b, cost r x + o.1)) → KeptCompleting (Complete w) New
+  -- another node's, from the kept pairs of its successors: at each second b, with each rank at its first second after
+  -- b, and a kept pair that this second is not too late for
+  pub completing_next : (Keeps : W → Pair → Type 0) (w : W) (New : Pair → Type 0) → (Final w → ⊥)
+      → ((r : ℕ) → Permitted w r → KeptCompleting (Complete (push w r)) (Keeps (push w r)))
+      → ((q : Pair) → New q → Open (newest w) q.0 × Reached Open after Legal node w q.0 × Low q.0
+      × ((r : ℕ) × (x : ℕ) × (o : Pair) × Permitted w r × (first r (after (newest w) q.0 r) ≡ Some x)
+      × Keeps (push w r) o × (x ≤ o.0) × (cost r x + o.1 ≡ q.1)))
+      → ((b r x : ℕ) (o : Pair) → Open (newest w) b → Reached Open after Legal node w b
+      → Low b → Permitted w r → first r (after (newest w) b r) ≡ Some x → Keeps (push w r) o
+      → x ≤ o.0 → (q : Pair) × New q × NoEarlierNoDearer q (b, cost r x + o.1))
+      → KeptCompleting (Complete w) New
   completing_next Keeps w New not_final nexts made enough = record {
     completes = λ q n.
         let m = made q n in
@@ -80,13 +112,21 @@ module _ (W : Type 0) (Open : ℕ → ℕ → Type 0) (first : ℕ → ℕ → O
           reached = m.1;
           low = m.2;
           rest = (s.0, s.1) ∷ c.rest;
-          follows = (s.3, o.0, o.1, lower s.1 s.2.0 s.6 c.low, follows_mono (push w s.0) s.1 s.2.0 c.rest s.6 c.follows);
+          follows = (
+            s.3,
+            o.0,
+            o.1,
+            lower s.1 s.2.0 s.6 c.low,
+            follows_mono
+                (push w s.0) s.1 s.2.0 c.rest s.6 c.follows,
+          );
           cost_is = let a = c.cost_is in let b = s.7 in omega arith;
         };
     covers = λ q c. by q c c.rest c.follows c.cost_is;
   }
     where
-      by : (q : Pair) → Complete w q → (ys : List Landing) → Follow w q.0 ys → cost_of cost ys ≡ q.1 → (p : Pair) × New p × NoEarlierNoDearer p q
+      by : (q : Pair) → Complete w q → (ys : List Landing) → Follow w q.0 ys → cost_of cost ys ≡ q.1
+          → (p : Pair) × New p × NoEarlierNoDearer p q
       by q c [] f e = absurd (not_final f)
       by q c (y ∷ ys) f e =
           let x = opens.least y.0 (after (newest w) q.0 y.0) y.1 f.1 f.2 in
@@ -104,17 +144,35 @@ module _ (W : Type 0) (Open : ℕ → ℕ → Type 0) (first : ℕ → ℕ → O
           (n.0, n.1, (n.2.0, let a = n.2.1 in let b = o.2.1 in omega arith))
 
   -- what follows a landing trail makes it whole
-  pub continued_whole : (xs ys : List Landing) → Legal (ranks xs) → Landed Open after xs → AllLow Low xs → Follow (node (ranks xs)) (latest_landing xs).1 ys → Legal (ranks (onto ys xs)) × Landed Open after (onto ys xs) × Final (node (ranks (onto ys xs))) × AllLow Low (onto ys xs) × (cost_of cost (onto ys xs) ≡ cost_of cost xs + cost_of cost ys)
+  pub continued_whole : (xs ys : List Landing) → Legal (ranks xs) → Landed Open after xs → AllLow Low xs
+      → Follow (node (ranks xs)) (latest_landing xs).1 ys → Legal (ranks (onto ys xs)) × Landed Open after (onto ys xs)
+      × Final (node (ranks (onto ys xs))) × AllLow Low (onto ys xs)
+      × (cost_of cost (onto ys xs) ≡ cost_of cost xs + cost_of cost ys)
   continued_whole xs [] l d a f = (l, d, f, a, let z = cost_of cost xs in omega arith)
   continued_whole xs (y ∷ ys) l d a f =
-      let d' : Landed Open after (y ∷ xs) = (f.1, subst (λ k. after k (latest_landing xs).1 y.0 ≤ y.1) (newest_last xs l) f.2, d) in
-      let r = continued_whole (y ∷ xs) ys (net.grows y.0 (ranks xs) l f.0) d' (f.3, a) (subst (λ w. Follow w y.1 ys) (sym (net.pushes y.0 (ranks xs) l)) f.4) in
+      let d' : Landed Open after (y ∷ xs) =
+      (f.1, subst (λ k. after k (latest_landing xs).1 y.0 ≤ y.1) (newest_last xs l) f.2, d) in
+      let r = continued_whole (y ∷ xs) ys (net.grows y.0 (ranks xs) l f.0) d' (f.3, a)
+      (subst (λ w. Follow w y.1 ys) (sym (net.pushes y.0 (ranks xs) l)) f.4) in
       (r.0, r.1, r.2, r.3, let e = r.4 in omega arith)
 
   -- and of a whole landing trail the rest follows its front
-  pub whole_continued : (xs ys : List Landing) → Legal (ranks (onto ys xs)) → Landed Open after (onto ys xs) → Final (node (ranks (onto ys xs))) → AllLow Low (onto ys xs) → Legal (ranks xs) × Landed Open after xs × AllLow Low xs × Follow (node (ranks xs)) (latest_landing xs).1 ys
+  pub whole_continued : (xs ys : List Landing) → Legal (ranks (onto ys xs)) → Landed Open after (onto ys xs)
+      → Final (node (ranks (onto ys xs))) → AllLow Low (onto ys xs) → Legal (ranks xs) × Landed Open after xs
+      × AllLow Low xs × Follow (node (ranks xs)) (latest_landing xs).1 ys
   whole_continued xs [] l d f a = (l, d, a, f)
   whole_continued xs (y ∷ ys) l d f a =
       let r = whole_continued (y ∷ xs) ys l d f a in
-      let s = net.shrinks y.0 (ranks xs) r.0 in
-      (s.0, r.1.2, r.2.1, (s.1, r.1.0, subst (λ k. after k (latest_landing xs).1 y.0 ≤ y.1) (sym (newest_last xs s.0)) r.1.1, r.2.0, subst (λ w. Follow w y.1 ys) (net.pushes y.0 (ranks xs) s.0) r.3))
+      let s = net.shrinks y.0 (ranks xs) r.0 in (
+        s.0,
+        r.1.2,
+        r.2.1,
+        (
+          s.1,
+          r.1.0,
+          subst (λ k. after k (latest_landing xs).1 y.0 ≤ y.1)
+              (sym (newest_last xs s.0)) r.1.1,
+          r.2.0,
+          subst (λ w. Follow w y.1 ys) (net.pushes y.0 (ranks xs) s.0) r.3,
+        ),
+      )

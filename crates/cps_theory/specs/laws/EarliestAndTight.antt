@@ -1,5 +1,6 @@
 -- A schedule is tight exactly where each flight lands at its earliest second in the order of the schedule.
-use Rattle.std.proofs.Common.{◌≡◌, ℕ, inl, inr, List, [], ◌∷◌, length, Option, Some, true, arith, sym, ap, subst, ◌∙◌, le_antisymm}
+use Rattle.std.proofs.Common.{◌≡◌, ℕ, inl, inr, List, [], ◌∷◌, length, Option, Some, true, arith, sym, ap, subst, ◌∙◌}
+use Rattle.std.proofs.Common.{le_antisymm}
 use Rattle.cps_theory.specs.RankLists.{In, IsRank}
 use Rattle.cps_theory.specs.Separation.{Landing}
 use Rattle.cps_theory.specs.Retiming.{IsFirstOpen}
@@ -22,19 +23,25 @@ heads x y xs ys e = cc
 
 pub agree_at : (t u : ℕ → ℕ) (rs : List ℕ) → at_seconds t rs ≡ at_seconds u rs → (r : ℕ) → In r rs → t r ≡ u r
 agree_at t u [] e r i = absurd i
-agree_at t u (x ∷ rs) e r (inl s) = subst (λ z. t z ≡ u z) (sym s) (ap (λ (y : Landing). y.1) (heads (x, t x) (x, u x) (at_seconds t rs) (at_seconds u rs) e))
+agree_at t u (x ∷ rs) e r (inl s) = subst (λ z. t z ≡ u z) (sym s)
+    (ap (λ (y : Landing). y.1) (heads (x, t x) (x, u x) (at_seconds t rs) (at_seconds u rs) e))
 agree_at t u (x ∷ rs) e r (inr i) = agree_at t u rs (let a : at_seconds t rs ≡ at_seconds u rs = cc in a) r i
 
-module _ (p : RankedProblem) (sound : SoundProblem p) (first : ℕ → ℕ → Option ℕ) (opens : IsFirstOpen (λ r u. p.is_open r u ≡ true) first) where
+module _ (p : RankedProblem) (sound : SoundProblem p) (first : ℕ → ℕ → Option ℕ)
+    (opens : IsFirstOpen (λ r u. p.is_open r u ≡ true) first) where
   -- a tight schedule lands its order at its earliest seconds
-  pub tight_earliest : (u : ℕ → ℕ) → Tight p u → earliest first (next_from p) (sorted u p.rules.count) ≡ Some (at_seconds u (sorted u p.rules.count))
+  pub tight_earliest : (u : ℕ → ℕ) → Tight p u
+      → earliest first (next_from p) (sorted u p.rules.count) ≡ Some (at_seconds u (sorted u p.rules.count))
   tight_earliest u t =
       let n = p.rules.count in
       let w = tighten p sound first opens u t.feasible in
-      w.4 ∙ ap Some (at_seconds_agree w.0 u (sorted u n) (λ r i. let q = sorted_in u n r i in le_antisymm (w.3 r q) (t.least w.0 w.1.feasible w.2 r q)))
+      w.4 ∙ ap Some (at_seconds_agree w.0 u (sorted u n) (λ r i. let q =
+      sorted_in u n r i in le_antisymm (w.3 r q) (t.least w.0 w.1.feasible w.2 r q)))
 
   -- and what an order lands at its earliest seconds is tight
-  pub earliest_tight : (zs : List Landing) → Legal p.rules (ranks zs) → length (ranks zs) ≡ p.rules.count → earliest first (next_from p) (ranks zs) ≡ Some zs → Tight p (second_in zs) × (sorted (second_in zs) p.rules.count ≡ ranks zs)
+  pub earliest_tight : (zs : List Landing) → Legal p.rules (ranks zs) → length (ranks zs) ≡ p.rules.count
+      → earliest first (next_from p) (ranks zs) ≡ Some zs → Tight p (second_in zs)
+      × (sorted (second_in zs) p.rules.count ≡ ranks zs)
   earliest_tight zs legal whole e =
       let n = p.rules.count in
       let rs = ranks zs in
@@ -44,15 +51,21 @@ module _ (p : RankedProblem) (sound : SoundProblem p) (first : ℕ → ℕ → O
       let landed = (earliest_lands (λ r u. p.is_open r u ≡ true) first (next_from p) opens rs zs e).0 in
       let at : at_seconds t rs ≡ zs = at_second_in zs differ in
       let f = (landing_trail_feasible p (λ r u. 0) sound zs legal landed whole).0 in
-      let d : Descends t rs = landed_descends p t sound rs pl (subst (Landed (λ r u. p.is_open r u ≡ true) (next_from p)) (sym at) landed) in
+      let d : Descends t rs = landed_descends p t sound rs pl
+      (subst (Landed (λ r u. p.is_open r u ≡ true) (next_from p)) (sym at) landed) in
       let ranked : (x : ℕ) → In x rs → IsRank n x = λ x i. in_from_one p.rules x rs pl i in
-      let s : sorted t n ≡ rs = descends_equal t (sorted t n) rs (separate p t sound f) d (λ z i. all_ranks n rs differ ranked whole z (sorted_in t n z i)) (λ z i. in_sorted t n z (ranked z i)) in
+      let s : sorted t n ≡ rs = descends_equal t (sorted t n) rs (separate p t sound f) d
+      (λ z i. all_ranks n rs differ ranked whole z (sorted_in t n z i)) (λ z i. in_sorted t n z (ranked z i)) in
       let w = tighten p sound first opens t f in
-      let same : at_seconds w.0 (sorted t n) ≡ at_seconds t (sorted t n) = some_same (at_seconds w.0 (sorted t n)) (at_seconds t (sorted t n)) (sym w.4 ∙ ap (earliest first (next_from p)) s ∙ e ∙ ap Some (sym at ∙ ap (at_seconds t) (sym s))) in
-      let agree : (r : ℕ) → IsRank n r → w.0 r ≡ t r = λ r q. agree_at w.0 t (sorted t n) same r (in_sorted t n r q) in (
+      let same : at_seconds w.0 (sorted t n) ≡ at_seconds t (sorted t n) = some_same (at_seconds w.0 (sorted t n))
+      (at_seconds t (sorted t n)) (sym w.4 ∙ ap (earliest first (next_from p)) s ∙ e
+      ∙ ap Some (sym at ∙ ap (at_seconds t) (sym s))) in
+      let agree : (r : ℕ) → IsRank n r → w.0 r ≡ t r =
+      λ r q. agree_at w.0 t (sorted t n) same r (in_sorted t n r q) in (
         record {
           feasible = f;
-          least = λ v fv sv r q. let a = w.1.least v fv (λ x y qx qy. let g = w.2 x y qx qy in let h = sv x y qx qy in (λ lt. h.0 (g.1 lt), λ lt. g.0 (h.1 lt))) r q in let b = agree r q in omega arith;
+          least = λ v fv sv r q. let a = w.1.least v fv (λ x y qx qy. let g = w.2 x y qx qy in let h =
+              sv x y qx qy in (λ lt. h.0 (g.1 lt), λ lt. g.0 (h.1 lt))) r q in let b = agree r q in omega arith;
         },
         s,
       )

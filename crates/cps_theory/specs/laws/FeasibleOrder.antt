@@ -1,11 +1,14 @@
 -- A feasible schedule, said pair by pair, is one whose seconds land a legal order of all flights.
-use Rattle.std.proofs.Common.{ap₂, ◌≡◌, ◌≢◌, ℕ, zero, suc, ◌+◌, ◌<◌, ◌≤◌, ◌⊎◌, inl, inr, List, [], ◌∷◌, ◌++◌, length, true, ltb, nat_lt, arith, refl, sym, ap, subst, ◌∙◌, append_assoc, le_trans}
+use Rattle.std.proofs.Common.{ap₂, ◌≡◌, ◌≢◌, ℕ, zero, suc, ◌+◌, ◌<◌, ◌≤◌, ◌⊎◌, inl, inr, List, [], ◌∷◌, ◌++◌, length}
+use Rattle.std.proofs.Common.{true, ltb, nat_lt, arith, refl, sym, ap, subst, ◌∙◌, append_assoc, le_trans}
 use Rattle.cps_theory.specs.RankLists.{Distinct, In, IsRank, upto}
 use Rattle.cps_theory.specs.LandingTrail.{Landed, cost_of, latest_landing, ranks}
 use Rattle.cps_theory.specs.LegalPrefix.{EachFits}
-use Rattle.cps_theory.specs.Feasible.{Feasible, LandsAllRanks, RankedProblem, SoundProblem, at_seconds, earlier, next_from, total}
+use Rattle.cps_theory.specs.Feasible.{Feasible, LandsAllRanks, RankedProblem, SoundProblem, at_seconds, earlier}
+use Rattle.cps_theory.specs.Feasible.{next_from, total}
 use Rattle.cps_theory.specs.laws.FrozenFront.{each_fits_distinct}
-use Rattle.cps_theory.specs.laws.LandingOrder.{sorted, Descends, sorted_in, in_sorted, length-sorted, sorted_descends, descends_distinct, descends_place}
+use Rattle.cps_theory.specs.laws.LandingOrder.{sorted, Descends, sorted_in, in_sorted, length-sorted, sorted_descends}
+use Rattle.cps_theory.specs.laws.LandingOrder.{descends_distinct, descends_place}
 use Rattle.cps_theory.specs.laws.LegalPrefix.{legal_each_fits, prefix_legal, in_from_one}
 use Rattle.cps_theory.specs.laws.Members.{in_middle}
 use Rattle.cps_theory.specs.laws.RankCounts.{count, count_is}
@@ -17,13 +20,17 @@ ranks_at t [] = refl
 ranks_at t (r ∷ rs) = ap (λ l. r ∷ l) (ranks_at t rs)
 
 -- landings of different ranks are those at the seconds that they show
-pub at_seconds_agree : (t t' : ℕ → ℕ) (rs : List ℕ) → ((r : ℕ) → In r rs → t r ≡ t' r) → at_seconds t rs ≡ at_seconds t' rs
+pub at_seconds_agree : (t t' : ℕ → ℕ) (rs : List ℕ) → ((r : ℕ) → In r rs → t r ≡ t' r)
+    → at_seconds t rs ≡ at_seconds t' rs
 at_seconds_agree t t' [] h = refl
-at_seconds_agree t t' (r ∷ rs) h = ap₂ (λ u xs. (r, u) ∷ xs) (h r (inl refl)) (at_seconds_agree t t' rs (λ x i. h x (inr i)))
+at_seconds_agree t t' (r ∷ rs) h =
+    ap₂ (λ u xs. (r, u) ∷ xs) (h r (inl refl)) (at_seconds_agree t t' rs (λ x i. h x (inr i)))
 
 -- how many land earlier, counted over any list of all ranks
-pub earlier_in : (n : ℕ) (t : ℕ → ℕ) (r : ℕ) (rs : List ℕ) → Distinct rs → ((x : ℕ) → In x rs → IsRank n x) → length rs ≡ n → earlier n t r ≡ count (λ q. ltb (t q) (t r)) rs
-earlier_in n t r rs d in' e = count_is (λ q. nat_lt (t q) (t r)) (upto n) ∙ sym (count_ranks (λ q. ltb (t q) (t r)) n rs d in' e)
+pub earlier_in : (n : ℕ) (t : ℕ → ℕ) (r : ℕ) (rs : List ℕ) → Distinct rs → ((x : ℕ) → In x rs → IsRank n x)
+    → length rs ≡ n → earlier n t r ≡ count (λ q. ltb (t q) (t r)) rs
+earlier_in n t r rs d in' e = count_is (λ q. nat_lt (t q) (t r)) (upto n)
+    ∙ sym (count_ranks (λ q. ltb (t q) (t r)) n rs d in' e)
 
 module _ (p : RankedProblem) (t : ℕ → ℕ) (sound : SoundProblem p) where
   abbrev LandsAt : List ℕ → Type 0
@@ -41,7 +48,11 @@ module _ (p : RankedProblem) (t : ℕ → ℕ) (sound : SoundProblem p) where
 
   landed_at : (x : ℕ) (rs : List ℕ) → LandsAt rs → In x rs → (p.is_open x (t x) ≡ true) × (p.start x ≤ t x)
   landed_at x [] l i = absurd i
-  landed_at x (r ∷ rs) l (inl e) = subst (λ y. (p.is_open y (t y) ≡ true) × (p.start y ≤ t y)) (sym e) (l.0, let a = from_last (latest_landing (at_seconds t rs)).0 (latest_landing (at_seconds t rs)).1 r in le_trans a l.1)
+  landed_at x (r ∷ rs) l (inl e) = subst (λ y. (p.is_open y (t y) ≡ true) × (p.start y ≤ t y)) (sym e) (
+    l.0,
+    let a =
+        from_last (latest_landing (at_seconds t rs)).0 (latest_landing (at_seconds t rs)).1 r in le_trans a l.1,
+  )
   landed_at x (r ∷ rs) l (inr i) = landed_at x rs l.2 i
 
   -- each earlier one is apart from the latest
@@ -63,28 +74,39 @@ module _ (p : RankedProblem) (t : ℕ → ℕ) (sound : SoundProblem p) where
   landed_descends [] pl l = tt
   landed_descends (r ∷ rs) pl l = (λ y i. below_head y r rs pl.1 l i, landed_descends rs pl.1 l.2)
 
-  apart_in : (f g : ℕ) (rs : List ℕ) → EachFits p.rules rs → LandsAt rs → In f rs → In g rs → f ≢ g → t f ≤ t g → t f + p.apart f g ≤ t g
+  apart_in : (f g : ℕ) (rs : List ℕ) → EachFits p.rules rs → LandsAt rs → In f rs → In g rs
+      → f ≢ g → t f ≤ t g → t f + p.apart f g ≤ t g
   apart_in f g [] pl l i j ne le = absurd i
   apart_in f g (r ∷ rs) pl l (inl e) (inl e') ne le = absurd (ne (e ∙ sym e'))
-  apart_in f g (r ∷ rs) pl l (inl e) (inr j) ne le = let a = below_head g r rs pl.1 l j in absurd (let s = ap t e in omega arith)
-  apart_in f g (r ∷ rs) pl l (inr i) (inl e) ne le = subst (λ z. t f + p.apart f z ≤ t z) (sym e) (apart_head f r rs pl.1 l i)
+  apart_in f g (r ∷ rs) pl l (inl e) (inr j) ne le = let a =
+      below_head g r rs pl.1 l j in absurd (let s = ap t e in omega arith)
+  apart_in f g (r ∷ rs) pl l (inr i) (inl e) ne le =
+      subst (λ z. t f + p.apart f z ≤ t z) (sym e) (apart_head f r rs pl.1 l i)
   apart_in f g (r ∷ rs) pl l (inr i) (inr j) ne le = apart_in f g rs pl.1 l.2 i j ne le
 
-  order_in : (f g : ℕ) (rs : List ℕ) → EachFits p.rules rs → LandsAt rs → In g rs → p.rules.before f g ≡ true → t f < t g
+  order_in : (f g : ℕ) (rs : List ℕ) → EachFits p.rules rs → LandsAt rs → In g rs → p.rules.before f g ≡ true
+      → t f < t g
   order_in f g [] pl l i b = absurd i
-  order_in f g (r ∷ rs) pl l (inl e) b = subst (λ z. t f < t z) (sym e) (below_head f r rs pl.1 l (pl.0.after f (subst (λ z. p.rules.before f z ≡ true) e b)))
+  order_in f g (r ∷ rs) pl l (inl e) b = subst (λ z. t f < t z) (sym e)
+      (below_head f r rs pl.1 l (pl.0.after f (subst (λ z. p.rules.before f z ≡ true) e b)))
   order_in f g (r ∷ rs) pl l (inr i) b = order_in f g rs pl.1 l.2 i b
 
   -- the place of each
-  place_in : (all : List ℕ) → Descends t all → (front rs : List ℕ) → all ≡ front ++ rs → EachFits p.rules rs → (r : ℕ) → In r rs → (r ≤ suc (count (λ q. ltb (t q) (t r)) all) + p.rules.most) × (suc (count (λ q. ltb (t q) (t r)) all) ≤ r + p.rules.back r)
+  place_in : (all : List ℕ) → Descends t all → (front rs : List ℕ) → all ≡ front ++ rs → EachFits p.rules rs
+      → (r : ℕ) → In r rs → (r ≤ suc (count (λ q. ltb (t q) (t r)) all) + p.rules.most)
+      × (suc (count (λ q. ltb (t q) (t r)) all) ≤ r + p.rules.back r)
   place_in all d front [] e pl r i = absurd i
-  place_in all d front (x ∷ rs) e pl r (inr i) = place_in all d (front ++ x ∷ []) rs (e ∙ sym (append_assoc front (x ∷ []) rs)) pl.1 r i
+  place_in all d front (x ∷ rs) e pl r (inr i) =
+      place_in all d (front ++ x ∷ []) rs (e ∙ sym (append_assoc front (x ∷ []) rs)) pl.1 r i
   place_in all d front (x ∷ rs) e pl r (inl s) =
-      let here : count (λ q. ltb (t q) (t x)) all ≡ length rs = ap (count (λ q. ltb (t q) (t x))) e ∙ descends_place t front x rs (subst (Descends t) e d) in
+      let here : count (λ q. ltb (t q) (t x)) all ≡ length rs =
+      ap (count (λ q. ltb (t q) (t x))) e ∙ descends_place t front x rs (subst (Descends t) e d) in
       let a = pl.0.not_early in
       let b = pl.0.not_late in
-      let both : (x ≤ suc (count (λ q. ltb (t q) (t x)) all) + p.rules.most) × (suc (count (λ q. ltb (t q) (t x)) all) ≤ x + p.rules.back x) = (omega arith, omega arith) in
-      subst (λ z. (z ≤ suc (count (λ q. ltb (t q) (t z)) all) + p.rules.most) × (suc (count (λ q. ltb (t q) (t z)) all) ≤ z + p.rules.back z)) (sym s) both
+      let both : (x ≤ suc (count (λ q. ltb (t q) (t x)) all) + p.rules.most)
+      × (suc (count (λ q. ltb (t q) (t x)) all) ≤ x + p.rules.back x) = (omega arith, omega arith) in
+      subst (λ z. (z ≤ suc (count (λ q. ltb (t q) (t z)) all) + p.rules.most)
+      × (suc (count (λ q. ltb (t q) (t z)) all) ≤ z + p.rules.back z)) (sym s) both
 
   pub lands_feasible : (rs : List ℕ) → LandsAllRanks p t rs → Feasible p t
   lands_feasible rs l =
@@ -99,37 +121,45 @@ module _ (p : RankedProblem) (t : ℕ → ℕ) (sound : SoundProblem p) where
         started = λ r q. (landed_at r rs l.landed (has r q)).1;
         separated = λ f g qf qg ne le. apart_in f g rs pl l.landed (has f qf) (has g qg) ne le;
         in_order = λ f g qf qg b. order_in f g rs pl l.landed (has g qg) b;
-        not_early = λ r q. subst (λ m. r ≤ suc m + p.rules.most) (sym (earlier_in n t r rs d in' l.whole)) (place r (has r q)).0;
-        not_late = λ r q. subst (λ m. suc m ≤ r + p.rules.back r) (sym (earlier_in n t r rs d in' l.whole)) (place r (has r q)).1;
+        not_early = λ r q. subst (λ m. r ≤ suc m + p.rules.most) (sym (earlier_in n t r rs d in' l.whole))
+            (place r (has r q)).0;
+        not_late = λ r q. subst (λ m. suc m ≤ r + p.rules.back r) (sym (earlier_in n t r rs d in' l.whole))
+            (place r (has r q)).1;
       }
 
   -- ---- from the pairs to the order by seconds
 
   module _ (f : Feasible p t) where
     apart_seconds : (a b : ℕ) → IsRank p.rules.count a → IsRank p.rules.count b → a ≢ b → t a ≢ t b
-    apart_seconds a b qa qb ne e = let s = f.separated a b qa qb ne (omega arith) in let o = sound.positive a b in omega arith
+    apart_seconds a b qa qb ne e = let s = f.separated a b qa qb ne (omega arith) in let o =
+        sound.positive a b in omega arith
 
     descends : Descends t (sorted t p.rules.count)
     descends = sorted_descends t p.rules.count apart_seconds
 
     -- what lands before an element of the order stands behind it
-    behind : (front : List ℕ) (r : ℕ) (rs : List ℕ) → Descends t (front ++ r ∷ rs) → (x : ℕ) → In x (front ++ r ∷ rs) → t x < t r → In x rs
+    behind : (front : List ℕ) (r : ℕ) (rs : List ℕ) → Descends t (front ++ r ∷ rs) → (x : ℕ)
+        → In x (front ++ r ∷ rs) → t x < t r → In x rs
     behind [] r rs d x (inl e) lt = absurd (let s = ap t e in omega arith)
     behind [] r rs d x (inr i) lt = i
-    behind (y ∷ front) r rs d x (inl e) lt = absurd (let a = d.0 r (in_middle r front rs) in let s = ap t e in omega arith)
+    behind (y ∷ front) r rs d x (inl e) lt = absurd (let a = d.0 r (in_middle r front rs) in let s =
+        ap t e in omega arith)
     behind (y ∷ front) r rs d x (inr i) lt = behind front r rs d.1 x i lt
 
     tail_descends : (front rs : List ℕ) → Descends t (front ++ rs) → Descends t rs
     tail_descends [] rs d = d
     tail_descends (y ∷ front) rs d = tail_descends front rs d.1
 
-    from_next : (rs : List ℕ) (r : ℕ) → ((x : ℕ) → In x (r ∷ rs) → IsRank p.rules.count x) → Descends t (r ∷ rs) → next_from p (latest_landing (at_seconds t rs)).0 (latest_landing (at_seconds t rs)).1 r ≤ t r
+    from_next : (rs : List ℕ) (r : ℕ) → ((x : ℕ) → In x (r ∷ rs) → IsRank p.rules.count x)
+        → Descends t (r ∷ rs) → next_from p (latest_landing (at_seconds t rs)).0
+        (latest_landing (at_seconds t rs)).1 r ≤ t r
     from_next [] r in' d = f.started r (in' r (inl refl))
     from_next (zero ∷ rs) r in' d = absurd (let a = (in' 0 (inr (inl refl))).0 in omega arith)
     from_next (suc l ∷ rs) r in' d =
         let lt = d.0 (suc l) (inl refl) in
         let qr = in' r (inl refl) in
-        let a = f.separated (suc l) r (in' (suc l) (inr (inl refl))) qr (λ e. let s = ap t e in omega arith) (omega arith) in
+        let a = f.separated (suc l) r (in' (suc l) (inr (inl refl))) qr (λ e. let s =
+        ap t e in omega arith) (omega arith) in
         let b = f.started r qr in
         omega arith
 
@@ -143,7 +173,8 @@ module _ (p : RankedProblem) (t : ℕ → ℕ) (sound : SoundProblem p) where
         let rest = walk (front ++ r ∷ []) rs (e ∙ sym (append_assoc front (r ∷ []) rs)) in
         let dr = tail_descends front (r ∷ rs) d in
         let place : earlier n t r ≡ length rs =
-        earlier_in n t r (sorted t n) (descends_distinct t (sorted t n) descends) (sorted_in t n) (length-sorted t n) ∙ ap (count (λ x. ltb (t x) (t r))) e ∙ descends_place t front r rs d in
+        earlier_in n t r (sorted t n) (descends_distinct t (sorted t n) descends) (sorted_in t n) (length-sorted t n)
+        ∙ ap (count (λ x. ltb (t x) (t r))) e ∙ descends_place t front r rs d in
         let early = f.not_early r q in
         let late = f.not_late r q in (
           (
@@ -153,7 +184,8 @@ module _ (p : RankedProblem) (t : ℕ → ℕ) (sound : SoundProblem p) where
               is_new = λ i. let a = dr.0 r i in omega arith;
               not_early = omega arith;
               not_late = omega arith;
-              after = λ a b. let qa = sound.ranked a r b in behind front r rs d a (subst (In a) e (in_sorted t n a qa)) (f.in_order a r qa q b);
+              after = λ a b. let qa = sound.ranked a r b in behind front r rs d a (subst (In a) e (in_sorted t n a qa))
+                  (f.in_order a r qa q b);
             },
             rest.0,
           ),
@@ -169,7 +201,12 @@ module _ (p : RankedProblem) (t : ℕ → ℕ) (sound : SoundProblem p) where
         let n = p.rules.count in
         let w = walk [] (sorted t n) refl in
         record {
-          legal = prefix_legal p.rules sound.low (sorted t n) (record { placed = w.0; none_due = λ x one le. let l = length-sorted t n in in_sorted t n x (one, omega arith) });
+          legal = prefix_legal p.rules sound.low (sorted t n)
+              (record {
+                placed = w.0;
+                none_due =
+                    λ x one le. let l = length-sorted t n in in_sorted t n x (one, omega arith);
+              });
           whole = length-sorted t n;
           landed = w.1;
         }
@@ -180,16 +217,20 @@ module _ (p : RankedProblem) (t : ℕ → ℕ) (sound : SoundProblem p) where
   cost_at cost [] = refl
   cost_at cost (r ∷ rs) = let a = cost_at cost rs in omega arith
 
-  pub cost_all : (cost : ℕ → ℕ → ℕ) (rs : List ℕ) → LandsAllRanks p t rs → cost_of cost (at_seconds t rs) ≡ total (λ r. cost r (t r)) (upto p.rules.count)
+  pub cost_all : (cost : ℕ → ℕ → ℕ) (rs : List ℕ) → LandsAllRanks p t rs
+      → cost_of cost (at_seconds t rs) ≡ total (λ r. cost r (t r)) (upto p.rules.count)
   cost_all cost rs l =
       let pl = legal_each_fits p.rules rs l.legal in
-      cost_at cost rs ∙ total_ranks (λ r. cost r (t r)) p.rules.count rs (each_fits_distinct p.rules rs pl) (λ x i. in_from_one p.rules x rs pl i) l.whole
+      cost_at cost rs ∙ total_ranks (λ r. cost r (t r)) p.rules.count rs (each_fits_distinct p.rules rs pl)
+      (λ x i. in_from_one p.rules x rs pl i) l.whole
 
   -- the last second is the greatest
-  pub last_greatest : (rs : List ℕ) → LandsAllRanks p t rs → (r : ℕ) → IsRank p.rules.count r → t r ≤ (latest_landing (at_seconds t rs)).1
+  pub last_greatest : (rs : List ℕ) → LandsAllRanks p t rs → (r : ℕ) → IsRank p.rules.count r
+      → t r ≤ (latest_landing (at_seconds t rs)).1
   last_greatest rs l r q =
       let pl = legal_each_fits p.rules rs l.legal in
-      go rs (landed_descends rs pl l.landed) (all_ranks p.rules.count rs (each_fits_distinct p.rules rs pl) (λ x i. in_from_one p.rules x rs pl i) l.whole r q)
+      go rs (landed_descends rs pl l.landed) (all_ranks p.rules.count rs (each_fits_distinct p.rules rs pl)
+      (λ x i. in_from_one p.rules x rs pl i) l.whole r q)
     where
       go : (rs : List ℕ) → Descends t rs → In r rs → t r ≤ (latest_landing (at_seconds t rs)).1
       go [] d i = absurd i

@@ -1,12 +1,15 @@
--- Where a schedule is feasible there is a first best one: the earliest landings of the first of the cheapest legal orders.
-use Rattle.std.proofs.Common.{◌≡◌, ℕ, ◌<◌, ◌≤◌, ◌⊎◌, inl, inr, List, [], ◌∷◌, length, Option, Some, None, true, arith, refl, sym, ap, subst, ◌∙◌}
+-- Where a schedule is feasible there is a first best one: the earliest landings of the first of the cheapest legal
+-- orders.
+use Rattle.std.proofs.Common.{◌≡◌, ℕ, ◌<◌, ◌≤◌, ◌⊎◌, inl, inr, List, [], ◌∷◌, length, Option, Some, None, true, arith}
+use Rattle.std.proofs.Common.{refl, sym, ap, subst, ◌∙◌}
 use Rattle.std.proofs.lemmas.Bool.{cases_order}
 use Rattle.cps_theory.specs.Separation.{Landing}
 use Rattle.cps_theory.specs.Retiming.{IsFirstOpen}
 use Rattle.cps_theory.specs.LandingTrail.{latest_landing, pair_of, ranks}
 use Rattle.cps_theory.specs.Labels.{NeverCheaper, NoWorse, Pair}
 use Rattle.cps_theory.specs.LegalPrefix.{Legal}
-use Rattle.cps_theory.specs.Feasible.{Feasible, RankedProblem, SoundProblem, Tight, at_seconds, earliest, next_from, second_and_cost, second_in}
+use Rattle.cps_theory.specs.Feasible.{Feasible, RankedProblem, SoundProblem, Tight, at_seconds, earliest, next_from}
+use Rattle.cps_theory.specs.Feasible.{second_and_cost, second_in}
 use Rattle.cps_theory.specs.CompletingPairs.{NoGreaterOrder, onto}
 use Rattle.cps_theory.specs.FirstBest.{FirstBest}
 use Rattle.cps_theory.specs.laws.Continuations.{no_later_cost, onto_twice}
@@ -25,7 +28,8 @@ no_greater_total [] ys = inl tt
 no_greater_total (x ∷ xs) [] = inr tt
 no_greater_total (x ∷ xs) (y ∷ ys) = go (no_greater_total xs ys)
   where
-    go : NoGreaterOrder xs ys ⊎ NoGreaterOrder ys xs → NoGreaterOrder (x ∷ xs) (y ∷ ys) ⊎ NoGreaterOrder (y ∷ ys) (x ∷ xs)
+    go : NoGreaterOrder xs ys ⊎ NoGreaterOrder ys xs → NoGreaterOrder (x ∷ xs) (y ∷ ys)
+        ⊎ NoGreaterOrder (y ∷ ys) (x ∷ xs)
     go rest = elim (cases_order x y) [
       | inl e ↦ elim rest [ inl a ↦ inl (inr (e, a)) | inr b ↦ inr (inr (sym e, b)) ]
       | inr (inl lt) ↦ inl (inl lt)
@@ -41,7 +45,9 @@ no_greater_chain (x ∷ xs) (y ∷ ys) (z ∷ zs) (inl a) (inr b) = inl (let e =
 no_greater_chain (x ∷ xs) (y ∷ ys) (z ∷ zs) (inr a) (inl b) = inl (let e = a.0 in omega arith)
 no_greater_chain (x ∷ xs) (y ∷ ys) (z ∷ zs) (inr a) (inr b) = inr (a.0 ∙ b.0, no_greater_chain xs ys zs a.1 b.1)
 
-module _ (p : RankedProblem) (sound : SoundProblem p) (first : ℕ → ℕ → Option ℕ) (opens : IsFirstOpen (λ r u. p.is_open r u ≡ true) first) (cost : ℕ → ℕ → ℕ) (dearer : NeverCheaper cost) (value : Pair → ℕ) (mono : (a b : Pair) → NoWorse a b → value a ≤ value b) where
+module _ (p : RankedProblem) (sound : SoundProblem p) (first : ℕ → ℕ → Option ℕ)
+    (opens : IsFirstOpen (λ r u. p.is_open r u ≡ true) first) (cost : ℕ → ℕ → ℕ) (dearer : NeverCheaper cost)
+    (value : Pair → ℕ) (mono : (a b : Pair) → NoWorse a b → value a ≤ value b) where
   -- a legal order, latest first, that can land
   record LandsEarliest (rs : List ℕ) : Type 0 where
     pub legal : Legal p.rules rs
@@ -49,9 +55,11 @@ module _ (p : RankedProblem) (sound : SoundProblem p) (first : ℕ → ℕ → O
     pub landings_are : earliest first (next_from p) rs ≡ Some landings
 
   decide_lands : (rs : List ℕ) → Decided (LandsEarliest rs)
-  decide_lands rs = with_decided (decide_legal p.rules sound.ranked rs) (λ l. by l (earliest first (next_from p) rs) refl) (λ h. h.legal)
+  decide_lands rs = with_decided (decide_legal p.rules sound.ranked rs)
+      (λ l. by l (earliest first (next_from p) rs) refl) (λ h. h.legal)
     where
-      by : Legal p.rules rs → (o : Option (List Landing)) → earliest first (next_from p) rs ≡ o → Decided (LandsEarliest rs)
+      by : Legal p.rules rs → (o : Option (List Landing)) → earliest first (next_from p) rs ≡ o
+          → Decided (LandsEarliest rs)
       by l (Some zs) e = inl (record { legal = l; landings = zs; landings_are = e })
       by l None e = inr (λ h. absurd (let x : None ≡ Some h.landings = sym e ∙ h.landings_are in cc))
 
@@ -70,7 +78,11 @@ module _ (p : RankedProblem) (sound : SoundProblem p) (first : ℕ → ℕ → O
   before_total : (rs os : List ℕ) → Before rs os ⊎ Before os rs
   unfolding Before
   before_total rs os = elim (cases_order (worth rs) (worth os)) [
-    | inl e ↦ elim (no_greater_total (onto rs []) (onto os [])) [ inl a ↦ inl (inr (e, a)) | inr b ↦ inr (inr (sym e, b)) ]
+    | inl e ↦ elim (no_greater_total (onto rs []) (onto os [])) [
+      | inl a ↦ inl (inr (e, a))
+      | inr b ↦
+          inr (inr (sym e, b))
+    ]
     | inr (inl lt) ↦ inl (inl lt)
     | inr (inr gt) ↦ inr (inl gt)
   ]
@@ -80,7 +92,8 @@ module _ (p : RankedProblem) (sound : SoundProblem p) (first : ℕ → ℕ → O
   before_chain rs os qs (inl a) (inl b) = inl (omega arith)
   before_chain rs os qs (inl a) (inr b) = inl (let e = b.0 in omega arith)
   before_chain rs os qs (inr a) (inl b) = inl (let e = a.0 in omega arith)
-  before_chain rs os qs (inr a) (inr b) = inr (a.0 ∙ b.0, no_greater_chain (onto rs []) (onto os []) (onto qs []) a.1 b.1)
+  before_chain rs os qs (inr a) (inr b) =
+      inr (a.0 ∙ b.0, no_greater_chain (onto rs []) (onto os []) (onto qs []) a.1 b.1)
 
   -- the order of a feasible map lands at its earliest seconds, which are worth no more
   record Ordered (t : ℕ → ℕ) : Type 0 where
@@ -101,12 +114,16 @@ module _ (p : RankedProblem) (sound : SoundProblem p) (first : ℕ → ℕ → O
   feasible_ordered t f =
       let rs = sorted t p.rules.count in
       let l = feasible_lands p t sound f in
-      let e = earliest_least (λ r u. p.is_open r u ≡ true) first (next_from p) opens (next_later p) (at_seconds t rs) l.landed in
-      let is : earliest first (next_from p) rs ≡ Some e.0 = ap (earliest first (next_from p)) (sym (ranks_at t rs)) ∙ e.1 in
-      let le = mono (pair_of cost e.0) (pair_of cost (at_seconds t rs)) (no_later_latest e.0 (at_seconds t rs) e.2, no_later_cost cost dearer e.0 (at_seconds t rs) e.2) in
+      let e = earliest_least (λ r u. p.is_open r u ≡ true) first (next_from p) opens (next_later p)
+      (at_seconds t rs) l.landed in
+      let is : earliest first (next_from p) rs ≡ Some e.0 =
+      ap (earliest first (next_from p)) (sym (ranks_at t rs)) ∙ e.1 in
+      let le = mono (pair_of cost e.0) (pair_of cost (at_seconds t rs))
+      (no_later_latest e.0 (at_seconds t rs) e.2, no_later_cost cost dearer e.0 (at_seconds t rs) e.2) in
       record {
         lands = record { legal = l.legal; landings = e.0; landings_are = is };
-        cheap = let a : worth rs ≡ value (pair_of cost e.0) = ap worth_of is in let b = ap value (pair_all p cost sound t rs l) in omega arith;
+        cheap = let a : worth rs ≡ value (pair_of cost e.0) = ap worth_of is in let b =
+            ap value (pair_all p cost sound t rs l) in omega arith;
       }
 
   -- the value of a tight map is what its order is worth
@@ -114,10 +131,12 @@ module _ (p : RankedProblem) (sound : SoundProblem p) (first : ℕ → ℕ → O
   unfolding worth
   tight_worth t tight =
       let rs = sorted t p.rules.count in
-      ap worth_of (tight_earliest p sound first opens t tight) ∙ ap value (pair_all p cost sound t rs (feasible_lands p t sound tight.feasible))
+      ap worth_of (tight_earliest p sound first opens t tight)
+      ∙ ap value (pair_all p cost sound t rs (feasible_lands p t sound tight.feasible))
 
   -- the earliest landings of the first of the cheapest orders
-  built : LeastEnd p.rules.count LandsEarliest decide_lands Before before_total before_chain p.rules.count (λ rs. rs) → (u : ℕ → ℕ) × FirstBest p (λ v. value (second_and_cost cost p.rules.count v)) u
+  built : LeastEnd p.rules.count LandsEarliest decide_lands Before before_total before_chain p.rules.count (λ rs. rs)
+      → (u : ℕ → ℕ) × FirstBest p (λ v. value (second_and_cost cost p.rules.count v)) u
   unfolding Before worth
   built a =
       let n = p.rules.count in
@@ -147,8 +166,10 @@ module _ (p : RankedProblem) (sound : SoundProblem p) (first : ℕ → ℕ → O
               let b = a.least (sorted v n) (sorted_ranks v) o.lands in
               let w = tight_worth v tv in
               let c = bv.least u tf.0 in
-              let q_is : onto rs [] ≡ qs = ap (λ l. onto l []) (sym (in_order_sorted p u sound tf.0 qs oq ∙ et.1 ∙ lands.1)) ∙ onto_twice qs [] in
-              let o_is : onto (sorted v n) [] ≡ os = ap (λ l. onto l []) (sym (in_order_sorted p v sound bv.feasible os ov)) ∙ onto_twice os [] in
+              let q_is : onto rs [] ≡ qs =
+              ap (λ l. onto l []) (sym (in_order_sorted p u sound tf.0 qs oq ∙ et.1 ∙ lands.1)) ∙ onto_twice qs [] in
+              let o_is : onto (sorted v n) [] ≡ os =
+              ap (λ l. onto l []) (sym (in_order_sorted p v sound bv.feasible os ov)) ∙ onto_twice os [] in
               elim b [
                 | inl lt ↦ absurd (omega arith)
                 | inr e ↦ subst (λ l. NoGreaterOrder l os) q_is (subst (λ l. NoGreaterOrder (onto rs []) l) o_is e.1)
@@ -157,8 +178,10 @@ module _ (p : RankedProblem) (sound : SoundProblem p) (first : ℕ → ℕ → O
       )
 
   -- where a map is feasible there is a first best one
-  pub first_best_exists : (t : ℕ → ℕ) → Feasible p t → (u : ℕ → ℕ) × FirstBest p (λ v. value (second_and_cost cost p.rules.count v)) u
-  first_best_exists t f = elim (least_end p.rules.count LandsEarliest decide_lands Before before_total before_chain p.rules.count (λ rs. rs)) [
-    | inl a ↦ built a
-    | inr none ↦ absurd (none (sorted t p.rules.count) (sorted_ranks t) (feasible_ordered t f).lands)
-  ]
+  pub first_best_exists : (t : ℕ → ℕ) → Feasible p t → (u : ℕ → ℕ)
+      × FirstBest p (λ v. value (second_and_cost cost p.rules.count v)) u
+  first_best_exists t f = elim
+      (least_end p.rules.count LandsEarliest decide_lands Before before_total before_chain p.rules.count (λ rs. rs)) [
+        | inl a ↦ built a
+        | inr none ↦ absurd (none (sorted t p.rules.count) (sorted_ranks t) (feasible_ordered t f).lands)
+      ]

@@ -1,5 +1,6 @@
 -- Least choices build the first best schedule for the makespan, and for the delay.
-use Rattle.std.proofs.Common.{◌≡◌, ℕ, zero, suc, zero-le, Bool, nat_le, ◌+◌, ◌≤◌, List, [], ◌∷◌, length, Option, Some, true, arith, refl, le_trans}
+use Rattle.std.proofs.Common.{◌≡◌, ℕ, zero, suc, zero-le, Bool, nat_le, ◌+◌, ◌≤◌, List, [], ◌∷◌, length, Option, Some}
+use Rattle.std.proofs.Common.{true, arith, refl, le_trans}
 use Rattle.std.proofs.lemmas.Bool.{leb-true, le-leb}
 use Rattle.cps_theory.specs.Separation.{Landing}
 use Rattle.cps_theory.specs.Retiming.{IsFirstOpen}
@@ -7,17 +8,20 @@ use Rattle.cps_theory.specs.LandingTrail.{Landed, cost_of, latest_landing, ranks
 use Rattle.cps_theory.specs.Labels.{NeverCheaper, Pair}
 use Rattle.cps_theory.specs.LegalPrefix.{Legal}
 use Rattle.cps_theory.specs.Network.{Network}
-use Rattle.cps_theory.specs.Feasible.{Feasible, RankedProblem, SoundProblem, earliest, next_from, second_and_cost, second_in}
+use Rattle.cps_theory.specs.Feasible.{Feasible, RankedProblem, SoundProblem, earliest, next_from, second_and_cost}
+use Rattle.cps_theory.specs.Feasible.{second_in}
 use Rattle.cps_theory.specs.CompletingPairs.{AllLow, Completes, KeptCompleting}
 use Rattle.cps_theory.specs.FirstBest.{BuiltByLeastChoices, FirstBest}
 use Rattle.cps_theory.specs.laws.FirstBest.{built_first}
 
-module _ (p : RankedProblem) (sound : SoundProblem p) (first : ℕ → ℕ → Option ℕ) (opens : IsFirstOpen (λ r u. p.is_open r u ≡ true) first) where
+module _ (p : RankedProblem) (sound : SoundProblem p) (first : ℕ → ℕ → Option ℕ)
+    (opens : IsFirstOpen (λ r u. p.is_open r u ≡ true) first) where
   pub low_true : (v : ℕ) (xs : List Landing) → AllLow (λ t. t ≤ v) xs → AllLow (λ t. nat_le t v ≡ true) xs
   low_true v [] a = tt
   low_true v (x ∷ xs) a = (le-leb x.1 v a.0, low_true v xs a.1)
 
-  pub landed_low : (v : ℕ) (xs : List Landing) → Legal p.rules (ranks xs) → Landed (λ r u. p.is_open r u ≡ true) (next_from p) xs → (latest_landing xs).1 ≤ v → AllLow (λ t. t ≤ v) xs
+  pub landed_low : (v : ℕ) (xs : List Landing) → Legal p.rules (ranks xs)
+      → Landed (λ r u. p.is_open r u ≡ true) (next_from p) xs → (latest_landing xs).1 ≤ v → AllLow (λ t. t ≤ v) xs
   landed_low v [] l d le = tt
   landed_low v (x ∷ []) l d le = (le, tt)
   landed_low v (x ∷ (zero, u) ∷ xs) l d le = absurd (let a = l.1.0.fits.from_one in omega arith)
@@ -35,15 +39,38 @@ module _ (p : RankedProblem) (sound : SoundProblem p) (first : ℕ → ℕ → O
   all_low [] = tt
   all_low (x ∷ xs) = (refl, all_low xs)
 
-  module _ (W : Type 0) (node : List ℕ → W) (stage : W → ℕ) (staged : (rs : List ℕ) → stage (node rs) ≡ length rs) (Permitted : W → ℕ → Type 0) (push : W → ℕ → W) (newest : W → ℕ) (net : Network W (Legal p.rules) node Permitted push newest) (Keeps : W → Pair → Type 0) (v : ℕ) where
+  module _ (W : Type 0) (node : List ℕ → W) (stage : W → ℕ) (staged : (rs : List ℕ) → stage (node rs) ≡ length rs)
+      (Permitted : W → ℕ → Type 0) (push : W → ℕ → W) (newest : W
+      → ℕ) (net : Network W (Legal p.rules) node Permitted push newest) (Keeps : W → Pair → Type 0) (v : ℕ) where
     -- for the makespan the seconds are at most v, and no landing costs
-    pub built_first_makespan : ((rs : List ℕ) (r : ℕ) → Legal p.rules (r ∷ rs) → KeptCompleting (Completes W (λ x u. p.is_open x u ≡ true) (next_from p) (λ x u. 0) (Legal p.rules) node Permitted push newest (λ w. stage w ≡ p.rules.count) (λ t. nat_le t v ≡ true) (node (r ∷ rs))) (Keeps (node (r ∷ rs)))) → ((u : ℕ → ℕ) → Feasible p u → v ≤ (second_and_cost (λ x t. 0) p.rules.count u).0) → (zs : List Landing) → Legal p.rules (ranks zs) → length (ranks zs) ≡ p.rules.count → BuiltByLeastChoices W first (next_from p) (λ x t. 0) node Permitted push newest Keeps 0 zs → FirstBest p (λ u. (second_and_cost (λ x t. 0) p.rules.count u).0) (second_in zs) × (earliest first (next_from p) (ranks zs) ≡ Some zs)
+    pub built_first_makespan : ((rs : List ℕ) (r : ℕ) → Legal p.rules (r ∷ rs)
+        → KeptCompleting (Completes W (λ x u. p.is_open x u ≡ true) (next_from p) (λ x u. 0)
+        (Legal p.rules) node Permitted push newest (λ w. stage w ≡ p.rules.count) (λ t. nat_le t v ≡ true)
+        (node (r ∷ rs))) (Keeps (node (r ∷ rs))))
+        → ((u : ℕ → ℕ) → Feasible p u → v ≤ (second_and_cost (λ x t. 0) p.rules.count u).0)
+        → (zs : List Landing) → Legal p.rules (ranks zs) → length (ranks zs) ≡ p.rules.count
+        → BuiltByLeastChoices W first (next_from p) (λ x t. 0) node Permitted push newest Keeps 0 zs
+        → FirstBest p (λ u. (second_and_cost (λ x t. 0) p.rules.count u).0) (second_in zs)
+        × (earliest first (next_from p) (ranks zs) ≡ Some zs)
     built_first_makespan kept least zs legal whole built =
-        built_first p sound first opens (λ x u. 0) (record { mono = λ r t u le. zero-le }) W node stage staged Permitted push newest net (λ t. nat_le t v ≡ true) (λ t u le h. le-leb t v (le_trans le (leb-true u v h))) Keeps kept 0 (λ q. q.0) v
-        (λ xs l d w le. (low_true v xs (landed_low v xs l d le), let a = no_cost xs in omega arith)) (λ xs l d w a c. low_last v xs a) least zs legal whole built
+        built_first p sound first opens (λ x u. 0)
+        (record { mono = λ r t u le. zero-le }) W node stage staged Permitted push newest net
+        (λ t. nat_le t v ≡ true) (λ t u le h. le-leb t v (le_trans le (leb-true u v h))) Keeps kept 0 (λ q. q.0) v
+        (λ xs l d w le. (low_true v xs (landed_low v xs l d le), let a = no_cost xs in omega arith))
+        (λ xs l d w a c. low_last v xs a) least zs legal whole built
 
     -- for the delay no second is too late, and the landings cost at most what the value leaves them
-    pub built_first_delay : (cost : ℕ → ℕ → ℕ) → NeverCheaper cost → (base budget : ℕ) → v ≡ base + budget → ((rs : List ℕ) (r : ℕ) → Legal p.rules (r ∷ rs) → KeptCompleting (Completes W (λ x u. p.is_open x u ≡ true) (next_from p) cost (Legal p.rules) node Permitted push newest (λ w. stage w ≡ p.rules.count) (λ t. ◌≡◌ {A = Bool} true true) (node (r ∷ rs))) (Keeps (node (r ∷ rs)))) → ((u : ℕ → ℕ) → Feasible p u → v ≤ base + (second_and_cost cost p.rules.count u).1) → (zs : List Landing) → Legal p.rules (ranks zs) → length (ranks zs) ≡ p.rules.count → BuiltByLeastChoices W first (next_from p) cost node Permitted push newest Keeps budget zs → FirstBest p (λ u. base + (second_and_cost cost p.rules.count u).1) (second_in zs) × (earliest first (next_from p) (ranks zs) ≡ Some zs)
+    pub built_first_delay : (cost : ℕ → ℕ → ℕ) → NeverCheaper cost → (base budget : ℕ) → v ≡ base + budget
+        → ((rs : List ℕ) (r : ℕ) → Legal p.rules (r ∷ rs)
+        → KeptCompleting (Completes W (λ x u. p.is_open x u ≡ true) (next_from p) cost
+        (Legal p.rules) node Permitted push newest (λ w. stage w ≡ p.rules.count) (λ t. ◌≡◌ {A = Bool} true true)
+        (node (r ∷ rs))) (Keeps (node (r ∷ rs))))
+        → ((u : ℕ → ℕ) → Feasible p u → v ≤ base + (second_and_cost cost p.rules.count u).1)
+        → (zs : List Landing) → Legal p.rules (ranks zs) → length (ranks zs) ≡ p.rules.count
+        → BuiltByLeastChoices W first (next_from p) cost node Permitted push newest Keeps budget zs
+        → FirstBest p (λ u. base + (second_and_cost cost p.rules.count u).1) (second_in zs)
+        × (earliest first (next_from p) (ranks zs) ≡ Some zs)
     built_first_delay cost dearer base budget e kept least zs legal whole built =
-        built_first p sound first opens cost dearer W node stage staged Permitted push newest net (λ t. ◌≡◌ {A = Bool} true true) (λ t u le h. refl) Keeps kept budget (λ q. base + q.1) v
+        built_first p sound first opens cost dearer W node stage staged Permitted push newest net
+        (λ t. ◌≡◌ {A = Bool} true true) (λ t u le h. refl) Keeps kept budget (λ q. base + q.1) v
         (λ xs l d w le. (all_low xs, omega arith)) (λ xs l d w a c. omega arith) least zs legal whole built

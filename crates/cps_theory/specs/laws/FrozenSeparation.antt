@@ -1,4 +1,5 @@
--- All flights keep the separation exactly where the frozen ones do, the waiting ones do, and each waiting one does after the last frozen one.
+-- All flights keep the separation exactly where the frozen ones do, the waiting ones do, and each waiting one does
+-- after the last frozen one.
 use Rattle.std.proofs.Common.{ℕ, ◌+◌, ◌<◌, ◌≤◌, ◌⊎◌, inl, inr, List, ◌++◌, arith, sym, ap, subst}
 use Rattle.std.proofs.lemmas.Bool.{cases_eq}
 use Rattle.cps_theory.specs.RankLists.{In}
@@ -6,8 +7,11 @@ use Rattle.cps_theory.specs.NumberedSituation.{AllSeparated}
 use Rattle.cps_theory.specs.laws.Members.{append_in, in_append}
 
 -- `x` is the last of the frozen ones, which land before h, and the others at h or later
-module _ (s : ℕ → ℕ → ℕ) (triangle : (a b c : ℕ) → s a c ≤ s a b + s b c) (t : ℕ → ℕ) (h x : ℕ) (frozen waiting : List ℕ) (there : In x frozen) (latest : (f : ℕ) → In f frozen → t f ≤ t x) (before : (f : ℕ) → In f frozen → t f < h) (behind : (g : ℕ) → In g waiting → h ≤ t g) where
-  pub joined_apart : AllSeparated s t frozen → AllSeparated s t waiting → ((g : ℕ) → In g waiting → t x + s x g ≤ t g) → AllSeparated s t (frozen ++ waiting)
+module _ (s : ℕ → ℕ → ℕ) (triangle : (a b c : ℕ) → s a c ≤ s a b + s b c) (t : ℕ → ℕ) (h x : ℕ)
+    (frozen waiting : List ℕ) (there : In x frozen) (latest : (f : ℕ) → In f frozen → t f ≤ t x) (before : (f : ℕ)
+    → In f frozen → t f < h) (behind : (g : ℕ) → In g waiting → h ≤ t g) where
+  pub joined_apart : AllSeparated s t frozen → AllSeparated s t waiting → ((g : ℕ) → In g waiting → t x + s x g ≤ t g)
+      → AllSeparated s t (frozen ++ waiting)
   joined_apart af aw start f g i j ne le = go (in_append f frozen waiting i) (in_append g frozen waiting j)
     where
       go : In f frozen ⊎ In f waiting → In g frozen ⊎ In g waiting → t f + s f g ≤ t g
@@ -19,11 +23,13 @@ module _ (s : ℕ → ℕ → ℕ) (triangle : (a b c : ℕ) → s a c ≤ s a b
         | inr nx ↦ let p = af f x a there nx (latest f a) in let q = start g b in let r = triangle f x g in omega arith
       ]
 
-  pub apart_parts : AllSeparated s t (frozen ++ waiting) → AllSeparated s t waiting × ((g : ℕ) → In g waiting → t x + s x g ≤ t g)
+  pub apart_parts : AllSeparated s t (frozen ++ waiting) → AllSeparated s t waiting
+      × ((g : ℕ) → In g waiting → t x + s x g ≤ t g)
   apart_parts a = (
     λ f g i j. a f g (append_in f frozen waiting (inr i)) (append_in g frozen waiting (inr j)),
     λ g i.
         let p = before x there in
         let q = behind g i in
-        a x g (append_in x frozen waiting (inl there)) (append_in g frozen waiting (inr i)) (λ e. let r = ap t e in omega arith) (omega arith),
+        a x g (append_in x frozen waiting (inl there)) (append_in g frozen waiting (inr i)) (λ e. let r =
+        ap t e in omega arith) (omega arith),
   )

@@ -1,5 +1,7 @@
--- Early prefixes stay legal, and land at the same seconds, where two problems agree on the low ranks; stages that do not count.
-use Rattle.std.proofs.Common.{◌≡◌, ℕ, ◌+◌, ◌-◌, ◌<◌, ◌≤◌, false, leb, ltb, inl, inr, List, [], ◌∷◌, length, arith, refl, ap, ap₂, subst}
+-- Early prefixes stay legal, and land at the same seconds, where two problems agree on the low ranks; stages that do
+-- not count.
+use Rattle.std.proofs.Common.{◌≡◌, ℕ, ◌+◌, ◌-◌, ◌<◌, ◌≤◌, false, leb, ltb, inl, inr, List, [], ◌∷◌, length, arith}
+use Rattle.std.proofs.Common.{refl, ap, ap₂, subst}
 use Rattle.std.specs.List.{AllByRecursion}
 use Rattle.std.proofs.lemmas.Bool.{cases_lt, leb-false, ltb-false, or_parts}
 use Rattle.cps_theory.specs.RankLists.{In}
@@ -10,7 +12,8 @@ use Rattle.cps_theory.specs.Agreement.{AgreeBelow, SameLandings, counts}
 use Rattle.cps_theory.specs.laws.LegalPrefix.{legal_each_fits}
 
 -- a prefix of p places holds no rank above p + k
-pub low_ranks : (g : OrderRules) (d : ℕ) (rs : List ℕ) → EachFits g rs → length rs + g.most < d → AllByRecursion (λ r. r < d) rs
+pub low_ranks : (g : OrderRules) (d : ℕ) (rs : List ℕ) → EachFits g rs → length rs + g.most < d
+    → AllByRecursion (λ r. r < d) rs
 low_ranks g d [] p lt = tt
 low_ranks g d (r ∷ rs) p lt = (let a = p.0.not_early in omega arith, low_ranks g d rs p.1 (omega arith))
 
@@ -20,7 +23,8 @@ in_low d x (r ∷ rs) a (inl e) = let b = a.0 in omega arith
 in_low d x (r ∷ rs) a (inr i) = in_low d x rs a.1 i
 
 -- agreement up to d carries the legal prefixes of fewer than d - k places over
-pub agree_legal : (d : ℕ) (g g' : OrderRules) → AgreeBelow d g g' → (rs : List ℕ) → Legal g rs → length rs + g.most < d → Legal g' rs
+pub agree_legal : (d : ℕ) (g g' : OrderRules) → AgreeBelow d g g' → (rs : List ℕ) → Legal g rs
+    → length rs + g.most < d → Legal g' rs
 agree_legal d g g' agree [] l lt = tt
 agree_legal d g g' agree (r ∷ rs) l lt =
     let f = l.0.fits in
@@ -37,7 +41,8 @@ agree_legal d g g' agree (r ∷ rs) l lt =
           not_late = let a = f.not_late in omega arith;
           after = λ a b. elim (cases_lt a d) [
             | inl a_low ↦ f.after a (agree.same_before a r a_low low b)
-            | inr high ↦ let h = agree.same_above a r high low b in absurd (let i = in_low d h.0 rs before (f.after h.0 h.2) in let j = h.1 in omega arith)
+            | inr high ↦ let h = agree.same_above a r high low b in absurd (let i =
+                in_low d h.0 rs before (f.after h.0 h.2) in let j = h.1 in omega arith)
           ];
         };
         due = λ x one e. l.0.due x one (omega arith);
@@ -46,12 +51,18 @@ agree_legal d g g' agree (r ∷ rs) l lt =
     )
 
 -- and what lands there, with its second and its cost
-pub agree_landed : (d : ℕ) (Open Open' : ℕ → ℕ → Type 0) (after after' : ℕ → ℕ → ℕ → ℕ) (cost cost' : ℕ → ℕ → ℕ) → SameLandings d Open Open' after after' cost cost' → 0 < d → (xs : List Landing) → AllByRecursion (λ r. r < d) (ranks xs) → Landed Open after xs → Landed Open' after' xs × (pair_of cost xs ≡ pair_of cost' xs)
+pub agree_landed : (d : ℕ) (Open Open' : ℕ → ℕ → Type 0) (after after' : ℕ → ℕ → ℕ → ℕ) (cost cost' : ℕ → ℕ → ℕ)
+    → SameLandings d Open Open' after after' cost cost' → 0 < d → (xs : List Landing)
+    → AllByRecursion (λ r. r < d) (ranks xs) → Landed Open after xs → Landed Open' after' xs
+    × (pair_of cost xs ≡ pair_of cost' xs)
 agree_landed d Open Open' after after' cost cost' same pos [] low l = (tt, refl)
 agree_landed d Open Open' after after' cost cost' same pos (x ∷ xs) low l =
     let rest = agree_landed d Open Open' after after' cost cost' same pos xs low.1 l.2 in
-    let e = same.same_after (latest_landing xs).0 (latest_landing xs).1 x.0 (last_low xs low.1) low.0 in
-    ((same.same_open x.0 x.1 low.0 l.0, subst (λ t. t ≤ x.1) e l.1, rest.0), ap (λ c. (x.1, c)) (ap₂ ◌+◌ (ap (λ p. p.1) rest.1) (same.same_cost x.0 x.1 low.0)))
+    let e = same.same_after (latest_landing xs).0 (latest_landing xs).1 x.0 (last_low xs low.1) low.0 in (
+      (same.same_open x.0 x.1 low.0 l.0, subst (λ t. t ≤ x.1) e l.1, rest.0),
+      ap (λ c. (x.1, c))
+          (ap₂ ◌+◌ (ap (λ p. p.1) rest.1) (same.same_cost x.0 x.1 low.0)),
+    )
   where
     last_low : (ys : List Landing) → AllByRecursion (λ r. r < d) (ranks ys) → (latest_landing ys).0 < d
     last_low [] a = pos

@@ -1,5 +1,7 @@
--- A pair no later and no dearer has successors no later and no dearer, so what is closed under successors covers every landing.
-use Rattle.std.proofs.Common.{◌≡◌, ℕ, ◌+◌, ◌≤◌, List, [], ◌∷◌, Option, Some, option_map, refl, ap, subst, ◌∙◌, le_trans, le_refl, add-le-add}
+-- A pair no later and no dearer has successors no later and no dearer, so what is closed under successors covers every
+-- landing.
+use Rattle.std.proofs.Common.{◌≡◌, ℕ, ◌+◌, ◌≤◌, List, [], ◌∷◌, Option, Some, option_map, refl, ap, subst, ◌∙◌}
+use Rattle.std.proofs.Common.{le_trans, le_refl, add-le-add}
 use Rattle.cps_theory.specs.Separation.{Landing}
 use Rattle.cps_theory.specs.Retiming.{IsFirstOpen, NeverEarlier}
 use Rattle.cps_theory.specs.LandingTrail.{Landed, cost_of, last_rank, latest_landing, pair_of, ranks}
@@ -15,23 +17,34 @@ pub last_ranks : (xs : List Landing) → last_rank (ranks xs) ≡ (latest_landin
 last_ranks [] = refl
 last_ranks (x ∷ xs) = refl
 
-module _ (Open : ℕ → ℕ → Type 0) (first : ℕ → ℕ → Option ℕ) (after : ℕ → ℕ → ℕ → ℕ) (cost : ℕ → ℕ → ℕ) (opens : IsFirstOpen Open first) (later : NeverEarlier after) (dearer : NeverCheaper cost) where
+module _ (Open : ℕ → ℕ → Type 0) (first : ℕ → ℕ → Option ℕ) (after : ℕ → ℕ → ℕ → ℕ) (cost : ℕ
+    → ℕ → ℕ) (opens : IsFirstOpen Open first) (later : NeverEarlier after) (dearer : NeverCheaper cost) where
   -- a landing after a pair has a successor, from any pair no worse, that is no worse than it
-  pub next_covers : (l : ℕ) (a b : Pair) (r t : ℕ) → NoWorse a b → Open r t → after l b.0 r ≤ t → (p : Pair) × (next_pair first after cost l a r ≡ Some p) × NoWorse p (t, b.1 + cost r t)
+  pub next_covers : (l : ℕ) (a b : Pair) (r t : ℕ) → NoWorse a b → Open r t → after l b.0 r ≤ t
+      → (p : Pair) × (next_pair first after cost l a r ≡ Some p) × NoWorse p (t, b.1 + cost r t)
   next_covers l a b r t le open' at =
-      let f = opens.least r (after l a.0 r) t open' (le_trans (later.mono l a.0 b.0 r le.0) at) in
-      ((f.0, a.1 + cost r f.0), ap (option_map (λ t. (t, a.1 + cost r t))) f.1, (f.2, add-le-add le.1 (dearer.mono r f.0 t f.2)))
+      let f = opens.least r (after l a.0 r) t open' (le_trans (later.mono l a.0 b.0 r le.0) at) in (
+        (f.0, a.1 + cost r f.0),
+        ap (option_map (λ t. (t, a.1 + cost r t))) f.1,
+        (f.2, add-le-add le.1 (dearer.mono r f.0 t f.2)),
+      )
 
   -- a successor of landed flights is landed
-  pub next_lands : (xs : List Landing) (r : ℕ) (p : Pair) → Landed Open after xs → next_pair first after cost (last_rank (ranks xs)) (pair_of cost xs) r ≡ Some p → (Landed Open after ((r, p.0) ∷ xs)) × (pair_of cost ((r, p.0) ∷ xs) ≡ p)
+  pub next_lands : (xs : List Landing) (r : ℕ) (p : Pair) → Landed Open after xs
+      → next_pair first after cost (last_rank (ranks xs)) (pair_of cost xs) r ≡ Some p
+      → (Landed Open after ((r, p.0) ∷ xs)) × (pair_of cost ((r, p.0) ∷ xs) ≡ p)
   next_lands xs r p l e =
       let e' = subst (λ k. next_pair first after cost k (pair_of cost xs) r ≡ Some p) (last_ranks xs) e in
-      let m = mapped (λ t. (t, cost_of cost xs + cost r t)) (first r (after (latest_landing xs).0 (latest_landing xs).1 r)) p e' in
+      let m = mapped (λ t. (t, cost_of cost xs + cost r t))
+      (first r (after (latest_landing xs).0 (latest_landing xs).1 r)) p e' in
       let found = opens.found r (after (latest_landing xs).0 (latest_landing xs).1 r) m.0 m.1 in
-      subst (λ x. (Landed Open after ((r, x.0) ∷ xs)) × (pair_of cost ((r, x.0) ∷ xs) ≡ x)) m.2 ((found.0, found.1, l), refl)
+      subst (λ x. (Landed Open after ((r, x.0) ∷ xs)) × (pair_of cost ((r, x.0) ∷ xs) ≡ x)) m.2
+      ((found.0, found.1, l), refl)
 
   -- what is closed under successors has for each legal landed prefix a pair no later and no dearer
-  pub closed_covers : (Legal : List ℕ → Type 0) → ((r : ℕ) (rs : List ℕ) → Legal (r ∷ rs) → Legal rs) → (Listed : List ℕ → Pair → Type 0) → ClosedPairs first after cost Legal Listed → (xs : List Landing) → Legal (ranks xs) → Landed Open after xs → (p : Pair) × Listed (ranks xs) p × NoWorse p (pair_of cost xs)
+  pub closed_covers : (Legal : List ℕ → Type 0) → ((r : ℕ) (rs : List ℕ) → Legal (r ∷ rs) → Legal rs)
+      → (Listed : List ℕ → Pair → Type 0) → ClosedPairs first after cost Legal Listed → (xs : List Landing)
+      → Legal (ranks xs) → Landed Open after xs → (p : Pair) × Listed (ranks xs) p × NoWorse p (pair_of cost xs)
   closed_covers Legal shorter Listed closed [] legal l = ((0, 0), closed.start, (le_refl 0, le_refl 0))
   closed_covers Legal shorter Listed closed (x ∷ xs) legal l =
       let before = closed_covers Legal shorter Listed closed xs (shorter x.0 (ranks xs) legal) l.2 in

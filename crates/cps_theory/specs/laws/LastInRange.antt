@@ -1,5 +1,6 @@
 -- What `find` from the back of a range gives: std says it of a run of calls.
-use Rattle.std.proofs.Common.{◌≡◌, ℕ, ◌+◌, ◌-◌, ◌<◌, ◌≤◌, Bool, true, false, [], Option, Some, None, Bor, refl, sym, ap, subst, ◌∙◌, arith}
+use Rattle.std.proofs.Common.{◌≡◌, ℕ, ◌+◌, ◌-◌, ◌<◌, ◌≤◌, Bool, true, false, [], Option, Some, None, Bor, refl, sym}
+use Rattle.std.proofs.Common.{ap, subst, ◌∙◌, arith}
 use Rattle.std.specs.Prelude.{◌↔◌, IsTrue, IfSome, IsSomeAnd, MatchOption, unwrap_or}
 use Rattle.std.specs.declared.ops.RangeInclusive.{RangeInclusive}
 use Rattle.std.specs.declared.iter.Rev.{Rev}
@@ -12,10 +13,13 @@ use Rattle.std.proofs.iter.runs.Sources.{nat_range_inclusive_steps_back, inclusi
 use Rattle.std.proofs.lemmas.Bool.{false≢true}
 use denote.Param.Members.{Mut, Called}
 
-module _ {s : RangeInclusive ℕ} {t : Rev (RangeInclusive ℕ)} (first last : ℕ) (begins : range_inclusive_start s ≡ first) (ends : range_inclusive_end s ≡ last)
-    (fresh : range_inclusive_exhausted s ≡ false) (keeps : RevKeepsRuns nat_range_inclusive_steps_back s t) (u : Run (rev_steps nat_range_inclusive_steps_back)) (at : u.from ≡ t) where
+module _ {s : RangeInclusive ℕ} {t : Rev (RangeInclusive ℕ)} (first last : ℕ) (begins : range_inclusive_start s ≡ first)
+    (ends : range_inclusive_end s ≡ last)
+    (fresh : range_inclusive_exhausted s ≡ false) (keeps : RevKeepsRuns nat_range_inclusive_steps_back s t)
+    (u : Run (rev_steps nat_range_inclusive_steps_back)) (at : u.from ≡ t) where
   -- where each number of a range comes from the back
-  counts_down : (u.len ≤ last + 1 - first) × (IsTrue u.whole → u.len ≡ last + 1 - first) × ((k : ℕ) → k ≤ last → last < k + u.len → option_map (λ y. y) (u.at (last - k)) ≡ Some k)
+  counts_down : (u.len ≤ last + 1 - first) × (IsTrue u.whole → u.len ≡ last + 1 - first)
+      × ((k : ℕ) → k ≤ last → last < k + u.len → option_map (λ y. y) (u.at (last - k)) ≡ Some k)
   counts_down =
       let behind = keeps u u.seen at in
       let run = behind.0 in
@@ -43,7 +47,8 @@ module _ {F : Type 0} {g : Mut F (Bor ℕ × Unit {0}) Bool} (P : ℕ → Type 0
   answers x b at = subst (λ y. IsTrue b ↔ P y) at.shows (calls at.shown b f at.called).1
 
   fails_at : (x : ℕ) (o : Option ℕ) → option_map (λ y. y) o ≡ Some x → IfSome o (λ y. CalledAt g f y false f) → P x → ⊥
-  fails_at x (Some y) is called p = false≢true ((answers y false called).1 (subst P (sym (ap (λ o. unwrap_or o x) is)) p))
+  fails_at x (Some y) is called p =
+      false≢true ((answers y false called).1 (subst P (sym (ap (λ o. unwrap_or o x) is)) p))
   fails_at x None is called p = absurd (cc)
 
   some_is : (o : Option ℕ) → IsSomeAnd o (λ y. CalledAt g f y false f) → IfSome o (λ y. CalledAt g f y false f)
@@ -51,10 +56,13 @@ module _ {F : Type 0} {g : Mut F (Bor ℕ × Unit {0}) Bool} (P : ℕ → Type 0
   some_is None called = absurd called
 
   -- the greatest number of a range for which it is so, as `find` from the back tells
-  pub last_in_range : {s : RangeInclusive ℕ} {t : Rev (RangeInclusive ℕ)} (first last : ℕ) → range_inclusive_start s ≡ first → range_inclusive_end s ≡ last → range_inclusive_exhausted s ≡ false
+  pub last_in_range : {s : RangeInclusive ℕ} {t : Rev (RangeInclusive ℕ)} (first last : ℕ)
+      → range_inclusive_start s ≡ first → range_inclusive_end s ≡ last → range_inclusive_exhausted s ≡ false
       → RevKeepsRuns nat_range_inclusive_steps_back s t → (r : Option ℕ)
-      → SomeRun (rev_steps nat_range_inclusive_steps_back) t (λ u. MatchOption r (IsTrue u.whole × NoItemPasses u g f) (EndsAtFirstPassing u g f))
-      → MatchOption r ((k : ℕ) → first ≤ k → k ≤ last → P k → ⊥) (λ n. (first ≤ n) × (n ≤ last) × P n × ((k : ℕ) → n < k → k ≤ last → P k → ⊥))
+      → SomeRun (rev_steps nat_range_inclusive_steps_back) t
+      (λ u. MatchOption r (IsTrue u.whole × NoItemPasses u g f) (EndsAtFirstPassing u g f))
+      → MatchOption r ((k : ℕ) → first ≤ k → k ≤ last → P k → ⊥) (λ n. (first ≤ n) × (n ≤ last)
+      × P n × ((k : ℕ) → n < k → k ≤ last → P k → ⊥))
   last_in_range first last begins ends fresh keeps None (u, at, told) = λ k low high.
       let down = counts_down first last begins ends fresh keeps u at in
       let long = down.1 told.0 in
@@ -66,12 +74,14 @@ module _ {F : Type 0} {g : Mut F (Bor ℕ × Unit {0}) Bool} (P : ℕ → Type 0
       let long = told.1 in
       let passed = told.3 stays in
       let back : last - (last - place) ≡ place = omega (arith, most, long) in
-      let here : option_map (λ y. y) (u.at place) ≡ Some (last - place) = ap (λ j. option_map (λ y. y) (u.at j)) (sym back) ∙ down.2 (last - place) (omega arith) (omega (arith, most, long)) in
+      let here : option_map (λ y. y) (u.at place) ≡ Some (last - place) = ap (λ j. option_map (λ y. y) (u.at j))
+      (sym back) ∙ down.2 (last - place) (omega arith) (omega (arith, most, long)) in
       let number : n ≡ last - place = ap (λ o. unwrap_or o n) (ap (option_map (λ y. y)) (sym told.2) ∙ here) in (
         omega (arith, number, most, long),
         omega (arith, number),
         (answers n true passed.0).0 refl,
         λ k above high.
             let earlier : last - k < place = omega (arith, number, above, high, most, long) in
-            fails_at k (u.at (last - k)) (down.2 k high (omega (arith, earlier, long, high))) (some_is (u.at (last - k)) (passed.1 (last - k) earlier)),
+            fails_at k (u.at (last - k)) (down.2 k high (omega (arith, earlier, long, high)))
+            (some_is (u.at (last - k)) (passed.1 (last - k) earlier)),
       )

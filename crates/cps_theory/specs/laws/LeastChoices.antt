@@ -1,5 +1,6 @@
 -- Of all orders within the budget, the one that always takes the least rank that can still be completed is the first.
-use Rattle.std.proofs.Common.{◌≡◌, ℕ, ◌+◌, ◌≤◌, inl, inr, List, [], ◌∷◌, Option, Some, arith, refl, sym, ap, subst, ◌∙◌, le_refl}
+use Rattle.std.proofs.Common.{◌≡◌, ℕ, ◌+◌, ◌≤◌, inl, inr, List, [], ◌∷◌, Option, Some, arith, refl, sym, ap, subst}
+use Rattle.std.proofs.Common.{◌∙◌, le_refl}
 use Rattle.std.proofs.lemmas.Bool.{cases_lt}
 use Rattle.cps_theory.specs.Separation.{Landing}
 use Rattle.cps_theory.specs.Retiming.{IsFirstOpen, NeverEarlier}
@@ -7,18 +8,26 @@ use Rattle.cps_theory.specs.LandingTrail.{Landed, cost_of, latest_landing, ranks
 use Rattle.cps_theory.specs.Labels.{NeverCheaper, Pair}
 use Rattle.cps_theory.specs.Network.{Network}
 use Rattle.cps_theory.specs.Feasible.{earliest}
-use Rattle.cps_theory.specs.CompletingPairs.{AllLow, CanEndWithin, Choice, Completes, KeptCompleting, LeastChoices, NoGreaterOrder, OrderWithinBudget, onto}
+use Rattle.cps_theory.specs.CompletingPairs.{AllLow, CanEndWithin, Choice, Completes, KeptCompleting, LeastChoices}
+use Rattle.cps_theory.specs.CompletingPairs.{NoGreaterOrder, OrderWithinBudget, onto}
 use Rattle.cps_theory.specs.laws.CompletingPairs.{continued_whole, whole_continued, follows_mono, newest_last}
-use Rattle.cps_theory.specs.laws.Continuations.{cost_onto, earliest_front, earliest_head, no_later_cost, no_later_low, ranks_onto}
+use Rattle.cps_theory.specs.laws.Continuations.{cost_onto, earliest_front, earliest_head, no_later_cost, no_later_low}
+use Rattle.cps_theory.specs.laws.Continuations.{ranks_onto}
 use Rattle.cps_theory.specs.laws.EarliestLandings.{earliest_lands, earliest_least}
 use Rattle.cps_theory.specs.laws.OptionSteps.{some_same}
 use Rattle.cps_theory.specs.laws.OrderLoops.{earliest_more}
 
-module _ (W : Type 0) (Open : ℕ → ℕ → Type 0) (first : ℕ → ℕ → Option ℕ) (after : ℕ → ℕ → ℕ → ℕ) (cost : ℕ → ℕ → ℕ) (Legal : List ℕ → Type 0) (node : List ℕ → W) (Permitted : W → ℕ → Type 0) (push : W → ℕ → W) (newest : W → ℕ) (opens : IsFirstOpen Open first) (later : NeverEarlier after) (dearer : NeverCheaper cost) (net : Network W Legal node Permitted push newest) (Final : W → Type 0) (closed : (rs : List ℕ) (r : ℕ) → Legal rs → Final (node rs) → Permitted (node rs) r → ⊥) (Low : ℕ → Type 0) (lower : (t u : ℕ) → t ≤ u → Low u → Low t) where
+module _ (W : Type 0) (Open : ℕ → ℕ → Type 0) (first : ℕ → ℕ → Option ℕ) (after : ℕ → ℕ → ℕ
+    → ℕ) (cost : ℕ → ℕ → ℕ) (Legal : List ℕ → Type 0) (node : List ℕ → W) (Permitted : W → ℕ
+    → Type 0) (push : W → ℕ → W) (newest : W → ℕ) (opens : IsFirstOpen Open first) (later : NeverEarlier after)
+    (dearer : NeverCheaper cost) (net : Network W Legal node Permitted push newest) (Final : W
+    → Type 0) (closed : (rs : List ℕ) (r : ℕ) → Legal rs → Final (node rs) → Permitted (node rs) r
+    → ⊥) (Low : ℕ → Type 0) (lower : (t u : ℕ) → t ≤ u → Low u → Low t) where
   abbrev Complete : W → Pair → Type 0
   Complete w q = Completes W Open after cost Legal node Permitted push newest Final Low w q
 
-  module _ (Keeps : W → Pair → Type 0) (kept : (rs : List ℕ) (r : ℕ) → Legal (r ∷ rs) → KeptCompleting (Complete (node (r ∷ rs))) (Keeps (node (r ∷ rs)))) (budget : ℕ) where
+  module _ (Keeps : W → Pair → Type 0) (kept : (rs : List ℕ) (r : ℕ) → Legal (r ∷ rs)
+      → KeptCompleting (Complete (node (r ∷ rs))) (Keeps (node (r ∷ rs)))) (budget : ℕ) where
     abbrev Choose : W → Pair → ℕ → ℕ → Type 0
     Choose w p r t = Choice W first after cost Permitted push newest Keeps budget w p r t
 
@@ -29,11 +38,17 @@ module _ (W : Type 0) (Open : ℕ → ℕ → Type 0) (first : ℕ → ℕ → O
     Good rs = OrderWithinBudget first after cost Legal node Final Low budget rs
 
     -- what a prefix at its earliest seconds can end, ends a good order
-    pub can_end_within_good : (r t : ℕ) (xs : List Landing) → Legal (ranks ((r, t) ∷ xs)) → Landed Open after ((r, t) ∷ xs) → AllLow Low ((r, t) ∷ xs) → CanEndWithin Keeps budget (node (ranks ((r, t) ∷ xs))) (t, cost_of cost xs + cost r t) → (qs : List ℕ) × Good (onto qs (ranks ((r, t) ∷ xs)))
+    pub can_end_within_good : (r t : ℕ) (xs : List Landing) → Legal (ranks ((r, t) ∷ xs))
+        → Landed Open after ((r, t) ∷ xs) → AllLow Low ((r, t) ∷ xs)
+        → CanEndWithin Keeps budget (node (ranks ((r, t) ∷ xs))) (t, cost_of cost xs + cost r t)
+        → (qs : List ℕ) × Good (onto qs (ranks ((r, t) ∷ xs)))
     can_end_within_good r t xs l d a c =
         let zs : List Landing = (r, t) ∷ xs in
         let done = (kept (ranks xs) r l).completes c.0 c.1 in
-        let f = continued_whole W Open first after cost Legal node Permitted push newest opens later dearer net Final closed Low lower zs done.rest l d a (follows_mono W Open first after cost Legal node Permitted push newest opens later dearer net Final closed Low lower (node (ranks zs)) t c.0.0 done.rest c.2 done.follows) in
+        let f = continued_whole W Open first after cost Legal node Permitted push newest opens
+        later dearer net Final closed Low lower zs done.rest l d a
+        (follows_mono W Open first after cost Legal node Permitted push newest opens later
+        dearer net Final closed Low lower (node (ranks zs)) t c.0.0 done.rest c.2 done.follows) in
         let ws = onto done.rest zs in
         let e = earliest_least Open first after opens later ws f.1 in
         let same = ranks_onto done.rest zs in (
@@ -44,12 +59,16 @@ module _ (W : Type 0) (Open : ℕ → ℕ → Type 0) (first : ℕ → ℕ → O
             landings = e.0;
             earliest_is = e.1;
             low = no_later_low Low lower e.0 ws e.2 f.3;
-            cheap = let m = no_later_cost cost dearer e.0 ws e.2 in let k = f.4 in let b = c.3 in let i = done.cost_is in omega arith;
+            cheap = let m = no_later_cost cost dearer e.0 ws e.2 in let k = f.4 in let b =
+                c.3 in let i = done.cost_is in omega arith;
           }),
         )
 
     -- the next rank of a good order is a choice
-    pub good_choice : (rs : List ℕ) (xs : List Landing) → earliest first after rs ≡ Some xs → (r : ℕ) (qs : List ℕ) → Good (onto qs (r ∷ rs)) → (t : ℕ) × Choose (node rs) ((latest_landing xs).1, cost_of cost xs) r t × Legal (r ∷ rs) × (earliest first after (r ∷ rs) ≡ Some ((r, t) ∷ xs)) × AllLow Low ((r, t) ∷ xs)
+    pub good_choice : (rs : List ℕ) (xs : List Landing) → earliest first after rs ≡ Some xs
+        → (r : ℕ) (qs : List ℕ) → Good (onto qs (r ∷ rs))
+        → (t : ℕ) × Choose (node rs) ((latest_landing xs).1, cost_of cost xs) r t × Legal (r ∷ rs)
+        × (earliest first after (r ∷ rs) ≡ Some ((r, t) ∷ xs)) × AllLow Low ((r, t) ∷ xs)
     good_choice rs xs e r qs g =
         let w = earliest_front first after qs (r ∷ rs) g.landings g.earliest_is in
         let h = earliest_head first after r rs w.0 w.2 in
@@ -62,7 +81,9 @@ module _ (W : Type 0) (Open : ℕ → ℕ → Type 0) (first : ℕ → ℕ → O
         let landed : Landed Open after (onto ys ((r, t) ∷ xs)) = subst (Landed Open after) whole lands.0 in
         let ordered : ranks (onto ys ((r, t) ∷ xs)) ≡ onto qs (r ∷ rs) = ap ranks (sym whole) ∙ lands.1 in
         let ranked : ranks xs ≡ rs = (earliest_lands Open first after opens rs xs e).1 in
-        let f = whole_continued W Open first after cost Legal node Permitted push newest opens later dearer net Final closed Low lower ((r, t) ∷ xs) ys (subst Legal (sym ordered) g.legal) landed (subst (λ l. Final (node l)) (sym ordered) g.final) (subst (AllLow Low) whole g.low) in
+        let f = whole_continued W Open first after cost Legal node Permitted push newest opens
+        later dearer net Final closed Low lower ((r, t) ∷ xs) ys (subst Legal (sym ordered) g.legal) landed
+        (subst (λ l. Final (node l)) (sym ordered) g.final) (subst (AllLow Low) whole g.low) in
         let legal : Legal (r ∷ rs) = subst (λ l. Legal (r ∷ l)) ranked f.0 in
         let shorter = net.shrinks r rs legal in
         let done : Complete (node (r ∷ ranks xs)) (t, cost_of cost ys) = record {
@@ -75,9 +96,14 @@ module _ (W : Type 0) (Open : ℕ → ℕ → Type 0) (first : ℕ → ℕ → O
         } in
         let o = (kept (ranks xs) r f.0).covers (t, cost_of cost ys) done in
         let here : node (r ∷ ranks xs) ≡ push (node rs) r = ap (λ l. node (r ∷ l)) ranked ∙ net.pushes r rs shorter.0 in
-        let newest_xs : newest (node rs) ≡ (latest_landing xs).0 = ap (λ l. newest (node l)) (sym ranked) ∙ newest_last W Open first after cost Legal node Permitted push newest opens later dearer net Final closed Low lower xs (subst Legal (sym ranked) shorter.0) in
-        let first_xs : first r (after (latest_landing xs).0 (latest_landing xs).1 r) ≡ Some t = subst (λ (zs : List Landing). first r (after (latest_landing zs).0 (latest_landing zs).1 r) ≡ Some t) same h.3 in
-        let total : cost_of cost g.landings ≡ cost_of cost ((r, t) ∷ xs) + cost_of cost ys = ap (cost_of cost) whole ∙ cost_onto cost ys ((r, t) ∷ xs) in (
+        let newest_xs : newest (node rs) ≡ (latest_landing xs).0 = ap (λ l. newest (node l)) (sym ranked)
+        ∙ newest_last W Open first after cost Legal node Permitted push newest opens later
+        dearer net Final closed Low lower xs (subst Legal (sym ranked) shorter.0) in
+        let first_xs : first r (after (latest_landing xs).0 (latest_landing xs).1 r) ≡ Some t =
+        subst (λ (zs : List Landing). first r (after (latest_landing zs).0 (latest_landing zs).1 r) ≡ Some t)
+        same h.3 in
+        let total : cost_of cost g.landings ≡ cost_of cost ((r, t) ∷ xs) + cost_of cost ys =
+        ap (cost_of cost) whole ∙ cost_onto cost ys ((r, t) ∷ xs) in (
           t,
           record {
             permitted = shorter.1;
@@ -90,25 +116,37 @@ module _ (W : Type 0) (Open : ℕ → ℕ → Type 0) (first : ℕ → ℕ → O
         )
 
     -- a choice's landing behind the prefix, at its earliest seconds, low and within the budget
-    pub choice_more : (rs : List ℕ) (xs : List Landing) → Legal rs → earliest first after rs ≡ Some xs → (r t : ℕ) → Choose (node rs) ((latest_landing xs).1, cost_of cost xs) r t → Legal (r ∷ rs) × (earliest first after (r ∷ rs) ≡ Some ((r, t) ∷ xs)) × Low t × (cost_of cost ((r, t) ∷ xs) ≤ budget)
+    pub choice_more : (rs : List ℕ) (xs : List Landing) → Legal rs → earliest first after rs ≡ Some xs
+        → (r t : ℕ) → Choose (node rs) ((latest_landing xs).1, cost_of cost xs) r t
+        → Legal (r ∷ rs) × (earliest first after (r ∷ rs) ≡ Some ((r, t) ∷ xs)) × Low t
+        × (cost_of cost ((r, t) ∷ xs) ≤ budget)
     choice_more rs xs l e r t c =
         let legal = net.grows r rs l c.permitted in
         let ranked : ranks xs ≡ rs = (earliest_lands Open first after opens rs xs e).1 in
-        let newest_xs : newest (node rs) ≡ (latest_landing xs).0 = ap (λ k. newest (node k)) (sym ranked) ∙ newest_last W Open first after cost Legal node Permitted push newest opens later dearer net Final closed Low lower xs (subst Legal (sym ranked) l) in
-        let f : first r (after (latest_landing xs).0 (latest_landing xs).1 r) ≡ Some t = ap (λ k. first r (after k (latest_landing xs).1 r)) (sym newest_xs) ∙ c.found in
+        let newest_xs : newest (node rs) ≡ (latest_landing xs).0 = ap (λ k. newest (node k)) (sym ranked)
+        ∙ newest_last W Open first after cost Legal node Permitted push newest opens later
+        dearer net Final closed Low lower xs (subst Legal (sym ranked) l) in
+        let f : first r (after (latest_landing xs).0 (latest_landing xs).1 r) ≡ Some t =
+        ap (λ k. first r (after k (latest_landing xs).1 r)) (sym newest_xs) ∙ c.found in
         let o = c.can_end in
         let done = (kept rs r legal).completes o.0 (subst (λ v. Keeps v o.0) (sym (net.pushes r rs l)) o.1) in
         (legal, earliest_more first after r t rs xs e f, lower t o.0.0 o.2 done.low, (let a = o.3 in omega arith))
 
     -- the order built of least choices is good
-    pub least_choices_good : (qs rs : List ℕ) (xs : List Landing) → Legal rs → earliest first after rs ≡ Some xs → AllLow Low xs → cost_of cost xs ≤ budget → LeastFrom (node rs) ((latest_landing xs).1, cost_of cost xs) qs → Good (onto qs rs)
-    least_choices_good [] rs xs l e a c g = record { legal = l; final = g; landings = xs; earliest_is = e; low = a; cheap = c }
+    pub least_choices_good : (qs rs : List ℕ) (xs : List Landing) → Legal rs → earliest first after rs ≡ Some xs
+        → AllLow Low xs → cost_of cost xs ≤ budget → LeastFrom (node rs) ((latest_landing xs).1, cost_of cost xs) qs
+        → Good (onto qs rs)
+    least_choices_good [] rs xs l e a c g =
+        record { legal = l; final = g; landings = xs; earliest_is = e; low = a; cheap = c }
     least_choices_good (r ∷ qs) rs xs l e a c g =
         let m = choice_more rs xs l e r g.0 g.1 in
-        least_choices_good qs (r ∷ rs) ((r, g.0) ∷ xs) m.0 m.1 (m.2, a) m.3 (subst (λ w. LeastFrom w (g.0, cost_of cost xs + cost r g.0) qs) (sym (net.pushes r rs l)) g.3)
+        least_choices_good qs (r ∷ rs) ((r, g.0) ∷ xs) m.0 m.1 (m.2, a) m.3
+        (subst (λ w. LeastFrom w (g.0, cost_of cost xs + cost r g.0) qs) (sym (net.pushes r rs l)) g.3)
 
     -- and no good order with this front is less
-    pub least_choices_least : (qs rs : List ℕ) (xs : List Landing) → Legal rs → earliest first after rs ≡ Some xs → LeastFrom (node rs) ((latest_landing xs).1, cost_of cost xs) qs → (os : List ℕ) → Good (onto os rs) → NoGreaterOrder qs os
+    pub least_choices_least : (qs rs : List ℕ) (xs : List Landing) → Legal rs → earliest first after rs ≡ Some xs
+        → LeastFrom (node rs) ((latest_landing xs).1, cost_of cost xs) qs → (os : List ℕ) → Good (onto os rs)
+        → NoGreaterOrder qs os
     least_choices_least [] rs xs l e g os good = tt
     least_choices_least (r ∷ qs) rs xs l e g [] good = absurd (closed rs r l good.final g.1.permitted)
     least_choices_least (r ∷ qs) rs xs l e g (o ∷ os) good =
@@ -119,22 +157,34 @@ module _ (W : Type 0) (Open : ℕ → ℕ → Type 0) (first : ℕ → ℕ → O
           | inr ge ↦
               let same : o ≡ r = omega arith in
               let m = choice_more rs xs l e r g.0 g.1 in
-              inr (sym same, least_choices_least qs (r ∷ rs) ((r, g.0) ∷ xs) m.0 m.1 (subst (λ w. LeastFrom w (g.0, cost_of cost xs + cost r g.0) qs) (sym (net.pushes r rs l)) g.3) os (subst (λ x. Good (onto os (x ∷ rs))) same good))
+              inr (
+                sym same,
+                least_choices_least qs (r ∷ rs) ((r, g.0) ∷ xs) m.0 m.1
+                    (subst (λ w. LeastFrom w (g.0, cost_of cost xs + cost r g.0) qs) (sym (net.pushes r rs l)) g.3) os
+                    (subst (λ x. Good (onto os (x ∷ rs))) same good),
+              )
         ]
 
     -- a loop that tries the ranks in turn finds a choice where a good order goes on
-    pub good_goes_on : (rs : List ℕ) (xs : List Landing) → earliest first after rs ≡ Some xs → (Final (node rs) → ⊥) → (qs : List ℕ) → Good (onto qs rs) → (r : ℕ) × (t : ℕ) × Choose (node rs) ((latest_landing xs).1, cost_of cost xs) r t
+    pub good_goes_on : (rs : List ℕ) (xs : List Landing) → earliest first after rs ≡ Some xs
+        → (Final (node rs) → ⊥) → (qs : List ℕ) → Good (onto qs rs) → (r : ℕ) × (t : ℕ)
+        × Choose (node rs) ((latest_landing xs).1, cost_of cost xs) r t
     good_goes_on rs xs e not_final [] g = absurd (not_final g.final)
     good_goes_on rs xs e not_final (r ∷ qs) g = let c = good_choice rs xs e r qs g in (r, c.0, c.1)
 
     -- after a choice a good order still goes on
-    pub choice_goes_on : (rs : List ℕ) (xs : List Landing) → Legal rs → earliest first after rs ≡ Some xs → AllLow Low xs → (r t : ℕ) → Choose (node rs) ((latest_landing xs).1, cost_of cost xs) r t → (qs : List ℕ) × Good (onto qs (r ∷ rs))
+    pub choice_goes_on : (rs : List ℕ) (xs : List Landing) → Legal rs → earliest first after rs ≡ Some xs
+        → AllLow Low xs → (r t : ℕ) → Choose (node rs) ((latest_landing xs).1, cost_of cost xs) r t
+        → (qs : List ℕ) × Good (onto qs (r ∷ rs))
     choice_goes_on rs xs l e a r t c =
         let m = choice_more rs xs l e r t c in
         let lands = earliest_lands Open first after opens (r ∷ rs) ((r, t) ∷ xs) m.1 in
-        let g = can_end_within_good r t xs (subst Legal (sym lands.1) m.0) lands.0 (m.2, a) (let o = c.can_end in (o.0, subst (λ v. Keeps v o.0) (sym (net.pushes r rs l) ∙ ap node (sym lands.1)) o.1, o.2, o.3)) in
+        let g = can_end_within_good r t xs (subst Legal (sym lands.1) m.0) lands.0 (m.2, a) (let o = c.can_end in
+        (o.0, subst (λ v. Keeps v o.0) (sym (net.pushes r rs l) ∙ ap node (sym lands.1)) o.1, o.2, o.3)) in
         (g.0, subst (λ zs. Good (onto g.0 zs)) lands.1 g.1)
 
     -- the first of all good orders
-    pub least_choices_first : Legal [] → (qs : List ℕ) → LeastFrom (node []) (0, 0) qs → Good (onto qs []) × ((os : List ℕ) → Good (onto os []) → NoGreaterOrder qs os)
-    least_choices_first l qs g = (least_choices_good qs [] [] l refl tt (omega arith) g, least_choices_least qs [] [] l refl g)
+    pub least_choices_first : Legal [] → (qs : List ℕ) → LeastFrom (node []) (0, 0) qs
+        → Good (onto qs []) × ((os : List ℕ) → Good (onto os []) → NoGreaterOrder qs os)
+    least_choices_first l qs g =
+        (least_choices_good qs [] [] l refl tt (omega arith) g, least_choices_least qs [] [] l refl g)

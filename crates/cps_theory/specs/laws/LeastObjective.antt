@@ -1,5 +1,6 @@
 -- The least value kept at the last stage is the least of all feasible schedules; a closed certificate bounds them all.
-use Rattle.std.proofs.Common.{◌≡◌, ℕ, zero, suc, ◌≤◌, inl, List, [], ◌∷◌, length, Option, true, cond, arith, refl, sym, ap, ap₂, subst, ◌∙◌, le_refl, le_antisymm}
+use Rattle.std.proofs.Common.{◌≡◌, ℕ, zero, suc, ◌≤◌, inl, List, [], ◌∷◌, length, Option, true, cond, arith, refl, sym}
+use Rattle.std.proofs.Common.{ap, ap₂, subst, ◌∙◌, le_refl, le_antisymm}
 use Rattle.std.proofs.lemmas.Bool.{eq-eqb, ne_eqb}
 use Rattle.cps_theory.specs.RankLists.{Distinct, In}
 use Rattle.cps_theory.specs.Separation.{Landing}
@@ -9,9 +10,11 @@ use Rattle.cps_theory.specs.Labels.{NeverCheaper, NoWorse, Pair}
 use Rattle.cps_theory.specs.LegalPrefix.{Legal}
 use Rattle.cps_theory.specs.Patterns.{PatternNode, PatternPermits, pattern_newest, pattern_node, pattern_push}
 use Rattle.cps_theory.specs.ClosedSets.{ClosedNodes}
-use Rattle.cps_theory.specs.Feasible.{Feasible, LandsAllRanks, RankedProblem, SoundProblem, at_seconds, greatest, next_from, second_and_cost, second_in}
+use Rattle.cps_theory.specs.Feasible.{Feasible, LandsAllRanks, RankedProblem, SoundProblem, at_seconds, greatest}
+use Rattle.cps_theory.specs.Feasible.{next_from, second_and_cost, second_in}
 use Rattle.cps_theory.specs.laws.ClosedSets.{closed_landings_optimal, closed_landings_infeasible}
-use Rattle.cps_theory.specs.laws.FeasibleOrder.{at_seconds_agree, ranks_at, lands_feasible, feasible_lands, cost_all, last_greatest}
+use Rattle.cps_theory.specs.laws.FeasibleOrder.{at_seconds_agree, ranks_at, lands_feasible, feasible_lands, cost_all}
+use Rattle.cps_theory.specs.laws.FeasibleOrder.{last_greatest}
 use Rattle.cps_theory.specs.laws.FrozenFront.{each_fits_distinct}
 use Rattle.cps_theory.specs.laws.LandingOrder.{sorted}
 use Rattle.cps_theory.specs.laws.LegalPrefix.{legal_each_fits, in_from_one}
@@ -29,44 +32,75 @@ pub at_second_in : (xs : List Landing) → Distinct (ranks xs) → at_seconds (s
 at_second_in [] d = refl
 at_second_in (x ∷ xs) d =
     let here : second_in (x ∷ xs) x.0 ≡ x.1 = ap (λ b. cond b x.1 (second_in xs x.0)) (eq-eqb x.0 x.0 refl) in
-    let rest = at_seconds_agree (second_in (x ∷ xs)) (second_in xs) (ranks xs) (λ r i. ap (λ b. cond b x.1 (second_in xs r)) (ne_eqb r x.0 (λ e. d.0 (subst (λ y. In y (ranks xs)) e i)))) in
+    let rest = at_seconds_agree (second_in (x ∷ xs)) (second_in xs) (ranks xs)
+    (λ r i. ap (λ b. cond b x.1 (second_in xs r)) (ne_eqb r x.0 (λ e. d.0 (subst (λ y. In y (ranks xs)) e i)))) in
     ap₂ (λ u ys. (x.0, u) ∷ ys) here (rest ∙ at_second_in xs d.1)
 
 module _ (p : RankedProblem) (cost : ℕ → ℕ → ℕ) (sound : SoundProblem p) where
   -- the pair of a whole order is that of the map
-  pub pair_all : (t : ℕ → ℕ) (rs : List ℕ) → LandsAllRanks p t rs → pair_of cost (at_seconds t rs) ≡ second_and_cost cost p.rules.count t
-  pair_all t rs l = ap₂ (λ a b. (a, b)) (le_antisymm (low rs l) (greatest_least t p.rules.count (latest_landing (at_seconds t rs)).1 (last_greatest p t sound rs l))) (cost_all p t sound cost rs l)
+  pub pair_all : (t : ℕ → ℕ) (rs : List ℕ) → LandsAllRanks p t rs
+      → pair_of cost (at_seconds t rs) ≡ second_and_cost cost p.rules.count t
+  pair_all t rs l = ap₂ (λ a b. (a, b))
+      (le_antisymm (low rs l) (greatest_least t p.rules.count (latest_landing (at_seconds t rs)).1
+      (last_greatest p t sound rs l))) (cost_all p t sound cost rs l)
     where
       low : (rs : List ℕ) → LandsAllRanks p t rs → (latest_landing (at_seconds t rs)).1 ≤ greatest t p.rules.count
       low [] l = omega arith
-      low (r ∷ rs) l = at_most_greatest t p.rules.count r (in_from_one p.rules r (r ∷ rs) (legal_each_fits p.rules (r ∷ rs) l.legal) (inl refl))
+      low (r ∷ rs) l = at_most_greatest t p.rules.count r
+          (in_from_one p.rules r (r ∷ rs) (legal_each_fits p.rules (r ∷ rs) l.legal) (inl refl))
 
   -- feasible seconds make a landed legal order of all flights, with their pair
-  pub feasible_landing_trail : (t : ℕ → ℕ) → Feasible p t → (xs : List Landing) × Legal p.rules (ranks xs) × Landed (λ r u. p.is_open r u ≡ true) (next_from p) xs × (length (ranks xs) ≡ p.rules.count) × (pair_of cost xs ≡ second_and_cost cost p.rules.count t)
+  pub feasible_landing_trail : (t : ℕ → ℕ) → Feasible p t → (xs : List Landing) × Legal p.rules (ranks xs)
+      × Landed (λ r u. p.is_open r u ≡ true) (next_from p) xs × (length (ranks xs) ≡ p.rules.count)
+      × (pair_of cost xs ≡ second_and_cost cost p.rules.count t)
   feasible_landing_trail t f =
       let rs = sorted t p.rules.count in
-      let l = feasible_lands p t sound f in
-      (at_seconds t rs, subst (Legal p.rules) (sym (ranks_at t rs)) l.legal, l.landed, ap length (ranks_at t rs) ∙ l.whole, pair_all t rs l)
+      let l = feasible_lands p t sound f in (
+        at_seconds t rs,
+        subst (Legal p.rules) (sym (ranks_at t rs)) l.legal,
+        l.landed,
+        ap length (ranks_at t rs)
+            ∙ l.whole,
+        pair_all t rs l,
+      )
 
   -- and such an order makes feasible seconds
-  pub landing_trail_feasible : (xs : List Landing) → Legal p.rules (ranks xs) → Landed (λ r u. p.is_open r u ≡ true) (next_from p) xs → length (ranks xs) ≡ p.rules.count → Feasible p (second_in xs) × (pair_of cost xs ≡ second_and_cost cost p.rules.count (second_in xs))
+  pub landing_trail_feasible : (xs : List Landing) → Legal p.rules (ranks xs)
+      → Landed (λ r u. p.is_open r u ≡ true) (next_from p) xs → length (ranks xs) ≡ p.rules.count
+      → Feasible p (second_in xs) × (pair_of cost xs ≡ second_and_cost cost p.rules.count (second_in xs))
   landing_trail_feasible xs legal landed whole =
       let e = at_second_in xs (each_fits_distinct p.rules (ranks xs) (legal_each_fits p.rules (ranks xs) legal)) in
-      let l : LandsAllRanks p (second_in xs) (ranks xs) = record { legal = legal; whole = whole; landed = subst (Landed (λ r u. p.is_open r u ≡ true) (next_from p)) (sym e) landed } in
-      (lands_feasible p (second_in xs) sound (ranks xs) l, ap (pair_of cost) (sym e) ∙ pair_all (second_in xs) (ranks xs) l)
+      let l : LandsAllRanks p (second_in xs) (ranks xs) =
+      record {
+        legal = legal;
+        whole = whole;
+        landed =
+            subst (Landed (λ r u. p.is_open r u ≡ true) (next_from p)) (sym e) landed;
+      } in (
+        lands_feasible p (second_in xs) sound (ranks xs) l,
+        ap (pair_of cost) (sym e)
+            ∙ pair_all (second_in xs) (ranks xs) l,
+      )
 
   module _ (value : Pair → ℕ) (mono : (a b : Pair) → NoWorse a b → value a ≤ value b) where
     -- the checker: what holds for a closed certificate holds for every feasible map
-    module _ (first : ℕ → ℕ → Option ℕ) (opens : IsFirstOpen (λ r u. p.is_open r u ≡ true) first) (dearer : NeverCheaper cost) (Lists : PatternNode → Pair → Type 0) (c : ClosedNodes first (next_from p) cost (PatternPermits p.rules) (pattern_push p.rules) pattern_newest (pattern_node p.rules []) Lists) where
+    module _ (first : ℕ → ℕ → Option ℕ) (opens : IsFirstOpen (λ r u. p.is_open r u ≡ true) first)
+        (dearer : NeverCheaper cost) (Lists : PatternNode → Pair → Type 0)
+        (c : ClosedNodes first (next_from p) cost (PatternPermits p.rules) (pattern_push p.rules) pattern_newest
+        (pattern_node p.rules []) Lists) where
       ones : (a r : ℕ) → p.rules.before a r ≡ true → 1 ≤ a
       ones a r b = (sound.ranked a r b).0
 
-      pub closed_certificate_optimal : (v : ℕ) → ((w : PatternNode) (q : Pair) → w.0 ≡ p.rules.count → Lists w q → v ≤ value q) → (t : ℕ → ℕ) → Feasible p t → v ≤ value (second_and_cost cost p.rules.count t)
+      pub closed_certificate_optimal : (v : ℕ) → ((w : PatternNode) (q : Pair) → w.0 ≡ p.rules.count
+          → Lists w q → v ≤ value q) → (t : ℕ → ℕ) → Feasible p t → v ≤ value (second_and_cost cost p.rules.count t)
       closed_certificate_optimal v final t f =
           let x = feasible_landing_trail t f in
-          subst (λ q. v ≤ value q) x.4 (closed_landings_optimal (λ r u. p.is_open r u ≡ true) first (next_from p) cost opens (next_later p) dearer p.rules ones Lists c value mono v final x.0 x.1 x.2 x.3)
+          subst (λ q. v ≤ value q) x.4 (closed_landings_optimal (λ r u. p.is_open r u ≡ true) first
+          (next_from p) cost opens (next_later p) dearer p.rules ones Lists c value mono v final x.0 x.1 x.2 x.3)
 
-      pub closed_certificate_infeasible : ((w : PatternNode) (q : Pair) → w.0 ≡ p.rules.count → Lists w q → ⊥) → (t : ℕ → ℕ) → Feasible p t → ⊥
+      pub closed_certificate_infeasible : ((w : PatternNode) (q : Pair) → w.0 ≡ p.rules.count → Lists w q → ⊥)
+          → (t : ℕ → ℕ) → Feasible p t → ⊥
       closed_certificate_infeasible none t f =
           let x = feasible_landing_trail t f in
-          closed_landings_infeasible (λ r u. p.is_open r u ≡ true) first (next_from p) cost opens (next_later p) dearer p.rules ones Lists c none x.0 x.1 x.2 x.3
+          closed_landings_infeasible (λ r u. p.is_open r u ≡ true) first (next_from p) cost opens
+          (next_later p) dearer p.rules ones Lists c none x.0 x.1 x.2 x.3

@@ -1,5 +1,7 @@
--- Of the lists of ranks of one length for which something holds that can be decided, there is a least one by any total order, or there is none.
-use Rattle.std.proofs.Common.{◌≡◌, ℕ, zero, suc, ◌<◌, ◌≤◌, ◌⊎◌, inl, inr, List, [], ◌∷◌, length, arith, refl, sym, subst, le_refl}
+-- Of the lists of ranks of one length for which something holds that can be decided, there is a least one by any total
+-- order, or there is none.
+use Rattle.std.proofs.Common.{◌≡◌, ℕ, zero, suc, ◌<◌, ◌≤◌, ◌⊎◌, inl, inr, List, [], ◌∷◌, length, arith, refl, sym}
+use Rattle.std.proofs.Common.{subst, le_refl}
 use Rattle.std.proofs.lemmas.Bool.{cases_lt}
 use Rattle.cps_theory.specs.RankLists.{In, IsRank}
 
@@ -12,7 +14,9 @@ pub record AreRanks (m n : ℕ) (xs : List ℕ) : Type 0 where
   pub long : length xs ≡ m
   pub ranked : (x : ℕ) → In x xs → IsRank n x
 
-module _ (n : ℕ) (P : List ℕ → Type 0) (decide : (xs : List ℕ) → Decided (P xs)) (Before : List ℕ → List ℕ → Type 0) (total : (xs ys : List ℕ) → Before xs ys ⊎ Before ys xs) (chain : (xs ys zs : List ℕ) → Before xs ys → Before ys zs → Before xs zs) where
+module _ (n : ℕ) (P : List ℕ → Type 0) (decide : (xs : List ℕ) → Decided (P xs)) (Before : List ℕ
+    → List ℕ → Type 0) (total : (xs ys : List ℕ) → Before xs ys ⊎ Before ys xs) (chain : (xs ys zs : List ℕ)
+    → Before xs ys → Before ys zs → Before xs zs) where
   -- the least of m ranks that end a list
   pub record LeastEnd (m : ℕ) (build : List ℕ → List ℕ) : Type 0 where
     pub end : List ℕ
@@ -29,7 +33,8 @@ module _ (n : ℕ) (P : List ℕ → Type 0) (decide : (xs : List ℕ) → Decid
     pub tail : List ℕ
     pub ranks : AreRanks (suc m) n (head ∷ tail)
     pub holds : P (build (head ∷ tail))
-    pub least : (y : ℕ) (ys : List ℕ) → y ≤ j → AreRanks (suc m) n (y ∷ ys) → P (build (y ∷ ys)) → Before (build (head ∷ tail)) (build (y ∷ ys))
+    pub least : (y : ℕ) (ys : List ℕ) → y ≤ j → AreRanks (suc m) n (y ∷ ys) → P (build (y ∷ ys))
+        → Before (build (head ∷ tail)) (build (y ∷ ys))
 
   abbrev NoneUpTo : ℕ → ℕ → (List ℕ → List ℕ) → Type 0
   NoneUpTo m j build = (y : ℕ) (ys : List ℕ) → y ≤ j → AreRanks (suc m) n (y ∷ ys) → P (build (y ∷ ys)) → ⊥
@@ -38,12 +43,18 @@ module _ (n : ℕ) (P : List ℕ → Type 0) (decide : (xs : List ℕ) → Decid
   tail_ranks m y ys r = record { long = let a = r.long in omega arith; ranked = λ x i. r.ranked x (inr i) }
 
   more_ranks : (m y : ℕ) (ys : List ℕ) → IsRank n y → AreRanks m n ys → AreRanks (suc m) n (y ∷ ys)
-  more_ranks m y ys q r = record { long = let a = r.long in omega arith; ranked = λ x i. elim i [ inl e ↦ subst (IsRank n) (sym e) q | inr k ↦ r.ranked x k ] }
+  more_ranks m y ys q r = record {
+    long = let a = r.long in omega arith;
+    ranked =
+        λ x i. elim i [ inl e ↦ subst (IsRank n) (sym e) q | inr k ↦ r.ranked x k ];
+  }
 
   head_cases : (j y : ℕ) → y ≤ suc j → (y ≤ j) ⊎ (y ≡ suc j)
   head_cases j y le = elim (cases_lt j y) [ inl lt ↦ inr (omega arith) | inr le' ↦ inl le' ]
 
-  one_more : (m j : ℕ) (build : List ℕ → List ℕ) → j < n → LeastUpTo m j build ⊎ NoneUpTo m j build → LeastEnd m (λ xs. build (suc j ∷ xs)) ⊎ NoEnd m (λ xs. build (suc j ∷ xs)) → LeastUpTo m (suc j) build ⊎ NoneUpTo m (suc j) build
+  one_more : (m j : ℕ) (build : List ℕ → List ℕ) → j < n → LeastUpTo m j build ⊎ NoneUpTo m j build
+      → LeastEnd m (λ xs. build (suc j ∷ xs)) ⊎ NoEnd m (λ xs. build (suc j ∷ xs))
+      → LeastUpTo m (suc j) build ⊎ NoneUpTo m (suc j) build
   one_more m j build lt (inr none) (inr none') = inr (λ y ys le r h. elim (head_cases j y le) [
     | inl low ↦ none y ys low r h
     | inr e ↦ none' ys (tail_ranks m y ys r) (subst (λ z. P (build (z ∷ ys))) e h)
@@ -65,7 +76,8 @@ module _ (n : ℕ) (P : List ℕ → Type 0) (decide : (xs : List ℕ) → Decid
     holds = b.holds;
     least = λ y ys le r h. elim (head_cases j y le) [
       | inl low ↦ absurd (none y ys low r h)
-      | inr e ↦ subst (λ z. Before (build (suc j ∷ b.end)) (build (z ∷ ys))) (sym e) (b.least ys (tail_ranks m y ys r) (subst (λ z. P (build (z ∷ ys))) e h))
+      | inr e ↦ subst (λ z. Before (build (suc j ∷ b.end)) (build (z ∷ ys))) (sym e)
+          (b.least ys (tail_ranks m y ys r) (subst (λ z. P (build (z ∷ ys))) e h))
     ];
   })
   one_more m j build lt (inl a) (inl b) = elim (total (build (a.head ∷ a.tail)) (build (suc j ∷ b.end))) [
@@ -76,7 +88,9 @@ module _ (n : ℕ) (P : List ℕ → Type 0) (decide : (xs : List ℕ) → Decid
       holds = a.holds;
       least = λ y ys le r h. elim (head_cases j y le) [
         | inl low ↦ a.least y ys low r h
-        | inr e ↦ subst (λ z. Before (build (a.head ∷ a.tail)) (build (z ∷ ys))) (sym e) (chain (build (a.head ∷ a.tail)) (build (suc j ∷ b.end)) (build (suc j ∷ ys)) before (b.least ys (tail_ranks m y ys r) (subst (λ z. P (build (z ∷ ys))) e h)))
+        | inr e ↦ subst (λ z. Before (build (a.head ∷ a.tail)) (build (z ∷ ys))) (sym e)
+            (chain (build (a.head ∷ a.tail)) (build (suc j ∷ b.end)) (build (suc j ∷ ys)) before
+            (b.least ys (tail_ranks m y ys r) (subst (λ z. P (build (z ∷ ys))) e h)))
       ];
     })
     | inr after ↦ inl (record {
@@ -85,17 +99,22 @@ module _ (n : ℕ) (P : List ℕ → Type 0) (decide : (xs : List ℕ) → Decid
       ranks = more_ranks m (suc j) b.end (omega arith, omega arith) b.ranks;
       holds = b.holds;
       least = λ y ys le r h. elim (head_cases j y le) [
-        | inl low ↦ chain (build (suc j ∷ b.end)) (build (a.head ∷ a.tail)) (build (y ∷ ys)) after (a.least y ys low r h)
-        | inr e ↦ subst (λ z. Before (build (suc j ∷ b.end)) (build (z ∷ ys))) (sym e) (b.least ys (tail_ranks m y ys r) (subst (λ z. P (build (z ∷ ys))) e h))
+        | inl low ↦ chain (build (suc j ∷ b.end)) (build (a.head ∷ a.tail)) (build (y ∷ ys)) after
+            (a.least y ys low r h)
+        | inr e ↦ subst (λ z. Before (build (suc j ∷ b.end)) (build (z ∷ ys))) (sym e)
+            (b.least ys (tail_ranks m y ys r) (subst (λ z. P (build (z ∷ ys))) e h))
       ];
     })
   ]
 
-  heads : (m j : ℕ) (build : List ℕ → List ℕ) → j ≤ n → ((i : ℕ) → LeastEnd m (λ xs. build (suc i ∷ xs)) ⊎ NoEnd m (λ xs. build (suc i ∷ xs))) → LeastUpTo m j build ⊎ NoneUpTo m j build
+  heads : (m j : ℕ) (build : List ℕ → List ℕ) → j ≤ n
+      → ((i : ℕ) → LeastEnd m (λ xs. build (suc i ∷ xs)) ⊎ NoEnd m (λ xs. build (suc i ∷ xs)))
+      → LeastUpTo m j build ⊎ NoneUpTo m j build
   heads m zero build le ends = inr (λ y ys low r h. let a = (r.ranked y (inl refl)).0 in omega arith)
   heads m (suc j) build le ends = one_more m j build (omega arith) (heads m j build (omega arith) ends) (ends j)
 
-  whole : (m : ℕ) (build : List ℕ → List ℕ) → LeastUpTo m n build ⊎ NoneUpTo m n build → LeastEnd (suc m) build ⊎ NoEnd (suc m) build
+  whole : (m : ℕ) (build : List ℕ → List ℕ) → LeastUpTo m n build ⊎ NoneUpTo m n build
+      → LeastEnd (suc m) build ⊎ NoEnd (suc m) build
   whole m build (inl a) = inl (record { end = a.head ∷ a.tail; ranks = a.ranks; holds = a.holds; least = least })
     where
       least : (ys : List ℕ) → AreRanks (suc m) n ys → P (build ys) → Before (build (a.head ∷ a.tail)) (build ys)
@@ -111,7 +130,13 @@ module _ (n : ℕ) (P : List ℕ → Type 0) (decide : (xs : List ℕ) → Decid
   itself xs = elim (total xs xs) [ inl b ↦ b | inr b ↦ b ]
 
   empty : (build : List ℕ → List ℕ) → Decided (P (build [])) → LeastEnd 0 build ⊎ NoEnd 0 build
-  empty build (inl h) = inl (record { end = []; ranks = record { long = refl; ranked = λ x i. absurd i }; holds = h; least = least })
+  empty build (inl h) = inl (record {
+    end = [];
+    ranks = record { long = refl; ranked = λ x i. absurd i };
+    holds =
+        h;
+    least = least;
+  })
     where
       least : (ys : List ℕ) → AreRanks 0 n ys → P (build ys) → Before (build []) (build ys)
       least [] r q = itself (build [])

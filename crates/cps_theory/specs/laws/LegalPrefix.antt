@@ -23,15 +23,27 @@ module _ (g : OrderRules) where
 
   pub legal_none_due : (rs : List ℕ) → Legal g rs → NoneDue g rs
   legal_none_due [] l = λ x one le. absurd (omega arith)
-  legal_none_due (r ∷ rs) l = λ x one le. elim (cases_eq (x + g.most) (suc (length rs))) [ inl e ↦ l.0.due x one e | inr ne ↦ inr (legal_none_due rs l.1 x one (omega arith)) ]
+  legal_none_due (r ∷ rs) l =
+      λ x one le. elim (cases_eq (x + g.most) (suc (length rs))) [
+        | inl e ↦ l.0.due x one e
+        | inr ne ↦
+            inr (legal_none_due rs l.1 x one (omega arith))
+      ]
 
   pub prefix_legal : ((r : ℕ) → g.back r ≤ g.most) → (rs : List ℕ) → IsLegalPrefix g rs → Legal g rs
   prefix_legal low [] p = tt
-  prefix_legal low (r ∷ rs) p = (record { fits = p.placed.0; due = λ x one e. p.none_due x one (omega arith) }, prefix_legal low rs (record { placed = p.placed.1; none_due = λ x one le. before x le (p.none_due x one (omega arith)) }))
+  prefix_legal low (r ∷ rs) p = (
+    record { fits = p.placed.0; due = λ x one e. p.none_due x one (omega arith) },
+    prefix_legal low rs
+        (record { placed = p.placed.1; none_due = λ x one le. before x le (p.none_due x one (omega arith)) }),
+  )
     where
       before : (x : ℕ) → x + g.most ≤ length rs → In x (r ∷ rs) → In x rs
       before x le (inl e) = absurd (let a = p.placed.0.not_late in let b = low r in omega arith)
       before x le (inr i) = i
 
   pub legal_is_prefix : ((r : ℕ) → g.back r ≤ g.most) → (rs : List ℕ) → Legal g rs ↔ IsLegalPrefix g rs
-  legal_is_prefix low rs = (λ l. record { placed = legal_each_fits rs l; none_due = legal_none_due rs l }, prefix_legal low rs)
+  legal_is_prefix low rs = (
+    λ l. record { placed = legal_each_fits rs l; none_due = legal_none_due rs l },
+    prefix_legal low rs,
+  )

@@ -1,5 +1,6 @@
 -- What is in a list: behind an append, after a filter, in the middle.
-use Rattle.std.proofs.Common.{ℕ, ◌⊎◌, inl, inr, List, [], ◌∷◌, ◌++◌, sym, ap, ◌≡◌, filter, cond, Bool, true, false, refl, ◌∙◌}
+use Rattle.std.proofs.Common.{ℕ, ◌⊎◌, inl, inr, List, [], ◌∷◌, ◌++◌, sym, ap, ◌≡◌, filter, cond, Bool, true, false}
+use Rattle.std.proofs.Common.{refl, ◌∙◌}
 use Rattle.std.proofs.lemmas.Bool.{cases_eq, false≢true}
 use Rattle.cps_theory.specs.RankLists.{Distinct, In}
 
@@ -19,7 +20,8 @@ pub in_filter : (q : ℕ → Bool) (y : ℕ) (xs : List ℕ) → In y (filter q 
 in_filter q y [] i = absurd i
 in_filter q y (x ∷ xs) i = go (q x) refl i (in_filter q y xs)
   where
-    go : (b : Bool) → q x ≡ b → In y (cond b (x ∷ filter q xs) (filter q xs)) → (In y (filter q xs) → In y xs × (q y ≡ true)) → ((y ≡ x) ⊎ In y xs) × (q y ≡ true)
+    go : (b : Bool) → q x ≡ b → In y (cond b (x ∷ filter q xs) (filter q xs))
+        → (In y (filter q xs) → In y xs × (q y ≡ true)) → ((y ≡ x) ⊎ In y xs) × (q y ≡ true)
     go true e (inl s) ih = (inl s, ap q s ∙ e)
     go true e (inr j) ih = let a = ih j in (inr a.0, a.1)
     go false e j ih = let a = ih j in (inr a.0, a.1)
@@ -36,7 +38,8 @@ pub filter_in : (q : ℕ → Bool) (y : ℕ) (xs : List ℕ) → In y xs → q y
 filter_in q y [] i e = absurd i
 filter_in q y (x ∷ xs) i e = go (q x) refl i (λ j. filter_in q y xs j e)
   where
-    go : (b : Bool) → q x ≡ b → (y ≡ x) ⊎ In y xs → (In y xs → In y (filter q xs)) → In y (cond b (x ∷ filter q xs) (filter q xs))
+    go : (b : Bool) → q x ≡ b → (y ≡ x) ⊎ In y xs → (In y xs → In y (filter q xs))
+        → In y (cond b (x ∷ filter q xs) (filter q xs))
     go true f (inl s) ih = inl s
     go true f (inr j) ih = inr (ih j)
     go false f (inl s) ih = absurd (false≢true (sym f ∙ ap q (sym s) ∙ e))

@@ -1,5 +1,7 @@
--- The pairs of a node from those kept of its sources: a successor of an attained pair is attained, and each attained pair has a source.
-use Rattle.std.proofs.Common.{◌≡◌, ℕ, ◌+◌, ◌≤◌, List, [], ◌∷◌, Option, Some, arith, refl, sym, ap, subst, ◌∙◌, le_antisymm, ap₂, ◌⊎◌, inl, inr}
+-- The pairs of a node from those kept of its sources: a successor of an attained pair is attained, and each attained
+-- pair has a source.
+use Rattle.std.proofs.Common.{◌≡◌, ℕ, ◌+◌, ◌≤◌, List, [], ◌∷◌, Option, Some, arith, refl, sym, ap, subst, ◌∙◌}
+use Rattle.std.proofs.Common.{le_antisymm, ap₂, ◌⊎◌, inl, inr}
 use Rattle.cps_theory.specs.Separation.{Landing}
 use Rattle.cps_theory.specs.Retiming.{IsFirstOpen, NeverEarlier}
 use Rattle.cps_theory.specs.LandingTrail.{Landed, cost_of, last_rank, latest_landing, pair_of, ranks}
@@ -8,7 +10,8 @@ use Rattle.cps_theory.specs.Network.{Attained, Kept, Network, Undominated}
 use Rattle.cps_theory.specs.laws.LabelDominance.{next_covers, next_lands, no_worse_trans, last_ranks}
 
 -- where no kept pair is worse than another, the kept pairs are the undominated ones
-pub kept_undominated : (Attains Keeps : Pair → Type 0) → Kept Attains Keeps → ((p q : Pair) → Keeps p → Keeps q → NoWorse p q → p ≡ q) → (p : Pair) → Keeps p → Undominated Attains p
+pub kept_undominated : (Attains Keeps : Pair → Type 0) → Kept Attains Keeps
+    → ((p q : Pair) → Keeps p → Keeps q → NoWorse p q → p ≡ q) → (p : Pair) → Keeps p → Undominated Attains p
 kept_undominated Attains Keeps k anti p kept = record {
   attained = k.attained p kept;
   best = λ q a le.
@@ -19,19 +22,26 @@ kept_undominated Attains Keeps k anti p kept = record {
       ap₂ (λ x y. (x, y)) (le_antisymm le.0 first) (le_antisymm le.1 second);
 }
 
-pub undominated_kept : (Attains Keeps : Pair → Type 0) → Kept Attains Keeps → (p : Pair) → Undominated Attains p → Keeps p
-undominated_kept Attains Keeps k p u = let c = k.covers p u.attained in subst Keeps (u.best c.0 (k.attained c.0 c.1) c.2) c.1
+pub undominated_kept : (Attains Keeps : Pair → Type 0) → Kept Attains Keeps → (p : Pair) → Undominated Attains p
+    → Keeps p
+undominated_kept Attains Keeps k p u = let c =
+    k.covers p u.attained in subst Keeps (u.best c.0 (k.attained c.0 c.1) c.2) c.1
 
-module _ (W : Type 0) (Open : ℕ → ℕ → Type 0) (first : ℕ → ℕ → Option ℕ) (after : ℕ → ℕ → ℕ → ℕ) (cost : ℕ → ℕ → ℕ) (Legal : List ℕ → Type 0) (node : List ℕ → W) (Permitted : W → ℕ → Type 0) (push : W → ℕ → W) (newest : W → ℕ) (opens : IsFirstOpen Open first) (later : NeverEarlier after) (dearer : NeverCheaper cost) (net : Network W Legal node Permitted push newest) where
+module _ (W : Type 0) (Open : ℕ → ℕ → Type 0) (first : ℕ → ℕ → Option ℕ) (after : ℕ → ℕ → ℕ
+    → ℕ) (cost : ℕ → ℕ → ℕ) (Legal : List ℕ → Type 0) (node : List ℕ → W) (Permitted : W → ℕ
+    → Type 0) (push : W → ℕ → W) (newest : W → ℕ) (opens : IsFirstOpen Open first) (later : NeverEarlier after)
+    (dearer : NeverCheaper cost) (net : Network W Legal node Permitted push newest) where
   abbrev Attains : W → Pair → Type 0
   Attains w p = Attained Open after cost Legal node w p
 
   -- a successor of an attained pair is attained
-  pub attained_next : (w : W) (p : Pair) (r : ℕ) (q : Pair) → Attains w p → Permitted w r → next_pair first after cost (newest w) p r ≡ Some q → Attains (push w r) q
+  pub attained_next : (w : W) (p : Pair) (r : ℕ) (q : Pair) → Attains w p → Permitted w r
+      → next_pair first after cost (newest w) p r ≡ Some q → Attains (push w r) q
   attained_next w p r q a permitted e =
       let xs = a.landings in
       let l : newest w ≡ last_rank (ranks xs) = ap newest (sym a.at) ∙ net.newest_is (ranks xs) a.legal in
-      let e' : next_pair first after cost (last_rank (ranks xs)) (pair_of cost xs) r ≡ Some q = ap₂ (λ k x. next_pair first after cost k x r) (sym l) a.is ∙ e in
+      let e' : next_pair first after cost (last_rank (ranks xs)) (pair_of cost xs) r ≡ Some q =
+      ap₂ (λ k x. next_pair first after cost k x r) (sym l) a.is ∙ e in
       let n = next_lands Open first after cost opens later dearer xs r q a.landed e' in
       record {
         landings = (r, q.0) ∷ xs;
@@ -42,10 +52,15 @@ module _ (W : Type 0) (Open : ℕ → ℕ → Type 0) (first : ℕ → ℕ → O
       }
 
   -- an attained pair is the start's, or comes from one of a source, which has a successor no worse
-  pub attained_source : (w' : W) (q : Pair) → Attains w' q → ((node [] ≡ w') × ((0, 0) ≡ q)) ⊎ ((w : W) × (r : ℕ) × (p : Pair) × Attains w p × Permitted w r × (push w r ≡ w') × Open r q.0 × (after (newest w) p.0 r ≤ q.0) × (p.1 + cost r q.0 ≡ q.1))
+  pub attained_source : (w' : W) (q : Pair) → Attains w' q → ((node [] ≡ w') × ((0, 0) ≡ q))
+      ⊎ ((w : W) × (r : ℕ) × (p : Pair) × Attains w p × Permitted w r × (push w r ≡ w') × Open r q.0
+      × (after (newest w) p.0 r ≤ q.0) × (p.1 + cost r q.0 ≡ q.1))
   attained_source w' q a = go a.landings a.legal a.landed a.at a.is
     where
-      go : (xs : List Landing) → Legal (ranks xs) → Landed Open after xs → node (ranks xs) ≡ w' → pair_of cost xs ≡ q → ((node [] ≡ w') × ((0, 0) ≡ q)) ⊎ ((w : W) × (r : ℕ) × (p : Pair) × Attains w p × Permitted w r × (push w r ≡ w') × Open r q.0 × (after (newest w) p.0 r ≤ q.0) × (p.1 + cost r q.0 ≡ q.1))
+      go : (xs : List Landing) → Legal (ranks xs) → Landed Open after xs → node (ranks xs) ≡ w'
+          → pair_of cost xs ≡ q → ((node [] ≡ w') × ((0, 0) ≡ q))
+          ⊎ ((w : W) × (r : ℕ) × (p : Pair) × Attains w p × Permitted w r × (push w r ≡ w')
+          × Open r q.0 × (after (newest w) p.0 r ≤ q.0) × (p.1 + cost r q.0 ≡ q.1))
       go [] legal landed at is = inl (at, is)
       go (x ∷ xs) legal landed at is =
           let s = net.shrinks x.0 (ranks xs) legal in
@@ -59,12 +74,20 @@ module _ (W : Type 0) (Open : ℕ → ℕ → Type 0) (first : ℕ → ℕ → O
             s.1,
             sym (net.pushes x.0 (ranks xs) s.0) ∙ at,
             subst (Open x.0) e landed.0,
-            subst (λ k. after k (latest_landing xs).1 x.0 ≤ q.0) (sym l) (subst (λ t. after (latest_landing xs).0 (latest_landing xs).1 x.0 ≤ t) e landed.1),
+            subst (λ k. after k (latest_landing xs).1 x.0 ≤ q.0) (sym l)
+                (subst (λ t. after (latest_landing xs).0 (latest_landing xs).1 x.0 ≤ t) e landed.1),
             ap (λ t. cost_of cost xs + cost x.0 t) (sym e) ∙ ap (λ p. p.1) is,
           )
 
-  -- a node's pairs, from those kept of its sources: each is a successor of a kept one, and each such successor has one no worse
-  pub kept_next : (Keeps : W → Pair → Type 0) (w' : W) (New : Pair → Type 0) → (node [] ≡ w' → ⊥) → ((w : W) (r : ℕ) → Permitted w r → push w r ≡ w' → Kept (Attains w) (Keeps w)) → ((q : Pair) → New q → (w : W) × (r : ℕ) × (p : Pair) × Permitted w r × (push w r ≡ w') × Keeps w p × (next_pair first after cost (newest w) p r ≡ Some q)) → ((w : W) (r : ℕ) (p q : Pair) → Permitted w r → push w r ≡ w' → Keeps w p → next_pair first after cost (newest w) p r ≡ Some q → (o : Pair) × New o × NoWorse o q) → Kept (Attains w') New
+  -- a node's pairs, from those kept of its sources: each is a successor of a kept one, and each such successor has one
+  -- no worse
+  pub kept_next : (Keeps : W → Pair → Type 0) (w' : W) (New : Pair → Type 0) → (node [] ≡ w' → ⊥)
+      → ((w : W) (r : ℕ) → Permitted w r → push w r ≡ w' → Kept (Attains w) (Keeps w))
+      → ((q : Pair) → New q → (w : W) × (r : ℕ) × (p : Pair) × Permitted w r × (push w r ≡ w')
+      × Keeps w p × (next_pair first after cost (newest w) p r ≡ Some q))
+      → ((w : W) (r : ℕ) (p q : Pair) → Permitted w r → push w r ≡ w' → Keeps w p
+      → next_pair first after cost (newest w) p r ≡ Some q → (o : Pair) × New o × NoWorse o q)
+      → Kept (Attains w') New
   kept_next Keeps w' New not_start sources made enough = record {
     attained = λ q n.
         let m = made q n in

@@ -1,5 +1,7 @@
--- The order of nodes is total, so a binary search in states in that order finds the one of a node, and what it lists is all that is listed there.
-use Rattle.std.proofs.Common.{◌≡◌, ℕ, zero, suc, ◌+◌, ◌<◌, inl, inr, Bool, true, false, ◌||◌, List, [], ◌∷◌, length, get_or, refl, sym, ap, ap₂, subst, ◌∙◌, arith}
+-- The order of nodes is total, so a binary search in states in that order finds the one of a node, and what it lists is
+-- all that is listed there.
+use Rattle.std.proofs.Common.{◌≡◌, ℕ, zero, suc, ◌+◌, ◌<◌, inl, inr, Bool, true, false, ◌||◌, List, [], ◌∷◌, length}
+use Rattle.std.proofs.Common.{get_or, refl, sym, ap, ap₂, subst, ◌∙◌, arith}
 use Rattle.std.specs.List.{list_any}
 use Rattle.std.specs.Ordering.{nat_cmp, bool_cmp, ordering_then, ordering_reverse, ordering_index, is_eq, is_lt}
 use Rattle.std.specs.declared.cmp.Ordering.{Ordering}
@@ -17,7 +19,11 @@ use Rattle.cps_theory.specs.CertificateClosure.{InNodeOrder, covers, covers_at, 
 nat_tie : (m n : ℕ) → nat_cmp m n ≡ Equal → m ≡ n
 nat_tie m n e = elim (cases_lt m n) [
   | inl lt ↦ let h = nat_cmp_is m n Less lt in absurd (cc)
-  | inr le ↦ elim (cases_eq m n) [ inl same ↦ same | inr ne ↦ let h = nat_cmp_is m n Greater (omega arith) in absurd (cc) ]
+  | inr le ↦ elim (cases_eq m n) [
+    | inl same ↦ same
+    | inr ne ↦ let h =
+        nat_cmp_is m n Greater (omega arith) in absurd (cc)
+  ]
 ]
 
 then_tie : (a b : Ordering) → ordering_then a b ≡ Equal → (a ≡ Equal) × (b ≡ Equal)
@@ -35,7 +41,8 @@ list_tie : (xs ys : List Bool) → slice_cmp bool_cmp xs ys ≡ Equal → xs ≡
 list_tie [] [] e = refl
 list_tie [] (y ∷ ys) e = absurd (cc)
 list_tie (x ∷ xs) [] e = absurd (cc)
-list_tie (x ∷ xs) (y ∷ ys) e = let t = then_tie (bool_cmp x y) (slice_cmp bool_cmp xs ys) e in ap₂ ◌∷◌ (bool_tie x y t.0) (list_tie xs ys t.1)
+list_tie (x ∷ xs) (y ∷ ys) e = let t =
+    then_tie (bool_cmp x y) (slice_cmp bool_cmp xs ys) e in ap₂ ◌∷◌ (bool_tie x y t.0) (list_tie xs ys t.1)
 
 pub eq_of : (o : Ordering) → is_eq o ≡ true → o ≡ Equal
 eq_of Less e = absurd (cc)
@@ -58,7 +65,9 @@ node_tie a b e =
     whole i j xs ys m n e f h = rw (e, f, h) refl
 
 pub node_total : IsTotalOrder node_cmp
-node_total = then_total (on_total (λ (w : PatternNode). w.0) nat_cmp_total) (then_total (on_total (λ (w : PatternNode). w.1) (lists_total bool_cmp_total)) (on_total (λ (w : PatternNode). w.2) nat_cmp_total))
+node_total = then_total (on_total (λ (w : PatternNode). w.0) nat_cmp_total)
+    (then_total (on_total (λ (w : PatternNode). w.1) (lists_total bool_cmp_total))
+    (on_total (λ (w : PatternNode). w.2) nat_cmp_total))
 
 less_of : (o : Ordering) → is_lt o ≡ true → o ≡ Less
 less_of Less e = refl
@@ -71,56 +80,71 @@ module _ {S : Type 0} (node_of : S → PatternNode) (pairs_of : S → List Pair)
   to_node w s = node_cmp (node_of s) w
 
   -- a state before one that is at the place, or before it, is before it
-  before_equal : (s t : S) (w : PatternNode) → node_cmp (node_of s) (node_of t) ≡ Less → to_node w t ≡ Equal → to_node w s ≡ Less
+  before_equal : (s t : S) (w : PatternNode) → node_cmp (node_of s) (node_of t) ≡ Less → to_node w t ≡ Equal
+      → to_node w s ≡ Less
   before_equal s t w lt eq =
       let o = node_total in
-      let back : node_cmp (node_of t) (node_of s) ≡ Greater = o.antisymm (node_of t) (node_of s) ∙ ap ordering_reverse lt in
+      let back : node_cmp (node_of t) (node_of s) ≡ Greater =
+      o.antisymm (node_of t) (node_of s) ∙ ap ordering_reverse lt in
       let same : node_cmp (node_of t) (node_of s) ≡ node_cmp w (node_of s) = o.congr (node_of t) w (node_of s) eq in
       o.antisymm (node_of s) w ∙ ap ordering_reverse (sym same ∙ back)
 
   -- a state after one that is at the place is after it
-  after_equal : (s t : S) (w : PatternNode) → node_cmp (node_of s) (node_of t) ≡ Less → to_node w s ≡ Equal → to_node w t ≡ Greater
+  after_equal : (s t : S) (w : PatternNode) → node_cmp (node_of s) (node_of t) ≡ Less → to_node w s ≡ Equal
+      → to_node w t ≡ Greater
   after_equal s t w lt eq =
       let o = node_total in
       let same : node_cmp (node_of s) (node_of t) ≡ node_cmp w (node_of t) = o.congr (node_of s) w (node_of t) eq in
       o.antisymm (node_of t) w ∙ ap ordering_reverse (sym same ∙ lt)
 
-  adjacent : (ss : List S) → InNodeOrder node_of pairs_of ss → (k : ℕ) (d : S) → k + 1 < length ss → is_lt (node_cmp (node_of (get_or ss (k + 1) d)) (node_of (get_or ss k d))) ≡ false
+  adjacent : (ss : List S) → InNodeOrder node_of pairs_of ss → (k : ℕ) (d : S) → k + 1 < length ss
+      → is_lt (node_cmp (node_of (get_or ss (k + 1) d)) (node_of (get_or ss k d))) ≡ false
   adjacent [] h k d lt = absurd (omega arith)
   adjacent (a ∷ []) h k d lt = absurd (omega arith)
-  adjacent (a ∷ b ∷ rest) h zero d lt = ap is_lt (node_total.antisymm (node_of b) (node_of a) ∙ ap ordering_reverse (less_of (node_cmp (node_of a) (node_of b)) h.0))
+  adjacent (a ∷ b ∷ rest) h zero d lt = ap is_lt (node_total.antisymm (node_of b) (node_of a)
+      ∙ ap ordering_reverse (less_of (node_cmp (node_of a) (node_of b)) h.0))
   adjacent (a ∷ b ∷ rest) h (suc k) d lt =
       let e : suc k + 1 ≡ suc (k + 1) = omega arith in
-      subst (λ (j : ℕ). is_lt (node_cmp (node_of (get_or (a ∷ b ∷ rest) j d)) (node_of (get_or (b ∷ rest) k d))) ≡ false) (sym e) (adjacent (b ∷ rest) h.1 k d (omega arith))
+      subst (λ (j : ℕ). is_lt (node_cmp (node_of (get_or (a ∷ b ∷ rest) j d))
+      (node_of (get_or (b ∷ rest) k d))) ≡ false) (sym e) (adjacent (b ∷ rest) h.1 k d (omega arith))
 
-  pub non_decreasing : (w : PatternNode) (ss : List S) → InNodeOrder node_of pairs_of ss → IsNonDecreasingBy (λ s. ordering_index (to_node w s)) ss
+  pub non_decreasing : (w : PatternNode) (ss : List S) → InNodeOrder node_of pairs_of ss
+      → IsNonDecreasingBy (λ s. ordering_index (to_node w s)) ss
   non_decreasing w ss h = searchable_from_sorted node_total node_of ss w (λ k d a b. adjacent ss h k d b)
 
   -- the first of an ascending list comes before each other
-  head_below : (a : S) (rest : List S) → InNodeOrder node_of pairs_of (a ∷ rest) → (k : ℕ) (d : S) → k < length rest → node_cmp (node_of a) (node_of (get_or rest k d)) ≡ Less
+  head_below : (a : S) (rest : List S) → InNodeOrder node_of pairs_of (a ∷ rest) → (k : ℕ) (d : S)
+      → k < length rest → node_cmp (node_of a) (node_of (get_or rest k d)) ≡ Less
   head_below a [] h k d lt = absurd (omega arith)
   head_below a (b ∷ rest) h zero d lt = less_of (node_cmp (node_of a) (node_of b)) h.0
-  head_below a (b ∷ rest) h (suc k) d lt = node_total.trans (node_of a) (node_of b) (node_of (get_or rest k d)) (less_of (node_cmp (node_of a) (node_of b)) h.0) (head_below b rest h.1 k d (omega arith))
+  head_below a (b ∷ rest) h (suc k) d lt = node_total.trans (node_of a) (node_of b) (node_of (get_or rest k d))
+      (less_of (node_cmp (node_of a) (node_of b)) h.0) (head_below b rest h.1 k d (omega arith))
 
   -- ---- what is listed at a place
 
   not_at : (w : PatternNode) (q : Pair) (s : S) → is_eq (to_node w s) ≡ false → covers_at node_of pairs_of w q s ≡ false
   not_at w q s e = rw e refl
 
-  pub none_covers : (w : PatternNode) (q : Pair) (ss : List S) → ((k : ℕ) (d : S) → k < length ss → is_eq (to_node w (get_or ss k d)) ≡ false) → covers node_of pairs_of ss w q ≡ false
+  pub none_covers : (w : PatternNode) (q : Pair) (ss : List S)
+      → ((k : ℕ) (d : S) → k < length ss → is_eq (to_node w (get_or ss k d)) ≡ false)
+      → covers node_of pairs_of ss w q ≡ false
   unfolding covers
   none_covers w q [] h = refl
-  none_covers w q (s ∷ ss) h = rw (not_at w q s (h zero s (omega arith))) (none_covers w q ss (λ k d lt. h (suc k) d (omega arith)))
+  none_covers w q (s ∷ ss) h =
+      rw (not_at w q s (h zero s (omega arith))) (none_covers w q ss (λ k d lt. h (suc k) d (omega arith)))
 
   tail_ascending : (a : S) (rest : List S) → InNodeOrder node_of pairs_of (a ∷ rest) → InNodeOrder node_of pairs_of rest
   tail_ascending a [] h = tt
   tail_ascending a (b ∷ rest) h = h.1
 
-  pub found_covers : (w : PatternNode) (q : Pair) (ss : List S) → InNodeOrder node_of pairs_of ss → (i : ℕ) (d : S) → i < length ss → to_node w (get_or ss i d) ≡ Equal → covers node_of pairs_of ss w q ≡ list_any (λ o. no_worse o q) (pairs_of (get_or ss i d))
+  pub found_covers : (w : PatternNode) (q : Pair) (ss : List S) → InNodeOrder node_of pairs_of ss
+      → (i : ℕ) (d : S) → i < length ss → to_node w (get_or ss i d) ≡ Equal
+      → covers node_of pairs_of ss w q ≡ list_any (λ o. no_worse o q) (pairs_of (get_or ss i d))
   unfolding covers
   found_covers w q [] h i d lt e = absurd (omega arith)
   found_covers w q (s ∷ ss) h zero d lt e =
-      let rest : covers node_of pairs_of ss w q ≡ false = none_covers w q ss (λ k f l. ap is_eq (after_equal s (get_or ss k f) w (head_below s ss h k f l) e)) in
+      let rest : covers node_of pairs_of ss w q ≡ false =
+      none_covers w q ss (λ k f l. ap is_eq (after_equal s (get_or ss k f) w (head_below s ss h k f l) e)) in
       let here : covers_at node_of pairs_of w q s ≡ list_any (λ o. no_worse o q) (pairs_of s) = rw (ap is_eq e) refl in
       rw (rest, here) (or_false (list_any (λ o. no_worse o q) (pairs_of s)))
     where

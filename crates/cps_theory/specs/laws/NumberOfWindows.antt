@@ -1,5 +1,6 @@
 -- There are at most m ^ n different lists of n numbers below m, so a stage has at most (2k + 1) ^ (2k + 1) windows.
-use Rattle.std.proofs.Common.{◌≡◌, ℕ, suc, ◌+◌, ◌*◌, ◌^◌, ◌<◌, ◌≤◌, inl, inr, List, [], ◌∷◌, length, map, arith, refl, sym, ap, ap₂, subst, ◌∙◌}
+use Rattle.std.proofs.Common.{◌≡◌, ℕ, suc, ◌+◌, ◌*◌, ◌^◌, ◌<◌, ◌≤◌, inl, inr, List, [], ◌∷◌, length, map, arith, refl}
+use Rattle.std.proofs.Common.{sym, ap, ap₂, subst, ◌∙◌}
 use Rattle.std.proofs.Math.Nat.{pow-succ', pow-zero}
 use Rattle.std.proofs.lemmas.Nat.{mul-add-lt}
 use Rattle.std.proofs.lemmas.Bool.{cases_order}
@@ -15,7 +16,8 @@ as_number m (x ∷ xs) = as_number m xs * m + x
 
 as_number_below : (m : ℕ) (xs : List ℕ) → AllByRecursion (λ x. x < m) xs → as_number m xs < m ^ length xs
 as_number_below m [] a = let e = pow-zero m in omega (arith, e)
-as_number_below m (x ∷ xs) a = let b = mul-add-lt (as_number m xs) m x (m ^ length xs) (as_number_below m xs a.1) a.0 in let e = pow-succ' m (length xs) in omega (arith, b, e)
+as_number_below m (x ∷ xs) a = let b = mul-add-lt (as_number m xs) m x (m ^ length xs) (as_number_below m xs a.1) a.0 in
+    let e = pow-succ' m (length xs) in omega (arith, b, e)
 
 same_parts : (m a b x y : ℕ) → x < m → y < m → a * m + x ≡ b * m + y → (a ≡ b) × (x ≡ y)
 same_parts m a b x y lx ly e = elim (cases_order a b) [
@@ -24,7 +26,8 @@ same_parts m a b x y lx ly e = elim (cases_order a b) [
   | inr (inr lt) ↦ absurd (omega (arith, mul-add-lt b m y a lt ly))
 ]
 
-as_number_same : (m : ℕ) (xs ys : List ℕ) → length xs ≡ length ys → AllByRecursion (λ x. x < m) xs → AllByRecursion (λ x. x < m) ys → as_number m xs ≡ as_number m ys → xs ≡ ys
+as_number_same : (m : ℕ) (xs ys : List ℕ) → length xs ≡ length ys → AllByRecursion (λ x. x < m) xs
+    → AllByRecursion (λ x. x < m) ys → as_number m xs ≡ as_number m ys → xs ≡ ys
 as_number_same m [] [] l a b e = refl
 as_number_same m [] (y ∷ ys) l a b e = absurd (omega arith)
 as_number_same m (x ∷ xs) [] l a b e = absurd (omega arith)
@@ -32,16 +35,19 @@ as_number_same m (x ∷ xs) (y ∷ ys) l a b e =
     let s = same_parts m (as_number m xs) (as_number m ys) x y a.0 b.0 e in
     ap₂ ◌∷◌ s.1 (as_number_same m xs ys (omega arith) a.1 b.1 s.0)
 
-numbers_differ : (m n : ℕ) (w : List ℕ) (ws : List (List ℕ)) → Sized m n w → AllByRecursion (Sized m n) ws → In (suc (as_number m w)) (map (λ x. suc (as_number m x)) ws) → InLists w ws
+numbers_differ : (m n : ℕ) (w : List ℕ) (ws : List (List ℕ)) → Sized m n w → AllByRecursion (Sized m n) ws
+    → In (suc (as_number m w)) (map (λ x. suc (as_number m x)) ws) → InLists w ws
 numbers_differ m n w [] s a i = i
 numbers_differ m n w (x ∷ ws) s a (inl e) = inl (as_number_same m w x (s.0 ∙ sym a.0.0) s.1 a.0.1 (omega arith))
 numbers_differ m n w (x ∷ ws) s a (inr i) = inr (numbers_differ m n w ws s a.1 i)
 
-distinct_numbers : (m n : ℕ) (ws : List (List ℕ)) → AllByRecursion (Sized m n) ws → DistinctLists ws → Distinct (map (λ x. suc (as_number m x)) ws)
+distinct_numbers : (m n : ℕ) (ws : List (List ℕ)) → AllByRecursion (Sized m n) ws → DistinctLists ws
+    → Distinct (map (λ x. suc (as_number m x)) ws)
 distinct_numbers m n [] a d = tt
 distinct_numbers m n (w ∷ ws) a d = (λ i. d.0 (numbers_differ m n w ws a.0 a.1 i), distinct_numbers m n ws a.1 d.1)
 
-in_range : (m n x : ℕ) (ws : List (List ℕ)) → AllByRecursion (Sized m n) ws → In x (map (λ y. suc (as_number m y)) ws) → IsRank (m ^ n) x
+in_range : (m n x : ℕ) (ws : List (List ℕ)) → AllByRecursion (Sized m n) ws → In x (map (λ y. suc (as_number m y)) ws)
+    → IsRank (m ^ n) x
 in_range m n x [] a i = absurd i
 in_range m n x (w ∷ ws) a (inl e) =
     let b = as_number_below m w a.0.1 in
@@ -55,5 +61,6 @@ length-numbers m (w ∷ ws) = ap suc (length-numbers m ws)
 
 pub few_lists : (m n : ℕ) (ws : List (List ℕ)) → AllByRecursion (Sized m n) ws → DistinctLists ws → length ws ≤ m ^ n
 few_lists m n ws a d =
-    let f = few_ranks (m ^ n) (map (λ x. suc (as_number m x)) ws) (distinct_numbers m n ws a d) (λ x i. in_range m n x ws a i) in
+    let f = few_ranks (m ^ n) (map (λ x. suc (as_number m x)) ws) (distinct_numbers m n ws a d)
+    (λ x i. in_range m n x ws a i) in
     subst (λ k. k ≤ m ^ n) (length-numbers m ws) f

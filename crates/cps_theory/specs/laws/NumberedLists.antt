@@ -1,5 +1,6 @@
 -- Lists made from the numbers from i on: what holds in them, counts in them, and is filtered from them.
-use Rattle.std.proofs.Common.{◌≡◌, ℕ, zero, suc, ◌+◌, ◌<◌, ◌≤◌, inl, inr, Bool, true, false, cond, List, [], ◌∷◌, map, filter, count_by, refl, sym, ap, subst, ◌∙◌, arith}
+use Rattle.std.proofs.Common.{◌≡◌, ℕ, zero, suc, ◌+◌, ◌<◌, ◌≤◌, inl, inr, Bool, true, false, cond, List, [], ◌∷◌, map}
+use Rattle.std.proofs.Common.{filter, count_by, refl, sym, ap, subst, ◌∙◌, arith}
 use Rattle.std.specs.Prelude.{All}
 use Rattle.std.proofs.lemmas.Bool.{cases_eq}
 use Rattle.std.proofs.lemmas.List.Sums.{sum_by-cons}
@@ -13,25 +14,31 @@ in_numbers i (suc n) x (inr m) = let a = in_numbers (suc i) n x m in (omega (ari
 
 pub numbers_in : (i n x : ℕ) → i ≤ x → x < i + n → In x (numbers_from i n)
 numbers_in i zero x le lt = absurd (omega arith)
-numbers_in i (suc n) x le lt = elim (cases_eq x i) [ inl e ↦ inl e | inr ne ↦ inr (numbers_in (suc i) n x (omega arith) (omega arith)) ]
+numbers_in i (suc n) x le lt =
+    elim (cases_eq x i) [ inl e ↦ inl e | inr ne ↦ inr (numbers_in (suc i) n x (omega arith) (omega arith)) ]
 
 pub distinct_numbers : (i n : ℕ) → Distinct (numbers_from i n)
 distinct_numbers i zero = tt
 distinct_numbers i (suc n) = (λ m. let a = in_numbers (suc i) n i m in omega (arith, a.0), distinct_numbers (suc i) n)
 
-pub map_numbers : {X : Type 0} (f : ℕ → X) (i n : ℕ) → map f (numbers_from (suc i) n) ≡ map (λ j. f (suc j)) (numbers_from i n)
+pub map_numbers : {X : Type 0} (f : ℕ → X) (i n : ℕ)
+    → map f (numbers_from (suc i) n) ≡ map (λ j. f (suc j)) (numbers_from i n)
 map_numbers f i zero = refl
 map_numbers f i (suc n) = ap (λ l. f (suc i) ∷ l) (map_numbers f (suc i) n)
 
-pub filter_map_is : {X : Type 0} (p : X → Bool) (f : ℕ → X) (xs : List ℕ) → filter p (map f xs) ≡ map f (filter (λ i. p (f i)) xs)
+pub filter_map_is : {X : Type 0} (p : X → Bool) (f : ℕ → X) (xs : List ℕ)
+    → filter p (map f xs) ≡ map f (filter (λ i. p (f i)) xs)
 filter_map_is p f [] = refl
 filter_map_is p f (x ∷ xs) = go (p (f x)) (filter_map_is p f xs)
   where
-    go : (b : Bool) → filter p (map f xs) ≡ map f (filter (λ i. p (f i)) xs) → cond b (f x ∷ filter p (map f xs)) (filter p (map f xs)) ≡ map f (cond b (x ∷ filter (λ i. p (f i)) xs) (filter (λ i. p (f i)) xs))
+    go : (b : Bool) → filter p (map f xs) ≡ map f (filter (λ i. p (f i)) xs)
+        → cond b (f x ∷ filter p (map f xs)) (filter p (map f xs)) ≡ map f
+        (cond b (x ∷ filter (λ i. p (f i)) xs) (filter (λ i. p (f i)) xs))
     go true e = ap (λ l. f x ∷ l) e
     go false e = e
 
-pub count_by_map : {X : Type 0} (p : X → Bool) (f : ℕ → X) (xs : List ℕ) → count_by p (map f xs) ≡ count_by (λ i. p (f i)) xs
+pub count_by_map : {X : Type 0} (p : X → Bool) (f : ℕ → X) (xs : List ℕ)
+    → count_by p (map f xs) ≡ count_by (λ i. p (f i)) xs
 count_by_map p f xs = go xs ∙ sym (count_is (λ i. p (f i)) xs)
   where
     go : (xs : List ℕ) → count_by p (map f xs) ≡ count (λ i. p (f i)) xs

@@ -1,25 +1,31 @@
 -- The pattern of the placed ranks round a stage, with the latest rank, is a node of a network.
-use Rattle.std.proofs.Common.{◌≡◌, ℕ, zero, suc, ◌+◌, ◌-◌, ◌*◌, ◌<◌, ◌≤◌, ◌⊎◌, ◌↔◌, inl, inr, List, [], ◌∷◌, length, get_or, arith, refl, sym, ap, ap₂, ◌∙◌, Bool, true, false, ◌||◌, eqb, leb}
-use Rattle.std.proofs.lemmas.Bool.{cases_lt, cases_Bool, cases_eq, eqb-true, eq-eqb, ne_eqb, le-leb, lt-leb, or_cases, or_left, or_right, false≢true}
+use Rattle.std.proofs.Common.{◌≡◌, ℕ, zero, suc, ◌+◌, ◌-◌, ◌*◌, ◌<◌, ◌≤◌, ◌⊎◌, ◌↔◌, inl, inr, List, [], ◌∷◌, length}
+use Rattle.std.proofs.Common.{get_or, arith, refl, sym, ap, ap₂, ◌∙◌, Bool, true, false, ◌||◌, eqb, leb}
+use Rattle.std.proofs.lemmas.Bool.{cases_lt, cases_Bool, cases_eq, eqb-true, eq-eqb, ne_eqb, le-leb, lt-leb, or_cases}
+use Rattle.std.proofs.lemmas.Bool.{or_left, or_right, false≢true}
 use Rattle.cps_theory.specs.RankLists.{In, above, below}
 use Rattle.cps_theory.specs.LegalPrefix.{Legal, MayCome, MayFollow, OrderRules}
 use Rattle.cps_theory.specs.Network.{Network}
-use Rattle.cps_theory.specs.Patterns.{IsPlacedByPattern, PatternNode, PatternPermits, is_member, pattern_digit, pattern_newest, pattern_node, pattern_push, tests_from}
+use Rattle.cps_theory.specs.Patterns.{IsPlacedByPattern, PatternNode, PatternPermits, is_member, pattern_digit}
+use Rattle.cps_theory.specs.Patterns.{pattern_newest, pattern_node, pattern_push, tests_from}
 use Rattle.cps_theory.specs.laws.LegalPrefix.{legal_each_fits, legal_none_due, in_below}
 
 pub get_or-tests : (t : ℕ → Bool) (y m i : ℕ) → i < m → get_or (tests_from t y m) i false ≡ t (y + i)
 get_or-tests t y zero i lt = absurd (omega arith)
 get_or-tests t y (suc m) zero lt = let e : y ≡ y + 0 = omega arith in ap t e
-get_or-tests t y (suc m) (suc i) lt = let e : suc y + i ≡ y + suc i = omega arith in get_or-tests t (suc y) m i (omega arith) ∙ ap t e
+get_or-tests t y (suc m) (suc i) lt = let e : suc y + i ≡ y + suc i =
+    omega arith in get_or-tests t (suc y) m i (omega arith) ∙ ap t e
 
 pub get_or-tests_past : (t : ℕ → Bool) (y m i : ℕ) → m ≤ i → get_or (tests_from t y m) i false ≡ false
 get_or-tests_past t y zero i le = refl
 get_or-tests_past t y (suc m) zero le = absurd (omega arith)
 get_or-tests_past t y (suc m) (suc i) le = get_or-tests_past t (suc y) m i (omega arith)
 
-pub tests_agree : (t t' : ℕ → Bool) (y m : ℕ) → ((x : ℕ) → y ≤ x → x < y + m → t x ≡ t' x) → tests_from t y m ≡ tests_from t' y m
+pub tests_agree : (t t' : ℕ → Bool) (y m : ℕ) → ((x : ℕ) → y ≤ x → x < y + m → t x ≡ t' x)
+    → tests_from t y m ≡ tests_from t' y m
 tests_agree t t' y zero h = refl
-tests_agree t t' y (suc m) h = ap₂ ◌∷◌ (h y (omega arith) (omega arith)) (tests_agree t t' (suc y) m (λ x le lt. h x (omega arith) (omega arith)))
+tests_agree t t' y (suc m) h =
+    ap₂ ◌∷◌ (h y (omega arith) (omega arith)) (tests_agree t t' (suc y) m (λ x le lt. h x (omega arith) (omega arith)))
 
 pub member_in : (x : ℕ) (rs : List ℕ) → is_member x rs ≡ true → In x rs
 member_in x [] e = cc
@@ -39,10 +45,12 @@ not_member x rs h = elim (cases_Bool (is_member x rs)) [ inl t ↦ absurd (h (me
 
 -- above the ranks below 1 a digit is membership
 pub digit_member : (k x : ℕ) (rs : List ℕ) → 1 ≤ x → pattern_digit k rs (x + k) ≡ is_member x rs
-digit_member k x rs one = let e : x + k - k ≡ x = omega arith in ap₂ ◌||◌ (lt-leb (x + k) k (omega arith)) (ap (λ y. is_member y rs) e)
+digit_member k x rs one = let e : x + k - k ≡ x =
+    omega arith in ap₂ ◌||◌ (lt-leb (x + k) k (omega arith)) (ap (λ y. is_member y rs) e)
 
 -- what may come next by the prefix, and by any account of what is placed that is right from rank 1 on
-may_come : (g : OrderRules) (rs : List ℕ) (Here : ℕ → Type 0) → ((x : ℕ) → 1 ≤ x → In x rs ↔ Here x) → (r : ℕ) → MayFollow g rs r → MayCome g (length rs) Here r
+may_come : (g : OrderRules) (rs : List ℕ) (Here : ℕ → Type 0) → ((x : ℕ) → 1 ≤ x → In x rs ↔ Here x)
+    → (r : ℕ) → MayFollow g rs r → MayCome g (length rs) Here r
 may_come g rs Here same r n = record {
   from_one = n.fits.from_one;
   to_count = n.fits.to_count;
@@ -53,7 +61,8 @@ may_come g rs Here same r n = record {
   due = λ x one e. elim (n.due x one e) [ inl e' ↦ inl e' | inr i ↦ inr ((same x one).0 i) ];
 }
 
-is_next : (g : OrderRules) → ((a r : ℕ) → g.before a r ≡ true → 1 ≤ a) → (rs : List ℕ) (Here : ℕ → Type 0) → ((x : ℕ) → 1 ≤ x → In x rs ↔ Here x) → (r : ℕ) → MayCome g (length rs) Here r → MayFollow g rs r
+is_next : (g : OrderRules) → ((a r : ℕ) → g.before a r ≡ true → 1 ≤ a) → (rs : List ℕ) (Here : ℕ → Type 0)
+    → ((x : ℕ) → 1 ≤ x → In x rs ↔ Here x) → (r : ℕ) → MayCome g (length rs) Here r → MayFollow g rs r
 is_next g ones rs Here same r m = record {
   fits = record {
     from_one = m.from_one;
@@ -72,7 +81,9 @@ module _ (g : OrderRules) (ones : (a r : ℕ) → g.before a r ≡ true → 1 �
       let k = g.most in let p = length rs in let i = x + k - suc p in
       let below = in_below g x rs (legal_each_fits g rs l) in
       let at : suc p ≤ x + k → suc p + i ≡ x + k = λ le. omega arith in
-      let shown : suc p ≤ x + k → i < 2 * k → get_or (pattern_node g rs).1 i false ≡ is_member x rs = λ le lt. get_or-tests (pattern_digit k rs) (suc p) (2 * k) i lt ∙ ap (pattern_digit k rs) (at le) ∙ digit_member k x rs one in (
+      let shown : suc p ≤ x + k → i < 2 * k → get_or (pattern_node g rs).1 i false ≡ is_member x rs =
+      λ le lt. get_or-tests (pattern_digit k rs) (suc p) (2 * k) i lt ∙ ap (pattern_digit k rs) (at le)
+      ∙ digit_member k x rs one in (
         λ h. elim (cases_lt p (x + k)) [
           | inl lt ↦ let b = below h in inr (shown lt (omega arith) ∙ in_member x rs h)
           | inr le ↦ inl le
@@ -89,15 +100,22 @@ module _ (g : OrderRules) (ones : (a r : ℕ) → g.before a r ≡ true → 1 �
         ],
       )
 
-  pushed : (rs : List ℕ) (r : ℕ) → Legal g rs → (y : ℕ) → suc (suc (length rs)) ≤ y → y < suc (suc (length rs)) + 2 * g.most → pattern_digit g.most (r ∷ rs) y ≡ eqb y (r + g.most) || get_or (pattern_node g rs).1 (y - suc (length rs)) false
+  pushed : (rs : List ℕ) (r : ℕ) → Legal g rs → (y : ℕ) → suc (suc (length rs)) ≤ y
+      → y < suc (suc (length rs)) + 2 * g.most → pattern_digit g.most (r ∷ rs) y ≡ eqb y (r + g.most)
+      || get_or (pattern_node g rs).1 (y - suc (length rs)) false
   pushed rs r l y from to = elim (cases_lt g.most y) [ inl above ↦ high above | inr below ↦ deep below ]
     where
       old : pattern_digit g.most rs y ≡ get_or (pattern_node g rs).1 (y - suc (length rs)) false
       old = elim (cases_lt (y - suc (length rs)) (2 * g.most)) [
-        | inl lt ↦ let e : suc (length rs) + (y - suc (length rs)) ≡ y = omega arith in ap (pattern_digit g.most rs) (sym e) ∙ sym (get_or-tests (pattern_digit g.most rs) (suc (length rs)) (2 * g.most) (y - suc (length rs)) lt)
+        | inl lt ↦ let e : suc (length rs) + (y - suc (length rs)) ≡ y = omega arith in
+            ap (pattern_digit g.most rs) (sym e)
+            ∙ sym (get_or-tests (pattern_digit g.most rs) (suc (length rs)) (2 * g.most) (y - suc (length rs)) lt)
         | inr past ↦
-            let out : In (y - g.most) rs → ⊥ = λ i. let b = in_below g (y - g.most) rs (legal_each_fits g rs l) i in omega arith in
-            ap₂ ◌||◌ (lt-leb y g.most (omega arith)) (not_member (y - g.most) rs out) ∙ sym (get_or-tests_past (pattern_digit g.most rs) (suc (length rs)) (2 * g.most) (y - suc (length rs)) past)
+            let out : In (y - g.most) rs → ⊥ =
+            λ i. let b = in_below g (y - g.most) rs (legal_each_fits g rs l) i in omega arith in
+            ap₂ ◌||◌ (lt-leb y g.most (omega arith)) (not_member (y - g.most) rs out)
+            ∙ sym (get_or-tests_past (pattern_digit g.most rs) (suc (length rs)) (2 * g.most)
+            (y - suc (length rs)) past)
       ]
 
       same_eqb : g.most < y → eqb (y - g.most) r ≡ eqb y (r + g.most)
@@ -106,25 +124,34 @@ module _ (g : OrderRules) (ones : (a r : ℕ) → g.before a r ≡ true → 1 �
         | inr ne ↦ ne_eqb (y - g.most) r (λ e. ne (omega arith)) ∙ sym (ne_eqb y (r + g.most) ne)
       ]
 
-      high : g.most < y → pattern_digit g.most (r ∷ rs) y ≡ eqb y (r + g.most) || get_or (pattern_node g rs).1 (y - suc (length rs)) false
+      high : g.most < y → pattern_digit g.most (r ∷ rs) y ≡ eqb y (r + g.most)
+          || get_or (pattern_node g rs).1 (y - suc (length rs)) false
       high above =
           let no = lt-leb y g.most above in
-          let a : pattern_digit g.most (r ∷ rs) y ≡ eqb (y - g.most) r || is_member (y - g.most) rs = ap (λ b. b || (eqb (y - g.most) r || is_member (y - g.most) rs)) no in
+          let a : pattern_digit g.most (r ∷ rs) y ≡ eqb (y - g.most) r || is_member (y - g.most) rs =
+          ap (λ b. b || (eqb (y - g.most) r || is_member (y - g.most) rs)) no in
           let b : pattern_digit g.most rs y ≡ is_member (y - g.most) rs = ap (λ c. c || is_member (y - g.most) rs) no in
           a ∙ ap₂ ◌||◌ (same_eqb above) (sym b ∙ old)
 
-      deep : y ≤ g.most → pattern_digit g.most (r ∷ rs) y ≡ eqb y (r + g.most) || get_or (pattern_node g rs).1 (y - suc (length rs)) false
+      deep : y ≤ g.most → pattern_digit g.most (r ∷ rs) y ≡ eqb y (r + g.most)
+          || get_or (pattern_node g rs).1 (y - suc (length rs)) false
       deep below =
           let yes = le-leb y g.most below in
-          let a : pattern_digit g.most (r ∷ rs) y ≡ true = or_left (leb y g.most) (is_member (y - g.most) (r ∷ rs)) yes in
+          let a : pattern_digit g.most (r ∷ rs) y ≡ true =
+          or_left (leb y g.most) (is_member (y - g.most) (r ∷ rs)) yes in
           let b : pattern_digit g.most rs y ≡ true = or_left (leb y g.most) (is_member (y - g.most) rs) yes in
-          a ∙ sym (or_right (eqb y (r + g.most)) (get_or (pattern_node g rs).1 (y - suc (length rs)) false) (sym old ∙ b))
+          a ∙ sym (or_right (eqb y (r + g.most)) (get_or (pattern_node g rs).1 (y - suc (length rs)) false)
+          (sym old ∙ b))
 
-  pub pattern_network : Network PatternNode (Legal g) (pattern_node g) (PatternPermits g) (pattern_push g) pattern_newest
+  pub pattern_network : Network PatternNode (Legal g) (pattern_node g) (PatternPermits g)
+      (pattern_push g) pattern_newest
   pattern_network = record {
     empty = tt;
     grows = λ r rs l m. (is_next g ones rs _ (same rs l) r m, l);
     shrinks = λ r rs l. (l.1, may_come g rs _ (same rs l.1) r l.0);
-    pushes = λ r rs l. ap (λ w. (suc (length rs), w, r)) (tests_agree (pattern_digit g.most (r ∷ rs)) (λ y. eqb y (r + g.most) || get_or (pattern_node g rs).1 (y - suc (length rs)) false) (suc (suc (length rs))) (2 * g.most) (pushed rs r l));
+    pushes = λ r rs l. ap (λ w. (suc (length rs), w, r))
+        (tests_agree (pattern_digit g.most (r ∷ rs)) (λ y. eqb y (r + g.most)
+        || get_or (pattern_node g rs).1 (y - suc (length rs)) false) (suc (suc (length rs)))
+        (2 * g.most) (pushed rs r l));
     newest_is = λ rs l. refl;
   }

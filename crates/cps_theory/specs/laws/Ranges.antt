@@ -17,7 +17,8 @@ module _ (P : ℕ → Type 0) (start end : ℕ) where
 
   each : AllWithin P numbers 0 (length numbers) → (k : ℕ) → start ≤ k → k < end → P k
   each h k a b =
-      let at : get_or numbers (k - start) 0 ≡ k = omega (arith, get_or-range_with_len start (end - start) (k - start) 0 (omega arith)) in
+      let at : get_or numbers (k - start) 0 ≡ k =
+      omega (arith, get_or-range_with_len start (end - start) (k - start) 0 (omega arith)) in
       subst P at (h (k - start) 0 (omega arith) (omega (arith, length-range_with_len start (end - start))))
 
   some : (i : ℕ) × (i < length numbers) × HoldsAt P numbers i → (k : ℕ) × (start ≤ k) × (k < end) × P k
@@ -31,15 +32,25 @@ module _ {F : Type 0} {g : Mut F (ℕ × Unit {0}) Bool} (P : ℕ → Type 0) (s
   fails x q k p = false≢true ((calls x false q k).1.1 p)
 
   pub all_in_range : ChecksAll nat_range_steps g s f r u → IsTrue r ↔ ((k : ℕ) → s.start ≤ k → k < s.end → P k)
-  all_in_range ran = by r (cases_from_all u f r P (λ x. P x → ⊥) ran (YieldsList-from_range s.start s.end _ refl refl) (λ x q k. let c = calls x true q k in (c.0, c.1.0 refl)) fails)
+  all_in_range ran = by r (cases_from_all u f r P (λ x. P x → ⊥) ran (YieldsList-from_range s.start s.end _ refl refl)
+      (λ x q k. let c = calls x true q k in (c.0, c.1.0 refl)) fails)
     where
-      by : (b : Bool) → MatchBool b (AllWithin P (numbers P s.start s.end) 0 (length (numbers P s.start s.end))) ((i : ℕ) × (i < length (numbers P s.start s.end)) × HoldsAt (λ x. P x → ⊥) (numbers P s.start s.end) i) → IsTrue b ↔ ((k : ℕ) → s.start ≤ k → k < s.end → P k)
+      by : (b : Bool) → MatchBool b (AllWithin P (numbers P s.start s.end) 0 (length (numbers P s.start s.end)))
+          ((i : ℕ) × (i < length (numbers P s.start s.end)) × HoldsAt (λ x. P x → ⊥) (numbers P s.start s.end) i)
+          → IsTrue b ↔ ((k : ℕ) → s.start ≤ k → k < s.end → P k)
       by true h = (λ t. each P s.start s.end h, λ h. refl)
-      by false h = (λ t. absurd (false≢true t), λ all. let x = some (λ x. P x → ⊥) s.start s.end h in absurd (x.3 (all x.0 x.1 x.2)))
+      by false h = (
+        λ t. absurd (false≢true t),
+        λ all. let x =
+            some (λ x. P x → ⊥) s.start s.end h in absurd (x.3 (all x.0 x.1 x.2)),
+      )
 
   pub any_in_range : ChecksAny nat_range_steps g s f r u → IsTrue r ↔ ((k : ℕ) × (s.start ≤ k) × (k < s.end) × P k)
-  any_in_range ran = by r (cases_from_any u f r P (λ x. P x → ⊥) ran (YieldsList-from_range s.start s.end _ refl refl) (λ x q k. (calls x true q k).1.0 refl) (λ x q k. ((calls x false q k).0, fails x q k)))
+  any_in_range ran = by r (cases_from_any u f r P (λ x. P x → ⊥) ran (YieldsList-from_range s.start s.end _ refl refl)
+      (λ x q k. (calls x true q k).1.0 refl) (λ x q k. ((calls x false q k).0, fails x q k)))
     where
-      by : (b : Bool) → MatchBool b ((i : ℕ) × (i < length (numbers P s.start s.end)) × HoldsAt P (numbers P s.start s.end) i) (AllWithin (λ x. P x → ⊥) (numbers P s.start s.end) 0 (length (numbers P s.start s.end))) → IsTrue b ↔ ((k : ℕ) × (s.start ≤ k) × (k < s.end) × P k)
+      by : (b : Bool) → MatchBool b ((i : ℕ) × (i < length (numbers P s.start s.end))
+          × HoldsAt P (numbers P s.start s.end) i) (AllWithin (λ x. P x → ⊥) (numbers P s.start s.end) 0
+          (length (numbers P s.start s.end))) → IsTrue b ↔ ((k : ℕ) × (s.start ≤ k) × (k < s.end) × P k)
       by true h = (λ t. some P s.start s.end h, λ x. refl)
       by false h = (λ t. absurd (false≢true t), λ x. absurd (each (λ y. P y → ⊥) s.start s.end h x.0 x.1 x.2 x.3))

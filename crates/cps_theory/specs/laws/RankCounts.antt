@@ -1,6 +1,9 @@
 -- Counting in a list of ranks: by tests that cover, split or follow one another, behind a filter or a map.
-use Rattle.std.proofs.Common.{◌≡◌, ℕ, zero, suc, ◌+◌, ◌≤◌, ◌⊎◌, inl, inr, List, [], ◌∷◌, cond, Bool, true, false, ◌&&◌, ltb, leb, eqb, max, count_by, arith, refl, sym, ap, ap₂, subst, ◌∙◌, zero-le, ◌<◌, length, map, filter, not}
-use Rattle.std.proofs.lemmas.Bool.{cases_lt, cases_eq, cases_Bool, ltb-true, leb-true, eqb-true, le-leb, eq-eqb, and_parts, and_from, false≢true}
+use Rattle.std.proofs.Common.{◌≡◌, ℕ, zero, suc, ◌+◌, ◌≤◌, ◌⊎◌, inl, inr, List, [], ◌∷◌, cond, Bool, true, false, ◌&&◌}
+use Rattle.std.proofs.Common.{ltb, leb, eqb, max, count_by, arith, refl, sym, ap, ap₂, subst, ◌∙◌, zero-le, ◌<◌}
+use Rattle.std.proofs.Common.{length, map, filter, not}
+use Rattle.std.proofs.lemmas.Bool.{cases_lt, cases_eq, cases_Bool, ltb-true, leb-true, eqb-true, le-leb, eq-eqb}
+use Rattle.std.proofs.lemmas.Bool.{and_parts, and_from, false≢true}
 use Rattle.std.proofs.lemmas.List.Sums.{sum_by-cons}
 use Rattle.cps_theory.specs.RankLists.{Distinct, In}
 
@@ -26,7 +29,8 @@ covered true false true h = omega arith
 covered true false false h = elim (h refl) [ inl e ↦ absurd (false≢true e) | inr e ↦ absurd (false≢true e) ]
 
 -- what two tests cover between them is no more than both count
-pub count_cover : (t u v : ℕ → Bool) (rs : List ℕ) → ((r : ℕ) → In r rs → t r ≡ true → (u r ≡ true) ⊎ (v r ≡ true)) → count t rs ≤ count u rs + count v rs
+pub count_cover : (t u v : ℕ → Bool) (rs : List ℕ) → ((r : ℕ) → In r rs → t r ≡ true → (u r ≡ true) ⊎ (v r ≡ true))
+    → count t rs ≤ count u rs + count v rs
 count_cover t u v [] h = zero-le
 count_cover t u v (r ∷ rs) h =
     let a = covered (t r) (u r) (v r) (h r (inl refl)) in
@@ -45,7 +49,8 @@ count_once v [] d = zero-le
 count_once v (r ∷ rs) d =
     elim (cases_eq r v) [
       | inl e ↦
-          let none = count_none (λ x. eqb x v) rs (λ x i q. let s : x ≡ r = eqb-true x v q ∙ sym e in d.0 (subst (λ y. In y rs) s i)) in
+          let none = count_none (λ x. eqb x v) rs (λ x i q. let s : x ≡ r =
+          eqb-true x v q ∙ sym e in d.0 (subst (λ y. In y rs) s i)) in
           let b = once (eqb r v) in
           omega arith
       | inr ne ↦
@@ -62,20 +67,28 @@ count_once v (r ∷ rs) d =
 -- of different numbers, at most b - x are above x and up to b
 pub count_between : (x b : ℕ) (rs : List ℕ) → Distinct rs → count (λ r. ltb x r && leb r b) rs + x ≤ max x b
 count_between x zero rs d =
-    let none = count_none (λ r. ltb x r && leb r 0) rs (λ r i q. let p = and_parts (ltb x r) (leb r 0) q in let a = ltb-true x r p.0 in let c = leb-true r 0 p.1 in omega arith) in
+    let none = count_none (λ r. ltb x r && leb r 0) rs (λ r i q. let p = and_parts (ltb x r) (leb r 0) q in let a =
+    ltb-true x r p.0 in let c = leb-true r 0 p.1 in omega arith) in
     omega arith
 count_between x (suc b) rs d =
     let ih = count_between x b rs d in
     elim (cases_lt x (suc b)) [
       | inl lt ↦
           let one = count_once (suc b) rs d in
-          let step = count_cover (λ r. ltb x r && leb r (suc b)) (λ r. ltb x r && leb r b) (λ r. eqb r (suc b)) rs (λ r i q.
+          let step = count_cover (λ r. ltb x r && leb r (suc b)) (λ r. ltb x r && leb r b)
+          (λ r. eqb r (suc b)) rs (λ r i q.
           let p = and_parts (ltb x r) (leb r (suc b)) q in
           let c = leb-true r (suc b) p.1 in
-          elim (cases_eq r (suc b)) [ inl e ↦ inr (eq-eqb r (suc b) e) | inr ne ↦ inl (and_from (ltb x r) (leb r b) p.0 (le-leb r b (omega arith))) ]) in
+          elim (cases_eq r (suc b)) [
+            | inl e ↦ inr (eq-eqb r (suc b) e)
+            | inr ne ↦
+                inl (and_from (ltb x r) (leb r b) p.0 (le-leb r b (omega arith)))
+          ]) in
           omega arith
       | inr le ↦
-          let none = count_none (λ r. ltb x r && leb r (suc b)) rs (λ r i q. let p = and_parts (ltb x r) (leb r (suc b)) q in let a = ltb-true x r p.0 in let c = leb-true r (suc b) p.1 in omega arith) in
+          let none = count_none (λ r. ltb x r && leb r (suc b)) rs
+          (λ r i q. let p = and_parts (ltb x r) (leb r (suc b)) q in let a = ltb-true x r p.0 in let c =
+          leb-true r (suc b) p.1 in omega arith) in
           omega arith
     ]
 
@@ -83,7 +96,8 @@ pub count_filter : (p q : ℕ → Bool) (xs : List ℕ) → count p (filter q xs
 count_filter p q [] = refl
 count_filter p q (x ∷ xs) = go (q x) (count_filter p q xs)
   where
-    go : (b : Bool) → count p (filter q xs) ≡ count (λ y. q y && p y) xs → count p (cond b (x ∷ filter q xs) (filter q xs)) ≡ cond (b && p x) 1 0 + count (λ y. q y && p y) xs
+    go : (b : Bool) → count p (filter q xs) ≡ count (λ y. q y && p y) xs
+        → count p (cond b (x ∷ filter q xs) (filter q xs)) ≡ cond (b && p x) 1 0 + count (λ y. q y && p y) xs
     go true ih = ap (λ n. cond (p x) 1 0 + n) ih
     go false ih = let a : 0 + count (λ y. q y && p y) xs ≡ count (λ y. q y && p y) xs = omega arith in ih ∙ sym a
 
@@ -92,14 +106,16 @@ count_map p h [] = refl
 count_map p h (x ∷ xs) = ap (λ n. cond (p (h x)) 1 0 + n) (count_map p h xs)
 
 -- a test that another implies counts no fewer
-pub count_weaker : (p q : ℕ → Bool) (xs : List ℕ) → ((x : ℕ) → In x xs → p x ≡ true → q x ≡ true) → count p xs ≤ count q xs
+pub count_weaker : (p q : ℕ → Bool) (xs : List ℕ) → ((x : ℕ) → In x xs → p x ≡ true → q x ≡ true)
+    → count p xs ≤ count q xs
 count_weaker p q xs h =
     let a = count_cover p q (λ x. false) xs (λ x i e. inl (h x i e)) in
     let b = count_none (λ x. false) xs (λ x i e. false≢true e) in
     omega arith
 
 -- and more, where it holds of one more
-pub count_stricter : (p q : ℕ → Bool) (y : ℕ) (xs : List ℕ) → In y xs → p y ≡ false → q y ≡ true → ((x : ℕ) → In x xs → p x ≡ true → q x ≡ true) → count p xs < count q xs
+pub count_stricter : (p q : ℕ → Bool) (y : ℕ) (xs : List ℕ) → In y xs → p y ≡ false → q y ≡ true
+    → ((x : ℕ) → In x xs → p x ≡ true → q x ≡ true) → count p xs < count q xs
 count_stricter p q y [] i no' yes' h = absurd i
 count_stricter p q y (x ∷ xs) (inl e) no' yes' h =
     let a : cond {A = ℕ} (p x) 1 0 ≡ 0 = ap (λ b. cond {A = ℕ} b 1 0) (ap p (sym e) ∙ no') in
@@ -118,24 +134,32 @@ count_stricter p q y (x ∷ xs) (inr i) no' yes' h =
     one false false h = omega arith
 
 -- two tests that split a third count as much together
-pub count_split : (p q r : ℕ → Bool) (xs : List ℕ) → ((x : ℕ) → In x xs → ((r x ≡ true) × (p x ≡ true) × (q x ≡ false)) ⊎ (((r x ≡ true) × (p x ≡ false) × (q x ≡ true)) ⊎ ((r x ≡ false) × (p x ≡ false) × (q x ≡ false)))) → count r xs ≡ count p xs + count q xs
+pub count_split : (p q r : ℕ → Bool) (xs : List ℕ)
+    → ((x : ℕ) → In x xs → ((r x ≡ true) × (p x ≡ true) × (q x ≡ false))
+    ⊎ (((r x ≡ true) × (p x ≡ false) × (q x ≡ true)) ⊎ ((r x ≡ false) × (p x ≡ false) × (q x ≡ false))))
+    → count r xs ≡ count p xs + count q xs
 count_split p q r [] h = refl
 count_split p q r (x ∷ xs) h =
     let ih = count_split p q r xs (λ y i. h y (inr i)) in
     let a = go (p x) (q x) (r x) (h x (inl refl)) in
     omega arith
   where
-    go : (b c d : Bool) → ((d ≡ true) × (b ≡ true) × (c ≡ false)) ⊎ (((d ≡ true) × (b ≡ false) × (c ≡ true)) ⊎ ((d ≡ false) × (b ≡ false) × (c ≡ false))) → cond {A = ℕ} d 1 0 ≡ cond {A = ℕ} b 1 0 + cond {A = ℕ} c 1 0
+    go : (b c d : Bool) → ((d ≡ true) × (b ≡ true) × (c ≡ false))
+        ⊎ (((d ≡ true) × (b ≡ false) × (c ≡ true)) ⊎ ((d ≡ false) × (b ≡ false) × (c ≡ false)))
+        → cond {A = ℕ} d 1 0 ≡ cond {A = ℕ} b 1 0 + cond {A = ℕ} c 1 0
     go b c d (inl e) = grind (arith, e.0, e.1, e.2)
     go b c d (inr (inl e)) = grind (arith, e.0, e.1, e.2)
     go b c d (inr (inr e)) = grind (arith, e.0, e.1, e.2)
 
 -- what a test counts, it counts in what passes another and in what does not
-pub count_parts : (p q : ℕ → Bool) (xs : List ℕ) → count p xs ≡ count p (filter q xs) + count p (filter (λ x. not (q x)) xs)
+pub count_parts : (p q : ℕ → Bool) (xs : List ℕ)
+    → count p xs ≡ count p (filter q xs) + count p (filter (λ x. not (q x)) xs)
 count_parts p q [] = refl
 count_parts p q (x ∷ xs) = go (q x) (count_parts p q xs)
   where
-    go : (b : Bool) → count p xs ≡ count p (filter q xs) + count p (filter (λ y. not (q y)) xs) → cond (p x) 1 0 + count p xs ≡ count p (cond b (x ∷ filter q xs) (filter q xs)) + count p (cond (not b) (x ∷ filter (λ y. not (q y)) xs) (filter (λ y. not (q y)) xs))
+    go : (b : Bool) → count p xs ≡ count p (filter q xs) + count p (filter (λ y. not (q y)) xs)
+        → cond (p x) 1 0 + count p xs ≡ count p (cond b (x ∷ filter q xs) (filter q xs)) + count p
+        (cond (not b) (x ∷ filter (λ y. not (q y)) xs) (filter (λ y. not (q y)) xs))
     go true ih = omega arith
     go false ih = omega arith
 
@@ -145,4 +169,5 @@ count_agree p q (x ∷ xs) h = ap₂ (λ b n. cond b 1 0 + n) (h x (inl refl)) (
 
 pub count_length : (p : ℕ → Bool) (rs : List ℕ) → ((r : ℕ) → In r rs → p r ≡ true) → count p rs ≡ length rs
 count_length p [] h = refl
-count_length p (r ∷ rs) h = let a = at_yes (p r) (h r (inl refl)) in let b = count_length p rs (λ x i. h x (inr i)) in omega arith
+count_length p (r ∷ rs) h = let a = at_yes (p r) (h r (inl refl)) in let b =
+    count_length p rs (λ x i. h x (inr i)) in omega arith

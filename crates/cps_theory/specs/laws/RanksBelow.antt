@@ -7,20 +7,28 @@ use Rattle.cps_theory.specs.Feasible.{greatest}
 use Rattle.cps_theory.specs.laws.RankCounts.{count_length, count}
 
 -- what each rank takes one step further is the fold of the steps
-pub ranks_folded : {X : Type 0} (step : X → ℕ → X) (so_far : ℕ → X) → ((n : ℕ) → step (so_far n) (suc n) ≡ so_far (suc n)) → (n : ℕ) → fold step (so_far 0) (range_with_len 1 n) ≡ so_far n
+pub ranks_folded : {X : Type 0} (step : X → ℕ → X) (so_far : ℕ → X)
+    → ((n : ℕ) → step (so_far n) (suc n) ≡ so_far (suc n)) → (n : ℕ)
+    → fold step (so_far 0) (range_with_len 1 n) ≡ so_far n
 ranks_folded step so_far more n = from n 0 1 n (omega arith) (omega arith)
   where
     from : (m a b c : ℕ) → b ≡ suc a → c ≡ m + a → fold step (so_far a) (range_with_len b m) ≡ so_far c
     from zero a b c e is = ap so_far (omega arith)
-    from (suc m) a b c e is = ap (λ x. fold step x (range_with_len (b + 1) m)) (ap (step (so_far a)) e ∙ more a) ∙ from m (suc a) (b + 1) c (omega arith) (omega arith)
+    from (suc m) a b c e is = ap (λ x. fold step x (range_with_len (b + 1) m)) (ap (step (so_far a)) e ∙ more a)
+        ∙ from m (suc a) (b + 1) c (omega arith) (omega arith)
 
 pub greatest_least : (t : ℕ → ℕ) (n m : ℕ) → ((r : ℕ) → IsRank n r → t r ≤ m) → greatest t n ≤ m
 greatest_least t zero m h = omega arith
-greatest_least t (suc n) m h = let a = greatest_least t n m (λ r q. h r (q.0, omega arith)) in let b = h (suc n) (omega arith, omega arith) in omega arith
+greatest_least t (suc n) m h = let a = greatest_least t n m (λ r q. h r (q.0, omega arith)) in let b =
+    h (suc n) (omega arith, omega arith) in omega arith
 
 pub at_most_greatest : (t : ℕ → ℕ) (n r : ℕ) → IsRank n r → t r ≤ greatest t n
 at_most_greatest t zero r q = absurd (omega arith)
-at_most_greatest t (suc n) r q = elim (cases_eq r (suc n)) [ inl e ↦ let s = ap t e in omega arith | inr ne ↦ let a = at_most_greatest t n r (q.0, omega arith) in omega arith ]
+at_most_greatest t (suc n) r q = elim (cases_eq r (suc n)) [
+  | inl e ↦ let s = ap t e in omega arith
+  | inr ne ↦ let a =
+      at_most_greatest t n r (q.0, omega arith) in omega arith
+]
 
 pub in_upto : (n x : ℕ) → In x (upto n) → IsRank n x
 in_upto zero x i = absurd i
@@ -36,6 +44,8 @@ count_below zero r one le = omega arith
 count_below (suc n) r one le =
     let ih = count_below n r one in
     elim (cases_eq r (suc (suc n))) [
-      | inl e ↦ let a = count_length (λ q. ltb q r) (suc n ∷ upto n) (λ x i. let b = in_upto (suc n) x i in lt-ltb x r (omega arith)) in let c = length-upto n in omega arith
-      | inr ne ↦ let a = ap (λ b. cond {A = ℕ} b 1 0) (le-ltb (suc n) r (omega arith)) in let b = ih (omega arith) in omega arith
+      | inl e ↦ let a = count_length (λ q. ltb q r) (suc n ∷ upto n) (λ x i. let b =
+          in_upto (suc n) x i in lt-ltb x r (omega arith)) in let c = length-upto n in omega arith
+      | inr ne ↦ let a = ap (λ b. cond {A = ℕ} b 1 0) (le-ltb (suc n) r (omega arith)) in let b =
+          ih (omega arith) in omega arith
     ]

@@ -1,11 +1,14 @@
--- Landing a feasible order at its earliest seconds gives a tight schedule, no later anywhere; of a least one it gives a best one; one order has one tight schedule.
-use Rattle.std.proofs.Common.{◌≡◌, ℕ, zero, suc, ◌<◌, ◌≤◌, inl, inr, List, [], ◌∷◌, Option, Some, true, cond, ltb, arith, refl, sym, ap, ap₂, subst, ◌∙◌, le_refl, le_trans, le_antisymm}
+-- Landing a feasible order at its earliest seconds gives a tight schedule, no later anywhere; of a least one it gives a
+-- best one; one order has one tight schedule.
+use Rattle.std.proofs.Common.{◌≡◌, ℕ, zero, suc, ◌<◌, ◌≤◌, inl, inr, List, [], ◌∷◌, Option, Some, true, cond, ltb}
+use Rattle.std.proofs.Common.{arith, refl, sym, ap, ap₂, subst, ◌∙◌, le_refl, le_trans, le_antisymm}
 use Rattle.std.proofs.lemmas.Bool.{cases_lt, lt-ltb, le-ltb}
 use Rattle.cps_theory.specs.RankLists.{Distinct, In, IsRank, upto}
 use Rattle.cps_theory.specs.Retiming.{IsFirstOpen}
 use Rattle.cps_theory.specs.LandingTrail.{Landed}
 use Rattle.cps_theory.specs.Labels.{NeverCheaper, NoWorse, Pair}
-use Rattle.cps_theory.specs.Feasible.{Feasible, IsBest, LandsAllRanks, RankedProblem, SameOrder, SoundProblem, Tight, at_seconds, earliest, greatest, next_from, second_and_cost, second_in, total}
+use Rattle.cps_theory.specs.Feasible.{Feasible, IsBest, LandsAllRanks, RankedProblem, SameOrder, SoundProblem, Tight}
+use Rattle.cps_theory.specs.Feasible.{at_seconds, earliest, greatest, next_from, second_and_cost, second_in, total}
 use Rattle.cps_theory.specs.laws.EarliestLandings.{NoLater, earliest_lands, earliest_least}
 use Rattle.cps_theory.specs.laws.FeasibleOrder.{ranks_at, lands_feasible, feasible_lands, landed_descends}
 use Rattle.cps_theory.specs.laws.FrozenFront.{each_fits_distinct}
@@ -14,58 +17,83 @@ use Rattle.cps_theory.specs.laws.LeastObjective.{next_later, at_second_in}
 use Rattle.cps_theory.specs.laws.LegalPrefix.{legal_each_fits}
 use Rattle.cps_theory.specs.laws.OptionSteps.{some_same}
 
-same_insert : (t u : ℕ → ℕ) (x : ℕ) (ys : List ℕ) → ((y : ℕ) → In y ys → ltb (t y) (t x) ≡ ltb (u y) (u x)) → insert_at t x ys ≡ insert_at u x ys
+same_insert : (t u : ℕ → ℕ) (x : ℕ) (ys : List ℕ) → ((y : ℕ) → In y ys → ltb (t y) (t x) ≡ ltb (u y) (u x))
+    → insert_at t x ys ≡ insert_at u x ys
 same_insert t u x [] h = refl
-same_insert t u x (y ∷ ys) h = ap₂ (λ b l. cond b (x ∷ y ∷ ys) (y ∷ l)) (h y (inl refl)) (same_insert t u x ys (λ z i. h z (inr i)))
+same_insert t u x (y ∷ ys) h =
+    ap₂ (λ b l. cond b (x ∷ y ∷ ys) (y ∷ l)) (h y (inl refl)) (same_insert t u x ys (λ z i. h z (inr i)))
 
 same_test : (a b c d : ℕ) → (a < b → c < d) → (c < d → a < b) → ltb a b ≡ ltb c d
 same_test a b c d h k = elim (cases_lt a b) [
   | inl lt ↦ lt-ltb a b lt ∙ sym (lt-ltb c d (h lt))
-  | inr le ↦ le-ltb a b le ∙ sym (le-ltb c d (elim (cases_lt c d) [ inl lt ↦ absurd (let q = k lt in omega arith) | inr le' ↦ le' ]))
+  | inr le ↦ le-ltb a b le ∙ sym
+      (le-ltb c d (elim (cases_lt c d) [ inl lt ↦ absurd (let q = k lt in omega arith) | inr le' ↦ le' ]))
 ]
 
 same_sorted : (n : ℕ) (t u : ℕ → ℕ) → SameOrder n t u → sorted t n ≡ sorted u n
 same_sorted zero t u same = refl
 same_sorted (suc n) t u same =
-    same_insert t u (suc n) (sorted t n) (λ y i. let q = sorted_in t n y i in let s = same y (suc n) (q.0, omega arith) (omega arith, omega arith) in same_test (t y) (t (suc n)) (u y) (u (suc n)) s.0 s.1)
+    same_insert t u (suc n) (sorted t n) (λ y i. let q = sorted_in t n y i in let s =
+    same y (suc n) (q.0, omega arith) (omega arith, omega arith) in same_test (t y) (t (suc n))
+    (u y) (u (suc n)) s.0 s.1)
     ∙ ap (insert_at u (suc n)) (same_sorted n t u (λ f g qf qg. same f g (qf.0, omega arith) (qg.0, omega arith)))
 
-pub no_later_at : (t u : ℕ → ℕ) (rs : List ℕ) → NoLater (at_seconds t rs) (at_seconds u rs) → (r : ℕ) → In r rs → t r ≤ u r
+pub no_later_at : (t u : ℕ → ℕ) (rs : List ℕ) → NoLater (at_seconds t rs) (at_seconds u rs)
+    → (r : ℕ) → In r rs → t r ≤ u r
 no_later_at t u [] n r i = absurd i
 no_later_at t u (x ∷ rs) n r (inl e) = subst (λ z. t z ≤ u z) (sym e) n.1
 no_later_at t u (x ∷ rs) n r (inr i) = no_later_at t u rs n.2 r i
 
-pub descends_same : (t u : ℕ → ℕ) (rs : List ℕ) → Descends t rs → Descends u rs → (f g : ℕ) → In f rs → In g rs → t f < t g → u f < u g
+pub descends_same : (t u : ℕ → ℕ) (rs : List ℕ) → Descends t rs → Descends u rs → (f g : ℕ)
+    → In f rs → In g rs → t f < t g → u f < u g
 descends_same t u [] d e f g i j lt = absurd i
 descends_same t u (x ∷ rs) d e f g (inl s) (inl s') lt = absurd (let a = ap t s in let b = ap t s' in omega arith)
 descends_same t u (x ∷ rs) d e f g (inl s) (inr j) lt = absurd (let a = ap t s in let b = d.0 g j in omega arith)
 descends_same t u (x ∷ rs) d e f g (inr i) (inl s) lt = let a = ap u s in let b = e.0 f i in omega arith
 descends_same t u (x ∷ rs) d e f g (inr i) (inr j) lt = descends_same t u rs d.1 e.1 f g i j lt
 
-module _ (p : RankedProblem) (sound : SoundProblem p) (first : ℕ → ℕ → Option ℕ) (opens : IsFirstOpen (λ r u. p.is_open r u ≡ true) first) where
+module _ (p : RankedProblem) (sound : SoundProblem p) (first : ℕ → ℕ → Option ℕ)
+    (opens : IsFirstOpen (λ r u. p.is_open r u ≡ true) first) where
   -- of feasible seconds, the earliest in their order
-  pub tighten : (t : ℕ → ℕ) → Feasible p t → (u : ℕ → ℕ) × Tight p u × SameOrder p.rules.count t u × ((r : ℕ) → IsRank p.rules.count r → u r ≤ t r) × (earliest first (next_from p) (sorted t p.rules.count) ≡ Some (at_seconds u (sorted t p.rules.count)))
+  pub tighten : (t : ℕ → ℕ) → Feasible p t → (u : ℕ → ℕ) × Tight p u × SameOrder p.rules.count t u
+      × ((r : ℕ) → IsRank p.rules.count r → u r ≤ t r)
+      × (earliest first (next_from p) (sorted t p.rules.count) ≡ Some (at_seconds u (sorted t p.rules.count)))
   tighten t f =
       let n = p.rules.count in
       let rs = sorted t n in
       let l = feasible_lands p t sound f in
-      let e = earliest_least (λ r u. p.is_open r u ≡ true) first (next_from p) opens (next_later p) (at_seconds t rs) l.landed in
+      let e = earliest_least (λ r u. p.is_open r u ≡ true) first (next_from p) opens (next_later p)
+      (at_seconds t rs) l.landed in
       let xs = e.0 in
-      let is : earliest first (next_from p) rs ≡ Some xs = ap (earliest first (next_from p)) (sym (ranks_at t rs)) ∙ e.1 in
+      let is : earliest first (next_from p) rs ≡ Some xs =
+      ap (earliest first (next_from p)) (sym (ranks_at t rs)) ∙ e.1 in
       let lands = earliest_lands (λ r u. p.is_open r u ≡ true) first (next_from p) opens rs xs is in
       let differ = each_fits_distinct p.rules rs (legal_each_fits p.rules rs l.legal) in
       let u = second_in xs in
-      let same : at_seconds u rs ≡ xs = ap (at_seconds u) (sym lands.1) ∙ at_second_in xs (subst Distinct (sym lands.1) differ) in
-      let la : LandsAllRanks p u rs = record { legal = l.legal; whole = l.whole; landed = subst (Landed (λ r v. p.is_open r v ≡ true) (next_from p)) (sym same) lands.0 } in
+      let same : at_seconds u rs ≡ xs =
+      ap (at_seconds u) (sym lands.1) ∙ at_second_in xs (subst Distinct (sym lands.1) differ) in
+      let la : LandsAllRanks p u rs =
+      record {
+        legal = l.legal;
+        whole = l.whole;
+        landed =
+            subst (Landed (λ r v. p.is_open r v ≡ true) (next_from p)) (sym same) lands.0;
+      } in
       let fu = lands_feasible p u sound rs la in
       let dt = landed_descends p t sound rs (legal_each_fits p.rules rs l.legal) l.landed in
       let du = landed_descends p u sound rs (legal_each_fits p.rules rs l.legal) la.landed in
-      let so : SameOrder n t u = λ a b qa qb. (descends_same t u rs dt du a b (in_sorted t n a qa) (in_sorted t n b qb), descends_same u t rs du dt a b (in_sorted t n a qa) (in_sorted t n b qb)) in
+      let so : SameOrder n t u =
+      λ a b qa qb. (
+        descends_same t u rs dt du a b (in_sorted t n a qa) (in_sorted t n b qb),
+        descends_same u t rs du dt a b (in_sorted t n a qa) (in_sorted t n b qb),
+      ) in
       let low : (v : ℕ → ℕ) → Feasible p v → SameOrder n t v → (r : ℕ) → IsRank n r → u r ≤ v r = λ v fv sv r q.
       let rv = same_sorted n t v sv in
       let lv = feasible_lands p v sound fv in
-      let ev = earliest_least (λ r u. p.is_open r u ≡ true) first (next_from p) opens (next_later p) (at_seconds v (sorted v n)) lv.landed in
-      let isv : earliest first (next_from p) rs ≡ Some ev.0 = ap (earliest first (next_from p)) (rv ∙ sym (ranks_at v (sorted v n))) ∙ ev.1 in
+      let ev = earliest_least (λ r u. p.is_open r u ≡ true) first (next_from p) opens (next_later p)
+      (at_seconds v (sorted v n)) lv.landed in
+      let isv : earliest first (next_from p) rs ≡ Some ev.0 =
+      ap (earliest first (next_from p)) (rv ∙ sym (ranks_at v (sorted v n))) ∙ ev.1 in
       let eq : xs ≡ ev.0 = some_same xs ev.0 (sym is ∙ isv) in
       let nl = subst (λ z. NoLater z (at_seconds v (sorted v n))) (sym eq ∙ sym same) ev.2 in
       let nl' = subst (λ z. NoLater (at_seconds u rs) (at_seconds v z)) (sym rv) nl in
@@ -73,7 +101,8 @@ module _ (p : RankedProblem) (sound : SoundProblem p) (first : ℕ → ℕ → O
         u,
         record {
           feasible = fu;
-          least = λ v fv sv. low v fv (λ a b qa qb. let x = so a b qa qb in let y = sv a b qa qb in (λ h. y.0 (x.0 h), λ h. x.1 (y.1 h)));
+          least = λ v fv sv. low v fv (λ a b qa qb. let x = so a b qa qb in let y =
+              sv a b qa qb in (λ h. y.0 (x.0 h), λ h. x.1 (y.1 h)));
         },
         so,
         low t f (λ a b qa qb. (λ h. h, λ h. h)),
@@ -82,9 +111,11 @@ module _ (p : RankedProblem) (sound : SoundProblem p) (first : ℕ → ℕ → O
 
   greatest_mono : (n : ℕ) (u t : ℕ → ℕ) → ((r : ℕ) → IsRank n r → u r ≤ t r) → greatest u n ≤ greatest t n
   greatest_mono zero u t h = le_refl 0
-  greatest_mono (suc n) u t h = let a = greatest_mono n u t (λ r q. h r (q.0, omega arith)) in let b = h (suc n) (omega arith, omega arith) in omega arith
+  greatest_mono (suc n) u t h = let a = greatest_mono n u t (λ r q. h r (q.0, omega arith)) in let b =
+      h (suc n) (omega arith, omega arith) in omega arith
 
-  total_mono : (cost : ℕ → ℕ → ℕ) → NeverCheaper cost → (n : ℕ) (u t : ℕ → ℕ) → ((r : ℕ) → IsRank n r → u r ≤ t r) → total (λ r. cost r (u r)) (upto n) ≤ total (λ r. cost r (t r)) (upto n)
+  total_mono : (cost : ℕ → ℕ → ℕ) → NeverCheaper cost → (n : ℕ) (u t : ℕ → ℕ) → ((r : ℕ) → IsRank n r → u r ≤ t r)
+      → total (λ r. cost r (u r)) (upto n) ≤ total (λ r. cost r (t r)) (upto n)
   total_mono cost dearer zero u t h = le_refl 0
   total_mono cost dearer (suc n) u t h =
       let a = total_mono cost dearer n u t (λ r q. h r (q.0, omega arith)) in
@@ -92,13 +123,26 @@ module _ (p : RankedProblem) (sound : SoundProblem p) (first : ℕ → ℕ → O
       omega arith
 
   -- of a feasible schedule of least value, the earliest landings in its order are a best and tight schedule
-  pub best_and_tight : (cost : ℕ → ℕ → ℕ) → NeverCheaper cost → (value : Pair → ℕ) → ((a b : Pair) → NoWorse a b → value a ≤ value b) → (t : ℕ → ℕ) → Feasible p t → ((u : ℕ → ℕ) → Feasible p u → value (second_and_cost cost p.rules.count t) ≤ value (second_and_cost cost p.rules.count u)) → (u : ℕ → ℕ) × IsBest p (λ v. value (second_and_cost cost p.rules.count v)) u × Tight p u × (value (second_and_cost cost p.rules.count u) ≡ value (second_and_cost cost p.rules.count t))
+  pub best_and_tight : (cost : ℕ → ℕ → ℕ) → NeverCheaper cost → (value : Pair → ℕ)
+      → ((a b : Pair) → NoWorse a b → value a ≤ value b) → (t : ℕ → ℕ) → Feasible p t
+      → ((u : ℕ → ℕ) → Feasible p u → value (second_and_cost cost p.rules.count t) ≤ value
+      (second_and_cost cost p.rules.count u)) → (u : ℕ → ℕ)
+      × IsBest p (λ v. value (second_and_cost cost p.rules.count v)) u × Tight p u
+      × (value (second_and_cost cost p.rules.count u) ≡ value (second_and_cost cost p.rules.count t))
   best_and_tight cost dearer value mono t f least =
       let n = p.rules.count in
       let w = tighten t f in
-      let le = mono (second_and_cost cost n w.0) (second_and_cost cost n t) (greatest_mono n w.0 t w.3, total_mono cost dearer n w.0 t w.3) in
-      (w.0, record { feasible = w.1.feasible; least = λ u fu. le_trans le (least u fu) }, w.1, le_antisymm le (least w.0 w.1.feasible))
+      let le = mono (second_and_cost cost n w.0) (second_and_cost cost n t)
+      (greatest_mono n w.0 t w.3, total_mono cost dearer n w.0 t w.3) in (
+        w.0,
+        record { feasible = w.1.feasible; least = λ u fu. le_trans le (least u fu) },
+        w.1,
+        le_antisymm le
+            (least w.0 w.1.feasible),
+      )
 
 -- an order has at most one tight map
-pub tight_unique : (p : RankedProblem) (t u : ℕ → ℕ) → Tight p t → Tight p u → SameOrder p.rules.count t u → (r : ℕ) → IsRank p.rules.count r → t r ≡ u r
-tight_unique p t u a b s r q = le_antisymm (a.least u b.feasible s r q) (b.least t a.feasible (λ f g qf qg. let x = s f g qf qg in (x.1, x.0)) r q)
+pub tight_unique : (p : RankedProblem) (t u : ℕ → ℕ) → Tight p t → Tight p u → SameOrder p.rules.count t u
+    → (r : ℕ) → IsRank p.rules.count r → t r ≡ u r
+tight_unique p t u a b s r q =
+    le_antisymm (a.least u b.feasible s r q) (b.least t a.feasible (λ f g qf qg. let x = s f g qf qg in (x.1, x.0)) r q)

@@ -1,5 +1,6 @@
 -- The objective of a whole situation is that of its problem, with the part of the frozen flights.
-use Rattle.std.proofs.Common.{◌≡◌, ℕ, ◌+◌, ◌≤◌, inl, inr, List, [], ◌∷◌, ◌++◌, sum_by, arith, refl, ap, ap₂, ◌∙◌, le_antisymm, zero-le}
+use Rattle.std.proofs.Common.{◌≡◌, ℕ, ◌+◌, ◌≤◌, inl, inr, List, [], ◌∷◌, ◌++◌, sum_by, arith, refl, ap, ap₂, ◌∙◌}
+use Rattle.std.proofs.Common.{le_antisymm, zero-le}
 use Rattle.std.proofs.lemmas.List.Sums.{sum_by-cons}
 use Rattle.cps_theory.specs.RankLists.{In, IsRank}
 use Rattle.cps_theory.specs.Feasible.{RankedProblem, greatest}
@@ -20,22 +21,27 @@ latest_at t (x ∷ fs) f (inr i) = let a = latest_at t fs f i in omega arith
 
 pub sum_append : (g : ℕ → ℕ) (xs ys : List ℕ) → sum_by g (xs ++ ys) ≡ sum_by g xs + sum_by g ys
 sum_append g [] ys = let z = sum_by g ys in omega arith
-sum_append g (x ∷ xs) ys = let a = sum_by-cons g x (xs ++ ys) in let b = sum_by-cons g x xs in let c = sum_append g xs ys in omega arith
+sum_append g (x ∷ xs) ys = let a = sum_by-cons g x (xs ++ ys) in let b = sum_by-cons g x xs in let c =
+    sum_append g xs ys in omega arith
 
 pub sum_agree : (g h : ℕ → ℕ) (xs : List ℕ) → ((x : ℕ) → In x xs → g x ≡ h x) → sum_by g xs ≡ sum_by h xs
 sum_agree g h [] e = refl
-sum_agree g h (x ∷ xs) e = let a = sum_by-cons g x xs in let b = sum_by-cons h x xs in let c = sum_agree g h xs (λ y i. e y (inr i)) in let d = e x (inl refl) in omega arith
+sum_agree g h (x ∷ xs) e = let a = sum_by-cons g x xs in let b = sum_by-cons h x xs in let c =
+    sum_agree g h xs (λ y i. e y (inr i)) in let d = e x (inl refl) in omega arith
 
-pub same_objectives : (s : NumberedSituation) (p : RankedProblem) (at : ℕ → ℕ) → SoundSituation s → ProblemOf s p at → (t : ℕ → ℕ) → FeasibleIn s t → SameObjectives s p at t
+pub same_objectives : (s : NumberedSituation) (p : RankedProblem) (at : ℕ → ℕ) → SoundSituation s
+    → ProblemOf s p at → (t : ℕ → ℕ) → FeasibleIn s t → SameObjectives s p at t
 same_objectives s p at sound of t f = record {
   none_waits = λ none. le_antisymm
       (latest_bound t (active s) (latest_in s.frozen_at s.frozen) (λ x i. elim (in_append x s.frozen s.waiting i) [
         | inl j ↦ (let e = f.kept x j in let a = latest_at s.frozen_at s.frozen x j in omega arith)
         | inr j ↦ absurd (let w = of.at_all x j in let a = w.1.0 in let b = w.1.1 in omega arith)
       ]))
-      (latest_bound s.frozen_at s.frozen (latest_in t (active s)) (λ x j. let e = f.kept x j in let a = latest_at t (active s) x (append_in x s.frozen s.waiting (inl j)) in omega arith));
+      (latest_bound s.frozen_at s.frozen (latest_in t (active s)) (λ x j. let e = f.kept x j in let a =
+      latest_at t (active s) x (append_in x s.frozen s.waiting (inl j)) in omega arith));
   some_wait = λ some. le_antisymm
-      (latest_bound t (active s) (greatest (λ r. t (at r)) p.rules.count) (λ x i. elim (in_append x s.frozen s.waiting i) [
+      (latest_bound t (active s) (greatest (λ r. t (at r)) p.rules.count)
+      (λ x i. elim (in_append x s.frozen s.waiting i) [
         | inl j ↦
             (let e = f.kept x j in
             let b = sound.frozen_before x j in
@@ -43,8 +49,12 @@ same_objectives s p at sound of t f = record {
             let h = f.behind (at 1) (of.at_in 1 one) in
             let a = at_most_greatest (λ r. t (at r)) p.rules.count 1 one in
             omega arith)
-        | inr j ↦ (let w = of.at_all x j in let a = at_most_greatest (λ r. t (at r)) p.rules.count w.0 w.1 in let e = ap t w.2 in omega arith)
+        | inr j ↦ (let w = of.at_all x j in let a = at_most_greatest (λ r. t (at r)) p.rules.count w.0 w.1 in let e =
+            ap t w.2 in omega arith)
       ]))
-      (greatest_least (λ r. t (at r)) p.rules.count (latest_in t (active s)) (λ r q. latest_at t (active s) (at r) (append_in (at r) s.frozen s.waiting (inr (of.at_in r q)))));
-  delays = λ cost. sum_append (λ x. cost x (t x)) s.frozen s.waiting ∙ ap₂ ◌+◌ (sum_agree (λ x. cost x (t x)) (λ x. cost x (s.frozen_at x)) s.frozen (λ x i. ap (cost x) (f.kept x i))) (cost_is s p at sound of cost t);
+      (greatest_least (λ r. t (at r)) p.rules.count (latest_in t (active s))
+      (λ r q. latest_at t (active s) (at r) (append_in (at r) s.frozen s.waiting (inr (of.at_in r q)))));
+  delays = λ cost. sum_append (λ x. cost x (t x)) s.frozen s.waiting
+      ∙ ap₂ ◌+◌ (sum_agree (λ x. cost x (t x)) (λ x. cost x (s.frozen_at x)) s.frozen (λ x i. ap (cost x) (f.kept x i)))
+      (cost_is s p at sound of cost t);
 }

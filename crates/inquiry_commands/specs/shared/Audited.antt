@@ -11,4 +11,5 @@ use Rattle.inquiry_commands.specs.Audit.{AdmitsAudit}
 
 pub not_unaudited : (a f p text : List ℕ) (answer : Answer) → AdmitsAudit a f p text answer →
     refused_by_three Plan (aerodrome_of a) (flights_of f) (plan_of p) ≡ None
-not_unaudited a f p text answer h = refused_as_read Plan _ _ _ _ _ _ h.aerodrome_read h.flights_read h.plan_read ∙ h.audited.taken
+not_unaudited a f p text answer h = refused_as_read Plan _ _ _ _ _ _ h.aerodrome_read h.flights_read h.plan_read
+    ∙ h.audited.taken

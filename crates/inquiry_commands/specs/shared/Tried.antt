@@ -11,4 +11,5 @@ use Rattle.inquiry_commands.specs.WhatIf.{AdmitsWhatIf}
 
 pub not_untried : (a f t text : List ℕ) (answer : Answer) → AdmitsWhatIf a f t text answer →
     refused_by_three Trials (aerodrome_of a) (flights_of f) (trials_of t) ≡ None
-not_untried a f t text answer h = refused_as_read Trials _ _ _ _ _ _ h.aerodrome_read h.flights_read h.trials_read ∙ h.tried.taken
+not_untried a f t text answer h = refused_as_read Trials _ _ _ _ _ _ h.aerodrome_read h.flights_read h.trials_read
+    ∙ h.tried.taken

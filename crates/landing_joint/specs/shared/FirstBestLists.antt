@@ -1,6 +1,7 @@
--- A list of seconds by rank lands its ranks in the order of its map, and is the first best one where its map is. There is a
--- first best list where one is feasible, and it is one.
-use Rattle.std.proofs.Common.{◌≡◌, ◌≢◌, ℕ, zero, suc, ◌+◌, ◌-◌, ◌<◌, ◌≤◌, inl, inr, List, [], ◌∷◌, length, get_or, map, max, true, add-one, arith, refl, sym, ap, ap₂, subst, ◌∙◌}
+-- A list of seconds by rank lands its ranks in the order of its map, and is the first best one where its map is. There
+-- is a first best list where one is feasible, and it is one.
+use Rattle.std.proofs.Common.{◌≡◌, ◌≢◌, ℕ, zero, suc, ◌+◌, ◌-◌, ◌<◌, ◌≤◌, inl, inr, List, [], ◌∷◌, length, get_or, map}
+use Rattle.std.proofs.Common.{max, true, add-one, arith, refl, sym, ap, ap₂, subst, ◌∙◌}
 use Rattle.std.proofs.Math.Nat.{mul-le-mul_left}
 use Rattle.std.specs.declared.cmp.Ordering.{Ordering}
 use Rattle.std.specs.declared.cmp.Ordering.TheVariants.{Less, Equal, Greater}
@@ -27,11 +28,13 @@ use Rattle.cps_theory.specs.Labels.{NeverCheaper, NoWorse, Pair}
 use Rattle.cps_theory.specs.laws.FirstBestExists.{first_best_exists}
 use Rattle.cps_theory.specs.laws.NumberedLists.{in_numbers, numbers_in, distinct_numbers}
 use Rattle.cps_theory.specs.laws.OrderBySeconds.{in_order_sorted}
-use Rattle.landing_joint.specs.RankedProblem.{no_waiting, ranked, value_at, value_by, value_of_map, cost_at, cost_by, first_at, makespan_by}
+use Rattle.landing_joint.specs.RankedProblem.{no_waiting, ranked, value_at, value_by, value_of_map, cost_at, cost_by}
+use Rattle.landing_joint.specs.RankedProblem.{first_at, makespan_by}
 use Rattle.landing_joint.specs.shared.FirstOpen.{is_first_open}
 use Rattle.landing_joint.specs.shared.RankedLists.{list_feasible, feasible_list, feasible_agree}
 use Rattle.landing_joint.specs.shared.BestLists.{best_list, tight_list, list_value, zip_rank, zip_same}
-use Rattle.landing_joint.specs.shared.SortedBySeconds.{in_sorted_by, sorted_by_in, sorted_by_ascends, map_ascends, ascends_same}
+use Rattle.landing_joint.specs.shared.SortedBySeconds.{in_sorted_by, sorted_by_in, sorted_by_ascends, map_ascends}
+use Rattle.landing_joint.specs.shared.SortedBySeconds.{ascends_same}
 
 -- ---- orders of ranks
 
@@ -40,12 +43,15 @@ pub no_greater_no_later : (xs ys : List ℕ) → NoGreaterOrder xs ys → ComesN
 no_greater_no_later [] [] n = refl
 no_greater_no_later [] (y ∷ ys) n = refl
 no_greater_no_later (x ∷ xs) [] n = absurd n
-no_greater_no_later (x ∷ xs) (y ∷ ys) (inl lt) = ap (λ o. is_le (ordering_then o (slice_cmp nat_cmp xs ys))) (sym (nat_cmp_is x y Less lt))
-no_greater_no_later (x ∷ xs) (y ∷ ys) (inr n) = ap (λ o. is_le (ordering_then o (slice_cmp nat_cmp xs ys))) (sym (nat_cmp_is x y Equal n.0)) ∙ no_greater_no_later xs ys n.1
+no_greater_no_later (x ∷ xs) (y ∷ ys) (inl lt) =
+    ap (λ o. is_le (ordering_then o (slice_cmp nat_cmp xs ys))) (sym (nat_cmp_is x y Less lt))
+no_greater_no_later (x ∷ xs) (y ∷ ys) (inr n) = ap (λ o. is_le (ordering_then o (slice_cmp nat_cmp xs ys)))
+    (sym (nat_cmp_is x y Equal n.0)) ∙ no_greater_no_later xs ys n.1
 
 -- two orders of which none comes later are one
 pub no_later_antisym : (xs ys : List ℕ) → ComesNoLater xs ys → ComesNoLater ys xs → xs ≡ ys
-no_later_antisym xs ys a b = (bytes_eq-Decides xs ys).0 (sym (is_eq-slice_cmp xs ys) ∙ ap is_eq (go (slice_cmp nat_cmp xs ys) (slice_cmp nat_cmp ys xs) (nat_list_cmp_total.antisymm ys xs) a b))
+no_later_antisym xs ys a b = (bytes_eq-Decides xs ys).0 (sym (is_eq-slice_cmp xs ys)
+    ∙ ap is_eq (go (slice_cmp nat_cmp xs ys) (slice_cmp nat_cmp ys xs) (nat_list_cmp_total.antisymm ys xs) a b))
   where
     go : (o r : Ordering) → r ≡ ordering_reverse o → is_le o ≡ true → is_le r ≡ true → o ≡ Equal
     go Less r e h k = absurd (false≢true (sym (ap is_le e) ∙ k))
@@ -63,17 +69,23 @@ second_is v zero q = absurd (omega arith)
 second_is v (suc i) q = ap (λ k. get_or v k 0) {x = suc i - 1} {y = i} (omega arith)
 
 module _ (p : lists'.Problem) (sound : SoundProblem (ranked p)) where
-  in_ranks : (v : Schedule) → length v ≡ length p.flights → (r : ℕ) → In r (ranks_from 1 v) → IsRank (length p.flights) r
-  in_ranks v long r i = let b = in_numbers 1 (length v) r (subst (In r) (ranks_are 1 v) i) in (b.0, let x = b.1 in omega arith)
+  in_ranks : (v : Schedule) → length v ≡ length p.flights → (r : ℕ) → In r (ranks_from 1 v)
+      → IsRank (length p.flights) r
+  in_ranks v long r i = let b = in_numbers 1 (length v) r (subst (In r) (ranks_are 1 v) i) in
+      (b.0, let x = b.1 in omega arith)
 
-  ranks_in : (v : Schedule) → length v ≡ length p.flights → (r : ℕ) → IsRank (length p.flights) r → In r (ranks_from 1 v)
+  ranks_in : (v : Schedule) → length v ≡ length p.flights → (r : ℕ) → IsRank (length p.flights) r
+      → In r (ranks_from 1 v)
   ranks_in v long r q = subst (In r) (sym (ranks_are 1 v)) (numbers_in 1 (length v) r q.0 (let x = q.1 in omega arith))
 
-  differ : (t : ℕ → ℕ) → Feasible (ranked p) t → (q r : ℕ) → IsRank (length p.flights) q → IsRank (length p.flights) r → q ≢ r → t q ≢ t r
-  differ t f q r iq ir ne e = let a = f.separated q r iq ir ne (omega arith) in let b = sound.positive q r in omega arith
+  differ : (t : ℕ → ℕ) → Feasible (ranked p) t → (q r : ℕ) → IsRank (length p.flights) q → IsRank (length p.flights) r
+      → q ≢ r → t q ≢ t r
+  differ t f q r iq ir ne e = let a = f.separated q r iq ir ne (omega arith) in let b =
+      sound.positive q r in omega arith
 
   -- the ranks as a feasible list lands them
-  pub list_in_landing_order : (v : Schedule) → lists'.IsFeasibleList p v → InLandingOrder (length p.flights) (of_rank 0 v) (order_of_list v)
+  pub list_in_landing_order : (v : Schedule) → lists'.IsFeasibleList p v
+      → InLandingOrder (length p.flights) (of_rank 0 v) (order_of_list v)
   list_in_landing_order v f =
       let t = second_at v in
       let rs = ranks_from 1 v in
@@ -88,13 +100,17 @@ module _ (p : lists'.Problem) (sound : SoundProblem (ranked p)) where
       record {
         ranked = λ x i. in_ranks v long x (in_sorted_by t x rs i);
         whole = λ x q. sorted_by_in t x rs (ranks_in v long x q);
-        ascends = subst (Ascends (of_rank 0 v)) (map-id (order_of_list v)) (map_ascends t (of_rank 0 v) (λ x. x) (order_of_list v) (λ x i. sym (second_is v x (in_ranks v long x (in_sorted_by t x rs i)).0)) a);
+        ascends = subst (Ascends (of_rank 0 v)) (map-id (order_of_list v))
+            (map_ascends t (of_rank 0 v) (λ x. x) (order_of_list v)
+            (λ x i. sym (second_is v x (in_ranks v long x (in_sorted_by t x rs i)).0)) a);
       }
 
   -- there is one such order
-  pub one_landing_order : (t : ℕ → ℕ) → Feasible (ranked p) t → (qs os : List ℕ) → InLandingOrder (length p.flights) t qs → InLandingOrder (length p.flights) t os → qs ≡ os
+  pub one_landing_order : (t : ℕ → ℕ) → Feasible (ranked p) t → (qs os : List ℕ)
+      → InLandingOrder (length p.flights) t qs → InLandingOrder (length p.flights) t os → qs ≡ os
   one_landing_order t f qs os a b =
-      let e : onto qs [] ≡ onto os [] = in_order_sorted (ranked p) t sound f qs a ∙ sym (in_order_sorted (ranked p) t sound f os b) in
+      let e : onto qs [] ≡ onto os [] = in_order_sorted (ranked p) t sound f qs a
+      ∙ sym (in_order_sorted (ranked p) t sound f os b) in
       sym (onto_twice qs []) ∙ ap (λ l. onto l []) e ∙ onto_twice os []
 
 -- ---- a map as a list
@@ -106,7 +122,8 @@ pub numbers_long : {X : Type 0} (t : ℕ → X) (b n : ℕ) → length (map t (n
 numbers_long t b zero = refl
 numbers_long t b (suc n) = ap suc (numbers_long t (suc b) n)
 
-pub numbers_get : {X : Type 0} (t : ℕ → X) (d : X) (b n i : ℕ) → i < n → get_or (map t (numbers_from b n)) i d ≡ t (b + i)
+pub numbers_get : {X : Type 0} (t : ℕ → X) (d : X) (b n i : ℕ) → i < n
+    → get_or (map t (numbers_from b n)) i d ≡ t (b + i)
 numbers_get t d b zero i lt = absurd (omega arith)
 numbers_get t d b (suc n) zero lt = ap t (omega arith)
 numbers_get t d b (suc n) (suc i) lt = numbers_get t d (suc b) n i (omega arith) ∙ ap t (omega arith)
@@ -120,14 +137,19 @@ list_of_at n t (suc i) q = let a = q.1 in numbers_get t 0 1 n i (omega arith) �
 
 greatest_agree : (n : ℕ) (t u : ℕ → ℕ) → ((r : ℕ) → IsRank n r → t r ≡ u r) → greatest t n ≡ greatest u n
 greatest_agree zero t u h = refl
-greatest_agree (suc n) t u h = ap₂ max (h (suc n) (omega arith, omega arith)) (greatest_agree n t u (λ r q. h r (q.0, let a = q.1 in omega arith)))
+greatest_agree (suc n) t u h =
+    ap₂ max (h (suc n) (omega arith, omega arith)) (greatest_agree n t u (λ r q. h r (q.0, let a = q.1 in omega arith)))
 
-total_agree : (cost : ℕ → ℕ → ℕ) (n : ℕ) (t u : ℕ → ℕ) → ((r : ℕ) → IsRank n r → t r ≡ u r) → total (λ r. cost r (t r)) (upto n) ≡ total (λ r. cost r (u r)) (upto n)
+total_agree : (cost : ℕ → ℕ → ℕ) (n : ℕ) (t u : ℕ → ℕ) → ((r : ℕ) → IsRank n r → t r ≡ u r)
+    → total (λ r. cost r (t r)) (upto n) ≡ total (λ r. cost r (u r)) (upto n)
 total_agree cost zero t u h = refl
-total_agree cost (suc n) t u h = ap₂ (λ x y. x + y) (ap (cost (suc n)) (h (suc n) (omega arith, omega arith))) (total_agree cost n t u (λ r q. h r (q.0, let a = q.1 in omega arith)))
+total_agree cost (suc n) t u h = ap₂ (λ x y. x + y) (ap (cost (suc n)) (h (suc n) (omega arith, omega arith)))
+    (total_agree cost n t u (λ r q. h r (q.0, let a = q.1 in omega arith)))
 
-pub value_agree : (p : lists'.Problem) (t u : ℕ → ℕ) → ((r : ℕ) → IsRank (length p.flights) r → t r ≡ u r) → value_of_map p t ≡ value_of_map p u
-value_agree p t u h = ap₂ (λ x y. value_at p (x, y)) (greatest_agree (length p.flights) t u h) (total_agree (cost_at p) (length p.flights) t u h)
+pub value_agree : (p : lists'.Problem) (t u : ℕ → ℕ) → ((r : ℕ) → IsRank (length p.flights) r → t r ≡ u r)
+    → value_of_map p t ≡ value_of_map p u
+value_agree p t u h = ap₂ (λ x y. value_at p (x, y)) (greatest_agree (length p.flights) t u h)
+    (total_agree (cost_at p) (length p.flights) t u h)
 
 -- ---- costs and values
 
@@ -153,9 +175,12 @@ value_rises p a b le = value_rises_by p p.objective a b le
 
 -- ---- best and tight lists
 
-module _ (p : lists'.Problem) (sound : SoundProblem (ranked p)) (passed : (r : ℕ) → IsRank (length p.flights) r → (of_rank no_waiting p.flights r).passed ≤ p.k) where
+module _ (p : lists'.Problem) (sound : SoundProblem (ranked p)) (passed : (r : ℕ) → IsRank (length p.flights) r
+    → (of_rank no_waiting p.flights r).passed ≤ p.k) where
   listed : (u : ℕ → ℕ) → Feasible (ranked p) u → lists'.IsFeasibleList p (list_of (length p.flights) u)
-  listed u f = feasible_list p passed (list_of (length p.flights) u) (list_of_long (length p.flights) u) (feasible_agree (ranked p) u (of_rank 0 (list_of (length p.flights) u)) (λ r q. sym (list_of_at (length p.flights) u r q)) f)
+  listed u f = feasible_list p passed (list_of (length p.flights) u) (list_of_long (length p.flights) u)
+      (feasible_agree (ranked p) u (of_rank 0 (list_of (length p.flights) u))
+      (λ r q. sym (list_of_at (length p.flights) u r q)) f)
 
   -- the map of a best list is best
   pub list_best : (v : Schedule) → lists'.IsBestList p v → IsBest (ranked p) (value_of_map p) (of_rank 0 v)
@@ -170,7 +195,8 @@ module _ (p : lists'.Problem) (sound : SoundProblem (ranked p)) (passed : (r : �
         omega arith;
   }
 
-  order_listed : (v : Schedule) (u : ℕ → ℕ) → length v ≡ length p.flights → SameOrder (length p.flights) (of_rank 0 v) u → rules.HaveSameOrder v (list_of (length p.flights) u)
+  order_listed : (v : Schedule) (u : ℕ → ℕ) → length v ≡ length p.flights → SameOrder (length p.flights) (of_rank 0 v) u
+      → rules.HaveSameOrder v (list_of (length p.flights) u)
   order_listed v u long same i j li lj =
       let qi : IsRank (length p.flights) (suc i) = (omega arith, omega arith) in
       let qj : IsRank (length p.flights) (suc j) = (omega arith, omega arith) in
@@ -186,42 +212,55 @@ module _ (p : lists'.Problem) (sound : SoundProblem (ranked p)) (passed : (r : �
     least = λ u f same r q.
         let w = list_of (length p.flights) u in
         let long = t.feasible.one_each in
-        let a = zip_rank v w (t.earliest w (listed u f) (order_listed v u long same)) r (q.0, let x = q.1 in omega arith) in
+        let a = zip_rank v w (t.earliest w (listed u f) (order_listed v u long same)) r (
+          q.0,
+          let x =
+              q.1 in omega arith,
+        ) in
         let e = list_of_at (length p.flights) u r q in
         omega arith;
   }
 
   -- a list whose map is the first best one is the first best one
-  pub first_best_list : (v : Schedule) → length v ≡ length p.flights → FirstBest (ranked p) (value_of_map p) (of_rank 0 v) → IsFirstBestList p v
+  pub first_best_list : (v : Schedule) → length v ≡ length p.flights
+      → FirstBest (ranked p) (value_of_map p) (of_rank 0 v) → IsFirstBestList p v
   first_best_list v long b =
       let best = best_list p passed v long b.best in
       record {
         best = best;
         tight = tight_list p passed v long b.tight;
         first = λ u bu tu. no_greater_no_later (order_of_list v) (order_of_list u)
-            (b.least (of_rank 0 u) (list_best u bu) (list_tight u tu) (order_of_list v) (order_of_list u) (list_in_landing_order p sound v best.feasible) (list_in_landing_order p sound u bu.feasible));
+            (b.least (of_rank 0 u) (list_best u bu) (list_tight u tu) (order_of_list v) (order_of_list u)
+            (list_in_landing_order p sound v best.feasible) (list_in_landing_order p sound u bu.feasible));
       }
 
   -- ---- there is one
 
   -- lists that land in one order of ranks land alike
-  order_alike : (v w : Schedule) → lists'.IsFeasibleList p v → lists'.IsFeasibleList p w → order_of_list v ≡ order_of_list w → rules.HaveSameOrder v w
+  order_alike : (v w : Schedule) → lists'.IsFeasibleList p v → lists'.IsFeasibleList p w
+      → order_of_list v ≡ order_of_list w → rules.HaveSameOrder v w
   order_alike v w f g e i j li lj =
       let n = f.one_each in
       let iv = list_in_landing_order p sound v f in
       let iw = list_in_landing_order p sound w g in
       let mi = iv.whole (suc i) (omega arith, omega arith) in
       let mj = iv.whole (suc j) (omega arith, omega arith) in
-      let aw : Ascends (of_rank 0 w) (order_of_list v) = subst (Ascends (of_rank 0 w)) (sym e) iw.ascends in
-      (ascends_same (of_rank 0 v) (of_rank 0 w) (order_of_list v) iv.ascends aw (suc i) (suc j) mi mj, ascends_same (of_rank 0 w) (of_rank 0 v) (order_of_list v) aw iv.ascends (suc i) (suc j) mi mj)
+      let aw : Ascends (of_rank 0 w) (order_of_list v) = subst (Ascends (of_rank 0 w)) (sym e) iw.ascends in (
+        ascends_same (of_rank 0 v) (of_rank 0 w) (order_of_list v) iv.ascends aw (suc i) (suc j) mi mj,
+        ascends_same
+            (of_rank 0 w) (of_rank 0 v) (order_of_list v) aw iv.ascends (suc i) (suc j) mi mj,
+      )
 
   pub first_best_list_is_one : (v w : Schedule) → IsFirstBestList p v → IsFirstBestList p w → v ≡ w
   first_best_list_is_one v w a b =
-      let e = no_later_antisym (order_of_list v) (order_of_list w) (a.first w b.best b.tight) (b.first v a.best a.tight) in
-      zip_same v w (a.tight.earliest w b.tight.feasible (order_alike v w a.tight.feasible b.tight.feasible e)) (b.tight.earliest v a.tight.feasible (order_alike w v b.tight.feasible a.tight.feasible (sym e)))
+      let e = no_later_antisym (order_of_list v) (order_of_list w) (a.first w b.best b.tight)
+      (b.first v a.best a.tight) in
+      zip_same v w (a.tight.earliest w b.tight.feasible (order_alike v w a.tight.feasible b.tight.feasible e))
+      (b.tight.earliest v a.tight.feasible (order_alike w v b.tight.feasible a.tight.feasible (sym e)))
 
   -- a first best map, as a list
-  pub first_best_listed : (u : ℕ → ℕ) → FirstBest (ranked p) (value_of_map p) u → IsFirstBestList p (list_of (length p.flights) u)
+  pub first_best_listed : (u : ℕ → ℕ) → FirstBest (ranked p) (value_of_map p) u
+      → IsFirstBestList p (list_of (length p.flights) u)
   first_best_listed u b =
       let n = length p.flights in
       let v = list_of n u in
@@ -246,12 +285,14 @@ module _ (p : lists'.Problem) (sound : SoundProblem (ranked p)) (passed : (r : �
         least = λ w bw tw qs os oq ow. b.least w bw tw qs os (record {
           ranked = oq.ranked;
           whole = oq.whole;
-          ascends = subst (Ascends u) (map-id qs) (map_ascends (of_rank 0 v) u (λ x. x) qs (λ x i. sym (at x (oq.ranked x i))) oq.ascends);
+          ascends = subst (Ascends u) (map-id qs) (map_ascends (of_rank 0 v) u (λ x. x) qs
+              (λ x i. sym (at x (oq.ranked x i))) oq.ascends);
         }) ow;
       })
 
   -- where a list is feasible there is a first best one
   pub first_best_list_exists : (v : Schedule) → lists'.IsFeasibleList p v → (w : Schedule) × IsFirstBestList p w
   first_best_list_exists v f =
-      let u = first_best_exists (ranked p) sound (first_at p) (is_first_open p) (cost_at p) (costs_rise p) (value_at p) (value_rises p) (of_rank 0 v) (list_feasible p v f) in
+      let u = first_best_exists (ranked p) sound (first_at p) (is_first_open p) (cost_at p)
+      (costs_rise p) (value_at p) (value_rises p) (of_rank 0 v) (list_feasible p v f) in
       (list_of (length p.flights) u.0, first_best_listed u.0 u.1)

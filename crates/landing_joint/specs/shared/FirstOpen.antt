@@ -1,8 +1,10 @@
 -- The first open second of spans is the least second at or after another that lies in one of them.
-use Rattle.std.proofs.Common.{◌≡◌, ℕ, ◌≤◌, ◌<◌, ◌⊎◌, inl, inr, Bool, true, false, ◌&&◌, cond, List, [], ◌∷◌, max, min, Option, Some, None, refl, sym, ap, ◌∙◌, arith}
+use Rattle.std.proofs.Common.{◌≡◌, ℕ, ◌≤◌, ◌<◌, ◌⊎◌, inl, inr, Bool, true, false, ◌&&◌, cond, List, [], ◌∷◌, max, min}
+use Rattle.std.proofs.Common.{Option, Some, None, refl, sym, ap, ◌∙◌, arith}
 use Rattle.std.specs.Prelude.{nat_le}
 use Rattle.std.specs.List.{list_any}
-use Rattle.std.proofs.lemmas.Bool.{cases_lt, leb-true, le-leb, or_cases, or_left, or_right, and_parts, and_from, false≢true}
+use Rattle.std.proofs.lemmas.Bool.{cases_lt, leb-true, le-leb, or_cases, or_left, or_right, and_parts, and_from}
+use Rattle.std.proofs.lemmas.Bool.{false≢true}
 use Rattle.landing_rules.specs.Flights.{Span}
 use Rattle.landing_rules.specs.Rules.{is_within}
 use Rattle.landing_rules.specs.Problem.{Problem}
@@ -15,7 +17,8 @@ use Rattle.landing_joint.specs.RankedProblem.{no_waiting, ranked, first_in_span,
 span_found : (w : Span) (t u : ℕ) → first_in_span w t ≡ Some u → (is_within u w ≡ true) × (t ≤ u)
 span_found w t u e = go (nat_le w.0 w.1 && nat_le t w.1) refl e
   where
-    go : (b : Bool) → (nat_le w.0 w.1 && nat_le t w.1) ≡ b → cond b (Some (max t w.0)) None ≡ Some u → (is_within u w ≡ true) × (t ≤ u)
+    go : (b : Bool) → (nat_le w.0 w.1 && nat_le t w.1) ≡ b → cond b (Some (max t w.0)) None ≡ Some u
+        → (is_within u w ≡ true) × (t ≤ u)
     go true f e =
         let s : max t w.0 ≡ u = cc in
         let parts = and_parts (nat_le w.0 w.1) (nat_le t w.1) f in
@@ -29,7 +32,8 @@ span_least w t v e le =
     let parts = and_parts (nat_le w.0 v) (nat_le v w.1) e in
     let a = leb-true w.0 v parts.0 in
     let b = leb-true v w.1 parts.1 in
-    let both : (nat_le w.0 w.1 && nat_le t w.1) ≡ true = and_from (nat_le w.0 w.1) (nat_le t w.1) (le-leb w.0 w.1 (omega arith)) (le-leb t w.1 (omega arith)) in
+    let both : (nat_le w.0 w.1 && nat_le t w.1) ≡ true =
+    and_from (nat_le w.0 w.1) (nat_le t w.1) (le-leb w.0 w.1 (omega arith)) (le-leb t w.1 (omega arith)) in
     (max t w.0, ap (λ c. cond c (Some (max t w.0)) None) both, omega arith)
 
 -- ---- all spans
@@ -52,29 +56,35 @@ right_low None b x e = (x, e, omega arith)
 right_low (Some y) None x e = absurd (cc)
 right_low (Some y) (Some z) x e = (min y z, refl, (let s : z ≡ x = cc in omega arith))
 
-pub first_open_found : (ws : List Span) (t u : ℕ) → first_open ws t ≡ Some u → (list_any (is_within u) ws ≡ true) × (t ≤ u)
+pub first_open_found : (ws : List Span) (t u : ℕ) → first_open ws t ≡ Some u → (list_any (is_within u) ws ≡ true)
+    × (t ≤ u)
 first_open_found [] t u e = cc
 first_open_found (w ∷ ws) t u e = elim (one_of (first_in_span w t) (first_open ws t) u e) [
   | inl a ↦ (let f = span_found w t u a in (or_left (is_within u w) (list_any (is_within u) ws) f.0, f.1))
   | inr b ↦ (let f = first_open_found ws t u b in (or_right (is_within u w) (list_any (is_within u) ws) f.0, f.1))
 ]
 
-pub first_open_least : (ws : List Span) (t v : ℕ) → list_any (is_within v) ws ≡ true → t ≤ v → (u : ℕ) × (first_open ws t ≡ Some u) × (u ≤ v)
+pub first_open_least : (ws : List Span) (t v : ℕ) → list_any (is_within v) ws ≡ true → t ≤ v
+    → (u : ℕ) × (first_open ws t ≡ Some u) × (u ≤ v)
 first_open_least [] t v e le = absurd (false≢true e)
 first_open_least (w ∷ ws) t v e le = elim (or_cases (is_within v w) (list_any (is_within v) ws) e) [
-  | inl a ↦ (let s = span_least w t v a le in let l = left_low (first_in_span w t) (first_open ws t) s.0 s.1 in (l.0, l.1, (let x = s.2 in let y = l.2 in omega arith)))
-  | inr b ↦ (let s = first_open_least ws t v b le in let l = right_low (first_in_span w t) (first_open ws t) s.0 s.1 in (l.0, l.1, (let x = s.2 in let y = l.2 in omega arith)))
+  | inl a ↦ (let s = span_least w t v a le in let l = left_low (first_in_span w t) (first_open ws t) s.0 s.1 in
+      (l.0, l.1, (let x = s.2 in let y = l.2 in omega arith)))
+  | inr b ↦ (let s = first_open_least ws t v b le in let l = right_low (first_in_span w t) (first_open ws t) s.0 s.1 in
+      (l.0, l.1, (let x = s.2 in let y = l.2 in omega arith)))
 ]
 
 -- it is the only such answer
-pub first_open_none : (ws : List Span) (t : ℕ) → ((u : ℕ) → t ≤ u → list_any (is_within u) ws ≡ false) → None ≡ first_open ws t
+pub first_open_none : (ws : List Span) (t : ℕ) → ((u : ℕ) → t ≤ u → list_any (is_within u) ws ≡ false)
+    → None ≡ first_open ws t
 first_open_none ws t none = go (first_open ws t) refl
   where
     go : (o : Option ℕ) → first_open ws t ≡ o → None ≡ o
     go None e = refl
     go (Some u) e = let f = first_open_found ws t u e in absurd (false≢true (sym (none u f.1) ∙ f.0))
 
-pub first_open_some : (ws : List Span) (t x : ℕ) → t ≤ x → list_any (is_within x) ws ≡ true → ((u : ℕ) → t ≤ u → u < x → list_any (is_within u) ws ≡ false) → Some x ≡ first_open ws t
+pub first_open_some : (ws : List Span) (t x : ℕ) → t ≤ x → list_any (is_within x) ws ≡ true
+    → ((u : ℕ) → t ≤ u → u < x → list_any (is_within u) ws ≡ false) → Some x ≡ first_open ws t
 first_open_some ws t x le passes least =
     let l = first_open_least ws t x passes le in
     let f = first_open_found ws t l.0 l.1 in

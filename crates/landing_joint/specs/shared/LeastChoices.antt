@@ -1,5 +1,6 @@
 -- Taking at each place the least rank that can still be completed at the value lands the first best list.
-use Rattle.std.proofs.Common.{◌≡◌, ℕ, suc, ◌<◌, ◌≤◌, true, zero-le, List, [], ◌∷◌, length, Some, arith, refl, sym, ap, subst, ◌∙◌, le_trans}
+use Rattle.std.proofs.Common.{◌≡◌, ℕ, suc, ◌<◌, ◌≤◌, true, zero-le, List, [], ◌∷◌, length, Some, arith, refl, sym, ap}
+use Rattle.std.proofs.Common.{subst, ◌∙◌, le_trans}
 use Rattle.std.proofs.lemmas.Bool.{leb-true, le-leb}
 use Rattle.landing_rules.specs.declared.objective.Objective.{Objective}
 use Rattle.landing_rules.specs.declared.objective.Objective.TheVariants.{Makespan, Delay}
@@ -20,12 +21,15 @@ use Rattle.cps_theory.specs.laws.FirstBestObjectives.{all_low, landed_low, low_l
 use Rattle.cps_theory.specs.laws.LabelDominance.{last_ranks}
 use Rattle.cps_theory.specs.laws.LandingOrder.{sorted}
 use Rattle.cps_theory.specs.laws.LeastObjective.{pair_all}
-use Rattle.landing_joint.specs.RankedProblem.{no_waiting, ranked, cost_at, cost_by, first_at, landing_after, makespan_by, value_at, value_by, value_of_map}
-use Rattle.landing_joint.specs.CompletingPairs.{AreCompletingPairs, AreLeastChoices, CanChoose, IsLeastObjective, IsLegal, budget_by, budget_of, is_low, low_by, seconds_by_rank}
+use Rattle.landing_joint.specs.RankedProblem.{no_waiting, ranked, cost_at, cost_by, first_at, landing_after}
+use Rattle.landing_joint.specs.RankedProblem.{makespan_by, value_at, value_by, value_of_map}
+use Rattle.landing_joint.specs.CompletingPairs.{AreCompletingPairs, AreLeastChoices, CanChoose, IsLeastObjective}
+use Rattle.landing_joint.specs.CompletingPairs.{IsLegal, budget_by, budget_of, is_low, low_by, seconds_by_rank}
 use Rattle.landing_joint.specs.shared.RankedLists.{list_feasible, feasible_list, feasible_agree}
 use Rattle.landing_joint.specs.shared.BestLists.{list_value}
 use Rattle.landing_joint.specs.shared.FirstOpen.{is_first_open}
-use Rattle.landing_joint.specs.shared.FirstBestLists.{costs_rise, first_best_listed, list_of, list_of_at, list_of_long, value_agree}
+use Rattle.landing_joint.specs.shared.FirstBestLists.{costs_rise, first_best_listed, list_of, list_of_at, list_of_long}
+use Rattle.landing_joint.specs.shared.FirstBestLists.{value_agree}
 use Rattle.landing_joint.specs.shared.NodePairs.{net, completes_node, completes_one, node_completes, pattern_one}
 
 -- what is low is low earlier
@@ -33,7 +37,8 @@ pub lower_by : (v : ℕ) (o : Objective) (t u : ℕ) → t ≤ u → low_by o v 
 lower_by v Makespan t u le h = le-leb t v (le_trans le (leb-true u v h))
 lower_by v Delay t u le h = refl
 
-module _ (p : lists'.Problem) (sound : SoundProblem (ranked p)) (passed : (r : ℕ) → IsRank (length p.flights) r → (of_rank no_waiting p.flights r).passed ≤ p.k) (v : ℕ) (value_is : IsLeastObjective p v) where
+module _ (p : lists'.Problem) (sound : SoundProblem (ranked p)) (passed : (r : ℕ) → IsRank (length p.flights) r
+    → (of_rank no_waiting p.flights r).passed ≤ p.k) (v : ℕ) (value_is : IsLeastObjective p v) where
   -- ---- the value
 
   at_value : (q : Pair) × (value_at p q ≡ v)
@@ -44,13 +49,15 @@ module _ (p : lists'.Problem) (sound : SoundProblem (ranked p)) (passed : (r : �
   no_less : (u : ℕ → ℕ) → Feasible (ranked p) u → v ≤ value_of_map p u
   no_less u f =
       let w = list_of (length p.flights) u in
-      let g = feasible_list p passed w (list_of_long (length p.flights) u) (feasible_agree (ranked p) u (of_rank 0 w) (λ r q. sym (list_of_at (length p.flights) u r q)) f) in
+      let g = feasible_list p passed w (list_of_long (length p.flights) u)
+      (feasible_agree (ranked p) u (of_rank 0 w) (λ r q. sym (list_of_at (length p.flights) u r q)) f) in
       let a = value_is.least w g in
       let b = list_value p w (list_of_long (length p.flights) u) in
       let c = value_agree p (of_rank 0 w) u (list_of_at (length p.flights) u) in
       omega arith
 
-  last_low : (fs : List lists'.Waiting) (xs : List Landing) → length (ranks xs) ≡ length fs → makespan_by fs p (latest_landing xs).1 ≤ v → (latest_landing xs).1 ≤ v
+  last_low : (fs : List lists'.Waiting) (xs : List Landing) → length (ranks xs) ≡ length fs
+      → makespan_by fs p (latest_landing xs).1 ≤ v → (latest_landing xs).1 ≤ v
   last_low [] [] e le = zero-le
   last_low [] (x ∷ xs) e le = absurd (omega arith)
   last_low (f ∷ fs) xs e le = le
@@ -60,17 +67,23 @@ module _ (p : lists'.Problem) (sound : SoundProblem (ranked p)) (passed : (r : �
   last_back (f ∷ fs) m t e le = le
 
   -- a trail is within the value exactly where its seconds are low and its cost is within the budget
-  within_by : (o : Objective) (xs : List Landing) → IsLegal p (ranks xs) → LandedIn (ranked p) xs → length (ranks xs) ≡ length p.flights → value_by o p (pair_of (λ r t. cost_by o (of_rank no_waiting p.flights r) t) xs) ≤ v
-      → AllLow (λ t. low_by o v t ≡ true) xs × (cost_of (λ r t. cost_by o (of_rank no_waiting p.flights r) t) xs ≤ budget_by o p v)
+  within_by : (o : Objective) (xs : List Landing) → IsLegal p (ranks xs) → LandedIn (ranked p) xs
+      → length (ranks xs) ≡ length p.flights
+      → value_by o p (pair_of (λ r t. cost_by o (of_rank no_waiting p.flights r) t) xs) ≤ v
+      → AllLow (λ t. low_by o v t ≡ true) xs
+      × (cost_of (λ r t. cost_by o (of_rank no_waiting p.flights r) t) xs ≤ budget_by o p v)
   within_by Makespan xs l d whole le = (
-    low_true (ranked p) sound (first_at p) (is_first_open p) v xs (landed_low (ranked p) sound (first_at p) (is_first_open p) v xs l d (last_low p.flights xs whole le)),
+    low_true (ranked p) sound (first_at p) (is_first_open p) v xs
+        (landed_low (ranked p) sound (first_at p) (is_first_open p) v xs l d (last_low p.flights xs whole le)),
     let a = no_cost (ranked p) sound (first_at p) (is_first_open p) xs in omega arith,
   )
   within_by Delay xs l d whole le = (all_low (ranked p) sound (first_at p) (is_first_open p) xs, omega arith)
 
-  back_by : (o : Objective) (q : Pair) → value_by o p q ≡ v → (xs : List Landing) → AllLow (λ t. low_by o v t ≡ true) xs → cost_of (λ r t. cost_by o (of_rank no_waiting p.flights r) t) xs ≤ budget_by o p v
+  back_by : (o : Objective) (q : Pair) → value_by o p q ≡ v → (xs : List Landing) → AllLow (λ t. low_by o v t ≡ true) xs
+      → cost_of (λ r t. cost_by o (of_rank no_waiting p.flights r) t) xs ≤ budget_by o p v
       → value_by o p (pair_of (λ r t. cost_by o (of_rank no_waiting p.flights r) t) xs) ≤ v
-  back_by Makespan q e xs a c = last_back p.flights q.0 (latest_landing xs).1 e (low_last (ranked p) sound (first_at p) (is_first_open p) v xs a)
+  back_by Makespan q e xs a c =
+      last_back p.flights q.0 (latest_landing xs).1 e (low_last (ranked p) sound (first_at p) (is_first_open p) v xs a)
   back_by Delay q e xs a c = omega arith
 
   -- ---- the kept pairs of a pattern
@@ -90,46 +103,76 @@ module _ (p : lists'.Problem) (sound : SoundProblem (ranked p)) (passed : (r : �
     abbrev CompletesPattern : PatternNode → Pair → Type 0
     CompletesPattern w q = CompletesNode (ranked p) (cost_at p) (is_low p v) w q
 
-    kept_in : (rs : List ℕ) (r : ℕ) → IsLegal p (r ∷ rs) → KeptCompleting (CompletesPattern (node (r ∷ rs))) (KeepsIn (node (r ∷ rs)))
+    kept_in : (rs : List ℕ) (r : ℕ) → IsLegal p (r ∷ rs)
+        → KeptCompleting (CompletesPattern (node (r ∷ rs))) (KeepsIn (node (r ∷ rs)))
     kept_in rs r l = record {
-      completes = λ q k. subst (λ w. CompletesPattern w q) k.at (completes_node p sound v (ranks (k.last ∷ k.before)) q k.legal ((kept k.last k.before k.legal k.landed).completes q k.keeps));
+      completes = λ q k. subst (λ w. CompletesPattern w q) k.at
+          (completes_node p sound v (ranks (k.last ∷ k.before)) q k.legal
+          ((kept k.last k.before k.legal k.landed).completes q k.keeps));
       covers = λ q c. by q c c.reached.landings c.reached.legal c.reached.landed c.reached.at;
     }
       where
-        by : (q : Pair) → CompletesPattern (node (r ∷ rs)) q → (ls : List Landing) → IsLegal p (ranks ls) → LandedIn (ranked p) ls → node (ranks ls) ≡ node (r ∷ rs) → (o : Pair) × KeepsIn (node (r ∷ rs)) o × NoEarlierNoDearer o q
+        by : (q : Pair) → CompletesPattern (node (r ∷ rs)) q → (ls : List Landing) → IsLegal p (ranks ls)
+            → LandedIn (ranked p) ls → node (ranks ls) ≡ node (r ∷ rs) → (o : Pair) × KeepsIn (node (r ∷ rs)) o
+            × NoEarlierNoDearer o q
         by q c [] l' d e = absurd (let a = ap (λ (w : PatternNode). w.0) e in omega arith)
         by q c (x ∷ xs) l' d e =
             let one = pattern_one p sound (r ∷ rs) (ranks (x ∷ xs)) l l' (sym e) in
-            let done = completes_one p sound v (r ∷ rs) (ranks (x ∷ xs)) q l l' one (node_completes p sound v (r ∷ rs) q l c) in
+            let done = completes_one p sound v (r ∷ rs) (ranks (x ∷ xs)) q l l' one
+            (node_completes p sound v (r ∷ rs) q l c) in
             let o = (kept x xs l' d).covers q done in
             (o.0, record { last = x; before = xs; legal = l'; landed = d; at = e; keeps = o.1 }, o.2)
 
     abbrev ChoiceIn : List Landing → ℕ → ℕ → Type 0
-    ChoiceIn xs r t = Choice PatternNode (first_at p) (next_from (ranked p)) (cost_at p) (PatternPermits (ranked p).rules) (pattern_push (ranked p).rules) pattern_newest KeepsIn (budget_of p v) (node (ranks xs)) (pair_of (cost_at p) xs) r t
+    ChoiceIn xs r t = Choice PatternNode (first_at p) (next_from (ranked p)) (cost_at p)
+        (PatternPermits (ranked p).rules) (pattern_push (ranked p).rules) pattern_newest KeepsIn
+        (budget_of p v) (node (ranks xs)) (pair_of (cost_at p) xs) r t
 
     abbrev Built : List Landing → Type 0
-    Built xs = BuiltByLeastChoices PatternNode (first_at p) (next_from (ranked p)) (cost_at p) (pattern_node (ranked p).rules) (PatternPermits (ranked p).rules) (pattern_push (ranked p).rules) pattern_newest KeepsIn (budget_of p v) xs
+    Built xs = BuiltByLeastChoices PatternNode (first_at p) (next_from (ranked p)) (cost_at p)
+        (pattern_node (ranked p).rules) (PatternPermits (ranked p).rules)
+        (pattern_push (ranked p).rules) pattern_newest KeepsIn (budget_of p v) xs
 
-    landed_more : (xs : List Landing) (r t : ℕ) → LandedIn (ranked p) xs → landing_after p (latest_landing xs).0 (latest_landing xs).1 r ≡ Some t → LandedIn (ranked p) ((r, t) ∷ xs)
-    landed_more xs r t d e = let f = (is_first_open p).found r (next_from (ranked p) (latest_landing xs).0 (latest_landing xs).1 r) t e in (f.0, f.1, d)
+    landed_more : (xs : List Landing) (r t : ℕ) → LandedIn (ranked p) xs
+        → landing_after p (latest_landing xs).0 (latest_landing xs).1 r ≡ Some t → LandedIn (ranked p) ((r, t) ∷ xs)
+    landed_more xs r t d e = let f =
+        (is_first_open p).found r (next_from (ranked p) (latest_landing xs).0 (latest_landing xs).1 r) t e in
+        (f.0, f.1, d)
 
     -- a choice is one by the pattern
-    choice_in : (xs : List Landing) (r t : ℕ) → IsLegal p (ranks xs) → LandedIn (ranked p) xs → CanChoose p v Keeps xs r t → ChoiceIn xs r t
+    choice_in : (xs : List Landing) (r t : ℕ) → IsLegal p (ranks xs) → LandedIn (ranked p) xs
+        → CanChoose p v Keeps xs r t → ChoiceIn xs r t
     choice_in xs r t l d c = record {
       permitted = ((net p sound).shrinks r (ranks xs) c.legal).1;
       found = ap (λ k. landing_after p k (latest_landing xs).1 r) (last_ranks xs) ∙ c.lands;
-      can_end = (c.pair, record { last = (r, t); before = xs; legal = c.legal; landed = landed_more xs r t d c.lands; at = (net p sound).pushes r (ranks xs) l; keeps = c.kept }, c.in_time, c.cheap);
+      can_end = (
+        c.pair,
+        record {
+          last = (r, t);
+          before = xs;
+          legal = c.legal;
+          landed =
+              landed_more xs r t d c.lands;
+          at = (net p sound).pushes r (ranks xs) l;
+          keeps = c.kept;
+        },
+        c.in_time,
+        c.cheap,
+      );
     }
 
-    choice_back : (xs : List Landing) (r t : ℕ) → IsLegal p (ranks xs) → LandedIn (ranked p) xs → ChoiceIn xs r t → CanChoose p v Keeps xs r t
+    choice_back : (xs : List Landing) (r t : ℕ) → IsLegal p (ranks xs) → LandedIn (ranked p) xs
+        → ChoiceIn xs r t → CanChoose p v Keeps xs r t
     choice_back xs r t l d c =
         let legal = (net p sound).grows r (ranks xs) l c.permitted in
-        let lands : landing_after p (latest_landing xs).0 (latest_landing xs).1 r ≡ Some t = sym (ap (λ k. landing_after p k (latest_landing xs).1 r) (last_ranks xs)) ∙ c.found in
+        let lands : landing_after p (latest_landing xs).0 (latest_landing xs).1 r ≡ Some t =
+        sym (ap (λ k. landing_after p k (latest_landing xs).1 r) (last_ranks xs)) ∙ c.found in
         let o = c.can_end.0 in
         let k = c.can_end.1 in
         let at = k.at ∙ sym ((net p sound).pushes r (ranks xs) l) in
         let one = pattern_one p sound (ranks (k.last ∷ k.before)) (r ∷ ranks xs) k.legal legal at in
-        let done = completes_one p sound v (ranks (k.last ∷ k.before)) (r ∷ ranks xs) o k.legal legal one ((kept k.last k.before k.legal k.landed).completes o k.keeps) in
+        let done = completes_one p sound v (ranks (k.last ∷ k.before)) (r ∷ ranks xs) o k.legal legal one
+        ((kept k.last k.before k.legal k.landed).completes o k.keeps) in
         let n = (kept (r, t) xs legal (landed_more xs r t d lands)).covers o done in
         record {
           legal = legal;
@@ -140,7 +183,8 @@ module _ (p : lists'.Problem) (sound : SoundProblem (ranked p)) (passed : (r : �
           cheap = let a = n.2.1 in let b = c.can_end.3 in omega arith;
         }
 
-    built_in : (xs : List Landing) → AreLeastChoices p v Keeps xs → Built xs × IsLegal p (ranks xs) × LandedIn (ranked p) xs
+    built_in : (xs : List Landing) → AreLeastChoices p v Keeps xs → Built xs × IsLegal p (ranks xs)
+        × LandedIn (ranked p) xs
     built_in [] a = (tt, tt, tt)
     built_in (x ∷ xs) a =
         let ih = built_in xs a.2 in (
@@ -154,16 +198,21 @@ module _ (p : lists'.Problem) (sound : SoundProblem (ranked p)) (passed : (r : �
     length_ranks (x ∷ xs) = ap suc (length_ranks xs)
 
     -- a whole trail of least choices lands as the first best list
-    pub choices_first_best : (xs : List Landing) → AreLeastChoices p v Keeps xs → length xs ≡ length p.flights → IsFirstBestList p (seconds_by_rank p xs)
+    pub choices_first_best : (xs : List Landing) → AreLeastChoices p v Keeps xs → length xs ≡ length p.flights
+        → IsFirstBestList p (seconds_by_rank p xs)
     choices_first_best xs a whole =
         let b = built_in xs a in
-        let f = built_first (ranked p) sound (first_at p) (is_first_open p) (cost_at p) (costs_rise p) PatternNode (pattern_node (ranked p).rules) (λ w. w.0) (λ rs. refl) (PatternPermits (ranked p).rules) (pattern_push (ranked p).rules) pattern_newest (net p sound)
+        let f = built_first (ranked p) sound (first_at p) (is_first_open p) (cost_at p) (costs_rise p) PatternNode
+        (pattern_node (ranked p).rules) (λ w. w.0) (λ rs. refl) (PatternPermits (ranked p).rules)
+        (pattern_push (ranked p).rules) pattern_newest (net p sound)
         (λ t. is_low p v t ≡ true) (lower_by v p.objective) KeepsIn kept_in (budget_of p v) (value_at p) v
-        (within_by p.objective) (λ ys l d w low cheap. back_by p.objective at_value.0 at_value.1 ys low cheap) no_less xs b.1 (length_ranks xs ∙ whole) b.0 in
+        (within_by p.objective) (λ ys l d w low cheap. back_by p.objective at_value.0 at_value.1 ys low cheap)
+        no_less xs b.1 (length_ranks xs ∙ whole) b.0 in
         first_best_listed p sound passed (second_in xs) f.0
 
     -- and while it is not whole some rank can be chosen
-    pub choice_found : (xs : List Landing) → AreLeastChoices p v Keeps xs → length xs < length p.flights → (r : ℕ) × (t : ℕ) × CanChoose p v Keeps xs r t
+    pub choice_found : (xs : List Landing) → AreLeastChoices p v Keeps xs → length xs < length p.flights
+        → (r : ℕ) × (t : ℕ) × CanChoose p v Keeps xs r t
     unfolding at_value
     choice_found xs a short =
         let b = built_in xs a in
@@ -173,9 +222,14 @@ module _ (p : lists'.Problem) (sound : SoundProblem (ranked p)) (passed : (r : �
         let us = at_seconds u rs in
         let fl = feasible_lands (ranked p) u sound fu in
         let same = ranks_at u rs in
-        let value_us : value_at p (pair_of (cost_at p) us) ≡ v = ap (value_at p) (pair_all (ranked p) (cost_at p) sound u rs fl) ∙ at_value.1 in
-        let w = within_by p.objective us (subst (IsLegal p) (sym same) fl.legal) fl.landed (ap length same ∙ fl.whole) (omega (arith, value_us)) in
+        let value_us : value_at p (pair_of (cost_at p) us) ≡ v =
+        ap (value_at p) (pair_all (ranked p) (cost_at p) sound u rs fl) ∙ at_value.1 in
+        let w = within_by p.objective us (subst (IsLegal p) (sym same) fl.legal) fl.landed
+        (ap length same ∙ fl.whole) (omega (arith, value_us)) in
         let n = length_ranks xs in
-        let c = built_goes_on (ranked p) sound (first_at p) (is_first_open p) (cost_at p) (costs_rise p) PatternNode (pattern_node (ranked p).rules) (λ w. w.0) (λ rs. refl) (PatternPermits (ranked p).rules) (pattern_push (ranked p).rules) pattern_newest (net p sound)
-        (λ t. is_low p v t ≡ true) (lower_by v p.objective) KeepsIn kept_in (budget_of p v) u fu w.0 w.1 xs b.0 b.1 (λ e. omega arith) in
+        let c = built_goes_on (ranked p) sound (first_at p) (is_first_open p) (cost_at p) (costs_rise p) PatternNode
+        (pattern_node (ranked p).rules) (λ w. w.0) (λ rs. refl) (PatternPermits (ranked p).rules)
+        (pattern_push (ranked p).rules) pattern_newest (net p sound)
+        (λ t. is_low p v t ≡ true) (lower_by v p.objective) KeepsIn kept_in (budget_of p v) u fu w.0 w.1 xs b.0 b.1
+        (λ e. omega arith) in
         (c.0, c.1, choice_back xs c.0 c.1 b.1 b.2 c.2)

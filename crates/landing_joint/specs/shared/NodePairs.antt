@@ -1,5 +1,6 @@
 -- The completing pairs of a prefix are those of its node, told by its pattern.
-use Rattle.std.proofs.Common.{◌≡◌, ℕ, suc, ◌-◌, ◌*◌, ◌≤◌, ◌↔◌, Bool, true, false, ◌||◌, leb, List, [], ◌∷◌, length, refl, sym, ap, subst, ◌∙◌}
+use Rattle.std.proofs.Common.{◌≡◌, ℕ, suc, ◌-◌, ◌*◌, ◌≤◌, ◌↔◌, Bool, true, false, ◌||◌, leb, List, [], ◌∷◌, length}
+use Rattle.std.proofs.Common.{refl, sym, ap, subst, ◌∙◌}
 use Rattle.std.proofs.lemmas.Bool.{false≢true}
 use Rattle.landing_rules.specs.Problem.{Problem}
 use Rattle.cps_theory.specs.RankLists.{In}
@@ -8,7 +9,8 @@ use Rattle.cps_theory.specs.LandingTrail.{last_rank, ranks}
 use Rattle.cps_theory.specs.Labels.{Pair}
 use Rattle.cps_theory.specs.LegalPrefix.{Legal}
 use Rattle.cps_theory.specs.Network.{Network}
-use Rattle.cps_theory.specs.Patterns.{IsPlacedByPattern, PatternNode, PatternPermits, is_member, pattern_digit, pattern_newest, pattern_node, pattern_push, tests_from}
+use Rattle.cps_theory.specs.Patterns.{IsPlacedByPattern, PatternNode, PatternPermits, is_member, pattern_digit}
+use Rattle.cps_theory.specs.Patterns.{pattern_newest, pattern_node, pattern_push, tests_from}
 use Rattle.cps_theory.specs.Feasible.{SoundProblem, next_from}
 use Rattle.cps_theory.specs.CompletingPairs.{Follows}
 use Rattle.cps_theory.specs.FirstBest.{CompletesNode, ReachedIn}
@@ -28,31 +30,41 @@ same_member x rs os h = go (is_member x rs) (is_member x os) refl refl
     go true false e f = absurd (false≢true (sym f ∙ in_member x os (h.0 (member_in x rs e))))
     go false true e f = absurd (false≢true (sym e ∙ in_member x rs (h.1 (member_in x os f))))
 
-pub node_is : (m n : ℕ) (ds es : List Bool) (q r : ℕ) → m ≡ n → ds ≡ es → q ≡ r → ◌≡◌ {A = PatternNode} (m, ds, q) (n, es, r)
+pub node_is : (m n : ℕ) (ds es : List Bool) (q r : ℕ) → m ≡ n → ds ≡ es → q ≡ r
+    → ◌≡◌ {A = PatternNode} (m, ds, q) (n, es, r)
 node_is m n ds es q r a b c = ap (λ x. (x, ds, q)) a ∙ ap (λ x. (n, x, q)) b ∙ ap (λ x. (n, es, x)) c
 
 module _ (p : Problem) (sound : SoundProblem (ranked p)) where
   ones : (a r : ℕ) → (ranked p).rules.before a r ≡ true → 1 ≤ a
   ones a r b = (sound.ranked a r b).0
 
-  pub net : Network PatternNode (Legal (ranked p).rules) (pattern_node (ranked p).rules) (PatternPermits (ranked p).rules) (pattern_push (ranked p).rules) pattern_newest
+  pub net : Network PatternNode (Legal (ranked p).rules) (pattern_node (ranked p).rules)
+      (PatternPermits (ranked p).rules) (pattern_push (ranked p).rules) pattern_newest
   net = pattern_network (ranked p).rules ones
 
   -- prefixes of one node have one pattern
-  pub one_pattern : (rs os : List ℕ) → AreOneNode rs os → pattern_node (ranked p).rules rs ≡ pattern_node (ranked p).rules os
+  pub one_pattern : (rs os : List ℕ) → AreOneNode rs os
+      → pattern_node (ranked p).rules rs ≡ pattern_node (ranked p).rules os
   one_pattern rs os n =
       let k = (ranked p).rules.most in
-      let d : tests_from (pattern_digit k rs) (suc (length rs)) (2 * k) ≡ tests_from (pattern_digit k os) (suc (length os)) (2 * k) =
-      tests_agree (pattern_digit k rs) (pattern_digit k os) (suc (length rs)) (2 * k) (λ x a b. ap (λ m. leb x k || m) (same_member (x - k) rs os (n.placed (x - k)))) ∙ ap (λ m. tests_from (pattern_digit k os) (suc m) (2 * k)) n.stage in
-      node_is (length rs) (length os) (tests_from (pattern_digit k rs) (suc (length rs)) (2 * k)) (tests_from (pattern_digit k os) (suc (length os)) (2 * k)) (last_rank rs) (last_rank os) n.stage d n.latest
+      let d : tests_from (pattern_digit k rs) (suc (length rs)) (2 * k) ≡ tests_from (pattern_digit k os)
+      (suc (length os)) (2 * k) =
+      tests_agree (pattern_digit k rs) (pattern_digit k os) (suc (length rs)) (2 * k)
+      (λ x a b. ap (λ m. leb x k || m) (same_member (x - k) rs os (n.placed (x - k))))
+      ∙ ap (λ m. tests_from (pattern_digit k os) (suc m) (2 * k)) n.stage in
+      node_is (length rs) (length os) (tests_from (pattern_digit k rs) (suc (length rs)) (2 * k))
+      (tests_from (pattern_digit k os) (suc (length os)) (2 * k)) (last_rank rs) (last_rank os) n.stage d n.latest
 
-  placed_one : (rs os : List ℕ) → IsLegal p rs → IsLegal p os → pattern_node (ranked p).rules rs ≡ pattern_node (ranked p).rules os → (x : ℕ) → In x rs → In x os
+  placed_one : (rs os : List ℕ) → IsLegal p rs → IsLegal p os
+      → pattern_node (ranked p).rules rs ≡ pattern_node (ranked p).rules os → (x : ℕ) → In x rs → In x os
   placed_one rs os l m e x i =
       let one = (in_from_one (ranked p).rules x rs (legal_each_fits (ranked p).rules rs l) i).0 in
-      (same (ranked p).rules ones os m x one).1 (subst (λ w. IsPlacedByPattern (ranked p).rules w x) e ((same (ranked p).rules ones rs l x one).0 i))
+      (same (ranked p).rules ones os m x one).1 (subst (λ w. IsPlacedByPattern (ranked p).rules w x) e
+      ((same (ranked p).rules ones rs l x one).0 i))
 
   -- and legal prefixes of one pattern are of one node
-  pub pattern_one : (rs os : List ℕ) → IsLegal p rs → IsLegal p os → pattern_node (ranked p).rules rs ≡ pattern_node (ranked p).rules os → AreOneNode rs os
+  pub pattern_one : (rs os : List ℕ) → IsLegal p rs → IsLegal p os
+      → pattern_node (ranked p).rules rs ≡ pattern_node (ranked p).rules os → AreOneNode rs os
   pattern_one rs os l m e = record {
     stage = ap (λ (w : PatternNode). w.0) e;
     placed = λ x. (placed_one rs os l m e x, placed_one os rs m l (sym e) x);
@@ -61,37 +73,91 @@ module _ (p : Problem) (sound : SoundProblem (ranked p)) where
 
   -- a node that can land is reached
   pub reached_by : (rs : List ℕ) (b : ℕ) → CanLandBy p rs b → ReachedIn (ranked p) (pattern_node (ranked p).rules rs) b
-  reached_by rs b c = record { landings = c.landings; legal = c.legal; landed = c.landed; at = one_pattern (ranks c.landings) rs c.one_node; by = c.by }
+  reached_by rs b c = record {
+    landings = c.landings;
+    legal = c.legal;
+    landed = c.landed;
+    at =
+        one_pattern (ranks c.landings) rs c.one_node;
+    by = c.by;
+  }
 
-  pub by_reached : (rs : List ℕ) (b : ℕ) → IsLegal p rs → ReachedIn (ranked p) (pattern_node (ranked p).rules rs) b → CanLandBy p rs b
-  by_reached rs b l c = record { landings = c.landings; legal = c.legal; landed = c.landed; one_node = pattern_one (ranks c.landings) rs c.legal l c.at; by = c.by }
+  pub by_reached : (rs : List ℕ) (b : ℕ) → IsLegal p rs → ReachedIn (ranked p) (pattern_node (ranked p).rules rs) b
+      → CanLandBy p rs b
+  by_reached rs b l c = record {
+    landings = c.landings;
+    legal = c.legal;
+    landed = c.landed;
+    one_node =
+        pattern_one (ranks c.landings) rs c.legal l c.at;
+    by = c.by;
+  }
 
   -- ---- what follows
 
   module _ (v : ℕ) where
     abbrev FollowsIn : PatternNode → ℕ → List Landing → Type 0
-    FollowsIn w b ys = Follows PatternNode (λ x u. (ranked p).is_open x u ≡ true) (next_from (ranked p)) (PatternPermits (ranked p).rules) (pattern_push (ranked p).rules) pattern_newest (λ z. z.0 ≡ (ranked p).rules.count) (λ t. is_low p v t ≡ true) w b ys
+    FollowsIn w b ys = Follows PatternNode (λ x u. (ranked p).is_open x u ≡ true) (next_from (ranked p))
+        (PatternPermits (ranked p).rules) (pattern_push (ranked p).rules) pattern_newest
+        (λ z. z.0 ≡ (ranked p).rules.count) (λ t. is_low p v t ≡ true) w b ys
 
-    ends_follows : (rs : List ℕ) (b : ℕ) (ys : List Landing) → IsLegal p rs → EndsOrder p v rs b ys → FollowsIn (pattern_node (ranked p).rules rs) b ys
+    ends_follows : (rs : List ℕ) (b : ℕ) (ys : List Landing) → IsLegal p rs → EndsOrder p v rs b ys
+        → FollowsIn (pattern_node (ranked p).rules rs) b ys
     ends_follows rs b [] l e = e
-    ends_follows rs b (y ∷ ys) l e = ((net.shrinks y.0 rs e.0).1, e.1, e.2, e.3, subst (λ w. FollowsIn w y.1 ys) (net.pushes y.0 rs l) (ends_follows (y.0 ∷ rs) y.1 ys e.0 e.4))
+    ends_follows rs b (y ∷ ys) l e = (
+      (net.shrinks y.0 rs e.0).1,
+      e.1,
+      e.2,
+      e.3,
+      subst (λ w. FollowsIn w y.1 ys) (net.pushes y.0 rs l)
+          (ends_follows (y.0 ∷ rs) y.1 ys e.0 e.4),
+    )
 
-    follows_ends : (rs : List ℕ) (b : ℕ) (ys : List Landing) → IsLegal p rs → FollowsIn (pattern_node (ranked p).rules rs) b ys → EndsOrder p v rs b ys
+    follows_ends : (rs : List ℕ) (b : ℕ) (ys : List Landing) → IsLegal p rs
+        → FollowsIn (pattern_node (ranked p).rules rs) b ys → EndsOrder p v rs b ys
     follows_ends rs b [] l f = f
     follows_ends rs b (y ∷ ys) l f =
-        let m = net.grows y.0 rs l f.0 in
-        (m, f.1, f.2, f.3, follows_ends (y.0 ∷ rs) y.1 ys m (subst (λ w. FollowsIn w y.1 ys) (sym (net.pushes y.0 rs l)) f.4))
+        let m = net.grows y.0 rs l f.0 in (
+          m,
+          f.1,
+          f.2,
+          f.3,
+          follows_ends (y.0 ∷ rs) y.1 ys m
+              (subst (λ w. FollowsIn w y.1 ys) (sym (net.pushes y.0 rs l)) f.4),
+        )
 
     abbrev CompletesIn : PatternNode → Pair → Type 0
     CompletesIn w q = CompletesNode (ranked p) (cost_at p) (is_low p v) w q
 
     -- the completing pairs of a legal prefix are those of its pattern
-    pub completes_node : (rs : List ℕ) (q : Pair) → IsLegal p rs → IsCompletingPair p v rs q → CompletesIn (pattern_node (ranked p).rules rs) q
-    completes_node rs q l c = record { opened = c.opened; reached = reached_by rs q.0 c.reached; low = c.low; rest = c.rest; follows = ends_follows rs q.0 c.rest l c.ends; cost_is = c.cost_is }
+    pub completes_node : (rs : List ℕ) (q : Pair) → IsLegal p rs → IsCompletingPair p v rs q
+        → CompletesIn (pattern_node (ranked p).rules rs) q
+    completes_node rs q l c =
+        record {
+          opened = c.opened;
+          reached = reached_by rs q.0 c.reached;
+          low = c.low;
+          rest =
+              c.rest;
+          follows = ends_follows rs q.0 c.rest l c.ends;
+          cost_is = c.cost_is;
+        }
 
-    pub node_completes : (rs : List ℕ) (q : Pair) → IsLegal p rs → CompletesIn (pattern_node (ranked p).rules rs) q → IsCompletingPair p v rs q
-    node_completes rs q l c = record { opened = c.opened; reached = by_reached rs q.0 l c.reached; low = c.low; rest = c.rest; ends = follows_ends rs q.0 c.rest l c.follows; cost_is = c.cost_is }
+    pub node_completes : (rs : List ℕ) (q : Pair) → IsLegal p rs → CompletesIn (pattern_node (ranked p).rules rs) q
+        → IsCompletingPair p v rs q
+    node_completes rs q l c =
+        record {
+          opened = c.opened;
+          reached = by_reached rs q.0 l c.reached;
+          low = c.low;
+          rest =
+              c.rest;
+          ends = follows_ends rs q.0 c.rest l c.follows;
+          cost_is = c.cost_is;
+        }
 
     -- so they are those of each legal prefix of the node
-    pub completes_one : (rs os : List ℕ) (q : Pair) → IsLegal p rs → IsLegal p os → AreOneNode rs os → IsCompletingPair p v rs q → IsCompletingPair p v os q
-    completes_one rs os q l m n c = node_completes os q m (subst (λ w. CompletesIn w q) (one_pattern rs os n) (completes_node rs q l c))
+    pub completes_one : (rs os : List ℕ) (q : Pair) → IsLegal p rs → IsLegal p os → AreOneNode rs os
+        → IsCompletingPair p v rs q → IsCompletingPair p v os q
+    completes_one rs os q l m n c =
+        node_completes os q m (subst (λ w. CompletesIn w q) (one_pattern rs os n) (completes_node rs q l c))

@@ -1,5 +1,6 @@
 -- Texts without a mark, and lines without line feeds: a text that is cut at the mark tells what stands before it.
-use Rattle.std.proofs.Common.{◌≡◌, ℕ, ◌<◌, ◌≤◌, List, [], ◌∷◌, ◌++◌, Bool, true, false, refl, sym, ap, ◌∙◌, arith, rules, append_assoc}
+use Rattle.std.proofs.Common.{◌≡◌, ℕ, ◌<◌, ◌≤◌, List, [], ◌∷◌, ◌++◌, Bool, true, false, refl, sym, ap, ◌∙◌, arith}
+use Rattle.std.proofs.Common.{rules, append_assoc}
 use Rattle.std.specs.Prelude.{◌^◌, ⊤, not, nat_eq, codes, decimal}
 use Rattle.std.specs.Char.{is_ascii_digit}
 use Rattle.std.specs.List.{list_all}
@@ -11,7 +12,8 @@ use Rattle.std.proofs.lemmas.Fmt.{digits_decimal}
 use Rattle.std.proofs.lemmas.Str.Parse.{IsNumeralModel, numerals_by_value}
 use Rattle.landing_rules.specs.declared.objective.Objective.{Objective}
 use Rattle.landing_rules.specs.declared.objective.Objective.TheVariants.{Makespan, Delay}
-use Rattle.landing_rules.specs.Text.{Bytes, ShownLanding, lines_text, objective_word, frozen_word, landing_words, IsName}
+use Rattle.landing_rules.specs.Text.{Bytes, ShownLanding, lines_text, objective_word, frozen_word, landing_words}
+use Rattle.landing_rules.specs.Text.{IsName}
 
 -- no byte of the text is the mark
 abbrev pub IsWithout : ℕ → Bytes → Type 0
@@ -30,7 +32,8 @@ abbrev pub rest_of : {A : Type 0} → List A → List A
 rest_of [] = []
 rest_of (x ∷ xs) = xs
 
-pub cut_same : (mark : ℕ) (a b x y : Bytes) → IsWithout mark a → IsWithout mark b → a ++ mark ∷ x ≡ b ++ mark ∷ y → (a ≡ b) × (x ≡ y)
+pub cut_same : (mark : ℕ) (a b x y : Bytes) → IsWithout mark a → IsWithout mark b → a ++ mark ∷ x ≡ b ++ mark ∷ y
+    → (a ≡ b) × (x ≡ y)
 cut_same mark [] [] x y p q e = (refl, ap rest_of e)
 cut_same mark [] (c ∷ b) x y p q e = absurd (q.0 (sym (ap (first_or mark) e)))
 cut_same mark (c ∷ a) [] x y p q e = absurd (p.0 (ap (first_or mark) e))
@@ -50,10 +53,12 @@ line_some (b ∷ l) x e = cc e
 
 pub lines_same : (ls ms : List Bytes) → AreLines ls → AreLines ms → lines_text ls ≡ lines_text ms → ls ≡ ms
 lines_same [] [] p q e = refl
-lines_same [] (m ∷ ms) p q e = absurd (line_some m (lines_text ms) (sym (append_assoc m (10 ∷ []) (lines_text ms)) ∙ sym e))
+lines_same [] (m ∷ ms) p q e =
+    absurd (line_some m (lines_text ms) (sym (append_assoc m (10 ∷ []) (lines_text ms)) ∙ sym e))
 lines_same (l ∷ ls) [] p q e = absurd (line_some l (lines_text ls) (sym (append_assoc l (10 ∷ []) (lines_text ls)) ∙ e))
 lines_same (l ∷ ls) (m ∷ ms) p q e =
-    let both = cut_same 10 l m (lines_text ls) (lines_text ms) p.0 q.0 (sym (append_assoc l (10 ∷ []) (lines_text ls)) ∙ e ∙ append_assoc m (10 ∷ []) (lines_text ms)) in
+    let both = cut_same 10 l m (lines_text ls) (lines_text ms) p.0 q.0 (sym (append_assoc l (10 ∷ []) (lines_text ls))
+    ∙ e ∙ append_assoc m (10 ∷ []) (lines_text ms)) in
     rw (both.0, lines_same ls ms p.1 q.1 both.1) refl
 
 -- ---- numbers, names and words without a mark
@@ -98,5 +103,8 @@ objective_without Delay = all_without 10 (objective_word Delay) refl
 
 pub landing_line : (f : ShownLanding) → IsName f.callsign → f.second < 2 ^ 64 → IsWithout 10 (landing_words f)
 landing_line f p m =
-    IsWithout-append 10 (codes "land ") _ (all_without 10 (codes "land ") refl) (IsWithout-append 10 (f.callsign ++ codes " ") _ (IsWithout-append 10 f.callsign _ (name_without 10 f.callsign (omega arith) p) (all_without 10 (codes " ") refl))
+    IsWithout-append 10 (codes "land ") _ (all_without 10 (codes "land ") refl)
+    (IsWithout-append 10 (f.callsign ++ codes " ") _
+    (IsWithout-append 10 f.callsign _ (name_without 10 f.callsign (omega arith) p)
+    (all_without 10 (codes " ") refl))
     (IsWithout-append 10 (decimal f.second) _ (decimal_without 10 f.second (omega arith) m) (frozen_without f.frozen)))

@@ -1,5 +1,6 @@
 -- What is in a list: in one that is filtered, mapped or grown, and what a search in it finds.
-use Rattle.std.proofs.Common.{◌≡◌, ℕ, zero, suc, ◌<◌, ◌≤◌, ◌⊎◌, inl, inr, Bool, true, false, List, [], ◌∷◌, ◌++◌, length, get_or, map, filter, Option, Some, None, refl, sym, ap, subst, ◌∙◌, arith}
+use Rattle.std.proofs.Common.{◌≡◌, ℕ, zero, suc, ◌<◌, ◌≤◌, ◌⊎◌, inl, inr, Bool, true, false, List, [], ◌∷◌, ◌++◌}
+use Rattle.std.proofs.Common.{length, get_or, map, filter, Option, Some, None, refl, sym, ap, subst, ◌∙◌, arith}
 use Rattle.std.specs.Prelude.{All, Contains, option_map, filter_map, find}
 use Rattle.std.specs.List.{cons_option, list_any}
 use Rattle.std.specs.List.Sorted.{IsPermutation}
@@ -52,7 +53,8 @@ in_filter p (y ∷ ys) x m = elim (cases_Bool (p y)) [
 pub filter_in : {X : Type 0} (p : X → Bool) (xs : List X) (x : X) → Member x xs → p x ≡ true → Member x (filter p xs)
 filter_in p [] x m e = m
 filter_in p (y ∷ ys) x (inl s) e = rw (sym (ap p s) ∙ e) (inl s)
-filter_in p (y ∷ ys) x (inr m) e = elim (cases_Bool (p y)) [ inl q ↦ rw q (inr (filter_in p ys x m e)) | inr q ↦ rw q (filter_in p ys x m e) ]
+filter_in p (y ∷ ys) x (inr m) e =
+    elim (cases_Bool (p y)) [ inl q ↦ rw q (inr (filter_in p ys x m e)) | inr q ↦ rw q (filter_in p ys x m e) ]
 
 -- ---- a mapped list
 
@@ -68,22 +70,32 @@ map_in f (y ∷ ys) x (inr m) = inr (map_in f ys x m)
 
 -- ---- a list filtered and mapped at once
 
-pub in_filter_map : {X Y : Type 0} (h : X → Option Y) (xs : List X) (y : Y) → Member y (filter_map h xs) → (x : X) × Member x xs × (h x ≡ Some y)
+pub in_filter_map : {X Y : Type 0} (h : X → Option Y) (xs : List X) (y : Y) → Member y (filter_map h xs)
+    → (x : X) × Member x xs × (h x ≡ Some y)
 in_filter_map h [] y m = absurd m
 in_filter_map {X = X} {Y = Y} h (x ∷ xs) y m = go (h x) refl m (in_filter_map h xs y)
   where
-    go : (o : Option Y) → h x ≡ o → Member y (cons_option o (filter_map h xs)) → (Member y (filter_map h xs) → (z : X) × Member z xs × (h z ≡ Some y)) → (z : X) × Member z (x ∷ xs) × (h z ≡ Some y)
+    go : (o : Option Y) → h x ≡ o → Member y (cons_option o (filter_map h xs))
+        → (Member y (filter_map h xs) → (z : X) × Member z xs × (h z ≡ Some y)) → (z : X) × Member z (x ∷ xs)
+        × (h z ≡ Some y)
     go None e k ih = let r = ih k in (r.0, inr r.1, r.2)
     go (Some w) e (inl s) ih = (x, inl refl, e ∙ ap (λ z. Some z) (sym s))
     go (Some w) e (inr k) ih = let r = ih k in (r.0, inr r.1, r.2)
 
-pub filter_map_in : {X Y : Type 0} (h : X → Option Y) (xs : List X) (x : X) (y : Y) → Member x xs → h x ≡ Some y → Member y (filter_map h xs)
+pub filter_map_in : {X Y : Type 0} (h : X → Option Y) (xs : List X) (x : X) (y : Y) → Member x xs
+    → h x ≡ Some y → Member y (filter_map h xs)
 filter_map_in h [] x y m e = absurd m
-filter_map_in h (z ∷ zs) x y (inl s) e = subst (λ o. Member y (cons_option o (filter_map h zs))) (sym (ap h (sym s) ∙ e)) (inl refl)
-filter_map_in h (z ∷ zs) x y (inr m) e = elim (cases_option (h z)) [ inl q ↦ rw q (filter_map_in h zs x y m e) | inr w ↦ rw w.1 (inr (filter_map_in h zs x y m e)) ]
+filter_map_in h (z ∷ zs) x y (inl s) e =
+    subst (λ o. Member y (cons_option o (filter_map h zs))) (sym (ap h (sym s) ∙ e)) (inl refl)
+filter_map_in h (z ∷ zs) x y (inr m) e = elim (cases_option (h z)) [
+  | inl q ↦ rw q (filter_map_in h zs x y m e)
+  | inr w ↦
+      rw w.1 (inr (filter_map_in h zs x y m e))
+]
 
 -- the frozen landings of a list of flights
-pub in_frozen : (xs : List Active) (f : Landing) → Member f (filter_map (λ a. option_map (landing a) a.frozen) xs) → (a : Active) × (t : ℕ) × Member a xs × (a.frozen ≡ Some t) × (f ≡ landing a t)
+pub in_frozen : (xs : List Active) (f : Landing) → Member f (filter_map (λ a. option_map (landing a) a.frozen) xs)
+    → (a : Active) × (t : ℕ) × Member a xs × (a.frozen ≡ Some t) × (f ≡ landing a t)
 in_frozen xs f m =
     let r = in_filter_map (λ a. option_map (landing a) a.frozen) xs f m in
     let w = go r.0 r.0.frozen r.2 in
@@ -93,8 +105,10 @@ in_frozen xs f m =
     go a None e = absurd (cc)
     go a (Some t) e = (t, refl, cc)
 
-pub frozen_in : (xs : List Active) (a : Active) (t : ℕ) → Member a xs → a.frozen ≡ Some t → Member (landing a t) (filter_map (λ a. option_map (landing a) a.frozen) xs)
-frozen_in xs a t m e = filter_map_in (λ a. option_map (landing a) a.frozen) xs a (landing a t) m (ap (option_map (landing a)) e)
+pub frozen_in : (xs : List Active) (a : Active) (t : ℕ) → Member a xs → a.frozen ≡ Some t
+    → Member (landing a t) (filter_map (λ a. option_map (landing a) a.frozen) xs)
+frozen_in xs a t m e = filter_map_in (λ a. option_map (landing a) a.frozen) xs a (landing a t) m
+    (ap (option_map (landing a)) e)
 
 -- ---- a grown list
 
@@ -136,7 +150,8 @@ none_any p (y ∷ ys) x e (inr m) = none_any p ys x (or_parts (p y) (list_any p 
 
 -- ---- how many pass
 
-pub fewer_filtered : {X Y : Type 0} (p : Y → Bool) (q : X → Bool) (f : X → Y) (xs : List X) → ((x : X) → p (f x) ≡ true → q x ≡ true) → length (filter p (map f xs)) ≤ length (filter q xs)
+pub fewer_filtered : {X Y : Type 0} (p : Y → Bool) (q : X → Bool) (f : X → Y) (xs : List X)
+    → ((x : X) → p (f x) ≡ true → q x ≡ true) → length (filter p (map f xs)) ≤ length (filter q xs)
 fewer_filtered p q f [] h = omega arith
 fewer_filtered p q f (x ∷ xs) h = let k = fewer_filtered p q f xs h in elim (cases_Bool (p (f x))) [
   | inl e ↦ rw (e, h x e) (omega arith)
@@ -152,4 +167,5 @@ fewer_twice p q (x ∷ xs) = let h = fewer_twice p q xs in elim (cases_Bool (q x
 
 pub fewer_kept : {X : Type 0} (q : X → Bool) (xs : List X) → length (filter q xs) ≤ length xs
 fewer_kept q [] = omega arith
-fewer_kept q (x ∷ xs) = let h = fewer_kept q xs in elim (cases_Bool (q x)) [ inl e ↦ rw e (omega arith) | inr e ↦ rw e (omega arith) ]
+fewer_kept q (x ∷ xs) = let h =
+    fewer_kept q xs in elim (cases_Bool (q x)) [ inl e ↦ rw e (omega arith) | inr e ↦ rw e (omega arith) ]

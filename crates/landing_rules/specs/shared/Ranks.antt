@@ -1,5 +1,6 @@
 -- The order of arrivals, and the ranks of flights whose callsigns differ.
-use Rattle.std.proofs.Common.{◌≡◌, ℕ, suc, ◌+◌, ◌-◌, ◌<◌, List, [], ◌∷◌, length, get_or, refl, sym, ◌∙◌, ap, ap₂, inl, inr, arith, ◌⊎◌}
+use Rattle.std.proofs.Common.{◌≡◌, ℕ, suc, ◌+◌, ◌-◌, ◌<◌, List, [], ◌∷◌, length, get_or, refl, sym, ◌∙◌, ap, ap₂, inl}
+use Rattle.std.proofs.Common.{inr, arith, ◌⊎◌}
 use Rattle.std.specs.Prelude.{Any, ◌≢◌}
 use Rattle.std.specs.declared.cmp.Ordering.{Ordering}
 use Rattle.std.specs.declared.cmp.Ordering.TheVariants.{Less, Equal, Greater}
@@ -18,7 +19,8 @@ use Rattle.landing_rules.specs.shared.Counting.{Member, before, before-lt, stric
 use Rattle.landing_rules.specs.shared.Members.{member_at, member_contains}
 
 pub first_come_total : IsTotalOrder first_come_cmp
-first_come_total = then_total (on_total (λ (a : ℕ × Callsign). a.0) nat_cmp_total) (on_total (λ (a : ℕ × Callsign). a.1) nat_list_cmp_total)
+first_come_total = then_total (on_total (λ (a : ℕ × Callsign). a.0) nat_cmp_total)
+    (on_total (λ (a : ℕ × Callsign). a.1) nat_list_cmp_total)
 
 pub arrival_total : IsTotalOrder arrival_cmp
 arrival_total = on_total (λ (f : Flight). (f.eta, f.callsign)) first_come_total
@@ -56,7 +58,8 @@ abbrev earlier : Flight → List Flight → ℕ
 earlier = before arrival_cmp arrival_total
 
 rank-is : (flights : List Flight) (f : Flight) → rank flights f ≡ 1 + earlier f flights
-rank-is flights f = ap (λ n. 1 + n) (sym (is_count_by (earlier f) (λ g. is_lt (arrival_cmp g f)) refl (λ _ _. refl) flights))
+rank-is flights f = ap (λ n. 1 + n)
+    (sym (is_count_by (earlier f) (λ g. is_lt (arrival_cmp g f)) refl (λ _ _. refl) flights))
 
 Any-Member : {X : Type 0} (P : X → Type 0) (x : X) (xs : List X) → Member x xs → P x → Any P xs
 Any-Member P x xs m p = let c = member_contains xs x m in (c.0, x, c.1, c.2, p)
@@ -64,30 +67,38 @@ Any-Member P x xs m p = let c = member_contains xs x m in (c.0, x, c.1, c.2, p)
 apart : (flights : List Flight) → HaveOwnCallsigns flights → AreApart arrival_cmp arrival_total flights
 apart [] h = tt
 apart (x ∷ xs) h = (
-  λ f m e. (let c = member_contains xs f m in let l = c.1 in h 0 (suc c.0) f (omega arith) (omega arith) (sym (level-callsign f x e) ∙ ap (λ (g : Flight). g.callsign) (sym c.2))),
+  λ f m e. (let c = member_contains xs f m in let l = c.1 in h 0 (suc c.0) f (omega arith)
+      (omega arith) (sym (level-callsign f x e) ∙ ap (λ (g : Flight). g.callsign) (sym c.2))),
   apart xs (λ i j d l n. h (suc i) (suc j) d (omega arith) (omega arith)),
 )
 
-ranks_differ : (flights : List Flight) (f g : Flight) → f.callsign ≢ g.callsign → Member f flights → Member g flights → earlier f flights ≡ earlier g flights → ⊥
+ranks_differ : (flights : List Flight) (f g : Flight) → f.callsign ≢ g.callsign → Member f flights
+    → Member g flights → earlier f flights ≡ earlier g flights → ⊥
 ranks_differ flights f g n mf mg e = by (cases (arrival_cmp f g))
   where
     by : (arrival_cmp f g ≡ Less) ⊎ ((arrival_cmp f g ≡ Equal) ⊎ (arrival_cmp f g ≡ Greater)) → ⊥
     by (inl l) = omega (arith, strict arrival_cmp arrival_total f g flights l mf)
     by (inr (inl l)) = n (level-callsign f g l)
-    by (inr (inr l)) = omega (arith, strict arrival_cmp arrival_total g f flights (flipped arrival_cmp arrival_total f g l) mg)
+    by (inr (inr l)) = omega (
+      arith,
+      strict arrival_cmp arrival_total g f flights
+          (flipped arrival_cmp arrival_total f g l) mg,
+    )
 
 pub ranks_are_bijective : RankLaw
 ranks_are_bijective flights own = record {
   in_range = λ k d l.
       let f : Flight = get_or flights k d in
-      let below : earlier f flights < length flights = before-lt arrival_cmp arrival_total f flights (member_at flights k d l) in
+      let below : earlier f flights < length flights =
+      before-lt arrival_cmp arrival_total f flights (member_at flights k d l) in
       rw (rank-is flights f) (omega arith, omega arith);
   one_to_one = λ i j d l n e.
       let il : i < length flights = omega arith in
       let f : Flight = get_or flights i d in
       let g : Flight = get_or flights j d in
       ranks_differ flights f g (own i j d l n) (member_at flights i d il) (member_at flights j d n)
-      (let e' : 1 + earlier f flights ≡ 1 + earlier g flights = sym (rank-is flights f) ∙ e ∙ rank-is flights g in omega arith);
+      (let e' : 1 + earlier f flights ≡ 1 + earlier g flights =
+      sym (rank-is flights f) ∙ e ∙ rank-is flights g in omega arith);
   onto = λ r low high.
       let found = onto arrival_cmp arrival_total flights (apart flights own) (r - 1) (omega arith) in
       Any-Member (λ f. rank flights f ≡ r) found.0 flights found.1

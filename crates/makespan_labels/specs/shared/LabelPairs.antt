@@ -1,5 +1,6 @@
 -- Labels for the makespan and pairs say the same: the label of a window is its one undominated pair, whose cost is 0.
-use Rattle.std.proofs.Common.{◌≡◌, ℕ, zero, suc, ◌+◌, ◌<◌, ◌≤◌, List, [], ◌∷◌, length, Some, option_map, Bool, inl, inr, refl, sym, ap, ap₂, subst, ◌∙◌, arith}
+use Rattle.std.proofs.Common.{◌≡◌, ℕ, zero, suc, ◌+◌, ◌<◌, ◌≤◌, List, [], ◌∷◌, length, Some, option_map, Bool, inl}
+use Rattle.std.proofs.Common.{inr, refl, sym, ap, ap₂, subst, ◌∙◌, arith}
 use Rattle.std.specs.Prelude.{ℤ, slice_index}
 use Rattle.std.proofs.lemmas.Bool.{cases_lt, lt-ltb, le-ltb}
 use Rattle.std.proofs.lemmas.List.{length-map}
@@ -30,7 +31,8 @@ pub no_pairs : (label : ℕ) → no_label ≤ label → label_pairs label ≡ []
 no_pairs label le = ap (λ (b : Bool). pair_if b label) (le-ltb label no_label le)
 
 -- the list of a place is that of its label
-pub list_of_label : (labels : List ℕ) (i : ℕ) → i < length labels → list_at (column_pairs labels) i ≡ label_pairs (slice_index labels i)
+pub list_of_label : (labels : List ℕ) (i : ℕ) → i < length labels
+    → list_at (column_pairs labels) i ≡ label_pairs (slice_index labels i)
 list_of_label [] i lt = absurd (omega arith)
 list_of_label (x ∷ labels) zero lt = refl
 list_of_label (x ∷ labels) (suc i) lt = list_of_label labels i (omega arith)
@@ -138,61 +140,77 @@ module _ (p : Problem) (makespan : p.objective ≡ Makespan) where
       where
         low : (t : ℕ) → CanLandAt p stage xs t → q.0 ≤ t
         low t l = elim (cases_lt t q.0) [
-          | inl less ↦ let e = ap (λ (x : Pair). x.0) (u.best (t, 0) (can_attain stage xs t l) (omega (arith, less), omega arith)) in absurd (omega (arith, less, e))
+          | inl less ↦ let e = ap (λ (x : Pair). x.0)
+              (u.best (t, 0) (can_attain stage xs t l) (omega (arith, less), omega arith)) in
+              absurd (omega (arith, less, e))
           | inr le ↦ le
         ]
 
   -- ---- the pairs of a stage
 
-  pub costs_of_labels : (stage : ℕ × List (List ℤ)) (labels : List ℕ) → AreLabels p stage labels → AreCosts p stage (column_pairs labels)
+  pub costs_of_labels : (stage : ℕ × List (List ℤ)) (labels : List ℕ) → AreLabels p stage labels
+      → AreCosts p stage (column_pairs labels)
   costs_of_labels stage labels are = record {
     one_each = length-map labels label_pairs ∙ are.one_each;
     pairs = λ i lt.
-        subst (ArePairsOf p stage.0 (node_at stage.1 i)) (sym (list_of_label labels i (omega (arith, lt, are.one_each))))
+        subst (ArePairsOf p stage.0 (node_at stage.1 i))
+        (sym (list_of_label labels i (omega (arith, lt, are.one_each))))
         (pairs_of_label stage.0 (node_at stage.1 i) (slice_index labels i) (are.label i lt));
   }
 
-  pub labels_of_costs : (stage : ℕ × List (List ℤ)) (labels : List ℕ) → AreCosts p stage (column_pairs labels) → AreLabels p stage labels
+  pub labels_of_costs : (stage : ℕ × List (List ℤ)) (labels : List ℕ) → AreCosts p stage (column_pairs labels)
+      → AreLabels p stage labels
   labels_of_costs stage labels are =
       let one : length labels ≡ length stage.1 = sym (length-map labels label_pairs) ∙ are.one_each in
       record {
         one_each = one;
         label = λ i lt.
             label_of_pairs stage.0 (node_at stage.1 i) (slice_index labels i)
-            (subst (ArePairsOf p stage.0 (node_at stage.1 i)) (list_of_label labels i (omega (arith, lt, one))) (are.pairs i lt));
+            (subst (ArePairsOf p stage.0 (node_at stage.1 i)) (list_of_label labels i (omega (arith, lt, one)))
+            (are.pairs i lt));
       }
 
-  pub holds_costs : (stage : ℕ × List (List ℤ)) (labels : List ℕ) → HoldsLabels p stage labels → HoldsCosts p stage (column_pairs labels)
+  pub holds_costs : (stage : ℕ × List (List ℤ)) (labels : List ℕ) → HoldsLabels p stage labels
+      → HoldsCosts p stage (column_pairs labels)
   holds_costs stage labels h = record { landable = h.landable; costs = costs_of_labels stage labels h.labelled }
 
-  pub holds_labels : (stage : ℕ × List (List ℤ)) (labels : List ℕ) → HoldsCosts p stage (column_pairs labels) → HoldsLabels p stage labels
+  pub holds_labels : (stage : ℕ × List (List ℤ)) (labels : List ℕ) → HoldsCosts p stage (column_pairs labels)
+      → HoldsLabels p stage labels
   holds_labels stage labels h = record { landable = h.landable; labelled = labels_of_costs stage labels h.costs }
 
   -- ---- which window gives a label
 
   -- each label that is held is known
-  pub held_known : (stage : ℕ × List (List ℤ)) (labels : List ℕ) → HoldsLabels p stage labels → (i : ℕ) → i < length stage.1 → slice_index labels i < no_label
+  pub held_known : (stage : ℕ × List (List ℤ)) (labels : List ℕ) → HoldsLabels p stage labels
+      → (i : ℕ) → i < length stage.1 → slice_index labels i < no_label
   held_known stage labels h i lt =
-      ((h.labelled.label i lt).least _ (can_land p stage.0 (node_at stage.1 i) ((h.landable (node_at stage.1 i)).0 (Contains-get_or stage.1 i [] lt)))).0
+      ((h.labelled.label i lt).least _
+      (can_land p stage.0 (node_at stage.1 i)
+      ((h.landable (node_at stage.1 i)).0 (Contains-get_or stage.1 i [] lt)))).0
 
-  lands_free : (last second rank label : ℕ) → landing_after p last second rank ≡ Some label → successor p last (second, 0) rank ≡ Some (label, 0)
+  lands_free : (last second rank label : ℕ) → landing_after p last second rank ≡ Some label
+      → successor p last (second, 0) rank ≡ Some (label, 0)
   lands_free last second rank label e =
       let none : 0 + cost_at p rank label ≡ 0 = (let f = free rank label in omega (arith, f)) in
       ap (option_map (λ t. (t, 0 + cost_at p rank t))) e ∙ ap (λ (c : ℕ). Some (label, c)) none
 
   -- a window gives a label where its one pair gives the label's pair
-  pub gives_pair : (before : ℕ × List (List ℤ)) (labels : List ℕ) (node : List ℤ) (label place : ℕ) → HoldsLabels p before labels
+  pub gives_pair : (before : ℕ × List (List ℤ)) (labels : List ℕ) (node : List ℤ) (label place : ℕ)
+      → HoldsLabels p before labels
       → GivesLabel p before labels node label place → GivesPair p before (column_pairs labels) node (label, 0) place 0
   gives_pair before labels node label place h gives =
       let known = held_known before labels h place gives.within in
       let list : list_at (column_pairs labels) place ≡ (slice_index labels place, 0) ∷ [] =
-      list_of_label labels place (let w = gives.within in omega (arith, w, h.labelled.one_each)) ∙ known_pairs (slice_index labels place) known in
+      list_of_label labels place (let w = gives.within in omega (arith, w, h.labelled.one_each))
+      ∙ known_pairs (slice_index labels place) known in
       record {
         within = gives.within;
         listed = (let e = ap length list in omega (arith, e));
         rank = gives.rank;
         permitted = gives.permitted;
         next = gives.next;
-        lands = ap (λ (l : List Pair). successor p (latest (before.0, node_at before.1 place)) (pair_at l 0) gives.rank) list
-            ∙ lands_free (latest (before.0, node_at before.1 place)) (slice_index labels place) gives.rank label gives.lands;
+        lands = ap (λ (l : List Pair). successor p (latest (before.0, node_at before.1 place))
+            (pair_at l 0) gives.rank) list
+            ∙ lands_free (latest (before.0, node_at before.1 place))
+            (slice_index labels place) gives.rank label gives.lands;
       }

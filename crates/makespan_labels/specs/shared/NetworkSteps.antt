@@ -1,5 +1,6 @@
 -- One landing more and one landing back in the network of windows.
-use Rattle.std.proofs.Common.{◌≡◌, ℕ, suc, ◌+◌, ◌*◌, ◌≤◌, List, [], ◌∷◌, length, reverse, Some, refl, sym, ap, subst, ◌∙◌, arith}
+use Rattle.std.proofs.Common.{◌≡◌, ℕ, suc, ◌+◌, ◌*◌, ◌≤◌, List, [], ◌∷◌, length, reverse, Some, refl, sym, ap, subst}
+use Rattle.std.proofs.Common.{◌∙◌, arith}
 use Rattle.std.specs.Prelude.{ℤ, true}
 use Rattle.cps_nodes.specs.Windows.{shifted}
 use Rattle.cps_nodes.specs.Ranks.{window_of}
@@ -42,7 +43,8 @@ module _ (p : Problem) (net : IsWindowNetwork p) where
   lands_next stage x b r t (cost, a) may e =
       let here : permits p (node_of p.k (ranks a.landings)) r = subst (λ (n : Node). permits p n r) (sym a.at) may in
       let is : (latest_landing a.landings).1 ≡ b = ap (λ (q : Pair). q.0) a.is in
-      let lead : latest (stage, x) ≡ (latest_landing a.landings).0 = ap latest (sym a.at) ∙ net.newest_is (ranks a.landings) a.legal ∙ last_ranks a.landings in
+      let lead : latest (stage, x) ≡ (latest_landing a.landings).0 =
+      ap latest (sym a.at) ∙ net.newest_is (ranks a.landings) a.legal ∙ last_ranks a.landings in
       let found = (is_first_open p).found r (next_from (ranked p) (latest (stage, x)) b r) t e in
       let allowed : next_from (ranked p) (latest_landing a.landings).0 (latest_landing a.landings).1 r ≤ t =
       subst (λ (l : ℕ). next_from (ranked p) l (latest_landing a.landings).1 r ≤ t) lead
@@ -57,7 +59,8 @@ module _ (p : Problem) (net : IsWindowNetwork p) where
         },
       )
 
-  landing_back : (stage : ℕ) (v : List ℤ) (t : ℕ) (xs : List Landing) → Legal (ranked p).rules (ranks xs) → LandedIn (ranked p) xs → node_of p.k (ranks xs) ≡ (suc stage, v) → (latest_landing xs).1 ≡ t
+  landing_back : (stage : ℕ) (v : List ℤ) (t : ℕ) (xs : List Landing) → Legal (ranked p).rules (ranks xs)
+      → LandedIn (ranked p) xs → node_of p.k (ranks xs) ≡ (suc stage, v) → (latest_landing xs).1 ≡ t
       → ComesFrom p stage v t
   landing_back stage v t [] legal landed at is = absurd (never (ap (λ (n : Node). n.0) at))
     where
@@ -67,17 +70,23 @@ module _ (p : Problem) (net : IsWindowNetwork p) where
       let s = net.shrinks y.0 (ranks xs) legal in
       let long : length (ranks xs) ≡ stage = less (ap (λ (n : Node). n.0) at) in
       let x : List ℤ = window_of (2 * p.k + 1) (reverse (ranks xs)) in
-      let here : node_of p.k (ranks xs) ≡ (stage, window_of (2 * p.k + 1) (reverse (ranks xs))) = ap (λ (q : ℕ). (q, window_of (2 * p.k + 1) (reverse (ranks xs)))) long in
-      let lead : latest (stage, window_of (2 * p.k + 1) (reverse (ranks xs))) ≡ (latest_landing xs).0 = ap latest (sym here) ∙ net.newest_is (ranks xs) s.0 ∙ last_ranks xs in
+      let here : node_of p.k (ranks xs) ≡ (stage, window_of (2 * p.k + 1) (reverse (ranks xs))) =
+      ap (λ (q : ℕ). (q, window_of (2 * p.k + 1) (reverse (ranks xs)))) long in
+      let lead : latest (stage, window_of (2 * p.k + 1) (reverse (ranks xs))) ≡ (latest_landing xs).0 =
+      ap latest (sym here) ∙ net.newest_is (ranks xs) s.0 ∙ last_ranks xs in
       record {
         source = window_of (2 * p.k + 1) (reverse (ranks xs));
         rank = y.0;
         second = (latest_landing xs).1;
-        before = (cost_of (cost_at p) xs, record { landings = xs; legal = s.0; landed = landed.2; at = here; is = refl });
+        before = (
+          cost_of (cost_at p) xs,
+          record { landings = xs; legal = s.0; landed = landed.2; at = here; is = refl },
+        );
         permitted = subst (λ (n : Node). permits p n y.0) here s.1;
         next = ap (λ (n : Node). n.1) (sym at ∙ net.pushes y.0 (ranks xs) s.0 ∙ ap (λ (n : Node). land n y.0) here);
         is_open = subst (λ (u : ℕ). (ranked p).is_open y.0 u ≡ true) is landed.0;
-        apart = subst (λ (u : ℕ). next_from (ranked p) (latest (stage, window_of (2 * p.k + 1) (reverse (ranks xs)))) (latest_landing xs).1 y.0 ≤ u) is
+        apart = subst (λ (u : ℕ). next_from (ranked p) (latest (stage, window_of (2 * p.k + 1) (reverse (ranks xs))))
+            (latest_landing xs).1 y.0 ≤ u) is
             (subst (λ (l : ℕ). next_from (ranked p) l (latest_landing xs).1 y.0 ≤ y.1) (sym lead) landed.1);
       }
     where

@@ -11,7 +11,9 @@ use Rattle.openings.specs.Plan.{StopsPlan}
 
 -- what stops the files that were read stops their bytes
 pub stops_plan : (a f : List ℕ) (aerodrome : Aerodrome) (flights : List Flight) (ending : Ending) →
-    aerodrome_of a ≡ Ok aerodrome → flights_of f ≡ Ok flights → StopsOpened aerodrome flights ending → StopsPlan a f ending
+    aerodrome_of a ≡ Ok aerodrome → flights_of f ≡ Ok flights → StopsOpened aerodrome flights ending
+    → StopsPlan a f ending
 stops_plan a f aerodrome flights ending a_read f_read =
-    stops_by (λ cause. refusal_of aerodrome flights ≡ Some cause) (λ cause. refused_by (aerodrome_of a) (flights_of f) ≡ Some cause) ending
+    stops_by (λ cause. refusal_of aerodrome flights ≡ Some cause)
+    (λ cause. refused_by (aerodrome_of a) (flights_of f) ≡ Some cause) ending
     (λ cause refused. ap₂ refused_by a_read f_read ∙ refused)

@@ -8,7 +8,8 @@ use Rattle.arrivals.specs.declared.flight.Flight.{Flight}
 use Rattle.arrivals.specs.Seen.{flight_of}
 use Rattle.sequencer.specs.Opened.{opening_of}
 
-pub as_many : (a : Aerodrome) (fs : List Flight) (s : Situation) → s ≡ opening_situation (opening_of a) (map flight_of fs)
+pub as_many : (a : Aerodrome) (fs : List Flight) (s : Situation)
+    → s ≡ opening_situation (opening_of a) (map flight_of fs)
     → length s.active ≡ length fs
 as_many a fs s is =
     let all = length-map (map flight_of fs) (opening_flight (opening_of a)) in

@@ -12,4 +12,5 @@ use Rattle.planning_commands.specs.Replay.{IsBegun}
 
 pub not_refused : (a f e : List ℕ) (state : State) (events : List rules.Event) → IsBegun a f e state events →
     refused_by_three Events (aerodrome_of a) (flights_of f) (events_of e) ≡ None
-not_refused a f e state events begun = refused_as_read Events _ _ _ _ _ _ begun.aerodrome_read begun.flights_read begun.events_read ∙ begun.taken
+not_refused a f e state events begun =
+    refused_as_read Events _ _ _ _ _ _ begun.aerodrome_read begun.flights_read begun.events_read ∙ begun.taken

@@ -6,7 +6,8 @@ use Rattle.cps_network.specs.Pairs.{pair_at}
 use Rattle.replan.specs.Labels.{last_pair}
 
 last_of_rest : (x y : Pair) (ys : List Pair) → (last_pair (x ∷ y ∷ ys)).1 ≡ (last_pair (y ∷ ys)).1
-last_of_rest x y ys = (let e : length (x ∷ y ∷ ys) - 1 ≡ suc (length (y ∷ ys) - 1) = omega arith in ap (λ n. (pair_at (x ∷ y ∷ ys) n).1) e)
+last_of_rest x y ys = (let e : length (x ∷ y ∷ ys) - 1 ≡ suc (length (y ∷ ys) - 1) =
+    omega arith in ap (λ n. (pair_at (x ∷ y ∷ ys) n).1) e)
 
 pub last_cheapest : (xs : List Pair) → Staircase xs → (q : Pair) → InPairs q xs → (last_pair xs).1 ≤ q.1
 last_cheapest [] s q i = absurd i
@@ -18,4 +19,5 @@ last_cheapest (x ∷ y ∷ ys) s q (inl e) =
     let b = last_cheapest (y ∷ ys) s.1 y (inl refl) in
     let c = last_of_rest x y ys in
     omega (arith, f, a, b, c)
-last_cheapest (x ∷ y ∷ ys) s q (inr i) = (let b = last_cheapest (y ∷ ys) s.1 q i in let c = last_of_rest x y ys in omega (arith, b, c))
+last_cheapest (x ∷ y ∷ ys) s q (inr i) =
+    (let b = last_cheapest (y ∷ ys) s.1 q i in let c = last_of_rest x y ys in omega (arith, b, c))

@@ -19,7 +19,11 @@ one_set a b h = same_from_bits a b (λ i. bit i)
         let lb : bit_at b i < 2 = bit_at-lt b i in
         elim (cases_eq (bit_at a i) 1) [
           | inl e ↦ e ∙ sym ((h i).0 e)
-          | inr ne ↦ elim (cases_eq (bit_at b i) 1) [ inl f ↦ absurd (ne ((h i).1 f)) | inr nf ↦ omega (arith, la, lb, ne, nf) ]
+          | inr ne ↦ elim (cases_eq (bit_at b i) 1) [
+            | inl f ↦ absurd (ne ((h i).1 f))
+            | inr nf ↦
+                omega (arith, la, lb, ne, nf)
+          ]
         ]
 
 module _ (stage : ℕ) (xs ys : List ℤ) (a b : ℕ) (ta : TellsPlaced xs stage a) (tb : TellsPlaced ys stage b) where
@@ -39,7 +43,8 @@ module _ (stage : ℕ) (xs ys : List ℤ) (a b : ℕ) (ta : TellsPlaced xs stage
   ))
 
 -- what the one window tells, another of its node tells too
-pub one_tells : (stage : ℕ) (xs ys : List ℤ) (placed : ℕ) → AreOneNode stage xs ys → TellsPlaced xs stage placed → TellsPlaced ys stage placed
+pub one_tells : (stage : ℕ) (xs ys : List ℤ) (placed : ℕ) → AreOneNode stage xs ys → TellsPlaced xs stage placed
+    → TellsPlaced ys stage placed
 one_tells stage xs ys placed o tell rank = (
   λ h. (let p = (tell rank).0 h in (p.0, (o.placed rank p.0).0 p.1)),
   λ p. (tell rank).1 (p.0, (o.placed rank p.0).1 p.1),

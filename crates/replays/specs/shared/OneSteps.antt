@@ -1,6 +1,7 @@
 -- The steps that are due are one number for a situation: a stage's candidates, and the first difference from the
 -- problem that is held, ask of the pairs of ranks only whether a rank must land before another.
-use Rattle.std.proofs.Common.{◌≡◌, ℕ, zero, suc, ◌-◌, ◌<◌, ◌≤◌, List, length, Bool, true, false, Some, None, ap, subst, sym}
+use Rattle.std.proofs.Common.{◌≡◌, ℕ, zero, suc, ◌-◌, ◌<◌, ◌≤◌, List, length, Bool, true, false, Some, None, ap, subst}
+use Rattle.std.proofs.Common.{sym}
 use Rattle.std.specs.Prelude.{ℤ, IsTrue, ◌↔◌}
 use Rattle.precedence.specs.Pairs.{MustPrecede, must_precede, must_precede_decides}
 use Rattle.landing_rules.specs.Flights.{Situation}
@@ -50,7 +51,8 @@ module _ (p : Problem) (xs : List ℕ) (same : must_precede xs ≡ must_precede 
   asked_back : (first next : ℕ) → MustPrecede p.pairs first next → MustPrecede xs first next
   asked_back first next must =
       (must_precede_decides xs first next).0
-      (subst (λ (before : ℕ → ℕ → Bool). IsTrue (before first next)) (sym same) ((must_precede_decides p.pairs first next).1 must))
+      (subst (λ (before : ℕ → ℕ → Bool). IsTrue (before first next)) (sym same)
+      ((must_precede_decides p.pairs first next).1 must))
 
   permitted_along : (stage : ℕ) (ys : List ℤ) (rank : ℕ) → IsPermitted (with_pairs p xs) stage ys rank
       → IsPermitted p stage ys rank
@@ -133,8 +135,12 @@ module _ (held p : Problem) (xs ys : List ℕ) (held_same : must_precede xs ≡ 
   }
 
   due_along : (total : ℕ) → IsDue (Some (with_pairs held xs)) (with_pairs p ys) total → IsDue (Some held) p total
-  due_along total (d, is, due) =
-      (d, difference_along d is, where_along p ys same (counts d p.k (length held.flights)) (length p.flights) total due)
+  due_along total (d, is, due) = (
+    d,
+    difference_along d is,
+    where_along p ys same (counts d p.k (length held.flights))
+        (length p.flights) total due,
+  )
 
 -- ---- of two problems of a situation
 

@@ -1,5 +1,6 @@
 -- How long a plan block is.
-use Rattle.std.proofs.Common.{◌≡◌, ℕ, ◌+◌, ◌*◌, ◌≤◌, List, [], ◌∷◌, ◌++◌, length, true, false, Bool, Option, Some, None, inl, inr, refl, arith, ap}
+use Rattle.std.proofs.Common.{◌≡◌, ℕ, ◌+◌, ◌*◌, ◌≤◌, List, [], ◌∷◌, ◌++◌, length, true, false, Bool, Option, Some}
+use Rattle.std.proofs.Common.{None, inl, inr, refl, arith, ap}
 use Rattle.std.specs.Prelude.{decimal, codes, map, option_map, nat_lt}
 use Rattle.std.proofs.lemmas.Bool.{cases_Bool}
 use Rattle.std.proofs.lemmas.List.{length-append, length-map}
@@ -7,7 +8,8 @@ use Rattle.landing_rules.specs.declared.objective.Objective.{Objective}
 use Rattle.landing_rules.specs.declared.objective.Objective.TheVariants.{Makespan, Delay}
 use Rattle.landing_rules.specs.Flights.{Active, Landing, Schedule, Situation, landings}
 use Rattle.landing_rules.specs.Events.{insert_landing, in_landing_order}
-use Rattle.landing_rules.specs.Text.{ShownLanding, ShownPlan, block_lines, block_text, frozen_word, head_words, landing_words, line, lines_text, objective_word, shown_landing, shown_plan}
+use Rattle.landing_rules.specs.Text.{ShownLanding, ShownPlan, block_lines, block_text, frozen_word, head_words}
+use Rattle.landing_rules.specs.Text.{landing_words, line, lines_text, objective_word, shown_landing, shown_plan}
 use Rattle.plan_file.specs.Printed.{AreReadable, IsReadable, ShownPlanIsReadableLaw}
 use Rattle.text_bounds.specs.Blocks.{BlockIsBoundedLaw, block_bound}
 use Rattle.text_bounds.specs.shared.Lengths.{callsign_short, second_short, value_short}
@@ -16,7 +18,8 @@ word_short : (b : Bool) → length (frozen_word b) ≤ 8
 word_short true = omega arith
 word_short false = omega arith
 
-landing_short : (f : ShownLanding) → length f.callsign ≤ 8 → length (decimal f.second) ≤ 6 → length (line (landing_words f)) ≤ 29
+landing_short : (f : ShownLanding) → length f.callsign ≤ 8 → length (decimal f.second) ≤ 6
+    → length (line (landing_words f)) ≤ 29
 landing_short f name second =
     let word = word_short f.frozen in
     let a = length-append (decimal f.second) (frozen_word f.frozen) in
@@ -44,7 +47,8 @@ head_short o v value =
     let b = length-append (head_words o v) (10 ∷ []) in
     omega (arith, value, word, a, b)
 
-pub block_short : (o : Objective) (p : ShownPlan) → IsReadable p → length (block_text o (Some p)) ≤ 20 + 29 * length p.landings
+pub block_short : (o : Objective) (p : ShownPlan) → IsReadable p
+    → length (block_text o (Some p)) ≤ 20 + 29 * length p.landings
 block_short o p h =
     let head = head_short o p.value (value_short p.value h.value) in
     let rest = landings_short p.landings h.landings in
@@ -62,7 +66,8 @@ length_insert f (g ∷ fs) = elim (cases_Bool (nat_lt g.second f.second)) [
 
 length_order : (fs : List Landing) → length (in_landing_order fs) ≡ length fs
 length_order [] = refl
-length_order (f ∷ fs) = let one = length_insert f (in_landing_order fs) in let rest = length_order fs in omega (arith, one, rest)
+length_order (f ∷ fs) = let one = length_insert f (in_landing_order fs) in let rest =
+    length_order fs in omega (arith, one, rest)
 
 pub length_landings : (active : List Active) (t : Schedule) → length (landings active t) ≤ length active
 length_landings [] t = omega arith
@@ -79,9 +84,12 @@ shown_few s t =
 pub plan_short : ShownPlanIsReadableLaw → BlockIsBoundedLaw
 plan_short law state sound = go state.plan refl
   where
-    go : (q : Option Schedule) → state.plan ≡ q → length (lines_text (block_lines state.situation.aerodrome.objective (option_map (shown_plan state.situation) q))) ≤ block_bound (length state.situation.active)
+    go : (q : Option Schedule) → state.plan ≡ q
+        → length (lines_text (block_lines state.situation.aerodrome.objective
+        (option_map (shown_plan state.situation) q))) ≤ block_bound (length state.situation.active)
     go None e = omega arith
     go (Some t) e =
-        let whole = block_short state.situation.aerodrome.objective (shown_plan state.situation t) (law state (shown_plan state.situation t) sound (ap (option_map (shown_plan state.situation)) e)) in
+        let whole = block_short state.situation.aerodrome.objective (shown_plan state.situation t)
+        (law state (shown_plan state.situation t) sound (ap (option_map (shown_plan state.situation)) e)) in
         let few = shown_few state.situation t in
         omega (arith, whole, few)

@@ -12,7 +12,8 @@ use Rattle.certificate.specs.declared.certificate.Claim.TheVariants.{Optimal, In
 use Rattle.certificate.specs.Patterns.{is_pattern_length}
 use Rattle.certificate.specs.States.{AreStates, IsState, Pair, State, is_pair, is_second}
 use Rattle.certificate.specs.Reading.{AreLandings, IsClaim}
-use Rattle.certificate.specs.Spelling.{claim_text, digit_text, landing_lines, landing_text, pair_text, pairs_text, pattern_text, state_lines, state_text}
+use Rattle.certificate.specs.Spelling.{claim_text, digit_text, landing_lines, landing_text, pair_text, pairs_text}
+use Rattle.certificate.specs.Spelling.{pattern_text, state_lines, state_text}
 use Rattle.text_bounds.specs.Certificates.{CertificateIsBoundedLaw, pair_count}
 use Rattle.text_bounds.specs.shared.Lengths.{callsign_short, rank_short, second_short, value_short}
 
@@ -68,7 +69,8 @@ state_short s h =
     let pairs = pairs_short s.pairs h.pairs in
     let a = length-append (decimal s.last) (pairs_text s.pairs) in
     let b = length-append (pattern_text s.pattern) (32 ∷ (decimal s.last ++ pairs_text s.pairs)) in
-    let c = length-append (decimal s.stage) (32 ∷ (pattern_text s.pattern ++ 32 ∷ (decimal s.last ++ pairs_text s.pairs))) in
+    let c = length-append (decimal s.stage)
+    (32 ∷ (pattern_text s.pattern ++ 32 ∷ (decimal s.last ++ pairs_text s.pairs))) in
     omega (arith, stage, last, digits, pairs, a, b, c)
 
 states_short : (ss : List State) → AreStates ss → length (state_lines ss) ≤ 19 * length ss + 18 * pair_count ss

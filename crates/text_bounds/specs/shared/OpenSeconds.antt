@@ -50,13 +50,16 @@ below_more (w ∷ ws) t u e lt = elim (cases_Bool (is_within t w)) [
 ]
 
 -- pairs whose seconds are each in a window
-pub pairs_few : (ws : List Span) (ps : List Pair) → rises ps ≡ true → ((q : Pair) → InPairs q ps → list_any (is_within q.0) ws ≡ true) → length ps ≤ seconds_of ws
+pub pairs_few : (ws : List Span) (ps : List Pair) → rises ps ≡ true
+    → ((q : Pair) → InPairs q ps → list_any (is_within q.0) ws ≡ true) → length ps ≤ seconds_of ws
 pairs_few ws [] up each = omega arith
 pairs_few ws (p ∷ ps) up each =
     let all = go p ps up each in
     omega (arith, all)
   where
-    go : (p : Pair) (ps : List Pair) → rises (p ∷ ps) ≡ true → ((q : Pair) → InPairs q (p ∷ ps) → list_any (is_within q.0) ws ≡ true) → below ws p.0 + length (p ∷ ps) ≤ seconds_of ws
+    go : (p : Pair) (ps : List Pair) → rises (p ∷ ps) ≡ true
+        → ((q : Pair) → InPairs q (p ∷ ps) → list_any (is_within q.0) ws ≡ true)
+        → below ws p.0 + length (p ∷ ps) ≤ seconds_of ws
     go p [] up each =
         let more = below_more ws p.0 (p.0 + 1) (each p (inl refl)) (omega arith) in
         let all = below_all ws (p.0 + 1) in

@@ -1,5 +1,6 @@
 -- The numbers of a verdict are small: ranks, numbers of states, and the objective of a list of seconds.
-use Rattle.std.proofs.Common.{ℕ, zero, suc, inl, inr, ◌+◌, ◌<◌, ◌≤◌, List, [], ◌∷◌, length, map, Bool, Option, Some, None, arith}
+use Rattle.std.proofs.Common.{ℕ, zero, suc, inl, inr, ◌+◌, ◌<◌, ◌≤◌, List, [], ◌∷◌, length, map, Bool, Option, Some}
+use Rattle.std.proofs.Common.{None, arith}
 use Rattle.std.specs.Prelude.{⊤, All, bytes_eq, option_map, ◌==◌}
 use Rattle.std.specs.Option.{option_or}
 use Rattle.std.proofs.lemmas.Bool.{cases_Bool}
@@ -15,12 +16,16 @@ use Rattle.certificate.specs.declared.certificate.Claim.TheVariants as claim
 use Rattle.certificate.specs.States.{State}
 use Rattle.certificate.specs.Reading.{AreLandings, Cert, IsCertificate, IsClaim}
 use Rattle.cert_check.specs.declared.verdict.Reason.{Reason}
-use Rattle.cert_check.specs.declared.verdict.Reason.TheVariants.{Closed, Early, Final, Flights, Precedence, Separation, Shape, Shift, Successor, Value}
+use Rattle.cert_check.specs.declared.verdict.Reason.TheVariants.{Closed, Early, Final, Flights, Precedence, Separation}
+use Rattle.cert_check.specs.declared.verdict.Reason.TheVariants.{Shape, Shift, Successor, Value}
 use Rattle.cert_check.specs.declared.verdict.Verdict.{Verdict}
 use Rattle.cert_check.specs.declared.verdict.Verdict.TheVariants as verdict
-use Rattle.cert_check.specs.Landings.{Landings, are_not_flights, count, first_out_of_order, first_too_close, is_early, is_shifted, is_shut, second_of, seconds}
-use Rattle.cert_check.specs.States.{final_failure, first_missed, is_final, is_final_below, is_misshapen, missed_from, node_of, pairs_of, start_node, successor_failure}
-use Rattle.cert_check.specs.Verdict.{claim_reason, failure, flights_reason, landing_reason, state_reason, value_reason, verdict_by, verdict_of, with_pair}
+use Rattle.cert_check.specs.Landings.{Landings, are_not_flights, count, first_out_of_order, first_too_close, is_early}
+use Rattle.cert_check.specs.Landings.{is_shifted, is_shut, second_of, seconds}
+use Rattle.cert_check.specs.States.{final_failure, first_missed, is_final, is_final_below, is_misshapen, missed_from}
+use Rattle.cert_check.specs.States.{node_of, pairs_of, start_node, successor_failure}
+use Rattle.cert_check.specs.Verdict.{claim_reason, failure, flights_reason, landing_reason, state_reason, value_reason}
+use Rattle.cert_check.specs.Verdict.{verdict_by, verdict_of, with_pair}
 use Rattle.cert_check.specs.shared.Values.{objective_low}
 
 -- the greatest number that a state of a certificate can have
@@ -53,11 +58,13 @@ or_found : {A : Type 0} (P : A → Type 0) (a b : Option A) → IfFound P a → 
 or_found P None b p q = q
 or_found P (Some x) b p q = p
 
-map_found : {A B : Type 0} (P : A → Type 0) (Q : B → Type 0) (f : A → B) (o : Option A) → ((x : A) → P x → Q (f x)) → IfFound P o → IfFound Q (option_map f o)
+map_found : {A B : Type 0} (P : A → Type 0) (Q : B → Type 0) (f : A → B) (o : Option A) → ((x : A) → P x → Q (f x))
+    → IfFound P o → IfFound Q (option_map f o)
 map_found P Q f None h p = tt
 map_found P Q f (Some x) h p = h x p
 
-pair_found : {B : Type 0} (P : ℕ × ℕ → Type 0) (Q : B → Type 0) (f : ℕ → ℕ → B) (o : Option (ℕ × ℕ)) → ((x : ℕ × ℕ) → P x → Q (f x.0 x.1)) → IfFound P o → IfFound Q (with_pair f o)
+pair_found : {B : Type 0} (P : ℕ × ℕ → Type 0) (Q : B → Type 0) (f : ℕ → ℕ → B) (o : Option (ℕ × ℕ))
+    → ((x : ℕ × ℕ) → P x → Q (f x.0 x.1)) → IfFound P o → IfFound Q (with_pair f o)
 pair_found P Q f None h p = tt
 pair_found P Q f (Some x) h p = h x p
 
@@ -71,17 +78,20 @@ first_found test x (suc m) most le = elim (cases_Bool (test x)) [
 abbrev AreBelow : ℕ → ℕ → ℕ × ℕ → Type 0
 AreBelow a b x = (x.0 ≤ a) × (x.1 ≤ b)
 
-number_found : (i : ℕ) (o : Option ℕ) (a b : ℕ) → i ≤ a → IfFound (λ y. y ≤ b) o → IfFound (AreBelow a b) (with_number i o)
+number_found : (i : ℕ) (o : Option ℕ) (a b : ℕ) → i ≤ a → IfFound (λ y. y ≤ b) o
+    → IfFound (AreBelow a b) (with_number i o)
 number_found i None a b le h = tt
 number_found i (Some y) a b le h = (le, h)
 
-pairs_found : (find : ℕ → Option ℕ) (x m a b : ℕ) → x + m ≤ a + 1 → ((y : ℕ) → IfFound (λ z. z ≤ b) (find y)) → IfFound (AreBelow a b) (first_pair_from find x m)
+pairs_found : (find : ℕ → Option ℕ) (x m a b : ℕ) → x + m ≤ a + 1 → ((y : ℕ) → IfFound (λ z. z ≤ b) (find y))
+    → IfFound (AreBelow a b) (first_pair_from find x m)
 pairs_found find x zero a b le h = tt
 pairs_found find x (suc m) a b le h =
     or_found (AreBelow a b) (with_number x (find x)) (first_pair_from find (suc x) m)
     (number_found x (find x) a b (omega (arith, le)) (h x)) (pairs_found find (suc x) m a b (omega (arith, le)) h)
 
-element_found : {S : Type 0} (test : S → Bool) (i most : ℕ) (ss : List S) → i + length ss ≤ most + 1 → IfFound (λ y. y ≤ most) (element_from test i ss)
+element_found : {S : Type 0} (test : S → Bool) (i most : ℕ) (ss : List S) → i + length ss ≤ most + 1
+    → IfFound (λ y. y ≤ most) (element_from test i ss)
 unfolding element_from
 element_found test i most [] le = tt
 element_found test i most (s ∷ ss) le = elim (cases_Bool (test s)) [
@@ -98,9 +108,11 @@ second_low (l ∷ ls) name h = elim (cases_Bool (bytes_eq l.0 name)) [
   | inr later ↦ rw later (second_low ls name h.2)
 ]
 
-seconds_low : (fs : List Waiting) (ls : Landings) → AreLandings ls → All (λ t. t ≤ last_second) (map (λ f. second_of ls f.callsign) fs)
+seconds_low : (fs : List Waiting) (ls : Landings) → AreLandings ls
+    → All (λ t. t ≤ last_second) (map (λ f. second_of ls f.callsign) fs)
 seconds_low [] ls h = All-nil (λ t. t ≤ last_second)
-seconds_low (f ∷ fs) ls h = All-cons (λ t. t ≤ last_second) (second_of ls f.callsign) (map (λ f. second_of ls f.callsign) fs) (second_low ls f.callsign h) (seconds_low fs ls h)
+seconds_low (f ∷ fs) ls h = All-cons (λ t. t ≤ last_second) (second_of ls f.callsign)
+    (map (λ f. second_of ls f.callsign) fs) (second_low ls f.callsign h) (seconds_low fs ls h)
 
 module _ (p : Problem) (well : IsWellFormed p) where
   abbrev Few : ℕ → Type 0
@@ -120,24 +132,35 @@ module _ (p : Problem) (well : IsWellFormed p) where
   landing_found v ls h =
       or_found HasSmallNumbers _ _ (map_found Few HasSmallNumbers Closed _ (λ r le. le) (ranks_found (is_shut p ls)))
       (or_found HasSmallNumbers _ _ (map_found Few HasSmallNumbers Early _ (λ r le. le) (ranks_found (is_early p ls)))
-      (or_found HasSmallNumbers _ _ (pair_found (AreBelow most_waiting most_waiting) HasSmallNumbers Separation (first_pair_from (first_too_close p ls) 1 (count p)) (λ x le. le) (pairs_found (first_too_close p ls) 1 (count p) most_waiting most_waiting (let few = well.few_flights in omega (arith, few)) (λ r. ranks_found _)))
-      (or_found HasSmallNumbers _ _ (pair_found (AreBelow most_waiting most_waiting) HasSmallNumbers Precedence (first_pair_from (first_out_of_order p ls) 1 (count p)) (λ x le. le) (pairs_found (first_out_of_order p ls) 1 (count p) most_waiting most_waiting (let few = well.few_flights in omega (arith, few)) (λ r. ranks_found _)))
+      (or_found HasSmallNumbers _ _ (pair_found (AreBelow most_waiting most_waiting) HasSmallNumbers Separation
+      (first_pair_from (first_too_close p ls) 1 (count p)) (λ x le. le)
+      (pairs_found (first_too_close p ls) 1 (count p) most_waiting most_waiting (let few =
+      well.few_flights in omega (arith, few)) (λ r. ranks_found _)))
+      (or_found HasSmallNumbers _ _ (pair_found (AreBelow most_waiting most_waiting) HasSmallNumbers Precedence
+      (first_pair_from (first_out_of_order p ls) 1 (count p)) (λ x le. le)
+      (pairs_found (first_out_of_order p ls) 1 (count p) most_waiting most_waiting (let few =
+      well.few_flights in omega (arith, few)) (λ r. ranks_found _)))
       (or_found HasSmallNumbers _ _ (map_found Few HasSmallNumbers Shift _ (λ r le. le) (ranks_found (is_shifted p ls)))
       (value_found v ls h)))))
 
   module _ (c : Claim) (ss : List State) (few : length ss < most_states) where
-    missed_found : (i : ℕ) (rest : List State) → i + length rest ≤ most_states + 1 → IfFound (AreBelow most_states most_waiting) (missed_from p ss i rest)
+    missed_found : (i : ℕ) (rest : List State) → i + length rest ≤ most_states + 1
+        → IfFound (AreBelow most_states most_waiting) (missed_from p ss i rest)
     unfolding closure.missed_from closure.first_missed
     missed_found i [] le = tt
     missed_found i (s ∷ rest) le =
-        or_found (AreBelow most_states most_waiting) (with_number i (first_missed p ss (node_of s) (pairs_of s))) (missed_from p ss (i + 1) rest)
-        (number_found i (first_missed p ss (node_of s) (pairs_of s)) most_states most_waiting (omega (arith, le)) (ranks_found _)) (missed_found (i + 1) rest (omega (arith, le)))
+        or_found (AreBelow most_states most_waiting) (with_number i (first_missed p ss (node_of s) (pairs_of s)))
+        (missed_from p ss (i + 1) rest)
+        (number_found i (first_missed p ss (node_of s) (pairs_of s)) most_states most_waiting
+        (omega (arith, le)) (ranks_found _)) (missed_found (i + 1) rest (omega (arith, le)))
 
     successor_found : IfFound (AreBelow most_states most_waiting) (successor_failure p ss)
     unfolding closure.first_missed
     successor_found =
-        or_found (AreBelow most_states most_waiting) (with_number 0 (first_missed p ss (start_node p) ((0, 0) ∷ []))) (missed_from p ss 1 ss)
-        (number_found 0 (first_missed p ss (start_node p) ((0, 0) ∷ [])) most_states most_waiting (omega arith) (ranks_found _)) (missed_found 1 ss (omega (arith, few)))
+        or_found (AreBelow most_states most_waiting) (with_number 0 (first_missed p ss (start_node p) ((0, 0) ∷ [])))
+        (missed_from p ss 1 ss)
+        (number_found 0 (first_missed p ss (start_node p) ((0, 0) ∷ [])) most_states most_waiting
+        (omega arith) (ranks_found _)) (missed_found 1 ss (omega (arith, few)))
 
     final_found : (d : Claim) → IfFound (λ y. y ≤ most_states) (final_failure p d ss)
     final_found (claim.Optimal v) = element_found (is_final_below p v) 1 most_states ss (omega (arith, few))
@@ -149,8 +172,10 @@ module _ (p : Problem) (well : IsWellFormed p) where
     state_found : IfFound HasSmallNumbers (state_reason p c ss)
     unfolding state_reason
     state_found =
-        or_found HasSmallNumbers _ _ (map_found (λ y. y ≤ most_states) HasSmallNumbers Shape _ (λ i le. le) (element_found (is_misshapen p) 1 most_states ss (omega (arith, few))))
-        (or_found HasSmallNumbers _ _ (pair_found (AreBelow most_states most_waiting) HasSmallNumbers Successor (successor_failure p ss) (λ x le. le) successor_found)
+        or_found HasSmallNumbers _ _ (map_found (λ y. y ≤ most_states) HasSmallNumbers Shape _
+        (λ i le. le) (element_found (is_misshapen p) 1 most_states ss (omega (arith, few))))
+        (or_found HasSmallNumbers _ _ (pair_found (AreBelow most_states most_waiting) HasSmallNumbers Successor
+        (successor_failure p ss) (λ x le. le) successor_found)
         (map_found (λ y. y ≤ most_states) HasSmallNumbers Final _ (λ i le. le) (final_found c)))
 
   claim_found : (c : Claim) (ls : Landings) → AreLandings ls → IfFound HasSmallNumbers (claim_reason p c ls)

@@ -7,7 +7,10 @@ use Rattle.std.proofs.lemmas.List.{length-append}
 use Rattle.landing_rules.specs.Flights.{Active, Flight, Landing, Situation, Span, landing, waiting}
 use Rattle.landing_rules.specs.Limits.{most_closures, most_flights, most_waiting}
 use Rattle.landing_rules.specs.Rules.{is_open, is_shut, last_second, lists}
-use Rattle.landing_rules.specs.Events.{Add, Cancel, Clock, ClockBack, Close, CoversFrozen, Duplicate, Estimate, Event, Frozen, PredecessorOfFrozen, Refusal, Reopen, TooManyClosures, TooManyFlights, TooManyWaiting, UnknownClosure, UnknownFlight, clock_back, frozen_landings, in_landing_order, named, refusal, same_span, unknown_or_frozen}
+use Rattle.landing_rules.specs.Events.{Add, Cancel, Clock, ClockBack, Close, CoversFrozen, Duplicate, Estimate, Event}
+use Rattle.landing_rules.specs.Events.{Frozen, PredecessorOfFrozen, Refusal, Reopen, TooManyClosures, TooManyFlights}
+use Rattle.landing_rules.specs.Events.{TooManyWaiting, UnknownClosure, UnknownFlight, clock_back, frozen_landings}
+use Rattle.landing_rules.specs.Events.{in_landing_order, named, refusal, same_span, unknown_or_frozen}
 use Rattle.landing_rules.specs.Sound.{IsGoodEvent, IsGoodFlight, IsSound}
 use Rattle.landing_rules.specs.Text.{cause}
 use Rattle.landing_rules.specs.shared.Counting.{Member}
@@ -49,14 +52,17 @@ cause_short (ClockBack t) h = let a = second_short t h in omega (arith, a)
 
 module _ (s : Situation) (sound : IsSound s) where
   pub active_name : (a : Active) → Member a s.active → length a.flight.callsign ≤ 8
-  active_name a m = callsign_short a.flight.callsign (all_at (λ (b : Active). IsGoodFlight b.flight) s.active sound.flights a m).callsign
+  active_name a m = callsign_short a.flight.callsign
+      (all_at (λ (b : Active). IsGoodFlight b.flight) s.active sound.flights a m).callsign
 
   -- a frozen flight's second is open
   pub frozen_second : (a : Active) (t : ℕ) → Member a s.active → a.frozen ≡ Some t → t ≤ last_second
   frozen_second a t m e =
       let f = frozen_in s.active a t m e in
       let good = all_at (λ (b : Active). IsGoodFlight b.flight) s.active sound.flights a m in
-      open_in_days a.flight.windows s.closures t good.windows.spans (all_at (λ (x : Landing). IsTrue (is_open x.flight.windows s.closures x.second)) (frozen_landings s) sound.frozen_open (landing a t) f)
+      open_in_days a.flight.windows s.closures t good.windows.spans
+      (all_at (λ (x : Landing). IsTrue (is_open x.flight.windows s.closures x.second))
+      (frozen_landings s) sound.frozen_open (landing a t) f)
 
   of_frozen : (g : Landing) → Member g (frozen_landings s) → (length g.flight.callsign ≤ 8) × (g.second ≤ last_second)
   of_frozen g m =
@@ -66,9 +72,11 @@ module _ (s : Situation) (sound : IsSound s) where
       let same : g ≡ landing f.0 f.1 = f.4 in
       (rw same name, rw same second)
 
-  unknown_short : (c : List ℕ) (r : Refusal) → length c ≤ 8 → unknown_or_frozen c (find (named c) s.active) ≡ Some r → IsShort r
+  unknown_short : (c : List ℕ) (r : Refusal) → length c ≤ 8 → unknown_or_frozen c (find (named c) s.active) ≡ Some r
+      → IsShort r
   unknown_short c r name e = elim (cases_option (find (named c) s.active)) [
-    | inl none ↦ (let w : Some (UnknownFlight c) ≡ Some r = rw none at e in let v : UnknownFlight c ≡ r = cc in subst IsShort v name)
+    | inl none ↦ (let w : Some (UnknownFlight c) ≡ Some r = rw none at e in let v : UnknownFlight c ≡ r =
+        cc in subst IsShort v name)
     | inr some ↦ (
         let w : option_map Frozen some.0.frozen ≡ Some r = rw some.1 at e in
         elim (cases_option some.0.frozen) [
@@ -78,23 +86,30 @@ module _ (s : Situation) (sound : IsSound s) where
         ])
   ]
 
-  preceding_short : (c : List ℕ) (r : Refusal) → option_map (λ (g : Landing). PredecessorOfFrozen g.flight.callsign) (find (λ g. lists g.flight c) (frozen_landings s)) ≡ Some r → IsShort r
+  preceding_short : (c : List ℕ) (r : Refusal)
+      → option_map (λ (g : Landing). PredecessorOfFrozen g.flight.callsign)
+      (find (λ g. lists g.flight c) (frozen_landings s)) ≡ Some r → IsShort r
   preceding_short c r e = elim (cases_option (find (λ g. lists g.flight c) (frozen_landings s))) [
     | inl none ↦ (let w : None ≡ Some r = rw none at e in absurd (cc w))
-    | inr some ↦ (let w : Some (PredecessorOfFrozen some.0.flight.callsign) ≡ Some r = rw some.1 at e in let v : PredecessorOfFrozen some.0.flight.callsign ≡ r = cc in
+    | inr some ↦ (let w : Some (PredecessorOfFrozen some.0.flight.callsign) ≡ Some r =
+        rw some.1 at e in let v : PredecessorOfFrozen some.0.flight.callsign ≡ r = cc in
         subst IsShort v (of_frozen some.0 (found_in (λ g. lists g.flight c) (frozen_landings s) some.0 some.1).0).0)
   ]
 
-  pub refusal_short : (e : Event) (r : Refusal) → IsInDays s.clock → IsGoodEvent e → HasShortName e → refusal s e ≡ Some r → length (cause r) ≤ 30
+  pub refusal_short : (e : Event) (r : Refusal) → IsInDays s.clock → IsGoodEvent e → HasShortName e
+      → refusal s e ≡ Some r → length (cause r) ≤ 30
   refusal_short e r clock good name is = cause_short r (go e good name is)
     where
       added : (f : Flight) → IsGoodFlight f → refusal s (Add f) ≡ Some r → IsShort r
       added f good is = elim (cases_Bool (list_any (named f.callsign) s.active)) [
-        | inl there ↦ (let w : Some (Duplicate f.callsign) ≡ Some r = rw there at is in let v : Duplicate f.callsign ≡ r = cc in subst IsShort v (callsign_short f.callsign good.callsign))
+        | inl there ↦ (let w : Some (Duplicate f.callsign) ≡ Some r = rw there at is in
+            let v : Duplicate f.callsign ≡ r = cc in subst IsShort v (callsign_short f.callsign good.callsign))
         | inr new ↦ elim (cases_Bool (nat_le most_flights (length s.active))) [
-          | inl full ↦ (let w : Some TooManyFlights ≡ Some r = rw (new, full) at is in let v : TooManyFlights ≡ r = cc in subst IsShort v tt)
+          | inl full ↦ (let w : Some TooManyFlights ≡ Some r = rw (new, full) at is in let v : TooManyFlights ≡ r =
+              cc in subst IsShort v tt)
           | inr fits ↦ elim (cases_Bool (nat_le most_waiting (length (waiting s)))) [
-            | inl full ↦ (let w : Some TooManyWaiting ≡ Some r = rw (new, fits, full) at is in let v : TooManyWaiting ≡ r = cc in subst IsShort v tt)
+            | inl full ↦ (let w : Some TooManyWaiting ≡ Some r =
+                rw (new, fits, full) at is in let v : TooManyWaiting ≡ r = cc in subst IsShort v tt)
             | inr few ↦ preceding_short f.callsign r (rw (new, fits, few) at is)
           ]
         ]
@@ -103,17 +118,21 @@ module _ (s : Situation) (sound : IsSound s) where
       closed : (span : Span) → refusal s (Close span) ≡ Some r → IsShort r
       closed span is = elim (cases_option (find (λ g. is_shut g.second span) (in_landing_order (frozen_landings s)))) [
         | inl none ↦ elim (cases_Bool (nat_le most_closures (length s.closures))) [
-          | inl full ↦ (let w : Some TooManyClosures ≡ Some r = rw (none, full) at is in let v : TooManyClosures ≡ r = cc in subst IsShort v tt)
+          | inl full ↦ (let w : Some TooManyClosures ≡ Some r = rw (none, full) at is in let v : TooManyClosures ≡ r =
+              cc in subst IsShort v tt)
           | inr fits ↦ (let w : None ≡ Some r = rw (none, fits) at is in absurd (cc w))
         ]
-        | inr some ↦ (let w : Some (CoversFrozen some.0.flight.callsign some.0.second) ≡ Some r = rw some.1 at is in let v : CoversFrozen some.0.flight.callsign some.0.second ≡ r = cc in
-            subst IsShort v (of_frozen some.0 (order_member some.0 (frozen_landings s) (found_in (λ g. is_shut g.second span) (in_landing_order (frozen_landings s)) some.0 some.1).0)))
+        | inr some ↦ (let w : Some (CoversFrozen some.0.flight.callsign some.0.second) ≡ Some r =
+            rw some.1 at is in let v : CoversFrozen some.0.flight.callsign some.0.second ≡ r = cc in
+            subst IsShort v (of_frozen some.0 (order_member some.0 (frozen_landings s)
+            (found_in (λ g. is_shut g.second span) (in_landing_order (frozen_landings s)) some.0 some.1).0)))
       ]
 
       back : (last : Option ℕ) (now : ℕ) → IsInDays last → clock_back last now ≡ Some r → IsShort r
       back None now h is = absurd (cc is)
       back (Some last) now h is = elim (cases_Bool (nat_lt now last)) [
-        | inl before ↦ (let w : Some (ClockBack last) ≡ Some r = rw before at is in let v : ClockBack last ≡ r = cc in subst IsShort v h)
+        | inl before ↦ (let w : Some (ClockBack last) ≡ Some r = rw before at is in let v : ClockBack last ≡ r =
+            cc in subst IsShort v h)
         | inr not_before ↦ (let w : None ≡ Some r = rw not_before at is in absurd (cc w))
       ]
 
@@ -124,6 +143,7 @@ module _ (s : Situation) (sound : IsSound s) where
       go (Close span) good name is = closed span is
       go (Reopen span) good name is = elim (cases_Bool (list_any (same_span span) s.closures)) [
         | inl there ↦ (let w : None ≡ Some r = rw there at is in absurd (cc w))
-        | inr none ↦ (let w : Some UnknownClosure ≡ Some r = rw none at is in let v : UnknownClosure ≡ r = cc in subst IsShort v tt)
+        | inr none ↦ (let w : Some UnknownClosure ≡ Some r = rw none at is in let v : UnknownClosure ≡ r =
+            cc in subst IsShort v tt)
       ]
       go (Clock now) good name is = back s.clock now clock is

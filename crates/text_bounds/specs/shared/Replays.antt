@@ -6,9 +6,11 @@ use Rattle.std.proofs.lemmas.List.Elements.{All-head, All-tail}
 use Rattle.std.proofs.lemmas.List.Sums.{count_by-le-length, length-filter}
 use Rattle.landing_rules.specs.Flights.{Active, Situation, Schedule, landings}
 use Rattle.landing_rules.specs.Limits.{most_flights}
-use Rattle.landing_rules.specs.Events.{Add, Answered, Cancel, Clock, Close, Estimate, Event, Refusal, Reopen, Run, State, Step, active_after_clock, after_clock, estimated, named, situation_after}
+use Rattle.landing_rules.specs.Events.{Add, Answered, Cancel, Clock, Close, Estimate, Event, Refusal, Reopen, Run}
+use Rattle.landing_rules.specs.Events.{State, Step, active_after_clock, after_clock, estimated, named, situation_after}
 use Rattle.landing_rules.specs.Sound.{IsGoodEvent, IsSoundState}
-use Rattle.landing_rules.specs.Text.{accepted_words, answer_text, answers_text, begun_text, cause, line, lines_text, plan_lines, refused_words}
+use Rattle.landing_rules.specs.Text.{accepted_words, answer_text, answers_text, begun_text, cause, line, lines_text}
+use Rattle.landing_rules.specs.Text.{plan_lines, refused_words}
 use Rattle.landing_joint.specs.StepLaws.{StepKeepsSoundLaw}
 use Rattle.text_bounds.specs.Blocks.{BlockIsBoundedLaw}
 use Rattle.text_bounds.specs.Replays.{HasShortName, IsInDays, IsTellable, ReplayIsBoundedLaw, answer_bound, most_active}
@@ -32,45 +34,52 @@ refused_short i r few short =
     omega (arith, number, short, a, b, c)
 
 module _ (law : BlockIsBoundedLaw) where
-  answer_accepted : (i : ℕ) (state : State) → i < 10000 → IsSoundState state → length (answer_text i None state) ≤ answer_bound (length state.situation.active)
+  answer_accepted : (i : ℕ) (state : State) → i < 10000 → IsSoundState state
+      → length (answer_text i None state) ≤ answer_bound (length state.situation.active)
   answer_accepted i state few sound =
       let head = accepted_short i few in
       let block = law state sound in
       let both = length-append (line (accepted_words i)) (lines_text (plan_lines state)) in
       omega (arith, head, block, both)
 
-  answer_refused : (i : ℕ) (r : Refusal) (state : State) → i < 10000 → length (cause r) ≤ 30 → length (answer_text i (Some r) state) ≤ 50
+  answer_refused : (i : ℕ) (r : Refusal) (state : State) → i < 10000 → length (cause r) ≤ 30
+      → length (answer_text i (Some r) state) ≤ 50
   answer_refused i r state few short =
       let one = refused_short i r few short in
       let both = length-append (line (refused_words i r)) [] in
       omega (arith, one, both)
 
-  begun_short : (state : State) → IsSoundState state → length (begun_text state) ≤ answer_bound (length state.situation.active)
+  begun_short : (state : State) → IsSoundState state
+      → length (begun_text state) ≤ answer_bound (length state.situation.active)
   begun_short state sound =
       let block = law state sound in
       omega (arith, block)
 
 -- ---- at most one flight more for each event
 
-length-clocked : (s : Situation) (plan : Option Schedule) (h : ℕ) → length (active_after_clock s.aerodrome h s.active plan) ≤ length s.active
+length-clocked : (s : Situation) (plan : Option Schedule) (h : ℕ)
+    → length (active_after_clock s.aerodrome h s.active plan) ≤ length s.active
 length-clocked s None h = omega arith
 length-clocked s (Some t) h =
     let a = length-map (landings s.active t) (after_clock s.aerodrome h (landings s.active t)) in
     let b = length_landings s.active t in
     omega (arith, a, b)
 
-one_more : (s : Situation) (plan : Option Schedule) (e : Event) → length (situation_after s plan e).active ≤ length s.active + 1
+one_more : (s : Situation) (plan : Option Schedule) (e : Event)
+    → length (situation_after s plan e).active ≤ length s.active + 1
 one_more s plan (Estimate c eta windows) = let a = length-map s.active (estimated c eta windows) in omega (arith, a)
 one_more s plan (Cancel c) =
     let a = length-filter (λ (x : Active). not (named c x)) s.active in
     let b = count_by-le-length (λ (x : Active). not (named c x)) s.active in
     omega (arith, a, b)
-one_more s plan (Add f) = let a = length-append s.active (record { flight = f; frozen = None; passed = 0 } ∷ []) in omega (arith, a)
+one_more s plan (Add f) = let a =
+    length-append s.active (record { flight = f; frozen = None; passed = 0 } ∷ []) in omega (arith, a)
 one_more s plan (Close span) = omega arith
 one_more s plan (Reopen span) = omega arith
 one_more s plan (Clock now) = let a = length-clocked s plan (now + s.aerodrome.freeze) in omega (arith, a)
 
-clock_kept : (s : Situation) (plan : Option Schedule) (e : Event) → IsInDays s.clock → IsGoodEvent e → IsInDays (situation_after s plan e).clock
+clock_kept : (s : Situation) (plan : Option Schedule) (e : Event) → IsInDays s.clock → IsGoodEvent e
+    → IsInDays (situation_after s plan e).clock
 clock_kept s plan (Estimate c eta windows) h good = h
 clock_kept s plan (Cancel c) h good = h
 clock_kept s plan (Add f) h good = h
@@ -80,32 +89,40 @@ clock_kept s plan (Clock now) h good = good
 
 module _ (law : BlockIsBoundedLaw) (keeps : StepKeepsSoundLaw) where
   -- one step keeps it, and has a short answer
-  step_short : (old new : State) (e : Event) (answer : Option Refusal) (i m : ℕ) → IsTellable old → IsGoodEvent e → HasShortName e → i < 10000 → Step old e answer new
-      → length old.situation.active < m + 1 → length new.situation.active ≤ m → length (answer_text i answer new) ≤ answer_bound m
+  step_short : (old new : State) (e : Event) (answer : Option Refusal) (i m : ℕ) → IsTellable old
+      → IsGoodEvent e → HasShortName e → i < 10000 → Step old e answer new
+      → length old.situation.active < m + 1 → length new.situation.active ≤ m
+      → length (answer_text i answer new) ≤ answer_bound m
   step_short old new e None i m h good name few step before after =
       let sound = keeps old new e None h.sound good step in
       let text = answer_accepted law i new few sound in
       omega (arith, text, after)
   step_short old new e (Some r) i m h good name few step before after =
-      let text = answer_refused law i r new few (refusal_short old.situation h.sound.situation e r h.clock good name (sym step.answered)) in
+      let text = answer_refused law i r new few (refusal_short old.situation h.sound.situation e r h.clock good name
+      (sym step.answered)) in
       omega (arith, text)
 
-  pub next_tellable : (old new : State) (e : Event) (answer : Option Refusal) → IsTellable old → IsGoodEvent e → Step old e answer new
+  pub next_tellable : (old new : State) (e : Event) (answer : Option Refusal) → IsTellable old
+      → IsGoodEvent e → Step old e answer new
       → IsTellable new × (length new.situation.active ≤ length old.situation.active + 1)
   next_tellable old new e None h good step = (
     record {
       sound = keeps old new e None h.sound good step;
-      clock = subst (λ (s : Situation). IsInDays s.clock) (sym step.effect.changed) (clock_kept old.situation old.plan e h.clock good);
+      clock = subst (λ (s : Situation). IsInDays s.clock) (sym step.effect.changed)
+          (clock_kept old.situation old.plan e h.clock good);
     },
-    subst (λ (s : Situation). length s.active ≤ length old.situation.active + 1) (sym step.effect.changed) (one_more old.situation old.plan e),
+    subst (λ (s : Situation). length s.active ≤ length old.situation.active + 1) (sym step.effect.changed)
+        (one_more old.situation old.plan e),
   )
   next_tellable old new e (Some r) h good step = (
     subst IsTellable (sym step.effect) h,
     subst (λ (s : State). length s.situation.active ≤ length old.situation.active + 1) (sym step.effect) (omega arith),
   )
 
-  answers_short : (old : State) (events : List Event) (answers : List Answered) (i m : ℕ) → IsTellable old → All IsGoodEvent events → All HasShortName events → i + length events < 10000
-      → length old.situation.active + length events ≤ m → Run old events answers → length (answers_text i answers) ≤ length events * answer_bound (min most_flights m)
+  answers_short : (old : State) (events : List Event) (answers : List Answered) (i m : ℕ) → IsTellable old
+      → All IsGoodEvent events → All HasShortName events → i + length events < 10000
+      → length old.situation.active + length events ≤ m → Run old events answers
+      → length (answers_text i answers) ≤ length events * answer_bound (min most_flights m)
   answers_short old [] [] i m h good names few most run = omega arith
   answers_short old [] (a ∷ answers) i m h good names few most run = absurd run
   answers_short old (e ∷ events) [] i m h good names few most run = absurd run
@@ -115,8 +132,10 @@ module _ (law : BlockIsBoundedLaw) (keeps : StepKeepsSoundLaw) where
       let more = next.1 in
       let full = next.0.sound.situation.few_active in
       let full_before = h.sound.situation.few_active in
-      let one = step_short old a.state e a.answer i (min most_flights m) h own (All-head HasShortName e events names) (omega (arith, few)) run.0 (omega (arith, most, full_before)) (omega (arith, most, more, full)) in
-      let rest = answers_short a.state events answers (i + 1) m next.0 (All-tail IsGoodEvent e events good) (All-tail HasShortName e events names) (omega (arith, few)) (omega (arith, most, more)) run.1 in
+      let one = step_short old a.state e a.answer i (min most_flights m) h own (All-head HasShortName e events names)
+      (omega (arith, few)) run.0 (omega (arith, most, full_before)) (omega (arith, most, more, full)) in
+      let rest = answers_short a.state events answers (i + 1) m next.0 (All-tail IsGoodEvent e events good)
+      (All-tail HasShortName e events names) (omega (arith, few)) (omega (arith, most, more)) run.1 in
       let both = length-append (answer_text i a.answer a.state) (answers_text (i + 1) answers) in
       omega (arith, one, rest, both)
 
@@ -126,6 +145,7 @@ module _ (law : BlockIsBoundedLaw) (keeps : StepKeepsSoundLaw) where
       let most = most_active n (length events) in
       let full = h.sound.situation.few_active in
       let begun = begun_short law opening h.sound in
-      let answers_are = answers_short opening events answers 1 (n + length events) h good names (omega (arith, few)) (omega arith) run in
+      let answers_are = answers_short opening events answers 1 (n + length events) h good names
+      (omega (arith, few)) (omega arith) run in
       let both = length-append (begun_text opening) (answers_text 1 answers) in
       omega (arith, begun, answers_are, both, full)

@@ -10,7 +10,8 @@ use Rattle.text_bounds.specs.Trials.{TrialIsBoundedLaw}
 use Rattle.text_bounds.specs.shared.Blocks.{head_short}
 use Rattle.text_bounds.specs.shared.Lengths.{value_short}
 
-first_short : (o : Objective) (plan : Option ShownPlan) → MatchOption plan ⊤ (λ p. p.value ≤ greatest_value) → length (lines_text (take 1 (block_lines o plan))) ≤ 20
+first_short : (o : Objective) (plan : Option ShownPlan) → MatchOption plan ⊤ (λ p. p.value ≤ greatest_value)
+    → length (lines_text (take 1 (block_lines o plan))) ≤ 20
 first_short o None h = omega arith
 first_short o (Some p) h =
     let head = head_short o p.value (value_short p.value h) in
@@ -27,6 +28,8 @@ trial_short n k nodes o plan few near small h =
     let y = length-append (decimal k) (10 ∷ []) in
     let z = length-append (decimal nodes) (10 ∷ []) in
     let third = length-append (line (codes "nodes " ++ decimal nodes)) (lines_text (take 1 (block_lines o plan))) in
-    let second = length-append (line (codes "k " ++ decimal k)) (line (codes "nodes " ++ decimal nodes) ++ lines_text (take 1 (block_lines o plan))) in
-    let whole = length-append (line (codes "flights " ++ decimal n)) (line (codes "k " ++ decimal k) ++ (line (codes "nodes " ++ decimal nodes) ++ lines_text (take 1 (block_lines o plan)))) in
+    let second = length-append (line (codes "k " ++ decimal k)) (line (codes "nodes " ++ decimal nodes)
+    ++ lines_text (take 1 (block_lines o plan))) in
+    let whole = length-append (line (codes "flights " ++ decimal n)) (line (codes "k " ++ decimal k)
+    ++ (line (codes "nodes " ++ decimal nodes) ++ lines_text (take 1 (block_lines o plan)))) in
     omega (arith, first, a, b, c, x, y, z, third, second, whole)

@@ -1,5 +1,6 @@
 -- How long a certificate is that leaves nothing out: by its landings, its states and their pairs.
-use Rattle.std.proofs.Common.{◌≡◌, ℕ, zero, suc, ◌≤◌, inl, inr, List, [], ◌∷◌, length, get_or, true, refl, sym, ap, subst, ◌∙◌, arith}
+use Rattle.std.proofs.Common.{◌≡◌, ℕ, zero, suc, ◌≤◌, inl, inr, List, [], ◌∷◌, length, get_or, true, refl, sym, ap}
+use Rattle.std.proofs.Common.{subst, ◌∙◌, arith}
 use Rattle.std.specs.Prelude.{All, not}
 use Rattle.std.specs.List.{AllZip, list_any}
 use Rattle.std.proofs.Math.Nat.{mul-le-mul_right}
@@ -44,33 +45,39 @@ HasFewSeconds a = seconds_of a.flight.windows ≤ most_open_seconds
 
 rank_permutes : (active : List Active) → IsPermutation active (by_rank active)
 rank_permutes active =
-    sort_moves (λ (b a : Active). is_lt (arrival_cmp b.flight a.flight)) insert_by_rank (λ a. refl) (λ a b bs. refl) by_rank refl (λ a rest. refl) active
+    sort_moves (λ (b a : Active). is_lt (arrival_cmp b.flight a.flight)) insert_by_rank (λ a. refl)
+    (λ a b bs. refl) by_rank refl (λ a rest. refl) active
 
 few_by_rank : (s : Situation) → IsSound s → All HasFewSeconds (by_rank (waiting s))
 few_by_rank s sound =
     let all : All HasFewSeconds s.active = λ i a lt. (sound.flights i a lt).windows.seconds in
     let waits : All HasFewSeconds (waiting s) = All-filter is_waiting HasFewSeconds s.active all in
     all_from HasFewSeconds (by_rank (waiting s)) (λ a m. all_at HasFewSeconds (waiting s) waits a
-    (member_permutation (by_rank (waiting s)) (waiting s) a (IsPermutation-sym (waiting s) (by_rank (waiting s)) (rank_permutes (waiting s))) m))
+    (member_permutation (by_rank (waiting s)) (waiting s) a
+    (IsPermutation-sym (waiting s) (by_rank (waiting s)) (rank_permutes (waiting s))) m))
 
 -- pairs at such seconds are few
 abbrev HasFewPairs : Waiting → Type 0
-HasFewPairs w = (ps : List Pair) → rises ps ≡ true → ((q : Pair) → InPairs q ps → list_any (is_within q.0) w.open_spans ≡ true) → length ps ≤ most_open_seconds
+HasFewPairs w = (ps : List Pair) → rises ps ≡ true
+    → ((q : Pair) → InPairs q ps → list_any (is_within q.0) w.open_spans ≡ true) → length ps ≤ most_open_seconds
 
 module _ (closures : List Span) where
   few_pairs : (a : Active) (w : Waiting) → IsWaitingOf closures a w → HasFewSeconds a → HasFewPairs w
   few_pairs a w of few ps up each =
       let inside : (q : Pair) → InPairs q ps → list_any (is_within q.0) a.flight.windows ≡ true = λ q i.
-      (and_parts (list_any (is_within q.0) a.flight.windows) (not (list_any (is_shut q.0) closures)) (sym (of.open_spans.same q.0) ∙ each q i)).0 in
+      (and_parts (list_any (is_within q.0) a.flight.windows) (not (list_any (is_shut q.0) closures))
+      (sym (of.open_spans.same q.0) ∙ each q i)).0 in
       let all = pairs_few a.flight.windows ps up inside in
       omega (arith, all, few)
 
-  few_each : (active : List Active) (ws : List Waiting) → AllZip (IsWaitingOf closures) active ws → All HasFewSeconds active → All HasFewPairs ws
+  few_each : (active : List Active) (ws : List Waiting) → AllZip (IsWaitingOf closures) active ws
+      → All HasFewSeconds active → All HasFewPairs ws
   few_each [] [] z h = λ i d lt. absurd (omega (arith, lt))
   few_each [] (w ∷ ws) z h = absurd z
   few_each (a ∷ active) [] z h = absurd z
   few_each (a ∷ active) (w ∷ ws) z h =
-      All-cons HasFewPairs w ws (few_pairs a w z.0 (All-head HasFewSeconds a active h)) (few_each active ws z.1 (All-tail HasFewSeconds a active h))
+      All-cons HasFewPairs w ws (few_pairs a w z.0 (All-head HasFewSeconds a active h))
+      (few_each active ws z.1 (All-tail HasFewSeconds a active h))
 
 no_pairs : HasFewPairs no_waiting
 no_pairs [] up each = omega arith
@@ -85,18 +92,21 @@ few_at ws (suc i) h = elim (cases_lt i (length ws)) [
 
 -- ---- all states
 
-pairs_by : (o : Objective) (p : Problem) (s : State) → p.objective ≡ o → MakespanPairsLaw → PairsAreOpenLaw → All HasFewPairs p.flights → IsWholeState p s → length s.pairs ≤ most_pairs o
+pairs_by : (o : Objective) (p : Problem) (s : State) → p.objective ≡ o → MakespanPairsLaw → PairsAreOpenLaw
+    → All HasFewPairs p.flights → IsWholeState p s → length s.pairs ≤ most_pairs o
 pairs_by Makespan p s e single seconds few h = single p s e h
 pairs_by Delay p s e single seconds few h = few_at p.flights s.last few s.pairs h.rising (λ q i. seconds p s q h i)
 
-pub whole_short : CertificateIsBoundedLaw → WholeStatesAreFewLaw → MakespanPairsLaw → PairsAreOpenLaw → WholeCertificateIsBoundedLaw
+pub whole_short : CertificateIsBoundedLaw → WholeStatesAreFewLaw → MakespanPairsLaw → PairsAreOpenLaw
+    → WholeCertificateIsBoundedLaw
 whole_short bound states single seconds s p c sound of well form whole =
     let n = length p.flights in
     let m = most_pairs p.objective in
     let few = few_each s.closures (by_rank (waiting s)) p.flights of.flights (few_by_rank s sound) in
     let landings = as_many_landings p c.claim c.landings whole.answer in
     let count = states p c.states well whole.states in
-    let pairs = sum_by-le (λ (x : State). length x.pairs) m c.states (λ i x lt. pairs_by p.objective p (get_or c.states i x) refl single seconds few (whole.states.each i x lt)) in
+    let pairs = sum_by-le (λ (x : State). length x.pairs) m c.states
+    (λ i x lt. pairs_by p.objective p (get_or c.states i x) refl single seconds few (whole.states.each i x lt)) in
     let more = mul-le-mul_right m count in
     let text = bound c form in
     omega (arith, landings, count, pairs, more, text)

@@ -6,4 +6,5 @@ use Rattle.aerodrome_file.proofs.closures.are_tables.Goals as goal
 
 pub returns : goal.returns
 returns c =
-    all_from_yields_List is_table _ _ c.all.result c.all.ensures.ran (YieldsList-from_slice c.args.values.now (cc)) (λ x b q k. search (rules, tests)) ∙ sym (tables_view c.args.values.now)
+    all_from_yields_List is_table _ _ c.all.result c.all.ensures.ran (YieldsList-from_slice c.args.values.now (cc))
+    (λ x b q k. search (rules, tests)) ∙ sym (tables_view c.args.values.now)

@@ -8,6 +8,12 @@ loop-rest-preserved c =
     let given = rw c.as_slice.ensures.value at c.in_ok-entry.ensures.value in
     let new = rw c.as_slice.ensures.value at c.in_ok-entry.ensures.new in
     let room : length c.loop-rest.entries.items < 500 = omega arith in
-    let step = frozen_step c.loop-rest.number c.args.clock c.args.freeze c.loop-rest.entries.items c.loop-rest.rest.now c.first-item.result c.in_ok-entry.entry c.first-item.is (omega arith) given in
-    let more = frozen_more c.args.clock c.args.freeze c.loop-rest.entries.items c.in_ok-entry.entry c.loop-rest.invariant.3 c.in_ok-entry.ensures.range new room in
-    (rw c.in-Ok.ensures.items (step ∙ c.loop-rest.invariant.0), search rules, search rules, rw c.in-Ok.ensures.items more)
+    let step = frozen_step c.loop-rest.number c.args.clock c.args.freeze c.loop-rest.entries.items
+    c.loop-rest.rest.now c.first-item.result c.in_ok-entry.entry c.first-item.is (omega arith) given in
+    let more = frozen_more c.args.clock c.args.freeze c.loop-rest.entries.items c.in_ok-entry.entry
+    c.loop-rest.invariant.3 c.in_ok-entry.ensures.range new room in (
+      rw c.in-Ok.ensures.items (step ∙ c.loop-rest.invariant.0),
+      search rules,
+      search rules,
+      rw c.in-Ok.ensures.items more,
+    )

@@ -7,8 +7,10 @@ use Rattle.aerodrome_file.proofs.frozen.frozen_from.Given as goal
 
 abbrev pub invariant-loop-rest : goal.invariant-loop-rest
 invariant-loop-rest l =
-    (frozen_from l.number l.clock l.freeze l.entries.items (items_view l.rest) ≡ frozen_from 1 l.clock l.freeze [] (items_view l.fn.values))
-    × (l.number + length l.rest ≤ 501) × (length l.entries.items + length l.rest ≤ 500) × AreFrozen l.clock l.freeze l.entries.items
+    (frozen_from l.number l.clock l.freeze l.entries.items (items_view l.rest) ≡ frozen_from 1 l.clock l.freeze []
+    (items_view l.fn.values))
+    × (l.number + length l.rest ≤ 501) × (length l.entries.items + length l.rest ≤ 500)
+    × AreFrozen l.clock l.freeze l.entries.items
 
 abbrev pub decreases-loop-rest : goal.decreases-loop-rest
 decreases-loop-rest l = length l.rest

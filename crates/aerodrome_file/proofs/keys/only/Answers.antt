@@ -1,5 +1,6 @@
 -- The first key that the part does not have decides.
-use Rattle.std.proofs.Common.{Bool, inl, inr, rules, tests, ◌≡◌, ◌∷◌, [], ℕ, List, String, Global, Option, Some, None, Ok, Err, Result, refl}
+use Rattle.std.proofs.Common.{Bool, inl, inr, rules, tests, ◌≡◌, ◌∷◌, [], ℕ, List, String, Global, Option, Some, None}
+use Rattle.std.proofs.Common.{Ok, Err, Result, refl}
 use Rattle.std.specs.Prelude.{find, not, string_bytes}
 use Rattle.std.proofs.lemmas.Iterator.Consumers.{YieldsList-from_rest}
 use Rattle.std.proofs.lemmas.Iterator.Search.{find_from_yields_List}
@@ -20,19 +21,28 @@ abbrev answer : Part → Option (String Global × Value) → Result (Unit {0}) A
 answer p None = Ok tt
 answer p (Some m) = Err (fault.UnknownKey p (key_text (string_bytes m.0)))
 
-decided : (v : ℕ) (p : Part) (ms : List (String Global × Value)) → answer p (find (is_unknown v p) ms) ≡ only v p (members_view ms)
+decided : (v : ℕ) (p : Part) (ms : List (String Global × Value))
+    → answer p (find (is_unknown v p) ms) ≡ only v p (members_view ms)
 unfolding only
 decided v p [] = refl
-decided v p (m ∷ ms) = elim (cases_Bool (is_known v p (string_bytes m.0))) [ inl known ↦ rw known (decided v p ms) | inr unknown ↦ rw unknown refl ]
+decided v p (m ∷ ms) = elim (cases_Bool (is_known v p (string_bytes m.0))) [
+  | inl known ↦
+      rw known (decided v p ms)
+  | inr unknown ↦ rw unknown refl
+]
 
 pub returns-in-Some : goal.returns-in-Some
 returns-in-Some c =
-    let found = find_from_yields_List (is_unknown c.args.version c.args.part) _ _ c.find-unknown.result c.find-unknown.ensures.ran (YieldsList-from_rest c.args.table.now.entries (cc)) (λ x b q k. search (rules, tests)) in
+    let found = find_from_yields_List (is_unknown c.args.version c.args.part) _ _ c.find-unknown.result
+    c.find-unknown.ensures.ran (YieldsList-from_rest c.args.table.now.entries (cc))
+    (λ x b q k. search (rules, tests)) in
     let is = decided c.args.version c.args.part c.args.table.now.entries in
     search (rules)
 
 pub returns-in-None : goal.returns-in-None
 returns-in-None c =
-    let found = find_from_yields_List (is_unknown c.args.version c.args.part) _ _ c.find-unknown.result c.find-unknown.ensures.ran (YieldsList-from_rest c.args.table.now.entries (cc)) (λ x b q k. search (rules, tests)) in
+    let found = find_from_yields_List (is_unknown c.args.version c.args.part) _ _ c.find-unknown.result
+    c.find-unknown.ensures.ran (YieldsList-from_rest c.args.table.now.entries (cc))
+    (λ x b q k. search (rules, tests)) in
     let is = decided c.args.version c.args.part c.args.table.now.entries in
     search (rules)

@@ -8,6 +8,12 @@ loop-rest-preserved c =
     let given = rw c.as_slice.ensures.value at c.in_ok-entry.ensures.value in
     let new = rw c.as_slice.ensures.value at c.in_ok-entry.ensures.new in
     let room : length c.loop-rest.entries.items < 60 = omega arith in
-    let step = passed_step c.loop-rest.number c.args.k c.loop-rest.entries.items c.loop-rest.rest.now c.first-item.result c.in_ok-entry.entry c.first-item.is (omega arith) given in
-    let more = passed_more c.args.k c.loop-rest.entries.items c.in_ok-entry.entry c.loop-rest.invariant.3 c.in_ok-entry.ensures.range new room in
-    (rw c.in-Ok.ensures.items (step ∙ c.loop-rest.invariant.0), search rules, search rules, rw c.in-Ok.ensures.items more)
+    let step = passed_step c.loop-rest.number c.args.k c.loop-rest.entries.items c.loop-rest.rest.now
+    c.first-item.result c.in_ok-entry.entry c.first-item.is (omega arith) given in
+    let more = passed_more c.args.k c.loop-rest.entries.items c.in_ok-entry.entry c.loop-rest.invariant.3
+    c.in_ok-entry.ensures.range new room in (
+      rw c.in-Ok.ensures.items (step ∙ c.loop-rest.invariant.0),
+      search rules,
+      search rules,
+      rw c.in-Ok.ensures.items more,
+    )

@@ -12,7 +12,8 @@ by_head-requires-clause-few c =
     omega (arith, e, f, r)
 
 pub by_head-requires-clause-small : goal.by_head-requires-clause-small
-by_head-requires-clause-small c = subst (All HasSmallWeight) (sym c.requires.found) (small_found c.args.situation.now.active c.args.block.now.lines c.requires.sound.flights)
+by_head-requires-clause-small c = subst (All HasSmallWeight) (sym c.requires.found)
+    (small_found c.args.situation.now.active c.args.block.now.lines c.requires.sound.flights)
 
 pub by_rules-requires : goal.by_rules-requires
 by_rules-requires c =

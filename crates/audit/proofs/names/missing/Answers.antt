@@ -19,7 +19,13 @@ returns c =
     let lines = map shown_of c.args.lines.now in
     let fails = λ (a : Active). not (has_name c.args.seen.now a.flight.callsign) in
     let made = λ (a : Active). code.Missing a.flight.callsign in
-    let chain : IfOk c.collect.result (λ all. all.items ≡ map made (filter fails active)) = items_from_collect _ c.collect.ensures.ran
-    (YieldsList-from_map _ made (YieldsList-at c.map.ensures.source (YieldsList-from_filter _ fails (YieldsList-from_slice active (cc)) c.filter.ensures.closure (λ x b q k. search (rules, tests)))) c.map.ensures.closure (λ x r q k. search (rules, tests))) in
-    IfOk-weaker c.collect.result _ _ (λ all h. ap (map finding_of) h ∙ each_failing (λ (a : Active). a) fails made (λ a. has_line lines a.flight.callsign) (λ (a : Active). Missing a.flight.callsign)
+    let chain : IfOk c.collect.result (λ all. all.items ≡ map made (filter fails active)) =
+    items_from_collect _ c.collect.ensures.ran
+    (YieldsList-from_map _ made
+    (YieldsList-at c.map.ensures.source
+    (YieldsList-from_filter _ fails (YieldsList-from_slice active (cc)) c.filter.ensures.closure
+    (λ x b q k. search (rules, tests)))) c.map.ensures.closure (λ x r q k. search (rules, tests))) in
+    IfOk-weaker c.collect.result _ _ (λ all h. ap (map finding_of) h
+    ∙ each_failing (λ (a : Active). a) fails made (λ a. has_line lines a.flight.callsign)
+    (λ (a : Active). Missing a.flight.callsign)
     (λ a. ap not (c.requires a.flight.callsign)) (λ t. refl) active ∙ ap (λ l. missing l lines) (map-id active)) chain

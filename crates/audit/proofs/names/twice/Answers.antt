@@ -21,8 +21,10 @@ loop-line-preserved c =
       λ d. c.in_ok-was_seen.ensures.more d ∙ ap (λ b. bytes_eq l.callsign d || b) (kept.1 d),
       λ d. seen_step lines i l above d _ c.loop-line-test.true c.line-item.is (kept.2 d),
       ap (λ x. x ++ twice_after (shown_of l ∷ above) (map shown_of (drop (i + 1) lines))) c.in_ok-note.ensures
-          ∙ twice_step lines i l above (map finding_of c.loop-line.all.items) (repeated c.in_ok-was_seen.was_seen l.callsign) (twice (map shown_of lines))
-          c.loop-line-test.true c.line-item.is (ap (λ b. repeated b l.callsign) (c.in_ok-was_seen.ensures.was ∙ kept.1 l.callsign)) kept.3,
+          ∙ twice_step lines i l above (map finding_of c.loop-line.all.items)
+          (repeated c.in_ok-was_seen.was_seen l.callsign) (twice (map shown_of lines))
+          c.loop-line-test.true c.line-item.is
+          (ap (λ b. repeated b l.callsign) (c.in_ok-was_seen.ensures.was ∙ kept.1 l.callsign)) kept.3,
     )
 
 pub loop-line-init : goal.loop-line-init
@@ -36,7 +38,8 @@ loop-line-init c = (
 pub returns-clause-found : goal.returns-clause-found
 returns-clause-found c =
     let kept = c.loop-line.invariant in
-    at_end (map finding_of c.loop-line.all.items) (λ ls. twice_after kept.0 (map shown_of ls)) c.args.lines.now c.loop-line.line-index _ c.loop-line-test.false refl kept.3
+    at_end (map finding_of c.loop-line.all.items) (λ ls. twice_after kept.0 (map shown_of ls))
+    c.args.lines.now c.loop-line.line-index _ c.loop-line-test.false refl kept.3
 
 or-none : (b : Bool) → b ≡ (b || false)
 or-none true = refl
@@ -46,4 +49,5 @@ pub returns-clause-seen : goal.returns-clause-seen
 returns-clause-seen c d =
     let kept = c.loop-line.invariant in
     let left = λ (ls : List Landing). has_line (map shown_of ls) d in
-    kept.1 d ∙ or-none (has_line kept.0 d) ∙ ap (λ b. has_line kept.0 d || b) (sym (at_drop_all left c.args.lines.now c.loop-line.line-index c.loop-line-test.false)) ∙ kept.2 d
+    kept.1 d ∙ or-none (has_line kept.0 d) ∙ ap (λ b. has_line kept.0 d || b)
+    (sym (at_drop_all left c.args.lines.now c.loop-line.line-index c.loop-line-test.false)) ∙ kept.2 d

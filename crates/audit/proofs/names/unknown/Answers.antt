@@ -20,7 +20,13 @@ returns c =
     let lines = c.args.lines.now in
     let fails = λ (l : Landing). not (list_any (named l.callsign) active) in
     let made = λ (l : Landing). code.Unknown l.callsign in
-    let chain : IfOk c.collect.result (λ all. all.items ≡ map made (filter fails lines)) = items_from_collect _ c.collect.ensures.ran
-    (YieldsList-from_map _ made (YieldsList-at c.map.ensures.source (YieldsList-from_filter _ fails (YieldsList-from_slice lines (cc)) c.filter.ensures.closure (λ x b q k. search (rules, tests)))) c.map.ensures.closure (λ x r q k. search (rules, tests))) in
-    IfOk-weaker c.collect.result _ _ (λ all h. ap (map finding_of) h ∙ each_failing shown_of fails made (λ l. list_any (named l.callsign) active) (λ (l : ShownLanding). Unknown l.callsign)
+    let chain : IfOk c.collect.result (λ all. all.items ≡ map made (filter fails lines)) =
+    items_from_collect _ c.collect.ensures.ran
+    (YieldsList-from_map _ made
+    (YieldsList-at c.map.ensures.source
+    (YieldsList-from_filter _ fails (YieldsList-from_slice lines (cc)) c.filter.ensures.closure
+    (λ x b q k. search (rules, tests)))) c.map.ensures.closure (λ x r q k. search (rules, tests))) in
+    IfOk-weaker c.collect.result _ _ (λ all h. ap (map finding_of) h
+    ∙ each_failing shown_of fails made (λ l. list_any (named l.callsign) active)
+    (λ (l : ShownLanding). Unknown l.callsign)
     (λ l. refl) (λ t. refl) lines) chain

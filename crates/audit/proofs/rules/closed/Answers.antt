@@ -14,8 +14,16 @@ use Rattle.audit.proofs.rules.closed.Goals as goal
 
 pub returns : goal.returns
 returns c =
-    let fails = λ (f : ShownLanding × Active). not (is_open f.1.flight.windows c.args.situation.now.closures f.0.second) in
+    let fails = λ (f : ShownLanding × Active). not
+    (is_open f.1.flight.windows c.args.situation.now.closures f.0.second) in
     let made = λ (f : ShownLanding × Active). code.Closed f.1.flight.callsign f.0.second in
-    let chain : IfOk c.collect.result (λ all. all.items ≡ map made (filter fails c.args.found.now)) = items_from_collect _ c.collect.ensures.ran
-    (YieldsList-from_map _ made (YieldsList-at c.map.ensures.source (YieldsList-from_filter _ fails (YieldsList-from_slice c.args.found.now (cc)) c.filter.ensures.closure (λ x b q k. search (rules, tests)))) c.map.ensures.closure (λ x r q k. search (rules, tests))) in
-    IfOk-weaker c.collect.result _ _ (λ all h. ap (map finding_of) h ∙ each_failing landing_of fails made (λ (f : Landing). is_open f.flight.windows c.args.situation.now.closures f.second) (λ (f : Landing). Closed f.flight.callsign f.second) (λ t. refl) (λ t. refl) c.args.found.now) chain
+    let chain : IfOk c.collect.result (λ all. all.items ≡ map made (filter fails c.args.found.now)) =
+    items_from_collect _ c.collect.ensures.ran
+    (YieldsList-from_map _ made
+    (YieldsList-at c.map.ensures.source
+    (YieldsList-from_filter _ fails (YieldsList-from_slice c.args.found.now (cc)) c.filter.ensures.closure
+    (λ x b q k. search (rules, tests)))) c.map.ensures.closure (λ x r q k. search (rules, tests))) in
+    IfOk-weaker c.collect.result _ _ (λ all h. ap (map finding_of) h
+    ∙ each_failing landing_of fails made
+    (λ (f : Landing). is_open f.flight.windows c.args.situation.now.closures f.second)
+    (λ (f : Landing). Closed f.flight.callsign f.second) (λ t. refl) (λ t. refl) c.args.found.now) chain

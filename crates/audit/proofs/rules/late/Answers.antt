@@ -13,13 +13,16 @@ loop-d-preserved c =
     let found = c.args.found.now in
     let all = map landing_of found in
     let each = λ (d : Landing). flat_map (listed_late all d) d.flight.after in
-    let pushed = ap (map finding_of) c.in_ok-append.ensures.items ∙ map-append finding_of c.loop-d.all.items c.in_ok-more.more.items in
+    let pushed = ap (map finding_of) c.in_ok-append.ensures.items
+    ∙ map-append finding_of c.loop-d.all.items c.in_ok-more.more.items in
     ap (λ l. l ++ flat_map each (map landing_of (drop (c.loop-d.d-index + 1) found))) pushed
-    ∙ flat_seen each landing_of found c.loop-d.d-index c.d-item.result (map finding_of c.loop-d.all.items) (map finding_of c.in_ok-more.more.items) (late all)
+    ∙ flat_seen each landing_of found c.loop-d.d-index c.d-item.result (map finding_of c.loop-d.all.items)
+    (map finding_of c.in_ok-more.more.items) (late all)
     c.loop-d-test.true c.d-item.is c.in_ok-more.ensures c.loop-d.invariant
 
 pub returns : goal.returns
 returns c =
     let all = map landing_of c.args.found.now in
     let each = λ (d : Landing). flat_map (listed_late all d) d.flight.after in
-    at_end (map finding_of c.loop-d.all.items) (λ ds. flat_map each (map landing_of ds)) c.args.found.now c.loop-d.d-index _ c.loop-d-test.false refl c.loop-d.invariant
+    at_end (map finding_of c.loop-d.all.items) (λ ds. flat_map each (map landing_of ds)) c.args.found.now
+    c.loop-d.d-index _ c.loop-d-test.false refl c.loop-d.invariant

@@ -8,5 +8,7 @@ use Rattle.audit.proofs.rules.late.Given as goal
 -- what is found so far, and what is left to find
 abbrev pub invariant-loop-d : goal.invariant-loop-d
 invariant-loop-d l =
-    map finding_of l.all.items ++ flat_map (λ (d : Landing). flat_map (listed_late (map landing_of l.found) d) d.flight.after) (map landing_of (drop l.d-index l.found))
+    map finding_of l.all.items
+    ++ flat_map (λ (d : Landing). flat_map (listed_late (map landing_of l.found) d) d.flight.after)
+    (map landing_of (drop l.d-index l.found))
     ≡ late (map landing_of l.found)

@@ -11,12 +11,16 @@ pub loop-i-preserved : goal.loop-i-preserved
 loop-i-preserved c =
     let table = c.args.table.now in
     let found = c.args.found.now in
-    let pushed = ap (map finding_of) c.in_ok-append.ensures.items ∙ map-append finding_of c.loop-i.all.items c.in_ok-more.more.items in
+    let pushed = ap (map finding_of) c.in_ok-append.ensures.items
+    ∙ map-append finding_of c.loop-i.all.items c.in_ok-more.more.items in
     ap (λ l. l ++ unseparated table (map landing_of (drop (c.loop-i.i + 1) found))) pushed
-    ∙ pairs_more (are_apart table) (λ (f g : Landing). Separation f.flight.callsign g.flight.callsign) landing_of found c.loop-i.i c.index-found-i.result
-    (map finding_of c.loop-i.all.items) (map finding_of c.in_ok-more.more.items) (unseparated table (map landing_of found))
+    ∙ pairs_more (are_apart table) (λ (f g : Landing). Separation f.flight.callsign g.flight.callsign)
+    landing_of found c.loop-i.i c.index-found-i.result
+    (map finding_of c.loop-i.all.items) (map finding_of c.in_ok-more.more.items)
+    (unseparated table (map landing_of found))
     c.loop-i-test.true c.index-found-i.is c.in_ok-more.ensures c.loop-i.invariant
 
 pub returns : goal.returns
 returns c =
-    at_end (map finding_of c.loop-i.all.items) (λ ls. unseparated c.args.table.now (map landing_of ls)) c.args.found.now c.loop-i.i _ c.loop-i-test.false refl c.loop-i.invariant
+    at_end (map finding_of c.loop-i.all.items) (λ ls. unseparated c.args.table.now (map landing_of ls))
+    c.args.found.now c.loop-i.i _ c.loop-i-test.false refl c.loop-i.invariant

@@ -13,8 +13,16 @@ use Rattle.audit.proofs.rules.unseparated_from.Goals as goal
 
 pub returns : goal.returns
 returns c =
-    let fails = λ (f : ShownLanding × Active). not (are_apart c.args.table.now (landing_of c.args.first.now) (landing_of f)) in
+    let fails = λ (f : ShownLanding × Active). not
+    (are_apart c.args.table.now (landing_of c.args.first.now) (landing_of f)) in
     let made = λ (f : ShownLanding × Active). code.Separation c.args.first.now.1.flight.callsign f.1.flight.callsign in
-    let chain : IfOk c.collect.result (λ all. all.items ≡ map made (filter fails c.args.others.now)) = items_from_collect _ c.collect.ensures.ran
-    (YieldsList-from_map _ made (YieldsList-at c.map.ensures.source (YieldsList-from_filter _ fails (YieldsList-from_slice c.args.others.now (cc)) c.filter.ensures.closure (λ x b q k. search (rules, tests)))) c.map.ensures.closure (λ x r q k. search (rules, tests))) in
-    IfOk-weaker c.collect.result _ _ (λ all h. ap (map finding_of) h ∙ each_failing landing_of fails made (are_apart c.args.table.now (landing_of c.args.first.now)) (λ (f : Landing). Separation c.args.first.now.1.flight.callsign f.flight.callsign) (λ t. refl) (λ t. refl) c.args.others.now) chain
+    let chain : IfOk c.collect.result (λ all. all.items ≡ map made (filter fails c.args.others.now)) =
+    items_from_collect _ c.collect.ensures.ran
+    (YieldsList-from_map _ made
+    (YieldsList-at c.map.ensures.source
+    (YieldsList-from_filter _ fails (YieldsList-from_slice c.args.others.now (cc)) c.filter.ensures.closure
+    (λ x b q k. search (rules, tests)))) c.map.ensures.closure (λ x r q k. search (rules, tests))) in
+    IfOk-weaker c.collect.result _ _ (λ all h. ap (map finding_of) h
+    ∙ each_failing landing_of fails made (are_apart c.args.table.now (landing_of c.args.first.now))
+    (λ (f : Landing). Separation c.args.first.now.1.flight.callsign f.flight.callsign)
+    (λ t. refl) (λ t. refl) c.args.others.now) chain

@@ -22,5 +22,7 @@ loop-f-preserved c =
     let n = length-map items landed in
     let within : i < length items = c.loop-f-test.true in
     let is : f ≡ get_or all i f = ap landed c.f-item.is ∙ sym (get_or-map landed items i x f within) in
-    ap (λ l. l ++ too_far_from c.args.k all (drop (i + 1) all)) (c.in_ok-note.ensures ∙ ap (λ gs. done ++ too_far c.args.k (seen gs) f) (c.deref.ensures.value ∙ sym c.deref-f-items.ensures.value))
-    ∙ shift_step c.args.k all i f done (too_far c.args.k all f) (shifted c.args.k all) (omega (arith, n, within)) is refl c.loop-f.invariant
+    ap (λ l. l ++ too_far_from c.args.k all (drop (i + 1) all)) (c.in_ok-note.ensures
+    ∙ ap (λ gs. done ++ too_far c.args.k (seen gs) f) (c.deref.ensures.value ∙ sym c.deref-f-items.ensures.value))
+    ∙ shift_step c.args.k all i f done (too_far c.args.k all f) (shifted c.args.k all)
+    (omega (arith, n, within)) is refl c.loop-f.invariant

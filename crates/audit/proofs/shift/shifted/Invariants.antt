@@ -7,5 +7,6 @@ use Rattle.audit.proofs.shift.shifted.Given as goal
 -- what is found so far, and what is left to find
 abbrev pub invariant-loop-f : goal.invariant-loop-f
 invariant-loop-f l =
-    map finding_of l.all.items ++ too_far_from l.k (map (λ g. landing_of g.now) l.f-items) (drop l.f-index (map (λ g. landing_of g.now) l.f-items))
+    map finding_of l.all.items ++ too_far_from l.k (map (λ g. landing_of g.now) l.f-items)
+    (drop l.f-index (map (λ g. landing_of g.now) l.f-items))
     ≡ shifted l.k (map (λ g. landing_of g.now) l.f-items)

@@ -12,6 +12,10 @@ pub returns-clause-value : goal.returns-clause-value
 returns-clause-value c =
     let found = c.args.found.now in
     let test : ShownLanding × Active → Bool = λ f. is_none f.1.frozen in
-    let chain : IfOk c.collect.result (λ all. map (λ (y : Bor (ShownLanding × Active)). y.now) all.items ≡ filter test found) = map_from_collect c.collect.result c.collect.ensures.ran
-    (YieldsList-from_filter _ test (YieldsList-from_slice found (cc)) c.filter.ensures.closure (λ x b q k. search (rules, tests))) in
-    IfOk-weaker c.collect.result _ _ (λ all h. waiting_lines (λ (y : Bor (ShownLanding × Active)). y.now) all.items found h) chain
+    let chain : IfOk c.collect.result
+    (λ all. map (λ (y : Bor (ShownLanding × Active)). y.now) all.items ≡ filter test found) =
+    map_from_collect c.collect.result c.collect.ensures.ran
+    (YieldsList-from_filter _ test (YieldsList-from_slice found (cc)) c.filter.ensures.closure
+    (λ x b q k. search (rules, tests))) in
+    IfOk-weaker c.collect.result _ _
+    (λ all h. waiting_lines (λ (y : Bor (ShownLanding × Active)). y.now) all.items found h) chain

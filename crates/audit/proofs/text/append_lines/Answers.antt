@@ -13,10 +13,12 @@ loop-finding-preserved c =
     let i = c.loop-finding.finding-index in
     let one = c.finding-item.result in
     let rest = findings_text (map finding_of (drop (i + 1) findings)) in
-    let here : drop i findings ≡ one ∷ drop (i + 1) findings = drop_more findings i one c.loop-finding-test.true ∙ ap (λ f. f ∷ drop (i + 1) findings) (sym c.finding-item.is) in
+    let here : drop i findings ≡ one ∷ drop (i + 1) findings = drop_more findings i one c.loop-finding-test.true
+    ∙ ap (λ f. f ∷ drop (i + 1) findings) (sym c.finding-item.is) in
     ap (λ l. l ++ rest) c.in_ok-append_line.ensures
     ∙ append_assoc c.loop-finding.into.items (line (finding_words (finding_of one))) rest
     ∙ ap (λ fs. c.loop-finding.into.items ++ findings_text (map finding_of fs)) (sym here) ∙ c.loop-finding.invariant
 
 pub returns : goal.returns
-returns c = at_end c.loop-finding.into.items (λ fs. findings_text (map finding_of fs)) c.args.findings.now c.loop-finding.finding-index _ c.loop-finding-test.false refl c.loop-finding.invariant
+returns c = at_end c.loop-finding.into.items (λ fs. findings_text (map finding_of fs)) c.args.findings.now
+    c.loop-finding.finding-index _ c.loop-finding-test.false refl c.loop-finding.invariant

@@ -5,4 +5,6 @@ use Rattle.audit.proofs.text.append_lines.Given as goal
 
 -- the lines so far, and those that are left
 abbrev pub invariant-loop-finding : goal.invariant-loop-finding
-invariant-loop-finding l = l.into.items ++ findings_text (map finding_of (drop l.finding-index l.findings)) ≡ l.initial.into.items ++ findings_text (map finding_of l.findings)
+invariant-loop-finding l = l.into.items
+    ++ findings_text (map finding_of (drop l.finding-index l.findings)) ≡ l.initial.into.items
+    ++ findings_text (map finding_of l.findings)

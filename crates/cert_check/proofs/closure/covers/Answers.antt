@@ -18,7 +18,12 @@ returns-in-Err c =
     let i = c.in-Err.field-0 in
     let found = rw c.in-Err.is at c.find.ensures.found in
     let split = found (non_decreasing node_of pairs_of w ss (in_node_order ss c.requires)) in
-    sym (none_covers node_of pairs_of w c.args.pair ss (λ k d lt. elim (cases_lt k i) [ inl below ↦ ap is_eq (split.0 k d (omega arith) below) | inr above ↦ ap is_eq (split.1 k d above lt) ]))
+    sym (none_covers node_of pairs_of w c.args.pair ss
+    (λ k d lt. elim (cases_lt k i) [
+      | inl below ↦ ap is_eq (split.0 k d (omega arith) below)
+      | inr above ↦
+          ap is_eq (split.1 k d above lt)
+    ]))
 
 pub returns-in-Ok : goal.returns-in-Ok
 returns-in-Ok c =
@@ -29,4 +34,5 @@ returns-in-Ok c =
     let found = rw c.in-Ok.is at c.find.ensures.found in
     let within : c.in-Ok.at < length ss = rw c.in-Ok.is at c.find.ensures.bound in
     let has : List Pair → Bool = λ ps. list_any (λ o. no_worse o q) ps in
-    c.has_no_worse.ensures ∙ ap has c.pairs.ensures.value ∙ ap (λ (t : State). has t.pairs) c.index-states-at.is ∙ sym (found_covers node_of pairs_of w q ss (in_node_order ss c.requires) c.in-Ok.at s within (found s))
+    c.has_no_worse.ensures ∙ ap has c.pairs.ensures.value ∙ ap (λ (t : State). has t.pairs) c.index-states-at.is
+    ∙ sym (found_covers node_of pairs_of w q ss (in_node_order ss c.requires) c.in-Ok.at s within (found s))

@@ -8,4 +8,6 @@ use Rattle.cert_check.specs.States.{node_of}
 use Rattle.cert_check.proofs.closure.find.Goals as goal
 
 pub returns-clause-found : goal.returns-clause-found
-returns-clause-found c = c.binary_search_by.ensures.position (λ (s : State). node_cmp (node_of s) (seen c.args.node.now)) (always_returns_same _ _ _ (λ a r f' called. search rules))
+returns-clause-found c = c.binary_search_by.ensures.position
+    (λ (s : State). node_cmp (node_of s) (seen c.args.node.now))
+    (always_returns_same _ _ _ (λ a r f' called. search rules))

@@ -4,7 +4,11 @@ use Rattle.cert_check.proofs.Accepted.{judged_optimal, judged_infeasible}
 use Rattle.cert_check.proofs.judging.judge.Goals as goal
 
 pub returns-clause-optimal : goal.returns-clause-optimal
-returns-clause-optimal c = λ v e. judged_optimal c.args.problem.now c.args.certificate.now c.head-head.ensures.well_formed v (sym c.decide.ensures ∙ e)
+returns-clause-optimal c =
+    λ v e. judged_optimal c.args.problem.now c.args.certificate.now c.head-head.ensures.well_formed v
+    (sym c.decide.ensures ∙ e)
 
 pub returns-clause-infeasible : goal.returns-clause-infeasible
-returns-clause-infeasible c = λ e. judged_infeasible c.args.problem.now c.args.certificate.now c.head-head.ensures.well_formed (sym c.decide.ensures ∙ e)
+returns-clause-infeasible c =
+    λ e. judged_infeasible c.args.problem.now c.args.certificate.now c.head-head.ensures.well_formed
+    (sym c.decide.ensures ∙ e)

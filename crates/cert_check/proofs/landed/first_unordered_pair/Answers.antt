@@ -4,4 +4,5 @@ use Rattle.cert_check.proofs.FoundRanks.{pair_in_range}
 use Rattle.cert_check.proofs.landed.first_unordered_pair.Goals as goal
 
 pub returns : goal.returns
-returns c = pair_in_range (first_out_of_order c.args.problem.now c.args.landings.now) (count c.args.problem.now) _ _ _ (omega arith) c.find_map.ensures.runs (λ x b q k. search (rules, tests))
+returns c = pair_in_range (first_out_of_order c.args.problem.now c.args.landings.now) (count c.args.problem.now) _ _ _
+    (omega arith) c.find_map.ensures.runs (λ x b q k. search (rules, tests))

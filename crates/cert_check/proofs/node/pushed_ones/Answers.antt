@@ -27,11 +27,13 @@ returns c =
     let from = suc (suc c.args.node.now.stage) in
     let test = pushed_digit k (seen c.args.node.now) c.args.rank in
     let all : from + (2 * k - 2 * k) ≡ from = omega arith in
-    kept_by_fold_of_range _ 0 (2 * k) (λ i ones. bits i ones ≡ tests_from test (from + (2 * k - i)) i) (omega arith) (search (rules, tests)) c.fold.ensures.ran
+    kept_by_fold_of_range _ 0 (2 * k) (λ i ones. bits i ones ≡ tests_from test (from + (2 * k - i)) i)
+    (omega arith) (search (rules, tests)) c.fold.ensures.ran
     refl
     (λ i ones made q above below held called.
     let y = from + (2 * k - (i + 1)) in
-    let (b, is, told) : (b : Bool) × (made ≡ 2 * ones + from_bool b) × (b ≡ test (suc c.args.node.now.stage + (2 * k - i))) = search (rules, tests) in
+    let (b, is, told) : (b : Bool) × (made ≡ 2 * ones + from_bool b)
+    × (b ≡ test (suc c.args.node.now.stage + (2 * k - i))) = search (rules, tests) in
     let at : suc c.args.node.now.stage + (2 * k - i) ≡ y = omega (arith, below) in
     let more = more_digits test i y (from + (2 * k - i)) ones b held (omega (arith, below)) (told ∙ ap test at) in
     (search (rules, tests), ap (bits (i + 1)) (is ∙ ap (λ n. 2 * ones + n) (byte b)) ∙ more))

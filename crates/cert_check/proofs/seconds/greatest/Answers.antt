@@ -12,4 +12,6 @@ returns c =
     let n = count c.args.problem.now in
     let at = second c.args.problem.now c.args.landings.now in
     let step = λ (m r : ℕ). max (at r) m in
-    fold_from_yields_List _ step 0 _ c.fold.ensures.ran (YieldsList-from_range 1 _ n refl (omega (arith, c.len.ensures.value))) (λ a x b q k. search (rules, tests)) ∙ ranks_folded step (greatest at) (λ n. refl) n
+    fold_from_yields_List _ step 0 _ c.fold.ensures.ran
+    (YieldsList-from_range 1 _ n refl (omega (arith, c.len.ensures.value))) (λ a x b q k. search (rules, tests))
+    ∙ ranks_folded step (greatest at) (λ n. refl) n

@@ -7,13 +7,17 @@ use Rattle.certificate.specs.Reading.{AreLandings}
 use Rattle.cert_check.specs.Landings.{Landings, second_of}
 use Rattle.cert_check.proofs.seconds.second_of.Goals as goal
 
-looked_up : (name : List ℕ) (ls : Landings) → AreLandings ls → (unwrap_or (option_map (λ l. l.1) (find (λ l. bytes_eq l.0 name) ls)) 0 ≡ second_of ls name) × (second_of ls name ≤ 172799)
+looked_up : (name : List ℕ) (ls : Landings) → AreLandings ls
+    → (unwrap_or (option_map (λ l. l.1) (find (λ l. bytes_eq l.0 name) ls)) 0 ≡ second_of ls name)
+    × (second_of ls name ≤ 172799)
 looked_up name [] good = (refl, omega arith)
 looked_up name (l ∷ ls) good = let rest = looked_up name ls good.2 in grind arith
 
 pub returns : goal.returns
 returns c =
-    let found = find_from_yields_List (λ (l : List ℕ × ℕ). bytes_eq l.0 c.args.name) _ _ c.find.result c.find.ensures.ran (YieldsList-from_slice c.args.landings.now (cc)) (λ x b q k. search (rules, tests)) in
+    let found = find_from_yields_List (λ (l : List ℕ × ℕ). bytes_eq l.0 c.args.name) _ _ c.find.result
+    c.find.ensures.ran (YieldsList-from_slice c.args.landings.now (cc)) (λ x b q k. search (rules, tests)) in
     let is = looked_up c.args.name c.args.landings.now c.requires in
-    let same : c.map_or.result ≡ second_of c.args.landings.now c.args.name = search (rules) ∙ ap (λ o. unwrap_or (option_map (λ (l : List ℕ × ℕ). l.1) o) 0) found ∙ is.0 in
+    let same : c.map_or.result ≡ second_of c.args.landings.now c.args.name =
+    search (rules) ∙ ap (λ o. unwrap_or (option_map (λ (l : List ℕ × ℕ). l.1) o) 0) found ∙ is.0 in
     record { value = same; small = omega (arith, is.1) }

@@ -10,4 +10,6 @@ pub returns : goal.returns
 returns c =
     let p = c.args.problem.now in
     let ls = c.args.landings.now in
-    c.objective_of.ensures ∙ ap₂ (λ (a b : ℕ). value_at p (a, b)) c.greatest-last.ensures c.total_cost-costs.ensures.value ∙ sym (list_value p (seconds p ls) (length-map p.flights (λ f. second_of ls f.callsign)))
+    c.objective_of.ensures ∙ ap₂ (λ (a b : ℕ). value_at p (a, b)) c.greatest-last.ensures
+    c.total_cost-costs.ensures.value
+    ∙ sym (list_value p (seconds p ls) (length-map p.flights (λ f. second_of ls f.callsign)))

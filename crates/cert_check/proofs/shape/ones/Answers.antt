@@ -8,4 +8,6 @@ use Rattle.cert_check.proofs.shape.ones.Goals as goal
 pub returns : goal.returns
 returns c =
     let digits = c.args.pattern.now in
-    count_from_yields_List c.filter.result _ c.count.ensures.ran (YieldsList-from_filter _ is_one (YieldsList-from_slice digits (cc)) c.filter.ensures.closure (λ x b q k. search (rules, tests))) ∙ length-filter is_one digits
+    count_from_yields_List c.filter.result _ c.count.ensures.ran
+    (YieldsList-from_filter _ is_one (YieldsList-from_slice digits (cc)) c.filter.ensures.closure
+    (λ x b q k. search (rules, tests))) ∙ length-filter is_one digits

@@ -15,8 +15,11 @@ returns-in_ok-landings-in-Some-clause-answered c =
     let a = c.in_ok-landings-in-Some.ensures.listed in
     subst (λ (ls : Landings). IsShownOptimal p ls c.value_of-value.result) (sym a.listed)
     (subst (λ (v : ℕ). IsShownOptimal p (landings_in p t a.order) v) (sym c.value_of-value.ensures)
-    (c.best_lists_are_shown.ensures p t a.order c.head-well_formed.ensures.well_formed best a.whole.whole a.whole.ranks a.whole.distinct))
+    (c.best_lists_are_shown.ensures p t a.order c.head-well_formed.ensures.well_formed best
+    a.whole.whole a.whole.ranks a.whole.distinct))
 
 pub returns-in_ok-landings-in-Some-clause-claim : goal.returns-in_ok-landings-in-Some-clause-claim
 returns-in_ok-landings-in-Some-clause-claim c =
-    subst (λ (v : ℕ). v ≤ greatest_value) (sym c.value_of-value.ensures) (objective_low c.args.problem.now c.in-Some.schedule.now c.head-well_formed.ensures.well_formed c.seconds_are_in_days.ensures)
+    subst (λ (v : ℕ). v ≤ greatest_value) (sym c.value_of-value.ensures)
+    (objective_low c.args.problem.now c.in-Some.schedule.now c.head-well_formed.ensures.well_formed
+    c.seconds_are_in_days.ensures)

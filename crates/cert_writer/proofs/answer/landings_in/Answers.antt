@@ -15,6 +15,10 @@ loop-rank-preserved c =
     let most = rank.1 in
     let after = c.in_ok-push.ensures.items in
     let low = c.requires.seconds (r - 1) 0 (omega (arith, one, most, c.requires.room)) in (
-      listed_more p t c.args.order.now c.loop-rank.rank-index c.loop-rank.landings.items c.push.new.self.items r (waiting_of c.flight.result.now) c.second.result c.loop-rank-test.true refl one c.flight.ensures c.second.ensures c.loop-rank.invariant.0 after,
-      subst AreLandings (sym after) (landings_more c.loop-rank.landings.items (c.flight.result.now.callsign, c.second.result) c.loop-rank.invariant.1 c.bytes-known.ensures.callsign (omega (arith, low, c.second.ensures))),
+      listed_more p t c.args.order.now c.loop-rank.rank-index c.loop-rank.landings.items c.push.new.self.items r
+          (waiting_of c.flight.result.now) c.second.result c.loop-rank-test.true refl one c.flight.ensures
+          c.second.ensures c.loop-rank.invariant.0 after,
+      subst AreLandings (sym after) (landings_more c.loop-rank.landings.items
+          (c.flight.result.now.callsign, c.second.result) c.loop-rank.invariant.1 c.bytes-known.ensures.callsign
+          (omega (arith, low, c.second.ensures))),
     )

@@ -15,7 +15,8 @@ pub node-requires-clause-place : goal.node-requires-clause-place
 node-requires-clause-place c =
     let n = c.args.windows.now in
     let long = ap (λ (xs : List ℕ). length xs) c.firsts-firsts.ensures in
-    let same : told_at c.firsts-firsts.result.now c.loop-j.j ≡ told_at n.firsts c.loop-j.j = ap (λ (xs : List ℕ). told_at xs c.loop-j.j) c.firsts-firsts.ensures in
+    let same : told_at c.firsts-firsts.result.now c.loop-j.j ≡ told_at n.firsts c.loop-j.j =
+    ap (λ (xs : List ℕ). told_at xs c.loop-j.j) c.firsts-firsts.ensures in
     let lt = c.requires.windows.together.first c.loop-j.j (omega (arith, c.loop-j-test.true, long)) in
     omega (arith, same, lt)
 
@@ -27,10 +28,13 @@ slot_of-slot-requires-clause-last c =
     let s = stage_in (held_of c.args.kept.now) stage in
     let are = c.stages-held.ensures.held p c.requires.held in
     let long = ap (λ (xs : List ℕ). length xs) c.firsts-firsts.ensures in
-    let same : told_at c.firsts-firsts.result.now c.loop-j.j ≡ told_at n.firsts c.loop-j.j = ap (λ (xs : List ℕ). told_at xs c.loop-j.j) c.firsts-firsts.ensures in
+    let same : told_at c.firsts-firsts.result.now c.loop-j.j ≡ told_at n.firsts c.loop-j.j =
+    ap (λ (xs : List ℕ). told_at xs c.loop-j.j) c.firsts-firsts.ensures in
     let first = c.requires.windows.together.first c.loop-j.j (omega (arith, c.loop-j-test.true, long)) in
     let lt : told_at c.firsts-firsts.result.now c.loop-j.j < length s.1 = omega (arith, same, first) in
-    node_near p c.requires.laws.placed s (lists_in (held_of c.args.kept.now) stage) (are.pairs stage c.requires.stage.1) stage (are.number stage c.requires.stage.1) c.requires.stage.0 (told_at c.firsts-firsts.result.now c.loop-j.j) c.most_shift-k.result c.node.result.placed c.node.result.last lt
+    node_near p c.requires.laws.placed s (lists_in (held_of c.args.kept.now) stage)
+    (are.pairs stage c.requires.stage.1) stage (are.number stage c.requires.stage.1) c.requires.stage.0
+    (told_at c.firsts-firsts.result.now c.loop-j.j) c.most_shift-k.result c.node.result.placed c.node.result.last lt
     c.most_shift-k.ensures.k c.node.ensures.placed c.node.ensures.last
 
 pub loop-j-preserved : goal.loop-j-preserved
@@ -42,9 +46,12 @@ loop-j-preserved c =
     let j = c.loop-j.j in
     let node = c.node.result in
     let slot = c.slot_of-slot.result in
-    let same : told_at c.firsts-firsts.result.now j ≡ told_at n.firsts j = ap (λ (xs : List ℕ). told_at xs j) c.firsts-firsts.ensures in
-    let last : node.last ≡ latest (stage, node_at list (told_at n.firsts j)) = c.node.ensures.last ∙ ap (λ (i : ℕ). latest (stage, node_at list i)) same in
-    let here = subst (λ (k : ℕ). HasSlot k (stage, digits_of k stage node.placed, node.last) slot) c.most_shift-k.ensures.k c.slot_of-slot.ensures in
+    let same : told_at c.firsts-firsts.result.now j ≡ told_at n.firsts j =
+    ap (λ (xs : List ℕ). told_at xs j) c.firsts-firsts.ensures in
+    let last : node.last ≡ latest (stage, node_at list (told_at n.firsts j)) =
+    c.node.ensures.last ∙ ap (λ (i : ℕ). latest (stage, node_at list i)) same in
+    let here = subst (λ (k : ℕ). HasSlot k (stage, digits_of k stage node.placed, node.last) slot)
+    c.most_shift-k.ensures.k c.slot_of-slot.ensures in
     let more = one_slot_more p.k stage list n.firsts j c.loop-j.slots.items slot c.loop-j.invariant (record {
       placed = node.placed;
       told = subst (λ (i : ℕ). TellsPlaced (node_at list i) stage node.placed) same c.node.ensures.placed;
@@ -57,4 +64,5 @@ returns c =
     let n = c.args.windows.now in
     let long = ap (λ (xs : List ℕ). length xs) c.firsts-firsts.ensures in
     let end : c.loop-j.j ≡ length n.firsts = omega (arith, c.loop-j-test.false, c.loop-j.auto.j-end, long) in
-    subst (λ (m : ℕ). HaveSlots c.args.problem.now.k c.args.stage (stage_in (held_of c.args.kept.now) c.args.stage).1 n.firsts m c.loop-j.slots.items) end c.loop-j.invariant
+    subst (λ (m : ℕ). HaveSlots c.args.problem.now.k c.args.stage
+    (stage_in (held_of c.args.kept.now) c.args.stage).1 n.firsts m c.loop-j.slots.items) end c.loop-j.invariant

@@ -1,4 +1,5 @@
-use Rattle.std.proofs.Common.{◌≡◌, ℕ, ◌+◌, ◌-◌, ◌*◌, ◌/◌, ◌%◌, ◌<◌, ◌≤◌, ◌^◌, List, [], ◌∷◌, ◌++◌, length, get_or, Option, arith, ap, ap₂, subst, sym, ◌∙◌}
+use Rattle.std.proofs.Common.{◌≡◌, ℕ, ◌+◌, ◌-◌, ◌*◌, ◌/◌, ◌%◌, ◌<◌, ◌≤◌, ◌^◌, List, [], ◌∷◌, ◌++◌, length, get_or}
+use Rattle.std.proofs.Common.{Option, arith, ap, ap₂, subst, sym, ◌∙◌}
 use Rattle.std.specs.Prelude.{All, Bool}
 use Rattle.std.proofs.lemmas.Bool.Decides.{nat_tests}
 use Rattle.landing_rules.specs.Problem.{Problem}
@@ -12,11 +13,13 @@ use Rattle.replan.specs.Readers.{stage_in, lists_in}
 use Rattle.cert_writer.specs.Gathered.{HasBetter, HasOnly, IsPairInRange}
 use Rattle.certificate.specs.Patterns.{number_of}
 use Rattle.cert_writer.specs.Written.{AreWrittenBelow, IsGathered}
-use Rattle.cert_writer.proofs.WriteLemmas.{AreBestAt, stage_held, slot_within, slot_is, found_in, covers_in, none_best, last_known, written_in_form, written_more}
+use Rattle.cert_writer.proofs.WriteLemmas.{AreBestAt, stage_held, slot_within, slot_is, found_in, covers_in, none_best}
+use Rattle.cert_writer.proofs.WriteLemmas.{last_known, written_in_form, written_more}
 use Rattle.cert_writer.proofs.states.add_state.Goals as goal
 
 -- what is read at the slot of a number
-best_at : (p : Problem) (held : Option HeldProblem) (stage number k ones : ℕ) (slots : List (List Pair)) (now best : List Pair) → k ≡ p.k
+best_at : (p : Problem) (held : Option HeldProblem) (stage number k ones : ℕ) (slots : List (List Pair))
+    (now best : List Pair) → k ≡ p.k
     → number_of (bits (2 * k) ones) ≡ number / 8 → ones < 2 ^ (2 * k) → IsGathered p held stage slots
     → now ≡ get_or slots (ones * 8 + number % 8) now
     → HasOnly best (λ q. InPairs q now) → HasBetter best (λ q. InPairs q now)
@@ -38,7 +41,13 @@ made : (k same stage number ones : ℕ) (pattern : List Bool) (best : List Pair)
     → ◌≡◌ {A = State} (record { stage = stage; pattern = pattern; last = stage + number % 8 - k; pairs = best })
     (record { stage = stage; pattern = bits (2 * same) ones; last = stage + number % 8 - same; pairs = best })
 made k same stage number ones pattern best is bits_are =
-    ap₂ (λ (ds : List Bool) (m : ℕ). record { stage = stage; pattern = ds; last = stage + number % 8 - m; pairs = best }) (bits_are ∙ ap (λ (m : ℕ). bits (2 * m) ones) is) is
+    ap₂ (λ (ds : List Bool) (m : ℕ). record {
+      stage = stage;
+      pattern = ds;
+      last = stage + number % 8 - m;
+      pairs =
+          best;
+    }) (bits_are ∙ ap (λ (m : ℕ). bits (2 * m) ones) is) is
 
 pub best-requires : goal.best-requires
 best-requires c =
@@ -48,30 +57,39 @@ best-requires c =
     let slot = ones * 8 + c.args.number % 8 in
     let low = subst (λ (m : ℕ). ones < 2 ^ (2 * m)) c.most_shift-k.ensures.k c.turned-ones.ensures.below in
     let within = slot_within p.k c.args.number ones (length slots) low c.requires.gathered.room in
-    subst (λ (l : List Pair). All IsPairInRange l) (sym (slot_is slots slot within c.index.result.now c.index.ensures)) (c.requires.gathered.in_range slot)
+    subst (λ (l : List Pair). All IsPairInRange l) (sym (slot_is slots slot within c.index.result.now c.index.ensures))
+    (c.requires.gathered.in_range slot)
 
 pub returns-then-is_empty : goal.returns-then-is_empty
 returns-then-is_empty c =
     let p = c.args.problem.now in
     let held = held_of c.args.kept.now in
-    let stage = stage_held p held c.args.stage c.most_shift-k.ensures.well_formed (c.stages-held.ensures.held p c.requires.held) c.requires.stage in
+    let stage = stage_held p held c.args.stage c.most_shift-k.ensures.well_formed
+    (c.stages-held.ensures.held p c.requires.held) c.requires.stage in
     let best = c.in_ok-pairs.pairs.items in
-    let are = best_at p held c.args.stage c.args.number c.most_shift-k.result c.turned-ones.result c.args.slots.now.items c.index.result.now best c.most_shift-k.ensures.k
-    c.turned-ones.ensures.digits c.turned-ones.ensures.below c.requires.gathered c.index.ensures c.in_ok-pairs.ensures.found c.in_ok-pairs.ensures.covers in
+    let are = best_at p held c.args.stage c.args.number c.most_shift-k.result c.turned-ones.result
+    c.args.slots.now.items c.index.result.now best c.most_shift-k.ensures.k
+    c.turned-ones.ensures.digits c.turned-ones.ensures.below c.requires.gathered c.index.ensures
+    c.in_ok-pairs.ensures.found c.in_ok-pairs.ensures.covers in
     let none : length c.as_slice.result.now ≡ 0 = grind (arith, nat_tests, c.if-is_empty.ensures) in
-    none_best p (stage_in held) (lists_in held) c.args.stage stage c.args.number c.turned-ones.result c.args.slots.now.items best are c.args.states.now.items c.requires.written
+    none_best p (stage_in held) (lists_in held) c.args.stage stage c.args.number c.turned-ones.result
+    c.args.slots.now.items best are c.args.states.now.items c.requires.written
     (subst (λ (l : List Pair). length l ≡ 0) c.as_slice.ensures.value none)
 
 pub overflow_sub-stage : goal.overflow_sub-stage
 overflow_sub-stage c =
     let p = c.args.problem.now in
     let held = held_of c.args.kept.now in
-    let stage = stage_held p held c.args.stage c.most_shift-k.ensures.well_formed (c.stages-held.ensures.held p c.requires.held) c.requires.stage in
+    let stage = stage_held p held c.args.stage c.most_shift-k.ensures.well_formed
+    (c.stages-held.ensures.held p c.requires.held) c.requires.stage in
     let best = c.in_ok-pairs.pairs.items in
-    let are = best_at p held c.args.stage c.args.number c.most_shift-k.result c.turned-ones.result c.args.slots.now.items c.index.result.now best c.most_shift-k.ensures.k
-    c.turned-ones.ensures.digits c.turned-ones.ensures.below c.requires.gathered c.index.ensures c.in_ok-pairs.ensures.found c.in_ok-pairs.ensures.covers in
+    let are = best_at p held c.args.stage c.args.number c.most_shift-k.result c.turned-ones.result
+    c.args.slots.now.items c.index.result.now best c.most_shift-k.ensures.k
+    c.turned-ones.ensures.digits c.turned-ones.ensures.below c.requires.gathered c.index.ensures
+    c.in_ok-pairs.ensures.found c.in_ok-pairs.ensures.covers in
     let some : 1 ≤ length c.as_slice.result.now = grind (arith, nat_tests, c.if-is_empty.ensures) in
-    let known = last_known p (stage_in held) (lists_in held) c.args.stage stage c.args.number c.turned-ones.result c.args.slots.now.items best are
+    let known = last_known p (stage_in held) (lists_in held) c.args.stage stage c.args.number
+    c.turned-ones.result c.args.slots.now.items best are
     (subst (λ (l : List Pair). 1 ≤ length l) c.as_slice.ensures.value some) in
     omega (arith, known, c.most_shift-k.ensures.k)
 
@@ -79,26 +97,39 @@ pub new-requires : goal.new-requires
 new-requires c =
     let p = c.args.problem.now in
     let held = held_of c.args.kept.now in
-    let stage = stage_held p held c.args.stage c.most_shift-k.ensures.well_formed (c.stages-held.ensures.held p c.requires.held) c.requires.stage in
+    let stage = stage_held p held c.args.stage c.most_shift-k.ensures.well_formed
+    (c.stages-held.ensures.held p c.requires.held) c.requires.stage in
     let best = c.in_ok-pairs.pairs.items in
-    let are = best_at p held c.args.stage c.args.number c.most_shift-k.result c.turned-ones.result c.args.slots.now.items c.index.result.now best c.most_shift-k.ensures.k
-    c.turned-ones.ensures.digits c.turned-ones.ensures.below c.requires.gathered c.index.ensures c.in_ok-pairs.ensures.found c.in_ok-pairs.ensures.covers in
+    let are = best_at p held c.args.stage c.args.number c.most_shift-k.result c.turned-ones.result
+    c.args.slots.now.items c.index.result.now best c.most_shift-k.ensures.k
+    c.turned-ones.ensures.digits c.turned-ones.ensures.below c.requires.gathered c.index.ensures
+    c.in_ok-pairs.ensures.found c.in_ok-pairs.ensures.covers in
     let some : 1 ≤ length c.as_slice.result.now = grind (arith, nat_tests, c.if-is_empty.ensures) in
-    let form = written_in_form p (stage_in held) (lists_in held) c.args.stage stage c.args.number c.turned-ones.result c.args.slots.now.items best are
-    (subst (λ (l : List Pair). 1 ≤ length l) c.as_slice.ensures.value some) c.in_ok-pairs.ensures.rising c.in_ok-pairs.ensures.in_range in
-    subst IsState (sym (made c.most_shift-k.result p.k c.args.stage c.args.number c.turned-ones.result _ best c.most_shift-k.ensures.k c.new-pattern.ensures)) form
+    let form = written_in_form p (stage_in held) (lists_in held) c.args.stage stage c.args.number
+    c.turned-ones.result c.args.slots.now.items best are
+    (subst (λ (l : List Pair). 1 ≤ length l) c.as_slice.ensures.value some) c.in_ok-pairs.ensures.rising
+    c.in_ok-pairs.ensures.in_range in
+    subst IsState (sym (made c.most_shift-k.result p.k c.args.stage c.args.number c.turned-ones.result
+    _ best c.most_shift-k.ensures.k c.new-pattern.ensures)) form
 
 pub returns : goal.returns
 returns c =
     let p = c.args.problem.now in
     let held = held_of c.args.kept.now in
-    let stage = stage_held p held c.args.stage c.most_shift-k.ensures.well_formed (c.stages-held.ensures.held p c.requires.held) c.requires.stage in
+    let stage = stage_held p held c.args.stage c.most_shift-k.ensures.well_formed
+    (c.stages-held.ensures.held p c.requires.held) c.requires.stage in
     let best = c.in_ok-pairs.pairs.items in
-    let are = best_at p held c.args.stage c.args.number c.most_shift-k.result c.turned-ones.result c.args.slots.now.items c.index.result.now best c.most_shift-k.ensures.k
-    c.turned-ones.ensures.digits c.turned-ones.ensures.below c.requires.gathered c.index.ensures c.in_ok-pairs.ensures.found c.in_ok-pairs.ensures.covers in
+    let are = best_at p held c.args.stage c.args.number c.most_shift-k.result c.turned-ones.result
+    c.args.slots.now.items c.index.result.now best c.most_shift-k.ensures.k
+    c.turned-ones.ensures.digits c.turned-ones.ensures.below c.requires.gathered c.index.ensures
+    c.in_ok-pairs.ensures.found c.in_ok-pairs.ensures.covers in
     let some : 1 ≤ length c.as_slice.result.now = grind (arith, nat_tests, c.if-is_empty.ensures) in
-    let more = written_more p (stage_in held) (lists_in held) c.args.stage stage c.args.number c.turned-ones.result c.args.slots.now.items best are
-    (subst (λ (l : List Pair). 1 ≤ length l) c.as_slice.ensures.value some) c.args.states.now.items c.requires.written c.in_ok-pairs.ensures.rising c.in_ok-pairs.ensures.in_range in
-    let same = c.new.ensures ∙ made c.most_shift-k.result p.k c.args.stage c.args.number c.turned-ones.result _ best c.most_shift-k.ensures.k c.new-pattern.ensures in
+    let more = written_more p (stage_in held) (lists_in held) c.args.stage stage c.args.number
+    c.turned-ones.result c.args.slots.now.items best are
+    (subst (λ (l : List Pair). 1 ≤ length l) c.as_slice.ensures.value some) c.args.states.now.items
+    c.requires.written c.in_ok-pairs.ensures.rising c.in_ok-pairs.ensures.in_range in
+    let same = c.new.ensures ∙ made c.most_shift-k.result p.k c.args.stage c.args.number c.turned-ones.result
+    _ best c.most_shift-k.ensures.k c.new-pattern.ensures in
     let all = c.in_ok-push.ensures.items ∙ ap (λ (s : State). c.args.states.now.items ++ s ∷ []) same in
-    subst (λ (ss : List State). AreWrittenBelow p.k (IsEntryOf p (stage_in held) (lists_in held)) c.args.stage (c.args.number + 1) ss) (sym all) more
+    subst (λ (ss : List State). AreWrittenBelow p.k (IsEntryOf p (stage_in held) (lists_in held)) c.args.stage
+    (c.args.number + 1) ss) (sym all) more

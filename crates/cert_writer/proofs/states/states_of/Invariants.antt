@@ -6,4 +6,6 @@ use Rattle.cert_writer.specs.Written.{AreWrittenBelow}
 use Rattle.cert_writer.proofs.states.states_of.Given as goal
 
 abbrev pub invariant-loop-stage : goal.invariant-loop-stage
-invariant-loop-stage l = AreWrittenBelow l.problem.k (IsEntryOf l.problem (stage_in (held_of l.kept)) (lists_in (held_of l.kept))) l.stage 0 l.states.items × AreNodesOfSome (held_of l.kept) l.windows
+invariant-loop-stage l = AreWrittenBelow l.problem.k
+    (IsEntryOf l.problem (stage_in (held_of l.kept)) (lists_in (held_of l.kept))) l.stage 0 l.states.items
+    × AreNodesOfSome (held_of l.kept) l.windows

@@ -14,8 +14,10 @@ returns g c = record {
     problem = c.in_ok-problem.problem;
     problem_of = c.in_ok-problem.ensures.problem;
     verdict_is = sym c.in_ok-certificate.ensures.accepted;
-    true_of = claim_true (opened c.args.aerodrome.now c.args.flights.now) c.in_ok-problem.problem c.in_ok-certificate.certificate.landings c.in_ok-certificate.certificate.claim
-        c.problem_stands_for_situation.ensures.best c.problem_stands_for_situation.ensures.objectives c.problem_stands_for_situation.ensures.none
+    true_of = claim_true (opened c.args.aerodrome.now c.args.flights.now) c.in_ok-problem.problem
+        c.in_ok-certificate.certificate.landings c.in_ok-certificate.certificate.claim
+        c.problem_stands_for_situation.ensures.best c.problem_stands_for_situation.ensures.objectives
+        c.problem_stands_for_situation.ensures.none
         c.in_ok-problem.ensures.sound c.in_ok-problem.ensures.problem c.in_ok-certificate.ensures.whole.answer;
     sound = c.in_ok-problem.ensures.sound;
     well_formed = c.head-well_formed.ensures.well_formed;
@@ -24,11 +26,13 @@ returns g c = record {
   whole = c.in_ok-certificate.ensures.whole;
   answer = c.in_ok-schedule.schedule;
   best = c.in_ok-schedule.ensures.answer;
-  shows = subst (λ (o : Option Schedule). ShowsAnswer c.in_ok-problem.problem o c.in_ok-certificate.certificate.claim c.in_ok-certificate.certificate.landings)
+  shows = subst (λ (o : Option Schedule). ShowsAnswer c.in_ok-problem.problem o c.in_ok-certificate.certificate.claim
+      c.in_ok-certificate.certificate.landings)
       c.as_ref.ensures.value c.in_ok-certificate.ensures.shows;
 }
 
 pub returns-in_err-problem : goal.returns-in_err-problem
 returns-in_err-problem g c =
     let p = err_from_is_err_and c.from_residual.result c.from_residual.ensures.1 in
-    rw p.1 (stops_opened c.args.aerodrome.now c.args.flights.now c.in_err-problem.field-0.0 p.0 c.in_err-problem.ensures.refused p.2)
+    rw p.1 (stops_opened c.args.aerodrome.now c.args.flights.now c.in_err-problem.field-0.0
+    p.0 c.in_err-problem.ensures.refused p.2)

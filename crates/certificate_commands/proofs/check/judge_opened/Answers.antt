@@ -10,8 +10,10 @@ returns c = record {
   problem = c.in_ok-problem.problem;
   problem_of = c.in_ok-problem.ensures.problem;
   verdict_is = c.judge.ensures.exact;
-  true_of = true_of (opened c.args.aerodrome.now c.args.flights.now) c.in_ok-problem.problem c.args.certificate.now.landings c.judge.result
-      c.problem_stands_for_situation.ensures.best c.problem_stands_for_situation.ensures.objectives c.problem_stands_for_situation.ensures.none
+  true_of = true_of (opened c.args.aerodrome.now c.args.flights.now) c.in_ok-problem.problem
+      c.args.certificate.now.landings c.judge.result
+      c.problem_stands_for_situation.ensures.best c.problem_stands_for_situation.ensures.objectives
+      c.problem_stands_for_situation.ensures.none
       c.in_ok-problem.ensures.sound c.in_ok-problem.ensures.problem c.judge.ensures.optimal c.judge.ensures.infeasible;
   sound = c.in_ok-problem.ensures.sound;
   well_formed = c.head-well_formed.ensures.well_formed;
@@ -21,4 +23,5 @@ returns c = record {
 pub returns-in_err-problem : goal.returns-in_err-problem
 returns-in_err-problem c =
     let p = err_from_is_err_and c.from_residual.result c.from_residual.ensures.1 in
-    rw p.1 (stops_opened c.args.aerodrome.now c.args.flights.now c.in_err-problem.field-0.0 p.0 c.in_err-problem.ensures.refused p.2)
+    rw p.1 (stops_opened c.args.aerodrome.now c.args.flights.now c.in_err-problem.field-0.0
+    p.0 c.in_err-problem.ensures.refused p.2)

@@ -4,4 +4,9 @@ use Rattle.certificate_commands.proofs.laws.certificate_texts_are_bounded.Goals 
 pub returns : goal.returns
 returns c =
     let laws = c.whole_certificates_are_bounded.ensures in
-    record { certify = certify_short laws.bounded; check = check_short; loadable = certify_loadable laws.bounded laws.loadable }
+    record {
+      certify = certify_short laws.bounded;
+      check = check_short;
+      loadable =
+          certify_loadable laws.bounded laws.loadable;
+    }

@@ -5,4 +5,5 @@ use Rattle.chart.specs.Frames.{with_window}
 use Rattle.chart.proofs.frame.with_windows.Goals as goal
 
 pub returns : goal.returns
-returns c = fold_from_yields_List _ with_window c.args.frame _ c.fold.ensures.ran (YieldsList-from_slice c.args.windows.now (search (rules))) (λ f x r q k. search rules)
+returns c = fold_from_yields_List _ with_window c.args.frame _ c.fold.ensures.ran
+    (YieldsList-from_slice c.args.windows.now (search (rules))) (λ f x r q k. search rules)

@@ -21,8 +21,10 @@ loop-rest-preserved c =
     let label = c.label_of.ensures ∙ ap (λ (b : Bool). label_of active rows b row) c.flags_row-flagged.ensures in
     let long = ap length here in
     let few = c.loop-rest.invariant.1 in (
-      loop_step (labels_drawn active rows c.args.lines.now found n) (labels_drawn active rows c.args.lines.now found (n + 1)) rest tail row
+      loop_step (labels_drawn active rows c.args.lines.now found n)
+          (labels_drawn active rows c.args.lines.now found (n + 1)) rest tail row
           c.loop-rest.all.items (element.Label n c.label_of.result ∷ []) c.push.new.self.items _
-          here c.in_ok-push.ensures.items (ap (λ (l : Label). element.Label n l ∷ behind) (sym label)) c.loop-rest.invariant.0,
+          here c.in_ok-push.ensures.items (ap (λ (l : Label). element.Label n l ∷ behind) (sym label))
+          c.loop-rest.invariant.0,
       omega (arith, long, few),
     )

@@ -11,7 +11,8 @@ pub overflow_add-result : goal.overflow_add-result
 overflow_add-result c = let e = c.min.ensures in omega (arith, e)
 
 pub returns-clause-value : goal.returns-clause-value
-returns-clause-value c = ap (λ (n : ℕ). n + 2) (c.min.ensures ∙ ap (λ (n : ℕ). min n 1000000) (sym (length-map c.args.found.now finding_of)))
+returns-clause-value c = ap (λ (n : ℕ). n + 2) (c.min.ensures
+    ∙ ap (λ (n : ℕ). min n 1000000) (sym (length-map c.args.found.now finding_of)))
 
 pub returns-clause-few : goal.returns-clause-few
 returns-clause-few c = let e = c.min.ensures in omega (arith, e)

@@ -10,4 +10,5 @@ returns c =
     let text-2 : List ℕ = moment c.args.second in
     let text-3 : List ℕ = codes "</text>\n" in
     then c.args.into.now.items text-1 (text-2 ++ text-3) c.in_ok-extend_from_slice.ensures.items
-    (then c.extend_from_slice.new.self.items text-2 text-3 c.in_ok-append_moment.ensures c.in_ok-extend_from_slice-2.ensures.items)
+    (then c.extend_from_slice.new.self.items text-2 text-3 c.in_ok-append_moment.ensures
+    c.in_ok-extend_from_slice-2.ensures.items)

@@ -12,5 +12,7 @@ loop-rest-preserved c =
     let rest = c.loop-rest.rest.now in
     let tail = take (length rest - 1) (drop 1 rest) in
     let each : List Finding → List ℕ = λ fs. flat_map listed_text (map finding_of fs) in
-    loop_step each each rest tail c.finding-item.result c.loop-rest.into.items (listed_text (finding_of c.finding-item.result)) c.append_listed.new.into.items _
-    (tail_read rest c.finding-item.result c.in-len1-up.len_at_least c.finding-item.is) c.in_ok-append_listed.ensures refl c.loop-rest.invariant
+    loop_step each each rest tail c.finding-item.result c.loop-rest.into.items
+    (listed_text (finding_of c.finding-item.result)) c.append_listed.new.into.items _
+    (tail_read rest c.finding-item.result c.in-len1-up.len_at_least c.finding-item.is) c.in_ok-append_listed.ensures
+    refl c.loop-rest.invariant

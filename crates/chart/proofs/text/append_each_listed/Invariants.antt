@@ -6,7 +6,8 @@ use Rattle.chart.proofs.text.append_each_listed.Given as goal
 
 -- what stands so far and what is to come are the text
 abbrev pub invariant-loop-rest : goal.invariant-loop-rest
-invariant-loop-rest l = l.into.items ++ flat_map listed_text (map finding_of l.rest) ≡ l.fn.into.items ++ flat_map listed_text (map finding_of l.fn.found)
+invariant-loop-rest l = l.into.items ++ flat_map listed_text (map finding_of l.rest) ≡ l.fn.into.items
+    ++ flat_map listed_text (map finding_of l.fn.found)
 
 abbrev pub decreases-loop-rest : goal.decreases-loop-rest
 decreases-loop-rest l = length l.rest

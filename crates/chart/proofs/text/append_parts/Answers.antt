@@ -11,4 +11,5 @@ returns c =
     let text-2 : List ℕ = verdict_text (option_map (λ all. map finding_of all.items) c.args.found.now) in
     let text-3 : List ℕ = codes "</text></svg>\n" in
     then c.args.into.now.items text-1 (text-2 ++ text-3) c.in_ok-append_elements.ensures
-    (then c.append_elements.new.into.items text-2 text-3 c.in_ok-append_verdict.ensures c.in_ok-extend_from_slice.ensures.items)
+    (then c.append_elements.new.into.items text-2 text-3 c.in_ok-append_verdict.ensures
+    c.in_ok-extend_from_slice.ensures.items)

@@ -10,4 +10,5 @@ returns c =
     let text-2 : List ℕ = shift_words c.args.rank c.args.place in
     let text-3 : List ℕ = codes "</tspan>" in
     then c.args.into.now.items text-1 (text-2 ++ text-3) c.in_ok-extend_from_slice.ensures.items
-    (then c.extend_from_slice.new.self.items text-2 text-3 c.in_ok-append_shift_words.ensures c.in_ok-extend_from_slice-2.ensures.items)
+    (then c.extend_from_slice.new.self.items text-2 text-3 c.in_ok-append_shift_words.ensures
+    c.in_ok-extend_from_slice-2.ensures.items)

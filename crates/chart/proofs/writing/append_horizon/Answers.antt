@@ -9,4 +9,5 @@ returns c =
     let text-2 : List ℕ = moment c.args.at.now.second in
     let text-3 : List ℕ = shape_end in
     then c.args.into.now.items text-1 (text-2 ++ text-3) c.in_ok-append_horizon_head.ensures
-    (then c.append_horizon_head.new.into.items text-2 text-3 c.in_ok-append_moment.ensures c.in_ok-extend_from_slice.ensures.items)
+    (then c.append_horizon_head.new.into.items text-2 text-3 c.in_ok-append_moment.ensures
+    c.in_ok-extend_from_slice.ensures.items)

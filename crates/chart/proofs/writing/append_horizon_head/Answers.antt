@@ -10,4 +10,5 @@ returns c =
     let text-2 : List ℕ = codes " 60V" ++ decimal (bottom_of c.args.rows) in
     let text-3 : List ℕ = codes "'><title>horizon " in
     then c.args.into.now.items text-1 (text-2 ++ text-3) c.in_ok-append_numbered.ensures
-    (then c.append_numbered.new.into.items text-2 text-3 c.in_ok-append_bottom.ensures c.in_ok-extend_from_slice.ensures.items)
+    (then c.append_numbered.new.into.items text-2 text-3 c.in_ok-append_bottom.ensures
+    c.in_ok-extend_from_slice.ensures.items)

@@ -10,7 +10,8 @@ loop-i-init g c = ([], tt, IsCompacting-start _, IsCompacting-start _)
 pub loop-i-preserved-then-not-keep : goal.loop-i-preserved-then-not-keep
 loop-i-preserved-then-not-keep g c =
     let says : FnReturnsAt g.F.Fn c.args.keep.now (get_or c.args.labels.now.items c.loop-i.i c.index.result.now) false =
-    subst (λ (b : Bool). FnReturnsAt g.F.Fn c.args.keep.now (get_or c.args.labels.now.items c.loop-i.i c.index.result.now) b) c.if-not-keep.true (record {
+    subst (λ (b : Bool). FnReturnsAt g.F.Fn c.args.keep.now
+    (get_or c.args.labels.now.items c.loop-i.i c.index.result.now) b) c.if-not-keep.true (record {
       shown = c.index.result;
       shows = c.index.ensures ∙ next_same _ _ _ _ c.loop-i.i c.index.result.now c.loop-i.invariant.2;
       says = record { met = c.keep.ensures };
@@ -24,7 +25,8 @@ loop-i-preserved-then-not-keep g c =
 pub loop-i-preserved : goal.loop-i-preserved
 loop-i-preserved g c =
     let says : FnReturnsAt g.F.Fn c.args.keep.now (get_or c.args.labels.now.items c.loop-i.i c.index.result.now) true =
-    subst (λ (b : Bool). FnReturnsAt g.F.Fn c.args.keep.now (get_or c.args.labels.now.items c.loop-i.i c.index.result.now) b) c.if-not-keep.false (record {
+    subst (λ (b : Bool). FnReturnsAt g.F.Fn c.args.keep.now
+    (get_or c.args.labels.now.items c.loop-i.i c.index.result.now) b) c.if-not-keep.false (record {
       shown = c.index.result;
       shows = c.index.ensures ∙ next_same _ _ _ _ c.loop-i.i c.index.result.now c.loop-i.invariant.2;
       says = record { met = c.keep.ensures };

@@ -5,4 +5,8 @@ pub returns : goal.returns
 returns c =
     let held = c.head-held_ranks.ensures.well_formed.between_ranks in
     let next = c.head-next_ranks.ensures.well_formed.between_ranks in
-    record { early = early_stages_are_kept c.args.held.now c.args.next.now held next; uncounted = uncounted_stages_are_kept c.args.held.now c.args.next.now held next }
+    record {
+      early = early_stages_are_kept c.args.held.now c.args.next.now held next;
+      uncounted =
+          uncounted_stages_are_kept c.args.held.now c.args.next.now held next;
+    }

@@ -11,7 +11,8 @@ returns-clause-sources g c = lead_alike c.args.problem.now g.row.W c.requires c.
 pub returns-clause-network : goal.returns-clause-network
 returns-clause-network g c =
     let odd : g.row.W ≡ 2 * c.args.problem.now.k + 1 = c.requires in
-    let range : AreInRange c.args.problem.now.pairs = subst AreInRange c.pairs.ensures c.all_before-in_range.ensures.in_range in
+    let range : AreInRange c.args.problem.now.pairs =
+    subst AreInRange c.pairs.ensures c.all_before-in_range.ensures.in_range in
     let ranks : FollowRanks (2 * c.args.problem.now.k + 1) = subst FollowRanks odd c.window_laws.ensures.ranks in
     window_network c.args.problem.now range (passed_low c.args.problem.now c.head-near.ensures.well_formed.passed) ranks
     (follow_prefixes c.args.problem.now (2 * c.args.problem.now.k + 1) refl range ranks)

@@ -4,4 +4,8 @@ use Rattle.cps_network.proofs.laws.prefixes_keep_the_separation.Goals as goal
 pub returns : goal.returns
 returns c =
     let table = c.head-sound.ensures.well_formed.table in
-    record { neighbours = neighbours_suffice c.args.problem.now table; attained = attains_by_prefixes c.args.problem.now table }
+    record {
+      neighbours = neighbours_suffice c.args.problem.now table;
+      attained =
+          attains_by_prefixes c.args.problem.now table;
+    }

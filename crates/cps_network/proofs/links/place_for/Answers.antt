@@ -12,7 +12,8 @@ pub returns-clause-groups : goal.returns-clause-groups
 returns-clause-groups g c =
     let some : c.sources_near-from.result.0 < c.sources_near-from.result.1 = omega (arith, c.if-from-to.false) in
     let group : IsGroup c.args.before.now c.sources_near-from.result.0 c.sources_near-from.result.1 =
-    group_of_leading c.args.before.now c.args.node.now _ _ some c.sources_near-from.ensures.range.1 c.sources_near-from.ensures.exact in
+    group_of_leading c.args.before.now c.args.node.now _ _ some c.sources_near-from.ensures.range.1
+    c.sources_near-from.ensures.exact in
     subst (AreGroups c.args.before.now) (sym c.in_ok-push.ensures.items) (AreGroups-push _ _ _ c.requires.groups group)
 
 pub returns-clause-leads : goal.returns-clause-leads
@@ -23,8 +24,10 @@ returns-clause-leads g c =
     ap (λ (rs : List (ℕ × ℕ)). range_at rs c.len-place.result) c.in_ok-push.ensures.items
     ∙ get_or_push c.args.ranges.now.items more (0, 0) c.len-place.result (omega (arith, c.len-place.ensures)) in
     let at : c.index-before-from.result ≡ node_at c.args.before.now c.sources_near-from.result.0 =
-    c.index-before-from.is ∙ get_or_default c.args.before.now c.sources_near-from.result.0 c.index-before-from.result [] (omega (arith, some, c.sources_near-from.ensures.range.1)) in
+    c.index-before-from.is ∙ get_or_default c.args.before.now c.sources_near-from.result.0 c.index-before-from.result []
+    (omega (arith, some, c.sources_near-from.ensures.range.1)) in
     let leads : Extends c.index-before-from.result c.args.node.now = c.if-not-leads_to.ensures.extends.0 refl in (
       omega (arith, c.in_ok-push.ensures.len, c.len-place.ensures),
-      subst (λ (r : ℕ × ℕ). Extends (node_at c.args.before.now r.0) c.args.node.now) (sym placed) (subst (λ (x : List ℤ). Extends x c.args.node.now) at leads),
+      subst (λ (r : ℕ × ℕ). Extends (node_at c.args.before.now r.0) c.args.node.now) (sym placed)
+          (subst (λ (x : List ℤ). Extends x c.args.node.now) at leads),
     )

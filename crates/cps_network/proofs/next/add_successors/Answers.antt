@@ -9,4 +9,5 @@ pub loop-rank-preserved : goal.loop-rank-preserved
 loop-rank-preserved g c = added_step _ _ _ _ _ _ _ c.loop-rank.invariant c.in_ok-add_permitted.ensures
 
 pub returns : goal.returns
-returns g c = rw (← c.extendable-extendable.ensures) (added_all _ _ _ _ _ c.loop-rank.rank (omega arith) c.loop-rank.invariant)
+returns g c = rw (← c.extendable-extendable.ensures)
+    (added_all _ _ _ _ _ c.loop-rank.rank (omega arith) c.loop-rank.invariant)

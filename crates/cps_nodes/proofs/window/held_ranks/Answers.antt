@@ -10,16 +10,23 @@ use Rattle.cps_nodes.proofs.window.held_ranks.Goals as goal
 
 pub fold-requires-clause-callable : goal.fold-requires-clause-callable
 fold-requires-clause-callable g c =
-    fold_of_range_may_call _ g.row.W (search (rules, tests)) (λ held i made q called. search (rules, tests)) (λ i held below. search (rules, tests, ints))
+    fold_of_range_may_call _ g.row.W (search (rules, tests)) (λ held i made q called. search (rules, tests))
+    (λ i held below. search (rules, tests, ints))
 
 pub returns : goal.returns
 returns g c =
     let width = g.row.W in
     let xs = offsets_of width c.args.digits in
     held_all xs width c.fold.result (omega (arith, length-offsets_of width c.args.digits))
-    (kept_by_fold_of_range _ 0 width (AreHeldUpto xs) (omega arith) (search (rules, tests)) c.fold.ensures.ran (none_held xs)
+    (kept_by_fold_of_range _ 0 width (AreHeldUpto xs) (omega arith) (search (rules, tests)) c.fold.ensures.ran
+    (none_held xs)
     (λ i held made q from below are called.
-    let (at, few, bit, set) : (at : ℕ) × (at < 32) × (pos at ≡ pos i +ℤ digit_offset c.args.digits (width - 1 - i) +ℤ pos 8) × (made ≡ bit_or held (1 * 2 ^ at % 2 ^ 32)) =
+    let (at, few, bit, set) : (at : ℕ) × (at < 32)
+    × (pos at ≡ pos i +ℤ digit_offset c.args.digits (width - 1 - i) +ℤ pos 8)
+    × (made ≡ bit_or held (1 * 2 ^ at % 2 ^ 32)) =
     search (rules, tests, ints) in
-    let reads = offset_at-offsets_of width c.args.digits i below in
-    (search (rules, tests), subst (AreHeldUpto xs (i + 1)) (sym set) (held_more xs i held at few (omega (arith, ints, reads, bit)) are))))
+    let reads = offset_at-offsets_of width c.args.digits i below in (
+      search (rules, tests),
+      subst (AreHeldUpto xs (i + 1)) (sym set)
+          (held_more xs i held at few (omega (arith, ints, reads, bit)) are),
+    )))

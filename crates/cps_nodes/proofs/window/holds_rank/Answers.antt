@@ -1,4 +1,5 @@
-use Rattle.std.proofs.Common.{refl, ◌≡◌, ℕ, ◌-◌, ◌<◌, ◌∙◌, Bool, true, false, length, sym, ap, subst, arith, rules, tests}
+use Rattle.std.proofs.Common.{refl, ◌≡◌, ℕ, ◌-◌, ◌<◌, ◌∙◌, Bool, true, false, length, sym, ap, subst, arith, rules}
+use Rattle.std.proofs.Common.{tests}
 use Rattle.std.specs.Prelude.{ℤ, pos, ◌+ℤ◌, ◌↔◌, IsTrue}
 use Rattle.std.specs.Bool.{MatchBool}
 use Rattle.std.specs.List.{AllWithin, HoldsAt, range_with_len}
@@ -14,7 +15,8 @@ abbrev Holds : ℕ → ℕ → ℤ → ℕ → Type 0
 Holds digits width rank i = pos i +ℤ digit_offset digits (width - 1 - i) ≡ rank
 
 decided : (r : Bool) (digits width : ℕ) (rank : ℤ)
-    → MatchBool r ((k : ℕ) × (k < length (range_with_len 0 width)) × HoldsAt (Holds digits width rank) (range_with_len 0 width) k)
+    → MatchBool r ((k : ℕ) × (k < length (range_with_len 0 width))
+    × HoldsAt (Holds digits width rank) (range_with_len 0 width) k)
     (AllWithin (λ i. Holds digits width rank i → ⊥) (range_with_len 0 width) 0 (length (range_with_len 0 width)))
     → IsTrue r ↔ HoldsRank (offsets_of width digits) rank
 decided true digits width rank (k, lt, holds) =
@@ -36,6 +38,8 @@ decided false digits width rank none =
 pub returns : goal.returns
 returns g c =
     let width = g.row.W in
-    let cases = cases_from_any _ _ c.any.result (Holds c.args.digits width c.args.rank) (λ i. Holds c.args.digits width c.args.rank i → ⊥) c.any.ensures.ran (YieldsList-from_range 0 width width (search (rules, tests)) (omega arith))
+    let cases = cases_from_any _ _ c.any.result (Holds c.args.digits width c.args.rank)
+    (λ i. Holds c.args.digits width c.args.rank i → ⊥) c.any.ensures.ran
+    (YieldsList-from_range 0 width width (search (rules, tests)) (omega arith))
     (λ i q k. grind (arith, tests)) (λ i q k. (search (rules, tests), λ holds. grind (arith, tests))) in
     decided c.any.result c.args.digits width c.args.rank cases

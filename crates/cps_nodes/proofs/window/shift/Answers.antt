@@ -14,13 +14,15 @@ digit_is : (g : _) (c : goal.After-tail_of g) → pos (digit c.args.offset) ≡ 
 digit_is g c =
     let sum : to_z w8 (of_z w8 (to_z w8 (of_z w8 c.args.offset) +ℤ pos 8)) ≡ c.args.offset +ℤ pos 8 =
     omega (arith, ints, c.requires.low, c.requires.high, c.ranges.offset) in
-    abs_is (to_z w8 (of_z w8 (to_z w8 (of_z w8 c.args.offset) +ℤ pos 8))) (omega (arith, ints, sum, c.requires.low)) ∙ sum
+    abs_is (to_z w8 (of_z w8 (to_z w8 (of_z w8 c.args.offset) +ℤ pos 8))) (omega (arith, ints, sum, c.requires.low))
+    ∙ sum
 
 digit_lt : (g : _) (c : goal.After-tail_of g) → digit c.args.offset < 16
 digit_lt g c = omega (arith, ints, digit_is g c, c.requires.high)
 
 few : (g : _) (c : goal.After-tail_of g) → c.tail_of.result * 16 + digit c.args.offset < 2 ^ (4 * g.row.W)
-few g c = rw c.tail_of.ensures (shifted_lt g.row.W c.args.digits (digit c.args.offset) c.requires.width.0 (digit_lt g c))
+few g c = rw c.tail_of.ensures (shifted_lt g.row.W c.args.digits (digit c.args.offset) c.requires.width.0
+    (digit_lt g c))
 
 most : (g : _) (c : goal.After-tail_of g) → 2 ^ (4 * g.row.W) ≤ 2 ^ 28
 most g c =
@@ -39,5 +41,6 @@ returns-clause-few g c = few g c
 pub returns-clause-offsets : goal.returns-clause-offsets
 returns-clause-offsets g c =
     let o : (pos (digit c.args.offset) -ℤ pos 8) ≡ c.args.offset = omega (arith, ints, digit_is g c) in
-    rw c.tail_of.ensures (shifted-offsets_of g.row.W c.args.digits (digit c.args.offset) c.requires.width.0 (digit_lt g c)
+    rw c.tail_of.ensures (shifted-offsets_of g.row.W c.args.digits (digit c.args.offset) c.requires.width.0
+    (digit_lt g c)
     ∙ ap (shifted (offsets_of g.row.W c.args.digits)) o)

@@ -4,4 +4,5 @@ use Rattle.std.specs.Io.KnownBytes.{Appends}
 use Rattle.cps_outside.proofs.real_sink.write_pieces.Given as goal
 
 abbrev pub invariant-loop : goal.invariant-loop
-invariant-loop g l = (done : List ℕ) × (l.fn.bytes ≡ done ++ l.rest) × Appends (g.W.Write.contents l.fn.writer) (g.W.Write.contents l.writer) done
+invariant-loop g l = (done : List ℕ) × (l.fn.bytes ≡ done ++ l.rest)
+    × Appends (g.W.Write.contents l.fn.writer) (g.W.Write.contents l.writer) done

@@ -4,4 +4,5 @@ use Rattle.std.proofs.lemmas.Slice.Eq.{slice_eq-Decides}
 use Rattle.cps_problem.proofs.difference.is_same_table.Goals as goal
 
 pub returns : goal.returns
-returns c = slice_eq-Decides (λ a b. slice_eq-Decides Decides-eqb a b _ refl) c.args.a.now c.args.b.now c.eq.result c.eq.ensures
+returns c = slice_eq-Decides (λ a b. slice_eq-Decides Decides-eqb a b _ refl) c.args.a.now
+    c.args.b.now c.eq.result c.eq.ensures

@@ -8,7 +8,12 @@ use Rattle.cps_theory.proofs.best_schedules.least_choices_are_first_best.Goals a
 
 pub returns : goal.returns
 returns c = record {
-  makespan = λ p sound first opens v lists kept. built_first_makespan p sound first opens PatternNode (pattern_node p.rules) (λ w. w.0) (λ rs. refl) (PatternPermits p.rules) (pattern_push p.rules) pattern_newest (pattern_network p.rules (λ a r b. (sound.ranked a r b).0)) (λ w q. InPairs q (lists w)) v kept;
-  delay = λ p sound first opens cost dearer base budget lists kept. built_first_delay p sound first opens PatternNode (pattern_node p.rules) (λ w. w.0) (λ rs. refl) (PatternPermits p.rules) (pattern_push p.rules) pattern_newest (pattern_network p.rules (λ a r b. (sound.ranked a r b).0)) (λ w q. InPairs q (lists w)) (base + budget) cost dearer base budget refl kept;
+  makespan = λ p sound first opens v lists kept. built_first_makespan p sound first opens PatternNode
+      (pattern_node p.rules) (λ w. w.0) (λ rs. refl) (PatternPermits p.rules) (pattern_push p.rules) pattern_newest
+      (pattern_network p.rules (λ a r b. (sound.ranked a r b).0)) (λ w q. InPairs q (lists w)) v kept;
+  delay = λ p sound first opens cost dearer base budget lists kept. built_first_delay p sound first opens PatternNode
+      (pattern_node p.rules) (λ w. w.0) (λ rs. refl) (PatternPermits p.rules) (pattern_push p.rules) pattern_newest
+      (pattern_network p.rules (λ a r b. (sound.ranked a r b).0)) (λ w q. InPairs q (lists w))
+      (base + budget) cost dearer base budget refl kept;
   unique = first_best_unique;
 }

@@ -5,6 +5,8 @@ use Rattle.cps_theory.proofs.certificates.closed_certificate_bounds.Goals as goa
 
 pub returns : goal.returns
 returns c = record {
-  optimal = λ p cost sound dearer first opens lists cert value mono. closed_certificate_optimal p cost sound value mono first opens dearer (λ w q. InPairs q (lists w)) cert;
-  infeasible = λ p cost sound dearer first opens lists cert. closed_certificate_infeasible p cost sound (λ q. 0) (λ a b l. zero-le) first opens dearer (λ w q. InPairs q (lists w)) cert;
+  optimal = λ p cost sound dearer first opens lists cert value mono. closed_certificate_optimal
+      p cost sound value mono first opens dearer (λ w q. InPairs q (lists w)) cert;
+  infeasible = λ p cost sound dearer first opens lists cert. closed_certificate_infeasible p cost sound
+      (λ q. 0) (λ a b l. zero-le) first opens dearer (λ w q. InPairs q (lists w)) cert;
 }

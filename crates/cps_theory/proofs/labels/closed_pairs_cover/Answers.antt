@@ -7,4 +7,5 @@ use Rattle.cps_theory.specs.laws.LeastObjective.{next_later}
 use Rattle.cps_theory.proofs.labels.closed_pairs_cover.Goals as goal
 
 pub returns : goal.returns
-returns c = λ p cost dearer first opens lists closed. closed_covers (λ r u. p.is_open r u ≡ true) first (next_from p) cost opens (next_later p) dearer (Legal p.rules) (λ r rs l. l.1) (λ rs q. InPairs q (lists rs)) closed
+returns c = λ p cost dearer first opens lists closed. closed_covers (λ r u. p.is_open r u ≡ true) first
+    (next_from p) cost opens (next_later p) dearer (Legal p.rules) (λ r rs l. l.1) (λ rs q. InPairs q (lists rs)) closed

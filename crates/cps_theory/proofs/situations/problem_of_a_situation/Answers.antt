@@ -4,6 +4,9 @@ use Rattle.cps_theory.proofs.situations.problem_of_a_situation.Goals as goal
 
 pub returns : goal.returns
 returns c = record {
-  feasible = λ s p at sound of t. (λ f. (f.kept, problem_feasible s p at sound of t f), λ h. feasible_problem s p at sound of t h.0 h.1);
+  feasible = λ s p at sound of t. (
+    λ f. (f.kept, problem_feasible s p at sound of t f),
+    λ h. feasible_problem s p at sound of t h.0 h.1,
+  );
   objectives = same_objectives;
 }

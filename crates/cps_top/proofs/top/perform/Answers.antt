@@ -1,5 +1,6 @@
 use Rattle.std.proofs.Common.{[], ◌∷◌, ap, ◌∙◌, vec_items}
-use Rattle.cps_top.specs.declared.commands.Command.TheVariants.{Plan, Replay, Certify, Check, Effort, Trial, First, WhatIf, Audit}
+use Rattle.cps_top.specs.declared.commands.Command.TheVariants.{Plan, Replay, Certify, Check, Effort, Trial, First}
+use Rattle.cps_top.specs.declared.commands.Command.TheVariants.{WhatIf, Audit}
 use Rattle.cps_top.specs.Commands.{file_count}
 use Rattle.cps_top.proofs.Followed.{none, two, three, followed}
 use Rattle.cps_top.proofs.top.perform.Goals as goal
@@ -12,25 +13,29 @@ returns-in-Plan g c =
 
 pub returns-in-Replay : goal.returns-in-Replay
 returns-in-Replay g c =
-    followed c.args.command Replay _ (c.file-aerodrome.result.now ∷ c.file-flights.result.now ∷ c.file-third.result.now ∷ []) _ _ _ c.in-Replay.is
+    followed c.args.command Replay _ (c.file-aerodrome.result.now ∷ c.file-flights.result.now
+    ∷ c.file-third.result.now ∷ []) _ _ _ c.in-Replay.is
     (three vec_items c.args.contents.now _ _ _ (c.requires.count ∙ ap file_count c.in-Replay.is)
     c.file-aerodrome.ensures c.file-flights.ensures c.file-third.ensures) c.run_replay.ensures
 
 pub returns-in-Certify : goal.returns-in-Certify
 returns-in-Certify g c =
-    followed c.args.command Certify _ (c.file-aerodrome.result.now ∷ c.file-flights.result.now ∷ []) _ _ _ c.in-Certify.is
+    followed c.args.command Certify _ (c.file-aerodrome.result.now ∷ c.file-flights.result.now
+    ∷ []) _ _ _ c.in-Certify.is
     (two vec_items c.args.contents.now _ _ (c.requires.count ∙ ap file_count c.in-Certify.is)
     c.file-aerodrome.ensures c.file-flights.ensures) c.run_certify.ensures
 
 pub returns-in-Check : goal.returns-in-Check
 returns-in-Check g c =
-    followed c.args.command Check _ (c.file-aerodrome.result.now ∷ c.file-flights.result.now ∷ c.file-third.result.now ∷ []) _ _ _ c.in-Check.is
+    followed c.args.command Check _ (c.file-aerodrome.result.now ∷ c.file-flights.result.now
+    ∷ c.file-third.result.now ∷ []) _ _ _ c.in-Check.is
     (three vec_items c.args.contents.now _ _ _ (c.requires.count ∙ ap file_count c.in-Check.is)
     c.file-aerodrome.ensures c.file-flights.ensures c.file-third.ensures) c.run_check.ensures
 
 pub returns-in-Effort : goal.returns-in-Effort
 returns-in-Effort g c =
-    followed c.args.command Effort _ (c.file-aerodrome.result.now ∷ c.file-flights.result.now ∷ c.file-third.result.now ∷ []) _ _ _ c.in-Effort.is
+    followed c.args.command Effort _ (c.file-aerodrome.result.now ∷ c.file-flights.result.now
+    ∷ c.file-third.result.now ∷ []) _ _ _ c.in-Effort.is
     (three vec_items c.args.contents.now _ _ _ (c.requires.count ∙ ap file_count c.in-Effort.is)
     c.file-aerodrome.ensures c.file-flights.ensures c.file-third.ensures) c.run_effort.ensures
 
@@ -42,13 +47,15 @@ returns-in-First g c =
 
 pub returns-in-WhatIf : goal.returns-in-WhatIf
 returns-in-WhatIf g c =
-    followed c.args.command WhatIf _ (c.file-aerodrome.result.now ∷ c.file-flights.result.now ∷ c.file-third.result.now ∷ []) _ _ _ c.in-WhatIf.is
+    followed c.args.command WhatIf _ (c.file-aerodrome.result.now ∷ c.file-flights.result.now
+    ∷ c.file-third.result.now ∷ []) _ _ _ c.in-WhatIf.is
     (three vec_items c.args.contents.now _ _ _ (c.requires.count ∙ ap file_count c.in-WhatIf.is)
     c.file-aerodrome.ensures c.file-flights.ensures c.file-third.ensures) c.run_what_if.ensures
 
 pub returns-in-Audit : goal.returns-in-Audit
 returns-in-Audit g c =
-    followed c.args.command Audit _ (c.file-aerodrome.result.now ∷ c.file-flights.result.now ∷ c.file-third.result.now ∷ []) _ _ _ c.in-Audit.is
+    followed c.args.command Audit _ (c.file-aerodrome.result.now ∷ c.file-flights.result.now
+    ∷ c.file-third.result.now ∷ []) _ _ _ c.in-Audit.is
     (three vec_items c.args.contents.now _ _ _ (c.requires.count ∙ ap file_count c.in-Audit.is)
     c.file-aerodrome.ensures c.file-flights.ensures c.file-third.ensures) c.run_audit.ensures
 

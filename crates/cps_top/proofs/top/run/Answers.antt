@@ -8,14 +8,16 @@ pub returns-clause-asks : goal.returns-clause-asks
 returns-clause-asks g c = asks _ _ _ _ c.work-ending.result c.status.ensures c.work-ending.ensures
 
 pub returns-clause-completes : goal.returns-clause-completes
-returns-clause-completes g c = completes _ _ _ c.status.result c.work-ending.result c.status.ensures c.work-ending.ensures
+returns-clause-completes g c =
+    completes _ _ _ c.status.result c.work-ending.result c.status.ensures c.work-ending.ensures
 
 pub returns-clause-exact : goal.returns-clause-exact
 returns-clause-exact g c = exact _ _ _ c.status.result c.work-ending.result c.status.ensures c.work-ending.ensures
 
 pub returns-clause-sure : goal.returns-clause-sure
 returns-clause-sure g c =
-    is_sure c.texts_are_bounded.ensures _ _ _ c.status.result c.work-ending.result c.status.ensures c.work-ending.ensures
+    is_sure c.texts_are_bounded.ensures _ _ _ c.status.result c.work-ending.result c.status.ensures
+    c.work-ending.ensures
 
 pub returns-clause-outcome : goal.returns-clause-outcome
 returns-clause-outcome g c = record {

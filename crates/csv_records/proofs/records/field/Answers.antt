@@ -11,7 +11,9 @@ found (f ∷ fs) zero = refl
 found (f ∷ fs) (suc i) = found fs i
 
 pub returns-in-Some : goal.returns-in-Some
-returns-in-Some c = ap (λ o. unwrap_or o []) (rw c.in-Some.is at c.get.ensures.value) ∙ found (fields_of c.args.row.now) c.args.i
+returns-in-Some c = ap (λ o. unwrap_or o []) (rw c.in-Some.is at c.get.ensures.value)
+    ∙ found (fields_of c.args.row.now) c.args.i
 
 pub returns-in-None : goal.returns-in-None
-returns-in-None c = ap (λ o. unwrap_or o []) (rw c.in-None.is at c.get.ensures.value) ∙ found (fields_of c.args.row.now) c.args.i
+returns-in-None c = ap (λ o. unwrap_or o []) (rw c.in-None.is at c.get.ensures.value)
+    ∙ found (fields_of c.args.row.now) c.args.i

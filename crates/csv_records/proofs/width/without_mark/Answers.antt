@@ -2,12 +2,14 @@
 use Rattle.std.proofs.Common.{arith}
 use Rattle.csv_records.proofs.Marks.{unmarked_short, unmarked, marked}
 use Rattle.csv_records.proofs.width.without_mark.Goals as goal
-use Rattle.csv_records.proofs.width.without_mark.Goals.{then-bytes-lt3-via-then-bytes-lt3, then-bytes-lt3-via-else-bytes-lt3+then-not-is_mark}
+use Rattle.csv_records.proofs.width.without_mark.Goals.{then-bytes-lt3-via-then-bytes-lt3}
+use Rattle.csv_records.proofs.width.without_mark.Goals.{then-bytes-lt3-via-else-bytes-lt3+then-not-is_mark}
 
 pub returns-then-bytes-lt3 : goal.returns-then-bytes-lt3
 returns-then-bytes-lt3 c = elim c.then-bytes-lt3.branch [
   | then-bytes-lt3-via-then-bytes-lt3 w ↦ unmarked_short c.args.bytes.now (omega (arith, w.if-bytes-lt3.true))
-  | then-bytes-lt3-via-else-bytes-lt3+then-not-is_mark w ↦ unmarked c.args.bytes.now w.if-bytes-lt3.false w.if-not-is_mark.ensures
+  | then-bytes-lt3-via-else-bytes-lt3+then-not-is_mark w ↦
+      unmarked c.args.bytes.now w.if-bytes-lt3.false w.if-not-is_mark.ensures
 ]
 
 pub returns : goal.returns

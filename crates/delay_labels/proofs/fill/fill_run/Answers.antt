@@ -8,20 +8,24 @@ use Rattle.delay_labels.proofs.fill.fill_run.Goals as goal
 
 pub loop-m-init : goal.loop-m-init
 loop-m-init g c =
-    let none : IsFollower c.args.filling.now.problem.now c.blank-followers.result = c.blank-followers.ensures.follower c.args.filling.now.problem.now in
+    let none : IsFollower c.args.filling.now.problem.now c.blank-followers.result =
+    c.blank-followers.ensures.follower c.args.filling.now.problem.now in
     search (rules, none)
 
 pub add_list-requires : goal.add_list-requires
 add_list-requires g c =
-    let within : c.args.from + c.loop-m.m < length c.args.filling.now.stage.now.1 = omega (arith, c.loop-m-test.true, c.loop-m.auto.m-end, c.requires.within) in
-    let follower = c.loop-m.invariant.2 c.follower_of.result _ (omega (arith, c.follower_of.ensures, c.loop-m.invariant.3)) in
+    let within : c.args.from + c.loop-m.m < length c.args.filling.now.stage.now.1 =
+    omega (arith, c.loop-m-test.true, c.loop-m.auto.m-end, c.requires.within) in
+    let follower = c.loop-m.invariant.2 c.follower_of.result _
+    (omega (arith, c.follower_of.ensures, c.loop-m.invariant.3)) in
     (search rules, (c.requires.behind, (within, follower)))
 
 pub loop-m-preserved : goal.loop-m-preserved
 loop-m-preserved g c =
     let inv = c.loop-m.invariant in
     let one = c.in_ok-add_list.ensures.list in
-    let more = each_more (λ (k : ℕ) (pairs : List Pair). IsListOf c.args.filling.now.problem.now c.args.filling.now.before.now c.args.filling.now.labels.now c.args.filling.now.stage.now (c.args.from + k) pairs)
+    let more = each_more (λ (k : ℕ) (pairs : List Pair). IsListOf c.args.filling.now.problem.now
+    c.args.filling.now.before.now c.args.filling.now.labels.now c.args.filling.now.stage.now (c.args.from + k) pairs)
     c.loop-m.costs c.add_list.new.costs one.0 c.loop-m.m one.1 inv.0 inv.1 one.2 in (
       more.0,
       more.1,

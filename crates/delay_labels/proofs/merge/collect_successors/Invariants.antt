@@ -6,5 +6,6 @@ use Rattle.delay_labels.specs.Lists.{successors_in}
 use Rattle.delay_labels.proofs.merge.collect_successors.Given as goal
 
 abbrev pub invariant-loop-i : goal.invariant-loop-i
-invariant-loop-i l = (l.into.items ≡ successors_in l.problem l.lead.rank l.fn.follower.rank l.labels l.fn.range.0 l.i) × All IsInDays l.into.items
+invariant-loop-i l = (l.into.items ≡ successors_in l.problem l.lead.rank l.fn.follower.rank l.labels l.fn.range.0 l.i)
+    × All IsInDays l.into.items
     × (l.follower.rank ≡ l.fn.follower.rank) × IsFollower l.problem l.follower

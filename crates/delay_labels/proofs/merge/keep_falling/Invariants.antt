@@ -6,5 +6,7 @@ use Rattle.delay_labels.specs.Parts.{IsInDays}
 use Rattle.delay_labels.proofs.merge.keep_falling.Given as goal
 
 abbrev pub invariant-loop-pair : goal.invariant-loop-pair
-invariant-loop-pair l = (l.into.items ++ sweep l.least (drop l.pair-index l.sorted) ≡ l.fn.into.items ++ sweep beyond_costs l.sorted)
-    × (All IsInDays l.sorted → All IsInDays l.fn.into.items → All IsInDays l.into.items) × (length l.fn.into.items ≤ length l.into.items)
+invariant-loop-pair l = (l.into.items ++ sweep l.least (drop l.pair-index l.sorted) ≡ l.fn.into.items
+    ++ sweep beyond_costs l.sorted)
+    × (All IsInDays l.sorted → All IsInDays l.fn.into.items → All IsInDays l.into.items)
+    × (length l.fn.into.items ≤ length l.into.items)

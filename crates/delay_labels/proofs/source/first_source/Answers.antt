@@ -11,11 +11,14 @@ use Rattle.delay_labels.proofs.source.first_source.Goals as goal
 -- the place that is found is the place of the list
 at_place : (p : Problem) (l r : ℕ) (lists : List (List Pair)) (from to : ℕ) (q : Pair) (found : Option (ℕ × ℕ))
     → MatchOption found ((i : ℕ) → from ≤ i → i < to → GivesNone p l r (list_at lists i) q)
-    (λ y. (k : ℕ) × (from ≤ k) × (k < to) × ((y.0 ≡ k) × GivesFirst p l r (list_at lists k) q y.1) × ((i : ℕ) → from ≤ i → i < k → GivesNone p l r (list_at lists i) q))
-    → MatchOption found ((i : ℕ) → from ≤ i → i < to → GivesNone p l r (list_at lists i) q) (IsFirstSource p l r lists from to q)
+    (λ y. (k : ℕ) × (from ≤ k) × (k < to) × ((y.0 ≡ k) × GivesFirst p l r (list_at lists k) q y.1)
+    × ((i : ℕ) → from ≤ i → i < k → GivesNone p l r (list_at lists i) q))
+    → MatchOption found ((i : ℕ) → from ≤ i → i < to → GivesNone p l r (list_at lists i) q)
+    (IsFirstSource p l r lists from to q)
 at_place p l r lists from to q None none = none
 at_place p l r lists from to q (Some (place, index)) (k, lo, hi, (same, first), none) =
-    subst (λ (n : ℕ). (from ≤ n) × (n < to) × GivesFirst p l r (list_at lists n) q index × ((i : ℕ) → from ≤ i → i < n → GivesNone p l r (list_at lists i) q)) (sym same) (lo, hi, first, none)
+    subst (λ (n : ℕ). (from ≤ n) × (n < to) × GivesFirst p l r (list_at lists n) q index
+    × ((i : ℕ) → from ≤ i → i < n → GivesNone p l r (list_at lists i) q)) (sym same) (lo, hi, first, none)
 
 pub find_map-requires-clause-callable : goal.find_map-requires-clause-callable
 find_map-requires-clause-callable c =
@@ -29,7 +32,10 @@ find_map-requires-clause-callable c =
 
 pub returns : goal.returns
 returns c =
-    at_place c.args.problem.now c.args.last c.args.rank c.args.labels.now c.args.range.0 c.args.range.1 c.args.wanted c.find_map.result
-    (first_from_find_map _ (λ x y. (y.0 ≡ x) × GivesFirst c.args.problem.now c.args.last c.args.rank (list_at c.args.labels.now x) c.args.wanted y.1)
+    at_place c.args.problem.now c.args.last c.args.rank c.args.labels.now c.args.range.0 c.args.range.1
+    c.args.wanted c.find_map.result
+    (first_from_find_map _ (λ x y. (y.0 ≡ x) × GivesFirst c.args.problem.now c.args.last c.args.rank
+    (list_at c.args.labels.now x) c.args.wanted y.1)
     (λ x. GivesNone c.args.problem.now c.args.last c.args.rank (list_at c.args.labels.now x) c.args.wanted)
-    (λ x y q k. search (rules, tests)) (λ x q k. search (rules, tests)) c.args.range.0 c.args.range.1 refl c.find_map.result c.find_map.ensures.runs)
+    (λ x y q k. search (rules, tests)) (λ x q k. search (rules, tests)) c.args.range.0 c.args.range.1
+    refl c.find_map.result c.find_map.ensures.runs)

@@ -6,4 +6,5 @@ use Rattle.endings.proofs.aerodrome_lines.say_key.Goals as goal
 
 pub returns : goal.returns
 returns g c =
-    says _ _ _ _ _ (ap₂ (λ n i. line_text (codes "cps: aerodrome: " ∷ c.args.word.now ∷ n ∷ i ∷ codes "\n" ∷ [])) c.name.ensures c.index-index.ensures) c.put_all.ensures
+    says _ _ _ _ _ (ap₂ (λ n i. line_text (codes "cps: aerodrome: " ∷ c.args.word.now ∷ n ∷ i ∷ codes "\n" ∷ []))
+    c.name.ensures c.index-index.ensures) c.put_all.ensures

@@ -14,7 +14,8 @@ start = codes "cps: events: record "
 
 -- the line where no field is wrong
 plain : (n : ℕ) (words : List ℕ) (cause : LogCause) → words ≡ event_words cause →
-    ((column : Col) → (why : FieldCause) → cause ≡ log.Field column why → ⊥) → between_line start n words ≡ event_line (decimal n) cause
+    ((column : Col) → (why : FieldCause) → cause ≡ log.Field column why → ⊥)
+    → between_line start n words ≡ event_line (decimal n) cause
 plain n words log.Header is never = ap (between_line start n) is
 plain n words log.FieldCount is never = ap (between_line start n) is
 plain n words log.Kind is never = ap (between_line start n) is
@@ -26,4 +27,5 @@ pub returns-in-Field : goal.returns-in-Field
 returns-in-Field g c = says _ _ _ _ _ (ap (event_line (decimal c.args.number)) (sym c.in-Field.is)) c.say_field.ensures
 
 pub returns-in_default : goal.returns-in_default
-returns-in_default g c = says _ _ _ _ _ (plain c.args.number _ c.args.cause.now c.cause_words.ensures c.in_default.not-Field) c.say_between.ensures
+returns-in_default g c = says _ _ _ _ _
+    (plain c.args.number _ c.args.cause.now c.cause_words.ensures c.in_default.not-Field) c.say_between.ensures

@@ -16,6 +16,9 @@ returns g c =
     let word : c.field_word.result.now ≡ field_word c.args.cause.now = c.field_word.ensures in
     let part : c.field_part-part.result.now ≡ field_part c.args.cause.now = c.field_part-part.ensures in
     let why : c.field_why.result.now ≡ field_why c.args.cause.now = c.field_why.ensures in
-    says _ _ _ _ _ (ap (λ x. field_line x c.column_word.result.now c.field_word.result.now c.field_part-part.result.now c.field_why.result.now) n
-    ∙ ap₂ (λ x y. field_line (decimal c.args.number) x y c.field_part-part.result.now c.field_why.result.now) column word
-    ∙ ap₂ (λ x y. field_line (decimal c.args.number) (column_word c.args.column) (field_word c.args.cause.now) x y) part why) c.put_all.ensures
+    says _ _ _ _ _ (ap (λ x. field_line x c.column_word.result.now c.field_word.result.now
+    c.field_part-part.result.now c.field_why.result.now) n
+    ∙ ap₂ (λ x y. field_line (decimal c.args.number) x y c.field_part-part.result.now c.field_why.result.now)
+    column word
+    ∙ ap₂ (λ x y. field_line (decimal c.args.number) (column_word c.args.column) (field_word c.args.cause.now) x y)
+    part why) c.put_all.ensures

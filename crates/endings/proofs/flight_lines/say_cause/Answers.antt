@@ -9,9 +9,11 @@ use Rattle.endings.proofs.flight_lines.say_cause.Goals as goal
 
 -- the line by its texts
 abbrev record_line : List ℕ → List ℕ → List ℕ → List ℕ → List ℕ → List ℕ
-record_line n words word part why = line_text (codes "cps: flights: record " ∷ n ∷ words ∷ word ∷ part ∷ why ∷ codes "\n" ∷ [])
+record_line n words word part why =
+    line_text (codes "cps: flights: record " ∷ n ∷ words ∷ word ∷ part ∷ why ∷ codes "\n" ∷ [])
 
-by_pieces : (n : List ℕ) (cause : FlightCause) → record_line n (cause_words cause) (cause_word cause) (cause_part cause) (cause_why cause) ≡ cause_line n cause
+by_pieces : (n : List ℕ) (cause : FlightCause)
+    → record_line n (cause_words cause) (cause_word cause) (cause_part cause) (cause_why cause) ≡ cause_line n cause
 by_pieces n flight.Header = refl
 by_pieces n flight.FieldCount = refl
 by_pieces n flight.Callsign = refl
@@ -24,7 +26,8 @@ by_pieces n flight.Duplicate = refl
 by_pieces n flight.TooMany = refl
 by_pieces n flight.Memory = refl
 
-named : (n m words word part why : List ℕ) (cause : FlightCause) → n ≡ m → words ≡ cause_words cause → word ≡ cause_word cause →
+named : (n m words word part why : List ℕ) (cause : FlightCause) → n ≡ m → words ≡ cause_words cause
+    → word ≡ cause_word cause →
     part ≡ cause_part cause → why ≡ cause_why cause → record_line n words word part why ≡ cause_line m cause
 named n m words word part why cause number heads is in_part for =
     ap₂ (λ x y. record_line x y word part why) number heads
@@ -32,5 +35,6 @@ named n m words word part why cause number heads is in_part for =
     ∙ ap (λ x. record_line m (cause_words cause) (cause_word cause) (cause_part cause) x) for ∙ by_pieces m cause
 
 pub returns : goal.returns
-returns g c = says _ _ _ _ _ (named _ _ _ _ _ _ c.args.cause.now (c.as_bytes-number.ensures.value ∙ c.format.ensures.text)
+returns g c = says _ _ _ _ _ (named _ _ _ _ _ _ c.args.cause.now (c.as_bytes-number.ensures.value
+    ∙ c.format.ensures.text)
     c.cause_words.ensures c.cause_word.ensures c.cause_part-part.ensures c.cause_why.ensures) c.put_all.ensures

@@ -8,4 +8,5 @@ use Rattle.endings.proofs.lines.put_all.Given as goal
 abbrev pub invariant-loop-piece : goal.invariant-loop-piece
 invariant-loop-piece g l =
     let pieces : List (Bor (List ℕ)) = l.fn.pieces in
-    Written (g.E.Sink.state l.fn.err) (g.E.Sink.state l.err) (line_text (take l.piece-index (map (λ piece. piece.now) pieces)))
+    Written (g.E.Sink.state l.fn.err) (g.E.Sink.state l.err)
+    (line_text (take l.piece-index (map (λ piece. piece.now) pieces)))

@@ -6,5 +6,6 @@ use Rattle.endings.proofs.lines.say_between.Goals as goal
 
 pub returns : goal.returns
 returns g c =
-    let n : c.as_bytes-number.result.now ≡ decimal c.args.number = c.as_bytes-number.ensures.value ∙ c.format.ensures.text in
+    let n : c.as_bytes-number.result.now ≡ decimal c.args.number =
+    c.as_bytes-number.ensures.value ∙ c.format.ensures.text in
     says _ _ _ _ _ (ap (λ t. line_text (c.args.before.now ∷ t ∷ c.args.after.now ∷ [])) n) c.put_all.ensures

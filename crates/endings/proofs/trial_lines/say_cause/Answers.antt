@@ -25,4 +25,5 @@ pub returns-in-Value : goal.returns-in-Value
 returns-in-Value g c = says _ _ _ _ _ (ap (trial_line (decimal c.args.number)) (sym c.in-Value.is)) c.say_value.ensures
 
 pub returns-in_default : goal.returns-in_default
-returns-in_default g c = says _ _ _ _ _ (plain c.args.number _ c.args.cause.now c.cause_words.ensures c.in_default.not-Value) c.say_between.ensures
+returns-in_default g c = says _ _ _ _ _
+    (plain c.args.number _ c.args.cause.now c.cause_words.ensures c.in_default.not-Value) c.say_between.ensures

@@ -6,7 +6,8 @@ use Rattle.endings.proofs.trial_lines.say_value.Goals as goal
 
 -- the line by its texts
 abbrev value_line : List ℕ → List ℕ → List ℕ → List ℕ → List ℕ
-value_line n word part why = line_text (codes "cps: trials: record " ∷ n ∷ codes ": value " ∷ word ∷ part ∷ why ∷ codes "\n" ∷ [])
+value_line n word part why =
+    line_text (codes "cps: trials: record " ∷ n ∷ codes ": value " ∷ word ∷ part ∷ why ∷ codes "\n" ∷ [])
 
 pub returns : goal.returns
 returns g c =

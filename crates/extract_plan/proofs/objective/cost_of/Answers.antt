@@ -7,8 +7,10 @@ pub returns : goal.returns
 returns c =
     let s = c.args.schedule.now in
     let r = c.args.rank in
-    let t : c.second.result ≤ 172799 = subst (λ n. n ≤ 172799) (sym c.second.ensures) (c.requires.seconds (r - 1) 0 (omega (arith, c.requires.rank, c.requires.room))) in
+    let t : c.second.result ≤ 172799 = subst (λ n. n ≤ 172799) (sym c.second.ensures)
+    (c.requires.seconds (r - 1) 0 (omega (arith, c.requires.rank, c.requires.room))) in
     record {
-      value = c.from.ensures ∙ c.cost.ensures.value ∙ ap (cost_at c.args.problem.now r) (c.second.ensures ∙ second_is s r c.requires.rank.0);
+      value = c.from.ensures ∙ c.cost.ensures.value ∙ ap (cost_at c.args.problem.now r)
+          (c.second.ensures ∙ second_is s r c.requires.rank.0);
       small = omega (arith, t, c.cost.ensures.small, c.from.ensures);
     }

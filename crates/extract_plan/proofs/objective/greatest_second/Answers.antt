@@ -12,5 +12,8 @@ pub returns : goal.returns
 returns c =
     let seconds = c.args.schedule.now in
     let step = λ (m r : ℕ). max (slice_index seconds (r - 1)) m in
-    let more = λ (n : ℕ). (let e : suc n - 1 ≡ n = omega arith in ap (λ i. max (slice_index seconds i) (greatest (of_rank 0 seconds) n)) e) in
-    fold_from_yields_List _ step 0 _ c.fold.ensures.ran (YieldsList-from_range 1 _ (length seconds) refl (omega (arith, c.len.ensures.value))) (λ a x b q k. search (rules, tests)) ∙ ranks_folded step (greatest (of_rank 0 seconds)) more (length seconds)
+    let more = λ (n : ℕ). (let e : suc n - 1 ≡ n =
+    omega arith in ap (λ i. max (slice_index seconds i) (greatest (of_rank 0 seconds) n)) e) in
+    fold_from_yields_List _ step 0 _ c.fold.ensures.ran
+    (YieldsList-from_range 1 _ (length seconds) refl (omega (arith, c.len.ensures.value)))
+    (λ a x b q k. search (rules, tests)) ∙ ranks_folded step (greatest (of_rank 0 seconds)) more (length seconds)

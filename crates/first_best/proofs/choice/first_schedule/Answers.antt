@@ -10,13 +10,21 @@ pub loop-done-init : goal.loop-done-init
 loop-done-init c =
     let p = c.args.problem.now in
     let blank = c.in_ok-schedule.ensures in
-    no_order p c.window_laws.ensures.well_formed c.args.value (held_of c.args.kept.now) c.args.ahead.now c.requires.ahead c.in_ok-schedule.schedule (blank ∙ ap (λ (n : ℕ). replicate n 0) c.len.ensures.value) (ap length (blank ∙ ap (λ (n : ℕ). replicate n 0) c.len.ensures.value) ∙ length-replicate (length p.flights) 0)
+    no_order p c.window_laws.ensures.well_formed c.args.value
+    (held_of c.args.kept.now) c.args.ahead.now c.requires.ahead c.in_ok-schedule.schedule
+    (blank ∙ ap (λ (n : ℕ). replicate n 0) c.len.ensures.value)
+    (ap length (blank ∙ ap (λ (n : ℕ). replicate n 0) c.len.ensures.value)
+    ∙ length-replicate (length p.flights) 0)
 
 pub set-requires : goal.set-requires
 set-requires c =
     let whole = (c.stages-done-end.ensures.held c.args.problem.now c.requires.held).whole in
-    let chosen = chosen_by c.args.problem.now c.window_laws.ensures.well_formed c.args.value (held_of c.args.kept.now) c.args.ahead.now c.requires.ahead c.requires.value c.loop-done.done c.loop-done.before c.loop-done.cost c.loop-done.schedule c.loop-done.invariant
-    (omega (arith, c.loop-done-test.true, c.stages-done-end.ensures.value, whole)) c.least_choice-rank.result c.budget_of-budget.result c.budget_of-budget.ensures c.stage.result.now c.stage.ensures c.least_choice-rank.ensures.least in
+    let chosen = chosen_by c.args.problem.now c.window_laws.ensures.well_formed c.args.value
+    (held_of c.args.kept.now) c.args.ahead.now c.requires.ahead c.requires.value c.loop-done.done
+    c.loop-done.before c.loop-done.cost c.loop-done.schedule c.loop-done.invariant
+    (omega (arith, c.loop-done-test.true, c.stages-done-end.ensures.value, whole)) c.least_choice-rank.result
+    c.budget_of-budget.result c.budget_of-budget.ensures c.stage.result.now c.stage.ensures
+    c.least_choice-rank.ensures.least in
     let fits = chosen.0.legal.0.fits in
     let high = fits.to_count in
     let room = c.loop-done.invariant.room in
@@ -25,8 +33,12 @@ set-requires c =
 pub cost-requires-clause-rank : goal.cost-requires-clause-rank
 cost-requires-clause-rank c =
     let whole = (c.stages-done-end.ensures.held c.args.problem.now c.requires.held).whole in
-    let chosen = chosen_by c.args.problem.now c.window_laws.ensures.well_formed c.args.value (held_of c.args.kept.now) c.args.ahead.now c.requires.ahead c.requires.value c.loop-done.done c.loop-done.before c.loop-done.cost c.loop-done.schedule c.loop-done.invariant
-    (omega (arith, c.loop-done-test.true, c.stages-done-end.ensures.value, whole)) c.least_choice-rank.result c.budget_of-budget.result c.budget_of-budget.ensures c.stage.result.now c.stage.ensures c.least_choice-rank.ensures.least in
+    let chosen = chosen_by c.args.problem.now c.window_laws.ensures.well_formed c.args.value
+    (held_of c.args.kept.now) c.args.ahead.now c.requires.ahead c.requires.value c.loop-done.done
+    c.loop-done.before c.loop-done.cost c.loop-done.schedule c.loop-done.invariant
+    (omega (arith, c.loop-done-test.true, c.stages-done-end.ensures.value, whole)) c.least_choice-rank.result
+    c.budget_of-budget.result c.budget_of-budget.ensures c.stage.result.now c.stage.ensures
+    c.least_choice-rank.ensures.least in
     let fits = chosen.0.legal.0.fits in
     (fits.from_one, fits.to_count)
 
@@ -36,8 +48,12 @@ cost-requires-clause-second c = c.least_choice-rank.ensures.in_days
 pub with_rank-before-requires : goal.with_rank-before-requires
 with_rank-before-requires c =
     let whole = (c.stages-done-end.ensures.held c.args.problem.now c.requires.held).whole in
-    let chosen = chosen_by c.args.problem.now c.window_laws.ensures.well_formed c.args.value (held_of c.args.kept.now) c.args.ahead.now c.requires.ahead c.requires.value c.loop-done.done c.loop-done.before c.loop-done.cost c.loop-done.schedule c.loop-done.invariant
-    (omega (arith, c.loop-done-test.true, c.stages-done-end.ensures.value, whole)) c.least_choice-rank.result c.budget_of-budget.result c.budget_of-budget.ensures c.stage.result.now c.stage.ensures c.least_choice-rank.ensures.least in
+    let chosen = chosen_by c.args.problem.now c.window_laws.ensures.well_formed c.args.value
+    (held_of c.args.kept.now) c.args.ahead.now c.requires.ahead c.requires.value c.loop-done.done
+    c.loop-done.before c.loop-done.cost c.loop-done.schedule c.loop-done.invariant
+    (omega (arith, c.loop-done-test.true, c.stages-done-end.ensures.value, whole)) c.least_choice-rank.result
+    c.budget_of-budget.result c.budget_of-budget.ensures c.stage.result.now c.stage.ensures
+    c.least_choice-rank.ensures.least in
     let high = chosen.0.legal.0.fits.to_count in
     let few = c.window_laws.ensures.well_formed.few_flights in
     omega (arith, high, few)
@@ -45,8 +61,12 @@ with_rank-before-requires c =
 pub loop-done-preserved : goal.loop-done-preserved
 loop-done-preserved c =
     let whole = (c.stages-done-end.ensures.held c.args.problem.now c.requires.held).whole in
-    let chosen = chosen_by c.args.problem.now c.window_laws.ensures.well_formed c.args.value (held_of c.args.kept.now) c.args.ahead.now c.requires.ahead c.requires.value c.loop-done.done c.loop-done.before c.loop-done.cost c.loop-done.schedule c.loop-done.invariant
-    (omega (arith, c.loop-done-test.true, c.stages-done-end.ensures.value, whole)) c.least_choice-rank.result c.budget_of-budget.result c.budget_of-budget.ensures c.stage.result.now c.stage.ensures c.least_choice-rank.ensures.least in
+    let chosen = chosen_by c.args.problem.now c.window_laws.ensures.well_formed c.args.value
+    (held_of c.args.kept.now) c.args.ahead.now c.requires.ahead c.requires.value c.loop-done.done
+    c.loop-done.before c.loop-done.cost c.loop-done.schedule c.loop-done.invariant
+    (omega (arith, c.loop-done-test.true, c.stages-done-end.ensures.value, whole)) c.least_choice-rank.result
+    c.budget_of-budget.result c.budget_of-budget.ensures c.stage.result.now c.stage.ensures
+    c.least_choice-rank.ensures.least in
     let p = c.args.problem.now in
     let v = c.args.value in
     let stages = c.args.ahead.now in
@@ -55,13 +75,19 @@ loop-done-preserved c =
     let after = c.with_rank-before in
     let days = c.least_choice-rank.ensures.in_days in
     let price = c.from-cost.result in
-    let made = one_landing p c.window_laws.ensures.well_formed v (held_of c.args.kept.now) stages c.requires.ahead c.requires.value done c.loop-done.before c.loop-done.cost c.loop-done.schedule c.loop-done.invariant
-    least.0 least.1 chosen.0 chosen.1 days after.result after.ensures.placed after.ensures.last after.ensures.earliest price (c.from-cost.ensures ∙ c.cost.ensures.value) (omega (arith, days, c.from-cost.ensures, c.cost.ensures.small)) in
+    let made = one_landing p c.window_laws.ensures.well_formed v
+    (held_of c.args.kept.now) stages c.requires.ahead c.requires.value done c.loop-done.before
+    c.loop-done.cost c.loop-done.schedule c.loop-done.invariant
+    least.0 least.1 chosen.0 chosen.1 days after.result after.ensures.placed after.ensures.last
+    after.ensures.earliest price (c.from-cost.ensures ∙ c.cost.ensures.value)
+    (omega (arith, days, c.from-cost.ensures, c.cost.ensures.small)) in
     subst (λ (s : Schedule). IsOrder p v (done + 1) after.result (c.loop-done.cost + price) s) (sym c.set.ensures) made
 
 pub returns : goal.returns
 returns c =
     let p = c.args.problem.now in
     let whole = (c.stages-done-end.ensures.held p c.requires.held).whole in
-    whole_order p c.window_laws.ensures.well_formed c.args.value (held_of c.args.kept.now) c.args.ahead.now c.requires.ahead c.requires.value c.loop-done.done c.loop-done.before c.loop-done.cost c.loop-done.schedule c.loop-done.invariant
+    whole_order p c.window_laws.ensures.well_formed c.args.value
+    (held_of c.args.kept.now) c.args.ahead.now c.requires.ahead c.requires.value c.loop-done.done
+    c.loop-done.before c.loop-done.cost c.loop-done.schedule c.loop-done.invariant
     (omega (arith, c.loop-done-test.false, c.loop-done.auto.done-end, c.stages-done-end.ensures.value, whole))

@@ -16,7 +16,8 @@ fold-latest-requires-clause-callable c =
     fold_may_call (YieldsList-from_slice ways (cc)) (λ a x b q k. search (rules, tests)) (λ k a x at.
     let lt = slice_get_within ways k x.now at in
     let is = get_or_from_slice_get ways k x.now 0 at in
-    let within : x.now < length c.args.next.now.lists = omega (arith, c.requires.ways.within k lt, is, c.requires.next.one_each) in
+    let within : x.now < length c.args.next.now.lists =
+    omega (arith, c.requires.ways.within k lt, is, c.requires.next.one_each) in
     let rises = c.requires.next.rising x.now in
     search (rules, tests))
 
@@ -25,7 +26,9 @@ returns-clause-last c = λ v q h.
     let p = c.args.problem.now in
     let lists = c.args.next.now.lists in
     let ways = c.args.ways.now in
-    let all = kept_by_fold _ (λ n latest. (i : ℕ) → i < n → (q : Pair) → InPairs q (list_at lists (slice_index_or ways i 0)) → q.0 ≤ latest) c.fold-latest.ensures.ran (YieldsList-from_slice ways (cc)) (λ i lt. absurd (omega (arith, lt)))
+    let all = kept_by_fold _ (λ n latest. (i : ℕ) → i < n → (q : Pair)
+    → InPairs q (list_at lists (slice_index_or ways i 0)) → q.0 ≤ latest) c.fold-latest.ensures.ran
+    (YieldsList-from_slice ways (cc)) (λ i lt. absurd (omega (arith, lt)))
     (λ i a x b q at held k.
     let is = get_or_from_slice_get ways i x.now 0 at in
     let same : q ≡ record { 0 = c.args.next } = search (rules, tests) in
@@ -37,6 +40,7 @@ returns-clause-last c = λ v q h.
         | inr ne ↦ (let late = held j (omega (arith, below, ne)) o m in omega (arith, late, more))
       ],
     )) in
-    let late = pairs_late p v c.args.stage c.args.node c.args.next.now ways c.fold-latest.result c.requires.node.0 (omega (arith, c.if-stage-len.false, c.len.ensures.value, c.requires.stage.1)) c.requires.ways all q h in
+    let late = pairs_late p v c.args.stage c.args.node c.args.next.now ways c.fold-latest.result c.requires.node.0
+    (omega (arith, c.if-stage-len.false, c.len.ensures.value, c.requires.stage.1)) c.requires.ways all q h in
     let days = c.last_open-last.ensures.last q.0 h.opened in
     omega (arith, late, days, c.min.ensures)

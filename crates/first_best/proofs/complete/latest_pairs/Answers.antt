@@ -5,13 +5,17 @@ use Rattle.landing_rules.specs.Rules.{last_second}
 use Rattle.first_best.proofs.ScanLemmas.{cheaper, no_cheaper, nothing_here, scanned_all, scanned_free}
 use Rattle.first_best.proofs.complete.latest_pairs.Goals as goal
 
-is_small : (p : Problem) (stage : ℕ) (o : Option ℕ) (cost : ℕ) → IfSome o (λ d. d ≤ 17279900 * (length p.flights - stage)) → o ≡ Some cost → cost ≤ 17279900 * (length p.flights - stage)
-is_small p stage o cost small e = subst (λ (o : Option ℕ). IfSome o (λ d. d ≤ 17279900 * (length p.flights - stage))) e small
+is_small : (p : Problem) (stage : ℕ) (o : Option ℕ) (cost : ℕ)
+    → IfSome o (λ d. d ≤ 17279900 * (length p.flights - stage)) → o ≡ Some cost
+    → cost ≤ 17279900 * (length p.flights - stage)
+is_small p stage o cost small e =
+    subst (λ (o : Option ℕ). IfSome o (λ d. d ≤ 17279900 * (length p.flights - stage))) e small
 
 pub returns-then-least-eq0 : goal.returns-then-least-eq0
 returns-then-least-eq0 c =
     let i = c.loop-second.invariant in
-    scanned_free c.args.wanted.now.problem.now c.args.wanted.now.value c.args.wanted.now.budget c.args.wanted.now.stage c.args.node c.args.next.now i.0 i.1
+    scanned_free c.args.wanted.now.problem.now c.args.wanted.now.value c.args.wanted.now.budget
+    c.args.wanted.now.stage c.args.node c.args.next.now i.0 i.1
     c.loop-second.second c.loop-second.least c.loop-second.pairs.items c.if-least-eq0.true i.2
 
 pub loop-second-preserved : goal.loop-second-preserved
@@ -21,8 +25,10 @@ loop-second-preserved c =
     let before : from ≡ from - 1 + 1 = omega (arith, c.loop-second-test.true) in (
       i.0,
       i.1,
-      nothing_here c.args.wanted.now.problem.now c.args.wanted.now.value c.args.wanted.now.budget c.args.wanted.now.stage c.args.node c.args.next.now i.0 i.1
-          from (from - 1) c.loop-second.least c.loop-second.pairs.items before i.2 c.cost_of.result c.cost_of.ensures.least c.in_default.is,
+      nothing_here c.args.wanted.now.problem.now c.args.wanted.now.value c.args.wanted.now.budget
+          c.args.wanted.now.stage c.args.node c.args.next.now i.0 i.1
+          from (from - 1) c.loop-second.least c.loop-second.pairs.items before i.2 c.cost_of.result
+          c.cost_of.ensures.least c.in_default.is,
     )
 
 pub loop-second-preserved-then-from-least : goal.loop-second-preserved-then-from-least
@@ -32,9 +38,14 @@ loop-second-preserved-then-from-least c =
     let cost = c.in-Some.cost in
     let before : from ≡ from - 1 + 1 = omega (arith, c.loop-second-test.true) in
     let less : cost < c.loop-second.least = omega (arith, c.if-from-least.true, c.from.ensures) in
-    let in_days : from - 1 ≤ last_second = omega (arith, before, c.loop-second.auto.second, c.latest-end.ensures.in_days) in
-    let made = cheaper c.args.wanted.now.problem.now c.args.wanted.now.value c.args.wanted.now.budget c.args.wanted.now.stage c.args.node c.args.next.now i.0 i.1
-    from (from - 1) c.loop-second.least c.loop-second.pairs.items before i.2 c.cost_of.result c.cost_of.ensures.least cost c.in-Some.is less in_days (is_small c.args.wanted.now.problem.now c.args.wanted.now.stage c.cost_of.result cost c.cost_of.ensures.small c.in-Some.is) in
+    let in_days : from - 1 ≤ last_second =
+    omega (arith, before, c.loop-second.auto.second, c.latest-end.ensures.in_days) in
+    let made = cheaper c.args.wanted.now.problem.now c.args.wanted.now.value c.args.wanted.now.budget
+    c.args.wanted.now.stage c.args.node c.args.next.now i.0 i.1
+    from (from - 1) c.loop-second.least c.loop-second.pairs.items before i.2 c.cost_of.result
+    c.cost_of.ensures.least cost c.in-Some.is less in_days
+    (is_small c.args.wanted.now.problem.now c.args.wanted.now.stage c.cost_of.result cost
+    c.cost_of.ensures.small c.in-Some.is) in
     (i.0, i.1, rw (c.from-least.ensures, c.in_ok-push.ensures.items) made)
 
 pub loop-second-preserved-else-from-least : goal.loop-second-preserved-else-from-least
@@ -44,16 +55,20 @@ loop-second-preserved-else-from-least c =
     let cost = c.in-Some.cost in
     let before : from ≡ from - 1 + 1 = omega (arith, c.loop-second-test.true) in
     let dear : c.loop-second.least ≤ cost = omega (arith, c.if-from-least.false, c.from.ensures) in
-    let small = is_small c.args.wanted.now.problem.now c.args.wanted.now.stage c.cost_of.result cost c.cost_of.ensures.small c.in-Some.is in (
+    let small = is_small c.args.wanted.now.problem.now c.args.wanted.now.stage c.cost_of.result
+    cost c.cost_of.ensures.small c.in-Some.is in (
       i.0,
       i.1,
-      no_cheaper c.args.wanted.now.problem.now c.args.wanted.now.value c.args.wanted.now.budget c.args.wanted.now.stage c.args.node c.args.next.now i.0 i.1
-          from (from - 1) c.loop-second.least c.loop-second.pairs.items before i.2 c.cost_of.result c.cost_of.ensures.least cost c.in-Some.is dear
+      no_cheaper c.args.wanted.now.problem.now c.args.wanted.now.value c.args.wanted.now.budget
+          c.args.wanted.now.stage c.args.node c.args.next.now i.0 i.1
+          from (from - 1) c.loop-second.least c.loop-second.pairs.items before i.2 c.cost_of.result
+          c.cost_of.ensures.least cost c.in-Some.is dear
           (omega (arith, small, c.len-few.ensures.well_formed.few_flights)),
     )
 
 pub returns : goal.returns
 returns c =
     let i = c.loop-second.invariant in
-    scanned_all c.args.wanted.now.problem.now c.args.wanted.now.value c.args.wanted.now.budget c.args.wanted.now.stage c.args.node c.args.next.now i.0 i.1
+    scanned_all c.args.wanted.now.problem.now c.args.wanted.now.value c.args.wanted.now.budget
+    c.args.wanted.now.stage c.args.node c.args.next.now i.0 i.1
     c.loop-second.second c.loop-second.least c.loop-second.pairs.items c.loop-second-test.false i.2

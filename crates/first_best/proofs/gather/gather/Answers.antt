@@ -16,7 +16,8 @@ pub node-node-requires-clause-place : goal.node-node-requires-clause-place
 node-node-requires-clause-place c =
     let n = c.args.windows.now in
     let long = ap (λ (xs : List ℕ). length xs) c.firsts-firsts.ensures in
-    let same : told_at c.firsts-firsts.result.now c.loop-j.j ≡ told_at n.firsts c.loop-j.j = ap (λ (xs : List ℕ). told_at xs c.loop-j.j) c.firsts-firsts.ensures in
+    let same : told_at c.firsts-firsts.result.now c.loop-j.j ≡ told_at n.firsts c.loop-j.j =
+    ap (λ (xs : List ℕ). told_at xs c.loop-j.j) c.firsts-firsts.ensures in
     let lt = c.requires.windows.together.first c.loop-j.j (omega (arith, c.loop-j-test.true, long)) in
     omega (arith, same, lt)
 
@@ -30,10 +31,18 @@ loop-j-preserved c =
     let least = c.in_ok-least.least.items in
     let node = c.node-node.result in
     let long = ap (λ (xs : List ℕ). length xs) c.firsts-firsts.ensures in
-    let same : told_at c.firsts-firsts.result.now j ≡ told_at n.firsts j = ap (λ (xs : List ℕ). told_at xs j) c.firsts-firsts.ensures in
+    let same : told_at c.firsts-firsts.result.now j ≡ told_at n.firsts j =
+    ap (λ (xs : List ℕ). told_at xs j) c.firsts-firsts.ensures in
     let each = c.in_ok-least.ensures.least.one_each in
-    let found : c.index-found.result.now ≡ pair_at least j = c.index-found.ensures ∙ get_or_default least j c.index-found.result.now (0, 0) (omega (arith, c.loop-j-test.true, long, each)) in
-    let made : EarlyNode = record { placed = node.placed; last = node.last; earliest = c.index-found.result.now.0; cheapest = c.index-found.result.now.1 } in
+    let found : c.index-found.result.now ≡ pair_at least j = c.index-found.ensures
+    ∙ get_or_default least j c.index-found.result.now (0, 0) (omega (arith, c.loop-j-test.true, long, each)) in
+    let made : EarlyNode = record {
+      placed = node.placed;
+      last = node.last;
+      earliest =
+          c.index-found.result.now.0;
+      cheapest = c.index-found.result.now.1;
+    } in
     let more = one_made stage s.1 n.firsts least j c.loop-j.nodes.items c.loop-j.invariant made
     (record {
       placed = subst (λ (i : ℕ). TellsPlaced (windows.node_at s.1 i) stage node.placed) same c.node-node.ensures.placed;
@@ -52,5 +61,7 @@ returns c =
     let are = c.stages-held.ensures.held p c.requires.held in
     let long = ap (λ (xs : List ℕ). length xs) c.firsts-firsts.ensures in
     let end : c.loop-j.j ≡ length n.firsts = omega (arith, c.loop-j-test.false, c.loop-j.auto.j-end, long) in
-    all_made p held stage (are.number stage c.requires.stage.1) (are.pairs stage c.requires.stage.1) n c.requires.windows least c.in_ok-least.ensures.least c.loop-j.nodes.items
-    (subst (λ (m : ℕ). AreMade stage (stage_in held stage).1 n.firsts least m c.loop-j.nodes.items) end c.loop-j.invariant)
+    all_made p held stage (are.number stage c.requires.stage.1)
+    (are.pairs stage c.requires.stage.1) n c.requires.windows least c.in_ok-least.ensures.least c.loop-j.nodes.items
+    (subst (λ (m : ℕ). AreMade stage (stage_in held stage).1 n.firsts least m c.loop-j.nodes.items)
+    end c.loop-j.invariant)

@@ -11,5 +11,6 @@ returns c =
     let before = c.args.before in
     let after = c.args.after in
     let same = Decides-eqb after.placed (bit_or before.placed (1 * 2 ^ after.last % 2 ^ 64)) in
-    let new = λ (h : HasBit before.placed after.last). c.if-before-after-eq1.false (shr_and_one before.placed after.last ∙ h) in
+    let new = λ (h : HasBit before.placed after.last). c.if-before-after-eq1.false (shr_and_one before.placed after.last
+    ∙ h) in
     (λ t. set_leads before after (omega arith) new (same.0 t), λ l. same.1 (leads_set before after (omega arith) l))

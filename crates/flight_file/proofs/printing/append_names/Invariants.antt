@@ -5,7 +5,8 @@ use Rattle.flight_file.specs.Kept.{AreCallsigns}
 use Rattle.flight_file.proofs.printing.append_names.Given as goal
 
 abbrev pub invariant-loop-rest : goal.invariant-loop-rest
-invariant-loop-rest l = (l.into.items ++ names_text l.rest ≡ l.fn.into.items ++ names_text l.fn.names) × (AreCallsigns l.rest → AreCallsigns l.fn.names)
+invariant-loop-rest l = (l.into.items ++ names_text l.rest ≡ l.fn.into.items ++ names_text l.fn.names)
+    × (AreCallsigns l.rest → AreCallsigns l.fn.names)
 
 abbrev pub decreases-loop-rest : goal.decreases-loop-rest
 decreases-loop-rest l = length l.rest

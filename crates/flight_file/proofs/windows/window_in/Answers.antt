@@ -10,4 +10,5 @@ unfolding window_in
 returns-in-Some-more-clause-value c =
     let first = rw c.in-Some.is at c.first_part.ensures.value in
     let second = rw c.in-Some-more.is at c.first_part-2.ensures.value in
-    rw (first, second) (sym (too_many c.args.number c.first_part.result.0.now c.first_part-2.result.0.now _ (has_part 45 c.in-Some-more.field-0.now)))
+    rw (first, second) (sym (too_many c.args.number c.first_part.result.0.now c.first_part-2.result.0.now _
+    (has_part 45 c.in-Some-more.field-0.now)))

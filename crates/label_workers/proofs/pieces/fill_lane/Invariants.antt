@@ -4,4 +4,5 @@ use Rattle.label_workers.specs.Pieces.{IsOfPart}
 use Rattle.label_workers.proofs.pieces.fill_lane.Given as goal
 
 abbrev pub invariant-loop-piece : goal.invariant-loop-piece
-invariant-loop-piece g l = (length l.part ≡ l.len) × ((k : ℕ) → k < l.piece * 1024 → k < l.len → IsOfPart g.F.Fn l.f l.start (l.start + l.len) (l.start + k) (slice_index l.part k))
+invariant-loop-piece g l = (length l.part ≡ l.len) × ((k : ℕ) → k < l.piece * 1024 → k < l.len
+    → IsOfPart g.F.Fn l.f l.start (l.start + l.len) (l.start + k) (slice_index l.part k))

@@ -1,4 +1,5 @@
-use Rattle.std.proofs.Common.{◌≡◌, ◌∷◌, [], ◌≤◌, ◌<◌, refl, arith, true, false, ℕ, Bool, List, cond, nat_lt, map, filter}
+use Rattle.std.proofs.Common.{◌≡◌, ◌∷◌, [], ◌≤◌, ◌<◌, refl, arith, true, false, ℕ, Bool, List, cond, nat_lt, map}
+use Rattle.std.proofs.Common.{filter}
 use Rattle.std.proofs.lemmas.Bool.{false≢true}
 use Rattle.std.proofs.lemmas.Bool.Decides.{nat_tests}
 use Rattle.wake_table.specs.Table.{separation}
@@ -21,14 +22,16 @@ seconds a b h l = grind (arith, nat_tests)
 
 tight_first : IsTight closed_pair (1000 ∷ 1200 ∷ [])
 unfolding separation
-tight_first = tight_of_two closed_pair (1000 ∷ 1200 ∷ []) refl refl (λ a b h o. let later : a < b = (o 0 1 (omega arith) (omega arith)).0 (omega arith) in let s = seconds a b h later in (s.0, (s.1, tt)))
+tight_first = tight_of_two closed_pair (1000 ∷ 1200 ∷ []) refl refl (λ a b h o. let later : a < b =
+    (o 0 1 (omega arith) (omega arith)).0 (omega arith) in let s = seconds a b h later in (s.0, (s.1, tt)))
 
 -- the order of ranks by whether rank 2 lands first
 abbrev order_by : ℕ → ℕ → Bool → List ℕ
 order_by a b c =
     let f = landing (newcomer (a1 (1000, 2000))) a in
     let g = landing (newcomer (f1 (1010, 2000))) b in
-    map (λ (x : Landing). rank (map (λ (y : Active). y.flight) (waiting closed_pair)) x.flight) (filter waits (cond c (g ∷ f ∷ []) (f ∷ g ∷ [])))
+    map (λ (x : Landing). rank (map (λ (y : Active). y.flight) (waiting closed_pair)) x.flight)
+    (filter waits (cond c (g ∷ f ∷ []) (f ∷ g ∷ [])))
 
 -- whichever lands first, rank 1 first is no later
 either : (a b : ℕ) → ComesNoLater (1 ∷ 2 ∷ []) (order_of closed_pair (a ∷ b ∷ []))

@@ -18,7 +18,8 @@ pub returns-clause-opened : goal.returns-clause-opened
 unfolding separation
 returns-clause-opened c = (
   best_of_two (pair 1) (1070 ∷ 1010 ∷ []) refl refl (λ a b h. grind (arith, nat_tests)),
-  tight_of_two (pair 1) (1070 ∷ 1010 ∷ []) refl refl (λ a b h o. let later : b < a = (o 1 0 (omega arith) (omega arith)).0 (omega arith) in let s = seconds a b h (omega arith) in (s.0, (s.1, tt))),
+  tight_of_two (pair 1) (1070 ∷ 1010 ∷ []) refl refl (λ a b h o. let later : b < a =
+      (o 1 0 (omega arith) (omega arith)).0 (omega arith) in let s = seconds a b h (omega arith) in (s.0, (s.1, tt))),
 )
 
 pub returns-clause-run : goal.returns-clause-run
@@ -30,7 +31,8 @@ returns-clause-run c = (
       changed = refl;
       shown = (
         best_of_two pair_at_900 (1070 ∷ 1010 ∷ []) refl refl (λ a b h. let s = seconds_at_900 a b h in omega arith),
-        tight_of_two pair_at_900 (1070 ∷ 1010 ∷ []) refl refl (λ a b h o. let s = seconds_at_900 a b h in (s.0, (s.1, tt))),
+        tight_of_two pair_at_900 (1070 ∷ 1010 ∷ []) refl refl (λ a b h o. let s =
+            seconds_at_900 a b h in (s.0, (s.1, tt))),
       );
     };
   },

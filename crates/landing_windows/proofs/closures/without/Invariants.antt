@@ -6,6 +6,7 @@ use Rattle.landing_windows.proofs.closures.without.Given as goal
 
 abbrev pub invariant-loop-other : goal.invariant-loop-other
 invariant-loop-other l = record {
-  same : l.kept ++ left (same_span l.pair) l.is_found (drop l.other-index l.pairs) ≡ without_first (same_span l.pair) l.pairs;
+  same : l.kept ++ left (same_span l.pair) l.is_found (drop l.other-index l.pairs) ≡ without_first
+      (same_span l.pair) l.pairs;
   few : length l.kept ≤ l.other-index;
 }

@@ -12,12 +12,14 @@ use Rattle.landing_windows.proofs.search.first_shut.Goals as goal
 abbrev earlier_of : ℕ → ℕ → Span → ℕ
 earlier_of start least x = if nat_lt (max start x.0) x.1 then min (max start x.0) least else least
 
-one_more : (start most : ℕ) (xs : List Span) (least : ℕ) (x : Span) (next : ℕ) → next ≡ earlier_of start least x → IsFirstShut xs start most least → IsFirstShut (xs ++ (x ∷ [])) start most next
+one_more : (start most : ℕ) (xs : List Span) (least : ℕ) (x : Span) (next : ℕ) → next ≡ earlier_of start least x
+    → IsFirstShut xs start most least → IsFirstShut (xs ++ (x ∷ [])) start most next
 one_more start most xs least x next is h = subst (IsFirstShut (xs ++ (x ∷ [])) start most) (sym is) (record {
   after = let a = h.after in grind arith;
   within = let a = h.within in grind arith;
   least = λ u from below. let both = list_any-append (is_shut u) xs (x ∷ []) in let a = h.least u from in grind arith;
-  shut = λ below. let both = list_any-append (is_shut (earlier_of start least x)) xs (x ∷ []) in let a = h.shut in let b = h.within in grind arith;
+  shut = λ below. let both = list_any-append (is_shut (earlier_of start least x)) xs (x ∷ []) in let a =
+      h.shut in let b = h.within in grind arith;
 })
 
 pub returns : goal.returns
@@ -25,5 +27,11 @@ returns c =
     let all : c.iter.result.rest.now ≡ c.args.closures.now = cc in
     subst (λ xs. IsFirstShut xs c.args.start c.args.most c.fold.result) all
     (fold_over fronts (λ y. y.now) _ (λ xs least. IsFirstShut xs c.args.start c.args.most least) _
-    (λ xs least x next f held k. (one_more c.args.start c.args.most xs least x.now next (search (rules, tests)) held, search (rules, tests)))
-    _ _ _ _ (slice_gives c.iter.result) (record { after = c.requires; within = omega arith; least = λ u a b. cc; shut = λ lt. absurd (omega arith) }) c.fold.ensures.ran)
+    (λ xs least x next f held k. (
+      one_more c.args.start c.args.most xs least x.now next
+          (search (rules, tests)) held,
+      search (rules, tests),
+    ))
+    _ _ _ _ (slice_gives c.iter.result)
+    (record { after = c.requires; within = omega arith; least = λ u a b. cc; shut = λ lt. absurd (omega arith) })
+    c.fold.ensures.ran)

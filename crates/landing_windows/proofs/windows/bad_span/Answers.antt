@@ -14,7 +14,8 @@ use Rattle.landing_windows.proofs.windows.bad_span.Goals as goal
 fault_at : List Span → ℕ → Option WindowFault
 fault_at spans i = span_fault (i + 1) (end_before spans i) (slice_index_or spans i (0, 0))
 
-along : (spans : List Span) (n i : ℕ) → i + n ≡ length spans → first_answer (fault_at spans) (range_with_len i n) ≡ bad_span (i + 1) (end_before spans i) (drop i spans)
+along : (spans : List Span) (n i : ℕ) → i + n ≡ length spans
+    → first_answer (fault_at spans) (range_with_len i n) ≡ bad_span (i + 1) (end_before spans i) (drop i spans)
 unfolding first_answer bad_span fault_at end_before
 along spans zero i all = rw (drop_all i spans (omega arith)) refl
 along spans (suc n) i all =
@@ -26,5 +27,7 @@ pub returns : goal.returns
 unfolding fault_at end_before
 returns c =
     let spans = c.args.spans.now in
-    first_answer_from_find_map (fault_at spans) _ (λ x r q called. search (rules, tests)) c.find_map.result c.find_map.ensures.runs
-    (YieldsList-from_range 0 (length spans) (length spans) (search (rules, tests)) (omega arith)) ∙ along spans (length spans) 0 (omega arith)
+    first_answer_from_find_map (fault_at spans) _ (λ x r q called. search (rules, tests)) c.find_map.result
+    c.find_map.ensures.runs
+    (YieldsList-from_range 0 (length spans) (length spans) (search (rules, tests)) (omega arith))
+    ∙ along spans (length spans) 0 (omega arith)

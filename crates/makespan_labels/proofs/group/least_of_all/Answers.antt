@@ -10,7 +10,8 @@ least : (c : goal.After-fold) → IsLeastOf c.args.labels.now c.args.from c.args
 least c =
     let labels = c.args.labels.now in
     let from = c.args.from in
-    kept_by_fold_of_range _ (from + 1) c.args.to (λ i a. IsLeastOf labels from i a × IsEntry a) (omega (arith, c.requires.range)) refl c.fold.ensures.ran
+    kept_by_fold_of_range _ (from + 1) c.args.to (λ i a. IsLeastOf labels from i a × IsEntry a)
+    (omega (arith, c.requires.range)) refl c.fold.ensures.ran
     (least_one labels from c.label.result c.label.ensures.value, c.label.ensures.range)
     (λ i a b q lo hi held k.
     let is : b ≡ min a (slice_index labels i) = search (rules, tests) in

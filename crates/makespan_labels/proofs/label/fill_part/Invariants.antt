@@ -6,6 +6,8 @@ use Rattle.makespan_labels.specs.Ready.{IsReady}
 use Rattle.makespan_labels.proofs.label.fill_part.Given as goal
 
 abbrev pub invariant-loop-i : goal.invariant-loop-i
-invariant-loop-i g l = (length l.part ≡ length l.fn.part) × ((m : ℕ) → m < l.i → IsLabelAt l.labelling.problem.now l.labelling.stage.now (l.start + m) (slice_index l.part m))
-    × All (IsReady l.labelling.problem.now g.row.W l.labelling.before.now l.labelling.labels.now) l.groups × (length l.groups ≡ 8)
+invariant-loop-i g l = (length l.part ≡ length l.fn.part)
+    × ((m : ℕ) → m < l.i → IsLabelAt l.labelling.problem.now l.labelling.stage.now (l.start + m) (slice_index l.part m))
+    × All (IsReady l.labelling.problem.now g.row.W l.labelling.before.now l.labelling.labels.now) l.groups
+    × (length l.groups ≡ 8)
     × All (IsFollower l.labelling.problem.now) l.followers × (length l.followers ≡ 8)

@@ -5,8 +5,13 @@ use Rattle.makespan_labels.proofs.LinkLemmas.{lead_over, pair_more}
 use Rattle.makespan_labels.proofs.linked.fill_leads.Goals as goal
 
 pub group_over-group-requires : goal.group_over-group-requires
-group_over-group-requires g c =
-    (search rules, (search rules, (c.requires.can, (c.windows-earlier.ensures.windows, c.requires.groups c.loop-i.i c.loop-i-test.true))))
+group_over-group-requires g c = (
+  search rules,
+  (
+    search rules,
+    (c.requires.can, (c.windows-earlier.ensures.windows, c.requires.groups c.loop-i.i c.loop-i-test.true)),
+  ),
+)
 
 pub loop-i-preserved : goal.loop-i-preserved
 loop-i-preserved g c =
@@ -15,6 +20,8 @@ loop-i-preserved g c =
     let labels = c.args.labelling.now.labels.now in
     let ranges = c.args.ranges.now in
     let group = c.group_over-group.result in
-    pair_more (λ m least category. IsLeadOver p g.row.W before labels (range_at ranges m).0 least category) c.loop-i.leasts c.loop-i.categories c.loop-i.i group.least group.category
+    pair_more (λ m least category. IsLeadOver p g.row.W before labels (range_at ranges m).0 least category)
+    c.loop-i.leasts c.loop-i.categories c.loop-i.i group.least group.category
     (length ranges) c.loop-i-test.true c.loop-i.invariant.0 c.loop-i.invariant.1 c.loop-i.invariant.2
-    (lead_over p g.row.W before labels group (range_at ranges c.loop-i.i).0 c.group_over-group.ensures.ready c.group_over-group.ensures.from)
+    (lead_over p g.row.W before labels group (range_at ranges c.loop-i.i).0 c.group_over-group.ensures.ready
+    c.group_over-group.ensures.from)

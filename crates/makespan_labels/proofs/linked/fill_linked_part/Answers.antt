@@ -7,15 +7,19 @@ use Rattle.makespan_labels.proofs.linked.fill_linked_part.Goals as goal
 
 pub loop-i-init : goal.loop-i-init
 loop-i-init g c =
-    let none : IsFollower c.args.labelling.now.problem.now c.none-followers.result = c.none-followers.ensures c.args.labelling.now.problem.now in
+    let none : IsFollower c.args.labelling.now.problem.now c.none-followers.result =
+    c.none-followers.ensures c.args.labelling.now.problem.now in
     search (rules, none)
 
 pub loop-i-preserved : goal.loop-i-preserved
 loop-i-preserved g c =
-    let more = set_more (λ (m label : ℕ). IsLabelAt c.args.labelling.now.problem.now c.args.labelling.now.stage.now (c.args.start + m) label) c.loop-i.part _ c.loop-i.i c.linked_label_of.result
-    (length c.args.part.now) refl (omega (arith, c.loop-i-test.true, c.loop-i.auto.i-end)) c.loop-i.invariant.0 c.loop-i.invariant.1 c.linked_label_of.ensures.label in (
+    let more = set_more (λ (m label : ℕ). IsLabelAt c.args.labelling.now.problem.now c.args.labelling.now.stage.now
+    (c.args.start + m) label) c.loop-i.part _ c.loop-i.i c.linked_label_of.result
+    (length c.args.part.now) refl (omega (arith, c.loop-i-test.true, c.loop-i.auto.i-end))
+    c.loop-i.invariant.0 c.loop-i.invariant.1 c.linked_label_of.ensures.label in (
       more.0,
       more.1,
-      All-set (IsFollower c.args.labelling.now.problem.now) c.loop-i.followers _ _ c.linked_label_of.ensures.follower c.loop-i.invariant.2,
+      All-set (IsFollower c.args.labelling.now.problem.now) c.loop-i.followers _ _ c.linked_label_of.ensures.follower
+          c.loop-i.invariant.2,
       length-set c.loop-i.followers _ _ ∙ c.loop-i.invariant.3,
     )

@@ -6,5 +6,6 @@ use Rattle.makespan_labels.specs.Followers.{IsFollower}
 use Rattle.makespan_labels.proofs.linked.fill_linked_part.Given as goal
 
 abbrev pub invariant-loop-i : goal.invariant-loop-i
-invariant-loop-i g l = (length l.part ≡ length l.fn.part) × ((m : ℕ) → m < l.i → IsLabelAt l.labelling.problem.now l.labelling.stage.now (l.start + m) (slice_index l.part m))
+invariant-loop-i g l = (length l.part ≡ length l.fn.part)
+    × ((m : ℕ) → m < l.i → IsLabelAt l.labelling.problem.now l.labelling.stage.now (l.start + m) (slice_index l.part m))
     × All (IsFollower l.labelling.problem.now) l.followers × (length l.followers ≡ 8)

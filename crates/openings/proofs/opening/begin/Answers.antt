@@ -12,8 +12,10 @@ pub returns-clause-planned : goal.returns-clause-planned
 returns-clause-planned g c =
     let steps = c.in_ok-sequencer.ensures.steps in
     let problem : Problem = c.in_ok-sequencer.sequencer.problem in
-    let due : IsDue None problem steps.0 = subst (λ (held : Option Problem). IsDue held problem steps.0) c.fresh-planner.ensures.none steps.1 in
-    let few : steps.0 ≤ most_steps = c.due_is_small.ensures None steps.0 (subst (λ (q : Problem). IsDue None q steps.0) (sym c.problem.ensures.value) due) in
+    let due : IsDue None problem steps.0 =
+    subst (λ (held : Option Problem). IsDue held problem steps.0) c.fresh-planner.ensures.none steps.1 in
+    let few : steps.0 ≤ most_steps = c.due_is_small.ensures None steps.0
+    (subst (λ (q : Problem). IsDue None q steps.0) (sym c.problem.ensures.value) due) in
     let rose = steps.2 in
     let raised : Some c.value.result ≡ raised_by steps.0 (Some 0) = cc in
     let value : c.value.result ≡ min (0 + steps.0) (2 ^ 64 - 1) = cc in
@@ -28,4 +30,5 @@ returns-clause-planned g c =
 pub returns-in_err-sequencer-clause-opened : goal.returns-in_err-sequencer-clause-opened
 returns-in_err-sequencer-clause-opened g c =
     let p = err_from_is_err_and c.from_residual.result c.from_residual.ensures.1 in
-    rw p.1 (stops_opened c.args.aerodrome c.args.flights.items c.in_err-sequencer.field-0.0 p.0 c.in_err-sequencer.ensures.refused p.2)
+    rw p.1 (stops_opened c.args.aerodrome c.args.flights.items c.in_err-sequencer.field-0.0
+    p.0 c.in_err-sequencer.ensures.refused p.2)

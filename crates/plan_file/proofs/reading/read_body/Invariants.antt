@@ -7,7 +7,8 @@ use Rattle.plan_file.proofs.reading.read_body.Given as goal
 -- the landings so far, and what is left to read
 abbrev pub invariant-loop-after : goal.invariant-loop-after
 invariant-loop-after l = record {
-  same : lines_in l.number (map shown_of l.landings.items) l.line (parts_left 10 (option_map (λ t. t.now) l.after)) ≡ body_lines (parts 10 l.fn.text);
+  same : lines_in l.number (map shown_of l.landings.items) l.line
+      (parts_left 10 (option_map (λ t. t.now) l.after)) ≡ body_lines (parts 10 l.fn.text);
   count : length l.landings.items + 2 ≡ l.number;
   few : l.number ≤ 502;
 }

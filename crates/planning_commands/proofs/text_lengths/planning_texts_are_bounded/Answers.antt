@@ -1,4 +1,5 @@
-use Rattle.planning_commands.proofs.TextLengths.{effort_text_short, plan_text_short, replay_text_short, trial_text_short}
+use Rattle.planning_commands.proofs.TextLengths.{effort_text_short, plan_text_short, replay_text_short}
+use Rattle.planning_commands.proofs.TextLengths.{trial_text_short}
 use Rattle.planning_commands.proofs.text_lengths.planning_texts_are_bounded.Goals as goal
 
 pub returns : goal.returns

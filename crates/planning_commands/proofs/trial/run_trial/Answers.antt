@@ -4,5 +4,6 @@ use Rattle.planning_commands.proofs.trial.run_trial.Goals as goal
 
 pub returns : goal.returns
 returns g c =
-    finished (AdmitsTrial c.args.numbers.seed c.args.numbers.n c.args.numbers.k) (λ refusal. ⊥) c.report_seed-report.result _ _ _
+    finished (AdmitsTrial c.args.numbers.seed c.args.numbers.n c.args.numbers.k)
+    (λ refusal. ⊥) c.report_seed-report.result _ _ _
     c.report_seed-report.ensures c.print_report.ensures

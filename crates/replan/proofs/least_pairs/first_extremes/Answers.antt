@@ -15,5 +15,7 @@ loop-first-init c = (
 pub loop-first-preserved : goal.loop-first-preserved
 loop-first-preserved c = (
   first_of (search rules, grind (arith, common_steps)),
-  subst (λ (pairs : List Pair). AreInDays pairs) (sym c.in_ok-push.ensures.items) (days_push c.loop-first.least.items c.extremes.result last_second c.loop-first.invariant.1 c.extremes.ensures.in_days),
+  subst (λ (pairs : List Pair). AreInDays pairs) (sym c.in_ok-push.ensures.items)
+      (days_push c.loop-first.least.items c.extremes.result last_second c.loop-first.invariant.1
+      c.extremes.ensures.in_days),
 )

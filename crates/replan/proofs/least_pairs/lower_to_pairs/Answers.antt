@@ -17,15 +17,19 @@ loop-i-preserved c =
     let lt : i < length n.places = omega (arith, c.loop-i-test.true, long) in
     let within = c.requires.some.within i lt in
     let place = told_at n.places i in
-    let same : told_at c.places-places.result.now i ≡ place = ap (λ (xs : List ℕ). told_at xs i) c.places-places.ensures in
+    let same : told_at c.places-places.result.now i ≡ place =
+    ap (λ (xs : List ℕ). told_at xs i) c.places-places.ensures in
     let all = c.loop-i.invariant.0.one_each in
-    let value : c.lesser.result ≡ lesser (pair_at least place) (extremes (list_at lists i)) = c.lesser.ensures ∙ ap₂ lesser (ap (pair_at least) same) c.extremes.ensures.value in
+    let value : c.lesser.result ≡ lesser (pair_at least place) (extremes (list_at lists i)) =
+    c.lesser.ensures ∙ ap₂ lesser (ap (pair_at least) same) c.extremes.ensures.value in
     let more = one_least lists n.places n.firsts i least c.loop-i.invariant.0 lt within in
     let is = ap (λ (q : Pair). q.0) value in
     let days = c.loop-i.invariant.1 place in (
       subst (λ (m : ℕ). AreLeastUpto lists n.places n.firsts (i + 1) (slice_set least m c.lesser.result)) (sym same)
-          (subst (λ (q : Pair). AreLeastUpto lists n.places n.firsts (i + 1) (slice_set least place q)) (sym value) more),
-      days_set least (told_at c.places-places.result.now i) c.lesser.result last_second c.loop-i.invariant.1 (omega (arith, is, days)),
+          (subst (λ (q : Pair). AreLeastUpto lists n.places n.firsts (i + 1) (slice_set least place q))
+          (sym value) more),
+      days_set least (told_at c.places-places.result.now i) c.lesser.result last_second c.loop-i.invariant.1
+          (omega (arith, is, days)),
     )
 
 pub returns-clause-least : goal.returns-clause-least

@@ -8,8 +8,13 @@ pub candidates_after-requires : goal.candidates_after-requires
 candidates_after-requires g c =
     let long : length c.args.kept.now.items ≡ vec_len c.args.kept.now = omega arith in
     let r = c.requires in
-    let is = c.deref.ensures.value in
-    (search rules, (search rules, (search rules, (r.width, (rw is r.held, (rw (is, long) r.some, rw (is, long) r.number))))))
+    let is = c.deref.ensures.value in (
+      search rules,
+      (
+        search rules,
+        (search rules, (r.width, (rw is r.held, (rw (is, long) r.some, rw (is, long) r.number)))),
+      ),
+    )
 
 pub next-requires : goal.next-requires
 next-requires g c =
@@ -18,15 +23,27 @@ next-requires g c =
     let h = held_at c.args.problem.now _ c.requires.held _ _ e lt in
     let number = rw c.deref.ensures.value at c.in_ok-stage.ensures.number in
     let exact = rw c.deref.ensures.value at c.in_ok-stage.ensures.exact in
-    let long : length c.args.kept.now.items ≡ c.len.result = omega (arith, c.len.ensures) in
-    (search rules, (search rules, (search rules, (c.requires.width, (h.0, (omega (arith, number, h.1, lt, c.len.ensures), rw (long, ← e, ← h.1) at exact))))))
+    let long : length c.args.kept.now.items ≡ c.len.result = omega (arith, c.len.ensures) in (
+      search rules,
+      (
+        search rules,
+        (
+          search rules,
+          (
+            c.requires.width,
+            (h.0, (omega (arith, number, h.1, lt, c.len.ensures), rw (long, ← e, ← h.1) at exact)),
+          ),
+        ),
+      ),
+    )
 
 pub returns-clause-held : goal.returns-clause-held
 returns-clause-held g c =
     let number = rw c.deref.ensures.value at c.in_ok-stage.ensures.number in
     let exact = rw c.deref.ensures.value at c.in_ok-stage.ensures.exact in
     let left = c.in_ok-labels.ensures.left in
-    one_more c.args.problem.now c.args.kept.now.items c.push.new.self.items _ c.requires.held c.in_ok-push.ensures.items (left.number ∙ number) c.windows-ascending.ensures.ascending left.held
+    one_more c.args.problem.now c.args.kept.now.items c.push.new.self.items _ c.requires.held c.in_ok-push.ensures.items
+    (left.number ∙ number) c.windows-ascending.ensures.ascending left.held
     (λ last is whole.
     let f : c.len-2.result ≡ c.len-candidates.result = search (rules, whole) in
     let same : last ≡ length c.args.kept.now.items - 1 = omega (arith, is) in
@@ -39,7 +56,9 @@ returns-clause-steps g c =
     let lt : length stages - 1 < length stages = omega (arith, long, c.requires.some) in
     let candidates = rw c.deref.ensures.value at c.in_ok-stage.ensures.candidates in (
       length c.in_ok-stage.stage.1,
-      has_candidates c.args.problem.now (stage_at stages (length stages - 1)).stage c.in_ok-stage.stage (vec_len c.args.kept.now - 1)
-          (c.requires.held.number (length stages - 1) lt ∙ ap (λ n. n - 1) long) (c.requires.held.held (length stages - 1) lt).held.landable candidates c.in_ok-stage.ensures.ascending,
+      has_candidates c.args.problem.now (stage_at stages (length stages - 1)).stage c.in_ok-stage.stage
+          (vec_len c.args.kept.now - 1)
+          (c.requires.held.number (length stages - 1) lt ∙ ap (λ n. n - 1) long)
+          (c.requires.held.held (length stages - 1) lt).held.landable candidates c.in_ok-stage.ensures.ascending,
       c.in_ok-labels.ensures.steps,
     )

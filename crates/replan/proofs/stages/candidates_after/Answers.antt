@@ -6,7 +6,8 @@ pub stage_again-requires : goal.stage_again-requires
 stage_again-requires g c =
     let lt : length c.args.kept.now - 1 < length c.args.kept.now = omega (arith, c.requires.some) in
     let e = read_stage _ _ _ _ c.last.view_is c.index-kept-number.is lt in
-    let f = read_stage _ c.saturating_sub.result _ _ c.earlier.view_is c.index-kept-saturating_sub.is (omega (arith, lt, c.saturating_sub.ensures)) in
+    let f = read_stage _ c.saturating_sub.result _ _ c.earlier.view_is c.index-kept-saturating_sub.is
+    (omega (arith, lt, c.saturating_sub.ensures)) in
     let number = (held_at c.args.problem.now _ c.requires.held _ _ e lt).1 in (
       search rules,
       (
@@ -24,7 +25,8 @@ stage_again-requires g c =
 pub returns-clause-number : goal.returns-clause-number
 returns-clause-number g c =
     let lt : length c.args.kept.now - 1 < length c.args.kept.now = omega (arith, c.requires.some) in
-    let number = (held_at c.args.problem.now _ c.requires.held _ _ (read_stage _ _ _ _ c.last.view_is c.index-kept-number.is lt) lt).1 in
+    let number = (held_at c.args.problem.now _ c.requires.held _ _
+    (read_stage _ _ _ _ c.last.view_is c.index-kept-number.is lt) lt).1 in
     omega (arith, number, c.in_ok-stage.ensures.number, c.requires.some)
 
 pub returns-clause-exact : goal.returns-clause-exact

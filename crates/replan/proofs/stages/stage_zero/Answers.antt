@@ -5,5 +5,6 @@ use Rattle.replan.proofs.stages.stage_zero.Goals as goal
 
 pub returns-clause-held : goal.returns-clause-held
 returns-clause-held g c =
-    begins c.args.problem.now g.row.W _ _ c.head.result.now.objective c.requires.width c.in_ok-stage.ensures c.in_ok-labels.ensures
+    begins c.args.problem.now g.row.W _ _ c.head.result.now.objective c.requires.width c.in_ok-stage.ensures
+    c.in_ok-labels.ensures
     (ap (λ (p : Problem). p.objective) c.head.ensures.value)

@@ -7,4 +7,6 @@ use Rattle.replan.proofs.trace.least_place.Goals as goal
 pub returns : goal.returns
 returns c =
     let labels = c.args.labels.now in
-    least_from_min_by_key _ (λ i. worth labels.objective (last_pair (list_at labels.lists i))) (λ x b q k. search (rules, tests)) (length labels.lists) _ c.min_by_key.result (search (rules, tests)) c.min_by_key.ensures.runs
+    least_from_min_by_key _ (λ i. worth labels.objective (last_pair (list_at labels.lists i)))
+    (λ x b q k. search (rules, tests)) (length labels.lists) _ c.min_by_key.result
+    (search (rules, tests)) c.min_by_key.ensures.runs

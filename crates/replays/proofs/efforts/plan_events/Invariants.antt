@@ -5,4 +5,5 @@ use Rattle.replays.proofs.efforts.plan_events.Given as goal
 
 abbrev pub invariant-loop-i : goal.invariant-loop-i
 invariant-loop-i g l =
-    Done l.fn.sequencer (map event_of l.fn.events) (g.S.Sink.state l.fn.out) (l.i + 1) l.sequencer (map event_of (drop l.i l.events)) (g.S.Sink.state l.out) l.total
+    Done l.fn.sequencer (map event_of l.fn.events) (g.S.Sink.state l.fn.out) (l.i + 1) l.sequencer
+    (map event_of (drop l.i l.events)) (g.S.Sink.state l.out) l.total

@@ -18,8 +18,10 @@ within : (o : Objective) (v k : ℕ) → (is_delay o ≡ true → k ≤ most_shi
 within Makespan v k h = tt
 within Delay v k h = let few = h refl in let most = most_two v in omega (arith, few, most)
 
-plannable : (a : Aerodrome) (s : Situation) → IsInRange a → s.aerodrome ≡ aerodrome_of a → IsWithinShift s.aerodrome.objective s.aerodrome.k
+plannable : (a : Aerodrome) (s : Situation) → IsInRange a → s.aerodrome ≡ aerodrome_of a
+    → IsWithinShift s.aerodrome.objective s.aerodrome.k
 plannable a s range e = rw e (within a.objective a.version a.k range.shift)
 
 pub returns-in-None-clause-plannable : goal.returns-in-None-clause-plannable
-returns-in-None-clause-plannable c = plannable c.args.aerodrome.now c.in_ok-situation.situation c.requires.aerodrome (ap (λ (s : Situation). s.aerodrome) c.in_ok-situation.ensures.value)
+returns-in-None-clause-plannable c = plannable c.args.aerodrome.now c.in_ok-situation.situation c.requires.aerodrome
+    (ap (λ (s : Situation). s.aerodrome) c.in_ok-situation.ensures.value)

@@ -7,7 +7,11 @@ use Rattle.sequencer.specs.Frozen.{delay_of}
 use Rattle.sequencer.proofs.frozen.frozen_delay.Goals as goal
 
 pub sum-requires-clause-fits : goal.sum-requires-clause-fits
-sum-requires-clause-fits c = fits_from_length _ _ most_flights (2 ^ 64) (at_most_from_yields_List (YieldsList-from_slice c.args.flights.now cc) c.requires.few) c.map.ensures.closure (omega arith) (λ x r q k. search rules)
+sum-requires-clause-fits c = fits_from_length _ _ most_flights (2 ^ 64)
+    (at_most_from_yields_List (YieldsList-from_slice c.args.flights.now cc) c.requires.few) c.map.ensures.closure
+    (omega arith) (λ x r q k. search rules)
 
 pub returns : goal.returns
-returns c = sum_by_from_yields_List delay_of c.args.flights.now c.map.result _ c.sum.ensures.ran (YieldsList-from_map _ delay_of (YieldsList-from_slice c.args.flights.now (cc)) c.map.ensures.closure (λ x r q k. search rules))
+returns c = sum_by_from_yields_List delay_of c.args.flights.now c.map.result _ c.sum.ensures.ran
+    (YieldsList-from_map _ delay_of (YieldsList-from_slice c.args.flights.now (cc)) c.map.ensures.closure
+    (λ x r q k. search rules))

@@ -8,9 +8,12 @@ loop-next-init c = none_below (map (λ a. a.now) c.args.ranked.now.items) c.new-
 
 pub loop-next-preserved : goal.loop-next-preserved
 loop-next-preserved c =
-    one_below (map (λ a. a.now) c.args.ranked.now.items) c.loop-next.pairs c.add_predecessors.new.pairs c.loop-next.next c.loop-next.invariant c.add_predecessors.ensures
+    one_below (map (λ a. a.now) c.args.ranked.now.items) c.loop-next.pairs c.add_predecessors.new.pairs
+    c.loop-next.next c.loop-next.invariant c.add_predecessors.ensures
 
 pub returns : goal.returns
 returns c =
     let n = length-map c.args.ranked.now.items (λ a. a.now) in
-    all_below (map (λ a. a.now) c.args.ranked.now.items) c.loop-next.pairs c.loop-next.next (let e = c.len.ensures in let v = c.args.ranked.now.ok.0 in let t = c.loop-next-test.false in omega arith) c.loop-next.invariant
+    all_below (map (λ a. a.now) c.args.ranked.now.items) c.loop-next.pairs c.loop-next.next
+    (let e = c.len.ensures in let v = c.args.ranked.now.ok.0 in let t =
+    c.loop-next-test.false in omega arith) c.loop-next.invariant

@@ -40,8 +40,10 @@ index_mut-requires c =
     let i = c.loop-index.index in
     let places = c.args.places.now in
     let t = take i c.args.schedule.now in
-    let within = slice_get_within s.active (get_or places i 0) (get_or (by_rank (waiting s)) i nobody) (placed_at s c.requires.sound.callsigns places c.requires.places i nobody c.loop-index-test.true) in
-    let long : length c.loop-index.seconds.items ≡ length s.active = ap (length {A = ℕ}) c.loop-index.invariant ∙ length-map s.active (joined_second s t) in
+    let within = slice_get_within s.active (get_or places i 0) (get_or (by_rank (waiting s)) i nobody)
+    (placed_at s c.requires.sound.callsigns places c.requires.places i nobody c.loop-index-test.true) in
+    let long : length c.loop-index.seconds.items ≡ length s.active =
+    ap (length {A = ℕ}) c.loop-index.invariant ∙ length-map s.active (joined_second s t) in
     let whole = c.loop-index.seconds.ok.0 in
     omega arith
 

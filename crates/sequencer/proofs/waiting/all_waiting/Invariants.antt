@@ -6,4 +6,5 @@ use Rattle.sequencer.proofs.waiting.all_waiting.Given as goal
 
 -- the flights so far
 abbrev pub invariant-loop-active : goal.invariant-loop-active
-invariant-loop-active l = AllZip (IsWaitingOf l.closures) (take l.active-index (map (λ a. a.now) l.ranked.items)) (map waiting_of l.all.items)
+invariant-loop-active l =
+    AllZip (IsWaitingOf l.closures) (take l.active-index (map (λ a. a.now) l.ranked.items)) (map waiting_of l.all.items)

@@ -13,7 +13,9 @@ loop-flight-preserved c =
     let i = c.loop-flight.flight-index in
     let f = c.flight-item.result in
     let lt = c.loop-flight-test.true in
-    let none = ap (lookup (bytes_eq f.callsign)) c.loop-flight.invariant ∙ not_yet fs i f lt c.flight-item.is c.requires in
+    let none = ap (lookup (bytes_eq f.callsign)) c.loop-flight.invariant
+    ∙ not_yet fs i f lt c.flight-item.is c.requires in
     c.in_ok-insert.ensures.entries ∙ insert_entry-new bytes_eq c.loop-flight.active f.callsign c.waiting.result none
     ∙ ap (λ es. es ++ (f.callsign, c.waiting.result) ∷ []) c.loop-flight.invariant
-    ∙ ap (λ (v : Active). newcomers (take i fs) ++ (f.callsign, v) ∷ []) c.waiting.ensures ∙ one_more fs i f lt c.flight-item.is
+    ∙ ap (λ (v : Active). newcomers (take i fs) ++ (f.callsign, v) ∷ []) c.waiting.ensures
+    ∙ one_more fs i f lt c.flight-item.is

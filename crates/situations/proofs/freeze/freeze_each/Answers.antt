@@ -22,10 +22,12 @@ loop-i-preserved c =
     record {
       flights =
           values_set c.loop-i.active.entries i c.freeze_one.new.active ∙ ap (set now i) c.freeze_one.ensures
-          ∙ ap (λ x. set now i (turn x y)) (sym (get_or_from_slice_get now i a a c.index_mut.ensures.value)) ∙ ap (λ l. set l i (turn (get_or l i a) y)) c.loop-i.invariant.flights
+          ∙ ap (λ x. set now i (turn x y)) (sym (get_or_from_slice_get now i a a c.index_mut.ensures.value))
+          ∙ ap (λ l. set l i (turn (get_or l i a) y)) c.loop-i.invariant.flights
           ∙ turned-step turn i old ys a 0 long (omega arith) ∙ ap (λ j. turned turn j old ys) (sym m);
       keys = keys-with_value_at c.loop-i.active i c.freeze_one.new.active ∙ c.loop-i.invariant.keys;
     }
 
 pub returns-clause-flights : goal.returns-clause-flights
-returns-clause-flights c = c.loop-i.invariant.flights ∙ turned-all (frozen_one c.args.freeze.now) c.loop-i.i (values c.args.active.now) c.args.seconds.now c.requires (omega (arith, c.loop-i-test.false, c.loop-i.auto.i-end))
+returns-clause-flights c = c.loop-i.invariant.flights ∙ turned-all (frozen_one c.args.freeze.now) c.loop-i.i
+    (values c.args.active.now) c.args.seconds.now c.requires (omega (arith, c.loop-i-test.false, c.loop-i.auto.i-end))

@@ -9,4 +9,9 @@ use Rattle.situations.proofs.given.clash_of.Goals as goal
 
 pub returns : goal.returns
 returns c =
-    search (rules) ∙ first_place (are_apart c.args.table.now c.args.first.now) (fault.FrozenSeparation c.args.i) (c.args.i + 1) (drop c.args.i c.args.all.now) c.position-place.result (position_from_yields_List (λ g. not (are_apart c.args.table.now c.args.first.now g)) _ _ c.position-place.result c.position-place.ensures.ran (YieldsList-from_slice (drop c.args.i c.args.all.now) (search (rules, take_rest))) (λ x b q k. search (rules, tests)))
+    search (rules) ∙ first_place (are_apart c.args.table.now c.args.first.now) (fault.FrozenSeparation c.args.i)
+    (c.args.i + 1) (drop c.args.i c.args.all.now) c.position-place.result
+    (position_from_yields_List (λ g. not (are_apart c.args.table.now c.args.first.now g))
+    _ _ c.position-place.result c.position-place.ensures.ran
+    (YieldsList-from_slice (drop c.args.i c.args.all.now) (search (rules, take_rest)))
+    (λ x b q k. search (rules, tests)))

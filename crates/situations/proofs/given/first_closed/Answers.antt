@@ -9,4 +9,8 @@ use Rattle.situations.proofs.given.first_closed.Goals as goal
 
 pub returns : goal.returns
 returns c =
-    search (rules) ∙ first_place (λ (g : Landing). is_open g.flight.windows c.args.closures.now g.second) fault.FrozenClosed 1 c.args.all.now c.position.result (position_from_yields_List (λ (g : Landing). not (is_open g.flight.windows c.args.closures.now g.second)) _ _ c.position.result c.position.ensures.ran (YieldsList-from_slice c.args.all.now (cc)) (λ x b q k. search (rules, tests)))
+    search (rules) ∙ first_place (λ (g : Landing). is_open g.flight.windows c.args.closures.now g.second)
+    fault.FrozenClosed 1 c.args.all.now c.position.result
+    (position_from_yields_List (λ (g : Landing). not (is_open g.flight.windows c.args.closures.now g.second))
+    _ _ c.position.result c.position.ensures.ran (YieldsList-from_slice c.args.all.now (cc))
+    (λ x b q k. search (rules, tests)))

@@ -8,6 +8,7 @@ use Rattle.situations.proofs.given.first_late.Goals as goal
 
 pub returns : goal.returns
 returns c =
-    first_answer_from_find_map (λ p. late_at c.args.situation.now.active (p.0 + 1) p.1) _ (λ x r q k. search (rules, tests)) c.find_map.result c.find_map.ensures.runs
+    first_answer_from_find_map (λ p. late_at c.args.situation.now.active (p.0 + 1) p.1) _
+    (λ x r q k. search (rules, tests)) c.find_map.result c.find_map.ensures.runs
     (YieldsList-from_enumerate (YieldsList-from_slice c.args.all.now (search (rules))) (search (rules)))
     ∙ first_numbered (late_at c.args.situation.now.active) 0 c.args.all.now

@@ -8,9 +8,11 @@ use Rattle.situations.proofs.given.lands_late.Goals as goal
 pub returns-in-None : goal.returns-in-None
 returns-in-None c =
     let late = λ (a : Active). is_not_before c.args.second a.frozen in
-    ap (λ (o : Option Active). option_map_or late o false) c.in-None.ensures ∙ any_named c.args.callsign late c.args.situation.now.active c.known_apart.ensures
+    ap (λ (o : Option Active). option_map_or late o false) c.in-None.ensures
+    ∙ any_named c.args.callsign late c.args.situation.now.active c.known_apart.ensures
 
 pub returns-in-Some : goal.returns-in-Some
 returns-in-Some c =
     let late = λ (a : Active). is_not_before c.args.second a.frozen in
-    c.is_not_before.ensures ∙ ap (λ (o : Option Active). option_map_or late o false) c.in-Some.ensures ∙ any_named c.args.callsign late c.args.situation.now.active c.known_apart.ensures
+    c.is_not_before.ensures ∙ ap (λ (o : Option Active). option_map_or late o false) c.in-Some.ensures
+    ∙ any_named c.args.callsign late c.args.situation.now.active c.known_apart.ensures

@@ -18,10 +18,13 @@ loop-entry-preserved c =
       | in-Some+in_ok-push w ↦
           ap (λ (v : Vec Given Global). v.items ++ rest) w.all-is
           ∙ ap (λ l. l ++ rest) w.in_ok-push.ensures.items
-          ∙ given_more (given_landing active) all i entry c.loop-entry.all.items (given active all) here c.loop-entry.invariant w.in-Some.landing (sym c.in_ok-landing.ensures ∙ w.in-Some.is)
+          ∙ given_more (given_landing active) all i entry c.loop-entry.all.items
+          (given active all) here c.loop-entry.invariant w.in-Some.landing (sym c.in_ok-landing.ensures
+          ∙ w.in-Some.is)
       | in_default w ↦
           ap (λ (v : Vec Given Global). v.items ++ rest) w.all-is
-          ∙ given_none (given_landing active) all i entry c.loop-entry.all.items (given active all) here c.loop-entry.invariant (sym c.in_ok-landing.ensures ∙ w.in_default.is)
+          ∙ given_none (given_landing active) all i entry c.loop-entry.all.items
+          (given active all) here c.loop-entry.invariant (sym c.in_ok-landing.ensures ∙ w.in_default.is)
     ]
 
 pub returns-clause-few : goal.returns-clause-few

@@ -10,4 +10,9 @@ use Rattle.situations.proofs.opening_refusal.unknown_frozen.Goals as goal
 
 pub returns : goal.returns
 returns c =
-    search (rules) ∙ first_place (λ (e : FrozenLanding). list_any (named e.callsign) c.args.situation.now.active) fault.UnknownFrozen 1 c.args.frozen.now c.position.result (position_from_yields_List (λ (e : FrozenLanding). not (list_any (named e.callsign) c.args.situation.now.active)) _ _ c.position.result c.position.ensures.ran (YieldsList-from_slice c.args.frozen.now (cc)) (λ x b q k. search (rules, tests)))
+    search (rules) ∙ first_place (λ (e : FrozenLanding). list_any (named e.callsign) c.args.situation.now.active)
+    fault.UnknownFrozen 1 c.args.frozen.now c.position.result
+    (position_from_yields_List
+    (λ (e : FrozenLanding). not (list_any (named e.callsign) c.args.situation.now.active))
+    _ _ c.position.result c.position.ensures.ran (YieldsList-from_slice c.args.frozen.now (cc))
+    (λ x b q k. search (rules, tests)))

@@ -9,4 +9,8 @@ use Rattle.situations.proofs.opening_refusal.unknown_passed.Goals as goal
 
 pub returns : goal.returns
 returns c =
-    search (rules) ∙ first_place (λ (e : PassedCount). is_waiting_there c.args.situation.now.active e.callsign) fault.UnknownPassed 1 c.args.passed.now c.position.result (position_from_yields_List (λ (e : PassedCount). not (is_waiting_there c.args.situation.now.active e.callsign)) _ _ c.position.result c.position.ensures.ran (YieldsList-from_slice c.args.passed.now (cc)) (λ x b q k. search (rules, tests)))
+    search (rules) ∙ first_place (λ (e : PassedCount). is_waiting_there c.args.situation.now.active e.callsign)
+    fault.UnknownPassed 1 c.args.passed.now c.position.result
+    (position_from_yields_List (λ (e : PassedCount). not (is_waiting_there c.args.situation.now.active e.callsign))
+    _ _ c.position.result c.position.ensures.ran (YieldsList-from_slice c.args.passed.now (cc))
+    (λ x b q k. search (rules, tests)))

@@ -9,7 +9,10 @@ use Rattle.situations.proofs.situation.all_known.Goals as goal
 pub loop-flight-preserved : goal.loop-flight-preserved
 loop-flight-preserved c =
     let fs = c.args.flights.now in
-    All-more (λ f. IsKept (flight_of f)) fs c.loop-flight.flight-index c.flight-item.result c.loop-flight-test.true c.loop-flight.invariant (subst (λ g. IsKept (flight_of g)) c.flight-item.is c.known.ensures)
+    All-more (λ f. IsKept (flight_of f)) fs c.loop-flight.flight-index c.flight-item.result
+    c.loop-flight-test.true c.loop-flight.invariant
+    (subst (λ g. IsKept (flight_of g)) c.flight-item.is c.known.ensures)
 
 pub returns : goal.returns
-returns c = subst (All (λ f. IsKept (flight_of f))) (take_all c.loop-flight.flight-index c.args.flights.now c.loop-flight-test.false) c.loop-flight.invariant
+returns c = subst (All (λ f. IsKept (flight_of f)))
+    (take_all c.loop-flight.flight-index c.args.flights.now c.loop-flight-test.false) c.loop-flight.invariant

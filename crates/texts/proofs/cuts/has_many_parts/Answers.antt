@@ -6,4 +6,5 @@ use Rattle.std.proofs.lemmas.List.Splits.{length-slice_split}
 use Rattle.texts.proofs.cuts.has_many_parts.Goals as goal
 
 pub returns : goal.returns
-returns c = rw (length-slice_split (λ b. b == c.args.mark) c.args.text.now, ← c.count_marks.ensures) (grind (arith, common_steps))
+returns c = rw (length-slice_split (λ b. b == c.args.mark) c.args.text.now, ← c.count_marks.ensures)
+    (grind (arith, common_steps))

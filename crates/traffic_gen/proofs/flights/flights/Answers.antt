@@ -10,7 +10,8 @@ loop-made-preserved c =
     let before = c.loop-made.before in
     let x = c.loop-made.state in
     let left : c.args.n - c.loop-made.made ≡ suc (c.args.n - (c.loop-made.made + 1)) = omega arith in
-    let more = one_more c.loop-made.flights.items (flights_from c.args.n 1 3600 c.args.seed) (c.args.n - c.loop-made.made)
+    let more = one_more c.loop-made.flights.items (flights_from c.args.n 1 3600 c.args.seed)
+    (c.args.n - c.loop-made.made)
     (c.args.n - (c.loop-made.made + 1)) number before x left c.loop-made.invariant.all in
     let state : c.next-state.result ≡ after_three x = cc in
     record {

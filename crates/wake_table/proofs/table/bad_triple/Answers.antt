@@ -8,11 +8,22 @@ use Rattle.wake_table.proofs.table.bad_triple.Goals as goal
 
 pub returns : goal.returns
 returns c =
-    sym (option_map_id c.find.result) ∙ find_from_yields_List (breaks_triangle c.args.rows.now) _ _ c.find.result c.find.ensures.ran
-    (YieldsList-from_flat_map _ _ _ (λ x. x) (triples_from c.args.letters.now) (map_callee (flatten_source c.flat_map-2.result))
-    (λ p u q k. (search (rules), λ j b. YieldsList-from_map _ (λ last. (p.0, p.1, last)) (YieldsList-from_slice c.args.letters.now (search (rules))) refl (λ last r q2 k2. search (rules, tests))))
-    (YieldsList-from_flat_map _ _ _ (λ x. x) (pairs_from c.args.letters.now) (map_callee (flatten_source c.flat_map.result))
-    (λ first u q k. (search (rules), λ j b. YieldsList-from_map _ (λ middle. (first.now, middle)) (YieldsList-from_slice c.args.letters.now (search (rules))) refl (λ y r q2 k2. search (rules, tests))))
+    sym (option_map_id c.find.result)
+    ∙ find_from_yields_List (breaks_triangle c.args.rows.now) _ _ c.find.result c.find.ensures.ran
+    (YieldsList-from_flat_map _ _ _ (λ x. x) (triples_from c.args.letters.now)
+    (map_callee (flatten_source c.flat_map-2.result))
+    (λ p u q k. (
+      search (rules),
+      λ j b. YieldsList-from_map _ (λ last. (p.0, p.1, last))
+          (YieldsList-from_slice c.args.letters.now (search (rules))) refl (λ last r q2 k2. search (rules, tests)),
+    ))
+    (YieldsList-from_flat_map _ _ _ (λ x. x) (pairs_from c.args.letters.now)
+    (map_callee (flatten_source c.flat_map.result))
+    (λ first u q k. (
+      search (rules),
+      λ j b. YieldsList-from_map _ (λ middle. (first.now, middle))
+          (YieldsList-from_slice c.args.letters.now (search (rules))) refl (λ y r q2 k2. search (rules, tests)),
+    ))
     (YieldsList-from_slice c.args.letters.now (search (rules))) (cc) (search (rules)) (search (rules)) (search (rules)))
     (cc) (search (rules)) (search (rules)) (search (rules)))
     (λ x b q k. search (rules, tests))

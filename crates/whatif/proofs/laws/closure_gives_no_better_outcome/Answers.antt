@@ -8,11 +8,17 @@ use Rattle.whatif.proofs.ClosureLemmas.{fewer_is_no_worse, none_shuts_no_more, i
 use Rattle.whatif.proofs.laws.closure_gives_no_better_outcome.Goals as goal
 
 pub returns-clause-none : goal.returns-clause-none
-returns-clause-none c = λ a fs from to x y accepted hx hy. fewer_is_no_worse (opened a fs) ((opened a fs).closures ++ (from, to) ∷ []) (opened a fs).closures (none_shuts_no_more (opened a fs).closures (from, to)) x y
-    (subst (λ (r : Option TrialRefusal). IsOutcomeBy (situation_after (opened a fs) None (Close (from, to))) r x) accepted hx) hy
+returns-clause-none c = λ a fs from to x y accepted hx hy. fewer_is_no_worse (opened a fs)
+    ((opened a fs).closures ++ (from, to) ∷ []) (opened a fs).closures
+    (none_shuts_no_more (opened a fs).closures (from, to)) x y
+    (subst (λ (r : Option TrialRefusal). IsOutcomeBy (situation_after (opened a fs) None (Close (from, to))) r x)
+    accepted hx) hy
 
 pub returns-clause-inner : goal.returns-clause-inner
 returns-clause-inner c = λ a fs from to first end x y low high accepted inside hx hy.
-    fewer_is_no_worse (opened a fs) ((opened a fs).closures ++ (from, to) ∷ []) ((opened a fs).closures ++ (first, end) ∷ []) (inner_shuts_no_more (opened a fs).closures first end from to low high) x y
-    (subst (λ (r : Option TrialRefusal). IsOutcomeBy (situation_after (opened a fs) None (Close (from, to))) r x) accepted hx)
-    (subst (λ (r : Option TrialRefusal). IsOutcomeBy (situation_after (opened a fs) None (Close (first, end))) r y) inside hy)
+    fewer_is_no_worse (opened a fs) ((opened a fs).closures ++ (from, to) ∷ []) ((opened a fs).closures
+    ++ (first, end) ∷ []) (inner_shuts_no_more (opened a fs).closures first end from to low high) x y
+    (subst (λ (r : Option TrialRefusal). IsOutcomeBy (situation_after (opened a fs) None (Close (from, to))) r x)
+    accepted hx)
+    (subst (λ (r : Option TrialRefusal). IsOutcomeBy (situation_after (opened a fs) None (Close (first, end))) r y)
+    inside hy)

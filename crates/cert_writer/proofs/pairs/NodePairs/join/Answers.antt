@@ -20,13 +20,18 @@ loop-j-preserved c =
     let lt : c.loop-j.j < length list = omega (arith, c.loop-j-test.true, c.label_count-j-end.ensures) in (
       λ q i. elim (now.found q i) [
         | inl old ↦ inv.0 q old
-        | inr e ↦ inr (subst (λ (x : Pair). InPairs x list) (sym e) (at_in list c.loop-j.j c.label.result lt (sym c.label.ensures.value)))
+        | inr e ↦ inr (subst (λ (x : Pair). InPairs x list) (sym e)
+            (at_in list c.loop-j.j c.label.result lt (sym c.label.ensures.value)))
       ],
       λ q i. (let o = inv.1 q i in let n = now.covers o.0 (inl o.1) in (n.0, n.1, no_worse_trans n.0 o.0 q n.2 o.2)),
       λ m less. elim (cases_eq m c.loop-j.j) [
         | inl e ↦
-            let n = now.covers c.label.result (inr refl) in
-            (n.0, n.1, subst (λ (k : ℕ). NoWorse n.0 (pair_at list k)) (sym e) (subst (NoWorse n.0) c.label.ensures.value n.2))
+            let n = now.covers c.label.result (inr refl) in (
+              n.0,
+              n.1,
+              subst (λ (k : ℕ). NoWorse n.0 (pair_at list k)) (sym e)
+                  (subst (NoWorse n.0) c.label.ensures.value n.2),
+            )
         | inr ne ↦
             let o = inv.2 m (omega (arith, less, ne)) in
             let n = now.covers o.0 (inl o.1) in

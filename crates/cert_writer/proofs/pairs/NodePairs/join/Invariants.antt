@@ -11,5 +11,6 @@ abbrev pub invariant-loop-j : goal.invariant-loop-j
 invariant-loop-j l =
     ((q : Pair) → InPairs q l.self → InPairs q l.fn.self ⊎ InPairs q (list_at (lists_in (held_of l.kept) l.stage) l.i))
     × ((q : Pair) → InPairs q l.fn.self → (o : Pair) × InPairs o l.self × NoWorse o q)
-    × ((m : ℕ) → m < l.j → (o : Pair) × InPairs o l.self × NoWorse o (pair_at (list_at (lists_in (held_of l.kept) l.stage) l.i) m))
+    × ((m : ℕ) → m < l.j → (o : Pair) × InPairs o l.self
+    × NoWorse o (pair_at (list_at (lists_in (held_of l.kept) l.stage) l.i) m))
     × (All IsPairInRange l.fn.self → All IsPairInRange l.self)

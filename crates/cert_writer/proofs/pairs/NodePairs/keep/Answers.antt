@@ -8,10 +8,16 @@ pub returns-then-last-pair-2-clause-covers : goal.returns-then-last-pair-2-claus
 returns-then-last-pair-2-clause-covers c = λ q h.
     let xs = c.self.inside.pairs.items in
     let lt : c.len-len.result - 1 < length xs = omega (arith, c.len-len.ensures, c.if-len-gt0.true) in
-    let last = subst (InPairs c.index-last.result.now) c.self.view_is (read_in xs (c.len-len.result - 1) c.index-last.result.now lt c.index-last.ensures) in
+    let last = subst (InPairs c.index-last.result.now) c.self.view_is
+    (read_in xs (c.len-len.result - 1) c.index-last.result.now lt c.index-last.ensures) in
     elim h [
       | inl i ↦ (q, i, itself q)
-      | inr e ↦ (c.index-last.result.now, last, subst (NoWorse c.index-last.result.now) (sym e) (c.if-last-pair.true, c.if-last-pair-2.true))
+      | inr e ↦ (
+        c.index-last.result.now,
+        last,
+        subst (NoWorse c.index-last.result.now) (sym e)
+            (c.if-last-pair.true, c.if-last-pair-2.true),
+      )
     ]
 
 pub returns-then-pair-last-2-clause-found : goal.returns-then-pair-last-2-clause-found
@@ -30,7 +36,8 @@ returns-then-pair-last-2-clause-covers c = λ q h.
       | inl i ↦ elim (replaced_in xs (c.len-len.result - 1) c.args.pair q (subst (InPairs q) (sym c.self.view_is) i)) [
         | inl a ↦ (q, a, itself q)
         | inr e ↦
-            let is : q ≡ c.index-last.result.now = e ∙ read_same xs (c.len-len.result - 1) c.index-last.result.now lt c.index-last.ensures in
+            let is : q ≡ c.index-last.result.now =
+            e ∙ read_same xs (c.len-len.result - 1) c.index-last.result.now lt c.index-last.ensures in
             (c.args.pair, there, subst (NoWorse c.args.pair) (sym is) (c.if-pair-last.true, c.if-pair-last-2.true))
       ]
       | inr e ↦ (c.args.pair, there, subst (NoWorse c.args.pair) (sym e) (itself c.args.pair))
@@ -47,6 +54,11 @@ pub returns-clause-covers : goal.returns-clause-covers
 returns-clause-covers c = λ q h.
     let into = sym c.in_ok-push.ensures.items in
     elim h [
-      | inl i ↦ (q, subst (InPairs q) into (in_left q c.self.inside.pairs.items (c.args.pair ∷ []) (subst (InPairs q) (sym c.self.view_is) i)), itself q)
+      | inl i ↦ (
+        q,
+        subst (InPairs q) into (in_left q c.self.inside.pairs.items (c.args.pair ∷ [])
+            (subst (InPairs q) (sym c.self.view_is) i)),
+        itself q,
+      )
       | inr e ↦ (q, subst (InPairs q) into (in_right q c.self.inside.pairs.items (c.args.pair ∷ []) (inl e)), itself q)
     ]

@@ -11,7 +11,8 @@ front : (digits : List Bool) → take (length digits) (digits ++ drop (length di
 front digits = take-append_seam digits _
 
 pub invariant_of-result : goal.invariant_of-result
-invariant_of-result c = rw (c.copy_from_slice.ensures.after, front c.args.digits.now) (kept c.args.digits.now, refl, c.requires)
+invariant_of-result c = rw (c.copy_from_slice.ensures.after, front c.args.digits.now)
+    (kept c.args.digits.now, refl, c.requires)
 
 pub returns : goal.returns
 returns c = rw (c.copy_from_slice.ensures.after, front c.args.digits.now) refl

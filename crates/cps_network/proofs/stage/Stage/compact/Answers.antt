@@ -17,11 +17,13 @@ returns-then-keeps_all-clause-kept g c = (
 )
 
 -- after want of memory the list is as it was, or a copy of it
-left : (g : _) (c : After-drop-keep-in_err-windows g) → (arc_value c.make_mut.follows.lender-at-none).items ≡ (arc_value c.self.inside.windows).items
+left : (g : _) (c : After-drop-keep-in_err-windows g)
+    → (arc_value c.make_mut.follows.lender-at-none).items ≡ (arc_value c.self.inside.windows).items
 left g c = same_or_cloned _ _ _ (λ x y e. e) (err_says _ _ c.in_err-windows.was c.make_mut.follows.holds-at-none)
 
 pub invariant_of-self : goal.invariant_of-self
-invariant_of-self g c = subst (λ (zs : List (List ℤ)). IsAscending zs × AreWindows g.row.W zs) (sym (left g c)) c.self.invariant
+invariant_of-self g c = subst (λ (zs : List (List ℤ)). IsAscending zs × AreWindows g.row.W zs)
+    (sym (left g c)) c.self.invariant
 
 pub returns-in_err-windows-clause-unchanged : goal.returns-in_err-windows-clause-unchanged
 returns-in_err-windows-clause-unchanged g c =
@@ -35,7 +37,8 @@ begun g c = same_or_cloned _ _ _ (λ x y e. e) c.in_ok-windows.ensures.value
 
 -- what is left is kept where the answers say so
 left_of : (g : _) (c : After-drop-keep-2 g)
-    → (c.make_mut.follows.lender c.compact_all.new.windows).value.items ≡ kept_where c.compact_all.ensures.0 (arc_value c.self.inside.windows).items
+    → (c.make_mut.follows.lender c.compact_all.new.windows).value.items ≡ kept_where c.compact_all.ensures.0
+    (arc_value c.self.inside.windows).items
 left_of g c =
     let written = c.make_mut.follows.holds c.compact_all.new.windows (is_ok _ _ c.in_ok-windows.was) in
     ap (λ (v : Vec _ Global). v.items) written

@@ -9,13 +9,22 @@ use Rattle.cps_nodes.proofs.PrefixLemmas.{HasLanded-from_IsPlaced, IsPlaced-from
 use Rattle.cps_nodes.proofs.window.Window.placed.Goals as goal
 
 -- the test says whether the window places the rank
-placed_is : (g : _) (c : goal.After-holds_rank g) → IsTrue c.holds_rank.result ↔ IsPlaced (offsets_of g.row.W c.self.inside.digits) c.args.stage c.args.rank
+placed_is : (g : _) (c : goal.After-holds_rank g) → IsTrue c.holds_rank.result
+    ↔ IsPlaced (offsets_of g.row.W c.self.inside.digits) c.args.stage c.args.rank
 placed_is g c =
-    let test : IsTrue c.holds_rank.result ↔ HoldsRank (offsets_of g.row.W c.self.inside.digits) (c.args.rank -ℤ c.args.stage +ℤ pos (length (offsets_of g.row.W c.self.inside.digits) - 1)) =
-    tested _ _ _ _ c.holds_rank.ensures (omega (arith, ints, length-offsets_of g.row.W c.self.inside.digits, c.self.invariant.window.is_width)) in (
+    let test : IsTrue c.holds_rank.result ↔ HoldsRank (offsets_of g.row.W c.self.inside.digits)
+    (c.args.rank -ℤ c.args.stage +ℤ pos (length (offsets_of g.row.W c.self.inside.digits) - 1)) =
+    tested _ _ _ _ c.holds_rank.ensures
+    (omega (arith, ints, length-offsets_of g.row.W c.self.inside.digits, c.self.invariant.window.is_width)) in (
       λ t. inr (test.0 t),
       λ p. elim p [
-        | inl due ↦ absurd (omega (arith, ints, c.if-rank-stage.false, length-offsets_of g.row.W c.self.inside.digits, c.self.invariant.window.is_width))
+        | inl due ↦ absurd (omega (
+          arith,
+          ints,
+          c.if-rank-stage.false,
+          length-offsets_of g.row.W c.self.inside.digits,
+          c.self.invariant.window.is_width,
+        ))
         | inr holds ↦ test.1 holds
       ],
     )

@@ -6,7 +6,8 @@ use Rattle.cps_nodes.proofs.window.Window.source.Goals as goal
 
 pub invariant_of-result : goal.invariant_of-result
 invariant_of-result g c = rw c.place_value.ensures (record {
-  window = subst (IsWindow g.row.W) (sym (offsets_of-source g.row.W (omega (arith, c.requires)))) (IsWindow-source g.row.W c.requires);
+  window = subst (IsWindow g.row.W) (sym (offsets_of-source g.row.W (omega (arith, c.requires))))
+      (IsWindow-source g.row.W c.requires);
   few = mod-lt _ (pow_pos (4 * g.row.W));
 })
 
@@ -14,4 +15,5 @@ pub returns-clause-zeros : goal.returns-clause-zeros
 returns-clause-zeros g c = rw c.place_value.ensures (offsets_of-source g.row.W (omega (arith, c.requires)))
 
 pub returns-clause-empty : goal.returns-clause-empty
-returns-clause-empty g c = rw c.place_value.ensures (offsets_of-source g.row.W (omega (arith, c.requires)) ∙ sym (append-nil _))
+returns-clause-empty g c =
+    rw c.place_value.ensures (offsets_of-source g.row.W (omega (arith, c.requires)) ∙ sym (append-nil _))

@@ -9,7 +9,8 @@ taken_part : (w new bytes : List ℕ) (n : ℕ) → new ≡ w ++ take n bytes �
 taken_part w new bytes n e = (take n bytes, drop n bytes, take-append-drop n bytes, e)
 
 -- where no put is listed, none is to fail
-none_to_fail : (failing : List (ℕ × ℕ)) (put taken : ℕ) → bytes_of_failing failing put ≡ Some taken → IsTrue (length failing == 0) → ⊥
+none_to_fail : (failing : List (ℕ × ℕ)) (put taken : ℕ) → bytes_of_failing failing put ≡ Some taken
+    → IsTrue (length failing == 0) → ⊥
 none_to_fail [] put taken found sure = cc
 none_to_fail (entry ∷ rest) put taken found sure = grind arith
 
@@ -27,7 +28,8 @@ returns-then-most-bytes-clause-writes c = record {
 
 pub returns-in-Some-clause-writes : goal.returns-in-Some-clause-writes
 returns-in-Some-clause-writes c =
-    let found : bytes_of_failing c.args.self.now.failing.items c.saturating_add-self.result ≡ Some c.in-Some.taken = cc in
+    let found : bytes_of_failing c.args.self.now.failing.items c.saturating_add-self.result ≡ Some c.in-Some.taken =
+    cc in
     record {
       tells = search rules;
       sure = search rules;

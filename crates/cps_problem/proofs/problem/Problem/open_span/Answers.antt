@@ -8,5 +8,7 @@ use Rattle.cps_problem.proofs.problem.Problem.open_span.Goals as goal
 
 pub returns-clause-span : goal.returns-clause-span
 returns-clause-span c =
-    subst (λ (w : Waiting). MatchOption c.span_from.result (first_open w.open_spans c.args.from ≡ None) (λ span. IsOpenSpan (first_open w.open_spans) c.args.from span))
-    (sym (flight_is c.args.self.now c.args.rank _ c.requires.0 c.flight.ensures)) (spans_are _ c.args.from _ c.span_from.ensures.span)
+    subst (λ (w : Waiting). MatchOption c.span_from.result (first_open w.open_spans c.args.from ≡ None)
+    (λ span. IsOpenSpan (first_open w.open_spans) c.args.from span))
+    (sym (flight_is c.args.self.now c.args.rank _ c.requires.0 c.flight.ensures))
+    (spans_are _ c.args.from _ c.span_from.ensures.span)

@@ -29,7 +29,8 @@ well_formed p table few horizon last base ranks count ordered ranges = record {
   table = table;
   few_places = few;
   few_flights = count;
-  in_order = λ k d lt. comes_before (get_or p.flights k d) (get_or p.flights (k + 1) d) (ordered k (k + 1) d (omega arith) lt).0;
+  in_order = λ k d lt. comes_before (get_or p.flights k d) (get_or p.flights (k + 1) d)
+      (ordered k (k + 1) d (omega arith) lt).0;
   callsigns = λ i j d lt within. (ordered i j d lt within).1;
   between_ranks = λ i j must. ranks i j ((must_precede_decides p.pairs i j).0 must);
   last_before = subst (λ (l : Option (ℕ × Category)). MatchOption l ⊤ (λ l. l.0 < p.horizon)) (sym last) tt;
@@ -42,8 +43,18 @@ well_formed p table few horizon last base ranks count ordered ranges = record {
 
 pub build-requires : goal.build-requires
 build-requires c = λ table.
-    let count : length (map waiting_of c.args.self.waiting.items) ≡ length c.args.self.waiting.items = length-map c.args.self.waiting.items waiting_of in
-    well_formed (seen_problem (record { table = c.in_ok-table.table; k = c.args.self.k; objective = c.args.objective; horizon = 0; last = None; base = 0 }) c.args.self.waiting.items c.one_pair.result)
+    let count : length (map waiting_of c.args.self.waiting.items) ≡ length c.args.self.waiting.items =
+    length-map c.args.self.waiting.items waiting_of in
+    well_formed (seen_problem
+    (record {
+      table = c.in_ok-table.table;
+      k = c.args.self.k;
+      objective = c.args.objective;
+      horizon =
+          0;
+      last = None;
+      base = 0;
+    }) c.args.self.waiting.items c.one_pair.result)
     table c.args.self.near refl refl refl
     (λ i j must. let pair = c.one_pair.ensures i j must in (
       pair.0,

@@ -8,4 +8,5 @@ use Rattle.delay_labels.proofs.costs.Costs.len.Goals as goal
 
 pub returns-clause-in_days : goal.returns-clause-in_days
 returns-clause-in_days c = λ i.
-    subst (λ (lists : List (List Pair)). All IsInDays (list_at lists i)) c.self.view_is (lists_in_days c.self.inside.pairs.items c.self.inside.parts.items c.self.invariant.0 i)
+    subst (λ (lists : List (List Pair)). All IsInDays (list_at lists i)) c.self.view_is
+    (lists_in_days c.self.inside.pairs.items c.self.inside.parts.items c.self.invariant.0 i)

@@ -7,5 +7,6 @@ use Rattle.first_best.proofs.pairs.PairList.latest.Goals as goal
 pub returns : goal.returns
 returns c = λ q i.
     let xs = c.args.self.now in
-    let at : pair_at xs (length xs - 1) ≡ c.pair.result = ap (λ (n : ℕ). pair_at xs (n - 1)) (sym c.len-len.ensures) ∙ sym c.pair.ensures in
+    let at : pair_at xs (length xs - 1) ≡ c.pair.result =
+    ap (λ (n : ℕ). pair_at xs (n - 1)) (sym c.len-len.ensures) ∙ sym c.pair.ensures in
     subst (λ (z : Pair). q.0 ≤ z.0) at (last_most xs c.requires q i)

@@ -8,7 +8,8 @@ loop-from-preserved-in-Some c = shut_on _ _ c.loop-from.from _ c.loop-from.invar
 
 pub loop-from-preserved : goal.loop-from-preserved
 loop-from-preserved c =
-    open_on _ _ _ c.loop-from.from _ c.loop-from.invariant c.first_shut-stop.ensures (run_holds _ _ _ _ c.in_default.ensures (omega arith) c.first_shut-stop.ensures) c.in_ok-add_run.ensures
+    open_on _ _ _ c.loop-from.from _ c.loop-from.invariant c.first_shut-stop.ensures
+    (run_holds _ _ _ _ c.in_default.ensures (omega arith) c.first_shut-stop.ensures) c.in_ok-add_run.ensures
 
 pub returns : goal.returns
 returns c = rw (← c.pairs-closures.ensures.value) (all_open _ _ _ c.loop-from.invariant c.loop-from-test.false)

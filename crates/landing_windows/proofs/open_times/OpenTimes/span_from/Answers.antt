@@ -1,5 +1,6 @@
 -- The first span that ends at t or later holds the least second, and ends before one that is not open.
-use Rattle.std.proofs.Common.{rules, tests, ◌≡◌, ◌≤◌, ◌+◌, ◌∷◌, [], ℕ, List, Some, None, false, arith, refl, sym, subst, inl, inr}
+use Rattle.std.proofs.Common.{rules, tests, ◌≡◌, ◌≤◌, ◌+◌, ◌∷◌, [], ℕ, List, Some, None, false, arith, refl, sym}
+use Rattle.std.proofs.Common.{subst, inl, inr}
 use Rattle.std.specs.Prelude.{find, nat_le}
 use Rattle.std.proofs.lemmas.Bool.{cases_Bool}
 use Rattle.std.proofs.lemmas.Iterator.{YieldsList-from_slice}
@@ -20,7 +21,8 @@ from_found t least [] x a e = absurd (cc)
 from_found t least (y ∷ ys) x a e = elim (cases_Bool (nat_le t y.1)) [
   | inl here ↦
       let same : y ≡ x = grind arith in
-      subst (λ z. (rest : List Span) × ((u : ℕ) → t ≤ u → opens (z ∷ rest) u ≡ opens (y ∷ ys) u) × AreMaximal (z ∷ rest) × (t ≤ z.1)) same
+      subst (λ z. (rest : List Span) × ((u : ℕ) → t ≤ u → opens (z ∷ rest) u ≡ opens (y ∷ ys) u)
+      × AreMaximal (z ∷ rest) × (t ≤ z.1)) same
       (ys, λ u from. refl, (omega arith, a.1, a.2, a.3), grind arith)
   | inr later ↦
       let first : find (λ w. nat_le t w.1) ys ≡ Some x = grind arith in
@@ -32,7 +34,8 @@ pub returns-in_err-first-clause-span : goal.returns-in_err-first-clause-span
 returns-in_err-first-clause-span c =
     let t = c.args.t in
     let xs = c.args.self.now in
-    let found = find_from_yields_List (λ w. nat_le t w.1) _ _ c.find.result c.find.ensures.ran (YieldsList-from_slice xs (cc)) (λ x b q k. search (rules, tests)) in
+    let found = find_from_yields_List (λ w. nat_le t w.1) _ _ c.find.result c.find.ensures.ran
+    (YieldsList-from_slice xs (cc)) (λ x b q k. search (rules, tests)) in
     let none : find (λ w. nat_le t w.1) xs ≡ None = search (rules) in
     subst (SpanFrom (opens xs) t) (sym c.from_residual.ensures) (λ u from. none_open t u xs none from)
 
@@ -41,11 +44,13 @@ returns-clause-span c =
     let t = c.args.t in
     let xs = c.args.self.now in
     let x = c.in_ok-first.field-0.now in
-    let found = find_from_yields_List (λ w. nat_le t w.1) _ _ c.find.result c.find.ensures.ran (YieldsList-from_slice xs (cc)) (λ x b q k. search (rules, tests)) in
+    let found = find_from_yields_List (λ w. nat_le t w.1) _ _ c.find.result c.find.ensures.ran
+    (YieldsList-from_slice xs (cc)) (λ x b q k. search (rules, tests)) in
     let first : find (λ w. nat_le t w.1) xs ≡ Some x = search (rules) in
     let maximal : AreMaximal xs = search (rules) in
     let rest = from_found t 0 xs x maximal first in (
-      least_within xs (x ∷ rest.0) x t c.max.result rest.1 (maximal_in_order (x ∷ rest.0) rest.2) (omega arith) rest.3 c.max.ensures,
+      least_within xs (x ∷ rest.0) x t c.max.result rest.1 (maximal_in_order (x ∷ rest.0) rest.2)
+          (omega arith) rest.3 c.max.ensures,
       stops_after xs (x ∷ rest.0) x t c.max.result rest.1 rest.2 (omega arith) rest.3 c.max.ensures,
     )
 
@@ -54,7 +59,8 @@ returns-clause-in_days c =
     let t = c.args.t in
     let xs = c.args.self.now in
     let x = c.in_ok-first.field-0.now in
-    let found = find_from_yields_List (λ w. nat_le t w.1) _ _ c.find.result c.find.ensures.ran (YieldsList-from_slice xs (cc)) (λ x b q k. search (rules, tests)) in
+    let found = find_from_yields_List (λ w. nat_le t w.1) _ _ c.find.result c.find.ensures.ran
+    (YieldsList-from_slice xs (cc)) (λ x b q k. search (rules, tests)) in
     let first : find (λ w. nat_le t w.1) xs ≡ Some x = search (rules) in
     let maximal : AreMaximal xs = search (rules) in
     (from_found t 0 xs x maximal first).2.2

@@ -6,7 +6,8 @@ use Rattle.landing_windows.proofs.Sweep.{IsSwept}
 use Rattle.landing_windows.proofs.open_times.OpenTimes.within.Given as goal
 
 abbrev pub invariant-loop-windows_left : goal.invariant-loop-windows_left
-invariant-loop-windows_left l = IsSwept (λ u. opens l.windows u && opens l.self u) l.windows_left l.open_left l.spans.items
+invariant-loop-windows_left l =
+    IsSwept (λ u. opens l.windows u && opens l.self u) l.windows_left l.open_left l.spans.items
 
 abbrev pub decreases-loop-windows_left : goal.decreases-loop-windows_left
 decreases-loop-windows_left l = length l.windows_left + length l.open_left

@@ -11,7 +11,9 @@ returns-clause-follower c =
     let own = ap (λ (w : Waiting). w.category) (flight_is p c.args.rank _ c.requires.rank.0 c.flight.ensures) in
     let table = ap (λ (q : Problem). q.table) c.head.ensures.value in
     record {
-      separations = λ some leader. c.separations_behind.ensures leader ∙ ap (λ (t : List (List ℕ)). separation t leader c.flight.result.now.category) (sym table) ∙ ap (separation p.table leader) (sym own);
+      separations = λ some leader. c.separations_behind.ensures leader
+          ∙ ap (λ (t : List (List ℕ)). separation t leader c.flight.result.now.category) (sym table)
+          ∙ ap (separation p.table leader) (sym own);
       lands = λ t lo hi. absurd (omega (arith, lo, hi));
       runs = omega arith;
       in_days = omega arith;

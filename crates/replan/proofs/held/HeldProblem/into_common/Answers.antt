@@ -9,17 +9,29 @@ pub returns-clause-held : goal.returns-clause-held
 returns-clause-held g c =
     let inside = c.self.inside in
     let held = c.self.invariant in
-    let common : AreInCommon inside.problem c.args.problem.now c.args.count = rw (ap (λ (h : HeldProblem). h.problem) c.self.view_is) c.requires.common in
+    let common : AreInCommon inside.problem c.args.problem.now c.args.count =
+    rw (ap (λ (h : HeldProblem). h.problem) c.self.view_is) c.requires.common in
     let few = few_in_common inside.problem c.args.problem.now c.args.count inside.stages.items common held.whole in
     let laws : WindowLaws inside.problem g.row.W =
-    record { network = c.prefix_laws.ensures.network; alike = c.prefix_laws.ensures.sources; ranks = c.window_laws.ensures.ranks; leads = c.window_laws.ensures.leads } in
-    rw c.truncate.ensures.items (stages_in_common inside.problem c.args.problem.now g.row.W held.width_is laws c.head-held_ranks.ensures.well_formed.between_ranks
-    c.head-ranks.ensures.well_formed.between_ranks _ c.args.count held.held c.kept_stages.ensures.early common c.requires.more few)
+    record {
+      network = c.prefix_laws.ensures.network;
+      alike = c.prefix_laws.ensures.sources;
+      ranks =
+          c.window_laws.ensures.ranks;
+      leads = c.window_laws.ensures.leads;
+    } in
+    rw c.truncate.ensures.items
+    (stages_in_common inside.problem c.args.problem.now g.row.W held.width_is laws
+    c.head-held_ranks.ensures.well_formed.between_ranks
+    c.head-ranks.ensures.well_formed.between_ranks _ c.args.count held.held c.kept_stages.ensures.early
+    common c.requires.more few)
 
 pub returns-clause-count : goal.returns-clause-count
 returns-clause-count g c =
     let inside = c.self.inside in
-    let common : AreInCommon inside.problem c.args.problem.now c.args.count = rw (ap (λ (h : HeldProblem). h.problem) c.self.view_is) c.requires.common in
-    let few = few_in_common inside.problem c.args.problem.now c.args.count inside.stages.items common c.self.invariant.whole in
+    let common : AreInCommon inside.problem c.args.problem.now c.args.count =
+    rw (ap (λ (h : HeldProblem). h.problem) c.self.view_is) c.requires.common in
+    let few = few_in_common inside.problem c.args.problem.now c.args.count inside.stages.items
+    common c.self.invariant.whole in
     let long = ap length c.truncate.ensures.items ∙ length-take-le c.args.count inside.stages.items few in
     omega (arith, long)

@@ -5,8 +5,23 @@ use Rattle.replan.proofs.labels.Labels.next.Goals as goal
 
 pub column_by_pieces-requires : goal.column_by_pieces-requires
 column_by_pieces-requires g c =
-    let is : of_column c.in-OfColumn.labels ≡ c.args.self.now = sym (ap pairs_of c.in-OfColumn.is) ∙ c.self.view_is in
-    (search rules, (search rules, (search rules, (c.requires.width, (column_held c.args.problem.now c.args.before.now c.args.self.now c.in-OfColumn.labels is c.requires.before, (c.requires.number, c.requires.next))))))
+    let is : of_column c.in-OfColumn.labels ≡ c.args.self.now = sym (ap pairs_of c.in-OfColumn.is) ∙ c.self.view_is in (
+      search rules,
+      (
+        search rules,
+        (
+          search rules,
+          (
+            c.requires.width,
+            (
+              column_held c.args.problem.now c.args.before.now c.args.self.now c.in-OfColumn.labels
+                  is c.requires.before,
+              (c.requires.number, c.requires.next),
+            ),
+          ),
+        ),
+      ),
+    )
 
 pub returns-in_ok-left-in-OfColumn-clause-left : goal.returns-in_ok-left-in-OfColumn-clause-left
 returns-in_ok-left-in-OfColumn-clause-left g c =

@@ -2,13 +2,15 @@ use Rattle.std.proofs.Common.{◌≡◌, ◌+◌, rules, ap, sym, subst, ◌∙�
 use Rattle.cps_network.specs.Pairs.{HoldsCosts}
 use Rattle.makespan_labels.specs.shared.LabelPairs.{label_of_undominated}
 use Rattle.replan.specs.Labels.{HoldsPairs, pairs_of}
-use Rattle.replan.proofs.LabelsLemmas.{of_column, of_costs, column_makespan, column_held, pair_given, node_given, column_gives}
+use Rattle.replan.proofs.LabelsLemmas.{of_column, of_costs, column_makespan, column_held, pair_given, node_given}
+use Rattle.replan.proofs.LabelsLemmas.{column_gives}
 use Rattle.replan.proofs.labels.Labels.source.Goals as goal
 
 pub source_of-requires : goal.source_of-requires
 source_of-requires g c =
     let is : of_column c.in-OfColumn.column ≡ c.args.self.now = sym (ap pairs_of c.in-OfColumn.is) ∙ c.self.view_is in
-    let makespan = column_makespan c.args.problem.now c.args.before.now c.args.self.now c.in-OfColumn.column is c.requires.before in (
+    let makespan = column_makespan c.args.problem.now c.args.before.now c.args.self.now c.in-OfColumn.column
+    is c.requires.before in (
       search rules,
       (
         search rules,
@@ -17,8 +19,13 @@ source_of-requires g c =
           (
             column_held c.args.problem.now c.args.before.now c.args.self.now c.in-OfColumn.column is c.requires.before,
             (
-              node_given c.args.problem.now c.prefix_laws.ensures.network c.args.before.now c.args.node.now c.args.pair c.requires.undominated c.args.self.now.lists c.requires.before.held,
-              (label_of_undominated c.args.problem.now makespan (c.args.before.now.0 + 1) c.args.node.now c.args.pair c.requires.known c.requires.undominated, c.requires.known),
+              node_given c.args.problem.now c.prefix_laws.ensures.network c.args.before.now
+                  c.args.node.now c.args.pair c.requires.undominated c.args.self.now.lists c.requires.before.held,
+              (
+                label_of_undominated c.args.problem.now makespan
+                    (c.args.before.now.0 + 1) c.args.node.now c.args.pair c.requires.known c.requires.undominated,
+                c.requires.known,
+              ),
             ),
           ),
         ),
@@ -28,10 +35,25 @@ source_of-requires g c =
 pub source_pair-requires : goal.source_pair-requires
 source_pair-requires g c =
     let is : of_costs c.in-OfCosts.costs ≡ c.args.self.now = sym (ap pairs_of c.in-OfCosts.is) ∙ c.self.view_is in
-    let held : HoldsCosts c.args.problem.now c.args.before.now c.in-OfCosts.costs = (subst (HoldsPairs c.args.problem.now c.args.before.now) (sym is) c.requires.before).held in
-    (search rules, (search rules, (c.requires.width, (held, pair_given c.args.problem.now c.prefix_laws.ensures.network c.args.before.now c.args.node.now c.args.pair c.requires.undominated c.in-OfCosts.costs held))))
+    let held : HoldsCosts c.args.problem.now c.args.before.now c.in-OfCosts.costs =
+    (subst (HoldsPairs c.args.problem.now c.args.before.now) (sym is) c.requires.before).held in (
+      search rules,
+      (
+        search rules,
+        (
+          c.requires.width,
+          (
+            held,
+            pair_given c.args.problem.now c.prefix_laws.ensures.network
+                c.args.before.now c.args.node.now c.args.pair c.requires.undominated c.in-OfCosts.costs held,
+          ),
+        ),
+      ),
+    )
 
 pub returns-in-OfColumn : goal.returns-in-OfColumn
 returns-in-OfColumn g c =
     let is : of_column c.in-OfColumn.column ≡ c.args.self.now = sym (ap pairs_of c.in-OfColumn.is) ∙ c.self.view_is in
-    column_gives c.args.problem.now c.prefix_laws.ensures.network c.args.before.now c.args.node.now c.args.pair c.requires.undominated c.args.self.now c.in-OfColumn.column is c.requires.before c.source_of.result c.source_of.ensures.gives
+    column_gives c.args.problem.now c.prefix_laws.ensures.network c.args.before.now c.args.node.now
+    c.args.pair c.requires.undominated c.args.self.now c.in-OfColumn.column is c.requires.before
+    c.source_of.result c.source_of.ensures.gives

@@ -11,17 +11,20 @@ use Rattle.situations.proofs.situation.Situation.add.Goals as goal
 use Rattle.situations.proofs.situation.Situation.add.Goals.{In_ok-insert}
 
 -- the new entry goes last
-last : (c : In_ok-insert) → c.insert.new.self.entries ≡ c.self.inside.active.entries ++ (c.args.flight.now.callsign, c.waiting.result) ∷ []
+last : (c : In_ok-insert) → c.insert.new.self.entries ≡ c.self.inside.active.entries
+    ++ (c.args.flight.now.callsign, c.waiting.result) ∷ []
 last c =
     let callsign = c.args.flight.now.callsign in
     let none = ap (λ (s : Situation). list_any (named callsign) s.active) c.self.view_is ∙ c.requires in
-    c.in_ok-insert.ensures.entries ∙ insert_entry-new bytes_eq c.self.inside.active callsign c.waiting.result (not_there callsign c.self.inside.active.entries c.self.invariant.keyed none)
+    c.in_ok-insert.ensures.entries ∙ insert_entry-new bytes_eq c.self.inside.active callsign c.waiting.result
+    (not_there callsign c.self.inside.active.entries c.self.invariant.keyed none)
 
 pub invariant_of-self-2 : goal.invariant_of-self-2
 invariant_of-self-2 c =
     let name = ap (λ (a : Active). a.flight.callsign) c.waiting.ensures in
     record {
-      keyed = subst Keyed (sym (last c)) (keyed_pushed c.self.inside.active.entries (c.args.flight.now.callsign, c.waiting.result) c.self.invariant.keyed (sym name));
+      keyed = subst Keyed (sym (last c)) (keyed_pushed c.self.inside.active.entries
+          (c.args.flight.now.callsign, c.waiting.result) c.self.invariant.keyed (sym name));
       few_places = c.self.invariant.few_places;
       short_freeze = c.self.invariant.short_freeze;
       clock = c.self.invariant.clock;
@@ -33,4 +36,5 @@ returns-clause-new c =
     let inside = c.self.inside in
     rw (← c.self.view_is)
     (ap (λ l. situation_of inside.fixed l inside.closures inside.clock)
-    (ap values_of (last d) ∙ values_pushed inside.active.entries (c.args.flight.now.callsign, d.waiting.result) ∙ ap (λ (a : Active). values_of inside.active.entries ++ a ∷ []) d.waiting.ensures))
+    (ap values_of (last d) ∙ values_pushed inside.active.entries (c.args.flight.now.callsign, d.waiting.result)
+    ∙ ap (λ (a : Active). values_of inside.active.entries ++ a ∷ []) d.waiting.ensures))

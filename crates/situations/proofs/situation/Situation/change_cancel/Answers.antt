@@ -11,12 +11,14 @@ use Rattle.situations.proofs.situation.Situation.change_cancel.Goals as goal
 pub unreachable-requires : goal.unreachable-requires
 unreachable-requires c =
     let callsign = c.args.callsign in
-    false≢true (ap is_some (sym c.in-None.is) ∙ c.get_index_of.ensures.found ∙ ap is_some (looked_up callsign c.self.inside.active.entries c.self.invariant.keyed)
+    false≢true (ap is_some (sym c.in-None.is) ∙ c.get_index_of.ensures.found
+    ∙ ap is_some (looked_up callsign c.self.inside.active.entries c.self.invariant.keyed)
     ∙ ap (λ (s : Situation). is_some (find (named callsign) s.active)) c.self.view_is ∙ c.requires)
 
 pub invariant_of-self : goal.invariant_of-self
 invariant_of-self c = record {
-  keyed = keyed_moved c.self.inside.active.entries c.move_index.new.self.entries c.in-Some.place _ c.move_index.ensures.entries c.self.invariant.keyed;
+  keyed = keyed_moved c.self.inside.active.entries c.move_index.new.self.entries c.in-Some.place
+      _ c.move_index.ensures.entries c.self.invariant.keyed;
   few_places = c.self.invariant.few_places;
   short_freeze = c.self.invariant.short_freeze;
   clock = c.self.invariant.clock;
@@ -27,8 +29,11 @@ returns c =
     let callsign = c.args.callsign in
     let inside = c.self.inside in
     let es = inside.active.entries in
-    let found = some_from _ (ap (λ (s : Situation). is_some (find (named callsign) s.active)) c.self.view_is ∙ c.requires) in
+    let found = some_from _ (ap (λ (s : Situation). is_some (find (named callsign) s.active)) c.self.view_is
+    ∙ c.requires) in
     let at = c.in-Some.ensures.value ∙ looked_up callsign es c.self.invariant.keyed ∙ found.1 in
     let moved = c.move_index.ensures.entries ∙ ap (λ n. move_index es c.in-Some.place (n - 1)) c.len-last.ensures.len in
     rw (← c.self.view_is)
-    (cancelled_is inside.fixed inside.closures inside.clock callsign es c.move_index.new.self.entries c.in-Some.place found.0 c.self.invariant.keyed c.get_index_of.ensures.unique at (found_named callsign _ found.0 found.1) moved)
+    (cancelled_is inside.fixed inside.closures inside.clock callsign es c.move_index.new.self.entries
+    c.in-Some.place found.0 c.self.invariant.keyed c.get_index_of.ensures.unique at
+    (found_named callsign _ found.0 found.1) moved)

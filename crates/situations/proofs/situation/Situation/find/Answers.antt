@@ -7,4 +7,5 @@ use Rattle.situations.proofs.situation.Situation.find.Goals as goal
 
 pub returns : goal.returns
 returns c =
-    c.get.ensures.value ∙ looked_up c.args.callsign c.self.inside.active.entries c.self.invariant.keyed ∙ ap (λ (s : Situation). find (named c.args.callsign) s.active) c.self.view_is
+    c.get.ensures.value ∙ looked_up c.args.callsign c.self.inside.active.entries c.self.invariant.keyed
+    ∙ ap (λ (s : Situation). find (named c.args.callsign) s.active) c.self.view_is

@@ -17,10 +17,14 @@ loop-i-preserved c =
     let within = c.loop-i.auto.i in
     let some = c.loop-i-test.true in
     let next : i - 1 + 1 ≡ i = omega arith in
-    let here = drop_more all (i - 1) e (omega arith) ∙ ap (λ x. x ∷ drop (i - 1 + 1) all) (sym c.index-entries-i.is) ∙ ap (λ n. e ∷ drop n all) next in
-    once_more with_second e.callsign e.second (frozen_so e.callsign (Some e.second)) (second_first e.callsign e.second) _ _ c.args.self.now c.loop-i.self c.set_frozen.new.self (ap seconds_in here) c.loop-i.invariant c.set_frozen.ensures
+    let here = drop_more all (i - 1) e (omega arith) ∙ ap (λ x. x ∷ drop (i - 1 + 1) all) (sym c.index-entries-i.is)
+    ∙ ap (λ n. e ∷ drop n all) next in
+    once_more with_second e.callsign e.second (frozen_so e.callsign (Some e.second))
+    (second_first e.callsign e.second) _ _ c.args.self.now c.loop-i.self c.set_frozen.new.self
+    (ap seconds_in here) c.loop-i.invariant c.set_frozen.ensures
 
 pub returns : goal.returns
 returns c =
     let none : c.loop-i.i ≡ 0 = omega (arith, c.loop-i-test.false) in
-    c.loop-i.invariant ∙ ap (λ i. record c.args.self.now { active = listed with_second (seconds_in (drop i c.args.entries.now)) c.args.self.now.active }) none
+    c.loop-i.invariant ∙ ap (λ i. record c.args.self.now
+    { active = listed with_second (seconds_in (drop i c.args.entries.now)) c.args.self.now.active }) none

@@ -6,4 +6,5 @@ use Rattle.situations.proofs.situation.Situation.freeze_listed.Given as goal
 
 -- each flight is as the entries from i on say
 abbrev pub invariant-loop-i : goal.invariant-loop-i
-invariant-loop-i l = l.self ≡ record l.fn.self { active = listed with_second (seconds_in (drop l.i l.entries)) l.fn.self.active }
+invariant-loop-i l = l.self ≡ record l.fn.self
+    { active = listed with_second (seconds_in (drop l.i l.entries)) l.fn.self.active }

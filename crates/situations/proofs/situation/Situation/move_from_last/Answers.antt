@@ -7,7 +7,8 @@ use Rattle.situations.proofs.situation.Situation.move_from_last.Goals as goal
 
 pub invariant_of-self : goal.invariant_of-self
 invariant_of-self c = record {
-  keyed = keyed_moved c.self.inside.active.entries c.move_index.new.self.entries _ c.args.place c.move_index.ensures.entries c.self.invariant.keyed;
+  keyed = keyed_moved c.self.inside.active.entries c.move_index.new.self.entries _ c.args.place
+      c.move_index.ensures.entries c.self.invariant.keyed;
   few_places = c.self.invariant.few_places;
   short_freeze = c.self.invariant.short_freeze;
   clock = c.self.invariant.clock;
@@ -20,4 +21,5 @@ returns c =
     let vs = values inside.active in
     rw (← c.self.view_is)
     (ap (λ l. situation_of inside.fixed l inside.closures inside.clock)
-    (values_moved es c.move_index.new.self.entries _ c.args.place c.move_index.ensures.entries ∙ ap (λ n. move_index vs (n - 1) c.args.place) (c.len-last.ensures.len ∙ sym (length-map es (λ e. e.1)))))
+    (values_moved es c.move_index.new.self.entries _ c.args.place c.move_index.ensures.entries
+    ∙ ap (λ n. move_index vs (n - 1) c.args.place) (c.len-last.ensures.len ∙ sym (length-map es (λ e. e.1)))))

@@ -16,7 +16,8 @@ opens : (c : After-count_listed) → c.count_listed.new.self ≡ opened c.args.a
 opens c =
     let a = c.args.aerodrome.now in
     let fs = c.args.flights.now in
-    let made = c.with-situation.ensures.value ∙ ap (λ l. record (opened a []) { active = values_of l }) c.in_ok-active.ensures in
+    let made = c.with-situation.ensures.value
+    ∙ ap (λ l. record (opened a []) { active = values_of l }) c.in_ok-active.ensures in
     let frozen = c.freeze_listed.ensures ∙ (λ j. seconds_on (c.entries.ensures j) (made j)) in
     let passed = c.count_listed.ensures ∙ (λ j. counts_on (c.entries-2.ensures j) (frozen j)) in
     passed ∙ ap (λ l. record (opened a []) { active = l }) (all_opened a fs)
@@ -28,5 +29,11 @@ pub returns-clause-sound : goal.returns-clause-sound
 returns-clause-sound c none =
     let a = c.args.aerodrome.now in
     let fs = c.args.flights.now in
-    let kept : AreKept a fs = record { table = c.with-situation.ensures.table; closures = c.with-situation.ensures.closures; flights = c.all_known.ensures } in
+    let kept : AreKept a fs =
+    record {
+      table = c.with-situation.ensures.table;
+      closures = c.with-situation.ensures.closures;
+      flights =
+          c.all_known.ensures;
+    } in
     subst IsSound (sym (opens c)) (opening_sound a fs kept (c.requires, none))

@@ -13,14 +13,19 @@ invariant_of-self c =
     let es = inside.active.entries in
     let turn = (λ (a : Active). record a { passed = c.args.count }) in
     elim c.match-get_mut.branch [
-      | in-None w ↦ subst IsInStep (sym (w.self-inside-is ∙ ap (λ n. record inside { active = n }) c.get_mut.follows.holds-at-none)) c.self.invariant
+      | in-None w ↦ subst IsInStep
+          (sym (w.self-inside-is ∙ ap (λ n. record inside { active = n }) c.get_mut.follows.holds-at-none))
+          c.self.invariant
       | in-Some w ↦
           let new = w.set_passed.new.active in
           let n = c.get_mut.follows.lender new in
           let holds = c.get_mut.follows.holds new in
-          let set = changed_one c.args.callsign turn es n.entries w.in-Some.active.now new c.self.invariant.keyed c.get_mut.ensures.unique (sym w.in-Some.ensures.value) w.set_passed.ensures holds.0 in
+          let set = changed_one c.args.callsign turn es n.entries w.in-Some.active.now new
+          c.self.invariant.keyed c.get_mut.ensures.unique
+          (sym w.in-Some.ensures.value) w.set_passed.ensures holds.0 in
           subst IsInStep (sym w.self-inside-is) (record {
-            keyed = keyed_still es n.entries _ holds.1 set (names_kept c.args.callsign turn (λ a. refl) (values inside.active)) c.self.invariant.keyed;
+            keyed = keyed_still es n.entries _ holds.1 set
+                (names_kept c.args.callsign turn (λ a. refl) (values inside.active)) c.self.invariant.keyed;
             few_places = c.self.invariant.few_places;
             short_freeze = c.self.invariant.short_freeze;
             clock = c.self.invariant.clock;
@@ -37,11 +42,15 @@ returns c =
           let none = sym (looked_up c.args.callsign es c.self.invariant.keyed) ∙ sym w.in-None.ensures.value in
           rw (← c.self.view_is)
           (ap seen (w.self-inside-is ∙ ap (λ n. record inside { active = n }) c.get_mut.follows.holds-at-none)
-          ∙ ap (λ l. situation_of inside.fixed l inside.closures inside.clock) (sym (none_named c.args.callsign turn (values inside.active) none)))
+          ∙ ap (λ l. situation_of inside.fixed l inside.closures inside.clock)
+          (sym (none_named c.args.callsign turn (values inside.active) none)))
       | in-Some w ↦
           let new = w.set_passed.new.active in
           let n = c.get_mut.follows.lender new in
           let holds = c.get_mut.follows.holds new in
-          let set = changed_one c.args.callsign turn es n.entries w.in-Some.active.now new c.self.invariant.keyed c.get_mut.ensures.unique (sym w.in-Some.ensures.value) w.set_passed.ensures holds.0 in
-          rw (← c.self.view_is) (ap seen w.self-inside-is ∙ ap (λ l. situation_of inside.fixed l inside.closures inside.clock) set)
+          let set = changed_one c.args.callsign turn es n.entries w.in-Some.active.now new
+          c.self.invariant.keyed c.get_mut.ensures.unique
+          (sym w.in-Some.ensures.value) w.set_passed.ensures holds.0 in
+          rw (← c.self.view_is) (ap seen w.self-inside-is
+          ∙ ap (λ l. situation_of inside.fixed l inside.closures inside.clock) set)
     ]

@@ -8,7 +8,8 @@ returns c =
     record {
       value = c.entry.ensures;
       range = rw c.entry.ensures (table_range c.self.inside.rows c.args.leader c.args.follower c.self.invariant);
-      triangle = λ via. rw c.entry.ensures (table_triangle c.self.inside.rows c.args.leader via c.args.follower c.self.invariant);
+      triangle = λ via. rw c.entry.ensures
+          (table_triangle c.self.inside.rows c.args.leader via c.args.follower c.self.invariant);
       whole = record {
         entries = λ a b. table_range c.self.inside.rows a b c.self.invariant;
         triangle = λ a b d. table_triangle c.self.inside.rows a b d c.self.invariant;

@@ -7,7 +7,10 @@ pub returns-in-Some : goal.returns-in-Some
 returns-in-Some c =
     let head = c.as_bytes.result.now in
     let begins = starts_is Decides-eqb c.args.written.now head c.starts_with.result c.starts_with.ensures.value in
-    rw (c.in-Some.is, ← c.as_bytes.ensures.value) (λ t. (drop (length head) c.args.written.now, begins.0 t), λ shown. begins.1 shown.0 shown.1)
+    rw (c.in-Some.is, ← c.as_bytes.ensures.value) (
+      λ t. (drop (length head) c.args.written.now, begins.0 t),
+      λ shown. begins.1 shown.0 shown.1,
+    )
 
 pub returns-in-Some-ends : goal.returns-in-Some-ends
 returns-in-Some-ends c =
