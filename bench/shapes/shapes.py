@@ -3,7 +3,8 @@
 
   pairs SIZE    60 flights, delay, k = 2, windows of SIZE seconds: weights and separations that keep very many pairs a window
   frozen SIZE   500 flights of which SIZE are frozen and the others wait, k = 1
-  trials SIZE   60 flights a few seconds apart, k = 3, makespan, and trials.csv with SIZE trials of k = 3
+  trials SIZE   60 flights five seconds apart, k = 3, makespan, and trials.csv with SIZE trials of k = 3
+  moves RANK    the same flights, and events.csv with 40 events that each change the estimate of the flight of that rank
 """
 import random
 import sys
@@ -45,18 +46,28 @@ def frozen(size):
     return {'aerodrome.toml': aerodrome(2, 1, 'makespan', more=clock) + entries, 'flights.csv': HEADER + rows}
 
 
-def trials(size):
+def bank():
     draw = random.Random(60)
     rows = ''
     for i in range(60):
         eta = 3600 + 5 * i
         rows += f'T{i:03},{draw.choice(LETTERS)},{eta},1,{eta}-{eta + 7199},\n'
-    return {'aerodrome.toml': aerodrome(1, 3, 'makespan'), 'flights.csv': HEADER + rows, 'trials.csv': 'kind,value\n' + 'k,3\n' * size}
+    return {'aerodrome.toml': aerodrome(1, 3, 'makespan'), 'flights.csv': HEADER + rows}
+
+
+def trials(size):
+    return {**bank(), 'trials.csv': 'kind,value\n' + 'k,3\n' * size}
+
+
+def moves(rank):
+    callsign, eta = f'T{rank - 1:03}', 3600 + 5 * (rank - 1)
+    rows = ''.join(f'estimate,{callsign},,{eta + 1 + i % 2},,{eta}-{eta + 7199},\n' for i in range(40))
+    return {**bank(), 'events.csv': 'kind,callsign,category,eta,weight,windows,after\n' + rows}
 
 
 def main(kind, size, folder):
     Path(folder).mkdir(parents=True, exist_ok=True)
-    for name, text in {'pairs': pairs, 'frozen': frozen, 'trials': trials}[kind](int(size)).items():
+    for name, text in {'pairs': pairs, 'frozen': frozen, 'trials': trials, 'moves': moves}[kind](int(size)).items():
         (Path(folder) / name).write_text(text)
 
 
