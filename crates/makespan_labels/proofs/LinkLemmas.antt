@@ -1,16 +1,19 @@
 -- What landings behind the ranges of links need leads to the windows to which the links lead.
-use Rattle.std.proofs.Common.{◌≡◌, ℕ, ◌+◌, ◌<◌, List, length, sym, subst, ap, ◌∙◌, arith, inl, inr, set}
+use Rattle.std.proofs.Common.{◌≡◌, ℕ, ◌+◌, ◌-◌, ◌<◌, ◌≤◌, List, length, sym, subst, ap, ◌∙◌, arith, inl, inr, set}
 use Rattle.std.proofs.lemmas.Bool.{cases_eq}
 use Rattle.std.proofs.lemmas.List.{length-set, get_or-set_same, get_or-set_other}
+use Rattle.std.proofs.lemmas.List.Edits.{length-between, get_or-between}
+use Rattle.std.specs.List.{between}
 use Rattle.std.specs.Prelude.{ℤ, slice_index, slice_index_or}
 use Rattle.wake_table.specs.declared.category.Category.{Category}
 use Rattle.landing_rules.specs.Problem.{Problem}
 use Rattle.cps_nodes.specs.Leads.{Extends}
-use Rattle.cps_network.specs.Links.{Links, AreLinks, range_at}
+use Rattle.cps_network.specs.Links.{Links, AreGroups, AreLinks, range_at}
+use Rattle.cps_network.specs.Groups.{IsGroup}
 use Rattle.cps_network.specs.Lists.{node_at}
 use Rattle.makespan_labels.specs.declared.group.Group.{Group}
 use Rattle.makespan_labels.specs.Labellings.{CanLabel}
-use Rattle.makespan_labels.specs.LinkedGroups.{AreLeads, IsLeadOver, LeadToEach}
+use Rattle.makespan_labels.specs.LinkedGroups.{IsLeadOver, LeadToEach}
 use Rattle.makespan_labels.specs.Ready.{IsReady}
 use Rattle.makespan_labels.proofs.GroupLeads.{leader_flight}
 
@@ -23,12 +26,12 @@ lead_over p w before labels group from ready is =
 
 -- one entry more is written in each of two lists
 pub pair_more : (P : ℕ → ℕ → Category → Type 0) (leasts : List ℕ) (categories : List Category)
-    (i least : ℕ) (category : Category) (n : ℕ) → i < n → length leasts ≡ n → length categories ≡ n
-    → ((m : ℕ) (d : Category) → m < i → P m (slice_index leasts m) (slice_index_or categories m d)) → P i least category
-    → (length (set leasts i least) ≡ n) × (length (set categories i category) ≡ n)
-    × ((m : ℕ) (d : Category) → m < i + 1
-    → P m (slice_index (set leasts i least) m) (slice_index_or (set categories i category) m d))
-pair_more P leasts categories i least category n lt long wide old one = (
+    (i least : ℕ) (category : Category) (n k : ℕ) → i < n → i < k → length leasts ≡ n → length categories ≡ k
+    → ((q : ℕ) (d : Category) → q < i → P q (slice_index leasts q) (slice_index_or categories q d)) → P i least category
+    → (length (set leasts i least) ≡ n) × (length (set categories i category) ≡ k)
+    × ((q : ℕ) (d : Category) → q < i + 1
+    → P q (slice_index (set leasts i least) q) (slice_index_or (set categories i category) q d))
+pair_more P leasts categories i least category n k lt in_k long wide old one = (
   length-set leasts i least ∙ long,
   length-set categories i category ∙ wide,
   λ m d le. elim (cases_eq m i) [
@@ -37,7 +40,7 @@ pair_more P leasts categories i least category n lt long wide old one = (
         ∙ get_or-set_same leasts i least 0 (omega (arith, lt, long)) in
         let here : slice_index_or (set categories i category) m d ≡ category =
         ap (λ (q : ℕ). slice_index_or (set categories i category) q d) same
-        ∙ get_or-set_same categories i category d (omega (arith, lt, wide)) in
+        ∙ get_or-set_same categories i category d (omega (arith, in_k, wide)) in
         subst (λ (x : ℕ). P m x (slice_index_or (set categories i category) m d)) (sym low)
         (subst (P m least) (sym here) (subst (λ (q : ℕ). P q least category) (sym same) one))
     | inr other ↦
@@ -50,34 +53,93 @@ pair_more P leasts categories i least category n lt long wide old one = (
   ],
 )
 
-pub lead_to_each : (p : Problem) (w : ℕ) (before stage : ℕ × List (List ℤ)) (labels : List ℕ)
-    (l : Links) (places leasts least_slice : List ℕ) (categories category_slice : List Category)
-    → AreLinks l → l.origin ≡ before.1
-    → l.target ≡ stage.1 → places ≡ l.places → least_slice ≡ leasts → category_slice ≡ categories
-    → AreLeads p w before labels l.ranges leasts categories → CanLabel p w before labels stage → 0 < before.0
-    → LeadToEach p w before labels stage.1 places least_slice category_slice
-lead_to_each p w before stage labels l places leasts least_slice categories category_slice
-    links origin target same least_same category_same over can some =
-    subst (λ (cs : List Category). LeadToEach p w before labels stage.1 places least_slice cs) (sym category_same)
-    (subst (λ (ls : List ℕ). LeadToEach p w before labels stage.1 places ls categories) (sym least_same)
-    (subst (λ (ps : List ℕ). LeadToEach p w before labels stage.1 ps leasts categories) (sym same) (record {
-      one_each = links.one_each ∙ ap length target;
-      has_least = λ i lt. let at = links.within i (here i lt) in omega (arith, at, over.one_least);
-      has_category = λ i lt. let at = links.within i (here i lt) in omega (arith, at, over.one_category);
-      leads = λ i d lt.
-          let g = slice_index l.places i in
-          let at = over.each g d (links.within i (here i lt)) in
-          record {
-            from = (range_at l.ranges g).0;
-            over = at;
-            landed = leader_flight p w before.0 before.1 labels can.odd can.laws can.held
-                (range_at l.ranges g).0 at.labelled.to at.labelled.group at.leader at.labelled.leads some;
-            leads = subst (λ (ws : List (List ℤ)). Extends (node_at before.1 (range_at l.ranges g).0)
-                (node_at ws i)) target
-                (subst (λ (ws : List (List ℤ)). Extends (node_at ws (range_at l.ranges g).0)
-                (node_at l.target i)) origin (links.leads i (here i lt)));
-          };
-    })))
-  where
-    here : (i : ℕ) → i < length stage.1 → i < length l.target
-    here i lt = let e = ap length target in omega (arith, e, lt)
+-- the ranges of links from a place on and before another
+pub groups_between : (l : Links) → AreLinks l → (windows : List (List ℤ)) → l.origin ≡ windows → (first end : ℕ)
+    → (ranges : List (ℕ × ℕ)) → ranges ≡ between first end l.ranges → end ≤ length l.ranges → AreGroups windows ranges
+groups_between l links windows origin first end ranges are ends = λ g lt.
+    let long = ap length are ∙ length-between l.ranges first end ends in
+    let same : range_at ranges g ≡ range_at l.ranges (first + g) = ap (λ (rs : List (ℕ × ℕ)). range_at rs g) are
+    ∙ get_or-between l.ranges first end g (0, 0) (omega (arith, lt, long)) in
+    subst (λ (ws : List (List ℤ)). IsGroup ws (range_at ranges g).0 (range_at ranges g).1) origin
+    (subst (λ (range : ℕ × ℕ). IsGroup l.origin range.0 range.1) (sym same)
+    (links.groups (first + g) (omega (arith, lt, long))))
+
+-- the places of the windows from place `start` on and before `stop`
+module _ (l : Links) (links : AreLinks l) (windows : List (List ℤ)) (target : l.target ≡ windows) (start stop : ℕ)
+    (ordered : start ≤ stop) (stops : stop ≤ length windows) (places : List ℕ)
+    (are : places ≡ between start stop l.places) where
+  pub places_long : length places ≡ stop - start
+  places_long = ap length are
+      ∙ length-between l.places start stop (omega (arith, stops, links.one_each, ap length target))
+
+  pub place_is : (i : ℕ) → i < length places → slice_index places i ≡ slice_index l.places (start + i)
+  place_is i lt = ap (λ (ps : List ℕ). slice_index ps i) are
+      ∙ get_or-between l.places start stop i 0 (omega (arith, lt, places_long, ordered))
+
+  pub place_target : (i : ℕ) → i < length places → start + i < length l.target
+  place_target i lt = omega (arith, lt, places_long, ordered, stops, ap length target)
+
+  pub place_within : (i : ℕ) → i < length places → slice_index places i < length l.ranges
+  place_within i lt = let at = links.within (start + i) (place_target i lt) in omega (arith, at, place_is i lt)
+
+-- with these places, the ranges from place `first` on and before `end`
+module _ (p : Problem) (w : ℕ) (before stage : ℕ × List (List ℤ)) (labels : List ℕ) (l : Links) (links : AreLinks l)
+    (origin : l.origin ≡ before.1) (target : l.target ≡ stage.1) (start stop first end : ℕ)
+    (ordered : start ≤ stop) (stops : stop ≤ length stage.1) (ends : end ≤ length l.ranges)
+    (places : List ℕ) (places_are : places ≡ between start stop l.places)
+    (ranges : List (ℕ × ℕ)) (ranges_are : ranges ≡ between first end l.ranges)
+    (low : (i : ℕ) → i < length places → first ≤ slice_index places i)
+    (high : (i : ℕ) → i < length places → slice_index places i < end) where
+  ranges_long : length ranges ≡ end - first
+  ranges_long = ap length ranges_are ∙ length-between l.ranges first end ends
+
+  here : (i : ℕ) → i < length places → slice_index places i ≡ slice_index l.places (start + i)
+  here = place_is l links stage.1 target start stop ordered stops places places_are
+
+  range_is : (i : ℕ) → i < length places
+      → range_at ranges (slice_index places i - first) ≡ range_at l.ranges (slice_index l.places (start + i))
+  range_is i lt =
+      let lo = low i lt in
+      let hi = high i lt in
+      let same : first + (slice_index places i - first) ≡ slice_index l.places (start + i) =
+      omega (arith, lo, here i lt) in
+      ap (λ (rs : List (ℕ × ℕ)). range_at rs (slice_index places i - first)) ranges_are
+      ∙ get_or-between l.ranges first end (slice_index places i - first) (0, 0) (omega (arith, lo, hi))
+      ∙ ap (range_at l.ranges) same
+
+  leads_there : (i : ℕ) → i < length places
+      → Extends (node_at before.1 (range_at ranges (slice_index places i - first)).0) (node_at stage.1 (start + i))
+  leads_there i lt =
+      subst (λ (range : ℕ × ℕ). Extends (node_at before.1 range.0) (node_at stage.1 (start + i))) (sym (range_is i lt))
+      (subst (λ (ws : List (List ℤ)). Extends (node_at before.1 (range_at l.ranges (slice_index l.places (start + i))).0)
+      (node_at ws (start + i))) target
+      (subst (λ (ws : List (List ℤ)). Extends (node_at ws (range_at l.ranges (slice_index l.places (start + i))).0)
+      (node_at l.target (start + i))) origin
+      (links.leads (start + i)
+      (place_target l links stage.1 target start stop ordered stops places places_are i lt))))
+
+  pub lead_to_each : (leasts : List ℕ) (categories : List Category) → length ranges ≤ length leasts
+      → length ranges ≤ length categories
+      → ((g : ℕ) (d : Category) → g < length ranges → IsLeadOver p w before labels (range_at ranges g).0
+      (slice_index leasts g) (slice_index_or categories g d))
+      → CanLabel p w before labels stage → 0 < before.0
+      → LeadToEach p w before labels stage.1 start places first leasts categories
+  lead_to_each leasts categories long wide over can some = record {
+    one_each =
+        omega (arith, places_long l links stage.1 target start stop ordered stops places places_are, ordered, stops);
+    from_first = low;
+    has_least = λ i lt. let hi = high i lt in omega (arith, hi, ranges_long, long);
+    has_category = λ i lt. let hi = high i lt in omega (arith, hi, ranges_long, wide);
+    leads = λ i d lt.
+        let lo = low i lt in
+        let hi = high i lt in
+        let g = slice_index places i - first in
+        let at = over g d (omega (arith, lo, hi, ranges_long)) in
+        record {
+          from = (range_at ranges g).0;
+          over = at;
+          landed = leader_flight p w before.0 before.1 labels can.odd can.laws can.held
+              (range_at ranges g).0 at.labelled.to at.labelled.group at.leader at.labelled.leads some;
+          leads = leads_there i lt;
+        };
+  }

@@ -112,7 +112,11 @@ pub(crate) fn label_of<const W: usize>(
 
 // Writes the labels of the windows of a stage from place `start` on, as many as the part has entries. The windows that share
 // a tail are looked up once, and each rank that lands last once.
-fn fill_part<const W: usize>(labelling: &Labelling<W>, start: usize, part: &mut [u32])
+pub(crate) fn fill_part<const W: usize>(
+    labelling: &Labelling<W>,
+    start: usize,
+    part: &mut [u32],
+)
     requires can { CanLabel labelling.now.problem.now W labelling.now.before.now
         labelling.now.labels.now labelling.now.stage.now }
     requires within { start + length part.old ≤ length labelling.now.stage.now.1 }
@@ -168,6 +172,7 @@ pub fn fill_alone<const W: usize>(
     ensures labels { AreLabels problem.now stage.now into.new }
     ensures landable { HasEachLandable problem.now stage.now }
 {
+    // k is at most 3.
     let _near = problem.head();
     prefix_laws::<W>(problem);
     window_laws::<W>();
@@ -201,6 +206,7 @@ pub fn fill<const W: usize, R: Threads + Sync, G: Gate + Sync, L: Ledger>(
     ensures landable { HasEachLandable problem.now stage.now }
     ensures steps { L.count steps.new ≡ raised_by (length stage.now.1) (L.count steps.old) }
 {
+    // k is at most 3.
     let _near = problem.head();
     prefix_laws::<W>(problem);
     window_laws::<W>();

@@ -15,5 +15,6 @@ mod source;
 
 pub use column::{Column, NO_LABEL};
 pub use label::{fill, fill_alone};
+pub use labelling::Labelling;
 pub use linked::{fill_linked, fill_linked_alone};
 pub use source::source_of;

@@ -1,6 +1,6 @@
 //! The labels of a stage whose links from the stage before are kept.
 
-ghost use Rattle.std.specs.Prelude.{◌≡◌, ℕ, ◌+◌, ◌*◌, ◌<◌, ◌≤◌, length, slice_index, slice_index_or, IfOk, OnOk, OnErr};
+ghost use Rattle.std.specs.Prelude.{◌≡◌, ℕ, ◌+◌, ◌*◌, ◌<◌, ◌≤◌, length, slice_index, slice_index_or};
 ghost use Rattle.cps_base.specs.Tally.{raised_by};
 ghost use Rattle.cps_network.specs.Landable.{HasEachLandable};
 ghost use Rattle.cps_network.specs.Links.{AreGroups, range_at};
@@ -10,29 +10,48 @@ ghost use Rattle.makespan_labels.specs.Entries.{IsLabelAt};
 ghost use Rattle.makespan_labels.specs.Followers.{IsFollower};
 ghost use Rattle.makespan_labels.specs.Labellings.{CanLabel};
 ghost use Rattle.makespan_labels.specs.Labels.{AreLabels, HoldsLabels};
-ghost use Rattle.makespan_labels.specs.LinkedGroups.{AreLeads, IsLeadOver, IsLeadTo, LeadToEach};
+ghost use Rattle.makespan_labels.specs.LinkedGroups.{IsLeadOver, IsLeadTo, LeadToEach};
 ghost use Rattle.wake_table.specs.declared.category.Category.{Category};
 
 use crate::column::Column;
 use crate::follower::{Follower, follower_of};
 use crate::group::{Lead, group_over};
-use crate::label::label_behind_flight;
+use crate::label::{fill_part, label_behind_flight};
 use crate::labelling::Labelling;
 use cps_base::{Ledger, Steps};
 use cps_network::{Links, Stage, last_rank, prefix_laws};
 use cps_nodes::{Window, window_laws};
 use cps_outside::Gate;
 use cps_problem::Problem;
-use label_workers::fill_pieces;
-use std::alloc::{AllocError, Global};
+use label_workers::{PIECE, fill_pieces};
 use std::thread::Threads;
 use wake_table::Category;
 
-// What landings behind each range of the links need. Two lists take less room than one of pairs.
-#[derive(Drop)]
-struct Leads {
-    leasts: Vec<u32>,
-    categories: Vec<Category>,
+// How many ranges near one another find room on the stack. A piece of a column needs far fewer, as a rule.
+const ROOM: usize = 1024;
+
+// What landings behind ranges of the links need, from the range at place `first` on.
+#[derive(Clone, Copy)]
+struct Leads<'a> {
+    first: usize,
+    leasts: &'a [u32],
+    categories: &'a [Category],
+}
+
+// The least and the greatest of these places.
+fn ends_of(places: &[u32]) -> (u32, u32)
+    requires some { 0 < length places.now }
+    ensures least { (i : ℕ) → i < length places.now → result.0 ≤ slice_index places.now i }
+    ensures greatest { (i : ℕ) → i < length places.now → slice_index places.now i ≤ result.1 }
+    ensures among { (i : ℕ) × (i < length places.now) × (slice_index places.now i ≡ result.1) }
+{
+    let mut least = places[0];
+    let mut greatest = places[0];
+    for place in places {
+        least = least.min(*place);
+        greatest = greatest.max(*place);
+    }
+    (least, greatest)
 }
 
 // Writes for each range the least label of its windows, and the category of the flight that landed last in them. It stands
@@ -47,8 +66,8 @@ fn fill_leads<const W: usize>(
     requires can { CanLabel labelling.now.problem.now W labelling.now.before.now
         labelling.now.labels.now labelling.now.stage.now }
     requires groups { AreGroups labelling.now.before.now.1 ranges.now }
-    requires leasts { length leasts.old ≡ length ranges.now }
-    requires categories { length categories.old ≡ length ranges.now }
+    requires leasts { length ranges.now ≤ length leasts.old }
+    requires categories { length ranges.now ≤ length categories.old }
     ensures leads { (g : ℕ) (d : Category) → g < length ranges.now
         → IsLeadOver labelling.now.problem.now W labelling.now.before.now labelling.now.labels.now
         (range_at ranges.now g).0 (slice_index leasts.new g) (slice_index_or categories.new g d) }
@@ -62,31 +81,6 @@ fn fill_leads<const W: usize>(
         leasts[i] = group.least;
         categories[i] = group.category;
     }
-}
-
-// What landings behind each range of the links need.
-fn leads_of<const W: usize>(
-    alloc: Global,
-    labelling: &Labelling<W>,
-    links: &Links<W>,
-) -> Result<Leads, AllocError>
-    requires can { CanLabel labelling.now.problem.now W labelling.now.before.now
-        labelling.now.labels.now labelling.now.stage.now }
-    requires origin { links.now.origin ≡ labelling.now.before.now.1 }
-    ensures { IfOk result (λ leads. AreLeads labelling.now.problem.now W
-        labelling.now.before.now labelling.now.labels.now links.now.ranges leads.leasts.items
-        leads.categories.items) }
-{
-    let ranges = links.ranges();
-    let mut leasts = vec![in alloc; 0; ranges.len()]?;
-    let mut categories = vec![in alloc; Category::A; ranges.len()]?;
-    fill_leads(
-        labelling,
-        ranges,
-        leasts.as_mut_slice(),
-        categories.as_mut_slice(),
-    );
-    Ok(Leads { leasts, categories })
 }
 
 // The same as `label_of`, where a flight has landed in the windows that lead to this one.
@@ -122,137 +116,172 @@ fn linked_label_of<const W: usize>(
 fn fill_linked_part<const W: usize>(
     labelling: &Labelling<W>,
     places: &[u32],
-    leasts: &[u32],
-    categories: &[Category],
+    leads: &Leads,
     start: usize,
     part: &mut [u32],
 )
     requires can { CanLabel labelling.now.problem.now W labelling.now.before.now
         labelling.now.labels.now labelling.now.stage.now }
     requires lead { LeadToEach labelling.now.problem.now W labelling.now.before.now
-        labelling.now.labels.now labelling.now.stage.now.1 places.now leasts.now categories.now }
-    requires within { start + length part.old ≤ length labelling.now.stage.now.1 }
+        labelling.now.labels.now labelling.now.stage.now.1 start places.now leads.now.first
+        leads.now.leasts.now leads.now.categories.now }
+    requires one_each { length places.now ≡ length part.old }
     ensures { (i : ℕ) → i < length part.old
         → IsLabelAt labelling.now.problem.now labelling.now.stage.now (start + i)
         (slice_index part.new i) }
 {
-    // A copy, whose fields no write to the part can touch.
+    // Copies, whose fields no write to the part can touch.
     let near = *labelling;
+    let leads = *leads;
     let windows = near.stage.windows();
     let number = near.stage.number();
     let mut followers = [Follower::none(); 8];
     for i in 0..part.len() {
         let place = start + i;
         let window = &windows[place];
-        let range = places[place] as usize;
+        let range = places[i] as usize - leads.first;
         let lead = Lead {
-            least: leasts[range],
-            category: categories[range],
+            least: leads.leasts[range],
+            category: leads.categories[range],
         };
         let follower = follower_of(window);
         part[i] = linked_label_of(&near, number, place, window, lead, &mut followers[follower]);
     }
 }
 
+// The same, where the leads of the ranges that lead to the part's windows are not found yet. The places of these ranges lie
+// close together, as a rule. Where they do not, the windows that lead to each are looked for.
+fn fill_linked_piece<const W: usize>(
+    labelling: &Labelling<W>,
+    links: &Links<W>,
+    start: usize,
+    part: &mut [u32],
+)
+    requires can { CanLabel labelling.now.problem.now W labelling.now.before.now
+        labelling.now.labels.now labelling.now.stage.now }
+    requires some { 0 < labelling.now.before.now.0 }
+    requires origin { links.now.origin ≡ labelling.now.before.now.1 }
+    requires target { links.now.target ≡ labelling.now.stage.now.1 }
+    requires within { start + length part.old ≤ length labelling.now.stage.now.1 }
+    ensures { (i : ℕ) → i < length part.old
+        → IsLabelAt labelling.now.problem.now labelling.now.stage.now (start + i)
+        (slice_index part.new i) }
+{
+    if part.is_empty() {
+        return;
+    }
+    let places = &links.places()[start..start + part.len()];
+    let (least, greatest) = ends_of(places);
+    let first = least as usize;
+    let end = greatest as usize + 1;
+    if end - first > ROOM {
+        fill_part(labelling, start, part);
+        return;
+    }
+    let mut leasts = [0; ROOM];
+    let mut categories = [Category::A; ROOM];
+    let ranges = &links.ranges()[first..end];
+    fill_leads(labelling, ranges, &mut leasts[..], &mut categories[..]);
+    let leads = Leads {
+        first,
+        leasts: &leasts[..],
+        categories: &categories[..],
+    };
+    fill_linked_part(labelling, places, &leads, start, part);
+}
+
+// Piece by piece, one after another.
+fn fill_each_piece<const W: usize>(
+    labelling: &Labelling<W>,
+    links: &Links<W>,
+    column: &mut [u32],
+)
+    requires can { CanLabel labelling.now.problem.now W labelling.now.before.now
+        labelling.now.labels.now labelling.now.stage.now }
+    requires some { 0 < labelling.now.before.now.0 }
+    requires origin { links.now.origin ≡ labelling.now.before.now.1 }
+    requires target { links.now.target ≡ labelling.now.stage.now.1 }
+    requires one_each { length column.old ≡ length labelling.now.stage.now.1 }
+    ensures { (i : ℕ) → i < length column.old
+        → IsLabelAt labelling.now.problem.now labelling.now.stage.now i
+        (slice_index column.new i) }
+{
+    // So few windows that no place runs over.
+    let len = labelling.stage.len();
+    for piece in 0..len.div_ceil(PIECE) {
+        let from = piece * PIECE;
+        let to = len.min(from + PIECE);
+        fill_linked_piece(labelling, links, from, &mut column[from..to]);
+    }
+}
+
 /// The same as `fill_alone`, where the links from the stage before are at hand and that is not stage 0: the windows that lead
-/// to each are not looked for. After want of memory the column is as it was.
+/// to each are not looked for.
 pub fn fill_linked_alone<const W: usize>(
-    alloc: Global,
-    problem: &Problem,
-    before: &Stage<W>,
-    labels: &Column,
-    stage: &Stage<W>,
+    labelling: Labelling<W>,
     links: &Links<W>,
     into: &mut Column,
-) -> Result<(), AllocError>
-    requires width { W ≡ 2 * problem.now.k + 1 }
-    requires before { HoldsLabels problem.now before.now labels.now }
-    requires some { 0 < before.now.0 }
-    requires number { stage.now.0 ≡ before.now.0 + 1 }
-    requires next { IsNextOf problem.now before.now.0 before.now.1 stage.now.1 }
-    requires origin { links.now.origin ≡ before.now.1 }
-    requires target { links.now.target ≡ stage.now.1 }
-    requires one_each { length into.old ≡ length stage.now.1 }
-    ensures labels { OnOk result (AreLabels problem.now stage.now into.new) }
-    ensures landable { OnOk result (HasEachLandable problem.now stage.now) }
-    ensures kept { OnErr result (into.new ≡ into.old) }
+)
+    requires width { W ≡ 2 * labelling.problem.now.k + 1 }
+    requires before { HoldsLabels labelling.problem.now labelling.before.now labelling.labels.now }
+    requires some { 0 < labelling.before.now.0 }
+    requires number { labelling.stage.now.0 ≡ labelling.before.now.0 + 1 }
+    requires next { IsNextOf labelling.problem.now labelling.before.now.0 labelling.before.now.1
+        labelling.stage.now.1 }
+    requires origin { links.now.origin ≡ labelling.before.now.1 }
+    requires target { links.now.target ≡ labelling.stage.now.1 }
+    requires one_each { length into.old ≡ length labelling.stage.now.1 }
+    ensures labels { AreLabels labelling.entry.problem.now labelling.entry.stage.now into.new }
+    ensures landable { HasEachLandable labelling.entry.problem.now labelling.entry.stage.now }
 {
-    let _near = problem.head();
-    prefix_laws::<W>(problem);
+    // k is at most 3.
+    let _near = labelling.problem.head();
+    prefix_laws::<W>(labelling.problem);
     window_laws::<W>();
-    let labelling = Labelling {
-        problem,
-        before,
-        labels,
-        stage,
-    };
-    let leads = leads_of(alloc, &labelling, links)?;
-    let places = links.places();
-    fill_linked_part(
-        &labelling,
-        places,
-        leads.leasts.as_slice(),
-        leads.categories.as_slice(),
-        0,
-        into.entries.as_mut_slice(),
-    );
-    Ok(())
+    fill_each_piece(&labelling, links, into.entries.as_mut_slice());
 }
 
 /// The same as `fill_linked_alone`, by pieces that may run at once, each behind the gate, and it ticks once a window. The ticks
-/// are the caller's thread's own, and after want of memory there is none.
+/// are the caller's thread's own.
 pub fn fill_linked<const W: usize, R: Threads + Sync, G: Gate + Sync, L: Ledger>(
     rt: &R,
-    alloc: Global,
-    problem: &Problem,
-    before: &Stage<W>,
-    labels: &Column,
-    stage: &Stage<W>,
+    labelling: Labelling<W>,
     links: &Links<W>,
     into: &mut Column,
     gate: &G,
     steps: &mut Steps<L>,
-) -> Result<(), AllocError>
-    requires width { W ≡ 2 * problem.now.k + 1 }
-    requires before { HoldsLabels problem.now before.now labels.now }
-    requires some { 0 < before.now.0 }
-    requires number { stage.now.0 ≡ before.now.0 + 1 }
-    requires next { IsNextOf problem.now before.now.0 before.now.1 stage.now.1 }
-    requires origin { links.now.origin ≡ before.now.1 }
-    requires target { links.now.target ≡ stage.now.1 }
-    requires one_each { length into.old ≡ length stage.now.1 }
-    ensures labels { OnOk result (AreLabels problem.now stage.now into.new) }
-    ensures landable { OnOk result (HasEachLandable problem.now stage.now) }
-    ensures kept { OnErr result (into.new ≡ into.old) }
-    ensures steps { OnOk result (L.count steps.new
-        ≡ raised_by (length stage.now.1) (L.count steps.old)) }
-    ensures no_steps { OnErr result (L.count steps.new ≡ L.count steps.old) }
+)
+    requires width { W ≡ 2 * labelling.problem.now.k + 1 }
+    requires before { HoldsLabels labelling.problem.now labelling.before.now labelling.labels.now }
+    requires some { 0 < labelling.before.now.0 }
+    requires number { labelling.stage.now.0 ≡ labelling.before.now.0 + 1 }
+    requires next { IsNextOf labelling.problem.now labelling.before.now.0 labelling.before.now.1
+        labelling.stage.now.1 }
+    requires origin { links.now.origin ≡ labelling.before.now.1 }
+    requires target { links.now.target ≡ labelling.stage.now.1 }
+    requires one_each { length into.old ≡ length labelling.stage.now.1 }
+    ensures labels { AreLabels labelling.entry.problem.now labelling.entry.stage.now into.new }
+    ensures landable { HasEachLandable labelling.entry.problem.now labelling.entry.stage.now }
+    ensures steps { L.count steps.new
+        ≡ raised_by (length labelling.entry.stage.now.1) (L.count steps.old) }
 {
-    let _near = problem.head();
-    prefix_laws::<W>(problem);
+    // k is at most 3.
+    let _near = labelling.problem.head();
+    prefix_laws::<W>(labelling.problem);
     window_laws::<W>();
-    let labelling = Labelling {
-        problem,
-        before,
-        labels,
-        stage,
-    };
-    let leads = leads_of(alloc, &labelling, links)?;
-    let leasts = leads.leasts.as_slice();
-    let categories = leads.categories.as_slice();
-    let places = links.places();
     let piece = move |start: usize, part: &mut [u32]|
         requires { CanLabel labelling.problem.now W labelling.before.now labelling.labels.now
-            labelling.stage.now × LeadToEach labelling.problem.now W labelling.before.now
-            labelling.labels.now labelling.stage.now.1 places.now leasts.now categories.now
+            labelling.stage.now × (0 < labelling.before.now.0)
+            × (links.now.origin ≡ labelling.before.now.1)
+            × (links.now.target ≡ labelling.stage.now.1)
             × (start + length part.now ≤ length labelling.stage.now.1) }
         ensures { (i : ℕ) → i < length part.entry.now
             → IsLabelAt labelling.entry.problem.now labelling.entry.stage.now (start + i)
             (slice_index part.exit.now i) }
-    { fill_linked_part(&labelling, places, leasts, categories, start, part) };
-    let windows = stage.len();
+    { fill_linked_piece(&labelling, links, start, part) };
+    let windows = labelling.stage.len();
+    let labels = labelling.labels;
     let pace = fill_pieces(rt, into.entries.as_mut_slice(), labels.pace, gate, &piece);
     into.pace = pace;
     steps.tick(windows as u64);
-    Ok(())
 }

@@ -30,6 +30,7 @@ pub fn source_of<const W: usize>(
     ensures first { (place : ℕ) → place < result
         → GivesLabel problem.now before.now labels.now node.now label place → ⊥ }
 {
+    // k is at most 3.
     let _near = problem.head();
     prefix_laws::<W>(problem);
     window_laws::<W>();

@@ -1,4 +1,4 @@
-use Rattle.std.proofs.Common.{length, rules}
+use Rattle.std.proofs.Common.{length, arith, rules}
 use Rattle.cps_network.specs.Links.{range_at}
 use Rattle.makespan_labels.specs.LinkedGroups.{IsLeadOver}
 use Rattle.makespan_labels.proofs.LinkLemmas.{lead_over, pair_more}
@@ -22,6 +22,8 @@ loop-i-preserved g c =
     let group = c.group_over-group.result in
     pair_more (λ m least category. IsLeadOver p g.row.W before labels (range_at ranges m).0 least category)
     c.loop-i.leasts c.loop-i.categories c.loop-i.i group.least group.category
-    (length ranges) c.loop-i-test.true c.loop-i.invariant.0 c.loop-i.invariant.1 c.loop-i.invariant.2
+    (length c.args.leasts.now) (length c.args.categories.now)
+    (omega (arith, c.loop-i-test.true, c.requires.leasts)) (omega (arith, c.loop-i-test.true, c.requires.categories))
+    c.loop-i.invariant.0 c.loop-i.invariant.1 c.loop-i.invariant.2
     (lead_over p g.row.W before labels group (range_at ranges c.loop-i.i).0 c.group_over-group.ensures.ready
     c.group_over-group.ensures.from)

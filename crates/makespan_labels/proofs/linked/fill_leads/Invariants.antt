@@ -7,7 +7,7 @@ use Rattle.makespan_labels.specs.LinkedGroups.{IsLeadOver}
 use Rattle.makespan_labels.proofs.linked.fill_leads.Given as goal
 
 abbrev pub invariant-loop-i : goal.invariant-loop-i
-invariant-loop-i g l = (length l.leasts ≡ length l.ranges) × (length l.categories ≡ length l.ranges)
+invariant-loop-i g l = (length l.leasts ≡ length l.fn.leasts) × (length l.categories ≡ length l.fn.categories)
     × ((m : ℕ) (d : Category) → m < l.i
     → IsLeadOver l.labelling.problem.now g.row.W l.labelling.before.now l.labelling.labels.now
     (range_at l.ranges m).0 (slice_index l.leasts m) (slice_index_or l.categories m d))
