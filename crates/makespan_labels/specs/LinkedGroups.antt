@@ -3,7 +3,6 @@ use Rattle.std.specs.Prelude.{ℕ, ℤ, ◌+◌, ◌-◌, ◌<◌, ◌≤◌, Li
 use Rattle.wake_table.specs.declared.category.Category.{Category}
 use Rattle.landing_rules.specs.Problem.{Problem}
 use Rattle.cps_nodes.specs.Leads.{Extends}
-use Rattle.cps_network.specs.Links.{range_at}
 use Rattle.cps_network.specs.Lists.{node_at}
 use Rattle.makespan_labels.specs.Groups.{IsLabelled, IsLead}
 

@@ -112,11 +112,7 @@ pub(crate) fn label_of<const W: usize>(
 
 // Writes the labels of the windows of a stage from place `start` on, as many as the part has entries. The windows that share
 // a tail are looked up once, and each rank that lands last once.
-pub(crate) fn fill_part<const W: usize>(
-    labelling: &Labelling<W>,
-    start: usize,
-    part: &mut [u32],
-)
+pub(crate) fn fill_part<const W: usize>(labelling: &Labelling<W>, start: usize, part: &mut [u32])
     requires can { CanLabel labelling.now.problem.now W labelling.now.before.now
         labelling.now.labels.now labelling.now.stage.now }
     requires within { start + length part.old ≤ length labelling.now.stage.now.1 }

@@ -191,11 +191,7 @@ fn fill_linked_piece<const W: usize>(
 }
 
 // Piece by piece, one after another.
-fn fill_each_piece<const W: usize>(
-    labelling: &Labelling<W>,
-    links: &Links<W>,
-    column: &mut [u32],
-)
+fn fill_each_piece<const W: usize>(labelling: &Labelling<W>, links: &Links<W>, column: &mut [u32])
     requires can { CanLabel labelling.now.problem.now W labelling.now.before.now
         labelling.now.labels.now labelling.now.stage.now }
     requires some { 0 < labelling.now.before.now.0 }

@@ -21,7 +21,7 @@ use cps_outside::Gate;
 use cps_problem::{Objective, Problem};
 use delay_labels::{Costs, fill_costs, fill_costs_alone, source_pair};
 use makespan_labels::{
-    Column, NO_LABEL, fill, fill_alone, fill_linked, fill_linked_alone, source_of,
+    Column, Labelling, NO_LABEL, fill, fill_alone, fill_linked, fill_linked_alone, source_of,
 };
 use std::alloc::{AllocError, Global};
 use std::marker::Model;
@@ -56,30 +56,33 @@ impl Model for Labels {
 fn column_by_pieces<const W: usize, R: Threads + Sync, G: Gate + Sync, L: Ledger>(
     rt: &R,
     alloc: Global,
-    problem: &Problem,
-    before: &Stage<W>,
-    labels: &Column,
-    stage: &Stage<W>,
+    labelling: Labelling<W>,
     gate: &G,
     steps: &mut Steps<L>,
 ) -> Result<Column, AllocError>
-    requires width { W ≡ 2 * problem.now.k + 1 }
-    requires before { HoldsLabels problem.now before.now labels.now }
-    requires number { stage.now.0 ≡ before.now.0 + 1 }
-    requires next { IsNextOf problem.now before.now.0 before.now.1 stage.now.1 }
-    ensures labels { IfOk result (λ column. AreLabels problem.now stage.now column) }
-    ensures landable { OnOk result (HasEachLandable problem.now stage.now) }
-    ensures steps { OnOk result (L.count steps.new ≡ raised_by (length stage.now.1)
-        (L.count steps.old)) }
+    requires width { W ≡ 2 * labelling.problem.now.k + 1 }
+    requires before { HoldsLabels labelling.problem.now labelling.before.now labelling.labels.now }
+    requires number { labelling.stage.now.0 ≡ labelling.before.now.0 + 1 }
+    requires next { IsNextOf labelling.problem.now labelling.before.now.0 labelling.before.now.1
+        labelling.stage.now.1 }
+    ensures labels { IfOk result (λ column. AreLabels labelling.entry.problem.now
+        labelling.entry.stage.now column) }
+    ensures landable { OnOk result (HasEachLandable labelling.entry.problem.now
+        labelling.entry.stage.now) }
+    ensures steps { OnOk result (L.count steps.new ≡ raised_by
+        (length labelling.entry.stage.now.1) (L.count steps.old)) }
 {
+    let Labelling {
+        problem,
+        before,
+        labels,
+        stage,
+    } = labelling;
     let mut column = Column::new(alloc);
     column.reserve(stage.len())?;
     if before.number() > 0 {
         if let Some(links) = stage.links(before) {
-            let into = &mut column;
-            fill_linked(
-                rt, alloc, problem, before, labels, stage, links, into, gate, steps,
-            )?;
+            fill_linked(rt, labelling, links, &mut column, gate, steps);
             return Ok(column);
         }
     }
@@ -90,23 +93,29 @@ fn column_by_pieces<const W: usize, R: Threads + Sync, G: Gate + Sync, L: Ledger
 // The same on the caller's thread, and it ticks nothing.
 fn column_alone<const W: usize>(
     alloc: Global,
-    problem: &Problem,
-    before: &Stage<W>,
-    labels: &Column,
-    stage: &Stage<W>,
+    labelling: Labelling<W>,
 ) -> Result<Column, AllocError>
-    requires width { W ≡ 2 * problem.now.k + 1 }
-    requires before { HoldsLabels problem.now before.now labels.now }
-    requires number { stage.now.0 ≡ before.now.0 + 1 }
-    requires next { IsNextOf problem.now before.now.0 before.now.1 stage.now.1 }
-    ensures labels { IfOk result (λ column. AreLabels problem.now stage.now column) }
-    ensures landable { OnOk result (HasEachLandable problem.now stage.now) }
+    requires width { W ≡ 2 * labelling.problem.now.k + 1 }
+    requires before { HoldsLabels labelling.problem.now labelling.before.now labelling.labels.now }
+    requires number { labelling.stage.now.0 ≡ labelling.before.now.0 + 1 }
+    requires next { IsNextOf labelling.problem.now labelling.before.now.0 labelling.before.now.1
+        labelling.stage.now.1 }
+    ensures labels { IfOk result (λ column. AreLabels labelling.entry.problem.now
+        labelling.entry.stage.now column) }
+    ensures landable { OnOk result (HasEachLandable labelling.entry.problem.now
+        labelling.entry.stage.now) }
 {
+    let Labelling {
+        problem,
+        before,
+        labels,
+        stage,
+    } = labelling;
     let mut column = Column::new(alloc);
     column.reserve(stage.len())?;
     if before.number() > 0 {
         if let Some(links) = stage.links(before) {
-            fill_linked_alone(alloc, problem, before, labels, stage, links, &mut column)?;
+            fill_linked_alone(labelling, links, &mut column);
             return Ok(column);
         }
     }
@@ -259,12 +268,17 @@ impl Labels {
         ensures steps { OnOk result (L.count steps.new ≡ raised_by (length stage.old.1)
             (L.count steps.old)) }
     {
+        // k is at most 3.
         let _near = problem.head();
         match &self.kept {
             ByObjective::OfColumn(labels) => {
-                let column = column_by_pieces(
-                    rt, alloc, problem, before, labels, stage, gate, steps,
-                )?;
+                let labelling = Labelling {
+                    problem,
+                    before,
+                    labels,
+                    stage,
+                };
+                let column = column_by_pieces(rt, alloc, labelling, gate, steps)?;
                 let left = Labels::left_of_column(column, stage)?;
                 Ok(left)
             }
@@ -290,10 +304,17 @@ impl Labels {
         requires next { IsNextOf problem.now before.now.0 before.now.1 stage.old.1 }
         ensures { IfOk result (AreLandableOf problem.now stage.old stage.new) }
     {
+        // k is at most 3.
         let _near = problem.head();
         match &self.kept {
             ByObjective::OfColumn(labels) => {
-                let column = column_alone(alloc, problem, before, labels, stage)?;
+                let labelling = Labelling {
+                    problem,
+                    before,
+                    labels,
+                    stage,
+                };
+                let column = column_alone(alloc, labelling)?;
                 let left = Labels::left_of_column(column, stage)?;
                 Ok(left)
             }

@@ -6,5 +6,5 @@ abbrev pub invariant-loop-place : goal.invariant-loop-place
 invariant-loop-place l = record {
   least : (i : ℕ) → i < l.place-index → l.least ≤ slice_index l.places i;
   greatest : (i : ℕ) → i < l.place-index → slice_index l.places i ≤ l.greatest;
-  among : (i : ℕ) × (i < length l.places) × (slice_index l.places i ≡ l.greatest)
+  among : (i : ℕ) × (i < length l.places) × (slice_index l.places i ≡ l.greatest);
 }

@@ -1,4 +1,4 @@
-use Rattle.std.proofs.Common.{◌≡◌, ℕ, ◌+◌, ◌-◌, ◌*◌, ◌≤◌, length, arith, rules, tests, inl, inr, min, sym, subst}
+use Rattle.std.proofs.Common.{◌≡◌, ℕ, ◌+◌, ◌-◌, ◌*◌, length, arith, rules, tests, inl, inr, min, sym, subst}
 use Rattle.std.specs.Prelude.{slice_index}
 use Rattle.std.proofs.lemmas.Bool.{cases_lt}
 use Rattle.std.proofs.lemmas.List.{places}
@@ -19,16 +19,16 @@ loop-piece-preserved g c =
       search (rules, places),
       λ i lt in_len. elim (cases_lt i from) [
         | inl before ↦
-          let same : slice_index (put_mid from (to - from) column part) i ≡ slice_index column i =
-          search (rules, places) in
-          subst (IsLabelAt labelling.problem.now labelling.stage.now i) (sym same)
-          (c.loop-piece.invariant.1 i before in_len)
+            let same : slice_index (put_mid from (to - from) column part) i ≡ slice_index column i =
+            search (rules, places) in
+            subst (IsLabelAt labelling.problem.now labelling.stage.now i) (sym same)
+            (c.loop-piece.invariant.1 i before in_len)
         | inr after ↦
-          let same : slice_index (put_mid from (to - from) column part) i ≡ slice_index part (i - from) =
-          search (rules, places) in
-          subst (IsLabelAt labelling.problem.now labelling.stage.now i) (sym same)
-          (subst (λ (j : ℕ). IsLabelAt labelling.problem.now labelling.stage.now j (slice_index part (i - from)))
-          {x = from + (i - from)} {y = i} (omega (arith, after))
-          (c.fill_linked_piece.ensures (i - from) (search (rules, places))))
+            let same : slice_index (put_mid from (to - from) column part) i ≡ slice_index part (i - from) =
+            search (rules, places) in
+            subst (IsLabelAt labelling.problem.now labelling.stage.now i) (sym same)
+            (subst (λ (j : ℕ). IsLabelAt labelling.problem.now labelling.stage.now j (slice_index part (i - from)))
+            {x = from + (i - from)} {y = i} (omega (arith, after))
+            (c.fill_linked_piece.ensures (i - from) (search (rules, places))))
       ],
     )

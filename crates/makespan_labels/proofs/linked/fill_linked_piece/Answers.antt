@@ -1,6 +1,5 @@
-use Rattle.std.proofs.Common.{◌≡◌, ◌+◌, ◌≤◌, length, ap, arith, rules}
+use Rattle.std.proofs.Common.{◌+◌, length, ap, arith, rules}
 use Rattle.std.specs.List.{between}
-use Rattle.cps_network.specs.Links.{range_at}
 use Rattle.makespan_labels.proofs.LinkLemmas.{groups_between, place_within, places_long, lead_to_each}
 use Rattle.makespan_labels.proofs.linked.fill_linked_piece.Goals as goal
 
