@@ -211,8 +211,8 @@ fn fill_each_piece<const W: usize>(labelling: &Labelling<W>, links: &Links<W>, c
     }
 }
 
-/// The same as `fill_alone`, where the links from the stage before are at hand and that is not stage 0: the windows that lead
-/// to each are not looked for.
+/// The same as `fill_alone`, where the links from the stage before are at hand and that is not stage 0: they tell the windows
+/// that lead to each.
 pub fn fill_linked_alone<const W: usize>(
     labelling: Labelling<W>,
     links: &Links<W>,
