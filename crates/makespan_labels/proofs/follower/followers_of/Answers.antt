@@ -33,8 +33,17 @@ loop-rank-preserved c =
             ∙ ap (λ (f : Follower). f.rank) (get_or-set_same c.loop-rank.followers place c.new.result d few)
             ∙ c.new.ensures.rank ∙ sym same
         | inr other ↦
-            let near : c.loop-rank.rank ≤ r + 7 = omega (arith, lo, k_is, c.head.ensures.well_formed.few_places,
-                c.saturating_sub.ensures, c.saturating_add.ensures, c.max-first.ensures, c.min-end.ensures, c.loop-rank-test.true) in
+            let near : c.loop-rank.rank ≤ r + 7 = omega (
+              arith,
+              lo,
+              k_is,
+              c.head.ensures.well_formed.few_places,
+              c.saturating_sub.ensures,
+              c.saturating_add.ensures,
+              c.max-first.ensures,
+              c.min-end.ensures,
+              c.loop-rank-test.true,
+            ) in
             let before : r < c.loop-rank.rank = omega (arith, other, hi) in
             let elsewhere : r % 8 ≡ place → ⊥ =
             λ e. apart r c.loop-rank.rank before near (e ∙ c.follower_of.ensures.value) in

@@ -1,6 +1,5 @@
-use Rattle.std.proofs.Common.{◌≡◌, ℕ, ◌+◌, ◌≤◌, Option, refl, ap, subst, ◌∙◌, arith}
-use Rattle.wake_table.specs.Table.{separation}
-use Rattle.landing_joint.specs.RankedProblem.{no_waiting, first_at, landing_after}
+use Rattle.std.proofs.Common.{ℕ, Option, refl, subst, arith}
+use Rattle.landing_joint.specs.RankedProblem.{no_waiting}
 use Rattle.cps_theory.specs.RankLists.{of_rank}
 use Rattle.makespan_labels.specs.Columns.{IsLabelOf}
 use Rattle.makespan_labels.proofs.LeadLemmas.{lands_behind}

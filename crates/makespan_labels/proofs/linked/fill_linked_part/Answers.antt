@@ -1,5 +1,4 @@
-use Rattle.std.proofs.Common.{◌∙◌, ℕ, ◌+◌, length, length-set, refl, arith, rules}
-use Rattle.std.proofs.lemmas.List.Elements.{All-set}
+use Rattle.std.proofs.Common.{ℕ, ◌+◌, length, refl, arith}
 use Rattle.makespan_labels.specs.Entries.{IsLabelAt}
 use Rattle.makespan_labels.proofs.ColumnLemmas.{set_more}
 use Rattle.makespan_labels.proofs.linked.fill_linked_part.Goals as goal
