@@ -15,11 +15,25 @@ use Rattle.cps_network.specs.Lists.{node_at}
 use Rattle.cps_network.specs.Nodes.{latest}
 use Rattle.cps_network.specs.Permits.{IsSuccessor}
 use Rattle.cps_network.specs.shared.LeadingWindows.{Sources, landable_at, successor_at, place_of, place_at, rank_of}
-use Rattle.cps_network.specs.shared.LeadingWindows.{leader_at}
+use Rattle.cps_network.specs.shared.LeadingWindows.{leader_at, some_range}
 use Rattle.makespan_labels.specs.Columns.{IsLabelOf, IsLeastOf}
 use Rattle.makespan_labels.specs.Labels.{no_label, CanLandAt, IsLabel, AreLabels, GivesLabel}
 use Rattle.makespan_labels.proofs.ColumnLemmas.{some_from_eq, none_from_eq}
 use Rattle.makespan_labels.specs.shared.NetworkSteps.{can_land, is_landable, ComesFrom, comes_from, lands_next}
+
+-- the rank that lands last in a window is in reach of its stage
+pub in_reach : (p : Problem) (w stage : ℕ) (before : List (List ℤ)) (v : List ℤ) (from to : ℕ)
+    → Sources p w stage before v from to → (r : ℕ) → pos r ≡ pos (suc stage) +ℤ offset_at v (w - 1)
+    → (suc stage ≤ r + p.k) × (r ≤ suc stage + p.k)
+in_reach p w stage before v from to range r rank_is =
+    let some = some_range p w stage before v from to range in
+    let lt : from < length before = omega (arith, some, range.within) in
+    let s = successor_at p w stage before v from to range from (omega arith) some in
+    let same : s.0 ≡ r = rank_of p w stage before v from to range r rank_is (node_at before from)
+    (landable_at p w stage before v from to range from lt) s in
+    let late = s.1.late in
+    let early = s.1.early in
+    (omega (arith, same, late), omega (arith, same, early))
 
 module _ (p : Problem) (w stage : ℕ) (before : List (List ℤ)) (v : List ℤ) (from to : ℕ)
     (range : Sources p w stage before v from to) (labels : List ℕ) (are : AreLabels p (stage, before) labels) where

@@ -1,7 +1,9 @@
 pub mod LabelLemmas
 pub mod LeadLemmas
 pub mod ColumnLemmas
+pub mod FollowerLemmas
 pub mod GroupLemmas
 pub mod GroupLeads
 pub mod LinkLemmas
 pub mod WrittenColumns
+pub mod LastRanks

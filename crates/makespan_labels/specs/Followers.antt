@@ -1,5 +1,5 @@
 -- The ranks from which the labels of a stage are reckoned.
-use Rattle.std.specs.Prelude.{◌≡◌, ◌≤◌, slice_index}
+use Rattle.std.specs.Prelude.{◌≡◌, ℕ, ◌+◌, ◌%◌, ◌≤◌, List, All, length, slice_index, slice_index_or}
 use Rattle.wake_table.specs.Letters.{place}
 use Rattle.wake_table.specs.Table.{separation}
 use Rattle.wake_table.specs.declared.category.Category.{Category}
@@ -19,3 +19,10 @@ pub record IsFollower (p : Problem) (follower : Follower) : Type 0 where
   pub lands : LandsWithin (first_at p follower.rank) follower.from follower.open
   pub runs : follower.open.0 ≤ follower.open.1
   pub in_days : follower.open.1 ≤ last_second
+
+-- each rank in reach of a stage of this number has its follower at the place that its number tells
+pub record AreFollowers (p : Problem) (number : ℕ) (followers : List Follower) : Type 0 where
+  pub count : length followers ≡ 8
+  pub each : All (IsFollower p) followers
+  pub ranks : (rank : ℕ) (d : Follower) → 1 ≤ rank → rank ≤ length p.flights → number ≤ rank + p.k
+      → rank ≤ number + p.k → (slice_index_or followers (rank % 8) d).rank ≡ rank

@@ -1,17 +1,16 @@
 //! The ranks that land last in the windows of a stage, of which there are few, with what their landings need.
 
-ghost use Rattle.std.specs.Prelude.{◌≡◌, ◌<◌, ◌≤◌, length, slice_index};
+ghost use Rattle.std.specs.Prelude.{◌≡◌, ◌%◌, ◌<◌, ◌≤◌, length, slice_index};
 ghost use Rattle.cps_theory.specs.RankLists.{of_rank};
 ghost use Rattle.landing_joint.specs.RankedProblem.{no_waiting, first_at};
 ghost use Rattle.landing_rules.specs.Problem as rules;
 ghost use Rattle.makespan_labels.specs.Columns.{IsLabelOf};
-ghost use Rattle.makespan_labels.specs.Followers.{IsFollower};
+ghost use Rattle.makespan_labels.specs.Followers.{AreFollowers, IsFollower};
 ghost use Rattle.wake_table.specs.Letters.{place};
 ghost use Rattle.wake_table.specs.Table.{separation};
 ghost use Rattle.wake_table.specs.declared.category.Category.{Category};
 
 use crate::column::NO_LABEL;
-use cps_nodes::Window;
 use cps_problem::Problem;
 use wake_table::{Category, PairTable};
 
@@ -40,12 +39,28 @@ fn separations_behind(table: &PairTable, follower: Category) -> [u32; 6]
     ]
 }
 
-// The ranks that land last in the windows of a stage have different last offsets, which this tells.
-#[inline]
-pub(crate) fn follower_of<const W: usize>(window: &Window<W>) -> usize
-    ensures { result < 8 }
+// Where a rank stands among the followers of a stage: those that land last in its windows are less than eight apart.
+#[inline(always)]
+pub(crate) fn follower_of(rank: u8) -> usize
+    ensures value { result ≡ rank % 8 }
+    ensures within { result < 8 }
 {
-    window.last().rem_euclid(8) as usize
+    usize::from(rank % 8)
+}
+
+// The followers of the ranks in reach of a stage of a number, each at its place.
+pub(crate) fn followers_of(problem: &Problem, number: u8) -> [Follower; 8]
+    ensures { AreFollowers problem.now number result }
+{
+    // k is at most 3, and at most 60 flights wait.
+    let k = problem.head().k;
+    let first = number.saturating_sub(k).max(1);
+    let end = number.saturating_add(k).min(problem.len()) + 1;
+    let mut followers = [Follower::none(); 8];
+    for rank in first..end {
+        followers[follower_of(rank)] = Follower::new(problem, rank);
+    }
+    followers
 }
 
 impl Follower {
@@ -61,9 +76,7 @@ impl Follower {
         }
     }
 
-    // A rank with no span yet. It stands apart, so that `turn_to` stays short.
-    #[cold]
-    #[inline(never)]
+    // A rank with no span yet.
     fn new(problem: &Problem, rank: u8) -> Follower
         requires rank { (1 ≤ rank) × (rank ≤ length problem.now.flights) }
         ensures rank { result.rank ≡ rank }
@@ -76,20 +89,6 @@ impl Follower {
             from: 1,
             open: (0, 0),
         }
-    }
-
-    // Makes it that of a rank, unless it is already.
-    #[inline(always)]
-    pub(crate) fn turn_to(&mut self, problem: &Problem, rank: u8)
-        requires rank { (1 ≤ rank) × (rank ≤ length problem.now.flights) }
-        requires follower { IsFollower problem.now self.old }
-        ensures rank { self.new.rank ≡ rank }
-        ensures follower { IsFollower problem.now self.new }
-    {
-        if self.rank == rank {
-            return;
-        }
-        *self = Follower::new(problem, rank);
     }
 
     // The separation at which its rank lands behind a flight of a category.
@@ -110,6 +109,7 @@ impl Follower {
         requires follower { IsFollower problem.now self.old }
         ensures label { IsLabelOf (first_at problem.now self.old.rank ready) result }
         ensures follower { IsFollower problem.now self.new }
+        ensures rank { self.new.rank ≡ self.old.rank }
     {
         // Two tests that each leave cost less than one of both.
         if ready < self.from {
@@ -129,6 +129,7 @@ impl Follower {
         requires follower { IsFollower problem.now self.old }
         ensures label { IsLabelOf (first_at problem.now self.old.rank ready) result }
         ensures follower { IsFollower problem.now self.new }
+        ensures rank { self.new.rank ≡ self.old.rank }
     {
         match problem.open_span(self.rank, ready) {
             None => NO_LABEL,

@@ -9,7 +9,7 @@ ghost use Rattle.cps_network.specs.Permits.{IsNextOf};
 ghost use Rattle.landing_joint.specs.RankedProblem.{landing_after};
 ghost use Rattle.landing_rules.specs.Rules.{last_second};
 ghost use Rattle.makespan_labels.specs.Columns.{IsLabelOf};
-ghost use Rattle.makespan_labels.specs.Followers.{IsFollower};
+ghost use Rattle.makespan_labels.specs.Followers.{AreFollowers, IsFollower};
 ghost use Rattle.makespan_labels.specs.Groups.{IsLead};
 ghost use Rattle.makespan_labels.specs.Ready.{IsReady};
 ghost use Rattle.makespan_labels.specs.Entries.{IsLabelAt};
@@ -17,7 +17,7 @@ ghost use Rattle.makespan_labels.specs.Labellings.{CanLabel};
 ghost use Rattle.makespan_labels.specs.Labels.{AreLabels, HoldsLabels};
 
 use crate::column::{Column, NO_LABEL};
-use crate::follower::{Follower, follower_of};
+use crate::follower::{Follower, follower_of, followers_of};
 use crate::group::{Group, Lead, find_group, turn_to};
 use crate::labelling::Labelling;
 use cps_base::{Ledger, Steps};
@@ -38,47 +38,43 @@ fn first_label(problem: &Problem, rank: u8) -> u32
     problem.landing_after(0, 0, rank).unwrap_or(NO_LABEL)
 }
 
-// The label of a window in which a rank lands behind a group in whose windows a flight has landed. The separation alone counts:
-// that flight itself waited for the horizon and the last frozen landing.
+// The label of a window in which a follower lands behind a group in whose windows a flight has landed. The separation alone
+// counts: that flight itself waited for the horizon and the last frozen landing.
 #[inline(always)]
-pub(crate) fn label_behind_flight(
-    problem: &Problem,
-    lead: Lead,
-    rank: u8,
-    follower: &mut Follower,
-) -> u32
+pub(crate) fn label_behind_flight(problem: &Problem, lead: Lead, follower: &mut Follower) -> u32
     requires in_days { lead.least ≤ last_second }
-    requires rank { (1 ≤ rank) × (rank ≤ length problem.now.flights) }
+    requires rank { (1 ≤ follower.old.rank) × (follower.old.rank ≤ length problem.now.flights) }
     requires follower { IsFollower problem.now follower.old }
     ensures label { (leader : ℕ) → 1 ≤ leader → IsLead problem.now leader lead.least lead.category
-        → IsLabelOf (landing_after problem.now leader lead.least rank) result }
+        → IsLabelOf (landing_after problem.now leader lead.least follower.old.rank) result }
     ensures follower { IsFollower problem.now follower.new }
+    ensures rank { follower.new.rank ≡ follower.old.rank }
 {
     // A separation is at most 600 seconds, so the sum fits.
     let _at_most = problem.head();
-    follower.turn_to(problem, rank);
     let apart = follower.separation_behind(lead.category);
     follower.label_at(problem, lead.least + apart)
 }
 
-// The label of a window in which a rank lands behind a group.
+// The label of a window in which a follower lands behind a group.
 #[inline(always)]
-fn label_behind(problem: &Problem, group: &Group, rank: u8, follower: &mut Follower) -> u32
+fn label_behind(problem: &Problem, group: &Group, follower: &mut Follower) -> u32
     requires lead { IsLead problem.now group.now.leader group.now.least group.now.category }
-    requires rank { (1 ≤ rank) × (rank ≤ length problem.now.flights) }
+    requires rank { (1 ≤ follower.old.rank) × (follower.old.rank ≤ length problem.now.flights) }
     requires follower { IsFollower problem.now follower.old }
     ensures label { IsLabelOf
-        (landing_after problem.now group.now.leader group.now.least rank) result }
+        (landing_after problem.now group.now.leader group.now.least follower.old.rank) result }
     ensures follower { IsFollower problem.now follower.new }
+    ensures rank { follower.new.rank ≡ follower.old.rank }
 {
     if group.leader == 0 {
-        return first_label(problem, rank);
+        return first_label(problem, follower.rank);
     }
     let lead = Lead {
         least: group.least,
         category: group.category,
     };
-    label_behind_flight(problem, lead, rank, follower)
+    label_behind_flight(problem, lead, follower)
 }
 
 // The label of the window at place i of the stage of a number, from the group that leads to it: one landing behind the least.
@@ -89,7 +85,7 @@ pub(crate) fn label_of<const W: usize>(
     i: usize,
     window: &Window<W>,
     group: &Group,
-    follower: &mut Follower,
+    followers: &mut [Follower; 8],
 ) -> u32
     requires can { CanLabel labelling.now.problem.now W labelling.now.before.now
         labelling.now.labels.now labelling.now.stage.now }
@@ -100,14 +96,14 @@ pub(crate) fn label_of<const W: usize>(
         labelling.now.labels.now group.now }
     requires leads { Extends (node_at labelling.now.before.now.1 group.now.from)
         (node_at labelling.now.stage.now.1 i) }
-    requires follower { IsFollower labelling.now.problem.now follower.old }
+    requires followers { AreFollowers labelling.now.problem.now number followers.old }
     ensures label { IsLabelAt labelling.now.problem.now labelling.now.stage.now i result }
-    ensures follower { IsFollower labelling.now.problem.now follower.new }
+    ensures followers { AreFollowers labelling.now.problem.now number followers.new }
 {
     // At most 60 flights wait, so the rank fits.
     let _few = labelling.problem.len();
     let rank = last_rank(window, number);
-    label_behind(labelling.problem, group, rank, follower)
+    label_behind(labelling.problem, group, &mut followers[follower_of(rank)])
 }
 
 // Writes the labels of the windows of a stage from place `start` on, as many as the part has entries. The windows that share
@@ -129,21 +125,20 @@ pub(crate) fn fill_part<const W: usize>(labelling: &Labelling<W>, start: usize, 
     find_group(&mut first, labelling, earlier, start);
     let number = labelling.stage.number();
     let mut groups = [first; 8];
-    let mut followers = [Follower::none(); 8];
+    let mut followers = followers_of(labelling.problem, number);
     for i in 0..part.len() {
         let place = start + i;
         let window = &windows[place];
         let run = run_of(window);
         let leads = earlier[groups[run].from].leads_to(window);
         turn_to(&mut groups[run], leads, labelling, earlier, place);
-        let follower = follower_of(window);
         part[i] = label_of(
             labelling,
             number,
             place,
             window,
             &groups[run],
-            &mut followers[follower],
+            &mut followers,
         );
     }
 }

@@ -7,14 +7,14 @@ ghost use Rattle.cps_network.specs.Links.{AreGroups, range_at};
 ghost use Rattle.cps_network.specs.Lists.{node_at};
 ghost use Rattle.cps_network.specs.Permits.{IsNextOf};
 ghost use Rattle.makespan_labels.specs.Entries.{IsLabelAt};
-ghost use Rattle.makespan_labels.specs.Followers.{IsFollower};
+ghost use Rattle.makespan_labels.specs.Followers.{AreFollowers};
 ghost use Rattle.makespan_labels.specs.Labellings.{CanLabel};
 ghost use Rattle.makespan_labels.specs.Labels.{AreLabels, HoldsLabels};
 ghost use Rattle.makespan_labels.specs.LinkedGroups.{IsLeadOver, IsLeadTo, LeadToEach};
 ghost use Rattle.wake_table.specs.declared.category.Category.{Category};
 
 use crate::column::Column;
-use crate::follower::{Follower, follower_of};
+use crate::follower::{Follower, follower_of, followers_of};
 use crate::group::{Lead, group_over};
 use crate::label::{fill_part, label_behind_flight};
 use crate::labelling::Labelling;
@@ -108,7 +108,7 @@ fn linked_label_of<const W: usize>(
     i: usize,
     window: &Window<W>,
     lead: Lead,
-    follower: &mut Follower,
+    followers: &mut [Follower; 8],
 ) -> u32
     requires can { CanLabel labelling.now.problem.now W labelling.now.before.now
         labelling.now.labels.now labelling.now.stage.now }
@@ -117,14 +117,14 @@ fn linked_label_of<const W: usize>(
     requires window { window.now ≡ node_at labelling.now.stage.now.1 i }
     requires lead { IsLeadTo labelling.now.problem.now W labelling.now.before.now
         labelling.now.labels.now (node_at labelling.now.stage.now.1 i) lead.least lead.category }
-    requires follower { IsFollower labelling.now.problem.now follower.old }
+    requires followers { AreFollowers labelling.now.problem.now number followers.old }
     ensures label { IsLabelAt labelling.now.problem.now labelling.now.stage.now i result }
-    ensures follower { IsFollower labelling.now.problem.now follower.new }
+    ensures followers { AreFollowers labelling.now.problem.now number followers.new }
 {
     // At most 60 flights wait, so the rank fits.
     let _few = labelling.problem.len();
     let rank = last_rank(window, number);
-    label_behind_flight(labelling.problem, lead, rank, follower)
+    label_behind_flight(labelling.problem, lead, &mut followers[follower_of(rank)])
 }
 
 // Writes the labels of the windows of a stage from place `start` on, as many as the part has entries. Of each window the place
@@ -152,7 +152,7 @@ fn fill_linked_part<const W: usize>(
     let leads = *leads;
     let windows = near.stage.windows();
     let number = near.stage.number();
-    let mut followers = [Follower::none(); 8];
+    let mut followers = followers_of(near.problem, number);
     for i in 0..part.len() {
         let place = start + i;
         let window = &windows[place];
@@ -161,8 +161,7 @@ fn fill_linked_part<const W: usize>(
             least: leads.leasts[range],
             category: leads.categories[range],
         };
-        let follower = follower_of(window);
-        part[i] = linked_label_of(&near, number, place, window, lead, &mut followers[follower]);
+        part[i] = linked_label_of(&near, number, place, window, lead, &mut followers);
     }
 }
 

@@ -5,7 +5,6 @@ use Rattle.cps_network.specs.Lists.{node_at}
 use Rattle.cps_nodes.specs.Leads.{Extends}
 use Rattle.makespan_labels.specs.declared.group.Group.{Group}
 use Rattle.makespan_labels.specs.Entries.{IsLabelAt}
-use Rattle.makespan_labels.specs.Followers.{IsFollower}
 use Rattle.makespan_labels.specs.Ready.{IsReady}
 use Rattle.makespan_labels.proofs.ColumnLemmas.{set_more}
 use Rattle.makespan_labels.proofs.GroupLemmas.{window_at, extends_there, first_within, not_empty}
@@ -43,12 +42,6 @@ turn_to-requires g c =
       ),
     )
 
-pub loop-i-init : goal.loop-i-init
-loop-i-init g c =
-    let none : IsFollower c.args.labelling.now.problem.now c.none-followers.result =
-    c.none-followers.ensures c.args.labelling.now.problem.now in
-    search (rules, none)
-
 pub label_of-requires : goal.label_of-requires
 label_of-requires g c =
     let within : c.args.start + c.loop-i.i < length c.args.labelling.now.stage.now.1 =
@@ -57,13 +50,11 @@ label_of-requires g c =
     let turned = sym (get_or-set_same c.loop-i.groups c.run_of-run.result c.turn_to.new.group _
     (omega (arith, c.run_of-run.ensures, c.loop-i.invariant.3))) in
     let leads = subst (λ (group : Group). Extends (node_at c.args.labelling.now.before.now.1 group.from)
-    (node_at c.args.labelling.now.stage.now.1 (c.args.start + c.loop-i.i))) turned c.turn_to.ensures.leads in
-    let follower = c.loop-i.invariant.4 c.follower_of-follower.result _
-    (omega (arith, c.follower_of-follower.ensures, c.loop-i.invariant.5)) in (
+    (node_at c.args.labelling.now.stage.now.1 (c.args.start + c.loop-i.i))) turned c.turn_to.ensures.leads in (
       search rules,
       (
         search rules,
-        (c.requires.can, (c.number-number.ensures, (within, (window, (search rules, (leads, follower)))))),
+        (c.requires.can, (c.number-number.ensures, (within, (window, (search rules, (leads, c.loop-i.invariant.4)))))),
       ),
     )
 
@@ -78,7 +69,5 @@ loop-i-preserved g c =
       All-set (IsReady c.args.labelling.now.problem.now g.row.W c.args.labelling.now.before.now
           c.args.labelling.now.labels.now) c.loop-i.groups _ _ c.turn_to.ensures.group c.loop-i.invariant.2,
       length-set c.loop-i.groups _ _ ∙ c.loop-i.invariant.3,
-      All-set (IsFollower c.args.labelling.now.problem.now) c.loop-i.followers _ _ c.label_of.ensures.follower
-          c.loop-i.invariant.4,
-      length-set c.loop-i.followers _ _ ∙ c.loop-i.invariant.5,
+      c.label_of.ensures.followers,
     )

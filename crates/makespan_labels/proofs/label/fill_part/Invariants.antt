@@ -1,7 +1,7 @@
 use Rattle.std.proofs.Common.{◌≡◌, ℕ, ◌+◌, ◌<◌, length}
 use Rattle.std.specs.Prelude.{slice_index, All}
 use Rattle.makespan_labels.specs.Entries.{IsLabelAt}
-use Rattle.makespan_labels.specs.Followers.{IsFollower}
+use Rattle.makespan_labels.specs.Followers.{AreFollowers}
 use Rattle.makespan_labels.specs.Ready.{IsReady}
 use Rattle.makespan_labels.proofs.label.fill_part.Given as goal
 
@@ -10,4 +10,4 @@ invariant-loop-i g l = (length l.part ≡ length l.fn.part)
     × ((m : ℕ) → m < l.i → IsLabelAt l.labelling.problem.now l.labelling.stage.now (l.start + m) (slice_index l.part m))
     × All (IsReady l.labelling.problem.now g.row.W l.labelling.before.now l.labelling.labels.now) l.groups
     × (length l.groups ≡ 8)
-    × All (IsFollower l.labelling.problem.now) l.followers × (length l.followers ≡ 8)
+    × AreFollowers l.labelling.problem.now l.number l.followers

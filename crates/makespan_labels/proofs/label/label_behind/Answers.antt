@@ -7,5 +7,5 @@ pub returns-then-group-eq0-clause-label : goal.returns-then-group-eq0-clause-lab
 returns-then-group-eq0-clause-label c =
     let p = c.args.problem.now in
     let group = c.args.group.now in
-    subst (λ (l : ℕ). IsLabelOf (landing_after p l group.least c.args.rank) c.first_label.result)
+    subst (λ (l : ℕ). IsLabelOf (landing_after p l group.least c.args.follower.now.rank) c.first_label.result)
     (sym c.if-group-eq0.true) c.first_label.ensures

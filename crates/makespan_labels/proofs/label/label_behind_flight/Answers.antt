@@ -1,6 +1,5 @@
-use Rattle.std.proofs.Common.{◌≡◌, ℕ, ◌+◌, ◌≤◌, Option, refl, ap, subst, ◌∙◌, arith}
-use Rattle.wake_table.specs.Table.{separation}
-use Rattle.landing_joint.specs.RankedProblem.{no_waiting, first_at, landing_after}
+use Rattle.std.proofs.Common.{ℕ, Option, refl, subst, arith}
+use Rattle.landing_joint.specs.RankedProblem.{no_waiting}
 use Rattle.cps_theory.specs.RankLists.{of_rank}
 use Rattle.makespan_labels.specs.Columns.{IsLabelOf}
 use Rattle.makespan_labels.proofs.LeadLemmas.{lands_behind}
@@ -9,26 +8,18 @@ use Rattle.makespan_labels.proofs.label.label_behind_flight.Goals as goal
 pub overflow_add-lead : goal.overflow_add-lead
 overflow_add-lead c =
     let p = c.args.problem.now in
-    let one : 1 ≤ c.turn_to.new.self.rank = omega (arith, c.turn_to.ensures.rank, c.requires.rank) in
-    let apart = c.separation_behind-apart.ensures p c.turn_to.ensures.follower one in
+    let apart = c.separation_behind-apart.ensures p c.requires.follower c.requires.rank.0 in
     let most = (c.head-at_most.ensures.well_formed.table.entries c.args.lead.category
-    (of_rank no_waiting p.flights c.turn_to.new.self.rank).category).1 in
+    (of_rank no_waiting p.flights c.args.follower.now.rank).category).1 in
     omega (arith, apart, most, c.requires.in_days)
 
 pub returns-clause-label : goal.returns-clause-label
 returns-clause-label c leader one is =
     let p = c.args.problem.now in
     let lead = c.args.lead in
-    let some : 1 ≤ c.turn_to.new.self.rank = omega (arith, c.turn_to.ensures.rank, c.requires.rank) in
-    let apart : c.separation_behind-apart.result ≡ separation p.table lead.category
-    (of_rank no_waiting p.flights c.args.rank).category =
-    c.separation_behind-apart.ensures p c.turn_to.ensures.follower some
-    ∙ ap (λ (r : ℕ). separation p.table lead.category (of_rank no_waiting p.flights r).category)
-    c.turn_to.ensures.rank in
-    let landing : first_at p c.turn_to.new.self.rank
-    (lead.least + c.separation_behind-apart.result) ≡ landing_after p leader lead.least c.args.rank =
-    ap (λ (r : ℕ). first_at p r (lead.least + c.separation_behind-apart.result)) c.turn_to.ensures.rank
-    ∙ lands_behind p leader lead.least c.args.rank c.separation_behind-apart.result lead.category
-    (of_rank no_waiting p.flights c.args.rank).category c.head-at_most.ensures.well_formed.table one (is.started one)
+    let rank = c.args.follower.now.rank in
+    let apart = c.separation_behind-apart.ensures p c.requires.follower c.requires.rank.0 in
+    let landing = lands_behind p leader lead.least rank c.separation_behind-apart.result lead.category
+    (of_rank no_waiting p.flights rank).category c.head-at_most.ensures.well_formed.table one (is.started one)
     (is.category_is one) refl apart in
     subst (λ (o : Option ℕ). IsLabelOf o c.label_at.result) landing c.label_at.ensures.label

@@ -1,15 +1,7 @@
-use Rattle.std.proofs.Common.{◌∙◌, ℕ, ◌+◌, length, length-set, refl, arith, rules}
-use Rattle.std.proofs.lemmas.List.Elements.{All-set}
+use Rattle.std.proofs.Common.{ℕ, ◌+◌, length, refl, arith}
 use Rattle.makespan_labels.specs.Entries.{IsLabelAt}
-use Rattle.makespan_labels.specs.Followers.{IsFollower}
 use Rattle.makespan_labels.proofs.ColumnLemmas.{set_more}
 use Rattle.makespan_labels.proofs.linked.fill_linked_part.Goals as goal
-
-pub loop-i-init : goal.loop-i-init
-loop-i-init g c =
-    let none : IsFollower c.args.labelling.now.problem.now c.none-followers.result =
-    c.none-followers.ensures c.args.labelling.now.problem.now in
-    search (rules, none)
 
 pub loop-i-preserved : goal.loop-i-preserved
 loop-i-preserved g c =
@@ -19,7 +11,5 @@ loop-i-preserved g c =
     c.loop-i.invariant.0 c.loop-i.invariant.1 c.linked_label_of.ensures.label in (
       more.0,
       more.1,
-      All-set (IsFollower c.args.labelling.now.problem.now) c.loop-i.followers _ _ c.linked_label_of.ensures.follower
-          c.loop-i.invariant.2,
-      length-set c.loop-i.followers _ _ ∙ c.loop-i.invariant.3,
+      c.linked_label_of.ensures.followers,
     )
