@@ -14,3 +14,5 @@ pub mod NetworkLemmas
 pub mod WindowNodes
 pub mod PrefixLandingLemmas
 pub mod LinkLemmas
+pub mod GroupLemmas
+pub mod GroupLists

@@ -24,22 +24,6 @@ fn first_source<const W: usize>(before: &[Window<W>], node: &Window<W>) -> usize
     )
 }
 
-// The first place, from this one on, whose window's tail is not below the node's head.
-#[inline]
-pub(crate) fn past_below<const W: usize>(
-    before: &[Window<W>],
-    node: &Window<W>,
-    from: usize,
-) -> usize {
-    (from..before.len())
-        .find(
-            |place: &usize| -> bool
-                requires { place.now < length before.now }
-            { !before[*place].is_below(node) },
-        )
-        .unwrap_or(before.len())
-}
-
 // How many places are looked at before all are searched.
 const FEW: usize = 8;
 
