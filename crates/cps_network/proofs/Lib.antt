@@ -16,3 +16,4 @@ pub mod PrefixLandingLemmas
 pub mod LinkLemmas
 pub mod GroupLemmas
 pub mod GroupLists
+pub mod GatherLemmas

@@ -1,9 +1,9 @@
 //! The windows of the next stage, gathered from groups.
 
-ghost use Rattle.std.specs.Prelude.{◌≡◌, ℕ, pos, ◌+◌, ◌-◌, ◌*◌, ◌/◌, ◌<◌, ◌≤◌, ◌⊎◌, ◌↔◌, length, All, OnOk, IfOk, Contains, []};
+ghost use Rattle.std.specs.Prelude.{◌≡◌, ℕ, pos, ◌+◌, ◌-◌, ◌*◌, ◌/◌, ◌<◌, ◌≤◌, ◌⊎◌, ◌↔◌, length, All, OnOk, Contains, [], ◌∷◌, ◌++◌};
 ghost use Rattle.precedence.specs.Pairs.{HasBit};
 ghost use Rattle.cps_nodes.specs.Windows.{IsWidth};
-ghost use Rattle.cps_network.specs.Extended.{Follows, FollowsBy, HasGrownBy, IsExtendable, group_at};
+ghost use Rattle.cps_network.specs.Extended.{Follows, FollowsBy, HasGrownBy, IsExtendable, group_at, offset_of};
 
 use crate::groups::Group;
 use cps_nodes::Window;
@@ -16,6 +16,30 @@ pub(crate) struct Gathered<const W: usize> {
     // For each window the place of the group that leads to it, where links are wanted.
     pub(crate) places: Vec<u32>,
     pub(crate) are_linked: bool,
+}
+
+impl<const W: usize> Gathered<W> {
+    // Adds a window to which the group at a place leads.
+    fn push(&mut self, window: Window<W>, place: usize) -> Result<(), AllocError>
+        requires { place ≤ 823543 }
+        ensures { OnOk result (self.new.windows.items ≡ self.old.windows.items ++ window.entry ∷ []) }
+    {
+        self.windows.push(window)?;
+        if self.are_linked {
+            self.places.push(place as u32)?;
+        }
+        Ok(())
+    }
+}
+
+// The offset that a bit stands for.
+#[inline]
+fn offset_of<const W: usize>(j: u8) -> i8
+    requires width { IsWidth W }
+    requires bit { j < W }
+    ensures { result ≡ offset_of W j }
+{
+    j as i8 - (W / 2) as i8
 }
 
 // Adds the window that follows a group by the offset of a bit, where the group has the bit.
@@ -33,14 +57,11 @@ fn add_next<const W: usize>(
     ensures { OnOk result ((x : _) → Contains gathered.new.windows.items x
         ↔ (Contains gathered.old.windows.items x ⊎ FollowsBy W before.now group j x)) }
 {
-    if (group.offsets >> j) & 1 == 0 {
+    if !group.has(j) {
         return Ok(());
     }
-    let next = before[group.from as usize].after(j as i8 - (W / 2) as i8);
-    gathered.windows.push(next)?;
-    if gathered.are_linked {
-        gathered.places.push(place as u32)?;
-    }
+    let next = before[group.from as usize].after(offset_of::<W>(j));
+    gathered.push(next, place)?;
     Ok(())
 }
 
@@ -56,7 +77,7 @@ fn add_by<const W: usize>(
     requires bit { j < W }
     requires groups { All (IsExtendable W before.now) groups.now }
     requires few { length groups.now ≤ 823543 }
-    requires block { block.1 ≤ length groups.now }
+    requires block { (block.0 ≤ block.1) × (block.1 ≤ length groups.now) }
     ensures { OnOk result (HasGrownBy (λ i x. FollowsBy W before.now (group_at groups.now i) j x)
         block.0 block.1 gathered.old.windows.items gathered.new.windows.items) }
 {
@@ -76,7 +97,7 @@ fn add_block<const W: usize>(
     requires width { IsWidth W }
     requires groups { All (IsExtendable W before.now) groups.now }
     requires few { length groups.now ≤ 823543 }
-    requires block { block.1 ≤ length groups.now }
+    requires block { (block.0 ≤ block.1) × (block.1 ≤ length groups.now) }
     ensures { OnOk result (HasGrownBy (Follows W before.now groups.now) block.0 block.1
         gathered.old.windows.items gathered.new.windows.items) }
 {

@@ -24,6 +24,17 @@ pub(crate) struct Group {
     pub(crate) offsets: u8,
 }
 
+impl Group {
+    // Whether it has the offset of a bit.
+    #[inline]
+    pub(crate) fn has(&self, j: u8) -> bool
+        requires { j < 8 }
+        ensures { IsTrue result ↔ HasBit self.now.offsets j }
+    {
+        (self.offsets >> j) & 1 == 1
+    }
+}
+
 // Some offsets and that of a rank, where the rank is permitted.
 fn with_rank<const W: usize>(
     problem: &Problem,
