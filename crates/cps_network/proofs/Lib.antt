@@ -17,3 +17,4 @@ pub mod LinkLemmas
 pub mod GroupLemmas
 pub mod GroupLists
 pub mod GatherLemmas
+pub mod NextLemmas
