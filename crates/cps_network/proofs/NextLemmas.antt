@@ -41,9 +41,12 @@ module _ (p : Problem) (stage width : ℕ) (before : List (List ℤ)) (odd : wid
       → FollowsBy width before group j x → IsSuccessor p stage (node_at before group.from) x
   follows_next group j x is follows =
       let may : IsPermitted p stage (node_at before group.from) (stage + 1 + j - p.k) =
-      (is.permitted j).0 follows.offset in
-      (stage + 1 + j - p.k, may, follows.is ∙ ap (shifted (node_at before group.from))
-      (sym (bit_offset p stage width j odd may.from_one)))
+      (is.permitted j).0 follows.offset in (
+        stage + 1 + j - p.k,
+        may,
+        follows.is ∙ ap (shifted (node_at before group.from))
+            (sym (bit_offset p stage width j odd may.from_one)),
+      )
 
   next_follows : (group : Group) (x : List ℤ) → IsGroupOf p stage before group
       → IsSuccessor p stage (node_at before group.from) x
@@ -52,11 +55,14 @@ module _ (p : Problem) (stage width : ℕ) (before : List (List ℤ)) (odd : wid
       let j : ℕ = rank + p.k - stage - 1 in
       let same : rank ≡ stage + 1 + j - p.k = omega (arith, may.late) in
       let offset : offset_after stage rank ≡ offset_of width j =
-      ap (offset_after stage) same ∙ bit_offset p stage width j odd (omega (arith, same, may.from_one)) in
-      (j, omega (arith, may.early, odd), record {
-        offset = (is.permitted j).1 (subst (IsPermitted p stage (node_at before group.from)) same may);
-        is = at ∙ ap (shifted (node_at before group.from)) offset;
-      })
+      ap (offset_after stage) same ∙ bit_offset p stage width j odd (omega (arith, same, may.from_one)) in (
+        j,
+        omega (arith, may.early, odd),
+        record {
+          offset = (is.permitted j).1 (subst (IsPermitted p stage (node_at before group.from)) same may);
+          is = at ∙ ap (shifted (node_at before group.from)) offset;
+        },
+      )
 
   -- of one group a window leads on as the front window does
   pub of_group : (group : Group) (m : ℕ) (window x : List ℤ) → LeadOn width → AreWindows width before

@@ -6,7 +6,7 @@ abbrev pub invariant-loop-from : goal.invariant-loop-from
 invariant-loop-from g l = record {
   grown : HasGrownBy (Follows g.row.W l.before l.groups) 0 l.from l.initial.gathered.windows.items
       l.gathered.windows.items;
-  within : l.from ≤ length l.groups
+  within : l.from ≤ length l.groups;
 }
 
 abbrev pub decreases-loop-from : goal.decreases-loop-from

@@ -7,5 +7,5 @@ abbrev pub invariant-loop-group : goal.invariant-loop-group
 invariant-loop-group l = record {
   len : length l.ranges.items ≡ l.group-index;
   each : (i : ℕ) → i < l.group-index
-      → range_at l.ranges.items i ≡ ((group_at l.groups i).from, (group_at l.groups i).to)
+      → range_at l.ranges.items i ≡ ((group_at l.groups i).from, (group_at l.groups i).to);
 }

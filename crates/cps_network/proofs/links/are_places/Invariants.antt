@@ -10,5 +10,5 @@ abbrev pub invariant-loop-i : goal.invariant-loop-i
 invariant-loop-i g l = record {
   within : (j : ℕ) → j < l.i → slice_index l.places j < length l.ranges;
   leads : (j : ℕ) → j < l.i → Extends (front_of l.before (range_at l.ranges (slice_index l.places j)))
-      (node_at l.after j)
+      (node_at l.after j);
 }
