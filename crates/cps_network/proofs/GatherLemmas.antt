@@ -60,12 +60,7 @@ pub grown_upto : (Adds : ℕ → List ℤ → Type 0) (from i to : ℕ) (start n
 grown_upto Adds from i to start now e are = subst (λ (q : ℕ). HasGrownBy Adds from q start now) e are
 
 module _ (width : ℕ) (before : List (List ℤ)) where
-  -- a group has not the bit, or has it
-  pub none_follows : (group : Group) (j : ℕ) (now : List (List ℤ)) → (HasBit group.offsets j → ⊥) → (x : List ℤ)
-      → Contains now x ↔ (Contains now x ⊎ FollowsBy width before group j x)
-  none_follows group j now not x =
-      (λ has. inl has, λ has. elim has [ inl old ↦ old | inr follows ↦ absurd (not follows.offset) ])
-
+  -- a group has the bit
   pub one_follows : (group : Group) (j : ℕ) (now after : List (List ℤ)) (next : List ℤ) → HasBit group.offsets j
       → next ≡ shifted (node_at before group.from) (offset_of width j) → after ≡ now ++ next ∷ [] → (x : List ℤ)
       → Contains after x ↔ (Contains now x ⊎ FollowsBy width before group j x)

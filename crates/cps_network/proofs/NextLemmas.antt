@@ -10,7 +10,7 @@ use Rattle.cps_nodes.specs.Laws.{LeadOn, offset_after}
 use Rattle.cps_nodes.specs.Windows.{IsWindow, Accepts, shifted}
 use Rattle.landing_rules.specs.Problem.{Problem}
 use Rattle.cps_network.specs.declared.groups.Group.{Group}
-use Rattle.cps_network.specs.Extended.{AreGroupsOf, AreRanges, IsGroupOf, IsExtendable, FollowsBy, Follows, HasGrownBy}
+use Rattle.cps_network.specs.Extended.{AreGroupsOf, IsGroupOf, IsExtendable, FollowsBy, Follows, HasGrownBy}
 use Rattle.cps_network.specs.Extended.{group_at, offset_of}
 use Rattle.cps_network.specs.Groups.{IsGroup}
 use Rattle.cps_network.specs.Lists.{node_at, AreWindows}
@@ -100,8 +100,3 @@ module _ (p : Problem) (stage width : ℕ) (before : List (List ℤ)) (odd : wid
         (get_or_default before m [] window lt ∙ at) next in
         (grown x).1 (inr (i, omega arith, found.1.1, next_follows (group_at groups i) x is leads)),
   )
-
--- the groups of a stage are ranges of windows that share a tail
-pub ranges_of_groups : (p : Problem) (stage : ℕ) (before : List (List ℤ)) (groups : List Group)
-    → AreGroupsOf p stage before groups → AreRanges before groups
-ranges_of_groups p stage before groups are i d lt = (are.each i d lt).range
