@@ -121,13 +121,6 @@ impl<const W: usize> Links<W> {
         self.origin.as_slice()
     }
 
-    // The windows to which the links lead.
-    pub(crate) fn target(&self) -> &[Window<W>]
-        ensures { result.now ≡ self.now.target }
-    {
-        self.target.as_slice()
-    }
-
     /// The half-open ranges of the windows that share a tail, by their places in the first list.
     pub fn ranges(&self) -> &[(u32, u32)]
         ensures value { result.now ≡ self.now.ranges }

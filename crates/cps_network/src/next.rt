@@ -72,6 +72,7 @@ fn next_windows<const W: usize>(
     ensures exact { IfOk result (λ g. IsNextOf problem.now stage before.now g.windows.items) }
     ensures valid { IfOk result (λ g. AreWindows W g.windows.items) }
 {
+    // k is at most 3.
     let _near = problem.head();
     window_laws::<W>();
     let mut gathered = room_for(alloc, problem, groups)?;
@@ -121,7 +122,9 @@ pub fn next_stage<const W: usize>(
     ensures exact { IfOk result (λ s. IsNextOf problem.now before.now.0 before.now.1 s.1) }
     ensures candidates { IfOk result (λ s. HoldsCandidates problem.now before.now s) }
 {
+    // k is at most 3, and at most 60 flights wait.
     let _near = problem.head();
+    // A stage has at most 823,543 windows.
     let _few = before.len();
     let earlier = before.windows();
     let groups = groups_in_order(alloc, problem, before.number(), earlier)?;

@@ -95,6 +95,7 @@ pub(crate) fn successor<const W: usize>(
     ensures next { SomeIff result (IsPermitted problem.now stage window.now rank)
         (shifted window.now (offset_after stage rank)) }
 {
+    // k is at most 3, and at most 60 flights wait.
     let _near = problem.head();
     let next = window.extend(offset_of(stage, rank))?;
     if !is_in_time(problem, stage, rank) {

@@ -171,8 +171,9 @@ impl<const W: usize> Stage<W> {
         if keeps_all(labels, &keep) {
             return Ok(());
         }
-        let windows = Arc::make_mut(&mut self.windows)?;
+        // The links would have the windows shared, and so copied here.
         self.links = None;
+        let windows = Arc::make_mut(&mut self.windows)?;
         compact_all(windows, labels, &keep);
         Ok(())
     }

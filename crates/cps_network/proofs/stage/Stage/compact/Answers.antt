@@ -1,5 +1,5 @@
 use Rattle.std.proofs.Common.{◌≡◌, ℕ, List, ap, sym, subst, ◌∙◌, arith, rules, Vec, Global}
-use Rattle.std.specs.Prelude.{ℤ, true, IfSome, vec_len, replicate}
+use Rattle.std.specs.Prelude.{ℤ, true, vec_len, replicate}
 use Rattle.std.specs.Arc.{arc_value}
 use Rattle.cps_network.specs.Compacted.{kept_where}
 use Rattle.cps_network.specs.Lists.{IsAscending, AreWindows}
@@ -22,8 +22,11 @@ left : (g : _) (c : After-drop-keep-in_err-windows g)
 left g c = same_or_cloned _ _ _ (λ x y e. e) (err_says _ _ c.in_err-windows.was c.make_mut.follows.holds-at-none)
 
 pub invariant_of-self : goal.invariant_of-self
-invariant_of-self g c = subst (λ (zs : List (List ℤ)). IsAscending zs × AreWindows g.row.W zs
-    × IfSome c.self.inside.links (λ l. (arc_value l).target ≡ zs)) (sym (left g c)) c.self.invariant
+invariant_of-self g c = (
+  subst (λ (zs : List (List ℤ)). IsAscending zs) (sym (left g c)) c.self.invariant.0,
+  subst (λ (zs : List (List ℤ)). AreWindows g.row.W zs) (sym (left g c)) c.self.invariant.1,
+  tt,
+)
 
 pub returns-in_err-windows-clause-unchanged : goal.returns-in_err-windows-clause-unchanged
 returns-in_err-windows-clause-unchanged g c =
