@@ -3,6 +3,7 @@ pub mod PlacedLemmas
 pub mod ListLemmas
 pub mod SourceLemmas
 pub mod StageLemmas
+pub mod PermitLemmas
 pub mod LayerLemmas
 pub mod RangeTests
 pub mod AgainLemmas

@@ -8,7 +8,7 @@ ghost use Rattle.cps_network.specs.Links.{range_at};
 ghost use Rattle.cps_network.specs.Lists.{AreWindows, IsAscending, node_at};
 ghost use Rattle.cps_network.specs.Permits.{IsPermitted};
 
-use crate::permit::{due_set, most_shift, placed_set, reach, successor};
+use crate::permit::{due_set, may_follow, most_shift, placed_set, reach};
 use cps_nodes::{ExtendableWindow, Window};
 use cps_problem::Problem;
 use std::alloc::{AllocError, Global};
@@ -53,9 +53,11 @@ fn with_rank<const W: usize>(
     ensures { (j : ℕ) → HasBit result j ↔ (HasBit offsets j
         ⊎ ((j + stage + 1 ≡ rank + problem.now.k) × IsPermitted problem.now stage window.now rank)) }
 {
-    match successor(problem, window, stage, rank, placed) {
-        None => offsets,
-        Some(_next) => offsets | 1 << (rank + most_shift(problem) - stage - 1),
+    let with = offsets | 1 << (rank + most_shift(problem) - stage - 1);
+    if may_follow(problem, window, stage, rank, placed) {
+        with
+    } else {
+        offsets
     }
 }
 
