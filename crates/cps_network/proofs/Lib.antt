@@ -3,6 +3,7 @@ pub mod PlacedLemmas
 pub mod ListLemmas
 pub mod SourceLemmas
 pub mod StageLemmas
+pub mod PermitLemmas
 pub mod LayerLemmas
 pub mod RangeTests
 pub mod AgainLemmas
@@ -14,3 +15,7 @@ pub mod NetworkLemmas
 pub mod WindowNodes
 pub mod PrefixLandingLemmas
 pub mod LinkLemmas
+pub mod GroupLemmas
+pub mod GroupLists
+pub mod GatherLemmas
+pub mod NextLemmas

@@ -1,6 +1,7 @@
 -- The definitions of this crate.
 pub mod Lists
 pub mod Groups
+pub mod Extended
 pub mod Permits
 pub mod Begins
 pub mod Links

@@ -63,6 +63,7 @@ fn rank_as_far(held: &Problem, a: u8, rank: u8, problem: &Problem, b: u8) -> u8
     ensures from_one { 1 ≤ result }
     ensures to_count { result ≤ length problem.now.flights }
 {
+    // At most 60 flights wait for either.
     let _few = held.len();
     let _few_there = problem.len();
     rank + b - a
@@ -147,6 +148,7 @@ pub fn next_stage_again<const W: usize>(
     requires after { IsNextOf held.now earlier.now.0 earlier.now.1 after.now.1 }
     ensures { IfOk result (λ next. IfSome next (IsStageAfter problem.now before.now)) }
 {
+    // k is at most 3, and at most 60 flights wait. The windows ascend.
     let _near = problem.head();
     let _ascending = after.windows();
     if have_same_next(held, earlier.number(), problem, before.number())

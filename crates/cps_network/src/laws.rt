@@ -21,6 +21,7 @@ pub fn prefix_laws<const W: usize>(problem: &Problem)
     ensures whole { StepsAreWhole problem.now }
     ensures sources { LeadAlike problem.now W }
 {
+    // k is at most 3, each flight was passed at most k times, and each pair is of ranks up to 60.
     let _near = problem.head();
     let _in_range = problem.pairs().all_before(1, 0);
     window_laws::<W>();
@@ -33,6 +34,7 @@ pub fn kept_stages(held: &Problem, next: &Problem)
     ensures early { EarlyStagesAreKept held.now next.now }
     ensures uncounted { UncountedStagesAreKept held.now next.now }
 {
+    // Both problems are well formed.
     let _held_ranks = held.head();
     let _next_ranks = next.head();
 }
@@ -43,6 +45,7 @@ pub fn due_is_bounded<const W: usize>(problem: &Problem)
     requires { W ≡ 2 * problem.now.k + 1 }
     ensures { DueIsBounded problem.now (W ^ W) }
 {
+    // k is at most 3, and at most 60 flights wait.
     let _near = problem.head();
     prefix_laws::<W>(problem);
     window_laws::<W>();
@@ -53,6 +56,7 @@ pub fn windows_tell_their_ranks<const W: usize>(problem: &Problem)
     requires { W ≡ 2 * problem.now.k + 1 }
     ensures { TellTheirRanks problem.now }
 {
+    // k is at most 3, each flight was passed at most k times, and each pair is of ranks up to 60.
     let _near = problem.head();
     let _in_range = problem.pairs().all_before(1, 0);
     window_laws::<W>();
@@ -75,5 +79,6 @@ pub fn prefixes_keep_the_separation(problem: &Problem)
     ensures neighbours { NeighboursSuffice problem.now }
     ensures attained { AttainsByPrefixes problem.now }
 {
+    // The problem is well formed.
     let _sound = problem.head();
 }

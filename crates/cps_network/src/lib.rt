@@ -5,6 +5,8 @@
 
 mod again;
 mod compact;
+mod gather;
+mod groups;
 mod last;
 mod laws;
 mod links;

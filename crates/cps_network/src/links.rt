@@ -1,12 +1,10 @@
 //! Which windows of a stage lead to each window of the next, found once and kept with the windows.
 
-ghost use Rattle.std.specs.Prelude.{◌≡◌, ℕ, ◌+◌, ◌<◌, ◌≤◌, length, IsTrue, IfOk, IfSome, OnOk};
+ghost use Rattle.std.specs.Prelude.{◌≡◌, ℕ, ◌<◌, length, slice_index, IsTrue, IfOk, IfSome};
 ghost use Rattle.cps_nodes.specs.Leads.{Extends};
-ghost use Rattle.cps_nodes.specs.Windows.{IsWidth};
-ghost use Rattle.cps_network.specs.Lists.{IsAscending, node_at};
-ghost use Rattle.cps_network.specs.Links.{AreGroups, AreLinks, range_at};
+ghost use Rattle.cps_network.specs.Lists.{node_at};
+ghost use Rattle.cps_network.specs.Links.{AreGroups, AreLinks, front_of, range_at};
 
-use crate::source_range::{past_below, run_of, sources_near};
 use crate::stage::Stage;
 use cps_nodes::Window;
 use std::alloc::{AllocError, Global};
@@ -65,85 +63,48 @@ fn leads_there<const W: usize>(
     from < before.len() && before[from].leads_to(node)
 }
 
-// Where to look first for the windows that lead to a window: behind the range at a place, where there is one.
-fn hint_behind<const W: usize>(
+// Whether each of these windows has the place of a range whose windows lead to it.
+fn are_places<const W: usize>(
     before: &[Window<W>],
+    after: &[Window<W>],
     ranges: &[(u32, u32)],
-    place: usize,
-    node: &Window<W>,
-) -> usize {
-    if place >= ranges.len() {
-        return before.len();
-    }
-    past_below(before, node, ranges[place].1 as usize)
-}
-
-// The place of the range whose windows lead to a window: `near`, where that leads there, and else that of a new range. None
-// where no window leads there.
-fn place_for<const W: usize>(
-    before: &[Window<W>],
-    node: &Window<W>,
-    near: u32,
-    ranges: &mut Vec<(u32, u32)>,
-) -> Result<Option<u32>, AllocError>
-    requires width { IsWidth W }
-    requires ascending { IsAscending before.now }
-    requires few { length before.now ≤ 823543 }
-    requires groups { AreGroups before.now ranges.old.items }
-    requires count { length ranges.old.items ≤ 823543 }
-    ensures groups { OnOk result (AreGroups before.now ranges.new.items) }
-    ensures longer { OnOk result (length ranges.old.items ≤ length ranges.new.items) }
-    ensures count { OnOk result (length ranges.new.items ≤ length ranges.old.items + 1) }
-    ensures kept { OnOk result ((r : ℕ) → r < length ranges.old.items
-        → range_at ranges.new.items r ≡ range_at ranges.old.items r) }
-    ensures leads { IfOk result (λ found. IfSome found (λ place. (place < length ranges.new.items)
-        × Extends (node_at before.now (range_at ranges.new.items place).0) node.now)) }
+    places: &[u32],
+) -> bool
+    ensures one_each { IsTrue result → length places.now ≡ length after.now }
+    ensures within { IsTrue result → (i : ℕ) → i < length after.now
+        → slice_index places.now i < length ranges.now }
+    ensures leads { IsTrue result → (i : ℕ) → i < length after.now
+        → Extends (front_of before.now (range_at ranges.now (slice_index places.now i)))
+        (node_at after.now i) }
 {
-    if leads_there(before, ranges, near as usize, node) {
-        return Ok(Some(near));
+    if places.len() != after.len() {
+        return false;
     }
-    let hint = hint_behind(before, ranges, near as usize, node);
-    let (from, to) = sources_near(before, node, hint);
-    if from >= to || !before[from].leads_to(node) {
-        return Ok(None);
+    for (i, node) in after.iter().enumerate() {
+        if !leads_there(before, ranges, places[i] as usize, node) {
+            return false;
+        }
     }
-    let place = ranges.len() as u32;
-    ranges.push((from as u32, to as u32))?;
-    Ok(Some(place))
+    true
 }
-
-// The place of no range.
-const NOWHERE: u32 = u32::MAX;
 
 impl<const W: usize> Links<W> {
-    // The links from the windows of a stage to those of another. None where no window leads to one of them.
-    pub(crate) fn between(
-        alloc: Global,
+    // The links from the windows of a stage to those of another, by these ranges and places. None where a window has not the
+    // place of a range whose windows lead to it.
+    pub(crate) fn checked(
         before: &Stage<W>,
         after: &Stage<W>,
+        ranges: Vec<(u32, u32)>,
+        places: Vec<u32>,
     ) -> Result<Option<Links<W>>, AllocError>
-        requires { IsWidth W }
+        requires { AreGroups before.now.1 ranges.items }
         ensures { IfOk result (λ found. IfSome found (λ links.
             (links.origin ≡ before.now.1) × (links.target ≡ after.now.1))) }
     {
         let origin = before.shared_windows()?;
         let target = after.shared_windows()?;
-        let earlier = before.windows();
-        // So few that each place is a u32.
-        let _few = before.len();
-        let mut ranges: Vec<(u32, u32)> = Vec::new(alloc);
-        let mut places: Vec<u32> = Vec::with_capacity(alloc, after.len())?;
-        let mut last = [NOWHERE; 8];
-        for i in 0..after.len() {
-            let node = after.node(i);
-            let run = run_of(&node);
-            match place_for(earlier, &node, last[run], &mut ranges)? {
-                None => return Ok(None),
-                Some(place) => {
-                    last[run] = place;
-                    places.push(place)?;
-                }
-            }
+        if !are_places(before.windows(), after.windows(), &ranges, &places) {
+            return Ok(None);
         }
         Ok(Some(Links {
             origin,
@@ -158,13 +119,6 @@ impl<const W: usize> Links<W> {
         ensures { result.now ≡ self.now.origin }
     {
         self.origin.as_slice()
-    }
-
-    // The windows to which the links lead.
-    pub(crate) fn target(&self) -> &[Window<W>]
-        ensures { result.now ≡ self.now.target }
-    {
-        self.target.as_slice()
     }
 
     /// The half-open ranges of the windows that share a tail, by their places in the first list.

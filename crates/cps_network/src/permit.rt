@@ -1,8 +1,8 @@
 //! Whether a rank may land next, and the window that then follows.
 
-ghost use Rattle.std.specs.Prelude.{◌≡◌, ℕ, pos, ◌+◌, ◌*◌, ◌/◌, ◌<◌, ◌-◌, ◌≤◌, ◌↔◌, List, ◌∷◌, length, max, min, reverse, IsTrue, SomeIff};
+ghost use Rattle.std.specs.Prelude.{◌≡◌, ℕ, pos, ◌+◌, ◌*◌, ◌/◌, ◌<◌, ◌-◌, ◌≤◌, ◌↔◌, List, ◌∷◌, length, max, min, reverse, IsTrue};
 ghost use Rattle.precedence.specs.Pairs.{HasBit};
-ghost use Rattle.cps_nodes.specs.Windows.{IsWindow, IsPlaced, shifted};
+ghost use Rattle.cps_nodes.specs.Windows.{IsPlaced};
 ghost use Rattle.cps_nodes.specs.Ranks.{window_of};
 ghost use Rattle.cps_nodes.specs.Laws.{offset_after};
 ghost use Rattle.cps_problem.specs.Seen.{passed_at};
@@ -77,33 +77,29 @@ fn is_in_time(problem: &Problem, landed: u8, rank: u8) -> bool
     landed + 1 + problem.passed(rank) <= rank + k
 }
 
-// The window after a landing of a rank that is at most k from the next place, where it is permitted.
-pub(crate) fn successor<const W: usize>(
+// Whether a rank that is at most k from the next place is permitted after a window. Each test is made, since to foresee which
+// of them fails first costs more.
+pub(crate) fn may_follow<const W: usize>(
     problem: &Problem,
     window: &ExtendableWindow<W>,
     stage: u8,
     rank: u8,
     placed: u64,
-) -> Option<Window<W>>
+) -> bool
     requires width { W ≡ 2 * problem.now.k + 1 }
     requires stage { stage < length problem.now.flights }
     requires placed { (first : ℕ) → 1 ≤ first → HasBit placed first ↔ IsPlaced window.now (pos
         stage) (pos first) }
     requires rank { (1 ≤ rank) × (rank ≤ length problem.now.flights) }
     requires reach { (rank ≤ stage + 1 + problem.now.k) × (stage + 1 ≤ rank + problem.now.k) }
-    ensures valid { IsWindow W window.now }
-    ensures next { SomeIff result (IsPermitted problem.now stage window.now rank)
-        (shifted window.now (offset_after stage rank)) }
+    ensures { IsTrue result ↔ IsPermitted problem.now stage window.now rank }
 {
+    // k is at most 3, and at most 60 flights wait.
     let _near = problem.head();
-    let next = window.extend(offset_of(stage, rank))?;
-    if !is_in_time(problem, stage, rank) {
-        return None;
-    }
-    if !problem.pairs().all_before(rank, placed) {
-        return None;
-    }
-    Some(next)
+    let is_accepted = window.extend(offset_of(stage, rank)).is_some();
+    let is_in_time = is_in_time(problem, stage, rank);
+    let follows_all = problem.pairs().all_before(rank, placed);
+    is_accepted & is_in_time & follows_all
 }
 
 // Whether a rank is permitted after a window of a stage.
@@ -122,7 +118,7 @@ fn permits<const W: usize>(problem: &Problem, window: &Window<W>, stage: u8, ran
     }
     let extendable = window.extendable();
     let placed = placed_set(&extendable, stage, due_set(stage, k));
-    successor(problem, &extendable, stage, rank, placed).is_some()
+    may_follow(problem, &extendable, stage, rank, placed)
 }
 
 /// Whether a rank is permitted after a window of a stage. To be permitted step by step is to be legal as a whole: for every

@@ -24,22 +24,6 @@ fn first_source<const W: usize>(before: &[Window<W>], node: &Window<W>) -> usize
     )
 }
 
-// The first place, from this one on, whose window's tail is not below the node's head.
-#[inline]
-pub(crate) fn past_below<const W: usize>(
-    before: &[Window<W>],
-    node: &Window<W>,
-    from: usize,
-) -> usize {
-    (from..before.len())
-        .find(
-            |place: &usize| -> bool
-                requires { place.now < length before.now }
-            { !before[*place].is_below(node) },
-        )
-        .unwrap_or(before.len())
-}
-
 // How many places are looked at before all are searched.
 const FEW: usize = 8;
 
@@ -66,6 +50,7 @@ pub(crate) fn near_begin<const W: usize>(
 pub fn run_of<const W: usize>(window: &Window<W>) -> usize
     ensures { result < 8 }
 {
+    // Each offset is -k to k.
     let _valid = window.last();
     window.offset(0).rem_euclid(8) as usize
 }
@@ -132,6 +117,7 @@ pub fn sources<const W: usize>(before: &Stage<W>, node: &Window<W>) -> (usize, u
         → Extends (node_at before.now.1 i) node.now ↔ ((result.0 ≤ i) × (i < result.1)) }
 {
     window_laws::<W>();
+    // The node is a window, as those of the stage are.
     let _valid = node.last();
     sources_near(before.windows(), node, before.len())
 }

@@ -23,12 +23,12 @@ pub struct Stage<const W: usize> {
     number: u8,
     // A list that other stages may have too, until some of it is left out here.
     windows: Arc<Vec<Window<W>>, Global>,
-    // The links from the windows of the stage before, where they are worth keeping. They are asked for by both lists.
+    // The links from the windows of the stage before to these, where they are worth keeping.
     links: Option<Arc<Links<W>, Global>>,
 }
 
 impl<const W: usize> Model for Stage<W> {
-    ghost use Rattle.std.specs.Prelude.{ℕ, ℤ, List};
+    ghost use Rattle.std.specs.Prelude.{◌≡◌, ℕ, ℤ, List, IfSome};
     ghost use Rattle.std.specs.Arc.{arc_value};
     ghost use Rattle.cps_network.specs.Lists.{IsAscending, AreWindows};
 
@@ -37,7 +37,8 @@ impl<const W: usize> Model for Stage<W> {
     ghost view = { λ s. (s.number, (arc_value s.windows).items) };
 
     ghost invariant = { λ s. IsAscending (arc_value s.windows).items
-        × AreWindows W (arc_value s.windows).items };
+        × AreWindows W (arc_value s.windows).items
+        × IfSome s.links (λ l. (arc_value l).target ≡ (arc_value s.windows).items) };
 }
 
 impl<const W: usize> Stage<W> {
@@ -77,6 +78,7 @@ impl<const W: usize> Stage<W> {
         alloc: Global,
         links: Option<Links<W>>,
     ) -> Result<Stage<W>, AllocError>
+        requires { IfSome links (λ l. l.target ≡ self.1) }
         ensures { IfOk result (λ s. s ≡ self.entry) }
     {
         let kept = match links {
@@ -108,7 +110,7 @@ impl<const W: usize> Stage<W> {
         match &self.links {
             None => None,
             Some(links) => {
-                if links.origin() == before.windows() && links.target() == self.windows() {
+                if links.origin() == before.windows() {
                     Some(links)
                 } else {
                     None
@@ -169,6 +171,8 @@ impl<const W: usize> Stage<W> {
         if keeps_all(labels, &keep) {
             return Ok(());
         }
+        // The links would have the windows shared, and so copied here.
+        self.links = None;
         let windows = Arc::make_mut(&mut self.windows)?;
         compact_all(windows, labels, &keep);
         Ok(())

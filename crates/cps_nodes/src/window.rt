@@ -4,7 +4,7 @@ ghost use Rattle.std.specs.Prelude.{◌≡◌, ℕ, ℤ, pos, ◌+◌, ◌-◌, 
 ghost use Rattle.std.specs.Int.{bit_at};
 ghost use Rattle.std.specs.Ordering.{int_eq};
 ghost use Rattle.std.specs.Cmp.Lexicographic.{pointwise};
-ghost use Rattle.cps_nodes.specs.Digits.{digit_offset, offsets_of, order_key};
+ghost use Rattle.cps_nodes.specs.Digits.{digit_offset, number_of, offsets_of, order_key};
 ghost use Rattle.cps_nodes.specs.Held.{AreHeld, IsDueHeldUpto};
 ghost use Rattle.cps_nodes.specs.Leads.{Extends, IsBelow, GoOnAlike, TailMeetsHead};
 ghost use Rattle.cps_nodes.specs.Ranks.{RanksKeepShift, HasLanded, window_of};
@@ -264,6 +264,27 @@ impl<const W: usize> Window<W> {
         ensures alike { IsTrue result → GoOnAlike self.now other.now }
     {
         tail_of::<W>(self.digits) == tail_of::<W>(other.digits)
+    }
+
+    /// The window after one more landing, at an offset from -k to k that this window accepts.
+    #[inline]
+    pub fn after(&self, offset: i8) -> Window<W>
+        requires low { pos 0 ≤ℤ (offset +ℤ pos (W / 2)) }
+        requires high { offset ≤ℤ pos (W / 2) }
+        requires accepted { Accepts self.now offset }
+        ensures { result ≡ shifted self.now offset }
+    {
+        let digits = shift::<W>(self.digits, offset);
+        Window { digits }
+    }
+
+    /// The number of the offsets from the third on. In the order of these numbers stand, but for their first offsets, the windows
+    /// that come after by one and the same offset.
+    #[inline]
+    pub fn order_of_next(&self) -> u32
+        ensures { result ≡ number_of (drop 2 self.now) }
+    {
+        self.digits % place_value(W.saturating_sub(2))
     }
 
     // Whether both windows have the same offsets.

@@ -1,42 +1,41 @@
-use Rattle.std.proofs.Common.{◌≡◌, arith, rules, ℕ, ◌+◌, ◌/◌, ◌≤◌, subst, length}
-use Rattle.std.specs.Prelude.{◌↔◌}
-use Rattle.precedence.specs.Pairs.{HasBit}
+use Rattle.std.proofs.Common.{List, [], arith, rules, length, subst}
+use Rattle.std.specs.Prelude.{ℤ}
+use Rattle.cps_network.specs.Extended.{Follows, HasGrownBy}
 use Rattle.cps_network.specs.Permits.{IsNextOf}
-use Rattle.cps_network.proofs.StageLemmas.{AreSuccessors, successors_more, last_added, successors_all}
 use Rattle.cps_network.proofs.LayerLemmas.{next_valid}
+use Rattle.cps_network.proofs.NextLemmas.{all_extendable, gathered_is_next}
 use Rattle.cps_network.proofs.next.next_windows.Goals as goal
 
-pub add_at-requires : goal.add_at-requires
-add_at-requires g c =
-    let half : c.most_shift-k.result ≡ g.row.W / 2 = omega (arith, c.requires.width, c.most_shift-k.ensures.k) in (
+pub gather-requires : goal.gather-requires
+gather-requires g c = (
+  omega arith,
+  (
+    omega arith,
+    (
       search rules,
       (
-        c.requires.width,
-        (
-          c.requires.stage,
-          (
-            λ rank. subst (λ (k : ℕ). HasBit c.due_set-due.result rank ↔ (rank + k ≤ c.args.stage)) half
-                (c.due_set-due.ensures rank),
-            (search rules, λ some. last_added _ _ _ _ _ c.loop-i.invariant some),
-          ),
-        ),
+        all_extendable c.args.problem.now c.args.stage g.row.W _ c.requires.width _ c.requires.groups,
+        c.requires.few,
       ),
-    )
+    ),
+  ),
+)
 
-pub loop-i-preserved : goal.loop-i-preserved
-loop-i-preserved g c = successors_more _ _ _ _ _ _ c.loop-i.invariant c.in_ok-add_at.ensures
-
--- the windows gathered are those of the next stage
-next_is : (g : _) (c : goal.In_ok-after g)
-    → IsNextOf c.args.problem.now c.args.stage c.args.before.now c.in_ok-after.after.items
-next_is g c = λ x.
-    let end : c.loop-i.i ≡ length c.args.before.now = omega arith in
-    let all : AreSuccessors c.args.problem.now c.args.stage c.args.before.now c.loop-i.gathered.items
-    (length c.args.before.now) =
-    subst (λ (m : ℕ). AreSuccessors c.args.problem.now c.args.stage c.args.before.now c.loop-i.gathered.items m)
-    end c.loop-i.invariant in (
-      λ has. (successors_all _ _ _ _ all x).0 ((c.in_ok-after.ensures.members x).0 has),
-      λ has. (c.in_ok-after.ensures.members x).1 ((successors_all _ _ _ _ all x).1 has),
+-- the windows gathered are those of the next stage, and in order they are the same
+next_is : (g : _) (c : goal.In_ok-windows g)
+    → IsNextOf c.args.problem.now c.args.stage c.args.before.now c.in_ok-windows.windows.items
+next_is g c =
+    let grown : HasGrownBy (Follows g.row.W c.args.before.now c.args.groups.now) 0 (length c.args.groups.now) []
+    c.gather.new.gathered.windows.items =
+    subst (λ (start : List (List ℤ)). HasGrownBy (Follows g.row.W c.args.before.now c.args.groups.now) 0
+    (length c.args.groups.now) start c.gather.new.gathered.windows.items) c.in_ok-gathered.ensures
+    c.in_ok-gather.ensures in
+    let all : IsNextOf c.args.problem.now c.args.stage c.args.before.now c.gather.new.gathered.windows.items =
+    gathered_is_next c.args.problem.now c.args.stage g.row.W _ c.requires.width _ _ c.window_laws.ensures.leads
+    c.requires.valid c.requires.groups grown in
+    λ x. (
+      λ has. (all x).0 ((c.in_ok-windows.ensures.members x).0 has),
+      λ has. (c.in_ok-windows.ensures.members x).1 ((all x).1 has),
     )
 
 pub returns-clause-exact : goal.returns-clause-exact

@@ -22,8 +22,11 @@ left : (g : _) (c : After-drop-keep-in_err-windows g)
 left g c = same_or_cloned _ _ _ (λ x y e. e) (err_says _ _ c.in_err-windows.was c.make_mut.follows.holds-at-none)
 
 pub invariant_of-self : goal.invariant_of-self
-invariant_of-self g c = subst (λ (zs : List (List ℤ)). IsAscending zs × AreWindows g.row.W zs)
-    (sym (left g c)) c.self.invariant
+invariant_of-self g c = (
+  subst (λ (zs : List (List ℤ)). IsAscending zs) (sym (left g c)) c.self.invariant.0,
+  subst (λ (zs : List (List ℤ)). AreWindows g.row.W zs) (sym (left g c)) c.self.invariant.1,
+  tt,
+)
 
 pub returns-in_err-windows-clause-unchanged : goal.returns-in_err-windows-clause-unchanged
 returns-in_err-windows-clause-unchanged g c =
@@ -45,8 +48,12 @@ left_of g c =
     ∙ c.compact_all.ensures.2 ∙ ap (λ (ws : List (List ℤ)). kept_where c.compact_all.ensures.0 ws) (begun g c)
 
 pub invariant_of-self-2 : goal.invariant_of-self-2
-invariant_of-self-2 g c = subst (λ (zs : List (List ℤ)). IsAscending zs × AreWindows g.row.W zs) (sym (left_of g c))
-    (IsAscending-kept _ _ c.self.invariant.0, AreWindows-kept g.row.W _ _ c.self.invariant.1)
+invariant_of-self-2 g c = (
+  subst (λ (zs : List (List ℤ)). IsAscending zs) (sym (left_of g c)) (IsAscending-kept _ _ c.self.invariant.0),
+  subst (λ (zs : List (List ℤ)). AreWindows g.row.W zs) (sym (left_of g c))
+      (AreWindows-kept g.row.W _ _ c.self.invariant.1),
+  tt,
+)
 
 pub returns-clause-kept : goal.returns-clause-kept
 returns-clause-kept g c = (

@@ -1,13 +1,18 @@
-use Rattle.std.proofs.Common.{◌∙◌, ap, sym}
+use Rattle.std.proofs.Common.{◌≡◌, ◌∙◌, ap, sym, subst, List, ℕ}
+use Rattle.std.specs.Prelude.{ℤ, IfSome}
+use Rattle.std.specs.Arc.{arc_value}
 use Rattle.std.specs.Cmp.Rules.{signed_items}
 use Rattle.std.proofs.lemmas.Slice.Eq.{slice_eq-Decides}
 use Rattle.cps_network.specs.Links.{Links}
 use Rattle.cps_network.proofs.stage.Stage.links.Goals as goal
 
-pub returns-then-eq-2 : goal.returns-then-eq-2
-returns-then-eq-2 g c = (
-  ap (λ (l : Links). l.origin) (c.deref-then-eq-2.ensures ∙ sym c.deref.ensures) ∙ sym c.origin.ensures
-      ∙ (slice_eq-Decides signed_items _ _ _ c.eq.ensures).0 c.if-eq.true ∙ c.windows.ensures.windows,
-  ap (λ (l : Links). l.target) (c.deref-then-eq-2.ensures ∙ sym c.deref-then-eq.ensures) ∙ sym c.target.ensures
-      ∙ (slice_eq-Decides signed_items _ _ _ c.eq-then-eq.ensures).0 c.if-eq-2.true ∙ c.windows-then-eq.ensures.windows,
-)
+pub returns-then-eq : goal.returns-then-eq
+returns-then-eq g c =
+    let leads : (arc_value c.in-Some.links).target ≡ (arc_value c.self.inside.windows).items =
+    subst (λ (found : _). IfSome found (λ l. (arc_value {X = Links} l).target ≡ (arc_value c.self.inside.windows).items))
+    c.in-Some.is c.self.invariant.2 in (
+      ap (λ (l : Links). l.origin) (c.deref-then-eq.ensures ∙ sym c.deref.ensures) ∙ sym c.origin.ensures
+          ∙ (slice_eq-Decides signed_items _ _ _ c.eq.ensures).0 c.if-eq.true ∙ c.windows.ensures.windows,
+      ap (λ (l : Links). l.target) c.deref-then-eq.ensures ∙ leads
+          ∙ ap (λ (s : ℕ × List (List ℤ)). s.1) c.self.view_is,
+    )

@@ -1,0 +1,131 @@
+-- Groups of windows, the offsets that are permitted after them, and where they begin and end.
+use Rattle.std.proofs.Common.{◌≡◌, ℕ, ◌+◌, ◌-◌, ◌*◌, ◌/◌, ◌%◌, ◌^◌, ◌<◌, ◌≤◌, min, max, List, [], ◌∷◌, ◌++◌, length, drop, take}
+use Rattle.std.proofs.Common.{arith, ◌∙◌, sym, ap, inl, inr, subst, w8, refl, length-append}
+use Rattle.std.proofs.lemmas.Bool.{cases_eq, cases_lt}
+use Rattle.std.proofs.lemmas.Nat.Bits.{bit_at_set_same, bit_at_set_other, bit_at-zero}
+use Rattle.std.specs.Prelude.{ℤ, pos, ◌⊎◌, ◌↔◌, bit_or, Option, Some}
+use Rattle.std.specs.Int.{bit_at}
+use Rattle.std.specs.Option.{SomeIff}
+use Rattle.precedence.specs.Pairs.{HasBit}
+use Rattle.landing_rules.specs.Problem.{Problem}
+use Rattle.cps_nodes.specs.Leads.{TailMeetsHead}
+use Rattle.cps_network.specs.Begins.{BeginAt}
+use Rattle.cps_network.specs.Extended.{HasPermitted}
+use Rattle.cps_network.specs.Groups.{IsGroup}
+use Rattle.cps_network.specs.Lists.{IsAscending, node_at}
+use Rattle.cps_network.specs.Permits.{IsPermitted}
+use Rattle.cps_network.proofs.ListLemmas.{last_or_before}
+use Rattle.cps_network.proofs.SourceLemmas.{below_before, none_from, exact}
+use Rattle.std.proofs.lemmas.Grind.{common_steps}
+
+head_of : (xs : List ℤ) (x : ℤ) → take (length (xs ++ x ∷ []) - 1) (xs ++ x ∷ []) ≡ xs
+head_of xs x = grind (arith, common_steps)
+
+-- one bit more
+bit_added : (offsets k j : ℕ) → k < 8 → HasBit (bit_or offsets (1 * 2 ^ k % 256)) j ↔ (HasBit offsets j ⊎ (j ≡ k))
+bit_added offsets k j few = elim (cases_eq j k) [
+  | inl same ↦ (
+    λ _. inr same,
+    λ _. subst (λ (m : ℕ). bit_at (bit_or offsets (1 * 2 ^ k % 256)) m ≡ 1) (sym same)
+        (bit_at_set_same w8 offsets k few),
+  )
+  | inr other ↦
+      let kept : bit_at (bit_or offsets (1 * 2 ^ k % 256)) j ≡ bit_at offsets j =
+      bit_at_set_other w8 offsets k few j other in (
+        λ has. inl (sym kept ∙ has),
+        λ has. elim has [ inl old ↦ kept ∙ old | inr same ↦ absurd (other same) ],
+      )
+]
+
+-- the offset of a rank that is permitted
+pub rank_added : (offsets stage rank k at j : ℕ) (P : Type 0) → at < 8 → at + stage + 1 ≡ rank + k → P
+    → HasBit (bit_or offsets (1 * 2 ^ at % 256)) j ↔ (HasBit offsets j ⊎ ((j + stage + 1 ≡ rank + k) × P))
+rank_added offsets stage rank k at j P few e holds = (
+  λ has. elim ((bit_added offsets at j few).0 has) [
+    | inl old ↦ inl old
+    | inr same ↦ inr (omega (arith, same, e), holds)
+  ],
+  λ has. (bit_added offsets at j few).1 (elim has [ inl old ↦ inl old | inr new ↦ inr (omega (arith, new.0, e)) ]),
+)
+
+-- the offsets of the permitted ranks below one
+abbrev pub HasRanks : Problem → ℕ → List ℤ → ℕ → ℕ → Type 0
+HasRanks p stage xs offsets rank = (j : ℕ) → HasBit offsets j ↔ ((m : ℕ) × (m < rank) × (j + stage + 1 ≡ m + p.k)
+    × IsPermitted p stage xs m)
+
+pub no_ranks : (p : Problem) (stage : ℕ) (xs : List ℤ) (rank : ℕ) → rank ≤ max (stage + 1 - p.k) 1
+    → HasRanks p stage xs 0 rank
+no_ranks p stage xs rank low j = (
+  λ has. let z : bit_at 0 j ≡ 0 = bit_at-zero j in absurd (omega (arith, has, z)),
+  λ (m, lt, e, is). absurd (omega (arith, lt, is.from_one, is.late)),
+)
+
+pub more_ranks : (p : Problem) (stage : ℕ) (xs : List ℤ) (offsets more rank : ℕ) → HasRanks p stage xs offsets rank
+    → ((j : ℕ) → HasBit more j ↔ (HasBit offsets j ⊎ ((j + stage + 1 ≡ rank + p.k) × IsPermitted p stage xs rank)))
+    → HasRanks p stage xs more (rank + 1)
+more_ranks p stage xs offsets more rank are grew j = (
+  λ has. elim ((grew j).0 has) [
+    | inl old ↦ let m : (m : ℕ) × (m < rank) × (j + stage + 1 ≡ m + p.k) × IsPermitted p stage xs m =
+        (are j).0 old in (m.0, omega (arith, m.1), m.2, m.3)
+    | inr new ↦ (rank, omega arith, new.0, new.1)
+  ],
+  λ (m, lt, e, is). elim (last_or_before m rank lt) [
+    | inl same ↦ (grew j).1 (inr (omega (arith, e, same), subst (λ (q : ℕ). IsPermitted p stage xs q) same is))
+    | inr before ↦ (grew j).1 (inl ((are j).1 (m, before, e, is)))
+  ],
+)
+
+pub all_ranks : (p : Problem) (stage : ℕ) (xs : List ℤ) (offsets rank : ℕ)
+    → min (stage + 1 + p.k) (length p.flights) < rank → HasRanks p stage xs offsets rank
+    → HasPermitted p stage xs offsets
+all_ranks p stage xs offsets rank high are j = (
+  λ has. let m : (m : ℕ) × (m < rank) × (j + stage + 1 ≡ m + p.k) × IsPermitted p stage xs m = (are j).0 has in
+      let e : m.0 ≡ stage + 1 + j - p.k = omega (arith, m.2, m.3.late) in
+      subst (λ (q : ℕ). IsPermitted p stage xs q) e m.3,
+  λ is. (are j).1 (
+    stage + 1 + j - p.k,
+    omega (arith, is.early, is.to_count),
+    omega (arith, is.from_one),
+    is,
+  ),
+)
+
+-- the windows from a place on that share its tail are a group, where that before does not
+pub group_here : (before : List (List ℤ)) (from to : ℕ) → IsAscending before → from < length before
+    → (0 < from → drop 1 (node_at before (from - 1)) ≡ drop 1 (node_at before from) → ⊥)
+    → from ≤ to → to ≤ length before
+    → ((i : ℕ) → from ≤ i → i < to → drop 1 (node_at before i) ≡ drop 1 (node_at before from))
+    → (to < length before → drop 1 (node_at before to) ≡ drop 1 (node_at before from) → ⊥)
+    → IsGroup before from to
+group_here before from to up within first ordered short same ends = record {
+  some = longer (cases_lt from to);
+  within = short;
+  exact = λ j lt.
+      let range : TailMeetsHead (node_at before j) node ↔ ((from ≤ j) × (j < to)) =
+      exact before node from to up (below_before before node from up begins) (none_from before node from up begins)
+      ordered (λ i low high. same i low high ∙ sym head) (λ lt e. ends lt (e ∙ head)) j lt in
+      (λ e. range.0 (e ∙ sym head), λ r. range.1 r ∙ head);
+}
+  where
+    node : List ℤ
+    node = drop 1 (node_at before from) ++ pos 0 ∷ []
+
+    head : take (length node - 1) node ≡ drop 1 (node_at before from)
+    head = head_of (drop 1 (node_at before from)) (pos 0)
+
+    begins : BeginAt before node from
+    begins = record { within = within; leads = sym head; first = λ some e. first some (e ∙ head) }
+
+    longer : (from < to) ⊎ (to ≤ from) → from < to
+    longer (inl lt) = lt
+    longer (inr le) =
+        let e : to ≡ from = omega (arith, le, ordered) in
+        absurd (ends (omega (arith, e, within)) (ap (λ (q : ℕ). drop 1 (node_at before q)) e))
+
+-- where a group ends, the next begins
+pub next_begins : (before : List (List ℤ)) (from to : ℕ) → IsGroup before from to → to < length before
+    → drop 1 (node_at before (to - 1)) ≡ drop 1 (node_at before to) → ⊥
+next_begins before from to is lt e =
+    let last : drop 1 (node_at before (to - 1)) ≡ drop 1 (node_at before from) =
+    (is.exact (to - 1) (omega (arith, lt))).1 (omega (arith, is.some), omega (arith, is.some)) in
+    omega (arith, ((is.exact to lt).0 (sym e ∙ last)).1)

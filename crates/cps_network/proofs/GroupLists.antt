@@ -1,0 +1,62 @@
+-- Lists of the groups of a stage.
+use Rattle.std.proofs.Common.{◌≡◌, ℕ, ◌+◌, ◌-◌, ◌<◌, ◌≤◌, List, [], ◌∷◌, ◌++◌, length, length-append, drop, arith, subst}
+use Rattle.std.proofs.Common.{inl, inr}
+use Rattle.std.proofs.lemmas.Bool.{cases_lt}
+use Rattle.std.proofs.lemmas.List.Elements.{All-nil, All-push, Contains-append_left, Contains-push}
+use Rattle.std.proofs.lemmas.List.Sorted.{All-permutation, Contains-permutation}
+use Rattle.std.specs.List.Sorted.{IsPermutation}
+use Rattle.std.specs.Prelude.{ℤ, All, Contains}
+use Rattle.landing_rules.specs.Problem.{Problem}
+use Rattle.cps_network.specs.declared.groups.Group.{Group}
+use Rattle.cps_network.specs.Extended.{AreGroupsOf, IsGroupOf}
+use Rattle.cps_network.specs.Lists.{node_at}
+use Rattle.cps_network.proofs.GroupLemmas.{next_begins}
+
+-- the groups of the windows below a place, at which a group begins
+pub record AreGroupsUpto (p : Problem) (stage : ℕ) (before : List (List ℤ)) (groups : List Group) (from : ℕ)
+    : Type 0 where
+  pub each : All (IsGroupOf p stage before) groups
+  pub whole : (i : ℕ) → i < from → (group : Group) × Contains groups group × (group.from ≤ i) × (i < group.to)
+  pub begins : from < length before → 0 < from
+      → drop 1 (node_at before (from - 1)) ≡ drop 1 (node_at before from) → ⊥
+  pub short : from ≤ length before
+  pub few : length groups ≤ from
+
+pub no_groups : (p : Problem) (stage : ℕ) (before : List (List ℤ)) → AreGroupsUpto p stage before [] 0
+no_groups p stage before = record {
+  each = All-nil (IsGroupOf p stage before);
+  whole = λ i lt. absurd (omega (arith, lt));
+  begins = λ _ some. absurd (omega (arith, some));
+  short = omega arith;
+  few = omega arith;
+}
+
+pub more_groups : (p : Problem) (stage : ℕ) (before : List (List ℤ)) (groups : List Group) (group : Group)
+    → AreGroupsUpto p stage before groups group.from → IsGroupOf p stage before group
+    → AreGroupsUpto p stage before (groups ++ group ∷ []) group.to
+more_groups p stage before groups group are is = record {
+  each = All-push (IsGroupOf p stage before) groups group are.each is;
+  whole = λ i lt. elim (cases_lt i group.from) [
+    | inl past ↦
+        let old : (h : Group) × Contains groups h × (h.from ≤ i) × (i < h.to) = are.whole i past in
+        (old.0, Contains-append_left groups (group ∷ []) old.0 old.1, old.2, old.3)
+    | inr here ↦ (group, Contains-push groups group, here, lt)
+  ];
+  begins = λ lt some. next_begins before group.from group.to is.range lt;
+  short = is.range.within;
+  few = omega (arith, length-append groups (group ∷ []), are.few, is.range.some);
+}
+
+-- a list in another order has the same groups
+pub AreGroupsOf-permutation : (p : Problem) (stage : ℕ) (before : List (List ℤ)) (groups sorted : List Group)
+    → IsPermutation groups sorted → AreGroupsOf p stage before groups → AreGroupsOf p stage before sorted
+AreGroupsOf-permutation p stage before groups sorted moved are = record {
+  each = All-permutation (IsGroupOf p stage before) groups sorted moved are.each;
+  whole = λ i lt. let h : (h : Group) × Contains groups h × (h.from ≤ i) × (i < h.to) = are.whole i lt in
+      (h.0, Contains-permutation groups sorted h.0 moved h.1, h.2, h.3);
+}
+
+pub all_groups : (p : Problem) (stage : ℕ) (before : List (List ℤ)) (groups : List Group) (from : ℕ)
+    → length before ≤ from → AreGroupsUpto p stage before groups from → AreGroupsOf p stage before groups
+all_groups p stage before groups from end are =
+    record { each = are.each; whole = λ i lt. are.whole i (omega (arith, lt, end)) }

@@ -1,0 +1,54 @@
+-- Groups of the windows of a stage with the offsets that extend them, and the windows that so follow.
+use Rattle.std.specs.Prelude.{◌≡◌, ℕ, ℤ, pos, ◌+◌, ◌-◌, ◌/◌, ◌-ℤ◌, ◌<◌, ◌≤◌, ◌⊎◌, ◌↔◌, List, length, slice_index_or, All, Contains}
+use Rattle.precedence.specs.Pairs.{HasBit}
+use Rattle.cps_nodes.specs.Windows.{Accepts, shifted}
+use Rattle.landing_rules.specs.Problem.{Problem}
+use Rattle.cps_network.specs.declared.groups.Group.{Group}
+use Rattle.cps_network.specs.Groups.{IsGroup}
+use Rattle.cps_network.specs.Lists.{node_at}
+use Rattle.cps_network.specs.Permits.{IsPermitted}
+
+-- a set has bit k + offset exactly where the rank that lands at this offset is permitted
+abbrev pub HasPermitted : Problem → ℕ → List ℤ → ℕ → Type 0
+HasPermitted p stage xs offsets = (j : ℕ) → HasBit offsets j ↔ IsPermitted p stage xs (stage + 1 + j - p.k)
+
+-- a range of windows of a stage that share a tail, with the offsets of the ranks that are permitted after them
+pub record IsGroupOf (p : Problem) (stage : ℕ) (before : List (List ℤ)) (group : Group) : Type 0 where
+  pub range : IsGroup before group.from group.to
+  pub permitted : HasPermitted p stage (node_at before group.from) group.offsets
+
+-- the groups of a stage: each window is of one
+pub record AreGroupsOf (p : Problem) (stage : ℕ) (before : List (List ℤ)) (groups : List Group) : Type 0 where
+  pub each : All (IsGroupOf p stage before) groups
+  pub whole : (i : ℕ) → i < length before → (group : Group) × Contains groups group × (group.from ≤ i) × (i < group.to)
+
+-- the range of each group is that of all windows that share one tail
+abbrev pub AreRanges : List (List ℤ) → List Group → Type 0
+AreRanges before groups = All (λ group. IsGroup before group.from group.to) groups
+
+-- the offset that a bit of a set stands for
+abbrev pub offset_of : ℕ → ℕ → ℤ
+offset_of width j = pos j -ℤ pos (width / 2)
+
+-- the front window of a group accepts each offset of the group
+pub record IsExtendable (width : ℕ) (before : List (List ℤ)) (group : Group) : Type 0 where
+  pub within : group.from < length before
+  pub accepted : (j : ℕ) → HasBit group.offsets j → Accepts (node_at before group.from) (offset_of width j)
+
+-- a window extends the front window of a group by one of the group's offsets
+pub record FollowsBy (width : ℕ) (before : List (List ℤ)) (group : Group) (j : ℕ) (next : List ℤ) : Type 0 where
+  pub offset : HasBit group.offsets j
+  pub is : next ≡ shifted (node_at before group.from) (offset_of width j)
+
+-- the group at a place of a list
+abbrev pub group_at : List Group → ℕ → Group
+group_at groups i = slice_index_or groups i (record { from = 0; to = 0; order = 0; offsets = 0 })
+
+-- a window does so for the group at a place, by one of the offsets from -k to k
+abbrev pub Follows : ℕ → List (List ℤ) → List Group → ℕ → List ℤ → Type 0
+Follows width before groups i next = (j : ℕ) × (j < width) × FollowsBy width before (group_at groups i) j next
+
+-- a list has grown by what the places of a range add
+abbrev pub HasGrownBy : (ℕ → List ℤ → Type 0) → ℕ → ℕ → List (List ℤ) → List (List ℤ) → Type 0
+HasGrownBy Adds from to start now = (x : List ℤ) → Contains now x
+    ↔ (Contains start x ⊎ ((i : ℕ) × (from ≤ i) × (i < to) × Adds i x))

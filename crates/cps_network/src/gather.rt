@@ -1,0 +1,145 @@
+//! The windows of the next stage, gathered from groups.
+
+ghost use Rattle.std.specs.Prelude.{◌≡◌, ℕ, pos, ◌+◌, ◌-◌, ◌*◌, ◌/◌, ◌<◌, ◌≤◌, ◌⊎◌, ◌↔◌, length, All, OnOk, Contains, [], ◌∷◌, ◌++◌};
+ghost use Rattle.precedence.specs.Pairs.{HasBit};
+ghost use Rattle.cps_nodes.specs.Windows.{IsWidth};
+ghost use Rattle.cps_network.specs.Extended.{Follows, FollowsBy, HasGrownBy, IsExtendable, group_at, offset_of};
+
+use crate::groups::Group;
+use cps_nodes::Window;
+use std::alloc::{AllocError, Global};
+
+// The windows of a stage as they are gathered.
+#[derive(Drop)]
+pub(crate) struct Gathered<const W: usize> {
+    pub(crate) windows: Vec<Window<W>>,
+    // For each window the place of the group that leads to it, where links are wanted.
+    pub(crate) places: Vec<u32>,
+    pub(crate) are_linked: bool,
+}
+
+impl<const W: usize> Gathered<W> {
+    // Adds a window to which the group at a place leads.
+    fn push(&mut self, window: Window<W>, place: usize) -> Result<(), AllocError>
+        requires { place ≤ 823543 }
+        ensures { OnOk result (self.new.windows.items ≡ self.old.windows.items ++ window.entry ∷ []) }
+    {
+        self.windows.push(window)?;
+        if self.are_linked {
+            self.places.push(place as u32)?;
+        }
+        Ok(())
+    }
+}
+
+// The offset that a bit stands for.
+#[inline]
+fn offset_of<const W: usize>(j: u8) -> i8
+    requires width { IsWidth W }
+    requires bit { j < W }
+    ensures { result ≡ offset_of W j }
+{
+    j as i8 - (W / 2) as i8
+}
+
+// Adds the window that follows a group by the offset of a bit, where the group has the bit.
+fn add_next<const W: usize>(
+    before: &[Window<W>],
+    group: Group,
+    j: u8,
+    place: usize,
+    gathered: &mut Gathered<W>,
+) -> Result<(), AllocError>
+    requires width { IsWidth W }
+    requires bit { j < W }
+    requires group { IsExtendable W before.now group }
+    requires few { place ≤ 823543 }
+    ensures { OnOk result ((x : _) → Contains gathered.new.windows.items x
+        ↔ (Contains gathered.old.windows.items x ⊎ FollowsBy W before.now group j x)) }
+{
+    if !group.has(j) {
+        return Ok(());
+    }
+    let next = before[group.from as usize].after(offset_of::<W>(j));
+    gathered.push(next, place)?;
+    Ok(())
+}
+
+// Adds for each group of a block the window that follows by the offset of a bit.
+fn add_by<const W: usize>(
+    before: &[Window<W>],
+    groups: &[Group],
+    block: (usize, usize),
+    j: u8,
+    gathered: &mut Gathered<W>,
+) -> Result<(), AllocError>
+    requires width { IsWidth W }
+    requires bit { j < W }
+    requires groups { All (IsExtendable W before.now) groups.now }
+    requires few { length groups.now ≤ 823543 }
+    requires block { (block.0 ≤ block.1) × (block.1 ≤ length groups.now) }
+    ensures { OnOk result (HasGrownBy (λ i x. FollowsBy W before.now (group_at groups.now i) j x)
+        block.0 block.1 gathered.old.windows.items gathered.new.windows.items) }
+{
+    for place in block.0..block.1 {
+        add_next(before, groups[place], j, place, gathered)?;
+    }
+    Ok(())
+}
+
+// Adds the windows that follow the groups of a block, which stand in order offset by offset.
+fn add_block<const W: usize>(
+    before: &[Window<W>],
+    groups: &[Group],
+    block: (usize, usize),
+    gathered: &mut Gathered<W>,
+) -> Result<(), AllocError>
+    requires width { IsWidth W }
+    requires groups { All (IsExtendable W before.now) groups.now }
+    requires few { length groups.now ≤ 823543 }
+    requires block { (block.0 ≤ block.1) × (block.1 ≤ length groups.now) }
+    ensures { OnOk result (HasGrownBy (Follows W before.now groups.now) block.0 block.1
+        gathered.old.windows.items gathered.new.windows.items) }
+{
+    for j in 0..W as u8 {
+        add_by(before, groups, block, j, gathered)?;
+    }
+    Ok(())
+}
+
+// The first place behind this one whose group leads to windows further on.
+fn end_of_block(groups: &[Group], from: usize) -> usize
+    requires within { from < length groups.now }
+    requires few { length groups.now ≤ 823543 }
+    ensures { (from < result) × (result ≤ length groups.now) }
+{
+    let order = groups[from].order;
+    (from + 1..groups.len())
+        .find(
+            |to: &usize| -> bool
+                requires { to.now < length groups.now }
+            { groups[*to].order != order },
+        )
+        .unwrap_or(groups.len())
+}
+
+// Adds the windows that follow groups. Where the groups stand in the order of what they lead to, they do too.
+pub(crate) fn gather<const W: usize>(
+    before: &[Window<W>],
+    groups: &[Group],
+    gathered: &mut Gathered<W>,
+) -> Result<(), AllocError>
+    requires width { IsWidth W }
+    requires groups { All (IsExtendable W before.now) groups.now }
+    requires few { length groups.now ≤ 823543 }
+    ensures { OnOk result (HasGrownBy (Follows W before.now groups.now) 0 (length groups.now)
+        gathered.old.windows.items gathered.new.windows.items) }
+{
+    let mut from = 0;
+    while from < groups.len() {
+        let to = end_of_block(groups, from);
+        add_block(before, groups, (from, to), gathered)?;
+        from = to;
+    }
+    Ok(())
+}
