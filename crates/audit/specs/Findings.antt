@@ -1,5 +1,5 @@
 -- A finding as the rules name it.
-use Rattle.std.specs.Prelude.{ℕ, ◌≤◌, Bool, List, [], ◌∷◌, Option, find, nat_lt, option_map, if◌then◌else◌}
+use Rattle.std.specs.Prelude.{◌≡◌, ℕ, ◌≤◌, Bool, List, [], ◌∷◌, ◌++◌, Option, find, map, nat_lt, option_map, if◌then◌else◌}
 use Rattle.landing_rules.specs.Events.{named}
 use Rattle.landing_rules.specs.Flights.{Active, Landing}
 use Rattle.landing_rules.specs.Limits.{greatest_weight}
@@ -24,6 +24,10 @@ finding_of (code.Early c) = rules.Early c
 finding_of (code.Shift c p r) = rules.Shift c p r
 finding_of code.OtherObjective = rules.OtherObjective
 finding_of (code.Value v) = rules.Value v
+
+-- the findings grew by these
+abbrev pub Finds : List Finding → List Finding → List rules.Finding → Type 0
+Finds old new found = map finding_of new ≡ map finding_of old ++ found
 
 -- what is found of a line whose callsign was seen above, or was not
 abbrev pub repeated : Bool → List ℕ → List rules.Finding

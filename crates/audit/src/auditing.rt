@@ -1,15 +1,14 @@
 // All findings of a block.
-ghost use Rattle.std.specs.Prelude.{◌≡◌, ◌≤◌, ◌↔◌, [], IfOk, length, map};
+ghost use Rattle.std.specs.Prelude.{◌≡◌, ◌≤◌, ◌↔◌, [], IfOk, OnOk, length, map};
 ghost use Rattle.landing_rules.specs.Limits.{most_flights};
 ghost use Rattle.landing_rules.specs.Sound.{IsSound};
 ghost use Rattle.landing_rules.specs.Audit.{IsClean, by_line, by_rules, findings, landing_of, lines_found};
-ghost use Rattle.audit.specs.Findings.{finding_of};
+ghost use Rattle.audit.specs.Findings.{finding_of, Finds};
 ghost use Rattle.plan_file.specs.Blocks.{seen_block};
 
 use crate::Finding;
 use crate::found::{Found, lines_found, mismarked};
 use crate::head::by_head;
-use crate::joining::joined;
 use crate::names::by_name;
 use crate::order::disordered;
 use crate::rules::{closed, early, late, moved, unseparated};
@@ -24,19 +23,19 @@ fn by_rules(
     alloc: Global,
     situation: &Situation,
     found: &[Found],
-) -> Result<Vec<Finding>, AllocError>
+    all: &mut Vec<Finding>,
+) -> Result<(), AllocError>
     requires { length found.now ≤ most_flights }
-    ensures { IfOk result (λ all. map finding_of all.items
-        ≡ by_rules situation.now (map landing_of found.now)) }
+    ensures { OnOk result (Finds all.old.items all.new.items
+        (by_rules situation.now (map landing_of found.now))) }
 {
     let fixed = situation.fixed();
-    // From the last rule to the first: each stands before the rest.
-    let rest = shifted(alloc, fixed.k, found)?;
-    let rest = joined(early(alloc, situation.horizon(), found)?, rest)?;
-    let rest = joined(moved(alloc, found)?, rest)?;
-    let rest = joined(late(alloc, found)?, rest)?;
-    let rest = joined(unseparated(alloc, &fixed.table, found)?, rest)?;
-    joined(closed(alloc, situation, found)?, rest)
+    closed(situation, found, all)?;
+    unseparated(&fixed.table, found, all)?;
+    late(found, all)?;
+    moved(found, all)?;
+    early(situation.horizon(), found, all)?;
+    shifted(alloc, fixed.k, found, all)
 }
 
 // What is found where the names are right: of the lines, of the rules and of the first line.
@@ -45,19 +44,19 @@ fn by_line(
     situation: &Situation,
     block: &Block,
     found: &[Found],
-) -> Result<Vec<Finding>, AllocError>
+    all: &mut Vec<Finding>,
+) -> Result<(), AllocError>
     requires found { found.now ≡ lines_found situation.now.active block.now.lines }
     requires sound { IsSound situation.now }
     requires few { length block.now.lines ≤ most_flights }
-    ensures { IfOk result (λ all. map finding_of all.items
-        ≡ by_line situation.now (seen_block block.now)) }
+    ensures { OnOk result (Finds all.old.items all.new.items
+        (by_line situation.now (seen_block block.now))) }
 {
     let meant = situation.fixed().objective;
-    // From the last to the first: each stands before the rest.
-    let rest = by_head(alloc, meant, block.objective, block.value, found)?;
-    let rest = joined(by_rules(alloc, situation, found)?, rest)?;
-    let rest = joined(mismarked(alloc, found)?, rest)?;
-    joined(disordered(alloc, block.lines.all())?, rest)
+    disordered(block.lines.all(), all)?;
+    mismarked(found, all)?;
+    by_rules(alloc, situation, found, all)?;
+    by_head(meant, block.objective, block.value, found, all)
 }
 
 // The findings of a block: of the names, and where they are right of the rest.
@@ -70,12 +69,12 @@ fn found_in(alloc: Global, situation: &Situation, block: &Block) -> Result<Vec<F
     let active = situation.flights();
     let lines = block.lines.all();
     let found = lines_found(alloc, active, lines)?;
-    let names = by_name(alloc, active, lines, found.len())?;
-    if names.is_empty() {
-        by_line(alloc, situation, block, &found)
-    } else {
-        Ok(names)
+    let mut all = Vec::new(alloc);
+    by_name(alloc, active, lines, found.len(), &mut all)?;
+    if all.is_empty() {
+        by_line(alloc, situation, block, &found, &mut all)?;
     }
+    Ok(all)
 }
 
 /// Every rule that a plan block breaks in a situation, in this order: each active flight without a line, in order of

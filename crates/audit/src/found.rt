@@ -3,7 +3,7 @@ ghost use Rattle.std.specs.Prelude.{◌≡◌, ◌++◌, [], IfOk, OnOk, map};
 ghost use Rattle.std.specs.List.{cons_option};
 ghost use Rattle.landing_rules.specs.Audit.{lines_found, is_marked, mismarked};
 ghost use Rattle.plan_file.specs.Shown.{shown_of};
-ghost use Rattle.audit.specs.Findings.{finding_of, one_found};
+ghost use Rattle.audit.specs.Findings.{Finds, one_found};
 
 use crate::Finding;
 use cps_base::Callsign;
@@ -88,12 +88,13 @@ fn is_marked(found: &Found) -> bool
 }
 
 // Each line whose last word is not the flight's state.
-pub(crate) fn mismarked(alloc: Global, found: &[Found]) -> Result<Vec<Finding>, AllocError>
-    ensures { IfOk result (λ all. map finding_of all.items ≡ mismarked found.now) }
+pub(crate) fn mismarked(found: &[Found], all: &mut Vec<Finding>) -> Result<(), AllocError>
+    ensures { OnOk result (Finds all.old.items all.new.items (mismarked found.now)) }
 {
-    found
-        .iter()
-        .filter(|f| !is_marked(f))
-        .map(|f| Finding::Mark(f.line.callsign))
-        .collect(alloc)
+    all.extend(
+        found
+            .iter()
+            .filter(|f| !is_marked(f))
+            .map(|f| Finding::Mark(f.line.callsign)),
+    )
 }

@@ -1,15 +1,14 @@
 // What the first line of a block says.
-ghost use Rattle.std.specs.Prelude.{◌≡◌, ◌≤◌, ◌*◌, ◌++◌, All, IfOk, length, map, sum_by};
+ghost use Rattle.std.specs.Prelude.{◌≡◌, ◌≤◌, ◌*◌, ◌++◌, All, OnOk, length, map, sum_by};
 ghost use Rattle.landing_rules.specs.Audit.{is_objective, landing_of, other_objective, other_value};
 ghost use Rattle.landing_rules.specs.Limits.{most_flights};
 ghost use Rattle.landing_rules.specs.Rules.{cost, delay, greatest};
-ghost use Rattle.audit.specs.Findings.{finding_of, HasSmallWeight};
+ghost use Rattle.audit.specs.Findings.{Finds, HasSmallWeight};
 
 use crate::Finding;
 use crate::found::Found;
-use crate::joining::joined;
 use landing_rules::Objective;
-use std::alloc::{AllocError, Global};
+use std::alloc::AllocError;
 
 // Whether two objectives are the same.
 fn is_objective(said: Objective, meant: Objective) -> bool
@@ -20,17 +19,16 @@ fn is_objective(said: Objective, meant: Objective) -> bool
 
 // Where the block's word is not the aerodrome's.
 fn other_objective(
-    alloc: Global,
     said: Objective,
     meant: Objective,
-) -> Result<Vec<Finding>, AllocError>
-    ensures { IfOk result (λ all. map finding_of all.items ≡ other_objective said meant) }
+    all: &mut Vec<Finding>,
+) -> Result<(), AllocError>
+    ensures { OnOk result (Finds all.old.items all.new.items (other_objective said meant)) }
 {
-    let mut all = Vec::new(alloc);
     if !is_objective(said, meant) {
         all.push(Finding::OtherObjective)?;
     }
-    Ok(all)
+    Ok(())
 }
 
 // The second that the line says.
@@ -82,31 +80,29 @@ fn value_of(objective: Objective, found: &[Found]) -> u64
 }
 
 // Where the block's number is not the value.
-fn other_value(alloc: Global, said: u64, value: u64) -> Result<Vec<Finding>, AllocError>
-    ensures { IfOk result (λ all. map finding_of all.items ≡ other_value said value) }
+fn other_value(said: u64, value: u64, all: &mut Vec<Finding>) -> Result<(), AllocError>
+    ensures { OnOk result (Finds all.old.items all.new.items (other_value said value)) }
 {
-    let mut all = Vec::new(alloc);
     if value != said {
         all.push(Finding::Value(value))?;
     }
-    Ok(all)
+    Ok(())
 }
 
 // What is wrong with the first line, by the aerodrome's objective.
 pub(crate) fn by_head(
-    alloc: Global,
     meant: Objective,
     said: Objective,
     number: u64,
     found: &[Found],
-) -> Result<Vec<Finding>, AllocError>
+    all: &mut Vec<Finding>,
+) -> Result<(), AllocError>
     requires few { length found.now ≤ most_flights }
     requires small { All HasSmallWeight found.now }
-    ensures { IfOk result (λ all. map finding_of all.items ≡ other_objective said meant
-        ++ other_value number (cost meant (map landing_of found.now))) }
+    ensures { OnOk result (Finds all.old.items all.new.items (other_objective said meant
+        ++ other_value number (cost meant (map landing_of found.now)))) }
 {
-    let words = other_objective(alloc, said, meant)?;
     let value = value_of(meant, found);
-    let numbers = other_value(alloc, number, value)?;
-    joined(words, numbers)
+    other_objective(said, meant, all)?;
+    other_value(number, value, all)
 }

@@ -5,7 +5,6 @@ mod auditing;
 mod finding;
 mod found;
 mod head;
-mod joining;
 pub mod laws;
 mod names;
 mod order;

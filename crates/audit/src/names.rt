@@ -1,15 +1,14 @@
 // Whether the lines name each active flight, no other, and none twice.
-ghost use Rattle.std.specs.Prelude.{◌≡◌, ◌++◌, ℕ, List, [], IfOk, OnOk, length, map};
+ghost use Rattle.std.specs.Prelude.{◌≡◌, ◌++◌, ℕ, List, [], OnOk, length, map};
 ghost use Rattle.landing_rules.specs.Audit.{by_name, has_line, lines_found, missing, twice, unknown};
 ghost use Rattle.landing_rules.specs.Events.{named};
 ghost use Rattle.std.specs.List.{list_any};
 ghost use Rattle.plan_file.specs.Shown.{shown_of};
-ghost use Rattle.audit.specs.Findings.{finding_of, repeated};
+ghost use Rattle.audit.specs.Findings.{Finds, repeated};
 ghost use Rattle.audit.specs.Seen.{has_name};
 
 use crate::Finding;
 use crate::found::name_of;
-use crate::joining::joined;
 use crate::seen::Seen;
 use cps_base::Callsign;
 use plan_file::Landing;
@@ -18,20 +17,21 @@ use std::alloc::{AllocError, Global};
 
 // Each active flight without a line, in order of arrival.
 fn missing(
-    alloc: Global,
     active: &[Active],
     lines: &[Landing],
     seen: &Seen,
-) -> Result<Vec<Finding>, AllocError>
+    all: &mut Vec<Finding>,
+) -> Result<(), AllocError>
     requires { (c : List ℕ) → has_name seen.now c ≡ has_line (map shown_of lines.now) c }
-    ensures { IfOk result (λ all. map finding_of all.items
-        ≡ missing active.now (map shown_of lines.now)) }
+    ensures { OnOk result (Finds all.old.items all.new.items
+        (missing active.now (map shown_of lines.now))) }
 {
-    active
-        .iter()
-        .filter(|a| !seen.has(name_of(a)))
-        .map(|a| Finding::Missing(name_of(a)))
-        .collect(alloc)
+    all.extend(
+        active
+            .iter()
+            .filter(|a| !seen.has(name_of(a)))
+            .map(|a| Finding::Missing(name_of(a))),
+    )
 }
 
 // Whether a flight of this name is active.
@@ -42,39 +42,39 @@ fn is_active(active: &[Active], callsign: Callsign) -> bool
 }
 
 // Each line that names no active flight.
-fn unknown(alloc: Global, active: &[Active], lines: &[Landing]) -> Result<Vec<Finding>, AllocError>
-    ensures { IfOk result (λ all. map finding_of all.items
-        ≡ unknown active.now (map shown_of lines.now)) }
+fn unknown(active: &[Active], lines: &[Landing], all: &mut Vec<Finding>) -> Result<(), AllocError>
+    ensures { OnOk result (Finds all.old.items all.new.items
+        (unknown active.now (map shown_of lines.now))) }
 {
-    lines
-        .iter()
-        .filter(|l| !is_active(active, l.callsign))
-        .map(|l| Finding::Unknown(l.callsign))
-        .collect(alloc)
+    all.extend(
+        lines
+            .iter()
+            .filter(|l| !is_active(active, l.callsign))
+            .map(|l| Finding::Unknown(l.callsign)),
+    )
 }
 
 // The same where the flights of so many lines were found: with those of all there is none to look for.
 fn unknown_unless(
-    alloc: Global,
     active: &[Active],
     lines: &[Landing],
     found: usize,
-) -> Result<Vec<Finding>, AllocError>
+    all: &mut Vec<Finding>,
+) -> Result<(), AllocError>
     requires { found
         ≡ length (lines_found active.now (map shown_of lines.now)) }
-    ensures { IfOk result (λ all. map finding_of all.items
-        ≡ unknown active.now (map shown_of lines.now)) }
+    ensures { OnOk result (Finds all.old.items all.new.items
+        (unknown active.now (map shown_of lines.now))) }
 {
     if found == lines.len() {
-        return Ok(Vec::new(alloc));
+        return Ok(());
     }
-    unknown(alloc, active, lines)
+    unknown(active, lines, all)
 }
 
 // Notes a line whose callsign was seen.
-fn note(all: &mut Vec<Finding>, was_seen: bool, callsign: Callsign) -> Result<(), AllocError>
-    ensures { OnOk result (map finding_of all.new.items ≡ map finding_of all.old.items
-        ++ repeated was_seen callsign) }
+fn note(was_seen: bool, callsign: Callsign, all: &mut Vec<Finding>) -> Result<(), AllocError>
+    ensures { OnOk result (Finds all.old.items all.new.items (repeated was_seen callsign)) }
 {
     if was_seen {
         all.push(Finding::Twice(callsign))?;
@@ -83,36 +83,39 @@ fn note(all: &mut Vec<Finding>, was_seen: bool, callsign: Callsign) -> Result<()
 }
 
 // Each line whose callsign an earlier line has. Then those of all lines are seen.
-fn twice(alloc: Global, lines: &[Landing], seen: &mut Seen) -> Result<Vec<Finding>, AllocError>
+fn twice(lines: &[Landing], seen: &mut Seen, all: &mut Vec<Finding>) -> Result<(), AllocError>
     requires { seen.old ≡ [] }
-    ensures found { IfOk result (λ all. map finding_of all.items ≡ twice
-        (map shown_of lines.now)) }
+    ensures found { OnOk result (Finds all.old.items all.new.items
+        (twice (map shown_of lines.now))) }
     ensures seen { OnOk result ((c : List ℕ) → has_name seen.new c
         ≡ has_line (map shown_of lines.now) c) }
 {
-    let mut all = Vec::new(alloc);
     for line in lines {
         let was_seen = seen.add(line.callsign)?;
-        note(&mut all, was_seen, line.callsign)?;
+        note(was_seen, line.callsign, all)?;
     }
-    Ok(all)
+    Ok(())
 }
 
-// Each active flight without a line, and each line whose callsign an earlier line has.
-fn missing_and_twice(
-    alloc: Global,
+// The same where the callsigns of the lines were seen, and which stand there again.
+fn by_seen(
     active: &[Active],
     lines: &[Landing],
-) -> Result<(Vec<Finding>, Vec<Finding>), AllocError>
-    ensures missing { IfOk result (λ both. map finding_of both.0.items
-        ≡ missing active.now (map shown_of lines.now)) }
-    ensures twice { IfOk result (λ both. map finding_of both.1.items
-        ≡ twice (map shown_of lines.now)) }
+    found: usize,
+    seen: &Seen,
+    again: &mut Vec<Finding>,
+    all: &mut Vec<Finding>,
+) -> Result<(), AllocError>
+    requires found { found
+        ≡ length (lines_found active.now (map shown_of lines.now)) }
+    requires seen { (c : List ℕ) → has_name seen.now c ≡ has_line (map shown_of lines.now) c }
+    requires again { Finds [] again.old.items (twice (map shown_of lines.now)) }
+    ensures { OnOk result (Finds all.old.items all.new.items
+        (by_name active.now (map shown_of lines.now))) }
 {
-    let mut seen = Seen::new(alloc);
-    let twice = twice(alloc, lines, &mut seen)?;
-    let missing = missing(alloc, active, lines, &seen)?;
-    Ok((missing, twice))
+    missing(active, lines, seen, all)?;
+    unknown_unless(active, lines, found, all)?;
+    all.append(again)
 }
 
 // What is wrong with the names: each active flight without a line, each line that names none, each that names one again.
@@ -121,13 +124,15 @@ pub(crate) fn by_name(
     active: &[Active],
     lines: &[Landing],
     found: usize,
-) -> Result<Vec<Finding>, AllocError>
+    all: &mut Vec<Finding>,
+) -> Result<(), AllocError>
     requires { found
         ≡ length (lines_found active.now (map shown_of lines.now)) }
-    ensures { IfOk result (λ all. map finding_of all.items
-        ≡ by_name active.now (map shown_of lines.now)) }
+    ensures { OnOk result (Finds all.old.items all.new.items
+        (by_name active.now (map shown_of lines.now))) }
 {
-    let unknown = unknown_unless(alloc, active, lines, found)?;
-    let (missing, twice) = missing_and_twice(alloc, active, lines)?;
-    joined(missing, joined(unknown, twice)?)
+    let mut seen = Seen::new(alloc);
+    let mut again = Vec::new(alloc);
+    twice(lines, &mut seen, &mut again)?;
+    by_seen(active, lines, found, &seen, &mut again, all)
 }

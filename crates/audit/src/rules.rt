@@ -1,16 +1,16 @@
 // The rules over the lines of a block, each with its flight.
-ghost use Rattle.std.specs.Prelude.{◌≡◌, IfOk, flat_map, map};
+ghost use Rattle.std.specs.Prelude.{◌≡◌, OnOk, flat_map, map};
 ghost use Rattle.landing_rules.specs.Rules.{is_open};
 ghost use Rattle.landing_rules.specs.Audit.{landing_of, closed, are_apart, unseparated, for_failing, Separation, is_before, late, listed_late, is_kept, moved, is_late_enough, early};
 ghost use Rattle.landing_rules.specs.Flights.{horizon, Landing};
-ghost use Rattle.audit.specs.Findings.{finding_of};
+ghost use Rattle.audit.specs.Findings.{Finds};
 
 use crate::Finding;
 use crate::found::Found;
 use cps_base::Callsign;
 use landing_windows::Closures;
 use situations::{Situation, is_open};
-use std::alloc::{AllocError, Global};
+use std::alloc::AllocError;
 use wake_table::PairTable;
 
 // Whether the line's second is open for its flight.
@@ -22,19 +22,19 @@ fn is_at_open_second(closures: &Closures, found: &Found) -> bool
 
 // Each landing at a second that is not open.
 pub(crate) fn closed(
-    alloc: Global,
     situation: &Situation,
     found: &[Found],
-) -> Result<Vec<Finding>, AllocError>
-    ensures { IfOk result (λ all. map finding_of all.items
-        ≡ closed situation.now (map landing_of found.now)) }
+    all: &mut Vec<Finding>,
+) -> Result<(), AllocError>
+    ensures { OnOk result (Finds all.old.items all.new.items (closed situation.now (map landing_of found.now))) }
 {
     let closures = situation.closures();
-    found
-        .iter()
-        .filter(|f| !is_at_open_second(closures, f))
-        .map(|f| Finding::Closed(f.active.flight.callsign, f.line.second))
-        .collect(alloc)
+    all.extend(
+        found.iter().filter(|f| !is_at_open_second(closures, f)).map(|f| Finding::Closed(
+            f.active.flight.callsign,
+            f.line.second,
+        )),
+    )
 }
 
 // Whether two landings are the table's time apart, whichever is the earlier.
@@ -46,38 +46,35 @@ fn are_apart(table: &PairTable, f: &Found, g: &Found) -> bool
 
 // Each of the others that is not the table's time from the first.
 fn unseparated_from(
-    alloc: Global,
     table: &PairTable,
     first: &Found,
     others: &[Found],
-) -> Result<Vec<Finding>, AllocError>
-    ensures { IfOk result (λ all. map finding_of all.items
-        ≡ for_failing (are_apart table.now (landing_of first.now))
+    all: &mut Vec<Finding>,
+) -> Result<(), AllocError>
+    ensures { OnOk result (Finds all.old.items all.new.items (for_failing (are_apart table.now (landing_of first.now))
         (λ (g : Landing). Separation first.now.1.flight.callsign g.flight.callsign)
-        (map landing_of others.now)) }
+        (map landing_of others.now))) }
 {
-    others
-        .iter()
-        .filter(|g| !are_apart(table, first, g))
-        .map(|g| Finding::Separation(first.active.flight.callsign, g.active.flight.callsign))
-        .collect(alloc)
+    all.extend(
+        others.iter().filter(|g| !are_apart(table, first, g)).map(|g| Finding::Separation(
+            first.active.flight.callsign,
+            g.active.flight.callsign,
+        )),
+    )
 }
 
 // Each two landings, neighbours or not, that are not the table's time apart.
 pub(crate) fn unseparated(
-    alloc: Global,
     table: &PairTable,
     found: &[Found],
-) -> Result<Vec<Finding>, AllocError>
-    ensures { IfOk result (λ all. map finding_of all.items
-        ≡ unseparated table.now (map landing_of found.now)) }
+    all: &mut Vec<Finding>,
+) -> Result<(), AllocError>
+    ensures { OnOk result (Finds all.old.items all.new.items (unseparated table.now (map landing_of found.now))) }
 {
-    let mut all = Vec::new(alloc);
     for i in 0..found.len() {
-        let mut more = unseparated_from(alloc, table, &found[i], &found[i + 1..])?;
-        all.append(&mut more)?;
+        unseparated_from(table, &found[i], &found[i + 1..], all)?;
     }
-    Ok(all)
+    Ok(())
 }
 
 // Whether the landing is before d, or is not the one of the callsign.
@@ -89,45 +86,40 @@ fn is_before(d: &Found, callsign: Callsign, f: &Found) -> bool
 
 // The flight of the callsign, which d lists, where it is active and does not land before d.
 fn listed_late(
-    alloc: Global,
     found: &[Found],
     d: &Found,
     callsign: Callsign,
-) -> Result<Vec<Finding>, AllocError>
-    ensures { IfOk result (λ all. map finding_of all.items
-        ≡ listed_late (map landing_of found.now) (landing_of d.now) callsign) }
+    all: &mut Vec<Finding>,
+) -> Result<(), AllocError>
+    ensures { OnOk result (Finds all.old.items all.new.items (listed_late (map landing_of found.now) (landing_of d.now) callsign)) }
 {
-    found
-        .iter()
-        .filter(|f| !is_before(d, callsign, f))
-        .map(|_| Finding::Precedence(callsign, d.active.flight.callsign))
-        .collect(alloc)
+    all.extend(
+        found.iter().filter(|f| !is_before(d, callsign, f)).map(|_| Finding::Precedence(
+            callsign,
+            d.active.flight.callsign,
+        )),
+    )
 }
 
 // Each active flight that d lists and that doesn't land before it, in the order of its list.
-fn late_for(alloc: Global, found: &[Found], d: &Found) -> Result<Vec<Finding>, AllocError>
-    ensures { IfOk result (λ all. map finding_of all.items
-        ≡ flat_map (listed_late (map landing_of found.now) (landing_of d.now))
-        d.now.1.flight.after) }
+fn late_for(found: &[Found], d: &Found, all: &mut Vec<Finding>) -> Result<(), AllocError>
+    ensures { OnOk result (Finds all.old.items all.new.items (flat_map (listed_late (map landing_of found.now) (landing_of d.now))
+        d.now.1.flight.after)) }
 {
-    let mut all = Vec::new(alloc);
     for callsign in d.active.flight.after.names() {
-        let mut more = listed_late(alloc, found, d, *callsign)?;
-        all.append(&mut more)?;
+        listed_late(found, d, *callsign, all)?;
     }
-    Ok(all)
+    Ok(())
 }
 
 // Line by line, each active flight of the line's list that does not land before it, in the order of the list.
-pub(crate) fn late(alloc: Global, found: &[Found]) -> Result<Vec<Finding>, AllocError>
-    ensures { IfOk result (λ all. map finding_of all.items ≡ late (map landing_of found.now)) }
+pub(crate) fn late(found: &[Found], all: &mut Vec<Finding>) -> Result<(), AllocError>
+    ensures { OnOk result (Finds all.old.items all.new.items (late (map landing_of found.now))) }
 {
-    let mut all = Vec::new(alloc);
     for d in found {
-        let mut more = late_for(alloc, found, d)?;
-        all.append(&mut more)?;
+        late_for(found, d, all)?;
     }
-    Ok(all)
+    Ok(())
 }
 
 // Whether a frozen flight is at its second.
@@ -141,14 +133,15 @@ fn is_kept(found: &Found) -> bool
 }
 
 // Each frozen flight that is not at its second.
-pub(crate) fn moved(alloc: Global, found: &[Found]) -> Result<Vec<Finding>, AllocError>
-    ensures { IfOk result (λ all. map finding_of all.items ≡ moved (map landing_of found.now)) }
+pub(crate) fn moved(found: &[Found], all: &mut Vec<Finding>) -> Result<(), AllocError>
+    ensures { OnOk result (Finds all.old.items all.new.items (moved (map landing_of found.now))) }
 {
-    found
-        .iter()
-        .filter(|f| !is_kept(f))
-        .map(|f| Finding::Moved(f.active.flight.callsign, f.active.frozen.unwrap_or(0)))
-        .collect(alloc)
+    all.extend(
+        found.iter().filter(|f| !is_kept(f)).map(|f| Finding::Moved(
+            f.active.flight.callsign,
+            f.active.frozen.unwrap_or(0),
+        )),
+    )
 }
 
 // Whether a waiting flight lands at the horizon or later.
@@ -159,17 +152,13 @@ fn is_late_enough(horizon: u32, found: &Found) -> bool
 }
 
 // Each waiting flight before the horizon.
-pub(crate) fn early(
-    alloc: Global,
-    horizon: u32,
-    found: &[Found],
-) -> Result<Vec<Finding>, AllocError>
-    ensures { IfOk result (λ all. map finding_of all.items
-        ≡ early horizon (map landing_of found.now)) }
+pub(crate) fn early(horizon: u32, found: &[Found], all: &mut Vec<Finding>) -> Result<(), AllocError>
+    ensures { OnOk result (Finds all.old.items all.new.items (early horizon (map landing_of found.now))) }
 {
-    found
-        .iter()
-        .filter(|f| !is_late_enough(horizon, f))
-        .map(|f| Finding::Early(f.active.flight.callsign))
-        .collect(alloc)
+    all.extend(
+        found
+            .iter()
+            .filter(|f| !is_late_enough(horizon, f))
+            .map(|f| Finding::Early(f.active.flight.callsign)),
+    )
 }

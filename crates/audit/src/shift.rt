@@ -1,12 +1,12 @@
 // How far the waiting flights are from their ranks.
-ghost use Rattle.std.specs.Prelude.{◌≡◌, ◌≤◌, ◌+◌, ◌++◌, IfOk, OnOk, filter, length, map, nat_lt};
+ghost use Rattle.std.specs.Prelude.{◌≡◌, ◌≤◌, ◌+◌, IfOk, OnOk, filter, length, map, nat_lt};
 ghost use Rattle.std.specs.Ordering.{is_lt};
 ghost use Rattle.landing_rules.specs.Limits.{most_flights};
 ghost use Rattle.landing_rules.specs.Rules.{arrival_cmp, place, rank_among, waits};
 ghost use Rattle.landing_rules.specs.Testing.{is_shift_kept};
 ghost use Rattle.landing_rules.specs.Audit.{landing_of, shifted};
 ghost use Rattle.audit.specs.declared.finding.Finding.TheVariants as code;
-ghost use Rattle.audit.specs.Findings.{finding_of, too_far};
+ghost use Rattle.audit.specs.Findings.{Finds, too_far};
 
 use crate::Finding;
 use crate::found::Found;
@@ -86,10 +86,10 @@ fn shift(waiting: &[&Found], f: &Found) -> Finding
 }
 
 // Notes a waiting flight too far from its rank.
-fn note(all: &mut Vec<Finding>, k: u8, waiting: &[&Found], f: &Found) -> Result<(), AllocError>
+fn note(k: u8, waiting: &[&Found], f: &Found, all: &mut Vec<Finding>) -> Result<(), AllocError>
     requires { length waiting.now ≤ most_flights }
-    ensures { OnOk result (map finding_of all.new.items ≡ map finding_of all.old.items
-        ++ too_far k (map (λ g. landing_of g.now) waiting.now) (landing_of f.now)) }
+    ensures { OnOk result (Finds all.old.items all.new.items
+        (too_far k (map (λ g. landing_of g.now) waiting.now) (landing_of f.now))) }
 {
     if !is_shift_kept(k, waiting, f) {
         all.push(shift(waiting, f))?;
@@ -97,16 +97,29 @@ fn note(all: &mut Vec<Finding>, k: u8, waiting: &[&Found], f: &Found) -> Result<
     Ok(())
 }
 
+// Each of these waiting flights that is too far from its rank.
+fn shifted_among(k: u8, waiting: &[&Found], all: &mut Vec<Finding>) -> Result<(), AllocError>
+    requires { length waiting.now ≤ most_flights }
+    ensures { OnOk result (Finds all.old.items all.new.items
+        (shifted k (map (λ g. landing_of g.now) waiting.now))) }
+{
+    for f in waiting {
+        note(k, waiting, f, all)?;
+    }
+    Ok(())
+}
+
 // Each waiting flight too far from its rank.
-pub(crate) fn shifted(alloc: Global, k: u8, found: &[Found]) -> Result<Vec<Finding>, AllocError>
+pub(crate) fn shifted(
+    alloc: Global,
+    k: u8,
+    found: &[Found],
+    all: &mut Vec<Finding>,
+) -> Result<(), AllocError>
     requires { length found.now ≤ most_flights }
-    ensures { IfOk result (λ all. map finding_of all.items
-        ≡ shifted k (filter waits (map landing_of found.now))) }
+    ensures { OnOk result (Finds all.old.items all.new.items
+        (shifted k (filter waits (map landing_of found.now)))) }
 {
     let waiting = waiting(alloc, found)?;
-    let mut all = Vec::new(alloc);
-    for f in &waiting {
-        note(&mut all, k, &waiting, f)?;
-    }
-    Ok(all)
+    shifted_among(k, &waiting, all)
 }

@@ -1,64 +1,59 @@
 // The lines of findings.
 ghost use Rattle.std.specs.Prelude.{◌≡◌, ◌++◌, OnOk, decimal, map};
-ghost use Rattle.landing_rules.specs.Audit.{Shift};
 ghost use Rattle.texts.specs.Appends.{Appends};
 ghost use Rattle.landing_rules.specs.Text.{line};
 ghost use Rattle.audit.specs.Findings.{finding_of};
-ghost use Rattle.audit.specs.Texts.{finding_words, findings_text, spaced};
+ghost use Rattle.audit.specs.Texts.{detail_of, finding_words, findings_text, spaced, word_of};
 
 use crate::Finding;
 use cps_base::Callsign;
 use itoa::Buffer;
 use std::alloc::AllocError;
 
-// A word and a text.
-fn append_word(word: &[u8], text: &[u8], into: &mut Vec<u8>) -> Result<(), AllocError>
-    ensures { OnOk result (into.new.items ≡ into.old.items ++ (word.now ++ text.now)) }
+// The word of a finding, with a blank where more stands behind it.
+fn word(finding: &Finding) -> &'static [u8]
+    ensures { result.now ≡ word_of (finding_of finding.now) }
 {
-    into.extend_from_slice(word)?;
-    into.extend_from_slice(text)?;
-    Ok(())
+    match finding {
+        Finding::Missing(_) => b"missing ",
+        Finding::Unknown(_) => b"unknown ",
+        Finding::Twice(_) => b"twice ",
+        Finding::Order(_) => b"order ",
+        Finding::Mark(_) => b"mark ",
+        Finding::Closed(_, _) => b"closed ",
+        Finding::Separation(_, _) => b"separation ",
+        Finding::Precedence(_, _) => b"precedence ",
+        Finding::Moved(_, _) => b"moved ",
+        Finding::Early(_) => b"early ",
+        Finding::Shift(_, _, _) => b"shift ",
+        Finding::OtherObjective => b"objective",
+        Finding::Value(_) => b"value ",
+    }
 }
 
-// A word and a number.
-fn append_number(word: &[u8], number: u64, into: &mut Vec<u8>) -> Result<(), AllocError>
-    ensures { OnOk result (into.new.items ≡ into.old.items ++ (word.now ++ decimal number)) }
+fn append_number(number: u64, into: &mut Vec<u8>) -> Result<(), AllocError>
+    ensures { OnOk result (into.new.items ≡ into.old.items ++ decimal number) }
 {
     let mut digits = Buffer::new();
-    append_word(word, digits.format(number).as_bytes(), into)
+    into.extend_from_slice(digits.format(number).as_bytes())
 }
 
-// A word and two texts.
-fn append_pair(
-    word: &[u8],
-    first: &[u8],
-    second: &[u8],
-    into: &mut Vec<u8>,
-) -> Result<(), AllocError>
-    ensures { OnOk result (into.new.items ≡ into.old.items
-        ++ (word.now ++ spaced first.now second.now)) }
+// Two texts, a blank between them.
+fn append_pair(first: &[u8], second: &[u8], into: &mut Vec<u8>) -> Result<(), AllocError>
+    ensures { OnOk result (into.new.items ≡ into.old.items ++ spaced first.now second.now) }
 {
-    append_word(word, first, into)?;
-    append_word(b" ", second, into)
+    into.extend_from_slice(first)?;
+    into.push(b' ')?;
+    into.extend_from_slice(second)
 }
 
-// A word, a callsign and its second.
-fn append_second(
-    word: &[u8],
-    callsign: &Callsign,
-    second: u32,
-    into: &mut Vec<u8>,
-) -> Result<(), AllocError>
+// A callsign and its second.
+fn append_second(callsign: &Callsign, second: u32, into: &mut Vec<u8>) -> Result<(), AllocError>
     ensures { OnOk result (into.new.items ≡ into.old.items
-        ++ (word.now ++ spaced callsign.now (decimal second))) }
+        ++ spaced callsign.now (decimal second)) }
 {
     let mut digits = Buffer::new();
-    append_pair(
-        word,
-        callsign.bytes(),
-        digits.format(second).as_bytes(),
-        into,
-    )
+    append_pair(callsign.bytes(), digits.format(second).as_bytes(), into)
 }
 
 // A callsign, its place and its rank.
@@ -69,31 +64,41 @@ fn append_shift(
     into: &mut Vec<u8>,
 ) -> Result<(), AllocError>
     ensures { OnOk result (into.new.items ≡ into.old.items
-        ++ finding_words (Shift callsign.now place rank)) }
+        ++ spaced callsign.now (spaced (decimal place) (decimal rank))) }
 {
-    append_second(b"shift ", callsign, place, into)?;
-    append_number(b" ", u64::from(rank), into)
+    append_second(callsign, place, into)?;
+    into.push(b' ')?;
+    append_number(u64::from(rank), into)
+}
+
+// What stands behind the word.
+fn append_detail(finding: &Finding, into: &mut Vec<u8>) -> Result<(), AllocError>
+    ensures { OnOk result (into.new.items ≡ into.old.items
+        ++ detail_of (finding_of finding.now)) }
+{
+    match finding {
+        Finding::Missing(c)
+        | Finding::Unknown(c)
+        | Finding::Twice(c)
+        | Finding::Mark(c)
+        | Finding::Early(c) => into.extend_from_slice(c.bytes()),
+        Finding::Closed(c, t) | Finding::Moved(c, t) => append_second(c, *t, into),
+        Finding::Separation(c, d) | Finding::Precedence(c, d) => {
+            append_pair(c.bytes(), d.bytes(), into)
+        }
+        Finding::Shift(c, p, r) => append_shift(c, *p, *r, into),
+        Finding::Order(i) => append_number(u64::from(*i), into),
+        Finding::Value(v) => append_number(*v, into),
+        Finding::OtherObjective => Ok(()),
+    }
 }
 
 fn append_words(finding: &Finding, into: &mut Vec<u8>) -> Result<(), AllocError>
     ensures { OnOk result (into.new.items ≡ into.old.items
         ++ finding_words (finding_of finding.now)) }
 {
-    match finding {
-        Finding::Missing(c) => append_word(b"missing ", c.bytes(), into),
-        Finding::Unknown(c) => append_word(b"unknown ", c.bytes(), into),
-        Finding::Twice(c) => append_word(b"twice ", c.bytes(), into),
-        Finding::Order(i) => append_number(b"order ", u64::from(*i), into),
-        Finding::Mark(c) => append_word(b"mark ", c.bytes(), into),
-        Finding::Closed(c, t) => append_second(b"closed ", c, *t, into),
-        Finding::Separation(c, d) => append_pair(b"separation ", c.bytes(), d.bytes(), into),
-        Finding::Precedence(c, d) => append_pair(b"precedence ", c.bytes(), d.bytes(), into),
-        Finding::Moved(c, t) => append_second(b"moved ", c, *t, into),
-        Finding::Early(c) => append_word(b"early ", c.bytes(), into),
-        Finding::Shift(c, p, r) => append_shift(c, *p, *r, into),
-        Finding::OtherObjective => into.extend_from_slice(b"objective"),
-        Finding::Value(v) => append_number(b"value ", *v, into),
-    }
+    into.extend_from_slice(word(finding))?;
+    append_detail(finding, into)
 }
 
 fn append_line(finding: &Finding, into: &mut Vec<u8>) -> Result<(), AllocError>

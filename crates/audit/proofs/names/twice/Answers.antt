@@ -1,7 +1,7 @@
 use Rattle.std.proofs.Common.{◌≡◌, ℕ, Bool, true, false, List, [], ◌+◌, ◌||◌, ◌∷◌, ◌++◌, map, drop, refl, sym, ap, ◌∙◌}
 use Rattle.std.specs.Str.{bytes_eq}
 use Rattle.std.proofs.lemmas.List.{at_drop_all}
-use Rattle.landing_rules.specs.Audit.{has_line, twice, twice_after}
+use Rattle.landing_rules.specs.Audit.{has_line, twice_after}
 use Rattle.plan_file.specs.Shown.{shown_of}
 use Rattle.plan_file.specs.declared.landing.Landing.{Landing}
 use Rattle.audit.specs.Findings.{finding_of, repeated}
@@ -22,7 +22,7 @@ loop-line-preserved c =
       λ d. seen_step lines i l above d _ c.loop-line-test.true c.line-item.is (kept.2 d),
       ap (λ x. x ++ twice_after (shown_of l ∷ above) (map shown_of (drop (i + 1) lines))) c.in_ok-note.ensures
           ∙ twice_step lines i l above (map finding_of c.loop-line.all.items)
-          (repeated c.in_ok-was_seen.was_seen l.callsign) (twice (map shown_of lines))
+          (repeated c.in_ok-was_seen.was_seen l.callsign) _
           c.loop-line-test.true c.line-item.is
           (ap (λ b. repeated b l.callsign) (c.in_ok-was_seen.ensures.was ∙ kept.1 l.callsign)) kept.3,
     )
@@ -32,7 +32,7 @@ loop-line-init c = (
   [],
   λ d. ap (λ (s : List (List ℕ)). has_name s d) c.requires,
   λ d. refl,
-  ap (λ l. map finding_of l ++ twice (map shown_of c.args.lines.now)) c.new-all.ensures.items,
+  refl,
 )
 
 pub returns-clause-found : goal.returns-clause-found

@@ -12,5 +12,5 @@ invariant-loop-line l = (above : List ShownLanding) ×
     ((c : List ℕ) → has_name l.seen c ≡ has_line above c) ×
     ((c : List ℕ) → (has_line above c || has_line (map shown_of (drop l.line-index l.lines)) c) ≡ has_line
     (map shown_of l.lines) c) ×
-    (map finding_of l.all.items ++ twice_after above (map shown_of (drop l.line-index l.lines)) ≡ twice
-    (map shown_of l.lines))
+    (map finding_of l.all.items ++ twice_after above (map shown_of (drop l.line-index l.lines))
+    ≡ map finding_of l.initial.all.items ++ twice (map shown_of l.lines))

@@ -1,10 +1,12 @@
-use Rattle.std.proofs.Common.{◌≡◌, length, map, sym, ap, ◌∙◌, arith}
+use Rattle.std.proofs.Common.{◌≡◌, List, [], ◌++◌, length, map, sym, ap, append-nil, ◌∙◌, arith}
 use Rattle.std.proofs.lemmas.List.{length-map}
-use Rattle.landing_rules.specs.Audit.{lines_found}
+use Rattle.landing_rules.specs.Audit.{Finding, lines_found}
 use Rattle.plan_file.specs.Shown.{shown_of}
-use Rattle.audit.specs.Findings.{finding_of}
 use Rattle.audit.proofs.FoundLines.{none_unknown}
 use Rattle.audit.proofs.names.unknown_unless.Goals as goal
+
+nothing_more : (old more : List Finding) → more ≡ [] → old ≡ old ++ more
+nothing_more old more e = sym (append-nil old) ∙ ap (λ l. old ++ l) (sym e)
 
 pub returns-then-found-lines : goal.returns-then-found-lines
 returns-then-found-lines c =
@@ -14,4 +16,4 @@ returns-then-found-lines c =
     let r = c.requires in
     let t = c.if-found-lines.true in
     let all : length (lines_found active lines) ≡ length lines = omega (arith, n, r, t) in
-    ap (map finding_of) c.new.ensures.items ∙ sym (none_unknown active lines all)
+    nothing_more _ _ (none_unknown active lines all)

@@ -7,10 +7,6 @@ use Rattle.audit.specs.shared.Steps.{at_end}
 use Rattle.audit.proofs.Ordering.{order_step}
 use Rattle.audit.proofs.order.disordered_behind.Goals as goal
 
-pub loop-i-init : goal.loop-i-init
-loop-i-init c = ap (λ l. map finding_of l ++ disordered_from 2 c.args.first (map shown_of c.args.lines.now))
-    c.new-all.ensures.items
-
 pub loop-i-preserved : goal.loop-i-preserved
 loop-i-preserved c =
     let lines = c.args.lines.now in
@@ -18,7 +14,7 @@ loop-i-preserved c =
     let line = get_or lines i c.index-lines-i.result in
     ap (λ l. l ++ disordered_from ((i + 1) + 2) line.second (map shown_of (drop (i + 1) lines))) c.in_ok-note.ensures
     ∙ order_step lines i c.loop-i.before line (map finding_of c.loop-i.all.items)
-    (out_of_order (i + 2) c.loop-i.before line.second) (disordered_from 2 c.args.first (map shown_of lines))
+    (out_of_order (i + 2) c.loop-i.before line.second) _
     c.loop-i-test.true (ap (get_or lines i) c.index-lines-i.is) refl c.loop-i.invariant
 
 pub returns : goal.returns

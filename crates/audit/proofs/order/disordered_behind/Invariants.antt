@@ -7,4 +7,5 @@ use Rattle.audit.proofs.order.disordered_behind.Given as goal
 -- what is found so far, and what is left to find
 abbrev pub invariant-loop-i : goal.invariant-loop-i
 invariant-loop-i l = map finding_of l.all.items ++ disordered_from (l.i + 2) l.before
-    (map shown_of (drop l.i l.lines)) ≡ disordered_from 2 l.first (map shown_of l.lines)
+    (map shown_of (drop l.i l.lines))
+    ≡ map finding_of l.initial.all.items ++ disordered_from 2 l.first (map shown_of l.lines)

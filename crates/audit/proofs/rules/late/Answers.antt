@@ -1,8 +1,7 @@
 use Rattle.std.proofs.Common.{◌+◌, ◌++◌, map, drop, ap, ◌∙◌, refl}
 use Rattle.std.specs.Prelude.{flat_map}
-use Rattle.std.proofs.lemmas.List.{map-append}
 use Rattle.landing_rules.specs.Flights.{Landing}
-use Rattle.landing_rules.specs.Audit.{landing_of, late, listed_late}
+use Rattle.landing_rules.specs.Audit.{landing_of, listed_late}
 use Rattle.audit.specs.Findings.{finding_of}
 use Rattle.audit.proofs.EachPair.{flat_seen}
 use Rattle.audit.specs.shared.Steps.{at_end}
@@ -13,12 +12,9 @@ loop-d-preserved c =
     let found = c.args.found.now in
     let all = map landing_of found in
     let each = λ (d : Landing). flat_map (listed_late all d) d.flight.after in
-    let pushed = ap (map finding_of) c.in_ok-append.ensures.items
-    ∙ map-append finding_of c.loop-d.all.items c.in_ok-more.more.items in
-    ap (λ l. l ++ flat_map each (map landing_of (drop (c.loop-d.d-index + 1) found))) pushed
-    ∙ flat_seen each landing_of found c.loop-d.d-index c.d-item.result (map finding_of c.loop-d.all.items)
-    (map finding_of c.in_ok-more.more.items) (late all)
-    c.loop-d-test.true c.d-item.is c.in_ok-more.ensures c.loop-d.invariant
+    ap (λ l. l ++ flat_map each (map landing_of (drop (c.loop-d.d-index + 1) found))) c.in_ok-late_for.ensures
+    ∙ flat_seen each landing_of found c.loop-d.d-index c.d-item.result (map finding_of c.loop-d.all.items) _ _
+    c.loop-d-test.true c.d-item.is refl c.loop-d.invariant
 
 pub returns : goal.returns
 returns c =

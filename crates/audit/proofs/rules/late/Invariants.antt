@@ -11,4 +11,4 @@ invariant-loop-d l =
     map finding_of l.all.items
     ++ flat_map (λ (d : Landing). flat_map (listed_late (map landing_of l.found) d) d.flight.after)
     (map landing_of (drop l.d-index l.found))
-    ≡ late (map landing_of l.found)
+    ≡ map finding_of l.initial.all.items ++ late (map landing_of l.found)

@@ -9,4 +9,5 @@ abbrev pub invariant-loop-callsign : goal.invariant-loop-callsign
 invariant-loop-callsign l =
     map finding_of l.all.items ++ flat_map (listed_late (map landing_of l.found) (landing_of l.d))
     (drop l.callsign-index l.d.1.flight.after)
-    ≡ flat_map (listed_late (map landing_of l.found) (landing_of l.d)) l.d.1.flight.after
+    ≡ map finding_of l.initial.all.items
+    ++ flat_map (listed_late (map landing_of l.found) (landing_of l.d)) l.d.1.flight.after

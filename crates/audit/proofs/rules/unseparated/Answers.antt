@@ -1,5 +1,4 @@
 use Rattle.std.proofs.Common.{◌+◌, ◌++◌, map, drop, ap, ◌∙◌, refl}
-use Rattle.std.proofs.lemmas.List.{map-append}
 use Rattle.landing_rules.specs.Flights.{Landing}
 use Rattle.landing_rules.specs.Audit.{landing_of, are_apart, unseparated, Separation}
 use Rattle.audit.specs.Findings.{finding_of}
@@ -11,14 +10,10 @@ pub loop-i-preserved : goal.loop-i-preserved
 loop-i-preserved c =
     let table = c.args.table.now in
     let found = c.args.found.now in
-    let pushed = ap (map finding_of) c.in_ok-append.ensures.items
-    ∙ map-append finding_of c.loop-i.all.items c.in_ok-more.more.items in
-    ap (λ l. l ++ unseparated table (map landing_of (drop (c.loop-i.i + 1) found))) pushed
+    ap (λ l. l ++ unseparated table (map landing_of (drop (c.loop-i.i + 1) found))) c.in_ok-unseparated_from.ensures
     ∙ pairs_more (are_apart table) (λ (f g : Landing). Separation f.flight.callsign g.flight.callsign)
-    landing_of found c.loop-i.i c.index-found-i.result
-    (map finding_of c.loop-i.all.items) (map finding_of c.in_ok-more.more.items)
-    (unseparated table (map landing_of found))
-    c.loop-i-test.true c.index-found-i.is c.in_ok-more.ensures c.loop-i.invariant
+    landing_of found c.loop-i.i c.index-found-i.result (map finding_of c.loop-i.all.items) _ _
+    c.loop-i-test.true c.index-found-i.is refl c.loop-i.invariant
 
 pub returns : goal.returns
 returns c =
