@@ -85,6 +85,10 @@ impl NodePairs {
         ensures in_range { IfOk result (λ best. list_all is_pair best.items ≡ true) }
     {
         let mut sorted = Vec::new(alloc);
+        // Most slots of a stage have no pair.
+        if self.pairs.is_empty() {
+            return Ok(sorted);
+        }
         sorted.extend_from_slice(self.pairs.as_slice())?;
         sorted.sort_unstable();
         let best = falling(alloc, sorted.as_slice())?;

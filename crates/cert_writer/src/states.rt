@@ -87,7 +87,7 @@ pub(crate) fn states_of(
     // The problem is well formed, and k at most 3.
     let _near = most_shift(problem);
     stage_laws(problem);
-    let mut windows = WindowNodes::of_none(alloc)?;
+    let mut windows = WindowNodes::new(alloc)?;
     let mut states = Vec::new(alloc);
     for stage in 1..kept.stages() + 1 {
         let put = kept.nodes(alloc, stage, &windows)?;

@@ -32,8 +32,9 @@ fn judge_opened(
 {
     problem_stands_for_situation();
     let problem = opening_problem(alloc, aerodrome, flights)?;
-    // The problem is well formed, and the certificate has its form.
+    // The problem is well formed.
     let _well_formed = problem.head();
+    // The certificate has its form.
     let _in_form = certificate.claim();
     Ok(judge(&problem, certificate))
 }

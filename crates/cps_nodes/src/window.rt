@@ -314,6 +314,7 @@ impl<const W: usize> ExtendableWindow<W> {
             ↔ HoldsRank self.now (pos rank -ℤ pos stage +ℤ pos (W - 1)) }
     {
         let window = self.window;
+        // A digit is 8 more than its offset, so that the digits are those of a window.
         let _digits = window.digits;
         let held = u64::from(self.held);
 

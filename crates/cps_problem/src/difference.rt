@@ -109,6 +109,7 @@ impl Problem {
         requires j { (1 ≤ j) × (j ≤ length self.now.flights) }
         ensures { IsTrue result ↔ HasPredecessorFrom self.now r j }
     {
+        // The problem is well formed, and its pairs are of its ranks.
         let _ranks = self.head();
         (r..self.len() + 1).any(|i| self.pairs().must_precede(i, j))
     }
@@ -119,6 +120,7 @@ impl Problem {
         requires j { (1 ≤ j) × (j < r) }
         ensures { IsTrue result ↔ HaveSameAt self.now other.now r j }
     {
+        // At most 60 flights wait, so that j is a rank of both problems.
         let _few = self.len();
         if !self.has_same_below(other, r, j) {
             return false;
@@ -132,6 +134,7 @@ impl Problem {
         requires within { IsWithinBoth self.now other.now r }
         ensures { IsTrue result ↔ HaveSamePredecessors self.now other.now r }
     {
+        // At most 60 flights wait, so that each j below r is a rank of both problems.
         let _few = self.len();
         (1..r).all(|j| self.has_same_at(other, r, j))
     }

@@ -27,6 +27,7 @@ impl Problem {
         ensures value { result ≡ passed_at self.now rank }
         ensures at_most { result ≤ self.now.k }
     {
+        // The problem is well formed, and so each count at most k.
         let _counts = self.head();
         self.flight(rank).passed
     }

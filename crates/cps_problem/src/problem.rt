@@ -76,6 +76,7 @@ impl Problem {
         requires { CanBuild (seen_problem head waiting.items pairs) }
         ensures { result ≡ seen_problem head waiting.items pairs }
     {
+        // The table is one of separations, as its type keeps.
         let _is_table = head.table.sep(Category::A, Category::A);
         Problem {
             head,

@@ -60,8 +60,9 @@ fn add_list<const W: usize>(
         labels,
         stage,
     } = *filling;
-    // What their contracts say is needed below: of the problem that it is well formed, of the lists that seconds are in the days.
+    // The problem is well formed.
     let _few = problem.len();
+    // The seconds of all lists are in the days.
     let _in_days = labels.len();
     let range = stage.sources(before, i, *near);
     *near = range.0;
@@ -106,7 +107,7 @@ fn fill_run<const W: usize, G: Gate>(
     let mut costs = Costs::with_room(alloc, count, filling.labels.stored())?;
     let mut found = Vec::with_capacity(alloc, 16)?;
     let mut near = [0; 8];
-    let mut followers = [Follower::blank(); 8];
+    let mut followers = [Follower::new(); 8];
     for m in 0..count {
         let i = from + m;
         gate.pass(i as u32);

@@ -73,7 +73,7 @@ fn price_of(problem: &Problem, rank: u8) -> (u32, u32)
 
 impl Follower {
     // No rank yet, and a span of no second.
-    pub(crate) fn blank() -> Follower
+    pub(crate) fn new() -> Follower
         ensures follower { (p : rules.Problem) → IsFollower p result }
         ensures no_span { result.open.1 < result.from }
     {
@@ -104,7 +104,7 @@ impl Follower {
             start: problem.start(rank),
             eta,
             weight,
-            ..Follower::blank()
+            ..Follower::new()
         };
     }
 

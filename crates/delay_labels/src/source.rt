@@ -120,8 +120,9 @@ pub fn source_pair<const W: usize>(
         → (place < result.0) ⊎ ((place ≡ result.0) × (index < result.1))
         → GivesPair problem.now before.now labels.now node.now (second, cost) place index → ⊥ }
 {
-    // What their contracts say is needed below: of the problem that it is well formed, of the lists that seconds are in the days.
+    // The problem is well formed.
     let _near = problem.head();
+    // The seconds of all lists are in the days.
     let _in_days = labels.len();
     prefix_laws::<W>(problem);
     window_laws::<W>();

@@ -87,7 +87,7 @@ fn stages_ahead(
     let last = problem.len();
     // The stages that are held are those of the problem.
     let _held = kept.stages();
-    let mut windows = WindowNodes::of_none(alloc)?;
+    let mut windows = WindowNodes::new(alloc)?;
     let mut stages = Vec::with_capacity(alloc, usize::from(last) + 1)?;
     stages.push(StageAhead::empty(alloc)?)?;
     for done in 0..last {

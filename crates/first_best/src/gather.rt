@@ -24,8 +24,9 @@ pub(crate) fn gather(
     ensures { IfOk result (λ nodes.
         IsGathered (held_of kept.now) stage nodes.items windows.now.places) }
 {
-    // The problem is well formed, so that it has stages to hold, and those that are held are its own.
+    // The problem is well formed, so that it has stages to hold.
     let _few = problem.len();
+    // The stages that are held are those of the problem.
     let _held = kept.stages();
     let least = kept.least_pairs(alloc, stage, windows)?;
     let firsts = windows.firsts();

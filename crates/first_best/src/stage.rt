@@ -37,7 +37,7 @@ impl StageAhead {
     pub(crate) fn empty(alloc: Global) -> Result<StageAhead, AllocError>
         ensures { IfOk result (λ s. s ≡ no_stage) }
     {
-        let windows = WindowNodes::of_none(alloc)?;
+        let windows = WindowNodes::new(alloc)?;
         Ok(StageAhead {
             nodes: Vec::new(alloc),
             lists: Vec::new(alloc),

@@ -26,6 +26,7 @@ pub fn fill_numbers<R: Threads + Sync, G: Gate + Sync, F: Fn(usize) -> u32 + Syn
         ensures { (k : ℕ) → k < length part.entry.now
             → F.post f.entry.now (start + k) (slice_index part.exit.now k) }
     { fill_each(part, start, f) };
+    // A lone column: nobody asks how the next is to be filled.
     let _next = fill_pieces(rt, column, Pace::new(), gate, &piece);
 }
 

@@ -35,10 +35,10 @@ impl AnyKept {
         ensures none { problem_held result ≡ None }
     {
         match k {
-            0 => AnyKept::One(Kept::fresh()),
-            1 => AnyKept::Three(Kept::fresh()),
-            2 => AnyKept::Five(Kept::fresh()),
-            _ => AnyKept::Seven(Kept::fresh()),
+            0 => AnyKept::One(Kept::new()),
+            1 => AnyKept::Three(Kept::new()),
+            2 => AnyKept::Five(Kept::new()),
+            _ => AnyKept::Seven(Kept::new()),
         }
     }
 }

@@ -38,6 +38,7 @@ fn windows_are_nodes(problem: &Problem)
 fn counts_exist(problem: &Problem)
     ensures { HasCounts problem.now }
 {
+    // The problem is well formed, and k at most 3.
     let _near = problem.head();
     windows_are_nodes(problem);
 }
@@ -51,6 +52,7 @@ impl<const W: usize> Kept<W> {
         match &self.held {
             None => (),
             Some(held) => {
+                // The two problems have a first rank at which they differ.
                 let _difference = held.problem.first_difference(problem);
             }
         }

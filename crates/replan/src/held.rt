@@ -50,7 +50,9 @@ impl<const W: usize> HeldProblem<W> {
         ensures count { vec_len result.0 ≡ count }
         ensures problem { result.1 ≡ self.entry.problem }
     {
+        // The problem held is well formed.
         let _held_ranks = self.problem.head();
+        // The other is well formed too.
         let _ranks = problem.head();
         kept_stages(&self.problem, problem);
         prefix_laws::<W>(&self.problem);

@@ -53,15 +53,14 @@ fn all_stages<const W: usize, R: Threads + Sync, G: Gate + Sync, L: Ledger>(
     ensures steps { OnOk result ((due : ℕ) × IsDue (held_problem held.entry) problem.now due
         × (L.count steps.new ≡ raised_by due (L.count steps.old))) }
 {
-    let begun = begin_stages(alloc, problem, held)?;
-    let mut stages = begun.stages;
-    fill_stages(rt, alloc, problem, &mut stages, &begun.former, gate, steps)?;
-    Ok(stages)
+    let mut begun = begin_stages(alloc, problem, held)?;
+    fill_stages(rt, alloc, problem, &mut begun, gate, steps)?;
+    Ok(begun.stages)
 }
 
 impl<const W: usize> Kept<W> {
     // Holds no problem yet.
-    pub(crate) fn fresh() -> Kept<W>
+    pub(crate) fn new() -> Kept<W>
         ensures { result ≡ None }
     {
         Kept { held: None }

@@ -33,6 +33,7 @@ fn least_of<const W: usize>(problem: &Problem, last: &LabelledStage<W>) -> Optio
     requires held { HoldsPairs problem.now last.now.stage last.now.labels }
     ensures { IsLeastValue problem.now result }
 {
+    // The problem is well formed, and so its value a number of the rules.
     let _well_formed = problem.head();
     let place = least_place(&last.labels)?;
     Some(value_there(problem, &last.labels, place))

@@ -54,6 +54,7 @@ impl<const W: usize> Kept<W> {
         match &self.held {
             None => Node { placed: 0, last: 0 },
             Some(held) => {
+                // At most 60 flights wait, so that the stage is one up to 60.
                 let _few = held.problem.len();
                 let labelled = &held.stages[stage as usize];
                 placed_node(&labelled.stage.node(i), stage)
@@ -107,6 +108,7 @@ impl<const W: usize> Kept<W> {
         match &self.held {
             None => unreachable!(),
             Some(held) => {
+                // At most 60 flights wait, so that the stage is one up to 60.
                 let _few = held.problem.len();
                 let labelled = &held.stages[stage as usize];
                 if former.stage() == 0 {
@@ -135,6 +137,7 @@ impl<const W: usize> Kept<W> {
         match &self.held {
             None => unreachable!(),
             Some(held) => {
+                // At most 60 flights wait, so that the stage is one up to 60.
                 let _few = held.problem.len();
                 let labelled = &held.stages[stage as usize];
                 let least = least_pairs(alloc, &labelled.labels, nodes)?;
@@ -225,7 +228,7 @@ impl AnyKept {
 
     /// The windows of a stage, put together by node. Where they are the same as those of another stage that were put together
     /// before, as mostly in the middle of a list, both share them: `former` is what this gave for another stage, or
-    /// `WindowNodes::of_none`.
+    /// `WindowNodes::new`.
     pub fn nodes(
         &self,
         alloc: Global,

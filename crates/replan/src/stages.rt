@@ -11,6 +11,7 @@ ghost use Rattle.replan.specs.Labels.{HoldsPairs};
 ghost use Rattle.replan.specs.Stages.{stage_at, AreStages};
 
 use crate::former::Former;
+use crate::held::Begun;
 use crate::labels::Labels;
 use cps_base::{Ledger, Steps};
 use cps_network::{Stage, next_stage, next_stage_again};
@@ -50,6 +51,7 @@ pub(crate) fn stage_zero<const W: usize>(
 {
     let objective = problem.head().objective;
     let stage = Stage::start(alloc)?;
+    // The windows of a stage ascend.
     let _ascending = stage.windows();
     let labels = Labels::start(alloc, objective)?;
     Ok(LabelledStage {
@@ -174,30 +176,30 @@ fn add_stage<const W: usize, R: Threads + Sync, G: Gate + Sync, L: Ledger>(
     rt: &R,
     alloc: Global,
     problem: &Problem,
-    kept: &mut Vec<LabelledStage<W>>,
-    former: &Option<Former<W>>,
+    begun: &mut Begun<W>,
     gate: &G,
     steps: &mut Steps<L>,
 ) -> Result<(), AllocError>
     requires width { W ≡ 2 * problem.now.k + 1 }
-    requires held { AreStages problem.now kept.old.items }
-    requires some { 0 < vec_len kept.old }
-    requires number { vec_len kept.old ≤ length problem.now.flights }
-    ensures held { OnOk result (AreStages problem.now kept.new.items) }
-    ensures one { OnOk result (vec_len kept.new ≡ vec_len kept.old + 1) }
+    requires held { AreStages problem.now begun.old.stages.items }
+    requires some { 0 < vec_len begun.old.stages }
+    requires number { vec_len begun.old.stages ≤ length problem.now.flights }
+    ensures held { OnOk result (AreStages problem.now begun.new.stages.items) }
+    ensures one { OnOk result (vec_len begun.new.stages ≡ vec_len begun.old.stages + 1) }
     ensures steps { OnOk result ((count : ℕ) × HasCandidates problem.now
-        (vec_len kept.old - 1) count × (L.count steps.new ≡ raised_by count
+        (vec_len begun.old.stages - 1) count × (L.count steps.new ≡ raised_by count
         (L.count steps.old))) }
 {
-    let mut stage = candidates_after(alloc, problem, kept, former)?;
+    let mut stage = candidates_after(alloc, problem, &begun.stages, &begun.former)?;
     let candidates = stage.len();
-    let last = &kept[kept.len() - 1];
+    let last = &begun.stages[begun.stages.len() - 1];
     let labels = last
         .labels
         .next(rt, alloc, problem, &last.stage, &mut stage, gate, steps)?;
     let is_whole = stage.len() == candidates;
+    // The windows of a stage ascend.
     let _ascending = stage.windows();
-    kept.push(LabelledStage {
+    begun.stages.push(LabelledStage {
         stage,
         labels,
         is_whole,
@@ -210,24 +212,23 @@ pub(crate) fn fill_stages<const W: usize, R: Threads + Sync, G: Gate + Sync, L: 
     rt: &R,
     alloc: Global,
     problem: &Problem,
-    kept: &mut Vec<LabelledStage<W>>,
-    former: &Option<Former<W>>,
+    begun: &mut Begun<W>,
     gate: &G,
     steps: &mut Steps<L>,
 ) -> Result<(), AllocError>
     requires width { W ≡ 2 * problem.now.k + 1 }
-    requires held { AreStages problem.now kept.old.items }
-    requires some { 0 < vec_len kept.old }
-    requires few { vec_len kept.old ≤ length problem.now.flights + 1 }
-    ensures held { OnOk result (AreStages problem.now kept.new.items) }
-    ensures all { OnOk result (vec_len kept.new ≡ length problem.now.flights + 1) }
-    ensures steps { OnOk result ((due : ℕ) × HasCandidatesFrom (vec_len kept.old)
+    requires held { AreStages problem.now begun.old.stages.items }
+    requires some { 0 < vec_len begun.old.stages }
+    requires few { vec_len begun.old.stages ≤ length problem.now.flights + 1 }
+    ensures held { OnOk result (AreStages problem.now begun.new.stages.items) }
+    ensures all { OnOk result (vec_len begun.new.stages ≡ length problem.now.flights + 1) }
+    ensures steps { OnOk result ((due : ℕ) × HasCandidatesFrom (vec_len begun.old.stages)
         problem.now (length problem.now.flights) due
         × (L.count steps.new ≡ raised_by due (L.count steps.old))) }
 {
-    let first = kept.len();
+    let first = begun.stages.len();
     for _stage in first..problem.len() as usize + 1 {
-        add_stage(rt, alloc, problem, kept, former, gate, steps)?;
+        add_stage(rt, alloc, problem, begun, gate, steps)?;
     }
     Ok(())
 }

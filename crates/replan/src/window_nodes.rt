@@ -34,7 +34,7 @@ impl Model for WindowNodes {
 
 impl WindowNodes {
     // Of a stage, with these places.
-    fn made(
+    fn of(
         alloc: Global,
         stage: u8,
         places: Vec<usize>,
@@ -54,11 +54,11 @@ impl WindowNodes {
     }
 
     /// Of no stage: to begin with, before the nodes of a stage are asked for.
-    pub fn of_none(alloc: Global) -> Result<WindowNodes, AllocError>
+    pub fn new(alloc: Global) -> Result<WindowNodes, AllocError>
         ensures stage { IfOk result (λ n. n.stage ≡ 0) }
         ensures places { IfOk result (λ n. n.places ≡ []) }
     {
-        let nodes = WindowNodes::made(alloc, 0, Vec::new(alloc), Vec::new(alloc))?;
+        let nodes = WindowNodes::of(alloc, 0, Vec::new(alloc), Vec::new(alloc))?;
         Ok(nodes)
     }
 
@@ -125,6 +125,7 @@ fn is_same(a: Node, b: Node) -> bool
 }
 
 // Where a node stands among others, and how many they are where it does not. The place `near` is tried first.
+#[inline]
 fn place_of(nodes: &[Node], node: Node, near: usize) -> usize
     ensures within { result ≤ length nodes.now }
     ensures there { result < length nodes.now → IsSeenAt nodes.now node result }
@@ -139,6 +140,7 @@ fn place_of(nodes: &[Node], node: Node, near: usize) -> usize
 
 // The place of the node of the window at place i among the nodes of the windows before it, behind which it is put where it is
 // new.
+#[inline]
 fn keep_or_put(
     nodes: &mut Vec<Node>,
     firsts: &mut Vec<usize>,
@@ -179,7 +181,7 @@ pub(crate) fn together<const W: usize>(
         near[hint] = place;
         places.push(place)?;
     }
-    let nodes = WindowNodes::made(alloc, number, places, firsts)?;
+    let nodes = WindowNodes::of(alloc, number, places, firsts)?;
     Ok(nodes)
 }
 
@@ -211,6 +213,7 @@ pub(crate) fn together_again<const W: usize>(
     ensures together { IfOk result (λ n. ArePutTogether stage.now.0 stage.now.1
         (length stage.now.1) n.places n.firsts) }
 {
+    // The windows of a stage are windows of W places.
     let _valid = stage.windows();
     if have_one_list(stage, other) {
         let nodes = former.share_as(stage.number())?;

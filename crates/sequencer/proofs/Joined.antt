@@ -188,10 +188,6 @@ module _ (s : Situation) (apart : Apart s.active) where
       joined_more = set_map (joined_second s (take n t)) (joined_second s (take (n + 1) t)) s.active place
           (get_or t n 0) others here
 
--- where no rank has a second
-pub joined_none : (s : Situation) → map (λ (a : Active). unwrap_or a.frozen 0) s.active ≡ joined s []
-joined_none s = refl
-
 -- ---- a feasible list
 
 module _ (s : Situation) (p : problems.Problem) (sound : IsSound s) (of : IsProblemOf s p)

@@ -1,9 +1,12 @@
 -- The frozen landing that is last, found by its second.
-use Rattle.std.proofs.Common.{◌≡◌, ℕ, zero, suc, ◌<◌, List, [], ◌∷◌, length, get_or, map, take, Option, Some, None}
+use Rattle.std.proofs.Common.{◌≡◌, ℕ, zero, suc, ◌<◌, List, [], ◌∷◌, length, get_or, map, take, reverse, Option, Some, None}
 use Rattle.std.proofs.Common.{inl, inr, refl, sym, ap, ap₂, subst, ◌∙◌, arith}
 use Rattle.std.specs.Prelude.{option_map, slice_get}
+use Rattle.std.specs.List.{AllWithin, HoldsAt}
 use Rattle.std.proofs.lemmas.Bool.{cases_order}
 use Rattle.std.proofs.lemmas.List.{get_or_default, length-map}
+use Rattle.std.proofs.lemmas.List.Elements.{Contains-from_at}
+use Rattle.std.proofs.lemmas.List.Sorted.{IsPermutation-reverse, IsPermutation-sym}
 use Rattle.std.proofs.lemmas.Option.{same_Some}
 use Rattle.wake_table.specs.declared.category.Category.{Category}
 use Rattle.landing_rules.specs.Flights.{Active, Landing, Situation, landing}
@@ -12,7 +15,7 @@ use Rattle.landing_rules.specs.Problem.{last_of}
 use Rattle.landing_rules.specs.Sound.{IsSound}
 use Rattle.landing_rules.specs.Text.{ShownLanding, ShownPlan, shown_landing}
 use Rattle.landing_rules.specs.shared.Counting.{Member}
-use Rattle.landing_rules.specs.shared.Members.{frozen_in, in_frozen, member_contains}
+use Rattle.landing_rules.specs.shared.Members.{contains_member, frozen_in, in_frozen, member_contains, member_permutation}
 use Rattle.landing_joint.specs.shared.LandingsInOrder.{order_member}
 use Rattle.sequencer.specs.Frozen.{frozen_shown, frozen_there, BeginsWithFrozen}
 use Rattle.sequencer.proofs.Fronts.{seconds_apart, there_at}
@@ -111,3 +114,20 @@ some_last s m e = go (last_of (in_landing_order (frozen_landings s))) refl e
         → (a : Active) × Member a s.active × (a.frozen ≡ Some m)
     go None q e = let w : None ≡ Some m = e in absurd (cc)
     go (Some l) q e = let b = last_frozen_at s l q in (b.0, b.1, b.2 ∙ ap (λ (t : ℕ). Some t) (same_Some l.0 m e))
+
+-- ---- what is looked for from the back
+
+module _ (fs : List Active) (m : ℕ) where
+  abbrev pub IsElsewhere : Active → Type 0
+  IsElsewhere a = a.frozen ≡ Some m → ⊥
+
+  pub back_found : (a : Active) (i : ℕ) → i < length (reverse fs) → HoldsAt (λ b. b ≡ a) (reverse fs) i → Member a fs
+  back_found a i lt is = member_permutation (reverse fs) fs a
+      (IsPermutation-sym fs (reverse fs) (IsPermutation-reverse fs))
+      (contains_member (reverse fs) a (Contains-from_at (reverse fs) a (i, lt, is)))
+
+  pub back_none : AllWithin IsElsewhere (reverse fs) 0 (length (reverse fs)) → (a : Active) → Member a fs
+      → IsElsewhere a
+  back_none none a i at =
+      let c = member_contains (reverse fs) a (member_permutation fs (reverse fs) a (IsPermutation-reverse fs) i) in
+      none c.0 a (omega arith) c.1 (ap (λ (b : Active). b.frozen) c.2 ∙ at)

@@ -1,5 +1,5 @@
 // What the frozen flights leave to the waiting ones.
-ghost use Rattle.std.specs.Prelude.{◌≡◌, ◌≤◌, All, IsTrue, Option, Some, length, map, option_map, sum_by};
+ghost use Rattle.std.specs.Prelude.{◌≡◌, ◌≤◌, All, Option, Some, length, map, option_map, sum_by};
 ghost use Rattle.std.specs.Option.{ForSome};
 ghost use Rattle.wake_table.specs.declared.category.Category.{Category};
 ghost use Rattle.landing_rules.specs.Limits.{most_flights};
@@ -39,17 +39,6 @@ fn latest(flights: &[Active]) -> Option<(u32, Category)>
         .fold(None, |found, active| later(active, found))
 }
 
-// Whether the flight is frozen at the second.
-fn is_frozen_at(active: &Active, second: u32) -> bool
-    ensures yes { IsTrue result → active.now.frozen ≡ Some second }
-    ensures no { active.now.frozen ≡ Some second → IsTrue result }
-{
-    match active.frozen {
-        None => false,
-        Some(at) => at == second,
-    }
-}
-
 // The frozen flight that lands last, at this second. It is looked for from the back, since it mostly arrived late.
 fn latest_at(situation: &View<'_>, second: u32) -> Option<(u32, Category)>
     requires sound { IsSound situation.now }
@@ -57,14 +46,12 @@ fn latest_at(situation: &View<'_>, second: u32) -> Option<(u32, Category)>
         situation.now))) ≡ Some second }
     ensures { result ≡ last_of (in_landing_order (frozen_landings situation.now)) }
 {
-    let flights = situation.flights();
-    for i in (0..flights.len()).rev() {
-        let active = &flights[i];
-        if is_frozen_at(active, second) {
-            return Some((second, active.flight.category));
-        }
-    }
-    None
+    let active = situation
+        .flights()
+        .iter()
+        .rev()
+        .find(|active| active.frozen == Some(second))?;
+    Some((second, active.flight.category))
 }
 
 /// The frozen flight that lands last, by its second and category. A plan may be given that begins with the frozen landings,

@@ -1,14 +1,12 @@
 -- What stands first in a list.
 use Rattle.std.proofs.Common.{◌≡◌, ℕ, suc, ◌+◌, ◌≤◌, Bool, true, false, not, cond, arith, List, [], ◌∷◌, ◌++◌, length}
-use Rattle.std.proofs.Common.{map, drop, Option, Some, None, refl, sym, ap, ◌∙◌, append_assoc}
-use Rattle.std.specs.Prelude.{find, filter_map, position, option_map}
+use Rattle.std.proofs.Common.{drop, Option, Some, None, refl, sym, ap, ◌∙◌, append_assoc}
+use Rattle.std.specs.Prelude.{filter_map, position, option_map}
 use Rattle.std.specs.List.{cons_option, position_from, enumerate_from}
 use Rattle.std.specs.Option.{option_or}
-use Rattle.std.specs.Str.{bytes_eq}
 use Rattle.std.proofs.lemmas.List.{drop-drop}
 use Rattle.std.proofs.lemmas.Iterator.Adapters.{position_from-zero}
-use Rattle.landing_rules.specs.Flights.{Callsign, Landing}
-use Rattle.landing_rules.specs.Events.{look_up}
+use Rattle.landing_rules.specs.Flights.{Landing}
 use Rattle.cps_base.specs.laws.FindMap.{first_answer}
 use Rattle.situations.specs.declared.opening_refusal.OpeningFault.{OpeningFault}
 use Rattle.situations.specs.Refused.{unless, first_from, clash_at, clash_from}
@@ -57,20 +55,6 @@ first_clashing table all n (x ∷ xs) e =
     ap (λ m. option_or (first_from (clash_at table (n + 1) x) m (drop (n + 1) all))
     (first_answer (clash_behind table all) (enumerate_from (n + 1) xs))) two
     ∙ rw (rest, first_clashing table all (n + 1) xs rest) refl
-
--- ---- an entry by its callsign
-
-pub looked_up : {X : Type 0} (name : X → Callsign) (number : X → ℕ) (c : Callsign) (xs : List X)
-    → option_map number (find (λ x. bytes_eq (name x) c) xs) ≡ look_up c (map (λ x. (name x, number x)) xs)
-looked_up name number c [] = refl
-looked_up name number c (x ∷ xs) = go (bytes_eq (name x) c) (looked_up name number c xs)
-  where
-    go : (b : Bool) → option_map number (find (λ y. bytes_eq (name y) c) xs) ≡ look_up c
-        (map (λ y. (name y, number y)) xs) →
-        option_map number (cond b (Some x) (find (λ y. bytes_eq (name y) c) xs)) ≡ cond b (Some (number x))
-        (look_up c (map (λ y. (name y, number y)) xs))
-    go true ih = refl
-    go false ih = ih
 
 -- ---- the landings that entries give
 

@@ -40,12 +40,6 @@ module _ {B : Type 0} (f : Active → B → Active) where
   turned-all zero (x ∷ xs) (y ∷ ys) n l = absurd (omega arith)
   turned-all (suc i) (x ∷ xs) (y ∷ ys) n l = ap (λ r. f x y ∷ r) (turned-all i xs ys (omega arith) (omega arith))
 
-  pub length-turned : (i : ℕ) (xs : List Active) (ys : List B) → length (turned i xs ys) ≡ length xs
-  length-turned zero xs ys = refl
-  length-turned (suc i) [] ys = refl
-  length-turned (suc i) (x ∷ xs) [] = refl
-  length-turned (suc i) (x ∷ xs) (y ∷ ys) = ap suc (length-turned i xs ys)
-
 -- ---- and back
 
 -- the flights that waited wait again, each with its count; a frozen one has not changed

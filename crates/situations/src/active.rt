@@ -1,6 +1,6 @@
 ghost use Rattle.std.specs.Prelude.{◌≡◌};
 ghost use Rattle.landing_rules.specs.Rules.{lists};
-ghost use Rattle.landing_rules.specs.Events.{named, newcomer};
+ghost use Rattle.landing_rules.specs.Events.{newcomer};
 ghost use Rattle.arrivals.specs.Seen.{flight_of};
 
 use arrivals::Flight;
@@ -63,13 +63,6 @@ impl Active {
             frozen: None,
             passed: 0,
         }
-    }
-
-    /// Whether it is the flight of the callsign.
-    pub fn is_named(&self, callsign: Callsign) -> bool
-        ensures { result ≡ named callsign self.now }
-    {
-        self.flight.callsign == callsign
     }
 
     /// Whether the flight is to land behind that of the callsign.

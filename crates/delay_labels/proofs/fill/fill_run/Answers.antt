@@ -8,8 +8,8 @@ use Rattle.delay_labels.proofs.fill.fill_run.Goals as goal
 
 pub loop-m-init : goal.loop-m-init
 loop-m-init g c =
-    let none : IsFollower c.args.filling.now.problem.now c.blank-followers.result =
-    c.blank-followers.ensures.follower c.args.filling.now.problem.now in
+    let none : IsFollower c.args.filling.now.problem.now c.new-followers.result =
+    c.new-followers.ensures.follower c.args.filling.now.problem.now in
     search (rules, none)
 
 pub add_list-requires : goal.add_list-requires

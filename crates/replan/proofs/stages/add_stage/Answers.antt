@@ -6,7 +6,7 @@ use Rattle.replan.proofs.stages.add_stage.Goals as goal
 
 pub candidates_after-requires : goal.candidates_after-requires
 candidates_after-requires g c =
-    let long : length c.args.kept.now.items ≡ vec_len c.args.kept.now = omega arith in
+    let long : length c.args.begun.now.stages.items ≡ vec_len c.args.begun.now.stages = omega arith in
     let r = c.requires in
     let is = c.deref.ensures.value in (
       search rules,
@@ -18,12 +18,12 @@ candidates_after-requires g c =
 
 pub next-requires : goal.next-requires
 next-requires g c =
-    let lt : c.len.result - 1 < length c.args.kept.now.items = omega (arith, c.len.ensures, c.requires.some) in
+    let lt : c.len.result - 1 < length c.args.begun.now.stages.items = omega (arith, c.len.ensures, c.requires.some) in
     let e = read_stage _ _ _ _ c.last.view_is c.index-last.ensures lt in
     let h = held_at c.args.problem.now _ c.requires.held _ _ e lt in
     let number = rw c.deref.ensures.value at c.in_ok-stage.ensures.number in
     let exact = rw c.deref.ensures.value at c.in_ok-stage.ensures.exact in
-    let long : length c.args.kept.now.items ≡ c.len.result = omega (arith, c.len.ensures) in (
+    let long : length c.args.begun.now.stages.items ≡ c.len.result = omega (arith, c.len.ensures) in (
       search rules,
       (
         search rules,
@@ -42,22 +42,22 @@ returns-clause-held g c =
     let number = rw c.deref.ensures.value at c.in_ok-stage.ensures.number in
     let exact = rw c.deref.ensures.value at c.in_ok-stage.ensures.exact in
     let left = c.in_ok-labels.ensures.left in
-    one_more c.args.problem.now c.args.kept.now.items c.push.new.self.items _ c.requires.held c.in_ok-push.ensures.items
+    one_more c.args.problem.now c.args.begun.now.stages.items c.push.new.self.items _ c.requires.held c.in_ok-push.ensures.items
     (left.number ∙ number) c.windows-ascending.ensures.ascending left.held
     (λ last is whole.
     let f : c.len-2.result ≡ c.len-candidates.result = search (rules, whole) in
-    let same : last ≡ length c.args.kept.now.items - 1 = omega (arith, is) in
+    let same : last ≡ length c.args.begun.now.stages.items - 1 = omega (arith, is) in
     rw (left.all (sym c.len-2.ensures.value ∙ f ∙ c.len-candidates.ensures.value), same) exact)
 
 pub returns-clause-steps : goal.returns-clause-steps
 returns-clause-steps g c =
-    let stages = c.args.kept.now.items in
-    let long : length stages ≡ vec_len c.args.kept.now = omega arith in
+    let stages = c.args.begun.now.stages.items in
+    let long : length stages ≡ vec_len c.args.begun.now.stages = omega arith in
     let lt : length stages - 1 < length stages = omega (arith, long, c.requires.some) in
     let candidates = rw c.deref.ensures.value at c.in_ok-stage.ensures.candidates in (
       length c.in_ok-stage.stage.1,
       has_candidates c.args.problem.now (stage_at stages (length stages - 1)).stage c.in_ok-stage.stage
-          (vec_len c.args.kept.now - 1)
+          (vec_len c.args.begun.now.stages - 1)
           (c.requires.held.number (length stages - 1) lt ∙ ap (λ n. n - 1) long)
           (c.requires.held.held (length stages - 1) lt).held.landable candidates c.in_ok-stage.ensures.ascending,
       c.in_ok-labels.ensures.steps,

@@ -11,7 +11,7 @@ loop-stage-init g c = (
   omega (arith, c.len-first.ensures),
   (
     0,
-    none_from (vec_len c.args.kept.now) c.args.problem.now (c.len-first.result - 1)
+    none_from (vec_len c.args.begun.now.stages) c.args.problem.now (c.len-first.result - 1)
         (omega (arith, c.len-first.ensures, c.requires.some)),
     raised_by_none _ (g.met.L.Ledger.fits c.args.steps.now),
   ),
@@ -20,25 +20,22 @@ loop-stage-init g c = (
 pub add_stage-requires : goal.add_stage-requires
 add_stage-requires g c =
     let long = c.loop-stage.invariant.1 in
-    let some : 0 < vec_len c.loop-stage.kept =
+    let some : 0 < vec_len c.loop-stage.begun.stages =
     omega (arith, long, c.loop-stage.auto, c.len-first.ensures, c.requires.some) in
-    let number : vec_len c.loop-stage.kept ≤ length c.args.problem.now.flights =
+    let number : vec_len c.loop-stage.begun.stages ≤ length c.args.problem.now.flights =
     omega (arith, long, c.loop-stage-test.true, c.len.ensures.value) in (
       search rules,
-      (
-        search rules,
-        (search rules, (search rules, (c.requires.width, (c.loop-stage.invariant.0, (some, number))))),
-      ),
+      (search rules, (search rules, (c.requires.width, (c.loop-stage.invariant.0, (some, number))))),
     )
 
 pub loop-stage-preserved : goal.loop-stage-preserved
 loop-stage-preserved g c =
     let long = c.loop-stage.invariant.1 in
     let s = c.in_ok-add_stage.ensures.steps in
-    let e : vec_len c.loop-stage.kept - 1 ≡ c.loop-stage._stage - 1 = omega (arith, long) in (
+    let e : vec_len c.loop-stage.begun.stages - 1 ≡ c.loop-stage._stage - 1 = omega (arith, long) in (
       c.in_ok-add_stage.ensures.held,
       omega (arith, c.in_ok-add_stage.ensures.one, long),
-      due_more (vec_len c.args.kept.now) c.args.problem.now c.loop-stage._stage _ _ _
+      due_more (vec_len c.args.begun.now.stages) c.args.problem.now c.loop-stage._stage _ _ _
           (omega (arith, c.loop-stage.auto, c.len-first.ensures))
           (omega (arith, c.loop-stage.auto, c.len-first.ensures, c.requires.some)) c.loop-stage.invariant.2
           (s.0, subst (λ (q : ℕ). HasCandidates c.args.problem.now q s.0) e s.1, s.2),
@@ -62,4 +59,4 @@ returns-clause-steps g c =
     let d = c.loop-stage.invariant.2 in
     let e : c.loop-stage._stage - 1 ≡ length c.args.problem.now.flights = omega
     (arith, c.loop-stage-test.false, c.loop-stage.auto, c.len.ensures.value, c.len-first.ensures, c.requires.few) in
-    (d.0, subst (λ (q : ℕ). HasCandidatesFrom (vec_len c.args.kept.now) c.args.problem.now q d.0) e d.1, d.2)
+    (d.0, subst (λ (q : ℕ). HasCandidatesFrom (vec_len c.args.begun.now.stages) c.args.problem.now q d.0) e d.1, d.2)

@@ -6,6 +6,6 @@ use Rattle.replan.specs.Stages.{AreStages}
 use Rattle.replan.proofs.stages.fill_stages.Given as goal
 
 abbrev pub invariant-loop-stage : goal.invariant-loop-stage
-invariant-loop-stage g l = AreStages l.problem l.kept.items × (vec_len l.kept ≡ l._stage)
-    × ((due : ℕ) × HasCandidatesFrom (vec_len l.fn.kept) l.problem (l._stage - 1) due
+invariant-loop-stage g l = AreStages l.problem l.begun.stages.items × (vec_len l.begun.stages ≡ l._stage)
+    × ((due : ℕ) × HasCandidatesFrom (vec_len l.fn.begun.stages) l.problem (l._stage - 1) due
     × (g.L.Ledger.count l.steps ≡ raised_by due (g.L.Ledger.count l.fn.steps)))
