@@ -97,9 +97,9 @@ pub(crate) fn may_follow<const W: usize>(
     // k is at most 3, and at most 60 flights wait.
     let _near = problem.head();
     let is_accepted = window.extend(offset_of(stage, rank)).is_some();
-    let is_in_time = is_in_time(problem, stage, rank);
+    let in_time = is_in_time(problem, stage, rank);
     let follows_all = problem.pairs().all_before(rank, placed);
-    is_accepted & is_in_time & follows_all
+    is_accepted & in_time & follows_all
 }
 
 // Whether a rank is permitted after a window of a stage.

@@ -26,7 +26,7 @@ returns g c =
       λ t first must. (c.requires.placed first (range first c.args.rank must).0).0 (all.0 t first must),
       λ after. all.1 (λ first must. (c.requires.placed first (range first c.args.rank must).0).1 (after first must)),
     ) in
-    let three = all_three _ _ _ _ _ _ accepts c.is_in_time-is_in_time.ensures placed in (
+    let three = all_three _ _ _ _ _ _ accepts c.is_in_time-in_time.ensures placed in (
       λ t. let each = three.0 t in record {
         from_one = c.requires.rank.0;
         to_count = c.requires.rank.1;
