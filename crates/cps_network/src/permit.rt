@@ -68,7 +68,7 @@ fn offset_of(landed: u8, rank: u8) -> i8
 }
 
 // Whether a rank that lands after so many is no further behind its place than the flights that passed it leave.
-fn is_in_time(problem: &Problem, landed: u8, rank: u8) -> bool
+pub(crate) fn is_in_time(problem: &Problem, landed: u8, rank: u8) -> bool
     requires landed { landed < length problem.now.flights }
     requires rank { (1 ≤ rank) × (rank ≤ length problem.now.flights) }
     ensures { IsTrue result ↔ (landed + 1 + passed_at problem.now rank ≤ rank + problem.now.k) }
