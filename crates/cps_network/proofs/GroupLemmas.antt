@@ -1,12 +1,11 @@
 -- Groups of windows, the offsets that are permitted after them, and where they begin and end.
 use Rattle.std.proofs.Common.{◌≡◌, ℕ, ◌+◌, ◌-◌, ◌*◌, ◌/◌, ◌%◌, ◌^◌, ◌<◌, ◌≤◌, min, max, List, [], ◌∷◌, ◌++◌, length, drop, take}
-use Rattle.std.proofs.Common.{arith, ◌∙◌, sym, ap, inl, inr, subst, w8, refl, length-append}
+use Rattle.std.proofs.Common.{arith, ◌∙◌, sym, ap, inl, inr, subst, w8}
 use Rattle.std.proofs.lemmas.Bool.{cases_eq, cases_lt}
 use Rattle.std.proofs.lemmas.Nat.Bits.{bit_at_set_same, bit_at_set_other, bit_at-zero, bit_at_and, bit_at-lt}
 use Rattle.std.proofs.lemmas.Int.{ints}
 use Rattle.std.specs.Prelude.{ℤ, pos, ◌-ℤ◌, ◌⊎◌, ◌↔◌, bit_or, bit_and}
 use Rattle.std.specs.Int.{bit_at}
-use Rattle.std.specs.Option.{SomeIff}
 use Rattle.precedence.specs.Pairs.{HasBit}
 use Rattle.landing_rules.specs.Problem.{Problem}
 use Rattle.cps_nodes.specs.Leads.{TailMeetsHead}

@@ -201,13 +201,16 @@ module _ (w held count : ℕ) (xs : List ℤ) (is : IsWindow w xs) (are : AreHel
             absurd (omega (arith, has, both j, z))
         | inl below ↦
             let lt : j < w = omega (arith, below, most) in
-            let free : bit_at held (w - w / 2 + 8 + j) ≡ 0 = omega (arith, has, both j, kept j lt) in (lt, record {
-              fresh = λ holds.
-                  let set : bit_at held (w - w / 2 + 8 + j) ≡ 1 = (are (w - w / 2 + 8 + j)).1
-                  (subst (HoldsRank xs) (omega (arith, ints, is.len, is.is_width)) holds) in
-                  omega (arith, set, free);
-              due = rw is.len ((due j lt).0 below);
-            })
+            let free : bit_at held (w - w / 2 + 8 + j) ≡ 0 = omega (arith, has, both j, kept j lt) in (
+              lt,
+              record {
+                fresh = λ holds.
+                    let set : bit_at held (w - w / 2 + 8 + j) ≡ 1 = (are (w - w / 2 + 8 + j)).1
+                    (subst (HoldsRank xs) (omega (arith, ints, is.len, is.is_width)) holds) in
+                    omega (arith, set, free);
+                due = rw is.len ((due j lt).0 below);
+              },
+            )
       ]
 
       back : (j < w) × Accepts xs (pos j -ℤ pos (w / 2))

@@ -1,5 +1,4 @@
 use Rattle.std.proofs.Common.{ℕ, arith}
-use Rattle.cps_network.specs.Again.{IsReady}
 use Rattle.cps_network.specs.Extended.{IsOpen}
 use Rattle.cps_network.proofs.GroupLemmas.{no_ranks, more_ranks, all_ranks}
 use Rattle.cps_network.proofs.ahead.open_offsets.Goals as goal

@@ -1,5 +1,4 @@
 use Rattle.std.proofs.Common.{ℕ}
-use Rattle.cps_network.specs.Again.{IsReady}
 use Rattle.cps_network.specs.Extended.{IsOpen}
 use Rattle.cps_network.proofs.GroupLemmas.{HasRanks}
 use Rattle.cps_network.proofs.ahead.open_offsets.Given as goal

@@ -1,8 +1,6 @@
-use Rattle.std.proofs.Common.{◌≡◌, ℕ, subst, sym}
-use Rattle.std.specs.Prelude.{Option, Some, IfSome}
-use Rattle.cps_nodes.specs.Windows.{IsWindow}
+use Rattle.std.proofs.Common.{ℕ, subst}
+use Rattle.std.specs.Prelude.{Option, IfSome}
 use Rattle.precedence.specs.Pairs.{HasBit}
-use Rattle.cps_network.specs.Extended.{HasPermitted}
 use Rattle.cps_network.proofs.GroupLemmas.{free_permitted}
 use Rattle.cps_network.proofs.groups.permitted_offsets.Goals as goal
 

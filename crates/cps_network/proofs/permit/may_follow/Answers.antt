@@ -1,8 +1,8 @@
-use Rattle.std.proofs.Common.{◌≡◌, ℕ, ◌+◌, ◌≤◌, arith, subst, w8, to_z, of_z}
+use Rattle.std.proofs.Common.{◌≡◌, ℕ, arith, subst, w8, to_z, of_z}
 use Rattle.std.specs.Prelude.{ℤ, pos, IsTrue, ◌↔◌, is_some}
 use Rattle.std.proofs.lemmas.Int.{ints}
 use Rattle.precedence.specs.Pairs.{HasBit, MustPrecede, AreInRange}
-use Rattle.cps_nodes.specs.Windows.{Accepts, IsPlaced, shifted}
+use Rattle.cps_nodes.specs.Windows.{Accepts, IsPlaced}
 use Rattle.cps_nodes.specs.Laws.{offset_after}
 use Rattle.cps_network.proofs.PermitLemmas.{is_some_tells, all_three}
 use Rattle.cps_network.proofs.permit.may_follow.Goals as goal

@@ -1,5 +1,4 @@
-use Rattle.std.proofs.Common.{◌≡◌, ℕ, subst, sym}
-use Rattle.std.specs.Prelude.{bit_and}
+use Rattle.std.proofs.Common.{ℕ, subst, sym}
 use Rattle.precedence.specs.Pairs.{HasBit}
 use Rattle.cps_network.proofs.GroupLemmas.{both_have, have_both}
 use Rattle.cps_network.proofs.ahead.Ahead.free_of.Goals as goal
