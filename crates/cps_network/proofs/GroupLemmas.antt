@@ -1,16 +1,19 @@
 -- Groups of windows, the offsets that are permitted after them, and where they begin and end.
 use Rattle.std.proofs.Common.{◌≡◌, ℕ, ◌+◌, ◌-◌, ◌*◌, ◌/◌, ◌%◌, ◌^◌, ◌<◌, ◌≤◌, min, max, List, [], ◌∷◌, ◌++◌, length, drop, take}
-use Rattle.std.proofs.Common.{arith, ◌∙◌, sym, ap, inl, inr, subst, w8, refl, length-append}
+use Rattle.std.proofs.Common.{arith, ◌∙◌, sym, ap, inl, inr, subst, w8}
 use Rattle.std.proofs.lemmas.Bool.{cases_eq, cases_lt}
-use Rattle.std.proofs.lemmas.Nat.Bits.{bit_at_set_same, bit_at_set_other, bit_at-zero}
-use Rattle.std.specs.Prelude.{ℤ, pos, ◌⊎◌, ◌↔◌, bit_or, Option, Some}
+use Rattle.std.proofs.lemmas.Nat.Bits.{bit_at_set_same, bit_at_set_other, bit_at-zero, bit_at_and, bit_at-lt}
+use Rattle.std.proofs.lemmas.Int.{ints}
+use Rattle.std.specs.Prelude.{ℤ, pos, ◌-ℤ◌, ◌⊎◌, ◌↔◌, bit_or, bit_and}
 use Rattle.std.specs.Int.{bit_at}
-use Rattle.std.specs.Option.{SomeIff}
 use Rattle.precedence.specs.Pairs.{HasBit}
 use Rattle.landing_rules.specs.Problem.{Problem}
 use Rattle.cps_nodes.specs.Leads.{TailMeetsHead}
 use Rattle.cps_network.specs.Begins.{BeginAt}
-use Rattle.cps_network.specs.Extended.{HasPermitted}
+use Rattle.cps_nodes.specs.Laws.{offset_after}
+use Rattle.cps_nodes.specs.Windows.{Accepts}
+use Rattle.cps_network.specs.Again.{IsReady}
+use Rattle.cps_network.specs.Extended.{HasPermitted, HasOpen, HasFree, IsOpen}
 use Rattle.cps_network.specs.Groups.{IsGroup}
 use Rattle.cps_network.specs.Lists.{IsAscending, node_at}
 use Rattle.cps_network.specs.Permits.{IsPermitted}
@@ -48,46 +51,92 @@ rank_added offsets stage rank k at j P few e holds = (
   λ has. (bit_added offsets at j few).1 (elim has [ inl old ↦ inl old | inr new ↦ inr (omega (arith, new.0, e)) ]),
 )
 
--- the offsets of the permitted ranks below one
-abbrev pub HasRanks : Problem → ℕ → List ℤ → ℕ → ℕ → Type 0
-HasRanks p stage xs offsets rank = (j : ℕ) → HasBit offsets j ↔ ((m : ℕ) × (m < rank) × (j + stage + 1 ≡ m + p.k)
-    × IsPermitted p stage xs m)
+-- a bit that two sets have
+pub both_have : (a b j : ℕ) → HasBit (bit_and a b) j → HasBit a j × HasBit b j
+both_have a b j has =
+    let e = bit_at_and a b j in (
+      omega (arith, has, e, bit_at-lt a j, bit_at-lt b j),
+      omega (arith, has, e, bit_at-lt a j, bit_at-lt b j),
+    )
 
-pub no_ranks : (p : Problem) (stage : ℕ) (xs : List ℤ) (rank : ℕ) → rank ≤ max (stage + 1 - p.k) 1
-    → HasRanks p stage xs 0 rank
-no_ranks p stage xs rank low j = (
-  λ has. let z : bit_at 0 j ≡ 0 = bit_at-zero j in absurd (omega (arith, has, z)),
-  λ (m, lt, e, is). absurd (omega (arith, lt, is.from_one, is.late)),
-)
+pub have_both : (a b j : ℕ) → HasBit a j → HasBit b j → HasBit (bit_and a b) j
+have_both a b j in_a in_b = let e = bit_at_and a b j in omega (arith, e, in_a, in_b)
 
-pub more_ranks : (p : Problem) (stage : ℕ) (xs : List ℤ) (offsets more rank : ℕ) → HasRanks p stage xs offsets rank
-    → ((j : ℕ) → HasBit more j ↔ (HasBit offsets j ⊎ ((j + stage + 1 ≡ rank + p.k) × IsPermitted p stage xs rank)))
-    → HasRanks p stage xs more (rank + 1)
-more_ranks p stage xs offsets more rank are grew j = (
-  λ has. elim ((grew j).0 has) [
-    | inl old ↦ let m : (m : ℕ) × (m < rank) × (j + stage + 1 ≡ m + p.k) × IsPermitted p stage xs m =
-        (are j).0 old in (m.0, omega (arith, m.1), m.2, m.3)
-    | inr new ↦ (rank, omega arith, new.0, new.1)
-  ],
-  λ (m, lt, e, is). elim (last_or_before m rank lt) [
-    | inl same ↦ (grew j).1 (inr (omega (arith, e, same), subst (λ (q : ℕ). IsPermitted p stage xs q) same is))
-    | inr before ↦ (grew j).1 (inl ((are j).1 (m, before, e, is)))
-  ],
-)
+-- the offsets of the ranks below one of which something holds
+abbrev pub HasRanks : Problem → ℕ → (ℕ → Type 0) → ℕ → ℕ → Type 0
+HasRanks p stage Holds offsets rank = (j : ℕ) → HasBit offsets j ↔ ((m : ℕ) × (m < rank)
+    × (j + stage + 1 ≡ m + p.k) × Holds m)
 
-pub all_ranks : (p : Problem) (stage : ℕ) (xs : List ℤ) (offsets rank : ℕ)
-    → min (stage + 1 + p.k) (length p.flights) < rank → HasRanks p stage xs offsets rank
+module _ (p : Problem) (stage : ℕ) (Holds : ℕ → Type 0) (opens : (m : ℕ) → Holds m → IsOpen p stage m) where
+  pub no_ranks : (rank : ℕ) → rank ≤ max (stage + 1 - p.k) 1 → HasRanks p stage Holds 0 rank
+  no_ranks rank low j = (
+    λ has. let z : bit_at 0 j ≡ 0 = bit_at-zero j in absurd (omega (arith, has, z)),
+    λ (m, lt, e, is). absurd (omega (arith, lt, (opens m is).from_one, (opens m is).late)),
+  )
+
+  pub more_ranks : (offsets more rank : ℕ) → HasRanks p stage Holds offsets rank
+      → ((j : ℕ) → HasBit more j ↔ (HasBit offsets j ⊎ ((j + stage + 1 ≡ rank + p.k) × Holds rank)))
+      → HasRanks p stage Holds more (rank + 1)
+  more_ranks offsets more rank are grew j = (
+    λ has. elim ((grew j).0 has) [
+      | inl old ↦ let m : (m : ℕ) × (m < rank) × (j + stage + 1 ≡ m + p.k) × Holds m =
+          (are j).0 old in (m.0, omega (arith, m.1), m.2, m.3)
+      | inr new ↦ (rank, omega arith, new.0, new.1)
+    ],
+    λ (m, lt, e, is). elim (last_or_before m rank lt) [
+      | inl same ↦ (grew j).1 (inr (omega (arith, e, same), subst Holds same is))
+      | inr before ↦ (grew j).1 (inl ((are j).1 (m, before, e, is)))
+    ],
+  )
+
+  pub all_ranks : (offsets rank : ℕ) → min (stage + 1 + p.k) (length p.flights) < rank
+      → HasRanks p stage Holds offsets rank → (j : ℕ) → HasBit offsets j ↔ Holds (stage + 1 + j - p.k)
+  all_ranks offsets rank high are j = (
+    λ has. let m : (m : ℕ) × (m < rank) × (j + stage + 1 ≡ m + p.k) × Holds m = (are j).0 has in
+        let e : m.0 ≡ stage + 1 + j - p.k = omega (arith, m.2, (opens m.0 m.3).late) in
+        subst Holds e m.3,
+    λ is. (are j).1 (
+      stage + 1 + j - p.k,
+      omega (arith, (opens _ is).early, (opens _ is).to_count),
+      omega (arith, (opens _ is).from_one),
+      is,
+    ),
+  )
+
+-- what is permitted is open
+pub permitted_opens : (p : Problem) (stage : ℕ) (xs : List ℤ) (m : ℕ) → IsPermitted p stage xs m → IsOpen p stage m
+permitted_opens p stage xs m is =
+    record { from_one = is.from_one; to_count = is.to_count; early = is.early; late = is.late }
+
+-- where the offsets that are accepted and open are free, they are those that are permitted
+pub free_permitted : (p : Problem) (stage width : ℕ) (xs : List ℤ) (accepted open_set free_set offsets : ℕ)
+    → width ≡ 2 * p.k + 1 → length xs ≡ width
+    → ((j : ℕ) → HasBit accepted j ↔ ((j < width) × Accepts xs (pos j -ℤ pos (width / 2))))
+    → HasOpen p stage open_set → HasFree p stage free_set
+    → ((j : ℕ) → HasBit offsets j → HasBit accepted j × HasBit free_set j)
+    → ((j : ℕ) → HasBit accepted j → HasBit open_set j → HasBit offsets j)
     → HasPermitted p stage xs offsets
-all_ranks p stage xs offsets rank high are j = (
-  λ has. let m : (m : ℕ) × (m < rank) × (j + stage + 1 ≡ m + p.k) × IsPermitted p stage xs m = (are j).0 has in
-      let e : m.0 ≡ stage + 1 + j - p.k = omega (arith, m.2, m.3.late) in
-      subst (λ (q : ℕ). IsPermitted p stage xs q) e m.3,
-  λ is. (are j).1 (
-    stage + 1 + j - p.k,
-    omega (arith, is.early, is.to_count),
-    omega (arith, is.from_one),
-    is,
-  ),
+free_permitted p stage width xs accepted open_set free_set offsets odd len accepts opens frees some all j = (
+  λ has.
+      let both : HasBit accepted j × HasBit free_set j = some j has in
+      let can : (j < width) × Accepts xs (pos j -ℤ pos (width / 2)) = (accepts j).0 both.0 in
+      let free : IsOpen p stage (stage + 1 + j - p.k) × IsReady p stage (stage + 1 + j - p.k) =
+      (frees j).0 both.1 in
+      let at : (pos j -ℤ pos (width / 2)) ≡ offset_after stage (stage + 1 + j - p.k) =
+      omega (arith, ints, free.0.from_one, odd) in
+      record {
+        from_one = free.0.from_one;
+        to_count = free.0.to_count;
+        early = free.0.early;
+        late = free.0.late;
+        accepted = subst (Accepts xs) at can.1;
+        after = λ first must. inl (omega (arith, ints, free.1 first must, len, odd));
+      },
+  λ is.
+      let at : offset_after stage (stage + 1 + j - p.k) ≡ (pos j -ℤ pos (width / 2)) =
+      omega (arith, ints, is.from_one, odd) in
+      all j ((accepts j).1 (omega (arith, is.early, is.from_one, odd), subst (Accepts xs) at is.accepted))
+      ((opens j).1 (permitted_opens p stage xs _ is)),
 )
 
 -- the windows from a place on that share its tail are a group, where that before does not

@@ -1,10 +1,10 @@
 -- The windows of the next stage.
-use Rattle.std.proofs.Common.{◌≡◌, ℕ, ◌+◌, ◌-◌, ◌*◌, ◌<◌, ◌≤◌, List, [], length, arith, ◌∙◌, sym, ap, inl, subst}
+use Rattle.std.proofs.Common.{◌≡◌, ℕ, ◌+◌, ◌*◌, ◌<◌, ◌≤◌, List, [], length, arith, ◌∙◌, sym, subst}
 use Rattle.std.proofs.lemmas.List.Elements.{Contains-get_or}
 use Rattle.std.proofs.lemmas.List.{get_or_default}
 use Rattle.std.specs.Prelude.{ℤ, ◌↔◌, Contains}
 use Rattle.std.proofs.lemmas.Int.{ints}
-use Rattle.cps_nodes.specs.Windows.{IsWindow, Accepts, shifted}
+use Rattle.cps_nodes.specs.Windows.{IsWindow}
 use Rattle.cps_nodes.specs.Laws.{LeadOn, offset_after}
 use Rattle.cps_nodes.specs.Leads.{Extends, TailMeetsHead}
 use Rattle.landing_rules.specs.Problem.{Problem}

@@ -1,13 +1,15 @@
 -- Ascending lists of windows, and lists that grow by one.
-use Rattle.std.proofs.Common.{◌≡◌, ℕ, ◌+◌, ◌<◌, List, [], ◌∷◌, ◌++◌, inl, inr, sym, arith}
+use Rattle.std.proofs.Common.{◌≡◌, ℕ, ◌+◌, ◌-◌, ◌<◌, ◌≤◌, List, [], ◌∷◌, ◌++◌, inl, inr, refl, subst, sym, arith}
+use Rattle.std.proofs.Common.{false, is_ge}
 use Rattle.std.specs.Prelude.{ℤ, ◌⊎◌, ◌↔◌, Contains}
 use Rattle.std.specs.List.Sorted.{IsStrictlySortedBy}
 use Rattle.std.proofs.lemmas.List.Elements.{All-contains, All-from_recursion, Contains-append_left, Contains-push}
 use Rattle.std.proofs.lemmas.List.Elements.{Contains-push_cases}
 use Rattle.std.proofs.lemmas.Bool.Decides.{nat_tests}
-use Rattle.std.specs.declared.cmp.Ordering.TheVariants.{Less}
-use Rattle.cps_nodes.specs.WindowOrder.{window_cmp}
-use Rattle.cps_network.specs.Lists.{IsAscending}
+use Rattle.std.specs.declared.cmp.Ordering.{Ordering}
+use Rattle.std.specs.declared.cmp.Ordering.TheVariants.{Less, Equal, Greater}
+use Rattle.cps_nodes.specs.WindowOrder.{window_cmp, window_cmp_total}
+use Rattle.cps_network.specs.Lists.{IsAscending, node_at}
 use Rattle.cps_network.proofs.KeptLemmas.{longer}
 
 pub last_or_before : (i n : ℕ) → i < n + 1 → (i ≡ n) ⊎ (i < n)
@@ -29,3 +31,23 @@ IsAscending-from_sorted (x ∷ xs) sorted =
     longer x xs (λ y has. All-contains (λ z. window_cmp x z ≡ Less) xs y
     (All-from_recursion (λ z. window_cmp x z ≡ Less) xs sorted.0) has)
     (IsAscending-from_sorted xs sorted.1)
+
+-- each window that is below the next makes the ascending ones one more
+pub ascend_more : (nodes : List (List ℤ)) (i : ℕ) → 1 ≤ i
+    → ((a b : ℕ) → a < b → b < i → window_cmp (node_at nodes a) (node_at nodes b) ≡ Less)
+    → window_cmp (node_at nodes (i - 1)) (node_at nodes i) ≡ Less
+    → (a b : ℕ) → a < b → b < i + 1 → window_cmp (node_at nodes a) (node_at nodes b) ≡ Less
+ascend_more nodes i some are next a b lt within = elim (last_or_before b i within) [
+  | inr before ↦ are a b lt before
+  | inl same ↦ subst (λ (q : ℕ). window_cmp (node_at nodes a) (node_at nodes q) ≡ Less) (sym same)
+      (elim (last_or_before a (i - 1) (omega (arith, lt, same))) [
+        | inl e ↦ subst (λ (q : ℕ). window_cmp (node_at nodes q) (node_at nodes i) ≡ Less) (sym e) next
+        | inr less ↦ window_cmp_total.trans (node_at nodes a) (node_at nodes (i - 1)) (node_at nodes i)
+            (are a (i - 1) less (omega (arith, some))) next
+      ])
+]
+
+pub is_less : (o : Ordering) → is_ge o ≡ false → o ≡ Less
+is_less Less e = refl
+is_less Equal e = absurd cc
+is_less Greater e = absurd cc

@@ -1,18 +1,16 @@
 -- What is gathered from the groups of a stage are the windows of the next.
-use Rattle.std.proofs.Common.{◌≡◌, ℕ, ◌+◌, ◌-◌, ◌*◌, ◌/◌, ◌<◌, ◌≤◌, List, [], length, drop, arith, ◌∙◌, sym, ap, subst}
+use Rattle.std.proofs.Common.{◌≡◌, ℕ, ◌+◌, ◌-◌, ◌*◌, ◌<◌, ◌≤◌, List, [], length, arith, ◌∙◌, sym, ap, subst}
 use Rattle.std.proofs.Common.{inl, inr}
 use Rattle.std.proofs.lemmas.Int.{ints}
 use Rattle.std.proofs.lemmas.List.{get_or_default}
 use Rattle.std.proofs.lemmas.List.Elements.{Contains-get_or}
-use Rattle.std.specs.Prelude.{ℤ, pos, ◌-ℤ◌, ◌↔◌, All, Contains}
-use Rattle.precedence.specs.Pairs.{HasBit}
+use Rattle.std.specs.Prelude.{ℤ, All, Contains}
 use Rattle.cps_nodes.specs.Laws.{LeadOn, offset_after}
 use Rattle.cps_nodes.specs.Windows.{IsWindow, Accepts, shifted}
 use Rattle.landing_rules.specs.Problem.{Problem}
 use Rattle.cps_network.specs.declared.groups.Group.{Group}
 use Rattle.cps_network.specs.Extended.{AreGroupsOf, IsGroupOf, IsExtendable, FollowsBy, Follows, HasGrownBy}
 use Rattle.cps_network.specs.Extended.{group_at, offset_of}
-use Rattle.cps_network.specs.Groups.{IsGroup}
 use Rattle.cps_network.specs.Lists.{node_at, AreWindows}
 use Rattle.cps_network.specs.Permits.{IsPermitted, IsSuccessor, IsNextOf}
 use Rattle.cps_network.proofs.StageLemmas.{IsSuccessor-alike}

@@ -1,6 +1,6 @@
 -- Where the windows that come after a stage come again after another, of the same problem or of one that differs
 -- elsewhere.
-use Rattle.std.specs.Prelude.{◌≡◌, ℕ, ℤ, ◌+◌, ◌-◌, ◌*◌, ◌<◌, ◌≤◌, ◌⊎◌, ◌↔◌, List, length, min}
+use Rattle.std.specs.Prelude.{◌≡◌, ℕ, ℤ, ◌+◌, ◌-◌, ◌*◌, ◌<◌, ◌≤◌, ◌⊎◌, List, length, min}
 use Rattle.precedence.specs.Pairs.{MustPrecede}
 use Rattle.landing_rules.specs.Problem.{Problem}
 use Rattle.cps_problem.specs.Seen.{passed_at}

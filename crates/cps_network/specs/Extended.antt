@@ -4,6 +4,8 @@ use Rattle.precedence.specs.Pairs.{HasBit}
 use Rattle.cps_nodes.specs.Windows.{Accepts, shifted}
 use Rattle.landing_rules.specs.Problem.{Problem}
 use Rattle.cps_network.specs.declared.groups.Group.{Group}
+use Rattle.cps_problem.specs.Seen.{passed_at}
+use Rattle.cps_network.specs.Again.{IsReady}
 use Rattle.cps_network.specs.Groups.{IsGroup}
 use Rattle.cps_network.specs.Lists.{node_at}
 use Rattle.cps_network.specs.Permits.{IsPermitted}
@@ -11,6 +13,22 @@ use Rattle.cps_network.specs.Permits.{IsPermitted}
 -- a set has bit k + offset exactly where the rank that lands at this offset is permitted
 abbrev pub HasPermitted : Problem → ℕ → List ℤ → ℕ → Type 0
 HasPermitted p stage xs offsets = (j : ℕ) → HasBit offsets j ↔ IsPermitted p stage xs (stage + 1 + j - p.k)
+
+-- a rank may land next after a stage by its number alone: it is 1 to n, at most k places from its own, and in time
+pub record IsOpen (p : Problem) (stage rank : ℕ) : Type 0 where
+  pub from_one : 1 ≤ rank
+  pub to_count : rank ≤ length p.flights
+  pub early : rank ≤ stage + 1 + p.k
+  pub late : stage + 1 + passed_at p rank ≤ rank + p.k
+
+-- a set has bit k + offset exactly where the rank that lands at this offset is open
+abbrev pub HasOpen : Problem → ℕ → ℕ → Type 0
+HasOpen p stage offsets = (j : ℕ) → HasBit offsets j ↔ IsOpen p stage (stage + 1 + j - p.k)
+
+-- or is open and follows none but ranks that are due
+abbrev pub HasFree : Problem → ℕ → ℕ → Type 0
+HasFree p stage offsets = (j : ℕ) → HasBit offsets j
+    ↔ (IsOpen p stage (stage + 1 + j - p.k) × IsReady p stage (stage + 1 + j - p.k))
 
 -- a range of windows of a stage that share a tail, with the offsets of the ranks that are permitted after them
 pub record IsGroupOf (p : Problem) (stage : ℕ) (before : List (List ℤ)) (group : Group) : Type 0 where

@@ -1,7 +1,6 @@
 -- The definitions of this crate.
 pub mod Lists
 pub mod Groups
-pub mod Extended
 pub mod Permits
 pub mod Begins
 pub mod Links
@@ -9,6 +8,7 @@ pub mod Compacted
 pub mod Nodes
 pub mod Landable
 pub mod Again
+pub mod Extended
 pub mod Pairs
 pub mod KeptStages
 pub mod Due

@@ -21,7 +21,7 @@ fn landed_set(stage: u8, k: u8) -> u64
 }
 
 // Whether each flight that must land before a rank is due by a stage.
-fn is_ready(problem: &Problem, stage: u8, rank: u8) -> bool
+pub(crate) fn is_ready(problem: &Problem, stage: u8, rank: u8) -> bool
     requires stage { stage < length problem.now.flights }
     requires rank { (1 ≤ rank) × (rank ≤ length problem.now.flights) }
     ensures { IsTrue result ↔ IsReady problem.now stage rank }

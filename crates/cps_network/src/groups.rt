@@ -3,11 +3,12 @@
 ghost use Rattle.std.specs.Prelude.{◌≡◌, ℕ, pos, ◌+◌, ◌-◌, ◌*◌, ◌/◌, ◌<◌, ◌≤◌, ◌⊎◌, ◌↔◌, length, drop, not, IsTrue, IfOk};
 ghost use Rattle.precedence.specs.Pairs.{HasBit};
 ghost use Rattle.cps_nodes.specs.Windows.{IsPlaced};
-ghost use Rattle.cps_network.specs.Extended.{AreGroupsOf, HasPermitted, IsGroupOf, group_at};
+ghost use Rattle.cps_network.specs.Extended.{AreGroupsOf, HasFree, HasOpen, HasPermitted, IsGroupOf, group_at};
 ghost use Rattle.cps_network.specs.Links.{range_at};
 ghost use Rattle.cps_network.specs.Lists.{AreWindows, IsAscending, node_at};
 ghost use Rattle.cps_network.specs.Permits.{IsPermitted};
 
+use crate::ahead::{Ahead, ahead_of};
 use crate::permit::{due_set, may_follow, most_shift, placed_set, reach};
 use cps_nodes::{ExtendableWindow, Window};
 use cps_problem::Problem;
@@ -61,10 +62,10 @@ fn with_rank<const W: usize>(
     }
 }
 
-// The offsets at which a rank is permitted after a window of a stage.
-fn permitted_offsets<const W: usize>(
+// The offsets at which a rank is permitted after a window of a stage, each tested.
+fn tested_offsets<const W: usize>(
     problem: &Problem,
-    window: &Window<W>,
+    window: &ExtendableWindow<W>,
     stage: u8,
     due: u64,
 ) -> u8
@@ -74,13 +75,34 @@ fn permitted_offsets<const W: usize>(
     ensures { HasPermitted problem.now stage window.now result }
 {
     let (first, end) = reach(problem, stage);
-    let extendable = window.extendable();
-    let placed = placed_set(&extendable, stage, due);
+    let placed = placed_set(window, stage, due);
     let mut offsets = 0;
     for rank in first..end {
-        offsets = with_rank(problem, &extendable, stage, rank, placed, offsets);
+        offsets = with_rank(problem, window, stage, rank, placed, offsets);
     }
     offsets
+}
+
+// The offsets at which a rank is permitted after a window of a stage. Few windows have a rank ahead that is to be tested.
+fn permitted_offsets<const W: usize>(
+    problem: &Problem,
+    window: &Window<W>,
+    stage: u8,
+    due: u64,
+    ahead: Ahead,
+) -> u8
+    requires width { W ≡ 2 * problem.now.k + 1 }
+    requires stage { stage < length problem.now.flights }
+    requires due { (rank : ℕ) → HasBit due rank ↔ (rank + W / 2 ≤ stage) }
+    requires open { HasOpen problem.now stage ahead.open }
+    requires free { HasFree problem.now stage ahead.free }
+    ensures { HasPermitted problem.now stage window.now result }
+{
+    let extendable = window.extendable();
+    match ahead.free_of(extendable.accepted()) {
+        Some(offsets) => offsets,
+        None => tested_offsets(problem, &extendable, stage, due),
+    }
 }
 
 // The first place, from this one on, whose window does not share the tail of this window.
@@ -110,10 +132,13 @@ fn group_from<const W: usize>(
     before: &[Window<W>],
     from: usize,
     due: u64,
+    ahead: Ahead,
 ) -> Group
     requires width { W ≡ 2 * problem.now.k + 1 }
     requires stage { stage < length problem.now.flights }
     requires due { (rank : ℕ) → HasBit due rank ↔ (rank + W / 2 ≤ stage) }
+    requires open { HasOpen problem.now stage ahead.open }
+    requires free { HasFree problem.now stage ahead.free }
     requires few { length before.now ≤ 823543 }
     requires ascending { IsAscending before.now }
     requires within { from < length before.now }
@@ -128,7 +153,7 @@ fn group_from<const W: usize>(
         from: from as u32,
         to: to as u32,
         order: window.order_of_next(),
-        offsets: permitted_offsets(problem, window, stage, due),
+        offsets: permitted_offsets(problem, window, stage, due, ahead),
     }
 }
 
@@ -147,11 +172,12 @@ fn groups_of<const W: usize>(
     ensures few { IfOk result (λ groups. length groups.items ≤ 823543) }
 {
     let due = due_set(stage, most_shift(problem));
+    let ahead = ahead_of(problem, stage);
     // Up to three windows share a tail.
     let mut groups = Vec::with_capacity(alloc, before.len() / 3)?;
     let mut from = 0;
     while from < before.len() {
-        let group = group_from(problem, stage, before, from, due);
+        let group = group_from(problem, stage, before, from, due, ahead);
         groups.push(group)?;
         from = group.to as usize;
     }

@@ -4,6 +4,7 @@
 #![tactic(auto)]
 
 mod again;
+mod ahead;
 mod compact;
 mod gather;
 mod groups;

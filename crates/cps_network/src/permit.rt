@@ -68,7 +68,7 @@ fn offset_of(landed: u8, rank: u8) -> i8
 }
 
 // Whether a rank that lands after so many is no further behind its place than the flights that passed it leave.
-fn is_in_time(problem: &Problem, landed: u8, rank: u8) -> bool
+pub(crate) fn is_in_time(problem: &Problem, landed: u8, rank: u8) -> bool
     requires landed { landed < length problem.now.flights }
     requires rank { (1 ≤ rank) × (rank ≤ length problem.now.flights) }
     ensures { IsTrue result ↔ (landed + 1 + passed_at problem.now rank ≤ rank + problem.now.k) }
@@ -97,9 +97,9 @@ pub(crate) fn may_follow<const W: usize>(
     // k is at most 3, and at most 60 flights wait.
     let _near = problem.head();
     let is_accepted = window.extend(offset_of(stage, rank)).is_some();
-    let is_in_time = is_in_time(problem, stage, rank);
+    let in_time = is_in_time(problem, stage, rank);
     let follows_all = problem.pairs().all_before(rank, placed);
-    is_accepted & is_in_time & follows_all
+    is_accepted & in_time & follows_all
 }
 
 // Whether a rank is permitted after a window of a stage.

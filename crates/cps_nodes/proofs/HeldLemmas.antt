@@ -1,15 +1,15 @@
 -- The ranks that a window holds, as bits, and which flight is due after one landing more.
 use Rattle.std.proofs.Common.{◌≡◌, ℕ, ◌+◌, ◌-◌, ◌*◌, ◌/◌, ◌%◌, ◌^◌, ◌<◌, List, length, ◌≤◌, arith, ◌∙◌, sym, ap, inl}
-use Rattle.std.proofs.Common.{inr, subst, zero, suc, shr-shr, mod-lt, pow_pos}
-use Rattle.std.specs.Prelude.{Bool, IsTrue, ◌↔◌, ◌⊎◌, ℤ, pos, ◌+ℤ◌, ◌-ℤ◌, ◌≤ℤ◌, bit_or}
-use Rattle.std.specs.Int.{bit_at, w32}
+use Rattle.std.proofs.Common.{inr, refl, subst, zero, suc, shr-shr, mod-lt, pow_pos}
+use Rattle.std.specs.Prelude.{Bool, IsTrue, ◌↔◌, ◌⊎◌, ℤ, pos, ◌+ℤ◌, ◌-ℤ◌, ◌≤ℤ◌, bit_or, bit_and, min}
+use Rattle.std.specs.Int.{bit_at, bit_not, w32, w64}
 use Rattle.std.proofs.lemmas.Bool.{cases_eq, cases_lt}
 use Rattle.std.proofs.lemmas.Int.{ints}
 use Rattle.std.proofs.lemmas.Nat.Bits.{bit_at_set_same, bit_at_set_other, bit_at-zero, bit_at_above, bit_at_cat_low}
-use Rattle.std.proofs.lemmas.Nat.Bits.{bit_at_cat_high}
+use Rattle.std.proofs.lemmas.Nat.Bits.{bit_at_cat_high, bit_at_and, bit_at_not, bit_at_ones, bit_at_ones_above, bit_at-lt}
 use Rattle.std.proofs.lemmas.Nat.{field_of}
 use Rattle.std.proofs.Math.Pow.{mod-mod-pow}
-use Rattle.cps_nodes.specs.Windows.{IsWindow, HoldsRank, offset_at, shifted}
+use Rattle.cps_nodes.specs.Windows.{IsWindow, HoldsRank, Accepts, offset_at, shifted}
 use Rattle.cps_nodes.specs.Held.{AreHeld}
 use Rattle.cps_nodes.specs.Leads.{IsWithin}
 use Rattle.cps_nodes.proofs.WindowLemmas.{offset_at-shifted_below, offset_at-shifted_last, length-shifted}
@@ -159,3 +159,68 @@ module _ (w : ℕ) (xs : List ℤ) (o : ℤ) (is : IsWindow w xs) where
     λ low. due_lands (omega (arith, ints, low, lowest, within.low)),
     λ holds. elim (due_before holds) [ inl now ↦ omega (arith, ints, now, lowest) | inr held ↦ absurd (none held) ],
   )
+
+-- ---- the offsets that are accepted
+
+module _ (w : ℕ) (xs : List ℤ) (is : IsWindow w xs) (j : ℕ) (lt : j < w) where
+  near : IsWithin (pos (w / 2)) (pos j -ℤ pos (w / 2))
+  near = record { low = omega (arith, ints); high = omega (arith, ints, lt, is.is_width) }
+
+  pub all_due : HoldsRank xs (pos (w / 2 + 1))
+      → (j < w) ↔ HoldsRank (shifted xs (pos j -ℤ pos (w / 2))) (pos (w / 2))
+  all_due held =
+      let both = highest_held w xs (pos j -ℤ pos (w / 2)) is (pos (w / 2)) refl held near in
+      (λ _. both.0 near.high, λ _. lt)
+
+  pub one_due : (HoldsRank xs (pos (w / 2 + 1)) → ⊥)
+      → (j < 1) ↔ HoldsRank (shifted xs (pos j -ℤ pos (w / 2))) (pos (w / 2))
+  one_due none =
+      let both = highest_lands w xs (pos j -ℤ pos (w / 2)) is (pos 0 -ℤ pos (w / 2)) (omega (arith, ints)) none near in
+      (λ first. both.0 (omega (arith, ints, first)), λ holds. omega (arith, ints, both.1 holds))
+
+-- bit j of those that are not held, up to a count of offsets
+module _ (w held count : ℕ) (xs : List ℤ) (is : IsWindow w xs) (are : AreHeld xs held) (few : held < 2 ^ 64)
+    (most : count ≤ w)
+    (due : (j : ℕ) → j < w → (j < count) ↔ HoldsRank (shifted xs (pos j -ℤ pos (w / 2))) (pos (w / 2))) where
+  kept : (j : ℕ) → j < w → bit_at (bit_not w64 held / 2 ^ (w - w / 2 + 8)) j ≡ 1 - bit_at held (w - w / 2 + 8 + j)
+  kept j lt = ap (λ (n : ℕ). n % 2) (shr-shr (bit_not w64 held) (w - w / 2 + 8) j)
+      ∙ bit_at_not w64 held (w - w / 2 + 8 + j) few (omega (arith, is.is_width, lt))
+
+  both : (j : ℕ) → bit_at (bit_and (bit_not w64 held / 2 ^ (w - w / 2 + 8)) (2 ^ count - 1)) j
+      ≡ min (bit_at (bit_not w64 held / 2 ^ (w - w / 2 + 8)) j) (bit_at (2 ^ count - 1) j)
+  both j = bit_at_and (bit_not w64 held / 2 ^ (w - w / 2 + 8)) (2 ^ count - 1) j
+
+  pub accepted_bits : (j : ℕ) → (bit_at (bit_and (bit_not w64 held / 2 ^ (w - w / 2 + 8)) (2 ^ count - 1)) j ≡ 1)
+      ↔ ((j < w) × Accepts xs (pos j -ℤ pos (w / 2)))
+  accepted_bits j = (on, back)
+    where
+      on : bit_at (bit_and (bit_not w64 held / 2 ^ (w - w / 2 + 8)) (2 ^ count - 1)) j ≡ 1
+          → (j < w) × Accepts xs (pos j -ℤ pos (w / 2))
+      on has = elim (cases_lt j count) [
+        | inr past ↦ let z : bit_at (2 ^ count - 1) j ≡ 0 = bit_at_ones_above count j past in
+            absurd (omega (arith, has, both j, z))
+        | inl below ↦
+            let lt : j < w = omega (arith, below, most) in
+            let free : bit_at held (w - w / 2 + 8 + j) ≡ 0 = omega (arith, has, both j, kept j lt) in (
+              lt,
+              record {
+                fresh = λ holds.
+                    let set : bit_at held (w - w / 2 + 8 + j) ≡ 1 = (are (w - w / 2 + 8 + j)).1
+                    (subst (HoldsRank xs) (omega (arith, ints, is.len, is.is_width)) holds) in
+                    omega (arith, set, free);
+                due = rw is.len ((due j lt).0 below);
+              },
+            )
+      ]
+
+      back : (j < w) × Accepts xs (pos j -ℤ pos (w / 2))
+          → bit_at (bit_and (bit_not w64 held / 2 ^ (w - w / 2 + 8)) (2 ^ count - 1)) j ≡ 1
+      back (lt, can) =
+          let below : j < count = (due j lt).1 (rw is.len at can.due) in
+          let one : bit_at (2 ^ count - 1) j ≡ 1 = bit_at_ones count j below in
+          let free : bit_at held (w - w / 2 + 8 + j) ≡ 0 = elim (cases_eq (bit_at held (w - w / 2 + 8 + j)) 1) [
+            | inl set ↦ absurd (can.fresh (subst (HoldsRank xs) (omega (arith, ints, is.len, is.is_width))
+                ((are (w - w / 2 + 8 + j)).0 set)))
+            | inr not ↦ omega (arith, not, bit_at-lt held (w - w / 2 + 8 + j))
+          ] in
+          both j ∙ omega (arith, kept j lt, free, one)

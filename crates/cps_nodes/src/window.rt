@@ -170,6 +170,27 @@ fn highest_offset<const W: usize>(held: u32) -> i8
     if has_rank(held, k + 1) { k } else { -k }
 }
 
+// How many offsets from -k on are those of landings after which a window with these ranks holds the rank that is then due.
+#[inline]
+fn count_due<const W: usize>(held: u32) -> u32
+    requires { IsWidth W }
+    ensures most { result ≤ W }
+    ensures due { (xs : List ℤ) → IsWindow W xs → AreHeld xs held → (j : ℕ) → j < W
+        → (j < result) ↔ HoldsRank (shifted xs (pos j -ℤ pos (W / 2))) (pos (W / 2)) }
+{
+    let k = (W / 2) as i8;
+    if has_rank(held, k + 1) { W as u32 } else { 1 }
+}
+
+// So many lowest bits.
+#[inline]
+fn lowest_bits(count: u32) -> u64
+    requires { count < 8 }
+    ensures { result ≡ 2 ^ count - 1 }
+{
+    (1 << count) - 1
+}
+
 impl<const W: usize> Window<W> {
     /// The window before the first landing: W zeros.
     pub fn source() -> Window<W>
@@ -324,6 +345,20 @@ impl<const W: usize> ExtendableWindow<W> {
             return held >> (start - stage);
         }
         held << (stage - start)
+    }
+
+    /// The offsets from -k to k that the window accepts, as bits: bit k + offset.
+    #[inline]
+    pub fn accepted(&self) -> u64
+        ensures valid { IsWindow W self.now }
+        ensures accepted { (j : ℕ) → (bit_at result j ≡ 1)
+            ↔ ((j < W) × Accepts self.now (pos j -ℤ pos (W / 2))) }
+    {
+        let window = self.window;
+        let _digits = window.digits;
+        let due = lowest_bits(count_due::<W>(self.held));
+        let held = u64::from(self.held);
+        (!held >> (W - W / 2 + 8)) & due
     }
 
     /// The window after one more landing, at this offset from -k to k. `None` exactly where the flight stands in this

@@ -1,4 +1,4 @@
-use Rattle.std.proofs.Common.{◌≡◌, ◌+◌, ◌-◌, ◌*◌, ◌<◌, ℕ, arith, rules, tests, subst}
+use Rattle.std.proofs.Common.{◌+◌, ◌-◌, ℕ, arith, rules, tests, subst}
 use Rattle.cps_network.specs.Again.{WaitAlikeFor, WaitsNear}
 use Rattle.cps_network.proofs.RangeTests.{each_in_range}
 use Rattle.cps_network.proofs.AgainLemmas.{waits_by_places, reach_back, far_back}

@@ -1,6 +1,6 @@
-use Rattle.std.proofs.Common.{◌≡◌, ◌∙◌, [], ap, sym, subst, arith, drop}
+use Rattle.std.proofs.Common.{◌≡◌, ◌∙◌, [], ap, sym, subst, drop}
 use Rattle.std.proofs.lemmas.List.{get_or_default}
-use Rattle.cps_network.specs.Extended.{HasPermitted, IsGroupOf}
+use Rattle.cps_network.specs.Extended.{HasPermitted}
 use Rattle.cps_network.specs.Lists.{node_at}
 use Rattle.cps_network.proofs.GroupLemmas.{group_here}
 use Rattle.cps_network.proofs.groups.group_from.Goals as goal

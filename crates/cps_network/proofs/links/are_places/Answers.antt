@@ -1,5 +1,5 @@
 use Rattle.std.proofs.Common.{◌≡◌, ◌∙◌, ℕ, ◌<◌, [], length, subst, below_more, arith}
-use Rattle.std.specs.Prelude.{ℤ, slice_index}
+use Rattle.std.specs.Prelude.{slice_index}
 use Rattle.std.proofs.lemmas.List.{get_or_default}
 use Rattle.cps_nodes.specs.Leads.{Extends}
 use Rattle.cps_network.specs.Lists.{node_at}

@@ -1,8 +1,8 @@
-use Rattle.std.proofs.Common.{◌≡◌, ℕ, ◌+◌, ◌≤◌, arith, subst, w8, to_z, of_z}
+use Rattle.std.proofs.Common.{◌≡◌, ℕ, arith, subst, w8, to_z, of_z}
 use Rattle.std.specs.Prelude.{ℤ, pos, IsTrue, ◌↔◌, is_some}
 use Rattle.std.proofs.lemmas.Int.{ints}
 use Rattle.precedence.specs.Pairs.{HasBit, MustPrecede, AreInRange}
-use Rattle.cps_nodes.specs.Windows.{Accepts, IsPlaced, shifted}
+use Rattle.cps_nodes.specs.Windows.{Accepts, IsPlaced}
 use Rattle.cps_nodes.specs.Laws.{offset_after}
 use Rattle.cps_network.proofs.PermitLemmas.{is_some_tells, all_three}
 use Rattle.cps_network.proofs.permit.may_follow.Goals as goal
@@ -26,7 +26,7 @@ returns g c =
       λ t first must. (c.requires.placed first (range first c.args.rank must).0).0 (all.0 t first must),
       λ after. all.1 (λ first must. (c.requires.placed first (range first c.args.rank must).0).1 (after first must)),
     ) in
-    let three = all_three _ _ _ _ _ _ accepts c.is_in_time-is_in_time.ensures placed in (
+    let three = all_three _ _ _ _ _ _ accepts c.is_in_time-in_time.ensures placed in (
       λ t. let each = three.0 t in record {
         from_one = c.requires.rank.0;
         to_count = c.requires.rank.1;

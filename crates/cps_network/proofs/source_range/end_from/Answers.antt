@@ -1,4 +1,4 @@
-use Rattle.std.proofs.Common.{ℕ, ◌<◌, ◌≤◌, length, arith, rules, tests}
+use Rattle.std.proofs.Common.{ℕ, length, arith, rules, tests}
 use Rattle.std.specs.Bool.{⊤}
 use Rattle.std.proofs.lemmas.Iterator.{first_from_Range}
 use Rattle.cps_nodes.specs.Leads.{TailMeetsHead}

@@ -1,4 +1,4 @@
-use Rattle.std.proofs.Common.{◌≡◌, ◌∙◌, ℕ, List, sym, subst}
+use Rattle.std.proofs.Common.{◌∙◌, List, sym, subst}
 use Rattle.std.specs.Prelude.{ℤ}
 use Rattle.cps_network.specs.Links.{AreGroups}
 use Rattle.cps_network.proofs.LinkLemmas.{AreLinks-same}
