@@ -1,6 +1,6 @@
 -- One window more is put together.
-use Rattle.std.proofs.Common.{◌≡◌, ℕ, ◌+◌, ◌<◌, ◌≤◌, inl, inr, List, [], ◌∷◌, ◌++◌, length, length-append, refl, sym}
-use Rattle.std.proofs.Common.{ap, ap₂, subst, ◌∙◌, arith}
+use Rattle.std.proofs.Common.{◌≡◌, ℕ, ◌+◌, ◌<◌, inl, inr, List, [], ◌∷◌, ◌++◌, length, length-append, refl, sym}
+use Rattle.std.proofs.Common.{ap, subst, ◌∙◌, arith}
 use Rattle.std.specs.Prelude.{ℤ}
 use Rattle.std.proofs.lemmas.Bool.{cases_eq, cases_lt}
 use Rattle.std.proofs.lemmas.List.{get_or_append_left, get_or_push}
@@ -8,8 +8,8 @@ use Rattle.cps_network.specs.Lists.{node_at}
 use Rattle.cps_network.specs.Nodes.{latest}
 use Rattle.cps_network.specs.WindowRanks.{TellsPlaced}
 use Rattle.cps_network.specs.declared.node.Node.{Node}
-use Rattle.replan.specs.WindowNodes.{no_node, seen_at, told_at, AreOneNode, AreSame, ArePutTogether, AreSeen, IsKept}
-use Rattle.replan.specs.WindowNodes.{IsKeptOrPut, IsPut, IsSeenAt}
+use Rattle.replan.specs.WindowNodes.{no_node, seen_at, told_at, AreOneNode, AreSame, ArePutTogether, AreSeen}
+use Rattle.replan.specs.WindowNodes.{IsKeptOrPut, IsSeenAt}
 use Rattle.replan.specs.shared.OneNode.{one_same, same_one}
 
 -- the windows are put together, each node with what its first window tells

@@ -1,4 +1,4 @@
-use Rattle.std.proofs.Common.{◌≡◌, ◌+◌, length}
+use Rattle.std.proofs.Common.{◌≡◌, length}
 use Rattle.replan.proofs.TogetherLemmas.{AreGrouped}
 use Rattle.replan.proofs.window_nodes.together.Given as goal
 

@@ -1,4 +1,4 @@
-use Rattle.std.proofs.Common.{◌≡◌, ℕ, List, length, ap, ap₂, subst, sym, ◌∙◌}
+use Rattle.std.proofs.Common.{List, length, subst, sym}
 use Rattle.std.specs.Prelude.{ℤ}
 use Rattle.replan.specs.WindowNodes.{ArePutTogether, WindowNodes}
 use Rattle.replan.proofs.MovedNodes.{together_moved}
