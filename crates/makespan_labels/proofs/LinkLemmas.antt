@@ -107,11 +107,10 @@ module _ (p : Problem) (w : ℕ) (before stage : ℕ × List (List ℤ)) (labels
   leads_there : (i : ℕ) → i < length places
       → Extends (node_at before.1 (range_at ranges (slice_index places i - first)).0) (node_at stage.1 (start + i))
   leads_there i lt =
+      let front = (range_at l.ranges (slice_index l.places (start + i))).0 in
       subst (λ (range : ℕ × ℕ). Extends (node_at before.1 range.0) (node_at stage.1 (start + i))) (sym (range_is i lt))
-      (subst (λ (ws : List (List ℤ)). Extends (node_at before.1 (range_at l.ranges (slice_index l.places (start + i))).0)
-      (node_at ws (start + i))) target
-      (subst (λ (ws : List (List ℤ)). Extends (node_at ws (range_at l.ranges (slice_index l.places (start + i))).0)
-      (node_at l.target (start + i))) origin
+      (subst (λ (ws : List (List ℤ)). Extends (node_at before.1 front) (node_at ws (start + i))) target
+      (subst (λ (ws : List (List ℤ)). Extends (node_at ws front) (node_at l.target (start + i))) origin
       (links.leads (start + i)
       (place_target l links stage.1 target start stop ordered stops places places_are i lt))))
 

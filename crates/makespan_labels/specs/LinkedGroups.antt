@@ -22,8 +22,8 @@ pub record IsLeadTo (p : Problem) (width : ℕ) (before : ℕ × List (List ℤ)
   pub landed : 1 ≤ over.leader
   pub leads : Extends (node_at before.1 from) window
 
--- each of these windows from place `start` on, one for each of these places, has there the place of a group that leads to
--- it, in whose windows a flight has landed. The groups are counted from place `first` on
+-- each of these windows from place `start` on, as many as there are places, has in them the place of a group that leads
+-- to it, in whose windows a flight has landed. The groups are counted from place `first` on
 pub record LeadToEach (p : Problem) (width : ℕ) (before : ℕ × List (List ℤ)) (labels : List ℕ)
     (windows : List (List ℤ)) (start : ℕ) (places : List ℕ) (first : ℕ) (leasts : List ℕ)
     (categories : List Category) : Type 0 where

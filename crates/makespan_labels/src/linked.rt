@@ -61,8 +61,13 @@ fn ends_of(places: &[u32], ranges: &[(u32, u32)]) -> Option<(usize, usize)>
         × (ends.1 - ends.0 ≤ 1024) × ((i : ℕ) → i < length places.now
         → (ends.0 ≤ slice_index places.now i) × (slice_index places.now i < ends.1))) }
 {
-    let least = *places.iter().take(TELLING).min()?;
-    let greatest = *places.iter().rev().take(TELLING).max()?;
+    let len = places.len();
+    let least = places[..len.min(TELLING)]
+        .iter()
+        .fold(u32::MAX, |least, place| least.min(*place));
+    let greatest = places[len.saturating_sub(TELLING)..]
+        .iter()
+        .fold(0, |greatest, place| greatest.max(*place));
     let first = least as usize;
     let end = greatest as usize + 1;
     if end <= first || end > ranges.len() || end - first > ROOM {
