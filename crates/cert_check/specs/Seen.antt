@@ -2,9 +2,9 @@
 use Rattle.std.specs.Prelude.{ℕ, suc, ◌+◌, ◌-◌, ◌||◌, Bool, false, get_or}
 use Rattle.std.proofs.Common.{eqb}
 use Rattle.cps_theory.specs.Patterns.{PatternNode}
-use Rattle.cert_check.specs.declared.node.Node.{Node}
+use Rattle.cert_check.specs.declared.node.StateNode.{StateNode}
 
-abbrev pub seen : Node → PatternNode
+abbrev pub seen : StateNode → PatternNode
 seen w = (w.stage, w.pattern, w.last)
 
 -- whether the rank of `rank + k = y` is placed, behind a node by one more rank

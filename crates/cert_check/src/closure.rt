@@ -10,7 +10,7 @@ ghost use Rattle.cert_check.specs.Landings.{count};
 ghost use Rattle.cert_check.specs.States.{node_of, ready, successor, covers, is_missed, misses, first_missed, missed_from, successor_failure, shape_failure, is_misshapen, start_node};
 ghost use Rattle.cert_check.specs.Seen.{seen};
 
-use crate::node::{Node, compare, node_of, pushed, start_node};
+use crate::node::{StateNode, compare, node_of, pushed, start_node};
 use crate::permitted::is_permitted;
 use certificate::CertState;
 use cps_problem::Problem;
@@ -44,7 +44,7 @@ fn successor(problem: &Problem, last: u8, pair: (u32, u32), rank: u8) -> Option<
 }
 
 // Where the state of a node stands among states in their order.
-fn find(states: &[CertState], node: &Node) -> Result<usize, usize>
+fn find(states: &[CertState], node: &StateNode) -> Result<usize, usize>
     ensures found { IsBinarySearchResult (λ s. node_cmp (node_of s) (seen node.now)) states.now
         result }
     ensures bound { IsSearchInRange result (length states.now) }
@@ -66,7 +66,7 @@ fn has_no_worse(pairs: &[(u32, u32)], pair: (u32, u64)) -> bool
 }
 
 // Whether the state of this node lists a pair that is no later and no dearer.
-fn covers(states: &[CertState], node: &Node, pair: (u32, u64)) -> bool
+fn covers(states: &[CertState], node: &StateNode, pair: (u32, u64)) -> bool
     requires { AreAscending states.now }
     ensures { result ≡ covers states.now (seen node.now) pair }
 {
@@ -79,7 +79,7 @@ fn covers(states: &[CertState], node: &Node, pair: (u32, u64)) -> bool
 fn is_missed(
     problem: &Problem,
     states: &[CertState],
-    node: &Node,
+    node: &StateNode,
     rank: u8,
     pair: (u32, u32),
 ) -> bool
@@ -101,7 +101,7 @@ fn is_missed(
 fn misses_any(
     problem: &Problem,
     states: &[CertState],
-    node: &Node,
+    node: &StateNode,
     rank: u8,
     pairs: &[(u32, u32)],
 ) -> bool
@@ -120,7 +120,7 @@ fn misses_any(
 fn misses(
     problem: &Problem,
     states: &[CertState],
-    node: &Node,
+    node: &StateNode,
     rank: u8,
     pairs: &[(u32, u32)],
 ) -> bool
@@ -137,7 +137,7 @@ fn misses(
 fn first_missed(
     problem: &Problem,
     states: &[CertState],
-    node: &Node,
+    node: &StateNode,
     pairs: &[(u32, u32)],
 ) -> Option<u8>
     requires ascending { AreAscending states.now }

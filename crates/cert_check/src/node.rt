@@ -10,9 +10,9 @@ use certificate::{CertState, Pattern};
 use cps_problem::Problem;
 use std::cmp::Ordering;
 
-// How many ranks are placed, which of them round the stage, and the last one.
+// The node of a state of a certificate: how many ranks are placed, which of them round the stage, and the last one.
 #[derive(Clone, Copy)]
-pub(crate) struct Node {
+pub(crate) struct StateNode {
     pub stage: u8,
     pub pattern: Pattern,
     pub last: u8,
@@ -27,7 +27,7 @@ pub(crate) fn digit(pattern: &Pattern, j: u8) -> bool
 }
 
 #[tactic(auto, unfolding(cps_theory::specs::CertificateClosure::is_placed_by_pattern))]
-pub(crate) fn is_placed(k: u8, node: &Node, rank: u8) -> bool
+pub(crate) fn is_placed(k: u8, node: &StateNode, rank: u8) -> bool
     requires k { k ≤ 3 }
     requires rank { rank ≤ 200 }
     requires stage { node.now.stage ≤ 60 }
@@ -38,11 +38,11 @@ pub(crate) fn is_placed(k: u8, node: &Node, rank: u8) -> bool
 }
 
 // The node of a state.
-pub(crate) fn node_of(state: &CertState) -> Node
+pub(crate) fn node_of(state: &CertState) -> StateNode
     ensures value { seen result ≡ node_of state.now }
     ensures range { (result.stage ≤ 60) × (result.last ≤ 60) }
 {
-    Node {
+    StateNode {
         stage: state.stage(),
         pattern: state.pattern(),
         last: state.last(),
@@ -50,7 +50,7 @@ pub(crate) fn node_of(state: &CertState) -> Node
 }
 
 // In which order a state and a node stand.
-pub(crate) fn compare(state: &CertState, node: &Node) -> Ordering
+pub(crate) fn compare(state: &CertState, node: &StateNode) -> Ordering
     ensures { result ≡ node_cmp (node_of state.now) (seen node.now) }
 {
     state
@@ -61,7 +61,7 @@ pub(crate) fn compare(state: &CertState, node: &Node) -> Ordering
 }
 
 // Whether the rank of `rank + k = stage + 1 + j` is placed, when `rank` has come next.
-fn pushed_digit(k: u8, node: &Node, rank: u8, j: u8) -> bool
+fn pushed_digit(k: u8, node: &StateNode, rank: u8, j: u8) -> bool
     requires k { k ≤ 3 }
     requires rank { rank ≤ 60 }
     requires stage { node.now.stage ≤ 60 }
@@ -72,7 +72,7 @@ fn pushed_digit(k: u8, node: &Node, rank: u8, j: u8) -> bool
 }
 
 // The digits behind a node by one more rank, as the bits of a number.
-fn pushed_ones(k: u8, node: &Node, rank: u8) -> u8
+fn pushed_ones(k: u8, node: &StateNode, rank: u8) -> u8
     requires k { k ≤ 3 }
     requires rank { rank ≤ 60 }
     requires stage { node.now.stage ≤ 60 }
@@ -87,13 +87,13 @@ fn pushed_ones(k: u8, node: &Node, rank: u8) -> u8
 }
 
 // The node behind a node by one more rank.
-pub(crate) fn pushed(problem: &Problem, node: &Node, rank: u8) -> Node
+pub(crate) fn pushed(problem: &Problem, node: &StateNode, rank: u8) -> StateNode
     requires rank { rank ≤ 60 }
     requires stage { node.now.stage ≤ 60 }
     ensures { seen result ≡ pattern_push (rules_of problem.now) (seen node.now) rank }
 {
     let k = problem.head().k;
-    Node {
+    StateNode {
         stage: node.stage + 1,
         pattern: Pattern::new(2 * k, pushed_ones(k, node, rank)),
         last: rank,
@@ -114,12 +114,12 @@ fn start_ones(k: u8) -> u8
 }
 
 // The node before the first landing.
-pub(crate) fn start_node(problem: &Problem) -> Node
+pub(crate) fn start_node(problem: &Problem) -> StateNode
     ensures value { seen result ≡ pattern_node (rules_of problem.now) [] }
     ensures range { (result.stage ≡ 0) × (result.last ≡ 0) }
 {
     let k = problem.head().k;
-    Node {
+    StateNode {
         stage: 0,
         pattern: Pattern::new(2 * k, start_ones(k)),
         last: 0,

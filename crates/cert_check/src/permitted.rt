@@ -6,11 +6,11 @@ ghost use Rattle.cert_check.specs.Landings.{count};
 ghost use Rattle.cert_check.specs.States.{rules_of};
 ghost use Rattle.cert_check.specs.Seen.{seen};
 
-use crate::node::{Node, is_placed};
+use crate::node::{StateNode, is_placed};
 use cps_problem::Problem;
 
 // The flight of rank `other` must land before that of `rank`, and is not placed.
-fn is_missing_predecessor(problem: &Problem, node: &Node, rank: u8, other: u8) -> bool
+fn is_missing_predecessor(problem: &Problem, node: &StateNode, rank: u8, other: u8) -> bool
     requires stage { node.now.stage ≤ 60 }
     requires rank { (1 ≤ rank) × (rank ≤ count problem.now) }
     requires other { (1 ≤ other) × (other ≤ count problem.now) }
@@ -20,7 +20,7 @@ fn is_missing_predecessor(problem: &Problem, node: &Node, rank: u8, other: u8) -
     problem.pairs().must_precede(other, rank) && !is_placed(head.k, node, other)
 }
 
-fn missing_predecessor(problem: &Problem, node: &Node, rank: u8) -> Option<u8>
+fn missing_predecessor(problem: &Problem, node: &StateNode, rank: u8) -> Option<u8>
     requires stage { node.now.stage ≤ 60 }
     requires rank { (1 ≤ rank) × (rank ≤ count problem.now) }
     ensures { result ≡ first_from (is_missing_predecessor (rules_of problem.now) (seen node.now)
@@ -31,7 +31,7 @@ fn missing_predecessor(problem: &Problem, node: &Node, rank: u8) -> Option<u8>
 
 // After this rank, the rank that no later place could take is placed.
 #[tactic(auto, unfolding(cps_theory::specs::CertificateClosure::leaves_none_due))]
-fn leaves_none_due(problem: &Problem, node: &Node, rank: u8) -> bool
+fn leaves_none_due(problem: &Problem, node: &StateNode, rank: u8) -> bool
     requires { node.now.stage ≤ 60 }
     ensures { result ≡ leaves_none_due (rules_of problem.now) (seen node.now) rank }
 {
@@ -53,7 +53,7 @@ fn is_near(problem: &Problem, stage: u8, rank: u8) -> bool
 }
 
 #[tactic(auto, unfolding(cps_theory::specs::CertificateClosure::permits_next))]
-pub(crate) fn is_permitted(problem: &Problem, node: &Node, rank: u8) -> bool
+pub(crate) fn is_permitted(problem: &Problem, node: &StateNode, rank: u8) -> bool
     requires stage { node.now.stage ≤ 60 }
     requires rank { (1 ≤ rank) × (rank ≤ count problem.now) }
     ensures { result ≡ permits_next (rules_of problem.now) (seen node.now) rank }

@@ -7,13 +7,13 @@ ghost use Rattle.cert_check.specs.Landings.{count};
 ghost use Rattle.cert_check.specs.States.{digit, is_one, is_wrong_digit, is_shaped, is_misshapen, node_of, shape_failure, is_final, is_final_below, final_failure};
 ghost use Rattle.cert_check.specs.Seen.{seen};
 
-use crate::node::{Node, digit, is_placed, node_of};
+use crate::node::{StateNode, digit, is_placed, node_of};
 use crate::objective::objective_of;
 use certificate::{CertState, Claim, Pattern};
 use cps_problem::Problem;
 
 // Digit j tells of a rank below 1 that it is not placed, or of a rank above n that it is.
-fn is_wrong_digit(k: u8, n: u8, node: &Node, j: u8) -> bool
+fn is_wrong_digit(k: u8, n: u8, node: &StateNode, j: u8) -> bool
     requires k { k ≤ 3 }
     requires n { n ≤ 60 }
     requires stage { node.now.stage ≤ 60 }
@@ -25,7 +25,7 @@ fn is_wrong_digit(k: u8, n: u8, node: &Node, j: u8) -> bool
     (at <= k && !is_one) || (n + k < at && is_one)
 }
 
-fn wrong_digit(k: u8, n: u8, node: &Node) -> Option<u8>
+fn wrong_digit(k: u8, n: u8, node: &StateNode) -> Option<u8>
     requires k { k ≤ 3 }
     requires n { n ≤ 60 }
     requires stage { node.now.stage ≤ 60 }
@@ -42,7 +42,7 @@ fn ones(pattern: &Pattern) -> u8
 }
 
 #[tactic(auto, unfolding(crate::specs::States::is_shaped))]
-fn is_shaped(problem: &Problem, node: &Node) -> bool
+fn is_shaped(problem: &Problem, node: &StateNode) -> bool
     requires stage { node.now.stage ≤ 60 }
     requires last { node.now.last ≤ 60 }
     ensures { result ≡ is_shaped problem.now.k (count problem.now) (seen node.now) }

@@ -44,21 +44,29 @@ fn plan_event<R: Threads + Sync, G: Gate + Sync>(
     Ok(steps.ledger().value())
 }
 
+// An event with its number in the log, from 1 on.
+#[derive(Clone, Copy)]
+struct Numbered<'a> {
+    number: u32,
+    event: &'a Event,
+}
+
 // One event: its planning, and one put of its line.
 fn step<R: Threads + Sync, S: Sink, G: Gate + Sync>(
     rt: &R,
     alloc: Global,
     sequencer: &mut Sequencer<AnyKept>,
-    number: u32,
-    event: &Event,
+    numbered: Numbered<'_>,
     out: &mut S,
     gate: &G,
 ) -> Result<u64, Stop>
-    requires good { IsGoodEvent (event_of event.now) }
+    requires good { IsGoodEvent (event_of numbered.event.now) }
     requires held { Holds sequencer.old.planner sequencer.old.problem }
-    ensures { StepPlans sequencer.old sequencer.new number (event_of event.now) (S.state out.old)
-        (S.state out.new) result }
+    ensures { StepPlans sequencer.old sequencer.new numbered.entry.number
+        (event_of numbered.entry.event.now)
+        (S.state out.old) (S.state out.new) result }
 {
+    let Numbered { number, event } = numbered;
     match plan_event(rt, alloc, sequencer, event, gate) {
         Ok(steps) => {
             let text = accepted(alloc, number, steps)?;
@@ -92,8 +100,11 @@ fn plan_events<R: Threads + Sync, S: Sink, G: Gate + Sync>(
 {
     let mut total: u64 = 0;
     for i in 0..events.len() {
-        let number = i as u32 + 1;
-        let steps = step(rt, alloc, sequencer, number, &events[i], out, gate)?;
+        let numbered = Numbered {
+            number: i as u32 + 1,
+            event: &events[i],
+        };
+        let steps = step(rt, alloc, sequencer, numbered, out, gate)?;
         total += steps;
     }
     Ok(total)
