@@ -29,6 +29,10 @@ finding_of (code.Value v) = rules.Value v
 abbrev pub Finds : List Finding → List Finding → List rules.Finding → Type 0
 Finds old new found = map finding_of new ≡ map finding_of old ++ found
 
+-- a finding, unless what it says is broken is kept
+abbrev pub unless : Bool → rules.Finding → List rules.Finding
+unless is_kept finding = if is_kept then [] else finding ∷ []
+
 -- what is found of a line whose callsign was seen above, or was not
 abbrev pub repeated : Bool → List ℕ → List rules.Finding
 repeated was_seen c = if was_seen then rules.Twice c ∷ [] else []

@@ -1,9 +1,9 @@
 // The lines of a block with their flights.
 ghost use Rattle.std.specs.Prelude.{◌≡◌, ◌++◌, [], IfOk, OnOk, map};
 ghost use Rattle.std.specs.List.{cons_option};
-ghost use Rattle.landing_rules.specs.Audit.{lines_found, is_marked, mismarked};
+ghost use Rattle.landing_rules.specs.Audit.{lines_found, is_marked, mismarked, Mark};
 ghost use Rattle.plan_file.specs.Shown.{shown_of};
-ghost use Rattle.audit.specs.Findings.{Finds, one_found};
+ghost use Rattle.audit.specs.Findings.{Finds, one_found, unless};
 
 use crate::Finding;
 use cps_base::Callsign;
@@ -87,14 +87,23 @@ fn is_marked(found: &Found) -> bool
     found.line.frozen == found.active.frozen.is_some()
 }
 
+// Notes a line whose last word is not the flight's state.
+fn note_mark(f: &Found, all: &mut Vec<Finding>) -> Result<(), AllocError>
+    ensures { OnOk result (Finds all.old.items all.new.items
+        (unless (is_marked f.now) (Mark f.now.0.callsign))) }
+{
+    if !is_marked(f) {
+        all.push(Finding::Mark(f.line.callsign))?;
+    }
+    Ok(())
+}
+
 // Each line whose last word is not the flight's state.
 pub(crate) fn mismarked(found: &[Found], all: &mut Vec<Finding>) -> Result<(), AllocError>
     ensures { OnOk result (Finds all.old.items all.new.items (mismarked found.now)) }
 {
-    all.extend(
-        found
-            .iter()
-            .filter(|f| !is_marked(f))
-            .map(|f| Finding::Mark(f.line.callsign)),
-    )
+    for f in found {
+        note_mark(f, all)?;
+    }
+    Ok(())
 }

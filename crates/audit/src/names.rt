@@ -1,10 +1,10 @@
 // Whether the lines name each active flight, no other, and none twice.
 ghost use Rattle.std.specs.Prelude.{◌≡◌, ◌++◌, ℕ, List, [], OnOk, length, map};
-ghost use Rattle.landing_rules.specs.Audit.{by_name, has_line, lines_found, missing, twice, unknown};
+ghost use Rattle.landing_rules.specs.Audit.{by_name, has_line, lines_found, missing, Missing, twice, unknown, Unknown};
 ghost use Rattle.landing_rules.specs.Events.{named};
 ghost use Rattle.std.specs.List.{list_any};
 ghost use Rattle.plan_file.specs.Shown.{shown_of};
-ghost use Rattle.audit.specs.Findings.{Finds, repeated};
+ghost use Rattle.audit.specs.Findings.{Finds, repeated, unless};
 ghost use Rattle.audit.specs.Seen.{has_name};
 
 use crate::Finding;
@@ -14,6 +14,17 @@ use cps_base::Callsign;
 use plan_file::Landing;
 use situations::Active;
 use std::alloc::{AllocError, Global};
+
+// Notes an active flight without a line.
+fn note_missing(seen: &Seen, a: &Active, all: &mut Vec<Finding>) -> Result<(), AllocError>
+    ensures { OnOk result (Finds all.old.items all.new.items
+        (unless (has_name seen.now a.now.flight.callsign) (Missing a.now.flight.callsign))) }
+{
+    if !seen.has(name_of(a)) {
+        all.push(Finding::Missing(name_of(a)))?;
+    }
+    Ok(())
+}
 
 // Each active flight without a line, in order of arrival.
 fn missing(
@@ -26,12 +37,10 @@ fn missing(
     ensures { OnOk result (Finds all.old.items all.new.items
         (missing active.now (map shown_of lines.now))) }
 {
-    all.extend(
-        active
-            .iter()
-            .filter(|a| !seen.has(name_of(a)))
-            .map(|a| Finding::Missing(name_of(a))),
-    )
+    for a in active {
+        note_missing(seen, a, all)?;
+    }
+    Ok(())
 }
 
 // Whether a flight of this name is active.
@@ -41,17 +50,26 @@ fn is_active(active: &[Active], callsign: Callsign) -> bool
     active.iter().any(|a| name_of(a) == callsign)
 }
 
+// Notes a line that names no active flight.
+fn note_unknown(active: &[Active], l: &Landing, all: &mut Vec<Finding>) -> Result<(), AllocError>
+    ensures { OnOk result (Finds all.old.items all.new.items
+        (unless (list_any (named (shown_of l.now).callsign) active.now) (Unknown (shown_of l.now).callsign))) }
+{
+    if !is_active(active, l.callsign) {
+        all.push(Finding::Unknown(l.callsign))?;
+    }
+    Ok(())
+}
+
 // Each line that names no active flight.
 fn unknown(active: &[Active], lines: &[Landing], all: &mut Vec<Finding>) -> Result<(), AllocError>
     ensures { OnOk result (Finds all.old.items all.new.items
         (unknown active.now (map shown_of lines.now))) }
 {
-    all.extend(
-        lines
-            .iter()
-            .filter(|l| !is_active(active, l.callsign))
-            .map(|l| Finding::Unknown(l.callsign)),
-    )
+    for l in lines {
+        note_unknown(active, l, all)?;
+    }
+    Ok(())
 }
 
 // The same where the flights of so many lines were found: with those of all there is none to look for.
@@ -73,7 +91,7 @@ fn unknown_unless(
 }
 
 // Notes a line whose callsign was seen.
-fn note(was_seen: bool, callsign: Callsign, all: &mut Vec<Finding>) -> Result<(), AllocError>
+fn note_again(was_seen: bool, callsign: Callsign, all: &mut Vec<Finding>) -> Result<(), AllocError>
     ensures { OnOk result (Finds all.old.items all.new.items (repeated was_seen callsign)) }
 {
     if was_seen {
@@ -92,7 +110,7 @@ fn twice(lines: &[Landing], seen: &mut Seen, all: &mut Vec<Finding>) -> Result<(
 {
     for line in lines {
         let was_seen = seen.add(line.callsign)?;
-        note(was_seen, line.callsign, all)?;
+        note_again(was_seen, line.callsign, all)?;
     }
     Ok(())
 }

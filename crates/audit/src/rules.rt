@@ -1,9 +1,9 @@
 // The rules over the lines of a block, each with its flight.
-ghost use Rattle.std.specs.Prelude.{◌≡◌, OnOk, flat_map, map};
+ghost use Rattle.std.specs.Prelude.{◌≡◌, OnOk, flat_map, map, unwrap_or};
 ghost use Rattle.landing_rules.specs.Rules.{is_open};
-ghost use Rattle.landing_rules.specs.Audit.{landing_of, closed, are_apart, unseparated, for_failing, Separation, is_before, late, listed_late, is_kept, moved, is_late_enough, early};
+ghost use Rattle.landing_rules.specs.Audit.{landing_of, closed, Closed, are_apart, unseparated, for_failing, Separation, is_before, late, listed_late, Precedence, is_kept, moved, Moved, is_late_enough, early, Early};
 ghost use Rattle.landing_rules.specs.Flights.{horizon, Landing};
-ghost use Rattle.audit.specs.Findings.{Finds};
+ghost use Rattle.audit.specs.Findings.{Finds, unless};
 
 use crate::Finding;
 use crate::found::Found;
@@ -20,6 +20,17 @@ fn is_at_open_second(closures: &Closures, found: &Found) -> bool
     is_open(&found.active.flight.windows, closures, found.line.second)
 }
 
+// Notes a landing at a second that is not open.
+fn note_closed(situation: &Situation, f: &Found, all: &mut Vec<Finding>) -> Result<(), AllocError>
+    ensures { OnOk result (Finds all.old.items all.new.items
+        (unless (is_open f.now.1.flight.windows situation.now.closures f.now.0.second) (Closed f.now.1.flight.callsign f.now.0.second))) }
+{
+    if !is_at_open_second(situation.closures(), f) {
+        all.push(Finding::Closed(f.active.flight.callsign, f.line.second))?;
+    }
+    Ok(())
+}
+
 // Each landing at a second that is not open.
 pub(crate) fn closed(
     situation: &Situation,
@@ -28,13 +39,10 @@ pub(crate) fn closed(
 ) -> Result<(), AllocError>
     ensures { OnOk result (Finds all.old.items all.new.items (closed situation.now (map landing_of found.now))) }
 {
-    let closures = situation.closures();
-    all.extend(
-        found.iter().filter(|f| !is_at_open_second(closures, f)).map(|f| Finding::Closed(
-            f.active.flight.callsign,
-            f.line.second,
-        )),
-    )
+    for f in found {
+        note_closed(situation, f, all)?;
+    }
+    Ok(())
 }
 
 // Whether two landings are the table's time apart, whichever is the earlier.
@@ -42,6 +50,22 @@ fn are_apart(table: &PairTable, f: &Found, g: &Found) -> bool
     ensures { result ≡ are_apart table.now (landing_of f.now) (landing_of g.now) }
 {
     situations::are_apart(table, &f.active, f.line.second, &g.active, g.line.second)
+}
+
+// Notes two landings that are not the table's time apart.
+fn note_unseparated(
+    table: &PairTable,
+    f: &Found,
+    g: &Found,
+    all: &mut Vec<Finding>,
+) -> Result<(), AllocError>
+    ensures { OnOk result (Finds all.old.items all.new.items
+        (unless (are_apart table.now (landing_of f.now) (landing_of g.now)) (Separation f.now.1.flight.callsign g.now.1.flight.callsign))) }
+{
+    if !are_apart(table, f, g) {
+        all.push(Finding::Separation(f.active.flight.callsign, g.active.flight.callsign))?;
+    }
+    Ok(())
 }
 
 // Each of the others that is not the table's time from the first.
@@ -55,12 +79,10 @@ fn unseparated_from(
         (λ (g : Landing). Separation first.now.1.flight.callsign g.flight.callsign)
         (map landing_of others.now))) }
 {
-    all.extend(
-        others.iter().filter(|g| !are_apart(table, first, g)).map(|g| Finding::Separation(
-            first.active.flight.callsign,
-            g.active.flight.callsign,
-        )),
-    )
+    for g in others {
+        note_unseparated(table, first, g, all)?;
+    }
+    Ok(())
 }
 
 // Each two landings, neighbours or not, that are not the table's time apart.
@@ -84,6 +106,22 @@ fn is_before(d: &Found, callsign: Callsign, f: &Found) -> bool
     f.active.flight.callsign != callsign || f.line.second < d.line.second
 }
 
+// Notes a landing of the callsign that is not before d.
+fn note_late(
+    d: &Found,
+    callsign: Callsign,
+    f: &Found,
+    all: &mut Vec<Finding>,
+) -> Result<(), AllocError>
+    ensures { OnOk result (Finds all.old.items all.new.items
+        (unless (is_before (landing_of d.now) callsign (landing_of f.now)) (Precedence callsign d.now.1.flight.callsign))) }
+{
+    if !is_before(d, callsign, f) {
+        all.push(Finding::Precedence(callsign, d.active.flight.callsign))?;
+    }
+    Ok(())
+}
+
 // The flight of the callsign, which d lists, where it is active and does not land before d.
 fn listed_late(
     found: &[Found],
@@ -93,12 +131,10 @@ fn listed_late(
 ) -> Result<(), AllocError>
     ensures { OnOk result (Finds all.old.items all.new.items (listed_late (map landing_of found.now) (landing_of d.now) callsign)) }
 {
-    all.extend(
-        found.iter().filter(|f| !is_before(d, callsign, f)).map(|_| Finding::Precedence(
-            callsign,
-            d.active.flight.callsign,
-        )),
-    )
+    for f in found {
+        note_late(d, callsign, f, all)?;
+    }
+    Ok(())
 }
 
 // Each active flight that d lists and that doesn't land before it, in the order of its list.
@@ -132,16 +168,25 @@ fn is_kept(found: &Found) -> bool
     }
 }
 
+// Notes a frozen flight that is not at its second.
+fn note_moved(f: &Found, all: &mut Vec<Finding>) -> Result<(), AllocError>
+    ensures { OnOk result (Finds all.old.items all.new.items
+        (unless (is_kept (landing_of f.now)) (Moved f.now.1.flight.callsign (unwrap_or f.now.1.frozen 0)))) }
+{
+    if !is_kept(f) {
+        all.push(Finding::Moved(f.active.flight.callsign, f.active.frozen.unwrap_or(0)))?;
+    }
+    Ok(())
+}
+
 // Each frozen flight that is not at its second.
 pub(crate) fn moved(found: &[Found], all: &mut Vec<Finding>) -> Result<(), AllocError>
     ensures { OnOk result (Finds all.old.items all.new.items (moved (map landing_of found.now))) }
 {
-    all.extend(
-        found.iter().filter(|f| !is_kept(f)).map(|f| Finding::Moved(
-            f.active.flight.callsign,
-            f.active.frozen.unwrap_or(0),
-        )),
-    )
+    for f in found {
+        note_moved(f, all)?;
+    }
+    Ok(())
 }
 
 // Whether a waiting flight lands at the horizon or later.
@@ -151,14 +196,23 @@ fn is_late_enough(horizon: u32, found: &Found) -> bool
     found.active.frozen.is_some() || horizon <= found.line.second
 }
 
+// Notes a waiting flight before the horizon.
+fn note_early(horizon: u32, f: &Found, all: &mut Vec<Finding>) -> Result<(), AllocError>
+    ensures { OnOk result (Finds all.old.items all.new.items
+        (unless (is_late_enough horizon (landing_of f.now)) (Early f.now.1.flight.callsign))) }
+{
+    if !is_late_enough(horizon, f) {
+        all.push(Finding::Early(f.active.flight.callsign))?;
+    }
+    Ok(())
+}
+
 // Each waiting flight before the horizon.
 pub(crate) fn early(horizon: u32, found: &[Found], all: &mut Vec<Finding>) -> Result<(), AllocError>
     ensures { OnOk result (Finds all.old.items all.new.items (early horizon (map landing_of found.now))) }
 {
-    all.extend(
-        found
-            .iter()
-            .filter(|f| !is_late_enough(horizon, f))
-            .map(|f| Finding::Early(f.active.flight.callsign)),
-    )
+    for f in found {
+        note_early(horizon, f, all)?;
+    }
+    Ok(())
 }

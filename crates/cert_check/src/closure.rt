@@ -2,6 +2,7 @@
 ghost use Rattle.std.specs.Prelude.{◌≡◌, ◌≤◌, ◌<◌, ◌+◌, ◌-◌, true, false, length, Some, None, nat_le};
 ghost use Rattle.std.specs.List.{list_any, list_all};
 ghost use Rattle.std.specs.List.Sorted.{IsBinarySearchResult, IsSearchInRange};
+ghost use Rattle.landing_rules.specs.Limits.{most_waiting};
 ghost use Rattle.landing_rules.specs.Rules.{last_second};
 ghost use Rattle.cps_theory.specs.Labels.{no_worse};
 ghost use Rattle.cps_theory.specs.CertificateClosure.{node_cmp};
@@ -84,7 +85,7 @@ fn is_missed(
     pair: (u32, u32),
 ) -> bool
     requires ascending { AreAscending states.now }
-    requires stage { node.now.stage ≤ 60 }
+    requires stage { node.now.stage ≤ most_waiting }
     requires last { node.now.last ≤ count problem.now }
     requires rank { (1 ≤ rank) × (rank ≤ count problem.now) }
     requires pair { pair.0 ≤ last_second }
@@ -106,7 +107,7 @@ fn misses_any(
     pairs: &[(u32, u32)],
 ) -> bool
     requires ascending { AreAscending states.now }
-    requires stage { node.now.stage ≤ 60 }
+    requires stage { node.now.stage ≤ most_waiting }
     requires last { node.now.last ≤ count problem.now }
     requires rank { (1 ≤ rank) × (rank ≤ count problem.now) }
     requires pairs { list_all is_pair pairs.now ≡ true }
@@ -125,7 +126,7 @@ fn misses(
     pairs: &[(u32, u32)],
 ) -> bool
     requires ascending { AreAscending states.now }
-    requires stage { node.now.stage ≤ 60 }
+    requires stage { node.now.stage ≤ most_waiting }
     requires last { node.now.last ≤ count problem.now }
     requires rank { (1 ≤ rank) × (rank ≤ count problem.now) }
     requires pairs { list_all is_pair pairs.now ≡ true }
@@ -141,7 +142,7 @@ fn first_missed(
     pairs: &[(u32, u32)],
 ) -> Option<u8>
     requires ascending { AreAscending states.now }
-    requires stage { node.now.stage ≤ 60 }
+    requires stage { node.now.stage ≤ most_waiting }
     requires last { node.now.last ≤ count problem.now }
     requires pairs { list_all is_pair pairs.now ≡ true }
     ensures { result ≡ first_missed problem.now states.now (seen node.now) pairs.now }

@@ -1,5 +1,6 @@
 // A stage of a landing order with its pattern and its last rank, and the node behind it by one more rank.
 ghost use Rattle.std.specs.Prelude.{◌≡◌, ◌≤◌, ◌<◌, ◌*◌, ◌+◌, ◌-◌, suc, [], length};
+ghost use Rattle.landing_rules.specs.Limits.{most_waiting};
 ghost use Rattle.cps_theory.specs.Patterns.{pattern_digit, pattern_node, pattern_push, tests_from};
 ghost use Rattle.cps_theory.specs.CertificateClosure.{is_placed_by_pattern, node_cmp};
 ghost use Rattle.certificate.specs.Patterns.{bits};
@@ -30,7 +31,7 @@ pub(crate) fn digit(pattern: &Pattern, j: u8) -> bool
 pub(crate) fn is_placed(k: u8, node: &StateNode, rank: u8) -> bool
     requires k { k ≤ 3 }
     requires rank { rank ≤ 200 }
-    requires stage { node.now.stage ≤ 60 }
+    requires stage { node.now.stage ≤ most_waiting }
     ensures { result ≡ is_placed_by_pattern k (seen node.now) rank }
 {
     let at = rank + k;
@@ -40,7 +41,7 @@ pub(crate) fn is_placed(k: u8, node: &StateNode, rank: u8) -> bool
 // The node of a state.
 pub(crate) fn node_of(state: &CertState) -> StateNode
     ensures value { seen result ≡ node_of state.now }
-    ensures range { (result.stage ≤ 60) × (result.last ≤ 60) }
+    ensures range { (result.stage ≤ most_waiting) × (result.last ≤ most_waiting) }
 {
     StateNode {
         stage: state.stage(),
@@ -63,8 +64,8 @@ pub(crate) fn compare(state: &CertState, node: &StateNode) -> Ordering
 // Whether the rank of `rank + k = stage + 1 + j` is placed, when `rank` has come next.
 fn pushed_digit(k: u8, node: &StateNode, rank: u8, j: u8) -> bool
     requires k { k ≤ 3 }
-    requires rank { rank ≤ 60 }
-    requires stage { node.now.stage ≤ 60 }
+    requires rank { rank ≤ most_waiting }
+    requires stage { node.now.stage ≤ most_waiting }
     requires j { (1 ≤ j) × (j ≤ 6) }
     ensures { result ≡ pushed_digit k (seen node.now) rank (suc node.now.stage + j) }
 {
@@ -74,8 +75,8 @@ fn pushed_digit(k: u8, node: &StateNode, rank: u8, j: u8) -> bool
 // The digits behind a node by one more rank, as the bits of a number.
 fn pushed_ones(k: u8, node: &StateNode, rank: u8) -> u8
     requires k { k ≤ 3 }
-    requires rank { rank ≤ 60 }
-    requires stage { node.now.stage ≤ 60 }
+    requires rank { rank ≤ most_waiting }
+    requires stage { node.now.stage ≤ most_waiting }
     ensures { bits (2 * k) result ≡ tests_from (pushed_digit k (seen node.now) rank)
         (suc (suc node.now.stage)) (2 * k) }
 {
@@ -88,8 +89,8 @@ fn pushed_ones(k: u8, node: &StateNode, rank: u8) -> u8
 
 // The node behind a node by one more rank.
 pub(crate) fn pushed(problem: &Problem, node: &StateNode, rank: u8) -> StateNode
-    requires rank { rank ≤ 60 }
-    requires stage { node.now.stage ≤ 60 }
+    requires rank { rank ≤ most_waiting }
+    requires stage { node.now.stage ≤ most_waiting }
     ensures { seen result ≡ pattern_push (rules_of problem.now) (seen node.now) rank }
 {
     let k = problem.head().k;

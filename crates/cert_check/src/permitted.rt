@@ -1,5 +1,6 @@
 // Which rank may land next at a node.
 ghost use Rattle.std.specs.Prelude.{◌≡◌, ◌≤◌, ◌+◌, ◌&&◌, suc, nat_le};
+ghost use Rattle.landing_rules.specs.Limits.{most_waiting};
 ghost use Rattle.cps_theory.specs.FirstFound.{first_from};
 ghost use Rattle.cps_theory.specs.CertificateClosure.{is_missing_predecessor, leaves_none_due, permits_next};
 ghost use Rattle.cert_check.specs.Landings.{count};
@@ -11,7 +12,7 @@ use cps_problem::Problem;
 
 // The flight of rank `other` must land before that of `rank`, and is not placed.
 fn is_missing_predecessor(problem: &Problem, node: &StateNode, rank: u8, other: u8) -> bool
-    requires stage { node.now.stage ≤ 60 }
+    requires stage { node.now.stage ≤ most_waiting }
     requires rank { (1 ≤ rank) × (rank ≤ count problem.now) }
     requires other { (1 ≤ other) × (other ≤ count problem.now) }
     ensures { result ≡ is_missing_predecessor (rules_of problem.now) (seen node.now) rank other }
@@ -21,7 +22,7 @@ fn is_missing_predecessor(problem: &Problem, node: &StateNode, rank: u8, other: 
 }
 
 fn missing_predecessor(problem: &Problem, node: &StateNode, rank: u8) -> Option<u8>
-    requires stage { node.now.stage ≤ 60 }
+    requires stage { node.now.stage ≤ most_waiting }
     requires rank { (1 ≤ rank) × (rank ≤ count problem.now) }
     ensures { result ≡ first_from (is_missing_predecessor (rules_of problem.now) (seen node.now)
         rank) 1 (count problem.now) }
@@ -32,7 +33,7 @@ fn missing_predecessor(problem: &Problem, node: &StateNode, rank: u8) -> Option<
 // After this rank, the rank that no later place could take is placed.
 #[tactic(auto, unfolding(cps_theory::specs::CertificateClosure::leaves_none_due))]
 fn leaves_none_due(problem: &Problem, node: &StateNode, rank: u8) -> bool
-    requires { node.now.stage ≤ 60 }
+    requires { node.now.stage ≤ most_waiting }
     ensures { result ≡ leaves_none_due (rules_of problem.now) (seen node.now) rank }
 {
     let k = problem.head().k;
@@ -42,7 +43,7 @@ fn leaves_none_due(problem: &Problem, node: &StateNode, rank: u8) -> bool
 
 // The next place is within the shift of the rank: the flights that passed it leave it fewer places behind.
 fn is_near(problem: &Problem, stage: u8, rank: u8) -> bool
-    requires stage { stage ≤ 60 }
+    requires stage { stage ≤ most_waiting }
     requires rank { (1 ≤ rank) × (rank ≤ count problem.now) }
     ensures { result ≡ (nat_le rank (suc stage + problem.now.k) && nat_le (suc stage)
         (rank + (rules_of problem.now).back rank)) }
@@ -54,7 +55,7 @@ fn is_near(problem: &Problem, stage: u8, rank: u8) -> bool
 
 #[tactic(auto, unfolding(cps_theory::specs::CertificateClosure::permits_next))]
 pub(crate) fn is_permitted(problem: &Problem, node: &StateNode, rank: u8) -> bool
-    requires stage { node.now.stage ≤ 60 }
+    requires stage { node.now.stage ≤ most_waiting }
     requires rank { (1 ≤ rank) × (rank ≤ count problem.now) }
     ensures { result ≡ permits_next (rules_of problem.now) (seen node.now) rank }
 {

@@ -1,5 +1,6 @@
 // The second at which the landings let a rank land, and what all of them are worth.
 ghost use Rattle.std.specs.Prelude.{◌≡◌, ◌≤◌, ◌-◌, ◌*◌, ◌+◌, slice_get, Some};
+ghost use Rattle.landing_rules.specs.Limits.{most_waiting};
 ghost use Rattle.landing_rules.specs.Problem.{list_objective};
 ghost use Rattle.cps_theory.specs.RankLists.{upto};
 ghost use Rattle.cps_theory.specs.Feasible.{earlier, greatest, total};
@@ -46,7 +47,7 @@ pub(crate) fn place(problem: &Problem, landings: &[(Callsign, u32)], rank: u8) -
     requires landings { AreLandings landings.now }
     requires rank { (1 ≤ rank) × (rank ≤ count problem.now) }
     ensures value { result ≡ place problem.now landings.now rank }
-    ensures small { result ≤ 61 }
+    ensures small { result ≤ most_waiting + 1 }
 {
     let own = second(problem, landings, rank);
     let earlier = (1..problem.len() + 1)

@@ -1,6 +1,7 @@
 // The shape of the states, and the states of the last stage.
 ghost use Rattle.std.specs.Prelude.{◌≡◌, ◌≤◌, ◌<◌, ◌+◌, ◌*◌, length, count_by, nat_lt};
 ghost use Rattle.std.specs.List.{list_any};
+ghost use Rattle.landing_rules.specs.Limits.{most_waiting};
 ghost use Rattle.cps_theory.specs.FirstFound.{first_from, element_from};
 ghost use Rattle.landing_joint.specs.RankedProblem.{value_at};
 ghost use Rattle.cert_check.specs.Landings.{count};
@@ -15,8 +16,8 @@ use cps_problem::Problem;
 // Digit j tells of a rank below 1 that it is not placed, or of a rank above n that it is.
 fn is_wrong_digit(k: u8, n: u8, node: &StateNode, j: u8) -> bool
     requires k { k ≤ 3 }
-    requires n { n ≤ 60 }
-    requires stage { node.now.stage ≤ 60 }
+    requires n { n ≤ most_waiting }
+    requires stage { node.now.stage ≤ most_waiting }
     requires j { (1 ≤ j) × (j ≤ 6) }
     ensures { result ≡ is_wrong_digit k n (seen node.now) j }
 {
@@ -27,8 +28,8 @@ fn is_wrong_digit(k: u8, n: u8, node: &StateNode, j: u8) -> bool
 
 fn wrong_digit(k: u8, n: u8, node: &StateNode) -> Option<u8>
     requires k { k ≤ 3 }
-    requires n { n ≤ 60 }
-    requires stage { node.now.stage ≤ 60 }
+    requires n { n ≤ most_waiting }
+    requires stage { node.now.stage ≤ most_waiting }
     ensures { result ≡ first_from (is_wrong_digit k n (seen node.now)) 1 (2 * k) }
 {
     (1..2 * k + 1).find(|j| is_wrong_digit(k, n, node, *j))
@@ -43,8 +44,8 @@ fn ones(pattern: &Pattern) -> u8
 
 #[tactic(auto, unfolding(crate::specs::States::is_shaped))]
 fn is_shaped(problem: &Problem, node: &StateNode) -> bool
-    requires stage { node.now.stage ≤ 60 }
-    requires last { node.now.last ≤ 60 }
+    requires stage { node.now.stage ≤ most_waiting }
+    requires last { node.now.last ≤ most_waiting }
     ensures { result ≡ is_shaped problem.now.k (count problem.now) (seen node.now) }
 {
     let n = problem.len();

@@ -20,7 +20,7 @@ loop-line-preserved c =
       shown_of l ∷ above,
       λ d. c.in_ok-was_seen.ensures.more d ∙ ap (λ b. bytes_eq l.callsign d || b) (kept.1 d),
       λ d. seen_step lines i l above d _ c.loop-line-test.true c.line-item.is (kept.2 d),
-      ap (λ x. x ++ twice_after (shown_of l ∷ above) (map shown_of (drop (i + 1) lines))) c.in_ok-note.ensures
+      ap (λ x. x ++ twice_after (shown_of l ∷ above) (map shown_of (drop (i + 1) lines))) c.in_ok-note_again.ensures
           ∙ twice_step lines i l above (map finding_of c.loop-line.all.items)
           (repeated c.in_ok-was_seen.was_seen l.callsign) _
           c.loop-line-test.true c.line-item.is

@@ -1,26 +1,19 @@
-use Rattle.std.proofs.Common.{rules, tests, not, refl}
-use Rattle.std.proofs.lemmas.Iterator.{YieldsList-from_map, YieldsList-from_slice}
-use Rattle.std.proofs.lemmas.Iterator.Adapters.{items_from_extend}
-use Rattle.std.proofs.lemmas.Iterator.Consumers.{YieldsList-from_filter, YieldsList-at}
-use Rattle.std.proofs.lemmas.Result.{on_ok_weaker}
-use Rattle.landing_rules.specs.Flights.{Active, Landing}
-use Rattle.landing_rules.specs.Text.{ShownLanding}
-use Rattle.landing_rules.specs.Audit.{landing_of, is_before, Precedence}
-use Rattle.audit.specs.declared.finding.Finding.TheVariants as code
-use Rattle.audit.proofs.Failing.{failing_added}
+use Rattle.std.proofs.Common.{◌+◌, ◌++◌, map, drop, ap, ◌∙◌, refl}
+use Rattle.landing_rules.specs.Flights.{Landing}
+use Rattle.landing_rules.specs.Audit.{landing_of, for_failing, is_before, Precedence}
+use Rattle.audit.specs.Findings.{finding_of}
+use Rattle.audit.specs.shared.Steps.{at_end}
+use Rattle.audit.proofs.Failing.{failing_step}
 use Rattle.audit.proofs.rules.listed_late.Goals as goal
+
+pub loop-f-preserved : goal.loop-f-preserved
+loop-f-preserved c =
+    ap (λ y. y ++ for_failing (is_before (landing_of c.args.d.now) c.args.callsign) (λ (f : Landing). Precedence c.args.callsign c.args.d.now.1.flight.callsign) (map landing_of (drop (c.loop-f.f-index + 1) c.args.found.now))) c.in_ok-note_late.ensures
+    ∙ failing_step (is_before (landing_of c.args.d.now) c.args.callsign)
+    (λ (f : Landing). Precedence c.args.callsign c.args.d.now.1.flight.callsign) landing_of c.args.found.now c.loop-f.f-index c.f-item.result _
+    (map finding_of c.loop-f.all.items) _ c.loop-f-test.true c.f-item.is refl c.loop-f.invariant
 
 pub returns : goal.returns
 returns c =
-    let fails = λ (f : ShownLanding × Active). not
-    (is_before (landing_of c.args.d.now) c.args.callsign (landing_of f)) in
-    let made = λ (f : ShownLanding × Active). code.Precedence c.args.callsign c.args.d.now.1.flight.callsign in
-    on_ok_weaker c.extend.result (λ h. failing_added landing_of fails made (is_before (landing_of c.args.d.now) c.args.callsign)
-    (λ (f : Landing). Precedence c.args.callsign c.args.d.now.1.flight.callsign) (λ t. refl)
-    (λ t. refl) c.args.found.now
-    _ _ h.0)
-    (items_from_extend c.extend.result c.extend.ensures.ran
-    (YieldsList-from_map _ made
-    (YieldsList-at c.map.ensures.source
-    (YieldsList-from_filter _ fails (YieldsList-from_slice c.args.found.now (cc)) c.filter.ensures.closure
-    (λ x b q k. search (rules, tests)))) c.map.ensures.closure (λ x r q k. search (rules, tests))))
+    at_end (map finding_of c.loop-f.all.items) (λ ys. for_failing (is_before (landing_of c.args.d.now) c.args.callsign) (λ (f : Landing). Precedence c.args.callsign c.args.d.now.1.flight.callsign) (map landing_of ys)) c.args.found.now
+    c.loop-f.f-index _ c.loop-f-test.false refl c.loop-f.invariant

@@ -1,0 +1,10 @@
+use Rattle.std.proofs.Common.{◌≡◌, ◌++◌, drop}
+use Rattle.std.specs.Prelude.{map}
+use Rattle.landing_rules.specs.Audit.{landing_of, early}
+use Rattle.audit.specs.Findings.{finding_of}
+use Rattle.audit.proofs.rules.early.Given as goal
+
+-- what is found so far, and what is left to find
+abbrev pub invariant-loop-f : goal.invariant-loop-f
+invariant-loop-f l = map finding_of l.all.items ++ early l.horizon (map landing_of (drop l.f-index l.found))
+    ≡ map finding_of l.initial.all.items ++ early l.horizon (map landing_of l.found)
