@@ -146,27 +146,33 @@ fn shown_answer(
     }
 }
 
+// A situation, and a plan that begins with its frozen landings, where one is at hand.
+#[derive(Clone, Copy)]
+struct Asked<'a, 'v, 'p> {
+    situation: &'a View<'v>,
+    front: Option<&'p Plan>,
+}
+
 // The problem of a situation, and what is shown for the planner's answer to it.
 fn planned<R: Threads + Sync, G: Gate + Sync, L: Ledger>(
     rt: &R,
     alloc: Global,
-    situation: &View<'_>,
-    front: Option<&Plan>,
+    asked: Asked<'_, '_, '_>,
     planner: &mut AnyKept,
     gate: &G,
     steps: &mut Steps<L>,
 ) -> Result<(Problem, Option<Shown>), AllocError>
-    requires sound { IsSound situation.now }
-    requires front { ForSome front (λ plan. BeginsWithFrozen situation.now plan.now) }
-    requires same_k { situation.now.aerodrome.k ≡ k_of planner.old }
-    requires plannable { IsWithinShift situation.now.aerodrome.objective
-        situation.now.aerodrome.k }
-    ensures problem { IfOk result (λ planned. IsProblemOf situation.now planned.0) }
-    ensures shown { IfOk result (λ planned. IsPlanShown situation.now
+    requires sound { IsSound asked.situation.now }
+    requires front { ForSome asked.front (λ plan. BeginsWithFrozen asked.situation.now plan.now) }
+    requires same_k { asked.situation.now.aerodrome.k ≡ k_of planner.old }
+    requires plannable { IsWithinShift asked.situation.now.aerodrome.objective
+        asked.situation.now.aerodrome.k }
+    ensures problem { IfOk result (λ planned. IsProblemOf asked.entry.situation.now planned.0) }
+    ensures shown { IfOk result (λ planned. IsPlanShown asked.entry.situation.now
         (option_map (λ p. p.seconds.items) planned.1)) }
     ensures plan { IfOk result (λ planned. option_map (λ p. p.plan) planned.1 ≡ plan_shown
         (record {
-          situation = situation.now;
+          situation = asked.entry.situation.now;
           plan = option_map (λ p. p.seconds.items) planned.1;
         })) }
     ensures k { k_of planner.new ≡ k_of planner.old }
@@ -174,6 +180,7 @@ fn planned<R: Threads + Sync, G: Gate + Sync, L: Ledger>(
     ensures steps { IfOk result (λ planned. (n : ℕ) × IsDue (problem_held planner.old) planned.0 n
         × (L.count steps.new ≡ raised_by n (L.count steps.old))) }
 {
+    let Asked { situation, front } = asked;
     let (problem, places) = posed(alloc, situation, front)?;
     let answer = planner.replan(rt, alloc, &problem, gate, steps)?;
     let shown = shown_answer(alloc, situation, front, &problem, &places, &answer)?;
@@ -251,7 +258,11 @@ impl Sequencer<AnyKept> {
             .change(alloc, seconds_of(&self.shown), event)?;
         let next = self.situation.view_after(&change);
         let front = plan_in(&self.shown);
-        match planned(rt, alloc, &next, front, &mut self.planner, gate, steps) {
+        let asked = Asked {
+            situation: &next,
+            front,
+        };
+        match planned(rt, alloc, asked, &mut self.planner, gate, steps) {
             Ok((problem, shown)) => {
                 self.situation.keep(change);
                 self.shown = shown;
@@ -318,7 +329,11 @@ impl Sequencer<AnyKept> {
             × (L.count steps.new ≡ raised_by n (L.count steps.old))) }
     {
         let view = situation.view();
-        let (problem, shown) = planned(rt, alloc, &view, None, &mut planner, gate, steps)?;
+        let asked = Asked {
+            situation: &view,
+            front: None,
+        };
+        let (problem, shown) = planned(rt, alloc, asked, &mut planner, gate, steps)?;
         Ok(Sequencer {
             situation,
             shown,
