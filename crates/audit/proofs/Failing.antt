@@ -5,22 +5,21 @@ use Rattle.landing_rules.specs.Audit.{Finding, for_failing}
 use Rattle.audit.specs.Findings.{unless}
 use Rattle.audit.specs.shared.Steps.{place_step}
 
+unless_cond : (kept : Bool) (finding : Finding) (rest : List Finding)
+    → unless kept finding ++ rest ≡ cond kept rest (finding ∷ rest)
+unless_cond true finding rest = refl
+unless_cond false finding rest = refl
+
 pub failing_step : {T X : Type 0} (passes : X → Bool) (finding : X → Finding) (seen : T → X) (ts : List T) (i : ℕ)
     (t : T) (kept : Bool) (done whole : List Finding) →
     i < length ts → t ≡ get_or ts i t → kept ≡ passes (seen t)
     → done ++ for_failing passes finding (map seen (drop i ts)) ≡ whole →
     (done ++ unless kept (finding (seen t))) ++ for_failing passes finding (map seen (drop (i + 1) ts)) ≡ whole
 failing_step {T = T} passes finding seen ts i t kept done whole lt same e h =
+    let left = λ (us : List T). for_failing passes finding (map seen us) in
     place_step left left ts i t done (unless kept (finding (seen t))) whole lt same
-    (sym (ap (λ b. unless b (finding (seen t)) ++ left (drop (i + 1) ts)) e ∙ one (passes (seen t)))) h
-  where
-    left : List T → List Finding
-    left us = for_failing passes finding (map seen us)
-
-    one : (b : Bool) → unless b (finding (seen t)) ++ left (drop (i + 1) ts)
-        ≡ cond b (left (drop (i + 1) ts)) (finding (seen t) ∷ left (drop (i + 1) ts))
-    one true = refl
-    one false = refl
+    (sym (ap (λ b. unless b (finding (seen t)) ++ left (drop (i + 1) ts)) e
+    ∙ unless_cond (passes (seen t)) (finding (seen t)) (left (drop (i + 1) ts)))) h
 
 -- the same where the rule looks at the elements themselves
 pub failing_here : {T : Type 0} (passes : T → Bool) (finding : T → Finding) (ts : List T) (i : ℕ) (t : T)
@@ -28,13 +27,7 @@ pub failing_here : {T : Type 0} (passes : T → Bool) (finding : T → Finding) 
     i < length ts → t ≡ get_or ts i t → kept ≡ passes t → done ++ for_failing passes finding (drop i ts) ≡ whole →
     (done ++ unless kept (finding t)) ++ for_failing passes finding (drop (i + 1) ts) ≡ whole
 failing_here {T = T} passes finding ts i t kept done whole lt same e h =
+    let left = λ (us : List T). for_failing passes finding us in
     place_step left left ts i t done (unless kept (finding t)) whole lt same
-    (sym (ap (λ b. unless b (finding t) ++ left (drop (i + 1) ts)) e ∙ one (passes t))) h
-  where
-    left : List T → List Finding
-    left us = for_failing passes finding us
-
-    one : (b : Bool) → unless b (finding t) ++ left (drop (i + 1) ts)
-        ≡ cond b (left (drop (i + 1) ts)) (finding t ∷ left (drop (i + 1) ts))
-    one true = refl
-    one false = refl
+    (sym (ap (λ b. unless b (finding t) ++ left (drop (i + 1) ts)) e
+    ∙ unless_cond (passes t) (finding t) (left (drop (i + 1) ts)))) h

@@ -1,5 +1,6 @@
 -- A finding as the rules name it.
-use Rattle.std.specs.Prelude.{◌≡◌, ℕ, ◌≤◌, Bool, List, [], ◌∷◌, ◌++◌, Option, find, map, nat_lt, option_map, if◌then◌else◌}
+use Rattle.std.specs.Prelude.{◌≡◌, ℕ, ◌≤◌, Bool, List, [], ◌∷◌, ◌++◌, Option, find, map, nat_lt, option_map}
+use Rattle.std.specs.Prelude.{if◌then◌else◌}
 use Rattle.landing_rules.specs.Events.{named}
 use Rattle.landing_rules.specs.Flights.{Active, Landing}
 use Rattle.landing_rules.specs.Limits.{greatest_weight}
@@ -32,6 +33,11 @@ Finds old new found = map finding_of new ≡ map finding_of old ++ found
 -- a finding, unless what it says is broken is kept
 abbrev pub unless : Bool → rules.Finding → List rules.Finding
 unless is_kept finding = if is_kept then [] else finding ∷ []
+
+-- each of these landings that is not the table's time from f
+abbrev pub too_near : List (List ℕ) → Landing → List Landing → List rules.Finding
+too_near table f all = rules.for_failing (rules.are_apart table f)
+    (λ (g : Landing). rules.Separation f.flight.callsign g.flight.callsign) all
 
 -- what is found of a line whose callsign was seen above, or was not
 abbrev pub repeated : Bool → List ℕ → List rules.Finding

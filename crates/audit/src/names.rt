@@ -53,7 +53,8 @@ fn is_active(active: &[Active], callsign: Callsign) -> bool
 // Notes a line that names no active flight.
 fn note_unknown(active: &[Active], l: &Landing, all: &mut Vec<Finding>) -> Result<(), AllocError>
     ensures { OnOk result (Finds all.old.items all.new.items
-        (unless (list_any (named (shown_of l.now).callsign) active.now) (Unknown (shown_of l.now).callsign))) }
+        (unless (list_any (named (shown_of l.now).callsign) active.now)
+        (Unknown (shown_of l.now).callsign))) }
 {
     if !is_active(active, l.callsign) {
         all.push(Finding::Unknown(l.callsign))?;

@@ -1,9 +1,9 @@
 // The rules over the lines of a block, each with its flight.
 ghost use Rattle.std.specs.Prelude.{◌≡◌, OnOk, flat_map, map, unwrap_or};
 ghost use Rattle.landing_rules.specs.Rules.{is_open};
-ghost use Rattle.landing_rules.specs.Audit.{landing_of, closed, Closed, are_apart, unseparated, for_failing, Separation, is_before, late, listed_late, Precedence, is_kept, moved, Moved, is_late_enough, early, Early};
-ghost use Rattle.landing_rules.specs.Flights.{horizon, Landing};
-ghost use Rattle.audit.specs.Findings.{Finds, unless};
+ghost use Rattle.landing_rules.specs.Audit.{Closed, Early, Moved, Precedence, Separation, landing_of, closed, are_apart, unseparated, is_before, late, listed_late, is_kept, moved, is_late_enough, early};
+ghost use Rattle.landing_rules.specs.Flights.{horizon};
+ghost use Rattle.audit.specs.Findings.{Finds, too_near, unless};
 
 use crate::Finding;
 use crate::found::Found;
@@ -23,7 +23,8 @@ fn is_at_open_second(closures: &Closures, found: &Found) -> bool
 // Notes a landing at a second that is not open.
 fn note_closed(situation: &Situation, f: &Found, all: &mut Vec<Finding>) -> Result<(), AllocError>
     ensures { OnOk result (Finds all.old.items all.new.items
-        (unless (is_open f.now.1.flight.windows situation.now.closures f.now.0.second) (Closed f.now.1.flight.callsign f.now.0.second))) }
+        (unless (is_open f.now.1.flight.windows situation.now.closures f.now.0.second)
+        (Closed f.now.1.flight.callsign f.now.0.second))) }
 {
     if !is_at_open_second(situation.closures(), f) {
         all.push(Finding::Closed(f.active.flight.callsign, f.line.second))?;
@@ -37,7 +38,8 @@ pub(crate) fn closed(
     found: &[Found],
     all: &mut Vec<Finding>,
 ) -> Result<(), AllocError>
-    ensures { OnOk result (Finds all.old.items all.new.items (closed situation.now (map landing_of found.now))) }
+    ensures { OnOk result (Finds all.old.items all.new.items
+        (closed situation.now (map landing_of found.now))) }
 {
     for f in found {
         note_closed(situation, f, all)?;
@@ -60,7 +62,8 @@ fn note_unseparated(
     all: &mut Vec<Finding>,
 ) -> Result<(), AllocError>
     ensures { OnOk result (Finds all.old.items all.new.items
-        (unless (are_apart table.now (landing_of f.now) (landing_of g.now)) (Separation f.now.1.flight.callsign g.now.1.flight.callsign))) }
+        (unless (are_apart table.now (landing_of f.now) (landing_of g.now))
+        (Separation f.now.1.flight.callsign g.now.1.flight.callsign))) }
 {
     if !are_apart(table, f, g) {
         all.push(Finding::Separation(f.active.flight.callsign, g.active.flight.callsign))?;
@@ -75,9 +78,8 @@ fn unseparated_from(
     others: &[Found],
     all: &mut Vec<Finding>,
 ) -> Result<(), AllocError>
-    ensures { OnOk result (Finds all.old.items all.new.items (for_failing (are_apart table.now (landing_of first.now))
-        (λ (g : Landing). Separation first.now.1.flight.callsign g.flight.callsign)
-        (map landing_of others.now))) }
+    ensures { OnOk result (Finds all.old.items all.new.items
+        (too_near table.now (landing_of first.now) (map landing_of others.now))) }
 {
     for g in others {
         note_unseparated(table, first, g, all)?;
@@ -91,7 +93,8 @@ pub(crate) fn unseparated(
     found: &[Found],
     all: &mut Vec<Finding>,
 ) -> Result<(), AllocError>
-    ensures { OnOk result (Finds all.old.items all.new.items (unseparated table.now (map landing_of found.now))) }
+    ensures { OnOk result (Finds all.old.items all.new.items
+        (unseparated table.now (map landing_of found.now))) }
 {
     for i in 0..found.len() {
         unseparated_from(table, &found[i], &found[i + 1..], all)?;
@@ -114,7 +117,8 @@ fn note_late(
     all: &mut Vec<Finding>,
 ) -> Result<(), AllocError>
     ensures { OnOk result (Finds all.old.items all.new.items
-        (unless (is_before (landing_of d.now) callsign (landing_of f.now)) (Precedence callsign d.now.1.flight.callsign))) }
+        (unless (is_before (landing_of d.now) callsign (landing_of f.now))
+        (Precedence callsign d.now.1.flight.callsign))) }
 {
     if !is_before(d, callsign, f) {
         all.push(Finding::Precedence(callsign, d.active.flight.callsign))?;
@@ -129,7 +133,8 @@ fn listed_late(
     callsign: Callsign,
     all: &mut Vec<Finding>,
 ) -> Result<(), AllocError>
-    ensures { OnOk result (Finds all.old.items all.new.items (listed_late (map landing_of found.now) (landing_of d.now) callsign)) }
+    ensures { OnOk result (Finds all.old.items all.new.items
+        (listed_late (map landing_of found.now) (landing_of d.now) callsign)) }
 {
     for f in found {
         note_late(d, callsign, f, all)?;
@@ -139,7 +144,8 @@ fn listed_late(
 
 // Each active flight that d lists and that doesn't land before it, in the order of its list.
 fn late_for(found: &[Found], d: &Found, all: &mut Vec<Finding>) -> Result<(), AllocError>
-    ensures { OnOk result (Finds all.old.items all.new.items (flat_map (listed_late (map landing_of found.now) (landing_of d.now))
+    ensures { OnOk result (Finds all.old.items all.new.items
+        (flat_map (listed_late (map landing_of found.now) (landing_of d.now))
         d.now.1.flight.after)) }
 {
     for callsign in d.active.flight.after.names() {
@@ -171,7 +177,8 @@ fn is_kept(found: &Found) -> bool
 // Notes a frozen flight that is not at its second.
 fn note_moved(f: &Found, all: &mut Vec<Finding>) -> Result<(), AllocError>
     ensures { OnOk result (Finds all.old.items all.new.items
-        (unless (is_kept (landing_of f.now)) (Moved f.now.1.flight.callsign (unwrap_or f.now.1.frozen 0)))) }
+        (unless (is_kept (landing_of f.now))
+        (Moved f.now.1.flight.callsign (unwrap_or f.now.1.frozen 0)))) }
 {
     if !is_kept(f) {
         all.push(Finding::Moved(f.active.flight.callsign, f.active.frozen.unwrap_or(0)))?;
@@ -209,7 +216,8 @@ fn note_early(horizon: u32, f: &Found, all: &mut Vec<Finding>) -> Result<(), All
 
 // Each waiting flight before the horizon.
 pub(crate) fn early(horizon: u32, found: &[Found], all: &mut Vec<Finding>) -> Result<(), AllocError>
-    ensures { OnOk result (Finds all.old.items all.new.items (early horizon (map landing_of found.now))) }
+    ensures { OnOk result (Finds all.old.items all.new.items
+        (early horizon (map landing_of found.now))) }
 {
     for f in found {
         note_early(horizon, f, all)?;
