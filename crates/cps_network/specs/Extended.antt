@@ -1,5 +1,6 @@
 -- Groups of the windows of a stage with the offsets that extend them, and the windows that so follow.
-use Rattle.std.specs.Prelude.{◌≡◌, ℕ, ℤ, pos, ◌+◌, ◌-◌, ◌/◌, ◌-ℤ◌, ◌<◌, ◌≤◌, ◌⊎◌, ◌↔◌, List, length, slice_index_or, All, Contains}
+use Rattle.std.specs.Prelude.{◌≡◌, ℕ, ℤ, pos, ◌+◌, ◌-◌, ◌/◌, ◌-ℤ◌, ◌<◌, ◌≤◌, ◌⊎◌}
+use Rattle.std.specs.Prelude.{◌↔◌, List, length, slice_index_or, All, Contains}
 use Rattle.precedence.specs.Pairs.{HasBit}
 use Rattle.cps_nodes.specs.Windows.{Accepts, shifted}
 use Rattle.landing_rules.specs.Problem.{Problem}
