@@ -79,6 +79,9 @@ module _ (l : Links) (links : AreLinks l) (windows : List (List ℤ)) (target : 
   pub place_target : (i : ℕ) → i < length places → start + i < length l.target
   place_target i lt = omega (arith, lt, places_long, ordered, stops, ap length target)
 
+  pub place_within : (i : ℕ) → i < length places → slice_index places i < length l.ranges
+  place_within i lt = let at = links.within (start + i) (place_target i lt) in omega (arith, at, place_is i lt)
+
 -- with these places, the ranges from place `first` on and before `end`
 module _ (p : Problem) (w : ℕ) (before stage : ℕ × List (List ℤ)) (labels : List ℕ) (l : Links) (links : AreLinks l)
     (origin : l.origin ≡ before.1) (target : l.target ≡ stage.1) (start stop first end : ℕ)

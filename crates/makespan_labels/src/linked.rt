@@ -1,6 +1,6 @@
 //! The labels of a stage whose links from the stage before are kept.
 
-ghost use Rattle.std.specs.Prelude.{◌≡◌, ℕ, ◌+◌, ◌-◌, ◌*◌, ◌<◌, ◌≤◌, length, slice_index, slice_index_or, IfSome, IsTrue};
+ghost use Rattle.std.specs.Prelude.{◌≡◌, ℕ, ◌+◌, ◌*◌, ◌<◌, ◌≤◌, length, slice_index, slice_index_or};
 ghost use Rattle.cps_base.specs.Tally.{raised_by};
 ghost use Rattle.cps_network.specs.Landable.{HasEachLandable};
 ghost use Rattle.cps_network.specs.Links.{AreGroups, range_at};
@@ -30,10 +30,6 @@ use wake_table::Category;
 // How many ranges near one another find room on the stack. A piece of a column needs far fewer, as a rule.
 const ROOM: usize = 1024;
 
-// How many windows at each end of a piece tell the least and the greatest of its places: no fewer than the 49 that differ in
-// their first and last offsets alone. Those follow one another, and so do the places of their ranges.
-const TELLING: usize = 64;
-
 // What landings behind ranges of the links need, from the range at place `first` on.
 #[derive(Clone, Copy)]
 struct Leads<'a> {
@@ -42,38 +38,20 @@ struct Leads<'a> {
     categories: &'a [Category],
 }
 
-// Whether each of these places lies between two, or is one of them. All are looked at, since a loop with one end costs least.
-fn lie_between(places: &[u32], least: u32, greatest: u32) -> bool
-    ensures { IsTrue result → (i : ℕ) → i < length places.now
-        → (least ≤ slice_index places.now i) × (slice_index places.now i ≤ greatest) }
+// The least and the greatest of these places.
+fn ends_of(places: &[u32]) -> (u32, u32)
+    requires some { 0 < length places.now }
+    ensures least { (i : ℕ) → i < length places.now → result.0 ≤ slice_index places.now i }
+    ensures greatest { (i : ℕ) → i < length places.now → slice_index places.now i ≤ result.1 }
+    ensures among { (i : ℕ) × (i < length places.now) × (slice_index places.now i ≡ result.1) }
 {
-    let mut between = true;
+    let mut least = places[0];
+    let mut greatest = places[0];
     for place in places {
-        between = between & (least <= *place) & (*place <= greatest);
+        least = least.min(*place);
+        greatest = greatest.max(*place);
     }
-    between
-}
-
-// From which place on and before which these places of ranges lie, where the first and the last of them tell it, and so many
-// ranges find room.
-fn ends_of(places: &[u32], ranges: &[(u32, u32)]) -> Option<(usize, usize)>
-    ensures { IfSome result (λ ends. (ends.0 < ends.1) × (ends.1 ≤ length ranges.now)
-        × (ends.1 - ends.0 ≤ 1024) × ((i : ℕ) → i < length places.now
-        → (ends.0 ≤ slice_index places.now i) × (slice_index places.now i < ends.1))) }
-{
-    let len = places.len();
-    let least = places[..len.min(TELLING)]
-        .iter()
-        .fold(u32::MAX, |least, place| least.min(*place));
-    let greatest = places[len.saturating_sub(TELLING)..]
-        .iter()
-        .fold(0, |greatest, place| greatest.max(*place));
-    let first = least as usize;
-    let end = greatest as usize + 1;
-    if end <= first || end > ranges.len() || end - first > ROOM {
-        return None;
-    }
-    lie_between(places, least, greatest).then_some((first, end))
+    (least, greatest)
 }
 
 // Writes for each range the least label of its windows, and the category of the flight that landed last in them. It stands
@@ -188,23 +166,27 @@ fn fill_linked_piece<const W: usize>(
         → IsLabelAt labelling.now.problem.now labelling.now.stage.now (start + i)
         (slice_index part.new i) }
 {
-    let places = &links.places()[start..start + part.len()];
-    let ranges = links.ranges();
-    match ends_of(places, ranges) {
-        None => fill_part(labelling, start, part),
-        Some((first, end)) => {
-            let mut leasts = [0; ROOM];
-            let mut categories = [Category::A; ROOM];
-            let near = &ranges[first..end];
-            fill_leads(labelling, near, &mut leasts[..], &mut categories[..]);
-            let leads = Leads {
-                first,
-                leasts: &leasts[..],
-                categories: &categories[..],
-            };
-            fill_linked_part(labelling, places, &leads, start, part);
-        }
+    if part.is_empty() {
+        return;
     }
+    let places = &links.places()[start..start + part.len()];
+    let (least, greatest) = ends_of(places);
+    let first = least as usize;
+    let end = greatest as usize + 1;
+    if end - first > ROOM {
+        fill_part(labelling, start, part);
+        return;
+    }
+    let mut leasts = [0; ROOM];
+    let mut categories = [Category::A; ROOM];
+    let ranges = &links.ranges()[first..end];
+    fill_leads(labelling, ranges, &mut leasts[..], &mut categories[..]);
+    let leads = Leads {
+        first,
+        leasts: &leasts[..],
+        categories: &categories[..],
+    };
+    fill_linked_part(labelling, places, &leads, start, part);
 }
 
 // Piece by piece, one after another.
