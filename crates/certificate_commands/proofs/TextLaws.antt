@@ -1,5 +1,5 @@
 -- From the clauses of printed certificates and verdicts to the laws of their texts.
-use Rattle.std.proofs.Common.{◌≡◌, ℕ, ◌+◌, ◌*◌, ◌<◌, ◌≤◌, inl, inr, List, [], ◌∷◌, ◌++◌, length, map, filter, Ok, refl}
+use Rattle.std.proofs.Common.{◌≡◌, ℕ, ◌+◌, ◌≤◌, inl, inr, List, [], ◌∷◌, ◌++◌, length, map, Ok, refl}
 use Rattle.std.proofs.Common.{sym, ap, ap₂, subst, ◌∙◌, arith}
 use Rattle.std.specs.Prelude.{decimal, min}
 use Rattle.std.specs.Ordering.{is_lt}
@@ -20,7 +20,6 @@ use Rattle.landing_rules.specs.Problem.{IsProblemOf, IsWaitingOf, Problem, by_ra
 use Rattle.arrivals.specs.declared.aerodrome.Aerodrome.{Aerodrome}
 use Rattle.arrivals.specs.declared.flight.Flight.{Flight}
 use Rattle.arrivals.specs.Seen.{flight_of}
-use Rattle.aerodrome_file.specs.Reading.{aerodrome_of}
 use Rattle.flight_file.specs.Reading.{flights_of}
 use Rattle.certificate.specs.declared.certificate.Claim.{Claim}
 use Rattle.certificate.specs.declared.certificate.Claim.TheVariants as claim
@@ -37,7 +36,6 @@ use Rattle.cert_check.specs.declared.verdict.Reason.TheVariants.{Closed, Early, 
 use Rattle.cert_check.specs.declared.verdict.Reason.TheVariants.{Shape, Shift, Successor, Value}
 use Rattle.cert_check.specs.declared.verdict.Verdict.{Verdict}
 use Rattle.cert_check.specs.declared.verdict.Verdict.TheVariants as verdict
-use Rattle.text_bounds.specs.Certificates.{certificate_bound}
 use Rattle.text_bounds.specs.Counts.{count_in}
 use Rattle.text_bounds.specs.WholeCertificates.{LoadableIsShortLaw, WholeCertificateIsBoundedLaw, most_pairs}
 use Rattle.text_bounds.specs.WholeCertificates.{whole_bound}
@@ -45,10 +43,9 @@ use Rattle.text_bounds.specs.shared.Reasons.{HasSmallNumbers, IsSmall, verdict_h
 use Rattle.sequencer.specs.Opened.{opened, opening_of}
 use Rattle.endings.specs.declared.ending.Answer.{Answer}
 use Rattle.certificate_commands.specs.Certify.{AdmitsCertify, IsCertified}
-use Rattle.certificate_commands.specs.Check.{AdmitsCheck}
 use Rattle.certificate_commands.specs.TextLaws.{CertifyIsBoundedLaw, CertifyIsLoadableLaw, CertifyTextsLaw}
-use Rattle.certificate_commands.specs.TextLaws.{CheckIsBoundedLaw, DifferInLandingsAlone, certify_bound}
-use Rattle.certificate_commands.specs.TextLaws.{certify_bound_of, check_bound}
+use Rattle.certificate_commands.specs.TextLaws.{CheckIsBoundedLaw, DifferInLandingsAlone}
+use Rattle.certificate_commands.specs.TextLaws.{certify_bound_of}
 use Rattle.certificate_commands.specs.Verdicts.{IsTrueOf, verdict_text}
 
 -- ---- two certificates of one situation
