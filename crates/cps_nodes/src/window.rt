@@ -355,6 +355,7 @@ impl<const W: usize> ExtendableWindow<W> {
             ↔ ((j < W) × Accepts self.now (pos j -ℤ pos (W / 2))) }
     {
         let window = self.window;
+        // Its digits are those of a window.
         let _digits = window.digits;
         let due = lowest_bits(count_due::<W>(self.held));
         let held = u64::from(self.held);

@@ -13,7 +13,9 @@ abbrev pub no_follower : Follower
 no_follower = record { rank = 0; separations = []; from = 0; «open» = (0, 0) }
 
 pub followers_kept : (p : Problem) (number : ℕ) (followers : List Follower) (place : ℕ) (one : Follower)
-    → AreFollowers p number followers → place < 8 → IsFollower p one → one.rank ≡ (slice_index_or followers place no_follower).rank → AreFollowers p number (set followers place one)
+    → AreFollowers p number followers → place < 8 → IsFollower p one
+    → one.rank ≡ (slice_index_or followers place no_follower).rank
+    → AreFollowers p number (set followers place one)
 followers_kept p number followers place one are within is rank_is = record {
   count = length-set followers place one ∙ are.count;
   each = All-set (IsFollower p) followers place one is are.each;

@@ -276,7 +276,8 @@ module _ (p : Problem) (wf : IsWellFormed p) (net : IsWindowNetwork p) where
 
   pub counts_exist : HasCounts p
   counts_exist stage =
-      let all = windows (LandsBefore stage) (decide_before stage) window (all_orders (length p.flights) (suc stage)) in (
+      let all = windows (LandsBefore stage) (decide_before stage) window
+      (all_orders (length p.flights) (suc stage)) in (
         length all.list,
         record {
           candidates = all.list;

@@ -1,6 +1,6 @@
 -- The frozen landing that is last, found by its second.
-use Rattle.std.proofs.Common.{◌≡◌, ℕ, zero, suc, ◌<◌, List, [], ◌∷◌, length, get_or, map, take, reverse, Option, Some, None}
-use Rattle.std.proofs.Common.{inl, inr, refl, sym, ap, ap₂, subst, ◌∙◌, arith}
+use Rattle.std.proofs.Common.{◌≡◌, ℕ, zero, suc, ◌<◌, List, [], ◌∷◌, length, get_or, map, take, reverse}
+use Rattle.std.proofs.Common.{Option, Some, None, inl, inr, refl, sym, ap, ap₂, subst, ◌∙◌, arith}
 use Rattle.std.specs.Prelude.{option_map, slice_get}
 use Rattle.std.specs.List.{AllWithin, HoldsAt}
 use Rattle.std.proofs.lemmas.Bool.{cases_order}
@@ -15,7 +15,8 @@ use Rattle.landing_rules.specs.Problem.{last_of}
 use Rattle.landing_rules.specs.Sound.{IsSound}
 use Rattle.landing_rules.specs.Text.{ShownLanding, ShownPlan, shown_landing}
 use Rattle.landing_rules.specs.shared.Counting.{Member}
-use Rattle.landing_rules.specs.shared.Members.{contains_member, frozen_in, in_frozen, member_contains, member_permutation}
+use Rattle.landing_rules.specs.shared.Members.{contains_member, frozen_in, in_frozen, member_contains}
+use Rattle.landing_rules.specs.shared.Members.{member_permutation}
 use Rattle.landing_joint.specs.shared.LandingsInOrder.{order_member}
 use Rattle.sequencer.specs.Frozen.{frozen_shown, frozen_there, BeginsWithFrozen}
 use Rattle.sequencer.proofs.Fronts.{seconds_apart, there_at}

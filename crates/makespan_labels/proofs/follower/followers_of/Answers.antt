@@ -61,5 +61,14 @@ returns c =
       each = c.loop-rank.invariant.1;
       ranks = λ rank d one count late early. c.loop-rank.invariant.2 rank d
           (omega (arith, one, late, k_is, c.saturating_sub.ensures, c.max-first.ensures))
-          (omega (arith, count, early, k_is, c.len.ensures, c.saturating_add.ensures, c.min-end.ensures, c.loop-rank-test.false));
+          (omega (
+            arith,
+            count,
+            early,
+            k_is,
+            c.len.ensures,
+            c.saturating_add.ensures,
+            c.min-end.ensures,
+            c.loop-rank-test.false,
+          ));
     }

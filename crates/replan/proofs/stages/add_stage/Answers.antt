@@ -42,7 +42,8 @@ returns-clause-held g c =
     let number = rw c.deref.ensures.value at c.in_ok-stage.ensures.number in
     let exact = rw c.deref.ensures.value at c.in_ok-stage.ensures.exact in
     let left = c.in_ok-labels.ensures.left in
-    one_more c.args.problem.now c.args.begun.now.stages.items c.push.new.self.items _ c.requires.held c.in_ok-push.ensures.items
+    one_more c.args.problem.now c.args.begun.now.stages.items c.push.new.self.items _ c.requires.held
+    c.in_ok-push.ensures.items
     (left.number ∙ number) c.windows-ascending.ensures.ascending left.held
     (λ last is whole.
     let f : c.len-2.result ≡ c.len-candidates.result = search (rules, whole) in
