@@ -85,6 +85,26 @@ fn next_windows<const W: usize>(
     })
 }
 
+// The stage of these windows. Where they are those of the stage before, it shares that one's list.
+fn made_after<const W: usize>(
+    alloc: Global,
+    before: &Stage<W>,
+    windows: Vec<Window<W>>,
+) -> Result<Stage<W>, AllocError>
+    requires stage { before.now.0 < 60 }
+    requires ascending { IsAscending windows.items }
+    requires valid { AreWindows W windows.items }
+    ensures { IfOk result (λ s. s ≡ (before.now.0 + 1, windows.entry.items)) }
+{
+    let number = before.number() + 1;
+    if before.windows() == windows.as_slice() {
+        let same = before.copy_as(number)?;
+        return Ok(same);
+    }
+    let made = Stage::made(alloc, number, windows)?;
+    Ok(made)
+}
+
 // The stage of the windows that were gathered, with links from those of the stage before where these are wanted.
 fn stage_of<const W: usize>(
     alloc: Global,
@@ -99,7 +119,7 @@ fn stage_of<const W: usize>(
     requires valid { AreWindows W gathered.windows.items }
     ensures { IfOk result (λ s. s ≡ (before.now.0 + 1, gathered.entry.windows.items)) }
 {
-    let made = Stage::made(alloc, before.number() + 1, gathered.windows)?;
+    let made = made_after(alloc, before, gathered.windows)?;
     if !gathered.are_linked {
         return Ok(made);
     }

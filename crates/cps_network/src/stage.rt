@@ -195,8 +195,8 @@ impl<const W: usize> Stage<W> {
         Ok(same)
     }
 
-    // The same windows under another number.
-    pub(crate) fn copy_as(&self, number: u8) -> Result<Stage<W>, AllocError>
+    /// A stage of this number with the same windows, which are shared.
+    pub fn copy_as(&self, number: u8) -> Result<Stage<W>, AllocError>
         ensures { IfOk result (λ s. s ≡ (number, self.now.1)) }
     {
         let windows = Arc::try_clone(&self.windows)?;

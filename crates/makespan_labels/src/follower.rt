@@ -1,6 +1,6 @@
 //! The ranks that land last in the windows of a stage, of which there are few, with what their landings need.
 
-ghost use Rattle.std.specs.Prelude.{◌≡◌, ◌%◌, ◌<◌, ◌≤◌, length, slice_index};
+ghost use Rattle.std.specs.Prelude.{◌≡◌, ◌%◌, ◌<◌, ◌≤◌, All, length, slice_index};
 ghost use Rattle.cps_theory.specs.RankLists.{of_rank};
 ghost use Rattle.landing_joint.specs.RankedProblem.{no_waiting, first_at};
 ghost use Rattle.landing_rules.specs.Problem as rules;
@@ -48,19 +48,19 @@ pub(crate) fn follower_of(rank: u8) -> usize
     usize::from(rank % 8)
 }
 
-// The followers of the ranks in reach of a stage of a number, each at its place.
-pub(crate) fn followers_of(problem: &Problem, number: u8) -> [Follower; 8]
-    ensures { AreFollowers problem.now number result }
+// Puts the followers of the ranks in reach of a stage of a number each at its place. They are filled where they stand, since they
+// are too long to be handed over.
+pub(crate) fn fill_followers(problem: &Problem, number: u8, followers: &mut [Follower; 8])
+    requires { All (IsFollower problem.now) followers.old }
+    ensures { AreFollowers problem.now number followers.new }
 {
     // k is at most 3, and at most 60 flights wait.
     let k = problem.head().k;
     let first = number.saturating_sub(k).max(1);
     let end = number.saturating_add(k).min(problem.len()) + 1;
-    let mut followers = [Follower::none(); 8];
     for rank in first..end {
         followers[follower_of(rank)] = Follower::new(problem, rank);
     }
-    followers
 }
 
 impl Follower {

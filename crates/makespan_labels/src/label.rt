@@ -17,7 +17,7 @@ ghost use Rattle.makespan_labels.specs.Labellings.{CanLabel};
 ghost use Rattle.makespan_labels.specs.Labels.{AreLabels, HoldsLabels};
 
 use crate::column::{Column, NO_LABEL};
-use crate::follower::{Follower, follower_of, followers_of};
+use crate::follower::{Follower, fill_followers, follower_of};
 use crate::group::{Group, Lead, find_group, turn_to};
 use crate::labelling::Labelling;
 use cps_base::{Ledger, Steps};
@@ -125,7 +125,8 @@ pub(crate) fn fill_part<const W: usize>(labelling: &Labelling<W>, start: usize, 
     find_group(&mut first, labelling, earlier, start);
     let number = labelling.stage.number();
     let mut groups = [first; 8];
-    let mut followers = followers_of(labelling.problem, number);
+    let mut followers = [Follower::none(); 8];
+    fill_followers(labelling.problem, number, &mut followers);
     for i in 0..part.len() {
         let place = start + i;
         let window = &windows[place];

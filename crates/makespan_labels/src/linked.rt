@@ -14,7 +14,7 @@ ghost use Rattle.makespan_labels.specs.LinkedGroups.{IsLeadOver, IsLeadTo, LeadT
 ghost use Rattle.wake_table.specs.declared.category.Category.{Category};
 
 use crate::column::Column;
-use crate::follower::{Follower, follower_of, followers_of};
+use crate::follower::{Follower, fill_followers, follower_of};
 use crate::group::{Lead, group_over};
 use crate::label::{fill_part, label_behind_flight};
 use crate::labelling::Labelling;
@@ -28,7 +28,7 @@ use std::thread::Threads;
 use wake_table::Category;
 
 // How many ranges near one another find room on the stack. A piece of a column needs far fewer, as a rule.
-const ROOM: usize = 1024;
+const ROOM: usize = 500;
 
 // What landings behind ranges of the links need, from the range at place `first` on.
 #[derive(Clone, Copy)]
@@ -135,7 +135,8 @@ fn fill_linked_part<const W: usize>(
     let leads = *leads;
     let windows = near.stage.windows();
     let number = near.stage.number();
-    let mut followers = followers_of(near.problem, number);
+    let mut followers = [Follower::none(); 8];
+    fill_followers(near.problem, number, &mut followers);
     for i in 0..part.len() {
         let place = start + i;
         let window = &windows[place];

@@ -1,7 +1,9 @@
--- The stages that were held, without their pairs.
-use Rattle.std.proofs.Common.{◌≡◌, ℕ, ◌+◌, ◌-◌, ◌<◌, List, [], ◌∷◌, ◌++◌, length, get_or, map, take, arith, ◌∙◌}
+-- Stages without their pairs.
+use Rattle.std.proofs.Common.{◌≡◌, ℕ, ◌+◌, ◌-◌, ◌<◌, List, [], ◌∷◌, ◌++◌, length, length-append, get_or, map, take, sym}
+use Rattle.std.proofs.Common.{inl, inr, arith, ◌∙◌}
 use Rattle.std.specs.Prelude.{ℤ, IsTrue}
-use Rattle.std.proofs.lemmas.List.{get_or-map, get_or_default, length-map, map_more}
+use Rattle.std.proofs.lemmas.Bool.{cases_eq}
+use Rattle.std.proofs.lemmas.List.{get_or_append_left, get_or_push, get_or-map, get_or_default, length-map, map_more}
 use Rattle.landing_rules.specs.Problem.{Problem}
 use Rattle.cps_network.specs.Permits.{IsNextOf}
 use Rattle.replan.specs.Stages.{LabelledStage, no_stage, stage_at, AreStages, FormerStage, former_of, former_at}
@@ -38,3 +40,30 @@ pub next_former : (p : Problem) (former : List FormerStage) → AreFormer p form
     → x ≡ former_at former i → y ≡ former_at former (i + 1) → IsTrue y.is_whole
     → IsNextOf p x.stage.0 x.stage.1 y.stage.1
 next_former p former are i x y lt e f whole = rw (e, f) (are i lt (rw f at whole))
+
+-- one stage more, which comes after the last of them
+pub one_ahead : (p : Problem) (former after : List FormerStage) (last : ℕ) (s : FormerStage) → AreFormer p former
+    → length former ≡ last + 1 → after ≡ former ++ s ∷ []
+    → IsNextOf p (former_at former last).stage.0 (former_at former last).stage.1 s.stage.1 → AreFormer p after
+one_ahead p former after last s are long e next = rw e (λ i lt said.
+    let here : i < length former = omega (arith, lt, length-append former (s ∷ [])) in
+    rw (get_or_append_left former (s ∷ []) (former_of no_stage) i here)
+    (elim (cases_eq (i + 1) (length former)) [
+      | inl same ↦
+          let at : i ≡ last = omega (arith, same, long) in
+          rw (get_or_push former s (former_of no_stage) (i + 1) (sym same), at) next
+      | inr old ↦
+          let below : i + 1 < length former = omega (arith, old, here) in
+          let there = get_or_append_left former (s ∷ []) (former_of no_stage) (i + 1) below in
+          rw there (are i below (rw there at said))
+    ]))
+
+-- the last of them, once it is there
+pub last_ahead : (former after : List FormerStage) (s : FormerStage) (place : ℕ) → length former ≡ place
+    → after ≡ former ++ s ∷ [] → former_at after place ≡ s
+last_ahead former after s place long e = rw e (get_or_push former s (former_of no_stage) place long)
+
+-- the first of them stays
+pub first_ahead : (former after : List FormerStage) (s : FormerStage) → 0 < length former
+    → after ≡ former ++ s ∷ [] → former_at after 0 ≡ former_at former 0
+first_ahead former after s some e = rw e (get_or_append_left former (s ∷ []) (former_of no_stage) 0 some)

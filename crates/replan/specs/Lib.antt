@@ -1,6 +1,7 @@
 -- The definitions of this crate.
 pub mod Labels
 pub mod Stages
+pub mod Filling
 pub mod Held
 pub mod Kept
 pub mod Readers

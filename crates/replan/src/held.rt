@@ -81,7 +81,7 @@ impl<const W: usize> HeldProblem<W> {
     }
 }
 
-/// The stages from which on a problem is to be filled, and what was held before of another.
+/// The stages from which on a problem is to be filled, and what is known of those to come.
 #[derive(Drop)]
 pub(crate) struct Begun<const W: usize> {
     pub(crate) stages: Vec<LabelledStage<W>>,
@@ -117,6 +117,7 @@ pub(crate) fn begin_stages<const W: usize>(
                 let (stages, former) = held.into_common(problem, count);
                 let former = Former {
                     problem: former,
+                    first: 0,
                     stages: windows,
                 };
                 return Ok(Begun {
@@ -127,6 +128,7 @@ pub(crate) fn begin_stages<const W: usize>(
             let (stages, former) = held.into_first(alloc, problem)?;
             let former = Former {
                 problem: former,
+                first: 0,
                 stages: windows,
             };
             Ok(Begun {

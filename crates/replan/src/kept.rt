@@ -7,9 +7,11 @@ ghost use Rattle.cps_problem.specs.Plans.{IsAnswerOf};
 ghost use Rattle.replan.specs.Held.{held_problem};
 ghost use Rattle.replan.specs.Stages.{AreStages};
 
+use crate::filling::fill_stages;
 use crate::held::{HeldProblem, begin_stages};
 use crate::plan::schedule_of;
-use crate::stages::{LabelledStage, fill_stages};
+use crate::planning::Planning;
+use crate::stages::LabelledStage;
 use cps_base::{Ledger, Steps};
 use cps_outside::Gate;
 use cps_problem::{Problem, Schedule};
@@ -54,7 +56,13 @@ fn all_stages<const W: usize, R: Threads + Sync, G: Gate + Sync, L: Ledger>(
         × (L.count steps.new ≡ raised_by due (L.count steps.old))) }
 {
     let mut begun = begin_stages(alloc, problem, held)?;
-    fill_stages(rt, alloc, problem, &mut begun, gate, steps)?;
+    let planning = Planning {
+        rt,
+        gate,
+        alloc,
+        problem,
+    };
+    fill_stages(&planning, &mut begun, steps)?;
     Ok(begun.stages)
 }
 

@@ -14,6 +14,7 @@ ghost use Rattle.makespan_labels.specs.LabelPairs.{column_pairs};
 ghost use Rattle.replan.specs.Labels.{AreLandableOf, HoldsPairs, last_pair, worth};
 ghost use Rattle.replan.specs.WindowNodes.{extremes};
 
+use crate::planning::Planning;
 use cps_base::{Ledger, Steps};
 use cps_network::{Stage, prefix_laws};
 use cps_nodes::Window;
@@ -252,22 +253,20 @@ impl Labels {
     // once for each candidate.
     pub(crate) fn next<const W: usize, R: Threads + Sync, G: Gate + Sync, L: Ledger>(
         &self,
-        rt: &R,
-        alloc: Global,
-        problem: &Problem,
+        planning: &Planning<R, G>,
         before: &Stage<W>,
         stage: &mut Stage<W>,
-        gate: &G,
         steps: &mut Steps<L>,
     ) -> Result<Labels, AllocError>
-        requires width { W ≡ 2 * problem.now.k + 1 }
-        requires before { HoldsPairs problem.now before.now self.now }
+        requires width { W ≡ 2 * planning.now.problem.now.k + 1 }
+        requires before { HoldsPairs planning.now.problem.now before.now self.now }
         requires number { stage.old.0 ≡ before.now.0 + 1 }
-        requires next { IsNextOf problem.now before.now.0 before.now.1 stage.old.1 }
-        ensures left { IfOk result (AreLandableOf problem.now stage.old stage.new) }
+        requires next { IsNextOf planning.now.problem.now before.now.0 before.now.1 stage.old.1 }
+        ensures left { IfOk result (AreLandableOf planning.now.problem.now stage.old stage.new) }
         ensures steps { OnOk result (L.count steps.new ≡ raised_by (length stage.old.1)
             (L.count steps.old)) }
     {
+        let problem = planning.problem;
         // k is at most 3.
         let _near = problem.head();
         match &self.kept {
@@ -278,12 +277,27 @@ impl Labels {
                     labels,
                     stage,
                 };
-                let column = column_by_pieces(rt, alloc, labelling, gate, steps)?;
+                let column = column_by_pieces(
+                    planning.rt,
+                    planning.alloc,
+                    labelling,
+                    planning.gate,
+                    steps,
+                )?;
                 let left = Labels::left_of_column(column, stage)?;
                 Ok(left)
             }
             ByObjective::OfCosts(labels) => {
-                let costs = fill_costs(rt, alloc, problem, before, labels, stage, gate, steps)?;
+                let costs = fill_costs(
+                    planning.rt,
+                    planning.alloc,
+                    problem,
+                    before,
+                    labels,
+                    stage,
+                    planning.gate,
+                    steps,
+                )?;
                 let left = Labels::left_of_costs(costs, stage)?;
                 Ok(left)
             }

@@ -7,6 +7,7 @@
 
 mod any_kept;
 mod bound;
+mod filling;
 mod former;
 mod held;
 mod kept;
@@ -14,6 +15,7 @@ mod labels;
 mod least;
 mod least_pairs;
 mod plan;
+mod planning;
 mod readers;
 mod stages;
 mod trace;

@@ -1,9 +1,7 @@
 //! The stages of a problem.
 
-ghost use Rattle.std.specs.Prelude.{◌≡◌, ℕ, ◌+◌, ◌-◌, ◌*◌, ◌<◌, ◌≤◌, [], length, vec_len, IfOk, OnOk, IsTrue, false};
-ghost use Rattle.cps_base.specs.Tally.{raised_by};
+ghost use Rattle.std.specs.Prelude.{◌≡◌, ◌+◌, ◌-◌, ◌*◌, ◌<◌, ◌≤◌, [], length, vec_len, IfOk, OnOk, IsTrue, false};
 ghost use Rattle.cps_network.specs.Again.{IsStageAfter};
-ghost use Rattle.cps_network.specs.Due.{HasCandidates, HasCandidatesFrom};
 ghost use Rattle.cps_network.specs.Landable.{HoldsCandidates};
 ghost use Rattle.cps_network.specs.Lists.{IsAscending};
 ghost use Rattle.cps_network.specs.Permits.{IsNextOf};
@@ -11,15 +9,11 @@ ghost use Rattle.replan.specs.Labels.{HoldsPairs};
 ghost use Rattle.replan.specs.Stages.{stage_at, AreStages};
 
 use crate::former::Former;
-use crate::held::Begun;
 use crate::labels::Labels;
-use cps_base::{Ledger, Steps};
 use cps_network::{Stage, next_stage, next_stage_again};
-use cps_outside::Gate;
 use cps_problem::Problem;
 use std::alloc::{AllocError, Global};
 use std::marker::Model;
-use std::thread::Threads;
 
 /// A stage of a problem with the pairs of its windows.
 #[derive(Drop)]
@@ -115,7 +109,7 @@ pub(crate) fn stage_after<const W: usize>(
     Ok(stage)
 }
 
-// As `stage_after`, but they are taken again from what was held, where they may be.
+// As `stage_after`, but they are taken from the windows that are known already, where they may be.
 fn stage_again<const W: usize>(
     alloc: Global,
     problem: &Problem,
@@ -140,7 +134,7 @@ fn stage_again<const W: usize>(
 }
 
 // The candidates of the stage after the last of these.
-fn candidates_after<const W: usize>(
+pub(crate) fn candidates_after<const W: usize>(
     alloc: Global,
     problem: &Problem,
     kept: &[LabelledStage<W>],
@@ -169,66 +163,4 @@ fn candidates_after<const W: usize>(
         former,
     )?;
     Ok(stage)
-}
-
-// One stage more.
-fn add_stage<const W: usize, R: Threads + Sync, G: Gate + Sync, L: Ledger>(
-    rt: &R,
-    alloc: Global,
-    problem: &Problem,
-    begun: &mut Begun<W>,
-    gate: &G,
-    steps: &mut Steps<L>,
-) -> Result<(), AllocError>
-    requires width { W ≡ 2 * problem.now.k + 1 }
-    requires held { AreStages problem.now begun.old.stages.items }
-    requires some { 0 < vec_len begun.old.stages }
-    requires number { vec_len begun.old.stages ≤ length problem.now.flights }
-    ensures held { OnOk result (AreStages problem.now begun.new.stages.items) }
-    ensures one { OnOk result (vec_len begun.new.stages ≡ vec_len begun.old.stages + 1) }
-    ensures steps { OnOk result ((count : ℕ) × HasCandidates problem.now
-        (vec_len begun.old.stages - 1) count × (L.count steps.new ≡ raised_by count
-        (L.count steps.old))) }
-{
-    let mut stage = candidates_after(alloc, problem, &begun.stages, &begun.former)?;
-    let candidates = stage.len();
-    let last = &begun.stages[begun.stages.len() - 1];
-    let labels = last
-        .labels
-        .next(rt, alloc, problem, &last.stage, &mut stage, gate, steps)?;
-    let is_whole = stage.len() == candidates;
-    // The windows of a stage ascend.
-    let _ascending = stage.windows();
-    begun.stages.push(LabelledStage {
-        stage,
-        labels,
-        is_whole,
-    })?;
-    Ok(())
-}
-
-// The stages that follow those that are kept, up to the last.
-pub(crate) fn fill_stages<const W: usize, R: Threads + Sync, G: Gate + Sync, L: Ledger>(
-    rt: &R,
-    alloc: Global,
-    problem: &Problem,
-    begun: &mut Begun<W>,
-    gate: &G,
-    steps: &mut Steps<L>,
-) -> Result<(), AllocError>
-    requires width { W ≡ 2 * problem.now.k + 1 }
-    requires held { AreStages problem.now begun.old.stages.items }
-    requires some { 0 < vec_len begun.old.stages }
-    requires few { vec_len begun.old.stages ≤ length problem.now.flights + 1 }
-    ensures held { OnOk result (AreStages problem.now begun.new.stages.items) }
-    ensures all { OnOk result (vec_len begun.new.stages ≡ length problem.now.flights + 1) }
-    ensures steps { OnOk result ((due : ℕ) × HasCandidatesFrom (vec_len begun.old.stages)
-        problem.now (length problem.now.flights) due
-        × (L.count steps.new ≡ raised_by due (L.count steps.old))) }
-{
-    let first = begun.stages.len();
-    for _stage in first..problem.len() as usize + 1 {
-        add_stage(rt, alloc, problem, begun, gate, steps)?;
-    }
-    Ok(())
 }

@@ -6,6 +6,7 @@ use Rattle.cps_nodes.specs.Leads.{Extends}
 use Rattle.makespan_labels.specs.declared.group.Group.{Group}
 use Rattle.makespan_labels.specs.Entries.{IsLabelAt}
 use Rattle.makespan_labels.specs.Ready.{IsReady}
+use Rattle.makespan_labels.specs.Followers.{IsFollower}
 use Rattle.makespan_labels.proofs.ColumnLemmas.{set_more}
 use Rattle.makespan_labels.proofs.GroupLemmas.{window_at, extends_there, first_within, not_empty}
 use Rattle.makespan_labels.proofs.label.fill_part.Goals as goal
@@ -57,6 +58,12 @@ label_of-requires g c =
         (c.requires.can, (c.number-number.ensures, (within, (window, (search rules, (leads, c.loop-i.invariant.4)))))),
       ),
     )
+
+pub fill_followers-requires : goal.fill_followers-requires
+fill_followers-requires g c =
+    let p = c.args.labelling.now.problem.now in
+    let none : IsFollower p c.none-followers.result = c.none-followers.ensures p in
+    search (rules, none)
 
 pub loop-i-preserved : goal.loop-i-preserved
 loop-i-preserved g c =

@@ -1,7 +1,14 @@
-use Rattle.std.proofs.Common.{ℕ, ◌+◌, length, refl, arith}
+use Rattle.std.proofs.Common.{ℕ, ◌+◌, length, refl, arith, rules}
 use Rattle.makespan_labels.specs.Entries.{IsLabelAt}
+use Rattle.makespan_labels.specs.Followers.{IsFollower}
 use Rattle.makespan_labels.proofs.ColumnLemmas.{set_more}
 use Rattle.makespan_labels.proofs.linked.fill_linked_part.Goals as goal
+
+pub fill_followers-requires : goal.fill_followers-requires
+fill_followers-requires g c =
+    let p = c.args.labelling.now.problem.now in
+    let none : IsFollower p c.none-followers.result = c.none-followers.ensures p in
+    search (rules, none)
 
 pub loop-i-preserved : goal.loop-i-preserved
 loop-i-preserved g c =

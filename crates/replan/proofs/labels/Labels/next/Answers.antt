@@ -14,7 +14,7 @@ column_by_pieces-requires g c =
           (
             c.requires.width,
             (
-              column_held c.args.problem.now c.args.before.now c.args.self.now c.in-OfColumn.labels
+              column_held c.args.planning.now.problem.now c.args.before.now c.args.self.now c.in-OfColumn.labels
                   is c.requires.before,
               (c.requires.number, c.requires.next),
             ),
@@ -26,13 +26,14 @@ column_by_pieces-requires g c =
 pub returns-in_ok-left-in-OfColumn-clause-left : goal.returns-in_ok-left-in-OfColumn-clause-left
 returns-in_ok-left-in-OfColumn-clause-left g c =
     let is : of_column c.in-OfColumn.labels ≡ c.args.self.now = sym (ap pairs_of c.in-OfColumn.is) ∙ c.self.view_is in
-    c.in_ok-left-in-OfColumn.ensures c.args.problem.now
-    (column_makespan c.args.problem.now c.args.before.now c.args.self.now c.in-OfColumn.labels is c.requires.before)
+    c.in_ok-left-in-OfColumn.ensures c.args.planning.now.problem.now
+    (column_makespan c.args.planning.now.problem.now c.args.before.now c.args.self.now c.in-OfColumn.labels is
+    c.requires.before)
     c.in_ok-column-in-OfColumn.ensures.landable c.in_ok-column-in-OfColumn.ensures.labels
 
 pub returns-in_ok-left-in-OfCosts-clause-left : goal.returns-in_ok-left-in-OfCosts-clause-left
 returns-in_ok-left-in-OfCosts-clause-left g c =
     let is : of_costs c.in-OfCosts.labels ≡ c.args.self.now = sym (ap pairs_of c.in-OfCosts.is) ∙ c.self.view_is in
-    c.in_ok-left-in-OfCosts.ensures c.args.problem.now
-    (sym (subst (HoldsPairs c.args.problem.now c.args.before.now) (sym is) c.requires.before).objective)
+    c.in_ok-left-in-OfCosts.ensures c.args.planning.now.problem.now
+    (sym (subst (HoldsPairs c.args.planning.now.problem.now c.args.before.now) (sym is) c.requires.before).objective)
     c.in_ok-costs-in-OfCosts.ensures.landable c.in_ok-costs-in-OfCosts.ensures.pairs

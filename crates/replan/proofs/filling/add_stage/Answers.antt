@@ -2,7 +2,7 @@ use Rattle.std.proofs.Common.{◌≡◌, ◌-◌, ◌<◌, length, rules, arith,
 use Rattle.std.specs.Prelude.{vec_len}
 use Rattle.replan.specs.Stages.{stage_at}
 use Rattle.replan.proofs.StageLemmas.{held_at, read_stage, one_more, has_candidates}
-use Rattle.replan.proofs.stages.add_stage.Goals as goal
+use Rattle.replan.proofs.filling.add_stage.Goals as goal
 
 pub candidates_after-requires : goal.candidates_after-requires
 candidates_after-requires g c =
@@ -20,7 +20,7 @@ pub next-requires : goal.next-requires
 next-requires g c =
     let lt : c.len.result - 1 < length c.args.begun.now.stages.items = omega (arith, c.len.ensures, c.requires.some) in
     let e = read_stage _ _ _ _ c.last.view_is c.index-last.ensures lt in
-    let h = held_at c.args.problem.now _ c.requires.held _ _ e lt in
+    let h = held_at c.args.planning.now.problem.now _ c.requires.held _ _ e lt in
     let number = rw c.deref.ensures.value at c.in_ok-stage.ensures.number in
     let exact = rw c.deref.ensures.value at c.in_ok-stage.ensures.exact in
     let long : length c.args.begun.now.stages.items ≡ c.len.result = omega (arith, c.len.ensures) in (
@@ -42,7 +42,7 @@ returns-clause-held g c =
     let number = rw c.deref.ensures.value at c.in_ok-stage.ensures.number in
     let exact = rw c.deref.ensures.value at c.in_ok-stage.ensures.exact in
     let left = c.in_ok-labels.ensures.left in
-    one_more c.args.problem.now c.args.begun.now.stages.items c.push.new.self.items _ c.requires.held
+    one_more c.args.planning.now.problem.now c.args.begun.now.stages.items c.push.new.self.items _ c.requires.held
     c.in_ok-push.ensures.items
     (left.number ∙ number) c.windows-ascending.ensures.ascending left.held
     (λ last is whole.
@@ -57,7 +57,7 @@ returns-clause-steps g c =
     let lt : length stages - 1 < length stages = omega (arith, long, c.requires.some) in
     let candidates = rw c.deref.ensures.value at c.in_ok-stage.ensures.candidates in (
       length c.in_ok-stage.stage.1,
-      has_candidates c.args.problem.now (stage_at stages (length stages - 1)).stage c.in_ok-stage.stage
+      has_candidates c.args.planning.now.problem.now (stage_at stages (length stages - 1)).stage c.in_ok-stage.stage
           (vec_len c.args.begun.now.stages - 1)
           (c.requires.held.number (length stages - 1) lt ∙ ap (λ n. n - 1) long)
           (c.requires.held.held (length stages - 1) lt).held.landable candidates c.in_ok-stage.ensures.ascending,

@@ -6,16 +6,14 @@ use Rattle.std.proofs.lemmas.List.Elements.{All-set}
 use Rattle.landing_rules.specs.Problem.{Problem}
 use Rattle.makespan_labels.specs.declared.follower.Follower.{Follower}
 use Rattle.makespan_labels.specs.Followers.{IsFollower}
-use Rattle.makespan_labels.proofs.follower.followers_of.Goals as goal
+use Rattle.makespan_labels.proofs.follower.fill_followers.Goals as goal
 
 -- ranks that differ by less than eight stand at different places
 apart : (r s : ℕ) → r < s → s ≤ r + 7 → r % 8 ≡ s % 8 → ⊥
 apart r s lo hi same = omega (arith, lo, hi, same)
 
 pub loop-rank-init : goal.loop-rank-init
-loop-rank-init c =
-    let none : IsFollower c.args.problem.now c.none-followers.result = c.none-followers.ensures c.args.problem.now in
-    search (rules, none)
+loop-rank-init c = (search rules, c.requires, λ r d low high. absurd (omega (arith, low, high)))
 
 pub loop-rank-preserved : goal.loop-rank-preserved
 loop-rank-preserved c =

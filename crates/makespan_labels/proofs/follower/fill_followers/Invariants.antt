@@ -3,7 +3,7 @@ use Rattle.std.proofs.Common.{◌≡◌, ℕ, ◌%◌, ◌<◌, ◌≤◌, lengt
 use Rattle.std.specs.Prelude.{slice_index_or, All}
 use Rattle.makespan_labels.specs.declared.follower.Follower.{Follower}
 use Rattle.makespan_labels.specs.Followers.{IsFollower}
-use Rattle.makespan_labels.proofs.follower.followers_of.Given as goal
+use Rattle.makespan_labels.proofs.follower.fill_followers.Given as goal
 
 abbrev pub invariant-loop-rank : goal.invariant-loop-rank
 invariant-loop-rank l = (length l.followers ≡ 8) × All (IsFollower l.problem) l.followers
