@@ -8,21 +8,6 @@ use Rattle.landing_rules.specs.Audit.{Moved, Early, Shift, OtherObjective, Value
 abbrev pub spaced : Bytes → Bytes → Bytes
 spaced first second = first ++ codes " " ++ second
 
-abbrev pub finding_words : Finding → Bytes
-finding_words (Missing c) = codes "missing " ++ c
-finding_words (Unknown c) = codes "unknown " ++ c
-finding_words (Twice c) = codes "twice " ++ c
-finding_words (Order i) = codes "order " ++ decimal i
-finding_words (Mark c) = codes "mark " ++ c
-finding_words (Closed c t) = codes "closed " ++ spaced c (decimal t)
-finding_words (Separation c d) = codes "separation " ++ spaced c d
-finding_words (Precedence c d) = codes "precedence " ++ spaced c d
-finding_words (Moved c t) = codes "moved " ++ spaced c (decimal t)
-finding_words (Early c) = codes "early " ++ c
-finding_words (Shift c p r) = codes "shift " ++ spaced c (spaced (decimal p) (decimal r))
-finding_words OtherObjective = codes "objective"
-finding_words (Value v) = codes "value " ++ decimal v
-
 -- the word of a finding, with a blank where more stands behind it
 abbrev pub word_of : Finding → Bytes
 word_of (Missing c) = codes "missing "
@@ -54,6 +39,9 @@ detail_of (Early c) = c
 detail_of (Shift c p r) = spaced c (spaced (decimal p) (decimal r))
 detail_of OtherObjective = []
 detail_of (Value v) = decimal v
+
+abbrev pub finding_words : Finding → Bytes
+finding_words f = word_of f ++ detail_of f
 
 -- a line for each
 abbrev pub findings_text : List Finding → Bytes

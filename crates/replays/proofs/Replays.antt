@@ -1,5 +1,5 @@
 -- A replay goes on by one event, or stops there.
-use Rattle.std.specs.Prelude.{⊤}
+use Rattle.std.specs.Prelude.{⊤, Bool, is_some}
 use Rattle.std.proofs.Common.{◌≡◌, ◌⊎◌, ℕ, ◌+◌, ◌^◌, ◌<◌, List, [], ◌∷◌, ◌++◌, length, Option, Some, None, MatchOption}
 use Rattle.std.proofs.Common.{Result, Ok, Err, OnOk, IfErr, inl, inr, refl, sym, ap, subst, ◌∙◌, arith, append_assoc}
 use Rattle.std.proofs.lemmas.List.{append-nil, length-append}
@@ -209,3 +209,20 @@ pub stops_after : (s : Stop) (old new : State) (events : List Event) (from mid t
     EventsWrite old new events mid to (Err s) → ReplayEnds old new events from to (Err s)
 stops_after stop.NotWritten old new events from mid to a r = unwritten_after old events from mid to a r
 stops_after stop.NoMemory old new events from mid to a r = inr (short_after old events from mid to a r)
+
+-- and each event's answer too
+pub ends_well : (old state : State) (events rest : List Event) (from mid to : SinkState) (i : ℕ) (planned : Bool)
+    → Wrote 1 from mid (begun_text old) → Done old events mid i state rest to → rest ≡ []
+    → planned ≡ is_some state.plan → ReplayEnds old state events from to (Ok planned)
+ends_well old state events rest from mid to i planned a d none shown = (
+  shown,
+  record {
+    answers = d.answers;
+    run =
+        subst (λ (es : List Event). Run old es d.answers)
+        (sym (append-nil d.done) ∙ ap (λ (es : List Event). d.done ++ es) (sym none) ∙ d.split) d.run;
+    last = d.last;
+    written =
+        wrote_after 1 (length d.answers) from mid to (begun_text old) (answers_text 1 d.answers) a d.written;
+  },
+)

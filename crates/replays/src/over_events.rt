@@ -2,7 +2,7 @@ ghost use Rattle.std.specs.Prelude.{◌<◌, ◌^◌, All, length, map};
 ghost use Rattle.landing_rules.specs.Text.{begun_text};
 ghost use Rattle.arrivals.specs.Seen.{event_of, IsGood};
 ghost use Rattle.replays.specs.Written.{PutsText};
-ghost use Rattle.replays.specs.Runs.{PutsAnswer, EventsWrite, ReplayEnds};
+ghost use Rattle.replays.specs.Runs.{PutsAnswer, ReplayEnds};
 
 use crate::lines::{begun, refused, write_accepted};
 use crate::stops::Stop;
@@ -43,30 +43,6 @@ fn put_answer<P: Planner, S: Sink>(
     Ok(())
 }
 
-// The events, in their order: of each one step, and one put of its answer.
-fn replay_events<R: Threads + Sync, S: Sink, G: Gate + Sync, L: Ledger>(
-    rt: &R,
-    alloc: Global,
-    sequencer: &mut Sequencer<AnyKept>,
-    events: &[Event],
-    out: &mut S,
-    gate: &G,
-    steps: &mut Steps<L>,
-) -> Result<(), Stop>
-    requires good { All IsGood events.now }
-    requires few { length events.now < 2 ^ 31 }
-    requires fits { (S.state out.old).puts < 2 ^ 64 }
-    ensures { EventsWrite sequencer.old.state sequencer.new.state (map event_of events.now)
-        (S.state out.old) (S.state out.new) result }
-{
-    let mut answer = KeptText::new(alloc);
-    for i in 0..events.len() {
-        let outcome = sequencer.apply(rt, alloc, &events[i], gate, steps);
-        put_answer(alloc, &*sequencer, i as u32 + 1, outcome, &mut answer, out)?;
-    }
-    Ok(())
-}
-
 // The opening plan, in one put.
 fn open<P: Planner, S: Sink>(
     alloc: Global,
@@ -102,6 +78,10 @@ pub fn replay<R: Threads + Sync, S: Sink, G: Gate + Sync, L: Ledger>(
         (map event_of events.now) (S.state out.old) (S.state out.new) result }
 {
     open(alloc, &*sequencer, out)?;
-    replay_events(rt, alloc, sequencer, events, out, gate, steps)?;
+    let mut answer = KeptText::new(alloc);
+    for i in 0..events.len() {
+        let outcome = sequencer.apply(rt, alloc, &events[i], gate, steps);
+        put_answer(alloc, &*sequencer, i as u32 + 1, outcome, &mut answer, out)?;
+    }
     Ok(sequencer.plan().is_some())
 }
