@@ -7,6 +7,7 @@ use Rattle.std.proofs.lemmas.List.Quantifiers.{all_pairs_push}
 use Rattle.std.proofs.lemmas.Slice.Eq.{bytes_eq-Decides}
 use Rattle.std.proofs.lemmas.List.{take_rest}
 use Rattle.std.specs.Prelude.{bytes_eq, ◌≢◌}
+use Rattle.cps_base.specs.Limits.{most_flights, most_waiting}
 use Rattle.toml.specs.declared.value.Value.{Value}
 use Rattle.toml.specs.View.{view, items_view}
 use Rattle.arrivals.specs.declared.frozen_list.FrozenLanding.{FrozenLanding}
@@ -16,7 +17,7 @@ use Rattle.aerodrome_file.specs.Frozen.{has_frozen, frozen_of, frozen_from}
 use Rattle.aerodrome_file.specs.Passed.{has_passed, passed_of, passed_from}
 
 pub frozen_more : (clock freeze : ℕ) (fs : List FrozenLanding) (f : FrozenLanding) → AreFrozen clock freeze fs
-    → IsFrozen clock freeze f → has_frozen fs f.callsign ≡ false → length fs < 500
+    → IsFrozen clock freeze f → has_frozen fs f.callsign ≡ false → length fs < most_flights
     → AreFrozen clock freeze (fs ++ f ∷ [])
 frozen_more clock freeze fs f are here new room = record {
   few = omega (arith, length-append fs (f ∷ []));
@@ -30,7 +31,7 @@ frozen_more clock freeze fs f are here new room = record {
 }
 
 pub passed_more : (k : ℕ) (ps : List PassedCount) (p : PassedCount) → ArePassed k ps → (1 ≤ p.count) × (p.count ≤ k)
-    → has_passed ps p.callsign ≡ false → length ps < 60 → ArePassed k (ps ++ p ∷ [])
+    → has_passed ps p.callsign ≡ false → length ps < most_waiting → ArePassed k (ps ++ p ∷ [])
 passed_more k ps p are here new room = record {
   few = omega (arith, length-append ps (p ∷ []));
   counts = All-push (λ q. (1 ≤ q.count) × (q.count ≤ k)) ps p are.counts here;

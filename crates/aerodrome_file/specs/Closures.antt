@@ -3,7 +3,7 @@ use Rattle.std.specs.Prelude.{ℕ, List, [], ◌∷◌, suc, Bool, true, false, 
 use Rattle.std.specs.Prelude.{None, Result, Ok, Err, if◌then◌else◌}
 use Rattle.toml.specs.Data.{Data, array, table, Items, no_items, item, Members, get_member}
 use Rattle.cps_base.specs.Answers.{◌>>=◌}
-use Rattle.landing_rules.specs.Limits.{most_closures}
+use Rattle.cps_base.specs.Limits.{most_closures}
 use Rattle.landing_rules.specs.Rules.{last_second}
 use Rattle.landing_windows.specs.declared.closures.ClosureFault.TheVariants as closure
 use Rattle.aerodrome_file.specs.declared.fault.AeroFault.{AeroFault}

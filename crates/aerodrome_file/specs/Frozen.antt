@@ -4,7 +4,7 @@ use Rattle.std.specs.Prelude.{Some, None, Result, Ok, Err, if◌then◌else◌}
 use Rattle.std.specs.List.{list_any}
 use Rattle.toml.specs.Data.{Data, array, table, Items, no_items, item, Members}
 use Rattle.cps_base.specs.Answers.{◌>>=◌}
-use Rattle.landing_rules.specs.Limits.{most_flights}
+use Rattle.cps_base.specs.Limits.{most_flights}
 use Rattle.landing_rules.specs.Rules.{last_second}
 use Rattle.arrivals.specs.declared.frozen_list.FrozenLanding.{FrozenLanding}
 use Rattle.aerodrome_file.specs.declared.fault.AeroFault.{AeroFault}

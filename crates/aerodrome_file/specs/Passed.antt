@@ -4,7 +4,7 @@ use Rattle.std.specs.Prelude.{Result, Ok, Err, if◌then◌else◌}
 use Rattle.std.specs.List.{list_any}
 use Rattle.toml.specs.Data.{Data, array, table, Items, no_items, item, Members}
 use Rattle.cps_base.specs.Answers.{◌>>=◌}
-use Rattle.landing_rules.specs.Limits.{most_waiting}
+use Rattle.cps_base.specs.Limits.{most_waiting}
 use Rattle.arrivals.specs.declared.passed_list.PassedCount.{PassedCount}
 use Rattle.aerodrome_file.specs.declared.fault.AeroFault.{AeroFault}
 use Rattle.aerodrome_file.specs.declared.fault.AeroFault.TheVariants as fault

@@ -5,7 +5,7 @@ use Rattle.std.specs.Str.Lossy.{utf8_valid_len}
 use Rattle.toml.specs.Data.{Data, string, Members, get_member}
 use Rattle.toml.specs.Parse.{parse_document}
 use Rattle.cps_base.specs.Answers.{◌>>=◌}
-use Rattle.landing_rules.specs.Limits.{longest_freeze}
+use Rattle.cps_base.specs.Limits.{longest_freeze}
 use Rattle.landing_rules.specs.declared.objective.Objective.{Objective}
 use Rattle.landing_rules.specs.declared.objective.Objective.TheVariants.{Makespan, Delay}
 use Rattle.arrivals.specs.declared.aerodrome.Aerodrome.{Aerodrome}

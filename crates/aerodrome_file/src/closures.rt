@@ -1,14 +1,14 @@
 // The closures in the file.
 ghost use Rattle.std.specs.Prelude.{◌≡◌, ◌≤◌, ◌+◌, IfOk, length, option_map};
 ghost use Rattle.toml.specs.View.{view, items_view, table_view};
-ghost use Rattle.landing_rules.specs.Limits.{most_closures};
+ghost use Rattle.cps_base.specs.Limits.{most_closures};
 ghost use Rattle.landing_rules.specs.Rules.{last_second};
 ghost use Rattle.aerodrome_file.specs.Closures.{are_tables, closure_in, closure_of, closures_from, closures_in};
 
+use cps_base::MOST_CLOSURES;
 use crate::fault::{AeroFault, Key, Part};
 use crate::keys::only;
 use crate::values::{at_most, get, integer_of, present};
-use landing_rules::MOST_CLOSURES;
 use landing_windows::{ClosureFault, Closures, LAST_SECOND};
 use toml::{Table, Value};
 

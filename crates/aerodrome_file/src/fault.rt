@@ -91,7 +91,7 @@ pub enum AeroFault {
     /// The second of this frozen landing is not before the clock second plus `freeze`.
     #[error("a frozen landing after the horizon")]
     FrozenLate(u16),
-    /// There are more than 60 entries of `passed`.
+    /// There are more than `MOST_WAITING` entries of `passed`.
     #[error("too many counts")]
     PassedTooMany,
     /// An earlier entry of `passed` has the callsign of this one.

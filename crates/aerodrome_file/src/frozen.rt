@@ -2,7 +2,7 @@
 ghost use Rattle.std.specs.Prelude.{◌≡◌, ◌≤◌, false, length, option_map, [], IfOk};
 ghost use Rattle.toml.specs.View.{view, items_view, table_view};
 ghost use Rattle.cps_base.specs.Answers.{Gives};
-ghost use Rattle.landing_rules.specs.Limits.{most_flights};
+ghost use Rattle.cps_base.specs.Limits.{most_flights};
 ghost use Rattle.aerodrome_file.specs.Answers.{memory_fault};
 ghost use Rattle.arrivals.specs.Aerodromes.{IsClock, IsFrozen, AreFrozen, AreFrozenBy};
 ghost use Rattle.aerodrome_file.specs.Frozen.{clock_in, has_frozen, is_late, frozen_entry, frozen_of, frozen_from, frozen_in};
@@ -11,8 +11,7 @@ use crate::closures::are_tables;
 use crate::fault::{AeroFault, Key, Part};
 use crate::values::{at_most, integer_of, named_number};
 use arrivals::{FrozenLanding, FrozenList};
-use cps_base::Callsign;
-use landing_rules::MOST_FLIGHTS;
+use cps_base::{Callsign, MOST_FLIGHTS};
 use landing_windows::LAST_SECOND;
 use std::alloc::Global;
 use toml::{Table, Value};

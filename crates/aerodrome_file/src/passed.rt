@@ -2,7 +2,7 @@
 ghost use Rattle.std.specs.Prelude.{◌≡◌, ◌≤◌, false, length, option_map, [], IfOk};
 ghost use Rattle.toml.specs.View.{view, items_view, table_view};
 ghost use Rattle.cps_base.specs.Answers.{Gives};
-ghost use Rattle.landing_rules.specs.Limits.{most_waiting};
+ghost use Rattle.cps_base.specs.Limits.{most_waiting};
 ghost use Rattle.aerodrome_file.specs.Answers.{memory_fault};
 ghost use Rattle.arrivals.specs.Aerodromes.{ArePassed};
 ghost use Rattle.aerodrome_file.specs.Passed.{has_passed, passed_entry, passed_of, passed_from, passed_in};
@@ -11,8 +11,7 @@ use crate::closures::are_tables;
 use crate::fault::{AeroFault, Key, Part};
 use crate::values::{named_number, within};
 use arrivals::{PassedCount, PassedList};
-use cps_base::Callsign;
-use landing_rules::MOST_WAITING;
+use cps_base::{Callsign, MOST_WAITING};
 use std::alloc::Global;
 use toml::{Table, Value};
 

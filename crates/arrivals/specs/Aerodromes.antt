@@ -1,7 +1,7 @@
 -- The aerodromes that a file can give. Tables and closures are good ones by their types.
 use Rattle.std.specs.Prelude.{◌≡◌, ◌≢◌, ◌≤◌, ◌<◌, ℕ, List, [], Bool, true, false, ◌==◌, ◌&&◌, ◌+◌, nat_lt, length}
 use Rattle.std.specs.Prelude.{Option, Some, None, All, AllPairs, if◌then◌else◌}
-use Rattle.landing_rules.specs.Limits.{longest_freeze, most_flights, most_waiting}
+use Rattle.cps_base.specs.Limits.{longest_freeze, most_flights, most_waiting}
 use Rattle.landing_rules.specs.Rules.{last_second}
 use Rattle.landing_rules.specs.declared.objective.Objective.{Objective}
 use Rattle.landing_rules.specs.declared.objective.Objective.TheVariants.{Makespan, Delay}
@@ -49,7 +49,7 @@ abbrev pub AreFrozenBy : Option ℕ → ℕ → List FrozenLanding → Type 0
 AreFrozenBy None freeze fs = fs ≡ []
 AreFrozenBy (Some now) freeze fs = AreFrozen now freeze fs
 
--- at most 60 counts from 1 to k, of different callsigns
+-- no more counts than flights may wait, from 1 to k, of different callsigns
 pub record ArePassed (k : ℕ) (ps : List PassedCount) : Type 0 where
   pub few : length ps ≤ most_waiting
   pub counts : All (λ p. (1 ≤ p.count) × (p.count ≤ k)) ps

@@ -1,6 +1,6 @@
 -- The flights that a file can give. Windows are good ones by their type, and callsigns by theirs.
 use Rattle.std.specs.Prelude.{◌≢◌, ◌≤◌, ℕ, List, length, All, AllPairs}
-use Rattle.landing_rules.specs.Limits.{greatest_weight, most_flights}
+use Rattle.cps_base.specs.Limits.{greatest_weight, most_flights}
 use Rattle.landing_rules.specs.Rules.{last_second}
 use Rattle.arrivals.specs.declared.flight.Flight.{Flight}
 

@@ -29,7 +29,7 @@ pub struct Aerodrome {
     pub frozen: FrozenList,
     /// Whether flights keep a count of those that passed them: in version 3.
     pub carry: bool,
-    /// These counts, at most 60; none where `carry` is false.
+    /// These counts, at most `MOST_WAITING`; none where `carry` is false.
     pub passed: PassedList,
 }
 

@@ -3,7 +3,7 @@ use Rattle.std.specs.Prelude.{◌≡◌, ℕ, ◌≤◌, Bool, List, [], ◌∷�
 use Rattle.std.specs.Prelude.{if◌then◌else◌}
 use Rattle.landing_rules.specs.Events.{named}
 use Rattle.landing_rules.specs.Flights.{Active, Landing}
-use Rattle.landing_rules.specs.Limits.{greatest_weight}
+use Rattle.cps_base.specs.Limits.{greatest_weight}
 use Rattle.landing_rules.specs.Rules.{place, rank_among}
 use Rattle.landing_rules.specs.Testing.{is_shift_kept}
 use Rattle.landing_rules.specs.Text.{ShownLanding}

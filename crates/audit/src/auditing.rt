@@ -1,6 +1,6 @@
 // All findings of a block.
 ghost use Rattle.std.specs.Prelude.{◌≡◌, ◌≤◌, ◌↔◌, [], IfOk, OnOk, length, map};
-ghost use Rattle.landing_rules.specs.Limits.{most_flights};
+ghost use Rattle.cps_base.specs.Limits.{most_flights};
 ghost use Rattle.landing_rules.specs.Sound.{IsSound};
 ghost use Rattle.landing_rules.specs.Audit.{IsClean, by_line, by_rules, findings, landing_of, lines_found};
 ghost use Rattle.audit.specs.Findings.{finding_of, Finds};

@@ -1,7 +1,7 @@
 // What the first line of a block says.
 ghost use Rattle.std.specs.Prelude.{◌≡◌, ◌≤◌, ◌*◌, ◌++◌, All, OnOk, length, map, sum_by};
 ghost use Rattle.landing_rules.specs.Audit.{is_objective, landing_of, other_objective, other_value};
-ghost use Rattle.landing_rules.specs.Limits.{most_flights};
+ghost use Rattle.cps_base.specs.Limits.{most_flights};
 ghost use Rattle.landing_rules.specs.Rules.{cost, delay, greatest};
 ghost use Rattle.audit.specs.Findings.{Finds, HasSmallWeight};
 

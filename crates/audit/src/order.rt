@@ -1,7 +1,7 @@
 // Whether the seconds of the lines rise.
 ghost use Rattle.std.specs.Prelude.{◌≡◌, ◌≤◌, ◌+◌, OnOk, length, map};
 ghost use Rattle.landing_rules.specs.Audit.{disordered, disordered_from};
-ghost use Rattle.landing_rules.specs.Limits.{most_flights};
+ghost use Rattle.cps_base.specs.Limits.{most_flights};
 ghost use Rattle.plan_file.specs.Shown.{shown_of};
 ghost use Rattle.audit.specs.Findings.{Finds, out_of_order};
 

@@ -1,7 +1,7 @@
 // How far the waiting flights are from their ranks.
 ghost use Rattle.std.specs.Prelude.{◌≡◌, ◌≤◌, ◌+◌, IfOk, OnOk, filter, length, map, nat_lt};
 ghost use Rattle.std.specs.Ordering.{is_lt};
-ghost use Rattle.landing_rules.specs.Limits.{most_flights};
+ghost use Rattle.cps_base.specs.Limits.{most_flights};
 ghost use Rattle.landing_rules.specs.Rules.{arrival_cmp, place, rank_among, waits};
 ghost use Rattle.landing_rules.specs.Testing.{is_shift_kept};
 ghost use Rattle.landing_rules.specs.Audit.{landing_of, shifted};

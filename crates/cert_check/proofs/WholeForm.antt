@@ -9,6 +9,7 @@ use Rattle.std.specs.declared.cmp.Ordering.{Ordering}
 use Rattle.std.specs.declared.cmp.Ordering.TheVariants.{Less, Equal, Greater}
 use Rattle.std.proofs.Math.Nat.{pow-le-pow_right}
 use Rattle.std.proofs.lemmas.Cmp.{ranked}
+use Rattle.cps_base.specs.Limits.{most_waiting}
 use Rattle.landing_rules.specs.Problem.{Problem}
 use Rattle.cps_theory.specs.Separation.{Landing}
 use Rattle.cps_theory.specs.LandingTrail.{ranks}
@@ -117,9 +118,9 @@ then_less Greater b e = absurd (cc)
 
 -- what is asked of a state that has such a number
 record IsCoded (width : ℕ) (s : State) : Type 0 where
-  stage : s.stage ≤ 60
+  stage : s.stage ≤ most_waiting
   digits : length s.pattern ≡ width
-  last : s.last ≤ 60
+  last : s.last ≤ most_waiting
 
 module _ (width : ℕ) (narrow : width ≤ 6) where
   code_low : (s : State) → IsCoded width s → code s < 249856

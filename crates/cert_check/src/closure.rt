@@ -2,7 +2,7 @@
 ghost use Rattle.std.specs.Prelude.{◌≡◌, ◌≤◌, ◌<◌, ◌+◌, ◌-◌, true, false, length, Some, None, nat_le};
 ghost use Rattle.std.specs.List.{list_any, list_all};
 ghost use Rattle.std.specs.List.Sorted.{IsBinarySearchResult, IsSearchInRange};
-ghost use Rattle.landing_rules.specs.Limits.{most_waiting};
+ghost use Rattle.cps_base.specs.Limits.{most_waiting};
 ghost use Rattle.landing_rules.specs.Rules.{last_second};
 ghost use Rattle.cps_theory.specs.Labels.{no_worse};
 ghost use Rattle.cps_theory.specs.CertificateClosure.{node_cmp};
@@ -91,7 +91,7 @@ fn is_missed(
     requires pair { pair.0 ≤ last_second }
     ensures { result ≡ is_missed problem.now states.now (seen node.now) rank pair }
 {
-    // Its head tells the proof that a rank is at most 60.
+    // Its head tells the proof that a rank is at most `MOST_WAITING`.
     let _head = problem.head();
     match successor(problem, node.last, pair, rank) {
         None => false,

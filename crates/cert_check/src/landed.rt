@@ -71,7 +71,7 @@ fn are_out_of_order(problem: &Problem, landings: &[(Callsign, u32)], rank: u8, o
     requires other { (1 ≤ other) × (other ≤ count problem.now) }
     ensures { result ≡ are_out_of_order problem.now landings.now rank other }
 {
-    // Its head tells the proof that ranks are at most 60.
+    // Its head tells the proof that ranks are at most `MOST_WAITING`.
     let _head = problem.head();
     problem.pairs().must_precede(rank, other)
         && !(second(problem, landings, rank) < second(problem, landings, other))

@@ -1,6 +1,6 @@
 // A stage of a landing order with its pattern and its last rank, and the node behind it by one more rank.
 ghost use Rattle.std.specs.Prelude.{◌≡◌, ◌≤◌, ◌<◌, ◌*◌, ◌+◌, ◌-◌, suc, [], length};
-ghost use Rattle.landing_rules.specs.Limits.{most_waiting};
+ghost use Rattle.cps_base.specs.Limits.{most_waiting};
 ghost use Rattle.cps_theory.specs.Patterns.{pattern_digit, pattern_node, pattern_push, tests_from};
 ghost use Rattle.cps_theory.specs.CertificateClosure.{is_placed_by_pattern, node_cmp};
 ghost use Rattle.certificate.specs.Patterns.{bits};

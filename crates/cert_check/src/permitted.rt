@@ -1,6 +1,6 @@
 // Which rank may land next at a node.
 ghost use Rattle.std.specs.Prelude.{◌≡◌, ◌≤◌, ◌+◌, ◌&&◌, suc, nat_le};
-ghost use Rattle.landing_rules.specs.Limits.{most_waiting};
+ghost use Rattle.cps_base.specs.Limits.{most_waiting};
 ghost use Rattle.cps_theory.specs.FirstFound.{first_from};
 ghost use Rattle.cps_theory.specs.CertificateClosure.{is_missing_predecessor, leaves_none_due, permits_next};
 ghost use Rattle.cert_check.specs.Landings.{count};

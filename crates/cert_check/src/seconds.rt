@@ -1,12 +1,13 @@
 // The second at which the landings let a rank land, and what all of them are worth.
 ghost use Rattle.std.specs.Prelude.{◌≡◌, ◌≤◌, ◌-◌, ◌*◌, ◌+◌, slice_get, Some};
-ghost use Rattle.landing_rules.specs.Limits.{most_waiting};
+ghost use Rattle.cps_base.specs.Limits.{most_waiting};
 ghost use Rattle.landing_rules.specs.Problem.{list_objective};
 ghost use Rattle.cps_theory.specs.RankLists.{upto};
 ghost use Rattle.cps_theory.specs.Feasible.{earlier, greatest, total};
 ghost use Rattle.landing_joint.specs.RankedProblem.{cost_at};
 ghost use Rattle.certificate.specs.Reading.{AreLandings};
 ghost use Rattle.cert_check.specs.Landings.{count, flight, second_of, seconds, second, place};
+ghost use Rattle.landing_rules.specs.Rules.{last_second};
 
 use crate::objective::objective_of;
 use certificate::Claim;
@@ -17,7 +18,7 @@ use cps_problem::Problem;
 fn second_of(landings: &[(Callsign, u32)], name: Callsign) -> u32
     requires { AreLandings landings.now }
     ensures value { result ≡ second_of landings.now name }
-    ensures small { result ≤ 172799 }
+    ensures small { result ≤ last_second }
 {
     landings
         .iter()
@@ -37,7 +38,7 @@ pub(crate) fn second(problem: &Problem, landings: &[(Callsign, u32)], rank: u8) 
     requires landings { AreLandings landings.now }
     requires rank { (1 ≤ rank) × (rank ≤ count problem.now) }
     ensures value { result ≡ second problem.now landings.now rank }
-    ensures small { result ≤ 172799 }
+    ensures small { result ≤ last_second }
 {
     second_of(landings, callsign(problem, rank))
 }
@@ -79,7 +80,7 @@ pub(crate) fn value(problem: &Problem, landings: &[(Callsign, u32)]) -> u64
     requires { AreLandings landings.now }
     ensures { result ≡ list_objective problem.now (seconds problem.now landings.now) }
 {
-    // Its head tells the proof that at most 60 flights wait, so that the costs fit.
+    // Its head tells the proof that at most `MOST_WAITING` flights wait, so that the costs fit.
     let _head = problem.head();
     let last = greatest(problem, landings);
     let costs = total_cost(problem, landings);

@@ -1,7 +1,7 @@
 // The shape of the states, and the states of the last stage.
 ghost use Rattle.std.specs.Prelude.{◌≡◌, ◌≤◌, ◌<◌, ◌+◌, ◌*◌, length, count_by, nat_lt};
 ghost use Rattle.std.specs.List.{list_any};
-ghost use Rattle.landing_rules.specs.Limits.{most_waiting};
+ghost use Rattle.cps_base.specs.Limits.{most_waiting};
 ghost use Rattle.cps_theory.specs.FirstFound.{first_from, element_from};
 ghost use Rattle.landing_joint.specs.RankedProblem.{value_at};
 ghost use Rattle.cert_check.specs.Landings.{count};

@@ -17,6 +17,7 @@ use Rattle.cert_writer.specs.Gathered.{IsPairInRange}
 use Rattle.cps_network.specs.shared.PairLists.{all_in, in_all, in_permuted, permuted_in, sorted_in_order}
 use Rattle.cps_network.specs.Pairs.{pair_at}
 use Rattle.cps_network.specs.shared.PairSteps.{at_in}
+use Rattle.landing_rules.specs.Rules.{last_second}
 
 pub itself : (q : Pair) → NoWorse q q
 itself q = (le_refl q.0, le_refl q.1)
@@ -54,8 +55,8 @@ ranged_all : (xs : List Pair) → All IsPairInRange xs → list_all is_pair xs �
 ranged_all [] h = refl
 ranged_all (x ∷ xs) h =
     let r = All-head IsPairInRange x xs h in
-    and_from (is_pair x) (list_all is_pair xs) (and_from (leb x.0 172799) (leb x.1 4294967295)
-    (le-leb x.0 172799 r.0) (le-leb x.1 4294967295 r.1)) (ranged_all xs (All-tail IsPairInRange x xs h))
+    and_from (is_pair x) (list_all is_pair xs) (and_from (leb x.0 last_second) (leb x.1 4294967295)
+    (le-leb x.0 last_second r.0) (le-leb x.1 4294967295 r.1)) (ranged_all xs (All-tail IsPairInRange x xs h))
 
 module _ (mine sorted best : List Pair) (moved : IsPermutation mine sorted)
     (up : IsSorted (λ (x y : Pair). ordering_then (nat_cmp x.0 y.0) (nat_cmp x.1 y.1)) sorted)

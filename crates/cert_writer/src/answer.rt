@@ -54,7 +54,7 @@ fn landings_of(
         landings.items) }
     ensures in_form { IfOk result (λ landings. AreLandings landings.items) }
 {
-    // At most 60 flights wait, so that the list has few landings.
+    // At most `MOST_WAITING` flights wait, so that the list has few landings.
     let _well_formed = problem.len();
     let mut order = latest_first(alloc, schedule)?;
     order.reverse();

@@ -3,6 +3,7 @@
 ghost use Rattle.std.specs.Prelude.{◌≡◌, ◌≤◌, ◌⊎◌, [], All, IfOk, OnOk, true};
 ghost use Rattle.cps_theory.specs.Labels.{InPairs};
 ghost use Rattle.cps_theory.specs.UndominatedPairs.{sweep};
+ghost use Rattle.landing_rules.specs.Rules.{last_second};
 ghost use Rattle.replan.specs.Kept.{held_of};
 ghost use Rattle.replan.specs.Readers.{pairs_in, IsReadable, HasPlace};
 ghost use Rattle.std.specs.List.{list_all};
@@ -40,7 +41,7 @@ impl NodePairs {
     // One pair more. Where it is no worse or no better than the last of them, only one of the two stays: so the pairs of the
     // makespan, which cost nothing, take the room of one.
     pub(crate) fn keep(&mut self, pair: (u32, u32)) -> Result<(), AllocError>
-        requires { pair.0 ≤ 172799 }
+        requires { pair.0 ≤ last_second }
         ensures found { OnOk result (HasOnly self.new (λ q. InPairs q self.old ⊎ (q ≡ pair))) }
         ensures covers { OnOk result (HasBetter self.new (λ q. InPairs q self.old ⊎ (q ≡ pair))) }
         ensures in_range { OnOk result (All IsPairInRange self.old → All IsPairInRange self.new) }

@@ -1,6 +1,7 @@
 //! Slots: where the pairs of a node of a stage are put together, and in which order the nodes of a stage stand.
 
 ghost use Rattle.std.specs.Prelude.{◌≡◌, ℕ, ◌+◌, ◌-◌, ◌*◌, ◌/◌, ◌^◌, ◌<◌, ◌≤◌, ◌⊎◌, ◌↔◌};
+ghost use Rattle.cps_base.specs.Limits.{most_waiting};
 ghost use Rattle.precedence.specs.Pairs.{HasBit};
 ghost use Rattle.cert_check.specs.PlacedBits.{digits_of};
 ghost use Rattle.certificate.specs.Patterns.{bits, number_of};
@@ -20,7 +21,7 @@ fn marks_of(k: u8, placed: u64) -> u128
 // The slot of a node of a stage.
 pub(crate) fn slot_of(k: u8, stage: u8, node: Node) -> usize
     requires near { k ≤ 3 }
-    requires stage { stage ≤ 60 }
+    requires stage { stage ≤ most_waiting }
     requires last { (stage ≤ node.last + k) × (node.last ≤ stage + k) }
     ensures { HasSlot k (stage, digits_of k stage node.placed, node.last) result }
 {

@@ -6,8 +6,9 @@ use Rattle.std.specs.List.{list_all}
 use Rattle.std.proofs.lemmas.Bool.{leb-true, lt-ltb, and_from, and_parts}
 use Rattle.std.proofs.lemmas.List.Elements.{All-append, All-cons}
 use Rattle.std.proofs.lemmas.List.{length-map, append-nil}
-use Rattle.landing_rules.specs.Limits.{greatest_value}
+use Rattle.cps_base.specs.Limits.{greatest_value, most_waiting}
 use Rattle.cps_base.specs.Text.{is_callsign}
+use Rattle.landing_rules.specs.Rules.{last_second}
 use Rattle.texts.specs.Parts.{parts}
 use Rattle.texts.specs.shared.Printed.{Lacks, callsign_lacks, cut, decimal_lacks, decimal_reads, lacks_by, uncut}
 use Rattle.certificate.specs.declared.certificate.Claim.{Claim}
@@ -22,7 +23,7 @@ use Rattle.certificate.specs.Spelling.{claim_text}
 
 -- ---- pairs
 
-pub pair_reads : (p : Pair) → p.0 ≤ 172799 → p.1 ≤ 4294967295 → pair_in (pair_text p) ≡ Some p
+pub pair_reads : (p : Pair) → p.0 ≤ last_second → p.1 ≤ 4294967295 → pair_in (pair_text p) ≡ Some p
 unfolding pair_in
 pair_reads p a b =
     let fits0 : p.0 < 2 ^ 64 = omega arith in
@@ -32,14 +33,14 @@ pair_reads p a b =
     let fields : parts 58 (pair_text p) ≡ decimal p.0 ∷ decimal p.1 ∷ [] =
     first ∙ ap (λ (ps : List (List ℕ)). decimal p.0 ∷ ps) second in
     ap pair_by fields ∙ rw (
-      decimal_reads p.0 0 172799 fits0 (omega arith) a,
+      decimal_reads p.0 0 last_second fits0 (omega arith) a,
       decimal_reads p.1 0 4294967295 fits1
           (omega arith) b,
     ) refl
 
 -- ---- a line of fields
 
-pub pair_lacks : (p : Pair) → p.0 ≤ 172799 → p.1 ≤ 4294967295 → Lacks 32 (pair_text p)
+pub pair_lacks : (p : Pair) → p.0 ≤ last_second → p.1 ≤ 4294967295 → Lacks 32 (pair_text p)
 pair_lacks p a b =
     let fits0 : p.0 < 2 ^ 64 = omega arith in
     let fits1 : p.1 < 2 ^ 64 = omega arith in
@@ -49,7 +50,7 @@ pair_lacks p a b =
 
 abbrev pub ArePairs : List Pair → Type 0
 ArePairs [] = Unit {0}
-ArePairs (p ∷ ps) = (p.0 ≤ 172799) × (p.1 ≤ 4294967295) × ArePairs ps
+ArePairs (p ∷ ps) = (p.0 ≤ last_second) × (p.1 ≤ 4294967295) × ArePairs ps
 
 pub fields_of : (a : List ℕ) (ps : List Pair) → Lacks 32 a → ArePairs ps
     → parts 32 (a ++ pairs_text ps) ≡ a ∷ map pair_text ps
@@ -102,8 +103,8 @@ pub in_ranges : (ps : List Pair) → list_all is_pair ps ≡ true → ArePairs p
 in_ranges [] e = tt
 in_ranges (p ∷ ps) e =
     let h = and_parts (is_pair p) (list_all is_pair ps) e in
-    let r = and_parts (leb p.0 172799) (leb p.1 4294967295) h.0 in
-    (leb-true p.0 172799 r.0, leb-true p.1 4294967295 r.1, in_ranges ps h.1)
+    let r = and_parts (leb p.0 last_second) (leb p.1 4294967295) h.0 in
+    (leb-true p.0 last_second r.0, leb-true p.1 4294967295 r.1, in_ranges ps h.1)
 
 state_fields : (s : State) → IsState s → parts 32 (state_text s) ≡ codes "state" ∷ decimal s.stage
     ∷ pattern_text s.pattern ∷ decimal s.last ∷ map pair_text s.pairs
@@ -133,16 +134,16 @@ state_reads s h =
     let good = and_from _ _ some h.rising in
     ap state_by (state_fields s h)
     ∙ rw (
-      decimal_reads s.stage 1 60 stage_fits h.stage.0 h.stage.1,
+      decimal_reads s.stage 1 most_waiting stage_fits h.stage.0 h.stage.1,
       pattern_reads s.pattern h.pattern,
-      decimal_reads s.last 1 60 last_fits h.last.0 h.last.1,
+      decimal_reads s.last 1 most_waiting last_fits h.last.0 h.last.1,
       pairs_read s.pairs (in_ranges s.pairs h.pairs),
     )
     (rw good refl)
 
 -- ---- landings and claims
 
-landing_fields : (l : List ℕ × ℕ) → is_callsign l.0 ≡ true → l.1 ≤ 172799
+landing_fields : (l : List ℕ × ℕ) → is_callsign l.0 ≡ true → l.1 ≤ last_second
     → parts 32 (landing_text l) ≡ codes "land" ∷ l.0 ∷ decimal l.1 ∷ []
 landing_fields l c t =
     let fits : l.1 < 2 ^ 64 = omega arith in
@@ -152,13 +153,13 @@ landing_fields l c t =
     ∙ ap (behind l.0) (uncut 32 (decimal l.1) (decimal_lacks l.1 32 fits (inl (omega arith)))))
 
 -- a landing that is printed reads back, and is no state
-pub landing_reads : (l : List ℕ × ℕ) → is_callsign l.0 ≡ true → l.1 ≤ 172799 → landing_in (landing_text l) ≡ Some l
+pub landing_reads : (l : List ℕ × ℕ) → is_callsign l.0 ≡ true → l.1 ≤ last_second → landing_in (landing_text l) ≡ Some l
 unfolding landing_in landing_by
 landing_reads l c t =
     let fits : l.1 < 2 ^ 64 = omega arith in
-    ap landing_by (landing_fields l c t) ∙ rw (c, decimal_reads l.1 0 172799 fits (omega arith) t) refl
+    ap landing_by (landing_fields l c t) ∙ rw (c, decimal_reads l.1 0 last_second fits (omega arith) t) refl
 
-pub landing_no_state : (l : List ℕ × ℕ) → is_callsign l.0 ≡ true → l.1 ≤ 172799 → state_in (landing_text l) ≡ None
+pub landing_no_state : (l : List ℕ × ℕ) → is_callsign l.0 ≡ true → l.1 ≤ last_second → state_in (landing_text l) ≡ None
 unfolding state_in state_by
 landing_no_state l c t = ap state_by (landing_fields l c t)
 

@@ -14,10 +14,11 @@ use Rattle.std.proofs.lemmas.Option.{cond_some}
 use Rattle.std.proofs.lemmas.Grind.{common_steps}
 use Rattle.std.proofs.lemmas.Slice.Eq.{bytes_eq-Decides}
 use Rattle.std.proofs.lemmas.List.Splits.{join_with_byte-slice_split}
-use Rattle.landing_rules.specs.Limits.{greatest_value}
+use Rattle.cps_base.specs.Limits.{greatest_value, most_waiting}
 use Rattle.cps_base.specs.Number.{number_within, is_number}
 use Rattle.cps_base.specs.declared.number.NumberFault.TheVariants.{NotNumber, Below, Above}
 use Rattle.cps_base.specs.Text.{is_callsign}
+use Rattle.landing_rules.specs.Rules.{last_second}
 use Rattle.texts.specs.Parts.{callsign_in, number_in, ok_of, parts}
 use Rattle.certificate.specs.declared.certificate.Claim.{Claim}
 use Rattle.certificate.specs.declared.certificate.Claim.TheVariants.{Optimal, Infeasible}
@@ -79,9 +80,9 @@ pair_printed text p e = go (parts 58 text) refl e
     go [] f e = absurd cc
     go (a ∷ []) f e = absurd cc
     go (a ∷ b ∷ []) f e =
-        let t = then_some (number_in a 0 172799) _ p e in
+        let t = then_some (number_in a 0 last_second) _ p e in
         let c = map_some (number_in b 0 4294967295) _ p t.2 in
-        let second = number_printed a 0 172799 t.0 (omega arith) t.1 in
+        let second = number_printed a 0 last_second t.0 (omega arith) t.1 in
         let cost = number_printed b 0 4294967295 c.0 (omega arith) c.1 in
         ap pair_text (sym c.2) ∙ rw (second, cost) (joined 58 text (a ∷ b ∷ []) f)
     go (a ∷ b ∷ d ∷ ps) f e = absurd cc
@@ -144,16 +145,16 @@ state_from_printed : (stage pattern last : List ℕ) (pairs : List (List ℕ)) (
     ++ 32 ∷ join_with_byte 32 (stage ∷ pattern ∷ last ∷ pairs)
 unfolding state_from
 state_from_printed stage pattern last pairs s e =
-    let a = then_some (number_in stage 1 60) _ s e in
+    let a = then_some (number_in stage 1 most_waiting) _ s e in
     let p = then_some (pattern_in pattern) _ s a.2 in
-    let l = then_some (number_in last 1 60) _ s p.2 in
+    let l = then_some (number_in last 1 most_waiting) _ s p.2 in
     let xs = then_some (pairs_in pairs) _ s l.2 in
     let t = cond_some _ _ s xs.2 in
     ap state_text (sym t.1)
     ∙ rw (
-      number_printed stage 1 60 a.0 (omega arith) a.1,
+      number_printed stage 1 most_waiting a.0 (omega arith) a.1,
       pattern_printed pattern p.0 p.1,
-      number_printed last 1 60 l.0
+      number_printed last 1 most_waiting l.0
           (omega arith) l.1,
     ) (ap (λ (x : List ℕ). codes "state" ++ 32 ∷ (stage ++ 32 ∷ (pattern ++ 32 ∷ x)))
     (pairs_printed last pairs xs.0 xs.1))
@@ -184,14 +185,14 @@ landing_printed line l e = go (parts 32 line) refl e
     go (a ∷ b ∷ []) f e = absurd cc
     go (word ∷ name ∷ second ∷ []) f e =
         let o = passed_then (bytes_eq word (codes "land"))
-        (option_and_then (λ c. option_map (λ t. (c, t)) (number_in second 0 172799)) (callsign_in name)) l e in
-        let c = then_some (callsign_in name) (λ c. option_map (λ t. (c, t)) (number_in second 0 172799)) l o.1 in
+        (option_and_then (λ c. option_map (λ t. (c, t)) (number_in second 0 last_second)) (callsign_in name)) l e in
+        let c = then_some (callsign_in name) (λ c. option_map (λ t. (c, t)) (number_in second 0 last_second)) l o.1 in
         let n = cond_some (is_callsign name) name c.0 c.1 in
-        let t = map_some (number_in second 0 172799) (λ t. (c.0, t)) l c.2 in
+        let t = map_some (number_in second 0 last_second) (λ t. (c.0, t)) l c.2 in
         ap landing_text (sym t.2)
         ∙ ap (λ (x : List ℕ). codes "land" ++ 32 ∷ (x ++ 32 ∷ decimal t.0)) (sym n.1)
         ∙ ap (λ (x : List ℕ). codes "land" ++ 32 ∷ (name ++ 32 ∷ x))
-        (number_printed second 0 172799 t.0 (omega arith) t.1)
+        (number_printed second 0 last_second t.0 (omega arith) t.1)
         ∙ ap (λ (w : List ℕ). w ++ 32 ∷ (name ++ 32 ∷ second)) (sym (same_text word (codes "land") o.0))
         ∙ joined 32 line (word ∷ name ∷ second ∷ []) f
     go (a ∷ b ∷ d ∷ g ∷ ps) f e = absurd cc

@@ -5,6 +5,7 @@ use Rattle.std.specs.Prelude.{◌==◌, codes, decimal}
 use Rattle.std.specs.List.{list_all}
 use Rattle.std.proofs.lemmas.List.Elements.{All-append, All-cons}
 use Rattle.cps_base.specs.Text.{is_callsign}
+use Rattle.landing_rules.specs.Rules.{last_second}
 use Rattle.texts.specs.Parts.{parts}
 use Rattle.texts.specs.shared.Printed.{Lacks, callsign_lacks, cut, decimal_lacks, lacks_by}
 use Rattle.certificate.specs.declared.certificate.Claim.{Claim}
@@ -27,7 +28,7 @@ number n h = decimal_lacks n 10 h (inl (omega arith))
 join : (m : ℕ) (a b : List ℕ) → test m → Lacks 10 a → Lacks 10 b → Lacks 10 (a ++ m ∷ b)
 join m a b e h k = All-append test a (m ∷ b) h (All-cons test m b e k)
 
-pair : (p : Pair) → p.0 ≤ 172799 → p.1 ≤ 4294967295 → Lacks 10 (pair_text p)
+pair : (p : Pair) → p.0 ≤ last_second → p.1 ≤ 4294967295 → Lacks 10 (pair_text p)
 pair p a b = join 58 (decimal p.0) (decimal p.1) refl (number p.0 (omega arith)) (number p.1 (omega arith))
 
 pairs : (ps : List Pair) → ArePairs ps → Lacks 10 (pairs_text ps)
@@ -57,7 +58,7 @@ state_lacks s h =
     (All-append test (decimal s.last) (pairs_text s.pairs) (number s.last b)
     (pairs s.pairs (in_ranges s.pairs h.pairs)))))
 
-landing_lacks : (l : List ℕ × ℕ) → is_callsign l.0 ≡ true → l.1 ≤ 172799 → Lacks 10 (landing_text l)
+landing_lacks : (l : List ℕ × ℕ) → is_callsign l.0 ≡ true → l.1 ≤ last_second → Lacks 10 (landing_text l)
 landing_lacks l c t = join 32 (codes "land") (l.0 ++ 32 ∷ decimal l.1) refl (lacks_by 10 (codes "land") refl)
     (join 32 l.0 (decimal l.1) refl (callsign_lacks 10 l.0 refl c) (number l.1 (omega arith)))
 

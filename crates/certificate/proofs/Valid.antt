@@ -9,9 +9,11 @@ use Rattle.std.proofs.lemmas.Bool.{ltb-false, le-leb, and_from, and_parts}
 use Rattle.std.proofs.lemmas.Option.{cond_some}
 use Rattle.std.proofs.lemmas.Grind.{common_steps}
 use Rattle.cps_base.specs.Answers.{◌>>=◌}
+use Rattle.cps_base.specs.Limits.{most_waiting}
 use Rattle.cps_base.specs.Number.{number_within, is_number}
 use Rattle.cps_base.specs.declared.number.NumberFault.TheVariants.{NotNumber, Below, Above}
 use Rattle.cps_base.specs.Text.{is_callsign}
+use Rattle.landing_rules.specs.Rules.{last_second}
 use Rattle.texts.specs.Parts.{callsign_in, number_in, ok_of, parts}
 use Rattle.certificate.specs.declared.certificate.Claim.{Claim}
 use Rattle.certificate.specs.declared.fault.CertFault.{CertFault}
@@ -80,12 +82,12 @@ pair_range text p e = go (parts 58 text) e
     go [] e = absurd cc
     go (a ∷ []) e = absurd cc
     go (a ∷ b ∷ []) e =
-        let t = then_some (number_in a 0 172799) _ p e in
+        let t = then_some (number_in a 0 last_second) _ p e in
         let c = map_some (number_in b 0 4294967295) _ p t.2 in
-        let second = number_range a 0 172799 t.0 t.1 in
+        let second = number_range a 0 last_second t.0 t.1 in
         let cost = number_range b 0 4294967295 c.0 c.1 in
         subst (λ (q : Pair). is_pair q ≡ true) c.2
-        (and_from _ _ (le-leb t.0 172799 second.1) (le-leb c.0 4294967295 cost.1))
+        (and_from _ _ (le-leb t.0 last_second second.1) (le-leb c.0 4294967295 cost.1))
     go (a ∷ b ∷ d ∷ ps) e = absurd cc
 
 pub pairs_range : (ps : List (List ℕ)) (xs : List Pair) → pairs_in ps ≡ Some xs → list_all is_pair xs ≡ true
@@ -101,17 +103,17 @@ state_from_range : (stage pattern last : List ℕ) (pairs : List (List ℕ)) (s 
     → state_from stage pattern last pairs ≡ Some s → IsState s
 unfolding state_from
 state_from_range stage pattern last pairs s e =
-    let a = then_some (number_in stage 1 60) _ s e in
+    let a = then_some (number_in stage 1 most_waiting) _ s e in
     let p = then_some (pattern_in pattern) _ s a.2 in
-    let l = then_some (number_in last 1 60) _ s p.2 in
+    let l = then_some (number_in last 1 most_waiting) _ s p.2 in
     let xs = then_some (pairs_in pairs) _ s l.2 in
     let t = cond_some _ _ s xs.2 in
     let both = and_parts (ltb 0 (length xs.0)) (rises xs.0) t.0 in
     let some : 1 ≤ length xs.0 = grind (arith, common_steps, both.0) in
     subst IsState t.1 (record {
-      stage = number_range stage 1 60 a.0 a.1;
+      stage = number_range stage 1 most_waiting a.0 a.1;
       pattern = pattern_size pattern p.0 p.1;
-      last = number_range last 1 60 l.0 l.1;
+      last = number_range last 1 most_waiting l.0 l.1;
       some_pairs = some;
       pairs = pairs_range pairs xs.0 xs.1;
       rising = both.1;
@@ -129,11 +131,11 @@ state_range line s e = go (parts 32 line) e
     go (word ∷ stage ∷ pattern ∷ last ∷ pairs) e = state_from_range stage pattern last pairs s (passed_then _ _ s e).1
 
 pub landing_range : (line : List ℕ) (l : List ℕ × ℕ) → landing_in line ≡ Some l
-    → (is_callsign l.0 ≡ true) × (l.1 ≤ 172799)
+    → (is_callsign l.0 ≡ true) × (l.1 ≤ last_second)
 unfolding landing_in landing_by
 landing_range line l e = go (parts 32 line) e
   where
-    go : (fields : List (List ℕ)) → landing_by fields ≡ Some l → (is_callsign l.0 ≡ true) × (l.1 ≤ 172799)
+    go : (fields : List (List ℕ)) → landing_by fields ≡ Some l → (is_callsign l.0 ≡ true) × (l.1 ≤ last_second)
     go [] e = absurd cc
     go (a ∷ []) e = absurd cc
     go (a ∷ b ∷ []) e = absurd cc
@@ -141,10 +143,10 @@ landing_range line l e = go (parts 32 line) e
         let o = (passed_then _ _ l e).1 in
         let c = then_some (callsign_in name) _ l o in
         let n = cond_some (is_callsign name) name c.0 c.1 in
-        let t = map_some (number_in second 0 172799) _ l c.2 in
+        let t = map_some (number_in second 0 last_second) _ l c.2 in
         let is : is_callsign c.0 ≡ true = subst (λ (x : List ℕ). is_callsign x ≡ true) n.1 n.0 in
-        subst (λ (x : List ℕ × ℕ). (is_callsign x.0 ≡ true) × (x.1 ≤ 172799)) t.2
-        (is, (number_range second 0 172799 t.0 t.1).1)
+        subst (λ (x : List ℕ × ℕ). (is_callsign x.0 ≡ true) × (x.1 ≤ last_second)) t.2
+        (is, (number_range second 0 last_second t.0 t.1).1)
     go (a ∷ b ∷ d ∷ f ∷ ps) e = absurd cc
 
 -- ---- one more

@@ -2,7 +2,7 @@
 use Rattle.std.specs.Prelude.{ℕ, List, [], ◌∷◌, ◌&&◌, ◌||◌, ◌==◌, nat_lt, map, Bool, length, codes, bytes_eq, Option}
 use Rattle.std.specs.Prelude.{Some, None, option_and_then, option_map, if◌then◌else◌}
 use Rattle.std.specs.List.{list_all}
-use Rattle.landing_rules.specs.Limits.{greatest_value, most_waiting}
+use Rattle.cps_base.specs.Limits.{greatest_value, most_waiting}
 use Rattle.landing_rules.specs.Rules.{last_second}
 use Rattle.texts.specs.Parts.{callsign_in, number_in, parts}
 use Rattle.certificate.specs.declared.certificate.Claim.{Claim}

@@ -1,6 +1,6 @@
 ghost use Rattle.std.specs.Prelude.{◌≡◌, ◌≤◌, ◌<◌, true, length, take, option_map, IfOk, IfSome, map};
 ghost use Rattle.std.specs.List.{list_all};
-ghost use Rattle.landing_rules.specs.Limits.{most_waiting};
+ghost use Rattle.cps_base.specs.Limits.{most_waiting};
 ghost use Rattle.certificate.specs.Patterns.{is_pattern_length};
 ghost use Rattle.certificate.specs.States.{rises, is_pair};
 ghost use Rattle.certificate.specs.Reading.{IsClaim};
@@ -10,8 +10,7 @@ ghost use Rattle.certificate.specs.Lines.{is_digit, are_pattern_digits, digit_of
 use crate::certificate::Claim;
 use crate::pattern::Pattern;
 use crate::state::CertState;
-use cps_base::Callsign;
-use landing_rules::{GREATEST_VALUE, MOST_WAITING};
+use cps_base::{Callsign, GREATEST_VALUE, MOST_WAITING};
 use landing_windows::LAST_SECOND;
 use std::alloc::{AllocError, Global};
 use texts::{first_part, number_in};

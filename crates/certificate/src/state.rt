@@ -1,5 +1,5 @@
 ghost use Rattle.std.specs.Prelude.{◌≡◌, ◌≤◌};
-ghost use Rattle.landing_rules.specs.Limits.{most_waiting};
+ghost use Rattle.cps_base.specs.Limits.{most_waiting};
 ghost use Rattle.certificate.specs.States.{IsState, state_cmp, comes_before};
 
 use crate::pattern::Pattern;
@@ -9,8 +9,8 @@ use std::marker::Model;
 /// A state of a certificate: a stage, the pattern of the ranks that are placed round it, the rank at it, and its pairs
 /// of a second and a cost. Contracts see these four (`State` of the specs).
 ///
-/// The stage and the last rank are 1 to 60. There is at least one pair, each with a second up to 172,799 and a cost up to
-/// 4,294,967,295; the seconds rise strictly and the costs fall strictly.
+/// The stage and the last rank are 1 to `MOST_WAITING`. There is at least one pair, each with a second up to 172,799 and a
+/// cost up to 4,294,967,295; the seconds rise strictly and the costs fall strictly.
 #[derive(Drop)]
 pub struct CertState {
     stage: u8,
@@ -59,7 +59,7 @@ impl CertState {
         }
     }
 
-    /// How many ranks are placed: 1 to 60.
+    /// How many ranks are placed: 1 to `MOST_WAITING`.
     pub fn stage(&self) -> u8
         ensures value { result ≡ self.now.stage }
         ensures range { (1 ≤ result) × (result ≤ most_waiting) }
@@ -74,7 +74,7 @@ impl CertState {
         self.pattern
     }
 
-    /// The rank that is placed last: 1 to 60.
+    /// The rank that is placed last: 1 to `MOST_WAITING`.
     pub fn last(&self) -> u8
         ensures value { result ≡ self.now.last }
         ensures range { (1 ≤ result) × (result ≤ most_waiting) }

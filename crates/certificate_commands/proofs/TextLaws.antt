@@ -14,7 +14,7 @@ use Rattle.std.proofs.lemmas.Slice.Zip.{AllZip-long}
 use Rattle.landing_rules.specs.declared.objective.Objective.{Objective}
 use Rattle.landing_rules.specs.Flights.{Active, Situation, is_waiting, waiting}
 use Rattle.landing_rules.specs.Events.{opening_flight}
-use Rattle.landing_rules.specs.Limits.{most_waiting}
+use Rattle.cps_base.specs.Limits.{most_waiting}
 use Rattle.landing_rules.specs.Rules.{arrival_cmp}
 use Rattle.landing_rules.specs.Problem.{IsProblemOf, IsWaitingOf, Problem, by_rank, insert_by_rank}
 use Rattle.arrivals.specs.declared.aerodrome.Aerodrome.{Aerodrome}
@@ -172,7 +172,7 @@ certify_loadable law loads a f text answer x few =
 
 -- ---- how long a verdict's line is
 
-two : (n : ℕ) → n ≤ 60 → length (decimal n) ≤ 2
+two : (n : ℕ) → n ≤ most_waiting → length (decimal n) ≤ 2
 two n le = length-decimal-le 2 n (omega arith) (omega (arith, le)) (omega (arith, le))
 
 ten : (n : ℕ) → n ≤ 9999999999 → length (decimal n) ≤ 10

@@ -4,7 +4,7 @@ use Rattle.std.specs.Prelude.{◌≡◌, ℕ, ◌≤◌, ◌<◌, min, List, len
 use Rattle.arrivals.specs.declared.aerodrome.Aerodrome.{Aerodrome}
 use Rattle.aerodrome_file.specs.Reading.{aerodrome_of}
 use Rattle.aerodrome_file.specs.declared.fault.AeroFault.{AeroFault}
-use Rattle.landing_rules.specs.Limits.{most_waiting}
+use Rattle.cps_base.specs.Limits.{most_waiting}
 use Rattle.certificate.specs.declared.certificate.Claim.{Claim}
 use Rattle.certificate.specs.declared.certificate.Claim.TheVariants.{Infeasible}
 use Rattle.certificate.specs.States.{State}
@@ -35,7 +35,7 @@ CertifyTextsLaw = (aerodrome flights text other : List ℕ) (answer another : An
 
 -- ---- lengths
 
--- the bound of a certificate of the problem of the opening situation: at most 60 of its flights wait
+-- the bound of a certificate of the problem of the opening situation: at most `most_waiting` of its flights wait
 abbrev pub certify_bound_of : Result Aerodrome AeroFault → ℕ → ℕ
 certify_bound_of (Ok aerodrome) flights = whole_bound aerodrome.objective aerodrome.k (min most_waiting flights)
 certify_bound_of (Err fault) flights = 0

@@ -27,8 +27,8 @@ pub fn printed_certificates_differ_in_landings_alone()
     situation_has_one_list_of_states();
 }
 
-/// How many bytes `certify` and `check` print at most: by the objective, k and the number of flights, with up to 60 that wait; and
-/// 33. For the makespan a certificate has fewer than 16,777,216 bytes, so that `check` loads it; for delay where k is 0, where k
+/// How many bytes `certify` and `check` print at most: by the objective, k and the number of flights, with up to `MOST_WAITING` that
+/// wait; and 33. For the makespan a certificate has fewer than 16,777,216 bytes, so that `check` loads it; for delay where k is 0, where k
 /// is 1 and there are at most 32 flights, and where k is 2 and at most 7. The call does nothing: it tells its caller the law.
 pub fn certificate_texts_are_bounded()
     ensures certify { CertifyIsBoundedLaw }

@@ -1,10 +1,15 @@
-//! Callsigns, numbers in text, and counts of steps.
+//! Callsigns, numbers in text, counts of steps, and how many of each thing there may be.
 #![tactic(auto)]
 
 mod callsign;
 mod ledger;
+mod limits;
 mod number;
 
 pub use callsign::Callsign;
 pub use ledger::{Counted, Ledger, Silent, Steps};
+pub use limits::{
+    GREATEST_VALUE, GREATEST_WEIGHT, LONGEST_FREEZE, MOST_CLOSURES, MOST_EVENTS, MOST_FLIGHTS,
+    MOST_OPEN_SECONDS, MOST_WAITING,
+};
 pub use number::{NumberFault, read_number};

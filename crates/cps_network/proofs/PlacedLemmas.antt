@@ -8,12 +8,13 @@ use Rattle.std.proofs.lemmas.Bool.Decides.{nat_tests}
 use Rattle.std.proofs.lemmas.Int.{ints}
 use Rattle.std.proofs.lemmas.Nat.{one_shl}
 use Rattle.std.proofs.lemmas.Nat.Bits.{bit_at_or, bit_at-lt, bit_at_ones, bit_at_ones_above, bit_at_lowest, bit_at-suc}
+use Rattle.cps_base.specs.Limits.{most_waiting}
 use Rattle.precedence.specs.Pairs.{HasBit}
 use Rattle.cps_nodes.specs.Windows.{IsWindow, IsPlaced, HoldsRank}
 
 -- the low bits are the ranks that are due
-pub due_bits : (stage k rank : ℕ) → stage ≤ 60 → k ≤ stage → HasBit (1 * 2 ^ (stage - k + 1) % 2 ^ 64 - 1) rank
-    ↔ (rank + k ≤ stage)
+pub due_bits : (stage k rank : ℕ) → stage ≤ most_waiting → k ≤ stage
+    → HasBit (1 * 2 ^ (stage - k + 1) % 2 ^ 64 - 1) rank ↔ (rank + k ≤ stage)
 due_bits stage k rank few near =
     let whole : 1 * 2 ^ (stage - k + 1) % 2 ^ 64 ≡ 2 ^ (stage - k + 1) = one_shl (stage - k + 1) 64 (omega arith) in
     let is : bit_at (1 * 2 ^ (stage - k + 1) % 2 ^ 64 - 1) rank ≡ bit_at (2 ^ (stage - k + 1) - 1) rank =

@@ -1,6 +1,7 @@
 //! The next stage, taken again from another stage that has the same windows.
 
 ghost use Rattle.std.specs.Prelude.{◌≡◌, ◌+◌, ◌-◌, ◌*◌, ◌<◌, ◌≤◌, ◌↔◌, ℕ, length, IsTrue, IfOk, IfSome};
+ghost use Rattle.cps_base.specs.Limits.{most_waiting};
 ghost use Rattle.precedence.specs.Pairs.{HasBit};
 ghost use Rattle.cps_network.specs.Again.{AreAsFar, AreInReach, HaveSameNext, IsReady, IsStageAfter};
 ghost use Rattle.cps_network.specs.Again.{WaitAlike, WaitAlikeFor, WaitsFor, WaitsForNoMore, WaitsNear};
@@ -13,7 +14,7 @@ use std::alloc::AllocError;
 
 // The ranks that can have landed by a stage, as bits: those at most stage + k.
 fn landed_set(stage: u8, k: u8) -> u64
-    requires stage { stage < 60 }
+    requires stage { stage < most_waiting }
     requires near { k ≤ 3 }
     ensures { (rank : ℕ) → HasBit result rank ↔ (rank ≤ stage + k) }
 {
@@ -63,7 +64,7 @@ fn rank_as_far(held: &Problem, a: u8, rank: u8, problem: &Problem, b: u8) -> u8
     ensures from_one { 1 ≤ result }
     ensures to_count { result ≤ length problem.now.flights }
 {
-    // At most 60 flights wait for either.
+    // At most `MOST_WAITING` flights wait for either.
     let _few = held.len();
     let _few_there = problem.len();
     rank + b - a
@@ -148,7 +149,7 @@ pub fn next_stage_again<const W: usize>(
     requires after { IsNextOf held.now earlier.now.0 earlier.now.1 after.now.1 }
     ensures { IfOk result (λ next. IfSome next (IsStageAfter problem.now before.now)) }
 {
-    // k is at most 3, and at most 60 flights wait. The windows ascend.
+    // k is at most 3, and at most `MOST_WAITING` flights wait. The windows ascend.
     let _near = problem.head();
     let _ascending = after.windows();
     if have_same_next(held, earlier.number(), problem, before.number())

@@ -21,7 +21,7 @@ pub fn prefix_laws<const W: usize>(problem: &Problem)
     ensures whole { StepsAreWhole problem.now }
     ensures sources { LeadAlike problem.now W }
 {
-    // k is at most 3, each flight was passed at most k times, and each pair is of ranks up to 60.
+    // k is at most 3, each flight was passed at most k times, and each pair is of ranks up to `MOST_WAITING`.
     let _near = problem.head();
     let _in_range = problem.pairs().all_before(1, 0);
     window_laws::<W>();
@@ -45,7 +45,7 @@ pub fn due_is_bounded<const W: usize>(problem: &Problem)
     requires { W ≡ 2 * problem.now.k + 1 }
     ensures { DueIsBounded problem.now (W ^ W) }
 {
-    // k is at most 3, and at most 60 flights wait.
+    // k is at most 3, and at most `MOST_WAITING` flights wait.
     let _near = problem.head();
     prefix_laws::<W>(problem);
     window_laws::<W>();
@@ -56,7 +56,7 @@ pub fn windows_tell_their_ranks<const W: usize>(problem: &Problem)
     requires { W ≡ 2 * problem.now.k + 1 }
     ensures { TellTheirRanks problem.now }
 {
-    // k is at most 3, each flight was passed at most k times, and each pair is of ranks up to 60.
+    // k is at most 3, each flight was passed at most k times, and each pair is of ranks up to `MOST_WAITING`.
     let _near = problem.head();
     let _in_range = problem.pairs().all_before(1, 0);
     window_laws::<W>();

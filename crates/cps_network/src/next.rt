@@ -1,6 +1,7 @@
 //! The stage after a stage.
 
 ghost use Rattle.std.specs.Prelude.{◌≡◌, ℕ, ◌+◌, ◌*◌, ◌<◌, ◌≤◌, [], length, IfOk};
+ghost use Rattle.cps_base.specs.Limits.{most_waiting};
 ghost use Rattle.cps_nodes.specs.Windows.{IsWidth};
 ghost use Rattle.cps_network.specs.Extended.{AreGroupsOf, AreRanges};
 ghost use Rattle.cps_network.specs.Landable.{HoldsCandidates};
@@ -91,7 +92,7 @@ fn made_after<const W: usize>(
     before: &Stage<W>,
     windows: Vec<Window<W>>,
 ) -> Result<Stage<W>, AllocError>
-    requires stage { before.now.0 < 60 }
+    requires stage { before.now.0 < most_waiting }
     requires ascending { IsAscending windows.items }
     requires valid { AreWindows W windows.items }
     ensures { IfOk result (λ s. s ≡ (before.now.0 + 1, windows.entry.items)) }
@@ -113,7 +114,7 @@ fn stage_of<const W: usize>(
     gathered: Gathered<W>,
 ) -> Result<Stage<W>, AllocError>
     requires width { IsWidth W }
-    requires stage { before.now.0 < 60 }
+    requires stage { before.now.0 < most_waiting }
     requires groups { AreRanges before.now.1 groups.now }
     requires ascending { IsAscending gathered.windows.items }
     requires valid { AreWindows W gathered.windows.items }
@@ -142,7 +143,7 @@ pub fn next_stage<const W: usize>(
     ensures exact { IfOk result (λ s. IsNextOf problem.now before.now.0 before.now.1 s.1) }
     ensures candidates { IfOk result (λ s. HoldsCandidates problem.now before.now s) }
 {
-    // k is at most 3, and at most 60 flights wait.
+    // k is at most 3, and at most `MOST_WAITING` flights wait.
     let _near = problem.head();
     // A stage has at most 823,543 windows.
     let _few = before.len();

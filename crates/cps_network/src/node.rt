@@ -1,6 +1,7 @@
 //! Which ranks a window places, and which one last.
 
 ghost use Rattle.std.specs.Prelude.{◌≡◌, ◌≤◌};
+ghost use Rattle.cps_base.specs.Limits.{most_waiting};
 ghost use Rattle.cps_nodes.specs.Windows.{IsWindow};
 ghost use Rattle.cps_network.specs.Nodes.{latest};
 ghost use Rattle.cps_network.specs.WindowRanks.{TellsPlaced};
@@ -17,9 +18,9 @@ pub struct Node {
     pub last: u8,
 }
 
-/// The ranks that a window of a stage up to 60 places, and the last of them.
+/// The ranks that a window of a stage up to `MOST_WAITING` places, and the last of them.
 pub fn placed_node<const W: usize>(window: &Window<W>, stage: u8) -> Node
-    requires { stage ≤ 60 }
+    requires { stage ≤ most_waiting }
     ensures placed { TellsPlaced window.now stage result.placed }
     ensures last { result.last ≡ latest (stage, window.now) }
 {
@@ -34,7 +35,7 @@ pub fn placed_node<const W: usize>(window: &Window<W>, stage: u8) -> Node
 
 // The rank that landed last.
 fn last_placed<const W: usize>(window: &Window<W>, stage: u8) -> u8
-    requires { stage ≤ 60 }
+    requires { stage ≤ most_waiting }
     ensures valid { IsWindow W window.now }
     ensures last { result ≡ latest (stage, window.now) }
 {

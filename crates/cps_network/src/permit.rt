@@ -1,6 +1,7 @@
 //! Whether a rank may land next, and the window that then follows.
 
 ghost use Rattle.std.specs.Prelude.{◌≡◌, ℕ, pos, ◌+◌, ◌*◌, ◌/◌, ◌<◌, ◌-◌, ◌≤◌, ◌↔◌, List, ◌∷◌, length, max, min, reverse, IsTrue};
+ghost use Rattle.cps_base.specs.Limits.{most_waiting};
 ghost use Rattle.precedence.specs.Pairs.{HasBit};
 ghost use Rattle.cps_nodes.specs.Windows.{IsPlaced};
 ghost use Rattle.cps_nodes.specs.Ranks.{window_of};
@@ -18,7 +19,7 @@ use cps_problem::Problem;
 pub(crate) fn most_shift(problem: &Problem) -> u8
     ensures k { result ≡ problem.now.k }
     ensures near { result ≤ 3 }
-    ensures few { length problem.now.flights ≤ 60 }
+    ensures few { length problem.now.flights ≤ most_waiting }
 {
     problem.head().k
 }
@@ -28,7 +29,7 @@ pub(crate) fn reach(problem: &Problem, stage: u8) -> (u8, u8)
     requires { stage < length problem.now.flights }
     ensures first { result.0 ≡ max (stage + 1 - problem.now.k) 1 }
     ensures end { result.1 ≡ min (stage + 1 + problem.now.k) (length problem.now.flights) + 1 }
-    ensures few { length problem.now.flights ≤ 60 }
+    ensures few { length problem.now.flights ≤ most_waiting }
 {
     let k = most_shift(problem);
     let first = (stage + 1).saturating_sub(k).max(1);
@@ -38,7 +39,7 @@ pub(crate) fn reach(problem: &Problem, stage: u8) -> (u8, u8)
 
 // The ranks that are due by a stage, as bits: those at most stage - k.
 pub(crate) fn due_set(stage: u8, k: u8) -> u64
-    requires stage { stage ≤ 60 }
+    requires stage { stage ≤ most_waiting }
     requires near { k ≤ 3 }
     ensures { (rank : ℕ) → HasBit result rank ↔ (rank + k ≤ stage) }
 {
@@ -50,7 +51,7 @@ pub(crate) fn due_set(stage: u8, k: u8) -> u64
 
 // The ranks that a window of a stage places, as bits.
 pub(crate) fn placed_set<const W: usize>(window: &ExtendableWindow<W>, stage: u8, due: u64) -> u64
-    requires stage { stage ≤ 60 }
+    requires stage { stage ≤ most_waiting }
     requires due { (rank : ℕ) → HasBit due rank ↔ (rank + W / 2 ≤ stage) }
     ensures { (rank : ℕ) → 1 ≤ rank → HasBit result rank ↔ IsPlaced window.now (pos stage) (pos
         rank) }
@@ -60,8 +61,8 @@ pub(crate) fn placed_set<const W: usize>(window: &ExtendableWindow<W>, stage: u8
 
 // The offset of a rank that lands after so many.
 fn offset_of(landed: u8, rank: u8) -> i8
-    requires landed { landed ≤ 60 }
-    requires rank { rank ≤ 60 }
+    requires landed { landed ≤ most_waiting }
+    requires rank { rank ≤ most_waiting }
     ensures { result ≡ offset_after landed rank }
 {
     rank as i8 - (landed + 1) as i8
@@ -94,7 +95,7 @@ pub(crate) fn may_follow<const W: usize>(
     requires reach { (rank ≤ stage + 1 + problem.now.k) × (stage + 1 ≤ rank + problem.now.k) }
     ensures { IsTrue result ↔ IsPermitted problem.now stage window.now rank }
 {
-    // k is at most 3, and at most 60 flights wait.
+    // k is at most 3, and at most `MOST_WAITING` flights wait.
     let _near = problem.head();
     let is_accepted = window.extend(offset_of(stage, rank)).is_some();
     let in_time = is_in_time(problem, stage, rank);

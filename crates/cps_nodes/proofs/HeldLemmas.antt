@@ -10,6 +10,7 @@ use Rattle.std.proofs.lemmas.Nat.Bits.{bit_at_cat_high, bit_at_and, bit_at_not, 
 use Rattle.std.proofs.lemmas.Nat.Bits.{bit_at_ones_above, bit_at-lt}
 use Rattle.std.proofs.lemmas.Nat.{field_of}
 use Rattle.std.proofs.Math.Pow.{mod-mod-pow}
+use Rattle.cps_base.specs.Limits.{most_waiting}
 use Rattle.cps_nodes.specs.Windows.{IsWindow, HoldsRank, Accepts, offset_at, shifted}
 use Rattle.cps_nodes.specs.Held.{AreHeld}
 use Rattle.cps_nodes.specs.Leads.{IsWithin}
@@ -94,11 +95,11 @@ module _ (w stage bits : ℕ) (xs : List ℤ) (is : IsWindow w xs) (are : AreHel
   far_below : (rank : ℕ) → rank < stage - (w + 7) → HoldsRank xs (pos rank -ℤ pos stage +ℤ pos (w - 1)) → ⊥
   far_below rank below (i, lt, e) = omega (arith, ints, is.low i (omega (arith, lt, is.len)), is.is_width, e, below)
 
-  far_above : (rank : ℕ) → stage ≤ 60 → 64 ≤ rank → HoldsRank xs (pos rank -ℤ pos stage +ℤ pos (w - 1)) → ⊥
+  far_above : (rank : ℕ) → stage ≤ most_waiting → 64 ≤ rank → HoldsRank xs (pos rank -ℤ pos stage +ℤ pos (w - 1)) → ⊥
   far_above rank few above (i, lt, e) =
       omega (arith, ints, is.high i (omega (arith, lt, is.len)), is.is_width, lt, is.len, e, above, few)
 
-  pub held_late : w + 7 ≤ stage → stage ≤ 60 → (rank : ℕ)
+  pub held_late : w + 7 ≤ stage → stage ≤ most_waiting → (rank : ℕ)
       → (bit_at (bits * 2 ^ (stage - (w + 7)) % 2 ^ 64) rank ≡ 1) ↔ HoldsRank xs (pos rank -ℤ pos stage +ℤ pos (w - 1))
   held_late late few rank = elim (cases_lt rank 64) [
     | inr above ↦ untold _ xs _ (bit_at_above _ 64 rank (mod-lt _ (pow_pos 64)) above) (far_above rank few above)

@@ -4,6 +4,7 @@ ghost use Rattle.std.specs.Prelude.{◌≡◌, ℕ, ℤ, pos, ◌+◌, ◌-◌, 
 ghost use Rattle.std.specs.Int.{bit_at};
 ghost use Rattle.std.specs.Ordering.{int_eq};
 ghost use Rattle.std.specs.Cmp.Lexicographic.{pointwise};
+ghost use Rattle.cps_base.specs.Limits.{most_waiting};
 ghost use Rattle.cps_nodes.specs.Digits.{digit_offset, number_of, offsets_of, order_key};
 ghost use Rattle.cps_nodes.specs.Held.{AreHeld, IsDueHeldUpto};
 ghost use Rattle.cps_nodes.specs.Leads.{Extends, IsBelow, GoOnAlike, TailMeetsHead};
@@ -326,10 +327,10 @@ impl<const W: usize> Window<W> {
 }
 
 impl<const W: usize> ExtendableWindow<W> {
-    /// The ranks from 1 on that the window holds where it is one of a stage up to 60, as bits: bit r for rank r.
+    /// The ranks from 1 on that the window holds where it is one of a stage up to `MOST_WAITING`, as bits: bit r for rank r.
     #[inline]
     pub fn held_at(&self, stage: u8) -> u64
-        requires { stage ≤ 60 }
+        requires { stage ≤ most_waiting }
         ensures valid { IsWindow W self.now }
         ensures held { (rank : ℕ) → 1 ≤ rank → (bit_at result rank ≡ 1)
             ↔ HoldsRank self.now (pos rank -ℤ pos stage +ℤ pos (W - 1)) }

@@ -1,6 +1,7 @@
 //! Up to which rank two problems are the same.
 
 ghost use Rattle.std.specs.Prelude.{◌≡◌, ℕ, ◌+◌, ◌<◌, ◌≤◌, ◌↔◌, IsTrue, length};
+ghost use Rattle.cps_base.specs.Limits.{most_waiting};
 ghost use Rattle.precedence.specs.Pairs.{must_precede};
 ghost use Rattle.cps_problem.specs.FirstDifference.{HaveSameHead, HaveSameFlights, HaveSameBelow, HasPredecessorFrom, HaveSameAt, HaveSamePredecessors, IsWithinBoth, IsFirstDifference};
 ghost use Rattle.cps_problem.specs.Seen.{waiting_of};
@@ -96,7 +97,7 @@ impl Problem {
 
     // Whether rank j has the same predecessors below r in both problems.
     fn has_same_below(&self, other: &Problem, r: u8, j: u8) -> bool
-        requires r { (1 ≤ r) × (r ≤ 61) }
+        requires r { (1 ≤ r) × (r ≤ most_waiting + 1) }
         requires j { (1 ≤ j) × (j < r) }
         ensures { IsTrue result ↔ HaveSameBelow self.now other.now r j }
     {
@@ -120,7 +121,7 @@ impl Problem {
         requires j { (1 ≤ j) × (j < r) }
         ensures { IsTrue result ↔ HaveSameAt self.now other.now r j }
     {
-        // At most 60 flights wait, so that j is a rank of both problems.
+        // At most `MOST_WAITING` flights wait, so that j is a rank of both problems.
         let _few = self.len();
         if !self.has_same_below(other, r, j) {
             return false;
@@ -134,7 +135,7 @@ impl Problem {
         requires within { IsWithinBoth self.now other.now r }
         ensures { IsTrue result ↔ HaveSamePredecessors self.now other.now r }
     {
-        // At most 60 flights wait, so that each j below r is a rank of both problems.
+        // At most `MOST_WAITING` flights wait, so that each j below r is a rank of both problems.
         let _few = self.len();
         (1..r).all(|j| self.has_same_at(other, r, j))
     }

@@ -68,8 +68,8 @@ impl Model for Problem {
 }
 
 impl Problem {
-    /// The problem of these flights by rank. At most 60 flights, ascending by estimate and callsign, no callsign twice, each
-    /// estimate at most 172,799 and each weight 1 to 100; the pairs are over their ranks; k is at most 3, and at most k flights
+    /// The problem of these flights by rank. At most `MOST_WAITING` flights, ascending by estimate and callsign, no callsign
+    /// twice, each estimate at most 172,799 and each weight 1 to 100; the pairs are over their ranks; k is at most 3, and at most k flights
     /// passed each; the last frozen landing is before the horizon, which is at most 179,999; the base plus 17,279,900 for each
     /// flight is at most 8,639,950,000.
     pub fn build(head: Head, waiting: Vec<Waiting>, pairs: Pairs) -> Problem
@@ -100,7 +100,7 @@ impl Problem {
         &self.head
     }
 
-    /// The number of waiting flights: 0 to 60.
+    /// The number of waiting flights: 0 to `MOST_WAITING`.
     pub fn len(&self) -> u8
         ensures value { result ≡ length self.now.flights }
         ensures well_formed { IsWellFormed self.now }

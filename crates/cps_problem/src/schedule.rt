@@ -1,4 +1,5 @@
 ghost use Rattle.std.specs.Prelude.{◌≡◌, ◌-◌, ◌≤◌, length, nat_eq, slice_index, slice_set};
+ghost use Rattle.cps_base.specs.Limits.{most_waiting};
 
 use std::marker::Model;
 
@@ -15,22 +16,22 @@ impl Model for Schedule {
 
     ghost view = { λ s. s.seconds.items };
 
-    ghost invariant = { λ s. length s.seconds.items ≤ 60 };
+    ghost invariant = { λ s. length s.seconds.items ≤ most_waiting };
 }
 
 impl Schedule {
-    /// The schedule of these seconds, at most 60.
+    /// The schedule of these seconds, at most `MOST_WAITING`.
     pub fn of(seconds: Vec<u32>) -> Schedule
-        requires { length seconds.items ≤ 60 }
+        requires { length seconds.items ≤ most_waiting }
         ensures { result ≡ seconds.items }
     {
         Schedule { seconds }
     }
 
-    /// The number of ranks: 0 to 60.
+    /// The number of ranks: 0 to `MOST_WAITING`.
     pub fn len(&self) -> usize
         ensures value { result ≡ length self.now }
-        ensures few { result ≤ 60 }
+        ensures few { result ≤ most_waiting }
     {
         self.seconds.len()
     }

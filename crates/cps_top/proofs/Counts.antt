@@ -6,6 +6,7 @@ use Rattle.std.proofs.lemmas.List.{take_rest}
 use Rattle.std.specs.Global.{Global}
 use Rattle.std.specs.Prelude.{◌-◌, String, string_bytes, take, drop, ◌&&◌, ◌==◌, codes, bytes_eq, option_map}
 use Rattle.std.specs.Prelude.{unwrap_or, if◌then◌else◌}
+use Rattle.cps_base.specs.Limits.{most_waiting}
 use Rattle.cps_top.specs.declared.commands.Command.{Command}
 use Rattle.cps_top.specs.declared.commands.Command.TheVariants.{Plan, Replay, Certify, Check, Effort, Trial, First}
 use Rattle.cps_top.specs.declared.commands.Command.TheVariants.{WhatIf, Audit}
@@ -54,7 +55,7 @@ trial_fits (s ∷ n ∷ []) c words e = absurd (none e)
     none : None ≡ Some c → ⊥
     none e = cc
 trial_fits (s ∷ n ∷ k ∷ []) c words e =
-    by_numbers (number_of s 0 4294967295) (number_of n 1 60) (number_of k 0 3) c words e
+    by_numbers (number_of s 0 4294967295) (number_of n 1 most_waiting) (number_of k 0 3) c words e
 trial_fits (s ∷ n ∷ k ∷ x ∷ more) c words e = absurd (none e)
   where
     none : None ≡ Some c → ⊥

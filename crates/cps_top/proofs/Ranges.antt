@@ -3,6 +3,7 @@ use Rattle.std.proofs.Common.{◌≡◌, ℕ, ◌≤◌, List, [], ◌∷◌, le
 use Rattle.std.specs.Prelude.{◌&&◌, ◌==◌, bytes_eq, codes}
 use Rattle.std.specs.Result.{result_ok}
 use Rattle.std.proofs.lemmas.Option.{same_Some}
+use Rattle.cps_base.specs.Limits.{most_waiting}
 use Rattle.cps_base.specs.Number.{number_within}
 use Rattle.cps_base.specs.declared.number.NumberFault.{NumberFault}
 use Rattle.text_bounds.specs.shared.Numbers.{within}
@@ -20,7 +21,7 @@ number_in_range word least most n e = go (number_within word least most) (λ m h
     go (Ok m) h is = subst (λ (x : ℕ). (least ≤ x) × (x ≤ most)) (same_Some m n is) (h m refl)
     go (Err d) h is = absurd (cc is)
 
-numbers_in_range : (a b d : Option ℕ) (c : Command) → ((n : ℕ) → b ≡ Some n → (1 ≤ n) × (n ≤ 60))
+numbers_in_range : (a b d : Option ℕ) (c : Command) → ((n : ℕ) → b ≡ Some n → (1 ≤ n) × (n ≤ most_waiting))
     → ((k : ℕ) → d ≡ Some k → (0 ≤ k) × (k ≤ 3))
     → trial_by a b d ≡ Some c → IsCommandInRange c
 numbers_in_range (Some s) (Some n) (Some k) c few near e =
@@ -35,8 +36,8 @@ trial_in_range [] c e = absurd (cc e)
 trial_in_range (s ∷ []) c e = absurd (cc e)
 trial_in_range (s ∷ n ∷ []) c e = absurd (cc e)
 trial_in_range (s ∷ n ∷ k ∷ []) c e =
-    numbers_in_range (number_of s 0 4294967295) (number_of n 1 60) (number_of k 0 3) c
-    (λ m is. number_in_range n 1 60 m is) (λ m is. number_in_range k 0 3 m is) e
+    numbers_in_range (number_of s 0 4294967295) (number_of n 1 most_waiting) (number_of k 0 3) c
+    (λ m is. number_in_range n 1 most_waiting m is) (λ m is. number_in_range k 0 3 m is) e
 trial_in_range (s ∷ n ∷ k ∷ x ∷ more) c e = absurd (cc e)
 
 pub in_range : (words : List (List ℕ)) (c : Command) → command_of words ≡ Some c → IsCommandInRange c

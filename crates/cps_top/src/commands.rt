@@ -1,8 +1,7 @@
 ghost use Rattle.std.specs.Prelude.{◌≡◌, ◌==◌, ◌&&◌, Some, IfSome, ◌≤◌, bytes_eq, length, map, string_bytes};
 ghost use Rattle.cps_top.specs.Commands.{IsCommandInRange, command_of, file_count, files_of, number_of, trial_of};
 
-use cps_base::read_number;
-use landing_rules::MOST_WAITING;
+use cps_base::{MOST_WAITING, read_number};
 
 /// The commands, each with its first word.
 #[derive(Clone, Copy)]
@@ -23,8 +22,8 @@ pub enum Command {
     WhatIf,
     /// `audit AERODROME FLIGHTS PLAN`.
     Audit,
-    /// `trial SEED N K`: a seed from 0 to 4,294,967,295, 1 to 60 flights, and a bound on shifts from 0 to 3. It has no
-    /// files.
+    /// `trial SEED N K`: a seed from 0 to 4,294,967,295, 1 to `MOST_WAITING` flights, and a bound on shifts from 0 to 3. It
+    /// has no files.
     Trial { seed: u64, n: u8, k: u8 },
 }
 

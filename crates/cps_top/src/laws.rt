@@ -31,7 +31,7 @@ pub fn printed_certificates_are_accepted()
 /// |---|---|
 /// | `plan`, `first` | 20 + 29n |
 /// | `replay` | (e + 1)(50 + 29a), where a is the lesser of 500 and n + e |
-/// | `certify` | 39 + 21w + ws(19 + 18p), where w is the lesser of 60 and n |
+/// | `certify` | 39 + 21w + ws(19 + 18p), where w is the lesser of `MOST_WAITING` and n |
 /// | `check` | 33 |
 /// | `effort` | 47 + 50e |
 /// | `whatif` | 16 + 48t |

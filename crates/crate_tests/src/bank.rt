@@ -1,6 +1,8 @@
 //! Waiting flights for tests, each of which comes behind those before it.
 
 ghost use Rattle.std.specs.Prelude.{◌≡◌, ◌≢◌, ℕ, ◌<◌, ◌≤◌, All, AllPairs, IfOk, IsTrue, map, vec_len};
+ghost use Rattle.cps_base.specs.Limits.{most_waiting};
+ghost use Rattle.landing_rules.specs.Rules.{last_second};
 ghost use Rattle.precedence.specs.Pairs.{MustPrecede};
 ghost use Rattle.cps_problem.specs.Seen.{waiting_of};
 
@@ -18,10 +20,10 @@ pub struct Bank {
     pub(crate) k: u8,
     waiting: Vec<Waiting>,
     ghost near: { k ≤ 3 },
-    ghost few: { vec_len waiting ≤ 60 },
+    ghost few: { vec_len waiting ≤ most_waiting },
     ghost in_order: { AllPairs (λ f g. (f.eta < g.eta) × (f.callsign ≢ g.callsign))
         (map waiting_of waiting.items) },
-    ghost in_range: { All (λ f. (f.eta ≤ 172799) × (f.weight ≡ 1) × (f.passed ≤ k))
+    ghost in_range: { All (λ f. (f.eta ≤ last_second) × (f.weight ≡ 1) × (f.passed ≤ k))
         (map waiting_of waiting.items) },
 }
 
@@ -55,7 +57,7 @@ impl Bank {
 
     // Adds a flight behind the others.
     fn push(&mut self, flight: Waiting) -> Result<(), Fail>
-        requires { (flight.eta ≤ 172799) × (flight.weight ≡ 1) × (flight.passed ≤ self.old.k) }
+        requires { (flight.eta ≤ last_second) × (flight.weight ≡ 1) × (flight.passed ≤ self.old.k) }
         ensures { self.new.k ≡ self.old.k }
     {
         let is_last = self.waiting.len() < 60 && comes_last(&self.waiting, &flight);
@@ -131,8 +133,8 @@ impl Bank {
 
 // The pair of two ranks, and no pair where the first is 0.
 fn one_pair(first: u8, next: u8) -> Pairs
-    requires first { first ≤ 60 }
-    requires next { (1 ≤ next) × (next ≤ 60) }
+    requires first { first ≤ most_waiting }
+    requires next { (1 ≤ next) × (next ≤ most_waiting) }
     ensures { (i : ℕ) → (j : ℕ) → MustPrecede result i j → (1 ≤ i) × (i ≡ first) × (j ≡ next) }
 {
     let mut pairs = Pairs::new();

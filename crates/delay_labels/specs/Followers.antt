@@ -2,7 +2,7 @@
 use Rattle.std.specs.Prelude.{◌≡◌, ℕ, ◌-◌, ◌*◌, ◌≤◌}
 use Rattle.cps_problem.specs.OpenSpans.{LandsWithin}
 use Rattle.landing_joint.specs.RankedProblem.{start_at, apart_at, first_at, cost_at}
-use Rattle.landing_rules.specs.Limits.{greatest_weight}
+use Rattle.cps_base.specs.Limits.{greatest_weight}
 use Rattle.landing_rules.specs.Problem.{Problem}
 use Rattle.landing_rules.specs.Rules.{last_second}
 use Rattle.delay_labels.specs.declared.follower.Follower.{Follower}

@@ -3,7 +3,7 @@
 ghost use Rattle.std.specs.Prelude.{◌≡◌, ℕ, ◌-◌, ◌*◌, ◌<◌, ◌≤◌, length, IfSome};
 ghost use Rattle.cps_theory.specs.Feasible.{next_from};
 ghost use Rattle.landing_joint.specs.RankedProblem.{ranked, first_at, cost_at};
-ghost use Rattle.landing_rules.specs.Limits.{greatest_weight};
+ghost use Rattle.cps_base.specs.Limits.{greatest_weight};
 ghost use Rattle.landing_rules.specs.Problem as rules;
 ghost use Rattle.landing_rules.specs.Rules.{last_second};
 ghost use Rattle.cps_network.specs.Pairs.{successor};

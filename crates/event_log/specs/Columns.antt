@@ -1,7 +1,7 @@
 -- What the columns of a record hold, or the fault of a column.
 use Rattle.std.specs.Prelude.{ℕ, List, ◌==◌, length, Option, Some, None, Result, Ok, Err, if◌then◌else◌}
 use Rattle.cps_base.specs.Answers.{fault_as}
-use Rattle.landing_rules.specs.Limits.{greatest_weight}
+use Rattle.cps_base.specs.Limits.{greatest_weight}
 use Rattle.landing_rules.specs.Rules.{last_second}
 use Rattle.csv_records.specs.Rows.{Fields, field}
 use Rattle.cps_base.specs.Text.{is_callsign}

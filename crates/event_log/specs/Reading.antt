@@ -2,7 +2,7 @@
 use Rattle.std.specs.Prelude.{ℕ, List, [], ◌∷◌, ◌++◌, Bool, not, ◌==◌, ◌&&◌, ◌+◌, nat_le, length, codes, bytes_eq}
 use Rattle.std.specs.Prelude.{Result, Ok, Err, if◌then◌else◌}
 use Rattle.cps_base.specs.Answers.{◌>>=◌}
-use Rattle.landing_rules.specs.Limits.{most_events}
+use Rattle.cps_base.specs.Limits.{most_events}
 use Rattle.csv_records.specs.Rows.{Fields, field, records_of}
 use Rattle.arrivals.specs.declared.event.Event.{Event}
 use Rattle.event_log.specs.declared.fault.LogCause.{LogCause}

@@ -2,7 +2,7 @@
 ghost use Rattle.std.specs.Prelude.{◌≡◌, ◌≤◌, ◌<◌, ◌+◌, IfOk, true, length};
 ghost use Rattle.csv.specs.Records.{fields_of};
 ghost use Rattle.cps_base.specs.Text.{is_callsign};
-ghost use Rattle.landing_rules.specs.Limits.{greatest_weight};
+ghost use Rattle.cps_base.specs.Limits.{greatest_weight};
 ghost use Rattle.landing_rules.specs.Rules.{last_second};
 ghost use Rattle.landing_rules.specs.Sound.{AreGoodWindows};
 ghost use Rattle.event_log.specs.Columns.{column, empty_in, callsign_in, category_in, second_in, weight_in, windows_at, names_at, span_at};
@@ -10,11 +10,10 @@ ghost use Rattle.event_log.specs.Columns.{column, empty_in, callsign_in, categor
 use crate::fault::{Col, FieldCause, LogCause};
 use crate::span::read_span;
 use arrivals::After;
-use cps_base::{Callsign, read_number};
+use cps_base::{Callsign, GREATEST_WEIGHT, read_number};
 use csv::ByteRecord;
 use csv_records::field;
 use flight_file::{read_after, read_windows};
-use landing_rules::GREATEST_WEIGHT;
 use landing_windows::{LAST_SECOND, WindowSet};
 use wake_table::Category;
 

@@ -1,17 +1,17 @@
 ghost use Rattle.std.specs.Prelude.{◌≡◌, [], ◌≤◌, ◌<◌, All, length, OnOk, IfOk, vec_len};
 ghost use Rattle.csv.specs.Records.{fields_of};
 ghost use Rattle.cps_base.specs.Answers.{GivesAs};
-ghost use Rattle.landing_rules.specs.Limits.{most_events};
+ghost use Rattle.cps_base.specs.Limits.{most_events};
 ghost use Rattle.event_log.specs.Answers.{memory_fault};
 ghost use Rattle.arrivals.specs.Seen.{IsGood};
 ghost use Rattle.event_log.specs.Reading.{is_header, event_in, added, events_in, events_by, events_of};
 
+use cps_base::MOST_EVENTS;
 use crate::fault::{LogCause, LogFault};
 use crate::kinds::event_by;
 use arrivals::Event;
 use csv::ByteRecord;
 use csv_records::{Records, field};
-use landing_rules::MOST_EVENTS;
 use std::alloc::Global;
 
 // Whether a record is the header of the file.

@@ -1,5 +1,6 @@
 ghost use Rattle.std.specs.Prelude.{◌≡◌, ◌≤◌, IfOk, IsTrue, IsFalse, length, replicate};
 ghost use Rattle.std.specs.List.{AllZip};
+ghost use Rattle.cps_base.specs.Limits.{most_waiting};
 ghost use Rattle.landing_rules.specs.Flights.{Schedule as Seconds};
 ghost use Rattle.extract_plan.specs.Orders.{IsWholeOrder, LandsInOrder, EarliestInOrder};
 
@@ -38,9 +39,9 @@ pub fn retime(problem: &Problem, order: &[u8], into: &mut Schedule) -> bool
     true
 }
 
-/// The schedule that lands each of n ranks at second 0. n is at most 60.
+/// The schedule that lands each of n ranks at second 0. n is at most `MOST_WAITING`.
 pub fn blank(alloc: Global, n: u8) -> Result<Schedule, AllocError>
-    requires { n ≤ 60 }
+    requires { n ≤ most_waiting }
     ensures { IfOk result (λ schedule. schedule ≡ replicate n 0) }
 {
     let seconds = vec![in alloc; 0; n as usize]?;

@@ -1,6 +1,6 @@
 ghost use Rattle.std.specs.Prelude.{◌≡◌, ℕ, ◌+◌, ◌-◌, ◌<◌, ◌≤◌, ◌↔◌, [], length, slice_get, count_by, Some, None, IfSome, IsNone, IsTrue, MatchResult, Contains};
 ghost use Rattle.std.specs.Ordering.{is_lt};
-ghost use Rattle.landing_rules.specs.Limits.{most_waiting};
+ghost use Rattle.cps_base.specs.Limits.{most_waiting};
 ghost use Rattle.landing_rules.specs.Rules.{first_come_cmp};
 ghost use Rattle.fcfs_order.specs.Order.{IsOrder, with_arrival, without};
 
@@ -39,7 +39,7 @@ impl Order {
         }
     }
 
-    /// Takes a flight in, at its place. It is not there yet, and fewer than 60 flights are.
+    /// Takes a flight in, at its place. It is not there yet, and fewer than `MOST_WAITING` flights are.
     pub fn insert(&mut self, eta: u32, callsign: Callsign) -> Result<(), AllocError>
         requires absent { Contains self.old (eta, callsign) → ⊥ }
         requires room { length self.old < most_waiting }
@@ -83,7 +83,7 @@ impl Order {
         }
     }
 
-    /// The number of flights: 0 to 60.
+    /// The number of flights: 0 to `MOST_WAITING`.
     pub fn len(&self) -> u8
         ensures value { result ≡ length self.now }
         ensures order { IsOrder self.now }

@@ -9,7 +9,7 @@ use Rattle.std.proofs.lemmas.Nat.Bits.{bit_at-zero}
 use Rattle.std.specs.Int.{bit_at}
 use Rattle.precedence.specs.Pairs.{HasBit}
 use Rattle.std.proofs.lemmas.Option.{same_Some}
-use Rattle.landing_rules.specs.Limits.{most_waiting}
+use Rattle.cps_base.specs.Limits.{most_waiting}
 use Rattle.landing_rules.specs.Rules.{last_second}
 use Rattle.landing_rules.specs.Problem.{Problem}
 use Rattle.landing_rules.specs.FirstBest.{IsFirstBestList}
@@ -87,14 +87,14 @@ module _ (p : Problem) (budget : ℕ) (before : EarlyNode) (cost : ℕ) (nodes :
   ]
 
   pub least_upto : (j : ℕ) (least : Pair) → j ≡ length nodes
-      → ((i : ℕ) → i < length nodes → (node_at nodes i).last ≤ 60) → LeastUpto j least
+      → ((i : ℕ) → i < length nodes → (node_at nodes i).last ≤ most_waiting) → LeastUpto j least
       → IsLeastChoice p budget before cost nodes lists least
   least_upto j least e few u r t c =
       let low = u.low c.place t (let w = c.within in omega (arith, w, e)) c.leads c.affordable in
       let last = c.last in
       let most = few c.place c.within in (
         elim u.known [
-          | inl none ↦ absurd (let z : least.0 ≡ 61 =
+          | inl none ↦ absurd (let z : least.0 ≡ most_waiting + 1 =
               ap (λ (q : Pair). q.0) none in omega (arith, z, low, most))
           | inr known ↦ known
         ],

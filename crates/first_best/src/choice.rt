@@ -1,6 +1,7 @@
 //! The order of least ranks, chosen place by place.
 
 ghost use Rattle.std.specs.Prelude.{◌≡◌, ℕ, ◌*◌, ◌<◌, ◌≤◌, ◌⊎◌, ◌↔◌, IfOk, IfSome, Some, length};
+ghost use Rattle.cps_base.specs.Limits.{most_waiting};
 ghost use Rattle.precedence.specs.Pairs.{HasBit};
 ghost use Rattle.cps_network.specs.Pairs.{list_at};
 ghost use Rattle.landing_rules.specs.Rules.{last_second};
@@ -13,6 +14,7 @@ ghost use Rattle.first_best.specs.Nodes.{node_at};
 ghost use Rattle.first_best.specs.Ranges.{HasRank, IsPlacedIn};
 ghost use Rattle.first_best.specs.Stages.{IsAheadWithin};
 
+use cps_base::MOST_WAITING;
 use crate::ahead::Ahead;
 use crate::budget::budget_of;
 use crate::laws::window_laws;
@@ -21,7 +23,6 @@ use crate::pairs::PairList;
 use crate::stage::StageAhead;
 use cps_problem::{Problem, Schedule};
 use extract_plan::blank;
-use landing_rules::MOST_WAITING;
 use replan::AnyKept;
 use std::alloc::{AllocError, Global};
 
@@ -39,7 +40,7 @@ fn affordable(prefix: &Prefix<'_>, after: EarlyNode, pairs: &PairList) -> Option
     requires before { IsPlacedIn prefix.now.problem.now prefix.now.node }
     requires after { HasRank prefix.now.problem.now after }
     requires rising { Rises pairs.now }
-    requires cost { prefix.now.cost ≤ most_cost * 60 }
+    requires cost { prefix.now.cost ≤ most_cost * most_waiting }
     ensures found { FindsAffordable prefix.now.problem.now prefix.now.budget prefix.now.node
         prefix.now.cost after pairs.now result }
     ensures in_days { IfSome result (λ t. t ≤ last_second) }
@@ -80,12 +81,12 @@ fn found_by(prefix: &Prefix<'_>, after: EarlyNode, pairs: &PairList) -> Option<u
     requires before { IsPlacedIn prefix.now.problem.now prefix.now.node }
     requires after { HasRank prefix.now.problem.now after }
     requires rising { Rises pairs.now }
-    requires cost { prefix.now.cost ≤ most_cost * 60 }
+    requires cost { prefix.now.cost ≤ most_cost * most_waiting }
     ensures found { FindsWay prefix.now.problem.now prefix.now.budget prefix.now.node
         prefix.now.cost after pairs.now result }
     ensures in_days { IfSome result (λ t. t ≤ last_second) }
 {
-    // At most 60 flights wait, so that a rank is one of 60.
+    // At most `MOST_WAITING` flights wait, so that a rank is at most that.
     let _few = prefix.problem.len();
     if leads_to(prefix.node, after) {
         affordable(prefix, after, pairs)
@@ -101,7 +102,7 @@ fn with_node(prefix: &Prefix<'_>, stage: &StageAhead, j: usize, least: (u8, u32)
     requires list { j < length stage.now.lists }
     requires rank { HasRank prefix.now.problem.now (node_at stage.now.nodes j) }
     requires rising { Rises (list_at stage.now.lists j) }
-    requires cost { prefix.now.cost ≤ most_cost * 60 }
+    requires cost { prefix.now.cost ≤ most_cost * most_waiting }
     ensures lesser { IsLesserBy prefix.now.problem.now prefix.now.budget prefix.now.node
         prefix.now.cost (node_at stage.now.nodes j) (list_at stage.now.lists j) least result }
     ensures in_days { least.1 ≤ last_second → result.1 ≤ last_second }
@@ -111,19 +112,19 @@ fn with_node(prefix: &Prefix<'_>, stage: &StageAhead, j: usize, least: (u8, u32)
     lesser(least, after.last, found)
 }
 
-// The least rank that can come next, and its second. Where none can the rank is 61, which is no flight's.
+// The least rank that can come next, and its second. Where none can the rank is `MOST_WAITING` + 1, which is no flight's.
 fn least_choice(prefix: &Prefix<'_>, stage: &StageAhead) -> (u8, u32)
     requires before { IsPlacedIn prefix.now.problem.now prefix.now.node }
     requires one_each { length stage.now.lists ≡ length stage.now.nodes }
     requires ranks { (j : ℕ) → j < length stage.now.nodes
         → HasRank prefix.now.problem.now (node_at stage.now.nodes j) }
     requires rising { (j : ℕ) → Rises (list_at stage.now.lists j) }
-    requires cost { prefix.now.cost ≤ most_cost * 60 }
+    requires cost { prefix.now.cost ≤ most_cost * most_waiting }
     ensures least { IsLeastChoice prefix.now.problem.now prefix.now.budget prefix.now.node
         prefix.now.cost stage.now.nodes stage.now.lists result }
     ensures in_days { result.1 ≤ last_second }
 {
-    // At most 60 flights wait, so that 61 is no rank.
+    // At most `MOST_WAITING` flights wait, so that one more is no rank.
     let _few = prefix.problem.len();
     (0..stage.len()).fold((MOST_WAITING + 1, 0), |least, j| {
         with_node(prefix, stage, j, least)
@@ -132,7 +133,7 @@ fn least_choice(prefix: &Prefix<'_>, stage: &StageAhead) -> (u8, u32)
 
 // The node to which another leads where this rank lands next, at this second.
 fn with_rank(before: EarlyNode, rank: u8, second: u32) -> EarlyNode
-    requires { rank ≤ 60 }
+    requires { rank ≤ most_waiting }
     ensures placed { (x : ℕ) → HasBit result.placed x ↔ (HasBit before.placed x ⊎ (x ≡ rank)) }
     ensures last { result.last ≡ rank }
     ensures earliest { result.earliest ≡ second }

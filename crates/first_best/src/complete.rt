@@ -145,7 +145,7 @@ fn latest_pairs(
         AreFalling wanted.now.problem.now wanted.now.value wanted.now.budget wanted.now.stage
         node next.now node.earliest pairs.items) }
 {
-    // At most 60 flights wait, so that the costs fit.
+    // At most `MOST_WAITING` flights wait, so that the costs fit.
     let _few = wanted.problem.len();
     let ways = ways_of(alloc, node, next)?;
     let ways = ways.as_slice();

@@ -1,6 +1,7 @@
 //! Nodes: what a prefix of a landing order leaves to those that may follow it.
 
 ghost use Rattle.std.specs.Prelude.{◌≤◌, ◌↔◌, IsTrue};
+ghost use Rattle.cps_base.specs.Limits.{most_waiting};
 ghost use Rattle.first_best.specs.Nodes.{LeadsTo};
 
 /// The ranks that a prefix has placed, the last of them, how early it can be landed, and how cheaply.
@@ -17,7 +18,7 @@ pub(crate) struct EarlyNode {
 
 // Whether a node places one rank more than another, its last one.
 pub(crate) fn leads_to(before: EarlyNode, after: EarlyNode) -> bool
-    requires { after.last ≤ 60 }
+    requires { after.last ≤ most_waiting }
     ensures { IsTrue result ↔ LeadsTo before after }
 {
     if (before.placed >> after.last) & 1 == 1 {

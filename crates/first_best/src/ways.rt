@@ -1,6 +1,7 @@
 //! Ways: what a node leads to, and what is left behind it.
 
 ghost use Rattle.std.specs.Prelude.{◌≡◌, ℕ, ◌+◌, ◌-◌, ◌*◌, ◌<◌, ◌≤◌, IfOk, IfSome, length};
+ghost use Rattle.cps_base.specs.Limits.{most_waiting};
 ghost use Rattle.landing_rules.specs.Rules.{last_second};
 ghost use Rattle.cps_network.specs.Pairs.{list_at};
 ghost use Rattle.first_best.specs.Nodes.{node_at};
@@ -18,7 +19,7 @@ pub(crate) fn ways_of(
     node: EarlyNode,
     next: &StageAhead,
 ) -> Result<Vec<usize>, AllocError>
-    requires { (j : ℕ) → j < length next.now.nodes → (node_at next.now.nodes j).last ≤ 60 }
+    requires { (j : ℕ) → j < length next.now.nodes → (node_at next.now.nodes j).last ≤ most_waiting }
     ensures { IfOk result (λ ways. AreWaysOf node next.now.nodes ways.items) }
 {
     let mut ways = Vec::new(alloc);
@@ -41,7 +42,7 @@ fn cost_by(
     second: u32,
 ) -> Option<u32>
     requires stage { stage < length problem.now.flights }
-    requires few { length problem.now.flights ≤ 60 }
+    requires few { length problem.now.flights ≤ most_waiting }
     requires node { HasRank problem.now node }
     requires next { IsNextIn problem.now stage next.now }
     requires way { way < length next.now.nodes }

@@ -9,6 +9,7 @@ use Rattle.std.proofs.lemmas.List.Elements.{All-push}
 use Rattle.std.proofs.lemmas.List.Quantifiers.{all_pairs_push}
 use Rattle.cps_base.specs.Answers.{◌>>=◌}
 use Rattle.arrivals.specs.Flights.{AreOthers, IsArrival, AreArrivals}
+use Rattle.cps_base.specs.Limits.{most_flights}
 use Rattle.flight_file.specs.After.{name_in, names_from}
 use Rattle.flight_file.specs.declared.fault.AfterCause.{AfterCause}
 use Rattle.cps_base.specs.Text.{is_callsign}
@@ -78,7 +79,7 @@ names_given own i before (p ∷ ps) names e h =
 
 -- one flight more
 pub flights_more : (fs : List Flight) (f : Flight) → AreArrivals fs → IsArrival f → has_callsign fs f.callsign ≡ false
-    → length fs < 500 → AreArrivals (fs ++ f ∷ [])
+    → length fs < most_flights → AreArrivals (fs ++ f ∷ [])
 flights_more fs f can here new room = record {
   few = omega (arith, length-append fs (f ∷ []));
   flights = All-push IsArrival fs f can.flights here;

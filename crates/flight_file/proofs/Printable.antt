@@ -7,6 +7,7 @@ use Rattle.std.proofs.Math.ListN.{get_or-append}
 use Rattle.std.proofs.Math.Seq.{get_or-append_seam}
 use Rattle.std.proofs.lemmas.List.Folds.{list_any_none}
 use Rattle.cps_base.specs.Text.{is_callsign}
+use Rattle.landing_rules.specs.Rules.{last_second}
 use Rattle.landing_windows.specs.Windows.{windows_of}
 use Rattle.arrivals.specs.declared.flight.Flight.{Flight}
 use Rattle.flight_file.specs.Reading.{has_callsign}
@@ -16,7 +17,7 @@ use Rattle.flight_file.specs.Kept.{AreCallsigns, IsKept, AreKept}
 
 abbrev pub AreInDays : List (ℕ × ℕ) → Type 0
 AreInDays [] = ⊤
-AreInDays (w ∷ ws) = ((w.0 ≤ 172799) × (w.1 ≤ 172799)) × AreInDays ws
+AreInDays (w ∷ ws) = ((w.0 ≤ last_second) × (w.1 ≤ last_second)) × AreInDays ws
 
 -- callsigns, none the flight's own and none twice
 abbrev pub AreNewNames : List ℕ → List (List ℕ) → List (List ℕ) → Type 0
@@ -27,7 +28,7 @@ AreNewNames own before (n ∷ names) =
 
 pub record IsPrintable (f : Flight) : Type 0 where
   pub callsign : is_callsign f.callsign ≡ true
-  pub eta : f.eta ≤ 172799
+  pub eta : f.eta ≤ last_second
   pub weight : (1 ≤ f.weight) × (f.weight ≤ 100)
   pub windows : windows_of f.windows ≡ Ok f.windows
   pub in_days : AreInDays f.windows
@@ -39,7 +40,7 @@ ArePrintable before [] = ⊤
 ArePrintable before (f ∷ fs) = IsPrintable f × (has_callsign before f.callsign ≡ false)
     × ArePrintable (before ++ f ∷ []) fs
 
-in_days : (ws : List (ℕ × ℕ)) → All (λ w. (w.0 ≤ w.1) × (w.1 ≤ 172799)) ws → AreInDays ws
+in_days : (ws : List (ℕ × ℕ)) → All (λ w. (w.0 ≤ w.1) × (w.1 ≤ last_second)) ws → AreInDays ws
 in_days [] h = tt
 in_days (w ∷ ws) h =
     let here = h 0 w (omega arith) in

@@ -5,7 +5,9 @@ use Rattle.std.specs.Prelude.{map, decimal, nat_le}
 use Rattle.std.proofs.lemmas.Bool.Decides.{nat_tests}
 use Rattle.std.proofs.lemmas.Grind.{common_steps}
 use Rattle.std.proofs.lemmas.List.{append-nil}
+use Rattle.cps_base.specs.Limits.{most_flights}
 use Rattle.csv.specs.Reading.{strip_bom}
+use Rattle.landing_rules.specs.Rules.{last_second}
 use Rattle.wake_table.specs.Letters.{letter}
 use Rattle.csv_records.specs.Rows.{Fields, records_of}
 use Rattle.csv_records.specs.Plain.{plain_text, IsPlainRow, ArePlainRows}
@@ -22,14 +24,14 @@ use Rattle.flight_file.proofs.PrintedFields.{high_callsign}
 
 -- one record
 flight_read : (fs : List Flight) (f : Flight) → IsPrintable f → has_callsign fs f.callsign ≡ false
-    → length fs < 500 → flight_in fs (flight_fields f) ≡ Ok f
+    → length fs < most_flights → flight_in fs (flight_fields f) ≡ Ok f
 unfolding flight_in flight_by
 flight_read fs f h other room =
-    let count : nat_le 500 (length fs) ≡ false = grind (arith, nat_tests, common_steps) in
+    let count : nat_le most_flights (length fs) ≡ false = grind (arith, nat_tests, common_steps) in
     rw (
       h.callsign,
       category_read f.category,
-      number_read f.eta 0 172799 (omega (arith, h.eta)) (omega arith) h.eta,
+      number_read f.eta 0 last_second (omega (arith, h.eta)) (omega arith) h.eta,
       number_read f.weight 1 100 (omega (arith, h.weight.1)) h.weight.0 h.weight.1,
       windows_text_read f.windows h.windows h.in_days,
       names_text_read f.callsign f.after h.after h.few_after,
@@ -38,7 +40,7 @@ flight_read fs f h other room =
     ) refl
 
 -- the records behind the header
-rows_read : (fs gs : List Flight) → ArePrintable fs gs → length fs + length gs ≤ 500
+rows_read : (fs gs : List Flight) → ArePrintable fs gs → length fs + length gs ≤ most_flights
     → flights_in fs (map flight_fields gs) ≡ Ok (fs ++ gs)
 unfolding flights_in
 rows_read fs [] h room = ap Ok (sym (append-nil fs))

@@ -13,6 +13,7 @@ use Rattle.std.proofs.lemmas.Fmt.{digits_decimal, digits_value-decimal}
 use Rattle.std.proofs.lemmas.Str.Parse.{IsNumeralModel, numerals_by_value}
 use Rattle.cps_base.specs.Text.{is_callsign, is_callsign_byte}
 use Rattle.cps_base.specs.Number.{number_within}
+use Rattle.landing_rules.specs.Rules.{last_second}
 use Rattle.wake_table.specs.declared.category.Category.{Category}
 use Rattle.wake_table.specs.declared.category.Category.TheVariants.{A, B, C, D, E, F}
 use Rattle.wake_table.specs.Letters.{letter, category_of}
@@ -85,10 +86,10 @@ high_letter F = omega arith
 
 -- ---- windows
 
-second_read : (i n : ℕ) → n ≤ 172799 → second_in i (decimal n) ≡ Ok n
-second_read i n h = rw (number_read n 0 172799 (omega arith) (omega arith) h) refl
+second_read : (i n : ℕ) → n ≤ last_second → second_in i (decimal n) ≡ Ok n
+second_read i n h = rw (number_read n 0 last_second (omega arith) (omega arith) h) refl
 
-window_read : (i : ℕ) (w : ℕ × ℕ) → w.0 ≤ 172799 → w.1 ≤ 172799 → window_in i (window_text w) ≡ Ok w
+window_read : (i : ℕ) (w : ℕ × ℕ) → w.0 ≤ last_second → w.1 ≤ last_second → window_in i (window_text w) ≡ Ok w
 unfolding window_in
 window_read i w a b =
     let first : AreDigits (decimal w.0) = decimal_digits w.0 (omega arith) in

@@ -3,7 +3,7 @@ use Rattle.std.specs.Prelude.{ℕ, List, [], ◌∷◌, ◌++◌, Bool, not, ◌
 use Rattle.std.specs.Prelude.{Option, Some, None, Result, Ok, Err, if◌then◌else◌}
 use Rattle.std.specs.List.{list_any}
 use Rattle.cps_base.specs.Answers.{fault_as, ◌>>=◌}
-use Rattle.landing_rules.specs.Limits.{greatest_weight, most_flights}
+use Rattle.cps_base.specs.Limits.{greatest_weight, most_flights}
 use Rattle.landing_rules.specs.Rules.{last_second}
 use Rattle.csv_records.specs.Rows.{Fields, field, records_of}
 use Rattle.cps_base.specs.Text.{is_callsign}

@@ -23,7 +23,7 @@ use Rattle.landing_rules.specs.Audit.{missing, moved, or_else, other_objective, 
 use Rattle.landing_rules.specs.Audit.{twice_after, unknown, unseparated}
 use Rattle.landing_rules.specs.Events.{named}
 use Rattle.landing_rules.specs.Flights.{Active, Callsign, Flight, Landing, Situation, horizon, landing}
-use Rattle.landing_rules.specs.Limits.{greatest_value, greatest_weight, most_flights}
+use Rattle.cps_base.specs.Limits.{greatest_value, greatest_weight, most_flights}
 use Rattle.landing_rules.specs.Rules.{arrival_cmp, cost, is_open, last_second, place, rank_among, waits}
 use Rattle.landing_rules.specs.Sound.{IsGoodFlight, IsSound}
 use Rattle.landing_rules.specs.Testing.{is_shift_kept}

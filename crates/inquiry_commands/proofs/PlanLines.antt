@@ -10,7 +10,7 @@ use Rattle.std.proofs.lemmas.List.{length-append}
 use Rattle.std.proofs.lemmas.List.Elements.{All-nil, All-cons, All-append}
 use Rattle.cps_base.specs.Answers.{◌>>=◌}
 use Rattle.cps_base.specs.Text.{is_callsign}
-use Rattle.landing_rules.specs.Limits.{most_flights}
+use Rattle.cps_base.specs.Limits.{most_flights}
 use Rattle.landing_rules.specs.Rules.{last_second}
 use Rattle.landing_rules.specs.Text.{ShownLanding}
 use Rattle.plan_file.specs.declared.block.Block.{Block}

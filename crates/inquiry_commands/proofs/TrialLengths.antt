@@ -8,7 +8,7 @@ use Rattle.std.proofs.lemmas.List.{length-append}
 use Rattle.std.proofs.lemmas.List.Elements.{All-head, All-tail}
 use Rattle.landing_rules.specs.Events as rules
 use Rattle.landing_rules.specs.Flights.{Active, Situation}
-use Rattle.landing_rules.specs.Limits.{most_flights, most_waiting}
+use Rattle.cps_base.specs.Limits.{most_flights, most_waiting}
 use Rattle.landing_rules.specs.Sound.{IsGoodFlight, IsSound}
 use Rattle.landing_rules.specs.Text.{cause}
 use Rattle.arrivals.specs.declared.aerodrome.Aerodrome.{Aerodrome}

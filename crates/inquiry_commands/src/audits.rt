@@ -1,7 +1,7 @@
 ghost use Rattle.std.specs.Prelude.{◌≡◌, ◌≤◌, ◌↔◌, IfOk, MatchResult, codes, length, map};
 ghost use Rattle.landing_rules.specs.Audit.{IsClean, findings};
 ghost use Rattle.landing_rules.specs.Text.{line};
-ghost use Rattle.landing_rules.specs.Limits.{most_flights};
+ghost use Rattle.cps_base.specs.Limits.{most_flights};
 ghost use Rattle.audit.specs.Findings.{finding_of};
 ghost use Rattle.plan_file.specs.Blocks.{seen_block};
 ghost use Rattle.arrivals.specs.Aerodromes.{IsInRange};

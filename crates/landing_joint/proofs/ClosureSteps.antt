@@ -4,6 +4,7 @@ use Rattle.std.proofs.Common.{Option, Some, None, refl, sym, ap, subst, ◌∙�
 use Rattle.std.specs.Prelude.{option_map, filter_map, find, is_some, nat_le, if◌then◌else◌}
 use Rattle.std.specs.List.{list_any}
 use Rattle.std.proofs.lemmas.Bool.{cases_Bool, cases_lt, le-leb, or_parts, and_parts, not-true}
+use Rattle.cps_base.specs.Limits.{most_closures}
 use Rattle.landing_rules.specs.Flights.{Aerodrome, Landing, Situation, Schedule, Span, landing, is_waiting, horizon}
 use Rattle.landing_rules.specs.Flights.{horizon_after}
 use Rattle.landing_rules.specs.Rules.{is_open, is_within, is_shut, ArePairSeparated}
@@ -39,7 +40,7 @@ open_where windows cs ds t h e =
     rw (p.0, h (not-true (list_any (is_shut t) cs) p.1))
 
 other_closures : (s new : Situation) → IsSound s → new.aerodrome ≡ s.aerodrome → new.active ≡ s.active
-    → new.clock ≡ s.clock → length new.closures ≤ 32 →
+    → new.clock ≡ s.clock → length new.closures ≤ most_closures →
     ((f : Landing) → Member f (frozen_landings s) → is_open f.flight.windows new.closures f.second ≡ true) → IsSound new
 other_closures s new h same actives clocks few opened =
     let k = kept s h in
@@ -76,12 +77,12 @@ any_push p cs c e n = list_any-append p cs (c ∷ []) ∙ rw (e, n)
 
 close_parts : (found : Option Landing) (n : ℕ)
     → (if is_some found then option_map (λ (g : Landing). CoversFrozen g.flight.callsign g.second) found
-    else (if nat_le 32 n then Some TooManyClosures else None)) ≡ None → (found ≡ None) × (n < 32)
+    else (if nat_le most_closures n then Some TooManyClosures else None)) ≡ None → (found ≡ None) × (n < most_closures)
 close_parts (Some g) n e = let w : Some (CoversFrozen g.flight.callsign g.second) ≡ None = e in absurd (cc)
-close_parts None n e = elim (cases_lt n 32) [
+close_parts None n e = elim (cases_lt n most_closures) [
   | inl lt ↦ (refl, lt)
   | inr le ↦
-      (let w : Some TooManyClosures ≡ None = rw (le-leb 32 n le) at e in absurd (cc))
+      (let w : Some TooManyClosures ≡ None = rw (le-leb most_closures n le) at e in absurd (cc))
 ]
 
 pub closed : (s : Situation) (plan : Option Schedule) (span : Span) → IsSound s → refusal s (Close span) ≡ None

@@ -6,6 +6,7 @@ use Rattle.std.specs.List.{list_any}
 use Rattle.std.proofs.lemmas.Bool.{false≢true, cases_Bool, cases_lt, le-leb, lt-leb}
 use Rattle.std.proofs.lemmas.Slice.Eq.{bytes_eq-Decides}
 use Rattle.std.proofs.lemmas.List.Kept.{AllPairs-filter}
+use Rattle.cps_base.specs.Limits.{most_flights, most_waiting}
 use Rattle.landing_rules.specs.Flights.{Active, Flight, Landing, Situation, Schedule, Callsign, Span, landing}
 use Rattle.landing_rules.specs.Flights.{is_waiting, waiting}
 use Rattle.landing_rules.specs.Rules.{lists}
@@ -135,19 +136,21 @@ re_estimated s plan c eta windows h good ok =
 -- ---- add
 
 pub add_parts : (there : Bool) (flights wait : ℕ) (found : Option Landing) (c : Callsign) →
-    (if there then Some (Duplicate c) else (if nat_le 500 flights then Some TooManyFlights
-    else (if nat_le 60 wait then Some TooManyWaiting
+    (if there then Some (Duplicate c) else (if nat_le most_flights flights then Some TooManyFlights
+    else (if nat_le most_waiting wait then Some TooManyWaiting
     else option_map (λ (g : Landing). PredecessorOfFrozen g.flight.callsign) found))) ≡ None →
-    (there ≡ false) × (flights < 500) × (wait < 60) × (found ≡ None)
+    (there ≡ false) × (flights < most_flights) × (wait < most_waiting) × (found ≡ None)
 add_parts true flights wait found c e = let w : Some (Duplicate c) ≡ None = e in absurd (cc)
-add_parts false flights wait None c e = elim (cases_lt flights 500) [
-  | inl lt ↦ elim (cases_lt wait 60) [
+add_parts false flights wait None c e = elim (cases_lt flights most_flights) [
+  | inl lt ↦ elim (cases_lt wait most_waiting) [
     | inl lt' ↦ (refl, lt, lt', refl)
-    | inr le ↦ (let w : Some TooManyWaiting ≡ None = rw (lt-leb 500 flights lt, le-leb 60 wait le) at e in absurd (cc))
+    | inr le ↦ (let w : Some TooManyWaiting ≡ None =
+        rw (lt-leb most_flights flights lt, le-leb most_waiting wait le) at e in absurd (cc))
   ]
-  | inr le ↦ (let w : Some TooManyFlights ≡ None = rw (le-leb 500 flights le) at e in absurd (cc))
+  | inr le ↦ (let w : Some TooManyFlights ≡ None = rw (le-leb most_flights flights le) at e in absurd (cc))
 ]
-add_parts false flights wait (Some g) c e = absurd (some_none (nat_le 500 flights) (nat_le 60 wait) e)
+add_parts false flights wait (Some g) c e =
+    absurd (some_none (nat_le most_flights flights) (nat_le most_waiting wait) e)
   where
     some_none : (a b : Bool) → cond a (Some TooManyFlights)
         (cond b (Some TooManyWaiting) (Some (PredecessorOfFrozen g.flight.callsign))) ≡ None → ⊥

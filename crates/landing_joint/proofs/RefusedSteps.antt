@@ -4,6 +4,7 @@ use Rattle.std.proofs.Common.{◌≡◌, ℕ, ◌+◌, ◌≤◌, Bool, true, fa
 use Rattle.std.proofs.Common.{None, refl, sym, ap, subst, ◌∙◌, arith}
 use Rattle.std.specs.List.{list_any}
 use Rattle.std.proofs.lemmas.Bool.{false≢true, and_parts, or_right}
+use Rattle.cps_base.specs.Limits.{most_closures, most_flights, most_waiting}
 use Rattle.landing_rules.specs.Flights.{Flight, Landing, Situation, Schedule, Span, is_waiting, waiting}
 use Rattle.landing_rules.specs.Rules.{is_within, is_shut, lists}
 use Rattle.landing_rules.specs.Events.{Add, Close, Clock, frozen_landings, newcomer, situation_after}
@@ -18,18 +19,18 @@ use Rattle.landing_rules.specs.shared.Members.{append_in, pushed_in, filter_in, 
 any_last : (p : Span → Bool) (cs : List Span) (c : Span) → p c ≡ true → list_any p (cs ++ c ∷ []) ≡ true
 any_last p cs c e = list_any-append p cs (c ∷ []) ∙ or_right (list_any p cs) (p c || false) (rw e)
 
--- the 501st flight, the 61st that waits, the 33rd closure
-flight_501 : (s : Situation) (plan : Option Schedule) (f : Flight) → 500 ≤ length s.active
+-- a flight, a flight that waits, a closure more than there may be
+flight_too_many : (s : Situation) (plan : Option Schedule) (f : Flight) → most_flights ≤ length s.active
     → IsSound (situation_after s plan (Add f)) → ⊥
-flight_501 s plan f many h = absurd (let l = length_push s.active (newcomer f) in let few = h.few_active in omega arith)
+flight_too_many s plan f many h = absurd (let l = length_push s.active (newcomer f) in let few = h.few_active in omega arith)
 
-waiting_61 : (s : Situation) (plan : Option Schedule) (f : Flight) → 60 ≤ length (waiting s)
+waiting_too_many : (s : Situation) (plan : Option Schedule) (f : Flight) → most_waiting ≤ length (waiting s)
     → IsSound (situation_after s plan (Add f)) → ⊥
-waiting_61 s plan f many h = absurd (let l = waiting_push s.active f in let few = h.few_waiting in omega arith)
+waiting_too_many s plan f many h = absurd (let l = waiting_push s.active f in let few = h.few_waiting in omega arith)
 
-closure_33 : (s : Situation) (plan : Option Schedule) (span : Span) → 32 ≤ length s.closures
+closure_too_many : (s : Situation) (plan : Option Schedule) (span : Span) → most_closures ≤ length s.closures
     → IsSound (situation_after s plan (Close span)) → ⊥
-closure_33 s plan span many h = absurd (let l = length_push s.closures span in let few = h.few_closures in omega arith)
+closure_too_many s plan span many h = absurd (let l = length_push s.closures span in let few = h.few_closures in omega arith)
 
 -- a closure over the second of a frozen flight
 covered_landing : (s : Situation) (plan : Option Schedule) (span : Span) (g : Landing) → Member g (frozen_landings s)

@@ -1,6 +1,7 @@
 -- What makes a situation sound again after a change: what holds of each flight, and of the frozen landings one by one.
 use Rattle.std.proofs.Common.{◌≡◌, ◌<◌, ◌≤◌, true, false, length, sym, ap, subst, ◌∙◌, arith}
 use Rattle.std.specs.Prelude.{All, IsTrue}
+use Rattle.cps_base.specs.Limits.{most_closures, most_flights, most_waiting}
 use Rattle.landing_rules.specs.Flights.{Active, Aerodrome, Landing, Situation, waiting, horizon}
 use Rattle.landing_rules.specs.Rules.{is_open, lists, ArePairSeparated, IsPairInPrecedence}
 use Rattle.landing_rules.specs.Events.{frozen_landings}
@@ -36,8 +37,9 @@ kept s h = record {
 
 -- the rest of soundness, and the frozen landings
 module _ (old new : Situation) (sound : IsSound old) (same : new.aerodrome ≡ old.aerodrome)
-    (names : Differ (callsigns new.active)) (few : length new.active ≤ 500) (few_wait : length (waiting new) ≤ 60)
-    (few_closed : length new.closures ≤ 32)
+    (names : Differ (callsigns new.active)) (few : length new.active ≤ most_flights)
+    (few_wait : length (waiting new) ≤ most_waiting)
+    (few_closed : length new.closures ≤ most_closures)
     (each : (a : Active) → Member a new.active → IsGoodFlight a.flight × (a.passed ≤ old.aerodrome.k)
     × (old.aerodrome.carry ≡ false → a.passed ≡ 0)) (frozen : FrozenKeep new) where
   pub sound_again : IsSound new

@@ -5,7 +5,6 @@
 -- tight schedules is the first; Laws what follows from the definitions alone; Testing the rules as tests that compute,
 -- Audit every rule that a plan block breaks, and Examples small situations whose best schedules are known.
 pub mod Flights
-pub mod Limits
 pub mod Rules
 pub mod Events
 pub mod Text

@@ -6,7 +6,7 @@ use Rattle.std.specs.List.{AllAdjacentBelow}
 use Rattle.cps_base.specs.Text.{is_callsign}
 use Rattle.wake_table.specs.Table.{IsWakeTable}
 use Rattle.landing_rules.specs.Flights.{Span, Flight, Active, Situation, Landing, waiting, horizon}
-use Rattle.landing_rules.specs.Limits.{greatest_weight, most_closures, most_flights, most_open_seconds, most_waiting}
+use Rattle.cps_base.specs.Limits.{greatest_weight, most_closures, most_flights, most_open_seconds, most_waiting}
 use Rattle.landing_rules.specs.Rules.{last_second, is_open, lists, AreSeparated, AreInPrecedence}
 use Rattle.landing_rules.specs.Events.{Event, Estimate, Cancel, Add, Close, Reopen, Clock, State, IsPlanShown}
 use Rattle.landing_rules.specs.Events.{frozen_landings}

@@ -4,11 +4,6 @@
 
 pub mod examples;
 pub mod laws;
-mod limits;
 mod objective;
 
-pub use limits::{
-    GREATEST_VALUE, GREATEST_WEIGHT, LONGEST_FREEZE, MOST_CLOSURES, MOST_EVENTS, MOST_FLIGHTS,
-    MOST_OPEN_SECONDS, MOST_WAITING,
-};
 pub use objective::Objective;

@@ -1,7 +1,7 @@
 -- What a closure may be, and the answer to one that is added.
 use Rattle.std.specs.Prelude.{ℕ, ◌+◌, ◌<◌, ◌≤◌, List, nat_le, length, Result, Ok, Err, if◌then◌else◌}
 use Rattle.landing_rules.specs.Flights.{Span}
-use Rattle.landing_rules.specs.Limits.{most_closures}
+use Rattle.cps_base.specs.Limits.{most_closures}
 use Rattle.landing_rules.specs.Rules.{last_second}
 use Rattle.landing_windows.specs.declared.closures.ClosureFault.{ClosureFault}
 use Rattle.landing_windows.specs.declared.closures.ClosureFault.TheVariants.{Empty, TooMany}

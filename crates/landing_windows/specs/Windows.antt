@@ -3,7 +3,7 @@ use Rattle.std.specs.Prelude.{ℕ, zero, suc, List, [], ◌∷◌, Bool, false, 
 use Rattle.std.specs.Prelude.{slice_index_or, sum_by, Option, Some, None, Result, Ok, Err, if◌then◌else◌}
 use Rattle.std.specs.Option.{option_or}
 use Rattle.landing_rules.specs.Flights.{Span}
-use Rattle.landing_rules.specs.Limits.{most_open_seconds}
+use Rattle.cps_base.specs.Limits.{most_open_seconds}
 use Rattle.landing_rules.specs.Rules.{last_second}
 use Rattle.landing_windows.specs.declared.windows.WindowFault.{WindowFault}
 use Rattle.landing_windows.specs.declared.windows.WindowFault.TheVariants.{Empty, TooMany, Backward, Overlap, TooLong}

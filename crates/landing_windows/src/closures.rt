@@ -2,12 +2,12 @@ ghost use Rattle.std.specs.Prelude.{◌≡◌, [], ◌∷◌, ◌++◌, ◌+◌,
 ghost use Rattle.std.specs.Bool.{OnFalse};
 ghost use Rattle.std.specs.List.{list_any};
 ghost use Rattle.landing_rules.specs.Events.{same_span, without_first};
-ghost use Rattle.landing_rules.specs.Limits.{most_closures};
+ghost use Rattle.cps_base.specs.Limits.{most_closures};
 ghost use Rattle.landing_rules.specs.Rules.{last_second};
 ghost use Rattle.landing_windows.specs.Closed.{IsClosure, adding};
 
-use landing_rules::MOST_CLOSURES;
 use std::marker::Model;
+use cps_base::MOST_CLOSURES;
 
 /// Why a closure is not added.
 #[derive(Clone, Copy, Debug, PartialEq, Eq)]

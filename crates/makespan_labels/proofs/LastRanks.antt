@@ -2,6 +2,7 @@
 use Rattle.std.proofs.Common.{◌≡◌, ℕ, suc, ◌-◌, ◌%◌, ◌<◌, ◌≤◌, List, length, arith, ap, ◌∙◌}
 use Rattle.std.proofs.lemmas.Int.{ints}
 use Rattle.std.specs.Prelude.{ℤ, pos, ◌+ℤ◌, ◌≤ℤ◌, slice_index_or}
+use Rattle.cps_base.specs.Limits.{most_waiting}
 use Rattle.landing_rules.specs.Problem.{Problem}
 use Rattle.cps_nodes.specs.Leads.{Extends}
 use Rattle.cps_nodes.specs.Windows.{offset_at}
@@ -29,8 +30,8 @@ module _ (p : Problem) (w : ℕ) (before : ℕ × List (List ℤ)) (labels : Lis
   range = rank_range p w before.0 before.1 (node_at stage.1 i) from to sources
 
   -- its number can be told
-  pub in_range : length p.flights ≤ 60 → (pos 0 ≤ℤ (pos number +ℤ offset_at window (w - 1)))
-      × ((pos number +ℤ offset_at window (w - 1)) ≤ℤ pos 60)
+  pub in_range : length p.flights ≤ most_waiting → (pos 0 ≤ℤ (pos number +ℤ offset_at window (w - 1)))
+      × ((pos number +ℤ offset_at window (w - 1)) ≤ℤ pos most_waiting)
   in_range few =
       let low = range.0 in
       in_bytes window (node_at stage.1 i) number (suc before.0) (w - 1) (length p.flights) window_is stage_is few

@@ -54,7 +54,7 @@ pub(crate) fn fill_followers(problem: &Problem, number: u8, followers: &mut [Fol
     requires { All (IsFollower problem.now) followers.old }
     ensures { AreFollowers problem.now number followers.new }
 {
-    // k is at most 3, and at most 60 flights wait.
+    // k is at most 3, and at most `MOST_WAITING` flights wait.
     let k = problem.head().k;
     let first = number.saturating_sub(k).max(1);
     let end = number.saturating_add(k).min(problem.len()) + 1;

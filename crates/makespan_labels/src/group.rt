@@ -107,7 +107,7 @@ pub(crate) fn group_over<const W: usize>(
     ensures ready { IsReady labelling.now.problem.now W labelling.now.before.now
         labelling.now.labels.now result }
 {
-    // At most 60 flights wait, so the rank fits.
+    // At most `MOST_WAITING` flights wait, so the rank fits.
     let _few = labelling.problem.len();
     let leader = last_rank(&earlier[from], labelling.before.number());
     Group {

@@ -104,7 +104,7 @@ fn linked_label_of<const W: usize>(
     ensures label { IsLabelAt labelling.now.problem.now labelling.now.stage.now i result }
     ensures followers { AreFollowers labelling.now.problem.now number followers.new }
 {
-    // At most 60 flights wait, so the rank fits.
+    // At most `MOST_WAITING` flights wait, so the rank fits.
     let _few = labelling.problem.len();
     let rank = last_rank(window, number);
     label_behind_flight(labelling.problem, lead, &mut followers[follower_of(rank)])

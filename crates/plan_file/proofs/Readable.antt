@@ -6,7 +6,7 @@ use Rattle.std.proofs.lemmas.Grind.{common_steps}
 use Rattle.std.proofs.lemmas.List.{length-map}
 use Rattle.std.proofs.lemmas.List.Elements.{All-head, All-tail}
 use Rattle.std.proofs.lemmas.List.Sums.{sum_by-cons}
-use Rattle.landing_rules.specs.Limits.{greatest_value}
+use Rattle.cps_base.specs.Limits.{greatest_value, most_flights}
 use Rattle.landing_rules.specs.declared.objective.Objective.{Objective}
 use Rattle.landing_rules.specs.declared.objective.Objective.TheVariants.{Makespan, Delay}
 use Rattle.cps_base.specs.Text.{is_callsign}
@@ -20,7 +20,7 @@ use Rattle.plan_file.specs.Printed.{AreReadable, IsReadable}
 -- ---- landings of callsigns at seconds of the two days
 
 abbrev IsTold : Landing → Type 0
-IsTold f = (is_callsign f.flight.callsign ≡ true) × (f.second ≤ 172799)
+IsTold f = (is_callsign f.flight.callsign ≡ true) × (f.second ≤ last_second)
 
 abbrev AreTold : List Landing → Type 0
 AreTold [] = Unit {0}
@@ -82,14 +82,14 @@ few_landings (a ∷ rest) (x ∷ t) = let h = few_landings rest t in omega arith
 
 -- ---- the objective
 
-greatest_small : (all : List Landing) → InDays all → greatest (map (λ f. f.second) all) ≤ 172799
+greatest_small : (all : List Landing) → InDays all → greatest (map (λ f. f.second) all) ≤ last_second
 greatest_small [] d = omega arith
 greatest_small (f ∷ fs) d =
     let here : f.second ≤ last_second = All-head (λ (g : Landing). g.second ≤ last_second) f fs d in
     let more = greatest_small fs (All-tail (λ (g : Landing). g.second ≤ last_second) f fs d) in
     omega (arith, here, more)
 
-product_small : (w s : ℕ) → w ≤ 100 → s ≤ 172799 → w * s ≤ 17279900
+product_small : (w s : ℕ) → w ≤ 100 → s ≤ last_second → w * s ≤ 17279900
 product_small w s p q = grind (arith, common_steps)
 
 delays_small : (active : List Active) (t : Schedule) → AreGood active → InDays (landings active t)
@@ -106,7 +106,7 @@ delays_small (a ∷ rest) (x ∷ t) g d =
     omega (arith, one, more, sum_by-cons delay (landing a x) (landings rest t))
 
 cost_small : (o : Objective) (active : List Active) (t : Schedule) → AreGood active → InDays (landings active t)
-    → length active ≤ 500 → cost o (landings active t) ≤ greatest_value
+    → length active ≤ most_flights → cost o (landings active t) ≤ greatest_value
 cost_small Makespan active t g d few = let a = greatest_small (landings active t) d in omega (arith, a)
 cost_small Delay active t g d few = let a = delays_small active t g d in omega (arith, a, few)
 

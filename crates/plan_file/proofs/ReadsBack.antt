@@ -6,7 +6,8 @@ use Rattle.std.proofs.lemmas.Bool.{le-ltb}
 use Rattle.std.proofs.lemmas.List.Elements.{All-append, All-cons}
 use Rattle.cps_base.specs.Answers.{◌>>=◌}
 use Rattle.cps_base.specs.Text.{is_callsign}
-use Rattle.landing_rules.specs.Limits.{greatest_value}
+use Rattle.cps_base.specs.Limits.{greatest_value, most_flights}
+use Rattle.landing_rules.specs.Rules.{last_second}
 use Rattle.landing_rules.specs.declared.objective.Objective.{Objective}
 use Rattle.landing_rules.specs.declared.objective.Objective.TheVariants.{Makespan, Delay}
 use Rattle.landing_rules.specs.Text.{ShownLanding, ShownPlan, frozen_word, lines_text, head_words, landing_words}
@@ -58,7 +59,7 @@ head_reads Delay v h = ap head_by (word_fields (codes "delay") v (lacks_by 32 (c
 
 -- ---- a landing
 
-second_lacks : (t mark : ℕ) → t ≤ 172799 → mark < 48 → Lacks mark (decimal t)
+second_lacks : (t mark : ℕ) → t ≤ last_second → mark < 48 → Lacks mark (decimal t)
 second_lacks t mark h low = decimal_lacks t mark (omega arith) (inl low)
 
 abbrev mark_word : Bool → List ℕ
@@ -84,7 +85,7 @@ same_words f = ap (λ (t : List ℕ). codes "land " ++ t) (by f.frozen)
     by true = grind (arith, append_assoc)
     by false = grind (arith, append_assoc)
 
-landing_lacks : (f : ShownLanding) → is_callsign f.callsign ≡ true → f.second ≤ 172799 → Lacks 10 (landing_words f)
+landing_lacks : (f : ShownLanding) → is_callsign f.callsign ≡ true → f.second ≤ last_second → Lacks 10 (landing_words f)
 landing_lacks f c t =
     let test : ℕ → Type 0 = λ b. (b == 10) ≡ false in
     let behind : Lacks 10 (decimal f.second ++ 32 ∷ mark_word f.frozen) = All-append test (decimal f.second)
@@ -96,7 +97,7 @@ landing_lacks f c t =
     subst (λ (w : List ℕ). Lacks 10 w) (sym (same_words f))
     (All-append test (codes "land") (32 ∷ words) (lacks_by 10 (codes "land") refl) (All-cons test 32 words refl name))
 
-landing_fields : (f : ShownLanding) → is_callsign f.callsign ≡ true → f.second ≤ 172799
+landing_fields : (f : ShownLanding) → is_callsign f.callsign ≡ true → f.second ≤ last_second
     → parts 32 (told f) ≡ codes "land" ∷ f.callsign ∷ decimal f.second ∷ mark_word f.frozen ∷ []
 landing_fields f c t =
     let behind : List ℕ → Lines → Lines = λ x xs. x ∷ xs in
@@ -108,25 +109,25 @@ landing_fields f c t =
     (second_lacks f.second 32 t (omega arith)) refl
     ∙ ap (behind (decimal f.second)) (uncut 32 (mark_word f.frozen) (mark_lacks f.frozen))))
 
-from_parts : (f : ShownLanding) → is_callsign f.callsign ≡ true → f.second ≤ 172799
+from_parts : (f : ShownLanding) → is_callsign f.callsign ≡ true → f.second ≤ last_second
     → landing_from f.callsign (decimal f.second) (mark_word f.frozen) ≡ Some f
 unfolding landing_from
-from_parts f c t = rw (c, decimal_reads f.second 0 172799 (omega arith) (omega arith) t) (go f.frozen)
+from_parts f c t = rw (c, decimal_reads f.second 0 last_second (omega arith) (omega arith) t) (go f.frozen)
   where
     go : (b : Bool) → option_map (landing_with f.callsign f.second) (mark_in (mark_word b)) ≡ Some
         (landing_with f.callsign f.second b)
     go true = refl
     go false = refl
 
-pub landing_reads : (f : ShownLanding) → is_callsign f.callsign ≡ true → f.second ≤ 172799
+pub landing_reads : (f : ShownLanding) → is_callsign f.callsign ≡ true → f.second ≤ last_second
     → landing_in (landing_words f) ≡ Some f
 unfolding landing_in landing_by
 landing_reads f c t = ap landing_in (same_words f) ∙ ap landing_by (landing_fields f c t) ∙ from_parts f c t
 
-line_reads : (n : ℕ) (f : ShownLanding) → n ≤ 501 → is_callsign f.callsign ≡ true → f.second ≤ 172799
+line_reads : (n : ℕ) (f : ShownLanding) → n ≤ most_flights + 1 → is_callsign f.callsign ≡ true → f.second ≤ last_second
     → line_in n (landing_words f) ≡ Ok f
 unfolding line_in
-line_reads n f few c t = rw (le-ltb 501 n few, landing_reads f c t) refl
+line_reads n f few c t = rw (le-ltb (most_flights + 1) n few, landing_reads f c t) refl
 
 -- ---- all lines
 
@@ -165,7 +166,7 @@ unfolding plan_by
 not_nothing Makespan v rest = refl
 not_nothing Delay v rest = refl
 
-with_lines : (o : Objective) (v : ℕ) (ls : List ShownLanding) → AreReadable ls → length ls ≤ 500
+with_lines : (o : Objective) (v : ℕ) (ls : List ShownLanding) → AreReadable ls → length ls ≤ most_flights
     → plan_behind (Some (o, v)) (map landing_words ls ++ [] ∷ []) ≡ plan_with (o, v) ls
 with_lines o v [] h few =
     ap (λ (r : Result (List ShownLanding) PlanFault). r >>= plan_with (o, v)) (body_back 2 [] [] h (omega arith))

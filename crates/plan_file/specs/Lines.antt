@@ -1,7 +1,7 @@
 -- What one line of a plan file is.
 use Rattle.std.specs.Prelude.{ℕ, List, [], ◌∷◌, Bool, true, false, codes, bytes_eq, Option, Some, None}
 use Rattle.std.specs.Prelude.{option_and_then, option_map, if◌then◌else◌}
-use Rattle.landing_rules.specs.Limits.{greatest_value}
+use Rattle.cps_base.specs.Limits.{greatest_value}
 use Rattle.landing_rules.specs.Rules.{last_second}
 use Rattle.landing_rules.specs.declared.objective.Objective.{Objective}
 use Rattle.landing_rules.specs.declared.objective.Objective.TheVariants.{Makespan, Delay}

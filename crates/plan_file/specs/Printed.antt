@@ -1,7 +1,7 @@
 -- What is printed of a plan reads back as the plan.
 use Rattle.std.specs.Prelude.{◌≡◌, ◌≤◌, List, [], ◌∷◌, true, length, Some, None, Ok}
 use Rattle.cps_base.specs.Text.{is_callsign}
-use Rattle.landing_rules.specs.Limits.{greatest_value, most_flights}
+use Rattle.cps_base.specs.Limits.{greatest_value, most_flights}
 use Rattle.landing_rules.specs.Rules.{last_second}
 use Rattle.landing_rules.specs.declared.objective.Objective.{Objective}
 use Rattle.landing_rules.specs.Events.{State}

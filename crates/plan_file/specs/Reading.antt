@@ -2,7 +2,7 @@
 use Rattle.std.specs.Prelude.{◌≡◌, ℕ, ◌+◌, ◌≤◌, List, [], ◌∷◌, ◌++◌, ◌==◌, nat_lt, length, codes, bytes_eq, Option}
 use Rattle.std.specs.Prelude.{Some, None, Result, Ok, Err, if◌then◌else◌}
 use Rattle.cps_base.specs.Answers.{◌>>=◌}
-use Rattle.landing_rules.specs.Limits.{most_flights}
+use Rattle.cps_base.specs.Limits.{most_flights}
 use Rattle.landing_rules.specs.declared.objective.Objective.{Objective}
 use Rattle.landing_rules.specs.Text.{ShownLanding}
 use Rattle.plan_file.specs.declared.landing.Landing.{Landing}

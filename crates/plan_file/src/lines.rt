@@ -1,14 +1,14 @@
 // The lines of a plan file.
 ghost use Rattle.std.specs.Prelude.{◌≡◌, ◌≤◌, ◌+◌, IfOk, option_map};
-ghost use Rattle.landing_rules.specs.Limits.{most_flights};
+ghost use Rattle.cps_base.specs.Limits.{most_flights};
 ghost use Rattle.plan_file.specs.Shown.{shown_of};
 ghost use Rattle.plan_file.specs.Lines.{head_in, landing_from, landing_in, mark_in, objective_in};
 ghost use Rattle.plan_file.specs.Reading.{GivesLanding, line_in};
 
 use crate::landing::Landing;
 use crate::plan::PlanFault;
-use cps_base::Callsign;
-use landing_rules::{GREATEST_VALUE, MOST_FLIGHTS, Objective};
+use cps_base::{Callsign, GREATEST_VALUE, MOST_FLIGHTS};
+use landing_rules::Objective;
 use landing_windows::LAST_SECOND;
 use texts::{first_part, number_in};
 

@@ -1,7 +1,7 @@
 // The plan that a text is.
 ghost use Rattle.std.specs.Prelude.{◌≤◌, IfOk, length, map};
 ghost use Rattle.cps_base.specs.Answers.{Gives, GivesAs};
-ghost use Rattle.landing_rules.specs.Limits.{most_flights};
+ghost use Rattle.cps_base.specs.Limits.{most_flights};
 ghost use Rattle.plan_file.specs.Shown.{shown_of};
 ghost use Rattle.texts.specs.Parts.{parts};
 ghost use Rattle.plan_file.specs.Reading.{body_lines, memory_fault, nothing_behind, plan_of, HasFewLines};

@@ -10,7 +10,7 @@ use Rattle.std.proofs.lemmas.List.Sums.{sum_by-cons}
 use Rattle.landing_rules.specs.Events as rules
 use Rattle.landing_rules.specs.Events.{Refusal, Run, State, Step}
 use Rattle.landing_rules.specs.Flights.{Situation}
-use Rattle.landing_rules.specs.Limits.{greatest_value}
+use Rattle.cps_base.specs.Limits.{greatest_value}
 use Rattle.landing_rules.specs.Problem.{Problem}
 use Rattle.landing_rules.specs.Sound.{IsGoodEvent}
 use Rattle.landing_rules.specs.Text.{ShownPlan, plan_shown}

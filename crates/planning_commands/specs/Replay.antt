@@ -2,7 +2,7 @@
 use Rattle.std.specs.Prelude.{◌≡◌, ◌≤◌, ℕ, ◌+◌, Bool, List, ◌++◌, length, map, All, Some, None, Result, Ok, Err}
 use Rattle.landing_rules.specs.Events as rules
 use Rattle.landing_rules.specs.Events.{State, Answered, Run, IsOpeningState}
-use Rattle.landing_rules.specs.Limits.{most_events}
+use Rattle.cps_base.specs.Limits.{most_events}
 use Rattle.landing_rules.specs.Sound.{IsSoundState, IsGoodEvent}
 use Rattle.landing_rules.specs.Text.{replay_text}
 use Rattle.arrivals.specs.declared.aerodrome.Aerodrome.{Aerodrome}

@@ -1,5 +1,5 @@
 ghost use Rattle.std.specs.Prelude.{◌≡◌, ◌≤◌, All, map, vec_len, IfOk, MatchResult};
-ghost use Rattle.landing_rules.specs.Limits.{most_events};
+ghost use Rattle.cps_base.specs.Limits.{most_events};
 ghost use Rattle.arrivals.specs.Seen.{event_of, IsGood};
 ghost use Rattle.openings.specs.Plan.{IsPlannedAnew};
 ghost use Rattle.planning_commands.specs.Replay.{ending_of, FollowsReplay, IsBegun, StopsReplay};

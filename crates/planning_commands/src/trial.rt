@@ -1,5 +1,5 @@
 ghost use Rattle.std.specs.Prelude.{◌≡◌, ◌≤◌, [], length, MatchResult, IfOk};
-ghost use Rattle.landing_rules.specs.Limits.{most_waiting};
+ghost use Rattle.cps_base.specs.Limits.{most_waiting};
 ghost use Rattle.landing_rules.specs.Text.{plan_shown};
 ghost use Rattle.arrivals.specs.Aerodromes.{IsInRange};
 ghost use Rattle.arrivals.specs.Flights.{AreArrivals};
@@ -86,7 +86,7 @@ fn report_traffic<R: Threads + Sync, G: Gate + Sync>(
 pub struct TrialNumbers {
     /// The seed of its traffic.
     pub seed: u64,
-    /// How many flights it has, 1 to 60.
+    /// How many flights it has, 1 to `MOST_WAITING`.
     pub n: u8,
     /// The bound on shifts, 0 to 3.
     pub k: u8,

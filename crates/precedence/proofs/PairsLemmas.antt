@@ -10,6 +10,7 @@ use Rattle.std.proofs.lemmas.Bool.Decides.{nat_tests}
 use Rattle.std.proofs.lemmas.List.{get_or-set_same, get_or-set_other, length-set}
 use Rattle.std.proofs.lemmas.Nat.Bits.{bit_at_set_same, bit_at_set_other, bit_at_and, bit_at-lt, bit_at-zero}
 use Rattle.std.proofs.lemmas.Nat.Bits.{same_from_bits}
+use Rattle.cps_base.specs.Limits.{most_waiting}
 use Rattle.precedence.specs.Pairs.{HasBit, MustPrecede, ArePairs}
 
 -- a list of zeros has no pair
@@ -66,8 +67,8 @@ MustPrecede-added pairs first next within few i j =
           )
     ]
 
-pub ArePairs-added : (pairs : List ℕ) (first next : ℕ) → ArePairs pairs → 1 ≤ first → first ≤ 60
-    → 1 ≤ next → next ≤ 60 → ArePairs (added pairs first next)
+pub ArePairs-added : (pairs : List ℕ) (first next : ℕ) → ArePairs pairs → 1 ≤ first → first ≤ most_waiting
+    → 1 ≤ next → next ≤ most_waiting → ArePairs (added pairs first next)
 ArePairs-added pairs first next is a b c d = record {
   len = length-set pairs next _ ∙ is.len;
   in_range = λ i j h. elim ((MustPrecede-added pairs first next (omega (arith, is.len)) (omega arith) i j).0 h) [

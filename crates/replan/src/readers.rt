@@ -1,6 +1,7 @@
 //! What is read of the stages that are held.
 
 ghost use Rattle.std.specs.Prelude.{◌≡◌, ◌<◌, ◌≤◌, length, IfOk, MatchOption, Some, ⊤};
+ghost use Rattle.cps_base.specs.Limits.{most_waiting};
 ghost use Rattle.landing_rules.specs.Problem.{Problem};
 ghost use Rattle.landing_rules.specs.Rules.{last_second};
 ghost use Rattle.cps_network.specs.Nodes.{latest};
@@ -21,7 +22,7 @@ impl<const W: usize> Kept<W> {
     // The number of the last stage.
     fn stages(&self) -> u8
         ensures value { result ≡ stages_in self.now }
-        ensures few { result ≤ 60 }
+        ensures few { result ≤ most_waiting }
         ensures held { MatchOption self.now ⊤ (IsHeld W) }
     {
         match &self.held {
@@ -54,7 +55,7 @@ impl<const W: usize> Kept<W> {
         match &self.held {
             None => Node { placed: 0, last: 0 },
             Some(held) => {
-                // At most 60 flights wait, so that the stage is one up to 60.
+                // At most `MOST_WAITING` flights wait, so that the stage is one up to `MOST_WAITING`.
                 let _few = held.problem.len();
                 let labelled = &held.stages[stage as usize];
                 placed_node(&labelled.stage.node(i), stage)
@@ -108,7 +109,7 @@ impl<const W: usize> Kept<W> {
         match &self.held {
             None => unreachable!(),
             Some(held) => {
-                // At most 60 flights wait, so that the stage is one up to 60.
+                // At most `MOST_WAITING` flights wait, so that the stage is one up to `MOST_WAITING`.
                 let _few = held.problem.len();
                 let labelled = &held.stages[stage as usize];
                 if former.stage() == 0 {
@@ -137,7 +138,7 @@ impl<const W: usize> Kept<W> {
         match &self.held {
             None => unreachable!(),
             Some(held) => {
-                // At most 60 flights wait, so that the stage is one up to 60.
+                // At most `MOST_WAITING` flights wait, so that the stage is one up to `MOST_WAITING`.
                 let _few = held.problem.len();
                 let labelled = &held.stages[stage as usize];
                 let least = least_pairs(alloc, &labelled.labels, nodes)?;
@@ -152,7 +153,7 @@ impl AnyKept {
     /// held. The stages that may be read are 1 to this number.
     pub fn stages(&self) -> u8
         ensures value { result ≡ stages_in (held_of self.now) }
-        ensures few { result ≤ 60 }
+        ensures few { result ≤ most_waiting }
 
         // Of the problem that it holds these are the landable windows, none twice, with their undominated pairs.
         ensures held { (p : Problem) → problem_held self.now ≡ Some p

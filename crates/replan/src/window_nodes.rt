@@ -1,6 +1,7 @@
 //! The windows of a stage, put together by node.
 
 ghost use Rattle.std.specs.Prelude.{◌≡◌, ◌/◌, ◌<◌, ◌≤◌, ◌↔◌, [], length, IfOk, IsTrue};
+ghost use Rattle.cps_base.specs.Limits.{most_waiting};
 ghost use Rattle.replan.specs.WindowNodes.{ArePutTogether, AreSame, IsKeptOrPut, IsNew, IsSeenAt, renumbered};
 
 use cps_network::{Node, Stage, placed_node};
@@ -110,7 +111,7 @@ const HINTS: usize = 512;
 
 // Where the place of a node is noted. Only speed rests on it: the nodes of a stage mostly differ in it.
 fn hint_of(node: Node, stage: u8) -> usize
-    requires { stage ≤ 60 }
+    requires { stage ≤ most_waiting }
     ensures { result < HINTS }
 {
     let pattern = (node.placed >> stage.saturating_sub(2)) % 64;
@@ -164,7 +165,7 @@ pub(crate) fn together<const W: usize>(
     alloc: Global,
     stage: &Stage<W>,
 ) -> Result<WindowNodes, AllocError>
-    requires { stage.now.0 ≤ 60 }
+    requires { stage.now.0 ≤ most_waiting }
     ensures stage { IfOk result (λ n. n.stage ≡ stage.now.0) }
     ensures together { IfOk result (λ n. ArePutTogether stage.now.0 stage.now.1
         (length stage.now.1) n.places n.firsts) }
@@ -206,7 +207,7 @@ pub(crate) fn together_again<const W: usize>(
     other: &Stage<W>,
     former: &WindowNodes,
 ) -> Result<WindowNodes, AllocError>
-    requires stage { stage.now.0 ≤ 60 }
+    requires stage { stage.now.0 ≤ most_waiting }
     requires former { ArePutTogether other.now.0 other.now.1 (length other.now.1)
         former.now.places former.now.firsts }
     ensures stage { IfOk result (λ n. n.stage ≡ stage.now.0) }

@@ -1,5 +1,5 @@
 ghost use Rattle.std.specs.Prelude.{◌≡◌, ◌≤◌, ◌<◌, ◌^◌, All, Some, None, MatchOption, MatchResult, is_some, length, map, ⊤};
-ghost use Rattle.landing_rules.specs.Limits.{most_events};
+ghost use Rattle.cps_base.specs.Limits.{most_events};
 ghost use Rattle.landing_rules.specs.Sound.{IsGoodEvent};
 ghost use Rattle.cps_network.specs.Due.{IsDue};
 ghost use Rattle.arrivals.specs.Seen.{event_of, IsGood};

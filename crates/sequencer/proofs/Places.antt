@@ -5,6 +5,7 @@ use Rattle.std.specs.Prelude.{All, is_none, is_some, slice_get}
 use Rattle.std.proofs.lemmas.Bool.{false≢true}
 use Rattle.std.proofs.lemmas.List.{append-nil, take_more, length-map}
 use Rattle.std.proofs.lemmas.List.Elements.{All-head, All-tail, filter-append}
+use Rattle.cps_base.specs.Limits.{most_waiting}
 use Rattle.landing_rules.specs.Flights.{Active, Situation, is_waiting, waiting}
 use Rattle.landing_rules.specs.Problem.{by_rank}
 use Rattle.landing_rules.specs.Sound.{IsSound}
@@ -36,7 +37,7 @@ places_at flights place flight (p ∷ ps) all =
     (places_at flights place flight ps (All-tail (λ p. IsAt flights (place p) (flight p)) p ps all))
 
 pub few_ranked : {X : Type 0} (s : Situation) (flight : X → Active) (ranked : List X) → IsSound s
-    → map flight ranked ≡ by_rank (waiting s) → length ranked ≤ 60
+    → map flight ranked ≡ by_rank (waiting s) → length ranked ≤ most_waiting
 few_ranked s flight ranked sound is =
     let a = length-map ranked flight in
     let b = ap (length {A = Active}) is in

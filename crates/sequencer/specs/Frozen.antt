@@ -3,7 +3,7 @@ use Rattle.std.specs.Prelude.{◌≡◌, ℕ, ◌*◌, ◌≤◌, true, List, []
 use Rattle.std.specs.Prelude.{Some, None, MatchOption, ⊤, nat_lt, if◌then◌else◌}
 use Rattle.wake_table.specs.declared.category.Category.{Category}
 use Rattle.landing_rules.specs.Flights.{Active, Landing, Situation, landing}
-use Rattle.landing_rules.specs.Limits.{greatest_weight}
+use Rattle.cps_base.specs.Limits.{greatest_weight}
 use Rattle.landing_rules.specs.Rules.{delay, last_second}
 use Rattle.landing_rules.specs.Events.{frozen_landings, in_landing_order}
 use Rattle.landing_rules.specs.Text.{ShownLanding, ShownPlan, shown_landing}

@@ -2,7 +2,7 @@
 ghost use Rattle.std.specs.Prelude.{◌≡◌, ◌≤◌, All, Option, Some, length, map, option_map, sum_by};
 ghost use Rattle.std.specs.Option.{ForSome};
 ghost use Rattle.wake_table.specs.declared.category.Category.{Category};
-ghost use Rattle.landing_rules.specs.Limits.{most_flights};
+ghost use Rattle.cps_base.specs.Limits.{most_flights};
 ghost use Rattle.landing_rules.specs.Events.{frozen_landings, in_landing_order};
 ghost use Rattle.landing_rules.specs.Problem.{last_of};
 ghost use Rattle.landing_rules.specs.Sound.{IsSound};

@@ -1,7 +1,7 @@
 // Which ranks must land before which.
 ghost use Rattle.std.specs.Prelude.{◌≡◌, ℕ, ◌≤◌, ◌↔◌, ◌⊎◌, length, map};
 ghost use Rattle.precedence.specs.Pairs.{MustPrecede};
-ghost use Rattle.landing_rules.specs.Limits.{most_waiting};
+ghost use Rattle.cps_base.specs.Limits.{most_waiting};
 ghost use Rattle.sequencer.specs.Predecessors.{IsListed};
 
 use precedence::Pairs;

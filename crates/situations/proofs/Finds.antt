@@ -5,6 +5,7 @@ use Rattle.std.specs.Prelude.{find, filter_map, option_map, is_some, nat_lt, nat
 use Rattle.std.specs.Prelude.{if◌then◌else◌}
 use Rattle.std.proofs.lemmas.Bool.{ltb-true, ltb-false, le-leb, leb-true}
 use Rattle.std.specs.List.{cons_option}
+use Rattle.cps_base.specs.Limits.{most_closures}
 use Rattle.landing_rules.specs.Flights.{Active, Landing, Callsign, Span, landing}
 use Rattle.landing_rules.specs.Rules.{lists, is_shut}
 use Rattle.landing_rules.specs.Events.{Refusal, CoversFrozen, TooManyClosures, in_landing_order, insert_landing}
@@ -182,10 +183,10 @@ covered span (x ∷ xs) = go x.frozen (covered span xs)
 
 abbrev pub CoversAnswer : Option (Callsign × ℕ) → ℕ → Option Refusal
 CoversAnswer found n = if is_some found then option_map (λ g. CoversFrozen g.0 g.1) found
-    else (if nat_le 32 n then Some TooManyClosures else None)
+    else (if nat_le most_closures n then Some TooManyClosures else None)
 
 pub covers-same : (o : Option Landing) (n : ℕ) → CoversAnswer (option_map named_second o) n ≡
     (if is_some o then option_map (λ (g : Landing). CoversFrozen g.flight.callsign g.second) o
-    else (if nat_le 32 n then Some TooManyClosures else None))
+    else (if nat_le most_closures n then Some TooManyClosures else None))
 covers-same None n = refl
 covers-same (Some g) n = refl

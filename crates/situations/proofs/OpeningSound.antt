@@ -8,6 +8,7 @@ use Rattle.std.specs.Option.{option_or}
 use Rattle.std.specs.Str.{bytes_eq}
 use Rattle.std.proofs.lemmas.Bool.{leb-true, leb-false, le-leb, and_parts, false≢true, true≢false}
 use Rattle.std.proofs.lemmas.List.{length-map}
+use Rattle.cps_base.specs.Limits.{most_waiting}
 use Rattle.landing_rules.specs.shared.Counting.{Member}
 use Rattle.landing_rules.specs.shared.Members.{all_at, all_from, in_filter, in_map, filter_map_in, in_frozen}
 use Rattle.landing_rules.specs.shared.Members.{none_found, none_any, fewer_kept}
@@ -144,12 +145,12 @@ module _ (a : Aerodrome) (fs : List files.Flight) (kept : AreKept a fs) (can : C
   by_rule : rule_fault a s.active all ≡ None
   by_rule = (or_none (name_fault a s.active) (rule_fault a s.active all) none).1
 
-  few_wait : length (waiting s) ≤ 60
+  few_wait : length (waiting s) ≤ most_waiting
   few_wait =
       let unknown = (or_none (first_from (unknown_frozen_at s.active) 1 a.frozen)
       (option_or (first_from (unknown_passed_at s.active) 1 a.passed) (too_many_waiting s.active)) by_name).1 in
       let wait = (or_none (first_from (unknown_passed_at s.active) 1 a.passed) (too_many_waiting s.active) unknown).1 in
-      leb-true (length (waiting s)) 60 (unless_none (leb (length (waiting s)) 60)
+      leb-true (length (waiting s)) most_waiting (unless_none (leb (length (waiting s)) most_waiting)
       (fault.TooManyWaiting (length (waiting s))) wait)
 
   no_closed : first_from (closed_at a.closures) 1 all ≡ None
@@ -341,10 +342,10 @@ plain_opening a fs no_frozen no_passed few =
     let active = (opened a fs).active in
     let n : length active ≡ length fs = length-map (map flight_of fs) (opening_flight (opening_of a))
     ∙ length-map fs flight_of in
-    let wait : length (filter is_waiting active) ≤ 60 = omega (arith, fewer_kept is_waiting active) in
+    let wait : length (filter is_waiting active) ≤ most_waiting = omega (arith, fewer_kept is_waiting active) in
     let enough : too_many_waiting active ≡ None =
     ap (λ b. unless b (fault.TooManyWaiting (length (filter is_waiting active))))
-    (le-leb (length (filter is_waiting active)) 60 wait) in
+    (le-leb (length (filter is_waiting active)) most_waiting wait) in
     let names : name_fault a active ≡ None =
     ap₂ (λ f p. option_or (first_from (unknown_frozen_at active) 1 f)
     (option_or (first_from (unknown_passed_at active) 1 p) (too_many_waiting active))) no_frozen no_passed ∙ enough in

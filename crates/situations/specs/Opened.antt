@@ -2,7 +2,7 @@
 use Rattle.std.specs.Prelude.{◌≢◌, ◌≤◌, ℕ, List, length, map, All, AllPairs, IsTrue}
 use Rattle.cps_base.specs.Text.{is_callsign}
 use Rattle.landing_rules.specs.Flights.{Active, Aerodrome, Callsign, Flight, Situation}
-use Rattle.landing_rules.specs.Limits.{greatest_weight, most_flights}
+use Rattle.cps_base.specs.Limits.{greatest_weight, most_flights}
 use Rattle.landing_rules.specs.Rules.{last_second}
 use Rattle.landing_rules.specs.Sound.{AreGoodWindows}
 use Rattle.landing_rules.specs.Events.{Opening, newcomer, opening_situation}

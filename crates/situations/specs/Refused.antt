@@ -5,7 +5,7 @@ use Rattle.std.specs.Option.{option_or}
 use Rattle.std.specs.List.{list_any}
 use Rattle.wake_table.specs.Table.{IsWakeTable}
 use Rattle.landing_rules.specs.Flights.{Callsign, Span, Active, Landing, landing, is_waiting}
-use Rattle.landing_rules.specs.Limits.{most_closures, most_waiting}
+use Rattle.cps_base.specs.Limits.{most_closures, most_waiting}
 use Rattle.landing_rules.specs.Rules.{is_open}
 use Rattle.landing_rules.specs.Events.{named}
 use Rattle.landing_rules.specs.Audit.{are_apart}
@@ -43,7 +43,7 @@ is_waiting_there active c = list_any (λ a. named c a && is_waiting a) active
 abbrev pub unknown_passed_at : List Active → ℕ → PassedCount → Option OpeningFault
 unknown_passed_at active i entry = unless (is_waiting_there active entry.callsign) (fault.UnknownPassed i)
 
--- at most 60 flights are not frozen
+-- as many flights as may wait are not frozen, or fewer
 abbrev pub too_many_waiting : List Active → Option OpeningFault
 too_many_waiting active =
     unless (nat_le (length (filter is_waiting active)) most_waiting)
@@ -107,7 +107,7 @@ opening_fault a fs = fault_of a (opened a fs).active
 abbrev pub IsOpenable : aerodromes.Aerodrome → List files.Flight → Type 0
 IsOpenable a fs = CanOpen a fs × (opening_fault a fs ≡ None)
 
--- files without entries open where at most 60 flights are there
+-- files without entries open where no more flights are there than may wait
 abbrev pub PlainLaw : Type 0
 PlainLaw = (a : aerodromes.Aerodrome) (fs : List files.Flight) → a.frozen ≡ [] → a.passed ≡ []
     → length fs ≤ most_waiting → opening_fault a fs ≡ None

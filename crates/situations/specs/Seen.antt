@@ -2,7 +2,7 @@
 use Rattle.std.specs.Prelude.{◌≡◌, ◌≢◌, ◌≤◌, ℕ, List, Option, AllPairs, map, ⊤, MatchOption}
 use Rattle.indexmap.specs.IndexMap.{IndexMap, keys, values}
 use Rattle.landing_rules.specs.Flights as rules
-use Rattle.landing_rules.specs.Limits.{longest_freeze}
+use Rattle.cps_base.specs.Limits.{longest_freeze}
 use Rattle.landing_rules.specs.Rules.{last_second}
 use Rattle.situations.specs.declared.situation.Fixed.{Fixed}
 use Rattle.situations.specs.declared.situation.Situation.TheInside.{Inside}

@@ -1,6 +1,6 @@
 // The frozen landings that an aerodrome file gives, and the rules over them.
 ghost use Rattle.std.specs.Prelude.{◌≡◌, ◌+◌, ◌≤◌, drop, length, find};
-ghost use Rattle.landing_rules.specs.Limits.{most_flights};
+ghost use Rattle.cps_base.specs.Limits.{most_flights};
 ghost use Rattle.landing_rules.specs.Rules.{is_open};
 ghost use Rattle.situations.specs.Refused.{first_from, closed_at, clash_at, clash_from, is_not_before, lands_late, late_at, rule_fault};
 

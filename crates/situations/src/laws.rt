@@ -7,7 +7,7 @@ pub fn opening_is_sound()
     ensures { OpeningLaw }
 {}
 
-/// An aerodrome without frozen landings and counts, and at most 60 flights, have no opening fault.
+/// An aerodrome without frozen landings and counts, and at most `MOST_WAITING` flights, have no opening fault.
 pub fn plain_files_open()
     ensures { PlainLaw }
 {}

@@ -1,7 +1,7 @@
 // Why an aerodrome and its flights open no situation.
 ghost use Rattle.std.specs.Prelude.{◌≡◌, ◌+◌, ◌≤◌, IfOk, length, filter};
 ghost use Rattle.landing_rules.specs.Flights.{is_waiting};
-ghost use Rattle.landing_rules.specs.Limits.{most_flights, most_waiting};
+ghost use Rattle.cps_base.specs.Limits.{most_flights, most_waiting};
 ghost use Rattle.arrivals.specs.Aerodromes.{IsInRange};
 ghost use Rattle.situations.specs.Opened.{CanOpen};
 ghost use Rattle.situations.specs.Refused.{unknown_frozen_at, unknown_passed_at, is_waiting_there, too_many_waiting, name_fault, first_from, given_landing, given, fault_of, opening_fault};
@@ -9,8 +9,7 @@ ghost use Rattle.situations.specs.Refused.{unknown_frozen_at, unknown_passed_at,
 use crate::given::{Given, rule_fault};
 use crate::{Active, Situation};
 use arrivals::{Aerodrome, Flight, FrozenLanding, FrozenList, PassedList};
-use cps_base::Callsign;
-use landing_rules::MOST_WAITING;
+use cps_base::{Callsign, MOST_WAITING};
 use std::alloc::{AllocError, Global};
 
 /// Why an aerodrome file and its flights open no situation. Entries count from 1.
@@ -20,7 +19,7 @@ pub enum OpeningFault {
     UnknownFrozen(u16),
     /// This entry of `passed` names no waiting flight of the file.
     UnknownPassed(u8),
-    /// So many flights are not frozen, which is more than 60.
+    /// So many flights are not frozen, which is more than `MOST_WAITING`.
     TooManyWaiting(u32),
     /// The second of this entry of `frozen` is not open for its flight.
     FrozenClosed(u16),

@@ -12,7 +12,7 @@ pub enum Refusal {
     Duplicate(Callsign),
     /// A new flight while 500 flights are active.
     TooManyFlights,
-    /// A new flight while 60 flights wait.
+    /// A new flight while as many flights wait as may.
     TooManyWaiting,
     /// A new flight that a frozen flight lists: the first such frozen flight in order of arrival.
     PredecessorOfFrozen(Callsign),

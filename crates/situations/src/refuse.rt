@@ -2,7 +2,7 @@
 ghost use Rattle.std.specs.Prelude.{◌≡◌, ◌&&◌, Option, Some, None, length, find, is_some, nat_le, option_map, if◌then◌else◌};
 ghost use Rattle.std.specs.List.{list_any};
 ghost use Rattle.landing_rules.specs.Flights.{waiting};
-ghost use Rattle.landing_rules.specs.Limits.{most_closures, most_flights, most_waiting};
+ghost use Rattle.cps_base.specs.Limits.{most_closures, most_flights, most_waiting};
 ghost use Rattle.landing_rules.specs.Rules.{lists};
 ghost use Rattle.landing_rules.specs.Events.{named, same_span, unknown_or_frozen, clock_back, refusal, Add, Close};
 ghost use Rattle.landing_rules.specs.Events as events;
@@ -13,8 +13,7 @@ ghost use Rattle.situations.specs.Finds.{first_frozen_listing, earliest_covered,
 use crate::opening_refusal::count_waiting;
 use crate::{Active, Refusal, Situation};
 use arrivals::{Event, Flight};
-use cps_base::Callsign;
-use landing_rules::{MOST_CLOSURES, MOST_FLIGHTS, MOST_WAITING};
+use cps_base::{Callsign, MOST_CLOSURES, MOST_FLIGHTS, MOST_WAITING};
 
 // The refusal of a frozen flight.
 fn frozen_refusal(active: &Active) -> Option<Refusal>

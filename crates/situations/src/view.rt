@@ -1,6 +1,6 @@
 ghost use Rattle.std.specs.Prelude.{◌≡◌, ◌≤◌, ⊤, MatchOption};
 ghost use Rattle.landing_rules.specs.Flights.{horizon};
-ghost use Rattle.landing_rules.specs.Limits.{longest_freeze};
+ghost use Rattle.cps_base.specs.Limits.{longest_freeze};
 ghost use Rattle.landing_rules.specs.Rules.{last_second};
 ghost use Rattle.situations.specs.Seen.{fixed_of, situation_of};
 

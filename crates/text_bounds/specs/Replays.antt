@@ -1,6 +1,6 @@
 -- How many bytes the text of a run has at most.
 use Rattle.std.specs.Prelude.{⊤, ℕ, ◌+◌, ◌*◌, ◌≤◌, min, List, All, Option, Some, None, length}
-use Rattle.landing_rules.specs.Limits.{most_events, most_flights}
+use Rattle.cps_base.specs.Limits.{most_events, most_flights}
 use Rattle.landing_rules.specs.Rules.{last_second}
 use Rattle.landing_rules.specs.Events.{Add, Answered, Cancel, Clock, Close, Estimate, Event, Reopen, Run, State}
 use Rattle.landing_rules.specs.Sound.{IsGoodEvent, IsSoundState}

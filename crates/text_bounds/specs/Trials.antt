@@ -1,7 +1,7 @@
 -- How many bytes the summary of a trial and the outcomes of trials have at most.
 use Rattle.std.specs.Prelude.{ℕ, ◌+◌, ◌*◌, ◌<◌, ◌≤◌, Option, MatchOption, ⊤, length}
 use Rattle.landing_rules.specs.declared.objective.Objective.{Objective}
-use Rattle.landing_rules.specs.Limits.{greatest_value}
+use Rattle.cps_base.specs.Limits.{greatest_value}
 use Rattle.landing_rules.specs.Text.{ShownPlan}
 use Rattle.plan_text.specs.Trial.{trial_text}
 

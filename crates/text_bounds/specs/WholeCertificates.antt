@@ -3,7 +3,7 @@ use Rattle.std.specs.Prelude.{ℕ, zero, suc, ◌*◌, ◌<◌, ◌≤◌, lengt
 use Rattle.landing_rules.specs.declared.objective.Objective.{Objective}
 use Rattle.landing_rules.specs.declared.objective.Objective.TheVariants.{Makespan, Delay}
 use Rattle.landing_rules.specs.Flights.{Situation}
-use Rattle.landing_rules.specs.Limits.{most_open_seconds, most_waiting}
+use Rattle.cps_base.specs.Limits.{most_open_seconds, most_waiting}
 use Rattle.landing_rules.specs.Problem.{IsProblemOf, Problem}
 use Rattle.landing_rules.specs.Sound.{IsSound}
 use Rattle.cps_problem.specs.WellFormed.{IsWellFormed}

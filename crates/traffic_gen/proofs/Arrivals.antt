@@ -6,6 +6,8 @@ use Rattle.std.proofs.lemmas.List.Elements.{All-nil, All-cons}
 use Rattle.std.proofs.lemmas.List.Kept.{AllPairs-cons}
 use Rattle.arrivals.specs.declared.flight.Flight.{Flight}
 use Rattle.arrivals.specs.Flights.{AreOthers, IsArrival, AreArrivals}
+use Rattle.cps_base.specs.Limits.{most_waiting}
+use Rattle.landing_rules.specs.Rules.{last_second}
 use Rattle.traffic_gen.specs.Draws.{next, drawn}
 use Rattle.traffic_gen.specs.Flights.{callsign, flight, flights_from, after_three}
 
@@ -22,7 +24,7 @@ drawn_below most x h = omega arith
 no_others : (own : List ℕ) → AreOthers own []
 no_others own = record { other = λ k d h. absurd (omega arith); once = λ i j d h g. absurd (omega arith) }
 
-of_file : (number before x : ℕ) → before + 119 ≤ 172799 → IsArrival (flight number before x)
+of_file : (number before x : ℕ) → before + 119 ≤ last_second → IsArrival (flight number before x)
 unfolding flight
 of_file number before x h = record {
   eta = let less = drawn_below 60 (next x) (omega arith) in omega arith;
@@ -30,7 +32,7 @@ of_file number before x h = record {
   after = no_others (callsign number);
 }
 
-all_of_file : (n number before x : ℕ) → before + 119 * n ≤ 172799 → All IsArrival (flights_from n number before x)
+all_of_file : (n number before x : ℕ) → before + 119 * n ≤ last_second → All IsArrival (flights_from n number before x)
 unfolding flights_from
 all_of_file zero number before x h = All-nil IsArrival
 all_of_file (suc n) number before x h =
@@ -85,7 +87,7 @@ one_more made all k n number before x h e =
     append_assoc made (flight number before x ∷ [])
     (flights_from n (number + 1) (before + 60 + drawn 60 (next x)) (after_three x)) ∙ whole
 
-pub can_be_read : (n seed : ℕ) → n ≤ 60 → AreArrivals (flights_from n 1 3600 seed)
+pub can_be_read : (n seed : ℕ) → n ≤ most_waiting → AreArrivals (flights_from n 1 3600 seed)
 can_be_read n seed h = record {
   few = let so_many = flights_length n 1 3600 seed in omega arith;
   flights = all_of_file n 1 3600 seed (omega arith);

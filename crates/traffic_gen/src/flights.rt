@@ -1,6 +1,6 @@
 // The flights that a state makes.
 ghost use Rattle.std.specs.Prelude.{◌≡◌, ◌+◌, ◌<◌, ◌≤◌, IfOk};
-ghost use Rattle.landing_rules.specs.Limits.{most_waiting};
+ghost use Rattle.cps_base.specs.Limits.{most_waiting};
 ghost use Rattle.traffic_gen.specs.Draws.{next, drawn};
 ghost use Rattle.traffic_gen.specs.Flights.{callsign, category_at, window_from, flight, flights_from};
 

@@ -1,6 +1,7 @@
 -- Each flight that a state makes lands 120 seconds later after its estimate than the one before it.
 use Rattle.std.proofs.Common.{◌≡◌, ℕ, zero, suc, ◌+◌, ◌-◌, ◌*◌, ◌<◌, ◌≤◌, inl, inr, List, [], ◌∷◌, length, map, refl}
 use Rattle.std.proofs.Common.{sym, ap, subst, ◌∙◌, arith}
+use Rattle.cps_base.specs.Limits.{most_waiting}
 use Rattle.landing_rules.specs.Events.{Opening, opening_flight}
 use Rattle.landing_rules.specs.Flights.{Active, Landing, Schedule, landing, landings}
 use Rattle.landing_rules.specs.shared.Counting.{Member}
@@ -55,7 +56,7 @@ module _ (k : ℕ) where
   unfolding flight
   first_eta number before x = refl
 
-  first_easy : (number before x : ℕ) → number ≤ 60 → before ≤ 20000 → IsEasy (first number before x)
+  first_easy : (number before x : ℕ) → number ≤ most_waiting → before ≤ 20000 → IsEasy (first number before x)
   unfolding flight
   first_easy number before x few early =
       let below = drawn_below 60 (next x) (omega arith) in
@@ -69,7 +70,7 @@ module _ (k : ℕ) where
         days = omega (arith, few, early, below);
       }
 
-  all_easy : (n number before x : ℕ) → number + n ≤ 61 → before + 119 * n ≤ 20000 → (f : Landing)
+  all_easy : (n number before x : ℕ) → number + n ≤ most_waiting + 1 → before + 119 * n ≤ 20000 → (f : Landing)
       → Member f (landed n number before x) → IsEasy f
   unfolding flights_from
   all_easy zero number before x few early f i = absurd i

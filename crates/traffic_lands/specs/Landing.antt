@@ -2,7 +2,7 @@
 use Rattle.std.specs.Prelude.{ℕ, ◌≤◌, IsSome, map}
 use Rattle.landing_rules.specs.Events.{State, IsOpeningState}
 use Rattle.landing_rules.specs.Flights.{Schedule}
-use Rattle.landing_rules.specs.Limits.{most_waiting}
+use Rattle.cps_base.specs.Limits.{most_waiting}
 use Rattle.landing_rules.specs.Rules.{IsFeasible}
 use Rattle.arrivals.specs.Seen.{flight_of}
 use Rattle.situations.specs.Opened.{opened, opening_of}

@@ -3,6 +3,7 @@ use Rattle.std.proofs.Common.{◌≡◌, ℕ, suc, ◌+◌, ◌<◌, ◌≤◌, 
 use Rattle.std.proofs.Common.{true, false, refl, ap, ◌∙◌, arith}
 use Rattle.std.specs.Prelude.{MatchOption, is_some, option_map, nat_le, find, if◌then◌else◌}
 use Rattle.std.specs.List.{AllZip}
+use Rattle.cps_base.specs.Limits.{most_closures}
 use Rattle.landing_rules.specs.Flights.{Situation, Schedule, Span, Landing}
 use Rattle.landing_rules.specs.Rules.{IsFeasible, IsBest, objective, is_shut}
 use Rattle.landing_rules.specs.Events as rules
@@ -43,7 +44,7 @@ outcomes_are a fs trials (base ∷ rest) e h = (
 pub event_accepted : (s : Situation) (span : Span) → closure_refusal (rules.refusal s (rules.Close span)) ≡ None
     → rules.refusal s (rules.Close span) ≡ None
 event_accepted s span e = go (find (λ g. is_shut g.second span) (rules.in_landing_order (rules.frozen_landings s)))
-    (nat_le 32 (length s.closures)) e
+    (nat_le most_closures (length s.closures)) e
   where
     go : (covered : Option Landing) (full : Bool)
         → closure_refusal (if is_some covered

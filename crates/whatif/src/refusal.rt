@@ -1,7 +1,7 @@
 // Why a trial is not planned.
 ghost use Rattle.std.specs.Prelude.{◌≡◌, ◌≤◌, length};
 ghost use Rattle.landing_rules.specs.Events as rules;
-ghost use Rattle.landing_rules.specs.Limits.{most_waiting};
+ghost use Rattle.cps_base.specs.Limits.{most_waiting};
 ghost use Rattle.situations.specs.Answers.{refusal_of};
 ghost use Rattle.whatif.specs.Outcomes.{first_above, shift_refusal, closure_refusal};
 

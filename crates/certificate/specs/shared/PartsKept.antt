@@ -5,9 +5,10 @@ use Rattle.std.proofs.Math.Nat.{pow-succ'}
 use Rattle.cps_base.specs.Text.{is_callsign}
 use Rattle.certificate.specs.Patterns.{is_pattern_length, number_of}
 use Rattle.certificate.specs.Reading.{AreLandings}
+use Rattle.landing_rules.specs.Rules.{last_second}
 
 pub landings_more : (ls : List (List ℕ × ℕ)) (l : List ℕ × ℕ) → AreLandings ls → is_callsign l.0 ≡ true
-    → l.1 ≤ 172799 → AreLandings (ls ++ l ∷ [])
+    → l.1 ≤ last_second → AreLandings (ls ++ l ∷ [])
 landings_more [] l h p q = (p, q, tt)
 landings_more (x ∷ xs) l h p q = (h.0, h.1, landings_more xs l h.2 p q)
 

@@ -6,6 +6,7 @@ use Rattle.std.proofs.lemmas.Int.{ints}
 use Rattle.std.proofs.lemmas.List.{get_or_default}
 use Rattle.std.proofs.lemmas.List.Elements.{Contains-get_or}
 use Rattle.std.proofs.lemmas.Bool.{cases_eq}
+use Rattle.cps_base.specs.Limits.{most_waiting}
 use Rattle.cps_nodes.specs.Windows.{IsWindow, offset_at, shifted}
 use Rattle.cps_nodes.specs.Leads.{Extends, TailMeetsHead}
 use Rattle.cps_nodes.specs.Laws.{FollowRanks, LeadOn, offset_after}
@@ -259,9 +260,9 @@ pub same_rank : (x y : List ℤ) (n m l j : ℕ) → x ≡ y → n ≡ m → pos
 same_rank x y n m l j e f is = is ∙ ap (λ (k : ℕ). pos k +ℤ offset_at x j) f
     ∙ ap (λ (z : List ℤ). pos m +ℤ offset_at z j) e
 
-pub in_bytes : (x y : List ℤ) (n m j c : ℕ) → x ≡ y → n ≡ m → c ≤ 60 → (pos 0 ≤ℤ (pos m +ℤ offset_at y j))
+pub in_bytes : (x y : List ℤ) (n m j c : ℕ) → x ≡ y → n ≡ m → c ≤ most_waiting → (pos 0 ≤ℤ (pos m +ℤ offset_at y j))
     → ((pos m +ℤ offset_at y j) ≤ℤ pos c)
-    → (pos 0 ≤ℤ (pos n +ℤ offset_at x j)) × ((pos n +ℤ offset_at x j) ≤ℤ pos 60)
+    → (pos 0 ≤ℤ (pos n +ℤ offset_at x j)) × ((pos n +ℤ offset_at x j) ≤ℤ pos most_waiting)
 in_bytes x y n m j c e f few low high =
     let o : offset_at x j ≡ offset_at y j = ap (λ (z : List ℤ). offset_at z j) e in
     (omega (arith, ints, o, f, low), omega (arith, ints, o, f, high, few))

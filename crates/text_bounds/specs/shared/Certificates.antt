@@ -14,6 +14,7 @@ use Rattle.certificate.specs.States.{AreStates, IsState, Pair, State, is_pair, i
 use Rattle.certificate.specs.Reading.{AreLandings, IsClaim}
 use Rattle.certificate.specs.Spelling.{claim_text, digit_text, landing_lines, landing_text, pair_text, pairs_text}
 use Rattle.certificate.specs.Spelling.{pattern_text, state_lines, state_text}
+use Rattle.landing_rules.specs.Rules.{last_second}
 use Rattle.text_bounds.specs.Certificates.{CertificateIsBoundedLaw, pair_count}
 use Rattle.text_bounds.specs.shared.Lengths.{callsign_short, rank_short, second_short, value_short}
 
@@ -45,7 +46,7 @@ pattern_short (d ∷ ds) e =
 pair_short : (p : Pair) → is_pair p ≡ true → length (pair_text p) ≤ 17
 pair_short p h =
     let both = and_parts (is_second p.0) (nat_le p.1 4294967295) h in
-    let t : p.0 ≤ 172799 = grind (arith, nat_tests, both.0) in
+    let t : p.0 ≤ last_second = grind (arith, nat_tests, both.0) in
     let c : p.1 ≤ 4294967295 = grind (arith, nat_tests, both.1) in
     let a = second_short p.0 t in
     let b : length (decimal p.1) ≤ 10 = length-decimal-le 10 p.1 (omega arith) (omega (arith, c)) (omega (arith, c)) in

@@ -8,7 +8,7 @@ use Rattle.std.proofs.lemmas.Option.{same_Some}
 use Rattle.std.proofs.lemmas.List.Elements.{All-nil, All-cons, All-append, All-head, All-tail}
 use Rattle.cps_base.specs.Answers.{◌>>=◌}
 use Rattle.cps_base.specs.Text.{is_callsign}
-use Rattle.landing_rules.specs.Limits.{most_events}
+use Rattle.cps_base.specs.Limits.{most_events}
 use Rattle.arrivals.specs.declared.event.Event.{Event}
 use Rattle.arrivals.specs.declared.event.Event.TheVariants.{Cancel, Clock, Close, Estimate, Reopen}
 use Rattle.arrivals.specs.Seen.{event_of}

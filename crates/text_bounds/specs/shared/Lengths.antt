@@ -6,7 +6,7 @@ use Rattle.std.proofs.lemmas.Bool.{and_parts}
 use Rattle.std.proofs.lemmas.Bool.Decides.{nat_tests}
 use Rattle.std.proofs.lemmas.Fmt.{length-decimal-le}
 use Rattle.cps_base.specs.Text.{is_callsign, is_callsign_byte}
-use Rattle.landing_rules.specs.Limits.{greatest_value, most_waiting}
+use Rattle.cps_base.specs.Limits.{greatest_value, most_waiting}
 use Rattle.landing_rules.specs.Rules.{last_second}
 
 pub second_short : (n : ℕ) → n ≤ last_second → length (decimal n) ≤ 6

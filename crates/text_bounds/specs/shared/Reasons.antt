@@ -5,7 +5,7 @@ use Rattle.std.specs.Prelude.{⊤, All, bytes_eq, option_map, ◌==◌}
 use Rattle.std.specs.Option.{option_or}
 use Rattle.std.proofs.lemmas.Bool.{cases_Bool}
 use Rattle.std.proofs.lemmas.List.Elements.{All-nil, All-cons}
-use Rattle.landing_rules.specs.Limits.{greatest_value, most_waiting}
+use Rattle.cps_base.specs.Limits.{greatest_value, most_waiting}
 use Rattle.landing_rules.specs.Rules.{last_second}
 use Rattle.landing_rules.specs.Problem.{Problem, Waiting, list_objective}
 use Rattle.cps_theory.specs.FirstFound.{element_from, first_from, first_pair_from, with_number}

@@ -5,7 +5,7 @@ use Rattle.std.specs.List.{list_any}
 use Rattle.std.proofs.lemmas.Bool.{cases_Bool}
 use Rattle.std.proofs.lemmas.List.{length-append}
 use Rattle.landing_rules.specs.Flights.{Active, Flight, Landing, Situation, Span, landing, waiting}
-use Rattle.landing_rules.specs.Limits.{most_closures, most_flights, most_waiting}
+use Rattle.cps_base.specs.Limits.{most_closures, most_flights, most_waiting}
 use Rattle.landing_rules.specs.Rules.{is_open, is_shut, last_second, lists}
 use Rattle.landing_rules.specs.Events.{Add, Cancel, Clock, ClockBack, Close, CoversFrozen, Duplicate, Estimate, Event}
 use Rattle.landing_rules.specs.Events.{Frozen, PredecessorOfFrozen, Refusal, Reopen, TooManyClosures, TooManyFlights}

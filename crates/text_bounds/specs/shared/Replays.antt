@@ -5,7 +5,7 @@ use Rattle.std.proofs.lemmas.List.{length-append, length-map}
 use Rattle.std.proofs.lemmas.List.Elements.{All-head, All-tail}
 use Rattle.std.proofs.lemmas.List.Sums.{count_by-le-length, length-filter}
 use Rattle.landing_rules.specs.Flights.{Active, Situation, Schedule, landings}
-use Rattle.landing_rules.specs.Limits.{most_flights}
+use Rattle.cps_base.specs.Limits.{most_flights}
 use Rattle.landing_rules.specs.Events.{Add, Answered, Cancel, Clock, Close, Estimate, Event, Refusal, Reopen, Run}
 use Rattle.landing_rules.specs.Events.{State, Step, active_after_clock, after_clock, estimated, named, situation_after}
 use Rattle.landing_rules.specs.Sound.{IsGoodEvent, IsSoundState}

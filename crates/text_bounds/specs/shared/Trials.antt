@@ -4,7 +4,7 @@ use Rattle.std.specs.Prelude.{⊤, MatchOption, codes, decimal}
 use Rattle.std.proofs.lemmas.Fmt.{length-decimal-le}
 use Rattle.std.proofs.lemmas.List.{length-append}
 use Rattle.landing_rules.specs.declared.objective.Objective.{Objective}
-use Rattle.landing_rules.specs.Limits.{greatest_value}
+use Rattle.cps_base.specs.Limits.{greatest_value}
 use Rattle.landing_rules.specs.Text.{ShownPlan, block_lines, head_words, line, lines_text}
 use Rattle.text_bounds.specs.Trials.{TrialIsBoundedLaw}
 use Rattle.text_bounds.specs.shared.Blocks.{head_short}

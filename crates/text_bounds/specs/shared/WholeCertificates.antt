@@ -11,7 +11,7 @@ use Rattle.std.proofs.lemmas.List.Sums.{sum_by-le}
 use Rattle.landing_rules.specs.declared.objective.Objective.{Objective}
 use Rattle.landing_rules.specs.declared.objective.Objective.TheVariants.{Makespan, Delay}
 use Rattle.landing_rules.specs.Flights.{Active, Situation, Span, waiting, is_waiting}
-use Rattle.landing_rules.specs.Limits.{most_open_seconds}
+use Rattle.cps_base.specs.Limits.{most_open_seconds}
 use Rattle.landing_rules.specs.Rules.{arrival_cmp, is_shut, is_within}
 use Rattle.landing_rules.specs.Problem.{IsWaitingOf, Problem, Waiting, by_rank, insert_by_rank}
 use Rattle.landing_rules.specs.Sound.{IsSound}

@@ -2,12 +2,13 @@
 use Rattle.std.proofs.Common.{rules, arith, ◌∙◌, ◌<◌, length}
 use Rattle.aerodrome_file.proofs.Entries.{passed_more, passed_step}
 use Rattle.aerodrome_file.proofs.passed.passed_from.Goals as goal
+use Rattle.cps_base.specs.Limits.{most_waiting}
 
 pub loop-rest-preserved : goal.loop-rest-preserved
 loop-rest-preserved c =
     let given = rw c.as_slice.ensures.value at c.in_ok-entry.ensures.value in
     let new = rw c.as_slice.ensures.value at c.in_ok-entry.ensures.new in
-    let room : length c.loop-rest.entries.items < 60 = omega arith in
+    let room : length c.loop-rest.entries.items < most_waiting = omega arith in
     let step = passed_step c.loop-rest.number c.args.k c.loop-rest.entries.items c.loop-rest.rest.now
     c.first-item.result c.in_ok-entry.entry c.first-item.is (omega arith) given in
     let more = passed_more c.args.k c.loop-rest.entries.items c.in_ok-entry.entry c.loop-rest.invariant.3

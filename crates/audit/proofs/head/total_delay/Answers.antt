@@ -4,7 +4,7 @@ use Rattle.std.proofs.lemmas.Iterator.Adapters.{fits_from_length, at_most_from_y
 use Rattle.std.proofs.lemmas.Iterator.Consumers.{sum_by_from_yields_List}
 use Rattle.std.proofs.lemmas.List.Folds.{fold-map}
 use Rattle.landing_rules.specs.Audit.{landing_of}
-use Rattle.landing_rules.specs.Limits.{most_flights}
+use Rattle.cps_base.specs.Limits.{most_flights}
 use Rattle.landing_rules.specs.Rules.{delay}
 use Rattle.audit.proofs.head.total_delay.Goals as goal
 

@@ -6,10 +6,11 @@ use Rattle.std.proofs.lemmas.Iterator.Search.{find_from_yields_List}
 use Rattle.certificate.specs.Reading.{AreLandings}
 use Rattle.cert_check.specs.Landings.{Landings, second_of}
 use Rattle.cert_check.proofs.seconds.second_of.Goals as goal
+use Rattle.landing_rules.specs.Rules.{last_second}
 
 looked_up : (name : List ℕ) (ls : Landings) → AreLandings ls
     → (unwrap_or (option_map (λ l. l.1) (find (λ l. bytes_eq l.0 name) ls)) 0 ≡ second_of ls name)
-    × (second_of ls name ≤ 172799)
+    × (second_of ls name ≤ last_second)
 looked_up name [] good = (refl, omega arith)
 looked_up name (l ∷ ls) good = let rest = looked_up name ls good.2 in grind arith
 

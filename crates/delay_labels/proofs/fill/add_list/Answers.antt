@@ -3,6 +3,7 @@ use Rattle.std.proofs.Common.{◌∙◌}
 use Rattle.std.specs.Prelude.{All}
 use Rattle.std.proofs.lemmas.Int.{ints}
 use Rattle.std.proofs.lemmas.List.Sorted.{All-permutation}
+use Rattle.cps_base.specs.Limits.{most_waiting}
 use Rattle.cps_theory.specs.Labels.{Pair}
 use Rattle.cps_theory.specs.UndominatedPairs.{sweep}
 use Rattle.cps_network.specs.Lists.{node_at}
@@ -35,7 +36,7 @@ last_rank-last-requires g c =
     c.requires.within c.sources-range.ensures.range.1 c.sources-range.ensures.exact in
     let l = leader_range p g.row.W c.args.filling.now.before.now.0 c.args.filling.now.before.now.1
     (node_at c.args.filling.now.stage.now.1 c.args.i) c.sources-range.result.0 c.sources-range.result.1 s in
-    let few : length p.flights ≤ 60 = c.len-few.ensures.well_formed.few_flights in
+    let few : length p.flights ≤ most_waiting = c.len-few.ensures.well_formed.few_flights in
     let e = l.0 in
     let h = l.1 in (
       search rules,
@@ -54,7 +55,7 @@ last_rank-rank-requires g c =
     c.requires.within c.sources-range.ensures.range.1 c.sources-range.ensures.exact in
     let k = rank_range p g.row.W c.args.filling.now.before.now.0 c.args.filling.now.before.now.1
     (node_at c.args.filling.now.stage.now.1 c.args.i) c.sources-range.result.0 c.sources-range.result.1 s in
-    let few : length p.flights ≤ 60 = c.len-few.ensures.well_formed.few_flights in
+    let few : length p.flights ≤ most_waiting = c.len-few.ensures.well_formed.few_flights in
     let stage_is : c.number-2.result ≡ suc c.args.filling.now.before.now.0 =
     omega (arith, c.number-2.ensures, c.requires.behind.number) in
     let lo = k.0 in

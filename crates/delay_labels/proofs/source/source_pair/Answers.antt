@@ -1,5 +1,6 @@
 use Rattle.std.proofs.Common.{◌≡◌, suc, ◌+◌, ◌-◌, ◌≤◌, length, arith, rules, refl}
 use Rattle.std.proofs.lemmas.Int.{ints}
+use Rattle.cps_base.specs.Limits.{most_waiting}
 use Rattle.cps_network.specs.Lists.{node_at}
 use Rattle.cps_network.specs.shared.LeadingWindows.{same_rank, in_bytes, some_range, leader_range, rank_range}
 use Rattle.cps_network.specs.shared.LeadingWindows.{sources_of}
@@ -30,7 +31,7 @@ last_rank-last-requires g c =
     c.sources-range.ensures.range.1 c.sources-range.ensures.exact in
     let l = leader_range p g.row.W c.args.before.now.0 c.args.before.now.1 c.args.node.now
     c.sources-range.result.0 c.sources-range.result.1 s in
-    let few : length p.flights ≤ 60 = c.head-near.ensures.well_formed.few_flights in
+    let few : length p.flights ≤ most_waiting = c.head-near.ensures.well_formed.few_flights in
     let e = l.0 in
     let h = l.1 in (
       search rules,
@@ -50,7 +51,7 @@ last_rank-rank-requires g c =
     c.sources-range.ensures.range.1 c.sources-range.ensures.exact in
     let k = rank_range p g.row.W c.args.before.now.0 c.args.before.now.1 c.args.node.now c.sources-range.result.0
     c.sources-range.result.1 s in
-    let few : length p.flights ≤ 60 = c.head-near.ensures.well_formed.few_flights in
+    let few : length p.flights ≤ most_waiting = c.head-near.ensures.well_formed.few_flights in
     let stage_is : c.number-2.result + 1 ≡ suc c.args.before.now.0 = omega (arith, c.number-2.ensures) in
     let lo = k.0 in
     let hi = k.1 in (

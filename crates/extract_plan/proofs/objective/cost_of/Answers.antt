@@ -2,12 +2,13 @@ use Rattle.std.proofs.Common.{◌-◌, ◌≤◌, arith, ap, sym, subst, ◌∙�
 use Rattle.landing_joint.specs.RankedProblem.{cost_at}
 use Rattle.landing_joint.specs.shared.FirstBestLists.{second_is}
 use Rattle.extract_plan.proofs.objective.cost_of.Goals as goal
+use Rattle.landing_rules.specs.Rules.{last_second}
 
 pub returns : goal.returns
 returns c =
     let s = c.args.schedule.now in
     let r = c.args.rank in
-    let t : c.second.result ≤ 172799 = subst (λ n. n ≤ 172799) (sym c.second.ensures)
+    let t : c.second.result ≤ last_second = subst (λ n. n ≤ last_second) (sym c.second.ensures)
     (c.requires.seconds (r - 1) 0 (omega (arith, c.requires.rank, c.requires.room))) in
     record {
       value = c.from.ensures ∙ c.cost.ensures.value ∙ ap (cost_at c.args.problem.now r)

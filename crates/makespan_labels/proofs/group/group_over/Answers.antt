@@ -1,5 +1,6 @@
 use Rattle.std.proofs.Common.{◌-◌, ◌≤◌, length, ap, arith, rules}
 use Rattle.std.proofs.lemmas.Int.{ints}
+use Rattle.cps_base.specs.Limits.{most_waiting}
 use Rattle.cps_network.specs.Lists.{node_at}
 use Rattle.cps_network.specs.shared.LeadingWindows.{same_rank, in_bytes}
 use Rattle.makespan_labels.proofs.GroupLemmas.{window_at, first_within}
@@ -24,7 +25,7 @@ last_rank-leader-requires g c =
     let l = group_leader p g.row.W before.0 before.1 c.args.labelling.now.labels.now c.requires.can.odd
     c.requires.can.laws c.requires.can.held c.args.from c.args.to c.requires.range in
     let window = window_at _ _ _ _ c.requires.earlier (first_within _ _ _ c.requires.range) c.index-earlier-from.is in
-    let few : length p.flights ≤ 60 = c.len-few.ensures.well_formed.few_flights in
+    let few : length p.flights ≤ most_waiting = c.len-few.ensures.well_formed.few_flights in
     let e = l.0 in
     let h = l.1 in (
       search rules,

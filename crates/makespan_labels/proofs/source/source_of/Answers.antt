@@ -4,6 +4,7 @@ use Rattle.std.specs.Prelude.{slice_index, nat_eq, unwrap_or}
 use Rattle.std.specs.Option.{option_eq}
 use Rattle.std.proofs.lemmas.Int.{ints}
 use Rattle.std.proofs.lemmas.Iterator.{first_from_Range, serves_from_Range}
+use Rattle.cps_base.specs.Limits.{most_waiting}
 use Rattle.landing_joint.specs.RankedProblem.{landing_after}
 use Rattle.cps_network.specs.Lists.{node_at}
 use Rattle.cps_network.specs.shared.LeadingWindows.{same_rank, in_bytes, some_range, leader_range, rank_range}
@@ -35,7 +36,7 @@ last_rank-leader-requires g c =
     c.requires.before.landable c.requires.node c.sources-from.ensures.range.1 c.sources-from.ensures.exact in
     let l = leader_range p g.row.W c.args.before.now.0 c.args.before.now.1 c.args.node.now
     c.sources-from.result.0 c.sources-from.result.1 s in
-    let few : length p.flights ≤ 60 = c.head-near.ensures.well_formed.few_flights in
+    let few : length p.flights ≤ most_waiting = c.head-near.ensures.well_formed.few_flights in
     let e = l.0 in
     let h = l.1 in (
       search rules,
@@ -53,7 +54,7 @@ last_rank-rank-requires g c =
     c.requires.before.landable c.requires.node c.sources-from.ensures.range.1 c.sources-from.ensures.exact in
     let k = rank_range p g.row.W c.args.before.now.0 c.args.before.now.1 c.args.node.now c.sources-from.result.0
     c.sources-from.result.1 s in
-    let few : length p.flights ≤ 60 = c.head-near.ensures.well_formed.few_flights in
+    let few : length p.flights ≤ most_waiting = c.head-near.ensures.well_formed.few_flights in
     let stage_is : c.number-2.result + 1 ≡ suc c.args.before.now.0 = omega (arith, c.number-2.ensures) in
     let lo = k.0 in
     let hi = k.1 in (

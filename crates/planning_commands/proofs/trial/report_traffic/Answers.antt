@@ -1,3 +1,4 @@
+use Rattle.cps_base.specs.Limits.{most_waiting}
 use Rattle.planning_commands.proofs.Summed.{sums}
 use Rattle.std.proofs.Common.{◌≤◌, length, ap, sym, subst, ◌∙◌}
 use Rattle.arrivals.specs.declared.flight.Flight.{Flight}
@@ -22,7 +23,7 @@ returns-in_err-begun g c =
     let flights = c.into_parts-aerodrome.result.1.items in
     let a_is = c.into_parts-aerodrome.ensures.aerodrome in
     let f_is = c.into_parts-aerodrome.ensures.flights in
-    let few = subst (λ (fs : List Flight). length fs ≤ 60) (sym f_is) c.requires.few in
+    let few = subst (λ (fs : List Flight). length fs ≤ most_waiting) (sym f_is) c.requires.few in
     let opens = c.plain_files_open.ensures aerodrome flights (ap (λ (a : Aerodrome). a.frozen) a_is
     ∙ c.requires.none_frozen) (ap (λ (a : Aerodrome). a.passed) a_is ∙ c.requires.none_passed) few in
     let p = err_from_is_err_and c.from_residual.result c.from_residual.ensures.1 in

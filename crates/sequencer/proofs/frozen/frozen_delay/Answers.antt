@@ -2,7 +2,7 @@ use Rattle.std.proofs.Common.{◌^◌, rules, arith}
 use Rattle.std.proofs.lemmas.Iterator.{YieldsList-from_slice, YieldsList-from_map}
 use Rattle.std.proofs.lemmas.Iterator.Adapters.{fits_from_length, at_most_from_yields_List}
 use Rattle.std.proofs.lemmas.Iterator.Consumers.{sum_by_from_yields_List}
-use Rattle.landing_rules.specs.Limits.{most_flights}
+use Rattle.cps_base.specs.Limits.{most_flights}
 use Rattle.sequencer.specs.Frozen.{delay_of}
 use Rattle.sequencer.proofs.frozen.frozen_delay.Goals as goal
 

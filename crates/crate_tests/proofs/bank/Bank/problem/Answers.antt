@@ -6,6 +6,8 @@ use Rattle.std.specs.declared.cmp.Ordering.TheVariants.{Less}
 use Rattle.std.specs.Ordering.{nat_cmp, ordering_then, is_lt}
 use Rattle.std.specs.Cmp.{nat_cmp_is}
 use Rattle.std.specs.Cmp.Lexicographic.{slice_cmp}
+use Rattle.cps_base.specs.Limits.{most_waiting}
+use Rattle.landing_rules.specs.Rules.{last_second}
 use Rattle.precedence.specs.Pairs.{MustPrecede, must_precede_decides}
 use Rattle.wake_table.specs.Table.{IsWakeTable}
 use Rattle.wake_table.specs.declared.category.Category.{Category}
@@ -22,8 +24,9 @@ comes_before f g lt =
 
 well_formed : (p : rules.Problem) → IsWakeTable p.table → p.k ≤ 3 → p.horizon ≡ 0 → p.last ≡ None → p.base ≡ 0
     → ((i j : ℕ) → MustPrecede p.pairs i j → (1 ≤ i) × (i ≤ length p.flights) × (1 ≤ j) × (j ≤ length p.flights))
-    → length p.flights ≤ 60 → AllPairs (λ (f g : rules.Waiting). (f.eta < g.eta) × (f.callsign ≢ g.callsign)) p.flights
-    → All (λ (f : rules.Waiting). (f.eta ≤ 172799) × (f.weight ≡ 1) × (f.passed ≤ p.k)) p.flights
+    → length p.flights ≤ most_waiting
+    → AllPairs (λ (f g : rules.Waiting). (f.eta < g.eta) × (f.callsign ≢ g.callsign)) p.flights
+    → All (λ (f : rules.Waiting). (f.eta ≤ last_second) × (f.weight ≡ 1) × (f.passed ≤ p.k)) p.flights
     → IsWellFormed p
 well_formed p table few horizon last base ranks count ordered ranges = record {
   table = table;

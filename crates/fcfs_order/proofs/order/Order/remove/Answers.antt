@@ -4,6 +4,7 @@ use Rattle.std.specs.List.Sorted.{IsStrictlySortedBy}
 use Rattle.std.specs.Prelude.{Contains}
 use Rattle.std.specs.List.{remove}
 use Rattle.std.specs.declared.cmp.Ordering.TheVariants.{Equal}
+use Rattle.cps_base.specs.Limits.{most_waiting}
 use Rattle.landing_rules.specs.Rules.{first_come_cmp}
 use Rattle.fcfs_order.specs.Order.{IsOrder, without}
 use Rattle.fcfs_order.specs.shared.Sorted.{found, parted, searchable, without_at, without_none, ascending_without}
@@ -56,6 +57,6 @@ invariant_of-self c =
     let xs : List (ℕ × List ℕ) = c.args.self.now in
     subst IsOrder (sym (returns-in-Ok-clause-rest c)) (record {
       ascending = ascending_without p xs (rw (← c.self.view_is) c.self.invariant.ascending);
-      few = let n = short_without p xs in let r : length xs ≤ 60 =
+      few = let n = short_without p xs in let r : length xs ≤ most_waiting =
           rw (← c.self.view_is) c.self.invariant.few in omega arith;
     })

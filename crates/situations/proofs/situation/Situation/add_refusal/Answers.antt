@@ -2,6 +2,7 @@ use Rattle.std.proofs.Common.{◌≡◌, ℕ, Option, Some, None, refl, sym, ap,
 use Rattle.std.specs.Prelude.{option_map, find}
 use Rattle.std.proofs.Common.{Bool}
 use Rattle.std.specs.Prelude.{nat_le, if◌then◌else◌}
+use Rattle.cps_base.specs.Limits.{most_flights, most_waiting}
 use Rattle.landing_rules.specs.Flights.{Landing, Callsign}
 use Rattle.landing_rules.specs.Rules.{lists}
 use Rattle.landing_rules.specs.Events.{Refusal, Duplicate, TooManyFlights, TooManyWaiting, PredecessorOfFrozen}
@@ -17,7 +18,8 @@ twice (Some g) = refl
 
 AddAnswer : Callsign → Bool → ℕ → ℕ → Option Refusal → Option Refusal
 AddAnswer c there flights waiting rest = if there then Some (Duplicate c)
-    else (if nat_le 500 flights then Some TooManyFlights else (if nat_le 60 waiting then Some TooManyWaiting else rest))
+    else (if nat_le most_flights flights then Some TooManyFlights
+    else (if nat_le most_waiting waiting then Some TooManyWaiting else rest))
 
 pub returns : goal.returns
 unfolding AddAnswer
