@@ -14,7 +14,7 @@ use Rattle.std.proofs.lemmas.Option.{same_Some}
 use Rattle.landing_rules.specs.Flights.{Active, Aerodrome, Callsign, Flight, Schedule, Situation, Span, is_waiting}
 use Rattle.landing_rules.specs.Flights.{waiting}
 use Rattle.landing_rules.specs.Rules.{arrival_cmp, lists, IsFeasible}
-use Rattle.landing_rules.specs.Events.{Event, Estimate, Cancel, Add, Close, Reopen, Clock, Refusal, State, Step}
+use Rattle.landing_rules.specs.Events.{Event, Estimate, Cancel, Add, Clock, Refusal, State, Step}
 use Rattle.landing_rules.specs.Events.{Answered, Run, IsPlanShown, estimated, frozen_landings, named, newcomer}
 use Rattle.landing_rules.specs.Events.{refusal, situation_after}
 use Rattle.landing_rules.specs.Sound.{IsSound, IsSoundState, IsGoodEvent}
@@ -210,14 +210,11 @@ event_counted s plan c g (Cancel d) sound feasible carry here so_far =
 event_counted s plan c g (Add x) sound feasible carry here so_far =
     λ good ok. by_counts s plan c g sound feasible carry here so_far (Add x) (same_added s plan x sound ok)
     (λ f. refl) good ok
-event_counted s plan c g (Close span) sound feasible carry here so_far =
-    by_counts s plan c g sound feasible carry here so_far (Close span)
-    (same_active s (situation_after s plan (Close span)) sound refl) (λ f. refl)
-event_counted s plan c g (Reopen span) sound feasible carry here so_far =
-    by_counts s plan c g sound feasible carry here so_far (Reopen span)
-    (same_active s (situation_after s plan (Reopen span)) sound refl) (λ f. refl)
 event_counted s plan c g (Clock now) sound feasible carry here so_far =
     clock_counted s plan c g now sound feasible carry here so_far
+event_counted s plan c g e sound feasible carry here so_far =
+    by_counts s plan c g sound feasible carry here so_far e
+    (same_active s (situation_after s plan e) sound refl) (λ f. refl)
 
 -- ---- a step, and a run
 
@@ -370,13 +367,9 @@ event_exactly s plan (Cancel d) c sound feasible carry low ok =
     by_same_counts s (situation_after s plan (Cancel d)) plan (Cancel d) c (same_cancelled s plan d sound) (λ f. refl)
 event_exactly s plan (Add x) c sound feasible carry low ok =
     by_same_counts s (situation_after s plan (Add x)) plan (Add x) c (same_added s plan x sound ok) (λ f. refl)
-event_exactly s plan (Close span) c sound feasible carry low ok = by_same_counts s
-    (situation_after s plan (Close span)) plan (Close span) c
-    (same_active s (situation_after s plan (Close span)) sound refl) (λ f. refl)
-event_exactly s plan (Reopen span) c sound feasible carry low ok = by_same_counts s
-    (situation_after s plan (Reopen span)) plan (Reopen span) c
-    (same_active s (situation_after s plan (Reopen span)) sound refl) (λ f. refl)
 event_exactly s plan (Clock now) c sound feasible carry low ok = clock_exactly s plan now c sound feasible carry low ok
+event_exactly s plan e c sound feasible carry low ok = by_same_counts s (situation_after s plan e) plan e c
+    (same_active s (situation_after s plan e) sound refl) (λ f. refl)
 
 step_exactly : (old new : State) (e : Event) (answer : Option Refusal) (c : Callsign) → IsSoundState old
     → Step old e answer new → old.situation.aerodrome.carry ≡ true → old.situation.aerodrome.k ≤ 1

@@ -10,7 +10,6 @@ pub mod JoinedSchedule
 pub mod Members
 pub mod SoundAgain
 pub mod FlightSteps
-pub mod ClosureSteps
 pub mod StepLaws
 pub mod InLine
 pub mod RefusedSteps
