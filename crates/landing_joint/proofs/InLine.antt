@@ -334,7 +334,8 @@ event_exactly s plan e c sound feasible carry low ok =
     let p = same g f mg.0 mf.0 (mf.1 ∙ sym mg.1) in
     let z = none_pass (state_of s plan) e none (waiting_flight s c) in
     omega arith)
-    (λ t now feasible ok f g here later. clock_counts_exactly s t now c f g sound carry low (feasible t refl) ok here later
+    (λ t now feasible ok f g here later.
+    clock_counts_exactly s t now c f g sound carry low (feasible t refl) ok here later
     ∙ ap (λ o. f.passed + passing_flight (state_of s (Some t)) (Clock now) o) (sym here))
     plan e ok feasible ok
   where

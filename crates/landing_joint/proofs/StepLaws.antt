@@ -1,5 +1,5 @@
--- Each event that is accepted keeps a situation sound, so each step and each run keeps a state sound: first the events of
--- a closure, which is closed or reopened, then all kinds together.
+-- Each event that is accepted keeps a situation sound, so each step and each run keeps a state sound: first the events
+-- of a closure, which is closed or reopened, then all kinds together.
 use Rattle.std.proofs.Common.{◌≡◌, ℕ, ◌<◌, ◌≤◌, inl, inr, Bool, true, false, not, List, [], ◌∷◌, ◌++◌, length, filter}
 use Rattle.std.proofs.Common.{Option, Some, None, refl, sym, ap, subst, ◌∙◌, arith}
 use Rattle.std.specs.Prelude.{option_map, filter_map, find, is_some, nat_le, if◌then◌else◌}

@@ -20,7 +20,7 @@ use Rattle.wake_table.specs.Table.{separation}
 use Rattle.landing_rules.specs.Flights.{Active, Aerodrome, Callsign, Landing, Schedule, Situation, Span, horizon}
 use Rattle.landing_rules.specs.Flights.{is_waiting, landing, landings, waiting}
 use Rattle.landing_rules.specs.Rules.{IsFeasible, IsFrozenKept, waits}
-use Rattle.landing_rules.specs.Events.{Event, Estimate, Cancel, Add, Close, Reopen, Clock, Frozen, after_clock}
+use Rattle.landing_rules.specs.Events.{Event, Estimate, Cancel, Add, Clock, Frozen, after_clock}
 use Rattle.landing_rules.specs.Events.{estimated, freezes, frozen_landings, in_landing_order, insert_landing, named}
 use Rattle.landing_rules.specs.Events.{newcomer, passed_after, refusal, situation_after, unknown_or_frozen}
 use Rattle.landing_rules.specs.Problem.{by_rank, joined, joined_second}
@@ -448,6 +448,5 @@ next_begins law s t (Add f) sound keeps ok next =
     still s (record s { active = s.active ++ newcomer f ∷ [] }) t
     (filter_map-append (λ a. option_map (landing a) a.frozen) s.active (newcomer f ∷ [])
     ∙ append-nil (frozen_landings s)) (begins s t sound keeps)
-next_begins law s t (Close span) sound keeps ok next = begins s t sound keeps
-next_begins law s t (Reopen span) sound keeps ok next = begins s t sound keeps
 next_begins law s t (Clock now) sound keeps ok next = clock_begins law s t now sound keeps ok next
+next_begins law s t e sound keeps ok next = begins s t sound keeps
