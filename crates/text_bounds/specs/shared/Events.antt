@@ -1,7 +1,9 @@
--- What is asked of each kind of event: the callsigns that the events of a log name are short, and so is the cause of each
+-- What is asked of each kind of event: the callsigns that the events of a log name are short, and so is the cause of
+-- each refusal.
+use of each
 -- refusal.
 use Rattle.std.proofs.Common.{◌≡◌, ℕ, ◌≤◌, inl, inr, List, [], ◌∷◌, length, map, true, false, Bool, cond, Result, Ok}
-use Rattle.std.proofs.Common.{Err, subst, ◌++◌, Option, Some, None, arith, tt}
+use Rattle.std.proofs.Common.{Err, subst, ◌++◌, Option, Some, None, arith}
 use Rattle.std.specs.Prelude.{All, codes, bytes_eq, nat_le, not, ◌==◌, IsTrue, decimal, find, option_map, nat_lt, IfOk}
 use Rattle.std.proofs.lemmas.Bool.{cases_Bool}
 use Rattle.std.proofs.lemmas.List.Elements.{All-nil, All-cons, All-append, All-map}
@@ -14,7 +16,8 @@ use Rattle.csv_records.specs.Rows.{Fields, field, records_of}
 use Rattle.event_log.specs.declared.fault.Col.TheVariants as columns
 use Rattle.event_log.specs.declared.fault.LogCause.{LogCause}
 use Rattle.event_log.specs.declared.fault.LogCause.TheVariants.{TooMany}
-use Rattle.event_log.specs.Columns.{callsign_in, column}
+use Rattle.event_log.specs.Columns.{callsign_in, category_in, column, empty_in, names_at, second_in, span_at, weight_in}
+use Rattle.event_log.specs.Columns.{windows_at}
 use Rattle.event_log.specs.Kinds.{add_in, cancel_in, clock_in, close_in, estimate_in, event_by, reopen_in}
 use Rattle.event_log.specs.Reading.{added, event_in, events_by, events_in, events_of, is_header}
 use Rattle.text_bounds.specs.Replays.{HasShortName, IsInDays}
@@ -65,27 +68,45 @@ callsign_named r f h = then_ok (λ (c : List ℕ). length c ≤ 8) IsNamed (call
 
 estimate_named : (r : Fields) → IfOk (estimate_in r) IsNamed
 unfolding estimate_in
-estimate_named r = callsign_named r _ (λ name short. follows _ _ (λ a. follows _ _ (λ b. follows _ _ (λ c. follows _ _ (λ d. follows _ _ (λ e. short))))))
+estimate_named r =
+    callsign_named r _ (λ a short. follows (empty_in columns.Category r) _ (λ b.
+    follows (second_in r) _ (λ c. follows (empty_in columns.Weight r) _ (λ d.
+    follows (windows_at r) _ (λ e. follows (empty_in columns.After r) _ (λ f. short))))))
 
 cancel_named : (r : Fields) → IfOk (cancel_in r) IsNamed
 unfolding cancel_in
-cancel_named r = callsign_named r _ (λ name short. follows _ _ (λ a. follows _ _ (λ b. follows _ _ (λ c. follows _ _ (λ d. follows _ _ (λ e. short))))))
+cancel_named r =
+    callsign_named r _ (λ a short. follows (empty_in columns.Category r) _ (λ b.
+    follows (empty_in columns.Eta r) _ (λ c. follows (empty_in columns.Weight r) _ (λ d.
+    follows (empty_in columns.Windows r) _ (λ e. follows (empty_in columns.After r) _ (λ f. short))))))
 
 add_named : (r : Fields) → IfOk (add_in r) IsNamed
 unfolding add_in
-add_named r = follows _ _ (λ a. follows _ _ (λ b. follows _ _ (λ c. follows _ _ (λ d. follows _ _ (λ e. follows _ _ (λ f. tt))))))
+add_named r =
+    follows (callsign_in r) _ (λ a. follows (category_in r) _ (λ b.
+    follows (second_in r) _ (λ c. follows (weight_in r) _ (λ d.
+    follows (windows_at r) _ (λ e. follows (names_at a r) _ (λ f. tt))))))
 
 close_named : (r : Fields) → IfOk (close_in r) IsNamed
 unfolding close_in
-close_named r = follows _ _ (λ a. follows _ _ (λ b. follows _ _ (λ c. follows _ _ (λ d. follows _ _ (λ e. follows _ _ (λ f. tt))))))
+close_named r =
+    follows (empty_in columns.Callsign r) _ (λ a. follows (empty_in columns.Category r) _ (λ b.
+    follows (empty_in columns.Eta r) _ (λ c. follows (empty_in columns.Weight r) _ (λ d.
+    follows (span_at r) _ (λ e. follows (empty_in columns.After r) _ (λ f. tt))))))
 
 reopen_named : (r : Fields) → IfOk (reopen_in r) IsNamed
 unfolding reopen_in
-reopen_named r = follows _ _ (λ a. follows _ _ (λ b. follows _ _ (λ c. follows _ _ (λ d. follows _ _ (λ e. follows _ _ (λ f. tt))))))
+reopen_named r =
+    follows (empty_in columns.Callsign r) _ (λ a. follows (empty_in columns.Category r) _ (λ b.
+    follows (empty_in columns.Eta r) _ (λ c. follows (empty_in columns.Weight r) _ (λ d.
+    follows (span_at r) _ (λ e. follows (empty_in columns.After r) _ (λ f. tt))))))
 
 clock_named : (r : Fields) → IfOk (clock_in r) IsNamed
 unfolding clock_in
-clock_named r = follows _ _ (λ a. follows _ _ (λ b. follows _ _ (λ c. follows _ _ (λ d. follows _ _ (λ e. follows _ _ (λ f. tt))))))
+clock_named r =
+    follows (empty_in columns.Callsign r) _ (λ a. follows (empty_in columns.Category r) _ (λ b.
+    follows (second_in r) _ (λ c. follows (empty_in columns.Weight r) _ (λ d.
+    follows (empty_in columns.Windows r) _ (λ e. follows (empty_in columns.After r) _ (λ f. tt))))))
 
 kind_named : (kind : List ℕ) (r : Fields) → IfOk (event_by kind r) IsNamed
 unfolding event_by
