@@ -24,9 +24,9 @@ use Rattle.landing_joint.specs.PassedOver.{waiting_flight, waits_in, is_ahead, s
 use Rattle.landing_joint.specs.PassedOver.{StaysInLineThrough, ArePassedAtLeast, passing_by_event, passing_flight}
 use Rattle.landing_joint.specs.PassedOver.{passing_in_step, passing_in_run, StepCountsLaw, FewPassLaw, FewPassLaterLaw}
 use Rattle.landing_joint.specs.PassedOver.{IsFirstInLine, FewPassFirstLaw, FewPassAnyoneLaw}
-use Rattle.landing_joint.specs.shared.EventAerodrome.{aerodrome_stays}
-use Rattle.landing_joint.proofs.Members.{differ_of, one_of_name}
-use Rattle.landing_joint.proofs.FlightSteps.{add_parts, estimate_callsign, estimate_frozen, named_is}
+use Rattle.landing_joint.specs.shared.Events.{aerodrome_stays, named_is}
+use Rattle.landing_joint.specs.shared.Members.{differ_of, one_of_name}
+use Rattle.landing_joint.proofs.FlightSteps.{add_parts, estimate_callsign, estimate_frozen}
 use Rattle.landing_joint.proofs.StepLaws.{event_keeps_sound, step_keeps_sound}
 use Rattle.landing_joint.proofs.PassedOver.{found, is_found, some_flight, clock_counts, clock_counts_exactly}
 use Rattle.landing_rules.specs.shared.Members.{in_filter, filter_in, in_map, in_push, none_any, all_at, all_from}

@@ -7,7 +7,6 @@ pub mod ByNumber
 pub mod Problem
 pub mod Shift
 pub mod JoinedSchedule
-pub mod Members
 pub mod SoundAgain
 pub mod FlightSteps
 pub mod StepLaws

@@ -14,7 +14,7 @@ use Rattle.landing_rules.specs.Events.{same_span, situation_after, CoversFrozen,
 use Rattle.landing_rules.specs.Events.{Clock, Answered, IsPlanShown}
 use Rattle.landing_rules.specs.Sound.{IsSound, IsSoundState, IsGoodEvent}
 use Rattle.std.proofs.lemmas.List.{length_push}
-use Rattle.landing_joint.proofs.Members.{Differ, callsigns, differ_of}
+use Rattle.landing_joint.specs.shared.Members.{Differ, callsigns, differ_of}
 use Rattle.landing_joint.proofs.SoundAgain.{kept, sound_again, each_of}
 use Rattle.landing_rules.specs.shared.Counting.{Member}
 use Rattle.landing_joint.specs.shared.LandingsInOrder.{member_order}
