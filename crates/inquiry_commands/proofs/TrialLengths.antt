@@ -29,7 +29,7 @@ use Rattle.whatif.specs.Text.{cause_words, outcome_words, outcomes_text, trial_l
 use Rattle.text_bounds.specs.Replays.{IsInDays}
 use Rattle.text_bounds.specs.Trials.{outcomes_bound}
 use Rattle.text_bounds.specs.shared.Lengths.{rank_short, value_short}
-use Rattle.text_bounds.specs.shared.Objectives.{schedule_low}
+use Rattle.plan_file.specs.shared.Objectives.{schedule_low}
 use Rattle.text_bounds.specs.shared.Events.{refusal_short}
 
 -- ---- refusals
