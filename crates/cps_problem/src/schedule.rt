@@ -11,6 +11,7 @@ pub struct Schedule {
 
 impl Model for Schedule {
     ghost use Rattle.std.specs.Prelude.{List, ℕ, length, ◌≤◌};
+    ghost use Rattle.cps_base.specs.Limits.{most_waiting};
 
     ghost Value = { List ℕ };
 
