@@ -1,6 +1,6 @@
 //! The labels of a stage whose links from the stage before are kept.
 
-ghost use Rattle.std.specs.Prelude.{◌≡◌, ℕ, ◌+◌, ◌*◌, ◌<◌, ◌≤◌, length, slice_index, slice_index_or};
+ghost use Rattle.std.specs.Prelude.{◌≡◌, ℕ, ◌+◌, ◌*◌, ◌^◌, ◌<◌, ◌≤◌, length, slice_index, slice_index_or};
 ghost use Rattle.cps_base.specs.Tally.{raised_by};
 ghost use Rattle.cps_network.specs.Landable.{HasEachLandable};
 ghost use Rattle.cps_network.specs.Links.{AreGroups, range_at};
@@ -30,6 +30,7 @@ use wake_table::Category;
 // How many ranges near one another find room on the stack. An array is written whole first, so most pieces take a small one;
 // those of a problem's last stages, where few windows share a range, need the large one.
 const SMALL_ROOM: usize = 500;
+
 const LARGE_ROOM: usize = 1024;
 
 // What landings behind ranges of the links need, from the range at place `first` on.
@@ -47,6 +48,7 @@ fn ends_of<const W: usize>(links: &Links<W>, start: usize, n: usize) -> (usize, 
     requires windows { start + n ≤ length links.now.target }
     ensures from { (i : ℕ) → i < n → result.0 ≤ slice_index links.now.places (start + i) }
     ensures before { (i : ℕ) → i < n → slice_index links.now.places (start + i) < result.1 }
+    ensures ordered { result.0 ≤ result.1 }
     ensures within { result.1 ≤ length links.now.ranges }
 {
     let places = &links.places()[start..start + n];
@@ -175,9 +177,10 @@ fn fill_in_room<const W: usize, const ROOM: usize>(
         → first ≤ slice_index links.now.places (start + i) }
     requires before { (i : ℕ) → i < length part.old
         → slice_index links.now.places (start + i) < end }
-    requires within { end ≤ length links.now.ranges }
     requires ordered { first ≤ end }
-    requires room { end - first ≤ ROOM }
+    requires within { end ≤ length links.now.ranges }
+    requires room { end ≤ first + ROOM }
+    requires small { ROOM ≤ 2 ^ 32 }
     ensures { (i : ℕ) → i < length part.old
         → IsLabelAt labelling.now.problem.now labelling.now.stage.now (start + i)
         (slice_index part.new i) }
