@@ -1,9 +1,11 @@
--- How long the lines of outcomes are.
+-- From the clauses of printed outcomes to how long their text is, and that it is one.
 use Rattle.std.proofs.Common.{◌≡◌, ℕ, ◌+◌, ◌*◌, ◌<◌, ◌≤◌, inl, inr, List, [], ◌∷◌, ◌++◌, length, Option, Some, None}
-use Rattle.std.proofs.Common.{refl, sym, ap, subst, arith}
+use Rattle.std.proofs.Common.{refl, sym, ap, subst, ◌∙◌, arith}
 use Rattle.std.specs.Prelude.{All, decimal, nat_lt, option_map}
 use Rattle.std.specs.List.{AllZip}
+use Rattle.std.specs.Result.{result_ok}
 use Rattle.std.proofs.lemmas.Bool.{cases_Bool}
+use Rattle.std.proofs.lemmas.Option.{same_Some}
 use Rattle.std.proofs.lemmas.List.{length-append}
 use Rattle.std.proofs.lemmas.List.Elements.{All-head, All-tail}
 use Rattle.landing_rules.specs.Events as rules
@@ -23,14 +25,17 @@ use Rattle.whatif.specs.declared.outcome.TrialRefusal.{TrialRefusal}
 use Rattle.whatif.specs.declared.outcome.TrialRefusal.TheVariants as refused
 use Rattle.whatif.specs.declared.outcome.Outcome.{Outcome}
 use Rattle.whatif.specs.declared.outcome.Outcome.TheVariants.{Value, Infeasible, Refused}
+use Rattle.whatif.specs.OneText.{OutcomesAreOneLaw}
 use Rattle.whatif.specs.Outcomes.{AreOutcomes, HasLeast, IsOutcomeBy, IsOutcomeOf, changed, closure_refusal}
 use Rattle.whatif.specs.Outcomes.{first_above, refusal, shift_refusal}
 use Rattle.whatif.specs.Text.{cause_words, outcome_words, outcomes_text, trial_line, trial_lines}
 use Rattle.text_bounds.specs.Replays.{IsInDays}
+use Rattle.text_bounds.specs.Counts.{count_in}
 use Rattle.text_bounds.specs.Trials.{outcomes_bound}
 use Rattle.text_bounds.specs.shared.Lengths.{rank_short, value_short}
 use Rattle.plan_file.specs.shared.Objectives.{schedule_low}
 use Rattle.text_bounds.specs.shared.Events.{refusal_short}
+use Rattle.inquiry_commands.specs.WhatIf.{WhatIfIsBoundedLaw, WhatIfTextIsOneLaw}
 
 -- ---- refusals
 
@@ -158,3 +163,25 @@ module _ (a : Aerodrome) (fs : List Flight) (range : IsInRange a) (sound : IsSou
       let x = length-append (outcome_words base) (10 ∷ []) in
       let y = length-append (outcome_words base ++ 10 ∷ []) (trial_lines 1 rest) in
       omega (arith, first, lines, x, y)
+
+-- ---- texts
+
+pub what_if_short : WhatIfIsBoundedLaw
+what_if_short a f t text answer x =
+    let tried = x.tried in
+    let lines = outcomes_short x.aerodrome x.flights tried.range tried.sound x.trials tried.outcomes
+    tried.good tried.few tried.are in
+    let long = ap length tried.prints in
+    subst (λ r. length text ≤ outcomes_bound (count_in r)) (sym x.trials_read) (omega (arith, lines, long))
+
+pub what_if_one : OutcomesAreOneLaw → WhatIfTextIsOneLaw
+what_if_one law a f t text other answer another x y =
+    let aerodromes : y.aerodrome ≡ x.aerodrome =
+    same_Some _ _ (ap result_ok (sym y.aerodrome_read ∙ x.aerodrome_read)) in
+    let flights : y.flights ≡ x.flights = same_Some _ _ (ap result_ok (sym y.flights_read ∙ x.flights_read)) in
+    let trials : y.trials ≡ x.trials = same_Some _ _ (ap result_ok (sym y.trials_read ∙ x.trials_read)) in
+    let there = subst (λ (ts : List Trial). AreOutcomes x.aerodrome x.flights ts y.tried.outcomes) trials
+    (subst (λ (fs : List Flight). AreOutcomes x.aerodrome fs y.trials y.tried.outcomes) flights
+    (subst (λ (b : Aerodrome). AreOutcomes b y.flights y.trials y.tried.outcomes) aerodromes y.tried.are)) in
+    let outcomes = law x.aerodrome x.flights x.trials x.tried.outcomes y.tried.outcomes x.tried.are there in
+    (x.tried.prints ∙ ap outcomes_text outcomes ∙ sym y.tried.prints, x.answers ∙ sym y.answers)
