@@ -157,7 +157,7 @@ fn fill_linked_part<const W: usize>(
 }
 
 // The same, where the places of the ranges that lead to the part's windows lie from `first` on and before `end`, and the leads
-// of these ranges find room on the stack.
+// of these ranges find room on the stack. Not inlined, so that the small room is not the large one's.
 #[inline(never)]
 fn fill_in_room<const W: usize, const ROOM: usize>(
     labelling: &Labelling<W>,
