@@ -1,7 +1,7 @@
 """Small random files and event logs from a seed, and their texts as docs/FORMATS.md has them."""
 import random
 
-from rules import Flight, Situation
+from rules import KINDS, Flight, Situation
 
 LETTERS = 'ABCDEF'
 FLIGHT_HEADER = 'callsign,category,eta,weight,windows,after\n'
@@ -66,7 +66,7 @@ def draw_closure(draw):
 
 def draw_event(draw, number, closures):
     """An event of any kind, good or to be refused; `closures` are those seen so far."""
-    kind = draw.choice(('estimate', 'cancel', 'add', 'close', 'reopen', 'clock', 'clock'))
+    kind = draw.choice((*KINDS, 'clock'))
     callsign = 'F%d' % draw.randint(0, 7)
     if kind == 'estimate':
         estimate = 600 + draw.randint(0, 800)
@@ -79,7 +79,7 @@ def draw_event(draw, number, closures):
         return {'kind': kind, 'callsign': callsign, 'flight': draw_flight(draw, callsign, others)}
     if kind == 'clock':
         return {'kind': kind, 'now': draw.randint(300, 1300)}
-    begin, end = draw.choice(closures) if closures and kind == 'reopen' and draw.random() < 0.8 else draw_closure(draw)
+    begin, end = draw.choice(closures) if closures and kind != 'close' and draw.random() < 0.8 else draw_closure(draw)
     closures.append((begin, end))
     return {'kind': kind, 'from': begin, 'to': end}
 

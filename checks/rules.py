@@ -4,6 +4,7 @@ from itertools import permutations
 
 LAST_SECOND = 172_799
 MOST_ACTIVE, MOST_WAITING, MOST_CLOSURES = 500, 60, 32
+KINDS = ('estimate', 'cancel', 'add', 'close', 'reopen', 'clock')
 
 
 @dataclass

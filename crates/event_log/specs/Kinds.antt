@@ -1,4 +1,4 @@
--- The six kinds of events, column by column from left to right.
+-- The kinds of events, column by column from left to right.
 use Rattle.std.specs.Prelude.{ℕ, List, codes, bytes_eq, Result, Ok, Err, if◌then◌else◌}
 use Rattle.cps_base.specs.Answers.{◌>>=◌}
 use Rattle.csv_records.specs.Rows.{Fields}

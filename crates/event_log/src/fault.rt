@@ -47,7 +47,7 @@ pub enum LogCause {
     /// The record has not seven fields.
     #[error("not seven fields")]
     FieldCount,
-    /// The first field is none of the six kinds.
+    /// The first field is none of the kinds.
     #[error("not a kind of event")]
     Kind,
     /// A column is not what the kind wants there.

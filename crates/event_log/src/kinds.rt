@@ -1,4 +1,4 @@
-// The six kinds of events, each with its columns from left to right.
+// The kinds of events, each with its columns from left to right.
 ghost use Rattle.std.specs.Prelude.{◌≡◌, IfOk};
 ghost use Rattle.csv.specs.Records.{fields_of};
 ghost use Rattle.event_log.specs.Kinds.{estimate_in, cancel_in, add_in, close_in, reopen_in, clock_in, event_by};

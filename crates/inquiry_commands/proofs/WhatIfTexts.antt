@@ -33,8 +33,8 @@ use Rattle.text_bounds.specs.Replays.{IsInDays}
 use Rattle.text_bounds.specs.Counts.{count_in}
 use Rattle.text_bounds.specs.Trials.{outcomes_bound}
 use Rattle.text_bounds.specs.shared.Lengths.{rank_short, value_short}
-use Rattle.text_bounds.specs.shared.Objectives.{schedule_low}
-use Rattle.text_bounds.specs.shared.Refusals.{refusal_short}
+use Rattle.plan_file.specs.shared.Objectives.{schedule_low}
+use Rattle.text_bounds.specs.shared.Events.{refusal_short}
 use Rattle.inquiry_commands.specs.WhatIf.{WhatIfIsBoundedLaw, WhatIfTextIsOneLaw}
 
 -- ---- refusals

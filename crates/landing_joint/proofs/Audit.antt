@@ -30,7 +30,7 @@ use Rattle.landing_joint.proofs.AuditLines.{block_landings, find_first, find_som
 use Rattle.landing_joint.proofs.AuditLines.{twice_none, none_twice, second_in, second_at, lines_strict, strict_lines}
 use Rattle.landing_joint.proofs.AuditLines.{Found, lines_landings, lines_marks, landings_lines, each_map, each_lines}
 use Rattle.landing_joint.proofs.AuditLines.{same_refl, same_true, one_nil}
-use Rattle.landing_joint.proofs.Members.{member_number}
+use Rattle.landing_joint.specs.shared.Members.{member_number}
 use Rattle.std.proofs.lemmas.List.{length-map}
 use Rattle.landing_rules.specs.shared.Members.{in_map, map_in, all_at}
 

@@ -18,7 +18,7 @@ use Rattle.landing_joint.specs.ByNumber.{insert_number, numbers_by_rank}
 use Rattle.landing_joint.proofs.Joint.{comes_is, first_come, frozen_each}
 use Rattle.cps_theory.specs.laws.Members.{filter_in}
 use Rattle.cps_theory.specs.laws.NumberedLists.{numbers_in}
-use Rattle.landing_joint.proofs.Members.{frozen_member}
+use Rattle.landing_joint.specs.shared.Members.{frozen_member}
 use Rattle.landing_rules.specs.shared.Members.{all_from, member_permutation}
 use Rattle.landing_joint.specs.shared.Insertion.{insert_moves, sort_moves}
 use Rattle.landing_joint.specs.shared.LandingsInOrder.{Rises, order_rises, order_member, member_order}

@@ -10,17 +10,18 @@ use Rattle.cps_base.specs.Limits.{most_flights, most_waiting}
 use Rattle.landing_rules.specs.Flights.{Active, Flight, Landing, Situation, Schedule, Callsign, Span, landing}
 use Rattle.landing_rules.specs.Flights.{is_waiting, waiting}
 use Rattle.landing_rules.specs.Rules.{lists}
-use Rattle.landing_rules.specs.Events.{Estimate, Cancel, Add, named, frozen_landings, unknown_or_frozen, refusal}
-use Rattle.landing_rules.specs.Events.{estimated, newcomer, situation_after, Frozen, Duplicate, TooManyFlights}
+use Rattle.landing_rules.specs.Events.{Estimate, Cancel, Add, named, frozen_landings, refusal}
+use Rattle.landing_rules.specs.Events.{estimated, newcomer, situation_after, Duplicate, TooManyFlights}
 use Rattle.landing_rules.specs.Events.{TooManyWaiting, PredecessorOfFrozen}
 use Rattle.landing_rules.specs.Sound.{IsSound, IsGoodFlight, IsGoodEvent}
 use Rattle.std.proofs.lemmas.List.{length_push}
-use Rattle.landing_joint.proofs.Members.{Differ, callsigns, differ_of, one_of_name}
+use Rattle.landing_joint.specs.shared.Events.{named_waits}
+use Rattle.landing_joint.specs.shared.Members.{Differ, callsigns, differ_of}
 use Rattle.landing_joint.proofs.SoundAgain.{kept, sound_again, each_of, fewer_frozen}
 use Rattle.landing_rules.specs.shared.Counting.{Member}
 use Rattle.std.proofs.lemmas.List.{length-map}
 use Rattle.landing_rules.specs.shared.Members.{map_in, in_filter, filter_in, in_map, in_push, in_frozen, frozen_in}
-use Rattle.landing_rules.specs.shared.Members.{found_in, none_found, none_any, fewer_filtered, fewer_twice, fewer_kept}
+use Rattle.landing_rules.specs.shared.Members.{none_found, none_any, fewer_filtered, fewer_twice, fewer_kept}
 
 -- ---- cancel
 
@@ -42,26 +43,6 @@ cancelled s plan c h =
     (a, filter_in is_waiting s.active a (in_filter test s.active a r.0).0 r.1, refl)))
 
 -- ---- estimate
-
-pub named_is : (c : Callsign) (a : Active) → named c a ≡ true → a.flight.callsign ≡ c
-named_is c a e = (bytes_eq-Decides a.flight.callsign c).0 e
-
--- where the event is accepted, each flight of that name waits
-named_waits : (s : Situation) (c : Callsign) → IsSound s → unknown_or_frozen c (find (named c) s.active) ≡ None
-    → (a : Active) → Member a s.active → named c a ≡ true → a.frozen ≡ None
-named_waits s c h ok a m e = go (find (named c) s.active) refl ok
-  where
-    go : (o : Option Active) → find (named c) s.active ≡ o → unknown_or_frozen c o ≡ None → a.frozen ≡ None
-    go None q ok = absurd (false≢true (sym (none_found (named c) s.active a q m) ∙ e))
-    go (Some b) q ok =
-        let r = found_in (named c) s.active b q in
-        let one = one_of_name s.active a b (differ_of s.active h.callsigns) m r.0 (named_is c a e
-        ∙ sym (named_is c b r.1)) in
-        ap (λ (z : Active). z.frozen) one ∙ two b.frozen ok
-      where
-        two : (o : Option ℕ) → option_map Frozen o ≡ None → o ≡ None
-        two None ok = refl
-        two (Some t) ok = let w : Some (Frozen t) ≡ None = ok in absurd (cc)
 
 pub estimate_callsign : (c : Callsign) (eta : ℕ) (windows : List Span) (a : Active)
     → (estimated c eta windows a).flight.callsign ≡ a.flight.callsign

@@ -14,7 +14,7 @@ use Rattle.std.proofs.lemmas.Option.{same_Some}
 use Rattle.landing_rules.specs.Flights.{Active, Aerodrome, Callsign, Flight, Schedule, Situation, Span, is_waiting}
 use Rattle.landing_rules.specs.Flights.{waiting}
 use Rattle.landing_rules.specs.Rules.{arrival_cmp, lists, IsFeasible}
-use Rattle.landing_rules.specs.Events.{Event, Estimate, Cancel, Add, Close, Reopen, Clock, Refusal, State, Step}
+use Rattle.landing_rules.specs.Events.{Event, Estimate, Cancel, Add, Clock, Refusal, State, Step}
 use Rattle.landing_rules.specs.Events.{Answered, Run, IsPlanShown, estimated, frozen_landings, named, newcomer}
 use Rattle.landing_rules.specs.Events.{refusal, situation_after}
 use Rattle.landing_rules.specs.Sound.{IsSound, IsSoundState, IsGoodEvent}
@@ -24,9 +24,9 @@ use Rattle.landing_joint.specs.PassedOver.{waiting_flight, waits_in, is_ahead, s
 use Rattle.landing_joint.specs.PassedOver.{StaysInLineThrough, ArePassedAtLeast, passing_by_event, passing_flight}
 use Rattle.landing_joint.specs.PassedOver.{passing_in_step, passing_in_run, StepCountsLaw, FewPassLaw, FewPassLaterLaw}
 use Rattle.landing_joint.specs.PassedOver.{IsFirstInLine, FewPassFirstLaw, FewPassAnyoneLaw}
-use Rattle.landing_joint.specs.shared.EventAerodrome.{aerodrome_stays}
-use Rattle.landing_joint.proofs.Members.{differ_of, one_of_name}
-use Rattle.landing_joint.proofs.FlightSteps.{add_parts, estimate_callsign, estimate_frozen, named_is}
+use Rattle.landing_joint.specs.shared.Events.{aerodrome_stays, named_is}
+use Rattle.landing_joint.specs.shared.Members.{differ_of, one_of_name}
+use Rattle.landing_joint.proofs.FlightSteps.{add_parts, estimate_callsign, estimate_frozen}
 use Rattle.landing_joint.proofs.StepLaws.{event_keeps_sound, step_keeps_sound}
 use Rattle.landing_joint.proofs.PassedOver.{found, is_found, some_flight, clock_counts, clock_counts_exactly}
 use Rattle.landing_rules.specs.shared.Members.{in_filter, filter_in, in_map, in_push, none_any, all_at, all_from}
@@ -167,57 +167,42 @@ none_pass old e h (Some a) = h a.flight
 abbrev state_of : Situation → Option Schedule → State
 state_of s plan = record { situation = s; plan = plan }
 
-module _ (s : Situation) (plan : Option Schedule) (c : Callsign) (g : ℕ) (sound : IsSound s) (feasible : (t : Schedule)
-    → plan ≡ Some t → IsFeasible s t) (carry : s.aerodrome.carry ≡ true) (here : waits_in s c ≡ true)
-    (so_far : Counted s.aerodrome.k c s g) where
-  abbrev Goal : Event → Type 0
-  Goal e = IsGoodEvent e → refusal s e ≡ None → StaysInLine c s (situation_after s plan e)
-      → Counted s.aerodrome.k c (situation_after s plan e) (g + passing_in_step (state_of s plan) e None c)
-
-  by_counts : (e : Event) → SameCounts s (situation_after s plan e)
-      → ((f : Flight) → passing_by_event (state_of s plan) e f ≡ 0) → Goal e
-  by_counts e same none good ok line =
-      let new : Situation = situation_after s plan e in
-      none_more s.aerodrome.k c new g (passing_in_step (state_of s plan) e None c)
-      (none_pass (state_of s plan) e none (waiting_flight s c))
-      (so_far.0, quiet s new (event_keeps_sound s plan e sound good feasible ok) c g same here line so_far.1)
-
-clock_counted : (s : Situation) (plan : Option Schedule) (c : Callsign) (g : ℕ) (now : ℕ) → IsSound s
-    → ((t : Schedule) → plan ≡ Some t → IsFeasible s t) → s.aerodrome.carry ≡ true → waits_in s c ≡ true
-    → Counted s.aerodrome.k c s g →
-    IsGoodEvent (Clock now) → refusal s (Clock now) ≡ None → StaysInLine c s (situation_after s plan (Clock now))
-    → Counted s.aerodrome.k c (situation_after s plan (Clock now))
-    (g + passing_in_step (state_of s plan) (Clock now) None c)
-clock_counted s None c g now sound feasible carry here so_far good ok line =
-    by_counts s None c g sound feasible carry here so_far (Clock now)
-    (same_active s (situation_after s None (Clock now)) sound refl) (λ f. refl) good ok line
-clock_counted s (Some t) c g now sound feasible carry here so_far good ok line =
-    let f = some_flight s c here in
-    let r = clock_counts s t now c f.0 g sound carry (feasible t refl) ok f.1 line.waits so_far.1 in
-    subst (λ o. Counted s.aerodrome.k c (situation_after s (Some t) (Clock now))
-    (g + passing_flight (state_of s (Some t)) (Clock now) o)) (sym f.1) (r.few, r.counted)
+-- an accepted event keeps the counts, and nobody passes by it; or it is the clock's, and a plan is shown
+by_kind : (s : Situation) (P : Option Schedule → Event → Type 0) → IsSound s
+    → ((plan : Option Schedule) (e : Event) → SameCounts s (situation_after s plan e)
+    → ((f : Flight) → passing_by_event (state_of s plan) e f ≡ 0) → P plan e) →
+    ((t : Schedule) (now : ℕ) → P (Some t) (Clock now))
+    → (plan : Option Schedule) (e : Event) → refusal s e ≡ None → P plan e
+by_kind s P sound still clock plan (Estimate d eta windows) ok =
+    still plan (Estimate d eta windows) (same_estimated s plan d eta windows sound) (λ f. refl)
+by_kind s P sound still clock plan (Cancel d) ok = still plan (Cancel d) (same_cancelled s plan d sound) (λ f. refl)
+by_kind s P sound still clock plan (Add x) ok = still plan (Add x) (same_added s plan x sound ok) (λ f. refl)
+by_kind s P sound still clock (Some t) (Clock now) ok = clock t now
+by_kind s P sound still clock plan e ok =
+    still plan e (same_active s (situation_after s plan e) sound refl) (λ f. refl)
 
 event_counted : (s : Situation) (plan : Option Schedule) (c : Callsign) (g : ℕ) (e : Event)
     → IsSound s → ((t : Schedule) → plan ≡ Some t → IsFeasible s t) → s.aerodrome.carry ≡ true
     → waits_in s c ≡ true → Counted s.aerodrome.k c s g →
     IsGoodEvent e → refusal s e ≡ None → StaysInLine c s (situation_after s plan e)
     → Counted s.aerodrome.k c (situation_after s plan e) (g + passing_in_step (state_of s plan) e None c)
-event_counted s plan c g (Estimate d eta windows) sound feasible carry here so_far =
-    by_counts s plan c g sound feasible carry here so_far (Estimate d eta windows)
-    (same_estimated s plan d eta windows sound) (λ f. refl)
-event_counted s plan c g (Cancel d) sound feasible carry here so_far =
-    by_counts s plan c g sound feasible carry here so_far (Cancel d) (same_cancelled s plan d sound) (λ f. refl)
-event_counted s plan c g (Add x) sound feasible carry here so_far =
-    λ good ok. by_counts s plan c g sound feasible carry here so_far (Add x) (same_added s plan x sound ok)
-    (λ f. refl) good ok
-event_counted s plan c g (Close span) sound feasible carry here so_far =
-    by_counts s plan c g sound feasible carry here so_far (Close span)
-    (same_active s (situation_after s plan (Close span)) sound refl) (λ f. refl)
-event_counted s plan c g (Reopen span) sound feasible carry here so_far =
-    by_counts s plan c g sound feasible carry here so_far (Reopen span)
-    (same_active s (situation_after s plan (Reopen span)) sound refl) (λ f. refl)
-event_counted s plan c g (Clock now) sound feasible carry here so_far =
-    clock_counted s plan c g now sound feasible carry here so_far
+event_counted s plan c g e sound feasible carry here so_far good ok line =
+    by_kind s Goal sound (λ plan e same none feasible good ok line.
+    let new : Situation = situation_after s plan e in
+    none_more s.aerodrome.k c new g (passing_in_step (state_of s plan) e None c)
+    (none_pass (state_of s plan) e none (waiting_flight s c))
+    (so_far.0, quiet s new (event_keeps_sound s plan e sound good feasible ok) c g same here line so_far.1))
+    (λ t now feasible good ok line.
+    let f = some_flight s c here in
+    let r = clock_counts s t now c f.0 g sound carry (feasible t refl) ok f.1 line.waits so_far.1 in
+    subst (λ o. Counted s.aerodrome.k c (situation_after s (Some t) (Clock now))
+    (g + passing_flight (state_of s (Some t)) (Clock now) o)) (sym f.1) (r.few, r.counted))
+    plan e ok feasible good ok line
+  where
+    Goal : Option Schedule → Event → Type 0
+    Goal plan e = ((t : Schedule) → plan ≡ Some t → IsFeasible s t) → IsGoodEvent e → refusal s e ≡ None
+        → StaysInLine c s (situation_after s plan e)
+        → Counted s.aerodrome.k c (situation_after s plan e) (g + passing_in_step (state_of s plan) e None c)
 
 -- ---- a step, and a run
 
@@ -338,45 +323,25 @@ abbrev CountsExactly : State → Event → Option Refusal → State → Callsign
 CountsExactly old e answer new c = (f g : Active) → waiting_flight old.situation c ≡ Some f
     → waiting_flight new.situation c ≡ Some g → g.passed ≡ f.passed + passing_in_step old e answer c
 
-by_same_counts : (s new : Situation) (plan : Option Schedule) (e : Event) (c : Callsign) → SameCounts s new
-    → ((f : Flight) → passing_by_event (state_of s plan) e f ≡ 0)
-    → CountsExactly (state_of s plan) e None (state_of new plan) c
-by_same_counts s new plan e c same none f g here later =
-    let mf = found s c f here in
-    let mg = found new c g later in
-    let p = same g f mg.0 mf.0 (mf.1 ∙ sym mg.1) in
-    let z = none_pass (state_of s plan) e none (waiting_flight s c) in
-    omega arith
-
-clock_exactly : (s : Situation) (plan : Option Schedule) (now : ℕ) (c : Callsign) → IsSound s
-    → ((t : Schedule) → plan ≡ Some t → IsFeasible s t) → s.aerodrome.carry ≡ true → s.aerodrome.k ≤ 1
-    → refusal s (Clock now) ≡ None →
-    CountsExactly (state_of s plan) (Clock now) None (state_of (situation_after s plan (Clock now)) plan) c
-clock_exactly s None now c sound feasible carry low ok f g here later = by_same_counts s
-    (situation_after s None (Clock now)) None (Clock now) c
-    (same_active s (situation_after s None (Clock now)) sound refl) (λ f. refl) f g here later
-clock_exactly s (Some t) now c sound feasible carry low ok f g here later =
-    clock_counts_exactly s t now c f g sound carry low (feasible t refl) ok here later
-    ∙ ap (λ o. f.passed + passing_flight (state_of s (Some t)) (Clock now) o) (sym here)
-
 event_exactly : (s : Situation) (plan : Option Schedule) (e : Event) (c : Callsign) → IsSound s
     → ((t : Schedule) → plan ≡ Some t → IsFeasible s t) → s.aerodrome.carry ≡ true → s.aerodrome.k ≤ 1
     → refusal s e ≡ None →
     CountsExactly (state_of s plan) e None (state_of (situation_after s plan e) plan) c
-event_exactly s plan (Estimate d eta windows) c sound feasible carry low ok = by_same_counts s
-    (situation_after s plan (Estimate d eta windows)) plan (Estimate d eta windows) c
-    (same_estimated s plan d eta windows sound) (λ f. refl)
-event_exactly s plan (Cancel d) c sound feasible carry low ok =
-    by_same_counts s (situation_after s plan (Cancel d)) plan (Cancel d) c (same_cancelled s plan d sound) (λ f. refl)
-event_exactly s plan (Add x) c sound feasible carry low ok =
-    by_same_counts s (situation_after s plan (Add x)) plan (Add x) c (same_added s plan x sound ok) (λ f. refl)
-event_exactly s plan (Close span) c sound feasible carry low ok = by_same_counts s
-    (situation_after s plan (Close span)) plan (Close span) c
-    (same_active s (situation_after s plan (Close span)) sound refl) (λ f. refl)
-event_exactly s plan (Reopen span) c sound feasible carry low ok = by_same_counts s
-    (situation_after s plan (Reopen span)) plan (Reopen span) c
-    (same_active s (situation_after s plan (Reopen span)) sound refl) (λ f. refl)
-event_exactly s plan (Clock now) c sound feasible carry low ok = clock_exactly s plan now c sound feasible carry low ok
+event_exactly s plan e c sound feasible carry low ok =
+    by_kind s Goal sound (λ plan e same none feasible ok f g here later.
+    let mf = found s c f here in
+    let mg = found (situation_after s plan e) c g later in
+    let p = same g f mg.0 mf.0 (mf.1 ∙ sym mg.1) in
+    let z = none_pass (state_of s plan) e none (waiting_flight s c) in
+    omega arith)
+    (λ t now feasible ok f g here later.
+    clock_counts_exactly s t now c f g sound carry low (feasible t refl) ok here later
+    ∙ ap (λ o. f.passed + passing_flight (state_of s (Some t)) (Clock now) o) (sym here))
+    plan e ok feasible ok
+  where
+    Goal : Option Schedule → Event → Type 0
+    Goal plan e = ((t : Schedule) → plan ≡ Some t → IsFeasible s t) → refusal s e ≡ None
+        → CountsExactly (state_of s plan) e None (state_of (situation_after s plan e) plan) c
 
 step_exactly : (old new : State) (e : Event) (answer : Option Refusal) (c : Callsign) → IsSoundState old
     → Step old e answer new → old.situation.aerodrome.carry ≡ true → old.situation.aerodrome.k ≤ 1

@@ -23,7 +23,7 @@ use Rattle.cps_theory.specs.NumberedSituation as numbers
 use Rattle.cps_theory.specs.laws.Members.{in_filter, in_append, append_in, distinct_filter, filter_in}
 use Rattle.landing_joint.specs.Numbered.{nobody, numbered, second_of, numbers_of, waits_at, comes_before}
 use Rattle.landing_joint.specs.Numbered.{numbered_situation}
-use Rattle.landing_joint.proofs.Members as members
+use Rattle.landing_joint.specs.shared.Members as members
 use Rattle.landing_rules.specs.shared.Members as general
 use Rattle.landing_joint.specs.shared.OpenDays.{open_low}
 use Rattle.landing_joint.proofs.Numbered.{landing_at, landings_are}

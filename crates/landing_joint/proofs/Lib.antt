@@ -7,10 +7,8 @@ pub mod ByNumber
 pub mod Problem
 pub mod Shift
 pub mod JoinedSchedule
-pub mod Members
 pub mod SoundAgain
 pub mod FlightSteps
-pub mod ClosureSteps
 pub mod StepLaws
 pub mod InLine
 pub mod RefusedSteps

@@ -19,8 +19,8 @@ use Rattle.cps_theory.specs.laws.Members.{filter_in, in_filter}
 use Rattle.landing_joint.specs.Numbered.{numbered, second_of, numbers_of, waits_at, comes_before, numbered_situation}
 use Rattle.landing_joint.specs.PassedOver.{waiting_flight, waits_in, count_passing, ArePassedAtLeast, ClockCounts}
 use Rattle.landing_joint.specs.PassedOver.{ClockCountsLaw, ClockCountsExactlyLaw}
-use Rattle.landing_joint.proofs.Members.{Differ, callsigns, differ_of, one_of_name}
-use Rattle.landing_joint.proofs.FlightSteps.{named_is}
+use Rattle.landing_joint.specs.shared.Members.{Differ, callsigns, differ_of, one_of_name}
+use Rattle.landing_joint.specs.shared.Events.{named_is}
 use Rattle.landing_joint.proofs.FirstStays.{bound_overtook, few_overtook_itself, fewer_overtook}
 use Rattle.landing_joint.proofs.Joint.{all_among, comes_is, feasible_numbered, first_come, passed_low}
 use Rattle.landing_joint.proofs.Clock.{at_after, forth_of, late_after, passing_is, same_flight, waiting_after}

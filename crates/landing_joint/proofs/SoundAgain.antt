@@ -6,7 +6,7 @@ use Rattle.landing_rules.specs.Flights.{Active, Aerodrome, Landing, Situation, w
 use Rattle.landing_rules.specs.Rules.{is_open, lists, ArePairSeparated, IsPairInPrecedence}
 use Rattle.landing_rules.specs.Events.{frozen_landings}
 use Rattle.landing_rules.specs.Sound.{IsSound, IsGoodFlight, ListsNone}
-use Rattle.landing_joint.proofs.Members.{Differ, callsigns, differ_pairs}
+use Rattle.landing_joint.specs.shared.Members.{Differ, callsigns, differ_pairs}
 use Rattle.landing_rules.specs.shared.Counting.{Member}
 use Rattle.landing_rules.specs.shared.Members.{all_at, all_from}
 

@@ -1,29 +1,12 @@
--- The situations that a run can reach, and what is asked of the events of a run: numbers in their ranges,
--- callsigns of their shape and apart, and frozen landings that keep the rules among themselves. This
--- project's own.
-use Rattle.std.specs.Prelude.{⊤, ◌≡◌, ◌≢◌, ◌+◌, ◌-◌, ◌<◌, ◌≤◌, false, List, length, IsTrue, All, AllPairs, sum_by}
-use Rattle.std.specs.List.{AllAdjacentBelow}
-use Rattle.cps_base.specs.Text.{is_callsign}
+-- The situations that a run can reach: numbers in their ranges, callsigns of their shape and apart, and frozen landings
+-- that keep the rules among themselves. This project's own.
+use Rattle.std.specs.Prelude.{◌≡◌, ◌≢◌, ◌<◌, ◌≤◌, false, List, length, IsTrue, All, AllPairs}
 use Rattle.wake_table.specs.Table.{IsWakeTable}
-use Rattle.landing_rules.specs.Flights.{Span, Flight, Active, Situation, Landing, waiting, horizon}
-use Rattle.cps_base.specs.Limits.{greatest_weight, most_closures, most_flights, most_open_seconds, most_waiting}
-use Rattle.landing_rules.specs.Rules.{last_second, is_open, lists, AreSeparated, AreInPrecedence}
-use Rattle.landing_rules.specs.Events.{Event, Estimate, Cancel, Add, Close, Reopen, Clock, State, IsPlanShown}
-use Rattle.landing_rules.specs.Events.{frozen_landings}
-
--- one to four windows, in order and apart, within the two days, of at most 7,200 seconds together
-pub record AreGoodWindows (windows : List Span) : Type 0 where
-  pub count : (1 ≤ length windows) × (length windows ≤ 4)
-  pub spans : All (λ w. (w.0 ≤ w.1) × (w.1 ≤ last_second)) windows
-  pub apart : AllAdjacentBelow (λ v w. v.1 < w.0) windows (length windows)
-  pub seconds : sum_by (λ w. w.1 + 1 - w.0) windows ≤ most_open_seconds
-
-pub record IsGoodFlight (f : Flight) : Type 0 where
-  pub callsign : IsTrue (is_callsign f.callsign)
-  pub eta : f.eta ≤ last_second
-  pub weight : (1 ≤ f.weight) × (f.weight ≤ greatest_weight)
-  pub windows : AreGoodWindows f.windows
-  pub after : length f.after ≤ 4
+use Rattle.landing_rules.specs.Flights.{Active, Situation, Landing, waiting, horizon}
+use Rattle.cps_base.specs.Limits.{most_closures, most_flights, most_waiting}
+use Rattle.landing_rules.specs.Rules.{is_open, lists, AreSeparated, AreInPrecedence}
+use Rattle.landing_rules.specs.Events.{State, IsPlanShown, frozen_landings}
+pub use Rattle.landing_rules.specs.Events.{AreGoodWindows, IsGoodFlight, IsGoodEvent}
 
 -- the flight lists no waiting flight
 abbrev pub ListsNone : List Active → Landing → Type 0
@@ -48,12 +31,3 @@ pub record IsSound (s : Situation) : Type 0 where
 pub record IsSoundState (state : State) : Type 0 where
   pub situation : IsSound state.situation
   pub shown : IsPlanShown state.situation state.plan
-
--- an event whose numbers are in their ranges
-abbrev pub IsGoodEvent : Event → Type 0
-IsGoodEvent (Estimate c eta windows) = (eta ≤ last_second) × AreGoodWindows windows
-IsGoodEvent (Cancel c) = ⊤
-IsGoodEvent (Add f) = IsGoodFlight f
-IsGoodEvent (Close span) = (span.0 < span.1) × (span.1 ≤ last_second + 1)
-IsGoodEvent (Reopen span) = (span.0 < span.1) × (span.1 ≤ last_second + 1)
-IsGoodEvent (Clock now) = now ≤ last_second

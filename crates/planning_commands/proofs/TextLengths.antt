@@ -26,9 +26,8 @@ use Rattle.text_bounds.specs.Counts.{count_in, event_count}
 use Rattle.text_bounds.specs.Replays.{HasShortName, IsInDays, IsTellable, ReplayIsBoundedLaw, answer_bound}
 use Rattle.text_bounds.specs.Replays.{most_active, replay_bound}
 use Rattle.text_bounds.specs.Trials.{TrialIsBoundedLaw}
-use Rattle.text_bounds.specs.shared.EventNames.{log_named}
+use Rattle.text_bounds.specs.shared.Events.{log_named, refusal_short}
 use Rattle.text_bounds.specs.shared.Lengths.{number_short}
-use Rattle.text_bounds.specs.shared.Refusals.{refusal_short}
 use Rattle.text_bounds.specs.shared.Replays.{next_tellable, refused_short}
 use Rattle.openings.specs.shared.OpenedFlights.{as_many}
 use Rattle.planning_commands.specs.Replay.{IsBegun}

@@ -8,7 +8,7 @@
 mod any_kept;
 mod bound;
 mod filling;
-mod former;
+mod hints;
 mod held;
 mod kept;
 mod labels;

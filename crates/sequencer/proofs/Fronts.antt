@@ -3,16 +3,15 @@
 use Rattle.std.proofs.Common.{◌≡◌, ℕ, zero, suc, ◌+◌, ◌<◌, ◌≤◌, Bool, true, false, cond, not, List, [], ◌∷◌, ◌++◌}
 use Rattle.std.proofs.Common.{length, get_or, map, filter, take, Option, Some, None, inl, inr, ◌⊎◌, refl, sym, ap, ap₂}
 use Rattle.std.proofs.Common.{subst, ◌∙◌, arith}
-use Rattle.std.specs.Prelude.{All, MatchOption, find, option_map, is_none, nat_lt, slice_get, unwrap_or}
+use Rattle.std.specs.Prelude.{All, MatchOption, option_map, is_none, nat_lt, slice_get, unwrap_or}
 use Rattle.std.specs.List.{cons_option}
 use Rattle.std.specs.List.Sorted.{IsPermutation}
-use Rattle.std.proofs.lemmas.Bool.{cases_Bool, cases_order, false≢true}
+use Rattle.std.proofs.lemmas.Bool.{cases_Bool, false≢true}
 use Rattle.std.proofs.lemmas.List.{append-nil, get_or_default, get_or-map, length-map, map-append, take-map}
 use Rattle.std.proofs.lemmas.List.Elements.{All-head, All-tail, filter_map-append}
 use Rattle.std.proofs.lemmas.List.Sorted.{IsPermutation-append, IsPermutation-filter_both, IsPermutation-map}
 use Rattle.std.proofs.lemmas.List.Sorted.{IsPermutation-sym, IsPermutation-trans, length_permutation}
 use Rattle.std.proofs.lemmas.Option.{same_Some}
-use Rattle.std.proofs.lemmas.Slice.Eq.{bytes_eq-Decides}
 use Rattle.std.proofs.lemmas.Grind.{same_number_lists}
 use Rattle.std.proofs.Math.Bool.{not-not}
 use Rattle.std.proofs.Math.Seq.{take-append_seam}
@@ -20,17 +19,18 @@ use Rattle.wake_table.specs.Table.{separation}
 use Rattle.landing_rules.specs.Flights.{Active, Aerodrome, Callsign, Landing, Schedule, Situation, Span, horizon}
 use Rattle.landing_rules.specs.Flights.{is_waiting, landing, landings, waiting}
 use Rattle.landing_rules.specs.Rules.{IsFeasible, IsFrozenKept, waits}
-use Rattle.landing_rules.specs.Events.{Event, Estimate, Cancel, Add, Close, Reopen, Clock, Frozen, after_clock}
+use Rattle.landing_rules.specs.Events.{Event, Estimate, Cancel, Add, Clock, after_clock}
 use Rattle.landing_rules.specs.Events.{estimated, freezes, frozen_landings, in_landing_order, insert_landing, named}
-use Rattle.landing_rules.specs.Events.{newcomer, passed_after, refusal, situation_after, unknown_or_frozen}
+use Rattle.landing_rules.specs.Events.{newcomer, passed_after, refusal, situation_after}
 use Rattle.landing_rules.specs.Problem.{by_rank, joined, joined_second}
 use Rattle.landing_rules.specs.Sound.{IsSound}
 use Rattle.landing_rules.specs.Text.{ShownLanding, shown_landing, shown_plan}
 use Rattle.landing_rules.specs.shared.Counting.{Member}
-use Rattle.landing_rules.specs.shared.Members.{all_at, found_in, in_filter, in_frozen, in_map, member_at}
-use Rattle.landing_rules.specs.shared.Members.{member_contains, member_permutation, none_found}
+use Rattle.landing_rules.specs.shared.Members.{all_at, in_filter, in_frozen, in_map, member_at}
+use Rattle.landing_rules.specs.shared.Members.{member_contains, member_permutation}
 use Rattle.landing_joint.specs.ClockLaws.{ClockKeepsPlanLaw}
 use Rattle.landing_joint.specs.Numbered.{nobody}
+use Rattle.landing_joint.specs.shared.Events.{named_waits}
 use Rattle.landing_joint.specs.shared.LandingsInOrder.{order_member, order_permutes, order_rises}
 use Rattle.sequencer.specs.Frozen.{frozen_of, frozen_shown, frozen_there, BeginsWithFrozen}
 use Rattle.sequencer.proofs.Ranks.{Apart, rank_length, rank_permutes}
@@ -269,38 +269,6 @@ waiting_shown s u sound e =
 
 -- ---- no event but a clock moves a frozen landing
 
--- where the event is accepted, each flight of that name waits
-named_waits : (s : Situation) (c : Callsign) → Apart s.active → unknown_or_frozen c (find (named c) s.active) ≡ None
-    → (a : Active) → Member a s.active → named c a ≡ true → a.frozen ≡ None
-named_waits s c apart ok a m e = go (find (named c) s.active) refl ok
-  where
-    one : (b : Active) → Member b s.active → a.flight.callsign ≡ b.flight.callsign → a ≡ b
-    one b n same =
-        let i = member_contains s.active a m in
-        let j = member_contains s.active b n in
-        let li = i.1 in
-        let lj = j.1 in
-        let names : (get_or s.active i.0 a).flight.callsign ≡ (get_or s.active j.0 a).flight.callsign =
-        ap (λ (z : Active). z.flight.callsign) i.2 ∙ same
-        ∙ ap (λ (z : Active). z.flight.callsign) (sym (get_or_default s.active j.0 a b lj ∙ j.2)) in
-        elim (cases_order i.0 j.0) [
-          | inl q ↦ sym i.2 ∙ ap (λ k. get_or s.active k a) q ∙ get_or_default s.active j.0 a b lj ∙ j.2
-          | inr (inl lt) ↦ absurd (apart i.0 j.0 a lt lj names)
-          | inr (inr gt) ↦ absurd (apart j.0 i.0 a gt li (sym names))
-        ]
-
-    is : (b : Active) → named c b ≡ true → b.flight.callsign ≡ c
-    is b q = (bytes_eq-Decides b.flight.callsign c).0 q
-
-    go : (o : Option Active) → find (named c) s.active ≡ o → unknown_or_frozen c o ≡ None → a.frozen ≡ None
-    go None q ok = absurd (false≢true (sym (none_found (named c) s.active a q m) ∙ e))
-    go (Some b) q ok = let r = found_in (named c) s.active b q in ap (λ (z : Active). z.frozen)
-        (one b r.0 (is a e ∙ sym (is b r.1))) ∙ two b.frozen ok
-      where
-        two : (o : Option ℕ) → option_map Frozen o ≡ None → o ≡ None
-        two None ok = refl
-        two (Some t) ok = let w : Some (Frozen t) ≡ None = ok in absurd (cc)
-
 frozen_estimated : (c : Callsign) (eta : ℕ) (windows : List Span) (xs : List Active)
     → ((a : Active) → Member a xs → named c a ≡ true → a.frozen ≡ None)
     → frozen_of (map (estimated c eta windows) xs) ≡ frozen_of xs
@@ -440,14 +408,13 @@ pub next_begins : ClockKeepsPlanLaw → (s : Situation) (t : Schedule) (e : Even
     BeginsWithFrozen (situation_after s (Some t) e) (shown_plan s t)
 next_begins law s t (Estimate c eta windows) sound keeps ok next = still s
     (record s { active = map (estimated c eta windows) s.active }) t
-    (frozen_estimated c eta windows s.active (named_waits s c sound.callsigns ok)) (begins s t sound keeps)
+    (frozen_estimated c eta windows s.active (named_waits s c sound ok)) (begins s t sound keeps)
 next_begins law s t (Cancel c) sound keeps ok next = still s
     (record s { active = filter (λ a. not (named c a)) s.active }) t
-    (frozen_cancelled c s.active (named_waits s c sound.callsigns ok)) (begins s t sound keeps)
+    (frozen_cancelled c s.active (named_waits s c sound ok)) (begins s t sound keeps)
 next_begins law s t (Add f) sound keeps ok next =
     still s (record s { active = s.active ++ newcomer f ∷ [] }) t
     (filter_map-append (λ a. option_map (landing a) a.frozen) s.active (newcomer f ∷ [])
     ∙ append-nil (frozen_landings s)) (begins s t sound keeps)
-next_begins law s t (Close span) sound keeps ok next = begins s t sound keeps
-next_begins law s t (Reopen span) sound keeps ok next = begins s t sound keeps
 next_begins law s t (Clock now) sound keeps ok next = clock_begins law s t now sound keeps ok next
+next_begins law s t e sound keeps ok next = begins s t sound keeps

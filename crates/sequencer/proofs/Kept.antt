@@ -10,7 +10,7 @@ use Rattle.landing_rules.specs.Sound.{IsSound, IsSoundState, IsGoodEvent}
 use Rattle.landing_rules.specs.Text.{ShownPlan, plan_shown, shown_plan}
 use Rattle.landing_joint.specs.ClockLaws.{ClockKeepsPlanLaw}
 use Rattle.landing_joint.specs.StepLaws.{EventKeepsSoundLaw}
-use Rattle.landing_joint.specs.shared.EventAerodrome.{aerodrome_stays}
+use Rattle.landing_joint.specs.shared.Events.{aerodrome_stays}
 use Rattle.sequencer.specs.Frozen.{BeginsWithFrozen}
 use Rattle.sequencer.specs.Standing.{IsInStep}
 use Rattle.sequencer.proofs.Fronts.{next_begins}

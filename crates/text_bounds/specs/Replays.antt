@@ -2,7 +2,7 @@
 use Rattle.std.specs.Prelude.{⊤, ℕ, ◌+◌, ◌*◌, ◌≤◌, min, List, All, Option, Some, None, length}
 use Rattle.cps_base.specs.Limits.{most_events, most_flights}
 use Rattle.landing_rules.specs.Rules.{last_second}
-use Rattle.landing_rules.specs.Events.{Add, Answered, Cancel, Clock, Close, Estimate, Event, Reopen, Run, State}
+use Rattle.landing_rules.specs.Events.{Answered, Cancel, Estimate, Event, Run, State}
 use Rattle.landing_rules.specs.Sound.{IsGoodEvent, IsSoundState}
 use Rattle.landing_rules.specs.Text.{replay_text}
 
@@ -22,10 +22,7 @@ replay_bound flights events = (events + 1) * answer_bound (most_active flights e
 abbrev pub HasShortName : Event → Type 0
 HasShortName (Estimate c eta windows) = length c ≤ 8
 HasShortName (Cancel c) = length c ≤ 8
-HasShortName (Add f) = ⊤
-HasShortName (Close span) = ⊤
-HasShortName (Reopen span) = ⊤
-HasShortName (Clock now) = ⊤
+HasShortName e = ⊤
 
 -- the clock shows a second of the two days, or none
 abbrev pub IsInDays : Option ℕ → Type 0

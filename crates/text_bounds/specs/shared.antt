@@ -3,11 +3,9 @@ pub mod Lengths
 pub mod Blocks
 pub mod Certificates
 pub mod Numbers
-pub mod Objectives
 pub mod OpenSeconds
 pub mod WholeCertificates
-pub mod Refusals
+pub mod Events
 pub mod Replays
-pub mod EventNames
 pub mod Reasons
 pub mod Trials

@@ -6,17 +6,17 @@ use Rattle.std.proofs.lemmas.List.Elements.{All-head, All-tail}
 use Rattle.std.proofs.lemmas.List.Sums.{count_by-le-length, length-filter}
 use Rattle.landing_rules.specs.Flights.{Active, Situation, Schedule, landings}
 use Rattle.cps_base.specs.Limits.{most_flights}
-use Rattle.landing_rules.specs.Events.{Add, Answered, Cancel, Clock, Close, Estimate, Event, Refusal, Reopen, Run}
+use Rattle.landing_rules.specs.Events.{Add, Answered, Cancel, Clock, Estimate, Event, Refusal, Run}
 use Rattle.landing_rules.specs.Events.{State, Step, active_after_clock, after_clock, estimated, named, situation_after}
 use Rattle.landing_rules.specs.Sound.{IsGoodEvent, IsSoundState}
 use Rattle.landing_rules.specs.Text.{accepted_words, answer_text, answers_text, begun_text, cause, line, lines_text}
 use Rattle.landing_rules.specs.Text.{plan_lines, refused_words}
 use Rattle.landing_joint.specs.StepLaws.{StepKeepsSoundLaw}
+use Rattle.plan_file.specs.shared.Landings.{length_landings}
 use Rattle.text_bounds.specs.Blocks.{BlockIsBoundedLaw}
 use Rattle.text_bounds.specs.Replays.{HasShortName, IsInDays, IsTellable, ReplayIsBoundedLaw, answer_bound, most_active}
-use Rattle.text_bounds.specs.shared.Blocks.{length_landings}
 use Rattle.text_bounds.specs.shared.Lengths.{number_short}
-use Rattle.text_bounds.specs.shared.Refusals.{refusal_short}
+use Rattle.text_bounds.specs.shared.Events.{refusal_short}
 
 accepted_short : (i : ℕ) → i < 10000 → length (line (accepted_words i)) ≤ 20
 accepted_short i few =
@@ -74,18 +74,13 @@ one_more s plan (Cancel c) =
     omega (arith, a, b)
 one_more s plan (Add f) = let a =
     length-append s.active (record { flight = f; frozen = None; passed = 0 } ∷ []) in omega (arith, a)
-one_more s plan (Close span) = omega arith
-one_more s plan (Reopen span) = omega arith
 one_more s plan (Clock now) = let a = length-clocked s plan (now + s.aerodrome.freeze) in omega (arith, a)
+one_more s plan e = omega arith
 
 clock_kept : (s : Situation) (plan : Option Schedule) (e : Event) → IsInDays s.clock → IsGoodEvent e
     → IsInDays (situation_after s plan e).clock
-clock_kept s plan (Estimate c eta windows) h good = h
-clock_kept s plan (Cancel c) h good = h
-clock_kept s plan (Add f) h good = h
-clock_kept s plan (Close span) h good = h
-clock_kept s plan (Reopen span) h good = h
 clock_kept s plan (Clock now) h good = good
+clock_kept s plan e h good = h
 
 module _ (law : BlockIsBoundedLaw) (keeps : StepKeepsSoundLaw) where
   -- one step keeps it, and has a short answer

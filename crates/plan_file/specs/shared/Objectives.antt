@@ -1,5 +1,5 @@
 -- The cost of landings in the two days, of flights with weights in their range, is small.
-use Rattle.std.proofs.Common.{◌≡◌, ℕ, ◌+◌, ◌*◌, ◌-◌, ◌≤◌, List, [], ◌∷◌, length, map, subst, arith}
+use Rattle.std.proofs.Common.{ℕ, ◌*◌, ◌-◌, ◌≤◌, List, [], ◌∷◌, length, map, arith}
 use Rattle.std.specs.Prelude.{All, sum_by}
 use Rattle.std.proofs.lemmas.Grind.{common_steps}
 use Rattle.std.proofs.lemmas.List.Elements.{All-nil, All-cons, All-head, All-tail}
@@ -10,7 +10,7 @@ use Rattle.landing_rules.specs.Flights.{Active, Landing, Schedule, landing, land
 use Rattle.cps_base.specs.Limits.{greatest_value, greatest_weight, most_flights}
 use Rattle.landing_rules.specs.Rules.{cost, delay, greatest, last_second}
 use Rattle.landing_rules.specs.Sound.{IsGoodFlight}
-use Rattle.text_bounds.specs.shared.Blocks.{length_landings}
+use Rattle.plan_file.specs.shared.Landings.{length_landings}
 
 -- a landing of a flight of a weight in its range, in the two days
 pub record IsLight (f : Landing) : Type 0 where

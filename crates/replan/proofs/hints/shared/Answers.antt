@@ -1,6 +1,6 @@
 use Rattle.std.proofs.Common.{arith}
-use Rattle.replan.proofs.FormerLemmas.{one_shared}
-use Rattle.replan.proofs.former.shared.Goals as goal
+use Rattle.replan.proofs.HintLemmas.{one_shared}
+use Rattle.replan.proofs.hints.shared.Goals as goal
 
 pub loop-labelled-preserved : goal.loop-labelled-preserved
 loop-labelled-preserved g c =

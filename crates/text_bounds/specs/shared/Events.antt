@@ -1,11 +1,30 @@
--- How long the cause of a refusal is.
-use Rattle.std.proofs.Common.{◌≡◌, ℕ, ◌≤◌, inl, inr, List, ◌++◌, length, Option, Some, None, subst, arith}
-use Rattle.std.specs.Prelude.{IsTrue, decimal, codes, find, option_map, nat_le, nat_lt}
-use Rattle.std.specs.List.{list_any}
+-- What is asked of each kind of event: the callsigns that the events of a log name are short, and so is the cause of
+-- each refusal.
+use of each
+-- refusal.
+use Rattle.std.proofs.Common.{◌≡◌, ℕ, ◌≤◌, inl, inr, List, [], ◌∷◌, length, map, true, false, Bool, cond, Result, Ok}
+use Rattle.std.proofs.Common.{Err, subst, ◌++◌, Option, Some, None, arith}
+use Rattle.std.specs.Prelude.{All, codes, bytes_eq, nat_le, not, ◌==◌, IsTrue, decimal, find, option_map, nat_lt, IfOk}
 use Rattle.std.proofs.lemmas.Bool.{cases_Bool}
+use Rattle.std.proofs.lemmas.List.Elements.{All-nil, All-cons, All-append, All-map}
+use Rattle.cps_base.specs.Answers.{◌>>=◌}
+use Rattle.cps_base.specs.Text.{is_callsign}
+use Rattle.cps_base.specs.Limits.{most_events, most_closures, most_flights, most_waiting}
+use Rattle.arrivals.specs.declared.event.Event as log
+use Rattle.arrivals.specs.Seen.{event_of}
+use Rattle.csv_records.specs.Rows.{Fields, field, records_of}
+use Rattle.event_log.specs.declared.fault.Col.TheVariants as columns
+use Rattle.event_log.specs.declared.fault.LogCause.{LogCause}
+use Rattle.event_log.specs.declared.fault.LogCause.TheVariants.{TooMany}
+use Rattle.event_log.specs.Columns.{callsign_in, category_in, column, empty_in, names_at, second_in, span_at, weight_in}
+use Rattle.event_log.specs.Columns.{windows_at}
+use Rattle.event_log.specs.Kinds.{add_in, cancel_in, clock_in, close_in, estimate_in, event_by, reopen_in}
+use Rattle.event_log.specs.Reading.{added, event_in, events_by, events_in, events_of, is_header}
+use Rattle.text_bounds.specs.Replays.{HasShortName, IsInDays}
+use Rattle.text_bounds.specs.shared.Lengths.{callsign_short, second_short}
+use Rattle.std.specs.List.{list_any}
 use Rattle.std.proofs.lemmas.List.{length-append}
 use Rattle.landing_rules.specs.Flights.{Active, Flight, Landing, Situation, Span, landing, waiting}
-use Rattle.cps_base.specs.Limits.{most_closures, most_flights, most_waiting}
 use Rattle.landing_rules.specs.Rules.{is_open, is_shut, last_second, lists}
 use Rattle.landing_rules.specs.Events.{Add, Cancel, Clock, ClockBack, Close, CoversFrozen, Duplicate, Estimate, Event}
 use Rattle.landing_rules.specs.Events.{Frozen, PredecessorOfFrozen, Refusal, Reopen, TooManyClosures, TooManyFlights}
@@ -17,8 +36,118 @@ use Rattle.landing_rules.specs.shared.Counting.{Member}
 use Rattle.landing_rules.specs.shared.Members.{all_at, cases_option, found_in, frozen_in, in_frozen}
 use Rattle.landing_joint.specs.shared.LandingsInOrder.{order_member}
 use Rattle.landing_joint.specs.shared.OpenDays.{open_in_days}
-use Rattle.text_bounds.specs.Replays.{HasShortName, IsInDays}
-use Rattle.text_bounds.specs.shared.Lengths.{callsign_short, second_short}
+use Rattle.std.proofs.lemmas.Result.{IfOk-at_ok}
+
+-- ---- the events that a log holds name callsigns
+
+abbrev IsNamed : log.Event → Type 0
+IsNamed e = HasShortName (event_of e)
+
+then_ok : {A B E : Type 0} (Q : A → Type 0) (P : B → Type 0) (x : Result A E) (f : A → Result B E) → IfOk x Q
+    → ((a : A) → Q a → IfOk (f a) P) → IfOk (x >>= f) P
+then_ok Q P (Ok a) f q h = h a q
+then_ok Q P (Err d) f q h = tt
+
+-- the next column
+follows : {A : Type 0} (x : Result A LogCause) (f : A → Result log.Event LogCause) → ((a : A) → IfOk (f a) IsNamed)
+    → IfOk (x >>= f) IsNamed
+follows (Ok a) f h = h a
+follows (Err d) f h = tt
+
+by_cond : {A E : Type 0} (P : A → Type 0) (b : Bool) (x y : Result A E) → IfOk x P → IfOk y P → IfOk (cond b x y) P
+by_cond P true x y p q = p
+by_cond P false x y p q = q
+
+callsign_named : (r : Fields) (f : List ℕ → Result log.Event LogCause)
+    → ((c : List ℕ) → length c ≤ 8 → IfOk (f c) IsNamed) → IfOk (callsign_in r >>= f) IsNamed
+callsign_named r f h = then_ok (λ (c : List ℕ). length c ≤ 8) IsNamed (callsign_in r) f
+    (elim (cases_Bool (is_callsign (column columns.Callsign r))) [
+      | inl here ↦ rw here (callsign_short (column columns.Callsign r) here)
+      | inr other ↦ rw other tt
+    ]) h
+
+estimate_named : (r : Fields) → IfOk (estimate_in r) IsNamed
+unfolding estimate_in
+estimate_named r =
+    callsign_named r _ (λ a short. follows (empty_in columns.Category r) _ (λ b.
+    follows (second_in r) _ (λ c. follows (empty_in columns.Weight r) _ (λ d.
+    follows (windows_at r) _ (λ e. follows (empty_in columns.After r) _ (λ f. short))))))
+
+cancel_named : (r : Fields) → IfOk (cancel_in r) IsNamed
+unfolding cancel_in
+cancel_named r =
+    callsign_named r _ (λ a short. follows (empty_in columns.Category r) _ (λ b.
+    follows (empty_in columns.Eta r) _ (λ c. follows (empty_in columns.Weight r) _ (λ d.
+    follows (empty_in columns.Windows r) _ (λ e. follows (empty_in columns.After r) _ (λ f. short))))))
+
+add_named : (r : Fields) → IfOk (add_in r) IsNamed
+unfolding add_in
+add_named r =
+    follows (callsign_in r) _ (λ a. follows (category_in r) _ (λ b.
+    follows (second_in r) _ (λ c. follows (weight_in r) _ (λ d.
+    follows (windows_at r) _ (λ e. follows (names_at a r) _ (λ f. tt))))))
+
+close_named : (r : Fields) → IfOk (close_in r) IsNamed
+unfolding close_in
+close_named r =
+    follows (empty_in columns.Callsign r) _ (λ a. follows (empty_in columns.Category r) _ (λ b.
+    follows (empty_in columns.Eta r) _ (λ c. follows (empty_in columns.Weight r) _ (λ d.
+    follows (span_at r) _ (λ e. follows (empty_in columns.After r) _ (λ f. tt))))))
+
+reopen_named : (r : Fields) → IfOk (reopen_in r) IsNamed
+unfolding reopen_in
+reopen_named r =
+    follows (empty_in columns.Callsign r) _ (λ a. follows (empty_in columns.Category r) _ (λ b.
+    follows (empty_in columns.Eta r) _ (λ c. follows (empty_in columns.Weight r) _ (λ d.
+    follows (span_at r) _ (λ e. follows (empty_in columns.After r) _ (λ f. tt))))))
+
+clock_named : (r : Fields) → IfOk (clock_in r) IsNamed
+unfolding clock_in
+clock_named r =
+    follows (empty_in columns.Callsign r) _ (λ a. follows (empty_in columns.Category r) _ (λ b.
+    follows (second_in r) _ (λ c. follows (empty_in columns.Weight r) _ (λ d.
+    follows (empty_in columns.Windows r) _ (λ e. follows (empty_in columns.After r) _ (λ f. tt))))))
+
+kind_named : (kind : List ℕ) (r : Fields) → IfOk (event_by kind r) IsNamed
+unfolding event_by
+kind_named kind r =
+    by_cond IsNamed (bytes_eq kind (codes "estimate")) _ _ (estimate_named r)
+    (by_cond IsNamed (bytes_eq kind (codes "cancel")) _ _ (cancel_named r)
+    (by_cond IsNamed (bytes_eq kind (codes "add")) _ _ (add_named r)
+    (by_cond IsNamed (bytes_eq kind (codes "close")) _ _ (close_named r)
+    (by_cond IsNamed (bytes_eq kind (codes "reopen")) _ _ (reopen_named r)
+    (by_cond IsNamed (bytes_eq kind (codes "clock")) _ _ (clock_named r) tt)))))
+
+record_named : (n : ℕ) (r : Fields) → IfOk (event_in n r) IsNamed
+unfolding event_in
+record_named n r = by_cond IsNamed (not (length r == 7)) _ _ tt
+    (then_ok IsNamed IsNamed (event_by (field r 0) r) _ (kind_named (field r 0) r)
+    (λ e named. by_cond IsNamed (nat_le most_events n) (Err TooMany) (Ok e) tt named))
+
+added_named : (before : List log.Event) (x : Result log.Event LogCause) → All IsNamed before → IfOk x IsNamed
+    → IfOk (added before x) (All IsNamed)
+added_named before (Ok e) all named =
+    All-append IsNamed before (e ∷ []) all (All-cons IsNamed e [] named (All-nil IsNamed))
+added_named before (Err d) all named = tt
+
+rows_named : (before : List log.Event) (rs : List Fields) → All IsNamed before
+    → IfOk (events_in before rs) (All IsNamed)
+unfolding events_in
+rows_named before [] all = all
+rows_named before (r ∷ rs) all = then_ok (All IsNamed) (All IsNamed) (added before (event_in (length before) r)) _
+    (added_named before (event_in (length before) r) all (record_named (length before) r))
+    (λ events named. rows_named events rs named)
+
+all_named : (rs : List Fields) → IfOk (events_by rs) (All IsNamed)
+unfolding events_by
+all_named [] = tt
+all_named (r ∷ rs) = by_cond (All IsNamed) (is_header r) _ _ (rows_named [] rs (All-nil IsNamed)) tt
+
+pub log_named : (bytes : List ℕ) (es : List log.Event) → events_of bytes ≡ Ok es → All HasShortName (map event_of es)
+log_named bytes es is =
+    All-map HasShortName event_of es (IfOk-at_ok (All IsNamed) is (all_named (records_of bytes)))
+
+-- ---- how long the cause of a refusal is
 
 -- its callsign is short and its second one of the two days
 abbrev IsShort : Refusal → Type 0

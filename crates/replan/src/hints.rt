@@ -1,8 +1,8 @@
-//! The windows of stages, where they may be taken again.
+//! Windows that the stages to come are likely to have.
 
 ghost use Rattle.std.specs.Prelude.{◌≡◌, ◌+◌, ◌*◌, ◌<◌, length, map, IfOk, IfSome};
 ghost use Rattle.cps_network.specs.Again.{IsStageAfter};
-ghost use Rattle.replan.specs.Stages.{former_at, former_of};
+ghost use Rattle.replan.specs.Stages.{hinted_at, without_pairs};
 
 use crate::stages::LabelledStage;
 use cps_network::{Stage, next_stage, next_stage_again};
@@ -12,15 +12,15 @@ use std::marker::Model;
 
 /// A stage without its pairs.
 #[derive(Drop)]
-pub(crate) struct FormerStage<const W: usize> {
+pub(crate) struct HintedStage<const W: usize> {
     pub(crate) stage: Stage<W>,
     pub(crate) is_whole: bool,
 }
 
-impl<const W: usize> Model for FormerStage<W> {
+impl<const W: usize> Model for HintedStage<W> {
     ghost use Rattle.replan.specs.Stages as stages;
 
-    ghost Value = { stages.FormerStage };
+    ghost Value = { stages.HintedStage };
 
     ghost view = { λ s. record { stage = s.stage; is_whole = s.is_whole } };
 }
@@ -29,50 +29,51 @@ impl<const W: usize> Model for FormerStage<W> {
 pub(crate) fn shared<const W: usize>(
     alloc: Global,
     stages: &[LabelledStage<W>],
-) -> Result<Vec<FormerStage<W>>, AllocError>
-    ensures { IfOk result (λ former. former.items ≡ map former_of stages.now) }
+) -> Result<Vec<HintedStage<W>>, AllocError>
+    ensures { IfOk result (λ hinted. hinted.items ≡ map without_pairs stages.now) }
 {
-    let mut former = Vec::with_capacity(alloc, stages.len())?;
+    let mut hinted = Vec::with_capacity(alloc, stages.len())?;
     for labelled in stages {
         let stage = labelled.stage.share()?;
-        former.push(FormerStage {
+        hinted.push(HintedStage {
             stage,
             is_whole: labelled.is_whole,
         })?;
     }
-    Ok(former)
+    Ok(hinted)
 }
 
-/// A problem with the windows of some of its stages, from a number on.
+/// Windows that the stages to come are likely to have: those of the stages of a problem, from number `first` on. It is an
+/// earlier problem, or the same one, whose last stages were made ahead. Each is tested before use.
 #[derive(Drop)]
-pub(crate) struct Former<const W: usize> {
+pub(crate) struct Hints<const W: usize> {
     pub(crate) problem: Problem,
     pub(crate) first: usize,
-    pub(crate) stages: Vec<FormerStage<W>>,
+    pub(crate) stages: Vec<HintedStage<W>>,
 }
 
-impl<const W: usize> Model for Former<W> {
-    ghost use Rattle.replan.specs.Stages as held;
-    ghost use Rattle.replan.specs.Stages.{AreFormer};
+impl<const W: usize> Model for Hints<W> {
+    ghost use Rattle.replan.specs.Stages as hints;
+    ghost use Rattle.replan.specs.Stages.{AreHints};
 
-    ghost Value = { held.Former };
+    ghost Value = { hints.Hints };
 
-    ghost view = { λ f. record { problem = f.problem; stages = f.stages.items } };
+    ghost view = { λ h. record { problem = h.problem; stages = h.stages.items } };
 
-    ghost invariant = { λ f. AreFormer f.problem f.stages.items };
+    ghost invariant = { λ h. AreHints h.problem h.stages.items };
 }
 
-impl<const W: usize> Former<W> {
+impl<const W: usize> Hints<W> {
     /// The last stages of a problem, made from the windows of the stage that is as far from the last as the greatest shift
     /// reaches: those of `stage`, if they are the same there, as mostly in the middle.
     pub(crate) fn last_of(
         alloc: Global,
         problem: &Problem,
         stage: &Stage<W>,
-    ) -> Result<Former<W>, AllocError>
+    ) -> Result<Hints<W>, AllocError>
         requires { W ≡ 2 * problem.now.k + 1 }
-        ensures problem { IfOk result (λ former. former.problem ≡ problem.now) }
-        ensures begins { IfOk result (λ former. (former_at former.stages 0).stage.1 ≡ stage.now.1) }
+        ensures problem { IfOk result (λ hints. hints.problem ≡ problem.now) }
+        ensures begins { IfOk result (λ hints. (hinted_at hints.stages 0).stage.1 ≡ stage.now.1) }
     {
         // k is at most 3.
         let k = problem.head().k;
@@ -80,27 +81,27 @@ impl<const W: usize> Former<W> {
         let first = n.saturating_sub(k);
         let mut stages = Vec::with_capacity(alloc, usize::from(k) + 1)?;
         let begun = stage.copy_as(first)?;
-        stages.push(FormerStage {
+        stages.push(HintedStage {
             stage: begun,
             is_whole: false,
         })?;
         for number in first..n {
             let before = &stages[usize::from(number - first)];
             let next = next_stage(alloc, &before.stage, problem)?;
-            stages.push(FormerStage {
+            stages.push(HintedStage {
                 stage: next,
                 is_whole: true,
             })?;
         }
         let problem = problem.copy()?;
-        Ok(Former {
+        Ok(Hints {
             problem,
             first: usize::from(first),
             stages,
         })
     }
 
-    // The stage after a stage of a problem, where it is taken again from the one after that of this number.
+    // The stage after a stage of a problem, where it is taken from what the hints have after the stage of this number.
     fn next_at(
         &self,
         problem: &Problem,
@@ -127,8 +128,8 @@ impl<const W: usize> Former<W> {
         Ok(next)
     }
 
-    /// The stage after a stage of a problem, where it is taken again from what was held: from the stage of the same number, or
-    /// from the one that is as far from the last.
+    /// The stage after a stage of a problem, where it is taken from the hints: from what they have after the stage of the same
+    /// number, or after the one that is as far from the last.
     pub(crate) fn next(
         &self,
         problem: &Problem,
