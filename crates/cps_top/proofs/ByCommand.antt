@@ -1,8 +1,8 @@
 -- What is proved command by command: it has as many files as its words name, with its numbers in their ranges; no files
 -- are both taken and refused; its texts have at most so many bytes.
-use Rattle.std.proofs.Common.{◌≡◌, ℕ, ◌<◌, ◌≤◌, List, [], ◌∷◌, length, Bool, true, false, Option, Some, None}
-use Rattle.std.proofs.Common.{Result, Ok, Err, refl, sym, ap, ap₂, subst, ◌∙◌, arith}
-use Rattle.std.specs.Prelude.{◌&&◌, ◌==◌, bytes_eq, if◌then◌else◌}
+use Rattle.std.proofs.Common.{◌≡◌, ℕ, ◌≤◌, List, [], ◌∷◌, length, Bool, true, false, Option, Some, None}
+use Rattle.std.proofs.Common.{Result, Ok, Err, refl, sym, ap₂, subst, ◌∙◌, arith}
+use Rattle.std.specs.Prelude.{◌&&◌, ◌==◌, if◌then◌else◌}
 use Rattle.std.specs.Result.{result_ok}
 use Rattle.std.proofs.lemmas.Option.{none-some, same_Some}
 use Rattle.cps_base.specs.Limits.{most_waiting}
@@ -26,7 +26,7 @@ use Rattle.cps_top.specs.declared.commands.Command.{Command}
 use Rattle.cps_top.specs.declared.commands.Command.TheVariants.{Plan, Replay, Certify, Check, Effort, Trial, First}
 use Rattle.cps_top.specs.declared.commands.Command.TheVariants.{WhatIf, Audit}
 use Rattle.cps_top.specs.Commands.{Admits, Begins, IsCommandInRange, Refuses, TextsAreBoundedLaw, command_of, file_count}
-use Rattle.cps_top.specs.Commands.{most_bytes, names_of, number_of, trial_by, trial_of}
+use Rattle.cps_top.specs.Commands.{names_of, number_of, trial_by, trial_of}
 
 -- ---- words
 

@@ -99,11 +99,15 @@ puts_of Replay (aerodrome ∷ flights ∷ events ∷ []) = replay_puts events
 puts_of Effort (aerodrome ∷ flights ∷ events ∷ []) = effort_puts events
 puts_of command contents = 1
 
+-- it may be printed whole, with some answer
+abbrev pub HasAnswer : (List ℕ → Answer → Type 0) → List ℕ → Type 0
+HasAnswer Prints text = (answer : Answer) × Prints text answer
+
 -- A text that a command may have begun to print when it stops early.
 abbrev pub Begins : Command → List (List ℕ) → List ℕ → Type 0
 Begins Replay (aerodrome ∷ flights ∷ events ∷ []) = BeginsReplay aerodrome flights events
 Begins Effort (aerodrome ∷ flights ∷ events ∷ []) = BeginsEffort aerodrome flights events
-Begins command contents = λ text. (answer : Answer) × Admits command contents text answer
+Begins command contents = HasAnswer (Admits command contents)
 
 -- Over these contents of its files a command is refused, for this cause.
 abbrev pub Refuses : Command → List (List ℕ) → FilesFault → Type 0

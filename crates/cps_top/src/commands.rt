@@ -10,12 +10,13 @@ use certificate_commands::{certificate_texts_are_bounded, run_certify, run_check
 use cps_base::{MOST_WAITING, read_number};
 use cps_outside::{Gate, Sink};
 use endings::Ending;
-use inquiry_commands::{TrialFiles, run_audit, run_first, run_what_if};
 use inquiry_commands::{
-    audit_texts_are_bounded, first_texts_are_bounded, what_if_texts_are_bounded,
+    TrialFiles, audit_texts_are_bounded, first_texts_are_bounded, run_audit, run_first,
+    run_what_if, what_if_texts_are_bounded,
 };
-use planning_commands::{LogFiles, TrialNumbers, run_effort, run_plan, run_replay, run_trial};
-use planning_commands::planning_texts_are_bounded;
+use planning_commands::{
+    LogFiles, TrialNumbers, planning_texts_are_bounded, run_effort, run_plan, run_replay, run_trial,
+};
 use std::alloc::Global;
 use std::thread::Threads;
 
@@ -134,6 +135,7 @@ fn file(contents: &[Vec<u8>], i: usize) -> &[u8]
 }
 
 // A command over the contents of its files.
+#[tactic(auto, using(crate::proofs::FilesOf::followed))]
 pub(crate) fn perform<R: Threads + Sync, S: Sink, G: Gate + Sync>(
     rt: &R,
     alloc: Global,
