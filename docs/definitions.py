@@ -11,9 +11,7 @@ CRATES = Path(__file__).resolve().parent.parent / 'crates'
 HEAD = re.compile(r'(?:abbrev |unfoldable )?(?:pub )?(?:record |data )?([A-Za-z_][\w\'-]*|>>=)[ :]')
 WORD = re.compile(r'[A-Za-z_][\w\'-]*(?:\.[A-Za-z_][\w\'-]*)*|>>=')
 NO_NAMES = 'use', 'pub', 'mod', 'module', 'infixl', 'infixr', 'infix', 'unfolding'
-COMMANDS = {'plan': 'AdmitsPlan', 'replay': 'AdmitsReplay', 'certify': 'AdmitsCertify', 'check': 'AdmitsCheck',
-            'effort': 'AdmitsEffort', 'trial': 'AdmitsTrial', 'first': 'AdmitsFirst', 'whatif': 'AdmitsWhatIf',
-            'audit': 'AdmitsAudit', 'a plan shown': 'IsPlanShown', 'a run': 'Run', 'a replay and its text': 'replay_text'}
+OTHERS = ('a plan shown', 'IsPlanShown'), ('a run', 'Run'), ('a replay and its text', 'replay_text')
 SHOWN = {}  # the modules that a crate shows under a name of its own
 
 
@@ -87,6 +85,12 @@ def reach(start):
     return seen
 
 
+def commands():
+    """The definition of each command, by its row of `Admits`."""
+    rows = '\n'.join(FILES['Rattle.cps_top.specs.Commands'][1]['Admits'])
+    return [(name.lower(), admits) for name, admits in re.findall(r'^Admits \(?([A-Z]\w+).* = (\w+)', rows, re.M)]
+
+
 def starts(name):
     return [(where, name) for where, (_, names) in FILES.items() if name in names]
 
@@ -105,5 +109,5 @@ def report(title, name):
 
 
 if __name__ == '__main__':
-    for title, name in [(name, name) for name in sys.argv[1:]] or COMMANDS.items():
+    for title, name in [(name, name) for name in sys.argv[1:]] or [*commands(), *OTHERS]:
         report(title, name)

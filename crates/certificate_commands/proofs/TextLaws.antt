@@ -6,7 +6,6 @@ use Rattle.std.specs.Ordering.{is_lt}
 use Rattle.std.specs.Result.{result_ok}
 use Rattle.std.proofs.Math.Nat.{mul-le-mul_right}
 use Rattle.std.proofs.lemmas.Bool.{cases_Bool}
-use Rattle.std.proofs.lemmas.Fmt.{length-decimal-le}
 use Rattle.std.proofs.lemmas.List.{length-append, length-map}
 use Rattle.std.proofs.lemmas.List.Sums.{count_by-le-length, length-filter}
 use Rattle.std.proofs.lemmas.Option.{same_Some}
@@ -39,6 +38,7 @@ use Rattle.cert_check.specs.declared.verdict.Verdict.TheVariants as verdict
 use Rattle.text_bounds.specs.Counts.{count_in}
 use Rattle.text_bounds.specs.WholeCertificates.{LoadableIsShortLaw, WholeCertificateIsBoundedLaw, most_pairs}
 use Rattle.text_bounds.specs.WholeCertificates.{whole_bound}
+use Rattle.text_bounds.specs.shared.Lengths.{rank_short, value_short}
 use Rattle.text_bounds.specs.shared.Reasons.{HasSmallNumbers, IsSmall, verdict_has_small_numbers}
 use Rattle.sequencer.specs.Opened.{opened, opening_of}
 use Rattle.endings.specs.declared.ending.Answer.{Answer}
@@ -172,12 +172,6 @@ certify_loadable law loads a f text answer x few =
 
 -- ---- how long a verdict's line is
 
-two : (n : ℕ) → n ≤ most_waiting → length (decimal n) ≤ 2
-two n le = length-decimal-le 2 n (omega arith) (omega (arith, le)) (omega (arith, le))
-
-ten : (n : ℕ) → n ≤ 9999999999 → length (decimal n) ≤ 10
-ten n le = length-decimal-le 10 n (omega arith) (omega (arith, le)) (omega (arith, le))
-
 -- a number and the end of the line, or two numbers
 one_number : (n : ℕ) → length (decimal n ++ 10 ∷ []) ≡ length (decimal n) + 1
 one_number n = length-append (decimal n) (10 ∷ [])
@@ -189,21 +183,24 @@ two_numbers n m = let a = length-append (decimal n) (32 ∷ (decimal m ++ 10 ∷
 
 reason_short : (r : Reason) → HasSmallNumbers r → length (verdict_text (verdict.Rejected r)) ≤ 33
 reason_short Flights h = omega arith
-reason_short (Closed r) h = let a = two r h in let b = one_number r in omega (arith, a, b)
-reason_short (Early r) h = let a = two r h in let b = one_number r in omega (arith, a, b)
-reason_short (Separation r q) h = let a = two r h.0 in let b = two q h.1 in let c =
+reason_short (Closed r) h = let a = rank_short r h in let b = one_number r in omega (arith, a, b)
+reason_short (Early r) h = let a = rank_short r h in let b = one_number r in omega (arith, a, b)
+reason_short (Separation r q) h = let a = rank_short r h.0 in let b = rank_short q h.1 in let c =
     two_numbers r q in omega (arith, a, b, c)
-reason_short (Precedence r q) h = let a = two r h.0 in let b = two q h.1 in let c =
+reason_short (Precedence r q) h = let a = rank_short r h.0 in let b = rank_short q h.1 in let c =
     two_numbers r q in omega (arith, a, b, c)
-reason_short (Shift r) h = let a = two r h in let b = one_number r in omega (arith, a, b)
-reason_short (Value v) h = let a = ten v (omega (arith, h)) in let b = one_number v in omega (arith, a, b)
-reason_short (Shape i) h = let a = ten i (omega (arith, h)) in let b = one_number i in omega (arith, a, b)
-reason_short (Successor i r) h = let x = h.0 in let a = ten i (omega (arith, x)) in let b =
-    two r h.1 in let c = two_numbers i r in omega (arith, a, b, c)
-reason_short (Final i) h = let a = ten i (omega (arith, h)) in let b = one_number i in omega (arith, a, b)
+reason_short (Shift r) h = let a = rank_short r h in let b = one_number r in omega (arith, a, b)
+reason_short (Value v) h = let a = value_short v (omega (arith, h)) in let b = one_number v in omega (arith, a, b)
+reason_short (Shape i) h = let a = value_short i (omega (arith, h)) in let b = one_number i in omega (arith, a, b)
+reason_short (Successor i r) h = let x = h.0 in let a = value_short i (omega (arith, x)) in let b =
+    rank_short r h.1 in let c = two_numbers i r in omega (arith, a, b, c)
+reason_short (Final i) h = let a = value_short i (omega (arith, h)) in let b = one_number i in omega (arith, a, b)
 
 verdict_short : (v : Verdict) → IsSmall v → length (verdict_text v) ≤ 33
-verdict_short (verdict.Optimal v) h = let a = ten v (omega (arith, h)) in let b = one_number v in omega (arith, a, b)
+verdict_short (verdict.Optimal v) h =
+    let a = value_short v (omega (arith, h)) in
+    let b = one_number v in
+    omega (arith, a, b)
 verdict_short verdict.Infeasible h = omega arith
 verdict_short (verdict.Rejected r) h = reason_short r h
 

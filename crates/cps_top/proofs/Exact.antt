@@ -1,112 +1,23 @@
 -- When status 3 and status 6 come.
 use Rattle.std.proofs.Common.{◌≡◌, refl, inl, inr, ℕ, zero, suc, ◌+◌, ◌-◌, ◌<◌, ◌≤◌, List, [], ◌∷◌, ◌++◌, length, take}
-use Rattle.std.proofs.Common.{drop, Some, IsTrue, ap, ap₂, sym, ◌∙◌, subst, arith, length-append, take-append-drop}
+use Rattle.std.proofs.Common.{drop, Some, IsTrue, ap, sym, ◌∙◌, subst, arith, length-append, take-append-drop}
 use Rattle.std.proofs.lemmas.Bool.{cases_lt}
 use Rattle.std.proofs.lemmas.List.{take-append-le}
 use Rattle.std.specs.List.{AllByRecursion}
-use Rattle.std.proofs.lemmas.Option.{none-some, same_Some}
+use Rattle.std.proofs.lemmas.Option.{same_Some}
 use Rattle.cps_top.specs.declared.commands.Command.{Command}
-use Rattle.cps_top.specs.declared.commands.Command.TheVariants.{Plan, Replay, Certify, Check, Effort, Trial, First}
-use Rattle.cps_top.specs.declared.commands.Command.TheVariants.{WhatIf, Audit}
-use Rattle.endings.specs.declared.ending.Answer.{Answer}
-use Rattle.endings.specs.declared.ending.FilesFault.{FilesFault}
 use Rattle.endings.specs.declared.ending.Ending.{Ending}
 use Rattle.endings.specs.declared.ending.Ending.TheVariants.{Answered, Misused, Refused, NotLoaded, NotWritten}
 use Rattle.endings.specs.declared.ending.Ending.TheVariants.{TooLong, NoMemory}
-use Rattle.cps_top.specs.Commands.{command_of, files_of, Admits, Begins, Refuses}
+use Rattle.cps_top.specs.Commands.{command_of, files_of}
 use Rattle.cps_outside.specs.FolderState.{FolderState}
-use Rattle.endings.specs.Refusing.{refused_by}
 use Rattle.endings.specs.Loads.{limit, FailsAt, FailsWithin}
 use Rattle.endings.specs.Lines.{status_of}
 use Rattle.endings.specs.Outside.{Outside}
 use Rattle.cps_top.specs.Outcome.{Ends, Serves}
 use Rattle.cps_top.specs.Statuses.{IsExact}
-use Rattle.inquiry_commands.specs.shared.Audited.{not_unaudited}
-use Rattle.certificate_commands.specs.shared.Judged.{not_unchecked}
-use Rattle.inquiry_commands.specs.shared.Tried.{not_untried}
-use Rattle.planning_commands.specs.shared.Begun.{not_refused}
+use Rattle.cps_top.proofs.ByCommand.{excludes, excludes_begun}
 use Rattle.cps_top.proofs.Complete.{serves_at, none_too_long, Within, all_within, all_named, all_at, within_fits}
-
--- no files are both taken and refused
-excludes : (command : Command) (contents : List (List ℕ)) (text : List ℕ) (answer : Answer) (refusal : FilesFault) →
-    Admits command contents text answer → Refuses command contents refusal → ⊥
-excludes Plan [] text answer refusal admits refuses = absurd admits
-excludes Plan (a ∷ []) text answer refusal admits refuses = absurd admits
-excludes Plan (a ∷ f ∷ c ∷ rest) text answer refusal admits refuses = absurd admits
-excludes Plan (a ∷ f ∷ []) text answer refusal admits refuses =
-    none-some _ (sym admits.shows.opened.taken ∙ ap₂ refused_by (sym admits.aerodrome_read) (sym admits.flights_read)
-    ∙ refuses)
-excludes Certify [] text answer refusal admits refuses = absurd admits
-excludes Certify (a ∷ []) text answer refusal admits refuses = absurd admits
-excludes Certify (a ∷ f ∷ c ∷ rest) text answer refusal admits refuses = absurd admits
-excludes Certify (a ∷ f ∷ []) text answer refusal admits refuses =
-    none-some _ (sym admits.certifies.certified.judged.taken
-    ∙ ap₂ refused_by (sym admits.aerodrome_read) (sym admits.flights_read) ∙ refuses)
-excludes Replay [] text answer refusal admits refuses = absurd admits
-excludes Replay (a ∷ []) text answer refusal admits refuses = absurd admits
-excludes Replay (a ∷ f ∷ []) text answer refusal admits refuses = absurd admits
-excludes Replay (a ∷ f ∷ e ∷ c ∷ rest) text answer refusal admits refuses = absurd admits
-excludes Replay (a ∷ f ∷ e ∷ []) text answer refusal admits refuses =
-    none-some _ (sym (not_refused a f e admits.state admits.events admits.begun) ∙ refuses)
-excludes Check [] text answer refusal admits refuses = absurd admits
-excludes Check (a ∷ []) text answer refusal admits refuses = absurd admits
-excludes Check (a ∷ f ∷ []) text answer refusal admits refuses = absurd admits
-excludes Check (a ∷ f ∷ e ∷ c ∷ rest) text answer refusal admits refuses = absurd admits
-excludes Check (a ∷ f ∷ c ∷ []) text answer refusal admits refuses =
-    none-some _ (sym (not_unchecked a f c admits.verdict admits.judges) ∙ refuses)
-excludes Effort [] text answer refusal admits refuses = absurd admits
-excludes Effort (a ∷ []) text answer refusal admits refuses = absurd admits
-excludes Effort (a ∷ f ∷ []) text answer refusal admits refuses = absurd admits
-excludes Effort (a ∷ f ∷ e ∷ c ∷ rest) text answer refusal admits refuses = absurd admits
-excludes Effort (a ∷ f ∷ e ∷ []) text answer refusal admits refuses =
-    none-some _ (sym (not_refused a f e admits.state admits.events admits.begun) ∙ refuses)
-excludes Audit [] text answer refusal admits refuses = absurd admits
-excludes Audit (a ∷ []) text answer refusal admits refuses = absurd admits
-excludes Audit (a ∷ f ∷ []) text answer refusal admits refuses = absurd admits
-excludes Audit (a ∷ f ∷ e ∷ c ∷ rest) text answer refusal admits refuses = absurd admits
-excludes Audit (a ∷ f ∷ p ∷ []) text answer refusal admits refuses =
-    none-some _ (sym (not_unaudited a f p text answer admits) ∙ refuses)
-excludes First [] text answer refusal admits refuses = absurd admits
-excludes First (a ∷ []) text answer refusal admits refuses = absurd admits
-excludes First (a ∷ f ∷ c ∷ rest) text answer refusal admits refuses = absurd admits
-excludes First (a ∷ f ∷ []) text answer refusal admits refuses =
-    none-some _ (sym admits.shows.opened.taken ∙ ap₂ refused_by (sym admits.aerodrome_read) (sym admits.flights_read)
-    ∙ refuses)
-excludes WhatIf [] text answer refusal admits refuses = absurd admits
-excludes WhatIf (a ∷ []) text answer refusal admits refuses = absurd admits
-excludes WhatIf (a ∷ f ∷ []) text answer refusal admits refuses = absurd admits
-excludes WhatIf (a ∷ f ∷ e ∷ c ∷ rest) text answer refusal admits refuses = absurd admits
-excludes WhatIf (a ∷ f ∷ t ∷ []) text answer refusal admits refuses =
-    none-some _ (sym (not_untried a f t text answer admits) ∙ refuses)
-excludes (Trial seed n k) contents text answer refusal admits refuses = absurd refuses
-
--- nor are they refused where a text was begun
-excludes_begun : (command : Command) (contents : List (List ℕ)) (text : List ℕ) (refusal : FilesFault) →
-    Begins command contents text → Refuses command contents refusal → ⊥
-excludes_begun Plan contents text refusal begins refuses = excludes Plan contents text begins.0 refusal begins.1 refuses
-excludes_begun Certify contents text refusal begins refuses =
-    excludes Certify contents text begins.0 refusal begins.1 refuses
-excludes_begun Check contents text refusal begins refuses =
-    excludes Check contents text begins.0 refusal begins.1 refuses
-excludes_begun First contents text refusal begins refuses =
-    excludes First contents text begins.0 refusal begins.1 refuses
-excludes_begun WhatIf contents text refusal begins refuses =
-    excludes WhatIf contents text begins.0 refusal begins.1 refuses
-excludes_begun Audit contents text refusal begins refuses =
-    excludes Audit contents text begins.0 refusal begins.1 refuses
-excludes_begun (Trial seed n k) contents text refusal begins refuses = absurd refuses
-excludes_begun Effort [] text refusal begins refuses = absurd refuses
-excludes_begun Effort (a ∷ []) text refusal begins refuses = absurd refuses
-excludes_begun Effort (a ∷ f ∷ []) text refusal begins refuses = absurd refuses
-excludes_begun Effort (a ∷ f ∷ e ∷ c ∷ rest) text refusal begins refuses = absurd refuses
-excludes_begun Effort (a ∷ f ∷ e ∷ []) text refusal begins refuses =
-    none-some _ (sym (not_refused a f e begins.state begins.events begins.begun) ∙ refuses)
-excludes_begun Replay [] text refusal begins refuses = absurd refuses
-excludes_begun Replay (a ∷ []) text refusal begins refuses = absurd refuses
-excludes_begun Replay (a ∷ f ∷ []) text refusal begins refuses = absurd refuses
-excludes_begun Replay (a ∷ f ∷ e ∷ c ∷ rest) text refusal begins refuses = absurd refuses
-excludes_begun Replay (a ∷ f ∷ e ∷ []) text refusal begins refuses =
-    none-some _ (sym (not_refused a f e begins.state begins.events begins.begun) ∙ refuses)
 
 -- a command whose files were loaded has none that is too long
 none_longer : (words : List (List ℕ)) (old new : Outside) (ending : Ending) (command : Command)

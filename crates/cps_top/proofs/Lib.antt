@@ -1,9 +1,7 @@
 pub mod Accepting
+pub mod ByCommand
 pub mod Complete
-pub mod Counts
 pub mod Exact
-pub mod Followed
-pub mod MostBytes
-pub mod Ranges
+pub mod FilesOf
 pub mod Statuses
 pub mod Sure

@@ -6,15 +6,14 @@ use Rattle.cps_top.specs.declared.commands.Command.{Command}
 use Rattle.endings.specs.declared.ending.Ending.{Ending}
 use Rattle.endings.specs.declared.ending.Ending.TheVariants.{NotWritten}
 use Rattle.endings.specs.declared.ending.FilesFault.{FilesFault}
-use Rattle.cps_top.specs.Commands.{IsCommandInRange, Refuses, files_of}
+use Rattle.cps_top.specs.Commands.{IsCommandInRange, Refuses, TextsAreBoundedLaw, files_of}
 use Rattle.endings.specs.Lines.{status_of}
 use Rattle.endings.specs.Outside.{Outside}
 use Rattle.cps_top.specs.Outcome.{Ends, Follows}
-use Rattle.cps_top.specs.MostBytes.{TextsAreBoundedLaw}
 use Rattle.cps_top.specs.Statuses.{AreThere, HasRoom, HoldsEach, IsComplete, IsSure}
+use Rattle.cps_top.proofs.ByCommand.{fits}
 use Rattle.cps_top.proofs.Complete.{complete_unless, none_fails}
 use Rattle.cps_top.proofs.Exact.{exact}
-use Rattle.cps_top.proofs.Ranges.{in_range}
 use Rattle.cps_top.proofs.Statuses.{asks}
 
 none_unwritten : (command : Command) (contents : List (List ℕ)) (old new : SinkState) → IsTrue old.sure
@@ -38,7 +37,7 @@ pub is_sure : TextsAreBoundedLaw → (words : List (List ℕ)) (old new : Outsid
 is_sure law words old new status ending is ends = record {
   complete = λ command contents there folder taken out room.
       held command contents there folder taken out (holds_each law command contents old.out
-      (in_range words command there.named) room);
+      (fits words command there.named).1 room);
   held = held;
   refused = λ command contents refusal there folder refuses.
       elim ((exact words old new status ending is ends).refused command contents refusal there refuses) [

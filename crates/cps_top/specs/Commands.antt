@@ -1,4 +1,4 @@
--- The commands: how their words read, and what each admits over the contents of its files.
+-- The commands: how their words read, what each admits over the contents of its files, and how many bytes it prints.
 use Rattle.std.specs.Prelude.{ℕ, ◌&&◌, ◌==◌, ◌≤◌, ⊤, List, [], ◌∷◌, length, drop, codes, bytes_eq, Option, Some, None}
 use Rattle.std.specs.Prelude.{option_map, unwrap_or, if◌then◌else◌}
 use Rattle.std.specs.Result.{result_ok}
@@ -9,15 +9,21 @@ use Rattle.cps_top.specs.declared.commands.Command.TheVariants.{Plan, Replay, Ce
 use Rattle.cps_top.specs.declared.commands.Command.TheVariants.{WhatIf, Audit}
 use Rattle.endings.specs.declared.ending.Answer.{Answer}
 use Rattle.endings.specs.declared.ending.FilesFault.{FilesFault}
-use Rattle.inquiry_commands.specs.Audit.{AdmitsAudit, RefusesAudit}
-use Rattle.certificate_commands.specs.Certify.{AdmitsCertify}
-use Rattle.certificate_commands.specs.Check.{AdmitsCheck, RefusesCheck}
-use Rattle.planning_commands.specs.Effort.{AdmitsEffort, BeginsEffort, effort_puts}
-use Rattle.inquiry_commands.specs.First.{AdmitsFirst}
 use Rattle.openings.specs.Plan.{AdmitsPlan, RefusesPlan}
 use Rattle.planning_commands.specs.Replay.{AdmitsReplay, BeginsReplay, RefusesReplay, replay_puts}
+use Rattle.planning_commands.specs.Effort.{AdmitsEffort, BeginsEffort, effort_puts}
 use Rattle.planning_commands.specs.Trial.{AdmitsTrial}
+use Rattle.planning_commands.specs.TextLengths.{effort_bound}
+use Rattle.certificate_commands.specs.Certify.{AdmitsCertify}
+use Rattle.certificate_commands.specs.Check.{AdmitsCheck, RefusesCheck}
+use Rattle.certificate_commands.specs.TextLaws.{certify_bound, check_bound}
+use Rattle.inquiry_commands.specs.First.{AdmitsFirst}
 use Rattle.inquiry_commands.specs.WhatIf.{AdmitsWhatIf, RefusesWhatIf}
+use Rattle.inquiry_commands.specs.Audit.{AdmitsAudit, RefusesAudit, audit_bound, line_count}
+use Rattle.text_bounds.specs.Blocks.{block_bound}
+use Rattle.text_bounds.specs.Counts.{event_count, flight_count, trial_count}
+use Rattle.text_bounds.specs.Replays.{replay_bound}
+use Rattle.text_bounds.specs.Trials.{outcomes_bound, trial_bound}
 
 -- the number that a word is, of those from least to most
 abbrev pub number_of : List ℕ → ℕ → ℕ → Option ℕ
@@ -75,17 +81,16 @@ file_count Audit = 3
 
 -- Over these contents of its files a command may print this text, whole, and answer so.
 abbrev pub Admits : Command → List (List ℕ) → List ℕ → Answer → Type 0
-Admits Plan (aerodrome ∷ flights ∷ []) text answer = AdmitsPlan aerodrome flights text answer
-Admits Replay (aerodrome ∷ flights ∷ events ∷ []) text answer = AdmitsReplay aerodrome flights events text answer
-Admits Certify (aerodrome ∷ flights ∷ []) text answer = AdmitsCertify aerodrome flights text answer
-Admits Check (aerodrome ∷ flights ∷ certificate ∷ []) text answer =
-    AdmitsCheck aerodrome flights certificate text answer
-Admits Effort (aerodrome ∷ flights ∷ events ∷ []) text answer = AdmitsEffort aerodrome flights events text answer
-Admits First (aerodrome ∷ flights ∷ []) text answer = AdmitsFirst aerodrome flights text answer
-Admits WhatIf (aerodrome ∷ flights ∷ trials ∷ []) text answer = AdmitsWhatIf aerodrome flights trials text answer
-Admits Audit (aerodrome ∷ flights ∷ plan ∷ []) text answer = AdmitsAudit aerodrome flights plan text answer
-Admits (Trial seed n k) [] text answer = AdmitsTrial seed n k text answer
-Admits command contents text answer = ⊥
+Admits Plan (aerodrome ∷ flights ∷ []) = AdmitsPlan aerodrome flights
+Admits Replay (aerodrome ∷ flights ∷ events ∷ []) = AdmitsReplay aerodrome flights events
+Admits Certify (aerodrome ∷ flights ∷ []) = AdmitsCertify aerodrome flights
+Admits Check (aerodrome ∷ flights ∷ certificate ∷ []) = AdmitsCheck aerodrome flights certificate
+Admits Effort (aerodrome ∷ flights ∷ events ∷ []) = AdmitsEffort aerodrome flights events
+Admits (Trial seed n k) [] = AdmitsTrial seed n k
+Admits First (aerodrome ∷ flights ∷ []) = AdmitsFirst aerodrome flights
+Admits WhatIf (aerodrome ∷ flights ∷ trials ∷ []) = AdmitsWhatIf aerodrome flights trials
+Admits Audit (aerodrome ∷ flights ∷ plan ∷ []) = AdmitsAudit aerodrome flights plan
+Admits command contents = λ text answer. ⊥
 
 -- in how many puts it prints a text over these contents: `replay` and `effort` in one for each answer, the others in
 -- one
@@ -94,20 +99,43 @@ puts_of Replay (aerodrome ∷ flights ∷ events ∷ []) = replay_puts events
 puts_of Effort (aerodrome ∷ flights ∷ events ∷ []) = effort_puts events
 puts_of command contents = 1
 
+-- it may be printed whole, with some answer
+abbrev pub HasAnswer : (List ℕ → Answer → Type 0) → List ℕ → Type 0
+HasAnswer Prints text = (answer : Answer) × Prints text answer
+
 -- A text that a command may have begun to print when it stops early.
 abbrev pub Begins : Command → List (List ℕ) → List ℕ → Type 0
-Begins Replay (aerodrome ∷ flights ∷ events ∷ []) text = BeginsReplay aerodrome flights events text
-Begins Effort (aerodrome ∷ flights ∷ events ∷ []) text = BeginsEffort aerodrome flights events text
-Begins command contents text = (answer : Answer) × Admits command contents text answer
+Begins Replay (aerodrome ∷ flights ∷ events ∷ []) = BeginsReplay aerodrome flights events
+Begins Effort (aerodrome ∷ flights ∷ events ∷ []) = BeginsEffort aerodrome flights events
+Begins command contents = HasAnswer (Admits command contents)
 
 -- Over these contents of its files a command is refused, for this cause.
 abbrev pub Refuses : Command → List (List ℕ) → FilesFault → Type 0
-Refuses Plan (aerodrome ∷ flights ∷ []) refusal = RefusesPlan aerodrome flights refusal
-Refuses Replay (aerodrome ∷ flights ∷ events ∷ []) refusal = RefusesReplay aerodrome flights events refusal
-Refuses Certify (aerodrome ∷ flights ∷ []) refusal = RefusesPlan aerodrome flights refusal
-Refuses Check (aerodrome ∷ flights ∷ certificate ∷ []) refusal = RefusesCheck aerodrome flights certificate refusal
-Refuses Effort (aerodrome ∷ flights ∷ events ∷ []) refusal = RefusesReplay aerodrome flights events refusal
-Refuses First (aerodrome ∷ flights ∷ []) refusal = RefusesPlan aerodrome flights refusal
-Refuses WhatIf (aerodrome ∷ flights ∷ trials ∷ []) refusal = RefusesWhatIf aerodrome flights trials refusal
-Refuses Audit (aerodrome ∷ flights ∷ plan ∷ []) refusal = RefusesAudit aerodrome flights plan refusal
-Refuses command contents refusal = ⊥
+Refuses Plan (aerodrome ∷ flights ∷ []) = RefusesPlan aerodrome flights
+Refuses Replay (aerodrome ∷ flights ∷ events ∷ []) = RefusesReplay aerodrome flights events
+Refuses Certify (aerodrome ∷ flights ∷ []) = RefusesPlan aerodrome flights
+Refuses Check (aerodrome ∷ flights ∷ certificate ∷ []) = RefusesCheck aerodrome flights certificate
+Refuses Effort (aerodrome ∷ flights ∷ events ∷ []) = RefusesReplay aerodrome flights events
+Refuses First (aerodrome ∷ flights ∷ []) = RefusesPlan aerodrome flights
+Refuses WhatIf (aerodrome ∷ flights ∷ trials ∷ []) = RefusesWhatIf aerodrome flights trials
+Refuses Audit (aerodrome ∷ flights ∷ plan ∷ []) = RefusesAudit aerodrome flights plan
+Refuses command contents = λ refusal. ⊥
+
+-- how many bytes it prints at most, by how many flights, events, trials and landing lines these contents hold
+abbrev pub most_bytes : Command → List (List ℕ) → ℕ
+most_bytes Plan (aerodrome ∷ flights ∷ []) = block_bound (flight_count flights)
+most_bytes Replay (aerodrome ∷ flights ∷ events ∷ []) = replay_bound (flight_count flights) (event_count events)
+most_bytes Certify (aerodrome ∷ flights ∷ []) = certify_bound aerodrome flights
+most_bytes Check (aerodrome ∷ flights ∷ certificate ∷ []) = check_bound
+most_bytes Effort (aerodrome ∷ flights ∷ events ∷ []) = effort_bound (event_count events)
+most_bytes (Trial seed n k) [] = trial_bound
+most_bytes First (aerodrome ∷ flights ∷ []) = block_bound (flight_count flights)
+most_bytes WhatIf (aerodrome ∷ flights ∷ trials ∷ []) = outcomes_bound (trial_count trials)
+most_bytes Audit (aerodrome ∷ flights ∷ plan ∷ []) = audit_bound (flight_count flights) (line_count plan)
+most_bytes command contents = 0
+
+-- each text that a command may begin to print has at most so many
+abbrev pub TextsAreBoundedLaw : Type 0
+TextsAreBoundedLaw = (command : Command) (contents : List (List ℕ)) (text : List ℕ) → IsCommandInRange command
+    → Begins command contents text
+    → length text ≤ most_bytes command contents

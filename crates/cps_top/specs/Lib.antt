@@ -1,6 +1,5 @@
 -- The program: its commands, what each status says, and what it writes.
 pub mod AcceptedRuns
 pub mod Commands
-pub mod MostBytes
 pub mod Outcome
 pub mod Statuses

@@ -7,8 +7,7 @@ use Rattle.cps_outside.specs.SinkState.{SinkState}
 use Rattle.cps_top.specs.declared.commands.Command.{Command}
 use Rattle.endings.specs.declared.ending.Answer.{Answer}
 use Rattle.endings.specs.declared.ending.FilesFault.{FilesFault}
-use Rattle.cps_top.specs.Commands.{command_of, files_of, puts_of, Admits, Begins, Refuses}
-use Rattle.cps_top.specs.MostBytes.{most_bytes}
+use Rattle.cps_top.specs.Commands.{command_of, files_of, most_bytes, puts_of, Admits, Begins, Refuses}
 use Rattle.endings.specs.Lines.{answer_status}
 use Rattle.endings.specs.Loads.{limit, FailsAt, IsTooLongAt, AsksForSome, FailsWithin}
 use Rattle.openings.specs.Follows.{Prints}

@@ -1,7 +1,24 @@
-ghost use Rattle.std.specs.Prelude.{◌≡◌, ◌==◌, ◌&&◌, Some, IfSome, ◌≤◌, bytes_eq, length, map, string_bytes};
-ghost use Rattle.cps_top.specs.Commands.{IsCommandInRange, command_of, file_count, files_of, number_of, trial_of};
+ghost use Rattle.std.specs.Prelude.{◌≡◌, ◌==◌, ◌&&◌, [], Some, IfSome, ◌≤◌, bytes_eq, length, map, slice_get};
+ghost use Rattle.std.specs.Prelude.{string_bytes, unwrap_or, vec_items};
+ghost use Rattle.std.specs.List.{AllByRecursion};
+ghost use Rattle.endings.specs.Loads.{limit};
+ghost use Rattle.cps_top.specs.Commands.{IsCommandInRange, TextsAreBoundedLaw, command_of, file_count, files_of};
+ghost use Rattle.cps_top.specs.Commands.{number_of, trial_of};
+ghost use Rattle.cps_top.specs.Outcome.{Follows};
 
+use certificate_commands::{certificate_texts_are_bounded, run_certify, run_check};
 use cps_base::{MOST_WAITING, read_number};
+use cps_outside::{Gate, Sink};
+use endings::Ending;
+use inquiry_commands::{
+    TrialFiles, audit_texts_are_bounded, first_texts_are_bounded, run_audit, run_first,
+    run_what_if, what_if_texts_are_bounded,
+};
+use planning_commands::{
+    LogFiles, TrialNumbers, planning_texts_are_bounded, run_effort, run_plan, run_replay, run_trial,
+};
+use std::alloc::Global;
+use std::thread::Threads;
 
 /// The commands, each with its first word.
 #[derive(Clone, Copy)]
@@ -105,4 +122,73 @@ pub(crate) fn files(command: Command, words: &[String]) -> &[String]
         Command::Trial { .. } => &[],
         _ => &words[1..],
     }
+}
+
+// The contents of a command's i-th file, from 0; a file that it does not have is empty.
+fn file(contents: &[Vec<u8>], i: usize) -> &[u8]
+    ensures { result.now ≡ unwrap_or (slice_get (map vec_items contents.now) i) [] }
+{
+    match contents.get(i) {
+        Some(bytes) => bytes.as_slice(),
+        None => &[],
+    }
+}
+
+// A command over the contents of its files.
+#[tactic(auto, using(crate::proofs::FilesOf::followed))]
+pub(crate) fn perform<R: Threads + Sync, S: Sink, G: Gate + Sync>(
+    rt: &R,
+    alloc: Global,
+    command: Command,
+    contents: &[Vec<u8>],
+    out: &mut S,
+    gate: &G,
+) -> Ending
+    requires numbers { IsCommandInRange command }
+    requires count { length contents.now ≡ file_count command }
+    requires bounded { AllByRecursion (λ bytes. length bytes ≤ limit)
+        (map vec_items contents.now) }
+    ensures { Follows command (map vec_items contents.now)
+        (S.state out.old) (S.state out.new) result }
+{
+    let aerodrome = file(contents, 0);
+    let flights = file(contents, 1);
+    // What the command has beside the two.
+    let third = file(contents, 2);
+    let log = LogFiles {
+        aerodrome,
+        flights,
+        events: third,
+    };
+    let trials = TrialFiles {
+        aerodrome,
+        flights,
+        trials: third,
+    };
+    match command {
+        Command::Plan => run_plan(rt, alloc, aerodrome, flights, out, gate),
+        Command::Replay => run_replay(rt, alloc, &log, out, gate),
+        Command::Certify => run_certify(rt, alloc, aerodrome, flights, out, gate),
+        Command::Check => run_check(alloc, aerodrome, flights, third, out),
+        Command::Effort => run_effort(rt, alloc, &log, out, gate),
+        Command::First => run_first(rt, alloc, aerodrome, flights, out, gate),
+        Command::WhatIf => run_what_if(rt, alloc, &trials, out, gate),
+        Command::Audit => run_audit(alloc, aerodrome, flights, third, out),
+        Command::Trial { seed, n, k } => {
+            run_trial(rt, alloc, TrialNumbers { seed, n, k }, out, gate)
+        }
+    }
+}
+
+/// How many bytes each command prints at most, whole or until it stops early, by what its files hold (`most_bytes`). The
+/// call does nothing: it tells its caller the law.
+#[tactic(auto, using(crate::proofs::ByCommand::bounded))]
+pub fn texts_are_bounded()
+    ensures { TextsAreBoundedLaw }
+{
+    planning_texts_are_bounded();
+    first_texts_are_bounded();
+    what_if_texts_are_bounded();
+    audit_texts_are_bounded();
+    certificate_texts_are_bounded();
 }

@@ -6,7 +6,7 @@ ghost use Rattle.landing_rules.specs.Rules.{last_second};
 ghost use Rattle.precedence.specs.Pairs.{MustPrecede};
 ghost use Rattle.cps_problem.specs.Seen.{waiting_of};
 
-use cps_base::Callsign;
+use cps_base::{Callsign, MOST_WAITING};
 use cps_problem::{Head, Objective, Problem, Waiting};
 use landing_windows::{Closures, OpenTimes, WindowSet};
 use precedence::Pairs;
@@ -60,7 +60,8 @@ impl Bank {
         requires { (flight.eta ≤ last_second) × (flight.weight ≡ 1) × (flight.passed ≤ self.old.k) }
         ensures { self.new.k ≡ self.old.k }
     {
-        let is_last = self.waiting.len() < 60 && comes_last(&self.waiting, &flight);
+        let is_last = self.waiting.len() < MOST_WAITING as usize
+            && comes_last(&self.waiting, &flight);
         if !is_last {
             drop(flight);
             return Err(Fail::new("not behind the others"));

@@ -3,6 +3,7 @@ use Rattle.std.proofs.Common.{◌≡◌, ℕ, suc, ◌+◌, ◌-◌, ◌<◌, �
 use Rattle.std.proofs.Common.{Option, Some, None, true, refl, sym, ap, subst, ◌∙◌, arith}
 use Rattle.std.specs.Prelude.{ℤ, pos, ◌+ℤ◌, Contains, All, IsSome, MatchOption}
 use Rattle.std.specs.List.Sorted.{IsPermutation}
+use Rattle.std.proofs.lemmas.Int.{ints}
 use Rattle.std.proofs.lemmas.List.Sorted.{All-permutation}
 use Rattle.std.proofs.lemmas.Option.{same_Some}
 use Rattle.std.proofs.lemmas.List.{get_or_default}
@@ -27,6 +28,7 @@ use Rattle.cps_network.specs.Lists.{node_at}
 use Rattle.cps_network.specs.Nodes.{Node, node_of, permits, land, latest}
 use Rattle.cps_network.specs.Permits.{IsSuccessor}
 use Rattle.cps_network.specs.shared.LeadingWindows.{Sources, successor_at, place_at, rank_of, leader_at, landable_at}
+use Rattle.cps_network.specs.shared.LeadingWindows.{leader_range, rank_range}
 use Rattle.cps_network.specs.Landable.{Attains}
 use Rattle.cps_network.specs.Pairs.{ArePairsOf, AreCosts, GivesPair, list_at, pair_at, successor}
 use Rattle.delay_labels.specs.Bounds.{beyond_costs, most_before}
@@ -303,3 +305,18 @@ pub given_source : (p : Problem) (before : ℕ × List (List ℤ)) (lists : List
     → (x : List ℤ) × Contains before.1 x × IsSuccessor p before.0 x v
 given_source p before lists v q j index g =
     (node_at before.1 j, Contains-get_or before.1 j [] g.within, (g.rank, g.permitted, g.next))
+
+-- the ranks that land last there, as numbers of flights
+module _ {p : Problem} {w stage : ℕ} {before : List (List ℤ)} {v : List ℤ} {from to : ℕ}
+    (range : Sources p w stage before v from to) where
+  pub leader_within : (l : ℕ) → pos l ≡ pos stage +ℤ offset_at (node_at before from) (w - 1) → l ≤ length p.flights
+  leader_within l is =
+      let r = leader_range p w stage before v from to range in
+      omega (arith, ints, is, r.0, r.1)
+
+  pub rank_within : (r : ℕ) → pos r ≡ pos (suc stage) +ℤ offset_at v (w - 1) → (1 ≤ r) × (r ≤ length p.flights)
+  rank_within r is =
+      let k = rank_range p w stage before v from to range in
+      let lo = k.0 in
+      let hi = k.1 in
+      (omega (arith, ints, is, lo), omega (arith, ints, is, hi))

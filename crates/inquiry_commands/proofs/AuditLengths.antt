@@ -32,7 +32,7 @@ use Rattle.landing_rules.specs.shared.Counting.{Member}
 use Rattle.landing_rules.specs.shared.Members.{all_at, all_from, cases_option, found_in}
 use Rattle.audit.specs.Texts.{finding_words, findings_text}
 use Rattle.text_bounds.specs.shared.Lengths.{callsign_short, second_short, value_short}
-use Rattle.text_bounds.specs.shared.Objectives.{IsLight, cost_low}
+use Rattle.plan_file.specs.shared.Objectives.{IsLight, cost_low}
 use Rattle.text_bounds.specs.shared.Events.{active_name, frozen_second}
 use Rattle.inquiry_commands.proofs.PlanLines.{IsTold}
 

@@ -1,5 +1,6 @@
 -- From the clause of a printed first plan to the laws of its text.
-use Rattle.std.proofs.Common.{◌≡◌, List, Option, Some, None, map, refl, sym, ap, ap₂, subst, ◌∙◌}
+use Rattle.std.proofs.Common.{◌≡◌, ℕ, ◌+◌, ◌≤◌, List, Option, Some, None, length, map, refl}
+use Rattle.std.proofs.Common.{sym, ap, ap₂, subst, ◌∙◌, arith}
 use Rattle.std.specs.Prelude.{option_map}
 use Rattle.std.specs.Result.{result_ok}
 use Rattle.std.proofs.lemmas.Option.{same_Some}
@@ -8,13 +9,16 @@ use Rattle.landing_rules.specs.Rules.{objective}
 use Rattle.landing_rules.specs.Events.{IsPlanShown, opening_situation}
 use Rattle.landing_rules.specs.FirstBest.{IsFirstPlan}
 use Rattle.landing_rules.specs.Text.{lines_text, plan_lines}
-use Rattle.landing_joint.specs.FirstBestLaws.{FirstBestObjectiveLaw, FirstPlanIsOneLaw}
+use Rattle.landing_joint.specs.FirstBestLaws.{FirstBestObjectiveLaw, FirstPlanIsOneLaw, FirstPlanIsShownLaw}
 use Rattle.arrivals.specs.declared.aerodrome.Aerodrome.{Aerodrome}
 use Rattle.arrivals.specs.declared.flight.Flight.{Flight}
 use Rattle.arrivals.specs.Seen.{flight_of}
 use Rattle.sequencer.specs.Opened.{opening_of}
 use Rattle.openings.specs.Plan.{answer_of}
-use Rattle.inquiry_commands.specs.First.{FirstTextIsOneLaw, FirstCostsAsPlanLaw}
+use Rattle.openings.specs.shared.OpenedFlights.{as_many}
+use Rattle.text_bounds.specs.Blocks.{BlockIsBoundedLaw, block_bound}
+use Rattle.text_bounds.specs.Counts.{count_in}
+use Rattle.inquiry_commands.specs.First.{FirstCostsAsPlanLaw, FirstIsBoundedLaw, FirstTextIsOneLaw}
 
 opened_same : (a b : Aerodrome) (f g : List Flight) (s t : Situation) → a ≡ b → f ≡ g →
     s ≡ opening_situation (opening_of a) (map flight_of f) → t ≡ opening_situation (opening_of b) (map flight_of g)
@@ -57,3 +61,13 @@ costs_as_plan law a f text other answer another p q =
     costs law p.shows.state.situation p.shows.block.plan q.shows.state.plan p.shows.block.first
     (subst (λ (x : Situation). IsPlanShown x q.shows.state.plan) s q.shows.opened.opens.shown)
     ∙ ap (λ (x : Situation). option_map (objective x) q.shows.state.plan) (sym s)
+
+pub first_short : BlockIsBoundedLaw → FirstPlanIsShownLaw → FirstIsBoundedLaw
+first_short law shown a f text answer x =
+    let s = x.shows.state.situation in
+    let plan = x.shows.block.plan in
+    let block = law (record { situation = s; plan = plan })
+    (record { situation = x.shows.sound; shown = shown s plan x.shows.block.first }) in
+    let active = as_many x.aerodrome x.flights s x.shows.opened.opens.situation in
+    let long = ap length x.shows.block.prints in
+    subst (λ r. length text ≤ block_bound (count_in r)) (sym x.flights_read) (omega (arith, block, active, long))

@@ -1,9 +1,7 @@
 pub mod AuditLengths
-pub mod AuditLines
+pub mod AuditTexts
 pub mod FirstLaws
 pub mod FirstPlans
 pub mod FirstShown
 pub mod PlanLines
-pub mod TextLaws
-pub mod TextLengths
-pub mod TrialLengths
+pub mod WhatIfTexts

@@ -1,5 +1,5 @@
 -- What `audit` prints over the contents of its three files, and which it refuses.
-use Rattle.std.specs.Prelude.{⊤, ◌≡◌, ◌↔◌, ℕ, List, [], ◌∷◌, codes, Some, None, Ok}
+use Rattle.std.specs.Prelude.{⊤, ◌≡◌, ◌↔◌, ◌≤◌, ℕ, ◌+◌, ◌*◌, List, [], ◌∷◌, length, codes, Some, None, Ok, Result}
 use Rattle.landing_rules.specs.Flights.{Situation}
 use Rattle.landing_rules.specs.Text.{line}
 use Rattle.landing_rules.specs.Audit.{Finding, IsClean, findings}
@@ -8,12 +8,14 @@ use Rattle.arrivals.specs.declared.aerodrome.Aerodrome.{Aerodrome}
 use Rattle.aerodrome_file.specs.Reading.{aerodrome_of}
 use Rattle.arrivals.specs.declared.flight.Flight.{Flight}
 use Rattle.flight_file.specs.Reading.{flights_of}
+use Rattle.plan_file.specs.declared.plan.PlanFault.{PlanFault}
 use Rattle.plan_file.specs.declared.plan.PlanText.{PlanText}
 use Rattle.plan_file.specs.declared.plan.PlanText.TheVariants as plans
 use Rattle.plan_file.specs.Blocks.{seen_block}
 use Rattle.plan_file.specs.Reading.{plan_of}
 use Rattle.audit.specs.Texts.{findings_text}
 use Rattle.sequencer.specs.Opened.{opened}
+use Rattle.text_bounds.specs.Counts.{flight_count}
 use Rattle.cps_outside.specs.SinkState.{SinkState}
 use Rattle.endings.specs.declared.ending.Answer.{Answer}
 use Rattle.endings.specs.declared.ending.Answer.TheVariants.{Clean, Broken, Claimed}
@@ -77,3 +79,23 @@ FollowsAudit aerodrome flights plan =
 -- how `audit` may stop before it writes
 abbrev pub StopsAudit : List ℕ → List ℕ → List ℕ → Ending → Type 0
 StopsAudit aerodrome flights plan = Stops (RefusesAudit aerodrome flights plan)
+
+-- ---- lengths
+
+-- how many landing lines the bytes of a plan file hold; none where they read as none
+abbrev pub line_count_of : Result PlanText PlanFault → ℕ
+line_count_of (Ok (plans.Block b)) = length b.lines
+line_count_of read = 0
+
+abbrev pub line_count : List ℕ → ℕ
+line_count bytes = line_count_of (plan_of bytes)
+
+-- the line of a finding has at most 30 bytes: two for the first line, one for each flight without a line, ten for each
+-- line, four of which by its list, and one for each two lines
+abbrev pub audit_bound : ℕ → ℕ → ℕ
+audit_bound flights lines = 60 + 30 * flights + 300 * lines + 15 * (lines * lines)
+
+abbrev pub AuditIsBoundedLaw : Type 0
+AuditIsBoundedLaw = (aerodrome flights plan text : List ℕ) (answer : Answer)
+    → AdmitsAudit aerodrome flights plan text answer
+    → length text ≤ audit_bound (flight_count flights) (line_count plan)

@@ -1,5 +1,5 @@
 -- What `first` prints over the contents of its two files. It refuses those that `plan` refuses.
-use Rattle.std.specs.Prelude.{◌≡◌, ℕ, List, Ok, Option, option_map}
+use Rattle.std.specs.Prelude.{◌≡◌, ◌≤◌, ℕ, List, length, Ok, Option, option_map}
 use Rattle.landing_rules.specs.Flights.{Situation, Schedule}
 use Rattle.landing_rules.specs.Rules.{objective}
 use Rattle.landing_rules.specs.Events.{State}
@@ -10,6 +10,8 @@ use Rattle.arrivals.specs.declared.aerodrome.Aerodrome.{Aerodrome}
 use Rattle.aerodrome_file.specs.Reading.{aerodrome_of}
 use Rattle.arrivals.specs.declared.flight.Flight.{Flight}
 use Rattle.flight_file.specs.Reading.{flights_of}
+use Rattle.text_bounds.specs.Blocks.{block_bound}
+use Rattle.text_bounds.specs.Counts.{flight_count}
 use Rattle.cps_outside.specs.SinkState.{SinkState}
 use Rattle.endings.specs.declared.ending.Answer.{Answer}
 use Rattle.endings.specs.declared.ending.Ending.{Ending}
@@ -54,3 +56,8 @@ FirstCostsAsPlanLaw = (aerodrome flights text other : List ℕ) (answer another 
     → (first : AdmitsFirst aerodrome flights text answer) → (planned : AdmitsPlan aerodrome flights other another)
     → option_map (objective first.shows.state.situation) first.shows.block.plan
     ≡ option_map (objective planned.shows.state.situation) planned.shows.state.plan
+
+-- how many bytes such a text has at most
+abbrev pub FirstIsBoundedLaw : Type 0
+FirstIsBoundedLaw = (aerodrome flights text : List ℕ) (answer : Answer) → AdmitsFirst aerodrome flights text answer
+    → length text ≤ block_bound (flight_count flights)

@@ -2,6 +2,4 @@
 pub mod Audit
 pub mod First
 pub mod FirstShown
-pub mod TextLaws
 pub mod WhatIf
-pub mod shared

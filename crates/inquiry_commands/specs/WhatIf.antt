@@ -13,6 +13,8 @@ use Rattle.trial_file.specs.Reading.{trials_of}
 use Rattle.trial_file.specs.Trials.{IsGood, most_trials}
 use Rattle.sequencer.specs.Opened.{opened}
 use Rattle.whatif.specs.Text.{outcomes_text}
+use Rattle.text_bounds.specs.Counts.{trial_count}
+use Rattle.text_bounds.specs.Trials.{outcomes_bound}
 use Rattle.cps_outside.specs.SinkState.{SinkState}
 use Rattle.endings.specs.declared.ending.Answer.{Answer}
 use Rattle.endings.specs.declared.ending.Answer.TheVariants.{Tried}
@@ -57,3 +59,15 @@ FollowsWhatIf aerodrome flights trials =
 -- how `whatif` may stop before it writes
 abbrev pub StopsWhatIf : List ℕ → List ℕ → List ℕ → Ending → Type 0
 StopsWhatIf aerodrome flights trials = Stops (RefusesWhatIf aerodrome flights trials)
+
+-- two texts that `whatif` may print for the same files are one, with one answer
+abbrev pub WhatIfTextIsOneLaw : Type 0
+WhatIfTextIsOneLaw = (aerodrome flights trials text other : List ℕ) (answer another : Answer)
+    → AdmitsWhatIf aerodrome flights trials text answer → AdmitsWhatIf aerodrome flights trials other another
+    → (text ≡ other) × (answer ≡ another)
+
+-- how many bytes such a text has at most
+abbrev pub WhatIfIsBoundedLaw : Type 0
+WhatIfIsBoundedLaw = (aerodrome flights trials text : List ℕ) (answer : Answer)
+    → AdmitsWhatIf aerodrome flights trials text answer
+    → length text ≤ outcomes_bound (trial_count trials)

@@ -8,7 +8,7 @@ ghost use Rattle.arrivals.specs.Aerodromes.{IsInRange};
 ghost use Rattle.arrivals.specs.Flights.{AreArrivals};
 ghost use Rattle.landing_rules.specs.Sound.{IsSound};
 ghost use Rattle.plan_file.specs.Reading.{HasFewLines};
-ghost use Rattle.inquiry_commands.specs.Audit.{AdmitsAudit, FollowsAudit, IsAudited, StopsAudit, TellsClean, audit_answer, audit_text, report, report_answer};
+ghost use Rattle.inquiry_commands.specs.Audit.{AdmitsAudit, AuditIsBoundedLaw, FollowsAudit, IsAudited, StopsAudit, TellsClean, audit_answer, audit_text, report, report_answer};
 ghost use Rattle.endings.specs.Refusing.{StopsOpened};
 
 use aerodrome_file::read_aerodrome;
@@ -125,3 +125,10 @@ pub fn run_audit<S: Sink>(
     let report = report_files(alloc, aerodrome, flights, plan);
     print_report(out, report)
 }
+
+/// How many bytes `audit` prints at most: 60 + 30n + 300m + 15m² for n flights and a plan file of m landing lines, which are at
+/// most 500. The call does nothing: it tells its caller the law.
+#[tactic(auto, using(crate::proofs::AuditTexts::audit_short))]
+pub fn audit_texts_are_bounded()
+    ensures { AuditIsBoundedLaw }
+{}

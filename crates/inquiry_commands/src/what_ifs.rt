@@ -4,6 +4,7 @@ ghost use Rattle.arrivals.specs.Flights.{AreArrivals};
 ghost use Rattle.trial_file.specs.Trials.{IsGood, most_trials};
 ghost use Rattle.endings.specs.Refusing.{StopsOpened};
 ghost use Rattle.inquiry_commands.specs.WhatIf.{AdmitsWhatIf, AreTried, FollowsWhatIf, StopsWhatIf};
+ghost use Rattle.inquiry_commands.specs.WhatIf.{WhatIfIsBoundedLaw, WhatIfTextIsOneLaw};
 
 use aerodrome_file::read_aerodrome;
 use arrivals::{Aerodrome, Flight};
@@ -15,7 +16,7 @@ use sequencer::opening;
 use std::alloc::Global;
 use std::thread::Threads;
 use trial_file::{Trial, read_trials};
-use whatif::{append_outcomes, run_trials};
+use whatif::{append_outcomes, outcomes_are_one, run_trials};
 
 // The outcomes of the trials over files that are read, a line each.
 fn try_opened<R: Threads + Sync, G: Gate + Sync>(
@@ -96,3 +97,18 @@ pub fn run_what_if<R: Threads + Sync, S: Sink, G: Gate + Sync>(
     let report = report_files(rt, alloc, files, gate);
     print_report(out, report)
 }
+
+/// Two texts that `whatif` may print for the same files are one, with one answer: the text is a function of the files' bytes. The
+/// call does nothing: it tells its caller the law.
+#[tactic(auto, using(crate::proofs::WhatIfTexts::what_if_one))]
+pub fn what_if_text_is_one()
+    ensures { WhatIfTextIsOneLaw }
+{
+    outcomes_are_one();
+}
+
+/// How many bytes `whatif` prints at most: 16 + 48t for t trials. The call does nothing: it tells its caller the law.
+#[tactic(auto, using(crate::proofs::WhatIfTexts::what_if_short))]
+pub fn what_if_texts_are_bounded()
+    ensures { WhatIfIsBoundedLaw }
+{}

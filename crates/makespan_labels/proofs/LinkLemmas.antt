@@ -64,47 +64,54 @@ groups_between l links windows origin first end ranges are ends = λ g lt.
     (subst (λ (range : ℕ × ℕ). IsGroup l.origin range.0 range.1) (sym same)
     (links.groups (first + g) (omega (arith, lt, long))))
 
--- the places of the windows from place `start` on and before `stop`
-module _ (l : Links) (links : AreLinks l) (windows : List (List ℤ)) (target : l.target ≡ windows) (start stop : ℕ)
-    (ordered : start ≤ stop) (stops : stop ≤ length windows) (places : List ℕ)
-    (are : places ≡ between start stop l.places) where
-  pub places_long : length places ≡ stop - start
-  places_long = ap length are
-      ∙ length-between l.places start stop (omega (arith, stops, links.one_each, ap length target))
+-- the places of `n` windows from place `start` on
+module _ (l : Links) (links : AreLinks l) (start n : ℕ) (inside : start + n ≤ length l.target)
+    (places : List ℕ) (are : places ≡ between start (start + n) l.places) where
+  pub places_long : length places ≡ n
+  places_long =
+      let long = length-between l.places start (start + n) (omega (arith, inside, links.one_each)) in
+      omega (arith, long, ap length are)
 
-  pub place_is : (i : ℕ) → i < length places → slice_index places i ≡ slice_index l.places (start + i)
+  pub place_is : (i : ℕ) → i < n → slice_index places i ≡ slice_index l.places (start + i)
   place_is i lt = ap (λ (ps : List ℕ). slice_index ps i) are
-      ∙ get_or-between l.places start stop i 0 (omega (arith, lt, places_long, ordered))
+      ∙ get_or-between l.places start (start + n) i 0 (omega (arith, lt))
 
-  pub place_target : (i : ℕ) → i < length places → start + i < length l.target
-  place_target i lt = omega (arith, lt, places_long, ordered, stops, ap length target)
-
-  pub place_within : (i : ℕ) → i < length places → slice_index places i < length l.ranges
-  place_within i lt = let at = links.within (start + i) (place_target i lt) in omega (arith, at, place_is i lt)
+  pub place_within : (i : ℕ) → i < n → slice_index places i < length l.ranges
+  place_within i lt =
+      let at = links.within (start + i) (omega (arith, lt, inside)) in
+      omega (arith, at, place_is i lt)
 
 -- with these places, the ranges from place `first` on and before `end`
 module _ (p : Problem) (w : ℕ) (before stage : ℕ × List (List ℤ)) (labels : List ℕ) (l : Links) (links : AreLinks l)
-    (origin : l.origin ≡ before.1) (target : l.target ≡ stage.1) (start stop first end : ℕ)
-    (ordered : start ≤ stop) (stops : stop ≤ length stage.1) (ends : end ≤ length l.ranges)
-    (places : List ℕ) (places_are : places ≡ between start stop l.places)
+    (origin : l.origin ≡ before.1) (target : l.target ≡ stage.1) (start n first end : ℕ)
+    (inside : start + n ≤ length l.target) (ends : end ≤ length l.ranges)
+    (places : List ℕ) (places_are : places ≡ between start (start + n) l.places)
     (ranges : List (ℕ × ℕ)) (ranges_are : ranges ≡ between first end l.ranges)
-    (low : (i : ℕ) → i < length places → first ≤ slice_index places i)
-    (high : (i : ℕ) → i < length places → slice_index places i < end) where
+    (low : (i : ℕ) → i < n → first ≤ slice_index l.places (start + i))
+    (high : (i : ℕ) → i < n → slice_index l.places (start + i) < end) where
   ranges_long : length ranges ≡ end - first
   ranges_long = ap length ranges_are ∙ length-between l.ranges first end ends
 
-  here : (i : ℕ) → i < length places → slice_index places i ≡ slice_index l.places (start + i)
-  here = place_is l links stage.1 target start stop ordered stops places places_are
+  long : length places ≡ n
+  long = places_long l links start n inside places places_are
+
+  lies : (i : ℕ) → i < length places → (slice_index places i ≡ slice_index l.places (start + i))
+      × (first ≤ slice_index places i) × (slice_index places i < end)
+  lies i lt =
+      let inner : i < n = omega (arith, lt, long) in
+      let here = place_is l links start n inside places places_are i inner in
+      let lo = low i inner in
+      let hi = high i inner in
+      (here, omega (arith, here, lo), omega (arith, here, hi))
 
   range_is : (i : ℕ) → i < length places
       → range_at ranges (slice_index places i - first) ≡ range_at l.ranges (slice_index l.places (start + i))
   range_is i lt =
-      let lo = low i lt in
-      let hi = high i lt in
+      let at = lies i lt in
       let same : first + (slice_index places i - first) ≡ slice_index l.places (start + i) =
-      omega (arith, lo, here i lt) in
+      omega (arith, at.0, at.1) in
       ap (λ (rs : List (ℕ × ℕ)). range_at rs (slice_index places i - first)) ranges_are
-      ∙ get_or-between l.ranges first end (slice_index places i - first) (0, 0) (omega (arith, lo, hi))
+      ∙ get_or-between l.ranges first end (slice_index places i - first) (0, 0) (omega (arith, at.1, at.2))
       ∙ ap (range_at l.ranges) same
 
   leads_there : (i : ℕ) → i < length places
@@ -114,8 +121,7 @@ module _ (p : Problem) (w : ℕ) (before stage : ℕ × List (List ℤ)) (labels
       subst (λ (range : ℕ × ℕ). Extends (node_at before.1 range.0) (node_at stage.1 (start + i))) (sym (range_is i lt))
       (subst (λ (ws : List (List ℤ)). Extends (node_at before.1 front) (node_at ws (start + i))) target
       (subst (λ (ws : List (List ℤ)). Extends (node_at ws front) (node_at l.target (start + i))) origin
-      (links.leads (start + i)
-      (place_target l links stage.1 target start stop ordered stops places places_are i lt))))
+      (links.leads (start + i) (omega (arith, lt, long, inside)))))
 
   pub lead_to_each : (leasts : List ℕ) (categories : List Category) → length ranges ≤ length leasts
       → length ranges ≤ length categories
@@ -123,17 +129,15 @@ module _ (p : Problem) (w : ℕ) (before stage : ℕ × List (List ℤ)) (labels
       (slice_index leasts g) (slice_index_or categories g d))
       → CanLabel p w before labels stage → 0 < before.0
       → LeadToEach p w before labels stage.1 start places first leasts categories
-  lead_to_each leasts categories long wide over can some = record {
-    one_each =
-        omega (arith, places_long l links stage.1 target start stop ordered stops places places_are, ordered, stops);
-    from_first = low;
-    has_least = λ i lt. let hi = high i lt in omega (arith, hi, ranges_long, long);
-    has_category = λ i lt. let hi = high i lt in omega (arith, hi, ranges_long, wide);
+  lead_to_each leasts categories deep wide over can some = record {
+    one_each = omega (arith, long, inside, ap length target);
+    from_first = λ i lt. (lies i lt).1;
+    has_least = λ i lt. let hi = (lies i lt).2 in omega (arith, hi, ranges_long, deep);
+    has_category = λ i lt. let hi = (lies i lt).2 in omega (arith, hi, ranges_long, wide);
     leads = λ i d lt.
-        let lo = low i lt in
-        let hi = high i lt in
+        let place = lies i lt in
         let g = slice_index places i - first in
-        let at = over g d (omega (arith, lo, hi, ranges_long)) in
+        let at = over g d (omega (arith, place.1, place.2, ranges_long)) in
         record {
           from = (range_at ranges g).0;
           over = at;

@@ -1,6 +1,6 @@
 //! The labels of a stage whose links from the stage before are kept.
 
-ghost use Rattle.std.specs.Prelude.{◌≡◌, ℕ, ◌+◌, ◌*◌, ◌<◌, ◌≤◌, length, slice_index, slice_index_or};
+ghost use Rattle.std.specs.Prelude.{◌≡◌, ℕ, ◌+◌, ◌*◌, ◌^◌, ◌<◌, ◌≤◌, length, slice_index, slice_index_or};
 ghost use Rattle.cps_base.specs.Tally.{raised_by};
 ghost use Rattle.cps_network.specs.Landable.{HasEachLandable};
 ghost use Rattle.cps_network.specs.Links.{AreGroups, range_at};
@@ -27,8 +27,11 @@ use label_workers::{PIECE, fill_pieces};
 use std::thread::Threads;
 use wake_table::Category;
 
-// How many ranges near one another find room on the stack. A piece of a column needs far fewer, as a rule.
-const ROOM: usize = 500;
+// How many ranges near one another find room on the stack. An array is written whole first, so most pieces take a small one;
+// those of a problem's last stages, where few windows share a range, need the large one.
+const SMALL_ROOM: usize = 500;
+
+const LARGE_ROOM: usize = 1024;
 
 // What landings behind ranges of the links need, from the range at place `first` on.
 #[derive(Clone, Copy)]
@@ -38,20 +41,24 @@ struct Leads<'a> {
     categories: &'a [Category],
 }
 
-// The least and the greatest of these places.
-fn ends_of(places: &[u32]) -> (u32, u32)
-    requires some { 0 < length places.now }
-    ensures least { (i : ℕ) → i < length places.now → result.0 ≤ slice_index places.now i }
-    ensures greatest { (i : ℕ) → i < length places.now → slice_index places.now i ≤ result.1 }
-    ensures among { (i : ℕ) × (i < length places.now) × (slice_index places.now i ≡ result.1) }
+// The places of the ranges that lead to n windows from place `start` on lie from the first of these places on and before the
+// second.
+fn ends_of<const W: usize>(links: &Links<W>, start: usize, n: usize) -> (usize, usize)
+    requires some { 0 < n }
+    requires windows { start + n ≤ length links.now.target }
+    ensures from { (i : ℕ) → i < n → result.0 ≤ slice_index links.now.places (start + i) }
+    ensures before { (i : ℕ) → i < n → slice_index links.now.places (start + i) < result.1 }
+    ensures ordered { result.0 ≤ result.1 }
+    ensures within { result.1 ≤ length links.now.ranges }
 {
+    let places = &links.places()[start..start + n];
     let mut least = places[0];
     let mut greatest = places[0];
     for place in places {
         least = least.min(*place);
         greatest = greatest.max(*place);
     }
-    (least, greatest)
+    (least as usize, greatest as usize + 1)
 }
 
 // Writes for each range the least label of its windows, and the category of the flight that landed last in them. It stands
@@ -149,8 +156,50 @@ fn fill_linked_part<const W: usize>(
     }
 }
 
-// The same, where the leads of the ranges that lead to the part's windows are not found yet. The places of these ranges lie
-// close together, as a rule. Where they do not, the windows that lead to each window are looked for.
+// The same, where the places of the ranges that lead to the part's windows lie from `first` on and before `end`, and the leads
+// of these ranges find room on the stack. Not inlined, so that the small room is not the large one's.
+#[inline(never)]
+fn fill_in_room<const W: usize, const ROOM: usize>(
+    labelling: &Labelling<W>,
+    links: &Links<W>,
+    first: usize,
+    end: usize,
+    start: usize,
+    part: &mut [u32],
+)
+    requires can { CanLabel labelling.now.problem.now W labelling.now.before.now
+        labelling.now.labels.now labelling.now.stage.now }
+    requires some { 0 < labelling.now.before.now.0 }
+    requires origin { links.now.origin ≡ labelling.now.before.now.1 }
+    requires target { links.now.target ≡ labelling.now.stage.now.1 }
+    requires windows { start + length part.old ≤ length links.now.target }
+    requires from { (i : ℕ) → i < length part.old
+        → first ≤ slice_index links.now.places (start + i) }
+    requires before { (i : ℕ) → i < length part.old
+        → slice_index links.now.places (start + i) < end }
+    requires ordered { first ≤ end }
+    requires within { end ≤ length links.now.ranges }
+    requires room { end ≤ first + ROOM }
+    requires small { ROOM ≤ 2 ^ 32 }
+    ensures { (i : ℕ) → i < length part.old
+        → IsLabelAt labelling.now.problem.now labelling.now.stage.now (start + i)
+        (slice_index part.new i) }
+{
+    let mut leasts = [0; ROOM];
+    let mut categories = [Category::A; ROOM];
+    let ranges = &links.ranges()[first..end];
+    fill_leads(labelling, ranges, &mut leasts[..], &mut categories[..]);
+    let places = &links.places()[start..start + part.len()];
+    let leads = Leads {
+        first,
+        leasts: &leasts[..],
+        categories: &categories[..],
+    };
+    fill_linked_part(labelling, places, &leads, start, part);
+}
+
+// The same, where it is not known which ranges these are. Their places lie close together, as a rule. Where they do not, the
+// windows that lead to each window are looked for.
 fn fill_linked_piece<const W: usize>(
     labelling: &Labelling<W>,
     links: &Links<W>,
@@ -170,24 +219,15 @@ fn fill_linked_piece<const W: usize>(
     if part.is_empty() {
         return;
     }
-    let places = &links.places()[start..start + part.len()];
-    let (least, greatest) = ends_of(places);
-    let first = least as usize;
-    let end = greatest as usize + 1;
-    if end - first > ROOM {
+    let (first, end) = ends_of(links, start, part.len());
+    let ranges = end - first;
+    if ranges <= SMALL_ROOM {
+        fill_in_room::<W, SMALL_ROOM>(labelling, links, first, end, start, part);
+    } else if ranges <= LARGE_ROOM {
+        fill_in_room::<W, LARGE_ROOM>(labelling, links, first, end, start, part);
+    } else {
         fill_part(labelling, start, part);
-        return;
     }
-    let mut leasts = [0; ROOM];
-    let mut categories = [Category::A; ROOM];
-    let ranges = &links.ranges()[first..end];
-    fill_leads(labelling, ranges, &mut leasts[..], &mut categories[..]);
-    let leads = Leads {
-        first,
-        leasts: &leasts[..],
-        categories: &categories[..],
-    };
-    fill_linked_part(labelling, places, &leads, start, part);
 }
 
 // Piece by piece, one after another.

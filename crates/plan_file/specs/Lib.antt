@@ -4,3 +4,4 @@ pub mod Blocks
 pub mod Lines
 pub mod Reading
 pub mod Printed
+pub mod shared

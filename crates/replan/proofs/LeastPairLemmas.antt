@@ -4,7 +4,7 @@ use Rattle.std.proofs.Common.{set, take, drop, min, Bool, true, false, refl, sym
 use Rattle.std.specs.Prelude.{nat_lt, slice_index}
 use Rattle.std.proofs.lemmas.Bool.{cases_eq}
 use Rattle.std.proofs.Math.Seq.{take-append_seam}
-use Rattle.std.proofs.lemmas.List.{length-map}
+use Rattle.std.proofs.lemmas.List.{get_or-map, get_or-set_other, get_or-set_same, length-map, length-set}
 use Rattle.cps_theory.specs.Labels.{InPairs, Pair}
 use Rattle.cps_theory.specs.UndominatedPairs.{Staircase}
 use Rattle.cps_network.specs.Pairs.{list_at, pair_at}
@@ -14,7 +14,8 @@ use Rattle.makespan_labels.specs.LabelPairs.{label_pairs, column_pairs, pair_if}
 use Rattle.makespan_labels.specs.shared.LabelPairs.{list_of_label}
 use Rattle.replan.specs.Labels.{last_pair}
 use Rattle.replan.specs.shared.LastPairs.{last_cheapest}
-use Rattle.replan.specs.WindowNodes.{extremes, lesser, told_at, AreLeastOf, AreLeastUpto, HaveLeast, WindowNodes}
+use Rattle.replan.specs.WindowNodes.{extremes, lesser, told_at, AreLeastOf, AreLeastUpto, HaveLeast}
+use Rattle.replan.specs.WindowNodes.{IsPairAt, WindowNodes}
 
 -- ---- of one list
 
@@ -25,23 +26,6 @@ first_least (x ∷ xs) s q (inr i) = (let a = (s.0 q i).0 in omega (arith, a))
 
 -- ---- one window more
 
-set_same : (xs : List Pair) (i : ℕ) (y : Pair) → i < length xs → pair_at (set xs i y) i ≡ y
-set_same [] i y lt = absurd (omega (arith, lt))
-set_same (x ∷ xs) zero y lt = refl
-set_same (x ∷ xs) (suc i) y lt = set_same xs i y (omega (arith, lt))
-
-set_other : (xs : List Pair) (i j : ℕ) (y : Pair) → (j ≡ i → ⊥) → pair_at (set xs i y) j ≡ pair_at xs j
-set_other [] i j y ne = refl
-set_other (x ∷ xs) zero zero y ne = absurd (ne refl)
-set_other (x ∷ xs) zero (suc j) y ne = refl
-set_other (x ∷ xs) (suc i) zero y ne = refl
-set_other (x ∷ xs) (suc i) (suc j) y ne = set_other xs i j y (λ e. ne (ap suc e))
-
-set_long : (xs : List Pair) (i : ℕ) (y : Pair) → length (set xs i y) ≡ length xs
-set_long [] i y = refl
-set_long (x ∷ xs) zero y = refl
-set_long (x ∷ xs) (suc i) y = ap suc (set_long xs i y)
-
 min_right : (a b : ℕ) {c : ℕ} → b ≡ c → c < a → min a b ≡ c
 min_right a b e lt = grind (arith, e, lt)
 
@@ -50,6 +34,25 @@ min_none a b e = grind (arith, e)
 
 min_is : (a b : ℕ) → (min a b ≡ a) × (a ≤ b) ⊎ (min a b ≡ b) × (b ≤ a)
 min_is a b = grind arith
+
+-- of a part of the pairs, the second or the cost: so far no window has a lesser one than its node, and each node has that
+-- of one of its windows
+module _ (lists : List (List Pair)) (places firsts : List ℕ) (part : Pair → ℕ) where
+  abbrev IsLow : ℕ → List Pair → Type 0
+  IsLow count least = (i : ℕ) → i < count
+      → part (pair_at least (told_at places i)) ≤ part (extremes (list_at lists i))
+
+  abbrev IsReached : List Pair → Type 0
+  IsReached least = (j : ℕ) → j < length firsts → (i : ℕ) × (i < length places) × (told_at places i ≡ j)
+      × (part (pair_at least j) ≡ part (extremes (list_at lists i)))
+
+  one_low : (count : ℕ) (least : List Pair) → IsLow count least
+      → part (pair_at least (told_at places count)) ≤ part (extremes (list_at lists count)) → IsLow (count + 1) least
+  one_low count least low here i less = elim (cases_eq i count) [
+    | inl e ↦ subst (λ (m : ℕ). part (pair_at least (told_at places m)) ≤ part (extremes (list_at lists m))) (sym e)
+        here
+    | inr ne ↦ low i (omega (arith, less, ne))
+  ]
 
 module _ (lists : List (List Pair)) (places firsts : List ℕ) (count : ℕ) (least : List Pair)
     (a : AreLeastUpto lists places firsts count least) (lt : count < length places)
@@ -63,75 +66,47 @@ module _ (lists : List (List Pair)) (places firsts : List ℕ) (count : ℕ) (le
   abbrev new : Pair
   new = lesser (pair_at least place) here
 
-  there : place < length least
-  there = let e = a.one_each in omega (arith, within, e)
-
   abbrev after : List Pair
   after = set least place new
 
-  lower : (j : ℕ) → ((pair_at after j).0 ≤ (pair_at least j).0) × ((pair_at after j).1 ≤ (pair_at least j).1)
-  lower j = elim (cases_eq j place) [
-    | inl e ↦
-        let is : pair_at after j ≡ new = ap (pair_at after) e ∙ set_same least place new there in
-        let was : pair_at least j ≡ pair_at least place = ap (pair_at least) e in
-        let is0 = ap (λ (z : Pair). z.0) is in
-        let is1 = ap (λ (z : Pair). z.1) is in
-        let was0 = ap (λ (z : Pair). z.0) was in
-        let was1 = ap (λ (z : Pair). z.1) was in
-        (omega (arith, is0, was0), omega (arith, is1, was1))
-    | inr ne ↦
-        let is = set_other least place j new ne in
-        let is0 = ap (λ (z : Pair). z.0) is in
-        let is1 = ap (λ (z : Pair). z.1) is in
-        (omega (arith, is0), omega (arith, is1))
-  ]
-
   now : pair_at after place ≡ new
-  now = set_same least place new there
+  now = get_or-set_same least place new (0, 0) (let e = a.one_each in omega (arith, within, e))
+
+  module _ (part : Pair → ℕ) (is : part new ≡ min (part (pair_at least place)) (part here)) where
+    there : part (pair_at after place) ≡ min (part (pair_at least place)) (part here)
+    there = ap part now ∙ is
+
+    falls : (j : ℕ) → part (pair_at after j) ≤ part (pair_at least j)
+    falls j = elim (cases_eq j place) [
+      | inl e ↦ subst (λ (m : ℕ). part (pair_at after m) ≤ part (pair_at least m)) (sym e) (omega (arith, there))
+      | inr ne ↦ (let same = ap part (get_or-set_other least place j new (0, 0) ne) in omega (arith, same))
+    ]
+
+    low_after : IsLow lists places firsts part count least → IsLow lists places firsts part (count + 1) after
+    low_after low = one_low lists places firsts part count after (λ i less. let b = low i less in let c =
+        falls (told_at places i) in omega (arith, b, c)) (omega (arith, there))
+
+    reached_after : IsReached lists places firsts part least → IsReached lists places firsts part after
+    reached_after reached j inside =
+        let s = reached j inside in
+        elim (cases_eq j place) [
+          | inl e ↦
+              let at : part (pair_at after j) ≡ min (part (pair_at least place)) (part here) =
+              ap (λ (m : ℕ). part (pair_at after m)) e ∙ there in
+              elim (min_is (part (pair_at least place)) (part here)) [
+                | inl old ↦ (s.0, s.1, s.2, at ∙ old.0 ∙ ap (λ (m : ℕ). part (pair_at least m)) (sym e) ∙ s.3)
+                | inr fresh ↦ (count, lt, sym e, at ∙ fresh.0)
+              ]
+          | inr ne ↦ (s.0, s.1, s.2, ap part (get_or-set_other least place j new (0, 0) ne) ∙ s.3)
+        ]
 
   pub one_least : AreLeastUpto lists places firsts (count + 1) after
   one_least = record {
-    one_each = set_long least place new ∙ a.one_each;
-    early = λ i less. elim (cases_eq i count) [
-      | inl e ↦
-          let is = ap (λ (z : Pair). z.0) now in
-          subst (λ (m : ℕ). (pair_at after (told_at places m)).0 ≤ (extremes (list_at lists m)).0)
-          (sym e) (omega (arith, is))
-      | inr ne ↦ (let b = a.early i (omega (arith, less, ne)) in let c =
-          (lower (told_at places i)).0 in omega (arith, b, c))
-    ];
-    cheap = λ i less. elim (cases_eq i count) [
-      | inl e ↦
-          let is = ap (λ (z : Pair). z.1) now in
-          subst (λ (m : ℕ). (pair_at after (told_at places m)).1 ≤ (extremes (list_at lists m)).1)
-          (sym e) (omega (arith, is))
-      | inr ne ↦ (let b = a.cheap i (omega (arith, less, ne)) in let c =
-          (lower (told_at places i)).1 in omega (arith, b, c))
-    ];
-    earliest = λ j inside. elim (cases_eq j place) [
-      | inl e ↦
-          let is : (pair_at after j).0 ≡ new.0 = ap (λ (m : ℕ). (pair_at after m).0) e ∙ ap (λ (z : Pair). z.0) now in
-          elim (min_is (pair_at least place).0 here.0) [
-            | inl old ↦
-                let s = a.earliest j inside in
-                (s.0, s.1, s.2, is ∙ old.0 ∙ ap (λ (m : ℕ). (pair_at least m).0) (sym e) ∙ s.3)
-            | inr fresh ↦ (count, lt, sym e, is ∙ fresh.0)
-          ]
-      | inr ne ↦ (let s = a.earliest j inside in
-          (s.0, s.1, s.2, ap (λ (z : Pair). z.0) (set_other least place j new ne) ∙ s.3))
-    ];
-    cheapest = λ j inside. elim (cases_eq j place) [
-      | inl e ↦
-          let is : (pair_at after j).1 ≡ new.1 = ap (λ (m : ℕ). (pair_at after m).1) e ∙ ap (λ (z : Pair). z.1) now in
-          elim (min_is (pair_at least place).1 here.1) [
-            | inl old ↦
-                let s = a.cheapest j inside in
-                (s.0, s.1, s.2, is ∙ old.0 ∙ ap (λ (m : ℕ). (pair_at least m).1) (sym e) ∙ s.3)
-            | inr fresh ↦ (count, lt, sym e, is ∙ fresh.0)
-          ]
-      | inr ne ↦ (let s = a.cheapest j inside in
-          (s.0, s.1, s.2, ap (λ (z : Pair). z.1) (set_other least place j new ne) ∙ s.3))
-    ];
+    one_each = length-set least place new ∙ a.one_each;
+    early = low_after (λ q. q.0) refl a.early;
+    cheap = low_after (λ q. q.1) refl a.cheap;
+    earliest = reached_after (λ q. q.0) refl a.earliest;
+    cheapest = reached_after (λ q. q.1) refl a.cheapest;
   }
 
   -- where the next window lowers nothing
@@ -139,14 +114,8 @@ module _ (lists : List (List Pair)) (places firsts : List ℕ) (count : ℕ) (le
       → AreLeastUpto lists places firsts (count + 1) least
   none_lower early cheap = record {
     one_each = a.one_each;
-    early = λ i less. elim (cases_eq i count) [
-      | inl e ↦ subst (λ (m : ℕ). (pair_at least (told_at places m)).0 ≤ (extremes (list_at lists m)).0) (sym e) early
-      | inr ne ↦ a.early i (omega (arith, less, ne))
-    ];
-    cheap = λ i less. elim (cases_eq i count) [
-      | inl e ↦ subst (λ (m : ℕ). (pair_at least (told_at places m)).1 ≤ (extremes (list_at lists m)).1) (sym e) cheap
-      | inr ne ↦ a.cheap i (omega (arith, less, ne))
-    ];
+    early = one_low lists places firsts (λ q. q.0) count least a.early early;
+    cheap = one_low lists places firsts (λ q. q.1) count least a.cheap cheap;
     earliest = a.earliest;
     cheapest = a.cheapest;
   }
@@ -251,44 +220,41 @@ days_set (x ∷ xs) (suc i) q m h l (suc j) = days_set xs i q m (λ n. h (suc n)
 
 -- ---- all windows
 
-map_at : (f : ℕ → Pair) (xs : List ℕ) (j : ℕ) → j < length xs → pair_at (map f xs) j ≡ f (told_at xs j)
-map_at f [] j lt = absurd (omega (arith, lt))
-map_at f (x ∷ xs) zero lt = refl
-map_at f (x ∷ xs) (suc j) lt = map_at f xs j (omega (arith, lt))
-
-map_long : (f : ℕ → Pair) (xs : List ℕ) → length (map f xs) ≡ length xs
-map_long f [] = refl
-map_long f (x ∷ xs) = ap suc (map_long f xs)
-
 module _ (lists : List (List Pair)) (nodes : WindowNodes) (h : HaveLeast lists nodes) where
   -- the first window of each node stands for it
   pub first_leasts : (least : List Pair) → least ≡ map (λ i. extremes (list_at lists i)) nodes.firsts
       → AreLeastUpto lists nodes.places nodes.firsts 0 least
-  first_leasts least e = subst (AreLeastUpto lists nodes.places nodes.firsts 0) (sym e) (record {
-    one_each = map_long (λ i. extremes (list_at lists i)) nodes.firsts;
+  first_leasts least e = record {
+    one_each = ap length e ∙ length-map nodes.firsts (λ i. extremes (list_at lists i));
     early = λ i lt. absurd (omega (arith, lt));
     cheap = λ i lt. absurd (omega (arith, lt));
-    earliest = λ j lt. (
-      told_at nodes.firsts j,
-      h.first j lt,
-      h.own j lt,
-      ap (λ (q : Pair). q.0)
-          (map_at (λ i. extremes (list_at lists i)) nodes.firsts j lt),
-    );
-    cheapest = λ j lt. (
-      told_at nodes.firsts j,
-      h.first j lt,
-      h.own j lt,
-      ap (λ (q : Pair). q.1)
-          (map_at (λ i. extremes (list_at lists i)) nodes.firsts j lt),
-    );
-  })
-
-  some_at : (i : ℕ) → i < length nodes.places → 0 < length (list_at lists i)
-  some_at i lt = h.some i (let l = h.long in omega (arith, lt, l))
+    earliest = own (λ q. q.0);
+    cheapest = own (λ q. q.1);
+  }
+    where
+      own : (part : Pair → ℕ) → IsReached lists nodes.places nodes.firsts part least
+      own part j lt = (
+        told_at nodes.firsts j,
+        h.first j lt,
+        h.own j lt,
+        ap (λ (qs : List Pair). part (pair_at qs j)) e
+            ∙ ap part (get_or-map (λ i. extremes (list_at lists i)) nodes.firsts j 0 (0, 0) lt),
+      )
 
   falling_at : (i : ℕ) → i < length nodes.places → Staircase (list_at lists i)
   falling_at i lt = h.falling i (let l = h.long in omega (arith, lt, l))
+
+  -- the pair of a window at an index
+  pair_there : (i j index : ℕ) → i < length nodes.places → told_at nodes.places i ≡ j
+      → (0 < length (list_at lists i) → index < length (list_at lists i))
+      → IsPairAt lists nodes.places j (pair_at (list_at lists i) index)
+  pair_there i j index lt of_node listed = record {
+    window = i;
+    within = lt;
+    of_node = of_node;
+    has = at_in (list_at lists i) index (pair_at (list_at lists i) index)
+        (listed (h.some i (let l = h.long in omega (arith, lt, l)))) refl;
+  }
 
   pub all_least : (least : List Pair) → AreLeastUpto lists nodes.places nodes.firsts (length nodes.places) least
       → AreLeastOf lists nodes least
@@ -307,30 +273,11 @@ module _ (lists : List (List Pair)) (nodes : WindowNodes) (h : HaveLeast lists n
           let e : (pair_at least (told_at nodes.places is.window)).1 ≡ (pair_at least j).1 =
           ap (λ (m : ℕ). (pair_at least m).1) is.of_node in
           omega (arith, b, c, e);
-      earliest =
-          let s = a.earliest j lt in (
-            pair_at (list_at lists s.0) 0,
-            record {
-              window = s.0;
-              within = s.1;
-              of_node = s.2;
-              has =
-                  at_in (list_at lists s.0) 0 (pair_at (list_at lists s.0) 0) (some_at s.0 s.1) refl;
-            },
-            sym s.3,
-          );
-      cheapest =
-          let s = a.cheapest j lt in
-          let n = some_at s.0 s.1 in (
-            last_pair (list_at lists s.0),
-            record {
-              window = s.0;
-              within = s.1;
-              of_node = s.2;
-              has = at_in (list_at lists s.0)
-                  (length (list_at lists s.0) - 1) (last_pair (list_at lists s.0)) (omega (arith, n)) refl;
-            },
-            sym s.3,
-          );
+      earliest = (let s = a.earliest j lt in (_, pair_there s.0 j 0 s.1 s.2 (λ some. some), sym s.3));
+      cheapest = (let s = a.cheapest j lt in (
+        last_pair (list_at lists s.0),
+        pair_there s.0 j (length (list_at lists s.0) - 1) s.1 s.2 (λ some. omega (arith, some)),
+        sym s.3,
+      ));
     };
   }

@@ -1,6 +1,6 @@
 pub mod LabelsLemmas
 pub mod StageLemmas
-pub mod FormerLemmas
+pub mod HintLemmas
 pub mod TraceLemmas
 pub mod PlanLemmas
 pub mod LeastPlace

@@ -2,8 +2,8 @@
 use Rattle.std.proofs.Common.{◌≡◌, ℕ, zero, suc, ◌+◌, ◌*◌, ◌<◌, ◌≤◌, List, [], ◌∷◌, ◌++◌, length, get_or, replicate}
 use Rattle.std.proofs.Common.{length-append, refl, sym, ap, subst, ◌∙◌, arith, inl, inr, zero-le, Option, Some, None}
 use Rattle.std.proofs.Common.{◌-◌, take}
-use Rattle.std.specs.Prelude.{ℤ, pos, Contains, IsTrue}
-use Rattle.std.proofs.lemmas.Bool.{cases_eq}
+use Rattle.std.specs.Prelude.{ℤ, pos, Bool, Contains, IsTrue}
+use Rattle.std.proofs.lemmas.Bool.{cases_eq, cases_lt, le-leb, lt-leb}
 use Rattle.std.proofs.lemmas.List.{get_or_append_left, get_or_push, get_or_default, get_or-take, length-take-le}
 use Rattle.std.proofs.lemmas.List.Elements.{Contains-get_or}
 use Rattle.cps_base.specs.Tally.{raised_by, FitsCount}
@@ -14,13 +14,13 @@ use Rattle.cps_theory.specs.Network.{Undominated}
 use Rattle.landing_joint.specs.RankedProblem.{cost_at}
 use Rattle.landing_rules.specs.declared.objective.Objective.{Objective}
 use Rattle.landing_rules.specs.Problem.{Problem, AreBetweenRanks}
-use Rattle.cps_network.specs.Due.{HasCandidates, HasCandidatesFrom, IsDueFrom}
+use Rattle.cps_network.specs.Due.{HasCandidates, HasCandidatesFrom, HasCandidatesIf, IsDueFrom}
 use Rattle.cps_network.specs.Landable.{Attains, IsLandable, HoldsLandable, HoldsCandidates}
 use Rattle.cps_network.specs.Lists.{IsAscending, node_at, AreWindows}
 use Rattle.cps_network.specs.Nodes.{Node, node_of}
 use Rattle.cps_network.specs.Pairs.{ArePairsOf, HoldsCosts, list_at}
 use Rattle.cps_network.specs.Permits.{IsNextOf}
-use Rattle.cps_network.specs.shared.DueSteps.{more_from, due_with_held}
+use Rattle.cps_network.specs.shared.DueSteps.{more_from, none_from, due_with_held}
 use Rattle.cps_network.specs.shared.LegalWindows.{source_is, landable_valid}
 use Rattle.replan.specs.Held.{HeldProblem, AreInCommon}
 use Rattle.replan.specs.Labels.{StagePairs, HoldsPairs}
@@ -145,6 +145,11 @@ pub raised_more : (o : Option ℕ) (a b : ℕ) → raised_by b (raised_by a o) �
 raised_more None a b = refl
 raised_more (Some n) a b = ap Some (omega arith)
 
+-- no stage more
+pub due_none : (first : ℕ) (p : Problem) (n : ℕ) (o : Option ℕ) → n < first → FitsCount o
+    → (due : ℕ) × HasCandidatesFrom first p n due × (o ≡ raised_by due o)
+due_none first p n o below fits = (0, none_from first p n below, raised_by_none o fits)
+
 -- one stage more, from a number on
 pub due_more : (first : ℕ) (p : Problem) (i : ℕ) (o r s : Option ℕ) → first ≤ i → 0 < i
     → (due : ℕ) × HasCandidatesFrom first p (i - 1) due × (r ≡ raised_by due o) → (count : ℕ)
@@ -157,6 +162,46 @@ due_more first p i o r s le some (due, from, e) (count, has, f) =
           (more_from first p (i - 1) due count (omega arith) from has),
       f ∙ ap (raised_by count) e ∙ raised_more o due count,
     )
+
+-- no stage is counted where the last is before the first
+none_upto : (first : ℕ) (p : Problem) (n total : ℕ) → n < first → HasCandidatesFrom first p n total → total ≡ 0
+none_upto first p zero total below is = is
+none_upto first p (suc n) total below (count, before, here, rest, e) =
+    let none : count ≡ 0 = subst (λ (b : Bool). HasCandidatesIf b p n count) (lt-leb first (suc n) below) here in
+    let low = none_upto first p n before (omega arith) rest in
+    omega (arith, e, none, low)
+
+-- the stages from a number on and before a second, and those from the second on
+module _ (first many : ℕ) (p : Problem) (some : 0 < many) (le : first ≤ many) where
+  past : (n a b : ℕ) → n < many → many ≤ n + 1 → HasCandidatesFrom first p (many - 1) a → HasCandidatesFrom many p n b
+      → HasCandidatesFrom first p n (a + b)
+  past n a b below within early late =
+      let none = none_upto many p n b below late in
+      subst (λ (m : ℕ). HasCandidatesFrom first p m (a + b)) {x = many - 1} {y = n} (omega (arith, below, within))
+      (subst (HasCandidatesFrom first p (many - 1)) {x = a} {y = a + b} (omega (arith, none)) early)
+
+  joined : (n a b : ℕ) → many ≤ n + 1 → HasCandidatesFrom first p (many - 1) a → HasCandidatesFrom many p n b
+      → HasCandidatesFrom first p n (a + b)
+  joined zero a b within early late = past zero a b (omega (arith, some)) within early late
+  joined (suc n) a b within early (count, before, here, rest, e) = elim (cases_lt (suc n) many) [
+    | inl below ↦ past (suc n) a b below within early (count, before, here, rest, e)
+    | inr from ↦
+        let has : HasCandidates p n count =
+        subst (λ (t : Bool). HasCandidatesIf t p n count) (le-leb many (suc n) from) here in
+        subst (HasCandidatesFrom first p (suc n)) {x = a + before + count} {y = a + b} (omega (arith, e))
+        (more_from first p n (a + before) count (omega (arith, le, from)) (joined n a before (omega (arith, from)) early
+        rest) has)
+  ]
+
+  pub due_joined : (more : ℕ) (o r s : Option ℕ) → many ≤ more
+      → (due : ℕ) × HasCandidatesFrom first p (many - 1) due × (r ≡ raised_by due o)
+      → (due : ℕ) × HasCandidatesFrom many p (more - 1) due × (s ≡ raised_by due r)
+      → (due : ℕ) × HasCandidatesFrom first p (more - 1) due × (s ≡ raised_by due o)
+  due_joined more o r s within (a, early, e) (b, late, f) = (
+    a + b,
+    joined (more - 1) a b (omega (arith, some, within)) early late,
+    f ∙ ap (raised_by b) e ∙ raised_more o a b,
+  )
 
 -- ---- what is read of the stages
 

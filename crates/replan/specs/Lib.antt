@@ -1,7 +1,6 @@
 -- The definitions of this crate.
 pub mod Labels
 pub mod Stages
-pub mod Filling
 pub mod Held
 pub mod Kept
 pub mod Readers

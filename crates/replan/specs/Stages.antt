@@ -37,27 +37,27 @@ pub record AreStages (p : Problem) (stages : List LabelledStage) : Type 0 where
   pub held : (i : ℕ) → i < length stages → HoldsPairs p (stage_at stages i).stage (stage_at stages i).labels
   pub whole : AreWholeAsSaid p (length stages) (λ i. (stage_at stages i).is_whole) (λ i. (stage_at stages i).stage.1)
 
--- the windows of a stage that was held, and whether they are said to be all that extend the one before
-pub record FormerStage : Type 0 where
+-- the windows of a stage, and whether they are said to be all that extend the one before
+pub record HintedStage : Type 0 where
   pub stage : ℕ × List (List ℤ)
   pub is_whole : Bool
 
 -- what is left of a stage without its pairs
-abbrev pub former_of : LabelledStage → FormerStage
-former_of s = record { stage = s.stage; is_whole = s.is_whole }
+abbrev pub without_pairs : LabelledStage → HintedStage
+without_pairs s = record { stage = s.stage; is_whole = s.is_whole }
 
-abbrev pub former_at : List FormerStage → ℕ → FormerStage
-former_at former i = slice_index_or former i (former_of no_stage)
+abbrev pub hinted_at : List HintedStage → ℕ → HintedStage
+hinted_at hinted i = slice_index_or hinted i (without_pairs no_stage)
 
--- a problem with the windows of stages that were held of it
-pub record Former : Type 0 where
+-- a problem with the windows of some of its stages
+pub record Hints : Type 0 where
   pub problem : Problem
-  pub stages : List FormerStage
+  pub stages : List HintedStage
 
 -- of these stages of a problem each that is said to be whole has exactly the windows that extend the one before it
-abbrev pub AreFormer : Problem → List FormerStage → Type 0
-AreFormer p former = (i : ℕ) → i + 1 < length former → IsTrue (former_at former (i + 1)).is_whole
-    → IsNextOf p (former_at former i).stage.0 (former_at former i).stage.1 (former_at former (i + 1)).stage.1
+abbrev pub AreHints : Problem → List HintedStage → Type 0
+AreHints p hinted = (i : ℕ) → i + 1 < length hinted → IsTrue (hinted_at hinted (i + 1)).is_whole
+    → IsNextOf p (hinted_at hinted i).stage.0 (hinted_at hinted i).stage.1 (hinted_at hinted (i + 1)).stage.1
 
 -- the order is legal, and its flights can be given seconds that are open and late enough one after another, the last of
 -- them and what they cost together this pair

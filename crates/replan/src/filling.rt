@@ -3,11 +3,10 @@
 ghost use Rattle.std.specs.Prelude.{◌≡◌, ℕ, ◌+◌, ◌-◌, ◌*◌, ◌<◌, ◌≤◌, length, max, vec_len, OnOk};
 ghost use Rattle.cps_base.specs.Tally.{raised_by};
 ghost use Rattle.cps_network.specs.Due.{HasCandidates, HasCandidatesFrom};
-ghost use Rattle.replan.specs.Filling.{CountsOn};
 ghost use Rattle.replan.specs.Stages.{AreStages};
 
-use crate::former::Former;
 use crate::held::Begun;
+use crate::hints::Hints;
 use crate::planning::Planning;
 use crate::stages::{LabelledStage, candidates_after};
 use cps_base::{Ledger, Steps};
@@ -41,7 +40,7 @@ fn add_stage<const W: usize, R: Threads + Sync, G: Gate + Sync, L: Ledger>(
         planning.alloc,
         planning.problem,
         &begun.stages,
-        &begun.former,
+        &begun.hints,
     )?;
     let candidates = stage.len();
     let last = &begun.stages[begun.stages.len() - 1];
@@ -70,8 +69,9 @@ fn fill_upto<const W: usize, R: Threads + Sync, G: Gate + Sync, L: Ledger>(
     requires few { count ≤ length planning.now.problem.now.flights + 1 }
     ensures held { OnOk result (AreStages planning.now.problem.now begun.new.stages.items) }
     ensures many { OnOk result (vec_len begun.new.stages ≡ max (vec_len begun.old.stages) count) }
-    ensures steps { OnOk result (CountsOn planning.now.problem.now (vec_len begun.old.stages)
-        (L.count steps.old) (vec_len begun.new.stages) (L.count steps.new)) }
+    ensures steps { OnOk result ((due : ℕ) × HasCandidatesFrom (vec_len begun.old.stages)
+        planning.now.problem.now (vec_len begun.new.stages - 1) due
+        × (L.count steps.new ≡ raised_by due (L.count steps.old))) }
 {
     let first = begun.stages.len();
     for _stage in first..count {
@@ -80,11 +80,11 @@ fn fill_upto<const W: usize, R: Threads + Sync, G: Gate + Sync, L: Ledger>(
     Ok(())
 }
 
-// Whether the last stage is wide and repeats the one before it, as it seems by their numbers of windows, and the last stages of
-// the problem are neither known nor near.
+// Whether there are no hints, the last stage is wide and repeats the one before it, as it seems by their numbers of windows, and
+// the last stages of the problem are not near.
 fn is_worth_a_thread<const W: usize>(begun: &Begun<W>, last: usize) -> bool {
     let count = begun.stages.len();
-    if begun.former.is_some() || count < 2 || count + MEANWHILE > last {
+    if begun.hints.is_some() || count < 2 || count + MEANWHILE > last {
         return false;
     }
     let stage = &begun.stages[count - 1];
@@ -107,8 +107,9 @@ fn fill_beside<const W: usize, R: Threads + Sync, G: Gate + Sync, L: Ledger>(
     ensures few { OnOk result (vec_len begun.new.stages
         ≤ length planning.now.problem.now.flights + 1) }
     ensures more { OnOk result (vec_len begun.old.stages ≤ vec_len begun.new.stages) }
-    ensures steps { OnOk result (CountsOn planning.now.problem.now (vec_len begun.old.stages)
-        (L.count steps.old) (vec_len begun.new.stages) (L.count steps.new)) }
+    ensures steps { OnOk result ((due : ℕ) × HasCandidatesFrom (vec_len begun.old.stages)
+        planning.now.problem.now (vec_len begun.new.stages - 1) due
+        × (L.count steps.new ≡ raised_by due (L.count steps.old))) }
 {
     // k is at most 3.
     let k = planning.problem.head().k as usize;
@@ -119,9 +120,9 @@ fn fill_beside<const W: usize, R: Threads + Sync, G: Gate + Sync, L: Ledger>(
     let alloc = planning.alloc;
     let problem = planning.problem;
     let repeated = begun.stages[begun.stages.len() - 1].stage.share()?;
-    let mut make = || -> Result<Former<W>, AllocError>
+    let mut make = || -> Result<Hints<W>, AllocError>
         requires { W ≡ 2 * problem.now.k + 1 }
-    { Former::last_of(alloc, problem, &repeated) };
+    { Hints::last_of(alloc, problem, &repeated) };
     let mut fill = || -> Result<(), AllocError>
         requires { (W ≡ 2 * planning.now.problem.now.k + 1)
             × AreStages planning.now.problem.now begun.now.stages.items
@@ -129,13 +130,14 @@ fn fill_beside<const W: usize, R: Threads + Sync, G: Gate + Sync, L: Ledger>(
             × (count ≤ length planning.now.problem.now.flights + 1) }
         ensures { OnOk result (AreStages planning.entry.now.problem.now begun.exit.now.stages.items
             × (vec_len begun.exit.now.stages ≡ max (vec_len begun.entry.now.stages) count)
-            × CountsOn planning.entry.now.problem.now (vec_len begun.entry.now.stages)
-            (L.count steps.entry.now) (vec_len begun.exit.now.stages) (L.count steps.exit.now)) }
+            × (due : ℕ) × HasCandidatesFrom (vec_len begun.entry.now.stages)
+            planning.entry.now.problem.now (vec_len begun.exit.now.stages - 1) due
+            × (L.count steps.exit.now ≡ raised_by due (L.count steps.entry.now))) }
     { fill_upto(planning, count, begun, steps) };
     let (made, filled) = join_mut(planning.rt, &mut make, &mut fill);
     filled?;
-    let former = made?;
-    begun.former = Some(former);
+    let hints = made?;
+    begun.hints = Some(hints);
     Ok(())
 }
 

@@ -1,11 +1,11 @@
 //! A problem that is held with all of its stages, and what another problem has in common with it.
 
-ghost use Rattle.std.specs.Prelude.{◌≡◌, ◌+◌, ◌-◌, ◌*◌, ◌<◌, ◌≤◌, length, vec_len, IfOk};
+ghost use Rattle.std.specs.Prelude.{◌≡◌, ◌+◌, ◌-◌, ◌*◌, ◌<◌, ◌≤◌, length, vec_len, IfOk, Some};
 ghost use Rattle.cps_network.specs.Due.{IsDueFrom};
 ghost use Rattle.replan.specs.Held.{AreInCommon, held_problem};
 ghost use Rattle.replan.specs.Stages.{AreStages};
 
-use crate::former::{Former, shared};
+use crate::hints::{Hints, shared};
 use crate::stages::{LabelledStage, first_stage, put_first};
 use cps_network::{kept_stages, prefix_laws};
 use cps_nodes::window_laws;
@@ -62,18 +62,25 @@ impl<const W: usize> HeldProblem<W> {
         (stages, self.problem)
     }
 
-    // Stage 0 of another problem, where it has no other in common with this one, and the problem held. The stages are given back,
-    // but for the room that they stood in.
-    fn into_first(
+    // The stages from which on another problem is to be filled, and the problem held: those that they have in common, or stage 0
+    // in the room of those held. The other stages are given back.
+    fn into_begun(
         self,
         alloc: Global,
         problem: &Problem,
     ) -> Result<(Vec<LabelledStage<W>>, Problem), AllocError>
         requires { W ≡ 2 * problem.now.k + 1 }
-        ensures held { IfOk result (λ first. AreStages problem.now first.0.items) }
-        ensures one { IfOk result (λ first. vec_len first.0 ≡ 1) }
-        ensures problem { IfOk result (λ first. first.1 ≡ self.entry.problem) }
+        ensures held { IfOk result (λ begun. AreStages problem.now begun.0.items) }
+        ensures some { IfOk result (λ begun. 0 < vec_len begun.0) }
+        ensures few { IfOk result (λ begun. vec_len begun.0 ≤ length problem.now.flights + 1) }
+        ensures due { IfOk result (λ begun. IsDueFrom (Some self.entry.problem) problem.now
+            (vec_len begun.0)) }
+        ensures problem { IfOk result (λ begun. begun.1 ≡ self.entry.problem) }
     {
+        let count = common(&self.problem, problem);
+        if count > 1 {
+            return Ok(self.into_common(problem, count));
+        }
         let mut stages = self.stages;
         stages.clear();
         put_first(alloc, problem, &mut stages)?;
@@ -81,11 +88,11 @@ impl<const W: usize> HeldProblem<W> {
     }
 }
 
-/// The stages from which on a problem is to be filled, and what is known of those to come.
+/// The stages from which on a problem is to be filled, and hints of those to come.
 #[derive(Drop)]
 pub(crate) struct Begun<const W: usize> {
     pub(crate) stages: Vec<LabelledStage<W>>,
-    pub(crate) former: Option<Former<W>>,
+    pub(crate) hints: Option<Hints<W>>,
 }
 
 /// The stages from which on a problem is to be filled: those that it has in common with the one that is held, or stage 0. Of
@@ -107,33 +114,20 @@ pub(crate) fn begin_stages<const W: usize>(
             let stages = first_stage(alloc, problem)?;
             Ok(Begun {
                 stages,
-                former: None,
+                hints: None,
             })
         }
         Some(held) => {
-            let count = common(&held.problem, problem);
             let windows = shared(alloc, &held.stages)?;
-            if count > 1 {
-                let (stages, former) = held.into_common(problem, count);
-                let former = Former {
-                    problem: former,
-                    first: 0,
-                    stages: windows,
-                };
-                return Ok(Begun {
-                    stages,
-                    former: Some(former),
-                });
-            }
-            let (stages, former) = held.into_first(alloc, problem)?;
-            let former = Former {
-                problem: former,
+            let (stages, earlier) = held.into_begun(alloc, problem)?;
+            let hints = Hints {
+                problem: earlier,
                 first: 0,
                 stages: windows,
             };
             Ok(Begun {
                 stages,
-                former: Some(former),
+                hints: Some(hints),
             })
         }
     }

@@ -8,7 +8,7 @@ ghost use Rattle.cps_network.specs.Permits.{IsNextOf};
 ghost use Rattle.replan.specs.Labels.{HoldsPairs};
 ghost use Rattle.replan.specs.Stages.{stage_at, AreStages};
 
-use crate::former::Former;
+use crate::hints::Hints;
 use crate::labels::Labels;
 use cps_network::{Stage, next_stage, next_stage_again};
 use cps_problem::Problem;
@@ -109,14 +109,14 @@ pub(crate) fn stage_after<const W: usize>(
     Ok(stage)
 }
 
-// As `stage_after`, but they are taken from the windows that are known already, where they may be.
+// As `stage_after`, but they are taken from the hints, where they may be.
 fn stage_again<const W: usize>(
     alloc: Global,
     problem: &Problem,
     earlier: &Stage<W>,
     before: &Stage<W>,
     is_whole: bool,
-    former: &Option<Former<W>>,
+    hints: &Option<Hints<W>>,
 ) -> Result<Stage<W>, AllocError>
     requires width { W ≡ 2 * problem.now.k + 1 }
     requires stage { before.now.0 < length problem.now.flights }
@@ -124,8 +124,8 @@ fn stage_again<const W: usize>(
         → IsNextOf problem.now earlier.now.0 earlier.now.1 before.now.1 }
     ensures { IfOk result (IsStageAfter problem.now before.now) }
 {
-    if let Some(former) = former {
-        if let Some(stage) = former.next(problem, before)? {
+    if let Some(hints) = hints {
+        if let Some(stage) = hints.next(problem, before)? {
             return Ok(stage);
         }
     }
@@ -138,7 +138,7 @@ pub(crate) fn candidates_after<const W: usize>(
     alloc: Global,
     problem: &Problem,
     kept: &[LabelledStage<W>],
-    former: &Option<Former<W>>,
+    hints: &Option<Hints<W>>,
 ) -> Result<Stage<W>, AllocError>
     requires width { W ≡ 2 * problem.now.k + 1 }
     requires held { AreStages problem.now kept.now }
@@ -160,7 +160,7 @@ pub(crate) fn candidates_after<const W: usize>(
         &earlier.stage,
         &last.stage,
         last.is_whole,
-        former,
+        hints,
     )?;
     Ok(stage)
 }

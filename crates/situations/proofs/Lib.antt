@@ -1,6 +1,7 @@
 pub mod Apart
 pub mod Callsigns
 pub mod Changed
+pub mod ChangedFlights
 pub mod Finds
 pub mod Firsts
 pub mod Freezing

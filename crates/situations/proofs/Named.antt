@@ -1,6 +1,8 @@
 -- What is changed by a list of callsigns, one entry after another.
 use Rattle.std.proofs.Common.{◌≡◌, ℕ, ◌<◌, Bool, true, false, cond, List, [], ◌∷◌, map, length, get_or, Option, Some}
-use Rattle.std.proofs.Common.{None, refl, sym, ap, ◌∙◌, arith, zero, suc}
+use Rattle.std.proofs.Common.{None, refl, sym, ap, ◌∙◌, arith, zero, suc, subst, drop, ◌+◌, ◌-◌, ◌≤◌}
+use Rattle.std.proofs.Math.Seq.{drop-length}
+use Rattle.std.proofs.lemmas.List.{drop_more}
 use Rattle.std.specs.Prelude.{filter}
 use Rattle.std.specs.Str.{bytes_eq}
 use Rattle.landing_rules.specs.Flights.{Active, Callsign, Situation, is_waiting}
@@ -19,7 +21,7 @@ use Rattle.situations.proofs.Keyed.{none_behind}
 abbrev pub listed : (Option ℕ → Active → Active) → List (Callsign × ℕ) → List Active → List Active
 listed f es xs = map (λ a. f (look_up a.flight.callsign es) a) xs
 
-pub none_listed : (f : Option ℕ → Active → Active) → ((a : Active) → f None a ≡ a) → (xs : List Active)
+none_listed : (f : Option ℕ → Active → Active) → ((a : Active) → f None a ≡ a) → (xs : List Active)
     → xs ≡ listed f [] xs
 none_listed f stays [] = refl
 none_listed f stays (x ∷ xs) = ap (λ l. x ∷ l) (none_listed f stays xs) ∙ ap (λ y. y ∷ listed f [] xs) (sym (stays x))
@@ -27,25 +29,40 @@ none_listed f stays (x ∷ xs) = ap (λ l. x ∷ l) (none_listed f stays xs) ∙
 -- one entry more, ahead of the others
 module _ (f : Option ℕ → Active → Active) (c : Callsign) (n : ℕ) (one : Active → Active)
     (first : (o : Option ℕ) (a : Active) → one (f o a) ≡ f (cond (named c a) (Some n) o) a) where
-  pub listed_more : (es : List (Callsign × ℕ)) (xs : List Active) → map one (listed f es xs) ≡ listed f ((c, n) ∷ es) xs
+  listed_more : (es : List (Callsign × ℕ)) (xs : List Active) → map one (listed f es xs) ≡ listed f ((c, n) ∷ es) xs
   listed_more es [] = refl
   listed_more es (x ∷ xs) =
       ap (λ y. y ∷ map one (listed f es xs)) (first (look_up x.flight.callsign es) x
       ∙ ap (λ b. f (cond b (Some n) (look_up x.flight.callsign es)) x) (bytes_eq-sym x.flight.callsign c))
       ∙ ap (λ l. f (look_up x.flight.callsign ((c, n) ∷ es)) x ∷ l) (listed_more es xs)
 
-  -- and so of a situation
-  pub once_more : (es es' : List (Callsign × ℕ)) (s now new : Situation) → es' ≡ (c, n) ∷ es
-      → now ≡ record s { active = listed f es s.active } → new ≡ record now { active = map one now.active } →
-      new ≡ record s { active = listed f es' s.active }
-  once_more es es' s now new here e set =
-      set ∙ ap (λ (v : Situation). record v { active = map one v.active }) e
-      ∙ ap (λ l. record s { active = l }) (listed_more es s.active ∙ ap (λ l. listed f l s.active) (sym here))
+-- the entries of a list from its last to its first
+module _ {E : Type 0} (f : Option ℕ → Active → Active) (entries : List E → List (Callsign × ℕ)) (all : List E)
+    (s : Situation) where
+  -- each flight is as the entries from i on say
+  abbrev pub IsAsFrom : ℕ → Situation → Type 0
+  IsAsFrom i now = now ≡ record s { active = listed f (entries (drop i all)) s.active }
 
-pub no_more : (f : Option ℕ → Active → Active) → ((a : Active) → f None a ≡ a)
-    → (es : List (Callsign × ℕ)) (s : Situation) → es ≡ [] → s ≡ record s { active = listed f es s.active }
-no_more f stays es s e = ap (λ l. record s { active = l }) (none_listed f stays s.active
-    ∙ ap (λ l. listed f l s.active) (sym e))
+  pub as_from_end : ((a : Active) → f None a ≡ a) → entries [] ≡ [] → IsAsFrom (length all) s
+  as_from_end stays none = ap (λ l. record s { active = l }) (none_listed f stays s.active
+      ∙ ap (λ l. listed f l s.active) (sym (ap entries (drop-length all) ∙ none)))
+
+  pub as_from_before : (c : Callsign) (n : ℕ) (one : Active → Active)
+      → ((o : Option ℕ) (a : Active) → one (f o a) ≡ f (cond (named c a) (Some n) o) a)
+      → (i : ℕ) (e : E) (now new : Situation) → 0 < i → i ≤ length all → e ≡ get_or all (i - 1) e
+      → ((es : List E) → entries (e ∷ es) ≡ (c, n) ∷ entries es) → IsAsFrom i now
+      → new ≡ record now { active = map one now.active } → IsAsFrom (i - 1) new
+  as_from_before c n one first i e now new some within is here so_far set =
+      let next : i - 1 + 1 ≡ i = omega arith in
+      let more : entries (drop (i - 1) all) ≡ (c, n) ∷ entries (drop i all) =
+      ap entries (drop_more all (i - 1) e (omega arith) ∙ ap (λ x. x ∷ drop (i - 1 + 1) all) (sym is)
+      ∙ ap (λ n. e ∷ drop n all) next) ∙ here (drop i all) in
+      set ∙ ap (λ (v : Situation). record v { active = map one v.active }) so_far
+      ∙ ap (λ l. record s { active = l }) (listed_more f c n one first (entries (drop i all)) s.active
+      ∙ ap (λ l. listed f l s.active) (sym more))
+
+  pub as_from_begin : (i : ℕ) (now : Situation) → i ≤ 0 → IsAsFrom i now → IsAsFrom 0 now
+  as_from_begin i now none so_far = let zero : i ≡ 0 = omega arith in subst (λ i. IsAsFrom i now) zero so_far
 
 pub second_first : (c : Callsign) (n : ℕ) (o : Option ℕ) (a : Active)
     → frozen_so c (Some n) (with_second o a) ≡ with_second (cond (named c a) (Some n) o) a

@@ -3,7 +3,6 @@ pub mod Lengths
 pub mod Blocks
 pub mod Certificates
 pub mod Numbers
-pub mod Objectives
 pub mod OpenSeconds
 pub mod WholeCertificates
 pub mod Events

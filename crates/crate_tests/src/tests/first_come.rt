@@ -1,4 +1,4 @@
-use cps_base::Callsign;
+use cps_base::{Callsign, MOST_WAITING};
 use fcfs_order::Order;
 use std::alloc::Global;
 use std::test::Fail;
@@ -10,7 +10,7 @@ fn callsign(name: &str) -> Result<Callsign, Fail> {
 // Adds a flight that the order has not yet.
 fn add(order: &mut Order, eta: u32, name: &str) -> Result<(), Fail> {
     let flight = callsign(name)?;
-    if order.rank_of(eta, flight).is_some() || order.len() >= 60 {
+    if order.rank_of(eta, flight).is_some() || order.len() >= MOST_WAITING {
         return Err(Fail::new("in the order, or one too many"));
     }
     order.insert(eta, flight)?;

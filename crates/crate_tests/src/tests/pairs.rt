@@ -4,8 +4,8 @@ use precedence::Pairs;
 // Two flights before the last one.
 fn two_pairs() -> Pairs {
     let mut pairs = Pairs::new();
-    pairs.add(1, 60);
-    pairs.add(59, 60);
+    pairs.add(1, 40);
+    pairs.add(39, 40);
     pairs
 }
 
@@ -16,10 +16,10 @@ fn a_pair_holds_one_way(rt: HostRuntime) {
     let kept = pairs;
     assert!(rt; Pairs::new() == Pairs::new() && kept == pairs && kept != Pairs::new());
     for (first, next, want) in [
-        (1, 60, true),
-        (60, 1, false),
-        (1, 59, false),
-        (59, 60, true),
+        (1, 40, true),
+        (40, 1, false),
+        (1, 39, false),
+        (39, 40, true),
     ] {
         assert_eq!(rt;
             pairs.must_precede(first, next),
@@ -33,9 +33,9 @@ fn a_pair_holds_one_way(rt: HostRuntime) {
 fn all_before_are_asked_at_once(rt: HostRuntime) {
     let pairs = two_pairs();
     for (next, placed, want) in [
-        (60, 1 << 1, false),
-        (60, 1 << 1 | 1 << 59, true),
-        (60, u64::MAX, true),
+        (40, 1 << 1, false),
+        (40, 1 << 1 | 1 << 39, true),
+        (40, u64::MAX, true),
         (1, 0, true),
     ] {
         assert_eq!(rt;

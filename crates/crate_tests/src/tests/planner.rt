@@ -84,31 +84,31 @@ fn stages_in_common_are_not_counted(rt: HostRuntime) -> Result<(), Fail> {
     Ok(())
 }
 
-// The problem of 60 flights that may land until second 8199.
-fn sixty(alloc: Global, k: u8) -> Result<Problem, Fail>
+// The problem of 20 flights that may land until second 8199.
+fn twenty(alloc: Global, k: u8) -> Result<Problem, Fail>
     requires { k ≤ 3 }
     ensures k { IfOk result (λ problem. problem.k ≡ k) }
     ensures plannable { IfOk result IsPlannable }
 {
     let mut bank = Bank::new(alloc, k);
-    for number in 0..60u8 {
+    for number in 0..20u8 {
         bank.add_numbered(number, 0)?;
     }
     Ok(bank.problem(Objective::Makespan, 0, 1)?)
 }
 
-// How many steps it takes to plan the sixty flights.
-fn steps_of_sixty<R: Threads + Sync>(rt: &R, alloc: Global, k: u8) -> Result<u64, Fail>
+// How many steps it takes to plan the twenty flights.
+fn steps_of_twenty<R: Threads + Sync>(rt: &R, alloc: Global, k: u8) -> Result<u64, Fail>
     requires { k ≤ 3 }
 {
-    let problem = sixty(alloc, k)?;
+    let problem = twenty(alloc, k)?;
     steps(rt, alloc, &mut AnyKept::fresh(k), &problem)
 }
 
 #[test]
 fn a_planning_ticks_once_a_candidate(rt: HostRuntime) -> Result<(), Fail> {
-    for (k, candidates) in [(0u8, 60u64), (1, 463), (2, 18234), (3, 1719951)] {
-        let steps = steps_of_sixty(&rt, rt.alloc(), k)?;
+    for (k, candidates) in [(0u8, 20u64), (1, 143), (2, 4794), (3, 365071)] {
+        let steps = steps_of_twenty(&rt, rt.alloc(), k)?;
         assert_eq!(rt; steps, candidates, "{k}");
     }
     Ok(())

@@ -65,9 +65,9 @@ fn room_for_the_most_bytes_is_enough(rt: HostRuntime) -> Result<(), Fail> {
 
 #[test]
 fn a_trial_has_room_in_50_bytes(rt: HostRuntime) -> Result<(), Fail> {
-    let words = ["trial", "7", "60", "1"];
+    let words = ["trial", "7", "20", "1"];
     let run = run_of(&rt, rt.alloc(), &words, Vec::new(rt.alloc()), 50, &FreeGate)?;
     assert_eq!(rt; run.status, 0);
-    assert!(rt; run.out.written().starts_with(b"flights 60\n"));
+    assert!(rt; run.out.written().starts_with(b"flights 20\n"));
     Ok(())
 }

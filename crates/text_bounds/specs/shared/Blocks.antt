@@ -2,15 +2,14 @@
 use Rattle.std.proofs.Common.{◌≡◌, ℕ, ◌+◌, ◌*◌, ◌≤◌, List, [], ◌∷◌, ◌++◌, length, true, false, Bool, Option, Some}
 use Rattle.std.proofs.Common.{None, inl, inr, refl, arith, ap}
 use Rattle.std.specs.Prelude.{decimal, codes, map, option_map, nat_lt}
-use Rattle.std.proofs.lemmas.Bool.{cases_Bool}
 use Rattle.std.proofs.lemmas.List.{length-append, length-map}
 use Rattle.landing_rules.specs.declared.objective.Objective.{Objective}
 use Rattle.landing_rules.specs.declared.objective.Objective.TheVariants.{Makespan, Delay}
 use Rattle.landing_rules.specs.Flights.{Active, Landing, Schedule, Situation, landings}
-use Rattle.landing_rules.specs.Events.{insert_landing, in_landing_order}
 use Rattle.landing_rules.specs.Text.{ShownLanding, ShownPlan, block_lines, block_text, frozen_word, head_words}
 use Rattle.landing_rules.specs.Text.{landing_words, line, lines_text, objective_word, shown_landing, shown_plan}
 use Rattle.plan_file.specs.Printed.{AreReadable, IsReadable, ShownPlanIsReadableLaw}
+use Rattle.plan_file.specs.shared.Landings.{shown_few}
 use Rattle.text_bounds.specs.Blocks.{BlockIsBoundedLaw, block_bound}
 use Rattle.text_bounds.specs.shared.Lengths.{callsign_short, second_short, value_short}
 
@@ -54,32 +53,6 @@ block_short o p h =
     let rest = landings_short p.landings h.landings in
     let both = length-append (line (head_words o p.value)) (lines_text (map landing_words p.landings)) in
     omega (arith, head, rest, both)
-
--- ---- as many landings as active flights
-
-length_insert : (f : Landing) (fs : List Landing) → length (insert_landing f fs) ≡ length fs + 1
-length_insert f [] = refl
-length_insert f (g ∷ fs) = elim (cases_Bool (nat_lt g.second f.second)) [
-  | inl later ↦ rw later (let more = length_insert f fs in omega (arith, more))
-  | inr here ↦ rw here (omega arith)
-]
-
-length_order : (fs : List Landing) → length (in_landing_order fs) ≡ length fs
-length_order [] = refl
-length_order (f ∷ fs) = let one = length_insert f (in_landing_order fs) in let rest =
-    length_order fs in omega (arith, one, rest)
-
-pub length_landings : (active : List Active) (t : Schedule) → length (landings active t) ≤ length active
-length_landings [] t = omega arith
-length_landings (a ∷ active) [] = omega arith
-length_landings (a ∷ active) (x ∷ t) = let rest = length_landings active t in omega (arith, rest)
-
-shown_few : (s : Situation) (t : Schedule) → length (shown_plan s t).landings ≤ length s.active
-shown_few s t =
-    let a = length-map (in_landing_order (landings s.active t)) shown_landing in
-    let b = length_order (landings s.active t) in
-    let c = length_landings s.active t in
-    omega (arith, a, b, c)
 
 pub plan_short : ShownPlanIsReadableLaw → BlockIsBoundedLaw
 plan_short law state sound = go state.plan refl

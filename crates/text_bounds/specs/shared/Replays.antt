@@ -12,9 +12,9 @@ use Rattle.landing_rules.specs.Sound.{IsGoodEvent, IsSoundState}
 use Rattle.landing_rules.specs.Text.{accepted_words, answer_text, answers_text, begun_text, cause, line, lines_text}
 use Rattle.landing_rules.specs.Text.{plan_lines, refused_words}
 use Rattle.landing_joint.specs.StepLaws.{StepKeepsSoundLaw}
+use Rattle.plan_file.specs.shared.Landings.{length_landings}
 use Rattle.text_bounds.specs.Blocks.{BlockIsBoundedLaw}
 use Rattle.text_bounds.specs.Replays.{HasShortName, IsInDays, IsTellable, ReplayIsBoundedLaw, answer_bound, most_active}
-use Rattle.text_bounds.specs.shared.Blocks.{length_landings}
 use Rattle.text_bounds.specs.shared.Lengths.{number_short}
 use Rattle.text_bounds.specs.shared.Events.{refusal_short}
 

@@ -1,4 +1,4 @@
-use Rattle.cps_top.proofs.Counts.{names_in_default}
+use Rattle.cps_top.proofs.FilesOf.{names_in_default}
 use Rattle.cps_top.proofs.commands.files.Goals as goal
 
 pub returns-in_default : goal.returns-in_default

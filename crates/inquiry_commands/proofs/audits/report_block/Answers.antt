@@ -2,7 +2,7 @@ use Rattle.std.proofs.Common.{List, map, ap, ◌∙◌}
 use Rattle.audit.specs.Findings.{finding_of}
 use Rattle.audit.specs.declared.finding.Finding.{Finding}
 use Rattle.inquiry_commands.specs.Audit.{report}
-use Rattle.inquiry_commands.proofs.AuditLines.{ok_of_none}
+use Rattle.inquiry_commands.proofs.AuditTexts.{ok_of_none}
 use Rattle.inquiry_commands.proofs.audits.report_block.Goals as goal
 
 pub returns-clause-clean : goal.returns-clause-clean

@@ -1,8 +1,7 @@
 use Rattle.std.proofs.Common.{ℕ, ◌-◌, arith, subst}
 use Rattle.std.specs.Prelude.{vec_len}
 use Rattle.cps_network.specs.Due.{HasCandidatesFrom}
-use Rattle.cps_network.specs.shared.DueSteps.{none_from}
-use Rattle.replan.proofs.StageLemmas.{raised_by_none}
+use Rattle.replan.proofs.StageLemmas.{due_joined}
 use Rattle.replan.proofs.filling.fill_stages.Goals as goal
 
 pub returns-clause-steps : goal.returns-clause-steps
@@ -11,17 +10,14 @@ returns-clause-steps g c =
     let first = vec_len c.args.begun.now.stages in
     let early = c.in_ok-fill_upto.ensures in
     let beside = c.in_ok-fill_beside.ensures in
-    let one = early.steps first 0 (g.L.Ledger.count c.args.steps.now) (omega arith)
-    (none_from first p (first - 1) (omega (arith, c.requires.some)))
-    (raised_by_none _ (g.met.L.Ledger.fits c.args.steps.now)) in
-    let two = beside.steps first one.0 _ (omega (arith, early.many)) one.1 one.2 in
-    let all = c.in_ok-fill_upto-2.ensures.steps first two.0 _ (omega (arith, early.many, beside.more)) two.1 two.2 in (
+    let late = c.in_ok-fill_upto-2.ensures in
+    let some = c.requires.some in
+    let two = due_joined first _ p (omega (arith, some, early.many)) (omega (arith, early.many)) _ _ _ _ beside.more
+    early.steps beside.steps in
+    let all = due_joined first _ p (omega (arith, some, early.many, beside.more)) (omega (arith, early.many, beside.more))
+    _ _ _ _ (omega (arith, late.many)) two late.steps in (
       all.0,
-      subst (λ (n : ℕ). HasCandidatesFrom first p n all.0) (omega (
-        arith,
-        c.in_ok-fill_upto-2.ensures.many,
-        beside.few,
-        c.len.ensures,
-      )) all.1,
+      subst (λ (n : ℕ). HasCandidatesFrom first p n all.0)
+          (omega (arith, late.many, beside.few, c.len.ensures)) all.1,
       all.2,
     )

@@ -1,7 +1,7 @@
 use Rattle.std.proofs.Common.{◌≡◌, ℕ, ◌-◌, ◌<◌, ◌≤◌, length, rules, arith, subst}
 use Rattle.std.specs.Prelude.{vec_len}
 use Rattle.cps_network.specs.Due.{HasCandidates, HasCandidatesFrom}
-use Rattle.replan.proofs.StageLemmas.{due_more}
+use Rattle.replan.proofs.StageLemmas.{due_more, due_none}
 use Rattle.replan.proofs.filling.fill_upto.Goals as goal
 
 pub loop-stage-init : goal.loop-stage-init
@@ -9,12 +9,8 @@ loop-stage-init g c = (
   c.requires.held,
   omega (arith, c.len-first.ensures),
   omega (arith, c.len-first.ensures),
-  λ first due start le from e. (
-    due,
-    subst (λ (n : ℕ). HasCandidatesFrom first c.args.planning.now.problem.now (n - 1) due)
-        (omega (arith, c.len-first.ensures)) from,
-    e,
-  ),
+  due_none _ c.args.planning.now.problem.now _ _ (omega (arith, c.len-first.ensures, c.requires.some))
+      (g.met.L.Ledger.fits c.args.steps.now),
 )
 
 pub add_stage-requires : goal.add_stage-requires
@@ -36,10 +32,10 @@ loop-stage-preserved g c =
       c.in_ok-add_stage.ensures.held,
       omega (arith, c.in_ok-add_stage.ensures.one, long),
       omega (arith, c.loop-stage-test.true),
-      λ first due start le from count. due_more first c.args.planning.now.problem.now c.loop-stage._stage _ _ _
-          (omega (arith, le, c.loop-stage.auto, c.len-first.ensures))
+      due_more _ c.args.planning.now.problem.now c.loop-stage._stage _ _ _
+          (omega (arith, c.loop-stage.auto, c.len-first.ensures))
           (omega (arith, c.loop-stage.auto, c.len-first.ensures, c.requires.some))
-          (c.loop-stage.invariant.3 first due start le from count)
+          c.loop-stage.invariant.3
           (s.0, subst (λ (q : ℕ). HasCandidates c.args.planning.now.problem.now q s.0) e s.1, s.2),
     )
 
@@ -58,10 +54,4 @@ returns-clause-many g c =
     )
 
 pub returns-clause-steps : goal.returns-clause-steps
-returns-clause-steps g c = λ first due start le from e.
-    let d = c.loop-stage.invariant.3 first due start le from e in (
-      d.0,
-      subst (λ (n : ℕ). HasCandidatesFrom first c.args.planning.now.problem.now (n - 1) d.0)
-          (omega (arith, c.loop-stage.invariant.1)) d.1,
-      d.2,
-    )
+returns-clause-steps g c = rw c.loop-stage.invariant.1 c.loop-stage.invariant.3

@@ -1,4 +1,4 @@
-use Rattle.std.proofs.Common.{◌≡◌, [], ◌∷◌, ◌++◌, sym, ap, subst, ◌∙◌}
+use Rattle.std.proofs.Common.{refl, ◌≡◌, [], ◌∷◌, ◌++◌, sym, ap, subst, ◌∙◌}
 use Rattle.std.specs.List.{list_any}
 use Rattle.std.specs.Map.{values_of}
 use Rattle.std.specs.Str.{bytes_eq}
@@ -6,6 +6,7 @@ use Rattle.indexmap.proofs.CallerLemmas.{insert_entry-new}
 use Rattle.landing_rules.specs.Flights.{Active, Situation}
 use Rattle.landing_rules.specs.Events.{named}
 use Rattle.situations.specs.Seen.{situation_of}
+use Rattle.situations.proofs.ChangedFlights.{in_step}
 use Rattle.situations.proofs.Keyed.{Keyed, keyed_pushed, not_there, values_pushed}
 use Rattle.situations.proofs.situation.Situation.add.Goals as goal
 use Rattle.situations.proofs.situation.Situation.add.Goals.{In_ok-insert}
@@ -22,13 +23,8 @@ last c =
 pub invariant_of-self-2 : goal.invariant_of-self-2
 invariant_of-self-2 c =
     let name = ap (λ (a : Active). a.flight.callsign) c.waiting.ensures in
-    record {
-      keyed = subst Keyed (sym (last c)) (keyed_pushed c.self.inside.active.entries
-          (c.args.flight.now.callsign, c.waiting.result) c.self.invariant.keyed (sym name));
-      few_places = c.self.invariant.few_places;
-      short_freeze = c.self.invariant.short_freeze;
-      clock = c.self.invariant.clock;
-    }
+    in_step _ _ _ refl c.self.invariant (subst Keyed (sym (last c)) (keyed_pushed c.self.inside.active.entries
+    (c.args.flight.now.callsign, c.waiting.result) c.self.invariant.keyed (sym name)))
 
 pub returns-clause-new : goal.returns-clause-new
 returns-clause-new c =

@@ -1,10 +1,11 @@
-use Rattle.std.proofs.Common.{◌-◌, is_some, sym, ap, ◌∙◌}
+use Rattle.std.proofs.Common.{refl, ◌-◌, is_some, sym, ap, ◌∙◌}
 use Rattle.std.specs.Prelude.{find}
 use Rattle.std.proofs.lemmas.Bool.{false≢true}
 use Rattle.indexmap.specs.IndexMap.{move_index}
 use Rattle.landing_rules.specs.Flights.{Situation}
 use Rattle.landing_rules.specs.Events.{named}
 use Rattle.situations.proofs.Changed.{cancelled_is}
+use Rattle.situations.proofs.ChangedFlights.{in_step}
 use Rattle.situations.proofs.Keyed.{found_named, keyed_moved, looked_up, some_from}
 use Rattle.situations.proofs.situation.Situation.change_cancel.Goals as goal
 
@@ -16,13 +17,8 @@ unreachable-requires c =
     ∙ ap (λ (s : Situation). is_some (find (named callsign) s.active)) c.self.view_is ∙ c.requires)
 
 pub invariant_of-self : goal.invariant_of-self
-invariant_of-self c = record {
-  keyed = keyed_moved c.self.inside.active.entries c.move_index.new.self.entries c.in-Some.place
-      _ c.move_index.ensures.entries c.self.invariant.keyed;
-  few_places = c.self.invariant.few_places;
-  short_freeze = c.self.invariant.short_freeze;
-  clock = c.self.invariant.clock;
-}
+invariant_of-self c = in_step _ _ _ refl c.self.invariant (keyed_moved c.self.inside.active.entries
+    c.move_index.new.self.entries c.in-Some.place _ c.move_index.ensures.entries c.self.invariant.keyed)
 
 pub returns : goal.returns
 returns c =

@@ -1,30 +1,20 @@
-use Rattle.std.proofs.Common.{◌≡◌, ◌∷◌, ◌+◌, ◌-◌, drop, refl, sym, ap, ◌∙◌, arith}
-use Rattle.std.proofs.Math.Seq.{drop-length}
-use Rattle.std.proofs.lemmas.List.{drop_more}
+use Rattle.std.proofs.Common.{refl}
 use Rattle.situations.specs.Named.{counted, with_count}
 use Rattle.situations.specs.Opened.{counts_in}
-use Rattle.situations.proofs.Named.{count_first, listed, no_more, once_more}
+use Rattle.situations.proofs.Named.{as_from_before, as_from_begin, as_from_end, count_first}
 use Rattle.situations.proofs.situation.Situation.count_listed.Goals as goal
 
 pub loop-i-init : goal.loop-i-init
-loop-i-init c = no_more with_count (λ a. refl) _ c.args.self.now (ap counts_in (drop-length c.args.entries.now))
+loop-i-init c = as_from_end with_count counts_in c.args.entries.now c.args.self.now (λ a. refl) refl
 
 pub loop-i-preserved : goal.loop-i-preserved
 loop-i-preserved c =
-    let all = c.args.entries.now in
-    let i = c.loop-i.i in
     let e = c.index-entries-i.result in
-    let within = c.loop-i.auto.i in
-    let some = c.loop-i-test.true in
-    let next : i - 1 + 1 ≡ i = omega arith in
-    let here = drop_more all (i - 1) e (omega arith) ∙ ap (λ x. x ∷ drop (i - 1 + 1) all) (sym c.index-entries-i.is)
-    ∙ ap (λ n. e ∷ drop n all) next in
-    once_more with_count e.callsign e.count (counted e.callsign e.count)
-    (count_first e.callsign e.count) _ _ c.args.self.now c.loop-i.self c.set_passed.new.self
-    (ap counts_in here) c.loop-i.invariant c.set_passed.ensures
+    as_from_before with_count counts_in c.args.entries.now c.args.self.now e.callsign e.count
+    (counted e.callsign e.count) (count_first e.callsign e.count) c.loop-i.i e c.loop-i.self
+    c.set_passed.new.self c.loop-i-test.true c.loop-i.auto.i c.index-entries-i.is (λ es. refl) c.loop-i.invariant
+    c.set_passed.ensures
 
 pub returns : goal.returns
-returns c =
-    let none : c.loop-i.i ≡ 0 = omega (arith, c.loop-i-test.false) in
-    c.loop-i.invariant ∙ ap (λ i. record c.args.self.now
-    { active = listed with_count (counts_in (drop i c.args.entries.now)) c.args.self.now.active }) none
+returns c = as_from_begin with_count counts_in c.args.entries.now c.args.self.now c.loop-i.i _ c.loop-i-test.false
+    c.loop-i.invariant

@@ -1,64 +1,32 @@
 use Rattle.std.proofs.Common.{Some, refl, sym, ap, subst, ◌∙◌}
 use Rattle.std.specs.Prelude.{find, option_map}
-use Rattle.indexmap.specs.IndexMap.{values}
 use Rattle.landing_rules.specs.Flights.{Active, Situation}
 use Rattle.landing_rules.specs.Events.{named}
-use Rattle.situations.specs.Seen.{AreApart, IsInStep, seen, situation_of}
-use Rattle.situations.proofs.Apart.{names_kept, with_estimate}
-use Rattle.situations.proofs.Keyed.{changed_one, keyed_apart, keyed_still, looked_up, none_named}
+use Rattle.situations.specs.Seen.{AreApart}
+use Rattle.situations.proofs.Apart.{with_estimate}
+use Rattle.situations.proofs.ChangedFlights.{IsChanged, none_changed, one_changed}
+use Rattle.situations.proofs.Keyed.{keyed_apart, looked_up}
 use Rattle.situations.proofs.situation.Situation.estimate.Goals as goal
-use Rattle.situations.proofs.situation.Situation.estimate.Goals.{in-None, in-Some}
+use Rattle.situations.proofs.situation.Situation.estimate.Goals.{Joined-get_mut, in-None, in-Some}
+
+changed : (c : Joined-get_mut) → IsChanged c.args.callsign (with_estimate c.args.eta c.args.windows.now) c.self.inside
+    c.match-get_mut.self-inside c.self.invariant
+changed c = elim c.match-get_mut.branch [
+  | in-None w ↦ none_changed _ _ _ _ c.self.invariant
+      (w.self-inside-is ∙ ap (λ n. record c.self.inside { active = n }) c.get_mut.follows.holds-at-none)
+      w.in-None.ensures.value
+  | in-Some w ↦
+      let new = w.estimate.new.active in
+      let holds = c.get_mut.follows.holds new in
+      one_changed _ _ _ _ c.self.invariant (c.get_mut.follows.lender new) w.self-inside-is (λ a. refl)
+      c.get_mut.ensures.unique _ _ w.in-Some.ensures.value w.estimate.ensures.new holds.0 holds.1
+]
 
 pub invariant_of-self : goal.invariant_of-self
-invariant_of-self c =
-    let inside = c.self.inside in
-    let m = inside.active in
-    let callsign = c.args.callsign in
-    let eta = c.args.eta in
-    let windows = c.args.windows.now in
-    elim c.match-get_mut.branch [
-      | in-None w ↦ subst IsInStep
-          (sym (w.self-inside-is ∙ ap (λ n. record inside { active = n }) c.get_mut.follows.holds-at-none))
-          c.self.invariant
-      | in-Some w ↦
-          let new = w.estimate.new.active in
-          let n = c.get_mut.follows.lender new in
-          let holds = c.get_mut.follows.holds new in
-          let set = changed_one callsign (with_estimate eta windows) m.entries
-          (c.get_mut.follows.lender new).entries w.in-Some.active.now new c.self.invariant.keyed
-          c.get_mut.ensures.unique (sym w.in-Some.ensures.value) w.estimate.ensures.new holds.0 in
-          subst IsInStep (sym w.self-inside-is) (record {
-            keyed = keyed_still m.entries n.entries _ holds.1 set
-                (names_kept callsign (with_estimate eta windows) (λ a. refl) (values m)) c.self.invariant.keyed;
-            few_places = c.self.invariant.few_places;
-            short_freeze = c.self.invariant.short_freeze;
-            clock = c.self.invariant.clock;
-          })
-    ]
+invariant_of-self c = (changed c).0
 
 pub returns-clause-new : goal.returns-clause-new
-returns-clause-new c =
-    let inside = c.self.inside in
-    let m = inside.active in
-    let callsign = c.args.callsign in
-    let eta = c.args.eta in
-    let windows = c.args.windows.now in
-    elim c.match-get_mut.branch [
-      | in-None w ↦
-          let none = sym (looked_up callsign m.entries c.self.invariant.keyed) ∙ sym w.in-None.ensures.value in
-          rw (← c.self.view_is)
-          (ap seen (w.self-inside-is ∙ ap (λ n. record inside { active = n }) c.get_mut.follows.holds-at-none)
-          ∙ ap (λ l. situation_of inside.fixed l inside.closures inside.clock)
-          (sym (none_named callsign (with_estimate eta windows) (values m) none)))
-      | in-Some w ↦
-          let new = w.estimate.new.active in
-          let holds = c.get_mut.follows.holds new in
-          let set = changed_one callsign (with_estimate eta windows) m.entries
-          (c.get_mut.follows.lender new).entries w.in-Some.active.now new c.self.invariant.keyed
-          c.get_mut.ensures.unique (sym w.in-Some.ensures.value) w.estimate.ensures.new holds.0 in
-          rw (← c.self.view_is) (ap seen w.self-inside-is
-          ∙ ap (λ l. situation_of inside.fixed l inside.closures inside.clock) set)
-    ]
+returns-clause-new c = rw (← c.self.view_is) (changed c).1
 
 pub returns-clause-old : goal.returns-clause-old
 returns-clause-old c =

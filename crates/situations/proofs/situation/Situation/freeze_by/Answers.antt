@@ -1,25 +1,21 @@
-use Rattle.std.proofs.Common.{length, sym, ap, subst, ◌∙◌}
+use Rattle.std.proofs.Common.{refl, length, sym, ap, subst, ◌∙◌}
 use Rattle.indexmap.specs.IndexMap.{values}
 use Rattle.landing_rules.specs.Flights.{Situation}
 use Rattle.situations.specs.Freezes.{IsFreezeOf}
 use Rattle.situations.specs.Seen.{fixed_of, situation_of}
 use Rattle.situations.proofs.Apart.{names_frozen}
 use Rattle.situations.proofs.Freezing.{frozen_flights}
+use Rattle.situations.proofs.ChangedFlights.{in_step}
 use Rattle.situations.proofs.Keyed.{keyed_still}
 use Rattle.situations.proofs.situation.Situation.freeze_by.Goals as goal
 
 pub invariant_of-self : goal.invariant_of-self
 invariant_of-self c =
     let long = ap (λ (s : Situation). length s.active) c.self.view_is ∙ sym c.requires in
-    record {
-      keyed = keyed_still c.self.inside.active.entries c.freeze_each.new.active.entries _ c.freeze_each.ensures.keys
-          c.freeze_each.ensures.flights
-          (names_frozen c.in_ok-freeze.freeze (values c.self.inside.active) c.args.seconds.now long)
-          c.self.invariant.keyed;
-      few_places = c.self.invariant.few_places;
-      short_freeze = c.self.invariant.short_freeze;
-      clock = c.self.invariant.clock;
-    }
+    in_step _ _ _ refl c.self.invariant (keyed_still c.self.inside.active.entries c.freeze_each.new.active.entries _
+    c.freeze_each.ensures.keys c.freeze_each.ensures.flights
+    (names_frozen c.in_ok-freeze.freeze (values c.self.inside.active) c.args.seconds.now long)
+    c.self.invariant.keyed)
 
 pub returns-clause-new : goal.returns-clause-new
 returns-clause-new c =

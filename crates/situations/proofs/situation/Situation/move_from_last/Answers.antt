@@ -1,18 +1,14 @@
-use Rattle.std.proofs.Common.{◌-◌, sym, ap, ◌∙◌}
+use Rattle.std.proofs.Common.{refl, ◌-◌, sym, ap, ◌∙◌}
 use Rattle.std.proofs.lemmas.List.{length-map}
 use Rattle.indexmap.specs.IndexMap.{move_index, values}
 use Rattle.situations.specs.Seen.{situation_of}
+use Rattle.situations.proofs.ChangedFlights.{in_step}
 use Rattle.situations.proofs.Keyed.{keyed_moved, values_moved}
 use Rattle.situations.proofs.situation.Situation.move_from_last.Goals as goal
 
 pub invariant_of-self : goal.invariant_of-self
-invariant_of-self c = record {
-  keyed = keyed_moved c.self.inside.active.entries c.move_index.new.self.entries _ c.args.place
-      c.move_index.ensures.entries c.self.invariant.keyed;
-  few_places = c.self.invariant.few_places;
-  short_freeze = c.self.invariant.short_freeze;
-  clock = c.self.invariant.clock;
-}
+invariant_of-self c = in_step _ _ _ refl c.self.invariant (keyed_moved c.self.inside.active.entries
+    c.move_index.new.self.entries _ c.args.place c.move_index.ensures.entries c.self.invariant.keyed)
 
 pub returns : goal.returns
 returns c =

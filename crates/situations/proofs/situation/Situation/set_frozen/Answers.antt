@@ -1,56 +1,23 @@
-use Rattle.std.proofs.Common.{refl, sym, ap, subst, ◌∙◌}
-use Rattle.indexmap.specs.IndexMap.{values}
-use Rattle.landing_rules.specs.Flights.{Active}
-use Rattle.situations.specs.Seen.{IsInStep, seen, situation_of}
-use Rattle.situations.proofs.Apart.{names_kept}
-use Rattle.situations.proofs.Keyed.{changed_one, keyed_still, looked_up, none_named}
+use Rattle.std.proofs.Common.{refl, ap, ◌∙◌}
+use Rattle.situations.proofs.ChangedFlights.{IsChanged, none_changed, one_changed}
 use Rattle.situations.proofs.situation.Situation.set_frozen.Goals as goal
-use Rattle.situations.proofs.situation.Situation.set_frozen.Goals.{in-None, in-Some}
+use Rattle.situations.proofs.situation.Situation.set_frozen.Goals.{Joined-get_mut, in-None, in-Some}
+
+changed : (c : Joined-get_mut) → IsChanged c.args.callsign (λ a. record a { frozen = c.args.second }) c.self.inside
+    c.match-get_mut.self-inside c.self.invariant
+changed c = elim c.match-get_mut.branch [
+  | in-None w ↦ none_changed _ _ _ _ c.self.invariant
+      (w.self-inside-is ∙ ap (λ n. record c.self.inside { active = n }) c.get_mut.follows.holds-at-none)
+      w.in-None.ensures.value
+  | in-Some w ↦
+      let new = w.set_frozen.new.active in
+      let holds = c.get_mut.follows.holds new in
+      one_changed _ _ _ _ c.self.invariant (c.get_mut.follows.lender new) w.self-inside-is (λ a. refl)
+      c.get_mut.ensures.unique _ _ w.in-Some.ensures.value w.set_frozen.ensures holds.0 holds.1
+]
 
 pub invariant_of-self : goal.invariant_of-self
-invariant_of-self c =
-    let inside = c.self.inside in
-    let es = inside.active.entries in
-    let turn = (λ (a : Active). record a { frozen = c.args.second }) in
-    elim c.match-get_mut.branch [
-      | in-None w ↦ subst IsInStep
-          (sym (w.self-inside-is ∙ ap (λ n. record inside { active = n }) c.get_mut.follows.holds-at-none))
-          c.self.invariant
-      | in-Some w ↦
-          let new = w.set_frozen.new.active in
-          let n = c.get_mut.follows.lender new in
-          let holds = c.get_mut.follows.holds new in
-          let set = changed_one c.args.callsign turn es n.entries w.in-Some.active.now new
-          c.self.invariant.keyed c.get_mut.ensures.unique
-          (sym w.in-Some.ensures.value) w.set_frozen.ensures holds.0 in
-          subst IsInStep (sym w.self-inside-is) (record {
-            keyed = keyed_still es n.entries _ holds.1 set
-                (names_kept c.args.callsign turn (λ a. refl) (values inside.active)) c.self.invariant.keyed;
-            few_places = c.self.invariant.few_places;
-            short_freeze = c.self.invariant.short_freeze;
-            clock = c.self.invariant.clock;
-          })
-    ]
+invariant_of-self c = (changed c).0
 
 pub returns : goal.returns
-returns c =
-    let inside = c.self.inside in
-    let es = inside.active.entries in
-    let turn = (λ (a : Active). record a { frozen = c.args.second }) in
-    elim c.match-get_mut.branch [
-      | in-None w ↦
-          let none = sym (looked_up c.args.callsign es c.self.invariant.keyed) ∙ sym w.in-None.ensures.value in
-          rw (← c.self.view_is)
-          (ap seen (w.self-inside-is ∙ ap (λ n. record inside { active = n }) c.get_mut.follows.holds-at-none)
-          ∙ ap (λ l. situation_of inside.fixed l inside.closures inside.clock)
-          (sym (none_named c.args.callsign turn (values inside.active) none)))
-      | in-Some w ↦
-          let new = w.set_frozen.new.active in
-          let n = c.get_mut.follows.lender new in
-          let holds = c.get_mut.follows.holds new in
-          let set = changed_one c.args.callsign turn es n.entries w.in-Some.active.now new
-          c.self.invariant.keyed c.get_mut.ensures.unique
-          (sym w.in-Some.ensures.value) w.set_frozen.ensures holds.0 in
-          rw (← c.self.view_is) (ap seen w.self-inside-is
-          ∙ ap (λ l. situation_of inside.fixed l inside.closures inside.clock) set)
-    ]
+returns c = rw (← c.self.view_is) (changed c).1

@@ -1,0 +1,146 @@
+-- What is proved command by command: it has as many files as its words name, with its numbers in their ranges; no files
+-- are both taken and refused; its texts have at most so many bytes.
+use Rattle.std.proofs.Common.{◌≡◌, ℕ, ◌≤◌, List, [], ◌∷◌, length, Bool, true, false, Option, Some, None}
+use Rattle.std.proofs.Common.{Result, Ok, Err, refl, sym, ap₂, subst, ◌∙◌, arith}
+use Rattle.std.specs.Prelude.{◌&&◌, ◌==◌, if◌then◌else◌}
+use Rattle.std.specs.Result.{result_ok}
+use Rattle.std.proofs.lemmas.Option.{none-some, same_Some}
+use Rattle.cps_base.specs.Limits.{most_waiting}
+use Rattle.cps_base.specs.Number.{number_within}
+use Rattle.cps_base.specs.declared.number.NumberFault.{NumberFault}
+use Rattle.text_bounds.specs.shared.Numbers.{within}
+use Rattle.endings.specs.Refusing.{refused_by}
+use Rattle.endings.specs.declared.ending.Answer.{Answer}
+use Rattle.endings.specs.declared.ending.FilesFault.{FilesFault}
+use Rattle.endings.specs.declared.ending.FilesFault.TheVariants as fault
+use Rattle.endings.specs.shared.Refusing.{refused_as_read}
+use Rattle.planning_commands.specs.TextLengths.{EffortTextIsBoundedLaw, PlanTextIsBoundedLaw, ReplayTextIsBoundedLaw}
+use Rattle.planning_commands.specs.TextLengths.{TrialTextIsBoundedLaw}
+use Rattle.planning_commands.specs.shared.Begun.{not_refused}
+use Rattle.certificate_commands.specs.TextLaws.{CertifyIsBoundedLaw, CheckIsBoundedLaw}
+use Rattle.certificate_commands.specs.shared.Judged.{not_unchecked}
+use Rattle.inquiry_commands.specs.First.{FirstIsBoundedLaw}
+use Rattle.inquiry_commands.specs.WhatIf.{WhatIfIsBoundedLaw}
+use Rattle.inquiry_commands.specs.Audit.{AuditIsBoundedLaw}
+use Rattle.cps_top.specs.declared.commands.Command.{Command}
+use Rattle.cps_top.specs.declared.commands.Command.TheVariants.{Plan, Replay, Certify, Check, Effort, Trial, First}
+use Rattle.cps_top.specs.declared.commands.Command.TheVariants.{WhatIf, Audit}
+use Rattle.cps_top.specs.Commands.{Admits, Begins, IsCommandInRange, Refuses, TextsAreBoundedLaw, command_of, file_count}
+use Rattle.cps_top.specs.Commands.{names_of, number_of, trial_by, trial_of}
+
+-- ---- words
+
+-- the words name as many files as the command has, and its numbers are in their ranges
+abbrev pub Fits : Command → List (List ℕ) → Type 0
+Fits c words = (length (names_of c words) ≡ file_count c) × IsCommandInRange c
+
+number_in_range : (word : List ℕ) (least most n : ℕ) → number_of word least most ≡ Some n → (least ≤ n) × (n ≤ most)
+number_in_range word least most n e = go (number_within word least most) (λ m h. within word least most m h) e
+  where
+    go : (r : Result ℕ NumberFault) → ((m : ℕ) → r ≡ Ok m → (least ≤ m) × (m ≤ most)) → result_ok r ≡ Some n
+        → (least ≤ n) × (n ≤ most)
+    go (Ok m) h is = subst (λ (x : ℕ). (least ≤ x) × (x ≤ most)) (same_Some m n is) (h m refl)
+    go (Err d) h is = absurd (cc is)
+
+numbers_fit : (a b d : Option ℕ) (c : Command) (words : List (List ℕ))
+    → ((n : ℕ) → b ≡ Some n → (1 ≤ n) × (n ≤ most_waiting)) → ((k : ℕ) → d ≡ Some k → (0 ≤ k) × (k ≤ 3))
+    → trial_by a b d ≡ Some c → Fits c words
+numbers_fit (Some s) (Some n) (Some k) c words few near e =
+    let same : Trial s n k ≡ c = same_Some _ c e in
+    subst (λ (x : Command). Fits x words) same (refl, ((few n refl).0, (few n refl).1, (near k refl).1))
+numbers_fit a b d c words few near e = absurd (cc e)
+
+trial_fits : (rest : List (List ℕ)) (c : Command) (words : List (List ℕ)) → trial_of rest ≡ Some c → Fits c words
+trial_fits (s ∷ n ∷ k ∷ []) c words e =
+    numbers_fit (number_of s 0 4294967295) (number_of n 1 most_waiting) (number_of k 0 3) c words
+    (λ m is. number_in_range n 1 most_waiting m is) (λ m is. number_in_range k 0 3 m is) e
+trial_fits rest c words e = absurd (cc e)
+
+as_many : (a : Bool) (n m : ℕ) → (a && (n == m)) ≡ true → n ≡ m
+as_many true n m e = grind (arith, e)
+as_many false n m e = cc
+
+module _ (word : List ℕ) (rest : List (List ℕ)) (c : Command) where
+  -- the command of this first word and so many files, or a later one
+  filed : (same : Bool) (files : ℕ) (x : Command) (later : Option Command)
+      → (length rest ≡ files → Fits x (word ∷ rest)) → (later ≡ Some c → Fits c (word ∷ rest))
+      → (if same && (length rest == files) then Some x else later) ≡ Some c → Fits c (word ∷ rest)
+  filed same files x later here others e = go (same && (length rest == files)) (as_many same (length rest) files) e
+    where
+      go : (b : Bool) → (b ≡ true → length rest ≡ files) → (if b then Some x else later) ≡ Some c → Fits c (word ∷ rest)
+      go true count is = subst (λ (y : Command). Fits y (word ∷ rest)) (same_Some x c is) (here (count refl))
+      go false count is = others is
+
+  last : (b : Bool) → (if b then trial_of rest else None) ≡ Some c → Fits c (word ∷ rest)
+  last true e = trial_fits rest c (word ∷ rest) e
+  last false e = absurd (cc e)
+
+  named_fits : command_of (word ∷ rest) ≡ Some c → Fits c (word ∷ rest)
+  named_fits =
+      filed _ 2 Plan _ (λ n. (n, tt)) (filed _ 3 Replay _ (λ n. (n, tt)) (filed _ 2 Certify _ (λ n. (n, tt))
+      (filed _ 3 Check _ (λ n. (n, tt)) (filed _ 3 Effort _ (λ n. (n, tt)) (filed _ 2 First _ (λ n. (n, tt))
+      (filed _ 3 WhatIf _ (λ n. (n, tt)) (filed _ 3 Audit _ (λ n. (n, tt)) (last _))))))))
+
+pub fits : (words : List (List ℕ)) (c : Command) → command_of words ≡ Some c → Fits c words
+fits [] c e = absurd (cc e)
+fits (word ∷ rest) c e = named_fits word rest c e
+
+-- ---- refusals
+
+-- no files are both taken and refused
+pub excludes : (command : Command) (contents : List (List ℕ)) (text : List ℕ) (answer : Answer) (refusal : FilesFault)
+    → Admits command contents text answer → Refuses command contents refusal → ⊥
+excludes Plan (a ∷ f ∷ []) text answer refusal admits refuses =
+    none-some _ (sym admits.shows.opened.taken ∙ ap₂ refused_by (sym admits.aerodrome_read) (sym admits.flights_read)
+    ∙ refuses)
+excludes First (a ∷ f ∷ []) text answer refusal admits refuses =
+    none-some _ (sym admits.shows.opened.taken ∙ ap₂ refused_by (sym admits.aerodrome_read) (sym admits.flights_read)
+    ∙ refuses)
+excludes Certify (a ∷ f ∷ []) text answer refusal admits refuses =
+    none-some _ (sym admits.certifies.certified.judged.taken
+    ∙ ap₂ refused_by (sym admits.aerodrome_read) (sym admits.flights_read) ∙ refuses)
+excludes Replay (a ∷ f ∷ e ∷ []) text answer refusal admits refuses =
+    none-some _ (sym (not_refused a f e admits.state admits.events admits.begun) ∙ refuses)
+excludes Effort (a ∷ f ∷ e ∷ []) text answer refusal admits refuses =
+    none-some _ (sym (not_refused a f e admits.state admits.events admits.begun) ∙ refuses)
+excludes Check (a ∷ f ∷ c ∷ []) text answer refusal admits refuses =
+    none-some _ (sym (not_unchecked a f c admits.verdict admits.judges) ∙ refuses)
+excludes WhatIf (a ∷ f ∷ t ∷ []) text answer refusal admits refuses =
+    none-some _ (sym (refused_as_read fault.Trials _ _ _ _ _ _ admits.aerodrome_read admits.flights_read admits.trials_read
+    ∙ admits.tried.taken) ∙ refuses)
+excludes Audit (a ∷ f ∷ p ∷ []) text answer refusal admits refuses =
+    none-some _ (sym (refused_as_read fault.Plan _ _ _ _ _ _ admits.aerodrome_read admits.flights_read admits.plan_read
+    ∙ admits.audited.taken) ∙ refuses)
+excludes command contents text answer refusal admits refuses = absurd refuses
+
+-- nor are they refused where a text was begun
+pub excludes_begun : (command : Command) (contents : List (List ℕ)) (text : List ℕ) (refusal : FilesFault) →
+    Begins command contents text → Refuses command contents refusal → ⊥
+excludes_begun Replay (a ∷ f ∷ e ∷ []) text refusal begins refuses =
+    none-some _ (sym (not_refused a f e begins.state begins.events begins.begun) ∙ refuses)
+excludes_begun Effort (a ∷ f ∷ e ∷ []) text refusal begins refuses =
+    none-some _ (sym (not_refused a f e begins.state begins.events begins.begun) ∙ refuses)
+excludes_begun command contents text refusal begins refuses =
+    excludes command contents text begins.0 refusal begins.1 refuses
+
+-- ---- lengths
+
+pub bounded : PlanTextIsBoundedLaw → ReplayTextIsBoundedLaw → CertifyIsBoundedLaw → CheckIsBoundedLaw
+    → EffortTextIsBoundedLaw → TrialTextIsBoundedLaw → FirstIsBoundedLaw → WhatIfIsBoundedLaw → AuditIsBoundedLaw
+    → TextsAreBoundedLaw
+bounded plan replay certify check effort trial first what_if audit = go
+  where
+    go : TextsAreBoundedLaw
+    go Plan (a ∷ f ∷ []) text range (answer, may) = plan a f text answer may
+    go Replay (a ∷ f ∷ e ∷ []) text range may = replay a f e text may
+    go Certify (a ∷ f ∷ []) text range (answer, may) = certify a f text answer may
+    go Check (a ∷ f ∷ c ∷ []) text range (answer, may) = check a f c text answer may
+    go Effort (a ∷ f ∷ e ∷ []) text range may = effort a f e text may
+    go First (a ∷ f ∷ []) text range (answer, may) = first a f text answer may
+    go WhatIf (a ∷ f ∷ t ∷ []) text range (answer, may) = what_if a f t text answer may
+    go Audit (a ∷ f ∷ p ∷ []) text range (answer, may) = audit a f p text answer may
+    go (Trial s n k) [] text range (answer, may) =
+        let few = range.1 in
+        let near = range.2 in
+        trial s n k text answer (omega (arith, few)) (omega (arith, near)) may
+    go command contents text range may = absurd may.1

@@ -1,3 +1,0 @@
--- Lemmas that crates above cite too.
-pub mod Audited
-pub mod Tried

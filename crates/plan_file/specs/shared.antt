@@ -1,0 +1,3 @@
+-- Lemmas that crates above cite too.
+pub mod Landings
+pub mod Objectives
