@@ -1,57 +1,57 @@
 use Rattle.std.proofs.Common.{◌≡◌, ℕ, ◌-◌, ◌<◌, ◌≤◌, length, rules, arith, subst}
 use Rattle.std.specs.Prelude.{vec_len}
-use Rattle.cps_network.specs.Due.{HasCandidates, HasCandidatesFrom}
+use Rattle.cps_network.specs.Due.{HasCandidates}
 use Rattle.replan.proofs.StageLemmas.{due_more, due_none}
 use Rattle.replan.proofs.filling.fill_upto.Goals as goal
 
 pub loop-stage-init : goal.loop-stage-init
 loop-stage-init g c = (
+  due_none _ c.args.planning.now.problem.now _ _ (omega (arith, c.len-first.ensures, c.requires.some))
+      (g.met.L.Ledger.fits c.args.steps.now),
   c.requires.held,
   omega (arith, c.len-first.ensures),
   omega (arith, c.len-first.ensures),
-  due_none _ c.args.planning.now.problem.now _ _ (omega (arith, c.len-first.ensures, c.requires.some))
-      (g.met.L.Ledger.fits c.args.steps.now),
 )
 
 pub add_stage-requires : goal.add_stage-requires
 add_stage-requires g c =
-    let long = c.loop-stage.invariant.1 in
+    let long = c.loop-stage.invariant.2 in
     let some : 0 < vec_len c.loop-stage.begun.stages =
     omega (arith, long, c.loop-stage.auto, c.len-first.ensures, c.requires.some) in
     let number : vec_len c.loop-stage.begun.stages ≤ length c.args.planning.now.problem.now.flights =
     omega (arith, long, c.loop-stage-test.true, c.requires.few) in (
       search rules,
-      (search rules, (search rules, (c.requires.width, (c.loop-stage.invariant.0, (some, number))))),
+      (search rules, (search rules, (c.requires.width, (c.loop-stage.invariant.1, (some, number))))),
     )
 
 pub loop-stage-preserved : goal.loop-stage-preserved
 loop-stage-preserved g c =
-    let long = c.loop-stage.invariant.1 in
+    let long = c.loop-stage.invariant.2 in
     let s = c.in_ok-add_stage.ensures.steps in
     let e : vec_len c.loop-stage.begun.stages - 1 ≡ c.loop-stage._stage - 1 = omega (arith, long) in (
-      c.in_ok-add_stage.ensures.held,
-      omega (arith, c.in_ok-add_stage.ensures.one, long),
-      omega (arith, c.loop-stage-test.true),
       due_more _ c.args.planning.now.problem.now c.loop-stage._stage _ _ _
           (omega (arith, c.loop-stage.auto, c.len-first.ensures))
           (omega (arith, c.loop-stage.auto, c.len-first.ensures, c.requires.some))
-          c.loop-stage.invariant.3
+          c.loop-stage.invariant.0
           (s.0, subst (λ (q : ℕ). HasCandidates c.args.planning.now.problem.now q s.0) e s.1, s.2),
+      c.in_ok-add_stage.ensures.held,
+      omega (arith, c.in_ok-add_stage.ensures.one, long),
+      omega (arith, c.loop-stage-test.true),
     )
 
 pub returns-clause-held : goal.returns-clause-held
-returns-clause-held g c = c.loop-stage.invariant.0
+returns-clause-held g c = c.loop-stage.invariant.1
 
 pub returns-clause-many : goal.returns-clause-many
 returns-clause-many g c =
     omega (
       arith,
-      c.loop-stage.invariant.1,
       c.loop-stage.invariant.2,
+      c.loop-stage.invariant.3,
       c.loop-stage-test.false,
       c.loop-stage.auto,
       c.len-first.ensures,
     )
 
 pub returns-clause-steps : goal.returns-clause-steps
-returns-clause-steps g c = rw c.loop-stage.invariant.1 c.loop-stage.invariant.3
+returns-clause-steps g c = rw c.loop-stage.invariant.2 c.loop-stage.invariant.0

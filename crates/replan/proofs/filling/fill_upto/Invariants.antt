@@ -7,7 +7,7 @@ use Rattle.replan.specs.Stages.{AreStages}
 use Rattle.replan.proofs.filling.fill_upto.Given as goal
 
 abbrev pub invariant-loop-stage : goal.invariant-loop-stage
-invariant-loop-stage g l = AreStages l.planning.problem.now l.begun.stages.items × (vec_len l.begun.stages ≡ l._stage)
+invariant-loop-stage g l = ((due : ℕ) × HasCandidatesFrom (vec_len l.fn.begun.stages) l.planning.problem.now
+    (l._stage - 1) due × (g.L.Ledger.count l.steps ≡ raised_by due (g.L.Ledger.count l.fn.steps)))
+    × AreStages l.planning.problem.now l.begun.stages.items × (vec_len l.begun.stages ≡ l._stage)
     × (l._stage ≤ max (vec_len l.fn.begun.stages) l.count)
-    × (due : ℕ) × HasCandidatesFrom (vec_len l.fn.begun.stages) l.planning.problem.now (l._stage - 1) due
-    × (g.L.Ledger.count l.steps ≡ raised_by due (g.L.Ledger.count l.fn.steps))

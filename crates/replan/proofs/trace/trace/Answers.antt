@@ -42,14 +42,7 @@ last_rank-requires g c =
     (omega (arith, c.requires.whole)) c.loop-i.i _ c.loop-i.place c.loop-i.index _ _ _ _
     (omega (arith, c.loop-i-test.true)) inv.0 (omega (arith, c.loop-i-test.true))
     c.earlier.view_is c.index-kept-i.is c.later.view_is c.index-kept-i-in-loop-i.is inv.2 inv.3 in
-    let laws : WindowLaws c.args.problem.now g.row.W =
-    record {
-      network = c.prefix_laws.ensures.network;
-      alike = c.prefix_laws.ensures.sources;
-      ranks =
-          c.window_laws.ensures.ranks;
-      leads = c.window_laws.ensures.leads;
-    } in
+    let laws : WindowLaws c.args.problem.now g.row.W = search rules in
     let last = last_given c.args.problem.now g.row.W c.requires.width laws _ _ _ _ _ _ r.held.held c.source.ensures in
     let e = last.0 in
     let few = last.1 in
@@ -69,14 +62,7 @@ loop-i-preserved g c =
     (omega (arith, c.requires.whole)) c.loop-i.i _ c.loop-i.place c.loop-i.index _ _ _ _
     (omega (arith, c.loop-i-test.true)) inv.0 (omega (arith, c.loop-i-test.true))
     c.earlier.view_is c.index-kept-i.is c.later.view_is c.index-kept-i-in-loop-i.is inv.2 inv.3 in
-    let laws : WindowLaws c.args.problem.now g.row.W =
-    record {
-      network = c.prefix_laws.ensures.network;
-      alike = c.prefix_laws.ensures.sources;
-      ranks =
-          c.window_laws.ensures.ranks;
-      leads = c.window_laws.ensures.leads;
-    } in
+    let laws : WindowLaws c.args.problem.now g.row.W = search rules in
     let last = last_given c.args.problem.now g.row.W c.requires.width laws _ _ _ _ _ _ r.held.held c.source.ensures in
     let e = last.0 in
     let gives = c.source.ensures in

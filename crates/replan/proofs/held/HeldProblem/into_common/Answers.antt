@@ -1,4 +1,4 @@
-use Rattle.std.proofs.Common.{length, ap, ◌∙◌, arith}
+use Rattle.std.proofs.Common.{length, ap, ◌∙◌, arith, rules}
 use Rattle.std.proofs.lemmas.List.{length-take-le}
 use Rattle.cps_network.specs.WindowLaws.{WindowLaws}
 use Rattle.replan.specs.Held.{AreInCommon, HeldProblem}
@@ -12,14 +12,7 @@ returns-clause-held g c =
     let common : AreInCommon inside.problem c.args.problem.now c.args.count =
     rw (ap (λ (h : HeldProblem). h.problem) c.self.view_is) c.requires.common in
     let few = few_in_common inside.problem c.args.problem.now c.args.count inside.stages.items common held.whole in
-    let laws : WindowLaws inside.problem g.row.W =
-    record {
-      network = c.prefix_laws.ensures.network;
-      alike = c.prefix_laws.ensures.sources;
-      ranks =
-          c.window_laws.ensures.ranks;
-      leads = c.window_laws.ensures.leads;
-    } in
+    let laws : WindowLaws inside.problem g.row.W = search rules in
     rw c.truncate.ensures.items
     (stages_in_common inside.problem c.args.problem.now g.row.W held.width_is laws
     c.head-held_ranks.ensures.well_formed.between_ranks
