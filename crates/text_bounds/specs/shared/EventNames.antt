@@ -1,7 +1,7 @@
 -- The events that a log holds name callsigns.
 use Rattle.std.proofs.Common.{◌≡◌, ℕ, ◌≤◌, inl, inr, List, [], ◌∷◌, length, map, true, false, Bool, cond, Result, Ok}
 use Rattle.std.proofs.Common.{Err, refl, ap, subst}
-use Rattle.std.specs.Prelude.{All, codes, bytes_eq, nat_le, not, ◌==◌}
+use Rattle.std.specs.Prelude.{All, IfOk, codes, bytes_eq, nat_le, not, ◌==◌}
 use Rattle.std.specs.Result.{result_ok}
 use Rattle.std.proofs.lemmas.Bool.{cases_Bool}
 use Rattle.std.proofs.lemmas.Option.{same_Some}
@@ -10,13 +10,14 @@ use Rattle.cps_base.specs.Answers.{◌>>=◌}
 use Rattle.cps_base.specs.Text.{is_callsign}
 use Rattle.cps_base.specs.Limits.{most_events}
 use Rattle.arrivals.specs.declared.event.Event.{Event}
-use Rattle.arrivals.specs.declared.event.Event.TheVariants.{Cancel, Clock, Close, Estimate, Reopen}
+use Rattle.arrivals.specs.declared.event.Event.TheVariants.{Add, Cancel, Clock, Close, Estimate, Reopen}
 use Rattle.arrivals.specs.Seen.{event_of}
 use Rattle.csv_records.specs.Rows.{Fields, field, records_of}
-use Rattle.event_log.specs.declared.fault.Col.TheVariants as columns
+use Rattle.event_log.specs.declared.fault.Col.TheVariants.{After, Callsign, Category, Eta, Weight, Windows}
 use Rattle.event_log.specs.declared.fault.FieldCause.TheVariants as bad
 use Rattle.event_log.specs.declared.fault.LogCause.{LogCause}
-use Rattle.event_log.specs.declared.fault.LogCause.TheVariants.{Field, TooMany}
+use Rattle.event_log.specs.declared.fault.LogCause.TheVariants.{Field, FieldCount, Kind, TooMany}
+use Rattle.event_log.specs.declared.fault.LogFault.{LogFault}
 use Rattle.event_log.specs.Columns.{callsign_in, category_in, column, empty_in, names_at, second_in, span_at}
 use Rattle.event_log.specs.Columns.{weight_in, windows_at}
 use Rattle.event_log.specs.Kinds.{add_in, cancel_in, clock_in, close_in, estimate_in, event_by, reopen_in}
@@ -27,140 +28,113 @@ use Rattle.text_bounds.specs.shared.Lengths.{callsign_short}
 abbrev IsNamed : Event → Type 0
 IsNamed e = HasShortName (event_of e)
 
-bind_ok : {A B F : Type 0} (r : Result A F) (f : A → Result B F) (y : B) → (r >>= f) ≡ Ok y
-    → (x : A) × (r ≡ Ok x) × (f x ≡ Ok y)
-bind_ok (Ok x) f y e = (x, refl, e)
-bind_ok (Err d) f y e = absurd (cc e)
+abbrev Named : Result Event LogCause → Type 0
+Named r = IfOk r IsNamed
 
-name_short : (r : Fields) (c : List ℕ) → callsign_in r ≡ Ok c → length c ≤ 8
-name_short r c e = elim (cases_Bool (is_callsign (column columns.Callsign r))) [
-  | inl here ↦ (let w : Ok (column columns.Callsign r) ≡ Ok c = rw here at e in let v : column columns.Callsign r ≡ c =
-      same_Some _ _ (ap result_ok w) in
-      subst (λ (x : List ℕ). length x ≤ 8) v (callsign_short (column columns.Callsign r) here))
-  | inr other ↦ (let w : Err (Field columns.Callsign bad.Bad) ≡ Ok c = rw other at e in absurd (cc w))
-]
+abbrev AllNamed : Result (List Event) LogFault → Type 0
+AllNamed r = IfOk r (All IsNamed)
 
-estimate_named : (r : Fields) (e : Event) → estimate_in r ≡ Ok e → IsNamed e
-unfolding estimate_in
-estimate_named r e is =
-    let a = bind_ok (callsign_in r) _ e is in
-    let b = bind_ok (empty_in columns.Category r) _ e a.2 in
-    let c = bind_ok (second_in r) _ e b.2 in
-    let d = bind_ok (empty_in columns.Weight r) _ e c.2 in
-    let f = bind_ok (windows_at r) _ e d.2 in
-    let g = bind_ok (empty_in columns.After r) _ e f.2 in
-    let made : Estimate a.0 c.0 f.0 ≡ e = same_Some _ _ (ap result_ok g.2) in
-    subst IsNamed made (name_short r a.0 a.1)
+-- what is made of an answer
+behind : {A B F : Type 0} (P : B → Type 0) (r : Result A F) (f : A → Result B F) → ((x : A) → r ≡ Ok x → IfOk (f x) P)
+    → IfOk (r >>= f) P
+behind P (Ok x) f h = h x refl
+behind P (Err d) f h = tt
 
-cancel_named : (r : Fields) (e : Event) → cancel_in r ≡ Ok e → IsNamed e
-unfolding cancel_in
-cancel_named r e is =
-    let a = bind_ok (callsign_in r) _ e is in
-    let b = bind_ok (empty_in columns.Category r) _ e a.2 in
-    let c = bind_ok (empty_in columns.Eta r) _ e b.2 in
-    let d = bind_ok (empty_in columns.Weight r) _ e c.2 in
-    let f = bind_ok (empty_in columns.Windows r) _ e d.2 in
-    let g = bind_ok (empty_in columns.After r) _ e f.2 in
-    let made : Cancel a.0 ≡ e = same_Some _ _ (ap result_ok g.2) in
-    subst IsNamed made (name_short r a.0 a.1)
-
-add_named : (r : Fields) (e : Event) → add_in r ≡ Ok e → IsNamed e
-unfolding add_in
-add_named r e is =
-    let a = bind_ok (callsign_in r) _ e is in
-    let b = bind_ok (category_in r) _ e a.2 in
-    let c = bind_ok (second_in r) _ e b.2 in
-    let d = bind_ok (weight_in r) _ e c.2 in
-    let f = bind_ok (windows_at r) _ e d.2 in
-    let g = bind_ok (names_at a.0 r) _ e f.2 in
-    let made = same_Some _ _ (ap result_ok g.2) in
-    subst IsNamed made tt
-
-close_named : (r : Fields) (e : Event) → close_in r ≡ Ok e → IsNamed e
-unfolding close_in
-close_named r e is =
-    let a = bind_ok (empty_in columns.Callsign r) _ e is in
-    let b = bind_ok (empty_in columns.Category r) _ e a.2 in
-    let c = bind_ok (empty_in columns.Eta r) _ e b.2 in
-    let d = bind_ok (empty_in columns.Weight r) _ e c.2 in
-    let f = bind_ok (span_at r) _ e d.2 in
-    let g = bind_ok (empty_in columns.After r) _ e f.2 in
-    let made : Close f.0.0 f.0.1 ≡ e = same_Some _ _ (ap result_ok g.2) in
-    subst IsNamed made tt
-
-reopen_named : (r : Fields) (e : Event) → reopen_in r ≡ Ok e → IsNamed e
-unfolding reopen_in
-reopen_named r e is =
-    let a = bind_ok (empty_in columns.Callsign r) _ e is in
-    let b = bind_ok (empty_in columns.Category r) _ e a.2 in
-    let c = bind_ok (empty_in columns.Eta r) _ e b.2 in
-    let d = bind_ok (empty_in columns.Weight r) _ e c.2 in
-    let f = bind_ok (span_at r) _ e d.2 in
-    let g = bind_ok (empty_in columns.After r) _ e f.2 in
-    let made : Reopen f.0.0 f.0.1 ≡ e = same_Some _ _ (ap result_ok g.2) in
-    subst IsNamed made tt
-
-clock_named : (r : Fields) (e : Event) → clock_in r ≡ Ok e → IsNamed e
-unfolding clock_in
-clock_named r e is =
-    let a = bind_ok (empty_in columns.Callsign r) _ e is in
-    let b = bind_ok (empty_in columns.Category r) _ e a.2 in
-    let c = bind_ok (second_in r) _ e b.2 in
-    let d = bind_ok (empty_in columns.Weight r) _ e c.2 in
-    let f = bind_ok (empty_in columns.Windows r) _ e d.2 in
-    let g = bind_ok (empty_in columns.After r) _ e f.2 in
-    let made : Clock c.0 ≡ e = same_Some _ _ (ap result_ok g.2) in
-    subst IsNamed made tt
-
-by_cond : {A : Type 0} (P : Result A LogCause → Type 0) (b : Bool) (x y : Result A LogCause)
-    → P x → P y → P (cond b x y)
+by_cond : {X : Type 0} (P : X → Type 0) (b : Bool) (x y : X) → P x → P y → P (cond b x y)
 by_cond P true x y p q = p
 by_cond P false x y p q = q
 
-kind_named : (kind : List ℕ) (r : Fields) (e : Event) → event_by kind r ≡ Ok e → IsNamed e
-unfolding event_by
-kind_named kind r e =
-    let P : Result Event LogCause → Type 0 = λ x. x ≡ Ok e → IsNamed e in
-    by_cond P (bytes_eq kind (codes "estimate")) _ _ (estimate_named r e)
-    (by_cond P (bytes_eq kind (codes "cancel")) _ _ (cancel_named r e)
-    (by_cond P (bytes_eq kind (codes "add")) _ _ (add_named r e)
-    (by_cond P (bytes_eq kind (codes "close")) _ _ (close_named r e)
-    (by_cond P (bytes_eq kind (codes "reopen")) _ _ (reopen_named r e)
-    (by_cond P (bytes_eq kind (codes "clock")) _ _ (clock_named r e) (λ w. absurd (cc w)))))))
+-- ---- a record
 
-record_named : (n : ℕ) (r : Fields) (e : Event) → event_in n r ≡ Ok e → IsNamed e
-unfolding event_in
-record_named n r e =
-    let P : Result Event LogCause → Type 0 = λ x. x ≡ Ok e → IsNamed e in
-    by_cond P (not (length r == 7)) _ _ (λ w. absurd (cc w)) (λ is.
-    let a = bind_ok (event_by (field r 0) r) _ e is in
-    let Q : Result Event LogCause → Type 0 = λ x. x ≡ Ok e → a.0 ≡ e in
-    let same : a.0 ≡ e = by_cond Q (nat_le most_events n) (Err TooMany) (Ok a.0) (λ w. absurd (cc w))
-    (λ w. same_Some _ _ (ap result_ok w)) a.2 in
-    subst IsNamed same (kind_named (field r 0) r a.0 a.1))
-
-added_named : (before : List Event) (x : Result Event LogCause) (es : List Event) → ((e : Event) → x ≡ Ok e → IsNamed e)
-    → All IsNamed before → added before x ≡ Ok es → All IsNamed es
-added_named before (Ok e) es h all is = subst (All IsNamed) (same_Some _ _ (ap result_ok is))
-    (All-append IsNamed before (e ∷ []) all (All-cons IsNamed e [] (h e refl) (All-nil IsNamed)))
-added_named before (Err d) es h all is = absurd (cc is)
-
-rows_named : (before : List Event) (rs : List Fields) (es : List Event) → All IsNamed before
-    → events_in before rs ≡ Ok es → All IsNamed es
-unfolding events_in
-rows_named before [] es all is = subst (All IsNamed) (same_Some _ _ (ap result_ok is)) all
-rows_named before (r ∷ rs) es all is =
-    let a = bind_ok (added before (event_in (length before) r)) (λ events. events_in events rs) es is in
-    rows_named a.0 rs es (added_named before (event_in (length before) r) a.0 (record_named (length before) r) all a.1)
-    a.2
-
-all_named : (rs : List Fields) (es : List Event) → events_by rs ≡ Ok es → All IsNamed es
-unfolding events_by
-all_named [] es is = absurd (cc is)
-all_named (r ∷ rs) es is = elim (cases_Bool (is_header r)) [
-  | inl head ↦ rows_named [] rs es (All-nil IsNamed) (rw head at is)
-  | inr other ↦ (let w : Err header_fault ≡ Ok es = rw other at is in absurd (cc w))
+name_short : (r : Fields) (c : List ℕ) → callsign_in r ≡ Ok c → length c ≤ 8
+name_short r c e = elim (cases_Bool (is_callsign (column Callsign r))) [
+  | inl here ↦ (let w : Ok (column Callsign r) ≡ Ok c = rw here at e in let v : column Callsign r ≡ c =
+      same_Some _ _ (ap result_ok w) in
+      subst (λ (x : List ℕ). length x ≤ 8) v (callsign_short (column Callsign r) here))
+  | inr other ↦ (let w : Err (Field Callsign bad.Bad) ≡ Ok c = rw other at e in absurd (cc w))
 ]
+
+-- six columns are read one behind another
+module _ {A B C D E F : Type 0} (a : Result A LogCause) (b : Result B LogCause) (c : Result C LogCause)
+    (d : Result D LogCause) (e : Result E LogCause) (f : A → Result F LogCause)
+    (made : A → B → C → D → E → F → Event) where
+  six_named : ((x : A) → a ≡ Ok x → (y : B) (z : C) (u : D) (v : E) (w : F) → IsNamed (made x y z u v w))
+      → Named (a >>= (λ x. b >>= (λ y. c >>= (λ z. d >>= (λ u. e >>= (λ v. f x >>= (λ w. Ok (made x y z u v w))))))))
+  six_named h =
+      behind IsNamed a _ (λ x is. behind IsNamed b _ (λ y _. behind IsNamed c _ (λ z _. behind IsNamed d _
+      (λ u _. behind IsNamed e _ (λ v _. behind IsNamed (f x) _ (λ w _. h x is y z u v w))))))
+
+estimate_named : (r : Fields) → Named (estimate_in r)
+unfolding estimate_in
+estimate_named r = six_named (callsign_in r) (empty_in Category r) (second_in r) (empty_in Weight r) (windows_at r)
+    (λ own. empty_in After r) (λ x y z u v w. Estimate x z v) (λ x is y z u v w. name_short r x is)
+
+cancel_named : (r : Fields) → Named (cancel_in r)
+unfolding cancel_in
+cancel_named r = six_named (callsign_in r) (empty_in Category r) (empty_in Eta r) (empty_in Weight r)
+    (empty_in Windows r) (λ own. empty_in After r) (λ x y z u v w. Cancel x) (λ x is y z u v w. name_short r x is)
+
+add_named : (r : Fields) → Named (add_in r)
+unfolding add_in
+add_named r = six_named (callsign_in r) (category_in r) (second_in r) (weight_in r) (windows_at r)
+    (λ own. names_at own r) (λ x y z u v w. Add (record {
+      callsign = x;
+      category = y;
+      eta = z;
+      weight = u;
+      windows = v;
+      after = w;
+    })) (λ x is y z u v w. tt)
+
+close_named : (r : Fields) → Named (close_in r)
+unfolding close_in
+close_named r = six_named (empty_in Callsign r) (empty_in Category r) (empty_in Eta r) (empty_in Weight r) (span_at r)
+    (λ own. empty_in After r) (λ x y z u v w. Close v.0 v.1) (λ x is y z u v w. tt)
+
+reopen_named : (r : Fields) → Named (reopen_in r)
+unfolding reopen_in
+reopen_named r = six_named (empty_in Callsign r) (empty_in Category r) (empty_in Eta r) (empty_in Weight r) (span_at r)
+    (λ own. empty_in After r) (λ x y z u v w. Reopen v.0 v.1) (λ x is y z u v w. tt)
+
+clock_named : (r : Fields) → Named (clock_in r)
+unfolding clock_in
+clock_named r = six_named (empty_in Callsign r) (empty_in Category r) (second_in r) (empty_in Weight r)
+    (empty_in Windows r) (λ own. empty_in After r) (λ x y z u v w. Clock z) (λ x is y z u v w. tt)
+
+kind_named : (kind : List ℕ) (r : Fields) → Named (event_by kind r)
+unfolding event_by
+kind_named kind r =
+    by_cond Named (bytes_eq kind (codes "estimate")) _ _ (estimate_named r)
+    (by_cond Named (bytes_eq kind (codes "cancel")) _ _ (cancel_named r)
+    (by_cond Named (bytes_eq kind (codes "add")) _ _ (add_named r)
+    (by_cond Named (bytes_eq kind (codes "close")) _ _ (close_named r)
+    (by_cond Named (bytes_eq kind (codes "reopen")) _ _ (reopen_named r)
+    (by_cond Named (bytes_eq kind (codes "clock")) _ (Err Kind) (clock_named r) tt)))))
+
+record_named : (n : ℕ) (r : Fields) → Named (event_in n r)
+unfolding event_in
+record_named n r =
+    by_cond Named (not (length r == 7)) (Err FieldCount) _ tt (behind IsNamed (event_by (field r 0) r) _ (λ e is.
+    by_cond Named (nat_le most_events n) (Err TooMany) (Ok e) tt (subst Named is (kind_named (field r 0) r))))
+
+-- ---- all records
+
+added_named : (before : List Event) (x : Result Event LogCause) → Named x → All IsNamed before
+    → AllNamed (added before x)
+added_named before (Ok e) h all = All-append IsNamed before (e ∷ []) all (All-cons IsNamed e [] h (All-nil IsNamed))
+added_named before (Err d) h all = tt
+
+rows_named : (before : List Event) (rs : List Fields) → All IsNamed before → AllNamed (events_in before rs)
+unfolding events_in
+rows_named before [] all = all
+rows_named before (r ∷ rs) all =
+    behind (All IsNamed) (added before (event_in (length before) r)) _ (λ es is. rows_named es rs
+    (subst AllNamed is (added_named before (event_in (length before) r) (record_named (length before) r) all)))
+
+all_named : (rs : List Fields) → AllNamed (events_by rs)
+unfolding events_by
+all_named [] = tt
+all_named (r ∷ rs) = by_cond AllNamed (is_header r) _ (Err header_fault) (rows_named [] rs (All-nil IsNamed)) tt
 
 map_named : (es : List Event) → All IsNamed es → All HasShortName (map event_of es)
 map_named [] h = All-nil HasShortName
@@ -168,4 +142,4 @@ map_named (e ∷ es) h = All-cons HasShortName (event_of e) (map event_of es) (A
     (map_named es (All-tail IsNamed e es h))
 
 pub log_named : (bytes : List ℕ) (es : List Event) → events_of bytes ≡ Ok es → All HasShortName (map event_of es)
-log_named bytes es is = map_named es (all_named (records_of bytes) es is)
+log_named bytes es is = map_named es (subst AllNamed is (all_named (records_of bytes)))
