@@ -62,13 +62,11 @@ number_printed text least most n fits e =
     go : (a b c : Bool) → is_number text ≡ a → ltb most (digits_value 10 text) ≡ c
         → ok_of (cond (not a) (Err NotNumber)
         (cond b (Err Below) (cond c (Err Above) (Ok (digits_value 10 text))))) ≡ Some n → decimal n ≡ text
-    go false b c p q e = absurd cc
-    go true true c p q e = absurd cc
-    go true false true p q e = absurd cc
     go true false false p q e =
         let same : digits_value 10 text ≡ n = cc in
         let high = ltb-false most (digits_value 10 text) q in
         ap decimal (sym same) ∙ numeral text p (omega arith)
+    go a b c p q e = absurd cc
 
 -- ---- pairs
 
@@ -77,15 +75,13 @@ unfolding pair_in
 pair_printed text p e = go (parts 58 text) refl e
   where
     go : (fields : List (List ℕ)) → parts 58 text ≡ fields → pair_by fields ≡ Some p → pair_text p ≡ text
-    go [] f e = absurd cc
-    go (a ∷ []) f e = absurd cc
     go (a ∷ b ∷ []) f e =
         let t = then_some (number_in a 0 last_second) _ p e in
         let c = map_some (number_in b 0 4294967295) _ p t.2 in
         let second = number_printed a 0 last_second t.0 (omega arith) t.1 in
         let cost = number_printed b 0 4294967295 c.0 (omega arith) c.1 in
         ap pair_text (sym c.2) ∙ rw (second, cost) (joined 58 text (a ∷ b ∷ []) f)
-    go (a ∷ b ∷ d ∷ ps) f e = absurd cc
+    go fields f e = absurd cc
 
 -- the parts behind a first one
 pub pairs_printed : (a : List ℕ) (ps : List (List ℕ)) (xs : List Pair) → pairs_in ps ≡ Some xs
@@ -164,25 +160,19 @@ unfolding state_in state_by
 state_printed line s e = go (parts 32 line) refl e
   where
     go : (fields : List (List ℕ)) → parts 32 line ≡ fields → state_by fields ≡ Some s → state_text s ≡ line
-    go [] f e = absurd cc
-    go (a ∷ []) f e = absurd cc
-    go (a ∷ b ∷ []) f e = absurd cc
-    go (a ∷ b ∷ d ∷ []) f e = absurd cc
     go (word ∷ stage ∷ pattern ∷ last ∷ pairs) f e =
         let o = passed_then _ _ s e in
         state_from_printed stage pattern last pairs s o.1
         ∙ ap (λ (w : List ℕ). w ++ 32 ∷ join_with_byte 32 (stage ∷ pattern ∷ last ∷ pairs))
         (sym (same_text word (codes "state") o.0))
         ∙ joined 32 line (word ∷ stage ∷ pattern ∷ last ∷ pairs) f
+    go fields f e = absurd cc
 
 pub landing_printed : (line : List ℕ) (l : List ℕ × ℕ) → landing_in line ≡ Some l → landing_text l ≡ line
 unfolding landing_in landing_by
 landing_printed line l e = go (parts 32 line) refl e
   where
     go : (fields : List (List ℕ)) → parts 32 line ≡ fields → landing_by fields ≡ Some l → landing_text l ≡ line
-    go [] f e = absurd cc
-    go (a ∷ []) f e = absurd cc
-    go (a ∷ b ∷ []) f e = absurd cc
     go (word ∷ name ∷ second ∷ []) f e =
         let o = passed_then (bytes_eq word (codes "land"))
         (option_and_then (λ c. option_map (λ t. (c, t)) (number_in second 0 last_second)) (callsign_in name)) l e in
@@ -195,15 +185,13 @@ landing_printed line l e = go (parts 32 line) refl e
         (number_printed second 0 last_second t.0 (omega arith) t.1)
         ∙ ap (λ (w : List ℕ). w ++ 32 ∷ (name ++ 32 ∷ second)) (sym (same_text word (codes "land") o.0))
         ∙ joined 32 line (word ∷ name ∷ second ∷ []) f
-    go (a ∷ b ∷ d ∷ g ∷ ps) f e = absurd cc
+    go fields f e = absurd cc
 
 pub claim_printed : (line : List ℕ) (c : Claim) → claim_in line ≡ Some c → claim_text c ≡ line
 unfolding claim_in claim_by
 claim_printed line c e = go (parts 32 line) refl e
   where
     go : (fields : List (List ℕ)) → parts 32 line ≡ fields → claim_by fields ≡ Some c → claim_text c ≡ line
-    go [] f e = absurd cc
-    go (a ∷ []) f e = absurd cc
     go (word ∷ kind ∷ []) f e =
         let o = cond_some (bytes_eq word (codes "claim") && bytes_eq kind (codes "infeasible")) Infeasible c e in
         let w = and_parts (bytes_eq word (codes "claim")) (bytes_eq kind (codes "infeasible")) o.0 in
@@ -225,4 +213,4 @@ claim_printed line c e = go (parts 32 line) refl e
         ∙ ap (λ (k : List ℕ). word ++ 32 ∷ (k ++ 32 ∷ decimal v.0)) (sym b)
         ∙ ap (λ (t : List ℕ). word ++ 32 ∷ (kind ++ 32 ∷ t)) n
         ∙ joined 32 line (word ∷ kind ∷ value ∷ []) f
-    go (a ∷ b ∷ d ∷ g ∷ ps) f e = absurd cc
+    go fields f e = absurd cc

@@ -50,14 +50,12 @@ number_range text least most n e =
     go : (a b c : Bool) → ltb (digits_value 10 text) least ≡ b → ltb most (digits_value 10 text) ≡ c
         → ok_of (cond a (Err NotNumber) (cond b (Err Below) (cond c (Err Above) (Ok (digits_value 10 text))))) ≡ Some n
         → (least ≤ n) × (n ≤ most)
-    go true b c p q e = absurd cc
-    go false true c p q e = absurd cc
-    go false false true p q e = absurd cc
     go false false false p q e =
         let same : digits_value 10 text ≡ n = cc in
         let low = ltb-false (digits_value 10 text) least p in
         let high = ltb-false most (digits_value 10 text) q in
         (omega arith, omega arith)
+    go a b c p q e = absurd cc
 
 pub pattern_size : (text : List ℕ) (ds : List Bool) → pattern_in text ≡ Some ds → is_pattern_length (length ds) ≡ true
 unfolding pattern_in
@@ -79,8 +77,6 @@ unfolding pair_in
 pair_range text p e = go (parts 58 text) e
   where
     go : (fields : List (List ℕ)) → pair_by fields ≡ Some p → is_pair p ≡ true
-    go [] e = absurd cc
-    go (a ∷ []) e = absurd cc
     go (a ∷ b ∷ []) e =
         let t = then_some (number_in a 0 last_second) _ p e in
         let c = map_some (number_in b 0 4294967295) _ p t.2 in
@@ -88,7 +84,7 @@ pair_range text p e = go (parts 58 text) e
         let cost = number_range b 0 4294967295 c.0 c.1 in
         subst (λ (q : Pair). is_pair q ≡ true) c.2
         (and_from _ _ (le-leb t.0 last_second second.1) (le-leb c.0 4294967295 cost.1))
-    go (a ∷ b ∷ d ∷ ps) e = absurd cc
+    go fields e = absurd cc
 
 pub pairs_range : (ps : List (List ℕ)) (xs : List Pair) → pairs_in ps ≡ Some xs → list_all is_pair xs ≡ true
 unfolding pairs_in
@@ -124,11 +120,8 @@ unfolding state_in state_by
 state_range line s e = go (parts 32 line) e
   where
     go : (fields : List (List ℕ)) → state_by fields ≡ Some s → IsState s
-    go [] e = absurd cc
-    go (a ∷ []) e = absurd cc
-    go (a ∷ b ∷ []) e = absurd cc
-    go (a ∷ b ∷ d ∷ []) e = absurd cc
     go (word ∷ stage ∷ pattern ∷ last ∷ pairs) e = state_from_range stage pattern last pairs s (passed_then _ _ s e).1
+    go fields e = absurd cc
 
 pub landing_range : (line : List ℕ) (l : List ℕ × ℕ) → landing_in line ≡ Some l
     → (is_callsign l.0 ≡ true) × (l.1 ≤ last_second)
@@ -136,9 +129,6 @@ unfolding landing_in landing_by
 landing_range line l e = go (parts 32 line) e
   where
     go : (fields : List (List ℕ)) → landing_by fields ≡ Some l → (is_callsign l.0 ≡ true) × (l.1 ≤ last_second)
-    go [] e = absurd cc
-    go (a ∷ []) e = absurd cc
-    go (a ∷ b ∷ []) e = absurd cc
     go (word ∷ name ∷ second ∷ []) e =
         let o = (passed_then _ _ l e).1 in
         let c = then_some (callsign_in name) _ l o in
@@ -147,7 +137,7 @@ landing_range line l e = go (parts 32 line) e
         let is : is_callsign c.0 ≡ true = subst (λ (x : List ℕ). is_callsign x ≡ true) n.1 n.0 in
         subst (λ (x : List ℕ × ℕ). (is_callsign x.0 ≡ true) × (x.1 ≤ last_second)) t.2
         (is, (number_range second 0 last_second t.0 t.1).1)
-    go (a ∷ b ∷ d ∷ f ∷ ps) e = absurd cc
+    go fields e = absurd cc
 
 -- ---- one more
 

@@ -21,10 +21,7 @@ use Rattle.csv_records.specs.Extent.{state_of, place_of, turn_by, turn_of, first
 -- a place inside a record
 abbrev pub is_inside : Place → Bool
 is_inside place.Between = false
-is_inside place.FieldStart = true
-is_inside place.Plain = true
-is_inside place.Quoted = true
-is_inside place.QuoteSeen = true
+is_inside p = true
 
 -- a step that goes on leaves a state that the place shows, and leaves no record; one that ends a field is at the next
 Shows : Place → State → Action → Type 0
@@ -39,10 +36,7 @@ ShowsStep p q = Shows p q.0 q.1
 shows : (p : Place) (c : ℕ) → ShowsStep p (step default_config (state_of p) c)
 unfolding ShowsStep Shows
 shows place.Between c = grind (arith, common_steps)
-shows place.FieldStart c = grind (arith, common_steps)
-shows place.Plain c = grind (arith, common_steps)
-shows place.Quoted c = grind (arith, common_steps)
-shows place.QuoteSeen c = grind (arith, common_steps)
+shows p c = grind (arith, common_steps)
 
 -- the first record is what is read of the text left, from a place inside or before it, behind so many fields
 abbrev pub IsAt : Option Read → Place → ℕ → List ℕ → Type 0
@@ -96,10 +90,7 @@ gives o p ended [] inside (fields, f, is, len) =
     at_end : (p : Place) → is_inside p ≡ true
         → next_record default_config (state_of p) fields f [] ≡ Some (fields ++ f ∷ [], st.StartRecord, [])
     at_end place.Between i = absurd (cc i)
-    at_end place.FieldStart i = refl
-    at_end place.Plain i = refl
-    at_end place.Quoted i = refl
-    at_end place.QuoteSeen i = refl
+    at_end p i = refl
 gives o p ended (c ∷ rest) inside at =
     by (turn_of (step default_config (state_of p) c)) (after o p ended c rest at)
     (λ next h. gives o next ended rest (h.1 inside) h.0) (λ h. gives o place.FieldStart (ended + 1) rest refl h)
@@ -161,14 +152,9 @@ at_end : (p : Place) (fields : Fields) (f : List ℕ) (q : Read)
     → next_record default_config (state_of p) fields f [] ≡ Some q → (length q.0 ≡ length fields + 1) × (q.2 ≡ [])
 unfolding next_record
 at_end place.Between fields f q e = let none : None ≡ Some q = e in absurd (cc none)
-at_end place.FieldStart fields f q e = let same =
-    same_Some (fields ++ f ∷ [], st.StartRecord, []) q e in rw (← same) (more fields f, refl)
-at_end place.Plain fields f q e = let same =
-    same_Some (fields ++ f ∷ [], st.StartRecord, []) q e in rw (← same) (more fields f, refl)
-at_end place.Quoted fields f q e = let same =
-    same_Some (fields ++ f ∷ [], st.StartRecord, []) q e in rw (← same) (more fields f, refl)
-at_end place.QuoteSeen fields f q e = let same =
-    same_Some (fields ++ f ∷ [], st.StartRecord, []) q e in rw (← same) (more fields f, refl)
+at_end p fields f q e =
+    let same = same_Some (fields ++ f ∷ [], st.StartRecord, []) q e in
+    rw (← same) (more fields f, refl)
 
 pub scan_over : (text : List ℕ) (p : Place) (most ended i : ℕ) → ended < most → i ≡ length text
     → IsScanned text p ended i → IsEnd most text (Some (length text))

@@ -23,13 +23,7 @@ Ends p = is_end p.1 ≡ true → Between p.0
 end_between : (s : State) (c : ℕ) → Ends (step default_config s c)
 unfolding Ends
 end_between st.StartRecord c = grind (arith, common_steps)
-end_between st.StartField c = grind (arith, common_steps)
-end_between st.InField c = grind (arith, common_steps)
-end_between st.InQuoted c = grind (arith, common_steps)
-end_between st.InEscape c = grind (arith, common_steps)
-end_between st.AfterQuote c = grind (arith, common_steps)
-end_between st.InComment c = grind (arith, common_steps)
-end_between st.AfterCr c = grind (arith, common_steps)
+end_between s c = grind (arith, common_steps)
 
 -- a record leaves the text between two records, and takes a byte of a text that has one
 takes : (s : State) (fields : Fields) (f xs : List ℕ) (q : Read) → next_record default_config s fields f xs ≡ Some q
@@ -89,12 +83,7 @@ unfolding next_record
 start_same st.StartRecord xs b = refl
 start_same st.AfterCr [] b = refl
 start_same st.AfterCr (c ∷ xs) b = grind (arith, common_steps)
-start_same st.StartField xs b = absurd (cc b)
-start_same st.InField xs b = absurd (cc b)
-start_same st.InQuoted xs b = absurd (cc b)
-start_same st.AfterQuote xs b = absurd (cc b)
-start_same st.InEscape xs b = absurd (cc b)
-start_same st.InComment xs b = absurd (cc b)
+start_same s xs b = absurd (cc b)
 
 -- the first record of a text is the first of those that are left
 pub first_left : (s : State) (xs : List ℕ) (q : Read) → Between s → first_of xs ≡ Some q

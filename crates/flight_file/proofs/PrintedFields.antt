@@ -15,7 +15,7 @@ use Rattle.cps_base.specs.Text.{is_callsign, is_callsign_byte}
 use Rattle.cps_base.specs.Number.{number_within}
 use Rattle.landing_rules.specs.Rules.{last_second}
 use Rattle.wake_table.specs.declared.category.Category.{Category}
-use Rattle.wake_table.specs.declared.category.Category.TheVariants.{A, B, C, D, E, F}
+use Rattle.wake_table.specs.declared.category.Category.TheVariants.{A}
 use Rattle.wake_table.specs.Letters.{letter, category_of}
 use Rattle.landing_windows.specs.Windows.{windows_of}
 use Rattle.landing_windows.specs.declared.windows.WindowFault.TheVariants.{TooMany}
@@ -70,19 +70,11 @@ number_read n least most h low top =
 
 pub category_read : (c : Category) → category_of (letter c ∷ []) ≡ Some c
 category_read A = refl
-category_read B = refl
-category_read C = refl
-category_read D = refl
-category_read E = refl
-category_read F = refl
+category_read c = refl
 
 pub high_letter : (c : Category) → 45 ≤ letter c
 high_letter A = omega arith
-high_letter B = omega arith
-high_letter C = omega arith
-high_letter D = omega arith
-high_letter E = omega arith
-high_letter F = omega arith
+high_letter c = omega arith
 
 -- ---- windows
 

@@ -24,41 +24,17 @@ use Rattle.traffic_gen.specs.Sample.{sample_table}
 pub few_apart : (a b : Category) → separation sample_table a b ≤ 180
 unfolding separation
 few_apart A A = omega arith
-few_apart A B = omega arith
-few_apart A C = omega arith
-few_apart A D = omega arith
-few_apart A E = omega arith
-few_apart A F = omega arith
+few_apart A b = omega arith
 few_apart B A = omega arith
-few_apart B B = omega arith
-few_apart B C = omega arith
-few_apart B D = omega arith
-few_apart B E = omega arith
-few_apart B F = omega arith
+few_apart B b = omega arith
 few_apart C A = omega arith
-few_apart C B = omega arith
-few_apart C C = omega arith
-few_apart C D = omega arith
-few_apart C E = omega arith
-few_apart C F = omega arith
+few_apart C b = omega arith
 few_apart D A = omega arith
-few_apart D B = omega arith
-few_apart D C = omega arith
-few_apart D D = omega arith
-few_apart D E = omega arith
-few_apart D F = omega arith
+few_apart D b = omega arith
 few_apart E A = omega arith
-few_apart E B = omega arith
-few_apart E C = omega arith
-few_apart E D = omega arith
-few_apart E E = omega arith
-few_apart E F = omega arith
+few_apart E b = omega arith
 few_apart F A = omega arith
-few_apart F B = omega arith
-few_apart F C = omega arith
-few_apart F D = omega arith
-few_apart F E = omega arith
-few_apart F F = omega arith
+few_apart F b = omega arith
 
 -- a flight that waits, was passed by none and lists none, within its one window
 pub record IsEasy (f : Landing) : Type 0 where

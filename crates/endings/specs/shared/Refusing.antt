@@ -12,8 +12,8 @@ use Rattle.situations.specs.Begun.{IsRefusedBy, opening_fault_of}
 use Rattle.endings.specs.Faults.{begin_ending, opening_ending}
 use Rattle.endings.specs.Refusing.{refusal_of, refused_by_three, Stops, StopsOpened}
 use Rattle.endings.specs.declared.ending.Ending.{Ending}
-use Rattle.endings.specs.declared.ending.Ending.TheVariants.{Answered, Misused, Refused, NotLoaded, NotWritten}
-use Rattle.endings.specs.declared.ending.Ending.TheVariants.{TooLong, NoMemory}
+use Rattle.endings.specs.declared.ending.Ending.TheVariants.{Refused}
+use Rattle.endings.specs.declared.ending.Ending.TheVariants.{NoMemory}
 use Rattle.endings.specs.declared.ending.FilesFault.{FilesFault}
 use Rattle.endings.specs.declared.ending.FilesFault.TheVariants.{Opening}
 
@@ -48,8 +48,4 @@ pub stops_by : (P Q : FilesFault → Type 0) (ending : Ending) → ((cause : Fil
     → Stops P ending → Stops Q ending
 stops_by P Q (Refused cause) follows stops = follows cause stops
 stops_by P Q NoMemory follows stops = tt
-stops_by P Q (Answered answer) follows stops = absurd stops
-stops_by P Q Misused follows stops = absurd stops
-stops_by P Q (NotLoaded place) follows stops = absurd stops
-stops_by P Q NotWritten follows stops = absurd stops
-stops_by P Q (TooLong place) follows stops = absurd stops
+stops_by P Q ending follows stops = absurd stops

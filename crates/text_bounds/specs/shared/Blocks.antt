@@ -1,13 +1,13 @@
 -- How long a plan block is.
 use Rattle.std.proofs.Common.{◌≡◌, ℕ, ◌+◌, ◌*◌, ◌≤◌, List, [], ◌∷◌, ◌++◌, length, true, false, Bool, Option, Some}
-use Rattle.std.proofs.Common.{None, inl, inr, refl, arith, ap}
-use Rattle.std.specs.Prelude.{decimal, codes, map, option_map, nat_lt}
-use Rattle.std.proofs.lemmas.List.{length-append, length-map}
+use Rattle.std.proofs.Common.{None, refl, arith, ap}
+use Rattle.std.specs.Prelude.{decimal, codes, map, option_map}
+use Rattle.std.proofs.lemmas.List.{length-append}
 use Rattle.landing_rules.specs.declared.objective.Objective.{Objective}
 use Rattle.landing_rules.specs.declared.objective.Objective.TheVariants.{Makespan, Delay}
-use Rattle.landing_rules.specs.Flights.{Active, Landing, Schedule, Situation, landings}
+use Rattle.landing_rules.specs.Flights.{Schedule}
 use Rattle.landing_rules.specs.Text.{ShownLanding, ShownPlan, block_lines, block_text, frozen_word, head_words}
-use Rattle.landing_rules.specs.Text.{landing_words, line, lines_text, objective_word, shown_landing, shown_plan}
+use Rattle.landing_rules.specs.Text.{landing_words, line, lines_text, objective_word, shown_plan}
 use Rattle.plan_file.specs.Printed.{AreReadable, IsReadable, ShownPlanIsReadableLaw}
 use Rattle.plan_file.specs.shared.Landings.{shown_few}
 use Rattle.text_bounds.specs.Blocks.{BlockIsBoundedLaw, block_bound}

@@ -15,16 +15,7 @@ record_line n words word part why =
 by_pieces : (n : List ℕ) (cause : FlightCause)
     → record_line n (cause_words cause) (cause_word cause) (cause_part cause) (cause_why cause) ≡ cause_line n cause
 by_pieces n flight.Header = refl
-by_pieces n flight.FieldCount = refl
-by_pieces n flight.Callsign = refl
-by_pieces n flight.Category = refl
-by_pieces n (flight.Eta fault) = refl
-by_pieces n (flight.Weight fault) = refl
-by_pieces n (flight.Windows cause) = refl
-by_pieces n (flight.After cause) = refl
-by_pieces n flight.Duplicate = refl
-by_pieces n flight.TooMany = refl
-by_pieces n flight.Memory = refl
+by_pieces n cause = refl
 
 named : (n m words word part why : List ℕ) (cause : FlightCause) → n ≡ m → words ≡ cause_words cause
     → word ≡ cause_word cause →

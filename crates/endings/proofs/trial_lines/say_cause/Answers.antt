@@ -14,12 +14,8 @@ start = codes "cps: trials: record "
 -- the line where no value is wrong
 plain : (n : ℕ) (words : List ℕ) (cause : TrialCause) → words ≡ trial_words cause →
     ((why : FieldCause) → cause ≡ trial.Value why → ⊥) → between_line start n words ≡ trial_line (decimal n) cause
-plain n words trial.Header is never = ap (between_line start n) is
-plain n words trial.FieldCount is never = ap (between_line start n) is
-plain n words trial.Kind is never = ap (between_line start n) is
 plain n words (trial.Value why) is never = absurd (never why refl)
-plain n words trial.TooMany is never = ap (between_line start n) is
-plain n words trial.Memory is never = ap (between_line start n) is
+plain n words cause is never = ap (between_line start n) is
 
 pub returns-in-Value : goal.returns-in-Value
 returns-in-Value g c = says _ _ _ _ _ (ap (trial_line (decimal c.args.number)) (sym c.in-Value.is)) c.say_value.ensures
