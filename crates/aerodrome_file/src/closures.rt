@@ -5,10 +5,10 @@ ghost use Rattle.cps_base.specs.Limits.{most_closures};
 ghost use Rattle.landing_rules.specs.Rules.{last_second};
 ghost use Rattle.aerodrome_file.specs.Closures.{are_tables, closure_in, closure_of, closures_from, closures_in};
 
-use cps_base::MOST_CLOSURES;
 use crate::fault::{AeroFault, Key, Part};
 use crate::keys::only;
 use crate::values::{at_most, get, integer_of, present};
+use cps_base::MOST_CLOSURES;
 use landing_windows::{ClosureFault, Closures, LAST_SECOND};
 use toml::{Table, Value};
 

@@ -7,7 +7,6 @@ ghost use Rattle.aerodrome_file.specs.Answers.{memory_fault, GivesTable};
 ghost use Rattle.arrivals.specs.Aerodromes.{IsInRange};
 ghost use Rattle.aerodrome_file.specs.Reading.{document, objective_in, aerodrome_in, aerodrome_of};
 
-use cps_base::LONGEST_FREEZE;
 use crate::closures::closures_in;
 use crate::fault::{AeroFault, Key};
 use crate::frozen::{clock_in, frozen_in};
@@ -16,6 +15,7 @@ use crate::separations::table_in;
 use crate::values::{get, number_in};
 use crate::version::version_in;
 use arrivals::{Aerodrome, is_beyond};
+use cps_base::LONGEST_FREEZE;
 use landing_rules::Objective;
 use std::alloc::Global;
 use toml::de::Error;

@@ -60,7 +60,8 @@ impl Bank {
         requires { (flight.eta ≤ last_second) × (flight.weight ≡ 1) × (flight.passed ≤ self.old.k) }
         ensures { self.new.k ≡ self.old.k }
     {
-        let is_last = self.waiting.len() < MOST_WAITING as usize && comes_last(&self.waiting, &flight);
+        let is_last = self.waiting.len() < MOST_WAITING as usize
+            && comes_last(&self.waiting, &flight);
         if !is_last {
             drop(flight);
             return Err(Fail::new("not behind the others"));

@@ -1,4 +1,9 @@
 // How a run ends where a file does not read, a put fails or memory runs out: each fault by itself, so that `?` passes it on.
+ghost use Rattle.std.specs.Prelude.{◌≡◌};
+ghost use Rattle.endings.specs.declared.ending.Ending.TheVariants.{NoMemory, NotWritten};
+ghost use Rattle.endings.specs.Faults.{aerodrome_ending, flights_ending, events_ending, certificate_ending, trials_ending};
+ghost use Rattle.endings.specs.Faults.{plan_ending, begin_ending};
+
 use crate::{Ending, FilesFault};
 use aerodrome_file::AeroFault;
 use certificate::CertFault;
@@ -11,9 +16,6 @@ use std::alloc::AllocError;
 use trial_file::{TrialCause, TrialFault};
 
 impl From<AllocError> for Ending {
-    ghost use Rattle.std.specs.Prelude.{◌≡◌};
-    ghost use Rattle.endings.specs.declared.ending.Ending.TheVariants.{NoMemory};
-
     ghost from_gives = { λ _ ending. ending ≡ NoMemory };
 
     fn from(_: AllocError) -> Self {
@@ -22,9 +24,6 @@ impl From<AllocError> for Ending {
 }
 
 impl From<WriteFailed> for Ending {
-    ghost use Rattle.std.specs.Prelude.{◌≡◌};
-    ghost use Rattle.endings.specs.declared.ending.Ending.TheVariants.{NotWritten};
-
     ghost from_gives = { λ _ ending. ending ≡ NotWritten };
 
     fn from(_: WriteFailed) -> Self {
@@ -33,9 +32,6 @@ impl From<WriteFailed> for Ending {
 }
 
 impl From<AeroFault> for Ending {
-    ghost use Rattle.std.specs.Prelude.{◌≡◌};
-    ghost use Rattle.endings.specs.Faults.{aerodrome_ending};
-
     ghost from_gives = { λ fault ending. ending ≡ aerodrome_ending fault };
 
     fn from(fault: AeroFault) -> Self {
@@ -47,9 +43,6 @@ impl From<AeroFault> for Ending {
 }
 
 impl From<FlightFault> for Ending {
-    ghost use Rattle.std.specs.Prelude.{◌≡◌};
-    ghost use Rattle.endings.specs.Faults.{flights_ending};
-
     ghost from_gives = { λ fault ending. ending ≡ flights_ending fault };
 
     fn from(fault: FlightFault) -> Self {
@@ -61,9 +54,6 @@ impl From<FlightFault> for Ending {
 }
 
 impl From<LogFault> for Ending {
-    ghost use Rattle.std.specs.Prelude.{◌≡◌};
-    ghost use Rattle.endings.specs.Faults.{events_ending};
-
     ghost from_gives = { λ fault ending. ending ≡ events_ending fault };
 
     fn from(fault: LogFault) -> Self {
@@ -75,9 +65,6 @@ impl From<LogFault> for Ending {
 }
 
 impl From<CertFault> for Ending {
-    ghost use Rattle.std.specs.Prelude.{◌≡◌};
-    ghost use Rattle.endings.specs.Faults.{certificate_ending};
-
     ghost from_gives = { λ fault ending. ending ≡ certificate_ending fault };
 
     fn from(fault: CertFault) -> Self {
@@ -89,9 +76,6 @@ impl From<CertFault> for Ending {
 }
 
 impl From<TrialFault> for Ending {
-    ghost use Rattle.std.specs.Prelude.{◌≡◌};
-    ghost use Rattle.endings.specs.Faults.{trials_ending};
-
     ghost from_gives = { λ fault ending. ending ≡ trials_ending fault };
 
     fn from(fault: TrialFault) -> Self {
@@ -103,9 +87,6 @@ impl From<TrialFault> for Ending {
 }
 
 impl From<PlanFault> for Ending {
-    ghost use Rattle.std.specs.Prelude.{◌≡◌};
-    ghost use Rattle.endings.specs.Faults.{plan_ending};
-
     ghost from_gives = { λ fault ending. ending ≡ plan_ending fault };
 
     fn from(fault: PlanFault) -> Self {
@@ -117,9 +98,6 @@ impl From<PlanFault> for Ending {
 }
 
 impl From<BeginFault> for Ending {
-    ghost use Rattle.std.specs.Prelude.{◌≡◌};
-    ghost use Rattle.endings.specs.Faults.{begin_ending};
-
     ghost from_gives = { λ fault ending. ending ≡ begin_ending fault };
 
     fn from(fault: BeginFault) -> Self {

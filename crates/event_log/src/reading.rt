@@ -6,10 +6,10 @@ ghost use Rattle.event_log.specs.Answers.{memory_fault};
 ghost use Rattle.arrivals.specs.Seen.{IsGood};
 ghost use Rattle.event_log.specs.Reading.{is_header, event_in, added, events_in, events_by, events_of};
 
-use cps_base::MOST_EVENTS;
 use crate::fault::{LogCause, LogFault};
 use crate::kinds::event_by;
 use arrivals::Event;
+use cps_base::MOST_EVENTS;
 use csv::ByteRecord;
 use csv_records::{Records, field};
 use std::alloc::Global;

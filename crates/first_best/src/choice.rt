@@ -14,13 +14,13 @@ ghost use Rattle.first_best.specs.Nodes.{node_at};
 ghost use Rattle.first_best.specs.Ranges.{HasRank, IsPlacedIn};
 ghost use Rattle.first_best.specs.Stages.{IsAheadWithin};
 
-use cps_base::MOST_WAITING;
 use crate::ahead::Ahead;
 use crate::budget::budget_of;
 use crate::laws::window_laws;
 use crate::node::{EarlyNode, leads_to};
 use crate::pairs::PairList;
 use crate::stage::StageAhead;
+use cps_base::MOST_WAITING;
 use cps_problem::{Problem, Schedule};
 use extract_plan::blank;
 use replan::AnyKept;

@@ -82,14 +82,7 @@ closure_short (Some (rules.CoversFrozen c t)) r h e =
 closure_short (Some rules.TooManyClosures) r h e =
     let v : refused.TooManyClosures ≡ r = cc in
     subst (λ (x : TrialRefusal). length (cause_words x) ≤ 30) v (h rules.TooManyClosures refl)
-closure_short (Some (rules.UnknownFlight c)) r h e = absurd (cc e)
-closure_short (Some (rules.Duplicate c)) r h e = absurd (cc e)
-closure_short (Some (rules.PredecessorOfFrozen c)) r h e = absurd (cc e)
-closure_short (Some (rules.Frozen t)) r h e = absurd (cc e)
-closure_short (Some (rules.ClockBack t)) r h e = absurd (cc e)
-closure_short (Some rules.TooManyFlights) r h e = absurd (cc e)
-closure_short (Some rules.TooManyWaiting) r h e = absurd (cc e)
-closure_short (Some rules.UnknownClosure) r h e = absurd (cc e)
+closure_short (Some other) r h e = absurd (cc e)
 
 -- ---- outcomes
 

@@ -19,7 +19,7 @@ pub padded_one_more : (xs : List Span) (p : Span) → length xs < most_closures
 padded_one_more xs p h =
     let room : most_closures - length xs ≡ suc (most_closures - 1 - length xs) = omega arith in
     let behind : most_closures - length (xs ++ p ∷ []) ≡ most_closures - 1 - length xs =
-        omega (arith, length-append xs (p ∷ [])) in
+    omega (arith, length-append xs (p ∷ [])) in
     rw (room, behind) (set-append_seam xs (0, 0) (replicate (most_closures - 1 - length xs) (0, 0)) p
     ∙ sym (append_assoc xs (p ∷ []) (replicate (most_closures - 1 - length xs) (0, 0))))
 

@@ -6,8 +6,8 @@ ghost use Rattle.cps_base.specs.Limits.{most_closures};
 ghost use Rattle.landing_rules.specs.Rules.{last_second};
 ghost use Rattle.landing_windows.specs.Closed.{IsClosure, adding};
 
-use std::marker::Model;
 use cps_base::MOST_CLOSURES;
+use std::marker::Model;
 
 /// Why a closure is not added.
 #[derive(Clone, Copy, Debug, PartialEq, Eq)]

@@ -11,8 +11,8 @@ ghost use Rattle.landing_windows.specs.Windows.{
   windows_of,
 };
 
-use std::marker::Model;
 use cps_base::MOST_OPEN_SECONDS;
+use std::marker::Model;
 
 /// The last second of the two days that a schedule may use. Seconds count from 0.
 pub const LAST_SECOND: u32 = 172_799;

@@ -5,8 +5,8 @@ ghost use Rattle.cps_base.specs.Tally.{raised_by};
 ghost use Rattle.cps_network.specs.Due.{HasCandidates, HasCandidatesFrom};
 ghost use Rattle.replan.specs.Stages.{AreStages};
 
-use crate::hints::Hints;
 use crate::held::Begun;
+use crate::hints::Hints;
 use crate::planning::Planning;
 use crate::stages::{LabelledStage, candidates_after};
 use cps_base::{Ledger, Steps};

@@ -8,8 +8,8 @@
 mod any_kept;
 mod bound;
 mod filling;
-mod hints;
 mod held;
+mod hints;
 mod kept;
 mod labels;
 mod least;

@@ -193,17 +193,8 @@ refused_by (Some answer) old new i e P never plans written =
     record { answer = Some answer; plans = plans; written = written }
 
 none_is_memory : (fault : refusals.Refusal) → refusal_of fault ≡ None → fault ≡ refusal.Memory
-none_is_memory (refusal.UnknownFlight c) e = cc
-none_is_memory (refusal.Frozen second) e = cc
-none_is_memory (refusal.Duplicate c) e = cc
-none_is_memory refusal.TooManyFlights e = cc
-none_is_memory refusal.TooManyWaiting e = cc
-none_is_memory (refusal.PredecessorOfFrozen c) e = cc
-none_is_memory (refusal.CoversFrozen c second) e = cc
-none_is_memory refusal.TooManyClosures e = cc
-none_is_memory refusal.UnknownClosure e = cc
-none_is_memory (refusal.ClockBack second) e = cc
 none_is_memory refusal.Memory e = refl
+none_is_memory fault e = cc
 
 -- what was written of the line of a refused event
 pub refused_step : (fault : refusals.Refusal) (old new : Standing AnyKept) (i : ℕ) (e : Event) (P : Bytes

@@ -1,7 +1,5 @@
 -- What is asked of each kind of event: the callsigns that the events of a log name are short, and so is the cause of
 -- each refusal.
-use of each
--- refusal.
 use Rattle.std.proofs.Common.{◌≡◌, ℕ, ◌≤◌, inl, inr, List, [], ◌∷◌, length, map, true, false, Bool, cond, Result, Ok}
 use Rattle.std.proofs.Common.{Err, subst, ◌++◌, Option, Some, None, arith}
 use Rattle.std.specs.Prelude.{All, codes, bytes_eq, nat_le, not, ◌==◌, IsTrue, decimal, find, option_map, nat_lt, IfOk}
@@ -154,20 +152,15 @@ abbrev IsShort : Refusal → Type 0
 IsShort (UnknownFlight c) = length c ≤ 8
 IsShort (Frozen t) = t ≤ last_second
 IsShort (Duplicate c) = length c ≤ 8
-IsShort TooManyFlights = Unit {0}
-IsShort TooManyWaiting = Unit {0}
 IsShort (PredecessorOfFrozen c) = length c ≤ 8
 IsShort (CoversFrozen c t) = (length c ≤ 8) × (t ≤ last_second)
-IsShort TooManyClosures = Unit {0}
-IsShort UnknownClosure = Unit {0}
 IsShort (ClockBack t) = t ≤ last_second
+IsShort r = Unit {0}
 
 cause_short : (r : Refusal) → IsShort r → length (cause r) ≤ 30
 cause_short (UnknownFlight c) h = omega (arith, h)
 cause_short (Frozen t) h = let a = second_short t h in omega (arith, a)
 cause_short (Duplicate c) h = omega (arith, h)
-cause_short TooManyFlights h = omega arith
-cause_short TooManyWaiting h = omega arith
 cause_short (PredecessorOfFrozen c) h = omega (arith, h)
 cause_short (CoversFrozen c t) h =
     let a = second_short t h.1 in
@@ -175,9 +168,8 @@ cause_short (CoversFrozen c t) h =
     let d = length-append (c ++ codes " ") (decimal t) in
     let e = h.0 in
     omega (arith, a, b, d, e)
-cause_short TooManyClosures h = omega arith
-cause_short UnknownClosure h = omega arith
 cause_short (ClockBack t) h = let a = second_short t h in omega (arith, a)
+cause_short r h = omega arith
 
 module _ (s : Situation) (sound : IsSound s) where
   pub active_name : (a : Active) → Member a s.active → length a.flight.callsign ≤ 8

@@ -39,8 +39,8 @@ returns-in_err-first-clause-span c =
     let none : find (λ w. nat_le t w.1) xs ≡ None = search (rules) in
     subst (SpanFrom (opens xs) t) (sym c.from_residual.ensures) (λ u from. none_open t u xs none from)
 
-pub returns-clause-span : goal.returns-clause-span
-returns-clause-span c =
+pub returns : goal.returns
+returns c =
     let t = c.args.t in
     let xs = c.args.self.now in
     let x = c.in_ok-first.field-0.now in
@@ -48,19 +48,13 @@ returns-clause-span c =
     (YieldsList-from_slice xs (cc)) (λ x b q k. search (rules, tests)) in
     let first : find (λ w. nat_le t w.1) xs ≡ Some x = search (rules) in
     let maximal : AreMaximal xs = search (rules) in
-    let rest = from_found t 0 xs x maximal first in (
-      least_within xs (x ∷ rest.0) x t c.max.result rest.1 (maximal_in_order (x ∷ rest.0) rest.2)
-          (omega arith) rest.3 c.max.ensures,
-      stops_after xs (x ∷ rest.0) x t c.max.result rest.1 rest.2 (omega arith) rest.3 c.max.ensures,
-    )
-
-pub returns-clause-in_days : goal.returns-clause-in_days
-returns-clause-in_days c =
-    let t = c.args.t in
-    let xs = c.args.self.now in
-    let x = c.in_ok-first.field-0.now in
-    let found = find_from_yields_List (λ w. nat_le t w.1) _ _ c.find.result c.find.ensures.ran
-    (YieldsList-from_slice xs (cc)) (λ x b q k. search (rules, tests)) in
-    let first : find (λ w. nat_le t w.1) xs ≡ Some x = search (rules) in
-    let maximal : AreMaximal xs = search (rules) in
-    (from_found t 0 xs x maximal first).2.2
+    let rest = from_found t 0 xs x maximal first in
+    record {
+      span = (
+        least_within xs (x ∷ rest.0) x t c.max.result rest.1 (maximal_in_order (x ∷ rest.0) rest.2)
+            (omega arith) rest.3 c.max.ensures,
+        stops_after xs (x ∷ rest.0) x t c.max.result rest.1 rest.2 (omega arith) rest.3 c.max.ensures,
+      );
+      in_days = rest.2.2;
+      spans = maximal;
+    }
