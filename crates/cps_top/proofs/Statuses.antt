@@ -2,8 +2,7 @@
 use Rattle.std.proofs.Common.{◌≡◌, ◌≢◌, ◌≤◌, ◌+◌, ◌⊎◌, inl, inr, ℕ, List, [], ap, sym, subst, append-nil, take, drop}
 use Rattle.std.proofs.Common.{take-append-drop, arith}
 use Rattle.endings.specs.declared.ending.Answer.{Answer}
-use Rattle.endings.specs.declared.ending.Answer.TheVariants.{Scheduled, Infeasible, Certified, Accepted, Rejected}
-use Rattle.endings.specs.declared.ending.Answer.TheVariants.{Tried, Clean, Broken, Claimed}
+use Rattle.endings.specs.declared.ending.Answer.TheVariants.{Scheduled}
 use Rattle.endings.specs.declared.ending.Ending.{Ending}
 use Rattle.endings.specs.declared.ending.Ending.TheVariants.{Answered, Misused, Refused, NotLoaded, NotWritten}
 use Rattle.endings.specs.declared.ending.Ending.TheVariants.{TooLong, NoMemory}
@@ -30,14 +29,7 @@ IsOfRun status = (status ≢ 2) × (status ≢ 4) × (status ≢ 6)
 
 answers : (answer : Answer) → IsOfRun (answer_status answer)
 answers Scheduled = (λ e. omega arith, λ e. omega arith, λ e. omega arith)
-answers Infeasible = (λ e. omega arith, λ e. omega arith, λ e. omega arith)
-answers Certified = (λ e. omega arith, λ e. omega arith, λ e. omega arith)
-answers Accepted = (λ e. omega arith, λ e. omega arith, λ e. omega arith)
-answers Rejected = (λ e. omega arith, λ e. omega arith, λ e. omega arith)
-answers Tried = (λ e. omega arith, λ e. omega arith, λ e. omega arith)
-answers Clean = (λ e. omega arith, λ e. omega arith, λ e. omega arith)
-answers Broken = (λ e. omega arith, λ e. omega arith, λ e. omega arith)
-answers Claimed = (λ e. omega arith, λ e. omega arith, λ e. omega arith)
+answers answer = (λ e. omega arith, λ e. omega arith, λ e. omega arith)
 
 ran : (words : List (List ℕ)) (old new : Outside) (status : ℕ) (ending : Ending) → IsOfRun status
     → Serves words old new ending → Asks words old new status
