@@ -25,8 +25,8 @@ use Rattle.inquiry_commands.specs.Audit.{AuditIsBoundedLaw}
 use Rattle.cps_top.specs.declared.commands.Command.{Command}
 use Rattle.cps_top.specs.declared.commands.Command.TheVariants.{Plan, Replay, Certify, Check, Effort, Trial, First}
 use Rattle.cps_top.specs.declared.commands.Command.TheVariants.{WhatIf, Audit}
-use Rattle.cps_top.specs.Commands.{Admits, Begins, IsCommandInRange, Refuses, TextsAreBoundedLaw, command_of, file_count}
-use Rattle.cps_top.specs.Commands.{names_of, number_of, trial_by, trial_of}
+use Rattle.cps_top.specs.Commands.{Admits, Begins, IsCommandInRange, Refuses, TextsAreBoundedLaw, command_of}
+use Rattle.cps_top.specs.Commands.{file_count, names_of, number_of, trial_by, trial_of}
 
 -- ---- words
 
@@ -106,11 +106,11 @@ excludes Effort (a ∷ f ∷ e ∷ []) text answer refusal admits refuses =
 excludes Check (a ∷ f ∷ c ∷ []) text answer refusal admits refuses =
     none-some _ (sym (not_unchecked a f c admits.verdict admits.judges) ∙ refuses)
 excludes WhatIf (a ∷ f ∷ t ∷ []) text answer refusal admits refuses =
-    none-some _ (sym (refused_as_read fault.Trials _ _ _ _ _ _ admits.aerodrome_read admits.flights_read admits.trials_read
-    ∙ admits.tried.taken) ∙ refuses)
+    none-some _ (sym (refused_as_read fault.Trials _ _ _ _ _ _ admits.aerodrome_read admits.flights_read
+    admits.trials_read ∙ admits.tried.taken) ∙ refuses)
 excludes Audit (a ∷ f ∷ p ∷ []) text answer refusal admits refuses =
-    none-some _ (sym (refused_as_read fault.Plan _ _ _ _ _ _ admits.aerodrome_read admits.flights_read admits.plan_read
-    ∙ admits.audited.taken) ∙ refuses)
+    none-some _ (sym (refused_as_read fault.Plan _ _ _ _ _ _ admits.aerodrome_read admits.flights_read
+    admits.plan_read ∙ admits.audited.taken) ∙ refuses)
 excludes command contents text answer refusal admits refuses = absurd refuses
 
 -- nor are they refused where a text was begun
