@@ -10,7 +10,8 @@ use Rattle.replan.specs.Stages.{LabelledStage, no_stage, stage_at, AreStages, Hi
 use Rattle.replan.specs.Stages.{AreHints}
 
 -- they are whole as said
-pub hints_of_stages : (p : Problem) (stages : List LabelledStage) → AreStages p stages → AreHints p (map without_pairs stages)
+pub hints_of_stages : (p : Problem) (stages : List LabelledStage) → AreStages p stages
+    → AreHints p (map without_pairs stages)
 hints_of_stages p stages is i lt said =
     let here : i + 1 < length stages = omega (arith, lt, length-map stages without_pairs) in
     let at = get_or-map without_pairs stages (i + 1) no_stage (without_pairs no_stage) here in

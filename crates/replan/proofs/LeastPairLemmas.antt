@@ -35,8 +35,8 @@ min_none a b e = grind (arith, e)
 min_is : (a b : ℕ) → (min a b ≡ a) × (a ≤ b) ⊎ (min a b ≡ b) × (b ≤ a)
 min_is a b = grind arith
 
--- of a part of the pairs, the second or the cost: so far no window has a lesser one than its node, and each node has that
--- of one of its windows
+-- of a part of the pairs, the second or the cost: so far no window has a lesser one than its node, and each node has
+-- that of one of its windows
 module _ (lists : List (List Pair)) (places firsts : List ℕ) (part : Pair → ℕ) where
   abbrev IsLow : ℕ → List Pair → Type 0
   IsLow count least = (i : ℕ) → i < count

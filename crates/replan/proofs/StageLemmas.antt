@@ -150,18 +150,12 @@ pub due_none : (first : ℕ) (p : Problem) (n : ℕ) (o : Option ℕ) → n < fi
     → (due : ℕ) × HasCandidatesFrom first p n due × (o ≡ raised_by due o)
 due_none first p n o below fits = (0, none_from first p n below, raised_by_none o fits)
 
--- one stage more, from a number on
-pub due_more : (first : ℕ) (p : Problem) (i : ℕ) (o r s : Option ℕ) → first ≤ i → 0 < i
-    → (due : ℕ) × HasCandidatesFrom first p (i - 1) due × (r ≡ raised_by due o) → (count : ℕ)
-    × HasCandidates p (i - 1) count × (s ≡ raised_by count r)
-    → (due : ℕ) × HasCandidatesFrom first p (i + 1 - 1) due × (s ≡ raised_by due o)
-due_more first p i o r s le some (due, from, e) (count, has, f) =
-    let n : suc (i - 1) ≡ i + 1 - 1 = omega arith in (
-      due + count,
-      subst (λ (m : ℕ). HasCandidatesFrom first p m (due + count)) n
-          (more_from first p (i - 1) due count (omega arith) from has),
-      f ∙ ap (raised_by count) e ∙ raised_more o due count,
-    )
+-- one stage alone
+pub due_of_one : (p : Problem) (i count : ℕ) → 0 < i → HasCandidates p (i - 1) count → HasCandidatesFrom i p i count
+due_of_one p i count some has =
+    subst (λ (n : ℕ). HasCandidatesFrom i p n count) {x = suc (i - 1)} {y = i} (omega arith)
+    (subst (HasCandidatesFrom i p (suc (i - 1))) {x = 0 + count} {y = count} (omega arith)
+    (more_from i p (i - 1) 0 count (omega arith) (none_from i p (i - 1) (omega arith)) has))
 
 -- no stage is counted where the last is before the first
 none_upto : (first : ℕ) (p : Problem) (n total : ℕ) → n < first → HasCandidatesFrom first p n total → total ≡ 0
@@ -193,15 +187,12 @@ module _ (first many : ℕ) (p : Problem) (some : 0 < many) (le : first ≤ many
         rest) has)
   ]
 
-  pub due_joined : (more : ℕ) (o r s : Option ℕ) → many ≤ more
+  pub due_joined : (n : ℕ) (o r s : Option ℕ) → many ≤ n + 1
       → (due : ℕ) × HasCandidatesFrom first p (many - 1) due × (r ≡ raised_by due o)
-      → (due : ℕ) × HasCandidatesFrom many p (more - 1) due × (s ≡ raised_by due r)
-      → (due : ℕ) × HasCandidatesFrom first p (more - 1) due × (s ≡ raised_by due o)
-  due_joined more o r s within (a, early, e) (b, late, f) = (
-    a + b,
-    joined (more - 1) a b (omega (arith, some, within)) early late,
-    f ∙ ap (raised_by b) e ∙ raised_more o a b,
-  )
+      → (due : ℕ) × HasCandidatesFrom many p n due × (s ≡ raised_by due r)
+      → (due : ℕ) × HasCandidatesFrom first p n due × (s ≡ raised_by due o)
+  due_joined n o r s within (a, early, e) (b, late, f) =
+      (a + b, joined n a b within early late, f ∙ ap (raised_by b) e ∙ raised_more o a b)
 
 -- ---- what is read of the stages
 

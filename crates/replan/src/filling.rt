@@ -2,7 +2,7 @@
 
 ghost use Rattle.std.specs.Prelude.{◌≡◌, ℕ, ◌+◌, ◌-◌, ◌*◌, ◌<◌, ◌≤◌, length, max, vec_len, OnOk};
 ghost use Rattle.cps_base.specs.Tally.{raised_by};
-ghost use Rattle.cps_network.specs.Due.{HasCandidates, HasCandidatesFrom};
+ghost use Rattle.cps_network.specs.Due.{HasCandidatesFrom};
 ghost use Rattle.replan.specs.Stages.{AreStages};
 
 use crate::held::Begun;
@@ -32,9 +32,9 @@ fn add_stage<const W: usize, R: Threads + Sync, G: Gate + Sync, L: Ledger>(
     requires number { vec_len begun.old.stages ≤ length planning.now.problem.now.flights }
     ensures held { OnOk result (AreStages planning.now.problem.now begun.new.stages.items) }
     ensures one { OnOk result (vec_len begun.new.stages ≡ vec_len begun.old.stages + 1) }
-    ensures steps { OnOk result ((count : ℕ) × HasCandidates planning.now.problem.now
-        (vec_len begun.old.stages - 1) count × (L.count steps.new ≡ raised_by count
-        (L.count steps.old))) }
+    ensures steps { OnOk result ((due : ℕ) × HasCandidatesFrom (vec_len begun.old.stages)
+        planning.now.problem.now (vec_len begun.old.stages) due
+        × (L.count steps.new ≡ raised_by due (L.count steps.old))) }
 {
     let mut stage = candidates_after(
         planning.alloc,

@@ -1,7 +1,7 @@
 use Rattle.std.proofs.Common.{◌≡◌, ◌-◌, ◌<◌, length, rules, arith, ◌∙◌, sym, ap}
 use Rattle.std.specs.Prelude.{vec_len}
 use Rattle.replan.specs.Stages.{stage_at}
-use Rattle.replan.proofs.StageLemmas.{held_at, read_stage, one_more, has_candidates}
+use Rattle.replan.proofs.StageLemmas.{due_of_one, held_at, read_stage, one_more, has_candidates}
 use Rattle.replan.proofs.filling.add_stage.Goals as goal
 
 pub candidates_after-requires : goal.candidates_after-requires
@@ -57,9 +57,10 @@ returns-clause-steps g c =
     let lt : length stages - 1 < length stages = omega (arith, long, c.requires.some) in
     let candidates = rw c.deref.ensures.value at c.in_ok-stage.ensures.candidates in (
       length c.in_ok-stage.stage.1,
-      has_candidates c.args.planning.now.problem.now (stage_at stages (length stages - 1)).stage c.in_ok-stage.stage
-          (vec_len c.args.begun.now.stages - 1)
+      due_of_one c.args.planning.now.problem.now (vec_len c.args.begun.now.stages) _ c.requires.some
+          (has_candidates c.args.planning.now.problem.now (stage_at stages (length stages - 1)).stage
+          c.in_ok-stage.stage (vec_len c.args.begun.now.stages - 1)
           (c.requires.held.number (length stages - 1) lt ∙ ap (λ n. n - 1) long)
-          (c.requires.held.held (length stages - 1) lt).held.landable candidates c.in_ok-stage.ensures.ascending,
+          (c.requires.held.held (length stages - 1) lt).held.landable candidates c.in_ok-stage.ensures.ascending),
       c.in_ok-labels.ensures.steps,
     )

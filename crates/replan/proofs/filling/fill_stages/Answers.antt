@@ -12,10 +12,11 @@ returns-clause-steps g c =
     let beside = c.in_ok-fill_beside.ensures in
     let late = c.in_ok-fill_upto-2.ensures in
     let some = c.requires.some in
-    let two = due_joined first _ p (omega (arith, some, early.many)) (omega (arith, early.many)) _ _ _ _ beside.more
-    early.steps beside.steps in
-    let all = due_joined first _ p (omega (arith, some, early.many, beside.more)) (omega (arith, early.many, beside.more))
-    _ _ _ _ (omega (arith, late.many)) two late.steps in (
+    let more = beside.more in
+    let two = due_joined first _ p (omega (arith, some, early.many)) (omega (arith, early.many)) _ _ _ _
+    (omega (arith, more)) early.steps beside.steps in
+    let all = due_joined first _ p (omega (arith, some, early.many, more)) (omega (arith, early.many, more)) _ _ _ _
+    (omega (arith, late.many)) two late.steps in (
       all.0,
       subst (λ (n : ℕ). HasCandidatesFrom first p n all.0)
           (omega (arith, late.many, beside.few, c.len.ensures)) all.1,

@@ -1,7 +1,7 @@
-use Rattle.std.proofs.Common.{◌≡◌, ℕ, ◌-◌, ◌<◌, ◌≤◌, length, rules, arith, subst}
+use Rattle.std.proofs.Common.{ℕ, ◌+◌, ◌-◌, ◌<◌, ◌≤◌, length, rules, arith, subst}
 use Rattle.std.specs.Prelude.{vec_len}
-use Rattle.cps_network.specs.Due.{HasCandidates}
-use Rattle.replan.proofs.StageLemmas.{due_more, due_none}
+use Rattle.cps_network.specs.Due.{HasCandidatesFrom}
+use Rattle.replan.proofs.StageLemmas.{due_joined, due_none}
 use Rattle.replan.proofs.filling.fill_upto.Goals as goal
 
 pub loop-stage-init : goal.loop-stage-init
@@ -28,12 +28,13 @@ pub loop-stage-preserved : goal.loop-stage-preserved
 loop-stage-preserved g c =
     let long = c.loop-stage.invariant.2 in
     let s = c.in_ok-add_stage.ensures.steps in
-    let e : vec_len c.loop-stage.begun.stages - 1 ≡ c.loop-stage._stage - 1 = omega (arith, long) in (
-      due_more _ c.args.planning.now.problem.now c.loop-stage._stage _ _ _
-          (omega (arith, c.loop-stage.auto, c.len-first.ensures))
-          (omega (arith, c.loop-stage.auto, c.len-first.ensures, c.requires.some))
-          c.loop-stage.invariant.0
-          (s.0, subst (λ (q : ℕ). HasCandidates c.args.planning.now.problem.now q s.0) e s.1, s.2),
+    let p = c.args.planning.now.problem.now in
+    let first = vec_len c.args.begun.now.stages in
+    let i = c.loop-stage._stage in
+    let all = due_joined first i p (omega (arith, c.loop-stage.auto, c.len-first.ensures, c.requires.some))
+    (omega (arith, c.loop-stage.auto, c.len-first.ensures)) i _ _ _ (omega arith) c.loop-stage.invariant.0
+    (s.0, subst (λ (q : ℕ). HasCandidatesFrom q p q s.0) long s.1, s.2) in (
+      (all.0, subst (λ (n : ℕ). HasCandidatesFrom first p n all.0) {x = i} {y = i + 1 - 1} (omega arith) all.1, all.2),
       c.in_ok-add_stage.ensures.held,
       omega (arith, c.in_ok-add_stage.ensures.one, long),
       omega (arith, c.loop-stage-test.true),
