@@ -135,7 +135,6 @@ fn file(contents: &[Vec<u8>], i: usize) -> &[u8]
 }
 
 // A command over the contents of its files.
-#[tactic(auto, using(crate::proofs::FilesOf::followed))]
 pub(crate) fn perform<R: Threads + Sync, S: Sink, G: Gate + Sync>(
     rt: &R,
     alloc: Global,
@@ -182,7 +181,6 @@ pub(crate) fn perform<R: Threads + Sync, S: Sink, G: Gate + Sync>(
 
 /// How many bytes each command prints at most, whole or until it stops early, by what its files hold (`most_bytes`). The
 /// call does nothing: it tells its caller the law.
-#[tactic(auto, using(crate::proofs::ByCommand::bounded))]
 pub fn texts_are_bounded()
     ensures { TextsAreBoundedLaw }
 {

@@ -128,7 +128,6 @@ pub fn run_audit<S: Sink>(
 
 /// How many bytes `audit` prints at most: 60 + 30n + 300m + 15m² for n flights and a plan file of m landing lines, which are at
 /// most 500. The call does nothing: it tells its caller the law.
-#[tactic(auto, using(crate::proofs::AuditTexts::audit_short))]
 pub fn audit_texts_are_bounded()
     ensures { AuditIsBoundedLaw }
 {}

@@ -108,7 +108,6 @@ pub fn what_if_text_is_one()
 }
 
 /// How many bytes `whatif` prints at most: 16 + 48t for t trials. The call does nothing: it tells its caller the law.
-#[tactic(auto, using(crate::proofs::WhatIfTexts::what_if_short))]
 pub fn what_if_texts_are_bounded()
     ensures { WhatIfIsBoundedLaw }
 {}
