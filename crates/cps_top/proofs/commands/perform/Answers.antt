@@ -47,4 +47,5 @@ returns-in-Audit g c =
 pub returns-in-Trial : goal.returns-in-Trial
 returns-in-Trial g c =
     followed vec_items c.args.contents.now c.args.command (Trial c.in-Trial.seed c.in-Trial.n c.in-Trial.k) _ _ _ _ _ _
-    c.in-Trial.is c.requires.count c.file-aerodrome.ensures c.file-flights.ensures c.file-third.ensures c.run_trial.ensures
+    c.in-Trial.is c.requires.count c.file-aerodrome.ensures c.file-flights.ensures c.file-third.ensures
+    c.run_trial.ensures
