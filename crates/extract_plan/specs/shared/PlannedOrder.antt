@@ -53,7 +53,8 @@ total_rises f g (r ∷ rs) h = let a = h r (inl refl) in let b = total_rises f g
 pub map_value_rises : (p : Problem) (t u : ℕ → ℕ) → ((r : ℕ) → IsRank (length p.flights) r → t r ≤ u r)
     → value_of_map p t ≤ value_of_map p u
 map_value_rises p t u h =
-    value_rises p (second_and_cost (cost_at p) (length p.flights) t) (second_and_cost (cost_at p) (length p.flights) u) (
+    value_rises p (second_and_cost (cost_at p) (length p.flights) t)
+    (second_and_cost (cost_at p) (length p.flights) u) (
       greatest_least t (length p.flights) (greatest u (length p.flights)) (λ r q. let a = h r q in let b =
           at_most_greatest u (length p.flights) r q in omega arith),
       total_rises (λ r. cost_at p r (t r)) (λ r. cost_at p r (u r)) (upto (length p.flights))
