@@ -2,7 +2,7 @@
 use Rattle.std.proofs.Common.{◌≡◌, ℕ, ◌-◌, ◌<◌, ◌≤◌, List, [], ◌∷◌, ◌++◌, length, length-append, drop, arith}
 use Rattle.std.proofs.Common.{inl, inr}
 use Rattle.std.proofs.lemmas.Bool.{cases_lt}
-use Rattle.std.proofs.lemmas.List.Elements.{All-nil, All-push, Contains-append_left, Contains-push}
+use Rattle.std.proofs.lemmas.List.Elements.{All-push, Contains-append_left, Contains-push}
 use Rattle.std.proofs.lemmas.List.Sorted.{All-permutation, Contains-permutation}
 use Rattle.std.specs.List.Sorted.{IsPermutation}
 use Rattle.std.specs.Prelude.{ℤ, All, Contains}
@@ -21,15 +21,6 @@ pub record AreGroupsUpto (p : Problem) (stage : ℕ) (before : List (List ℤ)) 
       → drop 1 (node_at before (from - 1)) ≡ drop 1 (node_at before from) → ⊥
   pub short : from ≤ length before
   pub few : length groups ≤ from
-
-pub no_groups : (p : Problem) (stage : ℕ) (before : List (List ℤ)) → AreGroupsUpto p stage before [] 0
-no_groups p stage before = record {
-  each = All-nil (IsGroupOf p stage before);
-  whole = λ i lt. absurd (omega (arith, lt));
-  begins = λ _ some. absurd (omega (arith, some));
-  short = omega arith;
-  few = omega arith;
-}
 
 pub more_groups : (p : Problem) (stage : ℕ) (before : List (List ℤ)) (groups : List Group) (group : Group)
     → AreGroupsUpto p stage before groups group.from → IsGroupOf p stage before group
@@ -55,8 +46,3 @@ AreGroupsOf-permutation p stage before groups sorted moved are = record {
   whole = λ i lt. let h : (h : Group) × Contains groups h × (h.from ≤ i) × (i < h.to) = are.whole i lt in
       (h.0, Contains-permutation groups sorted h.0 moved h.1, h.2, h.3);
 }
-
-pub all_groups : (p : Problem) (stage : ℕ) (before : List (List ℤ)) (groups : List Group) (from : ℕ)
-    → length before ≤ from → AreGroupsUpto p stage before groups from → AreGroupsOf p stage before groups
-all_groups p stage before groups from end are =
-    record { each = are.each; whole = λ i lt. are.whole i (omega (arith, lt, end)) }

@@ -1,15 +1,11 @@
 -- That windows which go on alike have the same successors.
-use Rattle.std.proofs.Common.{◌≡◌, ℕ, ◌+◌, ◌*◌, List, length, arith, ◌∙◌, subst}
-use Rattle.std.specs.Prelude.{ℤ, pos, Option, Some}
-use Rattle.std.specs.Option.{SomeIff}
+use Rattle.std.proofs.Common.{◌≡◌, ℕ, ◌+◌, ◌*◌, List, length, arith, ◌∙◌}
+use Rattle.std.specs.Prelude.{ℤ, pos}
 use Rattle.std.proofs.lemmas.Int.{ints}
 use Rattle.cps_nodes.specs.Leads.{GoOnAlike}
 use Rattle.cps_nodes.specs.Laws.{offset_after}
 use Rattle.landing_rules.specs.Problem.{Problem}
 use Rattle.cps_network.specs.Permits.{IsSuccessor}
-
-pub some_is : {T : Type 0} (r : Option T) (P : Type 0) (v x : T) → SomeIff r P v → r ≡ Some x → P × (x ≡ v)
-some_is {T} r P v x h e = subst (λ (q : Option T). SomeIff q P v) e h
 
 -- windows that go on alike have the same successors
 pub IsSuccessor-alike : (p : Problem) (stage : ℕ) (xs ys next : List ℤ) → length xs ≡ 2 * p.k + 1 → GoOnAlike xs ys

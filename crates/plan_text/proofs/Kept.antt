@@ -88,11 +88,6 @@ drop_grown zero t more le = refl
 drop_grown (suc h) [] more le = absurd (omega arith)
 drop_grown (suc h) (x ∷ xs) more le = drop_grown h xs more (omega arith)
 
-pub take_grown : (h : ℕ) (t more : List ℕ) → h ≤ length t → take h (t ++ more) ≡ take h t
-take_grown zero t more le = refl
-take_grown (suc h) [] more le = absurd (omega arith)
-take_grown (suc h) (x ∷ xs) more le = ap (λ l. x ∷ l) (take_grown h xs more (omega arith))
-
 pub length_behind : (h : ℕ) (t : List ℕ) → h ≤ length t → h + length (drop h t) ≡ length t
 length_behind zero t le = omega arith
 length_behind (suc h) [] le = absurd (omega arith)
