@@ -3,13 +3,15 @@ use crate::fields::{needed_number, number_at, text_at};
 use anyhow::{Result, bail};
 use toml::Table;
 
-const KEYS: [&str; 13] = [
+const KEYS: [&str; 14] = [
     // What the case shows.
     "shows",
     // The words of the command line, with a blank between any two.
     "words",
     // The files by their names.
     "files",
+    // The bytes that the output has room for, and that the standard error has.
+    "room",
     // The numbers, from 1, of the loads that fail.
     "failing_loads",
     // The numbers, from 1, of the puts to the output that fail, each with the bytes that it takes.

@@ -2,7 +2,7 @@
 ghost use Rattle.std.specs.Prelude.{◌≡◌, option_copied};
 
 use crate::cases::{Outcome, check_keys};
-use crate::fields::{needed_text, numbers_at, pairs_at};
+use crate::fields::{needed_text, number_at, numbers_at, pairs_at};
 use crate::files::files_of;
 use anyhow::{Result, bail};
 use cps_outside::FreeGate;
@@ -12,8 +12,8 @@ use std::thread::Threads;
 use toml::{Table, Value};
 use worked_runs::{MemoryRun, Outputs, failing_folder, failing_sink, run_in_memory};
 
-// The most bytes that a case writes.
-const ROOM: usize = 8_000_000;
+// The room of a case that asks for none: more bytes than any writes.
+const ROOM: u32 = 8_000_000;
 
 fn words_of(alloc: Global, case: &Table) -> Result<Vec<String>> {
     let mut words = Vec::new(alloc);
@@ -44,14 +44,15 @@ fn failing_run<R: Threads + Sync>(
     alloc: Global,
     words: &[String],
     files: Vec<(String, Vec<u8>)>,
+    room: usize,
     case: &Table,
 ) -> Result<MemoryRun> {
     let loads = numbers_at(alloc, case, "failing_loads")?;
     let puts = pairs_at(alloc, case, "failing_puts")?;
     let lines = pairs_at(alloc, case, "failing_lines")?;
     let mut folder = failing_folder(alloc, files, loads.as_slice())?;
-    let mut out = failing_sink(alloc, ROOM, puts.as_slice())?;
-    let mut err = failing_sink(alloc, ROOM, lines.as_slice())?;
+    let mut out = failing_sink(alloc, room, puts.as_slice())?;
+    let mut err = failing_sink(alloc, room, lines.as_slice())?;
     let status = run(rt, alloc, words, &mut folder, &mut out, &mut err, &FreeGate);
     Ok(MemoryRun {
         status,
@@ -95,10 +96,11 @@ pub(crate) fn is_as_shown<R: Threads + Sync>(
     check_keys(case)?;
     let words = words_of(alloc, case)?;
     let files = given_files(alloc, texts, case)?;
+    let room = number_at(case, "room")?.unwrap_or(ROOM) as usize;
     let run = if is_to_fail(case) {
-        failing_run(rt, alloc, words.as_slice(), files, case)?
+        failing_run(rt, alloc, words.as_slice(), files, room, case)?
     } else {
-        run_in_memory(rt, alloc, words.as_slice(), files, ROOM, &FreeGate)?
+        run_in_memory(rt, alloc, words.as_slice(), files, room, &FreeGate)?
     };
     Ok(is_outcome(&Outcome::of(case)?, &run))
 }

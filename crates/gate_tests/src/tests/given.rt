@@ -4,7 +4,7 @@ use cps_outside::Gate;
 use std::alloc::{AllocError, Global};
 use std::test::Fail;
 use std::thread::Threads;
-use worked_runs::{MemoryRun, run_in_memory};
+use worked_runs::run_in_memory;
 
 const TABLE: &str = "
 [table]
@@ -30,22 +30,6 @@ fn file(alloc: Global, name: &str, parts: &[&str]) -> Result<(String, Vec<u8>), 
     Ok((String::from_str(alloc, name)?, content))
 }
 
-// A run of these words over these files, with room for so many bytes.
-pub(crate) fn run_of<R: Threads + Sync, G: Gate + Sync>(
-    rt: &R,
-    alloc: Global,
-    words: &[&str],
-    files: Vec<(String, Vec<u8>)>,
-    room: usize,
-    gate: &G,
-) -> Result<MemoryRun, AllocError> {
-    let mut given = Vec::new(alloc);
-    for word in words {
-        given.push(String::from_str(alloc, word)?)?;
-    }
-    run_in_memory(rt, alloc, given.as_slice(), files, room, gate)
-}
-
 // The text that a run of these words prints over these files.
 pub(crate) fn text_of<R: Threads + Sync, G: Gate + Sync>(
     rt: &R,
@@ -54,7 +38,11 @@ pub(crate) fn text_of<R: Threads + Sync, G: Gate + Sync>(
     files: Vec<(String, Vec<u8>)>,
     gate: &G,
 ) -> Result<Vec<u8>, Fail> {
-    let run = run_of(rt, alloc, words, files, 1000, gate)?;
+    let mut given = Vec::new(alloc);
+    for word in words {
+        given.push(String::from_str(alloc, word)?)?;
+    }
+    let run = run_in_memory(rt, alloc, given.as_slice(), files, 1000, gate)?;
     if run.status != 0 {
         return Err(Fail::new("another status"));
     }
@@ -64,7 +52,7 @@ pub(crate) fn text_of<R: Threads + Sync, G: Gate + Sync>(
 }
 
 // Three flights that may be moved by one place, and a third file.
-pub(crate) fn three(
+fn three(
     alloc: Global,
     objective: &str,
     third: &str,
