@@ -1,7 +1,5 @@
 -- From the one verdict of a situation to the one text of `check`, and to its answer on what `certify` prints.
 use Rattle.std.proofs.Common.{◌≡◌, refl, ℕ, List, ap, subst, sym, ◌∙◌}
-use Rattle.std.specs.Result.{result_ok}
-use Rattle.std.proofs.lemmas.Option.{same_Some}
 use Rattle.arrivals.specs.declared.aerodrome.Aerodrome.{Aerodrome}
 use Rattle.arrivals.specs.declared.flight.Flight.{Flight}
 use Rattle.certificate.specs.declared.certificate.Claim.{Claim}
@@ -13,10 +11,11 @@ use Rattle.cert_check.specs.declared.verdict.Verdict.{Verdict}
 use Rattle.sequencer.specs.Opened.{opened}
 use Rattle.endings.specs.declared.ending.Answer.{Answer}
 use Rattle.endings.specs.declared.ending.Answer.TheVariants.{Accepted}
+use Rattle.endings.specs.declared.ending.FilesFault.TheVariants.{Certificate}
+use Rattle.endings.specs.shared.Files.{same_three, three_taken}
 use Rattle.certificate_commands.specs.Certify.{AdmitsCertify, PrintedIsAcceptedLaw}
 use Rattle.certificate_commands.specs.Check.{AdmitsCheck, CheckTextIsOneLaw, IsJudged, Judges}
 use Rattle.certificate_commands.specs.Verdicts.{answer_of_verdict, verdict_text}
-use Rattle.certificate_commands.specs.shared.Judged.{not_unchecked}
 
 -- a certificate is judged in one way for the files of one situation
 one_judged : OneVerdictLaw → (aerodrome : Aerodrome) (flights : List Flight) (c : Cert) (v w : Verdict)
@@ -28,15 +27,8 @@ one_judged law aerodrome flights c v w j k =
 -- and so are the bytes
 one_verdict : OneVerdictLaw → (a f c : List ℕ) (v w : Verdict) → Judges a f c v → Judges a f c w → v ≡ w
 one_verdict law a f c v w x y =
-    let aerodromes : y.aerodrome ≡ x.aerodrome =
-    same_Some _ _ (ap result_ok (sym y.aerodrome_read ∙ x.aerodrome_read)) in
-    let flights : y.flights ≡ x.flights = same_Some _ _ (ap result_ok (sym y.flights_read ∙ x.flights_read)) in
-    let certificates : y.certificate ≡ x.certificate =
-    same_Some _ _ (ap result_ok (sym y.certificate_read ∙ x.certificate_read)) in
-    let there = subst (λ (d : Cert). IsJudged x.aerodrome x.flights d w) certificates
-    (subst (λ (l : List Flight). IsJudged x.aerodrome l y.certificate w) flights
-    (subst (λ (b : Aerodrome). IsJudged b y.flights y.certificate w) aerodromes y.judged)) in
-    one_judged law x.aerodrome x.flights x.certificate v w x.judged there
+    let there = same_three _ a f c _ x _ y (λ b fs d. IsJudged b fs d w) y.holds in
+    one_judged law x.aerodrome x.flights x.third v w x.holds there
 
 pub text_is_one : OneVerdictLaw → CheckTextIsOneLaw
 text_is_one law a f c text other answer another x y =
@@ -51,29 +43,29 @@ accepted_answer claim.Infeasible = refl
 
 -- what `certify` printed `check` may accept
 may_accept : (a f text : List ℕ) (answer : Answer) (printed : AdmitsCertify a f text answer)
-    → AdmitsCheck a f text (verdict_text (claimed printed.certifies.certificate.claim)) Accepted
+    → AdmitsCheck a f text (verdict_text (claimed printed.holds.certificate.claim)) Accepted
 may_accept a f text answer printed = record {
-  verdict = claimed printed.certifies.certificate.claim;
+  verdict = claimed printed.holds.certificate.claim;
   judges = record {
     aerodrome = printed.aerodrome;
     flights = printed.flights;
-    certificate = printed.certifies.certificate;
+    third = printed.holds.certificate;
     aerodrome_read = printed.aerodrome_read;
     flights_read = printed.flights_read;
-    certificate_read = printed.certifies.reads;
-    judged = printed.certifies.certified.judged;
+    third_read = printed.holds.reads;
+    holds = printed.holds.certified.judged;
   };
   prints = refl;
-  answers = accepted_answer printed.certifies.certificate.claim;
+  answers = accepted_answer printed.holds.certificate.claim;
 }
 
 -- and in no other way
 pub printed_accepted : OneVerdictLaw → PrintedIsAcceptedLaw
 printed_accepted law a f text answer printed =
-    let line = verdict_text (claimed printed.certifies.certificate.claim) in
+    let line = verdict_text (claimed printed.holds.certificate.claim) in
     let there : AdmitsCheck a f text line Accepted = may_accept a f text answer printed in
     record {
-      taken = λ cause refused. let none = sym (not_unchecked a f text there.verdict there.judges) ∙ refused in cc none;
+      taken = λ cause. three_taken _ a f text _ there.judges Certificate cause there.judges.holds.taken;
       answered = λ other told. (
         λ here. text_is_one law a f text other line told Accepted here there,
         λ same. subst (λ (x : List ℕ). AdmitsCheck a f text x told) (sym same.0)

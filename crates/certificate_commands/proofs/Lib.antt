@@ -1,4 +1,3 @@
 pub mod Accepting
-pub mod Certified
 pub mod TextLaws
 pub mod TrueVerdicts

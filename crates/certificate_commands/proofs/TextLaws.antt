@@ -1,14 +1,12 @@
 -- From the clauses of printed certificates and verdicts to the laws of their texts.
-use Rattle.std.proofs.Common.{◌≡◌, ℕ, ◌+◌, ◌≤◌, inl, inr, List, [], ◌∷◌, ◌++◌, length, map, Ok, refl}
+use Rattle.std.proofs.Common.{◌≡◌, ℕ, ◌+◌, ◌≤◌, inl, inr, List, [], ◌∷◌, ◌++◌, length, map, refl}
 use Rattle.std.proofs.Common.{sym, ap, ap₂, subst, ◌∙◌, arith}
 use Rattle.std.specs.Prelude.{decimal, min}
 use Rattle.std.specs.Ordering.{is_lt}
-use Rattle.std.specs.Result.{result_ok}
 use Rattle.std.proofs.Math.Nat.{mul-le-mul_right}
 use Rattle.std.proofs.lemmas.Bool.{cases_Bool}
 use Rattle.std.proofs.lemmas.List.{length-append, length-map}
 use Rattle.std.proofs.lemmas.List.Sums.{count_by-le-length, length-filter}
-use Rattle.std.proofs.lemmas.Option.{same_Some}
 use Rattle.std.proofs.lemmas.Slice.Zip.{AllZip-long}
 use Rattle.landing_rules.specs.declared.objective.Objective.{Objective}
 use Rattle.landing_rules.specs.Flights.{Active, Situation, is_waiting, waiting}
@@ -19,7 +17,6 @@ use Rattle.landing_rules.specs.Problem.{IsProblemOf, IsWaitingOf, Problem, by_ra
 use Rattle.arrivals.specs.declared.aerodrome.Aerodrome.{Aerodrome}
 use Rattle.arrivals.specs.declared.flight.Flight.{Flight}
 use Rattle.arrivals.specs.Seen.{flight_of}
-use Rattle.flight_file.specs.Reading.{flights_of}
 use Rattle.certificate.specs.declared.certificate.Claim.{Claim}
 use Rattle.certificate.specs.declared.certificate.Claim.TheVariants as claim
 use Rattle.certificate.specs.States.{State}
@@ -42,7 +39,8 @@ use Rattle.text_bounds.specs.shared.Lengths.{rank_short, value_short}
 use Rattle.text_bounds.specs.shared.Reasons.{HasSmallNumbers, IsSmall, verdict_has_small_numbers}
 use Rattle.sequencer.specs.Opened.{opened, opening_of}
 use Rattle.endings.specs.declared.ending.Answer.{Answer}
-use Rattle.certificate_commands.specs.Certify.{AdmitsCertify, IsCertified}
+use Rattle.endings.specs.shared.Files.{of_two, same_two}
+use Rattle.certificate_commands.specs.Certify.{AdmitsCertify, Certifies, IsCertified}
 use Rattle.certificate_commands.specs.TextLaws.{CertifyIsBoundedLaw, CertifyIsLoadableLaw, CertifyTextsLaw}
 use Rattle.certificate_commands.specs.TextLaws.{CheckIsBoundedLaw, DifferInLandingsAlone}
 use Rattle.certificate_commands.specs.TextLaws.{certify_bound_of}
@@ -95,14 +93,10 @@ differ law aerodrome flights c d text other x y first second =
 
 pub certify_texts : OneStatesLaw → CertifyTextsLaw
 certify_texts law a f text other answer another x y =
-    let aerodromes : y.aerodrome ≡ x.aerodrome =
-    same_Some _ _ (ap result_ok (sym y.aerodrome_read ∙ x.aerodrome_read)) in
-    let flights : y.flights ≡ x.flights = same_Some _ _ (ap result_ok (sym y.flights_read ∙ x.flights_read)) in
-    let there = subst (λ (l : List Flight). IsCertified x.aerodrome l y.certifies.certificate) flights
-    (subst (λ (b : Aerodrome). IsCertified b y.flights y.certifies.certificate) aerodromes y.certifies.certified) in (
-      differ law x.aerodrome x.flights x.certifies.certificate y.certifies.certificate text
-          other x.certifies.certified there x.certifies.prints y.certifies.prints,
-      x.certifies.answers ∙ sym y.certifies.answers,
+    let there = same_two a f _ x _ y (λ b fs. Certifies b fs other another) y.holds in (
+      differ law x.aerodrome x.flights x.holds.certificate there.certificate text other
+          x.holds.certified there.certified x.holds.prints there.prints,
+      x.holds.answers ∙ sym there.answers,
     )
 
 -- ---- how long a certificate is
@@ -138,31 +132,30 @@ module _ (law : WholeCertificateIsBoundedLaw) (a f text : List ℕ) (answer : An
     (x : AdmitsCertify a f text answer) where
   short : length text ≤ whole_bound x.aerodrome.objective x.aerodrome.k (min most_waiting (length x.flights))
   short =
-      let judged = x.certifies.certified.judged in
+      let judged = x.holds.certified.judged in
       let s = opened x.aerodrome x.flights in
       let p = judged.problem in
-      let whole = law s p x.certifies.certificate judged.sound judged.problem_of judged.well_formed
-      judged.in_form x.certifies.certified.whole in
+      let whole = law s p x.holds.certificate judged.sound judged.problem_of judged.well_formed
+      judged.in_form x.holds.certified.whole in
       let waiting_few = few_waiting s p judged.problem_of in
       let all = length-map (map flight_of x.flights) (opening_flight (opening_of x.aerodrome)) in
       let each = length-map x.flights flight_of in
       let most = judged.well_formed.few_flights in
       let rises = bound_rises x.aerodrome.objective x.aerodrome.k (length p.flights)
       (min most_waiting (length x.flights)) (omega (arith, waiting_few, all, each, most)) in
-      let named : length (certificate_text x.certifies.certificate) ≤ whole_bound x.aerodrome.objective x.aerodrome.k
+      let named : length (certificate_text x.holds.certificate) ≤ whole_bound x.aerodrome.objective x.aerodrome.k
       (length p.flights) =
-      subst (λ (k : ℕ). length (certificate_text x.certifies.certificate) ≤ whole_bound x.aerodrome.objective k
+      subst (λ (k : ℕ). length (certificate_text x.holds.certificate) ≤ whole_bound x.aerodrome.objective k
       (length p.flights)) judged.problem_of.k
-      (subst (λ (o : Objective). length (certificate_text x.certifies.certificate) ≤ whole_bound o p.k
+      (subst (λ (o : Objective). length (certificate_text x.holds.certificate) ≤ whole_bound o p.k
       (length p.flights)) judged.problem_of.objective whole) in
-      let long = ap length x.certifies.prints in
+      let long = ap length x.holds.prints in
       omega (arith, named, rises, long)
 
 pub certify_short : WholeCertificateIsBoundedLaw → CertifyIsBoundedLaw
 certify_short law a f text answer x =
-    subst (λ r. length text ≤ certify_bound_of r (count_in (flights_of f))) (sym x.aerodrome_read)
-    (subst (λ r. length text ≤ certify_bound_of (Ok x.aerodrome) (count_in r)) (sym x.flights_read)
-    (short law a f text answer x))
+    of_two a f _ x (λ r q. length text ≤ certify_bound_of r (count_in q))
+    (short law a f text answer x)
 
 pub certify_loadable : WholeCertificateIsBoundedLaw → LoadableIsShortLaw → CertifyIsLoadableLaw
 certify_loadable law loads a f text answer x few =
@@ -206,9 +199,9 @@ verdict_short (verdict.Rejected r) h = reason_short r h
 
 pub check_short : CheckIsBoundedLaw
 check_short a f c text answer x =
-    let judged = x.judges.judged in
+    let judged = x.judges.holds in
     let small = subst IsSmall (sym judged.verdict_is)
-    (verdict_has_small_numbers judged.problem judged.well_formed x.judges.certificate judged.in_form) in
+    (verdict_has_small_numbers judged.problem judged.well_formed x.judges.third judged.in_form) in
     let line = verdict_short x.verdict small in
     let long = ap length x.prints in
     omega (arith, line, long)

@@ -2,9 +2,7 @@
 use Rattle.std.specs.Prelude.{◌≡◌, ◌↔◌, ℕ, List, Ok, Option}
 use Rattle.landing_rules.specs.Flights.{Schedule}
 use Rattle.arrivals.specs.declared.aerodrome.Aerodrome.{Aerodrome}
-use Rattle.aerodrome_file.specs.Reading.{aerodrome_of}
 use Rattle.arrivals.specs.declared.flight.Flight.{Flight}
-use Rattle.flight_file.specs.Reading.{flights_of}
 use Rattle.certificate.specs.declared.certificate.Claim.{Claim}
 use Rattle.certificate.specs.Reading.{Cert, certificate_of}
 use Rattle.certificate.specs.Spelling.{certificate_text}
@@ -17,6 +15,7 @@ use Rattle.endings.specs.declared.ending.Answer.{Answer}
 use Rattle.endings.specs.declared.ending.Answer.TheVariants.{Accepted, Certified}
 use Rattle.endings.specs.declared.ending.Ending.{Ending}
 use Rattle.endings.specs.declared.ending.FilesFault.{FilesFault}
+use Rattle.endings.specs.Files.{HoldsOfTwo}
 use Rattle.openings.specs.Follows.{FollowsAtOnce}
 use Rattle.openings.specs.Plan.{RefusesPlan}
 use Rattle.certificate_commands.specs.Check.{AdmitsCheck, IsJudged, RefusesCheck}
@@ -41,12 +40,8 @@ pub record Certifies (aerodrome : Aerodrome) (flights : List Flight) (text : Lis
   pub answers : answer ≡ Certified
 
 -- The files read as an aerodrome and flights, of which the text says so.
-pub record AdmitsCertify (aerodrome_bytes flight_bytes text : List ℕ) (answer : Answer) : Type 0 where
-  pub aerodrome : Aerodrome
-  pub flights : List Flight
-  pub aerodrome_read : aerodrome_of aerodrome_bytes ≡ Ok aerodrome
-  pub flights_read : flights_of flight_bytes ≡ Ok flights
-  pub certifies : Certifies aerodrome flights text answer
+abbrev pub AdmitsCertify : List ℕ → List ℕ → List ℕ → Answer → Type 0
+AdmitsCertify a f text answer = HoldsOfTwo a f (λ aerodrome flights. Certifies aerodrome flights text answer)
 
 -- what `certify` does, with this ending
 abbrev pub FollowsCertify : List ℕ → List ℕ → SinkState → SinkState → Ending → Type 0
@@ -62,4 +57,4 @@ pub record IsAccepted (aerodrome flights text : List ℕ) (claim : Claim) : Type
 abbrev pub PrintedIsAcceptedLaw : Type 0
 PrintedIsAcceptedLaw = (aerodrome flights text : List ℕ) (answer : Answer)
     (printed : AdmitsCertify aerodrome flights text answer) →
-    IsAccepted aerodrome flights text printed.certifies.certificate.claim
+    IsAccepted aerodrome flights text printed.holds.certificate.claim

@@ -1,5 +1,5 @@
 -- What `check` prints over the contents of its three files, and which it refuses.
-use Rattle.std.specs.Prelude.{◌≡◌, ℕ, List, Some, None, Ok}
+use Rattle.std.specs.Prelude.{◌≡◌, ℕ, List, Some, None}
 use Rattle.landing_rules.specs.Problem.{Problem, IsProblemOf}
 use Rattle.landing_rules.specs.Sound.{IsSound}
 use Rattle.cps_problem.specs.WellFormed.{IsWellFormed}
@@ -16,6 +16,7 @@ use Rattle.endings.specs.declared.ending.Answer.{Answer}
 use Rattle.endings.specs.declared.ending.Ending.{Ending}
 use Rattle.endings.specs.declared.ending.FilesFault.{FilesFault}
 use Rattle.endings.specs.declared.ending.FilesFault.TheVariants as refusal
+use Rattle.endings.specs.Files.{HoldsOfThree}
 use Rattle.endings.specs.Refusing.{refusal_of, refused_by_three, Stops}
 use Rattle.openings.specs.Follows.{FollowsAtOnce}
 use Rattle.certificate_commands.specs.Verdicts.{verdict_text, answer_of_verdict, IsTrueOf}
@@ -39,14 +40,9 @@ pub record IsJudged (aerodrome : Aerodrome) (flights : List Flight) (certificate
   pub in_form : IsCertificate certificate
 
 -- The files read as an aerodrome, flights and a certificate, with this verdict.
-pub record Judges (aerodrome_bytes flight_bytes certificate_bytes : List ℕ) (verdict : Verdict) : Type 0 where
-  pub aerodrome : Aerodrome
-  pub flights : List Flight
-  pub certificate : Cert
-  pub aerodrome_read : aerodrome_of aerodrome_bytes ≡ Ok aerodrome
-  pub flights_read : flights_of flight_bytes ≡ Ok flights
-  pub certificate_read : certificate_of certificate_bytes ≡ Ok certificate
-  pub judged : IsJudged aerodrome flights certificate verdict
+abbrev pub Judges : List ℕ → List ℕ → List ℕ → Verdict → Type 0
+Judges a f c verdict =
+    HoldsOfThree certificate_of a f c (λ aerodrome flights certificate. IsJudged aerodrome flights certificate verdict)
 
 -- The text is the line of that verdict.
 pub record AdmitsCheck (aerodrome flights certificate text : List ℕ) (answer : Answer) : Type 0 where

@@ -3,4 +3,3 @@ pub mod Certify
 pub mod Check
 pub mod TextLaws
 pub mod Verdicts
-pub mod shared

@@ -1,18 +1,19 @@
 // The picture of three files.
-ghost use Rattle.std.specs.Prelude.{◌∷◌, [], MatchResult};
+ghost use Rattle.std.specs.Prelude.{MatchResult};
 ghost use Rattle.arrivals.specs.Aerodromes.{IsInRange};
 ghost use Rattle.arrivals.specs.Flights.{AreArrivals};
 ghost use Rattle.plan_file.specs.Reading.{HasFewLines};
 ghost use Rattle.endings.specs.Refusing.{StopsOpened};
-ghost use Rattle.chart_main.specs.Drawings.{AreDrawn, IsDrawn, StopsFiles};
-ghost use Rattle.chart_main.specs.Outcomes.{Follows};
+ghost use Rattle.openings.specs.Follows.{FollowsAtOnce};
+ghost use Rattle.chart_main.specs.Drawings.{AreDrawn, IsDrawn, RefusesFiles, StopsFiles};
 
 use aerodrome_file::read_aerodrome;
 use arrivals::{Aerodrome, Flight};
 use chart::{append_picture, picture};
 use cps_outside::Sink;
-use endings::Ending;
+use endings::{Answer, Ending};
 use flight_file::read_flights;
+use openings::{Report, print_report};
 use plan_file::{PlanText, read_plan};
 use sequencer::opening;
 use std::alloc::Global;
@@ -23,18 +24,22 @@ fn draw_opened(
     aerodrome: Aerodrome,
     flights: Vec<Flight>,
     plan: &PlanText,
-) -> Result<Vec<u8>, Ending>
+) -> Result<Report, Ending>
     requires range { IsInRange aerodrome }
     requires read { AreArrivals flights.items }
     requires few { HasFewLines plan.now }
-    ensures { MatchResult result (λ text. IsDrawn aerodrome flights.items plan.now text.items)
+    ensures { MatchResult result
+        (λ r. IsDrawn aerodrome flights.items plan.now r.text.items r.answer)
         (StopsOpened aerodrome flights.items) }
 {
     let situation = opening(alloc, &aerodrome, flights.as_slice())?;
     let drawn = picture(alloc, &situation, plan)?;
     let mut text = Vec::new(alloc);
     append_picture(&drawn, &mut text)?;
-    Ok(text)
+    Ok(Report {
+        text,
+        answer: Answer::Drawn,
+    })
 }
 
 // The same for the bytes of the files.
@@ -43,8 +48,9 @@ fn draw_files(
     aerodrome: &[u8],
     flights: &[u8],
     plan: &[u8],
-) -> Result<Vec<u8>, Ending>
-    ensures { MatchResult result (λ text. AreDrawn aerodrome.now flights.now plan.now text.items)
+) -> Result<Report, Ending>
+    ensures { MatchResult result
+        (λ r. AreDrawn aerodrome.now flights.now plan.now r.text.items r.answer)
         (StopsFiles aerodrome.now flights.now plan.now) }
 {
     let aerodrome = read_aerodrome(alloc, aerodrome)?;
@@ -53,18 +59,18 @@ fn draw_files(
     draw_opened(alloc, aerodrome, flights, &plan)
 }
 
-// Writes the picture of the files.
-pub(crate) fn put_picture<S: Sink>(
+// Prints the picture of the files.
+pub(crate) fn print_picture<S: Sink>(
     alloc: Global,
     aerodrome: &[u8],
     flights: &[u8],
     plan: &[u8],
     out: &mut S,
-) -> Result<(), Ending>
-    ensures { Follows (aerodrome.now ∷ flights.now ∷ plan.now ∷ [])
+) -> Ending
+    ensures { FollowsAtOnce (AreDrawn aerodrome.now flights.now plan.now)
+        (RefusesFiles aerodrome.now flights.now plan.now)
         (S.state out.old) (S.state out.new) result }
 {
-    let text = draw_files(alloc, aerodrome, flights, plan)?;
-    out.put(text.as_slice())?;
-    Ok(())
+    let report = draw_files(alloc, aerodrome, flights, plan);
+    print_report(out, report)
 }

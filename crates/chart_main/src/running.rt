@@ -1,51 +1,29 @@
 // The program over any folder and sinks.
-ghost use Rattle.std.specs.Prelude.{◌≡◌, map, string_bytes};
-ghost use Rattle.chart_main.specs.Outcomes.{Ends, RunsTo, Tells, end_status};
+ghost use Rattle.std.specs.Prelude.{map, string_bytes};
+ghost use Rattle.chart_main.specs.Outcomes.{Ends, RunsTo};
 
-use crate::drawing::put_picture;
+use crate::drawing::print_picture;
 use cps_outside::{Folder, Sink};
 use endings::{Ending, load_all, say, status};
 use std::alloc::Global;
 
-fn draw<F: Folder, S: Sink>(
-    alloc: Global,
-    words: &[String],
-    folder: &mut F,
-    out: &mut S,
-) -> Result<(), Ending>
+fn draw<F: Folder, S: Sink>(alloc: Global, words: &[String], folder: &mut F, out: &mut S) -> Ending
     ensures { Ends (map string_bytes words.now)
         record { folder = F.state folder.old; out = S.state out.old }
         record { folder = F.state folder.new; out = S.state out.new } result }
 {
     if words.len() != 3 {
-        return Err(Ending::Misused);
+        return Ending::Misused;
     }
-    let contents = load_all(alloc, folder, words)?;
-    put_picture(
-        alloc,
-        contents[0].as_slice(),
-        contents[1].as_slice(),
-        contents[2].as_slice(),
-        out,
-    )
-}
-
-// The status of an end: 0 where the picture was written.
-fn status_by(end: &Result<(), Ending>) -> u8
-    ensures { result ≡ end_status end.now }
-{
-    match end {
-        Ok(()) => 0,
-        Err(ending) => status(ending),
-    }
-}
-
-// Writes the line of an end, and none where the picture was written.
-fn tell<E: Sink>(err: &mut E, end: &Result<(), Ending>)
-    ensures { Tells (E.state err.old) (E.state err.new) end.now }
-{
-    if let Err(ending) = end {
-        let _ = say(err, ending);
+    match load_all(alloc, folder, words) {
+        Err(ending) => ending,
+        Ok(contents) => print_picture(
+            alloc,
+            contents[0].as_slice(),
+            contents[1].as_slice(),
+            contents[2].as_slice(),
+            out,
+        ),
     }
 }
 
@@ -69,7 +47,7 @@ pub(crate) fn run<F: Folder, S: Sink, E: Sink>(
         record { folder = F.state folder.new; out = S.state out.new }
         (E.state err.old) (E.state err.new) result }
 {
-    let end = draw(alloc, words, folder, out);
-    tell(err, &end);
-    status_by(&end)
+    let ending = draw(alloc, words, folder, out);
+    let _ = say(err, &ending);
+    status(&ending)
 }

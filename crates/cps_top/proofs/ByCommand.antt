@@ -1,7 +1,7 @@
 -- What is proved command by command: it has as many files as its words name, with its numbers in their ranges; no files
 -- are both taken and refused; its texts have at most so many bytes.
 use Rattle.std.proofs.Common.{◌≡◌, ℕ, ◌≤◌, List, [], ◌∷◌, length, Bool, true, false, Option, Some, None}
-use Rattle.std.proofs.Common.{Result, Ok, Err, refl, sym, ap₂, subst, ◌∙◌, arith}
+use Rattle.std.proofs.Common.{Result, Ok, Err, refl, sym, subst, ◌∙◌, arith}
 use Rattle.std.specs.Prelude.{◌&&◌, ◌==◌, if◌then◌else◌}
 use Rattle.std.specs.Result.{result_ok}
 use Rattle.std.proofs.lemmas.Option.{none-some, same_Some}
@@ -9,16 +9,14 @@ use Rattle.cps_base.specs.Limits.{most_waiting}
 use Rattle.cps_base.specs.Number.{number_within}
 use Rattle.cps_base.specs.declared.number.NumberFault.{NumberFault}
 use Rattle.text_bounds.specs.shared.Numbers.{within}
-use Rattle.endings.specs.Refusing.{refused_by}
 use Rattle.endings.specs.declared.ending.Answer.{Answer}
 use Rattle.endings.specs.declared.ending.FilesFault.{FilesFault}
 use Rattle.endings.specs.declared.ending.FilesFault.TheVariants as fault
-use Rattle.endings.specs.shared.Refusing.{refused_as_read}
+use Rattle.endings.specs.shared.Files.{two_taken, three_taken}
 use Rattle.planning_commands.specs.TextLengths.{EffortTextIsBoundedLaw, PlanTextIsBoundedLaw, ReplayTextIsBoundedLaw}
 use Rattle.planning_commands.specs.TextLengths.{TrialTextIsBoundedLaw}
 use Rattle.planning_commands.specs.shared.Begun.{not_refused}
 use Rattle.certificate_commands.specs.TextLaws.{CertifyIsBoundedLaw, CheckIsBoundedLaw}
-use Rattle.certificate_commands.specs.shared.Judged.{not_unchecked}
 use Rattle.inquiry_commands.specs.First.{FirstIsBoundedLaw}
 use Rattle.inquiry_commands.specs.WhatIf.{WhatIfIsBoundedLaw}
 use Rattle.inquiry_commands.specs.Audit.{AuditIsBoundedLaw}
@@ -91,26 +89,21 @@ fits (word ∷ rest) c e = named_fits word rest c e
 pub excludes : (command : Command) (contents : List (List ℕ)) (text : List ℕ) (answer : Answer) (refusal : FilesFault)
     → Admits command contents text answer → Refuses command contents refusal → ⊥
 excludes Plan (a ∷ f ∷ []) text answer refusal admits refuses =
-    none-some _ (sym admits.shows.opened.taken ∙ ap₂ refused_by (sym admits.aerodrome_read) (sym admits.flights_read)
-    ∙ refuses)
+    two_taken a f _ admits refusal admits.holds.opened.taken refuses
 excludes First (a ∷ f ∷ []) text answer refusal admits refuses =
-    none-some _ (sym admits.shows.opened.taken ∙ ap₂ refused_by (sym admits.aerodrome_read) (sym admits.flights_read)
-    ∙ refuses)
+    two_taken a f _ admits refusal admits.holds.opened.taken refuses
 excludes Certify (a ∷ f ∷ []) text answer refusal admits refuses =
-    none-some _ (sym admits.certifies.certified.judged.taken
-    ∙ ap₂ refused_by (sym admits.aerodrome_read) (sym admits.flights_read) ∙ refuses)
+    two_taken a f _ admits refusal admits.holds.certified.judged.taken refuses
 excludes Replay (a ∷ f ∷ e ∷ []) text answer refusal admits refuses =
     none-some _ (sym (not_refused a f e admits.state admits.events admits.begun) ∙ refuses)
 excludes Effort (a ∷ f ∷ e ∷ []) text answer refusal admits refuses =
     none-some _ (sym (not_refused a f e admits.state admits.events admits.begun) ∙ refuses)
 excludes Check (a ∷ f ∷ c ∷ []) text answer refusal admits refuses =
-    none-some _ (sym (not_unchecked a f c admits.verdict admits.judges) ∙ refuses)
+    three_taken _ a f c _ admits.judges fault.Certificate refusal admits.judges.holds.taken refuses
 excludes WhatIf (a ∷ f ∷ t ∷ []) text answer refusal admits refuses =
-    none-some _ (sym (refused_as_read fault.Trials _ _ _ _ _ _ admits.aerodrome_read admits.flights_read
-    admits.trials_read ∙ admits.tried.taken) ∙ refuses)
+    three_taken _ a f t _ admits fault.Trials refusal admits.holds.0.taken refuses
 excludes Audit (a ∷ f ∷ p ∷ []) text answer refusal admits refuses =
-    none-some _ (sym (refused_as_read fault.Plan _ _ _ _ _ _ admits.aerodrome_read admits.flights_read
-    admits.plan_read ∙ admits.audited.taken) ∙ refuses)
+    three_taken _ a f p _ admits fault.Plan refusal admits.holds.taken refuses
 excludes command contents text answer refusal admits refuses = absurd refuses
 
 -- nor are they refused where a text was begun

@@ -19,4 +19,4 @@ PrintedRunsAcceptedLaw = (words : List (List ℕ)) (old new : Outside) (status :
     →
     Completes words old new status → (Rose old.folder.faults new.folder.faults → ⊥)
     → (Rose old.out.faults new.out.faults → ⊥) →
-    (status ≡ 8) ⊎ ((status ≡ 0) × Grows old.out new.out (verdict_text (claimed printed.certifies.certificate.claim)))
+    (status ≡ 8) ⊎ ((status ≡ 0) × Grows old.out new.out (verdict_text (claimed printed.holds.certificate.claim)))

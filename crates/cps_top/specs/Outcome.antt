@@ -3,7 +3,7 @@ use Rattle.std.specs.Prelude.{◌≡◌, ◌⊎◌, ℕ, List, Some, None}
 use Rattle.cps_outside.specs.FolderState.{FolderState}
 use Rattle.cps_outside.specs.SinkState.{SinkState}
 use Rattle.cps_top.specs.declared.commands.Command.{Command}
-use Rattle.endings.specs.Lines.{Says, status_of, line_of}
+use Rattle.endings.specs.Lines.{KeepsQuiet, Says, status_of, line_of}
 use Rattle.endings.specs.Loads.{Loads, FailsAt, IsTooLongAt, AsksForSome}
 use Rattle.endings.specs.Outside.{Outside}
 use Rattle.endings.specs.declared.ending.Ending.{Ending}
@@ -40,9 +40,10 @@ Ends words old new (TooLong place) = StopsLoading words old new (λ a b names. I
 Ends words old new NoMemory = StopsLoading words old new AsksForSome ⊎ Serves words old new NoMemory
 Ends words old new ending = Serves words old new ending
 
--- A run over these words answers this status: it ended so, for this cause, and said so.
+-- A run over these words answers this status: it ended so, for this cause, and said so; of an answer it put nothing.
 pub record RunsTo (words : List (List ℕ)) (old new : Outside) (old_err new_err : SinkState) (status : ℕ) : Type 0 where
   pub ending : Ending
   pub status_is : status ≡ status_of ending
   pub ends : Ends words old new ending
   pub says : Says old_err new_err (line_of ending)
+  pub quiet : KeepsQuiet ending old_err new_err

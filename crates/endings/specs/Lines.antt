@@ -1,7 +1,7 @@
 -- The statuses, and the lines on the standard error. A line is its pieces, one after another.
 -- A reader's want of memory has a line here as each cause has, but no run writes it: that ends a run by itself
 -- (specs/Faults).
-use Rattle.std.specs.Prelude.{◌≡◌, ◌⊎◌, ℕ, List, [], ◌∷◌, ◌++◌, codes, decimal}
+use Rattle.std.specs.Prelude.{⊤, ◌≡◌, ◌⊎◌, ℕ, List, [], ◌∷◌, ◌++◌, codes, decimal}
 use Rattle.cps_outside.specs.Causes.{Rose}
 use Rattle.cps_outside.specs.SinkState.{SinkState, Grows, GrowsByPart, LacksRoom}
 use Rattle.wake_table.specs.Letters.{letter}
@@ -44,7 +44,7 @@ use Rattle.plan_file.specs.declared.plan.PlanFault.{PlanFault}
 use Rattle.plan_file.specs.declared.plan.PlanFault.TheVariants as plan
 use Rattle.endings.specs.declared.ending.Answer.{Answer}
 use Rattle.endings.specs.declared.ending.Answer.TheVariants.{Scheduled, Infeasible, Certified, Accepted, Rejected}
-use Rattle.endings.specs.declared.ending.Answer.TheVariants.{Tried, Clean, Broken, Claimed}
+use Rattle.endings.specs.declared.ending.Answer.TheVariants.{Tried, Clean, Broken, Claimed, Drawn}
 use Rattle.endings.specs.declared.ending.FilesFault.{FilesFault}
 use Rattle.endings.specs.declared.ending.FilesFault.TheVariants.{Aerodrome, Flights, Events, Certificate, Trials, Plan}
 use Rattle.endings.specs.declared.ending.FilesFault.TheVariants.{Opening}
@@ -62,6 +62,7 @@ answer_status Tried = 0
 answer_status Clean = 0
 answer_status Broken = 7
 answer_status Claimed = 1
+answer_status Drawn = 0
 
 abbrev pub status_of : Ending → ℕ
 status_of (Answered answer) = answer_status answer
@@ -337,6 +338,11 @@ line_of (NotLoaded place) = line_text (codes "cps: file " ∷ decimal place ∷ 
 line_of NotWritten = line_text (codes "cps: write failed\n" ∷ [])
 line_of (TooLong place) = line_text (codes "cps: file " ∷ decimal place ∷ codes ": too long\n" ∷ [])
 line_of NoMemory = line_text (codes "cps: no memory\n" ∷ [])
+
+-- where the ending is an answer nothing is put
+abbrev pub KeepsQuiet : Ending → SinkState → SinkState → Type 0
+KeepsQuiet (Answered answer) old new = new ≡ old
+KeepsQuiet ending old new = ⊤
 
 -- The line was written, whole unless a fault was counted, and then, where the sink is sure, for want of room.
 pub record Says (old new : SinkState) (line : List ℕ) : Type 0 where

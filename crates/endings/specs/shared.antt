@@ -1,2 +1,3 @@
 -- Lemmas that crates above cite too.
+pub mod Files
 pub mod Refusing

@@ -1,7 +1,7 @@
 // The statuses and the lines on the standard error. A line is written piece by piece and takes no memory.
 ghost use Rattle.std.specs.Prelude.{◌≡◌, map};
 ghost use Rattle.cps_outside.specs.SinkState.{Writes};
-ghost use Rattle.endings.specs.Lines.{Says, status_of, line_of, line_text, numbered_line, refusal_line};
+ghost use Rattle.endings.specs.Lines.{KeepsQuiet, Says, line_of, line_text, numbered_line, refusal_line, status_of};
 ghost use Rattle.endings.specs.Pieces.{between_line};
 
 use crate::aerodrome_lines::say_aerodrome;
@@ -21,7 +21,7 @@ pub fn status(ending: &Ending) -> u8
 {
     match ending {
         Ending::Answered(Answer::Scheduled | Answer::Certified | Answer::Accepted) => 0,
-        Ending::Answered(Answer::Tried | Answer::Clean) => 0,
+        Ending::Answered(Answer::Tried | Answer::Clean | Answer::Drawn) => 0,
         Ending::Answered(Answer::Infeasible | Answer::Claimed) => 1,
         Ending::Answered(Answer::Rejected | Answer::Broken) => 7,
         Ending::Misused => 2,
@@ -85,7 +85,8 @@ fn say_refusal<E: Sink>(err: &mut E, refusal: &FilesFault) -> Result<(), WriteFa
 }
 
 fn say_line<E: Sink>(err: &mut E, ending: &Ending) -> Result<(), WriteFailed>
-    ensures { Writes (E.state err.old) (E.state err.new) (line_of ending.now) result }
+    ensures writes { Writes (E.state err.old) (E.state err.new) (line_of ending.now) result }
+    ensures quiet { KeepsQuiet ending.now (E.state err.old) (E.state err.new) }
 {
     match ending {
         Ending::Answered(_) => Ok(()),
@@ -98,9 +99,10 @@ fn say_line<E: Sink>(err: &mut E, ending: &Ending) -> Result<(), WriteFailed>
     }
 }
 
-/// Writes the line of an ending; that of an answer is empty.
+/// Writes the line of an ending; of an answer it puts nothing.
 pub fn say<E: Sink>(err: &mut E, ending: &Ending) -> Result<(), WriteFailed>
     ensures writes { Writes (E.state err.old) (E.state err.new) (line_of ending.now) result }
+    ensures quiet { KeepsQuiet ending.now (E.state err.old) (E.state err.new) }
 
     // What a caller knows that lets the result go.
     ensures says { Says (E.state err.old) (E.state err.new) (line_of ending.now) }

@@ -1,6 +1,6 @@
 -- No finding is printed as the line that nothing is found; how long the text of all findings is.
-use Rattle.std.proofs.Common.{◌≡◌, ◌≢◌, ◌≤◌, ℕ, ◌+◌, ◌*◌, List, [], ◌∷◌, ◌++◌, length, get_or, map, Ok}
-use Rattle.std.proofs.Common.{refl, sym, ap, subst, ◌∙◌, arith}
+use Rattle.std.proofs.Common.{◌≡◌, ◌≢◌, ◌≤◌, ℕ, ◌+◌, List, [], ◌∷◌, ◌++◌, length, get_or, map, Ok}
+use Rattle.std.proofs.Common.{refl, sym, ap, ◌∙◌, arith}
 use Rattle.std.specs.Prelude.{◌↔◌, codes}
 use Rattle.landing_rules.specs.Text.{line}
 use Rattle.landing_rules.specs.Audit.{Closed, Early, Finding, Mark, Missing, Moved, Order, OtherObjective, Precedence}
@@ -15,8 +15,9 @@ use Rattle.plan_file.specs.declared.plan.PlanText.TheVariants as plans
 use Rattle.plan_file.specs.Blocks.{seen_block}
 use Rattle.sequencer.specs.Opened.{opened}
 use Rattle.text_bounds.specs.Counts.{count_in}
+use Rattle.endings.specs.shared.Files.{of_three}
 use Rattle.openings.specs.shared.OpenedFlights.{as_many}
-use Rattle.inquiry_commands.specs.Audit.{AuditIsBoundedLaw, audit_bound, audit_text, line_count, line_count_of, report}
+use Rattle.inquiry_commands.specs.Audit.{AuditIsBoundedLaw, audit_bound, audit_text, line_count_of, report}
 use Rattle.inquiry_commands.proofs.AuditLengths.{findings_short}
 use Rattle.inquiry_commands.proofs.PlanLines.{AreTold, plan_told}
 
@@ -62,10 +63,8 @@ text_short s (plans.Block b) sound told =
 pub audit_short : AuditIsBoundedLaw
 audit_short a f p text answer x =
     let s = opened x.aerodrome x.flights in
-    let lines = text_short s x.plan x.audited.sound (plan_told p x.plan x.plan_read) in
+    let lines = text_short s x.third x.holds.sound (plan_told p x.third x.third_read) in
     let active = as_many x.aerodrome x.flights s refl in
-    let long = ap length x.audited.prints in
-    let whole : length text ≤ audit_bound (length x.flights) (line_count_of (Ok x.plan)) = omega
-    (arith, lines, active, long) in
-    subst (λ r. length text ≤ audit_bound (count_in r) (line_count p)) (sym x.flights_read)
-    (subst (λ r. length text ≤ audit_bound (length x.flights) (line_count_of r)) (sym x.plan_read) whole)
+    let long = ap length x.holds.prints in
+    of_three _ a f p _ x (λ r q t. length text ≤ audit_bound (count_in q) (line_count_of t))
+    (omega (arith, lines, active, long))

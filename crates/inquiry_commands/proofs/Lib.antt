@@ -2,6 +2,5 @@ pub mod AuditLengths
 pub mod AuditTexts
 pub mod FirstLaws
 pub mod FirstPlans
-pub mod FirstShown
 pub mod PlanLines
 pub mod WhatIfTexts

@@ -1,11 +1,9 @@
 -- From the clauses of printed outcomes to how long their text is, and that it is one.
-use Rattle.std.proofs.Common.{◌≡◌, ℕ, ◌+◌, ◌*◌, ◌<◌, ◌≤◌, inl, inr, List, [], ◌∷◌, ◌++◌, length, Option, Some, None}
+use Rattle.std.proofs.Common.{◌≡◌, ℕ, ◌+◌, ◌*◌, ◌≤◌, inl, inr, List, [], ◌∷◌, ◌++◌, length, Option, Some, None}
 use Rattle.std.proofs.Common.{refl, sym, ap, subst, ◌∙◌, arith}
 use Rattle.std.specs.Prelude.{All, decimal, nat_lt, option_map}
 use Rattle.std.specs.List.{AllZip}
-use Rattle.std.specs.Result.{result_ok}
 use Rattle.std.proofs.lemmas.Bool.{cases_Bool}
-use Rattle.std.proofs.lemmas.Option.{same_Some}
 use Rattle.std.proofs.lemmas.List.{length-append}
 use Rattle.std.proofs.lemmas.List.Elements.{All-head, All-tail}
 use Rattle.landing_rules.specs.Events as rules
@@ -35,7 +33,9 @@ use Rattle.text_bounds.specs.Trials.{outcomes_bound}
 use Rattle.text_bounds.specs.shared.Lengths.{rank_short, value_short}
 use Rattle.plan_file.specs.shared.Objectives.{schedule_low}
 use Rattle.text_bounds.specs.shared.Events.{refusal_short}
-use Rattle.inquiry_commands.specs.WhatIf.{WhatIfIsBoundedLaw, WhatIfTextIsOneLaw}
+use Rattle.endings.specs.shared.Files.{same_three}
+use Rattle.endings.specs.declared.ending.Answer.TheVariants.{Tried}
+use Rattle.inquiry_commands.specs.WhatIf.{AreTried, WhatIfIsBoundedLaw, WhatIfTextIsOneLaw}
 
 -- ---- refusals
 
@@ -161,20 +161,15 @@ module _ (a : Aerodrome) (fs : List Flight) (range : IsInRange a) (sound : IsSou
 
 pub what_if_short : WhatIfIsBoundedLaw
 what_if_short a f t text answer x =
-    let tried = x.tried in
-    let lines = outcomes_short x.aerodrome x.flights tried.range tried.sound x.trials tried.outcomes
+    let tried = x.holds.0 in
+    let lines = outcomes_short x.aerodrome x.flights tried.range tried.sound x.third tried.outcomes
     tried.good tried.few tried.are in
     let long = ap length tried.prints in
-    subst (λ r. length text ≤ outcomes_bound (count_in r)) (sym x.trials_read) (omega (arith, lines, long))
+    subst (λ r. length text ≤ outcomes_bound (count_in r)) (sym x.third_read) (omega (arith, lines, long))
 
 pub what_if_one : OutcomesAreOneLaw → WhatIfTextIsOneLaw
 what_if_one law a f t text other answer another x y =
-    let aerodromes : y.aerodrome ≡ x.aerodrome =
-    same_Some _ _ (ap result_ok (sym y.aerodrome_read ∙ x.aerodrome_read)) in
-    let flights : y.flights ≡ x.flights = same_Some _ _ (ap result_ok (sym y.flights_read ∙ x.flights_read)) in
-    let trials : y.trials ≡ x.trials = same_Some _ _ (ap result_ok (sym y.trials_read ∙ x.trials_read)) in
-    let there = subst (λ (ts : List Trial). AreOutcomes x.aerodrome x.flights ts y.tried.outcomes) trials
-    (subst (λ (fs : List Flight). AreOutcomes x.aerodrome fs y.trials y.tried.outcomes) flights
-    (subst (λ (b : Aerodrome). AreOutcomes b y.flights y.trials y.tried.outcomes) aerodromes y.tried.are)) in
-    let outcomes = law x.aerodrome x.flights x.trials x.tried.outcomes y.tried.outcomes x.tried.are there in
-    (x.tried.prints ∙ ap outcomes_text outcomes ∙ sym y.tried.prints, x.answers ∙ sym y.answers)
+    let here = x.holds in
+    let there = same_three _ a f t _ x _ y (λ b fs ts. AreTried b fs ts other × (another ≡ Tried)) y.holds in
+    let outcomes = law x.aerodrome x.flights x.third here.0.outcomes there.0.outcomes here.0.are there.0.are in
+    (here.0.prints ∙ ap outcomes_text outcomes ∙ sym there.0.prints, here.1 ∙ sym there.1)

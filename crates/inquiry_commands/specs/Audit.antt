@@ -22,6 +22,7 @@ use Rattle.endings.specs.declared.ending.Answer.TheVariants.{Clean, Broken, Clai
 use Rattle.endings.specs.declared.ending.Ending.{Ending}
 use Rattle.endings.specs.declared.ending.FilesFault.{FilesFault}
 use Rattle.endings.specs.declared.ending.FilesFault.TheVariants as refusal
+use Rattle.endings.specs.Files.{HoldsOfThree}
 use Rattle.endings.specs.Refusing.{refusal_of, refused_by_three, Stops}
 use Rattle.openings.specs.Follows.{FollowsAtOnce}
 
@@ -62,14 +63,9 @@ pub record IsAudited (aerodrome : Aerodrome) (flights : List Flight) (plan : Pla
   pub clean : TellsClean (opened aerodrome flights) plan text
 
 -- The files read as an aerodrome, flights and a plan, and this is found.
-pub record AdmitsAudit (aerodrome_bytes flight_bytes plan_bytes text : List ℕ) (answer : Answer) : Type 0 where
-  pub aerodrome : Aerodrome
-  pub flights : List Flight
-  pub plan : PlanText
-  pub aerodrome_read : aerodrome_of aerodrome_bytes ≡ Ok aerodrome
-  pub flights_read : flights_of flight_bytes ≡ Ok flights
-  pub plan_read : plan_of plan_bytes ≡ Ok plan
-  pub audited : IsAudited aerodrome flights plan text answer
+abbrev pub AdmitsAudit : List ℕ → List ℕ → List ℕ → List ℕ → Answer → Type 0
+AdmitsAudit a f p text answer =
+    HoldsOfThree plan_of a f p (λ aerodrome flights plan. IsAudited aerodrome flights plan text answer)
 
 -- what `audit` does, with this ending
 abbrev pub FollowsAudit : List ℕ → List ℕ → List ℕ → SinkState → SinkState → Ending → Type 0

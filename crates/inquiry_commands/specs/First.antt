@@ -1,5 +1,5 @@
 -- What `first` prints over the contents of its two files. It refuses those that `plan` refuses.
-use Rattle.std.specs.Prelude.{◌≡◌, ◌≤◌, ℕ, List, length, Ok, Option, option_map}
+use Rattle.std.specs.Prelude.{◌≡◌, ◌≤◌, ℕ, List, length, Option, option_map}
 use Rattle.landing_rules.specs.Flights.{Situation, Schedule}
 use Rattle.landing_rules.specs.Rules.{objective}
 use Rattle.landing_rules.specs.Events.{State}
@@ -7,14 +7,13 @@ use Rattle.landing_rules.specs.FirstBest.{IsFirstPlan}
 use Rattle.landing_rules.specs.Sound.{IsSound}
 use Rattle.landing_rules.specs.Text.{lines_text, plan_lines}
 use Rattle.arrivals.specs.declared.aerodrome.Aerodrome.{Aerodrome}
-use Rattle.aerodrome_file.specs.Reading.{aerodrome_of}
 use Rattle.arrivals.specs.declared.flight.Flight.{Flight}
-use Rattle.flight_file.specs.Reading.{flights_of}
 use Rattle.text_bounds.specs.Blocks.{block_bound}
 use Rattle.text_bounds.specs.Counts.{flight_count}
 use Rattle.cps_outside.specs.SinkState.{SinkState}
 use Rattle.endings.specs.declared.ending.Answer.{Answer}
 use Rattle.endings.specs.declared.ending.Ending.{Ending}
+use Rattle.endings.specs.Files.{HoldsOfTwo}
 use Rattle.openings.specs.Follows.{FollowsAtOnce}
 use Rattle.openings.specs.Plan.{AdmitsPlan, RefusesPlan, IsOpened, answer_of}
 
@@ -33,12 +32,8 @@ pub record ShowsFirst (aerodrome : Aerodrome) (flights : List Flight) (text : Li
   pub block : ShowsFirstOf state.situation text answer
 
 -- The files read as an aerodrome and flights, of which the text shows the first plan.
-pub record AdmitsFirst (aerodrome_bytes flight_bytes text : List ℕ) (answer : Answer) : Type 0 where
-  pub aerodrome : Aerodrome
-  pub flights : List Flight
-  pub aerodrome_read : aerodrome_of aerodrome_bytes ≡ Ok aerodrome
-  pub flights_read : flights_of flight_bytes ≡ Ok flights
-  pub shows : ShowsFirst aerodrome flights text answer
+abbrev pub AdmitsFirst : List ℕ → List ℕ → List ℕ → Answer → Type 0
+AdmitsFirst a f text answer = HoldsOfTwo a f (λ aerodrome flights. ShowsFirst aerodrome flights text answer)
 
 -- what `first` does, with this ending
 abbrev pub FollowsFirst : List ℕ → List ℕ → SinkState → SinkState → Ending → Type 0
@@ -54,8 +49,8 @@ FirstTextIsOneLaw = (aerodrome flights text other : List ℕ) (answer another : 
 abbrev pub FirstCostsAsPlanLaw : Type 0
 FirstCostsAsPlanLaw = (aerodrome flights text other : List ℕ) (answer another : Answer)
     → (first : AdmitsFirst aerodrome flights text answer) → (planned : AdmitsPlan aerodrome flights other another)
-    → option_map (objective first.shows.state.situation) first.shows.block.plan
-    ≡ option_map (objective planned.shows.state.situation) planned.shows.state.plan
+    → option_map (objective first.holds.state.situation) first.holds.block.plan
+    ≡ option_map (objective planned.holds.state.situation) planned.holds.state.plan
 
 -- how many bytes such a text has at most
 abbrev pub FirstIsBoundedLaw : Type 0

@@ -1,5 +1,5 @@
 -- What `whatif` prints over the contents of its three files, and which it refuses.
-use Rattle.std.specs.Prelude.{◌≡◌, ◌≤◌, ℕ, List, length, All, Some, None, Ok}
+use Rattle.std.specs.Prelude.{◌≡◌, ◌≤◌, ℕ, List, length, All, Some, None}
 use Rattle.landing_rules.specs.Sound.{IsSound}
 use Rattle.arrivals.specs.declared.aerodrome.Aerodrome.{Aerodrome}
 use Rattle.arrivals.specs.Aerodromes.{IsInRange}
@@ -21,6 +21,7 @@ use Rattle.endings.specs.declared.ending.Answer.TheVariants.{Tried}
 use Rattle.endings.specs.declared.ending.Ending.{Ending}
 use Rattle.endings.specs.declared.ending.FilesFault.{FilesFault}
 use Rattle.endings.specs.declared.ending.FilesFault.TheVariants as refusal
+use Rattle.endings.specs.Files.{HoldsOfThree}
 use Rattle.endings.specs.Refusing.{refusal_of, refused_by_three, Stops}
 use Rattle.openings.specs.Follows.{FollowsAtOnce}
 
@@ -41,15 +42,9 @@ pub record AreTried (aerodrome : Aerodrome) (flights : List Flight) (trials : Li
   pub prints : text ≡ outcomes_text outcomes
 
 -- The files read as an aerodrome, flights and trials, and these are their outcomes.
-pub record AdmitsWhatIf (aerodrome_bytes flight_bytes trial_bytes text : List ℕ) (answer : Answer) : Type 0 where
-  pub aerodrome : Aerodrome
-  pub flights : List Flight
-  pub trials : List Trial
-  pub aerodrome_read : aerodrome_of aerodrome_bytes ≡ Ok aerodrome
-  pub flights_read : flights_of flight_bytes ≡ Ok flights
-  pub trials_read : trials_of trial_bytes ≡ Ok trials
-  pub tried : AreTried aerodrome flights trials text
-  pub answers : answer ≡ Tried
+abbrev pub AdmitsWhatIf : List ℕ → List ℕ → List ℕ → List ℕ → Answer → Type 0
+AdmitsWhatIf a f t text answer =
+    HoldsOfThree trials_of a f t (λ aerodrome flights trials. AreTried aerodrome flights trials text × (answer ≡ Tried))
 
 -- what `whatif` does, with this ending
 abbrev pub FollowsWhatIf : List ℕ → List ℕ → List ℕ → SinkState → SinkState → Ending → Type 0

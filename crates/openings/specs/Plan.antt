@@ -1,5 +1,5 @@
 -- What an aerodrome file and a flight file open, and what `plan` may print of them.
-use Rattle.std.specs.Prelude.{◌≡◌, ◌≤◌, ℕ, Bool, List, map, is_some, Option, Some, None, Ok, if◌then◌else◌}
+use Rattle.std.specs.Prelude.{◌≡◌, ◌≤◌, ℕ, Bool, List, map, is_some, Option, Some, None, if◌then◌else◌}
 use Rattle.landing_rules.specs.Flights.{Schedule}
 use Rattle.landing_rules.specs.Events.{State, IsOpeningState}
 use Rattle.landing_rules.specs.Problem.{IsProblemOf}
@@ -20,6 +20,7 @@ use Rattle.endings.specs.declared.ending.Answer as answers
 use Rattle.endings.specs.declared.ending.Answer.TheVariants.{Scheduled, Infeasible}
 use Rattle.endings.specs.declared.ending.Ending.{Ending}
 use Rattle.endings.specs.declared.ending.FilesFault.{FilesFault}
+use Rattle.endings.specs.Files.{HoldsOfTwo}
 use Rattle.endings.specs.Refusing.{refusal_of, refused_by, Stops}
 
 abbrev pub RefusesPlan : List ℕ → List ℕ → FilesFault → Type 0
@@ -54,12 +55,8 @@ pub record ShowsPlan (aerodrome : Aerodrome) (flights : List Flight) (text : Lis
   pub answers : answer ≡ answer_of state.plan
 
 -- The files read as an aerodrome and flights, of which the text shows the plan.
-pub record AdmitsPlan (aerodrome_bytes flight_bytes text : List ℕ) (answer : answers.Answer) : Type 0 where
-  pub aerodrome : Aerodrome
-  pub flights : List Flight
-  pub aerodrome_read : aerodrome_of aerodrome_bytes ≡ Ok aerodrome
-  pub flights_read : flights_of flight_bytes ≡ Ok flights
-  pub shows : ShowsPlan aerodrome flights text answer
+abbrev pub AdmitsPlan : List ℕ → List ℕ → List ℕ → answers.Answer → Type 0
+AdmitsPlan a f text answer = HoldsOfTwo a f (λ aerodrome flights. ShowsPlan aerodrome flights text answer)
 
 -- how `plan` may stop before it writes
 abbrev pub StopsPlan : List ℕ → List ℕ → Ending → Type 0

@@ -1,7 +1,6 @@
 pub mod Counted
 pub mod Replayed
 pub mod ReplayLaws
-pub mod Showing
 pub mod Summed
 pub mod TextLengths
 pub mod Answering

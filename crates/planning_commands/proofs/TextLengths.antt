@@ -38,10 +38,10 @@ use Rattle.planning_commands.specs.TextLengths.{TrialTextIsBoundedLaw, effort_bo
 
 pub plan_text_short : BlockIsBoundedLaw → PlanTextIsBoundedLaw
 plan_text_short law a f text answer x =
-    let state = x.shows.state in
-    let block = law state x.shows.opened.sound in
-    let active = as_many x.aerodrome x.flights state.situation x.shows.opened.opens.situation in
-    let long = ap length x.shows.prints in
+    let state = x.holds.state in
+    let block = law state x.holds.opened.sound in
+    let active = as_many x.aerodrome x.flights state.situation x.holds.opened.opens.situation in
+    let long = ap length x.holds.prints in
     subst (λ r. length text ≤ block_bound (count_in r)) (sym x.flights_read) (omega (arith, block, active, long))
 
 has_value : (plan : Option ShownPlan) → ((p : ShownPlan) → plan ≡ Some p → IsReadable p)

@@ -1,8 +1,9 @@
-use Rattle.certificate_commands.proofs.Certified.{certified_of_bytes}
+use Rattle.openings.specs.shared.Opened.{of_bytes}
+use Rattle.certificate_commands.specs.Certify.{Certifies}
 use Rattle.certificate_commands.proofs.certify.report_files.Goals as goal
 
 pub returns : goal.returns
 returns g c =
-    certified_of_bytes c.report_opened.result _ _ c.in_ok-aerodrome.aerodrome _ c.in_ok-aerodrome.ensures.value
+    of_bytes Certifies c.report_opened.result _ _ c.in_ok-aerodrome.aerodrome _ c.in_ok-aerodrome.ensures.value
     c.in_ok-flights.ensures.value
     (rw c.as_slice.ensures.value at c.report_opened.ensures)

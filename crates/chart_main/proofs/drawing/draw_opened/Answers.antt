@@ -1,4 +1,4 @@
-use Rattle.std.proofs.Common.{sym, ap, subst, ◌∙◌}
+use Rattle.std.proofs.Common.{refl, sym, ap, subst, ◌∙◌}
 use Rattle.std.proofs.lemmas.Result.{err_from_is_err_and}
 use Rattle.sequencer.specs.Opened.{opened}
 use Rattle.situations.specs.Begun.{IsRefusedBy}
@@ -16,6 +16,7 @@ returns c = record {
       c.new-text.result.items c.append_picture.new.into.items c.new-text.ensures.items c.in_ok-append_picture.ensures.ok
       c.in_ok-drawn.ensures.elements c.in_ok-drawn.ensures.found (c.in_ok-situation.ensures.value
       ∙ ap (opened c.args.aerodrome) c.as_slice.ensures.value);
+  answers = refl;
 }
 
 pub returns-in_err-situation : goal.returns-in_err-situation

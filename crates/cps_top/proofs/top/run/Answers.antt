@@ -25,4 +25,5 @@ returns-clause-outcome g c = record {
   status_is = c.status.ensures;
   ends = c.work-ending.ensures;
   says = c.say.ensures.says;
+  quiet = c.say.ensures.quiet;
 }

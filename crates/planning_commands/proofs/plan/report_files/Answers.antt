@@ -1,8 +1,9 @@
-use Rattle.planning_commands.proofs.Showing.{of_bytes}
+use Rattle.openings.specs.Plan.{ShowsPlan}
+use Rattle.openings.specs.shared.Opened.{of_bytes}
 use Rattle.planning_commands.proofs.plan.report_files.Goals as goal
 
 pub returns : goal.returns
 returns g c =
-    of_bytes c.report_opened.result _ _ c.in_ok-aerodrome.aerodrome _ c.in_ok-aerodrome.ensures.value
+    of_bytes ShowsPlan c.report_opened.result _ _ c.in_ok-aerodrome.aerodrome _ c.in_ok-aerodrome.ensures.value
     c.in_ok-flights.ensures.value
     c.report_opened.ensures
