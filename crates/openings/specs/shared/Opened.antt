@@ -25,10 +25,10 @@ of_bytes Shows (Ok report) a f aerodrome flights a_read f_read shows = record {
   flights_read = f_read;
   holds = shows;
 }
-of_bytes Shows (Err ending) a f aerodrome flights a_read f_read =
+of_bytes Shows (Err ending) a f aerodrome flights a_read f_read stops =
     stops_by (λ cause. refusal_of aerodrome flights ≡ Some cause)
     (λ cause. refused_by (aerodrome_of a) (flights_of f) ≡ Some cause) ending
-    (λ cause refused. ap₂ refused_by a_read f_read ∙ refused)
+    (λ cause refused. ap₂ refused_by a_read f_read ∙ refused) stops
 
 -- the same with a third file, whose fault is a refusal of this kind
 pub of_three_bytes : {T F : Type 0} (kind : F → FilesFault) (read : List ℕ → Result T F)
@@ -47,7 +47,7 @@ of_three_bytes kind read Shows (Ok report) a f t aerodrome flights third a_read 
   third_read = t_read;
   holds = shows;
 }
-of_three_bytes kind read Shows (Err ending) a f t aerodrome flights third a_read f_read t_read =
+of_three_bytes kind read Shows (Err ending) a f t aerodrome flights third a_read f_read t_read stops =
     stops_by (λ cause. refusal_of aerodrome flights ≡ Some cause)
     (λ cause. refused_by_three kind (aerodrome_of a) (flights_of f) (read t) ≡ Some cause) ending
-    (λ cause refused. refused_as_read kind _ _ _ _ _ _ a_read f_read t_read ∙ refused)
+    (λ cause refused. refused_as_read kind _ _ _ _ _ _ a_read f_read t_read ∙ refused) stops
