@@ -11,7 +11,8 @@ CRATES = Path(__file__).resolve().parent.parent / 'crates'
 HEAD = re.compile(r'(?:abbrev |unfoldable )?(?:pub )?(?:record |data )?([A-Za-z_][\w\'-]*|>>=)[ :]')
 WORD = re.compile(r'[A-Za-z_][\w\'-]*(?:\.[A-Za-z_][\w\'-]*)*|>>=')
 NO_NAMES = 'use', 'pub', 'mod', 'module', 'infixl', 'infixr', 'infix', 'unfolding'
-OTHERS = ('a plan shown', 'IsPlanShown'), ('a run', 'Run'), ('a replay and its text', 'replay_text')
+OTHERS = (('a plan shown', 'IsPlanShown'), ('a run', 'Run'), ('a replay and its text', 'replay_text'),
+          ('a run of a program, each', 'RunsTo'))
 SHOWN = {}  # the modules that a crate shows under a name of its own
 
 

@@ -7,7 +7,6 @@ use Rattle.arrivals.specs.declared.flight.Flight.{Flight}
 use Rattle.flight_file.specs.Reading.{flights_of}
 use Rattle.plan_file.specs.declared.plan.PlanText.{PlanText}
 use Rattle.plan_file.specs.Reading.{plan_of}
-use Rattle.situations.specs.Refused.{opening_fault}
 use Rattle.sequencer.specs.Opened.{opened}
 use Rattle.endings.specs.declared.ending.Answer.{Answer}
 use Rattle.endings.specs.declared.ending.Answer.TheVariants.{Drawn}
@@ -15,7 +14,7 @@ use Rattle.endings.specs.declared.ending.Ending.{Ending}
 use Rattle.endings.specs.declared.ending.FilesFault.{FilesFault}
 use Rattle.endings.specs.declared.ending.FilesFault.TheVariants as refusal
 use Rattle.endings.specs.Files.{HoldsOfThree}
-use Rattle.endings.specs.Refusing.{refused_by_three, Stops}
+use Rattle.endings.specs.Refusing.{refusal_of, refused_by_three, Stops}
 use Rattle.chart.specs.Pictures.{elements_of, found_of}
 use Rattle.chart.specs.Texts.{picture_text}
 
@@ -23,14 +22,14 @@ use Rattle.chart.specs.Texts.{picture_text}
 abbrev pub chart_text : Situation → PlanText → List ℕ
 chart_text s plan = picture_text (elements_of s plan) (found_of s plan)
 
--- The files are taken, and the text is the picture of the plan in their opening situation.
+-- The files are taken, the text is the picture of the plan in their opening situation, and the answer that it was drawn.
 pub record IsDrawn (aerodrome : Aerodrome) (flights : List Flight) (plan : PlanText) (text : List ℕ)
     (answer : Answer) : Type 0 where
-  pub taken : opening_fault aerodrome flights ≡ None
+  pub taken : refusal_of aerodrome flights ≡ None
   pub prints : text ≡ chart_text (opened aerodrome flights) plan
   pub answers : answer ≡ Drawn
 
--- The files read as an aerodrome, flights and a plan, and the text is their picture.
+-- The files read as an aerodrome, flights and a plan, of which this is the picture and the answer.
 abbrev pub AreDrawn : List ℕ → List ℕ → List ℕ → List ℕ → Answer → Type 0
 AreDrawn a f p text answer =
     HoldsOfThree plan_of a f p (λ aerodrome flights plan. IsDrawn aerodrome flights plan text answer)

@@ -109,6 +109,12 @@ Begins Replay (aerodrome ∷ flights ∷ events ∷ []) = BeginsReplay aerodrome
 Begins Effort (aerodrome ∷ flights ∷ events ∷ []) = BeginsEffort aerodrome flights events
 Begins command contents = HasAnswer (Admits command contents)
 
+-- One that it may have begun to print when memory runs out: between the answers to two events.
+abbrev pub StopsIn : Command → List (List ℕ) → List ℕ → Type 0
+StopsIn Replay (aerodrome ∷ flights ∷ events ∷ []) = BeginsReplay aerodrome flights events
+StopsIn Effort (aerodrome ∷ flights ∷ events ∷ []) = BeginsEffort aerodrome flights events
+StopsIn command contents = λ text. ⊥
+
 -- Over these contents of its files a command is refused, for this cause.
 abbrev pub Refuses : Command → List (List ℕ) → FilesFault → Type 0
 Refuses Plan (aerodrome ∷ flights ∷ []) = RefusesPlan aerodrome flights

@@ -27,20 +27,23 @@ pub record PrintsPart (puts : ℕ) (P : List ℕ → Type 0) (old new : SinkStat
   pub counted : CountsSome puts old new
 
 -- What a command does that may print the texts that Admits says, in so many puts and with these answers, may have begun
--- to print those of Begins when it stops early, and refuses for the causes of Refuses, with this ending. Into a sink
--- that is sure, it fails to write only a text for which there was no room.
-abbrev pub FollowsBy : ℕ → (List ℕ → Answer → Type 0) → (List ℕ → Type 0) → (FilesFault → Type 0)
-    → SinkState → SinkState → Ending → Type 0
-FollowsBy puts Admits Begins Refuses old new (Answered answer) = Prints puts (λ text. Admits text answer) old new
-FollowsBy puts Admits Begins Refuses old new (Refused refusal) = Refuses refusal × (new ≡ old)
-FollowsBy puts Admits Begins Refuses old new NotWritten =
+-- to print those of Begins when a put fails and those of StopsIn when memory runs out, and refuses for the causes of
+-- Refuses, with this ending. Into a sink that is sure, it fails to write only a text for which there was no room.
+abbrev pub FollowsBy : ℕ → (List ℕ → Answer → Type 0) → (List ℕ → Type 0) → (List ℕ → Type 0)
+    → (FilesFault → Type 0) → SinkState → SinkState → Ending → Type 0
+FollowsBy puts Admits Begins StopsIn Refuses old new (Answered answer) =
+    Prints puts (λ text. Admits text answer) old new
+FollowsBy puts Admits Begins StopsIn Refuses old new (Refused refusal) = Refuses refusal × (new ≡ old)
+FollowsBy puts Admits Begins StopsIn Refuses old new NotWritten =
     PrintsPart puts (λ text. Begins text × LacksRoom old text) old new × Rose old.faults new.faults
-FollowsBy puts Admits Begins Refuses old new NoMemory = (new ≡ old) ⊎ PrintsPart puts Begins old new
-FollowsBy puts Admits Begins Refuses old new ending = ⊥
+FollowsBy puts Admits Begins StopsIn Refuses old new NoMemory = (new ≡ old) ⊎ PrintsPart puts StopsIn old new
+FollowsBy puts Admits Begins StopsIn Refuses old new ending = ⊥
 
--- The same of a command that prints its text in one put, and begins to print none but one that it may print.
+-- The same of a command that prints its text in one put: it begins to print none but one that it may print, and where
+-- memory runs out it has printed nothing.
 abbrev pub FollowsAtOnce : (List ℕ → Answer → Type 0) → (FilesFault → Type 0) → SinkState → SinkState → Ending → Type 0
-FollowsAtOnce Admits Refuses = FollowsBy 1 Admits (λ text. (answer : Answer) × Admits text answer) Refuses
+FollowsAtOnce Admits Refuses =
+    FollowsBy 1 Admits (λ text. (answer : Answer) × Admits text answer) (λ text. ⊥) Refuses
 
 -- A command that came to this report, or ended so without one, ends so: it answers with the report's text written
 -- whole, or wrote a part of it, and in one put.

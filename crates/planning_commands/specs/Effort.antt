@@ -41,4 +41,4 @@ effort_puts log = 2 + count_of (events_of log)
 abbrev pub FollowsEffort : List ℕ → List ℕ → List ℕ → SinkState → SinkState → Ending → Type 0
 FollowsEffort aerodrome flights events =
     FollowsBy (effort_puts events) (AdmitsEffort aerodrome flights events) (BeginsEffort aerodrome flights events)
-    (RefusesReplay aerodrome flights events)
+    (BeginsEffort aerodrome flights events) (RefusesReplay aerodrome flights events)

@@ -85,7 +85,7 @@ replay_puts log = 1 + count_of (events_of log)
 abbrev pub FollowsReplay : List ℕ → List ℕ → List ℕ → SinkState → SinkState → Ending → Type 0
 FollowsReplay aerodrome flights events =
     FollowsBy (replay_puts events) (AdmitsReplay aerodrome flights events) (BeginsReplay aerodrome flights events)
-    (RefusesReplay aerodrome flights events)
+    (BeginsReplay aerodrome flights events) (RefusesReplay aerodrome flights events)
 
 -- how `replay` may stop before it writes
 abbrev pub StopsReplay : List ℕ → List ℕ → List ℕ → Ending → Type 0

@@ -5,7 +5,8 @@ ghost use Rattle.cps_outside.specs.MemorySink.{failing_puts_of, fresh_sink, puts
 use cps_outside::{MemoryFolder, MemorySink};
 use std::alloc::{AllocError, Global};
 
-/// A folder of these files before any load, of which exactly the loads of these numbers, from 1, fail.
+/// A folder of these files before any load, in which the loads of these numbers, from 1, fail, and those
+/// of names that are not there.
 pub fn failing_folder(
     alloc: Global,
     files: Vec<(String, Vec<u8>)>,
@@ -19,8 +20,8 @@ pub fn failing_folder(
     Ok(MemoryFolder::new(alloc, files, failing.to_vec(alloc)?))
 }
 
-/// A sink with room for `room` bytes before any put, of which exactly the puts of these numbers, from 1, fail, each with
-/// the bytes that it takes.
+/// A sink with room for `room` bytes before any put, in which the puts of these numbers, from 1, fail, each with the
+/// bytes that it takes, and those for which there is no room.
 pub fn failing_sink(
     alloc: Global,
     room: usize,
