@@ -1,10 +1,10 @@
 -- What is proved command by command: it has as many files as its words name, with its numbers in their ranges; no files
 -- are both taken and refused; its texts have at most so many bytes.
 use Rattle.std.proofs.Common.{◌≡◌, ℕ, ◌≤◌, List, [], ◌∷◌, length, Bool, true, false, Option, Some, None}
-use Rattle.std.proofs.Common.{Result, Ok, Err, refl, sym, subst, ◌∙◌, arith}
+use Rattle.std.proofs.Common.{Result, Ok, Err, refl, subst, arith}
 use Rattle.std.specs.Prelude.{◌&&◌, ◌==◌, if◌then◌else◌}
 use Rattle.std.specs.Result.{result_ok}
-use Rattle.std.proofs.lemmas.Option.{none-some, same_Some}
+use Rattle.std.proofs.lemmas.Option.{same_Some}
 use Rattle.cps_base.specs.Limits.{most_waiting}
 use Rattle.cps_base.specs.Number.{number_within}
 use Rattle.cps_base.specs.declared.number.NumberFault.{NumberFault}
@@ -15,7 +15,6 @@ use Rattle.endings.specs.declared.ending.FilesFault.TheVariants as fault
 use Rattle.endings.specs.shared.Files.{two_taken, three_taken}
 use Rattle.planning_commands.specs.TextLengths.{EffortTextIsBoundedLaw, PlanTextIsBoundedLaw, ReplayTextIsBoundedLaw}
 use Rattle.planning_commands.specs.TextLengths.{TrialTextIsBoundedLaw}
-use Rattle.planning_commands.specs.shared.Begun.{not_refused}
 use Rattle.certificate_commands.specs.TextLaws.{CertifyIsBoundedLaw, CheckIsBoundedLaw}
 use Rattle.inquiry_commands.specs.First.{FirstIsBoundedLaw}
 use Rattle.inquiry_commands.specs.WhatIf.{WhatIfIsBoundedLaw}
@@ -95,9 +94,9 @@ excludes First (a ∷ f ∷ []) text answer refusal admits refuses =
 excludes Certify (a ∷ f ∷ []) text answer refusal admits refuses =
     two_taken a f _ admits refusal admits.holds.certified.judged.taken refuses
 excludes Replay (a ∷ f ∷ e ∷ []) text answer refusal admits refuses =
-    none-some _ (sym (not_refused a f e admits.state admits.events admits.begun) ∙ refuses)
+    three_taken _ a f e _ admits.begun fault.Events refusal admits.begun.holds.taken refuses
 excludes Effort (a ∷ f ∷ e ∷ []) text answer refusal admits refuses =
-    none-some _ (sym (not_refused a f e admits.state admits.events admits.begun) ∙ refuses)
+    three_taken _ a f e _ admits.begun fault.Events refusal admits.begun.holds.taken refuses
 excludes Check (a ∷ f ∷ c ∷ []) text answer refusal admits refuses =
     three_taken _ a f c _ admits.judges fault.Certificate refusal admits.judges.holds.taken refuses
 excludes WhatIf (a ∷ f ∷ t ∷ []) text answer refusal admits refuses =
@@ -110,9 +109,9 @@ excludes command contents text answer refusal admits refuses = absurd refuses
 pub excludes_begun : (command : Command) (contents : List (List ℕ)) (text : List ℕ) (refusal : FilesFault) →
     Begins command contents text → Refuses command contents refusal → ⊥
 excludes_begun Replay (a ∷ f ∷ e ∷ []) text refusal begins refuses =
-    none-some _ (sym (not_refused a f e begins.state begins.events begins.begun) ∙ refuses)
+    three_taken _ a f e _ begins.begun fault.Events refusal begins.begun.holds.taken refuses
 excludes_begun Effort (a ∷ f ∷ e ∷ []) text refusal begins refuses =
-    none-some _ (sym (not_refused a f e begins.state begins.events begins.begun) ∙ refuses)
+    three_taken _ a f e _ begins.begun fault.Events refusal begins.begun.holds.taken refuses
 excludes_begun command contents text refusal begins refuses =
     excludes command contents text begins.0 refusal begins.1 refuses
 

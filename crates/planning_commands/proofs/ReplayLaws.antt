@@ -1,9 +1,7 @@
 -- From the clause of a printed replay to the laws of its text.
-use Rattle.std.proofs.Common.{◌≡◌, List, [], ◌∷◌, Option, None, map, length, sym, ap, subst, ◌∙◌}
+use Rattle.std.proofs.Common.{◌≡◌, List, [], ◌∷◌, Option, None, map, length, sym, subst, ◌∙◌}
 use Rattle.std.specs.Prelude.{All}
-use Rattle.std.specs.Result.{result_ok}
 use Rattle.std.proofs.lemmas.List.Elements.{All-head, All-tail}
-use Rattle.std.proofs.lemmas.Option.{same_Some}
 use Rattle.std.proofs.Math.Seq.{take-length}
 use Rattle.landing_rules.specs.Events.{State, Event, Refusal, Clock, Answered, Opening, IsOpeningState, Run, Step}
 use Rattle.landing_rules.specs.Flights.{Flight}
@@ -12,8 +10,10 @@ use Rattle.landing_joint.specs.ClockLaws.{ClockShowsPlanLaw}
 use Rattle.landing_joint.specs.PassedOver.{FewPassLaw}
 use Rattle.landing_joint.specs.StepLaws.{StepKeepsSoundLaw, RunKeepsSoundLaw}
 use Rattle.replay_law.specs.Runs.{IsRunOf, TextLaw}
-use Rattle.arrivals.specs.Seen.{flight_of, event_of}
+use Rattle.arrivals.specs.Seen.{flight_of}
 use Rattle.sequencer.specs.Opened.{opening_of}
+use Rattle.endings.specs.shared.Files.{same_three}
+use Rattle.planning_commands.specs.Replay.{Starts}
 use Rattle.planning_commands.specs.ReplayLaws.{TextFixesReplayLaw, ReplayIsSoundLaw, ClockIsNoDearerLaw}
 use Rattle.planning_commands.specs.ReplayLaws.{FewPassReplayLaw, EachStep, IsNoDearerAfterClock}
 
@@ -26,25 +26,18 @@ whole_run o flights events s xs opens run =
 
 pub printed_same : TextLaw → TextFixesReplayLaw
 printed_same law a f l text x y p q =
-    let one : opening_of p.begun.aerodrome ≡ opening_of q.begun.aerodrome =
-    ap opening_of (same_Some _ _ (ap result_ok (sym p.begun.aerodrome_read ∙ q.begun.aerodrome_read))) in
-    let flights : map flight_of p.begun.flights ≡ map flight_of q.begun.flights =
-    ap (map flight_of) (same_Some _ _ (ap result_ok (sym p.begun.flights_read ∙ q.begun.flights_read))) in
-    let log : map event_of p.begun.log ≡ map event_of q.begun.log =
-    ap (map event_of) (same_Some _ _ (ap result_ok (sym p.begun.events_read ∙ q.begun.events_read))) in
-    let events : p.events ≡ q.events = p.begun.events_are ∙ log ∙ sym q.begun.events_are in
-    let opens : IsOpeningState (opening_of p.begun.aerodrome) (map flight_of p.begun.flights) q.state =
-    subst (λ o. IsOpeningState o (map flight_of p.begun.flights) q.state) (sym one)
-    (subst (λ fs. IsOpeningState (opening_of q.begun.aerodrome) fs q.state) (sym flights) q.begun.opens) in
+    let here = p.begun.holds in
+    let there = same_three _ a f l _ p.begun _ q.begun (Starts q.state q.events) q.begun.holds in
+    let events : p.events ≡ q.events = here.events_are ∙ sym there.events_are in
     law (opening_of p.begun.aerodrome) (map flight_of p.begun.flights) p.events (length p.events)
     (length p.events) p.state q.state p.answers q.answers
-    (subst IsSound p.begun.opens.situation p.begun.sound.situation) p.begun.in_range
-    (whole_run _ _ p.events p.state p.answers p.begun.opens p.run)
-    (whole_run _ _ p.events q.state q.answers opens (subst (λ es. Run q.state es q.answers) (sym events) q.run))
+    (subst IsSound here.opens.situation here.sound.situation) here.in_range
+    (whole_run _ _ p.events p.state p.answers here.opens p.run)
+    (whole_run _ _ p.events q.state q.answers there.opens (subst (λ es. Run q.state es q.answers) (sym events) q.run))
     (sym p.prints ∙ q.prints)
 
 pub printed_sound : RunKeepsSoundLaw → ReplayIsSoundLaw
-printed_sound law a f l text x p = (p.begun.sound, law p.state p.events p.answers p.begun.sound p.begun.in_range p.run)
+printed_sound law a f l text x p = (p.begun.holds.sound, law p.state p.events p.answers p.begun.holds.sound p.begun.holds.in_range p.run)
 
 -- one step
 no_dearer : ClockShowsPlanLaw → (old : State) (e : Event) (a : Answered) → IsSoundState old
@@ -71,8 +64,8 @@ steps_no_dearer law keeps old (e ∷ events) (a ∷ answers) sound good run = (
 
 pub printed_no_dearer : ClockShowsPlanLaw → StepKeepsSoundLaw → ClockIsNoDearerLaw
 printed_no_dearer law keeps a f l text x p =
-    steps_no_dearer law keeps p.state p.events p.answers p.begun.sound p.begun.in_range p.run
+    steps_no_dearer law keeps p.state p.events p.answers p.begun.holds.sound p.begun.holds.in_range p.run
 
 pub printed_few_pass : FewPassLaw → FewPassReplayLaw
 printed_few_pass law a f l text x p c carry waits stays =
-    law p.state p.events p.answers c p.begun.sound carry p.begun.in_range p.run waits stays
+    law p.state p.events p.answers c p.begun.holds.sound carry p.begun.holds.in_range p.run waits stays

@@ -25,8 +25,8 @@ whole_part old new text grew = λ told. (text, [], append-nil text, grew told)
 -- as many events as the log has
 pub events_counted : (a f e : List ℕ) (state : State) (events : List rules.Event) → IsBegun a f e state events
     → length events ≡ count_of (events_of e)
-events_counted a f e state events begun = ap length begun.events_are ∙ length-map begun.log event_of
-    ∙ sym (ap count_of begun.events_read)
+events_counted a f e state events begun = ap length begun.holds.events_are ∙ length-map begun.third event_of
+    ∙ sym (ap count_of begun.third_read)
 
 -- the first of them are no more
 pub first_counted : (a f e : List ℕ) (state : State) (done rest events : List rules.Event)

@@ -74,28 +74,28 @@ module _ (a f l : List ℕ) (state : State) (events done rest : List rules.Event
     (split : done ++ rest ≡ events) where
   tellable : IsTellable state
   tellable = record {
-    sound = begun.sound;
-    clock = subst (λ (s : Situation). IsInDays s.clock) (sym begun.opens.situation)
-        (clock_in_days begun.aerodrome.clock begun.range.clock);
+    sound = begun.holds.sound;
+    clock = subst (λ (s : Situation). IsInDays s.clock) (sym begun.holds.opens.situation)
+        (clock_in_days begun.aerodrome.clock begun.holds.range.clock);
   }
 
   good : All IsGoodEvent done
-  good = All-first IsGoodEvent done rest (subst (All IsGoodEvent) (sym split) begun.in_range)
+  good = All-first IsGoodEvent done rest (subst (All IsGoodEvent) (sym split) begun.holds.in_range)
 
   named : All HasShortName done
   named = All-first HasShortName done rest
-      (subst (All HasShortName) (sym begun.events_are ∙ sym split) (log_named l begun.log begun.events_read))
+      (subst (All HasShortName) (sym begun.holds.events_are ∙ sym split) (log_named l begun.third begun.third_read))
 
-  few : length done ≤ length begun.log
+  few : length done ≤ length begun.third
   few =
       let both = length-append done rest in
       let all = ap length split in
-      let same = ap length begun.events_are in
-      let each = length-map begun.log event_of in
+      let same = ap length begun.holds.events_are in
+      let each = length-map begun.third event_of in
       omega (arith, both, all, same, each)
 
-  counted : event_count l ≡ length begun.log
-  counted = ap count_in begun.events_read
+  counted : event_count l ≡ length begun.third
+  counted = ap count_in begun.third_read
 
 -- ---- replays
 
@@ -111,17 +111,17 @@ pub replay_text_short : ReplayIsBoundedLaw → ReplayTextIsBoundedLaw
 replay_text_short law a f l text x =
     let begun = x.begun in
     let fits = few a f l x.state x.events x.done x.rest begun x.split in
-    let log = begun.few in
+    let log = begun.holds.few in
     let run : length text ≤ replay_bound (length x.state.situation.active) (length x.done) =
     subst (λ (t : List ℕ). length t ≤ replay_bound (length x.state.situation.active) (length x.done)) (sym x.prints)
     (law x.state x.done x.answers (tellable a f l x.state x.events x.done x.rest begun x.split)
     (good a f l x.state x.events x.done x.rest begun x.split) (named a f l x.state x.events x.done x.rest begun x.split)
     (omega (arith, fits, log)) x.run) in
-    let active = as_many begun.aerodrome begun.flights x.state.situation begun.opens.situation in
+    let active = as_many begun.aerodrome begun.flights x.state.situation begun.holds.opens.situation in
     let by_file : length text ≤ replay_bound (length begun.flights) (length x.done) =
     subst (λ (n : ℕ). length text ≤ replay_bound n (length x.done)) active run in
-    let more = rises (length begun.flights) (length x.done) (length begun.log) fits in
-    let whole : length text ≤ replay_bound (length begun.flights) (length begun.log) = omega (arith, by_file, more) in
+    let more = rises (length begun.flights) (length x.done) (length begun.third) fits in
+    let whole : length text ≤ replay_bound (length begun.flights) (length begun.third) = omega (arith, by_file, more) in
     subst (λ r. length text ≤ replay_bound (count_in r) (event_count l)) (sym begun.flights_read)
     (subst (λ (n : ℕ). length text ≤ replay_bound (length begun.flights) n)
     (sym (counted a f l x.state x.events x.done x.rest begun x.split)) whole)
@@ -182,7 +182,7 @@ module _ (law : BlockIsBoundedLaw) (keeps : StepKeepsSoundLaw) where
       let effort = x.effort in
       let planned = effort.plannings.planned in
       let fits = few a f l x.state x.events x.done x.rest begun x.split in
-      let log = begun.few in
+      let log = begun.holds.few in
       let all = lines_short effort.problem x.state x.done planned 1
       (tellable a f l x.state x.events x.done x.rest begun x.split)
       (good a f l x.state x.events x.done x.rest begun x.split)
@@ -199,7 +199,7 @@ module _ (law : BlockIsBoundedLaw) (keeps : StepKeepsSoundLaw) where
       let z = length-append (begun_line effort.opening ++ answer_lines 1 planned) (total_line
       (effort.opening + steps_of planned)) in
       let long = ap length x.prints in
-      let whole : length text ≤ effort_bound (length begun.log) = omega
+      let whole : length text ≤ effort_bound (length begun.third) = omega
       (arith, fits, lines, first, total, u, v, y, z, long) in
       subst (λ (n : ℕ). length text ≤ effort_bound n) (sym
       (counted a f l x.state x.events x.done x.rest begun x.split)) whole

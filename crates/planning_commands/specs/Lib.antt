@@ -6,4 +6,3 @@ pub mod ReplayLaws
 pub mod TextLaws
 pub mod TextLengths
 pub mod Trial
-pub mod shared

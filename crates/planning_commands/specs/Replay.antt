@@ -25,6 +25,7 @@ use Rattle.endings.specs.declared.ending.Ending.TheVariants as endings
 use Rattle.endings.specs.declared.ending.FilesFault.{FilesFault}
 use Rattle.endings.specs.declared.ending.FilesFault.TheVariants as refusal
 use Rattle.openings.specs.Follows.{FollowsBy}
+use Rattle.endings.specs.Files.{HoldsOfThree}
 use Rattle.endings.specs.Refusing.{refusal_of, refused_by_three, Stops}
 use Rattle.openings.specs.Plan.{answer_by, answer_of}
 
@@ -32,16 +33,10 @@ abbrev pub RefusesReplay : List ℕ → List ℕ → List ℕ → FilesFault →
 RefusesReplay aerodrome flights events cause =
     refused_by_three refusal.Events (aerodrome_of aerodrome) (flights_of flights) (events_of events) ≡ Some cause
 
--- The files read as an aerodrome in its ranges, flights and a log of at most 2,000 events, and are taken. They have
--- these events, with their numbers in range, and this opening state, which is sound.
-pub record IsBegun (aerodrome_bytes flight_bytes event_bytes : List ℕ) (state : State)
-    (events : List rules.Event) : Type 0 where
-  pub aerodrome : Aerodrome
-  pub flights : List Flight
-  pub log : List Event
-  pub aerodrome_read : aerodrome_of aerodrome_bytes ≡ Ok aerodrome
-  pub flights_read : flights_of flight_bytes ≡ Ok flights
-  pub events_read : events_of event_bytes ≡ Ok log
+-- The aerodrome has its numbers in range, the log at most 2,000 events, and the files are taken. They have these events,
+-- with their numbers in range, and this opening state, which is sound.
+pub record Starts (state : State) (events : List rules.Event) (aerodrome : Aerodrome) (flights : List Flight)
+    (log : List Event) : Type 0 where
   pub range : IsInRange aerodrome
   pub few : length log ≤ most_events
   pub taken : refusal_of aerodrome flights ≡ None
@@ -49,6 +44,10 @@ pub record IsBegun (aerodrome_bytes flight_bytes event_bytes : List ℕ) (state 
   pub sound : IsSoundState state
   pub events_are : events ≡ map event_of log
   pub in_range : All IsGoodEvent events
+
+-- The files read as an aerodrome, flights and a log of which this holds.
+abbrev pub IsBegun : List ℕ → List ℕ → List ℕ → State → List rules.Event → Type 0
+IsBegun a f e state events = HoldsOfThree events_of a f e (Starts state events)
 
 -- The text is that of a run of the rules over all events of the log, from an opening state of the files.
 pub record AdmitsReplay (aerodrome flights log text : List ℕ) (answer : Answer) : Type 0 where

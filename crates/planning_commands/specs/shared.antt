@@ -1,2 +1,0 @@
--- Lemmas that crates above cite too.
-pub mod Begun
