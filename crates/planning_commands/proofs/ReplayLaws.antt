@@ -37,7 +37,9 @@ printed_same law a f l text x y p q =
     (sym p.prints ∙ q.prints)
 
 pub printed_sound : RunKeepsSoundLaw → ReplayIsSoundLaw
-printed_sound law a f l text x p = (p.begun.holds.sound, law p.state p.events p.answers p.begun.holds.sound p.begun.holds.in_range p.run)
+printed_sound law a f l text x p =
+    let begun = p.begun.holds in
+    (begun.sound, law p.state p.events p.answers begun.sound begun.in_range p.run)
 
 -- one step
 no_dearer : ClockShowsPlanLaw → (old : State) (e : Event) (a : Answered) → IsSoundState old
