@@ -22,7 +22,7 @@ use Rattle.chart.specs.Texts.{picture_text}
 abbrev pub chart_text : Situation → PlanText → List ℕ
 chart_text s plan = picture_text (elements_of s plan) (found_of s plan)
 
--- The files are taken, the text is the picture of the plan in their opening situation, and the answer that it was drawn.
+-- The files are taken, and the text is the picture of the plan in their opening situation, which the answer says.
 pub record IsDrawn (aerodrome : Aerodrome) (flights : List Flight) (plan : PlanText) (text : List ℕ)
     (answer : Answer) : Type 0 where
   pub taken : refusal_of aerodrome flights ≡ None

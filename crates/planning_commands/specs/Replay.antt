@@ -33,8 +33,8 @@ abbrev pub RefusesReplay : List ℕ → List ℕ → List ℕ → FilesFault →
 RefusesReplay aerodrome flights events cause =
     refused_by_three refusal.Events (aerodrome_of aerodrome) (flights_of flights) (events_of events) ≡ Some cause
 
--- The aerodrome has its numbers in range, the log at most 2,000 events, and the files are taken. They have these events,
--- with their numbers in range, and this opening state, which is sound.
+-- The aerodrome has its numbers in range, the log at most 2,000 events, and the files are taken. They have these
+-- events, with their numbers in range, and this opening state, which is sound.
 pub record Starts (state : State) (events : List rules.Event) (aerodrome : Aerodrome) (flights : List Flight)
     (log : List Event) : Type 0 where
   pub range : IsInRange aerodrome
