@@ -1,12 +1,10 @@
 -- What `check` prints over the contents of its three files, and which it refuses.
-use Rattle.std.specs.Prelude.{◌≡◌, ℕ, List, Some, None}
+use Rattle.std.specs.Prelude.{◌≡◌, ℕ, List, None}
 use Rattle.landing_rules.specs.Problem.{Problem, IsProblemOf}
 use Rattle.landing_rules.specs.Sound.{IsSound}
 use Rattle.cps_problem.specs.WellFormed.{IsWellFormed}
 use Rattle.arrivals.specs.declared.aerodrome.Aerodrome.{Aerodrome}
-use Rattle.aerodrome_file.specs.Reading.{aerodrome_of}
 use Rattle.arrivals.specs.declared.flight.Flight.{Flight}
-use Rattle.flight_file.specs.Reading.{flights_of}
 use Rattle.certificate.specs.Reading.{Cert, IsCertificate, certificate_of}
 use Rattle.cert_check.specs.Verdict.{verdict_of}
 use Rattle.cert_check.specs.declared.verdict.Verdict.{Verdict}
@@ -17,14 +15,12 @@ use Rattle.endings.specs.declared.ending.Ending.{Ending}
 use Rattle.endings.specs.declared.ending.FilesFault.{FilesFault}
 use Rattle.endings.specs.declared.ending.FilesFault.TheVariants as refusal
 use Rattle.endings.specs.Files.{HoldsOfThree}
-use Rattle.endings.specs.Refusing.{refusal_of, refused_by_three, Stops}
+use Rattle.endings.specs.Refusing.{RefusesThree, Stops, refusal_of}
 use Rattle.openings.specs.Follows.{FollowsAtOnce}
 use Rattle.certificate_commands.specs.Verdicts.{verdict_text, answer_of_verdict, IsTrueOf}
 
 abbrev pub RefusesCheck : List ℕ → List ℕ → List ℕ → FilesFault → Type 0
-RefusesCheck aerodrome flights certificate cause =
-    refused_by_three refusal.Certificate (aerodrome_of aerodrome) (flights_of flights)
-    (certificate_of certificate) ≡ Some cause
+RefusesCheck = RefusesThree refusal.Certificate certificate_of
 
 -- The files are taken. This is the verdict on the certificate for the problem of their opening situation, and what it
 -- says of that situation is true. The situation, the problem and the certificate have their numbers in their ranges.

@@ -1,10 +1,8 @@
 -- What is drawn over the contents of the three files, and which are refused.
-use Rattle.std.specs.Prelude.{◌≡◌, ℕ, List, Some, None}
+use Rattle.std.specs.Prelude.{◌≡◌, ℕ, List, None}
 use Rattle.landing_rules.specs.Flights.{Situation}
 use Rattle.arrivals.specs.declared.aerodrome.Aerodrome.{Aerodrome}
-use Rattle.aerodrome_file.specs.Reading.{aerodrome_of}
 use Rattle.arrivals.specs.declared.flight.Flight.{Flight}
-use Rattle.flight_file.specs.Reading.{flights_of}
 use Rattle.plan_file.specs.declared.plan.PlanText.{PlanText}
 use Rattle.plan_file.specs.Reading.{plan_of}
 use Rattle.sequencer.specs.Opened.{opened}
@@ -14,7 +12,7 @@ use Rattle.endings.specs.declared.ending.Ending.{Ending}
 use Rattle.endings.specs.declared.ending.FilesFault.{FilesFault}
 use Rattle.endings.specs.declared.ending.FilesFault.TheVariants as refusal
 use Rattle.endings.specs.Files.{HoldsOfThree}
-use Rattle.endings.specs.Refusing.{refusal_of, refused_by_three, Stops}
+use Rattle.endings.specs.Refusing.{RefusesThree, Stops, refusal_of}
 use Rattle.chart.specs.Pictures.{elements_of, found_of}
 use Rattle.chart.specs.Texts.{picture_text}
 
@@ -36,7 +34,7 @@ AreDrawn a f p text answer =
 
 -- They are refused, for this cause.
 abbrev pub RefusesFiles : List ℕ → List ℕ → List ℕ → FilesFault → Type 0
-RefusesFiles a f p cause = refused_by_three refusal.Plan (aerodrome_of a) (flights_of f) (plan_of p) ≡ Some cause
+RefusesFiles = RefusesThree refusal.Plan plan_of
 
 -- how it may stop before it writes
 abbrev pub StopsFiles : List ℕ → List ℕ → List ℕ → Ending → Type 0

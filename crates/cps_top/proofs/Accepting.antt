@@ -17,6 +17,6 @@ runs_accepted law words old new status a f text answer printed there done unfail
           inr (
             ended.1 ∙ ap answer_status same.1,
             subst
-                (λ (line : List ℕ). Grows old.out new.out line) same.0 prints.grew,
+                (λ (line : List ℕ). Grows old.out new.out line) same.0 prints.written.grew,
           )
     ]

@@ -22,7 +22,7 @@ use Rattle.inquiry_commands.specs.Audit.{AuditIsBoundedLaw}
 use Rattle.cps_top.specs.declared.commands.Command.{Command}
 use Rattle.cps_top.specs.declared.commands.Command.TheVariants.{Plan, Replay, Certify, Check, Effort, Trial, First}
 use Rattle.cps_top.specs.declared.commands.Command.TheVariants.{WhatIf, Audit}
-use Rattle.cps_top.specs.Commands.{Admits, Begins, IsCommandInRange, Refuses, TextsAreBoundedLaw, command_of}
+use Rattle.cps_top.specs.Commands.{Admits, IsCommandInRange, Refuses, Stands, TextsAreBoundedLaw, command_of}
 use Rattle.cps_top.specs.Commands.{file_count, names_of, number_of, trial_by, trial_of}
 
 -- ---- words
@@ -105,15 +105,15 @@ excludes Audit (a ∷ f ∷ p ∷ []) text answer refusal admits refuses =
     three_taken _ a f p _ admits fault.Plan refusal admits.holds.taken refuses
 excludes command contents text answer refusal admits refuses = absurd refuses
 
--- nor are they refused where a text was begun
-pub excludes_begun : (command : Command) (contents : List (List ℕ)) (text : List ℕ) (refusal : FilesFault) →
-    Begins command contents text → Refuses command contents refusal → ⊥
-excludes_begun Replay (a ∷ f ∷ e ∷ []) text refusal begins refuses =
-    three_taken _ a f e _ begins.begun fault.Events refusal begins.begun.holds.taken refuses
-excludes_begun Effort (a ∷ f ∷ e ∷ []) text refusal begins refuses =
-    three_taken _ a f e _ begins.begun fault.Events refusal begins.begun.holds.taken refuses
-excludes_begun command contents text refusal begins refuses =
-    excludes command contents text begins.0 refusal begins.1 refuses
+-- nor are they refused where a put was begun
+pub excludes_begun : (command : Command) (contents : List (List ℕ)) (puts : ℕ) (text : List ℕ) (refusal : FilesFault) →
+    Stands command contents puts text → Refuses command contents refusal → ⊥
+excludes_begun Replay (a ∷ f ∷ e ∷ []) puts text refusal stands refuses =
+    three_taken _ a f e _ stands.begun fault.Events refusal stands.begun.holds.taken refuses
+excludes_begun Effort (a ∷ f ∷ e ∷ []) puts text refusal stands refuses =
+    three_taken _ a f e _ stands.begun fault.Events refusal stands.begun.holds.taken refuses
+excludes_begun command contents puts text refusal stands refuses =
+    excludes command contents text stands.1.0 refusal stands.1.1 refuses
 
 -- ---- lengths
 
@@ -123,16 +123,16 @@ pub bounded : PlanTextIsBoundedLaw → ReplayTextIsBoundedLaw → CertifyIsBound
 bounded plan replay certify check effort trial first what_if audit = go
   where
     go : TextsAreBoundedLaw
-    go Plan (a ∷ f ∷ []) text range (answer, may) = plan a f text answer may
-    go Replay (a ∷ f ∷ e ∷ []) text range may = replay a f e text may
-    go Certify (a ∷ f ∷ []) text range (answer, may) = certify a f text answer may
-    go Check (a ∷ f ∷ c ∷ []) text range (answer, may) = check a f c text answer may
-    go Effort (a ∷ f ∷ e ∷ []) text range may = effort a f e text may
-    go First (a ∷ f ∷ []) text range (answer, may) = first a f text answer may
-    go WhatIf (a ∷ f ∷ t ∷ []) text range (answer, may) = what_if a f t text answer may
-    go Audit (a ∷ f ∷ p ∷ []) text range (answer, may) = audit a f p text answer may
-    go (Trial s n k) [] text range (answer, may) =
+    go Replay (a ∷ f ∷ e ∷ []) puts text range may = replay a f e puts text may
+    go Effort (a ∷ f ∷ e ∷ []) puts text range may = effort a f e puts text may
+    go Plan (a ∷ f ∷ []) puts text range (one, (answer, may)) = plan a f text answer may
+    go Certify (a ∷ f ∷ []) puts text range (one, (answer, may)) = certify a f text answer may
+    go Check (a ∷ f ∷ c ∷ []) puts text range (one, (answer, may)) = check a f c text answer may
+    go First (a ∷ f ∷ []) puts text range (one, (answer, may)) = first a f text answer may
+    go WhatIf (a ∷ f ∷ t ∷ []) puts text range (one, (answer, may)) = what_if a f t text answer may
+    go Audit (a ∷ f ∷ p ∷ []) puts text range (one, (answer, may)) = audit a f p text answer may
+    go (Trial s n k) [] puts text range (one, (answer, may)) =
         let few = range.1 in
         let near = range.2 in
         trial s n k text answer (omega (arith, few)) (omega (arith, near)) may
-    go command contents text range may = absurd may.1
+    go command contents puts text range may = absurd may.1.1

@@ -151,5 +151,5 @@ pub completes : (words : List (List ℕ)) (old new : Outside) (status : ℕ) (en
 completes words old new status ending is ends = record {
   complete = λ command contents good taken calm_folder calm_out.
       complete_unless words old new status ending command contents is ends good taken
-      (λ place fails. calm_folder fails.cause) (λ unwritten. calm_out unwritten.1);
+      (λ place fails. calm_folder fails.cause) (λ unwritten. calm_out unwritten.written.failed);
 }

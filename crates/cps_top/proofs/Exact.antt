@@ -105,8 +105,8 @@ exact words old new status (NotLoaded place) is ends = record {
 }
 exact words old new status NotWritten is ends = record {
   refused = λ command contents refusal there refuses.
-      let prints = (serves_at words old new NotWritten command contents there.named there.tells there.told ends).0 in
-      absurd (excludes_begun command contents prints.text refusal prints.admitted.0 refuses);
+      let prints = serves_at words old new NotWritten command contents there.named there.tells there.told ends in
+      absurd (excludes_begun command contents (prints.puts + 1) (prints.whole ++ prints.last) refusal prints.begun refuses);
   too_long = λ command before after name bytes named tells split content longer.
       absurd (none_longer words old new NotWritten command before after name bytes named tells
       split content longer ends);

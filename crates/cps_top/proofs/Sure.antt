@@ -1,6 +1,6 @@
 -- From a folder that is sure no load of files that are there fails, and into a sink that is sure no text fails for
 -- which there is room.
-use Rattle.std.proofs.Common.{◌≡◌, inl, inr, ℕ, ◌<◌, ◌≤◌, List, length, IsTrue, arith}
+use Rattle.std.proofs.Common.{◌≡◌, inl, inr, ℕ, ◌+◌, ◌<◌, ◌≤◌, List, ◌++◌, length, IsTrue, arith}
 use Rattle.cps_outside.specs.SinkState.{SinkState}
 use Rattle.cps_top.specs.declared.commands.Command.{Command}
 use Rattle.endings.specs.declared.ending.Ending.{Ending}
@@ -20,16 +20,17 @@ none_unwritten : (command : Command) (contents : List (List ℕ)) (old new : Sin
     → HoldsEach command contents old →
     Follows command contents old new NotWritten → ⊥
 none_unwritten command contents old new sure room unwritten =
-    let fits : length unwritten.0.text ≤ old.room = room unwritten.0.text unwritten.0.admitted.0 in
-    let longer : old.room < length unwritten.0.text = unwritten.0.admitted.1 sure in
+    let text = unwritten.whole ++ unwritten.last in
+    let fits : length text ≤ old.room = room (unwritten.puts + 1) text unwritten.begun in
+    let longer : old.room < length text = unwritten.written.lacked sure in
     omega (arith, fits, longer)
 
 -- room for as many bytes as it prints at most holds each of its texts
 holds_each : TextsAreBoundedLaw → (command : Command) (contents : List (List ℕ)) (sink : SinkState)
     → IsCommandInRange command → HasRoom command contents sink
     → HoldsEach command contents sink
-holds_each law command contents sink range room text begins =
-    let short = law command contents text range begins in
+holds_each law command contents sink range room puts text stands =
+    let short = law command contents puts text range stands in
     omega (arith, short, room)
 
 pub is_sure : TextsAreBoundedLaw → (words : List (List ℕ)) (old new : Outside) (status : ℕ) (ending : Ending) →

@@ -9,9 +9,10 @@ use Rattle.cps_top.specs.declared.commands.Command.TheVariants.{Plan, Replay, Ce
 use Rattle.cps_top.specs.declared.commands.Command.TheVariants.{WhatIf, Audit}
 use Rattle.endings.specs.declared.ending.Answer.{Answer}
 use Rattle.endings.specs.declared.ending.FilesFault.{FilesFault}
+use Rattle.openings.specs.Follows.{StandsAtOnce}
 use Rattle.openings.specs.Plan.{AdmitsPlan, RefusesPlan}
-use Rattle.planning_commands.specs.Replay.{AdmitsReplay, BeginsReplay, RefusesReplay, replay_puts}
-use Rattle.planning_commands.specs.Effort.{AdmitsEffort, BeginsEffort, effort_puts}
+use Rattle.planning_commands.specs.Replay.{AdmitsReplay, RefusesReplay, StandsReplay, replay_puts}
+use Rattle.planning_commands.specs.Effort.{AdmitsEffort, StandsEffort, effort_puts}
 use Rattle.planning_commands.specs.Trial.{AdmitsTrial}
 use Rattle.planning_commands.specs.TextLengths.{effort_bound}
 use Rattle.certificate_commands.specs.Certify.{AdmitsCertify}
@@ -99,21 +100,11 @@ puts_of Replay (aerodrome ∷ flights ∷ events ∷ []) = replay_puts events
 puts_of Effort (aerodrome ∷ flights ∷ events ∷ []) = effort_puts events
 puts_of command contents = 1
 
--- it may be printed whole, with some answer
-abbrev pub HasAnswer : (List ℕ → Answer → Type 0) → List ℕ → Type 0
-HasAnswer Prints text = (answer : Answer) × Prints text answer
-
--- A text that a command may have begun to print when it stops early.
-abbrev pub Begins : Command → List (List ℕ) → List ℕ → Type 0
-Begins Replay (aerodrome ∷ flights ∷ events ∷ []) = BeginsReplay aerodrome flights events
-Begins Effort (aerodrome ∷ flights ∷ events ∷ []) = BeginsEffort aerodrome flights events
-Begins command contents = HasAnswer (Admits command contents)
-
--- One that it may have begun to print when memory runs out: between the answers to two events.
-abbrev pub StopsIn : Command → List (List ℕ) → List ℕ → Type 0
-StopsIn Replay (aerodrome ∷ flights ∷ events ∷ []) = BeginsReplay aerodrome flights events
-StopsIn Effort (aerodrome ∷ flights ∷ events ∷ []) = BeginsEffort aerodrome flights events
-StopsIn command contents = λ text. ⊥
+-- what may stand of its text after so many puts
+abbrev pub Stands : Command → List (List ℕ) → ℕ → List ℕ → Type 0
+Stands Replay (aerodrome ∷ flights ∷ events ∷ []) = StandsReplay aerodrome flights events
+Stands Effort (aerodrome ∷ flights ∷ events ∷ []) = StandsEffort aerodrome flights events
+Stands command contents = StandsAtOnce (Admits command contents)
 
 -- Over these contents of its files a command is refused, for this cause.
 abbrev pub Refuses : Command → List (List ℕ) → FilesFault → Type 0
@@ -142,6 +133,5 @@ most_bytes command contents = 0
 
 -- each text that a command may begin to print has at most so many
 abbrev pub TextsAreBoundedLaw : Type 0
-TextsAreBoundedLaw = (command : Command) (contents : List (List ℕ)) (text : List ℕ) → IsCommandInRange command
-    → Begins command contents text
-    → length text ≤ most_bytes command contents
+TextsAreBoundedLaw = (command : Command) (contents : List (List ℕ)) (puts : ℕ) (text : List ℕ)
+    → IsCommandInRange command → Stands command contents puts text → length text ≤ most_bytes command contents

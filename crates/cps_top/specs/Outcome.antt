@@ -9,13 +9,12 @@ use Rattle.endings.specs.Outside.{Outside}
 use Rattle.endings.specs.declared.ending.Ending.{Ending}
 use Rattle.endings.specs.declared.ending.Ending.TheVariants.{Misused, NotLoaded, TooLong, NoMemory}
 use Rattle.openings.specs.Follows.{FollowsBy}
-use Rattle.cps_top.specs.Commands.{command_of, files_of, puts_of, Admits, Begins, Refuses, StopsIn}
+use Rattle.cps_top.specs.Commands.{command_of, files_of, puts_of, Admits, Refuses, Stands}
 
 -- What a command does over the contents of its files, with this ending.
 abbrev pub Follows : Command → List (List ℕ) → SinkState → SinkState → Ending → Type 0
 Follows command contents =
-    FollowsBy (puts_of command contents) (Admits command contents) (Begins command contents)
-    (StopsIn command contents) (Refuses command contents)
+    FollowsBy (puts_of command contents) (Admits command contents) (Stands command contents) (Refuses command contents)
 
 -- The words name a command, whose files were loaded and which then ran.
 pub record Serves (words : List (List ℕ)) (old new : Outside) (ending : Ending) : Type 0 where

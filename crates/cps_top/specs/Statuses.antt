@@ -7,7 +7,7 @@ use Rattle.cps_outside.specs.SinkState.{SinkState}
 use Rattle.cps_top.specs.declared.commands.Command.{Command}
 use Rattle.endings.specs.declared.ending.Answer.{Answer}
 use Rattle.endings.specs.declared.ending.FilesFault.{FilesFault}
-use Rattle.cps_top.specs.Commands.{command_of, files_of, most_bytes, puts_of, Admits, Begins, Refuses}
+use Rattle.cps_top.specs.Commands.{command_of, files_of, most_bytes, puts_of, Admits, Refuses, Stands}
 use Rattle.endings.specs.Lines.{answer_status}
 use Rattle.endings.specs.Loads.{limit, FailsAt, IsTooLongAt, AsksForSome, FailsWithin}
 use Rattle.openings.specs.Follows.{Prints}
@@ -62,7 +62,8 @@ HasRoom command contents sink = most_bytes command contents ≤ sink.room
 
 -- there is room for every text that the command may begin to print over these contents
 abbrev pub HoldsEach : Command → List (List ℕ) → SinkState → Type 0
-HoldsEach command contents sink = (text : List ℕ) → Begins command contents text → length text ≤ sink.room
+HoldsEach command contents sink = (puts : ℕ) (text : List ℕ) → Stands command contents puts text
+    → length text ≤ sink.room
 
 -- From a folder that is sure: over files that are taken, and into a sink that is sure and has room, the text is written
 -- whole, or memory was short. Files that are refused give status 3, or memory was short.

@@ -24,7 +24,7 @@ text_is_one law a f text other answer another p q =
     let s : here.state.situation ≡ there.state.situation =
     here.opened.opens.situation ∙ sym there.opened.opens.situation in
     let plan : here.block.plan ≡ there.block.plan =
-    law here.state.situation here.block.plan there.block.plan here.sound here.block.first
+    law here.state.situation here.block.plan there.block.plan here.opened.sound.situation here.block.first
     (subst (λ (x : Situation). IsFirstPlan x there.block.plan) (sym s) there.block.first) in (
       here.block.prints ∙ ap₂ (λ (x : Situation) (y : Option Schedule). lines_text
           (plan_lines (record { situation = x; plan = y }))) s plan
@@ -55,7 +55,7 @@ first_short law shown a f text answer x =
     let s = x.holds.state.situation in
     let plan = x.holds.block.plan in
     let block = law (record { situation = s; plan = plan })
-    (record { situation = x.holds.sound; shown = shown s plan x.holds.block.first }) in
+    (record { situation = x.holds.opened.sound.situation; shown = shown s plan x.holds.block.first }) in
     let active = as_many x.aerodrome x.flights s x.holds.opened.opens.situation in
     let long = ap length x.holds.block.prints in
     subst (λ r. length text ≤ block_bound (count_in r)) (sym x.flights_read) (omega (arith, block, active, long))

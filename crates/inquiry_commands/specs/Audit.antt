@@ -1,13 +1,11 @@
 -- What `audit` prints over the contents of its three files, and which it refuses.
-use Rattle.std.specs.Prelude.{⊤, ◌≡◌, ◌↔◌, ◌≤◌, ℕ, ◌+◌, ◌*◌, List, [], ◌∷◌, length, codes, Some, None, Ok, Result}
+use Rattle.std.specs.Prelude.{⊤, ◌≡◌, ◌↔◌, ◌≤◌, ℕ, ◌+◌, ◌*◌, List, [], ◌∷◌, length, codes, None, Ok, Result}
 use Rattle.landing_rules.specs.Flights.{Situation}
 use Rattle.landing_rules.specs.Text.{line}
 use Rattle.landing_rules.specs.Audit.{Finding, IsClean, findings}
 use Rattle.landing_rules.specs.Sound.{IsSound}
 use Rattle.arrivals.specs.declared.aerodrome.Aerodrome.{Aerodrome}
-use Rattle.aerodrome_file.specs.Reading.{aerodrome_of}
 use Rattle.arrivals.specs.declared.flight.Flight.{Flight}
-use Rattle.flight_file.specs.Reading.{flights_of}
 use Rattle.plan_file.specs.declared.plan.PlanFault.{PlanFault}
 use Rattle.plan_file.specs.declared.plan.PlanText.{PlanText}
 use Rattle.plan_file.specs.declared.plan.PlanText.TheVariants as plans
@@ -23,12 +21,11 @@ use Rattle.endings.specs.declared.ending.Ending.{Ending}
 use Rattle.endings.specs.declared.ending.FilesFault.{FilesFault}
 use Rattle.endings.specs.declared.ending.FilesFault.TheVariants as refusal
 use Rattle.endings.specs.Files.{HoldsOfThree}
-use Rattle.endings.specs.Refusing.{refusal_of, refused_by_three, Stops}
+use Rattle.endings.specs.Refusing.{RefusesThree, Stops, refusal_of}
 use Rattle.openings.specs.Follows.{FollowsAtOnce}
 
 abbrev pub RefusesAudit : List ℕ → List ℕ → List ℕ → FilesFault → Type 0
-RefusesAudit aerodrome flights plan cause =
-    refused_by_three refusal.Plan (aerodrome_of aerodrome) (flights_of flights) (plan_of plan) ≡ Some cause
+RefusesAudit = RefusesThree refusal.Plan plan_of
 
 -- the lines of the findings, or that there is none
 abbrev pub report : List Finding → List ℕ

@@ -4,7 +4,6 @@ use Rattle.landing_rules.specs.Flights.{Situation, Schedule}
 use Rattle.landing_rules.specs.Rules.{objective}
 use Rattle.landing_rules.specs.Events.{State}
 use Rattle.landing_rules.specs.FirstBest.{IsFirstPlan}
-use Rattle.landing_rules.specs.Sound.{IsSound}
 use Rattle.landing_rules.specs.Text.{lines_text, plan_lines}
 use Rattle.arrivals.specs.declared.aerodrome.Aerodrome.{Aerodrome}
 use Rattle.arrivals.specs.declared.flight.Flight.{Flight}
@@ -28,7 +27,6 @@ pub record ShowsFirstOf (s : Situation) (text : List ℕ) (answer : Answer) : Ty
 pub record ShowsFirst (aerodrome : Aerodrome) (flights : List Flight) (text : List ℕ) (answer : Answer) : Type 0 where
   pub state : State
   pub opened : IsOpened aerodrome flights state
-  pub sound : IsSound state.situation
   pub block : ShowsFirstOf state.situation text answer
 
 -- The files read as an aerodrome and flights, of which the text shows the first plan.

@@ -1,11 +1,9 @@
 -- What `whatif` prints over the contents of its three files, and which it refuses.
-use Rattle.std.specs.Prelude.{◌≡◌, ◌≤◌, ℕ, List, length, All, Some, None}
+use Rattle.std.specs.Prelude.{◌≡◌, ◌≤◌, ℕ, List, length, All, None}
 use Rattle.landing_rules.specs.Sound.{IsSound}
 use Rattle.arrivals.specs.declared.aerodrome.Aerodrome.{Aerodrome}
 use Rattle.arrivals.specs.Aerodromes.{IsInRange}
-use Rattle.aerodrome_file.specs.Reading.{aerodrome_of}
 use Rattle.arrivals.specs.declared.flight.Flight.{Flight}
-use Rattle.flight_file.specs.Reading.{flights_of}
 use Rattle.whatif.specs.declared.outcome.Outcome.{Outcome}
 use Rattle.trial_file.specs.declared.trial.Trial.{Trial}
 use Rattle.whatif.specs.Outcomes.{AreOutcomes}
@@ -22,12 +20,11 @@ use Rattle.endings.specs.declared.ending.Ending.{Ending}
 use Rattle.endings.specs.declared.ending.FilesFault.{FilesFault}
 use Rattle.endings.specs.declared.ending.FilesFault.TheVariants as refusal
 use Rattle.endings.specs.Files.{HoldsOfThree}
-use Rattle.endings.specs.Refusing.{refusal_of, refused_by_three, Stops}
+use Rattle.endings.specs.Refusing.{RefusesThree, Stops, refusal_of}
 use Rattle.openings.specs.Follows.{FollowsAtOnce}
 
 abbrev pub RefusesWhatIf : List ℕ → List ℕ → List ℕ → FilesFault → Type 0
-RefusesWhatIf aerodrome flights trials cause =
-    refused_by_three refusal.Trials (aerodrome_of aerodrome) (flights_of flights) (trials_of trials) ≡ Some cause
+RefusesWhatIf = RefusesThree refusal.Trials trials_of
 
 -- The files are taken, with their numbers in range and at most 16 trials, and open a sound situation. The text has a
 -- line for the outcome as they are and for that of each trial.

@@ -1,7 +1,7 @@
 -- What a command does that prints texts: what it writes, by its ending.
-use Rattle.std.specs.Prelude.{◌≡◌, ◌⊎◌, ℕ, ◌≤◌, List, Result, Ok, Err}
-use Rattle.cps_outside.specs.Causes.{Rose}
-use Rattle.cps_outside.specs.SinkState.{SinkState, Grows, GrowsByPart, LacksRoom, CountsPuts}
+use Rattle.std.specs.Prelude.{◌≡◌, ◌⊎◌, ℕ, List, [], Result, Ok, Err}
+use Rattle.cps_outside.specs.Puts.{Wrote, WrotePart, BreaksOff, StopsShort}
+use Rattle.cps_outside.specs.SinkState.{SinkState}
 use Rattle.endings.specs.declared.ending.Answer.{Answer}
 use Rattle.endings.specs.declared.ending.Ending.{Ending}
 use Rattle.endings.specs.declared.ending.Ending.TheVariants.{Answered, Refused, NotWritten, NoMemory}
@@ -12,46 +12,35 @@ use Rattle.openings.specs.declared.report.Report.{Report}
 pub record Prints (puts : ℕ) (P : List ℕ → Type 0) (old new : SinkState) : Type 0 where
   pub text : List ℕ
   pub admitted : P text
-  pub grew : Grows old new text
-  pub counted : CountsPuts puts old new
+  pub written : Wrote puts old new text
 
--- at least one put, and at most so many
-abbrev pub CountsSome : ℕ → SinkState → SinkState → Type 0
-CountsSome most old new = (puts : ℕ) × (1 ≤ puts) × (puts ≤ most) × CountsPuts puts old new
+-- What a command does that may print the texts that Admits says, with these answers and in so many puts, after the first
+-- of which what Stands says stands, and that refuses for the causes of Refuses, with this ending. Into a sink that is
+-- sure, a put fails only where there was no room for its text.
+abbrev pub FollowsBy : ℕ → (List ℕ → Answer → Type 0) → (ℕ → List ℕ → Type 0) → (FilesFault → Type 0) → SinkState
+    → SinkState → Ending → Type 0
+FollowsBy puts Admits Stands Refuses old new (Answered answer) = Prints puts (λ text. Admits text answer) old new
+FollowsBy puts Admits Stands Refuses old new (Refused refusal) = Refuses refusal × (new ≡ old)
+FollowsBy puts Admits Stands Refuses old new NotWritten = BreaksOff Stands old new
+FollowsBy puts Admits Stands Refuses old new NoMemory = (new ≡ old) ⊎ StopsShort puts Stands old new
+FollowsBy puts Admits Stands Refuses old new ending = ⊥
 
--- A part of a text that P admits was written, in at most so many puts.
-pub record PrintsPart (puts : ℕ) (P : List ℕ → Type 0) (old new : SinkState) : Type 0 where
-  pub text : List ℕ
-  pub admitted : P text
-  pub grew : GrowsByPart old new text
-  pub counted : CountsSome puts old new
+-- it may be printed whole, with some answer
+abbrev pub HasAnswer : (List ℕ → Answer → Type 0) → List ℕ → Type 0
+HasAnswer Admits text = (answer : Answer) × Admits text answer
 
--- What a command does that may print the texts that Admits says, in so many puts and with these answers, may have begun
--- to print those of Begins when a put fails and those of StopsIn when memory runs out, and refuses for the causes of
--- Refuses, with this ending. Into a sink that is sure, it fails to write only a text for which there was no room.
-abbrev pub FollowsBy : ℕ → (List ℕ → Answer → Type 0) → (List ℕ → Type 0) → (List ℕ → Type 0)
-    → (FilesFault → Type 0) → SinkState → SinkState → Ending → Type 0
-FollowsBy puts Admits Begins StopsIn Refuses old new (Answered answer) =
-    Prints puts (λ text. Admits text answer) old new
-FollowsBy puts Admits Begins StopsIn Refuses old new (Refused refusal) = Refuses refusal × (new ≡ old)
-FollowsBy puts Admits Begins StopsIn Refuses old new NotWritten =
-    PrintsPart puts (λ text. Begins text × LacksRoom old text) old new × Rose old.faults new.faults
-FollowsBy puts Admits Begins StopsIn Refuses old new NoMemory = (new ≡ old) ⊎ PrintsPart puts StopsIn old new
-FollowsBy puts Admits Begins StopsIn Refuses old new ending = ⊥
+-- what stands of such a text after so many puts that is put at once
+abbrev pub StandsAtOnce : (List ℕ → Answer → Type 0) → ℕ → List ℕ → Type 0
+StandsAtOnce Admits puts text = (puts ≡ 1) × HasAnswer Admits text
 
--- The same of a command that prints its text in one put: it begins to print none but one that it may print, and where
--- memory runs out it has printed nothing.
+-- The same of a command that prints its text in one put. Where memory runs out it has printed nothing.
 abbrev pub FollowsAtOnce : (List ℕ → Answer → Type 0) → (FilesFault → Type 0) → SinkState → SinkState → Ending → Type 0
-FollowsAtOnce Admits Refuses =
-    FollowsBy 1 Admits (λ text. (answer : Answer) × Admits text answer) (λ text. ⊥) Refuses
+FollowsAtOnce Admits = FollowsBy 1 Admits (StandsAtOnce Admits)
 
 -- A command that came to this report, or ended so without one, ends so: it answers with the report's text written
 -- whole, or wrote a part of it, and in one put.
 abbrev pub Finishes : Result Report Ending → SinkState → SinkState → Ending → Type 0
 Finishes (Err early) old new ending = (ending ≡ early) × (new ≡ old)
-Finishes (Ok report) old new (Answered answer) =
-    (answer ≡ report.answer) × Grows old new report.text.items × CountsPuts 1 old new
-Finishes (Ok report) old new NotWritten = GrowsByPart old new report.text.items × LacksRoom old report.text.items
-    × Rose old.faults new.faults
-    × CountsPuts 1 old new
+Finishes (Ok report) old new (Answered answer) = (answer ≡ report.answer) × Wrote 1 old new report.text.items
+Finishes (Ok report) old new NotWritten = WrotePart 0 old new [] report.text.items
 Finishes (Ok report) old new ending = ⊥

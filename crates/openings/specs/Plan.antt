@@ -1,5 +1,5 @@
 -- What an aerodrome file and a flight file open, and what `plan` may print of them.
-use Rattle.std.specs.Prelude.{◌≡◌, ◌≤◌, ℕ, Bool, List, map, is_some, Option, Some, None, if◌then◌else◌}
+use Rattle.std.specs.Prelude.{◌≡◌, ◌≤◌, ℕ, Bool, List, map, is_some, Option, None, if◌then◌else◌}
 use Rattle.landing_rules.specs.Flights.{Schedule}
 use Rattle.landing_rules.specs.Events.{State, IsOpeningState}
 use Rattle.landing_rules.specs.Problem.{IsProblemOf}
@@ -11,9 +11,7 @@ use Rattle.replan.specs.Kept.{Holds}
 use Rattle.replan.specs.declared.any_kept.AnyKept.{AnyKept}
 use Rattle.sequencer.specs.Standing.{Standing}
 use Rattle.arrivals.specs.declared.aerodrome.Aerodrome.{Aerodrome}
-use Rattle.aerodrome_file.specs.Reading.{aerodrome_of}
 use Rattle.arrivals.specs.declared.flight.Flight.{Flight}
-use Rattle.flight_file.specs.Reading.{flights_of}
 use Rattle.arrivals.specs.Seen.{flight_of}
 use Rattle.sequencer.specs.Opened.{opening_of}
 use Rattle.endings.specs.declared.ending.Answer as answers
@@ -21,10 +19,10 @@ use Rattle.endings.specs.declared.ending.Answer.TheVariants.{Scheduled, Infeasib
 use Rattle.endings.specs.declared.ending.Ending.{Ending}
 use Rattle.endings.specs.declared.ending.FilesFault.{FilesFault}
 use Rattle.endings.specs.Files.{HoldsOfTwo}
-use Rattle.endings.specs.Refusing.{refusal_of, refused_by, Stops}
+use Rattle.endings.specs.Refusing.{RefusesTwo, Stops, refusal_of}
 
 abbrev pub RefusesPlan : List ℕ → List ℕ → FilesFault → Type 0
-RefusesPlan aerodrome flights cause = refused_by (aerodrome_of aerodrome) (flights_of flights) ≡ Some cause
+RefusesPlan = RefusesTwo
 
 -- what is answered where a plan is shown last, or none
 abbrev pub answer_by : Bool → answers.Answer

@@ -6,5 +6,5 @@ mod opening;
 mod report;
 
 pub use answering::answer;
-pub use opening::begin;
+pub use opening::{begin, open_files};
 pub use report::{Report, print_report};

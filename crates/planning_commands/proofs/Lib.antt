@@ -1,5 +1,4 @@
-pub mod Counted
-pub mod Replayed
+pub mod Ended
 pub mod ReplayLaws
 pub mod Summed
 pub mod TextLengths

@@ -1,6 +1,6 @@
 -- From the clauses of what these commands print to how long it is.
 use Rattle.std.proofs.Common.{◌≡◌, ℕ, ◌+◌, ◌*◌, ◌<◌, ◌≤◌, List, [], ◌∷◌, ◌++◌, length, Option, Some, None, refl, sym}
-use Rattle.std.proofs.Common.{ap, subst, ◌∙◌, arith}
+use Rattle.std.proofs.Common.{ap, subst, ◌∙◌, arith, inl, inr}
 use Rattle.std.specs.Prelude.{⊤, All, MatchOption, codes, decimal}
 use Rattle.std.proofs.Math.Nat.{mul-le-mul_left, mul-le-mul_right}
 use Rattle.std.proofs.lemmas.Fmt.{length-decimal-le}
@@ -20,7 +20,7 @@ use Rattle.arrivals.specs.Aerodromes.{IsClock}
 use Rattle.arrivals.specs.Seen.{event_of}
 use Rattle.replan.specs.Bound.{most_steps}
 use Rattle.replays.specs.Efforts.{ArePlanned, Planned, answer_line, answer_lines, answers_of, begun_line, steps_of}
-use Rattle.replays.specs.Efforts.{total_line}
+use Rattle.replays.specs.Efforts.{effort_lines, effort_text, total_line}
 use Rattle.text_bounds.specs.Blocks.{BlockIsBoundedLaw, block_bound}
 use Rattle.text_bounds.specs.Counts.{count_in, event_count}
 use Rattle.text_bounds.specs.Replays.{HasShortName, IsInDays, IsTellable, ReplayIsBoundedLaw, answer_bound}
@@ -108,23 +108,26 @@ rises n d e le =
     omega (arith, x, y)
 
 pub replay_text_short : ReplayIsBoundedLaw → ReplayTextIsBoundedLaw
-replay_text_short law a f l text x =
+replay_text_short law a f l puts text x =
     let begun = x.begun in
-    let fits = few a f l x.state x.events x.done x.rest begun x.split in
+    let first = x.stands in
+    let fits = few a f l x.state x.events first.done first.rest begun first.split in
     let log = begun.holds.few in
-    let run : length text ≤ replay_bound (length x.state.situation.active) (length x.done) =
-    subst (λ (t : List ℕ). length t ≤ replay_bound (length x.state.situation.active) (length x.done)) (sym x.prints)
-    (law x.state x.done x.answers (tellable a f l x.state x.events x.done x.rest begun x.split)
-    (good a f l x.state x.events x.done x.rest begun x.split) (named a f l x.state x.events x.done x.rest begun x.split)
-    (omega (arith, fits, log)) x.run) in
+    let run : length text ≤ replay_bound (length x.state.situation.active) (length first.done) =
+    subst (λ (t : List ℕ). length t ≤ replay_bound (length x.state.situation.active) (length first.done))
+    (sym first.prints)
+    (law x.state first.done first.answers (tellable a f l x.state x.events first.done first.rest begun first.split)
+    (good a f l x.state x.events first.done first.rest begun first.split)
+    (named a f l x.state x.events first.done first.rest begun first.split)
+    (omega (arith, fits, log)) first.run) in
     let active = as_many begun.aerodrome begun.flights x.state.situation begun.holds.opens.situation in
-    let by_file : length text ≤ replay_bound (length begun.flights) (length x.done) =
-    subst (λ (n : ℕ). length text ≤ replay_bound n (length x.done)) active run in
-    let more = rises (length begun.flights) (length x.done) (length begun.third) fits in
+    let by_file : length text ≤ replay_bound (length begun.flights) (length first.done) =
+    subst (λ (n : ℕ). length text ≤ replay_bound n (length first.done)) active run in
+    let more = rises (length begun.flights) (length first.done) (length begun.third) fits in
     let whole : length text ≤ replay_bound (length begun.flights) (length begun.third) = omega (arith, by_file, more) in
     subst (λ r. length text ≤ replay_bound (count_in r) (event_count l)) (sym begun.flights_read)
     (subst (λ (n : ℕ). length text ≤ replay_bound (length begun.flights) n)
-    (sym (counted a f l x.state x.events x.done x.rest begun x.split)) whole)
+    (sym (counted a f l x.state x.events first.done first.rest begun first.split)) whole)
 
 -- ---- efforts
 
@@ -177,29 +180,32 @@ module _ (law : BlockIsBoundedLaw) (keeps : StepKeepsSoundLaw) where
       (omega (arith, one, lines, both), omega (arith, small, sums, more))
 
   pub effort_text_short : EffortTextIsBoundedLaw
-  effort_text_short a f l text x =
+  effort_text_short a f l puts text x =
       let begun = x.begun in
-      let effort = x.effort in
+      let first = x.stands in
+      let effort = first.effort in
       let planned = effort.plannings.planned in
-      let fits = few a f l x.state x.events x.done x.rest begun x.split in
+      let fits = few a f l x.state x.events first.done first.rest begun first.split in
       let log = begun.holds.few in
-      let all = lines_short effort.problem x.state x.done planned 1
-      (tellable a f l x.state x.events x.done x.rest begun x.split)
-      (good a f l x.state x.events x.done x.rest begun x.split)
-      (named a f l x.state x.events x.done x.rest begun x.split)
+      let all = lines_short effort.problem x.state first.done planned 1
+      (tellable a f l x.state x.events first.done first.rest begun first.split)
+      (good a f l x.state x.events first.done first.rest begun first.split)
+      (named a f l x.state x.events first.done first.rest begun first.split)
       (omega (arith, fits, log)) effort.plannings.run effort.plannings.steps in
       let lines = all.0 in
       let sums = all.1 in
       let opening = effort.few in
-      let first = steps_short effort.opening opening in
+      let begins = steps_short effort.opening opening in
       let total = total_short (effort.opening + steps_of planned) (omega (arith, fits, log, sums, opening)) in
       let u = length-append (decimal effort.opening) (10 ∷ []) in
       let v = length-append (decimal (effort.opening + steps_of planned)) (10 ∷ []) in
       let y = length-append (begun_line effort.opening) (answer_lines 1 planned) in
-      let z = length-append (begun_line effort.opening ++ answer_lines 1 planned) (total_line
-      (effort.opening + steps_of planned)) in
-      let long = ap length x.prints in
+      let z = length-append (effort_lines effort) (total_line (effort.opening + steps_of planned)) in
+      let long : length text ≤ length (effort_text effort) = elim first.prints [
+        | inl so_far ↦ let few = ap length so_far.1 in omega (arith, few, z)
+        | inr whole ↦ let same = ap length whole.2 in omega (arith, same)
+      ] in
       let whole : length text ≤ effort_bound (length begun.third) = omega
-      (arith, fits, lines, first, total, u, v, y, z, long) in
+      (arith, fits, lines, begins, total, u, v, y, z, long) in
       subst (λ (n : ℕ). length text ≤ effort_bound n) (sym
-      (counted a f l x.state x.events x.done x.rest begun x.split)) whole
+      (counted a f l x.state x.events first.done first.rest begun first.split)) whole

@@ -1,5 +1,5 @@
 -- What `replay` prints over the contents of its three files, and which it refuses.
-use Rattle.std.specs.Prelude.{◌≡◌, ◌≤◌, ℕ, ◌+◌, Bool, List, ◌++◌, length, map, All, Some, None, Result, Ok, Err}
+use Rattle.std.specs.Prelude.{◌≡◌, ◌≤◌, ℕ, ◌+◌, Bool, List, length, map, All, None, Result, Ok, Err}
 use Rattle.landing_rules.specs.Events as rules
 use Rattle.landing_rules.specs.Events.{State, Answered, Run, IsOpeningState}
 use Rattle.cps_base.specs.Limits.{most_events}
@@ -7,15 +7,13 @@ use Rattle.landing_rules.specs.Sound.{IsSoundState, IsGoodEvent}
 use Rattle.landing_rules.specs.Text.{replay_text}
 use Rattle.arrivals.specs.declared.aerodrome.Aerodrome.{Aerodrome}
 use Rattle.arrivals.specs.Aerodromes.{IsInRange}
-use Rattle.aerodrome_file.specs.Reading.{aerodrome_of}
 use Rattle.arrivals.specs.declared.flight.Flight.{Flight}
-use Rattle.flight_file.specs.Reading.{flights_of}
 use Rattle.arrivals.specs.Seen.{flight_of, event_of}
 use Rattle.arrivals.specs.declared.event.Event.{Event}
 use Rattle.event_log.specs.Reading.{events_of}
 use Rattle.event_log.specs.declared.fault.LogFault.{LogFault}
 use Rattle.sequencer.specs.Opened.{opening_of}
-use Rattle.replays.specs.Runs.{last_state}
+use Rattle.replays.specs.Runs.{ReplayStands, last_state}
 use Rattle.replays.specs.declared.stops.Stop.{Stop}
 use Rattle.replays.specs.declared.stops.Stop.TheVariants as stop
 use Rattle.cps_outside.specs.SinkState.{SinkState}
@@ -26,12 +24,11 @@ use Rattle.endings.specs.declared.ending.FilesFault.{FilesFault}
 use Rattle.endings.specs.declared.ending.FilesFault.TheVariants as refusal
 use Rattle.openings.specs.Follows.{FollowsBy}
 use Rattle.endings.specs.Files.{HoldsOfThree}
-use Rattle.endings.specs.Refusing.{refusal_of, refused_by_three, Stops}
+use Rattle.endings.specs.Refusing.{RefusesThree, Stops, refusal_of}
 use Rattle.openings.specs.Plan.{answer_by, answer_of}
 
 abbrev pub RefusesReplay : List ℕ → List ℕ → List ℕ → FilesFault → Type 0
-RefusesReplay aerodrome flights events cause =
-    refused_by_three refusal.Events (aerodrome_of aerodrome) (flights_of flights) (events_of events) ≡ Some cause
+RefusesReplay = RefusesThree refusal.Events events_of
 
 -- The aerodrome has its numbers in range, the log at most 2,000 events, and the files are taken. They have these
 -- events, with their numbers in range, and this opening state, which is sound.
@@ -59,17 +56,16 @@ pub record AdmitsReplay (aerodrome flights log text : List ℕ) (answer : Answer
   pub prints : text ≡ replay_text state answers
   pub answered : answer ≡ answer_of (last_state state answers).plan
 
--- The text is that of a run of the rules over the first events of the log, from an opening state of the files.
-pub record BeginsReplay (aerodrome flights log text : List ℕ) : Type 0 where
+-- What stands of a replay or an effort of the files after so many puts, from an opening state of them.
+pub record StandsBy (Stands : State → List rules.Event → ℕ → List ℕ → Type 0) (aerodrome flights log : List ℕ)
+    (puts : ℕ) (text : List ℕ) : Type 0 where
   pub state : State
   pub events : List rules.Event
   pub begun : IsBegun aerodrome flights log state events
-  pub done : List rules.Event
-  pub rest : List rules.Event
-  pub split : done ++ rest ≡ events
-  pub answers : List Answered
-  pub run : Run state done answers
-  pub prints : text ≡ replay_text state answers
+  pub stands : Stands state events puts text
+
+abbrev pub StandsReplay : List ℕ → List ℕ → List ℕ → ℕ → List ℕ → Type 0
+StandsReplay = StandsBy ReplayStands
 
 -- how many events a log that reads so has
 abbrev pub count_of : Result (List Event) LogFault → ℕ
@@ -83,8 +79,8 @@ replay_puts log = 1 + count_of (events_of log)
 -- what `replay` does, with this ending
 abbrev pub FollowsReplay : List ℕ → List ℕ → List ℕ → SinkState → SinkState → Ending → Type 0
 FollowsReplay aerodrome flights events =
-    FollowsBy (replay_puts events) (AdmitsReplay aerodrome flights events) (BeginsReplay aerodrome flights events)
-    (BeginsReplay aerodrome flights events) (RefusesReplay aerodrome flights events)
+    FollowsBy (replay_puts events) (AdmitsReplay aerodrome flights events) (StandsReplay aerodrome flights events)
+    (RefusesReplay aerodrome flights events)
 
 -- how `replay` may stop before it writes
 abbrev pub StopsReplay : List ℕ → List ℕ → List ℕ → Ending → Type 0

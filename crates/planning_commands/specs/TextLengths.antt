@@ -6,8 +6,8 @@ use Rattle.text_bounds.specs.Blocks.{block_bound}
 use Rattle.text_bounds.specs.Counts.{event_count, flight_count}
 use Rattle.text_bounds.specs.Replays.{replay_bound}
 use Rattle.text_bounds.specs.Trials.{trial_bound}
-use Rattle.planning_commands.specs.Effort.{BeginsEffort}
-use Rattle.planning_commands.specs.Replay.{BeginsReplay}
+use Rattle.planning_commands.specs.Effort.{StandsEffort}
+use Rattle.planning_commands.specs.Replay.{StandsReplay}
 use Rattle.planning_commands.specs.Trial.{AdmitsTrial}
 
 -- the first line of an effort has at most 29 bytes, the last 18, and that of an event 50
@@ -20,11 +20,13 @@ PlanTextIsBoundedLaw = (aerodrome flights text : List ℕ) (answer : Answer) →
 
 -- also one that stops early
 abbrev pub ReplayTextIsBoundedLaw : Type 0
-ReplayTextIsBoundedLaw = (aerodrome flights log text : List ℕ) → BeginsReplay aerodrome flights log text
+ReplayTextIsBoundedLaw = (aerodrome flights log : List ℕ) (puts : ℕ) (text : List ℕ)
+    → StandsReplay aerodrome flights log puts text
     → length text ≤ replay_bound (flight_count flights) (event_count log)
 
 abbrev pub EffortTextIsBoundedLaw : Type 0
-EffortTextIsBoundedLaw = (aerodrome flights log text : List ℕ) → BeginsEffort aerodrome flights log text
+EffortTextIsBoundedLaw = (aerodrome flights log : List ℕ) (puts : ℕ) (text : List ℕ)
+    → StandsEffort aerodrome flights log puts text
     → length text ≤ effort_bound (event_count log)
 
 -- for up to 99 flights and a bound on shifts of one digit, as the command takes them

@@ -31,7 +31,7 @@ pub struct LogFiles<'a> {
 
 // The sequencer that the files begin, the events of the log, and the steps of the opening plan; or why the files are not
 // taken.
-#[tactic(auto, using(crate::proofs::Replayed::events_in_range))]
+#[tactic(auto, using(crate::proofs::Ended::events_in_range))]
 pub(crate) fn begin_files<R: Threads + Sync, G: Gate + Sync>(
     rt: &R,
     alloc: Global,

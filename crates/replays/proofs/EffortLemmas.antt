@@ -1,8 +1,9 @@
 -- An effort goes on by one event, or stops there.
-use Rattle.std.proofs.Common.{◌≡◌, ℕ, ◌+◌, ◌*◌, ◌^◌, ◌<◌, ◌≤◌, List, [], ◌∷◌, ◌++◌, length, Err, inl, inr, refl, sym}
-use Rattle.std.proofs.Common.{ap, subst, ◌∙◌, arith, append_assoc, append-nil, length-append}
-use Rattle.std.specs.Prelude.{None, Some, Option, MatchOption, ⊤}
-use Rattle.cps_outside.specs.SinkState.{SinkState, GrowsByPart, CountsPuts}
+use Rattle.std.proofs.Common.{◌≡◌, ℕ, ◌+◌, ◌*◌, ◌^◌, ◌<◌, ◌≤◌, List, [], ◌∷◌, ◌++◌, length, Err, inl, inr, refl}
+use Rattle.std.proofs.Common.{sym, ap, subst, ◌∙◌, arith, append_assoc, append-nil, length-append}
+use Rattle.std.specs.Prelude.{◌⊎◌, None, Some, Option, MatchOption, ⊤}
+use Rattle.cps_outside.specs.Puts.{Wrote, WrotePart, BreaksOff, StopsShort}
+use Rattle.cps_outside.specs.SinkState.{SinkState}
 use Rattle.landing_rules.specs.Events.{State, Event, Refusal, Step, Answered, Run}
 use Rattle.landing_rules.specs.Problem.{Problem, IsProblemOf}
 use Rattle.landing_rules.specs.Text.{Bytes}
@@ -10,9 +11,9 @@ use Rattle.cps_network.specs.Due.{IsDue}
 use Rattle.replan.specs.Kept.{Holds}
 use Rattle.replan.specs.declared.any_kept.AnyKept.{AnyKept}
 use Rattle.replays.specs.Runs.{last_state}
-use Rattle.replays.specs.Written.{Wrote, WrotePart, PutsText}
+use Rattle.replays.specs.Written.{PutsText}
 use Rattle.replays.proofs.LongerRuns.{Run-push, last_state-push}
-use Rattle.replays.proofs.Written.{wrote_nothing, wrote_after, part_after}
+use Rattle.replays.proofs.Written.{wrote_nothing, wrote_after, part_after, failed_after}
 use Rattle.replays.specs.declared.stops.Stop.{Stop}
 use Rattle.replays.specs.declared.stops.Stop.TheVariants as stop
 use Rattle.sequencer.specs.Standing.{Standing}
@@ -22,8 +23,9 @@ use Rattle.situations.specs.declared.refusal.Refusal as refusals
 use Rattle.situations.specs.declared.refusal.Refusal.TheVariants as refusal
 use Rattle.replan.specs.Bound.{most_steps}
 use Rattle.replays.specs.Efforts.{Planned, TakesSteps, IsPlanned, Plannings, Effort, answers_of, steps_of}
-use Rattle.replays.specs.Efforts.{last_problem, begun_line, answer_line, answer_lines, total_line, planned_text}
-use Rattle.replays.specs.Ends.{Plans, PlansWith, StepPlans, AllPlan, SomePlan, EventsPlan, EffortTells, EffortEnds}
+use Rattle.replays.specs.Efforts.{last_problem, begun_line, answer_line, answer_lines, total_line}
+use Rattle.replays.specs.Ends.{Plans, PlansWith, StepPlans, AllPlan, LinesStand, EventsPlan, EffortStands}
+use Rattle.replays.specs.Ends.{EffortTells, EffortEnds}
 use Rattle.replays.proofs.Chains.{answers-push, planned-push, last_problem-push, steps-push, lines-push}
 
 -- what was done of the events, and what is left
@@ -130,31 +132,42 @@ goes_on old now new events from to to2 i total e rest steps d a =
           (answer_line i a.answer steps) d.written a.written));
     }
 
+-- the lines of the answers so far stand
+stands : (old now : Standing AnyKept) (events : List Event) (from to : SinkState) (i total : ℕ) (rest : List Event)
+    → (d : Done old events from i now rest to total)
+    → LinesStand old events (length d.done) (answer_lines 1 d.plannings.planned)
+stands old now events from to i total rest d = record {
+  done = d.done;
+  rest = rest;
+  split = d.split;
+  count = refl;
+  plannings = d.plannings;
+  prints = refl;
+}
+
 stops_unwritten : (old now new : Standing AnyKept) (events : List Event) (from to to2 : SinkState)
     (i total : ℕ) (e : Event) (rest : List Event) (steps : ℕ) →
-    Done old events from i now (e ∷ rest) to total → PlansWith now new i e steps (WrotePart 1 to to2) →
-    SomePlan old events (λ puts. WrotePart puts from to2)
+    Done old events from i now (e ∷ rest) to total → PlansWith now new i e steps (WrotePart 0 to to2 []) →
+    BreaksOff (LinesStand old events) from to2
 unfolding longer
 stops_unwritten old now new events from to to2 i total e rest steps d a =
-    let one : Planned = one_more new i e now steps (WrotePart 1 to to2) a in
+    let one : Planned = one_more new i e now steps (WrotePart 0 to to2 []) a in
     record {
-      done = d.done ++ e ∷ [];
-      rest = rest;
-      split = append_assoc d.done (e ∷ []) rest ∙ d.split;
-      plannings = longer old now new events from to i total e rest steps (WrotePart 1 to to2) d a;
-      written = subst (λ (n : ℕ). WrotePart n from to2 (answer_lines 1 (d.plannings.planned ++ one ∷ [])))
-          (sym (length-append d.done (e ∷ [])))
-          (subst (λ (t : Bytes). WrotePart (length d.done + 1) from to2 t)
-          (lines_longer i d.plannings.planned one d.number)
-          (part_after (length d.done) 1 from to to2 (answer_lines 1 d.plannings.planned)
-          (answer_line i a.answer steps) d.written a.written));
+      puts = length d.done;
+      whole = answer_lines 1 d.plannings.planned;
+      last = answer_line i a.answer steps;
+      stood = inr (stands old now events from to i total (e ∷ rest) d);
+      begun = record {
+        done = d.done ++ e ∷ [];
+        rest = rest;
+        split = append_assoc d.done (e ∷ []) rest ∙ d.split;
+        count = omega (arith, length-append d.done (e ∷ []));
+        plannings = longer old now new events from to i total e rest steps (WrotePart 0 to to2 []) d a;
+        prints = lines_longer i d.plannings.planned one d.number;
+      };
+      written = failed_after (length d.done) from to to2 (answer_lines 1 d.plannings.planned)
+          (answer_line i a.answer steps) d.written a.written;
     }
-
-stops_short : (old now : Standing AnyKept) (events : List Event) (from to : SinkState) (i total : ℕ) (rest : List Event)
-    →
-    Done old events from i now rest to total → SomePlan old events (λ puts. Wrote puts from to)
-stops_short old now events from to i total rest d =
-    record { done = d.done; rest = rest; split = d.split; plannings = d.plannings; written = d.written }
 
 pub stops : (s : Stop) (old now new : Standing AnyKept) (events : List Event) (from to to2 : SinkState)
     (i total : ℕ) (e : Event) (rest : List Event) →
@@ -162,12 +175,15 @@ pub stops : (s : Stop) (old now new : Standing AnyKept) (events : List Event) (f
     → EventsPlan old new events from to2 (Err s)
 stops stop.NotWritten old now new events from to to2 i total e rest d a =
     stops_unwritten old now new events from to to2 i total e rest a.0 d a.1
-stops stop.NoMemory old now new events from to to2 i total e rest d a =
-    subst (λ (x : SinkState). SomePlan old events (λ puts. Wrote puts from x)) (sym a)
-    (stops_short old now events from to i total (e ∷ rest) d)
+stops stop.NoMemory old now new events from to to2 i total e rest d a = (
+  length d.done,
+  answer_lines 1 d.plannings.planned,
+  stands old now events from to i total (e ∷ rest) d,
+  subst (λ (x : SinkState). Wrote (length d.done) from x (answer_lines 1 d.plannings.planned)) (sym a) d.written,
+)
 
 pub ends : (old now : Standing AnyKept) (events : List Event) (from to : SinkState) (i total : ℕ) →
-    Done old events from i now [] to total → AllPlan old now events total (Wrote (length events) from to)
+    Done old events from i now [] to total → AllPlan old now events total from to
 ends old now events from to i total d =
     let all : d.done ≡ events = sym (append-nil d.done) ∙ d.split in
     record {
@@ -220,46 +236,40 @@ effort_of old events opening of opened few plannings =
       plannings = plannings;
     }
 
-abbrev pub no_plannings : (old : Standing AnyKept) → Plannings old.problem old.state []
-no_plannings old = record { planned = []; run = tt; steps = tt }
-
--- a first part of a text is a part of it
-part_of_more : (puts : ℕ) (from to : SinkState) (x y : Bytes) → WrotePart puts from to x
-    → WrotePart puts from to (x ++ y)
-part_of_more puts from to x y w = record {
-  tells = w.tells;
-  part = λ told. let p = w.part told in
-      (p.0, p.1 ++ y, sym (append_assoc p.0 p.1 y) ∙ ap (λ (t : Bytes). t ++ y) p.2, p.3);
-  failed = w.failed;
-  lacked = λ sure. let short : from.room < length x = w.lacked sure in omega (arith, short, length-append x y);
-  counted = w.counted;
-}
-
-whole_of_more : (puts : ℕ) (from to : SinkState) (x y : Bytes) → Wrote puts from to x
-    → GrowsByPart from to (x ++ y) × CountsPuts puts from to
-whole_of_more puts from to x y w = ((λ told. (x, y, refl, w.grew told)), w.counted)
-
-two_more : (n : ℕ) → (1 + n) + 1 ≡ 2 + n
-two_more n = omega arith
-
 module _ (old : Standing AnyKept) (events : List Event) (opening : ℕ) (of : IsProblemOf old.state.situation old.problem)
     (opened : IsDue None old.problem opening)
     (few : opening ≤ most_steps) where
-  -- the opening's line was not written whole
-  pub stops_at_once : (s : Stop) (new : Standing AnyKept) (from to : SinkState)
-      → PutsText (begun_line opening) from to (Err s) → EffortEnds old.state new.state events from to (Err s)
-  stops_at_once stop.NotWritten new from to w = record {
+  -- the opening's line, and those of the first events
+  counts : (puts : ℕ) (text : Bytes) → LinesStand old events puts text
+      → EffortStands old.state events (1 + puts) (begun_line opening ++ text)
+  counts puts text lines = record {
+    done = lines.done;
+    rest = lines.rest;
+    split = lines.split;
+    effort = effort_of old lines.done opening of opened few lines.plannings;
+    prints = inl (ap (λ n. 1 + n) lines.count, ap (λ (t : Bytes). begun_line opening ++ t) lines.prints);
+  }
+
+  none_yet : (puts : ℕ) (text : Bytes) → puts ≡ 0 → text ≡ [] → LinesStand old events puts text
+  none_yet puts text none empty = record {
     done = [];
     rest = events;
     split = refl;
-    effort = effort_of old [] opening of opened few (no_plannings old);
-    written = (
-      1,
-      (omega arith),
-      (omega arith),
-      part_of_more 1 from to (begun_line opening ++ [])
-          (total_line (opening + 0)) (part_of_more 1 from to (begun_line opening) [] w),
-    );
+    count = none;
+    plannings = record { planned = []; run = tt; steps = tt };
+    prints = empty;
+  }
+
+  -- it was not written whole
+  pub stops_at_once : (s : Stop) (new : Standing AnyKept) (from to : SinkState)
+      → PutsText (begun_line opening) from to (Err s) → EffortEnds old.state new.state events from to (Err s)
+  stops_at_once stop.NotWritten new from to w = record {
+    puts = 0;
+    whole = [];
+    last = begun_line opening;
+    stood = inl (refl, refl);
+    begun = subst (EffortStands old.state events 1) (append-nil (begun_line opening)) (counts 0 [] (none_yet 0 [] refl refl));
+    written = w;
   }
   stops_at_once stop.NoMemory new from to w = inl w
 
@@ -268,86 +278,96 @@ module _ (old : Standing AnyKept) (events : List Event) (opening : ℕ) (of : Is
       → Wrote 1 from mid (begun_line opening) → EventsPlan old new events mid to (Err s) →
       EffortEnds old.state new.state events from to (Err s)
   stops_after stop.NotWritten new from mid to w some = record {
-    done = some.done;
-    rest = some.rest;
-    split = some.split;
-    effort = effort_of old some.done opening of opened few some.plannings;
-    written = (
-      1 + length some.done,
-      (omega arith),
-      (omega arith),
-      part_of_more (1 + length some.done) from to (begun_line opening ++ answer_lines 1 some.plannings.planned)
-          (total_line (opening + steps_of some.plannings.planned))
-          (part_after 1 (length some.done) from mid to (begun_line opening)
-          (answer_lines 1 some.plannings.planned) w some.written),
-    );
+    puts = 1 + some.puts;
+    whole = begun_line opening ++ some.whole;
+    last = some.last;
+    stood = inr (counts some.puts some.whole (elim some.stood [
+      | inl none ↦ none_yet some.puts some.whole none.0 none.1
+      | inr stood ↦ stood
+    ]));
+    begun = subst (λ n. EffortStands old.state events n ((begun_line opening ++ some.whole) ++ some.last)) (omega arith)
+        (subst (EffortStands old.state events (1 + (some.puts + 1)))
+        (sym (append_assoc (begun_line opening) some.whole some.last))
+        (counts (some.puts + 1) (some.whole ++ some.last) some.begun));
+    written = part_after 1 some.puts from mid to (begun_line opening) some.whole some.last w some.written;
   }
-  stops_after stop.NoMemory new from mid to w some = inr (record {
-    done = some.done;
-    rest = some.rest;
-    split = some.split;
-    effort = effort_of old some.done opening of opened few some.plannings;
-    written = whole_of_more (1 + length some.done) from to (begun_line opening ++ answer_lines 1 some.plannings.planned)
-        (total_line (opening + steps_of some.plannings.planned))
-        (wrote_after 1 (length some.done) from mid to (begun_line opening)
-        (answer_lines 1 some.plannings.planned) w some.written);
-  })
+  stops_after stop.NoMemory new from mid to w (puts, text, lines, some) =
+      let all = ap length lines.split in
+      let parts = length-append lines.done lines.rest in
+      let count = lines.count in
+      inr (record {
+        puts = 1 + puts;
+        text = begun_line opening ++ text;
+        few = omega (arith, all, parts, count);
+        stood = counts puts text lines;
+        written = wrote_after 1 puts from mid to (begun_line opening) text w some;
+      })
 
   -- and the last line was not
   pub stops_last : (s : Stop) (new : Standing AnyKept) (total : ℕ) (from mid late to : SinkState)
       → Wrote 1 from mid (begun_line opening) →
-      AllPlan old new events total (Wrote (length events) mid late)
+      AllPlan old new events total mid late
       → PutsText (total_line (opening + total)) late to (Err s)
       → EffortEnds old.state new.state events from to (Err s)
-  stops_last stop.NotWritten new total from mid late to w all last =
-      let planned = all.plannings.planned in
-      let told : WrotePart 1 late to (total_line (opening + steps_of planned)) =
-      subst (λ (n : ℕ). WrotePart 1 late to (total_line (opening + n))) all.total_is last in
-      record {
+  stops_last s new total from mid late to w all last = go s last
+    where
+      lines : Bytes
+      lines = begun_line opening ++ answer_lines 1 all.plannings.planned
+
+      wrote : Wrote (1 + length events) from late lines
+      wrote = wrote_after 1 (length events) from mid late (begun_line opening)
+          (answer_lines 1 all.plannings.planned) w all.written
+
+      stood : EffortStands old.state events (1 + length events) lines
+      stood = counts (length events) (answer_lines 1 all.plannings.planned) (record {
         done = events;
         rest = [];
         split = append-nil events;
-        effort = effort_of old events opening of opened few all.plannings;
-        written = (
-          (1 + length events) + 1,
-          (omega arith),
-          (omega arith),
-          part_after (1 + length events) 1 from late to (begun_line opening ++ answer_lines 1 planned)
-              (total_line (opening + steps_of planned))
-              (wrote_after 1 (length events) from mid late (begun_line opening) (answer_lines 1 planned) w all.written)
-              told,
-        );
+        count = refl;
+        plannings = all.plannings;
+        prints = refl;
+      })
+
+      go : (s : Stop) → PutsText (total_line (opening + total)) late to (Err s)
+          → EffortEnds old.state new.state events from to (Err s)
+      go stop.NotWritten last = record {
+        puts = 1 + length events;
+        whole = lines;
+        last = total_line (opening + total);
+        stood = inr stood;
+        begun = record {
+          done = events;
+          rest = [];
+          split = append-nil events;
+          effort = effort_of old events opening of opened few all.plannings;
+          prints = inr (refl, omega arith, ap (λ n. lines ++ total_line (opening + n)) all.total_is);
+        };
+        written = failed_after (1 + length events) from late to lines (total_line (opening + total)) wrote last;
       }
-  stops_last stop.NoMemory new total from mid late to w all last =
-      let planned = all.plannings.planned in
-      inr (record {
-        done = events;
-        rest = [];
-        split = append-nil events;
-        effort = effort_of old events opening of opened few all.plannings;
-        written = subst (λ (x : SinkState). GrowsByPart from x (planned_text opening planned)
-            × CountsPuts (1 + length events) from x) (sym last)
-            (whole_of_more (1 + length events) from late (begun_line opening ++ answer_lines 1 planned)
-            (total_line (opening + steps_of planned))
-            (wrote_after 1 (length events) from mid late (begun_line opening) (answer_lines 1 planned) w all.written));
+      go stop.NoMemory last = inr (record {
+        puts = 1 + length events;
+        text = lines;
+        few = omega arith;
+        stood = stood;
+        written = subst (λ (x : SinkState). Wrote (1 + length events) from x lines) (sym last) wrote;
       })
 
   -- all was written
   pub ends_whole : (new : Standing AnyKept) (total : ℕ) (from mid late to : SinkState)
       → Wrote 1 from mid (begun_line opening) →
-      AllPlan old new events total (Wrote (length events) mid late) →
+      AllPlan old new events total mid late →
       Wrote 1 late to (total_line (opening + total))
-      → EffortTells old.state events new.state (Wrote (2 + length events) from to)
+      → EffortTells old.state events new.state from to
   ends_whole new total from mid late to w all last =
       let planned = all.plannings.planned in
-      let told : Wrote 1 late to (total_line (opening + steps_of planned)) =
-      subst (λ (n : ℕ). Wrote 1 late to (total_line (opening + n))) all.total_is last in
+      let lines = begun_line opening ++ answer_lines 1 planned in
+      let told = subst (λ (n : ℕ). Wrote 1 late to (total_line (opening + n))) all.total_is last in
+      let puts : (1 + length events) + 1 ≡ 2 + length events = omega arith in
       record {
         effort = effort_of old events opening of opened few all.plannings;
         last = all.last;
-        written = subst (λ (n : ℕ). Wrote n from to (planned_text opening planned)) (two_more (length events))
-            (wrote_after (1 + length events) 1 from late to (begun_line opening ++ answer_lines 1 planned)
-            (total_line (opening + steps_of planned))
+        written = subst (λ (n : ℕ). Wrote n from to (lines ++ total_line (opening + steps_of planned))) puts
+            (wrote_after (1 + length events) 1 from late to lines (total_line (opening + steps_of planned))
             (wrote_after 1 (length events) from mid late (begun_line opening) (answer_lines 1 planned) w all.written)
             told);
       }

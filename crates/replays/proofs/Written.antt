@@ -1,10 +1,10 @@
--- What was written goes on by a text, whole or in part.
-use Rattle.std.proofs.Common.{ℕ, ◌+◌, ◌^◌, ◌<◌, ◌≤◌, [], ◌++◌, length, refl, ap, sym, ◌∙◌, arith, append_assoc}
-use Rattle.std.proofs.Common.{length-append}
+-- What stands goes on by a text, whole or in part.
+use Rattle.std.proofs.Common.{◌≡◌, ℕ, ◌+◌, ◌^◌, ◌<◌, ◌≤◌, [], ◌++◌, length, refl, ap, sym, subst, ◌∙◌, arith}
+use Rattle.std.proofs.Common.{append_assoc, length-append}
 use Rattle.std.proofs.lemmas.List.{append-nil}
+use Rattle.cps_outside.specs.Puts.{Wrote, WrotePart}
 use Rattle.cps_outside.specs.SinkState.{SinkState, CountsPuts}
 use Rattle.landing_rules.specs.Text.{Bytes}
-use Rattle.replays.specs.Written.{Wrote, WrotePart}
 
 -- the puts of both
 counted_both : (m n : ℕ) (old mid new : SinkState) → CountsPuts m old mid → CountsPuts n mid new
@@ -36,20 +36,29 @@ wrote_after m n old mid new x y a b = record {
   counted = counted_both m n old mid new a.counted b.counted;
 }
 
-pub part_after : (m n : ℕ) (old mid new : SinkState) (x y : Bytes) → Wrote m old mid x → WrotePart n mid new y
-    → WrotePart (m + n) old new (x ++ y)
-part_after m n old mid new x y a b = record {
+pub part_after : (m n : ℕ) (old mid new : SinkState) (x whole last : Bytes) → Wrote m old mid x
+    → WrotePart n mid new whole last → WrotePart (m + n) old new (x ++ whole) last
+part_after m n old mid new x whole last a b = record {
   tells = b.tells ∙ a.tells;
-  part = λ told. let p = b.part (a.tells ∙ told) in (
-    x ++ p.0,
+  grew = λ told. let p = b.grew (a.tells ∙ told) in (
+    p.0,
     p.1,
-    append_assoc x p.0 p.1 ∙ ap (λ (l : Bytes). x ++ l) p.2,
-    p.3 ∙ ap (λ (w : Bytes). w ++ p.0) (a.grew told) ∙ append_assoc old.written x p.0,
+    p.2,
+    p.3 ∙ ap (λ (w : Bytes). w ++ (whole ++ p.0)) (a.grew told) ∙ append_assoc old.written x (whole ++ p.0)
+        ∙ ap (λ (w : Bytes). old.written ++ w) (sym (append_assoc x whole p.0)),
   );
   failed = omega (arith, a.faults, b.failed);
   lacked = λ sure.
       let first : old.room ≤ mid.room + length x = a.left sure in
-      let short : mid.room < length y = b.lacked (a.sure ∙ sure) in
-      omega (arith, first, short, length-append x y);
-  counted = counted_both m n old mid new a.counted b.counted;
+      let short : mid.room < length (whole ++ last) = b.lacked (a.sure ∙ sure) in
+      omega (arith, first, short, length-append x whole, length-append whole last, length-append (x ++ whole) last);
+  counted = subst (λ puts. CountsPuts puts old new) (omega arith) (counted_both m (n + 1) old mid new a.counted b.counted);
 }
+
+-- the put behind a text that stands failed
+pub failed_after : (m : ℕ) (old mid new : SinkState) (x last : Bytes) → Wrote m old mid x → WrotePart 0 mid new [] last
+    → WrotePart m old new x last
+failed_after m old mid new x last a b =
+    let none : m + 0 ≡ m = omega arith in
+    subst (λ n. WrotePart n old new x last) none
+    (subst (λ (w : Bytes). WrotePart (m + 0) old new w last) (append-nil x) (part_after m 0 old mid new x [] last a b))

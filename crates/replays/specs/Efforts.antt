@@ -73,9 +73,10 @@ answer_lines i (a ∷ rest) = answer_line i a.answered.answer a.steps ++ answer_
 abbrev pub total_line : ℕ → Bytes
 total_line steps = line (codes "total " ++ decimal steps)
 
--- the steps of the opening, those of each event, and of all together
-abbrev pub planned_text : ℕ → List Planned → Bytes
-planned_text opening planned = (begun_line opening ++ answer_lines 1 planned) ++ total_line (opening + steps_of planned)
+-- the steps of the opening, and those of each event
+abbrev pub effort_lines : {state : State} {events : List Event} → Effort state events → Bytes
+effort_lines effort = begun_line effort.opening ++ answer_lines 1 effort.plannings.planned
 
+-- and of all together
 abbrev pub effort_text : {state : State} {events : List Event} → Effort state events → Bytes
-effort_text effort = planned_text effort.opening effort.plannings.planned
+effort_text effort = effort_lines effort ++ total_line (effort.opening + steps_of effort.plannings.planned)

@@ -141,8 +141,8 @@ fn is_planned(sequencer: &Sequencer<AnyKept>) -> bool
 /// `opening` is how many steps the planning of the sequencer's problem took with nothing held, and the planner holds that
 /// problem. It asks that the events' numbers are in their ranges, and that there are at most 2,000. Where it answers a plan,
 /// or none, `out` grew by the text of a run of the rules over all of the events, with the steps that are due at each planning.
-/// After a put that failed, or where memory ran out, it grew by nothing or by a part of the text of a run over the first of
-/// them.
+/// After a put that failed the lines before stand whole, and behind them a part of that one; where memory ran out, the lines
+/// of the first puts, or none.
 pub fn effort<R: Threads + Sync, S: Sink, G: Gate + Sync>(
     rt: &R,
     alloc: Global,

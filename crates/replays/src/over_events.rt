@@ -61,8 +61,9 @@ fn open<P: Planner, S: Sink>(
 /// at the end.
 ///
 /// It asks that the events' numbers are in their ranges, and that there are fewer than 2^31. Where it answers a plan, or
-/// none, `out` grew by the text of a run of the rules over all of the events. After a put that failed it grew by a part
-/// of the text of a run over the first of them, and where memory ran out by nothing or by the whole of such a text.
+/// none, `out` grew by the text of a run of the rules over all of the events. After a put that failed the text of a run over
+/// the events before stands whole, and behind it a part of that put's; where memory ran out, nothing or the whole of such a
+/// text.
 pub fn replay<R: Threads + Sync, S: Sink, G: Gate + Sync, L: Ledger>(
     rt: &R,
     alloc: Global,

@@ -5,49 +5,44 @@ use Rattle.aerodrome_file.specs.Reading.{aerodrome_of}
 use Rattle.arrivals.specs.declared.flight.Flight.{Flight}
 use Rattle.flight_file.specs.Reading.{flights_of}
 use Rattle.endings.specs.Files.{HoldsOfTwo, HoldsOfThree}
-use Rattle.endings.specs.Refusing.{refusal_of, refused_by, refused_by_three, Stops, StopsOpened}
-use Rattle.endings.specs.declared.ending.Answer.{Answer}
+use Rattle.endings.specs.Refusing.{RefusesThree, RefusesTwo, refusal_of, refused_by, Stops, StopsOpened}
 use Rattle.endings.specs.declared.ending.Ending.{Ending}
 use Rattle.endings.specs.declared.ending.FilesFault.{FilesFault}
 use Rattle.endings.specs.shared.Refusing.{refused_as_read, stops_by}
 use Rattle.openings.specs.Plan.{StopsPlan}
-use Rattle.openings.specs.declared.report.Report.{Report}
 
--- what a report shows of the files that were read it shows of their bytes, and what stops them stops their bytes
-pub of_bytes : (Shows : Aerodrome → List Flight → List ℕ → Answer → Type 0) (r : Result Report Ending) (a f : List ℕ)
+-- what is so of the files that were read is so of their bytes, and what stops them stops their bytes
+pub of_bytes : {X : Type 0} (Holds : Aerodrome → List Flight → X → Type 0) (r : Result X Ending) (a f : List ℕ)
     (aerodrome : Aerodrome) (flights : List Flight) → aerodrome_of a ≡ Ok aerodrome → flights_of f ≡ Ok flights
-    → MatchResult r (λ r. Shows aerodrome flights r.text.items r.answer) (StopsOpened aerodrome flights)
-    → MatchResult r (λ r. HoldsOfTwo a f (λ b fs. Shows b fs r.text.items r.answer)) (StopsPlan a f)
-of_bytes Shows (Ok report) a f aerodrome flights a_read f_read shows = record {
+    → MatchResult r (Holds aerodrome flights) (StopsOpened aerodrome flights)
+    → MatchResult r (λ x. HoldsOfTwo a f (λ b fs. Holds b fs x)) (StopsPlan a f)
+of_bytes Holds (Ok x) a f aerodrome flights a_read f_read holds = record {
   aerodrome = aerodrome;
   flights = flights;
   aerodrome_read = a_read;
   flights_read = f_read;
-  holds = shows;
+  holds = holds;
 }
-of_bytes Shows (Err ending) a f aerodrome flights a_read f_read stops =
-    stops_by (λ cause. refusal_of aerodrome flights ≡ Some cause)
-    (λ cause. refused_by (aerodrome_of a) (flights_of f) ≡ Some cause) ending
+of_bytes Holds (Err ending) a f aerodrome flights a_read f_read stops =
+    stops_by (λ cause. refusal_of aerodrome flights ≡ Some cause) (RefusesTwo a f) ending
     (λ cause refused. ap₂ refused_by a_read f_read ∙ refused) stops
 
 -- the same with a third file, whose fault is a refusal of this kind
-pub of_three_bytes : {T F : Type 0} (kind : F → FilesFault) (read : List ℕ → Result T F)
-    (Shows : Aerodrome → List Flight → T → List ℕ → Answer → Type 0) (r : Result Report Ending) (a f t : List ℕ)
+pub of_three_bytes : {T F X : Type 0} (kind : F → FilesFault) (read : List ℕ → Result T F)
+    (Holds : Aerodrome → List Flight → T → X → Type 0) (r : Result X Ending) (a f t : List ℕ)
     (aerodrome : Aerodrome) (flights : List Flight) (third : T)
     → aerodrome_of a ≡ Ok aerodrome → flights_of f ≡ Ok flights → read t ≡ Ok third
-    → MatchResult r (λ r. Shows aerodrome flights third r.text.items r.answer) (StopsOpened aerodrome flights)
-    → MatchResult r (λ r. HoldsOfThree read a f t (λ b fs u. Shows b fs u r.text.items r.answer))
-    (Stops (λ cause. refused_by_three kind (aerodrome_of a) (flights_of f) (read t) ≡ Some cause))
-of_three_bytes kind read Shows (Ok report) a f t aerodrome flights third a_read f_read t_read shows = record {
+    → MatchResult r (Holds aerodrome flights third) (StopsOpened aerodrome flights)
+    → MatchResult r (λ x. HoldsOfThree read a f t (λ b fs u. Holds b fs u x)) (Stops (RefusesThree kind read a f t))
+of_three_bytes kind read Holds (Ok x) a f t aerodrome flights third a_read f_read t_read holds = record {
   aerodrome = aerodrome;
   flights = flights;
   third = third;
   aerodrome_read = a_read;
   flights_read = f_read;
   third_read = t_read;
-  holds = shows;
+  holds = holds;
 }
-of_three_bytes kind read Shows (Err ending) a f t aerodrome flights third a_read f_read t_read stops =
-    stops_by (λ cause. refusal_of aerodrome flights ≡ Some cause)
-    (λ cause. refused_by_three kind (aerodrome_of a) (flights_of f) (read t) ≡ Some cause) ending
+of_three_bytes kind read Holds (Err ending) a f t aerodrome flights third a_read f_read t_read stops =
+    stops_by (λ cause. refusal_of aerodrome flights ≡ Some cause) (RefusesThree kind read a f t) ending
     (λ cause refused. refused_as_read kind _ _ _ _ _ _ a_read f_read t_read ∙ refused) stops

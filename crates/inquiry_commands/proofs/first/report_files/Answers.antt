@@ -1,9 +1,16 @@
-use Rattle.openings.specs.shared.Opened.{of_bytes}
-use Rattle.inquiry_commands.specs.First.{ShowsFirst}
 use Rattle.inquiry_commands.proofs.first.report_files.Goals as goal
 
 pub returns : goal.returns
 returns g c =
-    of_bytes ShowsFirst c.report_opened.result _ _ c.in_ok-aerodrome.aerodrome _ c.in_ok-aerodrome.ensures.value
-    c.in_ok-flights.ensures.value
-    c.report_opened.ensures
+    let opened = c.in_ok-sequencer.ensures.opened in
+    record {
+      aerodrome = opened.aerodrome;
+      flights = opened.flights;
+      aerodrome_read = opened.aerodrome_read;
+      flights_read = opened.flights_read;
+      holds = record {
+        state = c.in_ok-sequencer.sequencer.state;
+        opened = opened.holds;
+        block = c.in_ok-report_plan.ensures;
+      };
+    }

@@ -1,9 +1,17 @@
-use Rattle.openings.specs.Plan.{ShowsPlan}
-use Rattle.openings.specs.shared.Opened.{of_bytes}
 use Rattle.planning_commands.proofs.plan.report_files.Goals as goal
 
 pub returns : goal.returns
 returns g c =
-    of_bytes ShowsPlan c.report_opened.result _ _ c.in_ok-aerodrome.aerodrome _ c.in_ok-aerodrome.ensures.value
-    c.in_ok-flights.ensures.value
-    c.report_opened.ensures
+    let opened = c.in_ok-sequencer.ensures.opened in
+    record {
+      aerodrome = opened.aerodrome;
+      flights = opened.flights;
+      aerodrome_read = opened.aerodrome_read;
+      flights_read = opened.flights_read;
+      holds = record {
+        state = c.in_ok-sequencer.sequencer.state;
+        opened = opened.holds;
+        prints = c.in_ok-report_plan.ensures.text;
+        answers = c.in_ok-report_plan.ensures.answer;
+      };
+    }

@@ -1,7 +1,7 @@
 use Rattle.std.proofs.Common.{rules, ◌≡◌, ◌∙◌}
 use Rattle.std.proofs.lemmas.Result.{err_from_is_err_and}
 use Rattle.situations.specs.declared.refusal.Refusal.TheVariants.{Memory}
-use Rattle.replays.specs.Written.{Wrote, WrotePart}
+use Rattle.cps_outside.specs.Puts.{Wrote, WrotePart}
 use Rattle.replays.proofs.EffortLemmas.{refused_step}
 use Rattle.replays.proofs.efforts.step.Goals as goal
 
@@ -18,6 +18,6 @@ returns-in_err-put-in-Err g c =
     rw (p.1, p.2) (
       0,
       refused_step c.in-Err.refusal _ _ _ _
-          (WrotePart 1 _ _) c.as_slice-in-Err.result.now other c.in-Err.ensures (c.as_slice-in-Err.ensures.value
+          (WrotePart 0 _ _ _) c.as_slice-in-Err.result.now other c.in-Err.ensures (c.as_slice-in-Err.ensures.value
           ∙ c.in_ok-text-in-Err.ensures) (search rules),
     )
