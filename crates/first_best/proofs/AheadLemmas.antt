@@ -1,4 +1,5 @@
 -- Stages made from the last backward.
+use Rattle.replan.specs.shared.Pushed.{each_upto}
 use Rattle.std.proofs.Common.{◌≡◌, ℕ, ◌+◌, ◌-◌, ◌<◌, ◌≤◌, inl, inr, List, [], ◌∷◌, ◌++◌, length, sym, ap, subst, ◌∙◌}
 use Rattle.std.proofs.Common.{arith, length-append}
 use Rattle.std.specs.Prelude.{slice_index_or, Option, Some, None}
@@ -46,19 +47,11 @@ module _ (p : Problem) (v : ℕ) (budget : Option ℕ) (held : Option HeldProble
     old : (i : ℕ) → i ≤ done → at (stages ++ s ∷ []) i ≡ at stages i
     old i le = get_or_append_left stages (s ∷ []) no_stage i (let l = a.long in omega (arith, le, l))
 
-    new : at (stages ++ s ∷ []) (done + 1) ≡ s
-    new = get_or_push stages s no_stage (done + 1) a.long
-
     each : (P : ℕ → StageAhead → Type 0) → ((i : ℕ) → 1 ≤ i → i ≤ done → P (length p.flights + 1 - i) (at stages i))
         → P stage s → (i : ℕ) → 1 ≤ i → i ≤ done + 1 → P (length p.flights + 1 - i) (at (stages ++ s ∷ []) i)
-    each P before now i one le = elim (cases_eq i (done + 1)) [
-      | inl e ↦ subst (λ (j : ℕ). P (length p.flights + 1 - j) (at (stages ++ s ∷ []) j)) (sym e)
-          (subst (λ (n : ℕ). P n (at (stages ++ s ∷ []) (done + 1)))
-          (let f : stage ≡ length p.flights + 1 - (done + 1) =
-          omega (arith, is) in f) (subst (P stage) (sym new) now))
-      | inr ne ↦ (let l : i ≤ done =
-          omega (arith, le, ne) in subst (P (length p.flights + 1 - i)) (sym (old i l)) (before i one l))
-    ]
+    each P before now i one le = each_upto (λ j t. 1 ≤ j → P (length p.flights + 1 - j) t) stages s no_stage (done + 1)
+        a.long (λ j lt one. before j one (omega (arith, lt)))
+        (λ _. let f : length p.flights + 1 - (done + 1) ≡ stage = omega (arith, is) in rw f now) i (omega (arith, le)) one
 
     pub one_stage : IsAheadFrom p v budget held (done + 1) (stages ++ s ∷ [])
     one_stage = record {

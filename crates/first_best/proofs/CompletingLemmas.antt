@@ -219,8 +219,8 @@ lists_complete p wf v budget stage these made next are behind lists = record {
   are_nodes = are;
   one_each = lists.one_each;
   kept = λ j rs lt legal long of. kept j rs lt legal long of behind;
-  rising = rising;
-  in_reach = in_reach;
+  rising = each Rises tt (λ j lt. (lists.pairs j lt).rising);
+  in_reach = each (AreInReach (length p.flights - stage)) (λ q i. absurd i) (λ j lt. (lists.pairs j lt).in_reach);
 }
   where
     kept : (j : ℕ) (rs : List ℕ) → j < length these → IsLegal p rs → length rs ≡ stage → IsPrefixOf rs (node_at these j)
@@ -232,20 +232,11 @@ lists_complete p wf v budget stage these made next are behind lists = record {
     kept j rs lt legal long of (inr more) = before_complete p wf v budget stage these are j lt rs legal long of next
         (list_at made j) (lists.pairs j lt) more.0 more.1
 
-    rising : (j : ℕ) → Rises (list_at made j)
-    rising j = elim (cases_lt j (length these)) [
-      | inl lt ↦
-          (lists.pairs j lt).rising
-      | inr ge ↦ subst Rises
-          (sym (get_or_past made j [] (let e = lists.one_each in omega (arith, ge, e)))) tt
-    ]
-
-    in_reach : (j : ℕ) → AreInReach (length p.flights - stage) (list_at made j)
-    in_reach j = elim (cases_lt j (length these)) [
-      | inl lt ↦
-          (lists.pairs j lt).in_reach
-      | inr ge ↦ subst (AreInReach (length p.flights - stage))
-          (sym (get_or_past made j [] (let e = lists.one_each in omega (arith, ge, e)))) (λ q i. absurd i)
+    each : (P : List Pair → Type 0) → P [] → ((j : ℕ) → j < length these → P (list_at made j)) → (j : ℕ)
+        → P (list_at made j)
+    each P none some j = elim (cases_lt j (length these)) [
+      | inl lt ↦ some j lt
+      | inr ge ↦ rw (get_or_past made j [] (omega (arith, ge, lists.one_each))) none
     ]
 
 -- what stands behind a stage has numbers in range

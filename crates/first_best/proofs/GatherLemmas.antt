@@ -1,4 +1,5 @@
 -- The windows of a stage, put together by node.
+use Rattle.replan.specs.shared.Pushed.{each_upto}
 use Rattle.std.proofs.Common.{◌≡◌, ℕ, ◌+◌, ◌-◌, ◌<◌, ◌≤◌, inl, inr, List, [], ◌∷◌, ◌++◌, length, refl, sym, ap, subst}
 use Rattle.std.proofs.Common.{◌∙◌, arith, length-append, Option}
 use Rattle.std.specs.Prelude.{ℤ, pos}
@@ -23,35 +24,13 @@ use Rattle.replan.specs.Held.{HeldProblem}
 use Rattle.replan.specs.Readers.{lists_in, stage_in}
 use Rattle.replan.specs.WindowNodes as together
 use Rattle.replan.specs.WindowNodes.{told_at, AreLeastIn, IsPairAt, WindowNodes}
-use Rattle.replan.specs.shared.LastPairs.{last_cheapest}
+use Rattle.replan.specs.shared.LastPairs.{first_least, last_cheapest, list_some}
 use Rattle.replan.specs.shared.OneNode.{one_set, one_tells, same_one}
 use Rattle.first_best.specs.declared.node.EarlyNode.{EarlyNode}
 use Rattle.first_best.specs.Nodes.{no_node, node_at, AreNodesOf, IsLandedPrefix, IsPrefixOf, IsReached}
 use Rattle.first_best.specs.Gathered.{AreGathered, IsWindowOf, cost_in, place_at, second_of}
 
 -- ---- the nodes of the prefixes that land
-
--- the first pair is the earliest
-pub first_least : (xs : List Pair) → Staircase xs → (q : Pair) → InPairs q xs → (pair_at xs 0).0 ≤ q.0
-first_least [] s q i = absurd i
-first_least (x ∷ xs) s q (inl e) = (let f : q.0 ≡ x.0 = ap (λ (z : Pair). z.0) e in omega (arith, f))
-first_least (x ∷ xs) s q (inr i) = (let a = (s.0 q i).0 in omega (arith, a))
-
-some_long : (xs : List Pair) (q : Pair) → InPairs q xs → 0 < length xs
-some_long [] q i = absurd i
-some_long (x ∷ xs) q i = omega arith
-
-module _ (p : Problem) (stage : ℕ × List (List ℤ)) (lists : List (List Pair)) (h : HoldsCosts p stage lists) where
-  landable_at : (i : ℕ) → i < length stage.1 → IsLandable p stage.0 (windows.node_at stage.1 i)
-  landable_at i lt = (h.landable (windows.node_at stage.1 i)).0
-      (i, lt, get_or_default stage.1 i (windows.node_at stage.1 i) [] lt)
-
-  -- each window has a pair
-  pub has_first : (i : ℕ) → i < length stage.1 → 0 < length (list_at lists i)
-  has_first i lt =
-      let l = landable_at i lt in
-      let o = (h.costs.pairs i lt).covers l.0 l.1 in
-      some_long (list_at lists i) o.0 o.1
 
 -- ---- the nodes of the windows that are put together
 
@@ -68,21 +47,12 @@ module _ (stage : ℕ) (list : List (List ℤ)) (firsts : List ℕ) (least : Lis
     (nodes : List EarlyNode) (m : AreMade stage list firsts least count nodes) (node : EarlyNode)
     (of : IsWindowOf stage (windows.node_at list (told_at firsts count)) node)
     (early : node.earliest ≡ (pair_at least count).0) (cheap : node.cheapest ≡ (pair_at least count).1) where
-  each_made : (P : ℕ → EarlyNode → Type 0) → ((j : ℕ) → j < count → P j (node_at nodes j))
-      → P count node → (j : ℕ) → j < count + 1 → P j (node_at (nodes ++ node ∷ []) j)
-  each_made P old new j lt = elim (cases_eq j count) [
-    | inl e ↦ subst (λ (i : ℕ). P i (node_at (nodes ++ node ∷ []) i)) (sym e)
-        (subst (P count) (sym (get_or_push nodes node no_node count m.long)) new)
-    | inr ne ↦ (let l : j < count = omega (arith, lt, ne) in subst (P j)
-        (sym (get_or_append_left nodes (node ∷ []) no_node j (let o = m.long in omega (arith, l, o)))) (old j l))
-  ]
-
   pub one_made : AreMade stage list firsts least (count + 1) (nodes ++ node ∷ [])
   one_made = record {
     long = length-append nodes (node ∷ []) ∙ ap (λ (n : ℕ). n + 1) m.long;
-    window = each_made (λ j n. IsWindowOf stage (windows.node_at list (told_at firsts j)) n) m.window of;
-    earliest = each_made (λ j n. n.earliest ≡ (pair_at least j).0) m.earliest early;
-    cheapest = each_made (λ j n. n.cheapest ≡ (pair_at least j).1) m.cheapest cheap;
+    window = each_upto (λ j n. IsWindowOf stage (windows.node_at list (told_at firsts j)) n) nodes node no_node count m.long m.window of;
+    earliest = each_upto (λ j n. n.earliest ≡ (pair_at least j).0) nodes node no_node count m.long m.earliest early;
+    cheapest = each_upto (λ j n. n.cheapest ≡ (pair_at least j).1) nodes node no_node count m.long m.cheapest cheap;
   }
 
 module _ (p : Problem) (held : Option HeldProblem) (stage : ℕ) (number : (stage_in held stage).0 ≡ stage)
@@ -122,32 +92,21 @@ module _ (p : Problem) (held : Option HeldProblem) (stage : ℕ) (number : (stag
       → IsWindowOf (stage_in held stage).0 window node
   at_stage window node w = subst (λ (n : ℕ). IsWindowOf n window node) (sym number) w
 
-  first_at : (i : ℕ) → i < length list → IsPairAt lists put.places (place_at put.places i) (pair_at (list_at lists i) 0)
-  first_at i lt = record {
+  -- the pair of a window at an index
+  pair_there : (i index : ℕ) → i < length list → (0 < length (list_at lists i) → index < length (list_at lists i))
+      → IsPairAt lists put.places (place_at put.places i) (pair_at (list_at lists i) index)
+  pair_there i index lt listed = record {
     window = i;
     within = in_places i lt;
     of_node = refl;
-    has =
-        at_in (list_at lists i) 0 (pair_at (list_at lists i) 0) (has_first p (stage_in held stage) lists h i lt) refl;
+    has = at_in (list_at lists i) index (pair_at (list_at lists i) index)
+        (listed (list_some p (stage_in held stage) lists h i lt)) refl;
   }
-
-  last_at : (i : ℕ) → i < length list → IsPairAt lists put.places (place_at put.places i)
-      (pair_at (list_at lists i) (length (list_at lists i) - 1))
-  last_at i lt =
-      let some = has_first p (stage_in held stage) lists h i lt in
-      record {
-        window = i;
-        within = in_places i lt;
-        of_node = refl;
-        has = at_in (list_at lists i)
-            (length (list_at lists i) - 1) (pair_at (list_at lists i) (length (list_at lists i) - 1))
-            (omega (arith, some)) refl;
-      }
 
   low_at : (i : ℕ) → i < length list → (node_at nodes (place_at put.places i)).earliest ≤ second_of lists i
   low_at i lt =
       let e = m.earliest (place_at put.places i) (place_in i lt) in
-      let a = (l.each (place_at put.places i) (place_in i lt)).early (pair_at (list_at lists i) 0) (first_at i lt) in
+      let a = (l.each (place_at put.places i) (place_in i lt)).early (pair_at (list_at lists i) 0) (pair_there i 0 lt (λ some. some)) in
       omega (arith, e, a)
 
   source_at : (j : ℕ) → j < length put.firsts → (i : ℕ) × (i < length list)
@@ -182,7 +141,7 @@ module _ (p : Problem) (held : Option HeldProblem) (stage : ℕ) (number : (stag
     cheap = λ i lt.
         let e = m.cheapest (place_at put.places i) (place_in i lt) in
         let a = (l.each (place_at put.places i) (place_in i lt)).cheap
-        (pair_at (list_at lists i) (length (list_at lists i) - 1)) (last_at i lt) in
+        (pair_at (list_at lists i) (length (list_at lists i) - 1)) (pair_there i (length (list_at lists i) - 1) lt (λ some. omega (arith, some))) in
         omega (arith, e, a);
     source = λ j lt. source_at j (let e = m.long in omega (arith, lt, e));
     apart = λ i j li lj placed last.
@@ -244,7 +203,7 @@ module _ (p : Problem) (net : network.IsWindowNetwork p) (tell : TellTheirRanks 
         let s = g.source j lt in
         let list = list_at lists s.0 in
         let a = (((h.costs.pairs s.0 s.1).undominated (pair_at list 0)).0
-        (at_in list 0 (pair_at list 0) (has_first p stage lists h s.0 s.1) refl)).attained in
+        (at_in list 0 (pair_at list 0) (list_some p stage lists h s.0 s.1) refl)).attained in
         record {
           landings = a.landings;
           prefix = record { legal = a.legal; landed = a.landed; long = ap (λ (n : network.Node). n.0) a.at };

@@ -42,18 +42,19 @@ rises_undominated C xs r k q = (
 
 -- ---- one more, and the other way round
 
+-- what holds of each pair and of one more holds of each once that is pushed
+pub each_pair : (P : Pair → Type 0) (xs : List Pair) (x : Pair) → ((q : Pair) → InPairs q xs → P q) → P x
+    → (q : Pair) → InPairs q (xs ++ x ∷ []) → P q
+each_pair P xs x old new q i = elim (in_append q xs (x ∷ []) i) [
+  | inl a ↦ old q a
+  | inr b ↦ elim b [ inl e ↦ rw e new | inr none ↦ absurd none ]
+]
+
 pub falls_more : (xs : List Pair) (q : Pair) → Falls xs → ((o : Pair) → InPairs o xs → (q.0 < o.0) × (q.1 < o.1))
     → Falls (xs ++ q ∷ [])
 falls_more [] q f h = (λ o i. absurd i, tt)
 falls_more (x ∷ xs) q f h = (
-  λ o i. elim (in_append o xs (q ∷ []) i) [
-    | inl a ↦ f.0 o a
-    | inr b ↦ elim b [
-      | inl e ↦ subst (λ (z : Pair). (z.0 < x.0) × (z.1 < x.1)) (sym e) (h x (inl refl))
-      | inr none ↦
-          absurd none
-    ]
-  ],
+  each_pair (λ o. (o.0 < x.0) × (o.1 < x.1)) xs q f.0 (h x (inl refl)),
   falls_more xs q f.1 (λ o i. h o (inr i)),
 )
 
@@ -61,14 +62,7 @@ pub rises_more : (xs : List Pair) (q : Pair) → Rises xs → ((o : Pair) → In
     → Rises (xs ++ q ∷ [])
 rises_more [] q f h = (λ o i. absurd i, tt)
 rises_more (x ∷ xs) q f h = (
-  λ o i. elim (in_append o xs (q ∷ []) i) [
-    | inl a ↦ f.0 o a
-    | inr b ↦ elim b [
-      | inl e ↦ subst (λ (z : Pair). (x.0 < z.0) × (x.1 < z.1)) (sym e) (h x (inl refl))
-      | inr none ↦
-          absurd none
-    ]
-  ],
+  each_pair (λ o. (x.0 < o.0) × (x.1 < o.1)) xs q f.0 (h x (inl refl)),
   rises_more xs q f.1 (λ o i. h o (inr i)),
 )
 

@@ -1,4 +1,5 @@
 -- Ways from a node to others, and the least cost by them.
+use Rattle.replan.specs.shared.Pushed.{each_pushed}
 use Rattle.std.proofs.Common.{◌≡◌, ℕ, zero, suc, ◌+◌, ◌<◌, ◌≤◌, inl, inr, List, [], ◌∷◌, ◌++◌, length, Option, Some}
 use Rattle.std.proofs.Common.{None, true, false, ◌&&◌, refl, sym, ap, subst, ◌∙◌, arith}
 use Rattle.std.specs.Prelude.{slice_index_or}
@@ -34,17 +35,8 @@ one_way node nodes j ways w leads =
     let old = λ (i : ℕ) (lt : i < length ways). get_or_append_left ways (j ∷ []) 0 i lt in
     let new : slice_index_or (ways ++ j ∷ []) (length ways) 0 ≡ j = get_or_push ways j 0 (length ways) refl in
     record {
-      within = λ i lt. elim (cases_lt i (length ways)) [
-        | inl less ↦ (let a = w.within i less in let b = old i less in omega (arith, a, b))
-        | inr more ↦ (let e : i ≡ length ways = omega (arith, lt, long, more) in let b : slice_index_or
-            (ways ++ j ∷ []) i 0 ≡ j = ap (λ (n : ℕ). slice_index_or (ways ++ j ∷ []) n 0) e ∙ new in omega (arith, b))
-      ];
-      lead = λ i lt. elim (cases_lt i (length ways)) [
-        | inl less ↦ subst (λ (n : ℕ). LeadsTo node (node_at nodes n)) (sym (old i less)) (w.lead i less)
-        | inr more ↦ (let e : i ≡ length ways = omega (arith, lt, long, more) in let b : slice_index_or
-            (ways ++ j ∷ []) i 0 ≡ j = ap (λ (n : ℕ). slice_index_or (ways ++ j ∷ []) n 0) e
-            ∙ new in subst (λ (n : ℕ). LeadsTo node (node_at nodes n)) (sym b) leads)
-      ];
+      within = each_pushed (λ i m. m < j + 1) ways j 0 (λ i lt. omega (arith, w.within i lt)) (omega arith);
+      lead = each_pushed (λ i m. LeadsTo node (node_at nodes m)) ways j 0 w.lead leads;
       every = λ m lt l. elim (cases_eq m j) [
         | inl e ↦ (length ways, omega (arith, long), new ∙ sym e)
         | inr ne ↦ (let a = w.every m (omega (arith, lt, ne)) l in

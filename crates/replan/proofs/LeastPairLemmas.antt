@@ -13,16 +13,9 @@ use Rattle.makespan_labels.specs.Labels.{no_label}
 use Rattle.makespan_labels.specs.LabelPairs.{label_pairs, column_pairs, pair_if}
 use Rattle.makespan_labels.specs.shared.LabelPairs.{list_of_label}
 use Rattle.replan.specs.Labels.{last_pair}
-use Rattle.replan.specs.shared.LastPairs.{last_cheapest}
+use Rattle.replan.specs.shared.LastPairs.{first_least, last_cheapest}
 use Rattle.replan.specs.WindowNodes.{extremes, lesser, told_at, AreLeastOf, AreLeastUpto, HaveLeast}
 use Rattle.replan.specs.WindowNodes.{IsPairAt, WindowNodes}
-
--- ---- of one list
-
-pub first_least : (xs : List Pair) → Staircase xs → (q : Pair) → InPairs q xs → (pair_at xs 0).0 ≤ q.0
-first_least [] s q i = absurd i
-first_least (x ∷ xs) s q (inl e) = (let f : q.0 ≡ x.0 = ap (λ (z : Pair). z.0) e in omega (arith, f))
-first_least (x ∷ xs) s q (inr i) = (let a = (s.0 q i).0 in omega (arith, a))
 
 -- ---- one window more
 

@@ -17,7 +17,7 @@ use Rattle.cps_theory.specs.laws.LeastObjective.{feasible_landing_trail, landing
 use Rattle.landing_joint.specs.RankedProblem.{ranked, cost_at, value_by, value_at, value_of_map, makespan_by}
 use Rattle.landing_joint.specs.shared.RankedLists.{feasible_agree, feasible_list, list_feasible, sound_ranked}
 use Rattle.landing_joint.specs.shared.BestLists.{list_value}
-use Rattle.landing_joint.specs.shared.FirstBestLists.{list_of_at, list_of_long}
+use Rattle.landing_joint.specs.shared.FirstBestLists.{list_of_at, list_of_long, value_rises_by}
 use Rattle.extract_plan.specs.shared.PlannedOrder.{IsPlannedFor, map_value_rises, order_best, order_tight}
 use Rattle.cps_network.specs.Lists.{node_at}
 use Rattle.cps_network.specs.Nodes.{Node, node_of}
@@ -61,6 +61,11 @@ least_worth Makespan pairs s free a q i le =
     omega (arith, e, l)
 least_worth Delay pairs s free a q i le = le_trans (last_cheapest pairs s a i) le.1
 
+-- what is worth no more has no greater value
+pub value_rises : (p : Problem) (o : Objective) (a b : Pair) → worth o a ≤ worth o b → value_by o p a ≤ value_by o p b
+value_rises p Makespan a b le = value_rises_by p Makespan a (b.0, a.1) (le, omega arith)
+value_rises p Delay a b le = omega (arith, le)
+
 module _ (p : Problem) (is : IsPlannedFor p) (stage : ℕ × List (List ℤ)) (labels : StagePairs)
     (last : stage.0 ≡ length p.flights) (holds : HoldsPairs p stage labels) where
   -- a feasible list lands in some window of the last stage, worth no less than its last pair
@@ -70,50 +75,39 @@ module _ (p : Problem) (is : IsPlannedFor p) (stage : ℕ × List (List ℤ)) (l
       (map_pair (cost_at p) (length p.flights) (of_rank 0 u)))
   bounds u f =
       let held = holds.held in
+      let q : Pair = map_pair (cost_at p) (length p.flights) (of_rank 0 u) in
       let x = feasible_landing_trail (ranked p) (cost_at p) (sound_ranked p is.table is.between)
       (of_rank 0 u) (list_feasible p u f) in
-      let at : node_of p.k (ranks x.0) ≡ (stage.0, (node_of p.k (ranks x.0)).1) =
-      ap (λ (q : ℕ). (q, (node_of p.k (ranks x.0)).1)) (x.3 ∙ sym last) in
-      let a : Attains p stage.0 (node_of p.k (ranks x.0)).1 (map_pair (cost_at p) (length p.flights) (of_rank 0 u)) =
-      record { landings = x.0; legal = x.1; landed = x.2; at = at; is = x.4 } in
-      let has = (held.landable (node_of p.k (ranks x.0)).1).1
-      (map_pair (cost_at p) (length p.flights) (of_rank 0 u), a) in
-      let it : node_at stage.1 has.0 ≡ (node_of p.k (ranks x.0)).1 =
-      get_or_default stage.1 has.0 [] (node_of p.k (ranks x.0)).1 has.1 ∙ has.2 in
+      let v : List ℤ = (node_of p.k (ranks x.0)).1 in
+      let a : Attains p stage.0 v q = record {
+        landings = x.0;
+        legal = x.1;
+        landed = x.2;
+        at = ap (λ (n : ℕ). (n, v)) (x.3 ∙ sym last);
+        is = x.4;
+      } in
+      let has = (held.landable v).1 (q, a) in
+      let it : node_at stage.1 has.0 ≡ v = get_or_default stage.1 has.0 [] v has.1 ∙ has.2 in
       let are = held.costs.pairs has.0 has.1 in
-      let o = are.covers (map_pair (cost_at p) (length p.flights) (of_rank 0 u))
-      (subst (λ (y : List ℤ). Attains p stage.0 y (map_pair (cost_at p) (length p.flights) (of_rank 0 u)))
-      (sym it) a) in
-      let low = least_worth p.objective (list_at labels.lists has.0) are.falling
-      (λ makespan q i. attains_free p makespan stage.0 (node_at stage.1 has.0) q ((are.undominated q).0 i).attained)
-      o.0 (map_pair (cost_at p) (length p.flights) (of_rank 0 u)) o.1 o.2 in
-      (has.0, (let b = has.1 in omega (arith, held.costs.one_each)), low)
+      let o = are.covers q (rw it a) in (
+        has.0,
+        omega (arith, has.1, held.costs.one_each),
+        least_worth p.objective (list_at labels.lists has.0) are.falling
+            (λ makespan r i. attains_free p makespan stage.0 (node_at stage.1 has.0) r ((are.undominated r).0 i).attained)
+            o.0 q o.1 o.2,
+      )
 
--- ---- what is worth no more has no greater value
-
-makespan_rises : (fs : List Waiting) (p : Problem) (a b : ℕ) → a ≤ b → makespan_by fs p a ≤ makespan_by fs p b
-makespan_rises [] p a b le = omega arith
-makespan_rises (f ∷ fs) p a b le = le
-
-pub value_rises : (p : Problem) (o : Objective) (a b : Pair) → worth o a ≤ worth o b → value_by o p a ≤ value_by o p b
-value_rises p Makespan a b le = makespan_rises p.flights p a.0 b.0 le
-value_rises p Delay a b le = omega (arith, le)
-
--- ---- the least value of the last stage
-
-module _ (p : Problem) (is : IsPlannedFor p) (stage : ℕ × List (List ℤ)) (labels : StagePairs)
-    (last : stage.0 ≡ length p.flights) (holds : HoldsPairs p stage labels) where
   -- without a window no list is feasible
   pub none_feasible : length labels.lists ≡ 0 → (u : Schedule) → IsFeasibleList p u → ⊥
   none_feasible none u f =
-      let inside = (bounds p is stage labels last holds u f).1 in
+      let inside = (bounds u f).1 in
       absurd (omega (arith, inside, none))
 
   module _ (place : ℕ) (least : IsLeastPlace labels place) where
     -- no feasible list is worth less than the last pair of the place whose last pair is worth least
     pub no_more : IsWorthNoMore p (last_pair (list_at labels.lists place))
     no_more u f =
-        let b = bounds p is stage labels last holds u f in
+        let b = bounds u f in
         let le = b.2 in
         let here : worth p.objective (last_pair (list_at labels.lists place)) ≤ worth p.objective
         (last_pair (list_at labels.lists b.0)) =

@@ -1,4 +1,5 @@
 -- What is read of a problem that is held.
+use Rattle.replan.specs.shared.LastPairs.{list_some}
 use Rattle.std.proofs.Common.{◌≡◌, ℕ, ◌-◌, ◌<◌, ◌≤◌, List, length, get_or, Option, Some, sym, subst, ◌∙◌}
 use Rattle.std.proofs.Common.{arith}
 use Rattle.std.specs.Prelude.{ℤ}
@@ -8,7 +9,7 @@ use Rattle.replan.specs.Labels.{HoldsPairs}
 use Rattle.replan.specs.Readers.{IsReadable, lists_in, stage_in}
 use Rattle.replan.specs.Stages.{LabelledStage}
 use Rattle.replan.specs.WindowNodes.{AreNodesOf, ArePutTogether, HaveLeast, WindowNodes}
-use Rattle.replan.proofs.StageLemmas.{held_at, list_some, read_held, read_stage}
+use Rattle.replan.proofs.StageLemmas.{held_at, read_held, read_stage}
 
 -- a stage as it is read
 pub record IsReadAt (p : Problem) (held : Option HeldProblem) (i : ℕ) (x : LabelledStage) : Type 0 where

@@ -1,4 +1,6 @@
 -- Stage 0 with its pair, one stage more, and what is kept of the stages of a problem for another.
+use Rattle.replan.specs.shared.LastPairs.{list_some}
+use Rattle.replan.specs.shared.Pushed.{each_pushed}
 use Rattle.std.proofs.Common.{◌≡◌, ℕ, zero, suc, ◌+◌, ◌*◌, ◌<◌, ◌≤◌, List, [], ◌∷◌, ◌++◌, length, get_or, replicate}
 use Rattle.std.proofs.Common.{length-append, refl, sym, ap, subst, ◌∙◌, arith, inl, inr, zero-le, Option, Some, None}
 use Rattle.std.proofs.Common.{◌-◌, take}
@@ -39,8 +41,7 @@ no_landing (x ∷ xs) e = absurd (omega arith)
 
 pub start_only : (p : Problem) (v : List ℤ) → IsLandable p 0 v → node_of p.k [] ≡ (0, v)
 start_only p v l =
-    let none : l.1.landings ≡ [] = no_landing l.1.landings (ap (λ (n : Node). n.0) l.1.at) in
-    subst (λ (xs : List Landing). node_of p.k (ranks xs) ≡ (0, v)) none l.1.at
+    rw (no_landing l.1.landings (ap (λ (n : Node). n.0) l.1.at)) at l.1.at
 
 start_attains : (p : Problem) → Attains p 0 (replicate (2 * p.k + 1) (pos 0)) (0, 0)
 start_attains p = record {
@@ -55,8 +56,7 @@ start_attains p = record {
 -- nothing but (0, 0) is attained there
 pub start_pair : (p : Problem) (v : List ℤ) (q : Pair) → Attains p 0 v q → (0, 0) ≡ q
 start_pair p v q a =
-    let none : a.landings ≡ [] = no_landing a.landings (ap (λ (n : Node). n.0) a.at) in
-    subst (λ (xs : List Landing). pair_of (cost_at p) xs ≡ q) none a.is
+    rw (no_landing a.landings (ap (λ (n : Node). n.0) a.at)) at a.is
 
 pub start_costs : (p : Problem) → HoldsCosts p (0, replicate (2 * p.k + 1) (pos 0) ∷ []) (((0, 0) ∷ []) ∷ [])
 start_costs p = record {
@@ -98,36 +98,16 @@ pub one_more : (p : Problem) (stages after : List LabelledStage) (next : Labelle
     → ((last : ℕ) → last + 1 ≡ length stages → IsTrue next.is_whole
     → IsNextOf p last (stage_at stages last).stage.1 next.stage.1) → AreStages p after
 one_more p stages after next is e number ascending held whole = rw e (record {
-  number = λ i lt. elim (cases_eq i (length stages)) [
-    | inl same ↦ rw (get_or_push stages next no_stage i (sym same)) (number ∙ sym same)
-    | inr old ↦ let below = low i lt old in rw (get_or_append_left stages (next ∷ []) no_stage i below)
-        (is.number i below)
-  ];
-  ascending = λ i lt. elim (cases_eq i (length stages)) [
-    | inl same ↦ rw (get_or_push stages next no_stage i (sym same)) ascending
-    | inr old ↦ let below = low i lt old in rw (get_or_append_left stages (next ∷ []) no_stage i below)
-        (is.ascending i below)
-  ];
-  held = λ i lt. elim (cases_eq i (length stages)) [
-    | inl same ↦ rw (get_or_push stages next no_stage i (sym same)) held
-    | inr old ↦ let below = low i lt old in rw (get_or_append_left stages (next ∷ []) no_stage i below)
-        (is.held i below)
-  ];
+  number = each_pushed (λ i s. s.stage.0 ≡ i) stages next no_stage is.number number;
+  ascending = each_pushed (λ i s. IsAscending s.stage.1) stages next no_stage is.ascending ascending;
+  held = each_pushed (λ i s. HoldsPairs p s.stage s.labels) stages next no_stage is.held held;
   whole = λ i some lt said.
-      let back : i - 1 < length stages = omega (arith, some, lt, length-append stages (next ∷ [])) in
-      rw (get_or_append_left stages (next ∷ []) no_stage (i - 1) back) (elim (cases_eq i (length stages)) [
-        | inl same ↦
-            let here = get_or_push stages next no_stage i (sym same) in
-            rw here (whole (i - 1) (omega (arith, some, same)) (rw here at said))
-        | inr old ↦
-            let below = low i lt old in
-            let here = get_or_append_left stages (next ∷ []) no_stage i below in
-            rw here (is.whole i some below (rw here at said))
-      ]);
+      let within : i - 1 < length stages = omega (arith, some, lt, length-append stages (next ∷ [])) in
+      rw (get_or_append_left stages (next ∷ []) no_stage (i - 1) within) (each_pushed
+      (λ j s. 0 < j → IsTrue s.is_whole → IsNextOf p (j - 1) (stage_at stages (j - 1)).stage.1 s.stage.1)
+      stages next no_stage (λ j below some said. is.whole j some below said)
+      (λ some said. whole (length stages - 1) (omega (arith, some)) said) i lt some said);
 })
-  where
-    low : (i : ℕ) → i < length (stages ++ next ∷ []) → (i ≡ length stages → ⊥) → i < length stages
-    low i lt old = omega (arith, old, lt, length-append stages (next ∷ []))
 
 pub has_candidates : (p : Problem) (before after : ℕ × List (List ℤ)) (m : ℕ) → before.0 ≡ m
     → HoldsLandable p before → HoldsCandidates p before after → IsAscending after.1 → HasCandidates p m (length after.1)
@@ -213,18 +193,6 @@ read_held held h stages i x y e f same at (some, most) =
     let low : i ≤ length stages - 1 = rw (e, f) at most in
     let is = read_stage stages i x y same at (omega (arith, some, low)) in
     rw (e, f) (ap (λ (s : LabelledStage). s.stage) is, ap (λ (s : LabelledStage). s.labels.lists) is)
-
--- each kept list has a pair
-pub list_some : (p : Problem) (stage : ℕ × List (List ℤ)) (lists : List (List Pair)) → HoldsCosts p stage lists
-    → (i : ℕ) → i < length stage.1 → 0 < length (list_at lists i)
-list_some p stage lists h i lt =
-    let l = (h.landable (node_at stage.1 i)).0 (Contains-get_or stage.1 i [] lt) in
-    let o = (h.costs.pairs i lt).covers l.0 l.1 in
-    some (list_at lists i) o.0 o.1
-  where
-    some : (pairs : List Pair) (q : Pair) → InPairs q pairs → 0 < length pairs
-    some [] q i = absurd i
-    some (x ∷ pairs) q i = omega arith
 
 -- the last stage as it is read: its labels have a pair each
 pub record LastRead (p : Problem) (stages : List LabelledStage) (last : LabelledStage) : Type 0 where

@@ -18,11 +18,8 @@ use Rattle.landing_rules.specs.Sound.{IsSound, IsGoodFlight}
 use Rattle.landing_rules.specs.shared.Counting.{Member}
 use Rattle.landing_joint.specs.shared.LandingsInOrder.{order_rises}
 use Rattle.landing_joint.specs.shared.OpenDays.{open_in_days}
-use Rattle.sequencer.specs.Frozen.{later_at, latest, frozen_delay, delay_of, HasSmallDelay}
+use Rattle.sequencer.specs.Frozen.{frozen_of, later_at, latest, frozen_delay, delay_of, HasSmallDelay}
 use Rattle.sequencer.proofs.Rising.{Climbs}
-
-abbrev frozen_of : List Active → List Landing
-frozen_of xs = filter_map (λ a. option_map (landing a) a.frozen) xs
 
 -- ---- the last landing
 

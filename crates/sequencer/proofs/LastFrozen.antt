@@ -15,7 +15,7 @@ use Rattle.landing_rules.specs.Problem.{last_of}
 use Rattle.landing_rules.specs.Sound.{IsSound}
 use Rattle.landing_rules.specs.Text.{ShownLanding, ShownPlan, shown_landing}
 use Rattle.landing_rules.specs.shared.Counting.{Member}
-use Rattle.landing_rules.specs.shared.Members.{contains_member, frozen_in, in_frozen, member_contains}
+use Rattle.landing_rules.specs.shared.Members.{cases_option, contains_member, frozen_in, in_frozen, member_contains}
 use Rattle.landing_rules.specs.shared.Members.{member_permutation}
 use Rattle.landing_joint.specs.shared.LandingsInOrder.{order_member}
 use Rattle.sequencer.specs.Frozen.{frozen_shown, frozen_there, BeginsWithFrozen}
@@ -92,29 +92,26 @@ one_at s sound a b m ma mb fa fb =
       | inr (inr gt) ↦ absurd (seconds_apart s sound j.0 i.0 f gt li (sym same))
     ]
 
+last_found : (s : Situation) (m : ℕ) → second_of (last_of (in_landing_order (frozen_landings s))) ≡ Some m
+    → (l : ℕ × Category) × (last_of (in_landing_order (frozen_landings s)) ≡ Some l) × (l.0 ≡ m)
+last_found s m e = elim (cases_option (last_of (in_landing_order (frozen_landings s)))) [
+  | inl none ↦ (let w : None ≡ Some m = sym (ap second_of none) ∙ e in absurd (cc))
+  | inr l ↦ (l.0, l.1, same_Some l.0.0 m (sym (ap second_of l.1) ∙ e))
+]
+
 pub found_last : (s : Situation) → IsSound s → (m : ℕ) (a : Active)
     → second_of (last_of (in_landing_order (frozen_landings s))) ≡ Some m → Member a s.active → a.frozen ≡ Some m →
     Some (m, a.flight.category) ≡ last_of (in_landing_order (frozen_landings s))
-found_last s sound m a e ma fa = go (last_of (in_landing_order (frozen_landings s))) refl e
-  where
-    go : (o : Option (ℕ × Category)) → last_of (in_landing_order (frozen_landings s)) ≡ o → second_of o ≡ Some m
-        → Some (m, a.flight.category) ≡ o
-    go None q e = let w : None ≡ Some m = e in absurd (cc)
-    go (Some l) q e =
-        let b = last_frozen_at s l q in
-        let at : l.0 ≡ m = same_Some l.0 m e in
-        let same = one_at s sound a b.0 m ma b.1 fa (b.2 ∙ ap (λ (t : ℕ). Some t) at) ∙ b.3 in
-        ap₂ (λ (t : ℕ) (c : Category). Some (t, c)) (sym at) same
+found_last s sound m a e ma fa =
+    let l = last_found s m e in
+    let b = last_frozen_at s l.0 l.1 in
+    let same = one_at s sound a b.0 m ma b.1 fa (rw l.2 at b.2) ∙ b.3 in
+    ap₂ (λ (t : ℕ) (c : Category). Some (t, c)) (sym l.2) same ∙ sym l.1
 
 -- some flight is frozen there
 pub some_last : (s : Situation) (m : ℕ) → second_of (last_of (in_landing_order (frozen_landings s))) ≡ Some m
     → (a : Active) × Member a s.active × (a.frozen ≡ Some m)
-some_last s m e = go (last_of (in_landing_order (frozen_landings s))) refl e
-  where
-    go : (o : Option (ℕ × Category)) → last_of (in_landing_order (frozen_landings s)) ≡ o → second_of o ≡ Some m
-        → (a : Active) × Member a s.active × (a.frozen ≡ Some m)
-    go None q e = let w : None ≡ Some m = e in absurd (cc)
-    go (Some l) q e = let b = last_frozen_at s l q in (b.0, b.1, b.2 ∙ ap (λ (t : ℕ). Some t) (same_Some l.0 m e))
+some_last s m e = let l = last_found s m e in let b = last_frozen_at s l.0 l.1 in (b.0, b.1, rw l.2 at b.2)
 
 -- ---- what is looked for from the back
 

@@ -2,7 +2,7 @@ use Rattle.std.proofs.Common.{arith}
 use Rattle.replan.specs.Labels.{HoldsPairs}
 use Rattle.extract_plan.specs.shared.PlannedOrder.{well_formed_planned}
 use Rattle.replan.proofs.PlanLemmas.{none_feasible, least_is_best}
-use Rattle.replan.proofs.StageLemmas.{list_some}
+use Rattle.replan.specs.shared.LastPairs.{list_some}
 use Rattle.replan.proofs.least.least_of.Goals as goal
 
 pub least_place-requires : goal.least_place-requires
