@@ -220,7 +220,7 @@ module _ (p : Problem) (wf : IsWellFormed p) (net : IsWindowNetwork p) where
           pair_of (cost_at p) lands.0,
           record {
             landings = lands.0;
-            legal = subst (Legal (ranked p).rules) (sym l.1) before.0;
+            legal = rw l.1 before.0;
             landed =
                 l.0;
             at = ap (node_of p.k) l.1;
@@ -240,7 +240,7 @@ module _ (p : Problem) (wf : IsWellFormed p) (net : IsWindowNetwork p) where
       (is_first_open p) (next_later (ranked p)) a.landings a.landed in
       let long : length rs ≡ stage = ap (λ (w : Node). w.0) a.at in (
         r ∷ rs,
-        subst (λ (s : ℕ). Member (r ∷ rs) (all_orders (length p.flights) (suc s))) long (legal_order (r ∷ rs) legal),
+        rw long at (legal_order (r ∷ rs) legal),
         (legal, (e.0, e.1), long),
         ap (λ (w : Node). w.1) (net.pushes r rs a.legal ∙ ap (λ (w : Node). land w r) a.at) ∙ sym is,
       )
@@ -254,10 +254,9 @@ module _ (p : Problem) (wf : IsWellFormed p) (net : IsWindowNetwork p) where
           candidates = all.list;
           ascending = rising_ascends all.list all.rising;
           each = λ xs. (
-            λ has. (let o = all.only xs (contains_member all.list xs has) in subst (IsCandidate p stage)
-                (sym o.2) (is_candidate stage o.0 o.1)),
+            λ has. (let o = all.only xs (contains_member all.list xs has) in rw o.2 (is_candidate stage o.0 o.1)),
             λ c. (let o = each_candidate stage xs c in member_contains all.list xs
-                (subst (λ (w : List ℤ). Member w all.list) o.3 (all.each o.0 o.1 o.2))),
+                (rw o.3 at (all.each o.0 o.1 o.2))),
           );
           counted = refl;
         },

@@ -46,7 +46,7 @@ module _ (p : Problem) (net : IsWindowNetwork p) (before : ℕ × List (List ℤ
   pub pair_given : (lists : List (List Pair)) → HoldsCosts p before lists → (j : ℕ) × (index : ℕ)
       × GivesPair p before lists node q j index
   pair_given lists held = listed_given p net before lists held node q
-      (subst (λ (n : ℕ). Undominated (Attains p n node) q) next_is u)
+      (rw next_is at u)
 
   pub node_given : (lists : List (List Pair)) → HoldsCosts p before lists → (xs : List ℤ) × Contains before.1 xs
       × IsSuccessor p before.0 xs node

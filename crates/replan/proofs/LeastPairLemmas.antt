@@ -141,7 +141,7 @@ module _ (column : List ℕ) (i : ℕ) (lt : i < length column) where
       let is = list_of_label column i lt in
       ap (λ (qs : List Pair). (extremes qs).0) is
       ∙ second_of_label (nat_lt (slice_index column i) no_label) (slice_index column i)
-      (subst (λ (qs : List Pair). 0 < length qs) is some)
+      (rw is at some)
 
 module _ (column : List ℕ) (nodes : WindowNodes) (h : HaveLeast (column_pairs column) nodes)
     (count : ℕ) (least : List Pair)
@@ -179,8 +179,7 @@ module _ (column : List ℕ) (nodes : WindowNodes) (h : HaveLeast (column_pairs 
         let new : lesser (pair_at least (told_at nodes.places count))
         (extremes (list_at (column_pairs column) count)) ≡ (label, 0) =
         ap₂ (λ (x y : ℕ). (x, y)) (min_right _ _ second less) (min_none _ _ free) in
-        subst (λ (q : Pair). AreLeastUpto (column_pairs column) nodes.places nodes.firsts (count + 1)
-        (set least (told_at nodes.places count) q)) new one
+        rw new at one
 
     -- and any other changes nothing
     pub other_label : (pair_at least (told_at nodes.places count)).0 ≤ label

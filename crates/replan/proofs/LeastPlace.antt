@@ -48,14 +48,12 @@ module _ {F : Type 0} {g : Mut F (Bor ℕ × Unit {0}) ℕ} (f : F) (value : ℕ
   least_from_min_by_key n s (Some m) is (p, from, whole, told) =
       let up = counts_up p s n from whole is in
       let (k, below, at) = told.0 in
-      let here : k ≡ m = subst (λ o. IsSomeAnd o (λ x. x ≡ m)) (up.1 k (omega (arith, below, up.0))) at in
+      let here : k ≡ m = rw (up.1 k (omega (arith, below, up.0))) at at in
       let keys = told.1 (λ a b q called. (calls a.0 b q called).0) in
       let key = called_at m keys.0 f keys.1 in (
         omega (arith, below, up.0, here),
         λ i lt.
-            let (other, called, none) = subst
-            (λ o. IfSome o (λ x. (j : ℕ) × CalledAt g f x j f × (is_lt (nat_cmp j keys.0) ≡ false)))
-            (up.1 i lt) (keys.2 i) in
+            let (other, called, none) = rw (up.1 i lt) at (keys.2 i) in
             let value_i = called_at i other f called in
             let no_less : keys.0 ≤ other = grind (arith, tests) in
             omega (arith, no_less, key, value_i),

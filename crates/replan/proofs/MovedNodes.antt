@@ -11,18 +11,17 @@ use Rattle.replan.specs.WindowNodes.{told_at, AreOneNode, ArePutTogether}
 placed_moved : (s t : ℕ) (xs ys : List ℤ) → length xs ≡ length ys → length xs / 2 ≤ s
     → ((r : ℕ) → 1 ≤ r → IsPlaced xs (pos s) (pos r) → IsPlaced ys (pos s) (pos r))
     → (rank : ℕ) → IsPlaced xs (pos t) (pos rank) → IsPlaced ys (pos t) (pos rank)
-placed_moved s t xs ys long le h rank (inl due) = inl (let e : length xs / 2 ≡ length ys / 2 =
-    ap (λ (n : ℕ). n / 2) long in omega (arith, ints))
+placed_moved s t xs ys long le h rank (inl due) = inl (omega (arith, ints, ap (λ (n : ℕ). n / 2) long))
 placed_moved s t xs ys long le h rank (inr holds) =
     let e : length xs / 2 ≡ length ys / 2 = ap (λ (n : ℕ). n / 2) long in
     elim (cases_lt t (rank + length xs / 2)) [
       | inl late ↦
           let r : ℕ = rank + s - t in
           let there : pos rank -ℤ pos t ≡ pos r -ℤ pos s = omega (arith, ints) in
-          let at = subst (λ (d : ℤ). HoldsRank xs (d +ℤ pos (length xs - 1))) there holds in
+          let at = rw there at holds in
           elim (h r (omega arith) (inr at)) [
-            | inl due ↦ absurd (let d : (pos r +ℤ pos (length ys / 2)) ≤ℤ pos s = due in omega (arith, ints))
-            | inr held ↦ inr (subst (λ (d : ℤ). HoldsRank ys (d +ℤ pos (length ys - 1))) (sym there) held)
+            | inl due ↦ absurd (omega (arith, ints, due))
+            | inr held ↦ inr (rw there held)
           ]
       | inr early ↦ inl (omega (arith, ints))
     ]

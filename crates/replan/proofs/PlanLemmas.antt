@@ -167,8 +167,7 @@ module _ (p : Problem) (is : IsPlannedFor p) (stage : ℕ × List (List ℤ)) (l
 
 in_reverse : (order : List ℕ) (k d : ℕ) → k < length order → In (get_or order k d) (reverse order)
 in_reverse order k d lt =
-    subst (In (get_or order k d)) (sym (front_whole order k d lt))
-    (in_behind (reverse (drop (k + 1) order)) (get_or order k d) (reverse (take k order)))
+    rw (front_whole order k d lt) (in_behind (reverse (drop (k + 1) order)) (get_or order k d) (reverse (take k order)))
   where
     in_behind : (xs : List ℕ) (x : ℕ) (ys : List ℕ) → In x (xs ++ x ∷ ys)
     in_behind [] x ys = inl refl
@@ -177,7 +176,7 @@ in_reverse order k d lt =
 module _ (p : Problem) (is : IsPlannedFor p) (order : List ℕ) (end : Pair) (whole : length order ≡ length p.flights)
     (lands : LandsWithPair p order end) where
   legal : Legal (ranked p).rules (reverse order)
-  legal = subst (Legal (ranked p).rules) lands.1 lands.2
+  legal = rw lands.1 at lands.2
 
   pub order_is_whole : IsWholeOrder (length p.flights) order
   order_is_whole = record {
@@ -204,8 +203,8 @@ module _ (p : Problem) (is : IsPlannedFor p) (order : List ℕ) (end : Pair) (wh
       (λ r i. list_of_at (length p.flights) (second_in lands.0) r (in_order p order order_is_whole r i)) in
       let back : at_seconds (second_in lands.0) (reverse order) ≡ lands.0 =
       ap (at_seconds (second_in lands.0)) (sym lands.1)
-      ∙ at_second_in lands.0 (subst Distinct (sym lands.1) distinct) in
-      trail_lands p is.table order seconds order_is_whole long (subst (LandedIn (ranked p)) (sym (same ∙ back)) lands.3)
+      ∙ at_second_in lands.0 (rw lands.1 distinct) in
+      trail_lands p is.table order seconds order_is_whole long (rw (same ∙ back) lands.3)
 
   -- they land last at the pair's second, and cost what it says
   pair_is : map_pair (cost_at p) (length p.flights) (second_in lands.0) ≡ end

@@ -37,8 +37,7 @@ module _ (p : Problem) (held : Option HeldProblem) (i : ℕ) (x : LabelledStage)
       → ArePutTogether x.stage.0 x.stage.1 (length x.stage.1) n.places n.firsts
   read_nodes n are = subst (λ (s : ℕ × List (List ℤ)). ArePutTogether x.stage.0 s.1 (length s.1) n.places n.firsts)
       (sym r.stage)
-      (subst (λ (s : ℕ). ArePutTogether s (stage_in held i).1 (length (stage_in held i).1) n.places n.firsts)
-      (sym r.number) are.together)
+      (rw r.number are.together)
 
   pub have_least : (n : WindowNodes) → AreNodesOf held i n → HaveLeast x.labels.lists n
   have_least n are =

@@ -141,7 +141,7 @@ due_of_one p i count some has =
 none_upto : (first : ℕ) (p : Problem) (n total : ℕ) → n < first → HasCandidatesFrom first p n total → total ≡ 0
 none_upto first p zero total below is = is
 none_upto first p (suc n) total below (count, before, here, rest, e) =
-    let none : count ≡ 0 = subst (λ (b : Bool). HasCandidatesIf b p n count) (lt-leb first (suc n) below) here in
+    let none : count ≡ 0 = rw (lt-leb first (suc n) below) at here in
     let low = none_upto first p n before (omega arith) rest in
     omega (arith, e, none, low)
 
@@ -295,4 +295,4 @@ fits_in_common p q count (d, is, e) = let a = is.within.1 in omega (arith, a, e)
 pub due_after_common : (p q : Problem) (count first : ℕ) → AreInCommon p q count → count ≤ first
     → (1 < first → first ≤ count) → IsDueFrom (Some p) q first
 due_after_common p q count first (d, is, e) low high =
-    due_with_held p q d first is (omega arith) (λ more. let a = high more in omega arith)
+    due_with_held p q d first is (omega arith) (λ more. omega (arith, high more))

@@ -33,7 +33,7 @@ loop-stage-preserved g c =
     let i = c.loop-stage._stage in
     let all = due_joined first i p (omega (arith, c.loop-stage.auto, c.len-first.ensures, c.requires.some))
     (omega (arith, c.loop-stage.auto, c.len-first.ensures)) i _ _ _ (omega arith) c.loop-stage.invariant.0
-    (s.0, subst (λ (q : ℕ). HasCandidatesFrom q p q s.0) long s.1, s.2) in (
+    (s.0, rw long at s.1, s.2) in (
       (all.0, subst (λ (n : ℕ). HasCandidatesFrom first p n all.0) {x = i} {y = i + 1 - 1} (omega arith) all.1, all.2),
       c.in_ok-add_stage.ensures.held,
       omega (arith, c.in_ok-add_stage.ensures.one, long),

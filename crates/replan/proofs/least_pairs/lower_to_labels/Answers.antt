@@ -39,10 +39,7 @@ loop-i-preserved c =
     let lowered = less_label column n c.requires.some i least c.loop-i.invariant.0 lt less in
     let days : (pair_at least (told_at c.places-places.result.now i)).0 ≤ last_second =
     c.loop-i.invariant.1 (told_at c.places-places.result.now i) in (
-      subst (λ (m : ℕ). AreLeastUpto (column_pairs column) n.places n.firsts (i + 1)
-          (set least m (c.label-label.result, 0))) (sym same)
-          (subst (λ (x : ℕ). AreLeastUpto (column_pairs column) n.places n.firsts (i + 1)
-          (set least (told_at n.places i) (x, 0))) (sym c.label-label.ensures.value) lowered),
+      rw same (rw c.label-label.ensures.value lowered),
       days_set least (told_at c.places-places.result.now i) (c.label-label.result, 0) last_second c.loop-i.invariant.1
           (omega (arith, days, c.if-label-least.false)),
     )
@@ -52,5 +49,4 @@ returns-clause-least c =
     let n = c.args.nodes.now in
     let end : c.loop-i.i ≡ length n.places = omega
     (arith, c.loop-i-test.false, c.loop-i.auto.i-end, ap (λ (xs : List ℕ). length xs) c.places-places.ensures) in
-    subst (λ (m : ℕ). AreLeastUpto (column_pairs c.args.column.now) n.places n.firsts m c.loop-i.least)
-    end c.loop-i.invariant.0
+    rw end at c.loop-i.invariant.0

@@ -25,9 +25,7 @@ loop-i-preserved c =
     let more = one_least lists n.places n.firsts i least c.loop-i.invariant.0 lt within in
     let is = ap (λ (q : Pair). q.0) value in
     let days = c.loop-i.invariant.1 place in (
-      subst (λ (m : ℕ). AreLeastUpto lists n.places n.firsts (i + 1) (slice_set least m c.lesser.result)) (sym same)
-          (subst (λ (q : Pair). AreLeastUpto lists n.places n.firsts (i + 1) (slice_set least place q))
-          (sym value) more),
+      rw same (rw value more),
       days_set least (told_at c.places-places.result.now i) c.lesser.result last_second c.loop-i.invariant.1
           (omega (arith, is, days)),
     )
@@ -38,4 +36,4 @@ returns-clause-least c =
     let n = c.args.nodes.now in
     let long = ap (λ (xs : List ℕ). length xs) c.places-places.ensures in
     let end : c.loop-i.i ≡ length n.places = omega (arith, c.loop-i-test.false, c.loop-i.auto.i-end, long) in
-    subst (λ (m : ℕ). AreLeastUpto lists n.places n.firsts m c.loop-i.least) end c.loop-i.invariant.0
+    rw end at c.loop-i.invariant.0

@@ -17,4 +17,4 @@ returns-then-have_one_list-clause-together g c =
     (length windows) former.places former.firsts) (sym same) c.requires.former in
     let moved = together_moved g.row.W o.0 s.0 s.1 former.places former.firsts valid
     (c.have_one_list.ensures.other_near yes) (c.have_one_list.ensures.near yes) at in
-    subst (λ (n : WindowNodes). ArePutTogether s.0 s.1 (length s.1) n.places n.firsts) (sym shared) moved
+    rw shared moved

@@ -18,9 +18,8 @@ loop-number-preserved g c =
     let at : c.before-in-loop-number.inside.stage ≡ (hinted_at stages place).stage =
     ap (λ (s : HintedStage). s.stage) is in
     let number : (hinted_at stages place).stage.0 ≡ c.loop-number.number =
-    subst (λ (n : ℕ). (hinted_at stages n).stage.0 ≡ c.loop-number.number) (sym place_is) c.loop-number.invariant.2 in
-    let next = subst (λ (s : ℕ × List (List ℤ)). IsNextOf c.args.problem.now s.0 s.1 c.in_ok-next.next.1) at
-    c.in_ok-next.ensures.exact in
+    rw place_is c.loop-number.invariant.2 in
+    let next = rw at at c.in_ok-next.ensures.exact in
     let items = c.in_ok-push-2.ensures.items in
     let one : HintedStage = record { stage = c.in_ok-next.next; is_whole = true } in
     let end : c.loop-number.number + 1 - c.saturating_sub-first.result ≡ place + 1 =
@@ -36,5 +35,4 @@ loop-number-preserved g c =
 
 pub invariant_of-result : goal.invariant_of-result
 invariant_of-result g c =
-    subst (λ (p : Problem). AreHints p c.loop-number.stages.items) (sym c.in_ok-problem.ensures)
-    c.loop-number.invariant.0
+    rw c.in_ok-problem.ensures c.loop-number.invariant.0

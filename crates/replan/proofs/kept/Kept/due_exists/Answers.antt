@@ -7,8 +7,7 @@ use Rattle.replan.proofs.kept.Kept.due_exists.Goals as goal
 
 pub returns-in-None : goal.returns-in-None
 returns-in-None g c =
-    subst (λ o. HasDue (held_problem o) c.args.problem.now) (sym (sym c.self.view_is ∙ c.in-None.is))
-    (due_alone c.args.problem.now c.counts_exist.ensures)
+    rw (sym c.self.view_is ∙ c.in-None.is) (due_alone c.args.problem.now c.counts_exist.ensures)
 
 pub returns-in-Some : goal.returns-in-Some
 returns-in-Some g c =
