@@ -44,12 +44,12 @@ abbrev Rising : List (List ℤ) → Type 0
 Rising xs = AscendBy (λ (x y : List ℤ). window_cmp x y ≡ Less) xs
 
 rising_ascends : (xs : List (List ℤ)) → Rising xs → IsAscending xs
-rising_ascends [] up i j lt within = absurd (omega (arith, within))
-rising_ascends (x ∷ xs) up zero zero lt within = absurd (omega (arith, lt))
-rising_ascends (x ∷ xs) up zero (suc j) lt within = up.0 (node_at xs j) (member_at xs j [] (omega (arith, within)))
-rising_ascends (x ∷ xs) up (suc i) zero lt within = absurd (omega (arith, lt))
+rising_ascends [] up i j lt within = absurd (omega arith)
+rising_ascends (x ∷ xs) up zero zero lt within = absurd (omega arith)
+rising_ascends (x ∷ xs) up zero (suc j) lt within = up.0 (node_at xs j) (member_at xs j [] (omega arith))
+rising_ascends (x ∷ xs) up (suc i) zero lt within = absurd (omega arith)
 rising_ascends (x ∷ xs) up (suc i) (suc j) lt within =
-    rising_ascends xs up.1 i j (omega (arith, lt)) (omega (arith, within))
+    rising_ascends xs up.1 i j (omega arith) (omega arith)
 
 same_from_tie : (x y : List ℤ) → window_cmp x y ≡ Equal → x ≡ y
 same_from_tie x y e = (slice_eq-Decides Decides-int_eq x y (pointwise int_eq x y) refl).0 (window_ties x y ∙ ap is_eq e)
@@ -197,7 +197,7 @@ module _ (p : Problem) (wf : IsWellFormed p) (net : IsWindowNetwork p) where
   LandsBefore stage (r ∷ rs) = Legal (ranked p).rules (r ∷ rs) × Lands rs × (length rs ≡ stage)
 
   decide_before : (stage : ℕ) (rs : List ℕ) → Decided (LandsBefore stage rs)
-  decide_before stage [] = inr (λ h. absurd h)
+  decide_before stage [] = inr (absurd)
   decide_before stage (r ∷ rs) =
       with_decided (decide_legal (ranked p).rules (λ q x e. let b = wf.between_ranks q x e in (b.0, b.1)) (r ∷ rs))
       (λ legal.
@@ -214,7 +214,7 @@ module _ (p : Problem) (wf : IsWellFormed p) (net : IsWindowNetwork p) where
       let before = net.shrinks r rs legal in
       let l = earliest_lands (λ x u. (ranked p).is_open x u ≡ true) (first_at p) (next_from (ranked p))
       (is_first_open p) rs lands.0 lands.1 in
-      subst (λ (s : ℕ). IsCandidate p s (window (r ∷ rs))) long (
+      subst (λ s. IsCandidate p s (window (r ∷ rs))) long (
         window rs,
         (
           pair_of (cost_at p) lands.0,
@@ -227,7 +227,7 @@ module _ (p : Problem) (wf : IsWellFormed p) (net : IsWindowNetwork p) where
             is = refl;
           },
         ),
-        (r, before.1, ap (λ (w : Node). w.1) (net.pushes r rs before.0)),
+        (r, before.1, ap (λ w. w.1) (net.pushes r rs before.0)),
       )
 
   each_candidate : (stage : ℕ) (next : List ℤ) → IsCandidate p stage next → (rs : List ℕ)
@@ -235,14 +235,14 @@ module _ (p : Problem) (wf : IsWellFormed p) (net : IsWindowNetwork p) where
   unfolding Lands window
   each_candidate stage next (xs, (q, a), (r, permitted, is)) =
       let rs = ranks a.landings in
-      let legal = net.grows r rs a.legal (subst (λ (w : Node). permits p w r) (sym a.at) permitted) in
+      let legal = net.grows r rs a.legal (subst (λ w. permits p w r) (sym a.at) permitted) in
       let e = earliest_least (λ x u. (ranked p).is_open x u ≡ true) (first_at p) (next_from (ranked p))
       (is_first_open p) (next_later (ranked p)) a.landings a.landed in
-      let long : length rs ≡ stage = ap (λ (w : Node). w.0) a.at in (
+      let long : length rs ≡ stage = ap (λ w. w.0) a.at in (
         r ∷ rs,
         rw long at (legal_order (r ∷ rs) legal),
         (legal, (e.0, e.1), long),
-        ap (λ (w : Node). w.1) (net.pushes r rs a.legal ∙ ap (λ (w : Node). land w r) a.at) ∙ sym is,
+        ap (λ w. w.1) (net.pushes r rs a.legal ∙ ap (λ w. land w r) a.at) ∙ sym is,
       )
 
   pub counts_exist : HasCounts p

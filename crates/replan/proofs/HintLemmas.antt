@@ -15,11 +15,11 @@ pub hints_of_stages : (p : Problem) (stages : List LabelledStage) → AreStages 
 hints_of_stages p stages is i lt said =
     let here : i + 1 < length stages = omega (arith, lt, length-map stages without_pairs) in
     let at = get_or-map without_pairs stages (i + 1) no_stage (without_pairs no_stage) here in
-    let before = get_or-map without_pairs stages i no_stage (without_pairs no_stage) (omega (arith, here)) in
+    let before = get_or-map without_pairs stages i no_stage (without_pairs no_stage) (omega arith) in
     let back : i + 1 - 1 ≡ i = omega arith in
     let step : IsNextOf p i (stage_at stages i).stage.1 (stage_at stages (i + 1)).stage.1 =
     rw back at (is.whole (i + 1) (omega arith) here (rw at at said)) in
-    rw (at, before, is.number i (omega (arith, here))) step
+    rw (at, before, is.number i (omega arith)) step
 
 -- one stage more without its pairs
 pub one_shared : (stages : List LabelledStage) (hinted after : List HintedStage) (i : ℕ) (x y : LabelledStage)
@@ -51,10 +51,10 @@ one_ahead p hinted after last s are long e next = rw e (λ i lt said.
     rw (get_or_append_left hinted (s ∷ []) (without_pairs no_stage) i here)
     (elim (cases_eq (i + 1) (length hinted)) [
       | inl same ↦
-          let at : i ≡ last = omega (arith, same, long) in
+          let at : i ≡ last = omega arith in
           rw (get_or_push hinted s (without_pairs no_stage) (i + 1) (sym same), at) next
       | inr old ↦
-          let below : i + 1 < length hinted = omega (arith, old, here) in
+          let below : i + 1 < length hinted = omega arith in
           let there = get_or_append_left hinted (s ∷ []) (without_pairs no_stage) (i + 1) below in
           rw there (are i below (rw there at said))
     ]))

@@ -63,7 +63,7 @@ module _ (lists : List (List Pair)) (places firsts : List ℕ) (count : ℕ) (le
   after = set least place new
 
   now : pair_at after place ≡ new
-  now = get_or-set_same least place new (0, 0) (let e = a.one_each in omega (arith, within, e))
+  now = get_or-set_same least place new (0, 0) (let e = a.one_each in omega arith)
 
   module _ (part : Pair → ℕ) (is : part new ≡ min (part (pair_at least place)) (part here)) where
     there : part (pair_at after place) ≡ min (part (pair_at least place)) (part here)
@@ -77,7 +77,7 @@ module _ (lists : List (List Pair)) (places firsts : List ℕ) (count : ℕ) (le
 
     low_after : IsLow lists places firsts part count least → IsLow lists places firsts part (count + 1) after
     low_after low = one_low lists places firsts part count after (λ i less. let b = low i less in let c =
-        falls (told_at places i) in omega (arith, b, c)) (omega (arith, there))
+        falls (told_at places i) in omega arith) (omega (arith, there))
 
     reached_after : IsReached lists places firsts part least → IsReached lists places firsts part after
     reached_after reached j inside =
@@ -85,9 +85,9 @@ module _ (lists : List (List Pair)) (places firsts : List ℕ) (count : ℕ) (le
         elim (cases_eq j place) [
           | inl e ↦
               let at : part (pair_at after j) ≡ min (part (pair_at least place)) (part here) =
-              ap (λ (m : ℕ). part (pair_at after m)) e ∙ there in
+              ap (λ m. part (pair_at after m)) e ∙ there in
               elim (min_is (part (pair_at least place)) (part here)) [
-                | inl old ↦ (s.0, s.1, s.2, at ∙ old.0 ∙ ap (λ (m : ℕ). part (pair_at least m)) (sym e) ∙ s.3)
+                | inl old ↦ (s.0, s.1, s.2, at ∙ old.0 ∙ ap (λ m. part (pair_at least m)) (sym e) ∙ s.3)
                 | inr fresh ↦ (count, lt, sym e, at ∙ fresh.0)
               ]
           | inr ne ↦ (s.0, s.1, s.2, ap part (get_or-set_other least place j new (0, 0) ne) ∙ s.3)
@@ -116,7 +116,7 @@ module _ (lists : List (List Pair)) (places firsts : List ℕ) (count : ℕ) (le
 -- ---- where all are written through a slice
 
 pub as_written : (part items : List Pair) (n : ℕ) → n ≡ length part → take n (part ++ drop (length part) items) ≡ part
-as_written part items n e = ap (λ (m : ℕ). take m (part ++ drop (length part) items)) e
+as_written part items n e = ap (λ m. take m (part ++ drop (length part) items)) e
     ∙ take-append_seam part (drop (length part) items)
 
 -- ---- of a column, where nothing costs anything
@@ -128,18 +128,18 @@ cost_of_label false label = refl
 second_of_label : (known : Bool) (label : ℕ) → 0 < length (pair_if known label)
     → (extremes (pair_if known label)).0 ≡ label
 second_of_label true label some = refl
-second_of_label false label some = absurd (omega (arith, some))
+second_of_label false label some = absurd (omega arith)
 
 module _ (column : List ℕ) (i : ℕ) (lt : i < length column) where
   pub column_cost : (extremes (list_at (column_pairs column) i)).1 ≡ 0
-  column_cost = ap (λ (qs : List Pair). (extremes qs).1) (list_of_label column i lt)
+  column_cost = ap (λ qs. (extremes qs).1) (list_of_label column i lt)
       ∙ cost_of_label (nat_lt (slice_index column i) no_label) (slice_index column i)
 
   pub column_second : 0 < length (list_at (column_pairs column) i)
       → (extremes (list_at (column_pairs column) i)).0 ≡ slice_index column i
   column_second some =
       let is = list_of_label column i lt in
-      ap (λ (qs : List Pair). (extremes qs).0) is
+      ap (λ qs. (extremes qs).0) is
       ∙ second_of_label (nat_lt (slice_index column i) no_label) (slice_index column i)
       (rw is at some)
 
@@ -150,7 +150,7 @@ module _ (column : List ℕ) (nodes : WindowNodes) (h : HaveLeast (column_pairs 
   lists = column_pairs column
 
   inside : (i : ℕ) → i < length nodes.places → i < length column
-  inside i lt = let l = h.long in let m = length-map column label_pairs in omega (arith, lt, l, m)
+  inside i lt = let l = h.long in let m = length-map column label_pairs in omega arith
 
   -- so far each costs nothing
   pub free_so_far : (j : ℕ) → j < length nodes.firsts → (pair_at least j).1 ≡ 0
@@ -161,7 +161,7 @@ module _ (column : List ℕ) (nodes : WindowNodes) (h : HaveLeast (column_pairs 
     label = slice_index column count
 
     second : (extremes (list_at (column_pairs column) count)).0 ≡ label
-    second = column_second column count (inside count lt) (h.some count (let l = h.long in omega (arith, lt, l)))
+    second = column_second column count (inside count lt) (h.some count (let l = h.long in omega arith))
 
     cost : (extremes (list_at (column_pairs column) count)).1 ≡ 0
     cost = column_cost column count (inside count lt)
@@ -178,7 +178,7 @@ module _ (column : List ℕ) (nodes : WindowNodes) (h : HaveLeast (column_pairs 
         let one = one_least (column_pairs column) nodes.places nodes.firsts count least a lt within in
         let new : lesser (pair_at least (told_at nodes.places count))
         (extremes (list_at (column_pairs column) count)) ≡ (label, 0) =
-        ap₂ (λ (x y : ℕ). (x, y)) (min_right _ _ second less) (min_none _ _ free) in
+        ap₂ (λ x y. (x, y)) (min_right _ _ second less) (min_none _ _ free) in
         rw new at one
 
     -- and any other changes nothing
@@ -187,7 +187,7 @@ module _ (column : List ℕ) (nodes : WindowNodes) (h : HaveLeast (column_pairs 
     other_label le =
         let free = free_so_far (told_at nodes.places count) within in
         none_lower (column_pairs column) nodes.places nodes.firsts count least a lt within
-        (omega (arith, le, second)) (omega (arith, free))
+        (omega (arith, le, second)) (omega arith)
 
 -- ---- seconds of the two days
 
@@ -234,7 +234,7 @@ module _ (lists : List (List Pair)) (nodes : WindowNodes) (h : HaveLeast lists n
       )
 
   falling_at : (i : ℕ) → i < length nodes.places → Staircase (list_at lists i)
-  falling_at i lt = h.falling i (let l = h.long in omega (arith, lt, l))
+  falling_at i lt = h.falling i (let l = h.long in omega arith)
 
   -- the pair of a window at an index
   pair_there : (i j index : ℕ) → i < length nodes.places → told_at nodes.places i ≡ j

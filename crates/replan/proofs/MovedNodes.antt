@@ -11,9 +11,9 @@ use Rattle.replan.specs.WindowNodes.{told_at, AreOneNode, ArePutTogether}
 placed_moved : (s t : ℕ) (xs ys : List ℤ) → length xs ≡ length ys → length xs / 2 ≤ s
     → ((r : ℕ) → 1 ≤ r → IsPlaced xs (pos s) (pos r) → IsPlaced ys (pos s) (pos r))
     → (rank : ℕ) → IsPlaced xs (pos t) (pos rank) → IsPlaced ys (pos t) (pos rank)
-placed_moved s t xs ys long le h rank (inl due) = inl (omega (arith, ints, ap (λ (n : ℕ). n / 2) long))
+placed_moved s t xs ys long le h rank (inl due) = inl (omega (arith, ints, ap (λ n. n / 2) long))
 placed_moved s t xs ys long le h rank (inr holds) =
-    let e : length xs / 2 ≡ length ys / 2 = ap (λ (n : ℕ). n / 2) long in
+    let e : length xs / 2 ≡ length ys / 2 = ap (λ n. n / 2) long in
     elim (cases_lt t (rank + length xs / 2)) [
       | inl late ↦
           let r : ℕ = rank + s - t in
@@ -32,11 +32,11 @@ same_abs a b la lb e = grind (arith, ints)
 pub one_moved : (w s t : ℕ) (xs ys : List ℤ) → IsWindow w xs → IsWindow w ys → w / 2 ≤ s → w / 2 ≤ t
     → AreOneNode s xs ys → AreOneNode t xs ys
 one_moved w s t xs ys x y ls lt o =
-    let kx : length xs / 2 ≡ w / 2 = ap (λ (n : ℕ). n / 2) x.len in
-    let ky : length ys / 2 ≡ w / 2 = ap (λ (n : ℕ). n / 2) y.len in
+    let kx : length xs / 2 ≡ w / 2 = ap (λ n. n / 2) x.len in
+    let ky : length ys / 2 ≡ w / 2 = ap (λ n. n / 2) y.len in
     let some : w % 2 ≡ 1 = x.is_width.0 in
-    let lx = x.low (length xs - 1) (let l = x.len in omega (arith, l, some)) in
-    let ly = y.low (length ys - 1) (let l = y.len in omega (arith, l, some)) in
+    let lx = x.low (length xs - 1) (let l = x.len in omega arith) in
+    let ly = y.low (length ys - 1) (let l = y.len in omega arith) in
     let a : ℤ = offset_at xs (length xs - 1) in
     let b : ℤ = offset_at ys (length ys - 1) in
     let same : pos s +ℤ a ≡ pos s +ℤ b =
@@ -44,10 +44,10 @@ one_moved w s t xs ys x y ls lt o =
     let offset : a ≡ b = omega (arith, ints) in
     record {
       placed = λ rank one. (
-        placed_moved s t xs ys (x.len ∙ sym y.len) (omega (arith, ls, kx)) (λ r some. (o.placed r some).0) rank,
-        placed_moved s t ys xs (y.len ∙ sym x.len) (omega (arith, ls, ky)) (λ r some. (o.placed r some).1) rank,
+        placed_moved s t xs ys (x.len ∙ sym y.len) (omega arith) (λ r some. (o.placed r some).0) rank,
+        placed_moved s t ys xs (y.len ∙ sym x.len) (omega arith) (λ r some. (o.placed r some).1) rank,
       );
-      last = ap (λ (z : ℤ). nat_abs (pos t +ℤ z)) offset;
+      last = ap (λ z. nat_abs (pos t +ℤ z)) offset;
     }
 
 -- windows that are put together at the one stage are so at the other

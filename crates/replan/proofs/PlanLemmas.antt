@@ -50,21 +50,21 @@ only_pair (x ∷ []) s free q (inr i) = absurd i
 only_pair (x ∷ (y ∷ pairs)) s free q i =
     let a = (s.0 y (inl refl)).1 in
     let b = free x (inl refl) in
-    absurd (omega (arith, a, b))
+    absurd (omega arith)
 
 least_worth : (o : Objective) (pairs : List Pair) → Staircase pairs
     → (o ≡ Makespan → (q : Pair) → InPairs q pairs → q.1 ≡ 0) → (a q : Pair) → InPairs a pairs → NoWorse a q
     → worth o (last_pair pairs) ≤ worth o q
 least_worth Makespan pairs s free a q i le =
-    let e = ap (λ (z : Pair). z.0) (only_pair pairs s (free refl) a i) in
+    let e = ap (λ z. z.0) (only_pair pairs s (free refl) a i) in
     let l = le.0 in
-    omega (arith, e, l)
+    omega arith
 least_worth Delay pairs s free a q i le = le_trans (last_cheapest pairs s a i) le.1
 
 -- what is worth no more has no greater value
 pub value_rises : (p : Problem) (o : Objective) (a b : Pair) → worth o a ≤ worth o b → value_by o p a ≤ value_by o p b
 value_rises p Makespan a b le = value_rises_by p Makespan a (b.0, a.1) (le, omega arith)
-value_rises p Delay a b le = omega (arith, le)
+value_rises p Delay a b le = omega arith
 
 module _ (p : Problem) (is : IsPlannedFor p) (stage : ℕ × List (List ℤ)) (labels : StagePairs)
     (last : stage.0 ≡ length p.flights) (holds : HoldsPairs p stage labels) where
@@ -83,7 +83,7 @@ module _ (p : Problem) (is : IsPlannedFor p) (stage : ℕ × List (List ℤ)) (l
         landings = x.0;
         legal = x.1;
         landed = x.2;
-        at = ap (λ (n : ℕ). (n, v)) (x.3 ∙ sym last);
+        at = ap (λ n. (n, v)) (x.3 ∙ sym last);
         is = x.4;
       } in
       let has = (held.landable v).1 (q, a) in
@@ -91,7 +91,7 @@ module _ (p : Problem) (is : IsPlannedFor p) (stage : ℕ × List (List ℤ)) (l
       let are = held.costs.pairs has.0 has.1 in
       let o = are.covers q (rw it a) in (
         has.0,
-        omega (arith, has.1, held.costs.one_each),
+        omega arith,
         least_worth p.objective (list_at labels.lists has.0) are.falling
             (λ makespan r i. attains_free p makespan stage.0 (node_at stage.1 has.0) r ((are.undominated r).0 i).attained)
             o.0 q o.1 o.2,
@@ -101,7 +101,7 @@ module _ (p : Problem) (is : IsPlannedFor p) (stage : ℕ × List (List ℤ)) (l
   pub none_feasible : length labels.lists ≡ 0 → (u : Schedule) → IsFeasibleList p u → ⊥
   none_feasible none u f =
       let inside = (bounds u f).1 in
-      absurd (omega (arith, inside, none))
+      absurd (omega arith)
 
   module _ (place : ℕ) (least : IsLeastPlace labels place) where
     -- no feasible list is worth less than the last pair of the place whose last pair is worth least
@@ -111,9 +111,9 @@ module _ (p : Problem) (is : IsPlannedFor p) (stage : ℕ × List (List ℤ)) (l
         let le = b.2 in
         let here : worth p.objective (last_pair (list_at labels.lists place)) ≤ worth p.objective
         (last_pair (list_at labels.lists b.0)) =
-        subst (λ (o : Objective). worth o (last_pair (list_at labels.lists place)) ≤ worth o
+        subst (λ o. worth o (last_pair (list_at labels.lists place)) ≤ worth o
         (last_pair (list_at labels.lists b.0))) holds.objective (least.1 b.0 b.1) in
-        omega (arith, le, here)
+        omega arith
 
     abbrev pub least_pair : Pair
     least_pair = last_pair (list_at labels.lists place)
@@ -121,9 +121,9 @@ module _ (p : Problem) (is : IsPlannedFor p) (stage : ℕ × List (List ℤ)) (l
     module _ (some : 0 < length (list_at labels.lists place)) where
       attained : Attains p stage.0 (node_at stage.1 place) least_pair
       attained =
-          let here : place < length stage.1 = let l = least.0 in omega (arith, l, holds.held.costs.one_each) in
+          let here : place < length stage.1 = let l = least.0 in omega arith in
           let has : InPairs least_pair (list_at labels.lists place) = at_in (list_at labels.lists place)
-          (length (list_at labels.lists place) - 1) least_pair (omega (arith, some)) refl in
+          (length (list_at labels.lists place) - 1) least_pair (omega arith) refl in
           (((holds.held.costs.pairs place here).undominated least_pair).0 has).attained
 
       best_seconds : Schedule
@@ -137,7 +137,7 @@ module _ (p : Problem) (is : IsPlannedFor p) (stage : ℕ × List (List ℤ)) (l
       pub least_is_best : (t : Schedule) × IsBestList p t × (list_objective p t ≡ value_at p least_pair)
       unfolding best_seconds
       least_is_best =
-          let whole : length (ranks attained.landings) ≡ length p.flights = ap (λ (n : Node). n.0) attained.at ∙ last in
+          let whole : length (ranks attained.landings) ≡ length p.flights = ap (λ n. n.0) attained.at ∙ last in
           let f = landing_trail_feasible (ranked p) (cost_at p)
           (sound_ranked p is.table is.between) attained.landings attained.legal attained.landed whole in
           let same : (r : ℕ) → IsRank (length p.flights) r → second_in attained.landings r ≡ of_rank 0 best_seconds r =
@@ -145,14 +145,14 @@ module _ (p : Problem) (is : IsPlannedFor p) (stage : ℕ × List (List ℤ)) (l
           let feasible : IsFeasibleList p best_seconds = feasible_list p is.passed best_seconds best_long
           (feasible_agree (ranked p) (second_in attained.landings) (of_rank 0 best_seconds) same f.0) in
           let low = map_value_rises p (second_in attained.landings) (of_rank 0 best_seconds) (λ r q. let e =
-          same r q in omega (arith, e)) in
+          same r q in omega arith) in
           let high = map_value_rises p (of_rank 0 best_seconds) (second_in attained.landings) (λ r q. let e =
-          same r q in omega (arith, e)) in
+          same r q in omega arith) in
           let of_pair : value_of_map p (second_in attained.landings) ≡ value_at p least_pair =
           ap (value_at p) (sym f.1 ∙ attained.is) in
           let of_list = list_value p best_seconds best_long in
           let value : list_objective p best_seconds ≡ value_at p least_pair =
-          omega (arith, low, high, of_pair, of_list) in (
+          omega arith in (
             best_seconds,
             record {
               feasible = feasible;
@@ -160,7 +160,7 @@ module _ (p : Problem) (is : IsPlannedFor p) (stage : ℕ × List (List ℤ)) (l
                   let there = list_value p u g.one_each in
                   let le = value_rises p p.objective least_pair (map_pair (cost_at p) (length p.flights) (of_rank 0 u))
                   (no_more u g) in
-                  omega (arith, value, there, le);
+                  omega arith;
             },
             value,
           )

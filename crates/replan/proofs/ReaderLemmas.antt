@@ -27,15 +27,15 @@ read_at w p held h stages i x y e f same at readable is =
     let both = read_held held h stages i x y e f same at readable in
     let some : 1 ≤ i = readable.0 in
     let low : i ≤ length stages - 1 = rw (e, f) at readable.1 in
-    let lt : i < length stages = omega (arith, some, low) in
+    let lt : i < length stages = omega arith in
     let here = held_at p stages is.held i x (read_stage stages i x y same at lt) lt in
     let whole = is.whole in
-    record { stage = both.0; lists = both.1; number = here.1; pairs = here.0; to_last = omega (arith, lt, whole) }
+    record { stage = both.0; lists = both.1; number = here.1; pairs = here.0; to_last = omega arith }
 
 module _ (p : Problem) (held : Option HeldProblem) (i : ℕ) (x : LabelledStage) (r : IsReadAt p held i x) where
   pub read_nodes : (n : WindowNodes) → AreNodesOf held i n
       → ArePutTogether x.stage.0 x.stage.1 (length x.stage.1) n.places n.firsts
-  read_nodes n are = subst (λ (s : ℕ × List (List ℤ)). ArePutTogether x.stage.0 s.1 (length s.1) n.places n.firsts)
+  read_nodes n are = subst (λ s. ArePutTogether x.stage.0 s.1 (length s.1) n.places n.firsts)
       (sym r.stage)
       (rw r.number are.together)
 
@@ -47,9 +47,9 @@ module _ (p : Problem) (held : Option HeldProblem) (i : ℕ) (x : LabelledStage)
       let long = g.long in
       record {
         long = long ∙ sym each;
-        within = λ j lt. g.within j (omega (arith, lt, long));
-        first = λ j lt. (let a = g.first j lt in omega (arith, a, long));
+        within = λ j lt. g.within j (omega arith);
+        first = λ j lt. (let a = g.first j lt in omega arith);
         own = g.own;
-        some = λ j lt. list_some p x.stage x.labels.lists r.pairs.held j (omega (arith, lt, each));
-        falling = λ j lt. (costs.pairs j (omega (arith, lt, each))).falling;
+        some = λ j lt. list_some p x.stage x.labels.lists r.pairs.held j (omega arith);
+        falling = λ j lt. (costs.pairs j (omega arith)).falling;
       }

@@ -41,7 +41,7 @@ no_landing (x ∷ xs) e = absurd (omega arith)
 
 pub start_only : (p : Problem) (v : List ℤ) → IsLandable p 0 v → node_of p.k [] ≡ (0, v)
 start_only p v l =
-    rw (no_landing l.1.landings (ap (λ (n : Node). n.0) l.1.at)) at l.1.at
+    rw (no_landing l.1.landings (ap (λ n. n.0) l.1.at)) at l.1.at
 
 start_attains : (p : Problem) → Attains p 0 (replicate (2 * p.k + 1) (pos 0)) (0, 0)
 start_attains p = record {
@@ -56,7 +56,7 @@ start_attains p = record {
 -- nothing but (0, 0) is attained there
 pub start_pair : (p : Problem) (v : List ℤ) (q : Pair) → Attains p 0 v q → (0, 0) ≡ q
 start_pair p v q a =
-    rw (no_landing a.landings (ap (λ (n : Node). n.0) a.at)) at a.is
+    rw (no_landing a.landings (ap (λ n. n.0) a.at)) at a.is
 
 pub start_costs : (p : Problem) → HoldsCosts p (0, replicate (2 * p.k + 1) (pos 0) ∷ []) (((0, 0) ∷ []) ∷ [])
 start_costs p = record {
@@ -119,7 +119,7 @@ has_candidates p before after m e h each up =
 -- no step more leaves a count as it is
 pub raised_by_none : (count : Option ℕ) → FitsCount count → count ≡ raised_by 0 count
 raised_by_none None fits = refl
-raised_by_none (Some n) fits = (let lt = fits n refl in ap Some (omega (arith, lt)))
+raised_by_none (Some n) fits = (let lt = fits n refl in ap Some (omega arith))
 
 pub raised_more : (o : Option ℕ) (a b : ℕ) → raised_by b (raised_by a o) ≡ raised_by (a + b) o
 raised_more None a b = refl
@@ -133,7 +133,7 @@ due_none first p n o below fits = (0, none_from first p n below, raised_by_none 
 -- one stage alone
 pub due_of_one : (p : Problem) (i count : ℕ) → 0 < i → HasCandidates p (i - 1) count → HasCandidatesFrom i p i count
 due_of_one p i count some has =
-    subst (λ (n : ℕ). HasCandidatesFrom i p n count) {x = suc (i - 1)} {y = i} (omega arith)
+    subst (λ n. HasCandidatesFrom i p n count) {x = suc (i - 1)} {y = i} (omega arith)
     (subst (HasCandidatesFrom i p (suc (i - 1))) {x = 0 + count} {y = count} (omega arith)
     (more_from i p (i - 1) 0 count (omega arith) (none_from i p (i - 1) (omega arith)) has))
 
@@ -143,7 +143,7 @@ none_upto first p zero total below is = is
 none_upto first p (suc n) total below (count, before, here, rest, e) =
     let none : count ≡ 0 = rw (lt-leb first (suc n) below) at here in
     let low = none_upto first p n before (omega arith) rest in
-    omega (arith, e, none, low)
+    omega arith
 
 -- the stages from a number on and before a second, and those from the second on
 module _ (first many : ℕ) (p : Problem) (some : 0 < many) (le : first ≤ many) where
@@ -151,8 +151,8 @@ module _ (first many : ℕ) (p : Problem) (some : 0 < many) (le : first ≤ many
       → HasCandidatesFrom first p n (a + b)
   past n a b below within early late =
       let none = none_upto many p n b below late in
-      subst (λ (m : ℕ). HasCandidatesFrom first p m (a + b)) {x = many - 1} {y = n} (omega (arith, below, within))
-      (subst (HasCandidatesFrom first p (many - 1)) {x = a} {y = a + b} (omega (arith, none)) early)
+      subst (λ m. HasCandidatesFrom first p m (a + b)) {x = many - 1} {y = n} (omega arith)
+      (subst (HasCandidatesFrom first p (many - 1)) {x = a} {y = a + b} (omega arith) early)
 
   joined : (n a b : ℕ) → many ≤ n + 1 → HasCandidatesFrom first p (many - 1) a → HasCandidatesFrom many p n b
       → HasCandidatesFrom first p n (a + b)
@@ -191,8 +191,8 @@ pub read_held : (held : Option HeldProblem) (h : HeldProblem) (stages : List Lab
     × (x.labels.lists ≡ lists_in held i)
 read_held held h stages i x y e f same at (some, most) =
     let low : i ≤ length stages - 1 = rw (e, f) at most in
-    let is = read_stage stages i x y same at (omega (arith, some, low)) in
-    rw (e, f) (ap (λ (s : LabelledStage). s.stage) is, ap (λ (s : LabelledStage). s.labels.lists) is)
+    let is = read_stage stages i x y same at (omega arith) in
+    rw (e, f) (ap (λ s. s.stage) is, ap (λ s. s.labels.lists) is)
 
 -- the last stage as it is read: its labels have a pair each
 pub record LastRead (p : Problem) (stages : List LabelledStage) (last : LabelledStage) : Type 0 where
@@ -206,17 +206,17 @@ pub last_read : (p : Problem) (stages : List LabelledStage) → AreStages p stag
     → (n : ℕ) (last read : LabelledStage) → n ≡ length p.flights
     → last ≡ read → read ≡ get_or stages n read → LastRead p stages last
 last_read p stages holds whole n last read same f e =
-    let lt : n < length stages = omega (arith, whole, same) in
+    let lt : n < length stages = omega arith in
     let is = read_stage stages n last read f e lt in
     let h = held_at p stages holds n last is lt in
     let at : last ≡ stage_at stages (length p.flights) = is ∙ ap (stage_at stages) same in
     record {
-      is = ap (λ (s : LabelledStage). s.labels) at;
-      one_each = h.0.held.costs.one_each ∙ ap (λ (s : LabelledStage). length s.stage.1) at;
+      is = ap (λ s. s.labels) at;
+      one_each = h.0.held.costs.one_each ∙ ap (λ s. length s.stage.1) at;
       number = h.1 ∙ same;
       held = h.0;
       some = λ i inside. list_some p last.stage last.labels.lists h.0.held i
-          (omega (arith, inside, h.0.held.costs.one_each));
+          (omega arith);
     }
 
 -- ---- the stage after the last
@@ -229,8 +229,8 @@ pub whole_at : (p : Problem) (stages : List LabelledStage) → AreStages p stage
     → IsNextOf p earlier.stage.0 earlier.stage.1 before.stage.1
 whole_at p stages is i last earlier before n back e f whole lt =
     let here = (held_at p stages is last before f n).1 in
-    let there = (held_at p stages is i earlier e (omega (arith, n, back))).1 in
-    rw (there, e, f, back) (is.whole last (omega (arith, lt, here)) n (rw f at whole))
+    let there = (held_at p stages is i earlier e (omega arith)).1 in
+    rw (there, e, f, back) (is.whole last (omega arith) n (rw f at whole))
 
 -- ---- stages in common
 
@@ -251,21 +251,21 @@ module _ (p q : Problem) (w : ℕ) (odd : w ≡ 2 * p.k + 1) (laws : WindowLaws 
     stages_in_common =
         let is = common.1 in
         let e = common.2 in
-        let agree = is.agree (omega (arith, e, more)) in
+        let agree = is.agree (omega arith) in
         let same = agree.head.k in
         record {
           number = λ i lt.
               let at : i < count = omega (arith, lt, long) in
-              rw (get_or-take count stages i no_stage at) (holds.number i (omega (arith, at, within)));
+              rw (get_or-take count stages i no_stage at) (holds.number i (omega arith));
           ascending = λ i lt.
               let at : i < count = omega (arith, lt, long) in
-              rw (get_or-take count stages i no_stage at) (holds.ascending i (omega (arith, at, within)));
+              rw (get_or-take count stages i no_stage at) (holds.ascending i (omega arith));
           held = λ i lt.
               let at : i < count = omega (arith, lt, long) in
-              let here : i < length stages = omega (arith, at, within) in
+              let here : i < length stages = omega arith in
               let was = holds.held i here in
               let kept = early common.0 is.within agree (stage_at stages i).stage.0 (let n =
-              holds.number i here in omega (arith, n, e, at, same)) in
+              holds.number i here in omega arith) in
               rw (get_or-take count stages i no_stage at)
               (record {
                 objective = was.objective ∙ agree.head.objective;
@@ -274,25 +274,25 @@ module _ (p q : Problem) (w : ℕ) (odd : w ≡ 2 * p.k + 1) (laws : WindowLaws 
               });
           whole = λ i some lt said.
               let at : i < count = omega (arith, lt, long) in
-              rw (get_or-take count stages i no_stage at, get_or-take count stages (i - 1) no_stage (omega (arith, at)))
+              rw (get_or-take count stages i no_stage at, get_or-take count stages (i - 1) no_stage (omega arith))
               (
               kept_next p q common.0 is.within agree bp bq w odd (i - 1) (stage_at stages (i - 1)).stage.1
-              (stage_at stages i).stage.1 (omega (arith, e, at, some, same))
-              (valid (i - 1) (omega (arith, at, within)))
-              (holds.whole i some (omega (arith, at, within)) (rw (get_or-take count stages i no_stage at) at said)));
+              (stage_at stages i).stage.1 (omega arith)
+              (valid (i - 1) (omega arith))
+              (holds.whole i some (omega arith) (rw (get_or-take count stages i no_stage at) at said)));
         }
 
 -- they are no more than are held
 pub few_in_common : (p q : Problem) (count : ℕ) (stages : List LabelledStage) → AreInCommon p q count
     → length stages ≡ length p.flights + 1 → count ≤ length stages
-few_in_common p q count stages (d, is, e) whole = let a = is.within.0 in omega (arith, a, e, whole)
+few_in_common p q count stages (d, is, e) whole = let a = is.within.0 in omega arith
 
 -- nor more than the other problem has
 pub fits_in_common : (p q : Problem) (count : ℕ) → AreInCommon p q count → count ≤ length q.flights + 1
-fits_in_common p q count (d, is, e) = let a = is.within.1 in omega (arith, a, e)
+fits_in_common p q count (d, is, e) = let a = is.within.1 in omega arith
 
 -- what is due are the stages that follow
 pub due_after_common : (p q : Problem) (count first : ℕ) → AreInCommon p q count → count ≤ first
     → (1 < first → first ≤ count) → IsDueFrom (Some p) q first
 due_after_common p q count first (d, is, e) low high =
-    due_with_held p q d first is (omega arith) (λ more. omega (arith, high more))
+    due_with_held p q d first is (omega arith) (λ more. omega arith)

@@ -23,7 +23,7 @@ module _ (stage : ℕ) (windows : List (List ℤ)) (count : ℕ) (places firsts 
     (placed : TellsPlaced (node_at windows count) stage node.placed)
     (last : node.last ≡ latest (stage, node_at windows count)) where
   old_place : (place i : ℕ) → i < count → told_at (places ++ place ∷ []) i ≡ told_at places i
-  old_place place i lt = get_or_append_left places (place ∷ []) 0 i (let l = g.0.long in omega (arith, lt, l))
+  old_place place i lt = get_or_append_left places (place ∷ []) 0 i (let l = g.0.long in omega arith)
 
   new_place : (place : ℕ) → told_at (places ++ place ∷ []) count ≡ place
   new_place place = get_or_push places place 0 count g.0.long
@@ -45,11 +45,11 @@ module _ (stage : ℕ) (windows : List (List ℤ)) (count : ℕ) (places firsts 
   kept_more : (place : ℕ) → IsSeenAt nodes node place
       → AreGrouped stage windows (count + 1) (places ++ place ∷ []) firsts nodes
   kept_more place there =
-      let inside : place < length firsts = (let a = there.within in let b = g.1.one_each in omega (arith, a, b)) in (
+      let inside : place < length firsts = (let a = there.within in let b = g.1.one_each in omega arith) in (
         record {
-          long = length-append places (place ∷ []) ∙ ap (λ (n : ℕ). n + 1) g.0.long;
+          long = length-append places (place ∷ []) ∙ ap (λ n. n + 1) g.0.long;
           within = each_upto (λ i m. m < length firsts) places place 0 count g.0.long g.0.within inside;
-          first = λ j lt. (let a = g.0.first j lt in omega (arith, a));
+          first = λ j lt. (let a = g.0.first j lt in omega arith);
           own = λ j lt. old_place place (told_at firsts j) (g.0.first j lt) ∙ g.0.own j lt;
           one = each_upto (λ i m. AreOneNode stage (node_at windows (told_at firsts m)) (node_at windows i)) places place 0 count g.0.long g.0.one
               (seen_one place inside there.here);
@@ -72,14 +72,14 @@ module _ (stage : ℕ) (windows : List (List ℤ)) (count : ℕ) (places firsts 
     new_first = get_or_push firsts count 0 (length firsts) refl
 
     old_seen : (j : ℕ) → j < length firsts → seen_at (nodes ++ node ∷ []) j ≡ seen_at nodes j
-    old_seen j lt = get_or_append_left nodes (node ∷ []) no_node j (let e = g.1.one_each in omega (arith, lt, e))
+    old_seen j lt = get_or_append_left nodes (node ∷ []) no_node j (let e = g.1.one_each in omega arith)
 
     new_seen : seen_at (nodes ++ node ∷ []) (length firsts) ≡ node
     new_seen = get_or_push nodes node no_node (length firsts) g.1.one_each
 
     differs : (j : ℕ) → j < length firsts → AreOneNode stage (node_at windows (told_at firsts j))
         (node_at windows count) → ⊥
-    differs j lt o = is_new j (let e = g.1.one_each in omega (arith, lt, e)) (one_seen j lt o)
+    differs j lt o = is_new j (let e = g.1.one_each in omega arith) (one_seen j lt o)
 
     turned : (xs ys : List ℤ) → AreOneNode stage xs ys → AreOneNode stage ys xs
     turned xs ys o = record { placed = λ rank one. ((o.placed rank one).1, (o.placed rank one).0); last = sym o.last }

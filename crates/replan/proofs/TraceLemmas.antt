@@ -54,20 +54,20 @@ completes_pair_more : (p : Problem) → IsWindowNetwork p
     → CompletesWith p before.0 (node_at before.1 j) (pair_at (list_at lists j) index) (order ++ source.rank ∷ []) end
 completes_pair_more p net before lists v q j index end order source rest xs is =
     let may : permits p (node_of p.k (ranks xs)) source.rank =
-    subst (λ (n : Node). permits p n source.rank) (sym is.at) source.permitted in
+    subst (λ n. permits p n source.rank) (sym is.at) source.permitted in
     let leader : latest (before.0, node_at before.1 j) ≡ last_rank (ranks xs) =
     ap latest (sym is.at) ∙ net.newest_is (ranks xs) is.legal in
     let e : next_pair (first_at p) (next_from (ranked p)) (cost_at p) (last_rank (ranks xs))
     (pair_of (cost_at p) xs) source.rank ≡ Some q =
-    ap (λ (l : ℕ). successor p l (pair_of (cost_at p) xs) source.rank) (sym leader)
-    ∙ ap (λ (o : Pair). successor p (latest (before.0, node_at before.1 j)) o source.rank) is.pair ∙ source.lands in
+    ap (λ l. successor p l (pair_of (cost_at p) xs) source.rank) (sym leader)
+    ∙ ap (λ o. successor p (latest (before.0, node_at before.1 j)) o source.rank) is.pair ∙ source.lands in
     let lands = next_lands (λ s t. (ranked p).is_open s t ≡ true) (first_at p) (next_from (ranked p))
     (cost_at p) (is_first_open p) (next_later (ranked p)) (costs_rise p) xs source.rank q is.landed e in
     let more : EndsWith p (suc before.0) v q ((source.rank, q.0) ∷ xs) = record {
       legal = net.grows source.rank (ranks xs) is.legal may;
       landed = lands.0;
-      at = net.pushes source.rank (ranks xs) is.legal ∙ ap (λ (n : Node). land n source.rank) is.at
-          ∙ ap (λ (z : List ℤ). (suc before.0, z)) (sym source.next);
+      at = net.pushes source.rank (ranks xs) is.legal ∙ ap (λ n. land n source.rank) is.at
+          ∙ ap (λ z. (suc before.0, z)) (sym source.next);
       pair = lands.1;
     } in
     let whole = rest ((source.rank, q.0) ∷ xs) more in
@@ -126,23 +126,23 @@ pub step_reads : (p : Problem) (stages : List LabelledStage) → AreStages p sta
     → index < length (list_at (stage_at stages stage).labels.lists place)
     → StepReads p stages stage place index before after
 step_reads p stages holds whole stage next place index before read after read' some low same eb fb ea fa lt listed =
-    let here : next < length stages = omega (arith, low, same, whole) in
-    let back : stage - 1 < length stages = omega (arith, here, same) in
+    let here : next < length stages = omega arith in
+    let back : stage - 1 < length stages = omega arith in
     let before_is = read_stage stages (stage - 1) before read eb fb back in
     let after_is : after ≡ stage_at stages stage = read_stage stages next after read' ea fa here
     ∙ ap (stage_at stages) same in
     let held = held_at p stages holds (stage - 1) before before_is back in
-    let above = held_at p stages holds stage after after_is (omega (arith, here, same)) in
+    let above = held_at p stages holds stage after after_is (omega arith) in
     let number = held.1 in
     let number' = above.1 in
-    let one_back : stage ≡ suc (stage - 1) = omega (arith, some) in
+    let one_back : stage ≡ suc (stage - 1) = omega arith in
     record {
       before_is = before_is;
       after_is = after_is;
       held = held.0;
       above = above.0;
       number = number;
-      next = omega (arith, number, number', one_back);
+      next = omega arith;
       one_back = one_back;
       within = rw after_is lt;
       listed = rw after_is listed;
@@ -173,7 +173,7 @@ listed_undominated p before after more v q place index above number lt at listed
     let has : InPairs q (list_at more place) = at_in (list_at more place) index q listed (sym is) in
     let u : Undominated (Attains p after.0 (node_at after.1 place)) q =
     ((above.costs.pairs place lt).undominated q).0 has in
-    let n : after.0 ≡ before.0 + 1 = omega (arith, number) in
+    let n : after.0 ≡ before.0 + 1 = omega arith in
     rw (← n, at) u
 
 pub last_given : (p : Problem) (w : ℕ) → w ≡ 2 * p.k + 1 → WindowLaws p w
@@ -184,7 +184,7 @@ pub last_given : (p : Problem) (w : ℕ) → w ≡ 2 * p.k + 1 → WindowLaws p 
 last_given p w odd laws before lists v q j k held source =
     let l : IsLandable p before.0 (node_at before.1 j) =
     (held.landable (node_at before.1 j)).0 (Contains-get_or before.1 j [] source.within) in (
-      ap (λ (z : List ℤ). pos (suc before.0) +ℤ offset_at z (w - 1)) source.next
+      ap (λ z. pos (suc before.0) +ℤ offset_at z (w - 1)) source.next
           ∙ next_last p w odd laws before.0 (node_at before.1 j) source.rank l source.permitted,
       source.permitted.to_count,
     )
@@ -224,6 +224,6 @@ trace_begins p stages n stage place index order same few room within listed last
       room,
       within,
       listed,
-      rw (drop_all n order (omega (arith, room)), last)
+      rw (drop_all n order (omega arith), last)
           (completes_pair_start p n (window_in (stage_at stages n) place) _),
     )

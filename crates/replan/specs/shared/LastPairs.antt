@@ -15,21 +15,21 @@ last_of_rest x y ys = (let e : length (x ∷ y ∷ ys) - 1 ≡ suc (length (y �
 
 pub last_cheapest : (xs : List Pair) → Staircase xs → (q : Pair) → InPairs q xs → (last_pair xs).1 ≤ q.1
 last_cheapest [] s q i = absurd i
-last_cheapest (x ∷ []) s q (inl e) = (let f : q.1 ≡ x.1 = ap (λ (z : Pair). z.1) e in omega (arith, f))
+last_cheapest (x ∷ []) s q (inl e) = (let f : q.1 ≡ x.1 = ap (λ z. z.1) e in omega arith)
 last_cheapest (x ∷ []) s q (inr i) = absurd i
 last_cheapest (x ∷ y ∷ ys) s q (inl e) =
-    let f : q.1 ≡ x.1 = ap (λ (z : Pair). z.1) e in
+    let f : q.1 ≡ x.1 = ap (λ z. z.1) e in
     let a = (s.0 y (inl refl)).1 in
     let b = last_cheapest (y ∷ ys) s.1 y (inl refl) in
     let c = last_of_rest x y ys in
-    omega (arith, f, a, b, c)
+    omega arith
 last_cheapest (x ∷ y ∷ ys) s q (inr i) =
-    (let b = last_cheapest (y ∷ ys) s.1 q i in let c = last_of_rest x y ys in omega (arith, b, c))
+    (let b = last_cheapest (y ∷ ys) s.1 q i in let c = last_of_rest x y ys in omega arith)
 
 pub first_least : (xs : List Pair) → Staircase xs → (q : Pair) → InPairs q xs → (pair_at xs 0).0 ≤ q.0
 first_least [] s q i = absurd i
-first_least (x ∷ xs) s q (inl e) = omega (arith, ap (λ (z : Pair). z.0) e)
-first_least (x ∷ xs) s q (inr i) = omega (arith, (s.0 q i).0)
+first_least (x ∷ xs) s q (inl e) = omega (arith, ap (λ z. z.0) e)
+first_least (x ∷ xs) s q (inr i) = omega arith
 
 -- each kept list has a pair
 pub list_some : (p : Problem) (stage : ℕ × List (List ℤ)) (lists : List (List Pair)) → HoldsCosts p stage lists

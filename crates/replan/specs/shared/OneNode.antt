@@ -11,7 +11,7 @@ use Rattle.replan.specs.WindowNodes.{AreOneNode}
 
 -- sets with the same numbers are the same
 pub one_set : (a b : ℕ) → ((x : ℕ) → HasBit a x ↔ HasBit b x) → a ≡ b
-one_set a b h = same_from_bits a b (λ i. bit i)
+one_set a b h = same_from_bits a b (bit)
   where
     bit : (i : ℕ) → bit_at a i ≡ bit_at b i
     bit i =
@@ -22,7 +22,7 @@ one_set a b h = same_from_bits a b (λ i. bit i)
           | inr ne ↦ elim (cases_eq (bit_at b i) 1) [
             | inl f ↦ absurd (ne ((h i).1 f))
             | inr nf ↦
-                omega (arith, la, lb, ne, nf)
+                omega arith
           ]
         ]
 

@@ -18,12 +18,12 @@ candidates_after-requires g c =
 
 pub next-requires : goal.next-requires
 next-requires g c =
-    let lt : c.len.result - 1 < length c.args.begun.now.stages.items = omega (arith, c.len.ensures, c.requires.some) in
+    let lt : c.len.result - 1 < length c.args.begun.now.stages.items = omega arith in
     let e = read_stage _ _ _ _ c.last.view_is c.index-last.ensures lt in
     let h = held_at c.args.planning.now.problem.now _ c.requires.held _ _ e lt in
     let number = rw c.deref.ensures.value at c.in_ok-stage.ensures.number in
     let exact = rw c.deref.ensures.value at c.in_ok-stage.ensures.exact in
-    let long : length c.args.begun.now.stages.items ≡ c.len.result = omega (arith, c.len.ensures) in (
+    let long : length c.args.begun.now.stages.items ≡ c.len.result = omega arith in (
       search rules,
       (
         search rules,
@@ -31,7 +31,7 @@ next-requires g c =
           search rules,
           (
             c.requires.width,
-            (h.0, (omega (arith, number, h.1, lt, c.len.ensures), rw (long, ← e, ← h.1) at exact)),
+            (h.0, (omega arith, rw (long, ← e, ← h.1) at exact)),
           ),
         ),
       ),
@@ -47,14 +47,14 @@ returns-clause-held g c =
     (left.number ∙ number) c.windows-ascending.ensures.ascending left.held
     (λ last is whole.
     let f : c.len-2.result ≡ c.len-candidates.result = search (rules, whole) in
-    let same : last ≡ length c.args.begun.now.stages.items - 1 = omega (arith, is) in
+    let same : last ≡ length c.args.begun.now.stages.items - 1 = omega arith in
     rw (left.all (sym c.len-2.ensures.value ∙ f ∙ c.len-candidates.ensures.value), same) exact)
 
 pub returns-clause-steps : goal.returns-clause-steps
 returns-clause-steps g c =
     let stages = c.args.begun.now.stages.items in
     let long : length stages ≡ vec_len c.args.begun.now.stages = omega arith in
-    let lt : length stages - 1 < length stages = omega (arith, long, c.requires.some) in
+    let lt : length stages - 1 < length stages = omega arith in
     let candidates = rw c.deref.ensures.value at c.in_ok-stage.ensures.candidates in (
       length c.in_ok-stage.stage.1,
       due_of_one c.args.planning.now.problem.now (vec_len c.args.begun.now.stages) _ c.requires.some

@@ -16,7 +16,7 @@ returns-in_ok-stages-in-Some-clause-due g c = rw c.in-Some.is c.in_ok-stages-in-
 pub invariant_of-hints : goal.invariant_of-hints
 invariant_of-hints g c =
     let same : c.held.inside.problem ≡ c.in_ok-stages-in-Some.earlier =
-    ap (λ (h : HeldProblem). h.problem) c.held.view_is ∙ sym c.in_ok-stages-in-Some.ensures.problem in
-    subst (λ (p : Problem). AreHints p c.in_ok-windows-in-Some.windows.items) same
+    ap (λ h. h.problem) c.held.view_is ∙ sym c.in_ok-stages-in-Some.ensures.problem in
+    subst (λ p. AreHints p c.in_ok-windows-in-Some.windows.items) same
     (rw (c.in_ok-windows-in-Some.ensures, c.deref.ensures.value)
     (hints_of_stages c.held.inside.problem c.held.inside.stages.items c.held.invariant.held))

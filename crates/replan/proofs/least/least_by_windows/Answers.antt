@@ -14,7 +14,7 @@ advance-requires g c =
       search rules,
       (
         search rules,
-        (c.requires.width, (i.0, (omega (arith, at, c.loop-reached-test.true, c.len-flights.ensures.value), i.2))),
+        (c.requires.width, (i.0, (omega arith, i.2))),
       ),
     )
 
@@ -22,7 +22,7 @@ pub loop-reached-preserved : goal.loop-reached-preserved
 loop-reached-preserved g c =
     let s = c.in_ok-advance.ensures in
     let at = c.loop-reached.invariant.1 in
-    (s.held, omega (arith, at, s.number), s.whole)
+    (s.held, omega arith, s.whole)
 
 pub least_of-requires : goal.least_of-requires
 least_of-requires g c =
@@ -30,7 +30,7 @@ least_of-requires g c =
     let at = i.1 in (
       search rules,
       (
-        omega (arith, at, c.loop-reached-test.false, c.loop-reached.auto, c.len-flights.ensures.value),
+        omega arith,
         i.0,
       ),
     )

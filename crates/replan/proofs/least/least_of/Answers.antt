@@ -10,7 +10,7 @@ least_place-requires g c =
     let h : HoldsPairs c.args.problem.now c.last.inside.stage c.last.inside.labels =
     rw (← c.last.view_is) at c.requires.held in
     λ i inside. list_some c.args.problem.now c.last.inside.stage c.last.inside.labels.lists h.held i
-    (omega (arith, inside, h.held.costs.one_each))
+    (omega arith)
 
 pub returns-in_err-place : goal.returns-in_err-place
 returns-in_err-place g c =
@@ -25,7 +25,7 @@ value_there-requires-clause-some g c =
     rw (← c.last.view_is) at c.requires.held in
     let inside = c.in_ok-place.ensures.0 in
     list_some c.args.problem.now c.last.inside.stage c.last.inside.labels.lists h.held c.in_ok-place.place
-    (omega (arith, inside, h.held.costs.one_each))
+    (omega arith)
 
 pub returns : goal.returns
 returns g c =
@@ -37,5 +37,5 @@ returns g c =
     c.last.inside.labels
     (rw (← c.last.view_is) at c.requires.stage) h c.in_ok-place.place c.in_ok-place.ensures
     (list_some c.args.problem.now c.last.inside.stage c.last.inside.labels.lists h.held c.in_ok-place.place
-    (omega (arith, inside, h.held.costs.one_each))) in
+    (omega arith)) in
     (best.0, best.1, rw c.value_there.ensures best.2)

@@ -25,7 +25,7 @@ next_alone-requires g c = (
 
 pub returns-clause-number : goal.returns-clause-number
 returns-clause-number g c =
-    let same : c.last.inside.stage.0 ≡ c.args.last.now.stage.0 = ap (λ (s : LabelledStage). s.stage.0) c.last.view_is in
+    let same : c.last.inside.stage.0 ≡ c.args.last.now.stage.0 = ap (λ s. s.stage.0) c.last.view_is in
     omega (arith, same, c.in_ok-labels.ensures.number, c.in_ok-stage.ensures.number)
 
 pub returns-clause-whole : goal.returns-clause-whole

@@ -14,12 +14,12 @@ loop-i-preserved-then-label-least c =
     let i = c.loop-i.i in
     let least = c.loop-i.least in
     let lt : i < length n.places =
-    omega (arith, c.loop-i-test.true, ap (λ (xs : List ℕ). length xs) c.places-places.ensures) in
+    omega (arith, c.loop-i-test.true, ap (λ xs. length xs) c.places-places.ensures) in
     let same : told_at c.places-places.result.now i ≡ told_at n.places i =
-    ap (λ (xs : List ℕ). told_at xs i) c.places-places.ensures in
-    let there = ap (λ (m : ℕ). (pair_at least m).0) same in (
+    ap (λ xs. told_at xs i) c.places-places.ensures in
+    let there = ap (λ m. (pair_at least m).0) same in (
       other_label column n c.requires.some i least c.loop-i.invariant.0 lt
-          (omega (arith, c.if-label-least.true, c.label-label.ensures.value, there)),
+          (omega arith),
       c.loop-i.invariant.1,
     )
 
@@ -30,23 +30,23 @@ loop-i-preserved c =
     let i = c.loop-i.i in
     let least = c.loop-i.least in
     let lt : i < length n.places =
-    omega (arith, c.loop-i-test.true, ap (λ (xs : List ℕ). length xs) c.places-places.ensures) in
+    omega (arith, c.loop-i-test.true, ap (λ xs. length xs) c.places-places.ensures) in
     let same : told_at c.places-places.result.now i ≡ told_at n.places i =
-    ap (λ (xs : List ℕ). told_at xs i) c.places-places.ensures in
-    let there = ap (λ (m : ℕ). (pair_at least m).0) same in
+    ap (λ xs. told_at xs i) c.places-places.ensures in
+    let there = ap (λ m. (pair_at least m).0) same in
     let less : slice_index column i < (pair_at least (told_at n.places i)).0 =
-    omega (arith, c.if-label-least.false, c.label-label.ensures.value, there) in
+    omega arith in
     let lowered = less_label column n c.requires.some i least c.loop-i.invariant.0 lt less in
     let days : (pair_at least (told_at c.places-places.result.now i)).0 ≤ last_second =
     c.loop-i.invariant.1 (told_at c.places-places.result.now i) in (
       rw same (rw c.label-label.ensures.value lowered),
       days_set least (told_at c.places-places.result.now i) (c.label-label.result, 0) last_second c.loop-i.invariant.1
-          (omega (arith, days, c.if-label-least.false)),
+          (omega arith),
     )
 
 pub returns-clause-least : goal.returns-clause-least
 returns-clause-least c =
     let n = c.args.nodes.now in
     let end : c.loop-i.i ≡ length n.places = omega
-    (arith, c.loop-i-test.false, c.loop-i.auto.i-end, ap (λ (xs : List ℕ). length xs) c.places-places.ensures) in
+    (arith, c.loop-i-test.false, c.loop-i.auto.i-end, ap (λ xs. length xs) c.places-places.ensures) in
     rw end at c.loop-i.invariant.0

@@ -13,27 +13,27 @@ loop-i-preserved c =
     let n = c.args.nodes.now in
     let i = c.loop-i.i in
     let least = c.loop-i.least in
-    let long = ap (λ (xs : List ℕ). length xs) c.places-places.ensures in
-    let lt : i < length n.places = omega (arith, c.loop-i-test.true, long) in
+    let long = ap (λ xs. length xs) c.places-places.ensures in
+    let lt : i < length n.places = omega arith in
     let within = c.requires.some.within i lt in
     let place = told_at n.places i in
     let same : told_at c.places-places.result.now i ≡ place =
-    ap (λ (xs : List ℕ). told_at xs i) c.places-places.ensures in
+    ap (λ xs. told_at xs i) c.places-places.ensures in
     let all = c.loop-i.invariant.0.one_each in
     let value : c.lesser.result ≡ lesser (pair_at least place) (extremes (list_at lists i)) =
     c.lesser.ensures ∙ ap₂ lesser (ap (pair_at least) same) c.extremes.ensures.value in
     let more = one_least lists n.places n.firsts i least c.loop-i.invariant.0 lt within in
-    let is = ap (λ (q : Pair). q.0) value in
+    let is = ap (λ q. q.0) value in
     let days = c.loop-i.invariant.1 place in (
       rw same (rw value more),
       days_set least (told_at c.places-places.result.now i) c.lesser.result last_second c.loop-i.invariant.1
-          (omega (arith, is, days)),
+          (omega arith),
     )
 
 pub returns-clause-least : goal.returns-clause-least
 returns-clause-least c =
     let lists = c.args.labels.now.lists in
     let n = c.args.nodes.now in
-    let long = ap (λ (xs : List ℕ). length xs) c.places-places.ensures in
-    let end : c.loop-i.i ≡ length n.places = omega (arith, c.loop-i-test.false, c.loop-i.auto.i-end, long) in
+    let long = ap (λ xs. length xs) c.places-places.ensures in
+    let end : c.loop-i.i ≡ length n.places = omega arith in
     rw end at c.loop-i.invariant.0

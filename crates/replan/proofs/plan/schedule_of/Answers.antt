@@ -9,23 +9,23 @@ use Rattle.replan.proofs.plan.schedule_of.Goals as goal
 pub least_place-requires : goal.least_place-requires
 least_place-requires g c =
     (last_read c.args.problem.now _ c.requires.held
-    (omega (arith, c.requires.whole)) _ _ _ c.len-n.ensures.value c.last.view_is c.index-kept-n.is).some
+    (omega arith) _ _ _ c.len-n.ensures.value c.last.view_is c.index-kept-n.is).some
 
 pub returns-in-None : goal.returns-in-None
 returns-in-None g c =
     let l = last_read c.args.problem.now _ c.requires.held
-    (omega (arith, c.requires.whole)) _ _ _ c.len-n.ensures.value c.last.view_is c.index-kept-n.is in
+    (omega arith) _ _ _ c.len-n.ensures.value c.last.view_is c.index-kept-n.is in
     none_feasible c.args.problem.now (well_formed_planned c.args.problem.now c.len-n.ensures.well_formed)
     _ c.last.inside.labels l.number l.held c.in-None.ensures
 
 pub trace-requires : goal.trace-requires
 trace-requires g c =
     let l = last_read c.args.problem.now _ c.requires.held
-    (omega (arith, c.requires.whole)) _ _ _ c.len-n.ensures.value c.last.view_is c.index-kept-n.is in
+    (omega arith) _ _ _ c.len-n.ensures.value c.last.view_is c.index-kept-n.is in
     let inside = c.in-Some.ensures.0 in
     let room : length c.deref_mut.result.now ≡ length c.args.problem.now.flights =
     omega (arith, c.in_ok-order-in-Some.ensures.len) in
-    (search rules, (search rules, (c.requires.held, (c.requires.whole, (omega (arith, inside, l.one_each), room)))))
+    (search rules, (search rules, (c.requires.held, (c.requires.whole, (omega arith, room)))))
 
 pub retime-is_landed-requires-clause-order : goal.retime-is_landed-requires-clause-order
 retime-is_landed-requires-clause-order g c =
@@ -53,7 +53,7 @@ returns-in_ok-order-in-Some g c =
     let lands = rw (← is) at c.trace.ensures.lands in
     let planned = well_formed_planned c.args.problem.now c.len-n.ensures.well_formed in
     let l = last_read c.args.problem.now _ c.requires.held
-    (omega (arith, c.requires.whole)) _ _ _ c.len-n.ensures.value c.last.view_is c.index-kept-n.is in
+    (omega arith) _ _ _ c.len-n.ensures.value c.last.view_is c.index-kept-n.is in
     let long : length c.retime-is_landed.new.into ≡ length c.args.problem.now.flights =
     c.if-prove.ensures.room ∙ ap length c.in_ok-schedule.ensures ∙ length-replicate c.len-n.result 0
     ∙ c.len-n.ensures.value in

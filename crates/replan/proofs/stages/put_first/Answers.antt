@@ -14,4 +14,4 @@ returns-clause-held g c =
       whole = λ i some lt. absurd (omega arith);
     })
     (rw c.requires.none at c.in_ok-push.ensures.items) first.number first.ascending first.held
-    (λ last none. absurd (omega (arith, none)))
+    (λ last none. absurd (omega arith))

@@ -7,4 +7,4 @@ pub returns-clause-held : goal.returns-clause-held
 returns-clause-held g c =
     begins c.args.problem.now g.row.W _ _ c.head.result.now.objective c.requires.width c.in_ok-stage.ensures
     c.in_ok-labels.ensures
-    (ap (λ (p : Problem). p.objective) c.head.ensures.value)
+    (ap (λ p. p.objective) c.head.ensures.value)

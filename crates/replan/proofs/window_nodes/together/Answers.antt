@@ -15,7 +15,7 @@ loop-i-preserved g c =
     let window = c.node.ensures.value in
     let number = c.number-number.ensures in
     let placed = rw number at (rw window at c.placed_node-node.ensures.placed) in
-    let last = c.placed_node-node.ensures.last ∙ ap₂ (λ (n : ℕ) (xs : List ℤ). latest (n, xs)) number window in
+    let last = c.placed_node-node.ensures.last ∙ ap₂ (λ n xs. latest (n, xs)) number window in
     let more = one_window s.0 s.1 i c.loop-i.places.items c.loop-i.firsts.items c.loop-i.nodes.items
     c.loop-i.invariant.1 node placed last
     c.in_ok-place.place c.keep_or_put.new.nodes.items c.keep_or_put.new.firsts.items c.in_ok-place.ensures in (

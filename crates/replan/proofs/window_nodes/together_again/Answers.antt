@@ -13,7 +13,7 @@ returns-then-have_one_list-clause-together g c =
     let same = c.have_one_list.ensures.same yes in
     let shared = c.in_ok-nodes.ensures in
     let valid = c.windows-valid.ensures.valid in
-    let at = subst (λ (windows : List (List ℤ)). ArePutTogether o.0 windows
+    let at = subst (λ windows. ArePutTogether o.0 windows
     (length windows) former.places former.firsts) (sym same) c.requires.former in
     let moved = together_moved g.row.W o.0 s.0 s.1 former.places former.firsts valid
     (c.have_one_list.ensures.other_near yes) (c.have_one_list.ensures.near yes) at in

@@ -10,7 +10,7 @@ returns-clause-held g c =
     let inside = c.self.inside in
     let held = c.self.invariant in
     let common : AreInCommon inside.problem c.args.problem.now c.args.count =
-    rw (ap (λ (h : HeldProblem). h.problem) c.self.view_is) c.requires.common in
+    rw (ap (λ h. h.problem) c.self.view_is) c.requires.common in
     let few = few_in_common inside.problem c.args.problem.now c.args.count inside.stages.items common held.whole in
     let laws : WindowLaws inside.problem g.row.W = search rules in
     rw c.truncate.ensures.items
@@ -23,8 +23,8 @@ pub returns-clause-count : goal.returns-clause-count
 returns-clause-count g c =
     let inside = c.self.inside in
     let common : AreInCommon inside.problem c.args.problem.now c.args.count =
-    rw (ap (λ (h : HeldProblem). h.problem) c.self.view_is) c.requires.common in
+    rw (ap (λ h. h.problem) c.self.view_is) c.requires.common in
     let few = few_in_common inside.problem c.args.problem.now c.args.count inside.stages.items
     common c.self.invariant.whole in
     let long = ap length c.truncate.ensures.items ∙ length-take-le c.args.count inside.stages.items few in
-    omega (arith, long)
+    omega arith
