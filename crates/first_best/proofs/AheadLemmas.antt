@@ -45,13 +45,13 @@ module _ (p : Problem) (v : ℕ) (budget : Option ℕ) (held : Option HeldProble
       (s : StageAhead) (completed : AreCompleted p v budget stage s.nodes s.lists)
       (gathered : IsGathered held stage s.nodes s.places) where
     old : (i : ℕ) → i ≤ done → at (stages ++ s ∷ []) i ≡ at stages i
-    old i le = get_or_append_left stages (s ∷ []) no_stage i (let l = a.long in omega (arith, le, l))
+    old i le = get_or_append_left stages (s ∷ []) no_stage i (let l = a.long in omega arith)
 
     each : (P : ℕ → StageAhead → Type 0) → ((i : ℕ) → 1 ≤ i → i ≤ done → P (length p.flights + 1 - i) (at stages i))
         → P stage s → (i : ℕ) → 1 ≤ i → i ≤ done + 1 → P (length p.flights + 1 - i) (at (stages ++ s ∷ []) i)
     each P before now i one le = each_upto (λ j t. 1 ≤ j → P (length p.flights + 1 - j) t) stages s no_stage (done + 1)
-        a.long (λ j lt one. before j one (omega (arith, lt)))
-        (λ _. let f : length p.flights + 1 - (done + 1) ≡ stage = omega (arith, is) in rw f now) i (omega (arith, le)) one
+        a.long (λ j lt one. before j one (omega arith))
+        (λ _. let f : length p.flights + 1 - (done + 1) ≡ stage = omega arith in rw f now) i (omega arith) one
 
     pub one_stage : IsAheadFrom p v budget held (done + 1) (stages ++ s ∷ [])
     one_stage = record {
@@ -87,21 +87,20 @@ module _ (p : Problem) (v : ℕ) (budget : Option ℕ) (held : Option HeldProble
   }
     where
       back : (s : ℕ) → s ≤ length p.flights → length p.flights + 1 - (length stages - s) ≡ s
-      back s le = (let l = a.long in omega (arith, le, l, e))
+      back s le = (let l = a.long in omega arith)
 
       low : (s : ℕ) → s ≤ length p.flights → 1 ≤ length stages - s
-      low s le = (let l = a.long in omega (arith, le, l, e))
+      low s le = (let l = a.long in omega arith)
 
       high : (s : ℕ) → 1 ≤ s → length stages - s ≤ done
-      high s one = (let l = a.long in omega (arith, one, l, e))
+      high s one = (let l = a.long in omega arith)
 
 -- the nodes of a stage that is held
 pub held_nodes : (p : Problem) (held : Option HeldProblem) → network.IsWindowNetwork p → TellTheirRanks p
     → AreStagesOf p held → (stage : ℕ) → stage ≤ length p.flights → (nodes : List EarlyNode) (places : List ℕ)
     → IsGathered held stage nodes places → AreNodesOf p stage nodes
 held_nodes p held net tell are stage le nodes places g =
-    subst (λ (s : ℕ). AreNodesOf p s nodes) (are.number stage le)
-    (gathered_nodes p net tell (stage_in held stage) (lists_in held stage) (are.pairs stage le) nodes places g)
+    rw (are.number stage le) at (gathered_nodes p net tell (stage_in held stage) (lists_in held stage) (are.pairs stage le) nodes places g)
 
 module _ (p : Problem) (v : ℕ) (budget : Option ℕ) (held : Option HeldProblem) (stages : List StageAhead)
     (a : IsAheadBy p v budget held stages) where
@@ -111,9 +110,9 @@ module _ (p : Problem) (v : ℕ) (budget : Option ℕ) (held : Option HeldProble
       let c = a.completed s one le in
       record {
         from_one = one;
-        to_last = (let w = a.whole in omega (arith, le, w));
-        place = (let l = g.long in omega (arith, l, lt));
-        list = (let w = g.within i lt in let e = c.one_each in omega (arith, w, e));
+        to_last = (let w = a.whole in omega arith);
+        place = (let l = g.long in omega arith);
+        list = (let w = g.within i lt in let e = c.one_each in omega arith);
       }
 
   module _ (net : network.IsWindowNetwork p) (tell : TellTheirRanks p) (are : AreStagesOf p held)
@@ -126,7 +125,7 @@ module _ (p : Problem) (v : ℕ) (budget : Option ℕ) (held : Option HeldProble
         let g = a.gathered s one le in
         let m = place_at (stage_of stages s).places i in
         let ends : network.node_of p.k (ranks xs) ≡ ((stage_in held s).0, window_in held s i) =
-        at ∙ ap (λ (n : ℕ). (n, window_in held s i)) (sym (are.number s le)) in
+        at ∙ ap (λ n. (n, window_in held s i)) (sym (are.number s le)) in
         let of = window_prefix p net tell (stage_in held s) (lists_in held s) (are.pairs s le)
         (ranks xs) (window_in held s i) (node_at (stage_of stages s).nodes m) l.legal ends (g.window i lt) in
         (a.completed s one le).kept m (ranks xs) (g.within i lt) l.legal l.long of

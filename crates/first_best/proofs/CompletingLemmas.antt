@@ -62,11 +62,11 @@ module _ (p : Problem) (wf : IsWellFormed p) (v : ℕ) (budget : Option ℕ) (st
     (made : ArePairsOf p v budget stage (node_at these j) next pairs) where
   opened_last : (b : ℕ) → (ranked p).is_open (node_at these j).last b ≡ true
       → (ranked p).is_open (last_rank rs) b ≡ true
-  opened_last b o = subst (λ (r : ℕ). (ranked p).is_open r b ≡ true) (sym of.last) o
+  opened_last b o = rw of.last o
 
   last_opened : (b : ℕ) → (ranked p).is_open (last_rank rs) b ≡ true
       → (ranked p).is_open (node_at these j).last b ≡ true
-  last_opened b o = subst (λ (r : ℕ). (ranked p).is_open r b ≡ true) of.last o
+  last_opened b o = rw of.last at o
 
   -- there is room for what costs no more than a pair that is wanted
   room : (q : Pair) (cost : ℕ) → cost ≤ q.1 → IsWanted p budget rs q
@@ -107,23 +107,23 @@ module _ (p : Problem) (wf : IsWellFormed p) (v : ℕ) (budget : Option ℕ) (st
 
       free : (b c : ℕ) → IsEnd p stage (node_at these j) next b c → c ≡ 0
       free b c (inl e) = e.1
-      free b c (inr e) = absurd (let a = e.0 in omega (arith, a, whole))
+      free b c (inr e) = absurd (let a = e.0 in omega arith)
 
   module _ (short : stage < length p.flights) (completed : AreCompleted p v budget (stage + 1) next.nodes next.lists)
     where
       one_more : (r : ℕ) → length (r ∷ rs) ≡ stage + 1
-      one_more r = omega (arith, long)
+      one_more r = omega arith
 
       reached_next : (m : ℕ) → m < length next.nodes → IsReached p (suc (length rs)) (node_at next.nodes m)
-      reached_next m l = subst (λ (s : ℕ). IsReached p s (node_at next.nodes m)) (let e : stage + 1 ≡ suc (length rs) =
-          omega (arith, long) in e) (completed.are_nodes.reached m l)
+      reached_next m l = rw (let e : stage + 1 ≡ suc (length rs) =
+          omega arith in e) at (completed.are_nodes.reached m l)
 
       of_pair : (q : Pair) → IsPairOf p v stage (node_at these j) next q
           → IsSuccessorPair p v (IsCompletingPair p v) rs q
       of_pair q h = go h.end
         where
           go : IsEnd p stage (node_at these j) next q.0 q.1 → IsSuccessorPair p v (IsCompletingPair p v) rs q
-          go (inl e) = absurd (let a = e.0 in omega (arith, a, short))
+          go (inl e) = absurd (let a = e.0 in omega arith)
           go (inr (_, w)) =
               let on = leads_on p rs legal (node_at these j) (node_at next.nodes w.place) of w.leads
               (reached_next w.place w.within) in
@@ -135,7 +135,7 @@ module _ (p : Problem) (wf : IsWellFormed p) (v : ℕ) (budget : Option ℕ) (st
                 second = w.way.lands_at;
                 pair = w.way.pair;
                 legal = on.0;
-                lands = ap (λ (r : ℕ). landing_after p r q.0 (node_at next.nodes w.place).last) of.last ∙ w.way.lands;
+                lands = ap (λ r. landing_after p r q.0 (node_at next.nodes w.place).last) of.last ∙ w.way.lands;
                 kept = (completed.kept w.place ((node_at next.nodes w.place).last ∷ rs) w.within on.0
                     (one_more (node_at next.nodes w.place).last) on.1).completes w.way.pair w.way.listed;
                 in_time = w.way.in_time;
@@ -159,12 +159,12 @@ module _ (p : Problem) (wf : IsWellFormed p) (v : ℕ) (budget : Option ℕ) (st
                 leads = on_leads p rs s.rank (node_at these j) (node_at next.nodes k.place) s.legal of k.of_node;
                 way = record {
                   lands_at = s.second;
-                  lands = ap (λ (r : ℕ). landing_after p (node_at these j).last q.0 r) (sym same)
-                      ∙ ap (λ (r : ℕ). landing_after p r q.0 s.rank) (sym of.last) ∙ s.lands;
+                  lands = ap (λ r. landing_after p (node_at these j).last q.0 r) (sym same)
+                      ∙ ap (λ r. landing_after p r q.0 s.rank) (sym of.last) ∙ s.lands;
                   pair = s.pair;
                   listed = k.listed;
                   in_time = s.in_time;
-                  cost_is = ap (λ (r : ℕ). cost_at p r s.second + s.pair.1) (sym same) ∙ s.cost_is;
+                  cost_is = ap (λ r. cost_at p r s.second + s.pair.1) (sym same) ∙ s.cost_is;
                 };
               },
             );
@@ -206,7 +206,7 @@ module _ (p : Problem) (wf : IsWellFormed p) (v : ℕ) (budget : Option ℕ) (st
           each : KeptCompleting (IsCompletingPair p v rs) (IsSuccessorPair p v (IsCompletingPair p v) rs)
           each =
               successor_pairs p (sound_of p wf) v rs legal (IsSuccessorPair p v (IsCompletingPair p v) rs)
-              (IsCompletingPair p v) (omega (arith, long, short))
+              (IsCompletingPair p v) (omega arith)
               (λ r b l can. all_kept (IsCompletingPair p v (r ∷ rs)))
               (record { are = λ q s. s; cover = λ q s. (q, s, (le_refl q.0, le_refl q.1)) })
 

@@ -73,7 +73,7 @@ module _ (p : Problem) (held : Option HeldProblem) (stage : ℕ) (number : (stag
   place_in i lt = g.within i lt
 
   in_places : (i : ℕ) → i < length list → i < length put.places
-  in_places i lt = (let e = g.long in omega (arith, lt, e))
+  in_places i lt = (let e = g.long in omega arith)
 
   -- a window tells the node at its place
   window_told : (i : ℕ) → i < length list
@@ -90,7 +90,7 @@ module _ (p : Problem) (held : Option HeldProblem) (stage : ℕ) (number : (stag
 
   at_stage : (window : List ℤ) (node : EarlyNode) → IsWindowOf stage window node
       → IsWindowOf (stage_in held stage).0 window node
-  at_stage window node w = subst (λ (n : ℕ). IsWindowOf n window node) (sym number) w
+  at_stage window node w = rw number w
 
   -- the pair of a window at an index
   pair_there : (i index : ℕ) → i < length list → (0 < length (list_at lists i) → index < length (list_at lists i))
@@ -107,7 +107,7 @@ module _ (p : Problem) (held : Option HeldProblem) (stage : ℕ) (number : (stag
   low_at i lt =
       let e = m.earliest (place_at put.places i) (place_in i lt) in
       let a = (l.each (place_at put.places i) (place_in i lt)).early (pair_at (list_at lists i) 0) (pair_there i 0 lt (λ some. some)) in
-      omega (arith, e, a)
+      omega arith
 
   source_at : (j : ℕ) → j < length put.firsts → (i : ℕ) × (i < length list)
       × IsWindowOf (stage_in held stage).0 (windows.node_at list i) (node_at nodes j)
@@ -117,19 +117,18 @@ module _ (p : Problem) (held : Option HeldProblem) (stage : ℕ) (number : (stag
       let i = q.1.window in
       let long = g.long in
       let inside = q.1.within in
-      let within : i < length list = omega (arith, inside, long) in
+      let within : i < length list = omega arith in
       let there = q.1.of_node in
       let low : (node_at nodes j).earliest ≤ second_of lists i =
-      subst (λ (n : ℕ). (node_at nodes n).earliest ≤ second_of lists i) there (low_at i within) in
+      rw there at (low_at i within) in
       let first = first_least (list_at lists i) (h.costs.pairs i within).falling q.0 q.1.has in
       let is = m.earliest j lt in
       let least_is = q.2 in (
         i,
         within,
         at_stage (windows.node_at list i) (node_at nodes j)
-            (subst (λ (n : ℕ). IsWindowOf stage (windows.node_at list i) (node_at nodes n)) there
-            (window_told i within)),
-        omega (arith, low, first, is, least_is),
+            (rw there at (window_told i within)),
+        omega arith,
       )
 
   pub all_made : AreGathered (stage_in held stage) lists (length list) nodes put.places
@@ -180,14 +179,14 @@ module _ (p : Problem) (net : network.IsWindowNetwork p) (tell : TellTheirRanks 
       × (second_of lists i ≤ (latest_landing xs).1) × (cost_in lists i ≤ cost_of (cost_at p) xs)
   place_of_prefix xs l =
       let window = (network.node_of p.k (ranks xs)).1 in
-      let there : network.node_of p.k (ranks xs) ≡ (stage.0, window) = ap (λ (n : ℕ). (n, window)) l.long in
+      let there : network.node_of p.k (ranks xs) ≡ (stage.0, window) = ap (λ n. (n, window)) l.long in
       let q = pair_of (cost_at p) xs in
       let place = (h.landable window).1
       (q, record { landings = xs; legal = l.legal; landed = l.landed; at = there; is = refl }) in
       let same : window ≡ windows.node_at stage.1 place.0 =
       sym (get_or_default stage.1 place.0 [] window place.1 ∙ place.2) in
       let at : network.node_of p.k (ranks xs) ≡ (stage.0, windows.node_at stage.1 place.0) =
-      there ∙ ap (λ (w : List ℤ). (stage.0, w)) same in
+      there ∙ ap (λ w. (stage.0, w)) same in
       let kept = h.costs.pairs place.0 place.1 in
       let o = kept.covers q (record { landings = xs; legal = l.legal; landed = l.landed; at = at; is = refl }) in
       let first = first_least (list_at lists place.0) kept.falling o.0 o.1 in
@@ -195,7 +194,7 @@ module _ (p : Problem) (net : network.IsWindowNetwork p) (tell : TellTheirRanks 
       let low = o.2 in
       let early = low.0 in
       let cheap = low.1 in
-      (place.0, place.1, at, omega (arith, first, early), omega (arith, last, cheap))
+      (place.0, place.1, at, omega arith, omega arith)
 
   module _ (nodes : List EarlyNode) (places : List ℕ) (g : AreGathered stage lists (length stage.1) nodes places) where
     reached_at : (j : ℕ) → j < length nodes → IsReached p stage.0 (node_at nodes j)
@@ -206,9 +205,9 @@ module _ (p : Problem) (net : network.IsWindowNetwork p) (tell : TellTheirRanks 
         (at_in list 0 (pair_at list 0) (list_some p stage lists h s.0 s.1) refl)).attained in
         record {
           landings = a.landings;
-          prefix = record { legal = a.legal; landed = a.landed; long = ap (λ (n : network.Node). n.0) a.at };
+          prefix = record { legal = a.legal; landed = a.landed; long = ap (λ n. n.0) a.at };
           of_node = window_prefix (ranks a.landings) (windows.node_at stage.1 s.0) (node_at nodes j) a.legal a.at s.2;
-          earliest = ap (λ (q : Pair). q.0) a.is ∙ sym s.3;
+          earliest = ap (λ q. q.0) a.is ∙ sym s.3;
         }
 
     -- a landed prefix of a node has its window among those of the node

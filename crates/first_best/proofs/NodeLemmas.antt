@@ -74,7 +74,7 @@ module _ (p : Problem) (stage : ℕ) (nodes : List EarlyNode) (are : AreNodesOf 
         legal = r.prefix.legal;
         landed = r.prefix.landed;
         one_node = one_node (ranks r.landings) rs (node_at nodes j) r.of_node of (r.prefix.long ∙ sym long);
-        by = omega (arith, e, le);
+        by = omega arith;
       }
 
   pub by_lands : (b : ℕ) → CanLandBy p rs b → (node_at nodes j).earliest ≤ b
@@ -82,7 +82,7 @@ module _ (p : Problem) (stage : ℕ) (nodes : List EarlyNode) (are : AreNodesOf 
       let a = are.least j c.landings lt (record { legal = c.legal; landed = c.landed; long = c.one_node.stage ∙ long })
       (node_one rs (ranks c.landings) (node_at nodes j) c.one_node of) in
       let d = c.by in
-      omega (arith, a, d)
+      omega arith
 
 -- ---- one rank more
 
@@ -119,7 +119,7 @@ module _ (p : Problem) (rs : List ℕ) (legal : IsLegal p rs) (node after : Earl
   )
     where
       same : length (ranks xs) ≡ length rs
-      same = omega (arith, long)
+      same = omega arith
 
   pub leads_on : IsReached p (suc (length rs)) after → IsLegal p (after.last ∷ rs) × IsPrefixOf (after.last ∷ rs) after
   leads_on r = (
@@ -151,6 +151,6 @@ rank_of p stage node one r = go r.landings r.prefix.legal r.prefix.long r.of_nod
   where
     go : (xs : List Landing) → IsLegal p (ranks xs) → length (ranks xs) ≡ stage → IsPrefixOf (ranks xs) node
         → (1 ≤ node.last) × (node.last ≤ length p.flights)
-    go [] l long o = absurd (omega (arith, long, one))
-    go (x ∷ xs) l long o = subst (λ (n : ℕ). (1 ≤ n) × (n ≤ length p.flights)) o.last
+    go [] l long o = absurd (omega arith)
+    go (x ∷ xs) l long o = subst (λ n. (1 ≤ n) × (n ≤ length p.flights)) o.last
         (l.0.fits.from_one, l.0.fits.to_count)

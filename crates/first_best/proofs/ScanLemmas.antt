@@ -32,20 +32,20 @@ module _ (p : Problem) (v : ℕ) (budget : Option ℕ) (stage : ℕ) (node : Ear
   module _ (from second least : ℕ) (pairs : List Pair) (before : from ≡ second + 1) (scanned : Scanned from least pairs)
       (cost_here : Option ℕ) (least_here : IsLeastOf (λ d. Is (second, d)) cost_here) where
     s : Scanned (second + 1) least pairs
-    s = subst (λ (n : ℕ). Scanned n least pairs) before scanned
+    s = rw before at scanned
 
     is_least : (o : Option ℕ) → cost_here ≡ o → IsLeastOf (λ d. Is (second, d)) o
-    is_least o e = subst (λ (o : Option ℕ). IsLeastOf (λ d. Is (second, d)) o) e least_here
+    is_least o e = rw e at least_here
 
     -- what is found one second earlier
     earlier_are : (q : Pair) → InPairs q pairs → Is q × (second ≤ q.0)
-    earlier_are q i = (let a = s.found.are q i in (a.0, (let b = a.1 in omega (arith, b))))
+    earlier_are q i = (let a = s.found.are q i in (a.0, (let b = a.1 in omega arith)))
 
     split : (q : Pair) → second ≤ q.0 → (q.0 ≡ second) ⊎ (second + 1 ≤ q.0)
-    split q le = elim (cases_eq q.0 second) [ inl e ↦ inl e | inr ne ↦ inr (omega (arith, le, ne)) ]
+    split q le = elim (cases_eq q.0 second) [ inl e ↦ inl e | inr ne ↦ inr (omega arith) ]
 
     at_second : (q : Pair) → q.0 ≡ second → Is q → Is (second, q.1)
-    at_second q e h = subst (λ (n : ℕ). Is (n, q.1)) e h
+    at_second q e h = rw e at h
 
     kept : ((q : Pair) → Is q → q.0 ≡ second → Room q → (o : Pair) × InPairs o pairs × NoEarlierNoDearer o q)
         → Scanned second least pairs
@@ -69,7 +69,7 @@ module _ (p : Problem) (v : ℕ) (budget : Option ℕ) (stage : ℕ) (node : Ear
         let d = s.dear cost le (limits cost fits (room_below budget node.cheapest cost q.1 a r)) in
         let b = (s.found.are d.0 d.1).1 in
         let f = d.2 in
-        (d.0, d.1, (omega (arith, b, e), omega (arith, a, f))))
+        (d.0, d.1, (omega arith, omega arith)))
 
     pub cheaper : (cost : ℕ) → cost_here ≡ Some cost → cost < least → second ≤ last_second
         → cost ≤ 17279900 * (length p.flights - stage) → Scanned second cost (pairs ++ (second, cost) ∷ [])
@@ -80,18 +80,18 @@ module _ (p : Problem) (v : ℕ) (budget : Option ℕ) (stage : ℕ) (node : Ear
           found = record {
             are = each_pair (λ q. Is q × (second ≤ q.0)) pairs (second, cost) earlier_are (l.0, le_refl second);
             cover = λ q h le r. elim (split q le) [
-              | inl e ↦ (let a = l.1 q.1 (at_second q e h) in ((second, cost), here, (omega (arith, e), a)))
+              | inl e ↦ (let a = l.1 q.1 (at_second q e h) in ((second, cost), here, (omega arith, a)))
               | inr more ↦ (let a = s.found.cover q h more r in (a.0, in_left a.0 pairs ((second, cost) ∷ []) a.1, a.2))
             ];
             falling = falls_more pairs (second, cost) s.found.falling (λ o i.
                 let a = (s.found.are o i).1 in
                 let b = s.least_of o i in
-                (omega (arith, a), omega (arith, b, lt)));
+                (omega arith, omega arith));
             in_reach = each_pair (λ q. (q.0 ≤ last_second) × (q.1 ≤ 17279900 * (length p.flights - stage))) pairs
                 (second, cost) s.found.in_reach (in_days, small);
           };
           least_of = each_pair (λ q. cost ≤ q.1) pairs (second, cost)
-              (λ q a. let b = s.least_of q a in omega (arith, b, lt)) (le_refl cost);
+              (λ q a. let b = s.least_of q a in omega arith) (le_refl cost);
           dear = λ c le fits. ((second, cost), here, le);
         }
 

@@ -78,7 +78,7 @@ module _ (p : Problem) (sound : SoundProblem (ranked p)) (rs : List ℕ) (r : �
 pub room_below : (budget : Option ℕ) (cheapest c d : ℕ) → c ≤ d → IsWithinBudget budget cheapest d
     → IsWithinBudget budget cheapest c
 room_below None cheapest c d le h = tt
-room_below (Some budget) cheapest c d le h = omega (arith, le, h)
+room_below (Some budget) cheapest c d le h = omega arith
 
 -- and for what is of use
 pub wanted_room : (p : Problem) (budget : Option ℕ) (rs : List ℕ) (node : EarlyNode)
@@ -90,4 +90,4 @@ wanted_room p (Some budget) rs node cheap of q cost le w =
     let a = cheap w.landings (record { legal = w.legal; landed = w.landed; long = w.one_node.stage })
     (node_one rs (ranks w.landings) node w.one_node of) in
     let b = w.cheap in
-    omega (arith, a, b, le)
+    omega arith

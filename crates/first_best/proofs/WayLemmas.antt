@@ -142,14 +142,13 @@ module _ (p : Problem) (stage : ℕ) (node : EarlyNode) (next : StageAhead) (way
       )
 
       from : (c : ℕ) → IsEnd p stage node next second c → (i : ℕ) × (i < length ways) × IsWayAt i c
-      from c (inl h) = absurd (let e = h.0 in omega (arith, e, short))
+      from c (inl h) = absurd (let e = h.0 in omega arith)
       from c (inr h) =
           let w = h.1 in
           let a = are.every w.place w.within w.leads in (
             a.0,
             a.1,
-            subst (λ (n : ℕ). IsWayTo p node (node_at next.nodes n) (list_at next.lists n) second c)
-                (sym a.2) w.way,
+            rw a.2 w.way,
           )
 
 -- a pair of the node at an open second that the value allows
@@ -164,7 +163,7 @@ end_pair p v stage node next second o r l least h = least_same (IsEnd p stage no
 -- ---- how late a pair is
 
 pub not_before : (p : Problem) (last second rank : ℕ) → 1 ≤ last → second ≤ next_from (ranked p) last second rank
-not_before p zero second rank one = absurd (omega (arith, one))
+not_before p zero second rank one = absurd (omega arith)
 not_before p (suc last) second rank one = omega arith
 
 pub way_late : (p : Problem) (node after : EarlyNode) (pairs : List Pair) (second cost most : ℕ)
@@ -176,7 +175,7 @@ way_late p node after pairs second cost most one w late =
     w.lands_at w.lands).1 in
     let c = w.in_time in
     let d = late w.pair w.listed in
-    omega (arith, a, b, c, d)
+    omega arith
 
 pub pairs_late : (p : Problem) (v stage : ℕ) (node : EarlyNode) (next : StageAhead) (ways : List ℕ) (most : ℕ)
     → 1 ≤ node.last → stage < length p.flights → AreWaysOf node next.nodes ways
@@ -185,12 +184,12 @@ pub pairs_late : (p : Problem) (v stage : ℕ) (node : EarlyNode) (next : StageA
 pairs_late p v stage node next ways most one short are late q h = go h.end
   where
     go : IsEnd p stage node next q.0 q.1 → q.0 ≤ most
-    go (inl e) = absurd (let a = e.0 in omega (arith, a, short))
+    go (inl e) = absurd (let a = e.0 in omega arith)
     go (inr e) =
         let w = e.1 in
         let a = are.every w.place w.within w.leads in
         way_late p node (node_at next.nodes w.place) (list_at next.lists w.place) q.0 q.1 most one w.way
-        (subst (λ (n : ℕ). (o : Pair) → InPairs o (list_at next.lists n) → o.0 ≤ most) a.2 (late a.0 a.1))
+        (rw a.2 at (late a.0 a.1))
 
 -- and none elsewhere
 pub not_allowed : (p : Problem) (v stage : ℕ) (node : EarlyNode) (next : StageAhead) (second : ℕ)

@@ -199,10 +199,10 @@ module _ (p : Problem) (wf : IsWellFormed p) (net : IsWindowNetwork p) where
   decide_before : (stage : ℕ) (rs : List ℕ) → Decided (LandsBefore stage rs)
   decide_before stage [] = inr (absurd)
   decide_before stage (r ∷ rs) =
-      with_decided (decide_legal (ranked p).rules (λ q x e. let b = wf.between_ranks q x e in (b.0, b.1)) (r ∷ rs))
+      with_decided (decide_legal _ (λ q x e. let b = wf.between_ranks q x e in (b.0, b.1)) (r ∷ rs))
       (λ legal.
       with_decided (decide_lands rs) (λ lands.
-      with_decided (cases_eq (length rs) stage) (λ long. inl (legal, lands, long)) (λ h. h.2)) (λ h. h.1)) (λ h. h.0)
+      with_decided (cases_eq _ stage) (λ long. inl (legal, lands, long)) (λ h. h.2)) (λ h. h.1)) (λ h. h.0)
 
   window : List ℕ → List ℤ
   window rs = (node_of p.k rs).1
@@ -236,7 +236,7 @@ module _ (p : Problem) (wf : IsWellFormed p) (net : IsWindowNetwork p) where
   each_candidate stage next (xs, (q, a), (r, permitted, is)) =
       let rs = ranks a.landings in
       let legal = net.grows r rs a.legal (subst (λ w. permits p w r) (sym a.at) permitted) in
-      let e = earliest_least (λ x u. (ranked p).is_open x u ≡ true) (first_at p) (next_from (ranked p))
+      let e = earliest_least (λ x u. (ranked p).is_open x u ≡ true) _ _
       (is_first_open p) (next_later (ranked p)) a.landings a.landed in
       let long : length rs ≡ stage = ap (λ w. w.0) a.at in (
         r ∷ rs,
@@ -273,9 +273,9 @@ where_exists test p (suc n) counted =
     (rest.0 + here.0, (here.0, rest.0, here.1, rest.1, refl))
 
 pub due_alone : (p : Problem) → HasCounts p → HasDue None p
-due_alone p counted = where_exists (counts 1 p.k 0) p (length p.flights) counted
+due_alone p counted = where_exists (counts 1 p.k 0) p _ counted
 
 pub due_beside : (held p : Problem) (d : ℕ) → HasCounts p → IsFirstDifference held p d → HasDue (Some held) p
 due_beside held p d counted is =
-    (let due = where_exists (counts d p.k (length held.flights)) p (length p.flights) counted in
+    (let due = where_exists (counts d p.k _) p _ counted in
     (due.0, (d, is, due.1)))

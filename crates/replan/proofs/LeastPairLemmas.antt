@@ -117,7 +117,7 @@ module _ (lists : List (List Pair)) (places firsts : List ℕ) (count : ℕ) (le
 
 pub as_written : (part items : List Pair) (n : ℕ) → n ≡ length part → take n (part ++ drop (length part) items) ≡ part
 as_written part items n e = ap (λ m. take m (part ++ drop (length part) items)) e
-    ∙ take-append_seam part (drop (length part) items)
+    ∙ take-append_seam part _
 
 -- ---- of a column, where nothing costs anything
 
@@ -140,7 +140,7 @@ module _ (column : List ℕ) (i : ℕ) (lt : i < length column) where
   column_second some =
       let is = list_of_label column i lt in
       ap (λ qs. (extremes qs).0) is
-      ∙ second_of_label (nat_lt (slice_index column i) no_label) (slice_index column i)
+      ∙ second_of_label (nat_lt _ no_label) _
       (rw is at some)
 
 module _ (column : List ℕ) (nodes : WindowNodes) (h : HaveLeast (column_pairs column) nodes)
@@ -174,7 +174,7 @@ module _ (column : List ℕ) (nodes : WindowNodes) (h : HaveLeast (column_pairs 
         → AreLeastUpto (column_pairs column) nodes.places nodes.firsts (count + 1)
         (set least (told_at nodes.places count) (label, 0))
     less_label less =
-        let free = free_so_far (told_at nodes.places count) within in
+        let free = free_so_far _ within in
         let one = one_least (column_pairs column) nodes.places nodes.firsts count least a lt within in
         let new : lesser (pair_at least (told_at nodes.places count))
         (extremes (list_at (column_pairs column) count)) ≡ (label, 0) =
@@ -185,7 +185,7 @@ module _ (column : List ℕ) (nodes : WindowNodes) (h : HaveLeast (column_pairs 
     pub other_label : (pair_at least (told_at nodes.places count)).0 ≤ label
         → AreLeastUpto (column_pairs column) nodes.places nodes.firsts (count + 1) least
     other_label le =
-        let free = free_so_far (told_at nodes.places count) within in
+        let free = free_so_far _ within in
         none_lower (column_pairs column) nodes.places nodes.firsts count least a lt within
         (omega (arith, le, second)) (omega arith)
 

@@ -37,10 +37,10 @@ one_moved w s t xs ys x y ls lt o =
     let some : w % 2 ≡ 1 = x.is_width.0 in
     let lx = x.low (length xs - 1) (let l = x.len in omega arith) in
     let ly = y.low (length ys - 1) (let l = y.len in omega arith) in
-    let a : ℤ = offset_at xs (length xs - 1) in
-    let b : ℤ = offset_at ys (length ys - 1) in
+    let a : ℤ = offset_at xs _ in
+    let b : ℤ = offset_at ys _ in
     let same : pos s +ℤ a ≡ pos s +ℤ b =
-    same_abs (pos s +ℤ a) (pos s +ℤ b) (omega (arith, ints)) (omega (arith, ints)) o.last in
+    same_abs _ _ (omega (arith, ints)) (omega (arith, ints)) o.last in
     let offset : a ≡ b = omega (arith, ints) in
     record {
       placed = λ rank one. (

@@ -122,8 +122,8 @@ module _ (p : Problem) (is : IsPlannedFor p) (stage : ℕ × List (List ℤ)) (l
       attained : Attains p stage.0 (node_at stage.1 place) least_pair
       attained =
           let here : place < length stage.1 = let l = least.0 in omega arith in
-          let has : InPairs least_pair (list_at labels.lists place) = at_in (list_at labels.lists place)
-          (length (list_at labels.lists place) - 1) least_pair (omega arith) refl in
+          let has : InPairs least_pair (list_at labels.lists place) = at_in _
+          _ least_pair (omega arith) refl in
           (((holds.held.costs.pairs place here).undominated least_pair).0 has).attained
 
       best_seconds : Schedule
@@ -131,7 +131,7 @@ module _ (p : Problem) (is : IsPlannedFor p) (stage : ℕ × List (List ℤ)) (l
 
       best_long : length best_seconds ≡ length p.flights
       unfolding best_seconds
-      best_long = list_of_long (length p.flights) (second_in attained.landings)
+      best_long = list_of_long _ _
 
       -- some best list has the objective of that pair
       pub least_is_best : (t : Schedule) × IsBestList p t × (list_objective p t ≡ value_at p least_pair)
@@ -167,7 +167,7 @@ module _ (p : Problem) (is : IsPlannedFor p) (stage : ℕ × List (List ℤ)) (l
 
 in_reverse : (order : List ℕ) (k d : ℕ) → k < length order → In (get_or order k d) (reverse order)
 in_reverse order k d lt =
-    rw (front_whole order k d lt) (in_behind (reverse (drop (k + 1) order)) (get_or order k d) (reverse (take k order)))
+    rw (front_whole order k d lt) (in_behind _ _ _)
   where
     in_behind : (xs : List ℕ) (x : ℕ) (ys : List ℕ) → In x (xs ++ x ∷ ys)
     in_behind [] x ys = inl refl
@@ -192,15 +192,15 @@ module _ (p : Problem) (is : IsPlannedFor p) (order : List ℕ) (end : Pair) (wh
   seconds = map (second_in lands.0) (numbers_from 1 (length p.flights))
 
   long : length seconds ≡ length p.flights
-  long = list_of_long (length p.flights) (second_in lands.0)
+  long = list_of_long _ _
 
   -- the landings, as seconds by rank, land in the order
   pub order_lands : LandsInOrder p order seconds
   order_lands =
       let distinct = order_is_whole.distinct in
       let same : at_seconds (of_rank 0 seconds) (reverse order) ≡ at_seconds (second_in lands.0) (reverse order) =
-      at_seconds_agree (of_rank 0 seconds) (second_in lands.0) (reverse order)
-      (λ r i. list_of_at (length p.flights) (second_in lands.0) r (in_order p order order_is_whole r i)) in
+      at_seconds_agree _ _ _
+      (λ r i. list_of_at _ _ r (in_order p order order_is_whole r i)) in
       let back : at_seconds (second_in lands.0) (reverse order) ≡ lands.0 =
       ap (at_seconds (second_in lands.0)) (sym lands.1)
       ∙ at_second_in lands.0 (rw lands.1 distinct) in
@@ -209,7 +209,7 @@ module _ (p : Problem) (is : IsPlannedFor p) (order : List ℕ) (end : Pair) (wh
   -- they land last at the pair's second, and cost what it says
   pair_is : map_pair (cost_at p) (length p.flights) (second_in lands.0) ≡ end
   pair_is =
-      let f = landing_trail_feasible (ranked p) (cost_at p) (sound_ranked p is.table is.between) lands.0 lands.2 lands.3
+      let f = landing_trail_feasible _ _ (sound_ranked p is.table is.between) lands.0 lands.2 lands.3
       (ap length lands.1 ∙ length-reverse order ∙ whole) in
       sym f.1 ∙ lands.4
 

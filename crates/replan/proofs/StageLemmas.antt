@@ -215,7 +215,7 @@ last_read p stages holds whole n last read same f e =
       one_each = h.0.held.costs.one_each ∙ ap (λ s. length s.stage.1) at;
       number = h.1 ∙ same;
       held = h.0;
-      some = λ i inside. list_some p last.stage last.labels.lists h.0.held i
+      some = λ i inside. list_some p last.stage _ h.0.held i
           (omega arith);
     }
 
@@ -244,7 +244,7 @@ module _ (p q : Problem) (w : ℕ) (odd : w ≡ 2 * p.k + 1) (laws : WindowLaws 
     valid : (i : ℕ) → i < length stages → AreWindows w (stage_at stages i).stage.1
     valid i lt j inside =
         let at = stage_at stages i in
-        landable_valid p w odd laws at.stage.0 (node_at at.stage.1 j)
+        landable_valid p w odd laws at.stage.0 _
         (((holds.held i lt).held.landable (node_at at.stage.1 j)).0 (Contains-get_or at.stage.1 j [] inside))
 
     pub stages_in_common : AreStages q (take count stages)
@@ -264,20 +264,20 @@ module _ (p q : Problem) (w : ℕ) (odd : w ≡ 2 * p.k + 1) (laws : WindowLaws 
               let at : i < count = omega (arith, lt, long) in
               let here : i < length stages = omega arith in
               let was = holds.held i here in
-              let kept = early common.0 is.within agree (stage_at stages i).stage.0 (let n =
+              let kept = early common.0 is.within agree _ (let n =
               holds.number i here in omega arith) in
               rw (get_or-take count stages i no_stage at)
               (record {
                 objective = was.objective ∙ agree.head.objective;
                 held =
-                    kept_costs p q (stage_at stages i).stage _ kept was.held;
+                    kept_costs p q _ _ kept was.held;
               });
           whole = λ i some lt said.
               let at : i < count = omega (arith, lt, long) in
               rw (get_or-take count stages i no_stage at, get_or-take count stages (i - 1) no_stage (omega arith))
               (
-              kept_next p q common.0 is.within agree bp bq w odd (i - 1) (stage_at stages (i - 1)).stage.1
-              (stage_at stages i).stage.1 (omega arith)
+              kept_next p q common.0 is.within agree bp bq w odd (i - 1) _
+              _ (omega arith)
               (valid (i - 1) (omega arith))
               (holds.whole i some (omega arith) (rw (get_or-take count stages i no_stage at) at said)));
         }

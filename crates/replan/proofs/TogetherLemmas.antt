@@ -31,8 +31,8 @@ module _ (stage : ℕ) (windows : List (List ℤ)) (count : ℕ) (places firsts 
   -- the node that was seen at a place is this window's
   seen_one : (j : ℕ) → j < length firsts → AreSame (seen_at nodes j) node
       → AreOneNode stage (node_at windows (told_at firsts j)) (node_at windows count)
-  seen_one j lt same = same_one stage (node_at windows (told_at firsts j)) (node_at windows count)
-      (seen_at nodes j).placed node.placed (g.1.placed j lt) placed same.0 (sym (g.1.last j lt) ∙ same.1 ∙ last)
+  seen_one j lt same = same_one stage _ _
+      _ node.placed (g.1.placed j lt) placed same.0 (sym (g.1.last j lt) ∙ same.1 ∙ last)
 
   one_seen : (j : ℕ) → j < length firsts → AreOneNode stage (node_at windows (told_at firsts j)) (node_at windows count)
       → AreSame (seen_at nodes j) node
@@ -50,7 +50,7 @@ module _ (stage : ℕ) (windows : List (List ℤ)) (count : ℕ) (places firsts 
           long = length-append places (place ∷ []) ∙ ap (λ n. n + 1) g.0.long;
           within = each_upto (λ i m. m < length firsts) places place 0 count g.0.long g.0.within inside;
           first = λ j lt. (let a = g.0.first j lt in omega arith);
-          own = λ j lt. old_place place (told_at firsts j) (g.0.first j lt) ∙ g.0.own j lt;
+          own = λ j lt. old_place place _ (g.0.first j lt) ∙ g.0.own j lt;
           one = each_upto (λ i m. AreOneNode stage (node_at windows (told_at firsts m)) (node_at windows i)) places place 0 count g.0.long g.0.one
               (seen_one place inside there.here);
           apart = g.0.apart;
@@ -69,13 +69,13 @@ module _ (stage : ℕ) (windows : List (List ℤ)) (count : ℕ) (places firsts 
     old_first j lt = get_or_append_left firsts (count ∷ []) 0 j lt
 
     new_first : told_at more (length firsts) ≡ count
-    new_first = get_or_push firsts count 0 (length firsts) refl
+    new_first = get_or_push firsts count 0 _ refl
 
     old_seen : (j : ℕ) → j < length firsts → seen_at (nodes ++ node ∷ []) j ≡ seen_at nodes j
     old_seen j lt = get_or_append_left nodes (node ∷ []) no_node j (let e = g.1.one_each in omega arith)
 
     new_seen : seen_at (nodes ++ node ∷ []) (length firsts) ≡ node
-    new_seen = get_or_push nodes node no_node (length firsts) g.1.one_each
+    new_seen = get_or_push nodes node no_node _ g.1.one_each
 
     differs : (j : ℕ) → j < length firsts → AreOneNode stage (node_at windows (told_at firsts j))
         (node_at windows count) → ⊥
@@ -90,7 +90,7 @@ module _ (stage : ℕ) (windows : List (List ℤ)) (count : ℕ) (places firsts 
         (λ i a. each_pushed (λ j m. AreOneNode stage (node_at windows (told_at firsts i)) (node_at windows m) → i ≡ j) firsts count 0
         (λ j b o. g.0.apart i j a b o) (λ o. absurd (differs i a o)))
         (each_pushed (λ j m. AreOneNode stage (node_at windows count) (node_at windows m) → length firsts ≡ j) firsts count 0
-        (λ j b o. absurd (differs j b (turned (node_at windows count) (node_at windows (told_at firsts j)) o)))
+        (λ j b o. absurd (differs j b (turned _ _ o)))
         (λ o. refl))
 
     itself : (xs : List ℤ) → AreOneNode stage xs xs

@@ -61,8 +61,8 @@ completes_pair_more p net before lists v q j index end order source rest xs is =
     (pair_of (cost_at p) xs) source.rank ≡ Some q =
     ap (λ l. successor p l (pair_of (cost_at p) xs) source.rank) (sym leader)
     ∙ ap (λ o. successor p (latest (before.0, node_at before.1 j)) o source.rank) is.pair ∙ source.lands in
-    let lands = next_lands (λ s t. (ranked p).is_open s t ≡ true) (first_at p) (next_from (ranked p))
-    (cost_at p) (is_first_open p) (next_later (ranked p)) (costs_rise p) xs source.rank q is.landed e in
+    let lands = next_lands (λ s t. (ranked p).is_open s t ≡ true) _ _
+    _ (is_first_open p) (next_later (ranked p)) (costs_rise p) xs source.rank q is.landed e in
     let more : EndsWith p (suc before.0) v q ((source.rank, q.0) ∷ xs) = record {
       legal = net.grows source.rank (ranks xs) is.legal may;
       landed = lands.0;
@@ -71,7 +71,7 @@ completes_pair_more p net before lists v q j index end order source rest xs is =
       pair = lands.1;
     } in
     let whole = rest ((source.rank, q.0) ∷ xs) more in
-    (whole.0, whole.1 ∙ sym (append_assoc order (source.rank ∷ []) (ranks xs)), whole.2, whole.3, whole.4)
+    (whole.0, whole.1 ∙ sym (append_assoc order (source.rank ∷ []) _), whole.2, whole.3, whole.4)
 
 -- at the start the order itself lands
 completes_pair_all : (p : Problem) (window : List ℤ) (order : List ℕ) (q end : Pair) → node_of p.k [] ≡ (0, window)
@@ -159,8 +159,8 @@ back_pair p net stages stage place index j k r end order before after v q reads 
     let es : stage ≡ suc before.stage.0 = reads.one_back ∙ ap suc (sym reads.number) in
     let a : CompletesWith p (suc before.stage.0) v q (reverse (drop (suc s) order)) end =
     rw (ev, eq, reads.after_is, ← es, ← reads.one_back) rest in
-    let b = completes_pair_more p net before.stage before.labels.lists v q j k end
-    (reverse (drop (suc s) order)) source a in
+    let b = completes_pair_more p net before.stage _ v q j k end
+    _ source a in
     rw (← written order s r lt, ← rank_is, ← reads.before_is) (rw reads.number at b)
 
 -- a listed pair is undominated
@@ -170,7 +170,7 @@ pub listed_undominated : (p : Problem) (before after : ℕ × List (List ℤ)) (
     → q ≡ pair_at (list_at more place) index
     → Undominated (Attains p (before.0 + 1) v) q
 listed_undominated p before after more v q place index above number lt at listed is =
-    let has : InPairs q (list_at more place) = at_in (list_at more place) index q listed (sym is) in
+    let has : InPairs q (list_at more place) = at_in _ index q listed (sym is) in
     let u : Undominated (Attains p after.0 (node_at after.1 place)) q =
     ((above.costs.pairs place lt).undominated q).0 has in
     let n : after.0 ≡ before.0 + 1 = omega arith in
@@ -185,7 +185,7 @@ last_given p w odd laws before lists v q j k held source =
     let l : IsLandable p before.0 (node_at before.1 j) =
     (held.landable (node_at before.1 j)).0 (Contains-get_or before.1 j [] source.within) in (
       ap (λ z. pos (suc before.0) +ℤ offset_at z (w - 1)) source.next
-          ∙ next_last p w odd laws before.0 (node_at before.1 j) source.rank l source.permitted,
+          ∙ next_last p w odd laws before.0 _ source.rank l source.permitted,
       source.permitted.to_count,
     )
 
@@ -203,12 +203,12 @@ trace_end p stages is stage place index end order none some lt listed rest =
     let number : start.stage.0 ≡ 0 = is.number 0 some in
     let l : IsLandable p 0 (window_in start place) =
     rw number at ((h.landable (window_in start place)).0 (Contains-get_or start.stage.1 place [] lt')) in
-    let at = start_only p (window_in start place) l in
+    let at = start_only p _ l in
     let u = ((h.costs.pairs place lt').undominated (pair_in start place index)).0
-    (at_in (list_at start.labels.lists place) index (pair_in start place index) listed' refl) in
+    (at_in _ index (pair_in start place index) listed' refl) in
     let a : Attains p 0 (window_in start place) (pair_in start place index) = rw number at u.attained in
-    completes_pair_all p (window_in start place) order (pair_in start place index) end at
-    (start_pair p (window_in start place) (pair_in start place index) a) rest'
+    completes_pair_all p _ order (pair_in start place index) end at
+    (start_pair p _ (pair_in start place index) a) rest'
 
 -- before the first step back
 pub trace_begins : (p : Problem) (stages : List LabelledStage) (n stage place index : ℕ) (order : List ℕ)
@@ -225,5 +225,5 @@ trace_begins p stages n stage place index order same few room within listed last
       within,
       listed,
       rw (drop_all n order (omega arith), last)
-          (completes_pair_start p n (window_in (stage_at stages n) place) _),
+          (completes_pair_start p n _ _),
     )

@@ -37,7 +37,7 @@ pub list_some : (p : Problem) (stage : ℕ × List (List ℤ)) (lists : List (Li
 list_some p stage lists h i lt =
     let l = (h.landable (node_at stage.1 i)).0 (Contains-get_or stage.1 i [] lt) in
     let o = (h.costs.pairs i lt).covers l.0 l.1 in
-    some (list_at lists i) o.0 o.1
+    some _ o.0 o.1
   where
     some : (pairs : List Pair) (q : Pair) → InPairs q pairs → 0 < length pairs
     some [] q i = absurd i

@@ -13,4 +13,4 @@ pub each_pushed : {A : Type 0} (P : ℕ → A → Type 0) (xs : List A) (x d : A
     → ((i : ℕ) → i < length xs → P i (get_or xs i d)) → P (length xs) x
     → (i : ℕ) → i < length (xs ++ x ∷ []) → P i (get_or (xs ++ x ∷ []) i d)
 each_pushed P xs x d old new i lt =
-    each_upto P xs x d (length xs) refl old new i (omega (arith, lt, length-append xs (x ∷ [])))
+    each_upto P xs x d _ refl old new i (omega (arith, lt, length-append xs (x ∷ [])))

@@ -16,8 +16,7 @@ complete-requires-clause-nodes c =
     let are = held_nodes p (held_of c.args.kept.now) c.window_laws.ensures.network c.window_laws.ensures.tell
     (c.stages-held.ensures.held p c.requires.held) c.args.wanted.now.stage c.requires.stage.1
     found.items c.args.windows.now.places c.in_ok-found.ensures in
-    subst (λ (ns : List EarlyNode). (j : ℕ) → j < length ns → HasRank p (node_at ns j))
-    (sym c.as_slice-nodes.ensures.value) (λ j lt. rank_of p c.args.wanted.now.stage
+    rw c.as_slice-nodes.ensures.value (λ j lt. rank_of p c.args.wanted.now.stage
     (node_at found.items j) c.requires.stage.0 (are.reached j lt))
 
 pub complete-requires-clause-next : goal.complete-requires-clause-next
@@ -34,5 +33,4 @@ returns-clause-completed c =
     found.items c.args.windows.now.places c.in_ok-found.ensures in
     lists_complete p c.window_laws.ensures.well_formed c.args.wanted.now.value c.args.wanted.now.budget
     c.args.wanted.now.stage found.items c.in_ok-lists.lists.items next are c.requires.next
-    (subst (λ (ns : List EarlyNode). AreListsOf p c.args.wanted.now.value c.args.wanted.now.budget
-    c.args.wanted.now.stage ns next c.in_ok-lists.lists.items) c.as_slice-nodes.ensures.value c.in_ok-lists.ensures)
+    (rw c.as_slice-nodes.ensures.value at c.in_ok-lists.ensures)

@@ -14,11 +14,11 @@ stage_before-requires-clause-next c =
     let long = c.loop-done.invariant.0.long in
     let same : c.from-in-loop-done.result ≡ done = omega arith in
     let next : c.index-next.result.now ≡ at stages done = c.index-next.ensures
-    ∙ get_or_default stages c.from-in-loop-done.result c.index-next.result.now no_stage (omega (arith, same, long))
+    ∙ get_or_default stages c.from-in-loop-done.result c.index-next.result.now no_stage (omega arith)
     ∙ ap (at stages) same in
     last_behind c.args.problem.now c.args.value c.args.budget
     (held_of c.args.kept.now) done stages c.loop-done.invariant.0 (c.len-last.result - done)
-    (omega (arith, c.len-last.ensures.value)) (omega (arith, c.loop-done-test.true, c.len-last.ensures.value))
+    (omega arith) (omega arith)
     c.index-next.result.now next
 
 pub loop-done-preserved : goal.loop-done-preserved
@@ -31,17 +31,16 @@ loop-done-preserved c =
     let are = c.stages-held.ensures.held p c.requires in
     let whole = are.whole in
     let made = one_stage p c.args.value c.args.budget held done stages c.loop-done.invariant.0 stage
-    (omega (arith, c.len-last.ensures.value)) (omega (arith, c.loop-done-test.true, c.len-last.ensures.value))
+    (omega arith) (omega arith)
     c.in_ok-stage.stage c.in_ok-stage.ensures.completed c.in_ok-stage.ensures.gathered in
     let nodes = c.in_ok-put.ensures in
     let at = nodes.stage_is in (
-      subst (λ (l : List StageAhead). IsAheadFrom p c.args.value c.args.budget held (done + 1) l)
-          (sym c.in_ok-push-2.ensures.items) made,
-      λ some. subst (λ (m : ℕ). IsReadable held m × AreNodesOf held m c.in_ok-put.put) (sym at)
-          ((omega (arith, c.loop-done-test.true), omega (arith, c.len-last.ensures.value, whole)), nodes),
+      rw c.in_ok-push-2.ensures.items made,
+      λ some. subst (λ m. IsReadable held m × AreNodesOf held m c.in_ok-put.put) (sym at)
+          ((omega arith, omega arith), nodes),
     )
 
 pub returns : goal.returns
 returns c = all_stages c.args.problem.now c.args.value c.args.budget
     (held_of c.args.kept.now) c.loop-done.done c.loop-done.stages.items c.loop-done.invariant.0
-    (omega (arith, c.loop-done-test.false, c.loop-done.auto.done-end, c.len-last.ensures.value))
+    (omega arith)

@@ -15,4 +15,4 @@ returns-else-cost-from-clause-found c =
     too_dear c.args.prefix.now.problem.now c.args.prefix.now.budget c.args.prefix.now.node
     c.args.prefix.now.cost c.args.after c.args.pairs.now c.in_ok-second.second (sym c.landing_after.ensures.value
     ∙ c.in_ok-second.was) c.in_ok-rest.rest c.in_ok-rest.ensures
-    (omega (arith, price, c.from.ensures, c.from-2.ensures, c.if-cost-from.false))
+    (omega arith)

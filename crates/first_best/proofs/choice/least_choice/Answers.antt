@@ -14,7 +14,7 @@ fold-requires-clause-callable c =
     (λ a x b q k. search (rules, tests)) (λ k a lt.
     let rank = c.requires.ranks k lt in
     let rises = c.requires.rising k in
-    let listed : k < length c.args.stage.now.lists = omega (arith, lt, c.requires.one_each) in
+    let listed : k < length c.args.stage.now.lists = omega arith in
     search (rules, tests))
 
 -- the least choice of all nodes, which is in the two days
@@ -35,12 +35,10 @@ kept c =
     (node_at nodes j) (list_at lists j) least made = search (rules, tests) in
     let days : least.1 ≤ last_second → made.1 ≤ last_second = search (rules, tests) in
     let one = one_upto p c.args.prefix.now.budget c.args.prefix.now.node c.args.prefix.now.cost
-    nodes lists j least lesser.0 (omega (arith, below, c.len.ensures)) held.0 lesser.1 in (
+    nodes lists j least lesser.0 (omega arith) held.0 lesser.1 in (
       search (rules, tests),
       (
-        subst
-            (LeastUpto p c.args.prefix.now.budget c.args.prefix.now.node c.args.prefix.now.cost nodes lists (j + 1))
-            (sym lesser.2) one,
+        rw lesser.2 one,
         days held.1,
       ),
     ))
@@ -50,7 +48,7 @@ returns-clause-least c =
     least_upto c.args.prefix.now.problem.now c.args.prefix.now.budget c.args.prefix.now.node
     c.args.prefix.now.cost c.args.stage.now.nodes c.args.stage.now.lists c.len.result c.fold.result c.len.ensures
     (λ i lt. let r = (c.requires.ranks i lt).1 in let few =
-    c.len-few.ensures.well_formed.few_flights in omega (arith, r, few)) (kept c).0
+    c.len-few.ensures.well_formed.few_flights in omega arith) (kept c).0
 
 pub returns-clause-in_days : goal.returns-clause-in_days
 returns-clause-in_days c = (kept c).1

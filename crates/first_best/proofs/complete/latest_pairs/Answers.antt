@@ -9,7 +9,7 @@ is_small : (p : Problem) (stage : ℕ) (o : Option ℕ) (cost : ℕ)
     → IfSome o (λ d. d ≤ 17279900 * (length p.flights - stage)) → o ≡ Some cost
     → cost ≤ 17279900 * (length p.flights - stage)
 is_small p stage o cost small e =
-    subst (λ (o : Option ℕ). IfSome o (λ d. d ≤ 17279900 * (length p.flights - stage))) e small
+    rw e at small
 
 pub returns-then-least-eq0 : goal.returns-then-least-eq0
 returns-then-least-eq0 c =
@@ -22,7 +22,7 @@ pub loop-second-preserved : goal.loop-second-preserved
 loop-second-preserved c =
     let i = c.loop-second.invariant in
     let from = c.loop-second.second in
-    let before : from ≡ from - 1 + 1 = omega (arith, c.loop-second-test.true) in (
+    let before : from ≡ from - 1 + 1 = omega arith in (
       i.0,
       i.1,
       nothing_here c.args.wanted.now.problem.now c.args.wanted.now.value c.args.wanted.now.budget
@@ -36,10 +36,10 @@ loop-second-preserved-then-from-least c =
     let i = c.loop-second.invariant in
     let from = c.loop-second.second in
     let cost = c.in-Some.cost in
-    let before : from ≡ from - 1 + 1 = omega (arith, c.loop-second-test.true) in
-    let less : cost < c.loop-second.least = omega (arith, c.if-from-least.true, c.from.ensures) in
+    let before : from ≡ from - 1 + 1 = omega arith in
+    let less : cost < c.loop-second.least = omega arith in
     let in_days : from - 1 ≤ last_second =
-    omega (arith, before, c.loop-second.auto.second, c.latest-end.ensures.in_days) in
+    omega arith in
     let made = cheaper c.args.wanted.now.problem.now c.args.wanted.now.value c.args.wanted.now.budget
     c.args.wanted.now.stage c.args.node c.args.next.now i.0 i.1
     from (from - 1) c.loop-second.least c.loop-second.pairs.items before i.2 c.cost_of.result
@@ -53,8 +53,8 @@ loop-second-preserved-else-from-least c =
     let i = c.loop-second.invariant in
     let from = c.loop-second.second in
     let cost = c.in-Some.cost in
-    let before : from ≡ from - 1 + 1 = omega (arith, c.loop-second-test.true) in
-    let dear : c.loop-second.least ≤ cost = omega (arith, c.if-from-least.false, c.from.ensures) in
+    let before : from ≡ from - 1 + 1 = omega arith in
+    let dear : c.loop-second.least ≤ cost = omega arith in
     let small = is_small c.args.wanted.now.problem.now c.args.wanted.now.stage c.cost_of.result
     cost c.cost_of.ensures.small c.in-Some.is in (
       i.0,
@@ -63,7 +63,7 @@ loop-second-preserved-else-from-least c =
           c.args.wanted.now.stage c.args.node c.args.next.now i.0 i.1
           from (from - 1) c.loop-second.least c.loop-second.pairs.items before i.2 c.cost_of.result
           c.cost_of.ensures.least cost c.in-Some.is dear
-          (omega (arith, small, c.len-few.ensures.well_formed.few_flights)),
+          (omega arith),
     )
 
 pub returns : goal.returns

@@ -15,13 +15,13 @@ in_reach : (c : goal.After-cost)
 in_reach c =
     let rest = c.in_ok-rest.ensures.0 in
     let left = length c.args.problem.now.flights - c.args.stage - 1 in
-    let small = (c.requires.next.in_reach c.args.way left (omega (arith, c.requires.stage)) rest.0
-    (subst (InPairs rest.0) c.list.ensures rest.1)).1 in
+    let small = (c.requires.next.in_reach c.args.way left (omega arith) rest.0
+    (rw c.list.ensures at rest.1)).1 in
     let is = rest.3 in
     omega (arith, small, is, c.cost.ensures.small, c.in_ok-landing.ensures.in_days, c.requires.stage)
 
 pub overflow_add-result : goal.overflow_add-result
-overflow_add-result c = (let small = in_reach c in omega (arith, small, c.requires.few))
+overflow_add-result c = (let small = in_reach c in omega arith)
 
 pub returns-clause-least : goal.returns-clause-least
 returns-clause-least c =

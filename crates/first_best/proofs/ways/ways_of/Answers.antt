@@ -25,4 +25,4 @@ loop-j-preserved c =
 
 pub returns : goal.returns
 returns c = all_ways c.args.node c.args.next.now.nodes c.loop-j.j c.loop-j.ways.items
-    (omega (arith, c.loop-j-test.false, c.len-j-end.ensures, c.loop-j.auto.j-end)) c.loop-j.invariant
+    (omega arith) c.loop-j.invariant

@@ -20,7 +20,7 @@ pub next-requires : goal.next-requires
 next-requires g c =
     let lt : c.len.result - 1 < length c.args.begun.now.stages.items = omega arith in
     let e = read_stage _ _ _ _ c.last.view_is c.index-last.ensures lt in
-    let h = held_at c.args.planning.now.problem.now _ c.requires.held _ _ e lt in
+    let h = held_at _ _ c.requires.held _ _ e lt in
     let number = rw c.deref.ensures.value at c.in_ok-stage.ensures.number in
     let exact = rw c.deref.ensures.value at c.in_ok-stage.ensures.exact in
     let long : length c.args.begun.now.stages.items ≡ c.len.result = omega arith in (
@@ -42,7 +42,7 @@ returns-clause-held g c =
     let number = rw c.deref.ensures.value at c.in_ok-stage.ensures.number in
     let exact = rw c.deref.ensures.value at c.in_ok-stage.ensures.exact in
     let left = c.in_ok-labels.ensures.left in
-    one_more c.args.planning.now.problem.now c.args.begun.now.stages.items c.push.new.self.items _ c.requires.held
+    one_more _ _ _ _ c.requires.held
     c.in_ok-push.ensures.items
     (left.number ∙ number) c.windows-ascending.ensures.ascending left.held
     (λ last is whole.
@@ -58,7 +58,7 @@ returns-clause-steps g c =
     let candidates = rw c.deref.ensures.value at c.in_ok-stage.ensures.candidates in (
       length c.in_ok-stage.stage.1,
       due_of_one c.args.planning.now.problem.now (vec_len c.args.begun.now.stages) _ c.requires.some
-          (has_candidates c.args.planning.now.problem.now (stage_at stages (length stages - 1)).stage
+          (has_candidates _ (stage_at stages _).stage
           c.in_ok-stage.stage (vec_len c.args.begun.now.stages - 1)
           (c.requires.held.number (length stages - 1) lt ∙ ap (λ n. n - 1) long)
           (c.requires.held.held (length stages - 1) lt).held.landable candidates c.in_ok-stage.ensures.ascending),

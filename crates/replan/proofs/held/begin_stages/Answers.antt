@@ -19,4 +19,4 @@ invariant_of-hints g c =
     ap (λ h. h.problem) c.held.view_is ∙ sym c.in_ok-stages-in-Some.ensures.problem in
     subst (λ p. AreHints p c.in_ok-windows-in-Some.windows.items) same
     (rw (c.in_ok-windows-in-Some.ensures, c.deref.ensures.value)
-    (hints_of_stages c.held.inside.problem c.held.inside.stages.items c.held.invariant.held))
+    (hints_of_stages _ _ c.held.invariant.held))

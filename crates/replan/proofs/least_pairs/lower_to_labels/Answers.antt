@@ -38,9 +38,9 @@ loop-i-preserved c =
     omega arith in
     let lowered = less_label column n c.requires.some i least c.loop-i.invariant.0 lt less in
     let days : (pair_at least (told_at c.places-places.result.now i)).0 ≤ last_second =
-    c.loop-i.invariant.1 (told_at c.places-places.result.now i) in (
+    c.loop-i.invariant.1 (told_at _ i) in (
       rw same (rw c.label-label.ensures.value lowered),
-      days_set least (told_at c.places-places.result.now i) (c.label-label.result, 0) last_second c.loop-i.invariant.1
+      days_set least _ (c.label-label.result, 0) last_second c.loop-i.invariant.1
           (omega arith),
     )
 

@@ -26,7 +26,7 @@ loop-i-preserved c =
     let is = ap (λ q. q.0) value in
     let days = c.loop-i.invariant.1 place in (
       rw same (rw value more),
-      days_set least (told_at c.places-places.result.now i) c.lesser.result last_second c.loop-i.invariant.1
+      days_set least _ _ last_second c.loop-i.invariant.1
           (omega arith),
     )
 

@@ -8,7 +8,7 @@ stage_again-requires g c =
     let e = read_stage _ _ _ _ c.last.view_is c.index-kept-number.is lt in
     let f = read_stage _ c.saturating_sub.result _ _ c.earlier.view_is c.index-kept-saturating_sub.is
     (omega arith) in
-    let number = (held_at c.args.problem.now _ c.requires.held _ _ e lt).1 in (
+    let number = (held_at _ _ c.requires.held _ _ e lt).1 in (
       search rules,
       (
         search rules,
@@ -16,7 +16,7 @@ stage_again-requires g c =
           c.requires.width,
           (
             omega arith,
-            whole_at c.args.problem.now _ c.requires.held _ _ _ _ lt c.saturating_sub.ensures f e,
+            whole_at _ _ c.requires.held _ _ _ _ lt c.saturating_sub.ensures f e,
           ),
         ),
       ),
@@ -25,7 +25,7 @@ stage_again-requires g c =
 pub returns-clause-number : goal.returns-clause-number
 returns-clause-number g c =
     let lt : length c.args.kept.now - 1 < length c.args.kept.now = omega arith in
-    let number = (held_at c.args.problem.now _ c.requires.held _ _
+    let number = (held_at _ _ c.requires.held _ _
     (read_stage _ _ _ _ c.last.view_is c.index-kept-number.is lt) lt).1 in
     omega (arith, number, c.in_ok-stage.ensures.number, c.requires.some)
 
@@ -33,7 +33,7 @@ pub returns-clause-exact : goal.returns-clause-exact
 returns-clause-exact g c =
     let lt : length c.args.kept.now - 1 < length c.args.kept.now = omega arith in
     let e = read_stage _ _ _ _ c.last.view_is c.index-kept-number.is lt in
-    let number = (held_at c.args.problem.now _ c.requires.held _ _ e lt).1 in
+    let number = (held_at _ _ c.requires.held _ _ e lt).1 in
     rw (← e) (rw number at c.in_ok-stage.ensures.exact)
 
 pub returns-clause-candidates : goal.returns-clause-candidates

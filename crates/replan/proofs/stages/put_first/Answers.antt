@@ -5,7 +5,7 @@ use Rattle.replan.proofs.stages.put_first.Goals as goal
 pub returns-clause-held : goal.returns-clause-held
 returns-clause-held g c =
     let first = c.in_ok-first.ensures in
-    one_more c.args.problem.now [] _ c.in_ok-first.first
+    one_more _ [] _ _
     (record {
       number = λ i lt. absurd (omega arith);
       ascending = λ i lt. absurd (omega arith);

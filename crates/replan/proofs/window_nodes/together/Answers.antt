@@ -16,9 +16,9 @@ loop-i-preserved g c =
     let number = c.number-number.ensures in
     let placed = rw number at (rw window at c.placed_node-node.ensures.placed) in
     let last = c.placed_node-node.ensures.last ∙ ap₂ (λ n xs. latest (n, xs)) number window in
-    let more = one_window s.0 s.1 i c.loop-i.places.items c.loop-i.firsts.items c.loop-i.nodes.items
+    let more = one_window s.0 s.1 i _ _ _
     c.loop-i.invariant.1 node placed last
-    c.in_ok-place.place c.keep_or_put.new.nodes.items c.keep_or_put.new.firsts.items c.in_ok-place.ensures in (
+    _ _ _ c.in_ok-place.ensures in (
       simp length-set c.loop-i.invariant.0,
       rw c.in_ok-push.ensures.items more,
     )

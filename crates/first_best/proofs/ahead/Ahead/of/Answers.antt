@@ -10,7 +10,7 @@ returns-clause-lists c =
     let p = c.args.problem.now in
     let held = held_of c.args.kept.now in
     IfOk-weaker c.stages_ahead.result (IsAheadOf p c.args.value held) (HasEachList p held)
-    (λ s a. each_listed p c.args.value None held s a) c.stages_ahead.ensures
+    (each_listed p c.args.value None held) c.stages_ahead.ensures
 
 pub returns-clause-exact : goal.returns-clause-exact
 returns-clause-exact c =

@@ -9,10 +9,10 @@ returns-then-place-len c =
     let xs = c.args.self.now in
     let at = c.place_from-place.ensures in
     let found = cost_found xs c.requires c.args.second c.place_from-place.result
-    (omega (arith, c.if-place-len.true, c.len.ensures))
-    (at.late (omega (arith, c.if-place-len.true, c.len.ensures))) at.below in
-    subst (λ (q : Pair). IsLeastOf (IsCostFrom xs c.args.second) (Some q.1)) (sym c.pair.ensures) found
+    (omega arith)
+    (at.late (omega arith)) at.below in
+    rw c.pair.ensures found
 
 pub returns-else-place-len : goal.returns-else-place-len
 returns-else-place-len c = none_found c.args.self.now c.args.second c.place_from-place.result
-    (omega (arith, c.if-place-len.false, c.len.ensures)) c.place_from-place.ensures.below
+    (omega arith) c.place_from-place.ensures.below

@@ -24,7 +24,7 @@ loop-number-preserved g c =
     let one : HintedStage = record { stage = c.in_ok-next.next; is_whole = true } in
     let end : c.loop-number.number + 1 - c.saturating_sub-first.result ≡ place + 1 =
     omega arith in (
-      one_ahead c.args.problem.now stages _ place one c.loop-number.invariant.0 long items next,
+      one_ahead _ stages _ place one c.loop-number.invariant.0 long items next,
       omega (arith, ap length items, length-append stages (one ∷ []), long, end),
       ap (λ n. (hinted_at c.push-in-loop-number.new.self.items n).stage.0) end
           ∙ ap (λ s. s.stage.0) (last_ahead stages _ one (place + 1) long items)

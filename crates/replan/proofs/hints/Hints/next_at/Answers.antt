@@ -16,7 +16,7 @@ next_stage_again-requires g c =
         c.requires.width,
         (
           c.requires.stage,
-          next_hinted c.self.inside.problem stages c.self.invariant place
+          next_hinted _ stages c.self.invariant place
               _ _ next e f c.if-not-after.false,
         ),
       ),

@@ -14,7 +14,7 @@ column_by_pieces-requires g c =
           (
             c.requires.width,
             (
-              column_held c.args.planning.now.problem.now c.args.before.now c.args.self.now c.in-OfColumn.labels
+              column_held _ _ _ _
                   is c.requires.before,
               (c.requires.number, c.requires.next),
             ),
@@ -27,7 +27,7 @@ pub returns-in_ok-left-in-OfColumn-clause-left : goal.returns-in_ok-left-in-OfCo
 returns-in_ok-left-in-OfColumn-clause-left g c =
     let is : of_column c.in-OfColumn.labels ≡ c.args.self.now = sym (ap pairs_of c.in-OfColumn.is) ∙ c.self.view_is in
     c.in_ok-left-in-OfColumn.ensures c.args.planning.now.problem.now
-    (column_makespan c.args.planning.now.problem.now c.args.before.now c.args.self.now c.in-OfColumn.labels is
+    (column_makespan _ _ _ _ is
     c.requires.before)
     c.in_ok-column-in-OfColumn.ensures.landable c.in_ok-column-in-OfColumn.ensures.labels
 
