@@ -100,7 +100,7 @@ pub held_nodes : (p : Problem) (held : Option HeldProblem) → network.IsWindowN
     → AreStagesOf p held → (stage : ℕ) → stage ≤ length p.flights → (nodes : List EarlyNode) (places : List ℕ)
     → IsGathered held stage nodes places → AreNodesOf p stage nodes
 held_nodes p held net tell are stage le nodes places g =
-    rw (are.number stage le) at (gathered_nodes p net tell (stage_in held stage) (lists_in held stage) (are.pairs stage le) nodes places g)
+    rw (are.number stage le) at (gathered_nodes p net tell _ _ (are.pairs stage le) nodes places g)
 
 module _ (p : Problem) (v : ℕ) (budget : Option ℕ) (held : Option HeldProblem) (stages : List StageAhead)
     (a : IsAheadBy p v budget held stages) where
@@ -123,15 +123,15 @@ module _ (p : Problem) (v : ℕ) (budget : Option ℕ) (held : Option HeldProble
         (λ q. InPairs q (pairs_of stages s i))
     window_kept =
         let g = a.gathered s one le in
-        let m = place_at (stage_of stages s).places i in
+        let m = place_at _ i in
         let ends : network.node_of p.k (ranks xs) ≡ ((stage_in held s).0, window_in held s i) =
         at ∙ ap (λ n. (n, window_in held s i)) (sym (are.number s le)) in
-        let of = window_prefix p net tell (stage_in held s) (lists_in held s) (are.pairs s le)
-        (ranks xs) (window_in held s i) (node_at (stage_of stages s).nodes m) l.legal ends (g.window i lt) in
+        let of = window_prefix p net tell _ _ (are.pairs s le)
+        _ _ _ l.legal ends (g.window i lt) in
         (a.completed s one le).kept m (ranks xs) (g.within i lt) l.legal l.long of
 
     pub window_rising : Rises (pairs_of stages s i)
-    window_rising = (a.completed s one le).rising (place_at (stage_of stages s).places i)
+    window_rising = (a.completed s one le).rising (place_at _ i)
 
 -- where all are wanted the lists are exact
 pub all_exact : (p : Problem) (v : ℕ) (held : Option HeldProblem) (stages : List StageAhead)
@@ -141,7 +141,7 @@ all_exact p v held stages a net tell are s i xs one le lt l at =
     let k = window_kept p v None held stages a net tell are s i xs one le lt l at in
     let rising = window_rising p v None held stages a net tell are s i xs one le lt l at in
     record {
-      undominated = rises_undominated (IsCompletingPair p v (ranks xs)) (pairs_of stages s i) rising
+      undominated = rises_undominated (IsCompletingPair p v (ranks xs)) _ rising
           (record { completes = k.completes; covers = λ q c. k.covers q c tt });
       rising = rising;
     }

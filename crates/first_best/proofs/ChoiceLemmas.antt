@@ -133,7 +133,7 @@ module _ (p : Problem) (wf : IsWellFormed p) (v : ℕ) (held : Option HeldProble
   choice_landed : (xs : List Landing) (r t : ℕ) → LandedIn (ranked p) xs → CanChoose p v (IsCompletingPair p v) xs r t
       → LandedIn (ranked p) ((r, t) ∷ xs)
   choice_landed xs r t landed c =
-      (let f = (is_first_open p).found r (next_from (ranked p) (latest_landing xs).0 (latest_landing xs).1 r)
+      (let f = (is_first_open p).found r (next_from (ranked p) _ _ r)
       t c.lands in
       (f.0, f.1, landed))
 
@@ -163,7 +163,7 @@ module _ (p : Problem) (wf : IsWellFormed p) (v : ℕ) (held : Option HeldProble
         let nodes = (stage_of stages (done + 1)).nodes in
         let after = node_at nodes c.place in
         let f = c.affordable in
-        let on = leads_on p (ranks xs) legal before after of c.leads
+        let on = leads_on p _ legal before after of c.leads
         (subst (λ s. IsReached p s after) (let e = length_ranks xs in let g : done + 1 ≡ suc
         (length (ranks xs)) = omega arith in g) (completed.are_nodes.reached c.place c.within)) in
         subst (λ n. CanChoose p v (IsCompletingPair p v) xs n t) c.last (record {
@@ -196,14 +196,14 @@ module _ (p : Problem) (wf : IsWellFormed p) (v : ℕ) (held : Option HeldProble
           cheap = c.cheap;
         } in
         let o = (completed.kept e.0 (r ∷ ranks xs) e.1 c.legal (one_more r) e.2).covers c.pair c.kept of_use in
-        let after = node_at (stage_of stages (done + 1)).nodes e.0 in
+        let after = node_at _ e.0 in
         let same : r ≡ after.last = e.2.last in
         let price : cost_at p r t ≡ cost_at p after.last t = ap (λ n. cost_at p n t) same in
         record {
           place = e.0;
           within = e.1;
           last = sym same;
-          leads = on_leads p (ranks xs) r before after c.legal of e.2;
+          leads = on_leads p _ r before after c.legal of e.2;
           affordable = record {
             lands = ap (λ l. landing_after p l.0 l.1 after.last) (sym latest)
                 ∙ ap (λ n. landing_after p (latest_landing xs).0 (latest_landing xs).1 n) (sym same) ∙ c.lands;
@@ -236,7 +236,7 @@ module _ (p : Problem) (wf : IsWellFormed p) (v : ℕ) (held : Option HeldProble
     where
       zeros : (r : ℕ) → IsRank (length p.flights) r → of_rank 0 schedule r ≡ 0
       zeros zero q = absurd (let b = q.0 in omega arith)
-      zeros (suc i) q = ap (λ t. get_or t i 0) blank ∙ get_or-replicate (length p.flights) i 0 0 (let b =
+      zeros (suc i) q = ap (λ t. get_or t i 0) blank ∙ get_or-replicate _ i 0 0 (let b =
           q.1 in omega arith)
 
   passed_at : (r : ℕ) → IsRank (length p.flights) r → (of_rank no_waiting p.flights r).passed ≤ p.k
@@ -322,11 +322,11 @@ module _ (p : Problem) (wf : IsWellFormed p) (v : ℕ) (held : Option HeldProble
         at : (i : ℕ) → i < length schedule → get_or schedule i 0 ≡ get_or (seconds_by_rank p o.landings) i 0
         at i lt =
             let q : IsRank (length p.flights) (suc i) = (omega arith, let room = o.room in omega arith) in
-            o.seconds (suc i) q ∙ sym (list_of_at (length p.flights) (second_in o.landings) (suc i) q)
+            o.seconds (suc i) q ∙ sym (list_of_at _ _ (suc i) q)
 
         same : schedule ≡ seconds_by_rank p o.landings
         same = ext_get_or 0 schedule (seconds_by_rank p o.landings) (o.room
-            ∙ sym (list_of_long (length p.flights) (second_in o.landings))) at
+            ∙ sym (list_of_long _ _)) at
 
 -- ---- one node
 

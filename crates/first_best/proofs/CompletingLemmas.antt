@@ -43,7 +43,7 @@ pub listed_wanted : (p : Problem) (v : ℕ) (budget : Option ℕ) (stage : ℕ) 
 listed_wanted p v budget stage nodes lists c rs b legal long can =
     let e = c.are_nodes.every can.landings
     (record { legal = can.legal; landed = can.landed; long = can.one_node.stage ∙ long }) in
-    let of : IsPrefixOf rs (node_at nodes e.0) = node_one (ranks can.landings) rs (node_at nodes e.0)
+    let of : IsPrefixOf rs (node_at nodes e.0) = node_one _ rs _
     (record {
       stage = sym can.one_node.stage;
       placed = λ x. let a = can.one_node.placed x in (a.1, a.0);
@@ -71,7 +71,7 @@ module _ (p : Problem) (wf : IsWellFormed p) (v : ℕ) (budget : Option ℕ) (st
   -- there is room for what costs no more than a pair that is wanted
   room : (q : Pair) (cost : ℕ) → cost ≤ q.1 → IsWanted p budget rs q
       → IsWithinBudget budget (node_at these j).cheapest cost
-  room = wanted_room p budget rs (node_at these j)
+  room = wanted_room p budget rs _
       (λ xs l o. are.cheap j xs lt (record { legal = l.legal; landed = l.landed; long = l.long ∙ long }) o) of
 
   -- at the last stage
@@ -125,7 +125,7 @@ module _ (p : Problem) (wf : IsWellFormed p) (v : ℕ) (budget : Option ℕ) (st
           go : IsEnd p stage (node_at these j) next q.0 q.1 → IsSuccessorPair p v (IsCompletingPair p v) rs q
           go (inl e) = absurd (let a = e.0 in omega arith)
           go (inr (_, w)) =
-              let on = leads_on p rs legal (node_at these j) (node_at next.nodes w.place) of w.leads
+              let on = leads_on p rs legal _ _ of w.leads
               (reached_next w.place w.within) in
               record {
                 opened = opened_last q.0 h.opened;
@@ -156,10 +156,10 @@ module _ (p : Problem) (wf : IsWellFormed p) (v : ℕ) (budget : Option ℕ) (st
               record {
                 place = k.place;
                 within = k.within;
-                leads = on_leads p rs s.rank (node_at these j) (node_at next.nodes k.place) s.legal of k.of_node;
+                leads = on_leads p rs s.rank _ _ s.legal of k.of_node;
                 way = record {
                   lands_at = s.second;
-                  lands = ap (λ r. landing_after p (node_at these j).last q.0 r) (sym same)
+                  lands = ap (λ r. landing_after p _ q.0 r) (sym same)
                       ∙ ap (λ r. landing_after p r q.0 s.rank) (sym of.last) ∙ s.lands;
                   pair = s.pair;
                   listed = k.listed;
@@ -227,10 +227,10 @@ lists_complete p wf v budget stage these made next are behind lists = record {
         → IsBehind p v budget stage next → KeepsWanted (IsCompletingPair p v rs) (IsWanted p budget rs)
         (λ q. InPairs q (list_at made j))
     kept j rs lt legal long of (inl last) =
-        last_complete p wf v budget stage these are j lt rs legal long of next (list_at made j)
+        last_complete p wf v budget stage these are j lt rs legal long of next _
         (lists.pairs j lt) last.0
     kept j rs lt legal long of (inr more) = before_complete p wf v budget stage these are j lt rs legal long of next
-        (list_at made j) (lists.pairs j lt) more.0 more.1
+        _ (lists.pairs j lt) more.0 more.1
 
     each : (P : List Pair → Type 0) → P [] → ((j : ℕ) → j < length these → P (list_at made j)) → (j : ℕ)
         → P (list_at made j)

@@ -79,12 +79,12 @@ module _ (p : Problem) (held : Option HeldProblem) (stage : ℕ) (number : (stag
   window_told : (i : ℕ) → i < length list
       → IsWindowOf stage (windows.node_at list i) (node_at nodes (place_at put.places i))
   window_told i lt =
-      let first = windows.node_at list (told_at put.firsts (place_at put.places i)) in
+      let first = windows.node_at list (told_at put.firsts _) in
       let w = m.window (place_at put.places i) (place_in i lt) in
       let one = g.one i lt in
       record {
         placed = one_tells stage first (windows.node_at list i)
-            (node_at nodes (place_at put.places i)).placed one w.placed;
+            _ one w.placed;
         last = w.last ∙ one.last;
       }
 
@@ -121,12 +121,12 @@ module _ (p : Problem) (held : Option HeldProblem) (stage : ℕ) (number : (stag
       let there = q.1.of_node in
       let low : (node_at nodes j).earliest ≤ second_of lists i =
       rw there at (low_at i within) in
-      let first = first_least (list_at lists i) (h.costs.pairs i within).falling q.0 q.1.has in
+      let first = first_least _ (h.costs.pairs i within).falling q.0 q.1.has in
       let is = m.earliest j lt in
       let least_is = q.2 in (
         i,
         within,
-        at_stage (windows.node_at list i) (node_at nodes j)
+        at_stage (windows.node_at list i) _
             (rw there at (window_told i within)),
         omega arith,
       )
@@ -180,7 +180,7 @@ module _ (p : Problem) (net : network.IsWindowNetwork p) (tell : TellTheirRanks 
   place_of_prefix xs l =
       let window = (network.node_of p.k (ranks xs)).1 in
       let there : network.node_of p.k (ranks xs) ≡ (stage.0, window) = ap (λ n. (n, window)) l.long in
-      let q = pair_of (cost_at p) xs in
+      let q = pair_of _ xs in
       let place = (h.landable window).1
       (q, record { landings = xs; legal = l.legal; landed = l.landed; at = there; is = refl }) in
       let same : window ≡ windows.node_at stage.1 place.0 =
@@ -189,8 +189,8 @@ module _ (p : Problem) (net : network.IsWindowNetwork p) (tell : TellTheirRanks 
       there ∙ ap (λ w. (stage.0, w)) same in
       let kept = h.costs.pairs place.0 place.1 in
       let o = kept.covers q (record { landings = xs; legal = l.legal; landed = l.landed; at = at; is = refl }) in
-      let first = first_least (list_at lists place.0) kept.falling o.0 o.1 in
-      let last = last_cheapest (list_at lists place.0) kept.falling o.0 o.1 in
+      let first = first_least _ kept.falling o.0 o.1 in
+      let last = last_cheapest _ kept.falling o.0 o.1 in
       let low = o.2 in
       let early = low.0 in
       let cheap = low.1 in
@@ -202,11 +202,11 @@ module _ (p : Problem) (net : network.IsWindowNetwork p) (tell : TellTheirRanks 
         let s = g.source j lt in
         let list = list_at lists s.0 in
         let a = (((h.costs.pairs s.0 s.1).undominated (pair_at list 0)).0
-        (at_in list 0 (pair_at list 0) (list_some p stage lists h s.0 s.1) refl)).attained in
+        (at_in list 0 _ (list_some p stage lists h s.0 s.1) refl)).attained in
         record {
           landings = a.landings;
           prefix = record { legal = a.legal; landed = a.landed; long = ap (λ n. n.0) a.at };
-          of_node = window_prefix (ranks a.landings) (windows.node_at stage.1 s.0) (node_at nodes j) a.legal a.at s.2;
+          of_node = window_prefix _ (windows.node_at stage.1 s.0) _ a.legal a.at s.2;
           earliest = ap (λ q. q.0) a.is ∙ sym s.3;
         }
 
@@ -218,10 +218,10 @@ module _ (p : Problem) (net : network.IsWindowNetwork p) (tell : TellTheirRanks 
     window_of j xs lt l of =
         let i = place_of_prefix xs l in
         let m = place_at places i.0 in
-        let other = window_prefix (ranks xs) (windows.node_at stage.1 i.0) (node_at nodes m) l.legal i.2
+        let other = window_prefix _ (windows.node_at stage.1 i.0) _ l.legal i.2
         (g.window i.0 i.1) in
         let same : m ≡ j = g.apart m j (g.within i.0 i.1) lt
-        (one_set (node_at nodes m).placed (node_at nodes j).placed
+        (one_set _ _
         (λ x. (λ b. (of.placed x).1 ((other.placed x).0 b), λ b. (other.placed x).1 ((of.placed x).0 b))))
         (sym other.last ∙ of.last) in
         (i.0, i.1, same, i.3, i.4)

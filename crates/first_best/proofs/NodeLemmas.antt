@@ -73,14 +73,14 @@ module _ (p : Problem) (stage : ℕ) (nodes : List EarlyNode) (are : AreNodesOf 
         landings = r.landings;
         legal = r.prefix.legal;
         landed = r.prefix.landed;
-        one_node = one_node (ranks r.landings) rs (node_at nodes j) r.of_node of (r.prefix.long ∙ sym long);
+        one_node = one_node _ rs _ r.of_node of (r.prefix.long ∙ sym long);
         by = omega arith;
       }
 
   pub by_lands : (b : ℕ) → CanLandBy p rs b → (node_at nodes j).earliest ≤ b
   by_lands b c =
       let a = are.least j c.landings lt (record { legal = c.legal; landed = c.landed; long = c.one_node.stage ∙ long })
-      (node_one rs (ranks c.landings) (node_at nodes j) c.one_node of) in
+      (node_one rs _ (node_at nodes j) c.one_node of) in
       let d = c.by in
       omega arith
 

@@ -78,13 +78,13 @@ in_reversed (x ∷ xs) q i = elim (in_append q (reverse xs) (x ∷ []) (subst (I
 
 pub reversed_in : (xs : List Pair) (q : Pair) → InPairs q xs → InPairs q (reverse xs)
 reversed_in [] q i = i
-reversed_in (x ∷ xs) q (inl e) = rw (reverse_front x xs) (in_right q (reverse xs) (x ∷ []) (inl e))
+reversed_in (x ∷ xs) q (inl e) = rw (reverse_front x xs) (in_right q _ (x ∷ []) (inl e))
 reversed_in (x ∷ xs) q (inr i) =
-    rw (reverse_front x xs) (in_left q (reverse xs) (x ∷ []) (reversed_in xs q i))
+    rw (reverse_front x xs) (in_left q _ (x ∷ []) (reversed_in xs q i))
 
 pub falls_rises : (xs : List Pair) → Falls xs → Rises (reverse xs)
 falls_rises [] f = tt
-falls_rises (x ∷ xs) f = rw (reverse_front x xs) (rises_more (reverse xs) x (falls_rises xs f.1) (λ o i. f.0 o (in_reversed xs o i)))
+falls_rises (x ∷ xs) f = rw (reverse_front x xs) (rises_more _ x (falls_rises xs f.1) (λ o i. f.0 o (in_reversed xs o i)))
 
 -- ---- least costs
 
@@ -169,7 +169,7 @@ module _ (second : ℕ) where
       IsAt = IsAtSome (0, 0) IsCostOf least_of_pair xs
 
       to : (c : ℕ) → IsAt c → IsCostFrom xs second c
-      to c (i, lt, h) = (pair_at xs i, at_in xs i (pair_at xs i) lt refl, h.0, h.1)
+      to c (i, lt, h) = (pair_at xs i, at_in xs i _ lt refl, h.0, h.1)
 
       from : (c : ℕ) → IsCostFrom xs second c → IsAt c
       from c (q, listed, late, is) =
@@ -181,7 +181,7 @@ pub rises_at : (xs : List Pair) → Rises xs → (i j : ℕ) → i < j → j < l
     × ((pair_at xs i).1 < (pair_at xs j).1)
 rises_at [] r i j lt l = absurd (omega arith)
 rises_at (x ∷ xs) r i zero lt l = absurd (omega arith)
-rises_at (x ∷ xs) r zero (suc j) lt l = r.0 (pair_at xs j) (at_in xs j (pair_at xs j) (omega arith) refl)
+rises_at (x ∷ xs) r zero (suc j) lt l = r.0 (pair_at xs j) (at_in xs j _ (omega arith) refl)
 rises_at (x ∷ xs) r (suc i) (suc j) lt l = rises_at xs r.1 i j (omega arith) (omega arith)
 
 pub last_most : (xs : List Pair) → Rises xs → (q : Pair) → InPairs q xs → q.0 ≤ (pair_at xs (length xs - 1)).0
@@ -189,7 +189,7 @@ last_most xs r q i =
     let a = in_at q xs i in
     let at : (pair_at xs a.0).0 ≡ q.0 = ap (λ z. z.0) a.2 in
     let within = a.1 in
-    elim (cases_eq a.0 (length xs - 1)) [
+    elim (cases_eq a.0 _) [
       | inl e ↦ (let same : (pair_at xs a.0).0 ≡ (pair_at xs (length xs - 1)).0 =
           ap (λ n. (pair_at xs n).0) e in omega arith)
       | inr ne ↦ (let less = (rises_at xs r a.0 (length xs - 1) (omega arith)

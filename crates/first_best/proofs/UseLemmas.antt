@@ -88,6 +88,6 @@ pub wanted_room : (p : Problem) (budget : Option ℕ) (rs : List ℕ) (node : Ea
 wanted_room p None rs node cheap of q cost le w = tt
 wanted_room p (Some budget) rs node cheap of q cost le w =
     let a = cheap w.landings (record { legal = w.legal; landed = w.landed; long = w.one_node.stage })
-    (node_one rs (ranks w.landings) node w.one_node of) in
+    (node_one rs _ node w.one_node of) in
     let b = w.cheap in
     omega arith

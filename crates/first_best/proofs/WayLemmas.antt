@@ -33,7 +33,7 @@ pub one_way : (node : EarlyNode) (nodes : List EarlyNode) (j : ℕ) (ways : List
 one_way node nodes j ways w leads =
     let long : length (ways ++ j ∷ []) ≡ length ways + 1 = length-append ways (j ∷ []) in
     let old = λ (i : ℕ) (lt : i < length ways). get_or_append_left ways (j ∷ []) 0 i lt in
-    let new : slice_index_or (ways ++ j ∷ []) (length ways) 0 ≡ j = get_or_push ways j 0 (length ways) refl in
+    let new : slice_index_or (ways ++ j ∷ []) (length ways) 0 ≡ j = get_or_push ways j 0 _ refl in
     record {
       within = each_pushed (λ i m. m < j + 1) ways j 0 (λ i lt. omega (arith, w.within i lt)) (omega arith);
       lead = each_pushed (λ i m. LeadsTo node (node_at nodes m)) ways j 0 w.lead leads;
@@ -188,7 +188,7 @@ pairs_late p v stage node next ways most one short are late q h = go h.end
     go (inr e) =
         let w = e.1 in
         let a = are.every w.place w.within w.leads in
-        way_late p node (node_at next.nodes w.place) (list_at next.lists w.place) q.0 q.1 most one w.way
+        way_late p node _ _ q.0 q.1 most one w.way
         (rw a.2 at (late a.0 a.1))
 
 -- and none elsewhere

@@ -13,11 +13,11 @@ pub loop-done-init : goal.loop-done-init
 loop-done-init c =
     let p = c.args.problem.now in
     let blank = c.in_ok-schedule.ensures in
-    no_order p c.window_laws.ensures.well_formed c.args.value
-    (held_of c.args.kept.now) c.args.ahead.now c.requires.ahead c.in_ok-schedule.schedule
+    no_order p c.window_laws.ensures.well_formed _
+    _ _ c.requires.ahead _
     (blank ∙ ap (λ n. replicate n 0) c.len.ensures.value)
     (ap length (blank ∙ ap (λ n. replicate n 0) c.len.ensures.value)
-    ∙ length-replicate (length p.flights) 0)
+    ∙ length-replicate _ 0)
 
 -- the least choice, which comes next
 least : (c : goal.After-least_choice-rank) → CanChoose c.args.problem.now c.args.value
@@ -27,11 +27,11 @@ least : (c : goal.After-least_choice-rank) → CanChoose c.args.problem.now c.ar
     c.loop-done.invariant.landings r t → c.least_choice-rank.result.0 ≤ r)
 least c =
     let whole = (c.stages-done-end.ensures.held c.args.problem.now c.requires.held).whole in
-    chosen_by c.args.problem.now c.window_laws.ensures.well_formed c.args.value
-    (held_of c.args.kept.now) c.args.ahead.now c.requires.ahead c.requires.value c.loop-done.done
-    c.loop-done.before c.loop-done.cost c.loop-done.schedule c.loop-done.invariant
-    (omega arith) c.least_choice-rank.result
-    c.budget_of-budget.result c.budget_of-budget.ensures c.stage.result.now c.stage.ensures
+    chosen_by _ c.window_laws.ensures.well_formed _
+    _ _ c.requires.ahead c.requires.value _
+    _ _ _ c.loop-done.invariant
+    (omega arith) _
+    _ c.budget_of-budget.ensures _ c.stage.ensures
     c.least_choice-rank.ensures.least
 
 pub set-requires : goal.set-requires
@@ -69,8 +69,8 @@ loop-done-preserved c =
     let days = c.least_choice-rank.ensures.in_days in
     let price = c.from-cost.result in
     let made = one_landing p c.window_laws.ensures.well_formed v
-    (held_of c.args.kept.now) stages c.requires.ahead c.requires.value done c.loop-done.before
-    c.loop-done.cost c.loop-done.schedule c.loop-done.invariant
+    _ stages c.requires.ahead c.requires.value done _
+    _ _ c.loop-done.invariant
     c.least_choice-rank.result.0 c.least_choice-rank.result.1 chosen.0 chosen.1 days after.result after.ensures.placed after.ensures.last
     after.ensures.earliest price (c.from-cost.ensures ∙ c.cost.ensures.value)
     (omega arith) in
@@ -80,7 +80,7 @@ pub returns : goal.returns
 returns c =
     let p = c.args.problem.now in
     let whole = (c.stages-done-end.ensures.held p c.requires.held).whole in
-    whole_order p c.window_laws.ensures.well_formed c.args.value
-    (held_of c.args.kept.now) c.args.ahead.now c.requires.ahead c.requires.value c.loop-done.done
-    c.loop-done.before c.loop-done.cost c.loop-done.schedule c.loop-done.invariant
+    whole_order p c.window_laws.ensures.well_formed _
+    _ _ c.requires.ahead c.requires.value _
+    _ _ _ c.loop-done.invariant
     (omega arith)

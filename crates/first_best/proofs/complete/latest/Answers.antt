@@ -39,7 +39,7 @@ returns-clause-last c = λ v q h.
         | inr ne ↦ (let late = held j (omega arith) o m in omega arith)
       ],
     )) in
-    let late = pairs_late p v c.args.stage c.args.node c.args.next.now ways c.fold-latest.result c.requires.node.0
+    let late = pairs_late p v _ _ _ ways _ c.requires.node.0
     (omega arith) c.requires.ways all q h in
     let days = c.last_open-last.ensures.last q.0 h.opened in
     omega arith

@@ -14,9 +14,9 @@ is_small p stage o cost small e =
 pub returns-then-least-eq0 : goal.returns-then-least-eq0
 returns-then-least-eq0 c =
     let i = c.loop-second.invariant in
-    scanned_free c.args.wanted.now.problem.now c.args.wanted.now.value c.args.wanted.now.budget
-    c.args.wanted.now.stage c.args.node c.args.next.now i.0 i.1
-    c.loop-second.second c.loop-second.least c.loop-second.pairs.items c.if-least-eq0.true i.2
+    scanned_free _ _ _
+    _ _ _ i.0 i.1
+    _ _ _ c.if-least-eq0.true i.2
 
 pub loop-second-preserved : goal.loop-second-preserved
 loop-second-preserved c =
@@ -25,9 +25,9 @@ loop-second-preserved c =
     let before : from ≡ from - 1 + 1 = omega arith in (
       i.0,
       i.1,
-      nothing_here c.args.wanted.now.problem.now c.args.wanted.now.value c.args.wanted.now.budget
-          c.args.wanted.now.stage c.args.node c.args.next.now i.0 i.1
-          from (from - 1) c.loop-second.least c.loop-second.pairs.items before i.2 c.cost_of.result
+      nothing_here _ _ _
+          _ _ _ i.0 i.1
+          from (from - 1) _ _ before i.2 _
           c.cost_of.ensures.least c.in_default.is,
     )
 
@@ -55,13 +55,13 @@ loop-second-preserved-else-from-least c =
     let cost = c.in-Some.cost in
     let before : from ≡ from - 1 + 1 = omega arith in
     let dear : c.loop-second.least ≤ cost = omega arith in
-    let small = is_small c.args.wanted.now.problem.now c.args.wanted.now.stage c.cost_of.result
+    let small = is_small c.args.wanted.now.problem.now _ _
     cost c.cost_of.ensures.small c.in-Some.is in (
       i.0,
       i.1,
-      no_cheaper c.args.wanted.now.problem.now c.args.wanted.now.value c.args.wanted.now.budget
-          c.args.wanted.now.stage c.args.node c.args.next.now i.0 i.1
-          from (from - 1) c.loop-second.least c.loop-second.pairs.items before i.2 c.cost_of.result
+      no_cheaper _ _ _
+          _ _ _ i.0 i.1
+          from (from - 1) _ _ before i.2 _
           c.cost_of.ensures.least cost c.in-Some.is dear
           (omega arith),
     )
@@ -69,6 +69,6 @@ loop-second-preserved-else-from-least c =
 pub returns : goal.returns
 returns c =
     let i = c.loop-second.invariant in
-    scanned_all c.args.wanted.now.problem.now c.args.wanted.now.value c.args.wanted.now.budget
-    c.args.wanted.now.stage c.args.node c.args.next.now i.0 i.1
-    c.loop-second.second c.loop-second.least c.loop-second.pairs.items c.loop-second-test.false i.2
+    scanned_all _ _ _
+    _ _ _ i.0 i.1
+    _ _ _ c.loop-second-test.false i.2

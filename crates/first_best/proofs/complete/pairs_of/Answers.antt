@@ -6,5 +6,5 @@ use Rattle.first_best.proofs.complete.pairs_of.Goals as goal
 
 pub returns : goal.returns
 returns c =
-    rw (c.of.ensures ∙ c.reverse.ensures.items) (turned c.args.wanted.now.problem.now c.args.wanted.now.value c.args.wanted.now.budget
-    c.args.wanted.now.stage c.args.node c.args.next.now c.in_ok-pairs.pairs.items c.in_ok-pairs.ensures)
+    rw (c.of.ensures ∙ c.reverse.ensures.items) (turned _ _ _
+    _ _ _ _ c.in_ok-pairs.ensures)

@@ -35,7 +35,7 @@ loop-j-preserved c =
     ap (λ xs. told_at xs j) c.firsts-firsts.ensures in
     let each = c.in_ok-least.ensures.least.one_each in
     let found : c.index-found.result.now ≡ pair_at least j = c.index-found.ensures
-    ∙ get_or_default least j c.index-found.result.now (0, 0) (omega arith) in
+    ∙ get_or_default least j _ (0, 0) (omega arith) in
     let made : EarlyNode = record {
       placed = node.placed;
       last = node.last;
@@ -43,7 +43,7 @@ loop-j-preserved c =
           c.index-found.result.now.0;
       cheapest = c.index-found.result.now.1;
     } in
-    let more = one_made stage s.1 n.firsts least j c.loop-j.nodes.items c.loop-j.invariant made
+    let more = one_made stage s.1 n.firsts least j _ c.loop-j.invariant made
     (record {
       placed = rw same at c.node-node.ensures.placed;
       last = c.node-node.ensures.last ∙ ap (λ i. latest (stage, windows.node_at s.1 i)) same;
@@ -62,5 +62,5 @@ returns c =
     let long = ap (λ xs. length xs) c.firsts-firsts.ensures in
     let end : c.loop-j.j ≡ length n.firsts = omega arith in
     all_made p held stage (are.number stage c.requires.stage.1)
-    (are.pairs stage c.requires.stage.1) n c.requires.windows least c.in_ok-least.ensures.least c.loop-j.nodes.items
+    (are.pairs stage c.requires.stage.1) n c.requires.windows least c.in_ok-least.ensures.least _
     (rw end at c.loop-j.invariant)

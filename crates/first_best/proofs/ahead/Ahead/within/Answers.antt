@@ -15,7 +15,7 @@ returns-clause-lists c =
     let p = c.args.problem.now in
     let held = held_of c.args.kept.now in
     IfOk-weaker c.stages_ahead.result (IsAheadBy p c.args.value (Some c.budget_of-budget.result) held)
-    (HasEachList p held) (each_listed p c.args.value (Some c.budget_of-budget.result) held)
+    (HasEachList p held) (each_listed p _ (Some c.budget_of-budget.result) held)
     c.stages_ahead.ensures
 
 pub returns-clause-useful : goal.returns-clause-useful
@@ -24,5 +24,5 @@ returns-clause-useful c =
     let held = held_of c.args.kept.now in
     let made = rw c.budget_of-budget.ensures at c.stages_ahead.ensures in
     IfOk-weaker c.stages_ahead.result (IsAheadWithin p c.args.value held) (ListsAllOfUse p c.args.value held)
-    (λ s a. all_of_use p c.args.value held s a c.window_laws.ensures.network c.window_laws.ensures.tell
+    (λ s a. all_of_use p _ held s a c.window_laws.ensures.network c.window_laws.ensures.tell
     (c.stages-held.ensures.held p c.requires)) made
