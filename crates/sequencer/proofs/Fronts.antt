@@ -60,8 +60,8 @@ apart_frozen (x ∷ xs) apart =
         let r = in_frozen xs (get_or (frozen_of xs) j d) (member_at (frozen_of xs) j d within) in
         let c = member_contains xs r.0 r.2 in
         let l = c.1 in
-        apart 0 (suc c.0) r.0 (omega arith) (omega arith) (e ∙ ap (λ (f : Landing). f.flight.callsign) r.4
-        ∙ ap (λ (a : Active). a.flight.callsign) (sym c.2))
+        apart 0 (suc c.0) r.0 (omega arith) (omega arith) (e ∙ ap (λ f. f.flight.callsign) r.4
+        ∙ ap (λ a. a.flight.callsign) (sym c.2))
 
     go : (o : Option ℕ) → AreOwn (frozen_of xs) → AreOwn (cons_option (option_map (landing x) o) (frozen_of xs))
     go None ih = ih
@@ -81,8 +81,7 @@ seconds_apart s sound i j d lt within same =
     let apart : f.second + separation s.aerodrome.table f.flight.category g.flight.category ≤ g.second =
     sound.frozen_separated i d (omega arith) j d (omega arith)
     (apart_frozen s.active sound.callsigns i j d lt (omega arith)) (omega arith) in
-    let one = (sound.table.entries f.flight.category g.flight.category).0 in
-    omega arith
+    omega (arith, (sound.table.entries f.flight.category g.flight.category).0)
 
 -- in any order in which their seconds do not fall, the frozen landings are in landing order
 pub frozen_in_order : (s : Situation) → IsSound s → (sorted : List ShownLanding)
@@ -138,7 +137,7 @@ kept_landings h (x ∷ xs) (t ∷ ts) e keeps =
         cond (not (is_none o)) (landing x t ∷ filter (λ f. not (waits f)) (landings xs ts))
         (filter (λ f. not (waits f)) (landings xs ts)) ≡ cons_option (option_map (landing x) o) (frozen_of xs)
     go None k ih = ih
-    go (Some u) k ih = ap₂ (λ (f : Landing) (fs : List Landing). f ∷ fs) (ap (landing x) k) ih
+    go (Some u) k ih = ap₂ (λ f fs. f ∷ fs) (ap (landing x) k) ih
 
 length_frozen : (xs : List Active) → length (frozen_of xs) + length (filter is_waiting xs) ≡ length xs
 length_frozen [] = refl
@@ -158,7 +157,7 @@ module _ (s : Situation) (t : Schedule) (sound : IsSound s) (keeps : IsFeasible 
       → (x y : ShownLanding) → Member x (frozen_shown s) → Member y waiting → x.second ≤ y.second
   before_waiting waiting p x y m n =
       let r = in_map shown_landing (in_landing_order (frozen_landings s)) x m in
-      let early = all_at (λ (f : Landing). f.second < horizon s) (frozen_landings s) sound.frozen_before r.0
+      let early = all_at (λ f. f.second < horizon s) (frozen_landings s) sound.frozen_before r.0
       (order_member r.0 (frozen_landings s) r.1) in
       let q = in_map shown_landing (filter waits all) y
       (member_permutation waiting (map shown_landing (filter waits all)) y
@@ -167,8 +166,7 @@ module _ (s : Situation) (t : Schedule) (sound : IsSound s) (keeps : IsFeasible 
       let late : horizon s ≤ q.0.second =
       late_of q.0.frozen q.0.second w.1 (all_at (IsFrozenKept (horizon s)) all keeps.1.frozen_kept q.0 w.0) in
       let a : x.second ≡ r.0.second = ap second r.2 in
-      let b : y.second ≡ q.0.second = ap second q.2 in
-      omega arith
+      omega (arith, ap second q.2)
     where
       late_of : (o : Option ℕ) (u : ℕ) → is_none o ≡ true → MatchOption o (horizon s ≤ u) (λ v. u ≡ v) → horizon s ≤ u
       late_of None u e k = k
@@ -184,9 +182,8 @@ module _ (s : Situation) (t : Schedule) (sound : IsSound s) (keeps : IsFeasible 
       let parts : IsPermutation all (filter (λ f. not (waits f)) all ++ filter waits all) =
       IsPermutation-filter_both (λ f. not (waits f)) waits (λ f. sym (not-not (waits f))) all in
       let shown : IsPermutation (map shown_landing all) (map shown_landing fs ++ map shown_landing (filter waits all)) =
-      subst (IsPermutation (map shown_landing all)) (ap (λ fs. map shown_landing (fs ++ filter waits all)) held
-      ∙ map-append shown_landing fs (filter waits all))
-      (IsPermutation-map shown_landing all (filter (λ f. not (waits f)) all ++ filter waits all) parts) in
+      rw (ap (λ fs. map shown_landing (fs ++ filter waits all)) held
+      ∙ map-append shown_landing fs (filter waits all)) at (IsPermutation-map shown_landing all (filter (λ f. not (waits f)) all ++ filter waits all) parts) in
       let each : IsPermutation (map shown_landing fs ++ map shown_landing (filter waits all))
       (frozen_shown s ++ waiting) =
       IsPermutation-append (map shown_landing fs) (frozen_shown s) (map shown_landing (filter waits all)) waiting
@@ -212,13 +209,12 @@ frozen_count s =
     let fs = frozen_landings s in
     let a = length-map (in_landing_order fs) shown_landing in
     let b = length_permutation fs (in_landing_order fs) (order_permutes fs) in
-    let c = length_frozen s.active in
-    omega arith
+    omega (arith, length_frozen s.active)
 
 pub frozen_and_placed : (s : Situation) (places : List ℕ) → IsSound s → ArePlacesByRank s places
     → length (frozen_shown s) + length places ≡ length s.active
 frozen_and_placed s places sound at = let a = places_length s sound.callsigns places at in let b =
-    rank_length (waiting s) in let c = frozen_count s in omega arith
+    rank_length (waiting s) in omega (arith, frozen_count s)
 
 -- ---- the waiting landings of a list by rank
 
@@ -262,9 +258,7 @@ waiting_shown s u sound e =
     ap (filter waits) (landings_of f s.active) ∙ waiting_landings f s.active in
     let there : map (λ a. landing a (f a)) R ≡ landings R u =
     sym (landings_of f R) ∙ ap (landings R) (ranked_seconds s u sound.callsigns e) in
-    subst (λ l. IsPermutation (map shown_landing l) (map shown_landing (landings R u))) (sym here)
-    (subst (λ l. IsPermutation (map shown_landing (map (λ a. landing a (f a)) (waiting s))) (map shown_landing l)) there
-    (IsPermutation-map shown_landing (map (λ a. landing a (f a)) (waiting s)) (map (λ a. landing a (f a)) R)
+    rw here (rw there at (IsPermutation-map shown_landing (map (λ a. landing a (f a)) (waiting s)) (map (λ a. landing a (f a)) R)
     (IsPermutation-map (λ a. landing a (f a)) (waiting s) R (rank_permutes (waiting s)))))
 
 -- ---- no event but a clock moves a frozen landing
@@ -273,7 +267,7 @@ frozen_estimated : (c : Callsign) (eta : ℕ) (windows : List Span) (xs : List A
     → ((a : Active) → Member a xs → named c a ≡ true → a.frozen ≡ None)
     → frozen_of (map (estimated c eta windows) xs) ≡ frozen_of xs
 frozen_estimated c eta windows [] h = refl
-frozen_estimated c eta windows (x ∷ xs) h = ap₂ (λ (o : Option Landing) (fs : List Landing). cons_option o fs) here
+frozen_estimated c eta windows (x ∷ xs) h = ap₂ (λ o fs. cons_option o fs) here
     (frozen_estimated c eta windows xs (λ a m. h a (inr m)))
   where
     with_times : Active
@@ -310,7 +304,7 @@ there_at (x ∷ xs) (suc i) l e = there_at xs i l e
 there_still : (fs : List Landing) → ((f : Landing) → Member f fs → waits f ≡ false)
     → map frozen_there (map shown_landing fs) ≡ map shown_landing fs
 there_still [] h = refl
-there_still (f ∷ fs) h = ap₂ (λ (l : ShownLanding) (ls : List ShownLanding). l ∷ ls)
+there_still (f ∷ fs) h = ap₂ (λ l ls. l ∷ ls)
     (ap (λ b. (let l : ShownLanding = record { callsign = f.flight.callsign; second = f.second; frozen = b } in l))
     (sym (ap not (h f (inl refl)))))
     (there_still fs (λ g m. h g (inr m)))
@@ -320,7 +314,7 @@ frozen_still s = there_still (in_landing_order (frozen_landings s)) stands
   where
     stands : (f : Landing) → Member f (in_landing_order (frozen_landings s)) → waits f ≡ false
     stands f m = let r = in_frozen s.active f (order_member f (frozen_landings s) m) in
-        ap (λ (g : Landing). waits g) r.4 ∙ ap is_none r.3
+        ap (λ g. waits g) r.4 ∙ ap is_none r.3
 
 begins : (s : Situation) (t : Schedule) → IsSound s → IsFeasible s t → BeginsWithFrozen s (shown_plan s t)
 begins s t sound keeps = ap (map frozen_there) (front_is s t sound keeps) ∙ frozen_still s
@@ -331,7 +325,7 @@ module _ (g : Landing → Landing) (same : (f : Landing) → (g f).second ≡ f.
   insert_map : (f : Landing) (fs : List Landing) → insert_landing (g f) (map g fs) ≡ map g (insert_landing f fs)
   insert_map f [] = refl
   insert_map f (x ∷ xs) =
-      ap₂ (λ (a b : ℕ). cond (nat_lt a b) (g x ∷ insert_landing (g f) (map g xs)) (g f ∷ g x ∷ map g xs))
+      ap₂ (λ a b. cond (nat_lt a b) (g x ∷ insert_landing (g f) (map g xs)) (g f ∷ g x ∷ map g xs))
       (same x) (same f) ∙ go (nat_lt x.second f.second) (insert_map f xs)
     where
       go : (b : Bool) → insert_landing (g f) (map g xs) ≡ map g (insert_landing f xs) →
@@ -347,8 +341,8 @@ module _ (g : Landing → Landing) (same : (f : Landing) → (g f).second ≡ f.
   there_map : ((f : Landing) → (g f).flight.callsign ≡ f.flight.callsign) → (fs : List Landing)
       → map frozen_there (map shown_landing (map g fs)) ≡ map frozen_there (map shown_landing fs)
   there_map names [] = refl
-  there_map names (f ∷ fs) = ap₂ (λ (l : ShownLanding) (ls : List ShownLanding). l ∷ ls)
-      (ap₂ (λ (c : Callsign) (n : ℕ). (let l : ShownLanding = record { callsign = c; second = n; frozen = true } in l))
+  there_map names (f ∷ fs) = ap₂ (λ l ls. l ∷ ls)
+      (ap₂ (λ c n. (let l : ShownLanding = record { callsign = c; second = n; frozen = true } in l))
       (names f) (same f))
       (there_map names fs)
 
@@ -399,8 +393,7 @@ clock_begins law s t now sound keeps ok next_sound =
 still : (s next : Situation) (t : Schedule) → frozen_landings next ≡ frozen_landings s
     → BeginsWithFrozen s (shown_plan s t) → BeginsWithFrozen next (shown_plan s t)
 still s next t same h =
-    subst (λ fs. map frozen_there (take (length (map shown_landing (in_landing_order fs)))
-    (shown_plan s t).landings) ≡ map shown_landing (in_landing_order fs)) (sym same) h
+    rw same h
 
 -- the plan shown begins with the frozen landings of the next situation
 pub next_begins : ClockKeepsPlanLaw → (s : Situation) (t : Schedule) (e : Event) → IsSound s

@@ -57,7 +57,7 @@ last_inserted f (g ∷ h ∷ rest) c = go (nat_lt g.second f.second) refl (last_
     go true e ih = last_behind g f (h ∷ rest) ∙ ih
     go false e ih =
         let le = ltb-false g.second f.second e in
-        sym (behind f.flight.category f.second h rest (λ y m. let n = c.0 y m in omega arith))
+        sym (behind f.flight.category f.second h rest (λ y m. omega (arith, c.0 y m)))
 
 pub last_is : (xs : List Active) → latest xs ≡ last_of (in_landing_order (frozen_of xs))
 last_is [] = refl
@@ -91,12 +91,12 @@ latest_low h (x ∷ xs) all = go x.frozen (latest_low h xs) all
         → IsLow h (later_at x.flight.category o (latest xs))
     go None ih all = ih all
     go (Some t) ih all = later_low h x.flight.category t (latest xs)
-        (All-head (λ (f : Landing). f.second < h) (landing x t) (frozen_of xs) all)
-        (ih (All-tail (λ (f : Landing). f.second < h) (landing x t) (frozen_of xs) all))
+        (All-head (λ f. f.second < h) (landing x t) (frozen_of xs) all)
+        (ih (All-tail (λ f. f.second < h) (landing x t) (frozen_of xs) all))
 
 pub last_low : (h : ℕ) (xs : List Active) → All (λ (f : Landing). f.second < h) (frozen_of xs)
     → MatchOption (last_of (in_landing_order (frozen_of xs))) ⊤ (λ l. l.0 < h)
-last_low h xs all = subst (IsLow h) (last_is xs) (latest_low h xs all)
+last_low h xs all = rw (last_is xs) at (latest_low h xs all)
 
 -- ---- the delay
 
@@ -116,13 +116,13 @@ pub small_delays : (closures : List Span) (xs : List Active) → All (λ (a : Ac
     → All (λ (f : Landing). IsTrue (is_open f.flight.windows closures f.second)) (frozen_of xs) → All HasSmallDelay xs
 small_delays closures [] good shown = All-nil HasSmallDelay
 small_delays closures (x ∷ xs) good shown =
-    go x.frozen refl (small_delays closures xs (All-tail (λ (a : Active). IsGoodFlight a.flight) x xs good)) shown
+    go x.frozen refl (small_delays closures xs (All-tail (λ a. IsGoodFlight a.flight) x xs good)) shown
   where
     here : IsGoodFlight x.flight
-    here = All-head (λ (a : Active). IsGoodFlight a.flight) x xs good
+    here = All-head (λ a. IsGoodFlight a.flight) x xs good
 
     at : (o : Option ℕ) → x.frozen ≡ o → MatchOption o ⊤ (λ t. t ≤ last_second) → HasSmallDelay x
-    at o e m = record { weight = here.weight.1; second = subst (λ o. MatchOption o ⊤ (λ t. t ≤ last_second)) (sym e) m }
+    at o e m = record { weight = here.weight.1; second = rw e m }
 
     go : (o : Option ℕ) → x.frozen ≡ o → (All (IsOpenLanding closures) (frozen_of xs) → All HasSmallDelay xs)
         → All (IsOpenLanding closures) (cons_option (option_map (landing x) o) (frozen_of xs))
@@ -143,8 +143,7 @@ one_low a h = go a.frozen h.second
     go (Some t) m =
         let d : ℕ = t - a.flight.eta in
         let x : a.flight.weight * d ≤ 100 * d = mul-le-mul_right d h.weight in
-        let y : 100 * d ≤ 17279900 = omega arith in
-        omega arith
+        omega (arith, omega arith)
 
 all_low : (xs : List Active) → All HasSmallDelay xs
     → sum_by delay_of xs + 17279900 * length (filter is_waiting xs) ≤ 17279900 * length xs
@@ -156,8 +155,8 @@ all_low (x ∷ xs) h = go (is_waiting x) (one_low x (All-head HasSmallDelay x xs
         → sum_by delay_of xs + 17279900 * length (filter is_waiting xs) ≤ 17279900 * length xs →
         sum_by delay_of (x ∷ xs) + 17279900 * length (cond b (x ∷ filter is_waiting xs) (filter is_waiting xs))
         ≤ 17279900 * length (x ∷ xs)
-    go true one ih = let c = sum_by-cons delay_of x xs in omega arith
-    go false one ih = let c = sum_by-cons delay_of x xs in omega arith
+    go true one ih = omega (arith, sum_by-cons delay_of x xs)
+    go false one ih = omega (arith, sum_by-cons delay_of x xs)
 
 pub base_low : (s : Situation) → IsSound s → frozen_cost s.aerodrome.objective (frozen_landings s) + 17279900 * length
     (waiting s) ≤ 17279900 * length s.active
@@ -168,5 +167,5 @@ base_low s sound = go s.aerodrome.objective
 
     go : (o : Objective) → frozen_cost o (frozen_landings s) + 17279900 * length
         (waiting s) ≤ 17279900 * length s.active
-    go Makespan = let a = all_low s.active small in omega arith
-    go Delay = let a = all_low s.active small in let e = delay_is s.active in omega arith
+    go Makespan = omega (arith, all_low s.active small)
+    go Delay = let a = all_low s.active small in omega (arith, delay_is s.active)

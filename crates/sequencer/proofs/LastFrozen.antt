@@ -29,7 +29,7 @@ second_of o = option_map (λ l. l.0) o
 last_at : (all : List Landing) (n : ℕ) (l : ShownLanding) → slice_get (map shown_landing all) n ≡ Some l
     → suc n ≡ length all → second_of (last_of all) ≡ Some l.second
 last_at [] n l e long = absurd (omega arith)
-last_at (f ∷ []) zero l e long = ap (λ (k : ShownLanding). Some k.second) (same_Some (shown_landing f) l e)
+last_at (f ∷ []) zero l e long = ap (λ k. Some k.second) (same_Some (shown_landing f) l e)
 last_at (f ∷ []) (suc n) l e long = absurd (omega arith)
 last_at (f ∷ g ∷ rest) zero l e long = absurd (omega arith)
 last_at (f ∷ g ∷ rest) (suc n) l e long = last_at (g ∷ rest) n l e (omega arith)
@@ -47,8 +47,7 @@ front_last s plan n l begins long e =
     let all = in_landing_order (frozen_landings s) in
     let k = length (frozen_shown s) in
     let m = length-map all shown_landing in
-    last_at all n (frozen_there l) (subst (λ ls. slice_get ls n ≡ Some (frozen_there l)) begins
-    (there_at (take k plan.landings) n l (in_first k n plan.landings (omega arith) ∙ e))) (omega arith)
+    last_at all n (frozen_there l) (rw begins at (there_at (take k plan.landings) n l (in_first k n plan.landings (omega arith) ∙ e))) (omega arith)
 
 -- ---- the flight of that second
 
@@ -64,12 +63,12 @@ pub last_frozen_at : (s : Situation) (l : ℕ × Category) → last_of (in_landi
 last_frozen_at s l e =
     let r = last_member (in_landing_order (frozen_landings s)) l e in
     let b = in_frozen s.active r.0 (order_member r.0 (frozen_landings s) r.1) in
-    let at : b.1 ≡ l.0 = ap (λ (f : Landing). f.second) (sym b.4) ∙ ap (λ (p : ℕ × Category). p.0) r.2 in (
+    let at : b.1 ≡ l.0 = ap (λ f. f.second) (sym b.4) ∙ ap (λ p. p.0) r.2 in (
       b.0,
       b.2,
-      b.3 ∙ ap (λ (t : ℕ). Some t) at,
-      ap (λ (f : Landing). f.flight.category) (sym b.4)
-          ∙ ap (λ (p : ℕ × Category). p.1) r.2,
+      b.3 ∙ ap (λ t. Some t) at,
+      ap (λ f. f.flight.category) (sym b.4)
+          ∙ ap (λ p. p.1) r.2,
     )
 
 -- and no other is
@@ -85,9 +84,9 @@ one_at s sound a b m ma mb fa fb =
     let lj = j.1 in
     let at : get_or fs j.0 f ≡ g = get_or_default fs j.0 f g lj ∙ j.2 in
     let same : (get_or fs i.0 f).second ≡ (get_or fs j.0 f).second =
-    ap (λ (x : Landing). x.second) i.2 ∙ ap (λ (x : Landing). x.second) (sym at) in
+    ap (λ x. x.second) i.2 ∙ ap (λ x. x.second) (sym at) in
     elim (cases_order i.0 j.0) [
-      | inl q ↦ ap (λ (x : Landing). x.flight.category) (sym i.2 ∙ ap (λ k. get_or fs k f) q ∙ at)
+      | inl q ↦ ap (λ x. x.flight.category) (sym i.2 ∙ ap (λ k. get_or fs k f) q ∙ at)
       | inr (inl lt) ↦ absurd (seconds_apart s sound i.0 j.0 f lt lj same)
       | inr (inr gt) ↦ absurd (seconds_apart s sound j.0 i.0 f gt li (sym same))
     ]
@@ -106,7 +105,7 @@ found_last s sound m a e ma fa =
     let l = last_found s m e in
     let b = last_frozen_at s l.0 l.1 in
     let same = one_at s sound a b.0 m ma b.1 fa (rw l.2 at b.2) ∙ b.3 in
-    ap₂ (λ (t : ℕ) (c : Category). Some (t, c)) (sym l.2) same ∙ sym l.1
+    ap₂ (λ t c. Some (t, c)) (sym l.2) same ∙ sym l.1
 
 -- some flight is frozen there
 pub some_last : (s : Situation) (m : ℕ) → second_of (last_of (in_landing_order (frozen_landings s))) ≡ Some m
@@ -128,4 +127,4 @@ module _ (fs : List Active) (m : ℕ) where
       → IsElsewhere a
   back_none none a i at =
       let c = member_contains (reverse fs) a (member_permutation fs (reverse fs) a (IsPermutation-reverse fs) i) in
-      none c.0 a (omega arith) c.1 (ap (λ (b : Active). b.frozen) c.2 ∙ at)
+      none c.0 a (omega arith) c.1 (ap (λ b. b.frozen) c.2 ∙ at)

@@ -21,7 +21,7 @@ module _ (all : List Active) where
 
   pub none_added : (pairs : List ℕ) (next : ℕ) → Added pairs pairs next 1
   none_added pairs next i j =
-      (λ m. inl m, λ s. elim s [ inl m ↦ m | inr l ↦ absurd (let a = l.2.first in let b = l.1 in omega arith) ])
+      (inl, λ s. elim s [ inl m ↦ m | inr l ↦ absurd (let a = l.2.first in omega (arith, l.1)) ])
 
   pub one_added : (start old new : List ℕ) (next first : ℕ) → Added start old next first → IsListed all first next
       → ((i j : ℕ) → MustPrecede new i j ↔ (MustPrecede old i j ⊎ ((i ≡ first) × (j ≡ next))))
@@ -84,7 +84,7 @@ module _ (all : List Active) where
   Below pairs next = (i j : ℕ) → MustPrecede pairs i j ↔ ((j < next) × IsListed all i j)
 
   pub none_below : (pairs : List ℕ) → ((i j : ℕ) → MustPrecede pairs i j → ⊥) → Below pairs 1
-  none_below pairs none i j = (λ m. absurd (none i j m), λ l. absurd (let a = l.1.next in let b = l.0 in omega arith))
+  none_below pairs none i j = (λ m. absurd (none i j m), λ l. absurd (let a = l.1.next in omega (arith, l.0)))
 
   pub one_below : (old new : List ℕ) (next : ℕ) → Below old next
       → ((i j : ℕ) → MustPrecede new i j ↔ (MustPrecede old i j ⊎ ((j ≡ next) × IsListed all i j)))
@@ -104,7 +104,7 @@ module _ (all : List Active) where
 
   pub all_below : (pairs : List ℕ) (next : ℕ) → length all < next → Below pairs next → (i j : ℕ)
       → MustPrecede pairs i j ↔ IsListed all i j
-  all_below pairs next past was i j = (λ m. ((was i j).0 m).1, λ l. (was i j).1 ((let a = l.next in omega arith), l))
+  all_below pairs next past was i j = (λ m. ((was i j).0 m).1, λ l. (was i j).1 ((omega (arith, l.next)), l))
 
   -- so they are those of the rules
   pub between : (pairs : List ℕ) (n : ℕ) → n ≡ length all → ((i j : ℕ) → MustPrecede pairs i j ↔ IsListed all i j)
@@ -122,15 +122,15 @@ module _ (all : List Active) where
       let q : j + 1 - 1 ≡ j = omega arith in
       let f : numbered all (i + 1 - 1) ≡ a = ap (numbered all) p ∙ get_or_from_slice_get all i a nobody x in
       let g : numbered all (j + 1 - 1) ≡ b = ap (numbered all) q ∙ get_or_from_slice_get all j b nobody y in
-      let same = ap₂ (λ (u v : Active). lists u.flight v.flight.callsign) g f in
+      let same = ap₂ (λ u v. lists u.flight v.flight.callsign) g f in
       let li = slice_get_within all i a x in
       let lj = slice_get_within all j b y in (
-        λ l. subst IsTrue same l.lists,
+        λ l. rw same at l.lists,
         λ t. record {
           first = (omega arith, omega arith);
           next =
               (omega arith, omega arith);
-          lists = subst IsTrue (sym same) t;
+          lists = rw same t;
         },
       )
 
@@ -152,18 +152,18 @@ pub listed_by : {X : Type 0} (g : X → Active) (items : List X) (first next : �
     → y ≡ get_or items (next - 1) y →
     IsListed (map g items) first next ↔ IsTrue (lists (g y).flight (g x).flight.callsign)
 listed_by g items first next x y f n ex ey =
-    let lf : first - 1 < length items = let a = f.0 in let b = f.1 in omega arith in
-    let ln : next - 1 < length items = let a = n.0 in let b = n.1 in omega arith in
+    let lf : first - 1 < length items = let a = f.0 in omega (arith, f.1) in
+    let ln : next - 1 < length items = let a = n.0 in omega (arith, n.1) in
     let at_first : numbered (map g items) (first - 1) ≡ g x =
     get_or-map g items (first - 1) x nobody lf ∙ ap g (sym ex) in
     let at_next : numbered (map g items) (next - 1) ≡ g y = get_or-map g items (next - 1) y nobody ln ∙ ap g (sym ey) in
-    let same = ap₂ (λ (u v : Active). lists u.flight v.flight.callsign) at_next at_first in
+    let same = ap₂ (λ u v. lists u.flight v.flight.callsign) at_next at_first in
     let long = length-map items g in (
-      λ l. subst IsTrue same l.lists,
+      λ l. rw same at l.lists,
       λ t. record {
-        first = (f.0, (let a = f.1 in omega arith));
+        first = (f.0, (omega (arith, f.1)));
         next =
-            (n.0, (let a = n.1 in omega arith));
-        lists = subst IsTrue (sym same) t;
+            (n.0, (omega (arith, n.1)));
+        lists = rw same t;
       },
     )

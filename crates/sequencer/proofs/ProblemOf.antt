@@ -50,8 +50,8 @@ module _ (closures : List Span) where
   zip_keys [] [] z = refl
   zip_keys [] (y ∷ ys) z = absurd z
   zip_keys (x ∷ xs) [] z = absurd z
-  zip_keys (x ∷ xs) (y ∷ ys) z = ap₂ (λ (p : ℕ × List ℕ) (l : List (ℕ × List ℕ)). p ∷ l)
-      (ap₂ (λ (e : ℕ) (n : List ℕ). (e, n)) z.0.eta z.0.callsign) (zip_keys xs ys z.1)
+  zip_keys (x ∷ xs) (y ∷ ys) z = ap₂ (λ p l. p ∷ l)
+      (ap₂ (λ e n. (e, n)) z.0.eta z.0.callsign) (zip_keys xs ys z.1)
 
 -- ---- the problem of a sound situation
 
@@ -72,7 +72,7 @@ module _ (s : Situation) (h : Head) (ws : List waits.Waiting) (pairs : List ℕ)
   each_rank = AllZip-long (IsWaitingOf s.closures) R (map waiting_of ws) zip
 
   table_is : h.table ≡ s.aerodrome.table
-  table_is = sym (ap (λ (a : Aerodrome). a.table) of.fixed)
+  table_is = sym (ap (λ a. a.table) of.fixed)
 
   pub posed : IsProblemOf s (seen_problem h ws pairs)
   posed = record {
@@ -91,12 +91,12 @@ module _ (s : Situation) (h : Head) (ws : List waits.Waiting) (pairs : List ℕ)
   long = each_rank ∙ rank_length (waiting s)
 
   good : All (λ (a : Active). IsGoodFlight a.flight) R
-  good = All-permutation (λ (a : Active). IsGoodFlight a.flight) (waiting s) R (rank_permutes (waiting s))
-      (All-filter is_waiting (λ (a : Active). IsGoodFlight a.flight) s.active sound.flights)
+  good = All-permutation (λ a. IsGoodFlight a.flight) (waiting s) R (rank_permutes (waiting s))
+      (All-filter is_waiting (λ a. IsGoodFlight a.flight) s.active sound.flights)
 
   passed_low : All (λ (a : Active). a.passed ≤ s.aerodrome.k) R
-  passed_low = All-permutation (λ (a : Active). a.passed ≤ s.aerodrome.k) (waiting s) R (rank_permutes (waiting s))
-      (All-filter is_waiting (λ (a : Active). a.passed ≤ s.aerodrome.k) s.active sound.passed)
+  passed_low = All-permutation (λ a. a.passed ≤ s.aerodrome.k) (waiting s) R (rank_permutes (waiting s))
+      (All-filter is_waiting (λ a. a.passed ≤ s.aerodrome.k) s.active sound.passed)
 
   keys : map key_of (map waiting_of ws) ≡ map arrival_of R
   keys = zip_keys s.closures R (map waiting_of ws) zip

@@ -19,12 +19,12 @@ loop-first-preserved c =
     let first = c.loop-first.first in
     let next = c.args.next in
     let low : 1 ≤ first = c.loop-first.auto.first in
-    let high : first ≤ length items = let e = c.len.ensures in let v = c.args.ranked.now.ok.0 in omega arith in
+    let high : first ≤ length items = let e = c.len.ensures in omega (arith, c.args.ranked.now.ok.0) in
     let listed : IsListed all first next
     ↔ IsTrue (lists c.index-follower.result.now.now.flight c.index-leader.result.now.now.flight.callsign) =
     listed_by (λ a. a.now) items first next c.index-leader.result.now c.index-follower.result.now
     (low, high) c.requires.next c.index-leader.ensures c.index-follower.ensures in
-    let same = ap (λ (a : Active). lists c.index-follower.result.now.now.flight a.flight.callsign) c.leader.view_is in
+    let same = ap (λ a. lists c.index-follower.result.now.now.flight a.flight.callsign) c.leader.view_is in
     elim c.if-lists.branch [
       | then-lists w ↦ rw w.pairs-is
           (one_added all c.args.pairs.now c.loop-first.pairs w.add.new.self next first c.loop-first.invariant
@@ -39,6 +39,6 @@ returns c =
     let items = c.args.ranked.now.items in
     let n = length-map items (λ a. a.now) in
     let past : length (map (λ a. a.now) items) < c.loop-first.first = let e = c.len.ensures in let v =
-    c.args.ranked.now.ok.0 in let t = c.loop-first-test.false in omega arith in
+    c.args.ranked.now.ok.0 in omega (arith, c.loop-first-test.false) in
     all_added (map (λ a. a.now) items) c.args.pairs.now c.loop-first.pairs c.args.next c.loop-first.first
     past c.loop-first.invariant

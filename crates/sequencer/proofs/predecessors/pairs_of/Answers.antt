@@ -15,5 +15,4 @@ pub returns : goal.returns
 returns c =
     let n = length-map c.args.ranked.now.items (λ a. a.now) in
     all_below (map (λ a. a.now) c.args.ranked.now.items) c.loop-next.pairs c.loop-next.next
-    (let e = c.len.ensures in let v = c.args.ranked.now.ok.0 in let t =
-    c.loop-next-test.false in omega arith) c.loop-next.invariant
+    (let e = c.len.ensures in let v = c.args.ranked.now.ok.0 in omega (arith, c.loop-next-test.false)) c.loop-next.invariant

@@ -17,15 +17,13 @@ pub overflow_cast-index : goal.overflow_cast-index
 overflow_cast-index c =
     let n = count c.args.situation.now c.args.places.now c.requires.sound c.requires.places in
     let few = c.requires.sound.few_waiting in
-    let lt = c.loop-index-test.true in
-    omega arith
+    omega (arith, c.loop-index-test.true)
 
 pub overflow_add-index : goal.overflow_add-index
 overflow_add-index c =
     let n = count c.args.situation.now c.args.places.now c.requires.sound c.requires.places in
     let few = c.requires.sound.few_waiting in
-    let lt = c.loop-index-test.true in
-    omega arith
+    omega (arith, c.loop-index-test.true)
 
 pub second-requires : goal.second-requires
 second-requires c =
@@ -44,8 +42,7 @@ index_mut-requires c =
     (placed_at s c.requires.sound.callsigns places c.requires.places i nobody c.loop-index-test.true) in
     let long : length c.loop-index.seconds.items ≡ length s.active =
     ap (length {A = ℕ}) c.loop-index.invariant ∙ length-map s.active (joined_second s t) in
-    let whole = c.loop-index.seconds.ok.0 in
-    omega arith
+    omega (arith, c.loop-index.seconds.ok.0)
 
 pub loop-index-preserved : goal.loop-index-preserved
 loop-index-preserved c =
@@ -55,7 +52,7 @@ loop-index-preserved c =
     let t = c.args.schedule.now in
     let same : i + 1 - 1 ≡ i = omega arith in
     ap (slice_set c.loop-index.seconds.items (get_or places i 0)) (c.second.ensures ∙ ap (λ k. get_or t k 0) same)
-    ∙ ap (λ (l : List ℕ). slice_set l (get_or places i 0) (get_or t i 0)) c.loop-index.invariant
+    ∙ ap (λ l. slice_set l (get_or places i 0) (get_or t i 0)) c.loop-index.invariant
     ∙ joined_more s c.requires.sound.callsigns places c.requires.places t i c.loop-index-test.true
 
 pub returns : goal.returns
@@ -63,5 +60,5 @@ returns c =
     let s = c.args.situation.now in
     let n = count s c.args.places.now c.requires.sound c.requires.places in
     let long = c.requires.long in
-    let past : length c.args.schedule.now ≤ c.loop-index.index = let b = c.loop-index-test.false in omega arith in
+    let past : length c.args.schedule.now ≤ c.loop-index.index = omega (arith, c.loop-index-test.false) in
     c.loop-index.invariant ∙ ap (joined s) (take_all c.loop-index.index c.args.schedule.now past)

@@ -37,7 +37,7 @@ returns-clause-shown c =
     let s = c.args.situation.now in
     let p = c.args.problem.now in
     let t = c.args.schedule.now in
-    subst (λ (u : Schedule). IsBest s u × IsTight s u) (sym c.in_ok-seconds.ensures) (
+    rw c.in_ok-seconds.ensures (
       c.problem_stands_for_situation.ensures.best s p t c.requires.sound c.requires.problem c.requires.answer.0,
       c.problem_stands_for_situation.ensures.tight s p t c.requires.sound c.requires.problem c.requires.answer.1,
     )
