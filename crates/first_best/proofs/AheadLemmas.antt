@@ -134,9 +134,8 @@ module _ (p : Problem) (v : ℕ) (budget : Option ℕ) (held : Option HeldProble
     window_rising = (a.completed s one le).rising (place_at _ i)
 
 -- where all are wanted the lists are exact
-pub all_exact : (p : Problem) (v : ℕ) (held : Option HeldProblem) (stages : List StageAhead)
-    → IsAheadOf p v held stages → network.IsWindowNetwork p → TellTheirRanks p → AreStagesOf p held
-    → ListsAllCompleting p v held stages
+pub all_exact : (p : Problem) (v : ℕ) (held : Option HeldProblem) (stages : List StageAhead) → IsAheadOf p v held stages
+    → network.IsWindowNetwork p → TellTheirRanks p → AreStagesOf p held → ListsAllCompleting p v held stages
 all_exact p v held stages a net tell are s i xs one le lt l at =
     let k = window_kept p v None held stages a net tell are s i xs one le lt l at in
     let rising = window_rising p v None held stages a net tell are s i xs one le lt l at in

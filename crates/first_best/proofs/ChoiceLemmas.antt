@@ -133,8 +133,7 @@ module _ (p : Problem) (wf : IsWellFormed p) (v : ℕ) (held : Option HeldProble
   choice_landed : (xs : List Landing) (r t : ℕ) → LandedIn (ranked p) xs → CanChoose p v (IsCompletingPair p v) xs r t
       → LandedIn (ranked p) ((r, t) ∷ xs)
   choice_landed xs r t landed c =
-      (let f = (is_first_open p).found r (next_from (ranked p) _ _ r)
-      t c.lands in
+      (let f = (is_first_open p).found r (next_from (ranked p) _ _ r) t c.lands in
       (f.0, f.1, landed))
 
   pub choices_landed : (xs : List Landing) → AreLeastChoices p v (IsCompletingPair p v) xs → LandedIn (ranked p) xs
@@ -181,17 +180,11 @@ module _ (p : Problem) (wf : IsWellFormed p) (v : ℕ) (held : Option HeldProble
         let more = (r, t) ∷ xs in
         let land = choice_landed xs r t landed c in
         let e = completed.are_nodes.every more (record { legal = c.legal; landed = land; long = one_more r }) in
-        let of_use : IsOfUse p (budget_of p v) (r ∷ ranks xs) c.pair =
-        record {
+        let of_use : IsOfUse p (budget_of p v) (r ∷ ranks xs) c.pair = record {
           landings = more;
           legal = c.legal;
           landed = land;
-          one_node = record {
-            stage = refl;
-            placed =
-                λ x. (λ i. i, λ i. i);
-            latest = refl;
-          };
+          one_node = record { stage = refl; placed = λ x. (λ i. i, λ i. i); latest = refl };
           by = c.in_time;
           cheap = c.cheap;
         } in
@@ -236,8 +229,7 @@ module _ (p : Problem) (wf : IsWellFormed p) (v : ℕ) (held : Option HeldProble
     where
       zeros : (r : ℕ) → IsRank (length p.flights) r → of_rank 0 schedule r ≡ 0
       zeros zero q = absurd (let b = q.0 in omega arith)
-      zeros (suc i) q = ap (λ t. get_or t i 0) blank ∙ get_or-replicate _ i 0 0 (let b =
-          q.1 in omega arith)
+      zeros (suc i) q = ap (λ t. get_or t i 0) blank ∙ get_or-replicate _ i 0 0 (let b = q.1 in omega arith)
 
   passed_at : (r : ℕ) → IsRank (length p.flights) r → (of_rank no_waiting p.flights r).passed ≤ p.k
   passed_at zero q = absurd (let b = q.0 in omega arith)
@@ -269,14 +261,12 @@ module _ (p : Problem) (wf : IsWellFormed p) (v : ℕ) (held : Option HeldProble
         → IsLeastChoice p budget before cost stage.nodes stage.lists least
         → CanChoose p v (IsCompletingPair p v) o.landings least.0 least.1
         × ((r t : ℕ) → CanChoose p v (IsCompletingPair p v) o.landings r t → least.0 ≤ r)
-    chosen_by short least budget b stage s is =
-        next_choice short least (rw s at (rw b at is))
+    chosen_by short least budget b stage s is = next_choice short least (rw s at (rw b at is))
 
     pub one_landing : (r t : ℕ) → CanChoose p v (IsCompletingPair p v) o.landings r t
         → ((q u : ℕ) → CanChoose p v (IsCompletingPair p v) o.landings q u → r ≤ q) → t ≤ last_second
-        → (after : EarlyNode) → ((x : ℕ) → HasBit after.placed x ↔ (HasBit before.placed x ⊎ (x ≡ r)))
-        → after.last ≡ r → after.earliest ≡ t
-        → (price : ℕ) → price ≡ cost_at p r t → price ≤ 17279900
+        → (after : EarlyNode) → ((x : ℕ) → HasBit after.placed x ↔ (HasBit before.placed x ⊎ (x ≡ r))) → after.last ≡ r
+        → after.earliest ≡ t → (price : ℕ) → price ≡ cost_at p r t → price ≤ 17279900
         → IsOrder p v (done + 1) after (cost + price) (slice_set schedule (r - 1) t)
     one_landing r t can least days after placed last earliest price is few = record {
       landings = (r, t) ∷ o.landings;
@@ -345,9 +335,8 @@ module _ (p : Problem) (budget : ℕ) (before : EarlyNode) (cost : ℕ) (after :
     refl,
   )
 
-  pub too_dear : (rest : ℕ) → IsLeastOf (IsCostFrom pairs second) (Some rest)
-      → budget < cost + cost_at p after.last second + rest → (t : ℕ) → IsAffordable p budget before cost after pairs t
-      → ⊥
+  pub too_dear : (rest : ℕ) → IsLeastOf (IsCostFrom pairs second) (Some rest) → budget < cost
+      + cost_at p after.last second + rest → (t : ℕ) → IsAffordable p budget before cost after pairs t → ⊥
   too_dear rest least over t a =
       let e = same_second t a in
       let l = a.in_time in

@@ -43,12 +43,10 @@ pub listed_wanted : (p : Problem) (v : ℕ) (budget : Option ℕ) (stage : ℕ) 
 listed_wanted p v budget stage nodes lists c rs b legal long can =
     let e = c.are_nodes.every can.landings
     (record { legal = can.legal; landed = can.landed; long = can.one_node.stage ∙ long }) in
-    let of : IsPrefixOf rs (node_at nodes e.0) = node_one _ rs _
-    (record {
+    let of : IsPrefixOf rs (node_at nodes e.0) = node_one _ rs _ (record {
       stage = sym can.one_node.stage;
       placed = λ x. let a = can.one_node.placed x in (a.1, a.0);
-      latest =
-          sym can.one_node.latest;
+      latest = sym can.one_node.latest;
     }) e.2 in
     record {
       completes = λ q k. (c.kept k.place rs k.within legal long k.of_node).completes q k.listed;
@@ -82,8 +80,7 @@ module _ (p : Problem) (wf : IsWellFormed p) (v : ℕ) (budget : Option ℕ) (st
         let h = made.are q i in
         each.completes q (record {
           opened = opened_last q.0 h.opened;
-          reached =
-              lands_by p stage these are j lt rs long of q.0 h.reached;
+          reached = lands_by p stage these are j lt rs long of q.0 h.reached;
           low = h.low;
           cost_is = free q.0 q.1 h.end;
         });
@@ -92,12 +89,10 @@ module _ (p : Problem) (wf : IsWellFormed p) (v : ℕ) (budget : Option ℕ) (st
         let l = s.1 in
         let a = made.cover s.0 (record {
           opened = last_opened s.0.0 l.opened;
-          reached =
-              by_lands p stage these are j lt rs long of s.0.0 l.reached;
+          reached = by_lands p stage these are j lt rs long of s.0.0 l.reached;
           low = l.low;
           end = inl (whole, l.cost_is);
-        })
-        (room q s.0.1 s.2.1 w) in
+        }) (room q s.0.1 s.2.1 w) in
         (a.0, a.1, no_earlier_no_dearer_trans a.0 s.0 q a.2 s.2);
   }
     where
@@ -125,8 +120,7 @@ module _ (p : Problem) (wf : IsWellFormed p) (v : ℕ) (budget : Option ℕ) (st
           go : IsEnd p stage (node_at these j) next q.0 q.1 → IsSuccessorPair p v (IsCompletingPair p v) rs q
           go (inl e) = absurd (let a = e.0 in omega arith)
           go (inr (_, w)) =
-              let on = leads_on p rs legal _ _ of w.leads
-              (reached_next w.place w.within) in
+              let on = leads_on p rs legal _ _ of w.leads (reached_next w.place w.within) in
               record {
                 opened = opened_last q.0 h.opened;
                 reached = lands_by p stage these are j lt rs long of q.0 h.reached;
@@ -177,8 +171,8 @@ module _ (p : Problem) (wf : IsWellFormed p) (v : ℕ) (budget : Option ℕ) (st
         covers = λ q c w.
             let a = each.covers q c in
             let s = a.1 in
-            let wanted = wanted_next p (sound_of p wf) rs s.rank s.legal budget q a.0 s.pair
-            s.second legal s.lands s.in_time s.cost_is a.2 w in
+            let wanted = wanted_next p (sound_of p wf) rs s.rank s.legal budget q a.0 s.pair s.second legal s.lands
+            s.in_time s.cost_is a.2 w in
             let o = (listed_wanted p v budget (stage + 1) next.nodes next.lists completed (s.rank ∷ rs) s.pair.0 s.legal
             (one_more s.rank) s.kept.reached).covers s.pair s.kept wanted in
             let same = s.cost_is in
@@ -192,8 +186,7 @@ module _ (p : Problem) (wf : IsWellFormed p) (v : ℕ) (budget : Option ℕ) (st
               rank = s.rank;
               second = s.second;
               pair = o.0;
-              legal =
-                  s.legal;
+              legal = s.legal;
               lands = s.lands;
               kept = o.1;
               in_time = le_trans s.in_time o.2.0;
@@ -206,8 +199,7 @@ module _ (p : Problem) (wf : IsWellFormed p) (v : ℕ) (budget : Option ℕ) (st
           each : KeptCompleting (IsCompletingPair p v rs) (IsSuccessorPair p v (IsCompletingPair p v) rs)
           each =
               successor_pairs p (sound_of p wf) v rs legal (IsSuccessorPair p v (IsCompletingPair p v) rs)
-              (IsCompletingPair p v) (omega arith)
-              (λ r b l can. all_kept (IsCompletingPair p v (r ∷ rs)))
+              (IsCompletingPair p v) (omega arith) (λ r b l can. all_kept (IsCompletingPair p v (r ∷ rs)))
               (record { are = λ q s. s; cover = λ q s. (q, s, (le_refl q.0, le_refl q.1)) })
 
 -- the lists that are made of those of the next stage complete the nodes of a stage
@@ -227,8 +219,7 @@ lists_complete p wf v budget stage these made next are behind lists = record {
         → IsBehind p v budget stage next → KeepsWanted (IsCompletingPair p v rs) (IsWanted p budget rs)
         (λ q. InPairs q (list_at made j))
     kept j rs lt legal long of (inl last) =
-        last_complete p wf v budget stage these are j lt rs legal long of next _
-        (lists.pairs j lt) last.0
+        last_complete p wf v budget stage these are j lt rs legal long of next _ (lists.pairs j lt) last.0
     kept j rs lt legal long of (inr more) = before_complete p wf v budget stage these are j lt rs legal long of next
         _ (lists.pairs j lt) more.0 more.1
 

@@ -50,7 +50,8 @@ module _ (stage : ℕ) (list : List (List ℤ)) (firsts : List ℕ) (least : Lis
   pub one_made : AreMade stage list firsts least (count + 1) (nodes ++ node ∷ [])
   one_made = record {
     long = length-append nodes (node ∷ []) ∙ ap (λ (n : ℕ). n + 1) m.long;
-    window = each_upto (λ j n. IsWindowOf stage (windows.node_at list (told_at firsts j)) n) nodes node no_node count m.long m.window of;
+    window = each_upto (λ j n. IsWindowOf stage (windows.node_at list (told_at firsts j)) n) nodes node no_node count
+        m.long m.window of;
     earliest = each_upto (λ j n. n.earliest ≡ (pair_at least j).0) nodes node no_node count m.long m.earliest early;
     cheapest = each_upto (λ j n. n.cheapest ≡ (pair_at least j).1) nodes node no_node count m.long m.cheapest cheap;
   }
@@ -82,11 +83,7 @@ module _ (p : Problem) (held : Option HeldProblem) (stage : ℕ) (number : (stag
       let first = windows.node_at list (told_at put.firsts _) in
       let w = m.window (place_at put.places i) (place_in i lt) in
       let one = g.one i lt in
-      record {
-        placed = one_tells stage first (windows.node_at list i)
-            _ one w.placed;
-        last = w.last ∙ one.last;
-      }
+      record { placed = one_tells stage first (windows.node_at list i) _ one w.placed; last = w.last ∙ one.last }
 
   at_stage : (window : List ℤ) (node : EarlyNode) → IsWindowOf stage window node
       → IsWindowOf (stage_in held stage).0 window node
@@ -106,7 +103,8 @@ module _ (p : Problem) (held : Option HeldProblem) (stage : ℕ) (number : (stag
   low_at : (i : ℕ) → i < length list → (node_at nodes (place_at put.places i)).earliest ≤ second_of lists i
   low_at i lt =
       let e = m.earliest (place_at put.places i) (place_in i lt) in
-      let a = (l.each (place_at put.places i) (place_in i lt)).early (pair_at (list_at lists i) 0) (pair_there i 0 lt (λ some. some)) in
+      let a = (l.each (place_at put.places i) (place_in i lt)).early (pair_at (list_at lists i) 0)
+      (pair_there i 0 lt (λ some. some)) in
       omega arith
 
   source_at : (j : ℕ) → j < length put.firsts → (i : ℕ) × (i < length list)
@@ -119,15 +117,13 @@ module _ (p : Problem) (held : Option HeldProblem) (stage : ℕ) (number : (stag
       let inside = q.1.within in
       let within : i < length list = omega arith in
       let there = q.1.of_node in
-      let low : (node_at nodes j).earliest ≤ second_of lists i =
-      rw there at (low_at i within) in
+      let low : (node_at nodes j).earliest ≤ second_of lists i = rw there at (low_at i within) in
       let first = first_least _ (h.costs.pairs i within).falling q.0 q.1.has in
       let is = m.earliest j lt in
       let least_is = q.2 in (
         i,
         within,
-        at_stage (windows.node_at list i) _
-            (rw there at (window_told i within)),
+        at_stage (windows.node_at list i) _ (rw there at (window_told i within)),
         omega arith,
       )
 
@@ -140,7 +136,8 @@ module _ (p : Problem) (held : Option HeldProblem) (stage : ℕ) (number : (stag
     cheap = λ i lt.
         let e = m.cheapest (place_at put.places i) (place_in i lt) in
         let a = (l.each (place_at put.places i) (place_in i lt)).cheap
-        (pair_at (list_at lists i) (length (list_at lists i) - 1)) (pair_there i (length (list_at lists i) - 1) lt (λ some. omega (arith, some))) in
+        (pair_at (list_at lists i) (length (list_at lists i) - 1))
+        (pair_there i (length (list_at lists i) - 1) lt (λ some. omega (arith, some))) in
         omega (arith, e, a);
     source = λ j lt. source_at j (let e = m.long in omega (arith, lt, e));
     apart = λ i j li lj placed last.
@@ -212,16 +209,13 @@ module _ (p : Problem) (net : network.IsWindowNetwork p) (tell : TellTheirRanks 
 
     -- a landed prefix of a node has its window among those of the node
     window_of : (j : ℕ) (xs : List Landing) → j < length nodes → IsLandedPrefix p stage.0 xs
-        → IsPrefixOf (ranks xs) (node_at nodes j)
-        → (i : ℕ) × (i < length stage.1) × (place_at places i ≡ j) × (second_of lists i ≤ (latest_landing xs).1)
-        × (cost_in lists i ≤ cost_of (cost_at p) xs)
+        → IsPrefixOf (ranks xs) (node_at nodes j) → (i : ℕ) × (i < length stage.1) × (place_at places i ≡ j)
+        × (second_of lists i ≤ (latest_landing xs).1) × (cost_in lists i ≤ cost_of (cost_at p) xs)
     window_of j xs lt l of =
         let i = place_of_prefix xs l in
         let m = place_at places i.0 in
-        let other = window_prefix _ (windows.node_at stage.1 i.0) _ l.legal i.2
-        (g.window i.0 i.1) in
-        let same : m ≡ j = g.apart m j (g.within i.0 i.1) lt
-        (one_set _ _
+        let other = window_prefix _ (windows.node_at stage.1 i.0) _ l.legal i.2 (g.window i.0 i.1) in
+        let same : m ≡ j = g.apart m j (g.within i.0 i.1) lt (one_set _ _
         (λ x. (λ b. (of.placed x).1 ((other.placed x).0 b), λ b. (other.placed x).1 ((of.placed x).0 b))))
         (sym other.last ∙ of.last) in
         (i.0, i.1, same, i.3, i.4)

@@ -22,8 +22,7 @@ pub set_has : (b l : ℕ) → l < 64 → (x : ℕ) → HasBit (bit_or b (1 * 2 ^
 set_has b l few x = elim (cases_eq x l) [
   | inl e ↦ (
     λ _. inr e,
-    λ _. subst (λ (n : ℕ). bit_at (bit_or b (1 * 2 ^ l % 2 ^ 64)) n ≡ 1)
-        (sym e) (bit_at_set_same w64 b l few),
+    λ _. subst (λ (n : ℕ). bit_at (bit_or b (1 * 2 ^ l % 2 ^ 64)) n ≡ 1) (sym e) (bit_at_set_same w64 b l few),
   )
   | inr ne ↦
       let kept : bit_at (bit_or b (1 * 2 ^ l % 2 ^ 64)) x ≡ bit_at b x = bit_at_set_other w64 b l few x ne in
@@ -111,8 +110,7 @@ module _ (p : Problem) (rs : List ℕ) (legal : IsLegal p rs) (node after : Earl
       };
       due = λ a one at. elim (l.0.due a one (omega (arith, at, same))) [
         | inl e ↦ inl e
-        | inr i ↦
-            inr (back x.0 (ranks xs) o l.0.fits.is_new a i)
+        | inr i ↦ inr (back x.0 (ranks xs) o l.0.fits.is_new a i)
       ];
     },
     legal,
@@ -152,5 +150,4 @@ rank_of p stage node one r = go r.landings r.prefix.legal r.prefix.long r.of_nod
     go : (xs : List Landing) → IsLegal p (ranks xs) → length (ranks xs) ≡ stage → IsPrefixOf (ranks xs) node
         → (1 ≤ node.last) × (node.last ≤ length p.flights)
     go [] l long o = absurd (omega arith)
-    go (x ∷ xs) l long o = subst (λ n. (1 ≤ n) × (n ≤ length p.flights)) o.last
-        (l.0.fits.from_one, l.0.fits.to_count)
+    go (x ∷ xs) l long o = subst (λ n. (1 ≤ n) × (n ≤ length p.flights)) o.last (l.0.fits.from_one, l.0.fits.to_count)

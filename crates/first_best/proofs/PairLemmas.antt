@@ -79,12 +79,12 @@ in_reversed (x ∷ xs) q i = elim (in_append q (reverse xs) (x ∷ []) (subst (I
 pub reversed_in : (xs : List Pair) (q : Pair) → InPairs q xs → InPairs q (reverse xs)
 reversed_in [] q i = i
 reversed_in (x ∷ xs) q (inl e) = rw (reverse_front x xs) (in_right q _ (x ∷ []) (inl e))
-reversed_in (x ∷ xs) q (inr i) =
-    rw (reverse_front x xs) (in_left q _ (x ∷ []) (reversed_in xs q i))
+reversed_in (x ∷ xs) q (inr i) = rw (reverse_front x xs) (in_left q _ (x ∷ []) (reversed_in xs q i))
 
 pub falls_rises : (xs : List Pair) → Falls xs → Rises (reverse xs)
 falls_rises [] f = tt
-falls_rises (x ∷ xs) f = rw (reverse_front x xs) (rises_more _ x (falls_rises xs f.1) (λ o i. f.0 o (in_reversed xs o i)))
+falls_rises (x ∷ xs) f = rw (reverse_front x xs) (rises_more _ x (falls_rises xs f.1)
+    (λ o i. f.0 o (in_reversed xs o i)))
 
 -- ---- least costs
 
@@ -158,8 +158,7 @@ module _ (second : ℕ) where
   pub least_from : (xs : List Pair) → (o : Option ℕ) × IsLeastOf (IsCostFrom xs second) o
   least_from xs = (
     least,
-    least_same IsAt (IsCostFrom xs second) least (λ c. (to c, from c))
-        (least_of_list (0, 0) IsCostOf least_of_pair xs),
+    least_same IsAt (IsCostFrom xs second) least (λ c. (to c, from c)) (least_of_list (0, 0) IsCostOf least_of_pair xs),
   )
     where
       least : Option ℕ

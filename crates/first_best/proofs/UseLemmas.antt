@@ -50,9 +50,8 @@ module _ (p : Problem) (sound : SoundProblem (ranked p)) (rs : List ℕ) (r : �
   }
 
   -- where it lands behind one by a second, it may land behind each that is no later
-  lands_each : (b t : ℕ) → landing_after p (last_rank rs) b r ≡ Some t → (xs : List Landing)
-      → LandedIn (ranked p) xs → last_rank (ranks xs) ≡ last_rank rs → (latest_landing xs).1 ≤ b
-      → LandedIn (ranked p) ((r, t) ∷ xs)
+  lands_each : (b t : ℕ) → landing_after p (last_rank rs) b r ≡ Some t → (xs : List Landing) → LandedIn (ranked p) xs
+      → last_rank (ranks xs) ≡ last_rank rs → (latest_landing xs).1 ≤ b → LandedIn (ranked p) ((r, t) ∷ xs)
   lands_each b t lands xs landed last le =
       let f = (is_first_open p).found r (next_from (ranked p) (last_rank rs) b r) t lands in
       let from = le_trans ((next_later (ranked p)).mono (last_rank rs) (latest_landing xs).1 b r le) f.1 in

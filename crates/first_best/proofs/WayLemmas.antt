@@ -132,24 +132,14 @@ module _ (p : Problem) (stage : ℕ) (node : EarlyNode) (next : StageAhead) (way
       to : (c : ℕ) → (i : ℕ) × (i < length ways) × IsWayAt i c → IsEnd p stage node next second c
       to c (i, lt, w) = inr (
         short,
-        record {
-          place = slice_index_or ways i 0;
-          within = are.within i lt;
-          leads =
-              are.lead i lt;
-          way = w;
-        },
+        record { place = slice_index_or ways i 0; within = are.within i lt; leads = are.lead i lt; way = w },
       )
 
       from : (c : ℕ) → IsEnd p stage node next second c → (i : ℕ) × (i < length ways) × IsWayAt i c
       from c (inl h) = absurd (let e = h.0 in omega arith)
       from c (inr h) =
           let w = h.1 in
-          let a = are.every w.place w.within w.leads in (
-            a.0,
-            a.1,
-            rw a.2 w.way,
-          )
+          let a = are.every w.place w.within w.leads in (a.0, a.1, rw a.2 w.way)
 
 -- a pair of the node at an open second that the value allows
 pub end_pair : (p : Problem) (v stage : ℕ) (node : EarlyNode) (next : StageAhead) (second : ℕ)
@@ -166,9 +156,8 @@ pub not_before : (p : Problem) (last second rank : ℕ) → 1 ≤ last → secon
 not_before p zero second rank one = absurd (omega arith)
 not_before p (suc last) second rank one = omega arith
 
-pub way_late : (p : Problem) (node after : EarlyNode) (pairs : List Pair) (second cost most : ℕ)
-    → 1 ≤ node.last → IsWayTo p node after pairs second cost → ((q : Pair) → InPairs q pairs → q.0 ≤ most)
-    → second ≤ most
+pub way_late : (p : Problem) (node after : EarlyNode) (pairs : List Pair) (second cost most : ℕ) → 1 ≤ node.last
+    → IsWayTo p node after pairs second cost → ((q : Pair) → InPairs q pairs → q.0 ≤ most) → second ≤ most
 way_late p node after pairs second cost most one w late =
     let a = not_before p node.last second after.last one in
     let b = ((is_first_open p).found after.last (next_from (ranked p) node.last second after.last)
@@ -188,8 +177,7 @@ pairs_late p v stage node next ways most one short are late q h = go h.end
     go (inr e) =
         let w = e.1 in
         let a = are.every w.place w.within w.leads in
-        way_late p node _ _ q.0 q.1 most one w.way
-        (rw a.2 at (late a.0 a.1))
+        way_late p node _ _ q.0 q.1 most one w.way (rw a.2 at (late a.0 a.1))
 
 -- and none elsewhere
 pub not_allowed : (p : Problem) (v stage : ℕ) (node : EarlyNode) (next : StageAhead) (second : ℕ)

@@ -48,8 +48,7 @@ rising_ascends [] up i j lt within = absurd (omega arith)
 rising_ascends (x ∷ xs) up zero zero lt within = absurd (omega arith)
 rising_ascends (x ∷ xs) up zero (suc j) lt within = up.0 (node_at xs j) (member_at xs j [] (omega arith))
 rising_ascends (x ∷ xs) up (suc i) zero lt within = absurd (omega arith)
-rising_ascends (x ∷ xs) up (suc i) (suc j) lt within =
-    rising_ascends xs up.1 i j (omega arith) (omega arith)
+rising_ascends (x ∷ xs) up (suc i) (suc j) lt within = rising_ascends xs up.1 i j (omega arith) (omega arith)
 
 same_from_tie : (x y : List ℤ) → window_cmp x y ≡ Equal → x ≡ y
 same_from_tie x y e = (slice_eq-Decides Decides-int_eq x y (pointwise int_eq x y) refl).0 (window_ties x y ∙ ap is_eq e)
@@ -68,8 +67,7 @@ with_one z [] up = record {
   rising = (λ y m. absurd m, tt);
   old = λ y m. absurd m;
   new = inl refl;
-  only =
-      λ y m. m;
+  only = λ y m. m;
 }
 with_one z (x ∷ xs) up = go (with_one z xs up.1) (window_cmp z x) refl
   where
@@ -79,8 +77,7 @@ with_one z (x ∷ xs) up = go (with_one z xs up.1) (window_cmp z x) refl
       rising = (
         λ y m. elim m [
           | inl is ↦ subst (λ (w : List ℤ). window_cmp z w ≡ Less) (sym is) e
-          | inr k ↦
-              window_cmp_total.trans z x y e (up.0 y k)
+          | inr k ↦ window_cmp_total.trans z x y e (up.0 y k)
         ],
         up,
       );
@@ -93,8 +90,7 @@ with_one z (x ∷ xs) up = go (with_one z xs up.1) (window_cmp z x) refl
       rising = up;
       old = λ y m. m;
       new = inl (same_from_tie z x e);
-      only =
-          λ y m. inr m;
+      only = λ y m. inr m;
     }
     go rest Greater e =
         let low : window_cmp x z ≡ Less = window_cmp_total.antisymm x z ∙ ap ordering_reverse e in
@@ -102,8 +98,7 @@ with_one z (x ∷ xs) up = go (with_one z xs up.1) (window_cmp z x) refl
           list = x ∷ rest.list;
           rising = (
             λ y m. elim (rest.only y m) [
-              | inl is ↦ subst (λ (w : List ℤ). window_cmp x w ≡ Less)
-                  (sym is) low
+              | inl is ↦ subst (λ (w : List ℤ). window_cmp x w ≡ Less) (sym is) low
               | inr k ↦ up.0 y k
             ],
             rest.rising,
@@ -112,8 +107,7 @@ with_one z (x ∷ xs) up = go (with_one z xs up.1) (window_cmp z x) refl
           new = inr rest.new;
           only = λ y m. elim m [
             | inl is ↦ inr (inl is)
-            | inr k ↦
-                elim (rest.only y k) [ inl is ↦ inl is | inr l ↦ inr (inr l) ]
+            | inr k ↦ elim (rest.only y k) [ inl is ↦ inl is | inr l ↦ inr (inr l) ]
           ];
         }
 
@@ -136,8 +130,7 @@ module _ (P : List ℕ → Type 0) (decide : (rs : List ℕ) → Decided (P rs))
           list = more.list;
           rising = more.rising;
           each = λ rs m has. elim m [
-            | inl e ↦ subst (λ (q : List ℕ). Member (window q) more.list)
-                (sym e) more.new
+            | inl e ↦ subst (λ (q : List ℕ). Member (window q) more.list) (sym e) more.new
             | inr k ↦ more.old (window rs) (rest.each rs k has)
           ];
           only = λ y m. elim (more.only y m) [ inl e ↦ (os, is, e) | inr k ↦ rest.only y k ];
@@ -199,8 +192,7 @@ module _ (p : Problem) (wf : IsWellFormed p) (net : IsWindowNetwork p) where
   decide_before : (stage : ℕ) (rs : List ℕ) → Decided (LandsBefore stage rs)
   decide_before stage [] = inr (absurd)
   decide_before stage (r ∷ rs) =
-      with_decided (decide_legal _ (λ q x e. let b = wf.between_ranks q x e in (b.0, b.1)) (r ∷ rs))
-      (λ legal.
+      with_decided (decide_legal _ (λ q x e. let b = wf.between_ranks q x e in (b.0, b.1)) (r ∷ rs)) (λ legal.
       with_decided (decide_lands rs) (λ lands.
       with_decided (cases_eq _ stage) (λ long. inl (legal, lands, long)) (λ h. h.2)) (λ h. h.1)) (λ h. h.0)
 
@@ -218,14 +210,7 @@ module _ (p : Problem) (wf : IsWellFormed p) (net : IsWindowNetwork p) where
         window rs,
         (
           pair_of (cost_at p) lands.0,
-          record {
-            landings = lands.0;
-            legal = rw l.1 before.0;
-            landed =
-                l.0;
-            at = ap (node_of p.k) l.1;
-            is = refl;
-          },
+          record { landings = lands.0; legal = rw l.1 before.0; landed = l.0; at = ap (node_of p.k) l.1; is = refl },
         ),
         (r, before.1, ap (λ w. w.1) (net.pushes r rs before.0)),
       )

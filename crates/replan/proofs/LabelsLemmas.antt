@@ -45,8 +45,7 @@ module _ (p : Problem) (net : IsWindowNetwork p) (before : ℕ × List (List ℤ
 
   pub pair_given : (lists : List (List Pair)) → HoldsCosts p before lists → (j : ℕ) × (index : ℕ)
       × GivesPair p before lists node q j index
-  pair_given lists held = listed_given p net before lists held node q
-      (rw next_is at u)
+  pair_given lists held = listed_given p net before lists held node q (rw next_is at u)
 
   pub node_given : (lists : List (List Pair)) → HoldsCosts p before lists → (xs : List ℤ) × Contains before.1 xs
       × IsSuccessor p before.0 xs node

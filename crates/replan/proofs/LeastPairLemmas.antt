@@ -116,8 +116,7 @@ module _ (lists : List (List Pair)) (places firsts : List ℕ) (count : ℕ) (le
 -- ---- where all are written through a slice
 
 pub as_written : (part items : List Pair) (n : ℕ) → n ≡ length part → take n (part ++ drop (length part) items) ≡ part
-as_written part items n e = ap (λ m. take m (part ++ drop (length part) items)) e
-    ∙ take-append_seam part _
+as_written part items n e = ap (λ m. take m (part ++ drop (length part) items)) e ∙ take-append_seam part _
 
 -- ---- of a column, where nothing costs anything
 
@@ -139,9 +138,7 @@ module _ (column : List ℕ) (i : ℕ) (lt : i < length column) where
       → (extremes (list_at (column_pairs column) i)).0 ≡ slice_index column i
   column_second some =
       let is = list_of_label column i lt in
-      ap (λ qs. (extremes qs).0) is
-      ∙ second_of_label (nat_lt _ no_label) _
-      (rw is at some)
+      ap (λ qs. (extremes qs).0) is ∙ second_of_label (nat_lt _ no_label) _ (rw is at some)
 
 module _ (column : List ℕ) (nodes : WindowNodes) (h : HaveLeast (column_pairs column) nodes)
     (count : ℕ) (least : List Pair)

@@ -16,9 +16,8 @@ use Rattle.std.proofs.lemmas.Iterator.Consumers.{YieldsList-at}
 use denote.Ref.{Bor}
 use denote.Param.Members.{Mut, Called}
 
-counts_up : (p : Run nat_range_steps) (s : Range ℕ) (n : ℕ) → p.from ≡ s → p.whole ≡ true
-    → s ≡ record { start = 0; end = n }
-    → (p.len ≡ n) × ((k : ℕ) → k < n → p.at k ≡ Some k)
+counts_up : (p : Run nat_range_steps) (s : Range ℕ) (n : ℕ) → p.from ≡ s → p.whole ≡ true → s
+    ≡ record { start = 0; end = n } → (p.len ≡ n) × ((k : ℕ) → k < n → p.at k ≡ Some k)
 unfolding YieldsRun
 counts_up p s n from whole is =
     let gave = p.gave in

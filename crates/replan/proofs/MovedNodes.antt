@@ -39,8 +39,7 @@ one_moved w s t xs ys x y ls lt o =
     let ly = y.low (length ys - 1) (let l = y.len in omega arith) in
     let a : ℤ = offset_at xs _ in
     let b : ℤ = offset_at ys _ in
-    let same : pos s +ℤ a ≡ pos s +ℤ b =
-    same_abs _ _ (omega (arith, ints)) (omega (arith, ints)) o.last in
+    let same : pos s +ℤ a ≡ pos s +ℤ b = same_abs _ _ (omega (arith, ints)) (omega (arith, ints)) o.last in
     let offset : a ≡ b = omega (arith, ints) in
     record {
       placed = λ rank one. (

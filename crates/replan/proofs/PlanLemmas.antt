@@ -93,7 +93,8 @@ module _ (p : Problem) (is : IsPlannedFor p) (stage : ℕ × List (List ℤ)) (l
         has.0,
         omega arith,
         least_worth p.objective (list_at labels.lists has.0) are.falling
-            (λ makespan r i. attains_free p makespan stage.0 (node_at stage.1 has.0) r ((are.undominated r).0 i).attained)
+            (λ makespan r i. attains_free p makespan stage.0 (node_at stage.1 has.0) r
+            ((are.undominated r).0 i).attained)
             o.0 q o.1 o.2,
       )
 
@@ -166,8 +167,7 @@ module _ (p : Problem) (is : IsPlannedFor p) (stage : ℕ × List (List ℤ)) (l
           )
 
 in_reverse : (order : List ℕ) (k d : ℕ) → k < length order → In (get_or order k d) (reverse order)
-in_reverse order k d lt =
-    rw (front_whole order k d lt) (in_behind _ _ _)
+in_reverse order k d lt = rw (front_whole order k d lt) (in_behind _ _ _)
   where
     in_behind : (xs : List ℕ) (x : ℕ) (ys : List ℕ) → In x (xs ++ x ∷ ys)
     in_behind [] x ys = inl refl
@@ -181,8 +181,7 @@ module _ (p : Problem) (is : IsPlannedFor p) (order : List ℕ) (end : Pair) (wh
   pub order_is_whole : IsWholeOrder (length p.flights) order
   order_is_whole = record {
     whole = whole;
-    ranks = λ k d lt.
-        in_from_one (ranked p).rules (get_or order k d) (reverse order)
+    ranks = λ k d lt. in_from_one (ranked p).rules (get_or order k d) (reverse order)
         (legal_each_fits (ranked p).rules (reverse order) legal) (in_reverse order k d lt);
     distinct = each_fits_distinct (ranked p).rules (reverse order)
         (legal_each_fits (ranked p).rules (reverse order) legal);
@@ -199,11 +198,9 @@ module _ (p : Problem) (is : IsPlannedFor p) (order : List ℕ) (end : Pair) (wh
   order_lands =
       let distinct = order_is_whole.distinct in
       let same : at_seconds (of_rank 0 seconds) (reverse order) ≡ at_seconds (second_in lands.0) (reverse order) =
-      at_seconds_agree _ _ _
-      (λ r i. list_of_at _ _ r (in_order p order order_is_whole r i)) in
-      let back : at_seconds (second_in lands.0) (reverse order) ≡ lands.0 =
-      ap (at_seconds (second_in lands.0)) (sym lands.1)
-      ∙ at_second_in lands.0 (rw lands.1 distinct) in
+      at_seconds_agree _ _ _ (λ r i. list_of_at _ _ r (in_order p order order_is_whole r i)) in
+      let back : at_seconds (second_in lands.0) (reverse order) ≡ lands.0 = ap (at_seconds (second_in lands.0))
+      (sym lands.1) ∙ at_second_in lands.0 (rw lands.1 distinct) in
       trail_lands p is.table order seconds order_is_whole long (rw (same ∙ back) lands.3)
 
   -- they land last at the pair's second, and cost what it says

@@ -19,9 +19,8 @@ pub record IsReadAt (p : Problem) (held : Option HeldProblem) (i : ℕ) (x : Lab
   pub pairs : HoldsPairs p x.stage x.labels
   pub to_last : i ≤ length p.flights
 
-pub read_at : (w : ℕ) (p : Problem) (held : Option HeldProblem) (h : HeldProblem) (stages : List LabelledStage)
-    (i : ℕ) (x y : LabelledStage) → held ≡ Some h
-    → h.stages ≡ stages → x ≡ y → y ≡ get_or stages i y → IsReadable held i
+pub read_at : (w : ℕ) (p : Problem) (held : Option HeldProblem) (h : HeldProblem) (stages : List LabelledStage) (i : ℕ)
+    (x y : LabelledStage) → held ≡ Some h → h.stages ≡ stages → x ≡ y → y ≡ get_or stages i y → IsReadable held i
     → IsHeld w (record { problem = p; stages = stages }) → IsReadAt p held i x
 read_at w p held h stages i x y e f same at readable is =
     let both = read_held held h stages i x y e f same at readable in

@@ -40,8 +40,7 @@ no_landing [] e = refl
 no_landing (x ∷ xs) e = absurd (omega arith)
 
 pub start_only : (p : Problem) (v : List ℤ) → IsLandable p 0 v → node_of p.k [] ≡ (0, v)
-start_only p v l =
-    rw (no_landing l.1.landings (ap (λ n. n.0) l.1.at)) at l.1.at
+start_only p v l = rw (no_landing l.1.landings (ap (λ n. n.0) l.1.at)) at l.1.at
 
 start_attains : (p : Problem) → Attains p 0 (replicate (2 * p.k + 1) (pos 0)) (0, 0)
 start_attains p = record {
@@ -49,14 +48,12 @@ start_attains p = record {
   legal = tt;
   landed = tt;
   at = ap (λ (w : List ℤ). (0, w)) (source_is p);
-  is =
-      refl;
+  is = refl;
 }
 
 -- nothing but (0, 0) is attained there
 pub start_pair : (p : Problem) (v : List ℤ) (q : Pair) → Attains p 0 v q → (0, 0) ≡ q
-start_pair p v q a =
-    rw (no_landing a.landings (ap (λ n. n.0) a.at)) at a.is
+start_pair p v q a = rw (no_landing a.landings (ap (λ n. n.0) a.at)) at a.is
 
 pub start_costs : (p : Problem) → HoldsCosts p (0, replicate (2 * p.k + 1) (pos 0) ∷ []) (((0, 0) ∷ []) ∷ [])
 start_costs p = record {
@@ -92,10 +89,9 @@ begins p w stage labels o odd e f g = rw (f, e, odd) (record { objective = sym g
 -- ---- one stage more
 
 -- where it is said to be whole, its windows are all that extend the last of the others
-pub one_more : (p : Problem) (stages after : List LabelledStage) (next : LabelledStage) → AreStages p stages
-    → after ≡ stages ++ next ∷ []
-    → next.stage.0 ≡ length stages → IsAscending next.stage.1 → HoldsPairs p next.stage next.labels
-    → ((last : ℕ) → last + 1 ≡ length stages → IsTrue next.is_whole
+pub one_more : (p : Problem) (stages after : List LabelledStage) (next : LabelledStage) → AreStages p stages → after
+    ≡ stages ++ next ∷ [] → next.stage.0 ≡ length stages → IsAscending next.stage.1
+    → HoldsPairs p next.stage next.labels → ((last : ℕ) → last + 1 ≡ length stages → IsTrue next.is_whole
     → IsNextOf p last (stage_at stages last).stage.1 next.stage.1) → AreStages p after
 one_more p stages after next is e number ascending held whole = rw e (record {
   number = each_pushed (λ i s. s.stage.0 ≡ i) stages next no_stage is.number number;
@@ -167,10 +163,9 @@ module _ (first many : ℕ) (p : Problem) (some : 0 < many) (le : first ≤ many
         rest) has)
   ]
 
-  pub due_joined : (n : ℕ) (o r s : Option ℕ) → many ≤ n + 1
-      → (due : ℕ) × HasCandidatesFrom first p (many - 1) due × (r ≡ raised_by due o)
-      → (due : ℕ) × HasCandidatesFrom many p n due × (s ≡ raised_by due r)
-      → (due : ℕ) × HasCandidatesFrom first p n due × (s ≡ raised_by due o)
+  pub due_joined : (n : ℕ) (o r s : Option ℕ) → many ≤ n + 1 → (due : ℕ) × HasCandidatesFrom first p (many - 1) due
+      × (r ≡ raised_by due o) → (due : ℕ) × HasCandidatesFrom many p n due × (s ≡ raised_by due r) → (due : ℕ)
+      × HasCandidatesFrom first p n due × (s ≡ raised_by due o)
   due_joined n o r s within (a, early, e) (b, late, f) =
       (a + b, joined n a b within early late, f ∙ ap (raised_by b) e ∙ raised_more o a b)
 
@@ -180,15 +175,13 @@ pub read_stage : (stages : List LabelledStage) (i : ℕ) (x y : LabelledStage) �
     → i < length stages → x ≡ stage_at stages i
 read_stage stages i x y same e lt = same ∙ e ∙ get_or_default stages i y no_stage lt
 
-pub held_at : (p : Problem) (stages : List LabelledStage) → AreStages p stages → (i : ℕ) (x : LabelledStage)
-    → x ≡ stage_at stages i → i < length stages
-    → HoldsPairs p x.stage x.labels × (x.stage.0 ≡ i)
+pub held_at : (p : Problem) (stages : List LabelledStage) → AreStages p stages → (i : ℕ) (x : LabelledStage) → x
+    ≡ stage_at stages i → i < length stages → HoldsPairs p x.stage x.labels × (x.stage.0 ≡ i)
 held_at p stages is i x e lt = rw e (is.held i lt, is.number i lt)
 
-pub read_held : (held : Option HeldProblem) (h : HeldProblem) (stages : List LabelledStage)
-    (i : ℕ) (x y : LabelledStage) → held ≡ Some h
-    → h.stages ≡ stages → x ≡ y → y ≡ get_or stages i y → IsReadable held i → (x.stage ≡ stage_in held i)
-    × (x.labels.lists ≡ lists_in held i)
+pub read_held : (held : Option HeldProblem) (h : HeldProblem) (stages : List LabelledStage) (i : ℕ)
+    (x y : LabelledStage) → held ≡ Some h → h.stages ≡ stages → x ≡ y → y ≡ get_or stages i y → IsReadable held i
+    → (x.stage ≡ stage_in held i) × (x.labels.lists ≡ lists_in held i)
 read_held held h stages i x y e f same at (some, most) =
     let low : i ≤ length stages - 1 = rw (e, f) at most in
     let is = read_stage stages i x y same at (omega arith) in
@@ -215,17 +208,15 @@ last_read p stages holds whole n last read same f e =
       one_each = h.0.held.costs.one_each ∙ ap (λ s. length s.stage.1) at;
       number = h.1 ∙ same;
       held = h.0;
-      some = λ i inside. list_some p last.stage _ h.0.held i
-          (omega arith);
+      some = λ i inside. list_some p last.stage _ h.0.held i (omega arith);
     }
 
 -- ---- the stage after the last
 
 -- the last two stages, where the last one is whole
 pub whole_at : (p : Problem) (stages : List LabelledStage) → AreStages p stages
-    → (i last : ℕ) (earlier before : LabelledStage) → last < length stages → i ≡ last - 1
-    → earlier ≡ stage_at stages i → before ≡ stage_at stages last
-    → IsTrue before.is_whole → earlier.stage.0 < before.stage.0
+    → (i last : ℕ) (earlier before : LabelledStage) → last < length stages → i ≡ last - 1 → earlier ≡ stage_at stages i
+    → before ≡ stage_at stages last → IsTrue before.is_whole → earlier.stage.0 < before.stage.0
     → IsNextOf p earlier.stage.0 earlier.stage.1 before.stage.1
 whole_at p stages is i last earlier before n back e f whole lt =
     let here = (held_at p stages is last before f n).1 in
@@ -267,18 +258,11 @@ module _ (p q : Problem) (w : ℕ) (odd : w ≡ 2 * p.k + 1) (laws : WindowLaws 
               let kept = early common.0 is.within agree _ (let n =
               holds.number i here in omega arith) in
               rw (get_or-take count stages i no_stage at)
-              (record {
-                objective = was.objective ∙ agree.head.objective;
-                held =
-                    kept_costs p q _ _ kept was.held;
-              });
+              (record { objective = was.objective ∙ agree.head.objective; held = kept_costs p q _ _ kept was.held });
           whole = λ i some lt said.
               let at : i < count = omega (arith, lt, long) in
-              rw (get_or-take count stages i no_stage at, get_or-take count stages (i - 1) no_stage (omega arith))
-              (
-              kept_next p q common.0 is.within agree bp bq w odd (i - 1) _
-              _ (omega arith)
-              (valid (i - 1) (omega arith))
+              rw (get_or-take count stages i no_stage at, get_or-take count stages (i - 1) no_stage (omega arith)) (
+              kept_next p q common.0 is.within agree bp bq w odd (i - 1) _ _ (omega arith) (valid (i - 1) (omega arith))
               (holds.whole i some (omega arith) (rw (get_or-take count stages i no_stage at) at said)));
         }
 
@@ -294,5 +278,4 @@ fits_in_common p q count (d, is, e) = let a = is.within.1 in omega arith
 -- what is due are the stages that follow
 pub due_after_common : (p q : Problem) (count first : ℕ) → AreInCommon p q count → count ≤ first
     → (1 < first → first ≤ count) → IsDueFrom (Some p) q first
-due_after_common p q count first (d, is, e) low high =
-    due_with_held p q d first is (omega arith) (λ more. omega arith)
+due_after_common p q count first (d, is, e) low high = due_with_held p q d first is (omega arith) (λ more. omega arith)

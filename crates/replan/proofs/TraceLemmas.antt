@@ -48,9 +48,8 @@ completes_pair_start p stage window q xs is = (xs, refl, is.legal, is.landed, is
 
 -- one source back
 completes_pair_more : (p : Problem) → IsWindowNetwork p
-    → (before : ℕ × List (List ℤ)) (lists : List (List Pair)) (v : List ℤ) (q : Pair) (j index : ℕ)
-    (end : Pair) (order : List ℕ)
-    → (source : GivesPair p before lists v q j index) → CompletesWith p (suc before.0) v q order end
+    → (before : ℕ × List (List ℤ)) (lists : List (List Pair)) (v : List ℤ) (q : Pair) (j index : ℕ) (end : Pair)
+    (order : List ℕ) → (source : GivesPair p before lists v q j index) → CompletesWith p (suc before.0) v q order end
     → CompletesWith p before.0 (node_at before.1 j) (pair_at (list_at lists j) index) (order ++ source.rank ∷ []) end
 completes_pair_more p net before lists v q j index end order source rest xs is =
     let may : permits p (node_of p.k (ranks xs)) source.rank =
@@ -120,11 +119,9 @@ pub record StepReads (p : Problem) (stages : List LabelledStage) (stage place in
 
 pub step_reads : (p : Problem) (stages : List LabelledStage) → AreStages p stages → length stages ≡ length p.flights + 1
     → (stage next place index : ℕ) (before read after read' : LabelledStage) → 0 < stage → stage ≤ length p.flights
-    → next ≡ stage
-    → before ≡ read → read ≡ get_or stages (stage - 1) read → after ≡ read' → read' ≡ get_or stages next read'
-    → place < length (stage_at stages stage).stage.1
-    → index < length (list_at (stage_at stages stage).labels.lists place)
-    → StepReads p stages stage place index before after
+    → next ≡ stage → before ≡ read → read ≡ get_or stages (stage - 1) read → after ≡ read' → read'
+    ≡ get_or stages next read' → place < length (stage_at stages stage).stage.1 → index
+    < length (list_at (stage_at stages stage).labels.lists place) → StepReads p stages stage place index before after
 step_reads p stages holds whole stage next place index before read after read' some low same eb fb ea fa lt listed =
     let here : next < length stages = omega arith in
     let back : stage - 1 < length stages = omega arith in
@@ -159,15 +156,13 @@ back_pair p net stages stage place index j k r end order before after v q reads 
     let es : stage ≡ suc before.stage.0 = reads.one_back ∙ ap suc (sym reads.number) in
     let a : CompletesWith p (suc before.stage.0) v q (reverse (drop (suc s) order)) end =
     rw (ev, eq, reads.after_is, ← es, ← reads.one_back) rest in
-    let b = completes_pair_more p net before.stage _ v q j k end
-    _ source a in
+    let b = completes_pair_more p net before.stage _ v q j k end _ source a in
     rw (← written order s r lt, ← rank_is, ← reads.before_is) (rw reads.number at b)
 
 -- a listed pair is undominated
-pub listed_undominated : (p : Problem) (before after : ℕ × List (List ℤ)) (more : List (List Pair))
-    (v : List ℤ) (q : Pair) (place index : ℕ) → HoldsCosts p after more
-    → after.0 ≡ suc before.0 → place < length after.1 → v ≡ node_at after.1 place → index < length (list_at more place)
-    → q ≡ pair_at (list_at more place) index
+pub listed_undominated : (p : Problem) (before after : ℕ × List (List ℤ)) (more : List (List Pair)) (v : List ℤ)
+    (q : Pair) (place index : ℕ) → HoldsCosts p after more → after.0 ≡ suc before.0 → place < length after.1 → v
+    ≡ node_at after.1 place → index < length (list_at more place) → q ≡ pair_at (list_at more place) index
     → Undominated (Attains p (before.0 + 1) v) q
 listed_undominated p before after more v q place index above number lt at listed is =
     let has : InPairs q (list_at more place) = at_in _ index q listed (sym is) in
@@ -178,9 +173,8 @@ listed_undominated p before after more v q place index above number lt at listed
 
 pub last_given : (p : Problem) (w : ℕ) → w ≡ 2 * p.k + 1 → WindowLaws p w
     → (before : ℕ × List (List ℤ)) (lists : List (List Pair)) (v : List ℤ) (q : Pair) (j k : ℕ)
-    → HoldsCosts p before lists
-    → (source : GivesPair p before lists v q j k) → (pos (suc before.0) +ℤ offset_at v (w - 1) ≡ pos source.rank)
-    × (source.rank ≤ length p.flights)
+    → HoldsCosts p before lists → (source : GivesPair p before lists v q j k)
+    → (pos (suc before.0) +ℤ offset_at v (w - 1) ≡ pos source.rank) × (source.rank ≤ length p.flights)
 last_given p w odd laws before lists v q j k held source =
     let l : IsLandable p before.0 (node_at before.1 j) =
     (held.landable (node_at before.1 j)).0 (Contains-get_or before.1 j [] source.within) in (
@@ -190,9 +184,8 @@ last_given p w odd laws before lists v q j k held source =
     )
 
 pub trace_end : (p : Problem) (stages : List LabelledStage) → AreStages p stages
-    → (stage place index : ℕ) (end : Pair) (order : List ℕ) → stage ≡ 0 → 0 < length stages
-    → place < length (stage_at stages stage).stage.1
-    → index < length (list_at (stage_at stages stage).labels.lists place)
+    → (stage place index : ℕ) (end : Pair) (order : List ℕ) → stage ≡ 0 → 0 < length stages → place
+    < length (stage_at stages stage).stage.1 → index < length (list_at (stage_at stages stage).labels.lists place)
     → Traced p stages stage place index order end → LandsWithPair p order end
 trace_end p stages is stage place index end order none some lt listed rest =
     let start = stage_at stages 0 in
@@ -207,8 +200,7 @@ trace_end p stages is stage place index end order none some lt listed rest =
     let u = ((h.costs.pairs place lt').undominated (pair_in start place index)).0
     (at_in _ index (pair_in start place index) listed' refl) in
     let a : Attains p 0 (window_in start place) (pair_in start place index) = rw number at u.attained in
-    completes_pair_all p _ order (pair_in start place index) end at
-    (start_pair p _ (pair_in start place index) a) rest'
+    completes_pair_all p _ order (pair_in start place index) end at (start_pair p _ (pair_in start place index) a) rest'
 
 -- before the first step back
 pub trace_begins : (p : Problem) (stages : List LabelledStage) (n stage place index : ℕ) (order : List ℕ)
@@ -219,11 +211,4 @@ pub trace_begins : (p : Problem) (stages : List LabelledStage) (n stage place in
     × (index < length (list_at (stage_at stages stage).labels.lists place))
     × Traced p stages stage place index order (last_pair (list_at (stage_at stages n).labels.lists place))
 trace_begins p stages n stage place index order same few room within listed last =
-    rw same (
-      few,
-      room,
-      within,
-      listed,
-      rw (drop_all n order (omega arith), last)
-          (completes_pair_start p n _ _),
-    )
+    rw same (few, room, within, listed, rw (drop_all n order (omega arith), last) (completes_pair_start p n _ _))

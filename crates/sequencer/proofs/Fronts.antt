@@ -57,7 +57,7 @@ apart_frozen (x ∷ xs) apart =
     first : (j : ℕ) (d : Landing) → j < length (frozen_of xs)
         → x.flight.callsign ≡ (get_or (frozen_of xs) j d).flight.callsign → ⊥
     first j d within e =
-        let r = in_frozen xs (get_or (frozen_of xs) j d) (member_at (frozen_of xs) j d within) in
+        let r = in_frozen xs _ (member_at (frozen_of xs) j d within) in
         let c = member_contains xs r.0 r.2 in
         let l = c.1 in
         apart 0 (suc c.0) r.0 (omega arith) (omega arith) (e ∙ ap (λ f. f.flight.callsign) r.4
@@ -76,8 +76,8 @@ apart_frozen (x ∷ xs) apart =
 pub seconds_apart : (s : Situation) → IsSound s → (i j : ℕ) (d : Landing) → i < j → j < length (frozen_landings s)
     → (get_or (frozen_landings s) i d).second ≡ (get_or (frozen_landings s) j d).second → ⊥
 seconds_apart s sound i j d lt within same =
-    let f : Landing = get_or (frozen_landings s) i d in
-    let g : Landing = get_or (frozen_landings s) j d in
+    let f : Landing = get_or _ i d in
+    let g : Landing = get_or _ j d in
     let apart : f.second + separation s.aerodrome.table f.flight.category g.flight.category ≤ g.second =
     sound.frozen_separated i d (omega arith) j d (omega arith)
     (apart_frozen s.active sound.callsigns i j d lt (omega arith)) (omega arith) in
@@ -87,17 +87,16 @@ seconds_apart s sound i j d lt within same =
 pub frozen_in_order : (s : Situation) → IsSound s → (sorted : List ShownLanding)
     → IsPermutation (map shown_landing (frozen_landings s)) sorted → Climbs second sorted → sorted ≡ frozen_shown s
 frozen_in_order s sound sorted permuted climbs =
-    one_order second (map shown_landing fs) sorted (frozen_shown s)
-    (once (map second (map shown_landing fs)) differ) permuted
-    (IsPermutation-map shown_landing fs (in_landing_order fs) (order_permutes fs)) climbs
+    one_order second (map shown_landing fs) sorted (frozen_shown s) (once (map second (map shown_landing fs)) differ)
+    permuted (IsPermutation-map shown_landing fs (in_landing_order fs) (order_permutes fs)) climbs
     (climbs_map shown_landing second (in_landing_order fs) (order_rises fs))
   where
     fs : List Landing
     fs = frozen_landings s
 
     at : (k : ℕ) (d : Landing) → k < length fs → get_or (map second (map shown_landing fs)) k 0 ≡ (get_or fs k d).second
-    at k d lt = let n = length-map fs shown_landing in get_or-map second (map shown_landing fs) k
-        (shown_landing d) 0 (omega arith) ∙ ap second (get_or-map shown_landing fs k d (shown_landing d) lt)
+    at k d lt = let n = length-map fs shown_landing in get_or-map second _ k
+        (shown_landing d) 0 (omega arith) ∙ ap second (get_or-map shown_landing fs k d _ lt)
 
     differ : (i j : ℕ) → i < j → j < length (map second (map shown_landing fs))
         → get_or (map second (map shown_landing fs)) i 0 ≡ get_or (map second (map shown_landing fs)) j 0 → ⊥
@@ -132,9 +131,8 @@ kept_landings h (x ∷ xs) (t ∷ ts) e keeps =
     go x.frozen (All-head (IsFrozenKept h) (landing x t) (landings xs ts) keeps)
     (kept_landings h xs ts (omega arith) (All-tail (IsFrozenKept h) (landing x t) (landings xs ts) keeps))
   where
-    go : (o : Option ℕ) → MatchOption o (h ≤ t) (λ u. t ≡ u)
-        → filter (λ f. not (waits f)) (landings xs ts) ≡ frozen_of xs →
-        cond (not (is_none o)) (landing x t ∷ filter (λ f. not (waits f)) (landings xs ts))
+    go : (o : Option ℕ) → MatchOption o (h ≤ t) (λ u. t ≡ u) → filter (λ f. not (waits f)) (landings xs ts)
+        ≡ frozen_of xs → cond (not (is_none o)) (landing x t ∷ filter (λ f. not (waits f)) (landings xs ts))
         (filter (λ f. not (waits f)) (landings xs ts)) ≡ cons_option (option_map (landing x) o) (frozen_of xs)
     go None k ih = ih
     go (Some u) k ih = ap₂ (λ f fs. f ∷ fs) (ap (landing x) k) ih
@@ -156,15 +154,13 @@ module _ (s : Situation) (t : Schedule) (sound : IsSound s) (keeps : IsFeasible 
   before_waiting : (waiting : List ShownLanding) → IsPermutation (map shown_landing (filter waits all)) waiting
       → (x y : ShownLanding) → Member x (frozen_shown s) → Member y waiting → x.second ≤ y.second
   before_waiting waiting p x y m n =
-      let r = in_map shown_landing (in_landing_order (frozen_landings s)) x m in
-      let early = all_at (λ f. f.second < horizon s) (frozen_landings s) sound.frozen_before r.0
-      (order_member r.0 (frozen_landings s) r.1) in
-      let q = in_map shown_landing (filter waits all) y
-      (member_permutation waiting (map shown_landing (filter waits all)) y
-      (IsPermutation-sym (map shown_landing (filter waits all)) waiting p) n) in
+      let r = in_map shown_landing _ x m in
+      let early = all_at (λ f. f.second < horizon s) _ sound.frozen_before r.0 (order_member r.0 _ r.1) in
+      let q = in_map shown_landing _ y (member_permutation waiting _ y
+      (IsPermutation-sym (map shown_landing _) waiting p) n) in
       let w = in_filter waits all q.0 q.1 in
-      let late : horizon s ≤ q.0.second =
-      late_of q.0.frozen q.0.second w.1 (all_at (IsFrozenKept (horizon s)) all keeps.1.frozen_kept q.0 w.0) in
+      let late : horizon s ≤ q.0.second = late_of q.0.frozen q.0.second w.1
+      (all_at (IsFrozenKept (horizon s)) all keeps.1.frozen_kept q.0 w.0) in
       let a : x.second ≡ r.0.second = ap second r.2 in
       omega (arith, ap second q.2)
     where
@@ -183,25 +179,26 @@ module _ (s : Situation) (t : Schedule) (sound : IsSound s) (keeps : IsFeasible 
       IsPermutation-filter_both (λ f. not (waits f)) waits (λ f. sym (not-not (waits f))) all in
       let shown : IsPermutation (map shown_landing all) (map shown_landing fs ++ map shown_landing (filter waits all)) =
       rw (ap (λ fs. map shown_landing (fs ++ filter waits all)) held
-      ∙ map-append shown_landing fs (filter waits all)) at (IsPermutation-map shown_landing all (filter (λ f. not (waits f)) all ++ filter waits all) parts) in
+      ∙ map-append shown_landing fs _) at (IsPermutation-map shown_landing all
+      (filter (λ f. not (waits f)) all ++ filter waits all) parts) in
       let each : IsPermutation (map shown_landing fs ++ map shown_landing (filter waits all))
       (frozen_shown s ++ waiting) =
-      IsPermutation-append (map shown_landing fs) (frozen_shown s) (map shown_landing (filter waits all)) waiting
+      IsPermutation-append (map shown_landing fs) (frozen_shown s) (map shown_landing _) waiting
       (IsPermutation-map shown_landing fs (in_landing_order fs) (order_permutes fs)) p in
-      in_order s t sound keeps (map shown_landing all) (frozen_shown s ++ waiting) refl
-      (IsPermutation-trans (map shown_landing all) (map shown_landing fs ++ map shown_landing (filter waits all))
+      in_order s t sound keeps _ _ refl
+      (IsPermutation-trans (map shown_landing all) (map shown_landing fs ++ map shown_landing _)
       (frozen_shown s ++ waiting) shown each)
-      (climbs_append second (frozen_shown s) waiting
-      (climbs_map shown_landing second (in_landing_order fs) (order_rises fs)) climbs (before_waiting waiting p))
+      (climbs_append second _ waiting
+      (climbs_map shown_landing second _ (order_rises fs)) climbs (before_waiting waiting p))
 
   -- its first landings are the frozen ones
   front_is : take (length (frozen_shown s)) (shown_plan s t).landings ≡ frozen_shown s
   front_is =
       let ws = filter waits all in
-      let behind = map shown_landing (in_landing_order ws) in
+      let behind = map shown_landing _ in
       let whole = front_first behind (IsPermutation-map shown_landing ws (in_landing_order ws) (order_permutes ws))
-      (climbs_map shown_landing second (in_landing_order ws) (order_rises ws)) in
-      ap (take (length (frozen_shown s))) (sym whole) ∙ take-append_seam (frozen_shown s) behind
+      (climbs_map shown_landing second _ (order_rises ws)) in
+      ap (take (length (frozen_shown s))) (sym whole) ∙ take-append_seam _ behind
 
 -- how many they are
 pub frozen_count : (s : Situation) → length (frozen_shown s) + length (waiting s) ≡ length s.active
@@ -258,7 +255,7 @@ waiting_shown s u sound e =
     ap (filter waits) (landings_of f s.active) ∙ waiting_landings f s.active in
     let there : map (λ a. landing a (f a)) R ≡ landings R u =
     sym (landings_of f R) ∙ ap (landings R) (ranked_seconds s u sound.callsigns e) in
-    rw here (rw there at (IsPermutation-map shown_landing (map (λ a. landing a (f a)) (waiting s)) (map (λ a. landing a (f a)) R)
+    rw here (rw there at (IsPermutation-map shown_landing (map (λ a. landing a (f a)) _) (map (λ a. landing a (f a)) R)
     (IsPermutation-map (λ a. landing a (f a)) (waiting s) R (rank_permutes (waiting s)))))
 
 -- ---- no event but a clock moves a frozen landing
@@ -290,7 +287,7 @@ frozen_cancelled c (x ∷ xs) h = go (named c x) refl (frozen_cancelled c xs (λ
         → frozen_of (cond (not b) (x ∷ filter (λ a. not (named c a)) xs) (filter (λ a. not (named c a)) xs)) ≡ frozen_of
         (x ∷ xs)
     go true e ih = ih ∙ sym (ap (λ o. cons_option (option_map (landing x) o) (frozen_of xs)) (h x (inl refl) e))
-    go false e ih = ap (cons_option (option_map (landing x) x.frozen)) ih
+    go false e ih = ap (cons_option (option_map _ x.frozen)) ih
 
 -- ---- a landing, frozen where it stands
 
@@ -306,14 +303,13 @@ there_still : (fs : List Landing) → ((f : Landing) → Member f fs → waits f
 there_still [] h = refl
 there_still (f ∷ fs) h = ap₂ (λ l ls. l ∷ ls)
     (ap (λ b. (let l : ShownLanding = record { callsign = f.flight.callsign; second = f.second; frozen = b } in l))
-    (sym (ap not (h f (inl refl)))))
-    (there_still fs (λ g m. h g (inr m)))
+    (sym (ap not (h f (inl refl))))) (there_still fs (λ g m. h g (inr m)))
 
 frozen_still : (s : Situation) → map frozen_there (frozen_shown s) ≡ frozen_shown s
-frozen_still s = there_still (in_landing_order (frozen_landings s)) stands
+frozen_still s = there_still _ stands
   where
     stands : (f : Landing) → Member f (in_landing_order (frozen_landings s)) → waits f ≡ false
-    stands f m = let r = in_frozen s.active f (order_member f (frozen_landings s) m) in
+    stands f m = let r = in_frozen s.active f (order_member f _ m) in
         ap (λ g. waits g) r.4 ∙ ap is_none r.3
 
 begins : (s : Situation) (t : Schedule) → IsSound s → IsFeasible s t → BeginsWithFrozen s (shown_plan s t)
@@ -336,15 +332,14 @@ module _ (g : Landing → Landing) (same : (f : Landing) → (g f).second ≡ f.
 
   order_map : (fs : List Landing) → in_landing_order (map g fs) ≡ map g (in_landing_order fs)
   order_map [] = refl
-  order_map (f ∷ fs) = ap (insert_landing (g f)) (order_map fs) ∙ insert_map f (in_landing_order fs)
+  order_map (f ∷ fs) = ap (insert_landing (g f)) (order_map fs) ∙ insert_map f _
 
   there_map : ((f : Landing) → (g f).flight.callsign ≡ f.flight.callsign) → (fs : List Landing)
       → map frozen_there (map shown_landing (map g fs)) ≡ map frozen_there (map shown_landing fs)
   there_map names [] = refl
   there_map names (f ∷ fs) = ap₂ (λ l ls. l ∷ ls)
       (ap₂ (λ c n. (let l : ShownLanding = record { callsign = c; second = n; frozen = true } in l))
-      (names f) (same f))
-      (there_map names fs)
+      (names f) (same f)) (there_map names fs)
 
 landings_after : (g : Landing → Active) (xs : List Active) (ts : Schedule)
     → landings (map g (landings xs ts)) ts ≡ map (λ f. landing (g f) f.second) (landings xs ts)
@@ -392,8 +387,7 @@ clock_begins law s t now sound keeps ok next_sound =
 -- no other event moves a frozen landing, or freezes one more
 still : (s next : Situation) (t : Schedule) → frozen_landings next ≡ frozen_landings s
     → BeginsWithFrozen s (shown_plan s t) → BeginsWithFrozen next (shown_plan s t)
-still s next t same h =
-    rw same h
+still s next t same h = rw same h
 
 -- the plan shown begins with the frozen landings of the next situation
 pub next_begins : ClockKeepsPlanLaw → (s : Situation) (t : Schedule) (e : Event) → IsSound s
@@ -407,7 +401,7 @@ next_begins law s t (Cancel c) sound keeps ok next = still s
     (frozen_cancelled c s.active (named_waits s c sound ok)) (begins s t sound keeps)
 next_begins law s t (Add f) sound keeps ok next =
     still s (record s { active = s.active ++ newcomer f ∷ [] }) t
-    (filter_map-append (λ a. option_map (landing a) a.frozen) s.active (newcomer f ∷ [])
+    (filter_map-append (λ a. option_map _ a.frozen) s.active (newcomer f ∷ [])
     ∙ append-nil (frozen_landings s)) (begins s t sound keeps)
 next_begins law s t (Clock now) sound keeps ok next = clock_begins law s t now sound keeps ok next
 next_begins law s t e sound keeps ok next = begins s t sound keeps

@@ -57,7 +57,7 @@ last_inserted f (g ∷ h ∷ rest) c = go (nat_lt g.second f.second) refl (last_
     go true e ih = last_behind g f (h ∷ rest) ∙ ih
     go false e ih =
         let le = ltb-false g.second f.second e in
-        sym (behind f.flight.category f.second h rest (λ y m. omega (arith, c.0 y m)))
+        sym (behind _ f.second h rest (λ y m. omega (arith, c.0 y m)))
 
 pub last_is : (xs : List Active) → latest xs ≡ last_of (in_landing_order (frozen_of xs))
 last_is [] = refl
@@ -67,8 +67,7 @@ last_is (x ∷ xs) = go x.frozen (last_is xs)
         → later_at x.flight.category o (latest xs) ≡ last_of
         (in_landing_order (cons_option (option_map (landing x) o) (frozen_of xs)))
     go None ih = ih
-    go (Some t) ih = ap (later_at x.flight.category (Some t)) ih
-        ∙ sym (last_inserted (landing x t) (in_landing_order (frozen_of xs)) (order_rises (frozen_of xs)))
+    go (Some t) ih = ap (later_at _ (Some t)) ih ∙ sym (last_inserted _ _ (order_rises (frozen_of xs)))
 
 abbrev IsLow : ℕ → Option (ℕ × Category) → Type 0
 IsLow h o = MatchOption o ⊤ (λ l. l.0 < h)
@@ -90,8 +89,7 @@ latest_low h (x ∷ xs) all = go x.frozen (latest_low h xs) all
         → All (λ (f : Landing). f.second < h) (cons_option (option_map (landing x) o) (frozen_of xs))
         → IsLow h (later_at x.flight.category o (latest xs))
     go None ih all = ih all
-    go (Some t) ih all = later_low h x.flight.category t (latest xs)
-        (All-head (λ f. f.second < h) (landing x t) (frozen_of xs) all)
+    go (Some t) ih all = later_low h _ t (latest xs) (All-head (λ f. f.second < h) (landing x t) (frozen_of xs) all)
         (ih (All-tail (λ f. f.second < h) (landing x t) (frozen_of xs) all))
 
 pub last_low : (h : ℕ) (xs : List Active) → All (λ (f : Landing). f.second < h) (frozen_of xs)
@@ -130,7 +128,7 @@ small_delays closures (x ∷ xs) good shown =
     go None e ih shown = All-cons HasSmallDelay x xs (at None e tt) (ih shown)
     go (Some t) e ih shown =
         let first = All-head (IsOpenLanding closures) (landing x t) (frozen_of xs) shown in
-        All-cons HasSmallDelay x xs (at (Some t) e (open_in_days x.flight.windows closures t here.windows.spans first))
+        All-cons HasSmallDelay x xs (at (Some t) e (open_in_days _ closures t here.windows.spans first))
         (ih (All-tail (IsOpenLanding closures) (landing x t) (frozen_of xs) shown))
 
 -- of one flight at most 100 times each second of the two days, and nothing where it waits
@@ -143,7 +141,8 @@ one_low a h = go a.frozen h.second
     go (Some t) m =
         let d : ℕ = t - a.flight.eta in
         let x : a.flight.weight * d ≤ 100 * d = mul-le-mul_right d h.weight in
-        omega (arith, omega arith)
+        let y : 100 * d ≤ 17279900 = omega arith in
+        omega arith
 
 all_low : (xs : List Active) → All HasSmallDelay xs
     → sum_by delay_of xs + 17279900 * length (filter is_waiting xs) ≤ 17279900 * length xs
@@ -151,10 +150,9 @@ all_low [] h = omega arith
 all_low (x ∷ xs) h = go (is_waiting x) (one_low x (All-head HasSmallDelay x xs h))
     (all_low xs (All-tail HasSmallDelay x xs h))
   where
-    go : (b : Bool) → delay_of x + 17279900 * cond {A = ℕ} b 1 0 ≤ 17279900
-        → sum_by delay_of xs + 17279900 * length (filter is_waiting xs) ≤ 17279900 * length xs →
-        sum_by delay_of (x ∷ xs) + 17279900 * length (cond b (x ∷ filter is_waiting xs) (filter is_waiting xs))
-        ≤ 17279900 * length (x ∷ xs)
+    go : (b : Bool) → delay_of x + 17279900 * cond {A = ℕ} b 1 0 ≤ 17279900 → sum_by delay_of xs + 17279900
+        * length (filter is_waiting xs) ≤ 17279900 * length xs → sum_by delay_of (x ∷ xs) + 17279900
+        * length (cond b (x ∷ filter is_waiting xs) (filter is_waiting xs)) ≤ 17279900 * length (x ∷ xs)
     go true one ih = omega (arith, sum_by-cons delay_of x xs)
     go false one ih = omega (arith, sum_by-cons delay_of x xs)
 

@@ -37,8 +37,7 @@ counts : (f : Flight) (l : List Active) → count_by (λ p. is_lt (first_come_cm
     (map arrival_of l) ≡ count_by (λ g. is_lt (arrival_cmp g f)) (map (λ (b : Active). b.flight) l)
 counts f [] = refl
 counts f (a ∷ l) =
-    sum_by-cons (λ p. cond {A = ℕ} (is_lt (first_come_cmp p (f.eta, f.callsign))) 1 0)
-    (arrival_of a) (map arrival_of l)
+    sum_by-cons (λ p. cond {A = ℕ} (is_lt (first_come_cmp p (f.eta, f.callsign))) 1 0) (arrival_of a) (map arrival_of l)
     ∙ ap (λ n. cond {A = ℕ} (is_lt (arrival_cmp a.flight f)) 1 0 + n) (counts f l)
     ∙ sym (sum_by-cons (λ g. cond {A = ℕ} (is_lt (arrival_cmp g f)) 1 0) a.flight
     (map (λ b. b.flight) l))
@@ -47,8 +46,7 @@ place_is : (s : Situation) (f : Flight) → count_by (λ p. is_lt (first_come_cm
     (map arrival_of (by_rank (waiting s))) ≡ rank (map (λ (b : Active). b.flight) (waiting s)) f - 1
 place_is s f =
     let e = sum_by-IsPermutation (λ p. cond {A = ℕ} (is_lt (first_come_cmp p (f.eta, f.callsign))) 1 0)
-    (map arrival_of (waiting s)) (map arrival_of (by_rank (waiting s)))
-    (IsPermutation-map arrival_of (waiting s) (by_rank (waiting s)) (rank_permutes (waiting s))) in
+    (map arrival_of _) _ (IsPermutation-map arrival_of (waiting s) (by_rank (waiting s)) (rank_permutes (waiting s))) in
     omega (arith, counts f (waiting s))
 
 strictly : (xs : List Active) → AreRanked xs → IsStrictlySortedBy first_come_cmp (map arrival_of xs)
@@ -81,8 +79,7 @@ set_map {X = X} {Y = Y} f g (x ∷ xs) zero y others here = ap₂ (λ z l. z ∷
     each : (xs : List X) → ((i : ℕ) (d : X) → i < length xs → f (get_or xs i d) ≡ g (get_or xs i d))
         → map f xs ≡ map g xs
     each [] h = refl
-    each (x ∷ xs) h = ap₂ (λ z l. z ∷ l) (h 0 x (omega arith))
-        (each xs (λ i d lt. h (suc i) d (omega arith)))
+    each (x ∷ xs) h = ap₂ (λ z l. z ∷ l) (h 0 x (omega arith)) (each xs (λ i d lt. h (suc i) d (omega arith)))
 set_map {Y = Y} f g (x ∷ xs) (suc p) y others here =
     ap₂ (λ z l. z ∷ l) (others 0 x (omega arith) (omega arith))
     (set_map f g xs p y (λ i d lt ne. others (suc i) d (omega arith) (omega arith)) (λ d lt. here d (omega arith)))
@@ -97,15 +94,14 @@ module _ (s : Situation) (apart : Apart s.active) where
   pub rank_at : (n : ℕ) (a : Active) → n < length R → get_or R n a ≡ a → rank_in a ≡ n
   rank_at n a lt e =
       let long = length-map R arrival_of in
-      sym (place_is s a.flight)
-      ∙ counted_at (arrival_of a) (map arrival_of R) n (strictly R (rank_ranked (waiting s) (waiting_apart s apart)))
+      sym (place_is s a.flight) ∙ counted_at (arrival_of a) _ n (strictly R (rank_ranked _ (waiting_apart s apart)))
       (omega arith) (get_or-map arrival_of R n a (arrival_of a) lt ∙ ap arrival_of e)
 
   -- a waiting flight stands at its rank
   at_rank : (a : Active) → Member a s.active → a.frozen ≡ None → (n : ℕ) → rank_in a ≡ n
       → (n < length R) × (get_or R n a ≡ a)
   at_rank a m none n is =
-      let there : Member a R = member_permutation (waiting s) R a (rank_permutes (waiting s))
+      let there : Member a R = member_permutation _ R a (rank_permutes (waiting s))
       (filter_in is_waiting s.active a m (ap is_none none)) in
       let c = member_contains R a there in
       let k : c.0 ≡ n = sym (rank_at c.0 a c.1 c.2) ∙ is in
@@ -114,7 +110,7 @@ module _ (s : Situation) (apart : Apart s.active) where
   pub ranked_waits : (n : ℕ) → n < length R → (get_or R n nobody).frozen ≡ None
   ranked_waits n lt =
       let a : Active = get_or R n nobody in
-      let there : Member a (waiting s) = member_permutation R (waiting s) a
+      let there : Member a (waiting s) = member_permutation R _ a
       (IsPermutation-sym (waiting s) R (rank_permutes (waiting s))) (member_at R n nobody lt) in
       no_second a.frozen (in_filter is_waiting s.active a there).1
     where
@@ -132,8 +128,7 @@ module _ (s : Situation) (apart : Apart s.active) where
         → slice_get s.active (get_or places n 0) ≡ Some (get_or R n d)
     placed_at n d lt =
         let l = places_length in
-        sym (get_or-map (slice_get s.active) places n 0 (Some d) lt)
-        ∙ ap (λ l. get_or l n (Some d)) at
+        sym (get_or-map (slice_get s.active) places n 0 (Some d) lt) ∙ ap (λ l. get_or l n (Some d)) at
         ∙ get_or-map (λ x. Some x) R n d (Some d) (omega arith)
 
     module _ (t : Schedule) (n : ℕ) (lt : n < length places) where
@@ -141,7 +136,7 @@ module _ (s : Situation) (apart : Apart s.active) where
       place = get_or places n 0
 
       flight_here : (d : Active) → get_or s.active place d ≡ get_or R n nobody
-      flight_here d = get_or_from_slice_get s.active place (get_or R n nobody) d (placed_at n nobody lt)
+      flight_here d = get_or_from_slice_get s.active place _ d (placed_at n nobody lt)
 
       in_ranks : n < length R
       in_ranks = omega (arith, places_length)
@@ -158,7 +153,7 @@ module _ (s : Situation) (apart : Apart s.active) where
           other_rank none e =
               let stands = (at_rank a (member_at s.active i d within) none n e).1 in
               let same : get_or s.active place d ≡ a = flight_here d ∙ get_or_default R n nobody a in_ranks ∙ stands in
-              let far = slice_get_within s.active place (get_or R n nobody) (placed_at n nobody lt) in
+              let far = slice_get_within s.active place _ (placed_at n nobody lt) in
               let names : (get_or s.active place d).flight.callsign ≡ a.flight.callsign =
               ap (λ b. b.flight.callsign) same in
               elim (cases_order i place) [
@@ -184,8 +179,7 @@ module _ (s : Situation) (apart : Apart s.active) where
 
       -- the second of one rank more
       pub joined_more : set (joined s (take n t)) place (get_or t n 0) ≡ joined s (take (n + 1) t)
-      joined_more = set_map (joined_second s (take n t)) (joined_second s (take (n + 1) t)) s.active place
-          (get_or t n 0) others here
+      joined_more = set_map _ _ s.active place _ others here
 
 -- ---- a feasible list
 
@@ -206,10 +200,9 @@ module _ (s : Situation) (p : problems.Problem) (sound : IsSound s) (of : IsProb
       let e = keeps.one_each in
       let within : k < length p.flights = omega arith in
       let w = get_or p.flights k no_waiting in
-      let days : (u : ℕ) → IsTrue (list_any (is_within u) w.open_spans) → u ≤ last_second =
-      zip_all s.closures (λ a. IsGoodFlight a.flight) (λ w. (u : ℕ) → IsTrue (list_any (is_within u) w.open_spans)
-      → u ≤ last_second)
-      (λ a w z g u o. open_in_days a.flight.windows s.closures u g.windows.spans (sym (z.open_spans.same u) ∙ o))
-      (by_rank (waiting s)) p.flights of.flights good k no_waiting within in
-      let here = days (get_or t k 0) (keeps.open_seconds k w (slice_get-get_or p.flights k no_waiting within)) in
+      let days : (u : ℕ) → IsTrue (list_any (is_within u) w.open_spans) → u ≤ last_second = zip_all s.closures
+      (λ a. IsGoodFlight a.flight) (λ w. (u : ℕ) → IsTrue (list_any (is_within u) w.open_spans)
+      → u ≤ last_second) (λ a w z g u o. open_in_days _ s.closures u g.windows.spans (sym (z.open_spans.same u) ∙ o)) _
+      p.flights of.flights good k no_waiting within in
+      let here = days _ (keeps.open_seconds k w (slice_get-get_or p.flights k no_waiting within)) in
       omega (arith, get_or_default_zero t k d lt)

@@ -26,13 +26,11 @@ next_sound law old e next sound good accepted is =
     rw is (law old.situation old.plan e sound.situation good
     (feasible_shown old.situation old.plan sound.shown) accepted)
 
-pub next_in_step : EventKeepsSoundLaw → (old : State) (plan : Option ShownPlan) (p : Problem)
-    (k : ℕ) (e : Event) (next : Situation) (schedule : Option Schedule) (shown : Option ShownPlan) (q : Problem) (j : ℕ)
-    →
-    IsInStep old plan p k → IsGoodEvent e → refusal old.situation e ≡ None
-    → next ≡ situation_after old.situation old.plan e →
-    IsProblemOf next q → IsPlanShown next schedule → shown ≡ plan_shown (record { situation = next; plan = schedule })
-    → j ≡ k → IsInStep (record { situation = next; plan = schedule }) shown q j
+pub next_in_step : EventKeepsSoundLaw → (old : State) (plan : Option ShownPlan) (p : Problem) (k : ℕ) (e : Event)
+    (next : Situation) (schedule : Option Schedule) (shown : Option ShownPlan) (q : Problem) (j : ℕ) → IsInStep old plan
+    p k → IsGoodEvent e → refusal old.situation e ≡ None → next ≡ situation_after old.situation old.plan e → IsProblemOf
+    next q → IsPlanShown next schedule → shown ≡ plan_shown (record { situation = next; plan = schedule }) → j ≡ k
+    → IsInStep (record { situation = next; plan = schedule }) shown q j
 next_in_step law old plan p k e next schedule shown q j h good accepted is of best seen same =
     let a : next.aerodrome ≡ old.situation.aerodrome = ap (λ s. s.aerodrome) is
     ∙ aerodrome_stays old.situation old.plan e in
@@ -45,10 +43,9 @@ next_in_step law old plan p k e next schedule shown q j h good accepted is of be
     }
 
 -- the plan shown begins with the frozen landings of the next situation
-pub next_front : ClockKeepsPlanLaw → (old : State) (shown : Option ShownPlan) (p : Problem)
-    (k : ℕ) (e : Event) (next : Situation) (plan : ShownPlan) → IsInStep old shown p k → refusal old.situation e ≡ None
-    →
-    next ≡ situation_after old.situation old.plan e → IsSound next → shown ≡ Some plan → BeginsWithFrozen next plan
+pub next_front : ClockKeepsPlanLaw → (old : State) (shown : Option ShownPlan) (p : Problem) (k : ℕ) (e : Event)
+    (next : Situation) (plan : ShownPlan) → IsInStep old shown p k → refusal old.situation e ≡ None → next
+    ≡ situation_after old.situation old.plan e → IsSound next → shown ≡ Some plan → BeginsWithFrozen next plan
 next_front law old shown p k e next plan h accepted is sound seen =
     rw is (front old.plan h.sound.shown (sym h.shown ∙ seen) (rw is at sound))
   where
@@ -56,4 +53,6 @@ next_front law old shown p k e next plan h accepted is sound seen =
         → IsSound (situation_after old.situation t e) → BeginsWithFrozen (situation_after old.situation t e) plan
     front None best e sound = let w : None ≡ Some plan = e in absurd (cc)
     front (Some t) best q sound =
-        rw (same_Some (shown_plan old.situation t) plan q) at (next_begins law old.situation t e h.sound.situation best.0.feasible accepted sound)
+        subst (BeginsWithFrozen (situation_after old.situation (Some t) e))
+        (same_Some (shown_plan old.situation t) plan q)
+        (next_begins law old.situation t e h.sound.situation best.0.feasible accepted sound)

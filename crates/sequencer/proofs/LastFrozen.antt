@@ -29,7 +29,7 @@ second_of o = option_map (λ l. l.0) o
 last_at : (all : List Landing) (n : ℕ) (l : ShownLanding) → slice_get (map shown_landing all) n ≡ Some l
     → suc n ≡ length all → second_of (last_of all) ≡ Some l.second
 last_at [] n l e long = absurd (omega arith)
-last_at (f ∷ []) zero l e long = ap (λ k. Some k.second) (same_Some (shown_landing f) l e)
+last_at (f ∷ []) zero l e long = ap (λ k. Some k.second) (same_Some _ l e)
 last_at (f ∷ []) (suc n) l e long = absurd (omega arith)
 last_at (f ∷ g ∷ rest) zero l e long = absurd (omega arith)
 last_at (f ∷ g ∷ rest) (suc n) l e long = last_at (g ∷ rest) n l e (omega arith)
@@ -47,7 +47,8 @@ front_last s plan n l begins long e =
     let all = in_landing_order (frozen_landings s) in
     let k = length (frozen_shown s) in
     let m = length-map all shown_landing in
-    last_at all n (frozen_there l) (rw begins at (there_at (take k plan.landings) n l (in_first k n plan.landings (omega arith) ∙ e))) (omega arith)
+    last_at all n (frozen_there l) (rw begins at (there_at _ n l (in_first k n plan.landings (omega arith) ∙ e)))
+    (omega arith)
 
 -- ---- the flight of that second
 
@@ -61,14 +62,13 @@ last_member (f ∷ g ∷ rest) l e = let r = last_member (g ∷ rest) l e in (r.
 pub last_frozen_at : (s : Situation) (l : ℕ × Category) → last_of (in_landing_order (frozen_landings s)) ≡ Some l →
     (a : Active) × Member a s.active × (a.frozen ≡ Some l.0) × (a.flight.category ≡ l.1)
 last_frozen_at s l e =
-    let r = last_member (in_landing_order (frozen_landings s)) l e in
-    let b = in_frozen s.active r.0 (order_member r.0 (frozen_landings s) r.1) in
+    let r = last_member _ l e in
+    let b = in_frozen s.active r.0 (order_member r.0 _ r.1) in
     let at : b.1 ≡ l.0 = ap (λ f. f.second) (sym b.4) ∙ ap (λ p. p.0) r.2 in (
       b.0,
       b.2,
       b.3 ∙ ap (λ t. Some t) at,
-      ap (λ f. f.flight.category) (sym b.4)
-          ∙ ap (λ p. p.1) r.2,
+      ap (λ f. f.flight.category) (sym b.4) ∙ ap (λ p. p.1) r.2,
     )
 
 -- and no other is
@@ -119,12 +119,11 @@ module _ (fs : List Active) (m : ℕ) where
   IsElsewhere a = a.frozen ≡ Some m → ⊥
 
   pub back_found : (a : Active) (i : ℕ) → i < length (reverse fs) → HoldsAt (λ b. b ≡ a) (reverse fs) i → Member a fs
-  back_found a i lt is = member_permutation (reverse fs) fs a
-      (IsPermutation-sym fs (reverse fs) (IsPermutation-reverse fs))
-      (contains_member (reverse fs) a (Contains-from_at (reverse fs) a (i, lt, is)))
+  back_found a i lt is = member_permutation _ fs a (IsPermutation-sym fs (reverse fs) (IsPermutation-reverse fs))
+      (contains_member _ a (Contains-from_at (reverse fs) a (i, lt, is)))
 
   pub back_none : AllWithin IsElsewhere (reverse fs) 0 (length (reverse fs)) → (a : Active) → Member a fs
       → IsElsewhere a
   back_none none a i at =
-      let c = member_contains (reverse fs) a (member_permutation fs (reverse fs) a (IsPermutation-reverse fs) i) in
+      let c = member_contains _ a (member_permutation fs _ a (IsPermutation-reverse fs) i) in
       none c.0 a (omega arith) c.1 (ap (λ b. b.frozen) c.2 ∙ at)

@@ -30,15 +30,11 @@ module _ (all : List Active) where
     where
       there : MustPrecede new i j → MustPrecede start i j ⊎ ((j ≡ next) × (i < first + 1) × IsListed all i j)
       there m = elim ((step i j).0 m) [
-        | inl o ↦ elim ((was i j).0 o) [
-          | inl s ↦ inl s
-          | inr l ↦ inr (l.0, (let a = l.1 in omega arith), l.2)
-        ]
+        | inl o ↦ elim ((was i j).0 o) [ inl s ↦ inl s | inr l ↦ inr (l.0, (let a = l.1 in omega arith), l.2) ]
         | inr e ↦ inr (
           e.1,
           (let a = e.0 in omega arith),
-          subst (λ x. IsListed all x j) (sym e.0)
-              (subst (λ y. IsListed all first y) (sym e.1) listed),
+          subst (λ x. IsListed all x j) (sym e.0) (subst (λ y. IsListed all first y) (sym e.1) listed),
         )
       ]
 
@@ -74,8 +70,7 @@ module _ (all : List Active) where
     λ m. elim ((was i j).0 m) [ inl s ↦ inl s | inr l ↦ inr (l.0, l.2) ],
     λ s. elim s [
       | inl m ↦ (was i j).1 (inl m)
-      | inr l ↦
-          (was i j).1 (inr (l.0, (let a = l.1.first in omega arith), l.1))
+      | inr l ↦ (was i j).1 (inr (l.0, (let a = l.1.first in omega arith), l.1))
     ],
   )
 
@@ -92,13 +87,11 @@ module _ (all : List Active) where
   one_below old new next was step i j = (
     λ m. elim ((step i j).0 m) [
       | inl o ↦ (let l = (was i j).0 o in ((let a = l.0 in omega arith), l.1))
-      | inr l ↦
-          ((let a = l.0 in omega arith), l.1)
+      | inr l ↦ ((let a = l.0 in omega arith), l.1)
     ],
     λ l. elim (cases_lt j next) [
       | inl lt ↦ (step i j).1 (inl ((was i j).1 (lt, l.1)))
-      | inr ge ↦
-          (step i j).1 (inr ((let a = l.0 in omega arith), l.1))
+      | inr ge ↦ (step i j).1 (inr ((let a = l.0 in omega arith), l.1))
     ],
   )
 
@@ -126,12 +119,7 @@ module _ (all : List Active) where
       let li = slice_get_within all i a x in
       let lj = slice_get_within all j b y in (
         λ l. rw same at l.lists,
-        λ t. record {
-          first = (omega arith, omega arith);
-          next =
-              (omega arith, omega arith);
-          lists = rw same t;
-        },
+        λ t. record { first = (omega arith, omega arith); next = (omega arith, omega arith); lists = rw same t },
       )
 
   pub predecessors : (pairs : List ℕ) → ((i j : ℕ) → MustPrecede pairs i j ↔ IsListed all i j)
@@ -144,26 +132,20 @@ module _ (all : List Active) where
       (λ t. l.0 (m.0 (d.0 t)), λ t. d.1 (m.1 (l.1 t))) in
       let y : Decides (lists b.flight a.flight.callsign) (IsTrue (lists b.flight a.flight.callsign)) =
       (λ t. t, λ t. t) in
-      same_from_decides (must_precede pairs (i + 1) (j + 1)) (lists b.flight a.flight.callsign) x y
+      same_from_decides (must_precede pairs (i + 1) (j + 1)) (lists b.flight _) x y
 
 -- what a rank lists is what its flight lists
-pub listed_by : {X : Type 0} (g : X → Active) (items : List X) (first next : ℕ) (x y : X)
-    → (1 ≤ first) × (first ≤ length items) → (1 ≤ next) × (next ≤ length items) → x ≡ get_or items (first - 1) x
-    → y ≡ get_or items (next - 1) y →
-    IsListed (map g items) first next ↔ IsTrue (lists (g y).flight (g x).flight.callsign)
+pub listed_by : {X : Type 0} (g : X → Active) (items : List X) (first next : ℕ) (x y : X) → (1 ≤ first)
+    × (first ≤ length items) → (1 ≤ next) × (next ≤ length items) → x ≡ get_or items (first - 1) x → y
+    ≡ get_or items (next - 1) y → IsListed (map g items) first next ↔ IsTrue (lists (g y).flight (g x).flight.callsign)
 listed_by g items first next x y f n ex ey =
     let lf : first - 1 < length items = let a = f.0 in omega (arith, f.1) in
     let ln : next - 1 < length items = let a = n.0 in omega (arith, n.1) in
-    let at_first : numbered (map g items) (first - 1) ≡ g x =
-    get_or-map g items (first - 1) x nobody lf ∙ ap g (sym ex) in
+    let at_first : numbered (map g items) (first - 1) ≡ g x = get_or-map g items (first - 1) x nobody lf
+    ∙ ap g (sym ex) in
     let at_next : numbered (map g items) (next - 1) ≡ g y = get_or-map g items (next - 1) y nobody ln ∙ ap g (sym ey) in
     let same = ap₂ (λ u v. lists u.flight v.flight.callsign) at_next at_first in
     let long = length-map items g in (
       λ l. rw same at l.lists,
-      λ t. record {
-        first = (f.0, (omega (arith, f.1)));
-        next =
-            (n.0, (omega (arith, n.1)));
-        lists = rw same t;
-      },
+      λ t. record { first = (f.0, (omega (arith, f.1))); next = (n.0, (omega (arith, n.1))); lists = rw same t },
     )

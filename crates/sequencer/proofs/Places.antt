@@ -16,7 +16,7 @@ use Rattle.sequencer.proofs.Ranks.{rank_length}
 pub filter_more : (test : Active → Bool) (xs : List Active) (i : ℕ) (x : Active) (found : List Active)
     → i < length xs → x ≡ get_or xs i x → found ≡ filter test (take i xs) →
     cond (test x) (found ++ x ∷ []) found ≡ filter test (take (i + 1) xs)
-filter_more test xs i x found lt is e = sym (ap (filter test) here ∙ filter-append test (take i xs) (x ∷ [])
+filter_more test xs i x found lt is e = sym (ap (filter test) here ∙ filter-append test _ (x ∷ [])
     ∙ ap (λ l. l ++ filter test (x ∷ [])) (sym e) ∙ go (test x))
   where
     here : take (i + 1) xs ≡ take i xs ++ x ∷ []
@@ -32,8 +32,7 @@ pub places_at : {X : Type 0} (flights : List Active) (place : X → ℕ) (flight
     → map (slice_get flights) (map place ps) ≡ map Some (map flight ps)
 places_at flights place flight [] all = refl
 places_at flights place flight (p ∷ ps) all =
-    ap₂ (λ o l. o ∷ l)
-    (All-head (λ p. IsAt flights (place p) (flight p)) p ps all)
+    ap₂ (λ o l. o ∷ l) (All-head (λ p. IsAt flights (place p) (flight p)) p ps all)
     (places_at flights place flight ps (All-tail (λ p. IsAt flights (place p) (flight p)) p ps all))
 
 pub few_ranked : {X : Type 0} (s : Situation) (flight : X → Active) (ranked : List X) → IsSound s

@@ -14,12 +14,9 @@ stage_before-requires-clause-next c =
     let long = c.loop-done.invariant.0.long in
     let same : c.from-in-loop-done.result ≡ done = omega arith in
     let next : c.index-next.result.now ≡ at stages done = c.index-next.ensures
-    ∙ get_or_default stages _ _ no_stage (omega arith)
-    ∙ ap (at stages) same in
-    last_behind _ _ _
-    _ done stages c.loop-done.invariant.0 (c.len-last.result - done)
-    (omega arith) (omega arith)
-    _ next
+    ∙ get_or_default stages _ _ no_stage (omega arith) ∙ ap (at stages) same in
+    last_behind _ _ _ _ done stages c.loop-done.invariant.0 (c.len-last.result - done) (omega arith) (omega arith) _
+    next
 
 pub loop-done-preserved : goal.loop-done-preserved
 loop-done-preserved c =
@@ -30,9 +27,8 @@ loop-done-preserved c =
     let stage = c.len-last.result - done in
     let are = c.stages-held.ensures.held p c.requires in
     let whole = are.whole in
-    let made = one_stage p _ _ held done stages c.loop-done.invariant.0 stage
-    (omega arith) (omega arith)
-    _ c.in_ok-stage.ensures.completed c.in_ok-stage.ensures.gathered in
+    let made = one_stage p _ _ held done stages c.loop-done.invariant.0 stage (omega arith) (omega arith) _
+    c.in_ok-stage.ensures.completed c.in_ok-stage.ensures.gathered in
     let nodes = c.in_ok-put.ensures in
     let at = nodes.stage_is in (
       rw c.in_ok-push-2.ensures.items made,
@@ -41,6 +37,4 @@ loop-done-preserved c =
     )
 
 pub returns : goal.returns
-returns c = all_stages _ _ _
-    _ _ _ c.loop-done.invariant.0
-    (omega arith)
+returns c = all_stages _ _ _ _ _ _ c.loop-done.invariant.0 (omega arith)

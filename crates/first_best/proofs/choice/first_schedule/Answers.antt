@@ -13,8 +13,7 @@ pub loop-done-init : goal.loop-done-init
 loop-done-init c =
     let p = c.args.problem.now in
     let blank = c.in_ok-schedule.ensures in
-    no_order p c.window_laws.ensures.well_formed _
-    _ _ c.requires.ahead _
+    no_order p c.window_laws.ensures.well_formed _ _ _ c.requires.ahead _
     (blank ∙ ap (λ n. replicate n 0) c.len.ensures.value)
     (ap length (blank ∙ ap (λ n. replicate n 0) c.len.ensures.value)
     ∙ length-replicate _ 0)
@@ -27,12 +26,8 @@ least : (c : goal.After-least_choice-rank) → CanChoose c.args.problem.now c.ar
     c.loop-done.invariant.landings r t → c.least_choice-rank.result.0 ≤ r)
 least c =
     let whole = (c.stages-done-end.ensures.held c.args.problem.now c.requires.held).whole in
-    chosen_by _ c.window_laws.ensures.well_formed _
-    _ _ c.requires.ahead c.requires.value _
-    _ _ _ c.loop-done.invariant
-    (omega arith) _
-    _ c.budget_of-budget.ensures _ c.stage.ensures
-    c.least_choice-rank.ensures.least
+    chosen_by _ c.window_laws.ensures.well_formed _ _ _ c.requires.ahead c.requires.value _ _ _ _ c.loop-done.invariant
+    (omega arith) _ _ c.budget_of-budget.ensures _ c.stage.ensures c.least_choice-rank.ensures.least
 
 pub set-requires : goal.set-requires
 set-requires c =
@@ -68,11 +63,9 @@ loop-done-preserved c =
     let after = c.with_rank-before in
     let days = c.least_choice-rank.ensures.in_days in
     let price = c.from-cost.result in
-    let made = one_landing p c.window_laws.ensures.well_formed v
-    _ stages c.requires.ahead c.requires.value done _
-    _ _ c.loop-done.invariant
-    c.least_choice-rank.result.0 c.least_choice-rank.result.1 chosen.0 chosen.1 days after.result after.ensures.placed after.ensures.last
-    after.ensures.earliest price (c.from-cost.ensures ∙ c.cost.ensures.value)
+    let made = one_landing p c.window_laws.ensures.well_formed v _ stages c.requires.ahead c.requires.value done _ _ _
+    c.loop-done.invariant c.least_choice-rank.result.0 c.least_choice-rank.result.1 chosen.0 chosen.1 days after.result
+    after.ensures.placed after.ensures.last after.ensures.earliest price (c.from-cost.ensures ∙ c.cost.ensures.value)
     (omega arith) in
     rw c.set.ensures made
 
@@ -80,7 +73,5 @@ pub returns : goal.returns
 returns c =
     let p = c.args.problem.now in
     let whole = (c.stages-done-end.ensures.held p c.requires.held).whole in
-    whole_order p c.window_laws.ensures.well_formed _
-    _ _ c.requires.ahead c.requires.value _
-    _ _ _ c.loop-done.invariant
-    (omega arith)
+    whole_order p c.window_laws.ensures.well_formed _ _ _ c.requires.ahead c.requires.value _ _ _ _
+    c.loop-done.invariant (omega arith)

@@ -19,6 +19,5 @@ returns-clause-lesser c =
     )
 
 pub returns-clause-in_days : goal.returns-clause-in_days
-returns-clause-in_days c = λ days.
-    rw c.lesser.ensures (lesser_days last_second _ _ _
+returns-clause-in_days c = λ days. rw c.lesser.ensures (lesser_days last_second _ _ _
     days c.found_by-found.ensures.in_days)

@@ -16,8 +16,7 @@ fold-latest-requires-clause-callable c =
     fold_may_call (YieldsList-from_slice ways (cc)) (λ a x b q k. search (rules, tests)) (λ k a x at.
     let lt = slice_get_within ways k x.now at in
     let is = get_or_from_slice_get ways k x.now 0 at in
-    let within : x.now < length c.args.next.now.lists =
-    omega arith in
+    let within : x.now < length c.args.next.now.lists = omega arith in
     search (rules, tests, c.requires.next.rising x.now))
 
 pub returns-clause-last : goal.returns-clause-last
@@ -27,8 +26,7 @@ returns-clause-last c = λ v q h.
     let ways = c.args.ways.now in
     let all = kept_by_fold _ (λ n latest. (i : ℕ) → i < n → (q : Pair)
     → InPairs q (list_at lists (slice_index_or ways i 0)) → q.0 ≤ latest) c.fold-latest.ensures.ran
-    (YieldsList-from_slice ways (cc)) (λ i lt. absurd (omega arith))
-    (λ i a x b q at held k.
+    (YieldsList-from_slice ways (cc)) (λ i lt. absurd (omega arith)) (λ i a x b q at held k.
     let is = get_or_from_slice_get ways i x.now 0 at in
     let same : q ≡ record { 0 = c.args.next } = search (rules, tests) in
     let more : a ≤ b = search (rules, tests, arith) in
@@ -39,7 +37,6 @@ returns-clause-last c = λ v q h.
         | inr ne ↦ (let late = held j (omega arith) o m in omega arith)
       ],
     )) in
-    let late = pairs_late p v _ _ _ ways _ c.requires.node.0
-    (omega arith) c.requires.ways all q h in
+    let late = pairs_late p v _ _ _ ways _ c.requires.node.0 (omega arith) c.requires.ways all q h in
     let days = c.last_open-last.ensures.last q.0 h.opened in
     omega arith

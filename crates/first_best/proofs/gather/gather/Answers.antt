@@ -31,24 +31,21 @@ loop-j-preserved c =
     let least = c.in_ok-least.least.items in
     let node = c.node-node.result in
     let long = ap (λ xs. length xs) c.firsts-firsts.ensures in
-    let same : told_at c.firsts-firsts.result.now j ≡ told_at n.firsts j =
-    ap (λ xs. told_at xs j) c.firsts-firsts.ensures in
+    let same : told_at c.firsts-firsts.result.now j ≡ told_at n.firsts j = ap (λ xs. told_at xs j)
+    c.firsts-firsts.ensures in
     let each = c.in_ok-least.ensures.least.one_each in
     let found : c.index-found.result.now ≡ pair_at least j = c.index-found.ensures
     ∙ get_or_default least j _ (0, 0) (omega arith) in
     let made : EarlyNode = record {
       placed = node.placed;
       last = node.last;
-      earliest =
-          c.index-found.result.now.0;
+      earliest = c.index-found.result.now.0;
       cheapest = c.index-found.result.now.1;
     } in
-    let more = one_made stage s.1 n.firsts least j _ c.loop-j.invariant made
-    (record {
+    let more = one_made stage s.1 n.firsts least j _ c.loop-j.invariant made (record {
       placed = rw same at c.node-node.ensures.placed;
       last = c.node-node.ensures.last ∙ ap (λ i. latest (stage, windows.node_at s.1 i)) same;
-    })
-    (ap (λ q. q.0) found) (ap (λ q. q.1) found) in
+    }) (ap (λ q. q.0) found) (ap (λ q. q.1) found) in
     rw c.in_ok-push.ensures.items more
 
 pub returns : goal.returns
@@ -61,6 +58,5 @@ returns c =
     let are = c.stages-held.ensures.held p c.requires.held in
     let long = ap (λ xs. length xs) c.firsts-firsts.ensures in
     let end : c.loop-j.j ≡ length n.firsts = omega arith in
-    all_made p held stage (are.number stage c.requires.stage.1)
-    (are.pairs stage c.requires.stage.1) n c.requires.windows least c.in_ok-least.ensures.least _
-    (rw end at c.loop-j.invariant)
+    all_made p held stage (are.number stage c.requires.stage.1) (are.pairs stage c.requires.stage.1) n
+    c.requires.windows least c.in_ok-least.ensures.least _ (rw end at c.loop-j.invariant)

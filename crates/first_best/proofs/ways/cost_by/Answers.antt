@@ -5,8 +5,7 @@ use Rattle.first_best.proofs.ways.cost_by.Goals as goal
 
 pub returns-in_err-rest-clause-least : goal.returns-in_err-rest-clause-least
 returns-in_err-rest-clause-least c =
-    rw (c.from_residual-in_err-rest.ensures, sym c.list.ensures, sym c.node-after.ensures)
-    (too_late _ _ _ _ _ _
+    rw (c.from_residual-in_err-rest.ensures, sym c.list.ensures, sym c.node-after.ensures) (too_late _ _ _ _ _ _
     (sym c.landing_after.ensures.value ∙ c.in_ok-landing.was) c.in_err-rest.ensures)
 
 -- the cost and the rest, which is that of a pair in reach
@@ -25,8 +24,7 @@ overflow_add-result c = (let small = in_reach c in omega arith)
 
 pub returns-clause-least : goal.returns-clause-least
 returns-clause-least c =
-    rw (c.cost.ensures.value, sym c.list.ensures, sym c.node-after.ensures)
-    (way_cost _ _ _ _ _ _
+    rw (c.cost.ensures.value, sym c.list.ensures, sym c.node-after.ensures) (way_cost _ _ _ _ _ _
     (sym c.landing_after.ensures.value ∙ c.in_ok-landing.was) _ c.in_ok-rest.ensures)
 
 pub returns-clause-small : goal.returns-clause-small

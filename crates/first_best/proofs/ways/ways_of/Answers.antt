@@ -24,5 +24,4 @@ loop-j-preserved c =
     ]
 
 pub returns : goal.returns
-returns c = all_ways _ _ _ _
-    (omega arith) c.loop-j.invariant
+returns c = all_ways _ _ _ _ (omega arith) c.loop-j.invariant

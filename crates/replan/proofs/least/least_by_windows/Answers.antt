@@ -10,13 +10,7 @@ loop-reached-init g c =
 pub advance-requires : goal.advance-requires
 advance-requires g c =
     let i = c.loop-reached.invariant in
-    let at = i.1 in (
-      search rules,
-      (
-        search rules,
-        (c.requires.width, (i.0, (omega arith, i.2))),
-      ),
-    )
+    let at = i.1 in (search rules, (search rules, (c.requires.width, (i.0, (omega arith, i.2)))))
 
 pub loop-reached-preserved : goal.loop-reached-preserved
 loop-reached-preserved g c =
@@ -27,10 +21,4 @@ loop-reached-preserved g c =
 pub least_of-requires : goal.least_of-requires
 least_of-requires g c =
     let i = c.loop-reached.invariant in
-    let at = i.1 in (
-      search rules,
-      (
-        omega arith,
-        i.0,
-      ),
-    )
+    let at = i.1 in (search rules, (omega arith, i.0))

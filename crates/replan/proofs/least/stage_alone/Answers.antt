@@ -16,10 +16,7 @@ next_alone-requires g c = (
   search rules,
   (
     c.requires.width,
-    (
-      rw (← c.last.view_is) at c.requires.held,
-      (c.in_ok-stage.ensures.number, c.in_ok-stage.ensures.exact),
-    ),
+    (rw (← c.last.view_is) at c.requires.held, (c.in_ok-stage.ensures.number, c.in_ok-stage.ensures.exact)),
   ),
 )
 

@@ -12,8 +12,7 @@ lower_to_labels-requires-clause-begun c =
 
 pub lower_to_pairs-requires-clause-begun : goal.lower_to_pairs-requires-clause-begun
 lower_to_pairs-requires-clause-begun c =
-    first_leasts _ _ c.requires _
-    (c.as_mut_slice-2.ensures.value ∙ c.in_ok-least.ensures.first)
+    first_leasts _ _ c.requires _ (c.as_mut_slice-2.ensures.value ∙ c.in_ok-least.ensures.first)
 
 pub returns-in-Some-clause-least : goal.returns-in-Some-clause-least
 returns-in-Some-clause-least c =

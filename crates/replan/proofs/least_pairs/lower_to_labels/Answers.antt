@@ -13,13 +13,11 @@ loop-i-preserved-then-label-least c =
     let n = c.args.nodes.now in
     let i = c.loop-i.i in
     let least = c.loop-i.least in
-    let lt : i < length n.places =
-    omega (arith, c.loop-i-test.true, ap (λ xs. length xs) c.places-places.ensures) in
-    let same : told_at c.places-places.result.now i ≡ told_at n.places i =
-    ap (λ xs. told_at xs i) c.places-places.ensures in
+    let lt : i < length n.places = omega (arith, c.loop-i-test.true, ap (λ xs. length xs) c.places-places.ensures) in
+    let same : told_at c.places-places.result.now i ≡ told_at n.places i = ap (λ xs. told_at xs i)
+    c.places-places.ensures in
     let there = ap (λ m. (pair_at least m).0) same in (
-      other_label column n c.requires.some i least c.loop-i.invariant.0 lt
-          (omega arith),
+      other_label column n c.requires.some i least c.loop-i.invariant.0 lt (omega arith),
       c.loop-i.invariant.1,
     )
 
@@ -29,19 +27,16 @@ loop-i-preserved c =
     let n = c.args.nodes.now in
     let i = c.loop-i.i in
     let least = c.loop-i.least in
-    let lt : i < length n.places =
-    omega (arith, c.loop-i-test.true, ap (λ xs. length xs) c.places-places.ensures) in
-    let same : told_at c.places-places.result.now i ≡ told_at n.places i =
-    ap (λ xs. told_at xs i) c.places-places.ensures in
+    let lt : i < length n.places = omega (arith, c.loop-i-test.true, ap (λ xs. length xs) c.places-places.ensures) in
+    let same : told_at c.places-places.result.now i ≡ told_at n.places i = ap (λ xs. told_at xs i)
+    c.places-places.ensures in
     let there = ap (λ m. (pair_at least m).0) same in
-    let less : slice_index column i < (pair_at least (told_at n.places i)).0 =
-    omega arith in
+    let less : slice_index column i < (pair_at least (told_at n.places i)).0 = omega arith in
     let lowered = less_label column n c.requires.some i least c.loop-i.invariant.0 lt less in
-    let days : (pair_at least (told_at c.places-places.result.now i)).0 ≤ last_second =
-    c.loop-i.invariant.1 (told_at _ i) in (
+    let days : (pair_at least (told_at c.places-places.result.now i)).0 ≤ last_second = c.loop-i.invariant.1
+    (told_at _ i) in (
       rw same (rw c.label-label.ensures.value lowered),
-      days_set least _ (c.label-label.result, 0) last_second c.loop-i.invariant.1
-          (omega arith),
+      days_set least _ (c.label-label.result, 0) last_second c.loop-i.invariant.1 (omega arith),
     )
 
 pub returns-clause-least : goal.returns-clause-least

@@ -17,17 +17,15 @@ loop-i-preserved c =
     let lt : i < length n.places = omega arith in
     let within = c.requires.some.within i lt in
     let place = told_at n.places i in
-    let same : told_at c.places-places.result.now i ≡ place =
-    ap (λ xs. told_at xs i) c.places-places.ensures in
+    let same : told_at c.places-places.result.now i ≡ place = ap (λ xs. told_at xs i) c.places-places.ensures in
     let all = c.loop-i.invariant.0.one_each in
-    let value : c.lesser.result ≡ lesser (pair_at least place) (extremes (list_at lists i)) =
-    c.lesser.ensures ∙ ap₂ lesser (ap (pair_at least) same) c.extremes.ensures.value in
+    let value : c.lesser.result ≡ lesser (pair_at least place) (extremes (list_at lists i)) = c.lesser.ensures
+    ∙ ap₂ lesser (ap (pair_at least) same) c.extremes.ensures.value in
     let more = one_least lists n.places n.firsts i least c.loop-i.invariant.0 lt within in
     let is = ap (λ q. q.0) value in
     let days = c.loop-i.invariant.1 place in (
       rw same (rw value more),
-      days_set least _ _ last_second c.loop-i.invariant.1
-          (omega arith),
+      days_set least _ _ last_second c.loop-i.invariant.1 (omega arith),
     )
 
 pub returns-clause-least : goal.returns-clause-least

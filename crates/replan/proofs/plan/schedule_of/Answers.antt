@@ -13,18 +13,15 @@ least_place-requires g c =
 
 pub returns-in-None : goal.returns-in-None
 returns-in-None g c =
-    let l = last_read _ _ c.requires.held
-    (omega arith) _ _ _ c.len-n.ensures.value c.last.view_is c.index-kept-n.is in
-    none_feasible _ (well_formed_planned _ c.len-n.ensures.well_formed)
-    _ _ l.number l.held c.in-None.ensures
+    let l = last_read _ _ c.requires.held (omega arith) _ _ _ c.len-n.ensures.value c.last.view_is c.index-kept-n.is in
+    none_feasible _ (well_formed_planned _ c.len-n.ensures.well_formed) _ _ l.number l.held c.in-None.ensures
 
 pub trace-requires : goal.trace-requires
 trace-requires g c =
-    let l = last_read _ _ c.requires.held
-    (omega arith) _ _ _ c.len-n.ensures.value c.last.view_is c.index-kept-n.is in
+    let l = last_read _ _ c.requires.held (omega arith) _ _ _ c.len-n.ensures.value c.last.view_is c.index-kept-n.is in
     let inside = c.in-Some.ensures.0 in
-    let room : length c.deref_mut.result.now ≡ length c.args.problem.now.flights =
-    omega (arith, c.in_ok-order-in-Some.ensures.len) in
+    let room : length c.deref_mut.result.now ≡ length c.args.problem.now.flights = omega
+    (arith, c.in_ok-order-in-Some.ensures.len) in
     (search rules, (search rules, (c.requires.held, (c.requires.whole, (omega arith, room)))))
 
 pub retime-is_landed-requires-clause-order : goal.retime-is_landed-requires-clause-order
@@ -48,16 +45,13 @@ prove-unreachable-requires g c =
 pub returns-in_ok-order-in-Some : goal.returns-in_ok-order-in-Some
 returns-in_ok-order-in-Some g c =
     let is : c.as_slice.result.now ≡ c.trace.new.order = grind (arith, common_steps) in
-    let room : length c.as_slice.result.now ≡ length c.args.problem.now.flights =
-    omega (arith, ap length is, c.in_ok-order-in-Some.ensures.len) in
+    let room : length c.as_slice.result.now ≡ length c.args.problem.now.flights = omega
+    (arith, ap length is, c.in_ok-order-in-Some.ensures.len) in
     let lands = rw (← is) at c.trace.ensures.lands in
     let planned = well_formed_planned _ c.len-n.ensures.well_formed in
-    let l = last_read _ _ c.requires.held
-    (omega arith) _ _ _ c.len-n.ensures.value c.last.view_is c.index-kept-n.is in
-    let long : length c.retime-is_landed.new.into ≡ length c.args.problem.now.flights =
-    c.if-prove.ensures.room ∙ ap length c.in_ok-schedule.ensures ∙ length-replicate _ 0
-    ∙ c.len-n.ensures.value in
-    plan_best _ planned _ _ room lands _ long
-    (c.if-prove.ensures.earliest refl) (c.if-prove.ensures.least refl)
+    let l = last_read _ _ c.requires.held (omega arith) _ _ _ c.len-n.ensures.value c.last.view_is c.index-kept-n.is in
+    let long : length c.retime-is_landed.new.into ≡ length c.args.problem.now.flights = c.if-prove.ensures.room
+    ∙ ap length c.in_ok-schedule.ensures ∙ length-replicate _ 0 ∙ c.len-n.ensures.value in
+    plan_best _ planned _ _ room lands _ long (c.if-prove.ensures.earliest refl) (c.if-prove.ensures.least refl)
     (rw l.is at (no_more _ planned _ _ l.number l.held
     _ c.in-Some.ensures))

@@ -6,19 +6,12 @@ pub stage_again-requires : goal.stage_again-requires
 stage_again-requires g c =
     let lt : length c.args.kept.now - 1 < length c.args.kept.now = omega arith in
     let e = read_stage _ _ _ _ c.last.view_is c.index-kept-number.is lt in
-    let f = read_stage _ c.saturating_sub.result _ _ c.earlier.view_is c.index-kept-saturating_sub.is
-    (omega arith) in
+    let f = read_stage _ c.saturating_sub.result _ _ c.earlier.view_is c.index-kept-saturating_sub.is (omega arith) in
     let number = (held_at _ _ c.requires.held _ _ e lt).1 in (
       search rules,
       (
         search rules,
-        (
-          c.requires.width,
-          (
-            omega arith,
-            whole_at _ _ c.requires.held _ _ _ _ lt c.saturating_sub.ensures f e,
-          ),
-        ),
+        (c.requires.width, (omega arith, whole_at _ _ c.requires.held _ _ _ _ lt c.saturating_sub.ensures f e)),
       ),
     )
 

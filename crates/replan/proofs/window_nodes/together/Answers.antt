@@ -16,9 +16,5 @@ loop-i-preserved g c =
     let number = c.number-number.ensures in
     let placed = rw number at (rw window at c.placed_node-node.ensures.placed) in
     let last = c.placed_node-node.ensures.last ∙ ap₂ (λ n xs. latest (n, xs)) number window in
-    let more = one_window s.0 s.1 i _ _ _
-    c.loop-i.invariant.1 node placed last
-    _ _ _ c.in_ok-place.ensures in (
-      simp length-set c.loop-i.invariant.0,
-      rw c.in_ok-push.ensures.items more,
-    )
+    let more = one_window s.0 s.1 i _ _ _ c.loop-i.invariant.1 node placed last _ _ _ c.in_ok-place.ensures in
+    (simp length-set c.loop-i.invariant.0, rw c.in_ok-push.ensures.items more)

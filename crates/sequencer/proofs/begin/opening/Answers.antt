@@ -23,5 +23,5 @@ plannable : (a : Aerodrome) (s : Situation) → IsInRange a → s.aerodrome ≡ 
 plannable a s range e = rw e (within a.objective a.version a.k range.shift)
 
 pub returns-in-None-clause-plannable : goal.returns-in-None-clause-plannable
-returns-in-None-clause-plannable c = plannable c.args.aerodrome.now c.in_ok-situation.situation c.requires.aerodrome
+returns-in-None-clause-plannable c = plannable _ c.in_ok-situation.situation c.requires.aerodrome
     (ap (λ s. s.aerodrome) c.in_ok-situation.ensures.value)

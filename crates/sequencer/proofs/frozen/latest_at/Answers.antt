@@ -10,18 +10,16 @@ returns-in_err-active c =
     let s = c.args.situation.now in
     let m = c.args.second in
     let b = some_last s m c.requires.second in
-    let found = first_from_find _ _ c.find.result (λ a. a.frozen ≡ Some m) (IsElsewhere s.active m)
-    c.find.ensures.ran (YieldsList-from_rev_slice s.active (cc))
-    (λ x q k. search (rules, tests)) (λ x q k. search (rules, tests)) in
+    let found = first_from_find _ _ _ (λ a. a.frozen ≡ Some m) (IsElsewhere s.active m) c.find.ensures.ran
+    (YieldsList-from_rev_slice s.active (cc)) (λ x q k. search (rules, tests)) (λ x q k. search (rules, tests)) in
     absurd (back_none s.active m (rw c.in_err-active.was at found) b.0 b.1 b.2)
 
 pub returns : goal.returns
 returns c =
     let s = c.args.situation.now in
     let m = c.args.second in
-    let found = first_from_find _ _ c.find.result (λ a. a.frozen ≡ Some m) (IsElsewhere s.active m)
-    c.find.ensures.ran (YieldsList-from_rev_slice s.active (cc))
-    (λ x q k. search (rules, tests)) (λ x q k. search (rules, tests)) in
+    let found = first_from_find _ _ _ (λ a. a.frozen ≡ Some m) (IsElsewhere s.active m) c.find.ensures.ran
+    (YieldsList-from_rev_slice s.active (cc)) (λ x q k. search (rules, tests)) (λ x q k. search (rules, tests)) in
     let some = rw c.in_ok-active.was at found in
     let a = c.in_ok-active.active.now in
     ap (λ x. Some (m, x.flight.category)) c.active.view_is

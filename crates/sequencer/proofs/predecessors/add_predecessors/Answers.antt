@@ -10,7 +10,7 @@ use Rattle.sequencer.proofs.predecessors.add_predecessors.Goals as goal
 use Rattle.sequencer.proofs.predecessors.add_predecessors.Goals.{then-lists, else-lists}
 
 pub loop-first-init : goal.loop-first-init
-loop-first-init c = none_added (map (λ a. a.now) c.args.ranked.now.items) c.args.pairs.now c.args.next
+loop-first-init c = none_added _ _ _
 
 pub loop-first-preserved : goal.loop-first-preserved
 loop-first-preserved c =
@@ -40,5 +40,4 @@ returns c =
     let n = length-map items (λ a. a.now) in
     let past : length (map (λ a. a.now) items) < c.loop-first.first = let e = c.len.ensures in let v =
     c.args.ranked.now.ok.0 in omega (arith, c.loop-first-test.false) in
-    all_added (map (λ a. a.now) items) c.args.pairs.now c.loop-first.pairs c.args.next c.loop-first.first
-    past c.loop-first.invariant
+    all_added _ _ _ _ _ past c.loop-first.invariant

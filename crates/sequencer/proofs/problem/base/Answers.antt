@@ -16,5 +16,4 @@ pub returns-in-Delay : goal.returns-in-Delay
 returns-in-Delay c =
     let s = c.args.situation.now in
     c.frozen_delay.ensures ∙ ap (sum_by delay_of) c.requires.flights ∙ delay_is s.active
-    ∙ ap (λ o. frozen_cost o (frozen_landings s))
-    (sym (ap (λ a. a.objective) c.fixed.ensures.value ∙ c.in-Delay.is))
+    ∙ ap (λ o. frozen_cost o (frozen_landings s)) (sym (ap (λ a. a.objective) c.fixed.ensures.value ∙ c.in-Delay.is))

@@ -20,9 +20,8 @@ ranked_of-requires c = rw c.flights-flights.ensures c.requires.sound.callsigns
 
 pub pairs_of-pairs-requires : goal.pairs_of-pairs-requires
 pairs_of-pairs-requires c =
-    few_ranked c.args.situation.now (λ a. a.now) c.in_ok-waiting.waiting.items c.requires.sound
-    (c.in_ok-waiting.ensures ∙ ap (map (λ p. p.active.now)) c.deref.ensures.value
-    ∙ c.in_ok-ranked.ensures.flights
+    few_ranked _ (λ a. a.now) _ c.requires.sound
+    (c.in_ok-waiting.ensures ∙ ap (map (λ p. p.active.now)) c.deref.ensures.value ∙ c.in_ok-ranked.ensures.flights
     ∙ ap (λ l. by_rank (filter is_waiting l)) c.flights-flights.ensures)
 
 ranks : (c : In_ok-with_times) → map (λ a. a.now) c.in_ok-waiting.waiting.items ≡ by_rank (waiting c.args.situation.now)
@@ -31,8 +30,7 @@ ranks c = c.in_ok-waiting.ensures ∙ ap (map (λ p. p.active.now)) c.deref.ensu
 
 zip : (c : In_ok-with_times) → AllZip (IsWaitingOf c.args.situation.now.closures)
     (by_rank (waiting c.args.situation.now)) (map waiting_of c.in_ok-with_times.with_times.items)
-zip c =
-    rw c.closures.ensures at (rw (ranks c) at c.in_ok-with_times.ensures)
+zip c = rw c.closures.ensures at (rw (ranks c) at c.in_ok-with_times.ensures)
 
 listed : (c : In_ok-with_times) → (i j : ℕ) → MustPrecede c.pairs_of-pairs.result i j
     ↔ IsListed (by_rank (waiting c.args.situation.now)) i j
@@ -42,49 +40,43 @@ heads : (c : In_ok-with_times) → IsHeadOf c.args.situation.now c.head-head.res
 heads c = record {
   fixed = c.head-head.ensures.fixed;
   horizon = c.head-head.ensures.horizon;
-  last =
-      c.head-head.ensures.last ∙ c.last_frozen-last.ensures;
+  last = c.head-head.ensures.last ∙ c.last_frozen-last.ensures;
   base = c.head-head.ensures.base;
 }
 
 pub build-requires : goal.build-requires
 build-requires c =
-    λ table. well_formed c.args.situation.now c.head-head.result c.in_ok-with_times.with_times.items
-    c.pairs_of-pairs.result c.requires.sound (heads c) (zip c) (listed c)
-    c.head-head.ensures.few_places c.head-head.ensures.near
+    λ table. well_formed _ _ _ _ c.requires.sound (heads c) (zip c) (listed c) c.head-head.ensures.few_places
+    c.head-head.ensures.near
 
 pub returns-clause-problem : goal.returns-clause-problem
 returns-clause-problem c =
     let d = (goal.at.returns-clause-problem c).In_ok-with_times in
-    rw c.build.ensures (posed c.args.situation.now c.head-head.result c.in_ok-with_times.with_times.items c.pairs_of-pairs.result
+    rw c.build.ensures (posed _ _ _ _
     c.requires.sound (heads d) (zip d) (listed d))
 
 placed : (c : After-len) → ArePlacesByRank c.args.situation.now c.in_ok-places.places.items
 placed c =
-    by_rank_places c.args.situation.now (λ p. p.place)
-    (λ p. p.active.now) c.in_ok-ranked.ranked.items c.flights-flights.result.now
-    c.in_ok-places.places.items
+    by_rank_places c.args.situation.now (λ p. p.place) (λ p. p.active.now) c.in_ok-ranked.ranked.items _ _
     c.flights-flights.ensures c.in_ok-ranked.ensures.flights c.in_ok-ranked.ensures.places
     (c.in_ok-places.ensures ∙ ap (map (λ p. p.place)) c.deref-2.ensures.value)
 
 pub overflow_sub-flights : goal.overflow_sub-flights
 overflow_sub-flights c =
-    let n = frozen_and_placed c.args.situation.now c.in_ok-places.places.items c.requires.sound (placed c) in
+    let n = frozen_and_placed _ _ c.requires.sound (placed c) in
     let e = ap (length {A = Active}) c.flights-flights.ensures in
     let v = c.in_ok-places.places.ok.0 in
     omega (arith, c.len.ensures)
 
 pub last_frozen-last-requires-clause-count : goal.last_frozen-last-requires-clause-count
 last_frozen-last-requires-clause-count c =
-    let n = frozen_and_placed c.args.situation.now c.in_ok-places.places.items c.requires.sound (placed c) in
+    let n = frozen_and_placed _ _ c.requires.sound (placed c) in
     let e = ap (length {A = Active}) c.flights-flights.ensures in
     let v = c.in_ok-places.places.ok.0 in
     omega (arith, c.len.ensures)
 
 pub returns-clause-places : goal.returns-clause-places
 returns-clause-places c =
-    by_rank_places c.args.situation.now (λ p. p.place)
-    (λ p. p.active.now) c.in_ok-ranked.ranked.items c.flights-flights.result.now
-    c.in_ok-places.places.items
+    by_rank_places c.args.situation.now (λ p. p.place) (λ p. p.active.now) c.in_ok-ranked.ranked.items _ _
     c.flights-flights.ensures c.in_ok-ranked.ensures.flights c.in_ok-ranked.ensures.places
     (c.in_ok-places.ensures ∙ ap (map (λ p. p.place)) c.deref-2.ensures.value)

@@ -15,19 +15,19 @@ count s places sound at = places_length s sound.callsigns places at ∙ rank_len
 
 pub overflow_cast-index : goal.overflow_cast-index
 overflow_cast-index c =
-    let n = count c.args.situation.now c.args.places.now c.requires.sound c.requires.places in
+    let n = count _ _ c.requires.sound c.requires.places in
     let few = c.requires.sound.few_waiting in
     omega (arith, c.loop-index-test.true)
 
 pub overflow_add-index : goal.overflow_add-index
 overflow_add-index c =
-    let n = count c.args.situation.now c.args.places.now c.requires.sound c.requires.places in
+    let n = count _ _ c.requires.sound c.requires.places in
     let few = c.requires.sound.few_waiting in
     omega (arith, c.loop-index-test.true)
 
 pub second-requires : goal.second-requires
 second-requires c =
-    let n = count c.args.situation.now c.args.places.now c.requires.sound c.requires.places in
+    let n = count _ _ c.requires.sound c.requires.places in
     let long = c.requires.long in
     let lt = c.loop-index-test.true in
     (omega arith, omega arith)
@@ -38,10 +38,10 @@ index_mut-requires c =
     let i = c.loop-index.index in
     let places = c.args.places.now in
     let t = take i c.args.schedule.now in
-    let within = slice_get_within s.active (get_or places i 0) (get_or (by_rank (waiting s)) i nobody)
+    let within = slice_get_within s.active _ _
     (placed_at s c.requires.sound.callsigns places c.requires.places i nobody c.loop-index-test.true) in
     let long : length c.loop-index.seconds.items ≡ length s.active =
-    ap (length {A = ℕ}) c.loop-index.invariant ∙ length-map s.active (joined_second s t) in
+    ap (length {A = ℕ}) c.loop-index.invariant ∙ length-map s.active _ in
     omega (arith, c.loop-index.seconds.ok.0)
 
 pub loop-index-preserved : goal.loop-index-preserved
@@ -58,7 +58,7 @@ loop-index-preserved c =
 pub returns : goal.returns
 returns c =
     let s = c.args.situation.now in
-    let n = count s c.args.places.now c.requires.sound c.requires.places in
+    let n = count s _ c.requires.sound c.requires.places in
     let long = c.requires.long in
     let past : length c.args.schedule.now ≤ c.loop-index.index = omega (arith, c.loop-index-test.false) in
-    c.loop-index.invariant ∙ ap (joined s) (take_all c.loop-index.index c.args.schedule.now past)
+    c.loop-index.invariant ∙ ap (joined s) (take_all _ _ past)

@@ -7,16 +7,14 @@ use Rattle.first_best.proofs.AheadLemmas.{all_of_use, each_listed}
 use Rattle.first_best.proofs.ahead.Ahead.within.Goals as goal
 
 pub returns-clause-made : goal.returns-clause-made
-returns-clause-made c =
-    rw c.budget_of-budget.ensures at c.stages_ahead.ensures
+returns-clause-made c = rw c.budget_of-budget.ensures at c.stages_ahead.ensures
 
 pub returns-clause-lists : goal.returns-clause-lists
 returns-clause-lists c =
     let p = c.args.problem.now in
     let held = held_of c.args.kept.now in
     IfOk-weaker c.stages_ahead.result (IsAheadBy p c.args.value (Some c.budget_of-budget.result) held)
-    (HasEachList p held) (each_listed p _ (Some c.budget_of-budget.result) held)
-    c.stages_ahead.ensures
+    (HasEachList p held) (each_listed p _ (Some c.budget_of-budget.result) held) c.stages_ahead.ensures
 
 pub returns-clause-useful : goal.returns-clause-useful
 returns-clause-useful c =

@@ -8,11 +8,8 @@ pub returns-then-place-len : goal.returns-then-place-len
 returns-then-place-len c =
     let xs = c.args.self.now in
     let at = c.place_from-place.ensures in
-    let found = cost_found xs c.requires _ _
-    (omega arith)
-    (at.late (omega arith)) at.below in
+    let found = cost_found xs c.requires _ _ (omega arith) (at.late (omega arith)) at.below in
     rw c.pair.ensures found
 
 pub returns-else-place-len : goal.returns-else-place-len
-returns-else-place-len c = none_found _ _ _
-    (omega arith) c.place_from-place.ensures.below
+returns-else-place-len c = none_found _ _ _ (omega arith) c.place_from-place.ensures.below

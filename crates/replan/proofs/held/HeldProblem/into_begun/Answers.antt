@@ -10,14 +10,11 @@ returns-then-count-gt1-clause-few g c =
 
 pub returns-then-count-gt1-clause-due : goal.returns-then-count-gt1-clause-due
 returns-then-count-gt1-clause-due g c =
-    rw (← ap (λ h. h.problem) c.self.view_is)
-    (due_after_common _ _ _ _ c.common-count.ensures
-    (omega arith)
+    rw (← ap (λ h. h.problem) c.self.view_is) (due_after_common _ _ _ _ c.common-count.ensures (omega arith)
     (λ more. omega arith))
 
 pub returns-clause-due : goal.returns-clause-due
 returns-clause-due g c =
-    rw (← ap (λ h. h.problem) c.self.view_is)
-    (due_after_common _ _ _ _ c.common-count.ensures
+    rw (← ap (λ h. h.problem) c.self.view_is) (due_after_common _ _ _ _ c.common-count.ensures
     (omega (arith, c.if-count-gt1.false, c.in_ok-put_first.ensures.one))
     (λ more. absurd (omega (arith, more, c.in_ok-put_first.ensures.one))))

@@ -13,10 +13,9 @@ returns-clause-held g c =
     rw (ap (λ h. h.problem) c.self.view_is) c.requires.common in
     let few = few_in_common inside.problem _ _ _ common held.whole in
     let laws : WindowLaws inside.problem g.row.W = search rules in
-    rw c.truncate.ensures.items
-    (stages_in_common inside.problem _ g.row.W held.width_is laws
-    c.head-held_ranks.ensures.well_formed.between_ranks
-    c.head-ranks.ensures.well_formed.between_ranks _ _ held.held c.kept_stages.ensures.early
+    rw c.truncate.ensures.items (stages_in_common inside.problem _ g.row.W held.width_is laws
+    c.head-held_ranks.ensures.well_formed.between_ranks c.head-ranks.ensures.well_formed.between_ranks _ _ held.held
+    c.kept_stages.ensures.early
     common c.requires.more few)
 
 pub returns-clause-count : goal.returns-clause-count
@@ -24,7 +23,6 @@ returns-clause-count g c =
     let inside = c.self.inside in
     let common : AreInCommon inside.problem c.args.problem.now c.args.count =
     rw (ap (λ h. h.problem) c.self.view_is) c.requires.common in
-    let few = few_in_common inside.problem _ _ _
-    common c.self.invariant.whole in
+    let few = few_in_common inside.problem _ _ _ common c.self.invariant.whole in
     let long = ap length c.truncate.ensures.items ∙ length-take-le _ _ few in
     omega arith

@@ -15,24 +15,19 @@ loop-number-preserved g c =
     let long : length stages ≡ place + 1 = omega arith in
     let within : place < length stages = omega arith in
     let is = read_hinted stages place _ _ c.before-in-loop-number.view_is c.index-before.ensures within in
-    let at : c.before-in-loop-number.inside.stage ≡ (hinted_at stages place).stage =
-    ap (λ s. s.stage) is in
-    let number : (hinted_at stages place).stage.0 ≡ c.loop-number.number =
-    rw place_is c.loop-number.invariant.2 in
+    let at : c.before-in-loop-number.inside.stage ≡ (hinted_at stages place).stage = ap (λ s. s.stage) is in
+    let number : (hinted_at stages place).stage.0 ≡ c.loop-number.number = rw place_is c.loop-number.invariant.2 in
     let next = rw at at c.in_ok-next.ensures.exact in
     let items = c.in_ok-push-2.ensures.items in
     let one : HintedStage = record { stage = c.in_ok-next.next; is_whole = true } in
-    let end : c.loop-number.number + 1 - c.saturating_sub-first.result ≡ place + 1 =
-    omega arith in (
+    let end : c.loop-number.number + 1 - c.saturating_sub-first.result ≡ place + 1 = omega arith in (
       one_ahead _ stages _ place one c.loop-number.invariant.0 long items next,
       omega (arith, ap length items, length-append stages (one ∷ []), long, end),
       ap (λ n. (hinted_at c.push-in-loop-number.new.self.items n).stage.0) end
-          ∙ ap (λ s. s.stage.0) (last_ahead stages _ one (place + 1) long items)
-          ∙ c.in_ok-next.ensures.number ∙ ap (λ s. s.0 + 1) at ∙ ap (λ n. n + 1) number,
-      ap (λ s. s.stage.1) (first_ahead stages _ one (omega arith) items)
-          ∙ c.loop-number.invariant.3,
+          ∙ ap (λ s. s.stage.0) (last_ahead stages _ one (place + 1) long items) ∙ c.in_ok-next.ensures.number
+          ∙ ap (λ s. s.0 + 1) at ∙ ap (λ n. n + 1) number,
+      ap (λ s. s.stage.1) (first_ahead stages _ one (omega arith) items) ∙ c.loop-number.invariant.3,
     )
 
 pub invariant_of-result : goal.invariant_of-result
-invariant_of-result g c =
-    rw c.in_ok-problem.ensures c.loop-number.invariant.0
+invariant_of-result g c = rw c.in_ok-problem.ensures c.loop-number.invariant.0

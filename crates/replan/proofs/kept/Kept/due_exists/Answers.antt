@@ -6,8 +6,7 @@ use Rattle.replan.proofs.DueExists.{due_alone, due_beside}
 use Rattle.replan.proofs.kept.Kept.due_exists.Goals as goal
 
 pub returns-in-None : goal.returns-in-None
-returns-in-None g c =
-    rw (sym c.self.view_is ∙ c.in-None.is) (due_alone _ c.counts_exist.ensures)
+returns-in-None g c = rw (sym c.self.view_is ∙ c.in-None.is) (due_alone _ c.counts_exist.ensures)
 
 pub returns-in-Some : goal.returns-in-Some
 returns-in-Some g c =

@@ -32,9 +32,11 @@ planned-requires-clause-front g c = λ lives within plan is.
 pub invariant_of-self-in-Ok : goal.invariant_of-self-in-Ok
 invariant_of-self-in-Ok g c =
     let e = event_of c.args.event.now in
-    let plan = option_map (λ p. p.seconds.items) c.in-Ok.shown in
-    let shown = option_map (λ p. p.plan) c.in-Ok.shown in
-    rw (c.view_after-next.ensures ∙ sym c.keep.ensures) at (next_in_step c.every_step_keeps_soundness.ensures.situation _ _ c.self.inside.problem
+    let plan = option_map (λ (p : Shown). p.seconds.items) c.in-Ok.shown in
+    let shown = option_map (λ (p : Shown). p.plan) c.in-Ok.shown in
+    subst (λ s. IsInStep (record { situation = s; plan = plan }) shown c.in-Ok.problem (k_of c.planned.new.planner))
+    (c.view_after-next.ensures ∙ sym c.keep.ensures)
+    (next_in_step c.every_step_keeps_soundness.ensures.situation _ _ c.self.inside.problem
     _ e c.view_after-next.result plan shown c.in-Ok.problem _ c.self.invariant c.requires.good
     (ap (λ v. refusal v.state.situation e) c.self.view_is ∙ c.requires.accepted)
     (c.view_after-next.ensures ∙ c.in_ok-change.ensures.change.next_is
@@ -48,5 +50,6 @@ returns-in-Ok-clause-step g c =
       changed = c.keep.ensures ∙ c.in_ok-change.ensures.change.next_is
           ∙ ap (λ p. situation_after c.self.inside.situation p e) c.seconds_of.ensures
           ∙ ap (λ v. situation_after v.state.situation v.state.plan e) c.self.view_is;
-      shown = rw (c.view_after-next.ensures ∙ sym c.keep.ensures) at c.in-Ok.ensures.shown;
+      shown = subst (λ s. IsPlanShown s (option_map (λ (p : Shown). p.seconds.items) c.in-Ok.shown))
+          (c.view_after-next.ensures ∙ sym c.keep.ensures) c.in-Ok.ensures.shown;
     }
