@@ -1,7 +1,7 @@
 -- What is due of a problem exists: the candidates of each stage can be listed in order.
-use Rattle.std.proofs.Common.{◌≡◌, ℕ, zero, suc, ◌+◌, ◌<◌, ◌≤◌, ◌⊎◌, inl, inr, Bool, true, false, List, [], ◌∷◌, ◌++◌}
-use Rattle.std.proofs.Common.{length, get_or, map, Option, Some, None, refl, sym, ap, subst, ◌∙◌, arith}
-use Rattle.std.specs.Prelude.{ℤ, Contains}
+use Rattle.std.proofs.Common.{◌≡◌, ℕ, zero, suc, ◌+◌, ◌≤◌, ◌⊎◌, inl, inr, Bool, true, false, List, [], ◌∷◌, ◌++◌}
+use Rattle.std.proofs.Common.{length, map, Some, None, refl, sym, ap, subst, ◌∙◌, arith}
+use Rattle.std.specs.Prelude.{ℤ}
 use Rattle.std.proofs.lemmas.Bool.{cases_eq}
 use Rattle.std.specs.declared.cmp.Ordering.{Ordering}
 use Rattle.std.specs.declared.cmp.Ordering.TheVariants.{Less, Equal, Greater}
@@ -31,7 +31,7 @@ use Rattle.cps_problem.specs.WellFormed.{IsWellFormed}
 use Rattle.cps_network.specs.Due.{HasCandidatesIf, HasCandidatesWhere}
 use Rattle.cps_network.specs.Landable.{IsCandidate}
 use Rattle.cps_network.specs.Lists.{IsAscending, node_at}
-use Rattle.cps_network.specs.Nodes.{Node, IsWindowNetwork, node_of, land, permits}
+use Rattle.cps_network.specs.Nodes.{IsWindowNetwork, node_of, land, permits}
 use Rattle.replan.specs.Bound.{HasDue, HasCounts}
 
 member_right : {A : Type 0} (xs ys : List A) (z : A) → Member z ys → Member z (xs ++ ys)

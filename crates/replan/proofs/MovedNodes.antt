@@ -1,10 +1,10 @@
 -- Windows of one node are so at each stage behind the first k.
-use Rattle.std.proofs.Common.{◌≡◌, ℕ, ◌+◌, ◌-◌, ◌/◌, ◌%◌, ◌≤◌, inl, inr, List, length, sym, ap, subst, ◌∙◌}
+use Rattle.std.proofs.Common.{◌≡◌, ℕ, ◌+◌, ◌-◌, ◌/◌, ◌%◌, ◌≤◌, inl, inr, List, length, sym, ap, ◌∙◌}
 use Rattle.std.proofs.Common.{arith}
 use Rattle.std.specs.Prelude.{ℤ, pos, nat_abs, ◌+ℤ◌, ◌-ℤ◌, ◌≤ℤ◌}
 use Rattle.std.proofs.lemmas.Int.{ints}
 use Rattle.std.proofs.lemmas.Bool.{cases_lt}
-use Rattle.cps_nodes.specs.Windows.{HoldsRank, IsPlaced, IsWindow, offset_at}
+use Rattle.cps_nodes.specs.Windows.{IsPlaced, IsWindow, offset_at}
 use Rattle.cps_network.specs.Lists.{node_at, AreWindows}
 use Rattle.replan.specs.WindowNodes.{told_at, AreOneNode, ArePutTogether}
 

@@ -1,26 +1,26 @@
 -- The last stage of a problem tells the least objective of its feasible lists, and an order whose earliest seconds are
 -- a best and tight schedule.
-use Rattle.std.proofs.Common.{◌≡◌, ℕ, ◌+◌, ◌-◌, ◌<◌, ◌≤◌, List, [], ◌∷◌, length, get_or, map, inl, inr, refl, sym, ap}
-use Rattle.std.proofs.Common.{subst, ◌∙◌, arith, le_trans, reverse, drop, take, ◌++◌}
+use Rattle.std.proofs.Common.{◌≡◌, ℕ, ◌<◌, ◌≤◌, List, [], ◌∷◌, length, get_or, map, inl, inr, refl, sym, ap}
+use Rattle.std.proofs.Common.{subst, ◌∙◌, arith, le_trans, reverse, ◌++◌}
 use Rattle.std.specs.Prelude.{ℤ}
 use Rattle.std.proofs.lemmas.List.{get_or_default, length-reverse}
 use Rattle.landing_rules.specs.declared.objective.Objective.{Objective}
 use Rattle.landing_rules.specs.declared.objective.Objective.TheVariants.{Makespan, Delay}
 use Rattle.landing_rules.specs.Flights.{Schedule}
-use Rattle.landing_rules.specs.Problem.{Problem, Waiting, IsFeasibleList, IsBestList, list_objective, IsTightList}
-use Rattle.cps_theory.specs.RankLists.{of_rank, IsRank, numbers_from, In, Distinct}
+use Rattle.landing_rules.specs.Problem.{Problem, IsFeasibleList, IsBestList, list_objective, IsTightList}
+use Rattle.cps_theory.specs.RankLists.{of_rank, IsRank, numbers_from, In}
 use Rattle.cps_theory.specs.LandingTrail.{ranks}
 use Rattle.cps_theory.specs.Labels.{InPairs, NoWorse, Pair}
 use Rattle.cps_theory.specs.Feasible.{second_in, second_and_cost as map_pair, at_seconds}
 use Rattle.cps_theory.specs.UndominatedPairs.{Staircase}
 use Rattle.cps_theory.specs.laws.LeastObjective.{feasible_landing_trail, landing_trail_feasible, at_second_in}
-use Rattle.landing_joint.specs.RankedProblem.{ranked, cost_at, value_by, value_at, value_of_map, makespan_by}
+use Rattle.landing_joint.specs.RankedProblem.{ranked, cost_at, value_by, value_at, value_of_map}
 use Rattle.landing_joint.specs.shared.RankedLists.{feasible_agree, feasible_list, list_feasible, sound_ranked}
 use Rattle.landing_joint.specs.shared.BestLists.{list_value}
 use Rattle.landing_joint.specs.shared.FirstBestLists.{list_of_at, list_of_long, value_rises_by}
 use Rattle.extract_plan.specs.shared.PlannedOrder.{IsPlannedFor, map_value_rises, order_best, order_tight}
 use Rattle.cps_network.specs.Lists.{node_at}
-use Rattle.cps_network.specs.Nodes.{Node, node_of}
+use Rattle.cps_network.specs.Nodes.{node_of}
 use Rattle.cps_network.specs.Landable.{Attains}
 use Rattle.cps_network.specs.Pairs.{list_at}
 use Rattle.cps_network.specs.shared.PairSteps.{at_in}
@@ -29,7 +29,6 @@ use Rattle.replan.specs.LeastValue.{IsLeastPlace, IsWorthNoMore}
 use Rattle.replan.specs.Labels.{StagePairs, HoldsPairs, last_pair, worth}
 use Rattle.std.specs.List.{AllZip}
 use Rattle.cps_theory.specs.LegalPrefix.{Legal}
-use Rattle.cps_theory.specs.ProblemNetwork.{LandedIn}
 use Rattle.cps_theory.specs.laws.FeasibleOrder.{at_seconds_agree}
 use Rattle.cps_theory.specs.laws.FrozenFront.{each_fits_distinct}
 use Rattle.cps_theory.specs.laws.LegalPrefix.{legal_each_fits, in_from_one}

@@ -5,15 +5,14 @@ use Rattle.std.proofs.Common.{◌≡◌, ℕ, zero, suc, ◌+◌, ◌*◌, ◌<�
 use Rattle.std.proofs.Common.{length-append, refl, sym, ap, subst, ◌∙◌, arith, inl, inr, zero-le, Option, Some, None}
 use Rattle.std.proofs.Common.{◌-◌, take}
 use Rattle.std.specs.Prelude.{ℤ, pos, Bool, Contains, IsTrue}
-use Rattle.std.proofs.lemmas.Bool.{cases_eq, cases_lt, le-leb, lt-leb}
-use Rattle.std.proofs.lemmas.List.{get_or_append_left, get_or_push, get_or_default, get_or-take, length-take-le}
+use Rattle.std.proofs.lemmas.Bool.{cases_lt, le-leb, lt-leb}
+use Rattle.std.proofs.lemmas.List.{get_or_append_left, get_or_default, get_or-take, length-take-le}
 use Rattle.std.proofs.lemmas.List.Elements.{Contains-get_or}
 use Rattle.cps_base.specs.Tally.{raised_by, FitsCount}
 use Rattle.cps_theory.specs.Separation.{Landing}
-use Rattle.cps_theory.specs.LandingTrail.{pair_of, ranks}
+use Rattle.cps_theory.specs.LandingTrail.{ranks}
 use Rattle.cps_theory.specs.Labels.{InPairs, Pair}
 use Rattle.cps_theory.specs.Network.{Undominated}
-use Rattle.landing_joint.specs.RankedProblem.{cost_at}
 use Rattle.landing_rules.specs.declared.objective.Objective.{Objective}
 use Rattle.landing_rules.specs.Problem.{Problem, AreBetweenRanks}
 use Rattle.cps_network.specs.Due.{HasCandidates, HasCandidatesFrom, HasCandidatesIf, IsDueFrom}

@@ -1,4 +1,4 @@
-use Rattle.std.proofs.Common.{ℕ, arith, subst}
+use Rattle.std.proofs.Common.{arith, subst}
 use Rattle.std.specs.Prelude.{vec_len}
 use Rattle.cps_network.specs.Due.{HasCandidatesFrom}
 use Rattle.replan.proofs.StageLemmas.{due_joined}

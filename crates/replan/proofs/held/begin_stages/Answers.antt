@@ -1,7 +1,5 @@
 use Rattle.std.proofs.Common.{◌≡◌, ap, subst, sym, ◌∙◌}
 use Rattle.cps_network.specs.shared.DueSteps.{due_with_none}
-use Rattle.landing_rules.specs.Problem.{Problem}
-use Rattle.replan.specs.Held.{HeldProblem}
 use Rattle.replan.specs.Stages.{AreHints}
 use Rattle.replan.proofs.HintLemmas.{hints_of_stages}
 use Rattle.replan.proofs.held.begin_stages.Goals as goal

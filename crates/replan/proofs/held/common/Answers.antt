@@ -1,5 +1,4 @@
 use Rattle.std.proofs.Common.{◌≡◌, ap, arith}
-use Rattle.landing_rules.specs.Problem.{Problem}
 use Rattle.replan.proofs.held.common.Goals as goal
 
 pub returns : goal.returns

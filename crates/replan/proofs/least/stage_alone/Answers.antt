@@ -1,5 +1,4 @@
 use Rattle.std.proofs.Common.{◌≡◌, rules, arith, sym, ap, ◌∙◌}
-use Rattle.replan.specs.Stages.{LabelledStage}
 use Rattle.replan.proofs.least.stage_alone.Goals as goal
 
 pub stage_after-requires : goal.stage_after-requires

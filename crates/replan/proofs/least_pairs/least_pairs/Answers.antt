@@ -1,6 +1,5 @@
-use Rattle.std.proofs.Common.{◌≡◌, ◌∙◌, List, length, sym, subst}
-use Rattle.cps_theory.specs.Labels.{Pair}
-use Rattle.replan.specs.WindowNodes.{AreLeastOf, AreLeastUpto, HaveLeast}
+use Rattle.std.proofs.Common.{◌≡◌, ◌∙◌, length, sym}
+use Rattle.replan.specs.WindowNodes.{HaveLeast}
 use Rattle.replan.proofs.LeastPairLemmas.{all_least, as_written, first_leasts}
 use Rattle.replan.proofs.least_pairs.least_pairs.Goals as goal
 

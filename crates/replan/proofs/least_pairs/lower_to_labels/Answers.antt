@@ -1,9 +1,8 @@
-use Rattle.std.proofs.Common.{◌≡◌, ℕ, ◌+◌, ◌<◌, ◌≤◌, List, length, set, arith, ap, subst, sym}
+use Rattle.std.proofs.Common.{◌≡◌, ◌<◌, ◌≤◌, length, arith, ap}
 use Rattle.std.specs.Prelude.{slice_index}
 use Rattle.landing_rules.specs.Rules.{last_second}
 use Rattle.cps_network.specs.Pairs.{pair_at}
-use Rattle.makespan_labels.specs.LabelPairs.{column_pairs}
-use Rattle.replan.specs.WindowNodes.{told_at, AreLeastUpto}
+use Rattle.replan.specs.WindowNodes.{told_at}
 use Rattle.replan.proofs.LeastPairLemmas.{days_set, less_label, other_label}
 use Rattle.replan.proofs.least_pairs.lower_to_labels.Goals as goal
 

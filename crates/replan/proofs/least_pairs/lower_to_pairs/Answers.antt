@@ -1,9 +1,7 @@
-use Rattle.std.proofs.Common.{◌≡◌, ℕ, ◌+◌, ◌<◌, List, length, arith, ap, ap₂, subst, sym, ◌∙◌}
-use Rattle.std.specs.Prelude.{slice_set}
+use Rattle.std.proofs.Common.{◌≡◌, ◌<◌, length, arith, ap, ap₂, ◌∙◌}
 use Rattle.landing_rules.specs.Rules.{last_second}
-use Rattle.cps_theory.specs.Labels.{Pair}
 use Rattle.cps_network.specs.Pairs.{list_at, pair_at}
-use Rattle.replan.specs.WindowNodes.{extremes, lesser, told_at, AreLeastUpto}
+use Rattle.replan.specs.WindowNodes.{extremes, lesser, told_at}
 use Rattle.replan.proofs.LeastPairLemmas.{days_set, one_least}
 use Rattle.replan.proofs.least_pairs.lower_to_pairs.Goals as goal
 

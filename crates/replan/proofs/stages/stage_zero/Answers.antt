@@ -1,5 +1,4 @@
 use Rattle.std.proofs.Common.{ap}
-use Rattle.landing_rules.specs.Problem.{Problem}
 use Rattle.replan.proofs.StageLemmas.{begins}
 use Rattle.replan.proofs.stages.stage_zero.Goals as goal
 

@@ -1,10 +1,8 @@
-use Rattle.std.proofs.Common.{ℕ, ◌-◌, ◌<◌, length, rules, arith, ap, subst, ◌∙◌}
+use Rattle.std.proofs.Common.{◌-◌, ◌<◌, length, rules, arith, ap, subst, ◌∙◌}
 use Rattle.std.proofs.lemmas.Int.{ints}
 use Rattle.std.proofs.lemmas.List.{length-set}
 use Rattle.cps_network.specs.Pairs.{list_at}
 use Rattle.cps_network.specs.WindowLaws.{WindowLaws}
-use Rattle.replan.specs.Labels.{last_pair}
-use Rattle.replan.specs.Stages.{LabelledStage, stage_at}
 use Rattle.replan.proofs.StageLemmas.{last_read}
 use Rattle.replan.proofs.TraceLemmas.{step_reads, trace_begins, back_pair, listed_undominated, last_given, trace_end}
 use Rattle.replan.proofs.trace.trace.Goals as goal

@@ -1,10 +1,7 @@
-use Rattle.std.proofs.Common.{ℕ, ◌+◌, List, ap₂, subst, sym, ◌∙◌}
-use Rattle.std.specs.Prelude.{ℤ}
+use Rattle.std.proofs.Common.{ap₂, ◌∙◌}
 use Rattle.std.proofs.Math.ListN.{length-set}
-use Rattle.cps_network.specs.Lists.{node_at}
 use Rattle.cps_network.specs.Nodes.{latest}
-use Rattle.cps_network.specs.WindowRanks.{TellsPlaced}
-use Rattle.replan.proofs.TogetherLemmas.{one_window, AreGrouped}
+use Rattle.replan.proofs.TogetherLemmas.{one_window}
 use Rattle.replan.proofs.window_nodes.together.Goals as goal
 
 pub loop-i-preserved : goal.loop-i-preserved

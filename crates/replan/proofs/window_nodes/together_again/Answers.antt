@@ -1,6 +1,5 @@
-use Rattle.std.proofs.Common.{List, length, subst, sym}
-use Rattle.std.specs.Prelude.{ℤ}
-use Rattle.replan.specs.WindowNodes.{ArePutTogether, WindowNodes}
+use Rattle.std.proofs.Common.{length, subst, sym}
+use Rattle.replan.specs.WindowNodes.{ArePutTogether}
 use Rattle.replan.proofs.MovedNodes.{together_moved}
 use Rattle.replan.proofs.window_nodes.together_again.Goals as goal
 

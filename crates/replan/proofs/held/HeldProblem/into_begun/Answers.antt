@@ -1,5 +1,4 @@
 use Rattle.std.proofs.Common.{ap, arith}
-use Rattle.replan.specs.Held.{HeldProblem}
 use Rattle.replan.proofs.StageLemmas.{fits_in_common, due_after_common}
 use Rattle.replan.proofs.held.HeldProblem.into_begun.Goals as goal
 

@@ -1,7 +1,7 @@
 use Rattle.std.proofs.Common.{length, ap, ◌∙◌, arith, rules}
 use Rattle.std.proofs.lemmas.List.{length-take-le}
 use Rattle.cps_network.specs.WindowLaws.{WindowLaws}
-use Rattle.replan.specs.Held.{AreInCommon, HeldProblem}
+use Rattle.replan.specs.Held.{AreInCommon}
 use Rattle.replan.proofs.StageLemmas.{stages_in_common, few_in_common}
 use Rattle.replan.proofs.held.HeldProblem.into_common.Goals as goal
 

@@ -1,9 +1,6 @@
-use Rattle.std.proofs.Common.{◌≡◌, ℕ, ◌+◌, ◌-◌, ◌<◌, List, [], ◌∷◌, true, length, length-append, ap, subst, sym}
+use Rattle.std.proofs.Common.{◌≡◌, ◌+◌, ◌-◌, ◌<◌, [], ◌∷◌, true, length, length-append, ap}
 use Rattle.std.proofs.Common.{arith, ◌∙◌}
-use Rattle.std.specs.Prelude.{ℤ}
-use Rattle.landing_rules.specs.Problem.{Problem}
-use Rattle.cps_network.specs.Permits.{IsNextOf}
-use Rattle.replan.specs.Stages.{AreHints, HintedStage, hinted_at}
+use Rattle.replan.specs.Stages.{HintedStage, hinted_at}
 use Rattle.replan.proofs.HintLemmas.{first_ahead, last_ahead, one_ahead, read_hinted}
 use Rattle.replan.proofs.hints.Hints.last_of.Goals as goal
 

@@ -1,5 +1,4 @@
 use Rattle.std.proofs.Common.{ap, sym, ◌∙◌}
-use Rattle.replan.specs.Held.{HeldProblem}
 use Rattle.replan.proofs.ReaderLemmas.{have_least, read_at}
 use Rattle.replan.proofs.kept.Kept.least_pairs.Goals as goal
 

@@ -1,5 +1,4 @@
 use Rattle.std.proofs.Common.{◌≡◌, ◌+◌, ◌*◌, ◌<◌, ◌≤◌, rules, arith, sym, ap, ◌∙◌}
-use Rattle.replan.specs.Held.{HeldProblem}
 use Rattle.replan.proofs.StageLemmas.{read_held}
 use Rattle.replan.proofs.kept.Kept.node.Goals as goal
 
