@@ -6,7 +6,7 @@ use Rattle.std.specs.Prelude.{slice_index_or, Option, Some, None}
 use Rattle.cps_theory.specs.Labels.{InPairs}
 use Rattle.cps_theory.specs.Separation.{Landing}
 use Rattle.std.proofs.lemmas.Bool.{cases_eq}
-use Rattle.std.proofs.lemmas.List.{get_or_append_left, get_or_push}
+use Rattle.std.proofs.lemmas.List.{get_or_append_left}
 use Rattle.landing_rules.specs.Problem.{Problem}
 use Rattle.cps_theory.specs.LandingTrail.{ranks}
 use Rattle.landing_joint.specs.CompletingPairs.{budget_of, IsCompletingPair}
@@ -14,9 +14,9 @@ use Rattle.cps_network.specs.Nodes as network
 use Rattle.cps_network.specs.Pairs.{list_at}
 use Rattle.cps_network.specs.WindowRanks.{TellTheirRanks}
 use Rattle.replan.specs.Held.{HeldProblem}
-use Rattle.replan.specs.Readers.{AreStagesOf, lists_in, stage_in, window_in}
+use Rattle.replan.specs.Readers.{AreStagesOf, stage_in, window_in}
 use Rattle.first_best.specs.declared.node.EarlyNode.{EarlyNode}
-use Rattle.first_best.specs.Nodes.{node_at, AreNodesOf, IsLandedPrefix}
+use Rattle.first_best.specs.Nodes.{AreNodesOf, IsLandedPrefix}
 use Rattle.first_best.specs.Gathered.{IsGathered, place_at}
 use Rattle.first_best.specs.Stages.{pairs_of, stage_of, AreCompleted, HasEachList, IsAheadBy, IsAheadOf, IsAheadWithin}
 use Rattle.first_best.specs.Stages.{IsBehind, ListsAllCompleting, ListsAllOfUse}

@@ -6,7 +6,7 @@ use Rattle.std.proofs.lemmas.List.{get_or_past}
 use Rattle.landing_rules.specs.Problem.{Problem}
 use Rattle.cps_theory.specs.Feasible.{SoundProblem}
 use Rattle.cps_theory.specs.Labels.{InPairs, Pair}
-use Rattle.cps_theory.specs.LandingTrail.{last_rank, ranks}
+use Rattle.cps_theory.specs.LandingTrail.{last_rank}
 use Rattle.cps_theory.specs.CompletingPairs.{KeptCompleting}
 use Rattle.cps_theory.specs.laws.CompletingPairs.{no_earlier_no_dearer_trans}
 use Rattle.landing_joint.specs.RankedProblem.{ranked, cost_at, landing_after}

@@ -1,20 +1,17 @@
 -- The windows of a stage, put together by node.
 use Rattle.replan.specs.shared.Pushed.{each_upto}
-use Rattle.std.proofs.Common.{◌≡◌, ℕ, ◌+◌, ◌-◌, ◌<◌, ◌≤◌, inl, inr, List, [], ◌∷◌, ◌++◌, length, refl, sym, ap, subst}
+use Rattle.std.proofs.Common.{◌≡◌, ℕ, ◌+◌, ◌-◌, ◌<◌, ◌≤◌, List, [], ◌∷◌, ◌++◌, length, refl, sym, ap, subst}
 use Rattle.std.proofs.Common.{◌∙◌, arith, length-append, Option}
 use Rattle.std.specs.Prelude.{ℤ, pos}
-use Rattle.std.proofs.lemmas.Bool.{cases_eq}
-use Rattle.std.proofs.lemmas.List.{get_or_default, get_or_append_left, get_or_push}
+use Rattle.std.proofs.lemmas.List.{get_or_default}
 use Rattle.landing_rules.specs.Problem.{Problem}
 use Rattle.cps_theory.specs.Separation.{Landing}
 use Rattle.cps_theory.specs.LandingTrail.{cost_of, latest_landing, pair_of, ranks}
-use Rattle.cps_theory.specs.Labels.{InPairs, Pair}
+use Rattle.cps_theory.specs.Labels.{Pair}
 use Rattle.cps_theory.specs.LegalPrefix.{Legal}
-use Rattle.cps_theory.specs.UndominatedPairs.{Staircase}
 use Rattle.cps_theory.specs.laws.LegalPrefix.{in_from_one, legal_each_fits}
 use Rattle.landing_joint.specs.RankedProblem.{ranked, cost_at}
 use Rattle.cps_nodes.specs.Windows.{IsPlaced}
-use Rattle.cps_network.specs.Landable.{IsLandable}
 use Rattle.cps_network.specs.Lists as windows
 use Rattle.cps_network.specs.Nodes as network
 use Rattle.cps_network.specs.Pairs.{HoldsCosts, list_at, pair_at}

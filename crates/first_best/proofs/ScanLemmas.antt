@@ -1,12 +1,12 @@
 -- The pairs of a node, found from the latest second on.
 use Rattle.std.proofs.Common.{◌≡◌, ℕ, ◌+◌, ◌-◌, ◌*◌, ◌<◌, ◌≤◌, ◌⊎◌, inl, inr, List, [], ◌∷◌, ◌++◌, length, reverse}
-use Rattle.std.proofs.Common.{Option, Some, None, refl, sym, ap, subst, le_refl, arith}
+use Rattle.std.proofs.Common.{Option, Some, None, refl, le_refl, arith}
 use Rattle.std.proofs.lemmas.Bool.{cases_eq, cases_lt}
 use Rattle.landing_rules.specs.Rules.{last_second}
 use Rattle.landing_rules.specs.Problem.{Problem}
 use Rattle.cps_theory.specs.Labels.{InPairs, Pair}
 use Rattle.cps_theory.specs.CompletingPairs.{NoEarlierNoDearer}
-use Rattle.cps_network.specs.shared.PairLists.{in_append, in_left, in_right}
+use Rattle.cps_network.specs.shared.PairLists.{in_left, in_right}
 use Rattle.first_best.specs.declared.node.EarlyNode.{EarlyNode}
 use Rattle.first_best.specs.Completing.{AreFalling, ArePairsOf, IsWithinBudget, IsLeastOf, IsPairOf, StageAhead}
 use Rattle.first_best.proofs.PairLemmas.{each_pair, falls_more, falls_rises, in_reversed, reversed_in}

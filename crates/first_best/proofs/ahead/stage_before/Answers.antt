@@ -1,9 +1,3 @@
-use Rattle.std.proofs.Common.{ℕ, ◌<◌, List, length, sym, subst}
-use Rattle.replan.specs.Kept.{held_of}
-use Rattle.first_best.specs.declared.node.EarlyNode.{EarlyNode}
-use Rattle.first_best.specs.Nodes.{node_at}
-use Rattle.first_best.specs.Completing.{AreListsOf}
-use Rattle.first_best.specs.Ranges.{HasRank}
 use Rattle.first_best.proofs.AheadLemmas.{held_nodes}
 use Rattle.first_best.proofs.CompletingLemmas.{behind_ranges, lists_complete}
 use Rattle.first_best.proofs.NodeLemmas.{rank_of}

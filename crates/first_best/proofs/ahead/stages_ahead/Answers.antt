@@ -1,10 +1,10 @@
-use Rattle.std.proofs.Common.{◌≡◌, ℕ, ◌+◌, ◌-◌, List, ap, sym, subst, ◌∙◌, arith}
+use Rattle.std.proofs.Common.{◌≡◌, ◌-◌, ap, sym, subst, ◌∙◌, arith}
 use Rattle.std.proofs.lemmas.List.{get_or_default}
 use Rattle.replan.specs.Kept.{held_of}
 use Rattle.replan.specs.Readers.{IsReadable}
 use Rattle.replan.specs.WindowNodes.{AreNodesOf}
-use Rattle.first_best.specs.Completing.{no_stage, StageAhead}
-use Rattle.first_best.proofs.AheadLemmas.{all_stages, at, last_behind, one_stage, IsAheadFrom}
+use Rattle.first_best.specs.Completing.{no_stage}
+use Rattle.first_best.proofs.AheadLemmas.{all_stages, at, last_behind, one_stage}
 use Rattle.first_best.proofs.ahead.stages_ahead.Goals as goal
 
 pub stage_before-requires-clause-next : goal.stage_before-requires-clause-next

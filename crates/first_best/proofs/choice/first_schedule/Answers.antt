@@ -1,12 +1,10 @@
 use Rattle.std.proofs.Common.{ℕ, ◌≤◌}
 use Rattle.landing_joint.specs.CompletingPairs.{CanChoose, IsCompletingPair}
 use Rattle.first_best.proofs.choice.first_schedule.Goals.{After-least_choice-rank}
-use Rattle.std.proofs.Common.{ℕ, ◌+◌, length, sym, ap, subst, ◌∙◌, arith}
+use Rattle.std.proofs.Common.{ℕ, length, ap, ◌∙◌, arith}
 use Rattle.std.specs.Prelude.{replicate}
 use Rattle.std.proofs.lemmas.List.{length-replicate}
-use Rattle.landing_rules.specs.Flights.{Schedule}
-use Rattle.replan.specs.Kept.{held_of}
-use Rattle.first_best.proofs.ChoiceLemmas.{chosen_by, no_order, one_landing, whole_order, IsOrder}
+use Rattle.first_best.proofs.ChoiceLemmas.{chosen_by, no_order, one_landing, whole_order}
 use Rattle.first_best.proofs.choice.first_schedule.Goals as goal
 
 pub loop-done-init : goal.loop-done-init

@@ -1,4 +1,4 @@
-use Rattle.std.proofs.Common.{◌<◌, ◌+◌, ◌≤◌, length, sym, subst, arith, rules, tests}
+use Rattle.std.proofs.Common.{◌<◌, ◌≤◌, length, arith, rules, tests}
 use Rattle.landing_rules.specs.Rules.{last_second}
 use Rattle.cps_network.specs.Pairs.{list_at}
 use Rattle.first_best.specs.Nodes.{node_at}

@@ -1,9 +1,5 @@
-use Rattle.std.proofs.Common.{◌≡◌, ◌≤◌, List, sym, subst}
 use Rattle.landing_rules.specs.Rules.{last_second}
-use Rattle.cps_theory.specs.Labels.{Pair}
-use Rattle.first_best.specs.declared.node.EarlyNode.{EarlyNode}
 use Rattle.first_best.specs.Nodes.{node_at}
-use Rattle.first_best.specs.Choices.{FindsWay, lesser_choice}
 use Rattle.first_best.proofs.ChoiceLemmas.{lesser_days}
 use Rattle.first_best.proofs.choice.with_node.Goals as goal
 

@@ -1,10 +1,6 @@
 use Rattle.replan.specs.shared.Pushed.{each_upto}
-use Rattle.std.proofs.Common.{◌≡◌, ℕ, ◌+◌, ◌++◌, List, [], ◌∷◌, length, inl, inr, sym, ap, subst, ◌∙◌, arith}
+use Rattle.std.proofs.Common.{◌≡◌, ◌+◌, ◌++◌, [], ◌∷◌, length, ap, ◌∙◌}
 use Rattle.std.proofs.Common.{length-append}
-use Rattle.std.proofs.lemmas.Bool.{cases_eq}
-use Rattle.std.proofs.lemmas.List.{get_or_append_left, get_or_push}
-use Rattle.cps_theory.specs.Labels.{Pair}
-use Rattle.cps_network.specs.Pairs.{list_at}
 use Rattle.first_best.specs.Nodes.{node_at}
 use Rattle.first_best.specs.Completing.{ArePairsOf}
 use Rattle.first_best.proofs.complete.complete.Goals as goal

@@ -1,6 +1,4 @@
-use Rattle.std.proofs.Common.{List, sym, subst, ◌∙◌}
-use Rattle.cps_theory.specs.Labels.{Pair}
-use Rattle.first_best.specs.Completing.{ArePairsOf}
+use Rattle.std.proofs.Common.{◌∙◌}
 use Rattle.first_best.proofs.ScanLemmas.{turned}
 use Rattle.first_best.proofs.complete.pairs_of.Goals as goal
 

@@ -1,15 +1,13 @@
-use Rattle.std.proofs.Common.{◌≡◌, ℕ, ◌+◌, List, length, arith, ap, subst, sym, ◌∙◌}
+use Rattle.std.proofs.Common.{◌≡◌, length, arith, ap, ◌∙◌}
 use Rattle.std.proofs.lemmas.List.{get_or_default}
-use Rattle.cps_theory.specs.Labels.{Pair}
 use Rattle.cps_network.specs.Lists as windows
 use Rattle.cps_network.specs.Nodes.{latest}
 use Rattle.cps_network.specs.Pairs.{pair_at}
-use Rattle.cps_network.specs.WindowRanks.{TellsPlaced}
 use Rattle.replan.specs.Kept.{held_of}
 use Rattle.replan.specs.Readers.{stage_in}
 use Rattle.replan.specs.WindowNodes.{told_at}
 use Rattle.first_best.specs.declared.node.EarlyNode.{EarlyNode}
-use Rattle.first_best.proofs.GatherLemmas.{all_made, one_made, AreMade}
+use Rattle.first_best.proofs.GatherLemmas.{all_made, one_made}
 use Rattle.first_best.proofs.gather.gather.Goals as goal
 
 pub node-node-requires-clause-place : goal.node-node-requires-clause-place

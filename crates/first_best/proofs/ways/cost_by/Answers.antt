@@ -1,5 +1,4 @@
-use Rattle.std.proofs.Common.{◌+◌, ◌-◌, ◌*◌, ◌≤◌, length, sym, subst, ◌∙◌, arith}
-use Rattle.cps_theory.specs.Labels.{InPairs}
+use Rattle.std.proofs.Common.{◌+◌, ◌-◌, ◌*◌, ◌≤◌, length, sym, ◌∙◌, arith}
 use Rattle.first_best.proofs.WayLemmas.{too_late, way_cost}
 use Rattle.first_best.proofs.ways.cost_by.Goals as goal
 

@@ -1,5 +1,4 @@
-use Rattle.std.proofs.Common.{ℕ, Some, subst}
-use Rattle.std.specs.Prelude.{IfOk}
+use Rattle.std.proofs.Common.{Some}
 use Rattle.std.proofs.lemmas.Result.{IfOk-weaker}
 use Rattle.replan.specs.Kept.{held_of}
 use Rattle.first_best.specs.Stages.{HasEachList, IsAheadBy, IsAheadWithin, ListsAllOfUse}

@@ -1,6 +1,4 @@
-use Rattle.std.proofs.Common.{Some, sym, subst, arith}
-use Rattle.cps_theory.specs.Labels.{Pair}
-use Rattle.first_best.specs.Completing.{IsCostFrom, IsLeastOf}
+use Rattle.std.proofs.Common.{arith}
 use Rattle.first_best.proofs.PairLemmas.{cost_found, none_found}
 use Rattle.first_best.proofs.pairs.PairList.cost_from.Goals as goal
 

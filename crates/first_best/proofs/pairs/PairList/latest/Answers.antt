@@ -1,5 +1,4 @@
-use Rattle.std.proofs.Common.{◌≡◌, ℕ, ◌-◌, ◌≤◌, length, sym, ap, subst, ◌∙◌}
-use Rattle.cps_theory.specs.Labels.{Pair}
+use Rattle.std.proofs.Common.{◌≡◌, ◌-◌, length, sym, ap, ◌∙◌}
 use Rattle.cps_network.specs.Pairs.{pair_at}
 use Rattle.first_best.proofs.PairLemmas.{last_most}
 use Rattle.first_best.proofs.pairs.PairList.latest.Goals as goal

@@ -1,5 +1,3 @@
-use Rattle.std.proofs.Common.{sym, subst}
-use Rattle.cps_theory.specs.Labels.{InPairs}
 use Rattle.first_best.proofs.stage.StageAhead.latest.Goals as goal
 
 pub returns : goal.returns
