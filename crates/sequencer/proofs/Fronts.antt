@@ -26,7 +26,7 @@ use Rattle.landing_rules.specs.Problem.{by_rank, joined, joined_second}
 use Rattle.landing_rules.specs.Sound.{IsSound}
 use Rattle.landing_rules.specs.Text.{ShownLanding, shown_landing, shown_plan}
 use Rattle.landing_rules.specs.shared.Counting.{Member}
-use Rattle.landing_rules.specs.shared.Members.{all_at, in_filter, in_frozen, in_map, member_at}
+use Rattle.landing_rules.specs.shared.Members.{all_at, cases_option, in_filter, in_frozen, in_map, member_at}
 use Rattle.landing_rules.specs.shared.Members.{member_contains, member_permutation}
 use Rattle.landing_joint.specs.ClockLaws.{ClockKeepsPlanLaw}
 use Rattle.landing_joint.specs.Numbered.{nobody}
@@ -139,13 +139,8 @@ kept_landings h (x ∷ xs) (t ∷ ts) e keeps =
 
 length_frozen : (xs : List Active) → length (frozen_of xs) + length (filter is_waiting xs) ≡ length xs
 length_frozen [] = refl
-length_frozen (x ∷ xs) = go x.frozen (length_frozen xs)
-  where
-    go : (o : Option ℕ) → length (frozen_of xs) + length (filter is_waiting xs) ≡ length xs →
-        length (cons_option (option_map (landing x) o) (frozen_of xs)) + length
-        (cond (is_none o) (x ∷ filter is_waiting xs) (filter is_waiting xs)) ≡ length (x ∷ xs)
-    go None ih = omega arith
-    go (Some t) ih = omega arith
+length_frozen (x ∷ xs) = let rest = length_frozen xs in
+    elim (cases_option x.frozen) [ inl e ↦ rw e (omega (arith, rest)) | inr e ↦ rw e.1 (omega (arith, rest)) ]
 
 module _ (s : Situation) (t : Schedule) (sound : IsSound s) (keeps : IsFeasible s t) where
   abbrev all : List Landing
@@ -222,14 +217,10 @@ landings_of f (x ∷ xs) = ap (λ l. landing x (f x) ∷ l) (landings_of f xs)
 waiting_landings : (f : Active → ℕ) (xs : List Active)
     → filter waits (map (λ a. landing a (f a)) xs) ≡ map (λ a. landing a (f a)) (filter is_waiting xs)
 waiting_landings f [] = refl
-waiting_landings f (x ∷ xs) = go (is_waiting x) (waiting_landings f xs)
-  where
-    go : (b : Bool) → filter waits (map (λ a. landing a (f a)) xs) ≡ map (λ a. landing a (f a)) (filter is_waiting xs) →
-        cond b (landing x (f x) ∷ filter waits (map (λ a. landing a (f a)) xs))
-        (filter waits (map (λ a. landing a (f a)) xs)) ≡ map (λ a. landing a (f a))
-        (cond b (x ∷ filter is_waiting xs) (filter is_waiting xs))
-    go true ih = ap (λ l. landing x (f x) ∷ l) ih
-    go false ih = ih
+waiting_landings f (x ∷ xs) = elim (cases_Bool (is_waiting x)) [
+  | inl e ↦ rw e (ap (λ l. landing x (f x) ∷ l) (waiting_landings f xs))
+  | inr e ↦ rw e (waiting_landings f xs)
+]
 
 ranked_seconds : (s : Situation) (u : Schedule) → Apart s.active → length u ≡ length (waiting s)
     → map (joined_second s u) (by_rank (waiting s)) ≡ u
@@ -281,13 +272,12 @@ frozen_estimated c eta windows (x ∷ xs) h = ap₂ (λ o fs. cons_option o fs) 
 frozen_cancelled : (c : Callsign) (xs : List Active) → ((a : Active) → Member a xs → named c a ≡ true → a.frozen ≡ None)
     → frozen_of (filter (λ a. not (named c a)) xs) ≡ frozen_of xs
 frozen_cancelled c [] h = refl
-frozen_cancelled c (x ∷ xs) h = go (named c x) refl (frozen_cancelled c xs (λ a m. h a (inr m)))
-  where
-    go : (b : Bool) → named c x ≡ b → frozen_of (filter (λ a. not (named c a)) xs) ≡ frozen_of xs
-        → frozen_of (cond (not b) (x ∷ filter (λ a. not (named c a)) xs) (filter (λ a. not (named c a)) xs)) ≡ frozen_of
-        (x ∷ xs)
-    go true e ih = ih ∙ sym (ap (λ o. cons_option (option_map (landing x) o) (frozen_of xs)) (h x (inl refl) e))
-    go false e ih = ap (cons_option (option_map _ x.frozen)) ih
+frozen_cancelled c (x ∷ xs) h =
+    let rest = frozen_cancelled c xs (λ a m. h a (inr m)) in
+    elim (cases_Bool (named c x)) [
+      | inl e ↦ rw e (rest ∙ sym (ap (λ o. cons_option (option_map (landing x) o) (frozen_of xs)) (h x (inl refl) e)))
+      | inr e ↦ rw e (ap (cons_option (option_map (landing x) x.frozen)) rest)
+    ]
 
 -- ---- a landing, frozen where it stands
 
@@ -350,21 +340,10 @@ landings_after g (x ∷ xs) (t ∷ ts) = ap (λ l. landing (g (landing x t)) t �
 
 same_name : (a : Aerodrome) (h : ℕ) (all : List Landing) (f : Landing)
     → (after_clock a h all f).flight.callsign ≡ f.flight.callsign
-same_name a h all f = go (freezes h f) (waits f)
-  where
-    freezing : Active
-    freezing = record { flight = f.flight; frozen = Some f.second; passed = 0 }
-
-    passing : Active
-    passing = record { flight = f.flight; frozen = None; passed = passed_after a h all f }
-
-    staying : Active
-    staying = record { flight = f.flight; frozen = f.frozen; passed = f.passed }
-
-    go : (b c : Bool) → (cond b freezing (cond c passing staying)).flight.callsign ≡ f.flight.callsign
-    go true c = refl
-    go false true = refl
-    go false false = refl
+same_name a h all f = elim (cases_Bool (freezes h f)) [
+  | inl e ↦ rw e refl
+  | inr e ↦ elim (cases_Bool (waits f)) [ inl w ↦ rw (e, w) refl | inr w ↦ rw (e, w) refl ]
+]
 
 clock_begins : ClockKeepsPlanLaw → (s : Situation) (t : Schedule) (now : ℕ) → IsSound s → IsFeasible s t
     → refusal s (Clock now) ≡ None → IsSound (situation_after s (Some t) (Clock now)) →

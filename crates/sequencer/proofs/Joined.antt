@@ -84,6 +84,10 @@ set_map {Y = Y} f g (x ∷ xs) (suc p) y others here =
     ap₂ (λ z l. z ∷ l) (others 0 x (omega arith) (omega arith))
     (set_map f g xs p y (λ i d lt ne. others (suc i) d (omega arith) (omega arith)) (λ d lt. here d (omega arith)))
 
+none_is : (o : Option ℕ) → is_none o ≡ true → o ≡ None
+none_is None e = refl
+none_is (Some x) e = absurd (false≢true e)
+
 module _ (s : Situation) (apart : Apart s.active) where
   abbrev pub R : List Active
   R = by_rank (waiting s)
@@ -112,11 +116,7 @@ module _ (s : Situation) (apart : Apart s.active) where
       let a : Active = get_or R n nobody in
       let there : Member a (waiting s) = member_permutation R _ a
       (IsPermutation-sym (waiting s) R (rank_permutes (waiting s))) (member_at R n nobody lt) in
-      no_second a.frozen (in_filter is_waiting s.active a there).1
-    where
-      no_second : (o : Option ℕ) → is_none o ≡ true → o ≡ None
-      no_second None e = refl
-      no_second (Some x) e = absurd (false≢true e)
+      none_is a.frozen (in_filter is_waiting s.active a there).1
 
   module _ (places : List ℕ) (at : ArePlacesByRank s places) where
     pub places_length : length places ≡ length R
