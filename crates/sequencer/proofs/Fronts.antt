@@ -168,10 +168,10 @@ module _ (s : Situation) (t : Schedule) (sound : IsSound s) (keeps : IsFeasible 
       → Climbs second waiting → frozen_shown s ++ waiting ≡ (shown_plan s t).landings
   front_first waiting p climbs =
       let fs = frozen_landings s in
-      let held : filter (λ f. not (waits f)) all ≡ fs =
-      kept_landings (horizon s) s.active t keeps.0 keeps.1.frozen_kept in
-      let parts : IsPermutation all (filter (λ f. not (waits f)) all ++ filter waits all) =
-      IsPermutation-filter_both (λ f. not (waits f)) waits (λ f. sym (not-not (waits f))) all in
+      let held : filter (λ f. not (waits f)) all ≡ fs = kept_landings (horizon s) s.active t keeps.0
+      keeps.1.frozen_kept in
+      let parts : IsPermutation all (filter (λ f. not (waits f)) all ++ filter waits all) = IsPermutation-filter_both
+      (λ f. not (waits f)) waits (λ f. sym (not-not (waits f))) all in
       let shown : IsPermutation (map shown_landing all) (map shown_landing fs ++ map shown_landing (filter waits all)) =
       rw (ap (λ fs. map shown_landing (fs ++ filter waits all)) held
       ∙ map-append shown_landing fs _) at (IsPermutation-map shown_landing all
@@ -182,8 +182,7 @@ module _ (s : Situation) (t : Schedule) (sound : IsSound s) (keeps : IsFeasible 
       (IsPermutation-map shown_landing fs (in_landing_order fs) (order_permutes fs)) p in
       in_order s t sound keeps _ _ refl
       (IsPermutation-trans (map shown_landing all) (map shown_landing fs ++ map shown_landing _)
-      (frozen_shown s ++ waiting) shown each)
-      (climbs_append second _ waiting
+      (frozen_shown s ++ waiting) shown each) (climbs_append second _ waiting
       (climbs_map shown_landing second _ (order_rises fs)) climbs (before_waiting waiting p))
 
   -- its first landings are the frozen ones

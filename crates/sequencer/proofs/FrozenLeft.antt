@@ -34,14 +34,12 @@ behind c u g (f ∷ rest) h = behind c u f rest (λ y m. h y (inr m))
 
 last_behind : (g f : Landing) (all : List Landing) → last_of (g ∷ insert_landing f all) ≡ last_of (insert_landing f all)
 last_behind g f [] = refl
-last_behind g f (x ∷ rest) =
-    elim (cases_Bool (nat_lt x.second f.second)) [ inl e ↦ rw e refl | inr e ↦ rw e refl ]
+last_behind g f (x ∷ rest) = elim (cases_Bool (nat_lt x.second f.second)) [ inl e ↦ rw e refl | inr e ↦ rw e refl ]
 
 last_inserted : (f : Landing) (all : List Landing) → Climbs (λ g. g.second) all
     → last_of (insert_landing f all) ≡ later_at f.flight.category (Some f.second) (last_of all)
 last_inserted f [] c = refl
-last_inserted f (g ∷ []) c =
-    elim (cases_Bool (nat_lt g.second f.second)) [ inl e ↦ rw e refl | inr e ↦ rw e refl ]
+last_inserted f (g ∷ []) c = elim (cases_Bool (nat_lt g.second f.second)) [ inl e ↦ rw e refl | inr e ↦ rw e refl ]
 last_inserted f (g ∷ h ∷ rest) c = elim (cases_Bool (nat_lt g.second f.second)) [
   | inl e ↦ rw e (last_behind g f (h ∷ rest) ∙ last_inserted f (h ∷ rest) c.1)
   | inr e ↦

@@ -1,4 +1,5 @@
 -- The pairs of ranks, one added after the other.
+use Rattle.std.proofs.Common.{rules}
 use Rattle.std.proofs.Common.{◌≡◌, ℕ, ◌+◌, ◌-◌, ◌<◌, ◌≤◌, ◌⊎◌, inl, inr, List, Some, length, map, get_or, sym, ap, ap₂}
 use Rattle.std.proofs.Common.{subst, ◌∙◌, arith}
 use Rattle.std.specs.Prelude.{◌↔◌, IsTrue, slice_get, Decides}
@@ -20,8 +21,7 @@ module _ (all : List Active) where
       (i j : ℕ) → MustPrecede pairs i j ↔ (MustPrecede start i j ⊎ ((j ≡ next) × (i < first) × IsListed all i j))
 
   pub none_added : (pairs : List ℕ) (next : ℕ) → Added pairs pairs next 1
-  none_added pairs next i j =
-      (inl, λ s. elim s [ inl m ↦ m | inr l ↦ absurd (let a = l.2.first in omega (arith, l.1)) ])
+  none_added pairs next i j = (inl, omega arith)
 
   pub one_added : (start old new : List ℕ) (next first : ℕ) → Added start old next first → IsListed all first next
       → ((i j : ℕ) → MustPrecede new i j ↔ (MustPrecede old i j ⊎ ((i ≡ first) × (j ≡ next))))
@@ -79,7 +79,7 @@ module _ (all : List Active) where
   Below pairs next = (i j : ℕ) → MustPrecede pairs i j ↔ ((j < next) × IsListed all i j)
 
   pub none_below : (pairs : List ℕ) → ((i j : ℕ) → MustPrecede pairs i j → ⊥) → Below pairs 1
-  none_below pairs none i j = (λ m. absurd (none i j m), λ l. absurd (let a = l.1.next in omega (arith, l.0)))
+  none_below pairs none i j = (λ m. absurd (none i j m), omega arith)
 
   pub one_below : (old new : List ℕ) (next : ℕ) → Below old next
       → ((i j : ℕ) → MustPrecede new i j ↔ (MustPrecede old i j ⊎ ((j ≡ next) × IsListed all i j)))
@@ -97,16 +97,12 @@ module _ (all : List Active) where
 
   pub all_below : (pairs : List ℕ) (next : ℕ) → length all < next → Below pairs next → (i j : ℕ)
       → MustPrecede pairs i j ↔ IsListed all i j
-  all_below pairs next past was i j = (λ m. ((was i j).0 m).1, λ l. (was i j).1 ((omega (arith, l.next)), l))
+  all_below pairs next past was i j = (λ m. ((was i j).0 m).1, grind arith)
 
   -- so they are those of the rules
   pub between : (pairs : List ℕ) (n : ℕ) → n ≡ length all → ((i j : ℕ) → MustPrecede pairs i j ↔ IsListed all i j)
       → AreBetweenRanks n pairs
-  between pairs n e is i j m =
-      let l = (is i j).0 ((must_precede_decides pairs i j).0 m) in
-      let a = l.first in
-      let b = l.next in
-      (omega arith, omega arith, omega arith, omega arith)
+  between pairs n e is i j m = grind arith
 
   listed_is : (i j : ℕ) (a b : Active) → slice_get all i ≡ Some a → slice_get all j ≡ Some b
       → IsListed all (i + 1) (j + 1) ↔ IsTrue (lists b.flight a.flight.callsign)
