@@ -1,5 +1,8 @@
 -- The frozen landings stand first in landing order, the waiting ones behind them; and what an event freezes, it freezes
 -- where the plan shown lands it.
+use Rattle.std.specs.Prelude.{◌≢◌}
+use Rattle.std.proofs.lemmas.List.Kept.{AllPairs-cons}
+use Rattle.landing_rules.specs.shared.Members.{all_from}
 use Rattle.std.proofs.Common.{◌≡◌, ℕ, zero, suc, ◌+◌, ◌<◌, ◌≤◌, Bool, true, false, cond, not, List, [], ◌∷◌, ◌++◌}
 use Rattle.std.proofs.Common.{length, get_or, map, filter, take, Option, Some, None, inl, inr, ◌⊎◌, refl, sym, ap, ap₂}
 use Rattle.std.proofs.Common.{subst, ◌∙◌, arith}
@@ -48,29 +51,16 @@ apart_frozen : (xs : List Active) → Apart xs → (i j : ℕ) (d : Landing) →
     → (get_or (frozen_of xs) i d).flight.callsign ≡ (get_or (frozen_of xs) j d).flight.callsign → ⊥
 apart_frozen [] apart = λ i j d lt within e. absurd (omega arith)
 apart_frozen (x ∷ xs) apart =
-    go x.frozen (apart_frozen xs (λ i j d lt within. apart (suc i) (suc j) d (omega arith) (omega arith)))
-  where
-    AreOwn : List Landing → Type 0
-    AreOwn fs = (i j : ℕ) (d : Landing) → i < j → j < length fs
-        → (get_or fs i d).flight.callsign ≡ (get_or fs j d).flight.callsign → ⊥
-
-    first : (j : ℕ) (d : Landing) → j < length (frozen_of xs)
-        → x.flight.callsign ≡ (get_or (frozen_of xs) j d).flight.callsign → ⊥
-    first j d within e =
-        let r = in_frozen xs _ (member_at (frozen_of xs) j d within) in
-        let c = member_contains xs r.0 r.2 in
-        let l = c.1 in
-        apart 0 (suc c.0) r.0 (omega arith) (omega arith) (e ∙ ap (λ f. f.flight.callsign) r.4
-        ∙ ap (λ a. a.flight.callsign) (sym c.2))
-
-    go : (o : Option ℕ) → AreOwn (frozen_of xs) → AreOwn (cons_option (option_map (landing x) o) (frozen_of xs))
-    go None ih = ih
-    go (Some t) ih = own
-      where
-        own : AreOwn (landing x t ∷ frozen_of xs)
-        own i zero d lt within e = absurd (omega arith)
-        own zero (suc j) d lt within e = first j d (omega arith) e
-        own (suc i) (suc j) d lt within e = ih i j d (omega arith) (omega arith) e
+    let rest = apart_frozen xs (λ i j d lt within. apart (suc i) (suc j) d (omega arith) (omega arith)) in
+    elim (cases_option x.frozen) [
+      | inl none ↦ rw none rest
+      | inr t ↦ rw t.1 (AllPairs-cons (λ (f g : Landing). f.flight.callsign ≢ g.flight.callsign) _ (frozen_of xs)
+          (all_from (λ (g : Landing). x.flight.callsign ≢ g.flight.callsign) (frozen_of xs) (λ g m e.
+          let r = in_frozen xs g m in
+          let c = member_contains xs r.0 r.2 in
+          apart 0 (suc c.0) r.0 (omega arith) (omega (arith, c.1)) (e ∙ ap (λ f. f.flight.callsign) r.4
+          ∙ ap (λ a. a.flight.callsign) (sym c.2)))) rest)
+    ]
 
 -- no two land at one second
 pub seconds_apart : (s : Situation) → IsSound s → (i j : ℕ) (d : Landing) → i < j → j < length (frozen_landings s)
