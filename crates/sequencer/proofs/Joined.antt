@@ -181,6 +181,10 @@ module _ (s : Situation) (apart : Apart s.active) where
       pub joined_more : set (joined s (take n t)) place (get_or t n 0) ≡ joined s (take (n + 1) t)
       joined_more = set_map _ _ s.active place _ others here
 
+pub placed_count : (s : Situation) (places : List ℕ) → IsSound s → ArePlacesByRank s places
+    → length places ≡ length (waiting s)
+placed_count s places sound at = places_length s sound.callsigns places at ∙ rank_length (waiting s)
+
 -- ---- a feasible list
 
 module _ (s : Situation) (p : problems.Problem) (sound : IsSound s) (of : IsProblemOf s p)

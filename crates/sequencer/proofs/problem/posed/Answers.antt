@@ -63,20 +63,23 @@ placed c =
 
 pub overflow_sub-flights : goal.overflow_sub-flights
 overflow_sub-flights c =
-    let n = frozen_and_placed _ _ c.requires.sound (placed c) in
-    let e = ap (length {A = Active}) c.flights-flights.ensures in
-    let v = c.in_ok-places.places.ok.0 in
-    omega (arith, c.len.ensures)
+    omega (
+      arith,
+      frozen_and_placed _ _ c.requires.sound (placed c),
+      ap (length {A = Active}) c.flights-flights.ensures,
+      c.in_ok-places.places.ok.0,
+      c.len.ensures,
+    )
 
 pub last_frozen-last-requires-clause-count : goal.last_frozen-last-requires-clause-count
 last_frozen-last-requires-clause-count c =
-    let n = frozen_and_placed _ _ c.requires.sound (placed c) in
-    let e = ap (length {A = Active}) c.flights-flights.ensures in
-    let v = c.in_ok-places.places.ok.0 in
-    omega (arith, c.len.ensures)
+    omega (
+      arith,
+      frozen_and_placed _ _ c.requires.sound (placed c),
+      ap (length {A = Active}) c.flights-flights.ensures,
+      c.in_ok-places.places.ok.0,
+      c.len.ensures,
+    )
 
 pub returns-clause-places : goal.returns-clause-places
-returns-clause-places c =
-    by_rank_places c.args.situation.now (λ p. p.place) (λ p. p.active.now) c.in_ok-ranked.ranked.items _ _
-    c.flights-flights.ensures c.in_ok-ranked.ensures.flights c.in_ok-ranked.ensures.places
-    (c.in_ok-places.ensures ∙ ap (map (λ p. p.place)) c.deref-2.ensures.value)
+returns-clause-places c = placed (goal.at.returns-clause-places c).After-len

@@ -1,3 +1,4 @@
+use Rattle.sequencer.proofs.Joined.{placed_count}
 use Rattle.std.proofs.Common.{◌≡◌, ℕ, ◌+◌, ◌-◌, ◌≤◌, List, length, get_or, slice_set, take, ap, ◌∙◌, arith}
 use Rattle.std.proofs.lemmas.List.{length-map, take_all}
 use Rattle.std.proofs.lemmas.Option.{slice_get_within}
@@ -10,24 +11,27 @@ use Rattle.sequencer.proofs.Ranks.{rank_length}
 use Rattle.sequencer.proofs.Joined.{joined_more, placed_at, places_length}
 use Rattle.sequencer.proofs.seconds.joined_seconds.Goals as goal
 
-count : (s : Situation) (places : List ℕ) → IsSound s → ArePlacesByRank s places → length places ≡ length (waiting s)
-count s places sound at = places_length s sound.callsigns places at ∙ rank_length (waiting s)
-
 pub overflow_cast-index : goal.overflow_cast-index
 overflow_cast-index c =
-    let n = count _ _ c.requires.sound c.requires.places in
-    let few = c.requires.sound.few_waiting in
-    omega (arith, c.loop-index-test.true)
+    omega (
+      arith,
+      placed_count _ _ c.requires.sound c.requires.places,
+      c.requires.sound.few_waiting,
+      c.loop-index-test.true,
+    )
 
 pub overflow_add-index : goal.overflow_add-index
 overflow_add-index c =
-    let n = count _ _ c.requires.sound c.requires.places in
-    let few = c.requires.sound.few_waiting in
-    omega (arith, c.loop-index-test.true)
+    omega (
+      arith,
+      placed_count _ _ c.requires.sound c.requires.places,
+      c.requires.sound.few_waiting,
+      c.loop-index-test.true,
+    )
 
 pub second-requires : goal.second-requires
 second-requires c =
-    let n = count _ _ c.requires.sound c.requires.places in
+    let n = placed_count _ _ c.requires.sound c.requires.places in
     let long = c.requires.long in
     let lt = c.loop-index-test.true in
     (omega arith, omega arith)
@@ -58,7 +62,7 @@ loop-index-preserved c =
 pub returns : goal.returns
 returns c =
     let s = c.args.situation.now in
-    let n = count s _ c.requires.sound c.requires.places in
+    let n = placed_count s _ c.requires.sound c.requires.places in
     let long = c.requires.long in
     let past : length c.args.schedule.now ≤ c.loop-index.index = omega (arith, c.loop-index-test.false) in
     c.loop-index.invariant ∙ ap (joined s) (take_all _ _ past)
