@@ -5,7 +5,7 @@ use Rattle.std.proofs.lemmas.List.Kept.{AllPairs-cons}
 use Rattle.landing_rules.specs.shared.Members.{all_from}
 use Rattle.std.proofs.Common.{◌≡◌, ℕ, zero, suc, ◌+◌, ◌<◌, ◌≤◌, Bool, true, false, cond, not, List, [], ◌∷◌, ◌++◌}
 use Rattle.std.proofs.Common.{length, get_or, map, filter, take, Option, Some, None, inl, inr, ◌⊎◌, refl, sym, ap, ap₂}
-use Rattle.std.proofs.Common.{subst, ◌∙◌, arith}
+use Rattle.std.proofs.Common.{◌∙◌, arith}
 use Rattle.std.specs.Prelude.{All, MatchOption, option_map, is_none, nat_lt, slice_get, unwrap_or}
 use Rattle.std.specs.List.{cons_option}
 use Rattle.std.specs.List.Sorted.{IsPermutation}
@@ -24,12 +24,12 @@ use Rattle.landing_rules.specs.Flights.{is_waiting, landing, landings, waiting}
 use Rattle.landing_rules.specs.Rules.{IsFeasible, IsFrozenKept, waits}
 use Rattle.landing_rules.specs.Events.{Event, Estimate, Cancel, Add, Clock, after_clock}
 use Rattle.landing_rules.specs.Events.{estimated, freezes, frozen_landings, in_landing_order, insert_landing, named}
-use Rattle.landing_rules.specs.Events.{newcomer, passed_after, refusal, situation_after}
+use Rattle.landing_rules.specs.Events.{newcomer, refusal, situation_after}
 use Rattle.landing_rules.specs.Problem.{by_rank, joined, joined_second}
 use Rattle.landing_rules.specs.Sound.{IsSound}
 use Rattle.landing_rules.specs.Text.{ShownLanding, shown_landing, shown_plan}
 use Rattle.landing_rules.specs.shared.Counting.{Member}
-use Rattle.landing_rules.specs.shared.Members.{all_at, cases_option, in_filter, in_frozen, in_map, member_at}
+use Rattle.landing_rules.specs.shared.Members.{all_at, cases_option, in_filter, in_frozen, in_map}
 use Rattle.landing_rules.specs.shared.Members.{member_contains, member_permutation}
 use Rattle.landing_joint.specs.ClockLaws.{ClockKeepsPlanLaw}
 use Rattle.landing_joint.specs.Numbered.{nobody}

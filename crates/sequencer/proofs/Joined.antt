@@ -1,7 +1,7 @@
 -- The frozen landings joined with a list by rank: the flight of each rank stands at the place given for it, and lands
 -- at the list's second for the rank.
 use Rattle.std.proofs.Common.{◌≡◌, ◌≢◌, ℕ, zero, suc, ◌+◌, ◌-◌, ◌<◌, ◌≤◌, true, cond, List, [], ◌∷◌, length, get_or}
-use Rattle.std.proofs.Common.{map, take, Option, Some, None, inl, inr, refl, sym, ap, ap₂, subst, ◌∙◌, arith, count_by}
+use Rattle.std.proofs.Common.{map, take, Option, Some, None, inl, inr, refl, sym, ap, ap₂, ◌∙◌, arith, count_by}
 use Rattle.std.specs.Prelude.{All, IsTrue, is_none, slice_get, unwrap_or}
 use Rattle.std.specs.List.{list_any, AllByRecursion}
 use Rattle.std.specs.List.Sorted.{IsStrictlySortedBy}

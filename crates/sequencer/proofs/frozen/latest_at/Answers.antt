@@ -1,7 +1,6 @@
 use Rattle.std.proofs.Common.{◌≡◌, Some, ap, ◌∙◌, rules, tests}
 use Rattle.std.proofs.lemmas.Iterator.{first_from_find}
 use Rattle.std.proofs.lemmas.Iterator.Adapters.{YieldsList-from_rev_slice}
-use Rattle.landing_rules.specs.Flights.{Active}
 use Rattle.sequencer.proofs.LastFrozen.{IsElsewhere, back_found, back_none, found_last, some_last}
 use Rattle.sequencer.proofs.frozen.latest_at.Goals as goal
 

@@ -2,7 +2,6 @@ use Rattle.std.proofs.Common.{◌<◌, ◌≤◌, length, map, sym, ap, ◌∙�
 use Rattle.std.specs.Prelude.{◌↔◌, IsTrue}
 use Rattle.std.proofs.lemmas.Bool.{false≢true}
 use Rattle.std.proofs.lemmas.List.{length-map}
-use Rattle.landing_rules.specs.Flights.{Active}
 use Rattle.landing_rules.specs.Rules.{lists}
 use Rattle.sequencer.specs.Predecessors.{IsListed}
 use Rattle.sequencer.proofs.Listed.{none_added, one_added, none_more, all_added, listed_by}

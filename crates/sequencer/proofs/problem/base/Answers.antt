@@ -1,9 +1,8 @@
-use Rattle.std.proofs.Common.{sym, ap, subst, ◌∙◌}
-use Rattle.std.specs.Prelude.{All, sum_by}
-use Rattle.landing_rules.specs.Flights.{Aerodrome}
+use Rattle.std.proofs.Common.{sym, ap, ◌∙◌}
+use Rattle.std.specs.Prelude.{sum_by}
 use Rattle.landing_rules.specs.Events.{frozen_landings}
 use Rattle.landing_rules.specs.Problem.{frozen_cost}
-use Rattle.sequencer.specs.Frozen.{delay_of, HasSmallDelay}
+use Rattle.sequencer.specs.Frozen.{delay_of}
 use Rattle.sequencer.proofs.FrozenLeft.{delay_is, small_delays}
 use Rattle.sequencer.proofs.problem.base.Goals as goal
 

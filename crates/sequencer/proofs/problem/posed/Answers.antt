@@ -1,16 +1,14 @@
-use Rattle.std.proofs.Common.{◌≡◌, ℕ, length, map, filter, List, sym, ap, subst, ◌∙◌, arith}
+use Rattle.std.proofs.Common.{◌≡◌, ℕ, length, map, filter, ap, ◌∙◌, arith}
 use Rattle.std.specs.Prelude.{◌↔◌}
 use Rattle.std.specs.List.{AllZip}
 use Rattle.precedence.specs.Pairs.{MustPrecede}
 use Rattle.landing_rules.specs.Flights.{Active, waiting, is_waiting}
-use Rattle.landing_rules.specs.Problem.{IsWaitingOf, IsProblemOf, by_rank}
+use Rattle.landing_rules.specs.Problem.{IsWaitingOf, by_rank}
 use Rattle.cps_problem.specs.Seen.{waiting_of}
-use Rattle.sequencer.specs.declared.order.Placed.{Placed}
 use Rattle.sequencer.specs.Predecessors.{IsListed}
 use Rattle.sequencer.specs.Ranked.{ArePlacesByRank}
 use Rattle.sequencer.proofs.Fronts.{frozen_and_placed}
 use Rattle.sequencer.proofs.Places.{by_rank_places, few_ranked}
-use Rattle.sequencer.proofs.Ranks.{Apart}
 use Rattle.sequencer.proofs.ProblemOf.{IsHeadOf, posed, well_formed}
 use Rattle.sequencer.proofs.problem.posed.Goals as goal
 use Rattle.sequencer.proofs.problem.posed.Goals.{After-len, In_ok-with_times}

@@ -1,5 +1,4 @@
 use Rattle.std.proofs.Common.{map, ap, ◌∙◌}
-use Rattle.sequencer.specs.declared.order.Placed.{Placed}
 use Rattle.sequencer.proofs.Places.{by_rank_places}
 use Rattle.sequencer.proofs.problem.ranked_places.Goals as goal
 

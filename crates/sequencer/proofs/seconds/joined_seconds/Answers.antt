@@ -1,14 +1,10 @@
 use Rattle.sequencer.proofs.Joined.{placed_count}
-use Rattle.std.proofs.Common.{◌≡◌, ℕ, ◌+◌, ◌-◌, ◌≤◌, List, length, get_or, slice_set, take, ap, ◌∙◌, arith}
+use Rattle.std.proofs.Common.{◌≡◌, ℕ, ◌+◌, ◌-◌, ◌≤◌, length, get_or, slice_set, take, ap, ◌∙◌, arith}
 use Rattle.std.proofs.lemmas.List.{length-map, take_all}
 use Rattle.std.proofs.lemmas.Option.{slice_get_within}
-use Rattle.landing_rules.specs.Flights.{Situation, waiting}
-use Rattle.landing_rules.specs.Problem.{by_rank, joined, joined_second}
-use Rattle.landing_rules.specs.Sound.{IsSound}
+use Rattle.landing_rules.specs.Problem.{joined}
 use Rattle.landing_joint.specs.Numbered.{nobody}
-use Rattle.sequencer.specs.Ranked.{ArePlacesByRank}
-use Rattle.sequencer.proofs.Ranks.{rank_length}
-use Rattle.sequencer.proofs.Joined.{joined_more, placed_at, places_length}
+use Rattle.sequencer.proofs.Joined.{joined_more, placed_at}
 use Rattle.sequencer.proofs.seconds.joined_seconds.Goals as goal
 
 pub overflow_cast-index : goal.overflow_cast-index

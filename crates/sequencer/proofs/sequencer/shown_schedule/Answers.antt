@@ -1,6 +1,4 @@
-use Rattle.std.proofs.Common.{sym, ap, subst, ◌∙◌}
-use Rattle.landing_rules.specs.Flights.{Schedule}
-use Rattle.landing_rules.specs.Rules.{IsBest, IsTight}
+use Rattle.std.proofs.Common.{sym, ap, ◌∙◌}
 use Rattle.landing_rules.specs.Text.{shown_plan}
 use Rattle.sequencer.proofs.Joined.{list_length, list_in_days}
 use Rattle.sequencer.proofs.sequencer.shown_schedule.Goals as goal

@@ -1,10 +1,8 @@
-use Rattle.std.proofs.Common.{◌≡◌, ◌<◌, ◌+◌, Bor, List, [], ◌∷◌, ◌++◌, length, get_or, map, take, sym, ap, subst, ◌∙◌}
+use Rattle.std.proofs.Common.{◌≡◌, ◌<◌, ◌+◌, [], ◌∷◌, ◌++◌, length, get_or, map, take, sym, ap, ◌∙◌}
 use Rattle.std.proofs.Common.{arith}
 use Rattle.std.proofs.lemmas.List.{length-map, take_more, map-append}
 use Rattle.std.proofs.lemmas.Slice.Zip.{all_zipped_more}
-use Rattle.landing_rules.specs.Flights.{Active}
 use Rattle.landing_rules.specs.Problem.{IsWaitingOf}
-use Rattle.situations.specs.declared.active.Active as declared
 use Rattle.cps_problem.specs.Seen.{waiting_of}
 use Rattle.sequencer.proofs.Ranks.{seen_at}
 use Rattle.sequencer.proofs.waiting.all_waiting.Goals as goal

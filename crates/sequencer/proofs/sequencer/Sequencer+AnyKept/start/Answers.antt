@@ -1,9 +1,6 @@
-use Rattle.std.proofs.Common.{sym, ap, subst, ◌∙◌}
+use Rattle.std.proofs.Common.{sym, ap, ◌∙◌}
 use Rattle.std.specs.Prelude.{option_map}
-use Rattle.landing_rules.specs.Events.{IsPlanShown}
-use Rattle.landing_rules.specs.Problem.{IsProblemOf}
 use Rattle.landing_rules.specs.Text.{plan_shown}
-use Rattle.sequencer.specs.declared.sequencer.Shown.{Shown}
 use Rattle.sequencer.proofs.sequencer.Sequencer+AnyKept.start.Goals as goal
 
 pub invariant_of-result : goal.invariant_of-result
