@@ -26,7 +26,7 @@ module _ (p : Problem) (order : List ℕ) (w : IsWholeOrder (length p.flights) o
       (at_seconds (λ r. get_or t (r - 1) 0) (reverse order))
 
   pub is_earliest : (t : Schedule) → Retimed t → EarliestInOrder p order t
-  is_earliest t e = e ∙ ap Some (at_seconds_agree (λ r. get_or t (r - 1) 0) (of_rank 0 t) (reverse order)
+  is_earliest t e = e ∙ ap Some (at_seconds_agree (λ r. get_or t (r - 1) 0) _ _
       (λ r i. second_is t r (in_order p order w r i).0))
 
   pub retimed_lands : IsWakeTable p.table → (t : Schedule) → length t ≡ length p.flights → Retimed t
@@ -40,25 +40,19 @@ module _ (p : Problem) (order : List ℕ) (w : IsWholeOrder (length p.flights) o
       × (earliest (first_at p) (next_from (ranked p)) (reverse order) ≡ Some xs)
       × NoLater xs (by_seconds p u (reverse order))
   any_lands u l =
-      let least = earliest_least (λ r u. (ranked p).is_open r u ≡ true) (first_at p) (next_from (ranked p))
-      (is_first_open p) (next_later (ranked p)) (by_seconds p u (reverse order)) (order_lands p order u w l) in (
-        least.0,
-        subst (λ rs. earliest (first_at p) (next_from (ranked p)) rs ≡ Some least.0)
-            (ranks_at (of_rank 0 u) (reverse order)) least.1,
-        least.2,
-      )
+      let least = earliest_least (λ r u. (ranked p).is_open r u ≡ true) _ _ (is_first_open p) (next_later (ranked p)) _
+      (order_lands p order u w l) in (least.0, rw (ranks_at _ _) at least.1, least.2)
 
   pub retimed_none : earliest (first_at p) (next_from (ranked p)) (reverse order) ≡ None → (u : Schedule)
       → LandsInOrder p order u → ⊥
-  retimed_none e u l = let a = any_lands u l in let no : None ≡ Some a.0 = sym e ∙ a.1 in cc
+  retimed_none e u l = let a = any_lands u l in cc (sym e ∙ a.1)
 
   pub retimed_least : (t : Schedule) → length t ≡ length p.flights → Retimed t → (u : Schedule)
       → LandsInOrder p order u → AllZip (λ a b. a ≤ b) t u
   retimed_least t long e u l =
       let a = any_lands u l in
-      let same : by_seconds p t (reverse order) ≡ a.0 =
-      some_same (by_seconds p t (reverse order)) a.0 (sym (is_earliest t e) ∙ a.1) in
+      let same : by_seconds p t (reverse order) ≡ a.0 = some_same _ a.0 (sym (is_earliest t e) ∙ a.1) in
       let later = subst (λ xs. NoLater xs (by_seconds p u (reverse order))) (sym same) a.2 in
       let n = l.one_each in
-      zip_of t u (omega arith) (λ i lt. no_later_at (of_rank 0 t) (of_rank 0 u) (reverse order) later
+      zip_of t u (omega arith) (λ i lt. no_later_at _ (of_rank 0 u) (reverse order) later
       (suc i) (has_ranks p order w (suc i) (omega arith, omega arith)))

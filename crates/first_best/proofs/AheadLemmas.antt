@@ -1,11 +1,12 @@
 -- Stages made from the last backward.
+use Rattle.replan.specs.shared.Pushed.{each_upto}
 use Rattle.std.proofs.Common.{◌≡◌, ℕ, ◌+◌, ◌-◌, ◌<◌, ◌≤◌, inl, inr, List, [], ◌∷◌, ◌++◌, length, sym, ap, subst, ◌∙◌}
 use Rattle.std.proofs.Common.{arith, length-append}
 use Rattle.std.specs.Prelude.{slice_index_or, Option, Some, None}
 use Rattle.cps_theory.specs.Labels.{InPairs}
 use Rattle.cps_theory.specs.Separation.{Landing}
 use Rattle.std.proofs.lemmas.Bool.{cases_eq}
-use Rattle.std.proofs.lemmas.List.{get_or_append_left, get_or_push}
+use Rattle.std.proofs.lemmas.List.{get_or_append_left}
 use Rattle.landing_rules.specs.Problem.{Problem}
 use Rattle.cps_theory.specs.LandingTrail.{ranks}
 use Rattle.landing_joint.specs.CompletingPairs.{budget_of, IsCompletingPair}
@@ -13,9 +14,9 @@ use Rattle.cps_network.specs.Nodes as network
 use Rattle.cps_network.specs.Pairs.{list_at}
 use Rattle.cps_network.specs.WindowRanks.{TellTheirRanks}
 use Rattle.replan.specs.Held.{HeldProblem}
-use Rattle.replan.specs.Readers.{AreStagesOf, lists_in, stage_in, window_in}
+use Rattle.replan.specs.Readers.{AreStagesOf, stage_in, window_in}
 use Rattle.first_best.specs.declared.node.EarlyNode.{EarlyNode}
-use Rattle.first_best.specs.Nodes.{node_at, AreNodesOf, IsLandedPrefix}
+use Rattle.first_best.specs.Nodes.{AreNodesOf, IsLandedPrefix}
 use Rattle.first_best.specs.Gathered.{IsGathered, place_at}
 use Rattle.first_best.specs.Stages.{pairs_of, stage_of, AreCompleted, HasEachList, IsAheadBy, IsAheadOf, IsAheadWithin}
 use Rattle.first_best.specs.Stages.{IsBehind, ListsAllCompleting, ListsAllOfUse}
@@ -44,21 +45,13 @@ module _ (p : Problem) (v : ℕ) (budget : Option ℕ) (held : Option HeldProble
       (s : StageAhead) (completed : AreCompleted p v budget stage s.nodes s.lists)
       (gathered : IsGathered held stage s.nodes s.places) where
     old : (i : ℕ) → i ≤ done → at (stages ++ s ∷ []) i ≡ at stages i
-    old i le = get_or_append_left stages (s ∷ []) no_stage i (let l = a.long in omega (arith, le, l))
-
-    new : at (stages ++ s ∷ []) (done + 1) ≡ s
-    new = get_or_push stages s no_stage (done + 1) a.long
+    old i le = get_or_append_left stages (s ∷ []) no_stage i (let l = a.long in omega arith)
 
     each : (P : ℕ → StageAhead → Type 0) → ((i : ℕ) → 1 ≤ i → i ≤ done → P (length p.flights + 1 - i) (at stages i))
         → P stage s → (i : ℕ) → 1 ≤ i → i ≤ done + 1 → P (length p.flights + 1 - i) (at (stages ++ s ∷ []) i)
-    each P before now i one le = elim (cases_eq i (done + 1)) [
-      | inl e ↦ subst (λ (j : ℕ). P (length p.flights + 1 - j) (at (stages ++ s ∷ []) j)) (sym e)
-          (subst (λ (n : ℕ). P n (at (stages ++ s ∷ []) (done + 1)))
-          (let f : stage ≡ length p.flights + 1 - (done + 1) =
-          omega (arith, is) in f) (subst (P stage) (sym new) now))
-      | inr ne ↦ (let l : i ≤ done =
-          omega (arith, le, ne) in subst (P (length p.flights + 1 - i)) (sym (old i l)) (before i one l))
-    ]
+    each P before now i one le = each_upto (λ j t. 1 ≤ j → P (length p.flights + 1 - j) t) stages s no_stage (done + 1)
+        a.long (λ j lt one. before j one (omega arith))
+        (λ _. let f : length p.flights + 1 - (done + 1) ≡ stage = omega arith in rw f now) i (omega arith) one
 
     pub one_stage : IsAheadFrom p v budget held (done + 1) (stages ++ s ∷ [])
     one_stage = record {
@@ -94,21 +87,20 @@ module _ (p : Problem) (v : ℕ) (budget : Option ℕ) (held : Option HeldProble
   }
     where
       back : (s : ℕ) → s ≤ length p.flights → length p.flights + 1 - (length stages - s) ≡ s
-      back s le = (let l = a.long in omega (arith, le, l, e))
+      back s le = (let l = a.long in omega arith)
 
       low : (s : ℕ) → s ≤ length p.flights → 1 ≤ length stages - s
-      low s le = (let l = a.long in omega (arith, le, l, e))
+      low s le = (let l = a.long in omega arith)
 
       high : (s : ℕ) → 1 ≤ s → length stages - s ≤ done
-      high s one = (let l = a.long in omega (arith, one, l, e))
+      high s one = (let l = a.long in omega arith)
 
 -- the nodes of a stage that is held
 pub held_nodes : (p : Problem) (held : Option HeldProblem) → network.IsWindowNetwork p → TellTheirRanks p
     → AreStagesOf p held → (stage : ℕ) → stage ≤ length p.flights → (nodes : List EarlyNode) (places : List ℕ)
     → IsGathered held stage nodes places → AreNodesOf p stage nodes
 held_nodes p held net tell are stage le nodes places g =
-    subst (λ (s : ℕ). AreNodesOf p s nodes) (are.number stage le)
-    (gathered_nodes p net tell (stage_in held stage) (lists_in held stage) (are.pairs stage le) nodes places g)
+    rw (are.number stage le) at (gathered_nodes p net tell _ _ (are.pairs stage le) nodes places g)
 
 module _ (p : Problem) (v : ℕ) (budget : Option ℕ) (held : Option HeldProblem) (stages : List StageAhead)
     (a : IsAheadBy p v budget held stages) where
@@ -118,9 +110,9 @@ module _ (p : Problem) (v : ℕ) (budget : Option ℕ) (held : Option HeldProble
       let c = a.completed s one le in
       record {
         from_one = one;
-        to_last = (let w = a.whole in omega (arith, le, w));
-        place = (let l = g.long in omega (arith, l, lt));
-        list = (let w = g.within i lt in let e = c.one_each in omega (arith, w, e));
+        to_last = (let w = a.whole in omega arith);
+        place = (let l = g.long in omega arith);
+        list = (let w = g.within i lt in let e = c.one_each in omega arith);
       }
 
   module _ (net : network.IsWindowNetwork p) (tell : TellTheirRanks p) (are : AreStagesOf p held)
@@ -131,25 +123,24 @@ module _ (p : Problem) (v : ℕ) (budget : Option ℕ) (held : Option HeldProble
         (λ q. InPairs q (pairs_of stages s i))
     window_kept =
         let g = a.gathered s one le in
-        let m = place_at (stage_of stages s).places i in
+        let m = place_at _ i in
         let ends : network.node_of p.k (ranks xs) ≡ ((stage_in held s).0, window_in held s i) =
-        at ∙ ap (λ (n : ℕ). (n, window_in held s i)) (sym (are.number s le)) in
-        let of = window_prefix p net tell (stage_in held s) (lists_in held s) (are.pairs s le)
-        (ranks xs) (window_in held s i) (node_at (stage_of stages s).nodes m) l.legal ends (g.window i lt) in
+        at ∙ ap (λ n. (n, window_in held s i)) (sym (are.number s le)) in
+        let of = window_prefix p net tell _ _ (are.pairs s le)
+        _ _ _ l.legal ends (g.window i lt) in
         (a.completed s one le).kept m (ranks xs) (g.within i lt) l.legal l.long of
 
     pub window_rising : Rises (pairs_of stages s i)
-    window_rising = (a.completed s one le).rising (place_at (stage_of stages s).places i)
+    window_rising = (a.completed s one le).rising (place_at _ i)
 
 -- where all are wanted the lists are exact
-pub all_exact : (p : Problem) (v : ℕ) (held : Option HeldProblem) (stages : List StageAhead)
-    → IsAheadOf p v held stages → network.IsWindowNetwork p → TellTheirRanks p → AreStagesOf p held
-    → ListsAllCompleting p v held stages
+pub all_exact : (p : Problem) (v : ℕ) (held : Option HeldProblem) (stages : List StageAhead) → IsAheadOf p v held stages
+    → network.IsWindowNetwork p → TellTheirRanks p → AreStagesOf p held → ListsAllCompleting p v held stages
 all_exact p v held stages a net tell are s i xs one le lt l at =
     let k = window_kept p v None held stages a net tell are s i xs one le lt l at in
     let rising = window_rising p v None held stages a net tell are s i xs one le lt l at in
     record {
-      undominated = rises_undominated (IsCompletingPair p v (ranks xs)) (pairs_of stages s i) rising
+      undominated = rises_undominated (IsCompletingPair p v (ranks xs)) _ rising
           (record { completes = k.completes; covers = λ q c. k.covers q c tt });
       rising = rising;
     }

@@ -50,7 +50,7 @@ module _ (p : Problem) (budget : ℕ) (before : EarlyNode) (cost : ℕ) (nodes :
         → IsAffordable p budget before cost (node_at nodes i) (list_at lists i) t → least.0 ≤ (node_at nodes i).last
 
   pub none_upto : LeastUpto 0 (most_waiting + 1, 0)
-  none_upto = record { known = inl refl; low = λ i t lt. absurd (omega (arith, lt)) }
+  none_upto = record { known = inl refl; low = λ i t lt. absurd (omega arith) }
 
   pub one_upto : (j : ℕ) (least : Pair) (found : Option ℕ) → j < length nodes → LeastUpto j least
       → FindsWay p budget before cost (node_at nodes j) (list_at lists j) found
@@ -90,15 +90,15 @@ module _ (p : Problem) (budget : ℕ) (before : EarlyNode) (cost : ℕ) (nodes :
       → ((i : ℕ) → i < length nodes → (node_at nodes i).last ≤ most_waiting) → LeastUpto j least
       → IsLeastChoice p budget before cost nodes lists least
   least_upto j least e few u r t c =
-      let low = u.low c.place t (let w = c.within in omega (arith, w, e)) c.leads c.affordable in
+      let low = u.low c.place t (let w = c.within in omega arith) c.leads c.affordable in
       let last = c.last in
       let most = few c.place c.within in (
         elim u.known [
           | inl none ↦ absurd (let z : least.0 ≡ most_waiting + 1 =
-              ap (λ (q : Pair). q.0) none in omega (arith, z, low, most))
+              ap (λ q. q.0) none in omega arith)
           | inr known ↦ known
         ],
-        omega (arith, low, last),
+        omega arith,
       )
 
 -- ---- the order so far
@@ -133,8 +133,7 @@ module _ (p : Problem) (wf : IsWellFormed p) (v : ℕ) (held : Option HeldProble
   choice_landed : (xs : List Landing) (r t : ℕ) → LandedIn (ranked p) xs → CanChoose p v (IsCompletingPair p v) xs r t
       → LandedIn (ranked p) ((r, t) ∷ xs)
   choice_landed xs r t landed c =
-      (let f = (is_first_open p).found r (next_from (ranked p) (latest_landing xs).0 (latest_landing xs).1 r)
-      t c.lands in
+      (let f = (is_first_open p).found r (next_from (ranked p) _ _ r) t c.lands in
       (f.0, f.1, landed))
 
   pub choices_landed : (xs : List Landing) → AreLeastChoices p v (IsCompletingPair p v) xs → LandedIn (ranked p) xs
@@ -148,11 +147,11 @@ module _ (p : Problem) (wf : IsWellFormed p) (v : ℕ) (held : Option HeldProble
       (of : IsPrefixOf (ranks xs) before) (latest : latest_landing xs ≡ (before.last, before.earliest))
       (cost : ℕ) (cost_is : cost_of (cost_at p) xs ≡ cost) where
     one_more : (r : ℕ) → length (r ∷ ranks xs) ≡ done + 1
-    one_more r = (let e = length_ranks xs in omega (arith, e, long))
+    one_more r = (let e = length_ranks xs in omega arith)
 
     completed : AreCompleted p v (Some (budget_of p v)) (done + 1) (stage_of stages (done + 1)).nodes
         (stage_of stages (done + 1)).lists
-    completed = a.completed (done + 1) (omega arith) (omega (arith, short))
+    completed = a.completed (done + 1) (omega arith) (omega arith)
 
     abbrev IsNext : ℕ → ℕ → Type 0
     IsNext r t = IsChoice p (budget_of p v) before cost (stage_of stages (done + 1)).nodes
@@ -163,17 +162,17 @@ module _ (p : Problem) (wf : IsWellFormed p) (v : ℕ) (held : Option HeldProble
         let nodes = (stage_of stages (done + 1)).nodes in
         let after = node_at nodes c.place in
         let f = c.affordable in
-        let on = leads_on p (ranks xs) legal before after of c.leads
-        (subst (λ (s : ℕ). IsReached p s after) (let e = length_ranks xs in let g : done + 1 ≡ suc
-        (length (ranks xs)) = omega (arith, e, long) in g) (completed.are_nodes.reached c.place c.within)) in
-        subst (λ (n : ℕ). CanChoose p v (IsCompletingPair p v) xs n t) c.last (record {
+        let on = leads_on p _ legal before after of c.leads
+        (subst (λ s. IsReached p s after) (let e = length_ranks xs in let g : done + 1 ≡ suc
+        (length (ranks xs)) = omega arith in g) (completed.are_nodes.reached c.place c.within)) in
+        subst (λ n. CanChoose p v (IsCompletingPair p v) xs n t) c.last (record {
           legal = on.0;
-          lands = ap (λ (l : Landing). landing_after p l.0 l.1 after.last) latest ∙ f.lands;
+          lands = ap (λ l. landing_after p l.0 l.1 after.last) latest ∙ f.lands;
           pair = f.pair;
           kept = (completed.kept c.place (after.last ∷ ranks xs) c.within on.0 (one_more after.last) on.1).completes
               f.pair f.listed;
           in_time = f.in_time;
-          cheap = (let h = f.cheap in omega (arith, h, cost_is));
+          cheap = (let h = f.cheap in omega arith);
         })
 
     pub from_choose : (r t : ℕ) → CanChoose p v (IsCompletingPair p v) xs r t → IsNext r t
@@ -181,36 +180,30 @@ module _ (p : Problem) (wf : IsWellFormed p) (v : ℕ) (held : Option HeldProble
         let more = (r, t) ∷ xs in
         let land = choice_landed xs r t landed c in
         let e = completed.are_nodes.every more (record { legal = c.legal; landed = land; long = one_more r }) in
-        let of_use : IsOfUse p (budget_of p v) (r ∷ ranks xs) c.pair =
-        record {
+        let of_use : IsOfUse p (budget_of p v) (r ∷ ranks xs) c.pair = record {
           landings = more;
           legal = c.legal;
           landed = land;
-          one_node = record {
-            stage = refl;
-            placed =
-                λ x. (λ i. i, λ i. i);
-            latest = refl;
-          };
+          one_node = record { stage = refl; placed = λ x. (λ i. i, λ i. i); latest = refl };
           by = c.in_time;
           cheap = c.cheap;
         } in
         let o = (completed.kept e.0 (r ∷ ranks xs) e.1 c.legal (one_more r) e.2).covers c.pair c.kept of_use in
-        let after = node_at (stage_of stages (done + 1)).nodes e.0 in
+        let after = node_at _ e.0 in
         let same : r ≡ after.last = e.2.last in
-        let price : cost_at p r t ≡ cost_at p after.last t = ap (λ (n : ℕ). cost_at p n t) same in
+        let price : cost_at p r t ≡ cost_at p after.last t = ap (λ n. cost_at p n t) same in
         record {
           place = e.0;
           within = e.1;
           last = sym same;
-          leads = on_leads p (ranks xs) r before after c.legal of e.2;
+          leads = on_leads p _ r before after c.legal of e.2;
           affordable = record {
-            lands = ap (λ (l : Landing). landing_after p l.0 l.1 after.last) (sym latest)
-                ∙ ap (λ (n : ℕ). landing_after p (latest_landing xs).0 (latest_landing xs).1 n) (sym same) ∙ c.lands;
+            lands = ap (λ l. landing_after p l.0 l.1 after.last) (sym latest)
+                ∙ ap (λ n. landing_after p (latest_landing xs).0 (latest_landing xs).1 n) (sym same) ∙ c.lands;
             pair = o.0;
             listed = o.1;
             in_time = le_trans c.in_time o.2.0;
-            cheap = (let h = c.cheap in let d = o.2.1 in omega (arith, h, d, cost_is, price));
+            cheap = (let h = c.cheap in let d = o.2.1 in omega arith);
           };
         }
 
@@ -235,13 +228,12 @@ module _ (p : Problem) (wf : IsWellFormed p) (v : ℕ) (held : Option HeldProble
   }
     where
       zeros : (r : ℕ) → IsRank (length p.flights) r → of_rank 0 schedule r ≡ 0
-      zeros zero q = absurd (let b = q.0 in omega (arith, b))
-      zeros (suc i) q = ap (λ (t : Schedule). get_or t i 0) blank ∙ get_or-replicate (length p.flights) i 0 0 (let b =
-          q.1 in omega (arith, b))
+      zeros zero q = absurd (let b = q.0 in omega arith)
+      zeros (suc i) q = ap (λ t. get_or t i 0) blank ∙ get_or-replicate _ i 0 0 (let b = q.1 in omega arith)
 
   passed_at : (r : ℕ) → IsRank (length p.flights) r → (of_rank no_waiting p.flights r).passed ≤ p.k
-  passed_at zero q = absurd (let b = q.0 in omega (arith, b))
-  passed_at (suc i) q = wf.passed i no_waiting (let b = q.1 in omega (arith, b))
+  passed_at zero q = absurd (let b = q.0 in omega arith)
+  passed_at (suc i) q = wf.passed i no_waiting (let b = q.1 in omega arith)
 
   module _ (value_is : IsLeastObjective p v) (done : ℕ) (before : EarlyNode) (cost : ℕ) (schedule : Schedule)
       (o : IsOrder p v done before cost schedule) where
@@ -257,7 +249,7 @@ module _ (p : Problem) (wf : IsWellFormed p) (v : ℕ) (held : Option HeldProble
         let landed = choices_landed xs o.choices in
         let into = from_choose xs legal landed done o.long short before o.of_node o.latest cost o.cost_is in
         let c = choice_found p (sound_of p wf) passed_at v value_is (IsCompletingPair p v) all_complete xs o.choices
-        (let l = o.long in omega (arith, short, l)) in (
+        (let l = o.long in omega arith) in (
           to_choose xs legal landed done o.long short before o.of_node o.latest cost o.cost_is least.0 least.1
               (is c.0 c.1 (into c.0 c.1 c.2)).0,
           λ r t d. (is r t (into r t d)).1,
@@ -269,16 +261,12 @@ module _ (p : Problem) (wf : IsWellFormed p) (v : ℕ) (held : Option HeldProble
         → IsLeastChoice p budget before cost stage.nodes stage.lists least
         → CanChoose p v (IsCompletingPair p v) o.landings least.0 least.1
         × ((r t : ℕ) → CanChoose p v (IsCompletingPair p v) o.landings r t → least.0 ≤ r)
-    chosen_by short least budget b stage s is =
-        next_choice short least (subst
-        (λ (t : StageAhead). IsLeastChoice p (budget_of p v) before cost t.nodes t.lists least) s
-        (subst (λ (n : ℕ). IsLeastChoice p n before cost stage.nodes stage.lists least) b is))
+    chosen_by short least budget b stage s is = next_choice short least (rw s at (rw b at is))
 
     pub one_landing : (r t : ℕ) → CanChoose p v (IsCompletingPair p v) o.landings r t
         → ((q u : ℕ) → CanChoose p v (IsCompletingPair p v) o.landings q u → r ≤ q) → t ≤ last_second
-        → (after : EarlyNode) → ((x : ℕ) → HasBit after.placed x ↔ (HasBit before.placed x ⊎ (x ≡ r)))
-        → after.last ≡ r → after.earliest ≡ t
-        → (price : ℕ) → price ≡ cost_at p r t → price ≤ 17279900
+        → (after : EarlyNode) → ((x : ℕ) → HasBit after.placed x ↔ (HasBit before.placed x ⊎ (x ≡ r))) → after.last ≡ r
+        → after.earliest ≡ t → (price : ℕ) → price ≡ cost_at p r t → price ≤ 17279900
         → IsOrder p v (done + 1) after (cost + price) (slice_set schedule (r - 1) t)
     one_landing r t can least days after placed last earliest price is few = record {
       landings = (r, t) ∷ o.landings;
@@ -318,18 +306,17 @@ module _ (p : Problem) (wf : IsWellFormed p) (v : ℕ) (held : Option HeldProble
 
     -- with all landings it is the first best list
     pub whole_order : done ≡ length p.flights → IsFirstBestList p schedule
-    whole_order e = subst (IsFirstBestList p) (sym same)
-        (choices_first_best p (sound_of p wf) passed_at v value_is
+    whole_order e = rw same (choices_first_best p (sound_of p wf) passed_at v value_is
         (IsCompletingPair p v) all_complete o.landings o.choices (o.long ∙ e))
       where
         at : (i : ℕ) → i < length schedule → get_or schedule i 0 ≡ get_or (seconds_by_rank p o.landings) i 0
         at i lt =
-            let q : IsRank (length p.flights) (suc i) = (omega arith, let room = o.room in omega (arith, lt, room)) in
-            o.seconds (suc i) q ∙ sym (list_of_at (length p.flights) (second_in o.landings) (suc i) q)
+            let q : IsRank (length p.flights) (suc i) = (omega arith, let room = o.room in omega arith) in
+            o.seconds (suc i) q ∙ sym (list_of_at _ _ (suc i) q)
 
         same : schedule ≡ seconds_by_rank p o.landings
         same = ext_get_or 0 schedule (seconds_by_rank p o.landings) (o.room
-            ∙ sym (list_of_long (length p.flights) (second_in o.landings))) at
+            ∙ sym (list_of_long _ _)) at
 
 -- ---- one node
 
@@ -348,16 +335,15 @@ module _ (p : Problem) (budget : ℕ) (before : EarlyNode) (cost : ℕ) (after :
     refl,
   )
 
-  pub too_dear : (rest : ℕ) → IsLeastOf (IsCostFrom pairs second) (Some rest)
-      → budget < cost + cost_at p after.last second + rest → (t : ℕ) → IsAffordable p budget before cost after pairs t
-      → ⊥
+  pub too_dear : (rest : ℕ) → IsLeastOf (IsCostFrom pairs second) (Some rest) → budget < cost
+      + cost_at p after.last second + rest → (t : ℕ) → IsAffordable p budget before cost after pairs t → ⊥
   too_dear rest least over t a =
       let e = same_second t a in
       let l = a.in_time in
-      let b = least.1 a.pair.1 (a.pair, a.listed, omega (arith, e, l), refl) in
+      let b = least.1 a.pair.1 (a.pair, a.listed, omega arith, refl) in
       let price : cost_at p after.last t ≡ cost_at p after.last second = ap (cost_at p after.last) e in
       let cheap = a.cheap in
-      omega (arith, b, price, cheap, over)
+      omega arith
 
 pub with_way : (p : Problem) (budget : ℕ) (before : EarlyNode) (cost : ℕ) (after : EarlyNode) (pairs : List Pair)
     → LeadsTo before after → (found : Option ℕ) → FindsAffordable p budget before cost after pairs found

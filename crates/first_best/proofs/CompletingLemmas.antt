@@ -6,7 +6,7 @@ use Rattle.std.proofs.lemmas.List.{get_or_past}
 use Rattle.landing_rules.specs.Problem.{Problem}
 use Rattle.cps_theory.specs.Feasible.{SoundProblem}
 use Rattle.cps_theory.specs.Labels.{InPairs, Pair}
-use Rattle.cps_theory.specs.LandingTrail.{last_rank, ranks}
+use Rattle.cps_theory.specs.LandingTrail.{last_rank}
 use Rattle.cps_theory.specs.CompletingPairs.{KeptCompleting}
 use Rattle.cps_theory.specs.laws.CompletingPairs.{no_earlier_no_dearer_trans}
 use Rattle.landing_joint.specs.RankedProblem.{ranked, cost_at, landing_after}
@@ -43,12 +43,10 @@ pub listed_wanted : (p : Problem) (v : ℕ) (budget : Option ℕ) (stage : ℕ) 
 listed_wanted p v budget stage nodes lists c rs b legal long can =
     let e = c.are_nodes.every can.landings
     (record { legal = can.legal; landed = can.landed; long = can.one_node.stage ∙ long }) in
-    let of : IsPrefixOf rs (node_at nodes e.0) = node_one (ranks can.landings) rs (node_at nodes e.0)
-    (record {
+    let of : IsPrefixOf rs (node_at nodes e.0) = node_one _ rs _ (record {
       stage = sym can.one_node.stage;
       placed = λ x. let a = can.one_node.placed x in (a.1, a.0);
-      latest =
-          sym can.one_node.latest;
+      latest = sym can.one_node.latest;
     }) e.2 in
     record {
       completes = λ q k. (c.kept k.place rs k.within legal long k.of_node).completes q k.listed;
@@ -62,16 +60,16 @@ module _ (p : Problem) (wf : IsWellFormed p) (v : ℕ) (budget : Option ℕ) (st
     (made : ArePairsOf p v budget stage (node_at these j) next pairs) where
   opened_last : (b : ℕ) → (ranked p).is_open (node_at these j).last b ≡ true
       → (ranked p).is_open (last_rank rs) b ≡ true
-  opened_last b o = subst (λ (r : ℕ). (ranked p).is_open r b ≡ true) (sym of.last) o
+  opened_last b o = rw of.last o
 
   last_opened : (b : ℕ) → (ranked p).is_open (last_rank rs) b ≡ true
       → (ranked p).is_open (node_at these j).last b ≡ true
-  last_opened b o = subst (λ (r : ℕ). (ranked p).is_open r b ≡ true) of.last o
+  last_opened b o = rw of.last at o
 
   -- there is room for what costs no more than a pair that is wanted
   room : (q : Pair) (cost : ℕ) → cost ≤ q.1 → IsWanted p budget rs q
       → IsWithinBudget budget (node_at these j).cheapest cost
-  room = wanted_room p budget rs (node_at these j)
+  room = wanted_room p budget rs _
       (λ xs l o. are.cheap j xs lt (record { legal = l.legal; landed = l.landed; long = l.long ∙ long }) o) of
 
   -- at the last stage
@@ -82,8 +80,7 @@ module _ (p : Problem) (wf : IsWellFormed p) (v : ℕ) (budget : Option ℕ) (st
         let h = made.are q i in
         each.completes q (record {
           opened = opened_last q.0 h.opened;
-          reached =
-              lands_by p stage these are j lt rs long of q.0 h.reached;
+          reached = lands_by p stage these are j lt rs long of q.0 h.reached;
           low = h.low;
           cost_is = free q.0 q.1 h.end;
         });
@@ -92,12 +89,10 @@ module _ (p : Problem) (wf : IsWellFormed p) (v : ℕ) (budget : Option ℕ) (st
         let l = s.1 in
         let a = made.cover s.0 (record {
           opened = last_opened s.0.0 l.opened;
-          reached =
-              by_lands p stage these are j lt rs long of s.0.0 l.reached;
+          reached = by_lands p stage these are j lt rs long of s.0.0 l.reached;
           low = l.low;
           end = inl (whole, l.cost_is);
-        })
-        (room q s.0.1 s.2.1 w) in
+        }) (room q s.0.1 s.2.1 w) in
         (a.0, a.1, no_earlier_no_dearer_trans a.0 s.0 q a.2 s.2);
   }
     where
@@ -107,26 +102,25 @@ module _ (p : Problem) (wf : IsWellFormed p) (v : ℕ) (budget : Option ℕ) (st
 
       free : (b c : ℕ) → IsEnd p stage (node_at these j) next b c → c ≡ 0
       free b c (inl e) = e.1
-      free b c (inr e) = absurd (let a = e.0 in omega (arith, a, whole))
+      free b c (inr e) = absurd (let a = e.0 in omega arith)
 
   module _ (short : stage < length p.flights) (completed : AreCompleted p v budget (stage + 1) next.nodes next.lists)
     where
       one_more : (r : ℕ) → length (r ∷ rs) ≡ stage + 1
-      one_more r = omega (arith, long)
+      one_more r = omega arith
 
       reached_next : (m : ℕ) → m < length next.nodes → IsReached p (suc (length rs)) (node_at next.nodes m)
-      reached_next m l = subst (λ (s : ℕ). IsReached p s (node_at next.nodes m)) (let e : stage + 1 ≡ suc (length rs) =
-          omega (arith, long) in e) (completed.are_nodes.reached m l)
+      reached_next m l = rw (let e : stage + 1 ≡ suc (length rs) =
+          omega arith in e) at (completed.are_nodes.reached m l)
 
       of_pair : (q : Pair) → IsPairOf p v stage (node_at these j) next q
           → IsSuccessorPair p v (IsCompletingPair p v) rs q
       of_pair q h = go h.end
         where
           go : IsEnd p stage (node_at these j) next q.0 q.1 → IsSuccessorPair p v (IsCompletingPair p v) rs q
-          go (inl e) = absurd (let a = e.0 in omega (arith, a, short))
+          go (inl e) = absurd (let a = e.0 in omega arith)
           go (inr (_, w)) =
-              let on = leads_on p rs legal (node_at these j) (node_at next.nodes w.place) of w.leads
-              (reached_next w.place w.within) in
+              let on = leads_on p rs legal _ _ of w.leads (reached_next w.place w.within) in
               record {
                 opened = opened_last q.0 h.opened;
                 reached = lands_by p stage these are j lt rs long of q.0 h.reached;
@@ -135,7 +129,7 @@ module _ (p : Problem) (wf : IsWellFormed p) (v : ℕ) (budget : Option ℕ) (st
                 second = w.way.lands_at;
                 pair = w.way.pair;
                 legal = on.0;
-                lands = ap (λ (r : ℕ). landing_after p r q.0 (node_at next.nodes w.place).last) of.last ∙ w.way.lands;
+                lands = ap (λ r. landing_after p r q.0 (node_at next.nodes w.place).last) of.last ∙ w.way.lands;
                 kept = (completed.kept w.place ((node_at next.nodes w.place).last ∷ rs) w.within on.0
                     (one_more (node_at next.nodes w.place).last) on.1).completes w.way.pair w.way.listed;
                 in_time = w.way.in_time;
@@ -156,15 +150,15 @@ module _ (p : Problem) (wf : IsWellFormed p) (v : ℕ) (budget : Option ℕ) (st
               record {
                 place = k.place;
                 within = k.within;
-                leads = on_leads p rs s.rank (node_at these j) (node_at next.nodes k.place) s.legal of k.of_node;
+                leads = on_leads p rs s.rank _ _ s.legal of k.of_node;
                 way = record {
                   lands_at = s.second;
-                  lands = ap (λ (r : ℕ). landing_after p (node_at these j).last q.0 r) (sym same)
-                      ∙ ap (λ (r : ℕ). landing_after p r q.0 s.rank) (sym of.last) ∙ s.lands;
+                  lands = ap (λ r. landing_after p _ q.0 r) (sym same)
+                      ∙ ap (λ r. landing_after p r q.0 s.rank) (sym of.last) ∙ s.lands;
                   pair = s.pair;
                   listed = k.listed;
                   in_time = s.in_time;
-                  cost_is = ap (λ (r : ℕ). cost_at p r s.second + s.pair.1) (sym same) ∙ s.cost_is;
+                  cost_is = ap (λ r. cost_at p r s.second + s.pair.1) (sym same) ∙ s.cost_is;
                 };
               },
             );
@@ -177,8 +171,8 @@ module _ (p : Problem) (wf : IsWellFormed p) (v : ℕ) (budget : Option ℕ) (st
         covers = λ q c w.
             let a = each.covers q c in
             let s = a.1 in
-            let wanted = wanted_next p (sound_of p wf) rs s.rank s.legal budget q a.0 s.pair
-            s.second legal s.lands s.in_time s.cost_is a.2 w in
+            let wanted = wanted_next p (sound_of p wf) rs s.rank s.legal budget q a.0 s.pair s.second legal s.lands
+            s.in_time s.cost_is a.2 w in
             let o = (listed_wanted p v budget (stage + 1) next.nodes next.lists completed (s.rank ∷ rs) s.pair.0 s.legal
             (one_more s.rank) s.kept.reached).covers s.pair s.kept wanted in
             let same = s.cost_is in
@@ -192,8 +186,7 @@ module _ (p : Problem) (wf : IsWellFormed p) (v : ℕ) (budget : Option ℕ) (st
               rank = s.rank;
               second = s.second;
               pair = o.0;
-              legal =
-                  s.legal;
+              legal = s.legal;
               lands = s.lands;
               kept = o.1;
               in_time = le_trans s.in_time o.2.0;
@@ -206,8 +199,7 @@ module _ (p : Problem) (wf : IsWellFormed p) (v : ℕ) (budget : Option ℕ) (st
           each : KeptCompleting (IsCompletingPair p v rs) (IsSuccessorPair p v (IsCompletingPair p v) rs)
           each =
               successor_pairs p (sound_of p wf) v rs legal (IsSuccessorPair p v (IsCompletingPair p v) rs)
-              (IsCompletingPair p v) (omega (arith, long, short))
-              (λ r b l can. all_kept (IsCompletingPair p v (r ∷ rs)))
+              (IsCompletingPair p v) (omega arith) (λ r b l can. all_kept (IsCompletingPair p v (r ∷ rs)))
               (record { are = λ q s. s; cover = λ q s. (q, s, (le_refl q.0, le_refl q.1)) })
 
 -- the lists that are made of those of the next stage complete the nodes of a stage
@@ -219,33 +211,23 @@ lists_complete p wf v budget stage these made next are behind lists = record {
   are_nodes = are;
   one_each = lists.one_each;
   kept = λ j rs lt legal long of. kept j rs lt legal long of behind;
-  rising = rising;
-  in_reach = in_reach;
+  rising = each Rises tt (λ j lt. (lists.pairs j lt).rising);
+  in_reach = each (AreInReach (length p.flights - stage)) (λ q i. absurd i) (λ j lt. (lists.pairs j lt).in_reach);
 }
   where
     kept : (j : ℕ) (rs : List ℕ) → j < length these → IsLegal p rs → length rs ≡ stage → IsPrefixOf rs (node_at these j)
         → IsBehind p v budget stage next → KeepsWanted (IsCompletingPair p v rs) (IsWanted p budget rs)
         (λ q. InPairs q (list_at made j))
     kept j rs lt legal long of (inl last) =
-        last_complete p wf v budget stage these are j lt rs legal long of next (list_at made j)
-        (lists.pairs j lt) last.0
+        last_complete p wf v budget stage these are j lt rs legal long of next _ (lists.pairs j lt) last.0
     kept j rs lt legal long of (inr more) = before_complete p wf v budget stage these are j lt rs legal long of next
-        (list_at made j) (lists.pairs j lt) more.0 more.1
+        _ (lists.pairs j lt) more.0 more.1
 
-    rising : (j : ℕ) → Rises (list_at made j)
-    rising j = elim (cases_lt j (length these)) [
-      | inl lt ↦
-          (lists.pairs j lt).rising
-      | inr ge ↦ subst Rises
-          (sym (get_or_past made j [] (let e = lists.one_each in omega (arith, ge, e)))) tt
-    ]
-
-    in_reach : (j : ℕ) → AreInReach (length p.flights - stage) (list_at made j)
-    in_reach j = elim (cases_lt j (length these)) [
-      | inl lt ↦
-          (lists.pairs j lt).in_reach
-      | inr ge ↦ subst (AreInReach (length p.flights - stage))
-          (sym (get_or_past made j [] (let e = lists.one_each in omega (arith, ge, e)))) (λ q i. absurd i)
+    each : (P : List Pair → Type 0) → P [] → ((j : ℕ) → j < length these → P (list_at made j)) → (j : ℕ)
+        → P (list_at made j)
+    each P none some j = elim (cases_lt j (length these)) [
+      | inl lt ↦ some j lt
+      | inr ge ↦ rw (get_or_past made j [] (omega (arith, ge, lists.one_each))) none
     ]
 
 -- what stands behind a stage has numbers in range

@@ -1,19 +1,17 @@
 -- The windows of a stage, put together by node.
-use Rattle.std.proofs.Common.{◌≡◌, ℕ, ◌+◌, ◌-◌, ◌<◌, ◌≤◌, inl, inr, List, [], ◌∷◌, ◌++◌, length, refl, sym, ap, subst}
+use Rattle.replan.specs.shared.Pushed.{each_upto}
+use Rattle.std.proofs.Common.{◌≡◌, ℕ, ◌+◌, ◌-◌, ◌<◌, ◌≤◌, List, [], ◌∷◌, ◌++◌, length, refl, sym, ap, subst}
 use Rattle.std.proofs.Common.{◌∙◌, arith, length-append, Option}
 use Rattle.std.specs.Prelude.{ℤ, pos}
-use Rattle.std.proofs.lemmas.Bool.{cases_eq}
-use Rattle.std.proofs.lemmas.List.{get_or_default, get_or_append_left, get_or_push}
+use Rattle.std.proofs.lemmas.List.{get_or_default}
 use Rattle.landing_rules.specs.Problem.{Problem}
 use Rattle.cps_theory.specs.Separation.{Landing}
 use Rattle.cps_theory.specs.LandingTrail.{cost_of, latest_landing, pair_of, ranks}
-use Rattle.cps_theory.specs.Labels.{InPairs, Pair}
+use Rattle.cps_theory.specs.Labels.{Pair}
 use Rattle.cps_theory.specs.LegalPrefix.{Legal}
-use Rattle.cps_theory.specs.UndominatedPairs.{Staircase}
 use Rattle.cps_theory.specs.laws.LegalPrefix.{in_from_one, legal_each_fits}
 use Rattle.landing_joint.specs.RankedProblem.{ranked, cost_at}
 use Rattle.cps_nodes.specs.Windows.{IsPlaced}
-use Rattle.cps_network.specs.Landable.{IsLandable}
 use Rattle.cps_network.specs.Lists as windows
 use Rattle.cps_network.specs.Nodes as network
 use Rattle.cps_network.specs.Pairs.{HoldsCosts, list_at, pair_at}
@@ -23,35 +21,13 @@ use Rattle.replan.specs.Held.{HeldProblem}
 use Rattle.replan.specs.Readers.{lists_in, stage_in}
 use Rattle.replan.specs.WindowNodes as together
 use Rattle.replan.specs.WindowNodes.{told_at, AreLeastIn, IsPairAt, WindowNodes}
-use Rattle.replan.specs.shared.LastPairs.{last_cheapest}
+use Rattle.replan.specs.shared.LastPairs.{first_least, last_cheapest, list_some}
 use Rattle.replan.specs.shared.OneNode.{one_set, one_tells, same_one}
 use Rattle.first_best.specs.declared.node.EarlyNode.{EarlyNode}
 use Rattle.first_best.specs.Nodes.{no_node, node_at, AreNodesOf, IsLandedPrefix, IsPrefixOf, IsReached}
 use Rattle.first_best.specs.Gathered.{AreGathered, IsWindowOf, cost_in, place_at, second_of}
 
 -- ---- the nodes of the prefixes that land
-
--- the first pair is the earliest
-pub first_least : (xs : List Pair) → Staircase xs → (q : Pair) → InPairs q xs → (pair_at xs 0).0 ≤ q.0
-first_least [] s q i = absurd i
-first_least (x ∷ xs) s q (inl e) = (let f : q.0 ≡ x.0 = ap (λ (z : Pair). z.0) e in omega (arith, f))
-first_least (x ∷ xs) s q (inr i) = (let a = (s.0 q i).0 in omega (arith, a))
-
-some_long : (xs : List Pair) (q : Pair) → InPairs q xs → 0 < length xs
-some_long [] q i = absurd i
-some_long (x ∷ xs) q i = omega arith
-
-module _ (p : Problem) (stage : ℕ × List (List ℤ)) (lists : List (List Pair)) (h : HoldsCosts p stage lists) where
-  landable_at : (i : ℕ) → i < length stage.1 → IsLandable p stage.0 (windows.node_at stage.1 i)
-  landable_at i lt = (h.landable (windows.node_at stage.1 i)).0
-      (i, lt, get_or_default stage.1 i (windows.node_at stage.1 i) [] lt)
-
-  -- each window has a pair
-  pub has_first : (i : ℕ) → i < length stage.1 → 0 < length (list_at lists i)
-  has_first i lt =
-      let l = landable_at i lt in
-      let o = (h.costs.pairs i lt).covers l.0 l.1 in
-      some_long (list_at lists i) o.0 o.1
 
 -- ---- the nodes of the windows that are put together
 
@@ -68,21 +44,13 @@ module _ (stage : ℕ) (list : List (List ℤ)) (firsts : List ℕ) (least : Lis
     (nodes : List EarlyNode) (m : AreMade stage list firsts least count nodes) (node : EarlyNode)
     (of : IsWindowOf stage (windows.node_at list (told_at firsts count)) node)
     (early : node.earliest ≡ (pair_at least count).0) (cheap : node.cheapest ≡ (pair_at least count).1) where
-  each_made : (P : ℕ → EarlyNode → Type 0) → ((j : ℕ) → j < count → P j (node_at nodes j))
-      → P count node → (j : ℕ) → j < count + 1 → P j (node_at (nodes ++ node ∷ []) j)
-  each_made P old new j lt = elim (cases_eq j count) [
-    | inl e ↦ subst (λ (i : ℕ). P i (node_at (nodes ++ node ∷ []) i)) (sym e)
-        (subst (P count) (sym (get_or_push nodes node no_node count m.long)) new)
-    | inr ne ↦ (let l : j < count = omega (arith, lt, ne) in subst (P j)
-        (sym (get_or_append_left nodes (node ∷ []) no_node j (let o = m.long in omega (arith, l, o)))) (old j l))
-  ]
-
   pub one_made : AreMade stage list firsts least (count + 1) (nodes ++ node ∷ [])
   one_made = record {
     long = length-append nodes (node ∷ []) ∙ ap (λ (n : ℕ). n + 1) m.long;
-    window = each_made (λ j n. IsWindowOf stage (windows.node_at list (told_at firsts j)) n) m.window of;
-    earliest = each_made (λ j n. n.earliest ≡ (pair_at least j).0) m.earliest early;
-    cheapest = each_made (λ j n. n.cheapest ≡ (pair_at least j).1) m.cheapest cheap;
+    window = each_upto (λ j n. IsWindowOf stage (windows.node_at list (told_at firsts j)) n) nodes node no_node count
+        m.long m.window of;
+    earliest = each_upto (λ j n. n.earliest ≡ (pair_at least j).0) nodes node no_node count m.long m.earliest early;
+    cheapest = each_upto (λ j n. n.cheapest ≡ (pair_at least j).1) nodes node no_node count m.long m.cheapest cheap;
   }
 
 module _ (p : Problem) (held : Option HeldProblem) (stage : ℕ) (number : (stage_in held stage).0 ≡ stage)
@@ -103,52 +71,38 @@ module _ (p : Problem) (held : Option HeldProblem) (stage : ℕ) (number : (stag
   place_in i lt = g.within i lt
 
   in_places : (i : ℕ) → i < length list → i < length put.places
-  in_places i lt = (let e = g.long in omega (arith, lt, e))
+  in_places i lt = (let e = g.long in omega arith)
 
   -- a window tells the node at its place
   window_told : (i : ℕ) → i < length list
       → IsWindowOf stage (windows.node_at list i) (node_at nodes (place_at put.places i))
   window_told i lt =
-      let first = windows.node_at list (told_at put.firsts (place_at put.places i)) in
+      let first = windows.node_at list (told_at put.firsts _) in
       let w = m.window (place_at put.places i) (place_in i lt) in
       let one = g.one i lt in
-      record {
-        placed = one_tells stage first (windows.node_at list i)
-            (node_at nodes (place_at put.places i)).placed one w.placed;
-        last = w.last ∙ one.last;
-      }
+      record { placed = one_tells stage first (windows.node_at list i) _ one w.placed; last = w.last ∙ one.last }
 
   at_stage : (window : List ℤ) (node : EarlyNode) → IsWindowOf stage window node
       → IsWindowOf (stage_in held stage).0 window node
-  at_stage window node w = subst (λ (n : ℕ). IsWindowOf n window node) (sym number) w
+  at_stage window node w = rw number w
 
-  first_at : (i : ℕ) → i < length list → IsPairAt lists put.places (place_at put.places i) (pair_at (list_at lists i) 0)
-  first_at i lt = record {
+  -- the pair of a window at an index
+  pair_there : (i index : ℕ) → i < length list → (0 < length (list_at lists i) → index < length (list_at lists i))
+      → IsPairAt lists put.places (place_at put.places i) (pair_at (list_at lists i) index)
+  pair_there i index lt listed = record {
     window = i;
     within = in_places i lt;
     of_node = refl;
-    has =
-        at_in (list_at lists i) 0 (pair_at (list_at lists i) 0) (has_first p (stage_in held stage) lists h i lt) refl;
+    has = at_in (list_at lists i) index (pair_at (list_at lists i) index)
+        (listed (list_some p (stage_in held stage) lists h i lt)) refl;
   }
-
-  last_at : (i : ℕ) → i < length list → IsPairAt lists put.places (place_at put.places i)
-      (pair_at (list_at lists i) (length (list_at lists i) - 1))
-  last_at i lt =
-      let some = has_first p (stage_in held stage) lists h i lt in
-      record {
-        window = i;
-        within = in_places i lt;
-        of_node = refl;
-        has = at_in (list_at lists i)
-            (length (list_at lists i) - 1) (pair_at (list_at lists i) (length (list_at lists i) - 1))
-            (omega (arith, some)) refl;
-      }
 
   low_at : (i : ℕ) → i < length list → (node_at nodes (place_at put.places i)).earliest ≤ second_of lists i
   low_at i lt =
       let e = m.earliest (place_at put.places i) (place_in i lt) in
-      let a = (l.each (place_at put.places i) (place_in i lt)).early (pair_at (list_at lists i) 0) (first_at i lt) in
-      omega (arith, e, a)
+      let a = (l.each (place_at put.places i) (place_in i lt)).early (pair_at (list_at lists i) 0)
+      (pair_there i 0 lt (λ some. some)) in
+      omega arith
 
   source_at : (j : ℕ) → j < length put.firsts → (i : ℕ) × (i < length list)
       × IsWindowOf (stage_in held stage).0 (windows.node_at list i) (node_at nodes j)
@@ -158,19 +112,16 @@ module _ (p : Problem) (held : Option HeldProblem) (stage : ℕ) (number : (stag
       let i = q.1.window in
       let long = g.long in
       let inside = q.1.within in
-      let within : i < length list = omega (arith, inside, long) in
+      let within : i < length list = omega arith in
       let there = q.1.of_node in
-      let low : (node_at nodes j).earliest ≤ second_of lists i =
-      subst (λ (n : ℕ). (node_at nodes n).earliest ≤ second_of lists i) there (low_at i within) in
-      let first = first_least (list_at lists i) (h.costs.pairs i within).falling q.0 q.1.has in
+      let low : (node_at nodes j).earliest ≤ second_of lists i = rw there at (low_at i within) in
+      let first = first_least _ (h.costs.pairs i within).falling q.0 q.1.has in
       let is = m.earliest j lt in
       let least_is = q.2 in (
         i,
         within,
-        at_stage (windows.node_at list i) (node_at nodes j)
-            (subst (λ (n : ℕ). IsWindowOf stage (windows.node_at list i) (node_at nodes n)) there
-            (window_told i within)),
-        omega (arith, low, first, is, least_is),
+        at_stage (windows.node_at list i) _ (rw there at (window_told i within)),
+        omega arith,
       )
 
   pub all_made : AreGathered (stage_in held stage) lists (length list) nodes put.places
@@ -182,7 +133,8 @@ module _ (p : Problem) (held : Option HeldProblem) (stage : ℕ) (number : (stag
     cheap = λ i lt.
         let e = m.cheapest (place_at put.places i) (place_in i lt) in
         let a = (l.each (place_at put.places i) (place_in i lt)).cheap
-        (pair_at (list_at lists i) (length (list_at lists i) - 1)) (last_at i lt) in
+        (pair_at (list_at lists i) (length (list_at lists i) - 1))
+        (pair_there i (length (list_at lists i) - 1) lt (λ some. omega (arith, some))) in
         omega (arith, e, a);
     source = λ j lt. source_at j (let e = m.long in omega (arith, lt, e));
     apart = λ i j li lj placed last.
@@ -221,22 +173,22 @@ module _ (p : Problem) (net : network.IsWindowNetwork p) (tell : TellTheirRanks 
       × (second_of lists i ≤ (latest_landing xs).1) × (cost_in lists i ≤ cost_of (cost_at p) xs)
   place_of_prefix xs l =
       let window = (network.node_of p.k (ranks xs)).1 in
-      let there : network.node_of p.k (ranks xs) ≡ (stage.0, window) = ap (λ (n : ℕ). (n, window)) l.long in
-      let q = pair_of (cost_at p) xs in
+      let there : network.node_of p.k (ranks xs) ≡ (stage.0, window) = ap (λ n. (n, window)) l.long in
+      let q = pair_of _ xs in
       let place = (h.landable window).1
       (q, record { landings = xs; legal = l.legal; landed = l.landed; at = there; is = refl }) in
       let same : window ≡ windows.node_at stage.1 place.0 =
       sym (get_or_default stage.1 place.0 [] window place.1 ∙ place.2) in
       let at : network.node_of p.k (ranks xs) ≡ (stage.0, windows.node_at stage.1 place.0) =
-      there ∙ ap (λ (w : List ℤ). (stage.0, w)) same in
+      there ∙ ap (λ w. (stage.0, w)) same in
       let kept = h.costs.pairs place.0 place.1 in
       let o = kept.covers q (record { landings = xs; legal = l.legal; landed = l.landed; at = at; is = refl }) in
-      let first = first_least (list_at lists place.0) kept.falling o.0 o.1 in
-      let last = last_cheapest (list_at lists place.0) kept.falling o.0 o.1 in
+      let first = first_least _ kept.falling o.0 o.1 in
+      let last = last_cheapest _ kept.falling o.0 o.1 in
       let low = o.2 in
       let early = low.0 in
       let cheap = low.1 in
-      (place.0, place.1, at, omega (arith, first, early), omega (arith, last, cheap))
+      (place.0, place.1, at, omega arith, omega arith)
 
   module _ (nodes : List EarlyNode) (places : List ℕ) (g : AreGathered stage lists (length stage.1) nodes places) where
     reached_at : (j : ℕ) → j < length nodes → IsReached p stage.0 (node_at nodes j)
@@ -244,26 +196,23 @@ module _ (p : Problem) (net : network.IsWindowNetwork p) (tell : TellTheirRanks 
         let s = g.source j lt in
         let list = list_at lists s.0 in
         let a = (((h.costs.pairs s.0 s.1).undominated (pair_at list 0)).0
-        (at_in list 0 (pair_at list 0) (has_first p stage lists h s.0 s.1) refl)).attained in
+        (at_in list 0 _ (list_some p stage lists h s.0 s.1) refl)).attained in
         record {
           landings = a.landings;
-          prefix = record { legal = a.legal; landed = a.landed; long = ap (λ (n : network.Node). n.0) a.at };
-          of_node = window_prefix (ranks a.landings) (windows.node_at stage.1 s.0) (node_at nodes j) a.legal a.at s.2;
-          earliest = ap (λ (q : Pair). q.0) a.is ∙ sym s.3;
+          prefix = record { legal = a.legal; landed = a.landed; long = ap (λ n. n.0) a.at };
+          of_node = window_prefix _ (windows.node_at stage.1 s.0) _ a.legal a.at s.2;
+          earliest = ap (λ q. q.0) a.is ∙ sym s.3;
         }
 
     -- a landed prefix of a node has its window among those of the node
     window_of : (j : ℕ) (xs : List Landing) → j < length nodes → IsLandedPrefix p stage.0 xs
-        → IsPrefixOf (ranks xs) (node_at nodes j)
-        → (i : ℕ) × (i < length stage.1) × (place_at places i ≡ j) × (second_of lists i ≤ (latest_landing xs).1)
-        × (cost_in lists i ≤ cost_of (cost_at p) xs)
+        → IsPrefixOf (ranks xs) (node_at nodes j) → (i : ℕ) × (i < length stage.1) × (place_at places i ≡ j)
+        × (second_of lists i ≤ (latest_landing xs).1) × (cost_in lists i ≤ cost_of (cost_at p) xs)
     window_of j xs lt l of =
         let i = place_of_prefix xs l in
         let m = place_at places i.0 in
-        let other = window_prefix (ranks xs) (windows.node_at stage.1 i.0) (node_at nodes m) l.legal i.2
-        (g.window i.0 i.1) in
-        let same : m ≡ j = g.apart m j (g.within i.0 i.1) lt
-        (one_set (node_at nodes m).placed (node_at nodes j).placed
+        let other = window_prefix _ (windows.node_at stage.1 i.0) _ l.legal i.2 (g.window i.0 i.1) in
+        let same : m ≡ j = g.apart m j (g.within i.0 i.1) lt (one_set _ _
         (λ x. (λ b. (of.placed x).1 ((other.placed x).0 b), λ b. (other.placed x).1 ((of.placed x).0 b))))
         (sym other.last ∙ of.last) in
         (i.0, i.1, same, i.3, i.4)

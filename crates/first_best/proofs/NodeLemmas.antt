@@ -22,8 +22,7 @@ pub set_has : (b l : ℕ) → l < 64 → (x : ℕ) → HasBit (bit_or b (1 * 2 ^
 set_has b l few x = elim (cases_eq x l) [
   | inl e ↦ (
     λ _. inr e,
-    λ _. subst (λ (n : ℕ). bit_at (bit_or b (1 * 2 ^ l % 2 ^ 64)) n ≡ 1)
-        (sym e) (bit_at_set_same w64 b l few),
+    λ _. subst (λ (n : ℕ). bit_at (bit_or b (1 * 2 ^ l % 2 ^ 64)) n ≡ 1) (sym e) (bit_at_set_same w64 b l few),
   )
   | inr ne ↦
       let kept : bit_at (bit_or b (1 * 2 ^ l % 2 ^ 64)) x ≡ bit_at b x = bit_at_set_other w64 b l few x ne in
@@ -73,16 +72,16 @@ module _ (p : Problem) (stage : ℕ) (nodes : List EarlyNode) (are : AreNodesOf 
         landings = r.landings;
         legal = r.prefix.legal;
         landed = r.prefix.landed;
-        one_node = one_node (ranks r.landings) rs (node_at nodes j) r.of_node of (r.prefix.long ∙ sym long);
-        by = omega (arith, e, le);
+        one_node = one_node _ rs _ r.of_node of (r.prefix.long ∙ sym long);
+        by = omega arith;
       }
 
   pub by_lands : (b : ℕ) → CanLandBy p rs b → (node_at nodes j).earliest ≤ b
   by_lands b c =
       let a = are.least j c.landings lt (record { legal = c.legal; landed = c.landed; long = c.one_node.stage ∙ long })
-      (node_one rs (ranks c.landings) (node_at nodes j) c.one_node of) in
+      (node_one rs _ (node_at nodes j) c.one_node of) in
       let d = c.by in
-      omega (arith, a, d)
+      omega arith
 
 -- ---- one rank more
 
@@ -111,15 +110,14 @@ module _ (p : Problem) (rs : List ℕ) (legal : IsLegal p rs) (node after : Earl
       };
       due = λ a one at. elim (l.0.due a one (omega (arith, at, same))) [
         | inl e ↦ inl e
-        | inr i ↦
-            inr (back x.0 (ranks xs) o l.0.fits.is_new a i)
+        | inr i ↦ inr (back x.0 (ranks xs) o l.0.fits.is_new a i)
       ];
     },
     legal,
   )
     where
       same : length (ranks xs) ≡ length rs
-      same = omega (arith, long)
+      same = omega arith
 
   pub leads_on : IsReached p (suc (length rs)) after → IsLegal p (after.last ∷ rs) × IsPrefixOf (after.last ∷ rs) after
   leads_on r = (
@@ -151,6 +149,5 @@ rank_of p stage node one r = go r.landings r.prefix.legal r.prefix.long r.of_nod
   where
     go : (xs : List Landing) → IsLegal p (ranks xs) → length (ranks xs) ≡ stage → IsPrefixOf (ranks xs) node
         → (1 ≤ node.last) × (node.last ≤ length p.flights)
-    go [] l long o = absurd (omega (arith, long, one))
-    go (x ∷ xs) l long o = subst (λ (n : ℕ). (1 ≤ n) × (n ≤ length p.flights)) o.last
-        (l.0.fits.from_one, l.0.fits.to_count)
+    go [] l long o = absurd (omega arith)
+    go (x ∷ xs) l long o = subst (λ n. (1 ≤ n) × (n ≤ length p.flights)) o.last (l.0.fits.from_one, l.0.fits.to_count)

@@ -23,13 +23,13 @@ rises_apart (x ∷ xs) r q o (inl e) (inl f) n = e ∙ sym f
 rises_apart (x ∷ xs) r q o (inl e) (inr j) n =
     let a = (r.0 o j).0 in
     let b = n.0 in
-    let c : q.0 ≡ x.0 = ap (λ (z : Pair). z.0) e in
-    absurd (omega (arith, a, b, c))
+    let c : q.0 ≡ x.0 = ap (λ z. z.0) e in
+    absurd (omega arith)
 rises_apart (x ∷ xs) r q o (inr i) (inl f) n =
     let a = (r.0 q i).1 in
     let b = n.1 in
-    let c : o.1 ≡ x.1 = ap (λ (z : Pair). z.1) f in
-    absurd (omega (arith, a, b, c))
+    let c : o.1 ≡ x.1 = ap (λ z. z.1) f in
+    absurd (omega arith)
 rises_apart (x ∷ xs) r q o (inr i) (inr j) n = rises_apart xs r.1 q o i j n
 
 -- completing pairs that rise are the undominated ones
@@ -42,18 +42,19 @@ rises_undominated C xs r k q = (
 
 -- ---- one more, and the other way round
 
+-- what holds of each pair and of one more holds of each once that is pushed
+pub each_pair : (P : Pair → Type 0) (xs : List Pair) (x : Pair) → ((q : Pair) → InPairs q xs → P q) → P x
+    → (q : Pair) → InPairs q (xs ++ x ∷ []) → P q
+each_pair P xs x old new q i = elim (in_append q xs (x ∷ []) i) [
+  | inl a ↦ old q a
+  | inr b ↦ elim b [ inl e ↦ rw e new | inr none ↦ absurd none ]
+]
+
 pub falls_more : (xs : List Pair) (q : Pair) → Falls xs → ((o : Pair) → InPairs o xs → (q.0 < o.0) × (q.1 < o.1))
     → Falls (xs ++ q ∷ [])
 falls_more [] q f h = (λ o i. absurd i, tt)
 falls_more (x ∷ xs) q f h = (
-  λ o i. elim (in_append o xs (q ∷ []) i) [
-    | inl a ↦ f.0 o a
-    | inr b ↦ elim b [
-      | inl e ↦ subst (λ (z : Pair). (z.0 < x.0) × (z.1 < x.1)) (sym e) (h x (inl refl))
-      | inr none ↦
-          absurd none
-    ]
-  ],
+  each_pair (λ o. (o.0 < x.0) × (o.1 < x.1)) xs q f.0 (h x (inl refl)),
   falls_more xs q f.1 (λ o i. h o (inr i)),
 )
 
@@ -61,14 +62,7 @@ pub rises_more : (xs : List Pair) (q : Pair) → Rises xs → ((o : Pair) → In
     → Rises (xs ++ q ∷ [])
 rises_more [] q f h = (λ o i. absurd i, tt)
 rises_more (x ∷ xs) q f h = (
-  λ o i. elim (in_append o xs (q ∷ []) i) [
-    | inl a ↦ f.0 o a
-    | inr b ↦ elim b [
-      | inl e ↦ subst (λ (z : Pair). (x.0 < z.0) × (x.1 < z.1)) (sym e) (h x (inl refl))
-      | inr none ↦
-          absurd none
-    ]
-  ],
+  each_pair (λ o. (x.0 < o.0) × (x.1 < o.1)) xs q f.0 (h x (inl refl)),
   rises_more xs q f.1 (λ o i. h o (inr i)),
 )
 
@@ -84,14 +78,13 @@ in_reversed (x ∷ xs) q i = elim (in_append q (reverse xs) (x ∷ []) (subst (I
 
 pub reversed_in : (xs : List Pair) (q : Pair) → InPairs q xs → InPairs q (reverse xs)
 reversed_in [] q i = i
-reversed_in (x ∷ xs) q (inl e) = subst (InPairs q) (sym (reverse_front x xs)) (in_right q (reverse xs) (x ∷ []) (inl e))
-reversed_in (x ∷ xs) q (inr i) =
-    subst (InPairs q) (sym (reverse_front x xs)) (in_left q (reverse xs) (x ∷ []) (reversed_in xs q i))
+reversed_in (x ∷ xs) q (inl e) = rw (reverse_front x xs) (in_right q _ (x ∷ []) (inl e))
+reversed_in (x ∷ xs) q (inr i) = rw (reverse_front x xs) (in_left q _ (x ∷ []) (reversed_in xs q i))
 
 pub falls_rises : (xs : List Pair) → Falls xs → Rises (reverse xs)
 falls_rises [] f = tt
-falls_rises (x ∷ xs) f = subst Rises (sym (reverse_front x xs))
-    (rises_more (reverse xs) x (falls_rises xs f.1) (λ o i. f.0 o (in_reversed xs o i)))
+falls_rises (x ∷ xs) f = rw (reverse_front x xs) (rises_more _ x (falls_rises xs f.1)
+    (λ o i. f.0 o (in_reversed xs o i)))
 
 -- ---- least costs
 
@@ -117,7 +110,7 @@ pub least_unique : (P : ℕ → Type 0) (a b : Option ℕ) → IsLeastOf P a →
 least_unique P None None l m = refl
 least_unique P None (Some y) l m = absurd (l y m.0)
 least_unique P (Some x) None l m = absurd (m x l.0)
-least_unique P (Some x) (Some y) l m = (let a = l.1 y m.0 in let b = m.1 x l.0 in ap Some (omega (arith, a, b)))
+least_unique P (Some x) (Some y) l m = (let a = l.1 y m.0 in let b = m.1 x l.0 in ap Some (omega arith))
 
 fold_min : (a b : ℕ) (xs : List ℕ) → fold min (min a b) xs ≡ min a (fold min b xs)
 fold_min a b [] = refl
@@ -137,7 +130,7 @@ module _ {A : Type 0} (d : A) (W : A → ℕ → Type 0) (each : (x : A) → (o 
   least_at xs = reduce min (filter_map (λ x. (each x).0) xs)
 
   pub least_of_list : (xs : List A) → IsLeastOf (IsAtSome xs) (least_at xs)
-  least_of_list [] = λ c n. (let lt = n.1 in absurd (omega (arith, lt)))
+  least_of_list [] = λ c n. (let lt = n.1 in absurd (omega arith))
   least_of_list (x ∷ xs) =
       rw (reduce_min (each x).0 (filter_map (λ y. (each y).0) xs))
       (least_same (λ c. W x c ⊎ IsAtSome xs c) (IsAtSome (x ∷ xs)) (earlier_of (each x).0 (least_at xs))
@@ -145,11 +138,11 @@ module _ {A : Type 0} (d : A) (W : A → ℕ → Type 0) (each : (x : A) → (o 
     where
       to : (c : ℕ) → W x c ⊎ IsAtSome xs c → IsAtSome (x ∷ xs) c
       to c (inl w) = (0, omega arith, w)
-      to c (inr (i, lt, w)) = (suc i, omega (arith, lt), w)
+      to c (inr (i, lt, w)) = (suc i, omega arith, w)
 
       from : (c : ℕ) → IsAtSome (x ∷ xs) c → W x c ⊎ IsAtSome xs c
       from c (zero, lt, w) = inl w
-      from c (suc i, lt, w) = inr (i, omega (arith, lt), w)
+      from c (suc i, lt, w) = inr (i, omega arith, w)
 
 -- pairs have a least cost from a second on, or none
 module _ (second : ℕ) where
@@ -165,8 +158,7 @@ module _ (second : ℕ) where
   pub least_from : (xs : List Pair) → (o : Option ℕ) × IsLeastOf (IsCostFrom xs second) o
   least_from xs = (
     least,
-    least_same IsAt (IsCostFrom xs second) least (λ c. (to c, from c))
-        (least_of_list (0, 0) IsCostOf least_of_pair xs),
+    least_same IsAt (IsCostFrom xs second) least (λ c. (to c, from c)) (least_of_list (0, 0) IsCostOf least_of_pair xs),
   )
     where
       least : Option ℕ
@@ -176,31 +168,31 @@ module _ (second : ℕ) where
       IsAt = IsAtSome (0, 0) IsCostOf least_of_pair xs
 
       to : (c : ℕ) → IsAt c → IsCostFrom xs second c
-      to c (i, lt, h) = (pair_at xs i, at_in xs i (pair_at xs i) lt refl, h.0, h.1)
+      to c (i, lt, h) = (pair_at xs i, at_in xs i _ lt refl, h.0, h.1)
 
       from : (c : ℕ) → IsCostFrom xs second c → IsAt c
       from c (q, listed, late, is) =
-          (let a = in_at q xs listed in (a.0, a.1, subst (λ (o : Pair). IsCostOf o c) (sym a.2) (late, is)))
+          (let a = in_at q xs listed in (a.0, a.1, rw a.2 (late, is)))
 
 -- ---- by places
 
 pub rises_at : (xs : List Pair) → Rises xs → (i j : ℕ) → i < j → j < length xs → ((pair_at xs i).0 < (pair_at xs j).0)
     × ((pair_at xs i).1 < (pair_at xs j).1)
-rises_at [] r i j lt l = absurd (omega (arith, l))
-rises_at (x ∷ xs) r i zero lt l = absurd (omega (arith, lt))
-rises_at (x ∷ xs) r zero (suc j) lt l = r.0 (pair_at xs j) (at_in xs j (pair_at xs j) (omega (arith, l)) refl)
-rises_at (x ∷ xs) r (suc i) (suc j) lt l = rises_at xs r.1 i j (omega (arith, lt)) (omega (arith, l))
+rises_at [] r i j lt l = absurd (omega arith)
+rises_at (x ∷ xs) r i zero lt l = absurd (omega arith)
+rises_at (x ∷ xs) r zero (suc j) lt l = r.0 (pair_at xs j) (at_in xs j _ (omega arith) refl)
+rises_at (x ∷ xs) r (suc i) (suc j) lt l = rises_at xs r.1 i j (omega arith) (omega arith)
 
 pub last_most : (xs : List Pair) → Rises xs → (q : Pair) → InPairs q xs → q.0 ≤ (pair_at xs (length xs - 1)).0
 last_most xs r q i =
     let a = in_at q xs i in
-    let at : (pair_at xs a.0).0 ≡ q.0 = ap (λ (z : Pair). z.0) a.2 in
+    let at : (pair_at xs a.0).0 ≡ q.0 = ap (λ z. z.0) a.2 in
     let within = a.1 in
-    elim (cases_eq a.0 (length xs - 1)) [
+    elim (cases_eq a.0 _) [
       | inl e ↦ (let same : (pair_at xs a.0).0 ≡ (pair_at xs (length xs - 1)).0 =
-          ap (λ (n : ℕ). (pair_at xs n).0) e in omega (arith, at, same))
-      | inr ne ↦ (let less = (rises_at xs r a.0 (length xs - 1) (omega (arith, within, ne))
-          (omega (arith, within))).0 in omega (arith, at, less))
+          ap (λ n. (pair_at xs n).0) e in omega arith)
+      | inr ne ↦ (let less = (rises_at xs r a.0 (length xs - 1) (omega arith)
+          (omega arith)).0 in omega arith)
     ]
 
 -- the first pair at or after a second is the cheapest of those
@@ -228,11 +220,11 @@ pub none_found : (xs : List Pair) (second j : ℕ) → length xs ≤ j → ((i :
     → IsLeastOf (IsCostFrom xs second) None
 none_found xs second j le below = λ c h.
     let a = in_at h.0 xs h.1 in
-    let at : (pair_at xs a.0).0 ≡ h.0.0 = ap (λ (z : Pair). z.0) a.2 in
+    let at : (pair_at xs a.0).0 ≡ h.0.0 = ap (λ z. z.0) a.2 in
     let within = a.1 in
-    let b = below a.0 (omega (arith, within, le)) in
+    let b = below a.0 (omega arith) in
     let late = h.2 in
-    absurd (omega (arith, at, b, late))
+    absurd (omega arith)
 
 -- those before a second stand ahead of the others
 pub rises_split : (xs : List Pair) → Rises xs → (second : ℕ) → IsPartitionedBy (λ q. ltb q.0 second) xs

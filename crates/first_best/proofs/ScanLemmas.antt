@@ -1,15 +1,15 @@
 -- The pairs of a node, found from the latest second on.
 use Rattle.std.proofs.Common.{◌≡◌, ℕ, ◌+◌, ◌-◌, ◌*◌, ◌<◌, ◌≤◌, ◌⊎◌, inl, inr, List, [], ◌∷◌, ◌++◌, length, reverse}
-use Rattle.std.proofs.Common.{Option, Some, None, refl, sym, ap, subst, le_refl, arith}
-use Rattle.std.proofs.lemmas.Bool.{cases_eq}
+use Rattle.std.proofs.Common.{Option, Some, None, refl, le_refl, arith}
+use Rattle.std.proofs.lemmas.Bool.{cases_eq, cases_lt}
 use Rattle.landing_rules.specs.Rules.{last_second}
 use Rattle.landing_rules.specs.Problem.{Problem}
 use Rattle.cps_theory.specs.Labels.{InPairs, Pair}
 use Rattle.cps_theory.specs.CompletingPairs.{NoEarlierNoDearer}
-use Rattle.cps_network.specs.shared.PairLists.{in_append, in_left, in_right}
+use Rattle.cps_network.specs.shared.PairLists.{in_left, in_right}
 use Rattle.first_best.specs.declared.node.EarlyNode.{EarlyNode}
 use Rattle.first_best.specs.Completing.{AreFalling, ArePairsOf, IsWithinBudget, IsLeastOf, IsPairOf, StageAhead}
-use Rattle.first_best.proofs.PairLemmas.{falls_more, falls_rises, in_reversed, reversed_in}
+use Rattle.first_best.proofs.PairLemmas.{each_pair, falls_more, falls_rises, in_reversed, reversed_in}
 use Rattle.first_best.proofs.UseLemmas.{room_below}
 
 module _ (p : Problem) (v : ℕ) (budget : Option ℕ) (stage : ℕ) (node : EarlyNode) (next : StageAhead)
@@ -32,20 +32,20 @@ module _ (p : Problem) (v : ℕ) (budget : Option ℕ) (stage : ℕ) (node : Ear
   module _ (from second least : ℕ) (pairs : List Pair) (before : from ≡ second + 1) (scanned : Scanned from least pairs)
       (cost_here : Option ℕ) (least_here : IsLeastOf (λ d. Is (second, d)) cost_here) where
     s : Scanned (second + 1) least pairs
-    s = subst (λ (n : ℕ). Scanned n least pairs) before scanned
+    s = rw before at scanned
 
     is_least : (o : Option ℕ) → cost_here ≡ o → IsLeastOf (λ d. Is (second, d)) o
-    is_least o e = subst (λ (o : Option ℕ). IsLeastOf (λ d. Is (second, d)) o) e least_here
+    is_least o e = rw e at least_here
 
     -- what is found one second earlier
     earlier_are : (q : Pair) → InPairs q pairs → Is q × (second ≤ q.0)
-    earlier_are q i = (let a = s.found.are q i in (a.0, (let b = a.1 in omega (arith, b))))
+    earlier_are q i = (let a = s.found.are q i in (a.0, (let b = a.1 in omega arith)))
 
     split : (q : Pair) → second ≤ q.0 → (q.0 ≡ second) ⊎ (second + 1 ≤ q.0)
-    split q le = elim (cases_eq q.0 second) [ inl e ↦ inl e | inr ne ↦ inr (omega (arith, le, ne)) ]
+    split q le = elim (cases_eq q.0 second) [ inl e ↦ inl e | inr ne ↦ inr (omega arith) ]
 
     at_second : (q : Pair) → q.0 ≡ second → Is q → Is (second, q.1)
-    at_second q e h = subst (λ (n : ℕ). Is (n, q.1)) e h
+    at_second q e h = rw e at h
 
     kept : ((q : Pair) → Is q → q.0 ≡ second → Room q → (o : Pair) × InPairs o pairs × NoEarlierNoDearer o q)
         → Scanned second least pairs
@@ -69,7 +69,7 @@ module _ (p : Problem) (v : ℕ) (budget : Option ℕ) (stage : ℕ) (node : Ear
         let d = s.dear cost le (limits cost fits (room_below budget node.cheapest cost q.1 a r)) in
         let b = (s.found.are d.0 d.1).1 in
         let f = d.2 in
-        (d.0, d.1, (omega (arith, b, e), omega (arith, a, f))))
+        (d.0, d.1, (omega arith, omega arith)))
 
     pub cheaper : (cost : ℕ) → cost_here ≡ Some cost → cost < least → second ≤ last_second
         → cost ≤ 17279900 * (length p.flights - stage) → Scanned second cost (pairs ++ (second, cost) ∷ [])
@@ -78,39 +78,20 @@ module _ (p : Problem) (v : ℕ) (budget : Option ℕ) (stage : ℕ) (node : Ear
         let here = in_right (second, cost) pairs ((second, cost) ∷ []) (inl refl) in
         record {
           found = record {
-            are = λ q i. elim (in_append q pairs ((second, cost) ∷ []) i) [
-              | inl a ↦ earlier_are q a
-              | inr b ↦ elim b [
-                | inl e ↦ subst (λ (o : Pair). Is o × (second ≤ o.0)) (sym e)
-                    (l.0, le_refl second)
-                | inr none ↦ absurd none
-              ]
-            ];
+            are = each_pair (λ q. Is q × (second ≤ q.0)) pairs (second, cost) earlier_are (l.0, le_refl second);
             cover = λ q h le r. elim (split q le) [
-              | inl e ↦ (let a = l.1 q.1 (at_second q e h) in ((second, cost), here, (omega (arith, e), a)))
+              | inl e ↦ (let a = l.1 q.1 (at_second q e h) in ((second, cost), here, (omega arith, a)))
               | inr more ↦ (let a = s.found.cover q h more r in (a.0, in_left a.0 pairs ((second, cost) ∷ []) a.1, a.2))
             ];
             falling = falls_more pairs (second, cost) s.found.falling (λ o i.
                 let a = (s.found.are o i).1 in
                 let b = s.least_of o i in
-                (omega (arith, a), omega (arith, b, lt)));
-            in_reach = λ q i. elim (in_append q pairs ((second, cost) ∷ []) i) [
-              | inl a ↦ s.found.in_reach q a
-              | inr b ↦ elim b [
-                | inl e ↦ subst (λ (o : Pair). (o.0 ≤ last_second)
-                    × (o.1 ≤ 17279900 * (length p.flights - stage))) (sym e) (in_days, small)
-                | inr none ↦ absurd none
-              ]
-            ];
+                (omega arith, omega arith));
+            in_reach = each_pair (λ q. (q.0 ≤ last_second) × (q.1 ≤ 17279900 * (length p.flights - stage))) pairs
+                (second, cost) s.found.in_reach (in_days, small);
           };
-          least_of = λ q i. elim (in_append q pairs ((second, cost) ∷ []) i) [
-            | inl a ↦ (let b = s.least_of q a in omega (arith, b, lt))
-            | inr b ↦ elim b [
-              | inl e ↦ (let f : q.1 ≡ cost = ap (λ (z : Pair). z.1) e in omega (arith, f))
-              | inr none ↦
-                  absurd none
-            ]
-          ];
+          least_of = each_pair (λ q. cost ≤ q.1) pairs (second, cost)
+              (λ q a. let b = s.least_of q a in omega arith) (le_refl cost);
           dear = λ c le fits. ((second, cost), here, le);
         }
 
@@ -122,17 +103,14 @@ module _ (p : Problem) (v : ℕ) (budget : Option ℕ) (stage : ℕ) (node : Ear
     cover = λ q h le r.
         let none : 0 < limit = limits 0 (omega arith) (room_below budget node.cheapest 0 q.1 (omega arith) r) in
         let d = s.dear 0 (omega (arith, free)) none in
-        elim (later from q.0) [
-          | inl le ↦ s.found.cover q h le r
-          | inr le ↦ (let a = (s.found.are d.0 d.1).1 in let b =
+        elim (cases_lt q.0 from) [
+          | inr le ↦ s.found.cover q h le r
+          | inl le ↦ (let a = (s.found.are d.0 d.1).1 in let b =
               d.2 in (d.0, d.1, (omega (arith, a, le), omega (arith, b))))
         ];
     falling = s.found.falling;
     in_reach = s.found.in_reach;
   }
-    where
-      later : (a b : ℕ) → (a ≤ b) ⊎ (b ≤ a)
-      later a b = elim (cases_eq (a - b) 0) [ inl e ↦ inl (omega (arith, e)) | inr ne ↦ inr (omega (arith, ne)) ]
 
   pub scanned_all : (from least : ℕ) (pairs : List Pair) → from ≤ node.earliest → Scanned from least pairs
       → AreFalling p v budget stage node next node.earliest pairs

@@ -50,9 +50,8 @@ module _ (p : Problem) (sound : SoundProblem (ranked p)) (rs : List ℕ) (r : �
   }
 
   -- where it lands behind one by a second, it may land behind each that is no later
-  lands_each : (b t : ℕ) → landing_after p (last_rank rs) b r ≡ Some t → (xs : List Landing)
-      → LandedIn (ranked p) xs → last_rank (ranks xs) ≡ last_rank rs → (latest_landing xs).1 ≤ b
-      → LandedIn (ranked p) ((r, t) ∷ xs)
+  lands_each : (b t : ℕ) → landing_after p (last_rank rs) b r ≡ Some t → (xs : List Landing) → LandedIn (ranked p) xs
+      → last_rank (ranks xs) ≡ last_rank rs → (latest_landing xs).1 ≤ b → LandedIn (ranked p) ((r, t) ∷ xs)
   lands_each b t lands xs landed last le =
       let f = (is_first_open p).found r (next_from (ranked p) (last_rank rs) b r) t lands in
       let from = le_trans ((next_later (ranked p)).mono (last_rank rs) (latest_landing xs).1 b r le) f.1 in
@@ -78,7 +77,7 @@ module _ (p : Problem) (sound : SoundProblem (ranked p)) (rs : List ℕ) (r : �
 pub room_below : (budget : Option ℕ) (cheapest c d : ℕ) → c ≤ d → IsWithinBudget budget cheapest d
     → IsWithinBudget budget cheapest c
 room_below None cheapest c d le h = tt
-room_below (Some budget) cheapest c d le h = omega (arith, le, h)
+room_below (Some budget) cheapest c d le h = omega arith
 
 -- and for what is of use
 pub wanted_room : (p : Problem) (budget : Option ℕ) (rs : List ℕ) (node : EarlyNode)
@@ -88,6 +87,6 @@ pub wanted_room : (p : Problem) (budget : Option ℕ) (rs : List ℕ) (node : Ea
 wanted_room p None rs node cheap of q cost le w = tt
 wanted_room p (Some budget) rs node cheap of q cost le w =
     let a = cheap w.landings (record { legal = w.legal; landed = w.landed; long = w.one_node.stage })
-    (node_one rs (ranks w.landings) node w.one_node of) in
+    (node_one rs _ node w.one_node of) in
     let b = w.cheap in
-    omega (arith, a, b, le)
+    omega arith

@@ -1,9 +1,10 @@
 -- Ways from a node to others, and the least cost by them.
+use Rattle.replan.specs.shared.Pushed.{each_pushed}
 use Rattle.std.proofs.Common.{◌≡◌, ℕ, zero, suc, ◌+◌, ◌<◌, ◌≤◌, inl, inr, List, [], ◌∷◌, ◌++◌, length, Option, Some}
 use Rattle.std.proofs.Common.{None, true, false, ◌&&◌, refl, sym, ap, subst, ◌∙◌, arith}
 use Rattle.std.specs.Prelude.{slice_index_or}
 use Rattle.std.proofs.lemmas.Option.{none-some, same_Some}
-use Rattle.std.proofs.lemmas.Bool.{and_from, cases_eq, cases_lt, false≢true}
+use Rattle.std.proofs.lemmas.Bool.{and_from, cases_eq, false≢true}
 use Rattle.std.proofs.lemmas.List.{get_or_append_left, get_or_push}
 use Rattle.std.proofs.Common.{length-append}
 use Rattle.landing_rules.specs.Problem.{Problem}
@@ -32,19 +33,10 @@ pub one_way : (node : EarlyNode) (nodes : List EarlyNode) (j : ℕ) (ways : List
 one_way node nodes j ways w leads =
     let long : length (ways ++ j ∷ []) ≡ length ways + 1 = length-append ways (j ∷ []) in
     let old = λ (i : ℕ) (lt : i < length ways). get_or_append_left ways (j ∷ []) 0 i lt in
-    let new : slice_index_or (ways ++ j ∷ []) (length ways) 0 ≡ j = get_or_push ways j 0 (length ways) refl in
+    let new : slice_index_or (ways ++ j ∷ []) (length ways) 0 ≡ j = get_or_push ways j 0 _ refl in
     record {
-      within = λ i lt. elim (cases_lt i (length ways)) [
-        | inl less ↦ (let a = w.within i less in let b = old i less in omega (arith, a, b))
-        | inr more ↦ (let e : i ≡ length ways = omega (arith, lt, long, more) in let b : slice_index_or
-            (ways ++ j ∷ []) i 0 ≡ j = ap (λ (n : ℕ). slice_index_or (ways ++ j ∷ []) n 0) e ∙ new in omega (arith, b))
-      ];
-      lead = λ i lt. elim (cases_lt i (length ways)) [
-        | inl less ↦ subst (λ (n : ℕ). LeadsTo node (node_at nodes n)) (sym (old i less)) (w.lead i less)
-        | inr more ↦ (let e : i ≡ length ways = omega (arith, lt, long, more) in let b : slice_index_or
-            (ways ++ j ∷ []) i 0 ≡ j = ap (λ (n : ℕ). slice_index_or (ways ++ j ∷ []) n 0) e
-            ∙ new in subst (λ (n : ℕ). LeadsTo node (node_at nodes n)) (sym b) leads)
-      ];
+      within = each_pushed (λ i m. m < j + 1) ways j 0 (λ i lt. omega (arith, w.within i lt)) (omega arith);
+      lead = each_pushed (λ i m. LeadsTo node (node_at nodes m)) ways j 0 w.lead leads;
       every = λ m lt l. elim (cases_eq m j) [
         | inl e ↦ (length ways, omega (arith, long), new ∙ sym e)
         | inr ne ↦ (let a = w.every m (omega (arith, lt, ne)) l in
@@ -140,25 +132,14 @@ module _ (p : Problem) (stage : ℕ) (node : EarlyNode) (next : StageAhead) (way
       to : (c : ℕ) → (i : ℕ) × (i < length ways) × IsWayAt i c → IsEnd p stage node next second c
       to c (i, lt, w) = inr (
         short,
-        record {
-          place = slice_index_or ways i 0;
-          within = are.within i lt;
-          leads =
-              are.lead i lt;
-          way = w;
-        },
+        record { place = slice_index_or ways i 0; within = are.within i lt; leads = are.lead i lt; way = w },
       )
 
       from : (c : ℕ) → IsEnd p stage node next second c → (i : ℕ) × (i < length ways) × IsWayAt i c
-      from c (inl h) = absurd (let e = h.0 in omega (arith, e, short))
+      from c (inl h) = absurd (let e = h.0 in omega arith)
       from c (inr h) =
           let w = h.1 in
-          let a = are.every w.place w.within w.leads in (
-            a.0,
-            a.1,
-            subst (λ (n : ℕ). IsWayTo p node (node_at next.nodes n) (list_at next.lists n) second c)
-                (sym a.2) w.way,
-          )
+          let a = are.every w.place w.within w.leads in (a.0, a.1, rw a.2 w.way)
 
 -- a pair of the node at an open second that the value allows
 pub end_pair : (p : Problem) (v stage : ℕ) (node : EarlyNode) (next : StageAhead) (second : ℕ)
@@ -172,19 +153,18 @@ end_pair p v stage node next second o r l least h = least_same (IsEnd p stage no
 -- ---- how late a pair is
 
 pub not_before : (p : Problem) (last second rank : ℕ) → 1 ≤ last → second ≤ next_from (ranked p) last second rank
-not_before p zero second rank one = absurd (omega (arith, one))
+not_before p zero second rank one = absurd (omega arith)
 not_before p (suc last) second rank one = omega arith
 
-pub way_late : (p : Problem) (node after : EarlyNode) (pairs : List Pair) (second cost most : ℕ)
-    → 1 ≤ node.last → IsWayTo p node after pairs second cost → ((q : Pair) → InPairs q pairs → q.0 ≤ most)
-    → second ≤ most
+pub way_late : (p : Problem) (node after : EarlyNode) (pairs : List Pair) (second cost most : ℕ) → 1 ≤ node.last
+    → IsWayTo p node after pairs second cost → ((q : Pair) → InPairs q pairs → q.0 ≤ most) → second ≤ most
 way_late p node after pairs second cost most one w late =
     let a = not_before p node.last second after.last one in
     let b = ((is_first_open p).found after.last (next_from (ranked p) node.last second after.last)
     w.lands_at w.lands).1 in
     let c = w.in_time in
     let d = late w.pair w.listed in
-    omega (arith, a, b, c, d)
+    omega arith
 
 pub pairs_late : (p : Problem) (v stage : ℕ) (node : EarlyNode) (next : StageAhead) (ways : List ℕ) (most : ℕ)
     → 1 ≤ node.last → stage < length p.flights → AreWaysOf node next.nodes ways
@@ -193,12 +173,11 @@ pub pairs_late : (p : Problem) (v stage : ℕ) (node : EarlyNode) (next : StageA
 pairs_late p v stage node next ways most one short are late q h = go h.end
   where
     go : IsEnd p stage node next q.0 q.1 → q.0 ≤ most
-    go (inl e) = absurd (let a = e.0 in omega (arith, a, short))
+    go (inl e) = absurd (let a = e.0 in omega arith)
     go (inr e) =
         let w = e.1 in
         let a = are.every w.place w.within w.leads in
-        way_late p node (node_at next.nodes w.place) (list_at next.lists w.place) q.0 q.1 most one w.way
-        (subst (λ (n : ℕ). (o : Pair) → InPairs o (list_at next.lists n) → o.0 ≤ most) a.2 (late a.0 a.1))
+        way_late p node _ _ q.0 q.1 most one w.way (rw a.2 at (late a.0 a.1))
 
 -- and none elsewhere
 pub not_allowed : (p : Problem) (v stage : ℕ) (node : EarlyNode) (next : StageAhead) (second : ℕ)

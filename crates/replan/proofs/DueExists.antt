@@ -1,7 +1,7 @@
 -- What is due of a problem exists: the candidates of each stage can be listed in order.
-use Rattle.std.proofs.Common.{◌≡◌, ℕ, zero, suc, ◌+◌, ◌<◌, ◌≤◌, ◌⊎◌, inl, inr, Bool, true, false, List, [], ◌∷◌, ◌++◌}
-use Rattle.std.proofs.Common.{length, get_or, map, Option, Some, None, refl, sym, ap, subst, ◌∙◌, arith}
-use Rattle.std.specs.Prelude.{ℤ, Contains}
+use Rattle.std.proofs.Common.{◌≡◌, ℕ, zero, suc, ◌+◌, ◌≤◌, ◌⊎◌, inl, inr, Bool, true, false, List, [], ◌∷◌, ◌++◌}
+use Rattle.std.proofs.Common.{length, map, Some, None, refl, sym, ap, subst, ◌∙◌, arith}
+use Rattle.std.specs.Prelude.{ℤ}
 use Rattle.std.proofs.lemmas.Bool.{cases_eq}
 use Rattle.std.specs.declared.cmp.Ordering.{Ordering}
 use Rattle.std.specs.declared.cmp.Ordering.TheVariants.{Less, Equal, Greater}
@@ -10,6 +10,10 @@ use Rattle.std.specs.Cmp.Lexicographic.{pointwise}
 use Rattle.std.proofs.lemmas.Slice.Eq.{slice_eq-Decides}
 use Rattle.std.proofs.lemmas.Bool.Decides.{Decides-int_eq}
 use Rattle.landing_rules.specs.Problem.{Problem}
+use Rattle.landing_rules.specs.shared.Counting.{Member}
+use Rattle.landing_rules.specs.shared.Members.{append_in, cases_option, contains_member, map_in, member_at}
+use Rattle.landing_rules.specs.shared.Members.{member_contains}
+use Rattle.landing_rules.specs.shared.OneList.{AscendBy}
 use Rattle.cps_theory.specs.Agreement.{counts}
 use Rattle.cps_theory.specs.Separation.{Landing}
 use Rattle.cps_theory.specs.LandingTrail.{pair_of, ranks}
@@ -27,50 +31,24 @@ use Rattle.cps_problem.specs.WellFormed.{IsWellFormed}
 use Rattle.cps_network.specs.Due.{HasCandidatesIf, HasCandidatesWhere}
 use Rattle.cps_network.specs.Landable.{IsCandidate}
 use Rattle.cps_network.specs.Lists.{IsAscending, node_at}
-use Rattle.cps_network.specs.Nodes.{Node, IsWindowNetwork, node_of, land, permits}
+use Rattle.cps_network.specs.Nodes.{IsWindowNetwork, node_of, land, permits}
 use Rattle.replan.specs.Bound.{HasDue, HasCounts}
 
--- ---- what stands in a list
-
-abbrev Among : {A : Type 0} → A → List A → Type 0
-Among z [] = ⊥
-Among z (x ∷ xs) = (z ≡ x) ⊎ Among z xs
-
-among_at : {A : Type 0} (xs : List A) (i : ℕ) (d : A) → i < length xs → Among (get_or xs i d) xs
-among_at [] i d lt = absurd (omega (arith, lt))
-among_at (x ∷ xs) zero d lt = inl refl
-among_at (x ∷ xs) (suc i) d lt = inr (among_at xs i d (omega (arith, lt)))
-
-contains_among : (xs : List (List ℤ)) (z : List ℤ) → Contains xs z → Among z xs
-contains_among xs z (i, lt, at) = subst (λ (w : List ℤ). Among w xs) at (among_at xs i z lt)
-
-among_contains : (xs : List (List ℤ)) (z : List ℤ) → Among z xs → Contains xs z
-among_contains [] z m = absurd m
-among_contains (x ∷ xs) z (inl e) = (0, omega arith, sym e)
-among_contains (x ∷ xs) z (inr m) = (let c = among_contains xs z m in let lt = c.1 in (suc c.0, omega (arith, lt), c.2))
-
-among_left : {A : Type 0} (xs ys : List A) (z : A) → Among z xs → Among z (xs ++ ys)
-among_left [] ys z m = absurd m
-among_left (x ∷ xs) ys z (inl e) = inl e
-among_left (x ∷ xs) ys z (inr m) = inr (among_left xs ys z m)
-
-among_right : {A : Type 0} (xs ys : List A) (z : A) → Among z ys → Among z (xs ++ ys)
-among_right [] ys z m = m
-among_right (x ∷ xs) ys z m = inr (among_right xs ys z m)
+member_right : {A : Type 0} (xs ys : List A) (z : A) → Member z ys → Member z (xs ++ ys)
+member_right [] ys z m = m
+member_right (x ∷ xs) ys z m = inr (member_right xs ys z m)
 
 -- ---- any windows in ascending order, none twice
 
 abbrev Rising : List (List ℤ) → Type 0
-Rising [] = Unit {0}
-Rising (x ∷ xs) = ((y : List ℤ) → Among y xs → window_cmp x y ≡ Less) × Rising xs
+Rising xs = AscendBy (λ (x y : List ℤ). window_cmp x y ≡ Less) xs
 
 rising_ascends : (xs : List (List ℤ)) → Rising xs → IsAscending xs
-rising_ascends [] up i j lt within = absurd (omega (arith, within))
-rising_ascends (x ∷ xs) up zero zero lt within = absurd (omega (arith, lt))
-rising_ascends (x ∷ xs) up zero (suc j) lt within = up.0 (node_at xs j) (among_at xs j [] (omega (arith, within)))
-rising_ascends (x ∷ xs) up (suc i) zero lt within = absurd (omega (arith, lt))
-rising_ascends (x ∷ xs) up (suc i) (suc j) lt within =
-    rising_ascends xs up.1 i j (omega (arith, lt)) (omega (arith, within))
+rising_ascends [] up i j lt within = absurd (omega arith)
+rising_ascends (x ∷ xs) up zero zero lt within = absurd (omega arith)
+rising_ascends (x ∷ xs) up zero (suc j) lt within = up.0 (node_at xs j) (member_at xs j [] (omega arith))
+rising_ascends (x ∷ xs) up (suc i) zero lt within = absurd (omega arith)
+rising_ascends (x ∷ xs) up (suc i) (suc j) lt within = rising_ascends xs up.1 i j (omega arith) (omega arith)
 
 same_from_tie : (x y : List ℤ) → window_cmp x y ≡ Equal → x ≡ y
 same_from_tie x y e = (slice_eq-Decides Decides-int_eq x y (pointwise int_eq x y) refl).0 (window_ties x y ∙ ap is_eq e)
@@ -79,9 +57,9 @@ same_from_tie x y e = (slice_eq-Decides Decides-int_eq x y (pointwise int_eq x y
 record WithOne (z : List ℤ) (xs : List (List ℤ)) : Type 0 where
   pub list : List (List ℤ)
   pub rising : Rising list
-  pub old : (y : List ℤ) → Among y xs → Among y list
-  pub new : Among z list
-  pub only : (y : List ℤ) → Among y list → (y ≡ z) ⊎ Among y xs
+  pub old : (y : List ℤ) → Member y xs → Member y list
+  pub new : Member z list
+  pub only : (y : List ℤ) → Member y list → (y ≡ z) ⊎ Member y xs
 
 with_one : (z : List ℤ) (xs : List (List ℤ)) → Rising xs → WithOne z xs
 with_one z [] up = record {
@@ -89,8 +67,7 @@ with_one z [] up = record {
   rising = (λ y m. absurd m, tt);
   old = λ y m. absurd m;
   new = inl refl;
-  only =
-      λ y m. m;
+  only = λ y m. m;
 }
 with_one z (x ∷ xs) up = go (with_one z xs up.1) (window_cmp z x) refl
   where
@@ -100,8 +77,7 @@ with_one z (x ∷ xs) up = go (with_one z xs up.1) (window_cmp z x) refl
       rising = (
         λ y m. elim m [
           | inl is ↦ subst (λ (w : List ℤ). window_cmp z w ≡ Less) (sym is) e
-          | inr k ↦
-              window_cmp_total.trans z x y e (up.0 y k)
+          | inr k ↦ window_cmp_total.trans z x y e (up.0 y k)
         ],
         up,
       );
@@ -114,8 +90,7 @@ with_one z (x ∷ xs) up = go (with_one z xs up.1) (window_cmp z x) refl
       rising = up;
       old = λ y m. m;
       new = inl (same_from_tie z x e);
-      only =
-          λ y m. inr m;
+      only = λ y m. inr m;
     }
     go rest Greater e =
         let low : window_cmp x z ≡ Less = window_cmp_total.antisymm x z ∙ ap ordering_reverse e in
@@ -123,8 +98,7 @@ with_one z (x ∷ xs) up = go (with_one z xs up.1) (window_cmp z x) refl
           list = x ∷ rest.list;
           rising = (
             λ y m. elim (rest.only y m) [
-              | inl is ↦ subst (λ (w : List ℤ). window_cmp x w ≡ Less)
-                  (sym is) low
+              | inl is ↦ subst (λ (w : List ℤ). window_cmp x w ≡ Less) (sym is) low
               | inr k ↦ up.0 y k
             ],
             rest.rising,
@@ -133,8 +107,7 @@ with_one z (x ∷ xs) up = go (with_one z xs up.1) (window_cmp z x) refl
           new = inr rest.new;
           only = λ y m. elim m [
             | inl is ↦ inr (inl is)
-            | inr k ↦
-                elim (rest.only y k) [ inl is ↦ inl is | inr l ↦ inr (inr l) ]
+            | inr k ↦ elim (rest.only y k) [ inl is ↦ inl is | inr l ↦ inr (inr l) ]
           ];
         }
 
@@ -144,8 +117,8 @@ module _ (P : List ℕ → Type 0) (decide : (rs : List ℕ) → Decided (P rs))
   record Windows (orders : List (List ℕ)) : Type 0 where
     pub list : List (List ℤ)
     pub rising : Rising list
-    pub each : (rs : List ℕ) → Among rs orders → P rs → Among (window rs) list
-    pub only : (y : List ℤ) → Among y list → (rs : List ℕ) × P rs × (y ≡ window rs)
+    pub each : (rs : List ℕ) → Member rs orders → P rs → Member (window rs) list
+    pub only : (y : List ℤ) → Member y list → (rs : List ℕ) × P rs × (y ≡ window rs)
 
   windows : (orders : List (List ℕ)) → Windows orders
   windows [] = record { list = []; rising = tt; each = λ rs m. absurd m; only = λ y m. absurd m }
@@ -157,8 +130,7 @@ module _ (P : List ℕ → Type 0) (decide : (rs : List ℕ) → Decided (P rs))
           list = more.list;
           rising = more.rising;
           each = λ rs m has. elim m [
-            | inl e ↦ subst (λ (q : List ℕ). Among (window q) more.list)
-                (sym e) more.new
+            | inl e ↦ subst (λ (q : List ℕ). Member (window q) more.list) (sym e) more.new
             | inr k ↦ more.old (window rs) (rest.each rs k has)
           ];
           only = λ y m. elim (more.only y m) [ inl e ↦ (os, is, e) | inr k ↦ rest.only y k ];
@@ -183,27 +155,20 @@ abbrev all_orders : ℕ → ℕ → List (List ℕ)
 all_orders n zero = [] ∷ []
 all_orders n (suc m) = heads n (all_orders n m)
 
-among_map : (r : ℕ) (orders : List (List ℕ)) (rs : List ℕ) → Among rs orders
-    → Among (r ∷ rs) (map (λ (os : List ℕ). r ∷ os) orders)
-among_map r [] rs m = absurd m
-among_map r (os ∷ orders) rs (inl e) = inl (ap (λ (l : List ℕ). r ∷ l) e)
-among_map r (os ∷ orders) rs (inr m) = inr (among_map r orders rs m)
-
-among_heads : (n r : ℕ) (orders : List (List ℕ)) (rs : List ℕ) → 1 ≤ r → r ≤ n → Among rs orders
-    → Among (r ∷ rs) (heads n orders)
+among_heads : (n r : ℕ) (orders : List (List ℕ)) (rs : List ℕ) → 1 ≤ r → r ≤ n → Member rs orders
+    → Member (r ∷ rs) (heads n orders)
 among_heads zero r orders rs one le m = absurd (omega (arith, one, le))
 among_heads (suc n) r orders rs one le m = elim (cases_eq r (suc n)) [
-  | inl e ↦ among_left (map (λ (os : List ℕ). suc n ∷ os) orders) (heads n orders) (r ∷ rs)
-      (subst (λ (x : ℕ). Among (x ∷ rs) (map (λ (os : List ℕ). suc n ∷ os) orders)) (sym e)
-      (among_map (suc n) orders rs m))
-  | inr other ↦ among_right (map (λ (os : List ℕ). suc n ∷ os) orders) (heads n orders) (r ∷ rs)
+  | inl e ↦ append_in (map (λ (os : List ℕ). suc n ∷ os) orders) (heads n orders) (r ∷ rs)
+      (rw e (map_in (λ (os : List ℕ). suc n ∷ os) orders rs m))
+  | inr other ↦ member_right (map (λ (os : List ℕ). suc n ∷ os) orders) (heads n orders) (r ∷ rs)
       (among_heads n r orders rs one (omega (arith, le, other)) m)
 ]
 
 -- ---- the candidates of a stage
 
 module _ (p : Problem) (wf : IsWellFormed p) (net : IsWindowNetwork p) where
-  legal_order : (rs : List ℕ) → Legal (ranked p).rules rs → Among rs (all_orders (length p.flights) (length rs))
+  legal_order : (rs : List ℕ) → Legal (ranked p).rules rs → Member rs (all_orders (length p.flights) (length rs))
   legal_order [] legal = inl refl
   legal_order (r ∷ rs) legal =
       among_heads (length p.flights) r (all_orders (length p.flights) (length rs)) rs legal.0.fits.from_one
@@ -214,11 +179,10 @@ module _ (p : Problem) (wf : IsWellFormed p) (net : IsWindowNetwork p) where
 
   decide_lands : (rs : List ℕ) → Decided (Lands rs)
   unfolding Lands
-  decide_lands rs = go (earliest (first_at p) (next_from (ranked p)) rs) refl
-    where
-      go : (o : Option (List Landing)) → earliest (first_at p) (next_from (ranked p)) rs ≡ o → Decided (Lands rs)
-      go (Some xs) e = inl (xs, e)
-      go None e = inr (λ h. absurd (let x = sym e ∙ h.1 in cc))
+  decide_lands rs = elim (cases_option (earliest (first_at p) (next_from (ranked p)) rs)) [
+    | inl none ↦ inr (λ h. absurd (let x = sym none ∙ h.1 in cc))
+    | inr lands ↦ inl lands
+  ]
 
   -- a legal order of one flight more than the stage, of which all but the last can land
   abbrev LandsBefore : ℕ → List ℕ → Type 0
@@ -226,12 +190,11 @@ module _ (p : Problem) (wf : IsWellFormed p) (net : IsWindowNetwork p) where
   LandsBefore stage (r ∷ rs) = Legal (ranked p).rules (r ∷ rs) × Lands rs × (length rs ≡ stage)
 
   decide_before : (stage : ℕ) (rs : List ℕ) → Decided (LandsBefore stage rs)
-  decide_before stage [] = inr (λ h. absurd h)
+  decide_before stage [] = inr (absurd)
   decide_before stage (r ∷ rs) =
-      with_decided (decide_legal (ranked p).rules (λ q x e. let b = wf.between_ranks q x e in (b.0, b.1)) (r ∷ rs))
-      (λ legal.
+      with_decided (decide_legal _ (λ q x e. let b = wf.between_ranks q x e in (b.0, b.1)) (r ∷ rs)) (λ legal.
       with_decided (decide_lands rs) (λ lands.
-      with_decided (cases_eq (length rs) stage) (λ long. inl (legal, lands, long)) (λ h. h.2)) (λ h. h.1)) (λ h. h.0)
+      with_decided (cases_eq _ stage) (λ long. inl (legal, lands, long)) (λ h. h.2)) (λ h. h.1)) (λ h. h.0)
 
   window : List ℕ → List ℤ
   window rs = (node_of p.k rs).1
@@ -243,35 +206,28 @@ module _ (p : Problem) (wf : IsWellFormed p) (net : IsWindowNetwork p) where
       let before = net.shrinks r rs legal in
       let l = earliest_lands (λ x u. (ranked p).is_open x u ≡ true) (first_at p) (next_from (ranked p))
       (is_first_open p) rs lands.0 lands.1 in
-      subst (λ (s : ℕ). IsCandidate p s (window (r ∷ rs))) long (
+      subst (λ s. IsCandidate p s (window (r ∷ rs))) long (
         window rs,
         (
           pair_of (cost_at p) lands.0,
-          record {
-            landings = lands.0;
-            legal = subst (Legal (ranked p).rules) (sym l.1) before.0;
-            landed =
-                l.0;
-            at = ap (node_of p.k) l.1;
-            is = refl;
-          },
+          record { landings = lands.0; legal = rw l.1 before.0; landed = l.0; at = ap (node_of p.k) l.1; is = refl },
         ),
-        (r, before.1, ap (λ (w : Node). w.1) (net.pushes r rs before.0)),
+        (r, before.1, ap (λ w. w.1) (net.pushes r rs before.0)),
       )
 
   each_candidate : (stage : ℕ) (next : List ℤ) → IsCandidate p stage next → (rs : List ℕ)
-      × Among rs (all_orders (length p.flights) (suc stage)) × LandsBefore stage rs × (window rs ≡ next)
+      × Member rs (all_orders (length p.flights) (suc stage)) × LandsBefore stage rs × (window rs ≡ next)
   unfolding Lands window
   each_candidate stage next (xs, (q, a), (r, permitted, is)) =
       let rs = ranks a.landings in
-      let legal = net.grows r rs a.legal (subst (λ (w : Node). permits p w r) (sym a.at) permitted) in
-      let e = earliest_least (λ x u. (ranked p).is_open x u ≡ true) (first_at p) (next_from (ranked p))
+      let legal = net.grows r rs a.legal (subst (λ w. permits p w r) (sym a.at) permitted) in
+      let e = earliest_least (λ x u. (ranked p).is_open x u ≡ true) _ _
       (is_first_open p) (next_later (ranked p)) a.landings a.landed in
-      let long : length rs ≡ stage = ap (λ (w : Node). w.0) a.at in (
+      let long : length rs ≡ stage = ap (λ w. w.0) a.at in (
         r ∷ rs,
-        subst (λ (s : ℕ). Among (r ∷ rs) (all_orders (length p.flights) (suc s))) long (legal_order (r ∷ rs) legal),
+        rw long at (legal_order (r ∷ rs) legal),
         (legal, (e.0, e.1), long),
-        ap (λ (w : Node). w.1) (net.pushes r rs a.legal ∙ ap (λ (w : Node). land w r) a.at) ∙ sym is,
+        ap (λ w. w.1) (net.pushes r rs a.legal ∙ ap (λ w. land w r) a.at) ∙ sym is,
       )
 
   pub counts_exist : HasCounts p
@@ -283,10 +239,9 @@ module _ (p : Problem) (wf : IsWellFormed p) (net : IsWindowNetwork p) where
           candidates = all.list;
           ascending = rising_ascends all.list all.rising;
           each = λ xs. (
-            λ has. (let o = all.only xs (contains_among all.list xs has) in subst (IsCandidate p stage)
-                (sym o.2) (is_candidate stage o.0 o.1)),
-            λ c. (let o = each_candidate stage xs c in among_contains all.list xs
-                (subst (λ (w : List ℤ). Among w all.list) o.3 (all.each o.0 o.1 o.2))),
+            λ has. (let o = all.only xs (contains_member all.list xs has) in rw o.2 (is_candidate stage o.0 o.1)),
+            λ c. (let o = each_candidate stage xs c in member_contains all.list xs
+                (rw o.3 at (all.each o.0 o.1 o.2))),
           );
           counted = refl;
         },
@@ -298,17 +253,14 @@ where_exists : (test : ℕ → Bool) (p : Problem) (n : ℕ) → HasCounts p →
 where_exists test p zero counted = (0, refl)
 where_exists test p (suc n) counted =
     let rest = where_exists test p n counted in
-    let here = one (test (suc n)) in
+    let here : (count : ℕ) × HasCandidatesIf (test (suc n)) p n count = elim (test (suc n)) as
+    (λ b. (count : ℕ) × HasCandidatesIf b p n count) [ true ↦ counted n | false ↦ (0, refl) ] in
     (rest.0 + here.0, (here.0, rest.0, here.1, rest.1, refl))
-  where
-    one : (b : Bool) → (count : ℕ) × HasCandidatesIf b p n count
-    one true = counted n
-    one false = (0, refl)
 
 pub due_alone : (p : Problem) → HasCounts p → HasDue None p
-due_alone p counted = where_exists (counts 1 p.k 0) p (length p.flights) counted
+due_alone p counted = where_exists (counts 1 p.k 0) p _ counted
 
 pub due_beside : (held p : Problem) (d : ℕ) → HasCounts p → IsFirstDifference held p d → HasDue (Some held) p
 due_beside held p d counted is =
-    (let due = where_exists (counts d p.k (length held.flights)) p (length p.flights) counted in
+    (let due = where_exists (counts d p.k _) p _ counted in
     (due.0, (d, is, due.1)))

@@ -15,18 +15,17 @@ pub hints_of_stages : (p : Problem) (stages : List LabelledStage) → AreStages 
 hints_of_stages p stages is i lt said =
     let here : i + 1 < length stages = omega (arith, lt, length-map stages without_pairs) in
     let at = get_or-map without_pairs stages (i + 1) no_stage (without_pairs no_stage) here in
-    let before = get_or-map without_pairs stages i no_stage (without_pairs no_stage) (omega (arith, here)) in
+    let before = get_or-map without_pairs stages i no_stage (without_pairs no_stage) (omega arith) in
     let back : i + 1 - 1 ≡ i = omega arith in
     let step : IsNextOf p i (stage_at stages i).stage.1 (stage_at stages (i + 1)).stage.1 =
     rw back at (is.whole (i + 1) (omega arith) here (rw at at said)) in
-    rw (at, before, is.number i (omega (arith, here))) step
+    rw (at, before, is.number i (omega arith)) step
 
 -- one stage more without its pairs
 pub one_shared : (stages : List LabelledStage) (hinted after : List HintedStage) (i : ℕ) (x y : LabelledStage)
-    (s : ℕ × List (List ℤ)) → i < length stages
-    → hinted ≡ map without_pairs (take i stages) → x ≡ y → y ≡ get_or stages i y → s ≡ x.stage
-    → after ≡ hinted ++ record { stage = s; is_whole = x.is_whole } ∷ []
-    → after ≡ map without_pairs (take (i + 1) stages)
+    (s : ℕ × List (List ℤ)) → i < length stages → hinted ≡ map without_pairs (take i stages) → x ≡ y → y
+    ≡ get_or stages i y → s ≡ x.stage → after ≡ hinted ++ record { stage = s; is_whole = x.is_whole } ∷ [] → after
+    ≡ map without_pairs (take (i + 1) stages)
 one_shared stages hinted after i x y s lt before same e shared added =
     let here = same ∙ e ∙ get_or_default stages i y no_stage lt in
     rw (map_more without_pairs stages i no_stage lt, ← here, ← before, ← shared) added
@@ -36,9 +35,8 @@ pub read_hinted : (hinted : List HintedStage) (i : ℕ) (x y : HintedStage) → 
 read_hinted hinted i x y same e lt = same ∙ e ∙ get_or_default hinted i y (without_pairs no_stage) lt
 
 -- two of them, where the later one is whole
-pub next_hinted : (p : Problem) (hinted : List HintedStage) → AreHints p hinted → (i : ℕ) (x y : HintedStage)
-    → i + 1 < length hinted
-    → x ≡ hinted_at hinted i → y ≡ hinted_at hinted (i + 1) → IsTrue y.is_whole
+pub next_hinted : (p : Problem) (hinted : List HintedStage) → AreHints p hinted → (i : ℕ) (x y : HintedStage) → i + 1
+    < length hinted → x ≡ hinted_at hinted i → y ≡ hinted_at hinted (i + 1) → IsTrue y.is_whole
     → IsNextOf p x.stage.0 x.stage.1 y.stage.1
 next_hinted p hinted are i x y lt e f whole = rw (e, f) (are i lt (rw f at whole))
 
@@ -48,13 +46,12 @@ pub one_ahead : (p : Problem) (hinted after : List HintedStage) (last : ℕ) (s 
     → IsNextOf p (hinted_at hinted last).stage.0 (hinted_at hinted last).stage.1 s.stage.1 → AreHints p after
 one_ahead p hinted after last s are long e next = rw e (λ i lt said.
     let here : i < length hinted = omega (arith, lt, length-append hinted (s ∷ [])) in
-    rw (get_or_append_left hinted (s ∷ []) (without_pairs no_stage) i here)
-    (elim (cases_eq (i + 1) (length hinted)) [
+    rw (get_or_append_left hinted (s ∷ []) (without_pairs no_stage) i here) (elim (cases_eq (i + 1) (length hinted)) [
       | inl same ↦
-          let at : i ≡ last = omega (arith, same, long) in
+          let at : i ≡ last = omega arith in
           rw (get_or_push hinted s (without_pairs no_stage) (i + 1) (sym same), at) next
       | inr old ↦
-          let below : i + 1 < length hinted = omega (arith, old, here) in
+          let below : i + 1 < length hinted = omega arith in
           let there = get_or_append_left hinted (s ∷ []) (without_pairs no_stage) (i + 1) below in
           rw there (are i below (rw there at said))
     ]))

@@ -45,8 +45,7 @@ module _ (p : Problem) (net : IsWindowNetwork p) (before : ℕ × List (List ℤ
 
   pub pair_given : (lists : List (List Pair)) → HoldsCosts p before lists → (j : ℕ) × (index : ℕ)
       × GivesPair p before lists node q j index
-  pair_given lists held = listed_given p net before lists held node q
-      (subst (λ (n : ℕ). Undominated (Attains p n node) q) next_is u)
+  pair_given lists held = listed_given p net before lists held node q (rw next_is at u)
 
   pub node_given : (lists : List (List Pair)) → HoldsCosts p before lists → (xs : List ℤ) × Contains before.1 xs
       × IsSuccessor p before.0 xs node
@@ -62,27 +61,27 @@ module _ (p : Problem) (net : IsWindowNetwork p) (before : ℕ × List (List ℤ
         → GivesPair p before self.lists node q place 0
     column_gives place gives =
         let makespan = column_makespan p before self column is holds in
-        let free : q ≡ (q.0, 0) = ap (λ (c : ℕ). (q.0, c)) (attains_free p makespan (before.0 + 1) node q u.attained) in
+        let free : q ≡ (q.0, 0) = ap (λ c. (q.0, c)) (attains_free p makespan (before.0 + 1) node q u.attained) in
         let one : GivesPair p before (column_pairs column) node (q.0, 0) place 0 =
         gives_pair p makespan before column node q.0 place (column_held p before self column is holds) gives in
-        subst (λ (ls : StagePairs). GivesPair p before ls.lists node q place 0) is
-        (subst (λ (o : Pair). GivesPair p before (column_pairs column) node o place 0) (sym free) one)
+        subst (λ ls. GivesPair p before ls.lists node q place 0) is
+        (subst (λ o. GivesPair p before (column_pairs column) node o place 0) (sym free) one)
 
 -- ---- what is left of the candidates
 
 kept_short : {A : Type 0} (bs : List Bool) (xs : List A) → length (kept_where bs xs) ≤ length xs
 kept_short [] xs = omega arith
 kept_short (b ∷ bs) [] = omega arith
-kept_short (true ∷ bs) (x ∷ xs) = let h = kept_short bs xs in omega (arith, h)
-kept_short (false ∷ bs) (x ∷ xs) = let h = kept_short bs xs in omega (arith, h)
+kept_short (true ∷ bs) (x ∷ xs) = let h = kept_short bs xs in omega arith
+kept_short (false ∷ bs) (x ∷ xs) = let h = kept_short bs xs in omega arith
 
 -- where as many are kept as there are, each is kept
 kept_all : {A : Type 0} (bs : List Bool) (xs : List A) → length (kept_where bs xs) ≡ length xs → kept_where bs xs ≡ xs
 kept_all [] [] k = refl
-kept_all [] (x ∷ xs) k = absurd (omega (arith, k))
+kept_all [] (x ∷ xs) k = absurd (omega arith)
 kept_all (b ∷ bs) [] k = refl
-kept_all (true ∷ bs) (x ∷ xs) k = ap (λ (l : List _). x ∷ l) (kept_all bs xs (omega (arith, k)))
-kept_all (false ∷ bs) (x ∷ xs) k = let h = kept_short bs xs in absurd (omega (arith, k, h))
+kept_all (true ∷ bs) (x ∷ xs) k = ap (λ l. x ∷ l) (kept_all bs xs (omega arith))
+kept_all (false ∷ bs) (x ∷ xs) k = let h = kept_short bs xs in absurd (omega arith)
 
 module _ (p : Problem) (before after : ℕ × List (List ℤ)) (number : after.0 ≡ before.0)
     (each : HasEachLandable p before) where

@@ -5,7 +5,7 @@ use Rattle.std.specs.Prelude.{nat_lt, slice_index}
 use Rattle.std.proofs.lemmas.Bool.{cases_eq}
 use Rattle.std.proofs.Math.Seq.{take-append_seam}
 use Rattle.std.proofs.lemmas.List.{get_or-map, get_or-set_other, get_or-set_same, length-map, length-set}
-use Rattle.cps_theory.specs.Labels.{InPairs, Pair}
+use Rattle.cps_theory.specs.Labels.{Pair}
 use Rattle.cps_theory.specs.UndominatedPairs.{Staircase}
 use Rattle.cps_network.specs.Pairs.{list_at, pair_at}
 use Rattle.cps_network.specs.shared.PairSteps.{at_in}
@@ -13,16 +13,9 @@ use Rattle.makespan_labels.specs.Labels.{no_label}
 use Rattle.makespan_labels.specs.LabelPairs.{label_pairs, column_pairs, pair_if}
 use Rattle.makespan_labels.specs.shared.LabelPairs.{list_of_label}
 use Rattle.replan.specs.Labels.{last_pair}
-use Rattle.replan.specs.shared.LastPairs.{last_cheapest}
+use Rattle.replan.specs.shared.LastPairs.{first_least, last_cheapest}
 use Rattle.replan.specs.WindowNodes.{extremes, lesser, told_at, AreLeastOf, AreLeastUpto, HaveLeast}
 use Rattle.replan.specs.WindowNodes.{IsPairAt, WindowNodes}
-
--- ---- of one list
-
-pub first_least : (xs : List Pair) → Staircase xs → (q : Pair) → InPairs q xs → (pair_at xs 0).0 ≤ q.0
-first_least [] s q i = absurd i
-first_least (x ∷ xs) s q (inl e) = (let f : q.0 ≡ x.0 = ap (λ (z : Pair). z.0) e in omega (arith, f))
-first_least (x ∷ xs) s q (inr i) = (let a = (s.0 q i).0 in omega (arith, a))
 
 -- ---- one window more
 
@@ -70,7 +63,7 @@ module _ (lists : List (List Pair)) (places firsts : List ℕ) (count : ℕ) (le
   after = set least place new
 
   now : pair_at after place ≡ new
-  now = get_or-set_same least place new (0, 0) (let e = a.one_each in omega (arith, within, e))
+  now = get_or-set_same least place new (0, 0) (let e = a.one_each in omega arith)
 
   module _ (part : Pair → ℕ) (is : part new ≡ min (part (pair_at least place)) (part here)) where
     there : part (pair_at after place) ≡ min (part (pair_at least place)) (part here)
@@ -84,7 +77,7 @@ module _ (lists : List (List Pair)) (places firsts : List ℕ) (count : ℕ) (le
 
     low_after : IsLow lists places firsts part count least → IsLow lists places firsts part (count + 1) after
     low_after low = one_low lists places firsts part count after (λ i less. let b = low i less in let c =
-        falls (told_at places i) in omega (arith, b, c)) (omega (arith, there))
+        falls (told_at places i) in omega arith) (omega (arith, there))
 
     reached_after : IsReached lists places firsts part least → IsReached lists places firsts part after
     reached_after reached j inside =
@@ -92,9 +85,9 @@ module _ (lists : List (List Pair)) (places firsts : List ℕ) (count : ℕ) (le
         elim (cases_eq j place) [
           | inl e ↦
               let at : part (pair_at after j) ≡ min (part (pair_at least place)) (part here) =
-              ap (λ (m : ℕ). part (pair_at after m)) e ∙ there in
+              ap (λ m. part (pair_at after m)) e ∙ there in
               elim (min_is (part (pair_at least place)) (part here)) [
-                | inl old ↦ (s.0, s.1, s.2, at ∙ old.0 ∙ ap (λ (m : ℕ). part (pair_at least m)) (sym e) ∙ s.3)
+                | inl old ↦ (s.0, s.1, s.2, at ∙ old.0 ∙ ap (λ m. part (pair_at least m)) (sym e) ∙ s.3)
                 | inr fresh ↦ (count, lt, sym e, at ∙ fresh.0)
               ]
           | inr ne ↦ (s.0, s.1, s.2, ap part (get_or-set_other least place j new (0, 0) ne) ∙ s.3)
@@ -123,8 +116,7 @@ module _ (lists : List (List Pair)) (places firsts : List ℕ) (count : ℕ) (le
 -- ---- where all are written through a slice
 
 pub as_written : (part items : List Pair) (n : ℕ) → n ≡ length part → take n (part ++ drop (length part) items) ≡ part
-as_written part items n e = ap (λ (m : ℕ). take m (part ++ drop (length part) items)) e
-    ∙ take-append_seam part (drop (length part) items)
+as_written part items n e = ap (λ m. take m (part ++ drop (length part) items)) e ∙ take-append_seam part _
 
 -- ---- of a column, where nothing costs anything
 
@@ -135,20 +127,18 @@ cost_of_label false label = refl
 second_of_label : (known : Bool) (label : ℕ) → 0 < length (pair_if known label)
     → (extremes (pair_if known label)).0 ≡ label
 second_of_label true label some = refl
-second_of_label false label some = absurd (omega (arith, some))
+second_of_label false label some = absurd (omega arith)
 
 module _ (column : List ℕ) (i : ℕ) (lt : i < length column) where
   pub column_cost : (extremes (list_at (column_pairs column) i)).1 ≡ 0
-  column_cost = ap (λ (qs : List Pair). (extremes qs).1) (list_of_label column i lt)
+  column_cost = ap (λ qs. (extremes qs).1) (list_of_label column i lt)
       ∙ cost_of_label (nat_lt (slice_index column i) no_label) (slice_index column i)
 
   pub column_second : 0 < length (list_at (column_pairs column) i)
       → (extremes (list_at (column_pairs column) i)).0 ≡ slice_index column i
   column_second some =
       let is = list_of_label column i lt in
-      ap (λ (qs : List Pair). (extremes qs).0) is
-      ∙ second_of_label (nat_lt (slice_index column i) no_label) (slice_index column i)
-      (subst (λ (qs : List Pair). 0 < length qs) is some)
+      ap (λ qs. (extremes qs).0) is ∙ second_of_label (nat_lt _ no_label) _ (rw is at some)
 
 module _ (column : List ℕ) (nodes : WindowNodes) (h : HaveLeast (column_pairs column) nodes)
     (count : ℕ) (least : List Pair)
@@ -157,7 +147,7 @@ module _ (column : List ℕ) (nodes : WindowNodes) (h : HaveLeast (column_pairs 
   lists = column_pairs column
 
   inside : (i : ℕ) → i < length nodes.places → i < length column
-  inside i lt = let l = h.long in let m = length-map column label_pairs in omega (arith, lt, l, m)
+  inside i lt = let l = h.long in let m = length-map column label_pairs in omega arith
 
   -- so far each costs nothing
   pub free_so_far : (j : ℕ) → j < length nodes.firsts → (pair_at least j).1 ≡ 0
@@ -168,7 +158,7 @@ module _ (column : List ℕ) (nodes : WindowNodes) (h : HaveLeast (column_pairs 
     label = slice_index column count
 
     second : (extremes (list_at (column_pairs column) count)).0 ≡ label
-    second = column_second column count (inside count lt) (h.some count (let l = h.long in omega (arith, lt, l)))
+    second = column_second column count (inside count lt) (h.some count (let l = h.long in omega arith))
 
     cost : (extremes (list_at (column_pairs column) count)).1 ≡ 0
     cost = column_cost column count (inside count lt)
@@ -181,21 +171,20 @@ module _ (column : List ℕ) (nodes : WindowNodes) (h : HaveLeast (column_pairs 
         → AreLeastUpto (column_pairs column) nodes.places nodes.firsts (count + 1)
         (set least (told_at nodes.places count) (label, 0))
     less_label less =
-        let free = free_so_far (told_at nodes.places count) within in
+        let free = free_so_far _ within in
         let one = one_least (column_pairs column) nodes.places nodes.firsts count least a lt within in
         let new : lesser (pair_at least (told_at nodes.places count))
         (extremes (list_at (column_pairs column) count)) ≡ (label, 0) =
-        ap₂ (λ (x y : ℕ). (x, y)) (min_right _ _ second less) (min_none _ _ free) in
-        subst (λ (q : Pair). AreLeastUpto (column_pairs column) nodes.places nodes.firsts (count + 1)
-        (set least (told_at nodes.places count) q)) new one
+        ap₂ (λ x y. (x, y)) (min_right _ _ second less) (min_none _ _ free) in
+        rw new at one
 
     -- and any other changes nothing
     pub other_label : (pair_at least (told_at nodes.places count)).0 ≤ label
         → AreLeastUpto (column_pairs column) nodes.places nodes.firsts (count + 1) least
     other_label le =
-        let free = free_so_far (told_at nodes.places count) within in
+        let free = free_so_far _ within in
         none_lower (column_pairs column) nodes.places nodes.firsts count least a lt within
-        (omega (arith, le, second)) (omega (arith, free))
+        (omega (arith, le, second)) (omega arith)
 
 -- ---- seconds of the two days
 
@@ -242,7 +231,7 @@ module _ (lists : List (List Pair)) (nodes : WindowNodes) (h : HaveLeast lists n
       )
 
   falling_at : (i : ℕ) → i < length nodes.places → Staircase (list_at lists i)
-  falling_at i lt = h.falling i (let l = h.long in omega (arith, lt, l))
+  falling_at i lt = h.falling i (let l = h.long in omega arith)
 
   -- the pair of a window at an index
   pair_there : (i j index : ℕ) → i < length nodes.places → told_at nodes.places i ≡ j

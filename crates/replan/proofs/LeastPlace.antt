@@ -1,7 +1,7 @@
 -- What `min_by_key` over the numbers below n picks: std says it of a run of calls.
-use Rattle.std.proofs.Common.{◌≡◌, ℕ, ◌<◌, ◌≤◌, Option, Some, None, false, true, sym, ap, subst, ◌∙◌, length, get_or}
+use Rattle.std.proofs.Common.{◌≡◌, ℕ, ◌<◌, ◌≤◌, Option, Some, None, true, sym, ap, ◌∙◌, length, get_or}
 use Rattle.std.proofs.Common.{arith, tests}
-use Rattle.std.specs.Prelude.{MatchOption, IsSomeAnd, IfSome}
+use Rattle.std.specs.Prelude.{MatchOption}
 use Rattle.std.specs.declared.ops.Range.{Range}
 use Rattle.std.specs.Fn.{CalledAt}
 use Rattle.std.specs.Iterator.Runs.{WholeRun, AnyItem, NoKeyBeyond, YieldsRun, Run}
@@ -16,9 +16,8 @@ use Rattle.std.proofs.lemmas.Iterator.Consumers.{YieldsList-at}
 use denote.Ref.{Bor}
 use denote.Param.Members.{Mut, Called}
 
-counts_up : (p : Run nat_range_steps) (s : Range ℕ) (n : ℕ) → p.from ≡ s → p.whole ≡ true
-    → s ≡ record { start = 0; end = n }
-    → (p.len ≡ n) × ((k : ℕ) → k < n → p.at k ≡ Some k)
+counts_up : (p : Run nat_range_steps) (s : Range ℕ) (n : ℕ) → p.from ≡ s → p.whole ≡ true → s
+    ≡ record { start = 0; end = n } → (p.len ≡ n) × ((k : ℕ) → k < n → p.at k ≡ Some k)
 unfolding YieldsRun
 counts_up p s n from whole is =
     let gave = p.gave in
@@ -30,7 +29,7 @@ counts_up p s n from whole is =
       λ k below.
           let here : get_or p.items k 0 ≡ k = ap (λ xs. get_or xs k 0) all ∙ get_or-range_with_len 0 n k 0 below
           ∙ omega arith in
-          gave.1 k ∙ slice_get-get_or p.items k 0 (omega (arith, below, long)) ∙ ap Some here,
+          gave.1 k ∙ slice_get-get_or p.items k 0 (omega arith) ∙ ap Some here,
     )
 
 -- where each call gives the value of the number that it is shown, the number picked is below n, and none below n is
@@ -48,15 +47,13 @@ module _ {F : Type 0} {g : Mut F (Bor ℕ × Unit {0}) ℕ} (f : F) (value : ℕ
   least_from_min_by_key n s (Some m) is (p, from, whole, told) =
       let up = counts_up p s n from whole is in
       let (k, below, at) = told.0 in
-      let here : k ≡ m = subst (λ o. IsSomeAnd o (λ x. x ≡ m)) (up.1 k (omega (arith, below, up.0))) at in
+      let here : k ≡ m = rw (up.1 k (omega arith)) at at in
       let keys = told.1 (λ a b q called. (calls a.0 b q called).0) in
       let key = called_at m keys.0 f keys.1 in (
-        omega (arith, below, up.0, here),
+        omega arith,
         λ i lt.
-            let (other, called, none) = subst
-            (λ o. IfSome o (λ x. (j : ℕ) × CalledAt g f x j f × (is_lt (nat_cmp j keys.0) ≡ false)))
-            (up.1 i lt) (keys.2 i) in
+            let (other, called, none) = rw (up.1 i lt) at (keys.2 i) in
             let value_i = called_at i other f called in
             let no_less : keys.0 ≤ other = grind (arith, tests) in
-            omega (arith, no_less, key, value_i),
+            omega arith,
       )

@@ -1,14 +1,14 @@
 -- What is read of a problem that is held.
+use Rattle.replan.specs.shared.LastPairs.{list_some}
 use Rattle.std.proofs.Common.{◌≡◌, ℕ, ◌-◌, ◌<◌, ◌≤◌, List, length, get_or, Option, Some, sym, subst, ◌∙◌}
 use Rattle.std.proofs.Common.{arith}
-use Rattle.std.specs.Prelude.{ℤ}
 use Rattle.landing_rules.specs.Problem.{Problem}
 use Rattle.replan.specs.Held.{HeldProblem, IsHeld}
 use Rattle.replan.specs.Labels.{HoldsPairs}
 use Rattle.replan.specs.Readers.{IsReadable, lists_in, stage_in}
 use Rattle.replan.specs.Stages.{LabelledStage}
 use Rattle.replan.specs.WindowNodes.{AreNodesOf, ArePutTogether, HaveLeast, WindowNodes}
-use Rattle.replan.proofs.StageLemmas.{held_at, list_some, read_held, read_stage}
+use Rattle.replan.proofs.StageLemmas.{held_at, read_held, read_stage}
 
 -- a stage as it is read
 pub record IsReadAt (p : Problem) (held : Option HeldProblem) (i : ℕ) (x : LabelledStage) : Type 0 where
@@ -18,26 +18,24 @@ pub record IsReadAt (p : Problem) (held : Option HeldProblem) (i : ℕ) (x : Lab
   pub pairs : HoldsPairs p x.stage x.labels
   pub to_last : i ≤ length p.flights
 
-pub read_at : (w : ℕ) (p : Problem) (held : Option HeldProblem) (h : HeldProblem) (stages : List LabelledStage)
-    (i : ℕ) (x y : LabelledStage) → held ≡ Some h
-    → h.stages ≡ stages → x ≡ y → y ≡ get_or stages i y → IsReadable held i
+pub read_at : (w : ℕ) (p : Problem) (held : Option HeldProblem) (h : HeldProblem) (stages : List LabelledStage) (i : ℕ)
+    (x y : LabelledStage) → held ≡ Some h → h.stages ≡ stages → x ≡ y → y ≡ get_or stages i y → IsReadable held i
     → IsHeld w (record { problem = p; stages = stages }) → IsReadAt p held i x
 read_at w p held h stages i x y e f same at readable is =
     let both = read_held held h stages i x y e f same at readable in
     let some : 1 ≤ i = readable.0 in
     let low : i ≤ length stages - 1 = rw (e, f) at readable.1 in
-    let lt : i < length stages = omega (arith, some, low) in
+    let lt : i < length stages = omega arith in
     let here = held_at p stages is.held i x (read_stage stages i x y same at lt) lt in
     let whole = is.whole in
-    record { stage = both.0; lists = both.1; number = here.1; pairs = here.0; to_last = omega (arith, lt, whole) }
+    record { stage = both.0; lists = both.1; number = here.1; pairs = here.0; to_last = omega arith }
 
 module _ (p : Problem) (held : Option HeldProblem) (i : ℕ) (x : LabelledStage) (r : IsReadAt p held i x) where
   pub read_nodes : (n : WindowNodes) → AreNodesOf held i n
       → ArePutTogether x.stage.0 x.stage.1 (length x.stage.1) n.places n.firsts
-  read_nodes n are = subst (λ (s : ℕ × List (List ℤ)). ArePutTogether x.stage.0 s.1 (length s.1) n.places n.firsts)
+  read_nodes n are = subst (λ s. ArePutTogether x.stage.0 s.1 (length s.1) n.places n.firsts)
       (sym r.stage)
-      (subst (λ (s : ℕ). ArePutTogether s (stage_in held i).1 (length (stage_in held i).1) n.places n.firsts)
-      (sym r.number) are.together)
+      (rw r.number are.together)
 
   pub have_least : (n : WindowNodes) → AreNodesOf held i n → HaveLeast x.labels.lists n
   have_least n are =
@@ -47,9 +45,9 @@ module _ (p : Problem) (held : Option HeldProblem) (i : ℕ) (x : LabelledStage)
       let long = g.long in
       record {
         long = long ∙ sym each;
-        within = λ j lt. g.within j (omega (arith, lt, long));
-        first = λ j lt. (let a = g.first j lt in omega (arith, a, long));
+        within = λ j lt. g.within j (omega arith);
+        first = λ j lt. (let a = g.first j lt in omega arith);
         own = g.own;
-        some = λ j lt. list_some p x.stage x.labels.lists r.pairs.held j (omega (arith, lt, each));
-        falling = λ j lt. (costs.pairs j (omega (arith, lt, each))).falling;
+        some = λ j lt. list_some p x.stage x.labels.lists r.pairs.held j (omega arith);
+        falling = λ j lt. (costs.pairs j (omega arith)).falling;
       }

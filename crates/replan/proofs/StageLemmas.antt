@@ -1,17 +1,18 @@
 -- Stage 0 with its pair, one stage more, and what is kept of the stages of a problem for another.
+use Rattle.replan.specs.shared.LastPairs.{list_some}
+use Rattle.replan.specs.shared.Pushed.{each_pushed}
 use Rattle.std.proofs.Common.{◌≡◌, ℕ, zero, suc, ◌+◌, ◌*◌, ◌<◌, ◌≤◌, List, [], ◌∷◌, ◌++◌, length, get_or, replicate}
 use Rattle.std.proofs.Common.{length-append, refl, sym, ap, subst, ◌∙◌, arith, inl, inr, zero-le, Option, Some, None}
 use Rattle.std.proofs.Common.{◌-◌, take}
 use Rattle.std.specs.Prelude.{ℤ, pos, Bool, Contains, IsTrue}
-use Rattle.std.proofs.lemmas.Bool.{cases_eq, cases_lt, le-leb, lt-leb}
-use Rattle.std.proofs.lemmas.List.{get_or_append_left, get_or_push, get_or_default, get_or-take, length-take-le}
+use Rattle.std.proofs.lemmas.Bool.{cases_lt, le-leb, lt-leb}
+use Rattle.std.proofs.lemmas.List.{get_or_append_left, get_or_default, get_or-take, length-take-le}
 use Rattle.std.proofs.lemmas.List.Elements.{Contains-get_or}
 use Rattle.cps_base.specs.Tally.{raised_by, FitsCount}
 use Rattle.cps_theory.specs.Separation.{Landing}
-use Rattle.cps_theory.specs.LandingTrail.{pair_of, ranks}
+use Rattle.cps_theory.specs.LandingTrail.{ranks}
 use Rattle.cps_theory.specs.Labels.{InPairs, Pair}
 use Rattle.cps_theory.specs.Network.{Undominated}
-use Rattle.landing_joint.specs.RankedProblem.{cost_at}
 use Rattle.landing_rules.specs.declared.objective.Objective.{Objective}
 use Rattle.landing_rules.specs.Problem.{Problem, AreBetweenRanks}
 use Rattle.cps_network.specs.Due.{HasCandidates, HasCandidatesFrom, HasCandidatesIf, IsDueFrom}
@@ -38,9 +39,7 @@ no_landing [] e = refl
 no_landing (x ∷ xs) e = absurd (omega arith)
 
 pub start_only : (p : Problem) (v : List ℤ) → IsLandable p 0 v → node_of p.k [] ≡ (0, v)
-start_only p v l =
-    let none : l.1.landings ≡ [] = no_landing l.1.landings (ap (λ (n : Node). n.0) l.1.at) in
-    subst (λ (xs : List Landing). node_of p.k (ranks xs) ≡ (0, v)) none l.1.at
+start_only p v l = rw (no_landing l.1.landings (ap (λ n. n.0) l.1.at)) at l.1.at
 
 start_attains : (p : Problem) → Attains p 0 (replicate (2 * p.k + 1) (pos 0)) (0, 0)
 start_attains p = record {
@@ -48,15 +47,12 @@ start_attains p = record {
   legal = tt;
   landed = tt;
   at = ap (λ (w : List ℤ). (0, w)) (source_is p);
-  is =
-      refl;
+  is = refl;
 }
 
 -- nothing but (0, 0) is attained there
 pub start_pair : (p : Problem) (v : List ℤ) (q : Pair) → Attains p 0 v q → (0, 0) ≡ q
-start_pair p v q a =
-    let none : a.landings ≡ [] = no_landing a.landings (ap (λ (n : Node). n.0) a.at) in
-    subst (λ (xs : List Landing). pair_of (cost_at p) xs ≡ q) none a.is
+start_pair p v q a = rw (no_landing a.landings (ap (λ n. n.0) a.at)) at a.is
 
 pub start_costs : (p : Problem) → HoldsCosts p (0, replicate (2 * p.k + 1) (pos 0) ∷ []) (((0, 0) ∷ []) ∷ [])
 start_costs p = record {
@@ -92,42 +88,21 @@ begins p w stage labels o odd e f g = rw (f, e, odd) (record { objective = sym g
 -- ---- one stage more
 
 -- where it is said to be whole, its windows are all that extend the last of the others
-pub one_more : (p : Problem) (stages after : List LabelledStage) (next : LabelledStage) → AreStages p stages
-    → after ≡ stages ++ next ∷ []
-    → next.stage.0 ≡ length stages → IsAscending next.stage.1 → HoldsPairs p next.stage next.labels
-    → ((last : ℕ) → last + 1 ≡ length stages → IsTrue next.is_whole
+pub one_more : (p : Problem) (stages after : List LabelledStage) (next : LabelledStage) → AreStages p stages → after
+    ≡ stages ++ next ∷ [] → next.stage.0 ≡ length stages → IsAscending next.stage.1
+    → HoldsPairs p next.stage next.labels → ((last : ℕ) → last + 1 ≡ length stages → IsTrue next.is_whole
     → IsNextOf p last (stage_at stages last).stage.1 next.stage.1) → AreStages p after
 one_more p stages after next is e number ascending held whole = rw e (record {
-  number = λ i lt. elim (cases_eq i (length stages)) [
-    | inl same ↦ rw (get_or_push stages next no_stage i (sym same)) (number ∙ sym same)
-    | inr old ↦ let below = low i lt old in rw (get_or_append_left stages (next ∷ []) no_stage i below)
-        (is.number i below)
-  ];
-  ascending = λ i lt. elim (cases_eq i (length stages)) [
-    | inl same ↦ rw (get_or_push stages next no_stage i (sym same)) ascending
-    | inr old ↦ let below = low i lt old in rw (get_or_append_left stages (next ∷ []) no_stage i below)
-        (is.ascending i below)
-  ];
-  held = λ i lt. elim (cases_eq i (length stages)) [
-    | inl same ↦ rw (get_or_push stages next no_stage i (sym same)) held
-    | inr old ↦ let below = low i lt old in rw (get_or_append_left stages (next ∷ []) no_stage i below)
-        (is.held i below)
-  ];
+  number = each_pushed (λ i s. s.stage.0 ≡ i) stages next no_stage is.number number;
+  ascending = each_pushed (λ i s. IsAscending s.stage.1) stages next no_stage is.ascending ascending;
+  held = each_pushed (λ i s. HoldsPairs p s.stage s.labels) stages next no_stage is.held held;
   whole = λ i some lt said.
-      let back : i - 1 < length stages = omega (arith, some, lt, length-append stages (next ∷ [])) in
-      rw (get_or_append_left stages (next ∷ []) no_stage (i - 1) back) (elim (cases_eq i (length stages)) [
-        | inl same ↦
-            let here = get_or_push stages next no_stage i (sym same) in
-            rw here (whole (i - 1) (omega (arith, some, same)) (rw here at said))
-        | inr old ↦
-            let below = low i lt old in
-            let here = get_or_append_left stages (next ∷ []) no_stage i below in
-            rw here (is.whole i some below (rw here at said))
-      ]);
+      let within : i - 1 < length stages = omega (arith, some, lt, length-append stages (next ∷ [])) in
+      rw (get_or_append_left stages (next ∷ []) no_stage (i - 1) within) (each_pushed
+      (λ j s. 0 < j → IsTrue s.is_whole → IsNextOf p (j - 1) (stage_at stages (j - 1)).stage.1 s.stage.1)
+      stages next no_stage (λ j below some said. is.whole j some below said)
+      (λ some said. whole (length stages - 1) (omega (arith, some)) said) i lt some said);
 })
-  where
-    low : (i : ℕ) → i < length (stages ++ next ∷ []) → (i ≡ length stages → ⊥) → i < length stages
-    low i lt old = omega (arith, old, lt, length-append stages (next ∷ []))
 
 pub has_candidates : (p : Problem) (before after : ℕ × List (List ℤ)) (m : ℕ) → before.0 ≡ m
     → HoldsLandable p before → HoldsCandidates p before after → IsAscending after.1 → HasCandidates p m (length after.1)
@@ -139,7 +114,7 @@ has_candidates p before after m e h each up =
 -- no step more leaves a count as it is
 pub raised_by_none : (count : Option ℕ) → FitsCount count → count ≡ raised_by 0 count
 raised_by_none None fits = refl
-raised_by_none (Some n) fits = (let lt = fits n refl in ap Some (omega (arith, lt)))
+raised_by_none (Some n) fits = (let lt = fits n refl in ap Some (omega arith))
 
 pub raised_more : (o : Option ℕ) (a b : ℕ) → raised_by b (raised_by a o) ≡ raised_by (a + b) o
 raised_more None a b = refl
@@ -153,7 +128,7 @@ due_none first p n o below fits = (0, none_from first p n below, raised_by_none 
 -- one stage alone
 pub due_of_one : (p : Problem) (i count : ℕ) → 0 < i → HasCandidates p (i - 1) count → HasCandidatesFrom i p i count
 due_of_one p i count some has =
-    subst (λ (n : ℕ). HasCandidatesFrom i p n count) {x = suc (i - 1)} {y = i} (omega arith)
+    subst (λ n. HasCandidatesFrom i p n count) {x = suc (i - 1)} {y = i} (omega arith)
     (subst (HasCandidatesFrom i p (suc (i - 1))) {x = 0 + count} {y = count} (omega arith)
     (more_from i p (i - 1) 0 count (omega arith) (none_from i p (i - 1) (omega arith)) has))
 
@@ -161,9 +136,9 @@ due_of_one p i count some has =
 none_upto : (first : ℕ) (p : Problem) (n total : ℕ) → n < first → HasCandidatesFrom first p n total → total ≡ 0
 none_upto first p zero total below is = is
 none_upto first p (suc n) total below (count, before, here, rest, e) =
-    let none : count ≡ 0 = subst (λ (b : Bool). HasCandidatesIf b p n count) (lt-leb first (suc n) below) here in
+    let none : count ≡ 0 = rw (lt-leb first (suc n) below) at here in
     let low = none_upto first p n before (omega arith) rest in
-    omega (arith, e, none, low)
+    omega arith
 
 -- the stages from a number on and before a second, and those from the second on
 module _ (first many : ℕ) (p : Problem) (some : 0 < many) (le : first ≤ many) where
@@ -171,8 +146,8 @@ module _ (first many : ℕ) (p : Problem) (some : 0 < many) (le : first ≤ many
       → HasCandidatesFrom first p n (a + b)
   past n a b below within early late =
       let none = none_upto many p n b below late in
-      subst (λ (m : ℕ). HasCandidatesFrom first p m (a + b)) {x = many - 1} {y = n} (omega (arith, below, within))
-      (subst (HasCandidatesFrom first p (many - 1)) {x = a} {y = a + b} (omega (arith, none)) early)
+      subst (λ m. HasCandidatesFrom first p m (a + b)) {x = many - 1} {y = n} (omega arith)
+      (subst (HasCandidatesFrom first p (many - 1)) {x = a} {y = a + b} (omega arith) early)
 
   joined : (n a b : ℕ) → many ≤ n + 1 → HasCandidatesFrom first p (many - 1) a → HasCandidatesFrom many p n b
       → HasCandidatesFrom first p n (a + b)
@@ -187,10 +162,9 @@ module _ (first many : ℕ) (p : Problem) (some : 0 < many) (le : first ≤ many
         rest) has)
   ]
 
-  pub due_joined : (n : ℕ) (o r s : Option ℕ) → many ≤ n + 1
-      → (due : ℕ) × HasCandidatesFrom first p (many - 1) due × (r ≡ raised_by due o)
-      → (due : ℕ) × HasCandidatesFrom many p n due × (s ≡ raised_by due r)
-      → (due : ℕ) × HasCandidatesFrom first p n due × (s ≡ raised_by due o)
+  pub due_joined : (n : ℕ) (o r s : Option ℕ) → many ≤ n + 1 → (due : ℕ) × HasCandidatesFrom first p (many - 1) due
+      × (r ≡ raised_by due o) → (due : ℕ) × HasCandidatesFrom many p n due × (s ≡ raised_by due r) → (due : ℕ)
+      × HasCandidatesFrom first p n due × (s ≡ raised_by due o)
   due_joined n o r s within (a, early, e) (b, late, f) =
       (a + b, joined n a b within early late, f ∙ ap (raised_by b) e ∙ raised_more o a b)
 
@@ -200,31 +174,17 @@ pub read_stage : (stages : List LabelledStage) (i : ℕ) (x y : LabelledStage) �
     → i < length stages → x ≡ stage_at stages i
 read_stage stages i x y same e lt = same ∙ e ∙ get_or_default stages i y no_stage lt
 
-pub held_at : (p : Problem) (stages : List LabelledStage) → AreStages p stages → (i : ℕ) (x : LabelledStage)
-    → x ≡ stage_at stages i → i < length stages
-    → HoldsPairs p x.stage x.labels × (x.stage.0 ≡ i)
+pub held_at : (p : Problem) (stages : List LabelledStage) → AreStages p stages → (i : ℕ) (x : LabelledStage) → x
+    ≡ stage_at stages i → i < length stages → HoldsPairs p x.stage x.labels × (x.stage.0 ≡ i)
 held_at p stages is i x e lt = rw e (is.held i lt, is.number i lt)
 
-pub read_held : (held : Option HeldProblem) (h : HeldProblem) (stages : List LabelledStage)
-    (i : ℕ) (x y : LabelledStage) → held ≡ Some h
-    → h.stages ≡ stages → x ≡ y → y ≡ get_or stages i y → IsReadable held i → (x.stage ≡ stage_in held i)
-    × (x.labels.lists ≡ lists_in held i)
+pub read_held : (held : Option HeldProblem) (h : HeldProblem) (stages : List LabelledStage) (i : ℕ)
+    (x y : LabelledStage) → held ≡ Some h → h.stages ≡ stages → x ≡ y → y ≡ get_or stages i y → IsReadable held i
+    → (x.stage ≡ stage_in held i) × (x.labels.lists ≡ lists_in held i)
 read_held held h stages i x y e f same at (some, most) =
     let low : i ≤ length stages - 1 = rw (e, f) at most in
-    let is = read_stage stages i x y same at (omega (arith, some, low)) in
-    rw (e, f) (ap (λ (s : LabelledStage). s.stage) is, ap (λ (s : LabelledStage). s.labels.lists) is)
-
--- each kept list has a pair
-pub list_some : (p : Problem) (stage : ℕ × List (List ℤ)) (lists : List (List Pair)) → HoldsCosts p stage lists
-    → (i : ℕ) → i < length stage.1 → 0 < length (list_at lists i)
-list_some p stage lists h i lt =
-    let l = (h.landable (node_at stage.1 i)).0 (Contains-get_or stage.1 i [] lt) in
-    let o = (h.costs.pairs i lt).covers l.0 l.1 in
-    some (list_at lists i) o.0 o.1
-  where
-    some : (pairs : List Pair) (q : Pair) → InPairs q pairs → 0 < length pairs
-    some [] q i = absurd i
-    some (x ∷ pairs) q i = omega arith
+    let is = read_stage stages i x y same at (omega arith) in
+    rw (e, f) (ap (λ s. s.stage) is, ap (λ s. s.labels.lists) is)
 
 -- the last stage as it is read: its labels have a pair each
 pub record LastRead (p : Problem) (stages : List LabelledStage) (last : LabelledStage) : Type 0 where
@@ -238,31 +198,29 @@ pub last_read : (p : Problem) (stages : List LabelledStage) → AreStages p stag
     → (n : ℕ) (last read : LabelledStage) → n ≡ length p.flights
     → last ≡ read → read ≡ get_or stages n read → LastRead p stages last
 last_read p stages holds whole n last read same f e =
-    let lt : n < length stages = omega (arith, whole, same) in
+    let lt : n < length stages = omega arith in
     let is = read_stage stages n last read f e lt in
     let h = held_at p stages holds n last is lt in
     let at : last ≡ stage_at stages (length p.flights) = is ∙ ap (stage_at stages) same in
     record {
-      is = ap (λ (s : LabelledStage). s.labels) at;
-      one_each = h.0.held.costs.one_each ∙ ap (λ (s : LabelledStage). length s.stage.1) at;
+      is = ap (λ s. s.labels) at;
+      one_each = h.0.held.costs.one_each ∙ ap (λ s. length s.stage.1) at;
       number = h.1 ∙ same;
       held = h.0;
-      some = λ i inside. list_some p last.stage last.labels.lists h.0.held i
-          (omega (arith, inside, h.0.held.costs.one_each));
+      some = λ i inside. list_some p last.stage _ h.0.held i (omega arith);
     }
 
 -- ---- the stage after the last
 
 -- the last two stages, where the last one is whole
 pub whole_at : (p : Problem) (stages : List LabelledStage) → AreStages p stages
-    → (i last : ℕ) (earlier before : LabelledStage) → last < length stages → i ≡ last - 1
-    → earlier ≡ stage_at stages i → before ≡ stage_at stages last
-    → IsTrue before.is_whole → earlier.stage.0 < before.stage.0
+    → (i last : ℕ) (earlier before : LabelledStage) → last < length stages → i ≡ last - 1 → earlier ≡ stage_at stages i
+    → before ≡ stage_at stages last → IsTrue before.is_whole → earlier.stage.0 < before.stage.0
     → IsNextOf p earlier.stage.0 earlier.stage.1 before.stage.1
 whole_at p stages is i last earlier before n back e f whole lt =
     let here = (held_at p stages is last before f n).1 in
-    let there = (held_at p stages is i earlier e (omega (arith, n, back))).1 in
-    rw (there, e, f, back) (is.whole last (omega (arith, lt, here)) n (rw f at whole))
+    let there = (held_at p stages is i earlier e (omega arith)).1 in
+    rw (there, e, f, back) (is.whole last (omega arith) n (rw f at whole))
 
 -- ---- stages in common
 
@@ -276,55 +234,47 @@ module _ (p q : Problem) (w : ℕ) (odd : w ≡ 2 * p.k + 1) (laws : WindowLaws 
     valid : (i : ℕ) → i < length stages → AreWindows w (stage_at stages i).stage.1
     valid i lt j inside =
         let at = stage_at stages i in
-        landable_valid p w odd laws at.stage.0 (node_at at.stage.1 j)
+        landable_valid p w odd laws at.stage.0 _
         (((holds.held i lt).held.landable (node_at at.stage.1 j)).0 (Contains-get_or at.stage.1 j [] inside))
 
     pub stages_in_common : AreStages q (take count stages)
     stages_in_common =
         let is = common.1 in
         let e = common.2 in
-        let agree = is.agree (omega (arith, e, more)) in
+        let agree = is.agree (omega arith) in
         let same = agree.head.k in
         record {
           number = λ i lt.
               let at : i < count = omega (arith, lt, long) in
-              rw (get_or-take count stages i no_stage at) (holds.number i (omega (arith, at, within)));
+              rw (get_or-take count stages i no_stage at) (holds.number i (omega arith));
           ascending = λ i lt.
               let at : i < count = omega (arith, lt, long) in
-              rw (get_or-take count stages i no_stage at) (holds.ascending i (omega (arith, at, within)));
+              rw (get_or-take count stages i no_stage at) (holds.ascending i (omega arith));
           held = λ i lt.
               let at : i < count = omega (arith, lt, long) in
-              let here : i < length stages = omega (arith, at, within) in
+              let here : i < length stages = omega arith in
               let was = holds.held i here in
-              let kept = early common.0 is.within agree (stage_at stages i).stage.0 (let n =
-              holds.number i here in omega (arith, n, e, at, same)) in
+              let kept = early common.0 is.within agree _ (let n =
+              holds.number i here in omega arith) in
               rw (get_or-take count stages i no_stage at)
-              (record {
-                objective = was.objective ∙ agree.head.objective;
-                held =
-                    kept_costs p q (stage_at stages i).stage _ kept was.held;
-              });
+              (record { objective = was.objective ∙ agree.head.objective; held = kept_costs p q _ _ kept was.held });
           whole = λ i some lt said.
               let at : i < count = omega (arith, lt, long) in
-              rw (get_or-take count stages i no_stage at, get_or-take count stages (i - 1) no_stage (omega (arith, at)))
-              (
-              kept_next p q common.0 is.within agree bp bq w odd (i - 1) (stage_at stages (i - 1)).stage.1
-              (stage_at stages i).stage.1 (omega (arith, e, at, some, same))
-              (valid (i - 1) (omega (arith, at, within)))
-              (holds.whole i some (omega (arith, at, within)) (rw (get_or-take count stages i no_stage at) at said)));
+              rw (get_or-take count stages i no_stage at, get_or-take count stages (i - 1) no_stage (omega arith)) (
+              kept_next p q common.0 is.within agree bp bq w odd (i - 1) _ _ (omega arith) (valid (i - 1) (omega arith))
+              (holds.whole i some (omega arith) (rw (get_or-take count stages i no_stage at) at said)));
         }
 
 -- they are no more than are held
 pub few_in_common : (p q : Problem) (count : ℕ) (stages : List LabelledStage) → AreInCommon p q count
     → length stages ≡ length p.flights + 1 → count ≤ length stages
-few_in_common p q count stages (d, is, e) whole = let a = is.within.0 in omega (arith, a, e, whole)
+few_in_common p q count stages (d, is, e) whole = let a = is.within.0 in omega arith
 
 -- nor more than the other problem has
 pub fits_in_common : (p q : Problem) (count : ℕ) → AreInCommon p q count → count ≤ length q.flights + 1
-fits_in_common p q count (d, is, e) = let a = is.within.1 in omega (arith, a, e)
+fits_in_common p q count (d, is, e) = let a = is.within.1 in omega arith
 
 -- what is due are the stages that follow
 pub due_after_common : (p q : Problem) (count first : ℕ) → AreInCommon p q count → count ≤ first
     → (1 < first → first ≤ count) → IsDueFrom (Some p) q first
-due_after_common p q count first (d, is, e) low high =
-    due_with_held p q d first is (omega arith) (λ more. let a = high more in omega arith)
+due_after_common p q count first (d, is, e) low high = due_with_held p q d first is (omega arith) (λ more. omega arith)

@@ -1,8 +1,8 @@
 -- One window more is put together.
+use Rattle.replan.specs.shared.Pushed.{each_pushed, each_upto}
 use Rattle.std.proofs.Common.{◌≡◌, ℕ, ◌+◌, ◌<◌, inl, inr, List, [], ◌∷◌, ◌++◌, length, length-append, refl, sym}
-use Rattle.std.proofs.Common.{ap, subst, ◌∙◌, arith}
+use Rattle.std.proofs.Common.{ap, ◌∙◌, arith}
 use Rattle.std.specs.Prelude.{ℤ}
-use Rattle.std.proofs.lemmas.Bool.{cases_eq, cases_lt}
 use Rattle.std.proofs.lemmas.List.{get_or_append_left, get_or_push}
 use Rattle.cps_network.specs.Lists.{node_at}
 use Rattle.cps_network.specs.Nodes.{latest}
@@ -22,25 +22,16 @@ module _ (stage : ℕ) (windows : List (List ℤ)) (count : ℕ) (places firsts 
     (placed : TellsPlaced (node_at windows count) stage node.placed)
     (last : node.last ≡ latest (stage, node_at windows count)) where
   old_place : (place i : ℕ) → i < count → told_at (places ++ place ∷ []) i ≡ told_at places i
-  old_place place i lt = get_or_append_left places (place ∷ []) 0 i (let l = g.0.long in omega (arith, lt, l))
+  old_place place i lt = get_or_append_left places (place ∷ []) 0 i (let l = g.0.long in omega arith)
 
   new_place : (place : ℕ) → told_at (places ++ place ∷ []) count ≡ place
   new_place place = get_or_push places place 0 count g.0.long
 
-  -- what is said of each window and its place
-  each : (P : ℕ → ℕ → Type 0) (place : ℕ) → ((i : ℕ) → i < count → P i (told_at places i))
-      → P count place → (i : ℕ) → i < count + 1 → P i (told_at (places ++ place ∷ []) i)
-  each P place old new i lt = elim (cases_eq i count) [
-    | inl e ↦ subst (λ (j : ℕ). P j (told_at (places ++ place ∷ []) j)) (sym e)
-        (subst (P count) (sym (new_place place)) new)
-    | inr ne ↦ (let l : i < count = omega (arith, lt, ne) in subst (P i) (sym (old_place place i l)) (old i l))
-  ]
-
   -- the node that was seen at a place is this window's
   seen_one : (j : ℕ) → j < length firsts → AreSame (seen_at nodes j) node
       → AreOneNode stage (node_at windows (told_at firsts j)) (node_at windows count)
-  seen_one j lt same = same_one stage (node_at windows (told_at firsts j)) (node_at windows count)
-      (seen_at nodes j).placed node.placed (g.1.placed j lt) placed same.0 (sym (g.1.last j lt) ∙ same.1 ∙ last)
+  seen_one j lt same = same_one stage _ _
+      _ node.placed (g.1.placed j lt) placed same.0 (sym (g.1.last j lt) ∙ same.1 ∙ last)
 
   one_seen : (j : ℕ) → j < length firsts → AreOneNode stage (node_at windows (told_at firsts j)) (node_at windows count)
       → AreSame (seen_at nodes j) node
@@ -53,13 +44,14 @@ module _ (stage : ℕ) (windows : List (List ℤ)) (count : ℕ) (places firsts 
   kept_more : (place : ℕ) → IsSeenAt nodes node place
       → AreGrouped stage windows (count + 1) (places ++ place ∷ []) firsts nodes
   kept_more place there =
-      let inside : place < length firsts = (let a = there.within in let b = g.1.one_each in omega (arith, a, b)) in (
+      let inside : place < length firsts = (let a = there.within in let b = g.1.one_each in omega arith) in (
         record {
-          long = length-append places (place ∷ []) ∙ ap (λ (n : ℕ). n + 1) g.0.long;
-          within = each (λ i m. m < length firsts) place g.0.within inside;
-          first = λ j lt. (let a = g.0.first j lt in omega (arith, a));
-          own = λ j lt. old_place place (told_at firsts j) (g.0.first j lt) ∙ g.0.own j lt;
-          one = each (λ i m. AreOneNode stage (node_at windows (told_at firsts m)) (node_at windows i)) place g.0.one
+          long = length-append places (place ∷ []) ∙ ap (λ n. n + 1) g.0.long;
+          within = each_upto (λ i m. m < length firsts) places place 0 count g.0.long g.0.within inside;
+          first = λ j lt. (let a = g.0.first j lt in omega arith);
+          own = λ j lt. old_place place _ (g.0.first j lt) ∙ g.0.own j lt;
+          one = each_upto (λ i m. AreOneNode stage (node_at windows (told_at firsts m)) (node_at windows i)) places
+              place 0 count g.0.long g.0.one
               (seen_one place inside there.here);
           apart = g.0.apart;
         },
@@ -77,55 +69,32 @@ module _ (stage : ℕ) (windows : List (List ℤ)) (count : ℕ) (places firsts 
     old_first j lt = get_or_append_left firsts (count ∷ []) 0 j lt
 
     new_first : told_at more (length firsts) ≡ count
-    new_first = get_or_push firsts count 0 (length firsts) refl
+    new_first = get_or_push firsts count 0 _ refl
 
     old_seen : (j : ℕ) → j < length firsts → seen_at (nodes ++ node ∷ []) j ≡ seen_at nodes j
-    old_seen j lt = get_or_append_left nodes (node ∷ []) no_node j (let e = g.1.one_each in omega (arith, lt, e))
+    old_seen j lt = get_or_append_left nodes (node ∷ []) no_node j (let e = g.1.one_each in omega arith)
 
     new_seen : seen_at (nodes ++ node ∷ []) (length firsts) ≡ node
-    new_seen = get_or_push nodes node no_node (length firsts) g.1.one_each
-
-    -- what is said of each node and its first window
-    every : (P : ℕ → ℕ → Type 0) → ((j : ℕ) → j < length firsts → P j (told_at firsts j)) → P (length firsts) count
-        → (j : ℕ) → j < length more → P j (told_at more j)
-    every P old new j lt = elim (cases_eq j (length firsts)) [
-      | inl e ↦ subst (λ (m : ℕ). P m (told_at more m)) (sym e) (subst (P (length firsts)) (sym new_first) new)
-      | inr ne ↦ (let l : j < length firsts =
-          omega (arith, lt, ne, one_more) in subst (P j) (sym (old_first j l)) (old j l))
-    ]
+    new_seen = get_or_push nodes node no_node _ g.1.one_each
 
     differs : (j : ℕ) → j < length firsts → AreOneNode stage (node_at windows (told_at firsts j))
         (node_at windows count) → ⊥
-    differs j lt o = is_new j (let e = g.1.one_each in omega (arith, lt, e)) (one_seen j lt o)
+    differs j lt o = is_new j (let e = g.1.one_each in omega arith) (one_seen j lt o)
 
     turned : (xs ys : List ℤ) → AreOneNode stage xs ys → AreOneNode stage ys xs
     turned xs ys o = record { placed = λ rank one. ((o.placed rank one).1, (o.placed rank one).0); last = sym o.last }
 
-    apart_more : (i j : ℕ) → i < length more → j < length more
+    apart_more : (i : ℕ) → i < length more → (j : ℕ) → j < length more
         → AreOneNode stage (node_at windows (told_at more i)) (node_at windows (told_at more j)) → i ≡ j
-    apart_more i j li lj o = elim (cases_lt i (length firsts)) [
-      | inl a ↦ elim (cases_lt j (length firsts)) [
-        | inl b ↦ g.0.apart i j a b
-            (subst (λ (m : ℕ). AreOneNode stage (node_at windows m) (node_at windows (told_at firsts j)))
-            (old_first i a) (subst (λ (m : ℕ). AreOneNode stage (node_at windows (told_at more i)) (node_at windows m))
-            (old_first j b) o))
-        | inr b ↦
-            let e : j ≡ length firsts = omega (arith, b, lj, one_more) in
-            absurd (differs i a (subst (λ (m : ℕ). AreOneNode stage (node_at windows m) (node_at windows count))
-            (old_first i a) (subst (λ (m : ℕ). AreOneNode stage (node_at windows (told_at more i))
-            (node_at windows m)) (ap (told_at more) e ∙ new_first) o)))
-      ]
-      | inr a ↦
-          let f : i ≡ length firsts = omega (arith, a, li, one_more) in
-          elim (cases_lt j (length firsts)) [
-            | inl b ↦ absurd (differs j b (turned (node_at windows count) (node_at windows (told_at firsts j))
-                (subst (λ (m : ℕ). AreOneNode stage (node_at windows m) (node_at windows (told_at firsts j)))
-                (ap (told_at more) f ∙ new_first)
-                (subst (λ (m : ℕ). AreOneNode stage (node_at windows (told_at more i)) (node_at windows m))
-                (old_first j b) o))))
-            | inr b ↦ omega (arith, f, b, lj, one_more)
-          ]
-    ]
+    apart_more = each_pushed (λ i m. (j : ℕ) → j < length more → AreOneNode stage (node_at windows m)
+        (node_at windows (told_at more j)) → i ≡ j) firsts count 0
+        (λ i a. each_pushed (λ j m. AreOneNode stage (node_at windows (told_at firsts i)) (node_at windows m) → i ≡ j)
+        firsts count 0
+        (λ j b o. g.0.apart i j a b o) (λ o. absurd (differs i a o)))
+        (each_pushed (λ j m. AreOneNode stage (node_at windows count) (node_at windows m) → length firsts ≡ j) firsts
+        count 0
+        (λ j b o. absurd (differs j b (turned _ _ o)))
+        (λ o. refl))
 
     itself : (xs : List ℤ) → AreOneNode stage xs xs
     itself xs = record { placed = λ rank one. (λ p. p, λ p. p); last = refl }
@@ -134,42 +103,32 @@ module _ (stage : ℕ) (windows : List (List ℤ)) (count : ℕ) (places firsts 
     put_more = (
       record {
         long = length-append places (length firsts ∷ []) ∙ ap (λ (n : ℕ). n + 1) g.0.long;
-        within = each (λ i m. m < length more) (length firsts) (λ i lt. let a =
+        within = each_upto (λ i m. m < length more) places (length firsts) 0 count g.0.long (λ i lt. let a =
             g.0.within i lt in omega (arith, a, one_more)) (omega (arith, one_more));
-        first = every (λ j f. f < count + 1) (λ j lt. let a = g.0.first j lt in omega (arith, a)) (omega arith);
-        own = every (λ j f. told_at (places ++ length firsts ∷ []) f ≡ j)
+        first = each_pushed (λ j f. f < count + 1) firsts count 0 (λ j lt. let a = g.0.first j lt in omega (arith, a))
+            (omega arith);
+        own = each_pushed (λ j f. told_at (places ++ length firsts ∷ []) f ≡ j) firsts count 0
             (λ j lt. old_place (length firsts) (told_at firsts j) (g.0.first j lt) ∙ g.0.own j lt)
             (new_place (length firsts));
-        one = each (λ i m. AreOneNode stage (node_at windows (told_at more m)) (node_at windows i)) (length firsts)
-            (λ i lt. subst (λ (f : ℕ). AreOneNode stage (node_at windows f) (node_at windows i))
-            (sym (old_first (told_at places i) (g.0.within i lt))) (g.0.one i lt))
-            (subst (λ (f : ℕ). AreOneNode stage (node_at windows f) (node_at windows count))
-            (sym new_first) (itself (node_at windows count)));
-        apart = apart_more;
+        one = each_upto (λ i m. AreOneNode stage (node_at windows (told_at more m)) (node_at windows i)) places
+            (length firsts) 0 count g.0.long
+            (λ i lt. rw (old_first (told_at places i) (g.0.within i lt)) (g.0.one i lt))
+            (rw new_first (itself (node_at windows count)));
+        apart = λ i j li lj o. apart_more i li j lj o;
       },
       record {
         one_each = length-append nodes (node ∷ []) ∙ ap (λ (n : ℕ). n + 1) g.1.one_each ∙ sym one_more;
-        placed = every (λ j f. TellsPlaced (node_at windows f) stage (seen_at (nodes ++ node ∷ []) j).placed)
-            (λ j lt. subst (λ (n : Node). TellsPlaced (node_at windows (told_at firsts j)) stage n.placed)
-            (sym (old_seen j lt)) (g.1.placed j lt))
-            (subst (λ (n : Node). TellsPlaced (node_at windows count) stage n.placed) (sym new_seen) placed);
-        last = every (λ j f. (seen_at (nodes ++ node ∷ []) j).last ≡ latest (stage, node_at windows f))
-            (λ j lt. ap (λ (n : Node). n.last) (old_seen j lt) ∙ g.1.last j lt) (ap (λ (n : Node). n.last) new_seen
-            ∙ last);
+        placed = each_pushed (λ j f. TellsPlaced (node_at windows f) stage (seen_at (nodes ++ node ∷ []) j).placed)
+            firsts count 0
+            (λ j lt. rw (old_seen j lt) (g.1.placed j lt)) (rw new_seen placed);
+        last = each_pushed (λ j f. (seen_at (nodes ++ node ∷ []) j).last ≡ latest (stage, node_at windows f)) firsts
+            count 0
+            (λ j lt. rw (old_seen j lt) (g.1.last j lt)) (rw new_seen last);
       },
     )
 
   pub one_window : (place : ℕ) (seen : List Node) (first : List ℕ)
       → IsKeptOrPut nodes seen firsts first node count place
       → AreGrouped stage windows (count + 1) (places ++ place ∷ []) first seen
-  one_window place seen first (inl k) = subst (λ (ns : List Node). AreGrouped stage windows
-      (count + 1) (places ++ place ∷ []) first ns) (sym k.same_nodes)
-      (subst (λ (fs : List ℕ). AreGrouped stage windows (count + 1) (places ++ place ∷ []) fs nodes)
-      (sym k.same_firsts) (kept_more place k.there))
-  one_window place seen first (inr p) =
-      subst (λ (m : ℕ). AreGrouped stage windows (count + 1) (places ++ m ∷ []) first seen)
-      (sym (p.last ∙ g.1.one_each))
-      (subst (λ (ns : List Node). AreGrouped stage windows (count + 1) (places ++ length firsts ∷ []) first ns)
-      (sym p.one_node)
-      (subst (λ (fs : List ℕ). AreGrouped stage windows (count + 1) (places ++ length firsts ∷ []) fs
-      (nodes ++ node ∷ [])) (sym p.one_first) (put_more p.is_new)))
+  one_window place seen first (inl k) = rw (k.same_nodes, k.same_firsts) (kept_more place k.there)
+  one_window place seen first (inr p) = rw (p.last, g.1.one_each, p.one_node, p.one_first) (put_more p.is_new)

@@ -19,7 +19,7 @@ use Rattle.landing_joint.specs.shared.FirstOpen.{is_first_open}
 use Rattle.landing_rules.specs.Problem.{Problem}
 use Rattle.cps_network.specs.Landable.{Attains, IsLandable}
 use Rattle.cps_network.specs.Lists.{node_at}
-use Rattle.cps_network.specs.Nodes.{Node, node_of, permits, land, latest, IsWindowNetwork}
+use Rattle.cps_network.specs.Nodes.{node_of, permits, land, latest, IsWindowNetwork}
 use Rattle.cps_network.specs.WindowLaws.{WindowLaws}
 use Rattle.cps_network.specs.shared.LegalWindows.{next_last}
 use Rattle.cps_nodes.specs.Windows.{offset_at}
@@ -48,30 +48,29 @@ completes_pair_start p stage window q xs is = (xs, refl, is.legal, is.landed, is
 
 -- one source back
 completes_pair_more : (p : Problem) → IsWindowNetwork p
-    → (before : ℕ × List (List ℤ)) (lists : List (List Pair)) (v : List ℤ) (q : Pair) (j index : ℕ)
-    (end : Pair) (order : List ℕ)
-    → (source : GivesPair p before lists v q j index) → CompletesWith p (suc before.0) v q order end
+    → (before : ℕ × List (List ℤ)) (lists : List (List Pair)) (v : List ℤ) (q : Pair) (j index : ℕ) (end : Pair)
+    (order : List ℕ) → (source : GivesPair p before lists v q j index) → CompletesWith p (suc before.0) v q order end
     → CompletesWith p before.0 (node_at before.1 j) (pair_at (list_at lists j) index) (order ++ source.rank ∷ []) end
 completes_pair_more p net before lists v q j index end order source rest xs is =
     let may : permits p (node_of p.k (ranks xs)) source.rank =
-    subst (λ (n : Node). permits p n source.rank) (sym is.at) source.permitted in
+    subst (λ n. permits p n source.rank) (sym is.at) source.permitted in
     let leader : latest (before.0, node_at before.1 j) ≡ last_rank (ranks xs) =
     ap latest (sym is.at) ∙ net.newest_is (ranks xs) is.legal in
     let e : next_pair (first_at p) (next_from (ranked p)) (cost_at p) (last_rank (ranks xs))
     (pair_of (cost_at p) xs) source.rank ≡ Some q =
-    ap (λ (l : ℕ). successor p l (pair_of (cost_at p) xs) source.rank) (sym leader)
-    ∙ ap (λ (o : Pair). successor p (latest (before.0, node_at before.1 j)) o source.rank) is.pair ∙ source.lands in
-    let lands = next_lands (λ s t. (ranked p).is_open s t ≡ true) (first_at p) (next_from (ranked p))
-    (cost_at p) (is_first_open p) (next_later (ranked p)) (costs_rise p) xs source.rank q is.landed e in
+    ap (λ l. successor p l (pair_of (cost_at p) xs) source.rank) (sym leader)
+    ∙ ap (λ o. successor p (latest (before.0, node_at before.1 j)) o source.rank) is.pair ∙ source.lands in
+    let lands = next_lands (λ s t. (ranked p).is_open s t ≡ true) _ _
+    _ (is_first_open p) (next_later (ranked p)) (costs_rise p) xs source.rank q is.landed e in
     let more : EndsWith p (suc before.0) v q ((source.rank, q.0) ∷ xs) = record {
       legal = net.grows source.rank (ranks xs) is.legal may;
       landed = lands.0;
-      at = net.pushes source.rank (ranks xs) is.legal ∙ ap (λ (n : Node). land n source.rank) is.at
-          ∙ ap (λ (z : List ℤ). (suc before.0, z)) (sym source.next);
+      at = net.pushes source.rank (ranks xs) is.legal ∙ ap (λ n. land n source.rank) is.at
+          ∙ ap (λ z. (suc before.0, z)) (sym source.next);
       pair = lands.1;
     } in
     let whole = rest ((source.rank, q.0) ∷ xs) more in
-    (whole.0, whole.1 ∙ sym (append_assoc order (source.rank ∷ []) (ranks xs)), whole.2, whole.3, whole.4)
+    (whole.0, whole.1 ∙ sym (append_assoc order (source.rank ∷ []) _), whole.2, whole.3, whole.4)
 
 -- at the start the order itself lands
 completes_pair_all : (p : Problem) (window : List ℤ) (order : List ℕ) (q end : Pair) → node_of p.k [] ≡ (0, window)
@@ -120,29 +119,27 @@ pub record StepReads (p : Problem) (stages : List LabelledStage) (stage place in
 
 pub step_reads : (p : Problem) (stages : List LabelledStage) → AreStages p stages → length stages ≡ length p.flights + 1
     → (stage next place index : ℕ) (before read after read' : LabelledStage) → 0 < stage → stage ≤ length p.flights
-    → next ≡ stage
-    → before ≡ read → read ≡ get_or stages (stage - 1) read → after ≡ read' → read' ≡ get_or stages next read'
-    → place < length (stage_at stages stage).stage.1
-    → index < length (list_at (stage_at stages stage).labels.lists place)
-    → StepReads p stages stage place index before after
+    → next ≡ stage → before ≡ read → read ≡ get_or stages (stage - 1) read → after ≡ read' → read'
+    ≡ get_or stages next read' → place < length (stage_at stages stage).stage.1 → index
+    < length (list_at (stage_at stages stage).labels.lists place) → StepReads p stages stage place index before after
 step_reads p stages holds whole stage next place index before read after read' some low same eb fb ea fa lt listed =
-    let here : next < length stages = omega (arith, low, same, whole) in
-    let back : stage - 1 < length stages = omega (arith, here, same) in
+    let here : next < length stages = omega arith in
+    let back : stage - 1 < length stages = omega arith in
     let before_is = read_stage stages (stage - 1) before read eb fb back in
     let after_is : after ≡ stage_at stages stage = read_stage stages next after read' ea fa here
     ∙ ap (stage_at stages) same in
     let held = held_at p stages holds (stage - 1) before before_is back in
-    let above = held_at p stages holds stage after after_is (omega (arith, here, same)) in
+    let above = held_at p stages holds stage after after_is (omega arith) in
     let number = held.1 in
     let number' = above.1 in
-    let one_back : stage ≡ suc (stage - 1) = omega (arith, some) in
+    let one_back : stage ≡ suc (stage - 1) = omega arith in
     record {
       before_is = before_is;
       after_is = after_is;
       held = held.0;
       above = above.0;
       number = number;
-      next = omega (arith, number, number', one_back);
+      next = omega arith;
       one_back = one_back;
       within = rw after_is lt;
       listed = rw after_is listed;
@@ -159,40 +156,36 @@ back_pair p net stages stage place index j k r end order before after v q reads 
     let es : stage ≡ suc before.stage.0 = reads.one_back ∙ ap suc (sym reads.number) in
     let a : CompletesWith p (suc before.stage.0) v q (reverse (drop (suc s) order)) end =
     rw (ev, eq, reads.after_is, ← es, ← reads.one_back) rest in
-    let b = completes_pair_more p net before.stage before.labels.lists v q j k end
-    (reverse (drop (suc s) order)) source a in
+    let b = completes_pair_more p net before.stage _ v q j k end _ source a in
     rw (← written order s r lt, ← rank_is, ← reads.before_is) (rw reads.number at b)
 
 -- a listed pair is undominated
-pub listed_undominated : (p : Problem) (before after : ℕ × List (List ℤ)) (more : List (List Pair))
-    (v : List ℤ) (q : Pair) (place index : ℕ) → HoldsCosts p after more
-    → after.0 ≡ suc before.0 → place < length after.1 → v ≡ node_at after.1 place → index < length (list_at more place)
-    → q ≡ pair_at (list_at more place) index
+pub listed_undominated : (p : Problem) (before after : ℕ × List (List ℤ)) (more : List (List Pair)) (v : List ℤ)
+    (q : Pair) (place index : ℕ) → HoldsCosts p after more → after.0 ≡ suc before.0 → place < length after.1 → v
+    ≡ node_at after.1 place → index < length (list_at more place) → q ≡ pair_at (list_at more place) index
     → Undominated (Attains p (before.0 + 1) v) q
 listed_undominated p before after more v q place index above number lt at listed is =
-    let has : InPairs q (list_at more place) = at_in (list_at more place) index q listed (sym is) in
+    let has : InPairs q (list_at more place) = at_in _ index q listed (sym is) in
     let u : Undominated (Attains p after.0 (node_at after.1 place)) q =
     ((above.costs.pairs place lt).undominated q).0 has in
-    let n : after.0 ≡ before.0 + 1 = omega (arith, number) in
+    let n : after.0 ≡ before.0 + 1 = omega arith in
     rw (← n, at) u
 
 pub last_given : (p : Problem) (w : ℕ) → w ≡ 2 * p.k + 1 → WindowLaws p w
     → (before : ℕ × List (List ℤ)) (lists : List (List Pair)) (v : List ℤ) (q : Pair) (j k : ℕ)
-    → HoldsCosts p before lists
-    → (source : GivesPair p before lists v q j k) → (pos (suc before.0) +ℤ offset_at v (w - 1) ≡ pos source.rank)
-    × (source.rank ≤ length p.flights)
+    → HoldsCosts p before lists → (source : GivesPair p before lists v q j k)
+    → (pos (suc before.0) +ℤ offset_at v (w - 1) ≡ pos source.rank) × (source.rank ≤ length p.flights)
 last_given p w odd laws before lists v q j k held source =
     let l : IsLandable p before.0 (node_at before.1 j) =
     (held.landable (node_at before.1 j)).0 (Contains-get_or before.1 j [] source.within) in (
-      ap (λ (z : List ℤ). pos (suc before.0) +ℤ offset_at z (w - 1)) source.next
-          ∙ next_last p w odd laws before.0 (node_at before.1 j) source.rank l source.permitted,
+      ap (λ z. pos (suc before.0) +ℤ offset_at z (w - 1)) source.next
+          ∙ next_last p w odd laws before.0 _ source.rank l source.permitted,
       source.permitted.to_count,
     )
 
 pub trace_end : (p : Problem) (stages : List LabelledStage) → AreStages p stages
-    → (stage place index : ℕ) (end : Pair) (order : List ℕ) → stage ≡ 0 → 0 < length stages
-    → place < length (stage_at stages stage).stage.1
-    → index < length (list_at (stage_at stages stage).labels.lists place)
+    → (stage place index : ℕ) (end : Pair) (order : List ℕ) → stage ≡ 0 → 0 < length stages → place
+    < length (stage_at stages stage).stage.1 → index < length (list_at (stage_at stages stage).labels.lists place)
     → Traced p stages stage place index order end → LandsWithPair p order end
 trace_end p stages is stage place index end order none some lt listed rest =
     let start = stage_at stages 0 in
@@ -203,12 +196,11 @@ trace_end p stages is stage place index end order none some lt listed rest =
     let number : start.stage.0 ≡ 0 = is.number 0 some in
     let l : IsLandable p 0 (window_in start place) =
     rw number at ((h.landable (window_in start place)).0 (Contains-get_or start.stage.1 place [] lt')) in
-    let at = start_only p (window_in start place) l in
+    let at = start_only p _ l in
     let u = ((h.costs.pairs place lt').undominated (pair_in start place index)).0
-    (at_in (list_at start.labels.lists place) index (pair_in start place index) listed' refl) in
+    (at_in _ index (pair_in start place index) listed' refl) in
     let a : Attains p 0 (window_in start place) (pair_in start place index) = rw number at u.attained in
-    completes_pair_all p (window_in start place) order (pair_in start place index) end at
-    (start_pair p (window_in start place) (pair_in start place index) a) rest'
+    completes_pair_all p _ order (pair_in start place index) end at (start_pair p _ (pair_in start place index) a) rest'
 
 -- before the first step back
 pub trace_begins : (p : Problem) (stages : List LabelledStage) (n stage place index : ℕ) (order : List ℕ)
@@ -219,11 +211,4 @@ pub trace_begins : (p : Problem) (stages : List LabelledStage) (n stage place in
     × (index < length (list_at (stage_at stages stage).labels.lists place))
     × Traced p stages stage place index order (last_pair (list_at (stage_at stages n).labels.lists place))
 trace_begins p stages n stage place index order same few room within listed last =
-    rw same (
-      few,
-      room,
-      within,
-      listed,
-      rw (drop_all n order (omega (arith, room)), last)
-          (completes_pair_start p n (window_in (stage_at stages n) place) _),
-    )
+    rw same (few, room, within, listed, rw (drop_all n order (omega arith), last) (completes_pair_start p n _ _))

@@ -1,3 +1,4 @@
--- Lemmas that crates above cite too: the last pair of a list, and windows of one node.
+-- Lemmas that crates above cite too: on the pairs of a list, windows of one node, and lists with one more element.
 pub mod LastPairs
 pub mod OneNode
+pub mod Pushed

@@ -1,8 +1,11 @@
 -- The frozen landings stand first in landing order, the waiting ones behind them; and what an event freezes, it freezes
 -- where the plan shown lands it.
+use Rattle.std.specs.Prelude.{◌≢◌}
+use Rattle.std.proofs.lemmas.List.Kept.{AllPairs-cons}
+use Rattle.landing_rules.specs.shared.Members.{all_from}
 use Rattle.std.proofs.Common.{◌≡◌, ℕ, zero, suc, ◌+◌, ◌<◌, ◌≤◌, Bool, true, false, cond, not, List, [], ◌∷◌, ◌++◌}
 use Rattle.std.proofs.Common.{length, get_or, map, filter, take, Option, Some, None, inl, inr, ◌⊎◌, refl, sym, ap, ap₂}
-use Rattle.std.proofs.Common.{subst, ◌∙◌, arith}
+use Rattle.std.proofs.Common.{◌∙◌, arith}
 use Rattle.std.specs.Prelude.{All, MatchOption, option_map, is_none, nat_lt, slice_get, unwrap_or}
 use Rattle.std.specs.List.{cons_option}
 use Rattle.std.specs.List.Sorted.{IsPermutation}
@@ -21,12 +24,12 @@ use Rattle.landing_rules.specs.Flights.{is_waiting, landing, landings, waiting}
 use Rattle.landing_rules.specs.Rules.{IsFeasible, IsFrozenKept, waits}
 use Rattle.landing_rules.specs.Events.{Event, Estimate, Cancel, Add, Clock, after_clock}
 use Rattle.landing_rules.specs.Events.{estimated, freezes, frozen_landings, in_landing_order, insert_landing, named}
-use Rattle.landing_rules.specs.Events.{newcomer, passed_after, refusal, situation_after}
+use Rattle.landing_rules.specs.Events.{newcomer, refusal, situation_after}
 use Rattle.landing_rules.specs.Problem.{by_rank, joined, joined_second}
 use Rattle.landing_rules.specs.Sound.{IsSound}
 use Rattle.landing_rules.specs.Text.{ShownLanding, shown_landing, shown_plan}
 use Rattle.landing_rules.specs.shared.Counting.{Member}
-use Rattle.landing_rules.specs.shared.Members.{all_at, in_filter, in_frozen, in_map, member_at}
+use Rattle.landing_rules.specs.shared.Members.{all_at, cases_option, in_filter, in_frozen, in_map}
 use Rattle.landing_rules.specs.shared.Members.{member_contains, member_permutation}
 use Rattle.landing_joint.specs.ClockLaws.{ClockKeepsPlanLaw}
 use Rattle.landing_joint.specs.Numbered.{nobody}
@@ -48,57 +51,42 @@ apart_frozen : (xs : List Active) → Apart xs → (i j : ℕ) (d : Landing) →
     → (get_or (frozen_of xs) i d).flight.callsign ≡ (get_or (frozen_of xs) j d).flight.callsign → ⊥
 apart_frozen [] apart = λ i j d lt within e. absurd (omega arith)
 apart_frozen (x ∷ xs) apart =
-    go x.frozen (apart_frozen xs (λ i j d lt within. apart (suc i) (suc j) d (omega arith) (omega arith)))
-  where
-    AreOwn : List Landing → Type 0
-    AreOwn fs = (i j : ℕ) (d : Landing) → i < j → j < length fs
-        → (get_or fs i d).flight.callsign ≡ (get_or fs j d).flight.callsign → ⊥
-
-    first : (j : ℕ) (d : Landing) → j < length (frozen_of xs)
-        → x.flight.callsign ≡ (get_or (frozen_of xs) j d).flight.callsign → ⊥
-    first j d within e =
-        let r = in_frozen xs (get_or (frozen_of xs) j d) (member_at (frozen_of xs) j d within) in
-        let c = member_contains xs r.0 r.2 in
-        let l = c.1 in
-        apart 0 (suc c.0) r.0 (omega arith) (omega arith) (e ∙ ap (λ (f : Landing). f.flight.callsign) r.4
-        ∙ ap (λ (a : Active). a.flight.callsign) (sym c.2))
-
-    go : (o : Option ℕ) → AreOwn (frozen_of xs) → AreOwn (cons_option (option_map (landing x) o) (frozen_of xs))
-    go None ih = ih
-    go (Some t) ih = own
-      where
-        own : AreOwn (landing x t ∷ frozen_of xs)
-        own i zero d lt within e = absurd (omega arith)
-        own zero (suc j) d lt within e = first j d (omega arith) e
-        own (suc i) (suc j) d lt within e = ih i j d (omega arith) (omega arith) e
+    let rest = apart_frozen xs (λ i j d lt within. apart (suc i) (suc j) d (omega arith) (omega arith)) in
+    elim (cases_option x.frozen) [
+      | inl none ↦ rw none rest
+      | inr t ↦ rw t.1 (AllPairs-cons (λ (f g : Landing). f.flight.callsign ≢ g.flight.callsign) _ (frozen_of xs)
+          (all_from (λ (g : Landing). x.flight.callsign ≢ g.flight.callsign) (frozen_of xs) (λ g m e.
+          let r = in_frozen xs g m in
+          let c = member_contains xs r.0 r.2 in
+          apart 0 (suc c.0) r.0 (omega arith) (omega (arith, c.1)) (e ∙ ap (λ f. f.flight.callsign) r.4
+          ∙ ap (λ a. a.flight.callsign) (sym c.2)))) rest)
+    ]
 
 -- no two land at one second
 pub seconds_apart : (s : Situation) → IsSound s → (i j : ℕ) (d : Landing) → i < j → j < length (frozen_landings s)
     → (get_or (frozen_landings s) i d).second ≡ (get_or (frozen_landings s) j d).second → ⊥
 seconds_apart s sound i j d lt within same =
-    let f : Landing = get_or (frozen_landings s) i d in
-    let g : Landing = get_or (frozen_landings s) j d in
+    let f : Landing = get_or _ i d in
+    let g : Landing = get_or _ j d in
     let apart : f.second + separation s.aerodrome.table f.flight.category g.flight.category ≤ g.second =
     sound.frozen_separated i d (omega arith) j d (omega arith)
     (apart_frozen s.active sound.callsigns i j d lt (omega arith)) (omega arith) in
-    let one = (sound.table.entries f.flight.category g.flight.category).0 in
-    omega arith
+    omega (arith, (sound.table.entries f.flight.category g.flight.category).0)
 
 -- in any order in which their seconds do not fall, the frozen landings are in landing order
 pub frozen_in_order : (s : Situation) → IsSound s → (sorted : List ShownLanding)
     → IsPermutation (map shown_landing (frozen_landings s)) sorted → Climbs second sorted → sorted ≡ frozen_shown s
 frozen_in_order s sound sorted permuted climbs =
-    one_order second (map shown_landing fs) sorted (frozen_shown s)
-    (once (map second (map shown_landing fs)) differ) permuted
-    (IsPermutation-map shown_landing fs (in_landing_order fs) (order_permutes fs)) climbs
+    one_order second (map shown_landing fs) sorted (frozen_shown s) (once (map second (map shown_landing fs)) differ)
+    permuted (IsPermutation-map shown_landing fs (in_landing_order fs) (order_permutes fs)) climbs
     (climbs_map shown_landing second (in_landing_order fs) (order_rises fs))
   where
     fs : List Landing
     fs = frozen_landings s
 
     at : (k : ℕ) (d : Landing) → k < length fs → get_or (map second (map shown_landing fs)) k 0 ≡ (get_or fs k d).second
-    at k d lt = let n = length-map fs shown_landing in get_or-map second (map shown_landing fs) k
-        (shown_landing d) 0 (omega arith) ∙ ap second (get_or-map shown_landing fs k d (shown_landing d) lt)
+    at k d lt = let n = length-map fs shown_landing in get_or-map second _ k
+        (shown_landing d) 0 (omega arith) ∙ ap second (get_or-map shown_landing fs k d _ lt)
 
     differ : (i j : ℕ) → i < j → j < length (map second (map shown_landing fs))
         → get_or (map second (map shown_landing fs)) i 0 ≡ get_or (map second (map shown_landing fs)) j 0 → ⊥
@@ -133,22 +121,16 @@ kept_landings h (x ∷ xs) (t ∷ ts) e keeps =
     go x.frozen (All-head (IsFrozenKept h) (landing x t) (landings xs ts) keeps)
     (kept_landings h xs ts (omega arith) (All-tail (IsFrozenKept h) (landing x t) (landings xs ts) keeps))
   where
-    go : (o : Option ℕ) → MatchOption o (h ≤ t) (λ u. t ≡ u)
-        → filter (λ f. not (waits f)) (landings xs ts) ≡ frozen_of xs →
-        cond (not (is_none o)) (landing x t ∷ filter (λ f. not (waits f)) (landings xs ts))
+    go : (o : Option ℕ) → MatchOption o (h ≤ t) (λ u. t ≡ u) → filter (λ f. not (waits f)) (landings xs ts)
+        ≡ frozen_of xs → cond (not (is_none o)) (landing x t ∷ filter (λ f. not (waits f)) (landings xs ts))
         (filter (λ f. not (waits f)) (landings xs ts)) ≡ cons_option (option_map (landing x) o) (frozen_of xs)
     go None k ih = ih
-    go (Some u) k ih = ap₂ (λ (f : Landing) (fs : List Landing). f ∷ fs) (ap (landing x) k) ih
+    go (Some u) k ih = ap₂ (λ f fs. f ∷ fs) (ap (landing x) k) ih
 
 length_frozen : (xs : List Active) → length (frozen_of xs) + length (filter is_waiting xs) ≡ length xs
 length_frozen [] = refl
-length_frozen (x ∷ xs) = go x.frozen (length_frozen xs)
-  where
-    go : (o : Option ℕ) → length (frozen_of xs) + length (filter is_waiting xs) ≡ length xs →
-        length (cons_option (option_map (landing x) o) (frozen_of xs)) + length
-        (cond (is_none o) (x ∷ filter is_waiting xs) (filter is_waiting xs)) ≡ length (x ∷ xs)
-    go None ih = omega arith
-    go (Some t) ih = omega arith
+length_frozen (x ∷ xs) = let rest = length_frozen xs in
+    elim (cases_option x.frozen) [ inl e ↦ rw e (omega (arith, rest)) | inr e ↦ rw e.1 (omega (arith, rest)) ]
 
 module _ (s : Situation) (t : Schedule) (sound : IsSound s) (keeps : IsFeasible s t) where
   abbrev all : List Landing
@@ -157,18 +139,15 @@ module _ (s : Situation) (t : Schedule) (sound : IsSound s) (keeps : IsFeasible 
   before_waiting : (waiting : List ShownLanding) → IsPermutation (map shown_landing (filter waits all)) waiting
       → (x y : ShownLanding) → Member x (frozen_shown s) → Member y waiting → x.second ≤ y.second
   before_waiting waiting p x y m n =
-      let r = in_map shown_landing (in_landing_order (frozen_landings s)) x m in
-      let early = all_at (λ (f : Landing). f.second < horizon s) (frozen_landings s) sound.frozen_before r.0
-      (order_member r.0 (frozen_landings s) r.1) in
-      let q = in_map shown_landing (filter waits all) y
-      (member_permutation waiting (map shown_landing (filter waits all)) y
-      (IsPermutation-sym (map shown_landing (filter waits all)) waiting p) n) in
+      let r = in_map shown_landing _ x m in
+      let early = all_at (λ f. f.second < horizon s) _ sound.frozen_before r.0 (order_member r.0 _ r.1) in
+      let q = in_map shown_landing _ y (member_permutation waiting _ y
+      (IsPermutation-sym (map shown_landing _) waiting p) n) in
       let w = in_filter waits all q.0 q.1 in
-      let late : horizon s ≤ q.0.second =
-      late_of q.0.frozen q.0.second w.1 (all_at (IsFrozenKept (horizon s)) all keeps.1.frozen_kept q.0 w.0) in
+      let late : horizon s ≤ q.0.second = late_of q.0.frozen q.0.second w.1
+      (all_at (IsFrozenKept (horizon s)) all keeps.1.frozen_kept q.0 w.0) in
       let a : x.second ≡ r.0.second = ap second r.2 in
-      let b : y.second ≡ q.0.second = ap second q.2 in
-      omega arith
+      omega (arith, ap second q.2)
     where
       late_of : (o : Option ℕ) (u : ℕ) → is_none o ≡ true → MatchOption o (horizon s ≤ u) (λ v. u ≡ v) → horizon s ≤ u
       late_of None u e k = k
@@ -179,32 +158,31 @@ module _ (s : Situation) (t : Schedule) (sound : IsSound s) (keeps : IsFeasible 
       → Climbs second waiting → frozen_shown s ++ waiting ≡ (shown_plan s t).landings
   front_first waiting p climbs =
       let fs = frozen_landings s in
-      let held : filter (λ f. not (waits f)) all ≡ fs =
-      kept_landings (horizon s) s.active t keeps.0 keeps.1.frozen_kept in
-      let parts : IsPermutation all (filter (λ f. not (waits f)) all ++ filter waits all) =
-      IsPermutation-filter_both (λ f. not (waits f)) waits (λ f. sym (not-not (waits f))) all in
+      let held : filter (λ f. not (waits f)) all ≡ fs = kept_landings (horizon s) s.active t keeps.0
+      keeps.1.frozen_kept in
+      let parts : IsPermutation all (filter (λ f. not (waits f)) all ++ filter waits all) = IsPermutation-filter_both
+      (λ f. not (waits f)) waits (λ f. sym (not-not (waits f))) all in
       let shown : IsPermutation (map shown_landing all) (map shown_landing fs ++ map shown_landing (filter waits all)) =
-      subst (IsPermutation (map shown_landing all)) (ap (λ fs. map shown_landing (fs ++ filter waits all)) held
-      ∙ map-append shown_landing fs (filter waits all))
-      (IsPermutation-map shown_landing all (filter (λ f. not (waits f)) all ++ filter waits all) parts) in
+      rw (ap (λ fs. map shown_landing (fs ++ filter waits all)) held
+      ∙ map-append shown_landing fs _) at (IsPermutation-map shown_landing all
+      (filter (λ f. not (waits f)) all ++ filter waits all) parts) in
       let each : IsPermutation (map shown_landing fs ++ map shown_landing (filter waits all))
       (frozen_shown s ++ waiting) =
-      IsPermutation-append (map shown_landing fs) (frozen_shown s) (map shown_landing (filter waits all)) waiting
+      IsPermutation-append (map shown_landing fs) (frozen_shown s) (map shown_landing _) waiting
       (IsPermutation-map shown_landing fs (in_landing_order fs) (order_permutes fs)) p in
-      in_order s t sound keeps (map shown_landing all) (frozen_shown s ++ waiting) refl
-      (IsPermutation-trans (map shown_landing all) (map shown_landing fs ++ map shown_landing (filter waits all))
-      (frozen_shown s ++ waiting) shown each)
-      (climbs_append second (frozen_shown s) waiting
-      (climbs_map shown_landing second (in_landing_order fs) (order_rises fs)) climbs (before_waiting waiting p))
+      in_order s t sound keeps _ _ refl
+      (IsPermutation-trans (map shown_landing all) (map shown_landing fs ++ map shown_landing _)
+      (frozen_shown s ++ waiting) shown each) (climbs_append second _ waiting
+      (climbs_map shown_landing second _ (order_rises fs)) climbs (before_waiting waiting p))
 
   -- its first landings are the frozen ones
   front_is : take (length (frozen_shown s)) (shown_plan s t).landings ≡ frozen_shown s
   front_is =
       let ws = filter waits all in
-      let behind = map shown_landing (in_landing_order ws) in
+      let behind = map shown_landing _ in
       let whole = front_first behind (IsPermutation-map shown_landing ws (in_landing_order ws) (order_permutes ws))
-      (climbs_map shown_landing second (in_landing_order ws) (order_rises ws)) in
-      ap (take (length (frozen_shown s))) (sym whole) ∙ take-append_seam (frozen_shown s) behind
+      (climbs_map shown_landing second _ (order_rises ws)) in
+      ap (take (length (frozen_shown s))) (sym whole) ∙ take-append_seam _ behind
 
 -- how many they are
 pub frozen_count : (s : Situation) → length (frozen_shown s) + length (waiting s) ≡ length s.active
@@ -212,13 +190,12 @@ frozen_count s =
     let fs = frozen_landings s in
     let a = length-map (in_landing_order fs) shown_landing in
     let b = length_permutation fs (in_landing_order fs) (order_permutes fs) in
-    let c = length_frozen s.active in
-    omega arith
+    omega (arith, length_frozen s.active)
 
 pub frozen_and_placed : (s : Situation) (places : List ℕ) → IsSound s → ArePlacesByRank s places
     → length (frozen_shown s) + length places ≡ length s.active
 frozen_and_placed s places sound at = let a = places_length s sound.callsigns places at in let b =
-    rank_length (waiting s) in let c = frozen_count s in omega arith
+    rank_length (waiting s) in omega (arith, frozen_count s)
 
 -- ---- the waiting landings of a list by rank
 
@@ -229,14 +206,10 @@ landings_of f (x ∷ xs) = ap (λ l. landing x (f x) ∷ l) (landings_of f xs)
 waiting_landings : (f : Active → ℕ) (xs : List Active)
     → filter waits (map (λ a. landing a (f a)) xs) ≡ map (λ a. landing a (f a)) (filter is_waiting xs)
 waiting_landings f [] = refl
-waiting_landings f (x ∷ xs) = go (is_waiting x) (waiting_landings f xs)
-  where
-    go : (b : Bool) → filter waits (map (λ a. landing a (f a)) xs) ≡ map (λ a. landing a (f a)) (filter is_waiting xs) →
-        cond b (landing x (f x) ∷ filter waits (map (λ a. landing a (f a)) xs))
-        (filter waits (map (λ a. landing a (f a)) xs)) ≡ map (λ a. landing a (f a))
-        (cond b (x ∷ filter is_waiting xs) (filter is_waiting xs))
-    go true ih = ap (λ l. landing x (f x) ∷ l) ih
-    go false ih = ih
+waiting_landings f (x ∷ xs) = elim (cases_Bool (is_waiting x)) [
+  | inl e ↦ rw e (ap (λ l. landing x (f x) ∷ l) (waiting_landings f xs))
+  | inr e ↦ rw e (waiting_landings f xs)
+]
 
 ranked_seconds : (s : Situation) (u : Schedule) → Apart s.active → length u ≡ length (waiting s)
     → map (joined_second s u) (by_rank (waiting s)) ≡ u
@@ -262,9 +235,7 @@ waiting_shown s u sound e =
     ap (filter waits) (landings_of f s.active) ∙ waiting_landings f s.active in
     let there : map (λ a. landing a (f a)) R ≡ landings R u =
     sym (landings_of f R) ∙ ap (landings R) (ranked_seconds s u sound.callsigns e) in
-    subst (λ l. IsPermutation (map shown_landing l) (map shown_landing (landings R u))) (sym here)
-    (subst (λ l. IsPermutation (map shown_landing (map (λ a. landing a (f a)) (waiting s))) (map shown_landing l)) there
-    (IsPermutation-map shown_landing (map (λ a. landing a (f a)) (waiting s)) (map (λ a. landing a (f a)) R)
+    rw here (rw there at (IsPermutation-map shown_landing (map (λ a. landing a (f a)) _) (map (λ a. landing a (f a)) R)
     (IsPermutation-map (λ a. landing a (f a)) (waiting s) R (rank_permutes (waiting s)))))
 
 -- ---- no event but a clock moves a frozen landing
@@ -273,7 +244,7 @@ frozen_estimated : (c : Callsign) (eta : ℕ) (windows : List Span) (xs : List A
     → ((a : Active) → Member a xs → named c a ≡ true → a.frozen ≡ None)
     → frozen_of (map (estimated c eta windows) xs) ≡ frozen_of xs
 frozen_estimated c eta windows [] h = refl
-frozen_estimated c eta windows (x ∷ xs) h = ap₂ (λ (o : Option Landing) (fs : List Landing). cons_option o fs) here
+frozen_estimated c eta windows (x ∷ xs) h = ap₂ (λ o fs. cons_option o fs) here
     (frozen_estimated c eta windows xs (λ a m. h a (inr m)))
   where
     with_times : Active
@@ -290,13 +261,12 @@ frozen_estimated c eta windows (x ∷ xs) h = ap₂ (λ (o : Option Landing) (fs
 frozen_cancelled : (c : Callsign) (xs : List Active) → ((a : Active) → Member a xs → named c a ≡ true → a.frozen ≡ None)
     → frozen_of (filter (λ a. not (named c a)) xs) ≡ frozen_of xs
 frozen_cancelled c [] h = refl
-frozen_cancelled c (x ∷ xs) h = go (named c x) refl (frozen_cancelled c xs (λ a m. h a (inr m)))
-  where
-    go : (b : Bool) → named c x ≡ b → frozen_of (filter (λ a. not (named c a)) xs) ≡ frozen_of xs
-        → frozen_of (cond (not b) (x ∷ filter (λ a. not (named c a)) xs) (filter (λ a. not (named c a)) xs)) ≡ frozen_of
-        (x ∷ xs)
-    go true e ih = ih ∙ sym (ap (λ o. cons_option (option_map (landing x) o) (frozen_of xs)) (h x (inl refl) e))
-    go false e ih = ap (cons_option (option_map (landing x) x.frozen)) ih
+frozen_cancelled c (x ∷ xs) h =
+    let rest = frozen_cancelled c xs (λ a m. h a (inr m)) in
+    elim (cases_Bool (named c x)) [
+      | inl e ↦ rw e (rest ∙ sym (ap (λ o. cons_option (option_map (landing x) o) (frozen_of xs)) (h x (inl refl) e)))
+      | inr e ↦ rw e (ap (cons_option (option_map (landing x) x.frozen)) rest)
+    ]
 
 -- ---- a landing, frozen where it stands
 
@@ -310,17 +280,16 @@ there_at (x ∷ xs) (suc i) l e = there_at xs i l e
 there_still : (fs : List Landing) → ((f : Landing) → Member f fs → waits f ≡ false)
     → map frozen_there (map shown_landing fs) ≡ map shown_landing fs
 there_still [] h = refl
-there_still (f ∷ fs) h = ap₂ (λ (l : ShownLanding) (ls : List ShownLanding). l ∷ ls)
+there_still (f ∷ fs) h = ap₂ (λ l ls. l ∷ ls)
     (ap (λ b. (let l : ShownLanding = record { callsign = f.flight.callsign; second = f.second; frozen = b } in l))
-    (sym (ap not (h f (inl refl)))))
-    (there_still fs (λ g m. h g (inr m)))
+    (sym (ap not (h f (inl refl))))) (there_still fs (λ g m. h g (inr m)))
 
 frozen_still : (s : Situation) → map frozen_there (frozen_shown s) ≡ frozen_shown s
-frozen_still s = there_still (in_landing_order (frozen_landings s)) stands
+frozen_still s = there_still _ stands
   where
     stands : (f : Landing) → Member f (in_landing_order (frozen_landings s)) → waits f ≡ false
-    stands f m = let r = in_frozen s.active f (order_member f (frozen_landings s) m) in
-        ap (λ (g : Landing). waits g) r.4 ∙ ap is_none r.3
+    stands f m = let r = in_frozen s.active f (order_member f _ m) in
+        ap (λ g. waits g) r.4 ∙ ap is_none r.3
 
 begins : (s : Situation) (t : Schedule) → IsSound s → IsFeasible s t → BeginsWithFrozen s (shown_plan s t)
 begins s t sound keeps = ap (map frozen_there) (front_is s t sound keeps) ∙ frozen_still s
@@ -331,7 +300,7 @@ module _ (g : Landing → Landing) (same : (f : Landing) → (g f).second ≡ f.
   insert_map : (f : Landing) (fs : List Landing) → insert_landing (g f) (map g fs) ≡ map g (insert_landing f fs)
   insert_map f [] = refl
   insert_map f (x ∷ xs) =
-      ap₂ (λ (a b : ℕ). cond (nat_lt a b) (g x ∷ insert_landing (g f) (map g xs)) (g f ∷ g x ∷ map g xs))
+      ap₂ (λ a b. cond (nat_lt a b) (g x ∷ insert_landing (g f) (map g xs)) (g f ∷ g x ∷ map g xs))
       (same x) (same f) ∙ go (nat_lt x.second f.second) (insert_map f xs)
     where
       go : (b : Bool) → insert_landing (g f) (map g xs) ≡ map g (insert_landing f xs) →
@@ -342,15 +311,14 @@ module _ (g : Landing → Landing) (same : (f : Landing) → (g f).second ≡ f.
 
   order_map : (fs : List Landing) → in_landing_order (map g fs) ≡ map g (in_landing_order fs)
   order_map [] = refl
-  order_map (f ∷ fs) = ap (insert_landing (g f)) (order_map fs) ∙ insert_map f (in_landing_order fs)
+  order_map (f ∷ fs) = ap (insert_landing (g f)) (order_map fs) ∙ insert_map f _
 
   there_map : ((f : Landing) → (g f).flight.callsign ≡ f.flight.callsign) → (fs : List Landing)
       → map frozen_there (map shown_landing (map g fs)) ≡ map frozen_there (map shown_landing fs)
   there_map names [] = refl
-  there_map names (f ∷ fs) = ap₂ (λ (l : ShownLanding) (ls : List ShownLanding). l ∷ ls)
-      (ap₂ (λ (c : Callsign) (n : ℕ). (let l : ShownLanding = record { callsign = c; second = n; frozen = true } in l))
-      (names f) (same f))
-      (there_map names fs)
+  there_map names (f ∷ fs) = ap₂ (λ l ls. l ∷ ls)
+      (ap₂ (λ c n. (let l : ShownLanding = record { callsign = c; second = n; frozen = true } in l))
+      (names f) (same f)) (there_map names fs)
 
 landings_after : (g : Landing → Active) (xs : List Active) (ts : Schedule)
     → landings (map g (landings xs ts)) ts ≡ map (λ f. landing (g f) f.second) (landings xs ts)
@@ -361,21 +329,10 @@ landings_after g (x ∷ xs) (t ∷ ts) = ap (λ l. landing (g (landing x t)) t �
 
 same_name : (a : Aerodrome) (h : ℕ) (all : List Landing) (f : Landing)
     → (after_clock a h all f).flight.callsign ≡ f.flight.callsign
-same_name a h all f = go (freezes h f) (waits f)
-  where
-    freezing : Active
-    freezing = record { flight = f.flight; frozen = Some f.second; passed = 0 }
-
-    passing : Active
-    passing = record { flight = f.flight; frozen = None; passed = passed_after a h all f }
-
-    staying : Active
-    staying = record { flight = f.flight; frozen = f.frozen; passed = f.passed }
-
-    go : (b c : Bool) → (cond b freezing (cond c passing staying)).flight.callsign ≡ f.flight.callsign
-    go true c = refl
-    go false true = refl
-    go false false = refl
+same_name a h all f = elim (cases_Bool (freezes h f)) [
+  | inl e ↦ rw e refl
+  | inr e ↦ elim (cases_Bool (waits f)) [ inl w ↦ rw (e, w) refl | inr w ↦ rw (e, w) refl ]
+]
 
 clock_begins : ClockKeepsPlanLaw → (s : Situation) (t : Schedule) (now : ℕ) → IsSound s → IsFeasible s t
     → refusal s (Clock now) ≡ None → IsSound (situation_after s (Some t) (Clock now)) →
@@ -398,9 +355,7 @@ clock_begins law s t now sound keeps ok next_sound =
 -- no other event moves a frozen landing, or freezes one more
 still : (s next : Situation) (t : Schedule) → frozen_landings next ≡ frozen_landings s
     → BeginsWithFrozen s (shown_plan s t) → BeginsWithFrozen next (shown_plan s t)
-still s next t same h =
-    subst (λ fs. map frozen_there (take (length (map shown_landing (in_landing_order fs)))
-    (shown_plan s t).landings) ≡ map shown_landing (in_landing_order fs)) (sym same) h
+still s next t same h = rw same h
 
 -- the plan shown begins with the frozen landings of the next situation
 pub next_begins : ClockKeepsPlanLaw → (s : Situation) (t : Schedule) (e : Event) → IsSound s
@@ -414,7 +369,7 @@ next_begins law s t (Cancel c) sound keeps ok next = still s
     (frozen_cancelled c s.active (named_waits s c sound ok)) (begins s t sound keeps)
 next_begins law s t (Add f) sound keeps ok next =
     still s (record s { active = s.active ++ newcomer f ∷ [] }) t
-    (filter_map-append (λ a. option_map (landing a) a.frozen) s.active (newcomer f ∷ [])
+    (filter_map-append (λ a. option_map _ a.frozen) s.active (newcomer f ∷ [])
     ∙ append-nil (frozen_landings s)) (begins s t sound keeps)
 next_begins law s t (Clock now) sound keeps ok next = clock_begins law s t now sound keeps ok next
 next_begins law s t e sound keeps ok next = begins s t sound keeps

@@ -1,8 +1,9 @@
 -- What the frozen flights leave to the waiting ones: the last landing of all, and the delay.
-use Rattle.std.proofs.Common.{◌≡◌, ℕ, ◌+◌, ◌-◌, ◌*◌, ◌<◌, ◌≤◌, Bool, true, false, cond, List, [], ◌∷◌, length, filter}
-use Rattle.std.proofs.Common.{Option, Some, None, nat_lt, inl, inr, refl, sym, ap, subst, ◌∙◌, arith}
-use Rattle.std.specs.Prelude.{All, MatchOption, ⊤, IsTrue, filter_map, option_map, sum_by, is_none}
-use Rattle.std.specs.List.{cons_option}
+use Rattle.std.proofs.lemmas.Bool.{cases_Bool}
+use Rattle.landing_rules.specs.shared.Members.{cases_option}
+use Rattle.std.proofs.Common.{◌≡◌, ℕ, ◌+◌, ◌-◌, ◌*◌, ◌<◌, ◌≤◌, cond, List, [], ◌∷◌, length, filter}
+use Rattle.std.proofs.Common.{Option, Some, None, nat_lt, inl, inr, refl, sym, ap, ◌∙◌, arith}
+use Rattle.std.specs.Prelude.{All, MatchOption, ⊤, IsTrue, sum_by, is_none}
 use Rattle.std.proofs.Math.Nat.{mul-le-mul_right}
 use Rattle.std.proofs.lemmas.Bool.{ltb-false, le-ltb}
 use Rattle.std.proofs.lemmas.List.Elements.{All-head, All-tail, All-cons, All-nil}
@@ -18,11 +19,8 @@ use Rattle.landing_rules.specs.Sound.{IsSound, IsGoodFlight}
 use Rattle.landing_rules.specs.shared.Counting.{Member}
 use Rattle.landing_joint.specs.shared.LandingsInOrder.{order_rises}
 use Rattle.landing_joint.specs.shared.OpenDays.{open_in_days}
-use Rattle.sequencer.specs.Frozen.{later_at, latest, frozen_delay, delay_of, HasSmallDelay}
+use Rattle.sequencer.specs.Frozen.{frozen_of, later_at, latest, frozen_delay, delay_of, HasSmallDelay}
 use Rattle.sequencer.proofs.Rising.{Climbs}
-
-abbrev frozen_of : List Active → List Landing
-frozen_of xs = filter_map (λ a. option_map (landing a) a.frozen) xs
 
 -- ---- the last landing
 
@@ -35,43 +33,25 @@ behind c u g (f ∷ rest) h = behind c u f rest (λ y m. h y (inr m))
 
 last_behind : (g f : Landing) (all : List Landing) → last_of (g ∷ insert_landing f all) ≡ last_of (insert_landing f all)
 last_behind g f [] = refl
-last_behind g f (x ∷ rest) = go (nat_lt x.second f.second)
-  where
-    go : (b : Bool) → last_of (g ∷ cond b (x ∷ insert_landing f rest) (f ∷ x ∷ rest)) ≡ last_of
-        (cond b (x ∷ insert_landing f rest) (f ∷ x ∷ rest))
-    go true = refl
-    go false = refl
+last_behind g f (x ∷ rest) = elim (cases_Bool (nat_lt x.second f.second)) [ inl e ↦ rw e refl | inr e ↦ rw e refl ]
 
 last_inserted : (f : Landing) (all : List Landing) → Climbs (λ g. g.second) all
     → last_of (insert_landing f all) ≡ later_at f.flight.category (Some f.second) (last_of all)
 last_inserted f [] c = refl
-last_inserted f (g ∷ []) c = go (nat_lt g.second f.second)
-  where
-    go : (b : Bool) → last_of (cond b (g ∷ f ∷ []) (f ∷ g ∷ [])) ≡ cond b (Some (f.second, f.flight.category))
-        (Some (g.second, g.flight.category))
-    go true = refl
-    go false = refl
-last_inserted f (g ∷ h ∷ rest) c = go (nat_lt g.second f.second) refl (last_inserted f (h ∷ rest) c.1)
-  where
-    go : (b : Bool) → nat_lt g.second f.second ≡ b
-        → last_of (insert_landing f (h ∷ rest)) ≡ later_at f.flight.category (Some f.second) (last_of (h ∷ rest)) →
-        last_of (cond b (g ∷ insert_landing f (h ∷ rest)) (f ∷ g ∷ h ∷ rest)) ≡ later_at f.flight.category
-        (Some f.second) (last_of (h ∷ rest))
-    go true e ih = last_behind g f (h ∷ rest) ∙ ih
-    go false e ih =
-        let le = ltb-false g.second f.second e in
-        sym (behind f.flight.category f.second h rest (λ y m. let n = c.0 y m in omega arith))
+last_inserted f (g ∷ []) c = elim (cases_Bool (nat_lt g.second f.second)) [ inl e ↦ rw e refl | inr e ↦ rw e refl ]
+last_inserted f (g ∷ h ∷ rest) c = elim (cases_Bool (nat_lt g.second f.second)) [
+  | inl e ↦ rw e (last_behind g f (h ∷ rest) ∙ last_inserted f (h ∷ rest) c.1)
+  | inr e ↦
+      let le = ltb-false g.second f.second e in
+      rw e (sym (behind _ f.second h rest (λ y m. omega (arith, c.0 y m))))
+]
 
 pub last_is : (xs : List Active) → latest xs ≡ last_of (in_landing_order (frozen_of xs))
 last_is [] = refl
-last_is (x ∷ xs) = go x.frozen (last_is xs)
-  where
-    go : (o : Option ℕ) → latest xs ≡ last_of (in_landing_order (frozen_of xs))
-        → later_at x.flight.category o (latest xs) ≡ last_of
-        (in_landing_order (cons_option (option_map (landing x) o) (frozen_of xs)))
-    go None ih = ih
-    go (Some t) ih = ap (later_at x.flight.category (Some t)) ih
-        ∙ sym (last_inserted (landing x t) (in_landing_order (frozen_of xs)) (order_rises (frozen_of xs)))
+last_is (x ∷ xs) = elim (cases_option x.frozen) [
+  | inl none ↦ rw none (last_is xs)
+  | inr t ↦ rw t.1 (ap (later_at _ (Some t.0)) (last_is xs) ∙ sym (last_inserted _ _ (order_rises (frozen_of xs))))
+]
 
 abbrev IsLow : ℕ → Option (ℕ × Category) → Type 0
 IsLow h o = MatchOption o ⊤ (λ l. l.0 < h)
@@ -79,38 +59,32 @@ IsLow h o = MatchOption o ⊤ (λ l. l.0 < h)
 later_low : (h : ℕ) (c : Category) (t : ℕ) (o : Option (ℕ × Category)) → t < h → IsLow h o
     → IsLow h (later_at c (Some t) o)
 later_low h c t None lt o = lt
-later_low h c t (Some n) lt o = go (nat_lt n.0 t)
-  where
-    go : (b : Bool) → IsLow h (cond b (Some (t, c)) (Some n))
-    go true = lt
-    go false = o
+later_low h c t (Some n) lt o = elim (cases_Bool (nat_lt n.0 t)) [ inl e ↦ rw e lt | inr e ↦ rw e o ]
 
 latest_low : (h : ℕ) (xs : List Active) → All (λ (f : Landing). f.second < h) (frozen_of xs) → IsLow h (latest xs)
 latest_low h [] all = tt
-latest_low h (x ∷ xs) all = go x.frozen (latest_low h xs) all
-  where
-    go : (o : Option ℕ) → (All (λ (f : Landing). f.second < h) (frozen_of xs) → IsLow h (latest xs))
-        → All (λ (f : Landing). f.second < h) (cons_option (option_map (landing x) o) (frozen_of xs))
-        → IsLow h (later_at x.flight.category o (latest xs))
-    go None ih all = ih all
-    go (Some t) ih all = later_low h x.flight.category t (latest xs)
-        (All-head (λ (f : Landing). f.second < h) (landing x t) (frozen_of xs) all)
-        (ih (All-tail (λ (f : Landing). f.second < h) (landing x t) (frozen_of xs) all))
+latest_low h (x ∷ xs) all = elim (cases_option x.frozen) [
+  | inl none ↦ rw none (latest_low h xs (rw none at all))
+  | inr t ↦
+      let here = rw t.1 at all in
+      rw t.1 (later_low h _ t.0 (latest xs) (All-head (λ (f : Landing). f.second < h) _ (frozen_of xs) here)
+      (latest_low h xs (All-tail (λ (f : Landing). f.second < h) _ (frozen_of xs) here)))
+]
 
 pub last_low : (h : ℕ) (xs : List Active) → All (λ (f : Landing). f.second < h) (frozen_of xs)
     → MatchOption (last_of (in_landing_order (frozen_of xs))) ⊤ (λ l. l.0 < h)
-last_low h xs all = subst (IsLow h) (last_is xs) (latest_low h xs all)
+last_low h xs all = rw (last_is xs) at (latest_low h xs all)
 
 -- ---- the delay
 
 pub delay_is : (xs : List Active) → sum_by delay_of xs ≡ sum_by delay (frozen_of xs)
 delay_is [] = refl
-delay_is (x ∷ xs) = sum_by-cons delay_of x xs ∙ go x.frozen (delay_is xs)
-  where
-    go : (o : Option ℕ) → sum_by delay_of xs ≡ sum_by delay (frozen_of xs)
-        → frozen_delay x o + sum_by delay_of xs ≡ sum_by delay (cons_option (option_map (landing x) o) (frozen_of xs))
-    go None ih = omega arith
-    go (Some t) ih = ap (λ n. delay (landing x t) + n) ih ∙ sym (sum_by-cons delay (landing x t) (frozen_of xs))
+delay_is (x ∷ xs) = elim (cases_option x.frozen) [
+  | inl none ↦ sum_by-cons delay_of x xs ∙ rw none (omega (arith, delay_is xs))
+  | inr t ↦
+      let sum = rw t.1 at (sum_by-cons delay (landing x t.0) (frozen_of xs)) in
+      sum_by-cons delay_of x xs ∙ rw t.1 (omega (arith, delay_is xs, sum))
+]
 
 abbrev IsOpenLanding : List Span → Landing → Type 0
 IsOpenLanding closures f = IsTrue (is_open f.flight.windows closures f.second)
@@ -119,22 +93,19 @@ pub small_delays : (closures : List Span) (xs : List Active) → All (λ (a : Ac
     → All (λ (f : Landing). IsTrue (is_open f.flight.windows closures f.second)) (frozen_of xs) → All HasSmallDelay xs
 small_delays closures [] good shown = All-nil HasSmallDelay
 small_delays closures (x ∷ xs) good shown =
-    go x.frozen refl (small_delays closures xs (All-tail (λ (a : Active). IsGoodFlight a.flight) x xs good)) shown
-  where
-    here : IsGoodFlight x.flight
-    here = All-head (λ (a : Active). IsGoodFlight a.flight) x xs good
-
-    at : (o : Option ℕ) → x.frozen ≡ o → MatchOption o ⊤ (λ t. t ≤ last_second) → HasSmallDelay x
-    at o e m = record { weight = here.weight.1; second = subst (λ o. MatchOption o ⊤ (λ t. t ≤ last_second)) (sym e) m }
-
-    go : (o : Option ℕ) → x.frozen ≡ o → (All (IsOpenLanding closures) (frozen_of xs) → All HasSmallDelay xs)
-        → All (IsOpenLanding closures) (cons_option (option_map (landing x) o) (frozen_of xs))
-        → All HasSmallDelay (x ∷ xs)
-    go None e ih shown = All-cons HasSmallDelay x xs (at None e tt) (ih shown)
-    go (Some t) e ih shown =
-        let first = All-head (IsOpenLanding closures) (landing x t) (frozen_of xs) shown in
-        All-cons HasSmallDelay x xs (at (Some t) e (open_in_days x.flight.windows closures t here.windows.spans first))
-        (ih (All-tail (IsOpenLanding closures) (landing x t) (frozen_of xs) shown))
+    let here = All-head (λ (a : Active). IsGoodFlight a.flight) x xs good in
+    let rest = small_delays closures xs (All-tail (λ (a : Active). IsGoodFlight a.flight) x xs good) in
+    elim (cases_option x.frozen) [
+      | inl none ↦ All-cons HasSmallDelay x xs (record { weight = here.weight.1; second = rw none tt })
+          (rest (rw none at shown))
+      | inr t ↦
+          let first = rw t.1 at shown in
+          All-cons HasSmallDelay x xs (record {
+            weight = here.weight.1;
+            second = rw t.1 (open_in_days x.flight.windows closures t.0 here.windows.spans
+                (All-head (IsOpenLanding closures) _ (frozen_of xs) first));
+          }) (rest (All-tail (IsOpenLanding closures) _ (frozen_of xs) first))
+    ]
 
 -- of one flight at most 100 times each second of the two days, and nothing where it waits
 one_low : (a : Active) → HasSmallDelay a → delay_of a + 17279900 * cond {A = ℕ} (is_waiting a) 1 0 ≤ 17279900
@@ -152,15 +123,14 @@ one_low a h = go a.frozen h.second
 all_low : (xs : List Active) → All HasSmallDelay xs
     → sum_by delay_of xs + 17279900 * length (filter is_waiting xs) ≤ 17279900 * length xs
 all_low [] h = omega arith
-all_low (x ∷ xs) h = go (is_waiting x) (one_low x (All-head HasSmallDelay x xs h))
-    (all_low xs (All-tail HasSmallDelay x xs h))
-  where
-    go : (b : Bool) → delay_of x + 17279900 * cond {A = ℕ} b 1 0 ≤ 17279900
-        → sum_by delay_of xs + 17279900 * length (filter is_waiting xs) ≤ 17279900 * length xs →
-        sum_by delay_of (x ∷ xs) + 17279900 * length (cond b (x ∷ filter is_waiting xs) (filter is_waiting xs))
-        ≤ 17279900 * length (x ∷ xs)
-    go true one ih = let c = sum_by-cons delay_of x xs in omega arith
-    go false one ih = let c = sum_by-cons delay_of x xs in omega arith
+all_low (x ∷ xs) h =
+    let one = one_low x (All-head HasSmallDelay x xs h) in
+    let rest = all_low xs (All-tail HasSmallDelay x xs h) in
+    let sum = sum_by-cons delay_of x xs in
+    elim (cases_Bool (is_waiting x)) [
+      | inl e ↦ rw e (omega (arith, rw e at one, rest, sum))
+      | inr e ↦ rw e (omega (arith, rw e at one, rest, sum))
+    ]
 
 pub base_low : (s : Situation) → IsSound s → frozen_cost s.aerodrome.objective (frozen_landings s) + 17279900 * length
     (waiting s) ≤ 17279900 * length s.active
@@ -171,5 +141,5 @@ base_low s sound = go s.aerodrome.objective
 
     go : (o : Objective) → frozen_cost o (frozen_landings s) + 17279900 * length
         (waiting s) ≤ 17279900 * length s.active
-    go Makespan = let a = all_low s.active small in omega arith
-    go Delay = let a = all_low s.active small in let e = delay_is s.active in omega arith
+    go Makespan = omega (arith, all_low s.active small)
+    go Delay = let a = all_low s.active small in omega (arith, delay_is s.active)

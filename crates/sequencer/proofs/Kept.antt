@@ -18,23 +18,21 @@ use Rattle.sequencer.proofs.Fronts.{next_begins}
 feasible_shown : (s : Situation) (plan : Option Schedule) → IsPlanShown s plan → (t : Schedule)
     → plan ≡ Some t → IsFeasible s t
 feasible_shown s None h t e = let w : None ≡ Some t = e in absurd (cc)
-feasible_shown s (Some u) h t e = subst (IsFeasible s) (same_Some u t e) h.0.feasible
+feasible_shown s (Some u) h t e = rw (same_Some u t e) at h.0.feasible
 
 pub next_sound : EventKeepsSoundLaw → (old : State) (e : Event) (next : Situation) → IsSoundState old
     → IsGoodEvent e → refusal old.situation e ≡ None → next ≡ situation_after old.situation old.plan e → IsSound next
 next_sound law old e next sound good accepted is =
-    subst IsSound (sym is) (law old.situation old.plan e sound.situation good
+    rw is (law old.situation old.plan e sound.situation good
     (feasible_shown old.situation old.plan sound.shown) accepted)
 
-pub next_in_step : EventKeepsSoundLaw → (old : State) (plan : Option ShownPlan) (p : Problem)
-    (k : ℕ) (e : Event) (next : Situation) (schedule : Option Schedule) (shown : Option ShownPlan) (q : Problem) (j : ℕ)
-    →
-    IsInStep old plan p k → IsGoodEvent e → refusal old.situation e ≡ None
-    → next ≡ situation_after old.situation old.plan e →
-    IsProblemOf next q → IsPlanShown next schedule → shown ≡ plan_shown (record { situation = next; plan = schedule })
-    → j ≡ k → IsInStep (record { situation = next; plan = schedule }) shown q j
+pub next_in_step : EventKeepsSoundLaw → (old : State) (plan : Option ShownPlan) (p : Problem) (k : ℕ) (e : Event)
+    (next : Situation) (schedule : Option Schedule) (shown : Option ShownPlan) (q : Problem) (j : ℕ) → IsInStep old plan
+    p k → IsGoodEvent e → refusal old.situation e ≡ None → next ≡ situation_after old.situation old.plan e → IsProblemOf
+    next q → IsPlanShown next schedule → shown ≡ plan_shown (record { situation = next; plan = schedule }) → j ≡ k
+    → IsInStep (record { situation = next; plan = schedule }) shown q j
 next_in_step law old plan p k e next schedule shown q j h good accepted is of best seen same =
-    let a : next.aerodrome ≡ old.situation.aerodrome = ap (λ (s : Situation). s.aerodrome) is
+    let a : next.aerodrome ≡ old.situation.aerodrome = ap (λ s. s.aerodrome) is
     ∙ aerodrome_stays old.situation old.plan e in
     record {
       sound = record { situation = next_sound law old e next h.sound good accepted is; shown = best };
@@ -45,12 +43,11 @@ next_in_step law old plan p k e next schedule shown q j h good accepted is of be
     }
 
 -- the plan shown begins with the frozen landings of the next situation
-pub next_front : ClockKeepsPlanLaw → (old : State) (shown : Option ShownPlan) (p : Problem)
-    (k : ℕ) (e : Event) (next : Situation) (plan : ShownPlan) → IsInStep old shown p k → refusal old.situation e ≡ None
-    →
-    next ≡ situation_after old.situation old.plan e → IsSound next → shown ≡ Some plan → BeginsWithFrozen next plan
+pub next_front : ClockKeepsPlanLaw → (old : State) (shown : Option ShownPlan) (p : Problem) (k : ℕ) (e : Event)
+    (next : Situation) (plan : ShownPlan) → IsInStep old shown p k → refusal old.situation e ≡ None → next
+    ≡ situation_after old.situation old.plan e → IsSound next → shown ≡ Some plan → BeginsWithFrozen next plan
 next_front law old shown p k e next plan h accepted is sound seen =
-    rw is (front old.plan h.sound.shown (sym h.shown ∙ seen) (subst IsSound is sound))
+    rw is (front old.plan h.sound.shown (sym h.shown ∙ seen) (rw is at sound))
   where
     front : (t : Option Schedule) → IsPlanShown old.situation t → option_map (shown_plan old.situation) t ≡ Some plan
         → IsSound (situation_after old.situation t e) → BeginsWithFrozen (situation_after old.situation t e) plan

@@ -20,8 +20,7 @@ module _ (all : List Active) where
       (i j : ℕ) → MustPrecede pairs i j ↔ (MustPrecede start i j ⊎ ((j ≡ next) × (i < first) × IsListed all i j))
 
   pub none_added : (pairs : List ℕ) (next : ℕ) → Added pairs pairs next 1
-  none_added pairs next i j =
-      (λ m. inl m, λ s. elim s [ inl m ↦ m | inr l ↦ absurd (let a = l.2.first in let b = l.1 in omega arith) ])
+  none_added pairs next i j = (inl, omega arith)
 
   pub one_added : (start old new : List ℕ) (next first : ℕ) → Added start old next first → IsListed all first next
       → ((i j : ℕ) → MustPrecede new i j ↔ (MustPrecede old i j ⊎ ((i ≡ first) × (j ≡ next))))
@@ -30,15 +29,11 @@ module _ (all : List Active) where
     where
       there : MustPrecede new i j → MustPrecede start i j ⊎ ((j ≡ next) × (i < first + 1) × IsListed all i j)
       there m = elim ((step i j).0 m) [
-        | inl o ↦ elim ((was i j).0 o) [
-          | inl s ↦ inl s
-          | inr l ↦ inr (l.0, (let a = l.1 in omega arith), l.2)
-        ]
+        | inl o ↦ elim ((was i j).0 o) [ inl s ↦ inl s | inr l ↦ inr (l.0, (let a = l.1 in omega arith), l.2) ]
         | inr e ↦ inr (
           e.1,
           (let a = e.0 in omega arith),
-          subst (λ x. IsListed all x j) (sym e.0)
-              (subst (λ y. IsListed all first y) (sym e.1) listed),
+          subst (λ x. IsListed all x j) (sym e.0) (subst (λ y. IsListed all first y) (sym e.1) listed),
         )
       ]
 
@@ -74,8 +69,7 @@ module _ (all : List Active) where
     λ m. elim ((was i j).0 m) [ inl s ↦ inl s | inr l ↦ inr (l.0, l.2) ],
     λ s. elim s [
       | inl m ↦ (was i j).1 (inl m)
-      | inr l ↦
-          (was i j).1 (inr (l.0, (let a = l.1.first in omega arith), l.1))
+      | inr l ↦ (was i j).1 (inr (l.0, (let a = l.1.first in omega arith), l.1))
     ],
   )
 
@@ -84,7 +78,7 @@ module _ (all : List Active) where
   Below pairs next = (i j : ℕ) → MustPrecede pairs i j ↔ ((j < next) × IsListed all i j)
 
   pub none_below : (pairs : List ℕ) → ((i j : ℕ) → MustPrecede pairs i j → ⊥) → Below pairs 1
-  none_below pairs none i j = (λ m. absurd (none i j m), λ l. absurd (let a = l.1.next in let b = l.0 in omega arith))
+  none_below pairs none i j = (λ m. absurd (none i j m), omega arith)
 
   pub one_below : (old new : List ℕ) (next : ℕ) → Below old next
       → ((i j : ℕ) → MustPrecede new i j ↔ (MustPrecede old i j ⊎ ((j ≡ next) × IsListed all i j)))
@@ -92,28 +86,22 @@ module _ (all : List Active) where
   one_below old new next was step i j = (
     λ m. elim ((step i j).0 m) [
       | inl o ↦ (let l = (was i j).0 o in ((let a = l.0 in omega arith), l.1))
-      | inr l ↦
-          ((let a = l.0 in omega arith), l.1)
+      | inr l ↦ ((let a = l.0 in omega arith), l.1)
     ],
     λ l. elim (cases_lt j next) [
       | inl lt ↦ (step i j).1 (inl ((was i j).1 (lt, l.1)))
-      | inr ge ↦
-          (step i j).1 (inr ((let a = l.0 in omega arith), l.1))
+      | inr ge ↦ (step i j).1 (inr ((let a = l.0 in omega arith), l.1))
     ],
   )
 
   pub all_below : (pairs : List ℕ) (next : ℕ) → length all < next → Below pairs next → (i j : ℕ)
       → MustPrecede pairs i j ↔ IsListed all i j
-  all_below pairs next past was i j = (λ m. ((was i j).0 m).1, λ l. (was i j).1 ((let a = l.next in omega arith), l))
+  all_below pairs next past was i j = (λ m. ((was i j).0 m).1, grind arith)
 
   -- so they are those of the rules
   pub between : (pairs : List ℕ) (n : ℕ) → n ≡ length all → ((i j : ℕ) → MustPrecede pairs i j ↔ IsListed all i j)
       → AreBetweenRanks n pairs
-  between pairs n e is i j m =
-      let l = (is i j).0 ((must_precede_decides pairs i j).0 m) in
-      let a = l.first in
-      let b = l.next in
-      (omega arith, omega arith, omega arith, omega arith)
+  between pairs n e is i j m = grind arith
 
   listed_is : (i j : ℕ) (a b : Active) → slice_get all i ≡ Some a → slice_get all j ≡ Some b
       → IsListed all (i + 1) (j + 1) ↔ IsTrue (lists b.flight a.flight.callsign)
@@ -122,16 +110,11 @@ module _ (all : List Active) where
       let q : j + 1 - 1 ≡ j = omega arith in
       let f : numbered all (i + 1 - 1) ≡ a = ap (numbered all) p ∙ get_or_from_slice_get all i a nobody x in
       let g : numbered all (j + 1 - 1) ≡ b = ap (numbered all) q ∙ get_or_from_slice_get all j b nobody y in
-      let same = ap₂ (λ (u v : Active). lists u.flight v.flight.callsign) g f in
+      let same = ap₂ (λ u v. lists u.flight v.flight.callsign) g f in
       let li = slice_get_within all i a x in
       let lj = slice_get_within all j b y in (
-        λ l. subst IsTrue same l.lists,
-        λ t. record {
-          first = (omega arith, omega arith);
-          next =
-              (omega arith, omega arith);
-          lists = subst IsTrue (sym same) t;
-        },
+        λ l. rw same at l.lists,
+        λ t. record { first = (omega arith, omega arith); next = (omega arith, omega arith); lists = rw same t },
       )
 
   pub predecessors : (pairs : List ℕ) → ((i j : ℕ) → MustPrecede pairs i j ↔ IsListed all i j)
@@ -144,26 +127,20 @@ module _ (all : List Active) where
       (λ t. l.0 (m.0 (d.0 t)), λ t. d.1 (m.1 (l.1 t))) in
       let y : Decides (lists b.flight a.flight.callsign) (IsTrue (lists b.flight a.flight.callsign)) =
       (λ t. t, λ t. t) in
-      same_from_decides (must_precede pairs (i + 1) (j + 1)) (lists b.flight a.flight.callsign) x y
+      same_from_decides (must_precede pairs (i + 1) (j + 1)) (lists b.flight _) x y
 
 -- what a rank lists is what its flight lists
-pub listed_by : {X : Type 0} (g : X → Active) (items : List X) (first next : ℕ) (x y : X)
-    → (1 ≤ first) × (first ≤ length items) → (1 ≤ next) × (next ≤ length items) → x ≡ get_or items (first - 1) x
-    → y ≡ get_or items (next - 1) y →
-    IsListed (map g items) first next ↔ IsTrue (lists (g y).flight (g x).flight.callsign)
+pub listed_by : {X : Type 0} (g : X → Active) (items : List X) (first next : ℕ) (x y : X) → (1 ≤ first)
+    × (first ≤ length items) → (1 ≤ next) × (next ≤ length items) → x ≡ get_or items (first - 1) x → y
+    ≡ get_or items (next - 1) y → IsListed (map g items) first next ↔ IsTrue (lists (g y).flight (g x).flight.callsign)
 listed_by g items first next x y f n ex ey =
-    let lf : first - 1 < length items = let a = f.0 in let b = f.1 in omega arith in
-    let ln : next - 1 < length items = let a = n.0 in let b = n.1 in omega arith in
-    let at_first : numbered (map g items) (first - 1) ≡ g x =
-    get_or-map g items (first - 1) x nobody lf ∙ ap g (sym ex) in
+    let lf : first - 1 < length items = let a = f.0 in omega (arith, f.1) in
+    let ln : next - 1 < length items = let a = n.0 in omega (arith, n.1) in
+    let at_first : numbered (map g items) (first - 1) ≡ g x = get_or-map g items (first - 1) x nobody lf
+    ∙ ap g (sym ex) in
     let at_next : numbered (map g items) (next - 1) ≡ g y = get_or-map g items (next - 1) y nobody ln ∙ ap g (sym ey) in
-    let same = ap₂ (λ (u v : Active). lists u.flight v.flight.callsign) at_next at_first in
+    let same = ap₂ (λ u v. lists u.flight v.flight.callsign) at_next at_first in
     let long = length-map items g in (
-      λ l. subst IsTrue same l.lists,
-      λ t. record {
-        first = (f.0, (let a = f.1 in omega arith));
-        next =
-            (n.0, (let a = n.1 in omega arith));
-        lists = subst IsTrue (sym same) t;
-      },
+      λ l. rw same at l.lists,
+      λ t. record { first = (f.0, (omega (arith, f.1))); next = (n.0, (omega (arith, n.1))); lists = rw same t },
     )

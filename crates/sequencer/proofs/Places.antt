@@ -16,11 +16,11 @@ use Rattle.sequencer.proofs.Ranks.{rank_length}
 pub filter_more : (test : Active → Bool) (xs : List Active) (i : ℕ) (x : Active) (found : List Active)
     → i < length xs → x ≡ get_or xs i x → found ≡ filter test (take i xs) →
     cond (test x) (found ++ x ∷ []) found ≡ filter test (take (i + 1) xs)
-filter_more test xs i x found lt is e = sym (ap (filter test) here ∙ filter-append test (take i xs) (x ∷ [])
+filter_more test xs i x found lt is e = sym (ap (filter test) here ∙ filter-append test _ (x ∷ [])
     ∙ ap (λ l. l ++ filter test (x ∷ [])) (sym e) ∙ go (test x))
   where
     here : take (i + 1) xs ≡ take i xs ++ x ∷ []
-    here = take_more xs i x lt ∙ ap (λ (b : Active). take i xs ++ b ∷ []) (sym is)
+    here = take_more xs i x lt ∙ ap (λ b. take i xs ++ b ∷ []) (sym is)
 
     go : (b : Bool) → found ++ cond b (x ∷ []) [] ≡ cond b (found ++ x ∷ []) found
     go true = refl
@@ -32,8 +32,7 @@ pub places_at : {X : Type 0} (flights : List Active) (place : X → ℕ) (flight
     → map (slice_get flights) (map place ps) ≡ map Some (map flight ps)
 places_at flights place flight [] all = refl
 places_at flights place flight (p ∷ ps) all =
-    ap₂ (λ (o : Option Active) (l : List (Option Active)). o ∷ l)
-    (All-head (λ p. IsAt flights (place p) (flight p)) p ps all)
+    ap₂ (λ o l. o ∷ l) (All-head (λ p. IsAt flights (place p) (flight p)) p ps all)
     (places_at flights place flight ps (All-tail (λ p. IsAt flights (place p) (flight p)) p ps all))
 
 pub few_ranked : {X : Type 0} (s : Situation) (flight : X → Active) (ranked : List X) → IsSound s
@@ -42,8 +41,7 @@ few_ranked s flight ranked sound is =
     let a = length-map ranked flight in
     let b = ap (length {A = Active}) is in
     let c = rank_length (waiting s) in
-    let few = sound.few_waiting in
-    omega arith
+    omega (arith, sound.few_waiting)
 
 -- the places of flights by rank
 pub by_rank_places : {X : Type 0} (s : Situation) (place : X → ℕ) (flight : X → Active) (ranked : List X)
@@ -51,9 +49,9 @@ pub by_rank_places : {X : Type 0} (s : Situation) (place : X → ℕ) (flight : 
     → map flight ranked ≡ by_rank (filter is_waiting flights) →
     All (λ p. IsAt flights (place p) (flight p)) ranked → places ≡ map place ranked → ArePlacesByRank s places
 by_rank_places s place flight ranked flights places same is at e =
-    ap (map (slice_get s.active)) e ∙ ap (λ (l : List Active). map (slice_get l) (map place ranked)) (sym same)
+    ap (map (slice_get s.active)) e ∙ ap (λ l. map (slice_get l) (map place ranked)) (sym same)
     ∙ places_at flights place flight ranked at
-    ∙ ap (map (λ (a : Active). Some a)) (is ∙ ap (λ (l : List Active). by_rank (filter is_waiting l)) same)
+    ∙ ap (map (λ a. Some a)) (is ∙ ap (λ l. by_rank (filter is_waiting l)) same)
 
 -- a flight that is not frozen waits
 pub waits_where : (o : Option ℕ) (r : Bool) → is_some o ≡ not r → is_none o ≡ r

@@ -50,8 +50,7 @@ module _ (closures : List Span) where
   zip_keys [] [] z = refl
   zip_keys [] (y ∷ ys) z = absurd z
   zip_keys (x ∷ xs) [] z = absurd z
-  zip_keys (x ∷ xs) (y ∷ ys) z = ap₂ (λ (p : ℕ × List ℕ) (l : List (ℕ × List ℕ)). p ∷ l)
-      (ap₂ (λ (e : ℕ) (n : List ℕ). (e, n)) z.0.eta z.0.callsign) (zip_keys xs ys z.1)
+  zip_keys (x ∷ xs) (y ∷ ys) z = ap₂ (λ p l. p ∷ l) (ap₂ (λ e n. (e, n)) z.0.eta z.0.callsign) (zip_keys xs ys z.1)
 
 -- ---- the problem of a sound situation
 
@@ -72,7 +71,7 @@ module _ (s : Situation) (h : Head) (ws : List waits.Waiting) (pairs : List ℕ)
   each_rank = AllZip-long (IsWaitingOf s.closures) R (map waiting_of ws) zip
 
   table_is : h.table ≡ s.aerodrome.table
-  table_is = sym (ap (λ (a : Aerodrome). a.table) of.fixed)
+  table_is = sym (ap (λ a. a.table) of.fixed)
 
   pub posed : IsProblemOf s (seen_problem h ws pairs)
   posed = record {
@@ -91,21 +90,21 @@ module _ (s : Situation) (h : Head) (ws : List waits.Waiting) (pairs : List ℕ)
   long = each_rank ∙ rank_length (waiting s)
 
   good : All (λ (a : Active). IsGoodFlight a.flight) R
-  good = All-permutation (λ (a : Active). IsGoodFlight a.flight) (waiting s) R (rank_permutes (waiting s))
-      (All-filter is_waiting (λ (a : Active). IsGoodFlight a.flight) s.active sound.flights)
+  good = All-permutation (λ a. IsGoodFlight a.flight) (waiting s) R (rank_permutes (waiting s))
+      (All-filter is_waiting (λ a. IsGoodFlight a.flight) s.active sound.flights)
 
   passed_low : All (λ (a : Active). a.passed ≤ s.aerodrome.k) R
-  passed_low = All-permutation (λ (a : Active). a.passed ≤ s.aerodrome.k) (waiting s) R (rank_permutes (waiting s))
-      (All-filter is_waiting (λ (a : Active). a.passed ≤ s.aerodrome.k) s.active sound.passed)
+  passed_low = All-permutation (λ a. a.passed ≤ s.aerodrome.k) (waiting s) R (rank_permutes (waiting s))
+      (All-filter is_waiting (λ a. a.passed ≤ s.aerodrome.k) s.active sound.passed)
 
   keys : map key_of (map waiting_of ws) ≡ map arrival_of R
-  keys = zip_keys s.closures R (map waiting_of ws) zip
+  keys = zip_keys s.closures R _ zip
 
   key_at : (k : ℕ) (d : problems.Waiting) → k < length (map waiting_of ws)
       → key_of (get_or (map waiting_of ws) k d) ≡ arrival_of (get_or R k nobody)
   key_at k d lt =
       let n = each_rank in
-      sym (get_or-map key_of (map waiting_of ws) k d (key_of d) lt) ∙ ap (λ l. get_or l k (key_of d)) keys
+      sym (get_or-map key_of _ k d (key_of d) lt) ∙ ap (λ l. get_or l k (key_of d)) keys
       ∙ get_or-map arrival_of R k nobody (key_of d) (omega arith)
 
   pub well_formed : h.k ≤ 3 → h.horizon ≤ 179999 → IsWellFormed (seen_problem h ws pairs)
@@ -121,16 +120,15 @@ module _ (s : Situation) (h : Head) (ws : List waits.Waiting) (pairs : List ℕ)
     callsigns = λ i j d lt within e.
         let n = each_rank in
         apart_permutes (waiting s) R (rank_permutes (waiting s)) (waiting_apart s sound.callsigns) i j nobody lt
-        (omega arith)
-        (sym (ap (λ (p : ℕ × List ℕ). p.1) (key_at i d (omega arith))) ∙ e
+        (omega arith) (sym (ap (λ (p : ℕ × List ℕ). p.1) (key_at i d (omega arith))) ∙ e
         ∙ ap (λ (p : ℕ × List ℕ). p.1) (key_at j d within));
     between_ranks = posed.between_ranks;
     last_before = subst (λ o. MatchOption o ⊤ (λ l. l.0 < h.horizon)) (sym of.last)
         (subst (λ n. MatchOption (last_of (in_landing_order (frozen_landings s))) ⊤ (λ l. l.0 < n))
         (sym of.horizon) (last_low (horizon s) s.active sound.frozen_before));
     near_horizon = near;
-    estimates = zip_all s.closures (λ x. IsGoodFlight x.flight) (λ w. w.eta ≤ last_second)
-        (λ x w z g. rw z.eta g.eta) R (map waiting_of ws) zip good;
+    estimates = zip_all s.closures (λ x. IsGoodFlight x.flight) (λ w. w.eta ≤ last_second) (λ x w z g. rw z.eta g.eta) R
+        (map waiting_of ws) zip good;
     weights = zip_all s.closures (λ x. IsGoodFlight x.flight) (λ w. (1 ≤ w.weight) × (w.weight ≤ 100))
         (λ x w z g. rw z.weight g.weight) R (map waiting_of ws) zip good;
     passed = zip_all s.closures (λ x. x.passed ≤ s.aerodrome.k) (λ w. w.passed ≤ h.k) (λ x w z low. let k =

@@ -1,8 +1,8 @@
 -- The seconds of a landing order, pair by pair, and as a landing trail with the latest first.
 use Rattle.std.proofs.Common.{◌≡◌, ℕ, zero, suc, ◌+◌, ◌<◌, ◌≤◌, ◌⊎◌, inl, inr, true, List, [], ◌∷◌, ◌++◌, length}
-use Rattle.std.proofs.Common.{get_or, take, drop, reverse, refl, sym, ap, subst, ◌∙◌, arith, le_trans}
+use Rattle.std.proofs.Common.{get_or, take, drop, reverse, refl, ap, ◌∙◌, arith, le_trans}
 use Rattle.std.proofs.lemmas.Bool.{cases_eq}
-use Rattle.std.proofs.lemmas.List.{length-reverse}
+use Rattle.std.proofs.lemmas.List.{length-reverse, take_all}
 use Rattle.landing_rules.specs.Flights.{Schedule}
 use Rattle.landing_rules.specs.Problem.{Problem}
 use Rattle.wake_table.specs.declared.category.Category.{Category}
@@ -15,10 +15,6 @@ use Rattle.cps_theory.specs.laws.OrderLoops.{front_more, front_whole, in_reverse
 use Rattle.cps_theory.specs.laws.RanksOfList.{all_ranks}
 use Rattle.landing_joint.specs.RankedProblem.{no_waiting, ranked, start_at, apart_at}
 use Rattle.extract_plan.specs.Orders.{IsWholeOrder, LandsInOrder}
-
-pub take-whole : {X : Type 0} (xs : List X) → take (length xs) xs ≡ xs
-take-whole [] = refl
-take-whole (x ∷ xs) = ap (λ l. x ∷ l) (take-whole xs)
 
 pub front_step : (order : List ℕ) (i : ℕ) → i < length order
     → reverse (take (suc i) order) ≡ get_or order i 0 ∷ reverse (take i order)
@@ -36,7 +32,7 @@ module _ (p : Problem) where
 
   next_low : (l u r t : ℕ) → start_at p r ≤ t → (1 ≤ l → u + apart_at p l r ≤ t) → next_from (ranked p) l u r ≤ t
   next_low zero u r t s a = s
-  next_low (suc l) u r t s a = let b = a (omega arith) in omega arith
+  next_low (suc l) u r t s a = omega (arith, a (omega arith))
 
   pub front_lands : (order : List ℕ) (t : Schedule) → IsWholeOrder (length p.flights) order
       → LandsInOrder p order t → (i : ℕ) → i ≤ length order → Trail (by_seconds t (reverse (take i order)))
@@ -45,8 +41,7 @@ module _ (p : Problem) where
       let r = get_or order i 0 in
       let q : IsRank (length p.flights) r = w.ranks i 0 (omega arith) in
       let more : reverse (take (suc i) order) ≡ r ∷ reverse (take i order) = front_step order i (omega arith) in
-      subst (λ rs. Trail (by_seconds t rs)) (sym more)
-      (l.open_seconds r q, behind i (omega arith), front_lands order t w l i (omega arith))
+      rw more (l.open_seconds r q, behind i (omega arith), front_lands order t w l i (omega arith))
     where
       behind : (i : ℕ) → i < length order
           → next_from (ranked p) (latest_landing (by_seconds t (reverse (take i order)))).0
@@ -56,14 +51,12 @@ module _ (p : Problem) where
           let r = get_or order (suc j) 0 in
           let q = get_or order j 0 in
           let more : reverse (take (suc j) order) ≡ q ∷ reverse (take j order) = front_step order j (omega arith) in
-          subst (λ rs. next_from (ranked p) (latest_landing (by_seconds t rs)).0
-          (latest_landing (by_seconds t rs)).1 r ≤ of_rank 0 t r) (sym more)
-          (next_low q (of_rank 0 t q) r (of_rank 0 t r) (l.started r (w.ranks (suc j) 0 lt))
+          rw more (next_low q _ r _ (l.started r (w.ranks (suc j) 0 lt))
           (λ _. l.separated j (suc j) (omega arith) lt))
 
   pub order_lands : (order : List ℕ) (t : Schedule) → IsWholeOrder (length p.flights) order
       → LandsInOrder p order t → Trail (by_seconds t (reverse order))
-  order_lands order t w l = subst (λ rs. Trail (by_seconds t (reverse rs))) (take-whole order)
+  order_lands order t w l = rw (take_all (length order) order (omega arith)) at
       (front_lands order t w l (length order) (omega arith))
 
   -- ---- from the trail to the pairs
@@ -86,47 +79,42 @@ module _ (p : Problem) where
   lands_at : (t : Schedule) (x : ℕ) (rs : List ℕ) → Trail (by_seconds t rs) → In x rs
       → ((ranked p).is_open x (of_rank 0 t x) ≡ true) × (start_at p x ≤ of_rank 0 t x)
   lands_at t x [] l i = absurd i
-  lands_at t x (r ∷ rs) l (inl e) =
-      subst (λ y. ((ranked p).is_open y (of_rank 0 t y) ≡ true) × (start_at p y ≤ of_rank 0 t y)) (sym e)
-      (l.0, le_trans (from_last (latest_landing (by_seconds t rs)).0 (latest_landing (by_seconds t rs)).1 r) l.1)
+  lands_at t x (r ∷ rs) l (inl e) = rw e (l.0, le_trans (from_last _ _ r) l.1)
   lands_at t x (r ∷ rs) l (inr i) = lands_at t x rs l.2 i
 
   apart_head : IsWakeTable p.table → (t : Schedule) (y r : ℕ) (rs : List ℕ) → ((x : ℕ) → In x rs → 1 ≤ x)
       → Trail (by_seconds t (r ∷ rs)) → In y rs → of_rank 0 t y + apart_at p y r ≤ of_rank 0 t r
   apart_head table t y r [] one l i = absurd i
-  apart_head table t y r (q ∷ rs) one l i = go i (λ j. apart_head table t y q rs (λ x m. one x (inr m)) l.2 j)
+  apart_head table t y r (q ∷ rs) one l i = go i (apart_head table t y q rs (λ x m. one x (inr m)) l.2)
     where
       near : of_rank 0 t q + apart_at p q r ≤ of_rank 0 t r
-      near = le_trans (after_last q (of_rank 0 t q) r (one q (inl refl))) l.1
+      near = le_trans (after_last q _ r (one q (inl refl))) l.1
 
       go : (y ≡ q) ⊎ In y rs → (In y rs → of_rank 0 t y + apart_at p y q ≤ of_rank 0 t q)
           → of_rank 0 t y + apart_at p y r ≤ of_rank 0 t r
-      go (inl e) ih = subst (λ z. of_rank 0 t z + apart_at p z r ≤ of_rank 0 t r) (sym e) near
-      go (inr j) ih = let a = ih j in let b = table.triangle (category y) (category q) (category r) in let c =
-          near in omega arith
+      go (inl e) ih = rw e near
+      go (inr j) ih = let a = ih j in let b = table.triangle (category y) (category q) (category r) in omega
+          (arith, near)
 
   in_front : (order : List ℕ) (i j : ℕ) → i < j → j ≤ length order → In (get_or order i 0) (reverse (take j order))
   in_front order i zero lt le = absurd (omega arith)
   in_front order i (suc j) lt le =
-      let more : reverse (take (suc j) order) ≡ get_or order j 0 ∷ reverse (take j order) =
-      front_step order j (omega arith) in
-      subst (In (get_or order i 0)) (sym more)
-      (elim (cases_eq i j) [
+      let more : reverse (take (suc j) order) ≡ get_or order j 0 ∷ reverse (take j order) = front_step order j
+      (omega arith) in
+      rw more (elim (cases_eq i j) [
         | inl e ↦ inl (ap (λ k. get_or order k 0) e)
-        | inr ne ↦
-            inr (in_front order i j (omega arith) (omega arith))
+        | inr ne ↦ inr (in_front order i j (omega arith) (omega arith))
       ])
 
   -- the ranks of a whole order
   pub in_order : (order : List ℕ) → IsWholeOrder (length p.flights) order → (x : ℕ) → In x (reverse order)
       → IsRank (length p.flights) x
   in_order order w x m = in_reverse_take (IsRank (length p.flights)) order w.ranks (length order) x
-      (subst (λ l. In x (reverse l)) (sym (take-whole order)) m)
+      (rw (take_all (length order) order (omega arith)) m)
 
   pub has_ranks : (order : List ℕ) → IsWholeOrder (length p.flights) order → (r : ℕ) → IsRank (length p.flights) r
       → In r (reverse order)
-  has_ranks order w r q = all_ranks (length p.flights) (reverse order) w.distinct (in_order order w)
-      (length-reverse order ∙ w.whole) r q
+  has_ranks order w r q = all_ranks _ _ w.distinct (in_order order w) (length-reverse order ∙ w.whole) r q
 
   pub trail_lands : IsWakeTable p.table → (order : List ℕ) (t : Schedule) → IsWholeOrder (length p.flights) order
       → length t ≡ length p.flights → Trail (by_seconds t (reverse order)) → LandsInOrder p order t
@@ -134,14 +122,12 @@ module _ (p : Problem) where
       let there = has_ranks order w in
       record {
         one_each = long;
-        open_seconds = λ r q. (lands_at t r (reverse order) l (there r q)).0;
-        started = λ r q. (lands_at t r (reverse order) l (there r q)).1;
+        open_seconds = λ r q. (lands_at t r _ l (there r q)).0;
+        started = λ r q. (lands_at t r _ l (there r q)).1;
         separated = λ i j lt within.
             let split : reverse order ≡ reverse (drop (j + 1) order) ++ get_or order j 0 ∷ reverse (take j order) =
             front_whole order j 0 within in
-            let back = behind_lands t (reverse (drop (j + 1) order)) (get_or order j 0 ∷ reverse (take j order))
-            (subst (λ rs. Trail (by_seconds t rs)) split l) in
-            apart_head table t (get_or order i 0) (get_or order j 0) (reverse (take j order))
-            (in_reverse_take (λ x. 1 ≤ x) order (λ k d m. (w.ranks k d m).0) j) back
+            let back = behind_lands t _ (get_or order j 0 ∷ reverse (take j order)) (rw split at l) in
+            apart_head table t _ _ _ (in_reverse_take (λ x. 1 ≤ x) order (λ k d m. (w.ranks k d m).0) j) back
             (in_front order i j lt (omega arith));
       }

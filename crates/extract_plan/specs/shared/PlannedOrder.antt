@@ -1,14 +1,14 @@
 -- A legal order at its earliest seconds is tight; it is best where each feasible list is matched by seconds of this
 -- order that cost no more.
 use Rattle.std.proofs.Common.{◌≡◌, ℕ, zero, suc, ◌≤◌, inl, inr, true, List, [], ◌∷◌, length, reverse, refl, sym, ap}
-use Rattle.std.proofs.Common.{subst, ◌∙◌, arith}
+use Rattle.std.proofs.Common.{◌∙◌, arith}
 use Rattle.std.specs.List.{AllZip}
 use Rattle.std.proofs.lemmas.List.{length-reverse}
 use Rattle.wake_table.specs.Table.{IsWakeTable}
 use Rattle.precedence.specs.Pairs.{must_precede}
 use Rattle.landing_rules.specs.Flights.{Schedule}
 use Rattle.landing_rules.specs.Problem.{Problem, IsFeasibleList, IsBestList, IsTightList, list_objective}
-use Rattle.cps_theory.specs.RankLists.{In, of_rank, IsRank, upto, Distinct}
+use Rattle.cps_theory.specs.RankLists.{In, of_rank, IsRank}
 use Rattle.cps_theory.specs.LandingTrail.{ranks}
 use Rattle.cps_theory.specs.LegalPrefix.{Legal}
 use Rattle.cps_theory.specs.Feasible.{Tight, earliest, next_from, at_seconds, second_in, greatest, total}
@@ -41,24 +41,22 @@ well_formed_planned p wf = record {
 }
   where
     low : (r : ℕ) → IsRank (length p.flights) r → (of_rank no_waiting p.flights r).passed ≤ p.k
-    low zero q = absurd (let a = q.0 in omega arith)
-    low (suc i) q = wf.passed i no_waiting (let a = q.1 in omega arith)
+    low zero q = absurd (omega (arith, q.0))
+    low (suc i) q = wf.passed i no_waiting (omega (arith, q.1))
 
 -- ---- a value rises with the seconds
 
 total_rises : (f g : ℕ → ℕ) (rs : List ℕ) → ((r : ℕ) → In r rs → f r ≤ g r) → total f rs ≤ total g rs
 total_rises f g [] h = omega arith
-total_rises f g (r ∷ rs) h = let a = h r (inl refl) in let b = total_rises f g rs (λ x i. h x (inr i)) in omega arith
+total_rises f g (r ∷ rs) h = let a = h r (inl refl) in omega (arith, total_rises f g rs (λ x i. h x (inr i)))
 
 pub map_value_rises : (p : Problem) (t u : ℕ → ℕ) → ((r : ℕ) → IsRank (length p.flights) r → t r ≤ u r)
     → value_of_map p t ≤ value_of_map p u
 map_value_rises p t u h =
-    value_rises p (second_and_cost (cost_at p) (length p.flights) t)
-    (second_and_cost (cost_at p) (length p.flights) u) (
-      greatest_least t (length p.flights) (greatest u (length p.flights)) (λ r q. let a = h r q in let b =
-          at_most_greatest u (length p.flights) r q in omega arith),
-      total_rises (λ r. cost_at p r (t r)) (λ r. cost_at p r (u r)) (upto (length p.flights))
-          (λ r i. (costs_rise p).mono r (t r) (u r) (h r (in_upto (length p.flights) r i))),
+    value_rises p (second_and_cost (cost_at p) _ t) (second_and_cost (cost_at p) _ u) (
+      greatest_least t _ (greatest u _) (λ r q. let a = h r q in omega (arith, at_most_greatest u _ r q)),
+      total_rises (λ r. cost_at p r (t r)) (λ r. cost_at p r (u r)) _
+          (λ r i. (costs_rise p).mono r (t r) (u r) (h r (in_upto _ r i))),
     )
 
 -- ---- lists
@@ -68,8 +66,7 @@ pub list_value_rises : (p : Problem) (v w : Schedule) → length v ≡ length p.
 list_value_rises p v w lv lw z =
     let a = list_value p v lv in
     let b = list_value p w lw in
-    let c = map_value_rises p (of_rank 0 v) (of_rank 0 w) (λ r q. zip_rank v w z r (q.0, let b = q.1 in omega arith)) in
-    omega arith
+    omega (arith, map_value_rises p _ _ (λ r q. zip_rank v w z r (q.0, omega (arith, q.1))))
 
 -- ---- a planned order
 
@@ -92,10 +89,10 @@ module _ (p : Problem) (is : IsPlannedFor p) (order : List ℕ) (w : IsWholeOrde
       let zs = by_seconds p v rs in
       let same : ranks zs ≡ rs = ranks_at (of_rank 0 v) rs in
       let t = earliest_tight (ranked p) (sound_ranked p is.table is.between) (first_at p) (is_first_open p) zs
-      (subst (Legal (ranked p).rules) (sym same) legal) (ap length same ∙ length-reverse order ∙ w.whole)
+      (rw same legal) (ap length same ∙ length-reverse order ∙ w.whole)
       (ap (earliest (first_at p) (next_from (ranked p))) same ∙ e) in
       let at : at_seconds (second_in zs) rs ≡ at_seconds (of_rank 0 v) rs =
-      ap (at_seconds (second_in zs)) (sym same) ∙ at_second_in zs (subst Distinct (sym same) w.distinct) in
+      ap (at_seconds (second_in zs)) (sym same) ∙ at_second_in zs (rw same w.distinct) in
       tight_list p is.passed v long (tight_agree p (second_in zs) (of_rank 0 v)
       (λ r q. agree_at (second_in zs) (of_rank 0 v) rs at r (has_ranks p order w r q)) t.0)
 

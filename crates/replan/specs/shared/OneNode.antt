@@ -11,7 +11,7 @@ use Rattle.replan.specs.WindowNodes.{AreOneNode}
 
 -- sets with the same numbers are the same
 pub one_set : (a b : ℕ) → ((x : ℕ) → HasBit a x ↔ HasBit b x) → a ≡ b
-one_set a b h = same_from_bits a b (λ i. bit i)
+one_set a b h = same_from_bits a b (bit)
   where
     bit : (i : ℕ) → bit_at a i ≡ bit_at b i
     bit i =
@@ -19,11 +19,7 @@ one_set a b h = same_from_bits a b (λ i. bit i)
         let lb : bit_at b i < 2 = bit_at-lt b i in
         elim (cases_eq (bit_at a i) 1) [
           | inl e ↦ e ∙ sym ((h i).0 e)
-          | inr ne ↦ elim (cases_eq (bit_at b i) 1) [
-            | inl f ↦ absurd (ne ((h i).1 f))
-            | inr nf ↦
-                omega (arith, la, lb, ne, nf)
-          ]
+          | inr ne ↦ elim (cases_eq (bit_at b i) 1) [ inl f ↦ absurd (ne ((h i).1 f)) | inr nf ↦ omega arith ]
         ]
 
 module _ (stage : ℕ) (xs ys : List ℤ) (a b : ℕ) (ta : TellsPlaced xs stage a) (tb : TellsPlaced ys stage b) where

@@ -32,7 +32,7 @@ sum-requires-clause-fits c =
 pub returns : goal.returns
 returns c =
     let n = length c.args.problem.now.flights in
-    let cost = λ (r : ℕ). cost_at c.args.problem.now r (of_rank 0 c.args.schedule.now r) in
+    let cost = λ (r : ℕ). cost_at c.args.problem.now r _ in
     let ranks = YieldsList-from_range 1 _ n c.map.ensures.source (omega (arith, c.len.ensures.value)) in
     let whole = sum_by_from_yields_List cost _ c.map.result _ c.sum.ensures.ran
     (YieldsList-from_map _ cost ranks c.map.ensures.closure (λ x r q k. search (rules, tests))) in
@@ -40,6 +40,5 @@ returns c =
     (YieldsList-from_map _ (small cost) ranks c.map.ensures.closure (λ x r q k. search (rules, tests))) in
     record {
       value = whole ∙ ranks_folded (λ a r. a + cost r) (λ n. total cost (upto n)) (λ n. omega arith) n;
-      small =
-          omega (arith, low, small_sum cost n 1);
+      small = omega (arith, low, small_sum cost n 1);
     }

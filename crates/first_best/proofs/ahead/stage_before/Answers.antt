@@ -1,9 +1,3 @@
-use Rattle.std.proofs.Common.{ℕ, ◌<◌, List, length, sym, subst}
-use Rattle.replan.specs.Kept.{held_of}
-use Rattle.first_best.specs.declared.node.EarlyNode.{EarlyNode}
-use Rattle.first_best.specs.Nodes.{node_at}
-use Rattle.first_best.specs.Completing.{AreListsOf}
-use Rattle.first_best.specs.Ranges.{HasRank}
 use Rattle.first_best.proofs.AheadLemmas.{held_nodes}
 use Rattle.first_best.proofs.CompletingLemmas.{behind_ranges, lists_complete}
 use Rattle.first_best.proofs.NodeLemmas.{rank_of}
@@ -13,26 +7,20 @@ pub complete-requires-clause-nodes : goal.complete-requires-clause-nodes
 complete-requires-clause-nodes c =
     let p = c.args.wanted.now.problem.now in
     let found = c.in_ok-found.found in
-    let are = held_nodes p (held_of c.args.kept.now) c.window_laws.ensures.network c.window_laws.ensures.tell
-    (c.stages-held.ensures.held p c.requires.held) c.args.wanted.now.stage c.requires.stage.1
-    found.items c.args.windows.now.places c.in_ok-found.ensures in
-    subst (λ (ns : List EarlyNode). (j : ℕ) → j < length ns → HasRank p (node_at ns j))
-    (sym c.as_slice-nodes.ensures.value) (λ j lt. rank_of p c.args.wanted.now.stage
-    (node_at found.items j) c.requires.stage.0 (are.reached j lt))
+    let are = held_nodes p _ c.window_laws.ensures.network c.window_laws.ensures.tell
+    (c.stages-held.ensures.held p c.requires.held) _ c.requires.stage.1 found.items _ c.in_ok-found.ensures in
+    rw c.as_slice-nodes.ensures.value (λ j lt. rank_of p _
+    _ c.requires.stage.0 (are.reached j lt))
 
 pub complete-requires-clause-next : goal.complete-requires-clause-next
-complete-requires-clause-next c = behind_ranges c.args.wanted.now.problem.now c.args.wanted.now.value
-    c.args.wanted.now.budget c.args.wanted.now.stage c.args.next.now c.requires.next
+complete-requires-clause-next c = behind_ranges _ _ _ _ _ c.requires.next
 
 pub returns-clause-completed : goal.returns-clause-completed
 returns-clause-completed c =
     let p = c.args.wanted.now.problem.now in
     let found = c.in_ok-found.found in
     let next = c.args.next.now in
-    let are = held_nodes p (held_of c.args.kept.now) c.window_laws.ensures.network c.window_laws.ensures.tell
-    (c.stages-held.ensures.held p c.requires.held) c.args.wanted.now.stage c.requires.stage.1
-    found.items c.args.windows.now.places c.in_ok-found.ensures in
-    lists_complete p c.window_laws.ensures.well_formed c.args.wanted.now.value c.args.wanted.now.budget
-    c.args.wanted.now.stage found.items c.in_ok-lists.lists.items next are c.requires.next
-    (subst (λ (ns : List EarlyNode). AreListsOf p c.args.wanted.now.value c.args.wanted.now.budget
-    c.args.wanted.now.stage ns next c.in_ok-lists.lists.items) c.as_slice-nodes.ensures.value c.in_ok-lists.ensures)
+    let are = held_nodes p _ c.window_laws.ensures.network c.window_laws.ensures.tell
+    (c.stages-held.ensures.held p c.requires.held) _ c.requires.stage.1 found.items _ c.in_ok-found.ensures in
+    lists_complete p c.window_laws.ensures.well_formed _ _ _ found.items _ next are c.requires.next
+    (rw c.as_slice-nodes.ensures.value at c.in_ok-lists.ensures)

@@ -1,10 +1,10 @@
-use Rattle.std.proofs.Common.{◌≡◌, ℕ, ◌+◌, ◌-◌, List, ap, sym, subst, ◌∙◌, arith}
+use Rattle.std.proofs.Common.{◌≡◌, ◌-◌, ap, sym, subst, ◌∙◌, arith}
 use Rattle.std.proofs.lemmas.List.{get_or_default}
 use Rattle.replan.specs.Kept.{held_of}
 use Rattle.replan.specs.Readers.{IsReadable}
 use Rattle.replan.specs.WindowNodes.{AreNodesOf}
-use Rattle.first_best.specs.Completing.{no_stage, StageAhead}
-use Rattle.first_best.proofs.AheadLemmas.{all_stages, at, last_behind, one_stage, IsAheadFrom}
+use Rattle.first_best.specs.Completing.{no_stage}
+use Rattle.first_best.proofs.AheadLemmas.{all_stages, at, last_behind, one_stage}
 use Rattle.first_best.proofs.ahead.stages_ahead.Goals as goal
 
 pub stage_before-requires-clause-next : goal.stage_before-requires-clause-next
@@ -14,12 +14,9 @@ stage_before-requires-clause-next c =
     let long = c.loop-done.invariant.0.long in
     let same : c.from-in-loop-done.result ≡ done = omega arith in
     let next : c.index-next.result.now ≡ at stages done = c.index-next.ensures
-    ∙ get_or_default stages c.from-in-loop-done.result c.index-next.result.now no_stage (omega (arith, same, long))
-    ∙ ap (at stages) same in
-    last_behind c.args.problem.now c.args.value c.args.budget
-    (held_of c.args.kept.now) done stages c.loop-done.invariant.0 (c.len-last.result - done)
-    (omega (arith, c.len-last.ensures.value)) (omega (arith, c.loop-done-test.true, c.len-last.ensures.value))
-    c.index-next.result.now next
+    ∙ get_or_default stages _ _ no_stage (omega arith) ∙ ap (at stages) same in
+    last_behind _ _ _ _ done stages c.loop-done.invariant.0 (c.len-last.result - done) (omega arith) (omega arith) _
+    next
 
 pub loop-done-preserved : goal.loop-done-preserved
 loop-done-preserved c =
@@ -30,18 +27,14 @@ loop-done-preserved c =
     let stage = c.len-last.result - done in
     let are = c.stages-held.ensures.held p c.requires in
     let whole = are.whole in
-    let made = one_stage p c.args.value c.args.budget held done stages c.loop-done.invariant.0 stage
-    (omega (arith, c.len-last.ensures.value)) (omega (arith, c.loop-done-test.true, c.len-last.ensures.value))
-    c.in_ok-stage.stage c.in_ok-stage.ensures.completed c.in_ok-stage.ensures.gathered in
+    let made = one_stage p _ _ held done stages c.loop-done.invariant.0 stage (omega arith) (omega arith) _
+    c.in_ok-stage.ensures.completed c.in_ok-stage.ensures.gathered in
     let nodes = c.in_ok-put.ensures in
     let at = nodes.stage_is in (
-      subst (λ (l : List StageAhead). IsAheadFrom p c.args.value c.args.budget held (done + 1) l)
-          (sym c.in_ok-push-2.ensures.items) made,
-      λ some. subst (λ (m : ℕ). IsReadable held m × AreNodesOf held m c.in_ok-put.put) (sym at)
-          ((omega (arith, c.loop-done-test.true), omega (arith, c.len-last.ensures.value, whole)), nodes),
+      rw c.in_ok-push-2.ensures.items made,
+      λ some. subst (λ m. IsReadable held m × AreNodesOf held m c.in_ok-put.put) (sym at)
+          ((omega arith, omega arith), nodes),
     )
 
 pub returns : goal.returns
-returns c = all_stages c.args.problem.now c.args.value c.args.budget
-    (held_of c.args.kept.now) c.loop-done.done c.loop-done.stages.items c.loop-done.invariant.0
-    (omega (arith, c.loop-done-test.false, c.loop-done.auto.done-end, c.len-last.ensures.value))
+returns c = all_stages _ _ _ _ _ _ c.loop-done.invariant.0 (omega arith)

@@ -4,15 +4,11 @@ use Rattle.first_best.proofs.choice.affordable.Goals as goal
 
 pub returns-in_err-rest-clause-found : goal.returns-in_err-rest-clause-found
 returns-in_err-rest-clause-found c =
-    rw c.from_residual-in_err-rest.ensures
-    (never_in_time c.args.prefix.now.problem.now c.args.prefix.now.budget c.args.prefix.now.node
-    c.args.prefix.now.cost c.args.after c.args.pairs.now c.in_ok-second.second (sym c.landing_after.ensures.value
+    rw c.from_residual-in_err-rest.ensures (never_in_time _ _ _ _ _ _ _ (sym c.landing_after.ensures.value
     ∙ c.in_ok-second.was) c.in_err-rest.ensures)
 
 pub returns-else-cost-from-clause-found : goal.returns-else-cost-from-clause-found
 returns-else-cost-from-clause-found c =
     let price = c.cost.ensures.value in
-    too_dear c.args.prefix.now.problem.now c.args.prefix.now.budget c.args.prefix.now.node
-    c.args.prefix.now.cost c.args.after c.args.pairs.now c.in_ok-second.second (sym c.landing_after.ensures.value
-    ∙ c.in_ok-second.was) c.in_ok-rest.rest c.in_ok-rest.ensures
-    (omega (arith, price, c.from.ensures, c.from-2.ensures, c.if-cost-from.false))
+    too_dear _ _ _ _ _ _ _ (sym c.landing_after.ensures.value
+    ∙ c.in_ok-second.was) _ c.in_ok-rest.ensures (omega arith)

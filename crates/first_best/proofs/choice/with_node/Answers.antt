@@ -1,9 +1,5 @@
-use Rattle.std.proofs.Common.{◌≡◌, ◌≤◌, List, sym, subst}
 use Rattle.landing_rules.specs.Rules.{last_second}
-use Rattle.cps_theory.specs.Labels.{Pair}
-use Rattle.first_best.specs.declared.node.EarlyNode.{EarlyNode}
 use Rattle.first_best.specs.Nodes.{node_at}
-use Rattle.first_best.specs.Choices.{FindsWay, lesser_choice}
 use Rattle.first_best.proofs.ChoiceLemmas.{lesser_days}
 use Rattle.first_best.proofs.choice.with_node.Goals as goal
 
@@ -12,18 +8,12 @@ returns-clause-lesser c =
     let p = c.args.prefix.now.problem.now in
     let node = node_at c.args.stage.now.nodes c.args.j in
     let found = c.found_by-found.result in
-    let here = subst (λ (l : List Pair). FindsWay p c.args.prefix.now.budget c.args.prefix.now.node
-    c.args.prefix.now.cost node l found) c.list.ensures
-    (subst (λ (n : EarlyNode). FindsWay p c.args.prefix.now.budget c.args.prefix.now.node c.args.prefix.now.cost
-    n c.list.result.now found) c.node-after.ensures c.found_by-found.ensures.found) in (
+    let here = rw c.list.ensures at (rw c.node-after.ensures at c.found_by-found.ensures.found) in (
       found,
       here,
-      subst (λ (n : EarlyNode). c.lesser.result ≡ lesser_choice c.args.least n.last found)
-          c.node-after.ensures c.lesser.ensures,
+      rw c.node-after.ensures at c.lesser.ensures,
     )
 
 pub returns-clause-in_days : goal.returns-clause-in_days
-returns-clause-in_days c = λ days.
-    subst (λ (q : Pair). q.1 ≤ last_second) (sym c.lesser.ensures)
-    (lesser_days last_second c.args.least c.node-after.result.last c.found_by-found.result
+returns-clause-in_days c = λ days. rw c.lesser.ensures (lesser_days last_second _ _ _
     days c.found_by-found.ensures.in_days)

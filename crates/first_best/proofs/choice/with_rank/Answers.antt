@@ -3,4 +3,4 @@ use Rattle.first_best.proofs.NodeLemmas.{set_has}
 use Rattle.first_best.proofs.choice.with_rank.Goals as goal
 
 pub returns-clause-placed : goal.returns-clause-placed
-returns-clause-placed c = set_has c.args.before.placed c.args.rank (omega arith)
+returns-clause-placed c = set_has _ _ (omega arith)

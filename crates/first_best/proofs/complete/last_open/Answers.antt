@@ -10,9 +10,9 @@ loop-low-preserved-in-None c =
     let days = inv.in_days in
     record {
       in_order = omega arith;
-      in_days = omega (arith, days);
+      in_days = omega arith;
       last = λ t o. elim (cases_lt t (middle + 1)) [
-        | inl low ↦ omega (arith, low)
+        | inl low ↦ omega arith
         | inr late ↦
             let u = (is_first_open c.args.problem.now).least c.args.rank (middle + 1) t o late in
             absurd (never (sym c.in-None.is ∙ c.first_open.ensures.value ∙ u.1))

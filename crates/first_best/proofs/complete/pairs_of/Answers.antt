@@ -1,13 +1,8 @@
-use Rattle.std.proofs.Common.{List, sym, subst, ◌∙◌}
-use Rattle.cps_theory.specs.Labels.{Pair}
-use Rattle.first_best.specs.Completing.{ArePairsOf}
+use Rattle.std.proofs.Common.{◌∙◌}
 use Rattle.first_best.proofs.ScanLemmas.{turned}
 use Rattle.first_best.proofs.complete.pairs_of.Goals as goal
 
 pub returns : goal.returns
 returns c =
-    subst (λ (l : List Pair). ArePairsOf c.args.wanted.now.problem.now c.args.wanted.now.value
-    c.args.wanted.now.budget c.args.wanted.now.stage c.args.node c.args.next.now l)
-    (sym (c.of.ensures ∙ c.reverse.ensures.items))
-    (turned c.args.wanted.now.problem.now c.args.wanted.now.value c.args.wanted.now.budget
-    c.args.wanted.now.stage c.args.node c.args.next.now c.in_ok-pairs.pairs.items c.in_ok-pairs.ensures)
+    rw (c.of.ensures ∙ c.reverse.ensures.items) (turned _ _ _
+    _ _ _ _ c.in_ok-pairs.ensures)

@@ -29,12 +29,12 @@ returns-clause-least c =
     let lists = c.args.next.now.lists in
     let ways = c.args.ways.now in
     let to = λ (j : ℕ). IsWayTo p node (node_at nodes j) (list_at lists j) c.args.second in
-    let each = λ (j : ℕ). least_way p node (node_at nodes j) (list_at lists j) c.args.second in
-    let is = sym (option_map_id c.min.result) ∙ min_from_yields_List c.filter_map.result c.min.result c.min.ensures.ran
+    let each = λ (j : ℕ). least_way p node _ _ _ in
+    let is = sym (option_map_id c.min.result) ∙ min_from_yields_List _ _ c.min.ensures.ran
     (YieldsList-from_filter_map _ (λ j. (each j).0) (YieldsList-from_slice ways (cc)) c.filter_map.ensures.closure
     (λ x r q k.
     let told : IsLeastOf (to x.now) r = search (rules, tests) in
     (search (rules, tests), least_unique (to x.now) r (each x.now).0 told (each x.now).1))) in
-    ways_end p c.args.stage node c.args.next.now ways c.args.second c.requires.ways
-    (omega (arith, c.len.ensures.value, c.if-stage-len.false, c.requires.stage.1)) c.min.result
+    ways_end p _ node _ ways _ c.requires.ways
+    (omega (arith, c.len.ensures.value, c.if-stage-len.false, c.requires.stage.1)) _
     (subst (IsLeastOf _) (sym is) (least_of_list 0 to each ways))

@@ -13,16 +13,15 @@ loop-j-preserved c =
           let leads = subst (LeadsTo c.args.node) c.node.ensures (c.leads_to.ensures.0 w.if-leads_to.true) in
           subst (λ v. WaysUpto c.args.node nodes (j + 1) v.items) (sym w.ways-is)
           (subst (λ (l : List ℕ). WaysUpto c.args.node nodes (j + 1) l) (sym w.in_ok-push.ensures.items)
-          (one_way c.args.node nodes j c.loop-j.ways.items c.loop-j.invariant leads))
+          (one_way _ nodes j _ c.loop-j.invariant leads))
       | else-leads_to w ↦
           let none = λ (l : LeadsTo c.args.node (node_at nodes j)).
           (let t : c.leads_to.result ≡ true = c.leads_to.ensures.1
           (subst (LeadsTo c.args.node) (sym c.node.ensures) l) in let f = w.if-leads_to.false in let x : ⊥ =
           cc in x) in
           subst (λ v. WaysUpto c.args.node nodes (j + 1) v.items) (sym w.ways-is)
-          (no_way c.args.node nodes j c.loop-j.ways.items c.loop-j.invariant none)
+          (no_way _ nodes j _ c.loop-j.invariant none)
     ]
 
 pub returns : goal.returns
-returns c = all_ways c.args.node c.args.next.now.nodes c.loop-j.j c.loop-j.ways.items
-    (omega (arith, c.loop-j-test.false, c.len-j-end.ensures, c.loop-j.auto.j-end)) c.loop-j.invariant
+returns c = all_ways _ _ _ _ (omega arith) c.loop-j.invariant

@@ -4,5 +4,4 @@ use Rattle.replan.proofs.filling.fill_beside.Goals as goal
 
 pub returns-then-not-is_worth_a_thread-clause-steps : goal.returns-then-not-is_worth_a_thread-clause-steps
 returns-then-not-is_worth_a_thread-clause-steps g c =
-    due_none _ c.args.planning.now.problem.now _ _ (omega (arith, c.requires.some))
-    (g.met.L.Ledger.fits c.args.steps.now)
+    due_none _ _ _ _ (omega arith) (g.met.L.Ledger.fits c.args.steps.now)

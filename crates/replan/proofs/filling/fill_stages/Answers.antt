@@ -1,4 +1,4 @@
-use Rattle.std.proofs.Common.{ℕ, arith, subst}
+use Rattle.std.proofs.Common.{arith, subst}
 use Rattle.std.specs.Prelude.{vec_len}
 use Rattle.cps_network.specs.Due.{HasCandidatesFrom}
 use Rattle.replan.proofs.StageLemmas.{due_joined}
@@ -13,12 +13,6 @@ returns-clause-steps g c =
     let late = c.in_ok-fill_upto-2.ensures in
     let some = c.requires.some in
     let more = beside.more in
-    let two = due_joined first _ p (omega (arith, some, early.many)) (omega (arith, early.many)) _ _ _ _
-    (omega (arith, more)) early.steps beside.steps in
-    let all = due_joined first _ p (omega (arith, some, early.many, more)) (omega (arith, early.many, more)) _ _ _ _
-    (omega (arith, late.many)) two late.steps in (
-      all.0,
-      subst (λ (n : ℕ). HasCandidatesFrom first p n all.0)
-          (omega (arith, late.many, beside.few, c.len.ensures)) all.1,
-      all.2,
-    )
+    let two = due_joined first _ p (omega arith) (omega arith) _ _ _ _ (omega arith) early.steps beside.steps in
+    let all = due_joined first _ p (omega arith) (omega arith) _ _ _ _ (omega arith) two late.steps in
+    (all.0, subst (λ n. HasCandidatesFrom first p n all.0) (omega arith) all.1, all.2)

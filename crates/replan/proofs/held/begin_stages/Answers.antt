@@ -1,7 +1,5 @@
 use Rattle.std.proofs.Common.{◌≡◌, ap, subst, sym, ◌∙◌}
 use Rattle.cps_network.specs.shared.DueSteps.{due_with_none}
-use Rattle.landing_rules.specs.Problem.{Problem}
-use Rattle.replan.specs.Held.{HeldProblem}
 use Rattle.replan.specs.Stages.{AreHints}
 use Rattle.replan.proofs.HintLemmas.{hints_of_stages}
 use Rattle.replan.proofs.held.begin_stages.Goals as goal
@@ -16,7 +14,7 @@ returns-in_ok-stages-in-Some-clause-due g c = rw c.in-Some.is c.in_ok-stages-in-
 pub invariant_of-hints : goal.invariant_of-hints
 invariant_of-hints g c =
     let same : c.held.inside.problem ≡ c.in_ok-stages-in-Some.earlier =
-    ap (λ (h : HeldProblem). h.problem) c.held.view_is ∙ sym c.in_ok-stages-in-Some.ensures.problem in
-    subst (λ (p : Problem). AreHints p c.in_ok-windows-in-Some.windows.items) same
+    ap (λ h. h.problem) c.held.view_is ∙ sym c.in_ok-stages-in-Some.ensures.problem in
+    subst (λ p. AreHints p c.in_ok-windows-in-Some.windows.items) same
     (rw (c.in_ok-windows-in-Some.ensures, c.deref.ensures.value)
-    (hints_of_stages c.held.inside.problem c.held.inside.stages.items c.held.invariant.held))
+    (hints_of_stages _ _ c.held.invariant.held))

@@ -10,27 +10,15 @@ loop-reached-init g c =
 pub advance-requires : goal.advance-requires
 advance-requires g c =
     let i = c.loop-reached.invariant in
-    let at = i.1 in (
-      search rules,
-      (
-        search rules,
-        (c.requires.width, (i.0, (omega (arith, at, c.loop-reached-test.true, c.len-flights.ensures.value), i.2))),
-      ),
-    )
+    let at = i.1 in (search rules, (search rules, (c.requires.width, (i.0, (omega arith, i.2)))))
 
 pub loop-reached-preserved : goal.loop-reached-preserved
 loop-reached-preserved g c =
     let s = c.in_ok-advance.ensures in
     let at = c.loop-reached.invariant.1 in
-    (s.held, omega (arith, at, s.number), s.whole)
+    (s.held, omega arith, s.whole)
 
 pub least_of-requires : goal.least_of-requires
 least_of-requires g c =
     let i = c.loop-reached.invariant in
-    let at = i.1 in (
-      search rules,
-      (
-        omega (arith, at, c.loop-reached-test.false, c.loop-reached.auto, c.len-flights.ensures.value),
-        i.0,
-      ),
-    )
+    let at = i.1 in (search rules, (omega arith, i.0))

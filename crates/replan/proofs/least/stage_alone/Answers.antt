@@ -1,5 +1,4 @@
 use Rattle.std.proofs.Common.{◌≡◌, rules, arith, sym, ap, ◌∙◌}
-use Rattle.replan.specs.Stages.{LabelledStage}
 use Rattle.replan.proofs.least.stage_alone.Goals as goal
 
 pub stage_after-requires : goal.stage_after-requires
@@ -16,16 +15,13 @@ next_alone-requires g c = (
   search rules,
   (
     c.requires.width,
-    (
-      rw (← c.last.view_is) at c.requires.held,
-      (c.in_ok-stage.ensures.number, c.in_ok-stage.ensures.exact),
-    ),
+    (rw (← c.last.view_is) at c.requires.held, (c.in_ok-stage.ensures.number, c.in_ok-stage.ensures.exact)),
   ),
 )
 
 pub returns-clause-number : goal.returns-clause-number
 returns-clause-number g c =
-    let same : c.last.inside.stage.0 ≡ c.args.last.now.stage.0 = ap (λ (s : LabelledStage). s.stage.0) c.last.view_is in
+    let same : c.last.inside.stage.0 ≡ c.args.last.now.stage.0 = ap (λ s. s.stage.0) c.last.view_is in
     omega (arith, same, c.in_ok-labels.ensures.number, c.in_ok-stage.ensures.number)
 
 pub returns-clause-whole : goal.returns-clause-whole

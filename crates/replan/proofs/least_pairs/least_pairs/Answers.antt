@@ -1,39 +1,32 @@
-use Rattle.std.proofs.Common.{◌≡◌, ◌∙◌, List, length, sym, subst}
-use Rattle.cps_theory.specs.Labels.{Pair}
-use Rattle.replan.specs.WindowNodes.{AreLeastOf, AreLeastUpto, HaveLeast}
+use Rattle.std.proofs.Common.{◌≡◌, ◌∙◌, length, sym}
+use Rattle.replan.specs.WindowNodes.{HaveLeast}
 use Rattle.replan.proofs.LeastPairLemmas.{all_least, as_written, first_leasts}
 use Rattle.replan.proofs.least_pairs.least_pairs.Goals as goal
 
 pub lower_to_labels-requires-clause-begun : goal.lower_to_labels-requires-clause-begun
 lower_to_labels-requires-clause-begun c =
     let n = c.args.nodes.now in
-    subst (λ (ls : List (List Pair)). AreLeastUpto ls n.places n.firsts 0 c.as_mut_slice.result.now) c.in-Some.ensures
-    (first_leasts c.args.labels.now.lists n c.requires c.as_mut_slice.result.now (c.as_mut_slice.ensures.value
+    rw c.in-Some.ensures at (first_leasts _ n c.requires _ (c.as_mut_slice.ensures.value
     ∙ c.in_ok-least.ensures.first))
 
 pub lower_to_pairs-requires-clause-begun : goal.lower_to_pairs-requires-clause-begun
 lower_to_pairs-requires-clause-begun c =
-    first_leasts c.args.labels.now.lists c.args.nodes.now c.requires c.as_mut_slice-2.result.now
-    (c.as_mut_slice-2.ensures.value ∙ c.in_ok-least.ensures.first)
+    first_leasts _ _ c.requires _ (c.as_mut_slice-2.ensures.value ∙ c.in_ok-least.ensures.first)
 
 pub returns-in-Some-clause-least : goal.returns-in-Some-clause-least
 returns-in-Some-clause-least c =
     let n = c.args.nodes.now in
     let is = c.in-Some.ensures in
-    let have : HaveLeast _ n = subst (λ (ls : List (List Pair)). HaveLeast ls n) is c.requires in
+    let have : HaveLeast _ n = rw is at c.requires in
     let new = c.lower_to_labels.new.least in
     let least = all_least _ n have new c.lower_to_labels.ensures.least in
     let count : c.in_ok-least.least.len ≡ length new =
     sym c.as_mut_slice.ensures.len ∙ sym c.lower_to_labels.auto.least in
-    subst (AreLeastOf c.args.labels.now.lists n)
-    (sym (as_written new c.in_ok-least.least.items c.in_ok-least.least.len count))
-    (subst (λ (ls : List (List Pair)). AreLeastOf ls n new) (sym is) least)
+    rw (as_written new _ _ count) (rw is least)
 
 pub returns-clause-least : goal.returns-clause-least
 returns-clause-least c =
     let new = c.lower_to_pairs.new.least in
     let count : c.in_ok-least.least.len ≡ length new =
     sym c.as_mut_slice-2.ensures.len ∙ sym c.lower_to_pairs.auto.least in
-    subst (AreLeastOf c.args.labels.now.lists c.args.nodes.now)
-    (sym (as_written new c.in_ok-least.least.items c.in_ok-least.least.len count))
-    (all_least c.args.labels.now.lists c.args.nodes.now c.requires new c.lower_to_pairs.ensures.least)
+    rw (as_written new _ _ count) (all_least _ _ c.requires new c.lower_to_pairs.ensures.least)

@@ -1,9 +1,8 @@
-use Rattle.std.proofs.Common.{◌≡◌, ℕ, ◌+◌, ◌<◌, ◌≤◌, List, length, set, arith, ap, subst, sym}
+use Rattle.std.proofs.Common.{◌≡◌, ◌<◌, ◌≤◌, length, arith, ap}
 use Rattle.std.specs.Prelude.{slice_index}
 use Rattle.landing_rules.specs.Rules.{last_second}
 use Rattle.cps_network.specs.Pairs.{pair_at}
-use Rattle.makespan_labels.specs.LabelPairs.{column_pairs}
-use Rattle.replan.specs.WindowNodes.{told_at, AreLeastUpto}
+use Rattle.replan.specs.WindowNodes.{told_at}
 use Rattle.replan.proofs.LeastPairLemmas.{days_set, less_label, other_label}
 use Rattle.replan.proofs.least_pairs.lower_to_labels.Goals as goal
 
@@ -13,13 +12,11 @@ loop-i-preserved-then-label-least c =
     let n = c.args.nodes.now in
     let i = c.loop-i.i in
     let least = c.loop-i.least in
-    let lt : i < length n.places =
-    omega (arith, c.loop-i-test.true, ap (λ (xs : List ℕ). length xs) c.places-places.ensures) in
-    let same : told_at c.places-places.result.now i ≡ told_at n.places i =
-    ap (λ (xs : List ℕ). told_at xs i) c.places-places.ensures in
-    let there = ap (λ (m : ℕ). (pair_at least m).0) same in (
-      other_label column n c.requires.some i least c.loop-i.invariant.0 lt
-          (omega (arith, c.if-label-least.true, c.label-label.ensures.value, there)),
+    let lt : i < length n.places = omega (arith, c.loop-i-test.true, ap (λ xs. length xs) c.places-places.ensures) in
+    let same : told_at c.places-places.result.now i ≡ told_at n.places i = ap (λ xs. told_at xs i)
+    c.places-places.ensures in
+    let there = ap (λ m. (pair_at least m).0) same in (
+      other_label column n c.requires.some i least c.loop-i.invariant.0 lt (omega arith),
       c.loop-i.invariant.1,
     )
 
@@ -29,28 +26,21 @@ loop-i-preserved c =
     let n = c.args.nodes.now in
     let i = c.loop-i.i in
     let least = c.loop-i.least in
-    let lt : i < length n.places =
-    omega (arith, c.loop-i-test.true, ap (λ (xs : List ℕ). length xs) c.places-places.ensures) in
-    let same : told_at c.places-places.result.now i ≡ told_at n.places i =
-    ap (λ (xs : List ℕ). told_at xs i) c.places-places.ensures in
-    let there = ap (λ (m : ℕ). (pair_at least m).0) same in
-    let less : slice_index column i < (pair_at least (told_at n.places i)).0 =
-    omega (arith, c.if-label-least.false, c.label-label.ensures.value, there) in
+    let lt : i < length n.places = omega (arith, c.loop-i-test.true, ap (λ xs. length xs) c.places-places.ensures) in
+    let same : told_at c.places-places.result.now i ≡ told_at n.places i = ap (λ xs. told_at xs i)
+    c.places-places.ensures in
+    let there = ap (λ m. (pair_at least m).0) same in
+    let less : slice_index column i < (pair_at least (told_at n.places i)).0 = omega arith in
     let lowered = less_label column n c.requires.some i least c.loop-i.invariant.0 lt less in
-    let days : (pair_at least (told_at c.places-places.result.now i)).0 ≤ last_second =
-    c.loop-i.invariant.1 (told_at c.places-places.result.now i) in (
-      subst (λ (m : ℕ). AreLeastUpto (column_pairs column) n.places n.firsts (i + 1)
-          (set least m (c.label-label.result, 0))) (sym same)
-          (subst (λ (x : ℕ). AreLeastUpto (column_pairs column) n.places n.firsts (i + 1)
-          (set least (told_at n.places i) (x, 0))) (sym c.label-label.ensures.value) lowered),
-      days_set least (told_at c.places-places.result.now i) (c.label-label.result, 0) last_second c.loop-i.invariant.1
-          (omega (arith, days, c.if-label-least.false)),
+    let days : (pair_at least (told_at c.places-places.result.now i)).0 ≤ last_second = c.loop-i.invariant.1
+    (told_at _ i) in (
+      rw same (rw c.label-label.ensures.value lowered),
+      days_set least _ (c.label-label.result, 0) last_second c.loop-i.invariant.1 (omega arith),
     )
 
 pub returns-clause-least : goal.returns-clause-least
 returns-clause-least c =
     let n = c.args.nodes.now in
     let end : c.loop-i.i ≡ length n.places = omega
-    (arith, c.loop-i-test.false, c.loop-i.auto.i-end, ap (λ (xs : List ℕ). length xs) c.places-places.ensures) in
-    subst (λ (m : ℕ). AreLeastUpto (column_pairs c.args.column.now) n.places n.firsts m c.loop-i.least)
-    end c.loop-i.invariant.0
+    (arith, c.loop-i-test.false, c.loop-i.auto.i-end, ap (λ xs. length xs) c.places-places.ensures) in
+    rw end at c.loop-i.invariant.0

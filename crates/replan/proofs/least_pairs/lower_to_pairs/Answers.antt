@@ -1,9 +1,7 @@
-use Rattle.std.proofs.Common.{◌≡◌, ℕ, ◌+◌, ◌<◌, List, length, arith, ap, ap₂, subst, sym, ◌∙◌}
-use Rattle.std.specs.Prelude.{slice_set}
+use Rattle.std.proofs.Common.{◌≡◌, ◌<◌, length, arith, ap, ap₂, ◌∙◌}
 use Rattle.landing_rules.specs.Rules.{last_second}
-use Rattle.cps_theory.specs.Labels.{Pair}
 use Rattle.cps_network.specs.Pairs.{list_at, pair_at}
-use Rattle.replan.specs.WindowNodes.{extremes, lesser, told_at, AreLeastUpto}
+use Rattle.replan.specs.WindowNodes.{extremes, lesser, told_at}
 use Rattle.replan.proofs.LeastPairLemmas.{days_set, one_least}
 use Rattle.replan.proofs.least_pairs.lower_to_pairs.Goals as goal
 
@@ -13,29 +11,25 @@ loop-i-preserved c =
     let n = c.args.nodes.now in
     let i = c.loop-i.i in
     let least = c.loop-i.least in
-    let long = ap (λ (xs : List ℕ). length xs) c.places-places.ensures in
-    let lt : i < length n.places = omega (arith, c.loop-i-test.true, long) in
+    let long = ap (λ xs. length xs) c.places-places.ensures in
+    let lt : i < length n.places = omega arith in
     let within = c.requires.some.within i lt in
     let place = told_at n.places i in
-    let same : told_at c.places-places.result.now i ≡ place =
-    ap (λ (xs : List ℕ). told_at xs i) c.places-places.ensures in
+    let same : told_at c.places-places.result.now i ≡ place = ap (λ xs. told_at xs i) c.places-places.ensures in
     let all = c.loop-i.invariant.0.one_each in
-    let value : c.lesser.result ≡ lesser (pair_at least place) (extremes (list_at lists i)) =
-    c.lesser.ensures ∙ ap₂ lesser (ap (pair_at least) same) c.extremes.ensures.value in
+    let value : c.lesser.result ≡ lesser (pair_at least place) (extremes (list_at lists i)) = c.lesser.ensures
+    ∙ ap₂ lesser (ap (pair_at least) same) c.extremes.ensures.value in
     let more = one_least lists n.places n.firsts i least c.loop-i.invariant.0 lt within in
-    let is = ap (λ (q : Pair). q.0) value in
+    let is = ap (λ q. q.0) value in
     let days = c.loop-i.invariant.1 place in (
-      subst (λ (m : ℕ). AreLeastUpto lists n.places n.firsts (i + 1) (slice_set least m c.lesser.result)) (sym same)
-          (subst (λ (q : Pair). AreLeastUpto lists n.places n.firsts (i + 1) (slice_set least place q))
-          (sym value) more),
-      days_set least (told_at c.places-places.result.now i) c.lesser.result last_second c.loop-i.invariant.1
-          (omega (arith, is, days)),
+      rw same (rw value more),
+      days_set least _ _ last_second c.loop-i.invariant.1 (omega arith),
     )
 
 pub returns-clause-least : goal.returns-clause-least
 returns-clause-least c =
     let lists = c.args.labels.now.lists in
     let n = c.args.nodes.now in
-    let long = ap (λ (xs : List ℕ). length xs) c.places-places.ensures in
-    let end : c.loop-i.i ≡ length n.places = omega (arith, c.loop-i-test.false, c.loop-i.auto.i-end, long) in
-    subst (λ (m : ℕ). AreLeastUpto lists n.places n.firsts m c.loop-i.least) end c.loop-i.invariant.0
+    let long = ap (λ xs. length xs) c.places-places.ensures in
+    let end : c.loop-i.i ≡ length n.places = omega arith in
+    rw end at c.loop-i.invariant.0

@@ -3,6 +3,5 @@ use Rattle.replan.proofs.stages.stage_after.Goals as goal
 
 pub next_stage_again-requires : goal.next_stage_again-requires
 next_stage_again-requires g c =
-    let lt : c.args.earlier.now.0 < c.args.before.now.0 =
-    omega (arith, c.if-number.true, c.number.ensures, c.number-then-is_whole.ensures) in
+    let lt : c.args.earlier.now.0 < c.args.before.now.0 = omega arith in
     (search rules, (c.requires.width, (c.requires.stage, c.requires.whole c.if-is_whole.true lt)))

@@ -1,10 +1,8 @@
 use Rattle.std.proofs.Common.{ap}
-use Rattle.landing_rules.specs.Problem.{Problem}
 use Rattle.replan.proofs.StageLemmas.{begins}
 use Rattle.replan.proofs.stages.stage_zero.Goals as goal
 
 pub returns-clause-held : goal.returns-clause-held
 returns-clause-held g c =
-    begins c.args.problem.now g.row.W _ _ c.head.result.now.objective c.requires.width c.in_ok-stage.ensures
-    c.in_ok-labels.ensures
-    (ap (λ (p : Problem). p.objective) c.head.ensures.value)
+    begins _ g.row.W _ _ _ c.requires.width c.in_ok-stage.ensures c.in_ok-labels.ensures
+    (ap (λ p. p.objective) c.head.ensures.value)

@@ -1,10 +1,8 @@
-use Rattle.std.proofs.Common.{ℕ, ◌-◌, ◌<◌, length, rules, arith, ap, subst, ◌∙◌}
+use Rattle.std.proofs.Common.{◌-◌, ◌<◌, length, rules, arith, ap, subst, ◌∙◌}
 use Rattle.std.proofs.lemmas.Int.{ints}
 use Rattle.std.proofs.lemmas.List.{length-set}
 use Rattle.cps_network.specs.Pairs.{list_at}
 use Rattle.cps_network.specs.WindowLaws.{WindowLaws}
-use Rattle.replan.specs.Labels.{last_pair}
-use Rattle.replan.specs.Stages.{LabelledStage, stage_at}
 use Rattle.replan.proofs.StageLemmas.{last_read}
 use Rattle.replan.proofs.TraceLemmas.{step_reads, trace_begins, back_pair, listed_undominated, last_given, trace_end}
 use Rattle.replan.proofs.trace.trace.Goals as goal
@@ -12,95 +10,62 @@ use Rattle.replan.proofs.trace.trace.Goals as goal
 pub source-requires : goal.source-requires
 source-requires g c =
     let inv = c.loop-i.invariant in
-    let r = step_reads c.args.problem.now _ c.requires.held
-    (omega (arith, c.requires.whole)) c.loop-i.i _ c.loop-i.place c.loop-i.index _ _ _ _
-    (omega (arith, c.loop-i-test.true)) inv.0 (omega (arith, c.loop-i-test.true))
+    let r = step_reads _ _ c.requires.held (omega arith) _ _ _ _ _ _ _ _ (omega arith) inv.0 (omega arith)
     c.earlier.view_is c.index-kept-i.is c.later.view_is c.index-kept-i-in-loop-i.is inv.2 inv.3 in
-    let undominated = listed_undominated c.args.problem.now c.earlier.inside.stage _ _ _ _
-    _ _ r.above.held r.next r.within
+    let undominated = listed_undominated _ c.earlier.inside.stage _ _ _ _ _ _ r.above.held r.next r.within
     c.node-node.ensures.value r.listed c.pair-pair.ensures.value in (
       search rules,
-      (
-        search rules,
-        (
-          c.requires.width,
-          (
-            r.held,
-            (
-              omega (arith, r.number, r.one_back, inv.0),
-              (undominated, c.pair-pair.ensures.known),
-            ),
-          ),
-        ),
-      ),
+      (search rules, (c.requires.width, (r.held, (omega arith, (undominated, c.pair-pair.ensures.known))))),
     )
 
 pub last_rank-requires : goal.last_rank-requires
 last_rank-requires g c =
     let inv = c.loop-i.invariant in
-    let r = step_reads c.args.problem.now _ c.requires.held
-    (omega (arith, c.requires.whole)) c.loop-i.i _ c.loop-i.place c.loop-i.index _ _ _ _
-    (omega (arith, c.loop-i-test.true)) inv.0 (omega (arith, c.loop-i-test.true))
+    let r = step_reads _ _ c.requires.held (omega arith) _ _ _ _ _ _ _ _ (omega arith) inv.0 (omega arith)
     c.earlier.view_is c.index-kept-i.is c.later.view_is c.index-kept-i-in-loop-i.is inv.2 inv.3 in
     let laws : WindowLaws c.args.problem.now g.row.W = search rules in
-    let last = last_given c.args.problem.now g.row.W c.requires.width laws _ _ _ _ _ _ r.held.held c.source.ensures in
+    let last = last_given _ g.row.W c.requires.width laws _ _ _ _ _ _ r.held.held c.source.ensures in
     let e = last.0 in
     let few = last.1 in
     let most = c.len-n.ensures.well_formed.few_flights in (
       search rules,
-      (
-        omega (arith, ints, e, r.number, r.one_back),
-        omega
-            (arith, ints, e, r.number, r.one_back, few, most),
-      ),
+      (omega (arith, ints, e, r.number, r.one_back), omega (arith, ints, e, r.number, r.one_back, few, most)),
     )
 
 pub loop-i-preserved : goal.loop-i-preserved
 loop-i-preserved g c =
     let inv = c.loop-i.invariant in
-    let r = step_reads c.args.problem.now _ c.requires.held
-    (omega (arith, c.requires.whole)) c.loop-i.i _ c.loop-i.place c.loop-i.index _ _ _ _
-    (omega (arith, c.loop-i-test.true)) inv.0 (omega (arith, c.loop-i-test.true))
+    let r = step_reads _ _ c.requires.held (omega arith) _ _ _ _ _ _ _ _ (omega arith) inv.0 (omega arith)
     c.earlier.view_is c.index-kept-i.is c.later.view_is c.index-kept-i-in-loop-i.is inv.2 inv.3 in
     let laws : WindowLaws c.args.problem.now g.row.W = search rules in
-    let last = last_given c.args.problem.now g.row.W c.requires.width laws _ _ _ _ _ _ r.held.held c.source.ensures in
+    let last = last_given _ g.row.W c.requires.width laws _ _ _ _ _ _ r.held.held c.source.ensures in
     let e = last.0 in
     let gives = c.source.ensures in
     let room = inv.1 in (
-      omega (arith, inv.0),
-      length-set c.loop-i.order (c.loop-i.i - 1) c.last_rank.result ∙ room,
-      subst (λ (s : LabelledStage). c.source.result.0 < length s.stage.1) r.before_is gives.within,
-      subst (λ (s : LabelledStage). c.source.result.1 < length (list_at s.labels.lists c.source.result.0))
-          r.before_is gives.listed,
-      back_pair c.args.problem.now c.prefix_laws.ensures.network c.args.kept.now c.loop-i.i
-          c.loop-i.place c.loop-i.index c.source.result.0 c.source.result.1
-          c.last_rank.result (last_pair
-          (list_at (stage_at c.args.kept.now (length c.args.problem.now.flights)).labels.lists c.args.place))
-          c.loop-i.order _ _ _ _ r c.node-node.ensures.value c.pair-pair.ensures.value gives
-          (omega (arith, ints, e, r.number, r.one_back, c.last_rank.ensures))
-          (omega (arith, room, inv.0, c.loop-i-test.true)) inv.4,
+      omega arith,
+      length-set _ (c.loop-i.i - 1) _ ∙ room,
+      subst (λ s. c.source.result.0 < length s.stage.1) r.before_is gives.within,
+      subst (λ s. c.source.result.1 < length (list_at s.labels.lists c.source.result.0)) r.before_is gives.listed,
+      back_pair _ c.prefix_laws.ensures.network _ _ _ _ c.source.result.0 c.source.result.1 _ _ _ _ _ _ _ r
+          c.node-node.ensures.value c.pair-pair.ensures.value gives
+          (omega (arith, ints, e, r.number, r.one_back, c.last_rank.ensures)) (omega arith) inv.4,
     )
 
 pub returns-clause-lands : goal.returns-clause-lands
 returns-clause-lands g c =
     let inv = c.loop-i.invariant in
-    trace_end c.args.problem.now _ c.requires.held c.loop-i.i c.loop-i.place c.loop-i.index _ _
-    (omega (arith, c.loop-i-test.false)) (omega (arith, c.requires.whole)) inv.2 inv.3 inv.4
+    trace_end _ _ c.requires.held _ _ _ _ _ (omega arith) (omega arith) inv.2 inv.3 inv.4
 
 pub overflow_sub-index : goal.overflow_sub-index
 overflow_sub-index g c =
-    let l = last_read c.args.problem.now _ c.requires.held
-    (omega (arith, c.requires.whole)) _ _ _ c.len-n.ensures.value c.last.view_is c.index-kept-n.is in
-    let some = l.some c.args.place (omega (arith, l.one_each, c.requires.within)) in
-    omega (arith, some, c.count-index.ensures)
+    let l = last_read _ _ c.requires.held (omega arith) _ _ _ c.len-n.ensures.value c.last.view_is c.index-kept-n.is in
+    let some = l.some c.args.place (omega arith) in
+    omega arith
 
 pub loop-i-init : goal.loop-i-init
 loop-i-init g c =
-    let l = last_read c.args.problem.now _ c.requires.held
-    (omega (arith, c.requires.whole)) _ _ _ c.len-n.ensures.value c.last.view_is c.index-kept-n.is in
-    let some = l.some c.args.place (omega (arith, l.one_each, c.requires.within)) in
+    let l = last_read _ _ c.requires.held (omega arith) _ _ _ c.len-n.ensures.value c.last.view_is c.index-kept-n.is in
+    let some = l.some c.args.place (omega arith) in
     let long = rw l.is at c.count-index.ensures in
-    trace_begins c.args.problem.now _ (length c.args.problem.now.flights) c.len-n.result c.args.place
-    (c.count-index.result - 1)
-    c.args.order.now c.len-n.ensures.value (omega arith) c.requires.room c.requires.within
-    (omega (arith, rw l.is at some, long)) (ap (λ (n : ℕ). n - 1) long)
+    trace_begins _ _ _ _ _ (c.count-index.result - 1) _ c.len-n.ensures.value (omega arith) c.requires.room
+    c.requires.within (omega arith) (ap (λ n. n - 1) long)

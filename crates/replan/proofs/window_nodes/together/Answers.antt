@@ -1,10 +1,7 @@
-use Rattle.std.proofs.Common.{ℕ, ◌+◌, List, ap₂, subst, sym, ◌∙◌}
-use Rattle.std.specs.Prelude.{ℤ}
+use Rattle.std.proofs.Common.{ap₂, ◌∙◌}
 use Rattle.std.proofs.Math.ListN.{length-set}
-use Rattle.cps_network.specs.Lists.{node_at}
 use Rattle.cps_network.specs.Nodes.{latest}
-use Rattle.cps_network.specs.WindowRanks.{TellsPlaced}
-use Rattle.replan.proofs.TogetherLemmas.{one_window, AreGrouped}
+use Rattle.replan.proofs.TogetherLemmas.{one_window}
 use Rattle.replan.proofs.window_nodes.together.Goals as goal
 
 pub loop-i-preserved : goal.loop-i-preserved
@@ -14,15 +11,7 @@ loop-i-preserved g c =
     let node = c.placed_node-node.result in
     let window = c.node.ensures.value in
     let number = c.number-number.ensures in
-    let placed = subst (λ (n : ℕ). TellsPlaced (node_at s.1 i) n node.placed) number
-    (subst (λ (xs : List ℤ). TellsPlaced xs c.number-number.result node.placed) window
-    c.placed_node-node.ensures.placed) in
-    let last = c.placed_node-node.ensures.last ∙ ap₂ (λ (n : ℕ) (xs : List ℤ). latest (n, xs)) number window in
-    let more = one_window s.0 s.1 i c.loop-i.places.items c.loop-i.firsts.items c.loop-i.nodes.items
-    c.loop-i.invariant.1 node placed last
-    c.in_ok-place.place c.keep_or_put.new.nodes.items c.keep_or_put.new.firsts.items c.in_ok-place.ensures in (
-      simp length-set c.loop-i.invariant.0,
-      subst (λ (places : List ℕ). AreGrouped s.0 s.1
-          (i + 1) places c.keep_or_put.new.firsts.items c.keep_or_put.new.nodes.items)
-          (sym c.in_ok-push.ensures.items) more,
-    )
+    let placed = rw number at (rw window at c.placed_node-node.ensures.placed) in
+    let last = c.placed_node-node.ensures.last ∙ ap₂ (λ n xs. latest (n, xs)) number window in
+    let more = one_window s.0 s.1 i _ _ _ c.loop-i.invariant.1 node placed last _ _ _ c.in_ok-place.ensures in
+    (simp length-set c.loop-i.invariant.0, rw c.in_ok-push.ensures.items more)

@@ -1,6 +1,5 @@
-use Rattle.std.proofs.Common.{List, length, subst, sym}
-use Rattle.std.specs.Prelude.{ℤ}
-use Rattle.replan.specs.WindowNodes.{ArePutTogether, WindowNodes}
+use Rattle.std.proofs.Common.{length, subst, sym}
+use Rattle.replan.specs.WindowNodes.{ArePutTogether}
 use Rattle.replan.proofs.MovedNodes.{together_moved}
 use Rattle.replan.proofs.window_nodes.together_again.Goals as goal
 
@@ -13,8 +12,8 @@ returns-then-have_one_list-clause-together g c =
     let same = c.have_one_list.ensures.same yes in
     let shared = c.in_ok-nodes.ensures in
     let valid = c.windows-valid.ensures.valid in
-    let at = subst (λ (windows : List (List ℤ)). ArePutTogether o.0 windows
+    let at = subst (λ windows. ArePutTogether o.0 windows
     (length windows) former.places former.firsts) (sym same) c.requires.former in
     let moved = together_moved g.row.W o.0 s.0 s.1 former.places former.firsts valid
     (c.have_one_list.ensures.other_near yes) (c.have_one_list.ensures.near yes) at in
-    subst (λ (n : WindowNodes). ArePutTogether s.0 s.1 (length s.1) n.places n.firsts) (sym shared) moved
+    rw shared moved

@@ -16,12 +16,12 @@ most_two v = elim (cases_Bool (v == 1)) [ inl first ↦ rw first (omega arith) |
 
 within : (o : Objective) (v k : ℕ) → (is_delay o ≡ true → k ≤ most_shift v) → IsWithinShift o k
 within Makespan v k h = tt
-within Delay v k h = let few = h refl in let most = most_two v in omega (arith, few, most)
+within Delay v k h = let few = h refl in let most = most_two v in omega arith
 
 plannable : (a : Aerodrome) (s : Situation) → IsInRange a → s.aerodrome ≡ aerodrome_of a
     → IsWithinShift s.aerodrome.objective s.aerodrome.k
 plannable a s range e = rw e (within a.objective a.version a.k range.shift)
 
 pub returns-in-None-clause-plannable : goal.returns-in-None-clause-plannable
-returns-in-None-clause-plannable c = plannable c.args.aerodrome.now c.in_ok-situation.situation c.requires.aerodrome
-    (ap (λ (s : Situation). s.aerodrome) c.in_ok-situation.ensures.value)
+returns-in-None-clause-plannable c = plannable _ c.in_ok-situation.situation c.requires.aerodrome
+    (ap (λ s. s.aerodrome) c.in_ok-situation.ensures.value)

@@ -15,8 +15,7 @@ line-requires c =
     let l = length-map (take (length (frozen_shown s)) ls) frozen_there in
     let m = length-take (length (frozen_shown s)) ls in
     let n = c.requires.count in
-    let some = c.if-count-gt0.true in
-    omega arith
+    omega (arith, c.if-count-gt0.true)
 
 pub latest_at-requires-clause-second : goal.latest_at-requires-clause-second
 latest_at-requires-clause-second c =

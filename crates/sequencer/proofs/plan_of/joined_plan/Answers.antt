@@ -6,12 +6,10 @@ pub value_of-value-requires-clause-room : goal.value_of-value-requires-clause-ro
 value_of-value-requires-clause-room c = c.requires.feasible.one_each
 
 pub value_of-value-requires-clause-seconds : goal.value_of-value-requires-clause-seconds
-value_of-value-requires-clause-seconds c = list_in_days c.args.situation.now c.args.problem.now
-    c.requires.sound c.requires.problem c.args.schedule.now c.requires.feasible
+value_of-value-requires-clause-seconds c = list_in_days _ _ c.requires.sound c.requires.problem _ c.requires.feasible
 
 pub plan_of-requires-clause-long : goal.plan_of-requires-clause-long
-plan_of-requires-clause-long c = list_length c.args.situation.now c.args.problem.now c.requires.sound
-    c.requires.problem c.args.schedule.now c.requires.feasible
+plan_of-requires-clause-long c = list_length _ _ c.requires.sound c.requires.problem _ c.requires.feasible
 
 pub plan_of-requires-clause-feasible : goal.plan_of-requires-clause-feasible
 plan_of-requires-clause-feasible c = c.problem_stands_for_situation.ensures.feasible c.args.situation.now

@@ -2,7 +2,6 @@ use Rattle.std.proofs.Common.{◌<◌, ◌≤◌, length, map, sym, ap, ◌∙�
 use Rattle.std.specs.Prelude.{◌↔◌, IsTrue}
 use Rattle.std.proofs.lemmas.Bool.{false≢true}
 use Rattle.std.proofs.lemmas.List.{length-map}
-use Rattle.landing_rules.specs.Flights.{Active}
 use Rattle.landing_rules.specs.Rules.{lists}
 use Rattle.sequencer.specs.Predecessors.{IsListed}
 use Rattle.sequencer.proofs.Listed.{none_added, one_added, none_more, all_added, listed_by}
@@ -10,7 +9,7 @@ use Rattle.sequencer.proofs.predecessors.add_predecessors.Goals as goal
 use Rattle.sequencer.proofs.predecessors.add_predecessors.Goals.{then-lists, else-lists}
 
 pub loop-first-init : goal.loop-first-init
-loop-first-init c = none_added (map (λ a. a.now) c.args.ranked.now.items) c.args.pairs.now c.args.next
+loop-first-init c = none_added _ _ _
 
 pub loop-first-preserved : goal.loop-first-preserved
 loop-first-preserved c =
@@ -19,12 +18,12 @@ loop-first-preserved c =
     let first = c.loop-first.first in
     let next = c.args.next in
     let low : 1 ≤ first = c.loop-first.auto.first in
-    let high : first ≤ length items = let e = c.len.ensures in let v = c.args.ranked.now.ok.0 in omega arith in
+    let high : first ≤ length items = let e = c.len.ensures in omega (arith, c.args.ranked.now.ok.0) in
     let listed : IsListed all first next
     ↔ IsTrue (lists c.index-follower.result.now.now.flight c.index-leader.result.now.now.flight.callsign) =
     listed_by (λ a. a.now) items first next c.index-leader.result.now c.index-follower.result.now
     (low, high) c.requires.next c.index-leader.ensures c.index-follower.ensures in
-    let same = ap (λ (a : Active). lists c.index-follower.result.now.now.flight a.flight.callsign) c.leader.view_is in
+    let same = ap (λ a. lists c.index-follower.result.now.now.flight a.flight.callsign) c.leader.view_is in
     elim c.if-lists.branch [
       | then-lists w ↦ rw w.pairs-is
           (one_added all c.args.pairs.now c.loop-first.pairs w.add.new.self next first c.loop-first.invariant
@@ -39,6 +38,5 @@ returns c =
     let items = c.args.ranked.now.items in
     let n = length-map items (λ a. a.now) in
     let past : length (map (λ a. a.now) items) < c.loop-first.first = let e = c.len.ensures in let v =
-    c.args.ranked.now.ok.0 in let t = c.loop-first-test.false in omega arith in
-    all_added (map (λ a. a.now) items) c.args.pairs.now c.loop-first.pairs c.args.next c.loop-first.first
-    past c.loop-first.invariant
+    c.args.ranked.now.ok.0 in omega (arith, c.loop-first-test.false) in
+    all_added _ _ _ _ _ past c.loop-first.invariant

@@ -1,35 +1,25 @@
-use Rattle.std.proofs.Common.{◌≡◌, ℕ, ◌+◌, ◌-◌, ◌≤◌, List, length, get_or, slice_set, take, ap, ◌∙◌, arith}
+use Rattle.sequencer.proofs.Joined.{placed_count}
+use Rattle.std.proofs.Common.{◌≡◌, ℕ, ◌+◌, ◌-◌, ◌≤◌, length, get_or, slice_set, take, ap, ◌∙◌, arith}
 use Rattle.std.proofs.lemmas.List.{length-map, take_all}
 use Rattle.std.proofs.lemmas.Option.{slice_get_within}
-use Rattle.landing_rules.specs.Flights.{Situation, waiting}
-use Rattle.landing_rules.specs.Problem.{by_rank, joined, joined_second}
-use Rattle.landing_rules.specs.Sound.{IsSound}
+use Rattle.landing_rules.specs.Problem.{joined}
 use Rattle.landing_joint.specs.Numbered.{nobody}
-use Rattle.sequencer.specs.Ranked.{ArePlacesByRank}
-use Rattle.sequencer.proofs.Ranks.{rank_length}
-use Rattle.sequencer.proofs.Joined.{joined_more, placed_at, places_length}
+use Rattle.sequencer.proofs.Joined.{joined_more, placed_at}
 use Rattle.sequencer.proofs.seconds.joined_seconds.Goals as goal
-
-count : (s : Situation) (places : List ℕ) → IsSound s → ArePlacesByRank s places → length places ≡ length (waiting s)
-count s places sound at = places_length s sound.callsigns places at ∙ rank_length (waiting s)
 
 pub overflow_cast-index : goal.overflow_cast-index
 overflow_cast-index c =
-    let n = count c.args.situation.now c.args.places.now c.requires.sound c.requires.places in
-    let few = c.requires.sound.few_waiting in
-    let lt = c.loop-index-test.true in
-    omega arith
+    let n = placed_count _ _ c.requires.sound c.requires.places in
+    omega (arith, c.requires.sound.few_waiting, c.loop-index-test.true)
 
 pub overflow_add-index : goal.overflow_add-index
 overflow_add-index c =
-    let n = count c.args.situation.now c.args.places.now c.requires.sound c.requires.places in
-    let few = c.requires.sound.few_waiting in
-    let lt = c.loop-index-test.true in
-    omega arith
+    let n = placed_count _ _ c.requires.sound c.requires.places in
+    omega (arith, c.requires.sound.few_waiting, c.loop-index-test.true)
 
 pub second-requires : goal.second-requires
 second-requires c =
-    let n = count c.args.situation.now c.args.places.now c.requires.sound c.requires.places in
+    let n = placed_count _ _ c.requires.sound c.requires.places in
     let long = c.requires.long in
     let lt = c.loop-index-test.true in
     (omega arith, omega arith)
@@ -40,12 +30,11 @@ index_mut-requires c =
     let i = c.loop-index.index in
     let places = c.args.places.now in
     let t = take i c.args.schedule.now in
-    let within = slice_get_within s.active (get_or places i 0) (get_or (by_rank (waiting s)) i nobody)
+    let within = slice_get_within s.active _ _
     (placed_at s c.requires.sound.callsigns places c.requires.places i nobody c.loop-index-test.true) in
     let long : length c.loop-index.seconds.items ≡ length s.active =
-    ap (length {A = ℕ}) c.loop-index.invariant ∙ length-map s.active (joined_second s t) in
-    let whole = c.loop-index.seconds.ok.0 in
-    omega arith
+    ap (length {A = ℕ}) c.loop-index.invariant ∙ length-map s.active _ in
+    omega (arith, c.loop-index.seconds.ok.0)
 
 pub loop-index-preserved : goal.loop-index-preserved
 loop-index-preserved c =
@@ -55,13 +44,13 @@ loop-index-preserved c =
     let t = c.args.schedule.now in
     let same : i + 1 - 1 ≡ i = omega arith in
     ap (slice_set c.loop-index.seconds.items (get_or places i 0)) (c.second.ensures ∙ ap (λ k. get_or t k 0) same)
-    ∙ ap (λ (l : List ℕ). slice_set l (get_or places i 0) (get_or t i 0)) c.loop-index.invariant
+    ∙ ap (λ l. slice_set l (get_or places i 0) (get_or t i 0)) c.loop-index.invariant
     ∙ joined_more s c.requires.sound.callsigns places c.requires.places t i c.loop-index-test.true
 
 pub returns : goal.returns
 returns c =
     let s = c.args.situation.now in
-    let n = count s c.args.places.now c.requires.sound c.requires.places in
+    let n = placed_count s _ c.requires.sound c.requires.places in
     let long = c.requires.long in
-    let past : length c.args.schedule.now ≤ c.loop-index.index = let b = c.loop-index-test.false in omega arith in
-    c.loop-index.invariant ∙ ap (joined s) (take_all c.loop-index.index c.args.schedule.now past)
+    let past : length c.args.schedule.now ≤ c.loop-index.index = omega (arith, c.loop-index-test.false) in
+    c.loop-index.invariant ∙ ap (joined s) (take_all _ _ past)

@@ -8,6 +8,4 @@ posed : (s : Situation) (p : Problem) → IsWithinShift s.aerodrome.objective s.
 posed s p plannable of = rw (of.objective, of.k) plannable
 
 pub replan-requires-clause-plannable : goal.replan-requires-clause-plannable
-replan-requires-clause-plannable g c =
-    λ lives within. posed c.args.asked.situation.now c.in_ok-problem.problem c.requires.plannable
-    c.in_ok-problem.ensures.problem
+replan-requires-clause-plannable g c = λ lives within. posed _ _ c.requires.plannable c.in_ok-problem.ensures.problem

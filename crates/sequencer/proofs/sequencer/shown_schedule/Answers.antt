@@ -1,24 +1,21 @@
-use Rattle.std.proofs.Common.{sym, ap, subst, ◌∙◌}
-use Rattle.landing_rules.specs.Flights.{Schedule}
-use Rattle.landing_rules.specs.Rules.{IsBest, IsTight}
+use Rattle.std.proofs.Common.{sym, ap, ◌∙◌}
 use Rattle.landing_rules.specs.Text.{shown_plan}
 use Rattle.sequencer.proofs.Joined.{list_length, list_in_days}
 use Rattle.sequencer.proofs.sequencer.shown_schedule.Goals as goal
 
 pub joined_seconds-requires-clause-long : goal.joined_seconds-requires-clause-long
-joined_seconds-requires-clause-long c = list_length c.args.situation.now c.args.problem.now
-    c.requires.sound c.requires.problem c.args.schedule.now c.requires.answer.0.feasible
+joined_seconds-requires-clause-long c = list_length _ _
+    c.requires.sound c.requires.problem _ c.requires.answer.0.feasible
 
 pub value_of-value-requires-clause-room : goal.value_of-value-requires-clause-room
 value_of-value-requires-clause-room c = c.requires.answer.0.feasible.one_each
 
 pub value_of-value-requires-clause-seconds : goal.value_of-value-requires-clause-seconds
-value_of-value-requires-clause-seconds c = list_in_days c.args.situation.now c.args.problem.now
-    c.requires.sound c.requires.problem c.args.schedule.now c.requires.answer.0.feasible
+value_of-value-requires-clause-seconds c = list_in_days _ _
+    c.requires.sound c.requires.problem _ c.requires.answer.0.feasible
 
 pub plan_of-requires-clause-long : goal.plan_of-requires-clause-long
-plan_of-requires-clause-long c = list_length c.args.situation.now c.args.problem.now c.requires.sound
-    c.requires.problem c.args.schedule.now c.requires.answer.0.feasible
+plan_of-requires-clause-long c = list_length _ _ c.requires.sound c.requires.problem _ c.requires.answer.0.feasible
 
 pub plan_of-requires-clause-feasible : goal.plan_of-requires-clause-feasible
 plan_of-requires-clause-feasible c = c.problem_stands_for_situation.ensures.feasible c.args.situation.now
@@ -37,7 +34,7 @@ returns-clause-shown c =
     let s = c.args.situation.now in
     let p = c.args.problem.now in
     let t = c.args.schedule.now in
-    subst (λ (u : Schedule). IsBest s u × IsTight s u) (sym c.in_ok-seconds.ensures) (
+    rw c.in_ok-seconds.ensures (
       c.problem_stands_for_situation.ensures.best s p t c.requires.sound c.requires.problem c.requires.answer.0,
       c.problem_stands_for_situation.ensures.tight s p t c.requires.sound c.requires.problem c.requires.answer.1,
     )

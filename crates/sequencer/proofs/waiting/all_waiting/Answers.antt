@@ -1,10 +1,8 @@
-use Rattle.std.proofs.Common.{◌≡◌, ◌<◌, ◌+◌, Bor, List, [], ◌∷◌, ◌++◌, length, get_or, map, take, sym, ap, subst, ◌∙◌}
+use Rattle.std.proofs.Common.{◌≡◌, ◌<◌, ◌+◌, [], ◌∷◌, ◌++◌, length, get_or, map, take, sym, ap, ◌∙◌}
 use Rattle.std.proofs.Common.{arith}
 use Rattle.std.proofs.lemmas.List.{length-map, take_more, map-append}
 use Rattle.std.proofs.lemmas.Slice.Zip.{all_zipped_more}
-use Rattle.landing_rules.specs.Flights.{Active}
 use Rattle.landing_rules.specs.Problem.{IsWaitingOf}
-use Rattle.situations.specs.declared.active.Active as declared
 use Rattle.cps_problem.specs.Seen.{waiting_of}
 use Rattle.sequencer.proofs.Ranks.{seen_at}
 use Rattle.sequencer.proofs.waiting.all_waiting.Goals as goal
@@ -16,16 +14,13 @@ loop-active-preserved c =
     let i = c.loop-active.active-index in
     let x = c.active-item.result in
     let n = length-map items (λ a. a.now) in
-    let within : i < length items = subst (λ (ys : List (Bor declared.Active)). i < length ys)
-    c.deref-active-items.ensures.value c.loop-active-test.true in
-    let at : x ≡ get_or items i x = subst (λ (ys : List (Bor declared.Active)). x ≡ get_or ys i x)
-    c.deref-active-items.ensures.value c.active-item.is in
+    let within : i < length items = rw c.deref-active-items.ensures.value at c.loop-active-test.true in
+    let at : x ≡ get_or items i x = rw c.deref-active-items.ensures.value at c.active-item.is in
     let is : x.now ≡ get_or xs i x.now = seen_at (λ a. a.now) items i x within at in
-    let here : take (i + 1) xs ≡ take i xs ++ x.now ∷ [] =
-    take_more xs i x.now (omega (arith, n, within)) ∙ ap (λ (b : Active). take i xs ++ b ∷ []) (sym is) in
+    let here : take (i + 1) xs ≡ take i xs ++ x.now ∷ [] = take_more xs i x.now (omega arith)
+    ∙ ap (λ b. take i xs ++ b ∷ []) (sym is) in
     let there : map waiting_of c.push.new.self.items ≡ map waiting_of c.loop-active.all.items
     ++ waiting_of c.in_ok-waiting.waiting ∷ [] =
-    ap (map waiting_of) c.in_ok-push.ensures.items ∙ map-append waiting_of c.loop-active.all.items
-    (c.in_ok-waiting.waiting ∷ []) in
+    ap (map waiting_of) c.in_ok-push.ensures.items ∙ map-append waiting_of _ (c.in_ok-waiting.waiting ∷ []) in
     rw (here, there) (all_zipped_more (IsWaitingOf c.args.closures.now) _ _ x.now
     (waiting_of c.in_ok-waiting.waiting) c.loop-active.invariant (c.in_ok-waiting.ensures _ c.in_ok-runway.ensures))

@@ -10,14 +10,14 @@ returns-clause-lists c =
     let p = c.args.problem.now in
     let held = held_of c.args.kept.now in
     IfOk-weaker c.stages_ahead.result (IsAheadOf p c.args.value held) (HasEachList p held)
-    (λ s a. each_listed p c.args.value None held s a) c.stages_ahead.ensures
+    (each_listed p _ None held) c.stages_ahead.ensures
 
 pub returns-clause-exact : goal.returns-clause-exact
 returns-clause-exact c =
     let p = c.args.problem.now in
     let held = held_of c.args.kept.now in
     IfOk-weaker c.stages_ahead.result (IsAheadOf p c.args.value held) (ListsAllCompleting p c.args.value held)
-    (λ s a. all_exact p c.args.value held s a c.window_laws.ensures.network c.window_laws.ensures.tell
+    (λ s a. all_exact p _ held s a c.window_laws.ensures.network c.window_laws.ensures.tell
     (c.stages-held.ensures.held p c.requires)) c.stages_ahead.ensures
 
 pub returns-clause-within : goal.returns-clause-within
@@ -25,4 +25,4 @@ returns-clause-within c =
     let p = c.args.problem.now in
     let held = held_of c.args.kept.now in
     IfOk-weaker c.stages_ahead.result (IsAheadOf p c.args.value held) (IsAheadWithin p c.args.value held)
-    (all_within p c.args.value held) c.stages_ahead.ensures
+    (all_within p _ held) c.stages_ahead.ensures

@@ -1,5 +1,4 @@
-use Rattle.std.proofs.Common.{ℕ, Some, subst}
-use Rattle.std.specs.Prelude.{IfOk}
+use Rattle.std.proofs.Common.{Some}
 use Rattle.std.proofs.lemmas.Result.{IfOk-weaker}
 use Rattle.replan.specs.Kept.{held_of}
 use Rattle.first_best.specs.Stages.{HasEachList, IsAheadBy, IsAheadWithin, ListsAllOfUse}
@@ -7,24 +6,20 @@ use Rattle.first_best.proofs.AheadLemmas.{all_of_use, each_listed}
 use Rattle.first_best.proofs.ahead.Ahead.within.Goals as goal
 
 pub returns-clause-made : goal.returns-clause-made
-returns-clause-made c =
-    subst (λ (b : ℕ). IfOk c.stages_ahead.result (IsAheadBy c.args.problem.now c.args.value
-    (Some b) (held_of c.args.kept.now))) c.budget_of-budget.ensures c.stages_ahead.ensures
+returns-clause-made c = rw c.budget_of-budget.ensures at c.stages_ahead.ensures
 
 pub returns-clause-lists : goal.returns-clause-lists
 returns-clause-lists c =
     let p = c.args.problem.now in
     let held = held_of c.args.kept.now in
     IfOk-weaker c.stages_ahead.result (IsAheadBy p c.args.value (Some c.budget_of-budget.result) held)
-    (HasEachList p held) (λ s a. each_listed p c.args.value (Some c.budget_of-budget.result) held s a)
-    c.stages_ahead.ensures
+    (HasEachList p held) (each_listed p _ (Some c.budget_of-budget.result) held) c.stages_ahead.ensures
 
 pub returns-clause-useful : goal.returns-clause-useful
 returns-clause-useful c =
     let p = c.args.problem.now in
     let held = held_of c.args.kept.now in
-    let made = subst (λ (b : ℕ). IfOk c.stages_ahead.result (IsAheadBy p c.args.value (Some b) held))
-    c.budget_of-budget.ensures c.stages_ahead.ensures in
+    let made = rw c.budget_of-budget.ensures at c.stages_ahead.ensures in
     IfOk-weaker c.stages_ahead.result (IsAheadWithin p c.args.value held) (ListsAllOfUse p c.args.value held)
-    (λ s a. all_of_use p c.args.value held s a c.window_laws.ensures.network c.window_laws.ensures.tell
+    (λ s a. all_of_use p _ held s a c.window_laws.ensures.network c.window_laws.ensures.tell
     (c.stages-held.ensures.held p c.requires)) made

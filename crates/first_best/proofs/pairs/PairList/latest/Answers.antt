@@ -1,5 +1,4 @@
-use Rattle.std.proofs.Common.{◌≡◌, ℕ, ◌-◌, ◌≤◌, length, sym, ap, subst, ◌∙◌}
-use Rattle.cps_theory.specs.Labels.{Pair}
+use Rattle.std.proofs.Common.{◌≡◌, ◌-◌, length, sym, ap, ◌∙◌}
 use Rattle.cps_network.specs.Pairs.{pair_at}
 use Rattle.first_best.proofs.PairLemmas.{last_most}
 use Rattle.first_best.proofs.pairs.PairList.latest.Goals as goal
@@ -8,5 +7,5 @@ pub returns : goal.returns
 returns c = λ q i.
     let xs = c.args.self.now in
     let at : pair_at xs (length xs - 1) ≡ c.pair.result =
-    ap (λ (n : ℕ). pair_at xs (n - 1)) (sym c.len-len.ensures) ∙ sym c.pair.ensures in
-    subst (λ (z : Pair). q.0 ≤ z.0) at (last_most xs c.requires q i)
+    ap (λ n. pair_at xs (n - 1)) (sym c.len-len.ensures) ∙ sym c.pair.ensures in
+    rw at at (last_most xs c.requires q i)

@@ -1,6 +1,4 @@
-use Rattle.std.proofs.Common.{sym, subst}
-use Rattle.cps_theory.specs.Labels.{InPairs}
 use Rattle.first_best.proofs.stage.StageAhead.latest.Goals as goal
 
 pub returns : goal.returns
-returns c = λ q m. c.latest.ensures q (subst (InPairs q) (sym c.list.ensures) m)
+returns c = λ q m. c.latest.ensures q (rw c.list.ensures m)

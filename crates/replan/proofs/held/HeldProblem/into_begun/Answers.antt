@@ -1,23 +1,19 @@
 use Rattle.std.proofs.Common.{ap, arith}
-use Rattle.replan.specs.Held.{HeldProblem}
 use Rattle.replan.proofs.StageLemmas.{fits_in_common, due_after_common}
 use Rattle.replan.proofs.held.HeldProblem.into_begun.Goals as goal
 
 pub returns-then-count-gt1-clause-few : goal.returns-then-count-gt1-clause-few
 returns-then-count-gt1-clause-few g c =
-    let fits = fits_in_common c.self.inside.problem c.args.problem.now c.common-count.result c.common-count.ensures in
-    omega (arith, fits, c.into_common.ensures.count)
+    let fits = fits_in_common _ _ _ c.common-count.ensures in
+    omega arith
 
 pub returns-then-count-gt1-clause-due : goal.returns-then-count-gt1-clause-due
 returns-then-count-gt1-clause-due g c =
-    rw (← ap (λ (h : HeldProblem). h.problem) c.self.view_is)
-    (due_after_common c.self.inside.problem c.args.problem.now _ _ c.common-count.ensures
-    (omega (arith, c.into_common.ensures.count))
-    (λ more. omega (arith, c.into_common.ensures.count)))
+    rw (← ap (λ h. h.problem) c.self.view_is) (due_after_common _ _ _ _ c.common-count.ensures (omega arith)
+    (λ more. omega arith))
 
 pub returns-clause-due : goal.returns-clause-due
 returns-clause-due g c =
-    rw (← ap (λ (h : HeldProblem). h.problem) c.self.view_is)
-    (due_after_common c.self.inside.problem c.args.problem.now _ _ c.common-count.ensures
+    rw (← ap (λ h. h.problem) c.self.view_is) (due_after_common _ _ _ _ c.common-count.ensures
     (omega (arith, c.if-count-gt1.false, c.in_ok-put_first.ensures.one))
     (λ more. absurd (omega (arith, more, c.in_ok-put_first.ensures.one))))

@@ -1,9 +1,6 @@
-use Rattle.std.proofs.Common.{◌≡◌, ℕ, ◌+◌, ◌-◌, ◌<◌, List, [], ◌∷◌, true, length, length-append, ap, subst, sym}
+use Rattle.std.proofs.Common.{◌≡◌, ◌+◌, ◌-◌, ◌<◌, [], ◌∷◌, true, length, length-append, ap}
 use Rattle.std.proofs.Common.{arith, ◌∙◌}
-use Rattle.std.specs.Prelude.{ℤ}
-use Rattle.landing_rules.specs.Problem.{Problem}
-use Rattle.cps_network.specs.Permits.{IsNextOf}
-use Rattle.replan.specs.Stages.{AreHints, HintedStage, hinted_at}
+use Rattle.replan.specs.Stages.{HintedStage, hinted_at}
 use Rattle.replan.proofs.HintLemmas.{first_ahead, last_ahead, one_ahead, read_hinted}
 use Rattle.replan.proofs.hints.Hints.last_of.Goals as goal
 
@@ -12,29 +9,22 @@ loop-number-preserved g c =
     let stages = c.loop-number.stages.items in
     let place = c.from-in-loop-number.result in
     let place_is : place ≡ c.loop-number.number - c.saturating_sub-first.result = c.from-in-loop-number.ensures in
-    let long : length stages ≡ place + 1 = omega (arith, c.loop-number.invariant.1, place_is) in
-    let within : place < length stages = omega (arith, long) in
+    let long : length stages ≡ place + 1 = omega arith in
+    let within : place < length stages = omega arith in
     let is = read_hinted stages place _ _ c.before-in-loop-number.view_is c.index-before.ensures within in
-    let at : c.before-in-loop-number.inside.stage ≡ (hinted_at stages place).stage =
-    ap (λ (s : HintedStage). s.stage) is in
-    let number : (hinted_at stages place).stage.0 ≡ c.loop-number.number =
-    subst (λ (n : ℕ). (hinted_at stages n).stage.0 ≡ c.loop-number.number) (sym place_is) c.loop-number.invariant.2 in
-    let next = subst (λ (s : ℕ × List (List ℤ)). IsNextOf c.args.problem.now s.0 s.1 c.in_ok-next.next.1) at
-    c.in_ok-next.ensures.exact in
+    let at : c.before-in-loop-number.inside.stage ≡ (hinted_at stages place).stage = ap (λ s. s.stage) is in
+    let number : (hinted_at stages place).stage.0 ≡ c.loop-number.number = rw place_is c.loop-number.invariant.2 in
+    let next = rw at at c.in_ok-next.ensures.exact in
     let items = c.in_ok-push-2.ensures.items in
     let one : HintedStage = record { stage = c.in_ok-next.next; is_whole = true } in
-    let end : c.loop-number.number + 1 - c.saturating_sub-first.result ≡ place + 1 =
-    omega (arith, place_is, c.loop-number.auto) in (
-      one_ahead c.args.problem.now stages _ place one c.loop-number.invariant.0 long items next,
+    let end : c.loop-number.number + 1 - c.saturating_sub-first.result ≡ place + 1 = omega arith in (
+      one_ahead _ stages _ place one c.loop-number.invariant.0 long items next,
       omega (arith, ap length items, length-append stages (one ∷ []), long, end),
-      ap (λ (n : ℕ). (hinted_at c.push-in-loop-number.new.self.items n).stage.0) end
-          ∙ ap (λ (s : HintedStage). s.stage.0) (last_ahead stages _ one (place + 1) long items)
-          ∙ c.in_ok-next.ensures.number ∙ ap (λ (s : ℕ × List (List ℤ)). s.0 + 1) at ∙ ap (λ (n : ℕ). n + 1) number,
-      ap (λ (s : HintedStage). s.stage.1) (first_ahead stages _ one (omega (arith, long)) items)
-          ∙ c.loop-number.invariant.3,
+      ap (λ n. (hinted_at c.push-in-loop-number.new.self.items n).stage.0) end
+          ∙ ap (λ s. s.stage.0) (last_ahead stages _ one (place + 1) long items) ∙ c.in_ok-next.ensures.number
+          ∙ ap (λ s. s.0 + 1) at ∙ ap (λ n. n + 1) number,
+      ap (λ s. s.stage.1) (first_ahead stages _ one (omega arith) items) ∙ c.loop-number.invariant.3,
     )
 
 pub invariant_of-result : goal.invariant_of-result
-invariant_of-result g c =
-    subst (λ (p : Problem). AreHints p c.loop-number.stages.items) (sym c.in_ok-problem.ensures)
-    c.loop-number.invariant.0
+invariant_of-result g c = rw c.in_ok-problem.ensures c.loop-number.invariant.0

@@ -6,18 +6,13 @@ pub next_stage_again-requires : goal.next_stage_again-requires
 next_stage_again-requires g c =
     let stages = c.self.inside.stages.items in
     let place = c.args.number - c.self.inside.first in
-    let next : place + 1 < length stages =
-    omega (arith, c.if-place-len.false, c.if-place-len-2.false, c.len.ensures, c.len-else-place-len.ensures) in
-    let here : place < length stages = omega (arith, next) in
+    let next : place + 1 < length stages = omega arith in
+    let here : place < length stages = omega arith in
     let e = read_hinted stages place _ _ c.earlier.view_is c.index-earlier.ensures here in
     let f = read_hinted stages (place + 1) _ _ c.after.view_is c.index-after.ensures next in (
       search rules,
       (
         c.requires.width,
-        (
-          c.requires.stage,
-          next_hinted c.self.inside.problem stages c.self.invariant place
-              _ _ next e f c.if-not-after.false,
-        ),
+        (c.requires.stage, next_hinted _ stages c.self.invariant place _ _ next e f c.if-not-after.false),
       ),
     )

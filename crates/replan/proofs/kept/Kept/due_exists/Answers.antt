@@ -6,13 +6,11 @@ use Rattle.replan.proofs.DueExists.{due_alone, due_beside}
 use Rattle.replan.proofs.kept.Kept.due_exists.Goals as goal
 
 pub returns-in-None : goal.returns-in-None
-returns-in-None g c =
-    subst (λ o. HasDue (held_problem o) c.args.problem.now) (sym (sym c.self.view_is ∙ c.in-None.is))
-    (due_alone c.args.problem.now c.counts_exist.ensures)
+returns-in-None g c = rw (sym c.self.view_is ∙ c.in-None.is) (due_alone _ c.counts_exist.ensures)
 
 pub returns-in-Some : goal.returns-in-Some
 returns-in-Some g c =
     subst (λ o. HasDue (held_problem o) c.args.problem.now) (sym (sym c.self.view_is ∙ c.in-Some.is))
-    (due_beside c.in-Some.held.problem c.args.problem.now c.first_difference-difference.result c.counts_exist.ensures
+    (due_beside _ _ _ c.counts_exist.ensures
     (subst (λ h. IsFirstDifference h.problem c.args.problem.now c.first_difference-difference.result)
     c.held.view_is c.first_difference-difference.ensures))

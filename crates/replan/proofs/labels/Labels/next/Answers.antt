@@ -11,14 +11,7 @@ column_by_pieces-requires g c =
         search rules,
         (
           search rules,
-          (
-            c.requires.width,
-            (
-              column_held c.args.planning.now.problem.now c.args.before.now c.args.self.now c.in-OfColumn.labels
-                  is c.requires.before,
-              (c.requires.number, c.requires.next),
-            ),
-          ),
+          (c.requires.width, (column_held _ _ _ _ is c.requires.before, (c.requires.number, c.requires.next))),
         ),
       ),
     )
@@ -26,10 +19,8 @@ column_by_pieces-requires g c =
 pub returns-in_ok-left-in-OfColumn-clause-left : goal.returns-in_ok-left-in-OfColumn-clause-left
 returns-in_ok-left-in-OfColumn-clause-left g c =
     let is : of_column c.in-OfColumn.labels ≡ c.args.self.now = sym (ap pairs_of c.in-OfColumn.is) ∙ c.self.view_is in
-    c.in_ok-left-in-OfColumn.ensures c.args.planning.now.problem.now
-    (column_makespan c.args.planning.now.problem.now c.args.before.now c.args.self.now c.in-OfColumn.labels is
-    c.requires.before)
-    c.in_ok-column-in-OfColumn.ensures.landable c.in_ok-column-in-OfColumn.ensures.labels
+    c.in_ok-left-in-OfColumn.ensures c.args.planning.now.problem.now (column_makespan _ _ _ _ is
+    c.requires.before) c.in_ok-column-in-OfColumn.ensures.landable c.in_ok-column-in-OfColumn.ensures.labels
 
 pub returns-in_ok-left-in-OfCosts-clause-left : goal.returns-in_ok-left-in-OfCosts-clause-left
 returns-in_ok-left-in-OfCosts-clause-left g c =

@@ -7,20 +7,13 @@ pub column_alone-requires : goal.column_alone-requires
 column_alone-requires g c =
     let is : of_column c.in-OfColumn.labels ≡ c.args.self.now = sym (ap pairs_of c.in-OfColumn.is) ∙ c.self.view_is in (
       search rules,
-      (
-        c.requires.width,
-        (
-          column_held c.args.problem.now c.args.before.now c.args.self.now c.in-OfColumn.labels is c.requires.before,
-          (c.requires.number, c.requires.next),
-        ),
-      ),
+      (c.requires.width, (column_held _ _ _ _ is c.requires.before, (c.requires.number, c.requires.next))),
     )
 
 pub returns-in_ok-left-in-OfColumn : goal.returns-in_ok-left-in-OfColumn
 returns-in_ok-left-in-OfColumn g c =
     let is : of_column c.in-OfColumn.labels ≡ c.args.self.now = sym (ap pairs_of c.in-OfColumn.is) ∙ c.self.view_is in
-    c.in_ok-left-in-OfColumn.ensures c.args.problem.now
-    (column_makespan c.args.problem.now c.args.before.now c.args.self.now c.in-OfColumn.labels is c.requires.before)
+    c.in_ok-left-in-OfColumn.ensures c.args.problem.now (column_makespan _ _ _ _ is c.requires.before)
     c.in_ok-column-in-OfColumn.ensures.landable c.in_ok-column-in-OfColumn.ensures.labels
 
 pub returns-in_ok-left-in-OfCosts : goal.returns-in_ok-left-in-OfCosts

@@ -9,21 +9,19 @@ use Rattle.replan.proofs.labels.Labels.source.Goals as goal
 pub source_of-requires : goal.source_of-requires
 source_of-requires g c =
     let is : of_column c.in-OfColumn.column ≡ c.args.self.now = sym (ap pairs_of c.in-OfColumn.is) ∙ c.self.view_is in
-    let makespan = column_makespan c.args.problem.now c.args.before.now c.args.self.now c.in-OfColumn.column
-    is c.requires.before in (
+    let makespan = column_makespan _ _ _ _ is c.requires.before in (
       search rules,
       (
         search rules,
         (
           c.requires.width,
           (
-            column_held c.args.problem.now c.args.before.now c.args.self.now c.in-OfColumn.column is c.requires.before,
+            column_held _ _ _ _ is c.requires.before,
             (
-              node_given c.args.problem.now c.prefix_laws.ensures.network c.args.before.now
-                  c.args.node.now c.args.pair c.requires.undominated c.args.self.now.lists c.requires.before.held,
+              node_given _ c.prefix_laws.ensures.network _ _ _ c.requires.undominated _ c.requires.before.held,
               (
-                label_of_undominated c.args.problem.now makespan
-                    (c.args.before.now.0 + 1) c.args.node.now c.args.pair c.requires.known c.requires.undominated,
+                label_of_undominated c.args.problem.now makespan (c.args.before.now.0 + 1) _ _ c.requires.known
+                    c.requires.undominated,
                 c.requires.known,
               ),
             ),
@@ -40,20 +38,12 @@ source_pair-requires g c =
       search rules,
       (
         search rules,
-        (
-          c.requires.width,
-          (
-            held,
-            pair_given c.args.problem.now c.prefix_laws.ensures.network
-                c.args.before.now c.args.node.now c.args.pair c.requires.undominated c.in-OfCosts.costs held,
-          ),
-        ),
+        (c.requires.width, (held, pair_given _ c.prefix_laws.ensures.network _ _ _ c.requires.undominated _ held)),
       ),
     )
 
 pub returns-in-OfColumn : goal.returns-in-OfColumn
 returns-in-OfColumn g c =
     let is : of_column c.in-OfColumn.column ≡ c.args.self.now = sym (ap pairs_of c.in-OfColumn.is) ∙ c.self.view_is in
-    column_gives c.args.problem.now c.prefix_laws.ensures.network c.args.before.now c.args.node.now
-    c.args.pair c.requires.undominated c.args.self.now c.in-OfColumn.column is c.requires.before
-    c.source_of.result c.source_of.ensures.gives
+    column_gives _ c.prefix_laws.ensures.network _ _ _ c.requires.undominated _ _ is c.requires.before _
+    c.source_of.ensures.gives

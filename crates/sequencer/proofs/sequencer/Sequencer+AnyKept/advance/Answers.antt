@@ -11,9 +11,8 @@ use Rattle.sequencer.proofs.sequencer.Sequencer+AnyKept.advance.Goals as goal
 pub planned-requires-clause-sound : goal.planned-requires-clause-sound
 planned-requires-clause-sound g c = λ lives within.
     let e = event_of c.args.event.now in
-    next_sound c.every_step_keeps_soundness.ensures.situation _ e c.view_after-next.result
-    c.self.invariant.sound c.requires.good
-    (ap (λ v. refusal v.state.situation e) c.self.view_is ∙ c.requires.accepted)
+    next_sound c.every_step_keeps_soundness.ensures.situation _ e c.view_after-next.result c.self.invariant.sound
+    c.requires.good (ap (λ v. refusal v.state.situation e) c.self.view_is ∙ c.requires.accepted)
     (c.view_after-next.ensures ∙ c.in_ok-change.ensures.change.next_is
     ∙ ap (λ p. situation_after c.self.inside.situation p e) c.seconds_of.ensures)
 
