@@ -1,5 +1,5 @@
 -- No finding exactly where the block is clean.
-use Rattle.std.proofs.Common.{◌≡◌, ◌≢◌, ℕ, suc, ◌<◌, ◌≤◌, ◌⊎◌, inl, inr, List, [], ◌∷◌, ◌++◌, length, map, filter}
+use Rattle.std.proofs.Common.{◌≡◌, ◌≢◌, ℕ, suc, ◌≤◌, ◌⊎◌, inl, inr, List, [], ◌∷◌, ◌++◌, length, map, filter}
 use Rattle.std.proofs.Common.{cond, nat_eq, zero-le, arith, refl, sym, ap, ap₂, subst, ◌∙◌}
 use Rattle.std.specs.Prelude.{option_map, find, All, AllPairs, Option, Some, None}
 use Rattle.std.specs.List.{list_any, cons_option}
@@ -38,23 +38,16 @@ module _ (s : Situation) (sound : IsSound s) where
   module _ (t : Schedule) (long : length t ≡ length s.active) where
     of_number : (x : Landing) → Member x (landings s.active t) → (i : ℕ) × In i (numbers_of s.active)
         × (x ≡ landing_at s.active t i)
-    of_number x m = in_map (landing_at s.active t) (numbers_of s.active) x
-        (subst (Member x) (landings_are s.active t long) m)
+    of_number x m = in_map _ _ x (subst (Member x) (landings_are _ t long) m)
 
     number_of : (i : ℕ) → In i (numbers_of s.active) → Member (landing_at s.active t i) (landings s.active t)
-    number_of i m = subst (Member (landing_at s.active t i)) (sym (landings_are s.active t long))
-        (map_in (landing_at s.active t) (numbers_of s.active) i m)
+    number_of i m = subst (Member (landing_at s.active t i)) (sym (landings_are _ t long)) (map_in _ _ i m)
 
     finds : (x : Landing) → Member x (landings s.active t) → Found s x
     finds x m =
         let w = of_number x m in
-        let b = in_numbers 0 (length s.active) w.0 w.1 in
-        subst (Found s) (sym w.2) (
-          numbered s.active w.0,
-          find_first s.active sound.callsigns w.0
-              (omega (arith, b.1)),
-          refl,
-        )
+        let b = in_numbers 0 _ w.0 w.1 in
+        subst (Found s) (sym w.2) (numbered s.active w.0, find_first _ sound.callsigns w.0 (omega (arith, b.1)), refl)
 
     unique : (x y : Landing) → Member x (landings s.active t) → Member y (landings s.active t)
         → x.flight.callsign ≡ y.flight.callsign → x ≡ y
@@ -134,7 +127,7 @@ module _ (s : Situation) (sound : IsSound s) where
       → (l : ShownLanding) × (a : Active) × Member l ls × (find (named l.callsign) s.active ≡ Some a)
       × (x ≡ landing a l.second)
   block_member [] x m = absurd m
-  block_member (l ∷ ls) x m = go (find (named l.callsign) s.active) refl m (block_member ls x)
+  block_member (l ∷ ls) x m = go _ refl m (block_member ls x)
     where
       go : (o : Option Active) → find (named l.callsign) s.active ≡ o
           → Member x (map landing_of (cons_option (option_map (λ a. (l, a)) o) (lines_found s.active ls)))
@@ -154,7 +147,7 @@ module _ (s : Situation) (sound : IsSound s) where
       (map landing_of (cons_option (option_map (λ c. (k, c)) o) (lines_found s.active ls))))
       (sym (ap (λ (y : ShownLanding). find (named y.callsign) s.active) (sym e) ∙ q))
       (inl (ap (λ (y : ShownLanding). landing a y.second) e))
-  member_block (k ∷ ls) l a (inr m) q = go (find (named k.callsign) s.active) (member_block ls l a m q)
+  member_block (k ∷ ls) l a (inr m) q = go _ (member_block ls l a m q)
     where
       go : (o : Option Active) → Member (landing a l.second) (block_landings s.active ls)
           → Member (landing a l.second)
@@ -173,12 +166,12 @@ module _ (s : Situation) (sound : IsSound s) where
   each_active F L strict [] h i = tt
   each_active F L strict (a ∷ all) h i = (
     λ y m q.
-        let w = in_map (λ x. landing x (F x)) all y m in
+        let w = in_map _ all y m in
         let n = member_number w.0 all w.1 in
         let differ : a.flight.callsign ≢ w.0.flight.callsign = λ e. h 0 (suc n.0) nobody (omega arith) (let l =
         n.1 in omega arith) (e ∙ ap (λ (z : Active). z.flight.callsign) n.2) in
         let same : F a ≡ F w.0 = q ∙ ap (λ (z : Landing). z.second) w.2 in
-        elim (each_pair (λ f g. f.second < g.second) L strict (landing a (F a)) (landing w.0 (F w.0))
+        elim (each_pair _ L strict _ _
         (i a (inl refl)) (i w.0 (inr w.1))) [
           | inl e ↦ differ (ap (λ (z : Landing). z.flight.callsign) e)
           | inr o ↦ elim o [ inl lt ↦ omega arith | inr lt ↦ omega arith ]
@@ -271,7 +264,7 @@ pub audit_law : AuditLaw
 audit_law s b sound = (none_clean s sound b, λ c. ap (findings s) c.2 ∙ clean_none s sound c.0 c.1)
 
 pub shown_plan_is_clean : ShownPlanIsCleanLaw
-shown_plan_is_clean state plan sound e = go state.plan refl e sound.shown
+shown_plan_is_clean state plan sound e = go _ refl e sound.shown
   where
     go : (o : Option Schedule) → state.plan ≡ o → option_map (shown_plan state.situation) o ≡ Some plan
         → IsPlanShown state.situation o → findings state.situation (shown_block state plan) ≡ []
@@ -279,4 +272,4 @@ shown_plan_is_clean state plan sound e = go state.plan refl e sound.shown
     go (Some t) q e shown =
         let same : shown_plan state.situation t ≡ plan = cc in
         ap (λ p. findings state.situation (shown_block state p)) (sym same)
-        ∙ clean_none state.situation sound.situation t shown.0.feasible
+        ∙ clean_none _ sound.situation t shown.0.feasible

@@ -8,10 +8,10 @@ use Rattle.std.specs.Ordering.{is_lt, ordering_then, nat_cmp}
 use Rattle.wake_table.specs.Table.{separation}
 use Rattle.landing_rules.specs.declared.objective.Objective.{Objective}
 use Rattle.landing_rules.specs.declared.objective.Objective.TheVariants.{Makespan, Delay}
-use Rattle.landing_rules.specs.Flights.{Flight, Active, Situation, Schedule, Landing, landing, landings, is_waiting}
+use Rattle.landing_rules.specs.Flights.{Flight, Active, Situation, Schedule, Landing, landing, landings}
 use Rattle.landing_rules.specs.Flights.{waiting, horizon, horizon_after}
 use Rattle.landing_rules.specs.Rules.{last_second, is_open, lists, arrival_cmp, ArePairSeparated, IsPairInPrecedence}
-use Rattle.landing_rules.specs.Rules.{greatest, delay, cost, objective, IsFeasible}
+use Rattle.landing_rules.specs.Rules.{greatest, cost, objective, IsFeasible}
 use Rattle.landing_rules.specs.Events.{Clock, frozen_landings, freezes, after_clock, clock_back, ClockBack}
 use Rattle.landing_rules.specs.Events.{situation_after, IsPlanShown}
 use Rattle.landing_rules.specs.Sound.{IsGoodFlight, ListsNone, IsSound}
@@ -115,12 +115,10 @@ module _ (s : Situation) (sound : IsSound s) (t : Schedule) (f : IsFeasible s t)
   ns = numbered_situation s
 
   after_is : after ≡ map (λ i. after_clock s.aerodrome h all (landing_at s.active t i)) (numbers_of s.active)
-  after_is = ap (map (after_clock s.aerodrome h all)) (landings_are s.active t f.0)
-      ∙ map_map (after_clock s.aerodrome h all) (landing_at s.active t) (numbers_of s.active)
+  after_is = ap (map _) (landings_are _ t f.0) ∙ map_map _ _ _
 
   pub length_after : length after ≡ length s.active
-  length_after = ap length after_is ∙ numbers_long (λ i. after_clock s.aerodrome h all (landing_at s.active t i)) 0
-      (length s.active)
+  length_after = ap length after_is ∙ numbers_long _ 0 _
 
   -- so the numbers stay
   pub numbers_after : numbers_of after ≡ numbers_of s.active
@@ -135,18 +133,14 @@ module _ (s : Situation) (sound : IsSound s) (t : Schedule) (f : IsFeasible s t)
       (second_of t i) (min s.aerodrome.k ((numbered s.active i).passed + count_passing i))
       (nat_lt (second_of t i) h) s.aerodrome.carry (numbered after i)
   at_after i m =
-      let b = in_numbers 0 (length s.active) i m in
+      let b = in_numbers 0 _ i m in
       let e : numbered after i ≡ after_clock s.aerodrome h all (landing_at s.active t i) =
-      ap (λ l. numbered l i) after_is
-      ∙ numbers_get (λ j. after_clock s.aerodrome h all (landing_at s.active t j)) nobody 0
+      ap (λ l. numbered l i) after_is ∙ numbers_get _ _ 0
       (length s.active) i (omega (arith, b.1)) ∙ ap (λ j. after_clock s.aerodrome h all (landing_at s.active t j))
       (omega arith) in
       subst (λ a. Froze (numbered s.active i).flight (numbered s.active i).frozen (numbered s.active i).passed
       (second_of t i) (min s.aerodrome.k ((numbered s.active i).passed + count_passing i))
-      (nat_lt (second_of t i) h) s.aerodrome.carry a) (sym e)
-      (froze (numbered s.active i).flight (numbered s.active i).frozen (numbered s.active i).passed
-      (second_of t i) (min s.aerodrome.k ((numbered s.active i).passed + count_passing i))
-      (nat_lt (second_of t i) h) s.aerodrome.carry)
+      (nat_lt (second_of t i) h) s.aerodrome.carry a) (sym e) (froze _ _ _ _ _ _ _)
 
   -- those that wait after it are those that stay
   waits_after : (i : ℕ) → In i (numbers_of s.active)
@@ -155,9 +149,7 @@ module _ (s : Situation) (sound : IsSound s) (t : Schedule) (f : IsFeasible s t)
 
   pub waiting_after : (numbered_situation changed).waiting ≡ staying_of (second_of t) h ns.waiting
   waiting_after =
-      ap (filter (waits_at after)) numbers_after ∙ filter_agree (waits_at after) (λ i. waits_at s.active i
-      && not (nat_lt (second_of t i) h)) (numbers_of s.active) waits_after
-      ∙ sym (filter_twice (λ i. not (nat_lt (second_of t i) h)) (waits_at s.active) (numbers_of s.active))
+      ap (filter _) numbers_after ∙ filter_agree _ _ _ waits_after ∙ sym (filter_twice _ _ (numbers_of s.active))
 
   -- as many pass a flight as overtake it by number
   pub passing_is : (i : ℕ) → In i (numbers_of s.active)
@@ -166,15 +158,11 @@ module _ (s : Situation) (sound : IsSound s) (t : Schedule) (f : IsFeasible s t)
       let fl = (numbered s.active i).flight in
       let L = landing_at s.active t in
       let N = numbers_of s.active in
-      let front = filter (λ j. waits_at s.active j && nat_lt (second_of t j) h) N in
-      let a : filter (freezes h) all ≡ map L front = ap (filter (freezes h)) (landings_are s.active t f.0)
-      ∙ filter_map_is (freezes h) L N in
-      ap (count_by (λ (g : Landing). is_lt (arrival_cmp fl g.flight))) a
-      ∙ count_by_map (λ (g : Landing). is_lt (arrival_cmp fl g.flight)) L front
-      ∙ count_by_agree (λ j. is_lt (arrival_cmp fl (numbered s.active j).flight)) (λ j. comes_before s.active i j) front
+      let front = filter _ N in
+      let a : filter (freezes h) all ≡ map L front = ap (filter _) (landings_are _ t f.0) ∙ filter_map_is _ L N in
+      ap (count_by (λ (g : Landing). is_lt (arrival_cmp fl g.flight))) a ∙ count_by_map _ L front ∙ count_by_agree _ _ _
       (λ j k. sym (comes_is s sound i j m (in_filter (λ x. waits_at s.active x && nat_lt (second_of t x) h) j N k).0))
-      ∙ ap (count_by (λ j. comes_before s.active i j))
-      (sym (filter_twice (λ j. nat_lt (second_of t j) h) (waits_at s.active) N))
+      ∙ ap (count_by (λ j. comes_before s.active i j)) (sym (filter_twice _ _ N))
 
   -- ---- the situation stays sound
 
@@ -185,7 +173,7 @@ module _ (s : Situation) (sound : IsSound s) (t : Schedule) (f : IsFeasible s t)
   same_flight i m = (at_after i m).flight
 
   in_after : (i : ℕ) → i < length after → In i (numbers_of s.active)
-  in_after i lt = let e = length_after in numbers_in 0 (length s.active) i zero-le (omega arith)
+  in_after i lt = let e = length_after in numbers_in 0 _ i zero-le (omega arith)
 
   -- what is frozen after it is frozen at its second of the plan, before the horizon
   frozen_after : (i : ℕ) → In i (numbers_of s.active) → (u : ℕ) → (numbered after i).frozen ≡ Some u
@@ -216,30 +204,26 @@ module _ (s : Situation) (sound : IsSound s) (t : Schedule) (f : IsFeasible s t)
   pub late_after : (i : ℕ) → In i (numbered_situation changed).waiting → In i (numbers_of s.active)
       × (waits_at s.active i ≡ true) × (h ≤ second_of t i)
   late_after i m =
-      let w = in_filter (λ x. not (nat_lt (second_of t x) h)) i ns.waiting (subst (In i) waiting_after m) in
-      let v = in_filter (waits_at s.active) i (numbers_of s.active) w.0 in (
+      let w = in_filter _ i _ (subst (In i) waiting_after m) in
+      let v = in_filter _ i _ w.0 in (
         v.0,
         v.1,
         elim (cases_lt (second_of t i) h) [
-          | inl lt ↦ absurd
-              (false≢true (sym (ap not (lt-ltb (second_of t i) h lt)) ∙ w.1))
+          | inl lt ↦ absurd (false≢true (sym (ap not (lt-ltb _ h lt)) ∙ w.1))
           | inr le ↦ le
         ],
       )
 
   pub waiting_changed : waiting changed ≡ map (numbered after) (numbered_situation changed).waiting
-  waiting_changed = ap (filter is_waiting) (active_are after)
-      ∙ filter_map_is is_waiting (numbered after) (numbers_of after)
+  waiting_changed = ap (filter _) (active_are after) ∙ filter_map_is _ _ (numbers_of after)
 
   pub waiting_before : waiting s ≡ map (numbered s.active) ns.waiting
-  waiting_before = ap (filter is_waiting) (active_are s.active)
-      ∙ filter_map_is is_waiting (numbered s.active) (numbers_of s.active)
+  waiting_before = ap (filter _) (active_are s.active) ∙ filter_map_is _ _ (numbers_of s.active)
 
   pub few_after : length (waiting changed) ≤ length (waiting s)
   few_after =
-      let a = ap length waiting_changed ∙ length-map (numbered_situation changed).waiting (numbered after)
-      ∙ ap length waiting_after in
-      let b = ap length waiting_before ∙ length-map ns.waiting (numbered s.active) in
+      let a = ap length waiting_changed ∙ length-map _ _ ∙ ap length waiting_after in
+      let b = ap length waiting_before ∙ length-map _ _ in
       let c = fewer_kept (λ x. not (nat_lt (second_of t x) h)) ns.waiting in
       omega arith
 
@@ -248,7 +232,7 @@ module _ (s : Situation) (sound : IsSound s) (t : Schedule) (f : IsFeasible s t)
 
   each_frozen_after : (P : Landing → Type 0) → ((i : ℕ) → In i (numbers_of s.active) → second_of t i < h
       → P (landing (numbered after i) (second_of t i))) → All P (frozen_landings changed)
-  each_frozen_after P q = list_frozen P after (λ i lt u e. let m = in_after i lt in let x =
+  each_frozen_after P q = list_frozen P _ (λ i lt u e. let m = in_after i lt in let x =
       frozen_after i m u e in subst (λ v. P (landing (numbered after i) v)) (sym x.0) (q i m x.1))
 
   pub sound_after : IsSound changed
@@ -319,7 +303,7 @@ module _ (s : Situation) (sound : IsSound s) (t : Schedule) (f : IsFeasible s t)
   -- ---- the plan stays feasible
 
   after_among : (i : ℕ) → In i (numbers.active (numbered_situation changed)) → In i (numbers_of s.active)
-  after_among i m = subst (In i) numbers_after (among changed sound_after i m)
+  after_among i m = subst (In i) numbers_after (among _ sound_after i m)
 
   less_back : (i : ℕ) → In i (numbers_of s.active)
       → ns.back i - overtook (comes_before s.active) (second_of t) h ns.waiting i ≤ s.aerodrome.k -
@@ -344,8 +328,7 @@ module _ (s : Situation) (sound : IsSound s) (t : Schedule) (f : IsFeasible s t)
   rank_after : (i : ℕ) → In i (numbers_of s.active)
       → rank_in (comes_before after) (numbered_situation changed).waiting i ≡ rank_in (comes_before s.active)
       (staying_of (second_of t) h ns.waiting) i
-  rank_after i m = ap suc (count_by_agree (λ g. comes_before after g i) (λ g. comes_before s.active g i)
-      (numbered_situation changed).waiting (λ g k. comes_after g i (late_after g k).0 m)
+  rank_after i m = ap suc (count_by_agree _ _ _ (λ g k. comes_after g i (late_after g k).0 m)
       ∙ ap (count_by (λ g. comes_before s.active g i)) waiting_after)
 
   place_after : (i : ℕ) → place_in (second_of t) (numbered_situation changed).waiting i ≡ place_in
@@ -387,21 +370,18 @@ module _ (s : Situation) (sound : IsSound s) (t : Schedule) (f : IsFeasible s t)
   }
 
   pub feasible_after : IsFeasible changed t
-  feasible_after = numbered_feasible changed sound_after t (f.0 ∙ sym length_after) after_numbered
+  feasible_after = numbered_feasible _ sound_after t (f.0 ∙ sym length_after) after_numbered
 
   pub objective_after : objective changed t ≡ objective s t
-  objective_after = ap (cost s.aerodrome.objective) (landings_are after t (f.0 ∙ sym length_after)
-      ∙ ap (map (landing_at after t)) numbers_after) ∙ go s.aerodrome.objective
-      ∙ ap (cost s.aerodrome.objective) (sym (landings_are s.active t f.0))
+  objective_after = ap (cost s.aerodrome.objective) (landings_are _ t (f.0 ∙ sym length_after)
+      ∙ ap (map _) numbers_after) ∙ go _ ∙ ap (cost s.aerodrome.objective) (sym (landings_are _ t f.0))
     where
       go : (o : Objective) → cost o (map (landing_at after t) (numbers_of s.active)) ≡ cost o
           (map (landing_at s.active t) (numbers_of s.active))
-      go Makespan = ap greatest (map_map (λ (g : Landing). g.second) (landing_at after t) (numbers_of s.active)
-          ∙ sym (map_map (λ (g : Landing). g.second) (landing_at s.active t) (numbers_of s.active)))
-      go Delay = sum_map delay (landing_at after t) (numbers_of s.active)
-          ∙ sum_agree (λ i. delay (landing_at after t i)) (λ i. delay (landing_at s.active t i))
-          (numbers_of s.active) (λ i m. ap (λ (x : Flight). x.weight * (second_of t i - x.eta)) (same_flight i m))
-          ∙ sym (sum_map delay (landing_at s.active t) (numbers_of s.active))
+      go Makespan = ap greatest (map_map _ _ _ ∙ sym (map_map _ _ _))
+      go Delay = sum_map _ _ (numbers_of s.active)
+          ∙ sum_agree _ _ _ (λ i m. ap (λ (x : Flight). x.weight * (second_of t i - x.eta)) (same_flight i m))
+          ∙ sym (sum_map _ _ (numbers_of s.active))
 
 -- ---- the laws
 
@@ -409,14 +389,13 @@ pub forth_of : (clock : Option ℕ) (now freeze : ℕ) → clock_back clock now 
     → horizon_after clock freeze ≤ now + freeze
 forth_of None now freeze e = zero-le
 forth_of (Some last) now freeze e = elim (cases_lt now last) [
-  | inl lt ↦ (let w : Some (ClockBack last) ≡ None =
-      rw (lt-ltb now last lt) at e in absurd (cc))
+  | inl lt ↦ (let w : Some (ClockBack last) ≡ None = rw (lt-ltb now _ lt) at e in absurd (cc))
   | inr le ↦ omega arith
 ]
 
 pub clock_keeps_plan : ClockKeepsPlanLaw
 clock_keeps_plan s t now sound f e =
-    let forth = forth_of s.clock now s.aerodrome.freeze e in
+    let forth = forth_of _ now _ e in
     record { feasible = feasible_after s sound t f now forth; objective = objective_after s sound t f now forth }
 
 pub clock_shows_plan : ClockShowsPlanLaw
@@ -456,6 +435,5 @@ sound_alone s now sound forth = record {
 }
 
 pub clock_keeps_sound : ClockKeepsSoundLaw
-clock_keeps_sound s None now sound f e = sound_alone s now sound (forth_of s.clock now s.aerodrome.freeze e)
-clock_keeps_sound s (Some t) now sound f e =
-    sound_after s sound t (f t refl) now (forth_of s.clock now s.aerodrome.freeze e)
+clock_keeps_sound s None now sound f e = sound_alone s now sound (forth_of _ now _ e)
+clock_keeps_sound s (Some t) now sound f e = sound_after s sound t (f t refl) now (forth_of _ now _ e)

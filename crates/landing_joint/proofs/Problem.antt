@@ -1,6 +1,6 @@
 -- The problem of a situation is a problem of the theory, and its feasible lists are the feasible maps.
 use Rattle.std.proofs.Common.{◌≡◌, ℕ, zero, suc, ◌+◌, ◌-◌, ◌*◌, ◌<◌, ◌≤◌, ◌⊎◌, inl, inr, List, [], ◌∷◌, length, get_or}
-use Rattle.std.proofs.Common.{map, filter, cond, Bool, false, not, ◌&&◌, nat_le, zero-le, le_antisymm, add-one, arith}
+use Rattle.std.proofs.Common.{map, filter, cond, Bool, not, ◌&&◌, nat_le, zero-le, le_antisymm, add-one, arith}
 use Rattle.std.proofs.Common.{refl, sym, ap, ap₂, subst, ◌∙◌}
 use Rattle.std.specs.Prelude.{filter_map, option_map, unwrap_or, is_none, sum_by, Option, Some, None, IsPermutation}
 use Rattle.std.specs.List.{AllZip, list_any, cons_option, zip}
@@ -10,7 +10,7 @@ use Rattle.wake_table.specs.declared.category.Category.{Category}
 use Rattle.wake_table.specs.Table.{separation}
 use Rattle.landing_rules.specs.declared.objective.Objective.{Objective}
 use Rattle.landing_rules.specs.declared.objective.Objective.TheVariants.{Makespan, Delay}
-use Rattle.landing_rules.specs.Flights.{Landing, landing, Active, Situation, Schedule, is_waiting, waiting}
+use Rattle.landing_rules.specs.Flights.{Landing, landing, Active, Situation, Schedule, waiting}
 use Rattle.landing_rules.specs.Rules.{is_within, is_open, last_second, greatest, delay, cost, objective, IsFeasible}
 use Rattle.landing_rules.specs.Rules.{IsBest}
 use Rattle.landing_rules.specs.Events.{frozen_landings}
@@ -58,10 +58,9 @@ filter_numbers : (p : ℕ → Bool) (b n : ℕ) → filter p (numbers_from (suc 
     (filter (λ i. p (suc i)) (numbers_from b n))
 filter_numbers p b zero = refl
 filter_numbers p b (suc n) = let h =
-    filter_numbers p (suc b) n in elim (cases_Bool (p (suc b))) [
+    filter_numbers p _ n in elim (cases_Bool (p (suc b))) [
       | inl e ↦ rw e (ap (λ l. suc b ∷ l) h)
-      | inr e ↦
-          rw e h
+      | inr e ↦ rw e h
     ]
 
 -- the frozen landings are those of the frozen numbers
@@ -73,9 +72,8 @@ frozen_are (a ∷ all) =
     let L = λ (i : ℕ). landing (numbered (a ∷ all) i) (unwrap_or (numbered (a ∷ all) i).frozen 0) in
     let rest : filter_map (λ b. option_map (landing b) b.frozen) all ≡ map L
     (filter (λ i. not (waits_at (a ∷ all) i)) (numbers_from 1 (length all))) =
-    frozen_are all ∙ sym (ap (map L) (filter_numbers (λ i. not (waits_at (a ∷ all) i)) 0 (length all))
-    ∙ map_map L suc (filter (λ i. not (waits_at all i)) (numbers_of all))) in
-    go a.frozen refl rest
+    frozen_are all ∙ sym (ap (map L) (filter_numbers _ 0 (length all)) ∙ map_map L suc _) in
+    go _ refl rest
   where
     go : (o : Option ℕ) → a.frozen ≡ o → filter_map (λ b. option_map (landing b) b.frozen) all ≡ map
         (λ i. landing (numbered (a ∷ all) i) (unwrap_or (numbered (a ∷ all) i).frozen 0))
@@ -101,15 +99,14 @@ module _ (s : Situation) (sound : IsSound s) (p : lists'.Problem) (of : lists'.I
   fl r = of_rank no_waiting p.flights r
 
   ranked_is : lists'.by_rank (waiting s) ≡ map (numbered s.active) R
-  ranked_is = ap lists'.by_rank (ap (filter is_waiting) (active_are s.active)
-      ∙ filter_map_is is_waiting (numbered s.active) (numbers_of s.active)) ∙ sym (map_sorted s.active ns.waiting)
+  ranked_is = ap lists'.by_rank (ap (filter _) (active_are s.active)
+      ∙ filter_map_is _ _ (numbers_of s.active)) ∙ sym (map_sorted _ ns.waiting)
 
   zipped : AllZip (lists'.IsWaitingOf s.closures) (map (numbered s.active) R) p.flights
   zipped = subst (λ l. AllZip (lists'.IsWaitingOf s.closures) l p.flights) ranked_is of.flights
 
   long_is : length R ≡ length p.flights
-  long_is = sym (length-map R (numbered s.active)) ∙ zip_long (lists'.IsWaitingOf s.closures)
-      (map (numbered s.active) R) p.flights zipped
+  long_is = sym (length-map R _) ∙ zip_long _ _ _ zipped
 
   waiting_of : (r : ℕ) → IsRank (length p.flights) r → lists'.IsWaitingOf s.closures (numbered s.active (at r)) (fl r)
   waiting_of zero q = absurd (let a = q.0 in omega arith)
@@ -118,28 +115,24 @@ module _ (s : Situation) (sound : IsSound s) (p : lists'.Problem) (of : lists'.I
       let b = q.1 in
       let lt : i < length R = omega arith in
       let m = length-map R (numbered s.active) in
-      subst (λ a. lists'.IsWaitingOf s.closures a (fl (suc i)))
-      (get_or-map (numbered s.active) R i (length s.active) nobody lt)
-      (zip_at (lists'.IsWaitingOf s.closures) (map (numbered s.active) R) p.flights zipped i nobody no_waiting
-      (omega arith))
+      subst (λ a. lists'.IsWaitingOf s.closures a (fl (suc i))) (get_or-map _ R i _ _ lt)
+      (zip_at _ _ _ zipped i nobody _ (omega arith))
 
   rank_cases : (r : ℕ) → IsRank (length p.flights) r ⊎ ((numbered s.active (at r) ≡ nobody) × (fl r ≡ no_waiting))
-  rank_cases zero = inr (get_past s.active (length s.active) nobody (omega arith), refl)
+  rank_cases zero = inr (get_past _ (length s.active) _ (omega arith), refl)
   rank_cases (suc i) = elim (cases_lt i (length p.flights)) [
     | inl lt ↦ inl (omega arith, omega arith)
     | inr le ↦ (let l = long_is in inr (
-      ap (numbered s.active) (get_past R i (length s.active) (omega arith))
-          ∙ get_past s.active (length s.active) nobody (omega arith),
-      get_past p.flights i no_waiting le,
+      ap (numbered s.active) (get_past R i _ (omega arith)) ∙ get_past _ (length s.active) nobody (omega arith),
+      get_past _ i _ le,
     ))
   ]
 
   in_waiting : (r : ℕ) → IsRank (length p.flights) r → In (at r) ns.waiting
-  in_waiting r q = let l = long_is in let b =
-      q.1 in sorted_in s.active (at r) ns.waiting (at_in (length s.active) R r q.0 (omega arith))
+  in_waiting r q = let l = long_is in let b = q.1 in sorted_in s.active _ _ (at_in _ R r q.0 (omega arith))
 
   pub among : (r : ℕ) → IsRank (length p.flights) r → In (at r) (numbers_of s.active)
-  among r q = (in_filter (waits_at s.active) (at r) (numbers_of s.active) (in_waiting r q)).0
+  among r q = (in_filter _ _ _ (in_waiting r q)).0
 
   category_is : (r : ℕ) → (fl r).category ≡ (numbered s.active (at r)).flight.category
   category_is r = elim (rank_cases r) [
@@ -157,16 +150,14 @@ module _ (s : Situation) (sound : IsSound s) (p : lists'.Problem) (of : lists'.I
       && is_open (numbered s.active (at r)).flight.windows s.closures u)
   open_is r u = elim (rank_cases r) [
     | inl q ↦
-        (let b = in_numbers 0 (length s.active) (at r) (among r q) in
+        (let b = in_numbers 0 _ _ (among r q) in
         let good = (sound.flights (at r) nobody (omega (arith, b.1))).windows.spans in
         let o = is_open (numbered s.active (at r)).flight.windows s.closures u in
-        (waiting_of r q).open_spans.same u ∙ both_ways o (nat_le u last_second && o)
-        (λ e. and_from (nat_le u last_second) o
-        (open_low (numbered s.active (at r)).flight.windows s.closures u good e) e)
+        (waiting_of r q).open_spans.same u ∙ both_ways o _ (λ e. and_from _ o (open_low _ _ u good e) e)
         (λ e. (and_parts (nat_le u last_second) o e).1))
     | inr e ↦ ap (λ (w : lists'.Waiting). list_any (is_within u) w.open_spans) e.1
         ∙ sym (ap (λ (a : Active). nat_le u last_second && is_open a.flight.windows s.closures u) e.0
-        ∙ and_right (nat_le u last_second) false refl)
+        ∙ and_right _ _ refl)
   ]
 
   before_is : (q r : ℕ) → IsRank (length p.flights) q → IsRank (length p.flights) r
@@ -179,8 +170,7 @@ module _ (s : Situation) (sound : IsSound s) (p : lists'.Problem) (of : lists'.I
       let b = ir.1 in
       let listed = subst (λ l. lists'.ArePredecessorsOf l p.pairs) ranked_is of.predecessors in
       let c = listed i j (numbered s.active (at (suc i))) (numbered s.active (at (suc j)))
-      (slice_map s.active R i (length s.active) (omega arith))
-      (slice_map s.active R j (length s.active) (omega arith)) in
+      (slice_map _ R i _ (omega arith)) (slice_map _ R j _ (omega arith)) in
       subst (λ x. must_precede p.pairs x (suc j) ≡ ns.lists (at (suc i)) (at (suc j))) (add-one i)
       (subst (λ y. must_precede p.pairs (i + 1) y ≡ ns.lists (at (suc i)) (at (suc j))) (add-one j) c)
 
@@ -251,7 +241,7 @@ module _ (s : Situation) (sound : IsSound s) (p : lists'.Problem) (of : lists'.I
 
   pub passed_low' : (r : ℕ) → IsRank (length p.flights) r → (fl r).passed ≤ p.k
   passed_low' r q =
-      let b = in_numbers 0 (length s.active) (at r) (among r q) in
+      let b = in_numbers 0 _ _ (among r q) in
       let a = sound.passed (at r) nobody (omega (arith, b.1)) in
       let c = passed_is r in
       let d = of.k in
@@ -264,32 +254,29 @@ module _ (s : Situation) (sound : IsSound s) (p : lists'.Problem) (of : lists'.I
       (of_rank 0 v (rank_in (comes_before s.active) ns.waiting i))
       (ns.frozen_at i)
   joined_at v i m =
-      let b = in_numbers 0 (length s.active) i m in
-      let F = λ (j : ℕ). cond (waits_at s.active j) (of_rank 0 v (rank_in (comes_before s.active) ns.waiting j))
-      (ns.frozen_at j) in
-      numbers_get F 0 0 (length s.active) i (omega (arith, b.1)) ∙ ap F (omega arith)
+      let b = in_numbers 0 _ i m in
+      let F = λ (j : ℕ). cond _ (of_rank 0 v (rank_in (comes_before s.active) ns.waiting j)) (ns.frozen_at j) in
+      numbers_get F 0 0 _ i (omega (arith, b.1)) ∙ ap F (omega arith)
 
   pub joined_frozen : (v : Schedule) (i : ℕ) → In i ns.frozen → second_of (joined s v) i ≡ ns.frozen_at i
   joined_frozen v i m =
-      let w = in_filter (λ x. not (waits_at s.active x)) i (numbers_of s.active) m in
-      joined_at v i w.0 ∙ rw (not-true (waits_at s.active i) w.1)
+      let w = in_filter _ i _ m in
+      joined_at v i w.0 ∙ rw (not-true _ w.1)
 
   pub joined_rank : (v : Schedule) (r : ℕ) → IsRank (length p.flights) r → second_of (joined s v) (at r) ≡ of_rank 0 v r
   joined_rank v r q =
-      let w = in_filter (waits_at s.active) (at r) (numbers_of s.active) (in_waiting r q) in
-      joined_at v (at r) w.0 ∙ ap (λ b. cond b (of_rank 0 v (rank_in (comes_before s.active) ns.waiting (at r)))
-      (ns.frozen_at (at r))) w.1
-      ∙ ap (of_rank 0 v) (rank_is ns (ranked p) (number_at s) (sound_numbered s sound) problem_of r q)
+      let w = in_filter _ _ _ (in_waiting r q) in
+      joined_at v _ w.0 ∙ ap (λ b. cond b (of_rank 0 v (rank_in (comes_before s.active) ns.waiting (at r)))
+      (ns.frozen_at (at r))) w.1 ∙ ap (of_rank 0 v) (rank_is ns _ _ (sound_numbered s sound) problem_of r q)
 
   -- a feasible list gives a feasible schedule
   pub list_gives_schedule : (v : Schedule) → lists'.IsFeasibleList p v → IsFeasible s (joined s v)
   list_gives_schedule v f =
-      let T = second_of (joined s v) in
-      let g = feasible_agree (ranked p) (of_rank 0 v) (λ r. T (at r)) (λ r q. sym (joined_rank v r q))
-      (list_feasible p v f) in
-      let long = numbers_long (λ j. cond (waits_at s.active j)
-      (of_rank 0 v (rank_in (comes_before s.active) ns.waiting j)) (ns.frozen_at j)) 0 (length s.active) in
-      numbered_feasible s sound (joined s v) long (feasible_problem ns (ranked p) (number_at s)
+      let
+      T = second_of (joined s v) in
+      let g = feasible_agree _ _ _ (λ r q. sym (joined_rank v r q)) (list_feasible p v f) in
+      let long = numbers_long _ 0 _ in
+      numbered_feasible s sound _ long (feasible_problem ns _ _
       (sound_numbered s sound) problem_of T (joined_frozen v) g)
 
   -- ---- and back
@@ -300,21 +287,19 @@ module _ (s : Situation) (sound : IsSound s) (p : lists'.Problem) (of : lists'.I
   by_rank_at : (t : Schedule) (r : ℕ) → IsRank (length p.flights) r
       → of_rank 0 (seconds_by_rank t) r ≡ second_of t (at r)
   by_rank_at t zero q = absurd (let a = q.0 in omega arith)
-  by_rank_at t (suc i) q = let b = q.1 in numbers_get (λ j. second_of t (at (suc j))) 0 0 (length p.flights) i
+  by_rank_at t (suc i) q = let b = q.1 in numbers_get _ 0 0 _ i
       (omega arith) ∙ ap (λ j. second_of t (at (suc j))) (omega arith)
 
   pub joined_long : (v : Schedule) → length (joined s v) ≡ length s.active
-  joined_long v = numbers_long
-      (λ j. cond (waits_at s.active j) (of_rank 0 v (rank_in (comes_before s.active) ns.waiting j)) (ns.frozen_at j)) 0
-      (length s.active)
+  joined_long v = numbers_long _ 0 _
 
   -- what holds of a number that waits, by its rank, and of a frozen one, holds of each
   pub each_number : (P : ℕ → Type 0) → ((r : ℕ) → IsRank (length p.flights) r → P (at r))
       → ((i : ℕ) → In i ns.frozen → P i) → (i : ℕ) → In i (numbers_of s.active) → P i
-  each_number P w f i m = elim (cases_Bool (waits_at s.active i)) [
-    | inl e ↦ (let x = problem_of.at_all i (filter_in (waits_at s.active) i (numbers_of s.active) m e) in
+  each_number P w f i m = elim (cases_Bool _) [
+    | inl e ↦ (let x = problem_of.at_all i (filter_in _ i _ m e) in
         subst P x.2 (w x.0 x.1))
-    | inr e ↦ f i (filter_in (λ x. not (waits_at s.active x)) i (numbers_of s.active) m (ap not e))
+    | inr e ↦ f i (filter_in _ i _ m (ap not e))
   ]
 
   -- a feasible schedule is its frozen landings joined with a feasible list
@@ -323,16 +308,15 @@ module _ (s : Situation) (sound : IsSound s) (p : lists'.Problem) (of : lists'.I
   schedule_gives_list t f =
       let v = seconds_by_rank t in
       let n = feasible_numbered s sound t f.0 f in
-      let g = problem_feasible ns (ranked p) (number_at s) (sound_numbered s sound) problem_of (second_of t) n in
-      let long : length v ≡ length p.flights = numbers_long (λ i. second_of t (at (suc i))) 0 (length p.flights) in
+      let g = problem_feasible ns _ _ (sound_numbered s sound) problem_of _ n in
+      let long : length v ≡ length p.flights = numbers_long _ 0 _ in
       let same : (i : ℕ) → In i (numbers_of s.active) → second_of t i ≡ second_of (joined s v) i =
-      each_number (λ i. second_of t i ≡ second_of (joined s v) i) (λ r q. sym (joined_rank v r q ∙ by_rank_at t r q))
+      each_number _ (λ r q. sym (joined_rank v r q ∙ by_rank_at t r q))
       (λ i m. n.kept i m ∙ sym (joined_frozen v i m)) in (
         v,
-        feasible_list p passed_low' v long (feasible_agree (ranked p) (λ r. second_of t (at r))
-            (of_rank 0 v) (λ r q. sym (by_rank_at t r q)) g),
-        same_number_lists t (joined s v) (f.0 ∙ sym (joined_long v)) (λ i lt. let e =
-            f.0 in same i (numbers_in 0 (length s.active) i zero-le (omega arith))),
+        feasible_list p passed_low' v long (feasible_agree _ _ _ (λ r q. sym (by_rank_at t r q)) g),
+        same_number_lists t _ (f.0 ∙ sym (joined_long v)) (λ i lt. let e =
+            f.0 in same i (numbers_in 0 _ i zero-le (omega arith))),
       )
 
   -- ---- the objectives
@@ -369,9 +353,7 @@ module _ (s : Situation) (sound : IsSound s) (p : lists'.Problem) (of : lists'.I
         let r1 = greatest_at v 0 (omega arith) in
         let late : p.horizon ≤ of_rank 0 v 1 = each_at p v (λ r w a. p.horizon ≤ a) f.late 1 one in
         let hz = of.horizon in
-        le_antisymm
-        (map_bound (second_of (joined s v)) (numbers_of s.active) (greatest v)
-        (each_number (λ i. second_of (joined s v) i ≤ greatest v)
+        le_antisymm (map_bound _ _ _ (each_number _
         (λ r q. let a = joined_rank v r q in let b = at_greatest r q in omega arith)
         (λ i m. let a = joined_frozen v i m in let b = (sound_numbered s sound).frozen_before i m in omega arith)))
         (greatest_bound v (greatest (map (second_of (joined s v)) (numbers_of s.active))) (λ i lt.
@@ -389,9 +371,7 @@ module _ (s : Situation) (sound : IsSound s) (p : lists'.Problem) (of : lists'.I
         let long = f.one_each in
         let none = ap length e in
         elim (last_frozen_is s sound) [
-          | inl x ↦ le_antisymm
-              (map_bound (second_of (joined s v)) (numbers_of s.active) (lists'.last_frozen p.last)
-              (each_number (λ i. second_of (joined s v) i ≤ lists'.last_frozen p.last)
+          | inl x ↦ le_antisymm (map_bound _ _ _ (each_number _
               (λ r q. absurd (let a = q.0 in let b = q.1 in omega arith)) (λ i m. absurd (x.1 i m))))
               (let a = ap lists'.last_frozen (of.last ∙ x.0) in omega arith)
           | inr x ↦
@@ -399,12 +379,10 @@ module _ (s : Situation) (sound : IsSound s) (p : lists'.Problem) (of : lists'.I
               let j = joined_frozen v x.0 x.1 in
               let m = map_at (second_of (joined s v)) (numbers_of s.active) x.0
               (in_filter (λ y. not (waits_at s.active y)) x.0 (numbers_of s.active) x.1).0 in
-              le_antisymm
-              (map_bound (second_of (joined s v)) (numbers_of s.active) (lists'.last_frozen p.last)
+              le_antisymm (map_bound (second_of (joined s v)) (numbers_of s.active) (lists'.last_frozen p.last)
               (each_number (λ i. second_of (joined s v) i ≤ lists'.last_frozen p.last)
               (λ r q. absurd (let a = q.0 in let b = q.1 in omega arith)) (λ i k. let a =
-              joined_frozen v i k in let b = x.3 i k in omega arith)))
-              (omega arith))
+              joined_frozen v i k in let b = x.3 i k in omega arith))) (omega arith))
         ]
 
     -- ---- the delay
@@ -414,12 +392,10 @@ module _ (s : Situation) (sound : IsSound s) (p : lists'.Problem) (of : lists'.I
     delay_all =
         let D = λ (i : ℕ). delay (landing_at s.active (joined s v) i) in
         let N = numbers_of s.active in
-        let parts : sum_by D N ≡ sum_by D ns.frozen + sum_by D ns.waiting = sum_parts D (waits_at s.active) N in
+        let parts : sum_by D N ≡ sum_by D ns.frozen + sum_by D ns.waiting = sum_parts D _ N in
         let froze : sum_by D ns.frozen ≡ sum_by delay (frozen_landings s) =
-        sum_agree D (λ i. delay (landing (numbered s.active i) (ns.frozen_at i))) ns.frozen
-        (λ i m. ap (λ u. delay (landing (numbered s.active i) u)) (joined_frozen v i m))
-        ∙ sym (sum_map delay (λ i. landing (numbered s.active i) (ns.frozen_at i)) ns.frozen)
-        ∙ ap (sum_by delay) (sym (frozen_are s.active)) in
+        sum_agree D _ _ (λ i m. ap (λ u. delay (landing (numbered s.active i) u)) (joined_frozen v i m))
+        ∙ sym (sum_map _ _ ns.frozen) ∙ ap (sum_by delay) (sym (frozen_are s.active)) in
         let d : lists'.Waiting × ℕ = (no_waiting, 0) in
         let z = zip p.flights v in
         let n = length p.flights in
@@ -439,24 +415,22 @@ module _ (s : Situation) (sound : IsSound s) (p : lists'.Problem) (of : lists'.I
             (of_rank (no_waiting, 0) (zip p.flights v) r)
         one zero q = absurd (let a = q.0 in omega arith)
         one (suc i) q =
-            let w = waiting_of (suc i) q in
+            let w = waiting_of _ q in
             let b = q.1 in
             let l = f.one_each in
             ap₂ (λ (u : ℕ) (w : ℕ). (numbered s.active (at (suc i))).flight.weight * (u - w))
-            (joined_rank v (suc i) q) (sym w.eta)
-            ∙ ap (λ k. k * (of_rank 0 v (suc i) - (fl (suc i)).eta)) (sym w.weight)
-            ∙ ap lists'.list_delay (sym (get_or-zip p.flights v i (no_waiting, 0) (omega arith) (omega arith)))
+            (joined_rank v _ q) (sym w.eta) ∙ ap (λ k. k * (of_rank 0 v (suc i) - (fl (suc i)).eta)) (sym w.weight)
+            ∙ ap lists'.list_delay (sym (get_or-zip _ v i (no_waiting, 0) (omega arith) (omega arith)))
 
     pub same_objective : objective s (joined s v) ≡ lists'.list_objective p v
-    same_objective = ap (cost s.aerodrome.objective) (landings_are s.active (joined s v) (joined_long v))
-        ∙ go s.aerodrome.objective of.objective of.base
+    same_objective = ap (cost s.aerodrome.objective) (landings_are _ _ (joined_long v)) ∙ go _ of.objective of.base
       where
         go : (o : Objective) → p.objective ≡ o → p.base ≡ lists'.frozen_cost o (frozen_landings s)
             → cost o (map (landing_at s.active (joined s v)) (numbers_of s.active)) ≡ lists'.list_cost p.objective p v
         go Delay e b = delay_all ∙ ap (λ k. k + sum_by lists'.list_delay (zip p.flights v)) (sym b)
             ∙ ap (λ o. lists'.list_cost o p v) (sym e)
-        go Makespan e b = ap greatest (map_map (λ (g : Landing). g.second) (landing_at s.active (joined s v))
-            (numbers_of s.active)) ∙ by v refl ∙ ap (λ o. lists'.list_cost o p v) (sym e)
+        go Makespan e b = ap greatest (map_map _ _
+            _) ∙ by v refl ∙ ap (λ o. lists'.list_cost o p v) (sym e)
           where
             by : (xs : List ℕ) → v ≡ xs
                 → greatest (map (second_of (joined s v)) (numbers_of s.active)) ≡ lists'.list_cost Makespan p v

@@ -71,11 +71,9 @@ module _ (old new : Situation) (sound : IsSound old) (same : new.aerodrome ≡ o
 pub each_of : (s : Situation) → IsSound s → (a : Active) → Member a s.active → IsGoodFlight a.flight
     × (a.passed ≤ s.aerodrome.k) × (s.aerodrome.carry ≡ false → a.passed ≡ 0)
 each_of s h a m = (
-  all_at (λ (a : Active). IsGoodFlight a.flight) s.active h.flights a m,
-  all_at
-      (λ (a : Active). a.passed ≤ s.aerodrome.k) s.active h.passed a m,
-  λ e. all_at (λ (a : Active). a.passed ≡ 0) s.active
-      (h.no_carry e) a m,
+  all_at (λ (a : Active). IsGoodFlight a.flight) _ h.flights a m,
+  all_at (λ (a : Active). a.passed ≤ s.aerodrome.k) _ h.passed a m,
+  λ e. all_at (λ (a : Active). a.passed ≡ 0) _ (h.no_carry e) a m,
 )
 
 -- where each frozen landing was one before, and each waiting flight has the callsign of one before

@@ -29,7 +29,7 @@ greatest_shift x xs (suc n) = let a = greatest_shift x xs n in omega arith
 
 greatest_is : (v : Schedule) → rules.greatest v ≡ greatest (of_rank 0 v) (length v)
 greatest_is [] = refl
-greatest_is (x ∷ xs) = ap (max x) (greatest_is xs) ∙ sym (greatest_shift x xs (length xs))
+greatest_is (x ∷ xs) = ap (max x) (greatest_is xs) ∙ sym (greatest_shift x xs _)
 
 total_sum : (f : ℕ → ℕ) (rs : List ℕ) → total f rs ≡ sum_by f rs
 total_sum f [] = refl
@@ -49,7 +49,7 @@ module _ (p : lists'.Problem) (v : Schedule) (long : length v ≡ length p.fligh
       (of_rank 0 v r)
   delay_one zero q = absurd (let a = q.0 in omega arith)
   delay_one (suc i) q = let b =
-      q.1 in ap lists'.list_delay (get_or-zip p.flights v i (no_waiting, 0) (omega arith) (omega arith))
+      q.1 in ap lists'.list_delay (get_or-zip _ v i (no_waiting, 0) (omega arith) (omega arith))
 
   delay_is : sum_by lists'.list_delay (zip p.flights v) ≡ total
       (λ r. cost_by Delay (of_rank no_waiting p.flights r) (of_rank 0 v r)) (upto (length p.flights))
@@ -57,21 +57,19 @@ module _ (p : lists'.Problem) (v : Schedule) (long : length v ≡ length p.fligh
       let n : length pairs ≡ length p.flights = let a = length-zip p.flights v in omega arith in
       let D = λ (r : ℕ). cost_by Delay (of_rank no_waiting p.flights r) (of_rank 0 v r) in
       let a : sum_by lists'.list_delay pairs ≡ sum_by lists'.list_delay
-      (map (of_rank (no_waiting, 0) pairs) (upto (length pairs))) = sum_by-IsPermutation lists'.list_delay
-      (map (of_rank (no_waiting, 0) pairs) (upto (length pairs))) pairs (ranks_permute (no_waiting, 0) pairs) in
+      (map (of_rank (no_waiting, 0) pairs) (upto (length pairs))) = sum_by-IsPermutation _
+      _ _ (ranks_permute _ pairs) in
       let b : sum_by lists'.list_delay (map (of_rank (no_waiting, 0) pairs) (upto (length pairs))) ≡ sum_by
       (λ r. lists'.list_delay (of_rank (no_waiting, 0) pairs r)) (upto (length p.flights)) =
-      sum_map lists'.list_delay (of_rank (no_waiting, 0) pairs) (upto (length pairs))
+      sum_map _ _ (upto (length pairs))
       ∙ ap (λ k. sum_by (λ r. lists'.list_delay (of_rank (no_waiting, 0) pairs r)) (upto k)) n in
       let c : sum_by (λ r. lists'.list_delay (of_rank (no_waiting, 0) pairs r)) (upto (length p.flights)) ≡ sum_by D
-      (upto (length p.flights)) =
-      sum_agree (λ r. lists'.list_delay (of_rank (no_waiting, 0) pairs r)) D (upto (length p.flights))
-      (λ r i. delay_one r (in_upto (length p.flights) r i)) in
-      a ∙ b ∙ c ∙ sym (total_sum D (upto (length p.flights)))
+      (upto (length p.flights)) = sum_agree _ D _ (λ r i. delay_one r (in_upto _ r i)) in
+      a ∙ b ∙ c ∙ sym (total_sum D _)
 
   -- a list costs what its map does
   pub list_value : lists'.list_objective p v ≡ value_of_map p (of_rank 0 v)
-  list_value = go p.objective refl
+  list_value = go _ refl
     where
       makespan_is : (fs : List lists'.Waiting) → length v ≡ length fs
           → lists'.list_cost Makespan p v ≡ makespan_by fs p (greatest (of_rank 0 v) (length fs))
@@ -87,18 +85,15 @@ module _ (p : lists'.Problem) (v : Schedule) (long : length v ≡ length p.fligh
 
       go : (o : Objective) → p.objective ≡ o → lists'.list_objective p v ≡ value_of_map p (of_rank 0 v)
       go Makespan e =
-          ap (λ o. lists'.list_cost o p v) e ∙ makespan_is p.flights long
+          ap (λ o. lists'.list_cost o p v) e ∙ makespan_is _ long
           ∙ sym (ap (λ o. value_by o p (
             greatest (of_rank 0 v) (length p.flights),
-            total
-                (λ r. cost_by o (of_rank no_waiting p.flights r) (of_rank 0 v r)) (upto (length p.flights)),
+            total (λ r. cost_by o (of_rank no_waiting p.flights r) (of_rank 0 v r)) (upto (length p.flights)),
           )) e)
-      go Delay e =
-          ap (λ o. lists'.list_cost o p v) e ∙ ap (λ n. p.base + n) delay_is
+      go Delay e = ap (λ o. lists'.list_cost o p v) e ∙ ap (λ n. p.base + n) delay_is
           ∙ sym (ap (λ o. value_by o p (
             greatest (of_rank 0 v) (length p.flights),
-            total
-                (λ r. cost_by o (of_rank no_waiting p.flights r) (of_rank 0 v r)) (upto (length p.flights)),
+            total (λ r. cost_by o (of_rank no_waiting p.flights r) (of_rank 0 v r)) (upto (length p.flights)),
           )) e)
 
 -- ---- lists that are nowhere later
@@ -119,7 +114,7 @@ zip_same (x ∷ xs) (y ∷ ys) a b = ap₂ (λ z l. z ∷ l) (le_antisymm a.0 b.
 pub zip_rank : (xs ys : Schedule) → AllZip (λ a b. a ≤ b) xs ys → (r : ℕ) → IsRank (length xs) r
     → of_rank 0 xs r ≤ of_rank 0 ys r
 zip_rank xs ys a zero q = absurd (let b = q.0 in omega arith)
-zip_rank xs ys a (suc i) q = AllZip-get_or (λ a b. a ≤ b) xs ys i 0 0 a (let b = q.1 in omega arith)
+zip_rank xs ys a (suc i) q = AllZip-get_or _ xs ys i 0 0 a (let b = q.1 in omega arith)
 
 -- ---- best and tight lists
 

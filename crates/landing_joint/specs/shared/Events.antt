@@ -16,20 +16,19 @@ aerodrome_stays s plan (Clock now) = refl
 aerodrome_stays s plan e = refl
 
 pub named_is : (c : Callsign) (a : Active) → named c a ≡ true → a.flight.callsign ≡ c
-named_is c a e = (bytes_eq-Decides a.flight.callsign c).0 e
+named_is c a e = (bytes_eq-Decides _ c).0 e
 
 -- where the event is accepted, each flight of that name waits
 pub named_waits : (s : Situation) (c : Callsign) → IsSound s → unknown_or_frozen c (find (named c) s.active) ≡ None
     → (a : Active) → Member a s.active → named c a ≡ true → a.frozen ≡ None
-named_waits s c h ok a m e = go (find (named c) s.active) refl ok
+named_waits s c h ok a m e = go _ refl ok
   where
     go : (o : Option Active) → find (named c) s.active ≡ o → unknown_or_frozen c o ≡ None → a.frozen ≡ None
-    go None q ok = absurd (false≢true (sym (none_found (named c) s.active a q m) ∙ e))
+    go None q ok = absurd (false≢true (sym (none_found _ _ a q m) ∙ e))
     go (Some b) q ok =
-        let r = found_in (named c) s.active b q in
-        let one = one_of_name s.active a b (differ_of s.active h.callsigns) m r.0 (named_is c a e
-        ∙ sym (named_is c b r.1)) in
-        ap (λ (z : Active). z.frozen) one ∙ two b.frozen ok
+        let r = found_in _ _ b q in
+        let one = one_of_name _ a b (differ_of _ h.callsigns) m r.0 (named_is c a e ∙ sym (named_is c b r.1)) in
+        ap (λ (z : Active). z.frozen) one ∙ two _ ok
       where
         two : (o : Option ℕ) → option_map Frozen o ≡ None → o ≡ None
         two None ok = refl

@@ -49,11 +49,10 @@ module _ (p : lists'.Problem) (sound : SoundProblem (ranked p)) (passed : (r : �
   no_less : (u : ℕ → ℕ) → Feasible (ranked p) u → v ≤ value_of_map p u
   no_less u f =
       let w = list_of (length p.flights) u in
-      let g = feasible_list p passed w (list_of_long (length p.flights) u)
-      (feasible_agree (ranked p) u (of_rank 0 w) (λ r q. sym (list_of_at (length p.flights) u r q)) f) in
+      let g = feasible_list p passed w (list_of_long _ u) (feasible_agree _ u _ (λ r q. sym (list_of_at _ u r q)) f) in
       let a = value_is.least w g in
-      let b = list_value p w (list_of_long (length p.flights) u) in
-      let c = value_agree p (of_rank 0 w) u (list_of_at (length p.flights) u) in
+      let b = list_value p w (list_of_long _ u) in
+      let c = value_agree p _ u (list_of_at _ u) in
       omega arith
 
   last_low : (fs : List lists'.Waiting) (xs : List Landing) → length (ranks xs) ≡ length fs
@@ -73,17 +72,16 @@ module _ (p : lists'.Problem) (sound : SoundProblem (ranked p)) (passed : (r : �
       → AllLow (λ t. low_by o v t ≡ true) xs
       × (cost_of (λ r t. cost_by o (of_rank no_waiting p.flights r) t) xs ≤ budget_by o p v)
   within_by Makespan xs l d whole le = (
-    low_true (ranked p) sound (first_at p) (is_first_open p) v xs
-        (landed_low (ranked p) sound (first_at p) (is_first_open p) v xs l d (last_low p.flights xs whole le)),
-    let a = no_cost (ranked p) sound (first_at p) (is_first_open p) xs in omega arith,
+    low_true _ sound _ (is_first_open p) v xs
+        (landed_low _ sound _ (is_first_open p) v xs l d (last_low _ xs whole le)),
+    let a = no_cost _ sound _ (is_first_open p) xs in omega arith,
   )
-  within_by Delay xs l d whole le = (all_low (ranked p) sound (first_at p) (is_first_open p) xs, omega arith)
+  within_by Delay xs l d whole le = (all_low _ sound _ (is_first_open p) xs, omega arith)
 
   back_by : (o : Objective) (q : Pair) → value_by o p q ≡ v → (xs : List Landing) → AllLow (λ t. low_by o v t ≡ true) xs
       → cost_of (λ r t. cost_by o (of_rank no_waiting p.flights r) t) xs ≤ budget_by o p v
       → value_by o p (pair_of (λ r t. cost_by o (of_rank no_waiting p.flights r) t) xs) ≤ v
-  back_by Makespan q e xs a c =
-      last_back p.flights q.0 (latest_landing xs).1 e (low_last (ranked p) sound (first_at p) (is_first_open p) v xs a)
+  back_by Makespan q e xs a c = last_back _ q.0 _ e (low_last _ sound _ (is_first_open p) v xs a)
   back_by Delay q e xs a c = omega arith
 
   -- ---- the kept pairs of a pattern
@@ -170,8 +168,8 @@ module _ (p : lists'.Problem) (sound : SoundProblem (ranked p)) (passed : (r : �
         let o = c.can_end.0 in
         let k = c.can_end.1 in
         let at = k.at ∙ sym ((net p sound).pushes r (ranks xs) l) in
-        let one = pattern_one p sound (ranks (k.last ∷ k.before)) (r ∷ ranks xs) k.legal legal at in
-        let done = completes_one p sound v (ranks (k.last ∷ k.before)) (r ∷ ranks xs) o k.legal legal one
+        let one = pattern_one p sound _ _ k.legal legal at in
+        let done = completes_one p sound v _ _ o k.legal legal one
         ((kept k.last k.before k.legal k.landed).completes o k.keeps) in
         let n = (kept (r, t) xs legal (landed_more xs r t d lands)).covers o done in
         record {
@@ -202,9 +200,8 @@ module _ (p : lists'.Problem) (sound : SoundProblem (ranked p)) (passed : (r : �
         → IsFirstBestList p (seconds_by_rank p xs)
     choices_first_best xs a whole =
         let b = built_in xs a in
-        let f = built_first (ranked p) sound (first_at p) (is_first_open p) (cost_at p) (costs_rise p) PatternNode
-        (pattern_node (ranked p).rules) (λ w. w.0) (λ rs. refl) (PatternPermits (ranked p).rules)
-        (pattern_push (ranked p).rules) pattern_newest (net p sound)
+        let f = built_first _ sound _ (is_first_open p) _ (costs_rise p) _ _ _ (λ rs. refl) _
+        _ pattern_newest (net p sound)
         (λ t. is_low p v t ≡ true) (lower_by v p.objective) KeepsIn kept_in (budget_of p v) (value_at p) v
         (within_by p.objective) (λ ys l d w low cheap. back_by p.objective at_value.0 at_value.1 ys low cheap)
         no_less xs b.1 (length_ranks xs ∙ whole) b.0 in

@@ -1,5 +1,5 @@
 -- Lists of seconds by rank and maps from ranks to seconds: what is feasible, and what the theory asks of a problem.
-use Rattle.std.proofs.Common.{◌≡◌, ◌≢◌, ℕ, zero, suc, ◌+◌, ◌<◌, ◌≤◌, length, get_or, map, cond, true, nat_lt, count_by}
+use Rattle.std.proofs.Common.{◌≡◌, ◌≢◌, ℕ, zero, suc, ◌+◌, ◌<◌, ◌≤◌, length, get_or, map, true, nat_lt, count_by}
 use Rattle.std.proofs.Common.{zero-le, add-one, arith, sym, ap, ap₂, subst, ◌∙◌}
 use Rattle.std.specs.Prelude.{IsTrue, MatchOption, Option, Some, None, slice_index, ⊤}
 use Rattle.std.specs.List.{list_any}
@@ -20,8 +20,7 @@ use Rattle.cps_theory.specs.laws.RanksBelow.{in_upto}
 
 earlier_agree : (n : ℕ) (t u : ℕ → ℕ) → ((r : ℕ) → IsRank n r → t r ≡ u r) → (r : ℕ) → IsRank n r
     → earlier n t r ≡ earlier n u r
-earlier_agree n t u h r q = count_by_agree (λ x. nat_lt (t x) (t r)) (λ x. nat_lt (u x) (u r))
-    (upto n) (λ x i. ap₂ nat_lt (h x (in_upto n x i)) (h r q))
+earlier_agree n t u h r q = count_by_agree _ _ _ (λ x i. ap₂ nat_lt (h x (in_upto n x i)) (h r q))
 
 pub feasible_agree : (f : RankedProblem) (t u : ℕ → ℕ) → ((r : ℕ) → IsRank f.rules.count r → t r ≡ u r)
     → Feasible f t → Feasible f u
@@ -43,13 +42,13 @@ module _ (p : lists'.Problem) where
       → (r : ℕ) → IsRank (length p.flights) r → P r (fl r) (of_rank 0 v r)
   each_at v P e zero q = absurd (let a = q.0 in omega arith)
   each_at v P e (suc i) q = let b = q.1 in subst (λ r. P r (fl (suc i)) (of_rank 0 v (suc i)))
-      (add-one i) (e i (fl (suc i)) (slice_get-get_or p.flights i no_waiting (omega arith)))
+      (add-one i) (e i (fl (suc i)) (slice_get-get_or _ i _ (omega arith)))
 
   pub at_each : (v : Schedule) (P : ℕ → lists'.Waiting → ℕ → Type 0)
       → ((r : ℕ) → IsRank (length p.flights) r → P r (fl r) (of_rank 0 v r)) → lists'.EachWaiting p v P
   at_each v P h i f e =
-      let lt = slice_get_within p.flights i f e in
-      let is : get_or p.flights i no_waiting ≡ f = get_or_from_slice_get p.flights i f no_waiting e in
+      let lt = slice_get_within _ i f e in
+      let is : get_or p.flights i no_waiting ≡ f = get_or_from_slice_get _ i f _ e in
       subst (λ g. P (i + 1) g (slice_index v i)) is
       (subst (λ r. P r (fl (suc i)) (of_rank 0 v (suc i))) (sym (add-one i)) (h (suc i) (omega arith, omega arith)))
 
@@ -58,9 +57,9 @@ module _ (p : lists'.Problem) where
   place_is v long r =
       let test = λ (u : ℕ). nat_lt u (of_rank 0 v r) in
       let a : count_by test v ≡ count_by test (map (of_rank 0 v) (upto (length v))) =
-      sum_by-IsPermutation (λ u. cond (test u) 1 0) (map (of_rank 0 v) (upto (length v))) v (ranks_permute 0 v) in
+      sum_by-IsPermutation _ _ v (ranks_permute 0 v) in
       let b : count_by test (map (of_rank 0 v) (upto (length v))) ≡ count_by (λ q. test (of_rank 0 v q))
-      (upto (length v)) = count_by_map test (of_rank 0 v) (upto (length v)) in
+      (upto (length v)) = count_by_map _ _ (upto (length v)) in
       let c : count_by (λ q. test (of_rank 0 v q)) (upto (length v)) ≡ earlier (length p.flights) (of_rank 0 v) r =
       ap (λ n. count_by (λ q. test (of_rank 0 v q)) (upto n)) long in
       let d = a ∙ b ∙ c in

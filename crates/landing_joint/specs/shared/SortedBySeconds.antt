@@ -1,5 +1,5 @@
 -- Numbers sorted by their seconds: the same numbers, each landing before those behind it.
-use Rattle.std.proofs.Common.{◌≡◌, ◌≢◌, ℕ, ◌<◌, ◌⊎◌, inl, inr, List, [], ◌∷◌, map, filter, Bool, nat_lt, arith, refl}
+use Rattle.std.proofs.Common.{◌≡◌, ◌≢◌, ℕ, ◌<◌, ◌⊎◌, inl, inr, List, [], ◌∷◌, map, filter, Bool, arith, refl}
 use Rattle.std.proofs.Common.{sym, ap, ap₂, subst}
 use Rattle.std.proofs.lemmas.Bool.{cases_Bool, cases_lt, lt-ltb, le-ltb}
 use Rattle.landing_rules.specs.FirstBest.{insert_by, sorted_by}
@@ -12,31 +12,28 @@ use Rattle.std.proofs.lemmas.List.Sorted.{IsPermutation-sym}
 use Rattle.cps_theory.specs.laws.Members.{in_filter}
 
 in_inserted : (t : ℕ → ℕ) (r x : ℕ) (rs : List ℕ) → In x (insert_by t r rs) → (x ≡ r) ⊎ In x rs
-in_inserted t r x rs = member_permutation (insert_by t r rs) (r ∷ rs) x
-    (IsPermutation-sym (r ∷ rs) (insert_by t r rs) (insert_moves (λ y z. nat_lt (t y) (t z))
+in_inserted t r x rs = member_permutation _ _ x (IsPermutation-sym (r ∷ rs) (insert_by t r rs) (insert_moves _
     (insert_by t) (λ y. refl) (λ y z zs. refl) r rs))
 
 sorted_by_moves : (t : ℕ → ℕ) (rs : List ℕ) → IsPermutation rs (sorted_by t rs)
-sorted_by_moves t = sort_moves (λ y z. nat_lt (t y) (t z)) (insert_by t) (λ y. refl) (λ y z zs. refl)
-    (sorted_by t) refl (λ y ys. refl)
+sorted_by_moves t = sort_moves _ (insert_by t) (λ y. refl) (λ y z zs. refl) _ refl (λ y ys. refl)
 
 -- sorting keeps the members
 pub in_sorted_by : (t : ℕ → ℕ) (x : ℕ) (rs : List ℕ) → In x (sorted_by t rs) → In x rs
-in_sorted_by t x rs = member_permutation (sorted_by t rs) rs x
-    (IsPermutation-sym rs (sorted_by t rs) (sorted_by_moves t rs))
+in_sorted_by t x rs = member_permutation _ rs x (IsPermutation-sym rs (sorted_by t rs) (sorted_by_moves t rs))
 
 pub sorted_by_in : (t : ℕ → ℕ) (x : ℕ) (rs : List ℕ) → In x rs → In x (sorted_by t rs)
-sorted_by_in t x rs = member_permutation rs (sorted_by t rs) x (sorted_by_moves t rs)
+sorted_by_in t x rs = member_permutation rs _ x (sorted_by_moves t rs)
 
 ascends_inserted : (t : ℕ → ℕ) (r : ℕ) (rs : List ℕ) → Ascends t rs → ((q : ℕ) → In q rs → t q ≢ t r)
     → Ascends t (insert_by t r rs)
 ascends_inserted t r [] a ne = (λ y i. absurd i, tt)
 ascends_inserted t r (q ∷ rs) a ne = elim (cases_lt (t q) (t r)) [
-  | inl lt ↦ rw (lt-ltb (t q) (t r) lt) (
+  | inl lt ↦ rw (lt-ltb _ _ lt) (
     λ y i. elim (in_inserted t r y rs i) [ inl s ↦ rw s lt | inr k ↦ a.0 y k ],
     ascends_inserted t r rs a.1 (λ x i. ne x (inr i)),
   )
-  | inr le ↦ rw (le-ltb (t q) (t r) le) (
+  | inr le ↦ rw (le-ltb _ _ le) (
     let n =
         ne q (inl refl) in λ y i. elim i [ inl s ↦ rw s (omega arith) | inr k ↦ (let x = a.0 y k in omega arith) ],
     a,
@@ -48,7 +45,7 @@ pub sorted_by_ascends : (t : ℕ → ℕ) (rs : List ℕ) → Distinct rs → ((
     → Ascends t (sorted_by t rs)
 sorted_by_ascends t [] d ne = tt
 sorted_by_ascends t (r ∷ rs) d ne =
-    ascends_inserted t r (sorted_by t rs) (sorted_by_ascends t rs d.1 (λ q x i j. ne q x (inr i) (inr j)))
+    ascends_inserted t r _ (sorted_by_ascends t rs d.1 (λ q x i j. ne q x (inr i) (inr j)))
     (λ q i. let k = in_sorted_by t q rs i in ne q r (inr k) (inl refl) (λ e. d.0 (subst (λ z. In z rs) e k)))
 
 -- some of an ascending list ascend
