@@ -30,8 +30,7 @@ find_first (a ∷ all) h zero lt = ap (λ b. cond b (Some a) (find (named a.flig
     ((bytes_eq-Decides _ a.flight.callsign).1 refl)
 find_first (a ∷ all) h (suc i) lt =
     let c = (numbered all i).flight.callsign in
-    let no' : bytes_eq a.flight.callsign c ≡ false = false_from_ne_true _
-    (λ e. h 0 (suc i) nobody (omega arith) lt ((bytes_eq-Decides _ c).0 e)) in
+    let no' = false_from_ne_true _ (λ e. h 0 (suc i) nobody (omega arith) lt ((bytes_eq-Decides _ c).0 e)) in
     ap (λ b. cond b (Some a) (find (named c) all)) no'
     ∙ find_first all (λ k j d l m. h (suc k) (suc j) d (omega arith) (omega arith)) i (omega arith)
 
@@ -115,7 +114,7 @@ pub order_strict : (i t : ℕ) (fs : List Landing) → disordered_from i t (map 
 order_strict i t [] e = (λ g m. absurd m, tt)
 order_strict i t (f ∷ fs) e = elim (cases_lt t f.second) [
   | inl lt ↦ (let w = order_strict (i + 1) _ fs (rw (lt-ltb t _ lt) at e) in
-      (λ g m. elim m [ inl s ↦ rw s lt | inr k ↦ (let a = w.0 g k in omega arith) ], w))
+      (λ g m. elim m [ inl s ↦ rw s lt | inr k ↦ (omega (arith, w.0 g k)) ], w))
   | inr le ↦ absurd (cons_nil _ _ (rw (le-ltb t _ le) at e))
 ]
 
@@ -183,8 +182,7 @@ landings_lines s (l ∷ ls) h e =
     let made = λ (y : ShownLanding × Active). Mark _ in
     let w = any_found _ s.active (h l (inl refl)) in
     let m = find_some _ _ w.0 w.1 in
-    let e' : cond (test (l, w.0)) (for_failing test made (lines_found s.active ls))
-    (Mark l.callsign ∷ for_failing test made (lines_found s.active ls)) ≡ [] =
+    let e' =
     sym (ap (λ o. for_failing test made (cons_option (option_map (λ a. (l, a)) o) (lines_found s.active ls))) w.1)
     ∙ e in
     let t = marked l w.0 _ e' in
@@ -207,8 +205,7 @@ pub each_map : (R : Landing → Landing → Type 0) (F : ℕ → Landing) (xs : 
     → ((i j : ℕ) → In i xs → In j xs → i ≢ j → R (F i) (F j)) → Each R (map F xs)
 each_map R F [] d h = tt
 each_map R F (x ∷ xs) d h = (
-  λ y m. let w = in_map F xs y m in subst (R (F x)) (sym w.2)
-      (h x w.0 (inl refl) (inr w.1) (λ e. d.0 (subst (λ z. In z xs) (sym e) w.1))),
+  λ y m. let w = in_map F xs y m in rw w.2 (h x w.0 (inl refl) (inr w.1) (λ e. d.0 (subst (λ z. In z xs) (sym e) w.1))),
   each_map R F xs d.1 (λ i j mi mj ne. h i j (inr mi) (inr mj) ne),
 )
 

@@ -1,5 +1,5 @@
 -- When lists of findings are empty.
-use Rattle.std.proofs.Common.{◌≡◌, ◌⊎◌, inl, inr, List, [], ◌∷◌, ◌++◌, cond, Bool, true, refl, sym, ap, ap₂, subst, ◌∙◌}
+use Rattle.std.proofs.Common.{◌≡◌, ◌⊎◌, inl, inr, List, [], ◌∷◌, ◌++◌, cond, Bool, true, refl, sym, ap, ap₂, ◌∙◌}
 use Rattle.std.specs.Prelude.{flat_map}
 use Rattle.std.specs.Str.{bytes_eq}
 use Rattle.std.specs.List.{list_any}
@@ -57,8 +57,8 @@ pub each_pair : {X : Type 0} (R : X → X → Type 0) (xs : List X) → Each R x
     → Member y xs → (x ≡ y) ⊎ (R x y ⊎ R y x)
 each_pair R [] e x y i j = absurd i
 each_pair R (z ∷ zs) e x y (inl a) (inl b) = inl (a ∙ sym b)
-each_pair R (z ∷ zs) e x y (inl a) (inr j) = inr (inl (subst (λ w. R w y) (sym a) (e.0 y j)))
-each_pair R (z ∷ zs) e x y (inr i) (inl b) = inr (inr (subst (λ w. R w x) (sym b) (e.0 x i)))
+each_pair R (z ∷ zs) e x y (inl a) (inr j) = inr (inl (rw a (e.0 y j)))
+each_pair R (z ∷ zs) e x y (inr i) (inl b) = inr (inr (rw b (e.0 x i)))
 each_pair R (z ∷ zs) e x y (inr i) (inr j) = each_pair R zs e.1 x y i j
 
 pub flat_nil : {X : Type 0} (F : X → List Finding) (xs : List X) → flat_map F xs ≡ [] → (x : X) → Member x xs → F x ≡ []

@@ -1,6 +1,6 @@
 -- The waiting flights by rank, as numbers.
 use Rattle.std.proofs.Common.{◌≡◌, ℕ, zero, suc, ◌<◌, ◌≤◌, ◌⊎◌, inl, inr, List, [], ◌∷◌, length, get_or, map, cond}
-use Rattle.std.proofs.Common.{Bool, true, false, not, zero-le, arith, refl, sym, ap, ap₂, subst, ◌∙◌}
+use Rattle.std.proofs.Common.{Bool, true, false, not, zero-le, arith, refl, sym, ap, ap₂, ◌∙◌}
 use Rattle.std.specs.Prelude.{is_none, unwrap_or, Some, None, IsPermutation, slice_get}
 use Rattle.std.specs.Ordering.{is_lt}
 use Rattle.std.proofs.lemmas.Bool.{cases_Bool}
@@ -70,8 +70,7 @@ module _ (s : Situation) (sound : IsSound s) where
           → Ordered (comes_before s.active) (cond b (j ∷ insert_number s.active i js) (i ∷ j ∷ js))
       go true e ih = (
         λ y k. elim (insert_in s.active i y js k) [
-          | inl q ↦ subst (λ z. comes_before s.active j z ≡ true)
-              (sym q) e
+          | inl q ↦ rw q e
           | inr m ↦ o.0 y m
         ],
         ih,
@@ -79,9 +78,8 @@ module _ (s : Situation) (sound : IsSound s) where
       go false e ih =
           let ij : comes_before s.active i j ≡ true = (first_come s.active).total j i (λ q. new (inl (sym q))) e in (
             λ y k. elim k [
-              | inl q ↦ subst (λ z. comes_before s.active i z ≡ true) (sym q) ij
-              | inr m ↦
-                  (first_come s.active).chain i j y ij (o.0 y m)
+              | inl q ↦ rw q ij
+              | inr m ↦ (first_come s.active).chain i j y ij (o.0 y m)
             ],
             o,
           )
@@ -113,7 +111,7 @@ last_rises (f ∷ []) r = inr (
   inl refl,
   refl,
   λ g m. elim m [
-    | inl e ↦ (let a = ap (λ (y : Landing). y.second) e in omega arith)
+    | inl e ↦ (omega (arith, ap (λ (y : Landing). y.second) e))
     | inr k ↦ absurd k
   ],
 )
@@ -148,23 +146,21 @@ module _ (s : Situation) (sound : IsSound s) where
       elim (last_rises _ (order_rises fl)) [
         | inl e ↦ inl (
           ap lists'.last_of e,
-          λ i m. frozen_each s sound (λ g. ⊥) (all_from _ fl (λ g k. subst (Member g) e (member_order g fl k))) i m,
+          λ i m. frozen_each s sound (λ g. ⊥) (all_from _ fl (λ g k. rw e at (member_order g fl k))) i m,
         )
         | inr w ↦
             (let v = frozen_member w.0 _ (order_member w.0 fl w.1) in
             let i = v.0 in
             let n = numbers_in 0 (length s.active) i zero-le (let l = v.1 in omega arith) in
-            let m : In i (numbered_situation s).frozen = filter_in _ i _ n (ap (λ o. not (is_none o)) v.3) in
-            let at : (numbered_situation s).frozen_at i ≡ v.2 = ap (λ o. unwrap_or o 0) v.3 in
-            let sec : w.0.second ≡ (numbered_situation s).frozen_at i = ap (λ (g : Landing). g.second) v.4 ∙ sym at in
-            let cat : w.0.flight.category ≡ (numbered s.active i).flight.category =
-            ap (λ (g : Landing). g.flight.category) v.4 in
+            let m = filter_in _ i _ n (ap (λ o. not (is_none o)) v.3) in
+            let at = ap (λ o. unwrap_or o 0) v.3 in
+            let sec = ap (λ (g : Landing). g.second) v.4 ∙ sym at in
+            let cat = ap (λ (g : Landing). g.flight.category) v.4 in
             inr (
               i,
               m,
               w.2 ∙ ap₂ (λ (x : ℕ) (y : Category). Some (x, y)) sec cat,
-              λ j k. subst (λ x. (numbered_situation s).frozen_at j ≤ x) sec
-                  (frozen_each s sound (λ g. g.second ≤ w.0.second)
+              λ j k. rw sec at (frozen_each s sound (λ g. g.second ≤ w.0.second)
                   (all_from _ fl (λ g k. w.3 g (member_order g fl k))) j k),
             ))
       ]

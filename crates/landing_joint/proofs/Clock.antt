@@ -134,13 +134,11 @@ module _ (s : Situation) (sound : IsSound s) (t : Schedule) (f : IsFeasible s t)
       (nat_lt (second_of t i) h) s.aerodrome.carry (numbered after i)
   at_after i m =
       let b = in_numbers 0 _ i m in
-      let e : numbered after i ≡ after_clock s.aerodrome h all (landing_at s.active t i) =
+      let e =
       ap (λ l. numbered l i) after_is ∙ numbers_get _ _ 0
       (length s.active) i (omega (arith, b.1)) ∙ ap (λ j. after_clock s.aerodrome h all (landing_at s.active t j))
       (omega arith) in
-      subst (λ a. Froze (numbered s.active i).flight (numbered s.active i).frozen (numbered s.active i).passed
-      (second_of t i) (min s.aerodrome.k ((numbered s.active i).passed + count_passing i))
-      (nat_lt (second_of t i) h) s.aerodrome.carry a) (sym e) (froze _ _ _ _ _ _ _)
+      rw e (froze _ _ _ _ _ _ _)
 
   -- those that wait after it are those that stay
   waits_after : (i : ℕ) → In i (numbers_of s.active)
@@ -159,7 +157,7 @@ module _ (s : Situation) (sound : IsSound s) (t : Schedule) (f : IsFeasible s t)
       let L = landing_at s.active t in
       let N = numbers_of s.active in
       let front = filter _ N in
-      let a : filter (freezes h) all ≡ map L front = ap (filter _) (landings_are _ t f.0) ∙ filter_map_is _ L N in
+      let a = ap (filter _) (landings_are _ t f.0) ∙ filter_map_is _ L N in
       ap (count_by (λ (g : Landing). is_lt (arrival_cmp fl g.flight))) a ∙ count_by_map _ L front ∙ count_by_agree _ _ _
       (λ j k. sym (comes_is s sound i j m (in_filter (λ x. waits_at s.active x && nat_lt (second_of t x) h) j N k).0))
       ∙ ap (count_by (λ j. comes_before s.active i j)) (sym (filter_twice _ _ N))
@@ -178,17 +176,16 @@ module _ (s : Situation) (sound : IsSound s) (t : Schedule) (f : IsFeasible s t)
   -- what is frozen after it is frozen at its second of the plan, before the horizon
   frozen_after : (i : ℕ) → In i (numbers_of s.active) → (u : ℕ) → (numbered after i).frozen ≡ Some u
       → (u ≡ second_of t i) × (second_of t i < h)
-  frozen_after i m u e = elim (cases_Bool (is_none (numbered s.active i).frozen)) [
+  frozen_after i m u e = elim (cases_Bool _) [
     | inl w ↦
-        (let gone : is_none (numbered after i).frozen ≡ false = ap is_none e in
-        let lt : nat_lt (second_of t i) h ≡ true = early (is_none (numbered s.active i).frozen)
-        (nat_lt (second_of t i) h) w (sym gone ∙ (at_after i m).waits) in
-        (some_same u (second_of t i) (sym e ∙ (at_after i m).second gone w), ltb-true (second_of t i) h lt))
+        (let gone = ap is_none e in
+        let lt = early _ _ w (sym gone ∙ (at_after i m).waits) in
+        (some_same u _ (sym e ∙ (at_after i m).second gone w), ltb-true _ h lt))
     | inr w ↦
-        (let o : (numbered s.active i).frozen ≡ Some u = sym ((at_after i m).was w) ∙ e in
-        let j : In i ns.frozen = filter_in (λ x. not (waits_at s.active x)) i (numbers_of s.active) m (ap not w) in
-        let k : second_of t i ≡ unwrap_or (numbered s.active i).frozen 0 = fn.kept i j in
-        let k' : second_of t i ≡ u = k ∙ ap (λ x. unwrap_or x 0) o in
+        (let o = sym ((at_after i m).was w) ∙ e in
+        let j = filter_in _ i _ m (ap not w) in
+        let k = fn.kept i j in
+        let k' = k ∙ ap (λ x. unwrap_or x 0) o in
         let b = (sound_numbered s sound).frozen_before i j in
         (sym k', omega arith))
   ]
@@ -204,7 +201,7 @@ module _ (s : Situation) (sound : IsSound s) (t : Schedule) (f : IsFeasible s t)
   pub late_after : (i : ℕ) → In i (numbered_situation changed).waiting → In i (numbers_of s.active)
       × (waits_at s.active i ≡ true) × (h ≤ second_of t i)
   late_after i m =
-      let w = in_filter _ i _ (subst (In i) waiting_after m) in
+      let w = in_filter _ i _ (rw waiting_after at m) in
       let v = in_filter _ i _ w.0 in (
         v.0,
         v.1,
@@ -228,12 +225,12 @@ module _ (s : Situation) (sound : IsSound s) (t : Schedule) (f : IsFeasible s t)
       omega arith
 
   each_after : (P : Active → Type 0) → ((i : ℕ) → In i (numbers_of s.active) → P (numbered after i)) → All P after
-  each_after P q i d lt = subst P (get_or_default after i nobody d lt) (q i (in_after i lt))
+  each_after P q i d lt = rw (get_or_default after i nobody d lt) at (q i (in_after i lt))
 
   each_frozen_after : (P : Landing → Type 0) → ((i : ℕ) → In i (numbers_of s.active) → second_of t i < h
       → P (landing (numbered after i) (second_of t i))) → All P (frozen_landings changed)
   each_frozen_after P q = list_frozen P _ (λ i lt u e. let m = in_after i lt in let x =
-      frozen_after i m u e in subst (λ v. P (landing (numbered after i) v)) (sym x.0) (q i m x.1))
+      frozen_after i m u e in rw x.0 (q i m x.1))
 
   pub sound_after : IsSound changed
   sound_after = record {
@@ -256,16 +253,14 @@ module _ (s : Situation) (sound : IsSound s) (t : Schedule) (f : IsFeasible s t)
           | inl e ↦ omega arith
           | inr x ↦ elim x [
             | inl e ↦ omega arith
-            | inr y ↦
-                (let e = y.1 in omega arith)
+            | inr y ↦ (omega (arith, y.1))
           ]
         ]);
     no_carry = λ c. each_after (λ a. a.passed ≡ 0) (λ i m.
         let b = in_numbers 0 (length s.active) i m in
-        let o : (numbered s.active i).passed ≡ 0 = sound.no_carry c i nobody (omega (arith, b.1)) in
+        let o = sound.no_carry c i nobody (omega (arith, b.1)) in
         elim (at_after i m).passed [
-          | inl e ↦ e
-              ∙ o
+          | inl e ↦ e ∙ o
           | inr x ↦ elim x [ inl e ↦ e | inr y ↦ absurd (false≢true (sym c ∙ y.0)) ]
         ]);
     frozen_open = each_frozen_after (λ g. IsTrue (is_open g.flight.windows s.closures g.second)) (λ i m lt.
@@ -275,8 +270,7 @@ module _ (s : Situation) (sound : IsSound s) (t : Schedule) (f : IsFeasible s t)
         (fn.opened i (all_among s sound i m))).1);
     frozen_separated = each_frozen_after (λ g. All (ArePairSeparated s.aerodrome.table g) (frozen_landings changed))
         (λ i m lt. each_frozen_after (ArePairSeparated s.aerodrome.table (landing (numbered after i) (second_of t i)))
-        (λ j k lt'. λ ne le.
-        subst (λ (y : Flight). second_of t i + separation s.aerodrome.table
+        (λ j k lt'. λ ne le. subst (λ (y : Flight). second_of t i + separation s.aerodrome.table
         (numbered after i).flight.category y.category ≤ second_of t j) (sym (same_flight j k))
         (subst (λ (x : Flight). second_of t i + separation s.aerodrome.table x.category
         (numbered s.active j).flight.category ≤ second_of t j) (sym (same_flight i m))
@@ -294,8 +288,7 @@ module _ (s : Situation) (sound : IsSound s) (t : Schedule) (f : IsFeasible s t)
         let w = late_after j k in
         false_from_ne_true (lists (numbered after i).flight (numbered after j).flight.callsign) (λ l.
         let o = fn.in_order j i (all_among s sound j w.0) (all_among s sound i m)
-        (ap₂ (λ (y : Flight) (x : Flight). lists y x.callsign) (sym (same_flight i m)) (sym (same_flight j w.0))
-        ∙ l) in
+        (ap₂ (λ (y : Flight) (x : Flight). lists y x.callsign) (sym (same_flight i m)) (sym (same_flight j w.0)) ∙ l) in
         let le = w.2 in
         omega arith))));
   }
@@ -303,20 +296,18 @@ module _ (s : Situation) (sound : IsSound s) (t : Schedule) (f : IsFeasible s t)
   -- ---- the plan stays feasible
 
   after_among : (i : ℕ) → In i (numbers.active (numbered_situation changed)) → In i (numbers_of s.active)
-  after_among i m = subst (In i) numbers_after (among _ sound_after i m)
+  after_among i m = rw numbers_after at (among _ sound_after i m)
 
   less_back : (i : ℕ) → In i (numbers_of s.active)
       → ns.back i - overtook (comes_before s.active) (second_of t) h ns.waiting i ≤ s.aerodrome.k -
       (numbered after i).passed
   less_back i m =
       let p = passing_is i m in
-      let o = passed_low s sound t f.0 i m in
       elim (at_after i m).passed [
         | inl e ↦ omega arith
         | inr x ↦ elim x [
           | inl e ↦ omega arith
-          | inr y ↦
-              (let e = y.1 in omega arith)
+          | inr y ↦ (let e = y.1 in omega arith)
         ]
       ]
 
@@ -360,7 +351,7 @@ module _ (s : Situation) (sound : IsSound s) (t : Schedule) (f : IsFeasible s t)
         (ap₂ (λ (y : Flight) (x : Flight). lists y x.callsign) (sym (same_flight j b)) (sym (same_flight i a)) ∙ l);
     shifted = λ i m.
         let w = late_after i m in
-        let v : In i ns.waiting = filter_in (waits_at s.active) i (numbers_of s.active) w.0 w.1 in
+        let v = filter_in (waits_at s.active) i (numbers_of s.active) w.0 w.1 in
         let k = stays_shifted (comes_before s.active) (first_come s.active)
         (second_of t) ns.waiting s.aerodrome.k h ns.back (sound_numbered s sound).differ fn.shifted i v w.2 in
         let r = rank_after i w.0 in
@@ -401,19 +392,18 @@ clock_keeps_plan s t now sound f e =
 pub clock_shows_plan : ClockShowsPlanLaw
 clock_shows_plan old new now t sound shown e step =
     let s = old.situation in
-    let before : IsPlanShown s (Some t) = subst (IsPlanShown s) shown sound.shown in
+    let before = rw shown at sound.shown in
     let kept = clock_keeps_plan s t now sound.situation before.0.feasible e in
-    let is : new.situation ≡ situation_after s (Some t) (Clock now) =
-    step.changed ∙ ap (λ p. situation_after s p (Clock now)) shown in
-    let there : IsFeasible new.situation t = subst (λ x. IsFeasible x t) (sym is) kept.feasible in
-    let same : objective new.situation t ≡ objective s t = ap (λ x. objective x t) is ∙ kept.objective in
-    go new.plan refl step.shown there same
+    let is = step.changed ∙ ap (λ p. situation_after s p (Clock now)) shown in
+    let there = subst (λ x. IsFeasible x t) (sym is) kept.feasible in
+    let same = ap (λ x. objective x t) is ∙ kept.objective in
+    go _ refl step.shown there same
   where
     go : (p : Option Schedule) → new.plan ≡ p → IsPlanShown new.situation p → IsFeasible new.situation t
         → objective new.situation t ≡ objective old.situation t → (u : Schedule) × (new.plan ≡ Some u)
         × (objective new.situation u ≤ objective old.situation t)
     go None q x there same = absurd (x t there)
-    go (Some u) q x there same = (u, q, let a = x.0.least t there in omega arith)
+    go (Some u) q x there same = (u, q, omega (arith, x.0.least t there))
 
 -- with no plan shown the situation stays as it is, but for its horizon
 sound_alone : (s : Situation) (now : ℕ) → IsSound s → horizon s ≤ now + s.aerodrome.freeze
@@ -430,7 +420,7 @@ sound_alone s now sound forth = record {
   frozen_open = sound.frozen_open;
   frozen_separated = sound.frozen_separated;
   frozen_in_precedence = sound.frozen_in_precedence;
-  frozen_before = λ k d lt. let a = sound.frozen_before k d lt in omega arith;
+  frozen_before = λ k d lt. omega (arith, sound.frozen_before k d lt);
   frozen_alone = sound.frozen_alone;
 }
 

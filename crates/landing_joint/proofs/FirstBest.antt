@@ -1,12 +1,12 @@
 -- The first best list of a problem gives the first best schedule of its situation, and there is at most one.
 use Rattle.std.proofs.Common.{◌≡◌, ◌≢◌, ℕ, zero, suc, ◌<◌, ◌≤◌, inl, inr, List, [], ◌∷◌, length, get_or, map, filter}
-use Rattle.std.proofs.Common.{Bool, true, false, not, nat_lt, zero-le, le_antisymm, arith, refl, sym, ap, subst, ◌∙◌}
+use Rattle.std.proofs.Common.{true, false, not, nat_lt, zero-le, le_antisymm, arith, refl, sym, ap, subst, ◌∙◌}
 use Rattle.std.specs.Prelude.{Option, Some, None, option_map}
 use Rattle.std.proofs.lemmas.Bool.{cases_eq, cases_Bool}
 use Rattle.std.proofs.lemmas.List.{get_or_default}
 use Rattle.std.proofs.lemmas.List.Elements.{AllZip-get_or}
 use Rattle.wake_table.specs.Table.{IsWakeTable}
-use Rattle.landing_rules.specs.Flights.{Active, Situation, Schedule, landings, waiting}
+use Rattle.landing_rules.specs.Flights.{Active, Situation, Schedule, waiting}
 use Rattle.landing_rules.specs.Rules.{IsFeasible, IsBest, IsTight, HaveSameOrder, objective, rank, waits}
 use Rattle.landing_rules.specs.Events.{insert_landing, in_landing_order, IsPlanShown}
 use Rattle.landing_rules.specs.Problem as lists'
@@ -83,7 +83,7 @@ module _ (s : Situation) (sound : IsSound s) where
       let W = map _ (waiting s) in
       let L = landing_at s.active t in
       let xs = sorted_by (second_of t) (numbers_of s.active) in
-      let a : filter waits (in_landing_order (landings s.active t)) ≡ map L (waiting_by t) =
+      let a =
       ap (λ l. filter waits (in_landing_order l)) (landings_are _ t long)
       ∙ ap (filter _) (order_numbers _ t (numbers_of s.active)) ∙ filter_map_is _ L xs in
       ap (map _) a ∙ map_map _ L _ ∙ map_agree (λ i. rank W (numbered s.active i).flight) _
@@ -94,7 +94,7 @@ module _ (s : Situation) (sound : IsSound s) where
   unfolding rank_of
   rank_below i j m e =
       let c = first_come s.active in
-      let before : ℕ → ℕ → Bool = comes_before s.active in
+      let before = comes_before s.active in
       let itself : before i i ≡ false = elim (cases_Bool _) [ inl t ↦ c.one_way i i t | inr f ↦ f ] in
       let lt = count_stricter _ _ i _ m itself e (λ g k h. c.chain g i j h e) in
       let a = count_is (λ g. before g i) ns.waiting in
@@ -105,8 +105,8 @@ module _ (s : Situation) (sound : IsSound s) where
   ranks_one i j mi mj e = elim (cases_eq i j) [
     | inl q ↦ q
     | inr ne ↦ elim (cases_Bool _) [
-      | inl b ↦ absurd (let lt = rank_below i j mi b in omega arith)
-      | inr b ↦ absurd (let lt = rank_below j i mj ((first_come s.active).total i j ne b) in omega arith)
+      | inl b ↦ absurd (omega (arith, rank_below i j mi b))
+      | inr b ↦ absurd (omega (arith, rank_below j i mj ((first_come s.active).total i j ne b)))
     ]
   ]
 
@@ -170,7 +170,7 @@ module _ (s : Situation) (sound : IsSound s) where
   order_tells t u ft fu e =
       let f = feasible_numbered s sound t ft.0 ft in
       let g = feasible_numbered s sound u fu.0 fu in
-      let one : waiting_by t ≡ waiting_by u = map_one _ _ _
+      let one = map_one _ _ _
       (λ i j mi mj. ranks_one i j (in_waiting_by t i mi) (in_waiting_by u j mj)) (sym (order_is t ft.0)
       ∙ e ∙ order_is u fu.0) in
       let at = waiting_ascend t f in
@@ -194,8 +194,7 @@ first_best_objective s t u a b = le_antisymm (a.best.least u b.feasible) (b.leas
 module _ (s : Situation) (sound : IsSound s) (p : lists'.Problem) (of : lists'.IsProblemOf s p) where
   -- what the theory asks of the problem
   pub problem_sound : SoundProblem (ranked p)
-  problem_sound = sound_ranked p (subst (λ t. IsWakeTable t) (sym of.table) sound.table) (λ q r e. let b =
-      of.between_ranks q r e in (b.0, b.1))
+  problem_sound = sound_ranked p (rw of.table sound.table) (λ q r e. let b = of.between_ranks q r e in (b.0, b.1))
 
   -- the order of a list is that of the schedule that it gives
   pub joined_order : (v : Schedule) → lists'.IsFeasibleList p v → order_of s (joined s v) ≡ order_of_list v
@@ -243,20 +242,17 @@ module _ (s : Situation) (sound : IsSound s) (p : lists'.Problem) (of : lists'.I
       → HaveSameOrder (joined s v) (joined s w)
   order_given v w f g same =
       let long = joint.joined_long s sound p of v in
-      all_in_order s sound (joined s v) (joined s w) long
-      (feasible_numbered s sound (joined s v) long (joint.list_gives_schedule s sound p of v f))
-      (feasible_numbered s sound (joined s w) (joint.joined_long s sound p of w)
-      (joint.list_gives_schedule s sound p of w g))
+      all_in_order s sound _ _ long (feasible_numbered s sound _ long (joint.list_gives_schedule s sound p of v f))
+      (feasible_numbered s sound _ (joint.joined_long s sound p of w) (joint.list_gives_schedule s sound p of w g))
       (λ i j mi mj. two v w (λ q r iq ir lt. (by_rank f.one_each same q r iq ir).0 lt) i j mi mj)
       (λ i j mi mj. two w v (λ q r iq ir lt. (by_rank f.one_each same q r iq ir).1 lt) i j mi mj)
     where
       by_rank : length v ≡ length p.flights → HaveSameOrder v w → (q r : ℕ) → IsRank (length p.flights) q
           → IsRank (length p.flights) r → (of_rank 0 v q < of_rank 0 v r → of_rank 0 w q < of_rank 0 w r)
           × (of_rank 0 w q < of_rank 0 w r → of_rank 0 v q < of_rank 0 v r)
-      by_rank long o zero r iq ir = absurd (let a = iq.0 in omega arith)
-      by_rank long o (suc i) zero iq ir = absurd (let a = ir.0 in omega arith)
-      by_rank long o (suc i) (suc j) iq ir = let a = iq.1 in let b = ir.1 in let x =
-          o i j (omega arith) (omega arith) in (x.0, x.1)
+      by_rank long o zero r iq ir = absurd (omega (arith, iq.0))
+      by_rank long o (suc i) zero iq ir = absurd (omega (arith, ir.0))
+      by_rank long o (suc i) (suc j) iq ir = let x = o i j (omega arith) (omega arith) in (x.0, x.1)
 
       two : (x y : Schedule) → ((q r : ℕ) → IsRank (length p.flights) q → IsRank (length p.flights) r
           → of_rank 0 x q < of_rank 0 x r → of_rank 0 y q < of_rank 0 y r)
@@ -265,11 +261,8 @@ module _ (s : Situation) (sound : IsSound s) (p : lists'.Problem) (of : lists'.I
       two x y h i j mi mj =
           let a = (joint.problem_of s sound p of).at_all i mi in
           let b = (joint.problem_of s sound p of).at_all j mj in
-          subst (λ z. second_of (joined s x) z < second_of (joined s x) j
-          → second_of (joined s y) z < second_of (joined s y) j) a.2
-          (subst (λ z. second_of (joined s x) (number_at s a.0) < second_of (joined s x) z
-          → second_of (joined s y) (number_at s a.0) < second_of (joined s y) z) b.2
-          (λ lt.
+          rw a.2 at (subst (λ z. second_of (joined s x) (number_at s a.0) < second_of (joined s x) z
+          → second_of (joined s y) (number_at s a.0) < second_of (joined s y) z) b.2 (λ lt.
           let xa = joint.joined_rank s sound p of x a.0 a.1 in
           let xb = joint.joined_rank s sound p of x b.0 b.1 in
           let ya = joint.joined_rank s sound p of y a.0 a.1 in
@@ -283,18 +276,14 @@ module _ (s : Situation) (sound : IsSound s) (p : lists'.Problem) (of : lists'.I
     feasible = f;
     earliest = λ u g o.
         let z = t.earliest (joined s u) (joint.list_gives_schedule s sound p of u g) (order_given v u f g o) in
-        let lv = f.one_each in
-        let lu = g.one_each in
         zip_of v u (omega arith) (λ i lt.
         let q : IsRank (length p.flights) (suc i) = (omega arith, omega arith) in
         let b = in_numbers 0 (length s.active) (number_at s (suc i)) (joint.among s sound p of (suc i) q) in
         let n = joint.joined_long s sound p of v in
-        let le : second_of (joined s v) (number_at s (suc i)) ≤ second_of (joined s u) (number_at s (suc i)) =
+        let le =
         AllZip-get_or (λ a b. a ≤ b) (joined s v) (joined s u) (number_at s (suc i)) 0 0 z (omega (arith, b.1, n)) in
-        let a : second_of (joined s v) (number_at s (suc i)) ≡ get_or v i 0 =
-        joint.joined_rank s sound p of v (suc i) q in
-        let c : second_of (joined s u) (number_at s (suc i)) ≡ get_or u i 0 =
-        joint.joined_rank s sound p of u (suc i) q in
+        let a = joint.joined_rank s sound p of v (suc i) q in
+        let c = joint.joined_rank s sound p of u (suc i) q in
         omega (arith, a, c, le));
   }
 
@@ -341,8 +330,8 @@ module _ (p : lists'.Problem) (is : IsSoundProblem p) where
   ranked_sound = sound_ranked p is.table (λ q r e. let b = is.between_ranks q r e in (b.0, b.1))
 
   pub passed_at : (r : ℕ) → IsRank (length p.flights) r → (of_rank no_waiting p.flights r).passed ≤ p.k
-  passed_at zero q = absurd (let a = q.0 in omega arith)
-  passed_at (suc i) q = is.passed i no_waiting (let a = q.1 in omega arith)
+  passed_at zero q = absurd (omega (arith, q.0))
+  passed_at (suc i) q = is.passed i no_waiting (omega (arith, q.1))
 
   pub one_first_best_list : (v w : Schedule) → IsFirstBestList p v → IsFirstBestList p w → v ≡ w
   one_first_best_list = first_best_list_is_one p ranked_sound passed_at
@@ -366,5 +355,4 @@ first_plan_is_shown s (Some t) a = (a.best, a.tight)
 pub first_list_gives_plan : (s : Situation) (p : lists'.Problem) (list : Option Schedule) → IsSound s
     → lists'.IsProblemOf s p → IsFirstList p list → IsFirstPlan s (option_map (lists'.joined s) list)
 first_list_gives_plan s p None sound of a = λ t f. let w = joint.schedule_gives_list s sound p of t f in a w.0 w.1
-first_list_gives_plan s p (Some v) sound of a =
-    subst (IsFirstBest s) (sym (joined_in_words s sound v)) (first_best_schedule s sound p of v a)
+first_list_gives_plan s p (Some v) sound of a = rw (joined_in_words s sound v) (first_best_schedule s sound p of v a)

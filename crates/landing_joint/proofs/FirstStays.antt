@@ -1,7 +1,7 @@
 -- Of the flights that stay when the front of a plan freezes, the first in first-come order: whoever comes before it
 -- freezes, so its own leave to go back bounds how many behind it freeze, and so behind each that stays.
 use Rattle.std.proofs.Common.{◌≡◌, ◌≢◌, ℕ, ◌<◌, ◌≤◌, ◌&&◌, ◌∙◌, inl, inr, List, [], ◌∷◌, Bool, true, false, not}
-use Rattle.std.proofs.Common.{nat_lt, arith, refl, sym, ap, subst}
+use Rattle.std.proofs.Common.{nat_lt, arith, refl, sym, ap}
 use Rattle.std.proofs.lemmas.Bool.{cases_Bool, cases_eq, cases_lt, ltb-true, lt-ltb, le-ltb, and_parts, and_from}
 use Rattle.std.proofs.lemmas.Bool.{false≢true}
 use Rattle.cps_theory.specs.RankLists.{In}
@@ -15,7 +15,7 @@ module _ (comes_before : ℕ → ℕ → Bool) (order : FirstCome comes_before) 
   -- if f does not come before x, whoever comes after f comes after x
   behind_both : (f x y : ℕ) → comes_before f x ≡ false → comes_before f y ≡ true → comes_before x y ≡ true
   behind_both f x y ahead after = elim (cases_eq f x) [
-    | inl e ↦ subst (λ z. comes_before z y ≡ true) e after
+    | inl e ↦ rw e at after
     | inr ne ↦ order.chain x f y (order.total f x ne ahead) after
   ]
 
@@ -29,7 +29,7 @@ module _ (comes_before : ℕ → ℕ → Bool) (order : FirstCome comes_before) 
       x,
       inl refl,
       λ y i. elim i [
-        | inl e ↦ subst (λ z. comes_before z x ≡ false) (sym e) (not_before_itself _ order x)
+        | inl e ↦ rw e (not_before_itself _ order x)
         | inr j ↦ elim (cases_Bool _) [
           | inl q ↦ absurd (false≢true (sym (r.2 y j) ∙ order.chain y x r.0 q b))
           | inr q ↦ q
@@ -40,7 +40,7 @@ module _ (comes_before : ℕ → ℕ → Bool) (order : FirstCome comes_before) 
       r.0,
       inr r.1,
       λ y i. elim i [
-        | inl e ↦ subst (λ z. comes_before z r.0 ≡ false) (sym e) b
+        | inl e ↦ rw e b
         | inr j ↦ r.2 y j
       ],
     )
@@ -51,7 +51,7 @@ module _ (comes_before : ℕ → ℕ → Bool) (order : FirstCome comes_before) 
     x,
     inl refl,
     λ y i. elim i [
-      | inl e ↦ subst (λ z. comes_before z x ≡ false) (sym e) (not_before_itself _ order x)
+      | inl e ↦ rw e (not_before_itself _ order x)
       | inr j ↦ absurd j
     ],
   )
@@ -151,8 +151,7 @@ module _ (comes_before : ℕ → ℕ → Bool) (order : FirstCome comes_before) 
       more : f ≢ m → overtook comes_before t h waiting f < overtook comes_before t (t m) waiting m
       more ne =
           let apart' = apart f m i j ne in
-          let out : (nat_lt (t f) h && comes_before f f) ≡ false =
-          ap (λ b. b && comes_before f f) (le-ltb _ h stays_f) in
+          let out = ap (λ b. b && comes_before f f) (le-ltb _ h stays_f) in
           let within = and_from _ _ (lt-ltb _ _ (omega arith)) (order.total f m ne ahead) in
           let w = count_stricter _ _ f _ i out within (λ g n e. among g e) in
           let a = overtook_is h f in
@@ -163,11 +162,11 @@ module _ (comes_before : ℕ → ℕ → Bool) (order : FirstCome comes_before) 
     pub few_overtook_itself : (h f : ℕ) → In f waiting → h ≤ t f → overtook comes_before t h waiting f ≤ back f
     few_overtook_itself h f i le =
         let f_in = staying (t f) f i (omega arith) in
-        let r = first_in f (staying_of t (t f) waiting) f_in in
+        let r = first_in f _ f_in in
         let m = r.0 in
-        let at = stays t waiting k (t f) back shift m r.1 in
+        let at = stays t waiting k _ back shift m r.1 in
         let later = at.1 in
-        let few = few_overtook_first t waiting k (t m) back shift m (staying (t m) m at.0 (omega arith))
+        let few = few_overtook_first t waiting k _ _ shift m (staying _ m at.0 (omega arith))
         (λ y n. r.2 y (let w = stays t waiting k (t m) back shift y n in let x =
         w.1 in staying (t f) y w.0 (omega arith))) in
         let low = one m at.0 in

@@ -40,8 +40,7 @@ module _ (s : Situation) (sound : IsSound s) where
   rank_is i m =
       let w = (numbered_situation s).waiting in
       let f = (numbered s.active i).flight in
-      let e : count_by (λ g. is_lt (arrival_cmp g f)) (map (λ (b : Active). b.flight) (waiting s)) ≡ count_by
-      (λ j. comes_before s.active j i) w = ap (count_by (λ g. is_lt (arrival_cmp g f))) waiting_are ∙ count_by_map _ _ w
+      let e = ap (count_by (λ g. is_lt (arrival_cmp g f))) waiting_are ∙ count_by_map _ _ w
       ∙ count_by_agree _ _ w (λ j k. sym (comes_is s sound j i (in_filter _ j _ k).0 m)) in
       omega arith
 
@@ -72,10 +71,10 @@ module _ (s : Situation) (sound : IsSound s) (p : lists'.Problem) (of : lists'.I
       let bj = in_numbers 0 _ _ (among s sound p of _ qj) in
       let n = joined_long s sound p of v in
       let o = same (number_at s (suc i)) (number_at s (suc j)) (omega (arith, bi.1, n)) (omega (arith, bj.1, n)) in
-      let vi : second_of (joined s v) (number_at s (suc i)) ≡ get_or v i 0 = joined_rank s sound p of v _ qi in
-      let vj : second_of (joined s v) (number_at s (suc j)) ≡ get_or v j 0 = joined_rank s sound p of v _ qj in
-      let wi : second_of (joined s w) (number_at s (suc i)) ≡ get_or w i 0 = joined_rank s sound p of w _ qi in
-      let wj : second_of (joined s w) (number_at s (suc j)) ≡ get_or w j 0 = joined_rank s sound p of w _ qj in (
+      let vi = joined_rank s sound p of v _ qi in
+      let vj = joined_rank s sound p of v _ qj in
+      let wi = joined_rank s sound p of w _ qi in
+      let wj = joined_rank s sound p of w _ qj in (
         λ lt. let a = o.0 (omega (arith, vi, vj, lt)) in omega (arith, wi, wj, a),
         λ lt. let a = o.1 (omega (arith, wi, wj, lt)) in omega (arith, vi, vj, a),
       )
@@ -93,11 +92,11 @@ module _ (s : Situation) (sound : IsSound s) (p : lists'.Problem) (of : lists'.I
       waits : (v w : Schedule) → length v ≡ length p.flights → AllZip (λ a b. a ≤ b) v w → (r : ℕ)
           → IsRank (length p.flights) r → second_of (joined s v) (number_at s r) ≤ second_of
           (joined s w) (number_at s r)
-      waits v w long le zero q = absurd (let a = q.0 in omega arith)
+      waits v w long le zero q = absurd (omega (arith, q.0))
       waits v w long le (suc i) q =
-          let a : second_of (joined s v) (number_at s (suc i)) ≡ get_or v i 0 = joined_rank s sound p of v _ q in
-          let b : second_of (joined s w) (number_at s (suc i)) ≡ get_or w i 0 = joined_rank s sound p of w _ q in
-          let c = AllZip-get_or _ v w i 0 0 le (let z = q.1 in omega arith) in
+          let a = joined_rank s sound p of v _ q in
+          let b = joined_rank s sound p of w _ q in
+          let c = AllZip-get_or _ v w i 0 0 le (omega (arith, q.1)) in
           omega arith
 
   -- a tight list gives a tight schedule
@@ -106,7 +105,7 @@ module _ (s : Situation) (sound : IsSound s) (p : lists'.Problem) (of : lists'.I
     feasible = list_gives_schedule s sound p of v t.feasible;
     earliest = λ u f o.
         let w = schedule_gives_list s sound p of u f in
-        let same : HaveSameOrder (joined s v) (joined s w.0) = subst (λ x. HaveSameOrder (joined s v) x) w.2 o in
+        let same = subst (λ x. HaveSameOrder (joined s v) x) w.2 o in
         subst (λ x. AllZip (λ a b. a ≤ b) (joined s v) x) (sym w.2)
         (earlier_kept v w.0 t.feasible.one_each (t.earliest w.0 w.1 (order_kept v w.0 t.feasible.one_each same)));
   }

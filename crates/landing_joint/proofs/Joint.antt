@@ -158,7 +158,7 @@ module _ (s : Situation) (sound : IsSound s) where
         let same = landings_are _ t long in
         let each : (P : Landing → Type 0) → All P ls → (i : ℕ) → In i (numbers_of s.active)
         → P (landing_at s.active t i) =
-        λ P a i m. all_at P _ _ (subst (All P) same a) i m in
+        λ P a i m. all_at P _ _ (rw same at a) i m in
         record {
           kept = λ i m. let w = in_filter (λ x. not (waits_at s.active x)) i (numbers_of s.active) m in
               kept_of (numbered s.active i).frozen (horizon s) (second_of t i) w.1
@@ -182,7 +182,6 @@ module _ (s : Situation) (sound : IsSound s) where
               (subst (λ l. All (IsShiftKept s.aerodrome.k l) l) waiting_are r.shift) i m in
               let a = rank_is i n in
               let b = place_is i in
-              let c = passed_low i n in
               (omega (arith, k.0), omega (arith, k.1));
         }
 
@@ -191,7 +190,7 @@ module _ (s : Situation) (sound : IsSound s) where
         let same = landings_are _ t long in
         let from : (P : Landing → Type 0) → ((i : ℕ) → In i (numbers_of s.active) → P (landing_at s.active t i))
         → All P (landings s.active t) =
-        λ P h. subst (All P) (sym same) (at_all P _ _ h) in (
+        λ P h. rw same (at_all P _ _ h) in (
           long,
           record {
             in_days = from (λ g. g.second ≤ last_second) (λ i m. leb-true (second_of t i) last_second
@@ -234,8 +233,7 @@ frozen_list P all h i lt u e = general.all_at P _ h _ (general.frozen_in all _ u
 pub list_frozen : (P : Landing → Type 0) (all : List Active)
     → ((i : ℕ) → i < length all → (u : ℕ) → (numbered all i).frozen ≡ Some u → P (landing (numbered all i) u))
     → All P (filter_map (λ a. option_map (landing a) a.frozen) all)
-list_frozen P all h = general.all_from P _ (λ x m. let w =
-    members.frozen_member x all m in subst P (sym w.4) (h w.0 w.1 w.2 w.3))
+list_frozen P all h = general.all_from P _ (λ x m. let w = members.frozen_member x all m in rw w.4 (h w.0 w.1 w.2 w.3))
 
 pub active_are : (all : List Active) → all ≡ map (numbered all) (numbers_of all)
 active_are [] = refl

@@ -39,7 +39,7 @@ strict_insert f (x ∷ fs) e ne = elim (cases_lt x.second f.second) [
   )
   | inr le ↦ rw (le-ltb _ _ le) (
     let c =
-        ne x (inl refl) in λ y m. elim m [ inl s ↦ rw s (omega arith) | inr k ↦ (let b = e.0 y k in omega arith) ],
+        ne x (inl refl) in λ y m. elim m [ inl s ↦ rw s (omega arith) | inr k ↦ (omega (arith, e.0 y k)) ],
     e,
   )
 ]

@@ -76,7 +76,7 @@ module _ (s : Situation) (sound : IsSound s) (t : Schedule) (ok : IsFeasible s t
   shifted = (feasible_numbered s sound t ok.0 ok).shifted
 
   stays : (i : ℕ) → In i stay → In i (numbers_of s.active) × (waits_at s.active i ≡ true) × (h ≤ second_of t i)
-  stays i m = late_after s sound t ok now forth i (subst (In i) (sym (waiting_after s sound t ok now forth)) m)
+  stays i m = late_after s sound t ok now forth i (rw (waiting_after s sound t ok now forth) m)
 
   waited : (i : ℕ) → In i stay → In i ns.waiting
   waited i m = let w = stays i m in filter_in _ i _ w.0 w.1
@@ -94,8 +94,7 @@ module _ (s : Situation) (sound : IsSound s) (t : Schedule) (ok : IsFeasible s t
       → g ≤ (numbered s.active x).passed) where
     few_numbers : g + over i ≤ s.aerodrome.k
     few_numbers =
-        let r = bound_overtook (comes_before s.active) (first_come s.active)
-        (second_of t) ns.waiting s.aerodrome.k h ns.back shifted i m in
+        let r = bound_overtook _ (first_come s.active) _ _ _ h _ shifted i m in
         let p = passed_low s sound t ok.0 r.0 (stays r.0 r.1).0 in
         let l = least r.0 (waited r.0 r.1) r.2 in
         let b = r.3 in
@@ -106,18 +105,17 @@ module _ (s : Situation) (sound : IsSound s) (t : Schedule) (ok : IsFeasible s t
     counted_numbers x n ahead =
         let few = few_numbers in
         let l = least x (waited x n) ahead in
-        let o = fewer_overtook (comes_before s.active) (first_come s.active)
-        (second_of t) ns.waiting s.aerodrome.k h ns.back shifted i x ahead in
+        let o = fewer_overtook _ (first_come s.active) _ _ _ h _ shifted i x ahead in
         let e = counted_after x n in
         omega arith
 
   at_number : (y : Active) → Member y (waiting changed) → (i : ℕ) × In i stay × (y ≡ numbered changed.active i)
   at_number y m =
-      let r = in_map _ _ y (subst (Member y) (waiting_changed s sound t ok now forth) m) in
+      let r = in_map _ _ y (rw (waiting_changed s sound t ok now forth) at m) in
       (r.0, subst (In r.0) (waiting_after s sound t ok now forth) r.1, r.2)
 
   was_waiting : (i : ℕ) → In i ns.waiting → Member (numbered s.active i) (waiting s)
-  was_waiting i m = subst (Member (numbered s.active i)) (sym (waiting_before s sound t ok now forth)) (map_in _ _ i m)
+  was_waiting i m = rw (waiting_before s sound t ok now forth) (map_in _ _ i m)
 
   flight_at : (y : Active) (i : ℕ) → In i stay → y ≡ numbered changed.active i → y.flight ≡ (numbered s.active i).flight
   flight_at y i m e = ap (λ (a : Active). a.flight) e ∙ same_flight s sound t ok now forth i (stays i m).0
@@ -177,7 +175,7 @@ module _ (s : Situation) (sound : IsSound s) (t : Schedule) (ok : IsFeasible s t
           → is_lt (arrival_cmp (numbered changed.active i).flight y.flight) ≡ false → g + passing ≤ y.passed
       counted_each y m ahead =
           let x = at_number y m in
-          let a = flight_at (numbered changed.active i) i n.stays refl ∙ ap (λ (b : Active). b.flight) (sym n.was) in
+          let a = flight_at _ i n.stays refl ∙ ap (λ (b : Active). b.flight) (sym n.was) in
           let b = flight_at y x.0 x.1 x.2 in
           let not_behind = behind_are x.0 (waited x.0 x.1) ∙ ap₂ (λ p q. is_lt (arrival_cmp p q)) (sym a) (sym b)
           ∙ ahead in
@@ -206,7 +204,7 @@ module _ (s : Situation) (sound : IsSound s) (t : Schedule) (ok : IsFeasible s t
         let i = n.0 in
         let w = stays i n.1.stays in
         let few = few_overtook_itself _ (first_come s.active)
-        _ _ s.aerodrome.k ns.back shifted (λ x m. omega arith) seconds_differ h i (waited i n.1.stays) w.2 in
+        _ _ _ _ shifted (λ x m. omega arith) seconds_differ h i (waited i n.1.stays) w.2 in
         let p = passed_low s sound t ok.0 i w.0 in
         let a = counted_after i n.1.stays in
         let same = ap (λ (z : Active). z.passed) (same_Some b (numbered changed.active i) (sym e ∙ n.1.is)) in

@@ -70,9 +70,7 @@ frozen_are : (all : List Active) → filter_map (λ a. option_map (landing a) a.
 frozen_are [] = refl
 frozen_are (a ∷ all) =
     let L = λ (i : ℕ). landing (numbered (a ∷ all) i) (unwrap_or (numbered (a ∷ all) i).frozen 0) in
-    let rest : filter_map (λ b. option_map (landing b) b.frozen) all ≡ map L
-    (filter (λ i. not (waits_at (a ∷ all) i)) (numbers_from 1 (length all))) =
-    frozen_are all ∙ sym (ap (map L) (filter_numbers _ 0 (length all)) ∙ map_map L suc _) in
+    let rest = frozen_are all ∙ sym (ap (map L) (filter_numbers _ 0 (length all)) ∙ map_map L suc _) in
     go _ refl rest
   where
     go : (o : Option ℕ) → a.frozen ≡ o → filter_map (λ b. option_map (landing b) b.frozen) all ≡ map
@@ -103,16 +101,15 @@ module _ (s : Situation) (sound : IsSound s) (p : lists'.Problem) (of : lists'.I
       ∙ filter_map_is _ _ (numbers_of s.active)) ∙ sym (map_sorted _ ns.waiting)
 
   zipped : AllZip (lists'.IsWaitingOf s.closures) (map (numbered s.active) R) p.flights
-  zipped = subst (λ l. AllZip (lists'.IsWaitingOf s.closures) l p.flights) ranked_is of.flights
+  zipped = rw ranked_is at of.flights
 
   long_is : length R ≡ length p.flights
   long_is = sym (length-map R _) ∙ zip_long _ _ _ zipped
 
   waiting_of : (r : ℕ) → IsRank (length p.flights) r → lists'.IsWaitingOf s.closures (numbered s.active (at r)) (fl r)
-  waiting_of zero q = absurd (let a = q.0 in omega arith)
+  waiting_of zero q = absurd (omega (arith, q.0))
   waiting_of (suc i) q =
       let l = long_is in
-      let b = q.1 in
       let lt : i < length R = omega arith in
       let m = length-map R (numbered s.active) in
       subst (λ a. lists'.IsWaitingOf s.closures a (fl (suc i))) (get_or-map _ R i _ _ lt)
@@ -129,7 +126,7 @@ module _ (s : Situation) (sound : IsSound s) (p : lists'.Problem) (of : lists'.I
   ]
 
   in_waiting : (r : ℕ) → IsRank (length p.flights) r → In (at r) ns.waiting
-  in_waiting r q = let l = long_is in let b = q.1 in sorted_in s.active _ _ (at_in _ R r q.0 (omega arith))
+  in_waiting r q = let l = long_is in sorted_in s.active _ _ (at_in _ R r q.0 (omega arith))
 
   pub among : (r : ℕ) → IsRank (length p.flights) r → In (at r) (numbers_of s.active)
   among r q = (in_filter _ _ _ (in_waiting r q)).0
@@ -162,17 +159,14 @@ module _ (s : Situation) (sound : IsSound s) (p : lists'.Problem) (of : lists'.I
 
   before_is : (q r : ℕ) → IsRank (length p.flights) q → IsRank (length p.flights) r
       → must_precede p.pairs q r ≡ ns.lists (at q) (at r)
-  before_is zero r iq ir = absurd (let a = iq.0 in omega arith)
-  before_is (suc i) zero iq ir = absurd (let a = ir.0 in omega arith)
+  before_is zero r iq ir = absurd (omega (arith, iq.0))
+  before_is (suc i) zero iq ir = absurd (omega (arith, ir.0))
   before_is (suc i) (suc j) iq ir =
       let l = long_is in
-      let a = iq.1 in
-      let b = ir.1 in
-      let listed = subst (λ l. lists'.ArePredecessorsOf l p.pairs) ranked_is of.predecessors in
+      let listed = rw ranked_is at of.predecessors in
       let c = listed i j (numbered s.active (at (suc i))) (numbered s.active (at (suc j)))
       (slice_map _ R i _ (omega arith)) (slice_map _ R j _ (omega arith)) in
-      subst (λ x. must_precede p.pairs x (suc j) ≡ ns.lists (at (suc i)) (at (suc j))) (add-one i)
-      (subst (λ y. must_precede p.pairs (i + 1) y ≡ ns.lists (at (suc i)) (at (suc j))) (add-one j) c)
+      rw (add-one i) at (subst (λ y. must_precede p.pairs (i + 1) y ≡ ns.lists (at (suc i)) (at (suc j))) (add-one j) c)
 
   apart_is : (q r : ℕ) → separation p.table (fl q).category (fl r).category ≡ ns.apart (at q) (at r)
   apart_is q r = ap (λ t. separation t (fl q).category (fl r).category) of.table
@@ -214,7 +208,7 @@ module _ (s : Situation) (sound : IsSound s) (p : lists'.Problem) (of : lists'.I
     apart_is = apart_is;
     before_is = before_is;
     start_low = λ r t le. (
-      (let a = of.horizon in omega arith),
+      (omega (arith, of.horizon)),
       λ x i late. elim (start_of r) [
         | inl e ↦ absurd (e.1 x i)
         | inr w ↦ subst (λ z. ns.frozen_at z + ns.apart z (at r) ≤ t) (sym (one_latest x w.0 i w.1 late w.3)) (let a =
@@ -223,14 +217,13 @@ module _ (s : Situation) (sound : IsSound s) (p : lists'.Problem) (of : lists'.I
     );
     start_high = λ r t low late. elim (start_of r) [
       | inl e ↦ (let a = of.horizon in let b = ap (λ o. after_last p.table o (fl r).category) e.0 in omega arith)
-      | inr w ↦ (let a = of.horizon in let b = w.2 in let c = late w.0 w.1 w.3 in omega arith)
+      | inr w ↦ (let b = w.2 in omega arith)
     ];
     at_in = in_waiting;
     at_all = λ f i. let w = in_at (length s.active) R f (in_sorted s.active f ns.waiting i) in let l =
-        long_is in (w.0, (w.1.0, let b = w.1.1 in omega arith), w.2);
+        long_is in (w.0, (w.1.0, omega (arith, w.1.1)), w.2);
     at_order = λ q r iq ir lt.
         let l = long_is in
-        let b = ir.1 in
         ordered_at (comes_before s.active) (length s.active) R
         (sorted_ordered s sound ns.waiting (λ j m. (in_filter (waits_at s.active) j (numbers_of s.active) m).0)
         (sound_numbered s sound).differ) q r iq.0 lt (omega arith);
@@ -286,9 +279,8 @@ module _ (s : Situation) (sound : IsSound s) (p : lists'.Problem) (of : lists'.I
 
   by_rank_at : (t : Schedule) (r : ℕ) → IsRank (length p.flights) r
       → of_rank 0 (seconds_by_rank t) r ≡ second_of t (at r)
-  by_rank_at t zero q = absurd (let a = q.0 in omega arith)
-  by_rank_at t (suc i) q = let b = q.1 in numbers_get _ 0 0 _ i
-      (omega arith) ∙ ap (λ j. second_of t (at (suc j))) (omega arith)
+  by_rank_at t zero q = absurd (omega (arith, q.0))
+  by_rank_at t (suc i) q = numbers_get _ 0 0 _ i (omega arith) ∙ ap (λ j. second_of t (at (suc j))) (omega arith)
 
   pub joined_long : (v : Schedule) → length (joined s v) ≡ length s.active
   joined_long v = numbers_long _ 0 _
@@ -298,7 +290,7 @@ module _ (s : Situation) (sound : IsSound s) (p : lists'.Problem) (of : lists'.I
       → ((i : ℕ) → In i ns.frozen → P i) → (i : ℕ) → In i (numbers_of s.active) → P i
   each_number P w f i m = elim (cases_Bool _) [
     | inl e ↦ (let x = problem_of.at_all i (filter_in _ i _ m e) in
-        subst P x.2 (w x.0 x.1))
+        rw x.2 at (w x.0 x.1))
     | inr e ↦ f i (filter_in _ i _ m (ap not e))
   ]
 
@@ -309,14 +301,13 @@ module _ (s : Situation) (sound : IsSound s) (p : lists'.Problem) (of : lists'.I
       let v = seconds_by_rank t in
       let n = feasible_numbered s sound t f.0 f in
       let g = problem_feasible ns _ _ (sound_numbered s sound) problem_of _ n in
-      let long : length v ≡ length p.flights = numbers_long _ 0 _ in
-      let same : (i : ℕ) → In i (numbers_of s.active) → second_of t i ≡ second_of (joined s v) i =
+      let long = numbers_long _ 0 _ in
+      let same =
       each_number _ (λ r q. sym (joined_rank v r q ∙ by_rank_at t r q))
       (λ i m. n.kept i m ∙ sym (joined_frozen v i m)) in (
         v,
         feasible_list p passed_low' v long (feasible_agree _ _ _ (λ r q. sym (by_rank_at t r q)) g),
-        same_number_lists t _ (f.0 ∙ sym (joined_long v)) (λ i lt. let e =
-            f.0 in same i (numbers_in 0 _ i zero-le (omega arith))),
+        same_number_lists t _ (f.0 ∙ sym (joined_long v)) (λ i lt. same i (numbers_in 0 _ i zero-le (omega arith))),
       )
 
   -- ---- the objectives
@@ -329,7 +320,7 @@ module _ (s : Situation) (sound : IsSound s) (p : lists'.Problem) (of : lists'.I
   greatest_at : (xs : List ℕ) (i : ℕ) → i < length xs → get_or xs i 0 ≤ greatest xs
   greatest_at [] i lt = absurd (omega arith)
   greatest_at (x ∷ xs) zero lt = omega arith
-  greatest_at (x ∷ xs) (suc i) lt = let a = greatest_at xs i (omega arith) in omega arith
+  greatest_at (x ∷ xs) (suc i) lt = omega (arith, greatest_at xs i (omega arith))
 
   map_bound : (F : ℕ → ℕ) (xs : List ℕ) (m : ℕ) → ((i : ℕ) → In i xs → F i ≤ m) → greatest (map F xs) ≤ m
   map_bound F [] m h = zero-le
@@ -337,8 +328,8 @@ module _ (s : Situation) (sound : IsSound s) (p : lists'.Problem) (of : lists'.I
 
   map_at : (F : ℕ → ℕ) (xs : List ℕ) (i : ℕ) → In i xs → F i ≤ greatest (map F xs)
   map_at F [] i m = absurd m
-  map_at F (x ∷ xs) i (inl e) = let a = ap F e in omega arith
-  map_at F (x ∷ xs) i (inr k) = let a = map_at F xs i k in omega arith
+  map_at F (x ∷ xs) i (inl e) = omega (arith, ap F e)
+  map_at F (x ∷ xs) i (inr k) = omega (arith, map_at F xs i k)
 
   module _ (v : Schedule) (f : lists'.IsFeasibleList p v) where
     T : ℕ → ℕ
@@ -347,12 +338,10 @@ module _ (s : Situation) (sound : IsSound s) (p : lists'.Problem) (of : lists'.I
     makespan_some : (x : ℕ) (xs : List ℕ) → v ≡ x ∷ xs
         → greatest (map (second_of (joined s v)) (numbers_of s.active)) ≡ greatest v
     makespan_some x xs e =
-        let long = f.one_each in
         let some = ap length e in
         let one : IsRank (length p.flights) 1 = (omega arith, omega arith) in
         let r1 = greatest_at v 0 (omega arith) in
-        let late : p.horizon ≤ of_rank 0 v 1 = each_at p v (λ r w a. p.horizon ≤ a) f.late 1 one in
-        let hz = of.horizon in
+        let late = each_at p v (λ r w a. p.horizon ≤ a) f.late 1 one in
         le_antisymm (map_bound _ _ _ (each_number _
         (λ r q. let a = joined_rank v r q in let b = at_greatest r q in omega arith)
         (λ i m. let a = joined_frozen v i m in let b = (sound_numbered s sound).frozen_before i m in omega arith)))
@@ -363,19 +352,18 @@ module _ (s : Situation) (sound : IsSound s) (p : lists'.Problem) (of : lists'.I
         omega arith))
       where
         at_greatest : (r : ℕ) → IsRank (length p.flights) r → of_rank 0 v r ≤ greatest v
-        at_greatest zero q = absurd (let a = q.0 in omega arith)
-        at_greatest (suc i) q = let long = f.one_each in let b = q.1 in greatest_at v i (omega arith)
+        at_greatest zero q = absurd (omega (arith, q.0))
+        at_greatest (suc i) q = greatest_at v i (omega arith)
 
     makespan_none : v ≡ [] → greatest (map (second_of (joined s v)) (numbers_of s.active)) ≡ lists'.last_frozen p.last
     makespan_none e =
-        let long = f.one_each in
         let none = ap length e in
         elim (last_frozen_is s sound) [
           | inl x ↦ le_antisymm (map_bound _ _ _ (each_number _
               (λ r q. absurd (let a = q.0 in let b = q.1 in omega arith)) (λ i m. absurd (x.1 i m))))
-              (let a = ap lists'.last_frozen (of.last ∙ x.0) in omega arith)
+              (omega (arith, ap lists'.last_frozen (of.last ∙ x.0)))
           | inr x ↦
-              (let last : lists'.last_frozen p.last ≡ ns.frozen_at x.0 = ap lists'.last_frozen (of.last ∙ x.2) in
+              (let last = ap lists'.last_frozen (of.last ∙ x.2) in
               let j = joined_frozen v x.0 x.1 in
               let m = map_at (second_of (joined s v)) (numbers_of s.active) x.0
               (in_filter (λ y. not (waits_at s.active y)) x.0 (numbers_of s.active) x.1).0 in
@@ -392,32 +380,28 @@ module _ (s : Situation) (sound : IsSound s) (p : lists'.Problem) (of : lists'.I
     delay_all =
         let D = λ (i : ℕ). delay (landing_at s.active (joined s v) i) in
         let N = numbers_of s.active in
-        let parts : sum_by D N ≡ sum_by D ns.frozen + sum_by D ns.waiting = sum_parts D _ N in
-        let froze : sum_by D ns.frozen ≡ sum_by delay (frozen_landings s) =
+        let parts = sum_parts D _ N in
+        let froze =
         sum_agree D _ _ (λ i m. ap (λ u. delay (landing (numbered s.active i) u)) (joined_frozen v i m))
         ∙ sym (sum_map _ _ ns.frozen) ∙ ap (sum_by delay) (sym (frozen_are s.active)) in
         let d : lists'.Waiting × ℕ = (no_waiting, 0) in
         let z = zip p.flights v in
         let n = length p.flights in
         let long : length z ≡ n = let a = length-zip p.flights v in let b = f.one_each in omega arith in
-        let waits : sum_by D ns.waiting ≡ sum_by (λ r. D (at r)) (upto n) =
-        sum_by-IsPermutation D (map at (upto n)) ns.waiting problem_of.permuted ∙ sum_map D at (upto n) in
-        let listed : sum_by lists'.list_delay z ≡ sum_by (λ r. lists'.list_delay (of_rank d z r)) (upto n) =
-        sum_by-IsPermutation lists'.list_delay (map (of_rank d z) (upto (length z))) z (ranks_permute d z)
+        let waits = sum_by-IsPermutation D _ _ problem_of.permuted ∙ sum_map D at (upto n) in
+        let listed =
+        sum_by-IsPermutation _ _ z (ranks_permute d z)
         ∙ ap (λ k. sum_by lists'.list_delay (map (of_rank d z) (upto k))) long
         ∙ sum_map lists'.list_delay (of_rank d z) (upto n) in
-        let same : sum_by (λ r. D (at r)) (upto n) ≡ sum_by (λ r. lists'.list_delay (of_rank d z r)) (upto n) =
-        sum_agree (λ r. D (at r)) (λ r. lists'.list_delay (of_rank d z r)) (upto n) (λ r i. one r (in_upto n r i)) in
-        sum_map delay (landing_at s.active (joined s v)) N ∙ parts ∙ ap₂ ◌+◌ froze (waits ∙ same ∙ sym listed)
+        let same = sum_agree _ _ _ (λ r i. one r (in_upto n r i)) in
+        sum_map _ _ N ∙ parts ∙ ap₂ ◌+◌ froze (waits ∙ same ∙ sym listed)
       where
         one : (r : ℕ) → IsRank (length p.flights) r
             → delay (landing_at s.active (joined s v) (at r)) ≡ lists'.list_delay
             (of_rank (no_waiting, 0) (zip p.flights v) r)
-        one zero q = absurd (let a = q.0 in omega arith)
+        one zero q = absurd (omega (arith, q.0))
         one (suc i) q =
             let w = waiting_of _ q in
-            let b = q.1 in
-            let l = f.one_each in
             ap₂ (λ (u : ℕ) (w : ℕ). (numbered s.active (at (suc i))).flight.weight * (u - w))
             (joined_rank v _ q) (sym w.eta) ∙ ap (λ k. k * (of_rank 0 v (suc i) - (fl (suc i)).eta)) (sym w.weight)
             ∙ ap lists'.list_delay (sym (get_or-zip _ v i (no_waiting, 0) (omega arith) (omega arith)))
@@ -445,6 +429,6 @@ module _ (s : Situation) (sound : IsSound s) (p : lists'.Problem) (of : lists'.I
         let w = schedule_gives_list u f in
         let least = b.least w.0 w.1 in
         let here = same_objective v b.feasible in
-        let there : objective s u ≡ lists'.list_objective p w.0 = ap (objective s) w.2 ∙ same_objective w.0 w.1 in
+        let there = ap (objective s) w.2 ∙ same_objective w.0 w.1 in
         omega arith;
   }

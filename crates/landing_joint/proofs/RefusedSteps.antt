@@ -38,7 +38,7 @@ closure_too_many s plan span many h =
 covered_landing : (s : Situation) (plan : Option Schedule) (span : Span) (g : Landing) → Member g (frozen_landings s)
     → is_shut g.second span ≡ true → IsSound (situation_after s plan (Close span)) → ⊥
 covered_landing s plan span g m shut h =
-    let new : Situation = situation_after s plan (Close _) in
+    let new = situation_after s plan (Close _) in
     let free = (and_parts (list_any (is_within g.second) g.flight.windows)
     (not (list_any (is_shut g.second) new.closures)) ((kept new h).opened g m)).1 in
     false≢true (sym (ap not (any_last _ s.closures _ shut)) ∙ free)
@@ -47,14 +47,14 @@ covered_landing s plan span g m shut h =
 predecessor_of_frozen : (s : Situation) (plan : Option Schedule) (f : Flight) (g : Landing)
     → Member g (frozen_landings s) → lists g.flight f.callsign ≡ true → IsSound (situation_after s plan (Add f)) → ⊥
 predecessor_of_frozen s plan f g m listed h =
-    let new : Situation = situation_after s plan (Add f) in
+    let new = situation_after s plan (Add f) in
     let r = in_frozen _ g m in
-    let there : Member g (frozen_landings new) = subst (λ z. Member z (frozen_landings new))
+    let there = subst (λ z. Member z (frozen_landings new))
     (sym r.4) (frozen_in _ r.0 r.1 (append_in s.active _ r.0 r.2) r.3) in
-    let waits : Member (newcomer f) (waiting new) = filter_in _ _ _ (pushed_in s.active _ _ refl) refl in
+    let waits = filter_in _ _ _ (pushed_in s.active _ _ refl) refl in
     false≢true (sym ((kept new h).alone g (newcomer f) there waits) ∙ listed)
 
 -- a clock so far back that a frozen flight would land at its horizon or later
 clock_far_back : (s : Situation) (now : ℕ) (g : Landing) → Member g (frozen_landings s)
     → now + s.aerodrome.freeze ≤ g.second → IsSound (situation_after s None (Clock now)) → ⊥
-clock_far_back s now g m le h = absurd (let b = (kept _ h).before g m in omega arith)
+clock_far_back s now g m le h = absurd (omega (arith, (kept _ h).before g m))

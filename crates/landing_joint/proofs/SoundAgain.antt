@@ -89,6 +89,6 @@ fewer_frozen old new sound same closed later was waited =
       separated = λ f g m n. subst (λ (x : Aerodrome). ArePairSeparated x.table f g) (sym same)
           (k.separated f g (was f m) (was g n));
       in_precedence = λ f g m n. k.in_precedence f g (was f m) (was g n);
-      before = λ f m. let b = k.before f (was f m) in omega arith;
+      before = λ f m. omega (arith, k.before f (was f m));
       alone = λ f a m n. let w = waited a n in ap (lists f.flight) w.2 ∙ k.alone f w.0 (was f m) w.1;
     }

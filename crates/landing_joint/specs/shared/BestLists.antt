@@ -25,7 +25,7 @@ use Rattle.cps_theory.specs.laws.WholeObjective.{sum_agree}
 greatest_shift : (x : ℕ) (xs : List ℕ) (n : ℕ)
     → greatest (of_rank 0 (x ∷ xs)) (suc n) ≡ max x (greatest (of_rank 0 xs) n)
 greatest_shift x xs zero = omega arith
-greatest_shift x xs (suc n) = let a = greatest_shift x xs n in omega arith
+greatest_shift x xs (suc n) = omega (arith, greatest_shift x xs n)
 
 greatest_is : (v : Schedule) → rules.greatest v ≡ greatest (of_rank 0 v) (length v)
 greatest_is [] = refl
@@ -47,24 +47,19 @@ module _ (p : lists'.Problem) (v : Schedule) (long : length v ≡ length p.fligh
   delay_one : (r : ℕ) → IsRank (length p.flights) r
       → lists'.list_delay (of_rank (no_waiting, 0) (zip p.flights v) r) ≡ cost_by Delay (of_rank no_waiting p.flights r)
       (of_rank 0 v r)
-  delay_one zero q = absurd (let a = q.0 in omega arith)
-  delay_one (suc i) q = let b =
-      q.1 in ap lists'.list_delay (get_or-zip _ v i (no_waiting, 0) (omega arith) (omega arith))
+  delay_one zero q = absurd (omega (arith, q.0))
+  delay_one (suc i) q = ap lists'.list_delay (get_or-zip _ v i (no_waiting, 0) (omega arith) (omega arith))
 
   delay_is : sum_by lists'.list_delay (zip p.flights v) ≡ total
       (λ r. cost_by Delay (of_rank no_waiting p.flights r) (of_rank 0 v r)) (upto (length p.flights))
   delay_is =
-      let n : length pairs ≡ length p.flights = let a = length-zip p.flights v in omega arith in
+      let n : length pairs ≡ length p.flights = omega (arith, length-zip p.flights v) in
       let D = λ (r : ℕ). cost_by Delay (of_rank no_waiting p.flights r) (of_rank 0 v r) in
-      let a : sum_by lists'.list_delay pairs ≡ sum_by lists'.list_delay
-      (map (of_rank (no_waiting, 0) pairs) (upto (length pairs))) = sum_by-IsPermutation _
-      _ _ (ranks_permute _ pairs) in
-      let b : sum_by lists'.list_delay (map (of_rank (no_waiting, 0) pairs) (upto (length pairs))) ≡ sum_by
-      (λ r. lists'.list_delay (of_rank (no_waiting, 0) pairs r)) (upto (length p.flights)) =
+      let a = sum_by-IsPermutation _ _ _ (ranks_permute _ pairs) in
+      let b =
       sum_map _ _ (upto (length pairs))
       ∙ ap (λ k. sum_by (λ r. lists'.list_delay (of_rank (no_waiting, 0) pairs r)) (upto k)) n in
-      let c : sum_by (λ r. lists'.list_delay (of_rank (no_waiting, 0) pairs r)) (upto (length p.flights)) ≡ sum_by D
-      (upto (length p.flights)) = sum_agree _ D _ (λ r i. delay_one r (in_upto _ r i)) in
+      let c = sum_agree _ D _ (λ r i. delay_one r (in_upto _ r i)) in
       a ∙ b ∙ c ∙ sym (total_sum D _)
 
   -- a list costs what its map does
@@ -113,8 +108,8 @@ zip_same (x ∷ xs) (y ∷ ys) a b = ap₂ (λ z l. z ∷ l) (le_antisymm a.0 b.
 
 pub zip_rank : (xs ys : Schedule) → AllZip (λ a b. a ≤ b) xs ys → (r : ℕ) → IsRank (length xs) r
     → of_rank 0 xs r ≤ of_rank 0 ys r
-zip_rank xs ys a zero q = absurd (let b = q.0 in omega arith)
-zip_rank xs ys a (suc i) q = AllZip-get_or _ xs ys i 0 0 a (let b = q.1 in omega arith)
+zip_rank xs ys a zero q = absurd (omega (arith, q.0))
+zip_rank xs ys a (suc i) q = AllZip-get_or _ xs ys i 0 0 a (omega (arith, q.1))
 
 -- ---- best and tight lists
 
@@ -134,17 +129,16 @@ module _ (p : lists'.Problem) (passed : (r : ℕ) → IsRank (length p.flights) 
 
   same_order : (v u : Schedule) → length v ≡ length p.flights → rules.HaveSameOrder v u
       → SameOrder (length p.flights) (of_rank 0 v) (of_rank 0 u)
-  same_order v u long o zero g qf qg = absurd (let a = qf.0 in omega arith)
-  same_order v u long o (suc i) zero qf qg = absurd (let a = qg.0 in omega arith)
-  same_order v u long o (suc i) (suc j) qf qg = let a = qf.1 in let b = qg.1 in let w =
-      o i j (omega arith) (omega arith) in (w.0, w.1)
+  same_order v u long o zero g qf qg = absurd (omega (arith, qf.0))
+  same_order v u long o (suc i) zero qf qg = absurd (omega (arith, qg.0))
+  same_order v u long o (suc i) (suc j) qf qg = let w = o i j (omega arith) (omega arith) in (w.0, w.1)
 
   -- a list whose map is tight is tight
   pub tight_list : (v : Schedule) → length v ≡ length p.flights → Tight (ranked p) (of_rank 0 v)
       → lists'.IsTightList p v
   tight_list v long t = record {
     feasible = feasible_list p passed v long t.feasible;
-    earliest = λ u f o. let n = f.one_each in zip_of v u (omega arith)
+    earliest = λ u f o. zip_of v u (omega arith)
         (λ i lt. t.least (of_rank 0 u) (list_feasible p u f) (same_order v u long o) (suc i)
         (omega arith, omega arith));
   }

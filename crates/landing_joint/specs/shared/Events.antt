@@ -32,4 +32,4 @@ named_waits s c h ok a m e = go _ refl ok
       where
         two : (o : Option ℕ) → option_map Frozen o ≡ None → o ≡ None
         two None ok = refl
-        two (Some t) ok = let w : Some (Frozen t) ≡ None = ok in absurd (cc)
+        two (Some t) ok = absurd (cc)

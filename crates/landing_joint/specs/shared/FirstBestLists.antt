@@ -71,12 +71,12 @@ second_is v (suc i) q = ap (λ k. get_or v k 0) {x = suc i - 1} {y = i} (omega a
 module _ (p : lists'.Problem) (sound : SoundProblem (ranked p)) where
   in_ranks : (v : Schedule) → length v ≡ length p.flights → (r : ℕ) → In r (ranks_from 1 v)
       → IsRank (length p.flights) r
-  in_ranks v long r i = let b = in_numbers 1 _ r (subst (In r) (ranks_are 1 v) i) in
-      (b.0, let x = b.1 in omega arith)
+  in_ranks v long r i = let b = in_numbers 1 _ r (rw (ranks_are 1 v) at i) in
+      (b.0, omega (arith, b.1))
 
   ranks_in : (v : Schedule) → length v ≡ length p.flights → (r : ℕ) → IsRank (length p.flights) r
       → In r (ranks_from 1 v)
-  ranks_in v long r q = subst (In r) (sym (ranks_are 1 v)) (numbers_in 1 _ r q.0 (let x = q.1 in omega arith))
+  ranks_in v long r q = rw (ranks_are 1 v) (numbers_in 1 _ r q.0 (let x = q.1 in omega arith))
 
   differ : (t : ℕ → ℕ) → Feasible (ranked p) t → (q r : ℕ) → IsRank (length p.flights) q → IsRank (length p.flights) r
       → q ≢ r → t q ≢ t r
@@ -109,7 +109,7 @@ module _ (p : lists'.Problem) (sound : SoundProblem (ranked p)) where
   pub one_landing_order : (t : ℕ → ℕ) → Feasible (ranked p) t → (qs os : List ℕ)
       → InLandingOrder (length p.flights) t qs → InLandingOrder (length p.flights) t os → qs ≡ os
   one_landing_order t f qs os a b =
-      let e : onto qs [] ≡ onto os [] = in_order_sorted _ t sound f qs a ∙ sym (in_order_sorted _ t sound f os b) in
+      let e = in_order_sorted _ t sound f qs a ∙ sym (in_order_sorted _ t sound f os b) in
       sym (onto_twice qs []) ∙ ap (λ l. onto l []) e ∙ onto_twice os []
 
 -- ---- a map as a list
@@ -131,19 +131,19 @@ pub list_of_long : (n : ℕ) (t : ℕ → ℕ) → length (list_of n t) ≡ n
 list_of_long n t = numbers_long t 1 n
 
 pub list_of_at : (n : ℕ) (t : ℕ → ℕ) (r : ℕ) → IsRank n r → of_rank 0 (list_of n t) r ≡ t r
-list_of_at n t zero q = absurd (let a = q.0 in omega arith)
-list_of_at n t (suc i) q = let a = q.1 in numbers_get t 0 1 n i (omega arith) ∙ ap t (omega arith)
+list_of_at n t zero q = absurd (omega (arith, q.0))
+list_of_at n t (suc i) q = numbers_get t 0 1 n i (omega arith) ∙ ap t (omega arith)
 
 greatest_agree : (n : ℕ) (t u : ℕ → ℕ) → ((r : ℕ) → IsRank n r → t r ≡ u r) → greatest t n ≡ greatest u n
 greatest_agree zero t u h = refl
 greatest_agree (suc n) t u h =
-    ap₂ max (h (suc n) (omega arith, omega arith)) (greatest_agree n t u (λ r q. h r (q.0, let a = q.1 in omega arith)))
+    ap₂ max (h (suc n) (omega arith, omega arith)) (greatest_agree n t u (λ r q. h r (q.0, omega (arith, q.1))))
 
 total_agree : (cost : ℕ → ℕ → ℕ) (n : ℕ) (t u : ℕ → ℕ) → ((r : ℕ) → IsRank n r → t r ≡ u r)
     → total (λ r. cost r (t r)) (upto n) ≡ total (λ r. cost r (u r)) (upto n)
 total_agree cost zero t u h = refl
 total_agree cost (suc n) t u h = ap₂ (λ x y. x + y) (ap (cost (suc n)) (h (suc n) (omega arith, omega arith)))
-    (total_agree cost n t u (λ r q. h r (q.0, let a = q.1 in omega arith)))
+    (total_agree cost n t u (λ r q. h r (q.0, omega (arith, q.1))))
 
 pub value_agree : (p : lists'.Problem) (t u : ℕ → ℕ) → ((r : ℕ) → IsRank (length p.flights) r → t r ≡ u r)
     → value_of_map p t ≡ value_of_map p u
@@ -165,7 +165,7 @@ last_rises p (f ∷ fs) t u le = le
 
 pub value_rises_by : (p : lists'.Problem) (o : Objective) (a b : Pair) → NoWorse a b → value_by o p a ≤ value_by o p b
 value_rises_by p Makespan a b le = last_rises p _ a.0 b.0 le.0
-value_rises_by p Delay a b le = let x = le.1 in omega arith
+value_rises_by p Delay a b le = omega (arith, le.1)
 
 -- a pair that is no worse has no greater value
 pub value_rises : (p : lists'.Problem) (a b : Pair) → NoWorse a b → value_at p a ≤ value_at p b
@@ -196,8 +196,8 @@ module _ (p : lists'.Problem) (sound : SoundProblem (ranked p)) (passed : (r : �
   order_listed v u long same i j li lj =
       let qi : IsRank (length p.flights) (suc i) = (omega arith, omega arith) in
       let qj : IsRank (length p.flights) (suc j) = (omega arith, omega arith) in
-      let ei : get_or (list_of (length p.flights) u) i 0 ≡ u (suc i) = list_of_at _ u _ qi in
-      let ej : get_or (list_of (length p.flights) u) j 0 ≡ u (suc j) = list_of_at _ u _ qj in
+      let ei = list_of_at _ u _ qi in
+      let ej = list_of_at _ u _ qj in
       let o = same (suc i) (suc j) qi qj in
       (λ lt. let a = o.0 lt in omega (arith, ei, ej, a), λ lt. o.1 (omega (arith, ei, ej, lt)))
 
@@ -208,11 +208,7 @@ module _ (p : lists'.Problem) (sound : SoundProblem (ranked p)) (passed : (r : �
     least = λ u f same r q.
         let w = list_of (length p.flights) u in
         let long = t.feasible.one_each in
-        let a = zip_rank v w (t.earliest w (listed u f) (order_listed v u long same)) r (
-          q.0,
-          let x =
-              q.1 in omega arith,
-        ) in
+        let a = zip_rank v w (t.earliest w (listed u f) (order_listed v u long same)) r (q.0, omega arith) in
         let e = list_of_at (length p.flights) u r q in
         omega arith;
   }
@@ -236,12 +232,11 @@ module _ (p : lists'.Problem) (sound : SoundProblem (ranked p)) (passed : (r : �
   order_alike : (v w : Schedule) → lists'.IsFeasibleList p v → lists'.IsFeasibleList p w
       → order_of_list v ≡ order_of_list w → rules.HaveSameOrder v w
   order_alike v w f g e i j li lj =
-      let n = f.one_each in
       let iv = list_in_landing_order p sound v f in
       let iw = list_in_landing_order p sound w g in
       let mi = iv.whole (suc i) (omega arith, omega arith) in
       let mj = iv.whole (suc j) (omega arith, omega arith) in
-      let aw : Ascends (of_rank 0 w) (order_of_list v) = subst (Ascends (of_rank 0 w)) (sym e) iw.ascends in (
+      let aw = subst (Ascends (of_rank 0 w)) (sym e) iw.ascends in (
         ascends_same _ _ _ iv.ascends aw _ _ mi mj,
         ascends_same _ _ _ aw iv.ascends _ _ mi mj,
       )
@@ -263,16 +258,14 @@ module _ (p : lists'.Problem) (sound : SoundProblem (ranked p)) (passed : (r : �
       first_best_list v (list_of_long n u) (record {
         best = record {
           feasible = feasible_agree (ranked p) u (of_rank 0 v) back b.best.feasible;
-          least = λ w f. let a = value_agree p (of_rank 0 v) u at in let c = b.best.least w f in omega arith;
+          least = λ w f. let a = value_agree p (of_rank 0 v) u at in omega arith;
         };
         tight = record {
           feasible = feasible_agree (ranked p) u (of_rank 0 v) back b.tight.feasible;
           least = λ w f same r q.
               let a = b.tight.least w f (λ x y ix iy.
-              let ex = at x ix in
-              let ey = at y iy in
               let o = same x y ix iy in
-              (λ lt. o.0 (omega arith), λ lt. let z = o.1 lt in omega arith)) r q in
+              (λ lt. o.0 (omega arith), λ lt. omega (arith, o.1 lt))) r q in
               let e = at r q in
               omega arith;
         };

@@ -32,8 +32,7 @@ span_least w t v e le =
     let parts = and_parts (nat_le w.0 v) (nat_le v w.1) e in
     let a = leb-true w.0 v parts.0 in
     let b = leb-true v w.1 parts.1 in
-    let both : (nat_le w.0 w.1 && nat_le t w.1) ≡ true =
-    and_from _ _ (le-leb w.0 w.1 (omega arith)) (le-leb t w.1 (omega arith)) in
+    let both = and_from _ _ (le-leb w.0 w.1 (omega arith)) (le-leb t w.1 (omega arith)) in
     (max t w.0, ap (λ c. cond c (Some (max t w.0)) None) both, omega arith)
 
 -- ---- all spans
@@ -71,7 +70,7 @@ first_open_least (w ∷ ws) t v e le = elim (or_cases _ _ e) [
   | inl a ↦ (let s = span_least w t v a le in let l = left_low _ _ s.0 s.1 in
       (l.0, l.1, (let x = s.2 in let y = l.2 in omega arith)))
   | inr b ↦ (let s = first_open_least ws t v b le in let l = right_low _ _ s.0 s.1 in
-      (l.0, l.1, (let x = s.2 in let y = l.2 in omega arith)))
+      (l.0, l.1, (omega arith)))
 ]
 
 -- it is the only such answer
@@ -90,7 +89,7 @@ first_open_some ws t x le passes least =
     let f = first_open_found ws t l.0 l.1 in
     elim (cases_lt l.0 x) [
       | inl lt ↦ absurd (false≢true (sym (least l.0 f.1 lt) ∙ f.0))
-      | inr ge ↦ (let a = l.2 in ap Some {x = x} {y = l.0} (omega arith) ∙ sym l.1)
+      | inr ge ↦ (ap Some {x = x} {y = l.0} (omega arith) ∙ sym l.1)
     ]
 
 -- the first open second of a rank of a problem

@@ -12,7 +12,7 @@ use Rattle.landing_rules.specs.shared.Members.{all_at, all_from, in_map, map_in,
 pub member_number : (a : Active) (all : List Active) → Member a all → (i : ℕ) × (i < length all) × (a ≡ numbered all i)
 member_number a [] m = absurd m
 member_number a (x ∷ all) (inl e) = (0, omega arith, e)
-member_number a (x ∷ all) (inr m) = let w = member_number a all m in (suc w.0, (let l = w.1 in omega arith), w.2)
+member_number a (x ∷ all) (inr m) = let w = member_number a all m in (suc w.0, (omega (arith, w.1)), w.2)
 
 pub number_member : (all : List Active) (i : ℕ) → i < length all → Member (numbered all i) all
 number_member [] i lt = absurd (omega arith)

@@ -1,5 +1,5 @@
 -- The completing pairs of a prefix are those of its node, told by its pattern.
-use Rattle.std.proofs.Common.{◌≡◌, ℕ, suc, ◌-◌, ◌*◌, ◌≤◌, ◌↔◌, Bool, true, false, ◌||◌, leb, List, [], ◌∷◌, length}
+use Rattle.std.proofs.Common.{◌≡◌, ℕ, suc, ◌-◌, ◌*◌, ◌≤◌, ◌↔◌, Bool, true, false, ◌||◌, leb, List, [], ◌∷◌}
 use Rattle.std.proofs.Common.{refl, sym, ap, subst, ◌∙◌}
 use Rattle.std.proofs.lemmas.Bool.{false≢true}
 use Rattle.landing_rules.specs.Problem.{Problem}
@@ -47,9 +47,7 @@ module _ (p : Problem) (sound : SoundProblem (ranked p)) where
       → pattern_node (ranked p).rules rs ≡ pattern_node (ranked p).rules os
   one_pattern rs os n =
       let k = (ranked p).rules.most in
-      let d : tests_from (pattern_digit k rs) (suc (length rs)) (2 * k) ≡ tests_from (pattern_digit k os)
-      (suc (length os)) (2 * k) = tests_agree _ _ _ _
-      (λ x a b. ap (λ m. leb x k || m) (same_member _ rs os (n.placed (x - k))))
+      let d = tests_agree _ _ _ _ (λ x a b. ap (λ m. leb x k || m) (same_member _ rs os (n.placed (x - k))))
       ∙ ap (λ m. tests_from (pattern_digit k os) (suc m) (2 * k)) n.stage in
       node_is _ _ _ _ _ _ n.stage d n.latest
 
@@ -106,20 +104,14 @@ module _ (p : Problem) (sound : SoundProblem (ranked p)) where
       e.1,
       e.2,
       e.3,
-      subst (λ w. FollowsIn w y.1 ys) (net.pushes y.0 rs l) (ends_follows _ y.1 ys e.0 e.4),
+      rw (net.pushes y.0 rs l) at (ends_follows _ y.1 ys e.0 e.4),
     )
 
     follows_ends : (rs : List ℕ) (b : ℕ) (ys : List Landing) → IsLegal p rs
         → FollowsIn (pattern_node (ranked p).rules rs) b ys → EndsOrder p v rs b ys
     follows_ends rs b [] l f = f
     follows_ends rs b (y ∷ ys) l f =
-        let m = net.grows y.0 rs l f.0 in (
-          m,
-          f.1,
-          f.2,
-          f.3,
-          follows_ends _ y.1 ys m (subst (λ w. FollowsIn w y.1 ys) (sym (net.pushes y.0 rs l)) f.4),
-        )
+        let m = net.grows y.0 rs l f.0 in (m, f.1, f.2, f.3, follows_ends _ y.1 ys m (rw (net.pushes y.0 rs l) f.4))
 
     abbrev CompletesIn : PatternNode → Pair → Type 0
     CompletesIn w q = CompletesNode (ranked p) (cost_at p) (is_low p v) w q
@@ -154,5 +146,4 @@ module _ (p : Problem) (sound : SoundProblem (ranked p)) where
     -- so they are those of each legal prefix of the node
     pub completes_one : (rs os : List ℕ) (q : Pair) → IsLegal p rs → IsLegal p os → AreOneNode rs os
         → IsCompletingPair p v rs q → IsCompletingPair p v os q
-    completes_one rs os q l m n c =
-        node_completes os q m (subst (λ w. CompletesIn w q) (one_pattern rs os n) (completes_node rs q l c))
+    completes_one rs os q l m n c = node_completes os q m (rw (one_pattern rs os n) at (completes_node rs q l c))

@@ -35,7 +35,7 @@ ascends_inserted t r (q ∷ rs) a ne = elim (cases_lt (t q) (t r)) [
   )
   | inr le ↦ rw (le-ltb _ _ le) (
     let n =
-        ne q (inl refl) in λ y i. elim i [ inl s ↦ rw s (omega arith) | inr k ↦ (let x = a.0 y k in omega arith) ],
+        ne q (inl refl) in λ y i. elim i [ inl s ↦ rw s (omega arith) | inr k ↦ (omega (arith, a.0 y k)) ],
     a,
   )
 ]
@@ -46,7 +46,7 @@ pub sorted_by_ascends : (t : ℕ → ℕ) (rs : List ℕ) → Distinct rs → ((
 sorted_by_ascends t [] d ne = tt
 sorted_by_ascends t (r ∷ rs) d ne =
     ascends_inserted t r _ (sorted_by_ascends t rs d.1 (λ q x i j. ne q x (inr i) (inr j)))
-    (λ q i. let k = in_sorted_by t q rs i in ne q r (inr k) (inl refl) (λ e. d.0 (subst (λ z. In z rs) e k)))
+    (λ q i. let k = in_sorted_by t q rs i in ne q r (inr k) (inl refl) (λ e. d.0 (rw e at k)))
 
 -- some of an ascending list ascend
 pub filter_ascends : (t : ℕ → ℕ) (p : ℕ → Bool) (rs : List ℕ) → Ascends t rs → Ascends t (filter p rs)

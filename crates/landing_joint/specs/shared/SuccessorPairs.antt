@@ -96,7 +96,7 @@ module _ (p : Problem) (sound : SoundProblem (ranked p)) (v : ℕ) (rs : List �
             (λ z. z.0 ≡ (ranked p).rules.count) (nodes_closed _ sound) _ (lower_by v p.objective)
             _ q.0 _ _ reached permitted f.0 f.1 in
             let by = by_reached p sound _ _ a.legal
-            (subst (λ w. ReachedIn (ranked p) w a.second) (sym at) on) in (
+            (rw at on) in (
               a.opened,
               reached,
               a.low,
@@ -119,7 +119,7 @@ module _ (p : Problem) (sound : SoundProblem (ranked p)) (v : ℕ) (rs : List �
             → KeepsBehind (pattern_push (ranked p).rules (pattern_node (ranked p).rules rs) r) o
             → x ≤ o.0 → (q : Pair) × New q × NoEarlierNoDearer q (b, cost_at p r x + o.1)
         enough b r x o opened reached low permitted lands k le =
-            let same : k.rank ≡ r = ap (λ (w : PatternNode). w.2) k.at in
+            let same = ap (λ (w : PatternNode). w.2) k.at in
             c.cover (b, cost_at p r x + o.1) (record {
               opened = opened;
               reached = by_reached p sound rs b legal reached;
