@@ -1,5 +1,5 @@
 -- No finding exactly where the block is clean.
-use Rattle.std.proofs.Common.{◌≡◌, ◌≢◌, ℕ, suc, ◌≤◌, ◌⊎◌, inl, inr, List, [], ◌∷◌, length, map, filter}
+use Rattle.std.proofs.Common.{◌≡◌, ◌≢◌, ℕ, suc, ◌⊎◌, inl, inr, List, [], ◌∷◌, length, map, filter}
 use Rattle.std.proofs.Common.{cond, zero-le, arith, refl, sym, ap, ap₂, subst, ◌∙◌}
 use Rattle.std.specs.Prelude.{option_map, find, All, AllPairs, Option, Some, None}
 use Rattle.std.specs.List.{list_any, cons_option}
@@ -7,7 +7,7 @@ use Rattle.std.proofs.lemmas.Bool.{cases_eq, eqb-true, eq-eqb}
 use Rattle.std.proofs.lemmas.List.Sorted.{IsPermutation-sym}
 use Rattle.landing_rules.specs.declared.objective.Objective.{Objective}
 use Rattle.landing_rules.specs.Flights.{Active, Situation, Schedule, Landing, landing, landings}
-use Rattle.landing_rules.specs.Rules.{last_second, cost, objective, ArePairSeparated, IsFeasible}
+use Rattle.landing_rules.specs.Rules.{cost, objective, ArePairSeparated, IsFeasible}
 use Rattle.landing_rules.specs.Events.{named, in_landing_order, IsPlanShown}
 use Rattle.landing_rules.specs.Text.{ShownLanding, shown_plan}
 use Rattle.landing_rules.specs.Sound.{IsSound}
@@ -66,25 +66,21 @@ module _ (s : Situation) (sound : IsSound s) where
       let Ms = landings s.active t in
       let S = in_landing_order Ms in
       let lines = map _ S in
-      let b = block_of s t in
       let fs : (x : Landing) → Member x S → Found s x = λ x m. finds t f.0 x (order_member x Ms m) in
       let apart : (i j : ℕ) → In i (numbers_of s.active) → In j (numbers_of s.active) → i ≢ j
       → second_of t i ≢ second_of t j = λ i j mi mj ne e.
       let sep = all_at (ArePairSeparated s.aerodrome.table (landing_at s.active t i)) Ms
       (all_at (λ g. All (ArePairSeparated s.aerodrome.table g) Ms) Ms f.1.separated _
       (number_of t f.0 i mi)) _ (number_of t f.0 j mj) (callsigns_differ s sound i j mi mj ne) (omega arith) in
-      let one = (sound.table.entries (numbered s.active i).flight.category (numbered s.active j).flight.category).0 in
       omega arith in
-      let strict = strict_order Ms (rw (landings_are s.active t f.0) (each_map (λ f g. f.second ≢ g.second) (landing_at s.active t)
-      (numbers_of s.active) (distinct_numbers 0 (length s.active)) apart)) in
+      let strict = strict_order Ms (rw (landings_are _ t f.0) (each_map _ _ _ (distinct_numbers 0 _) apart)) in
       let missing0 = none_broken _ _ _ (λ a m.
       let w = member_number a _ m in
       let n = numbers_in 0 _ w.0 zero-le (omega (arith, w.1)) in
       ap (λ (z : Active). has_line lines z.flight.callsign) w.2 ∙ member_line _ _ (map_in _ S _
       (member_order _ Ms (number_of t f.0 w.0 n)))) in
       let unknown0 = none_broken _ _ _ (λ l m. let w = in_map _ S l m in let x = fs w.0 w.1 in
-      ap (λ (z : ShownLanding). list_any (named z.callsign) s.active) w.2
-      ∙ found_any w.0.flight.callsign s.active x.0 x.1) in
+      ap (λ (z : ShownLanding). list_any (named z.callsign) s.active) w.2 ∙ found_any _ s.active x.0 x.1) in
       let twice0 = none_twice [] lines (λ l m. refl)
       (each_lines S strict (λ x y i j e. unique t f.0 x y (order_member x Ms i) (order_member y Ms j) e)) in
       let is = lines_landings s S fs in
@@ -118,7 +114,8 @@ module _ (s : Situation) (sound : IsSound s) where
       → find (named l.callsign) s.active ≡ Some a → Member (landing a l.second) (block_landings s.active ls)
   member_block [] l a m q = absurd m
   member_block (k ∷ ls) l a (inl e) q =
-      rw (ap (λ (y : ShownLanding). find (named y.callsign) s.active) (sym e) ∙ q) (inl (ap (λ (y : ShownLanding). landing a y.second) e))
+      rw (ap (λ (y : ShownLanding). find (named y.callsign) s.active) (sym e) ∙ q)
+      (inl (ap (λ (y : ShownLanding). landing a y.second) e))
   member_block (k ∷ ls) l a (inr m) q = go _ (member_block ls l a m q)
     where
       go : (o : Option Active) → Member (landing a l.second) (block_landings s.active ls)
@@ -181,13 +178,12 @@ module _ (s : Situation) (sound : IsSound s) where
       ap (λ (z : Active). find (named z.flight.callsign) s.active) n.2 ∙ find_first _ sound.callsigns n.0 n.1
       ∙ ap Some (sym n.2) in
       let at = ap (second_in b.plan.landings) (sym w.2) ∙ second_at _ each w.0 w.1 in
-      rw at (member_block b.plan.landings w.0 a w.1 (ap (λ c. find (named c) s.active) w.2 ∙ first)) in
+      rw at (member_block _ w.0 a w.1 (ap (λ c. find (named c) s.active) w.2 ∙ first)) in
       let forth : (x : Landing) → Member x L → Member x Ms = λ x m.
       let w = block_member _ x m in
       let k = find_some _ _ w.1 w.3 in
       let at = ap (second_in b.plan.landings) k.1 ∙ second_at _ each w.0 w.2 in
-      rw ms_is (subst (λ y. Member y (map (λ a. landing a (F a)) s.active))
-      (ap (λ u. landing w.1 u) at ∙ sym w.4) (map_in (λ a. landing a (F a)) s.active w.1 k.0)) in
+      rw ms_is (rw (ap (λ u. landing w.1 u) at ∙ sym w.4) at (map_in (λ a. landing a (F a)) s.active w.1 k.0)) in
       let back : (x : Landing) → Member x Ms → Member x L = λ x m.
       let w = in_map _ _ x (rw ms_is at m) in
       rw w.2 (known w.0 w.1) in
@@ -200,8 +196,7 @@ module _ (s : Situation) (sound : IsSound s) where
       let w = block_member _ f m in
       let k = find_some _ _ w.1 w.3 in
       let n = member_number w.1 _ k.0 in
-      rw w.4 (subst (λ (y : Active). All (λ v. (v.0 ≤ v.1) × (v.1 ≤ last_second)) y.flight.windows)
-      (sym n.2) (sound.flights n.0 nobody n.1).windows.spans)) r3.0 in
+      rw w.4 (rw n.2 (sound.flights n.0 nobody n.1).windows.spans)) r3.0 in
       let feasible : IsFeasible s t = (
         length-map _ F,
         rules-moved s S Ms (IsPermutation-sym Ms S (order_permutes Ms))

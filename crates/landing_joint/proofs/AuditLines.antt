@@ -1,6 +1,6 @@
 -- The lines of a block, their flights and their landings.
 use Rattle.std.proofs.Common.{◌≡◌, ◌≢◌, ℕ, zero, suc, ◌+◌, ◌<◌, inl, inr, List, [], ◌∷◌, length, map, cond, Bool, true}
-use Rattle.std.proofs.Common.{false, not, arith, refl, sym, ap, ap₂, subst, ◌∙◌}
+use Rattle.std.proofs.Common.{false, not, arith, refl, sym, ap, ap₂, ◌∙◌}
 use Rattle.std.specs.Prelude.{option_map, find, AllPairs, Some}
 use Rattle.std.specs.Str.{bytes_eq}
 use Rattle.std.specs.List.{list_any, cons_option}
@@ -65,8 +65,7 @@ pub member_line : (l : ShownLanding) (lines : List ShownLanding) → Member l li
 member_line l [] m = absurd m
 member_line l (x ∷ lines) (inl e) = or_left _ _
     ((bytes_eq-Decides _ _).1 (ap (λ (y : ShownLanding). y.callsign) (sym e)))
-member_line l (x ∷ lines) (inr m) =
-    or_right _ _ (member_line l lines m)
+member_line l (x ∷ lines) (inr m) = or_right _ _ (member_line l lines m)
 
 -- no callsign stands twice
 pub twice_none : (seen lines : List ShownLanding) → twice_after seen lines ≡ []
@@ -205,7 +204,7 @@ pub each_map : (R : Landing → Landing → Type 0) (F : ℕ → Landing) (xs : 
     → ((i j : ℕ) → In i xs → In j xs → i ≢ j → R (F i) (F j)) → Each R (map F xs)
 each_map R F [] d h = tt
 each_map R F (x ∷ xs) d h = (
-  λ y m. let w = in_map F xs y m in rw w.2 (h x w.0 (inl refl) (inr w.1) (λ e. d.0 (subst (λ z. In z xs) (sym e) w.1))),
+  λ y m. let w = in_map F xs y m in rw w.2 (h x w.0 (inl refl) (inr w.1) (λ e. d.0 (rw e w.1))),
   each_map R F xs d.1 (λ i j mi mj ne. h i j (inr mi) (inr mj) ne),
 )
 
@@ -214,8 +213,7 @@ pub each_lines : (fs : List Landing) → Strict fs → ((x y : Landing) → Memb
 each_lines [] e h = tt
 each_lines (f ∷ fs) e h = (
   λ l m q. let w = in_map _ fs l m in let s = h f w.0 (inl refl) (inr w.1)
-      (q ∙ ap (λ (y : ShownLanding). y.callsign) w.2) in let lt = e.0 w.0 w.1 in let z =
-      ap (λ (y : Landing). y.second) s in omega arith,
+      (q ∙ ap (λ (y : ShownLanding). y.callsign) w.2) in let z = ap (λ (y : Landing). y.second) s in omega arith,
   each_lines fs e.1 (λ x y i j. h x y (inr i) (inr j)),
 )
 

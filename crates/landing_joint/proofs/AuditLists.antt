@@ -50,8 +50,7 @@ pairs_none holds f (x ∷ xs) e = let a = append_nil _ _ e in
 pub none_pairs : {X : Type 0} (holds : X → X → Bool) (f : X → X → Finding) (xs : List X)
     → Each (λ x y. holds x y ≡ true) xs → for_failing_pairs holds f xs ≡ []
 none_pairs holds f [] e = refl
-none_pairs holds f (x ∷ xs) e = nil_append _ _
-    (none_broken _ _ xs e.0) (none_pairs _ f xs e.1)
+none_pairs holds f (x ∷ xs) e = nil_append _ _ (none_broken _ _ xs e.0) (none_pairs _ f xs e.1)
 
 pub each_pair : {X : Type 0} (R : X → X → Type 0) (xs : List X) → Each R xs → (x y : X) → Member x xs
     → Member y xs → (x ≡ y) ⊎ (R x y ⊎ R y x)

@@ -54,8 +54,7 @@ map_insert all i (j ∷ js) = elim (cases_Bool (earlier all j i)) [
 pub map_sorted : (all : List Active) (js : List ℕ)
     → map (numbered all) (numbers_by_rank all js) ≡ lists'.by_rank (map (numbered all) js)
 map_sorted all [] = refl
-map_sorted all (j ∷ js) = map_insert all j _
-    ∙ ap (lists'.insert_by_rank (numbered all j)) (map_sorted all js)
+map_sorted all (j ∷ js) = map_insert all j _ ∙ ap (lists'.insert_by_rank (numbered all j)) (map_sorted all js)
 
 module _ (s : Situation) (sound : IsSound s) where
   insert_ordered : (i : ℕ) (js : List ℕ) → In i (numbers_of s.active) → ((j : ℕ) → In j js → In j (numbers_of s.active))
@@ -122,7 +121,7 @@ last_rises (f ∷ x ∷ fs) r = elim (last_rises _ r.1) [
     inr w.1,
     w.2,
     λ g m. elim m [
-      | inl e ↦ (let a = ap (λ (y : Landing). y.second) e in let b = r.0 w.0 w.1 in omega arith)
+      | inl e ↦ (let a = ap (λ (y : Landing). y.second) e in omega arith)
       | inr k ↦ w.3 g k
     ],
   )

@@ -289,7 +289,6 @@ module _ (s : Situation) (sound : IsSound s) (t : Schedule) (f : IsFeasible s t)
         false_from_ne_true (lists (numbered after i).flight (numbered after j).flight.callsign) (λ l.
         let o = fn.in_order j i (all_among s sound j w.0) (all_among s sound i m)
         (ap₂ (λ (y : Flight) (x : Flight). lists y x.callsign) (sym (same_flight i m)) (sym (same_flight j w.0)) ∙ l) in
-        let le = w.2 in
         omega arith))));
   }
 
@@ -307,7 +306,7 @@ module _ (s : Situation) (sound : IsSound s) (t : Schedule) (f : IsFeasible s t)
         | inl e ↦ omega arith
         | inr x ↦ elim x [
           | inl e ↦ omega arith
-          | inr y ↦ (let e = y.1 in omega arith)
+          | inr y ↦ (omega arith)
         ]
       ]
 

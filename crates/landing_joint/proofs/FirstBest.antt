@@ -115,7 +115,6 @@ module _ (s : Situation) (sound : IsSound s) where
       → In j (numbers_of s.active) → i ≢ j → second_of t i ≢ second_of t j
   seconds_differ t f i j mi mj ne e =
       let a = f.separated i j (all_among s sound i mi) (all_among s sound j mj) ne (omega arith) in
-      let b = (sound.table.entries (numbered s.active i).flight.category (numbered s.active j).flight.category).0 in
       omega arith
 
   waiting_ascend : (t : Schedule) → numbers.FeasibleIn ns (second_of t) → Ascends (second_of t) (waiting_by t)

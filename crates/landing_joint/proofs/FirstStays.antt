@@ -98,14 +98,14 @@ module _ (comes_before : ℕ → ℕ → Bool) (order : FirstCome comes_before) 
         let c = count_is (λ g. comes_before m g) froze in
         let ranks = count_parts (λ g. comes_before g m) early waiting in
         let places = count_parts (λ g. nat_lt (t g) (t m)) early waiting in
-        let none = count_none (λ g. comes_before g m) stay (λ g j e. false≢true (sym (first g j) ∙ e)) in
-        let split = count_split (λ g. comes_before g m) (λ g. comes_before m g) (λ g. nat_lt (t g) (t m)) froze (λ g j.
+        let none = count_none _ stay (λ g j e. false≢true (sym (first g j) ∙ e)) in
+        let split = count_split _ _ _ froze (λ g j.
         let w = in_filter early g waiting j in
         let lt = ltb-true (t g) h w.1 in
         let yes' = lt-ltb (t g) (t m) (let le = at.1 in omega arith) in
-        elim (cases_Bool (comes_before m g)) [
+        elim (cases_Bool _) [
           | inl q ↦ inr (inl (yes', order.one_way m g q, q))
-          | inr q ↦ inl (yes', order.total m g (λ e. let z = ap t e in let le = at.1 in omega arith) q, q)
+          | inr q ↦ inl (yes', order.total m g (λ e. let z = ap t e in omega arith) q, q)
         ]) in
         omega (arith, s.1)
 
@@ -164,13 +164,11 @@ module _ (comes_before : ℕ → ℕ → Bool) (order : FirstCome comes_before) 
         let f_in = staying (t f) f i (omega arith) in
         let r = first_in f _ f_in in
         let m = r.0 in
-        let at = stays t waiting k _ back shift m r.1 in
+        let at = stays t waiting k _ _ shift m r.1 in
         let later = at.1 in
         let few = few_overtook_first t waiting k _ _ shift m (staying _ m at.0 (omega arith))
-        (λ y n. r.2 y (let w = stays t waiting k (t m) back shift y n in let x =
-        w.1 in staying (t f) y w.0 (omega arith))) in
-        let low = one m at.0 in
+        (λ y n. r.2 y (let w = stays t waiting k (t m) _ shift y n in staying _ y w.0 (omega arith))) in
         elim (cases_eq f m) [
           | inl e ↦ (let a = as_many h f m i at.0 le later (r.2 f f_in) in let b = ap back e in omega arith)
-          | inr ne ↦ (let a = more h f m i at.0 le later (r.2 f f_in) ne in omega arith)
+          | inr ne ↦ (omega (arith, more h f m i at.0 le later (r.2 f f_in) ne))
         ]

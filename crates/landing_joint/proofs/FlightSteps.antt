@@ -33,7 +33,8 @@ cancelled s plan c h =
     _ _ h.callsigns)) (omega (arith, fewer_kept test s.active, h.few_active)) (let l =
     fewer_twice is_waiting test s.active in omega (arith, h.few_waiting)) h.few_closures
     (λ a m. each_of s h a (in_filter _ _ a m).0) (fewer_frozen s new h refl refl (omega arith)
-    (λ f m. let r = in_frozen _ f m in rw r.4 (frozen_in _ r.0 r.1 (in_filter _ s.active r.0 r.2).0 r.3)) (λ a m. let r = in_filter _ _ a m in
+    (λ f m. let r = in_frozen _ f m in rw r.4 (frozen_in _ r.0 r.1 (in_filter _ s.active r.0 r.2).0 r.3))
+    (λ a m. let r = in_filter _ _ a m in
     (a, filter_in _ _ a (in_filter _ s.active a r.0).0 r.1, refl)))
 
 -- ---- estimate
@@ -60,7 +61,8 @@ re_estimated s plan c eta windows h good ok =
     let f = estimated c eta windows in
     let wait : (a : Active) → is_waiting (f a) ≡ true → is_waiting a ≡ true =
     λ a e. ap is_none (sym (estimate_frozen c eta _ a)) ∙ e in
-    sound_again s new h refl (rw (callsigns_mapped f (estimate_callsign c eta _) _) (differ_of _ h.callsigns)) (omega (arith, length-map s.active f, h.few_active)) (let l =
+    sound_again s new h refl (rw (callsigns_mapped f (estimate_callsign c eta _) _) (differ_of _ h.callsigns))
+    (omega (arith, length-map s.active f, h.few_active)) (let l =
     fewer_filtered is_waiting _ f s.active wait in omega (arith, h.few_waiting)) h.few_closures
     (λ a m. let r = in_map f _ a m in rw r.2 (well r.0 (each_of s h r.0 r.1)))
     (fewer_frozen s new h refl refl (omega arith) (λ g m. let r = in_frozen _ g m in let q = in_map f _ r.0 r.2 in
@@ -155,7 +157,7 @@ added s plan f h good ok =
     sound_again s new h refl (differ_push _ _ (differ_of _ h.callsigns)
     (λ x m e. let n = none_any (named f.callsign) _ x p.0 m in let y =
     (bytes_eq-Decides _ _).1 e in false≢true (sym n ∙ y)))
-    (let l = length_push s.active (newcomer f) in omega (arith, p.1)) (let l =
+    (omega (arith, length_push s.active (newcomer f), p.1)) (let l =
     waiting_push s.active f in omega (arith, p.2)) h.few_closures
     (λ a m. elim (in_push _ _ a m) [
       | inl q ↦ each_of s h a q

@@ -1,5 +1,5 @@
 -- A flight that stays in line through a run is passed by at most k flights: each kind of event keeps the counts.
-use Rattle.std.proofs.Common.{◌≡◌, ℕ, ◌+◌, ◌≤◌, inl, inr, true, false, length, filter, List, [], ◌∷◌, Option}
+use Rattle.std.proofs.Common.{◌≡◌, ℕ, ◌+◌, ◌≤◌, inl, inr, true, false, length, List, [], ◌∷◌, Option}
 use Rattle.std.proofs.Common.{Some, None, refl, sym, ap, ap₂, subst, ◌∙◌, arith}
 use Rattle.std.specs.Prelude.{All, is_none}
 use Rattle.std.specs.declared.cmp.Ordering.{Ordering}
@@ -19,7 +19,7 @@ use Rattle.landing_rules.specs.Events.{refusal, situation_after}
 use Rattle.landing_rules.specs.Sound.{IsSound, IsSoundState, IsGoodEvent}
 use Rattle.landing_rules.specs.shared.Counting.{cases, Member}
 use Rattle.landing_rules.specs.shared.Ranks.{arrival_total, level-callsign}
-use Rattle.landing_joint.specs.PassedOver.{waiting_flight, waits_in, is_ahead, stands_ahead, StaysInLine}
+use Rattle.landing_joint.specs.PassedOver.{waiting_flight, waits_in, is_ahead, StaysInLine}
 use Rattle.landing_joint.specs.PassedOver.{StaysInLineThrough, ArePassedAtLeast, passing_by_event, passing_flight}
 use Rattle.landing_joint.specs.PassedOver.{passing_in_step, passing_in_run, StepCountsLaw, FewPassLaw, FewPassLaterLaw}
 use Rattle.landing_joint.specs.PassedOver.{IsFirstInLine, FewPassFirstLaw, FewPassAnyoneLaw}
@@ -84,7 +84,7 @@ module _ (old new : Situation) (sound : IsSound new) (c : Callsign) (g : ℕ) (s
       → is_lt (arrival_cmp x.flight f.flight) ≡ true → g ≤ x.passed
   least_ahead f x e m q =
       let d = x.flight.callsign in
-      let now : stands_ahead new d c ≡ true = ap₂ is_ahead (is_found new sound d x m refl) e ∙ q in
+      let now = ap₂ is_ahead (is_found new sound d x m refl) e ∙ q in
       let was = ahead_parts _ _ (line.nobody_new d now) in
       let a = was.0 in
       let ma = found old d a was.2 in
@@ -97,8 +97,7 @@ module _ (old new : Situation) (sound : IsSound new) (c : Callsign) (g : ℕ) (s
       → g ≤ x.passed) _ (λ x m q. elim (cases_Bool _) [
         | inl b ↦ least_itself x m (named_is c x b)
         | inr b ↦ least_ahead f x e m (ahead_of f.flight x.flight (λ s.
-            let
-            mf = found new c f e in
+            let mf = found new c f e in
             false≢true (sym b ∙ (bytes_eq-Decides _ c).1 (sym s ∙ mf.1))) q)
       ])
 
@@ -109,8 +108,7 @@ one_waits s sound a b m n e = one_of_name _ a b (differ_of _ sound.callsigns)
     (in_filter _ _ a m).0 (in_filter _ _ b n).0 e
 
 same_active : (old new : Situation) → IsSound old → new.active ≡ old.active → SameCounts old new
-same_active old new sound e x a m n s =
-    ap (λ (z : Active). z.passed) (one_waits old sound x a (subst (λ l. Member x (filter is_waiting l)) e m) n (sym s))
+same_active old new sound e x a m n s = ap (λ (z : Active). z.passed) (one_waits old sound x a (rw e at m) n (sym s))
 
 same_cancelled : (s : Situation) (plan : Option Schedule) (c : Callsign) → IsSound s
     → SameCounts s (situation_after s plan (Cancel c))
@@ -126,11 +124,10 @@ estimate_passed c eta windows a = elim (cases_Bool (named c a)) [ inl e ↦ rw e
 same_estimated : (s : Situation) (plan : Option Schedule) (c : Callsign) (eta : ℕ) (windows : List Span)
     → IsSound s → SameCounts s (situation_after s plan (Estimate c eta windows))
 same_estimated s plan c eta windows sound x a m n e =
-    let f : Active → Active = estimated c eta windows in
+    let f = estimated c eta windows in
     let w = in_filter _ _ x m in
     let r = in_map f _ x w.0 in
-    let waits : is_waiting r.0 ≡ true = ap is_none (sym (estimate_frozen c eta _ r.0))
-    ∙ ap is_waiting (sym r.2) ∙ w.1 in
+    let waits = ap is_none (sym (estimate_frozen c eta _ r.0)) ∙ ap is_waiting (sym r.2) ∙ w.1 in
     let name = sym (estimate_callsign c eta _ r.0) ∙ ap (λ (z : Active). z.flight.callsign) (sym r.2) ∙ sym e in
     ap (λ (z : Active). z.passed) r.2 ∙ estimate_passed c eta _ r.0
     ∙ ap (λ (z : Active). z.passed) (one_waits s sound r.0 a (filter_in _ s.active r.0 r.1 waits) n name)
@@ -155,7 +152,7 @@ Counted k c s g = (g ≤ k) × ArePassedAtLeast g s c
 
 -- where nobody passes
 none_more : (k : ℕ) (c : Callsign) (s : Situation) (g n : ℕ) → n ≡ 0 → Counted k c s g → Counted k c s (g + n)
-none_more k c s g n e h = subst (Counted k c s) (let z : g ≡ g + n = omega arith in z) h
+none_more k c s g n e h = rw (let z : g ≡ g + n = omega arith in z) at h
 
 none_pass : (old : State) (e : Event) → ((f : Flight) → passing_by_event old e f ≡ 0) → (o : Option Active)
     → passing_flight old e o ≡ 0
@@ -176,8 +173,7 @@ by_kind s P sound still clock plan (Estimate d eta windows) ok =
 by_kind s P sound still clock plan (Cancel d) ok = still plan (Cancel d) (same_cancelled s plan d sound) (λ f. refl)
 by_kind s P sound still clock plan (Add x) ok = still plan (Add x) (same_added s plan x sound ok) (λ f. refl)
 by_kind s P sound still clock (Some t) (Clock now) ok = clock t now
-by_kind s P sound still clock plan e ok =
-    still plan e (same_active s (situation_after s plan e) sound refl) (λ f. refl)
+by_kind s P sound still clock plan e ok = still plan e (same_active s (situation_after s plan e) sound refl) (λ f. refl)
 
 event_counted : (s : Situation) (plan : Option Schedule) (c : Callsign) (g : ℕ) (e : Event)
     → IsSound s → ((t : Schedule) → plan ≡ Some t → IsFeasible s t) → s.aerodrome.carry ≡ true
@@ -187,15 +183,12 @@ event_counted : (s : Situation) (plan : Option Schedule) (c : Callsign) (g : ℕ
 event_counted s plan c g e sound feasible carry here so_far good ok line =
     by_kind s Goal sound (λ plan e same none feasible good ok line.
     let new : Situation = situation_after s plan e in
-    none_more s.aerodrome.k c new g (passing_in_step (state_of s plan) e None c)
-    (none_pass (state_of s plan) e none (waiting_flight s c))
+    none_more s.aerodrome.k c new g _ (none_pass (state_of s plan) e none _)
     (so_far.0, quiet s new (event_keeps_sound s plan e sound good feasible ok) c g same here line so_far.1))
     (λ t now feasible good ok line.
     let f = some_flight s c here in
     let r = clock_counts s t now c f.0 g sound carry (feasible t refl) ok f.1 line.waits so_far.1 in
-    subst (λ o. Counted s.aerodrome.k c (situation_after s (Some t) (Clock now))
-    (g + passing_flight (state_of s (Some t)) (Clock now) o)) (sym f.1) (r.few, r.counted))
-    plan e ok feasible good ok line
+    rw f.1 (r.few, r.counted)) plan e ok feasible good ok line
   where
     Goal : Option Schedule → Event → Type 0
     Goal plan e = ((t : Schedule) → plan ≡ Some t → IsFeasible s t) → IsGoodEvent e → refusal s e ≡ None
@@ -215,12 +208,10 @@ step_counted : (old new : State) (e : Event) (answer : Option Refusal) (c : Call
     Counted old.situation.aerodrome.k c old.situation g
     → Counted old.situation.aerodrome.k c new.situation (g + passing_in_step old e answer c)
 step_counted old new e (Some r) c g sound good step carry here line so_far =
-    none_more old.situation.aerodrome.k c new.situation g 0 refl
-    (subst (λ (s : State). Counted old.situation.aerodrome.k c s.situation g) (sym step.effect) so_far)
+    none_more _ c new.situation g 0 refl (rw step.effect so_far)
 step_counted old new e None c g sound good step carry here line so_far =
     let is = step.effect.changed in
-    subst (λ s. Counted old.situation.aerodrome.k c s (g + passing_in_step old e None c)) (sym is)
-    (event_counted old.situation old.plan c g e sound.situation
+    rw is (event_counted old.situation old.plan c g e sound.situation
     (λ t q. (subst (IsPlanShown old.situation) q sound.shown).0.feasible) carry here so_far good
     (sym step.answered) (subst (StaysInLine c old.situation) is line))
 
@@ -232,11 +223,10 @@ run_counted : (old : State) (events : List Event) (answers : List Answered) (c :
 run_counted old [] answers c g sound carry good run here line so_far = let a = so_far.0 in omega arith
 run_counted old (e ∷ events) [] c g sound carry good run here line so_far = absurd run
 run_counted old (e ∷ events) (a ∷ answers) c g sound carry good run here line so_far =
-    let next = step_keeps_sound old a.state e a.answer sound (All-head IsGoodEvent e events good) run.0 in
-    let same = step_aerodrome old a.state e a.answer run.0 in
+    let next = step_keeps_sound old a.state e a.answer sound (All-head IsGoodEvent e _ good) run.0 in
+    let same = step_aerodrome old _ e _ run.0 in
     let d = passing_in_step old e a.answer c in
-    let now = step_counted old a.state e a.answer c g sound
-    (All-head IsGoodEvent e events good) run.0 carry here line.0 so_far in
+    let now = step_counted old _ e _ c g sound (All-head IsGoodEvent e _ good) run.0 carry here line.0 so_far in
     let now' = subst (λ (x : Aerodrome). Counted x.k c a.state.situation (g + d)) (sym same) now in
     let rest = run_counted a.state events answers c (g + d) next (ap (λ (x : Aerodrome). x.carry) same ∙ carry)
     (All-tail IsGoodEvent e events good) run.1 line.0.waits line.1 now' in
@@ -268,9 +258,8 @@ pub few_pass : FewPassLaw
 few_pass old events answers c sound carry good run here line =
     let none : ArePassedAtLeast 0 old.situation c =
     λ f e. all_from (λ (x : Active). is_lt (arrival_cmp f.flight x.flight) ≡ false → 0 ≤ x.passed)
-    (waiting old.situation) (λ x m q. omega arith) in
-    let few = few_pass_later old events answers c 0 sound carry good run here line none in
-    omega arith
+    _ (λ x m q. omega arith) in
+    omega (arith, few_pass_later old events answers c 0 sound carry good run here line none)
 
 -- ---- the first in line
 
@@ -291,8 +280,7 @@ alone_ahead s sound c f x e first m q = elim (cases_Bool _) [
   | inr b ↦
       let d = x.flight.callsign in
       let other = λ (z : f.flight.callsign ≡ d). false≢true (sym b ∙ (bytes_eq-Decides d c).1 (sym z ∙ mf.1)) in
-      let ahead : stands_ahead s d c ≡ true = ap₂ is_ahead (is_found s sound d x m refl) e
-      ∙ ahead_of f.flight x.flight other q in
+      let ahead = ap₂ is_ahead (is_found s sound d x m refl) e ∙ ahead_of f.flight x.flight other q in
       absurd (false≢true (sym (first.nobody d) ∙ ahead))
 ]
   where
@@ -303,13 +291,12 @@ pub few_pass_first : FewPassFirstLaw
 few_pass_first old events answers c f sound carry good run here first rest =
     let s = old.situation in
     let least : ArePassedAtLeast f.passed s c =
-    λ b e. all_from (λ (x : Active). is_lt (arrival_cmp b.flight x.flight) ≡ false → f.passed ≤ x.passed)
-    (waiting s) (λ x m q.
-    let same = ap (λ (z : Active). z.passed) (same_Some f b (sym here ∙ e)
-    ∙ alone_ahead s sound.situation c b x e first m q) in
-    omega arith) in
-    few_pass_later old events answers c f.passed sound carry good run first.waits
-    (stays_in_line c old answers rest) least
+    λ b e. all_from (λ (x : Active). is_lt (arrival_cmp b.flight x.flight) ≡ false → f.passed ≤ x.passed) _ (λ x m q.
+    omega (
+      arith,
+      ap (λ (z : Active). z.passed) (same_Some f b (sym here ∙ e) ∙ alone_ahead s sound.situation c b x e first m q),
+    )) in
+    few_pass_later old events answers c f.passed sound carry good run first.waits (stays_in_line c old _ rest) least
 
 -- ---- where k is at most 1
 
@@ -324,16 +311,13 @@ event_exactly : (s : Situation) (plan : Option Schedule) (e : Event) (c : Callsi
     CountsExactly (state_of s plan) e None (state_of (situation_after s plan e) plan) c
 event_exactly s plan e c sound feasible carry low ok =
     by_kind s Goal sound (λ plan e same none feasible ok f g here later.
-    let
-    mf = found s c f here in
+    let mf = found s c f here in
     let mg = found (situation_after s plan e) c g later in
     let p = same g f mg.0 mf.0 (mf.1 ∙ sym mg.1) in
     let z = none_pass (state_of s plan) e none (waiting_flight s c) in
-    omega arith)
-    (λ t now feasible ok f g here later.
+    omega arith) (λ t now feasible ok f g here later.
     clock_counts_exactly s t now c f g sound carry low (feasible t refl) ok here later
-    ∙ ap (λ o. f.passed + passing_flight (state_of s (Some t)) (Clock now) o) (sym here))
-    plan e ok feasible ok
+    ∙ ap (λ o. f.passed + passing_flight (state_of s (Some t)) (Clock now) o) (sym here)) _ e ok feasible ok
   where
     Goal : Option Schedule → Event → Type 0
     Goal plan e = ((t : Schedule) → plan ≡ Some t → IsFeasible s t) → refusal s e ≡ None
@@ -348,19 +332,19 @@ step_exactly old new e (Some r) c sound step carry low f g here later =
     omega arith
 step_exactly old new e None c sound step carry low f g here later =
     event_exactly old.situation old.plan e c sound.situation
-    (λ t q. (subst (IsPlanShown old.situation) q sound.shown).0.feasible) carry low (sym step.answered) f g here
+    (λ t q. (rw q at sound.shown).0.feasible) carry low (sym step.answered) f g here
     (ap (λ s. waiting_flight s c) (sym step.effect.changed) ∙ later)
 
 pub few_pass_anyone : FewPassAnyoneLaw
 few_pass_anyone old [] answers c f sound carry low good run here waited =
     let s = old.situation in
     let most = all_at (λ (x : Active). x.passed ≤ s.aerodrome.k) _ sound.situation.passed f
-    (in_filter is_waiting s.active f (found s c f here).0).0 in
+    (in_filter is_waiting _ f (found s c f here).0).0 in
     omega arith
 few_pass_anyone old (e ∷ events) [] c f sound carry low good run here waited = absurd run
 few_pass_anyone old (e ∷ events) (a ∷ answers) c f sound carry low good run here waited =
     let next = step_keeps_sound old a.state e a.answer sound (All-head IsGoodEvent e events good) run.0 in
-    let same = step_aerodrome old a.state e a.answer run.0 in
+    let same = step_aerodrome old _ e _ run.0 in
     let waits = λ (a : Answered). waits_in a.state.situation c ≡ true in
     let g = some_flight a.state.situation c (All-head waits a answers waited) in
     let now = step_exactly old a.state e a.answer c sound run.0 carry low f g.0 here g.1 in

@@ -46,8 +46,7 @@ strict_insert f (x ∷ fs) e ne = elim (cases_lt x.second f.second) [
 
 pub strict_order : (fs : List Landing) → Each (λ f g. f.second ≢ g.second) fs → Strict (in_landing_order fs)
 strict_order [] e = tt
-strict_order (f ∷ fs) e =
-    strict_insert f _ (strict_order fs e.1) (λ g m q. e.0 g (order_member g fs m) (sym q))
+strict_order (f ∷ fs) e = strict_insert f _ (strict_order fs e.1) (λ g m q. e.0 g (order_member g fs m) (sym q))
 
 -- ---- the rules and the objective do not hang on the order of landings
 

@@ -97,7 +97,6 @@ module _ (s : Situation) (sound : IsSound s) (t : Schedule) (ok : IsFeasible s t
         let r = bound_overtook _ (first_come s.active) _ _ _ h _ shifted i m in
         let p = passed_low s sound t ok.0 r.0 (stays r.0 r.1).0 in
         let l = least r.0 (waited r.0 r.1) r.2 in
-        let b = r.3 in
         omega arith
 
     counted_numbers : (x : ℕ) → In x stay → comes_before s.active i x ≡ false
@@ -126,7 +125,6 @@ module _ (s : Situation) (sound : IsSound s) (t : Schedule) (ok : IsFeasible s t
       let a = all_among s sound i (in_filter _ i _ m).0 in
       let b = all_among s sound j (in_filter _ j _ n).0 in
       let gap = (feasible_numbered s sound t ok.0 ok).separated i j a b ne (omega arith) in
-      let least = (sound.table.entries (numbered s.active i).flight.category (numbered s.active j).flight.category).0 in
       omega arith
 
   -- f is one that stays, and its number counts the same
@@ -207,7 +205,7 @@ module _ (s : Situation) (sound : IsSound s) (t : Schedule) (ok : IsFeasible s t
         _ _ _ _ shifted (λ x m. omega arith) seconds_differ h i (waited i n.1.stays) w.2 in
         let p = passed_low s sound t ok.0 i w.0 in
         let a = counted_after i n.1.stays in
-        let same = ap (λ (z : Active). z.passed) (same_Some b (numbered changed.active i) (sym e ∙ n.1.is)) in
+        let same = ap (λ (z : Active). z.passed) (same_Some b _ (sym e ∙ n.1.is)) in
         let was = ap (λ (z : Active). z.passed) n.1.was in
         let over_is = passing_are i n.1 in
         omega arith

@@ -265,8 +265,7 @@ module _ (s : Situation) (sound : IsSound s) (p : lists'.Problem) (of : lists'.I
   -- a feasible list gives a feasible schedule
   pub list_gives_schedule : (v : Schedule) → lists'.IsFeasibleList p v → IsFeasible s (joined s v)
   list_gives_schedule v f =
-      let
-      T = second_of (joined s v) in
+      let T = second_of (joined s v) in
       let g = feasible_agree _ _ _ (λ r q. sym (joined_rank v r q)) (list_feasible p v f) in
       let long = numbers_long _ 0 _ in
       numbered_feasible s sound _ long (feasible_problem ns _ _
@@ -413,8 +412,7 @@ module _ (s : Situation) (sound : IsSound s) (p : lists'.Problem) (of : lists'.I
             → cost o (map (landing_at s.active (joined s v)) (numbers_of s.active)) ≡ lists'.list_cost p.objective p v
         go Delay e b = delay_all ∙ ap (λ k. k + sum_by lists'.list_delay (zip p.flights v)) (sym b)
             ∙ ap (λ o. lists'.list_cost o p v) (sym e)
-        go Makespan e b = ap greatest (map_map _ _
-            _) ∙ by v refl ∙ ap (λ o. lists'.list_cost o p v) (sym e)
+        go Makespan e b = ap greatest (map_map _ _ _) ∙ by v refl ∙ ap (λ o. lists'.list_cost o p v) (sym e)
           where
             by : (xs : List ℕ) → v ≡ xs
                 → greatest (map (second_of (joined s v)) (numbers_of s.active)) ≡ lists'.list_cost Makespan p v

@@ -90,7 +90,7 @@ closed : (s : Situation) (plan : Option Schedule) (span : Span) → IsSound s �
     → IsSound (situation_after s plan (Close span))
 closed s plan span h ok =
     let p = close_parts _ _ ok in
-    other_closures s _ h refl refl refl (let l = length_push s.closures span in omega (arith, p.1))
+    other_closures s _ h refl refl refl (omega (arith, length_push s.closures span, p.1))
     (λ f m. open_where _ _ _ f.second (λ e. any_push _ s.closures _ e (none_found (λ g. is_shut g.second span) _ f p.0
     (member_order f _ m))) ((kept s h).opened f m))
 

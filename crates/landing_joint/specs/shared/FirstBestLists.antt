@@ -76,12 +76,11 @@ module _ (p : lists'.Problem) (sound : SoundProblem (ranked p)) where
 
   ranks_in : (v : Schedule) → length v ≡ length p.flights → (r : ℕ) → IsRank (length p.flights) r
       → In r (ranks_from 1 v)
-  ranks_in v long r q = rw (ranks_are 1 v) (numbers_in 1 _ r q.0 (let x = q.1 in omega arith))
+  ranks_in v long r q = rw (ranks_are 1 v) (numbers_in 1 _ r q.0 (omega arith))
 
   differ : (t : ℕ → ℕ) → Feasible (ranked p) t → (q r : ℕ) → IsRank (length p.flights) q → IsRank (length p.flights) r
       → q ≢ r → t q ≢ t r
-  differ t f q r iq ir ne e = let a = f.separated q r iq ir ne (omega arith) in let b =
-      sound.positive q r in omega arith
+  differ t f q r iq ir ne e = let b = sound.positive q r in omega arith
 
   -- the ranks as a feasible list lands them
   pub list_in_landing_order : (v : Schedule) → lists'.IsFeasibleList p v
@@ -258,7 +257,7 @@ module _ (p : lists'.Problem) (sound : SoundProblem (ranked p)) (passed : (r : �
       first_best_list v (list_of_long n u) (record {
         best = record {
           feasible = feasible_agree (ranked p) u (of_rank 0 v) back b.best.feasible;
-          least = λ w f. let a = value_agree p (of_rank 0 v) u at in omega arith;
+          least = λ w f. omega (arith, value_agree p (of_rank 0 v) u at);
         };
         tight = record {
           feasible = feasible_agree (ranked p) u (of_rank 0 v) back b.tight.feasible;
@@ -266,7 +265,6 @@ module _ (p : lists'.Problem) (sound : SoundProblem (ranked p)) (passed : (r : �
               let a = b.tight.least w f (λ x y ix iy.
               let o = same x y ix iy in
               (λ lt. o.0 (omega arith), λ lt. omega (arith, o.1 lt))) r q in
-              let e = at r q in
               omega arith;
         };
         least = λ w bw tw qs os oq ow. b.least w bw tw qs os (record {

@@ -68,7 +68,7 @@ pub first_open_least : (ws : List Span) (t v : ℕ) → list_any (is_within v) w
 first_open_least [] t v e le = absurd (false≢true e)
 first_open_least (w ∷ ws) t v e le = elim (or_cases _ _ e) [
   | inl a ↦ (let s = span_least w t v a le in let l = left_low _ _ s.0 s.1 in
-      (l.0, l.1, (let x = s.2 in let y = l.2 in omega arith)))
+      (l.0, l.1, (omega arith)))
   | inr b ↦ (let s = first_open_least ws t v b le in let l = right_low _ _ s.0 s.1 in
       (l.0, l.1, (omega arith)))
 ]

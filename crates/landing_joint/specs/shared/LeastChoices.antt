@@ -50,7 +50,6 @@ module _ (p : lists'.Problem) (sound : SoundProblem (ranked p)) (passed : (r : â
   no_less u f =
       let w = list_of (length p.flights) u in
       let g = feasible_list p passed w (list_of_long _ u) (feasible_agree _ u _ (Î» r q. sym (list_of_at _ u r q)) f) in
-      let a = value_is.least w g in
       let b = list_value p w (list_of_long _ u) in
       let c = value_agree p _ u (list_of_at _ u) in
       omega arith

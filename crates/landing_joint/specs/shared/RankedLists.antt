@@ -29,9 +29,9 @@ feasible_agree f t u h g = record {
   started = λ r q. let a = g.started r q in let b = h r q in omega arith;
   separated = λ r q ir iq ne le. let a = h r ir in let b = h q iq in let c =
       g.separated r q ir iq ne (omega arith) in omega arith;
-  in_order = λ r q ir iq b. let a = h r ir in let c = h q iq in let d = g.in_order r q ir iq b in omega arith;
+  in_order = λ r q ir iq b. let a = h r ir in let d = g.in_order r q ir iq b in omega arith;
   not_early = λ r q. let a = g.not_early r q in let b = earlier_agree f.rules.count t u h r q in omega arith;
-  not_late = λ r q. let a = g.not_late r q in let b = earlier_agree f.rules.count t u h r q in omega arith;
+  not_late = λ r q. let b = earlier_agree f.rules.count t u h r q in omega arith;
 }
 
 module _ (p : lists'.Problem) where

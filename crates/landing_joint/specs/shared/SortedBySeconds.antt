@@ -1,6 +1,6 @@
 -- Numbers sorted by their seconds: the same numbers, each landing before those behind it.
 use Rattle.std.proofs.Common.{◌≡◌, ◌≢◌, ℕ, ◌<◌, ◌⊎◌, inl, inr, List, [], ◌∷◌, map, filter, Bool, arith, refl}
-use Rattle.std.proofs.Common.{sym, ap, ap₂, subst}
+use Rattle.std.proofs.Common.{ap, ap₂}
 use Rattle.std.proofs.lemmas.Bool.{cases_Bool, cases_lt, lt-ltb, le-ltb}
 use Rattle.landing_rules.specs.FirstBest.{insert_by, sorted_by}
 use Rattle.cps_theory.specs.RankLists.{In, Distinct}
@@ -60,7 +60,7 @@ pub map_ascends : (t u : ℕ → ℕ) (f : ℕ → ℕ) (rs : List ℕ) → ((x 
 map_ascends t u f [] h a = tt
 map_ascends t u f (r ∷ rs) h a = (
   λ y i. let w = in_map f rs y i in let x = a.0 w.0 w.1 in let e = h r (inl refl) in let g =
-      h w.0 (inr w.1) in subst (λ z. u (f r) < u z) (sym w.2) (omega arith),
+      h w.0 (inr w.1) in rw w.2 (omega arith),
   map_ascends t u f rs (λ x i. h x (inr i)) a.1,
 )
 
@@ -69,8 +69,8 @@ pub ascends_same : (t u : ℕ → ℕ) (rs : List ℕ) → Ascends t rs → Asce
     → In g rs → t f < t g → u f < u g
 ascends_same t u [] d e f g i j lt = absurd i
 ascends_same t u (x ∷ rs) d e f g (inl s) (inl s') lt = absurd (let a = ap t s in let b = ap t s' in omega arith)
-ascends_same t u (x ∷ rs) d e f g (inl s) (inr j) lt = let a = ap u s in let b = e.0 g j in omega arith
-ascends_same t u (x ∷ rs) d e f g (inr i) (inl s) lt = absurd (let a = ap t s in let b = d.0 f i in omega arith)
+ascends_same t u (x ∷ rs) d e f g (inl s) (inr j) lt = let a = ap u s in omega arith
+ascends_same t u (x ∷ rs) d e f g (inr i) (inl s) lt = absurd (let a = ap t s in omega arith)
 ascends_same t u (x ∷ rs) d e f g (inr i) (inr j) lt = ascends_same t u rs d.1 e.1 f g i j lt
 
 -- a list is told by its image where no two of it have one image
