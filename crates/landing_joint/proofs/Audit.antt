@@ -56,8 +56,7 @@ module _ (s : Situation) (sound : IsSound s) where
         let w = of_number y my in
         elim (cases_eq v.0 w.0) [
           | inl q ↦ v.2 ∙ ap (landing_at s.active t) q ∙ sym w.2
-          | inr ne ↦ absurd (callsigns_differ s sound v.0 w.0 v.1 w.1 ne
-              (ap (λ (z : Landing). z.flight.callsign) (sym v.2) ∙ e ∙ ap (λ (z : Landing). z.flight.callsign) w.2))
+          | inr ne ↦ absurd (callsigns_differ s sound v.0 w.0 v.1 w.1 ne (cc))
         ]
 
   -- the block of a feasible schedule is without a finding
@@ -114,8 +113,7 @@ module _ (s : Situation) (sound : IsSound s) where
       → find (named l.callsign) s.active ≡ Some a → Member (landing a l.second) (block_landings s.active ls)
   member_block [] l a m q = absurd m
   member_block (k ∷ ls) l a (inl e) q =
-      rw (ap (λ (y : ShownLanding). find (named y.callsign) s.active) (sym e) ∙ q)
-      (inl (ap (λ (y : ShownLanding). landing a y.second) e))
+      rw (ap (λ (y : ShownLanding). find (named y.callsign) s.active) (sym e) ∙ q) (inl (cc))
   member_block (k ∷ ls) l a (inr m) q = go _ (member_block ls l a m q)
     where
       go : (o : Option Active) → Member (landing a l.second) (block_landings s.active ls)
@@ -137,8 +135,8 @@ module _ (s : Situation) (sound : IsSound s) where
     λ y m q.
         let w = in_map _ all y m in
         let n = member_number w.0 all w.1 in
-        let differ : a.flight.callsign ≢ w.0.flight.callsign = λ e. h 0 (suc n.0) nobody (omega arith) (let l =
-        n.1 in omega arith) (e ∙ ap (λ (z : Active). z.flight.callsign) n.2) in
+        let differ : a.flight.callsign ≢ w.0.flight.callsign = λ e. h 0 (suc n.0) nobody (omega arith) (omega arith)
+        (cc) in
         let same = q ∙ ap (λ (z : Landing). z.second) w.2 in
         elim (each_pair _ L strict _ _
         (i a (inl refl)) (i w.0 (inr w.1))) [
@@ -178,7 +176,7 @@ module _ (s : Situation) (sound : IsSound s) where
       ap (λ (z : Active). find (named z.flight.callsign) s.active) n.2 ∙ find_first _ sound.callsigns n.0 n.1
       ∙ ap Some (sym n.2) in
       let at = ap (second_in b.plan.landings) (sym w.2) ∙ second_at _ each w.0 w.1 in
-      rw at (member_block _ w.0 a w.1 (ap (λ c. find (named c) s.active) w.2 ∙ first)) in
+      rw at (member_block _ w.0 a w.1 (cc)) in
       let forth : (x : Landing) → Member x L → Member x Ms = λ x m.
       let w = block_member _ x m in
       let k = find_some _ _ w.1 w.3 in

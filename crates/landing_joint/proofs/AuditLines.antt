@@ -213,7 +213,7 @@ pub each_lines : (fs : List Landing) → Strict fs → ((x y : Landing) → Memb
 each_lines [] e h = tt
 each_lines (f ∷ fs) e h = (
   λ l m q. let w = in_map _ fs l m in let s = h f w.0 (inl refl) (inr w.1)
-      (q ∙ ap (λ (y : ShownLanding). y.callsign) w.2) in let z = ap (λ (y : Landing). y.second) s in omega arith,
+      (cc) in let z = ap (λ (y : Landing). y.second) s in omega arith,
   each_lines fs e.1 (λ x y i j. h x y (inr i) (inr j)),
 )
 

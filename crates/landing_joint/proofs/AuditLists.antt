@@ -1,5 +1,5 @@
 -- When lists of findings are empty.
-use Rattle.std.proofs.Common.{◌≡◌, ◌⊎◌, inl, inr, List, [], ◌∷◌, ◌++◌, cond, Bool, true, refl, sym, ap, ap₂, ◌∙◌}
+use Rattle.std.proofs.Common.{◌≡◌, ◌⊎◌, inl, inr, List, [], ◌∷◌, ◌++◌, cond, Bool, true, refl, sym, ap, ◌∙◌}
 use Rattle.std.specs.Prelude.{flat_map}
 use Rattle.std.specs.Str.{bytes_eq}
 use Rattle.std.specs.List.{list_any}
@@ -18,7 +18,7 @@ append_nil [] ys e = (refl, e)
 append_nil (x ∷ xs) ys e = cc
 
 pub nil_append : (xs ys : List Finding) → xs ≡ [] → ys ≡ [] → xs ++ ys ≡ []
-nil_append xs ys e f = ap₂ (λ (a b : List Finding). a ++ b) e f
+nil_append xs ys e f = cc
 
 pub or_else_nil : (xs ys : List Finding) → or_else xs ys ≡ [] → (xs ≡ []) × (ys ≡ [])
 or_else_nil [] ys e = (refl, e)

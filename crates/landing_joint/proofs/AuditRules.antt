@@ -1,6 +1,6 @@
 -- No finding by the rules exactly where the landings keep them.
 use Rattle.std.proofs.Common.{◌≡◌, ℕ, ◌≤◌, ◌⊎◌, inl, inr, List, [], ◌∷◌, filter, Bool, true, false, not, ◌||◌}
-use Rattle.std.proofs.Common.{nat_le, nat_lt, nat_eq, refl, sym, ap, subst}
+use Rattle.std.proofs.Common.{nat_le, nat_lt, nat_eq, refl, sym, subst}
 use Rattle.std.specs.Prelude.{unwrap_or, is_none, flat_map, All, IsTrue, MatchOption, Option, Some, None}
 use Rattle.std.specs.Str.{bytes_eq}
 use Rattle.std.proofs.lemmas.Slice.Eq.{bytes_eq-Decides}
@@ -72,7 +72,7 @@ rules_kept s all good e =
   where
     separated : (f h : Landing) → (f ≡ h) ⊎ ((are_apart s.aerodrome.table f h ≡ true)
         ⊎ (are_apart s.aerodrome.table h f ≡ true)) → ArePairSeparated s.aerodrome.table f h
-    separated f h (inl q) = λ ne le. absurd (ne (ap (λ (x : Landing). x.flight.callsign) q))
+    separated f h (inl q) = λ ne le. absurd (ne (cc))
     separated f h (inr (inl q)) = (is_pair_separated-Decides _ f h).0
         (and_parts (is_pair_separated s.aerodrome.table f h) (is_pair_separated s.aerodrome.table h f) q).0
     separated f h (inr (inr q)) = (is_pair_separated-Decides _ f h).0

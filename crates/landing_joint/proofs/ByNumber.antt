@@ -1,7 +1,7 @@
 -- The waiting flights by rank, as numbers.
 use Rattle.std.proofs.Common.{◌≡◌, ℕ, zero, suc, ◌<◌, ◌≤◌, ◌⊎◌, inl, inr, List, [], ◌∷◌, length, get_or, map, cond}
-use Rattle.std.proofs.Common.{Bool, true, false, not, zero-le, arith, refl, sym, ap, ap₂, ◌∙◌}
-use Rattle.std.specs.Prelude.{is_none, unwrap_or, Some, None, IsPermutation, slice_get}
+use Rattle.std.proofs.Common.{Bool, true, false, zero-le, arith, refl, sym, ap, ap₂, ◌∙◌}
+use Rattle.std.specs.Prelude.{unwrap_or, Some, None, IsPermutation, slice_get}
 use Rattle.std.specs.Ordering.{is_lt}
 use Rattle.std.proofs.lemmas.Bool.{cases_Bool}
 use Rattle.std.proofs.lemmas.List.Sorted.{IsPermutation-sym}
@@ -121,7 +121,7 @@ last_rises (f ∷ x ∷ fs) r = elim (last_rises _ r.1) [
     inr w.1,
     w.2,
     λ g m. elim m [
-      | inl e ↦ (let a = ap (λ (y : Landing). y.second) e in omega arith)
+      | inl e ↦ (omega (arith, ap (λ (y : Landing). y.second) e))
       | inr k ↦ w.3 g k
     ],
   )
@@ -150,8 +150,8 @@ module _ (s : Situation) (sound : IsSound s) where
         | inr w ↦
             (let v = frozen_member w.0 _ (order_member w.0 fl w.1) in
             let i = v.0 in
-            let n = numbers_in 0 (length s.active) i zero-le (let l = v.1 in omega arith) in
-            let m = filter_in _ i _ n (ap (λ o. not (is_none o)) v.3) in
+            let n = numbers_in 0 (length s.active) i zero-le (omega arith) in
+            let m = filter_in _ i _ n (cc) in
             let at = ap (λ o. unwrap_or o 0) v.3 in
             let sec = ap (λ (g : Landing). g.second) v.4 ∙ sym at in
             let cat = ap (λ (g : Landing). g.flight.category) v.4 in

@@ -64,8 +64,7 @@ froze fl (Some v) pa sec m d c = record {
   flight = refl;
   waits = refl;
   second = λ e x. absurd (false≢true x);
-  was =
-      λ e. refl;
+  was = λ e. refl;
   passed = inl refl;
   counted = λ q x e. absurd (false≢true x);
 }
@@ -73,16 +72,14 @@ froze fl None pa sec m true c = record {
   flight = refl;
   waits = refl;
   second = λ e x. refl;
-  was =
-      λ e. absurd (false≢true (sym e));
+  was = λ e. absurd (cc);
   passed = inr (inl refl);
-  counted = λ q x e. absurd (false≢true (sym e));
+  counted = λ q x e. absurd (cc);
 }
 froze fl None pa sec m false true = record {
   flight = refl;
   waits = refl;
-  second =
-      λ e x. absurd (false≢true (sym e));
+  second = λ e x. absurd (cc);
   was = λ e. refl;
   passed = inr (inr (refl, refl));
   counted = λ q x e. refl;
@@ -90,8 +87,7 @@ froze fl None pa sec m false true = record {
 froze fl None pa sec m false false = record {
   flight = refl;
   waits = refl;
-  second =
-      λ e x. absurd (false≢true (sym e));
+  second = λ e x. absurd (cc);
   was = λ e. refl;
   passed = inl refl;
   counted = λ q x e. absurd (false≢true q);
@@ -187,7 +183,7 @@ module _ (s : Situation) (sound : IsSound s) (t : Schedule) (f : IsFeasible s t)
         let k = fn.kept i j in
         let k' = k ∙ ap (λ x. unwrap_or x 0) o in
         let b = (sound_numbered s sound).frozen_before i j in
-        (sym k', omega arith))
+        (omega arith))
   ]
     where
       some_same : (a b : ℕ) → Some a ≡ Some b → a ≡ b
@@ -247,7 +243,7 @@ module _ (s : Situation) (sound : IsSound s) (t : Schedule) (f : IsFeasible s t)
     few_waiting = let a = sound.few_waiting in let b = few_after in omega arith;
     few_closures = sound.few_closures;
     flights = each_after (λ a. IsGoodFlight a.flight) (λ i m. let b = in_numbers 0 (length s.active) i m in
-        subst IsGoodFlight (sym (same_flight i m)) (sound.flights i nobody (omega (arith, b.1))));
+        subst IsGoodFlight (sym (same_flight i m)) (omega arith));
     passed = each_after (λ a. a.passed ≤ s.aerodrome.k) (λ i m. let o = passed_low s sound t f.0 i m in
         elim (at_after i m).passed [
           | inl e ↦ omega arith
@@ -261,7 +257,7 @@ module _ (s : Situation) (sound : IsSound s) (t : Schedule) (f : IsFeasible s t)
         let o = sound.no_carry c i nobody (omega (arith, b.1)) in
         elim (at_after i m).passed [
           | inl e ↦ e ∙ o
-          | inr x ↦ elim x [ inl e ↦ e | inr y ↦ absurd (false≢true (sym c ∙ y.0)) ]
+          | inr x ↦ elim x [ inl e ↦ e | inr y ↦ absurd (cc) ]
         ]);
     frozen_open = each_frozen_after (λ g. IsTrue (is_open g.flight.windows s.closures g.second)) (λ i m lt.
         subst (λ (x : Flight). is_open x.windows s.closures (second_of t i) ≡ true) (sym (same_flight i m))
@@ -274,8 +270,7 @@ module _ (s : Situation) (sound : IsSound s) (t : Schedule) (f : IsFeasible s t)
         (numbered after i).flight.category y.category ≤ second_of t j) (sym (same_flight j k))
         (subst (λ (x : Flight). second_of t i + separation s.aerodrome.table x.category
         (numbered s.active j).flight.category ≤ second_of t j) (sym (same_flight i m))
-        (fn.separated i j (all_among s sound i m) (all_among s sound j k)
-        (λ e. ne (ap (λ x. (numbered after x).flight.callsign) e)) le))));
+        (fn.separated i j (all_among s sound i m) (all_among s sound j k) (λ e. ne (cc)) le))));
     frozen_in_precedence = each_frozen_after (λ g. All (IsPairInPrecedence g) (frozen_landings changed))
         (λ i m lt. each_frozen_after (IsPairInPrecedence (landing (numbered after i) (second_of t i))) (λ j k lt'. λ l.
         fn.in_order i j (all_among s sound i m) (all_among s sound j k)
@@ -287,9 +282,12 @@ module _ (s : Situation) (sound : IsSound s) (t : Schedule) (f : IsFeasible s t)
         (numbered_situation changed).waiting (λ j k.
         let w = late_after j k in
         false_from_ne_true (lists (numbered after i).flight (numbered after j).flight.callsign) (λ l.
-        let o = fn.in_order j i (all_among s sound j w.0) (all_among s sound i m)
-        (ap₂ (λ (y : Flight) (x : Flight). lists y x.callsign) (sym (same_flight i m)) (sym (same_flight j w.0)) ∙ l) in
-        omega arith))));
+        omega (
+          arith,
+          fn.in_order j i (all_among s sound j w.0) (all_among s sound i m)
+              (ap₂ (λ (y : Flight) (x : Flight). lists y x.callsign) (sym (same_flight i m)) (sym (same_flight j w.0)) ∙
+              l),
+        )))));
   }
 
   -- ---- the plan stays feasible

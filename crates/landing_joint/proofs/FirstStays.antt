@@ -100,12 +100,12 @@ module _ (comes_before : ℕ → ℕ → Bool) (order : FirstCome comes_before) 
         let places = count_parts (λ g. nat_lt (t g) (t m)) early waiting in
         let none = count_none _ stay (λ g j e. false≢true (sym (first g j) ∙ e)) in
         let split = count_split _ _ _ froze (λ g j.
-        let w = in_filter early g waiting j in
+        let w = in_filter early g _ j in
         let lt = ltb-true (t g) h w.1 in
-        let yes' = lt-ltb (t g) (t m) (let le = at.1 in omega arith) in
+        let yes' = lt-ltb (t g) (t m) (omega arith) in
         elim (cases_Bool _) [
           | inl q ↦ inr (inl (yes', order.one_way m g q, q))
-          | inr q ↦ inl (yes', order.total m g (λ e. let z = ap t e in omega arith) q, q)
+          | inr q ↦ inl (yes', order.total m g (λ e. omega (arith, ap t e)) q, q)
         ]) in
         omega (arith, s.1)
 

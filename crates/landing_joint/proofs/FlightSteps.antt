@@ -137,7 +137,7 @@ differ_push [] a d h = (λ c m. absurd m, tt)
 differ_push (x ∷ xs) a d h = (
   λ c m. let r = in_map _ _ c m in λ e. elim (in_push xs a r.0 r.1) [
     | inl k ↦ d.0 r.0.flight.callsign (map_in _ xs r.0 k) (e ∙ r.2)
-    | inr q ↦ h x (inl refl) (e ∙ r.2 ∙ ap (λ (z : Active). z.flight.callsign) q)
+    | inr q ↦ h x (inl refl) (cc)
   ],
   differ_push xs a d.1 (λ y m. h y (inr m)),
 )

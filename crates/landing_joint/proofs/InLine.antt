@@ -14,7 +14,7 @@ use Rattle.landing_rules.specs.Flights.{Active, Aerodrome, Callsign, Flight, Sch
 use Rattle.landing_rules.specs.Flights.{waiting}
 use Rattle.landing_rules.specs.Rules.{arrival_cmp, IsFeasible}
 use Rattle.landing_rules.specs.Events.{Event, Estimate, Cancel, Add, Clock, Refusal, State, Step}
-use Rattle.landing_rules.specs.Events.{Answered, Run, IsPlanShown, estimated, named}
+use Rattle.landing_rules.specs.Events.{Answered, Run, estimated, named}
 use Rattle.landing_rules.specs.Events.{refusal, situation_after}
 use Rattle.landing_rules.specs.Sound.{IsSound, IsSoundState, IsGoodEvent}
 use Rattle.landing_rules.specs.shared.Counting.{cases, Member}
@@ -182,8 +182,8 @@ event_counted : (s : Situation) (plan : Option Schedule) (c : Callsign) (g : ℕ
     → Counted s.aerodrome.k c (situation_after s plan e) (g + passing_in_step (state_of s plan) e None c)
 event_counted s plan c g e sound feasible carry here so_far good ok line =
     by_kind s Goal sound (λ plan e same none feasible good ok line.
-    let new : Situation = situation_after s plan e in
-    none_more s.aerodrome.k c new g _ (none_pass (state_of s plan) e none _)
+    let new = situation_after s plan e in
+    none_more _ c new g _ (none_pass (state_of s plan) e none _)
     (so_far.0, quiet s new (event_keeps_sound s plan e sound good feasible ok) c g same here line so_far.1))
     (λ t now feasible good ok line.
     let f = some_flight s c here in
@@ -200,7 +200,7 @@ event_counted s plan c g e sound feasible carry here so_far good ok line =
 step_aerodrome : (old new : State) (e : Event) (answer : Option Refusal) → Step old e answer new
     → new.situation.aerodrome ≡ old.situation.aerodrome
 step_aerodrome old new e None step = ap (λ (s : Situation). s.aerodrome) step.effect.changed ∙ aerodrome_stays _ _ e
-step_aerodrome old new e (Some r) step = ap (λ (s : State). s.situation.aerodrome) step.effect
+step_aerodrome old new e (Some r) step = cc
 
 step_counted : (old new : State) (e : Event) (answer : Option Refusal) (c : Callsign) (g : ℕ)
     → IsSoundState old → IsGoodEvent e → Step old e answer new → old.situation.aerodrome.carry ≡ true
@@ -211,16 +211,15 @@ step_counted old new e (Some r) c g sound good step carry here line so_far =
     none_more _ c new.situation g 0 refl (rw step.effect so_far)
 step_counted old new e None c g sound good step carry here line so_far =
     let is = step.effect.changed in
-    rw is (event_counted old.situation old.plan c g e sound.situation
-    (λ t q. (subst (IsPlanShown old.situation) q sound.shown).0.feasible) carry here so_far good
-    (sym step.answered) (subst (StaysInLine c old.situation) is line))
+    rw is (event_counted _ _ c g e sound.situation (λ t q. (rw q at sound.shown).0.feasible) carry here so_far good
+    (cc) (rw is at line))
 
 run_counted : (old : State) (events : List Event) (answers : List Answered) (c : Callsign) (g : ℕ)
     → IsSoundState old → old.situation.aerodrome.carry ≡ true → All IsGoodEvent events → Run old events answers
     → waits_in old.situation c ≡ true → StaysInLineThrough c old answers →
     Counted old.situation.aerodrome.k c old.situation g
     → g + passing_in_run old events answers c ≤ old.situation.aerodrome.k
-run_counted old [] answers c g sound carry good run here line so_far = let a = so_far.0 in omega arith
+run_counted old [] answers c g sound carry good run here line so_far = omega arith
 run_counted old (e ∷ events) [] c g sound carry good run here line so_far = absurd run
 run_counted old (e ∷ events) (a ∷ answers) c g sound carry good run here line so_far =
     let next = step_keeps_sound old a.state e a.answer sound (All-head IsGoodEvent e _ good) run.0 in
@@ -228,7 +227,7 @@ run_counted old (e ∷ events) (a ∷ answers) c g sound carry good run here lin
     let d = passing_in_step old e a.answer c in
     let now = step_counted old _ e _ c g sound (All-head IsGoodEvent e _ good) run.0 carry here line.0 so_far in
     let now' = subst (λ (x : Aerodrome). Counted x.k c a.state.situation (g + d)) (sym same) now in
-    let rest = run_counted a.state events answers c (g + d) next (ap (λ (x : Aerodrome). x.carry) same ∙ carry)
+    let rest = run_counted _ events answers c (g + d) next (cc)
     (All-tail IsGoodEvent e events good) run.1 line.0.waits line.1 now' in
     let k = ap (λ (x : Aerodrome). x.k) same in
     omega arith
@@ -256,9 +255,7 @@ few_pass_later old events answers c g sound carry good run here line least =
 
 pub few_pass : FewPassLaw
 few_pass old events answers c sound carry good run here line =
-    let none : ArePassedAtLeast 0 old.situation c =
-    λ f e. all_from (λ (x : Active). is_lt (arrival_cmp f.flight x.flight) ≡ false → 0 ≤ x.passed)
-    _ (λ x m q. omega arith) in
+    let none : ArePassedAtLeast 0 old.situation c = omega arith in
     omega (arith, few_pass_later old events answers c 0 sound carry good run here line none)
 
 -- ---- the first in line
@@ -327,28 +324,26 @@ step_exactly : (old new : State) (e : Event) (answer : Option Refusal) (c : Call
     → Step old e answer new → old.situation.aerodrome.carry ≡ true → old.situation.aerodrome.k ≤ 1
     → CountsExactly old e answer new c
 step_exactly old new e (Some r) c sound step carry low f g here later =
-    let same = ap (λ (z : Active). z.passed)
-    (same_Some f g (sym here ∙ ap (λ (s : State). waiting_flight s.situation c) (sym step.effect) ∙ later)) in
+    let same = ap (λ (z : Active). z.passed) (same_Some f g (cc)) in
     omega arith
 step_exactly old new e None c sound step carry low f g here later =
     event_exactly old.situation old.plan e c sound.situation
-    (λ t q. (rw q at sound.shown).0.feasible) carry low (sym step.answered) f g here
-    (ap (λ s. waiting_flight s c) (sym step.effect.changed) ∙ later)
+    (λ t q. (rw q at sound.shown).0.feasible) carry low (cc) f g here (cc)
 
 pub few_pass_anyone : FewPassAnyoneLaw
 few_pass_anyone old [] answers c f sound carry low good run here waited =
     let s = old.situation in
     let most = all_at (λ (x : Active). x.passed ≤ s.aerodrome.k) _ sound.situation.passed f
-    (in_filter is_waiting _ f (found s c f here).0).0 in
+    (in_filter _ _ f (found s c f here).0).0 in
     omega arith
 few_pass_anyone old (e ∷ events) [] c f sound carry low good run here waited = absurd run
 few_pass_anyone old (e ∷ events) (a ∷ answers) c f sound carry low good run here waited =
-    let next = step_keeps_sound old a.state e a.answer sound (All-head IsGoodEvent e events good) run.0 in
+    let next = step_keeps_sound old a.state e a.answer sound (All-head IsGoodEvent e _ good) run.0 in
     let same = step_aerodrome old _ e _ run.0 in
     let waits = λ (a : Answered). waits_in a.state.situation c ≡ true in
-    let g = some_flight a.state.situation c (All-head waits a answers waited) in
+    let g = some_flight a.state.situation c (All-head waits a _ waited) in
     let now = step_exactly old a.state e a.answer c sound run.0 carry low f g.0 here g.1 in
     let k = ap (λ (x : Aerodrome). x.k) same in
-    let rest = few_pass_anyone a.state events answers c g.0 next (ap (λ (x : Aerodrome). x.carry) same ∙ carry)
-    (omega arith) (All-tail IsGoodEvent e events good) run.1 g.1 (All-tail waits a answers waited) in
+    let rest = few_pass_anyone a.state events answers c g.0 next (cc)
+    (omega arith) (All-tail IsGoodEvent e _ good) run.1 g.1 (All-tail waits a _ waited) in
     omega arith

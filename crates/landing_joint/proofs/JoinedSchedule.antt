@@ -65,8 +65,8 @@ module _ (s : Situation) (sound : IsSound s) (p : lists'.Problem) (of : lists'.I
   order_kept : (v w : Schedule) → length v ≡ length p.flights → HaveSameOrder (joined s v) (joined s w)
       → HaveSameOrder v w
   order_kept v w long same i j li lj =
-      let qi : IsRank (length p.flights) (suc i) = (omega arith, omega arith) in
-      let qj : IsRank (length p.flights) (suc j) = (omega arith, omega arith) in
+      let qi : IsRank (length p.flights) (suc i) = omega arith in
+      let qj : IsRank (length p.flights) (suc j) = omega arith in
       let bi = in_numbers 0 _ _ (among s sound p of _ qi) in
       let bj = in_numbers 0 _ _ (among s sound p of _ qj) in
       let n = joined_long s sound p of v in
@@ -92,7 +92,7 @@ module _ (s : Situation) (sound : IsSound s) (p : lists'.Problem) (of : lists'.I
       waits : (v w : Schedule) → length v ≡ length p.flights → AllZip (λ a b. a ≤ b) v w → (r : ℕ)
           → IsRank (length p.flights) r → second_of (joined s v) (number_at s r) ≤ second_of
           (joined s w) (number_at s r)
-      waits v w long le zero q = absurd (omega (arith, q.0))
+      waits v w long le zero q = omega arith
       waits v w long le (suc i) q =
           let a = joined_rank s sound p of v _ q in
           let b = joined_rank s sound p of w _ q in

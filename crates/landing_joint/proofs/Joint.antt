@@ -203,8 +203,7 @@ module _ (s : Situation) (sound : IsSound s) where
                 (f.opened i (all_among i m))).1);
             separated = from (λ g. All (ArePairSeparated s.aerodrome.table g) (landings s.active t))
                 (λ i m. from (ArePairSeparated s.aerodrome.table (landing_at s.active t i)) (λ j k ne le.
-                f.separated i j (all_among i m) (all_among j k)
-                (λ e. ne (ap (λ x. (numbered s.active x).flight.callsign) e)) le));
+                f.separated i j (all_among i m) (all_among j k) (λ e. ne (cc)) le));
             in_precedence = from (λ g. All (IsPairInPrecedence g) (landings s.active t))
                 (λ i m. from (IsPairInPrecedence (landing_at s.active t i))
                 (λ j k l. f.in_order i j (all_among i m) (all_among j k) l));

@@ -188,7 +188,7 @@ module _ (s : Situation) (sound : IsSound s) (t : Schedule) (ok : IsFeasible s t
         counted = λ b e. all_from (λ (y : Active). is_lt (arrival_cmp b.flight y.flight) ≡ false
             → g + passing ≤ y.passed) (waiting changed) (λ y m ahead.
             let same = same_Some b (numbered changed.active i) (sym e ∙ n.is) in
-            counted_each y m (ap (λ (a : Active). is_lt (arrival_cmp a.flight y.flight)) (sym same) ∙ ahead));
+            counted_each y m (cc));
       }
 
     pub clock_counts_at : (g : ℕ) → ArePassedAtLeast g s c → ClockCounts s t now c f g

@@ -10,7 +10,7 @@ use Rattle.wake_table.specs.declared.category.Category.{Category}
 use Rattle.wake_table.specs.Table.{separation}
 use Rattle.landing_rules.specs.declared.objective.Objective.{Objective}
 use Rattle.landing_rules.specs.declared.objective.Objective.TheVariants.{Makespan, Delay}
-use Rattle.landing_rules.specs.Flights.{Landing, landing, Active, Situation, Schedule, waiting}
+use Rattle.landing_rules.specs.Flights.{landing, Active, Situation, Schedule, waiting}
 use Rattle.landing_rules.specs.Rules.{is_within, is_open, last_second, greatest, delay, cost, objective, IsFeasible}
 use Rattle.landing_rules.specs.Rules.{IsBest}
 use Rattle.landing_rules.specs.Events.{frozen_landings}
@@ -81,7 +81,7 @@ frozen_are (a ∷ all) =
         (cond (not (is_none o)) (0 ∷ filter (λ i. not (waits_at (a ∷ all) i)) (numbers_from 1 (length all)))
         (filter (λ i. not (waits_at (a ∷ all) i)) (numbers_from 1 (length all))))
     go None q e = e
-    go (Some u) q e = ap₂ (λ (x : Landing) (l : List Landing). x ∷ l) (ap (λ o. landing a (unwrap_or o 0)) (sym q)) e
+    go (Some u) q e = cc
 
 module _ (s : Situation) (sound : IsSound s) (p : lists'.Problem) (of : lists'.IsProblemOf s p) where
   abbrev ns : numbers.NumberedSituation
@@ -140,7 +140,7 @@ module _ (s : Situation) (sound : IsSound s) (p : lists'.Problem) (of : lists'.I
   passed_is : (r : ℕ) → (fl r).passed ≡ (numbered s.active (at r)).passed
   passed_is r = elim (rank_cases r) [
     | inl q ↦ (waiting_of r q).passed
-    | inr e ↦ ap (λ (w : lists'.Waiting). w.passed) e.1 ∙ sym (ap (λ (a : Active). a.passed) e.0)
+    | inr e ↦ ap (λ (w : lists'.Waiting). w.passed) e.1 ∙ sym (cc)
   ]
 
   open_is : (r u : ℕ) → list_any (is_within u) (fl r).open_spans ≡ (nat_le u last_second
@@ -166,7 +166,7 @@ module _ (s : Situation) (sound : IsSound s) (p : lists'.Problem) (of : lists'.I
       let listed = rw ranked_is at of.predecessors in
       let c = listed i j (numbered s.active (at (suc i))) (numbered s.active (at (suc j)))
       (slice_map _ R i _ (omega arith)) (slice_map _ R j _ (omega arith)) in
-      rw (add-one i) at (subst (λ y. must_precede p.pairs (i + 1) y ≡ ns.lists (at (suc i)) (at (suc j))) (add-one j) c)
+      rw (add-one i) at (rw (add-one j) at c)
 
   apart_is : (q r : ℕ) → separation p.table (fl q).category (fl r).category ≡ ns.apart (at q) (at r)
   apart_is q r = ap (λ t. separation t (fl q).category (fl r).category) of.table
@@ -193,10 +193,7 @@ module _ (s : Situation) (sound : IsSound s) (p : lists'.Problem) (of : lists'.I
       → ((f : ℕ) → In f ns.frozen → ns.frozen_at f ≤ ns.frozen_at i) → x ≡ i
   one_latest x i mx mi lx li = elim (cases_eq x i) [
     | inl e ↦ e
-    | inr ne ↦ absurd
-        (let a = (sound_numbered s sound).frozen_apart x i mx mi ne (li x mx) in
-        let b = lx i mi in
-        let c = (sound.table.entries (numbered s.active x).flight.category (numbered s.active i).flight.category).0 in
+    | inr ne ↦ absurd (let a = (sound_numbered s sound).frozen_apart x i mx mi ne (li x mx) in
         omega arith)
   ]
 
@@ -211,17 +208,17 @@ module _ (s : Situation) (sound : IsSound s) (p : lists'.Problem) (of : lists'.I
       (omega (arith, of.horizon)),
       λ x i late. elim (start_of r) [
         | inl e ↦ absurd (e.1 x i)
-        | inr w ↦ subst (λ z. ns.frozen_at z + ns.apart z (at r) ≤ t) (sym (one_latest x w.0 i w.1 late w.3)) (let a =
-            w.2 in omega arith)
+        | inr w ↦ subst (λ z. ns.frozen_at z + ns.apart z (at r) ≤ t) (sym (one_latest x w.0 i w.1 late w.3))
+            (omega arith)
       ],
     );
     start_high = λ r t low late. elim (start_of r) [
-      | inl e ↦ (let a = of.horizon in let b = ap (λ o. after_last p.table o (fl r).category) e.0 in omega arith)
-      | inr w ↦ (let b = w.2 in omega arith)
+      | inl e ↦ (let b = ap (λ o. after_last p.table o (fl r).category) e.0 in omega arith)
+      | inr w ↦ (omega arith)
     ];
     at_in = in_waiting;
     at_all = λ f i. let w = in_at (length s.active) R f (in_sorted s.active f ns.waiting i) in let l =
-        long_is in (w.0, (w.1.0, omega (arith, w.1.1)), w.2);
+        long_is in (w.0, (omega arith), w.2);
     at_order = λ q r iq ir lt.
         let l = long_is in
         ordered_at (comes_before s.active) (length s.active) R
@@ -235,9 +232,7 @@ module _ (s : Situation) (sound : IsSound s) (p : lists'.Problem) (of : lists'.I
   pub passed_low' : (r : ℕ) → IsRank (length p.flights) r → (fl r).passed ≤ p.k
   passed_low' r q =
       let b = in_numbers 0 _ _ (among r q) in
-      let a = sound.passed (at r) nobody (omega (arith, b.1)) in
       let c = passed_is r in
-      let d = of.k in
       omega arith
 
   -- ---- joined with the frozen
@@ -278,7 +273,7 @@ module _ (s : Situation) (sound : IsSound s) (p : lists'.Problem) (of : lists'.I
 
   by_rank_at : (t : Schedule) (r : ℕ) → IsRank (length p.flights) r
       → of_rank 0 (seconds_by_rank t) r ≡ second_of t (at r)
-  by_rank_at t zero q = absurd (omega (arith, q.0))
+  by_rank_at t zero q = omega arith
   by_rank_at t (suc i) q = numbers_get _ 0 0 _ i (omega arith) ∙ ap (λ j. second_of t (at (suc j))) (omega arith)
 
   pub joined_long : (v : Schedule) → length (joined s v) ≡ length s.active
@@ -338,20 +333,20 @@ module _ (s : Situation) (sound : IsSound s) (p : lists'.Problem) (of : lists'.I
         → greatest (map (second_of (joined s v)) (numbers_of s.active)) ≡ greatest v
     makespan_some x xs e =
         let some = ap length e in
-        let one : IsRank (length p.flights) 1 = (omega arith, omega arith) in
+        let one : IsRank (length p.flights) 1 = omega arith in
         let r1 = greatest_at v 0 (omega arith) in
         let late = each_at p v (λ r w a. p.horizon ≤ a) f.late 1 one in
         le_antisymm (map_bound _ _ _ (each_number _
         (λ r q. let a = joined_rank v r q in let b = at_greatest r q in omega arith)
         (λ i m. let a = joined_frozen v i m in let b = (sound_numbered s sound).frozen_before i m in omega arith)))
-        (greatest_bound v (greatest (map (second_of (joined s v)) (numbers_of s.active))) (λ i lt.
-        let q : IsRank (length p.flights) (suc i) = (omega arith, omega arith) in
-        let a = joined_rank v (suc i) q in
-        let b = map_at (second_of (joined s v)) (numbers_of s.active) (at (suc i)) (among (suc i) q) in
+        (greatest_bound v _ (λ i lt.
+        let q : IsRank (length p.flights) (suc i) = omega arith in
+        let a = joined_rank v _ q in
+        let b = map_at (second_of (joined s v)) _ _ (among _ q) in
         omega arith))
       where
         at_greatest : (r : ℕ) → IsRank (length p.flights) r → of_rank 0 v r ≤ greatest v
-        at_greatest zero q = absurd (omega (arith, q.0))
+        at_greatest zero q = omega arith
         at_greatest (suc i) q = greatest_at v i (omega arith)
 
     makespan_none : v ≡ [] → greatest (map (second_of (joined s v)) (numbers_of s.active)) ≡ lists'.last_frozen p.last
@@ -359,17 +354,14 @@ module _ (s : Situation) (sound : IsSound s) (p : lists'.Problem) (of : lists'.I
         let none = ap length e in
         elim (last_frozen_is s sound) [
           | inl x ↦ le_antisymm (map_bound _ _ _ (each_number _
-              (λ r q. absurd (let a = q.0 in let b = q.1 in omega arith)) (λ i m. absurd (x.1 i m))))
+              (λ r q. absurd (omega arith)) (λ i m. absurd (x.1 i m))))
               (omega (arith, ap lists'.last_frozen (of.last ∙ x.0)))
           | inr x ↦
               (let last = ap lists'.last_frozen (of.last ∙ x.2) in
               let j = joined_frozen v x.0 x.1 in
-              let m = map_at (second_of (joined s v)) (numbers_of s.active) x.0
-              (in_filter (λ y. not (waits_at s.active y)) x.0 (numbers_of s.active) x.1).0 in
-              le_antisymm (map_bound (second_of (joined s v)) (numbers_of s.active) (lists'.last_frozen p.last)
-              (each_number (λ i. second_of (joined s v) i ≤ lists'.last_frozen p.last)
-              (λ r q. absurd (let a = q.0 in let b = q.1 in omega arith)) (λ i k. let a =
-              joined_frozen v i k in let b = x.3 i k in omega arith))) (omega arith))
+              let m = map_at (second_of (joined s v)) (numbers_of s.active) x.0 (in_filter _ x.0 _ x.1).0 in
+              le_antisymm (map_bound _ _ _ (each_number _ (λ r q. absurd (omega arith)) (λ i k. let a =
+              joined_frozen v i k in omega arith))) (omega arith))
         ]
 
     -- ---- the delay
@@ -386,19 +378,18 @@ module _ (s : Situation) (sound : IsSound s) (p : lists'.Problem) (of : lists'.I
         let d : lists'.Waiting × ℕ = (no_waiting, 0) in
         let z = zip p.flights v in
         let n = length p.flights in
-        let long : length z ≡ n = let a = length-zip p.flights v in let b = f.one_each in omega arith in
+        let long : length z ≡ n = let a = length-zip p.flights v in omega arith in
         let waits = sum_by-IsPermutation D _ _ problem_of.permuted ∙ sum_map D at (upto n) in
         let listed =
         sum_by-IsPermutation _ _ z (ranks_permute d z)
-        ∙ ap (λ k. sum_by lists'.list_delay (map (of_rank d z) (upto k))) long
-        ∙ sum_map lists'.list_delay (of_rank d z) (upto n) in
+        ∙ ap (λ k. sum_by lists'.list_delay (map (of_rank d z) (upto k))) long ∙ sum_map _ _ (upto n) in
         let same = sum_agree _ _ _ (λ r i. one r (in_upto n r i)) in
-        sum_map _ _ N ∙ parts ∙ ap₂ ◌+◌ froze (waits ∙ same ∙ sym listed)
+        sum_map _ _ N ∙ parts ∙ ap₂ ◌+◌ froze (cc)
       where
         one : (r : ℕ) → IsRank (length p.flights) r
             → delay (landing_at s.active (joined s v) (at r)) ≡ lists'.list_delay
             (of_rank (no_waiting, 0) (zip p.flights v) r)
-        one zero q = absurd (omega (arith, q.0))
+        one zero q = omega arith
         one (suc i) q =
             let w = waiting_of _ q in
             ap₂ (λ (u : ℕ) (w : ℕ). (numbered s.active (at (suc i))).flight.weight * (u - w))
@@ -416,8 +407,8 @@ module _ (s : Situation) (sound : IsSound s) (p : lists'.Problem) (of : lists'.I
           where
             by : (xs : List ℕ) → v ≡ xs
                 → greatest (map (second_of (joined s v)) (numbers_of s.active)) ≡ lists'.list_cost Makespan p v
-            by [] q = makespan_none q ∙ sym (ap (lists'.list_cost Makespan p) q)
-            by (x ∷ xs) q = makespan_some x xs q ∙ ap greatest q ∙ sym (ap (lists'.list_cost Makespan p) q)
+            by [] q = makespan_none q ∙ sym (cc)
+            by (x ∷ xs) q = makespan_some x xs q ∙ ap greatest q ∙ sym (cc)
 
   -- the best lists give the best schedules
   pub best_list_schedule : (v : Schedule) → lists'.IsBestList p v → IsBest s (joined s v)
@@ -425,7 +416,6 @@ module _ (s : Situation) (sound : IsSound s) (p : lists'.Problem) (of : lists'.I
     feasible = list_gives_schedule v b.feasible;
     least = λ u f.
         let w = schedule_gives_list u f in
-        let least = b.least w.0 w.1 in
         let here = same_objective v b.feasible in
         let there = ap (objective s) w.2 ∙ same_objective w.0 w.1 in
         omega arith;

@@ -22,15 +22,15 @@ any_last p cs c e = list_any-append p cs _ ∙ or_right _ (p c || false) (rw e)
 -- a flight, a flight that waits, a closure more than there may be
 flight_too_many : (s : Situation) (plan : Option Schedule) (f : Flight) → most_flights ≤ length s.active
     → IsSound (situation_after s plan (Add f)) → ⊥
-flight_too_many s plan f many h = absurd (let l = length_push s.active (newcomer f) in omega arith)
+flight_too_many s plan f many h = absurd (omega (arith, length_push s.active (newcomer f)))
 
 waiting_too_many : (s : Situation) (plan : Option Schedule) (f : Flight) → most_waiting ≤ length (waiting s)
     → IsSound (situation_after s plan (Add f)) → ⊥
-waiting_too_many s plan f many h = absurd (let l = waiting_push s.active f in omega arith)
+waiting_too_many s plan f many h = absurd (omega (arith, waiting_push s.active f))
 
 closure_too_many : (s : Situation) (plan : Option Schedule) (span : Span) → most_closures ≤ length s.closures
     → IsSound (situation_after s plan (Close span)) → ⊥
-closure_too_many s plan span many h = absurd (let l = length_push s.closures span in omega arith)
+closure_too_many s plan span many h = absurd (omega (arith, length_push s.closures span))
 
 -- a closure over the second of a frozen flight
 covered_landing : (s : Situation) (plan : Option Schedule) (span : Span) (g : Landing) → Member g (frozen_landings s)

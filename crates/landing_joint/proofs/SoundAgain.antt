@@ -52,8 +52,7 @@ module _ (old new : Situation) (sound : IsSound old) (same : new.aerodrome ≡ o
     flights = all_from (λ (a : Active). IsGoodFlight a.flight) new.active (λ a m. (each a m).0);
     passed = all_from (λ (a : Active). a.passed ≤ new.aerodrome.k) new.active
         (λ a m. subst (λ (x : Aerodrome). a.passed ≤ x.k) (sym same) (each a m).1);
-    no_carry = λ e. all_from (λ (a : Active). a.passed ≡ 0) new.active
-        (λ a m. (each a m).2 (ap (λ (x : Aerodrome). x.carry) (sym same) ∙ e));
+    no_carry = λ e. all_from (λ (a : Active). a.passed ≡ 0) new.active (λ a m. (each a m).2 (cc));
     frozen_open = all_from (λ (f : Landing). IsTrue (is_open f.flight.windows new.closures f.second))
         (frozen_landings new) frozen.opened;
     frozen_separated = all_from (λ f. All (ArePairSeparated new.aerodrome.table f) (frozen_landings new))

@@ -106,8 +106,8 @@ event_keeps_sound s plan (Clock now) sound good feasible ok = clock_keeps_sound 
 
 pub step_keeps_sound : StepKeepsSoundLaw
 step_keeps_sound old new e None sound good step = record {
-  situation = subst IsSound (sym step.effect.changed) (event_keeps_sound old.situation old.plan e sound.situation good
-      (λ t q. (subst (IsPlanShown old.situation) q sound.shown).0.feasible) (sym step.answered));
+  situation = subst IsSound (cc) (event_keeps_sound old.situation old.plan e sound.situation good
+      (λ t q. (subst (IsPlanShown old.situation) q sound.shown).0.feasible) (cc));
   shown = step.effect.shown;
 }
 step_keeps_sound old new e (Some r) sound good step = rw step.effect sound

@@ -1,6 +1,6 @@
 -- A list of seconds by rank costs what its map does, and is best or tight where its map is.
 use Rattle.std.proofs.Common.{◌≡◌, ℕ, zero, suc, ◌+◌, ◌<◌, ◌≤◌, List, [], ◌∷◌, length, get_or, map, max, arith, refl}
-use Rattle.std.proofs.Common.{sym, ap, ap₂, ◌∙◌, le_antisymm}
+use Rattle.std.proofs.Common.{sym, ap, ap₂, ◌∙◌}
 use Rattle.std.specs.Prelude.{sum_by}
 use Rattle.std.specs.List.{AllZip, zip}
 use Rattle.std.proofs.lemmas.List.Elements.{AllZip-get_or}
@@ -47,7 +47,7 @@ module _ (p : lists'.Problem) (v : Schedule) (long : length v ≡ length p.fligh
   delay_one : (r : ℕ) → IsRank (length p.flights) r
       → lists'.list_delay (of_rank (no_waiting, 0) (zip p.flights v) r) ≡ cost_by Delay (of_rank no_waiting p.flights r)
       (of_rank 0 v r)
-  delay_one zero q = absurd (omega (arith, q.0))
+  delay_one zero q = omega arith
   delay_one (suc i) q = ap lists'.list_delay (get_or-zip _ v i (no_waiting, 0) (omega arith) (omega arith))
 
   delay_is : sum_by lists'.list_delay (zip p.flights v) ≡ total
@@ -76,15 +76,10 @@ module _ (p : lists'.Problem) (v : Schedule) (long : length v ≡ length p.fligh
           by [] [] e g = refl
           by [] (f ∷ fs) e g = absurd (omega arith)
           by (x ∷ u) [] e g = absurd (omega arith)
-          by (x ∷ u) (f ∷ fs) e g = g ∙ ap (greatest (of_rank 0 (x ∷ u))) e
+          by (x ∷ u) (f ∷ fs) e g = cc
 
       go : (o : Objective) → p.objective ≡ o → lists'.list_objective p v ≡ value_of_map p (of_rank 0 v)
-      go Makespan e =
-          ap (λ o. lists'.list_cost o p v) e ∙ makespan_is _ long
-          ∙ sym (ap (λ o. value_by o p (
-            greatest (of_rank 0 v) (length p.flights),
-            total (λ r. cost_by o (of_rank no_waiting p.flights r) (of_rank 0 v r)) (upto (length p.flights)),
-          )) e)
+      go Makespan e = ap (λ o. lists'.list_cost o p v) e ∙ makespan_is _ long ∙ sym (cc)
       go Delay e = ap (λ o. lists'.list_cost o p v) e ∙ ap (λ n. p.base + n) delay_is
           ∙ sym (ap (λ o. value_by o p (
             greatest (of_rank 0 v) (length p.flights),
@@ -104,11 +99,11 @@ pub zip_same : (xs ys : List ℕ) → AllZip (λ a b. a ≤ b) xs ys → AllZip 
 zip_same [] [] a b = refl
 zip_same [] (y ∷ ys) a b = absurd a
 zip_same (x ∷ xs) [] a b = absurd a
-zip_same (x ∷ xs) (y ∷ ys) a b = ap₂ (λ z l. z ∷ l) (le_antisymm a.0 b.0) (zip_same xs ys a.1 b.1)
+zip_same (x ∷ xs) (y ∷ ys) a b = ap₂ (λ z l. z ∷ l) (omega arith) (zip_same xs ys a.1 b.1)
 
 pub zip_rank : (xs ys : Schedule) → AllZip (λ a b. a ≤ b) xs ys → (r : ℕ) → IsRank (length xs) r
     → of_rank 0 xs r ≤ of_rank 0 ys r
-zip_rank xs ys a zero q = absurd (omega (arith, q.0))
+zip_rank xs ys a zero q = omega arith
 zip_rank xs ys a (suc i) q = AllZip-get_or _ xs ys i 0 0 a (omega (arith, q.1))
 
 -- ---- best and tight lists
@@ -129,8 +124,8 @@ module _ (p : lists'.Problem) (passed : (r : ℕ) → IsRank (length p.flights) 
 
   same_order : (v u : Schedule) → length v ≡ length p.flights → rules.HaveSameOrder v u
       → SameOrder (length p.flights) (of_rank 0 v) (of_rank 0 u)
-  same_order v u long o zero g qf qg = absurd (omega (arith, qf.0))
-  same_order v u long o (suc i) zero qf qg = absurd (omega (arith, qg.0))
+  same_order v u long o zero g qf qg = omega arith
+  same_order v u long o (suc i) zero qf qg = omega arith
   same_order v u long o (suc i) (suc j) qf qg = let w = o i j (omega arith) (omega arith) in (w.0, w.1)
 
   -- a list whose map is tight is tight

@@ -1,13 +1,12 @@
 -- No event changes the aerodrome, and where one names a flight and is accepted, the flight waits.
 use Rattle.std.proofs.Common.{◌≡◌, ℕ, Option, Some, None, refl, sym, ap, ◌∙◌, true}
 use Rattle.std.specs.Prelude.{find, option_map}
-use Rattle.std.proofs.lemmas.Bool.{false≢true}
 use Rattle.std.proofs.lemmas.Slice.Eq.{bytes_eq-Decides}
 use Rattle.landing_rules.specs.Flights.{Active, Callsign, Situation, Schedule}
 use Rattle.landing_rules.specs.Events.{Event, Clock, Frozen, named, situation_after, unknown_or_frozen}
 use Rattle.landing_rules.specs.Sound.{IsSound}
 use Rattle.landing_rules.specs.shared.Counting.{Member}
-use Rattle.landing_rules.specs.shared.Members.{found_in, none_found}
+use Rattle.landing_rules.specs.shared.Members.{found_in}
 use Rattle.landing_joint.specs.shared.Members.{differ_of, one_of_name}
 
 pub aerodrome_stays : (s : Situation) (plan : Option Schedule) (e : Event)
@@ -24,7 +23,7 @@ pub named_waits : (s : Situation) (c : Callsign) → IsSound s → unknown_or_fr
 named_waits s c h ok a m e = go _ refl ok
   where
     go : (o : Option Active) → find (named c) s.active ≡ o → unknown_or_frozen c o ≡ None → a.frozen ≡ None
-    go None q ok = absurd (false≢true (sym (none_found _ _ a q m) ∙ e))
+    go None q ok = cc
     go (Some b) q ok =
         let r = found_in _ _ b q in
         let one = one_of_name _ a b (differ_of _ h.callsigns) m r.0 (named_is c a e ∙ sym (named_is c b r.1)) in

@@ -54,7 +54,7 @@ no_later_antisym xs ys a b = (bytes_eq-Decides xs ys).0 (sym (is_eq-slice_cmp xs
     ∙ ap is_eq (go _ _ (nat_list_cmp_total.antisymm ys xs) a b))
   where
     go : (o r : Ordering) → r ≡ ordering_reverse o → is_le o ≡ true → is_le r ≡ true → o ≡ Equal
-    go Less r e h k = absurd (false≢true (sym (ap is_le e) ∙ k))
+    go Less r e h k = cc
     go Equal r e h k = refl
     go Greater r e h k = absurd (false≢true h)
 
@@ -72,7 +72,7 @@ module _ (p : lists'.Problem) (sound : SoundProblem (ranked p)) where
   in_ranks : (v : Schedule) → length v ≡ length p.flights → (r : ℕ) → In r (ranks_from 1 v)
       → IsRank (length p.flights) r
   in_ranks v long r i = let b = in_numbers 1 _ r (rw (ranks_are 1 v) at i) in
-      (b.0, omega (arith, b.1))
+      (omega arith)
 
   ranks_in : (v : Schedule) → length v ≡ length p.flights → (r : ℕ) → IsRank (length p.flights) r
       → In r (ranks_from 1 v)
@@ -80,7 +80,7 @@ module _ (p : lists'.Problem) (sound : SoundProblem (ranked p)) where
 
   differ : (t : ℕ → ℕ) → Feasible (ranked p) t → (q r : ℕ) → IsRank (length p.flights) q → IsRank (length p.flights) r
       → q ≢ r → t q ≢ t r
-  differ t f q r iq ir ne e = let b = sound.positive q r in omega arith
+  differ t f q r iq ir ne e = omega (arith, sound.positive q r)
 
   -- the ranks as a feasible list lands them
   pub list_in_landing_order : (v : Schedule) → lists'.IsFeasibleList p v
@@ -130,19 +130,18 @@ pub list_of_long : (n : ℕ) (t : ℕ → ℕ) → length (list_of n t) ≡ n
 list_of_long n t = numbers_long t 1 n
 
 pub list_of_at : (n : ℕ) (t : ℕ → ℕ) (r : ℕ) → IsRank n r → of_rank 0 (list_of n t) r ≡ t r
-list_of_at n t zero q = absurd (omega (arith, q.0))
+list_of_at n t zero q = omega arith
 list_of_at n t (suc i) q = numbers_get t 0 1 n i (omega arith) ∙ ap t (omega arith)
 
 greatest_agree : (n : ℕ) (t u : ℕ → ℕ) → ((r : ℕ) → IsRank n r → t r ≡ u r) → greatest t n ≡ greatest u n
 greatest_agree zero t u h = refl
-greatest_agree (suc n) t u h =
-    ap₂ max (h (suc n) (omega arith, omega arith)) (greatest_agree n t u (λ r q. h r (q.0, omega (arith, q.1))))
+greatest_agree (suc n) t u h = ap₂ max (omega arith) (greatest_agree n t u (λ r q. h r (omega arith)))
 
 total_agree : (cost : ℕ → ℕ → ℕ) (n : ℕ) (t u : ℕ → ℕ) → ((r : ℕ) → IsRank n r → t r ≡ u r)
     → total (λ r. cost r (t r)) (upto n) ≡ total (λ r. cost r (u r)) (upto n)
 total_agree cost zero t u h = refl
-total_agree cost (suc n) t u h = ap₂ (λ x y. x + y) (ap (cost (suc n)) (h (suc n) (omega arith, omega arith)))
-    (total_agree cost n t u (λ r q. h r (q.0, omega (arith, q.1))))
+total_agree cost (suc n) t u h = ap₂ (λ x y. x + y) (ap (cost (suc n)) (omega arith))
+    (total_agree cost n t u (λ r q. h r (omega arith)))
 
 pub value_agree : (p : lists'.Problem) (t u : ℕ → ℕ) → ((r : ℕ) → IsRank (length p.flights) r → t r ≡ u r)
     → value_of_map p t ≡ value_of_map p u
@@ -193,8 +192,8 @@ module _ (p : lists'.Problem) (sound : SoundProblem (ranked p)) (passed : (r : �
   order_listed : (v : Schedule) (u : ℕ → ℕ) → length v ≡ length p.flights → SameOrder (length p.flights) (of_rank 0 v) u
       → rules.HaveSameOrder v (list_of (length p.flights) u)
   order_listed v u long same i j li lj =
-      let qi : IsRank (length p.flights) (suc i) = (omega arith, omega arith) in
-      let qj : IsRank (length p.flights) (suc j) = (omega arith, omega arith) in
+      let qi : IsRank (length p.flights) (suc i) = omega arith in
+      let qj : IsRank (length p.flights) (suc j) = omega arith in
       let ei = list_of_at _ u _ qi in
       let ej = list_of_at _ u _ qj in
       let o = same (suc i) (suc j) qi qj in

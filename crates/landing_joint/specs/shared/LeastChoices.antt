@@ -216,7 +216,7 @@ module _ (p : lists'.Problem) (sound : SoundProblem (ranked p)) (passed : (r : �
         let fl = feasible_lands _ u sound fu in
         let same = ranks_at u rs in
         let value_us = ap (value_at p) (pair_all _ (cost_at p) sound u rs fl) ∙ at_value.1 in
-        let w = within_by _ us (rw same fl.legal) fl.landed (ap length same ∙ fl.whole) (omega (arith, value_us)) in
+        let w = within_by _ us (rw same fl.legal) fl.landed (cc) (omega (arith, value_us)) in
         let n = length_ranks xs in
         let c = built_goes_on _ sound _ (is_first_open p) _ (costs_rise p) _ _ _ (λ rs. refl) _ _ _ (net p sound)
         _ (lower_by v _) _ kept_in _ u fu w.0 w.1 xs b.0 b.1 (λ e. omega arith) in

@@ -46,7 +46,7 @@ differ_of (x ∷ xs) h =
 
 pub differ_pairs : (xs : List Active) → Differ (callsigns xs)
     → AllPairs (λ a b. a.flight.callsign ≢ b.flight.callsign) xs
-differ_pairs [] h = λ i j d lt le. absurd (omega arith)
+differ_pairs [] h = omega arith
 differ_pairs (x ∷ xs) h =
     let R : Active → Active → Type 0 = λ a b. a.flight.callsign ≢ b.flight.callsign in
     AllPairs-cons R x xs (all_from _ xs (λ y m. h.0 y.flight.callsign (map_in _ xs y m))) (differ_pairs xs h.1)
@@ -56,8 +56,6 @@ pub one_of_name : (xs : List Active) (a b : Active) → Differ (callsigns xs) �
     → a.flight.callsign ≡ b.flight.callsign → a ≡ b
 one_of_name [] a b d m n e = absurd m
 one_of_name (x ∷ xs) a b d (inl p) (inl q) e = p ∙ sym q
-one_of_name (x ∷ xs) a b d (inl p) (inr n) e = absurd (d.0 b.flight.callsign (map_in _ xs b n)
-    (ap (λ (z : Active). z.flight.callsign) (sym p) ∙ e))
-one_of_name (x ∷ xs) a b d (inr m) (inl q) e = absurd
-    (d.0 a.flight.callsign (map_in _ xs a m) (ap (λ (z : Active). z.flight.callsign) (sym q) ∙ sym e))
+one_of_name (x ∷ xs) a b d (inl p) (inr n) e = absurd (d.0 b.flight.callsign (map_in _ xs b n) (cc))
+one_of_name (x ∷ xs) a b d (inr m) (inl q) e = absurd (d.0 a.flight.callsign (map_in _ xs a m) (cc))
 one_of_name (x ∷ xs) a b d (inr m) (inr n) e = one_of_name xs a b d.1 m n e

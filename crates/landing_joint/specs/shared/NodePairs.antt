@@ -32,7 +32,7 @@ same_member x rs os h = go _ _ refl refl
 
 pub node_is : (m n : ℕ) (ds es : List Bool) (q r : ℕ) → m ≡ n → ds ≡ es → q ≡ r
     → ◌≡◌ {A = PatternNode} (m, ds, q) (n, es, r)
-node_is m n ds es q r a b c = ap (λ x. (x, ds, q)) a ∙ ap (λ x. (n, x, q)) b ∙ ap (λ x. (n, es, x)) c
+node_is m n ds es q r a b c = cc
 
 module _ (p : Problem) (sound : SoundProblem (ranked p)) where
   ones : (a r : ℕ) → (ranked p).rules.before a r ≡ true → 1 ≤ a

@@ -27,10 +27,9 @@ pub feasible_agree : (f : RankedProblem) (t u : ℕ → ℕ) → ((r : ℕ) → 
 feasible_agree f t u h g = record {
   opened = λ r q. subst (λ x. f.is_open r x ≡ true) (h r q) (g.opened r q);
   started = λ r q. let a = g.started r q in let b = h r q in omega arith;
-  separated = λ r q ir iq ne le. let a = h r ir in let b = h q iq in let c =
-      g.separated r q ir iq ne (omega arith) in omega arith;
+  separated = λ r q ir iq ne le. let a = h r ir in let b = h q iq in omega arith;
   in_order = λ r q ir iq b. let a = h r ir in let d = g.in_order r q ir iq b in omega arith;
-  not_early = λ r q. let a = g.not_early r q in let b = earlier_agree f.rules.count t u h r q in omega arith;
+  not_early = λ r q. let b = earlier_agree f.rules.count t u h r q in omega arith;
   not_late = λ r q. let b = earlier_agree f.rules.count t u h r q in omega arith;
 }
 
@@ -49,7 +48,7 @@ module _ (p : lists'.Problem) where
       let lt = slice_get_within _ i f e in
       let is = get_or_from_slice_get _ i f _ e in
       subst (λ g. P (i + 1) g (slice_index v i)) is
-      (subst (λ r. P r (fl (suc i)) (of_rank 0 v (suc i))) (sym (add-one i)) (h (suc i) (omega arith, omega arith)))
+      (subst (λ r. P r (fl (suc i)) (of_rank 0 v (suc i))) (sym (add-one i)) (omega arith))
 
   pub place_is : (v : Schedule) → length v ≡ length p.flights → (r : ℕ)
       → lists'.place_in v (of_rank 0 v r) ≡ suc (earlier (length p.flights) (of_rank 0 v) r)

@@ -69,8 +69,8 @@ pub ascends_same : (t u : ℕ → ℕ) (rs : List ℕ) → Ascends t rs → Asce
     → In g rs → t f < t g → u f < u g
 ascends_same t u [] d e f g i j lt = absurd i
 ascends_same t u (x ∷ rs) d e f g (inl s) (inl s') lt = absurd (let a = ap t s in let b = ap t s' in omega arith)
-ascends_same t u (x ∷ rs) d e f g (inl s) (inr j) lt = let a = ap u s in omega arith
-ascends_same t u (x ∷ rs) d e f g (inr i) (inl s) lt = absurd (let a = ap t s in omega arith)
+ascends_same t u (x ∷ rs) d e f g (inl s) (inr j) lt = omega (arith, ap u s)
+ascends_same t u (x ∷ rs) d e f g (inr i) (inl s) lt = absurd (omega (arith, ap t s))
 ascends_same t u (x ∷ rs) d e f g (inr i) (inr j) lt = ascends_same t u rs d.1 e.1 f g i j lt
 
 -- a list is told by its image where no two of it have one image
