@@ -46,8 +46,11 @@ module _ (s : Situation) (sound : IsSound s) where
     finds : (x : Landing) → Member x (landings s.active t) → Found s x
     finds x m =
         let w = of_number x m in
-        let b = in_numbers 0 _ w.0 w.1 in
-        rw w.2 (numbered s.active w.0, find_first _ sound.callsigns w.0 (omega (arith, b.1)), refl)
+        rw w.2 (
+          numbered s.active w.0,
+          find_first _ sound.callsigns w.0 (omega (arith, (in_numbers 0 _ w.0 w.1).1)),
+          refl,
+        )
 
     unique : (x y : Landing) → Member x (landings s.active t) → Member y (landings s.active t)
         → x.flight.callsign ≡ y.flight.callsign → x ≡ y
@@ -75,21 +78,20 @@ module _ (s : Situation) (sound : IsSound s) where
       let strict = strict_order Ms (rw (landings_are _ t f.0) (each_map _ _ _ (distinct_numbers 0 _) apart)) in
       let missing0 = none_broken _ _ _ (λ a m.
       let w = member_number a _ m in
-      let n = numbers_in 0 _ w.0 zero-le (omega (arith, w.1)) in
       ap (λ (z : Active). has_line lines z.flight.callsign) w.2 ∙ member_line _ _ (map_in _ S _
-      (member_order _ Ms (number_of t f.0 w.0 n)))) in
+      (member_order _ Ms (number_of t f.0 w.0 (numbers_in 0 _ w.0 zero-le (omega (arith, w.1))))))) in
       let unknown0 = none_broken _ _ _ (λ l m. let w = in_map _ S l m in let x = fs w.0 w.1 in
       ap (λ (z : ShownLanding). list_any (named z.callsign) s.active) w.2 ∙ found_any _ s.active x.0 x.1) in
       let twice0 = none_twice [] lines (λ l m. refl)
       (each_lines S strict (λ x y i j e. unique t f.0 x y (order_member x Ms i) (order_member y Ms j) e)) in
       let is = lines_landings s S fs in
       let rules0 = ap (by_rules s) is ∙ kept_rules s S (rules-moved s Ms S (order_permutes Ms) (filter_order Ms) f.1) in
-      let word0 = ap (λ c. cond c [] (OtherObjective ∷ [])) (same_refl _) in
       let same = ap (cost s.aerodrome.objective) is ∙ cost_order _ Ms in
       let value0 =
       ap (λ c. cond c [] (Value (cost s.aerodrome.objective (block_landings s.active lines)) ∷ [])) (eq-eqb _ _ same) in
       ap₂ or_else (nil_append _ _ missing0 (nil_append _ _ unknown0 twice0)) (nil_append _ _ (strict_lines S strict)
-      (nil_append _ _ (lines_marks s S fs) (nil_append _ _ rules0 (nil_append _ _ word0 value0))))
+      (nil_append _ _ (lines_marks s S fs)
+      (nil_append _ _ rules0 (nil_append _ _ (ap (λ c. cond c [] (OtherObjective ∷ [])) (same_refl _)) value0))))
 
   -- ---- and back
 
@@ -161,9 +163,8 @@ module _ (s : Situation) (sound : IsSound s) where
       let r3 = append_nil _ _ r2.1 in
       let r4 = append_nil _ _ r3.1 in
       let has = broken_none _ _ _ n1.0 in
-      let named_all = broken_none _ _ _ n2.0 in
       let each = (twice_none [] b.plan.landings n2.1).1 in
-      let is_lines = landings_lines s _ named_all r2.0 in
+      let is_lines = landings_lines s _ (broken_none _ _ _ n2.0) r2.0 in
       let strict = lines_strict L (ap disordered is_lines ∙ r1.0) in
       let F = λ (a : Active). second_in b.plan.landings a.flight.callsign in
       let t = map F _ in
@@ -192,8 +193,7 @@ module _ (s : Situation) (sound : IsSound s) where
       (λ x m. back x (order_member x Ms m)) in
       let keeps = rules_kept s L (λ f m.
       let w = block_member _ f m in
-      let k = find_some _ _ w.1 w.3 in
-      let n = member_number w.1 _ k.0 in
+      let n = member_number w.1 _ (find_some _ _ w.1 w.3).0 in
       rw w.4 (rw n.2 (sound.flights n.0 nobody n.1).windows.spans)) r3.0 in
       let feasible : IsFeasible s t = (
         length-map _ F,
@@ -201,13 +201,11 @@ module _ (s : Situation) (sound : IsSound s) where
             (IsPermutation-sym (filter _ Ms) (filter _ S) (filter_order Ms)) (rw E at keeps),
       ) in
       let word_is = same_true _ _ (one_nil _ _ r4.0) in
-      let value_is = eqb-true _ _ (one_nil _ _ r4.1) in
-      let total = sym value_is ∙ ap (cost s.aerodrome.objective) E ∙ cost_order _ Ms in
-      let text = sym is_lines ∙ ap (map _) E in (
+      let total = sym (eqb-true _ _ (one_nil _ _ r4.1)) ∙ ap (cost s.aerodrome.objective) E ∙ cost_order _ Ms in (
         t,
         feasible,
         ap₂ (λ (o : Objective) (v : ℕ). made_block o v b.plan.landings) word_is total
-            ∙ ap (made_block _ (objective s t)) text,
+            ∙ ap (made_block _ (objective s t)) (sym is_lines ∙ ap (map _) E),
       )
 
 pub audit_law : AuditLaw

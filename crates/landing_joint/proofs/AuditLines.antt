@@ -180,14 +180,13 @@ landings_lines s (l ∷ ls) h e =
     let test = λ (y : ShownLanding × Active). is_marked y in
     let made = λ (y : ShownLanding × Active). Mark _ in
     let w = any_found _ s.active (h l (inl refl)) in
-    let m = find_some _ _ w.0 w.1 in
     let e' =
     sym (ap (λ o. for_failing test made (cons_option (option_map (λ a. (l, a)) o) (lines_found s.active ls))) w.1)
     ∙ e in
     let t = marked l w.0 _ e' in
     ap (λ o. map shown_landing (map landing_of (cons_option (option_map (λ a. (l, a)) o) (lines_found s.active ls))))
     w.1 ∙ ap₂ (λ (y : ShownLanding) (k : List ShownLanding). y ∷ k)
-    (ap₂ (λ (c : Callsign) (b : Bool). record l { callsign = c; frozen = b }) m.1 (sym t.0))
+    (ap₂ (λ (c : Callsign) (b : Bool). record l { callsign = c; frozen = b }) (find_some _ _ w.0 w.1).1 (sym t.0))
     (landings_lines s ls (λ k i. h k (inr i)) t.1)
   where
     marked : (l : ShownLanding) (a : Active) (rest : List Finding)

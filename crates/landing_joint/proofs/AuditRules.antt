@@ -39,9 +39,8 @@ rules_kept s all good e =
     let d = append_nil _ _ c.1 in
     let g = append_nil _ _ d.1 in
     let opened = broken_none _ _ all a.0 in
-    let pairs = pairs_none _ _ all b.0 in
     let sep : (f h : Landing) → Member f all → Member h all → ArePairSeparated s.aerodrome.table f h =
-    λ f h i j. separated f h (each_pair _ all pairs f h i j) in
+    λ f h i j. separated f h (each_pair _ all (pairs_none _ _ all b.0) f h i j) in
     record {
       in_days = all_from (λ f. f.second ≤ last_second) all
           (λ f m. open_in_days f.flight.windows s.closures f.second (good f m) (opened f m));

@@ -150,15 +150,13 @@ module _ (s : Situation) (sound : IsSound s) where
         | inr w ↦
             (let v = frozen_member w.0 _ (order_member w.0 fl w.1) in
             let i = v.0 in
-            let n = numbers_in 0 (length s.active) i zero-le (omega arith) in
-            let m = filter_in _ i _ n (cc) in
+            let m = filter_in _ i _ (numbers_in 0 (length s.active) i zero-le (omega arith)) (cc) in
             let at = ap (λ o. unwrap_or o 0) v.3 in
             let sec = ap (λ (g : Landing). g.second) v.4 ∙ sym at in
-            let cat = ap (λ (g : Landing). g.flight.category) v.4 in
             inr (
               i,
               m,
-              w.2 ∙ ap₂ (λ (x : ℕ) (y : Category). Some (x, y)) sec cat,
+              w.2 ∙ ap₂ (λ (x : ℕ) (y : Category). Some (x, y)) sec (ap (λ (g : Landing). g.flight.category) v.4),
               λ j k. rw sec at (frozen_each s sound (λ g. g.second ≤ w.0.second)
                   (all_from _ fl (λ g k. w.3 g (member_order g fl k))) j k),
             ))

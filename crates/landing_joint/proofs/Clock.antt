@@ -129,10 +129,10 @@ module _ (s : Situation) (sound : IsSound s) (t : Schedule) (f : IsFeasible s t)
       (second_of t i) (min s.aerodrome.k ((numbered s.active i).passed + count_passing i))
       (nat_lt (second_of t i) h) s.aerodrome.carry (numbered after i)
   at_after i m =
-      let b = in_numbers 0 _ i m in
       let e =
       ap (λ l. numbered l i) after_is ∙ numbers_get _ _ 0
-      (length s.active) i (omega (arith, b.1)) ∙ ap (λ j. after_clock s.aerodrome h all (landing_at s.active t j))
+      (length s.active) i (omega (arith, (in_numbers 0 _ i m).1)) ∙ ap
+      (λ j. after_clock s.aerodrome h all (landing_at s.active t j))
       (omega arith) in
       rw e (froze _ _ _ _ _ _ _)
 
@@ -152,9 +152,9 @@ module _ (s : Situation) (sound : IsSound s) (t : Schedule) (f : IsFeasible s t)
       let fl = (numbered s.active i).flight in
       let L = landing_at s.active t in
       let N = numbers_of s.active in
-      let front = filter _ N in
       let a = ap (filter _) (landings_are _ t f.0) ∙ filter_map_is _ L N in
-      ap (count_by (λ (g : Landing). is_lt (arrival_cmp fl g.flight))) a ∙ count_by_map _ L front ∙ count_by_agree _ _ _
+      ap (count_by (λ (g : Landing). is_lt (arrival_cmp fl g.flight))) a ∙ count_by_map _ L (filter _ N) ∙
+      count_by_agree _ _ _
       (λ j k. sym (comes_is s sound i j m (in_filter (λ x. waits_at s.active x && nat_lt (second_of t x) h) j N k).0))
       ∙ ap (count_by (λ j. comes_before s.active i j)) (sym (filter_twice _ _ N))
 
@@ -174,14 +174,15 @@ module _ (s : Situation) (sound : IsSound s) (t : Schedule) (f : IsFeasible s t)
       → (u ≡ second_of t i) × (second_of t i < h)
   frozen_after i m u e = elim (cases_Bool _) [
     | inl w ↦
-        (let gone = ap is_none e in
-        let lt = early _ _ w (sym gone ∙ (at_after i m).waits) in
-        (some_same u _ (sym e ∙ (at_after i m).second gone w), ltb-true _ h lt))
+        (let gone = ap is_none e in (
+          some_same u _ (sym e ∙ (at_after i m).second gone w),
+          ltb-true _ h
+              (early _ _ w (sym gone ∙ (at_after i m).waits)),
+        ))
     | inr w ↦
-        (let o = sym ((at_after i m).was w) ∙ e in
-        let j = filter_in _ i _ m (ap not w) in
+        (let j = filter_in _ i _ m (ap not w) in
         let k = fn.kept i j in
-        let k' = k ∙ ap (λ x. unwrap_or x 0) o in
+        let k' = k ∙ ap (λ x. unwrap_or x 0) (sym ((at_after i m).was w) ∙ e) in
         let b = (sound_numbered s sound).frozen_before i j in
         (omega arith))
   ]
@@ -234,10 +235,10 @@ module _ (s : Situation) (sound : IsSound s) (t : Schedule) (f : IsFeasible s t)
     callsigns = λ i j d lt ltj e.
         let mi = in_after i (omega arith) in
         let mj = in_after j ltj in
-        let ei = get_or_default after i d nobody (omega arith) in
         let ej = get_or_default after j d nobody ltj in
         callsigns_differ s sound i j mi mj (λ x. omega arith)
-        (ap (λ (x : Flight). x.callsign) (sym (same_flight i mi)) ∙ ap (λ (a : Active). a.flight.callsign) (sym ei)
+        (ap (λ (x : Flight). x.callsign) (sym (same_flight i mi)) ∙ ap (λ (a : Active). a.flight.callsign)
+        (sym (get_or_default after i d nobody (omega arith)))
         ∙ e ∙ ap (λ (a : Active). a.flight.callsign) ej ∙ ap (λ (x : Flight). x.callsign) (same_flight j mj));
     few_active = let a = sound.few_active in let b = length_after in omega arith;
     few_waiting = let a = sound.few_waiting in let b = few_after in omega arith;
@@ -253,8 +254,7 @@ module _ (s : Situation) (sound : IsSound s) (t : Schedule) (f : IsFeasible s t)
           ]
         ]);
     no_carry = λ c. each_after (λ a. a.passed ≡ 0) (λ i m.
-        let b = in_numbers 0 (length s.active) i m in
-        let o = sound.no_carry c i nobody (omega (arith, b.1)) in
+        let o = sound.no_carry c i nobody (omega (arith, (in_numbers 0 (length s.active) i m).1)) in
         elim (at_after i m).passed [
           | inl e ↦ e ∙ o
           | inr x ↦ elim x [ inl e ↦ e | inr y ↦ absurd (cc) ]
@@ -348,9 +348,9 @@ module _ (s : Situation) (sound : IsSound s) (t : Schedule) (f : IsFeasible s t)
         (ap₂ (λ (y : Flight) (x : Flight). lists y x.callsign) (sym (same_flight j b)) (sym (same_flight i a)) ∙ l);
     shifted = λ i m.
         let w = late_after i m in
-        let v = filter_in (waits_at s.active) i (numbers_of s.active) w.0 w.1 in
         let k = stays_shifted (comes_before s.active) (first_come s.active)
-        (second_of t) ns.waiting s.aerodrome.k h ns.back (sound_numbered s sound).differ fn.shifted i v w.2 in
+        (second_of t) ns.waiting s.aerodrome.k h ns.back (sound_numbered s sound).differ fn.shifted i
+        (filter_in (waits_at s.active) i (numbers_of s.active) w.0 w.1) w.2 in
         let r = rank_after i w.0 in
         let p = place_after i in
         let b = less_back i w.0 in
@@ -389,12 +389,10 @@ clock_keeps_plan s t now sound f e =
 pub clock_shows_plan : ClockShowsPlanLaw
 clock_shows_plan old new now t sound shown e step =
     let s = old.situation in
-    let before = rw shown at sound.shown in
-    let kept = clock_keeps_plan s t now sound.situation before.0.feasible e in
+    let kept = clock_keeps_plan s t now sound.situation (rw shown at sound.shown).0.feasible e in
     let is = step.changed ∙ ap (λ p. situation_after s p (Clock now)) shown in
-    let there = subst (λ x. IsFeasible x t) (sym is) kept.feasible in
     let same = ap (λ x. objective x t) is ∙ kept.objective in
-    go _ refl step.shown there same
+    go _ refl step.shown (subst (λ x. IsFeasible x t) (sym is) kept.feasible) same
   where
     go : (p : Option Schedule) → new.plan ≡ p → IsPlanShown new.situation p → IsFeasible new.situation t
         → objective new.situation t ≡ objective old.situation t → (u : Schedule) × (new.plan ≡ Some u)

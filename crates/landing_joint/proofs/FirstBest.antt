@@ -277,12 +277,11 @@ module _ (s : Situation) (sound : IsSound s) (p : lists'.Problem) (of : lists'.I
         zip_of v u (omega arith) (λ i lt.
         let q : IsRank (length p.flights) (suc i) = omega arith in
         let b = in_numbers 0 (length s.active) (number_at s (suc i)) (joint.among s sound p of (suc i) q) in
-        let n = joint.joined_long s sound p of v in
         let le =
-        AllZip-get_or (λ a b. a ≤ b) (joined s v) (joined s u) (number_at s (suc i)) 0 0 z (omega (arith, b.1, n)) in
-        let a = joint.joined_rank s sound p of v (suc i) q in
+        AllZip-get_or (λ a b. a ≤ b) (joined s v) (joined s u) (number_at s (suc i)) 0 0 z
+        (omega (arith, b.1, joint.joined_long s sound p of v)) in
         let c = joint.joined_rank s sound p of u (suc i) q in
-        omega (arith, a, c, le));
+        omega (arith, joint.joined_rank s sound p of v (suc i) q, c, le));
   }
 
   -- the first best list gives the first best schedule

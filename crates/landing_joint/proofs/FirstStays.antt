@@ -90,7 +90,6 @@ module _ (comes_before : ℕ → ℕ → Bool) (order : FirstCome comes_before) 
     few_overtook_first m i first =
         let early = λ (g : ℕ). nat_lt (t g) h in
         let froze = frozen_of t h waiting in
-        let stay = staying_of t h waiting in
         let at = stays m i in
         let s = shift m at.0 in
         let a = count_is (λ g. comes_before g m) waiting in
@@ -98,10 +97,9 @@ module _ (comes_before : ℕ → ℕ → Bool) (order : FirstCome comes_before) 
         let c = count_is (λ g. comes_before m g) froze in
         let ranks = count_parts (λ g. comes_before g m) early waiting in
         let places = count_parts (λ g. nat_lt (t g) (t m)) early waiting in
-        let none = count_none _ stay (λ g j e. false≢true (sym (first g j) ∙ e)) in
+        let none = count_none _ (staying_of t h waiting) (λ g j e. false≢true (sym (first g j) ∙ e)) in
         let split = count_split _ _ _ froze (λ g j.
-        let w = in_filter early g _ j in
-        let lt = ltb-true (t g) h w.1 in
+        let lt = ltb-true (t g) h (in_filter early g _ j).1 in
         let yes' = lt-ltb (t g) (t m) (omega arith) in
         elim (cases_Bool _) [
           | inl q ↦ inr (inl (yes', order.one_way m g q, q))
@@ -151,9 +149,9 @@ module _ (comes_before : ℕ → ℕ → Bool) (order : FirstCome comes_before) 
       more : f ≢ m → overtook comes_before t h waiting f < overtook comes_before t (t m) waiting m
       more ne =
           let apart' = apart f m i j ne in
-          let out = ap (λ b. b && comes_before f f) (le-ltb _ h stays_f) in
           let within = and_from _ _ (lt-ltb _ _ (omega arith)) (order.total f m ne ahead) in
-          let w = count_stricter _ _ f _ i out within (λ g n e. among g e) in
+          let w = count_stricter _ _ f _ i (ap (λ b. b && comes_before f f) (le-ltb _ h stays_f)) within
+          (λ g n e. among g e) in
           let a = overtook_is h f in
           let b = overtook_is (t m) m in
           omega arith

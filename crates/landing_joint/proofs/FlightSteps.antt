@@ -67,8 +67,7 @@ re_estimated s plan c eta windows h good ok =
     (λ a m. let r = in_map f _ a m in rw r.2 (well r.0 (each_of s h r.0 r.1)))
     (fewer_frozen s new h refl refl (omega arith) (λ g m. let r = in_frozen _ g m in let q = in_map f _ r.0 r.2 in
     let was = sym (estimate_frozen c eta _ q.0) ∙ ap (λ (z : Active). z.frozen) (sym q.2) ∙ r.3 in
-    let same = q.2 ∙ still q.0 q.1 r.1 was in
-    subst (λ z. Member z (frozen_landings s)) (ap (λ z. landing z r.1) (sym same) ∙ sym r.4)
+    subst (λ z. Member z (frozen_landings s)) (ap (λ z. landing z r.1) (sym (q.2 ∙ still q.0 q.1 r.1 was)) ∙ sym r.4)
     (frozen_in _ q.0 r.1 q.1 was))
     (λ a m. let r = in_filter _ _ a m in let q = in_map f _ a r.0 in (
       q.0,
@@ -81,18 +80,7 @@ re_estimated s plan c eta windows h good ok =
         × ((estimated c eta windows a).passed ≤ s.aerodrome.k)
         × (s.aerodrome.carry ≡ false → (estimated c eta windows a).passed ≡ 0)
     well a w = elim (cases_Bool (named c a)) [
-      | inl e ↦ rw e (
-        record {
-          callsign = w.0.callsign;
-          eta = good.0;
-          weight = w.0.weight;
-          windows =
-              good.1;
-          after = w.0.after;
-        },
-        w.1,
-        w.2,
-      )
+      | inl e ↦ rw e (search)
       | inr e ↦ rw e w
     ]
 
@@ -155,8 +143,7 @@ added s plan f h good ok =
       | inr e ↦ absurd (cc)
     ] in
     sound_again s new h refl (differ_push _ _ (differ_of _ h.callsigns)
-    (λ x m e. let n = none_any (named f.callsign) _ x p.0 m in let y =
-    (bytes_eq-Decides _ _).1 e in false≢true (sym n ∙ y)))
+    (λ x m e. let n = none_any (named f.callsign) _ x p.0 m in false≢true (sym n ∙ ((bytes_eq-Decides _ _).1 e))))
     (omega (arith, length_push s.active (newcomer f), p.1)) (let l =
     waiting_push s.active f in omega (arith, p.2)) h.few_closures
     (λ a m. elim (in_push _ _ a m) [

@@ -84,8 +84,7 @@ module _ (old new : Situation) (sound : IsSound new) (c : Callsign) (g : ℕ) (s
       → is_lt (arrival_cmp x.flight f.flight) ≡ true → g ≤ x.passed
   least_ahead f x e m q =
       let d = x.flight.callsign in
-      let now = ap₂ is_ahead (is_found new sound d x m refl) e ∙ q in
-      let was = ahead_parts _ _ (line.nobody_new d now) in
+      let was = ahead_parts _ _ (line.nobody_new d (ap₂ is_ahead (is_found new sound d x m refl) e ∙ q)) in
       let a = was.0 in
       let ma = found old d a was.2 in
       let l = at_old _ a was.3 ma.0 (one_way a.flight was.1.flight was.4) in
@@ -97,8 +96,7 @@ module _ (old new : Situation) (sound : IsSound new) (c : Callsign) (g : ℕ) (s
       → g ≤ x.passed) _ (λ x m q. elim (cases_Bool _) [
         | inl b ↦ least_itself x m (named_is c x b)
         | inr b ↦ least_ahead f x e m (ahead_of f.flight x.flight (λ s.
-            let mf = found new c f e in
-            false≢true (sym b ∙ (bytes_eq-Decides _ c).1 (sym s ∙ mf.1))) q)
+            false≢true (sym b ∙ (bytes_eq-Decides _ c).1 (sym s ∙ (found new c f e).1))) q)
       ])
 
 -- of one name one waits
@@ -114,8 +112,7 @@ same_cancelled : (s : Situation) (plan : Option Schedule) (c : Callsign) → IsS
     → SameCounts s (situation_after s plan (Cancel c))
 same_cancelled s plan c sound x a m n e =
     let w = in_filter _ _ x m in
-    let v = in_filter _ _ x w.0 in
-    ap (λ (z : Active). z.passed) (one_waits s sound x a (filter_in _ s.active x v.0 w.1) n (sym e))
+    ap (λ (z : Active). z.passed) (one_waits s sound x a (filter_in _ s.active x (in_filter _ _ x w.0).0 w.1) n (sym e))
 
 estimate_passed : (c : Callsign) (eta : ℕ) (windows : List Span) (a : Active)
     → (estimated c eta windows a).passed ≡ a.passed
@@ -124,9 +121,8 @@ estimate_passed c eta windows a = elim (cases_Bool (named c a)) [ inl e ↦ rw e
 same_estimated : (s : Situation) (plan : Option Schedule) (c : Callsign) (eta : ℕ) (windows : List Span)
     → IsSound s → SameCounts s (situation_after s plan (Estimate c eta windows))
 same_estimated s plan c eta windows sound x a m n e =
-    let f = estimated c eta windows in
     let w = in_filter _ _ x m in
-    let r = in_map f _ x w.0 in
+    let r = in_map (estimated c eta windows) _ x w.0 in
     let waits = ap is_none (sym (estimate_frozen c eta _ r.0)) ∙ ap is_waiting (sym r.2) ∙ w.1 in
     let name = sym (estimate_callsign c eta _ r.0) ∙ ap (λ (z : Active). z.flight.callsign) (sym r.2) ∙ sym e in
     ap (λ (z : Active). z.passed) r.2 ∙ estimate_passed c eta _ r.0
@@ -140,8 +136,8 @@ same_added s plan f sound ok x a m n e =
     elim (in_push _ _ x w.0) [
       | inl q ↦ ap (λ (z : Active). z.passed) (one_waits s sound x a (filter_in _ s.active x q w.1) n (sym e))
       | inr q ↦
-          let absent = none_any (named f.callsign) _ a p.0 (in_filter _ s.active a n).0 in
-          absurd (false≢true (sym absent ∙ (bytes_eq-Decides _ _).1 (e ∙ ap (λ (z : Active). z.flight.callsign) q)))
+          absurd (false≢true (sym (none_any (named f.callsign) _ a p.0 (in_filter _ s.active a n).0) ∙
+          (bytes_eq-Decides _ _).1 (e ∙ ap (λ (z : Active). z.flight.callsign) q)))
     ]
 
 -- ---- an accepted event
@@ -227,8 +223,8 @@ run_counted old (e ∷ events) (a ∷ answers) c g sound carry good run here lin
     let d = passing_in_step old e a.answer c in
     let now = step_counted old _ e _ c g sound (All-head IsGoodEvent e _ good) run.0 carry here line.0 so_far in
     let now' = subst (λ (x : Aerodrome). Counted x.k c a.state.situation (g + d)) (sym same) now in
-    let rest = run_counted _ events answers c (g + d) next (cc)
-    (All-tail IsGoodEvent e events good) run.1 line.0.waits line.1 now' in
+    let rest = run_counted _ events _ c (g + d) next (cc)
+    (All-tail IsGoodEvent e _ good) run.1 line.0.waits line.1 now' in
     let k = ap (λ (x : Aerodrome). x.k) same in
     omega arith
 
@@ -324,8 +320,7 @@ step_exactly : (old new : State) (e : Event) (answer : Option Refusal) (c : Call
     → Step old e answer new → old.situation.aerodrome.carry ≡ true → old.situation.aerodrome.k ≤ 1
     → CountsExactly old e answer new c
 step_exactly old new e (Some r) c sound step carry low f g here later =
-    let same = ap (λ (z : Active). z.passed) (same_Some f g (cc)) in
-    omega arith
+    omega (arith, ap (λ (z : Active). z.passed) (same_Some f g (cc)))
 step_exactly old new e None c sound step carry low f g here later =
     event_exactly old.situation old.plan e c sound.situation
     (λ t q. (rw q at sound.shown).0.feasible) carry low (cc) f g here (cc)

@@ -67,16 +67,16 @@ module _ (s : Situation) (sound : IsSound s) (p : lists'.Problem) (of : lists'.I
   order_kept v w long same i j li lj =
       let qi : IsRank (length p.flights) (suc i) = omega arith in
       let qj : IsRank (length p.flights) (suc j) = omega arith in
-      let bi = in_numbers 0 _ _ (among s sound p of _ qi) in
       let bj = in_numbers 0 _ _ (among s sound p of _ qj) in
       let n = joined_long s sound p of v in
-      let o = same (number_at s (suc i)) (number_at s (suc j)) (omega (arith, bi.1, n)) (omega (arith, bj.1, n)) in
+      let o = same (number_at s (suc i)) (number_at s (suc j))
+      (omega (arith, (in_numbers 0 _ _ (among s sound p of _ qi)).1, n)) (omega (arith, bj.1, n)) in
       let vi = joined_rank s sound p of v _ qi in
       let vj = joined_rank s sound p of v _ qj in
       let wi = joined_rank s sound p of w _ qi in
       let wj = joined_rank s sound p of w _ qj in (
         λ lt. let a = o.0 (omega (arith, vi, vj, lt)) in omega (arith, wi, wj, a),
-        λ lt. let a = o.1 (omega (arith, wi, wj, lt)) in omega (arith, vi, vj, a),
+        λ lt. omega (arith, vi, vj, o.1 (omega (arith, wi, wj, lt))),
       )
 
   earlier_kept : (v w : Schedule) → length v ≡ length p.flights → AllZip (λ a b. a ≤ b) v w
@@ -105,7 +105,7 @@ module _ (s : Situation) (sound : IsSound s) (p : lists'.Problem) (of : lists'.I
     feasible = list_gives_schedule s sound p of v t.feasible;
     earliest = λ u f o.
         let w = schedule_gives_list s sound p of u f in
-        let same = subst (λ x. HaveSameOrder (joined s v) x) w.2 o in
         subst (λ x. AllZip (λ a b. a ≤ b) (joined s v) x) (sym w.2)
-        (earlier_kept v w.0 t.feasible.one_each (t.earliest w.0 w.1 (order_kept v w.0 t.feasible.one_each same)));
+        (earlier_kept v w.0 t.feasible.one_each
+        (t.earliest w.0 w.1 (order_kept v w.0 t.feasible.one_each (subst (λ x. HaveSameOrder (joined s v) x) w.2 o))));
   }

@@ -48,8 +48,8 @@ number_level all i j e = exact_unsigned i j (second_equal _ _ e)
 
 pub first_come : (all : List Active) → FirstCome (comes_before all)
 first_come all = record {
-  one_way = λ a b e. let l =
-      is_lt-Less (by_number all a b) e in ap is_lt ((number_total all).antisymm b a ∙ ap ordering_reverse l);
+  one_way = λ a b e. ap is_lt
+      ((number_total all).antisymm b a ∙ ap ordering_reverse (is_lt-Less (by_number all a b) e));
   chain = λ a b c e f. ap is_lt ((number_total all).trans a b c (is_lt-Less (by_number all a b) e)
       (is_lt-Less (by_number all b c) f));
   total = λ a b ne e. ap is_lt ((number_total all).antisymm b a ∙ ap ordering_reverse (greater a b ne e));
@@ -99,12 +99,11 @@ module _ (s : Situation) (sound : IsSound s) where
   pub callsigns_differ : (i j : ℕ) → In i (numbers_of s.active) → In j (numbers_of s.active)
       → i ≢ j → (numbered s.active i).flight.callsign ≢ (numbered s.active j).flight.callsign
   callsigns_differ i j mi mj ne e =
-      let bi = in_numbers 0 _ i mi in
       let bj = in_numbers 0 _ j mj in
       elim (cases_order i j) [
         | inl q ↦ ne q
         | inr (inl lt) ↦ sound.callsigns i j nobody lt (omega (arith, bj.1)) e
-        | inr (inr lt) ↦ sound.callsigns j i nobody lt (omega (arith, bi.1)) (sym e)
+        | inr (inr lt) ↦ sound.callsigns j i nobody lt (omega (arith, (in_numbers 0 _ i mi).1)) (sym e)
       ]
 
   -- among the flights the order is that of arrival
@@ -149,16 +148,15 @@ module _ (s : Situation) (sound : IsSound s) where
         omega arith
 
     pub passed_low : (i : ℕ) → In i (numbers_of s.active) → (numbered s.active i).passed ≤ s.aerodrome.k
-    passed_low i m = let b = in_numbers 0 _ i m in sound.passed i nobody (omega (arith, b.1))
+    passed_low i m = sound.passed i nobody (omega (arith, (in_numbers 0 _ i m).1))
 
     pub feasible_numbered : IsFeasible s t → numbers.FeasibleIn (numbered_situation s) (second_of t)
     feasible_numbered f =
         let ls = landings s.active t in
         let r = f.1 in
-        let same = landings_are _ t long in
         let each : (P : Landing → Type 0) → All P ls → (i : ℕ) → In i (numbers_of s.active)
         → P (landing_at s.active t i) =
-        λ P a i m. all_at P _ _ (rw same at a) i m in
+        λ P a i m. all_at P _ _ (rw (landings_are _ t long) at a) i m in
         record {
           kept = λ i m. let w = in_filter (λ x. not (waits_at s.active x)) i (numbers_of s.active) m in
               kept_of (numbered s.active i).frozen (horizon s) (second_of t i) w.1
@@ -177,20 +175,18 @@ module _ (s : Situation) (sound : IsSound s) where
               (each (λ g. All (IsPairInPrecedence g) ls) r.in_precedence i (among i mi)) j (among j mj) l;
           shifted = λ i m.
               let w = (numbered_situation s).waiting in
-              let n = (in_filter (waits_at s.active) i (numbers_of s.active) m).0 in
               let k = all_at (IsShiftKept s.aerodrome.k (map (landing_at s.active t) w)) (landing_at s.active t) w
               (subst (λ l. All (IsShiftKept s.aerodrome.k l) l) waiting_are r.shift) i m in
-              let a = rank_is i n in
+              let a = rank_is i ((in_filter (waits_at s.active) i (numbers_of s.active) m).0) in
               let b = place_is i in
               (omega (arith, k.0), omega (arith, k.1));
         }
 
     pub numbered_feasible : numbers.FeasibleIn (numbered_situation s) (second_of t) → IsFeasible s t
     numbered_feasible f =
-        let same = landings_are _ t long in
         let from : (P : Landing → Type 0) → ((i : ℕ) → In i (numbers_of s.active) → P (landing_at s.active t i))
         → All P (landings s.active t) =
-        λ P h. rw same (at_all P _ _ h) in (
+        λ P h. rw (landings_are _ t long) (at_all P _ _ h) in (
           long,
           record {
             in_days = from (λ g. g.second ≤ last_second) (λ i m. leb-true (second_of t i) last_second
@@ -243,8 +239,7 @@ module _ (s : Situation) (sound : IsSound s) where
       → P (landing (numbered s.active i) ((numbered_situation s).frozen_at i))
   frozen_each P h i m =
       let w = in_filter _ i _ m in
-      let b = in_numbers 0 (length s.active) i w.0 in
-      frozen_list P _ h i (omega (arith, b.1)) _ (some_of _ w.1)
+      frozen_list P _ h i (omega (arith, (in_numbers 0 (length s.active) i w.0).1)) _ (some_of _ w.1)
 
   pub waiting_each : (P : Active → Type 0) → All P (waiting s) → (i : ℕ) → In i (numbered_situation s).waiting
       → P (numbered s.active i)

@@ -122,9 +122,9 @@ module _ (s : Situation) (sound : IsSound s) (t : Schedule) (ok : IsFeasible s t
   -- no two of those that wait land at one second
   seconds_differ : (i j : ℕ) → In i ns.waiting → In j ns.waiting → i ≢ j → second_of t i ≢ second_of t j
   seconds_differ i j m n ne e =
-      let a = all_among s sound i (in_filter _ i _ m).0 in
       let b = all_among s sound j (in_filter _ j _ n).0 in
-      let gap = (feasible_numbered s sound t ok.0 ok).separated i j a b ne (omega arith) in
+      let gap = (feasible_numbered s sound t ok.0 ok).separated i j (all_among s sound i (in_filter _ i _ m).0) b ne
+      (omega arith) in
       omega arith
 
   -- f is one that stays, and its number counts the same
@@ -174,8 +174,8 @@ module _ (s : Situation) (sound : IsSound s) (t : Schedule) (ok : IsFeasible s t
       counted_each y m ahead =
           let x = at_number y m in
           let a = flight_at _ i n.stays refl ∙ ap (λ (b : Active). b.flight) (sym n.was) in
-          let b = flight_at y x.0 x.1 x.2 in
-          let not_behind = behind_are x.0 (waited x.0 x.1) ∙ ap₂ (λ p q. is_lt (arrival_cmp p q)) (sym a) (sym b)
+          let not_behind = behind_are x.0 (waited x.0 x.1) ∙ ap₂ (λ p q. is_lt (arrival_cmp p q)) (sym a)
+          (sym (flight_at y x.0 x.1 x.2))
           ∙ ahead in
           let few = counted_numbers g i n.stays least_numbers x.0 x.1 not_behind in
           let p = passing_are i n in
@@ -186,9 +186,7 @@ module _ (s : Situation) (sound : IsSound s) (t : Schedule) (ok : IsFeasible s t
       counts = record {
         few = (let a = few_numbers g i n.stays least_numbers in let p = passing_are i n in omega arith);
         counted = λ b e. all_from (λ (y : Active). is_lt (arrival_cmp b.flight y.flight) ≡ false
-            → g + passing ≤ y.passed) (waiting changed) (λ y m ahead.
-            let same = same_Some b (numbered changed.active i) (sym e ∙ n.is) in
-            counted_each y m (cc));
+            → g + passing ≤ y.passed) (waiting changed) (λ y m ahead. counted_each y m (cc));
       }
 
     pub clock_counts_at : (g : ℕ) → ArePassedAtLeast g s c → ClockCounts s t now c f g

@@ -148,9 +148,9 @@ module _ (s : Situation) (sound : IsSound s) (p : lists'.Problem) (of : lists'.I
   open_is r u = elim (rank_cases r) [
     | inl q ↦
         (let b = in_numbers 0 _ _ (among r q) in
-        let good = (sound.flights (at r) nobody (omega (arith, b.1))).windows.spans in
         let o = is_open (numbered s.active (at r)).flight.windows s.closures u in
-        (waiting_of r q).open_spans.same u ∙ both_ways o _ (λ e. and_from _ o (open_low _ _ u good e) e)
+        (waiting_of r q).open_spans.same u ∙ both_ways o _
+        (λ e. and_from _ o (open_low _ _ u ((sound.flights (at r) nobody (omega (arith, b.1))).windows.spans) e) e)
         (λ e. (and_parts (nat_le u last_second) o e).1))
     | inr e ↦ ap (λ (w : lists'.Waiting). list_any (is_within u) w.open_spans) e.1
         ∙ sym (ap (λ (a : Active). nat_le u last_second && is_open a.flight.windows s.closures u) e.0
@@ -163,8 +163,7 @@ module _ (s : Situation) (sound : IsSound s) (p : lists'.Problem) (of : lists'.I
   before_is (suc i) zero iq ir = absurd (omega (arith, ir.0))
   before_is (suc i) (suc j) iq ir =
       let l = long_is in
-      let listed = rw ranked_is at of.predecessors in
-      let c = listed i j (numbered s.active (at (suc i))) (numbered s.active (at (suc j)))
+      let c = (rw ranked_is at of.predecessors) i j (numbered s.active (at (suc i))) (numbered s.active (at (suc j)))
       (slice_map _ R i _ (omega arith)) (slice_map _ R j _ (omega arith)) in
       rw (add-one i) at (rw (add-one j) at c)
 
@@ -262,8 +261,7 @@ module _ (s : Situation) (sound : IsSound s) (p : lists'.Problem) (of : lists'.I
   list_gives_schedule v f =
       let T = second_of (joined s v) in
       let g = feasible_agree _ _ _ (λ r q. sym (joined_rank v r q)) (list_feasible p v f) in
-      let long = numbers_long _ 0 _ in
-      numbered_feasible s sound _ long (feasible_problem ns _ _
+      numbered_feasible s sound _ (numbers_long _ 0 _) (feasible_problem ns _ _
       (sound_numbered s sound) problem_of T (joined_frozen v) g)
 
   -- ---- and back

@@ -49,8 +49,8 @@ predecessor_of_frozen s plan f g m listed h =
     let r = in_frozen _ g m in
     let there = subst (λ z. Member z (frozen_landings new))
     (sym r.4) (frozen_in _ r.0 r.1 (append_in s.active _ r.0 r.2) r.3) in
-    let waits = filter_in _ _ _ (pushed_in s.active _ _ refl) refl in
-    false≢true (sym ((kept new h).alone g (newcomer f) there waits) ∙ listed)
+    false≢true (sym ((kept new h).alone g (newcomer f) there (filter_in _ _ _ (pushed_in s.active _ _ refl) refl)) ∙
+    listed)
 
 -- a clock so far back that a frozen flight would land at its horizon or later
 clock_far_back : (s : Situation) (now : ℕ) (g : Landing) → Member g (frozen_landings s)

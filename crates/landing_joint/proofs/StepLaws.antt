@@ -7,7 +7,6 @@ use Rattle.std.specs.List.{list_any}
 use Rattle.std.proofs.lemmas.Bool.{cases_Bool, cases_lt, le-leb, or_parts, and_parts, not-true}
 use Rattle.cps_base.specs.Limits.{most_closures}
 use Rattle.landing_rules.specs.Flights.{Aerodrome, Landing, Situation, Schedule, Span, is_waiting, horizon}
-use Rattle.landing_rules.specs.Flights.{horizon_after}
 use Rattle.landing_rules.specs.Rules.{is_open, is_within, is_shut, ArePairSeparated}
 use Rattle.landing_rules.specs.Events.{Close, Reopen, frozen_landings, refusal, without_first}
 use Rattle.landing_rules.specs.Events.{same_span, situation_after, CoversFrozen, TooManyClosures, Estimate, Cancel, Add}
@@ -60,8 +59,7 @@ other_closures s new h same actives clocks few opened =
       separated = λ f g m n. subst (λ (x : Aerodrome). ArePairSeparated x.table f g) (sym same)
           (k.separated f g (back f m) (back g n));
       in_precedence = λ f g m n. k.in_precedence f g (back f m) (back g n);
-      before = λ f m. let b = k.before f (back f m) in let e : horizon new ≡ horizon s =
-          λ i. horizon_after (clocks i) ((same i).freeze) in omega arith;
+      before = λ f m. let b = k.before f (back f m) in let e : horizon new ≡ horizon s = search in omega arith;
       alone = λ f a m n. k.alone f a (back f m) (subst (λ l. Member a (filter is_waiting l)) actives n);
     })
 

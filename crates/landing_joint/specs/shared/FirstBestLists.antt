@@ -95,13 +95,12 @@ module _ (p : lists'.Problem) (sound : SoundProblem (ranked p)) where
       let iq = in_ranks v long q i in
       let ir = in_ranks v long r j in
       differ _ g q r iq ir n (sym (second_is v q iq.0) ∙ e ∙ second_is v r ir.0) in
-      let a = sorted_by_ascends t rs d ne in
       record {
         ranked = λ x i. in_ranks v long x (in_sorted_by t x rs i);
         whole = λ x q. sorted_by_in t x rs (ranks_in v long x q);
         ascends = subst (Ascends (of_rank 0 v)) (map-id (order_of_list v))
             (map_ascends t (of_rank 0 v) (λ x. x) (order_of_list v)
-            (λ x i. sym (second_is v x (in_ranks v long x (in_sorted_by t x rs i)).0)) a);
+            (λ x i. sym (second_is v x (in_ranks v long x (in_sorted_by t x rs i)).0)) (sorted_by_ascends t rs d ne));
       }
 
   -- there is one such order
@@ -197,7 +196,7 @@ module _ (p : lists'.Problem) (sound : SoundProblem (ranked p)) (passed : (r : �
       let ei = list_of_at _ u _ qi in
       let ej = list_of_at _ u _ qj in
       let o = same (suc i) (suc j) qi qj in
-      (λ lt. let a = o.0 lt in omega (arith, ei, ej, a), λ lt. o.1 (omega (arith, ei, ej, lt)))
+      (λ lt. omega (arith, ei, ej, o.0 lt), λ lt. o.1 (omega (arith, ei, ej, lt)))
 
   -- the map of a tight list is tight
   pub list_tight : (v : Schedule) → lists'.IsTightList p v → Tight (ranked p) (of_rank 0 v)

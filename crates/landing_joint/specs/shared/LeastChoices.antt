@@ -114,10 +114,10 @@ module _ (p : lists'.Problem) (sound : SoundProblem (ranked p)) (passed : (r : �
             × NoEarlierNoDearer o q
         by q c [] l' d e = absurd (omega (arith, ap (λ (w : PatternNode). w.0) e))
         by q c (x ∷ xs) l' d e =
-            let one = pattern_one p sound (r ∷ rs) _ l l' (sym e) in
-            let done = completes_one p sound v _ _ q l l' one (node_completes p sound v _ q l c) in
+            let done = completes_one p sound v _ _ q l l' (pattern_one p sound (r ∷ rs) _ l l' (sym e))
+            (node_completes p sound v _ q l c) in
             let o = (kept x xs l' d).covers q done in
-            (o.0, record { last = x; before = xs; legal = l'; landed = d; at = e; keeps = o.1 }, o.2)
+            (search)
 
     abbrev ChoiceIn : List Landing → ℕ → ℕ → Type 0
     ChoiceIn xs r t = Choice PatternNode (first_at p) (next_from (ranked p)) (cost_at p)
@@ -165,8 +165,7 @@ module _ (p : lists'.Problem) (sound : SoundProblem (ranked p)) (passed : (r : �
         let o = c.can_end.0 in
         let k = c.can_end.1 in
         let at = k.at ∙ sym ((net p sound).pushes r (ranks xs) l) in
-        let one = pattern_one p sound _ _ k.legal legal at in
-        let done = completes_one p sound v _ _ o k.legal legal one
+        let done = completes_one p sound v _ _ o k.legal legal (pattern_one p sound _ _ k.legal legal at)
         ((kept k.last k.before k.legal k.landed).completes o k.keeps) in
         let n = (kept (r, t) xs legal (landed_more xs r t d lands)).covers o done in
         record {

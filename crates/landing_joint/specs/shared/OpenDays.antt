@@ -10,8 +10,8 @@ any_low : (ws : List Span) (u : ℕ) → All (λ w. (w.0 ≤ w.1) × (w.1 ≤ la
     → u ≤ last_second
 any_low [] u a e = absurd (false≢true e)
 any_low (w ∷ ws) u a e = elim (or_cases _ _ e) [
-  | inl x ↦ (let b = and_parts (nat_le w.0 u) (nat_le u w.1) x in let c = leb-true u w.1 b.1 in let q =
-      a 0 w (omega arith) in omega (arith, q.1))
+  | inl x ↦ (let c = leb-true u w.1 (and_parts (nat_le w.0 u) (nat_le u w.1) x).1 in omega
+      (arith, (a 0 w (omega arith)).1))
   | inr x ↦ any_low ws u (λ k d lt. a (suc k) d (omega arith)) x
 ]
 

@@ -76,7 +76,7 @@ module _ (p : Problem) (sound : SoundProblem (ranked p)) (v : ℕ) (rs : List �
                   let done = node_completes p sound v (r ∷ rs) o more
                   (subst (λ w. CompletesNode (ranked p) (cost_at p) (is_low p v) w o) (sym at) d) in
                   let a = (nexts r o.0 more done.reached).covers o done in
-                  (a.0, record { rank = r; more = more; at = at; by = o.0; reached = done.reached; keeps = a.1 }, a.2);
+                  (search);
             }
 
         made : (q : Pair) → New q → ((ranked p).is_open (last_rank rs) q.0 ≡ true)
