@@ -1,6 +1,6 @@
 -- Examples of landings: lists of ranks, separation, retiming, landing trails and pairs.
-use Rattle.std.proofs.Common.{◌≡◌, ℕ, ◌+◌, ◌-◌, ◌≤◌, inl, inr, List, [], ◌∷◌, true, false, Option, Some, ltb, max}
-use Rattle.std.proofs.Common.{refl, sym, ap, subst, arith}
+use Rattle.std.proofs.Common.{◌≡◌, ℕ, ◌+◌, ◌-◌, ◌≤◌, inl, inr, List, [], ◌∷◌, false, Option, Some, ltb, max}
+use Rattle.std.proofs.Common.{refl, ap, arith}
 use Rattle.cps_theory.specs.RankLists.{Distinct, In, IsRank, Ordered, above, below, numbers_from, of_rank, upto}
 use Rattle.cps_theory.specs.Separation.{Landing}
 use Rattle.cps_theory.specs.Retiming.{IsFirstOpen, NeverEarlier}
@@ -41,10 +41,7 @@ a_rank : IsRank 3 2
 a_rank = (omega arith, omega arith)
 
 rising : Ordered ltb (1 ∷ 2 ∷ [])
-rising = (
-  (λ y i. elim i [ inl e ↦ subst (λ z. ltb 1 z ≡ true) (sym e) refl | inr j ↦ absurd j ]),
-  ((λ y i. absurd i), tt),
-)
+rising = ((λ y i. elim i [ inl e ↦ rw e refl | inr j ↦ absurd j ]), ((λ y i. absurd i), tt))
 
 -- ---- retiming; each flight is open from 1000 on, and follows 100 seconds after the one before
 
@@ -119,7 +116,7 @@ in_pair_order : InPairOrder ((1000, 5) ∷ (1000, 7) ∷ [])
 in_pair_order = (
   (λ q i. elim i [
     | inl e ↦ inr (
-      let a = ap (λ (z : Pair). z.0) e in omega arith,
+      omega (arith, ap (λ (z : Pair). z.0) e),
       let b =
           ap (λ (z : Pair). z.1) e in omega arith,
     )
@@ -129,4 +126,4 @@ in_pair_order = (
 )
 
 covers_all : Covers ((1005, 4) ∷ (1010, 4) ∷ []) (add_pair (1005, 4) ((1010, 4) ∷ []))
-covers_all = add_covers (1005, 4) ((1010, 4) ∷ [])
+covers_all = add_covers _ ((1010, 4) ∷ [])

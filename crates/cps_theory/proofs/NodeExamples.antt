@@ -43,7 +43,7 @@ swapped_legal = (
 
 -- with k = 0 it may not
 kept_in_rank_order : FitsBehind (record two { most = 0 }) [] 2 → ⊥
-kept_in_rank_order f = let a = f.not_early in absurd (omega arith)
+kept_in_rank_order f = absurd (omega arith)
 
 abbrev swapped : List ℕ
 swapped = 2 ∷ 1 ∷ []
@@ -92,7 +92,7 @@ two_may_not m = m.is_new (inr refl)
 -- ---- as a whole, and as a network
 
 swapped_is_legal : IsLegalPrefix two (1 ∷ 2 ∷ [])
-swapped_is_legal = (legal_is_prefix two (λ r. omega arith) (1 ∷ 2 ∷ [])).0 swapped_legal
+swapped_is_legal = (legal_is_prefix two (λ r. omega arith) _).0 swapped_legal
 
 pattern_is_shaped : IsShaped 1 2 (2, true ∷ false ∷ [], 1)
-pattern_is_shaped = legal_is_shaped two (λ r. omega arith) 1 (2 ∷ []) swapped_legal
+pattern_is_shaped = legal_is_shaped two (λ r. omega arith) 1 _ swapped_legal

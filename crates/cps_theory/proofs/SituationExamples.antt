@@ -1,5 +1,5 @@
 -- Examples of situations: flights 7 and 9, of which 7 came first and 9 lands first.
-use Rattle.std.proofs.Common.{◌≡◌, ◌≢◌, ℕ, ◌+◌, ◌≤◌, inl, inr, [], ◌∷◌, true, false, cond, ltb, refl, sym, subst, arith}
+use Rattle.std.proofs.Common.{◌≡◌, ◌≢◌, ℕ, ◌+◌, ◌≤◌, inl, inr, [], ◌∷◌, true, false, cond, ltb, refl, sym, arith}
 use Rattle.std.proofs.lemmas.Bool.{cases_eq, le-ltb, ltb-false, false≢true, ltb-true, lt-ltb}
 use Rattle.std.proofs.lemmas.List.Sorted.{IsPermutation-refl}
 use Rattle.cps_theory.specs.RankLists.{In}
@@ -23,8 +23,7 @@ keeps_shift : KeepsCountedShift 1 (λ f. 1) ltb plan (7 ∷ 9 ∷ []) 7
 keeps_shift = (
   let e : place_in plan (7 ∷ 9 ∷ []) 7 ≡ 2 = refl in let r : rank_in ltb (7 ∷ 9 ∷ []) 7 ≡ 1 =
       refl in omega arith,
-  let e : place_in plan (7 ∷ 9 ∷ []) 7 ≡ 2 = refl in let r : rank_in ltb (7 ∷ 9 ∷ []) 7 ≡ 1 =
-      refl in omega arith,
+  omega arith,
 )
 
 -- it was passed over once, so that the next time it may not go back
@@ -65,11 +64,11 @@ abbrev landing_of : ℕ → ℕ
 landing_of f = cond (ltb f 6) 980 1040
 
 one_of : (P : ℕ → Type 0) (x : ℕ) → P x → (y : ℕ) → In y (x ∷ []) → P y
-one_of P x p y (inl e) = subst P (sym e) p
+one_of P x p y (inl e) = rw e p
 one_of P x p y (inr i) = absurd i
 
 two_of : (P : ℕ → Type 0) → P 5 → P 7 → (y : ℕ) → In y (5 ∷ 7 ∷ []) → P y
-two_of P p q y (inl e) = subst P (sym e) p
+two_of P p q y (inl e) = rw e p
 two_of P p q y (inr i) = one_of P 7 q y i
 
 feasible_situation : FeasibleIn situation landing_of
@@ -86,8 +85,7 @@ feasible_situation = record {
   shifted = one_of (λ f. KeepsCountedShift 1 (λ f. 1) ltb landing_of (7 ∷ []) f) 7 (
     let e : place_in landing_of (7 ∷ []) 7 ≡ 1 = refl in let r : rank_in ltb (7 ∷ []) 7 ≡ 1 =
         refl in omega arith,
-    let e : place_in landing_of (7 ∷ []) 7 ≡ 1 = refl in let r : rank_in ltb (7 ∷ []) 7 ≡ 1 =
-        refl in omega arith,
+    omega arith,
   );
 }
 
@@ -131,9 +129,9 @@ problem_is = record {
   start_high = λ r t le after. after 5 (inl refl) (one_of (λ f. 980 ≤ 980) 5 (omega arith));
   at_in = λ r i. inl refl;
   at_all = λ f i. (1, (omega arith, omega arith), one_of (λ x. 7 ≡ x) 7 refl f i);
-  at_order = λ q r i j lt. absurd (let a = i.0 in let b = j.1 in omega arith);
+  at_order = λ q r i j lt. absurd (omega arith);
   permuted = IsPermutation-refl (7 ∷ []);
 }
 
 objectives : SameObjectives situation problem (λ r. 7) landing_of
-objectives = same_objectives situation problem (λ r. 7) sound_situation problem_is landing_of feasible_situation
+objectives = same_objectives _ _ _ sound_situation problem_is _ feasible_situation

@@ -23,7 +23,7 @@ heads x y xs ys e = cc
 
 pub agree_at : (t u : ℕ → ℕ) (rs : List ℕ) → at_seconds t rs ≡ at_seconds u rs → (r : ℕ) → In r rs → t r ≡ u r
 agree_at t u [] e r i = absurd i
-agree_at t u (x ∷ rs) e r (inl s) = subst (λ z. t z ≡ u z) (sym s)
+agree_at t u (x ∷ rs) e r (inl s) = rw s
     (ap (λ (y : Landing). y.1) (heads (x, t x) (x, u x) (at_seconds t rs) (at_seconds u rs) e))
 agree_at t u (x ∷ rs) e r (inr i) = agree_at t u rs (let a : at_seconds t rs ≡ at_seconds u rs = cc in a) r i
 
@@ -46,17 +46,17 @@ module _ (p : RankedProblem) (sound : SoundProblem p) (first : ℕ → ℕ → O
       let n = p.rules.count in
       let rs = ranks zs in
       let t = second_in zs in
-      let pl = legal_each_fits p.rules rs legal in
-      let differ = each_fits_distinct p.rules rs pl in
-      let landed = (earliest_lands (λ r u. p.is_open r u ≡ true) first (next_from p) opens rs zs e).0 in
+      let pl = legal_each_fits _ rs legal in
+      let differ = each_fits_distinct _ rs pl in
+      let landed = (earliest_lands (λ r u. p.is_open r u ≡ true) _ (next_from p) opens rs zs e).0 in
       let at : at_seconds t rs ≡ zs = at_second_in zs differ in
       let f = (landing_trail_feasible p (λ r u. 0) sound zs legal landed whole).0 in
       let d : Descends t rs = landed_descends p t sound rs pl
       (subst (Landed (λ r u. p.is_open r u ≡ true) (next_from p)) (sym at) landed) in
-      let ranked : (x : ℕ) → In x rs → IsRank n x = λ x i. in_from_one p.rules x rs pl i in
+      let ranked : (x : ℕ) → In x rs → IsRank n x = λ x i. in_from_one _ x rs pl i in
       let s : sorted t n ≡ rs = descends_equal t (sorted t n) rs (separate p t sound f) d
       (λ z i. all_ranks n rs differ ranked whole z (sorted_in t n z i)) (λ z i. in_sorted t n z (ranked z i)) in
-      let w = tighten p sound first opens t f in
+      let w = tighten p sound _ opens t f in
       let same : at_seconds w.0 (sorted t n) ≡ at_seconds t (sorted t n) = some_same (at_seconds w.0 (sorted t n))
       (at_seconds t (sorted t n)) (sym w.4 ∙ ap (earliest first (next_from p)) s ∙ e
       ∙ ap Some (sym at ∙ ap (at_seconds t) (sym s))) in

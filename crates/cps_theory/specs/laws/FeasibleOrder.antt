@@ -1,6 +1,6 @@
 -- A feasible schedule, said pair by pair, is one whose seconds land a legal order of all flights.
 use Rattle.std.proofs.Common.{ap₂, ◌≡◌, ◌≢◌, ℕ, zero, suc, ◌+◌, ◌<◌, ◌≤◌, ◌⊎◌, inl, inr, List, [], ◌∷◌, ◌++◌, length}
-use Rattle.std.proofs.Common.{true, ltb, nat_lt, arith, refl, sym, ap, subst, ◌∙◌, append_assoc, le_trans}
+use Rattle.std.proofs.Common.{true, ltb, arith, refl, sym, ap, subst, ◌∙◌, append_assoc, le_trans}
 use Rattle.cps_theory.specs.RankLists.{Distinct, In, IsRank, upto}
 use Rattle.cps_theory.specs.LandingTrail.{Landed, cost_of, latest_landing, ranks}
 use Rattle.cps_theory.specs.LegalPrefix.{EachFits}
@@ -29,8 +29,7 @@ at_seconds_agree t t' (r ∷ rs) h =
 -- how many land earlier, counted over any list of all ranks
 pub earlier_in : (n : ℕ) (t : ℕ → ℕ) (r : ℕ) (rs : List ℕ) → Distinct rs → ((x : ℕ) → In x rs → IsRank n x)
     → length rs ≡ n → earlier n t r ≡ count (λ q. ltb (t q) (t r)) rs
-earlier_in n t r rs d in' e = count_is (λ q. nat_lt (t q) (t r)) (upto n)
-    ∙ sym (count_ranks (λ q. ltb (t q) (t r)) n rs d in' e)
+earlier_in n t r rs d in' e = count_is _ _ ∙ sym (count_ranks _ n rs d in' e)
 
 module _ (p : RankedProblem) (t : ℕ → ℕ) (sound : SoundProblem p) where
   abbrev LandsAt : List ℕ → Type 0
@@ -48,7 +47,7 @@ module _ (p : RankedProblem) (t : ℕ → ℕ) (sound : SoundProblem p) where
 
   landed_at : (x : ℕ) (rs : List ℕ) → LandsAt rs → In x rs → (p.is_open x (t x) ≡ true) × (p.start x ≤ t x)
   landed_at x [] l i = absurd i
-  landed_at x (r ∷ rs) l (inl e) = subst (λ y. (p.is_open y (t y) ≡ true) × (p.start y ≤ t y)) (sym e) (
+  landed_at x (r ∷ rs) l (inl e) = rw e (
     l.0,
     let a =
         from_last (latest_landing (at_seconds t rs)).0 (latest_landing (at_seconds t rs)).1 r in le_trans a l.1,
@@ -64,11 +63,11 @@ module _ (p : RankedProblem) (t : ℕ → ℕ) (sound : SoundProblem p) where
       near = le_trans (after_last q (t q) r pl.0.from_one) l.1
 
       go : (y ≡ q) ⊎ In y rs → (In y rs → t y + p.apart y q ≤ t q) → t y + p.apart y r ≤ t r
-      go (inl e) ih = subst (λ z. t z + p.apart z r ≤ t r) (sym e) near
+      go (inl e) ih = rw e near
       go (inr j) ih = let a = ih j in let b = sound.triangle y q r in let c = near in omega arith
 
   below_head : (y r : ℕ) (rs : List ℕ) → EachFits p.rules rs → LandsAt (r ∷ rs) → In y rs → t y < t r
-  below_head y r rs pl l i = let a = apart_head y r rs pl l i in let b = sound.positive y r in omega arith
+  below_head y r rs pl l i = let a = apart_head y r rs pl l i in omega arith
 
   pub landed_descends : (rs : List ℕ) → EachFits p.rules rs → LandsAt rs → Descends t rs
   landed_descends [] pl l = tt
@@ -101,8 +100,6 @@ module _ (p : RankedProblem) (t : ℕ → ℕ) (sound : SoundProblem p) where
   place_in all d front (x ∷ rs) e pl r (inl s) =
       let here : count (λ q. ltb (t q) (t x)) all ≡ length rs =
       ap (count (λ q. ltb (t q) (t x))) e ∙ descends_place t front x rs (subst (Descends t) e d) in
-      let a = pl.0.not_early in
-      let b = pl.0.not_late in
       let both : (x ≤ suc (count (λ q. ltb (t q) (t x)) all) + p.rules.most)
       × (suc (count (λ q. ltb (t q) (t x)) all) ≤ x + p.rules.back x) = (omega arith, omega arith) in
       subst (λ z. (z ≤ suc (count (λ q. ltb (t q) (t z)) all) + p.rules.most)
@@ -111,10 +108,10 @@ module _ (p : RankedProblem) (t : ℕ → ℕ) (sound : SoundProblem p) where
   pub lands_feasible : (rs : List ℕ) → LandsAllRanks p t rs → Feasible p t
   lands_feasible rs l =
       let n = p.rules.count in
-      let pl = legal_each_fits p.rules rs l.legal in
-      let d = each_fits_distinct p.rules rs pl in
-      let in' : (x : ℕ) → In x rs → IsRank n x = λ x i. in_from_one p.rules x rs pl i in
-      let has : (x : ℕ) → IsRank n x → In x rs = all_ranks n rs d in' l.whole in
+      let pl = legal_each_fits _ rs l.legal in
+      let d = each_fits_distinct _ rs pl in
+      let in' : (x : ℕ) → In x rs → IsRank n x = λ x i. in_from_one _ x rs pl i in
+      let has = all_ranks n rs d in' l.whole in
       let place = place_in rs (landed_descends rs pl l.landed) [] rs refl pl in
       record {
         opened = λ r q. (landed_at r rs l.landed (has r q)).0;
@@ -131,11 +128,10 @@ module _ (p : RankedProblem) (t : ℕ → ℕ) (sound : SoundProblem p) where
 
   module _ (f : Feasible p t) where
     apart_seconds : (a b : ℕ) → IsRank p.rules.count a → IsRank p.rules.count b → a ≢ b → t a ≢ t b
-    apart_seconds a b qa qb ne e = let s = f.separated a b qa qb ne (omega arith) in let o =
-        sound.positive a b in omega arith
+    apart_seconds a b qa qb ne e = let o = sound.positive a b in omega arith
 
     descends : Descends t (sorted t p.rules.count)
-    descends = sorted_descends t p.rules.count apart_seconds
+    descends = sorted_descends t _ apart_seconds
 
     -- what lands before an element of the order stands behind it
     behind : (front : List ℕ) (r : ℕ) (rs : List ℕ) → Descends t (front ++ r ∷ rs) → (x : ℕ)
@@ -167,10 +163,10 @@ module _ (p : RankedProblem) (t : ℕ → ℕ) (sound : SoundProblem p) where
     walk front [] e = (tt, tt)
     walk front (r ∷ rs) e =
         let n = p.rules.count in
-        let d = subst (Descends t) e descends in
+        let d = rw e at descends in
         let in' : (x : ℕ) → In x (front ++ r ∷ rs) → IsRank n x = λ x i. sorted_in t n x (subst (In x) (sym e) i) in
         let q = in' r (in_middle r front rs) in
-        let rest = walk (front ++ r ∷ []) rs (e ∙ sym (append_assoc front (r ∷ []) rs)) in
+        let rest = walk (front ++ r ∷ []) rs (e ∙ sym (append_assoc front _ rs)) in
         let dr = tail_descends front (r ∷ rs) d in
         let place : earlier n t r ≡ length rs =
         earlier_in n t r (sorted t n) (descends_distinct t (sorted t n) descends) (sorted_in t n) (length-sorted t n)
@@ -181,7 +177,7 @@ module _ (p : RankedProblem) (t : ℕ → ℕ) (sound : SoundProblem p) where
             record {
               from_one = q.0;
               to_count = q.1;
-              is_new = λ i. let a = dr.0 r i in omega arith;
+              is_new = λ i. omega (arith, dr.0 r i);
               not_early = omega arith;
               not_late = omega arith;
               after = λ a b. let qa = sound.ranked a r b in behind front r rs d a (subst (In a) e (in_sorted t n a qa))
@@ -220,17 +216,16 @@ module _ (p : RankedProblem) (t : ℕ → ℕ) (sound : SoundProblem p) where
   pub cost_all : (cost : ℕ → ℕ → ℕ) (rs : List ℕ) → LandsAllRanks p t rs
       → cost_of cost (at_seconds t rs) ≡ total (λ r. cost r (t r)) (upto p.rules.count)
   cost_all cost rs l =
-      let pl = legal_each_fits p.rules rs l.legal in
-      cost_at cost rs ∙ total_ranks (λ r. cost r (t r)) p.rules.count rs (each_fits_distinct p.rules rs pl)
-      (λ x i. in_from_one p.rules x rs pl i) l.whole
+      let pl = legal_each_fits _ rs l.legal in
+      cost_at _ rs ∙ total_ranks _ _ rs (each_fits_distinct _ rs pl) (λ x i. in_from_one _ x rs pl i) l.whole
 
   -- the last second is the greatest
   pub last_greatest : (rs : List ℕ) → LandsAllRanks p t rs → (r : ℕ) → IsRank p.rules.count r
       → t r ≤ (latest_landing (at_seconds t rs)).1
   last_greatest rs l r q =
-      let pl = legal_each_fits p.rules rs l.legal in
-      go rs (landed_descends rs pl l.landed) (all_ranks p.rules.count rs (each_fits_distinct p.rules rs pl)
-      (λ x i. in_from_one p.rules x rs pl i) l.whole r q)
+      let pl = legal_each_fits _ rs l.legal in
+      go rs (landed_descends rs pl l.landed) (all_ranks _ rs (each_fits_distinct _ rs pl)
+      (λ x i. in_from_one _ x rs pl i) l.whole r q)
     where
       go : (rs : List ℕ) → Descends t rs → In r rs → t r ≤ (latest_landing (at_seconds t rs)).1
       go [] d i = absurd i

@@ -14,7 +14,7 @@ count t (r ∷ rs) = cond (t r) 1 0 + count t rs
 
 pub count_is : (t : ℕ → Bool) (rs : List ℕ) → count_by t rs ≡ count t rs
 count_is t [] = refl
-count_is t (r ∷ rs) = sum_by-cons (λ x. cond (t x) 1 0) r rs ∙ ap (λ n. cond (t r) 1 0 + n) (count_is t rs)
+count_is t (r ∷ rs) = sum_by-cons _ r rs ∙ ap (λ n. cond (t r) 1 0 + n) (count_is t rs)
 
 pub at_yes : (b : Bool) → b ≡ true → cond {A = ℕ} b 1 0 ≡ 1
 at_yes b e = ap (λ c. cond {A = ℕ} c 1 0) e
@@ -40,7 +40,7 @@ count_cover t u v (r ∷ rs) h =
 pub count_none : (t : ℕ → Bool) (rs : List ℕ) → ((r : ℕ) → In r rs → t r ≡ true → ⊥) → count t rs ≡ 0
 count_none t [] h = refl
 count_none t (r ∷ rs) h =
-    let a : t r ≡ false = elim (cases_Bool (t r)) [ inl e ↦ absurd (h r (inl refl) e) | inr e ↦ e ] in
+    let a : t r ≡ false = elim (cases_Bool _) [ inl e ↦ absurd (h r (inl refl) e) | inr e ↦ e ] in
     ap₂ (λ b n. cond b 1 0 + n) a (count_none t rs (λ x i. h x (inr i)))
 
 -- a number stands once in a list of different ones
@@ -55,7 +55,7 @@ count_once v (r ∷ rs) d =
           omega arith
       | inr ne ↦
           let rest = count_once v rs d.1 in
-          let a : eqb r v ≡ false = elim (cases_Bool (eqb r v)) [ inl q ↦ absurd (ne (eqb-true r v q)) | inr q ↦ q ] in
+          let a : eqb r v ≡ false = elim (cases_Bool _) [ inl q ↦ absurd (ne (eqb-true r v q)) | inr q ↦ q ] in
           let b = at_no (eqb r v) a in
           omega arith
     ]
@@ -155,7 +155,7 @@ count_split p q r (x ∷ xs) h =
 pub count_parts : (p q : ℕ → Bool) (xs : List ℕ)
     → count p xs ≡ count p (filter q xs) + count p (filter (λ x. not (q x)) xs)
 count_parts p q [] = refl
-count_parts p q (x ∷ xs) = go (q x) (count_parts p q xs)
+count_parts p q (x ∷ xs) = go _ (count_parts p q xs)
   where
     go : (b : Bool) → count p xs ≡ count p (filter q xs) + count p (filter (λ y. not (q y)) xs)
         → cond (p x) 1 0 + count p xs ≡ count p (cond b (x ∷ filter q xs) (filter q xs)) + count p

@@ -15,12 +15,11 @@ ranks_folded step so_far more n = from n 0 1 n (omega arith) (omega arith)
     from : (m a b c : ℕ) → b ≡ suc a → c ≡ m + a → fold step (so_far a) (range_with_len b m) ≡ so_far c
     from zero a b c e is = ap so_far (omega arith)
     from (suc m) a b c e is = ap (λ x. fold step x (range_with_len (b + 1) m)) (ap (step (so_far a)) e ∙ more a)
-        ∙ from m (suc a) (b + 1) c (omega arith) (omega arith)
+        ∙ from m _ _ c (omega arith) (omega arith)
 
 pub greatest_least : (t : ℕ → ℕ) (n m : ℕ) → ((r : ℕ) → IsRank n r → t r ≤ m) → greatest t n ≤ m
 greatest_least t zero m h = omega arith
-greatest_least t (suc n) m h = let a = greatest_least t n m (λ r q. h r (q.0, omega arith)) in let b =
-    h (suc n) (omega arith, omega arith) in omega arith
+greatest_least t (suc n) m h = let a = greatest_least t n m (λ r q. h r (q.0, omega arith)) in omega arith
 
 pub at_most_greatest : (t : ℕ → ℕ) (n r : ℕ) → IsRank n r → t r ≤ greatest t n
 at_most_greatest t zero r q = absurd (omega arith)

@@ -9,8 +9,7 @@ use Rattle.cps_theory.specs.laws.RankCounts.{count_length, count_map, count_part
 use Rattle.cps_theory.specs.laws.RankCounts.{count_weaker, count, count_is, count_between}
 
 pub not_before_itself : (comes_before : ℕ → ℕ → Bool) → FirstCome comes_before → (f : ℕ) → comes_before f f ≡ false
-not_before_itself comes_before order f =
-    elim (cases_Bool (comes_before f f)) [ inl e ↦ order.one_way f f e | inr e ↦ e ]
+not_before_itself comes_before order f = elim (cases_Bool _) [ inl e ↦ order.one_way f f e | inr e ↦ e ]
 
 module _ (comes_before : ℕ → ℕ → Bool) (order : FirstCome comes_before) (t : ℕ → ℕ) (waiting : List ℕ)
     (k h : ℕ) (back : ℕ → ℕ) (differ : Distinct waiting) (shift : (f : ℕ) → In f waiting
@@ -64,7 +63,7 @@ module _ (comes_before : ℕ → ℕ → Bool) (order : FirstCome comes_before) 
       → count (λ g. comes_before f g) (frozen_of t h waiting) + rank f ≤ max (rank f) (place f - 1 + k)
   few_overtook f i at =
       let froze = frozen_of t h waiting in
-      let d = ranks_differ froze (distinct_filter (λ g. nat_lt (t g) h) waiting differ)
+      let d = ranks_differ froze (distinct_filter _ _ differ)
       (λ x j. (in_filter (λ g. nat_lt (t g) h) x waiting j).0) in
       let between = count_between (rank f) (place f - 1 + k) (map rank froze) d in
       let same = count_map (λ x. ltb (rank f) x && leb x (place f - 1 + k)) rank froze in
