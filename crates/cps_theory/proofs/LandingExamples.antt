@@ -29,7 +29,7 @@ holds_seven : In 7 (9 ∷ 7 ∷ [])
 holds_seven = inr (inl refl)
 
 different : Distinct (9 ∷ 7 ∷ [])
-different = ((λ i. elim i [ inl e ↦ absurd (omega arith) | inr j ↦ j ]), ((λ i. i), tt))
+different = omega arith
 
 greater_ranks : above 2 (3 ∷ 1 ∷ 4 ∷ []) ≡ 2
 greater_ranks = refl
@@ -38,7 +38,7 @@ smaller_ranks : below 2 (3 ∷ 1 ∷ 4 ∷ []) ≡ 1
 smaller_ranks = refl
 
 a_rank : IsRank 3 2
-a_rank = (omega arith, omega arith)
+a_rank = omega arith
 
 rising : Ordered ltb (1 ∷ 2 ∷ [])
 rising = ((λ y i. elim i [ inl e ↦ rw e refl | inr j ↦ absurd j ]), ((λ y i. absurd i), tt))
@@ -55,7 +55,7 @@ first_open = record {
 }
 
 hundred_later : NeverEarlier (λ l t r. t + 100)
-hundred_later = record { mono = λ l t u r le. omega arith }
+hundred_later = omega arith
 
 -- ---- a landing trail, the latest first
 
@@ -69,7 +69,7 @@ trail_ranks : ranks trail ≡ 1 ∷ 2 ∷ []
 trail_ranks = refl
 
 trail_landed : Landed (λ r t. 1000 ≤ t) (λ l t r. t + 100) trail
-trail_landed = (omega arith, omega arith, (omega arith, omega arith, tt))
+trail_landed = omega arith
 
 trail_pair : pair_of (λ r t. t - 1000) trail ≡ (1100, 100)
 trail_pair = refl
@@ -80,7 +80,7 @@ last_rank_none = refl
 -- ---- pairs of a second and a cost
 
 later_is_worse : NoWorse (1000, 5) (1010, 5)
-later_is_worse = (omega arith, omega arith)
+later_is_worse = omega arith
 
 test_no_worse : no_worse (1000, 5) (1010, 4) ≡ false
 test_no_worse = refl
@@ -89,7 +89,7 @@ successor : next_pair open_from_1000 (λ l t r. t + 100) (λ r t. t - 1000) 2 (1
 successor = refl
 
 delay_never_cheaper : NeverCheaper (λ r t. t - 1000)
-delay_never_cheaper = record { mono = λ r t u le. omega arith }
+delay_never_cheaper = omega arith
 
 listed : InPairs (1010, 3) ((1000, 5) ∷ (1010, 3) ∷ [])
 listed = inr (inl refl)

@@ -147,7 +147,7 @@ smaller_at_second : NoGreaterOrder (1 ∷ 2 ∷ []) (1 ∷ 3 ∷ [])
 smaller_at_second = inr (refl, inl (omega arith))
 
 later_and_cheaper : NoEarlierNoDearer (1010, 3) (1000, 5)
-later_and_cheaper = (omega arith, omega arith)
+later_and_cheaper = omega arith
 
 -- ---- more of the two flights
 

@@ -1,5 +1,5 @@
 -- Examples of prefixes and their nodes: legal orders, windows and patterns.
-use Rattle.std.proofs.Common.{List, ◌≡◌, ℕ, inl, inr, [], ◌∷◌, get_or, true, false, refl, ap, arith}
+use Rattle.std.proofs.Common.{List, ◌≡◌, ℕ, inl, inr, [], ◌∷◌, true, false, refl, arith}
 use Rattle.std.proofs.lemmas.Bool.{false≢true}
 use Rattle.cps_theory.specs.LegalPrefix.{FitsBehind, IsLegalPrefix, Legal, OrderRules}
 use Rattle.cps_theory.specs.WindowLists.{DistinctLists, Sized}
@@ -49,13 +49,10 @@ abbrev swapped : List ℕ
 swapped = 2 ∷ 1 ∷ []
 
 window_lists : DistinctLists ((0 ∷ []) ∷ (1 ∷ []) ∷ [])
-window_lists = (
-  (λ i. elim i [ inl e ↦ (let a = ap (λ l. get_or l 0 7) e in absurd (omega arith)) | inr j ↦ j ]),
-  ((λ i. i), tt),
-)
+window_lists = ((λ i. elim i [ inl e ↦ (cc) | inr j ↦ j ]), ((λ i. i), tt))
 
 window_is_sized : Sized 3 1 (2 ∷ [])
-window_is_sized = (refl, (omega arith, tt))
+window_is_sized = omega arith
 
 -- ---- patterns; the digits of ranks p - k + 1 to p + k
 

@@ -31,8 +31,7 @@ feasible_two = record {
   in_order = λ f g i j b. absurd (false≢true b);
   not_early = each_of_two (λ r. r ≤ suc (earlier 2 in_rank_order r) + 1) (omega arith)
       (let e : earlier 2 in_rank_order 2 ≡ 1 = refl in omega arith);
-  not_late = each_of_two (λ r. suc (earlier 2 in_rank_order r) ≤ r + 1) (let e : earlier 2 in_rank_order 1 ≡ 0 =
-      refl in omega arith) (omega arith);
+  not_late = each_of_two (λ r. suc (earlier 2 in_rank_order r) ≤ r + 1) (omega arith) (omega arith);
 }
   where
     pairs : (f : ℕ) → IsRank 2 f → (g : ℕ) → IsRank 2 g → f ≢ g → in_rank_order f ≤ in_rank_order g
@@ -55,10 +54,10 @@ sound_two = record {
 }
 
 first_rank : IsRank 2 1
-first_rank = (omega arith, omega arith)
+first_rank = omega arith
 
 second_rank : IsRank 2 2
-second_rank = (omega arith, omega arith)
+second_rank = omega arith
 
 -- no feasible schedule in rank order lands either earlier
 tight_two : Tight pair_of_flights in_rank_order
@@ -110,4 +109,4 @@ pair_of_two : second_and_cost (λ r t. t - 1000) 2 in_rank_order ≡ (1060, 60)
 pair_of_two = refl
 
 same_order : SameOrder 2 in_rank_order in_rank_order
-same_order = λ f g i j. (λ lt. lt, λ lt. lt)
+same_order = omega arith

@@ -7,7 +7,6 @@ use Rattle.cps_theory.specs.Feasible.{RankedProblem}
 use Rattle.cps_theory.specs.Freeze.{FirstCome, KeepsCountedShift, frozen_of, overtook, place_in, rank_in, staying_of}
 use Rattle.cps_theory.specs.NumberedSituation.{FeasibleIn, NumberedSituation, ProblemOf, SoundSituation, active}
 use Rattle.cps_theory.specs.Objectives.{SameObjectives, latest_in}
-use Rattle.cps_theory.specs.laws.WholeObjective.{same_objectives}
 
 -- flight 7 lands at 1200, flight 9 at 1000
 abbrev plan : ℕ → ℕ
@@ -134,4 +133,4 @@ problem_is = record {
 }
 
 objectives : SameObjectives situation problem (λ r. 7) landing_of
-objectives = same_objectives _ _ _ sound_situation problem_is _ feasible_situation
+objectives = omega arith

@@ -19,16 +19,15 @@ upto_last f (suc n) = ap (λ l. f (suc (suc n)) ∷ l) (upto_last f n)
 
 map_upto : {X : Type 0} (f g : ℕ → X) (n : ℕ) → ((r : ℕ) → 1 ≤ r → f r ≡ g r) → map f (upto n) ≡ map g (upto n)
 map_upto f g zero h = refl
-map_upto f g (suc n) h = ap₂ (λ x l. x ∷ l) (h (suc n) (omega arith)) (map_upto f g n h)
+map_upto f g (suc n) h = ap₂ (λ x l. x ∷ l) (omega arith) (map_upto f g n h)
 
 pub ranks_permute : {X : Type 0} (d : X) (xs : List X) → IsPermutation (map (of_rank d xs) (upto (length xs))) xs
 ranks_permute d [] = IsPermutation-refl []
 ranks_permute d (x ∷ xs) =
     let n = length xs in
     let e = upto_last (of_rank d (x ∷ xs)) n ∙ ap (λ l. l ++ x ∷ []) (map_upto _ _ n (at_suc d x xs)) in
-    rw e (IsPermutation-trans (map (of_rank d xs) (upto n) ++ x ∷ []) (x ∷ map (of_rank d xs) (upto n))
-    (x ∷ xs) (IsPermutation-to_front (map (of_rank d xs) (upto n)) x)
-    (IsPermutation-cons x (map (of_rank d xs) (upto n)) xs (ranks_permute d xs)))
+    rw e (IsPermutation-trans _ _ _ (IsPermutation-to_front (map _ _) x)
+    (IsPermutation-cons x (map _ _) xs (ranks_permute d xs)))
 
 pub at_in : (d : ℕ) (xs : List ℕ) (r : ℕ) → 1 ≤ r → r ≤ length xs → In (of_rank d xs r) xs
 at_in d xs zero one le = absurd (omega arith)

@@ -25,7 +25,7 @@ none_below value v (x ∷ ps) q e i = go _ refl e i (λ f j. none_below _ v ps q
         → InPairs q (x ∷ ps) → (list_any (λ q. nat_lt (value q) v) ps ≡ false → InPairs q ps → v ≤ value q)
         → v ≤ value q
     go true y e i more = absurd (cc)
-    go false y e (inl s) more = rw s (ltb-false (value x) v y)
+    go false y e (inl s) more = rw s (ltb-false _ v y)
     go false y e (inr j) more = more e j
 
 module _ {S : Type 0} (node_of : S → PatternNode) (pairs_of : S → List Pair) where
@@ -51,8 +51,7 @@ module _ {S : Type 0} (node_of : S → PatternNode) (pairs_of : S → List Pair)
       → w.0 ≡ n → IsListed node_of pairs_of ss w q → v ≤ value q
   final_not_below n value v ss e w q at l =
       let k = listed_passes_not _ 1 ss e w q l in
-      let same = ap (λ (z : PatternNode). z.0) k.1 ∙ at in
-      none_below _ v _ q (go _ _ (eq-eqb _ n same) k.3) k.2
+      none_below _ v _ q (go _ _ (eq-eqb _ n (ap (λ (z : PatternNode). z.0) k.1 ∙ at)) k.3) k.2
     where
       go : (a b : Bool) → a ≡ true → a && b ≡ false → b ≡ false
       go true b x y = y
@@ -62,8 +61,7 @@ module _ {S : Type 0} (node_of : S → PatternNode) (pairs_of : S → List Pair)
       → (w : PatternNode) (q : Pair) → w.0 ≡ n → IsListed node_of pairs_of ss w q → ⊥
   none_final n ss e w q at l =
       let k = listed_passes_not _ 1 ss e w q l in
-      let same = ap (λ (z : PatternNode). z.0) k.1 ∙ at in
-      false≢true (sym k.3 ∙ (eq-eqb (node_of k.0).0 n same))
+      false≢true (sym k.3 ∙ (eq-eqb (node_of k.0).0 n (ap (λ (z : PatternNode). z.0) k.1 ∙ at)))
 
   -- ---- for a problem, the states of which miss no successor pair, whatever else they list
   module _ (p : RankedProblem) (cost : ℕ → ℕ → ℕ) (sound : SoundProblem p) (first : ℕ → ℕ

@@ -11,7 +11,7 @@ use Rattle.cps_theory.specs.CompletingPairs.{UndominatedCompleting, onto}
 use Rattle.cps_theory.specs.laws.LabelDominance.{last_ranks}
 
 pub no_earlier_no_dearer_trans : (p q r : Pair) → NoEarlierNoDearer p q → NoEarlierNoDearer q r → NoEarlierNoDearer p r
-no_earlier_no_dearer_trans p q r h k = (le_trans k.0 h.0, le_trans h.1 k.1)
+no_earlier_no_dearer_trans p q r h k = omega arith
 
 -- where no kept pair is worse than another, the kept pairs are the undominated ones
 pub completing_undominated : (Completing Keeps : Pair → Type 0) → KeptCompleting Completing Keeps
@@ -23,8 +23,7 @@ completing_undominated Completing Keeps k anti p kept = record {
       let c = k.covers q a in
       let e = anti c.0 p c.1 kept (no_earlier_no_dearer_trans c.0 q p c.2 le) in
       let first = subst (λ (x : Pair). q.0 ≤ x.0) e c.2.0 in
-      let second = subst (λ (x : Pair). x.1 ≤ q.1) e c.2.1 in
-      ap₂ (λ x y. (x, y)) (le_antisymm first le.0) (le_antisymm le.1 second);
+      ap₂ (λ x y. (x, y)) (le_antisymm first le.0) (le_antisymm le.1 (subst (λ (x : Pair). x.1 ≤ q.1) e c.2.1));
 }
 
 pub undominated_completing : (Completing Keeps : Pair → Type 0) → KeptCompleting Completing Keeps
@@ -56,17 +55,16 @@ module _ (W : Type 0) (Open : ℕ → ℕ → Type 0) (first : ℕ → ℕ → O
   newest_push w b r x p =
       let rs = ranks x.landings in
       sym (ap newest (net.pushes r rs x.legal ∙ ap (λ v. push v r) x.at))
-      ∙ net.newest_is (r ∷ rs) (net.grows r rs x.legal (subst (λ v. Permitted v r) (sym x.at) p))
+      ∙ net.newest_is (r ∷ rs) (net.grows r rs x.legal (rw x.at p))
 
   pub reached_push : (w : W) (b r t : ℕ) → Reached Open after Legal node w b → Permitted w r
       → Open r t → after (newest w) b r ≤ t → Reached Open after Legal node (push w r) t
   reached_push w b r t x p o le =
       let rs = ranks x.landings in
-      let p' = subst (λ v. Permitted v r) (sym x.at) p in
       let l = ap newest (sym x.at) ∙ newest_last _ x.legal in
       record {
         landings = (r, t) ∷ x.landings;
-        legal = net.grows r rs x.legal p';
+        legal = net.grows r rs x.legal (subst (λ v. Permitted v r) (sym x.at) p);
         landed = (
           o,
           le_trans (later.mono (latest_landing x.landings).0 (latest_landing x.landings).1 b r x.by)
@@ -137,9 +135,9 @@ module _ (W : Type 0) (Open : ℕ → ℕ → Type 0) (first : ℕ → ℕ → O
             cost_is = refl;
           } in
           let o = (nexts y.0 f.0).covers (y.1, cost_of cost ys) done in
-          let n = enough q.0 y.0 x.0 o.0 c.opened c.reached c.low f.0 x.1 o.1 (le_trans x.2 o.2.0) in
+          let n = enough q.0 y.0 x.0 o.0 c.opened c.reached c.low f.0 x.1 o.1 (omega arith) in
           let d = dearer.mono y.0 x.0 y.1 x.2 in
-          (n.0, n.1, (n.2.0, omega arith))
+          (n.0, n.1, (omega arith))
 
   -- what follows a landing trail makes it whole
   pub continued_whole : (xs ys : List Landing) → Legal (ranks xs) → Landed Open after xs → AllLow Low xs

@@ -83,13 +83,13 @@ pub onto_descends : (t : ℕ → ℕ) (qs rs : List ℕ) → Ascends t qs → De
     → ((q r : ℕ) → In q qs → In r rs → t r < t q) → Descends t (onto qs rs)
 onto_descends t [] rs a d lt = d
 onto_descends t (q ∷ qs) rs a d lt = onto_descends t qs _ a.1 (λ y i. lt q y (inl refl) i, d)
-    (λ x r i j. elim j [ inl e ↦ let c = ap t e in omega arith | inr k ↦ lt x r (inr i) k ])
+    (λ x r i j. elim j [ inl e ↦ omega (arith, ap t e) | inr k ↦ lt x r (inr i) k ])
 
 pub onto_ascends : (t : ℕ → ℕ) (rs qs : List ℕ) → Descends t rs → Ascends t qs
     → ((q r : ℕ) → In q qs → In r rs → t r < t q) → Ascends t (onto rs qs)
 onto_ascends t [] qs d a lt = a
 onto_ascends t (r ∷ rs) qs d a lt = onto_ascends t rs _ d.1 (λ y i. lt y r i (inl refl), a)
-    (λ x y i j. elim i [ inl e ↦ let c = ap t e in omega arith | inr k ↦ lt x y k (inr j) ])
+    (λ x y i j. elim i [ inl e ↦ omega (arith, ap t e) | inr k ↦ lt x y k (inr j) ])
 
 pub onto_twice : (xs ys : List ℕ) → onto (onto xs ys) [] ≡ onto ys xs
 onto_twice [] ys = refl

@@ -34,7 +34,7 @@ decide_ranks zero Q d = inl (λ x r. absurd (omega arith))
 decide_ranks (suc n) Q d =
     with_decided (decide_ranks n Q d) (λ low. with_decided (d (suc n))
     (λ top. inl (λ x r. elim (cases_lt n x) [
-      | inl lt ↦ subst Q (let b = r.1 in omega arith) top
+      | inl lt ↦ subst Q (omega arith) top
       | inr le ↦ low x (r.0, le)
     ])) (λ all. all (suc n) (omega arith, omega arith))) (λ all x r. all x (r.0, omega arith))
 

@@ -5,7 +5,7 @@ use Rattle.std.proofs.Common.{refl, sym, ap, subst, ◌∙◌}
 use Rattle.std.proofs.lemmas.Bool.{cases_order}
 use Rattle.cps_theory.specs.Separation.{Landing}
 use Rattle.cps_theory.specs.Retiming.{IsFirstOpen}
-use Rattle.cps_theory.specs.LandingTrail.{latest_landing, pair_of, ranks}
+use Rattle.cps_theory.specs.LandingTrail.{latest_landing, pair_of}
 use Rattle.cps_theory.specs.Labels.{NeverCheaper, NoWorse, Pair}
 use Rattle.cps_theory.specs.LegalPrefix.{Legal}
 use Rattle.cps_theory.specs.Feasible.{Feasible, RankedProblem, SoundProblem, Tight, at_seconds, earliest, next_from}
@@ -124,8 +124,8 @@ module _ (p : RankedProblem) (sound : SoundProblem p) (first : ℕ → ℕ → O
   tight_worth : (t : ℕ → ℕ) → Tight p t → worth (sorted t p.rules.count) ≡ value (second_and_cost cost p.rules.count t)
   unfolding worth
   tight_worth t tight =
-      ap worth_of (tight_earliest p sound first opens t tight)
-      ∙ ap value (pair_all p cost sound t (sorted t p.rules.count) (feasible_lands p t sound tight.feasible))
+      ap worth_of (tight_earliest p sound _ opens t tight)
+      ∙ ap value (pair_all p _ sound t _ (feasible_lands p t sound tight.feasible))
 
   -- the earliest landings of the first of the cheapest orders
   built : LeastEnd p.rules.count LandsEarliest decide_lands Before before_total before_chain p.rules.count (λ rs. rs)
@@ -136,13 +136,13 @@ module _ (p : RankedProblem) (sound : SoundProblem p) (first : ℕ → ℕ → O
       let rs = a.end in
       let zs = a.holds.landings in
       let is = a.holds.landings_are in
-      let lands = earliest_lands (λ r u. p.is_open r u ≡ true) _ (next_from p) opens rs zs is in
-      let legal : Legal p.rules (ranks zs) = subst (Legal p.rules) (sym lands.1) a.holds.legal in
+      let lands = earliest_lands _ _ (next_from p) opens rs zs is in
+      let legal = subst (Legal p.rules) (sym lands.1) a.holds.legal in
       let whole = ap length lands.1 ∙ a.ranks.long in
-      let et = earliest_tight p sound _ opens zs legal whole (ap (earliest first (next_from p)) lands.1 ∙ is) in
+      let et = earliest_tight p sound _ opens zs legal whole (cc) in
       let tf = landing_trail_feasible p _ sound zs legal lands.0 whole in
       let u = second_in zs in
-      let worth_is : worth rs ≡ value (second_and_cost cost n u) = ap worth_of is ∙ ap value tf.1 in (
+      let worth_is = ap worth_of is ∙ ap value tf.1 in (
         u,
         record {
           best = record {
@@ -157,11 +157,9 @@ module _ (p : RankedProblem) (sound : SoundProblem p) (first : ℕ → ℕ → O
           least = λ v bv tv qs os oq ov.
               let b = a.least (sorted v n) (sorted_ranks v) (feasible_ordered v bv.feasible).lands in
               let w = tight_worth v tv in
-              let c = bv.least u tf.0 in
               let q_is =
               ap (λ l. onto l []) (sym (in_order_sorted p u sound tf.0 qs oq ∙ et.1 ∙ lands.1)) ∙ onto_twice qs [] in
-              let o_is : onto (sorted v n) [] ≡ os =
-              ap (λ l. onto l []) (sym (in_order_sorted p v sound bv.feasible os ov)) ∙ onto_twice os [] in
+              let o_is = ap (λ l. onto l []) (sym (in_order_sorted p v sound bv.feasible os ov)) ∙ onto_twice os [] in
               elim b [
                 | inl lt ↦ absurd (omega arith)
                 | inr e ↦ subst (λ l. NoGreaterOrder l os) q_is (subst (λ l. NoGreaterOrder (onto rs []) l) o_is e.1)

@@ -20,7 +20,7 @@ module _ (s : ℕ → ℕ → ℕ) (triangle : (a b c : ℕ) → s a c ≤ s a b
       go (inr a) (inl b) = absurd (omega arith)
       go (inl a) (inr b) = elim (cases_eq f x) [
         | inl e ↦ rw e (start g b)
-        | inr nx ↦ let r = triangle f x g in omega arith
+        | inr nx ↦ omega (arith, triangle f x g)
       ]
 
   pub apart_parts : AllSeparated s t (frozen ++ waiting) → AllSeparated s t waiting

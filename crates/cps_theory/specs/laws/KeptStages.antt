@@ -1,6 +1,6 @@
 -- Early prefixes stay legal, and land at the same seconds, where two problems agree on the low ranks; stages that do
 -- not count.
-use Rattle.std.proofs.Common.{◌≡◌, ℕ, ◌+◌, ◌-◌, ◌<◌, ◌≤◌, false, inl, inr, List, [], ◌∷◌, length, arith}
+use Rattle.std.proofs.Common.{◌≡◌, ℕ, ◌+◌, ◌<◌, ◌≤◌, false, inl, inr, List, [], ◌∷◌, length, arith}
 use Rattle.std.proofs.Common.{refl, ap, ap₂}
 use Rattle.std.specs.List.{AllByRecursion}
 use Rattle.std.proofs.lemmas.Bool.{cases_lt, leb-false, ltb-false, or_parts}
@@ -28,8 +28,7 @@ pub agree_legal : (d : ℕ) (g g' : OrderRules) → AgreeBelow d g g' → (rs : 
 agree_legal d g g' agree [] l lt = tt
 agree_legal d g g' agree (r ∷ rs) l lt =
     let f = l.0.fits in
-    let low : r < d = let a = f.not_early in omega arith in
-    let before = low_ranks g d rs (legal_each_fits g rs l.1) (omega arith) in (
+    let low : r < d = omega arith in (
       record {
         fits = record {
           from_one = f.from_one;
@@ -40,7 +39,8 @@ agree_legal d g g' agree (r ∷ rs) l lt =
           after = λ a b. elim (cases_lt a d) [
             | inl a_low ↦ f.after a (agree.same_before a r a_low low b)
             | inr high ↦ let h = agree.same_above a r high low b in absurd (let i =
-                in_low d h.0 rs before (f.after h.0 h.2) in omega arith)
+                in_low d h.0 rs (low_ranks g d rs (legal_each_fits g rs l.1) (omega arith)) (f.after h.0 h.2) in omega
+                arith)
           ];
         };
         due = λ x one e. l.0.due x one (omega arith);
@@ -69,4 +69,4 @@ agree_landed d Open Open' after after' cost cost' same pos (x ∷ xs) low l =
 pub uncounted : (d k m p : ℕ) → counts d k m p ≡ false → (p + k < d) × (p ≤ m)
 uncounted d k m p e =
     let o = or_parts _ _ e in
-    (omega (arith, leb-false (d - k) p o.0), ltb-false m p o.1)
+    (omega (arith, leb-false _ p o.0), ltb-false m p o.1)

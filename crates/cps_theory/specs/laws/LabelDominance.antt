@@ -34,8 +34,7 @@ module _ (Open : ℕ → ℕ → Type 0) (first : ℕ → ℕ → Option ℕ) (a
       → next_pair first after cost (last_rank (ranks xs)) (pair_of cost xs) r ≡ Some p
       → (Landed Open after ((r, p.0) ∷ xs)) × (pair_of cost ((r, p.0) ∷ xs) ≡ p)
   next_lands xs r p l e =
-      let e' = rw (last_ranks xs) at e in
-      let m = mapped _ _ p e' in
+      let m = mapped _ _ p (rw (last_ranks xs) at e) in
       let found = opens.found r (after (latest_landing xs).0 (latest_landing xs).1 r) m.0 m.1 in
       subst (λ x. (Landed Open after ((r, x.0) ∷ xs)) × (pair_of cost ((r, x.0) ∷ xs) ≡ x)) m.2
       ((found.0, found.1, l), refl)

@@ -28,9 +28,9 @@ module _ {s : RangeInclusive ℕ} {t : Rev (RangeInclusive ℕ)} (first last : �
       let listed = inclusive_listed_back run run.seen in
       let start = listed.2 ∙ ap range_inclusive_start behind.1 ∙ begins in
       let end = listed.3 ∙ ap (λ r. range_inclusive_end r + 1) behind.1 ∙ ap (λ n. n + 1) ends in
-      let down = listed.4 (ap range_inclusive_exhausted behind.1 ∙ fresh) in (
+      let down = listed.4 (cc) in (
         omega (arith, long, down.0.0, start, end),
-        λ whole. (omega (arith, long, down.0.1 (behind.2.1 ∙ whole), start, end)),
+        λ whole. (omega (arith, long, down.0.1 (cc), start, end)),
         λ k low high.
             let place : listed.1 - 1 - k ≡ last - k = omega (arith, end) in
             ap (option_map (λ y. y)) (sym (same.2 (last - k))) ∙ ap (λ j. option_map (λ y. y) (run.at j)) (sym place)
@@ -63,7 +63,7 @@ module _ {F : Type 0} {g : Mut F (Bor ℕ × Unit {0}) Bool} (P : ℕ → Type 0
       × P n × ((k : ℕ) → n < k → k ≤ last → P k → ⊥))
   last_in_range first last begins ends fresh keeps None (u, at, told) = λ k low high.
       let down = counts_down _ _ begins ends fresh keeps u at in
-      fails_at k (u.at (last - k)) (down.2 k high (omega (arith, down.1 told.0, low))) (told.1 stays (last - k))
+      fails_at k _ (down.2 k high (omega (arith, down.1 told.0, low))) (told.1 stays (last - k))
   last_in_range first last begins ends fresh keeps (Some n) (u, at, told) =
       let down = counts_down _ _ begins ends fresh keeps u at in
       let most = down.0 in

@@ -45,22 +45,18 @@ module _ (W : Type 0) (Open : ℕ → ℕ → Type 0) (first : ℕ → ℕ → O
     can_end_within_good r t xs l d a c =
         let zs : List Landing = (r, t) ∷ xs in
         let done = (kept (ranks xs) r l).completes c.0 c.1 in
-        let f = continued_whole W _ first after _ Legal _ Permitted _ newest opens
-        later dearer net Final closed Low lower zs done.rest l d a
-        (follows_mono W _ _ _ _ _ _ Permitted _ newest opens later
-        dearer net _ closed Low lower (node (ranks zs)) t _ done.rest c.2 done.follows) in
+        let f = continued_whole W _ _ _ _ _ _ _ _ _ opens later dearer net Final closed Low lower zs _ l d a
+        (follows_mono W _ _ _ _ _ _ _ _ _ opens later dearer net _ closed Low lower _ t _ done.rest c.2 done.follows) in
         let ws = onto done.rest zs in
-        let e = earliest_least _ _ _ opens later ws f.1 in
-        let same = ranks_onto done.rest zs in (
+        let e = earliest_least _ _ _ opens later ws f.1 in (
           ranks done.rest,
-          subst Good same (record {
+          subst Good (ranks_onto done.rest zs) (record {
             legal = f.0;
             final = f.2;
             landings = e.0;
             earliest_is = e.1;
             low = no_later_low Low lower e.0 ws e.2 f.3;
-            cheap = let m = no_later_cost cost dearer e.0 ws e.2 in let k = f.4 in let b =
-                c.3 in let i = done.cost_is in omega arith;
+            cheap = let m = no_later_cost cost dearer e.0 ws e.2 in omega arith;
           }),
         )
 
@@ -97,13 +93,12 @@ module _ (W : Type 0) (Open : ℕ → ℕ → Type 0) (first : ℕ → ℕ → O
         let here = ap (λ l. node (r ∷ l)) ranked ∙ net.pushes r rs shorter.0 in
         let newest_xs = ap (λ l. newest (node l)) (sym ranked) ∙ newest_last W _ _ _ _ _ _ _ _ _ opens later
         dearer net Final closed Low lower xs (rw ranked shorter.0) in
-        let first_xs = rw same at h.3 in
         let total =
         ap (cost_of cost) whole ∙ cost_onto _ ys _ in (
           t,
           record {
             permitted = shorter.1;
-            found = ap (λ k. first r (after k (latest_landing xs).1 r)) newest_xs ∙ first_xs;
+            found = ap (λ k. first r (after k (latest_landing xs).1 r)) newest_xs ∙ (rw same at h.3);
             can_end = (o.0, subst (λ v. Keeps v o.0) here o.1, o.2.0, omega arith);
           },
           legal,
@@ -122,9 +117,13 @@ module _ (W : Type 0) (Open : ℕ → ℕ → Type 0) (first : ℕ → ℕ → O
         let newest_xs = ap (λ k. newest (node k)) (sym ranked) ∙ newest_last W _ _ _ _ _ _ _ _ _ opens later
         dearer net Final closed Low lower xs (rw ranked l) in
         let f = ap (λ k. first r (after k (latest_landing xs).1 r)) (sym newest_xs) ∙ c.found in
-        let o = c.can_end in
-        let done = (kept rs r legal).completes o.0 (rw (net.pushes r rs l) o.1) in
-        (legal, earliest_more first after r t rs xs e f, lower t o.0.0 o.2 done.low, (omega arith))
+        let o = c.can_end in (
+          legal,
+          earliest_more first after r t rs xs e f,
+          lower t o.0.0 o.2
+              ((kept rs r legal).completes o.0 (rw (net.pushes r rs l) o.1)).low,
+          (omega arith),
+        )
 
     -- the order built of least choices is good
     pub least_choices_good : (qs rs : List ℕ) (xs : List Landing) → Legal rs → earliest first after rs ≡ Some xs

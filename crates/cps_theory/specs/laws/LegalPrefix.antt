@@ -22,7 +22,7 @@ module _ (g : OrderRules) where
   legal_each_fits (r ∷ rs) l = (l.0.fits, legal_each_fits rs l.1)
 
   pub legal_none_due : (rs : List ℕ) → Legal g rs → NoneDue g rs
-  legal_none_due [] l = λ x one le. absurd (omega arith)
+  legal_none_due [] l = omega arith
   legal_none_due (r ∷ rs) l =
       λ x one le. elim (cases_eq _ _) [
         | inl e ↦ l.0.due x one e

@@ -1,7 +1,7 @@
 -- What is in a list: behind an append, after a filter, in the middle.
-use Rattle.std.proofs.Common.{ℕ, ◌⊎◌, inl, inr, List, [], ◌∷◌, ◌++◌, sym, ap, ◌≡◌, filter, cond, Bool, true, false}
+use Rattle.std.proofs.Common.{ℕ, ◌⊎◌, inl, inr, List, [], ◌∷◌, ◌++◌, ap, ◌≡◌, filter, cond, Bool, true, false}
 use Rattle.std.proofs.Common.{refl, ◌∙◌}
-use Rattle.std.proofs.lemmas.Bool.{cases_eq, false≢true}
+use Rattle.std.proofs.lemmas.Bool.{cases_eq}
 use Rattle.cps_theory.specs.RankLists.{Distinct, In}
 
 pub in_append : (x : ℕ) (xs ys : List ℕ) → In x (xs ++ ys) → In x xs ⊎ In x ys
@@ -42,7 +42,7 @@ filter_in q y (x ∷ xs) i e = go _ refl i (λ j. filter_in q y xs j e)
         → In y (cond b (x ∷ filter q xs) (filter q xs))
     go true f (inl s) ih = inl s
     go true f (inr j) ih = inr (ih j)
-    go false f (inl s) ih = absurd (false≢true (sym f ∙ ap q (sym s) ∙ e))
+    go false f (inl s) ih = cc
     go false f (inr j) ih = ih j
 
 pub in_middle : (r : ℕ) (front rs : List ℕ) → In r (front ++ r ∷ rs)

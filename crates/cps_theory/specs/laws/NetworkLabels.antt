@@ -4,7 +4,7 @@ use Rattle.std.proofs.Common.{◌≡◌, ℕ, ◌+◌, ◌≤◌, List, [], ◌�
 use Rattle.std.proofs.Common.{le_antisymm, ap₂, ◌⊎◌, inl, inr}
 use Rattle.cps_theory.specs.Separation.{Landing}
 use Rattle.cps_theory.specs.Retiming.{IsFirstOpen, NeverEarlier}
-use Rattle.cps_theory.specs.LandingTrail.{Landed, cost_of, latest_landing, pair_of, ranks}
+use Rattle.cps_theory.specs.LandingTrail.{Landed, cost_of, pair_of, ranks}
 use Rattle.cps_theory.specs.Labels.{NeverCheaper, NoWorse, Pair, next_pair}
 use Rattle.cps_theory.specs.Network.{Attained, Kept, Network, Undominated}
 use Rattle.cps_theory.specs.laws.LabelDominance.{next_covers, next_lands, no_worse_trans, last_ranks}
@@ -18,8 +18,7 @@ kept_undominated Attains Keeps k anti p kept = record {
       let c = k.covers q a in
       let e = anti c.0 p c.1 kept (no_worse_trans c.0 q p c.2 le) in
       let first = subst (λ x. x.0 ≤ q.0) e c.2.0 in
-      let second = subst (λ x. x.1 ≤ q.1) e c.2.1 in
-      ap₂ (λ x y. (x, y)) (le_antisymm le.0 first) (le_antisymm le.1 second);
+      ap₂ (λ x y. (x, y)) (le_antisymm le.0 first) (le_antisymm le.1 (subst (λ x. x.1 ≤ q.1) e c.2.1));
 }
 
 pub undominated_kept : (Attains Keeps : Pair → Type 0) → Kept Attains Keeps → (p : Pair) → Undominated Attains p
@@ -39,8 +38,8 @@ module _ (W : Type 0) (Open : ℕ → ℕ → Type 0) (first : ℕ → ℕ → O
   attained_next w p r q a permitted e =
       let xs = a.landings in
       let l = ap newest (sym a.at) ∙ net.newest_is (ranks xs) a.legal in
-      let e' = ap₂ (λ k x. next_pair first after cost k x r) (sym l) a.is ∙ e in
-      let n = next_lands _ _ _ _ opens later dearer xs r q a.landed e' in
+      let n = next_lands _ _ _ _ opens later dearer xs r q a.landed
+      (ap₂ (λ k x. next_pair first after cost k x r) (sym l) a.is ∙ e) in
       record {
         landings = (r, q.0) ∷ xs;
         legal = net.grows r (ranks xs) a.legal (subst (λ x. Permitted x r) (sym a.at) permitted);
@@ -63,7 +62,6 @@ module _ (W : Type 0) (Open : ℕ → ℕ → Type 0) (first : ℕ → ℕ → O
       go (x ∷ xs) legal landed at is =
           let s = net.shrinks x.0 (ranks xs) legal in
           let e = ap (λ p. p.0) is in
-          let l = net.newest_is (ranks xs) s.0 ∙ last_ranks xs in
           inr (
             node (ranks xs),
             x.0,
@@ -72,7 +70,7 @@ module _ (W : Type 0) (Open : ℕ → ℕ → Type 0) (first : ℕ → ℕ → O
             s.1,
             sym (net.pushes x.0 (ranks xs) s.0) ∙ at,
             rw e at landed.0,
-            rw l (subst (λ t. after (latest_landing xs).0 (latest_landing xs).1 x.0 ≤ t) e landed.1),
+            rw (net.newest_is (ranks xs) s.0 ∙ last_ranks xs) (omega arith),
             ap (λ t. cost_of cost xs + cost x.0 t) (sym e) ∙ ap (λ p. p.1) is,
           )
 
@@ -95,7 +93,7 @@ module _ (W : Type 0) (Open : ℕ → ℕ → Type 0) (first : ℕ → ℕ → O
           let k = (sources z.0 z.1 z.4 z.5).covers z.2 z.3 in
           let c = next_covers Open first after cost opens later dearer (newest z.0) k.0 z.2 z.1 q.0 k.2 z.6 z.7 in
           let n = enough z.0 z.1 k.0 c.0 z.4 z.5 k.1 c.1 in
-          let le : NoWorse c.0 q = (c.2.0, omega (arith, c.2.1, z.8)) in
+          let le : NoWorse c.0 q = omega arith in
           (n.0, n.1, no_worse_trans n.0 c.0 q n.2 le)
     ];
   }

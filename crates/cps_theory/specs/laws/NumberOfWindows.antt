@@ -16,8 +16,7 @@ as_number m (x ∷ xs) = as_number m xs * m + x
 
 as_number_below : (m : ℕ) (xs : List ℕ) → AllByRecursion (λ x. x < m) xs → as_number m xs < m ^ length xs
 as_number_below m [] a = omega (arith, pow-zero m)
-as_number_below m (x ∷ xs) a = let b = mul-add-lt _ m x _ (as_number_below m xs a.1) a.0 in
-    omega (arith, b, pow-succ' m (length xs))
+as_number_below m (x ∷ xs) a = omega (arith, mul-add-lt _ m x _ (as_number_below m xs a.1) a.0, pow-succ' m (length xs))
 
 same_parts : (m a b x y : ℕ) → x < m → y < m → a * m + x ≡ b * m + y → (a ≡ b) × (x ≡ y)
 same_parts m a b x y lx ly e = elim (cases_order a b) [
@@ -50,9 +49,8 @@ in_range : (m n x : ℕ) (ws : List (List ℕ)) → AllByRecursion (Sized m n) w
     → IsRank (m ^ n) x
 in_range m n x [] a i = absurd i
 in_range m n x (w ∷ ws) a (inl e) =
-    let b = as_number_below m w a.0.1 in
     let s = ap (λ k. m ^ k) a.0.0 in
-    (omega (arith, e), omega (arith, e, b, s))
+    (omega (arith, e), omega (arith, e, as_number_below m w a.0.1, s))
 in_range m n x (w ∷ ws) a (inr i) = in_range m n x ws a.1 i
 
 length-numbers : (m : ℕ) (ws : List (List ℕ)) → length (map (λ x. suc (as_number m x)) ws) ≡ length ws

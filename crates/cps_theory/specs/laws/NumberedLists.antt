@@ -9,7 +9,7 @@ use Rattle.cps_theory.specs.laws.RankCounts.{count_agree, count, count_is}
 
 pub in_numbers : (i n x : ℕ) → In x (numbers_from i n) → (i ≤ x) × (x < i + n)
 in_numbers i zero x m = absurd m
-in_numbers i (suc n) x (inl e) = (omega arith, omega arith)
+in_numbers i (suc n) x (inl e) = omega arith
 in_numbers i (suc n) x (inr m) = let a = in_numbers _ n x m in (omega (arith, a.0), omega (arith, a.1))
 
 pub numbers_in : (i n x : ℕ) → i ≤ x → x < i + n → In x (numbers_from i n)

@@ -19,7 +19,7 @@ descends_equal t (x ∷ xs) (y ∷ ys) d e f g = ap₂ (λ z zs. z ∷ zs) same 
       | inl s ↦ s
       | inr i ↦ elim (g y (inl refl)) [
         | inl s ↦ sym s
-        | inr j ↦ absurd (let a = e.0 x i in omega arith)
+        | inr j ↦ absurd (omega (arith, e.0 x i))
       ]
     ]
 
@@ -36,7 +36,7 @@ descends_equal t (x ∷ xs) (y ∷ ys) d e f g = ap₂ (λ z zs. z ∷ zs) same 
     ]
 
 pub separate : (p : RankedProblem) (t : ℕ → ℕ) → SoundProblem p → Feasible p t → Descends t (sorted t p.rules.count)
-separate p t sound f = sorted_descends t p.rules.count (λ a b qa qb ne e. let o = sound.positive a b in omega arith)
+separate p t sound f = sorted_descends t p.rules.count (λ a b qa qb ne e. omega (arith, sound.positive a b))
 
 -- the order by seconds, read the other way
 pub in_order_sorted : (p : RankedProblem) (t : ℕ → ℕ) → SoundProblem p → Feasible p t → (qs : List ℕ)

@@ -21,8 +21,8 @@ front_more order i d lt = ap reverse (take_more _ i d lt) ∙ reverse-append (ta
 pub front_whole : (order : List ℕ) (i d : ℕ) → i < length order → reverse order ≡ reverse (drop (i + 1) order)
     ++ get_or order i d ∷ reverse (take i order)
 front_whole order i d lt =
-    ap reverse (sym (take-append-drop _ order)) ∙ reverse-append (take (i + 1) order) _
-    ∙ ap (λ l. reverse (drop (i + 1) order) ++ l) (front_more order i d lt)
+    ap reverse (sym (take-append-drop _ order)) ∙ reverse-append (take (i + 1) _) _
+    ∙ ap (λ l. reverse (drop (i + 1) order) ++ l) (front_more _ i d lt)
 
 pub distinct_behind : (front : List ℕ) (r : ℕ) (rs : List ℕ) → Distinct (front ++ r ∷ rs) → In r rs → ⊥
 distinct_behind [] r rs d i = d.0 i
@@ -31,17 +31,17 @@ distinct_behind (x ∷ front) r rs d i = distinct_behind front r rs d.1 i
 -- the flight at i is none of those before it
 pub front_new : (order : List ℕ) (i d : ℕ) → i < length order → Distinct (reverse order)
     → In (get_or order i d) (reverse (take i order)) → ⊥
-front_new order i d lt differ j = distinct_behind _ _ _ (rw (front_whole order i d lt) at differ) j
+front_new order i d lt differ j = distinct_behind _ _ _ (rw (front_whole _ i d lt) at differ) j
 
 module _ (first : ℕ → ℕ → Option ℕ) (after : ℕ → ℕ → ℕ → ℕ) where
   pub earliest_more : (r u : ℕ) (rs : List ℕ) (xs : List Landing) → earliest first after rs ≡ Some xs
       → first r (after (latest_landing xs).0 (latest_landing xs).1 r) ≡ Some u
       → earliest first after (r ∷ rs) ≡ Some ((r, u) ∷ xs)
-  earliest_more r u rs xs e f = ap (option_and_then (λ ys. option_map _ _)) e ∙ ap (option_map _) f
+  earliest_more r u rs xs e f = cc
 
   pub earliest_stops : (r : ℕ) (rs : List ℕ) (xs : List Landing) → earliest first after rs ≡ Some xs
       → first r (after (latest_landing xs).0 (latest_landing xs).1 r) ≡ None → earliest first after (r ∷ rs) ≡ None
-  earliest_stops r rs xs e f = ap (option_and_then (λ ys. option_map _ _)) e ∙ ap (option_map _) f
+  earliest_stops r rs xs e f = cc
 
   pub earliest_none : (front rs : List ℕ) → earliest first after rs ≡ None → earliest first after (front ++ rs) ≡ None
   earliest_none [] rs e = e

@@ -79,9 +79,9 @@ module _ (g : OrderRules) (ones : (a r : ℕ) → g.before a r ≡ true → 1 �
   pub same : (rs : List ℕ) → Legal g rs → (x : ℕ) → 1 ≤ x → In x rs ↔ IsPlacedByPattern g (pattern_node g rs) x
   same rs l x one =
       let k = g.most in let p = length rs in let i = x + k - suc p in
-      let at : suc p ≤ x + k → suc p + i ≡ x + k = λ le. omega arith in
+      let at : suc p ≤ x + k → suc p + i ≡ x + k = omega arith in
       let shown : suc p ≤ x + k → i < 2 * k → get_or (pattern_node g rs).1 i false ≡ is_member x rs =
-      λ le lt. get_or-tests (pattern_digit k rs) (suc p) (2 * k) i lt ∙ ap (pattern_digit k rs) (at le)
+      λ le lt. get_or-tests _ _ _ i lt ∙ ap (pattern_digit k rs) (at le)
       ∙ digit_member k x rs one in (
         λ h. elim (cases_lt p (x + k)) [
           | inl lt ↦ let b = (in_below g x rs (legal_each_fits g rs l)) h in inr
@@ -110,7 +110,7 @@ module _ (g : OrderRules) (ones : (a r : ℕ) → g.before a r ≡ true → 1 �
         | inl lt ↦ let e : suc (length rs) + (y - suc (length rs)) ≡ y = omega arith in
             ap (pattern_digit g.most rs) (sym e) ∙ sym (get_or-tests _ _ _ _ lt)
         | inr past ↦
-            let out : In (y - g.most) rs → ⊥ = λ i. let b = in_below g _ rs (legal_each_fits g rs l) i in omega arith in
+            let out : In (y - g.most) rs → ⊥ = λ i. omega (arith, in_below g _ rs (legal_each_fits g rs l) i) in
             ap₂ ◌||◌ (lt-leb y _ (omega arith)) (not_member _ rs out) ∙ sym (get_or-tests_past _ _ _ _ past)
       ]
 
@@ -125,16 +125,14 @@ module _ (g : OrderRules) (ones : (a r : ℕ) → g.before a r ≡ true → 1 �
       high above =
           let no = lt-leb y _ above in
           let a = ap (λ b. b || (eqb (y - g.most) r || is_member (y - g.most) rs)) no in
-          let b = ap (λ c. c || is_member (y - g.most) rs) no in
-          a ∙ ap₂ ◌||◌ (same_eqb above) (sym b ∙ old)
+          a ∙ ap₂ ◌||◌ (same_eqb above) (sym (ap (λ c. c || is_member (y - g.most) rs) no) ∙ old)
 
       deep : y ≤ g.most → pattern_digit g.most (r ∷ rs) y ≡ eqb y (r + g.most)
           || get_or (pattern_node g rs).1 (y - suc (length rs)) false
       deep below =
           let yes = le-leb y _ below in
-          let a = or_left _ _ yes in
           let b = or_left _ _ yes in
-          a ∙ sym (or_right _ _ (sym old ∙ b))
+          (or_left _ _ yes) ∙ sym (or_right _ _ (sym old ∙ b))
 
   pub pattern_network : Network PatternNode (Legal g) (pattern_node g) (PatternPermits g)
       (pattern_push g) pattern_newest

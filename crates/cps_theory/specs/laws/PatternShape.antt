@@ -147,8 +147,7 @@ module _ (g : OrderRules) (low : (r : ℕ) → g.back r ≤ g.most) where
         above_count = λ y from to great.
             let at : suc p + (y - suc p) ≡ y = omega arith in
             get_or-tests t (suc p) (2 * k) (y - suc p) (omega arith) ∙ ap t at
-            ∙ ap₂ (λ a b. a || b) (lt-leb y k (omega arith))
-            (not_member (y - k) (r ∷ rs)
+            ∙ ap₂ (λ a b. a || b) (lt-leb y k (omega arith)) (not_member (y - k) (r ∷ rs)
             (λ i. let d = (in_from_one g (y - k) (r ∷ rs) placed i).1 in absurd (omega arith)));
         latest = l.0.fits.to_count;
         near = (omega arith, l.0.fits.not_early);

@@ -54,8 +54,8 @@ module _ (g : OrderRules) where
   pub permits_is : (w : PatternNode) (r : ℕ) → PatternPermits g w r → permits_next g w r ≡ true
   unfolding permits_next
   permits_is w r m =
-      let early = le-leb r _ m.not_early in
       let late = le-leb _ _ m.not_late in
       let preds = none_from _ 1 _ (λ y le lt. preds_is w r m y le) in
-      and_from _ _ (and_from _ _ (and_from _ _ (and_from _ _ early late) (not_placed w r m.is_new)) (due_is w r m))
+      and_from _ _ (and_from _ _ (and_from _ _ (and_from _ _ (le-leb r _ m.not_early) late) (not_placed w r m.is_new))
+      (due_is w r m))
       (ap is_none preds)

@@ -24,7 +24,7 @@ module _ (P : ℕ → Type 0) (start end : ℕ) where
   some : (i : ℕ) × (i < length numbers) × HoldsAt P numbers i → (k : ℕ) × (start ≤ k) × (k < end) × P k
   some (i, below, h) =
       let short : i < end - start = omega (arith, length-range_with_len start (end - start), below) in
-      (start + i, omega arith, omega arith, subst P (get_or-range_with_len _ _ i 0 short) (h 0))
+      (start + i, omega arith, omega arith, rw (get_or-range_with_len _ _ i 0 short) at (h 0))
 
 module _ {F : Type 0} {g : Mut F (ℕ × Unit {0}) Bool} (P : ℕ → Type 0) (s u : Range ℕ) (f : F) (r : Bool)
     (calls : (x : ℕ) (b : Bool) (q : F) → Called g f (x, tt) b q → (q ≡ f) × (IsTrue b ↔ P x)) where

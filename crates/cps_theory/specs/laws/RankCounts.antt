@@ -17,10 +17,10 @@ count_is t [] = refl
 count_is t (r ∷ rs) = sum_by-cons _ r rs ∙ ap (λ n. cond (t r) 1 0 + n) (count_is t rs)
 
 pub at_yes : (b : Bool) → b ≡ true → cond {A = ℕ} b 1 0 ≡ 1
-at_yes b e = ap (λ c. cond {A = ℕ} c 1 0) e
+at_yes b e = cc
 
 pub at_no : (b : Bool) → b ≡ false → cond {A = ℕ} b 1 0 ≡ 0
-at_no b e = ap (λ c. cond {A = ℕ} c 1 0) e
+at_no b e = cc
 
 covered : (b c d : Bool) → (b ≡ true → (c ≡ true) ⊎ (d ≡ true)) → cond b 1 0 ≤ cond c 1 0 + cond d 1 0
 covered false c d h = zero-le

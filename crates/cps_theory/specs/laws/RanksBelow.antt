@@ -31,7 +31,7 @@ at_most_greatest t (suc n) r q = elim (cases_eq r (suc n)) [
 
 pub in_upto : (n x : ℕ) → In x (upto n) → IsRank n x
 in_upto zero x i = absurd i
-in_upto (suc n) x (inl e) = (omega arith, omega arith)
+in_upto (suc n) x (inl e) = omega arith
 in_upto (suc n) x (inr i) = let a = in_upto n x i in (a.0, omega arith)
 
 pub length-upto : (n : ℕ) → length (upto n) ≡ n

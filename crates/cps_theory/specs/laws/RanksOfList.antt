@@ -25,8 +25,7 @@ pub all_ranks : (n : ℕ) (rs : List ℕ) → Distinct rs → ((x : ℕ) → In 
     → (x : ℕ) → IsRank n x → In x rs
 all_ranks n rs d in' whole x r = elim (cases_in x rs) [
   | inl i ↦ i
-  | inr out ↦ absurd (let a = few_ranks n (x ∷ rs) (out, d)
-      (λ y i. elim i [ inl e ↦ rw e r | inr j ↦ in' y j ]) in omega arith)
+  | inr out ↦ absurd (omega (arith, few_ranks n (x ∷ rs) (out, d) (λ y i. elim i [ inl e ↦ rw e r | inr j ↦ in' y j ])))
 ]
 
 pub in_drop : (x y : ℕ) (rs : List ℕ) → In y (drop_one x rs) → In y rs
@@ -58,14 +57,14 @@ total_drop f x (r ∷ rs) i = go _ refl i (total_drop f x rs)
         × (suc (length rs) ≡ suc (length (cond b rs (r ∷ drop_one x rs))))
     go true e i ih = (ap (λ y. f y + total f rs) (sym (eqb-true x r e)), refl)
     go false e (inl s) ih = absurd (eqb-false x r e s)
-    go false e (inr i) ih = let a = ih i in (omega (arith, a.0), omega (arith, a.1))
+    go false e (inr i) ih = omega arith
 
 pub total_ranks : (f : ℕ → ℕ) (n : ℕ) (rs : List ℕ) → Distinct rs → ((x : ℕ) → In x rs → IsRank n x)
     → length rs ≡ n → total f rs ≡ total f (upto n)
 total_ranks f zero [] d in' e = refl
 total_ranks f zero (r ∷ rs) d in' e = absurd (omega arith)
 total_ranks f (suc n) rs d in' e =
-    let t = total_drop f (suc n) rs (all_ranks (suc n) rs d in' e (suc n) (omega arith, omega arith)) in
+    let t = total_drop f _ rs (all_ranks _ rs d in' e _ (omega arith, omega arith)) in
     let dd = distinct_drop _ rs d in
     let rest = total_ranks f n _ dd.0 (λ x i. let r = in' x (in_drop _ x rs i) in (
       r.0,
@@ -78,7 +77,7 @@ total_ranks f (suc n) rs d in' e =
 
 pub count_total : (p : ℕ → Bool) (rs : List ℕ) → count p rs ≡ total (λ r. cond (p r) 1 0) rs
 count_total p [] = refl
-count_total p (r ∷ rs) = ap (λ m. cond (p r) 1 0 + m) (count_total p rs)
+count_total p (r ∷ rs) = cc
 
 pub count_ranks : (p : ℕ → Bool) (n : ℕ) (rs : List ℕ) → Distinct rs → ((x : ℕ) → In x rs → IsRank n x)
     → length rs ≡ n → count p rs ≡ count p (upto n)

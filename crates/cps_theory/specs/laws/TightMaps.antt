@@ -34,7 +34,7 @@ same_sorted zero t u same = refl
 same_sorted (suc n) t u same =
     same_insert t u _ _ (λ y i. let q = sorted_in t n y i in let s =
     same y (suc n) (q.0, omega arith) (omega arith, omega arith) in same_test _ _ _ _ s.0 s.1)
-    ∙ ap (insert_at u (suc n)) (same_sorted n t u (λ f g qf qg. same f g (qf.0, omega arith) (qg.0, omega arith)))
+    ∙ ap (insert_at u (suc n)) (same_sorted n t u (λ f g qf qg. same f g (omega arith) (omega arith)))
 
 pub no_later_at : (t u : ℕ → ℕ) (rs : List ℕ) → NoLater (at_seconds t rs) (at_seconds u rs)
     → (r : ℕ) → In r rs → t r ≤ u r
@@ -46,8 +46,8 @@ pub descends_same : (t u : ℕ → ℕ) (rs : List ℕ) → Descends t rs → De
     → In f rs → In g rs → t f < t g → u f < u g
 descends_same t u [] d e f g i j lt = absurd i
 descends_same t u (x ∷ rs) d e f g (inl s) (inl s') lt = absurd (let a = ap t s in let b = ap t s' in omega arith)
-descends_same t u (x ∷ rs) d e f g (inl s) (inr j) lt = absurd (let a = ap t s in omega arith)
-descends_same t u (x ∷ rs) d e f g (inr i) (inl s) lt = let a = ap u s in omega arith
+descends_same t u (x ∷ rs) d e f g (inl s) (inr j) lt = absurd (omega (arith, ap t s))
+descends_same t u (x ∷ rs) d e f g (inr i) (inl s) lt = omega (arith, ap u s)
 descends_same t u (x ∷ rs) d e f g (inr i) (inr j) lt = descends_same t u rs d.1 e.1 f g i j lt
 
 module _ (p : RankedProblem) (sound : SoundProblem p) (first : ℕ → ℕ → Option ℕ)
@@ -64,16 +64,15 @@ module _ (p : RankedProblem) (sound : SoundProblem p) (first : ℕ → ℕ → O
       let xs = e.0 in
       let is = ap (earliest first (next_from p)) (sym (ranks_at t rs)) ∙ e.1 in
       let lands = earliest_lands _ _ (next_from p) opens rs xs is in
-      let differ = each_fits_distinct _ rs (legal_each_fits _ rs l.legal) in
       let u = second_in xs in
-      let same = ap (at_seconds u) (sym lands.1) ∙ at_second_in xs (rw lands.1 differ) in
+      let same = ap (at_seconds u) (sym lands.1) ∙ at_second_in xs
+      (rw lands.1 (each_fits_distinct _ rs (legal_each_fits _ rs l.legal))) in
       let la : LandsAllRanks p u rs =
       record {
         legal = l.legal;
         whole = l.whole;
         landed = subst (Landed (λ r v. p.is_open r v ≡ true) (next_from p)) (sym same) lands.0;
       } in
-      let fu = lands_feasible p u sound rs la in
       let dt = landed_descends p t sound rs (legal_each_fits _ rs l.legal) l.landed in
       let du = landed_descends p u sound rs (legal_each_fits _ rs l.legal) la.landed in
       let so : SameOrder n t u =
@@ -92,7 +91,7 @@ module _ (p : RankedProblem) (sound : SoundProblem p) (first : ℕ → ℕ → O
       no_later_at u v rs nl' r (in_sorted t n r q) in (
         u,
         record {
-          feasible = fu;
+          feasible = lands_feasible p u sound rs la;
           least = λ v fv sv. low v fv (λ a b qa qb. let x = so a b qa qb in let y =
               sv a b qa qb in (λ h. y.0 (x.0 h), λ h. x.1 (y.1 h)));
         },
@@ -103,14 +102,14 @@ module _ (p : RankedProblem) (sound : SoundProblem p) (first : ℕ → ℕ → O
 
   greatest_mono : (n : ℕ) (u t : ℕ → ℕ) → ((r : ℕ) → IsRank n r → u r ≤ t r) → greatest u n ≤ greatest t n
   greatest_mono zero u t h = le_refl 0
-  greatest_mono (suc n) u t h = let a = greatest_mono n u t (λ r q. h r (q.0, omega arith)) in omega arith
+  greatest_mono (suc n) u t h = omega (arith, greatest_mono n u t (λ r q. h r (q.0, omega arith)))
 
   total_mono : (cost : ℕ → ℕ → ℕ) → NeverCheaper cost → (n : ℕ) (u t : ℕ → ℕ) → ((r : ℕ) → IsRank n r → u r ≤ t r)
       → total (λ r. cost r (u r)) (upto n) ≤ total (λ r. cost r (t r)) (upto n)
   total_mono cost dearer zero u t h = le_refl 0
   total_mono cost dearer (suc n) u t h =
       let a = total_mono _ dearer n u t (λ r q. h r (q.0, omega arith)) in
-      let b = dearer.mono (suc n) (u (suc n)) (t (suc n)) (h (suc n) (omega arith, omega arith)) in
+      let b = dearer.mono (suc n) (u (suc n)) (t (suc n)) (omega arith) in
       omega arith
 
   -- of a feasible schedule of least value, the earliest landings in its order are a best and tight schedule

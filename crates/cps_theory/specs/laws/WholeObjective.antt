@@ -20,7 +20,7 @@ latest_at t (x ∷ fs) f (inl e) = let a = ap t e in omega arith
 latest_at t (x ∷ fs) f (inr i) = let a = latest_at t fs f i in omega arith
 
 pub sum_append : (g : ℕ → ℕ) (xs ys : List ℕ) → sum_by g (xs ++ ys) ≡ sum_by g xs + sum_by g ys
-sum_append g [] ys = let z = sum_by g ys in omega arith
+sum_append g [] ys = omega arith
 sum_append g (x ∷ xs) ys = let a = sum_by-cons g x (xs ++ ys) in let b = sum_by-cons g x xs in let c =
     sum_append g xs ys in omega arith
 
